@@ -1,0 +1,4 @@
+pub mod Text
+pub mod Errors
+pub mod Layout
+pub mod Memory
