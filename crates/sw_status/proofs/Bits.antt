@@ -1,0 +1,130 @@
+-- Registers by their bits.
+use Rattle.std.proofs.Common.{◌≡◌, ◌≢◌, ℕ, zero, suc, ◌+◌, ◌-◌, ◌*◌, ◌/◌, ◌%◌, ◌^◌, ◌<◌, ◌≤◌, Bool, true, false, not, ◌&&◌, ◌||◌, ◌⊎◌, cond, eqb, min, max, refl, sym, ap, subst, ◌∙◌, arith, add-zero, inl, inr, bit_and, bit_or, w8, w16}
+use Rattle.std.specs.Prelude.{◌==◌, if◌then◌else◌}
+use Rattle.std.specs.Int.{bit_at, bit_not, Width}
+use Rattle.std.proofs.Math.Nat.{two-pow-succ}
+use Rattle.std.proofs.lemmas.Nat.{and_le_l, and_le_r, or_lt}
+use Rattle.std.proofs.lemmas.Nat.Bits.{bit_at_and, bit_at_or, bit_at_not, bit_at-lt, bit_at_cat_low, bit_at_cat_high, bit_at_above, same_from_bits_below}
+use Rattle.std.proofs.lemmas.Grind.{common_steps}
+use Rattle.std.proofs.lemmas.Bool.{cases_Bool, cases_lt}
+use Rattle.sw_status.specs.Registers.{has_bit, register, GroupSeen, IsGroup, low_15, latches, latched}
+use Rattle.sw_status.specs.StatusModel.{arises}
+
+-- a bit is 0 or 1
+pub bit_cases : (n k : ℕ) → (bit_at n k ≡ 0) ⊎ (bit_at n k ≡ 1)
+bit_cases n k = let h = bit_at-lt n k in elim (cases_lt (bit_at n k) 1) [ inl z ↦ inl (omega arith) | inr o ↦ inr (omega arith) ]
+
+pub has-and : (a b k : ℕ) → has_bit (bit_and a b) k ≡ (has_bit a k && has_bit b k)
+has-and a b k =
+    rw (bit_at_and a b k)
+    (elim (bit_cases a k) [
+      | inl e ↦ rw e (elim (bit_cases b k) [ inl f ↦ rw f refl | inr f ↦ rw f refl ])
+      | inr e ↦ rw e (elim (bit_cases b k) [ inl f ↦ rw f refl | inr f ↦ rw f refl ])
+    ])
+
+pub has-or : (a b k : ℕ) → has_bit (bit_or a b) k ≡ (has_bit a k || has_bit b k)
+has-or a b k =
+    rw (bit_at_or a b k)
+    (elim (bit_cases a k) [
+      | inl e ↦ rw e (elim (bit_cases b k) [ inl f ↦ rw f refl | inr f ↦ rw f refl ])
+      | inr e ↦ rw e (elim (bit_cases b k) [ inl f ↦ rw f refl | inr f ↦ rw f refl ])
+    ])
+
+pub has-not_16 : (n k : ℕ) → n < 2 ^ 16 → k < 16 → has_bit (65535 - n) k ≡ not (has_bit n k)
+has-not_16 n k small within =
+    rw (bit_at_not w16 n k small within)
+    (elim (bit_cases n k) [ inl e ↦ rw e refl | inr e ↦ rw e refl ])
+
+pub has-not_8 : (n k : ℕ) → n < 2 ^ 8 → k < 8 → has_bit (255 - n) k ≡ not (has_bit n k)
+has-not_8 n k small within =
+    rw (bit_at_not w8 n k small within)
+    (elim (bit_cases n k) [ inl e ↦ rw e refl | inr e ↦ rw e refl ])
+
+-- numbers of w bits that have the same bits are equal
+pub same_register : (w a b : ℕ) → a < 2 ^ w → b < 2 ^ w → ((k : ℕ) → k < w → has_bit a k ≡ has_bit b k) → a ≡ b
+same_register w a b p q same = same_from_bits_below w a b p q (λ k h. one k (same k h))
+  where
+    one : (k : ℕ) → has_bit a k ≡ has_bit b k → bit_at a k ≡ bit_at b k
+    one k e =
+        elim (bit_cases a k) [
+          | inl x ↦ elim (bit_cases b k) [ inl y ↦ x ∙ sym y | inr y ↦ absurd (let z : false ≡ true = rw (x, y) at e in cc) ]
+          | inr x ↦ elim (bit_cases b k) [ inl y ↦ absurd (let z : true ≡ false = rw (x, y) at e in cc) | inr y ↦ x ∙ sym y ]
+        ]
+
+pub register-lt : (w : ℕ) (test : ℕ → Bool) → register w test < 2 ^ w
+unfolding register
+register-lt zero test = omega arith
+register-lt (suc w) test =
+    let ih = register-lt w test in
+    let p : 2 ^ (suc w) ≡ 2 ^ w + 2 ^ w = two-pow-succ w in
+    elim (cases_Bool (test w)) [
+      | inl e ↦ rw e (omega arith)
+      | inr e ↦ rw e (omega arith)
+    ]
+
+low_kept : (w n k : ℕ) → k < w → bit_at (n + 2 ^ w) k ≡ bit_at n k
+low_kept w n k h = let e : n + 2 ^ w ≡ 1 * 2 ^ w + n = omega arith in rw e (bit_at_cat_low 1 w n k h)
+
+top_set : (w n : ℕ) → n < 2 ^ w → bit_at (n + 2 ^ w) w ≡ 1
+top_set w n h =
+    let e : n + 2 ^ w ≡ 1 * 2 ^ w + n = omega arith in
+    let z : w - w ≡ 0 = omega arith in
+    let q : bit_at (1 * 2 ^ w + n) w ≡ bit_at 1 (w - w) = bit_at_cat_high 1 w n w h (omega arith) in
+    rw e (q ∙ ap (λ i. bit_at 1 i) z)
+
+pub has-register : (w : ℕ) (test : ℕ → Bool) (k : ℕ) → k < w → has_bit (register w test) k ≡ test k
+unfolding register
+has-register zero test k h = absurd (omega arith)
+has-register (suc w) test k h =
+    elim (cases_Bool (test w)) [
+      | inl e ↦ rw e (elim (cases_lt k w) [
+          | inl below ↦ rw (low_kept w (register w test) k below) (has-register w test k below)
+          | inr top ↦ let i : k ≡ w = omega arith in rw i (rw (top_set w (register w test) (register-lt w test)) (sym e))
+        ])
+      | inr e ↦ rw e (elim (cases_lt k w) [
+          | inl below ↦ rw add-zero (has-register w test k below)
+          | inr top ↦ let i : k ≡ w = omega arith in rw i (rw (add-zero, bit_at_above (register w test) w w (register-lt w test) (omega arith)) (sym e))
+        ])
+    ]
+
+-- a number of w bits is the register of its bits
+pub is_register : (w n : ℕ) (test : ℕ → Bool) → n < 2 ^ w → ((k : ℕ) → k < w → has_bit n k ≡ test k) → n ≡ register w test
+is_register w n test small same = same_register w n (register w test) small (register-lt w test) (λ k h. same k h ∙ sym (has-register w test k h))
+
+pub low_15-lt : (n : ℕ) → low_15 n < 2 ^ 15
+low_15-lt n = let h = and_le_r n 0x7fff in omega arith
+
+-- what the code computes for the event register
+abbrev pub latched_word : ℕ → ℕ → ℕ → ℕ → ℕ → ℕ
+latched_word event old new ptr ntr =
+    bit_or event (bit_or (bit_and (bit_and (65535 - old) new) ptr) (bit_and (bit_and old (65535 - new)) ntr))
+
+pub latched_word-lt : (g : GroupSeen) (new : ℕ) → IsGroup g → latched_word g.event g.condition new g.ptr g.ntr < 2 ^ 15
+latched_word-lt g new ok =
+    let rise = bit_and (bit_and (65535 - g.condition) new) g.ptr in
+    let fall = bit_and (bit_and g.condition (65535 - new)) g.ntr in
+    let a : rise < 2 ^ 15 = (let h = and_le_r (bit_and (65535 - g.condition) new) g.ptr in let p = ok.ptr in omega arith) in
+    let b : fall < 2 ^ 15 = (let h = and_le_r (bit_and g.condition (65535 - new)) g.ntr in let p = ok.ntr in omega arith) in
+    or_lt 15 g.event (bit_or rise fall) ok.event (or_lt 15 rise fall a b)
+
+pub latched_is : (g : GroupSeen) (new : ℕ) → IsGroup g → new < 2 ^ 15 → latched_word g.event g.condition new g.ptr g.ntr ≡ latched g new
+unfolding latched
+latched_is g new ok small =
+    is_register 15 (latched_word g.event g.condition new g.ptr g.ntr) (latches g new) (latched_word-lt g new ok) (λ k h. bit k h)
+  where
+    bit : (k : ℕ) → k < 15 → has_bit (latched_word g.event g.condition new g.ptr g.ntr) k ≡ latches g new k
+    bit k h =
+        let p = ok.condition in
+        let a : has_bit (65535 - g.condition) k ≡ not (has_bit g.condition k) = has-not_16 g.condition k (omega arith) (omega arith) in
+        let b : has_bit (65535 - new) k ≡ not (has_bit new k) = has-not_16 new k (omega arith) (omega arith) in
+        simp (has-or, has-and, a, b)
+
+-- what the code computes for a new request
+pub arises_is : (before now : ℕ) → before < 2 ^ 8 → now < 2 ^ 8 → arises before now ≡ not (bit_and now (255 - before) == 0)
+unfolding arises
+arises_is before now p q =
+    let small : bit_and now (255 - before) < 2 ^ 8 = (let h = and_le_l now (255 - before) in omega arith) in
+    let e : bit_and now (255 - before) ≡ register 8 (λ k. has_bit now k && not (has_bit before k)) =
+        is_register 8 (bit_and now (255 - before)) (λ k. has_bit now k && not (has_bit before k)) small
+          (λ k h. let a = has-not_8 before k p h in simp (has-and, a)) in
+    ap (λ n. not (n == 0)) (sym e)
