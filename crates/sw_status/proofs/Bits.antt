@@ -4,7 +4,7 @@ use Rattle.std.specs.Prelude.{◌==◌, if◌then◌else◌}
 use Rattle.std.specs.Int.{bit_at, bit_not, Width}
 use Rattle.std.proofs.Math.Nat.{two-pow-succ}
 use Rattle.std.proofs.lemmas.Nat.{and_le_l, and_le_r, or_lt}
-use Rattle.std.proofs.lemmas.Nat.Bits.{bit_at_and, bit_at_or, bit_at_not, bit_at-lt, bit_at_cat_low, bit_at_cat_high, bit_at_above, same_from_bits_below}
+use Rattle.std.proofs.lemmas.Nat.Bits.{bit_at_and, bit_at_or, bit_at_not, bit_at-lt, bit_at_cat_low, bit_at_cat_high, bit_at_above, bit_at-zero, same_from_bits_below}
 use Rattle.std.proofs.lemmas.Grind.{common_steps}
 use Rattle.std.proofs.lemmas.Bool.{cases_Bool, cases_lt}
 use Rattle.sw_status.specs.Registers.{has_bit, register, GroupSeen, IsGroup, low_15, latches, latched}
@@ -128,3 +128,32 @@ arises_is before now p q =
         is_register 8 (bit_and now (255 - before)) (λ k. has_bit now k && not (has_bit before k)) small
           (λ k h. let a = has-not_8 before k p h in simp (has-and, a)) in
     ap (λ n. not (n == 0)) (sym e)
+
+-- a register in which no bit passes is 0
+pub register-none : (w : ℕ) (test : ℕ → Bool) → ((k : ℕ) → k < w → test k ≡ false) → register w test ≡ 0
+unfolding register
+register-none zero test none = refl
+register-none (suc w) test none =
+    let here : test w ≡ false = none w (omega arith) in
+    rw here (rw add-zero (register-none w test (λ k h. none k (omega arith))))
+
+-- a register that isn't 0 has a bit
+pub register-some : (w : ℕ) (test : ℕ → Bool) → (register w test ≡ 0 → ⊥) → (k : ℕ) × (k < w) × (test k ≡ true)
+unfolding register
+register-some zero test some = absurd (some refl)
+register-some (suc w) test some =
+    elim (cases_Bool (test w)) [
+      | inl on ↦ (w, omega arith, on)
+      | inr off ↦
+          let rest : register w test ≡ 0 → ⊥ = (λ z. some (rw off (rw add-zero z))) in
+          let below = register-some w test rest in
+          (below.0, (let h = below.1 in omega arith), below.2)
+    ]
+
+-- a register with a bit isn't 0
+pub register-bit : (w : ℕ) (test : ℕ → Bool) (k : ℕ) → k < w → test k ≡ true → register w test ≡ 0 → ⊥
+register-bit w test k h on z =
+    let e : has_bit (register w test) k ≡ true = has-register w test k h ∙ on in
+    let f : has_bit 0 k ≡ true = rw z at e in
+    let g : has_bit 0 k ≡ false = rw (bit_at-zero k) refl in
+    absurd (let x : true ≡ false = sym f ∙ g in cc)

@@ -1,5 +1,5 @@
 -- The status of the instrument as one record, and what each call makes of it (IEEE 488.2, 11; SCPI-1999, 20 and 21.8).
-use Rattle.std.specs.Prelude.{◌≡◌, ℕ, ◌+◌, ◌-◌, ◌^◌, ◌<◌, ◌≤◌, min, Bool, not, nat_lt, ◌==◌, ◌&&◌, bit_and, bit_or, List, [], ◌∷◌, ◌++◌, length, drop, slice_set, if◌then◌else◌}
+use Rattle.std.specs.Prelude.{◌≡◌, ℕ, ◌+◌, ◌-◌, ◌^◌, ◌<◌, ◌≤◌, min, Bool, not, nat_lt, ◌==◌, ◌&&◌, bit_and, bit_or, List, [], ◌∷◌, ◌++◌, length, take, drop, if◌then◌else◌}
 use Rattle.sw_base.specs.declared.error.ScpiError.{ScpiError}
 use Rattle.sw_base.specs.declared.error.ScpiError.TheVariants.{QueueOverflow}
 use Rattle.sw_base.specs.Errors.{event_bit_of}
@@ -27,9 +27,9 @@ first_status = record { errors = []; esr = 2 ^ 7; ese = 0; sre = 0; operation = 
 abbrev pub has_room : List ScpiError → Bool
 has_room errors = nat_lt (length errors) 32
 
--- the queue after an error: one that doesn't fit makes the newest entry, the 32nd, -350
+-- the queue after an error: where it doesn't fit, the 31 oldest stay and the newest entry becomes -350
 unfoldable pub queued : List ScpiError → ScpiError → List ScpiError
-queued errors e = if has_room errors then errors ++ e ∷ [] else slice_set errors 31 QueueOverflow
+queued errors e = if has_room errors then errors ++ e ∷ [] else take 31 errors ++ QueueOverflow ∷ []
 
 -- a register with bit k set too
 abbrev pub with_bit : ℕ → ℕ → ℕ

@@ -65,7 +65,7 @@ impl Status {
 
     /// Queues an error and sets its event bit. Where the queue is full, the newest entry becomes -350, and both errors
     /// set their bits.
-    #[tactic(auto, unfolding(crate::specs::StatusModel::queued, crate::specs::StatusModel::marked))]
+    #[tactic(auto, using(crate::proofs::Queue::newest_written), unfolding(crate::specs::StatusModel::queued, crate::specs::StatusModel::marked))]
     pub fn push_error(&mut self, error: ScpiError)
         ensures { self.new ≡ pushed self.old error }
     {
