@@ -78,13 +78,13 @@ has-register zero test k h = absurd (omega arith)
 has-register (suc w) test k h =
     elim (cases_Bool (test w)) [
       | inl e ↦ rw e (elim (cases_lt k w) [
-          | inl below ↦ rw (low_kept w (register w test) k below) (has-register w test k below)
-          | inr top ↦ let i : k ≡ w = omega arith in rw i (rw (top_set w (register w test) (register-lt w test)) (sym e))
-        ])
+        | inl below ↦ rw (low_kept w (register w test) k below) (has-register w test k below)
+        | inr top ↦ let i : k ≡ w = omega arith in rw i (rw (top_set w (register w test) (register-lt w test)) (sym e))
+      ])
       | inr e ↦ rw e (elim (cases_lt k w) [
-          | inl below ↦ rw add-zero (has-register w test k below)
-          | inr top ↦ let i : k ≡ w = omega arith in rw i (rw (add-zero, bit_at_above (register w test) w w (register-lt w test) (omega arith)) (sym e))
-        ])
+        | inl below ↦ rw add-zero (has-register w test k below)
+        | inr top ↦ let i : k ≡ w = omega arith in rw i (rw (add-zero, bit_at_above (register w test) w w (register-lt w test) (omega arith)) (sym e))
+      ])
     ]
 
 -- a number of w bits is the register of its bits
@@ -125,8 +125,8 @@ unfolding arises
 arises_is before now p q =
     let small : bit_and now (255 - before) < 2 ^ 8 = (let h = and_le_l now (255 - before) in omega arith) in
     let e : bit_and now (255 - before) ≡ register 8 (λ k. has_bit now k && not (has_bit before k)) =
-        is_register 8 (bit_and now (255 - before)) (λ k. has_bit now k && not (has_bit before k)) small
-          (λ k h. let a = has-not_8 before k p h in simp (has-and, a)) in
+    is_register 8 (bit_and now (255 - before)) (λ k. has_bit now k && not (has_bit before k)) small
+    (λ k h. let a = has-not_8 before k p h in simp (has-and, a)) in
     ap (λ n. not (n == 0)) (sym e)
 
 -- a register in which no bit passes is 0

@@ -4,7 +4,7 @@ use Rattle.std.specs.Prelude.{◌==◌, nat_lt, length, if◌then◌else◌}
 use Rattle.std.specs.Int.Bits.{and_zero_r}
 use Rattle.std.proofs.lemmas.Bool.{and_parts}
 use Rattle.sw_status.specs.Registers.{has_bit, share_bit, group_summary}
-use Rattle.sw_status.specs.StatusModel.{StatusSeen, flag, summary_of, byte_of}
+use Rattle.sw_status.specs.StatusModel.{StatusSeen, flag_of, summary_of, byte_of}
 use Rattle.sw_status.specs.Laws.{TellsEachBit}
 
 -- a test that passes at both values passes
@@ -29,7 +29,7 @@ same-true false false e = refl
 
 -- the byte of these bits
 abbrev word : Bool → Bool → Bool → Bool → Bool → Bool → ℕ
-word q u e o m s = flag 2 q + flag 3 u + flag 5 e + flag 7 o + flag 4 m + flag 6 s
+word q u e o m s = flag_of 2 q + flag_of 3 u + flag_of 5 e + flag_of 7 o + flag_of 4 m + flag_of 6 s
 
 -- whether a bit of it is that one, at each choice of the bits
 tells : (k : ℕ) → (Bool → Bool → Bool → Bool → Bool → Bool → Bool) → Bool
@@ -39,13 +39,13 @@ tells-at : (k : ℕ) (bit : Bool → Bool → Bool → Bool → Bool → Bool �
 unfolding tells
 tells-at k bit t q u e o m s =
     same-true (has_bit (word q u e o m s) k) (bit q u e o m s)
-      (each-at (λ s. same (has_bit (word q u e o m s) k) (bit q u e o m s))
-        (each-at (λ m. each (λ s. same (has_bit (word q u e o m s) k) (bit q u e o m s)))
-          (each-at (λ o. each (λ m. each (λ s. same (has_bit (word q u e o m s) k) (bit q u e o m s))))
-            (each-at (λ e. each (λ o. each (λ m. each (λ s. same (has_bit (word q u e o m s) k) (bit q u e o m s)))))
-              (each-at (λ u. each (λ e. each (λ o. each (λ m. each (λ s. same (has_bit (word q u e o m s) k) (bit q u e o m s))))))
-                (each-at (λ q. each (λ u. each (λ e. each (λ o. each (λ m. each (λ s. same (has_bit (word q u e o m s) k) (bit q u e o m s))))))) t q)
-              u) e) o) m) s)
+    (each-at (λ s. same (has_bit (word q u e o m s) k) (bit q u e o m s))
+    (each-at (λ m. each (λ s. same (has_bit (word q u e o m s) k) (bit q u e o m s)))
+    (each-at (λ o. each (λ m. each (λ s. same (has_bit (word q u e o m s) k) (bit q u e o m s))))
+    (each-at (λ e. each (λ o. each (λ m. each (λ s. same (has_bit (word q u e o m s) k) (bit q u e o m s)))))
+    (each-at (λ u. each (λ e. each (λ o. each (λ m. each (λ s. same (has_bit (word q u e o m s) k) (bit q u e o m s))))))
+    (each-at (λ q. each (λ u. each (λ e. each (λ o. each (λ m. each (λ s. same (has_bit (word q u e o m s) k) (bit q u e o m s))))))) t q)
+    u) e) o) m) s)
 
 bit_at_0 : (q u e o m s : Bool) → has_bit (word q u e o m s) 0 ≡ false
 unfolding tells each same
@@ -86,7 +86,7 @@ tells_each_bit s mav =
     let u : Bool = group_summary s.questionable in
     let e : Bool = share_bit s.esr s.ese in
     let o : Bool = group_summary s.operation in
-    let on : Bool = share_bit (summary_of s + flag 4 mav) s.sre in
+    let on : Bool = share_bit (summary_of s + flag_of 4 mav) s.sre in
     record {
       unused_0 = bit_at_0 q u e o mav on;
       unused_1 = bit_at_1 q u e o mav on;
@@ -95,5 +95,5 @@ tells_each_bit s mav =
       message_available = bit_at_4 q u e o mav on;
       standard_event = bit_at_5 q u e o mav on;
       operation = bit_at_7 q u e o mav on;
-      nothing_enabled = λ none. bit_at_6 q u e o mav on ∙ (rw (none, and_zero_r) refl)
+      nothing_enabled = λ none. bit_at_6 q u e o mav on ∙ (rw (none, and_zero_r) refl);
     }

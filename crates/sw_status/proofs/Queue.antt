@@ -60,7 +60,7 @@ lost_only_to_overflow errors e = record {
   oldest = queued-oldest errors e;
   newest = queued-room errors e;
   full = queued-newest errors e;
-  most = queued-most errors e
+  most = queued-most errors e;
 }
 
 pub held_all : (came : List ScpiError) → length came ≤ 32 → held_of came ≡ came

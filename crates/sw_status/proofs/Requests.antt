@@ -53,5 +53,5 @@ counts_once s = record {
   most = counted-most s.requests s.asking (asking_of s);
   never_falls = counted-least s.requests s.asking (asking_of s);
   rises = counted-rises s.requests s.asking (asking_of s);
-  once = ap (λ (b : Bool). record (event_ended s) { requests = if b then raised (event_ended s).requests else (event_ended s).requests }) (arises-same (asking_of s))
+  once = ap (λ (b : Bool). record (event_ended s) { requests = if b then raised (event_ended s).requests else (event_ended s).requests }) (arises-same (asking_of s));
 }

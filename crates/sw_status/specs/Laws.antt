@@ -3,7 +3,7 @@ use Rattle.std.specs.Prelude.{◌≡◌, ℕ, ◌+◌, ◌-◌, ◌^◌, ◌<◌
 use Rattle.sw_base.specs.declared.error.ScpiError.{ScpiError}
 use Rattle.sw_base.specs.declared.error.ScpiError.TheVariants.{QueueOverflow}
 use Rattle.sw_status.specs.Registers.{GroupSeen, group_summary, has_bit, share_bit, latches, latched}
-use Rattle.sw_status.specs.StatusModel.{StatusSeen, queued, byte_of, summary_of, flag, asking_of, event_ended}
+use Rattle.sw_status.specs.StatusModel.{StatusSeen, queued, byte_of, summary_of, flag_of, asking_of, event_ended}
 
 -- Each entry of the queue after an error is what stands in its place once the error is put behind the others, or is the
 -- 32nd and -350, in a queue that was full; and there are at most 32.

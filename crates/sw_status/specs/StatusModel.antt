@@ -70,20 +70,20 @@ with_group s Operation g = record s { operation = g }
 with_group s Questionable g = record s { questionable = g }
 
 -- 2 ^ k where it is on
-abbrev pub flag : ℕ → Bool → ℕ
-flag k on = if on then 2 ^ k else 0
+abbrev pub flag_of : ℕ → Bool → ℕ
+flag_of k on = if on then 2 ^ k else 0
 
 -- The status byte without bits 4 and 6: bit 2 where the queue has an error, bit 3 for QUEStionable, bit 5 for the event
 -- status register, bit 7 for OPERation.
 unfoldable pub summary_of : StatusSeen → ℕ
 summary_of s =
-    flag 2 (nat_lt 0 (length s.errors)) + flag 3 (group_summary s.questionable) + flag 5 (share_bit s.esr s.ese) + flag 7 (group_summary s.operation)
+    flag_of 2 (nat_lt 0 (length s.errors)) + flag_of 3 (group_summary s.questionable) + flag_of 5 (share_bit s.esr s.ese) + flag_of 7 (group_summary s.operation)
 
 -- The status byte: bit 4 where a message is available, and bit 6 where a bit of it is enabled by *SRE.
 unfoldable pub byte_of : StatusSeen → Bool → ℕ
 byte_of s mav =
-    let shown = summary_of s + flag 4 mav in
-    shown + flag 6 (share_bit shown s.sre)
+    let shown = summary_of s + flag_of 4 mav in
+    shown + flag_of 6 (share_bit shown s.sre)
 
 -- the bits of the status byte that ask for service, bits 4 and 6 aside
 abbrev pub asking_of : StatusSeen → ℕ

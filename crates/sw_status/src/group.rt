@@ -4,6 +4,7 @@ ghost use Rattle.std.specs.Prelude.{◌≡◌, ◌<◌, ◌^◌, ◌↔◌, IsTr
 ghost use Rattle.sw_status.specs.Registers.{first_group, group_preset, group_summary, group_conditioned, low_15, IsGroup};
 
 use std::marker::Model;
+use std::mem;
 
 /// Bit 15 of a group's registers is always 0 (SCPI-1999, 20.1).
 const LOW_15: u16 = 0x7fff;
@@ -89,9 +90,7 @@ impl Group {
         ensures event { result ≡ self.old.event }
         ensures rest { self.new ≡ record self.old { event = 0 } }
     {
-        let event = self.event;
-        self.event = 0;
-        event
+        mem::replace(&mut self.event, 0)
     }
 
     /// Sets the enable register; bit 15 is dropped.

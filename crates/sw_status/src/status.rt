@@ -2,14 +2,13 @@
 
 ghost use Rattle.std.specs.Prelude.{◌≡◌, ◌<◌, ◌≤◌, ◌^◌, ◌++◌, ◌∷◌, [], length, slice_get, IfOk};
 ghost use Rattle.sw_status.specs.Registers.{group_conditioned, low_15};
-ghost use Rattle.sw_status.specs.StatusModel.{first_status, pushed, popped, cleared, preset, enabled, group_of, with_group, with_bit, summary_of, byte_of, event_ended, counted_of};
-
-use std::alloc::{AllocError, Global};
-use std::marker::Model;
-
-use sw_base::ScpiError;
+ghost use Rattle.sw_status.specs.StatusModel.{first_status, pushed, popped, cleared, preset, enabled, group_of, with_group, with_bit, summary_of, byte_of, event_ended, counted_of, flag_of};
 
 use crate::group::{Group, StatusGroup};
+use std::alloc::{AllocError, Global};
+use std::marker::Model;
+use std::mem;
+use sw_base::ScpiError;
 
 /// The queue's room (own choice; SCPI-1999, 21.8.1 asks for two at least).
 const QUEUE_ROOM: usize = 32;
@@ -83,12 +82,17 @@ impl Status {
         ensures error { result ≡ slice_get self.old.errors 0 }
         ensures rest { self.new ≡ popped self.old }
     {
-        if self.errors.is_empty() { None } else { Some(self.errors.remove(0)) }
+        if self.errors.is_empty() {
+            None
+        } else {
+            Some(self.errors.remove(0))
+        }
     }
 
     /// The queue, the oldest error first.
     pub fn all_errors(&self) -> &[ScpiError]
-        ensures { result.now ≡ self.now.errors }
+        ensures value { result.now ≡ self.now.errors }
+        ensures most { length result.now ≤ 32 }
     {
         self.errors.as_slice()
     }
@@ -112,7 +116,7 @@ impl Status {
     pub fn clear(&mut self)
         ensures { self.new ≡ cleared self.old }
     {
-        self.errors.clear();
+        self.clear_errors();
         self.esr = 0;
         let _ = self.operation.take_event();
         let _ = self.questionable.take_event();
@@ -133,11 +137,10 @@ impl Status {
         ensures value { result ≡ summary_of self.now }
         ensures range { result ≤ 0xac }
     {
-        let errors = if self.errors.is_empty() { 0 } else { 1 << 2 };
-        let questionable = if self.questionable.summary() { 1 << 3 } else { 0 };
-        let standard = if self.esr & self.ese != 0 { 1 << 5 } else { 0 };
-        let operation = if self.operation.summary() { 1 << 7 } else { 0 };
-        errors + questionable + standard + operation
+        flag(2, !self.errors.is_empty())
+            + flag(3, self.questionable.summary())
+            + flag(5, self.esr & self.ese != 0)
+            + flag(7, self.operation.summary())
     }
 
     /// The status byte with MSS in bit 6 (IEEE 488.2, 11.2.2); `mav` tells whether a message is available.
@@ -145,8 +148,8 @@ impl Status {
     pub fn byte(&self, mav: bool) -> u8
         ensures { result ≡ byte_of self.now mav }
     {
-        let shown = self.summary() + if mav { 1 << 4 } else { 0 };
-        shown + if shown & self.sre != 0 { 1 << 6 } else { 0 }
+        let shown = self.summary() + flag(4, mav);
+        shown + flag(6, shown & self.sre != 0)
     }
 
     /// Reads the event status register and clears it.
@@ -154,9 +157,7 @@ impl Status {
         ensures value { result ≡ self.old.esr }
         ensures rest { self.new ≡ record self.old { esr = 0 } }
     {
-        let esr = self.esr;
-        self.esr = 0;
-        esr
+        mem::replace(&mut self.esr, 0)
     }
 
     /// Sets bit 0 of the event status register, operation complete.
@@ -275,6 +276,14 @@ impl Status {
     }
 }
 
+/// The bit, where it is on.
+fn flag(bit: u8, on: bool) -> u8
+    requires { bit < 8 }
+    ensures { result ≡ flag_of bit on }
+{
+    if on { 1 << bit } else { 0 }
+}
+
 /// The count of service requests after an event before which the bits `before` asked for service, and after it `now`.
 #[tactic(auto, using(crate::proofs::Bits::arises_is))]
 fn counted(requests: u64, before: u8, now: u8) -> u64
@@ -282,5 +291,9 @@ fn counted(requests: u64, before: u8, now: u8) -> u64
     ensures value { result ≡ counted_of requests before now }
     ensures range { result < 2 ^ 56 }
 {
-    if now & !before != 0 { MOST_REQUESTS.min(requests + 1) } else { requests }
+    if now & !before != 0 {
+        MOST_REQUESTS.min(requests + 1)
+    } else {
+        requests
+    }
 }

@@ -10,7 +10,7 @@ invariant_of-self c = record {
   event = latched_word-lt (the_view c.self.inside) (low_15 c.args.bits) c.self.invariant;
   enable = c.self.invariant.enable;
   ptr = c.self.invariant.ptr;
-  ntr = c.self.invariant.ntr
+  ntr = c.self.invariant.ntr;
 }
 
 pub returns : goal.returns
