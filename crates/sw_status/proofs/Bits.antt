@@ -1,13 +1,12 @@
 -- Registers by their bits.
-use Rattle.std.proofs.Common.{◌≡◌, ◌≢◌, ℕ, zero, suc, ◌+◌, ◌-◌, ◌*◌, ◌/◌, ◌%◌, ◌^◌, ◌<◌, ◌≤◌, Bool, true, false, not, ◌&&◌, ◌||◌, ◌⊎◌, cond, eqb, min, max, refl, sym, ap, subst, ◌∙◌, arith, add-zero, inl, inr, bit_and, bit_or, w8, w16}
-use Rattle.std.specs.Prelude.{◌==◌, if◌then◌else◌}
-use Rattle.std.specs.Int.{bit_at, bit_not, Width}
+use Rattle.std.proofs.Common.{◌≡◌, ℕ, zero, suc, ◌+◌, ◌-◌, ◌*◌, ◌^◌, ◌<◌, Bool, true, false, not, ◌&&◌, ◌||◌, ◌⊎◌, refl, sym, ap, ◌∙◌, arith, add-zero, inl, inr, bit_and, bit_or, w8, w16}
+use Rattle.std.specs.Prelude.{◌==◌}
+use Rattle.std.specs.Int.{bit_at}
 use Rattle.std.proofs.Math.Nat.{two-pow-succ}
 use Rattle.std.proofs.lemmas.Nat.{and_le_l, and_le_r, or_lt}
 use Rattle.std.proofs.lemmas.Nat.Bits.{bit_at_and, bit_at_or, bit_at_not, bit_at-lt, bit_at_cat_low, bit_at_cat_high, bit_at_above, bit_at-zero, same_from_bits_below}
-use Rattle.std.proofs.lemmas.Grind.{common_steps}
 use Rattle.std.proofs.lemmas.Bool.{cases_Bool, cases_lt}
-use Rattle.sw_status.specs.Registers.{has_bit, register, GroupSeen, IsGroup, low_15, latches, latched}
+use Rattle.sw_status.specs.Registers.{has_bit, register, low_15, latches, latched}
 use Rattle.sw_status.specs.StatusModel.{arises}
 
 -- a bit is 0 or 1
@@ -91,31 +90,29 @@ has-register (suc w) test k h =
 pub is_register : (w n : ℕ) (test : ℕ → Bool) → n < 2 ^ w → ((k : ℕ) → k < w → has_bit n k ≡ test k) → n ≡ register w test
 is_register w n test small same = same_register w n (register w test) small (register-lt w test) (λ k h. same k h ∙ sym (has-register w test k h))
 
-pub low_15-lt : (n : ℕ) → low_15 n < 2 ^ 15
-low_15-lt n = let h = and_le_r n 0x7fff in omega arith
+pub low_15_small : (n : ℕ) → low_15 n < 2 ^ 15
+low_15_small n = let h = and_le_r n 0x7fff in omega arith
 
 -- what the code computes for the event register
 abbrev pub latched_word : ℕ → ℕ → ℕ → ℕ → ℕ → ℕ
-latched_word event old new ptr ntr =
-    bit_or event (bit_or (bit_and (bit_and (65535 - old) new) ptr) (bit_and (bit_and old (65535 - new)) ntr))
+latched_word event ptr ntr old new = bit_or event (bit_or (bit_and (bit_and (65535 - old) new) ptr) (bit_and (bit_and old (65535 - new)) ntr))
 
-pub latched_word-lt : (g : GroupSeen) (new : ℕ) → IsGroup g → latched_word g.event g.condition new g.ptr g.ntr < 2 ^ 15
-latched_word-lt g new ok =
-    let rise = bit_and (bit_and (65535 - g.condition) new) g.ptr in
-    let fall = bit_and (bit_and g.condition (65535 - new)) g.ntr in
-    let a : rise < 2 ^ 15 = (let h = and_le_r (bit_and (65535 - g.condition) new) g.ptr in let p = ok.ptr in omega arith) in
-    let b : fall < 2 ^ 15 = (let h = and_le_r (bit_and g.condition (65535 - new)) g.ntr in let p = ok.ntr in omega arith) in
-    or_lt 15 g.event (bit_or rise fall) ok.event (or_lt 15 rise fall a b)
+pub latched_small : (event ptr ntr old new : ℕ) → event < 2 ^ 15 → ptr < 2 ^ 15 → ntr < 2 ^ 15 → latched_word event ptr ntr old new < 2 ^ 15
+latched_small event ptr ntr old new e p n =
+    let rise = bit_and (bit_and (65535 - old) new) ptr in
+    let fall = bit_and (bit_and old (65535 - new)) ntr in
+    let a : rise < 2 ^ 15 = (let h = and_le_r (bit_and (65535 - old) new) ptr in omega arith) in
+    let b : fall < 2 ^ 15 = (let h = and_le_r (bit_and old (65535 - new)) ntr in omega arith) in
+    or_lt 15 event (bit_or rise fall) e (or_lt 15 rise fall a b)
 
-pub latched_is : (g : GroupSeen) (new : ℕ) → IsGroup g → new < 2 ^ 15 → latched_word g.event g.condition new g.ptr g.ntr ≡ latched g new
+pub latched_is : (event ptr ntr old new : ℕ) → event < 2 ^ 15 → ptr < 2 ^ 15 → ntr < 2 ^ 15 → old < 2 ^ 15 → new < 2 ^ 15 → latched_word event ptr ntr old new ≡ latched event ptr ntr old new
 unfolding latched
-latched_is g new ok small =
-    is_register 15 (latched_word g.event g.condition new g.ptr g.ntr) (latches g new) (latched_word-lt g new ok) (λ k h. bit k h)
+latched_is event ptr ntr old new e p n o w =
+    is_register 15 (latched_word event ptr ntr old new) (latches event ptr ntr old new) (latched_small event ptr ntr old new e p n) (λ k h. bit k h)
   where
-    bit : (k : ℕ) → k < 15 → has_bit (latched_word g.event g.condition new g.ptr g.ntr) k ≡ latches g new k
+    bit : (k : ℕ) → k < 15 → has_bit (latched_word event ptr ntr old new) k ≡ latches event ptr ntr old new k
     bit k h =
-        let p = ok.condition in
-        let a : has_bit (65535 - g.condition) k ≡ not (has_bit g.condition k) = has-not_16 g.condition k (omega arith) (omega arith) in
+        let a : has_bit (65535 - old) k ≡ not (has_bit old k) = has-not_16 old k (omega arith) (omega arith) in
         let b : has_bit (65535 - new) k ≡ not (has_bit new k) = has-not_16 new k (omega arith) (omega arith) in
         simp (has-or, has-and, a, b)
 

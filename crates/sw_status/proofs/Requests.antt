@@ -1,10 +1,9 @@
 -- An event counts one service request at most.
-use Rattle.std.proofs.Common.{◌≡◌, ℕ, ◌+◌, ◌-◌, ◌^◌, ◌<◌, ◌≤◌, Bool, true, false, not, ◌&&◌, ◌↔◌, min, bit_and, refl, sym, ap, ◌∙◌, arith, inl, inr}
+use Rattle.std.proofs.Common.{◌≡◌, ℕ, ◌+◌, ◌-◌, ◌^◌, ◌<◌, ◌≤◌, Bool, true, false, not, ◌&&◌, ◌↔◌, refl, sym, ap, ◌∙◌, arith, inl, inr}
 use Rattle.std.specs.Prelude.{◌==◌, if◌then◌else◌}
-use Rattle.std.proofs.lemmas.Bool.{cases_Bool, and_parts, and_from, not-true, not-false, not_from_false, eqb-true, eqb-false, eq-eqb, ne_eqb}
-use Rattle.std.proofs.lemmas.Grind.{common_steps}
+use Rattle.std.proofs.lemmas.Bool.{cases_Bool, and_parts, and_from, not-true, not_from_false, eqb-false, ne_eqb}
 use Rattle.sw_status.specs.Registers.{has_bit, register}
-use Rattle.sw_status.specs.StatusModel.{StatusSeen, arises, raised, counted_of, asking_of, summary_of, event_ended}
+use Rattle.sw_status.specs.StatusModel.{StatusSeen, arises, raised, counted_of, asking_of, summary_of, event_ended, IsSettled, first_status}
 use Rattle.sw_status.specs.Laws.{CountsOnce}
 use Rattle.sw_status.proofs.Bits.{register-none, register-some, register-bit}
 
@@ -47,6 +46,15 @@ counted-rises n before now h =
       | inr e ↦ (λ rose. absurd (let z : n ≡ n + 1 = rw e at rose in omega arith), λ asks. absurd (let z : true ≡ false = sym (asks-arises before now asks) ∙ e in cc))
     ]
 
+-- an event that ended leaves nothing open, and nor does the start
+pub settled-ended : (s : StatusSeen) → IsSettled (event_ended s)
+unfolding summary_of
+settled-ended s = refl
+
+pub settled-first : IsSettled first_status
+unfolding summary_of
+settled-first = refl
+
 pub counts_once : (s : StatusSeen) → CountsOnce s
 unfolding summary_of
 counts_once s = record {
@@ -54,4 +62,5 @@ counts_once s = record {
   never_falls = counted-least s.requests s.asking (asking_of s);
   rises = counted-rises s.requests s.asking (asking_of s);
   once = ap (λ (b : Bool). record (event_ended s) { requests = if b then raised (event_ended s).requests else (event_ended s).requests }) (arises-same (asking_of s));
+  settled = settled-ended s;
 }

@@ -1,9 +1,9 @@
 -- What the record of StatusModel promises, in the words of those who read a status.
-use Rattle.std.specs.Prelude.{◌≡◌, ℕ, ◌+◌, ◌-◌, ◌^◌, ◌<◌, ◌≤◌, ◌↔◌, Bool, true, false, nat_lt, nat_le, Some, List, [], ◌∷◌, ◌++◌, length, take, slice_get, fold, if◌then◌else◌}
+use Rattle.std.specs.Prelude.{◌≡◌, ℕ, ◌+◌, ◌-◌, ◌^◌, ◌<◌, ◌≤◌, ◌↔◌, Bool, true, false, nat_lt, nat_le, Some, List, [], ◌∷◌, ◌++◌, length, take, slice_get, if◌then◌else◌}
 use Rattle.sw_base.specs.declared.error.ScpiError.{ScpiError}
 use Rattle.sw_base.specs.declared.error.ScpiError.TheVariants.{QueueOverflow}
-use Rattle.sw_status.specs.Registers.{GroupSeen, group_summary, has_bit, share_bit, latches, latched}
-use Rattle.sw_status.specs.StatusModel.{StatusSeen, queued, byte_of, summary_of, flag_of, asking_of, event_ended}
+use Rattle.sw_status.specs.Registers.{GroupSeen, group_summary, has_bit, share_bit, low_15, latches, group_conditioned}
+use Rattle.sw_status.specs.StatusModel.{StatusSeen, queued, byte_of, asking_of, event_ended, IsSettled}
 
 -- Each entry of the queue after an error is what stands in its place once the error is put behind the others, or is the
 -- 32nd and -350, in a queue that was full; and there are at most 32.
@@ -35,7 +35,8 @@ pub record CountsOnce (s : StatusSeen) : Type 0 where
   pub never_falls : s.requests < 2 ^ 56 → s.requests ≤ (event_ended s).requests
   pub rises : s.requests < 2 ^ 56 - 1 → ((event_ended s).requests ≡ s.requests + 1) ↔ ((k : ℕ) × (k < 8) × (has_bit (asking_of s) k ≡ true) × (has_bit s.asking k ≡ false))
   pub once : event_ended (event_ended s) ≡ event_ended s
+  pub settled : IsSettled (event_ended s)
 
 -- each bit of the event register after a condition changed
 abbrev pub LatchesEachBit : GroupSeen → ℕ → Type 0
-LatchesEachBit g new = (k : ℕ) → k < 15 → has_bit (latched g new) k ≡ latches g new k
+LatchesEachBit g bits = (k : ℕ) → k < 15 → has_bit (group_conditioned g bits).event k ≡ latches g.event g.ptr g.ntr g.condition (low_15 bits) k

@@ -1,5 +1,5 @@
 -- Registers of bits, and the five registers of a status group (SCPI-1999, 20.1).
-use Rattle.std.specs.Prelude.{◌≡◌, ℕ, zero, suc, ◌+◌, ◌^◌, ◌<◌, Bool, not, ◌==◌, ◌&&◌, ◌||◌, bit_and, if◌then◌else◌}
+use Rattle.std.specs.Prelude.{ℕ, zero, suc, ◌+◌, ◌^◌, ◌<◌, Bool, not, ◌==◌, ◌&&◌, ◌||◌, bit_and, if◌then◌else◌}
 use Rattle.std.specs.Int.{bit_at}
 
 -- bit k of the register is 1
@@ -47,18 +47,20 @@ first_group = record { condition = 0; event = 0; enable = 0; ptr = 0x7fff; ntr =
 abbrev pub group_summary : GroupSeen → Bool
 group_summary g = share_bit g.event g.enable
 
--- Bit k of the event register once the condition is new: it was set, or the condition rose from 0 to 1 where PTRansition
--- has the bit, or fell from 1 to 0 where NTRansition has it.
-abbrev pub latches : GroupSeen → ℕ → ℕ → Bool
-latches g new k =
-    has_bit g.event k
-    || ((not (has_bit g.condition k) && has_bit new k && has_bit g.ptr k)
-    || (has_bit g.condition k && not (has_bit new k) && has_bit g.ntr k))
+-- Bit k of the event register once the condition was old and is new: it was set, or the condition rose from 0 to 1 where
+-- PTRansition has the bit, or fell from 1 to 0 where NTRansition has it.
+abbrev pub latches : ℕ → ℕ → ℕ → ℕ → ℕ → ℕ → Bool
+latches event ptr ntr old new k =
+    has_bit event k
+    || ((not (has_bit old k) && has_bit new k && has_bit ptr k)
+    || (has_bit old k && not (has_bit new k) && has_bit ntr k))
 
--- the event register once the condition is new
-unfoldable pub latched : GroupSeen → ℕ → ℕ
-latched g new = register 15 (latches g new)
+-- the event register once the condition was old and is new
+unfoldable pub latched : ℕ → ℕ → ℕ → ℕ → ℕ → ℕ
+latched event ptr ntr old new = register 15 (latches event ptr ntr old new)
 
 -- the group once its condition is new
 abbrev pub group_conditioned : GroupSeen → ℕ → GroupSeen
-group_conditioned g bits = record g { condition = low_15 bits; event = latched g (low_15 bits) }
+group_conditioned g bits =
+    let new = low_15 bits in
+    record g { condition = new; event = latched g.event g.ptr g.ntr g.condition new }

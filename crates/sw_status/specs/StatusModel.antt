@@ -1,9 +1,9 @@
 -- The status of the instrument as one record, and what each call makes of it (IEEE 488.2, 11; SCPI-1999, 20 and 21.8).
-use Rattle.std.specs.Prelude.{◌≡◌, ℕ, ◌+◌, ◌-◌, ◌^◌, ◌<◌, ◌≤◌, min, Bool, not, nat_lt, ◌==◌, ◌&&◌, bit_and, bit_or, List, [], ◌∷◌, ◌++◌, length, take, drop, if◌then◌else◌}
+use Rattle.std.specs.Prelude.{◌≡◌, ◌<◌, ◌≤◌, ℕ, ◌+◌, ◌-◌, ◌^◌, min, Bool, not, nat_lt, ◌==◌, ◌&&◌, bit_and, bit_or, List, [], ◌∷◌, ◌++◌, length, take, drop, if◌then◌else◌}
 use Rattle.sw_base.specs.declared.error.ScpiError.{ScpiError}
 use Rattle.sw_base.specs.declared.error.ScpiError.TheVariants.{QueueOverflow}
 use Rattle.sw_base.specs.Errors.{event_bit_of}
-use Rattle.sw_status.specs.Registers.{GroupSeen, first_group, group_preset, group_summary, group_conditioned, register, has_bit, share_bit}
+use Rattle.sw_status.specs.Registers.{GroupSeen, IsGroup, first_group, group_preset, group_summary, register, has_bit, share_bit}
 use Rattle.sw_status.specs.declared.group.StatusGroup.{StatusGroup}
 use Rattle.sw_status.specs.declared.group.StatusGroup.TheVariants.{Operation, Questionable}
 
@@ -104,3 +104,14 @@ counted_of n before now = if arises before now then raised n else n
 -- after the event
 abbrev pub event_ended : StatusSeen → StatusSeen
 event_ended s = record s { asking = asking_of s; requests = counted_of s.requests s.asking (asking_of s) }
+
+-- no event is under way: the bits that ask for service are those of the end of the last event
+abbrev pub IsSettled : StatusSeen → Type 0
+IsSettled s = s.asking ≡ asking_of s
+
+-- what holds of every status
+pub record IsStatus (s : StatusSeen) : Type 0 where
+  pub errors : length s.errors ≤ 32
+  pub operation : IsGroup s.operation
+  pub questionable : IsGroup s.questionable
+  pub requests : s.requests < 2 ^ 56

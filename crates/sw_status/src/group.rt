@@ -50,6 +50,13 @@ impl Group {
         }
     }
 
+    /// What holds of every group: bit 15 of each register is 0.
+    pub fn keeps_its_limits(&self)
+        ensures { IsGroup self.now }
+    {
+        let _ = &self.condition;
+    }
+
     /// The condition register.
     pub fn condition(&self) -> u16
         ensures { result ≡ self.now.condition }
@@ -115,6 +122,7 @@ impl Group {
     }
 
     /// Makes these bits the condition, bit 15 dropped; what rises or falls sets its event where the filters let it.
+    #[tactic(auto, using(crate::proofs::Bits::latched_is, crate::proofs::Bits::latched_small, crate::proofs::Bits::low_15_small))]
     pub fn set_condition(&mut self, bits: u16)
         ensures { self.new ≡ group_conditioned self.old bits }
     {

@@ -3,7 +3,7 @@
 ghost use Rattle.std.specs.Prelude.{◌≡◌, ℕ, Bool, List, [], fold};
 ghost use Rattle.sw_base.specs.declared.error.ScpiError.{ScpiError};
 ghost use Rattle.sw_status.specs.Registers.{GroupSeen};
-ghost use Rattle.sw_status.specs.StatusModel.{StatusSeen, queued};
+ghost use Rattle.sw_status.specs.StatusModel.{StatusSeen, queued, first_status, IsSettled};
 ghost use Rattle.sw_status.specs.Laws.{LosesOnlyToOverflow, held_of, TellsEachBit, CountsOnce, LatchesEachBit};
 
 /// An error is lost only to -350, and at most 32 are held.
@@ -21,13 +21,14 @@ pub fn byte_tells_each_bit()
     ensures { (s : StatusSeen) (mav : Bool) → TellsEachBit s mav }
 {}
 
-/// An event counts at most one service request.
+/// An event counts at most one service request, and none where nothing changed since the last one ended.
 pub fn event_counts_once()
-    ensures { (s : StatusSeen) → CountsOnce s }
+    ensures each { (s : StatusSeen) → CountsOnce s }
+    ensures start { IsSettled first_status }
 {}
 
 /// A bit of an event register is set where it was, where its condition rose and PTRansition has it, and where its
 /// condition fell and NTRansition has it.
 pub fn transition_filters_decide()
-    ensures { (g : GroupSeen) (new : ℕ) → LatchesEachBit g new }
+    ensures { (g : GroupSeen) (bits : ℕ) → LatchesEachBit g bits }
 {}

@@ -2,7 +2,7 @@
 
 ghost use Rattle.std.specs.Prelude.{◌≡◌, ◌<◌, ◌≤◌, ◌^◌, ◌++◌, ◌∷◌, [], length, slice_get, IfOk};
 ghost use Rattle.sw_status.specs.Registers.{group_conditioned, low_15};
-ghost use Rattle.sw_status.specs.StatusModel.{first_status, pushed, popped, cleared, preset, enabled, group_of, with_group, with_bit, summary_of, byte_of, event_ended, counted_of, flag_of};
+ghost use Rattle.sw_status.specs.StatusModel.{first_status, pushed, popped, cleared, preset, enabled, group_of, with_group, with_bit, summary_of, byte_of, event_ended, counted_of, flag_of, IsStatus};
 
 use crate::group::{Group, StatusGroup};
 use std::alloc::{AllocError, Global};
@@ -60,6 +60,14 @@ impl Status {
             asking: 0,
             requests: 0,
         })
+    }
+
+    /// What holds of every status: at most 32 errors, bit 15 of each group's registers 0, fewer than 2^56 requests.
+    pub fn keeps_its_limits(&self)
+        ensures { IsStatus self.now }
+    {
+        self.operation.keeps_its_limits();
+        self.questionable.keeps_its_limits();
     }
 
     /// Queues an error and sets its event bit. Where the queue is full, the newest entry becomes -350, and both errors
