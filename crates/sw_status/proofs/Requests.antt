@@ -39,6 +39,9 @@ counted-most n before now = elim (cases_Bool (arises before now)) [ inl e ↦ rw
 pub counted-least : (n before now : ℕ) → n < 2 ^ 56 → n ≤ counted_of n before now
 counted-least n before now h = elim (cases_Bool (arises before now)) [ inl e ↦ rw e (omega arith) | inr e ↦ rw e (omega arith) ]
 
+pub counted-stays : (n before now : ℕ) → n ≡ 2 ^ 56 - 1 → counted_of n before now ≡ 2 ^ 56 - 1
+counted-stays n before now h = elim (cases_Bool (arises before now)) [ inl e ↦ rw e (omega arith) | inr e ↦ rw e h ]
+
 pub counted-rises : (n before now : ℕ) → n < 2 ^ 56 - 1 → (counted_of n before now ≡ n + 1) ↔ NewlyAsks before now
 counted-rises n before now h =
     elim (cases_Bool (arises before now)) [
@@ -61,6 +64,7 @@ counts_once s = record {
   most = counted-most s.requests s.asking (asking_of s);
   never_falls = counted-least s.requests s.asking (asking_of s);
   rises = counted-rises s.requests s.asking (asking_of s);
+  stays = counted-stays s.requests s.asking (asking_of s);
   once = ap (λ (b : Bool). record (event_ended s) { requests = if b then raised (event_ended s).requests else (event_ended s).requests }) (arises-same (asking_of s));
   settled = settled-ended s;
 }

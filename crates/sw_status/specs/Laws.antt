@@ -34,6 +34,7 @@ pub record CountsOnce (s : StatusSeen) : Type 0 where
   pub most : (event_ended s).requests ≤ s.requests + 1
   pub never_falls : s.requests < 2 ^ 56 → s.requests ≤ (event_ended s).requests
   pub rises : s.requests < 2 ^ 56 - 1 → ((event_ended s).requests ≡ s.requests + 1) ↔ ((k : ℕ) × (k < 8) × (has_bit (asking_of s) k ≡ true) × (has_bit s.asking k ≡ false))
+  pub stays : s.requests ≡ 2 ^ 56 - 1 → (event_ended s).requests ≡ 2 ^ 56 - 1
   pub once : event_ended (event_ended s) ≡ event_ended s
   pub settled : IsSettled (event_ended s)
 

@@ -43,6 +43,19 @@ group_preset g = record g { enable = 0; ptr = 0x7fff; ntr = 0 }
 abbrev pub first_group : GroupSeen
 first_group = record { condition = 0; event = 0; enable = 0; ptr = 0x7fff; ntr = 0 }
 
+-- after the event register was read, or *CLS
+abbrev pub event_taken : GroupSeen → GroupSeen
+event_taken g = record g { event = 0 }
+
+abbrev pub with_enable : GroupSeen → ℕ → GroupSeen
+with_enable g bits = record g { enable = low_15 bits }
+
+abbrev pub with_ptr : GroupSeen → ℕ → GroupSeen
+with_ptr g bits = record g { ptr = low_15 bits }
+
+abbrev pub with_ntr : GroupSeen → ℕ → GroupSeen
+with_ntr g bits = record g { ntr = low_15 bits }
+
 -- the summary bit: some event is set and enabled
 abbrev pub group_summary : GroupSeen → Bool
 group_summary g = share_bit g.event g.enable

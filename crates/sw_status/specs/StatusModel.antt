@@ -3,7 +3,7 @@ use Rattle.std.specs.Prelude.{◌≡◌, ◌<◌, ◌≤◌, ℕ, ◌+◌, ◌-�
 use Rattle.sw_base.specs.declared.error.ScpiError.{ScpiError}
 use Rattle.sw_base.specs.declared.error.ScpiError.TheVariants.{QueueOverflow}
 use Rattle.sw_base.specs.Errors.{event_bit_of}
-use Rattle.sw_status.specs.Registers.{GroupSeen, IsGroup, first_group, group_preset, group_summary, register, has_bit, share_bit}
+use Rattle.sw_status.specs.Registers.{GroupSeen, IsGroup, first_group, event_taken, group_preset, group_summary, register, has_bit, share_bit}
 use Rattle.sw_status.specs.declared.group.StatusGroup.{StatusGroup}
 use Rattle.sw_status.specs.declared.group.StatusGroup.TheVariants.{Operation, Questionable}
 
@@ -51,7 +51,7 @@ popped s = record s { errors = drop 1 s.errors }
 
 -- after *CLS
 abbrev pub cleared : StatusSeen → StatusSeen
-cleared s = record s { errors = []; esr = 0; operation = record s.operation { event = 0 }; questionable = record s.questionable { event = 0 } }
+cleared s = record s { errors = []; esr = 0; operation = event_taken s.operation; questionable = event_taken s.questionable }
 
 -- after STATus:PRESet
 abbrev pub preset : StatusSeen → StatusSeen
@@ -61,10 +61,12 @@ preset s = record s { operation = group_preset s.operation; questionable = group
 abbrev pub enabled : StatusSeen → ℕ → StatusSeen
 enabled s bits = record s { sre = bit_and bits 0xbf }
 
+-- the registers of a group
 abbrev pub group_of : StatusSeen → StatusGroup → GroupSeen
 group_of s Operation = s.operation
 group_of s Questionable = s.questionable
 
+-- the status with other registers of a group
 abbrev pub with_group : StatusSeen → StatusGroup → GroupSeen → StatusSeen
 with_group s Operation g = record s { operation = g }
 with_group s Questionable g = record s { questionable = g }

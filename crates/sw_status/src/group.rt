@@ -1,7 +1,7 @@
 //! The registers of one status group.
 
 ghost use Rattle.std.specs.Prelude.{◌≡◌, ◌<◌, ◌^◌, ◌↔◌, IsTrue};
-ghost use Rattle.sw_status.specs.Registers.{first_group, group_preset, group_summary, group_conditioned, low_15, IsGroup};
+ghost use Rattle.sw_status.specs.Registers.{first_group, event_taken, with_enable, with_ptr, with_ntr, group_preset, group_summary, group_conditioned, IsGroup};
 
 use std::marker::Model;
 use std::mem;
@@ -31,9 +31,21 @@ impl Model for Group {
 
     ghost Value = { GroupSeen };
 
-    ghost view = { λ g. record { condition = g.condition; event = g.event; enable = g.enable; ptr = g.ptr; ntr = g.ntr } };
+    ghost view = { λ g. record {
+      condition = g.condition;
+      event = g.event;
+      enable = g.enable;
+      ptr = g.ptr;
+      ntr = g.ntr;
+    } };
 
-    ghost invariant = { λ g. IsGroup (record { condition = g.condition; event = g.event; enable = g.enable; ptr = g.ptr; ntr = g.ntr }) };
+    ghost invariant = { λ g. IsGroup (record {
+      condition = g.condition;
+      event = g.event;
+      enable = g.enable;
+      ptr = g.ptr;
+      ntr = g.ntr;
+    }) };
 }
 
 impl Group {
@@ -86,6 +98,7 @@ impl Group {
     }
 
     /// Whether an event is set and enabled.
+    #[inline]
     pub fn summary(&self) -> bool
         ensures { result ≡ group_summary self.now }
     {
@@ -95,28 +108,28 @@ impl Group {
     /// Reads the event register and clears it.
     pub fn take_event(&mut self) -> u16
         ensures event { result ≡ self.old.event }
-        ensures rest { self.new ≡ record self.old { event = 0 } }
+        ensures rest { self.new ≡ event_taken self.old }
     {
         mem::replace(&mut self.event, 0)
     }
 
     /// Sets the enable register; bit 15 is dropped.
     pub fn set_enable(&mut self, bits: u16)
-        ensures { self.new ≡ record self.old { enable = low_15 bits } }
+        ensures { self.new ≡ with_enable self.old bits }
     {
         self.enable = bits & LOW_15;
     }
 
     /// Sets the positive transition filter; bit 15 is dropped.
     pub fn set_ptr(&mut self, bits: u16)
-        ensures { self.new ≡ record self.old { ptr = low_15 bits } }
+        ensures { self.new ≡ with_ptr self.old bits }
     {
         self.ptr = bits & LOW_15;
     }
 
     /// Sets the negative transition filter; bit 15 is dropped.
     pub fn set_ntr(&mut self, bits: u16)
-        ensures { self.new ≡ record self.old { ntr = low_15 bits } }
+        ensures { self.new ≡ with_ntr self.old bits }
     {
         self.ntr = bits & LOW_15;
     }

@@ -1,7 +1,7 @@
 //! The status that all sessions share.
 
 ghost use Rattle.std.specs.Prelude.{◌≡◌, ◌<◌, ◌≤◌, ◌^◌, ◌++◌, ◌∷◌, [], length, slice_get, IfOk};
-ghost use Rattle.sw_status.specs.Registers.{group_conditioned, low_15};
+ghost use Rattle.sw_status.specs.Registers.{group_conditioned, event_taken, with_enable, with_ptr, with_ntr};
 ghost use Rattle.sw_status.specs.StatusModel.{first_status, pushed, popped, cleared, preset, enabled, group_of, with_group, with_bit, summary_of, byte_of, event_ended, counted_of, flag_of, IsStatus};
 
 use crate::group::{Group, StatusGroup};
@@ -40,7 +40,16 @@ impl Model for Status {
 
     ghost Value = { StatusSeen };
 
-    ghost view = { λ s. record { errors = s.errors.items; esr = s.esr; ese = s.ese; sre = s.sre; operation = s.operation; questionable = s.questionable; asking = s.asking; requests = s.requests } };
+    ghost view = { λ s. record {
+      errors = s.errors.items;
+      esr = s.esr;
+      ese = s.ese;
+      sre = s.sre;
+      operation = s.operation;
+      questionable = s.questionable;
+      asking = s.asking;
+      requests = s.requests;
+    } };
 
     ghost invariant = { λ s. (32 ≤ vec_capacity s.errors) × (vec_len s.errors ≤ 32) × (s.requests < 2 ^ 56) };
 }
@@ -140,6 +149,7 @@ impl Status {
 
     /// The status byte without bits 4 and 6: bit 2 where the queue has an error, bit 3 for QUEStionable, bit 5 for the
     /// event status register, bit 7 for OPERation (IEEE 488.2, 11.2; SCPI-1999, 20.1).
+    #[inline]
     #[tactic(auto, unfolding(crate::specs::StatusModel::summary_of))]
     pub fn summary(&self) -> u8
         ensures value { result ≡ summary_of self.now }
@@ -152,6 +162,7 @@ impl Status {
     }
 
     /// The status byte with MSS in bit 6 (IEEE 488.2, 11.2.2); `mav` tells whether a message is available.
+    #[inline]
     #[tactic(auto, unfolding(crate::specs::StatusModel::byte_of))]
     pub fn byte(&self, mav: bool) -> u8
         ensures { result ≡ byte_of self.now mav }
@@ -216,7 +227,7 @@ impl Status {
     /// Reads a group's event register and clears it.
     pub fn take_event(&mut self, which: StatusGroup) -> u16
         ensures event { result ≡ (group_of self.old which).event }
-        ensures rest { self.new ≡ with_group self.old which (record (group_of self.old which) { event = 0 }) }
+        ensures rest { self.new ≡ with_group self.old which (event_taken (group_of self.old which)) }
     {
         match which {
             StatusGroup::Operation => self.operation.take_event(),
@@ -226,7 +237,7 @@ impl Status {
 
     /// Sets a group's enable register; bit 15 is dropped.
     pub fn set_enable(&mut self, which: StatusGroup, bits: u16)
-        ensures { self.new ≡ with_group self.old which (record (group_of self.old which) { enable = low_15 bits }) }
+        ensures { self.new ≡ with_group self.old which (with_enable (group_of self.old which) bits) }
     {
         match which {
             StatusGroup::Operation => self.operation.set_enable(bits),
@@ -236,7 +247,7 @@ impl Status {
 
     /// Sets a group's positive transition filter; bit 15 is dropped.
     pub fn set_ptr(&mut self, which: StatusGroup, bits: u16)
-        ensures { self.new ≡ with_group self.old which (record (group_of self.old which) { ptr = low_15 bits }) }
+        ensures { self.new ≡ with_group self.old which (with_ptr (group_of self.old which) bits) }
     {
         match which {
             StatusGroup::Operation => self.operation.set_ptr(bits),
@@ -246,7 +257,7 @@ impl Status {
 
     /// Sets a group's negative transition filter; bit 15 is dropped.
     pub fn set_ntr(&mut self, which: StatusGroup, bits: u16)
-        ensures { self.new ≡ with_group self.old which (record (group_of self.old which) { ntr = low_15 bits }) }
+        ensures { self.new ≡ with_group self.old which (with_ntr (group_of self.old which) bits) }
     {
         match which {
             StatusGroup::Operation => self.operation.set_ntr(bits),
@@ -266,6 +277,7 @@ impl Status {
     }
 
     /// The number of service requests so far, which stays at 2^56 - 1.
+    #[inline]
     pub fn requests(&self) -> u64
         ensures value { result ≡ self.now.requests }
         ensures range { result < 2 ^ 56 }
@@ -285,6 +297,7 @@ impl Status {
 }
 
 /// The bit, where it is on.
+#[inline]
 fn flag(bit: u8, on: bool) -> u8
     requires { bit < 8 }
     ensures { result ≡ flag_of bit on }
@@ -293,6 +306,7 @@ fn flag(bit: u8, on: bool) -> u8
 }
 
 /// The count of service requests after an event before which the bits `before` asked for service, and after it `now`.
+#[inline]
 #[tactic(auto, using(crate::proofs::Bits::arises_is))]
 fn counted(requests: u64, before: u8, now: u8) -> u64
     requires { requests < 2 ^ 56 }
