@@ -1,4 +1,4 @@
--- Registers of bits, and the five registers of a status group (SCPI-1999, 20.1).
+-- Registers of bits, and the five registers of a status group (SCPI-1999, 20).
 use Rattle.std.specs.Prelude.{ℕ, zero, suc, ◌+◌, ◌^◌, ◌<◌, Bool, not, ◌==◌, ◌&&◌, ◌||◌, bit_and, if◌then◌else◌}
 use Rattle.std.specs.Int.{bit_at}
 

@@ -6,7 +6,7 @@ ghost use Rattle.sw_status.specs.Registers.{first_group, event_taken, with_enabl
 use std::marker::Model;
 use std::mem;
 
-/// Bit 15 of a group's registers is always 0 (SCPI-1999, 20.1).
+/// Bit 15 of a group's registers is always 0 (SCPI-1999, 20).
 const LOW_15: u16 = 0x7fff;
 
 /// The two groups that STATus reaches.
@@ -16,7 +16,7 @@ pub enum StatusGroup {
     Questionable,
 }
 
-/// Condition, transition filters, event and enable registers of a group (SCPI-1999, 20.1).
+/// Condition, transition filters, event and enable registers of a group (SCPI-1999, 20).
 #[derive(Debug, Drop)]
 pub struct Group {
     condition: u16,

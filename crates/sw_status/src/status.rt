@@ -148,7 +148,7 @@ impl Status {
     }
 
     /// The status byte without bits 4 and 6: bit 2 where the queue has an error, bit 3 for QUEStionable, bit 5 for the
-    /// event status register, bit 7 for OPERation (IEEE 488.2, 11.2; SCPI-1999, 20.1).
+    /// event status register, bit 7 for OPERation (IEEE 488.2, 11.2; SCPI-1999, 20).
     #[inline]
     #[tactic(auto, unfolding(crate::specs::StatusModel::summary_of))]
     pub fn summary(&self) -> u8
@@ -285,7 +285,7 @@ impl Status {
         self.requests
     }
 
-    /// Ends an event: a service request arises where a bit of the summary that *SRE enables is set, and wasn't both set
+    /// Ends an event (own choice): a service request arises where a bit of the summary that *SRE enables is set, and wasn't both set
     /// and enabled when the last event ended. A second call in a row counts none.
     pub fn end_event(&mut self)
         ensures { self.new ≡ event_ended self.old }
