@@ -285,8 +285,8 @@ impl Status {
         self.requests
     }
 
-    /// Ends an event (own choice): a service request arises where a bit of the summary that *SRE enables is set, and wasn't both set
-    /// and enabled when the last event ended. A second call in a row counts none.
+    /// Ends an event. A service request arises where a bit of the summary is set and enabled in *SRE, and wasn't both when
+    /// the last event ended (own choice). A second call in a row counts none.
     pub fn end_event(&mut self)
         ensures { self.new ≡ event_ended self.old }
     {
