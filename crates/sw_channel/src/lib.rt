@@ -1,0 +1,5 @@
+//! Channel lists.
+#![tactic(auto)]
+
+mod parse;
+mod written;
