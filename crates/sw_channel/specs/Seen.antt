@@ -1,6 +1,5 @@
 -- What was read of a text, without where it lies in memory.
-use Rattle.std.specs.Prelude.{ℕ, ◌≡◌, List, Option}
-use Rattle.std.specs.Option.{option_map}
+use Rattle.std.specs.Prelude.{List}
 use Rattle.sw_base.specs.Layout.{Channel}
 use Rattle.sw_base.specs.Text.{AllPass, is_digit}
 use Rattle.sw_channel.specs.Grammar.{Written, plain, pair, Item, one, range}
@@ -9,6 +8,7 @@ use Rattle.sw_channel.specs.declared.written.Place.{Place}
 use Rattle.sw_channel.specs.declared.written.Place.TheVariants as places
 use Rattle.sw_channel.specs.declared.written.Entry.{Entry}
 use Rattle.sw_channel.specs.declared.written.Entry.TheVariants as entries
+use Rattle.sw_channel.specs.declared.run.Run.{Run}
 
 abbrev pub place_seen : Place → Written
 place_seen (places.Plain n) = plain n.now
@@ -27,6 +27,6 @@ abbrev pub AreAllDigits : Item → Type 0
 AreAllDigits (one w) = AreDigits w
 AreAllDigits (range v w) = AreDigits v × AreDigits w
 
--- the channels from one end to the other, where there are ends
-abbrev pub run_of : Option (Channel × Channel) → Option (List Channel)
-run_of ends = option_map (λ p. channels_between p.0.0 p.0.1 p.1.1) ends
+-- the channels of a run
+abbrev pub channels_in : Run → List Channel
+channels_in run = channels_between run.first.0 run.first.1 run.last.1
