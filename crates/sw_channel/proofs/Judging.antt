@@ -1,5 +1,5 @@
 -- Judging the items from left to right: one after another, and what it gives in the end.
-use Rattle.std.proofs.Common.{◌≡◌, ℕ, ◌+◌, ◌-◌, ◌<◌, ◌≤◌, ◌≢◌, map, Bool, true, false, List, [], ◌∷◌, ◌++◌, length, refl, sym, ap, subst, ◌∙◌, append_assoc, arith, ◌⊎◌, inl, inr, lit≤}
+use Rattle.std.proofs.Common.{◌≡◌, ℕ, ◌+◌, ◌-◌, ◌<◌, ◌≤◌, ◌≢◌, map, true, false, List, [], ◌∷◌, ◌++◌, length, refl, sym, ap, subst, ◌∙◌, append_assoc, arith, ◌⊎◌, inl, inr, lit≤}
 use Rattle.std.specs.Prelude.{Option, Some, None, Result, Ok, Err, nat_le, IfOk}
 use Rattle.std.specs.Result.{result_map_both}
 use Rattle.std.specs.List.{range_with_len}
@@ -12,7 +12,7 @@ use Rattle.sw_base.specs.declared.error.ScpiError.{ScpiError}
 use Rattle.sw_base.specs.declared.error.ScpiError.TheVariants.{InvalidExpression, OutOfMemory, TooMuchData}
 use Rattle.sw_channel.specs.Grammar.{Item, IsList}
 use Rattle.sw_channel.specs.Meaning.{channels_of, channels_between, count_between, towards, Mean, Spells, judged, judged_with}
-use Rattle.sw_channel.specs.Reading.{IsNoList, IsRefused, Reads}
+use Rattle.sw_channel.specs.Reading.{IsNoList, Reads}
 use Rattle.sw_channel.proofs.Items.{one_list}
 
 -- ---- one item, and the rest
@@ -124,13 +124,13 @@ pub one_reading : (text : List ℕ) (r s : Result (List Channel) ScpiError) → 
 one_reading text r s h k n m =
     elim (reads_as text r h n) [
       | inl x ↦ elim (reads_as text s k m) [
-          | inl y ↦ x.1 ∙ sym y.1
-          | inr y ↦ absurd (x.0 y.0 y.1)
-        ]
+        | inl y ↦ x.1 ∙ sym y.1
+        | inr y ↦ absurd (x.0 y.0 y.1)
+      ]
       | inr x ↦ elim (reads_as text s k m) [
-          | inl y ↦ absurd (y.0 x.0 x.1)
-          | inr y ↦ sym x.2 ∙ ap (λ (is : List Item). judged [] is) (one_list text x.0 y.0 x.1 y.1) ∙ y.2
-        ]
+        | inl y ↦ absurd (y.0 x.0 x.1)
+        | inr y ↦ sym x.2 ∙ ap (λ (is : List Item). judged [] is) (one_list text x.0 y.0 x.1 y.1) ∙ y.2
+      ]
     ]
 
 -- ---- one item that names a run of channels

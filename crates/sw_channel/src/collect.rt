@@ -69,12 +69,19 @@ fn run_of(entry: Entry<'_>) -> Option<Run>
     match entry {
         Entry::One(p) => {
             let chan = channel_of(p)?;
-            Some(Run { first: chan, last: chan })
+            Some(Run {
+                first: chan,
+                last: chan,
+            })
         }
         Entry::Range(p, q) => {
             let first = channel_of(p)?;
             let last = channel_of(q)?;
-            if first.slot() == last.slot() { Some(Run { first, last }) } else { None }
+            if first.slot() == last.slot() {
+                Some(Run { first, last })
+            } else {
+                None
+            }
         }
     }
 }

@@ -55,5 +55,4 @@ pub fn read_list(alloc: Global, text: &[u8]) -> Result<Vec<Chan>, ScpiError>
 /// and a refusal, nor has it two first refusals.
 pub fn one_reading()
     ensures { (text : List ℕ) (r s : Result (List Channel) Error) → Reads text r → Reads text s → r ≢ Err OutOfMemory → s ≢ Err OutOfMemory → r ≡ s }
-{
-}
+{}

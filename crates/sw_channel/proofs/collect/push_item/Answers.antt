@@ -1,4 +1,4 @@
-use Rattle.std.proofs.Common.{arith, refl, inl, inr, ap, ◌∙◌, ◌≡◌, Some}
+use Rattle.std.proofs.Common.{arith, refl, inr, ap, ◌∙◌, ◌≡◌}
 use Rattle.std.specs.Option.{option_map}
 use Rattle.sw_channel.specs.Meaning.{channels_of}
 use Rattle.sw_channel.specs.Seen.{channels_in}

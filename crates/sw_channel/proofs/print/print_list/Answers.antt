@@ -1,4 +1,4 @@
-use Rattle.std.proofs.Common.{◌≡◌, ℕ, List, refl, sym, subst, arith, rules}
+use Rattle.std.proofs.Common.{◌≡◌, ℕ, List, refl, sym, subst}
 use Rattle.sw_channel.specs.Meaning.{Spells}
 use Rattle.sw_channel.specs.Printing.{printed}
 use Rattle.sw_channel.proofs.Printed.{printed_spells}

@@ -1,4 +1,4 @@
-use Rattle.std.proofs.Common.{refl, subst, sym, ◌++◌, ◌∷◌, []}
+use Rattle.std.proofs.Common.{refl, []}
 use Rattle.sw_channel.proofs.Items.{list_body}
 use Rattle.sw_channel.proofs.Judging.{found_from, reads_from, no_syntax, ok_judged}
 use Rattle.sw_channel.proofs.read.read_list.Goals as goal
