@@ -64,27 +64,6 @@ pub fn read_entry(text: &[u8]) -> Option<Entry<'_>>
     }
 }
 
-/// Whether the text is one item or more, joined by commas.
-pub fn are_entries(text: &[u8]) -> bool
-    ensures { IsTrue result ↔ ((is : List Item) × IsItems text.now is) }
-{
-    let mut rest = text;
-    'list: loop {
-        match cut(rest, b',') {
-            None => {
-                return match read_entry(rest) {
-                    None => false,
-                    Some(_) => true,
-                };
-            }
-            Some((first, others)) => match read_entry(first) {
-                None => return false,
-                Some(_) => rest = others,
-            },
-        }
-    }
-}
-
 /// What stands between the brackets of a list.
 pub fn body_of(text: &[u8]) -> Option<&[u8]>
     ensures found { IfSome result (λ body. text.now ≡ 40 ∷ 64 ∷ (body.now ++ 41 ∷ [])) }
