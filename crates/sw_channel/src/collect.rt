@@ -1,4 +1,4 @@
-//! From what is written to the channels that it names.
+//! From what is written to the channels that it names: judged first, without memory, then collected.
 
 ghost use Rattle.std.specs.Prelude.{◌≡◌, ◌≤◌, ◌∷◌, ◌++◌, List, [], Result, IfOk, OnOk, Some, Ok, Err};
 ghost use Rattle.std.specs.Option.{option_map};

@@ -1,4 +1,4 @@
-//! From bytes to what is written: numbers, channels, items, and whether a whole text is a list.
+//! From bytes to what is written: numbers, channels, items, and the body of a list.
 
 ghost use Rattle.std.specs.Prelude.{◌≡◌, ◌↔◌, ◌∷◌, ◌++◌, List, [], ℕ, IfSome, IfNone, IsTrue};
 ghost use Rattle.sw_channel.specs.Grammar.{Written, Item, IsNumber, IsChannel, IsItem, IsItems};

@@ -44,6 +44,7 @@ pub fn read_list(alloc: Global, text: &[u8]) -> Result<Vec<Chan>, ScpiError>
     read(alloc, text)
 }
 
+/// The answer to the text, from which all that `read_list` ensures follows.
 fn read(alloc: Global, text: &[u8]) -> Result<Vec<Chan>, ScpiError>
     ensures { Reads text.now (result_map_both (λ v. v.items) (λ e. e) result) }
 {

@@ -1,5 +1,4 @@
-use Rattle.std.proofs.Common.{◌≡◌, ◌∙◌, List, [], ◌∷◌, ap, sym}
-use Rattle.std.specs.Prelude.{Ok}
+use Rattle.std.proofs.Common.{◌∙◌, List, [], ap, sym}
 use Rattle.sw_channel.specs.Grammar.{Item}
 use Rattle.sw_channel.specs.Meaning.{judged}
 use Rattle.sw_channel.proofs.Items.{items_cut, items_last}

@@ -1,4 +1,4 @@
-use Rattle.std.proofs.Common.{length, List, [], ◌≡◌, ◌≤◌}
+use Rattle.std.proofs.Common.{length, List, [], ◌≤◌}
 use Rattle.std.specs.Result.{ForOk}
 use Rattle.sw_channel.specs.Grammar.{Item, IsItems}
 use Rattle.sw_channel.specs.Meaning.{judged}

@@ -1,8 +1,5 @@
-use Rattle.std.proofs.Common.{refl, inr, ◌≡◌, List, subst, sym}
-use Rattle.std.specs.Prelude.{length, ◌≤◌}
+use Rattle.std.proofs.Common.{refl, inr}
 use Rattle.std.proofs.lemmas.Result.{err_from_is_err_and}
-use Rattle.sw_base.specs.Layout.{Channel}
-use Rattle.sw_channel.specs.Meaning.{Spells}
 use Rattle.sw_channel.proofs.Judging.{items_judged, items_spelled}
 use Rattle.sw_channel.proofs.read.read.Goals as goal
 
