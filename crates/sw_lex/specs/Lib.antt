@@ -1,0 +1,5 @@
+pub mod Unit
+pub mod Words
+pub mod Found
+pub mod Apart
+pub mod Table
