@@ -6,6 +6,7 @@ use Rattle.sw_lex.specs.Table.{rows as all_rows, from_common_rows, from_route_ro
 use Rattle.sw_lex.specs.declared.table.Key.{Key}
 use Rattle.sw_lex.specs.declared.table.Row.{Row}
 use Rattle.sw_lex.specs.Found.{IsIn, Spelling, spellings, IsFound}
+use Rattle.sw_lex.proofs.Spelled.{all_short}
 use Rattle.sw_lex.specs.Apart.{same_word, same_words, lacks_words, disjoint, one_number, numbers_agree, same_bool, apart_from, all_apart}
 
 pub rows_apart : all_apart all_rows ≡ true
@@ -106,3 +107,7 @@ pub one_found : (rows : List Row) → all_apart rows ≡ true → (ws : List (Li
 one_found rows t ws query key other k m f g =
     let r = one_row rows t f.row g.row ws k m f.listed g.listed (f.query_is ∙ sym g.query_is) f.spelled g.spelled in
     (sym f.key_is ∙ r.0 ∙ g.key_is, r.1)
+
+pub rows_short : all_short all_rows ≡ true
+unfolding from_common_rows from_route_rows
+rows_short = refl

@@ -1,3 +1,4 @@
 pub mod Units
 pub mod Spelled
 pub mod Apart
+pub mod Nodes

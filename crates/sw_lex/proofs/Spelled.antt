@@ -1,5 +1,7 @@
 -- The spellings that are listed are those that fit.
-use Rattle.std.proofs.Common.{◌≡◌, ℕ, List, [], ◌∷◌, ◌++◌, refl, sym, ap, subst, ◌∙◌, map, ◌⊎◌, inl, inr, Bool, Option, Some, None}
+use Rattle.std.proofs.Common.{◌≡◌, ℕ, List, [], ◌∷◌, ◌++◌, refl, sym, ap, subst, ◌∙◌, map, ◌⊎◌, inl, inr, Bool, true, Option, Some, None, length, ◌<◌, ◌≤◌, nat_le, ◌&&◌, arith}
+use Rattle.std.proofs.lemmas.Bool.{and_parts}
+use Rattle.std.proofs.lemmas.Grind.{common_steps}
 use Rattle.std.specs.Prelude.{IfSome, IfNone}
 use Rattle.sw_lex.specs.declared.table.Key.{Key}
 use Rattle.sw_lex.specs.declared.table.Word.{Word}
@@ -226,3 +228,36 @@ right_or_neither a b ws query (Some x) p q = q
 pub right_some : (a b : List Row) (ws : List (List ℕ)) (query : Bool) (o : Option (Key × ℕ)) → IfSome o (λ x. IsFound b ws query x.0 x.1) → IfSome o (λ x. IsFound (a ++ b) ws query x.0 x.1)
 right_some a b ws query None h = h
 right_some a b ws query (Some x) h = found_right a b ws query x.0 x.1 h
+
+-- ---- no header has more than four nodes
+
+
+abbrev pub all_short : List Row → Bool
+all_short [] = true
+all_short (r ∷ rows) = nat_le (length r.steps) 4 && all_short rows
+
+fits_length : (ss : List Step) (ws : List (List ℕ)) (k : ℕ) → Fits ss ws k → length ws ≤ length ss
+fits_length [] ws k f = rw f.0 (omega arith)
+fits_length (End ∷ ss) ws k f = rw f.0 (omega arith)
+fits_length (Must w ∷ ss) [] k f = absurd f
+fits_length (Must w ∷ ss) (x ∷ ws) k f = omega (arith, fits_length ss ws k f.1)
+fits_length (May w ∷ ss) [] k f = omega arith
+fits_length (May w ∷ ss) (x ∷ ws) k f = elim f [ inl a ↦ omega (arith, fits_length ss ws k a.1) | inr a ↦ omega (arith, fits_length ss (x ∷ ws) k a) ]
+fits_length (Numbered w ∷ ss) [] k f = omega arith
+fits_length (Numbered w ∷ ss) (x ∷ ws) k f =
+    elim f [
+      | inl a ↦ omega (arith, fits_length ss ws k a.1)
+      | inr a ↦ elim a [ inl b ↦ omega (arith, fits_length ss ws b.0 b.1) | inr b ↦ omega (arith, fits_length ss (x ∷ ws) k b) ]
+    ]
+
+short_at : (rows : List Row) (row : Row) → all_short rows ≡ true → IsIn row rows → length row.steps ≤ 4
+short_at [] row t h = absurd h
+short_at (r ∷ rows) row t h =
+    let p = and_parts (nat_le (length r.steps) 4) (all_short rows) t in
+    elim h [ inl e ↦ (let q : nat_le (length row.steps) 4 ≡ true = subst (λ (x : Row). nat_le (length x.steps) 4 ≡ true) (sym e) p.0 in grind (arith, common_steps)) | inr i ↦ short_at rows row p.1 i ]
+
+pub too_long : (rows : List Row) (ws : List (List ℕ)) → all_short rows ≡ true → 4 < length ws → (query : Bool) (key : Key) (k : ℕ) → IsFound rows ws query key k → ⊥
+too_long rows ws t l query key k f =
+    let a = fits_length f.row.steps ws k (listed_fits f.row.steps ws k f.spelled) in
+    let b = short_at rows f.row t f.listed in
+    omega (arith, a, b, l)
