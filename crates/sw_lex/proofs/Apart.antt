@@ -31,9 +31,9 @@ lacks_not ws k (s ∷ ss) t h =
     let p = and_parts (not (same_words ws s.0)) (lacks_words ws ss) t in
     elim h [
       | inl e ↦
-        let a : ws ≡ s.0 = ap (λ (x : Spelling). x.0) e in
-        let b : same_words ws s.0 ≡ true = subst (λ (x : List (List ℕ)). same_words ws x ≡ true) a (same_words-refl ws) in
-        let z : not true ≡ true = rw b at p.0 in cc
+          let a : ws ≡ s.0 = ap (λ (x : Spelling). x.0) e in
+          let b : same_words ws s.0 ≡ true = subst (λ (x : List (List ℕ)). same_words ws x ≡ true) a (same_words-refl ws) in
+          let z : not true ≡ true = rw b at p.0 in cc
       | inr r ↦ lacks_not ws k ss p.1 r
     ]
 
@@ -52,11 +52,11 @@ one_at ws k m (s ∷ ss) t h =
     let p = and_parts (not (same_words ws s.0) || k == s.1) (one_number (ws, k) ss) t in
     elim h [
       | inl e ↦
-        let a : ws ≡ s.0 = ap (λ (x : Spelling). x.0) e in
-        let c : m ≡ s.1 = ap (λ (x : Spelling). x.1) e in
-        let b : same_words ws s.0 ≡ true = subst (λ (x : List (List ℕ)). same_words ws x ≡ true) a (same_words-refl ws) in
-        let z : (k == s.1) ≡ true = rw b at p.0 in
-        eqb-true k s.1 z ∙ sym c
+          let a : ws ≡ s.0 = ap (λ (x : Spelling). x.0) e in
+          let c : m ≡ s.1 = ap (λ (x : Spelling). x.1) e in
+          let b : same_words ws s.0 ≡ true = subst (λ (x : List (List ℕ)). same_words ws x ≡ true) a (same_words-refl ws) in
+          let z : (k == s.1) ≡ true = rw b at p.0 in
+          eqb-true k s.1 z ∙ sym c
       | inr r ↦ one_at ws k m ss p.1 r
     ]
 
@@ -81,9 +81,9 @@ apart_at r q (x ∷ rows) t h e =
     let p = and_parts (not (same_bool r.query x.query) || disjoint (spellings r.steps) (spellings x.steps)) (apart_from r rows) t in
     elim h [
       | inl i ↦
-        let b : same_bool r.query x.query ≡ true = subst (λ (y : Bool). same_bool r.query y ≡ true) (e ∙ ap (λ (y : Row). y.query) i) (same_bool-refl r.query) in
-        let z : disjoint (spellings r.steps) (spellings x.steps) ≡ true = rw b at p.0 in
-        subst (λ (y : Row). disjoint (spellings r.steps) (spellings y.steps) ≡ true) (sym i) z
+          let b : same_bool r.query x.query ≡ true = subst (λ (y : Bool). same_bool r.query y ≡ true) (e ∙ ap (λ (y : Row). y.query) i) (same_bool-refl r.query) in
+          let z : disjoint (spellings r.steps) (spellings x.steps) ≡ true = rw b at p.0 in
+          subst (λ (y : Row). disjoint (spellings r.steps) (spellings y.steps) ≡ true) (sym i) z
       | inr i ↦ apart_at r q rows p.1 i e
     ]
 

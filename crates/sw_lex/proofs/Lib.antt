@@ -2,3 +2,4 @@ pub mod Units
 pub mod Spelled
 pub mod Apart
 pub mod Nodes
+pub mod Shorter

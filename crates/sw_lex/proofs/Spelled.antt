@@ -39,10 +39,10 @@ in_word w x ws k [] h = absurd h
 in_word w x ws k (s ∷ rest) h =
     elim h [
       | inl e ↦
-        let a : x ∷ ws ≡ w ∷ s.0 = ap (λ (t : Spelling). t.0) e in
-        let b : k ≡ s.1 = ap (λ (t : Spelling). t.1) e in
-        let c : ws ≡ s.0 = cc in
-        (let d : x ≡ w = cc in d, inl (pair_is ws s.0 k s.1 c b))
+          let a : x ∷ ws ≡ w ∷ s.0 = ap (λ (t : Spelling). t.0) e in
+          let b : k ≡ s.1 = ap (λ (t : Spelling). t.1) e in
+          let c : ws ≡ s.0 = cc in
+          (let d : x ≡ w = cc in d, inl (pair_is ws s.0 k s.1 c b))
       | inr r ↦ let q = in_word w x ws k rest r in (q.0, inr q.1)
     ]
 
@@ -60,10 +60,10 @@ in_numbered w n x ws k [] h = absurd h
 in_numbered w n x ws k (s ∷ rest) h =
     elim h [
       | inl e ↦
-        let a : x ∷ ws ≡ w ∷ s.0 = ap (λ (t : Spelling). t.0) e in
-        let b : k ≡ n = ap (λ (t : Spelling). t.1) e in
-        let c : ws ≡ s.0 = cc in
-        (let d : x ≡ w = cc in d, b, (s.1, inl (ap (λ (v : List (List ℕ)). (v, s.1)) c)))
+          let a : x ∷ ws ≡ w ∷ s.0 = ap (λ (t : Spelling). t.0) e in
+          let b : k ≡ n = ap (λ (t : Spelling). t.1) e in
+          let c : ws ≡ s.0 = cc in
+          (let d : x ≡ w = cc in d, b, (s.1, inl (ap (λ (v : List (List ℕ)). (v, s.1)) c)))
       | inr r ↦ let q = in_numbered w n x ws k rest r in (q.0, q.1, (q.2.0, inr q.2.1))
     ]
 
@@ -230,7 +230,6 @@ right_some a b ws query None h = h
 right_some a b ws query (Some x) h = found_right a b ws query x.0 x.1 h
 
 -- ---- no header has more than four nodes
-
 
 abbrev pub all_short : List Row → Bool
 all_short [] = true

@@ -67,14 +67,16 @@ front-len : (text : List ℕ) (n : ℕ) (rest m : List ℕ) (f : Front text n re
 front-len text n rest m f = omega (arith, f.len, length-append (colons f.nodes) m)
 
 pub Front-path : (text : List ℕ) (n : ℕ) (rest m more : List ℕ) → Front text n rest → IsMnemonic m → rest ≡ m ++ more → IsPath (take (n + length m) text) × (text ≡ take (n + length m) text ++ drop (n + length m) text)
-Front-path text n rest m more f h e =
-    (record {
-      nodes = f.nodes;
-      last = m;
-      each = f.each;
-      last_one = h;
-      whole = front_of text (colons f.nodes ++ m) more (n + length m) (front-whole text n rest m more f e) (front-len text n rest m f);
-    }, sym (take-append-drop (n + length m) text))
+Front-path text n rest m more f h e = (
+  record {
+    nodes = f.nodes;
+    last = m;
+    each = f.each;
+    last_one = h;
+    whole = front_of text (colons f.nodes ++ m) more (n + length m) (front-whole text n rest m more f e) (front-len text n rest m f);
+  },
+  sym (take-append-drop (n + length m) text),
+)
 
 pub Front-rest : (text : List ℕ) (n : ℕ) (rest m more : List ℕ) → Front text n rest → rest ≡ m ++ more → drop (n + length m) text ≡ more
 Front-rest text n rest m more f e = rest_of text (colons f.nodes ++ m) more (n + length m) (front-whole text n rest m more f e) (front-len text n rest m f)

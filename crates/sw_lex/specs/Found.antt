@@ -64,7 +64,7 @@ Fits (May w ∷ ss) [] k = Fits ss [] k
 Fits (May w ∷ ss) (x ∷ ws) k = (IsForm w x × Fits ss ws k) ⊎ Fits ss (x ∷ ws) k
 Fits (Numbered w ∷ ss) [] k = Fits ss [] k
 Fits (Numbered w ∷ ss) (x ∷ ws) k = (IsForm w x × Fits ss ws k)
-  ⊎ (((m : ℕ) × Fits ss ws m × ((IsNumbered w (49 ∷ []) x × (k ≡ 1)) ⊎ (IsNumbered w (50 ∷ []) x × (k ≡ 2)))) ⊎ Fits ss (x ∷ ws) k)
+    ⊎ (((m : ℕ) × Fits ss ws m × ((IsNumbered w (49 ∷ []) x × (k ≡ 1)) ⊎ (IsNumbered w (50 ∷ []) x × (k ≡ 2)))) ⊎ Fits ss (x ∷ ws) k)
 
 abbrev pub Matches : List Row → List (List ℕ) → Bool → Key → ℕ → Type 0
 Matches [] ws query key k = ⊥

@@ -133,8 +133,8 @@ abbrev pub HasNoHeading : List ℕ → ScpiError → Type 0
 HasNoHeading [] e = e ≡ SyntaxError
 HasNoHeading (b ∷ more) e =
     ((b ≡ 42) × StartsOff is_letter more × (e ≡ fault_at SyntaxError more))
-  ⊎ (((b ≡ 58) × BreaksOff more e)
-  ⊎ (((b == 42) ≡ false) × ((b == 58) ≡ false) × BreaksOff (b ∷ more) e))
+    ⊎ (((b ≡ 58) × BreaksOff more e)
+    ⊎ (((b == 42) ≡ false) × ((b == 58) ≡ false) × BreaksOff (b ∷ more) e))
 
 -- ---- data
 

@@ -172,5 +172,4 @@ pub fn find(words: &[&[u8]], query: bool) -> Option<(Key, u8)>
 /// No header is two commands.
 pub fn one_command()
     ensures { (ws : List (List ℕ)) (query : Bool) (key other : Key) (k m : ℕ) → IsFound rows ws query key k → IsFound rows ws query other m → (key ≡ other) × (k ≡ m) }
-{
-}
+{}

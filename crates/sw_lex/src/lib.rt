@@ -15,6 +15,8 @@ mod meaning;
 mod paths;
 mod runs;
 mod table;
+#[cfg(test)]
+mod tests;
 mod unit;
 
 pub use command::Command;

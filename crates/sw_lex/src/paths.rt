@@ -20,7 +20,9 @@ impl<'a> Path<'a> {
     pub fn root() -> Path<'a>
         ensures { path_of result ≡ [] }
     {
-        Path { nodes: ArrayVec::new() }
+        Path {
+            nodes: ArrayVec::new(),
+        }
     }
 
     /// The same nodes.

@@ -71,29 +71,54 @@ pub struct Row {
 }
 
 pub const COMMON_ROWS: [Row; 1] = [Row {
-    steps: [Step::Must(Word::Identification), Step::End, Step::End, Step::End],
+    steps: [
+        Step::Must(Word::Identification),
+        Step::End,
+        Step::End,
+        Step::End,
+    ],
     query: true,
     key: Key::Identify,
 }];
 
 pub const ROUTE_ROWS: [Row; 4] = [
     Row {
-        steps: [Step::Must(Word::Route), Step::Must(Word::Close), Step::End, Step::End],
+        steps: [
+            Step::Must(Word::Route),
+            Step::Must(Word::Close),
+            Step::End,
+            Step::End,
+        ],
         query: false,
         key: Key::Close,
     },
     Row {
-        steps: [Step::Must(Word::Route), Step::Must(Word::Close), Step::End, Step::End],
+        steps: [
+            Step::Must(Word::Route),
+            Step::Must(Word::Close),
+            Step::End,
+            Step::End,
+        ],
         query: true,
         key: Key::CloseQuery,
     },
     Row {
-        steps: [Step::Must(Word::Route), Step::Must(Word::Close), Step::Must(Word::State), Step::End],
+        steps: [
+            Step::Must(Word::Route),
+            Step::Must(Word::Close),
+            Step::Must(Word::State),
+            Step::End,
+        ],
         query: true,
         key: Key::CloseState,
     },
     Row {
-        steps: [Step::Must(Word::Route), Step::Must(Word::Open), Step::End, Step::End],
+        steps: [
+            Step::Must(Word::Route),
+            Step::Must(Word::Open),
+            Step::End,
+            Step::End,
+        ],
         query: false,
         key: Key::Open,
     },

@@ -93,11 +93,23 @@ fn read_header(text: &[u8]) -> Result<(Header<'_>, &[u8]), ScpiError>
         [b'*', more @ ..] => read_common(text, more),
         [b':', more @ ..] => {
             let (nodes, rest) = read_path(more)?;
-            Ok((Header::Path { leading: true, nodes }, rest))
+            Ok((
+                Header::Path {
+                    leading: true,
+                    nodes,
+                },
+                rest,
+            ))
         }
         _ => {
             let (nodes, rest) = read_path(text)?;
-            Ok((Header::Path { leading: false, nodes }, rest))
+            Ok((
+                Header::Path {
+                    leading: false,
+                    nodes,
+                },
+                rest,
+            ))
         }
     }
 }
@@ -198,6 +210,7 @@ fn read_tail(text: &[u8]) -> Result<(ArrayVec<Element<'_>, 16>, &[u8]), ScpiErro
 /// (IEEE 488.2, 7.3).
 pub fn next_unit(text: &[u8]) -> Result<Option<(RawUnit<'_>, &[u8])>, ScpiError>
     ensures unit { IfOk result (λ o. IfSome o (λ x. IsUnit text.now (unit_of x.0) x.1.now)) }
+    ensures shorter { IfOk result (λ o. IfSome o (λ x. length x.1.now < length text.now)) }
     ensures none { IfOk result (λ o. IfNone o (IsBlank text.now)) }
     ensures refused { IfErr result (λ e. IsRefused text.now e) }
 {

@@ -37,14 +37,17 @@ returns-in_err-next-clause-err c =
 
 pub returns-in-None-eat-clause-err : goal.returns-in-None-eat-clause-err
 returns-in-None-eat-clause-err c =
-    stuck-refused _ _ _ _ _ c.data.invariant.reached c.len.ensures.value c.len.ensures.fits (inr (inr (c.in_ok-next.ensures.room, inr (record {
-      datum = _;
-      after = c.in_ok-next.after.now;
-      gap = c.blanks.result.0.now;
-      more = c.blanks.result.1.now;
-      element = c.in_ok-next.ensures.ok;
-      before = c.blanks.ensures;
-      on = c.in-None.ensures.none;
-      off = c.in-None-eat.ensures.none;
-      error = c.fault_at.ensures;
-    }))))
+    stuck-refused _ _ _ _ _ c.data.invariant.reached c.len.ensures.value c.len.ensures.fits (inr (inr (
+      c.in_ok-next.ensures.room,
+      inr (record {
+        datum = _;
+        after = c.in_ok-next.after.now;
+        gap = c.blanks.result.0.now;
+        more = c.blanks.result.1.now;
+        element = c.in_ok-next.ensures.ok;
+        before = c.blanks.ensures;
+        on = c.in-None.ensures.none;
+        off = c.in-None-eat.ensures.none;
+        error = c.fault_at.ensures;
+      }),
+    )))
