@@ -5,3 +5,4 @@ pub mod Nodes
 pub mod Shorter
 pub mod Headings
 pub mod Once
+pub mod Meanings
