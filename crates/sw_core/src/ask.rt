@@ -1,6 +1,8 @@
 //! What is asked of the mainframe, and what it answers.
 
 use sw_base::{ScpiError, Sequence};
+use sw_cage::{EjectRefusal, InstallRefusal};
+use sw_card::{Card, Meter, Relay};
 use sw_lex::Command;
 
 /// A session: its number, 1 to 16, and the number of events after its Join, which tells it from an earlier session
@@ -45,4 +47,30 @@ pub enum SessionAnswer {
     Hold(SessionAsk),
     /// The mainframe has numbered all the events that it can.
     Worn(SessionAsk),
+}
+
+/// What is asked of the mainframe.
+#[derive(Drop)]
+pub enum Ask<R: Relay, M: Meter> {
+    /// What a session asks.
+    Session(SessionAsk),
+    /// To take a card into a slot.
+    Install(u8, Card<R, M>),
+    /// To hand the card of a slot out.
+    Eject(u8),
+}
+
+/// What the mainframe answers.
+#[derive(Drop)]
+pub enum Answer<R: Relay, M: Meter> {
+    /// What a session is answered.
+    Session(SessionAnswer),
+    /// The card is in its slot.
+    Installed,
+    /// The card was not taken in, and is handed back.
+    NotInstalled(InstallRefusal, Card<R, M>),
+    /// The card, with its relays open.
+    Ejected(Card<R, M>),
+    /// No card came out.
+    NotEjected(EjectRefusal),
 }

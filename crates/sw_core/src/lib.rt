@@ -2,7 +2,9 @@
 #![tactic(auto)]
 
 mod ask;
+mod laws;
 mod sessions;
 mod text;
 
-pub use ask::{SessionAnswer, SessionAsk, Sid};
+pub use ask::{Answer, Ask, SessionAnswer, SessionAsk, Sid};
+pub use laws::{every_run_is_exclusive, relays_obey};
