@@ -1,6 +1,10 @@
 -- The texts of answers.
-use Rattle.std.specs.Prelude.{◌≡◌, ◌<◌, ℕ, Bool, true, false, List, [], ◌∷◌, length, codes}
+use Rattle.std.specs.Prelude.{◌≡◌, ◌<◌, ℕ, Bool, true, false, List, [], ◌∷◌, length, codes, Some, Result, Ok, Err}
 use Rattle.std.specs.List.{join_with_byte, AllByRecursion}
+use Rattle.std.specs.declared.alloc.AllocError.{AllocError}
+use Rattle.sw_base.specs.declared.error.ScpiError.TheVariants.{OutOfMemory}
+use Rattle.sw_core.specs.declared.ask.SessionAnswer.{SessionAnswer}
+use Rattle.sw_core.specs.declared.ask.SessionAnswer.TheVariants.{Done, Refused}
 
 -- the maker, the model, the serial number and the version (IEEE 488.2, 10.14)
 abbrev pub identity : List ℕ
@@ -15,3 +19,8 @@ flag_of false = 48 ∷ []
 pub record IsRow (text : List ℕ) (pieces : List (List ℕ)) : Type 0 where
   pub joined : text ≡ join_with_byte 44 pieces
   pub some : AllByRecursion (λ piece. 0 < length piece) pieces
+
+-- the text is answered, or that there was no memory for it
+abbrev pub Tells : Result (List ℕ) AllocError → SessionAnswer → Type 0
+Tells (Ok text) answer = answer ≡ Done (Some text)
+Tells (Err e) answer = answer ≡ Refused OutOfMemory
