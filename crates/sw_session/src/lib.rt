@@ -15,3 +15,4 @@ mod line;
 mod talker;
 
 pub use desk::{Desk, Wake};
+pub use talker::Talker;
