@@ -7,7 +7,7 @@ use Rattle.std.proofs.lemmas.Bool.Decides.{nat_tests}
 use Rattle.sw_base.specs.declared.error.ScpiError.{ScpiError}
 use Rattle.sw_base.specs.declared.error.ScpiError.TheVariants.{SettingsConflict, InputBufferOverrun}
 use Rattle.sw_lex.specs.declared.command.Command.{Command}
-use Rattle.sw_lex.specs.Unit.{UnitView, IsUnit, Resolves, root}
+use Rattle.sw_lex.specs.Unit.{UnitView, IsUnit, Nodes, Resolves}
 use Rattle.sw_core.specs.declared.ask.Sid.{Sid}
 use Rattle.sw_core.specs.declared.ask.SessionAsk.{SessionAsk}
 use Rattle.sw_core.specs.declared.ask.SessionAnswer.{SessionAnswer}
@@ -91,18 +91,18 @@ scripts-more text left rest front u is so us ending s =
     subst (λ (l : List UnitView). IsScript text l ending) (sym (append_assoc front (u ∷ []) us)) (so (u ∷ us) ending (rest, is, s))
 
 -- what is talked from the rest on, from this path and after these answers, is talked from the trace on, after these units
-abbrev pub TalksBy : Sid → List UnitView → ℕ → List (List ℕ) → ℕ → List (List ℕ) → List Entry → List Entry → Type 0
+abbrev pub TalksBy : Sid → List UnitView → Nodes → List (List ℕ) → Nodes → List (List ℕ) → List Entry → List Entry → Type 0
 TalksBy sid front start answers path told trace mid =
     (us : List UnitView) (ending : Ending) (after : After) (answers' : List (List ℕ)) (rest : List Entry) → Talks sid us ending path told mid after answers' rest → Talks sid (front ++ us) ending start answers trace after answers' rest
 
 -- nothing was talked yet
-pub talk-starts : {D : Type 0} (passes : D → Entry → D → Type 0) (d : D) (sid : Sid) (start path : ℕ) (answers : List (List ℕ)) → path ≡ start → Led passes d d (TalksBy sid [] start answers path answers)
+pub talk-starts : {D : Type 0} (passes : D → Entry → D → Type 0) (d : D) (sid : Sid) (start path : Nodes) (answers : List (List ℕ)) → path ≡ start → Led passes d d (TalksBy sid [] start answers path answers)
 talk-starts passes d sid start path answers is =
     led-none passes d (TalksBy sid [] start answers path answers)
-    (λ rest us ending after answers' rest' w. subst (λ (p : ℕ). Talks sid us ending p answers rest after answers' rest') is w)
+    (λ rest us ending after answers' rest' w. subst (λ (p : Nodes). Talks sid us ending p answers rest after answers' rest') is w)
 
 -- a unit was served, and the talk goes on
-pub talk-goes : {D : Type 0} (passes : D → Entry → D → Type 0) (d0 d1 d2 : D) (sid : Sid) (front : List UnitView) (u : UnitView) (command : Result Command ScpiError) (start path path' : ℕ) (answers told told' : List (List ℕ)) → Resolves u path command path'
+pub talk-goes : {D : Type 0} (passes : D → Entry → D → Type 0) (d0 d1 d2 : D) (sid : Sid) (front : List UnitView) (u : UnitView) (command : Result Command ScpiError) (start path path' : Nodes) (answers told told' : List (List ℕ)) → Resolves u path command path'
     → Led passes d0 d1 (TalksBy sid front start answers path told) → Led passes d1 d2 (λ t rest. Serves sid command told t Goes told' rest) → Led passes d0 d2 (TalksBy sid (front ++ u ∷ []) start answers path' told')
 talk-goes passes d0 d1 d2 sid front u command start path path' answers told told' r p q =
     led-then passes d0 d1 d2 (TalksBy sid front start answers path told) (λ t rest. Serves sid command told t Goes told' rest) (TalksBy sid (front ++ u ∷ []) start answers path' told') p q
@@ -115,7 +115,7 @@ stops on Drops told rest differs = (refl, refl, refl)
 stops on Ends told rest differs = (refl, refl, refl)
 
 -- the talk stops after a unit
-pub talk-stops : {D : Type 0} (passes : D → Entry → D → Type 0) (d0 d1 d2 : D) (sid : Sid) (front : List UnitView) (u : UnitView) (command : Result Command ScpiError) (start path path' : ℕ) (answers told told' : List (List ℕ)) (after : After) → Resolves u path command path'
+pub talk-stops : {D : Type 0} (passes : D → Entry → D → Type 0) (d0 d1 d2 : D) (sid : Sid) (front : List UnitView) (u : UnitView) (command : Result Command ScpiError) (start path path' : Nodes) (answers told told' : List (List ℕ)) (after : After) → Resolves u path command path'
     → (after ≡ Goes → ⊥) → Led passes d0 d1 (TalksBy sid front start answers path told) → Led passes d1 d2 (λ t rest. Serves sid command told t after told' rest)
     → Led passes d0 d2 (λ t rest. Talks sid (front ++ u ∷ []) Unread start answers t after told' rest)
 talk-stops passes d0 d1 d2 sid front u command start path path' answers told told' after r differs p q =
@@ -123,7 +123,7 @@ talk-stops passes d0 d1 d2 sid front u command start path path' answers told tol
     (λ t mid rest so s. so (u ∷ []) Unread after told' rest (command, path', after, told', rest, r, s, stops (λ so_far t'. Talks sid [] Unread path' so_far t' after told' rest) after told' rest differs))
 
 -- the text breaks off
-pub talk-refused : {D : Type 0} (passes : D → Entry → D → Type 0) (d0 d1 d2 : D) (sid : Sid) (front : List UnitView) (e : ScpiError) (start path : ℕ) (answers told told' : List (List ℕ)) (after : After)
+pub talk-refused : {D : Type 0} (passes : D → Entry → D → Type 0) (d0 d1 d2 : D) (sid : Sid) (front : List UnitView) (e : ScpiError) (start path : Nodes) (answers told told' : List (List ℕ)) (after : After)
     → Led passes d0 d1 (TalksBy sid front start answers path told) → Led passes d1 d2 (λ t rest. Serves sid (Err e) told t after told' rest)
     → Led passes d0 d2 (λ t rest. Talks sid (front ++ []) (Refuses e) start answers t after told' rest)
 talk-refused passes d0 d1 d2 sid front e start path answers told told' after p q =
@@ -131,7 +131,7 @@ talk-refused passes d0 d1 d2 sid front e start path answers told told' after p q
     (λ t mid rest so s. so [] (Refuses e) after told' rest s)
 
 -- the text is over
-pub talk-complete : {D : Type 0} (passes : D → Entry → D → Type 0) (d0 d1 : D) (sid : Sid) (front : List UnitView) (start path : ℕ) (answers told : List (List ℕ))
+pub talk-complete : {D : Type 0} (passes : D → Entry → D → Type 0) (d0 d1 : D) (sid : Sid) (front : List UnitView) (start path : Nodes) (answers told : List (List ℕ))
     → Led passes d0 d1 (TalksBy sid front start answers path told) → Led passes d0 d1 (λ t rest. Talks sid (front ++ []) Complete start answers t Goes told rest)
 talk-complete passes d0 d1 sid front start path answers told p =
     led-more passes d0 d1 d1 (TalksBy sid front start answers path told) (λ t rest. Talks sid (front ++ []) Complete start answers t Goes told rest) [] p refl
@@ -139,7 +139,7 @@ talk-complete passes d0 d1 sid front start path answers told p =
 
 -- a message that isn't too long, over a trace after which nothing is left
 pub talked-units : {D : Type 0} (passes : D → Entry → D → Type 0) (old new : D) (sid : Sid) (message text bytes : List ℕ) (units : List UnitView) (ending : Ending) (after : After) (answers : List (List ℕ)) → text ≡ strip_last 10 message → length text ≤ longest
-    → IsScript text units ending → bytes ≡ written after answers → Led passes old new (λ t rest. Talks sid units ending root [] t after answers rest) → Talked passes old new sid message bytes
+    → IsScript text units ending → bytes ≡ written after answers → Led passes old new (λ t rest. Talks sid units ending [] [] t after answers rest) → Talked passes old new sid message bytes
 talked-units passes old new sid message text bytes units ending after answers is few script writes led =
     let short : nat_lt longest (length text) ≡ false = grind (arith, nat_tests) in
     let talk : TalksUnits sid text led.trace bytes = record {
@@ -148,7 +148,7 @@ talked-units passes old new sid message text bytes units ending after answers is
       script = script;
       after = after;
       answers = answers;
-      talks = subst (λ (t : List Entry). Talks sid units ending root [] t after answers []) (append-nil led.trace) (led.admits []);
+      talks = subst (λ (t : List Entry). Talks sid units ending [] [] t after answers []) (append-nil led.trace) (led.admits []);
       writes = writes;
     } in
     let all : TalksMessage sid text led.trace bytes = subst (λ (b : Bool). MatchBool b (Overruns sid led.trace bytes) (TalksUnits sid text led.trace bytes)) (sym short) talk in

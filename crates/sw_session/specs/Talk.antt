@@ -5,7 +5,7 @@ use Rattle.sw_base.specs.declared.error.ScpiError.TheVariants.{SettingsConflict,
 use Rattle.sw_base.specs.Errors.{number_of}
 use Rattle.std.specs.Io.BufRead.{strip_last}
 use Rattle.sw_lex.specs.declared.command.Command.{Command}
-use Rattle.sw_lex.specs.Unit.{UnitView, Resolves, root}
+use Rattle.sw_lex.specs.Unit.{UnitView, Nodes, Resolves}
 use Rattle.sw_core.specs.declared.ask.Sid.{Sid}
 use Rattle.sw_core.specs.declared.ask.SessionAsk.{SessionAsk}
 use Rattle.sw_core.specs.declared.ask.SessionAsk.TheVariants as Ask
@@ -89,12 +89,12 @@ Proceeds on Ends told mid after answers' rest = (after ≡ Ends) × (answers' �
 
 -- The talk about these units, from this path and after these answers. Where the text breaks off at a byte that fits no
 -- form, that error is queued. Nobody stops reading while the message goes on.
-abbrev pub Talks : Sid → List UnitView → Ending → ℕ → List (List ℕ) → List Entry → After → List (List ℕ) → List Entry → Type 0
+abbrev pub Talks : Sid → List UnitView → Ending → Nodes → List (List ℕ) → List Entry → After → List (List ℕ) → List Entry → Type 0
 Talks sid [] Complete path answers trace after answers' rest = (after ≡ Goes) × (answers' ≡ answers) × (rest ≡ trace)
 Talks sid [] (Refuses e) path answers trace after answers' rest = Serves sid (Err e) answers trace after answers' rest
 Talks sid [] Unread path answers trace after answers' rest = ⊥
 Talks sid (u ∷ us) ending path answers trace after answers' rest =
-    (command : Result Command ScpiError) × (path' : ℕ) × (step : After) × (told : List (List ℕ)) × (mid : List Entry)
+    (command : Result Command ScpiError) × (path' : Nodes) × (step : After) × (told : List (List ℕ)) × (mid : List Entry)
     × Resolves u path command path' × Serves sid command answers trace step told mid
     × Proceeds (λ so_far t. Talks sid us ending path' so_far t after answers' rest) step told mid after answers' rest
 
@@ -119,7 +119,7 @@ pub record TalksUnits (sid : Sid) (text : List ℕ) (trace : List Entry) (bytes 
   pub script : IsScript text units ending
   pub after : After
   pub answers : List (List ℕ)
-  pub talks : Talks sid units ending root [] trace after answers []
+  pub talks : Talks sid units ending [] [] trace after answers []
   pub writes : bytes ≡ written after answers
 
 -- the talk about a message without its line feed
@@ -146,7 +146,7 @@ ServesLine passes old new sid command out after out' =
     (answers : List (List ℕ)) → out ≡ line_of answers → (answers' : List (List ℕ)) × (out' ≡ line_of answers') × Led passes old new (λ t rest. Serves sid command answers t after answers' rest)
 
 -- the units of a text are talked over, from this path
-abbrev pub TalksLine : {D : Type 0} → (D → Entry → D → Type 0) → D → D → Sid → List ℕ → ℕ → List ℕ → After → List ℕ → Type 0
+abbrev pub TalksLine : {D : Type 0} → (D → Entry → D → Type 0) → D → D → Sid → List ℕ → Nodes → List ℕ → After → List ℕ → Type 0
 TalksLine passes old new sid text path out after out' =
     (answers : List (List ℕ)) → out ≡ line_of answers → (units : List UnitView) × (ending : Ending) × (answers' : List (List ℕ)) × IsScript text units ending × (out' ≡ line_of answers')
     × Led passes old new (λ t rest. Talks sid units ending path answers t after answers' rest)

@@ -1,8 +1,8 @@
 //! The talk about one program message.
 
-ghost use Rattle.std.specs.Prelude.{◌≡◌};
+ghost use Rattle.std.specs.Prelude.{◌≡◌, []};
 ghost use Rattle.std.specs.Io.BufRead.{strip_last};
-ghost use Rattle.sw_lex.specs.Unit.{root, path_of};
+ghost use Rattle.sw_lex.specs.Unit.{path_of};
 ghost use Rattle.sw_session.specs.Talk.{Talked, TalksLine, ServesLine, ConcludesLine, after_of, is_command_error, TellsAnswered};
 
 use crate::asking::{begin, queue};
@@ -78,7 +78,7 @@ pub enum After {
 
 /// Talks over the units of a text, from the root.
 fn talk<D: Desk>(alloc: Global, desk: &mut D, sid: Sid, text: &[u8], out: &mut Vec<u8>) -> After
-    ensures { TalksLine D.passes desk.old desk.new sid text.now root out.old.items result out.new.items }
+    ensures { TalksLine D.passes desk.old desk.new sid text.now [] out.old.items result out.new.items }
 {
     let mut path = Path::root();
     let mut left = text;
