@@ -1,0 +1,5 @@
+pub mod Units
+pub mod Spelled
+pub mod Apart
+pub mod Nodes
+pub mod Shorter
