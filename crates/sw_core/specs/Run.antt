@@ -3,7 +3,7 @@ use Rattle.std.specs.Prelude.{◌≡◌, ◌≢◌, ℕ, Bool, true, false, List
 use Rattle.std.specs.List.{AllByRecursion}
 use Rattle.sw_base.specs.Layout.{Channel}
 use Rattle.sw_base.specs.declared.error.ScpiError.{ScpiError}
-use Rattle.sw_base.specs.declared.error.ScpiError.TheVariants.{HardwareError}
+use Rattle.sw_base.specs.declared.error.ScpiError.TheVariants.{HardwareError, OutOfMemory}
 use Rattle.sw_card.specs.Account.{Account, closed_at}
 use Rattle.sw_cage.specs.Rack.{is_closed}
 use Rattle.sw_cage.specs.Change.{is_in}
@@ -43,3 +43,12 @@ pub record RelaysObey : Type 0 where
   pub failed : (p q : Panel) (ask : AskView) (failed : Bool) → Step p ask failed (SaysSession (Refused HardwareError)) q → (c : Channel) → is_closed q.cage.rack c ≡ false
   -- an ejected card has no relay closed
   pub ejected : (p q : Panel) (slot : ℕ) (failed : Bool) (card : Account) → Step p (AskEject slot) failed (SaysEjected card) q → (k : ℕ) → closed_at card.closed k ≡ false
+
+-- an answer that tells of no want of memory and of no card's failure
+abbrev pub IsPlain : AnswerView → Type 0
+IsPlain (SaysSession (Refused e)) = (e ≢ OutOfMemory) × (e ≢ HardwareError)
+IsPlain answer = Unit {0}
+
+-- Where memory suffices and no card fails, an ask has one answer and leaves one state.
+abbrev pub StepIsDetermined : Type 0
+StepIsDetermined = (p q q' : Panel) (ask : AskView) (f f' : Bool) (a a' : AnswerView) → Step p ask f a q → Step p ask f' a' q' → IsPlain a → IsPlain a' → (a ≡ a') × (q ≡ q')

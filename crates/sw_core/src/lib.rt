@@ -4,7 +4,6 @@
 mod ask;
 mod laws;
 mod sessions;
-mod text;
 
 pub use ask::{Answer, Ask, SessionAnswer, SessionAsk, Sid};
-pub use laws::{every_run_is_exclusive, relays_obey};
+pub use laws::{every_run_is_exclusive, relays_obey, step_is_determined};
