@@ -1,9 +1,9 @@
 -- What is printed is spelled so.
-use Rattle.std.proofs.Common.{◌≡◌, ℕ, ◌+◌, ◌-◌, ◌*◌, ◌/◌, ◌%◌, ◌<◌, ◌≤◌, ◌≢◌, true, false, List, [], ◌∷◌, ◌++◌, length, refl, sym, ap, ◌∙◌, append_assoc, arith, drop, take, Some, None, inl, inr, map, lit≤, lit<}
+use Rattle.std.proofs.Common.{◌≡◌, ℕ, ◌+◌, ◌/◌, ◌%◌, ◌<◌, ◌≤◌, ◌≢◌, true, List, [], ◌∷◌, ◌++◌, length, refl, sym, ap, ◌∙◌, append_assoc, arith, drop, take, Some, inl, inr, map, lit<}
 use Rattle.std.specs.Prelude.{nat_le}
 use Rattle.std.specs.List.{AllByRecursion, All}
 use Rattle.std.proofs.lemmas.List.{append-nil}
-use Rattle.std.proofs.lemmas.Bool.{cases_Bool, leb-true, leb-false, le-leb}
+use Rattle.std.proofs.lemmas.Bool.{cases_Bool, leb-false, le-leb}
 use Rattle.std.proofs.Common.{suc, get_or, drop-cons, add-one, subst}
 use Rattle.std.proofs.lemmas.List.Elements.{All-more, recursion_from_All}
 use Rattle.sw_channel.specs.Meaning.{number_from}

@@ -9,16 +9,20 @@ ghost use Rattle.sw_channel.specs.Printing.{printed, printed_channel, printed_ot
 use std::alloc::{AllocError, Global};
 use sw_base::{Chan, ScpiError};
 
+/// The bytes of a channel at most, its comma counted: `,8!99`.
+const MOST_BYTES: usize = 5;
+
 /// A channel list as text: `(@`, each channel as `slot!channel`, joined by commas, and `)`; `(@)` for none.
 ///
-/// `OutOfMemory` comes where the text could not grow, and no other error.
+/// `OutOfMemory` comes where the text found no room, and no other error.
 pub fn print_list(alloc: Global, chans: &[Chan]) -> Result<Vec<u8>, ScpiError>
     ensures printed { IfOk result (λ v. v.items ≡ printed chans.now) }
     // What is printed spells what it is printed of.
     ensures spelled { chans.now ≢ [] → IfOk result (λ v. Spells v.items chans.now) }
     ensures refused { IfErr result (λ e. e ≡ OutOfMemory) }
 {
-    let mut out = Vec::new(alloc);
+    let room = chans.len().saturating_mul(MOST_BYTES).saturating_add(3);
+    let mut out = Vec::with_capacity(alloc, room)?;
     out.extend_from_slice(b"(@")?;
     put_all(&mut out, chans)?;
     out.push(b')')?;

@@ -1,5 +1,5 @@
 use Rattle.std.proofs.Common.{◌≡◌, ◌++◌, drop, take}
-use Rattle.std.specs.List.{AllByRecursion, All}
+use Rattle.std.specs.List.{All}
 use Rattle.sw_channel.specs.Printing.{printed_others, InRange}
 use Rattle.sw_channel.proofs.print.put_others.Given as goal
 
