@@ -1,17 +1,20 @@
 -- Lemmas on a call on one slot's card, from the cards to their accounts.
-use Rattle.std.proofs.Common.{◌≡◌, ◌≢◌, ℕ, ◌+◌, ◌-◌, ◌≤◌, ◌<◌, Bool, true, false, List, [], ◌∷◌, ◌++◌, length, take, drop, Option, None, Some, slice_index_or, slice_set, ◌⊎◌, inl, inr, refl, sym, ◌∙◌, ap, subst, arith, rules, map, replicate, is_some, Result, Ok, Err, OnOk, OnErr}
+use Rattle.std.proofs.Common.{◌≡◌, ◌≢◌, ℕ, ◌+◌, ◌-◌, ◌≤◌, ◌<◌, Bool, true, false, List, [], ◌∷◌, ◌++◌, length, take, drop, Option, None, Some, slice_index_or, slice_set, ◌⊎◌, inl, inr, refl, sym, ◌∙◌, ap, subst, arith, rules, map, replicate, is_some, Result, Ok, Err, OnOk, OnErr, zero, suc}
 use Rattle.std.proofs.lemmas.List.{get_or_default, length-map, map-set}
 use Rattle.std.proofs.lemmas.List.Edits.{map_over_more}
 use Rattle.std.proofs.Math.ListN.{get_or-map}
 use Rattle.std.proofs.Math.Seq.{take-append_seam}
 use Rattle.std.proofs.lemmas.Grind.{common_steps}
 use Rattle.sw_base.specs.Layout.{Channel, Layout, slot_at, bay_has, is_present, IsClash}
-use Rattle.sw_card.specs.Account.{Account, is_meter, closed_at}
+use Rattle.sw_card.specs.Account.{Account, is_meter, closed_at, at_rest}
+use Rattle.sw_card.proofs.Rows.{none_is_closed}
 use Rattle.sw_cage.specs.Rack.{Rack, option_account, rack_of, option_bay, layout_of, option_closed, is_closed, IsRow, OptionRow, IsSafe, option_set, with_chan, option_rest, all_open, IsSlotFault, IsRackFault}
-use Rattle.sw_cage.specs.Change.{Sets, IsDisturbed}
+use Rattle.sw_cage.specs.Change.{is_in, Sets, IsDisturbed}
+use Rattle.sw_cage.specs.Close.{closed_with, HasClash, all_present, CanClose}
+use Rattle.std.specs.List.{list_all}
 use Rattle.sw_cage.specs.Install.{CanInstall, IsFit}
 use Rattle.sw_cage.proofs.Racks.{slot_map, slot_set_same, present_slot, present_at, closed_slot, some_slot, IsSlotGrown, closed_grows, opened_grows, safe_grown, safe_opened, safe_quiet, safe_empty}
-use Rattle.sw_cage.proofs.Changes.{sets_one, disturbed_one, option_set_rest}
+use Rattle.sw_cage.proofs.Changes.{sets_one, disturbed_one, option_set_rest, and_left, and_right, or_left, or_right, in_at, in_take, sets_layout, sets_closed}
 
 -- cards read and written
 
@@ -28,6 +31,15 @@ read items value s x same size p h e =
 
 pub written : {C : Type 0} (items : List (Option (C × Account))) (value : Rack) (i : ℕ) (v : Option (C × Account)) → rack_of items ≡ value → rack_of (slice_set items i v) ≡ slice_set value i (option_account v)
 written items value i v same = map-set option_account items i v ∙ ap (λ (r : Rack). slice_set r i (option_account v)) same
+
+pub read_some : {C : Type 0} (items : List (Option (C × Account))) (value : Rack) (s : ℕ) (x : Option (C × Account)) (card : C × Account) → rack_of items ≡ value → length (rack_of items) ≡ 8 → 0 < s → s ≤ 8 → x ≡ slice_index_or items (s - 1) x → x ≡ Some card → slot_at value s ≡ Some card.1
+read_some items value s x card same size p h e is = read items value s x same size p h e ∙ ap option_account is
+
+pub read_none : {C : Type 0} (items : List (Option (C × Account))) (value : Rack) (s : ℕ) (x : Option (C × Account)) → rack_of items ≡ value → length (rack_of items) ≡ 8 → 0 < s → s ≤ 8 → x ≡ slice_index_or items (s - 1) x → x ≡ None → slot_at value s ≡ None
+read_none items value s x same size p h e is = read items value s x same size p h e ∙ ap option_account is
+
+pub closed_by : (value : Rack) (s ch : ℕ) (a : Account) (b : Bool) → slot_at value s ≡ Some a → closed_at a.closed ch ≡ b → is_closed value (s, ch) ≡ b
+closed_by value s ch a b at e = ap (λ o. option_closed o ch) at ∙ e
 
 -- what a call of close or open on one channel did, with the cage still safe
 pub record AfterCall {T E : Type 0} (value : Rack) (c : Channel) (most : Rack) (on : Bool) (r : Result T E) (new : Rack) : Type 0 where
@@ -117,6 +129,14 @@ ejected_card items value s x card same safe some is e =
     let b : (0 < s) × (s ≤ length (rack_of items)) = some_slot (rack_of items) s (ap (λ (r : Rack). is_some (slot_at r s)) same ∙ some) in
     ap option_rest (read items value s x same safe.size b.0 (omega (arith, b.1, safe.size)) is) ∙ sym e
 
+rested_open : (o : Option Account) (card : Account) → Some card ≡ option_rest o → (ch : ℕ) → closed_at card.closed ch ≡ false
+rested_open None card e ch = cc
+rested_open (Some a) card e ch = let k : card ≡ at_rest a = cc in ap (λ (x : Account). closed_at x.closed ch) k ∙ none_is_closed a.closed ch
+
+-- a card that was opened has nothing closed
+pub ejected_open : {C : Type 0} (x : Option (C × Account)) (card : Account) → Some card ≡ option_rest (option_account x) → (ch : ℕ) → closed_at card.closed ch ≡ false
+ejected_open x card e ch = rested_open (option_account x) card e ch
+
 pub emptied : {C : Type 0} (items : List (Option (C × Account))) (value : Rack) (i : ℕ) (v : Option (C × Account)) → rack_of items ≡ value → v ≡ None → rack_of (slice_set items i v) ≡ slice_set value i None
 emptied items value i v same none = written items value i v same ∙ ap (λ (o : Option Account). slice_set value i o) (ap option_account none)
 
@@ -136,3 +156,29 @@ all_rested items lent new len same e n =
 
 pub new_rack : {C : Type 0} (items : List (Option (C × Account))) (n : ℕ) → items ≡ replicate n None → 8 ≤ n → n ≤ 8 → rack_of items ≡ replicate 8 None
 new_rack items n e p h = let k : n ≡ 8 = omega arith in ap rack_of (e ∙ ap (λ (j : ℕ). replicate j None) k)
+
+-- loops over a list of channels
+
+pub on_err : {T E : Type 0} {X : Type 0} (r : Result T E) → X → OnErr r X
+on_err (Ok t) x = tt
+on_err (Err e) x = x
+
+all_at : (p : Channel → Bool) (chans : List Channel) (i : ℕ) (d : Channel) → i < length chans → list_all p chans ≡ true → p (slice_index_or chans i d) ≡ true
+all_at p [] i d h e = absurd (omega arith)
+all_at p (x ∷ chans) zero d h e = and_left (p x) (list_all p chans) e
+all_at p (x ∷ chans) (suc i) d h e = all_at p chans i d (omega arith) (and_right (p x) (list_all p chans) e)
+
+pub present_item : (layout : Layout) (chans : List Channel) (i : ℕ) (c d : Channel) → i < length chans → c ≡ slice_index_or chans i d → all_present layout chans ≡ true → is_present layout c ≡ true
+present_item layout chans i c d h e all = ap (is_present layout) e ∙ all_at (is_present layout) chans i d h all
+
+pub next_present : (rack now : Rack) (chans : List Channel) (i : ℕ) (c : Channel) → i < length chans → c ≡ slice_index_or chans i c → CanClose (layout_of rack) (is_closed rack) chans → Sets rack (take i chans) true now → is_present (layout_of now) c ≡ true
+next_present rack now chans i c h e can sets = ap (λ l. is_present l c) (sets_layout rack now (take i chans) true sets) ∙ present_item (layout_of rack) chans i c c h e can.present
+
+pub next_apart : (rack now : Rack) (chans : List Channel) (i : ℕ) (c : Channel) → i < length chans → c ≡ slice_index_or chans i c → CanClose (layout_of rack) (is_closed rack) chans → Sets rack (take i chans) true now → (d : Channel) → is_closed now d ≡ true → IsClash (layout_of now) c d → ⊥
+next_apart rack now chans i c h e can sets d k clash = can.apart (record {
+  one = c;
+  other = d;
+  one_closed = or_left (is_in chans c) (is_closed rack c) (in_at chans i c c h e);
+  other_closed = elim (sets_closed rack now (take i chans) true sets d k) [ inl o ↦ or_right (is_in chans d) (is_closed rack d) o | inr t ↦ or_left (is_in chans d) (is_closed rack d) (in_take chans i d t) ];
+  clash = subst (λ l. IsClash l c d) (sets_layout rack now (take i chans) true sets) clash;
+})

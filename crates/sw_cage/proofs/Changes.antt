@@ -22,11 +22,11 @@ ne_eq m n h = grind (arith, common_steps)
 eq_is : (m n : ℕ) → (m == n) ≡ true → m ≡ n
 eq_is m n h = grind (arith, common_steps)
 
-and_left : (a b : Bool) → (a && b) ≡ true → a ≡ true
+pub and_left : (a b : Bool) → (a && b) ≡ true → a ≡ true
 and_left true b h = refl
 and_left false b h = h
 
-and_right : (a b : Bool) → (a && b) ≡ true → b ≡ true
+pub and_right : (a b : Bool) → (a && b) ≡ true → b ≡ true
 and_right true b h = h
 and_right false b h = cc
 

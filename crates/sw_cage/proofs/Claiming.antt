@@ -100,6 +100,10 @@ before_closed rack index new slot ch group h closed g free claimed room grouples
     holds_same (layout_of rack) (λ d. (ClosedBefore rack slot ch d) ⊎ (d ≡ (slot, ch))) (ClosedBefore rack slot (ch + 1)) new (λ c p. before_back rack slot ch c closed p) (before_step rack slot ch)
     (holds_more (layout_of rack) (ClosedBefore rack slot ch) index new group (slot, ch) h g free claimed room groupless)
 
+pub before_claimed : (rack : Rack) (index new : Index) (slot ch group : ℕ) (c : Channel) → c ≡ (slot, ch) → Holds (layout_of rack) (ClosedBefore rack slot ch) index → is_closed rack (slot, ch) ≡ true → group ≡ group_of (layout_of rack) (slot, ch) → (group ≢ 0 → (other : Channel) → claim_at index group ≡ Some other → other ≡ c) → (group ≢ 0 → new ≡ slice_set index group (Some c)) → (group ≢ 0 → group < length index) → (group ≡ 0 → new ≡ index) → Holds (layout_of rack) (ClosedBefore rack slot (ch + 1)) new
+before_claimed rack index new slot ch group c e h closed g free claimed room groupless =
+    before_closed rack index new slot ch group h closed g (λ n other k. free n other k ∙ e) (λ n. claimed n ∙ ap (λ (x : Channel). slice_set index group (Some x)) e) room groupless
+
 -- an open channel changes nothing
 pub before_open : (rack : Rack) (index : Index) (slot ch : ℕ) → Holds (layout_of rack) (ClosedBefore rack slot ch) index → is_closed rack (slot, ch) ≡ false → Holds (layout_of rack) (ClosedBefore rack slot (ch + 1)) index
 before_open rack index slot ch h «open» = holds_same (layout_of rack) (ClosedBefore rack slot ch) (ClosedBefore rack slot (ch + 1)) index
@@ -126,8 +130,8 @@ before_next rack index slot ch h past = holds_same (layout_of rack) (ClosedBefor
 -- closed channels and listed ones
 
 -- past the last slot nothing is closed
-pub with_none : (rack : Rack) (index : Index) → length rack ≡ 8 → Holds (layout_of rack) (ClosedBefore rack 9 0) index → Holds (layout_of rack) (λ c. closed_with (is_closed rack) [] c ≡ true) index
-with_none rack index size h = holds_same (layout_of rack) (ClosedBefore rack 9 0) (λ c. closed_with (is_closed rack) [] c ≡ true) index (λ c p. p.0)
+pub closed_all : (rack : Rack) (index : Index) → length rack ≡ 8 → Holds (layout_of rack) (ClosedBefore rack 9 0) index → Holds (layout_of rack) (λ c. is_closed rack c ≡ true) index
+closed_all rack index size h = holds_same (layout_of rack) (ClosedBefore rack 9 0) (λ c. is_closed rack c ≡ true) index (λ c p. p.0)
     (λ c p. (p, inl (let b : (0 < c.0) × (c.0 ≤ length rack) = closed_slot rack c p in omega (arith, size, b.1)))) h
 
 with_step : (closed : Channel → Bool) (chans : List Channel) (i : ℕ) (c d : Channel) → i < length chans → c ≡ slice_index_or chans i d → (x : Channel) → closed_with closed (take (i + 1) chans) x ≡ true → (closed_with closed (take i chans) x ≡ true) ⊎ (x ≡ c)
@@ -167,9 +171,9 @@ with_apart layout closed chans i index h kept clash =
     holds_apart layout (λ x. closed_with closed chans x ≡ true) index holds clash.one clash.other clash.one_closed clash.other_closed clash.clash
 
 -- closed channels that clash
-pub before_clash : (rack : Rack) (index : Index) (slot ch group : ℕ) → Holds (layout_of rack) (ClosedBefore rack slot ch) index → is_closed rack (slot, ch) ≡ true → group ≡ group_of (layout_of rack) (slot, ch) → group ≢ 0 → (other : Channel) × ((claim_at index group ≡ Some other) × (other ≢ (slot, ch))) → HasClash (layout_of rack) (is_closed rack)
-before_clash rack index slot ch group h closed g n found =
-    let k : (ClosedBefore rack slot ch found.0) × IsClash (layout_of rack) found.0 (slot, ch) = claim_clash (layout_of rack) (ClosedBefore rack slot ch) index group (slot, ch) h g n found.0 found.1.0 found.1.1 in
+pub before_clash : (rack : Rack) (index : Index) (slot ch group : ℕ) → Holds (layout_of rack) (ClosedBefore rack slot ch) index → is_closed rack (slot, ch) ≡ true → group ≡ group_of (layout_of rack) (slot, ch) → group ≢ 0 → (c : Channel) → c ≡ (slot, ch) → (other : Channel) × ((claim_at index group ≡ Some other) × (other ≢ c)) → HasClash (layout_of rack) (is_closed rack)
+before_clash rack index slot ch group h closed g n c e found =
+    let k : (ClosedBefore rack slot ch found.0) × IsClash (layout_of rack) found.0 (slot, ch) = claim_clash (layout_of rack) (ClosedBefore rack slot ch) index group (slot, ch) h g n found.0 found.1.0 (λ k. found.1.1 (k ∙ sym e)) in
     record { one = found.0; other = (slot, ch); one_closed = k.0.0; other_closed = closed; clash = k.1 }
 
 -- a clash among the closed channels stays one with more

@@ -90,3 +90,30 @@ row_nowhere closed slot n none = row_past closed slot 0 n (omega arith) (λ k h.
 
 pub row_empty : (rack : Rack) (slot n : ℕ) → slot_at rack slot ≡ None → filter (is_closed rack) (row slot n) ≡ []
 row_empty rack slot n at = row_nowhere (is_closed rack) slot n (λ k. closed_nowhere rack slot k at)
+
+pub row_start : (closed : Channel → Bool) (slot : ℕ) → filter closed (row slot 0) ≡ []
+unfolding row
+row_start closed slot = refl
+
+pub rows_start : (closed : Channel → Bool) → filter closed (rows 0) ≡ []
+unfolding rows
+rows_start closed = refl
+
+-- one more closed channel is appended
+pub push_row : (first now new : List Channel) (closed : Channel → Bool) (slot ch : ℕ) (c : Channel) → now ≡ first ++ filter closed (row slot ch) → new ≡ now ++ c ∷ [] → c ≡ (slot, ch + 1) → closed (slot, ch + 1) ≡ true → new ≡ first ++ filter closed (row slot (ch + 1))
+push_row first now new closed slot ch c kept e is h =
+    e ∙ ap (λ l. l ++ c ∷ []) kept ∙ append_assoc first (filter closed (row slot ch)) (c ∷ [])
+    ∙ ap (λ (x : Channel). first ++ (filter closed (row slot ch) ++ x ∷ [])) is ∙ ap (λ l. first ++ l) (sym (row_closed closed slot ch h))
+
+pub skip_row : (first now : List Channel) (closed : Channel → Bool) (slot ch : ℕ) → now ≡ first ++ filter closed (row slot ch) → closed (slot, ch + 1) ≡ false → now ≡ first ++ filter closed (row slot (ch + 1))
+skip_row first now closed slot ch kept h = kept ∙ ap (λ l. first ++ l) (sym (row_open closed slot ch h))
+
+pub add_nothing : (first more : List Channel) → more ≡ [] → first ≡ first ++ more
+add_nothing first more e = sym (ap (λ l. first ++ l) e ∙ append-nil first)
+
+pub push_rows : (now new : List Channel) (closed : Channel → Bool) (slot : ℕ) → now ≡ filter closed (rows slot) → new ≡ now ++ filter closed (row (slot + 1) 99) → new ≡ filter closed (rows (slot + 1))
+push_rows now new closed slot kept e = e ∙ ap (λ l. l ++ filter closed (row (slot + 1) 99)) kept ∙ sym (filter-append closed (rows slot) (row (slot + 1) 99)) ∙ ap (filter closed) (sym (rows_more slot))
+
+-- the card's channels are all that may be closed in its slot
+pub card_row : (rack : Rack) (slot n : ℕ) (a : Account) → IsSafe rack → slot_at rack slot ≡ Some a → length a.closed ≤ n → filter (is_closed rack) (row slot n) ≡ filter (is_closed rack) (row slot 99)
+card_row rack slot n a safe at h = row_whole (is_closed rack) slot n (λ k l. closed_beyond rack slot a k at (omega (arith, h, l))) (λ k l. closed_far rack slot k safe l)

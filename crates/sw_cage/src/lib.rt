@@ -9,10 +9,10 @@
 //! Only making a cage and listing the closed channels take memory. What a relay really does is the card's own word.
 #![tactic(auto)]
 
-//mod cage;
+mod cage;
 mod claims;
 mod refusal;
 mod slots;
 
-pub(crate) use slots::Slots;
+pub use cage::Cage;
 pub use refusal::{CloseRefusal, EjectRefusal, InstallRefusal};

@@ -178,6 +178,7 @@ impl<R: Relay, M: Meter> Slots<R, M> {
     /// Opens the card's relays and takes it out.
     pub(crate) fn eject(&mut self, slot: u8) -> Result<Card<R, M>, EjectRefusal>
         ensures ok { IfOk result (λ card. option_rest (slot_at self.old slot) ≡ Some card.1) }
+        ensures open { IfOk result (λ card. (ch : ℕ) → closed_at card.1.closed ch ≡ false) }
         ensures taken { OnOk result (self.new ≡ slice_set self.old (slot - 1) None) }
         ensures refused { IfErr result (λ refusal. RefusesEject self.old slot refusal) }
         ensures err { OnErr result (self.new ≡ self.old) }
@@ -300,9 +301,10 @@ impl<R: Relay, M: Meter> Slots<R, M> {
     /// Lets each closed channel claim its group, unless two of one group are closed.
     fn claim_closed(&self, claims: &mut Claims) -> bool
         requires { Holds (layout_of self.now) (ClosedBefore self.now 1 0) claims.old }
-        ensures claimed { result ≡ true → Holds (layout_of self.now) (ClosedBefore self.now 9 0) claims.new }
+        ensures claimed { result ≡ true → Holds (layout_of self.now) (λ c. is_closed self.now c ≡ true) claims.new }
         ensures clash { result ≡ false → HasClash (layout_of self.now) (is_closed self.now) }
     {
+        let _ = &self.slots;
         for before in 0..8u8 {
             if !self.claim_slot(before + 1, claims) {
                 return false;
@@ -314,7 +316,7 @@ impl<R: Relay, M: Meter> Slots<R, M> {
     /// Lets each channel of the list claim its group, unless another channel has it.
     fn claim_listed(&self, chans: &[Chan], claims: &mut Claims) -> bool
         requires present { all_present (layout_of self.now) chans.now ≡ true }
-        requires held { Holds (layout_of self.now) (ClosedBefore self.now 9 0) claims.old }
+        requires held { Holds (layout_of self.now) (λ c. is_closed self.now c ≡ true) claims.old }
         ensures apart { result ≡ true → HasClash (layout_of self.now) (closed_with (is_closed self.now) chans.now) → ⊥ }
         ensures clash { result ≡ false → HasClash (layout_of self.now) (closed_with (is_closed self.now) chans.now) }
     {

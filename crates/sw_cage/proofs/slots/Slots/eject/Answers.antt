@@ -1,5 +1,5 @@
 use Rattle.std.proofs.Common.{rules, refl, sym, ◌∙◌}
-use Rattle.sw_cage.proofs.Calls.{safe_ejected, ejected_card, emptied}
+use Rattle.sw_cage.proofs.Calls.{safe_ejected, ejected_card, ejected_open, emptied}
 use Rattle.sw_cage.proofs.slots.Slots.eject.Goals as goal
 
 pub invariant_of-self : goal.invariant_of-self
@@ -10,3 +10,6 @@ returns-clause-ok g c = ejected_card c.self.inside.slots.items c.args.self.now c
 
 pub returns-clause-taken : goal.returns-clause-taken
 returns-clause-taken g c = emptied c.self.inside.slots.items c.args.self.now _ c.take_rested.new.slot c.self.view_is c.take_rested.ensures.empty
+
+pub returns-clause-open : goal.returns-clause-open
+returns-clause-open g c ch = ejected_open c.index_mut.result.now c.in-Some.card.1 c.in-Some.ensures.card ch
