@@ -8,18 +8,18 @@ use Rattle.sw_cage.specs.declared.refusal.InstallRefusal.TheVariants.{Busy, Occu
 use Rattle.sw_cage.specs.declared.refusal.EjectRefusal.{EjectRefusal}
 use Rattle.sw_cage.specs.declared.refusal.EjectRefusal.TheVariants.{Vacant, Out}
 
--- 1 to 99 channels, all of them open
+-- 1 to 99 channels
 pub record IsFit (card : Account) : Type 0 where
   pub some_channel : 1 ≤ length card.groups
   pub few_channels : length card.groups ≤ 99
-  pub «open» : (ch : ℕ) → closed_at card.closed ch ≡ false
 
--- the slot is one of the eight and empty, and the card, if it has relays, is fit
+-- the slot is one of the eight and empty; the card has nothing closed and, if it is no meter, 1 to 99 channels
 pub record CanInstall (rack : Rack) (slot : ℕ) (card : Account) : Type 0 where
   pub empty : slot_at rack slot ≡ None
   pub first : 1 ≤ slot
   pub last : slot ≤ 8
   pub fit : is_meter card ≡ false → IsFit card
+  pub «open» : (ch : ℕ) → closed_at card.closed ch ≡ false
 
 -- no channel, more than 99, or one closed
 abbrev pub IsUnfit : Account → Type 0

@@ -183,12 +183,12 @@ some_none : (o : Option Account) → is_some o ≡ true → o ≡ None → ⊥
 some_none None e f = absurd (cc (e))
 some_none (Some a) e f = absurd (cc (f))
 
-unfit_fit : (card : Account) → IsFit card → IsUnfit card → ⊥
-unfit_fit card fit bad = elim bad [
+unfit_fit : (card : Account) → IsFit card → ((ch : ℕ) → closed_at card.closed ch ≡ false) → IsUnfit card → ⊥
+unfit_fit card fit none bad = elim bad [
   | inl e ↦ omega (arith, fit.some_channel)
   | inr rest ↦ elim rest [
     | inl more ↦ omega (arith, fit.few_channels)
-    | inr x ↦ true_false (closed_at card.closed x.0) x.1 (fit.«open» x.0)
+    | inr x ↦ true_false (closed_at card.closed x.0) x.1 (none x.0)
   ]
 ]
 
@@ -197,7 +197,7 @@ bad_can rack slot card can bad = elim bad [
   | inl l ↦ omega (arith, can.first)
   | inr rest ↦ elim rest [
     | inl g ↦ omega (arith, can.last)
-    | inr x ↦ unfit_fit card (can.fit x.0) x.1
+    | inr x ↦ unfit_fit card (can.fit x.0) can.«open» x.1
   ]
 ]
 

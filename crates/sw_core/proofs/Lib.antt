@@ -1,3 +1,4 @@
 mod Rows
 mod Safety
 mod Determined
+mod Calls

@@ -179,7 +179,7 @@ rest_slot rack slot card e =
 step_kept : (p : Panel) (ask : AskView) (f : Bool) (answer : AnswerView) (q : Panel) → IsKept p.cage.rack → Step p ask f answer q → IsKept q.cage.rack
 step_kept p (AskSession ask) f (SaysSession answer) q k h = session_kept p ask f answer q k h
 step_kept p (AskInstall slot card) f SaysInstalled q k h =
-    subst (λ (r : Panel). IsKept r.cage.rack) (sym h.2) (slot_kept p.cage.rack slot (Some card) (omega (arith, h.1.first)) (omega (arith, h.1.last, k.size)) h.1.none k)
+    subst (λ (r : Panel). IsKept r.cage.rack) (sym h.2) (slot_kept p.cage.rack slot (Some card) (omega (arith, h.1.first)) (omega (arith, h.1.last, k.size)) h.1.«open» k)
 step_kept p (AskInstall slot card) f (SaysNotInstalled refusal) q k h = same_kept p q h.2 k
 step_kept p (AskEject slot) f (SaysEjected card) q k h =
     let r : (0 < slot) × (slot ≤ length p.cage.rack) = rest_slot p.cage.rack slot card h.1 in

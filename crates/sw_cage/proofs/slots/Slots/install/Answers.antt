@@ -13,4 +13,4 @@ pub returns-clause-ok : goal.returns-clause-ok
 returns-clause-ok g c = written c.self.inside.slots.items c.args.self.now _ (Some c.args.card) c.self.view_is
 
 pub returns-clause-accepted : goal.returns-clause-accepted
-returns-clause-accepted g c = record { empty = is_none _ (sym c.has_card.ensures ∙ c.if-has_card.false); first = omega arith; last = omega arith; fit = λ m. record { some_channel = (c.is_fit.ensures.few (search rules) m).0; few_channels = (c.is_fit.ensures.few (search rules) m).1; «open» = c.is_fit.ensures.open (search rules) } }
+returns-clause-accepted g c = record { empty = is_none _ (sym c.has_card.ensures ∙ c.if-has_card.false); first = omega arith; last = omega arith; fit = λ m. record { some_channel = (c.is_fit.ensures.few (search rules) m).0; few_channels = (c.is_fit.ensures.few (search rules) m).1 }; «open» = c.is_fit.ensures.open (search rules) }
