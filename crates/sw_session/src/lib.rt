@@ -13,6 +13,7 @@ mod asking;
 mod desk;
 mod line;
 mod talker;
+mod units;
 
 pub use desk::{Desk, Wake};
 pub use talker::Talker;
