@@ -11,9 +11,11 @@
 
 mod asking;
 mod desk;
+mod laws;
 mod line;
 mod talker;
 mod units;
 
 pub use desk::{Desk, Wake};
+pub use laws::talk_is_determined;
 pub use talker::Talker;
