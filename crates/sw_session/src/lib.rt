@@ -14,6 +14,8 @@ mod desk;
 mod laws;
 mod line;
 mod talker;
+#[cfg(test)]
+mod tests;
 mod units;
 
 pub use desk::{Desk, Wake};
