@@ -10,6 +10,7 @@
 #![tactic(auto)]
 
 mod asking;
+mod core_desk;
 mod desk;
 mod laws;
 mod line;
@@ -18,6 +19,7 @@ mod talker;
 mod tests;
 mod units;
 
+pub use core_desk::CoreDesk;
 pub use desk::{Desk, Wake};
 pub use laws::talk_is_determined;
 pub use talker::Talker;
