@@ -3,3 +3,6 @@ pub mod Spelled
 pub mod Apart
 pub mod Nodes
 pub mod Shorter
+pub mod Headings
+pub mod Once
+pub mod Meanings

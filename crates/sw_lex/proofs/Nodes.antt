@@ -1,7 +1,6 @@
 -- The nodes of a header.
-use Rattle.std.proofs.Common.{◌≡◌, ℕ, ◌+◌, ◌-◌, ◌<◌, ◌≤◌, Bool, true, false, not, List, [], ◌∷◌, ◌++◌, length, take, refl, sym, ap, subst, ◌∙◌, map, append_assoc, arith, Bor, inr, Err}
+use Rattle.std.proofs.Common.{◌≡◌, ℕ, ◌<◌, Bool, true, false, not, List, [], ◌∷◌, ◌++◌, length, refl, sym, ap, ◌∙◌, map, append_assoc, arith, Bor, inr, Err}
 use Rattle.std.specs.Prelude.{◌==◌, if◌then◌else◌}
-use Rattle.std.proofs.lemmas.Bool.{eq-eqb, eqb-true, cases_Bool, and_parts}
 use Rattle.std.proofs.lemmas.List.{length-append, length-map, map_push}
 use Rattle.sw_base.specs.Text.{Lacks}
 use Rattle.sw_lex.specs.Meaning.{Nodes, nodes_of, led_by, looked_up, capitals, Resolves}

@@ -1,11 +1,10 @@
 -- What follows a unit is shorter than the text before it.
-use Rattle.std.proofs.Common.{◌≡◌, ℕ, ◌+◌, ◌<◌, ◌≤◌, Bool, true, false, List, [], ◌∷◌, ◌++◌, length, ap, subst, arith, inl, inr}
+use Rattle.std.proofs.Common.{◌≡◌, ℕ, ◌+◌, ◌<◌, ◌≤◌, Bool, true, false, List, [], ◌∷◌, ◌++◌, length, ap, arith, inl, inr}
 use Rattle.std.proofs.lemmas.List.{length-append}
-use Rattle.std.specs.List.{AllByRecursion, flat_map}
 use Rattle.sw_base.specs.Text.{Spans}
-use Rattle.sw_lex.specs.Unit.{Heading, common, path, heading_text, IsHeading, IsMnemonic, IsPath, colon, colons, Asks, Heads, Datum, datum_text, Leads, Ends, IsNext, IsLast, IsData, IsTail, IsUnit, UnitView}
+use Rattle.sw_lex.specs.Unit.{Heading, common, path, heading_text, IsHeading, IsMnemonic, IsPath, colon, colons, Asks, Datum, datum_text, Leads, Ends, IsNext, IsLast, IsData, IsTail, IsUnit, UnitView}
 
-longer : (text part rest : List ℕ) → text ≡ part ++ rest → length part + length rest ≡ length text
+pub longer : (text part rest : List ℕ) → text ≡ part ++ rest → length part + length rest ≡ length text
 longer text part rest e = omega (arith, length-append part rest, ap (λ (t : List ℕ). length t) e)
 
 span_rest : (test : ℕ → Bool) (text front rest : List ℕ) → Spans test text front rest → length rest ≤ length text
@@ -49,7 +48,7 @@ mnemonic_some (b ∷ bs) h = omega arith
 path_some : (t : List ℕ) → IsPath t → 0 < length t
 path_some t p = omega (arith, longer t (colons p.nodes) p.last p.whole, mnemonic_some p.last p.last_one)
 
-heading_some : (h : Heading) → IsHeading h → 0 < length (heading_text h)
+pub heading_some : (h : Heading) → IsHeading h → 0 < length (heading_text h)
 heading_some (common t) i = omega (arith, ap (λ (x : List ℕ). length x) i.2)
 heading_some (path leading t) i = omega (arith, path_some t i, length-append (colon leading) t)
 

@@ -1,12 +1,12 @@
 -- Units, from the front.
-use Rattle.std.proofs.Common.{◌≡◌, ℕ, zero, suc, ◌+◌, ◌<◌, ◌≤◌, List, [], ◌∷◌, ◌++◌, length, take, drop, refl, sym, ap, subst, ◌∙◌, append_assoc, arith, map}
-use Rattle.std.specs.List.{AllByRecursion, flat_map}
+use Rattle.std.proofs.Common.{◌≡◌, ℕ, ◌+◌, ◌≤◌, List, [], ◌∷◌, ◌++◌, length, take, drop, refl, sym, ap, subst, ◌∙◌, append_assoc, arith}
+use Rattle.std.specs.List.{AllByRecursion}
 use Rattle.std.proofs.lemmas.List.{append-nil, length-append, take_at, drop_at, map_push, take-append-drop, length-map}
-use Rattle.sw_base.specs.Text.{is_blank, is_letter, AllPass, StartsOff, Spans}
+use Rattle.sw_base.specs.Text.{is_letter, AllPass, StartsOff}
 use Rattle.sw_base.specs.declared.error.ScpiError.{ScpiError}
 use Rattle.sw_base.specs.declared.error.ScpiError.TheVariants.{SyntaxError}
 use Rattle.sw_lex.specs.declared.unit.Element.{Element}
-use Rattle.sw_lex.specs.Unit.{IsMnemonic, IsName, colons, IsPath, BreaksOff, Datum, IsDatum, IsData, Reaches, Ends, IsNext, IsLast, fault_at, data_of, datum_of, IsStuck, IsDataRefused, Heads, common, Leads, expression, is_inner}
+use Rattle.sw_lex.specs.Unit.{IsMnemonic, IsName, colons, IsPath, BreaksOff, Datum, IsData, Reaches, IsNext, IsLast, fault_at, data_of, datum_of, IsStuck, IsDataRefused, Heads, common, Leads, expression, is_inner}
 
 -- ---- a part of a text by its length
 

@@ -1,5 +1,5 @@
 -- A test over a whole table: no header is two commands.
-use Rattle.std.specs.Prelude.{◌≡◌, ℕ, Bool, true, false, not, ◌==◌, ◌&&◌, ◌||◌, List, [], ◌∷◌}
+use Rattle.std.specs.Prelude.{ℕ, Bool, true, false, not, ◌==◌, ◌&&◌, ◌||◌, List, [], ◌∷◌}
 use Rattle.sw_lex.specs.declared.table.Row.{Row}
 use Rattle.sw_lex.specs.Found.{Spelling, spellings}
 

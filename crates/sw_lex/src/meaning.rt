@@ -1,7 +1,11 @@
 //! From a unit to its command.
 
-ghost use Rattle.sw_lex.specs.Unit.{unit_of, data_of};
-ghost use Rattle.sw_lex.specs.Meaning.{path_of, WithNone, WithList, Obeys, Resolves};
+ghost use Rattle.std.specs.Prelude.{◌≡◌, ◌≢◌, Result, Err};
+ghost use Rattle.sw_base.specs.declared.error.ScpiError.{ScpiError as Error};
+ghost use Rattle.sw_base.specs.declared.error.ScpiError.TheVariants.{OutOfMemory};
+ghost use Rattle.sw_lex.specs.declared.command.Command.{Command as Meant};
+ghost use Rattle.sw_lex.specs.Unit.{UnitView, unit_of, data_of};
+ghost use Rattle.sw_lex.specs.Meaning.{Nodes, path_of, WithNone, WithList, Obeys, Resolves};
 
 use crate::command::Command;
 use crate::headers::find;
@@ -80,3 +84,8 @@ pub fn resolve<'a>(alloc: Global, unit: &RawUnit<'a>, path: Path<'a>) -> Resolve
         },
     }
 }
+
+/// A law: but for want of memory, a unit below a path has one command or one first refusal, and leaves one path.
+pub fn one_meaning()
+    ensures { (unit : UnitView) (below : Nodes) (r s : Result Meant Error) (a b : Nodes) → Resolves unit below r a → Resolves unit below s b → r ≢ Err OutOfMemory → s ≢ Err OutOfMemory → (r ≡ s) × (a ≡ b) }
+{}

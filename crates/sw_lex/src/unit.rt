@@ -2,8 +2,9 @@
 
 ghost use Rattle.std.specs.Prelude.{◌≡◌, ◌==◌, ◌++◌, ◌∷◌, ◌≤◌, ◌<◌, ℕ, List, [], true, false, IfOk, IfErr, IfSome, IfNone, length};
 ghost use Rattle.sw_base.specs.Text.{is_blank, is_letter, is_word, AllPass, StartsOff};
+ghost use Rattle.sw_base.specs.declared.error.ScpiError.{ScpiError as Error};
 ghost use Rattle.sw_base.specs.declared.error.ScpiError.TheVariants.{SyntaxError};
-ghost use Rattle.sw_lex.specs.Unit.{unit_of, heading_of, datum_of, data_of, is_gap, is_start, fault_at, IsPath, BreaksOff, Heads, HasNoHeading, Asks, Leads, IsUnclosed, IsStuck, IsData, IsDataRefused, IsTail, IsTailRefused, IsUnit, IsRefused, IsBlank};
+ghost use Rattle.sw_lex.specs.Unit.{UnitView, unit_of, heading_of, datum_of, data_of, is_gap, is_start, fault_at, IsPath, BreaksOff, Heads, HasNoHeading, Asks, Leads, IsUnclosed, IsStuck, IsData, IsDataRefused, IsTail, IsTailRefused, IsUnit, IsRefused, IsBlank};
 
 use crate::runs::{end, fault_at, gaps, inners, mnemonic, name};
 use arrayvec::ArrayVec;
@@ -230,3 +231,12 @@ pub fn next_unit(text: &[u8]) -> Result<Option<(RawUnit<'_>, &[u8])>, ScpiError>
         rest,
     )))
 }
+
+/// A law: no text is two units, nor refused in two ways, nor a unit and refused, nor blank and either.
+pub fn one_reading()
+    ensures units { (text : List ℕ) (u v : UnitView) (r s : List ℕ) → IsUnit text u r → IsUnit text v s → (u ≡ v) × (r ≡ s) }
+    ensures refusals { (text : List ℕ) (e f : Error) → IsRefused text e → IsRefused text f → e ≡ f }
+    ensures apart { (text : List ℕ) (u : UnitView) (r : List ℕ) (e : Error) → IsUnit text u r → IsRefused text e → ⊥ }
+    ensures no_unit { (text : List ℕ) (u : UnitView) (r : List ℕ) → IsBlank text → IsUnit text u r → ⊥ }
+    ensures no_refusal { (text : List ℕ) (e : Error) → IsBlank text → IsRefused text e → ⊥ }
+{}

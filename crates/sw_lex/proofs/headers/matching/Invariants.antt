@@ -1,4 +1,4 @@
-use Rattle.std.proofs.Common.{◌↔◌, ℕ, drop, map, List}
+use Rattle.std.proofs.Common.{◌↔◌, ℕ, drop, map}
 use Rattle.std.specs.Char.{to_ascii_uppercase}
 use Rattle.sw_lex.specs.declared.table.Key.{Key}
 use Rattle.sw_lex.specs.Found.{Matches}

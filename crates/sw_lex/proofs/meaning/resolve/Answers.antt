@@ -1,8 +1,4 @@
-use Rattle.std.proofs.Common.{◌∙◌, ap, map, List, ℕ, inl, inr, refl, Bor, rules}
-use Rattle.std.specs.Char.{to_ascii_uppercase}
-use Rattle.sw_lex.specs.declared.table.Key.{Key}
-use Rattle.sw_lex.specs.Table.{rows}
-use Rattle.sw_lex.specs.Found.{IsFound}
+use Rattle.std.proofs.Common.{inl, inr, refl, rules}
 use Rattle.sw_lex.proofs.Nodes.{capitals_of, unknown_many}
 use Rattle.sw_lex.proofs.meaning.resolve.Goals as goal
 

@@ -1,4 +1,4 @@
-use Rattle.std.proofs.Common.{◌≡◌, ◌≤◌, length, map, ◌++◌}
+use Rattle.std.proofs.Common.{◌≡◌, length, map, ◌++◌}
 use Rattle.sw_lex.specs.Meaning.{nodes_of}
 use Rattle.sw_lex.proofs.paths.joined.Given as goal
 

@@ -1,4 +1,4 @@
-use Rattle.sw_lex.specs.Unit.{heading_of, data_of, UnitView, IsUnit}
+use Rattle.sw_lex.specs.Unit.{heading_of, data_of}
 use Rattle.sw_lex.proofs.Shorter.{unit_rest}
 use Rattle.sw_lex.proofs.unit.next_unit.Goals as goal
 

@@ -1,7 +1,6 @@
-use Rattle.std.proofs.Common.{◌≡◌, ◌∷◌, ◌++◌, subst, refl, sym, List, ℕ, inl, inr, arith}
+use Rattle.std.proofs.Common.{subst, List, ℕ, inr, arith}
 use Rattle.std.proofs.lemmas.Result.{err_from_is_err_and}
 use Rattle.sw_base.specs.Text.{is_blank, Spans}
-use Rattle.sw_lex.specs.Unit.{data_of, Leads, IsNext, IsLast}
 use Rattle.sw_lex.proofs.Units.{reaches_more, reaches_last, data-push, stuck-refused}
 use Rattle.sw_lex.proofs.unit.read_data.Goals as goal
 

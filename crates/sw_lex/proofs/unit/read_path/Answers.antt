@@ -1,4 +1,4 @@
-use Rattle.sw_lex.proofs.Units.{Front-more, Front-path, Front-rest, Front-off}
+use Rattle.sw_lex.proofs.Units.{Front-more, Front-path, Front-rest}
 use Rattle.sw_lex.proofs.unit.read_path.Goals as goal
 
 pub nodes-preserved : goal.nodes-preserved
