@@ -1,10 +1,11 @@
 -- A talk leaves no choice, where a text is read in one way.
-use Rattle.std.proofs.Common.{◌≡◌, ◌≢◌, ℕ, ◌+◌, Bool, true, false, MatchBool, List, [], ◌∷◌, ◌++◌, ◌⊎◌, inl, inr, length, Option, Some, None, Result, Ok, Err, refl, ap, sym, ◌∙◌, subst}
-use Rattle.std.specs.Prelude.{◌==◌, nat_lt, if◌then◌else◌}
+use Rattle.std.proofs.Common.{◌≡◌, ℕ, ◌+◌, Bool, true, false, MatchBool, List, [], ◌∷◌, ◌++◌, inl, inr, length, Some, None, Result, Ok, Err, refl, ap, sym, ◌∙◌, subst}
+use Rattle.std.specs.Prelude.{◌==◌, nat_lt}
 use Rattle.sw_base.specs.declared.error.ScpiError.{ScpiError}
 use Rattle.sw_base.specs.declared.error.ScpiError.TheVariants.{SettingsConflict, OutOfMemory, InputBufferOverrun}
 use Rattle.sw_lex.specs.declared.command.Command.{Command}
-use Rattle.sw_lex.specs.Unit.{UnitView, IsUnit, IsRefused, IsBlank, Nodes, Resolves}
+use Rattle.sw_lex.specs.Unit.{UnitView}
+use Rattle.sw_lex.specs.Meaning.{Nodes, Resolves}
 use Rattle.sw_core.specs.declared.ask.Sid.{Sid}
 use Rattle.sw_core.specs.declared.ask.SessionAsk.{SessionAsk}
 use Rattle.sw_core.specs.declared.ask.SessionAsk.TheVariants as Ask
@@ -16,8 +17,8 @@ use Rattle.sw_session.specs.declared.talker.After.{After}
 use Rattle.sw_session.specs.declared.talker.After.TheVariants.{Goes, Drops, Ends}
 use Rattle.sw_session.specs.Trace.{Entry, Asked, Waited}
 use Rattle.sw_session.specs.Script.{Ending, Complete, Refuses, Unread, IsScript}
-use Rattle.sw_session.specs.Talk.{Queues, Settles, Begins, Concludes, Serves, Proceeds, Talks, TalksUnits, TalksMessage, Overruns, queued, after_of, has_answers, line_of, written, longest, turns}
-use Rattle.sw_session.specs.Law.{IsAmple, AllAmple, SameTalk, TalkIsDetermined}
+use Rattle.sw_session.specs.Talk.{Queues, Settles, Begins, Concludes, Serves, Proceeds, Talks, TalksUnits, Overruns, queued, after_of, has_answers, written, longest, turns}
+use Rattle.sw_session.specs.Law.{IsAmple, AllAmple, SameTalk, ReadsOnce, TalkIsDetermined}
 
 -- the rests are the same talk, and ample
 abbrev Rests : List ℕ → List ℕ → List Entry → List Entry → Type 0
@@ -69,8 +70,8 @@ told-same b b' sid turn ask a x t (Asked a' x' ∷ t') r r' f f' differs p q nex
     let s = settles-final sid turn ask a x f t r differs p in (
       settles-asks sid turn ask a x f t r p ∙ sym (settles-asks sid turn ask a' x' f' t' r' q),
       λ same.
-        let s' = settles-final sid turn ask a' x' f' t' r' (λ h is. differs h (same ∙ is)) q in
-        rw (← s.1, ← s'.1) (next (s.0 ∙ same ∙ sym s'.0) (rw s.1 m.1) (rw s'.1 n.1)),
+          let s' = settles-final sid turn ask a' x' f' t' r' (λ h is. differs h (same ∙ is)) q in
+          rw (← s.1, ← s'.1) (next (s.0 ∙ same ∙ sym s'.0) (rw s.1 m.1) (rw s'.1 n.1)),
     )
 
 -- what follows a wait
@@ -88,9 +89,9 @@ hold-same : (b b' : List ℕ) (sid : Sid) (turn : ℕ) (ask a h : SessionAsk) (w
 hold-same b b' sid turn ask a h w t [] r' f' is on q m n = absurd q
 hold-same b b' sid turn ask a h w t (Waited v ∷ t') r' f' is on q m n = absurd q
 hold-same b b' sid turn ask a h w t (Asked a' x ∷ t') r' f' is on q m n = (
-    is ∙ sym (settles-asks sid turn ask a' x f' t' r' q),
-    λ same. waits t' (subst (λ (y : SessionAnswer). Settles sid turn ask (Asked a' y ∷ t') f' r') (sym same) q) n.1,
-  )
+  is ∙ sym (settles-asks sid turn ask a' x f' t' r' q),
+  λ same. waits t' (subst (λ (y : SessionAnswer). Settles sid turn ask (Asked a' y ∷ t') f' r') (sym same) q) n.1,
+)
   where
     waits : (u : List Entry) → Settles sid turn ask (Asked a' (Hold h) ∷ u) f' r' → AllAmple u → SameTalk b b' (Waited w ∷ t) u
     waits [] s k = absurd s
@@ -111,8 +112,8 @@ settles-same b b' sid turn ask (Asked a (Hold h) ∷ Waited Over ∷ t) t' r r' 
 settles-same b b' sid turn ask (Asked a (Hold h) ∷ Waited Again ∷ t) t' r r' f f' p q next =
     hold-same b b' sid turn ask a h Again t t' r' f' p.0
     (λ u s. either-way (turn + 1 == turns) (Queues sid SettingsConflict t f r) (Settles sid (turn + 1) ask t f r) (Queues sid SettingsConflict u f' r') (Settles sid (turn + 1) ask u f' r') p.1 s
-      (λ k k'. queues-same b b' sid SettingsConflict t u r r' f f' k k' next)
-      (λ k k'. settles-same b b' sid (turn + 1) ask t u r r' f f' k k' next)) q
+    (λ k k'. queues-same b b' sid SettingsConflict t u r r' f f' k k' next)
+    (λ k k'. settles-same b b' sid (turn + 1) ask t u r r' f f' k k' next)) q
 settles-same b b' sid turn ask (Asked a (Joined s) ∷ t) t' r r' f f' p q next = told-same b b' sid turn ask a (Joined s) t t' r r' f f' (λ h is. absurd (cc (is))) p q next
 settles-same b b' sid turn ask (Asked a Full ∷ t) t' r r' f f' p q next = told-same b b' sid turn ask a Full t t' r r' f f' (λ h is. absurd (cc (is))) p q next
 settles-same b b' sid turn ask (Asked a Stranger ∷ t) t' r r' f f' p q next = told-same b b' sid turn ask a Stranger t t' r r' f f' (λ h is. absurd (cc (is))) p q next
@@ -136,9 +137,9 @@ concludes-same : (b b' : List ℕ) (sid : Sid) (answers : List (List ℕ)) (f : 
     → (after ≡ after' → told ≡ told' → Rests b b' r r') → Rests b b' t t'
 concludes-same b b' sid answers (Done (Some text)) t t' r r' after after' told told' p q next = λ m n. elim p [
   | inl k ↦ elim q [
-      | inl k' ↦ plain-same b b' t t' r r' Goes after after' (answers ++ text ∷ []) told told' k k' next m n
-      | inr lost ↦ absurd (no-loss sid t' r' lost.0 n lost.1)
-    ]
+    | inl k' ↦ plain-same b b' t t' r r' Goes after after' (answers ++ text ∷ []) told told' k k' next m n
+    | inr lost ↦ absurd (no-loss sid t' r' lost.0 n lost.1)
+  ]
   | inr lost ↦ absurd (no-loss sid t r lost.0 m lost.1)
 ]
 concludes-same b b' sid answers (Done None) t t' r r' after after' told told' p q next = plain-same b b' t t' r r' Goes after after' answers told told' p q next
@@ -162,15 +163,6 @@ serves-ample sid command answers t r after told m (f, mid, p, k) is =
     no-loss sid t mid f m (subst (λ (c : Result Command ScpiError). Begins sid (has_answers answers) c t f mid) is p)
 
 -- ---- the units
-
--- a text is read in one way
-pub record ReadsOnce : Type 0 where
-  pub unit : (text rest rest' : List ℕ) (u u' : UnitView) → IsUnit text u rest → IsUnit text u' rest' → (u ≡ u') × (rest ≡ rest')
-  pub error : (text : List ℕ) (e e' : ScpiError) → IsRefused text e → IsRefused text e' → e ≡ e'
-  pub unit_or_blank : (text rest : List ℕ) (u : UnitView) → IsUnit text u rest → IsBlank text → ⊥
-  pub unit_or_error : (text rest : List ℕ) (u : UnitView) (e : ScpiError) → IsUnit text u rest → IsRefused text e → ⊥
-  pub blank_or_error : (text : List ℕ) (e : ScpiError) → IsBlank text → IsRefused text e → ⊥
-  pub command : (u : UnitView) (path : Nodes) (c c' : Result Command ScpiError) (p p' : Nodes) → Resolves u path c p → Resolves u path c' p' → (c ≡ Err OutOfMemory → ⊥) → (c' ≡ Err OutOfMemory → ⊥) → (c ≡ c') × (p ≡ p')
 
 proceeds-same : (b b' : List ℕ) (on on' : List (List ℕ) → List Entry → Type 0) (step : After) (so_far : List (List ℕ)) (mid mid' r r' : List Entry) (after after' : After) (told told' : List (List ℕ)) → Proceeds on step so_far mid after told r → Proceeds on' step so_far mid' after' told' r'
     → (after ≡ after' → told ≡ told' → Rests b b' r r') → (on so_far mid → on' so_far mid' → Rests b b' mid mid') → Rests b b' mid mid'
@@ -203,10 +195,10 @@ talks-same reads b b' sid text (u ∷ us) (u' ∷ us') end end' path answers t t
     let on'' : Proceeds (On onward) step' so_far' mid' after' told' r' = subst (λ (x : Nodes). Proceeds (On x) step' so_far' mid' after' told' r') (sym cmd.1) on' in
     serves-same b b' sid c answers t t' mid mid' step step' so_far so_far' srv srv''
     (λ same_step same_told.
-      let on1 : Proceeds (On onward) step so_far' mid' after' told' r' = subst (λ (x : After). Proceeds (On onward) x so_far' mid' after' told' r') (sym same_step) on'' in
-      let on2 : Proceeds (On onward) step so_far mid' after' told' r' = subst (λ (x : List (List ℕ)). Proceeds (On onward) step x mid' after' told' r') (sym same_told) on1 in
-      proceeds-same b b' (λ a x. Talks sid us end onward a x after told r) (On onward) step so_far mid mid' r r' after after' told told' on on2 next
-      (λ k k'. talks-same reads b b' sid rest us us' end end' onward so_far mid mid' r r' after after' told told' s script k k' next)) m n
+    let on1 : Proceeds (On onward) step so_far' mid' after' told' r' = subst (λ (x : After). Proceeds (On onward) x so_far' mid' after' told' r') (sym same_step) on'' in
+    let on2 : Proceeds (On onward) step so_far mid' after' told' r' = subst (λ (x : List (List ℕ)). Proceeds (On onward) step x mid' after' told' r') (sym same_told) on1 in
+    proceeds-same b b' (λ a x. Talks sid us end onward a x after told r) (On onward) step so_far mid mid' r r' after after' told told' on on2 next
+    (λ k k'. talks-same reads b b' sid rest us us' end end' onward so_far mid mid' r r' after after' told told' s script k k' next)) m n
 
 -- nothing is left, and the same is written
 nothing-left : (b b' : List ℕ) → b ≡ b' → Rests b b' [] []
@@ -216,4 +208,4 @@ pub talk-determined : ReadsOnce → TalkIsDetermined
 talk-determined reads sid text t t' b b' p q = either-way (nat_lt longest (length text)) (Overruns sid t b) (TalksUnits sid text t b) (Overruns sid t' b') (TalksUnits sid text t' b') p q
     (λ o o'. queues-same b b' sid InputBufferOverrun t t' [] [] o.0 o'.0 o.1 o'.1 (λ same. nothing-left b b' (o.2 ∙ sym o'.2)))
     (λ k k'. talks-same reads b b' sid text k.units k'.units k.ending k'.ending [] [] t t' [] [] k.after k'.after k.answers k'.answers k.script k'.script k.talks k'.talks
-      (λ same_after same_told. nothing-left b b' (k.writes ∙ ap (λ x. written x k.answers) same_after ∙ ap (λ x. written k'.after x) same_told ∙ sym k'.writes)))
+    (λ same_after same_told. nothing-left b b' (k.writes ∙ ap (λ x. written x k.answers) same_after ∙ ap (λ x. written k'.after x) same_told ∙ sym k'.writes)))

@@ -7,7 +7,8 @@ use Rattle.std.proofs.lemmas.Bool.Decides.{nat_tests}
 use Rattle.sw_base.specs.declared.error.ScpiError.{ScpiError}
 use Rattle.sw_base.specs.declared.error.ScpiError.TheVariants.{SettingsConflict, InputBufferOverrun}
 use Rattle.sw_lex.specs.declared.command.Command.{Command}
-use Rattle.sw_lex.specs.Unit.{UnitView, IsUnit, Nodes, Resolves}
+use Rattle.sw_lex.specs.Unit.{UnitView, IsUnit}
+use Rattle.sw_lex.specs.Meaning.{Nodes, Resolves}
 use Rattle.sw_core.specs.declared.ask.Sid.{Sid}
 use Rattle.sw_core.specs.declared.ask.SessionAsk.{SessionAsk}
 use Rattle.sw_core.specs.declared.ask.SessionAnswer.{SessionAnswer}

@@ -5,7 +5,8 @@ use Rattle.sw_base.specs.declared.error.ScpiError.TheVariants.{SettingsConflict,
 use Rattle.sw_base.specs.Errors.{number_of}
 use Rattle.std.specs.Io.BufRead.{strip_last}
 use Rattle.sw_lex.specs.declared.command.Command.{Command}
-use Rattle.sw_lex.specs.Unit.{UnitView, Nodes, Resolves}
+use Rattle.sw_lex.specs.Unit.{UnitView}
+use Rattle.sw_lex.specs.Meaning.{Nodes, Resolves}
 use Rattle.sw_core.specs.declared.ask.Sid.{Sid}
 use Rattle.sw_core.specs.declared.ask.SessionAsk.{SessionAsk}
 use Rattle.sw_core.specs.declared.ask.SessionAsk.TheVariants as Ask

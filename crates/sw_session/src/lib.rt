@@ -10,9 +10,16 @@
 #![tactic(auto)]
 
 mod asking;
+mod core_desk;
 mod desk;
+mod laws;
 mod line;
 mod talker;
+#[cfg(test)]
+mod tests;
+mod units;
 
+pub use core_desk::CoreDesk;
 pub use desk::{Desk, Wake};
+pub use laws::talk_is_determined;
 pub use talker::Talker;

@@ -2,16 +2,16 @@
 
 ghost use Rattle.std.specs.Prelude.{◌≡◌, []};
 ghost use Rattle.std.specs.Io.BufRead.{strip_last};
-ghost use Rattle.sw_lex.specs.Unit.{path_of};
 ghost use Rattle.sw_session.specs.Talk.{Talked, TalksLine, ServesLine, ConcludesLine, after_of, is_command_error, TellsAnswered};
 
 use crate::asking::{begin, queue};
 use crate::desk::Desk;
 use crate::line::join;
+use crate::units::{Next, Units};
 use std::alloc::Global;
 use sw_base::ScpiError;
 use sw_core::{SessionAnswer, Sid};
-use sw_lex::{Command, Path, next_unit, resolve};
+use sw_lex::Command;
 
 /// The longest message that is taken, in bytes without the line feed at its end.
 const LONGEST: usize = 65_536;
@@ -80,21 +80,15 @@ pub enum After {
 fn talk<D: Desk>(alloc: Global, desk: &mut D, sid: Sid, text: &[u8], out: &mut Vec<u8>) -> After
     ensures { TalksLine D.passes desk.old desk.new sid text.now [] out.old.items result out.new.items }
 {
-    let mut path = Path::root();
-    let mut left = text;
-    'units: loop {
-        match next_unit(left) {
-            Ok(None) => return After::Goes,
-            Err(error) => return serve(desk, sid, Err(error), out),
-            Ok(Some((unit, rest))) => {
-                let resolved = resolve(alloc, &unit, path);
-                left = rest;
-                path = resolved.path;
-                match serve(desk, sid, resolved.command, out) {
-                    After::Goes => {}
-                    after => return after,
-                }
-            }
+    let mut units = Units::of(text);
+    'talk: loop {
+        match units.next(alloc) {
+            Next::End => return After::Goes,
+            Next::Misfit(error) => return serve(desk, sid, Err(error), out),
+            Next::Unit(command) => match serve(desk, sid, command, out) {
+                After::Goes => {}
+                after => return after,
+            },
         }
     }
 }
