@@ -18,3 +18,6 @@ pub use mux::Mux;
 pub use sim::{SimDriver, SimSource};
 pub use source::Source;
 pub use volt::Volt;
+
+#[cfg(test)]
+mod tests;
