@@ -3,6 +3,7 @@
 
 mod coils;
 mod driver;
+mod flags;
 mod fuse;
 mod matrix;
 mod mux;

@@ -7,6 +7,7 @@ ghost use Rattle.sw_kinds.specs.Row.{HoldsDriven, counted};
 
 use crate::coils::Coils;
 use crate::driver::Driver;
+use crate::flags::no_flags;
 use std::marker::Model;
 use sw_card::CardFault;
 
@@ -47,14 +48,6 @@ impl<D: Driver> Drop for Row<D> {
     }
 }
 
-/// Flags of which none is set.
-fn all_open() -> [bool; MOST]
-    ensures size { length result ≡ 99 }
-    ensures none { (n : ℕ) → n ≤ 99 → take n result ≡ replicate n false }
-{
-    [false; MOST]
-}
-
 impl<D: Driver> Row<D> {
     /// A row whose supply is cut.
     pub(crate) fn new(serial: u32, channels: u8, group: u8, driver: D) -> Self
@@ -67,7 +60,7 @@ impl<D: Driver> Row<D> {
             failures: 0,
             channels,
             group,
-            closed: all_open(),
+            closed: no_flags(),
             coils: Coils::new(driver),
         }
     }
@@ -155,6 +148,6 @@ impl<D: Driver> Row<D> {
         ensures account { self.new.1 ≡ at_rest self.old.1 }
     {
         self.coils.cut();
-        self.closed = all_open();
+        self.closed = no_flags();
     }
 }

@@ -4,6 +4,7 @@ ghost use Rattle.std.specs.Prelude.{◌≡◌, ℕ, ◌+◌, ◌^◌, ◌≤◌,
 ghost use Rattle.sw_kinds.specs.Readings.{reading_after};
 
 use crate::driver::Driver;
+use crate::flags::no_flags;
 use crate::source::Source;
 use std::marker::Model;
 use sw_base::Reading;
@@ -15,19 +16,12 @@ pub struct SimDriver {
     coils: [bool; 256],
 }
 
-/// No coil driven.
-fn no_coils() -> [bool; 256]
-    ensures { (k : ℕ) → slice_index_or result k false ≡ false }
-{
-    [false; 256]
-}
-
 impl SimDriver {
     /// A driver that drives no channel.
     pub fn new() -> Self
         ensures { (k : ℕ) → ⟦<SimDriver as Driver>⟧.driven result k ≡ false }
     {
-        SimDriver { coils: no_coils() }
+        SimDriver { coils: no_flags() }
     }
 
     /// Whether it drives the channel.
@@ -49,7 +43,7 @@ impl Driver for SimDriver {
     }
 
     fn cut(&mut self) {
-        self.coils = no_coils();
+        self.coils = no_flags();
     }
 }
 
