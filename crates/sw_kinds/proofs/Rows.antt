@@ -1,5 +1,5 @@
 -- The channels in use are a front of the flags: what a write of one flag, or of all, makes of that front.
-use Rattle.std.proofs.Common.{◌≡◌, ℕ, ◌<◌, ◌≤◌, ◌-◌, Bool, true, false, List, [], ◌∷◌, length, take, replicate, refl, sym, ap, ◌∙◌, arith, IsTrue, Result, Ok, Err, OnErr}
+use Rattle.std.proofs.Common.{◌≡◌, ℕ, ◌<◌, ◌≤◌, ◌-◌, Bool, true, false, List, length, take, replicate, sym, ap, ◌∙◌, arith, IsTrue, Result, Ok, Err, OnErr}
 use Rattle.std.proofs.Math.ListN.{set}
 use Rattle.std.proofs.Math.Seq.{take-set-lt}
 use Rattle.std.proofs.lemmas.List.{length-replicate}

@@ -1,5 +1,5 @@
 -- The readings of a source that begins with one voltage and adds the same step each time.
-use Rattle.std.specs.Prelude.{◌≡◌, ℕ, ◌^◌, Bool, nat_lt, ℤ, pos, negsuc, ◌+ℤ◌, ◌*ℤ◌, Option, Some, None, if◌then◌else◌}
+use Rattle.std.specs.Prelude.{ℕ, ◌^◌, Bool, nat_lt, ℤ, pos, negsuc, ◌+ℤ◌, ◌*ℤ◌, Option, Some, None, if◌then◌else◌}
 use Rattle.sw_base.specs.declared.reading.Reading.{Reading}
 use Rattle.sw_base.specs.declared.reading.Reading.TheVariants.{Volts, Overload}
 

@@ -10,10 +10,13 @@ use sw_card::CardFault;
 /// Contracts see the driven channels as a test. A driver that knows what a call did to it says so in `drives` and
 /// `cuts`; one that does not leaves these out.
 pub trait Driver: Drop {
+    // Whether the channel's coil may be driven.
     ghost driven: { Self → ℕ → Bool };
 
+    // What a call of `drive` may do: the driver before it, channel, state asked for, result, the driver after it.
     ghost drives: { Self → ℕ → Bool → Result (Unit {0}) CardFault → Self → Type 0 } = { λ _ _ _ _ _. ⊤ };
 
+    // What a call of `cut` may do.
     ghost cuts: { Self → Self → Type 0 } = { λ _ _. ⊤ };
 
     /// Drives the channel's coil, or no longer. A fault leaves open what became of this channel, and of no other.

@@ -11,6 +11,7 @@ use sw_card::CardFault;
 ///
 /// A source that knows what a call did to it says so in `samples`; one that does not leaves this out.
 pub trait Source: Drop {
+    // What a call of `sample` may do: the source before it, result, the source after it.
     ghost samples: { Self → Result Reading CardFault → Self → Type 0 } = { λ _ _ _. ⊤ };
 
     /// Measures once.

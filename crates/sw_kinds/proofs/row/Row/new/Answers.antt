@@ -1,4 +1,4 @@
-use Rattle.std.proofs.Common.{◌≡◌, ℕ, Bool, List, ap, replicate}
+use Rattle.std.proofs.Common.{Bool, List, ap, replicate}
 use Rattle.sw_card.specs.Account.{relay_account}
 use Rattle.sw_kinds.proofs.row.Row.new.Goals as goal
 

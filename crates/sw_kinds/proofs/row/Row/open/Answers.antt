@@ -1,4 +1,4 @@
-use Rattle.std.proofs.Common.{◌≡◌, ap, ◌∙◌}
+use Rattle.std.proofs.Common.{ap, ◌∙◌}
 use Rattle.sw_kinds.proofs.Rows.{account_clear}
 use Rattle.sw_kinds.proofs.row.Row.open.Goals as goal
 
