@@ -1,0 +1,3 @@
+pub mod Row
+pub mod Fuse
+pub mod Readings

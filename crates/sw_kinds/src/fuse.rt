@@ -1,0 +1,74 @@
+//! A driver of which one closing fails.
+
+ghost use Rattle.std.specs.Prelude.{◌≡◌, ℕ, Option};
+ghost use Rattle.sw_kinds.specs.Fuse.{DrivesByFuse, is_failing, left_after};
+
+use crate::driver::Driver;
+use std::marker::Model;
+use sw_card::CardFault;
+
+/// A driver whose k-th closing, counted from 1, fails once, the relay closing all the same. Every other call passes.
+///
+/// Contracts see the driver behind it, and the closings up to the failing one, that one included.
+#[derive(Drop)]
+pub struct Fuse<D: Driver> {
+    driver: D,
+    left: Option<u32>,
+}
+
+impl<D: Driver> Model for Fuse<D> {
+    ghost Value = { D × Option ℕ };
+
+    ghost view = { λ f. (f.driver, f.left) };
+}
+
+impl<D: Driver> Fuse<D> {
+    /// Lets the closing with this number fail; none where there is no number, nor with number 0.
+    pub fn new(driver: D, closing: Option<u32>) -> Self
+        ensures { result ≡ (driver, closing) }
+    {
+        Fuse {
+            driver,
+            left: closing,
+        }
+    }
+
+    /// Counts the call, and says whether it is the failing closing.
+    fn count(&mut self, on: bool) -> bool
+        ensures failing { result ≡ is_failing on self.old.1 }
+        ensures counted { self.new ≡ (self.old.0, left_after on self.old.1) }
+    {
+        match self.left {
+            Some(left) if on && left > 1 => {
+                self.left = Some(left - 1);
+                false
+            }
+            Some(left) if on => {
+                self.left = None;
+                left == 1
+            }
+            _ => false,
+        }
+    }
+}
+
+impl<D: Driver> Driver for Fuse<D> {
+    ghost driven = { λ f. D.driven f.0 };
+
+    ghost drives = { λ f ch on result g. DrivesByFuse D.drives D.driven f ch on result g };
+
+    ghost cuts = { λ f g. D.cuts f.0 g.0 × (g.1 ≡ f.1) };
+
+    fn drive(&mut self, ch: u8, on: bool) -> Result<(), CardFault> {
+        let failing = self.count(on);
+        let outcome = self.driver.drive(ch, on);
+        if failing {
+            return Err(CardFault);
+        }
+        outcome
+    }
+
+    fn cut(&mut self) {
+        self.driver.cut();
+    }
+}
