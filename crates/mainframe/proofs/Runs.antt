@@ -105,3 +105,14 @@ progress-all sid start None r r2 c0 c p h end drops = tt
 progress-all sid start (Some input) None r2 c0 c p (done, bytes, left, is, lines, run, a) end drops = absurd (cc (is))
 progress-all sid start (Some input) (Some xs) r2 c0 c p h end drops =
     let none : r2 ≡ Some [] = drops ∙ ap (λ t. Some (drop_through 10 t)) end in subst IsAtEnd (sym none) refl
+
+-- the reader has too many lines
+pub progress-stopped : (sid : Sid) (start : Panel) (r0 r c0 c : Option (List ℕ)) (p : Panel) → Progress sid start r0 r c0 c p → IfSome r0 (λ input. CutFrom sid start input r c0 c)
+progress-stopped sid start None r c0 c p h = tt
+progress-stopped sid start (Some input) r c0 c p (done, bytes, left, is, lines, run, a) = record {
+  cut = [];
+  unread = left;
+  is_left = is;
+  stops = λ k d l e. absurd (omega arith);
+  answered = record { bytes = bytes; runs = record { done = done; lines = lines; after = p; run = run }; writes = a };
+}

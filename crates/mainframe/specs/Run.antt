@@ -22,6 +22,9 @@ pub record Fitted : Type 0 where
   pub third : Account
   pub fourth : Account
 
+abbrev pub fitted : Account → Account → Account → Account → Fitted
+fitted first second third fourth = record { first = first; second = second; third = third; fourth = fourth }
+
 -- the program's cards: a multiplexer of 20 channels in group 1, a matrix of 16, a multiplexer of 10 in group 1, a meter
 abbrev pub program_cards : Fitted
 program_cards = record {

@@ -5,7 +5,7 @@ ghost use Rattle.std.specs.Io.KnownBytes.{IsAtEnd};
 ghost use Rattle.sw_core.specs.View.{ask_view};
 ghost use Rattle.sw_card.specs.Account.{relay_account, of_meter};
 ghost use Rattle.sw_core.specs.Panel.{opening};
-ghost use Rattle.mainframe.specs.Run.{program_cards, IsSetUp, Joins, Stepped, AnsweredFrom, EndsFrom, Answered, EndsBy};
+ghost use Rattle.mainframe.specs.Run.{fitted, program_cards, IsSetUp, Joins, Stepped, AnsweredFrom, EndsFrom, Answered, EndsBy};
 
 use crate::fault::RunFault;
 use crate::writing::write_bytes;
@@ -63,9 +63,21 @@ fn run_over<R: Relay, M: Meter, Rd: BufRead, W: Write>(
     third: R,
     meter: M,
 ) -> Result<(), RunFault>
-    ensures ok { let cards = record { first = relay_account (R.the_serial first) (R.failed first) (R.groups first) (R.closed first); second = relay_account (R.the_serial second) (R.failed second) (R.groups second) (R.closed second); third = relay_account (R.the_serial third) (R.failed third) (R.groups third) (R.closed third); fourth = of_meter (record { serial = M.the_serial meter; failures = M.failed meter; last = M.last_reading meter }) } in OnOk result (IfSome (Rd.remaining reader.old) (λ input. Answered cards input (W.contents writer.old) (W.contents writer.new))) }
+    ensures ok { OnOk result (IfSome (Rd.remaining reader.old) (λ input. Answered
+        (fitted
+            (relay_account (R.the_serial first) (R.failed first) (R.groups first) (R.closed first))
+            (relay_account (R.the_serial second) (R.failed second) (R.groups second) (R.closed second))
+            (relay_account (R.the_serial third) (R.failed third) (R.groups third) (R.closed third))
+            (of_meter (record { serial = M.the_serial meter; failures = M.failed meter; last = M.last_reading meter })))
+        input (W.contents writer.old) (W.contents writer.new))) }
     ensures all { OnOk result (IfSome (Rd.remaining reader.old) (λ _. IsAtEnd (Rd.remaining reader.new))) }
-    ensures err { let cards = record { first = relay_account (R.the_serial first) (R.failed first) (R.groups first) (R.closed first); second = relay_account (R.the_serial second) (R.failed second) (R.groups second) (R.closed second); third = relay_account (R.the_serial third) (R.failed third) (R.groups third) (R.closed third); fourth = of_meter (record { serial = M.the_serial meter; failures = M.failed meter; last = M.last_reading meter }) } in IfErr result (λ fault. IfSome (Rd.remaining reader.old) (λ input. EndsBy cards fault input (Rd.remaining reader.new) (W.contents writer.old) (W.contents writer.new))) }
+    ensures err { IfErr result (λ fault. IfSome (Rd.remaining reader.old) (λ input. EndsBy
+        (fitted
+            (relay_account (R.the_serial first) (R.failed first) (R.groups first) (R.closed first))
+            (relay_account (R.the_serial second) (R.failed second) (R.groups second) (R.closed second))
+            (relay_account (R.the_serial third) (R.failed third) (R.groups third) (R.closed third))
+            (of_meter (record { serial = M.the_serial meter; failures = M.failed meter; last = M.last_reading meter })))
+        fault input (Rd.remaining reader.new) (W.contents writer.old) (W.contents writer.new))) }
 {
     let first = Card::relays(first);
     let second = Card::relays(second);
@@ -87,7 +99,7 @@ fn set_up<R: Relay, M: Meter>(
     third: Card<R, M>,
     meter: Card<R, M>,
 ) -> Result<(Core<R, M>, Sid), AllocError>
-    ensures { IfOk result (λ x. IsSetUp (record { first = first.1; second = second.1; third = third.1; fourth = meter.1 }) x.1 x.0) }
+    ensures { IfOk result (λ x. IsSetUp (fitted first.1 second.1 third.1 meter.1) x.1 x.0) }
 {
     let mut core = Core::new(alloc)?;
     let sid = join(alloc, &mut core);
