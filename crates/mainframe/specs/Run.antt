@@ -1,8 +1,7 @@
 -- What `run` writes for what it reads.
-use Rattle.std.specs.Prelude.{◌≡◌, ℕ, List, [], ◌∷◌, ◌++◌, Option, Some, None, Bool, false, replicate, ◌⊎◌}
-use Rattle.std.specs.Io.KnownBytes.{Appends, Keeps}
+use Rattle.std.specs.Prelude.{◌≡◌, ℕ, List, [], ◌∷◌, ◌++◌, Option, Some, Result, OnOk, IfErr, Bool, ◌⊎◌}
+use Rattle.std.specs.Io.KnownBytes.{Appends, Keeps, IsAtEnd}
 use Rattle.std.specs.Io.{StopsAt}
-use Rattle.sw_card.specs.Account.{Account, relay_account, of_meter}
 use Rattle.sw_core.specs.declared.ask.Sid.{Sid}
 use Rattle.sw_core.specs.declared.ask.SessionAsk.TheVariants as Ask
 use Rattle.sw_core.specs.declared.ask.SessionAnswer.TheVariants.{Joined}
@@ -13,26 +12,8 @@ use Rattle.sw_session.specs.CoreDesk.{CorePasses}
 use Rattle.sw_session.specs.Talk.{Talked}
 use Rattle.mainframe.specs.declared.fault.RunFault.{RunFault}
 use Rattle.mainframe.specs.declared.fault.RunFault.TheVariants.{Input, Output, Memory}
+use Rattle.mainframe.specs.Cards.{Fitted}
 use Rattle.mainframe.specs.Lines.{lines_of, WritesPart}
-
--- the cards that a mainframe is fitted with, in slots 1 to 4, by their own accounts
-pub record Fitted : Type 0 where
-  pub first : Account
-  pub second : Account
-  pub third : Account
-  pub fourth : Account
-
-abbrev pub fitted : Account → Account → Account → Account → Fitted
-fitted first second third fourth = record { first = first; second = second; third = third; fourth = fourth }
-
--- the program's cards: a multiplexer of 20 channels in group 1, a matrix of 16, a multiplexer of 10 in group 1, a meter
-abbrev pub program_cards : Fitted
-program_cards = record {
-  first = relay_account 1 0 (replicate 20 1) (replicate 20 false);
-  second = relay_account 2 0 (replicate 16 0) (replicate 16 false);
-  third = relay_account 3 0 (replicate 10 1) (replicate 10 false);
-  fourth = of_meter (record { serial = 4; failures = 0; last = None });
-}
 
 -- one step of the mainframe, whatever it answers
 pub record Stepped (p : Panel) (ask : AskView) (q : Panel) : Type 0 where
@@ -113,6 +94,9 @@ pub record Cut (cards : Fitted) (fault : RunFault) (input : List ℕ) (left old 
 abbrev pub Unbegun : RunFault → Option (List ℕ) → Option (List ℕ) → Type 0
 Unbegun fault old new = (fault ≡ Memory) × Keeps old new
 
--- what is written where a run stops before its input ends
-abbrev pub EndsBy : Fitted → RunFault → List ℕ → Option (List ℕ) → Option (List ℕ) → Option (List ℕ) → Type 0
-EndsBy cards fault input left old new = Unbegun fault old new ⊎ Cut cards fault input left old new
+-- What a run comes to by a mainframe of these cards. At Ok all of the input was read and answered. At a fault either
+-- nothing was begun, or the answers are written up to the fault.
+pub record Runs (cards : Fitted) (result : Result (Unit {0}) RunFault) (input : List ℕ) (left old new : Option (List ℕ)) : Type 0 where
+  pub answered : OnOk result (Answered cards input old new)
+  pub all : OnOk result (IsAtEnd left)
+  pub fault : IfErr result (λ fault. Unbegun fault old new ⊎ Cut cards fault input left old new)

@@ -5,6 +5,7 @@
 //! core from its opening state. Nothing is promised of what a terminal carries, nor of the texts of `clap`.
 #![tactic(auto)]
 
+mod cards;
 mod fault;
 mod run;
 #[cfg(test)]

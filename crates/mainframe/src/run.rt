@@ -5,15 +5,16 @@ ghost use Rattle.std.specs.Io.KnownBytes.{IsAtEnd};
 ghost use Rattle.sw_core.specs.View.{ask_view};
 ghost use Rattle.sw_card.specs.Account.{relay_account, of_meter};
 ghost use Rattle.sw_core.specs.Panel.{opening};
-ghost use Rattle.mainframe.specs.Run.{fitted, program_cards, IsSetUp, Joins, Stepped, AnsweredFrom, EndsFrom, Answered, EndsBy};
+ghost use Rattle.mainframe.specs.Cards.{fitted, program_cards};
+ghost use Rattle.mainframe.specs.Run.{IsSetUp, Joins, Stepped, AnsweredFrom, EndsFrom, Runs};
 
+use crate::cards::{first_card, meter_card, second_card, third_card};
 use crate::fault::RunFault;
 use crate::writing::write_bytes;
 use std::alloc::{AllocError, Global};
 use std::io::{BufRead, ErrorKind, Write};
 use sw_card::{Card, Meter, Relay};
 use sw_core::{Answer, Ask, Core, SessionAnswer, SessionAsk, Sid};
-use sw_kinds::{Fuse, Matrix, Mux, SimDriver, SimSource, Volt};
 use sw_session::{CoreDesk, Talker};
 
 /// How many lines are taken at most.
@@ -29,24 +30,21 @@ pub fn run_lines<Rd: BufRead, W: Write>(
     writer: &mut W,
     fuse: Option<u32>,
 ) -> Result<(), RunFault>
-    ensures ok { OnOk result (IfSome (Rd.remaining reader.old) (λ input. Answered program_cards input (W.contents writer.old) (W.contents writer.new))) }
-    ensures all { OnOk result (IfSome (Rd.remaining reader.old) (λ _. IsAtEnd (Rd.remaining reader.new))) }
-    ensures err { IfErr result (λ fault. IfSome (Rd.remaining reader.old) (λ input. EndsBy program_cards fault input (Rd.remaining reader.new) (W.contents writer.old) (W.contents writer.new))) }
+    ensures { IfSome (Rd.remaining reader.old) (λ input. Runs program_cards result input (Rd.remaining reader.new) (W.contents writer.old) (W.contents writer.new)) }
 {
-    let first = Mux::new(1, 20, 1, Fuse::new(SimDriver::new(), fuse));
-    let Ok(boxed) = Box::new(alloc, first) else {
+    let Ok(boxed) = Box::new(alloc, first_card(fuse)) else {
         return Err(RunFault::Memory);
     };
     let first: Box<dyn Relay + Send> = boxed;
-    let Ok(boxed) = Box::new(alloc, Matrix::new(2, 16, SimDriver::new())) else {
+    let Ok(boxed) = Box::new(alloc, second_card()) else {
         return Err(RunFault::Memory);
     };
     let second: Box<dyn Relay + Send> = boxed;
-    let Ok(boxed) = Box::new(alloc, Mux::new(3, 10, 1, SimDriver::new())) else {
+    let Ok(boxed) = Box::new(alloc, third_card()) else {
         return Err(RunFault::Memory);
     };
     let third: Box<dyn Relay + Send> = boxed;
-    let Ok(boxed) = Box::new(alloc, Volt::new(4, SimSource::new(1_000_000_000, 1))) else {
+    let Ok(boxed) = Box::new(alloc, meter_card()) else {
         return Err(RunFault::Memory);
     };
     let meter: Box<dyn Meter + Send> = boxed;
@@ -63,21 +61,13 @@ fn run_over<R: Relay, M: Meter, Rd: BufRead, W: Write>(
     third: R,
     meter: M,
 ) -> Result<(), RunFault>
-    ensures ok { OnOk result (IfSome (Rd.remaining reader.old) (λ input. Answered
+    ensures { IfSome (Rd.remaining reader.old) (λ input. Runs
         (fitted
-            (relay_account (R.the_serial first) (R.failed first) (R.groups first) (R.closed first))
-            (relay_account (R.the_serial second) (R.failed second) (R.groups second) (R.closed second))
-            (relay_account (R.the_serial third) (R.failed third) (R.groups third) (R.closed third))
-            (of_meter (record { serial = M.the_serial meter; failures = M.failed meter; last = M.last_reading meter })))
-        input (W.contents writer.old) (W.contents writer.new))) }
-    ensures all { OnOk result (IfSome (Rd.remaining reader.old) (λ _. IsAtEnd (Rd.remaining reader.new))) }
-    ensures err { IfErr result (λ fault. IfSome (Rd.remaining reader.old) (λ input. EndsBy
-        (fitted
-            (relay_account (R.the_serial first) (R.failed first) (R.groups first) (R.closed first))
-            (relay_account (R.the_serial second) (R.failed second) (R.groups second) (R.closed second))
-            (relay_account (R.the_serial third) (R.failed third) (R.groups third) (R.closed third))
-            (of_meter (record { serial = M.the_serial meter; failures = M.failed meter; last = M.last_reading meter })))
-        fault input (Rd.remaining reader.new) (W.contents writer.old) (W.contents writer.new))) }
+        (relay_account (R.the_serial first) (R.failed first) (R.groups first) (R.closed first))
+        (relay_account (R.the_serial second) (R.failed second) (R.groups second) (R.closed second))
+        (relay_account (R.the_serial third) (R.failed third) (R.groups third) (R.closed third))
+        (of_meter (record { serial = M.the_serial meter; failures = M.failed meter; last = M.last_reading meter })))
+        result input (Rd.remaining reader.new) (W.contents writer.old) (W.contents writer.new)) }
 {
     let first = Card::relays(first);
     let second = Card::relays(second);

@@ -82,7 +82,12 @@ fn an_execution_error_drops_its_unit_alone(rt: HostRuntime) -> Result<(), Fail> 
 #[test]
 fn a_command_error_drops_the_rest(rt: HostRuntime) -> Result<(), Fail> {
     check(&rt, rt.alloc(), b"FOO;*IDN?\n", b"")?;
-    check(&rt, rt.alloc(), b"*IDN?;FOO;*IDN?\n*IDN?\n", b"OPENBENCH,SWM8,0,1.0\nOPENBENCH,SWM8,0,1.0\n")
+    check(
+        &rt,
+        rt.alloc(),
+        b"*IDN?;FOO;*IDN?\n*IDN?\n",
+        b"OPENBENCH,SWM8,0,1.0\nOPENBENCH,SWM8,0,1.0\n",
+    )
 }
 
 #[test]

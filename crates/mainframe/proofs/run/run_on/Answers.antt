@@ -34,10 +34,10 @@ pub returns-in-Err-write_bytes-clause-err : goal.returns-in-Err-write_bytes-clau
 returns-in-Err-write_bytes-clause-err g c =
     let some : 0 < length c.read_until.new.buf.items = omega (arith, c.in-Ok.ensures.ok, c.clear.ensures.len, c.if-n-eq0.false, c.read_until.new.buf.ok.0) in
     let talked : Talked CorePasses c.loop-turn.desk c.message-told.new.desk c.args.sid c.read_until.new.buf.items c.message-told.result.items =
-        subst (λ (s : Sid). Talked CorePasses c.loop-turn.desk c.message-told.new.desk s c.read_until.new.buf.items c.message-told.result.items) c.loop-turn.invariant.sid
-        (subst (λ (t : List ℕ). Talked CorePasses c.loop-turn.desk c.message-told.new.desk c.loop-turn.talker.sid t c.message-told.result.items) c.deref.ensures.value c.message-told.ensures.talked) in
+    subst (λ (s : Sid). Talked CorePasses c.loop-turn.desk c.message-told.new.desk s c.read_until.new.buf.items c.message-told.result.items) c.loop-turn.invariant.sid
+    (subst (λ (t : List ℕ). Talked CorePasses c.loop-turn.desk c.message-told.new.desk c.loop-turn.talker.sid t c.message-told.result.items) c.deref.ensures.value c.message-told.ensures.talked) in
     let part = progress-part c.args.sid c.args.desk.now (g.Rd.Read.remaining c.args.reader.now) (g.Rd.Read.remaining c.loop-turn.reader) (g.Rd.Read.remaining c.read_until.new.self) (g.W.Write.contents c.args.writer.now) (g.W.Write.contents c.loop-turn.writer) (g.W.Write.contents c.write_bytes.new.writer) c.loop-turn.desk c.message-told.new.desk c.read_until.new.buf.items c.clear.new.self.items c.message-told.result.items c.loop-turn.invariant.so_far c.clear.ensures.items c.in-Ok.ensures.bytes c.in-Ok.ensures.rest some talked
-        (subst (λ (b : List ℕ). WritesPart (g.W.Write.contents c.loop-turn.writer) (g.W.Write.contents c.write_bytes.new.writer) b) c.deref-in-loop-turn.ensures.value c.in-Err-write_bytes.ensures.err) in
+    (subst (λ (b : List ℕ). WritesPart (g.W.Write.contents c.loop-turn.writer) (g.W.Write.contents c.write_bytes.new.writer) b) c.deref-in-loop-turn.ensures.value c.in-Err-write_bytes.ensures.err) in
     let wrote : Err c.in-Err-write_bytes.fault ≡ Err Output = c.in-Err-write_bytes.ensures.output in
     let output : c.in-Err-write_bytes.fault ≡ Output = cc in
     subst (λ (f : RunFault). IfSome (g.Rd.Read.remaining c.args.reader.now) (λ input. EndsFrom c.args.sid c.args.desk.now f input (g.Rd.Read.remaining c.read_until.new.self) (g.W.Write.contents c.args.writer.now) (g.W.Write.contents c.write_bytes.new.writer))) (sym output) part
@@ -46,8 +46,8 @@ pub loop-turn-preserved : goal.loop-turn-preserved
 loop-turn-preserved g c =
     let some : 0 < length c.read_until.new.buf.items = omega (arith, c.in-Ok.ensures.ok, c.clear.ensures.len, c.if-n-eq0.false, c.read_until.new.buf.ok.0) in
     let talked : Talked CorePasses c.loop-turn.desk c.message-told.new.desk c.args.sid c.read_until.new.buf.items c.message-told.result.items =
-        subst (λ (s : Sid). Talked CorePasses c.loop-turn.desk c.message-told.new.desk s c.read_until.new.buf.items c.message-told.result.items) c.loop-turn.invariant.sid
-        (subst (λ (t : List ℕ). Talked CorePasses c.loop-turn.desk c.message-told.new.desk c.loop-turn.talker.sid t c.message-told.result.items) c.deref.ensures.value c.message-told.ensures.talked) in
+    subst (λ (s : Sid). Talked CorePasses c.loop-turn.desk c.message-told.new.desk s c.read_until.new.buf.items c.message-told.result.items) c.loop-turn.invariant.sid
+    (subst (λ (t : List ℕ). Talked CorePasses c.loop-turn.desk c.message-told.new.desk c.loop-turn.talker.sid t c.message-told.result.items) c.deref.ensures.value c.message-told.ensures.talked) in
     record {
       sid = ap (λ (t : Talker). t.sid) c.message-told.ensures.same ∙ c.loop-turn.invariant.sid;
       so_far = progress-line c.args.sid c.args.desk.now (g.Rd.Read.remaining c.args.reader.now) (g.Rd.Read.remaining c.loop-turn.reader) (g.Rd.Read.remaining c.read_until.new.self) (g.W.Write.contents c.args.writer.now) (g.W.Write.contents c.loop-turn.writer) (g.W.Write.contents c.write_bytes.new.writer) c.loop-turn.desk c.message-told.new.desk c.read_until.new.buf.items c.clear.new.self.items c.message-told.result.items c.loop-turn.invariant.so_far c.clear.ensures.items c.in-Ok.ensures.bytes c.in-Ok.ensures.rest some talked
