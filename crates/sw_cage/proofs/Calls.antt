@@ -76,7 +76,7 @@ after_close value c n r safe present apart ok err =
     let most : slot_at (with_chan value c true) c.0 ≡ option_set (slot_at value c.0) c.1 true = slot_set_same value c.0 (option_set (slot_at value c.0) c.1 true) b.0 b.1 in
     let grown : IsSlotGrown (slot_at value c.0) c.1 n = closed_grows (slot_at value c.0) n r c.1 (sym (present_at value c) ∙ present) ok err in
     after_call value c (with_chan value c true) true n r (safe.rows c.0) present grown (ap option_rest most ∙ option_set_rest (slot_at value c.0) c.1 true) (safe_grown value c n grown safe present apart) ok
-        (subst (λ o. OnErr r (IsSlotFault (slot_at value c.0) o n)) (sym most) err)
+    (subst (λ o. OnErr r (IsSlotFault (slot_at value c.0) o n)) (sym most) err)
 
 after_open : {T E : Type 0} (value : Rack) (c : Channel) (n : Option Account) (r : Result T E) → IsSafe value → is_closed value c ≡ true
     → OnOk r (n ≡ option_set (slot_at value c.0) c.1 false) → OnErr r (IsSlotFault (slot_at value c.0) (slot_at value c.0) n) → AfterCall value c value false r (slice_set value (c.0 - 1) n)

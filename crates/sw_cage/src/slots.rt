@@ -155,7 +155,11 @@ impl<R: Relay, M: Meter> Slots<R, M> {
     }
 
     /// Puts a card into an empty slot.
-    pub(crate) fn install(&mut self, slot: u8, card: Card<R, M>) -> Result<(), (InstallRefusal, Card<R, M>)>
+    pub(crate) fn install(
+        &mut self,
+        slot: u8,
+        card: Card<R, M>,
+    ) -> Result<(), (InstallRefusal, Card<R, M>)>
         ensures ok { OnOk result (self.new ≡ slice_set self.old (slot - 1) (Some card.1)) }
         ensures accepted { OnOk result (CanInstall self.old slot card.1) }
         ensures refused { IfErr result (λ refusal. RefusesInstall self.old slot card.1 refusal.0) }
