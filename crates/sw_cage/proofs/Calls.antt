@@ -1,19 +1,18 @@
 -- Lemmas on a call on one slot's card, from the cards to their accounts.
-use Rattle.std.proofs.Common.{◌≡◌, ◌≢◌, ℕ, ◌+◌, ◌-◌, ◌≤◌, ◌<◌, Bool, true, false, List, [], ◌∷◌, ◌++◌, length, take, drop, Option, None, Some, slice_index_or, slice_set, ◌⊎◌, inl, inr, refl, sym, ◌∙◌, ap, subst, arith, rules, map, replicate, is_some, Result, Ok, Err, OnOk, OnErr, zero, suc}
+use Rattle.std.proofs.Common.{◌≡◌, ℕ, ◌+◌, ◌-◌, ◌≤◌, ◌<◌, Bool, true, false, List, [], ◌∷◌, ◌++◌, length, take, drop, Option, None, Some, slice_index_or, slice_set, inl, inr, refl, sym, ◌∙◌, ap, subst, arith, map, replicate, is_some, Result, Ok, Err, OnOk, OnErr, zero, suc}
 use Rattle.std.proofs.lemmas.List.{get_or_default, length-map, map-set}
 use Rattle.std.proofs.lemmas.List.Edits.{map_over_more}
 use Rattle.std.proofs.Math.ListN.{get_or-map}
 use Rattle.std.proofs.Math.Seq.{take-append_seam}
 use Rattle.std.proofs.lemmas.Grind.{common_steps}
-use Rattle.sw_base.specs.Layout.{Channel, Layout, slot_at, bay_has, is_present, IsClash}
+use Rattle.sw_base.specs.Layout.{Channel, Layout, slot_at, is_present, IsClash}
 use Rattle.sw_card.specs.Account.{Account, is_meter, closed_at, at_rest}
 use Rattle.sw_card.proofs.Rows.{none_is_closed}
-use Rattle.sw_cage.specs.Rack.{Rack, option_account, rack_of, option_bay, layout_of, option_closed, is_closed, IsRow, OptionRow, IsSafe, option_set, with_chan, option_rest, all_open, IsSlotFault, IsRackFault}
+use Rattle.sw_cage.specs.Rack.{Rack, option_account, rack_of, layout_of, option_closed, is_closed, OptionRow, IsSafe, option_set, with_chan, option_rest, all_open, IsSlotFault, IsRackFault}
 use Rattle.sw_cage.specs.Change.{is_in, Sets, IsDisturbed}
-use Rattle.sw_cage.specs.Close.{closed_with, HasClash, all_present, CanClose}
+use Rattle.sw_cage.specs.Close.{all_present, CanClose}
 use Rattle.std.specs.List.{list_all}
-use Rattle.sw_cage.specs.Install.{CanInstall, IsFit}
-use Rattle.sw_cage.proofs.Racks.{slot_map, slot_set_same, present_slot, present_at, closed_slot, some_slot, IsSlotGrown, closed_grows, opened_grows, safe_grown, safe_opened, safe_quiet, safe_empty}
+use Rattle.sw_cage.proofs.Racks.{slot_map, slot_set_same, present_slot, present_at, some_slot, IsSlotGrown, closed_grows, opened_grows, safe_grown, safe_opened, safe_quiet}
 use Rattle.sw_cage.proofs.Changes.{sets_one, disturbed_one, option_set_rest, and_left, and_right, or_left, or_right, in_at, in_take, sets_layout, sets_closed}
 
 -- cards read and written

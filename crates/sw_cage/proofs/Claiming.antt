@@ -1,9 +1,9 @@
 -- Lemmas on the index of claimed groups.
-use Rattle.std.proofs.Common.{◌≡◌, ◌≢◌, ℕ, ◌+◌, ◌-◌, ◌≤◌, ◌<◌, Bool, true, false, List, [], ◌∷◌, length, Option, None, Some, slice_index_or, slice_set, ◌⊎◌, inl, inr, refl, sym, ◌∙◌, ap, subst, arith, zero, suc, replicate, take, ◌||◌}
+use Rattle.std.proofs.Common.{◌≡◌, ◌≢◌, ℕ, ◌+◌, ◌≤◌, ◌<◌, Bool, true, false, List, [], ◌∷◌, length, Option, None, Some, slice_index_or, slice_set, ◌⊎◌, inl, inr, refl, sym, ◌∙◌, ap, subst, arith, zero, suc, replicate, take}
 use Rattle.std.proofs.lemmas.List.{get_or-set_same, get_or-set_other, take_all}
 use Rattle.std.proofs.lemmas.Bool.{cases_eq, cases_lt}
 use Rattle.sw_base.specs.Layout.{Channel, Layout, group_of, IsClash, slot_at}
-use Rattle.sw_card.specs.Account.{Account, closed_at}
+use Rattle.sw_card.specs.Account.{Account}
 use Rattle.sw_cage.specs.Rack.{Rack, layout_of, is_closed, option_closed}
 use Rattle.sw_cage.specs.Change.{is_in}
 use Rattle.sw_cage.specs.Close.{closed_with, HasClash}

@@ -1,12 +1,11 @@
 -- What keeps a rack exclusive, told by what the cage's calls promise.
-use Rattle.std.proofs.Common.{◌≡◌, ◌≢◌, ℕ, ◌+◌, ◌-◌, ◌≤◌, ◌<◌, Bool, true, false, List, length, Option, None, Some, slice_set, ◌⊎◌, inl, inr, refl, sym, ◌∙◌, ap, subst, arith, map, zero, suc, ◌∷◌, [], if◌then◌else◌}
+use Rattle.std.proofs.Common.{◌≡◌, Bool, true, false, List, length, inl, inr, sym, ◌∙◌, ap, subst, ◌∷◌, [], if◌then◌else◌}
 use Rattle.std.proofs.lemmas.List.{length-map}
 use Rattle.std.specs.List.{list_all}
-use Rattle.sw_base.specs.Layout.{Channel, Layout, slot_at, bay_has, bay_group, is_present, group_of, IsClash, IsExclusive}
-use Rattle.sw_card.specs.Account.{Account}
-use Rattle.sw_cage.specs.Rack.{Rack, option_bay, layout_of, option_closed, is_closed, option_rest, all_open}
+use Rattle.sw_base.specs.Layout.{Channel, is_present, IsExclusive}
+use Rattle.sw_cage.specs.Rack.{Rack, layout_of, is_closed, option_rest, all_open}
 use Rattle.sw_cage.specs.Change.{same_channel, is_in, Sets, option_plate, IsDisturbed}
-use Rattle.sw_cage.specs.Close.{closed_with, HasClash, all_present, CanClose}
+use Rattle.sw_cage.specs.Close.{closed_with, CanClose}
 use Rattle.sw_cage.proofs.Racks.{exclusive_none, all_open_closed}
 use Rattle.sw_cage.proofs.Changes.{sets_layout, sets_closed, and_left, and_right, or_cases, or_left, or_right, same_is}
 

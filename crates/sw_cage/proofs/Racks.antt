@@ -1,14 +1,14 @@
 -- Lemmas on the slots of a cage: one slot's change, and what stays of layout and closed channels.
-use Rattle.std.proofs.Common.{◌≡◌, ◌≢◌, ℕ, ◌+◌, ◌-◌, ◌%◌, ◌^◌, ◌≤◌, ◌<◌, Bool, true, false, List, [], ◌∷◌, length, Option, None, Some, slice_index_or, slice_set, ◌⊎◌, inl, inr, refl, sym, ◌∙◌, ap, subst, arith, rules, map, suc, zero, is_some, replicate, take, drop, ◌++◌, nat_lt, if◌then◌else◌, Result, Ok, Err, OnOk, OnErr}
-use Rattle.std.proofs.lemmas.List.{get_or-set_same, get_or-set_other, set-get_or, length-set, get_or_past, get_or_default, length-map, map-set}
+use Rattle.std.proofs.Common.{◌≡◌, ◌≢◌, ℕ, ◌-◌, ◌≤◌, ◌<◌, Bool, true, false, List, [], ◌∷◌, length, Option, None, Some, slice_index_or, slice_set, ◌⊎◌, inl, inr, refl, sym, ◌∙◌, ap, subst, arith, map, suc, zero, is_some, replicate, nat_lt, if◌then◌else◌, Result, Ok, Err, OnOk, OnErr}
+use Rattle.std.proofs.lemmas.List.{get_or-set_same, get_or-set_other, length-set, get_or_past, length-map}
 use Rattle.std.proofs.Math.ListN.{get_or-map}
-use Rattle.std.proofs.Math.Seq.{take-append_seam, map-set_same}
+use Rattle.std.proofs.Math.Seq.{map-set_same}
 use Rattle.std.proofs.lemmas.Grind.{common_steps}
 use Rattle.std.proofs.lemmas.Bool.{cases_eq, cases_lt}
-use Rattle.sw_base.specs.Layout.{Channel, Bay, Layout, slot_at, has_channel, group_at, bay_has, bay_group, is_present, group_of, IsClash, IsExclusive}
-use Rattle.sw_card.specs.Account.{Account, is_meter, closed_at, set_closed, none_closed, IsWithin, with_set, at_rest, IsFault}
+use Rattle.sw_base.specs.Layout.{Channel, Bay, Layout, slot_at, bay_has, bay_group, is_present, group_of, IsClash, IsExclusive}
+use Rattle.sw_card.specs.Account.{Account, set_closed, with_set, IsFault}
 use Rattle.sw_card.proofs.Rows.{closed_set, open_set, within_closed, length-within, none_is_closed, length-none}
-use Rattle.sw_cage.specs.Rack.{Rack, option_account, rack_of, bay_of, option_bay, layout_of, option_closed, is_closed, IsRow, OptionRow, IsSafe, option_set, with_chan, option_rest, all_open, IsSlotFault, IsRackFault}
+use Rattle.sw_cage.specs.Rack.{Rack, bay_of, option_bay, layout_of, option_closed, is_closed, IsRow, OptionRow, IsSafe, option_set, option_rest, all_open, IsSlotFault}
 
 -- slots
 

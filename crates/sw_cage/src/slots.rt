@@ -358,7 +358,8 @@ impl<R: Relay, M: Meter> Slots<R, M> {
         let Some(card) = &self.slots[slot as usize - 1] else {
             return Ok(());
         };
-        for before in 0..card.channels() {
+        let channels = card.channels();
+        for before in 0..channels {
             let ch = before + 1;
             if card.is_closed(ch) {
                 chans.push(Chan::new(slot, ch))?;

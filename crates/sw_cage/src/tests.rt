@@ -104,10 +104,11 @@ fn fill<R: Relay, M: Meter>(
     third: R,
     meter: M,
 ) -> Result<(), Fail> {
-    for (slot, card) in [(1, first), (2, second), (3, third)] {
-        if cage.install(slot, Card::relays(card)).is_err() {
-            return Err("a relay card was refused")?;
-        }
+    if cage.install(1, Card::relays(first)).is_err()
+        || cage.install(2, Card::relays(second)).is_err()
+        || cage.install(3, Card::relays(third)).is_err()
+    {
+        return Err("a relay card was refused")?;
     }
     if cage.install(4, Card::meter(meter)).is_err() {
         return Err("the meter was refused")?;
