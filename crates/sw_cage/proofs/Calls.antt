@@ -1,19 +1,18 @@
 -- Lemmas on a call on one slot's card, from the cards to their accounts.
-use Rattle.std.proofs.Common.{◌≡◌, ◌≢◌, ℕ, ◌+◌, ◌-◌, ◌≤◌, ◌<◌, Bool, true, false, List, [], ◌∷◌, ◌++◌, length, take, drop, Option, None, Some, slice_index_or, slice_set, ◌⊎◌, inl, inr, refl, sym, ◌∙◌, ap, subst, arith, rules, map, replicate, is_some, Result, Ok, Err, OnOk, OnErr, zero, suc}
+use Rattle.std.proofs.Common.{◌≡◌, ℕ, ◌+◌, ◌-◌, ◌≤◌, ◌<◌, Bool, true, false, List, [], ◌∷◌, ◌++◌, length, take, drop, Option, None, Some, slice_index_or, slice_set, inl, inr, refl, sym, ◌∙◌, ap, subst, arith, map, replicate, is_some, Result, Ok, Err, OnOk, OnErr, zero, suc}
 use Rattle.std.proofs.lemmas.List.{get_or_default, length-map, map-set}
 use Rattle.std.proofs.lemmas.List.Edits.{map_over_more}
 use Rattle.std.proofs.Math.ListN.{get_or-map}
 use Rattle.std.proofs.Math.Seq.{take-append_seam}
 use Rattle.std.proofs.lemmas.Grind.{common_steps}
-use Rattle.sw_base.specs.Layout.{Channel, Layout, slot_at, bay_has, is_present, IsClash}
+use Rattle.sw_base.specs.Layout.{Channel, Layout, slot_at, is_present, IsClash}
 use Rattle.sw_card.specs.Account.{Account, is_meter, closed_at, at_rest}
 use Rattle.sw_card.proofs.Rows.{none_is_closed}
-use Rattle.sw_cage.specs.Rack.{Rack, option_account, rack_of, option_bay, layout_of, option_closed, is_closed, IsRow, OptionRow, IsSafe, option_set, with_chan, option_rest, all_open, IsSlotFault, IsRackFault}
+use Rattle.sw_cage.specs.Rack.{Rack, option_account, rack_of, layout_of, option_closed, is_closed, OptionRow, IsSafe, option_set, with_chan, option_rest, all_open, IsSlotFault, IsRackFault}
 use Rattle.sw_cage.specs.Change.{is_in, Sets, IsDisturbed}
-use Rattle.sw_cage.specs.Close.{closed_with, HasClash, all_present, CanClose}
+use Rattle.sw_cage.specs.Close.{all_present, CanClose}
 use Rattle.std.specs.List.{list_all}
-use Rattle.sw_cage.specs.Install.{CanInstall, IsFit}
-use Rattle.sw_cage.proofs.Racks.{slot_map, slot_set_same, present_slot, present_at, closed_slot, some_slot, IsSlotGrown, closed_grows, opened_grows, safe_grown, safe_opened, safe_quiet, safe_empty}
+use Rattle.sw_cage.proofs.Racks.{slot_map, slot_set_same, present_slot, present_at, some_slot, IsSlotGrown, closed_grows, opened_grows, safe_grown, safe_opened, safe_quiet}
 use Rattle.sw_cage.proofs.Changes.{sets_one, disturbed_one, option_set_rest, and_left, and_right, or_left, or_right, in_at, in_take, sets_layout, sets_closed}
 
 -- cards read and written
@@ -76,7 +75,7 @@ after_close value c n r safe present apart ok err =
     let most : slot_at (with_chan value c true) c.0 ≡ option_set (slot_at value c.0) c.1 true = slot_set_same value c.0 (option_set (slot_at value c.0) c.1 true) b.0 b.1 in
     let grown : IsSlotGrown (slot_at value c.0) c.1 n = closed_grows (slot_at value c.0) n r c.1 (sym (present_at value c) ∙ present) ok err in
     after_call value c (with_chan value c true) true n r (safe.rows c.0) present grown (ap option_rest most ∙ option_set_rest (slot_at value c.0) c.1 true) (safe_grown value c n grown safe present apart) ok
-        (subst (λ o. OnErr r (IsSlotFault (slot_at value c.0) o n)) (sym most) err)
+    (subst (λ o. OnErr r (IsSlotFault (slot_at value c.0) o n)) (sym most) err)
 
 after_open : {T E : Type 0} (value : Rack) (c : Channel) (n : Option Account) (r : Result T E) → IsSafe value → is_closed value c ≡ true
     → OnOk r (n ≡ option_set (slot_at value c.0) c.1 false) → OnErr r (IsSlotFault (slot_at value c.0) (slot_at value c.0) n) → AfterCall value c value false r (slice_set value (c.0 - 1) n)

@@ -1,15 +1,15 @@
 -- Lemmas on what a call on channels does to the cage.
-use Rattle.std.proofs.Common.{◌≡◌, ◌≢◌, ℕ, ◌+◌, ◌-◌, ◌%◌, ◌^◌, ◌≤◌, ◌<◌, ◌==◌, ◌||◌, ◌&&◌, not, Bool, true, false, List, [], ◌∷◌, ◌++◌, length, take, drop, Option, None, Some, slice_index_or, slice_set, ◌⊎◌, inl, inr, refl, sym, ◌∙◌, ap, subst, arith, rules, map, suc, zero, if◌then◌else◌, Result, Ok, Err, OnOk, OnErr}
+use Rattle.std.proofs.Common.{◌≡◌, ◌≢◌, ℕ, ◌+◌, ◌-◌, ◌%◌, ◌^◌, ◌≤◌, ◌<◌, ◌==◌, ◌||◌, ◌&&◌, not, Bool, true, false, List, [], ◌∷◌, ◌++◌, length, take, drop, Option, None, Some, slice_index_or, slice_set, ◌⊎◌, inl, inr, refl, sym, ◌∙◌, ap, arith, map, suc, zero, if◌then◌else◌}
 use Rattle.std.specs.List.{list_any}
-use Rattle.std.proofs.lemmas.List.{get_or-set_same, get_or-set_other, length-set, take_more, take-append-drop}
+use Rattle.std.proofs.lemmas.List.{get_or-set_same, get_or-set_other, take_more, take-append-drop}
 use Rattle.std.proofs.lemmas.List.Folds.{list_any-append, list_any_at}
 use Rattle.std.proofs.lemmas.Grind.{common_steps}
-use Rattle.std.proofs.lemmas.Bool.{cases_eq, cases_lt}
-use Rattle.sw_base.specs.Layout.{Channel, Bay, Layout, slot_at, has_channel, bay_has, is_present, IsClash, IsExclusive}
-use Rattle.sw_card.specs.Account.{Account, is_meter, closed_at, set_closed, none_closed, IsWithin, with_set, at_rest, IsFault}
-use Rattle.sw_cage.specs.Rack.{Rack, bay_of, option_bay, layout_of, option_closed, is_closed, IsRow, OptionRow, IsSafe, option_set, with_chan, option_rest, all_open, IsSlotFault, IsRackFault}
+use Rattle.std.proofs.lemmas.Bool.{cases_eq}
+use Rattle.sw_base.specs.Layout.{Channel, slot_at, bay_has, is_present}
+use Rattle.sw_card.specs.Account.{Account, closed_at, set_closed, none_closed, IsWithin, at_rest, IsFault}
+use Rattle.sw_cage.specs.Rack.{Rack, bay_of, option_bay, layout_of, option_closed, is_closed, OptionRow, option_set, with_chan, option_rest, all_open, IsSlotFault}
 use Rattle.sw_cage.specs.Change.{same_channel, is_in, Sets, option_failed, any_failed, option_plate, IsDisturbed}
-use Rattle.sw_cage.proofs.Racks.{slot_set_same, slot_cases, slot_get, map_slot, present_slot, present_at, same_chan, IsSlotGrown, layout_all_open, slot_rest}
+use Rattle.sw_cage.proofs.Racks.{slot_set_same, slot_cases, slot_get, map_slot, present_slot, present_at, same_chan, IsSlotGrown, layout_all_open}
 
 -- channels
 

@@ -1,9 +1,9 @@
 -- Lemmas on the index of claimed groups.
-use Rattle.std.proofs.Common.{◌≡◌, ◌≢◌, ℕ, ◌+◌, ◌-◌, ◌≤◌, ◌<◌, Bool, true, false, List, [], ◌∷◌, length, Option, None, Some, slice_index_or, slice_set, ◌⊎◌, inl, inr, refl, sym, ◌∙◌, ap, subst, arith, zero, suc, replicate, take, ◌||◌}
+use Rattle.std.proofs.Common.{◌≡◌, ◌≢◌, ℕ, ◌+◌, ◌≤◌, ◌<◌, Bool, true, false, List, [], ◌∷◌, length, Option, None, Some, slice_index_or, slice_set, ◌⊎◌, inl, inr, refl, sym, ◌∙◌, ap, subst, arith, zero, suc, replicate, take}
 use Rattle.std.proofs.lemmas.List.{get_or-set_same, get_or-set_other, take_all}
 use Rattle.std.proofs.lemmas.Bool.{cases_eq, cases_lt}
 use Rattle.sw_base.specs.Layout.{Channel, Layout, group_of, IsClash, slot_at}
-use Rattle.sw_card.specs.Account.{Account, closed_at}
+use Rattle.sw_card.specs.Account.{Account}
 use Rattle.sw_cage.specs.Rack.{Rack, layout_of, is_closed, option_closed}
 use Rattle.sw_cage.specs.Change.{is_in}
 use Rattle.sw_cage.specs.Close.{closed_with, HasClash}
@@ -45,13 +45,13 @@ more_held layout P index group c h g room at d e = elim (cases_eq at group) [
 pub holds_more : (layout : Layout) (P : Channel → Type 0) (index new : Index) (group : ℕ) (c : Channel) → Holds layout P index → group ≡ group_of layout c → (group ≢ 0 → (other : Channel) → claim_at index group ≡ Some other → other ≡ c) → (group ≢ 0 → new ≡ slice_set index group (Some c)) → (group ≢ 0 → group < length index) → (group ≡ 0 → new ≡ index) → Holds layout (λ d. (P d) ⊎ (d ≡ c)) new
 holds_more layout P index new group c h g free claimed room groupless = elim (cases_eq group 0) [
   | inl z ↦ subst (Holds layout (λ d. (P d) ⊎ (d ≡ c))) (sym (groupless z)) (record {
-      told = λ d p n. elim p [ inl q ↦ h.told d q n | inr e ↦ absurd (n (ap (group_of layout) e ∙ sym g ∙ z)) ];
-      held = λ at d e. (inl (h.held at d e).0, (h.held at d e).1);
-    })
+    told = λ d p n. elim p [ inl q ↦ h.told d q n | inr e ↦ absurd (n (ap (group_of layout) e ∙ sym g ∙ z)) ];
+    held = λ at d e. (inl (h.held at d e).0, (h.held at d e).1);
+  })
   | inr n ↦ subst (Holds layout (λ d. (P d) ⊎ (d ≡ c))) (sym (claimed n)) (record {
-      told = more_told layout P index group c h g (free n) (room n);
-      held = more_held layout P index group c h g (room n);
-    })
+    told = more_told layout P index group c h g (free n) (room n);
+    held = more_held layout P index group c h g (room n);
+  })
 ]
 
 -- another channel of the set has the group
@@ -118,13 +118,16 @@ before_first rack index slot h = before_open rack index slot 0 h (zero_open (slo
 pub before_next : (rack : Rack) (index : Index) (slot ch : ℕ) → Holds (layout_of rack) (ClosedBefore rack slot ch) index → ((k : ℕ) → ch ≤ k → is_closed rack (slot, k) ≡ false) → Holds (layout_of rack) (ClosedBefore rack (slot + 1) 0) index
 before_next rack index slot ch h past = holds_same (layout_of rack) (ClosedBefore rack slot ch) (ClosedBefore rack (slot + 1) 0) index
     (λ c p. (p.0, inl (elim p.1 [ inl l ↦ omega (arith, l) | inr r ↦ omega (arith, r.0) ])))
-    (λ c p. (p.0, elim p.1 [
-      | inl l ↦ elim (cases_eq c.0 slot) [
-        | inl e ↦ inr (e, elim (cases_lt c.1 ch) [ inl k ↦ k | inr k ↦ absurd (let f : true ≡ false = sym p.0 ∙ ap (λ s. is_closed rack (s, c.1)) e ∙ past c.1 k in cc) ])
-        | inr n ↦ inl (omega (arith, l, n))
-      ]
-      | inr r ↦ absurd (let l : c.1 < 0 = r.1 in omega arith)
-    ]))
+    (λ c p. (
+      p.0,
+      elim p.1 [
+        | inl l ↦ elim (cases_eq c.0 slot) [
+          | inl e ↦ inr (e, elim (cases_lt c.1 ch) [ inl k ↦ k | inr k ↦ absurd (let f : true ≡ false = sym p.0 ∙ ap (λ s. is_closed rack (s, c.1)) e ∙ past c.1 k in cc) ])
+          | inr n ↦ inl (omega (arith, l, n))
+        ]
+        | inr r ↦ absurd (let l : c.1 < 0 = r.1 in omega arith)
+      ],
+    ))
     h
 
 -- closed channels and listed ones

@@ -2,4 +2,5 @@ pub mod Racks
 pub mod Changes
 pub mod Orders
 pub mod Claiming
+pub mod Laws
 mod Calls

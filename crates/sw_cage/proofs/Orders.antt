@@ -1,14 +1,14 @@
 -- Lemmas on the list of closed channels, by slot and channel.
-use Rattle.std.proofs.Common.{◌≡◌, ◌≢◌, ℕ, ◌+◌, ◌-◌, ◌≤◌, ◌<◌, Bool, true, false, List, [], ◌∷◌, ◌++◌, length, Option, None, Some, ◌⊎◌, inl, inr, refl, sym, ◌∙◌, ap, subst, arith, zero, suc, add-one, append_assoc, is_some}
+use Rattle.std.proofs.Common.{◌≡◌, ℕ, ◌+◌, ◌≤◌, ◌<◌, Bool, true, false, List, [], ◌∷◌, ◌++◌, length, Option, None, Some, inl, inr, refl, sym, ◌∙◌, ap, subst, arith, zero, suc, add-one, append_assoc}
 use Rattle.std.specs.List.{filter}
 use Rattle.std.proofs.lemmas.List.{append-nil}
 use Rattle.std.proofs.lemmas.List.Elements.{filter-append}
 use Rattle.std.proofs.lemmas.Grind.{common_steps}
-use Rattle.std.proofs.lemmas.Bool.{cases_eq, cases_lt}
-use Rattle.sw_base.specs.Layout.{Channel, slot_at, has_channel, bay_has, bay_group, group_at, is_present, group_of}
-use Rattle.sw_card.specs.Account.{Account, is_meter, closed_at}
+use Rattle.std.proofs.lemmas.Bool.{cases_lt}
+use Rattle.sw_base.specs.Layout.{Channel, slot_at, bay_has, bay_group, group_at, group_of}
+use Rattle.sw_card.specs.Account.{Account, is_meter}
 use Rattle.sw_card.proofs.Rows.{closed_past}
-use Rattle.sw_cage.specs.Rack.{Rack, bay_of, option_bay, layout_of, option_closed, is_closed, OptionRow, IsRow, IsSafe}
+use Rattle.sw_cage.specs.Rack.{Rack, bay_of, option_bay, layout_of, option_closed, is_closed, OptionRow, IsSafe}
 use Rattle.sw_cage.specs.Channels.{row, rows}
 use Rattle.sw_cage.proofs.Racks.{present_at, group_in_slot}
 

@@ -1,14 +1,14 @@
 -- Lemmas on the slots of a cage: one slot's change, and what stays of layout and closed channels.
-use Rattle.std.proofs.Common.{◌≡◌, ◌≢◌, ℕ, ◌+◌, ◌-◌, ◌%◌, ◌^◌, ◌≤◌, ◌<◌, Bool, true, false, List, [], ◌∷◌, length, Option, None, Some, slice_index_or, slice_set, ◌⊎◌, inl, inr, refl, sym, ◌∙◌, ap, subst, arith, rules, map, suc, zero, is_some, replicate, take, drop, ◌++◌, nat_lt, if◌then◌else◌, Result, Ok, Err, OnOk, OnErr}
-use Rattle.std.proofs.lemmas.List.{get_or-set_same, get_or-set_other, set-get_or, length-set, get_or_past, get_or_default, length-map, map-set}
+use Rattle.std.proofs.Common.{◌≡◌, ◌≢◌, ℕ, ◌-◌, ◌≤◌, ◌<◌, Bool, true, false, List, [], ◌∷◌, length, Option, None, Some, slice_index_or, slice_set, ◌⊎◌, inl, inr, refl, sym, ◌∙◌, ap, subst, arith, map, suc, zero, is_some, replicate, nat_lt, if◌then◌else◌, Result, Ok, Err, OnOk, OnErr}
+use Rattle.std.proofs.lemmas.List.{get_or-set_same, get_or-set_other, length-set, get_or_past, length-map}
 use Rattle.std.proofs.Math.ListN.{get_or-map}
-use Rattle.std.proofs.Math.Seq.{take-append_seam, map-set_same}
+use Rattle.std.proofs.Math.Seq.{map-set_same}
 use Rattle.std.proofs.lemmas.Grind.{common_steps}
 use Rattle.std.proofs.lemmas.Bool.{cases_eq, cases_lt}
-use Rattle.sw_base.specs.Layout.{Channel, Bay, Layout, slot_at, has_channel, group_at, bay_has, bay_group, is_present, group_of, IsClash, IsExclusive}
-use Rattle.sw_card.specs.Account.{Account, is_meter, closed_at, set_closed, none_closed, IsWithin, with_set, at_rest, IsFault}
+use Rattle.sw_base.specs.Layout.{Channel, Bay, Layout, slot_at, bay_has, bay_group, is_present, group_of, IsClash, IsExclusive}
+use Rattle.sw_card.specs.Account.{Account, set_closed, with_set, IsFault}
 use Rattle.sw_card.proofs.Rows.{closed_set, open_set, within_closed, length-within, none_is_closed, length-none}
-use Rattle.sw_cage.specs.Rack.{Rack, option_account, rack_of, bay_of, option_bay, layout_of, option_closed, is_closed, IsRow, OptionRow, IsSafe, option_set, with_chan, option_rest, all_open, IsSlotFault, IsRackFault}
+use Rattle.sw_cage.specs.Rack.{Rack, bay_of, option_bay, layout_of, option_closed, is_closed, IsRow, OptionRow, IsSafe, option_set, option_rest, all_open, IsSlotFault}
 
 -- slots
 
@@ -218,21 +218,24 @@ quiet_other rack s v p h quiet d k = elim (slot_cases rack s d.0 v p h) [
   | inr n ↦ n.1
 ]
 
--- whatever comes into a slot or leaves it with nothing closed keeps the cage safe
-pub safe_quiet : (rack : Rack) (s : ℕ) (v : Option Account) → 0 < s → s ≤ length rack → ((k : ℕ) → option_closed v k ≡ false) → OptionRow v → IsSafe rack → IsSafe (slice_set rack (s - 1) v)
-safe_quiet rack s v p h quiet row safe =
+-- whatever comes into a slot or leaves it with nothing closed keeps the cage exclusive
+pub exclusive_quiet : (rack : Rack) (s : ℕ) (v : Option Account) → 0 < s → s ≤ length rack → ((k : ℕ) → option_closed v k ≡ false) → IsExclusive (layout_of rack) (is_closed rack) → IsExclusive (layout_of (slice_set rack (s - 1) v)) (is_closed (slice_set rack (s - 1) v))
+exclusive_quiet rack s v p h quiet safe =
     let same : (d : Channel) → is_closed (slice_set rack (s - 1) v) d ≡ true → slot_at (slice_set rack (s - 1) v) d.0 ≡ slot_at rack d.0 = quiet_other rack s v p h quiet in
     let was : (d : Channel) → is_closed (slice_set rack (s - 1) v) d ≡ true → is_closed rack d ≡ true = λ d k. ap (λ o. option_closed o d.1) (sym (same d k)) ∙ k in
     let has : (d : Channel) → is_closed (slice_set rack (s - 1) v) d ≡ true → is_present (layout_of (slice_set rack (s - 1) v)) d ≡ is_present (layout_of rack) d = λ d k. present_at (slice_set rack (s - 1) v) d ∙ ap (λ o. bay_has (option_bay o) d.1) (same d k) ∙ sym (present_at rack d) in
     let group : (d : Channel) → is_closed (slice_set rack (s - 1) v) d ≡ true → group_of (layout_of (slice_set rack (s - 1) v)) d ≡ group_of (layout_of rack) d = λ d k. group_in_slot (slice_set rack (s - 1) v) d ∙ ap (λ o. bay_group (option_bay o) d.1) (same d k) ∙ sym (group_in_slot rack d) in
     record {
-      size = length-set rack (s - 1) v ∙ safe.size;
-      rows = rows_set rack s v p h row safe.rows;
-      exclusive = record {
-        present = λ d k. has d k ∙ safe.exclusive.present d (was d k);
-        apart = λ a b ka kb clash. safe.exclusive.apart a b (was a ka) (was b kb) (record { other = clash.other; grouped = λ e. clash.grouped (group a ka ∙ e); same = sym (group a ka) ∙ clash.same ∙ group b kb });
-      };
+      present = λ d k. has d k ∙ safe.present d (was d k);
+      apart = λ a b ka kb clash. safe.apart a b (was a ka) (was b kb) (record { other = clash.other; grouped = λ e. clash.grouped (group a ka ∙ e); same = sym (group a ka) ∙ clash.same ∙ group b kb });
     }
+
+pub safe_quiet : (rack : Rack) (s : ℕ) (v : Option Account) → 0 < s → s ≤ length rack → ((k : ℕ) → option_closed v k ≡ false) → OptionRow v → IsSafe rack → IsSafe (slice_set rack (s - 1) v)
+safe_quiet rack s v p h quiet row safe = record {
+  size = length-set rack (s - 1) v ∙ safe.size;
+  rows = rows_set rack s v p h row safe.rows;
+  exclusive = exclusive_quiet rack s v p h quiet safe.exclusive;
+}
 
 none_at : (n i : ℕ) → slice_index_or (let r : Rack = replicate n None in r) i None ≡ None
 none_at zero i = refl

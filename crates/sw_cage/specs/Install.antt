@@ -1,5 +1,5 @@
 -- Which cards go into which slots, and which slots give a card.
-use Rattle.std.specs.Prelude.{◌≡◌, ℕ, ◌<◌, ◌≤◌, Bool, true, false, length, is_some, Option, None, ◌⊎◌}
+use Rattle.std.specs.Prelude.{◌≡◌, ℕ, ◌<◌, ◌≤◌, true, false, length, is_some, None, ◌⊎◌}
 use Rattle.sw_base.specs.Layout.{slot_at}
 use Rattle.sw_card.specs.Account.{Account, is_meter, closed_at}
 use Rattle.sw_cage.specs.Rack.{Rack}

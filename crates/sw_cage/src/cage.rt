@@ -43,7 +43,11 @@ impl<R: Relay, M: Meter> Cage<R, M> {
     }
 
     /// Puts a card into an empty slot. A refused card is handed back.
-    pub fn install(&mut self, slot: u8, card: Card<R, M>) -> Result<(), (InstallRefusal, Card<R, M>)>
+    pub fn install(
+        &mut self,
+        slot: u8,
+        card: Card<R, M>,
+    ) -> Result<(), (InstallRefusal, Card<R, M>)>
         ensures ok { OnOk result (self.new ≡ record self.old { rack = slice_set self.old.rack (slot - 1) (Some card.1) }) }
         ensures accepted { OnOk result (CanInstall self.old.rack slot card.1) }
         ensures refused { IfErr result (λ refusal. RefusesInstall self.old.rack slot card.1 refusal.0) }

@@ -13,6 +13,8 @@ mod cage;
 mod claims;
 mod refusal;
 mod slots;
+#[cfg(test)]
+mod tests;
 
 pub use cage::Cage;
 pub use refusal::{CloseRefusal, EjectRefusal, InstallRefusal};

@@ -155,7 +155,11 @@ impl<R: Relay, M: Meter> Slots<R, M> {
     }
 
     /// Puts a card into an empty slot.
-    pub(crate) fn install(&mut self, slot: u8, card: Card<R, M>) -> Result<(), (InstallRefusal, Card<R, M>)>
+    pub(crate) fn install(
+        &mut self,
+        slot: u8,
+        card: Card<R, M>,
+    ) -> Result<(), (InstallRefusal, Card<R, M>)>
         ensures ok { OnOk result (self.new ≡ slice_set self.old (slot - 1) (Some card.1)) }
         ensures accepted { OnOk result (CanInstall self.old slot card.1) }
         ensures refused { IfErr result (λ refusal. RefusesInstall self.old slot card.1 refusal.0) }
@@ -354,7 +358,8 @@ impl<R: Relay, M: Meter> Slots<R, M> {
         let Some(card) = &self.slots[slot as usize - 1] else {
             return Ok(());
         };
-        for before in 0..card.channels() {
+        let channels = card.channels();
+        for before in 0..channels {
             let ch = before + 1;
             if card.is_closed(ch) {
                 chans.push(Chan::new(slot, ch))?;

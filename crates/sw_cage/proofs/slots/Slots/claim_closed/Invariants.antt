@@ -1,4 +1,4 @@
-use Rattle.std.proofs.Common.{◌≡◌, ◌+◌}
+use Rattle.std.proofs.Common.{◌+◌}
 use Rattle.sw_cage.specs.Rack.{layout_of}
 use Rattle.sw_cage.specs.Claims.{Holds, ClosedBefore}
 use Rattle.sw_cage.proofs.slots.Slots.claim_closed.Given as goal

@@ -1,4 +1,3 @@
-use Rattle.std.proofs.Common.{refl}
 use Rattle.sw_cage.specs.Rack.{is_closed, layout_of}
 use Rattle.sw_cage.proofs.Claiming.{with_clash, with_more, with_apart}
 use Rattle.sw_cage.proofs.slots.Slots.claim_listed.Goals as goal

@@ -1,4 +1,4 @@
-use Rattle.std.proofs.Common.{◌+◌, sym, ◌∙◌, subst, arith, true, false, refl, ℕ}
+use Rattle.std.proofs.Common.{◌+◌, sym, ◌∙◌, subst, arith, true, false}
 use Rattle.sw_cage.specs.Rack.{IsSafe}
 use Rattle.sw_cage.specs.Claims.{Holds, ClosedBefore}
 use Rattle.sw_cage.specs.Rack.{layout_of}

@@ -1,4 +1,4 @@
-use Rattle.std.proofs.Common.{◌+◌, sym, ◌∙◌, subst, take, true, false}
+use Rattle.std.proofs.Common.{◌+◌, sym, ◌∙◌, subst, take, true}
 use Rattle.sw_cage.specs.Change.{Sets}
 use Rattle.sw_cage.proofs.Changes.{sets_more, sets_same, disturbed_more}
 use Rattle.sw_cage.proofs.Calls.{on_err, next_present, next_apart}

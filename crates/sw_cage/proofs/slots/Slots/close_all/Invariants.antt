@@ -1,4 +1,4 @@
-use Rattle.std.proofs.Common.{◌≡◌, take, true}
+use Rattle.std.proofs.Common.{take, true}
 use Rattle.sw_cage.specs.Change.{Sets}
 use Rattle.sw_cage.proofs.slots.Slots.close_all.Given as goal
 

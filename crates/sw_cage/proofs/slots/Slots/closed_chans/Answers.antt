@@ -1,7 +1,5 @@
-use Rattle.std.proofs.Common.{◌≡◌, ℕ, ◌+◌, sym, ◌∙◌, ap, arith}
-use Rattle.std.specs.List.{filter}
+use Rattle.std.proofs.Common.{sym, ◌∙◌}
 use Rattle.sw_cage.specs.Rack.{is_closed}
-use Rattle.sw_cage.specs.Channels.{rows}
 use Rattle.sw_cage.proofs.Orders.{rows_start, push_rows}
 use Rattle.sw_cage.proofs.slots.Slots.closed_chans.Goals as goal
 

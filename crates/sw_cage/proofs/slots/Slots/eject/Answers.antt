@@ -1,4 +1,4 @@
-use Rattle.std.proofs.Common.{rules, refl, sym, ◌∙◌}
+use Rattle.std.proofs.Common.{rules}
 use Rattle.sw_cage.proofs.Calls.{safe_ejected, ejected_card, ejected_open, emptied}
 use Rattle.sw_cage.proofs.slots.Slots.eject.Goals as goal
 

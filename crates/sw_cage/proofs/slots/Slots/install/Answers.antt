@@ -1,4 +1,4 @@
-use Rattle.std.proofs.Common.{arith, Some, refl, sym, ◌∙◌, inl, inr, rules}
+use Rattle.std.proofs.Common.{arith, Some, sym, ◌∙◌, inl, inr, rules}
 use Rattle.sw_cage.proofs.Racks.{is_none}
 use Rattle.sw_cage.proofs.Calls.{safe_installed, written}
 use Rattle.sw_cage.proofs.slots.Slots.install.Goals as goal

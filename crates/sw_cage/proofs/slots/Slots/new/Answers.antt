@@ -1,4 +1,4 @@
-use Rattle.std.proofs.Common.{subst, sym, arith}
+use Rattle.std.proofs.Common.{subst, sym}
 use Rattle.sw_cage.specs.Rack.{IsSafe}
 use Rattle.sw_cage.proofs.Racks.{safe_empty}
 use Rattle.sw_cage.proofs.Calls.{new_rack}

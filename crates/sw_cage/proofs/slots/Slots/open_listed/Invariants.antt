@@ -1,4 +1,4 @@
-use Rattle.std.proofs.Common.{◌≡◌, take, false}
+use Rattle.std.proofs.Common.{take, false}
 use Rattle.sw_cage.specs.Change.{Sets}
 use Rattle.sw_cage.proofs.slots.Slots.open_listed.Given as goal
 

@@ -23,4 +23,4 @@ loop-before-preserved g c = elim c.if-is_closed.branch [
 ]
 
 pub returns : goal.returns
-returns g c = c.loop-before.invariant ∙ ap (λ l. c.args.chans.now.items ++ l) (card_row c.args.self.now c.args.slot c.loop-before.before c.in-Some.card.1 (subst IsSafe c.self.view_is c.self.invariant) (read_some c.self.inside.slots.items c.args.self.now c.args.slot c.index.result.now c.in-Some.card c.self.view_is c.self.invariant.size c.requires.0 c.requires.1 c.index.ensures c.in-Some.is) (omega (arith, c.loop-before-test.false, c.channels-before-end.ensures.closed)))
+returns g c = c.loop-before.invariant ∙ ap (λ l. c.args.chans.now.items ++ l) (card_row c.args.self.now c.args.slot c.loop-before.before c.in-Some.card.1 (subst IsSafe c.self.view_is c.self.invariant) (read_some c.self.inside.slots.items c.args.self.now c.args.slot c.index.result.now c.in-Some.card c.self.view_is c.self.invariant.size c.requires.0 c.requires.1 c.index.ensures c.in-Some.is) (omega (arith, c.loop-before-test.false, c.channels-channels.ensures.closed)))
