@@ -11,6 +11,8 @@
 mod counts;
 mod layer;
 mod settings;
+#[cfg(test)]
+mod tests;
 
 pub use layer::{Awaited, Layer, LayerName, Source};
 pub use settings::Settings;

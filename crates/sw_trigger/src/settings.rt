@@ -215,6 +215,19 @@ impl Settings {
         })
     }
 
+    /// Whether the two have the same value in each setting.
+    pub fn is_same(&self, other: &Settings) -> bool
+        ensures { IsTrue result ↔ (self.now ≡ other.now) }
+    {
+        if self.arm1 != other.arm1 || self.arm2 != other.arm2 || self.trigger != other.trigger {
+            return false;
+        }
+        if self.meter != other.meter || self.points != other.points {
+            return false;
+        }
+        self.list.as_slice() == other.list.as_slice()
+    }
+
     fn put(&mut self, name: LayerName, layer: Layer)
         requires { IsLayer (most_of name) layer }
         ensures { self.new ≡ with_layer self.old name layer }
