@@ -41,7 +41,7 @@ layer_same r a b e f =
 abbrev same_channel : Channel → Channel → Bool
 same_channel a b = eqb a.0 b.0 && eqb a.1 b.1
 
-channel_decides : (a b : Channel) → Decides (same_channel a b) (a ≡ b)
+pub channel_decides : (a b : Channel) → Decides (same_channel a b) (a ≡ b)
 channel_decides a b =
     Decides-like (same_channel a b) (λ (e : (a.0 ≡ b.0) × (a.1 ≡ b.1)). ap (λ (n : ℕ). let c : Channel = (n, a.1) in c) e.0 ∙ ap (λ (n : ℕ). let c : Channel = (b.0, n) in c) e.1)
     (λ (e : a ≡ b). (ap (λ (c : Channel). c.0) e, ap (λ (c : Channel). c.1) e)) (Decides-and (eqb a.0 b.0) (eqb a.1 b.1) (Decides-eqb a.0 b.0) (Decides-eqb a.1 b.1))
