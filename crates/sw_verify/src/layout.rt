@@ -1,6 +1,6 @@
 //! Which cards stand in the slots of the cage.
 
-ghost use Rattle.std.specs.Prelude.{◌≡◌, Some, None, IfSome, IfNone};
+ghost use Rattle.std.specs.Prelude.{◌≡◌, ◌↔◌, Some, None, IsTrue, IfSome, IfNone};
 ghost use Rattle.sw_base.specs.Layout.{relays, meter, bay_has, bay_group, bay_is_meter, slot_at, is_present, group_of, has_meter};
 
 use std::marker::Model;
@@ -55,6 +55,18 @@ impl Slot {
     {
         Slot {
             holds: Holds::Meter,
+        }
+    }
+
+    /// Whether the two hold the same.
+    pub fn is_same(&self, other: &Slot) -> bool
+        ensures { IsTrue result ↔ (self.now ≡ other.now) }
+    {
+        match (&self.holds, &other.holds) {
+            (Holds::Empty, Holds::Empty) => true,
+            (Holds::Meter, Holds::Meter) => true,
+            (Holds::Relays(a), Holds::Relays(b)) => a.as_slice() == b.as_slice(),
+            _ => false,
         }
     }
 
@@ -144,6 +156,23 @@ impl Layout {
             Some(slot) => slot.is_meter(),
             None => false,
         }
+    }
+
+    /// Whether the two hold the same in each slot.
+    pub fn is_same(&self, other: &Layout) -> bool
+        ensures { IsTrue result ↔ (self.now ≡ other.now) }
+    {
+        let slots = self.slots.as_slice();
+        let others = other.slots.as_slice();
+        if slots.len() != others.len() {
+            return false;
+        }
+        for i in 0..slots.len() {
+            if !slots[i].is_same(&others[i]) {
+                return false;
+            }
+        }
+        true
     }
 
     fn slot(&self, slot: u8) -> Option<&Slot>

@@ -11,11 +11,15 @@
 pub mod laws;
 mod layout;
 mod marks;
+mod plan;
 mod ready;
 mod refusal;
 mod snapshot;
+#[cfg(test)]
+mod tests;
 
 pub use layout::{Layout, Slot};
+pub use plan::Plan;
 pub use ready::check;
 pub use refusal::Refusal;
 pub use snapshot::Snapshot;
