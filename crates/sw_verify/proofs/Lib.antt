@@ -2,3 +2,4 @@ pub mod Round
 pub mod Checked
 pub mod Throughout
 pub mod First
+pub mod Same
