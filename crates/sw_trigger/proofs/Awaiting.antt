@@ -1,9 +1,9 @@
 -- The awaiting items of an agenda.
-use Rattle.std.proofs.Common.{◌≡◌, ℕ, zero, suc, ◌+◌, ◌-◌, ◌*◌, ◌%◌, ◌<◌, ◌≤◌, ◌^◌, List, [], ◌∷◌, ◌++◌, length, map, Bool, true, false, Option, Some, cond, eqb, refl, sym, ap, ◌∙◌, ⊎_elim, arith, append_assoc, length-append, add_assoc}
+use Rattle.std.proofs.Common.{◌≡◌, ℕ, zero, suc, ◌+◌, ◌-◌, ◌*◌, ◌%◌, ◌<◌, ◌≤◌, List, [], ◌∷◌, ◌++◌, length, map, Bool, true, false, Some, cond, eqb, refl, sym, ap, ◌∙◌, arith, length-append}
 use Rattle.std.specs.List.{slice_get}
 use Rattle.std.proofs.Math.Nat.{suc-mul}
 use Rattle.std.proofs.lemmas.Bool.Decides.{nat_tests}
-use Rattle.std.proofs.lemmas.Nat.{mul-le, mod_below}
+use Rattle.std.proofs.lemmas.Nat.{mod_below}
 use Rattle.std.proofs.lemmas.List.{map-append}
 use Rattle.sw_trigger.specs.declared.layer.Layer.{Layer}
 use Rattle.sw_trigger.specs.declared.layer.LayerName.{LayerName}
@@ -11,10 +11,10 @@ use Rattle.sw_trigger.specs.declared.layer.LayerName.TheVariants.{Arm1, Arm2, Tr
 use Rattle.sw_trigger.specs.declared.layer.Source.{Source}
 use Rattle.sw_trigger.specs.declared.layer.Source.TheVariants.{Immediate, Bus, External, Hold}
 use Rattle.sw_trigger.specs.declared.layer.Awaited.{Awaited}
-use Rattle.sw_trigger.specs.declared.layer.Awaited.TheVariants.{Wait, Pause, Read}
+use Rattle.sw_trigger.specs.declared.layer.Awaited.TheVariants.{Pause, Read}
 use Rattle.sw_trigger.specs.Settings.{Setup}
 use Rattle.sw_trigger.specs.Agenda.{Item, Awaits, Close, Open, repeated, head_of, passes, pass_of, visit, channel_at, arm1_turn, arm2_turn, agenda, wait_of, pause_of}
-use Rattle.sw_trigger.specs.Counts.{awaiting, reads, is_reading, in_pass, in_arm2, in_arm1}
+use Rattle.sw_trigger.specs.Counts.{awaiting, reads, in_pass, in_arm2, in_arm1}
 use Rattle.sw_trigger.proofs.Repeats.{length-repeated, get-repeated, get-append_left, get-append_right}
 
 pub awaiting-append : (xs ys : List Item) → awaiting (xs ++ ys) ≡ awaiting xs ++ awaiting ys

@@ -1,4 +1,4 @@
-use Rattle.std.proofs.Common.{arith, ◌≡◌, ◌<◌, length}
+use Rattle.std.proofs.Common.{arith, ◌<◌, length}
 use Rattle.sw_trigger.specs.Agenda.{agenda}
 use Rattle.sw_trigger.specs.Counts.{awaiting}
 use Rattle.sw_trigger.proofs.Awaiting.{some1, some2, found_arm1, found_arm2, found_pass, found_read}

@@ -1,5 +1,4 @@
-use Rattle.std.proofs.Common.{◌≡◌, List, sym, ap, ◌∙◌, subst}
-use Rattle.std.specs.Bool.{Decides}
+use Rattle.std.proofs.Common.{◌≡◌, sym, ap, ◌∙◌}
 use Rattle.sw_trigger.specs.Seen.{setup_of}
 use Rattle.sw_trigger.specs.Settings.{Setup}
 use Rattle.sw_trigger.proofs.Same.{layer_same, channels_decide, same_setup}
