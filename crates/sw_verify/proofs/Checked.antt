@@ -1,13 +1,13 @@
 -- What the tests of the check tell.
-use Rattle.std.proofs.Common.{◌≡◌, ◌≢◌, ℕ, zero, suc, ◌+◌, ◌%◌, ◌<◌, ◌≤◌, Bool, true, false, ◌&&◌, ◌||◌, not, List, [], ◌∷◌, length, take, get_or, eqb, refl, sym, ap, ◌∙◌, subst, ⊎_elim, inl, inr, arith, ◌↔◌, ◌⊎◌}
+use Rattle.std.proofs.Common.{◌≡◌, ℕ, zero, suc, ◌%◌, ◌<◌, ◌≤◌, Bool, true, false, ◌&&◌, not, List, [], ◌∷◌, length, take, get_or, eqb, refl, sym, ap, ◌∙◌, subst, ⊎_elim, inl, inr, arith}
 use Rattle.std.specs.List.{list_all, list_any, Any}
-use Rattle.std.proofs.lemmas.Bool.{cases_Bool, and_parts, and_cases, and_from, or_cases, or_left, or_right, eqb-false, eq-eqb, eqb-true, ne_eqb, not-true, not-false, not_from_true, not_from_false, both_ways, false_from_ne_true, true_from_ne_false}
+use Rattle.std.proofs.lemmas.Bool.{cases_Bool, and_parts, and_cases, and_from, or_cases, or_left, or_right, eqb-false, eq-eqb, eqb-true, ne_eqb, not-true, not-false, not_from_false, both_ways, false_from_ne_true, true_from_ne_false}
 use Rattle.std.proofs.Math.Nat.{mod-eq_of_lt, mod-lt, mod-le}
 use Rattle.sw_base.specs.Layout.{Channel, Layout, is_present, group_of, IsClash}
 use Rattle.sw_trigger.specs.Settings.{Setup, IsInRange}
 use Rattle.sw_trigger.specs.Agenda.{channel_at, used_of, agenda}
 use Rattle.sw_trigger.specs.Counts.{reads}
-use Rattle.sw_verify.specs.Channels.{same_channel, is_among, Channels}
+use Rattle.sw_verify.specs.Channels.{same_channel, is_among}
 use Rattle.sw_verify.specs.Sound.{CanClose, IsSound}
 use Rattle.sw_verify.specs.Marks.{in_group, is_free}
 use Rattle.sw_verify.specs.Check.{IsBlocked}

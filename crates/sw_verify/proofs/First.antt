@@ -1,5 +1,5 @@
 -- The first refusal that applies.
-use Rattle.std.proofs.Common.{◌≡◌, ℕ, ◌<◌, ◌≤◌, Bool, true, false, List, [], length, sym, ap, ◌∙◌, arith}
+use Rattle.std.proofs.Common.{◌≡◌, ◌<◌, Bool, true, false, List, [], length, ap, arith}
 use Rattle.std.specs.List.{list_all, Any}
 use Rattle.std.proofs.lemmas.Bool.{both_ways}
 use Rattle.sw_base.specs.Layout.{Channel, is_present, has_meter}

@@ -1,10 +1,10 @@
 -- What holds at each moment of a list of items.
-use Rattle.std.proofs.Common.{◌≡◌, ◌≢◌, ℕ, zero, suc, ◌+◌, ◌≤◌, Bool, true, false, ◌&&◌, ◌||◌, not, List, [], ◌∷◌, take, refl, sym, ap, ◌∙◌, subst, ⊎_elim, inl, inr, arith, ◌⊎◌, length, append-nil, ◌++◌, ◌<◌}
+use Rattle.std.proofs.Common.{◌≡◌, ℕ, zero, suc, ◌≤◌, true, not, List, [], ◌∷◌, take, sym, ◌∙◌, subst, ⊎_elim, arith, length, append-nil, ◌<◌}
 use Rattle.std.proofs.lemmas.Bool.{or_cases, and_parts}
 use Rattle.sw_base.specs.Layout.{Channel, Layout, is_present, IsClash, IsExclusive}
 use Rattle.sw_trigger.specs.Settings.{Setup}
-use Rattle.sw_trigger.specs.Agenda.{Item, Awaits, Close, Open, channel_at, agenda}
-use Rattle.sw_trigger.specs.Counts.{reads, is_reading}
+use Rattle.sw_trigger.specs.Agenda.{Item, Awaits, Close, Open, agenda}
+use Rattle.sw_trigger.specs.Counts.{reads}
 use Rattle.sw_verify.specs.Channels.{same_channel, Channels, none, with_channel, without}
 use Rattle.sw_verify.specs.Sound.{CanClose, AllRight, effect, IsSound}
 use Rattle.sw_verify.specs.Moments.{AtMostOneMore}

@@ -1,5 +1,5 @@
 -- When a scan may begin, and why not.
-use Rattle.std.specs.Prelude.{◌≡◌, ℕ, ◌<◌, Bool, true, false, List, [], length, Any, ◌⊎◌}
+use Rattle.std.specs.Prelude.{◌≡◌, ℕ, ◌<◌, true, false, [], length, Any, ◌⊎◌}
 use Rattle.sw_base.specs.Layout.{Channel, Layout, is_present, has_meter, IsClash}
 use Rattle.sw_base.specs.declared.error.ScpiError.{ScpiError}
 use Rattle.sw_base.specs.declared.error.ScpiError.TheVariants.{SettingsConflict, HardwareMissing, OutOfMemory}

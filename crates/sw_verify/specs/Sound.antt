@@ -1,5 +1,5 @@
 -- Which lists of items a scan may do, and what they leave closed.
-use Rattle.std.specs.Prelude.{◌≡◌, ℕ, ◌≤◌, Bool, true, false, List, [], ◌∷◌}
+use Rattle.std.specs.Prelude.{◌≡◌, ℕ, ◌≤◌, true, false, List, [], ◌∷◌}
 use Rattle.sw_base.specs.Layout.{Channel, Layout, is_present, IsClash}
 use Rattle.sw_trigger.specs.Agenda.{Item, Awaits, Close, Open}
 use Rattle.sw_trigger.specs.Counts.{reads}

@@ -1,5 +1,5 @@
 use Rattle.std.proofs.lemmas.List.{get_or-replicate, length-replicate}
-use Rattle.std.proofs.Common.{true, false}
+use Rattle.std.proofs.Common.{false}
 use Rattle.sw_verify.proofs.marks.group_marks.Goals as goal
 
 pub loop-c-init : goal.loop-c-init

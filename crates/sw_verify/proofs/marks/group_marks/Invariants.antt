@@ -1,4 +1,4 @@
-use Rattle.std.proofs.Common.{◌≡◌, ℕ, take, length}
+use Rattle.std.proofs.Common.{◌≡◌, take, length}
 use Rattle.sw_verify.specs.Marks.{GroupMarks}
 use Rattle.sw_verify.proofs.marks.group_marks.Given as goal
 
