@@ -1,6 +1,6 @@
 //! What the settings of a scan come to, by multiplication and division.
 
-ghost use Rattle.std.specs.Prelude.{◌≡◌, ◌≤◌, length};
+ghost use Rattle.std.specs.Prelude.{◌≡◌, ◌≤◌, ◌↔◌, length, IsNone};
 ghost use Rattle.std.specs.List.{slice_get};
 ghost use Rattle.sw_trigger.specs.declared.layer.LayerName.TheVariants.{Arm1, Arm2};
 ghost use Rattle.sw_trigger.specs.Agenda.{agenda, head_of};
@@ -36,7 +36,8 @@ impl Settings {
 
     /// The n-th thing that a scan awaits, from 0; none from the bound on.
     pub fn awaited(&self, n: u64) -> Option<Awaited>
-        ensures { result ≡ slice_get (awaiting (agenda self.now)) n }
+        ensures item { result ≡ slice_get (awaiting (agenda self.now)) n }
+        ensures over { IsNone result ↔ (bound_of self.now ≤ n) }
     {
         if n >= self.bound() {
             return None;

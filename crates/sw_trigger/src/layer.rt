@@ -1,6 +1,6 @@
 //! The layers of the trigger model.
 
-/// Where a layer's wait takes its trigger from (SCPI-1999, 24.2 and 24.9: SOURce).
+/// Where a layer's wait takes its trigger from (SCPI-1999, chapter 24, SOURce).
 #[derive(Clone, Copy, Debug, PartialEq, Eq)]
 pub enum Source {
     /// No wait: the layer is passed at once.
@@ -13,7 +13,8 @@ pub enum Source {
     Hold,
 }
 
-/// A layer of the trigger model: ARM layer 1 is the outermost, then ARM layer 2, then TRIGger.
+/// A layer of the ARM-TRIGger model (SCPI-1999, chapter 24). That ARM layer 1 is the outermost, then ARM layer 2, then
+/// TRIGger, is this instrument's own.
 #[derive(Clone, Copy, Debug, PartialEq, Eq)]
 pub enum LayerName {
     Arm1,

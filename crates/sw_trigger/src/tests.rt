@@ -35,6 +35,9 @@ fn counts_of_worked_settings(rt: HostRuntime) -> Result<(), Fail> {
     assert_eq!(rt; settings.awaited(7), Some(Awaited::Wait(LayerName::Arm1)));
     assert_eq!(rt; settings.awaited(13), Some(Awaited::Read));
     assert_eq!(rt; settings.awaited(14), None);
+    assert_eq!(rt; settings.layer(LayerName::Trigger).delay_us, 500_000);
+    assert_eq!(rt; settings.list().len(), 1);
+    assert_eq!(rt; settings.channel(2), Chan::new(1, 1));
     Ok(())
 }
 

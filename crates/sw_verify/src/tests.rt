@@ -1,6 +1,6 @@
 //! Worked snapshots: what the check says of each.
 
-use crate::{Layout, Refusal, Slot, Snapshot, check};
+use crate::{Layout, Plan, Refusal, Slot, Snapshot, check, laws};
 use std::alloc::Global;
 use std::test::Fail;
 use sw_base::{Chan, ScpiError, Sequence};
@@ -91,5 +91,24 @@ fn readings_fit_the_points(rt: HostRuntime) -> Result<(), Fail> {
     assert_eq!(rt; check(&scan), Err(Refusal::TooManyReadings));
     scan.settings.set_points(6)?;
     assert_eq!(rt; check(&scan), Ok(()));
+    Ok(())
+}
+
+#[test]
+fn plan_keeps_its_snapshot(rt: HostRuntime) -> Result<(), Fail> {
+    let plan = Plan::make(snapshot(rt.alloc(), &[Chan::new(1, 1)], &[Chan::new(2, 16)])?)?;
+    laws::ends_as_it_began(plan.snapshot());
+    laws::closes_one_at_a_time(plan.snapshot());
+    laws::stays_within_its_points(plan.snapshot());
+    let same = snapshot(rt.alloc(), &[Chan::new(1, 1)], &[Chan::new(2, 16)])?;
+    assert!(rt; plan.snapshot().is_same(&same));
+    let other_list = snapshot(rt.alloc(), &[Chan::new(1, 2)], &[Chan::new(2, 16)])?;
+    assert!(rt; !plan.snapshot().is_same(&other_list));
+    let other_closed = snapshot(rt.alloc(), &[Chan::new(1, 1)], &[])?;
+    assert!(rt; !plan.snapshot().is_same(&other_closed));
+    let layout = plan.into_snapshot().layout;
+    assert_eq!(rt; layout.group(Chan::new(3, 10)), 1);
+    assert_eq!(rt; layout.group(Chan::new(3, 11)), 0);
+    assert_eq!(rt; layout.has_channel(Chan::new(2, 16)), true);
     Ok(())
 }

@@ -12,8 +12,8 @@ nonzero_rem-in_arm1 c =
     let w : n < length (awaiting (agenda s)) = omega (arith, c.bound.ensures.bound) in
     some1 s n t.arm1_head t.arm1 t.arm2_head t.arm2 t.pass w c.turns-turns.ensures.arm1_head c.turns-turns.ensures.arm1 c.turns-turns.ensures.arm2_head c.turns-turns.ensures.arm2 c.turns-turns.ensures.pass
 
-pub returns-then-in_arm1-turns : goal.returns-then-in_arm1-turns
-returns-then-in_arm1-turns c =
+pub returns-then-in_arm1-turns-clause-item : goal.returns-then-in_arm1-turns-clause-item
+returns-then-in_arm1-turns-clause-item c =
     let s = c.args.self.now in
     let n = c.args.n in
     let t = c.turns-turns.result in
@@ -29,8 +29,8 @@ nonzero_rem-in_arm2 c =
     let w : n < length (awaiting (agenda s)) = omega (arith, c.bound.ensures.bound) in
     some2 s n t.arm1_head t.arm1 t.arm2_head t.arm2 t.pass w c.turns-turns.ensures.arm1_head c.turns-turns.ensures.arm1 c.turns-turns.ensures.arm2_head c.turns-turns.ensures.arm2 c.turns-turns.ensures.pass (omega arith)
 
-pub returns-then-in_arm2-turns : goal.returns-then-in_arm2-turns
-returns-then-in_arm2-turns c =
+pub returns-then-in_arm2-turns-clause-item : goal.returns-then-in_arm2-turns-clause-item
+returns-then-in_arm2-turns-clause-item c =
     let s = c.args.self.now in
     let n = c.args.n in
     let t = c.turns-turns.result in
@@ -38,8 +38,8 @@ returns-then-in_arm2-turns c =
     let found = found_arm2 s n t.arm1_head t.arm1 t.arm2_head t.arm2 t.pass w c.turns-turns.ensures.arm1_head c.turns-turns.ensures.arm1 c.turns-turns.ensures.arm2_head c.turns-turns.ensures.arm2 c.turns-turns.ensures.pass (omega arith) (omega arith) in
     cc
 
-pub returns-then-in_pass-turns : goal.returns-then-in_pass-turns
-returns-then-in_pass-turns c =
+pub returns-then-in_pass-turns-clause-item : goal.returns-then-in_pass-turns-clause-item
+returns-then-in_pass-turns-clause-item c =
     let s = c.args.self.now in
     let n = c.args.n in
     let t = c.turns-turns.result in
@@ -47,8 +47,8 @@ returns-then-in_pass-turns c =
     let found = found_pass s n t.arm1_head t.arm1 t.arm2_head t.arm2 t.pass w c.turns-turns.ensures.arm1_head c.turns-turns.ensures.arm1 c.turns-turns.ensures.arm2_head c.turns-turns.ensures.arm2 c.turns-turns.ensures.pass (omega arith) (omega arith) (omega arith) in
     cc
 
-pub returns : goal.returns
-returns c =
+pub returns-clause-item : goal.returns-clause-item
+returns-clause-item c =
     let s = c.args.self.now in
     let n = c.args.n in
     let t = c.turns-turns.result in
