@@ -1,0 +1,71 @@
+-- What a scan does, as one list: the ARM-TRIGger model (SCPI-1999, chapter 24) with two ARM layers round the TRIGger layer;
+-- the order of the layers is this instrument's own.
+use Rattle.std.specs.Prelude.{ℕ, zero, suc, ◌%◌, ◌==◌, List, [], ◌∷◌, ◌++◌, length, map, take, slice_index_or, if◌then◌else◌}
+use Rattle.sw_base.specs.Layout.{Channel}
+use Rattle.sw_trigger.specs.declared.layer.Source.{Source}
+use Rattle.sw_trigger.specs.declared.layer.Source.TheVariants.{Immediate, Bus, External, Hold}
+use Rattle.sw_trigger.specs.declared.layer.LayerName.{LayerName}
+use Rattle.sw_trigger.specs.declared.layer.LayerName.TheVariants.{Arm1, Arm2, Trigger}
+use Rattle.sw_trigger.specs.declared.layer.Layer.{Layer}
+use Rattle.sw_trigger.specs.declared.layer.Awaited.{Awaited}
+use Rattle.sw_trigger.specs.declared.layer.Awaited.TheVariants.{Wait, Pause, Read}
+use Rattle.sw_trigger.specs.Settings.{Setup}
+
+-- one thing that a scan does: it awaits something, or it closes or opens a channel
+pub data Item : Type 0 where
+  Awaits : (what : Awaited) → Item
+  Close : (c : Channel) → Item
+  Open : (c : Channel) → Item
+
+-- a list n times over
+abbrev pub repeated : {A : Type 0} → ℕ → List A → List A
+repeated zero xs = []
+repeated (suc n) xs = xs ++ repeated n xs
+
+-- a layer's wait, which an immediate layer leaves out
+abbrev pub wait_of : LayerName → Source → List Awaited
+wait_of name Immediate = []
+wait_of name Bus = Wait name ∷ []
+wait_of name External = Wait name ∷ []
+wait_of name Hold = Wait name ∷ []
+
+-- a layer's pause, which a delay of 0 leaves out
+abbrev pub pause_of : ℕ → List Awaited
+pause_of micros = if micros == 0 then [] else Pause micros ∷ []
+
+-- what a layer awaits on each of its turns before it goes on inwards
+abbrev pub head_of : LayerName → Layer → List Awaited
+head_of name layer = wait_of name layer.source ++ pause_of layer.delay_us
+
+-- the channel of pass number k: the list is read round and round
+abbrev pub channel_at : List Channel → ℕ → Channel
+channel_at list k = slice_index_or list (k % length list) (0, 0)
+
+-- one channel measured
+abbrev pub visit : Channel → List Item
+visit c = Close c ∷ Awaits Read ∷ Open c ∷ []
+
+-- pass number k of the TRIGger layer
+abbrev pub pass_of : Setup → ℕ → List Item
+pass_of s k = map Awaits (head_of Trigger s.trigger) ++ visit (channel_at s.list k)
+
+-- n passes from number k on
+abbrev pub passes : Setup → ℕ → ℕ → List Item
+passes s k zero = []
+passes s k (suc n) = pass_of s k ++ passes s (suc k) n
+
+-- one turn of ARM layer 2: all passes, from the list's first entry on
+abbrev pub arm2_turn : Setup → List Item
+arm2_turn s = map Awaits (head_of Arm2 s.arm2) ++ passes s 0 s.trigger.count
+
+-- one turn of ARM layer 1
+abbrev pub arm1_turn : Setup → List Item
+arm1_turn s = map Awaits (head_of Arm1 s.arm1) ++ repeated s.arm2.count (arm2_turn s)
+
+-- all that a scan does, in order; nothing where nothing is listed
+abbrev pub agenda : Setup → List Item
+agenda s = if length s.list == 0 then [] else repeated s.arm1.count (arm1_turn s)
+
+-- the entries that the agenda uses
+abbrev pub used_of : Setup → List Channel
+used_of s = take s.trigger.count s.list

@@ -1,0 +1,43 @@
+-- How many things a scan awaits, and how many of them are readings.
+use Rattle.std.specs.Prelude.{ℕ, ◌+◌, List, [], ◌∷◌, ◌++◌, length}
+use Rattle.sw_trigger.specs.declared.layer.LayerName.TheVariants.{Arm1, Arm2, Trigger}
+use Rattle.sw_trigger.specs.declared.layer.Awaited.{Awaited}
+use Rattle.sw_trigger.specs.declared.layer.Awaited.TheVariants.{Wait, Pause, Read}
+use Rattle.sw_trigger.specs.Settings.{Setup}
+use Rattle.sw_trigger.specs.Agenda.{Item, Awaits, Close, Open, agenda, head_of, repeated}
+
+-- the awaiting items, in order
+abbrev pub awaiting : List Item → List Awaited
+awaiting [] = []
+awaiting (Awaits what ∷ items) = what ∷ awaiting items
+awaiting (Close c ∷ items) = awaiting items
+awaiting (Open c ∷ items) = awaiting items
+
+abbrev pub is_reading : Awaited → ℕ
+is_reading (Wait name) = 0
+is_reading (Pause micros) = 0
+is_reading Read = 1
+
+-- how many of the items are readings
+abbrev pub reads : List Item → ℕ
+reads [] = 0
+reads (Awaits what ∷ items) = is_reading what + reads items
+reads (Close c ∷ items) = reads items
+reads (Open c ∷ items) = reads items
+
+-- the events that a scan takes before it is over
+abbrev pub bound_of : Setup → ℕ
+bound_of s = length (awaiting (agenda s))
+
+abbrev pub readings_of : Setup → ℕ
+readings_of s = reads (agenda s)
+
+-- what one pass awaits, and one turn of each ARM layer
+abbrev pub in_pass : Setup → List Awaited
+in_pass s = head_of Trigger s.trigger ++ Read ∷ []
+
+abbrev pub in_arm2 : Setup → List Awaited
+in_arm2 s = head_of Arm2 s.arm2 ++ repeated s.trigger.count (in_pass s)
+
+abbrev pub in_arm1 : Setup → List Awaited
+in_arm1 s = head_of Arm1 s.arm1 ++ repeated s.arm2.count (in_arm2 s)

@@ -1,0 +1,4 @@
+pub mod Settings
+pub mod Agenda
+pub mod Counts
+pub mod Seen

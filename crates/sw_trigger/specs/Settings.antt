@@ -1,0 +1,58 @@
+-- The settings of a scan: the layers of the ARM-TRIGger model (SCPI-1999, chapter 24), the scan list, the meter's slot and
+-- the room for readings.
+use Rattle.std.specs.Prelude.{ℕ, ◌≤◌, List, [], length}
+use Rattle.sw_base.specs.Layout.{Channel}
+use Rattle.sw_trigger.specs.declared.layer.Source.TheVariants.{Immediate}
+use Rattle.sw_trigger.specs.declared.layer.LayerName.{LayerName}
+use Rattle.sw_trigger.specs.declared.layer.LayerName.TheVariants.{Arm1, Arm2, Trigger}
+use Rattle.sw_trigger.specs.declared.layer.Layer.{Layer}
+
+-- the settings as callers see them
+pub record Setup : Type 0 where
+  pub arm1 : Layer
+  pub arm2 : Layer
+  pub trigger : Layer
+  pub list : List Channel
+  pub meter : ℕ
+  pub points : ℕ
+
+abbrev pub layer_of : Setup → LayerName → Layer
+layer_of s Arm1 = s.arm1
+layer_of s Arm2 = s.arm2
+layer_of s Trigger = s.trigger
+
+-- the settings with another layer of that name
+abbrev pub with_layer : Setup → LayerName → Layer → Setup
+with_layer s Arm1 layer = record s { arm1 = layer }
+with_layer s Arm2 layer = record s { arm2 = layer }
+with_layer s Trigger layer = record s { trigger = layer }
+
+-- the greatest count of a layer
+abbrev pub most_of : LayerName → ℕ
+most_of Arm1 = 1000
+most_of Arm2 = 1000
+most_of Trigger = 100000
+
+-- the longest delay, an hour in microseconds
+abbrev pub longest_delay : ℕ
+longest_delay = 3600000000
+
+pub record IsLayer (most : ℕ) (layer : Layer) : Type 0 where
+  pub count : (1 ≤ layer.count) × (layer.count ≤ most)
+  pub delay : layer.delay_us ≤ longest_delay
+
+pub record IsInRange (s : Setup) : Type 0 where
+  pub arm1 : IsLayer 1000 s.arm1
+  pub arm2 : IsLayer 1000 s.arm2
+  pub trigger : IsLayer 100000 s.trigger
+  pub list : length s.list ≤ 512
+  pub meter : (1 ≤ s.meter) × (s.meter ≤ 8)
+  pub points : (1 ≤ s.points) × (s.points ≤ 100000)
+
+-- a layer at *RST: once, at once
+abbrev pub plain_layer : Layer
+plain_layer = record { count = 1; source = Immediate; delay_us = 0 }
+
+-- the settings at *RST
+abbrev pub at_reset : Setup
+at_reset = record { arm1 = plain_layer; arm2 = plain_layer; trigger = plain_layer; list = []; meter = 4; points = 1000 }

@@ -1,0 +1,258 @@
+//! The settings of a scan, each kept in its range.
+
+ghost use Rattle.std.specs.Prelude.{◌≡◌, ◌%◌, ◌<◌, ◌≤◌, ◌↔◌, [], length, IsOk, IsTrue, IfOk, IfErr, OnOk, OnErr};
+ghost use Rattle.sw_base.specs.declared.error.ScpiError.TheVariants.{DataOutOfRange, TooMuchData};
+ghost use Rattle.sw_trigger.specs.Settings.{IsInRange, IsLayer, layer_of, with_layer, most_of, longest_delay, at_reset};
+ghost use Rattle.sw_trigger.specs.Agenda.{channel_at, used_of};
+
+use crate::layer::{Layer, LayerName, Source};
+use std::alloc::{AllocError, Global};
+use std::marker::Model;
+use sw_base::{Chan, ScpiError};
+
+/// The longest delay of a layer, an hour in microseconds.
+const LONGEST_DELAY: u64 = 3_600_000_000;
+
+/// What a scan does: three layers, a list of channels, the slot of its meter and its room for readings.
+///
+/// Contracts see a plain record. Counts are 1 to 1,000 for an ARM layer and 1 to 100,000 for TRIGger, delays at most an
+/// hour, the meter's slot 1 to 8, the points 1 to 100,000, and the list has at most 512 entries.
+#[derive(Debug, Drop)]
+pub struct Settings {
+    arm1: Layer,
+    arm2: Layer,
+    trigger: Layer,
+    list: Vec<Chan>,
+    meter: u8,
+    points: u32,
+}
+
+impl Model for Settings {
+    ghost use Rattle.sw_trigger.specs.Settings.{Setup};
+
+    ghost Value = { Setup };
+
+    ghost use Rattle.sw_trigger.specs.Seen.{setup_of, HoldsRange};
+
+    ghost view = { setup_of };
+
+    ghost invariant = { HoldsRange };
+}
+
+impl Settings {
+    /// The settings at `*RST`: each layer once and at once, nothing listed, the meter in slot 4, 1,000 points.
+    pub fn new(alloc: Global) -> Settings
+        ensures { result ≡ at_reset }
+    {
+        Settings {
+            arm1: PLAIN,
+            arm2: PLAIN,
+            trigger: PLAIN,
+            list: Vec::new(alloc),
+            meter: 4,
+            points: 1000,
+        }
+    }
+
+    /// Back to the settings at `*RST`.
+    pub fn reset(&mut self)
+        ensures { self.new ≡ at_reset }
+    {
+        self.arm1 = PLAIN;
+        self.arm2 = PLAIN;
+        self.trigger = PLAIN;
+        self.list.clear();
+        self.meter = 4;
+        self.points = 1000;
+    }
+
+    /// Sets a layer's count; -222 outside its range.
+    pub fn set_count(&mut self, name: LayerName, count: u32) -> Result<(), ScpiError>
+        ensures taken { IsOk result ↔ (1 ≤ count) × (count ≤ most_of name) }
+        ensures set { OnOk result (self.new ≡ with_layer self.old name (record (layer_of self.old name) { count = count })) }
+        ensures kept { OnErr result (self.new ≡ self.old) }
+        ensures error { IfErr result (λ e. e ≡ DataOutOfRange) }
+    {
+        if count < 1 || count > most(name) {
+            return Err(ScpiError::DataOutOfRange);
+        }
+        let layer = self.layer(name);
+        self.put(name, Layer { count, ..layer });
+        Ok(())
+    }
+
+    /// Sets where a layer's wait takes its trigger from.
+    pub fn set_source(&mut self, name: LayerName, source: Source)
+        ensures { self.new ≡ with_layer self.old name (record (layer_of self.old name) { source = source }) }
+    {
+        let layer = self.layer(name);
+        self.put(name, Layer { source, ..layer });
+    }
+
+    /// Sets a layer's delay, in microseconds; -222 above an hour.
+    pub fn set_delay(&mut self, name: LayerName, delay_us: u64) -> Result<(), ScpiError>
+        ensures taken { IsOk result ↔ (delay_us ≤ longest_delay) }
+        ensures set { OnOk result (self.new ≡ with_layer self.old name (record (layer_of self.old name) { delay_us = delay_us })) }
+        ensures kept { OnErr result (self.new ≡ self.old) }
+        ensures error { IfErr result (λ e. e ≡ DataOutOfRange) }
+    {
+        if delay_us > LONGEST_DELAY {
+            return Err(ScpiError::DataOutOfRange);
+        }
+        let layer = self.layer(name);
+        self.put(name, Layer { delay_us, ..layer });
+        Ok(())
+    }
+
+    /// Sets the list of channels, which need not exist; -223 for more than 512, which keeps the old list.
+    pub fn set_list(&mut self, list: Vec<Chan>) -> Result<(), ScpiError>
+        ensures taken { IsOk result ↔ (length list.items ≤ 512) }
+        ensures set { OnOk result (self.new ≡ record self.old { list = list.items }) }
+        ensures kept { OnErr result (self.new ≡ self.old) }
+        ensures error { IfErr result (λ e. e ≡ TooMuchData) }
+    {
+        if list.len() > 512 {
+            return Err(ScpiError::TooMuchData);
+        }
+        self.list = list;
+        Ok(())
+    }
+
+    /// Sets the slot of the meter; -222 outside 1 to 8.
+    pub fn set_meter(&mut self, slot: u8) -> Result<(), ScpiError>
+        ensures taken { IsOk result ↔ (1 ≤ slot) × (slot ≤ 8) }
+        ensures set { OnOk result (self.new ≡ record self.old { meter = slot }) }
+        ensures kept { OnErr result (self.new ≡ self.old) }
+        ensures error { IfErr result (λ e. e ≡ DataOutOfRange) }
+    {
+        if slot < 1 || slot > 8 {
+            return Err(ScpiError::DataOutOfRange);
+        }
+        self.meter = slot;
+        Ok(())
+    }
+
+    /// Sets the room for readings; -222 outside 1 to 100,000.
+    pub fn set_points(&mut self, points: u32) -> Result<(), ScpiError>
+        ensures taken { IsOk result ↔ (1 ≤ points) × (points ≤ 100000) }
+        ensures set { OnOk result (self.new ≡ record self.old { points = points }) }
+        ensures kept { OnErr result (self.new ≡ self.old) }
+        ensures error { IfErr result (λ e. e ≡ DataOutOfRange) }
+    {
+        if points < 1 || points > 100_000 {
+            return Err(ScpiError::DataOutOfRange);
+        }
+        self.points = points;
+        Ok(())
+    }
+
+    /// A layer's settings.
+    pub fn layer(&self, name: LayerName) -> Layer
+        ensures layer { result ≡ layer_of self.now name }
+        ensures range { IsInRange self.now }
+    {
+        match name {
+            LayerName::Arm1 => self.arm1,
+            LayerName::Arm2 => self.arm2,
+            LayerName::Trigger => self.trigger,
+        }
+    }
+
+    /// The channels, in the order of the scan.
+    pub fn list(&self) -> &[Chan]
+        ensures list { result.now ≡ self.now.list }
+        ensures range { IsInRange self.now }
+    {
+        self.list.as_slice()
+    }
+
+    /// The entries that a scan uses: the first ones, as many as TRIGger's count.
+    pub fn used(&self) -> &[Chan]
+        ensures { result.now ≡ used_of self.now }
+    {
+        let count = self.trigger.count as usize;
+        if count < self.list.len() {
+            &self.list[..count]
+        } else {
+            self.list.as_slice()
+        }
+    }
+
+    /// The channel of TRIGger's pass number `k`, from 0.
+    pub fn channel(&self, k: u32) -> Chan
+        requires listed { 0 < length self.now.list }
+        ensures { result ≡ channel_at self.now.list k }
+    {
+        self.list[k as usize % self.list.len()]
+    }
+
+    /// The slot of the meter.
+    pub fn meter(&self) -> u8
+        ensures { result ≡ self.now.meter }
+    {
+        self.meter
+    }
+
+    /// How many readings there is room for.
+    pub fn points(&self) -> u32
+        ensures { result ≡ self.now.points }
+    {
+        self.points
+    }
+
+    /// A copy of the settings.
+    pub fn try_copy(&self, alloc: Global) -> Result<Settings, AllocError>
+        ensures { IfOk result (λ copy. copy ≡ self.now) }
+    {
+        let list = self.list.as_slice().to_vec(alloc)?;
+        Ok(Settings {
+            arm1: self.arm1,
+            arm2: self.arm2,
+            trigger: self.trigger,
+            list,
+            meter: self.meter,
+            points: self.points,
+        })
+    }
+
+    /// Whether the two have the same value in each setting.
+    pub fn is_same(&self, other: &Settings) -> bool
+        ensures { IsTrue result ↔ (self.now ≡ other.now) }
+    {
+        if self.arm1 != other.arm1 || self.arm2 != other.arm2 || self.trigger != other.trigger {
+            return false;
+        }
+        if self.meter != other.meter || self.points != other.points {
+            return false;
+        }
+        self.list.as_slice() == other.list.as_slice()
+    }
+
+    fn put(&mut self, name: LayerName, layer: Layer)
+        requires { IsLayer (most_of name) layer }
+        ensures { self.new ≡ with_layer self.old name layer }
+    {
+        match name {
+            LayerName::Arm1 => self.arm1 = layer,
+            LayerName::Arm2 => self.arm2 = layer,
+            LayerName::Trigger => self.trigger = layer,
+        }
+    }
+}
+
+/// A layer at `*RST`: once, at once.
+const PLAIN: Layer = Layer {
+    count: 1,
+    source: Source::Immediate,
+    delay_us: 0,
+};
+
+/// The greatest count of a layer.
+fn most(name: LayerName) -> u32
+    ensures { result ≡ most_of name }
+{
+    match name {
+        LayerName::Arm1 | LayerName::Arm2 => 1000,
+        LayerName::Trigger => 100_000,
+    }
+}

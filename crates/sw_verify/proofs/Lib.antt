@@ -1,0 +1,5 @@
+pub mod Round
+pub mod Checked
+pub mod Throughout
+pub mod First
+pub mod Same

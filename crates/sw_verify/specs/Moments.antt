@@ -1,0 +1,20 @@
+-- What is closed while a scan runs.
+use Rattle.std.specs.Prelude.{◌≡◌, ℕ, take, ◌⊎◌}
+use Rattle.sw_base.specs.Layout.{Channel}
+use Rattle.sw_trigger.specs.Agenda.{agenda}
+use Rattle.sw_verify.specs.declared.snapshot.Snapshot.{Snapshot}
+use Rattle.sw_verify.specs.Channels.{Channels, is_among, with_channel}
+use Rattle.sw_verify.specs.Sound.{effect}
+
+-- what was closed at the start
+abbrev pub found : Snapshot → Channels
+found p = is_among p.closed
+
+-- what is closed after the first i items
+abbrev pub closed_at : Snapshot → ℕ → Channels
+closed_at p i = effect (found p) (take i (agenda p.settings))
+
+-- the same channels, or these and one more
+abbrev pub AtMostOneMore : Channels → Channels → Type 0
+AtMostOneMore before now =
+    ((x : Channel) → now x ≡ before x) ⊎ ((c : Channel) × ((x : Channel) → now x ≡ with_channel c before x))

@@ -1,0 +1,187 @@
+//! Which cards stand in the slots of the cage.
+
+ghost use Rattle.std.specs.Prelude.{◌≡◌, ◌↔◌, Some, None, IsTrue, IfSome, IfNone};
+ghost use Rattle.sw_base.specs.Layout.{relays, meter, bay_has, bay_group, bay_is_meter, slot_at, is_present, group_of, has_meter};
+
+use std::marker::Model;
+use sw_base::Chan;
+
+/// What a slot holds: nothing, a relay card, or a meter.
+#[derive(Debug, Drop)]
+pub struct Slot {
+    holds: Holds,
+}
+
+#[derive(Debug, Drop)]
+enum Holds {
+    Empty,
+    Relays(Vec<u8>),
+    Meter,
+}
+
+impl Model for Slot {
+    ghost use Rattle.std.specs.Prelude.{Option};
+    ghost use Rattle.sw_base.specs.Layout.{Bay};
+
+    ghost Value = { Option Bay };
+
+    ghost use Rattle.sw_verify.specs.Seen.{bay_of};
+
+    ghost view = { λ s. bay_of s.holds };
+}
+
+impl Slot {
+    /// A slot without a card.
+    pub fn empty() -> Slot
+        ensures { result ≡ None }
+    {
+        Slot {
+            holds: Holds::Empty,
+        }
+    }
+
+    /// A slot with a relay card, by the exclusion group of each channel from 1 on, 0 for none.
+    pub fn relays(groups: Vec<u8>) -> Slot
+        ensures { result ≡ Some (relays groups.items) }
+    {
+        Slot {
+            holds: Holds::Relays(groups),
+        }
+    }
+
+    /// A slot with a meter.
+    pub fn meter() -> Slot
+        ensures { result ≡ Some meter }
+    {
+        Slot {
+            holds: Holds::Meter,
+        }
+    }
+
+    /// Whether the two hold the same.
+    pub fn is_same(&self, other: &Slot) -> bool
+        ensures { IsTrue result ↔ (self.now ≡ other.now) }
+    {
+        match (&self.holds, &other.holds) {
+            (Holds::Empty, Holds::Empty) => true,
+            (Holds::Meter, Holds::Meter) => true,
+            (Holds::Relays(a), Holds::Relays(b)) => a.as_slice() == b.as_slice(),
+            _ => false,
+        }
+    }
+
+    fn has_channel(&self, ch: u8) -> bool
+        ensures { result ≡ bay_has self.now ch }
+    {
+        match &self.holds {
+            Holds::Relays(groups) => 0 < ch && usize::from(ch) <= groups.len(),
+            _ => false,
+        }
+    }
+
+    fn group(&self, ch: u8) -> u8
+        ensures { result ≡ bay_group self.now ch }
+    {
+        match &self.holds {
+            Holds::Relays(groups) => {
+                if 0 < ch && usize::from(ch) <= groups.len() {
+                    groups[usize::from(ch) - 1]
+                } else {
+                    0
+                }
+            }
+            _ => 0,
+        }
+    }
+
+    fn is_meter(&self) -> bool
+        ensures { result ≡ bay_is_meter self.now }
+    {
+        match &self.holds {
+            Holds::Meter => true,
+            _ => false,
+        }
+    }
+}
+
+/// What the slots of the cage hold, from slot 1 on.
+///
+/// Contracts see the list.
+#[derive(Debug, Drop)]
+pub struct Layout {
+    slots: Vec<Slot>,
+}
+
+impl Model for Layout {
+    ghost use Rattle.sw_base.specs.Layout.{Layout};
+
+    ghost Value = { Layout };
+
+    ghost view = { λ l. l.slots.items };
+}
+
+impl Layout {
+    /// The layout with these slots, from slot 1 on.
+    pub fn new(slots: Vec<Slot>) -> Layout
+        ensures { result ≡ slots.items }
+    {
+        Layout { slots }
+    }
+
+    /// Whether a relay card in the channel's slot has it.
+    pub fn has_channel(&self, c: Chan) -> bool
+        ensures { result ≡ is_present self.now c }
+    {
+        match self.slot(c.slot()) {
+            Some(slot) => slot.has_channel(c.ch()),
+            None => false,
+        }
+    }
+
+    /// The channel's exclusion group over all slots, 0 for none and for an absent channel.
+    pub fn group(&self, c: Chan) -> u8
+        ensures { result ≡ group_of self.now c }
+    {
+        match self.slot(c.slot()) {
+            Some(slot) => slot.group(c.ch()),
+            None => 0,
+        }
+    }
+
+    /// Whether the slot holds a meter.
+    pub fn has_meter(&self, slot: u8) -> bool
+        ensures { result ≡ has_meter self.now slot }
+    {
+        match self.slot(slot) {
+            Some(slot) => slot.is_meter(),
+            None => false,
+        }
+    }
+
+    /// Whether the two hold the same in each slot.
+    pub fn is_same(&self, other: &Layout) -> bool
+        ensures { IsTrue result ↔ (self.now ≡ other.now) }
+    {
+        let slots = self.slots.as_slice();
+        let others = other.slots.as_slice();
+        if slots.len() != others.len() {
+            return false;
+        }
+        for i in 0..slots.len() {
+            if !slots[i].is_same(&others[i]) {
+                return false;
+            }
+        }
+        true
+    }
+
+    fn slot(&self, slot: u8) -> Option<&Slot>
+        ensures there { IfSome result (λ s. slot_at self.now slot ≡ s.now) }
+        ensures none { IfNone result (slot_at self.now slot ≡ None) }
+    {
+        if slot == 0 {
+            return None;
+        }
+        self.slots.get(usize::from(slot) - 1)
+    }
+}

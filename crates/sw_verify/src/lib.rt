@@ -1,0 +1,25 @@
+//! Whether a scan may begin: its settings against the cards in the cage and the channels that are closed.
+//!
+//! The crate's contract: `check` says yes exactly where the agenda of the settings is sound, that is, where each channel
+//! that the scan closes is there and open at that moment and shares a nonzero group with no closed channel of any slot,
+//! where it opens no channel but its own, makes no more readings than there is room for and leaves closed what it found
+//! closed. Else it gives the first refusal that applies. What follows for a scan that passes is in `laws`.
+//!
+//! It takes no memory, and promises nothing of a scan whose cards or closed channels change after the check.
+#![tactic(auto)]
+
+pub mod laws;
+mod layout;
+mod marks;
+mod plan;
+mod ready;
+mod refusal;
+mod snapshot;
+#[cfg(test)]
+mod tests;
+
+pub use layout::{Layout, Slot};
+pub use plan::Plan;
+pub use ready::check;
+pub use refusal::Refusal;
+pub use snapshot::Snapshot;

@@ -1,0 +1,62 @@
+//! Why a scan may not begin.
+
+ghost use Rattle.std.specs.Prelude.{◌≡◌};
+ghost use Rattle.sw_verify.specs.Check.{number_of, error_of};
+
+use sw_base::ScpiError;
+
+/// Why a scan may not begin, in the order in which the causes are looked for. The last five are of scan code.
+#[derive(Clone, Copy, Debug, PartialEq, Eq)]
+pub enum Refusal {
+    /// Nothing is listed.
+    EmptyList,
+    /// A channel is absent.
+    NoChannel,
+    /// The meter's slot holds none.
+    NoMeter,
+    /// A channel is closed already, or one of its group is.
+    GroupClash,
+    /// There is no room for that many readings.
+    TooManyReadings,
+    /// The loops are not nested.
+    BadNesting,
+    /// A loop does not go back to its body's first step.
+    BadJump,
+    /// A loop or the whole leaves other channels closed than it found.
+    LeftClosed,
+    /// A channel is opened that the scan has not closed.
+    NotClosed,
+    /// Memory ran out.
+    NoMemory,
+}
+
+impl Refusal {
+    /// Its number, from 1.
+    pub fn number(self) -> u8
+        ensures { result ≡ number_of self }
+    {
+        match self {
+            Refusal::EmptyList => 1,
+            Refusal::NoChannel => 2,
+            Refusal::NoMeter => 3,
+            Refusal::GroupClash => 4,
+            Refusal::TooManyReadings => 5,
+            Refusal::BadNesting => 6,
+            Refusal::BadJump => 7,
+            Refusal::LeftClosed => 8,
+            Refusal::NotClosed => 9,
+            Refusal::NoMemory => 10,
+        }
+    }
+
+    /// The error that INITiate answers: -241 for an absent channel or meter, -225 for want of memory, else -221.
+    pub fn error(self) -> ScpiError
+        ensures { result ≡ error_of self }
+    {
+        match self {
+            Refusal::NoChannel | Refusal::NoMeter => ScpiError::HardwareMissing,
+            Refusal::NoMemory => ScpiError::OutOfMemory,
+            _ => ScpiError::SettingsConflict,
+        }
+    }
+}
