@@ -1,0 +1,101 @@
+//! Readings and numbers as text.
+
+ghost use Rattle.std.specs.Prelude.{◌≡◌, ◌+◌, ◌<◌, ◌≤◌, ◌∷◌, ◌++◌, length, take, drop, decimal};
+ghost use Rattle.sw_base.specs.Reading.{last_digits, fixed, reading_text};
+
+/// What a meter read.
+#[derive(Clone, Copy, Debug, PartialEq, Eq)]
+pub enum Reading {
+    /// A voltage in nanovolts.
+    Volts(i64),
+    /// More than the meter's range.
+    Overload,
+}
+
+/// Writes the reading in volts with nine decimals at the front of the buffer, and returns the length of its text.
+///
+/// An overload is `9.9E+37` (SCPI-1999, 7.2.1.4).
+pub fn print_reading(reading: Reading, buffer: &mut [u8; 32]) -> usize
+    ensures text { take result buffer.new ≡ reading_text reading }
+    ensures within { result ≤ 32 }
+    ensures rest { drop result buffer.new ≡ drop result buffer.old }
+{
+    match reading {
+        Reading::Volts(nanovolts) => {
+            let size = nanovolts.unsigned_abs();
+            let start = if nanovolts < 0 {
+                buffer[0] = b'-';
+                1
+            } else {
+                0
+            };
+            write_fixed(size / 1_000_000_000, size, 9, buffer, start)
+        }
+        Reading::Overload => {
+            buffer[..7].copy_from_slice(b"9.9E+37");
+            7
+        }
+    }
+}
+
+/// Writes the number at the front of the buffer, and returns the length of its text.
+pub fn print_number(n: u64, buffer: &mut [u8; 32]) -> usize
+    ensures text { take result buffer.new ≡ decimal n }
+    ensures within { result ≤ 32 }
+    ensures rest { drop result buffer.new ≡ drop result buffer.old }
+{
+    let end = width(n);
+    write_digits(n, end, buffer, 0);
+    end
+}
+
+/// Writes microseconds as seconds with six decimals at the front of the buffer, and returns the length of the text.
+pub fn print_micros(micros: u64, buffer: &mut [u8; 32]) -> usize
+    ensures text { take result buffer.new ≡ fixed 6 micros }
+    ensures within { result ≤ 32 }
+    ensures rest { drop result buffer.new ≡ drop result buffer.old }
+{
+    write_fixed(micros / 1_000_000, micros, 6, buffer, 0)
+}
+
+/// Writes `whole`, a point and the last `places` digits of `n` from `start` on, and returns where the text ends.
+fn write_fixed(whole: u64, n: u64, places: usize, buffer: &mut [u8; 32], start: usize) -> usize
+    requires { (start ≤ 1) × (places ≤ 10) }
+    ensures text { buffer.new ≡ take start buffer.old ++ (decimal whole ++ (46 ∷ last_digits places n)) ++ drop result buffer.old }
+    ensures end { result ≡ start + length (decimal whole) + 1 + places }
+    ensures within { result ≤ 32 }
+{
+    let point = start + width(whole);
+    write_digits(whole, point - start, buffer, start);
+    buffer[point] = b'.';
+    write_digits(n, places, buffer, point + 1);
+    point + 1 + places
+}
+
+/// How many digits the number has.
+fn width(n: u64) -> usize
+    ensures value { result ≡ length (decimal n) }
+    ensures within { (1 ≤ result) × (result ≤ 20) }
+{
+    let mut left = n;
+    let mut count = 1;
+    while left >= 10 {
+        left /= 10;
+        count += 1;
+    }
+    count
+}
+
+/// Writes the last `count` digits of `n` from `start` on.
+fn write_digits(n: u64, count: usize, buffer: &mut [u8; 32], start: usize)
+    requires { start + count ≤ 32 }
+    ensures { buffer.new ≡ take start buffer.old ++ (last_digits count n ++ drop (start + count) buffer.old) }
+{
+    let mut left = n;
+    let mut end = start + count;
+    while start < end {
+        end -= 1;
+        buffer[end] = b'0' + (left % 10) as u8;
+        left /= 10;
+    }
+}
