@@ -14,9 +14,9 @@ mod number;
 mod reading;
 mod sequence;
 
-pub use bytes::{blanks, cut, digits, eat, is_blank, is_digit, is_letter, is_word, words};
+pub use bytes::{blanks, cut, digits, eat, is_blank, is_digit, is_letter, is_word, letters, words};
 pub use chan::Chan;
 pub use error::{NO_ERROR, ScpiError};
-pub use number::Unit;
+pub use number::{Nrf, Unit};
 pub use reading::{Reading, print_micros, print_number, print_reading};
 pub use sequence::Sequence;
