@@ -44,19 +44,19 @@ IsFraction text digits rest =
 pub record IsMantissa (text : List ℕ) (n : Written) (rest : List ℕ) : Type 0 where
   pub sign : n.negative ≡ is_negative text
   pub pointed : List ℕ
-  pub whole : Spans is_digit (unsigned text) n.whole pointed
-  pub fraction : IsFraction pointed n.fraction rest
+  pub before : Spans is_digit (unsigned text) n.whole pointed
+  pub after : IsFraction pointed n.fraction rest
   pub digit : 0 < length n.whole + length n.fraction
 
 -- `E` or `e` with white space allowed round it, an optional sign, and at least one digit; and the rest
 pub record IsExponent (text : List ℕ) (negative : Bool) (digits rest : List ℕ) : Type 0 where
   pub before : List ℕ
-  pub mark : ℕ
+  pub marked : List ℕ
   pub after : List ℕ
   pub gap : List ℕ
   pub signed : List ℕ
-  pub blank : Spans is_blank text before (mark ∷ after)
-  pub letter : (mark == 69) || (mark == 101) ≡ true
+  pub blank : Spans is_blank text before marked
+  pub mark : (marked ≡ 69 ∷ after) ⊎ (marked ≡ 101 ∷ after)
   pub space : Spans is_blank after gap signed
   pub sign : negative ≡ is_negative signed
   pub all : Spans is_digit (unsigned signed) digits rest

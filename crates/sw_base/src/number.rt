@@ -1,8 +1,8 @@
 //! Numbers as text: their form, their refusals, and their value rounded to a whole number.
 
-ghost use Rattle.std.specs.Prelude.{◌≡◌, ℕ, ◌+◌, ◌*◌, ◌^◌, ◌<◌, ◌≤◌, ◌↔◌, ◌++◌, [], length, pos, neg_ℤ, ◌-ℤ◌, unsigned_abs, Bool, IsTrue, IfSome, IfNone, IfOk, IfErr, nat_le, if◌then◌else◌};
-ghost use Rattle.sw_base.specs.Text.{is_digit, is_letter, AllPass, Spans};
-ghost use Rattle.sw_base.specs.Number.{Written, value_after, value_of, is_negative, unsigned, with_sign, IsFraction, IsMantissa, IsExponent, IsTail, IsEnded, IsNumber, from_first, significant, IsRefused, magnitude, size_of, rounded, in_range, tens_of, in_u64};
+ghost use Rattle.std.specs.Prelude.{◌≡◌, ℕ, ◌+◌, ◌*◌, ◌^◌, ◌<◌, ◌≤◌, ◌↔◌, ◌++◌, ◌∷◌, ◌⊎◌, [], List, length, pos, neg_ℤ, ◌-ℤ◌, unsigned_abs, Bool, not, IsTrue, IfSome, IfNone, IfOk, IfErr, nat_le, if◌then◌else◌};
+ghost use Rattle.sw_base.specs.Text.{is_digit, is_letter, AllPass, StartsOff, Spans};
+ghost use Rattle.sw_base.specs.Number.{Written, value_after, value_of, is_negative, unsigned, with_sign, IsFraction, IsMantissa, IsExponent, IsTail, is_end, IsEnded, IsNumber, from_first, significant, IsRefused, magnitude, size_of, rounded, in_range, tens_of, in_u64};
 
 use crate::bytes::{blanks, digits, eat, is_blank, letters};
 use crate::error::ScpiError;
@@ -56,18 +56,51 @@ impl<'a> Model for Nrf<'a> {
 }
 
 impl<'a> Nrf<'a> {
+    /// The number at the front of the text, and the unread rest: a suffix, with white space before it if there is any.
+    ///
+    /// White space, a comma or a semicolon ends a number, and letters alone may run on from it. Errors, in this order:
+    /// InvalidCharacterInNumber where no number stands there, TooManyDigits, ExponentTooLarge.
+    pub fn read(text: &'a [u8]) -> Result<(Nrf<'a>, &'a [u8]), ScpiError>
+        ensures number { IfOk result (λ x. IsNumber text.now x.0 x.1.now) }
+        ensures within { IfOk result (λ x. (significant x.0 ≤ 255) × (unsigned_abs x.0.exponent ≤ 32000)) }
+        ensures refused { IfErr result (IsRefused text.now) }
+    {
+        let Some((mut number, after)) = mantissa(text) else {
+            return Err(ScpiError::InvalidCharacterInNumber);
+        };
+        let (negative, digits, rest) = tail(after);
+        if !is_ended(rest) {
+            return Err(ScpiError::InvalidCharacterInNumber);
+        }
+        if number.significant() > MOST_DIGITS {
+            return Err(ScpiError::TooManyDigits);
+        }
+        let Some(size) = exponent_size(digits) else {
+            return Err(ScpiError::ExponentTooLarge);
+        };
+        number.exponent = with_sign(negative, u64::from(size)) as i32;
+        Ok((number, rest))
+    }
+
+    /// How many digits the mantissa has from the first that isn't 0.
+    fn significant(&self) -> usize
+        ensures { result ≡ significant self.now }
+    {
+        let whole = from_first(self.whole);
+        if whole.is_empty() {
+            from_first(self.fraction).len()
+        } else {
+            whole.len() + self.fraction.len()
+        }
+    }
+
     /// The nearest whole number, a half rounded away from zero, where it is from `low` to `high`; else DataOutOfRange.
     pub fn whole(&self, low: i64, high: i64) -> Result<i64, ScpiError>
         ensures { result ≡ in_range low high (rounded self.now 0) }
     {
-        let Some(size) = self.size(0) else {
-            return Err(ScpiError::DataOutOfRange);
-        };
-        let value = if self.negative { -i128::from(size) } else { i128::from(size) };
-        if i128::from(low) <= value && value <= i128::from(high) {
-            Ok(value as i64)
-        } else {
-            Err(ScpiError::DataOutOfRange)
+        match self.size(0) {
+            Some(size) => in_range(with_sign(self.negative, size), low, high),
+            None => Err(ScpiError::DataOutOfRange),
         }
     }
 
@@ -95,6 +128,121 @@ impl<'a> Nrf<'a> {
         } else {
             moved_right(self.whole, self.fraction, places)
         }
+    }
+}
+
+/// Whether a minus stands first, and what follows the sign, if there is one.
+fn sign(text: &[u8]) -> (bool, &[u8])
+    ensures negative { result.0 ≡ is_negative text.now }
+    ensures rest { result.1.now ≡ unsigned text.now }
+{
+    match eat(text, b'-') {
+        Some(rest) => (true, rest),
+        None => (false, eat(text, b'+').unwrap_or(text)),
+    }
+}
+
+/// The digits behind a point, if one stands first, and what follows them.
+fn fraction(text: &[u8]) -> (&[u8], &[u8])
+    ensures { IsFraction text.now result.0.now result.1.now }
+{
+    match eat(text, b'.') {
+        Some(after) => digits(after),
+        None => (&[], text),
+    }
+}
+
+/// The mantissa at the front as a number without exponent, and what follows it.
+fn mantissa(text: &[u8]) -> Option<(Nrf<'_>, &[u8])>
+    ensures found { IfSome result (λ x. IsMantissa text.now x.0 x.1.now × (x.0.exponent ≡ pos 0)) }
+    ensures none { IfNone result ((n : Written) (rest : List ℕ) → IsMantissa text.now n rest → ⊥) }
+{
+    let (negative, unsigned) = sign(text);
+    let (whole, pointed) = digits(unsigned);
+    let (fraction, rest) = fraction(pointed);
+    if whole.is_empty() && fraction.is_empty() {
+        return None;
+    }
+    Some((Nrf { negative, whole, fraction, exponent: 0 }, rest))
+}
+
+/// What follows an `E` or `e`, where one stands first.
+fn eat_mark(text: &[u8]) -> Option<&[u8]>
+    ensures found { IfSome result (λ after. (text.now ≡ 69 ∷ after.now) ⊎ (text.now ≡ 101 ∷ after.now)) }
+    ensures none { IfNone result ((after : List ℕ) → (text.now ≡ 69 ∷ after) ⊎ (text.now ≡ 101 ∷ after) → ⊥) }
+{
+    match eat(text, b'E') {
+        Some(after) => Some(after),
+        None => eat(text, b'e'),
+    }
+}
+
+/// The exponent at the front: whether it is negative, its digits, and what follows them.
+fn exponent(text: &[u8]) -> Option<(bool, &[u8], &[u8])>
+    ensures found { IfSome result (λ x. IsExponent text.now x.0 x.1.now x.2.now) }
+    ensures none { IfNone result ((negative : Bool) (digits rest : List ℕ) → IsExponent text.now negative digits rest → ⊥) }
+{
+    let (_, marked) = blanks(text);
+    let after = eat_mark(marked)?;
+    let (_, signed) = blanks(after);
+    let (negative, unsigned) = sign(signed);
+    let (digits, rest) = digits(unsigned);
+    if digits.is_empty() { None } else { Some((negative, digits, rest)) }
+}
+
+/// The exponent at the front, or none of no digits; and what follows it.
+fn tail(text: &[u8]) -> (bool, &[u8], &[u8])
+    ensures tail { IsTail text.now (with_sign result.0 (value_of result.1.now)) result.2.now }
+    ensures digits { AllPass is_digit result.1.now }
+{
+    match exponent(text) {
+        Some(found) => found,
+        None => (false, &[], text),
+    }
+}
+
+/// Whether only letters stand up to white space, a comma, a semicolon or the end.
+fn is_ended(text: &[u8]) -> bool
+    ensures { IsTrue result ↔ IsEnded text.now }
+{
+    let (_, rest) = letters(text);
+    is_at_end(rest)
+}
+
+/// Whether white space, a comma, a semicolon or nothing stands first.
+fn is_at_end(text: &[u8]) -> bool
+    ensures { IsTrue result ↔ StartsOff (λ b. not (is_end b)) text.now }
+{
+    match text {
+        [first, _rest @ ..] => is_blank(*first) || *first == b',' || *first == b';',
+        [] => true,
+    }
+}
+
+/// The digits from the first that isn't 0.
+fn from_first(digits: &[u8]) -> &[u8]
+    ensures { result.now ≡ from_first digits.now }
+{
+    let mut n = 0;
+    while n < digits.len() && digits[n] == b'0' {
+        n += 1;
+    }
+    &digits[n..]
+}
+
+fn with_sign(negative: bool, size: u64) -> i128
+    ensures value { result ≡ with_sign negative size }
+{
+    if negative { -i128::from(size) } else { i128::from(size) }
+}
+
+fn in_range(value: i128, low: i64, high: i64) -> Result<i64, ScpiError>
+    ensures { result ≡ in_range low high value }
+{
+    if i128::from(low) <= value && value <= i128::from(high) {
+        Ok(value as i64)
+    } else {
+        Err(ScpiError::DataOutOfRange)
     }
 }
 
