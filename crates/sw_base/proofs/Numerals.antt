@@ -5,7 +5,9 @@ use mir.Syntax.{w32, w128}
 use mir.Val.{to_z, of_z}
 use Rattle.std.specs.Prelude.{◌==◌, unsigned_abs, FitsSigned}
 use Rattle.std.proofs.lemmas.Int.{to_z-of_z, fits_signed_from_abs}
-use Rattle.sw_base.specs.Number.{Written, value_of, with_sign, is_negative, unsigned, IsFraction, IsMantissa, IsExponent, IsTail, is_end, IsEnded, IsNumber, from_first}
+use Rattle.sw_base.specs.Number.{Written, value_of, with_sign, is_negative, unsigned, IsFraction, IsMantissa, IsExponent, IsTail, is_end, IsEnded, IsNumber, from_first, significant, IsInLimits, IsRefused}
+use Rattle.sw_base.specs.declared.error.ScpiError.{ScpiError}
+use Rattle.sw_base.specs.declared.error.ScpiError.TheVariants.{InvalidCharacterInNumber, ExponentTooLarge, TooManyDigits}
 use Rattle.std.proofs.lemmas.Bool.{cases_Bool}
 use Rattle.sw_base.proofs.Runs.{one_span}
 
@@ -131,3 +133,54 @@ cast_back z small =
     let wide : FitsSigned w128 z = fits_signed_from_abs w128 z (omega arith) in
     let fits : FitsSigned w32 z = fits_signed_from_abs w32 z (omega arith) in
     rw (to_z-of_z w128 z wide) (to_z-of_z w32 z fits)
+
+-- a text with too many digits, and one with too large an exponent
+record IsLong (text : List ℕ) : Type 0 where
+  n : Written
+  rest : List ℕ
+  number : IsNumber text n rest
+  many : 255 < significant n
+
+record IsSteep (text : List ℕ) : Type 0 where
+  n : Written
+  rest : List ℕ
+  number : IsNumber text n rest
+  few : significant n ≤ 255
+  large : 32000 < unsigned_abs n.exponent
+
+-- the refusals that there are
+data Cause (text : List ℕ) : ScpiError → Type 0 where
+  malformed : ((n : Written) (rest : List ℕ) → IsNumber text n rest → ⊥) → Cause text InvalidCharacterInNumber
+  long : IsLong text → Cause text TooManyDigits
+  steep : IsSteep text → Cause text ExponentTooLarge
+
+cause : (text : List ℕ) (e : ScpiError) → IsRefused text e → Cause text e
+cause text InvalidCharacterInNumber h = malformed h
+cause text TooManyDigits (n, rest, h, many) = long (record { n = n; rest = rest; number = h; many = many })
+cause text ExponentTooLarge (n, rest, h, few, large) = steep (record { n = n; rest = rest; number = h; few = few; large = large })
+cause text _ h = absurd h
+
+either : (text : List ℕ) (n : Written) (rest : List ℕ) (e : ScpiError) → IsNumber text n rest → IsInLimits n → Cause text e → ⊥
+either text n rest _ h l (malformed none) = none n rest h
+either text n rest _ h l (long g) = omega (arith, l.digits, g.many, ap significant (one_number text n rest g.n g.rest h g.number).0)
+either text n rest _ h l (steep g) = omega (arith, l.exponent, g.large, ap (λ (x : Written). unsigned_abs x.exponent) (one_number text n rest g.n g.rest h g.number).0)
+
+apart : (text : List ℕ) → IsLong text → IsSteep text → ⊥
+apart text h g = omega (arith, h.many, g.few, ap significant (one_number text h.n h.rest g.n g.rest h.number g.number).0)
+
+one_cause : (text : List ℕ) (e f : ScpiError) → Cause text e → Cause text f → e ≡ f
+one_cause text _ _ (malformed none) (malformed other) = refl
+one_cause text _ _ (malformed none) (long g) = absurd (none g.n g.rest g.number)
+one_cause text _ _ (malformed none) (steep g) = absurd (none g.n g.rest g.number)
+one_cause text _ _ (long h) (malformed none) = absurd (none h.n h.rest h.number)
+one_cause text _ _ (long h) (long g) = refl
+one_cause text _ _ (long h) (steep g) = absurd (apart text h g)
+one_cause text _ _ (steep h) (malformed none) = absurd (none h.n h.rest h.number)
+one_cause text _ _ (steep h) (long g) = absurd (apart text g h)
+one_cause text _ _ (steep h) (steep g) = refl
+
+pub not_both : (text : List ℕ) (n : Written) (rest : List ℕ) (e : ScpiError) → IsNumber text n rest → IsInLimits n → IsRefused text e → ⊥
+not_both text n rest e h l r = either text n rest e h l (cause text e r)
+
+pub one_refusal : (text : List ℕ) (e f : ScpiError) → IsRefused text e → IsRefused text f → e ≡ f
+one_refusal text e f r s = one_cause text e f (cause text e r) (cause text f s)

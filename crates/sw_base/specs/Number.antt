@@ -95,8 +95,13 @@ from_first (b ∷ digits) = if b == 48 then from_first digits else b ∷ digits
 abbrev pub significant : Written → ℕ
 significant n = length (from_first (n.whole ++ n.fraction))
 
+-- no more digits than 255 count, and the exponent is no larger than 32000 (IEEE 488.2, 7.7.2.4.1)
+pub record IsInLimits (n : Written) : Type 0 where
+  pub digits : significant n ≤ 255
+  pub exponent : unsigned_abs n.exponent ≤ 32000
+
 -- what is wrong with the text: no number stands there, or it has too many digits, or else too large an exponent
--- (SCPI-1999, 21.8.9; IEEE 488.2, 7.7.2.4.1)
+-- (SCPI-1999, 21.8.9)
 abbrev pub IsRefused : List ℕ → ScpiError → Type 0
 IsRefused text InvalidCharacterInNumber = (n : Written) (rest : List ℕ) → IsNumber text n rest → ⊥
 IsRefused text TooManyDigits = (n : Written) × (rest : List ℕ) × IsNumber text n rest × (255 < significant n)

@@ -1,5 +1,5 @@
 -- Numbers and readings as text.
-use Rattle.std.specs.Prelude.{ℕ, suc, zero, ◌+◌, ◌/◌, ◌%◌, ◌^◌, ℤ, pos, negsuc, List, [], ◌∷◌, ◌++◌, codes, decimal}
+use Rattle.std.specs.Prelude.{ℕ, suc, zero, ◌+◌, ◌/◌, ◌%◌, ◌^◌, ◌<◌, ℤ, pos, negsuc, unsigned_abs, List, [], ◌∷◌, ◌++◌, codes, decimal}
 use Rattle.sw_base.specs.declared.reading.Reading.{Reading}
 use Rattle.sw_base.specs.declared.reading.Reading.TheVariants.{Volts, Overload}
 
@@ -17,3 +17,8 @@ abbrev pub reading_text : Reading → List ℕ
 reading_text (Volts (pos n)) = fixed 9 n
 reading_text (Volts (negsuc n)) = 45 ∷ fixed 9 (suc n)
 reading_text Overload = codes "9.9E+37"
+
+-- its nanovolts are below 2^64 in size, as those of each value of the type are
+abbrev pub IsBounded : Reading → Type 0
+IsBounded (Volts v) = unsigned_abs v < 2 ^ 64
+IsBounded Overload = Unit {0}

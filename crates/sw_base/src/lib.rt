@@ -17,6 +17,6 @@ mod sequence;
 pub use bytes::{blanks, cut, digits, eat, is_blank, is_digit, is_letter, is_word, letters, words};
 pub use chan::Chan;
 pub use error::{NO_ERROR, ScpiError};
-pub use number::{Nrf, Unit};
-pub use reading::{Reading, print_micros, print_number, print_reading};
+pub use number::{Nrf, Unit, one_reading};
+pub use reading::{Reading, one_text, print_micros, print_number, print_reading};
 pub use sequence::Sequence;

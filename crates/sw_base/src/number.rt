@@ -2,7 +2,8 @@
 
 ghost use Rattle.std.specs.Prelude.{◌≡◌, ℕ, ◌+◌, ◌*◌, ◌^◌, ◌<◌, ◌≤◌, ◌↔◌, ◌++◌, ◌∷◌, ◌⊎◌, [], List, length, pos, neg_ℤ, ◌-ℤ◌, unsigned_abs, Bool, not, IsTrue, IfSome, IfNone, IfOk, IfErr, nat_le, if◌then◌else◌};
 ghost use Rattle.sw_base.specs.Text.{is_digit, is_letter, AllPass, StartsOff, Spans};
-ghost use Rattle.sw_base.specs.Number.{Written, value_after, value_of, is_negative, unsigned, with_sign, IsFraction, IsMantissa, IsExponent, IsTail, is_end, IsEnded, IsNumber, from_first, significant, IsRefused, magnitude, size_of, rounded, in_range, tens_of, in_u64};
+ghost use Rattle.sw_base.specs.declared.error.ScpiError.{ScpiError as Fault};
+ghost use Rattle.sw_base.specs.Number.{Written, value_after, value_of, is_negative, unsigned, with_sign, IsFraction, IsMantissa, IsExponent, IsTail, is_end, IsEnded, IsNumber, from_first, significant, IsInLimits, IsRefused, magnitude, size_of, rounded, in_range, tens_of, in_u64};
 
 use crate::bytes::{blanks, digits, eat, is_blank, letters};
 use crate::error::ScpiError;
@@ -62,7 +63,7 @@ impl<'a> Nrf<'a> {
     /// InvalidCharacterInNumber where no number stands there, TooManyDigits, ExponentTooLarge.
     pub fn read(text: &'a [u8]) -> Result<(Nrf<'a>, &'a [u8]), ScpiError>
         ensures number { IfOk result (λ x. IsNumber text.now x.0 x.1.now) }
-        ensures within { IfOk result (λ x. (significant x.0 ≤ 255) × (unsigned_abs x.0.exponent ≤ 32000)) }
+        ensures within { IfOk result (λ x. IsInLimits x.0) }
         ensures refused { IfErr result (IsRefused text.now) }
     {
         let Some((mut number, after)) = mantissa(text) else {
@@ -129,6 +130,14 @@ impl<'a> Nrf<'a> {
             moved_right(self.whole, self.fraction, places)
         }
     }
+}
+
+/// A law: a text is one number with one rest, or has one refusal, and not both.
+pub fn one_reading()
+    ensures number { (text : List ℕ) (n m : Written) (rest other : List ℕ) → IsNumber text n rest → IsNumber text m other → (n ≡ m) × (rest ≡ other) }
+    ensures refusal { (text : List ℕ) (e f : Fault) → IsRefused text e → IsRefused text f → e ≡ f }
+    ensures either { (text : List ℕ) (n : Written) (rest : List ℕ) (e : Fault) → IsNumber text n rest → IsInLimits n → IsRefused text e → ⊥ }
+{
 }
 
 /// Whether a minus stands first, and what follows the sign, if there is one.

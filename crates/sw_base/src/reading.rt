@@ -1,7 +1,8 @@
 //! Readings and numbers as text.
 
 ghost use Rattle.std.specs.Prelude.{◌≡◌, ◌+◌, ◌<◌, ◌≤◌, ◌∷◌, ◌++◌, length, take, drop, decimal};
-ghost use Rattle.sw_base.specs.Reading.{last_digits, fixed, reading_text};
+ghost use Rattle.sw_base.specs.declared.reading.Reading.{Reading as Shown};
+ghost use Rattle.sw_base.specs.Reading.{last_digits, fixed, reading_text, IsBounded};
 
 /// What a meter read.
 #[derive(Clone, Copy, Debug, PartialEq, Eq)]
@@ -56,6 +57,12 @@ pub fn print_micros(micros: u64, buffer: &mut [u8; 32]) -> usize
     ensures rest { drop result buffer.new ≡ drop result buffer.old }
 {
     write_fixed(micros / 1_000_000, micros, 6, buffer, 0)
+}
+
+/// A law: the text of a reading determines it.
+pub fn one_text()
+    ensures { (r s : Shown) → IsBounded r → IsBounded s → reading_text r ≡ reading_text s → r ≡ s }
+{
 }
 
 /// Writes `whole`, a point and the last `places` digits of `n` from `start` on, and returns where the text ends.
