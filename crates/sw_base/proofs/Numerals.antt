@@ -113,7 +113,7 @@ number_is text m after rest e h t s = record {
   after = after;
   mantissa = record { sign = h.sign; pointed = h.pointed; before = h.before; after = h.after; digit = h.digit };
   tail = t;
-  ended = s
+  ended = s;
 }
 
 pub not_ended : (text : List ℕ) (m : Written) (after other : List ℕ) (e : ℤ) → IsMantissa text m after → IsTail after e other → (IsEnded other → ⊥) → (n : Written) (rest : List ℕ) → IsNumber text n rest → ⊥

@@ -39,6 +39,7 @@ last_digits-decimal n small =
   where
     one_alone : (m : ℕ) → m < 10 → last_digits 1 m ≡ (48 + m) ∷ []
     one_alone m below = let e : m % 10 ≡ m = omega arith in last_digits_push 0 m ∙ rw (last_digits_none, e) refl
+
     last_more : (m : ℕ) (ds : List ℕ) → last_digits (length ds) (m / 10) ≡ ds → last_digits (length (ds ++ (48 + m % 10) ∷ [])) m ≡ ds ++ (48 + m % 10) ∷ []
     last_more m ds more = rw (length_push, add-one, last_digits_push, more) refl
 
@@ -58,15 +59,15 @@ one_point old front digits more p places long within =
     let left : take (p + 1) (set whole p 46) ≡ (front ++ digits) ++ 46 ∷ [] = take_more_set whole p 46 room ∙ rw (take_at (front ++ digits) (drop p old) p at) refl in
     let far : p + 1 + places ≡ p + (1 + places) = omega arith in
     let right : drop (p + 1 + places) (set whole p 46) ≡ drop (p + 1 + places) old =
-        drop-set-lt (p + 1 + places) whole p 46 (omega arith) ∙ rw (far, ← drop-drop (1 + places) p whole, drop_at (front ++ digits) (drop p old) p at, drop-drop (1 + places) p old) refl in
+    drop-set-lt (p + 1 + places) whole p 46 (omega arith) ∙ rw (far, ← drop-drop (1 + places) p whole, drop_at (front ++ digits) (drop p old) p at, drop-drop (1 + places) p old) refl in
     let same : front ++ (digits ++ drop p old) ≡ whole = sym (append_assoc front digits (drop p old)) in
     rw (same, left, right) (simp append_assoc)
 
 same_fronts : (xs ys s t : List ℕ) → length xs ≡ length ys → xs ++ s ≡ ys ++ t → (xs ≡ ys) × (s ≡ t)
 same_fronts xs ys s t h e = (
-    sym (take_at xs s (length xs) refl) ∙ ap (take (length xs)) e ∙ take_at ys t (length xs) (sym h),
-    sym (drop_at xs s (length xs) refl) ∙ ap (drop (length xs)) e ∙ drop_at ys t (length xs) (sym h)
-  )
+  sym (take_at xs s (length xs) refl) ∙ ap (take (length xs)) e ∙ take_at ys t (length xs) (sym h),
+  sym (drop_at xs s (length xs) refl) ∙ ap (drop (length xs)) e ∙ drop_at ys t (length xs) (sym h),
+)
 
 -- the digits in front of some place, and those behind it, make the number
 same_number : (k n m : ℕ) → n / 10 ^ k ≡ m / 10 ^ k → last_digits k n ≡ last_digits k m → n ≡ m

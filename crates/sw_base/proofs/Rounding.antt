@@ -66,7 +66,7 @@ nearest_is front d more h =
     let ten : 10 ^ (k + 1) ≡ q * 10 = ap (λ (i : ℕ). 10 ^ i) (add-one k) ∙ pow-suc 10 k in
     let last : value_of (d ∷ more) ≡ (d - 48) * q + c = value_after-split (0 * 10 + (d - 48)) more ∙ ap (λ (i : ℕ). i * q + c) (omega arith) in
     let whole : value_of (front ++ d ∷ more) ≡ value_of front * (q * 10) + ((d - 48) * q + c) =
-        value_after-append 0 front (d ∷ more) ∙ value_after-split (value_of front) (d ∷ more) ∙ rw (pow-suc 10 k, last) refl in
+    value_after-append 0 front (d ∷ more) ∙ value_after-split (value_of front) (d ∷ more) ∙ rw (pow-suc 10 k, last) refl in
     rw (whole, ten) (elim (cases_lt d 53) [
       | inl down ↦ rw (carry_down d down) (round_down (value_of front) (d - 48) c q (omega arith) below ∙ sym (add-zero (value_of front)))
       | inr up ↦ rw (carry_up d up) (round_up (value_of front) (d - 48) c q (omega arith) high below)

@@ -137,8 +137,7 @@ pub fn one_reading()
     ensures number { (text : List ℕ) (n m : Written) (rest other : List ℕ) → IsNumber text n rest → IsNumber text m other → (n ≡ m) × (rest ≡ other) }
     ensures refusal { (text : List ℕ) (e f : Fault) → IsRefused text e → IsRefused text f → e ≡ f }
     ensures either { (text : List ℕ) (n : Written) (rest : List ℕ) (e : Fault) → IsNumber text n rest → IsInLimits n → IsRefused text e → ⊥ }
-{
-}
+{}
 
 /// Whether a minus stands first, and what follows the sign, if there is one.
 fn sign(text: &[u8]) -> (bool, &[u8])
@@ -172,7 +171,15 @@ fn mantissa(text: &[u8]) -> Option<(Nrf<'_>, &[u8])>
     if whole.is_empty() && fraction.is_empty() {
         return None;
     }
-    Some((Nrf { negative, whole, fraction, exponent: 0 }, rest))
+    Some((
+        Nrf {
+            negative,
+            whole,
+            fraction,
+            exponent: 0,
+        },
+        rest,
+    ))
 }
 
 /// What follows an `E` or `e`, where one stands first.
@@ -196,7 +203,11 @@ fn exponent(text: &[u8]) -> Option<(bool, &[u8], &[u8])>
     let (_, signed) = blanks(after);
     let (negative, unsigned) = sign(signed);
     let (digits, rest) = digits(unsigned);
-    if digits.is_empty() { None } else { Some((negative, digits, rest)) }
+    if digits.is_empty() {
+        None
+    } else {
+        Some((negative, digits, rest))
+    }
 }
 
 /// The exponent at the front, or none of no digits; and what follows it.
@@ -242,7 +253,11 @@ fn from_first(digits: &[u8]) -> &[u8]
 fn with_sign(negative: bool, size: u64) -> i128
     ensures value { result ≡ with_sign negative size }
 {
-    if negative { -i128::from(size) } else { i128::from(size) }
+    if negative {
+        -i128::from(size)
+    } else {
+        i128::from(size)
+    }
 }
 
 fn in_range(value: i128, low: i64, high: i64) -> Result<i64, ScpiError>

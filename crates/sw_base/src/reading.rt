@@ -1,6 +1,7 @@
 //! Readings and numbers as text.
 
-ghost use Rattle.std.specs.Prelude.{◌≡◌, ◌+◌, ◌<◌, ◌≤◌, ◌∷◌, ◌++◌, length, take, drop, decimal};
+ghost use Rattle.std.specs.Prelude.{◌≡◌, ◌+◌, ◌<◌, ◌≤◌, ◌∷◌, ◌++◌, length, take, drop, decimal, if◌then◌else◌};
+ghost use Rattle.std.specs.Fmt.{signed_decimal, sign_text};
 ghost use Rattle.sw_base.specs.declared.reading.Reading.{Reading as Shown};
 ghost use Rattle.sw_base.specs.Reading.{last_digits, fixed, reading_text, IsBounded};
 
@@ -24,12 +25,7 @@ pub fn print_reading(reading: Reading, buffer: &mut [u8; 32]) -> usize
     match reading {
         Reading::Volts(nanovolts) => {
             let size = nanovolts.unsigned_abs();
-            let start = if nanovolts < 0 {
-                buffer[0] = b'-';
-                1
-            } else {
-                0
-            };
+            let start = write_minus(nanovolts < 0, buffer);
             write_fixed(size / 1_000_000_000, size, 9, buffer, start)
         }
         Reading::Overload => {
@@ -45,9 +41,17 @@ pub fn print_number(n: u64, buffer: &mut [u8; 32]) -> usize
     ensures within { result ≤ 32 }
     ensures rest { drop result buffer.new ≡ drop result buffer.old }
 {
-    let end = width(n);
-    write_digits(n, end, buffer, 0);
-    end
+    write_number(n, buffer, 0)
+}
+
+/// Writes the signed number at the front of the buffer, and returns the length of its text.
+pub fn print_signed(n: i64, buffer: &mut [u8; 32]) -> usize
+    ensures text { take result buffer.new ≡ signed_decimal n }
+    ensures within { result ≤ 32 }
+    ensures rest { drop result buffer.new ≡ drop result buffer.old }
+{
+    let start = write_minus(n < 0, buffer);
+    write_number(n.unsigned_abs(), buffer, start)
 }
 
 /// Writes microseconds as seconds with six decimals at the front of the buffer, and returns the length of the text.
@@ -62,7 +66,20 @@ pub fn print_micros(micros: u64, buffer: &mut [u8; 32]) -> usize
 /// A law: the text of a reading determines it.
 pub fn one_text()
     ensures { (r s : Shown) → IsBounded r → IsBounded s → reading_text r ≡ reading_text s → r ≡ s }
+{}
+
+/// Writes a minus at the front of the buffer if the number is negative, and returns where its digits begin.
+fn write_minus(negative: bool, buffer: &mut [u8; 32]) -> usize
+    ensures text { take result buffer.new ≡ sign_text negative }
+    ensures rest { drop result buffer.new ≡ drop result buffer.old }
+    ensures within { result ≡ (if negative then 1 else 0) }
 {
+    if negative {
+        buffer[0] = b'-';
+        1
+    } else {
+        0
+    }
 }
 
 /// Writes `whole`, a point and the last `places` digits of `n` from `start` on, and returns where the text ends.
@@ -72,11 +89,22 @@ fn write_fixed(whole: u64, n: u64, places: usize, buffer: &mut [u8; 32], start: 
     ensures end { result ≡ start + length (decimal whole) + 1 + places }
     ensures within { result ≤ 32 }
 {
-    let point = start + width(whole);
-    write_digits(whole, point - start, buffer, start);
+    let point = write_number(whole, buffer, start);
     buffer[point] = b'.';
     write_digits(n, places, buffer, point + 1);
     point + 1 + places
+}
+
+/// Writes the number from `start` on, and returns where its text ends.
+fn write_number(n: u64, buffer: &mut [u8; 32], start: usize) -> usize
+    requires { start ≤ 1 }
+    ensures text { buffer.new ≡ take start buffer.old ++ (decimal n ++ drop result buffer.old) }
+    ensures end { result ≡ start + length (decimal n) }
+    ensures within { result ≤ start + 20 }
+{
+    let count = width(n);
+    write_digits(n, count, buffer, start);
+    start + count
 }
 
 /// How many digits the number has.

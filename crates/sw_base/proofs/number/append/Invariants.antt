@@ -6,5 +6,5 @@ use Rattle.sw_base.proofs.number.append.Given as goal
 abbrev pub invariant-loop-digit : goal.invariant-loop-digit
 invariant-loop-digit l = record {
   rest : AllPass is_digit (drop l.digit-index l.digits);
-  value : value_after l.n (drop l.digit-index l.digits) ≡ value_after l.start l.digits
+  value : value_after l.n (drop l.digit-index l.digits) ≡ value_after l.start l.digits;
 }

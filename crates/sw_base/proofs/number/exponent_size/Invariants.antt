@@ -7,5 +7,5 @@ abbrev pub invariant-loop-digit : goal.invariant-loop-digit
 invariant-loop-digit l = record {
   rest : AllPass is_digit (drop l.digit-index l.digits);
   small : l.n ≤ 32000;
-  value : value_after l.n (drop l.digit-index l.digits) ≡ value_after 0 l.digits
+  value : value_after l.n (drop l.digit-index l.digits) ≡ value_after 0 l.digits;
 }

@@ -12,7 +12,7 @@ overflow_add-count c =
 pub loop-left-preserved : goal.loop-left-preserved
 loop-left-preserved c = record {
   counted = omega (arith, length-decimal_step c.loop-left.left (omega arith) (omega arith));
-  low = omega arith
+  low = omega arith;
 }
 
 pub returns-clause-value : goal.returns-clause-value

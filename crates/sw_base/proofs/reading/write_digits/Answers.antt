@@ -13,7 +13,7 @@ loop-end-preserved c =
       high = omega arith;
       size = length-set c.loop-end.buffer (c.loop-end.end - 1) (48 + c.loop-end.left % 10) ∙ i.size;
       front = take-set-le c.args.start c.loop-end.buffer (c.loop-end.end - 1) (48 + c.loop-end.left % 10) (omega arith) ∙ i.front;
-      digits = one_digit c.args.start c.loop-end.end c.loop-end.left c.loop-end.buffer (omega arith) high ∙ i.digits
+      digits = one_digit c.args.start c.loop-end.end c.loop-end.left c.loop-end.buffer (omega arith) high ∙ i.digits;
     }
 
 pub returns : goal.returns

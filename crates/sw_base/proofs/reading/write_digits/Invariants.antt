@@ -8,7 +8,7 @@ invariant-loop-end l = record {
   high : l.end ≤ l.start + l.count;
   size : length l.buffer ≡ 32;
   front : take l.start l.buffer ≡ take l.start l.initial.buffer;
-  digits : last_digits (l.end - l.start) l.left ++ drop l.end l.buffer ≡ last_digits l.count l.n ++ drop (l.start + l.count) l.initial.buffer
+  digits : last_digits (l.end - l.start) l.left ++ drop l.end l.buffer ≡ last_digits l.count l.n ++ drop (l.start + l.count) l.initial.buffer;
 }
 
 abbrev pub decreases-loop-end : goal.decreases-loop-end
