@@ -38,16 +38,17 @@ fn answer(text: &[u8]) -> (i64, bool) {
 #[test]
 fn numbers_of_the_table(rt: HostRuntime) {
     let mut rest = TABLE;
-    let mut count = 0u64;
-    while let Some((entry, more)) = cut(rest, b'|') {
+    for _ in 0..84 {
+        let Some((entry, more)) = cut(rest, b'|') else {
+            break;
+        };
         let (value, read) = answer(text_of(entry));
         let mut buffer = [0; 32];
         let length = print_signed(value, &mut buffer);
         assert_eq!(rt; Some(&buffer[..length]), wanted(entry, read));
         rest = more;
-        count = count.saturating_add(1);
     }
-    assert_eq!(rt; count, 84);
+    assert!(rt; rest.is_empty());
 }
 
 fn text_of(entry: &[u8]) -> &[u8] {
