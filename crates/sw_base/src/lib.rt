@@ -15,6 +15,7 @@ mod error;
 mod number;
 mod reading;
 mod sequence;
+mod terms;
 #[cfg(test)]
 mod tests;
 
@@ -24,3 +25,4 @@ pub use error::{NO_ERROR, ScpiError};
 pub use number::{Nrf, Unit, one_reading};
 pub use reading::{Reading, one_text, print_micros, print_number, print_reading, print_signed};
 pub use sequence::Sequence;
+pub use terms::{LayerName, Source, StatusGroup};

@@ -5,12 +5,12 @@ ghost use Rattle.std.specs.Fmt.{signed_decimal, sign_text};
 ghost use Rattle.sw_base.specs.declared.reading.Reading.{Reading as Shown};
 ghost use Rattle.sw_base.specs.Reading.{last_digits, fixed, reading_text, IsBounded};
 
-/// What a meter read.
+/// What a meter measured.
 #[derive(Clone, Copy, Debug, PartialEq, Eq)]
 pub enum Reading {
-    /// A voltage in nanovolts.
+    /// In nanovolts.
     Volts(i64),
-    /// More than the meter's range.
+    /// Past what the meter can show.
     Overload,
 }
 

@@ -1,0 +1,30 @@
+//! Runs of channels: what one item of a list names.
+
+ghost use Rattle.std.specs.Prelude.{◌≡◌, ◌≤◌};
+ghost use Rattle.sw_channel.specs.Meaning.{count_between};
+
+use sw_base::Chan;
+
+/// Every channel of a slot from the first to the last, downwards where the first is greater.
+#[derive(Clone, Copy)]
+pub struct Run {
+    pub first: Chan,
+    pub last: Chan,
+    ghost one_slot: { last.0 ≡ first.0 },
+}
+
+impl Run {
+    /// How many channels these are.
+    pub fn count(&self) -> u8
+        ensures value { result ≡ count_between self.now.first.1 self.now.last.1 }
+        ensures range { result ≤ 99 }
+    {
+        let from = self.first.ch();
+        let to = self.last.ch();
+        if from <= to {
+            to - from + 1
+        } else {
+            from - to + 1
+        }
+    }
+}

@@ -1,0 +1,131 @@
+-- Units, from the front.
+use Rattle.std.proofs.Common.{◌≡◌, ℕ, ◌+◌, ◌≤◌, List, [], ◌∷◌, ◌++◌, length, take, drop, refl, sym, ap, subst, ◌∙◌, append_assoc, arith}
+use Rattle.std.specs.List.{AllByRecursion}
+use Rattle.std.proofs.lemmas.List.{append-nil, length-append, take_at, drop_at, map_push, take-append-drop, length-map}
+use Rattle.sw_base.specs.Text.{is_letter, AllPass, StartsOff}
+use Rattle.sw_base.specs.declared.error.ScpiError.{ScpiError}
+use Rattle.sw_base.specs.declared.error.ScpiError.TheVariants.{SyntaxError}
+use Rattle.sw_lex.specs.declared.unit.Element.{Element}
+use Rattle.sw_lex.specs.Unit.{IsMnemonic, IsName, colons, IsPath, BreaksOff, Datum, IsData, Reaches, IsNext, IsLast, fault_at, data_of, datum_of, IsStuck, IsDataRefused, Heads, common, Leads, expression, is_inner}
+
+-- ---- a part of a text by its length
+
+pub front_of : (text part rest : List ℕ) (n : ℕ) → text ≡ part ++ rest → length part ≡ n → take n text ≡ part
+front_of text part rest n e k = rw e (take_at part rest n k)
+
+pub rest_of : (text part rest : List ℕ) (n : ℕ) → text ≡ part ++ rest → length part ≡ n → drop n text ≡ rest
+rest_of text part rest n e k = rw e (drop_at part rest n k)
+
+-- ---- an expression
+
+pub opened_whole : (text more inner after rest : List ℕ) → text ≡ 40 ∷ more → more ≡ inner ++ after → after ≡ 41 ∷ rest → text ≡ (40 ∷ (inner ++ 41 ∷ [])) ++ rest
+opened_whole text more inner after rest e f g =
+    e ∙ ap (λ (t : List ℕ). 40 ∷ t) (f ∙ ap (λ (t : List ℕ). inner ++ t) g ∙ sym (append_assoc inner (41 ∷ []) rest))
+
+pub opened_length : (inner : List ℕ) → length (40 ∷ (inner ++ 41 ∷ [])) ≡ length inner + 2
+opened_length inner = omega (arith, length-append inner (41 ∷ []))
+
+-- ---- a header so far: mnemonics and their colons
+
+pub record Front (text : List ℕ) (n : ℕ) (rest : List ℕ) : Type 0 where
+  pub nodes : List (List ℕ)
+  pub each : AllByRecursion IsMnemonic nodes
+  pub whole : text ≡ colons nodes ++ rest
+  pub len : length (colons nodes) ≡ n
+
+pub Front-none : (text : List ℕ) → Front text 0 text
+Front-none text = record { nodes = []; each = tt; whole = refl; len = refl }
+
+colons-push : (ms : List (List ℕ)) (m : List ℕ) → colons (ms ++ m ∷ []) ≡ colons ms ++ (m ++ 58 ∷ [])
+colons-push [] m = append-nil (m ++ 58 ∷ [])
+colons-push (x ∷ ms) m = ap (λ (t : List ℕ). (x ++ 58 ∷ []) ++ t) (colons-push ms m) ∙ sym (append_assoc (x ++ 58 ∷ []) (colons ms) (m ++ 58 ∷ []))
+
+each-push : (ms : List (List ℕ)) (m : List ℕ) → AllByRecursion IsMnemonic ms → IsMnemonic m → AllByRecursion IsMnemonic (ms ++ m ∷ [])
+each-push [] m a h = (h, tt)
+each-push (x ∷ ms) m a h = (a.0, each-push ms m a.1 h)
+
+whole-push : (text rest m more : List ℕ) (ms : List (List ℕ)) → text ≡ colons ms ++ rest → rest ≡ m ++ 58 ∷ more → text ≡ colons (ms ++ m ∷ []) ++ more
+whole-push text rest m more ms e f =
+    let g : colons ms ++ (m ++ 58 ∷ more) ≡ (colons ms ++ (m ++ 58 ∷ [])) ++ more = simp append_assoc in
+    e ∙ ap (λ (t : List ℕ). colons ms ++ t) f ∙ g ∙ ap (λ (t : List ℕ). t ++ more) (sym (colons-push ms m))
+
+len-push : (ms : List (List ℕ)) (m : List ℕ) (n : ℕ) → length (colons ms) ≡ n → length (colons (ms ++ m ∷ [])) ≡ n + length m + 1
+len-push ms m n e = ap (λ (t : List ℕ). length t) (colons-push ms m) ∙ omega (arith, length-append (colons ms) (m ++ 58 ∷ []), length-append m (58 ∷ []))
+
+pub Front-more : (text : List ℕ) (n : ℕ) (rest m after more : List ℕ) → Front text n rest → IsMnemonic m → rest ≡ m ++ after → after ≡ 58 ∷ more → Front text (n + length m + 1) more
+Front-more text n rest m after more f h e g = record {
+  nodes = f.nodes ++ m ∷ [];
+  each = each-push f.nodes m f.each h;
+  whole = whole-push text rest m more f.nodes f.whole (e ∙ ap (λ (t : List ℕ). m ++ t) g);
+  len = len-push f.nodes m n f.len;
+}
+
+front-whole : (text : List ℕ) (n : ℕ) (rest m more : List ℕ) (f : Front text n rest) → rest ≡ m ++ more → text ≡ (colons f.nodes ++ m) ++ more
+front-whole text n rest m more f e = f.whole ∙ ap (λ (t : List ℕ). colons f.nodes ++ t) e ∙ sym (append_assoc (colons f.nodes) m more)
+
+front-len : (text : List ℕ) (n : ℕ) (rest m : List ℕ) (f : Front text n rest) → length (colons f.nodes ++ m) ≡ n + length m
+front-len text n rest m f = omega (arith, f.len, length-append (colons f.nodes) m)
+
+pub Front-path : (text : List ℕ) (n : ℕ) (rest m more : List ℕ) → Front text n rest → IsMnemonic m → rest ≡ m ++ more → IsPath (take (n + length m) text) × (text ≡ take (n + length m) text ++ drop (n + length m) text)
+Front-path text n rest m more f h e = (
+  record {
+    nodes = f.nodes;
+    last = m;
+    each = f.each;
+    last_one = h;
+    whole = front_of text (colons f.nodes ++ m) more (n + length m) (front-whole text n rest m more f e) (front-len text n rest m f);
+  },
+  sym (take-append-drop (n + length m) text),
+)
+
+pub Front-rest : (text : List ℕ) (n : ℕ) (rest m more : List ℕ) → Front text n rest → rest ≡ m ++ more → drop (n + length m) text ≡ more
+Front-rest text n rest m more f e = rest_of text (colons f.nodes ++ m) more (n + length m) (front-whole text n rest m more f e) (front-len text n rest m f)
+
+pub Front-off : (text : List ℕ) (n : ℕ) (rest : List ℕ) (e : ScpiError) → Front text n rest → StartsOff is_letter rest → e ≡ fault_at SyntaxError rest → BreaksOff text e
+Front-off text n rest e f o h = record { nodes = f.nodes; each = f.each; more = rest; whole = f.whole; off = o; error = h }
+
+-- ---- data so far
+
+pub reaches_more : (text : List ℕ) (ds : List Datum) (here next : List ℕ) (d : Datum) → Reaches text ds here → IsNext here d next → Reaches text (ds ++ d ∷ []) next
+reaches_more text [] here next d r n = (next, subst (λ (t : List ℕ). IsNext t d next) (sym r) n, refl)
+reaches_more text (c ∷ ds) here next d r n = (r.0, r.1, reaches_more r.0 ds here next d r.2 n)
+
+pub reaches_last : (text : List ℕ) (ds : List Datum) (here rest : List ℕ) (d : Datum) → Reaches text ds here → IsLast here d rest → IsData text (ds ++ d ∷ []) rest
+reaches_last text [] here rest d r n = subst (λ (t : List ℕ). IsLast t d rest) (sym r) n
+reaches_last text (c ∷ []) here rest d r n = (r.0, r.1, reaches_last r.0 [] here rest d r.2 n)
+reaches_last text (c ∷ b ∷ ds) here rest d r n = (r.0, r.1, reaches_last r.0 (b ∷ ds) here rest d r.2 n)
+
+pub data-push : (es : List Element) (e : Element) → data_of (es ++ e ∷ []) ≡ data_of es ++ datum_of e ∷ []
+data-push es e = map_push datum_of es e
+
+stuck-here : (text here : List ℕ) (ds : List Datum) (n : ℕ) (e : ScpiError) → Reaches text ds here → n ≡ length ds → n ≤ 16 → IsStuck n here e → IsDataRefused text e
+stuck-here text here ds n e r k f s = record {
+  front = ds;
+  here = here;
+  reached = r;
+  few = omega (arith, k, f);
+  why = subst (λ (m : ℕ). IsStuck m here e) k s;
+}
+
+pub stuck-refused : (text here : List ℕ) (es : List Element) (n : ℕ) (e : ScpiError) → Reaches text (data_of es) here → n ≡ length es → n ≤ 16 → IsStuck n here e → IsDataRefused text e
+stuck-refused text here es n e r k = stuck-here text here (data_of es) n e r (k ∙ sym (length-map es datum_of))
+
+-- ---- a common header
+
+pub common-heads : (text more name rest : List ℕ) → text ≡ 42 ∷ more → IsName name → more ≡ name ++ rest → StartsOff is_letter rest → Heads text (common (take (length name + 1) text)) (drop (length name + 1) text)
+common-heads text more name rest e h f o =
+    let w : text ≡ (42 ∷ name) ++ rest = e ∙ ap (λ (t : List ℕ). 42 ∷ t) f in
+    let n : length (42 ∷ name) ≡ length name + 1 = omega (arith, length-append (42 ∷ []) name) in
+    let b : drop (length name + 1) text ≡ rest = rest_of text (42 ∷ name) rest (length name + 1) w n in
+    record {
+      form = (name, h, front_of text (42 ∷ name) rest (length name + 1) w n);
+      whole = sym (take-append-drop (length name + 1) text);
+      far = subst (λ (t : List ℕ). StartsOff is_letter t) (sym b) o;
+    }
+
+pub expression-leads : (text more inner after rest : List ℕ) → text ≡ 40 ∷ more → more ≡ inner ++ after → AllPass is_inner inner → after ≡ 41 ∷ rest → Leads text (expression (take (length inner + 2) text)) (drop (length inner + 2) text)
+expression-leads text more inner after rest e f p g =
+    record {
+      form = (inner, p, front_of text (40 ∷ (inner ++ 41 ∷ [])) rest (length inner + 2) (opened_whole text more inner after rest e f g) (opened_length inner));
+      whole = sym (take-append-drop (length inner + 2) text);
+    }

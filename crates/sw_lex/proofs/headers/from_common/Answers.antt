@@ -1,0 +1,16 @@
+use Rattle.sw_lex.specs.Table.{from_common_rows}
+use Rattle.sw_lex.specs.declared.table.TheConstants.{COMMON_ROWS}
+use Rattle.sw_lex.proofs.Spelled.{found_left, right_some, right_or_neither}
+use Rattle.sw_lex.proofs.headers.from_common.Goals as goal
+
+pub returns-in-Some-clause-some : goal.returns-in-Some-clause-some
+unfolding from_common_rows
+returns-in-Some-clause-some c = found_left _ _ _ _ _ _ c.in-Some.ensures.some
+
+pub returns-in-None-clause-some : goal.returns-in-None-clause-some
+unfolding from_common_rows
+returns-in-None-clause-some c = right_some COMMON_ROWS _ _ _ _ c.from_route.ensures.some
+
+pub returns-in-None-clause-none : goal.returns-in-None-clause-none
+unfolding from_common_rows
+returns-in-None-clause-none c = right_or_neither _ _ _ _ _ c.in-None.ensures.none c.from_route.ensures.none

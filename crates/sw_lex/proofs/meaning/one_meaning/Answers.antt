@@ -1,0 +1,5 @@
+use Rattle.sw_lex.proofs.Meanings.{one_meaning}
+use Rattle.sw_lex.proofs.meaning.one_meaning.Goals as goal
+
+pub returns : goal.returns
+returns c = one_meaning

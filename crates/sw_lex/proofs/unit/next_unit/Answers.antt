@@ -1,0 +1,21 @@
+use Rattle.sw_lex.specs.Unit.{heading_of, data_of}
+use Rattle.sw_lex.proofs.Shorter.{unit_rest}
+use Rattle.sw_lex.proofs.unit.next_unit.Goals as goal
+
+pub returns-clause-shorter : goal.returns-clause-shorter
+returns-clause-shorter c =
+    unit_rest c.args.text.now (record {
+      header = heading_of c.in_ok-header.header;
+      query = c.query_mark-query.result.0;
+      elements = data_of c.in_ok-elements.elements.items;
+    }) c.in_ok-elements.rest.now (record {
+      before = c.gaps.result.0.now;
+      start = c.gaps.result.1.now;
+      after = c.in_ok-header.rest.now;
+      tail = c.query_mark-query.result.1.now;
+      skipped = c.gaps.ensures;
+      header = c.in_ok-header.ensures.ok;
+      asks = c.query_mark-query.ensures;
+      follows = c.in_ok-elements.ensures.ok;
+      few = c.in_ok-elements.ensures.few;
+    })

@@ -1,0 +1,104 @@
+//! Runs of bytes that units are made of.
+
+ghost use Rattle.std.specs.Prelude.{◌≡◌, ◌==◌, ◌++◌, ◌∷◌, [], ℕ, List, IfOk, IfErr, IfSome, IfNone, length, ◌<◌};
+ghost use Rattle.sw_base.specs.Text.{is_blank, is_letter, is_word, AllPass, StartsOff, Spans};
+ghost use Rattle.sw_base.specs.declared.error.ScpiError.TheVariants.{SyntaxError};
+ghost use Rattle.sw_lex.specs.Unit.{is_gap, is_inner, fault_at, Ends, IsMnemonic, IsName};
+
+use sw_base::{ScpiError, is_blank, is_letter, words};
+
+/// The white space and the empty units at the front, and what follows them.
+pub fn gaps(bytes: &[u8]) -> (&[u8], &[u8])
+    ensures { Spans is_gap bytes.now result.0.now result.1.now }
+{
+    let mut n = 0;
+    while n < bytes.len() && (is_blank(bytes[n]) || bytes[n] == b';') {
+        n += 1;
+    }
+    bytes.split_at(n)
+}
+
+/// The letters at the front, and what follows them.
+pub fn letters(bytes: &[u8]) -> (&[u8], &[u8])
+    ensures { Spans is_letter bytes.now result.0.now result.1.now }
+{
+    let mut n = 0;
+    while n < bytes.len() && is_letter(bytes[n]) {
+        n += 1;
+    }
+    bytes.split_at(n)
+}
+
+/// Whether the byte may stand between the parentheses of an expression.
+fn is_inner(b: u8) -> bool
+    ensures { result ≡ is_inner b }
+{
+    b != b')' && b != b'\n' && b < 127
+}
+
+/// The bytes at the front that may stand in an expression, and what follows them.
+pub fn inners(bytes: &[u8]) -> (&[u8], &[u8])
+    ensures { Spans is_inner bytes.now result.0.now result.1.now }
+{
+    let mut n = 0;
+    while n < bytes.len() && is_inner(bytes[n]) {
+        n += 1;
+    }
+    bytes.split_at(n)
+}
+
+/// What follows a unit's end, where the bytes begin with one.
+pub fn end(bytes: &[u8]) -> Option<&[u8]>
+    ensures found { IfSome result (λ rest. Ends bytes.now rest.now) }
+    ensures none { IfNone result ((rest : List ℕ) → Ends bytes.now rest → ⊥) }
+{
+    match bytes {
+        [first, rest @ ..] => { if *first == b';' { Some(rest) } else { None } }
+        [] => Some(bytes),
+    }
+}
+
+/// The error for what stands at the front.
+pub fn fault_at(error: ScpiError, bytes: &[u8]) -> ScpiError
+    ensures { result ≡ fault_at error bytes.now }
+{
+    match bytes {
+        [] => error,
+        [b, ..] => {
+            if *b == b'\n' || *b > 126 {
+                ScpiError::InvalidCharacter
+            } else {
+                error
+            }
+        }
+    }
+}
+
+/// The mnemonic at the front, and what follows it.
+pub fn mnemonic(text: &[u8]) -> Result<(&[u8], &[u8]), ScpiError>
+    ensures ok { IfOk result (λ x. IsMnemonic x.0.now × (text.now ≡ x.0.now ++ x.1.now) × StartsOff is_word x.1.now) }
+    ensures err { IfErr result (λ e. StartsOff is_letter text.now × (e ≡ fault_at SyntaxError text.now)) }
+{
+    match text {
+        [first, others @ ..] => {
+            if is_letter(*first) {
+                let (more, _) = words(others);
+                Ok(text.split_at(more.len() + 1))
+            } else {
+                Err(fault_at(ScpiError::SyntaxError, text))
+            }
+        }
+        [] => Err(ScpiError::SyntaxError),
+    }
+}
+
+/// The name of a common header at the front, and what follows it.
+pub fn name(text: &[u8]) -> Result<(&[u8], &[u8]), ScpiError>
+    ensures ok { IfOk result (λ x. IsName x.0.now × (text.now ≡ x.0.now ++ x.1.now) × StartsOff is_letter x.1.now) }
+    ensures err { IfErr result (λ e. StartsOff is_letter text.now × (e ≡ fault_at SyntaxError text.now)) }
+{
+    match letters(text) {
+        ([], _) => Err(fault_at(ScpiError::SyntaxError, text)),
+        (name, rest) => Ok((name, rest)),
+    }
+}

@@ -1,0 +1,242 @@
+//! Units: from the bytes of a message to one header and its data.
+
+ghost use Rattle.std.specs.Prelude.{◌≡◌, ◌==◌, ◌++◌, ◌∷◌, ◌≤◌, ◌<◌, ℕ, List, [], true, false, IfOk, IfErr, IfSome, IfNone, length};
+ghost use Rattle.sw_base.specs.Text.{is_blank, is_letter, is_word, AllPass, StartsOff};
+ghost use Rattle.sw_base.specs.declared.error.ScpiError.{ScpiError as Error};
+ghost use Rattle.sw_base.specs.declared.error.ScpiError.TheVariants.{SyntaxError};
+ghost use Rattle.sw_lex.specs.Unit.{UnitView, unit_of, heading_of, datum_of, data_of, is_gap, is_start, fault_at, IsPath, BreaksOff, Heads, HasNoHeading, Asks, Leads, IsUnclosed, IsStuck, IsData, IsDataRefused, IsTail, IsTailRefused, IsUnit, IsRefused, IsBlank};
+
+use crate::runs::{end, fault_at, gaps, inners, mnemonic, name};
+use arrayvec::ArrayVec;
+use sw_base::{ScpiError, blanks, eat};
+
+/// One data element, as it is written.
+#[derive(Clone, Copy, Debug, PartialEq, Eq)]
+pub enum Element<'a> {
+    /// A decimal number.
+    Number(&'a [u8]),
+    /// A word.
+    Character(&'a [u8]),
+    /// A string with its quotes.
+    String(&'a [u8]),
+    /// A block with its `#` and its length.
+    Block(&'a [u8]),
+    /// An expression with its parentheses.
+    Expression(&'a [u8]),
+}
+
+impl Default for Element<'_> {
+    fn default() -> Self {
+        Element::Character(&[])
+    }
+}
+
+/// A header, as it is written.
+#[derive(Clone, Copy, Debug, PartialEq, Eq)]
+pub enum Header<'a> {
+    /// A common header: `*` and letters.
+    Common(&'a [u8]),
+    /// Mnemonics joined by colons, and whether a colon stands before them.
+    Path { leading: bool, nodes: &'a [u8] },
+}
+
+/// One unit of a program message.
+///
+/// Its parts are slices of the message.
+#[derive(Drop)]
+pub struct RawUnit<'a> {
+    /// The header.
+    pub header: Header<'a>,
+    /// Whether a question mark follows the header.
+    pub query: bool,
+    /// The data elements.
+    pub elements: ArrayVec<Element<'a>, 16>,
+}
+
+/// The mnemonics and colons at the front, and what follows them.
+fn read_path(text: &[u8]) -> Result<(&[u8], &[u8]), ScpiError>
+    ensures ok { IfOk result (λ x. IsPath x.0.now × (text.now ≡ x.0.now ++ x.1.now)) }
+    ensures whole { IfOk result (λ x. StartsOff is_word x.1.now × StartsOff (λ b. b == 58) x.1.now) }
+    ensures err { IfErr result (λ e. BreaksOff text.now e) }
+{
+    let mut n = 0;
+    let mut rest = text;
+    'nodes: loop {
+        let (node, after) = mnemonic(rest)?;
+        n += node.len();
+        match eat(after, b':') {
+            Some(more) => {
+                n += 1;
+                rest = more;
+            }
+            None => return Ok(text.split_at(n)),
+        }
+    }
+}
+
+/// The common header at the front of what begins with `*`, and what follows it.
+fn read_common<'a>(text: &'a [u8], more: &'a [u8]) -> Result<(Header<'a>, &'a [u8]), ScpiError>
+    requires { text.now ≡ 42 ∷ more.now }
+    ensures ok { IfOk result (λ x. Heads text.now (heading_of x.0) x.1.now) }
+    ensures err { IfErr result (λ e. StartsOff is_letter more.now × (e ≡ fault_at SyntaxError more.now)) }
+{
+    let (letters, _) = name(more)?;
+    let (all, rest) = text.split_at(letters.len() + 1);
+    Ok((Header::Common(all), rest))
+}
+
+/// The header at the front, and what follows it.
+fn read_header(text: &[u8]) -> Result<(Header<'_>, &[u8]), ScpiError>
+    ensures ok { IfOk result (λ x. Heads text.now (heading_of x.0) x.1.now) }
+    ensures err { IfErr result (λ e. HasNoHeading text.now e) }
+{
+    match text {
+        [b'*', more @ ..] => read_common(text, more),
+        [b':', more @ ..] => {
+            let (nodes, rest) = read_path(more)?;
+            Ok((
+                Header::Path {
+                    leading: true,
+                    nodes,
+                },
+                rest,
+            ))
+        }
+        _ => {
+            let (nodes, rest) = read_path(text)?;
+            Ok((
+                Header::Path {
+                    leading: false,
+                    nodes,
+                },
+                rest,
+            ))
+        }
+    }
+}
+
+/// Whether a query's mark is at the front, and what follows it.
+fn query_mark(text: &[u8]) -> (bool, &[u8])
+    ensures { Asks text.now result.0 result.1.now }
+{
+    match eat(text, b'?') {
+        Some(rest) => (true, rest),
+        None => (false, text),
+    }
+}
+
+/// The expression at the front of what begins with `(`, and what follows it.
+fn read_expression<'a>(text: &'a [u8], more: &'a [u8]) -> Result<(Element<'a>, &'a [u8]), ScpiError>
+    requires { text.now ≡ 40 ∷ more.now }
+    ensures ok { IfOk result (λ x. Leads text.now (datum_of x.0) x.1.now) }
+    ensures shorter { IfOk result (λ x. length x.1.now < length text.now) }
+    ensures err { IfErr result (λ e. IsUnclosed text.now e) }
+{
+    let (inner, after) = inners(more);
+    match eat(after, b')') {
+        None => Err(fault_at(ScpiError::InvalidExpression, after)),
+        Some(_) => {
+            let (all, rest) = text.split_at(inner.len() + 2);
+            Ok((Element::Expression(all), rest))
+        }
+    }
+}
+
+/// The element at the front with n before it, and what follows it.
+fn read_element(text: &[u8], n: usize) -> Result<(Element<'_>, &[u8]), ScpiError>
+    requires { n ≤ 16 }
+    ensures ok { IfOk result (λ x. Leads text.now (datum_of x.0) x.1.now) }
+    ensures shorter { IfOk result (λ x. length x.1.now < length text.now) }
+    ensures room { IfOk result (λ _. n < 16) }
+    ensures err { IfErr result (λ e. IsStuck n text.now e) }
+{
+    match eat(text, b'(') {
+        Some(more) => {
+            if n == 16 {
+                return Err(ScpiError::ParameterNotAllowed);
+            }
+            read_expression(text, more)
+        }
+        None => Err(fault_at(ScpiError::SyntaxError, text)),
+    }
+}
+
+/// The elements up to the unit's end, and what follows it.
+fn read_data(text: &[u8]) -> Result<(ArrayVec<Element<'_>, 16>, &[u8]), ScpiError>
+    ensures ok { IfOk result (λ x. IsData text.now (data_of x.0.items) x.1.now) }
+    ensures few { IfOk result (λ x. length (data_of x.0.items) ≤ 16) }
+    ensures err { IfErr result (λ e. IsDataRefused text.now e) }
+{
+    let mut found = ArrayVec::new();
+    let mut rest = text;
+    'data: loop {
+        let (next, after) = read_element(rest, found.len())?;
+        let (_, more) = blanks(after);
+        match end(more) {
+            Some(others) => {
+                found.push(next);
+                return Ok((found, others));
+            }
+            None => match eat(more, b',') {
+                Some(others) => {
+                    let (_, others) = blanks(others);
+                    found.push(next);
+                    rest = others;
+                }
+                None => return Err(fault_at(ScpiError::InvalidSeparator, more)),
+            },
+        }
+    }
+}
+
+/// What follows a header: its data, and what follows the unit.
+fn read_tail(text: &[u8]) -> Result<(ArrayVec<Element<'_>, 16>, &[u8]), ScpiError>
+    ensures ok { IfOk result (λ x. IsTail text.now (data_of x.0.items) x.1.now) }
+    ensures few { IfOk result (λ x. length (data_of x.0.items) ≤ 16) }
+    ensures err { IfErr result (λ e. IsTailRefused text.now e) }
+{
+    let (gap, more) = blanks(text);
+    match end(more) {
+        Some(rest) => Ok((ArrayVec::new(), rest)),
+        None => {
+            if gap.is_empty() {
+                return Err(fault_at(ScpiError::InvalidSeparator, more));
+            }
+            read_data(more)
+        }
+    }
+}
+
+/// The next unit of a message, and what follows it; none where nothing but white space and empty units is left
+/// (IEEE 488.2, 7.3).
+pub fn next_unit(text: &[u8]) -> Result<Option<(RawUnit<'_>, &[u8])>, ScpiError>
+    ensures unit { IfOk result (λ o. IfSome o (λ x. IsUnit text.now (unit_of x.0) x.1.now)) }
+    ensures shorter { IfOk result (λ o. IfSome o (λ x. length x.1.now < length text.now)) }
+    ensures none { IfOk result (λ o. IfNone o (IsBlank text.now)) }
+    ensures refused { IfErr result (λ e. IsRefused text.now e) }
+{
+    let (_, start) = gaps(text);
+    if start.is_empty() {
+        return Ok(None);
+    }
+    let (header, rest) = read_header(start)?;
+    let (query, rest) = query_mark(rest);
+    let (elements, rest) = read_tail(rest)?;
+    Ok(Some((
+        RawUnit {
+            header,
+            query,
+            elements,
+        },
+        rest,
+    )))
+}
+
+/// A law: no text is two units, nor refused in two ways, nor a unit and refused, nor blank and either.
+pub fn one_reading()
+    ensures units { (text : List ℕ) (u v : UnitView) (r s : List ℕ) → IsUnit text u r → IsUnit text v s → (u ≡ v) × (r ≡ s) }
+    ensures refusals { (text : List ℕ) (e f : Error) → IsRefused text e → IsRefused text f → e ≡ f }
+    ensures apart { (text : List ℕ) (u : UnitView) (r : List ℕ) (e : Error) → IsUnit text u r → IsRefused text e → ⊥ }
+    ensures no_unit { (text : List ℕ) (u : UnitView) (r : List ℕ) → IsBlank text → IsUnit text u r → ⊥ }
+    ensures no_refusal { (text : List ℕ) (e : Error) → IsBlank text → IsRefused text e → ⊥ }
+{}
