@@ -1,6 +1,6 @@
 -- A text is read as a number in one way.
-use Rattle.std.proofs.Common.{◌≡◌, ℕ, zero, suc, ◌+◌, ◌<◌, ◌≤◌, Bool, true, false, not, ℤ, pos, ◌⊎◌, List, [], ◌∷◌, ◌++◌, length, refl, sym, ap, ◌∙◌, subst, inl, inr, ⊎_elim, arith, rules}
-use Rattle.sw_base.specs.Text.{is_blank, is_digit, is_letter, AllPass, StartsOff, Spans}
+use Rattle.std.proofs.Common.{◌≡◌, ℕ, zero, suc, ◌<◌, ◌≤◌, Bool, true, false, not, ℤ, ◌⊎◌, List, [], ◌∷◌, ◌++◌, length, refl, sym, ap, ◌∙◌, subst, inl, inr, arith}
+use Rattle.sw_base.specs.Text.{is_blank, is_digit, is_letter, StartsOff, Spans}
 use mir.Syntax.{w32, w128}
 use mir.Val.{to_z, of_z}
 use Rattle.std.specs.Prelude.{◌==◌, unsigned_abs, FitsSigned}

@@ -1,6 +1,6 @@
 -- Digits as they are printed.
 use Rattle.std.proofs.Common.{◌≡◌, ℕ, zero, suc, ◌+◌, ◌-◌, ◌*◌, ◌/◌, ◌%◌, ◌^◌, ◌<◌, ◌≤◌, List, [], ◌∷◌, ◌++◌, length, get_or, take, drop, set, refl, sym, ap, ◌∙◌, inl, inr, arith, add-one}
-use Rattle.std.specs.Prelude.{ℤ, pos, negsuc, codes}
+use Rattle.std.specs.Prelude.{pos, negsuc, codes}
 use Rattle.std.proofs.Math.Nat.{div-one, div-div-eq-div-mul, pow-succ', div-le_self}
 use Rattle.std.proofs.lemmas.Bool.{cases_lt}
 use Rattle.std.specs.Fmt.{decimal}

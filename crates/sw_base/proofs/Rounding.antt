@@ -1,11 +1,11 @@
 -- The digit behind the point decides how a number is rounded.
-use Rattle.std.proofs.Common.{◌≡◌, ℕ, zero, suc, ◌+◌, ◌-◌, ◌*◌, ◌/◌, ◌%◌, ◌^◌, ◌<◌, ◌≤◌, ℤ, pos, negsuc, neg_ℤ, ◌-ℤ◌, true, false, List, [], ◌∷◌, ◌++◌, length, get_or, take, drop, refl, sym, ap, ◌∙◌, subst, inl, inr, arith, add-one, add-zero}
-use Rattle.std.proofs.lemmas.List.{length-append, append_assoc, drop_more, take-append-drop, length-take-le, length-drop}
-use Rattle.std.proofs.lemmas.Nat.{div-mul-add, mul-lt}
+use Rattle.std.proofs.Common.{◌≡◌, ℕ, suc, ◌+◌, ◌-◌, ◌*◌, ◌/◌, ◌^◌, ◌<◌, ◌≤◌, pos, negsuc, neg_ℤ, ◌-ℤ◌, true, List, [], ◌∷◌, ◌++◌, length, get_or, take, drop, refl, sym, ap, ◌∙◌, subst, inl, inr, arith, add-one, add-zero}
+use Rattle.std.proofs.lemmas.List.{length-append, append_assoc, drop_more, take-append-drop, length-drop}
+use Rattle.std.proofs.lemmas.Nat.{div-mul-add}
 use Rattle.std.proofs.lemmas.Int.{ints}
 use Rattle.std.proofs.lemmas.Bool.{cases_lt}
 use Rattle.std.proofs.lemmas.Grind.{common_steps}
-use Rattle.std.proofs.Math.Nat.{pow-suc, mul_assoc, mul_comm, mul-le-mul_right, mul-le-mul_left, pow-le-pow_right, div-eq_of_lt, one-le-pow}
+use Rattle.std.proofs.Math.Nat.{pow-suc, mul-le-mul_right, mul-le-mul_left, pow-le-pow_right, div-eq_of_lt, one-le-pow}
 use Rattle.sw_base.specs.Text.{is_digit, AllPass}
 use Rattle.sw_base.specs.Number.{value_after, value_of, magnitude}
 use Rattle.sw_base.proofs.Runs.{AllPass-right, AllPass-append}

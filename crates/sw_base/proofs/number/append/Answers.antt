@@ -1,4 +1,4 @@
-use Rattle.std.proofs.Common.{◌≡◌, ◌*◌, ◌+◌, ◌^◌, ◌≤◌, arith}
+use Rattle.std.proofs.Common.{◌*◌, ◌+◌, ◌^◌, ◌≤◌, arith}
 use Rattle.sw_base.proofs.Values.{not_below, value_at_le}
 use Rattle.sw_base.proofs.number.append.Goals as goal
 

@@ -1,4 +1,4 @@
-use Rattle.std.proofs.Common.{◌≡◌, length, arith, rules}
+use Rattle.std.proofs.Common.{◌≡◌, length, rules}
 use Rattle.sw_base.proofs.Numerals.{no_mark, no_digits}
 use Rattle.sw_base.proofs.number.exponent.Goals as goal
 

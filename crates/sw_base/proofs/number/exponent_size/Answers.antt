@@ -1,4 +1,4 @@
-use Rattle.std.proofs.Common.{◌≡◌, ◌*◌, ◌+◌, ◌≤◌, arith}
+use Rattle.std.proofs.Common.{arith}
 use Rattle.sw_base.proofs.Values.{value_at_le}
 use Rattle.sw_base.proofs.number.exponent_size.Goals as goal
 

@@ -1,4 +1,4 @@
-use Rattle.std.proofs.Common.{◌≡◌, length, arith, rules}
+use Rattle.std.proofs.Common.{◌≡◌, length, rules}
 use Rattle.sw_base.proofs.Numerals.{no_mantissa}
 use Rattle.sw_base.proofs.number.mantissa.Goals as goal
 

@@ -1,6 +1,5 @@
-use Rattle.std.proofs.Common.{◌≡◌, ◌+◌, ◌-◌, ◌≤◌, ◌++◌, length, sym, arith}
+use Rattle.std.proofs.Common.{◌-◌, length, sym, arith}
 use Rattle.std.proofs.lemmas.List.{append-nil}
-use Rattle.sw_base.specs.Number.{value_of}
 use Rattle.sw_base.proofs.Rounding.{left_near, left_far}
 use Rattle.sw_base.proofs.number.moved_left.Goals as goal
 

@@ -1,4 +1,4 @@
-use Rattle.std.proofs.Common.{◌≡◌, ◌*◌, ◌+◌, ◌-◌, ◌^◌, ◌≤◌, ◌++◌, length, refl, arith}
+use Rattle.std.proofs.Common.{◌*◌, ◌-◌, ◌^◌, ◌≤◌, ◌++◌, length, refl, arith}
 use Rattle.sw_base.specs.Number.{value_of}
 use Rattle.sw_base.proofs.Values.{two_runs, value_after-append, value_after-ge}
 use Rattle.sw_base.proofs.Rounding.{right_near, right_far, at_least}

@@ -1,5 +1,5 @@
-use Rattle.std.proofs.Common.{◌≡◌, ◌+◌, ◌++◌, ◌≤◌, ◌∙◌, refl, arith}
-use Rattle.sw_base.specs.Number.{value_of, value_after}
+use Rattle.std.proofs.Common.{refl, arith}
+use Rattle.sw_base.specs.Number.{value_of}
 use Rattle.sw_base.proofs.Values.{two_runs, one_more, value_after-append, value_after-ge, some_from, none_from}
 use Rattle.sw_base.proofs.number.nearest.Goals as goal
 

@@ -1,4 +1,3 @@
-use Rattle.std.proofs.Common.{◌≡◌, ◌∙◌, sym, inl, inr, arith}
 use Rattle.sw_base.proofs.Numerals.{one_number, one_refusal, not_both}
 use Rattle.sw_base.proofs.number.one_reading.Goals as goal
 

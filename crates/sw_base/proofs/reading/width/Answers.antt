@@ -1,6 +1,6 @@
-use Rattle.std.proofs.Common.{◌≡◌, ◌+◌, ◌≤◌, ◌^◌, ◌<◌, length, arith, lit<}
+use Rattle.std.proofs.Common.{◌≡◌, ◌≤◌, length, arith}
 use Rattle.std.specs.Fmt.{decimal}
-use Rattle.std.proofs.lemmas.Fmt.{length-decimal-le, decimal_nonempty}
+use Rattle.std.proofs.lemmas.Fmt.{length-decimal-le}
 use Rattle.sw_base.proofs.Printed.{length-decimal_step, length-decimal_digit}
 use Rattle.sw_base.proofs.reading.width.Goals as goal
 

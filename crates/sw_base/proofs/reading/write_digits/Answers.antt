@@ -1,4 +1,4 @@
-use Rattle.std.proofs.Common.{◌≡◌, ◌+◌, ◌-◌, ◌%◌, ◌≤◌, ◌++◌, ◌∙◌, length, take, drop, sym, refl, arith}
+use Rattle.std.proofs.Common.{◌≡◌, ◌+◌, ◌-◌, ◌%◌, ◌≤◌, ◌++◌, ◌∙◌, length, drop, sym, refl, arith}
 use Rattle.std.proofs.lemmas.List.{take-set-le, length-set, take-append-drop}
 use Rattle.sw_base.specs.Reading.{last_digits}
 use Rattle.sw_base.proofs.Printed.{one_digit, last_digits_none}

@@ -1,4 +1,4 @@
-use Rattle.std.proofs.Common.{◌<◌, length, arith}
+use Rattle.std.proofs.Common.{arith}
 use Rattle.std.proofs.lemmas.List.{take_more_set}
 use Rattle.sw_base.proofs.reading.write_minus.Goals as goal
 

@@ -1,4 +1,4 @@
-use Rattle.std.proofs.Common.{◌≡◌, ◌++◌, ◌∙◌, length, refl, arith}
+use Rattle.std.proofs.Common.{◌∙◌, refl, arith}
 use Rattle.sw_base.proofs.Printed.{last_digits-decimal}
 use Rattle.sw_base.proofs.reading.write_number.Goals as goal
 

@@ -1,6 +1,6 @@
-use Rattle.std.proofs.Common.{◌≡◌, ◌<◌, ◌≤◌, ◌∙◌, ℕ, ap, subst, true, refl, arith}
+use Rattle.std.proofs.Common.{◌≡◌, ◌<◌, ◌≤◌, ◌∙◌, ap, refl, arith}
 use Rattle.std.specs.Prelude.{unsigned_abs}
-use Rattle.sw_base.specs.Number.{value_of, with_sign, IsEnded, IsNumber}
+use Rattle.sw_base.specs.Number.{value_of, with_sign, IsEnded}
 use Rattle.sw_base.proofs.Numerals.{number_is, not_ended, size-with_sign, cast_back}
 use Rattle.sw_base.proofs.number.Nrf.read.Goals as goal
 

@@ -1,4 +1,4 @@
-use Rattle.std.proofs.Common.{◌≡◌, ◌<◌, ◌++◌, ◌∙◌, sym, ap, length, arith, rules}
+use Rattle.std.proofs.Common.{◌≡◌, ◌<◌, ◌∙◌, sym, ap, length, arith, rules}
 use Rattle.std.proofs.lemmas.List.{length-append}
 use Rattle.sw_base.specs.Number.{from_first}
 use Rattle.sw_base.proofs.Numerals.{from_first-zeros, from_first-some}
