@@ -1,4 +1,11 @@
-//! The whole state of the mainframe, one step per ask.
+//! The whole state of the mainframe, and the one call that changes it: one step for each ask.
+//!
+//! The crate's contract to the layers above: `Core::apply` answers and goes on as the relation `Step` of
+//! `specs/Step.antt` says, with one line for each legal pair of ask and answer. Over every run of such steps no absent
+//! channel is closed and no two closed channels clash; the laws in `laws.rt` say so, and what closing, opening, refusing,
+//! failing and ejecting come to.
+//!
+//! Errors are answered and not kept yet, and events aren't numbered. What a relay really does is its card's own word.
 #![tactic(auto)]
 
 mod ask;
