@@ -12,9 +12,11 @@ mod chan;
 mod error;
 mod reading;
 mod sequence;
+mod terms;
 
 pub use bytes::{blanks, cut, digits, eat, is_blank, is_digit, is_letter, is_word, words};
 pub use chan::Chan;
 pub use error::{NO_ERROR, ScpiError};
 pub use reading::Reading;
 pub use sequence::Sequence;
+pub use terms::{LayerName, Source, StatusGroup};

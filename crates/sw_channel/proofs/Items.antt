@@ -1,10 +1,10 @@
 -- Channels, items and lists: where their first mark stands, and that a text is written in one way.
-use Rattle.std.proofs.Common.{◌≡◌, ℕ, Bool, true, false, List, [], ◌∷◌, ◌++◌, refl, sym, ap, subst, ◌∙◌, ◌⊎◌, inl, inr}
+use Rattle.std.proofs.Common.{◌≡◌, ℕ, List, [], ◌∷◌, ◌++◌, refl, sym, ap, subst, ◌∙◌, ◌⊎◌, inl, inr}
 use Rattle.std.specs.Prelude.{◌↔◌}
 use Rattle.std.proofs.lemmas.List.{append_cancel_right}
 use Rattle.sw_base.specs.Text.{Lacks}
 use Rattle.sw_base.proofs.Runs.{Lacks-none}
-use Rattle.sw_channel.specs.Grammar.{Written, plain, pair, Item, one, range, IsNumber, IsJoined, IsChannel, IsItem, IsItems, IsList}
+use Rattle.sw_channel.specs.Grammar.{Written, plain, pair, Item, one, range, IsNumber, IsChannel, IsItem, IsItems, IsList}
 use Rattle.sw_channel.proofs.Marks.{IsMark, number_lacks, one_number, joined_none, joined_cut, joined_lacks}
 
 bang : IsMark 33

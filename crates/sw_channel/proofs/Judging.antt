@@ -1,5 +1,5 @@
 -- Judging the items from left to right: one after another, and what it gives in the end.
-use Rattle.std.proofs.Common.{◌≡◌, ℕ, ◌+◌, ◌-◌, ◌<◌, ◌≤◌, ◌≢◌, map, Bool, true, false, List, [], ◌∷◌, ◌++◌, length, refl, sym, ap, subst, ◌∙◌, append_assoc, arith, ◌⊎◌, inl, inr, lit≤}
+use Rattle.std.proofs.Common.{◌≡◌, ℕ, ◌+◌, ◌-◌, ◌<◌, ◌≤◌, ◌≢◌, map, true, false, List, [], ◌∷◌, ◌++◌, length, refl, sym, ap, subst, ◌∙◌, append_assoc, arith, ◌⊎◌, inl, inr, lit≤}
 use Rattle.std.specs.Prelude.{Option, Some, None, Result, Ok, Err, nat_le, IfOk}
 use Rattle.std.specs.Result.{result_map_both}
 use Rattle.std.specs.List.{range_with_len}
@@ -7,40 +7,17 @@ use Rattle.std.proofs.lemmas.Bool.{cases_Bool, leb-true, le-leb, lt-leb}
 use Rattle.std.proofs.lemmas.List.FromFn.{length-map-range_with_len, map-range_with_len_more}
 use Rattle.std.proofs.lemmas.List.{append-nil, length-append}
 use Rattle.sw_base.specs.Layout.{Channel}
-use Rattle.sw_base.specs.Memory.{Fails, Gives}
+use Rattle.sw_base.specs.Memory.{Gives}
 use Rattle.sw_base.specs.declared.error.ScpiError.{ScpiError}
-use Rattle.sw_base.specs.declared.error.ScpiError.TheVariants.{InvalidExpression, OutOfMemory, TooMuchData}
-use Rattle.sw_channel.specs.Grammar.{Item, IsList}
+use Rattle.sw_base.specs.declared.error.ScpiError.TheVariants.{InvalidExpression, DataOutOfRange, OutOfMemory, TooMuchData}
+use Rattle.sw_channel.specs.Grammar.{Item, IsItems, IsList}
 use Rattle.sw_channel.specs.Meaning.{channels_of, channels_between, count_between, towards, Mean, Spells, judged, judged_with}
 use Rattle.sw_channel.specs.Reading.{IsNoList, IsRefused, Reads}
-use Rattle.sw_channel.proofs.Items.{one_list}
-
--- ---- one item, and the rest
+use Rattle.sw_channel.specs.Seen.{LeadsTo, counted, Judges}
+use Rattle.sw_channel.proofs.Items.{one_list, list_body}
 
 abbrev done : List Channel → Result (List Channel) ScpiError
 done cs = Ok cs
-
-judged_on_at : (front more : List Channel) (o : Option (List Channel)) (is : List Item) → judged_with front o done ≡ Ok more → judged_with front o (λ cs. judged cs is) ≡ judged more is
-judged_on_at front more None is e = absurd cc
-judged_on_at front more (Some c) is e =
-    elim (cases_Bool (nat_le (length front + length c) 512)) [
-      | inl t ↦ let k : done (front ++ c) ≡ done more = rw t at e in let m : front ++ c ≡ more = cc in rw (t, m) refl
-      | inr t ↦ absurd (let k = rw t at e in cc)
-    ]
-
-judged_off_at : (front : List Channel) (o : Option (List Channel)) (is : List Item) (d : ScpiError) → judged_with front o done ≡ Err d → judged_with front o (λ cs. judged cs is) ≡ Err d
-judged_off_at front None is d e = e
-judged_off_at front (Some c) is d e =
-    elim (cases_Bool (nat_le (length front + length c) 512)) [
-      | inl t ↦ absurd (let k = rw t at e in cc)
-      | inr t ↦ let k = rw t at e in rw t k
-    ]
-
-pub judged_on : (front more : List Channel) (i : Item) (is : List Item) → judged front (i ∷ []) ≡ Ok more → judged front (i ∷ is) ≡ judged more is
-judged_on front more i is e = judged_on_at front more (channels_of i) is e
-
-pub judged_off : (front : List Channel) (i : Item) (is : List Item) (e : ScpiError) → Fails e (judged front (i ∷ [])) → Fails e (judged front (i ∷ is))
-judged_off front i is e f = elim f [ inl m ↦ inl m | inr r ↦ inr (judged_off_at front (channels_of i) is e r) ]
 
 -- ---- what judging gives
 
@@ -86,67 +63,140 @@ pub judged_err : (front : List Channel) (is : List Item) → judged front is ≡
 judged_err front [] e = cc
 judged_err front (i ∷ is) e = err_step front (channels_of i) (λ more. judged more is) (λ more. judged_err more is) e
 
-pub Fails-at : {e : ScpiError} {x y : Result (List Channel) ScpiError} → x ≡ y → Fails e x → Fails e y
-Fails-at {e} p f = elim f [ inl m ↦ inl m | inr r ↦ inr (sym p ∙ r) ]
+-- the channels of the first item, and what judging the rest gives
+pub ok_item : (front all : List Channel) (i : Item) (is : List Item) → judged front (i ∷ is) ≡ Ok all → (cs : List Channel) × (channels_of i ≡ Some cs) × (length front + length cs ≤ 512) × (judged (front ++ cs) is ≡ Ok all)
+ok_item front all i is e = ok_step front all (channels_of i) (λ more. judged more is) e
 
--- ---- what a whole text gives
+pub ok_last : (front all : List Channel) → judged front [] ≡ Ok all → front ≡ all
+ok_last front all e = okay front all e
 
-pub found_from : {X : Type 0} (view : X → List Channel) (r : Result X ScpiError) (text : List ℕ) (is : List Item) → IsList text is → Gives view r (judged [] is) → IfOk r (λ v. Spells text (view v) × (length (view v) ≤ 512))
-found_from view (Ok v) text is l g =
-    let j = judged_ok [] (view v) is g (lit≤ tt) in
-    ((is, l, subst (λ (cs : List Channel). Mean is cs) (sym j.1) j.2), j.3)
-found_from view (Err e) text is l g = tt
+-- ---- one answer to a text
 
-pub reads_from : {X : Type 0} (view : X → List Channel) (r : Result X ScpiError) (text : List ℕ) (is : List Item) → IsList text is → Gives view r (judged [] is) → Reads text (result_map_both view (λ e. e) r)
-reads_from view (Ok v) text is l g = found_from view (Ok v) text is l g
-reads_from view (Err e) text is l g = elim g [ inl m ↦ inl m | inr j ↦ inr (inr (is, l, j)) ]
+-- what a text gives, with any memory
+abbrev Gives-whole : List ℕ → Result (List Channel) ScpiError → Type 0
+Gives-whole text r = (IsNoList text × (r ≡ Err InvalidExpression)) ⊎ ((is : List Item) × IsList text is × (judged [] is ≡ r))
 
-pub no_syntax : {X : Type 0} (view : X → List Channel) (r : Result X ScpiError) (is : List Item) → Gives view r (judged [] is) → r ≡ Err InvalidExpression → ⊥
-no_syntax view (Ok v) is g e = cc
-no_syntax view (Err e) is g k =
-    elim g [
-      | inl m ↦ let n : e ≡ InvalidExpression = cc in let z : InvalidExpression ≡ OutOfMemory = sym n ∙ m in cc
-      | inr j ↦ let n : e ≡ InvalidExpression = cc in judged_err [] is (rw n at j)
+given_once : (text : List ℕ) (r s : Result (List Channel) ScpiError) → Gives-whole text r → Gives-whole text s → r ≡ s
+given_once text r s x y =
+    elim x [
+      | inl a ↦ elim y [ inl b ↦ a.1 ∙ sym b.1 | inr b ↦ absurd (a.0 b.0 b.1) ]
+      | inr a ↦ elim y [
+        | inl b ↦ absurd (b.0 a.0 a.1)
+        | inr b ↦ sym a.2 ∙ ap (λ (is : List Item). judged [] is) (one_list text a.0 b.0 a.1 b.1) ∙ b.2
+      ]
     ]
 
--- ---- one reading
+of_spelled : (text : List ℕ) (cs : List Channel) → Spells text cs → length cs ≤ 512 → Gives-whole text (Ok cs)
+of_spelled text cs h k = inr (h.0, h.1, ok_judged [] cs h.0 h.2 k)
 
--- but for want of memory, what a text reads as is what its items give
-reads_as : (text : List ℕ) (r : Result (List Channel) ScpiError) → Reads text r → r ≢ Err OutOfMemory → (IsNoList text × (r ≡ Err InvalidExpression)) ⊎ ((is : List Item) × IsList text is × (judged [] is ≡ r))
-reads_as text (Ok cs) h n = inr (h.0.0, h.0.1, ok_judged [] cs h.0.0 h.0.2 h.1)
-reads_as text (Err e) h n =
-    elim h [
-      | inl m ↦ absurd (n (ap Err m))
-      | inr f ↦ elim f [ inl x ↦ inl (x.0, ap Err x.1) | inr x ↦ inr x ]
-    ]
+of_refused : (text : List ℕ) (e : ScpiError) → IsRefused text e → Gives-whole text (Err e)
+of_refused text e h = elim h [ inl x ↦ inl (x.0, ap Err x.1) | inr x ↦ inr x ]
+
+of_read : (text : List ℕ) (r : Result (List Channel) ScpiError) → Reads text r → r ≢ Err OutOfMemory → Gives-whole text r
+of_read text (Ok cs) h n = of_spelled text cs h.0 h.1
+of_read text (Err e) h n = elim h [ inl f ↦ of_refused text e f | inr m ↦ absurd (n (ap Err m.0)) ]
 
 pub one_reading : (text : List ℕ) (r s : Result (List Channel) ScpiError) → Reads text r → Reads text s → r ≢ Err OutOfMemory → s ≢ Err OutOfMemory → r ≡ s
-one_reading text r s h k n m =
-    elim (reads_as text r h n) [
-      | inl x ↦ elim (reads_as text s k m) [
-          | inl y ↦ x.1 ∙ sym y.1
-          | inr y ↦ absurd (x.0 y.0 y.1)
-        ]
-      | inr x ↦ elim (reads_as text s k m) [
-          | inl y ↦ absurd (y.0 x.0 x.1)
-          | inr y ↦ sym x.2 ∙ ap (λ (is : List Item). judged [] is) (one_list text x.0 y.0 x.1 y.1) ∙ y.2
-        ]
+one_reading text r s h k n m = given_once text r s (of_read text r h n) (of_read text s k m)
+
+spelled_refused : (text : List ℕ) (cs : List Channel) (e : ScpiError) → Spells text cs → length cs ≤ 512 → IsRefused text e → ⊥
+spelled_refused text cs e h k f = let z : done cs ≡ Err e = given_once text (Ok cs) (Err e) (of_spelled text cs h k) (of_refused text e f) in cc
+
+abbrev refuse : ScpiError → Result (List Channel) ScpiError
+refuse e = Err e
+
+same_refusal : (text : List ℕ) (d e : ScpiError) → IsRefused text d → IsRefused text e → d ≡ e
+same_refusal text d e f g = let z : refuse d ≡ refuse e = given_once text (Err d) (Err e) (of_refused text d f) (of_refused text e g) in cc
+
+-- ---- what follows from a reading, at any view of what was read
+
+pub found_by : {X : Type 0} (view : X → List Channel) (r : Result X ScpiError) (text : List ℕ) → Reads text (result_map_both view (λ e. e) r) → IfOk r (λ v. Spells text (view v) × (length (view v) ≤ 512))
+found_by view (Ok v) text h = h
+found_by view (Err e) text h = tt
+
+pub refused_by : {X : Type 0} (view : X → List Channel) (r : Result X ScpiError) (text : List ℕ) → Reads text (result_map_both view (λ e. e) r) → (e : ScpiError) → IsRefused text e → r ≡ Err e
+refused_by view (Ok v) text h e f = absurd (spelled_refused text (view v) e h.0 h.1 f)
+refused_by view (Err d) text h e f =
+    elim h [
+      | inl g ↦ ap Err (same_refusal text d e g f)
+      | inr m ↦ absurd (spelled_refused text m.1.0 e m.1.1 m.1.2 f)
     ]
 
--- ---- one item that names a run of channels
+gives_by : {X : Type 0} (view : X → List Channel) (r : Result X ScpiError) (text : List ℕ) → Reads text (result_map_both view (λ e. e) r) → (all : Result (List Channel) ScpiError) → Gives-whole text all → Gives view r all
+gives_by view (Ok v) text h all g = given_once text all (Ok (view v)) g (of_spelled text (view v) h.0 h.1)
+gives_by view (Err e) text h all g =
+    elim h [
+      | inl f ↦ inr (given_once text all (Err e) g (of_refused text e f))
+      | inr m ↦ inl m.0
+    ]
+
+pub only_by : {X : Type 0} (view : X → List Channel) (r : Result X ScpiError) (text : List ℕ) → Reads text (result_map_both view (λ e. e) r) → (cs : List Channel) → Spells text cs → length cs ≤ 512 → Gives view r (Ok cs)
+only_by view r text h cs s k = gives_by view r text h (Ok cs) (of_spelled text cs s k)
+
+pub judged_by : {X : Type 0} (view : X → List Channel) (r : Result X ScpiError) (text : List ℕ) → Reads text (result_map_both view (λ e. e) r) → (is : List Item) → IsList text is → Gives view r (judged [] is)
+judged_by view r text h is l = gives_by view r text h (judged [] is) (inr (is, l, refl))
+
+no_list : (text : List ℕ) → IsRefused text InvalidExpression → IsNoList text
+no_list text f = elim f [ inl x ↦ x.0 | inr x ↦ absurd (judged_err [] x.0 x.2) ]
+
+pub malformed_by : {X : Type 0} (view : X → List Channel) (r : Result X ScpiError) (text : List ℕ) → Reads text (result_map_both view (λ e. e) r) → r ≡ Err InvalidExpression → IsNoList text
+malformed_by view (Ok v) text h k = absurd cc
+malformed_by view (Err e) text h k =
+    let n : e ≡ InvalidExpression = cc in
+    elim h [
+      | inl f ↦ no_list text (subst (λ (d : ScpiError). IsRefused text d) n f)
+      | inr m ↦ absurd (let z : InvalidExpression ≡ OutOfMemory = sym n ∙ m.0 in cc)
+    ]
+
+-- ---- judging without keeping the channels
+
+pub leads_none : (n : ℕ) (i : Item) (is : List Item) (all : Result (List Channel) ScpiError) → channels_of i ≡ None → LeadsTo (Ok n) (i ∷ is) all → all ≡ Err DataOutOfRange
+leads_none n i is all e h = let k = rw e at h.2 in sym k
 
 pub length-between : (slot first last : ℕ) → length (channels_between slot first last) ≡ count_between first last
 length-between slot first last = length-map-range_with_len (λ k. (slot, towards first last k)) 0 (count_between first last)
 
-pub run_fits : (front all : List Channel) (i : Item) (slot first last n : ℕ) → channels_of i ≡ Some (channels_between slot first last) → n ≡ count_between first last → length front ≤ 512 - n → n ≤ 99 → all ≡ front ++ channels_between slot first last → judged front (i ∷ []) ≡ Ok all
-run_fits front all i slot first last n e m h k a =
-    let room : nat_le (length front + length (channels_between slot first last)) 512 ≡ true = le-leb _ _ (omega (arith, h, k, m, length-between slot first last)) in
-    rw (e, room) (ap Ok (sym a))
+pub leads_fits : (n : ℕ) (i : Item) (is : List Item) (all : Result (List Channel) ScpiError) (slot first last more : ℕ) → channels_of i ≡ Some (channels_between slot first last) → more ≡ count_between first last → n ≤ 512 - more → more ≤ 99 → LeadsTo (Ok n) (i ∷ is) all → LeadsTo (Ok (n + more)) is all
+leads_fits n i is all slot first last more e m h k x =
+    let room : nat_le (length x.0 + length (channels_between slot first last)) 512 ≡ true = le-leb _ _ (omega (arith, h, k, m, x.1, length-between slot first last)) in
+    let y = rw (e, room) at x.2 in
+    (x.0 ++ channels_between slot first last, omega (arith, length-append x.0 (channels_between slot first last), length-between slot first last, m, x.1), y)
 
-pub run_full : (front : List Channel) (i : Item) (slot first last n : ℕ) → channels_of i ≡ Some (channels_between slot first last) → n ≡ count_between first last → 512 - n < length front → judged front (i ∷ []) ≡ Err TooMuchData
-run_full front i slot first last n e m h =
-    let full : nat_le (length front + length (channels_between slot first last)) 512 ≡ false = lt-leb _ _ (omega (arith, h, m, length-between slot first last)) in
-    rw (e, full) refl
+pub leads_full : (n : ℕ) (i : Item) (is : List Item) (all : Result (List Channel) ScpiError) (slot first last more : ℕ) → channels_of i ≡ Some (channels_between slot first last) → more ≡ count_between first last → 512 - more < n → LeadsTo (Ok n) (i ∷ is) all → all ≡ Err TooMuchData
+leads_full n i is all slot first last more e m h x =
+    let full : nat_le (length x.0 + length (channels_between slot first last)) 512 ≡ false = lt-leb _ _ (omega (arith, h, m, x.1, length-between slot first last)) in
+    let y = rw (e, full) at x.2 in sym y
+
+pub leads_done : (r : Result ℕ ScpiError) (all : Result (List Channel) ScpiError) → LeadsTo r [] all → r ≡ counted all
+leads_done (Ok n) all h = rw (← h.2) (ap Ok (sym h.1))
+leads_done (Err e) all h = rw h refl
+
+counted_ok : (all : Result (List Channel) ScpiError) (n : ℕ) → Ok n ≡ counted all → (cs : List Channel) × (all ≡ Ok cs)
+counted_ok (Ok cs) n e = (cs, refl)
+counted_ok (Err d) n e = absurd cc
+
+counted_err : (all : Result (List Channel) ScpiError) (e : ScpiError) → Err e ≡ counted all → all ≡ Err e
+counted_err (Ok cs) e k = absurd cc
+counted_err (Err d) e k = let z : d ≡ e = cc in ap Err z
+
+pub items_judged : (body : List ℕ) (n : ℕ) → Judges body (Ok n) → (is : List Item) × (cs : List Channel) × IsItems body is × (judged [] is ≡ Ok cs)
+items_judged body n h =
+    elim h [
+      | inl x ↦ absurd (let z = x.1 in cc)
+      | inr x ↦ let y = counted_ok (judged [] x.0) n x.2 in (x.0, y.0, x.1, y.1)
+    ]
+
+pub items_refused : (text body : List ℕ) (e : ScpiError) → text ≡ 40 ∷ 64 ∷ (body ++ 41 ∷ []) → Judges body (Err e) → IsRefused text e
+items_refused text body e t h =
+    elim h [
+      | inl x ↦ inl (λ is l. x.0 is (list_body body text is t l), let z = x.1 in cc)
+      | inr x ↦ inr (x.0, (body, x.1, t), counted_err (judged [] x.0) e x.2)
+    ]
+
+pub items_spelled : (text body : List ℕ) (is : List Item) (cs : List Channel) → text ≡ 40 ∷ 64 ∷ (body ++ 41 ∷ []) → IsItems body is → judged [] is ≡ Ok cs → Spells text cs × (length cs ≤ 512)
+items_spelled text body is cs t h e =
+    let j = judged_ok [] cs is e (lit≤ tt) in
+    ((is, (body, h, t), subst (λ (ds : List Channel). Mean is ds) (sym j.1) j.2), j.3)
 
 -- ---- the channels of a range, one after another
 

@@ -1,3 +1,4 @@
 pub mod Marks
 pub mod Items
 pub mod Judging
+pub mod Printed

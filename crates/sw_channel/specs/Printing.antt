@@ -24,5 +24,6 @@ printed_body (c ∷ cs) = printed_channel c ++ printed_others cs
 abbrev pub printed : List Channel → List ℕ
 printed cs = 40 ∷ 64 ∷ (printed_body cs ++ 41 ∷ [])
 
+-- slots are 1 to 8, channels 1 to 99
 abbrev pub InRange : Channel → Type 0
 InRange c = (1 ≤ c.0) × (c.0 ≤ 8) × (1 ≤ c.1) × (c.1 ≤ 99)

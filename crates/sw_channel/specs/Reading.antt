@@ -14,7 +14,7 @@ IsNoList text = (items : List Item) → IsList text items → ⊥
 abbrev pub IsRefused : List ℕ → ScpiError → Type 0
 IsRefused text e = (IsNoList text × (e ≡ InvalidExpression)) ⊎ ((items : List Item) × IsList text items × (judged [] items ≡ Err e))
 
--- the channels that the text spells, at most 512; or its first refusal, or want of memory
+-- The channels that the text spells, at most 512; or its first refusal; or want of memory for such channels.
 abbrev pub Reads : List ℕ → Result (List Channel) ScpiError → Type 0
 Reads text (Ok cs) = Spells text cs × (length cs ≤ 512)
-Reads text (Err e) = (e ≡ OutOfMemory) ⊎ IsRefused text e
+Reads text (Err e) = IsRefused text e ⊎ ((e ≡ OutOfMemory) × ((cs : List Channel) × Spells text cs × (length cs ≤ 512)))

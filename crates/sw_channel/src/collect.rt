@@ -1,12 +1,14 @@
-//! From what is written to the channels that it names.
+//! From what is written to the channels that it names: judged first, without memory, then collected.
 
-ghost use Rattle.std.specs.Prelude.{◌≡◌, ◌≤◌, ◌∷◌, ◌++◌, List, [], length, OnOk, Some};
+ghost use Rattle.std.specs.Prelude.{◌≡◌, ◌≤◌, ◌∷◌, ◌++◌, List, [], Result, IfOk, OnOk, Some, Ok, Err};
 ghost use Rattle.std.specs.Option.{option_map};
-ghost use Rattle.sw_base.specs.Memory.{Gives};
+ghost use Rattle.std.specs.Result.{ForOk};
+ghost use Rattle.sw_base.specs.Layout.{Channel};
 ghost use Rattle.sw_base.specs.Text.{AllPass, is_digit};
+ghost use Rattle.sw_base.specs.declared.error.ScpiError.{ScpiError as Error};
 ghost use Rattle.sw_channel.specs.Grammar.{Item, IsItem, IsItems};
 ghost use Rattle.sw_channel.specs.Meaning.{number_of, channel_at, channel_of, channels_of, judged};
-ghost use Rattle.sw_channel.specs.Seen.{place_seen, entry_seen, AreDigits, AreAllDigits, channels_in};
+ghost use Rattle.sw_channel.specs.Seen.{place_seen, entry_seen, AreDigits, AreAllDigits, channels_in, LeadsTo, Judges};
 
 use crate::parse::read_entry;
 use crate::run::Run;
@@ -69,12 +71,66 @@ fn run_of(entry: Entry<'_>) -> Option<Run>
     match entry {
         Entry::One(p) => {
             let chan = channel_of(p)?;
-            Some(Run { first: chan, last: chan })
+            Some(Run {
+                first: chan,
+                last: chan,
+            })
         }
         Entry::Range(p, q) => {
             let first = channel_of(p)?;
             let last = channel_of(q)?;
-            if first.slot() == last.slot() { Some(Run { first, last }) } else { None }
+            if first.slot() == last.slot() {
+                Some(Run { first, last })
+            } else {
+                None
+            }
+        }
+    }
+}
+
+/// What is found after one more item: how many channels all name, or the first refusal.
+fn judge_entry(found: Result<usize, ScpiError>, entry: Entry<'_>) -> Result<usize, ScpiError>
+    requires digits { AreAllDigits (entry_seen entry) }
+    requires within { ForOk found (λ n. n ≤ 512) }
+    ensures leads { (is : List Item) (all : Result (List Channel) Error) → LeadsTo found (entry_seen entry.entry ∷ is) all → LeadsTo result is all }
+    ensures within { IfOk result (λ n. n ≤ 512) }
+{
+    match found {
+        Err(e) => Err(e),
+        Ok(count) => match run_of(entry) {
+            None => Err(ScpiError::DataOutOfRange),
+            Some(run) => {
+                let more = run.count() as usize;
+                if count > LIST_LIMIT - more {
+                    return Err(ScpiError::TooMuchData);
+                }
+                Ok(count + more)
+            }
+        },
+    }
+}
+
+/// How many channels the items of a list name, or the first refusal.
+pub fn judge(text: &[u8]) -> Result<usize, ScpiError>
+    ensures { Judges text.now result }
+{
+    let mut rest = text;
+    let mut found = Ok(0);
+    'list: loop {
+        match cut(rest, b',') {
+            None => {
+                return match read_entry(rest) {
+                    None => Err(ScpiError::InvalidExpression),
+                    Some(entry) => judge_entry(found, entry),
+                };
+            }
+            Some((first, others)) => match read_entry(first) {
+                None => return Err(ScpiError::InvalidExpression),
+                Some(entry) => {
+                    found = judge_entry(found, entry);
+                    rest = others;
+                }
+            },
         }
     }
 }
@@ -86,9 +142,7 @@ fn push_run(chans: &mut Vec<Chan>, run: &Run) -> Result<(), AllocError>
     let slot = run.first.slot();
     let from = run.first.ch();
     let to = run.last.ch();
-    let count = run.count();
-    chans.reserve(count as usize)?;
-    for k in 0..count {
+    for k in 0..run.count() {
         let ch = if from <= to { from + k } else { from - k };
         chans.push(Chan::new(slot, ch))?;
     }
@@ -96,30 +150,21 @@ fn push_run(chans: &mut Vec<Chan>, run: &Run) -> Result<(), AllocError>
 }
 
 /// Adds the channels of the item that the text writes.
-fn push_item(chans: &mut Vec<Chan>, text: &[u8]) -> Result<(), ScpiError>
-    requires { (i : Item) × IsItem text.now i }
-    ensures { (i : Item) → IsItem text.now i → Gives (λ _. chans.new.items) result (judged chans.old.items (i ∷ [])) }
+fn push_item(chans: &mut Vec<Chan>, text: &[u8]) -> Result<(), AllocError>
+    requires { (i : Item) × (cs : List Channel) × IsItem text.now i × (channels_of i ≡ Some cs) }
+    ensures { (i : Item) (cs : List Channel) → IsItem text.now i → channels_of i ≡ Some cs → OnOk result (chans.new.items ≡ chans.old.items ++ cs) }
 {
     let entry = read_entry(text).unwrap();
-    match run_of(entry) {
-        None => Err(ScpiError::DataOutOfRange),
-        Some(run) => {
-            let count = run.count() as usize;
-            if chans.len() > LIST_LIMIT - count {
-                return Err(ScpiError::TooMuchData);
-            }
-            push_run(chans, &run)?;
-            Ok(())
-        }
-    }
+    let run = run_of(entry).unwrap();
+    push_run(chans, &run)
 }
 
-/// The channels of the items that the text writes.
-pub fn collect(alloc: Global, text: &[u8]) -> Result<Vec<Chan>, ScpiError>
-    requires { (is : List Item) × IsItems text.now is }
-    ensures { (is : List Item) → IsItems text.now is → Gives (λ v. v.items) result (judged [] is) }
+/// The channels of the items that the text writes, which are `count`.
+pub fn collect(alloc: Global, text: &[u8], count: usize) -> Result<Vec<Chan>, AllocError>
+    requires { (is : List Item) × (cs : List Channel) × IsItems text.now is × (judged [] is ≡ Ok cs) }
+    ensures { (is : List Item) (cs : List Channel) → IsItems text.now is → judged [] is ≡ Ok cs → IfOk result (λ v. v.items ≡ cs) }
 {
-    let mut chans = Vec::new(alloc);
+    let mut chans = Vec::with_capacity(alloc, count)?;
     let mut rest = text;
     'list: loop {
         match cut(rest, b',') {

@@ -1,4 +1,4 @@
-//! From bytes to what is written: numbers, channels, items, and whether a whole text is a list.
+//! From bytes to what is written: numbers, channels, items, and the body of a list.
 
 ghost use Rattle.std.specs.Prelude.{◌≡◌, ◌↔◌, ◌∷◌, ◌++◌, List, [], ℕ, IfSome, IfNone, IsTrue};
 ghost use Rattle.sw_channel.specs.Grammar.{Written, Item, IsNumber, IsChannel, IsItem, IsItems};
@@ -61,27 +61,6 @@ pub fn read_entry(text: &[u8]) -> Option<Entry<'_>>
                 Some(q) => Some(Entry::Range(p, q)),
             },
         },
-    }
-}
-
-/// Whether the text is one item or more, joined by commas.
-pub fn are_entries(text: &[u8]) -> bool
-    ensures { IsTrue result ↔ ((is : List Item) × IsItems text.now is) }
-{
-    let mut rest = text;
-    'list: loop {
-        match cut(rest, b',') {
-            None => {
-                return match read_entry(rest) {
-                    None => false,
-                    Some(_) => true,
-                };
-            }
-            Some((first, others)) => match read_entry(first) {
-                None => return false,
-                Some(_) => rest = others,
-            },
-        }
     }
 }
 

@@ -5,13 +5,13 @@ ghost use Rattle.std.specs.Result.{result_map_both};
 ghost use Rattle.sw_base.specs.Layout.{Channel};
 ghost use Rattle.sw_base.specs.Memory.{Gives};
 ghost use Rattle.sw_base.specs.declared.error.ScpiError.{ScpiError as Error};
-ghost use Rattle.sw_base.specs.declared.error.ScpiError.TheVariants.{InvalidExpression, OutOfMemory};
+ghost use Rattle.sw_base.specs.declared.error.ScpiError.TheVariants.{OutOfMemory};
 ghost use Rattle.sw_channel.specs.Grammar.{Item, IsList};
 ghost use Rattle.sw_channel.specs.Meaning.{Spells, judged};
-ghost use Rattle.sw_channel.specs.Reading.{Reads, IsNoList};
+ghost use Rattle.sw_channel.specs.Reading.{Reads, IsRefused, IsNoList};
 
-use crate::collect::collect;
-use crate::parse::{are_entries, body_of};
+use crate::collect::{collect, judge};
+use crate::parse::body_of;
 use std::alloc::Global;
 use sw_base::{Chan, ScpiError};
 
@@ -26,34 +26,40 @@ use sw_base::{Chan, ScpiError};
 /// - then item by item `DataOutOfRange` for a number of more than nine digits, a slot outside 1 to 8, a channel
 ///   outside 1 to 99 or a range over two slots, and `TooMuchData` for a 513th channel.
 ///
-/// `OutOfMemory` comes where the list that is returned could not grow.
+/// `OutOfMemory` comes where a list that has none of these finds no room.
 pub fn read_list(alloc: Global, text: &[u8]) -> Result<Vec<Chan>, ScpiError>
-    // The answer is what the text spells, its first refusal, or want of memory.
+    // The answer is what the text spells, its first refusal, or want of memory for what it spells.
     ensures reads { Reads text.now (result_map_both (λ v. v.items) (λ e. e) result) }
     // What is read is spelled so.
     ensures found { IfOk result (λ v. Spells text.now v.items × (length v.items ≤ 512)) }
     // What is spelled so is read, unless memory runs out.
     ensures only { (cs : List Channel) → Spells text.now cs → length cs ≤ 512 → Gives (λ v. v.items) result (Ok cs) }
+    // What is refused is refused so, however much memory there is.
+    ensures refused { (e : Error) → IsRefused text.now e → result ≡ Err e }
     // A text that is written right gives its channels or its first refusal, unless memory runs out.
     ensures judged { (is : List Item) → IsList text.now is → Gives (λ v. v.items) result (judged [] is) }
     // Any other text, and no other, is no list.
     ensures malformed { (result ≡ Err ScpiError.InvalidExpression) ↔ IsNoList text.now }
 {
+    read(alloc, text)
+}
+
+/// The answer to the text, from which all that `read_list` ensures follows.
+fn read(alloc: Global, text: &[u8]) -> Result<Vec<Chan>, ScpiError>
+    ensures { Reads text.now (result_map_both (λ v. v.items) (λ e. e) result) }
+{
     match body_of(text) {
         None => Err(ScpiError::InvalidExpression),
-        Some(body) => {
-            if are_entries(body) {
-                collect(alloc, body)
-            } else {
-                Err(ScpiError::InvalidExpression)
-            }
-        }
+        Some(body) => match judge(body) {
+            Err(e) => Err(e),
+            Ok(count) => Ok(collect(alloc, body, count)?),
+        },
     }
 }
 
 /// A law: but for want of memory there is one answer to a text. No text spells two lists, nor a list of at most 512
-/// and a refusal, nor has it two first refusals.
+/// and a refusal, nor has it two first refusals; and what is refused is refused with any memory.
 pub fn one_reading()
-    ensures { (text : List ℕ) (r s : Result (List Channel) Error) → Reads text r → Reads text s → r ≢ Err OutOfMemory → s ≢ Err OutOfMemory → r ≡ s }
-{
-}
+    ensures one { (text : List ℕ) (r s : Result (List Channel) Error) → Reads text r → Reads text s → r ≢ Err OutOfMemory → s ≢ Err OutOfMemory → r ≡ s }
+    ensures refused { (text : List ℕ) (e : Error) (r : Result (List Channel) Error) → IsRefused text e → Reads text r → r ≡ Err e }
+{}

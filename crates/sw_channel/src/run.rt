@@ -21,6 +21,10 @@ impl Run {
     {
         let from = self.first.ch();
         let to = self.last.ch();
-        if from <= to { to - from + 1 } else { from - to + 1 }
+        if from <= to {
+            to - from + 1
+        } else {
+            from - to + 1
+        }
     }
 }

@@ -1,25 +1,27 @@
-use Rattle.std.proofs.Common.{arith, refl, inl, inr, ap, ◌∙◌, ◌≡◌, Some}
+use Rattle.std.proofs.Common.{◌≡◌, ◌∙◌, ◌++◌, List, sym, ap, subst, rules}
+use Rattle.std.specs.Prelude.{Option, Some, None, IsSome, OnOk}
+use Rattle.std.proofs.lemmas.Option.{same_Some}
+use Rattle.sw_base.specs.Layout.{Channel}
+use Rattle.sw_channel.specs.declared.run.Run.{Run}
 use Rattle.std.specs.Option.{option_map}
 use Rattle.sw_channel.specs.Meaning.{channels_of}
 use Rattle.sw_channel.specs.Seen.{channels_in}
 use Rattle.sw_channel.proofs.Items.{one_item}
-use Rattle.sw_channel.proofs.Judging.{run_fits, run_full}
 use Rattle.sw_channel.proofs.collect.push_item.Goals as goal
 
-pub returns-in-None : goal.returns-in-None
-returns-in-None c i h =
-    let f = rw c.unwrap-entry.ensures at c.read_entry.ensures.found in
-    let e = one_item _ i _ h f in
-    rw (e, c.run_of.ensures, c.in-None.is) (inr refl)
+named : (o : Option Run) (cs : List Channel) → option_map channels_in o ≡ Some cs → IsSome o
+named None cs e = absurd cc
+named (Some r) cs e = search rules
 
-pub returns-then-len-count : goal.returns-then-len-count
-returns-then-len-count c i h =
+pub unwrap-run-requires : goal.unwrap-run-requires
+unwrap-run-requires c =
     let f = rw c.unwrap-entry.ensures at c.read_entry.ensures.found in
-    let named : channels_of i ≡ option_map channels_in c.run_of.result = ap channels_of (one_item _ i _ h f) ∙ c.run_of.ensures in
-    inr (run_full _ i _ _ _ _ (rw c.in-Some.is at named) c.count-count.ensures.value (omega arith))
+    let e : option_map channels_in c.run_of.result ≡ Some c.requires.1 = sym c.run_of.ensures ∙ ap channels_of (one_item _ _ c.requires.0 f c.requires.2) ∙ c.requires.3 in
+    named _ _ e
 
-pub returns-in_ok-push_run-in-Some : goal.returns-in_ok-push_run-in-Some
-returns-in_ok-push_run-in-Some c i h =
+pub returns : goal.returns
+returns c i cs h n =
     let f = rw c.unwrap-entry.ensures at c.read_entry.ensures.found in
-    let named : channels_of i ≡ option_map channels_in c.run_of.result = ap channels_of (one_item _ i _ h f) ∙ c.run_of.ensures in
-    run_fits _ _ i _ _ _ _ (rw c.in-Some.is at named) c.count-count.ensures.value (omega arith) c.count-count.ensures.range c.in_ok-push_run-in-Some.ensures
+    let e : option_map channels_in c.run_of.result ≡ Some cs = sym c.run_of.ensures ∙ ap channels_of (one_item _ _ i f h) ∙ n in
+    let k = same_Some _ cs (rw c.unwrap-run.ensures at e) in
+    subst (λ (ds : List Channel). OnOk c.push_run.result (c.push_run.new.chans.items ≡ c.args.chans.now.items ++ ds)) k c.push_run.ensures

@@ -1,24 +1,18 @@
-use Rattle.std.proofs.Common.{refl, subst, sym, ◌++◌, ◌∷◌, []}
-use Rattle.sw_channel.proofs.Items.{list_body}
-use Rattle.sw_channel.proofs.Judging.{found_from, reads_from, no_syntax, ok_judged}
+use Rattle.sw_channel.proofs.Judging.{found_by, only_by, refused_by, judged_by, malformed_by}
+use Rattle.std.proofs.Common.{refl, inl}
 use Rattle.sw_channel.proofs.read.read_list.Goals as goal
 
-pub returns-then-are_entries-clause-reads : goal.returns-then-are_entries-clause-reads
-returns-then-are_entries-clause-reads c =
-    let p = c.if-are_entries.ensures.0 refl in
-    reads_from _ _ _ p.0 (_, p.1, c.in-Some.ensures.found) (c.collect.ensures p.0 p.1)
+pub returns-clause-found : goal.returns-clause-found
+returns-clause-found c = found_by _ _ _ c.read.ensures
 
-pub returns-then-are_entries-clause-found : goal.returns-then-are_entries-clause-found
-returns-then-are_entries-clause-found c =
-    let p = c.if-are_entries.ensures.0 refl in
-    found_from _ _ _ p.0 (_, p.1, c.in-Some.ensures.found) (c.collect.ensures p.0 p.1)
+pub returns-clause-only : goal.returns-clause-only
+returns-clause-only c = only_by _ _ _ c.read.ensures
 
-pub returns-then-are_entries-clause-only : goal.returns-then-are_entries-clause-only
-returns-then-are_entries-clause-only c cs s h =
-    let p = list_body _ _ s.0 c.in-Some.ensures.found s.1 in
-    rw (ok_judged [] cs s.0 s.2 h) at (c.collect.ensures s.0 p)
+pub returns-clause-refused : goal.returns-clause-refused
+returns-clause-refused c = refused_by _ _ _ c.read.ensures
 
-pub returns-then-are_entries-clause-malformed : goal.returns-then-are_entries-clause-malformed
-returns-then-are_entries-clause-malformed c =
-    let p = c.if-are_entries.ensures.0 refl in
-    (λ e is l. no_syntax _ _ p.0 (c.collect.ensures p.0 p.1) e, λ h. absurd (h p.0 (_, p.1, c.in-Some.ensures.found)))
+pub returns-clause-judged : goal.returns-clause-judged
+returns-clause-judged c = judged_by _ _ _ c.read.ensures
+
+pub returns-clause-malformed : goal.returns-clause-malformed
+returns-clause-malformed c = (malformed_by _ _ _ c.read.ensures, λ h. refused_by _ _ _ c.read.ensures _ (inl (h, refl)))
