@@ -1,7 +1,8 @@
 //! What follows from the contract of a talk.
 
-ghost use Rattle.sw_session.specs.Law.{TalkIsDetermined};
+ghost use Rattle.sw_session.specs.Law.{TalkIsDetermined, CoreTalkIsDetermined};
 
+use sw_core::step_is_determined;
 use sw_lex::{one_meaning, one_reading};
 
 /// A law: what a session asks and writes is determined by its message and by what it is answered, where no growth is
@@ -11,4 +12,13 @@ pub fn talk_is_determined()
 {
     one_reading();
     one_meaning();
+}
+
+/// A law: over a mainframe the message alone determines what is written and the state that is left, where no growth is
+/// refused and no card fails.
+pub fn core_talk_is_determined()
+    ensures { CoreTalkIsDetermined }
+{
+    step_is_determined();
+    talk_is_determined();
 }
