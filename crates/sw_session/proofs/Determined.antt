@@ -4,7 +4,7 @@ use Rattle.std.specs.Prelude.{◌==◌, nat_lt}
 use Rattle.sw_base.specs.declared.error.ScpiError.{ScpiError}
 use Rattle.sw_base.specs.declared.error.ScpiError.TheVariants.{SettingsConflict, OutOfMemory, InputBufferOverrun}
 use Rattle.sw_lex.specs.declared.command.Command.{Command}
-use Rattle.sw_lex.specs.Unit.{UnitView}
+use Rattle.sw_lex.specs.Unit.{UnitView, IsUnit, IsRefused, IsBlank}
 use Rattle.sw_lex.specs.Meaning.{Nodes, Resolves}
 use Rattle.sw_core.specs.declared.ask.Sid.{Sid}
 use Rattle.sw_core.specs.declared.ask.SessionAsk.{SessionAsk}
@@ -18,7 +18,7 @@ use Rattle.sw_session.specs.declared.talker.After.TheVariants.{Goes, Drops, Ends
 use Rattle.sw_session.specs.Trace.{Entry, Asked, Waited}
 use Rattle.sw_session.specs.Script.{Ending, Complete, Refuses, Unread, IsScript}
 use Rattle.sw_session.specs.Talk.{Queues, Settles, Begins, Concludes, Serves, Proceeds, Talks, TalksUnits, Overruns, queued, after_of, has_answers, written, longest, turns}
-use Rattle.sw_session.specs.Law.{IsAmple, AllAmple, SameTalk, ReadsOnce, TalkIsDetermined}
+use Rattle.sw_session.specs.Law.{IsAmple, AllAmple, SameTalk, TalkIsDetermined}
 
 -- the rests are the same talk, and ample
 abbrev Rests : List ℕ → List ℕ → List Entry → List Entry → Type 0
@@ -163,6 +163,15 @@ serves-ample sid command answers t r after told m (f, mid, p, k) is =
     no-loss sid t mid f m (subst (λ (c : Result Command ScpiError). Begins sid (has_answers answers) c t f mid) is p)
 
 -- ---- the units
+
+-- A text is read in one way, and a unit has one meaning, where memory suffices.
+pub record ReadsOnce : Type 0 where
+  pub unit : (text rest rest' : List ℕ) (u u' : UnitView) → IsUnit text u rest → IsUnit text u' rest' → (u ≡ u') × (rest ≡ rest')
+  pub error : (text : List ℕ) (e e' : ScpiError) → IsRefused text e → IsRefused text e' → e ≡ e'
+  pub unit_or_blank : (text rest : List ℕ) (u : UnitView) → IsUnit text u rest → IsBlank text → ⊥
+  pub unit_or_error : (text rest : List ℕ) (u : UnitView) (e : ScpiError) → IsUnit text u rest → IsRefused text e → ⊥
+  pub blank_or_error : (text : List ℕ) (e : ScpiError) → IsBlank text → IsRefused text e → ⊥
+  pub command : (u : UnitView) (path : Nodes) (c c' : Result Command ScpiError) (p p' : Nodes) → Resolves u path c p → Resolves u path c' p' → (c ≡ Err OutOfMemory → ⊥) → (c' ≡ Err OutOfMemory → ⊥) → (c ≡ c') × (p ≡ p')
 
 proceeds-same : (b b' : List ℕ) (on on' : List (List ℕ) → List Entry → Type 0) (step : After) (so_far : List (List ℕ)) (mid mid' r r' : List Entry) (after after' : After) (told told' : List (List ℕ)) → Proceeds on step so_far mid after told r → Proceeds on' step so_far mid' after' told' r'
     → (after ≡ after' → told ≡ told' → Rests b b' r r') → (on so_far mid → on' so_far mid' → Rests b b' mid mid') → Rests b b' mid mid'

@@ -2,3 +2,4 @@ pub mod Led
 pub mod Lines
 pub mod Talks
 pub mod Determined
+pub mod CoreTalk

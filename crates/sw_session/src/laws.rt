@@ -1,9 +1,24 @@
 //! What follows from the contract of a talk.
 
-ghost use Rattle.sw_session.specs.Law.{ReadsOnce, TalkIsDetermined};
+ghost use Rattle.sw_session.specs.Law.{TalkIsDetermined, CoreTalkIsDetermined};
 
-/// What a session asks and writes is determined by its message and by what it is answered, where no growth is refused,
-/// as long as a text is read in one way.
+use sw_core::step_is_determined;
+use sw_lex::{one_meaning, one_reading};
+
+/// A law: what a session asks and writes is determined by its message and by what it is answered, where no growth is
+/// refused.
 pub fn talk_is_determined()
-    ensures { ReadsOnce → TalkIsDetermined }
-{}
+    ensures { TalkIsDetermined }
+{
+    one_reading();
+    one_meaning();
+}
+
+/// A law: over a mainframe the message alone determines what is written and the state that is left, where no growth is
+/// refused and no card fails.
+pub fn core_talk_is_determined()
+    ensures { CoreTalkIsDetermined }
+{
+    step_is_determined();
+    talk_is_determined();
+}
