@@ -1,3 +1,4 @@
 mod Known
 mod Lines
 mod Runs
+mod Determined

@@ -1,3 +1,4 @@
 pub mod Cards
 pub mod Lines
 pub mod Run
+pub mod Law

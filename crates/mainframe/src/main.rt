@@ -7,6 +7,7 @@
 
 mod cards;
 mod fault;
+mod laws;
 mod run;
 #[cfg(test)]
 mod tests;
