@@ -6,8 +6,8 @@ use Rattle.std.proofs.lemmas.Bool.Decides.{Decides-eqb, Decides-and, Decides-lik
 use Rattle.std.proofs.lemmas.Slice.Eq.{slice_eq-Decides}
 use denote.Enum.Bare.{sameb, same_true, true_same}
 use Rattle.sw_base.specs.Layout.{Channel}
-use Rattle.sw_trigger.specs.contracts.layer.Source.{the_type}
-use Rattle.sw_trigger.specs.declared.layer.Source.{Source}
+use Rattle.sw_base.specs.contracts.terms.Source.{the_type}
+use Rattle.sw_base.specs.declared.terms.Source.{Source}
 use Rattle.sw_trigger.specs.declared.layer.Layer.{Layer}
 use Rattle.sw_trigger.specs.Settings.{Setup}
 

@@ -2,10 +2,10 @@
 -- the order of the layers is this instrument's own.
 use Rattle.std.specs.Prelude.{ℕ, zero, suc, ◌%◌, ◌==◌, List, [], ◌∷◌, ◌++◌, length, map, take, slice_index_or, if◌then◌else◌}
 use Rattle.sw_base.specs.Layout.{Channel}
-use Rattle.sw_trigger.specs.declared.layer.Source.{Source}
-use Rattle.sw_trigger.specs.declared.layer.Source.TheVariants.{Immediate, Bus, External, Hold}
-use Rattle.sw_trigger.specs.declared.layer.LayerName.{LayerName}
-use Rattle.sw_trigger.specs.declared.layer.LayerName.TheVariants.{Arm1, Arm2, Trigger}
+use Rattle.sw_base.specs.declared.terms.Source.{Source}
+use Rattle.sw_base.specs.declared.terms.Source.TheVariants.{Immediate, Bus, External, Hold}
+use Rattle.sw_base.specs.declared.terms.LayerName.{LayerName}
+use Rattle.sw_base.specs.declared.terms.LayerName.TheVariants.{Arm1, Arm2, Trigger}
 use Rattle.sw_trigger.specs.declared.layer.Layer.{Layer}
 use Rattle.sw_trigger.specs.declared.layer.Awaited.{Awaited}
 use Rattle.sw_trigger.specs.declared.layer.Awaited.TheVariants.{Wait, Pause, Read}

@@ -2,9 +2,9 @@
 -- the room for readings.
 use Rattle.std.specs.Prelude.{ℕ, ◌≤◌, List, [], length}
 use Rattle.sw_base.specs.Layout.{Channel}
-use Rattle.sw_trigger.specs.declared.layer.Source.TheVariants.{Immediate}
-use Rattle.sw_trigger.specs.declared.layer.LayerName.{LayerName}
-use Rattle.sw_trigger.specs.declared.layer.LayerName.TheVariants.{Arm1, Arm2, Trigger}
+use Rattle.sw_base.specs.declared.terms.Source.TheVariants.{Immediate}
+use Rattle.sw_base.specs.declared.terms.LayerName.{LayerName}
+use Rattle.sw_base.specs.declared.terms.LayerName.TheVariants.{Arm1, Arm2, Trigger}
 use Rattle.sw_trigger.specs.declared.layer.Layer.{Layer}
 
 -- the settings as callers see them

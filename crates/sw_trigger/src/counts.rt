@@ -2,12 +2,13 @@
 
 ghost use Rattle.std.specs.Prelude.{◌≡◌, ◌≤◌, ◌↔◌, length, IsNone};
 ghost use Rattle.std.specs.List.{slice_get};
-ghost use Rattle.sw_trigger.specs.declared.layer.LayerName.TheVariants.{Arm1, Arm2};
+ghost use Rattle.sw_base.specs.declared.terms.LayerName.TheVariants.{Arm1, Arm2};
 ghost use Rattle.sw_trigger.specs.Agenda.{agenda, head_of};
 ghost use Rattle.sw_trigger.specs.Counts.{awaiting, bound_of, readings_of, in_pass, in_arm2, in_arm1};
 
-use crate::layer::{Awaited, Layer, LayerName, Source};
+use crate::layer::{Awaited, Layer};
 use crate::settings::Settings;
+use sw_base::{LayerName, Source};
 
 impl Settings {
     /// How many things a scan awaits; 0 where nothing is listed.

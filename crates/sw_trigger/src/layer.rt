@@ -1,26 +1,6 @@
-//! The layers of the trigger model.
+//! One layer of the trigger model, and what a scan awaits.
 
-/// Where a layer's wait takes its trigger from (SCPI-1999, chapter 24, SOURce).
-#[derive(Clone, Copy, Debug, PartialEq, Eq)]
-pub enum Source {
-    /// No wait: the layer is passed at once.
-    Immediate,
-    /// A bus trigger: `*TRG`, or the interface's trigger message.
-    Bus,
-    /// The external trigger input.
-    External,
-    /// Nothing but the layer's own SIGNal command.
-    Hold,
-}
-
-/// A layer of the ARM-TRIGger model (SCPI-1999, chapter 24). That ARM layer 1 is the outermost, then ARM layer 2, then
-/// TRIGger, is this instrument's own.
-#[derive(Clone, Copy, Debug, PartialEq, Eq)]
-pub enum LayerName {
-    Arm1,
-    Arm2,
-    Trigger,
-}
+use sw_base::{LayerName, Source};
 
 /// One layer: how often it is passed each time that it is entered, and after which trigger and delay each time.
 #[derive(Clone, Copy, Debug, PartialEq, Eq)]

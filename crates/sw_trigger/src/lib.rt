@@ -14,5 +14,5 @@ mod settings;
 #[cfg(test)]
 mod tests;
 
-pub use layer::{Awaited, Layer, LayerName, Source};
+pub use layer::{Awaited, Layer};
 pub use settings::Settings;

@@ -5,10 +5,10 @@ ghost use Rattle.sw_base.specs.declared.error.ScpiError.TheVariants.{DataOutOfRa
 ghost use Rattle.sw_trigger.specs.Settings.{IsInRange, IsLayer, layer_of, with_layer, most_of, longest_delay, at_reset};
 ghost use Rattle.sw_trigger.specs.Agenda.{channel_at, used_of};
 
-use crate::layer::{Layer, LayerName, Source};
+use crate::layer::Layer;
 use std::alloc::{AllocError, Global};
 use std::marker::Model;
-use sw_base::{Chan, ScpiError};
+use sw_base::{Chan, LayerName, ScpiError, Source};
 
 /// The longest delay of a layer, an hour in microseconds.
 const LONGEST_DELAY: u64 = 3_600_000_000;

@@ -1,9 +1,9 @@
 //! Worked settings, with what they come to.
 
-use crate::{Awaited, LayerName, Settings, Source};
+use crate::{Awaited, Settings};
 use std::alloc::{AllocError, Global};
 use std::test::Fail;
-use sw_base::{Chan, ScpiError};
+use sw_base::{Chan, LayerName, ScpiError, Source};
 
 /// Twice through ARM layer 1 by the bus, three passes each, with half a second before each reading.
 fn worked(alloc: Global) -> Result<Settings, Fail> {

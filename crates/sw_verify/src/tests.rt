@@ -3,8 +3,8 @@
 use crate::{Layout, Plan, Refusal, Slot, Snapshot, check, laws};
 use std::alloc::Global;
 use std::test::Fail;
-use sw_base::{Chan, ScpiError, Sequence};
-use sw_trigger::{LayerName, Settings};
+use sw_base::{Chan, LayerName, ScpiError, Sequence};
+use sw_trigger::Settings;
 
 /// Twenty channels of group 1 in slot 1, sixteen of none in slot 2, ten of group 1 in slot 3, and a meter in slot 4.
 fn cage(alloc: Global) -> Result<Layout, Fail> {
