@@ -1,6 +1,6 @@
 //! Names that commands and settings share: layers of the trigger model, sources, status groups.
 
-/// A layer of the trigger model: ARM layer 1 is the outermost, then ARM layer 2, then TRIGger.
+/// A layer of the trigger model. That ARM layer 1 is the outermost, then ARM layer 2, then TRIGger, is our own.
 #[derive(Clone, Copy, Debug, PartialEq, Eq)]
 pub enum LayerName {
     /// ARM layer 1.
@@ -11,7 +11,7 @@ pub enum LayerName {
     Trigger,
 }
 
-/// Where a layer's wait takes its trigger from (SCPI-1999, 24.2 and 24.9: SOURce).
+/// Where a layer's wait takes its trigger from (SCPI-1999, chapter 24: SOURce).
 #[derive(Clone, Copy, Debug, PartialEq, Eq)]
 pub enum Source {
     /// No wait: the layer is passed at once.
