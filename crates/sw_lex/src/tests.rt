@@ -35,6 +35,7 @@ fn parts(command: &Command) -> (&str, &[Chan]) {
         Command::CloseQuery(list) => ("close?", list.as_slice()),
         Command::CloseState => ("state?", &[]),
         Command::Open(list) => ("open", list.as_slice()),
+        _ => ("another", &[]),
     }
 }
 
