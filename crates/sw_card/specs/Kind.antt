@@ -1,5 +1,5 @@
 -- A card of either kind: the card itself, and its account.
-use Rattle.std.specs.Prelude.{Option, None, ◌⊎◌}
+use Rattle.std.specs.Prelude.{None, ◌⊎◌}
 use Rattle.std.proofs.Common.{inl, inr}
 use Rattle.sw_card.specs.Account.{Account, of_meter}
 use Rattle.sw_card.specs.declared.card.Kind.{Kind}

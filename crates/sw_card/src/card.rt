@@ -192,8 +192,9 @@ impl<R: Relay, M: Meter> Card<R, M> {
         }
     }
 
-    /// Whether any channel is closed.
+    /// Whether any channel is closed; of a meter none is.
     pub fn any_closed(&self) -> bool
+        ensures meter { is_meter self.now.1 ≡ true → result ≡ false }
         ensures none { result ≡ false → (k : ℕ) → closed_at self.now.1.closed k ≡ false }
         ensures some { result ≡ true → (k : ℕ) × (closed_at self.now.1.closed k ≡ true) }
     {

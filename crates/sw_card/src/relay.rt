@@ -197,8 +197,8 @@ impl<R: Relay> RelayCard<R> {
         ensures none { result ≡ false → (k : ℕ) → closed_at self.now.1.closed k ≡ false }
         ensures some { result ≡ true → (k : ℕ) × (closed_at self.now.1.closed k ≡ true) }
     {
-        for before in 0..self.relay.channels() {
-            if self.relay.is_closed(before + 1) {
+        for before in 0..self.channels() {
+            if self.is_closed(before + 1) {
                 return true;
             }
         }

@@ -1,0 +1,3 @@
+mod Known
+mod Lines
+mod Runs

@@ -1,0 +1,107 @@
+-- A run, one line further.
+use Rattle.std.proofs.Common.{◌≡◌, ℕ, ◌+◌, ◌<◌, List, [], ◌∷◌, ◌++◌, length, take, Option, Some, None, IfSome, refl, ap, sym, ◌∙◌, subst, append_assoc, arith}
+use Rattle.std.proofs.lemmas.Grind.{common_steps}
+use Rattle.std.proofs.lemmas.List.{append-nil}
+use Rattle.std.proofs.Math.Seq.{take-append-add}
+use Rattle.std.specs.Io.{StopsAt}
+use Rattle.std.specs.Io.KnownBytes.{Appends, IsAtEnd, Consumes}
+use Rattle.std.specs.Io.BufRead.{take_through, drop_through, DropsThrough}
+use Rattle.sw_core.specs.declared.ask.Sid.{Sid}
+use Rattle.sw_core.specs.Panel.{Panel}
+use Rattle.sw_session.specs.CoreDesk.{CorePasses}
+use Rattle.sw_session.specs.Talk.{Talked}
+use Rattle.mainframe.specs.Lines.{lines_of, WritesPart}
+use Rattle.mainframe.specs.Run.{Run, RunsTo, AnsweredFrom, PartFrom, CutFrom}
+use Rattle.mainframe.proofs.Known.{appends-more}
+use Rattle.mainframe.proofs.Lines.{lines_of-through}
+
+pub run-push : (sid : Sid) (p q mid : Panel) (done : List (List ℕ)) (line bytes told : List ℕ) → Run sid p done bytes q → Talked CorePasses q mid sid line told → Run sid p (done ++ line ∷ []) (bytes ++ told) mid
+run-push sid p q mid [] line bytes told r t =
+    let t' : Talked CorePasses p mid sid line told = subst (λ (s : Panel). Talked CorePasses s mid sid line told) r.1 t in
+    (told, mid, [], t', (refl, refl), ap (λ b. b ++ told) r.0 ∙ sym (append-nil told))
+run-push sid p q mid (l ∷ done) line bytes told r t =
+    (r.0, r.1, r.2 ++ told, r.3, run-push sid r.1 q mid done line r.2 told r.4 t, ap (λ b. b ++ told) r.5 ∙ append_assoc r.0 r.2 told)
+
+-- the lines that were read are answered and written
+abbrev pub Progress : Sid → Panel → Option (List ℕ) → Option (List ℕ) → Option (List ℕ) → Option (List ℕ) → Panel → Type 0
+Progress sid start r0 r c0 c p = IfSome r0 (λ input. (done : List (List ℕ)) × (bytes left : List ℕ) × (r ≡ Some left) × (lines_of input ≡ done ++ lines_of left) × Run sid start done bytes p × Appends c0 c bytes)
+
+pub progress-start : (sid : Sid) (start : Panel) (r c : Option (List ℕ)) → Appends c c [] → Progress sid start r r c c start
+progress-start sid start None c a = tt
+progress-start sid start (Some input) c a = ([], [], input, refl, refl, (refl, refl), a)
+
+pub progress-end : (sid : Sid) (start : Panel) (r0 r c0 c : Option (List ℕ)) (p : Panel) → Progress sid start r0 r c0 c p → IsAtEnd r → IfSome r0 (λ input. AnsweredFrom sid start input [] c0 c)
+progress-end sid start None r c0 c p h end = tt
+progress-end sid start (Some input) r c0 c p (done, bytes, left, is, lines, run, a) end =
+    let none : left ≡ [] = subst IsAtEnd is end in
+    record {
+      bytes = bytes;
+      runs = record { done = done; lines = lines ∙ ap (λ l. done ++ lines_of l) none; after = p; run = run };
+      writes = a;
+    }
+
+pub progress-cut : (sid : Sid) (start : Panel) (r0 r r2 c0 c : Option (List ℕ)) (p : Panel) (cut : List ℕ) → Progress sid start r0 r c0 c p → Consumes r r2 cut → StopsAt cut 10 → IfSome r0 (λ input. CutFrom sid start input r2 c0 c)
+progress-cut sid start None r r2 c0 c p cut h used stops = tt
+progress-cut sid start (Some input) None r2 c0 c p cut (done, bytes, left, is, lines, run, a) used stops = absurd (cc (is))
+progress-cut sid start (Some input) (Some xs) None c0 c p cut (done, bytes, left, is, lines, run, a) used stops = absurd used
+progress-cut sid start (Some input) (Some xs) (Some ys) c0 c p cut (done, bytes, left, is, lines, run, a) used stops =
+    let same : xs ≡ left = cc (is) in
+    record {
+      cut = cut;
+      unread = ys;
+      is_left = refl;
+      stops = stops;
+      answered = record {
+        bytes = bytes;
+        runs = record { done = done; lines = lines ∙ ap (λ l. done ++ lines_of l) (sym same ∙ used); after = p; run = run };
+        writes = a;
+      };
+    }
+
+lines-next : (left items buf : List ℕ) → buf ≡ [] → items ≡ buf ++ take_through 10 left → 0 < length items → lines_of left ≡ items ∷ lines_of (drop_through 10 left)
+lines-next [] items buf none is some = absurd (grind (arith, common_steps))
+lines-next (x ∷ xs) items buf none is some =
+    let e : items ≡ take_through 10 (x ∷ xs) = is ∙ ap (λ b. b ++ take_through 10 (x ∷ xs)) none in
+    lines_of-through x xs ∙ ap (λ t. t ∷ lines_of (drop_through 10 (x ∷ xs))) (sym e)
+
+pub progress-line : (sid : Sid) (start : Panel) (r0 r1 r2 c0 c1 c2 : Option (List ℕ)) (q mid : Panel) (items buf told : List ℕ) → Progress sid start r0 r1 c0 c1 q → buf ≡ [] → IfSome r1 (λ xs. items ≡ buf ++ take_through 10 xs) → DropsThrough r1 r2 10 → 0 < length items
+    → Talked CorePasses q mid sid items told → Appends c1 c2 told → Progress sid start r0 r2 c0 c2 mid
+progress-line sid start None r1 r2 c0 c1 c2 q mid items buf told h none bytes rest some t a = tt
+progress-line sid start (Some input) None r2 c0 c1 c2 q mid items buf told (done, written, left, at, lines, run, w) none bytes rest some t a = absurd (cc (at))
+progress-line sid start (Some input) (Some xs) r2 c0 c1 c2 q mid items buf told (done, written, left, at, lines, run, w) none bytes rest some t a =
+    let same : xs ≡ left = cc (at) in
+    let next : lines_of left ≡ items ∷ lines_of (drop_through 10 xs) = ap lines_of (sym same) ∙ lines-next xs items buf none bytes some in (
+      done ++ items ∷ [],
+      written ++ told,
+      drop_through 10 xs,
+      rest,
+      lines ∙ ap (λ ls. done ++ ls) next ∙ sym (append_assoc done (items ∷ []) (lines_of (drop_through 10 xs))),
+      run-push sid start q mid done items written told run t,
+      appends-more c0 c1 c2 written told w a,
+    )
+
+pub progress-part : (sid : Sid) (start : Panel) (r0 r1 r2 c0 c1 c2 : Option (List ℕ)) (q mid : Panel) (items buf told : List ℕ) → Progress sid start r0 r1 c0 c1 q → buf ≡ [] → IfSome r1 (λ xs. items ≡ buf ++ take_through 10 xs) → DropsThrough r1 r2 10 → 0 < length items
+    → Talked CorePasses q mid sid items told → WritesPart c1 c2 told → IfSome r0 (λ input. PartFrom sid start input c0 c2)
+progress-part sid start None r1 r2 c0 c1 c2 q mid items buf told h none bytes rest some t a = tt
+progress-part sid start (Some input) None r2 c0 c1 c2 q mid items buf told (done, written, left, at, lines, run, w) none bytes rest some t a = absurd (cc (at))
+progress-part sid start (Some input) (Some xs) r2 c0 c1 c2 q mid items buf told (done, written, left, at, lines, run, w) none bytes rest some t a =
+    let same : xs ≡ left = cc (at) in
+    let next : lines_of left ≡ items ∷ lines_of (drop_through 10 xs) = ap lines_of (sym same) ∙ lines-next xs items buf none bytes some in
+    let part : take (length written + a.0) (written ++ told) ≡ written ++ take a.0 told = take-append-add written told a.0 in
+    record {
+      rest = drop_through 10 xs;
+      bytes = written ++ told;
+      runs = record {
+        done = done ++ items ∷ [];
+        lines = lines ∙ ap (λ ls. done ++ ls) next ∙ sym (append_assoc done (items ∷ []) (lines_of (drop_through 10 xs)));
+        after = mid;
+        run = run-push sid start q mid done items written told run t;
+      };
+      writes = (length written + a.0, subst (λ (b : List ℕ). Appends c0 c2 b) (sym part) (appends-more c0 c1 c2 written (take a.0 told) w a.1));
+    }
+
+pub progress-all : (sid : Sid) (start : Panel) (r0 r r2 c0 c : Option (List ℕ)) (p : Panel) → Progress sid start r0 r c0 c p → IsAtEnd r → DropsThrough r r2 10 → IfSome r0 (λ _. IsAtEnd r2)
+progress-all sid start None r r2 c0 c p h end drops = tt
+progress-all sid start (Some input) None r2 c0 c p (done, bytes, left, is, lines, run, a) end drops = absurd (cc (is))
+progress-all sid start (Some input) (Some xs) r2 c0 c p h end drops =
+    let none : r2 ≡ Some [] = drops ∙ ap (λ t. Some (drop_through 10 t)) end in subst IsAtEnd (sym none) refl

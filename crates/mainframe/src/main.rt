@@ -1,0 +1,7 @@
+//! `mainframe`: a SCPI switch mainframe of simulated cards.
+#![tactic(auto)]
+
+mod fault;
+mod writing;
+
+fn main() {}

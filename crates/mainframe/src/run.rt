@@ -1,0 +1,150 @@
+//! Lines in, lines out: each line that is read is one program message of one session.
+
+ghost use Rattle.std.specs.Prelude.{◌≡◌, OnOk, IfOk, IfSome, IfErr, []};
+ghost use Rattle.std.specs.Io.KnownBytes.{IsAtEnd};
+ghost use Rattle.sw_core.specs.View.{ask_view};
+ghost use Rattle.sw_card.specs.Account.{relay_account, of_meter};
+ghost use Rattle.sw_core.specs.Panel.{opening};
+ghost use Rattle.mainframe.specs.Run.{program_cards, IsSetUp, Joins, Stepped, AnsweredFrom, EndsFrom, Answered, EndsBy};
+
+use crate::fault::RunFault;
+use crate::writing::write_bytes;
+use std::alloc::{AllocError, Global};
+use std::io::{BufRead, ErrorKind, Write};
+use sw_card::{Card, Meter, Relay};
+use sw_core::{Answer, Ask, Core, SessionAnswer, SessionAsk, Sid};
+use sw_kinds::{Fuse, Matrix, Mux, SimDriver, SimSource, Volt};
+use sw_session::{CoreDesk, Talker};
+
+/// How many lines are taken at most.
+const TURNS: u64 = 1 << 32;
+
+/// Answers each line of the reader as a program message, by the program's cards: a multiplexer of 20 channels in group
+/// 1, a matrix of 16, a multiplexer of 10 in group 1 and a meter. `fuse` says which closing of slot 1 fails, from 1.
+///
+/// An answer is written before the next line is read. At a fault the answers of the lines before stand.
+pub fn run_lines<Rd: BufRead, W: Write>(
+    alloc: Global,
+    reader: &mut Rd,
+    writer: &mut W,
+    fuse: Option<u32>,
+) -> Result<(), RunFault>
+    ensures ok { OnOk result (IfSome (Rd.remaining reader.old) (λ input. Answered program_cards input (W.contents writer.old) (W.contents writer.new))) }
+    ensures all { OnOk result (IfSome (Rd.remaining reader.old) (λ _. IsAtEnd (Rd.remaining reader.new))) }
+    ensures err { IfErr result (λ fault. IfSome (Rd.remaining reader.old) (λ input. EndsBy program_cards fault input (Rd.remaining reader.new) (W.contents writer.old) (W.contents writer.new))) }
+{
+    let first = Mux::new(1, 20, 1, Fuse::new(SimDriver::new(), fuse));
+    let Ok(boxed) = Box::new(alloc, first) else {
+        return Err(RunFault::Memory);
+    };
+    let first: Box<dyn Relay + Send> = boxed;
+    let Ok(boxed) = Box::new(alloc, Matrix::new(2, 16, SimDriver::new())) else {
+        return Err(RunFault::Memory);
+    };
+    let second: Box<dyn Relay + Send> = boxed;
+    let Ok(boxed) = Box::new(alloc, Mux::new(3, 10, 1, SimDriver::new())) else {
+        return Err(RunFault::Memory);
+    };
+    let third: Box<dyn Relay + Send> = boxed;
+    let Ok(boxed) = Box::new(alloc, Volt::new(4, SimSource::new(1_000_000_000, 1))) else {
+        return Err(RunFault::Memory);
+    };
+    let meter: Box<dyn Meter + Send> = boxed;
+    run_over(alloc, reader, writer, first, second, third, meter)
+}
+
+/// Answers each line of the reader as a program message, by these cards in slots 1 to 4.
+fn run_over<R: Relay, M: Meter, Rd: BufRead, W: Write>(
+    alloc: Global,
+    reader: &mut Rd,
+    writer: &mut W,
+    first: R,
+    second: R,
+    third: R,
+    meter: M,
+) -> Result<(), RunFault>
+    ensures ok { let cards = record { first = relay_account (R.the_serial first) (R.failed first) (R.groups first) (R.closed first); second = relay_account (R.the_serial second) (R.failed second) (R.groups second) (R.closed second); third = relay_account (R.the_serial third) (R.failed third) (R.groups third) (R.closed third); fourth = of_meter (record { serial = M.the_serial meter; failures = M.failed meter; last = M.last_reading meter }) } in OnOk result (IfSome (Rd.remaining reader.old) (λ input. Answered cards input (W.contents writer.old) (W.contents writer.new))) }
+    ensures all { OnOk result (IfSome (Rd.remaining reader.old) (λ _. IsAtEnd (Rd.remaining reader.new))) }
+    ensures err { let cards = record { first = relay_account (R.the_serial first) (R.failed first) (R.groups first) (R.closed first); second = relay_account (R.the_serial second) (R.failed second) (R.groups second) (R.closed second); third = relay_account (R.the_serial third) (R.failed third) (R.groups third) (R.closed third); fourth = of_meter (record { serial = M.the_serial meter; failures = M.failed meter; last = M.last_reading meter }) } in IfErr result (λ fault. IfSome (Rd.remaining reader.old) (λ input. EndsBy cards fault input (Rd.remaining reader.new) (W.contents writer.old) (W.contents writer.new))) }
+{
+    let first = Card::relays(first);
+    let second = Card::relays(second);
+    let third = Card::relays(third);
+    match set_up(alloc, first, second, third, Card::meter(meter)) {
+        Ok((core, sid)) => {
+            let mut desk = CoreDesk::new(alloc, core);
+            run_on(alloc, reader, writer, &mut desk, sid)
+        }
+        Err(_) => Err(RunFault::Memory),
+    }
+}
+
+/// A mainframe that was joined by one session, and offered these cards.
+fn set_up<R: Relay, M: Meter>(
+    alloc: Global,
+    first: Card<R, M>,
+    second: Card<R, M>,
+    third: Card<R, M>,
+    meter: Card<R, M>,
+) -> Result<(Core<R, M>, Sid), AllocError>
+    ensures { IfOk result (λ x. IsSetUp (record { first = first.1; second = second.1; third = third.1; fourth = meter.1 }) x.1 x.0) }
+{
+    let mut core = Core::new(alloc)?;
+    let sid = join(alloc, &mut core);
+    offer(alloc, &mut core, Ask::Install(1, first));
+    offer(alloc, &mut core, Ask::Install(2, second));
+    offer(alloc, &mut core, Ask::Install(3, third));
+    offer(alloc, &mut core, Ask::Install(4, meter));
+    Ok((core, sid))
+}
+
+/// Joins the opening mainframe.
+fn join<R: Relay, M: Meter>(alloc: Global, core: &mut Core<R, M>) -> Sid
+    requires { core.old ≡ opening }
+    ensures { Joins result core.new }
+{
+    match core.apply(alloc, Ask::Session(SessionAsk::Join)) {
+        Answer::Session(SessionAnswer::Joined(sid)) => sid,
+        _ => unreachable!(),
+    }
+}
+
+/// Asks, whatever is answered.
+fn offer<R: Relay, M: Meter>(alloc: Global, core: &mut Core<R, M>, ask: Ask<R, M>)
+    ensures { Stepped core.old (ask_view ask) core.new }
+{
+    let _ = core.apply(alloc, ask);
+}
+
+/// Answers each line of the reader by the desk.
+fn run_on<R: Relay, M: Meter, Rd: BufRead, W: Write>(
+    alloc: Global,
+    reader: &mut Rd,
+    writer: &mut W,
+    desk: &mut CoreDesk<R, M>,
+    sid: Sid,
+) -> Result<(), RunFault>
+    ensures ok { OnOk result (IfSome (Rd.remaining reader.old) (λ input. AnsweredFrom sid desk.old input [] (W.contents writer.old) (W.contents writer.new))) }
+    ensures all { OnOk result (IfSome (Rd.remaining reader.old) (λ _. IsAtEnd (Rd.remaining reader.new))) }
+    ensures err { IfErr result (λ fault. IfSome (Rd.remaining reader.old) (λ input. EndsFrom sid desk.old fault input (Rd.remaining reader.new) (W.contents writer.old) (W.contents writer.new))) }
+{
+    let mut talker = Talker::new(alloc, sid);
+    let mut line = Vec::new(alloc);
+    for _turn in 0..TURNS {
+        line.clear();
+        match reader.read_until(b'\n', &mut line) {
+            Ok(n) => {
+                if n == 0 {
+                    return Ok(());
+                }
+            }
+            Err(e) if e.kind() == ErrorKind::OutOfMemory => return Err(RunFault::Memory),
+            Err(_) => return Err(RunFault::Input),
+        }
+        let told = talker.message(&line, desk);
+        if let Err(fault) = write_bytes(writer, &told) {
+            return Err(fault);
+        }
+    }
+    Err(RunFault::Input)
+}

@@ -1,0 +1,5 @@
+pub mod Racks
+pub mod Changes
+pub mod Orders
+pub mod Claiming
+mod Calls

@@ -1,0 +1,119 @@
+-- Lemmas on the list of closed channels, by slot and channel.
+use Rattle.std.proofs.Common.{◌≡◌, ◌≢◌, ℕ, ◌+◌, ◌-◌, ◌≤◌, ◌<◌, Bool, true, false, List, [], ◌∷◌, ◌++◌, length, Option, None, Some, ◌⊎◌, inl, inr, refl, sym, ◌∙◌, ap, subst, arith, zero, suc, add-one, append_assoc, is_some}
+use Rattle.std.specs.List.{filter}
+use Rattle.std.proofs.lemmas.List.{append-nil}
+use Rattle.std.proofs.lemmas.List.Elements.{filter-append}
+use Rattle.std.proofs.lemmas.Grind.{common_steps}
+use Rattle.std.proofs.lemmas.Bool.{cases_eq, cases_lt}
+use Rattle.sw_base.specs.Layout.{Channel, slot_at, has_channel, bay_has, bay_group, group_at, is_present, group_of}
+use Rattle.sw_card.specs.Account.{Account, is_meter, closed_at}
+use Rattle.sw_card.proofs.Rows.{closed_past}
+use Rattle.sw_cage.specs.Rack.{Rack, bay_of, option_bay, layout_of, option_closed, is_closed, OptionRow, IsRow, IsSafe}
+use Rattle.sw_cage.specs.Channels.{row, rows}
+use Rattle.sw_cage.proofs.Racks.{present_at, group_in_slot}
+
+-- closed channels
+
+has_bounds : (a : Account) (ch : ℕ) → bay_has (Some (bay_of a)) ch ≡ true → (0 < ch) × ((is_meter a ≡ false) × (ch ≤ length a.groups))
+has_bounds a ch h = (grind (arith, common_steps), (grind (arith, common_steps), grind (arith, common_steps)))
+
+row_bounds : (o : Option Account) (ch : ℕ) → OptionRow o → bay_has (option_bay o) ch ≡ true → (1 ≤ ch) × (ch ≤ 99)
+row_bounds None ch r h = absurd (cc)
+row_bounds (Some a) ch r h = let b : (0 < ch) × ((is_meter a ≡ false) × (ch ≤ length a.groups)) = has_bounds a ch h in let f : length a.groups ≤ 99 = r.few b.1.0 in (omega (arith, b.0), omega (arith, b.1.1, f))
+
+-- a closed channel's number
+pub closed_number : (rack : Rack) (c : Channel) → IsSafe rack → is_closed rack c ≡ true → (1 ≤ c.1) × (c.1 ≤ 99)
+closed_number rack c safe h = row_bounds (slot_at rack c.0) c.1 (safe.rows c.0) (sym (present_at rack c) ∙ safe.exclusive.present c h)
+
+present_group : (a : Account) (ch : ℕ) → bay_has (Some (bay_of a)) ch ≡ true → bay_group (Some (bay_of a)) ch ≡ group_at a.groups ch
+present_group a ch h = grind (arith, common_steps)
+
+-- the group that the card tells of a closed channel
+pub closed_group : (rack : Rack) (c : Channel) (a : Account) → IsSafe rack → slot_at rack c.0 ≡ Some a → is_closed rack c ≡ true → group_of (layout_of rack) c ≡ group_at a.groups c.1
+closed_group rack c a safe at h =
+    let has : bay_has (Some (bay_of a)) c.1 ≡ true = ap (λ o. bay_has (option_bay o) c.1) (sym at) ∙ sym (present_at rack c) ∙ safe.exclusive.present c h in
+    group_in_slot rack c ∙ ap (λ o. bay_group (option_bay o) c.1) at ∙ present_group a c.1 has
+
+-- in a slot nothing is closed past the last channel
+pub closed_beyond : (rack : Rack) (slot : ℕ) (a : Account) (k : ℕ) → slot_at rack slot ≡ Some a → length a.closed < k → is_closed rack (slot, k) ≡ false
+closed_beyond rack slot a k at h = ap (λ o. option_closed o k) at ∙ closed_past a.closed k h
+
+pub closed_nowhere : (rack : Rack) (slot k : ℕ) → slot_at rack slot ≡ None → is_closed rack (slot, k) ≡ false
+closed_nowhere rack slot k at = ap (λ o. option_closed o k) at
+
+-- rows
+
+pub row_more : (slot ch : ℕ) → row slot (ch + 1) ≡ row slot ch ++ (slot, ch + 1) ∷ []
+unfolding row
+row_more slot ch = rw add-one refl
+
+pub rows_more : (slot : ℕ) → rows (slot + 1) ≡ rows slot ++ row (slot + 1) 99
+unfolding rows
+rows_more slot = rw add-one refl
+
+filter_one : (closed : Channel → Bool) (c : Channel) → closed c ≡ true → filter closed (c ∷ []) ≡ c ∷ []
+filter_one closed c h = rw h refl
+
+filter_none : (closed : Channel → Bool) (c : Channel) → closed c ≡ false → filter closed (c ∷ []) ≡ []
+filter_none closed c h = rw h refl
+
+pub row_closed : (closed : Channel → Bool) (slot ch : ℕ) → closed (slot, ch + 1) ≡ true → filter closed (row slot (ch + 1)) ≡ filter closed (row slot ch) ++ (slot, ch + 1) ∷ []
+row_closed closed slot ch h = ap (filter closed) (row_more slot ch) ∙ filter-append closed (row slot ch) ((slot, ch + 1) ∷ []) ∙ ap (λ l. filter closed (row slot ch) ++ l) (filter_one closed (slot, ch + 1) h)
+
+pub row_open : (closed : Channel → Bool) (slot ch : ℕ) → closed (slot, ch + 1) ≡ false → filter closed (row slot (ch + 1)) ≡ filter closed (row slot ch)
+row_open closed slot ch h = ap (filter closed) (row_more slot ch) ∙ filter-append closed (row slot ch) ((slot, ch + 1) ∷ []) ∙ ap (λ l. filter closed (row slot ch) ++ l) (filter_none closed (slot, ch + 1) h) ∙ append-nil (filter closed (row slot ch))
+
+pub row_past : (closed : Channel → Bool) (slot m n : ℕ) → m ≤ n → ((k : ℕ) → m < k → closed (slot, k) ≡ false) → filter closed (row slot n) ≡ filter closed (row slot m)
+row_past closed slot m zero h past = let e : m ≡ 0 = omega arith in ap (λ j. filter closed (row slot j)) (sym e)
+row_past closed slot m (suc n) h past = elim (cases_lt n m) [
+  | inl l ↦ let e : m ≡ suc n = omega arith in ap (λ j. filter closed (row slot j)) (sym e)
+  | inr g ↦ subst (λ j. filter closed (row slot j) ≡ filter closed (row slot n)) (add-one n) (row_open closed slot n (past (n + 1) (omega arith))) ∙ row_past closed slot m n g past
+]
+
+-- the channels up to the card's last are all that may be closed
+pub row_whole : (closed : Channel → Bool) (slot n : ℕ) → ((k : ℕ) → n < k → closed (slot, k) ≡ false) → ((k : ℕ) → 99 < k → closed (slot, k) ≡ false) → filter closed (row slot n) ≡ filter closed (row slot 99)
+row_whole closed slot n past far = elim (cases_lt n 99) [
+  | inl l ↦ sym (row_past closed slot n 99 (omega arith) past)
+  | inr g ↦ row_past closed slot 99 n g far
+]
+
+is_false : (b : Bool) → (b ≡ true → ⊥) → b ≡ false
+is_false true h = absurd (h refl)
+is_false false h = refl
+
+pub closed_far : (rack : Rack) (slot k : ℕ) → IsSafe rack → 99 < k → is_closed rack (slot, k) ≡ false
+closed_far rack slot k safe h = is_false (is_closed rack (slot, k)) (λ e. let b : (1 ≤ k) × (k ≤ 99) = closed_number rack (slot, k) safe e in absurd (omega (arith, b.1)))
+
+row_nowhere : (closed : Channel → Bool) (slot n : ℕ) → ((k : ℕ) → closed (slot, k) ≡ false) → filter closed (row slot n) ≡ []
+unfolding row
+row_nowhere closed slot n none = row_past closed slot 0 n (omega arith) (λ k h. none k)
+
+pub row_empty : (rack : Rack) (slot n : ℕ) → slot_at rack slot ≡ None → filter (is_closed rack) (row slot n) ≡ []
+row_empty rack slot n at = row_nowhere (is_closed rack) slot n (λ k. closed_nowhere rack slot k at)
+
+pub row_start : (closed : Channel → Bool) (slot : ℕ) → filter closed (row slot 0) ≡ []
+unfolding row
+row_start closed slot = refl
+
+pub rows_start : (closed : Channel → Bool) → filter closed (rows 0) ≡ []
+unfolding rows
+rows_start closed = refl
+
+-- one more closed channel is appended
+pub push_row : (first now new : List Channel) (closed : Channel → Bool) (slot ch : ℕ) (c : Channel) → now ≡ first ++ filter closed (row slot ch) → new ≡ now ++ c ∷ [] → c ≡ (slot, ch + 1) → closed (slot, ch + 1) ≡ true → new ≡ first ++ filter closed (row slot (ch + 1))
+push_row first now new closed slot ch c kept e is h =
+    e ∙ ap (λ l. l ++ c ∷ []) kept ∙ append_assoc first (filter closed (row slot ch)) (c ∷ [])
+    ∙ ap (λ (x : Channel). first ++ (filter closed (row slot ch) ++ x ∷ [])) is ∙ ap (λ l. first ++ l) (sym (row_closed closed slot ch h))
+
+pub skip_row : (first now : List Channel) (closed : Channel → Bool) (slot ch : ℕ) → now ≡ first ++ filter closed (row slot ch) → closed (slot, ch + 1) ≡ false → now ≡ first ++ filter closed (row slot (ch + 1))
+skip_row first now closed slot ch kept h = kept ∙ ap (λ l. first ++ l) (sym (row_open closed slot ch h))
+
+pub add_nothing : (first more : List Channel) → more ≡ [] → first ≡ first ++ more
+add_nothing first more e = sym (ap (λ l. first ++ l) e ∙ append-nil first)
+
+pub push_rows : (now new : List Channel) (closed : Channel → Bool) (slot : ℕ) → now ≡ filter closed (rows slot) → new ≡ now ++ filter closed (row (slot + 1) 99) → new ≡ filter closed (rows (slot + 1))
+push_rows now new closed slot kept e = e ∙ ap (λ l. l ++ filter closed (row (slot + 1) 99)) kept ∙ sym (filter-append closed (rows slot) (row (slot + 1) 99)) ∙ ap (filter closed) (sym (rows_more slot))
+
+-- the card's channels are all that may be closed in its slot
+pub card_row : (rack : Rack) (slot n : ℕ) (a : Account) → IsSafe rack → slot_at rack slot ≡ Some a → length a.closed ≤ n → filter (is_closed rack) (row slot n) ≡ filter (is_closed rack) (row slot 99)
+card_row rack slot n a safe at h = row_whole (is_closed rack) slot n (λ k l. closed_beyond rack slot a k at (omega (arith, h, l))) (λ k l. closed_far rack slot k safe l)

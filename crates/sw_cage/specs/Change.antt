@@ -1,0 +1,40 @@
+-- What a call on a list of channels does to the cage.
+use Rattle.std.specs.Prelude.{◌≡◌, ◌==◌, Bool, true, false, not, ◌&&◌, ◌||◌, List, [], ◌∷◌, map, Option, None, Some, if◌then◌else◌, ◌⊎◌}
+use Rattle.std.specs.List.{list_any}
+use Rattle.sw_base.specs.Layout.{Channel}
+use Rattle.sw_card.specs.Account.{Account, none_closed}
+use Rattle.sw_cage.specs.Rack.{Rack, is_closed, all_open}
+
+abbrev pub same_channel : Channel → Channel → Bool
+same_channel a b = (a.0 == b.0) && (a.1 == b.1)
+
+abbrev pub is_in : List Channel → Channel → Bool
+is_in chans c = list_any (same_channel c) chans
+
+-- The channels of the list are closed, or open, and all else is as it was.
+pub record Sets (old : Rack) (chans : List Channel) (on : Bool) (new : Rack) : Type 0 where
+  pub rest : all_open new ≡ all_open old
+  pub closed : (c : Channel) → is_closed new c ≡ (if is_in chans c then on else is_closed old c)
+
+-- whether a card that stayed in its slot counts other failures than before
+abbrev pub option_failed : Option Account → Option Account → Bool
+option_failed (Some a) (Some b) = not (a.failures == b.failures)
+option_failed None b = false
+option_failed (Some a) None = false
+
+-- whether a card's count of failures changed
+abbrev pub any_failed : Rack → Rack → Bool
+any_failed (a ∷ old) (b ∷ new) = option_failed a b || any_failed old new
+any_failed [] new = false
+any_failed (a ∷ old) [] = false
+
+-- a card but for its channels' states and its count of failures
+abbrev pub option_plate : Option Account → Option Account
+option_plate None = None
+option_plate (Some a) = Some (record a { failures = 0; closed = none_closed a.closed })
+
+-- A card call failed: the cards are the same, and nothing is closed but what was and channels of the list.
+pub record IsDisturbed (old : Rack) (chans : List Channel) (new : Rack) : Type 0 where
+  pub cards : map option_plate new ≡ map option_plate old
+  pub failed : any_failed old new ≡ true
+  pub within : (c : Channel) → is_closed new c ≡ true → (is_closed old c ≡ true) ⊎ (is_in chans c ≡ true)

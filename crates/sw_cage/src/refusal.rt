@@ -1,0 +1,30 @@
+//! Why the cage refuses.
+
+/// Why a card was not taken in. The first that applies is answered.
+#[derive(Clone, Copy, Debug, PartialEq, Eq)]
+pub enum InstallRefusal {
+    /// A scan runs. Not answered yet: the cage has no scans.
+    Busy,
+    /// The slot has a card.
+    Occupied,
+    /// The cage has no such slot, or the relay card has no channel, more than 99, or a closed one.
+    BadLayout,
+}
+
+/// Why no card came out.
+#[derive(Clone, Copy, Debug, PartialEq, Eq)]
+pub enum EjectRefusal {
+    /// The slot has no card, or the cage has no such slot.
+    Vacant,
+    /// The slot's meter is out. Not answered yet: no meter leaves its slot.
+    Out,
+}
+
+/// Why channels may not be closed together. The first that applies is answered.
+#[derive(Clone, Copy, Debug, PartialEq, Eq)]
+pub enum CloseRefusal {
+    /// The cage has no such channel.
+    Absent,
+    /// Two channels of one nonzero group would be closed.
+    Clash,
+}

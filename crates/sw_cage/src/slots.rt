@@ -1,0 +1,376 @@
+//! The eight slots and their cards.
+
+ghost use Rattle.std.specs.Prelude.{◌≡◌, ℕ, ◌+◌, ◌-◌, ◌≤◌, ◌++◌, length, List, Bool, true, false, Option, None, Some, OnOk, OnErr, IfOk, IfErr, slice_set, replicate, is_some, ◌∷◌, []};
+ghost use Rattle.std.specs.List.{filter};
+ghost use Rattle.sw_base.specs.Layout.{Channel, slot_at, is_present, group_of, IsClash, bay_has, bay_group};
+ghost use Rattle.sw_card.specs.Account.{closed_at, is_meter};
+ghost use Rattle.sw_cage.specs.Rack.{Rack, rack_of, option_account, option_bay, layout_of, is_closed, option_closed, IsSafe, option_set, with_chan, option_rest, all_open, IsSlotFault, IsRackFault};
+ghost use Rattle.sw_cage.specs.Change.{Sets, IsDisturbed};
+ghost use Rattle.sw_cage.specs.Install.{CanInstall, IsUnfit, RefusesInstall, RefusesEject};
+ghost use Rattle.sw_cage.specs.Close.{closed_with, HasClash, all_present, CanClose, RefusesClose};
+ghost use Rattle.sw_cage.specs.Claims.{Holds, ClosedBefore};
+ghost use Rattle.sw_cage.specs.Channels.{row, closed_list};
+
+use crate::claims::Claims;
+use crate::refusal::{CloseRefusal, EjectRefusal, InstallRefusal};
+use std::alloc::{AllocError, Global};
+use std::marker::Model;
+use sw_base::Chan;
+use sw_card::{Card, CardFault, Meter, Relay};
+
+/// Whether the card may be installed: a meter, or 1 to 99 channels, all of them open.
+fn is_fit<R: Relay, M: Meter>(card: &Card<R, M>) -> bool
+    ensures open { result ≡ true → (ch : ℕ) → closed_at card.now.1.closed ch ≡ false }
+    ensures few { result ≡ true → is_meter card.now.1 ≡ false → (1 ≤ length card.now.1.groups) × (length card.now.1.groups ≤ 99) }
+    ensures unfit { result ≡ false → (is_meter card.now.1 ≡ false) × IsUnfit card.now.1 }
+    ensures states { length card.now.1.closed ≡ length card.now.1.groups }
+{
+    let channels = card.channels();
+    if card.any_closed() {
+        return false;
+    }
+    if card.is_meter() {
+        return true;
+    }
+    if channels == 0 {
+        return false;
+    }
+    channels <= 99
+}
+
+/// Closes a channel of the card in the slot.
+fn close_in<R: Relay, M: Meter>(slot: &mut Option<Card<R, M>>, ch: u8) -> Result<(), CardFault>
+    requires present { bay_has (option_bay (option_account slot.old)) ch ≡ true }
+    requires open { option_closed (option_account slot.old) ch ≡ false }
+    ensures ok { OnOk result (option_account slot.new ≡ option_set (option_account slot.old) ch true) }
+    ensures err { OnErr result (IsSlotFault (option_account slot.old) (option_set (option_account slot.old) ch true) (option_account slot.new)) }
+{
+    match slot {
+        Some(card) => card.close(ch),
+        None => unreachable!(),
+    }
+}
+
+/// Opens a channel of the card in the slot.
+fn open_in<R: Relay, M: Meter>(slot: &mut Option<Card<R, M>>, ch: u8) -> Result<(), CardFault>
+    requires { option_closed (option_account slot.old) ch ≡ true }
+    ensures ok { OnOk result (option_account slot.new ≡ option_set (option_account slot.old) ch false) }
+    ensures err { OnErr result (IsSlotFault (option_account slot.old) (option_account slot.old) (option_account slot.new)) }
+{
+    match slot {
+        Some(card) => card.open(ch),
+        None => unreachable!(),
+    }
+}
+
+/// Opens every channel of the card in the slot.
+fn rest_in<R: Relay, M: Meter>(slot: &mut Option<Card<R, M>>)
+    ensures { option_account slot.new ≡ option_rest (option_account slot.old) }
+{
+    if let Some(card) = slot {
+        card.open_all();
+    }
+}
+
+/// Takes the card out of the slot with every channel open.
+fn take_rested<R: Relay, M: Meter>(slot: &mut Option<Card<R, M>>) -> Option<Card<R, M>>
+    ensures card { option_account result ≡ option_rest (option_account slot.old) }
+    ensures empty { slot.new ≡ None }
+{
+    rest_in(slot);
+    slot.take()
+}
+
+/// Opens every channel of the cards in the slots.
+fn rest_all<R: Relay, M: Meter>(slots: &mut [Option<Card<R, M>>])
+    ensures { rack_of slots.new ≡ all_open (rack_of slots.old) }
+{
+    for slot in slots {
+        rest_in(slot);
+    }
+}
+
+/// Whether the card in the slot has the channel.
+fn present_in<R: Relay, M: Meter>(slot: &Option<Card<R, M>>, ch: u8) -> bool
+    ensures { result ≡ bay_has (option_bay (option_account slot.now)) ch }
+{
+    match slot {
+        Some(card) => !card.is_meter() && ch >= 1 && ch <= card.channels(),
+        None => false,
+    }
+}
+
+/// Whether the channel of the card in the slot is closed.
+fn closed_in<R: Relay, M: Meter>(slot: &Option<Card<R, M>>, ch: u8) -> bool
+    ensures { result ≡ option_closed (option_account slot.now) ch }
+{
+    match slot {
+        Some(card) => card.is_closed(ch),
+        None => false,
+    }
+}
+
+/// The group of the channel of the card in the slot, which the card has.
+fn group_in<R: Relay, M: Meter>(slot: &Option<Card<R, M>>, ch: u8) -> u8
+    requires { bay_has (option_bay (option_account slot.now)) ch ≡ true }
+    ensures { result ≡ bay_group (option_bay (option_account slot.now)) ch }
+{
+    match slot {
+        Some(card) => card.group(ch),
+        None => unreachable!(),
+    }
+}
+
+/// Eight slots that hold cards.
+#[derive(Drop)]
+pub(crate) struct Slots<R: Relay, M: Meter> {
+    slots: Vec<Option<Card<R, M>>>,
+}
+
+impl<R: Relay, M: Meter> Model for Slots<R, M> {
+    ghost Value = { Rack };
+
+    ghost view = { λ c. rack_of c.slots.items };
+
+    ghost invariant = { λ c. IsSafe (rack_of c.slots.items) };
+}
+
+impl<R: Relay, M: Meter> Slots<R, M> {
+    /// Eight empty slots.
+    pub(crate) fn new(alloc: Global) -> Result<Self, AllocError>
+        ensures { IfOk result (λ slots. slots ≡ replicate 8 None) }
+    {
+        let mut slots = Vec::with_capacity(alloc, 8)?;
+        for _ in 0..8usize {
+            slots.push(None)?;
+        }
+        Ok(Slots { slots })
+    }
+
+    /// Whether the slot is one of the cage's and has a card.
+    pub(crate) fn has_card(&self, slot: u8) -> bool
+        ensures { result ≡ is_some (slot_at self.now slot) }
+    {
+        slot >= 1 && slot <= 8 && self.slots[slot as usize - 1].is_some()
+    }
+
+    /// Puts a card into an empty slot.
+    pub(crate) fn install(&mut self, slot: u8, card: Card<R, M>) -> Result<(), (InstallRefusal, Card<R, M>)>
+        ensures ok { OnOk result (self.new ≡ slice_set self.old (slot - 1) (Some card.1)) }
+        ensures accepted { OnOk result (CanInstall self.old slot card.1) }
+        ensures refused { IfErr result (λ refusal. RefusesInstall self.old slot card.1 refusal.0) }
+        ensures err { OnErr result (self.new ≡ self.old) }
+        ensures back { IfErr result (λ refusal. refusal.1 ≡ card) }
+    {
+        if self.has_card(slot) {
+            return Err((InstallRefusal::Occupied, card));
+        }
+        if slot < 1 || slot > 8 {
+            return Err((InstallRefusal::BadLayout, card));
+        }
+        if !is_fit(&card) {
+            return Err((InstallRefusal::BadLayout, card));
+        }
+        self.slots[slot as usize - 1] = Some(card);
+        Ok(())
+    }
+
+    /// Opens the card's relays and takes it out.
+    pub(crate) fn eject(&mut self, slot: u8) -> Result<Card<R, M>, EjectRefusal>
+        ensures ok { IfOk result (λ card. option_rest (slot_at self.old slot) ≡ Some card.1) }
+        ensures open { IfOk result (λ card. (ch : ℕ) → closed_at card.1.closed ch ≡ false) }
+        ensures taken { OnOk result (self.new ≡ slice_set self.old (slot - 1) None) }
+        ensures refused { IfErr result (λ refusal. RefusesEject self.old slot refusal) }
+        ensures err { OnErr result (self.new ≡ self.old) }
+    {
+        if !self.has_card(slot) {
+            return Err(EjectRefusal::Vacant);
+        }
+        match take_rested(&mut self.slots[slot as usize - 1]) {
+            Some(card) => Ok(card),
+            None => unreachable!(),
+        }
+    }
+
+    /// Closes one channel.
+    pub(crate) fn close(&mut self, chan: Chan) -> Result<(), CardFault>
+        requires present { is_present (layout_of self.old) chan ≡ true }
+        requires open { is_closed self.old chan ≡ false }
+        requires apart { (c : Channel) → is_closed self.old c ≡ true → IsClash (layout_of self.old) chan c → ⊥ }
+        ensures ok { OnOk result (Sets self.old (chan ∷ []) true self.new) }
+        ensures err { OnErr result (IsRackFault self.old chan (with_chan self.old chan true) self.new) }
+        ensures disturbed { OnErr result (IsDisturbed self.old (chan ∷ []) self.new) }
+    {
+        close_in(&mut self.slots[chan.slot() as usize - 1], chan.ch())
+    }
+
+    /// Opens one channel.
+    pub(crate) fn open(&mut self, chan: Chan) -> Result<(), CardFault>
+        requires { is_closed self.old chan ≡ true }
+        ensures ok { OnOk result (Sets self.old (chan ∷ []) false self.new) }
+        ensures err { OnErr result (IsRackFault self.old chan self.old self.new) }
+        ensures disturbed { OnErr result (IsDisturbed self.old (chan ∷ []) self.new) }
+    {
+        open_in(&mut self.slots[chan.slot() as usize - 1], chan.ch())
+    }
+
+    /// Opens every relay of every card.
+    pub(crate) fn open_all(&mut self)
+        ensures { self.new ≡ all_open self.old }
+    {
+        rest_all(&mut self.slots)
+    }
+
+    /// Whether the cage has the channel.
+    pub(crate) fn is_present(&self, chan: Chan) -> bool
+        ensures { result ≡ is_present (layout_of self.now) chan }
+    {
+        present_in(&self.slots[chan.slot() as usize - 1], chan.ch())
+    }
+
+    /// Whether the channel is closed.
+    pub(crate) fn is_closed(&self, chan: Chan) -> bool
+        ensures { result ≡ is_closed self.now chan }
+    {
+        closed_in(&self.slots[chan.slot() as usize - 1], chan.ch())
+    }
+
+    /// The group of a channel that the cage has.
+    fn group(&self, chan: Chan) -> u8
+        requires { is_present (layout_of self.now) chan ≡ true }
+        ensures { result ≡ group_of (layout_of self.now) chan }
+    {
+        group_in(&self.slots[chan.slot() as usize - 1], chan.ch())
+    }
+
+    /// Whether the cage has every channel of the list.
+    pub(crate) fn all_present(&self, chans: &[Chan]) -> bool
+        ensures { result ≡ all_present (layout_of self.now) chans.now }
+    {
+        chans.iter().all(|chan| self.is_present(*chan))
+    }
+
+    /// Closes the channels that are open, in order.
+    pub(crate) fn close_all(&mut self, chans: &[Chan]) -> Result<(), CardFault>
+        requires { CanClose (layout_of self.old) (is_closed self.old) chans.now }
+        ensures ok { OnOk result (Sets self.old chans.now true self.new) }
+        ensures err { OnErr result (IsDisturbed self.old chans.now self.new) }
+    {
+        for chan in chans {
+            if !self.is_closed(*chan) {
+                self.close(*chan)?;
+            }
+        }
+        Ok(())
+    }
+
+    /// Opens the channels that are closed, in order.
+    pub(crate) fn open_listed(&mut self, chans: &[Chan]) -> Result<(), CardFault>
+        ensures ok { OnOk result (Sets self.old chans.now false self.new) }
+        ensures err { OnErr result (IsDisturbed self.old chans.now self.new) }
+    {
+        for chan in chans {
+            if self.is_closed(*chan) {
+                self.open(*chan)?;
+            }
+        }
+        Ok(())
+    }
+
+    /// Lets each closed channel of the slot claim its group, unless two of one group are closed.
+    fn claim_slot(&self, slot: u8, claims: &mut Claims) -> bool
+        requires slot_in { (1 ≤ slot) × (slot ≤ 8) }
+        requires held { Holds (layout_of self.now) (ClosedBefore self.now slot 0) claims.old }
+        ensures claimed { result ≡ true → Holds (layout_of self.now) (ClosedBefore self.now (slot + 1) 0) claims.new }
+        ensures clash { result ≡ false → HasClash (layout_of self.now) (is_closed self.now) }
+    {
+        let Some(card) = &self.slots[slot as usize - 1] else {
+            return true;
+        };
+        for before in 0..card.channels() {
+            let ch = before + 1;
+            if card.is_closed(ch) {
+                if !claims.claim(card.group(ch), Chan::new(slot, ch)) {
+                    return false;
+                }
+            }
+        }
+        true
+    }
+
+    /// Lets each closed channel claim its group, unless two of one group are closed.
+    fn claim_closed(&self, claims: &mut Claims) -> bool
+        requires { Holds (layout_of self.now) (ClosedBefore self.now 1 0) claims.old }
+        ensures claimed { result ≡ true → Holds (layout_of self.now) (λ c. is_closed self.now c ≡ true) claims.new }
+        ensures clash { result ≡ false → HasClash (layout_of self.now) (is_closed self.now) }
+    {
+        let _ = &self.slots;
+        for before in 0..8u8 {
+            if !self.claim_slot(before + 1, claims) {
+                return false;
+            }
+        }
+        true
+    }
+
+    /// Lets each channel of the list claim its group, unless another channel has it.
+    fn claim_listed(&self, chans: &[Chan], claims: &mut Claims) -> bool
+        requires present { all_present (layout_of self.now) chans.now ≡ true }
+        requires held { Holds (layout_of self.now) (λ c. is_closed self.now c ≡ true) claims.old }
+        ensures apart { result ≡ true → HasClash (layout_of self.now) (closed_with (is_closed self.now) chans.now) → ⊥ }
+        ensures clash { result ≡ false → HasClash (layout_of self.now) (closed_with (is_closed self.now) chans.now) }
+    {
+        for chan in chans {
+            if !claims.claim(self.group(*chan), *chan) {
+                return false;
+            }
+        }
+        true
+    }
+
+    /// Whether the channels may be closed together.
+    pub(crate) fn judge(&self, chans: &[Chan]) -> Result<(), CloseRefusal>
+        ensures ok { OnOk result (CanClose (layout_of self.now) (is_closed self.now) chans.now) }
+        ensures err { IfErr result (λ refusal. RefusesClose (layout_of self.now) (is_closed self.now) chans.now refusal) }
+    {
+        if !self.all_present(chans) {
+            return Err(CloseRefusal::Absent);
+        }
+        let mut claims = Claims::new();
+        if !self.claim_closed(&mut claims) {
+            return Err(CloseRefusal::Clash);
+        }
+        if !self.claim_listed(chans, &mut claims) {
+            return Err(CloseRefusal::Clash);
+        }
+        Ok(())
+    }
+
+    /// Appends the closed channels of the slot.
+    fn push_closed(&self, slot: u8, chans: &mut Vec<Chan>) -> Result<(), AllocError>
+        requires { (1 ≤ slot) × (slot ≤ 8) }
+        ensures { OnOk result (chans.new.items ≡ chans.old.items ++ filter (is_closed self.now) (row slot 99)) }
+    {
+        let Some(card) = &self.slots[slot as usize - 1] else {
+            return Ok(());
+        };
+        for before in 0..card.channels() {
+            let ch = before + 1;
+            if card.is_closed(ch) {
+                chans.push(Chan::new(slot, ch))?;
+            }
+        }
+        Ok(())
+    }
+
+    /// The closed channels, by slot and channel.
+    pub(crate) fn closed_chans(&self, alloc: Global) -> Result<Vec<Chan>, AllocError>
+        ensures { IfOk result (λ chans. chans.items ≡ closed_list self.now) }
+    {
+        let mut chans = Vec::new(alloc);
+        for before in 0..8u8 {
+            self.push_closed(before + 1, &mut chans)?;
+        }
+        Ok(chans)
+    }
+}

@@ -1,0 +1,45 @@
+-- What a call on the cage does to the counts of failures, and to the cards.
+use Rattle.std.proofs.Common.{◌≡◌, ℕ, zero, suc, ◌-◌, ◌<◌, ◌≤◌, ◌||◌, Bool, true, false, List, [], ◌∷◌, length, Option, None, Some, slice_set, slice_index_or, refl, sym, ◌∙◌, ap, subst, arith, map}
+use Rattle.sw_base.specs.Layout.{Channel, slot_at}
+use Rattle.sw_card.specs.Account.{Account}
+use Rattle.sw_cage.specs.Rack.{Rack, all_open, is_closed}
+use Rattle.sw_cage.specs.Change.{Sets, IsDisturbed, any_failed, option_failed, option_plate}
+use Rattle.sw_cage.proofs.Racks.{all_open_closed, slot_get}
+use Rattle.sw_cage.proofs.Changes.{or_false, failed_rest, sets_unfailed, plates_all_open}
+use Rattle.sw_core.specs.Step.{IsFallen}
+
+pub failed_same : (r : Rack) → any_failed r r ≡ false
+failed_same r = Rattle.sw_cage.proofs.Changes.failed_same r
+
+pub failed_sets : (old new : Rack) (chans : List Channel) (on : Bool) → Sets old chans on new → any_failed old new ≡ false
+failed_sets old new chans on s = sets_unfailed old new s.rest
+
+-- a failing call, and then every relay opened
+pub fallen : (old mid new : Rack) (chans : List Channel) → IsDisturbed old chans mid → new ≡ all_open mid → (any_failed old new ≡ true) × IsFallen old new
+fallen old mid new chans d e = (
+  ap (λ (r : Rack). any_failed old r) e ∙ failed_rest old mid ∙ d.failed,
+  record {
+    cards = ap (λ (r : Rack). map option_plate r) e ∙ plates_all_open mid ∙ d.cards;
+    none = λ c. ap (λ (r : Rack). is_closed r c) e ∙ all_open_closed mid c;
+  },
+)
+
+option_same : (o : Option Account) → option_failed o o ≡ false
+option_same o = sym (or_false (option_failed o o)) ∙ failed_same (o ∷ [])
+
+failed_index : (r : Rack) (i : ℕ) (v : Option Account) → option_failed (slice_index_or r i None) v ≡ false → any_failed r (slice_set r i v) ≡ false
+failed_index [] i v h = refl
+failed_index (o ∷ r) zero v h = ap (λ b. b || any_failed r r) h ∙ failed_same r
+failed_index (o ∷ r) (suc i) v h = ap (λ b. b || any_failed r (slice_set r i v)) (option_same o) ∙ failed_index r i v h
+
+-- nothing fails where a card comes into an empty slot
+pub failed_come : (r : Rack) (slot : ℕ) (v : Option Account) → 0 < slot → slot_at r slot ≡ None → any_failed r (slice_set r (slot - 1) v) ≡ false
+failed_come r slot v p e = failed_index r (slot - 1) v (ap (λ o. option_failed o v) (sym (slot_get r slot p) ∙ e))
+
+failed_none : (o : Option Account) → option_failed o None ≡ false
+failed_none None = refl
+failed_none (Some a) = refl
+
+-- nor where one leaves
+pub failed_go : (r : Rack) (i : ℕ) → any_failed r (slice_set r i None) ≡ false
+failed_go r i = failed_index r i None (failed_none (slice_index_or r i None))

@@ -1,0 +1,239 @@
+-- Where memory suffices and no card fails, a step leaves no choice.
+use Rattle.std.proofs.Common.{◌≡◌, ◌≢◌, ℕ, zero, suc, ◌+◌, ◌-◌, ◌≤◌, ◌<◌, Bool, true, false, ◌||◌, List, [], ◌∷◌, length, Option, None, Some, slice_set, slice_index_or, refl, sym, ◌∙◌, ap, subst, arith, map, inl, inr, ◌⊎◌, is_some, rules}
+use Rattle.std.specs.Prelude.{if◌then◌else◌}
+use Rattle.std.proofs.lemmas.Bool.{lt-ltb, cases_lt}
+use Rattle.sw_cage.proofs.Racks.{slot_rest}
+use Rattle.sw_base.specs.Layout.{Channel, slot_at}
+use Rattle.sw_card.specs.Account.{Account, closed_at, none_closed, at_rest}
+use Rattle.sw_cage.specs.Rack.{Rack, is_closed, option_closed, all_open, option_rest}
+use Rattle.sw_cage.specs.Change.{Sets, is_in}
+use Rattle.sw_cage.specs.Close.{CanClose, HasClash, all_present}
+use Rattle.sw_cage.specs.Install.{CanInstall, RefusesInstall, RefusesEject, IsBadLayout, IsUnfit, IsFit}
+use Rattle.sw_cage.specs.declared.refusal.InstallRefusal.{InstallRefusal}
+use Rattle.sw_cage.specs.declared.refusal.InstallRefusal.TheVariants.{Busy, Occupied, BadLayout}
+use Rattle.sw_cage.specs.declared.refusal.EjectRefusal.{EjectRefusal}
+use Rattle.sw_cage.specs.declared.refusal.EjectRefusal.TheVariants.{Vacant, Out}
+use Rattle.sw_base.specs.declared.error.ScpiError.{ScpiError}
+use Rattle.sw_base.specs.declared.error.ScpiError.TheVariants.{HardwareMissing, SettingsConflict, HardwareError, OutOfMemory}
+use Rattle.sw_lex.specs.declared.command.Command.{Command}
+use Rattle.sw_lex.specs.declared.command.Command.TheVariants.{Identify, Close, CloseQuery, CloseState, Open}
+use Rattle.sw_core.specs.declared.ask.Sid.{Sid}
+use Rattle.sw_core.specs.declared.ask.SessionAsk.{SessionAsk}
+use Rattle.sw_core.specs.declared.ask.SessionAsk.TheVariants as Ask
+use Rattle.sw_core.specs.declared.ask.SessionAnswer.{SessionAnswer}
+use Rattle.sw_core.specs.declared.ask.SessionAnswer.TheVariants.{Joined, Full, Stranger, Broken, Done, Refused, Hold, Worn}
+use Rattle.sw_core.specs.Sessions.{IsJoined, IsLeastFree}
+use Rattle.sw_core.specs.Panel.{Panel}
+use Rattle.sw_core.specs.View.{AskView, AskSession, AskInstall, AskEject, AnswerView, SaysSession, SaysInstalled, SaysNotInstalled, SaysEjected, SaysNotEjected}
+use Rattle.sw_core.specs.Step.{StepUnit, StepSession, Step}
+use Rattle.sw_core.specs.Run.{IsPlain}
+
+-- the states of a card, by each
+closed_first : (x y : Bool) (xs ys : List Bool) → ((k : ℕ) → closed_at (x ∷ xs) k ≡ closed_at (y ∷ ys) k) → x ≡ y
+closed_first x y xs ys h = h 1
+
+closed_next : (x : Bool) (xs : List Bool) (k : ℕ) → closed_at (x ∷ xs) (suc (suc k)) ≡ closed_at xs (suc k)
+closed_next x xs k =
+    let a : suc (suc k) - 1 ≡ suc k = omega arith in
+    let b : suc k - 1 ≡ k = omega arith in
+    rw (lt-ltb 0 (suc (suc k)) (omega arith), lt-ltb 0 (suc k) (omega arith), a, b) refl
+
+closed_rest : (x y : Bool) (xs ys : List Bool) → ((k : ℕ) → closed_at (x ∷ xs) k ≡ closed_at (y ∷ ys) k) → (k : ℕ) → closed_at xs k ≡ closed_at ys k
+closed_rest x y xs ys h zero = refl
+closed_rest x y xs ys h (suc k) = sym (closed_next x xs k) ∙ h (suc (suc k)) ∙ closed_next y ys k
+
+same_states : (xs ys : List Bool) → none_closed xs ≡ none_closed ys → ((k : ℕ) → closed_at xs k ≡ closed_at ys k) → xs ≡ ys
+same_states [] [] e h = refl
+same_states [] (y ∷ ys) e h = absurd (cc (e))
+same_states (x ∷ xs) [] e h = absurd (cc (e))
+same_states (x ∷ xs) (y ∷ ys) e h =
+    let first : x ≡ y = closed_first x y xs ys h in
+    let tail : none_closed xs ≡ none_closed ys = cc in
+    let rest : xs ≡ ys = same_states xs ys tail (closed_rest x y xs ys h) in
+    cc
+
+same_card : (a b : Account) → at_rest a ≡ at_rest b → ((k : ℕ) → closed_at a.closed k ≡ closed_at b.closed k) → a ≡ b
+same_card a b e h =
+    let states : a.closed ≡ b.closed = same_states a.closed b.closed (ap (λ (x : Account). x.closed) e) h in
+    let back : (x y : Account) → x ≡ y → (c d : List Bool) → c ≡ d → ◌≡◌ {A = Account} (record x { closed = c }) (record y { closed = d }) = λ x y p c d q. ap (λ (z : Account). let r : Account = record z { closed = c } in r) p ∙ ap (λ (s : List Bool). let r : Account = record y { closed = s } in r) q in
+    back (at_rest a) (at_rest b) e a.closed b.closed states
+
+same_option : (o n : Option Account) → option_rest o ≡ option_rest n → ((k : ℕ) → option_closed o k ≡ option_closed n k) → o ≡ n
+same_option None None e h = refl
+same_option None (Some b) e h = absurd (cc (e))
+same_option (Some a) None e h = absurd (cc (e))
+same_option (Some a) (Some b) e h = let k : at_rest a ≡ at_rest b = cc in ap Some (same_card a b k h)
+
+slots_first : (o n : Option Account) (r s : Rack) → ((c : Channel) → is_closed (o ∷ r) c ≡ is_closed (n ∷ s) c) → (k : ℕ) → option_closed o k ≡ option_closed n k
+slots_first o n r s h k = h (1, k)
+
+slot_next : (o : Option Account) (r : Rack) (t : ℕ) → slot_at (o ∷ r) (suc (suc t)) ≡ slot_at r (suc t)
+slot_next o r t =
+    let a : suc (suc t) - 1 ≡ suc t = omega arith in
+    let b : suc t - 1 ≡ t = omega arith in
+    rw (lt-ltb 0 (suc (suc t)) (omega arith), lt-ltb 0 (suc t) (omega arith), a, b) refl
+
+slots_rest : (o n : Option Account) (r s : Rack) → ((c : Channel) → is_closed (o ∷ r) c ≡ is_closed (n ∷ s) c) → (c : Channel) → is_closed r c ≡ is_closed s c
+slots_rest o n r s h (zero, k) = refl
+slots_rest o n r s h (suc t, k) =
+    ap (λ x. option_closed x k) (sym (slot_next o r t)) ∙ h (suc (suc t), k) ∙ ap (λ x. option_closed x k) (slot_next n s t)
+
+-- racks of the same cards with the same channels closed are one
+same_rack : (r s : Rack) → all_open r ≡ all_open s → ((c : Channel) → is_closed r c ≡ is_closed s c) → r ≡ s
+same_rack [] [] e h = refl
+same_rack [] (n ∷ s) e h = absurd (cc (e))
+same_rack (o ∷ r) [] e h = absurd (cc (e))
+same_rack (o ∷ r) (n ∷ s) e h =
+    let first : option_rest o ≡ option_rest n = cc in
+    let tail : all_open r ≡ all_open s = cc in
+    let a : o ≡ n = same_option o n first (slots_first o n r s h) in
+    let b : r ≡ s = same_rack r s tail (slots_rest o n r s h) in
+    cc
+
+pub sets_once : (old new new' : Rack) (chans : List Channel) (on : Bool) → Sets old chans on new → Sets old chans on new' → new ≡ new'
+sets_once old new new' chans on s t = same_rack new new' (s.rest ∙ sym t.rest) (λ c. s.closed c ∙ sym (t.closed c))
+
+-- ---- units
+
+abbrev pub IsOnce : {A : Type 0} → A → A → Panel → Panel → Type 0
+IsOnce a a' q q' = (a ≡ a') × (q ≡ q')
+
+both : (p q q' : Panel) → q ≡ p → q' ≡ p → q ≡ q'
+both p q q' e f = e ∙ sym f
+
+-- two panels of one cage and the same sessions
+of_parts : (p q q' : Panel) → q.cage.rack ≡ q'.cage.rack → q.sessions ≡ p.sessions → q'.sessions ≡ p.sessions → q ≡ q'
+of_parts p q q' r s t =
+    let one : (a b : Rack) → a ≡ b → (c d : _) → c ≡ d → ◌≡◌ {A = Panel} (record { cage = record { rack = a }; sessions = c }) (record { cage = record { rack = b }; sessions = d }) = λ a b e c d f. ap (λ (x : Rack). let z : Panel = record { cage = record { rack = x }; sessions = c } in z) e ∙ ap (λ x. let z : Panel = record { cage = record { rack = b }; sessions = x } in z) f in
+    one q.cage.rack q'.cage.rack r q.sessions q'.sessions (s ∙ sym t)
+
+same_text : (t t' x : List ℕ) → t ≡ x → t' ≡ x → Done (Some t) ≡ Done (Some t')
+same_text t t' x e f = ap (λ (y : List ℕ). Done (Some y)) (e ∙ sym f)
+
+true_false : (b : Bool) → b ≡ true → b ≡ false → ⊥
+true_false b e f = absurd (let k : true ≡ false = sym e ∙ f in cc)
+
+unit_once : (p : Panel) (command : Command) (f f' : Bool) (a a' : SessionAnswer) (q q' : Panel) → IsPlain (SaysSession a) → IsPlain (SaysSession a') → StepUnit p command f a q → StepUnit p command f' a' q' → IsOnce a a' q q'
+unit_once p Identify f f' (Done (Some t)) (Done (Some t')) q q' n m h k = (same_text t t' _ h.1 k.1, both p q q' h.2 k.2)
+unit_once p Identify f f' (Refused OutOfMemory) a' q q' n m h k = absurd (n.0 refl)
+unit_once p Identify f f' a (Refused OutOfMemory) q q' n m h k = absurd (m.0 refl)
+unit_once p (Close chans) f f' (Done None) (Done None) q q' n m h k = (refl, of_parts p q q' (sets_once p.cage.rack q.cage.rack q'.cage.rack chans true h.2 k.2) h.3 k.3)
+unit_once p (Close chans) f f' (Done None) (Refused HardwareMissing) q q' n m h k = absurd (true_false _ h.1.present k.1)
+unit_once p (Close chans) f f' (Done None) (Refused SettingsConflict) q q' n m h k = absurd (h.1.apart k.1.1)
+unit_once p (Close chans) f f' (Refused HardwareMissing) (Done None) q q' n m h k = absurd (true_false _ k.1.present h.1)
+unit_once p (Close chans) f f' (Refused HardwareMissing) (Refused HardwareMissing) q q' n m h k = (refl, both p q q' h.2 k.2)
+unit_once p (Close chans) f f' (Refused HardwareMissing) (Refused SettingsConflict) q q' n m h k = absurd (true_false _ k.1.0 h.1)
+unit_once p (Close chans) f f' (Refused SettingsConflict) (Done None) q q' n m h k = absurd (k.1.apart h.1.1)
+unit_once p (Close chans) f f' (Refused SettingsConflict) (Refused HardwareMissing) q q' n m h k = absurd (true_false _ h.1.0 k.1)
+unit_once p (Close chans) f f' (Refused SettingsConflict) (Refused SettingsConflict) q q' n m h k = (refl, both p q q' h.2 k.2)
+unit_once p (Close chans) f f' (Refused HardwareError) a' q q' n m h k = absurd (n.1 refl)
+unit_once p (Close chans) f f' a (Refused HardwareError) q q' n m h k = absurd (m.1 refl)
+unit_once p (CloseQuery chans) f f' (Done (Some t)) (Done (Some t')) q q' n m h k = (same_text t t' _ h.2 k.2, both p q q' h.3 k.3)
+unit_once p (CloseQuery chans) f f' (Done (Some t)) (Refused HardwareMissing) q q' n m h k = absurd (true_false _ h.1 k.1)
+unit_once p (CloseQuery chans) f f' (Refused HardwareMissing) (Done (Some t)) q q' n m h k = absurd (true_false _ k.1 h.1)
+unit_once p (CloseQuery chans) f f' (Refused HardwareMissing) (Refused HardwareMissing) q q' n m h k = (refl, both p q q' h.2 k.2)
+unit_once p (CloseQuery chans) f f' (Refused OutOfMemory) a' q q' n m h k = absurd (n.0 refl)
+unit_once p (CloseQuery chans) f f' a (Refused OutOfMemory) q q' n m h k = absurd (m.0 refl)
+unit_once p CloseState f f' (Done (Some t)) (Done (Some t')) q q' n m h k = (same_text t t' _ h.1 k.1, both p q q' h.2 k.2)
+unit_once p CloseState f f' (Refused OutOfMemory) a' q q' n m h k = absurd (n.0 refl)
+unit_once p CloseState f f' a (Refused OutOfMemory) q q' n m h k = absurd (m.0 refl)
+unit_once p (Open chans) f f' (Done None) (Done None) q q' n m h k = (refl, of_parts p q q' (sets_once p.cage.rack q.cage.rack q'.cage.rack chans false h.2 k.2) h.3 k.3)
+unit_once p (Open chans) f f' (Done None) (Refused HardwareMissing) q q' n m h k = absurd (true_false _ h.1 k.1)
+unit_once p (Open chans) f f' (Refused HardwareMissing) (Done None) q q' n m h k = absurd (true_false _ k.1 h.1)
+unit_once p (Open chans) f f' (Refused HardwareMissing) (Refused HardwareMissing) q q' n m h k = (refl, both p q q' h.2 k.2)
+unit_once p (Open chans) f f' (Refused HardwareError) a' q q' n m h k = absurd (n.1 refl)
+unit_once p (Open chans) f f' a (Refused HardwareError) q q' n m h k = absurd (m.1 refl)
+unit_once p command f f' a a' q q' n m h k = absurd (assumption (h, k))
+
+-- ---- sessions
+
+least_once : (sessions : List (Option ℕ)) (n m : ℕ) → IsLeastFree sessions n → IsLeastFree sessions m → n ≡ m
+least_once sessions n m a b = elim (cases_lt n m) [
+  | inl l ↦ absurd (b.below n a.first l a.free)
+  | inr k ↦ elim (cases_lt m n) [ inl l ↦ absurd (a.below m b.first l b.free) | inr j ↦ omega arith ]
+]
+
+sid_once : (s t : Sid) → s.number ≡ t.number → s.joined ≡ t.joined → s ≡ t
+sid_once s t e f = ap (λ (n : ℕ). let r : Sid = record { number = n; joined = s.joined } in r) e ∙ ap (λ (j : ℕ). let r : Sid = record { number = t.number; joined = j } in r) f
+
+session_once : (p : Panel) (ask : SessionAsk) (f f' : Bool) (a a' : SessionAnswer) (q q' : Panel) → IsPlain (SaysSession a) → IsPlain (SaysSession a') → StepSession p ask f a q → StepSession p ask f' a' q' → IsOnce a a' q q'
+session_once p Ask.Join f f' (Joined s) (Joined t) q q' n m h k =
+    let e : s.number ≡ t.number = least_once p.sessions s.number t.number h.1 k.1 in
+    (ap Joined (sid_once s t e (h.2 ∙ sym k.2)), h.3 ∙ ap (λ (x : ℕ). let r : Panel = record p { sessions = slice_set p.sessions (x - 1) (Some 0) } in r) e ∙ sym k.3)
+session_once p Ask.Join f f' (Joined s) Full q q' n m h k = absurd (k.1 s.number h.1.first h.1.last h.1.free)
+session_once p Ask.Join f f' Full (Joined s) q q' n m h k = absurd (h.1 s.number k.1.first k.1.last k.1.free)
+session_once p Ask.Join f f' Full Full q q' n m h k = (refl, both p q q' h.2 k.2)
+session_once p (Ask.Leave sid) f f' (Done None) (Done None) q q' n m h k = (refl, h.2 ∙ sym k.2)
+session_once p (Ask.Leave sid) f f' (Done None) Stranger q q' n m h k = absurd (k.1 h.1)
+session_once p (Ask.Leave sid) f f' Stranger (Done None) q q' n m h k = absurd (h.1 k.1)
+session_once p (Ask.Leave sid) f f' Stranger Stranger q q' n m h k = (refl, both p q q' h.2 k.2)
+session_once p (Ask.Fault sid e) f f' (Done None) (Done None) q q' n m h k = (refl, both p q q' h.2 k.2)
+session_once p (Ask.Fault sid e) f f' (Done None) Stranger q q' n m h k = absurd (k.1 h.1)
+session_once p (Ask.Fault sid e) f f' Stranger (Done None) q q' n m h k = absurd (h.1 k.1)
+session_once p (Ask.Fault sid e) f f' Stranger Stranger q q' n m h k = (refl, both p q q' h.2 k.2)
+session_once p (Ask.Unit sid command answered) f f' Stranger Stranger q q' n m h k = (refl, both p q q' h.2 k.2)
+session_once p (Ask.Unit sid command answered) f f' Stranger a' q q' n m h k = absurd (h.1 k.0)
+session_once p (Ask.Unit sid command answered) f f' a Stranger q q' n m h k = absurd (k.1 h.0)
+session_once p (Ask.Unit sid command answered) f f' a a' q q' n m h k = unit_once p command f f' a a' q q' n m h.1 k.1
+session_once p ask f f' a a' q q' n m h k = absurd (assumption (h, k))
+
+-- ---- cards
+
+some_none : (o : Option Account) → is_some o ≡ true → o ≡ None → ⊥
+some_none None e f = absurd (cc (e))
+some_none (Some a) e f = absurd (cc (f))
+
+unfit_fit : (card : Account) → IsFit card → ((ch : ℕ) → closed_at card.closed ch ≡ false) → IsUnfit card → ⊥
+unfit_fit card fit none bad = elim bad [
+  | inl e ↦ omega (arith, fit.some_channel)
+  | inr rest ↦ elim rest [
+    | inl more ↦ omega (arith, fit.few_channels)
+    | inr x ↦ true_false (closed_at card.closed x.0) x.1 (none x.0)
+  ]
+]
+
+bad_can : (rack : Rack) (slot : ℕ) (card : Account) → CanInstall rack slot card → IsBadLayout slot card → ⊥
+bad_can rack slot card can bad = elim bad [
+  | inl l ↦ omega (arith, can.first)
+  | inr rest ↦ elim rest [
+    | inl g ↦ omega (arith, can.last)
+    | inr x ↦ unfit_fit card (can.fit x.0) can.«open» x.1
+  ]
+]
+
+install_apart : (rack : Rack) (slot : ℕ) (card : Account) (r : InstallRefusal) → CanInstall rack slot card → RefusesInstall rack slot card r → ⊥
+install_apart rack slot card Busy can bad = bad
+install_apart rack slot card Occupied can bad = some_none (slot_at rack slot) bad can.empty
+install_apart rack slot card BadLayout can bad = bad_can rack slot card can bad.1
+
+install_once : (rack : Rack) (slot : ℕ) (card : Account) (r r' : InstallRefusal) → RefusesInstall rack slot card r → RefusesInstall rack slot card r' → r ≡ r'
+install_once rack slot card Occupied Occupied h k = refl
+install_once rack slot card BadLayout BadLayout h k = refl
+install_once rack slot card Occupied BadLayout h k = absurd (some_none (slot_at rack slot) h k.0)
+install_once rack slot card BadLayout Occupied h k = absurd (some_none (slot_at rack slot) k h.0)
+install_once rack slot card r r' h k = absurd (assumption (h, k))
+
+eject_once : (rack : Rack) (slot : ℕ) (r r' : EjectRefusal) → RefusesEject rack slot r → RefusesEject rack slot r' → r ≡ r'
+eject_once rack slot Vacant Vacant h k = refl
+eject_once rack slot r r' h k = absurd (assumption (h, k))
+
+rest_none : (rack : Rack) (slot : ℕ) (card : Account) → slot_at (all_open rack) slot ≡ Some card → slot_at rack slot ≡ None → ⊥
+rest_none rack slot card e f = let k : option_rest (slot_at rack slot) ≡ option_rest None = ap option_rest f in absurd (let g : None ≡ Some card = sym k ∙ sym (slot_rest rack slot) ∙ e in cc)
+
+eject_apart : (rack : Rack) (slot : ℕ) (card : Account) (r : EjectRefusal) → slot_at (all_open rack) slot ≡ Some card → RefusesEject rack slot r → ⊥
+eject_apart rack slot card Vacant e h = rest_none rack slot card e h
+eject_apart rack slot card Out e h = h
+
+pub step_once : (p q q' : Panel) (ask : AskView) (f f' : Bool) (a a' : AnswerView) → Step p ask f a q → Step p ask f' a' q' → IsPlain a → IsPlain a' → (a ≡ a') × (q ≡ q')
+step_once p q q' (AskSession ask) f f' (SaysSession a) (SaysSession a') h k n m = let r = session_once p ask f f' a a' q q' n m h k in (ap SaysSession r.0, r.1)
+step_once p q q' (AskInstall slot card) f f' SaysInstalled SaysInstalled h k n m = (refl, h.2 ∙ sym k.2)
+step_once p q q' (AskInstall slot card) f f' SaysInstalled (SaysNotInstalled r) h k n m = absurd (install_apart p.cage.rack slot card r h.1 k.1)
+step_once p q q' (AskInstall slot card) f f' (SaysNotInstalled r) SaysInstalled h k n m = absurd (install_apart p.cage.rack slot card r k.1 h.1)
+step_once p q q' (AskInstall slot card) f f' (SaysNotInstalled r) (SaysNotInstalled r') h k n m = (ap SaysNotInstalled (install_once p.cage.rack slot card r r' h.1 k.1), both p q q' h.2 k.2)
+step_once p q q' (AskEject slot) f f' (SaysEjected c) (SaysEjected c') h k n m =
+    let e : Some c ≡ Some c' = sym h.1 ∙ k.1 in
+    (let d : c ≡ c' = cc in ap SaysEjected d, h.2 ∙ sym k.2)
+step_once p q q' (AskEject slot) f f' (SaysEjected c) (SaysNotEjected r) h k n m = absurd (eject_apart p.cage.rack slot c r h.1 k.1)
+step_once p q q' (AskEject slot) f f' (SaysNotEjected r) (SaysEjected c) h k n m = absurd (eject_apart p.cage.rack slot c r k.1 h.1)
+step_once p q q' (AskEject slot) f f' (SaysNotEjected r) (SaysNotEjected r') h k n m = (ap SaysNotEjected (eject_once p.cage.rack slot r r' h.1 k.1), both p q q' h.2 k.2)
+step_once p q q' ask f f' a a' h k n m = absurd (assumption (h, k))

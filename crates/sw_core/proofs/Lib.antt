@@ -1,0 +1,4 @@
+mod Rows
+mod Safety
+mod Determined
+mod Calls

@@ -1,0 +1,5 @@
+use Rattle.sw_core.proofs.Determined.{step_once}
+use Rattle.sw_core.proofs.laws.step_is_determined.Goals as goal
+
+pub returns : goal.returns
+returns c = step_once

@@ -1,0 +1,54 @@
+-- Runs: lists of events from the opening state, and what none of them can do.
+use Rattle.std.specs.Prelude.{◌≡◌, ◌≢◌, ℕ, Bool, true, false, List, [], ◌∷◌, Option, None, Some}
+use Rattle.std.specs.List.{AllByRecursion}
+use Rattle.sw_base.specs.Layout.{Channel}
+use Rattle.sw_base.specs.declared.error.ScpiError.{ScpiError}
+use Rattle.sw_base.specs.declared.error.ScpiError.TheVariants.{HardwareError, OutOfMemory}
+use Rattle.sw_card.specs.Account.{Account, closed_at}
+use Rattle.sw_cage.specs.Rack.{is_closed}
+use Rattle.sw_cage.specs.Change.{is_in}
+use Rattle.sw_lex.specs.declared.command.Command.TheVariants.{Close, Open}
+use Rattle.sw_core.specs.declared.ask.Sid.{Sid}
+use Rattle.sw_core.specs.declared.ask.SessionAsk.TheVariants as Ask
+use Rattle.sw_core.specs.declared.ask.SessionAnswer.TheVariants.{Done, Refused}
+use Rattle.sw_core.specs.Panel.{Panel, opening, IsSafe}
+use Rattle.sw_core.specs.View.{AskView, AskSession, AskEject, AnswerView, SaysSession, SaysEjected}
+use Rattle.sw_core.specs.Step.{Step}
+
+-- one event: what was asked, whether a card failed in it, what was answered, and the state after it
+pub record Event : Type 0 where
+  pub ask : AskView
+  pub failed : Bool
+  pub answer : AnswerView
+  pub panel : Panel
+
+-- each event is a step from the state before it
+abbrev pub IsRun : Panel → List Event → Type 0
+IsRun p [] = Unit {0}
+IsRun p (e ∷ es) = Step p e.ask e.failed e.answer e.panel × IsRun e.panel es
+
+-- In every run, at the end of each event, no absent channel is closed and no two closed channels clash.
+abbrev pub EveryRunIsExclusive : Type 0
+EveryRunIsExclusive = (events : List Event) → IsRun opening events → AllByRecursion (λ e. IsSafe e.panel) events
+
+-- ROUTe:CLOSe and ROUTe:OPEN in the words of who sends them, and what leaves the cage
+pub record RelaysObey : Type 0 where
+  -- after ROUTe:CLOSe that is done every channel of its list is closed
+  pub closes : (p q : Panel) (sid : Sid) (chans : List Channel) (answered failed : Bool) → Step p (AskSession (Ask.Unit sid (Close chans) answered)) failed (SaysSession (Done None)) q → (c : Channel) → is_in chans c ≡ true → is_closed q.cage.rack c ≡ true
+  -- after ROUTe:OPEN that is done every channel of its list is open
+  pub opens : (p q : Panel) (sid : Sid) (chans : List Channel) (answered failed : Bool) → Step p (AskSession (Ask.Unit sid (Open chans) answered)) failed (SaysSession (Done None)) q → (c : Channel) → is_in chans c ≡ true → is_closed q.cage.rack c ≡ false
+  -- a refusal for any other cause than a card's failure leaves the state as it was
+  pub refused : (p q : Panel) (ask : AskView) (failed : Bool) (e : ScpiError) → e ≢ HardwareError → Step p ask failed (SaysSession (Refused e)) q → q ≡ p
+  -- after a card's failure every relay is open
+  pub failed : (p q : Panel) (ask : AskView) (failed : Bool) → Step p ask failed (SaysSession (Refused HardwareError)) q → (c : Channel) → is_closed q.cage.rack c ≡ false
+  -- an ejected card has no relay closed
+  pub ejected : (p q : Panel) (slot : ℕ) (failed : Bool) (card : Account) → Step p (AskEject slot) failed (SaysEjected card) q → (k : ℕ) → closed_at card.closed k ≡ false
+
+-- an answer that tells of no want of memory and of no card's failure
+abbrev pub IsPlain : AnswerView → Type 0
+IsPlain (SaysSession (Refused e)) = (e ≢ OutOfMemory) × (e ≢ HardwareError)
+IsPlain answer = Unit {0}
+
+-- Where memory suffices and no card fails, an ask has one answer and leaves one state.
+abbrev pub StepIsDetermined : Type 0
+StepIsDetermined = (p q q' : Panel) (ask : AskView) (f f' : Bool) (a a' : AnswerView) → Step p ask f a q → Step p ask f' a' q' → IsPlain a → IsPlain a' → (a ≡ a') × (q ≡ q')

@@ -1,0 +1,76 @@
+//! What is asked of the mainframe, and what it answers.
+
+use sw_base::{ScpiError, Sequence};
+use sw_cage::{EjectRefusal, InstallRefusal};
+use sw_card::{Card, Meter, Relay};
+use sw_lex::Command;
+
+/// A session: its number, 1 to 16, and the number of events after its Join, which tells it from an earlier session
+/// of that number.
+#[derive(Clone, Copy, Debug, PartialEq, Eq)]
+pub struct Sid {
+    /// The session's number.
+    pub number: u8,
+    /// The number of events after its Join.
+    pub joined: u64,
+}
+
+/// What a session asks. It carries no card.
+#[derive(Debug, Drop)]
+pub enum SessionAsk {
+    /// To be one of the sessions.
+    Join,
+    /// To be none of them any more.
+    Leave(Sid),
+    /// To carry out a command. The flag says whether the message that it stands in has answered before.
+    Unit(Sid, Command, bool),
+    /// To queue an error that was found outside.
+    Fault(Sid, ScpiError),
+}
+
+/// What a session is answered. It carries no card.
+#[derive(Debug, Drop)]
+pub enum SessionAnswer {
+    /// It is this session now.
+    Joined(Sid),
+    /// All sixteen sessions are taken.
+    Full,
+    /// No such session is joined.
+    Stranger,
+    /// The session is being cleared: the ask was dropped.
+    Broken,
+    /// It was done. A query's answer comes with it.
+    Done(Option<Sequence<u8>>),
+    /// It was refused, for this error.
+    Refused(ScpiError),
+    /// It can't be done yet: it is to be asked again after a wait.
+    Hold(SessionAsk),
+    /// The mainframe has numbered all the events that it can.
+    Worn(SessionAsk),
+}
+
+/// What is asked of the mainframe.
+#[derive(Drop)]
+pub enum Ask<R: Relay, M: Meter> {
+    /// What a session asks.
+    Session(SessionAsk),
+    /// To take a card into a slot.
+    Install(u8, Card<R, M>),
+    /// To hand the card of a slot out.
+    Eject(u8),
+}
+
+/// What the mainframe answers.
+#[derive(Drop)]
+pub enum Answer<R: Relay, M: Meter> {
+    /// What a session is answered.
+    Session(SessionAnswer),
+    /// The card is in its slot.
+    Installed,
+    /// The card was not taken in, and is handed back.
+    NotInstalled(InstallRefusal, Card<R, M>),
+    /// The card, with its relays open.
+    Ejected(Card<R, M>),
+    /// No card came out.
+    NotEjected(EjectRefusal),
+}

@@ -1,0 +1,4 @@
+pub mod Led
+pub mod Lines
+pub mod Talks
+pub mod Determined

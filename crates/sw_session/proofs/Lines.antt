@@ -1,0 +1,30 @@
+-- One more answer on the line.
+use Rattle.std.proofs.Common.{◌≡◌, ℕ, ◌-◌, ◌<◌, List, [], ◌∷◌, ◌++◌, length, take, refl, ap, sym, ◌∙◌, append_assoc, arith}
+use Rattle.std.proofs.lemmas.Grind.{common_steps}
+use Rattle.sw_session.specs.Talk.{line_of, JoinsLine}
+
+-- a line of answers ends with its line feed, and one more answer goes before it
+line-front : (a : List ℕ) (answers : List (List ℕ)) → (front : List ℕ) × (line_of (a ∷ answers) ≡ front ++ 10 ∷ []) × ((t : List ℕ) → line_of ((a ∷ answers) ++ t ∷ []) ≡ front ++ 59 ∷ (t ++ 10 ∷ []))
+line-front a [] = (a, refl, λ t. refl)
+line-front a (b ∷ answers) =
+    let r = line-front b answers in (
+      a ++ 59 ∷ r.0,
+      ap (λ l. a ++ 59 ∷ l) (line-front b answers).1 ∙ sym (append_assoc a (59 ∷ r.0) (10 ∷ [])),
+      λ t. ap (λ l. a ++ 59 ∷ l) ((line-front b answers).2 t) ∙ sym (append_assoc a (59 ∷ r.0) (59 ∷ (t ++ 10 ∷ []))),
+    )
+
+pub joins-first : (out text : List ℕ) → length out ≡ 0 → JoinsLine out text (text ++ 10 ∷ [])
+joins-first out text none [] written = refl
+joins-first out text none (a ∷ answers) written =
+    let f = line-front a answers in
+    let e : out ≡ f.0 ++ 10 ∷ [] = written ∙ (line-front a answers).1 in
+    absurd (grind (arith, common_steps))
+
+pub joins-more : (out text : List ℕ) → 0 < length out → JoinsLine out text (((take (length out - 1) out ++ 59 ∷ []) ++ text) ++ 10 ∷ [])
+joins-more out text some [] written = absurd (grind (arith, common_steps))
+joins-more out text some (a ∷ answers) written =
+    let f = line-front a answers in
+    let e : out ≡ f.0 ++ 10 ∷ [] = written ∙ (line-front a answers).1 in
+    let front : take (length out - 1) out ≡ f.0 = grind (arith, common_steps) in
+    let more : line_of ((a ∷ answers) ++ text ∷ []) ≡ f.0 ++ 59 ∷ (text ++ 10 ∷ []) = (line-front a answers).2 text in
+    rw (front, more) (grind (arith, common_steps))

@@ -1,0 +1,4 @@
+pub mod Bits
+pub mod Queue
+pub mod Byte
+pub mod Requests
