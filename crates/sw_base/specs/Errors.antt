@@ -1,5 +1,5 @@
 -- The table of errors (SCPI-1999, 21.8).
-use Rattle.std.specs.Prelude.{ℕ, ◌-◌, ℤ, negsuc, List, Bool, nat_lt, codes, if◌then◌else◌}
+use Rattle.std.specs.Prelude.{ℕ, ◌-◌, ℤ, negsuc, List, nat_lt, codes, if◌then◌else◌}
 use Rattle.sw_base.specs.declared.error.ScpiError.{ScpiError}
 use Rattle.sw_base.specs.declared.error.ScpiError.TheVariants.{InvalidCharacter, SyntaxError, InvalidSeparator, DataTypeError, GetNotAllowed, ParameterNotAllowed, MissingParameter, UndefinedHeader, HeaderSuffixOutOfRange, InvalidCharacterInNumber, ExponentTooLarge, TooManyDigits, InvalidSuffix, SuffixNotAllowed, InvalidCharacterData, InvalidStringData, InvalidBlockData, InvalidExpression, TriggerIgnored, ArmIgnored, InitIgnored, SettingsConflict, DataOutOfRange, TooMuchData, IllegalParameterValue, OutOfMemory, DataCorruptOrStale, HardwareError, HardwareMissing, IllegalMacroLabel, MacroParameterError, MacroDefinitionTooLong, MacroRecursionError, MacroRedefinitionNotAllowed, MacroHeaderNotFound, SystemError, QueueOverflow, InputBufferOverrun, QueryInterrupted}
 

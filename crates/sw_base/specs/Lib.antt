@@ -2,3 +2,5 @@ pub mod Text
 pub mod Errors
 pub mod Layout
 pub mod Memory
+pub mod Number
+pub mod Reading

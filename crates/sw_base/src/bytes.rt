@@ -89,3 +89,14 @@ pub fn eat(bytes: &[u8], mark: u8) -> Option<&[u8]>
         [] => None,
     }
 }
+
+/// The letters at the front, and what follows them.
+pub fn letters(bytes: &[u8]) -> (&[u8], &[u8])
+    ensures { Spans is_letter bytes.now result.0.now result.1.now }
+{
+    let mut n = 0;
+    while n < bytes.len() && is_letter(bytes[n]) {
+        n += 1;
+    }
+    bytes.split_at(n)
+}

@@ -1,0 +1,12 @@
+use Rattle.std.proofs.Common.{◌≡◌, length, rules}
+use Rattle.sw_base.proofs.Numerals.{no_mark, no_digits}
+use Rattle.sw_base.proofs.number.exponent.Goals as goal
+
+pub returns-in_err-after-clause-none : goal.returns-in_err-after-clause-none
+returns-in_err-after-clause-none c =
+    rw c.from_residual.ensures (λ negative digits rest h. no_mark _ negative digits rest _ _ h c.blanks.ensures c.in_err-after.ensures.none)
+
+pub returns-then-is_empty-clause-none : goal.returns-then-is_empty-clause-none
+returns-then-is_empty-clause-none c negative digits rest h =
+    let empty : length c.digits.result.0.now ≡ 0 = search rules in
+    no_digits _ negative digits rest _ _ _ _ _ _ _ h c.blanks.ensures c.in_ok-after.ensures.found c.blanks-2.ensures (rw c.sign-negative.ensures.rest at c.digits.ensures) empty
