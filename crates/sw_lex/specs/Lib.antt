@@ -1,3 +1,4 @@
+pub mod Elements
 pub mod Unit
 pub mod Words
 pub mod Found
