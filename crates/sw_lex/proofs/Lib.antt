@@ -9,4 +9,5 @@ pub mod Quotes
 pub mod Blocks
 pub mod Leading
 pub mod Once
+pub mod Readings
 pub mod Meanings

@@ -1,8 +1,8 @@
 -- Where a number at the front of a text ends.
-use Rattle.std.proofs.Common.{◌≡◌, ℕ, ◌+◌, ◌<◌, ◌≤◌, Bool, true, false, List, [], ◌∷◌, ◌++◌, length, refl, sym, ap, subst, ◌∙◌, arith, inl, inr, ◌⊎◌, append_assoc, pos}
+use Rattle.std.proofs.Common.{◌≡◌, ℕ, ◌+◌, ◌<◌, Bool, List, [], ◌∷◌, ◌++◌, length, refl, sym, ap, subst, ◌∙◌, arith, inl, inr, ◌⊎◌, append_assoc, pos}
 use Rattle.std.specs.Prelude.{◌==◌, ◌||◌}
 use Rattle.std.proofs.lemmas.Bool.{cases_Bool}
-use Rattle.sw_base.specs.Text.{is_blank, is_digit, is_letter, StartsOff, Spans}
+use Rattle.sw_base.specs.Text.{is_blank, is_digit, is_letter, Spans}
 use Rattle.sw_base.specs.Number.{Written, is_negative, unsigned, IsFraction, IsMantissa, IsExponent}
 use Rattle.sw_base.proofs.Runs.{one_span}
 use Rattle.sw_base.proofs.Numerals.{one_mantissa, one_exponent}

@@ -2,7 +2,7 @@
 use Rattle.std.proofs.Common.{◌≡◌, ℕ, ◌+◌, ◌≤◌, List, [], ◌∷◌, ◌++◌, length, take, drop, refl, sym, ap, subst, ◌∙◌, append_assoc, arith}
 use Rattle.std.specs.List.{AllByRecursion}
 use Rattle.std.proofs.lemmas.List.{append-nil, length-append, take_at, drop_at, map_push, take-append-drop, length-map}
-use Rattle.sw_base.specs.Text.{is_letter, AllPass, StartsOff}
+use Rattle.sw_base.specs.Text.{is_letter, StartsOff}
 use Rattle.sw_base.specs.declared.error.ScpiError.{ScpiError}
 use Rattle.sw_base.specs.declared.error.ScpiError.TheVariants.{SyntaxError}
 use Rattle.sw_lex.specs.declared.unit.Element.{Element}

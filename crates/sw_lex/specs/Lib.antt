@@ -4,4 +4,6 @@ pub mod Words
 pub mod Found
 pub mod Table
 pub mod Apart
+pub mod Commands
+pub mod Values
 pub mod Meaning

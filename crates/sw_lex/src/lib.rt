@@ -9,17 +9,21 @@
 //! is no question here, nor whether a channel exists.
 #![tactic(auto)]
 
+mod choice;
 mod command;
+mod common_rows;
 mod elements;
 mod headers;
 mod meaning;
 mod numerals;
 mod paths;
+mod rows;
 mod runs;
 mod table;
 #[cfg(test)]
 mod tests;
 mod unit;
+mod values;
 
 pub use command::Command;
 pub use elements::Kind;

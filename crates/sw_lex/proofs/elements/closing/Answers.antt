@@ -1,4 +1,3 @@
-use Rattle.std.proofs.Common.{◌++◌, ◌∷◌, []}
 use Rattle.sw_lex.proofs.Quotes.{never_closed, closed_at, doubled_on}
 use Rattle.sw_lex.proofs.elements.closing.Goals as goal
 
