@@ -46,7 +46,7 @@ fn one_list(alloc: Global, elements: &[Element<'_>]) -> Result<Sequence<Chan>, S
 {
     match elements {
         [] => Err(ScpiError::MissingParameter),
-        [element] => match *element {
+        [list] => match *list {
             Element::Expression(text) => Ok(Sequence::new(read_list(alloc, text)?)),
             _ => Err(ScpiError::DataTypeError),
         },
@@ -60,7 +60,7 @@ fn one_number<'a>(elements: &[Element<'a>]) -> Result<(Nrf<'a>, &'a [u8]), ScpiE
 {
     match elements {
         [] => Err(ScpiError::MissingParameter),
-        [element] => match *element {
+        [number] => match *number {
             Element::Number(text) => quantity(text),
             _ => Err(ScpiError::DataTypeError),
         },
@@ -104,7 +104,7 @@ fn of_source(layer: LayerName, elements: &[Element<'_>]) -> Result<Command, Scpi
 {
     match elements {
         [] => Err(ScpiError::MissingParameter),
-        [element] => match *element {
+        [word] => match *word {
             Element::Character(text) => source_meant(layer, text),
             _ => Err(ScpiError::DataTypeError),
         },
@@ -128,7 +128,7 @@ fn of_switch(elements: &[Element<'_>]) -> Result<Command, ScpiError>
 {
     match elements {
         [] => Err(ScpiError::MissingParameter),
-        [element] => match *element {
+        [switch] => match *switch {
             Element::Number(text) => of_number(text),
             Element::Character(text) => switch_meant(text),
             _ => Err(ScpiError::DataTypeError),
