@@ -1,8 +1,8 @@
 -- From the test over the table to its rule.
-use Rattle.std.proofs.Common.{◌≡◌, ℕ, Bool, true, false, not, List, [], ◌∷◌, refl, sym, ap, subst, ◌∙◌, inl, inr}
+use Rattle.std.proofs.Common.{◌≡◌, ℕ, Bool, true, false, not, List, [], ◌∷◌, refl, sym, ap, subst, ◌∙◌, inl, inr, IsTrue}
 use Rattle.std.specs.Prelude.{◌==◌, ◌&&◌, ◌||◌}
-use Rattle.std.proofs.lemmas.Bool.{and_parts, eq-eqb, eqb-true}
-use Rattle.sw_lex.specs.Table.{rows as all_rows, from_common_rows, from_route_rows}
+use Rattle.std.proofs.lemmas.Bool.{and_parts, eq-eqb, eqb-true, cases_Bool}
+use Rattle.sw_lex.specs.Table.{rows as all_rows, from_common_rows, from_common_status_rows, from_macro_rows, from_arm_rows, from_initiate_rows, from_trigger_rows, from_route_rows, from_operation_rows, from_questionable_rows, from_system_rows, from_diagnostic_rows, from_fetch_rows}
 use Rattle.sw_lex.specs.declared.table.Key.{Key}
 use Rattle.sw_lex.specs.declared.table.Row.{Row}
 use Rattle.sw_lex.specs.Found.{IsIn, Spelling, spellings, IsFound}
@@ -10,12 +10,32 @@ use Rattle.sw_lex.proofs.Spelled.{all_short}
 use Rattle.sw_lex.specs.Apart.{same_word, same_words, lacks_words, disjoint, one_number, numbers_agree, same_bool, apart_from, all_apart}
 
 pub rows_apart : all_apart all_rows ≡ true
-unfolding from_common_rows from_route_rows
+unfolding from_common_rows from_common_status_rows from_macro_rows from_arm_rows from_initiate_rows from_trigger_rows from_route_rows from_operation_rows from_questionable_rows from_system_rows from_diagnostic_rows from_fetch_rows
 rows_apart = refl
 
 same_word-refl : (x : List ℕ) → same_word x x ≡ true
 same_word-refl [] = refl
 same_word-refl (b ∷ x) = rw (eq-eqb b b refl) (same_word-refl x)
+
+same_eq : (x y : List ℕ) → same_word x y ≡ true → x ≡ y
+same_eq [] [] h = refl
+same_eq [] (y ∷ ys) h = absurd (let z : false ≡ true = h in cc)
+same_eq (x ∷ xs) [] h = absurd (let z : false ≡ true = h in cc)
+same_eq (x ∷ xs) (y ∷ ys) h =
+    let p = and_parts (x == y) (same_word xs ys) h in
+    let a : x ≡ y = eqb-true x y p.0 in
+    let b : xs ≡ ys = same_eq xs ys p.1 in
+    cc
+
+pub bool_same : (b : Bool) (x y : List ℕ) → (IsTrue b → x ≡ y) × (x ≡ y → IsTrue b) → b ≡ same_word x y
+bool_same b x y h =
+    elim (cases_Bool (same_word x y)) [
+      | inl s ↦ h.1 (same_eq x y s) ∙ sym s
+      | inr s ↦ elim (cases_Bool b) [
+        | inl t ↦ absurd (let z : true ≡ false = sym (subst (λ (w : List ℕ). same_word x w ≡ true) (h.0 t) (same_word-refl x)) ∙ s in cc)
+        | inr t ↦ t ∙ sym s
+      ]
+    ]
 
 same_words-refl : (ws : List (List ℕ)) → same_words ws ws ≡ true
 same_words-refl [] = refl
@@ -109,5 +129,5 @@ one_found rows t ws query key other k m f g =
     (sym f.key_is ∙ r.0 ∙ g.key_is, r.1)
 
 pub rows_short : all_short all_rows ≡ true
-unfolding from_common_rows from_route_rows
+unfolding from_common_rows from_common_status_rows from_macro_rows from_arm_rows from_initiate_rows from_trigger_rows from_route_rows from_operation_rows from_questionable_rows from_system_rows from_diagnostic_rows from_fetch_rows
 rows_short = refl

@@ -1,8 +1,13 @@
 pub mod Units
+pub mod Numbers
 pub mod Spelled
 pub mod Apart
 pub mod Nodes
 pub mod Shorter
 pub mod Headings
+pub mod Quotes
+pub mod Blocks
+pub mod Leading
 pub mod Once
+pub mod Readings
 pub mod Meanings

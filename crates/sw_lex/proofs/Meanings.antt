@@ -1,17 +1,22 @@
 -- But for want of memory a unit below a path has one meaning.
-use Rattle.std.proofs.Common.{◌≡◌, ◌≢◌, List, [], ◌∷◌, sym, ap, subst, ◌∙◌, inl, inr, Result, Err}
+use Rattle.std.proofs.Common.{◌≡◌, ◌≢◌, ℕ, List, [], ◌∷◌, sym, ap, subst, ◌∙◌, inl, inr, Result, Ok, Err}
 use Rattle.std.specs.Result.{result_map_both}
 use Rattle.sw_base.specs.Layout.{Channel}
 use Rattle.sw_base.specs.declared.error.ScpiError.{ScpiError}
 use Rattle.sw_base.specs.declared.error.ScpiError.TheVariants.{OutOfMemory}
 use Rattle.sw_channel.proofs.Judging.{one_reading}
 use Rattle.sw_lex.specs.declared.command.Command.{Command}
-use Rattle.sw_lex.specs.declared.command.Command.TheVariants as commands
 use Rattle.sw_lex.specs.declared.table.Key.{Key}
 use Rattle.sw_lex.specs.declared.table.Key.TheVariants as keys
 use Rattle.sw_lex.specs.Unit.{Datum, number, character, string, block, expression, UnitView}
 use Rattle.sw_lex.specs.Table.{rows}
-use Rattle.sw_lex.specs.Meaning.{Nodes, looked_up, capitals, WithNone, WithList, OfList, Obeys, Resolves}
+use Rattle.sw_lex.specs.Commands.{layer_of, of_common, of_instrument, of_layer, of_group, of_channels}
+use Rattle.sw_lex.specs.Values.{on_ok, IsQuantity, ReadsQuantity, whole_of, continuous_of, macros_of, delay_of, source_meant}
+use Rattle.sw_lex.specs.Meaning.{Nodes, asked, WithNone, WithList, OfList, WithNumber, OfNumber, OfWord, OfSwitch, Obeys, Resolves}
+use Rattle.sw_base.specs.Text.{is_blank, Spans}
+use Rattle.sw_base.specs.Number.{Written}
+use Rattle.sw_base.proofs.Runs.{one_span}
+use Rattle.sw_base.proofs.Numerals.{one_number, not_both, one_refusal}
 use Rattle.sw_lex.proofs.Apart.{one_found, rows_apart}
 
 one_none : (command : Command) (ds : List Datum) (r s : Result Command ScpiError) → WithNone command ds r → WithNone command ds s → r ≡ s
@@ -33,24 +38,87 @@ one_of_list make ds r s a b n m =
     let e = one_list ds a.0 b.0 a.1 b.1 (λ k. n (a.2 ∙ ap f k)) (λ k. m (b.2 ∙ ap f k)) in
     a.2 ∙ ap f e ∙ sym b.2
 
-one_obeyed : (key : Key) (ds : List Datum) (r s : Result Command ScpiError) → Obeys key ds r → Obeys key ds s → r ≢ Err OutOfMemory → s ≢ Err OutOfMemory → r ≡ s
-one_obeyed keys.Identify ds r s a b n m = one_none commands.Identify ds r s a b
-one_obeyed keys.Close ds r s a b n m = one_of_list (λ cs. commands.Close cs) ds r s a b n m
-one_obeyed keys.CloseQuery ds r s a b n m = one_of_list (λ cs. commands.CloseQuery cs) ds r s a b n m
-one_obeyed keys.CloseState ds r s a b n m = one_none commands.CloseState ds r s a b
-one_obeyed keys.Open ds r s a b n m = one_of_list (λ cs. commands.Open cs) ds r s a b n m
+one_quantity_text : (text : List ℕ) (n m : Written) (s t : List ℕ) → IsQuantity text n s → IsQuantity text m t → (n ≡ m) × (s ≡ t)
+one_quantity_text text n m s t p q =
+    let r = one_number text n p.rest m q.rest p.number q.number in
+    (r.0, (one_span is_blank p.rest p.gap s q.gap t p.blank (subst (λ (x : List ℕ). Spans is_blank x q.gap t) (sym r.1) q.blank)).1)
+
+one_quantity : (text : List ℕ) (r s : Result (Written × List ℕ) ScpiError) → ReadsQuantity text r → ReadsQuantity text s → r ≡ s
+one_quantity text (Ok x) (Ok y) p q =
+    let r = one_quantity_text text x.0 y.0 x.1 y.1 p.0 q.0 in
+    ap (λ (n : Written). Ok (n, x.1)) r.0 ∙ ap (λ (t : List ℕ). Ok (y.0, t)) r.1
+one_quantity text (Ok x) (Err e) p q =
+    elim q [ inl a ↦ absurd (a.0 x.0 x.1 p.0) | inr a ↦ absurd (not_both text x.0 p.0.rest e p.0.number p.1 a.3) ]
+one_quantity text (Err e) (Ok y) p q =
+    elim p [ inl a ↦ absurd (a.0 y.0 y.1 q.0) | inr a ↦ absurd (not_both text y.0 q.0.rest e q.0.number q.1 a.3) ]
+one_quantity text (Err e) (Err f) p q =
+    elim p [
+      | inl a ↦ elim q [ inl b ↦ ap (λ (x : ScpiError). Err x) (a.1 ∙ sym b.1) | inr b ↦ absurd (a.0 b.0 b.1 b.2) ]
+      | inr a ↦ elim q [ inl b ↦ absurd (b.0 a.0 a.1 a.2) | inr b ↦ ap (λ (x : ScpiError). Err x) (one_refusal text e f a.3 b.3) ]
+    ]
+
+one_with_number : (ds : List Datum) (r s : Result (Written × List ℕ) ScpiError) → WithNumber ds r → WithNumber ds s → r ≡ s
+one_with_number [] r s a b = a ∙ sym b
+one_with_number (number t ∷ []) r s a b = one_quantity t r s a b
+one_with_number (character t ∷ []) r s a b = a ∙ sym b
+one_with_number (string t ∷ []) r s a b = a ∙ sym b
+one_with_number (block t ∷ []) r s a b = a ∙ sym b
+one_with_number (expression t ∷ []) r s a b = a ∙ sym b
+one_with_number (d ∷ c ∷ ds) r s a b = a ∙ sym b
+
+one_of_number : (meaning : Written → List ℕ → Result Command ScpiError) (ds : List Datum) (r s : Result Command ScpiError) → OfNumber meaning ds r → OfNumber meaning ds s → r ≡ s
+one_of_number meaning ds r s a b =
+    a.2 ∙ ap (λ (q : Result (Written × List ℕ) ScpiError). on_ok q (λ x. meaning x.0 x.1)) (one_with_number ds a.0 b.0 a.1 b.1) ∙ sym b.2
+
+one_of_word : (meaning : List ℕ → Result Command ScpiError) (ds : List Datum) (r s : Result Command ScpiError) → OfWord meaning ds r → OfWord meaning ds s → r ≡ s
+one_of_word meaning [] r s a b = a ∙ sym b
+one_of_word meaning (number t ∷ []) r s a b = a ∙ sym b
+one_of_word meaning (character t ∷ []) r s a b = a ∙ sym b
+one_of_word meaning (string t ∷ []) r s a b = a ∙ sym b
+one_of_word meaning (block t ∷ []) r s a b = a ∙ sym b
+one_of_word meaning (expression t ∷ []) r s a b = a ∙ sym b
+one_of_word meaning (d ∷ c ∷ ds) r s a b = a ∙ sym b
+
+one_of_switch : (ds : List Datum) (r s : Result Command ScpiError) → OfSwitch ds r → OfSwitch ds s → r ≡ s
+one_of_switch [] r s a b = a ∙ sym b
+one_of_switch (number t ∷ []) r s a b =
+    a.2 ∙ ap (λ (q : Result (Written × List ℕ) ScpiError). on_ok q (λ x. continuous_of x.0 x.1)) (one_quantity t a.0 b.0 a.1 b.1) ∙ sym b.2
+one_of_switch (character t ∷ []) r s a b = a ∙ sym b
+one_of_switch (string t ∷ []) r s a b = a ∙ sym b
+one_of_switch (block t ∷ []) r s a b = a ∙ sym b
+one_of_switch (expression t ∷ []) r s a b = a ∙ sym b
+one_of_switch (d ∷ c ∷ ds) r s a b = a ∙ sym b
+
+one_obeyed : (key : Key) (k : ℕ) (ds : List Datum) (r s : Result Command ScpiError) → Obeys key k ds r → Obeys key k ds s → r ≢ Err OutOfMemory → s ≢ Err OutOfMemory → r ≡ s
+one_obeyed (keys.Common ask) k ds r s a b n m = one_none (of_common ask) ds r s a b
+one_obeyed (keys.Instrument ask) k ds r s a b n m = one_none (of_instrument ask) ds r s a b
+one_obeyed (keys.Layer ask family) k ds r s a b n m = one_none (of_layer ask (layer_of family k)) ds r s a b
+one_obeyed (keys.Group ask group) k ds r s a b n m = one_none (of_group ask group) ds r s a b
+one_obeyed (keys.Channels ask) k ds r s a b n m = one_of_list (of_channels ask) ds r s a b n m
+one_obeyed (keys.Whole ask) k ds r s a b n m = one_of_number (whole_of ask k) ds r s a b
+one_obeyed (keys.Delay family) k ds r s a b n m = one_of_number (delay_of (layer_of family k)) ds r s a b
+one_obeyed (keys.Source family) k ds r s a b n m = one_of_word (source_meant (layer_of family k)) ds r s a b
+one_obeyed keys.Continuous k ds r s a b n m = one_of_switch ds r s a b
+one_obeyed keys.EnableMacros k ds r s a b n m = one_of_number macros_of ds r s a b
 
 pub one_meaning : (unit : UnitView) (below : Nodes) (r s : Result Command ScpiError) (a b : Nodes) → Resolves unit below r a → Resolves unit below s b → r ≢ Err OutOfMemory → s ≢ Err OutOfMemory → (r ≡ s) × (a ≡ b)
 one_meaning unit below r s a b p q n m =
     elim p [
       | inl c ↦ elim q [
         | inl d ↦
-            let k = one_found rows rows_apart (capitals (looked_up unit.header below)) unit.query c.key d.key c.number d.number c.found d.found in
-            (one_obeyed c.key unit.elements r s c.obeyed (subst (λ (x : Key). Obeys x unit.elements s) (sym k.0) d.obeyed) n m, c.onward ∙ sym d.onward)
-        | inr d ↦ absurd (d.nothing c.key c.number c.found)
+            let k = one_found rows rows_apart (asked unit below) unit.query c.key d.key c.number d.number c.found d.found in
+            let o : Obeys c.key c.number unit.elements s = subst (λ (x : Key). Obeys x c.number unit.elements s) (sym k.0) (subst (λ (x : ℕ). Obeys d.key x unit.elements s) (sym k.1) d.obeyed) in
+            (one_obeyed c.key c.number unit.elements r s c.obeyed o n m, c.onward ∙ sym d.onward)
+        | inr d ↦ elim d [ inl e ↦ absurd (e.nothing c.key c.number c.found) | inr e ↦ absurd (e.nothing c.key c.number c.found) ]
       ]
-      | inr c ↦ elim q [
-        | inl d ↦ absurd (c.nothing d.key d.number d.found)
-        | inr d ↦ (c.refused ∙ sym d.refused, c.stays ∙ sym d.stays)
+      | inr c ↦ elim c [
+        | inl e ↦ elim q [
+          | inl d ↦ absurd (e.nothing d.key d.number d.found)
+          | inr d ↦ elim d [ inl f ↦ (e.refused ∙ sym f.refused, e.stays ∙ sym f.stays) | inr f ↦ absurd (f.nowhere e.key e.number e.found) ]
+        ]
+        | inr e ↦ elim q [
+          | inl d ↦ absurd (e.nothing d.key d.number d.found)
+          | inr d ↦ elim d [ inl f ↦ absurd (e.nowhere f.key f.number f.found) | inr f ↦ (e.refused ∙ sym f.refused, e.stays ∙ sym f.stays) ]
+        ]
       ]
     ]

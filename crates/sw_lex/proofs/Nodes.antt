@@ -1,9 +1,11 @@
 -- The nodes of a header.
-use Rattle.std.proofs.Common.{◌≡◌, ℕ, ◌<◌, Bool, true, false, not, List, [], ◌∷◌, ◌++◌, length, refl, sym, ap, ◌∙◌, map, append_assoc, arith, Bor, inr, Err}
+use Rattle.std.proofs.Common.{◌≡◌, ℕ, ◌<◌, Bool, true, false, not, List, [], ◌∷◌, ◌++◌, length, refl, sym, ap, ◌∙◌, map, append_assoc, arith, Bor, inl, inr, subst, Err}
 use Rattle.std.specs.Prelude.{◌==◌, if◌then◌else◌}
 use Rattle.std.proofs.lemmas.List.{length-append, length-map, map_push}
 use Rattle.sw_base.specs.Text.{Lacks}
-use Rattle.sw_lex.specs.Meaning.{Nodes, nodes_of, led_by, looked_up, capitals, Resolves}
+use Rattle.sw_lex.specs.Meaning.{Nodes, nodes_of, led_by, looked_up, capitals, asked, IsNone, IsRefusal, Resolves}
+use Rattle.sw_lex.specs.Values.{unnumbered}
+use Rattle.sw_base.specs.declared.error.ScpiError.{ScpiError}
 use Rattle.sw_lex.specs.Unit.{UnitView}
 use Rattle.sw_lex.specs.Table.{rows}
 use Rattle.sw_lex.proofs.Spelled.{too_long}
@@ -64,8 +66,24 @@ pub capitals_of : (items : List (Bor (List ℕ))) (all : Nodes) → texts items 
 capitals_of items all e = sym (map-map (λ (t : List ℕ). map to_ascii_uppercase t) (λ (w : Bor (List ℕ)). w.now) items) ∙ ap (λ (t : Nodes). capitals t) e
 
 pub unknown_many : (unit : UnitView) (below : Nodes) → 4 < length (looked_up unit.header below) → Resolves unit below (Err UndefinedHeader) below
-unknown_many unit below l = inr (record {
-  nothing = too_long rows (capitals (looked_up unit.header below)) rows_short (omega (arith, l, length-map (looked_up unit.header below) (λ (w : List ℕ). map to_ascii_uppercase w))) unit.query;
-  refused = refl;
-  stays = refl;
-})
+unknown_many unit below l =
+    let ns = looked_up unit.header below in
+    let up : List ℕ → List ℕ = λ w. map to_ascii_uppercase w in
+    inr (inr (record {
+      nothing = too_long rows (capitals ns) rows_short (omega (arith, l, length-map ns up)) unit.query;
+      nowhere = too_long rows (capitals (map unnumbered ns)) rows_short (omega (arith, l, length-map (map unnumbered ns) up, length-map ns unnumbered)) unit.query;
+      refused = refl;
+      stays = refl;
+    }))
+
+-- the nodes without a number, in capitals
+pub plain_of : (items nodes : List (Bor (List ℕ))) → texts items ≡ map (λ (w : Bor (List ℕ)). unnumbered w.now) nodes → map (λ (w : Bor (List ℕ)). map to_ascii_uppercase w.now) items ≡ capitals (map unnumbered (texts nodes))
+plain_of items nodes e =
+    capitals_of items (map (λ (w : Bor (List ℕ)). unnumbered w.now) nodes) e ∙ ap (λ (t : Nodes). capitals t) (sym (map-map unnumbered (λ (w : Bor (List ℕ)). w.now) nodes))
+
+pub refused_is : (unit : UnitView) (below nodes : Nodes) (e : ScpiError) → nodes ≡ looked_up unit.header below → IsNone (asked unit below) unit.query → IsRefusal nodes unit.query e → Resolves unit below (Err e) below
+refused_is unit below nodes e h n r =
+    elim (subst (λ (x : Nodes). IsRefusal x unit.query e) h r) [
+      | inl k ↦ inr (inl (record { nothing = n; key = k.0; number = k.1; found = k.2; refused = ap (λ (x : ScpiError). Err x) k.3; stays = refl }))
+      | inr k ↦ inr (inr (record { nothing = n; nowhere = k.0; refused = ap (λ (x : ScpiError). Err x) k.1; stays = refl }))
+    ]

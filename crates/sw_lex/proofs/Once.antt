@@ -1,69 +1,29 @@
 -- A text has at most one unit at its front, or one refusal.
-use Rattle.std.proofs.Common.{◌≡◌, ℕ, ◌+◌, ◌<◌, ◌≤◌, Bool, true, false, List, [], ◌∷◌, ◌++◌, length, refl, sym, ap, subst, ◌∙◌, append_assoc, arith, inl, inr}
+use Rattle.std.proofs.Common.{◌≡◌, ℕ, ◌+◌, ◌<◌, ◌≤◌, Bool, true, false, not, Some, None, List, [], ◌∷◌, ◌++◌, length, refl, sym, ap, subst, ◌∙◌, arith, inl, inr}
 use Rattle.std.specs.Prelude.{◌==◌}
 use Rattle.std.proofs.lemmas.List.{append-nil}
-use Rattle.sw_base.specs.Text.{is_blank, StartsOff, Spans}
+use Rattle.sw_base.specs.Text.{is_blank, is_digit, StartsOff, Spans}
 use Rattle.sw_base.proofs.Runs.{same_span, one_span}
 use Rattle.sw_base.specs.declared.error.ScpiError.{ScpiError}
-use Rattle.sw_base.specs.declared.error.ScpiError.TheVariants.{InvalidSeparator, InvalidExpression}
-use Rattle.sw_lex.specs.Unit.{Heading, Heads, Asks, Datum, number, character, string, block, expression, Leads, Ends, IsNext, IsLast, IsData, IsTail, UnitView, IsUnit, Reaches, IsStuck, BeginsNone, IsSeventeenth, IsUnclosed, IsUnseparated, IsDataRefused, IsTailRefused, IsPartRefused, IsRefused, IsBlank, HasNoHeading, is_gap, is_inner, is_start, fault_at, heading_text}
+use Rattle.sw_base.specs.declared.error.ScpiError.TheVariants.{DataTypeError, InvalidSeparator, InvalidExpression}
+use Rattle.sw_lex.specs.Unit.{Heading, Heads, Asks, Datum, kind_of, Leads, Ends, IsNext, IsLast, IsData, IsTail, UnitView, IsUnit, Reaches, IsStuck, BeginsNone, IsSeventeenth, IsUnclosed, IsBadBlock, IsBroken, BreaksIn, IsUnseparated, IsDataRefused, IsTailRefused, IsPartRefused, IsRefused, IsBlank, HasNoHeading, is_gap, fault_at, heading_text}
+use Rattle.sw_lex.specs.declared.elements.Kind.{Kind}
+use Rattle.sw_lex.specs.declared.elements.Kind.TheVariants as kinds
+use Rattle.sw_lex.specs.Elements.{is_inner, IsBlock, IsExpression, IsElement}
+use Rattle.sw_lex.proofs.Leading.{one_kind, one_leads, width_digit}
 use Rattle.sw_lex.proofs.Headings.{not_both, one_heading, none_heading, one_none, one_ask}
 use Rattle.sw_lex.proofs.Shorter.{longer, heading_some}
 
 -- ---- one element
 
-inner_on : (inner after : List ℕ) → (40 ∷ (inner ++ 41 ∷ [])) ++ after ≡ 40 ∷ (inner ++ 41 ∷ after)
-inner_on inner after = ap (λ (t : List ℕ). 40 ∷ t) (append_assoc inner (41 ∷ []) after)
-
-one_leads : (text : List ℕ) (d c : Datum) (a b : List ℕ) → Leads text d a → Leads text c b → (d ≡ c) × (a ≡ b)
-one_leads text (number t) c a b p q = absurd p.form
-one_leads text (character t) c a b p q = absurd p.form
-one_leads text (string t) c a b p q = absurd p.form
-one_leads text (block t) c a b p q = absurd p.form
-one_leads text (expression t) (number u) a b p q = absurd q.form
-one_leads text (expression t) (character u) a b p q = absurd q.form
-one_leads text (expression t) (string u) a b p q = absurd q.form
-one_leads text (expression t) (block u) a b p q = absurd q.form
-one_leads text (expression t) (expression u) a b p q =
-    let e : 40 ∷ (p.form.0 ++ 41 ∷ a) ≡ 40 ∷ (q.form.0 ++ 41 ∷ b) = sym (inner_on p.form.0 a) ∙ ap (λ (x : List ℕ). x ++ a) (sym p.form.2) ∙ sym p.whole ∙ q.whole ∙ ap (λ (x : List ℕ). x ++ b) q.form.2 ∙ inner_on q.form.0 b in
-    let f : p.form.0 ++ 41 ∷ a ≡ q.form.0 ++ 41 ∷ b = cc in
-    let r = same_span is_inner p.form.0 (41 ∷ a) q.form.0 (41 ∷ b) p.form.1 refl q.form.1 refl f in
-    let s : 41 ∷ a ≡ 41 ∷ b = r.1 in
-    let k : t ≡ u = p.form.2 ∙ ap (λ (x : List ℕ). 40 ∷ (x ++ 41 ∷ [])) r.0 ∙ sym q.form.2 in
-    (ap (λ (x : List ℕ). expression x) k, let z : a ≡ b = cc in z)
-
-leads_first : (b : ℕ) (text : List ℕ) (d : Datum) (a : List ℕ) → Leads (b ∷ text) d a → is_start b ≡ true
-leads_first b text (number t) a p = absurd p.form
-leads_first b text (character t) a p = absurd p.form
-leads_first b text (string t) a p = absurd p.form
-leads_first b text (block t) a p = absurd p.form
-leads_first b text (expression t) a p =
-    let e : b ∷ text ≡ 40 ∷ (p.form.0 ++ 41 ∷ a) = p.whole ∙ ap (λ (x : List ℕ). x ++ a) p.form.2 ∙ inner_on p.form.0 a in
-    let k : b ≡ 40 = cc in
-    subst (λ (x : ℕ). is_start x ≡ true) (sym k) refl
-
-no_lead : (d : Datum) (a : List ℕ) → Leads [] d a → ⊥
-no_lead (number t) a p = p.form
-no_lead (character t) a p = p.form
-no_lead (string t) a p = p.form
-no_lead (block t) a p = p.form
-no_lead (expression t) a p =
-    let e : [] ≡ 40 ∷ (p.form.0 ++ 41 ∷ a) = p.whole ∙ ap (λ (x : List ℕ). x ++ a) p.form.2 ∙ inner_on p.form.0 a in
-    cc
-
 begins_not : (text : List ℕ) (e : ScpiError) (d : Datum) (a : List ℕ) → BeginsNone text e → Leads text d a → ⊥
-begins_not [] e d a n p = no_lead d a p
-begins_not (b ∷ text) e d a n p = not_both is_start b b refl (leads_first b text d a p) n.0
+begins_not text e d a n p = let z : None ≡ Some (kind_of d) = sym n.0 ∙ p.starts in cc
 
-unclosed_not : (text : List ℕ) (e : ScpiError) (d : Datum) (a : List ℕ) → IsUnclosed text e → Leads text d a → ⊥
-unclosed_not text e (number t) a u p = p.form
-unclosed_not text e (character t) a u p = p.form
-unclosed_not text e (string t) a u p = p.form
-unclosed_not text e (block t) a u p = p.form
-unclosed_not text e (expression t) a u p =
-    let f : 40 ∷ u.more ≡ 40 ∷ (p.form.0 ++ 41 ∷ a) = sym u.opened ∙ p.whole ∙ ap (λ (x : List ℕ). x ++ a) p.form.2 ∙ inner_on p.form.0 a in
-    let g : u.more ≡ p.form.0 ++ 41 ∷ a = cc in
-    let r = same_span is_inner u.inner u.after p.form.0 (41 ∷ a) u.span.pass u.span.off p.form.1 refl (sym u.span.whole ∙ g) in
+unclosed_not : (text : List ℕ) (e : ScpiError) (a : List ℕ) → IsUnclosed text e → IsExpression text a → ⊥
+unclosed_not text e a u p =
+    let f : 40 ∷ u.more ≡ 40 ∷ (p.inner ++ 41 ∷ a) = sym u.opened ∙ p.whole in
+    let g : u.more ≡ p.inner ++ 41 ∷ a = cc in
+    let r = same_span is_inner u.inner u.after p.inner (41 ∷ a) u.span.pass u.span.off p.pass refl (sym u.span.whole ∙ g) in
     let z : true ≡ false = subst (λ (y : List ℕ). StartsOff (λ b. b == 41) y) r.1 u.open_still in
     cc
 
@@ -73,6 +33,64 @@ one_unclosed text e f u v =
     let b : u.more ≡ v.more = cc in
     let r = same_span is_inner u.inner u.after v.inner v.after u.span.pass u.span.off v.span.pass v.span.off (sym u.span.whole ∙ b ∙ v.span.whole) in
     u.error ∙ ap (λ (x : List ℕ). fault_at InvalidExpression x) r.1 ∙ sym v.error
+
+same_more : (text a b : List ℕ) → text ≡ 35 ∷ a → text ≡ 35 ∷ b → a ≡ b
+same_more text a b e f = let g : 35 ∷ a ≡ 35 ∷ b = sym e ∙ f in cc
+
+-- a byte that is no digit doesn't begin what is a digit or nothing
+no_digit_clash : (more others : List ℕ) (b : ℕ) → StartsOff (λ c. not (is_digit c)) more → more ≡ b ∷ others → is_digit b ≡ false → ⊥
+no_digit_clash more others b o e h =
+    let z : not (is_digit b) ≡ false = subst (λ (y : List ℕ). StartsOff (λ c. not (is_digit c)) y) e o in
+    let y : not false ≡ false = rw h at z in
+    cc
+
+bad_block_not : (text : List ℕ) (e : ScpiError) (bytes a : List ℕ) → IsBadBlock text e → IsBlock text bytes a → ⊥
+bad_block_not text e bytes a u p =
+    elim u.why [
+      | inl x ↦ x.1 bytes a p
+      | inr x ↦
+          let m : u.more ≡ (48 + length p.digits) ∷ (p.digits ++ (bytes ++ a)) = same_more text u.more ((48 + length p.digits) ∷ (p.digits ++ (bytes ++ a))) u.opened p.whole in
+          let f : x.0 ∷ x.1 ≡ (48 + length p.digits) ∷ (p.digits ++ (bytes ++ a)) = sym x.2 ∙ m in
+          let k : x.0 ≡ 48 + length p.digits = cc in
+          let l : is_digit (48 + length p.digits) ≡ true = width_digit (length p.digits) p.few in
+          not_both is_digit (48 + length p.digits) x.0 (sym k) l x.3
+    ]
+
+one_bad_block : (text : List ℕ) (e f : ScpiError) → IsBadBlock text e → IsBadBlock text f → e ≡ f
+one_bad_block text e f u v =
+    let m = same_more text u.more v.more u.opened v.opened in
+    elim u.why [
+      | inl x ↦ elim v.why [
+        | inl y ↦ x.2 ∙ sym y.2
+        | inr y ↦ absurd (no_digit_clash u.more y.1 y.0 x.0 (m ∙ y.2) y.3)
+      ]
+      | inr x ↦ elim v.why [
+        | inl y ↦ absurd (no_digit_clash v.more x.1 x.0 y.0 (sym m ∙ x.2) x.3)
+        | inr y ↦ x.4 ∙ ap (λ (t : List ℕ). fault_at DataTypeError t) m ∙ sym y.4
+      ]
+    ]
+
+broken_not : (k : Kind) (text : List ℕ) (e : ScpiError) (a : List ℕ) → IsBroken k text e → IsElement k text a → ⊥
+broken_not kinds.Number text e a u p = u
+broken_not kinds.Character text e a u p = u
+broken_not kinds.String text e a u p = u.open_still p.0 a p.1
+broken_not kinds.Block text e a u p = bad_block_not text e p.0 a u p.1
+broken_not kinds.Expression text e a u p = unclosed_not text e a u p
+
+one_broken : (k : Kind) (text : List ℕ) (e f : ScpiError) → IsBroken k text e → IsBroken k text f → e ≡ f
+one_broken kinds.Number text e f u v = absurd u
+one_broken kinds.Character text e f u v = absurd u
+one_broken kinds.String text e f u v = u.error ∙ sym v.error
+one_broken kinds.Block text e f u v = one_bad_block text e f u v
+one_broken kinds.Expression text e f u v = one_unclosed text e f u v
+
+breaks_not : (text : List ℕ) (e : ScpiError) (d : Datum) (a : List ℕ) → BreaksIn text e → Leads text d a → ⊥
+breaks_not text e d a u p =
+    broken_not u.0 text e a u.2 (subst (λ (x : Kind). IsElement x text a) (one_kind text (kind_of d) u.0 p.starts u.1) p.form)
+
+one_break_in : (text : List ℕ) (e f : ScpiError) → BreaksIn text e → BreaksIn text f → e ≡ f
+one_break_in text e f u v =
+    one_broken u.0 text e f u.2 (subst (λ (x : Kind). IsBroken x text f) (one_kind text v.0 u.0 v.1 u.1) v.2)
 
 -- ---- what follows an element
 
@@ -123,21 +141,16 @@ one_unseparated text e f u v =
 -- ---- where an element should stand
 
 seventeenth : (n : ℕ) (text : List ℕ) (e : ScpiError) → IsSeventeenth n text e → n ≡ 16
-seventeenth n [] e h = absurd h
-seventeenth n (b ∷ text) e h = h.0
+seventeenth n text e h = h.0
 
 seventeenth_begins : (n : ℕ) (text : List ℕ) (e f : ScpiError) → IsSeventeenth n text e → BeginsNone text f → ⊥
-seventeenth_begins n [] e f h g = h
-seventeenth_begins n (b ∷ text) e f h g = not_both is_start b b refl h.1 g.0
+seventeenth_begins n text e f h g = let z : None ≡ Some h.1 = sym g.0 ∙ h.2 in cc
 
 one_seventeenth : (n : ℕ) (text : List ℕ) (e f : ScpiError) → IsSeventeenth n text e → IsSeventeenth n text f → e ≡ f
-one_seventeenth n [] e f h g = absurd h
-one_seventeenth n (b ∷ text) e f h g = h.2 ∙ sym g.2
+one_seventeenth n text e f h g = h.3 ∙ sym g.3
 
-unclosed_begins : (text : List ℕ) (e f : ScpiError) → IsUnclosed text e → BeginsNone text f → ⊥
-unclosed_begins text e f u g =
-    let z : true ≡ false = subst (λ (y : List ℕ). StartsOff is_start y) u.opened g.0 in
-    cc
+breaks_begins : (text : List ℕ) (e f : ScpiError) → BreaksIn text e → BeginsNone text f → ⊥
+breaks_begins text e f u g = let z : None ≡ Some u.0 = sym g.0 ∙ u.1 in cc
 
 stuck_next : (n : ℕ) (text : List ℕ) (e : ScpiError) (d : Datum) (x : List ℕ) → IsStuck n text e → n < 16 → IsNext text d x → ⊥
 stuck_next n text e d x s l p =
@@ -145,7 +158,7 @@ stuck_next n text e d x s l p =
       | inl b ↦ begins_not text e d p.after b p.element
       | inr t ↦ elim t [
         | inl h ↦ omega (arith, seventeenth n text e h, l)
-        | inr q ↦ elim q.1 [ inl u ↦ unclosed_not text e d p.after u p.element | inr u ↦ unseparated_next text e d x u p ]
+        | inr q ↦ elim q.1 [ inl u ↦ breaks_not text e d p.after u p.element | inr u ↦ unseparated_next text e d x u p ]
       ]
     ]
 
@@ -155,7 +168,7 @@ stuck_last n text e d x s l p =
       | inl b ↦ begins_not text e d p.after b p.element
       | inr t ↦ elim t [
         | inl h ↦ omega (arith, seventeenth n text e h, l)
-        | inr q ↦ elim q.1 [ inl u ↦ unclosed_not text e d p.after u p.element | inr u ↦ unseparated_last text e d x u p ]
+        | inr q ↦ elim q.1 [ inl u ↦ breaks_not text e d p.after u p.element | inr u ↦ unseparated_last text e d x u p ]
       ]
     ]
 
@@ -166,7 +179,7 @@ one_stuck n text e f s t =
         | inl c ↦ b.1 ∙ sym c.1
         | inr y ↦ elim y [
           | inl h ↦ absurd (seventeenth_begins n text f e h b)
-          | inr q ↦ elim q.1 [ inl u ↦ absurd (unclosed_begins text f e u b) | inr u ↦ absurd (begins_not text e u.datum u.after b u.element) ]
+          | inr q ↦ elim q.1 [ inl u ↦ absurd (breaks_begins text f e u b) | inr u ↦ absurd (begins_not text e u.datum u.after b u.element) ]
         ]
       ]
       | inr x ↦ elim x [
@@ -178,12 +191,12 @@ one_stuck n text e f s t =
           ]
         ]
         | inr p ↦ elim t [
-          | inl c ↦ elim p.1 [ inl u ↦ absurd (unclosed_begins text e f u c) | inr u ↦ absurd (begins_not text f u.datum u.after c u.element) ]
+          | inl c ↦ elim p.1 [ inl u ↦ absurd (breaks_begins text e f u c) | inr u ↦ absurd (begins_not text f u.datum u.after c u.element) ]
           | inr y ↦ elim y [
             | inl g ↦ absurd (omega (arith, seventeenth n text f g, p.0))
             | inr q ↦ elim p.1 [
-              | inl u ↦ elim q.1 [ inl v ↦ one_unclosed text e f u v | inr v ↦ absurd (unclosed_not text e v.datum v.after u v.element) ]
-              | inr u ↦ elim q.1 [ inl v ↦ absurd (unclosed_not text f u.datum u.after v u.element) | inr v ↦ one_unseparated text e f u v ]
+              | inl u ↦ elim q.1 [ inl v ↦ one_break_in text e f u v | inr v ↦ absurd (breaks_not text e v.datum v.after u v.element) ]
+              | inr u ↦ elim q.1 [ inl v ↦ absurd (breaks_not text f u.datum u.after v u.element) | inr v ↦ one_unseparated text e f u v ]
             ]
           ]
         ]

@@ -1,5 +1,5 @@
 -- The spellings that are listed are those that fit.
-use Rattle.std.proofs.Common.{◌≡◌, ℕ, List, [], ◌∷◌, ◌++◌, refl, sym, ap, subst, ◌∙◌, ◌⊎◌, inl, inr, Bool, true, Option, Some, None, length, ◌<◌, ◌≤◌, nat_le, ◌&&◌, arith}
+use Rattle.std.proofs.Common.{◌≡◌, ℕ, List, [], ◌∷◌, ◌++◌, refl, sym, ap, subst, ◌∙◌, ◌⊎◌, inl, inr, Bool, true, false, Option, Some, None, length, ◌<◌, ◌≤◌, nat_le, ◌&&◌, arith}
 use Rattle.std.proofs.lemmas.Bool.{and_parts}
 use Rattle.std.proofs.lemmas.Grind.{common_steps}
 use Rattle.std.specs.Prelude.{IfSome, IfNone}
@@ -9,7 +9,7 @@ use Rattle.sw_lex.specs.declared.table.Step.{Step}
 use Rattle.sw_lex.specs.declared.table.Step.TheVariants.{Must, May, Numbered, End}
 use Rattle.sw_lex.specs.declared.table.Row.{Row}
 use Rattle.sw_lex.specs.Words.{short_of, long_of}
-use Rattle.sw_lex.specs.Found.{IsIn, Spelling, after_word, after_numbered, after_either, after_number, spellings, IsForm, IsNumbered, Fits, IsFound, Matches}
+use Rattle.sw_lex.specs.Found.{head_is, first_is, is_led, all_led, IsIn, Spelling, after_word, after_numbered, after_either, after_number, spellings, IsForm, IsNumbered, Fits, IsFound, Matches}
 
 in_left : {X : Type 0} (x : X) (xs ys : List X) → IsIn x xs → IsIn x (xs ++ ys)
 in_left x [] ys h = absurd h
@@ -260,3 +260,30 @@ too_long rows ws t l query key k f =
     let a = fits_length f.row.steps ws k (listed_fits f.row.steps ws k f.spelled) in
     let b = short_at rows f.row t f.listed in
     omega (arith, a, b, l)
+
+-- ---- a header that begins with another byte is none of the rows
+
+fits_led : (lead : ℕ) (ss : List Step) (ws : List (List ℕ)) (k : ℕ) → is_led lead ss ≡ true → Fits ss ws k → first_is lead ws ≡ true
+fits_led lead [] ws k t f = absurd (let z : false ≡ true = t in cc)
+fits_led lead (End ∷ ss) ws k t f = absurd (let z : false ≡ true = t in cc)
+fits_led lead (May w ∷ ss) ws k t f = absurd (let z : false ≡ true = t in cc)
+fits_led lead (Numbered w ∷ ss) ws k t f = absurd (let z : false ≡ true = t in cc)
+fits_led lead (Must w ∷ ss) [] k t f = absurd f
+fits_led lead (Must w ∷ ss) (x ∷ ws) k t f =
+    let p = and_parts (head_is lead (short_of w)) (head_is lead (long_of w)) t in
+    elim f.0 [
+      | inl e ↦ subst (λ (y : List ℕ). head_is lead y ≡ true) (sym e) p.0
+      | inr e ↦ subst (λ (y : List ℕ). head_is lead y ≡ true) (sym e) p.1
+    ]
+
+led_at : (lead : ℕ) (rows : List Row) (row : Row) → all_led lead rows ≡ true → IsIn row rows → is_led lead row.steps ≡ true
+led_at lead [] row t h = absurd h
+led_at lead (r ∷ rows) row t h =
+    let p = and_parts (is_led lead r.steps) (all_led lead rows) t in
+    elim h [ inl e ↦ subst (λ (x : Row). is_led lead x.steps ≡ true) (sym e) p.0 | inr i ↦ led_at lead rows row p.1 i ]
+
+pub not_led : (lead : ℕ) (rows : List Row) (ws : List (List ℕ)) (query : Bool) → all_led lead rows ≡ true → first_is lead ws ≡ false → (key : Key) (k : ℕ) → IsFound rows ws query key k → ⊥
+not_led lead rows ws query t h key k f =
+    let l = fits_led lead f.row.steps ws k (led_at lead rows f.row t f.listed) (listed_fits f.row.steps ws k f.spelled) in
+    let z : true ≡ false = sym l ∙ h in
+    cc

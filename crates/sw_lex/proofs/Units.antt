@@ -2,11 +2,11 @@
 use Rattle.std.proofs.Common.{◌≡◌, ℕ, ◌+◌, ◌≤◌, List, [], ◌∷◌, ◌++◌, length, take, drop, refl, sym, ap, subst, ◌∙◌, append_assoc, arith}
 use Rattle.std.specs.List.{AllByRecursion}
 use Rattle.std.proofs.lemmas.List.{append-nil, length-append, take_at, drop_at, map_push, take-append-drop, length-map}
-use Rattle.sw_base.specs.Text.{is_letter, AllPass, StartsOff}
+use Rattle.sw_base.specs.Text.{is_letter, StartsOff}
 use Rattle.sw_base.specs.declared.error.ScpiError.{ScpiError}
 use Rattle.sw_base.specs.declared.error.ScpiError.TheVariants.{SyntaxError}
 use Rattle.sw_lex.specs.declared.unit.Element.{Element}
-use Rattle.sw_lex.specs.Unit.{IsMnemonic, IsName, colons, IsPath, BreaksOff, Datum, IsData, Reaches, IsNext, IsLast, fault_at, data_of, datum_of, IsStuck, IsDataRefused, Heads, common, Leads, expression, is_inner}
+use Rattle.sw_lex.specs.Unit.{IsMnemonic, IsName, colons, IsPath, BreaksOff, Datum, IsData, Reaches, IsNext, IsLast, fault_at, data_of, datum_of, IsStuck, IsDataRefused, Heads, common}
 
 -- ---- a part of a text by its length
 
@@ -15,15 +15,6 @@ front_of text part rest n e k = rw e (take_at part rest n k)
 
 pub rest_of : (text part rest : List ℕ) (n : ℕ) → text ≡ part ++ rest → length part ≡ n → drop n text ≡ rest
 rest_of text part rest n e k = rw e (drop_at part rest n k)
-
--- ---- an expression
-
-pub opened_whole : (text more inner after rest : List ℕ) → text ≡ 40 ∷ more → more ≡ inner ++ after → after ≡ 41 ∷ rest → text ≡ (40 ∷ (inner ++ 41 ∷ [])) ++ rest
-opened_whole text more inner after rest e f g =
-    e ∙ ap (λ (t : List ℕ). 40 ∷ t) (f ∙ ap (λ (t : List ℕ). inner ++ t) g ∙ sym (append_assoc inner (41 ∷ []) rest))
-
-pub opened_length : (inner : List ℕ) → length (40 ∷ (inner ++ 41 ∷ [])) ≡ length inner + 2
-opened_length inner = omega (arith, length-append inner (41 ∷ []))
 
 -- ---- a header so far: mnemonics and their colons
 
@@ -121,11 +112,4 @@ common-heads text more name rest e h f o =
       form = (name, h, front_of text (42 ∷ name) rest (length name + 1) w n);
       whole = sym (take-append-drop (length name + 1) text);
       far = subst (λ (t : List ℕ). StartsOff is_letter t) (sym b) o;
-    }
-
-pub expression-leads : (text more inner after rest : List ℕ) → text ≡ 40 ∷ more → more ≡ inner ++ after → AllPass is_inner inner → after ≡ 41 ∷ rest → Leads text (expression (take (length inner + 2) text)) (drop (length inner + 2) text)
-expression-leads text more inner after rest e f p g =
-    record {
-      form = (inner, p, front_of text (40 ∷ (inner ++ 41 ∷ [])) rest (length inner + 2) (opened_whole text more inner after rest e f g) (opened_length inner));
-      whole = sym (take-append-drop (length inner + 2) text);
     }

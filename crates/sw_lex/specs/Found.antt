@@ -1,5 +1,5 @@
 -- Which command a header is: its spellings, all of them.
-use Rattle.std.specs.Prelude.{◌≡◌, ℕ, Bool, List, [], ◌∷◌, ◌++◌, map, ◌⊎◌}
+use Rattle.std.specs.Prelude.{◌≡◌, ℕ, Bool, true, false, ◌==◌, ◌&&◌, List, [], ◌∷◌, ◌++◌, map, ◌⊎◌}
 use Rattle.sw_lex.specs.declared.table.Key.{Key}
 use Rattle.sw_lex.specs.declared.table.Word.{Word}
 use Rattle.sw_lex.specs.declared.table.Step.{Step}
@@ -68,3 +68,27 @@ Fits (Numbered w ∷ ss) (x ∷ ws) k = (IsForm w x × Fits ss ws k)
 abbrev pub Matches : List Row → List (List ℕ) → Bool → Key → ℕ → Type 0
 Matches [] ws query key k = ⊥
 Matches (r ∷ rows) ws query key k = ((r.query ≡ query) × (r.key ≡ key) × Fits r.steps ws k) ⊎ Matches rows ws query key k
+
+-- ---- the first byte of a header
+
+abbrev pub head_is : ℕ → List ℕ → Bool
+head_is lead [] = false
+head_is lead (b ∷ word) = b == lead
+
+-- the first word begins with the byte
+abbrev pub first_is : ℕ → List (List ℕ) → Bool
+first_is lead [] = false
+first_is lead (word ∷ words) = head_is lead word
+
+-- the first node has to be there, and both its forms begin with the byte
+abbrev pub is_led : ℕ → List Step → Bool
+is_led lead [] = false
+is_led lead (End ∷ ss) = false
+is_led lead (May w ∷ ss) = false
+is_led lead (Numbered w ∷ ss) = false
+is_led lead (Must w ∷ ss) = head_is lead (short_of w) && head_is lead (long_of w)
+
+-- each header of the rows begins with the byte
+abbrev pub all_led : ℕ → List Row → Bool
+all_led lead [] = true
+all_led lead (r ∷ rows) = is_led lead r.steps && all_led lead rows

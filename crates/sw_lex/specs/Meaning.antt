@@ -1,17 +1,19 @@
 -- From a unit to its command (SCPI-1999, volume 1, 6.2.4 for paths; 21.8.9 for refusals).
-use Rattle.std.specs.Prelude.{◌≡◌, ℕ, ◌-◌, true, false, ◌==◌, List, [], ◌∷◌, ◌++◌, length, map, take, Result, Ok, Err, ◌⊎◌, if◌then◌else◌}
+use Rattle.std.specs.Prelude.{◌≡◌, ℕ, ◌-◌, Bool, true, false, ◌==◌, List, [], ◌∷◌, ◌++◌, length, map, take, Result, Ok, Err, ◌⊎◌, if◌then◌else◌}
 use Rattle.std.specs.Char.{to_ascii_uppercase}
 use Rattle.std.specs.Result.{result_map_both}
 use Rattle.sw_base.specs.Layout.{Channel}
 use Rattle.sw_base.specs.declared.error.ScpiError.{ScpiError}
-use Rattle.sw_base.specs.declared.error.ScpiError.TheVariants.{DataTypeError, ParameterNotAllowed, MissingParameter, UndefinedHeader}
+use Rattle.sw_base.specs.declared.error.ScpiError.TheVariants.{DataTypeError, ParameterNotAllowed, MissingParameter, UndefinedHeader, HeaderSuffixOutOfRange}
+use Rattle.sw_base.specs.Number.{Written}
 use Rattle.sw_channel.specs.Reading.{Reads}
 use Rattle.sw_lex.specs.declared.command.Command.{Command}
-use Rattle.sw_lex.specs.declared.command.Command.TheVariants as commands
 use Rattle.sw_lex.specs.declared.table.Key.{Key}
 use Rattle.sw_lex.specs.declared.table.Key.TheVariants as keys
 use Rattle.sw_lex.specs.declared.paths.Path.{Path}
 use Rattle.sw_lex.specs.Unit.{Heading, common, path, Datum, number, character, string, block, expression, UnitView}
+use Rattle.sw_lex.specs.Commands.{layer_of, of_common, of_instrument, of_layer, of_group, of_channels}
+use Rattle.sw_lex.specs.Values.{on_ok, ReadsQuantity, whole_of, continuous_of, macros_of, delay_of, source_meant, switch_meant, unnumbered}
 use Rattle.sw_lex.specs.Found.{IsFound}
 use Rattle.sw_lex.specs.Table.{rows}
 
@@ -72,30 +74,98 @@ WithList (d ∷ c ∷ ds) r = r ≡ Err ParameterNotAllowed
 abbrev pub OfList : (List Channel → Command) → List Datum → Result Command ScpiError → Type 0
 OfList make ds r = (read : Result (List Channel) ScpiError) × WithList ds read × (r ≡ result_map_both make (λ e. e) read)
 
--- the command of a header with these data, or its first refusal; or want of memory where a list is read
-abbrev pub Obeys : Key → List Datum → Result Command ScpiError → Type 0
-Obeys keys.Identify ds r = WithNone commands.Identify ds r
-Obeys keys.Close ds r = OfList (λ cs. commands.Close cs) ds r
-Obeys keys.CloseQuery ds r = OfList (λ cs. commands.CloseQuery cs) ds r
-Obeys keys.CloseState ds r = WithNone commands.CloseState ds r
-Obeys keys.Open ds r = OfList (λ cs. commands.Open cs) ds r
+-- one number: the number and its suffix, or the first refusal
+abbrev pub WithNumber : List Datum → Result (Written × List ℕ) ScpiError → Type 0
+WithNumber [] r = r ≡ Err MissingParameter
+WithNumber (number t ∷ []) r = ReadsQuantity t r
+WithNumber (character t ∷ []) r = r ≡ Err DataTypeError
+WithNumber (string t ∷ []) r = r ≡ Err DataTypeError
+WithNumber (block t ∷ []) r = r ≡ Err DataTypeError
+WithNumber (expression t ∷ []) r = r ≡ Err DataTypeError
+WithNumber (d ∷ c ∷ ds) r = r ≡ Err ParameterNotAllowed
+
+-- the command of one number
+abbrev pub OfNumber : (Written → List ℕ → Result Command ScpiError) → List Datum → Result Command ScpiError → Type 0
+OfNumber meaning ds r = (read : Result (Written × List ℕ) ScpiError) × WithNumber ds read × (r ≡ on_ok read (λ x. meaning x.0 x.1))
+
+-- the command of one word
+abbrev pub OfWord : (List ℕ → Result Command ScpiError) → List Datum → Result Command ScpiError → Type 0
+OfWord meaning [] r = r ≡ Err MissingParameter
+OfWord meaning (number t ∷ []) r = r ≡ Err DataTypeError
+OfWord meaning (character t ∷ []) r = r ≡ meaning t
+OfWord meaning (string t ∷ []) r = r ≡ Err DataTypeError
+OfWord meaning (block t ∷ []) r = r ≡ Err DataTypeError
+OfWord meaning (expression t ∷ []) r = r ≡ Err DataTypeError
+OfWord meaning (d ∷ c ∷ ds) r = r ≡ Err ParameterNotAllowed
+
+-- the command of one switch: a word or a number
+abbrev pub OfSwitch : List Datum → Result Command ScpiError → Type 0
+OfSwitch [] r = r ≡ Err MissingParameter
+OfSwitch (number t ∷ []) r = (read : Result (Written × List ℕ) ScpiError) × ReadsQuantity t read × (r ≡ on_ok read (λ x. continuous_of x.0 x.1))
+OfSwitch (character t ∷ []) r = r ≡ switch_meant t
+OfSwitch (string t ∷ []) r = r ≡ Err DataTypeError
+OfSwitch (block t ∷ []) r = r ≡ Err DataTypeError
+OfSwitch (expression t ∷ []) r = r ≡ Err DataTypeError
+OfSwitch (d ∷ c ∷ ds) r = r ≡ Err ParameterNotAllowed
+
+-- the command of a header with this number in it and these data, or its first refusal; or want of memory where a list
+-- is read
+abbrev pub Obeys : Key → ℕ → List Datum → Result Command ScpiError → Type 0
+Obeys (keys.Common ask) k ds r = WithNone (of_common ask) ds r
+Obeys (keys.Instrument ask) k ds r = WithNone (of_instrument ask) ds r
+Obeys (keys.Layer ask family) k ds r = WithNone (of_layer ask (layer_of family k)) ds r
+Obeys (keys.Group ask group) k ds r = WithNone (of_group ask group) ds r
+Obeys (keys.Channels ask) k ds r = OfList (of_channels ask) ds r
+Obeys (keys.Whole ask) k ds r = OfNumber (whole_of ask k) ds r
+Obeys (keys.Delay family) k ds r = OfNumber (delay_of (layer_of family k)) ds r
+Obeys (keys.Source family) k ds r = OfWord (source_meant (layer_of family k)) ds r
+Obeys keys.Continuous k ds r = OfSwitch ds r
+Obeys keys.EnableMacros k ds r = OfNumber macros_of ds r
 
 -- ---- a unit's meaning
+
+-- the words of a header, in capitals
+abbrev pub asked : UnitView → Nodes → Nodes
+asked unit below = capitals (looked_up unit.header below)
+
+-- the same without a trigger layer's number
+abbrev pub plain : UnitView → Nodes → Nodes
+plain unit below = capitals (map unnumbered (looked_up unit.header below))
+
+abbrev pub IsNone : Nodes → Bool → Type 0
+IsNone words query = (key : Key) (number : ℕ) → IsFound rows words query key number → ⊥
+
+-- the refusal of nodes that are no header of the table
+abbrev pub IsRefusal : Nodes → Bool → ScpiError → Type 0
+IsRefusal nodes query e =
+    ((key : Key) × (number : ℕ) × IsFound rows (capitals (map unnumbered nodes)) query key number × (e ≡ HeaderSuffixOutOfRange))
+    ⊎ (IsNone (capitals (map unnumbered nodes)) query × (e ≡ UndefinedHeader))
 
 -- the header is one of the table
 pub record IsCommand (unit : UnitView) (below : Nodes) (result : Result Command ScpiError) (after : Nodes) : Type 0 where
   pub key : Key
   pub number : ℕ
-  pub found : IsFound rows (capitals (looked_up unit.header below)) unit.query key number
-  pub obeyed : Obeys key unit.elements result
+  pub found : IsFound rows (asked unit below) unit.query key number
+  pub obeyed : Obeys key number unit.elements result
   pub onward : after ≡ path_after unit.header below
 
 -- the header is none of the table, with its question mark or without as it is written
 pub record IsUnknown (unit : UnitView) (below : Nodes) (result : Result Command ScpiError) (after : Nodes) : Type 0 where
-  pub nothing : (key : Key) (number : ℕ) → IsFound rows (capitals (looked_up unit.header below)) unit.query key number → ⊥
+  pub nothing : IsNone (asked unit below) unit.query
+  pub nowhere : IsNone (plain unit below) unit.query
   pub refused : result ≡ Err UndefinedHeader
+  pub stays : after ≡ below
+
+-- the header is none of the table, but is one without its trigger layer's number
+pub record IsMisnumbered (unit : UnitView) (below : Nodes) (result : Result Command ScpiError) (after : Nodes) : Type 0 where
+  pub nothing : IsNone (asked unit below) unit.query
+  pub key : Key
+  pub number : ℕ
+  pub found : IsFound rows (plain unit below) unit.query key number
+  pub refused : result ≡ Err HeaderSuffixOutOfRange
   pub stays : after ≡ below
 
 -- The unit below a path gives a command or its first refusal, and the path of the next unit.
 abbrev pub Resolves : UnitView → Nodes → Result Command ScpiError → Nodes → Type 0
-Resolves unit below result after = IsCommand unit below result after ⊎ IsUnknown unit below result after
+Resolves unit below result after =
+    IsCommand unit below result after ⊎ (IsMisnumbered unit below result after ⊎ IsUnknown unit below result after)

@@ -1,9 +1,12 @@
 -- Program message units (IEEE 488.2, 7.3 to 7.7; SCPI-1999, volume 1, 6).
-use Rattle.std.specs.Prelude.{◌≡◌, ℕ, ◌<◌, ◌≤◌, Bool, true, false, not, nat_lt, ◌==◌, ◌&&◌, ◌||◌, List, [], ◌∷◌, ◌++◌, length, map, ◌⊎◌, if◌then◌else◌, Option, Some, None}
+use Rattle.std.specs.Prelude.{◌≡◌, ℕ, ◌<◌, ◌≤◌, Bool, true, false, not, nat_lt, ◌==◌, ◌||◌, List, [], ◌∷◌, ◌++◌, length, map, ◌⊎◌, if◌then◌else◌, Option, Some, None}
 use Rattle.std.specs.List.{AllByRecursion, flat_map}
-use Rattle.sw_base.specs.Text.{is_blank, is_letter, is_word, AllPass, StartsOff, Spans}
+use Rattle.sw_base.specs.Text.{is_blank, is_digit, is_letter, is_word, AllPass, StartsOff, Spans}
 use Rattle.sw_base.specs.declared.error.ScpiError.{ScpiError}
-use Rattle.sw_base.specs.declared.error.ScpiError.TheVariants.{InvalidCharacter, SyntaxError, InvalidSeparator, ParameterNotAllowed, InvalidExpression}
+use Rattle.sw_base.specs.declared.error.ScpiError.TheVariants.{InvalidCharacter, SyntaxError, InvalidSeparator, ParameterNotAllowed, DataTypeError, InvalidStringData, InvalidBlockData, InvalidExpression}
+use Rattle.sw_lex.specs.Elements.{is_inner, kind_at, IsString, IsBlock, IsElement}
+use Rattle.sw_lex.specs.declared.elements.Kind.{Kind}
+use Rattle.sw_lex.specs.declared.elements.Kind.TheVariants as kinds
 use Rattle.sw_lex.specs.declared.unit.Element.{Element}
 use Rattle.sw_lex.specs.declared.unit.Element.TheVariants as elements
 use Rattle.sw_lex.specs.declared.unit.Header.{Header}
@@ -53,14 +56,6 @@ unit_of u = record { header = heading_of u.header; query = u.query; elements = d
 -- white space or the end of an empty unit
 abbrev pub is_gap : ℕ → Bool
 is_gap b = is_blank b || b == 59
-
--- what stands between the parentheses of an expression: neither `)`, nor a line feed, nor a byte above 126
-abbrev pub is_inner : ℕ → Bool
-is_inner b = not (b == 41) && (not (b == 10) && nat_lt b 127)
-
--- the first byte of a data element
-abbrev pub is_start : ℕ → Bool
-is_start b = b == 40
 
 -- the error for what stands at the front: a line feed or a byte above 126 is an invalid character first of all
 abbrev pub fault_at : ScpiError → List ℕ → ScpiError
@@ -138,14 +133,6 @@ HasNoHeading (b ∷ more) e =
 
 -- ---- data
 
--- an element's form; an expression runs to the next `)`
-abbrev pub IsDatum : Datum → Type 0
-IsDatum (number t) = ⊥
-IsDatum (character t) = ⊥
-IsDatum (string t) = ⊥
-IsDatum (block t) = ⊥
-IsDatum (expression t) = (inner : List ℕ) × AllPass is_inner inner × (t ≡ 40 ∷ (inner ++ 41 ∷ []))
-
 abbrev pub datum_text : Datum → List ℕ
 datum_text (number t) = t
 datum_text (character t) = t
@@ -153,9 +140,25 @@ datum_text (string t) = t
 datum_text (block t) = t
 datum_text (expression t) = t
 
--- an element at the front of a text
+abbrev pub kind_of : Datum → Kind
+kind_of (number t) = kinds.Number
+kind_of (character t) = kinds.Character
+kind_of (string t) = kinds.String
+kind_of (block t) = kinds.Block
+kind_of (expression t) = kinds.Expression
+
+-- the element of a kind that is written so
+abbrev pub datum_with : Kind → List ℕ → Datum
+datum_with kinds.Number t = number t
+datum_with kinds.Character t = character t
+datum_with kinds.String t = string t
+datum_with kinds.Block t = block t
+datum_with kinds.Expression t = expression t
+
+-- an element at the front of a text, of the kind that its first byte begins
 pub record Leads (text : List ℕ) (d : Datum) (after : List ℕ) : Type 0 where
-  pub form : IsDatum d
+  pub starts : kind_at text ≡ Some (kind_of d)
+  pub form : IsElement (kind_of d) text after
   pub whole : text ≡ datum_text d ++ after
 
 -- a unit ends at a semicolon or at the end of the text
@@ -219,12 +222,24 @@ Reaches text (d ∷ ds) here = (next : List ℕ) × IsNext text d next × Reache
 
 -- no element begins here
 abbrev pub BeginsNone : List ℕ → ScpiError → Type 0
-BeginsNone text e = StartsOff is_start text × (e ≡ fault_at SyntaxError text)
+BeginsNone text e = (kind_at text ≡ None) × (e ≡ fault_at SyntaxError text)
 
 -- an element begins here, as the seventeenth
 abbrev pub IsSeventeenth : ℕ → List ℕ → ScpiError → Type 0
-IsSeventeenth n [] e = ⊥
-IsSeventeenth n (b ∷ more) e = (n ≡ 16) × (is_start b ≡ true) × (e ≡ ParameterNotAllowed)
+IsSeventeenth n text e = (n ≡ 16) × (kind : Kind) × (kind_at text ≡ Some kind) × (e ≡ ParameterNotAllowed)
+
+-- a string that has no end
+pub record IsOpenString (text : List ℕ) (e : ScpiError) : Type 0 where
+  pub open_still : (content after : List ℕ) → IsString text content after → ⊥
+  pub error : e ≡ InvalidStringData
+
+-- `#`, after it a digit or nothing, and no block; or `#` and another byte
+pub record IsBadBlock (text : List ℕ) (e : ScpiError) : Type 0 where
+  pub more : List ℕ
+  pub opened : text ≡ 35 ∷ more
+  pub why :
+      (StartsOff (λ b. not (is_digit b)) more × ((bytes after : List ℕ) → IsBlock text bytes after → ⊥) × (e ≡ InvalidBlockData))
+      ⊎ ((b : ℕ) × (others : List ℕ) × (more ≡ b ∷ others) × (is_digit b ≡ false) × (e ≡ fault_at DataTypeError more))
 
 -- an expression that has no end
 pub record IsUnclosed (text : List ℕ) (e : ScpiError) : Type 0 where
@@ -235,6 +250,18 @@ pub record IsUnclosed (text : List ℕ) (e : ScpiError) : Type 0 where
   pub span : Spans is_inner more inner after
   pub open_still : StartsOff (λ b. b == 41) after
   pub error : e ≡ fault_at InvalidExpression after
+
+-- an element of the kind begins here, and breaks off
+abbrev pub IsBroken : Kind → List ℕ → ScpiError → Type 0
+IsBroken kinds.Number text e = ⊥
+IsBroken kinds.Character text e = ⊥
+IsBroken kinds.String text e = IsOpenString text e
+IsBroken kinds.Block text e = IsBadBlock text e
+IsBroken kinds.Expression text e = IsUnclosed text e
+
+-- an element begins here that breaks off
+abbrev pub BreaksIn : List ℕ → ScpiError → Type 0
+BreaksIn text e = (kind : Kind) × (kind_at text ≡ Some kind) × IsBroken kind text e
 
 -- after an element comes neither a comma nor the unit's end
 pub record IsUnseparated (text : List ℕ) (e : ScpiError) : Type 0 where
@@ -250,7 +277,7 @@ pub record IsUnseparated (text : List ℕ) (e : ScpiError) : Type 0 where
 
 -- the refusal at a place where an element should stand, with n before it
 abbrev pub IsStuck : ℕ → List ℕ → ScpiError → Type 0
-IsStuck n here e = BeginsNone here e ⊎ (IsSeventeenth n here e ⊎ ((n < 16) × (IsUnclosed here e ⊎ IsUnseparated here e)))
+IsStuck n here e = BeginsNone here e ⊎ (IsSeventeenth n here e ⊎ ((n < 16) × (BreaksIn here e ⊎ IsUnseparated here e)))
 
 -- the refusal of the data at the front of a text
 pub record IsDataRefused (text : List ℕ) (e : ScpiError) : Type 0 where

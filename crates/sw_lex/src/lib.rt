@@ -5,21 +5,28 @@
 //! left, and gives the command with its data by `specs/Meaning.antt`, or the first refusal. The laws: no text has two
 //! readings (`one_reading`), no header is two commands (`one_command`), no unit two meanings (`one_meaning`).
 //!
-//! Until more commands come, the only data element that is read is the expression. Whether a command can be carried out
+//! Whether a command can be carried out
 //! is no question here, nor whether a channel exists.
 #![tactic(auto)]
 
+mod choice;
 mod command;
+mod common_rows;
+mod elements;
 mod headers;
 mod meaning;
+mod numerals;
 mod paths;
+mod rows;
 mod runs;
 mod table;
 #[cfg(test)]
 mod tests;
 mod unit;
+mod values;
 
 pub use command::Command;
+pub use elements::Kind;
 pub use headers::one_command;
 pub use meaning::{Resolved, one_meaning, resolve};
 pub use paths::Path;

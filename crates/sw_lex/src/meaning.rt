@@ -1,19 +1,26 @@
 //! From a unit to its command.
 
-ghost use Rattle.std.specs.Prelude.{◌≡◌, ◌≢◌, Result, Err};
+ghost use Rattle.std.specs.Prelude.{◌≡◌, ◌≢◌, ◌≤◌, ℕ, List, Result, Err, length, map};
+ghost use Rattle.std.specs.Result.{result_map_both};
+ghost use Rattle.sw_base.specs.Number.{Written};
 ghost use Rattle.sw_base.specs.declared.error.ScpiError.{ScpiError as Error};
 ghost use Rattle.sw_base.specs.declared.error.ScpiError.TheVariants.{OutOfMemory};
 ghost use Rattle.sw_lex.specs.declared.command.Command.{Command as Meant};
 ghost use Rattle.sw_lex.specs.Unit.{UnitView, unit_of, data_of};
-ghost use Rattle.sw_lex.specs.Meaning.{Nodes, path_of, WithNone, WithList, Obeys, Resolves};
+ghost use Rattle.sw_lex.specs.Meaning.{Nodes, path_of, WithNone, WithList, WithNumber, OfNumber, OfWord, OfSwitch, Obeys, IsRefusal, Resolves};
+ghost use Rattle.sw_lex.specs.Values.{on_ok, ReadsQuantity, whole_of, continuous_of, macros_of, delay_of, source_meant};
 
+use crate::choice::{layer_of, of_channels, of_common, of_group, of_instrument, of_layer};
 use crate::command::Command;
 use crate::headers::find;
-use crate::paths::{Path, after, look_up};
-use crate::table::Key;
+use crate::paths::{Path, after, look_up, unnumbered_all};
+use crate::table::{Key, Whole};
 use crate::unit::{Element, RawUnit};
+use crate::values::{
+    continuous_of, delay_of, macros_of, quantity, source_meant, switch_meant, whole_of,
+};
 use std::alloc::Global;
-use sw_base::{Chan, ScpiError, Sequence};
+use sw_base::{Chan, LayerName, Nrf, ScpiError, Sequence};
 use sw_channel::read_list;
 
 /// What a unit gives: its command or its first refusal, and the path of the next unit.
@@ -39,7 +46,7 @@ fn one_list(alloc: Global, elements: &[Element<'_>]) -> Result<Sequence<Chan>, S
 {
     match elements {
         [] => Err(ScpiError::MissingParameter),
-        [element] => match *element {
+        [list] => match *list {
             Element::Expression(text) => Ok(Sequence::new(read_list(alloc, text)?)),
             _ => Err(ScpiError::DataTypeError),
         },
@@ -47,23 +54,125 @@ fn one_list(alloc: Global, elements: &[Element<'_>]) -> Result<Sequence<Chan>, S
     }
 }
 
-/// The command of a header with these data.
-fn obey(alloc: Global, key: Key, elements: &[Element<'_>]) -> Result<Command, ScpiError>
-    ensures { Obeys key (data_of elements.now) result }
+/// The one element, which is a number, and its suffix.
+fn one_number<'a>(elements: &[Element<'a>]) -> Result<(Nrf<'a>, &'a [u8]), ScpiError>
+    ensures { WithNumber (data_of elements.now) (result_map_both (λ x. (x.0, x.1.now)) (λ e. e) result) }
+{
+    match elements {
+        [] => Err(ScpiError::MissingParameter),
+        [number] => match *number {
+            Element::Number(text) => quantity(text),
+            _ => Err(ScpiError::DataTypeError),
+        },
+        _ => Err(ScpiError::ParameterNotAllowed),
+    }
+}
+
+/// The command of one whole number.
+fn of_whole(ask: Whole, number: u8, elements: &[Element<'_>]) -> Result<Command, ScpiError>
+    ensures { OfNumber (whole_of ask number) (data_of elements.now) result }
+{
+    match one_number(elements) {
+        Err(e) => Err(e),
+        Ok((n, suffix)) => whole_of(ask, number, &n, suffix),
+    }
+}
+
+/// A layer's delay.
+fn of_delay(layer: LayerName, elements: &[Element<'_>]) -> Result<Command, ScpiError>
+    ensures { OfNumber (delay_of layer) (data_of elements.now) result }
+{
+    match one_number(elements) {
+        Err(e) => Err(e),
+        Ok((n, suffix)) => delay_of(layer, &n, suffix),
+    }
+}
+
+/// `*EMC`
+fn of_macros(elements: &[Element<'_>]) -> Result<Command, ScpiError>
+    ensures { OfNumber macros_of (data_of elements.now) result }
+{
+    match one_number(elements) {
+        Err(e) => Err(e),
+        Ok((n, suffix)) => macros_of(&n, suffix),
+    }
+}
+
+/// A layer's source.
+fn of_source(layer: LayerName, elements: &[Element<'_>]) -> Result<Command, ScpiError>
+    ensures { OfWord (source_meant layer) (data_of elements.now) result }
+{
+    match elements {
+        [] => Err(ScpiError::MissingParameter),
+        [word] => match *word {
+            Element::Character(text) => source_meant(layer, text),
+            _ => Err(ScpiError::DataTypeError),
+        },
+        _ => Err(ScpiError::ParameterNotAllowed),
+    }
+}
+
+/// `INITiate:CONTinuous` with the number of a text.
+fn of_number(text: &[u8]) -> Result<Command, ScpiError>
+    ensures { (read : Result (Written × List ℕ) Error) × ReadsQuantity text.now read × (result ≡ on_ok read (λ x. continuous_of x.0 x.1)) }
+{
+    match quantity(text) {
+        Err(e) => Err(e),
+        Ok((n, suffix)) => continuous_of(&n, suffix),
+    }
+}
+
+/// `INITiate:CONTinuous`
+fn of_switch(elements: &[Element<'_>]) -> Result<Command, ScpiError>
+    ensures { OfSwitch (data_of elements.now) result }
+{
+    match elements {
+        [] => Err(ScpiError::MissingParameter),
+        [switch] => match *switch {
+            Element::Number(text) => of_number(text),
+            Element::Character(text) => switch_meant(text),
+            _ => Err(ScpiError::DataTypeError),
+        },
+        _ => Err(ScpiError::ParameterNotAllowed),
+    }
+}
+
+/// The command of a header with this number in it and these data.
+fn obey(alloc: Global, key: Key, number: u8, elements: &[Element<'_>]) -> Result<Command, ScpiError>
+    ensures { Obeys key number (data_of elements.now) result }
 {
     match key {
-        Key::Identify => no_data(Command::Identify, elements),
-        Key::Close => Ok(Command::Close(one_list(alloc, elements)?)),
-        Key::CloseQuery => Ok(Command::CloseQuery(one_list(alloc, elements)?)),
-        Key::CloseState => no_data(Command::CloseState, elements),
-        Key::Open => Ok(Command::Open(one_list(alloc, elements)?)),
+        Key::Common(ask) => no_data(of_common(ask), elements),
+        Key::Instrument(ask) => no_data(of_instrument(ask), elements),
+        Key::Layer(ask, family) => no_data(of_layer(ask, layer_of(family, number)), elements),
+        Key::Group(ask, group) => no_data(of_group(ask, group), elements),
+        Key::Channels(ask) => Ok(of_channels(ask, one_list(alloc, elements)?)),
+        Key::Whole(ask) => of_whole(ask, number, elements),
+        Key::Delay(family) => of_delay(layer_of(family, number), elements),
+        Key::Source(family) => of_source(layer_of(family, number), elements),
+        Key::Continuous => of_switch(elements),
+        Key::EnableMacros => of_macros(elements),
+    }
+}
+
+/// The refusal of a header that is none of the table.
+fn refusal(nodes: &[&[u8]], query: bool) -> ScpiError
+    requires { length nodes.now ≤ 4 }
+    ensures { IsRefusal (map (λ w. w.now) nodes.now) query result }
+{
+    let plain = unnumbered_all(nodes);
+    match find(plain.as_slice(), query) {
+        None => ScpiError::UndefinedHeader,
+        Some(_) => ScpiError::HeaderSuffixOutOfRange,
     }
 }
 
 /// The command that a unit below a path asks for, or its first refusal, and the path of the next unit.
 ///
-/// The refusals, in this order: `UndefinedHeader`; `MissingParameter`; `ParameterNotAllowed`; `DataTypeError`; those of
-/// a channel list; `OutOfMemory` where a list could not grow.
+/// The refusals, in this order: `UndefinedHeader`; `HeaderSuffixOutOfRange`; `MissingParameter`; `ParameterNotAllowed`;
+/// `DataTypeError`; of a number `InvalidCharacterInNumber`, `TooManyDigits`, `ExponentTooLarge`, `SuffixNotAllowed` or
+/// `InvalidSuffix`, and `DataOutOfRange`; of a word `InvalidCharacterData` where no setting has it, and
+/// `IllegalParameterValue` where another one has; those of a channel list; `OutOfMemory` where a list could not grow.
 pub fn resolve<'a>(alloc: Global, unit: &RawUnit<'a>, path: Path<'a>) -> Resolved<'a>
     ensures { Resolves (unit_of unit.now) (path_of path.entry) result.command (path_of result.path) }
 {
@@ -74,11 +183,11 @@ pub fn resolve<'a>(alloc: Global, unit: &RawUnit<'a>, path: Path<'a>) -> Resolve
         },
         Some(nodes) => match find(nodes.as_slice(), unit.query) {
             None => Resolved {
-                command: Err(ScpiError::UndefinedHeader),
+                command: Err(refusal(nodes.as_slice(), unit.query)),
                 path,
             },
-            Some((key, _)) => Resolved {
-                command: obey(alloc, key, unit.elements.as_slice()),
+            Some((key, number)) => Resolved {
+                command: obey(alloc, key, number, unit.elements.as_slice()),
                 path: after(unit.header, nodes, path),
             },
         },

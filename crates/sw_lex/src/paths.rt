@@ -1,10 +1,12 @@
 //! Where a header is looked up.
 
-ghost use Rattle.std.specs.Prelude.{◌≡◌, ◌<◌, ◌++◌, [], length, map, IfSome, IfNone};
+ghost use Rattle.std.specs.Prelude.{◌≡◌, ◌≤◌, ◌<◌, ◌++◌, [], length, map, IfSome, IfNone};
 ghost use Rattle.sw_lex.specs.Unit.{heading_of};
+ghost use Rattle.sw_lex.specs.Values.{unnumbered};
 ghost use Rattle.sw_lex.specs.Meaning.{path_of, nodes_of, looked_up, path_after};
 
 use crate::unit::Header;
+use crate::values::unnumbered;
 use arrayvec::ArrayVec;
 use sw_base::cut;
 
@@ -93,4 +95,16 @@ pub fn after<'a>(header: Header<'a>, nodes: ArrayVec<&'a [u8], 4>, path: Path<'a
             Path { nodes }
         }
     }
+}
+
+/// The nodes without a trigger layer's number.
+pub fn unnumbered_all<'a>(nodes: &[&'a [u8]]) -> ArrayVec<&'a [u8], 4>
+    requires { length nodes.now ≤ 4 }
+    ensures { map (λ w. w.now) result.items ≡ map (λ w. unnumbered w.now) nodes.now }
+{
+    let mut plain = ArrayVec::new();
+    for node in nodes {
+        plain.push(unnumbered(node));
+    }
+    plain
 }

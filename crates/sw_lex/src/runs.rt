@@ -3,9 +3,10 @@
 ghost use Rattle.std.specs.Prelude.{◌≡◌, ◌==◌, ◌++◌, ◌∷◌, [], ℕ, List, IfOk, IfErr, IfSome, IfNone, length, ◌<◌};
 ghost use Rattle.sw_base.specs.Text.{is_blank, is_letter, is_word, AllPass, StartsOff, Spans};
 ghost use Rattle.sw_base.specs.declared.error.ScpiError.TheVariants.{SyntaxError};
-ghost use Rattle.sw_lex.specs.Unit.{is_gap, is_inner, fault_at, Ends, IsMnemonic, IsName};
+ghost use Rattle.sw_lex.specs.Elements.{is_inner};
+ghost use Rattle.sw_lex.specs.Unit.{is_gap, fault_at, Ends, IsMnemonic, IsName};
 
-use sw_base::{ScpiError, is_blank, is_letter, words};
+use sw_base::{ScpiError, is_blank, is_letter, letters, words};
 
 /// The white space and the empty units at the front, and what follows them.
 pub fn gaps(bytes: &[u8]) -> (&[u8], &[u8])
@@ -13,17 +14,6 @@ pub fn gaps(bytes: &[u8]) -> (&[u8], &[u8])
 {
     let mut n = 0;
     while n < bytes.len() && (is_blank(bytes[n]) || bytes[n] == b';') {
-        n += 1;
-    }
-    bytes.split_at(n)
-}
-
-/// The letters at the front, and what follows them.
-pub fn letters(bytes: &[u8]) -> (&[u8], &[u8])
-    ensures { Spans is_letter bytes.now result.0.now result.1.now }
-{
-    let mut n = 0;
-    while n < bytes.len() && is_letter(bytes[n]) {
         n += 1;
     }
     bytes.split_at(n)

@@ -4,9 +4,10 @@ ghost use Rattle.std.specs.Prelude.{◌≡◌, ◌==◌, ◌++◌, ◌∷◌, �
 ghost use Rattle.sw_base.specs.Text.{is_blank, is_letter, is_word, AllPass, StartsOff};
 ghost use Rattle.sw_base.specs.declared.error.ScpiError.{ScpiError as Error};
 ghost use Rattle.sw_base.specs.declared.error.ScpiError.TheVariants.{SyntaxError};
-ghost use Rattle.sw_lex.specs.Unit.{UnitView, unit_of, heading_of, datum_of, data_of, is_gap, is_start, fault_at, IsPath, BreaksOff, Heads, HasNoHeading, Asks, Leads, IsUnclosed, IsStuck, IsData, IsDataRefused, IsTail, IsTailRefused, IsUnit, IsRefused, IsBlank};
+ghost use Rattle.sw_lex.specs.Unit.{UnitView, unit_of, heading_of, data_of, is_gap, fault_at, IsPath, BreaksOff, Heads, HasNoHeading, Asks, IsData, IsDataRefused, IsTail, IsTailRefused, IsUnit, IsRefused, IsBlank};
 
-use crate::runs::{end, fault_at, gaps, inners, mnemonic, name};
+use crate::elements::read_element;
+use crate::runs::{end, fault_at, gaps, mnemonic, name};
 use arrayvec::ArrayVec;
 use sw_base::{ScpiError, blanks, eat};
 
@@ -122,42 +123,6 @@ fn query_mark(text: &[u8]) -> (bool, &[u8])
     match eat(text, b'?') {
         Some(rest) => (true, rest),
         None => (false, text),
-    }
-}
-
-/// The expression at the front of what begins with `(`, and what follows it.
-fn read_expression<'a>(text: &'a [u8], more: &'a [u8]) -> Result<(Element<'a>, &'a [u8]), ScpiError>
-    requires { text.now ≡ 40 ∷ more.now }
-    ensures ok { IfOk result (λ x. Leads text.now (datum_of x.0) x.1.now) }
-    ensures shorter { IfOk result (λ x. length x.1.now < length text.now) }
-    ensures err { IfErr result (λ e. IsUnclosed text.now e) }
-{
-    let (inner, after) = inners(more);
-    match eat(after, b')') {
-        None => Err(fault_at(ScpiError::InvalidExpression, after)),
-        Some(_) => {
-            let (all, rest) = text.split_at(inner.len() + 2);
-            Ok((Element::Expression(all), rest))
-        }
-    }
-}
-
-/// The element at the front with n before it, and what follows it.
-fn read_element(text: &[u8], n: usize) -> Result<(Element<'_>, &[u8]), ScpiError>
-    requires { n ≤ 16 }
-    ensures ok { IfOk result (λ x. Leads text.now (datum_of x.0) x.1.now) }
-    ensures shorter { IfOk result (λ x. length x.1.now < length text.now) }
-    ensures room { IfOk result (λ _. n < 16) }
-    ensures err { IfErr result (λ e. IsStuck n text.now e) }
-{
-    match eat(text, b'(') {
-        Some(more) => {
-            if n == 16 {
-                return Err(ScpiError::ParameterNotAllowed);
-            }
-            read_expression(text, more)
-        }
-        None => Err(fault_at(ScpiError::SyntaxError, text)),
     }
 }
 

@@ -1,7 +1,11 @@
+use Rattle.std.proofs.Common.{refl}
 use Rattle.sw_lex.specs.Table.{from_common_rows}
-use Rattle.sw_lex.specs.declared.table.TheConstants.{COMMON_ROWS}
+use Rattle.sw_lex.specs.declared.common_rows.TheConstants.{COMMON_ROWS}
 use Rattle.sw_lex.proofs.Spelled.{found_left, right_some, right_or_neither}
 use Rattle.sw_lex.proofs.headers.from_common.Goals as goal
+
+pub listed-requires : goal.listed-requires
+listed-requires c = refl
 
 pub returns-in-Some-clause-some : goal.returns-in-Some-clause-some
 unfolding from_common_rows
@@ -9,8 +13,8 @@ returns-in-Some-clause-some c = found_left _ _ _ _ _ _ c.in-Some.ensures.some
 
 pub returns-in-None-clause-some : goal.returns-in-None-clause-some
 unfolding from_common_rows
-returns-in-None-clause-some c = right_some COMMON_ROWS _ _ _ _ c.from_route.ensures.some
+returns-in-None-clause-some c = right_some COMMON_ROWS _ _ _ _ c.from_common_status.ensures.some
 
 pub returns-in-None-clause-none : goal.returns-in-None-clause-none
 unfolding from_common_rows
-returns-in-None-clause-none c = right_or_neither _ _ _ _ _ c.in-None.ensures.none c.from_route.ensures.none
+returns-in-None-clause-none c = right_or_neither _ _ _ _ _ c.in-None.ensures.none c.from_common_status.ensures.none

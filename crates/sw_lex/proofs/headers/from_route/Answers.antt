@@ -1,10 +1,20 @@
+use Rattle.std.proofs.Common.{refl}
 use Rattle.sw_lex.specs.Table.{from_route_rows}
+use Rattle.sw_lex.specs.declared.rows.TheConstants.{ROUTE_ROWS}
+use Rattle.sw_lex.proofs.Spelled.{found_left, right_some, right_or_neither}
 use Rattle.sw_lex.proofs.headers.from_route.Goals as goal
 
-pub returns-clause-some : goal.returns-clause-some
-unfolding from_route_rows
-returns-clause-some c = c.listed.ensures.some
+pub listed-requires : goal.listed-requires
+listed-requires c = refl
 
-pub returns-clause-none : goal.returns-clause-none
+pub returns-in-Some-clause-some : goal.returns-in-Some-clause-some
 unfolding from_route_rows
-returns-clause-none c = c.listed.ensures.none
+returns-in-Some-clause-some c = found_left _ _ _ _ _ _ c.in-Some.ensures.some
+
+pub returns-in-None-clause-some : goal.returns-in-None-clause-some
+unfolding from_route_rows
+returns-in-None-clause-some c = right_some ROUTE_ROWS _ _ _ _ c.from_operation.ensures.some
+
+pub returns-in-None-clause-none : goal.returns-in-None-clause-none
+unfolding from_route_rows
+returns-in-None-clause-none c = right_or_neither _ _ _ _ _ c.in-None.ensures.none c.from_operation.ensures.none

@@ -1,6 +1,6 @@
 use Rattle.std.proofs.Common.{length, ◌-◌, ◌≤◌, take}
 use Rattle.sw_base.specs.Text.{AllPass}
-use Rattle.sw_lex.specs.Unit.{is_inner}
+use Rattle.sw_lex.specs.Elements.{is_inner}
 use Rattle.sw_lex.proofs.runs.inners.Given as goal
 
 abbrev pub invariant-loop-n : goal.invariant-loop-n

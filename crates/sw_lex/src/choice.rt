@@ -1,0 +1,144 @@
+//! From a key to its command.
+
+ghost use Rattle.std.specs.Prelude.{◌≡◌, ◌≤◌};
+ghost use Rattle.sw_lex.specs.Commands.{layer_of, of_common, of_instrument, of_layer, of_group, of_channels, of_whole, least, greatest};
+
+use crate::command::Command;
+use crate::table::{Channels, Common, Family, GroupAsk, Instrument, LayerAsk, Whole};
+use sw_base::{Chan, LayerName, Sequence, StatusGroup};
+
+/// The layer of a header with this number, 0 where it has none.
+pub fn layer_of(family: Family, number: u8) -> LayerName
+    ensures { result ≡ layer_of family number }
+{
+    match family {
+        Family::Arm => {
+            if number == 2 {
+                LayerName::Arm2
+            } else {
+                LayerName::Arm1
+            }
+        }
+        Family::Trigger => LayerName::Trigger,
+    }
+}
+
+pub fn of_common(ask: Common) -> Command
+    ensures { result ≡ of_common ask }
+{
+    match ask {
+        Common::Identify => Command::Identify,
+        Common::Reset => Command::Reset,
+        Common::ClearStatus => Command::ClearStatus,
+        Common::EventEnableQuery => Command::EventEnableQuery,
+        Common::EventQuery => Command::EventQuery,
+        Common::ServiceEnableQuery => Command::ServiceEnableQuery,
+        Common::StatusByteQuery => Command::StatusByteQuery,
+        Common::OperationComplete => Command::OperationComplete,
+        Common::OperationCompleteQuery => Command::OperationCompleteQuery,
+        Common::Wait => Command::Wait,
+        Common::SelfTestQuery => Command::SelfTestQuery,
+        Common::Trigger => Command::Trigger,
+        Common::MacroLabelsQuery => Command::MacroLabelsQuery,
+        Common::PurgeMacros => Command::PurgeMacros,
+        Common::EnableMacrosQuery => Command::EnableMacrosQuery,
+    }
+}
+
+pub fn of_instrument(ask: Instrument) -> Command
+    ensures { result ≡ of_instrument ask }
+{
+    match ask {
+        Instrument::Abort => Command::Abort,
+        Instrument::Initiate => Command::Initiate,
+        Instrument::InitiateContinuousQuery => Command::InitiateContinuousQuery,
+        Instrument::CloseState => Command::CloseState,
+        Instrument::OpenAll => Command::OpenAll,
+        Instrument::ScanQuery => Command::ScanQuery,
+        Instrument::ScanMeterQuery => Command::ScanMeterQuery,
+        Instrument::Preset => Command::Preset,
+        Instrument::NextErrorQuery => Command::NextErrorQuery,
+        Instrument::AllErrorsQuery => Command::AllErrorsQuery,
+        Instrument::ErrorCountQuery => Command::ErrorCountQuery,
+        Instrument::VersionQuery => Command::VersionQuery,
+        Instrument::PointsQuery => Command::PointsQuery,
+        Instrument::ActualPointsQuery => Command::ActualPointsQuery,
+        Instrument::BoundQuery => Command::BoundQuery,
+        Instrument::Fetch => Command::Fetch,
+    }
+}
+
+pub fn of_layer(ask: LayerAsk, layer: LayerName) -> Command
+    ensures { result ≡ of_layer ask layer }
+{
+    match ask {
+        LayerAsk::CountQuery => Command::CountQuery(layer),
+        LayerAsk::SourceQuery => Command::SourceQuery(layer),
+        LayerAsk::DelayQuery => Command::DelayQuery(layer),
+        LayerAsk::Signal => Command::Signal(layer),
+    }
+}
+
+pub fn of_group(ask: GroupAsk, group: StatusGroup) -> Command
+    ensures { result ≡ of_group ask group }
+{
+    match ask {
+        GroupAsk::EventQuery => Command::GroupEventQuery(group),
+        GroupAsk::ConditionQuery => Command::GroupConditionQuery(group),
+        GroupAsk::EnableQuery => Command::GroupEnableQuery(group),
+        GroupAsk::PositiveTransitionQuery => Command::PositiveTransitionQuery(group),
+        GroupAsk::NegativeTransitionQuery => Command::NegativeTransitionQuery(group),
+    }
+}
+
+pub fn of_channels(ask: Channels, list: Sequence<Chan>) -> Command
+    ensures { result ≡ of_channels ask list }
+{
+    match ask {
+        Channels::Close => Command::Close(list),
+        Channels::CloseQuery => Command::CloseQuery(list),
+        Channels::Open => Command::Open(list),
+        Channels::OpenQuery => Command::OpenQuery(list),
+        Channels::Scan => Command::Scan(list),
+    }
+}
+
+pub fn of_whole(ask: Whole, number: u8, n: u32) -> Command
+    requires { n ≤ greatest ask }
+    ensures { result ≡ of_whole ask number n }
+{
+    match ask {
+        Whole::EventEnable => Command::EventEnable(n as u8),
+        Whole::ServiceEnable => Command::ServiceEnable(n as u8),
+        Whole::Count(family) => Command::Count(layer_of(family, number), n),
+        Whole::ScanMeter => Command::ScanMeter(n as u8),
+        Whole::Enable(group) => Command::GroupEnable(group, n as u16),
+        Whole::PositiveTransition(group) => Command::PositiveTransition(group, n as u16),
+        Whole::NegativeTransition(group) => Command::NegativeTransition(group, n as u16),
+        Whole::Points => Command::Points(n),
+    }
+}
+
+/// The least number that a command takes.
+pub fn least(ask: Whole) -> u32
+    ensures { result ≡ least ask }
+{
+    match ask {
+        Whole::EventEnable | Whole::ServiceEnable => 0,
+        Whole::Count(_) | Whole::ScanMeter | Whole::Points => 1,
+        Whole::Enable(_) | Whole::PositiveTransition(_) | Whole::NegativeTransition(_) => 0,
+    }
+}
+
+/// The greatest.
+pub fn greatest(ask: Whole) -> u32
+    ensures { result ≡ greatest ask }
+{
+    match ask {
+        Whole::EventEnable | Whole::ServiceEnable => 255,
+        Whole::Count(Family::Arm) => 1000,
+        Whole::Count(Family::Trigger) | Whole::Points => 100_000,
+        Whole::ScanMeter => 8,
+        Whole::Enable(_) | Whole::PositiveTransition(_) | Whole::NegativeTransition(_) => 65_535,
+    }
+}

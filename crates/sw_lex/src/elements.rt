@@ -1,0 +1,213 @@
+//! Data elements: from the bytes of a unit to one element.
+
+ghost use Rattle.std.specs.Prelude.{◌≡◌, ◌≤◌, ◌<◌, ◌++◌, ◌∷◌, ◌==◌, ℕ, List, [], Some, true, IfOk, IfErr, IfSome, IfNone, length};
+ghost use Rattle.sw_base.specs.Text.{is_digit, AllPass, StartsOff};
+ghost use Rattle.sw_base.specs.Number.{value_of};
+ghost use Rattle.sw_lex.specs.Elements.{kind_of_byte, doubled, IsBlock, IsExpression, IsElement};
+ghost use Rattle.sw_lex.specs.Unit.{datum_of, datum_with, Leads, IsUnclosed, IsBadBlock, IsBroken, IsStuck};
+
+use crate::numerals::numeral_end;
+use crate::runs::{fault_at, inners};
+use crate::unit::Element;
+use sw_base::{ScpiError, cut, digits, eat, is_digit, is_letter, words};
+
+/// The kinds of data elements.
+#[derive(Clone, Copy, Debug, PartialEq, Eq)]
+pub enum Kind {
+    Number,
+    Character,
+    String,
+    Block,
+    Expression,
+}
+
+/// The kind of the element that a byte begins.
+fn kind_of_byte(b: u8) -> Option<Kind>
+    ensures { result ≡ kind_of_byte b }
+{
+    if is_digit(b) || b == b'+' || b == b'-' || b == b'.' {
+        Some(Kind::Number)
+    } else if is_letter(b) {
+        Some(Kind::Character)
+    } else if b == b'"' || b == b'\'' {
+        Some(Kind::String)
+    } else if b == b'#' {
+        Some(Kind::Block)
+    } else if b == b'(' {
+        Some(Kind::Expression)
+    } else {
+        None
+    }
+}
+
+/// What stands before the rest of a text.
+fn before<'a>(text: &'a [u8], rest: &[u8]) -> &'a [u8]
+    requires { (front : List ℕ) × (text.now ≡ front ++ rest.now) }
+    ensures { text.now ≡ result.now ++ rest.now }
+{
+    let (front, _) = text.split_at(text.len() - rest.len());
+    front
+}
+
+/// What follows the next mark that isn't doubled.
+fn closing(text: &[u8], mark: u8) -> Option<&[u8]>
+    ensures some { IfSome result (λ rest. (content : List ℕ) × (text.now ≡ doubled mark content ++ mark ∷ rest.now) × StartsOff (λ b. b == mark) rest.now) }
+    ensures none { IfNone result ((content rest : List ℕ) → text.now ≡ doubled mark content ++ mark ∷ rest → StartsOff (λ b. b == mark) rest → ⊥) }
+{
+    let mut rest = text;
+    'marks: loop {
+        match cut(rest, mark) {
+            None => return None,
+            Some((_, more)) => match eat(more, mark) {
+                None => return Some(more),
+                Some(others) => rest = others,
+            },
+        }
+    }
+}
+
+/// The number that at most nine digits write.
+fn value(digits: &[u8]) -> usize
+    requires numeric { AllPass is_digit digits.now }
+    requires few { length digits.now ≤ 9 }
+    ensures { result ≡ value_of digits.now }
+{
+    let mut n = 0usize;
+    for digit in digits {
+        n = n * 10 + usize::from(*digit - b'0');
+    }
+    n
+}
+
+/// What follows the digits of a block's length and its bytes.
+fn counted(text: &[u8], width: usize) -> Option<&[u8]>
+    requires { width ≤ 9 }
+    ensures some { IfSome result (λ rest. (digits bytes : List ℕ) × AllPass is_digit digits × (length digits ≡ width) × (length bytes ≡ value_of digits) × (text.now ≡ digits ++ (bytes ++ rest.now))) }
+    ensures none { IfNone result ((digits bytes rest : List ℕ) → AllPass is_digit digits → length digits ≡ width → length bytes ≡ value_of digits → text.now ≡ digits ++ (bytes ++ rest) → ⊥) }
+{
+    if text.len() < width {
+        return None;
+    }
+    let (length, more) = text.split_at(width);
+    if !digits(length).1.is_empty() {
+        return None;
+    }
+    let count = value(length);
+    if more.len() < count {
+        return None;
+    }
+    let (_, rest) = more.split_at(count);
+    Some(rest)
+}
+
+/// What follows the block whose `#` stands before these bytes.
+fn block_end(more: &[u8]) -> Result<&[u8], ScpiError>
+    ensures ok { IfOk result (λ rest. (bytes : List ℕ) × IsBlock (35 ∷ more.now) bytes rest.now) }
+    ensures err { IfErr result (λ e. IsBadBlock (35 ∷ more.now) e) }
+{
+    match more {
+        [] => Err(ScpiError::InvalidBlockData),
+        [width, others @ ..] => {
+            if !is_digit(*width) {
+                return Err(fault_at(ScpiError::DataTypeError, more));
+            }
+            if *width == b'0' {
+                return Err(ScpiError::InvalidBlockData);
+            }
+            match counted(others, usize::from(*width - b'0')) {
+                None => Err(ScpiError::InvalidBlockData),
+                Some(rest) => Ok(rest),
+            }
+        }
+    }
+}
+
+/// What follows the expression whose `(` stands before these bytes.
+fn expression_end(more: &[u8]) -> Result<&[u8], ScpiError>
+    ensures ok { IfOk result (λ rest. IsExpression (40 ∷ more.now) rest.now) }
+    ensures err { IfErr result (λ e. IsUnclosed (40 ∷ more.now) e) }
+{
+    let (_, after) = inners(more);
+    match eat(after, b')') {
+        None => Err(fault_at(ScpiError::InvalidExpression, after)),
+        Some(rest) => Ok(rest),
+    }
+}
+
+/// What follows the element of the kind at the front of a text that is this byte and then these.
+fn element_end<'a>(
+    text: &'a [u8],
+    first: u8,
+    more: &'a [u8],
+    kind: Kind,
+) -> Result<&'a [u8], ScpiError>
+    requires whole { text.now ≡ first ∷ more.now }
+    requires begins { kind_of_byte first ≡ Some kind }
+    ensures ok { IfOk result (λ rest. IsElement kind text.now rest.now) }
+    ensures err { IfErr result (λ e. IsBroken kind text.now e) }
+{
+    match kind {
+        Kind::Number => Ok(numeral_end(text)),
+        Kind::Character => {
+            let (_, rest) = words(text);
+            Ok(rest)
+        }
+        Kind::String => match closing(more, first) {
+            None => Err(ScpiError::InvalidStringData),
+            Some(rest) => Ok(rest),
+        },
+        Kind::Block => block_end(more),
+        Kind::Expression => expression_end(more),
+    }
+}
+
+/// The element of a kind with this text.
+fn element(kind: Kind, text: &[u8]) -> Element<'_>
+    ensures { datum_of result ≡ datum_with kind text.now }
+{
+    match kind {
+        Kind::Number => Element::Number(text),
+        Kind::Character => Element::Character(text),
+        Kind::String => Element::String(text),
+        Kind::Block => Element::Block(text),
+        Kind::Expression => Element::Expression(text),
+    }
+}
+
+/// The element at the front of a text that begins with this byte, with n before it, and what follows it.
+fn read_from<'a>(
+    text: &'a [u8],
+    first: u8,
+    more: &'a [u8],
+    n: usize,
+) -> Result<(Element<'a>, &'a [u8]), ScpiError>
+    requires whole { text.now ≡ first ∷ more.now }
+    requires few { n ≤ 16 }
+    ensures ok { IfOk result (λ x. Leads text.now (datum_of x.0) x.1.now) }
+    ensures room { IfOk result (λ _. n < 16) }
+    ensures err { IfErr result (λ e. IsStuck n text.now e) }
+{
+    match kind_of_byte(first) {
+        None => Err(fault_at(ScpiError::SyntaxError, text)),
+        Some(kind) => {
+            if n == 16 {
+                return Err(ScpiError::ParameterNotAllowed);
+            }
+            let rest = element_end(text, first, more, kind)?;
+            Ok((element(kind, before(text, rest)), rest))
+        }
+    }
+}
+
+/// The element at the front with n before it, and what follows it.
+pub fn read_element(text: &[u8], n: usize) -> Result<(Element<'_>, &[u8]), ScpiError>
+    requires { n ≤ 16 }
+    ensures ok { IfOk result (λ x. Leads text.now (datum_of x.0) x.1.now) }
+    ensures room { IfOk result (λ _. n < 16) }
+    ensures err { IfErr result (λ e. IsStuck n text.now e) }
+{
+    match text {
+        [] => Err(ScpiError::SyntaxError),
+        [first, more @ ..] => read_from(text, *first, more, n),
+    }
+}

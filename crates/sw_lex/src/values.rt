@@ -1,0 +1,232 @@
+//! What data mean: numbers with their suffixes, and words.
+
+ghost use Rattle.std.specs.Prelude.{◌≡◌, ◌≤◌, ℕ, List, IsTrue, ◌↔◌, IfOk, map, length};
+ghost use Rattle.std.specs.Char.{to_ascii_uppercase};
+ghost use Rattle.std.specs.Result.{result_map_both};
+ghost use Rattle.sw_base.specs.Text.{is_blank, is_letter, AllPass, Spans};
+ghost use Rattle.sw_base.specs.Number.{Written, rounded};
+ghost use Rattle.sw_lex.specs.Apart.{same_word};
+ghost use Rattle.sw_lex.specs.Values.{IsQuantity, ReadsQuantity, natural_in, whole_of, continuous_of, macros_of, unit_of, delay_of, delay_in, is_named, source_of, switch_of, source_meant, switch_meant, all_digits, unnumbered};
+
+use crate::choice::{greatest, least, of_whole};
+use crate::command::Command;
+use crate::headers::is_same;
+use crate::numerals::{exponent_end, mantissa_end};
+use crate::table::{Whole, Word, long_of, short_of};
+use sw_base::{LayerName, Nrf, ScpiError, Source, Unit, blanks, digits, letters};
+
+/// The longest delay, in microseconds.
+const LONGEST_DELAY: u64 = 3_600_000_000;
+
+/// Whether only letters stand there, after white space.
+fn is_suffix(text: &[u8]) -> bool
+    ensures { IsTrue result ↔ ((gap suffix : List ℕ) × Spans is_blank text.now gap suffix × AllPass is_letter suffix) }
+{
+    let (_, suffix) = blanks(text);
+    let (_, rest) = letters(suffix);
+    rest.is_empty()
+}
+
+/// Whether the text is a number and its suffix.
+fn is_quantity(text: &[u8]) -> bool
+    ensures { IsTrue result ↔ ((n : Written) × (suffix : List ℕ) × IsQuantity text.now n suffix) }
+{
+    match mantissa_end(text) {
+        None => false,
+        Some(after) => match exponent_end(after) {
+            None => is_suffix(after),
+            Some((rest, _)) => is_suffix(rest),
+        },
+    }
+}
+
+/// The number and the suffix that the text is.
+pub fn quantity(text: &[u8]) -> Result<(Nrf<'_>, &[u8]), ScpiError>
+    ensures { ReadsQuantity text.now (result_map_both (λ x. (x.0, x.1.now)) (λ e. e) result) }
+{
+    if is_quantity(text) {
+        match Nrf::read(text) {
+            Err(e) => Err(e),
+            Ok((number, rest)) => {
+                let (_, suffix) = blanks(rest);
+                Ok((number, suffix))
+            }
+        }
+    } else {
+        Err(ScpiError::InvalidCharacterInNumber)
+    }
+}
+
+/// The nearest whole number without its sign, where it lies in the range.
+fn natural(n: &Nrf<'_>, low: u32, high: u32) -> Result<u32, ScpiError>
+    ensures value { result ≡ natural_in low high (rounded n.now 0) }
+    ensures range { IfOk result (λ m. m ≤ high) }
+{
+    match n.whole(i64::from(low), i64::from(high)) {
+        Err(e) => Err(e),
+        Ok(value) => Ok(value.unsigned_abs() as u32),
+    }
+}
+
+/// The command with this number, which takes no suffix.
+pub fn whole_of(ask: Whole, number: u8, n: &Nrf<'_>, suffix: &[u8]) -> Result<Command, ScpiError>
+    ensures { result ≡ whole_of ask number n.now suffix.now }
+{
+    match suffix {
+        [] => match natural(n, least(ask), greatest(ask)) {
+            Err(e) => Err(e),
+            Ok(m) => Ok(of_whole(ask, number, m)),
+        },
+        _ => Err(ScpiError::SuffixNotAllowed),
+    }
+}
+
+/// `INITiate:CONTinuous` with this number.
+pub fn continuous_of(n: &Nrf<'_>, suffix: &[u8]) -> Result<Command, ScpiError>
+    ensures { result ≡ continuous_of n.now suffix.now }
+{
+    match suffix {
+        [] => match n.whole(0, 0) {
+            Err(_) => Ok(Command::InitiateContinuous(true)),
+            Ok(_) => Ok(Command::InitiateContinuous(false)),
+        },
+        _ => Err(ScpiError::SuffixNotAllowed),
+    }
+}
+
+/// `*EMC` with this number.
+pub fn macros_of(n: &Nrf<'_>, suffix: &[u8]) -> Result<Command, ScpiError>
+    ensures { result ≡ macros_of n.now suffix.now }
+{
+    match suffix {
+        [] => match n.whole(-32_767, 32_767) {
+            Err(e) => Err(e),
+            Ok(value) => Ok(Command::EnableMacros(value.unsigned_abs() > 0)),
+        },
+        _ => Err(ScpiError::SuffixNotAllowed),
+    }
+}
+
+/// Whether a word is a form, but for the case of its letters.
+fn is_text(word: &[u8], form: &[u8]) -> bool
+    ensures { result ≡ same_word (map to_ascii_uppercase word.now) form.now }
+{
+    is_same(word, form)
+}
+
+/// The unit of time that a suffix names.
+fn unit_of(suffix: &[u8]) -> Option<Unit>
+    ensures { result ≡ unit_of (map to_ascii_uppercase suffix.now) }
+{
+    if is_text(suffix, b"") {
+        Some(Unit::S)
+    } else if is_text(suffix, b"S") {
+        Some(Unit::S)
+    } else if is_text(suffix, b"MS") {
+        Some(Unit::Ms)
+    } else if is_text(suffix, b"US") {
+        Some(Unit::Us)
+    } else {
+        None
+    }
+}
+
+/// A layer's delay of this number and suffix.
+pub fn delay_of(layer: LayerName, n: &Nrf<'_>, suffix: &[u8]) -> Result<Command, ScpiError>
+    ensures { result ≡ delay_of layer n.now suffix.now }
+{
+    match unit_of(suffix) {
+        None => Err(ScpiError::InvalidSuffix),
+        Some(unit) => match n.micros(unit) {
+            Err(e) => Err(e),
+            Ok(micros) => {
+                if micros <= LONGEST_DELAY {
+                    Ok(Command::Delay(layer, micros))
+                } else {
+                    Err(ScpiError::DataOutOfRange)
+                }
+            }
+        },
+    }
+}
+
+/// Whether a text is one of a word's two forms, but for the case of its letters.
+fn is_named(word: Word, text: &[u8]) -> bool
+    ensures { result ≡ is_named word (map to_ascii_uppercase text.now) }
+{
+    is_text(text, short_of(word)) || is_text(text, long_of(word))
+}
+
+fn source_of(text: &[u8]) -> Option<Source>
+    ensures { result ≡ source_of (map to_ascii_uppercase text.now) }
+{
+    if is_named(Word::Immediate, text) {
+        Some(Source::Immediate)
+    } else if is_named(Word::Bus, text) {
+        Some(Source::Bus)
+    } else if is_named(Word::External, text) {
+        Some(Source::External)
+    } else if is_named(Word::Hold, text) {
+        Some(Source::Hold)
+    } else {
+        None
+    }
+}
+
+fn switch_of(text: &[u8]) -> Option<bool>
+    ensures { result ≡ switch_of (map to_ascii_uppercase text.now) }
+{
+    if is_named(Word::On, text) {
+        Some(true)
+    } else if is_named(Word::Off, text) {
+        Some(false)
+    } else {
+        None
+    }
+}
+
+/// A layer's source of this name.
+pub fn source_meant(layer: LayerName, text: &[u8]) -> Result<Command, ScpiError>
+    ensures { result ≡ source_meant layer text.now }
+{
+    match source_of(text) {
+        Some(source) => Ok(Command::SetSource(layer, source)),
+        None => match switch_of(text) {
+            Some(_) => Err(ScpiError::IllegalParameterValue),
+            None => Err(ScpiError::InvalidCharacterData),
+        },
+    }
+}
+
+/// `INITiate:CONTinuous` with this word.
+pub fn switch_meant(text: &[u8]) -> Result<Command, ScpiError>
+    ensures { result ≡ switch_meant text.now }
+{
+    match switch_of(text) {
+        Some(on) => Ok(Command::InitiateContinuous(on)),
+        None => match source_of(text) {
+            Some(_) => Err(ScpiError::IllegalParameterValue),
+            None => Err(ScpiError::InvalidCharacterData),
+        },
+    }
+}
+
+/// Whether all bytes are digits.
+fn all_digits(text: &[u8]) -> bool
+    ensures { result ≡ all_digits text.now }
+{
+    let (_, rest) = digits(text);
+    rest.is_empty()
+}
+
+/// `LAYer` without the number behind it; any other word stays.
+pub fn unnumbered(word: &[u8]) -> &[u8]
+    ensures { result.now ≡ unnumbered word.now }
+{
+    let (front, rest) = letters(word);
+    if is_named(Word::Layer, front) {
+        if all_digits(rest) { front } else { word }
+    } else {
+        word
+    }
+}
