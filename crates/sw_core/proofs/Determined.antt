@@ -14,9 +14,9 @@ use Rattle.sw_cage.specs.declared.refusal.InstallRefusal.TheVariants.{Busy, Occu
 use Rattle.sw_cage.specs.declared.refusal.EjectRefusal.{EjectRefusal}
 use Rattle.sw_cage.specs.declared.refusal.EjectRefusal.TheVariants.{Vacant, Out}
 use Rattle.sw_base.specs.declared.error.ScpiError.{ScpiError}
-use Rattle.sw_base.specs.declared.error.ScpiError.TheVariants.{HardwareMissing, SettingsConflict, HardwareError, OutOfMemory}
+use Rattle.sw_base.specs.declared.error.ScpiError.TheVariants.{UndefinedHeader, HardwareMissing, SettingsConflict, HardwareError, OutOfMemory}
 use Rattle.sw_lex.specs.declared.command.Command.{Command}
-use Rattle.sw_lex.specs.declared.command.Command.TheVariants.{Identify, Close, CloseQuery, CloseState, Open}
+use Rattle.sw_lex.specs.declared.command.Command.TheVariants as Command
 use Rattle.sw_core.specs.declared.ask.Sid.{Sid}
 use Rattle.sw_core.specs.declared.ask.SessionAsk.{SessionAsk}
 use Rattle.sw_core.specs.declared.ask.SessionAsk.TheVariants as Ask
@@ -25,7 +25,10 @@ use Rattle.sw_core.specs.declared.ask.SessionAnswer.TheVariants.{Joined, Full, S
 use Rattle.sw_core.specs.Sessions.{IsJoined, IsLeastFree}
 use Rattle.sw_core.specs.Panel.{Panel}
 use Rattle.sw_core.specs.View.{AskView, AskSession, AskInstall, AskEject, AnswerView, SaysSession, SaysInstalled, SaysNotInstalled, SaysEjected, SaysNotEjected}
-use Rattle.sw_core.specs.Step.{StepUnit, StepSession, Step}
+use Rattle.sw_cage.specs.Channels.{closed_list}
+use Rattle.sw_channel.specs.Printing.{printed}
+use Rattle.sw_core.specs.Answers.{identity}
+use Rattle.sw_core.specs.Step.{StepClose, StepOpen, StepFlags, StepText, StepLater, StepUnit, StepSession, Step}
 use Rattle.sw_core.specs.Run.{IsPlain}
 
 -- the states of a card, by each
@@ -113,37 +116,55 @@ same_text t t' x e f = ap (λ (y : List ℕ). Done (Some y)) (e ∙ sym f)
 true_false : (b : Bool) → b ≡ true → b ≡ false → ⊥
 true_false b e f = absurd (let k : true ≡ false = sym e ∙ f in cc)
 
+close_once : (p : Panel) (chans : List Channel) (f f' : Bool) (a a' : SessionAnswer) (q q' : Panel) → IsPlain (SaysSession a) → IsPlain (SaysSession a') → StepClose p chans f a q → StepClose p chans f' a' q' → IsOnce a a' q q'
+close_once p chans f f' (Done None) (Done None) q q' n m h k = (refl, of_parts p q q' (sets_once p.cage.rack q.cage.rack q'.cage.rack chans true h.2 k.2) h.3 k.3)
+close_once p chans f f' (Done None) (Refused HardwareMissing) q q' n m h k = absurd (true_false _ h.1.present k.1)
+close_once p chans f f' (Done None) (Refused SettingsConflict) q q' n m h k = absurd (h.1.apart k.1.1)
+close_once p chans f f' (Refused HardwareMissing) (Done None) q q' n m h k = absurd (true_false _ k.1.present h.1)
+close_once p chans f f' (Refused HardwareMissing) (Refused HardwareMissing) q q' n m h k = (refl, both p q q' h.2 k.2)
+close_once p chans f f' (Refused HardwareMissing) (Refused SettingsConflict) q q' n m h k = absurd (true_false _ k.1.0 h.1)
+close_once p chans f f' (Refused SettingsConflict) (Done None) q q' n m h k = absurd (k.1.apart h.1.1)
+close_once p chans f f' (Refused SettingsConflict) (Refused HardwareMissing) q q' n m h k = absurd (true_false _ h.1.0 k.1)
+close_once p chans f f' (Refused SettingsConflict) (Refused SettingsConflict) q q' n m h k = (refl, both p q q' h.2 k.2)
+close_once p chans f f' (Refused HardwareError) a' q q' n m h k = absurd (n.1 refl)
+close_once p chans f f' a (Refused HardwareError) q q' n m h k = absurd (m.1 refl)
+close_once p chans f f' a a' q q' n m h k = absurd (assumption (h, k))
+
+open_once : (p : Panel) (chans : List Channel) (f f' : Bool) (a a' : SessionAnswer) (q q' : Panel) → IsPlain (SaysSession a) → IsPlain (SaysSession a') → StepOpen p chans f a q → StepOpen p chans f' a' q' → IsOnce a a' q q'
+open_once p chans f f' (Done None) (Done None) q q' n m h k = (refl, of_parts p q q' (sets_once p.cage.rack q.cage.rack q'.cage.rack chans false h.2 k.2) h.3 k.3)
+open_once p chans f f' (Done None) (Refused HardwareMissing) q q' n m h k = absurd (true_false _ h.1 k.1)
+open_once p chans f f' (Refused HardwareMissing) (Done None) q q' n m h k = absurd (true_false _ k.1 h.1)
+open_once p chans f f' (Refused HardwareMissing) (Refused HardwareMissing) q q' n m h k = (refl, both p q q' h.2 k.2)
+open_once p chans f f' (Refused HardwareError) a' q q' n m h k = absurd (n.1 refl)
+open_once p chans f f' a (Refused HardwareError) q q' n m h k = absurd (m.1 refl)
+open_once p chans f f' a a' q q' n m h k = absurd (assumption (h, k))
+
+flags_once : (p : Panel) (chans : List Channel) (f f' : Bool) (a a' : SessionAnswer) (q q' : Panel) → IsPlain (SaysSession a) → IsPlain (SaysSession a') → StepFlags p chans f a q → StepFlags p chans f' a' q' → IsOnce a a' q q'
+flags_once p chans f f' (Done (Some t)) (Done (Some t')) q q' n m h k = (same_text t t' _ h.2 k.2, both p q q' h.3 k.3)
+flags_once p chans f f' (Done (Some t)) (Refused HardwareMissing) q q' n m h k = absurd (true_false _ h.1 k.1)
+flags_once p chans f f' (Refused HardwareMissing) (Done (Some t)) q q' n m h k = absurd (true_false _ k.1 h.1)
+flags_once p chans f f' (Refused HardwareMissing) (Refused HardwareMissing) q q' n m h k = (refl, both p q q' h.2 k.2)
+flags_once p chans f f' (Refused OutOfMemory) a' q q' n m h k = absurd (n.0 refl)
+flags_once p chans f f' a (Refused OutOfMemory) q q' n m h k = absurd (m.0 refl)
+flags_once p chans f f' a a' q q' n m h k = absurd (assumption (h, k))
+
+text_once : (p : Panel) (text : List ℕ) (f f' : Bool) (a a' : SessionAnswer) (q q' : Panel) → IsPlain (SaysSession a) → IsPlain (SaysSession a') → StepText p text f a q → StepText p text f' a' q' → IsOnce a a' q q'
+text_once p text f f' (Done (Some t)) (Done (Some t')) q q' n m h k = (same_text t t' _ h.1 k.1, both p q q' h.2 k.2)
+text_once p text f f' (Refused OutOfMemory) a' q q' n m h k = absurd (n.0 refl)
+text_once p text f f' a (Refused OutOfMemory) q q' n m h k = absurd (m.0 refl)
+text_once p text f f' a a' q q' n m h k = absurd (assumption (h, k))
+
+later_once : (p : Panel) (f f' : Bool) (a a' : SessionAnswer) (q q' : Panel) → StepLater p f a q → StepLater p f' a' q' → IsOnce a a' q q'
+later_once p f f' (Refused UndefinedHeader) (Refused UndefinedHeader) q q' h k = (refl, both p q q' h.1 k.1)
+later_once p f f' a a' q q' h k = absurd (assumption (h, k))
+
 unit_once : (p : Panel) (command : Command) (f f' : Bool) (a a' : SessionAnswer) (q q' : Panel) → IsPlain (SaysSession a) → IsPlain (SaysSession a') → StepUnit p command f a q → StepUnit p command f' a' q' → IsOnce a a' q q'
-unit_once p Identify f f' (Done (Some t)) (Done (Some t')) q q' n m h k = (same_text t t' _ h.1 k.1, both p q q' h.2 k.2)
-unit_once p Identify f f' (Refused OutOfMemory) a' q q' n m h k = absurd (n.0 refl)
-unit_once p Identify f f' a (Refused OutOfMemory) q q' n m h k = absurd (m.0 refl)
-unit_once p (Close chans) f f' (Done None) (Done None) q q' n m h k = (refl, of_parts p q q' (sets_once p.cage.rack q.cage.rack q'.cage.rack chans true h.2 k.2) h.3 k.3)
-unit_once p (Close chans) f f' (Done None) (Refused HardwareMissing) q q' n m h k = absurd (true_false _ h.1.present k.1)
-unit_once p (Close chans) f f' (Done None) (Refused SettingsConflict) q q' n m h k = absurd (h.1.apart k.1.1)
-unit_once p (Close chans) f f' (Refused HardwareMissing) (Done None) q q' n m h k = absurd (true_false _ k.1.present h.1)
-unit_once p (Close chans) f f' (Refused HardwareMissing) (Refused HardwareMissing) q q' n m h k = (refl, both p q q' h.2 k.2)
-unit_once p (Close chans) f f' (Refused HardwareMissing) (Refused SettingsConflict) q q' n m h k = absurd (true_false _ k.1.0 h.1)
-unit_once p (Close chans) f f' (Refused SettingsConflict) (Done None) q q' n m h k = absurd (k.1.apart h.1.1)
-unit_once p (Close chans) f f' (Refused SettingsConflict) (Refused HardwareMissing) q q' n m h k = absurd (true_false _ h.1.0 k.1)
-unit_once p (Close chans) f f' (Refused SettingsConflict) (Refused SettingsConflict) q q' n m h k = (refl, both p q q' h.2 k.2)
-unit_once p (Close chans) f f' (Refused HardwareError) a' q q' n m h k = absurd (n.1 refl)
-unit_once p (Close chans) f f' a (Refused HardwareError) q q' n m h k = absurd (m.1 refl)
-unit_once p (CloseQuery chans) f f' (Done (Some t)) (Done (Some t')) q q' n m h k = (same_text t t' _ h.2 k.2, both p q q' h.3 k.3)
-unit_once p (CloseQuery chans) f f' (Done (Some t)) (Refused HardwareMissing) q q' n m h k = absurd (true_false _ h.1 k.1)
-unit_once p (CloseQuery chans) f f' (Refused HardwareMissing) (Done (Some t)) q q' n m h k = absurd (true_false _ k.1 h.1)
-unit_once p (CloseQuery chans) f f' (Refused HardwareMissing) (Refused HardwareMissing) q q' n m h k = (refl, both p q q' h.2 k.2)
-unit_once p (CloseQuery chans) f f' (Refused OutOfMemory) a' q q' n m h k = absurd (n.0 refl)
-unit_once p (CloseQuery chans) f f' a (Refused OutOfMemory) q q' n m h k = absurd (m.0 refl)
-unit_once p CloseState f f' (Done (Some t)) (Done (Some t')) q q' n m h k = (same_text t t' _ h.1 k.1, both p q q' h.2 k.2)
-unit_once p CloseState f f' (Refused OutOfMemory) a' q q' n m h k = absurd (n.0 refl)
-unit_once p CloseState f f' a (Refused OutOfMemory) q q' n m h k = absurd (m.0 refl)
-unit_once p (Open chans) f f' (Done None) (Done None) q q' n m h k = (refl, of_parts p q q' (sets_once p.cage.rack q.cage.rack q'.cage.rack chans false h.2 k.2) h.3 k.3)
-unit_once p (Open chans) f f' (Done None) (Refused HardwareMissing) q q' n m h k = absurd (true_false _ h.1 k.1)
-unit_once p (Open chans) f f' (Refused HardwareMissing) (Done None) q q' n m h k = absurd (true_false _ k.1 h.1)
-unit_once p (Open chans) f f' (Refused HardwareMissing) (Refused HardwareMissing) q q' n m h k = (refl, both p q q' h.2 k.2)
-unit_once p (Open chans) f f' (Refused HardwareError) a' q q' n m h k = absurd (n.1 refl)
-unit_once p (Open chans) f f' a (Refused HardwareError) q q' n m h k = absurd (m.1 refl)
-unit_once p command f f' a a' q q' n m h k = absurd (assumption (h, k))
+unit_once p Command.Identify f f' a a' q q' n m h k = text_once p identity f f' a a' q q' n m h k
+unit_once p (Command.Close chans) f f' a a' q q' n m h k = close_once p chans f f' a a' q q' n m h k
+unit_once p (Command.CloseQuery chans) f f' a a' q q' n m h k = flags_once p chans f f' a a' q q' n m h k
+unit_once p Command.CloseState f f' a a' q q' n m h k = text_once p (printed (closed_list p.cage.rack)) f f' a a' q q' n m h k
+unit_once p (Command.Open chans) f f' a a' q q' n m h k = open_once p chans f f' a a' q q' n m h k
+unit_once p command f f' a a' q q' n m h k = later_once p f f' a a' q q' h k
 
 -- ---- sessions
 

@@ -7,7 +7,7 @@ use Rattle.sw_base.specs.declared.error.ScpiError.TheVariants.{HardwareError, Ou
 use Rattle.sw_card.specs.Account.{Account, closed_at}
 use Rattle.sw_cage.specs.Rack.{is_closed}
 use Rattle.sw_cage.specs.Change.{is_in}
-use Rattle.sw_lex.specs.declared.command.Command.TheVariants.{Close, Open}
+use Rattle.sw_lex.specs.declared.command.Command.TheVariants as Command
 use Rattle.sw_core.specs.declared.ask.Sid.{Sid}
 use Rattle.sw_core.specs.declared.ask.SessionAsk.TheVariants as Ask
 use Rattle.sw_core.specs.declared.ask.SessionAnswer.TheVariants.{Done, Refused}
@@ -34,9 +34,9 @@ EveryRunIsExclusive = (events : List Event) → IsRun opening events → AllByRe
 -- ROUTe:CLOSe and ROUTe:OPEN in the words of who sends them, and what leaves the cage
 pub record RelaysObey : Type 0 where
   -- after ROUTe:CLOSe that is done every channel of its list is closed
-  pub closes : (p q : Panel) (sid : Sid) (chans : List Channel) (answered failed : Bool) → Step p (AskSession (Ask.Unit sid (Close chans) answered)) failed (SaysSession (Done None)) q → (c : Channel) → is_in chans c ≡ true → is_closed q.cage.rack c ≡ true
+  pub closes : (p q : Panel) (sid : Sid) (chans : List Channel) (answered failed : Bool) → Step p (AskSession (Ask.Unit sid (Command.Close chans) answered)) failed (SaysSession (Done None)) q → (c : Channel) → is_in chans c ≡ true → is_closed q.cage.rack c ≡ true
   -- after ROUTe:OPEN that is done every channel of its list is open
-  pub opens : (p q : Panel) (sid : Sid) (chans : List Channel) (answered failed : Bool) → Step p (AskSession (Ask.Unit sid (Open chans) answered)) failed (SaysSession (Done None)) q → (c : Channel) → is_in chans c ≡ true → is_closed q.cage.rack c ≡ false
+  pub opens : (p q : Panel) (sid : Sid) (chans : List Channel) (answered failed : Bool) → Step p (AskSession (Ask.Unit sid (Command.Open chans) answered)) failed (SaysSession (Done None)) q → (c : Channel) → is_in chans c ≡ true → is_closed q.cage.rack c ≡ false
   -- a refusal for any other cause than a card's failure leaves the state as it was
   pub refused : (p q : Panel) (ask : AskView) (failed : Bool) (e : ScpiError) → e ≢ HardwareError → Step p ask failed (SaysSession (Refused e)) q → q ≡ p
   -- after a card's failure every relay is open

@@ -2,10 +2,10 @@
 use Rattle.std.specs.Prelude.{◌≡◌, ◌≢◌, ℕ, ◌-◌, ◌≤◌, Bool, true, false, List, Option, None, Some, slice_set, map}
 use Rattle.std.specs.List.{join_with_byte}
 use Rattle.sw_base.specs.Layout.{Channel, slot_at}
-use Rattle.sw_base.specs.declared.error.ScpiError.TheVariants.{HardwareMissing, SettingsConflict, HardwareError, OutOfMemory}
+use Rattle.sw_base.specs.declared.error.ScpiError.TheVariants.{UndefinedHeader, HardwareMissing, SettingsConflict, HardwareError, OutOfMemory}
 use Rattle.sw_channel.specs.Printing.{printed}
 use Rattle.sw_lex.specs.declared.command.Command.{Command}
-use Rattle.sw_lex.specs.declared.command.Command.TheVariants.{Identify, Close, CloseQuery, CloseState, Open}
+use Rattle.sw_lex.specs.declared.command.Command.TheVariants as Command
 use Rattle.sw_cage.specs.Rack.{Rack, layout_of, is_closed, all_open}
 use Rattle.sw_cage.specs.Change.{Sets, option_plate}
 use Rattle.sw_cage.specs.Channels.{closed_list}
@@ -34,23 +34,47 @@ MayClose p chans = CanClose (layout_of p.cage.rack) (is_closed p.cage.rack) chan
 abbrev pub has_all : Panel → List Channel → Bool
 has_all p chans = all_present (layout_of p.cage.rack) chans
 
--- A command of a joined session (SCPI-1999, 18.1; IEEE 488.2, 10.14), in a call in which a card failed or none did.
+-- ROUTe:CLOSe of these channels (SCPI-1999, 18.1)
+abbrev pub StepClose : Panel → List Channel → Bool → SessionAnswer → Panel → Type 0
+StepClose p chans f (Done None) q = (f ≡ false) × MayClose p chans × Sets p.cage.rack chans true q.cage.rack × (q.sessions ≡ p.sessions)
+StepClose p chans f (Refused HardwareMissing) q = (f ≡ false) × RefusesClose (layout_of p.cage.rack) (is_closed p.cage.rack) chans Absent × (q ≡ p)
+StepClose p chans f (Refused SettingsConflict) q = (f ≡ false) × RefusesClose (layout_of p.cage.rack) (is_closed p.cage.rack) chans Clash × (q ≡ p)
+StepClose p chans f (Refused HardwareError) q = (f ≡ true) × MayClose p chans × IsFallen p.cage.rack q.cage.rack × (q.sessions ≡ p.sessions)
+StepClose p chans f answer q = ⊥
+
+-- ROUTe:OPEN of these channels (SCPI-1999, 18.3)
+abbrev pub StepOpen : Panel → List Channel → Bool → SessionAnswer → Panel → Type 0
+StepOpen p chans f (Done None) q = (f ≡ false) × (has_all p chans ≡ true) × Sets p.cage.rack chans false q.cage.rack × (q.sessions ≡ p.sessions)
+StepOpen p chans f (Refused HardwareMissing) q = (f ≡ false) × (has_all p chans ≡ false) × (q ≡ p)
+StepOpen p chans f (Refused HardwareError) q = (f ≡ true) × (has_all p chans ≡ true) × IsFallen p.cage.rack q.cage.rack × (q.sessions ≡ p.sessions)
+StepOpen p chans f answer q = ⊥
+
+-- ROUTe:CLOSe? of these channels: a flag for each, joined by commas
+abbrev pub StepFlags : Panel → List Channel → Bool → SessionAnswer → Panel → Type 0
+StepFlags p chans f (Done (Some text)) q = (f ≡ false) × (has_all p chans ≡ true) × (text ≡ join_with_byte 44 (map (λ c. flag_of (is_closed p.cage.rack c)) chans)) × (q ≡ p)
+StepFlags p chans f (Refused HardwareMissing) q = (f ≡ false) × (has_all p chans ≡ false) × (q ≡ p)
+StepFlags p chans f (Refused OutOfMemory) q = (f ≡ false) × (has_all p chans ≡ true) × (q ≡ p)
+StepFlags p chans f answer q = ⊥
+
+-- a query that is answered by this text
+abbrev pub StepText : Panel → List ℕ → Bool → SessionAnswer → Panel → Type 0
+StepText p text f (Done (Some t)) q = (f ≡ false) × (t ≡ text) × (q ≡ p)
+StepText p text f (Refused OutOfMemory) q = (f ≡ false) × (q ≡ p)
+StepText p text f answer q = ⊥
+
+-- a command that the instrument doesn't carry out yet
+abbrev pub StepLater : Panel → Bool → SessionAnswer → Panel → Type 0
+StepLater p f (Refused UndefinedHeader) q = (f ≡ false) × (q ≡ p)
+StepLater p f answer q = ⊥
+
+-- A command of a joined session (SCPI-1999, 18; IEEE 488.2, 10.14), in a call in which a card failed or none did.
 abbrev pub StepUnit : Panel → Command → Bool → SessionAnswer → Panel → Type 0
-StepUnit p Identify f (Done (Some text)) q = (f ≡ false) × (text ≡ identity) × (q ≡ p)
-StepUnit p Identify f (Refused OutOfMemory) q = (f ≡ false) × (q ≡ p)
-StepUnit p (Close chans) f (Done None) q = (f ≡ false) × MayClose p chans × Sets p.cage.rack chans true q.cage.rack × (q.sessions ≡ p.sessions)
-StepUnit p (Close chans) f (Refused HardwareMissing) q = (f ≡ false) × RefusesClose (layout_of p.cage.rack) (is_closed p.cage.rack) chans Absent × (q ≡ p)
-StepUnit p (Close chans) f (Refused SettingsConflict) q = (f ≡ false) × RefusesClose (layout_of p.cage.rack) (is_closed p.cage.rack) chans Clash × (q ≡ p)
-StepUnit p (Close chans) f (Refused HardwareError) q = (f ≡ true) × MayClose p chans × IsFallen p.cage.rack q.cage.rack × (q.sessions ≡ p.sessions)
-StepUnit p (CloseQuery chans) f (Done (Some text)) q = (f ≡ false) × (has_all p chans ≡ true) × (text ≡ join_with_byte 44 (map (λ c. flag_of (is_closed p.cage.rack c)) chans)) × (q ≡ p)
-StepUnit p (CloseQuery chans) f (Refused HardwareMissing) q = (f ≡ false) × (has_all p chans ≡ false) × (q ≡ p)
-StepUnit p (CloseQuery chans) f (Refused OutOfMemory) q = (f ≡ false) × (has_all p chans ≡ true) × (q ≡ p)
-StepUnit p CloseState f (Done (Some text)) q = (f ≡ false) × (text ≡ printed (closed_list p.cage.rack)) × (q ≡ p)
-StepUnit p CloseState f (Refused OutOfMemory) q = (f ≡ false) × (q ≡ p)
-StepUnit p (Open chans) f (Done None) q = (f ≡ false) × (has_all p chans ≡ true) × Sets p.cage.rack chans false q.cage.rack × (q.sessions ≡ p.sessions)
-StepUnit p (Open chans) f (Refused HardwareMissing) q = (f ≡ false) × (has_all p chans ≡ false) × (q ≡ p)
-StepUnit p (Open chans) f (Refused HardwareError) q = (f ≡ true) × (has_all p chans ≡ true) × IsFallen p.cage.rack q.cage.rack × (q.sessions ≡ p.sessions)
-StepUnit p command f answer q = ⊥
+StepUnit p Command.Identify f answer q = StepText p identity f answer q
+StepUnit p (Command.Close chans) f answer q = StepClose p chans f answer q
+StepUnit p (Command.CloseQuery chans) f answer q = StepFlags p chans f answer q
+StepUnit p Command.CloseState f answer q = StepText p (printed (closed_list p.cage.rack)) f answer q
+StepUnit p (Command.Open chans) f answer q = StepOpen p chans f answer q
+StepUnit p command f answer q = StepLater p f answer q
 
 -- a session's ask; an error that was found outside isn't kept yet
 abbrev pub StepSession : Panel → SessionAsk → Bool → SessionAnswer → Panel → Type 0

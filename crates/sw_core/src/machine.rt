@@ -5,7 +5,9 @@ ghost use Rattle.sw_base.specs.Layout.{Channel};
 ghost use Rattle.sw_cage.specs.Change.{any_failed};
 ghost use Rattle.sw_core.specs.View.{ask_view, answer_view, HandsBack, AskInstall, AskEject};
 ghost use Rattle.sw_core.specs.Panel.{Panel, opening};
-ghost use Rattle.sw_core.specs.Step.{Step, StepSession, StepUnit};
+ghost use Rattle.sw_core.specs.Step.{Step, StepSession, StepUnit, StepClose, StepOpen, StepFlags, StepText};
+ghost use Rattle.sw_cage.specs.Channels.{closed_list};
+ghost use Rattle.sw_channel.specs.Printing.{printed};
 
 use crate::ask::{Answer, Ask, SessionAnswer, SessionAsk};
 use crate::sessions::Sessions;
@@ -118,13 +120,14 @@ impl<R: Relay, M: Meter> Core<R, M> {
             Command::CloseQuery(chans) => self.close_query(alloc, chans.as_slice()),
             Command::CloseState => self.close_state(alloc),
             Command::Open(chans) => self.open(chans.as_slice()),
+            _ => SessionAnswer::Refused(ScpiError::UndefinedHeader),
         }
     }
 
     /// Judges the whole list, and then closes one channel after another.
     #[tactic(auto, using(crate::proofs::Calls::failed_same))]
     fn close(&mut self, chans: &[Chan]) -> SessionAnswer
-        ensures { StepUnit self.old (Command.Close chans.now) (any_failed self.old.cage.rack self.new.cage.rack) result self.new }
+        ensures { StepClose self.old chans.now (any_failed self.old.cage.rack self.new.cage.rack) result self.new }
     {
         match self.cage.judge(chans) {
             Err(CloseRefusal::Absent) => SessionAnswer::Refused(ScpiError::HardwareMissing),
@@ -142,7 +145,7 @@ impl<R: Relay, M: Meter> Core<R, M> {
     /// Opens one channel after another.
     #[tactic(auto, using(crate::proofs::Calls::failed_same))]
     fn open(&mut self, chans: &[Chan]) -> SessionAnswer
-        ensures { StepUnit self.old (Command.Open chans.now) (any_failed self.old.cage.rack self.new.cage.rack) result self.new }
+        ensures { StepOpen self.old chans.now (any_failed self.old.cage.rack self.new.cage.rack) result self.new }
     {
         if !self.cage.all_present(chans) {
             return SessionAnswer::Refused(ScpiError::HardwareMissing);
@@ -158,17 +161,20 @@ impl<R: Relay, M: Meter> Core<R, M> {
 
     /// Whether each channel is closed.
     fn close_query(&self, alloc: Global, chans: &[Chan]) -> SessionAnswer
-        ensures { StepUnit self.now (Command.CloseQuery chans.now) Bool.false result self.now }
+        ensures { StepFlags self.now chans.now Bool.false result self.now }
     {
         if !self.cage.all_present(chans) {
             return SessionAnswer::Refused(ScpiError::HardwareMissing);
         }
-        told(closed_flags(alloc, &self.cage, chans))
+        match closed_flags(alloc, &self.cage, chans) {
+            Ok(text) => SessionAnswer::Done(Some(text)),
+            Err(_) => SessionAnswer::Refused(ScpiError::OutOfMemory),
+        }
     }
 
     /// The list of the closed channels.
     fn close_state(&self, alloc: Global) -> SessionAnswer
-        ensures { StepUnit self.now Command.CloseState Bool.false result self.now }
+        ensures { StepText self.now (printed (closed_list self.now.cage.rack)) Bool.false result self.now }
     {
         match self.cage.closed_chans(alloc) {
             Ok(closed) => match print_list(alloc, &closed) {
