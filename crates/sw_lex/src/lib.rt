@@ -16,6 +16,7 @@ mod elements;
 mod headers;
 mod meaning;
 mod numerals;
+mod owned;
 mod paths;
 mod rows;
 mod runs;
