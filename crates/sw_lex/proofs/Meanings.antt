@@ -1,5 +1,5 @@
 -- But for want of memory a unit below a path has one meaning.
-use Rattle.std.proofs.Common.{◌≡◌, ◌≢◌, ℕ, List, [], ◌∷◌, sym, ap, subst, ◌∙◌, inl, inr, Result, Ok, Err}
+use Rattle.std.proofs.Common.{◌≡◌, ◌≢◌, ℕ, List, [], ◌∷◌, refl, sym, ap, subst, ◌∙◌, inl, inr, Result, Ok, Err}
 use Rattle.std.specs.Result.{result_map_both}
 use Rattle.sw_base.specs.Layout.{Channel}
 use Rattle.sw_base.specs.declared.error.ScpiError.{ScpiError}
@@ -11,9 +11,11 @@ use Rattle.sw_lex.specs.declared.table.Key.{Key}
 use Rattle.sw_lex.specs.declared.table.Key.TheVariants as keys
 use Rattle.sw_lex.specs.Unit.{Datum, number, character, string, block, expression, UnitView}
 use Rattle.sw_lex.specs.Table.{rows}
+use Rattle.sw_lex.specs.declared.table.Row.{Row}
+use Rattle.sw_lex.specs.Found.{IsIn, spellings, IsFound}
 use Rattle.sw_lex.specs.Commands.{layer_of, of_common, of_instrument, of_layer, of_group, of_channels}
 use Rattle.sw_lex.specs.Values.{on_ok, IsQuantity, ReadsQuantity, ReadsString, ReadsBlock, whole_of, continuous_of, macros_of, delay_of, source_meant}
-use Rattle.sw_lex.specs.Meaning.{Nodes, asked, WithNone, WithList, OfList, WithString, OfString, Defines, OfMacro, WithNumber, OfNumber, OfWord, OfSwitch, Obeys, Resolves}
+use Rattle.sw_lex.specs.Meaning.{Nodes, asked, path_after, WithNone, WithList, OfList, WithString, OfString, Defines, OfMacro, WithNumber, OfNumber, OfWord, OfSwitch, Obeys, Resolves}
 use Rattle.sw_base.specs.Text.{is_blank, Spans}
 use Rattle.sw_base.specs.Number.{Written}
 use Rattle.sw_base.proofs.Runs.{one_span}
@@ -193,4 +195,14 @@ one_meaning unit below r s a b p q n m =
           | inr d ↦ elim d [ inl f ↦ absurd (e.nowhere f.key f.number f.found) | inr f ↦ (e.refused ∙ sym f.refused, e.stays ∙ sym f.stays) ]
         ]
       ]
+    ]
+
+pub every_spelling : (row : Row) (unit : UnitView) (below : Nodes) (m : ℕ) (r : Result Command ScpiError) (left : Nodes) → IsIn row rows → row.query ≡ unit.query → IsIn (asked unit below, m) (spellings row.steps) → Resolves unit below r left → Obeys row.key m unit.elements r × (left ≡ path_after unit.header below)
+every_spelling row unit below m r left i q s h =
+    let f : IsFound rows (asked unit below) unit.query row.key m = record { row = row; listed = i; query_is = q; key_is = refl; spelled = s } in
+    elim h [
+      | inl c ↦
+          let k = one_found rows rows_apart (asked unit below) unit.query c.key row.key c.number m c.found f in
+          (subst (λ (x : ℕ). Obeys row.key x unit.elements r) k.1 (subst (λ (x : Key). Obeys x c.number unit.elements r) k.0 c.obeyed), c.onward)
+      | inr d ↦ elim d [ inl e ↦ absurd (e.nothing row.key m f) | inr e ↦ absurd (e.nothing row.key m f) ]
     ]

@@ -7,7 +7,10 @@ ghost use Rattle.sw_base.specs.declared.error.ScpiError.{ScpiError as Error};
 ghost use Rattle.sw_base.specs.declared.error.ScpiError.TheVariants.{OutOfMemory};
 ghost use Rattle.sw_lex.specs.declared.command.Command.{Command as Meant};
 ghost use Rattle.sw_lex.specs.Unit.{UnitView, unit_of, data_of};
-ghost use Rattle.sw_lex.specs.Meaning.{Nodes, path_of, WithNone, WithList, WithString, Defines, OfMacro, WithNumber, OfNumber, OfWord, OfSwitch, Obeys, IsRefusal, Resolves};
+ghost use Rattle.sw_lex.specs.Meaning.{asked, path_after, Nodes, path_of, WithNone, WithList, WithString, Defines, OfMacro, WithNumber, OfNumber, OfWord, OfSwitch, Obeys, IsRefusal, Resolves};
+ghost use Rattle.sw_lex.specs.declared.table.Row.{Row};
+ghost use Rattle.sw_lex.specs.Found.{IsIn, spellings};
+ghost use Rattle.sw_lex.specs.Table.{rows};
 ghost use Rattle.sw_lex.specs.Values.{on_ok, ReadsQuantity, ReadsString, whole_of, continuous_of, macros_of, delay_of, source_meant};
 
 use crate::choice::{layer_of, of_channels, of_common, of_group, of_instrument, of_layer};
@@ -247,4 +250,9 @@ pub fn resolve<'a>(alloc: Global, unit: &RawUnit<'a>, path: Path<'a>) -> Resolve
 /// A law: but for want of memory, a unit below a path has one command or one first refusal, and leaves one path.
 pub fn one_meaning()
     ensures { (unit : UnitView) (below : Nodes) (r s : Result Meant Error) (a b : Nodes) → Resolves unit below r a → Resolves unit below s b → r ≢ Err OutOfMemory → s ≢ Err OutOfMemory → (r ≡ s) × (a ≡ b) }
+{}
+
+/// A law: a unit whose header is a spelling of a row of the table is that row's command, whichever spelling it is.
+pub fn every_spelling()
+    ensures { (row : Row) (unit : UnitView) (below : Nodes) (number : ℕ) (r : Result Meant Error) (left : Nodes) → IsIn row rows → row.query ≡ unit.query → IsIn (asked unit below, number) (spellings row.steps) → Resolves unit below r left → Obeys row.key number unit.elements r × (left ≡ path_after unit.header below) }
 {}
