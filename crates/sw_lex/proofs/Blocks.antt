@@ -68,3 +68,6 @@ nine digits a l =
     let b : 1 * 10 ^ length digits ≤ 1 * 10 ^ 9 = more_zeros 1 (length digits) 9 l in
     let c : 10 ^ 9 ≡ 1000000000 = refl in
     omega (arith, value_lt digits a, b, c)
+
+pub block_whole : (text bytes rest : List ℕ) → IsBlock text bytes rest → 0 < length rest → (other : List ℕ) → IsBlock text other [] → ⊥
+block_whole text bytes rest b l other c = omega (arith, l, ap (λ (x : List ℕ). length x) (one_block text bytes other rest [] b c).1)

@@ -44,7 +44,7 @@ no_digit_clash more others b o e h =
     let y : not false ≡ false = rw h at z in
     cc
 
-bad_block_not : (text : List ℕ) (e : ScpiError) (bytes a : List ℕ) → IsBadBlock text e → IsBlock text bytes a → ⊥
+pub bad_block_not : (text : List ℕ) (e : ScpiError) (bytes a : List ℕ) → IsBadBlock text e → IsBlock text bytes a → ⊥
 bad_block_not text e bytes a u p =
     elim u.why [
       | inl x ↦ x.1 bytes a p

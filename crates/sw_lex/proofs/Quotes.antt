@@ -1,5 +1,5 @@
 -- Strings: marks that are doubled, and the one that isn't.
-use Rattle.std.proofs.Common.{◌≡◌, ℕ, Bool, true, false, not, List, [], ◌∷◌, ◌++◌, refl, sym, ap, subst, ◌∙◌, append_assoc, inl, inr}
+use Rattle.std.proofs.Common.{◌≡◌, ℕ, ◌<◌, arith, length, Bool, true, false, not, List, [], ◌∷◌, ◌++◌, refl, sym, ap, subst, ◌∙◌, append_assoc, inl, inr}
 use Rattle.std.specs.Prelude.{◌==◌}
 use Rattle.std.proofs.lemmas.Bool.{cases_Bool, eqb-true}
 use Rattle.std.proofs.lemmas.List.{append-nil}
@@ -105,3 +105,20 @@ one_string (x ∷ more) c d a b s t =
 pub string_tail : (text content rest : List ℕ) → IsString text content rest → (front : List ℕ) × (text ≡ front ++ rest)
 string_tail text content rest s =
     ((s.mark ∷ (doubled s.mark content ++ s.mark ∷ [])), s.whole ∙ ap (λ (t : List ℕ). s.mark ∷ t) (sym (append_assoc (doubled s.mark content) (s.mark ∷ []) rest)))
+
+-- the content up to the last mark
+pub closed_content : (m : ℕ) (text front rest left more content : List ℕ) → text ≡ doubled m front ++ rest → Lacks m left → rest ≡ left ++ m ∷ more → StartsOff (λ b. b == m) more → text ≡ doubled m content ++ m ∷ [] → front ++ left ≡ content
+closed_content m text front rest left more content e l f o h =
+    (one_doubled m (front ++ left) content (m ∷ more) (m ∷ []) (refl, o) (refl, tt) (sym (closed_at m text front rest left more e l f) ∙ h)).0
+
+-- a string that goes on isn't the whole text
+goes_on : (m b : ℕ) (text content rest : List ℕ) → text ≡ doubled m content ++ m ∷ (b ∷ rest) → StartsOff (λ c. c == m) (b ∷ rest) → (other : List ℕ) → IsString (m ∷ text) other [] → ⊥
+goes_on m b text content rest e o other s =
+    let p = string_at m text other [] s in
+    let r = one_doubled m content other (m ∷ b ∷ rest) (m ∷ []) (refl, o) (refl, tt) (sym e ∙ p.1) in
+    let z : m ∷ b ∷ rest ≡ m ∷ [] = r.1 in
+    cc
+
+pub not_whole : (m : ℕ) (text content rest : List ℕ) → text ≡ doubled m content ++ m ∷ rest → StartsOff (λ c. c == m) rest → 0 < length rest → (other : List ℕ) → IsString (m ∷ text) other [] → ⊥
+not_whole m text content [] e o l other s = omega (arith, l)
+not_whole m text content (b ∷ rest) e o l other s = goes_on m b text content rest e o other s

@@ -8,12 +8,13 @@ use Rattle.sw_base.specs.declared.error.ScpiError.TheVariants.{DataTypeError, Pa
 use Rattle.sw_base.specs.Number.{Written}
 use Rattle.sw_channel.specs.Reading.{Reads}
 use Rattle.sw_lex.specs.declared.command.Command.{Command}
+use Rattle.sw_lex.specs.declared.command.Command.TheVariants as commands
 use Rattle.sw_lex.specs.declared.table.Key.{Key}
 use Rattle.sw_lex.specs.declared.table.Key.TheVariants as keys
 use Rattle.sw_lex.specs.declared.paths.Path.{Path}
 use Rattle.sw_lex.specs.Unit.{Heading, common, path, Datum, number, character, string, block, expression, UnitView}
 use Rattle.sw_lex.specs.Commands.{layer_of, of_common, of_instrument, of_layer, of_group, of_channels}
-use Rattle.sw_lex.specs.Values.{on_ok, ReadsQuantity, whole_of, continuous_of, macros_of, delay_of, source_meant, switch_meant, unnumbered}
+use Rattle.sw_lex.specs.Values.{on_ok, ReadsQuantity, ReadsString, ReadsBlock, whole_of, continuous_of, macros_of, delay_of, source_meant, switch_meant, unnumbered}
 use Rattle.sw_lex.specs.Found.{IsFound}
 use Rattle.sw_lex.specs.Table.{rows}
 
@@ -108,8 +109,42 @@ OfSwitch (block t ∷ []) r = r ≡ Err DataTypeError
 OfSwitch (expression t ∷ []) r = r ≡ Err DataTypeError
 OfSwitch (d ∷ c ∷ ds) r = r ≡ Err ParameterNotAllowed
 
--- the command of a header with this number in it and these data, or its first refusal; or want of memory where a list
--- is read
+-- one string: its content, or the first refusal
+abbrev pub WithString : List Datum → Result (List ℕ) ScpiError → Type 0
+WithString [] r = r ≡ Err MissingParameter
+WithString (number t ∷ []) r = r ≡ Err DataTypeError
+WithString (character t ∷ []) r = r ≡ Err DataTypeError
+WithString (string t ∷ []) r = ReadsString t r
+WithString (block t ∷ []) r = r ≡ Err DataTypeError
+WithString (expression t ∷ []) r = r ≡ Err DataTypeError
+WithString (d ∷ c ∷ ds) r = r ≡ Err ParameterNotAllowed
+
+-- the command of one string
+abbrev pub OfString : (List ℕ → Command) → List Datum → Result Command ScpiError → Type 0
+OfString make ds r = (read : Result (List ℕ) ScpiError) × WithString ds read × (r ≡ result_map_both make (λ e. e) read)
+
+-- the definition of a macro with this body, where its label was read
+abbrev pub Defines : List ℕ → Result (List ℕ) ScpiError → Result Command ScpiError → Type 0
+Defines body (Err e) r = r ≡ Err e
+Defines body (Ok label) r = (read : Result (List ℕ) ScpiError) × ReadsBlock body read × (r ≡ result_map_both (λ b. commands.DefineMacro label b) (λ e. e) read)
+
+-- the definition of a macro: a label in a string, and a body in a block
+abbrev pub OfMacro : List Datum → Result Command ScpiError → Type 0
+OfMacro [] r = r ≡ Err MissingParameter
+OfMacro (d ∷ []) r = r ≡ Err MissingParameter
+OfMacro (number t ∷ c ∷ []) r = r ≡ Err DataTypeError
+OfMacro (character t ∷ c ∷ []) r = r ≡ Err DataTypeError
+OfMacro (block t ∷ c ∷ []) r = r ≡ Err DataTypeError
+OfMacro (expression t ∷ c ∷ []) r = r ≡ Err DataTypeError
+OfMacro (string t ∷ number u ∷ []) r = r ≡ Err DataTypeError
+OfMacro (string t ∷ character u ∷ []) r = r ≡ Err DataTypeError
+OfMacro (string t ∷ string u ∷ []) r = r ≡ Err DataTypeError
+OfMacro (string t ∷ expression u ∷ []) r = r ≡ Err DataTypeError
+OfMacro (string t ∷ block u ∷ []) r = (label : Result (List ℕ) ScpiError) × ReadsString t label × Defines u label r
+OfMacro (d ∷ c ∷ b ∷ ds) r = r ≡ Err ParameterNotAllowed
+
+-- the command of a header with this number in it and these data, or its first refusal; or want of memory where a list,
+-- a string or a block is read
 abbrev pub Obeys : Key → ℕ → List Datum → Result Command ScpiError → Type 0
 Obeys (keys.Common ask) k ds r = WithNone (of_common ask) ds r
 Obeys (keys.Instrument ask) k ds r = WithNone (of_instrument ask) ds r
@@ -121,6 +156,9 @@ Obeys (keys.Delay family) k ds r = OfNumber (delay_of (layer_of family k)) ds r
 Obeys (keys.Source family) k ds r = OfWord (source_meant (layer_of family k)) ds r
 Obeys keys.Continuous k ds r = OfSwitch ds r
 Obeys keys.EnableMacros k ds r = OfNumber macros_of ds r
+Obeys keys.DefineMacro k ds r = OfMacro ds r
+Obeys keys.MacroQuery k ds r = OfString (λ label. commands.MacroQuery label) ds r
+Obeys keys.RemoveMacro k ds r = OfString (λ label. commands.RemoveMacro label) ds r
 
 -- ---- a unit's meaning
 

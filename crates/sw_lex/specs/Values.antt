@@ -5,7 +5,7 @@ use Rattle.std.specs.Result.{result_map_both}
 use Rattle.sw_base.specs.Text.{is_blank, is_digit, is_letter, AllPass, Spans}
 use Rattle.sw_base.specs.Number.{Written, IsNumber, IsInLimits, IsRefused, rounded, in_range, tens_of, in_u64}
 use Rattle.sw_base.specs.declared.error.ScpiError.{ScpiError}
-use Rattle.sw_base.specs.declared.error.ScpiError.TheVariants.{InvalidCharacterInNumber, InvalidSuffix, SuffixNotAllowed, InvalidCharacterData, DataOutOfRange, IllegalParameterValue}
+use Rattle.sw_base.specs.declared.error.ScpiError.TheVariants.{InvalidCharacterInNumber, InvalidSuffix, SuffixNotAllowed, InvalidCharacterData, InvalidStringData, InvalidBlockData, DataOutOfRange, IllegalParameterValue, OutOfMemory}
 use Rattle.sw_base.specs.declared.number.Unit.{Unit as TimeUnit}
 use Rattle.sw_base.specs.declared.number.Unit.TheVariants.{S, Ms, Us}
 use Rattle.sw_base.specs.declared.terms.LayerName.{LayerName}
@@ -16,6 +16,7 @@ use Rattle.sw_lex.specs.declared.command.Command.TheVariants as commands
 use Rattle.sw_lex.specs.declared.table.Word.{Word}
 use Rattle.sw_lex.specs.declared.table.Word.TheVariants as words
 use Rattle.sw_lex.specs.declared.table.Whole.{Whole}
+use Rattle.sw_lex.specs.Elements.{IsString, IsBlock}
 use Rattle.sw_lex.specs.Apart.{same_word}
 use Rattle.sw_lex.specs.Words.{short_of, long_of}
 use Rattle.sw_lex.specs.Commands.{of_whole, least, greatest}
@@ -83,6 +84,22 @@ delay_in layer n (Some unit) = delay_within layer (in_u64 (rounded n (tens_of un
 
 abbrev pub delay_of : LayerName → Written → List ℕ → Result Command ScpiError
 delay_of layer n suffix = delay_in layer n (unit_of (map to_ascii_uppercase suffix))
+
+-- ---- strings and blocks
+
+-- the content of the string that the text is, or want of memory for it; or the text is no string
+abbrev pub ReadsString : List ℕ → Result (List ℕ) ScpiError → Type 0
+ReadsString text (Ok content) = IsString text content []
+ReadsString text (Err e) =
+    ((content : List ℕ) × IsString text content [] × (e ≡ OutOfMemory))
+    ⊎ (((content : List ℕ) → IsString text content [] → ⊥) × (e ≡ InvalidStringData))
+
+-- the same for the bytes of a block
+abbrev pub ReadsBlock : List ℕ → Result (List ℕ) ScpiError → Type 0
+ReadsBlock text (Ok bytes) = IsBlock text bytes []
+ReadsBlock text (Err e) =
+    ((bytes : List ℕ) × IsBlock text bytes [] × (e ≡ OutOfMemory))
+    ⊎ (((bytes : List ℕ) → IsBlock text bytes [] → ⊥) × (e ≡ InvalidBlockData))
 
 -- ---- words
 

@@ -133,7 +133,32 @@ pub const COMMON_STATUS_ROWS: [Row; 7] = [
     },
 ];
 
-pub const MACRO_ROWS: [Row; 4] = [
+pub const MACRO_ROWS: [Row; 7] = [
+    Row {
+        steps: [
+            Step::Must(Word::DefineMacro),
+            Step::End,
+            Step::End,
+            Step::End,
+        ],
+        query: false,
+        key: Key::DefineMacro,
+    },
+    Row {
+        steps: [Step::Must(Word::GetMacro), Step::End, Step::End, Step::End],
+        query: true,
+        key: Key::MacroQuery,
+    },
+    Row {
+        steps: [
+            Step::Must(Word::RemoveMacro),
+            Step::End,
+            Step::End,
+            Step::End,
+        ],
+        query: false,
+        key: Key::RemoveMacro,
+    },
     Row {
         steps: [
             Step::Must(Word::LearnMacro),

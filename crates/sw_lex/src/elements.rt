@@ -50,7 +50,7 @@ fn before<'a>(text: &'a [u8], rest: &[u8]) -> &'a [u8]
 }
 
 /// What follows the next mark that isn't doubled.
-fn closing(text: &[u8], mark: u8) -> Option<&[u8]>
+pub fn closing(text: &[u8], mark: u8) -> Option<&[u8]>
     ensures some { IfSome result (λ rest. (content : List ℕ) × (text.now ≡ doubled mark content ++ mark ∷ rest.now) × StartsOff (λ b. b == mark) rest.now) }
     ensures none { IfNone result ((content rest : List ℕ) → text.now ≡ doubled mark content ++ mark ∷ rest → StartsOff (λ b. b == mark) rest → ⊥) }
 {
@@ -79,10 +79,10 @@ fn value(digits: &[u8]) -> usize
     n
 }
 
-/// What follows the digits of a block's length and its bytes.
-fn counted(text: &[u8], width: usize) -> Option<&[u8]>
+/// The bytes of a block whose length these digits tell, and what follows them.
+fn counted(text: &[u8], width: usize) -> Option<(&[u8], &[u8])>
     requires { width ≤ 9 }
-    ensures some { IfSome result (λ rest. (digits bytes : List ℕ) × AllPass is_digit digits × (length digits ≡ width) × (length bytes ≡ value_of digits) × (text.now ≡ digits ++ (bytes ++ rest.now))) }
+    ensures some { IfSome result (λ x. (digits : List ℕ) × AllPass is_digit digits × (length digits ≡ width) × (length x.0.now ≡ value_of digits) × (text.now ≡ digits ++ (x.0.now ++ x.1.now))) }
     ensures none { IfNone result ((digits bytes rest : List ℕ) → AllPass is_digit digits → length digits ≡ width → length bytes ≡ value_of digits → text.now ≡ digits ++ (bytes ++ rest) → ⊥) }
 {
     if text.len() < width {
@@ -96,13 +96,12 @@ fn counted(text: &[u8], width: usize) -> Option<&[u8]>
     if more.len() < count {
         return None;
     }
-    let (_, rest) = more.split_at(count);
-    Some(rest)
+    Some(more.split_at(count))
 }
 
-/// What follows the block whose `#` stands before these bytes.
-fn block_end(more: &[u8]) -> Result<&[u8], ScpiError>
-    ensures ok { IfOk result (λ rest. (bytes : List ℕ) × IsBlock (35 ∷ more.now) bytes rest.now) }
+/// The bytes of the block whose `#` stands before these bytes, and what follows it.
+fn read_block(more: &[u8]) -> Result<(&[u8], &[u8]), ScpiError>
+    ensures ok { IfOk result (λ x. IsBlock (35 ∷ more.now) x.0.now x.1.now) }
     ensures err { IfErr result (λ e. IsBadBlock (35 ∷ more.now) e) }
 {
     match more {
@@ -116,9 +115,23 @@ fn block_end(more: &[u8]) -> Result<&[u8], ScpiError>
             }
             match counted(others, usize::from(*width - b'0')) {
                 None => Err(ScpiError::InvalidBlockData),
-                Some(rest) => Ok(rest),
+                Some(read) => Ok(read),
             }
         }
+    }
+}
+
+/// The bytes of the block that the text is.
+pub fn block_bytes(text: &[u8]) -> Option<&[u8]>
+    ensures some { IfSome result (λ bytes. IsBlock text.now bytes.now []) }
+    ensures none { IfNone result ((bytes : List ℕ) → IsBlock text.now bytes [] → ⊥) }
+{
+    match eat(text, b'#') {
+        None => None,
+        Some(more) => match read_block(more) {
+            Err(_) => None,
+            Ok((bytes, rest)) => { if rest.is_empty() { Some(bytes) } else { None } }
+        },
     }
 }
 
@@ -156,7 +169,10 @@ fn element_end<'a>(
             None => Err(ScpiError::InvalidStringData),
             Some(rest) => Ok(rest),
         },
-        Kind::Block => block_end(more),
+        Kind::Block => match read_block(more) {
+            Err(e) => Err(e),
+            Ok((_, rest)) => Ok(rest),
+        },
         Kind::Expression => expression_end(more),
     }
 }

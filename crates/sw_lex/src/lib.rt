@@ -3,7 +3,8 @@
 //! `next_unit` cuts the next unit off a message by the grammar of `specs/Unit.antt`, or refuses it at the first byte that
 //! fits no form. `resolve` looks the unit's header up in the table of headers, below the path that the units before it
 //! left, and gives the command with its data by `specs/Meaning.antt`, or the first refusal. The laws: no text has two
-//! readings (`one_reading`), no header is two commands (`one_command`), no unit two meanings (`one_meaning`).
+//! readings (`one_reading`), no header is two commands (`one_command`), no unit two meanings (`one_meaning`), and each
+//! spelling of a header is its command (`every_spelling`).
 //!
 //! Whether a command can be carried out
 //! is no question here, nor whether a channel exists.
@@ -16,6 +17,7 @@ mod elements;
 mod headers;
 mod meaning;
 mod numerals;
+mod owned;
 mod paths;
 mod rows;
 mod runs;
@@ -28,7 +30,7 @@ mod values;
 pub use command::Command;
 pub use elements::Kind;
 pub use headers::one_command;
-pub use meaning::{Resolved, one_meaning, resolve};
+pub use meaning::{Resolved, every_spelling, one_meaning, resolve};
 pub use paths::Path;
 pub use table::Key;
 pub use unit::{Element, Header, RawUnit, next_unit, one_reading};

@@ -7,12 +7,16 @@ ghost use Rattle.sw_base.specs.declared.error.ScpiError.{ScpiError as Error};
 ghost use Rattle.sw_base.specs.declared.error.ScpiError.TheVariants.{OutOfMemory};
 ghost use Rattle.sw_lex.specs.declared.command.Command.{Command as Meant};
 ghost use Rattle.sw_lex.specs.Unit.{UnitView, unit_of, data_of};
-ghost use Rattle.sw_lex.specs.Meaning.{Nodes, path_of, WithNone, WithList, WithNumber, OfNumber, OfWord, OfSwitch, Obeys, IsRefusal, Resolves};
-ghost use Rattle.sw_lex.specs.Values.{on_ok, ReadsQuantity, whole_of, continuous_of, macros_of, delay_of, source_meant};
+ghost use Rattle.sw_lex.specs.Meaning.{asked, path_after, Nodes, path_of, WithNone, WithList, WithString, Defines, OfMacro, WithNumber, OfNumber, OfWord, OfSwitch, Obeys, IsRefusal, Resolves};
+ghost use Rattle.sw_lex.specs.declared.table.Row.{Row};
+ghost use Rattle.sw_lex.specs.Found.{IsIn, spellings};
+ghost use Rattle.sw_lex.specs.Table.{rows};
+ghost use Rattle.sw_lex.specs.Values.{on_ok, ReadsQuantity, ReadsString, whole_of, continuous_of, macros_of, delay_of, source_meant};
 
 use crate::choice::{layer_of, of_channels, of_common, of_group, of_instrument, of_layer};
 use crate::command::Command;
 use crate::headers::find;
+use crate::owned::{body, content};
 use crate::paths::{Path, after, look_up, unnumbered_all};
 use crate::table::{Key, Whole};
 use crate::unit::{Element, RawUnit};
@@ -137,6 +141,51 @@ fn of_switch(elements: &[Element<'_>]) -> Result<Command, ScpiError>
     }
 }
 
+/// The content of the one element, which is a string.
+fn one_string(alloc: Global, elements: &[Element<'_>]) -> Result<Sequence<u8>, ScpiError>
+    ensures { WithString (data_of elements.now) result }
+{
+    match elements {
+        [] => Err(ScpiError::MissingParameter),
+        [label] => match *label {
+            Element::String(text) => content(alloc, text),
+            _ => Err(ScpiError::DataTypeError),
+        },
+        _ => Err(ScpiError::ParameterNotAllowed),
+    }
+}
+
+/// `*DMC` with the texts of these two elements.
+fn define(alloc: Global, label: &[u8], text: &[u8]) -> Result<Command, ScpiError>
+    ensures { (read : Result (List ℕ) Error) × ReadsString label.now read × Defines text.now read result }
+{
+    match content(alloc, label) {
+        Err(e) => Err(e),
+        Ok(label) => match body(alloc, text) {
+            Err(e) => Err(e),
+            Ok(text) => Ok(Command::DefineMacro(label, text)),
+        },
+    }
+}
+
+/// `*DMC`
+fn of_macro(alloc: Global, elements: &[Element<'_>]) -> Result<Command, ScpiError>
+    ensures { OfMacro (data_of elements.now) result }
+{
+    match elements {
+        [] => Err(ScpiError::MissingParameter),
+        [_] => Err(ScpiError::MissingParameter),
+        [label, text] => match *label {
+            Element::String(label) => match *text {
+                Element::Block(text) => define(alloc, label, text),
+                _ => Err(ScpiError::DataTypeError),
+            },
+            _ => Err(ScpiError::DataTypeError),
+        },
+        _ => Err(ScpiError::ParameterNotAllowed),
+    }
+}
+
 /// The command of a header with this number in it and these data.
 fn obey(alloc: Global, key: Key, number: u8, elements: &[Element<'_>]) -> Result<Command, ScpiError>
     ensures { Obeys key number (data_of elements.now) result }
@@ -152,6 +201,9 @@ fn obey(alloc: Global, key: Key, number: u8, elements: &[Element<'_>]) -> Result
         Key::Source(family) => of_source(layer_of(family, number), elements),
         Key::Continuous => of_switch(elements),
         Key::EnableMacros => of_macros(elements),
+        Key::DefineMacro => of_macro(alloc, elements),
+        Key::MacroQuery => Ok(Command::MacroQuery(one_string(alloc, elements)?)),
+        Key::RemoveMacro => Ok(Command::RemoveMacro(one_string(alloc, elements)?)),
     }
 }
 
@@ -172,7 +224,8 @@ fn refusal(nodes: &[&[u8]], query: bool) -> ScpiError
 /// The refusals, in this order: `UndefinedHeader`; `HeaderSuffixOutOfRange`; `MissingParameter`; `ParameterNotAllowed`;
 /// `DataTypeError`; of a number `InvalidCharacterInNumber`, `TooManyDigits`, `ExponentTooLarge`, `SuffixNotAllowed` or
 /// `InvalidSuffix`, and `DataOutOfRange`; of a word `InvalidCharacterData` where no setting has it, and
-/// `IllegalParameterValue` where another one has; those of a channel list; `OutOfMemory` where a list could not grow.
+/// `IllegalParameterValue` where another one has; those of a channel list; `OutOfMemory` where a list, a
+/// label or a body could not grow.
 pub fn resolve<'a>(alloc: Global, unit: &RawUnit<'a>, path: Path<'a>) -> Resolved<'a>
     ensures { Resolves (unit_of unit.now) (path_of path.entry) result.command (path_of result.path) }
 {
@@ -197,4 +250,9 @@ pub fn resolve<'a>(alloc: Global, unit: &RawUnit<'a>, path: Path<'a>) -> Resolve
 /// A law: but for want of memory, a unit below a path has one command or one first refusal, and leaves one path.
 pub fn one_meaning()
     ensures { (unit : UnitView) (below : Nodes) (r s : Result Meant Error) (a b : Nodes) → Resolves unit below r a → Resolves unit below s b → r ≢ Err OutOfMemory → s ≢ Err OutOfMemory → (r ≡ s) × (a ≡ b) }
+{}
+
+/// A law: a unit whose header is a spelling of a row of the table is that row's command, whichever spelling it is.
+pub fn every_spelling()
+    ensures { (row : Row) (unit : UnitView) (below : Nodes) (number : ℕ) (r : Result Meant Error) (left : Nodes) → IsIn row rows → row.query ≡ unit.query → IsIn (asked unit below, number) (spellings row.steps) → Resolves unit below r left → Obeys row.key number unit.elements r × (left ≡ path_after unit.header below) }
 {}

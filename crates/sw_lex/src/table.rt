@@ -28,6 +28,12 @@ pub enum Key {
     Continuous,
     /// `*EMC`
     EnableMacros,
+    /// `*DMC`
+    DefineMacro,
+    /// `*GMC?`
+    MacroQuery,
+    /// `*RMC`
+    RemoveMacro,
 }
 
 /// The common commands without data.
@@ -134,7 +140,10 @@ pub enum Word {
     Wait,
     SelfTest,
     TriggerNow,
+    DefineMacro,
+    GetMacro,
     LearnMacro,
+    RemoveMacro,
     PurgeMacros,
     EnableMacros,
     Abort,
@@ -197,7 +206,10 @@ pub fn short_of(word: Word) -> &'static [u8]
         Word::Wait => b"*WAI",
         Word::SelfTest => b"*TST",
         Word::TriggerNow => b"*TRG",
+        Word::DefineMacro => b"*DMC",
+        Word::GetMacro => b"*GMC",
         Word::LearnMacro => b"*LMC",
+        Word::RemoveMacro => b"*RMC",
         Word::PurgeMacros => b"*PMC",
         Word::EnableMacros => b"*EMC",
         Word::Abort => b"ABOR",
@@ -261,7 +273,10 @@ pub fn long_of(word: Word) -> &'static [u8]
         Word::Wait => b"*WAI",
         Word::SelfTest => b"*TST",
         Word::TriggerNow => b"*TRG",
+        Word::DefineMacro => b"*DMC",
+        Word::GetMacro => b"*GMC",
         Word::LearnMacro => b"*LMC",
+        Word::RemoveMacro => b"*RMC",
         Word::PurgeMacros => b"*PMC",
         Word::EnableMacros => b"*EMC",
         Word::Abort => b"ABORT",

@@ -151,6 +151,26 @@ fn reads_numbers(rt: HostRuntime) -> Result<(), Fail> {
     Ok(())
 }
 
+#[test]
+fn reads_macros(rt: HostRuntime) -> Result<(), Fail> {
+    match first(rt.alloc(), b"*DMC \"A\",#15*IDN?")? {
+        Command::DefineMacro(label, body) => {
+            assert_eq!(rt; label.as_slice(), b"A".as_slice());
+            assert_eq!(rt; body.as_slice(), b"*IDN?".as_slice());
+        }
+        _ => assert!(rt; false),
+    }
+    match first(rt.alloc(), b"*GMC? \"a\"\"b'\"")? {
+        Command::MacroQuery(label) => assert_eq!(rt; label.as_slice(), b"a\"b'".as_slice()),
+        _ => assert!(rt; false),
+    }
+    match first(rt.alloc(), b"*RMC 'c'")? {
+        Command::RemoveMacro(label) => assert_eq!(rt; label.as_slice(), b"c".as_slice()),
+        _ => assert!(rt; false),
+    }
+    Ok(())
+}
+
 /// What the header of a message is in the table.
 fn key(message: &[u8]) -> Result<Option<(Key, u8)>, ScpiError> {
     match next_unit(message)? {
@@ -306,7 +326,10 @@ fn knows_headers(rt: HostRuntime) -> Result<(), Fail> {
         b"*WAI".as_slice(),
         b"*TST?".as_slice(),
         b"*TRG".as_slice(),
+        b"*DMC".as_slice(),
+        b"*GMC?".as_slice(),
         b"*LMC?".as_slice(),
+        b"*RMC".as_slice(),
         b"*PMC".as_slice(),
         b"*EMC".as_slice(),
         b"*emc?".as_slice(),
