@@ -1,22 +1,19 @@
 -- A run leaves no choice: line by line, from a mainframe that was set up in one way.
-use Rattle.std.proofs.Common.{◌≡◌, ℕ, Bool, List, [], ◌∷◌, ◌++◌, refl, sym, ap, subst, ◌∙◌}
+use Rattle.std.proofs.Common.{◌≡◌, ℕ, Bool, List, [], ◌∷◌, ◌++◌, sym, ap, subst, ◌∙◌}
 use Rattle.std.proofs.lemmas.List.{append-nil}
 use Rattle.sw_core.specs.declared.ask.Sid.{Sid}
 use Rattle.sw_core.specs.declared.ask.SessionAsk.TheVariants as Ask
-use Rattle.sw_core.specs.declared.ask.SessionAnswer.{SessionAnswer}
 use Rattle.sw_core.specs.declared.ask.SessionAnswer.TheVariants.{Joined}
 use Rattle.sw_core.specs.Panel.{Panel, opening}
-use Rattle.sw_core.specs.View.{AskView, AskSession, AskInstall, AskEject, AnswerView, SaysSession, SaysInstalled, SaysNotInstalled, SaysEjected, SaysNotEjected}
+use Rattle.sw_core.specs.View.{AskSession, AskInstall, AnswerView, SaysSession, SaysInstalled, SaysNotInstalled}
 use Rattle.sw_core.specs.Step.{Step}
 use Rattle.sw_core.specs.Run.{IsPlain, StepIsDetermined}
-use Rattle.sw_session.specs.CoreDesk.{CorePasses}
-use Rattle.sw_session.specs.Talk.{Talked}
 use Rattle.sw_session.specs.Law.{CoreTalkIsDetermined}
 use Rattle.sw_card.specs.Account.{Account}
 use Rattle.mainframe.specs.Lines.{lines_of}
 use Rattle.mainframe.specs.Cards.{Fitted}
 use Rattle.mainframe.specs.Run.{Stepped, AsksInTurn, Joins, IsSetUp, Run, RunsTo}
-use Rattle.mainframe.specs.Law.{IsPlainTalk, IsPlainRun}
+use Rattle.mainframe.specs.Law.{IsPlainRun}
 
 -- an offer of a card is answered plainly
 install_plain : (p : Panel) (slot : ℕ) (card : Account) (f : Bool) (a : AnswerView) (q : Panel) → Step p (AskInstall slot card) f a q → IsPlain a

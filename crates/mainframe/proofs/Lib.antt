@@ -1,4 +1,5 @@
 mod Known
 mod Lines
+mod Kept
 mod Runs
 mod Determined

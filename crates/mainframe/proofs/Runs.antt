@@ -1,19 +1,21 @@
 -- A run, one line further.
-use Rattle.std.proofs.Common.{◌≡◌, ℕ, ◌+◌, ◌<◌, List, [], ◌∷◌, ◌++◌, length, take, Option, Some, None, IfSome, refl, ap, sym, ◌∙◌, subst, append_assoc, arith}
-use Rattle.std.proofs.lemmas.Grind.{common_steps}
+use Rattle.std.proofs.Common.{◌≡◌, ◌≢◌, ℕ, ◌+◌, ◌<◌, List, [], ◌∷◌, ◌++◌, length, take, Option, Some, None, IfSome, refl, ap, sym, ◌∙◌, subst, append_assoc, arith}
 use Rattle.std.proofs.lemmas.List.{append-nil}
 use Rattle.std.proofs.Math.Seq.{take-append-add}
-use Rattle.std.specs.Io.{StopsAt}
-use Rattle.std.specs.Io.KnownBytes.{Appends, IsAtEnd, Consumes}
+use Rattle.std.specs.Io.KnownBytes.{Appends, IsAtEnd}
 use Rattle.std.specs.Io.BufRead.{take_through, drop_through, DropsThrough}
 use Rattle.sw_core.specs.declared.ask.Sid.{Sid}
 use Rattle.sw_core.specs.Panel.{Panel}
 use Rattle.sw_session.specs.CoreDesk.{CorePasses}
 use Rattle.sw_session.specs.Talk.{Talked}
 use Rattle.mainframe.specs.Lines.{lines_of, WritesPart}
-use Rattle.mainframe.specs.Run.{Run, RunsTo, AnsweredFrom, PartFrom, CutFrom}
+use Rattle.mainframe.specs.Run.{Run, AnsweredFrom, PartFrom, CutFrom, EndsFrom}
+use Rattle.mainframe.specs.declared.fault.RunFault.{RunFault}
+use Rattle.mainframe.specs.declared.fault.RunFault.TheVariants.{Input, Output, Memory}
 use Rattle.mainframe.proofs.Known.{appends-more}
+use Rattle.mainframe.specs.Kept.{most_kept, CutsLine}
 use Rattle.mainframe.proofs.Lines.{lines_of-through}
+use Rattle.mainframe.proofs.Kept.{kept-some, talked-whole}
 
 pub run-push : (sid : Sid) (p q mid : Panel) (done : List (List ℕ)) (line bytes told : List ℕ) → Run sid p done bytes q → Talked CorePasses q mid sid line told → Run sid p (done ++ line ∷ []) (bytes ++ told) mid
 run-push sid p q mid [] line bytes told r t =
@@ -40,11 +42,11 @@ progress-end sid start (Some input) r c0 c p (done, bytes, left, is, lines, run,
       writes = a;
     }
 
-pub progress-cut : (sid : Sid) (start : Panel) (r0 r r2 c0 c : Option (List ℕ)) (p : Panel) (cut : List ℕ) → Progress sid start r0 r c0 c p → Consumes r r2 cut → StopsAt cut 10 → IfSome r0 (λ input. CutFrom sid start input r2 c0 c)
-progress-cut sid start None r r2 c0 c p cut h used stops = tt
-progress-cut sid start (Some input) None r2 c0 c p cut (done, bytes, left, is, lines, run, a) used stops = absurd (cc (is))
-progress-cut sid start (Some input) (Some xs) None c0 c p cut (done, bytes, left, is, lines, run, a) used stops = absurd used
-progress-cut sid start (Some input) (Some xs) (Some ys) c0 c p cut (done, bytes, left, is, lines, run, a) used stops =
+pub progress-cut : (sid : Sid) (start : Panel) (r0 r r2 c0 c : Option (List ℕ)) (p : Panel) → Progress sid start r0 r c0 c p → CutsLine r r2 → IfSome r0 (λ input. CutFrom sid start input r2 c0 c)
+progress-cut sid start None r r2 c0 c p h cuts = tt
+progress-cut sid start (Some input) None r2 c0 c p (done, bytes, left, is, lines, run, a) (cut, used, stops) = absurd (cc (is))
+progress-cut sid start (Some input) (Some xs) None c0 c p (done, bytes, left, is, lines, run, a) (cut, used, stops) = absurd used
+progress-cut sid start (Some input) (Some xs) (Some ys) c0 c p (done, bytes, left, is, lines, run, a) (cut, used, stops) =
     let same : xs ≡ left = cc (is) in
     record {
       cut = cut;
@@ -58,35 +60,37 @@ progress-cut sid start (Some input) (Some xs) (Some ys) c0 c p cut (done, bytes,
       };
     }
 
-lines-next : (left items buf : List ℕ) → buf ≡ [] → items ≡ buf ++ take_through 10 left → 0 < length items → lines_of left ≡ items ∷ lines_of (drop_through 10 left)
-lines-next [] items buf none is some = absurd (grind (arith, common_steps))
-lines-next (x ∷ xs) items buf none is some =
-    let e : items ≡ take_through 10 (x ∷ xs) = is ∙ ap (λ b. b ++ take_through 10 (x ∷ xs)) none in
-    lines_of-through x xs ∙ ap (λ t. t ∷ lines_of (drop_through 10 (x ∷ xs))) (sym e)
+lines-next : (left : List ℕ) → 0 < length left → lines_of left ≡ take_through 10 left ∷ lines_of (drop_through 10 left)
+lines-next [] some = absurd (omega arith)
+lines-next (x ∷ xs) some = lines_of-through x xs
 
-pub progress-line : (sid : Sid) (start : Panel) (r0 r1 r2 c0 c1 c2 : Option (List ℕ)) (q mid : Panel) (items buf told : List ℕ) → Progress sid start r0 r1 c0 c1 q → buf ≡ [] → IfSome r1 (λ xs. items ≡ buf ++ take_through 10 xs) → DropsThrough r1 r2 10 → 0 < length items
-    → Talked CorePasses q mid sid items told → Appends c1 c2 told → Progress sid start r0 r2 c0 c2 mid
-progress-line sid start None r1 r2 c0 c1 c2 q mid items buf told h none bytes rest some t a = tt
-progress-line sid start (Some input) None r2 c0 c1 c2 q mid items buf told (done, written, left, at, lines, run, w) none bytes rest some t a = absurd (cc (at))
-progress-line sid start (Some input) (Some xs) r2 c0 c1 c2 q mid items buf told (done, written, left, at, lines, run, w) none bytes rest some t a =
+pub progress-line : (sid : Sid) (start : Panel) (r0 r1 r2 c0 c1 c2 : Option (List ℕ)) (q mid : Panel) (kept told : List ℕ) → Progress sid start r0 r1 c0 c1 q → IfSome r1 (λ xs. kept ≡ take most_kept (take_through 10 xs)) → DropsThrough r1 r2 10 → 0 < length kept
+    → Talked CorePasses q mid sid kept told → Appends c1 c2 told → Progress sid start r0 r2 c0 c2 mid
+progress-line sid start None r1 r2 c0 c1 c2 q mid kept told h is_kept rest some t a = tt
+progress-line sid start (Some input) None r2 c0 c1 c2 q mid kept told (done, written, left, at, lines, run, w) is_kept rest some t a = absurd (cc (at))
+progress-line sid start (Some input) (Some xs) r2 c0 c1 c2 q mid kept told (done, written, left, at, lines, run, w) is_kept rest some t a =
     let same : xs ≡ left = cc (at) in
-    let next : lines_of left ≡ items ∷ lines_of (drop_through 10 xs) = ap lines_of (sym same) ∙ lines-next xs items buf none bytes some in (
+    let items : List ℕ = take_through 10 xs in
+    let next : lines_of left ≡ items ∷ lines_of (drop_through 10 xs) = ap lines_of (sym same) ∙ lines-next xs (kept-some xs kept is_kept some) in
+    let whole : Talked CorePasses q mid sid items told = talked-whole q mid sid items told (subst (λ (l : List ℕ). Talked CorePasses q mid sid l told) is_kept t) in (
       done ++ items ∷ [],
       written ++ told,
       drop_through 10 xs,
       rest,
       lines ∙ ap (λ ls. done ++ ls) next ∙ sym (append_assoc done (items ∷ []) (lines_of (drop_through 10 xs))),
-      run-push sid start q mid done items written told run t,
+      run-push sid start q mid done items written told run whole,
       appends-more c0 c1 c2 written told w a,
     )
 
-pub progress-part : (sid : Sid) (start : Panel) (r0 r1 r2 c0 c1 c2 : Option (List ℕ)) (q mid : Panel) (items buf told : List ℕ) → Progress sid start r0 r1 c0 c1 q → buf ≡ [] → IfSome r1 (λ xs. items ≡ buf ++ take_through 10 xs) → DropsThrough r1 r2 10 → 0 < length items
-    → Talked CorePasses q mid sid items told → WritesPart c1 c2 told → IfSome r0 (λ input. PartFrom sid start input c0 c2)
-progress-part sid start None r1 r2 c0 c1 c2 q mid items buf told h none bytes rest some t a = tt
-progress-part sid start (Some input) None r2 c0 c1 c2 q mid items buf told (done, written, left, at, lines, run, w) none bytes rest some t a = absurd (cc (at))
-progress-part sid start (Some input) (Some xs) r2 c0 c1 c2 q mid items buf told (done, written, left, at, lines, run, w) none bytes rest some t a =
+pub progress-part : (sid : Sid) (start : Panel) (r0 r1 r2 c0 c1 c2 : Option (List ℕ)) (q mid : Panel) (kept told : List ℕ) → Progress sid start r0 r1 c0 c1 q → IfSome r1 (λ xs. kept ≡ take most_kept (take_through 10 xs)) → DropsThrough r1 r2 10 → 0 < length kept
+    → Talked CorePasses q mid sid kept told → WritesPart c1 c2 told → IfSome r0 (λ input. PartFrom sid start input c0 c2)
+progress-part sid start None r1 r2 c0 c1 c2 q mid kept told h is_kept rest some t a = tt
+progress-part sid start (Some input) None r2 c0 c1 c2 q mid kept told (done, written, left, at, lines, run, w) is_kept rest some t a = absurd (cc (at))
+progress-part sid start (Some input) (Some xs) r2 c0 c1 c2 q mid kept told (done, written, left, at, lines, run, w) is_kept rest some t a =
     let same : xs ≡ left = cc (at) in
-    let next : lines_of left ≡ items ∷ lines_of (drop_through 10 xs) = ap lines_of (sym same) ∙ lines-next xs items buf none bytes some in
+    let items : List ℕ = take_through 10 xs in
+    let next : lines_of left ≡ items ∷ lines_of (drop_through 10 xs) = ap lines_of (sym same) ∙ lines-next xs (kept-some xs kept is_kept some) in
+    let whole : Talked CorePasses q mid sid items told = talked-whole q mid sid items told (subst (λ (l : List ℕ). Talked CorePasses q mid sid l told) is_kept t) in
     let part : take (length written + a.0) (written ++ told) ≡ written ++ take a.0 told = take-append-add written told a.0 in
     record {
       rest = drop_through 10 xs;
@@ -95,7 +99,7 @@ progress-part sid start (Some input) (Some xs) r2 c0 c1 c2 q mid items buf told 
         done = done ++ items ∷ [];
         lines = lines ∙ ap (λ ls. done ++ ls) next ∙ sym (append_assoc done (items ∷ []) (lines_of (drop_through 10 xs)));
         after = mid;
-        run = run-push sid start q mid done items written told run t;
+        run = run-push sid start q mid done items written told run whole;
       };
       writes = (length written + a.0, subst (λ (b : List ℕ). Appends c0 c2 b) (sym part) (appends-more c0 c1 c2 written (take a.0 told) w a.1));
     }
@@ -116,3 +120,9 @@ progress-stopped sid start (Some input) r c0 c p (done, bytes, left, is, lines, 
   stops = λ k d l e. absurd (omega arith);
   answered = record { bytes = bytes; runs = record { done = done; lines = lines; after = p; run = run }; writes = a };
 }
+
+-- a fault of a read
+pub ends-cut : (sid : Sid) (start : Panel) (fault : RunFault) (r0 r c0 c : Option (List ℕ)) → fault ≢ Output → IfSome r0 (λ input. CutFrom sid start input r c0 c) → IfSome r0 (λ input. EndsFrom sid start fault input r c0 c)
+ends-cut sid start Input r0 r c0 c read h = h
+ends-cut sid start Memory r0 r c0 c read h = h
+ends-cut sid start Output r0 r c0 c read h = absurd (read refl)

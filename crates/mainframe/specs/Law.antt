@@ -3,13 +3,11 @@ use Rattle.std.specs.Prelude.{◌≡◌, ℕ, List, [], ◌∷◌}
 use Rattle.std.specs.List.{AllByRecursion}
 use Rattle.sw_core.specs.declared.ask.Sid.{Sid}
 use Rattle.sw_core.specs.Panel.{Panel}
-use Rattle.sw_core.specs.View.{AskView}
-use Rattle.sw_core.specs.Run.{IsPlain}
 use Rattle.sw_session.specs.CoreDesk.{CorePasses}
 use Rattle.sw_session.specs.Talk.{Talked}
 use Rattle.sw_session.specs.Law.{AllAmple, TellsPlainly}
 use Rattle.mainframe.specs.Cards.{Fitted}
-use Rattle.mainframe.specs.Run.{Stepped, AsksInTurn, IsSetUp, Run, RunsTo}
+use Rattle.mainframe.specs.Run.{IsSetUp, Run, RunsTo}
 
 -- no growth was refused in the talk about one message, and no card failed
 pub record IsPlainTalk {p q : Panel} {sid : Sid} {message bytes : List ℕ} (t : Talked CorePasses p q sid message bytes) : Type 0 where

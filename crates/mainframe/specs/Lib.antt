@@ -1,4 +1,5 @@
 pub mod Cards
 pub mod Lines
+pub mod Kept
 pub mod Run
 pub mod Law

@@ -8,6 +8,7 @@
 mod cards;
 mod fault;
 mod laws;
+mod reading;
 mod run;
 #[cfg(test)]
 mod tests;

@@ -10,9 +10,10 @@ ghost use Rattle.mainframe.specs.Run.{IsSetUp, Joins, Stepped, AnsweredFrom, End
 
 use crate::cards::{first_card, meter_card, second_card, third_card};
 use crate::fault::RunFault;
+use crate::reading::read_line;
 use crate::writing::write_bytes;
 use std::alloc::{AllocError, Global};
-use std::io::{BufRead, ErrorKind, Write};
+use std::io::{BufRead, Write};
 use sw_card::{Card, Meter, Relay};
 use sw_core::{Answer, Ask, Core, SessionAnswer, SessionAsk, Sid};
 use sw_session::{CoreDesk, Talker};
@@ -133,15 +134,11 @@ fn run_on<R: Relay, M: Meter, Rd: BufRead, W: Write>(
     let mut talker = Talker::new(alloc, sid);
     let mut line = Vec::new(alloc);
     for _turn in 0..TURNS {
-        line.clear();
-        match reader.read_until(b'\n', &mut line) {
-            Ok(n) => {
-                if n == 0 {
-                    return Ok(());
-                }
-            }
-            Err(e) if e.kind() == ErrorKind::OutOfMemory => return Err(RunFault::Memory),
-            Err(_) => return Err(RunFault::Input),
+        if let Err(fault) = read_line(reader, &mut line) {
+            return Err(fault);
+        }
+        if line.is_empty() {
+            return Ok(());
         }
         let told = talker.message(&line, desk);
         if let Err(fault) = write_bytes(writer, &told) {

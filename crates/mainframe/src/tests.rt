@@ -120,6 +120,23 @@ fn a_line_past_the_limit_is_dropped(rt: HostRuntime) -> Result<(), Fail> {
     check(&rt, rt.alloc(), &input, b"OPENBENCH,SWM8,0,1.0\n")
 }
 
+/// A line of this length, and what it answers, with a line feed and without.
+fn check_length(rt: &impl Abort, alloc: Global, length: usize, output: &[u8]) -> Result<(), Fail> {
+    let mut input = Vec::new(alloc);
+    input.extend_from_slice(b"*IDN?")?;
+    input.resize(length, b' ')?;
+    check(rt, alloc, &input, output)?;
+    input.push(b'\n')?;
+    check(rt, alloc, &input, output)
+}
+
+#[test]
+fn the_longest_line_is_answered(rt: HostRuntime) -> Result<(), Fail> {
+    check_length(&rt, rt.alloc(), 65_536, b"OPENBENCH,SWM8,0,1.0\n")?;
+    check_length(&rt, rt.alloc(), 65_537, b"")?;
+    check_length(&rt, rt.alloc(), 65_538, b"")
+}
+
 #[test]
 fn reads_a_cursor(rt: HostRuntime) -> Result<(), Fail> {
     let mut reader = Cursor::new(b"*IDN?\n".as_slice());

@@ -1,4 +1,4 @@
-use Rattle.std.proofs.Common.{◌≡◌, ℕ, List, subst, ◌<◌, ◌∙◌, sym, ap, length, arith, refl, [], Err, IfSome}
+use Rattle.std.proofs.Common.{◌≡◌, ℕ, List, subst, ◌<◌, ◌∙◌, sym, ap, length, arith, Err, IfSome, eqb-true, vec_len, rules}
 use Rattle.std.specs.Io.KnownBytes.{Appends}
 use Rattle.sw_core.specs.declared.ask.Sid.{Sid}
 use Rattle.sw_session.specs.CoreDesk.{CorePasses}
@@ -9,7 +9,8 @@ use Rattle.mainframe.specs.declared.fault.RunFault.TheVariants.{Output}
 use Rattle.sw_session.specs.Talk.{Talked}
 use Rattle.mainframe.specs.Lines.{WritesPart}
 use Rattle.mainframe.proofs.Known.{appends-nothing}
-use Rattle.mainframe.proofs.Runs.{progress-start, progress-end, progress-part, progress-all, progress-line, progress-cut, progress-stopped}
+use Rattle.mainframe.proofs.Runs.{progress-start, progress-end, progress-part, progress-all, progress-line, progress-cut, progress-stopped, ends-cut}
+use Rattle.mainframe.proofs.Kept.{kept-none}
 use Rattle.mainframe.proofs.run.run_on.Goals as goal
 
 pub loop-turn-init : goal.loop-turn-init
@@ -18,40 +19,38 @@ loop-turn-init g c = record {
   so_far = progress-start c.args.sid c.args.desk.now (g.Rd.Read.remaining c.args.reader.now) (g.W.Write.contents c.args.writer.now) (appends-nothing (g.W.Write.contents c.args.writer.now));
 }
 
-pub returns-then-n-eq0-clause-ok : goal.returns-then-n-eq0-clause-ok
-returns-then-n-eq0-clause-ok g c = progress-end _ _ _ _ _ _ _ c.loop-turn.invariant.so_far (c.in-Ok.ensures.end c.if-n-eq0.true)
+pub returns-then-is_empty-clause-ok : goal.returns-then-is_empty-clause-ok
+returns-then-is_empty-clause-ok g c = progress-end _ _ _ _ _ _ _ c.loop-turn.invariant.so_far (kept-none _ _ c.in_default.ensures.kept (omega (arith, c.read_line.new.line.ok.0, eqb-true (vec_len c.read_line.new.line) 0 (sym c.is_empty.ensures ∙ c.if-is_empty.true))))
 
-pub returns-then-n-eq0-clause-all : goal.returns-then-n-eq0-clause-all
-returns-then-n-eq0-clause-all g c = progress-all _ _ (g.Rd.Read.remaining c.args.reader.now) (g.Rd.Read.remaining c.loop-turn.reader) (g.Rd.Read.remaining c.read_until.new.self) _ _ _ c.loop-turn.invariant.so_far (c.in-Ok.ensures.end c.if-n-eq0.true) c.in-Ok.ensures.rest
+pub returns-then-is_empty-clause-all : goal.returns-then-is_empty-clause-all
+returns-then-is_empty-clause-all g c =
+    progress-all _ _ (g.Rd.Read.remaining c.args.reader.now) (g.Rd.Read.remaining c.loop-turn.reader) (g.Rd.Read.remaining c.read_line.new.reader) _ _ _ c.loop-turn.invariant.so_far (kept-none _ _ c.in_default.ensures.kept (omega (arith, c.read_line.new.line.ok.0, eqb-true (vec_len c.read_line.new.line) 0 (sym c.is_empty.ensures ∙ c.if-is_empty.true)))) c.in_default.ensures.rest
 
 pub returns-in-Err-clause-err : goal.returns-in-Err-clause-err
-returns-in-Err-clause-err g c = progress-cut _ _ _ _ _ _ _ _ _ c.loop-turn.invariant.so_far c.in-Err.ensures.none_lost c.in-Err.ensures.stops
-
-pub returns-in-Err-2-clause-err : goal.returns-in-Err-2-clause-err
-returns-in-Err-2-clause-err g c = progress-cut _ _ _ _ _ _ _ _ _ c.loop-turn.invariant.so_far c.in-Err.ensures.none_lost c.in-Err.ensures.stops
+returns-in-Err-clause-err g c = ends-cut _ _ _ _ _ _ _ c.in-Err.ensures.fault (progress-cut _ _ _ _ _ _ _ _ c.loop-turn.invariant.so_far c.in-Err.ensures.cut)
 
 pub returns-in-Err-write_bytes-clause-err : goal.returns-in-Err-write_bytes-clause-err
 returns-in-Err-write_bytes-clause-err g c =
-    let some : 0 < length c.read_until.new.buf.items = omega (arith, c.in-Ok.ensures.ok, c.clear.ensures.len, c.if-n-eq0.false, c.read_until.new.buf.ok.0) in
-    let talked : Talked CorePasses c.loop-turn.desk c.message-told.new.desk c.args.sid c.read_until.new.buf.items c.message-told.result.items =
-    subst (λ (s : Sid). Talked CorePasses c.loop-turn.desk c.message-told.new.desk s c.read_until.new.buf.items c.message-told.result.items) c.loop-turn.invariant.sid
+    let some : 0 < length c.read_line.new.line.items = search rules in
+    let talked : Talked CorePasses c.loop-turn.desk c.message-told.new.desk c.args.sid c.read_line.new.line.items c.message-told.result.items =
+    subst (λ (s : Sid). Talked CorePasses c.loop-turn.desk c.message-told.new.desk s c.read_line.new.line.items c.message-told.result.items) c.loop-turn.invariant.sid
     (subst (λ (t : List ℕ). Talked CorePasses c.loop-turn.desk c.message-told.new.desk c.loop-turn.talker.sid t c.message-told.result.items) c.deref.ensures.value c.message-told.ensures.talked) in
-    let part = progress-part c.args.sid c.args.desk.now (g.Rd.Read.remaining c.args.reader.now) (g.Rd.Read.remaining c.loop-turn.reader) (g.Rd.Read.remaining c.read_until.new.self) (g.W.Write.contents c.args.writer.now) (g.W.Write.contents c.loop-turn.writer) (g.W.Write.contents c.write_bytes.new.writer) c.loop-turn.desk c.message-told.new.desk c.read_until.new.buf.items c.clear.new.self.items c.message-told.result.items c.loop-turn.invariant.so_far c.clear.ensures.items c.in-Ok.ensures.bytes c.in-Ok.ensures.rest some talked
+    let part = progress-part c.args.sid c.args.desk.now (g.Rd.Read.remaining c.args.reader.now) (g.Rd.Read.remaining c.loop-turn.reader) (g.Rd.Read.remaining c.read_line.new.reader) (g.W.Write.contents c.args.writer.now) (g.W.Write.contents c.loop-turn.writer) (g.W.Write.contents c.write_bytes.new.writer) c.loop-turn.desk c.message-told.new.desk c.read_line.new.line.items c.message-told.result.items c.loop-turn.invariant.so_far c.in_default.ensures.kept c.in_default.ensures.rest some talked
     (subst (λ (b : List ℕ). WritesPart (g.W.Write.contents c.loop-turn.writer) (g.W.Write.contents c.write_bytes.new.writer) b) c.deref-in-loop-turn.ensures.value c.in-Err-write_bytes.ensures.err) in
     let wrote : Err c.in-Err-write_bytes.fault ≡ Err Output = c.in-Err-write_bytes.ensures.output in
     let output : c.in-Err-write_bytes.fault ≡ Output = cc in
-    subst (λ (f : RunFault). IfSome (g.Rd.Read.remaining c.args.reader.now) (λ input. EndsFrom c.args.sid c.args.desk.now f input (g.Rd.Read.remaining c.read_until.new.self) (g.W.Write.contents c.args.writer.now) (g.W.Write.contents c.write_bytes.new.writer))) (sym output) part
+    subst (λ (f : RunFault). IfSome (g.Rd.Read.remaining c.args.reader.now) (λ input. EndsFrom c.args.sid c.args.desk.now f input (g.Rd.Read.remaining c.read_line.new.reader) (g.W.Write.contents c.args.writer.now) (g.W.Write.contents c.write_bytes.new.writer))) (sym output) part
 
 pub loop-turn-preserved : goal.loop-turn-preserved
 loop-turn-preserved g c =
-    let some : 0 < length c.read_until.new.buf.items = omega (arith, c.in-Ok.ensures.ok, c.clear.ensures.len, c.if-n-eq0.false, c.read_until.new.buf.ok.0) in
-    let talked : Talked CorePasses c.loop-turn.desk c.message-told.new.desk c.args.sid c.read_until.new.buf.items c.message-told.result.items =
-    subst (λ (s : Sid). Talked CorePasses c.loop-turn.desk c.message-told.new.desk s c.read_until.new.buf.items c.message-told.result.items) c.loop-turn.invariant.sid
+    let some : 0 < length c.read_line.new.line.items = search rules in
+    let talked : Talked CorePasses c.loop-turn.desk c.message-told.new.desk c.args.sid c.read_line.new.line.items c.message-told.result.items =
+    subst (λ (s : Sid). Talked CorePasses c.loop-turn.desk c.message-told.new.desk s c.read_line.new.line.items c.message-told.result.items) c.loop-turn.invariant.sid
     (subst (λ (t : List ℕ). Talked CorePasses c.loop-turn.desk c.message-told.new.desk c.loop-turn.talker.sid t c.message-told.result.items) c.deref.ensures.value c.message-told.ensures.talked) in
     record {
       sid = ap (λ (t : Talker). t.sid) c.message-told.ensures.same ∙ c.loop-turn.invariant.sid;
-      so_far = progress-line c.args.sid c.args.desk.now (g.Rd.Read.remaining c.args.reader.now) (g.Rd.Read.remaining c.loop-turn.reader) (g.Rd.Read.remaining c.read_until.new.self) (g.W.Write.contents c.args.writer.now) (g.W.Write.contents c.loop-turn.writer) (g.W.Write.contents c.write_bytes.new.writer) c.loop-turn.desk c.message-told.new.desk c.read_until.new.buf.items c.clear.new.self.items c.message-told.result.items c.loop-turn.invariant.so_far c.clear.ensures.items c.in-Ok.ensures.bytes c.in-Ok.ensures.rest some talked
-          (subst (λ (b : List ℕ). Appends (g.W.Write.contents c.loop-turn.writer) (g.W.Write.contents c.write_bytes.new.writer) b) c.deref-in-loop-turn.ensures.value c.in_default.ensures.ok);
+      so_far = progress-line c.args.sid c.args.desk.now (g.Rd.Read.remaining c.args.reader.now) (g.Rd.Read.remaining c.loop-turn.reader) (g.Rd.Read.remaining c.read_line.new.reader) (g.W.Write.contents c.args.writer.now) (g.W.Write.contents c.loop-turn.writer) (g.W.Write.contents c.write_bytes.new.writer) c.loop-turn.desk c.message-told.new.desk c.read_line.new.line.items c.message-told.result.items c.loop-turn.invariant.so_far c.in_default.ensures.kept c.in_default.ensures.rest some talked
+          (subst (λ (b : List ℕ). Appends (g.W.Write.contents c.loop-turn.writer) (g.W.Write.contents c.write_bytes.new.writer) b) c.deref-in-loop-turn.ensures.value c.in_default-write_bytes.ensures.ok);
     }
 
 pub returns-clause-err : goal.returns-clause-err

@@ -1,0 +1,25 @@
+-- Reading one line, of which no more is kept than a message may have.
+use Rattle.std.specs.Prelude.{◌≡◌, ◌≢◌, ℕ, ◌+◌, Bool, true, List, ◌++◌, All, length, take, Option, Result, Ok, OnSome}
+use Rattle.std.specs.Io.{StopsAt, IsEmptyOrEndsWith}
+use Rattle.std.specs.Io.KnownBytes.{Consumes, IsAtEnd}
+use Rattle.sw_session.specs.Talk.{longest}
+use Rattle.mainframe.specs.declared.fault.RunFault.{RunFault}
+
+-- how many bytes of a line are kept: the longest message, its line feed, and one byte
+abbrev pub most_kept : ℕ
+most_kept = longest + 2
+
+-- bytes are gone of which no more than the last is a line feed
+abbrev pub CutsLine : Option (List ℕ) → Option (List ℕ) → Type 0
+CutsLine old new = (cut : List ℕ) × Consumes old new cut × StopsAt cut 10
+
+-- The next part of a line is taken, and kept as far as there is room. At Ok it is said whether the part ends the line,
+-- by its line feed or at the end of the input.
+pub record TakesPart (old new : Option (List ℕ)) (kept kept' : List ℕ) (result : Result Bool RunFault) : Type 0 where
+  pub part : List ℕ
+  pub consumed : Consumes old new part
+  pub keeps : kept' ≡ take most_kept (kept ++ part)
+  pub stops : StopsAt part 10
+  pub ends : result ≡ Ok true → IsEmptyOrEndsWith part 10
+  pub at_end : result ≡ Ok true → length part ≡ 0 → OnSome old (IsAtEnd new)
+  pub goes_on : result ≢ Ok true → All (λ x. x ≢ 10) part
