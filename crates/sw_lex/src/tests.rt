@@ -151,23 +151,33 @@ fn reads_numbers(rt: HostRuntime) -> Result<(), Fail> {
     Ok(())
 }
 
+/// The label of a command about a macro.
+fn label(command: &Command) -> &[u8] {
+    match command {
+        Command::DefineMacro(label, _) => label.as_slice(),
+        Command::MacroQuery(label) => label.as_slice(),
+        Command::RemoveMacro(label) => label.as_slice(),
+        _ => &[],
+    }
+}
+
+/// The body of a macro's definition.
+fn body(command: &Command) -> &[u8] {
+    match command {
+        Command::DefineMacro(_, body) => body.as_slice(),
+        _ => &[],
+    }
+}
+
 #[test]
 fn reads_macros(rt: HostRuntime) -> Result<(), Fail> {
-    match first(rt.alloc(), b"*DMC \"A\",#15*IDN?")? {
-        Command::DefineMacro(label, body) => {
-            assert_eq!(rt; label.as_slice(), b"A".as_slice());
-            assert_eq!(rt; body.as_slice(), b"*IDN?".as_slice());
-        }
-        _ => assert!(rt; false),
-    }
-    match first(rt.alloc(), b"*GMC? \"a\"\"b'\"")? {
-        Command::MacroQuery(label) => assert_eq!(rt; label.as_slice(), b"a\"b'".as_slice()),
-        _ => assert!(rt; false),
-    }
-    match first(rt.alloc(), b"*RMC 'c'")? {
-        Command::RemoveMacro(label) => assert_eq!(rt; label.as_slice(), b"c".as_slice()),
-        _ => assert!(rt; false),
-    }
+    let define = first(rt.alloc(), b"*DMC \"A\",#15*IDN?")?;
+    assert!(rt; label(&define) == b"A".as_slice());
+    assert!(rt; body(&define) == b"*IDN?".as_slice());
+    let query = first(rt.alloc(), b"*GMC? \"a\"\"b'\"")?;
+    assert!(rt; label(&query) == b"a\"b'".as_slice());
+    let remove = first(rt.alloc(), b"*RMC 'c'")?;
+    assert!(rt; label(&remove) == b"c".as_slice());
     Ok(())
 }
 
