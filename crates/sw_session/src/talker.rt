@@ -104,7 +104,7 @@ fn serve<D: Desk>(
 {
     let answered = has_answers(out);
     let answer = begin(desk, sid, command, answered);
-    conclude(desk, sid, answer, out)
+    conclude(desk, sid, &answer, out)
 }
 
 /// Whether anything was answered.
@@ -115,8 +115,8 @@ fn has_answers(out: &[u8]) -> bool
 }
 
 /// Adds a unit's answer to those that are written. Where there is no memory for it, it is dropped and that error queued.
-fn conclude<D: Desk>(desk: &mut D, sid: Sid, answer: SessionAnswer, out: &mut Vec<u8>) -> After
-    ensures { ConcludesLine D.passes desk.old desk.new sid answer out.old.items result out.new.items }
+fn conclude<D: Desk>(desk: &mut D, sid: Sid, answer: &SessionAnswer, out: &mut Vec<u8>) -> After
+    ensures { ConcludesLine D.passes desk.old desk.new sid answer.now out.old.items result out.new.items }
 {
     match answer {
         SessionAnswer::Done(Some(text)) => match join(out, text.as_slice()) {
@@ -126,7 +126,7 @@ fn conclude<D: Desk>(desk: &mut D, sid: Sid, answer: SessionAnswer, out: &mut Ve
                 after_of(&lost)
             }
         },
-        answer => after_of(&answer),
+        _ => after_of(answer),
     }
 }
 
