@@ -438,6 +438,10 @@ fn refuses_commands(rt: HostRuntime) -> Result<(), Fail> {
             ScpiError::InvalidCharacterInNumber,
         ),
         (b"*ESE 1E99999".as_slice(), ScpiError::ExponentTooLarge),
+        (
+            b"*ESE 01111111111111111111111111111111111111111111111111111111111111111111111111111111111111111111111111111111111111111111111111111111111111111111111111111111111111111111111111111111111111111111111111111111111111111111111111111111111111111111111111111111111111111".as_slice(),
+            ScpiError::TooManyDigits,
+        ),
         (b"*ESE 1E99999 S T".as_slice(), ScpiError::InvalidSeparator),
         (b"*ESE 1 E".as_slice(), ScpiError::SuffixNotAllowed),
         (b"*ESE 1 S".as_slice(), ScpiError::SuffixNotAllowed),
