@@ -28,6 +28,16 @@ fn identity_and_relays(rt: HostRuntime) -> Result<(), Fail> {
 }
 
 #[test]
+fn a_blown_fuse_opens_every_relay(rt: HostRuntime) -> Result<(), Fail> {
+    let mut reader =
+        b"ROUT:CLOS (@2!1,1!1)\nROUT:OPEN (@1!1);CLOS (@1!2);CLOS:STAT?\n*IDN?\n".as_slice();
+    let mut out = Vec::new(rt.alloc());
+    run_lines(rt.alloc(), &mut reader, &mut out, Some(2))?;
+    assert_eq!(rt; out.as_slice(), b"(@)\nOPENBENCH,SWM8,0,1.0\n".as_slice());
+    Ok(())
+}
+
+#[test]
 fn two_of_a_group_over_two_slots(rt: HostRuntime) -> Result<(), Fail> {
     check(
         &rt,
