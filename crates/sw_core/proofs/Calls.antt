@@ -11,6 +11,9 @@ use Rattle.sw_core.specs.Step.{IsFallen}
 pub failed_same : (r : Rack) → any_failed r r ≡ false
 failed_same r = Rattle.sw_cage.proofs.Changes.failed_same r
 
+pub failed_open : (r : Rack) → any_failed r (all_open r) ≡ false
+failed_open r = failed_rest r r ∙ failed_same r
+
 pub failed_sets : (old new : Rack) (chans : List Channel) (on : Bool) → Sets old chans on new → any_failed old new ≡ false
 failed_sets old new chans on s = sets_unfailed old new s.rest
 

@@ -1,6 +1,6 @@
 -- Where memory suffices and no card fails, a step leaves no choice.
 use Rattle.std.proofs.Common.{◌≡◌, ◌≢◌, ℕ, zero, suc, ◌+◌, ◌-◌, ◌≤◌, ◌<◌, Bool, true, false, ◌||◌, List, [], ◌∷◌, length, Option, None, Some, slice_set, slice_index_or, refl, sym, ◌∙◌, ap, subst, arith, map, inl, inr, ◌⊎◌, is_some, rules}
-use Rattle.std.specs.Prelude.{if◌then◌else◌}
+use Rattle.std.specs.Prelude.{if◌then◌else◌, decimal}
 use Rattle.std.proofs.lemmas.Bool.{lt-ltb, cases_lt}
 use Rattle.sw_cage.proofs.Racks.{slot_rest}
 use Rattle.sw_base.specs.Layout.{Channel, slot_at}
@@ -14,7 +14,7 @@ use Rattle.sw_cage.specs.declared.refusal.InstallRefusal.TheVariants.{Busy, Occu
 use Rattle.sw_cage.specs.declared.refusal.EjectRefusal.{EjectRefusal}
 use Rattle.sw_cage.specs.declared.refusal.EjectRefusal.TheVariants.{Vacant, Out}
 use Rattle.sw_base.specs.declared.error.ScpiError.{ScpiError}
-use Rattle.sw_base.specs.declared.error.ScpiError.TheVariants.{UndefinedHeader, HardwareMissing, SettingsConflict, HardwareError, OutOfMemory}
+use Rattle.sw_base.specs.declared.error.ScpiError.TheVariants.{HardwareMissing, SettingsConflict, HardwareError, OutOfMemory}
 use Rattle.sw_lex.specs.declared.command.Command.{Command}
 use Rattle.sw_lex.specs.declared.command.Command.TheVariants as Command
 use Rattle.sw_core.specs.declared.ask.Sid.{Sid}
@@ -23,12 +23,12 @@ use Rattle.sw_core.specs.declared.ask.SessionAsk.TheVariants as Ask
 use Rattle.sw_core.specs.declared.ask.SessionAnswer.{SessionAnswer}
 use Rattle.sw_core.specs.declared.ask.SessionAnswer.TheVariants.{Joined, Full, Stranger, Broken, Done, Refused, Hold, Worn}
 use Rattle.sw_core.specs.Sessions.{IsJoined, IsLeastFree}
-use Rattle.sw_core.specs.Panel.{Panel}
+use Rattle.sw_core.specs.Panel.{Panel, with_rack}
 use Rattle.sw_core.specs.View.{AskView, AskSession, AskInstall, AskEject, AnswerView, SaysSession, SaysInstalled, SaysNotInstalled, SaysEjected, SaysNotEjected}
-use Rattle.sw_cage.specs.Channels.{closed_list}
-use Rattle.sw_channel.specs.Printing.{printed}
-use Rattle.sw_core.specs.Answers.{identity}
-use Rattle.sw_core.specs.Step.{StepClose, StepOpen, StepFlags, StepText, StepLater, StepUnit, StepSession, Step}
+use Rattle.sw_trigger.specs.Settings.{Setup}
+use Rattle.sw_status.specs.StatusModel.{StatusSeen}
+use Rattle.sw_core.specs.Registers.{number_told, status_set}
+use Rattle.sw_core.specs.Step.{StepClose, StepOpen, StepFlags, StepText, StepDone, StepSetting, StepRefused, Deed, Tells, Takes, SetsUp, Rests, Refuses, Closes, Opens, Flags, deed_of, StepDeed, StepSet, StepNumber, StepUnit, StepSession, Acts, ended, Step}
 use Rattle.sw_core.specs.Run.{IsPlain}
 
 -- the states of a card, by each
@@ -104,20 +104,17 @@ IsOnce a a' q q' = (a ≡ a') × (q ≡ q')
 both : (p q q' : Panel) → q ≡ p → q' ≡ p → q ≡ q'
 both p q q' e f = e ∙ sym f
 
--- two panels of one cage and the same sessions
-of_parts : (p q q' : Panel) → q.cage.rack ≡ q'.cage.rack → q.sessions ≡ p.sessions → q'.sessions ≡ p.sessions → q ≡ q'
-of_parts p q q' r s t =
-    let one : (a b : Rack) → a ≡ b → (c d : _) → c ≡ d → ◌≡◌ {A = Panel} (record { cage = record { rack = a }; sessions = c }) (record { cage = record { rack = b }; sessions = d }) = λ a b e c d f. ap (λ (x : Rack). let z : Panel = record { cage = record { rack = x }; sessions = c } in z) e ∙ ap (λ x. let z : Panel = record { cage = record { rack = b }; sessions = x } in z) f in
-    one q.cage.rack q'.cage.rack r q.sessions q'.sessions (s ∙ sym t)
-
 same_text : (t t' x : List ℕ) → t ≡ x → t' ≡ x → Done (Some t) ≡ Done (Some t')
 same_text t t' x e f = ap (λ (y : List ℕ). Done (Some y)) (e ∙ sym f)
 
 true_false : (b : Bool) → b ≡ true → b ≡ false → ⊥
 true_false b e f = absurd (let k : true ≡ false = sym e ∙ f in cc)
 
+set_once : (p q q' : Panel) (chans : List Channel) (on : Bool) → Sets p.cage.rack chans on q.cage.rack → Sets p.cage.rack chans on q'.cage.rack → q ≡ with_rack p q.cage.rack → q' ≡ with_rack p q'.cage.rack → q ≡ q'
+set_once p q q' chans on s t e f = e ∙ ap (λ (r : Rack). with_rack p r) (sets_once p.cage.rack q.cage.rack q'.cage.rack chans on s t) ∙ sym f
+
 close_once : (p : Panel) (chans : List Channel) (f f' : Bool) (a a' : SessionAnswer) (q q' : Panel) → IsPlain (SaysSession a) → IsPlain (SaysSession a') → StepClose p chans f a q → StepClose p chans f' a' q' → IsOnce a a' q q'
-close_once p chans f f' (Done None) (Done None) q q' n m h k = (refl, of_parts p q q' (sets_once p.cage.rack q.cage.rack q'.cage.rack chans true h.2 k.2) h.3 k.3)
+close_once p chans f f' (Done None) (Done None) q q' n m h k = (refl, set_once p q q' chans true h.2 k.2 h.3 k.3)
 close_once p chans f f' (Done None) (Refused HardwareMissing) q q' n m h k = absurd (true_false _ h.1.present k.1)
 close_once p chans f f' (Done None) (Refused SettingsConflict) q q' n m h k = absurd (h.1.apart k.1.1)
 close_once p chans f f' (Refused HardwareMissing) (Done None) q q' n m h k = absurd (true_false _ k.1.present h.1)
@@ -131,7 +128,7 @@ close_once p chans f f' a (Refused HardwareError) q q' n m h k = absurd (m.1 ref
 close_once p chans f f' a a' q q' n m h k = absurd (assumption (h, k))
 
 open_once : (p : Panel) (chans : List Channel) (f f' : Bool) (a a' : SessionAnswer) (q q' : Panel) → IsPlain (SaysSession a) → IsPlain (SaysSession a') → StepOpen p chans f a q → StepOpen p chans f' a' q' → IsOnce a a' q q'
-open_once p chans f f' (Done None) (Done None) q q' n m h k = (refl, of_parts p q q' (sets_once p.cage.rack q.cage.rack q'.cage.rack chans false h.2 k.2) h.3 k.3)
+open_once p chans f f' (Done None) (Done None) q q' n m h k = (refl, set_once p q q' chans false h.2 k.2 h.3 k.3)
 open_once p chans f f' (Done None) (Refused HardwareMissing) q q' n m h k = absurd (true_false _ h.1 k.1)
 open_once p chans f f' (Refused HardwareMissing) (Done None) q q' n m h k = absurd (true_false _ k.1 h.1)
 open_once p chans f f' (Refused HardwareMissing) (Refused HardwareMissing) q q' n m h k = (refl, both p q q' h.2 k.2)
@@ -139,32 +136,53 @@ open_once p chans f f' (Refused HardwareError) a' q q' n m h k = absurd (n.1 ref
 open_once p chans f f' a (Refused HardwareError) q q' n m h k = absurd (m.1 refl)
 open_once p chans f f' a a' q q' n m h k = absurd (assumption (h, k))
 
-flags_once : (p : Panel) (chans : List Channel) (f f' : Bool) (a a' : SessionAnswer) (q q' : Panel) → IsPlain (SaysSession a) → IsPlain (SaysSession a') → StepFlags p chans f a q → StepFlags p chans f' a' q' → IsOnce a a' q q'
-flags_once p chans f f' (Done (Some t)) (Done (Some t')) q q' n m h k = (same_text t t' _ h.2 k.2, both p q q' h.3 k.3)
-flags_once p chans f f' (Done (Some t)) (Refused HardwareMissing) q q' n m h k = absurd (true_false _ h.1 k.1)
-flags_once p chans f f' (Refused HardwareMissing) (Done (Some t)) q q' n m h k = absurd (true_false _ k.1 h.1)
-flags_once p chans f f' (Refused HardwareMissing) (Refused HardwareMissing) q q' n m h k = (refl, both p q q' h.2 k.2)
-flags_once p chans f f' (Refused OutOfMemory) a' q q' n m h k = absurd (n.0 refl)
-flags_once p chans f f' a (Refused OutOfMemory) q q' n m h k = absurd (m.0 refl)
-flags_once p chans f f' a a' q q' n m h k = absurd (assumption (h, k))
+flags_once : (p : Panel) (closed : Bool) (chans : List Channel) (f f' : Bool) (a a' : SessionAnswer) (q q' : Panel) → IsPlain (SaysSession a) → IsPlain (SaysSession a') → StepFlags p closed chans f a q → StepFlags p closed chans f' a' q' → IsOnce a a' q q'
+flags_once p closed chans f f' (Done (Some t)) (Done (Some t')) q q' n m h k = (same_text t t' _ h.2 k.2, both p q q' h.3 k.3)
+flags_once p closed chans f f' (Done (Some t)) (Refused HardwareMissing) q q' n m h k = absurd (true_false _ h.1 k.1)
+flags_once p closed chans f f' (Refused HardwareMissing) (Done (Some t)) q q' n m h k = absurd (true_false _ k.1 h.1)
+flags_once p closed chans f f' (Refused HardwareMissing) (Refused HardwareMissing) q q' n m h k = (refl, both p q q' h.2 k.2)
+flags_once p closed chans f f' (Refused OutOfMemory) a' q q' n m h k = absurd (n.0 refl)
+flags_once p closed chans f f' a (Refused OutOfMemory) q q' n m h k = absurd (m.0 refl)
+flags_once p closed chans f f' a a' q q' n m h k = absurd (assumption (h, k))
 
-text_once : (p : Panel) (text : List ℕ) (f f' : Bool) (a a' : SessionAnswer) (q q' : Panel) → IsPlain (SaysSession a) → IsPlain (SaysSession a') → StepText p text f a q → StepText p text f' a' q' → IsOnce a a' q q'
-text_once p text f f' (Done (Some t)) (Done (Some t')) q q' n m h k = (same_text t t' _ h.1 k.1, both p q q' h.2 k.2)
-text_once p text f f' (Refused OutOfMemory) a' q q' n m h k = absurd (n.0 refl)
-text_once p text f f' a (Refused OutOfMemory) q q' n m h k = absurd (m.0 refl)
-text_once p text f f' a a' q q' n m h k = absurd (assumption (h, k))
+text_once : (p : Panel) (text : List ℕ) (s : StatusSeen) (f f' : Bool) (a a' : SessionAnswer) (q q' : Panel) → IsPlain (SaysSession a) → IsPlain (SaysSession a') → StepText p text s f a q → StepText p text s f' a' q' → IsOnce a a' q q'
+text_once p text s f f' (Done (Some t)) (Done (Some t')) q q' n m h k = (same_text t t' _ h.1 k.1, h.2 ∙ sym k.2)
+text_once p text s f f' (Refused OutOfMemory) a' q q' n m h k = absurd (n.0 refl)
+text_once p text s f f' a (Refused OutOfMemory) q q' n m h k = absurd (m.0 refl)
+text_once p text s f f' a a' q q' n m h k = absurd (assumption (h, k))
 
-later_once : (p : Panel) (f f' : Bool) (a a' : SessionAnswer) (q q' : Panel) → StepLater p f a q → StepLater p f' a' q' → IsOnce a a' q q'
-later_once p f f' (Refused UndefinedHeader) (Refused UndefinedHeader) q q' h k = (refl, both p q q' h.1 k.1)
-later_once p f f' a a' q q' h k = absurd (assumption (h, k))
+done_once : (after : Panel) (f f' : Bool) (a a' : SessionAnswer) (q q' : Panel) → StepDone after f a q → StepDone after f' a' q' → IsOnce a a' q q'
+done_once after f f' (Done None) (Done None) q q' h k = (refl, both after q q' h.1 k.1)
+done_once after f f' a a' q q' h k = absurd (assumption (h, k))
 
-unit_once : (p : Panel) (command : Command) (f f' : Bool) (a a' : SessionAnswer) (q q' : Panel) → IsPlain (SaysSession a) → IsPlain (SaysSession a') → StepUnit p command f a q → StepUnit p command f' a' q' → IsOnce a a' q q'
-unit_once p Command.Identify f f' a a' q q' n m h k = text_once p identity f f' a a' q q' n m h k
-unit_once p (Command.Close chans) f f' a a' q q' n m h k = close_once p chans f f' a a' q q' n m h k
-unit_once p (Command.CloseQuery chans) f f' a a' q q' n m h k = flags_once p chans f f' a a' q q' n m h k
-unit_once p Command.CloseState f f' a a' q q' n m h k = text_once p (printed (closed_list p.cage.rack)) f f' a a' q q' n m h k
-unit_once p (Command.Open chans) f f' a a' q q' n m h k = open_once p chans f f' a a' q q' n m h k
-unit_once p command f f' a a' q q' n m h k = later_once p f f' a a' q q' h k
+setting_once : (p : Panel) (Fits : Type 0) (error : ScpiError) (setup : Setup) (f f' : Bool) (a a' : SessionAnswer) (q q' : Panel) → StepSetting p Fits error setup f a q → StepSetting p Fits error setup f' a' q' → IsOnce a a' q q'
+setting_once p Fits error setup f f' (Done None) (Done None) q q' h k = (refl, h.2 ∙ sym k.2)
+setting_once p Fits error setup f f' (Done None) (Refused e) q q' h k = absurd (k.1 h.1)
+setting_once p Fits error setup f f' (Refused e) (Done None) q q' h k = absurd (h.1 k.1)
+setting_once p Fits error setup f f' (Refused e) (Refused e') q q' h k = (ap Refused (h.2 ∙ sym k.2), both p q q' h.3 k.3)
+setting_once p Fits error setup f f' a a' q q' h k = absurd (assumption (h, k))
+
+refused_once : (p : Panel) (error : ScpiError) (f f' : Bool) (a a' : SessionAnswer) (q q' : Panel) → StepRefused p error f a q → StepRefused p error f' a' q' → IsOnce a a' q q'
+refused_once p error f f' (Refused e) (Refused e') q q' h k = (ap Refused (h.1 ∙ sym k.1), both p q q' h.2 k.2)
+refused_once p error f f' a a' q q' h k = absurd (assumption (h, k))
+
+deed_once : (d : Deed) (p : Panel) (f f' : Bool) (a a' : SessionAnswer) (q q' : Panel) → IsPlain (SaysSession a) → IsPlain (SaysSession a') → StepDeed d p f a q → StepDeed d p f' a' q' → IsOnce a a' q q'
+deed_once (Tells text status) p f f' a a' q q' n m h k = text_once p text status f f' a a' q q' n m h k
+deed_once (Takes Fits error setup) p f f' a a' q q' n m h k = setting_once p Fits error setup f f' a a' q q' h k
+deed_once (SetsUp setup) p f f' a a' q q' n m h k = done_once (record p { settings = setup }) f f' a a' q q' h k
+deed_once (Rests status setup) p f f' a a' q q' n m h k = done_once (record (with_rack p (all_open p.cage.rack)) { status = status; settings = setup }) f f' a a' q q' h k
+deed_once (Refuses error) p f f' a a' q q' n m h k = refused_once p error f f' a a' q q' h k
+deed_once (Closes chans) p f f' a a' q q' n m h k = close_once p chans f f' a a' q q' n m h k
+deed_once (Opens chans) p f f' a a' q q' n m h k = open_once p chans f f' a a' q q' n m h k
+deed_once (Flags closed chans) p f f' a a' q q' n m h k = flags_once p closed chans f f' a a' q q' n m h k
+
+set_of_once : (o : Option StatusSeen) (p : Panel) (command : Command) (f f' : Bool) (a a' : SessionAnswer) (q q' : Panel) → IsPlain (SaysSession a) → IsPlain (SaysSession a') → StepSet o p command f a q → StepSet o p command f' a' q' → IsOnce a a' q q'
+set_of_once (Some s) p command f f' a a' q q' n m h k = done_once (record p { status = s }) f f' a a' q q' h k
+set_of_once None p command f f' a a' q q' n m h k = deed_once (deed_of p command) p f f' a a' q q' n m h k
+
+number_once : (o : Option ℕ) (p : Panel) (command : Command) (f f' : Bool) (a a' : SessionAnswer) (q q' : Panel) → IsPlain (SaysSession a) → IsPlain (SaysSession a') → StepNumber o p command f a q → StepNumber o p command f' a' q' → IsOnce a a' q q'
+number_once (Some x) p command f f' a a' q q' n m h k = text_once p (decimal x) p.status f f' a a' q q' n m h k
+number_once None p command f f' a a' q q' n m h k = set_of_once (status_set p.status command) p command f f' a a' q q' n m h k
 
 -- ---- sessions
 
@@ -188,14 +206,14 @@ session_once p (Ask.Leave sid) f f' (Done None) (Done None) q q' n m h k = (refl
 session_once p (Ask.Leave sid) f f' (Done None) Stranger q q' n m h k = absurd (k.1 h.1)
 session_once p (Ask.Leave sid) f f' Stranger (Done None) q q' n m h k = absurd (h.1 k.1)
 session_once p (Ask.Leave sid) f f' Stranger Stranger q q' n m h k = (refl, both p q q' h.2 k.2)
-session_once p (Ask.Fault sid e) f f' (Done None) (Done None) q q' n m h k = (refl, both p q q' h.2 k.2)
+session_once p (Ask.Fault sid e) f f' (Done None) (Done None) q q' n m h k = (refl, h.2 ∙ sym k.2)
 session_once p (Ask.Fault sid e) f f' (Done None) Stranger q q' n m h k = absurd (k.1 h.1)
 session_once p (Ask.Fault sid e) f f' Stranger (Done None) q q' n m h k = absurd (h.1 k.1)
 session_once p (Ask.Fault sid e) f f' Stranger Stranger q q' n m h k = (refl, both p q q' h.2 k.2)
 session_once p (Ask.Unit sid command answered) f f' Stranger Stranger q q' n m h k = (refl, both p q q' h.2 k.2)
 session_once p (Ask.Unit sid command answered) f f' Stranger a' q q' n m h k = absurd (h.1 k.0)
 session_once p (Ask.Unit sid command answered) f f' a Stranger q q' n m h k = absurd (k.1 h.0)
-session_once p (Ask.Unit sid command answered) f f' a a' q q' n m h k = unit_once p command f f' a a' q q' n m h.1 k.1
+session_once p (Ask.Unit sid command answered) f f' a a' q q' n m h k = number_once (number_told p answered command) p command f f' a a' q q' n m h.1 k.1
 session_once p ask f f' a a' q q' n m h k = absurd (assumption (h, k))
 
 -- ---- cards
@@ -245,16 +263,21 @@ eject_apart : (rack : Rack) (slot : ℕ) (card : Account) (r : EjectRefusal) →
 eject_apart rack slot card Vacant e h = rest_none rack slot card e h
 eject_apart rack slot card Out e h = h
 
-pub step_once : (p q q' : Panel) (ask : AskView) (f f' : Bool) (a a' : AnswerView) → Step p ask f a q → Step p ask f' a' q' → IsPlain a → IsPlain a' → (a ≡ a') × (q ≡ q')
-step_once p q q' (AskSession ask) f f' (SaysSession a) (SaysSession a') h k n m = let r = session_once p ask f f' a a' q q' n m h k in (ap SaysSession r.0, r.1)
-step_once p q q' (AskInstall slot card) f f' SaysInstalled SaysInstalled h k n m = (refl, h.2 ∙ sym k.2)
-step_once p q q' (AskInstall slot card) f f' SaysInstalled (SaysNotInstalled r) h k n m = absurd (install_apart p.cage.rack slot card r h.1 k.1)
-step_once p q q' (AskInstall slot card) f f' (SaysNotInstalled r) SaysInstalled h k n m = absurd (install_apart p.cage.rack slot card r k.1 h.1)
-step_once p q q' (AskInstall slot card) f f' (SaysNotInstalled r) (SaysNotInstalled r') h k n m = (ap SaysNotInstalled (install_once p.cage.rack slot card r r' h.1 k.1), both p q q' h.2 k.2)
-step_once p q q' (AskEject slot) f f' (SaysEjected c) (SaysEjected c') h k n m =
+acts_once : (p q q' : Panel) (ask : AskView) (f f' : Bool) (a a' : AnswerView) → Acts p ask f a q → Acts p ask f' a' q' → IsPlain a → IsPlain a' → (a ≡ a') × (q ≡ q')
+acts_once p q q' (AskSession ask) f f' (SaysSession a) (SaysSession a') h k n m = let r = session_once p ask f f' a a' q q' n m h k in (ap SaysSession r.0, r.1)
+acts_once p q q' (AskInstall slot card) f f' SaysInstalled SaysInstalled h k n m = (refl, h.2 ∙ sym k.2)
+acts_once p q q' (AskInstall slot card) f f' SaysInstalled (SaysNotInstalled r) h k n m = absurd (install_apart p.cage.rack slot card r h.1 k.1)
+acts_once p q q' (AskInstall slot card) f f' (SaysNotInstalled r) SaysInstalled h k n m = absurd (install_apart p.cage.rack slot card r k.1 h.1)
+acts_once p q q' (AskInstall slot card) f f' (SaysNotInstalled r) (SaysNotInstalled r') h k n m = (ap SaysNotInstalled (install_once p.cage.rack slot card r r' h.1 k.1), both p q q' h.2 k.2)
+acts_once p q q' (AskEject slot) f f' (SaysEjected c) (SaysEjected c') h k n m =
     let e : Some c ≡ Some c' = sym h.1 ∙ k.1 in
     (let d : c ≡ c' = cc in ap SaysEjected d, h.2 ∙ sym k.2)
-step_once p q q' (AskEject slot) f f' (SaysEjected c) (SaysNotEjected r) h k n m = absurd (eject_apart p.cage.rack slot c r h.1 k.1)
-step_once p q q' (AskEject slot) f f' (SaysNotEjected r) (SaysEjected c) h k n m = absurd (eject_apart p.cage.rack slot c r k.1 h.1)
-step_once p q q' (AskEject slot) f f' (SaysNotEjected r) (SaysNotEjected r') h k n m = (ap SaysNotEjected (eject_once p.cage.rack slot r r' h.1 k.1), both p q q' h.2 k.2)
-step_once p q q' ask f f' a a' h k n m = absurd (assumption (h, k))
+acts_once p q q' (AskEject slot) f f' (SaysEjected c) (SaysNotEjected r) h k n m = absurd (eject_apart p.cage.rack slot c r h.1 k.1)
+acts_once p q q' (AskEject slot) f f' (SaysNotEjected r) (SaysEjected c) h k n m = absurd (eject_apart p.cage.rack slot c r k.1 h.1)
+acts_once p q q' (AskEject slot) f f' (SaysNotEjected r) (SaysNotEjected r') h k n m = (ap SaysNotEjected (eject_once p.cage.rack slot r r' h.1 k.1), both p q q' h.2 k.2)
+acts_once p q q' ask f f' a a' h k n m = absurd (assumption (h, k))
+
+pub step_once : (p q q' : Panel) (ask : AskView) (f f' : Bool) (a a' : AnswerView) → Step p ask f a q → Step p ask f' a' q' → IsPlain a → IsPlain a' → (a ≡ a') × (q ≡ q')
+step_once p q q' ask f f' a a' (mid, acts, is) (mid', acts', is') n m =
+    let r = acts_once p mid mid' ask f f' a a' acts acts' n m in
+    (r.0, is ∙ ap (λ (x : Panel). let z : Panel = record x { status = ended a x.status } in z) r.1 ∙ ap (λ (b : AnswerView). let z : Panel = record mid' { status = ended b mid'.status } in z) r.0 ∙ sym is')

@@ -2,3 +2,4 @@ mod Rows
 mod Safety
 mod Determined
 mod Calls
+mod Units

@@ -2,7 +2,10 @@
 use Rattle.std.proofs.Common.{◌≡◌, ℕ, ◌+◌, ◌<◌, List, [], ◌∷◌, ◌++◌, length, map, take, Bool, true, false, refl, sym, ap, subst, ◌∙◌, arith, append_assoc}
 use Rattle.std.specs.List.{join_with_byte, AllByRecursion}
 use Rattle.std.proofs.lemmas.List.{append-nil, length-append}
-use Rattle.sw_core.specs.Answers.{flag_of, IsRow}
+use Rattle.std.specs.Fmt.{signed_decimal}
+use Rattle.sw_base.specs.Errors.{text_of, code_of}
+use Rattle.sw_base.specs.declared.error.ScpiError.{ScpiError}
+use Rattle.sw_core.specs.Answers.{flag_of, entry_of, IsRow, IsOpen}
 
 some-push : (ps : List (List ℕ)) (p : List ℕ) → AllByRecursion (λ (q : List ℕ). 0 < length q) ps → 0 < length p → AllByRecursion (λ (q : List ℕ). 0 < length q) (ps ++ p ∷ [])
 some-push [] p a h = (h, tt)
@@ -16,11 +19,20 @@ join-some : (q : List ℕ) (ps : List (List ℕ)) → 0 < length q → 0 < lengt
 join-some q [] h = h
 join-some q (r ∷ ps) h = omega (arith, length-append q (44 ∷ join_with_byte 44 (r ∷ ps)))
 
-pub row-first : (text p : List ℕ) (ps : List (List ℕ)) → length text ≡ 0 → 0 < length p → IsRow text ps → IsRow (text ++ p) (ps ++ p ∷ [])
-row-first [] p [] e h r = record { joined = refl; some = (h, tt) }
-row-first [] p (q ∷ ps) e h r = absurd (let k : 0 < length (join_with_byte 44 (q ∷ ps)) = join-some q ps r.some.0 in let j : 0 ≡ length (join_with_byte 44 (q ∷ ps)) = ap (λ (t : List ℕ). length t) r.joined in omega arith)
-row-first (x ∷ text) p ps e h r = absurd (omega arith)
+-- nothing stands there yet
+pub open-first : (text : List ℕ) (ps : List (List ℕ)) → length text ≡ 0 → IsRow text ps → IsOpen text ps
+open-first [] [] e r p h = record { joined = refl; some = (h, tt) }
+open-first [] (q ∷ ps) e r p h = absurd (let k : 0 < length (join_with_byte 44 (q ∷ ps)) = join-some q ps r.some.0 in let j : 0 ≡ length (join_with_byte 44 (q ∷ ps)) = ap (λ (t : List ℕ). length t) r.joined in omega arith)
+open-first (x ∷ text) ps e r p h = absurd (omega arith)
 
-pub row-next : (text p : List ℕ) (ps : List (List ℕ)) → 0 < length text → 0 < length p → IsRow text ps → IsRow ((text ++ 44 ∷ []) ++ p) (ps ++ p ∷ [])
-row-next text p [] e h r = absurd (let j : length text ≡ 0 = ap (λ (t : List ℕ). length t) r.joined in omega arith)
-row-next text p (q ∷ ps) e h r = record { joined = append_assoc text (44 ∷ []) p ∙ ap (λ (t : List ℕ). t ++ 44 ∷ p) r.joined ∙ sym (join-push q ps p); some = some-push (q ∷ ps) p r.some h }
+-- a comma was put behind what stands there
+pub open-next : (text : List ℕ) (ps : List (List ℕ)) → 0 < length text → IsRow text ps → IsOpen (text ++ 44 ∷ []) ps
+open-next text [] e r p h = absurd (let j : length text ≡ 0 = ap (λ (t : List ℕ). length t) r.joined in omega arith)
+open-next text (q ∷ ps) e r p h = record { joined = append_assoc text (44 ∷ []) p ∙ ap (λ (t : List ℕ). t ++ 44 ∷ p) r.joined ∙ sym (join-push q ps p); some = some-push (q ∷ ps) p r.some h }
+
+pub entry-some : (e : ScpiError) → 0 < length (entry_of e)
+entry-some e = omega (arith, length-append (signed_decimal (code_of e)) (44 ∷ 34 ∷ (text_of e ++ 34 ∷ [])))
+
+pub flag-some : (b : Bool) → 0 < length (flag_of b)
+flag-some true = omega arith
+flag-some false = omega arith

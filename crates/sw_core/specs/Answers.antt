@@ -1,8 +1,13 @@
 -- The texts of answers.
-use Rattle.std.specs.Prelude.{◌≡◌, ◌<◌, ℕ, Bool, true, false, List, [], ◌∷◌, length, codes, Some, Result, Ok, Err}
+use Rattle.std.specs.Prelude.{◌≡◌, ◌<◌, ℕ, ℤ, pos, Bool, true, false, not, List, [], ◌∷◌, ◌++◌, length, map, codes, Some, None, Result, Ok, Err}
+use Rattle.std.specs.Fmt.{signed_decimal}
 use Rattle.std.specs.List.{join_with_byte, AllByRecursion}
 use Rattle.std.specs.declared.alloc.AllocError.{AllocError}
+use Rattle.sw_base.specs.Errors.{text_of, code_of}
+use Rattle.sw_base.specs.declared.error.ScpiError.{ScpiError}
 use Rattle.sw_base.specs.declared.error.ScpiError.TheVariants.{OutOfMemory}
+use Rattle.sw_base.specs.declared.terms.Source.{Source}
+use Rattle.sw_base.specs.declared.terms.Source.TheVariants.{Immediate, Bus, External, Hold}
 use Rattle.sw_core.specs.declared.ask.SessionAnswer.{SessionAnswer}
 use Rattle.sw_core.specs.declared.ask.SessionAnswer.TheVariants.{Done, Refused}
 
@@ -10,17 +15,63 @@ use Rattle.sw_core.specs.declared.ask.SessionAnswer.TheVariants.{Done, Refused}
 abbrev pub identity : List ℕ
 identity = codes "OPENBENCH,SWM8,0,1.0"
 
+-- the version of SCPI (SCPI-1999, 21.21)
+abbrev pub version : List ℕ
+version = codes "1999.0"
+
 -- 1 for yes, 0 for no
 abbrev pub flag_of : Bool → List ℕ
 flag_of true = 49 ∷ []
 flag_of false = 48 ∷ []
+
+-- the flag of a channel, closed or not, where the closed ones are asked for, or the open ones
+abbrev pub as_asked : Bool → Bool → Bool
+as_asked true closed = closed
+as_asked false closed = not closed
+
+-- an entry of the error queue: its number, a comma, its text in quotes (SCPI-1999, 21.8)
+abbrev pub entry : ℤ → List ℕ → List ℕ
+entry number text = signed_decimal number ++ 44 ∷ 34 ∷ (text ++ 34 ∷ [])
+
+abbrev pub entry_of : ScpiError → List ℕ
+entry_of e = entry (code_of e) (text_of e)
+
+-- what an empty queue answers
+abbrev pub no_error : List ℕ
+no_error = entry (pos 0) (codes "No error")
+
+-- the oldest entry
+abbrev pub oldest_entry : List ScpiError → List ℕ
+oldest_entry [] = no_error
+oldest_entry (e ∷ errors) = entry_of e
+
+-- all entries, joined by commas
+abbrev pub all_entries : List ScpiError → List ℕ
+all_entries [] = no_error
+all_entries (e ∷ errors) = join_with_byte 44 (map entry_of (e ∷ errors))
+
+-- the short form of a source (SCPI-1999, chapter 24)
+abbrev pub source_word : Source → List ℕ
+source_word Immediate = codes "IMM"
+source_word Bus = codes "BUS"
+source_word External = codes "EXT"
+source_word Hold = codes "HOLD"
 
 -- the text is these pieces, none of them empty, joined by commas
 pub record IsRow (text : List ℕ) (pieces : List (List ℕ)) : Type 0 where
   pub joined : text ≡ join_with_byte 44 pieces
   pub some : AllByRecursion (λ piece. 0 < length piece) pieces
 
+-- one more piece may be put behind these: where there are any, a comma stands behind them
+abbrev pub IsOpen : List ℕ → List (List ℕ) → Type 0
+IsOpen text pieces = (piece : List ℕ) → 0 < length piece → IsRow (text ++ piece) (pieces ++ piece ∷ [])
+
 -- the text is answered, or that there was no memory for it
 abbrev pub Tells : Result (List ℕ) AllocError → SessionAnswer → Type 0
 Tells (Ok text) answer = answer ≡ Done (Some text)
 Tells (Err e) answer = answer ≡ Refused OutOfMemory
+
+-- a setting was taken, or refused by an error
+abbrev pub Takes : Result (Unit {0}) ScpiError → SessionAnswer → Type 0
+Takes (Ok done) answer = answer ≡ Done None
+Takes (Err e) answer = answer ≡ Refused e

@@ -2,5 +2,6 @@ pub mod Answers
 pub mod Sessions
 pub mod View
 pub mod Panel
+pub mod Registers
 pub mod Step
 pub mod Run

@@ -11,6 +11,7 @@ use Rattle.sw_lex.specs.declared.command.Command.TheVariants as Command
 use Rattle.sw_core.specs.declared.ask.Sid.{Sid}
 use Rattle.sw_core.specs.declared.ask.SessionAsk.TheVariants as Ask
 use Rattle.sw_core.specs.declared.ask.SessionAnswer.TheVariants.{Done, Refused}
+use Rattle.sw_status.specs.StatusModel.{queued, event_ended, pushed}
 use Rattle.sw_core.specs.Panel.{Panel, opening, IsSafe}
 use Rattle.sw_core.specs.View.{AskView, AskSession, AskEject, AnswerView, SaysSession, SaysEjected}
 use Rattle.sw_core.specs.Step.{Step}
@@ -31,16 +32,22 @@ IsRun p (e ∷ es) = Step p e.ask e.failed e.answer e.panel × IsRun e.panel es
 abbrev pub EveryRunIsExclusive : Type 0
 EveryRunIsExclusive = (events : List Event) → IsRun opening events → AllByRecursion (λ e. IsSafe e.panel) events
 
+-- every relay is open, -240 is queued behind the errors before it, and QUEStionable tells of a card's failure
+pub record IsAlarmed (p q : Panel) : Type 0 where
+  pub none : (c : Channel) → is_closed q.cage.rack c ≡ false
+  pub told : q.status.errors ≡ queued p.status.errors HardwareError
+  pub condition : q.status.questionable.condition ≡ 512
+
 -- ROUTe:CLOSe and ROUTe:OPEN in the words of who sends them, and what leaves the cage
 pub record RelaysObey : Type 0 where
   -- after ROUTe:CLOSe that is done every channel of its list is closed
   pub closes : (p q : Panel) (sid : Sid) (chans : List Channel) (answered failed : Bool) → Step p (AskSession (Ask.Unit sid (Command.Close chans) answered)) failed (SaysSession (Done None)) q → (c : Channel) → is_in chans c ≡ true → is_closed q.cage.rack c ≡ true
   -- after ROUTe:OPEN that is done every channel of its list is open
   pub opens : (p q : Panel) (sid : Sid) (chans : List Channel) (answered failed : Bool) → Step p (AskSession (Ask.Unit sid (Command.Open chans) answered)) failed (SaysSession (Done None)) q → (c : Channel) → is_in chans c ≡ true → is_closed q.cage.rack c ≡ false
-  -- a refusal for any other cause than a card's failure leaves the state as it was
-  pub refused : (p q : Panel) (ask : AskView) (failed : Bool) (e : ScpiError) → e ≢ HardwareError → Step p ask failed (SaysSession (Refused e)) q → q ≡ p
-  -- after a card's failure every relay is open
-  pub failed : (p q : Panel) (ask : AskView) (failed : Bool) → Step p ask failed (SaysSession (Refused HardwareError)) q → (c : Channel) → is_closed q.cage.rack c ≡ false
+  -- a refusal for any other cause than a card's failure queues its error, and leaves all but the status as it was
+  pub refused : (p q : Panel) (ask : AskView) (failed : Bool) (e : ScpiError) → e ≢ HardwareError → Step p ask failed (SaysSession (Refused e)) q → q ≡ record p { status = event_ended (pushed p.status e) }
+  -- after a card's failure every relay is open, -240 is queued, and QUEStionable condition bit 9 is set
+  pub failed : (p q : Panel) (ask : AskView) (failed : Bool) → Step p ask failed (SaysSession (Refused HardwareError)) q → IsAlarmed p q
   -- an ejected card has no relay closed
   pub ejected : (p q : Panel) (slot : ℕ) (failed : Bool) (card : Account) → Step p (AskEject slot) failed (SaysEjected card) q → (k : ℕ) → closed_at card.closed k ≡ false
 

@@ -9,8 +9,11 @@
 #![tactic(auto)]
 
 mod ask;
+mod event;
 mod laws;
 mod machine;
+mod registers;
+mod relays;
 mod sessions;
 mod text;
 

@@ -1,36 +1,40 @@
 //! The whole state of the mainframe, and the one call that changes it.
 
-ghost use Rattle.std.specs.Prelude.{◌≡◌, Bool, IfOk};
-ghost use Rattle.sw_base.specs.Layout.{Channel};
+ghost use Rattle.std.specs.Prelude.{◌≡◌, Bool, IfOk, None};
 ghost use Rattle.sw_cage.specs.Change.{any_failed};
 ghost use Rattle.sw_core.specs.View.{ask_view, answer_view, HandsBack, AskInstall, AskEject};
+ghost use Rattle.sw_core.specs.Answers.{Takes};
 ghost use Rattle.sw_core.specs.Panel.{Panel, opening};
-ghost use Rattle.sw_core.specs.Step.{Step, StepSession, StepUnit, StepClose, StepOpen, StepFlags, StepText};
-ghost use Rattle.sw_cage.specs.Channels.{closed_list};
-ghost use Rattle.sw_channel.specs.Printing.{printed};
+ghost use Rattle.sw_core.specs.Registers.{number_told, status_set};
+ghost use Rattle.sw_core.specs.Step.{Step, Acts, StepSession, StepUnit, StepDeed, deed_of};
 
 use crate::ask::{Answer, Ask, SessionAnswer, SessionAsk};
+use crate::event::end_event;
+use crate::registers::{calm, set_status};
 use crate::sessions::Sessions;
-use crate::text::{closed_flags, identity, told};
+use crate::text::{identity, seconds, source_word, told, version, whole};
 use std::alloc::{AllocError, Global};
 use std::marker::Model;
-use sw_base::{Chan, ScpiError, Sequence};
-use sw_cage::{Cage, CloseRefusal};
+use sw_base::ScpiError;
+use sw_cage::Cage;
 use sw_card::{Card, Meter, Relay};
-use sw_channel::print_list;
 use sw_lex::Command;
+use sw_status::Status;
+use sw_trigger::Settings;
 
-/// The mainframe: its cage of cards and its sessions. Contracts see its panel.
+/// The mainframe: its cage of cards, its sessions, its status and the settings of its scans. Contracts see its panel.
 #[derive(Drop)]
 pub struct Core<R: Relay, M: Meter> {
-    cage: Cage<R, M>,
-    sessions: Sessions,
+    pub(crate) cage: Cage<R, M>,
+    pub(crate) sessions: Sessions,
+    pub(crate) status: Status,
+    pub(crate) settings: Settings,
 }
 
 impl<R: Relay, M: Meter> Model for Core<R, M> {
     ghost Value = { Panel };
 
-    ghost view = { λ c. record { cage = c.cage; sessions = c.sessions } };
+    ghost view = { λ c. record { cage = c.cage; sessions = c.sessions; status = c.status; settings = c.settings } };
 }
 
 impl<R: Relay, M: Meter> Core<R, M> {
@@ -41,14 +45,27 @@ impl<R: Relay, M: Meter> Core<R, M> {
         Ok(Core {
             cage: Cage::new(alloc)?,
             sessions: Sessions::new(),
+            status: Status::new(alloc)?,
+            settings: Settings::new(alloc),
         })
     }
 
     /// Does what is asked: one event.
     ///
-    /// Only a query's text takes memory. Where there is none, the query is refused by -225 and changes nothing.
+    /// A refusal queues its error. Only a query's text takes memory; where there is none, the query is refused by -225
+    /// and reads nothing out.
     pub fn apply(&mut self, alloc: Global, ask: Ask<R, M>) -> Answer<R, M>
         ensures step { Step self.old (ask_view ask) (any_failed self.old.cage.rack self.new.cage.rack) (answer_view result) self.new }
+        ensures back { HandsBack ask result }
+    {
+        let answer = self.act(alloc, ask);
+        end_event(&mut self.status, &answer);
+        answer
+    }
+
+    /// Does what is asked, and leaves the end of the event to the caller.
+    fn act(&mut self, alloc: Global, ask: Ask<R, M>) -> Answer<R, M>
+        ensures acts { Acts self.old (ask_view ask) (any_failed self.old.cage.rack self.new.cage.rack) (answer_view result) self.new }
         ensures back { HandsBack ask result }
     {
         match ask {
@@ -60,7 +77,7 @@ impl<R: Relay, M: Meter> Core<R, M> {
 
     #[tactic(auto, using(crate::proofs::Calls::failed_same))]
     fn install(&mut self, slot: u8, card: Card<R, M>) -> Answer<R, M>
-        ensures step { Step self.old (AskInstall slot card.1) (any_failed self.old.cage.rack self.new.cage.rack) (answer_view result) self.new }
+        ensures acts { Acts self.old (AskInstall slot card.1) (any_failed self.old.cage.rack self.new.cage.rack) (answer_view result) self.new }
         ensures back { HandsBack (Ask.Install slot card) result }
     {
         match self.cage.install(slot, card) {
@@ -71,11 +88,14 @@ impl<R: Relay, M: Meter> Core<R, M> {
 
     #[tactic(auto, using(crate::proofs::Calls::failed_same))]
     fn eject(&mut self, slot: u8) -> Answer<R, M>
-        ensures { Step self.old (AskEject slot) (any_failed self.old.cage.rack self.new.cage.rack) (answer_view result) self.new }
+        ensures { Acts self.old (AskEject slot) (any_failed self.old.cage.rack self.new.cage.rack) (answer_view result) self.new }
     {
         match self.cage.eject(slot) {
-            Ok(card) => return Answer::Ejected(card),
-            Err(refusal) => return Answer::NotEjected(refusal),
+            Ok(card) => {
+                calm(&mut self.status);
+                Answer::Ejected(card)
+            }
+            Err(refusal) => Answer::NotEjected(refusal),
         }
     }
 
@@ -95,93 +115,79 @@ impl<R: Relay, M: Meter> Core<R, M> {
                 self.sessions.leave(sid);
                 SessionAnswer::Done(None)
             }
-            SessionAsk::Fault(sid, _) => {
+            SessionAsk::Fault(sid, error) => {
                 if !self.sessions.has(sid) {
                     return SessionAnswer::Stranger;
                 }
+                self.status.push_error(error);
                 SessionAnswer::Done(None)
             }
-            SessionAsk::Unit(sid, command, _) => {
+            SessionAsk::Unit(sid, command, answered) => {
                 if !self.sessions.has(sid) {
                     return SessionAnswer::Stranger;
                 }
-                self.unit(alloc, command)
+                self.unit(alloc, command, answered)
             }
         }
     }
 
+    /// Carries out a command; `answered` says whether its message has answered before.
+    #[tactic(auto, using(crate::proofs::Calls::failed_same, crate::proofs::Units::other_unit))]
+    fn unit(&mut self, alloc: Global, command: Command, answered: bool) -> SessionAnswer
+        ensures { StepUnit self.old answered command (any_failed self.old.cage.rack self.new.cage.rack) result self.new }
+    {
+        if let Some(n) = self.number(&command, answered) {
+            return told(whole(alloc, n));
+        }
+        if set_status(&mut self.status, &command) {
+            return SessionAnswer::Done(None);
+        }
+        self.more(alloc, command)
+    }
+
+    /// Carries out a command that does more than tell a number or set the status.
     #[tactic(auto, using(crate::proofs::Calls::failed_same))]
-    fn unit(&mut self, alloc: Global, command: Command) -> SessionAnswer
-        ensures { StepUnit self.old command (any_failed self.old.cage.rack self.new.cage.rack) result self.new }
+    fn more(&mut self, alloc: Global, command: Command) -> SessionAnswer
+        ensures { StepDeed (deed_of self.old command) self.old (any_failed self.old.cage.rack self.new.cage.rack) result self.new }
     {
         match command {
             Command::Identify => told(identity(alloc)),
-            Command::Close(chans) => self.close(chans.as_slice()),
-            Command::CloseQuery(chans) => self.close_query(alloc, chans.as_slice()),
+            Command::VersionQuery => told(version(alloc)),
             Command::CloseState => self.close_state(alloc),
+            Command::ScanQuery => self.scan_query(alloc),
+            Command::SourceQuery(layer) => told(source_word(alloc, self.settings.layer(layer).source)),
+            Command::DelayQuery(layer) => told(seconds(alloc, self.settings.layer(layer).delay_us)),
+            Command::EventQuery => self.event_query(alloc),
+            Command::GroupEventQuery(group) => self.group_event_query(alloc, group),
+            Command::NextErrorQuery => self.next_error(alloc),
+            Command::AllErrorsQuery => self.all_errors(alloc),
+            Command::Close(chans) => self.close(chans.as_slice()),
+            Command::CloseQuery(chans) => self.flags(alloc, true, chans.as_slice()),
             Command::Open(chans) => self.open(chans.as_slice()),
+            Command::OpenQuery(chans) => self.flags(alloc, false, chans.as_slice()),
+            Command::OpenAll => self.open_everything(),
+            Command::Reset => self.reset(),
+            Command::Trigger => SessionAnswer::Refused(ScpiError::TriggerIgnored),
+            Command::Count(layer, n) => taken(self.settings.set_count(layer, n)),
+            Command::SetSource(layer, source) => {
+                self.settings.set_source(layer, source);
+                SessionAnswer::Done(None)
+            }
+            Command::Delay(layer, micros) => taken(self.settings.set_delay(layer, micros)),
+            Command::Scan(chans) => taken(self.settings.set_list(chans.into_vec())),
+            Command::ScanMeter(slot) => taken(self.settings.set_meter(slot)),
+            Command::Points(n) => taken(self.settings.set_points(n)),
             _ => SessionAnswer::Refused(ScpiError::UndefinedHeader),
         }
     }
+}
 
-    /// Judges the whole list, and then closes one channel after another.
-    #[tactic(auto, using(crate::proofs::Calls::failed_same))]
-    fn close(&mut self, chans: &[Chan]) -> SessionAnswer
-        ensures { StepClose self.old chans.now (any_failed self.old.cage.rack self.new.cage.rack) result self.new }
-    {
-        match self.cage.judge(chans) {
-            Err(CloseRefusal::Absent) => SessionAnswer::Refused(ScpiError::HardwareMissing),
-            Err(CloseRefusal::Clash) => SessionAnswer::Refused(ScpiError::SettingsConflict),
-            Ok(()) => match self.cage.close_all(chans) {
-                Ok(()) => SessionAnswer::Done(None),
-                Err(_) => {
-                    self.cage.open_all();
-                    SessionAnswer::Refused(ScpiError::HardwareError)
-                }
-            },
-        }
-    }
-
-    /// Opens one channel after another.
-    #[tactic(auto, using(crate::proofs::Calls::failed_same))]
-    fn open(&mut self, chans: &[Chan]) -> SessionAnswer
-        ensures { StepOpen self.old chans.now (any_failed self.old.cage.rack self.new.cage.rack) result self.new }
-    {
-        if !self.cage.all_present(chans) {
-            return SessionAnswer::Refused(ScpiError::HardwareMissing);
-        }
-        match self.cage.open_listed(chans) {
-            Ok(()) => SessionAnswer::Done(None),
-            Err(_) => {
-                self.cage.open_all();
-                SessionAnswer::Refused(ScpiError::HardwareError)
-            }
-        }
-    }
-
-    /// Whether each channel is closed.
-    fn close_query(&self, alloc: Global, chans: &[Chan]) -> SessionAnswer
-        ensures { StepFlags self.now chans.now Bool.false result self.now }
-    {
-        if !self.cage.all_present(chans) {
-            return SessionAnswer::Refused(ScpiError::HardwareMissing);
-        }
-        match closed_flags(alloc, &self.cage, chans) {
-            Ok(text) => SessionAnswer::Done(Some(text)),
-            Err(_) => SessionAnswer::Refused(ScpiError::OutOfMemory),
-        }
-    }
-
-    /// The list of the closed channels.
-    fn close_state(&self, alloc: Global) -> SessionAnswer
-        ensures { StepText self.now (printed (closed_list self.now.cage.rack)) Bool.false result self.now }
-    {
-        match self.cage.closed_chans(alloc) {
-            Ok(closed) => match print_list(alloc, &closed) {
-                Ok(text) => SessionAnswer::Done(Some(Sequence::new(text))),
-                Err(error) => SessionAnswer::Refused(error),
-            },
-            Err(_) => SessionAnswer::Refused(ScpiError::OutOfMemory),
-        }
+/// What a setting's command is answered.
+fn taken(set: Result<(), ScpiError>) -> SessionAnswer
+    ensures { Takes set result }
+{
+    match set {
+        Ok(()) => SessionAnswer::Done(None),
+        Err(error) => SessionAnswer::Refused(error),
     }
 }

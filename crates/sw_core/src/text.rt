@@ -1,13 +1,16 @@
 //! The texts of answers.
 
-ghost use Rattle.std.specs.Prelude.{◌≡◌, ◌<◌, ◌∷◌, [], ◌++◌, List, ℕ, length, IfOk, OnOk, map};
+ghost use Rattle.std.specs.Prelude.{◌≡◌, ◌<◌, ◌∷◌, [], ◌++◌, List, ℕ, length, IfOk, OnOk, map, decimal};
 ghost use Rattle.std.specs.List.{join_with_byte};
+ghost use Rattle.sw_base.specs.Reading.{fixed};
 ghost use Rattle.sw_cage.specs.Rack.{is_closed};
-ghost use Rattle.sw_core.specs.Answers.{identity, flag_of, IsRow, Tells};
+ghost use Rattle.sw_core.specs.Answers.{identity, version, flag_of, as_asked, entry, entry_of, no_error, oldest_entry, all_entries, source_word, IsRow, IsOpen, Tells};
 
 use crate::ask::SessionAnswer;
 use std::alloc::{AllocError, Global};
-use sw_base::{Chan, ScpiError, Sequence};
+use sw_base::{
+    Chan, NO_ERROR, ScpiError, Sequence, Source, print_micros, print_number, print_signed,
+};
 use sw_cage::Cage;
 use sw_card::{Meter, Relay};
 
@@ -18,32 +21,141 @@ pub fn identity(alloc: Global) -> Result<Sequence<u8>, AllocError>
     Ok(Sequence::new(Vec::from_slice(alloc, b"OPENBENCH,SWM8,0,1.0")?))
 }
 
-/// For each channel `1` where it is closed and `0` where it isn't, joined by commas.
-pub fn closed_flags<R: Relay, M: Meter>(
+/// The version of SCPI (SCPI-1999, 21.21).
+pub fn version(alloc: Global) -> Result<Sequence<u8>, AllocError>
+    ensures { IfOk result (λ text. text ≡ version) }
+{
+    Ok(Sequence::new(Vec::from_slice(alloc, b"1999.0")?))
+}
+
+/// A whole number.
+pub fn whole(alloc: Global, n: u64) -> Result<Sequence<u8>, AllocError>
+    ensures { IfOk result (λ text. text ≡ decimal n) }
+{
+    let mut buffer = [0; 32];
+    let end = print_number(n, &mut buffer);
+    Ok(Sequence::new(Vec::from_slice(alloc, &buffer[..end])?))
+}
+
+/// Microseconds as seconds with six decimals.
+pub fn seconds(alloc: Global, micros: u64) -> Result<Sequence<u8>, AllocError>
+    ensures { IfOk result (λ text. text ≡ fixed 6 micros) }
+{
+    let mut buffer = [0; 32];
+    let end = print_micros(micros, &mut buffer);
+    Ok(Sequence::new(Vec::from_slice(alloc, &buffer[..end])?))
+}
+
+/// The short form of a source.
+pub fn source_word(alloc: Global, source: Source) -> Result<Sequence<u8>, AllocError>
+    ensures { IfOk result (λ text. text ≡ source_word source) }
+{
+    let word: &[u8] = match source {
+        Source::Immediate => b"IMM",
+        Source::Bus => b"BUS",
+        Source::External => b"EXT",
+        Source::Hold => b"HOLD",
+    };
+    Ok(Sequence::new(Vec::from_slice(alloc, word)?))
+}
+
+/// For each channel `1` or `0`, joined by commas: whether it is closed, or, where `closed` is false, whether it is open.
+pub fn flags<R: Relay, M: Meter>(
     alloc: Global,
     cage: &Cage<R, M>,
+    closed: bool,
     chans: &[Chan],
 ) -> Result<Sequence<u8>, AllocError>
-    ensures { IfOk result (λ text. text ≡ join_with_byte 44 (map (λ c. flag_of (is_closed cage.now.rack c)) chans.now)) }
+    ensures { IfOk result (λ text. text ≡ join_with_byte 44 (map (λ c. flag_of (as_asked closed (is_closed cage.now.rack c))) chans.now)) }
 {
     let mut text = Vec::with_capacity(alloc, chans.len())?;
     for chan in chans {
-        add(&mut text, if cage.is_closed(*chan) { b"1" } else { b"0" })?;
+        separate(&mut text)?;
+        text.push(flag(as_asked(closed, cage.is_closed(*chan))))?;
     }
     Ok(Sequence::new(text))
 }
 
-/// Adds a piece to those that the text has, after a comma where there are any.
-fn add(text: &mut Vec<u8>, piece: &[u8]) -> Result<(), AllocError>
-    requires { 0 < length piece.now }
-    ensures { OnOk result ((pieces : List (List ℕ)) → IsRow text.old.items pieces → IsRow text.new.items (pieces ++ piece.now ∷ [])) }
+/// The flag of a channel where the closed ones are asked for, or the open ones.
+fn as_asked(asked: bool, closed: bool) -> bool
+    ensures { result ≡ as_asked asked closed }
+{
+    if asked { closed } else { !closed }
+}
+
+/// `1` for yes, `0` for no.
+fn flag(yes: bool) -> u8
+    ensures { result ∷ [] ≡ flag_of yes }
+{
+    if yes { b'1' } else { b'0' }
+}
+
+/// The oldest entry of the error queue.
+pub fn oldest_entry(alloc: Global, errors: &[ScpiError]) -> Result<Sequence<u8>, AllocError>
+    ensures { IfOk result (λ text. text ≡ oldest_entry errors.now) }
+{
+    match errors {
+        [] => nothing(alloc),
+        [error, ..] => {
+            let mut text = Vec::new(alloc);
+            add_entry(&mut text, *error)?;
+            Ok(Sequence::new(text))
+        }
+    }
+}
+
+/// All entries of the error queue.
+pub fn all_entries(alloc: Global, errors: &[ScpiError]) -> Result<Sequence<u8>, AllocError>
+    ensures { IfOk result (λ text. text ≡ all_entries errors.now) }
+{
+    if errors.is_empty() {
+        return nothing(alloc);
+    }
+    let mut text = Vec::new(alloc);
+    for error in errors {
+        separate(&mut text)?;
+        add_entry(&mut text, *error)?;
+    }
+    Ok(Sequence::new(text))
+}
+
+/// What an empty error queue answers.
+fn nothing(alloc: Global) -> Result<Sequence<u8>, AllocError>
+    ensures { IfOk result (λ text. text ≡ no_error) }
+{
+    let mut text = Vec::new(alloc);
+    add_numbered(&mut text, 0, NO_ERROR)?;
+    Ok(Sequence::new(text))
+}
+
+/// Adds an entry of the error queue.
+fn add_entry(text: &mut Vec<u8>, error: ScpiError) -> Result<(), AllocError>
+    ensures { OnOk result (text.new.items ≡ text.old.items ++ entry_of error) }
+{
+    add_numbered(text, i64::from(error.code()), error.text())
+}
+
+/// Adds a number, a comma, and a text in quotes.
+fn add_numbered(text: &mut Vec<u8>, number: i64, words: &str) -> Result<(), AllocError>
+    ensures { OnOk result (text.new.items ≡ text.old.items ++ entry number words.now) }
+{
+    let mut buffer = [0; 32];
+    let end = print_signed(number, &mut buffer);
+    text.extend_from_slice(&buffer[..end])?;
+    text.extend_from_slice(b",\"")?;
+    text.extend_from_slice(words.as_bytes())?;
+    text.push(b'"')?;
+    Ok(())
+}
+
+/// Adds a comma behind the pieces that the text has, where there are any.
+fn separate(text: &mut Vec<u8>) -> Result<(), AllocError>
+    ensures { OnOk result ((pieces : List (List ℕ)) → IsRow text.old.items pieces → IsOpen text.new.items pieces) }
 {
     if text.is_empty() {
-        text.extend_from_slice(piece)?;
         return Ok(());
     }
     text.push(b',')?;
-    text.extend_from_slice(piece)?;
     Ok(())
 }
 

@@ -4,8 +4,8 @@ use Rattle.sw_base.specs.declared.error.ScpiError.{ScpiError}
 use Rattle.sw_base.specs.declared.error.ScpiError.TheVariants.{QueueOverflow}
 use Rattle.sw_base.specs.Errors.{event_bit_of}
 use Rattle.sw_status.specs.Registers.{GroupSeen, IsGroup, first_group, event_taken, group_preset, group_summary, register, has_bit, share_bit}
-use Rattle.sw_status.specs.declared.group.StatusGroup.{StatusGroup}
-use Rattle.sw_status.specs.declared.group.StatusGroup.TheVariants.{Operation, Questionable}
+use Rattle.sw_base.specs.declared.terms.StatusGroup.{StatusGroup}
+use Rattle.sw_base.specs.declared.terms.StatusGroup.TheVariants.{Operation, Questionable}
 
 -- esr, ese and sre are the registers of *ESR?, *ESE and *SRE; asking has the bits of the status byte that asked for
 -- service when the last event ended; requests counts the service requests.

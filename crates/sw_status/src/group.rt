@@ -9,13 +9,6 @@ use std::mem;
 /// Bit 15 of a group's registers is always 0 (SCPI-1999, 20).
 const LOW_15: u16 = 0x7fff;
 
-/// The two groups that STATus reaches.
-#[derive(Clone, Copy, Debug, PartialEq, Eq)]
-pub enum StatusGroup {
-    Operation,
-    Questionable,
-}
-
 /// Condition, transition filters, event and enable registers of a group (SCPI-1999, 20).
 #[derive(Debug, Drop)]
 pub struct Group {
@@ -74,6 +67,13 @@ impl Group {
         ensures { result ≡ self.now.condition }
     {
         self.condition
+    }
+
+    /// The event register, which stays as it is.
+    pub fn event(&self) -> u16
+        ensures { result ≡ self.now.event }
+    {
+        self.event
     }
 
     /// The enable register.

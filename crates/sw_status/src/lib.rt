@@ -14,7 +14,7 @@ mod status;
 #[cfg(test)]
 mod tests;
 
-pub use group::{Group, StatusGroup};
+pub use group::Group;
 pub use laws::{
     byte_tells_each_bit, error_is_lost_only_to_overflow, event_counts_once, queue_holds_the_oldest,
     transition_filters_decide,

@@ -4,11 +4,11 @@ ghost use Rattle.std.specs.Prelude.{◌≡◌, ◌<◌, ◌≤◌, ◌^◌, ◌+
 ghost use Rattle.sw_status.specs.Registers.{group_conditioned, event_taken, with_enable, with_ptr, with_ntr};
 ghost use Rattle.sw_status.specs.StatusModel.{first_status, pushed, popped, cleared, preset, enabled, group_of, with_group, with_bit, summary_of, byte_of, event_ended, counted_of, flag_of, IsStatus};
 
-use crate::group::{Group, StatusGroup};
+use crate::group::Group;
 use std::alloc::{AllocError, Global};
 use std::marker::Model;
 use std::mem;
-use sw_base::ScpiError;
+use sw_base::{ScpiError, StatusGroup};
 
 /// The queue's room (own choice; SCPI-1999, 21.8.1 asks for two at least).
 const QUEUE_ROOM: usize = 32;
@@ -169,6 +169,13 @@ impl Status {
     {
         let shown = self.summary() + flag(4, mav);
         shown + flag(6, shown & self.sre != 0)
+    }
+
+    /// The event status register, which stays as it is.
+    pub fn esr(&self) -> u8
+        ensures { result ≡ self.now.esr }
+    {
+        self.esr
     }
 
     /// Reads the event status register and clears it.

@@ -1,8 +1,8 @@
 //! What the calls answer, with values from the standards' registers.
 
-use crate::{Group, Status, StatusGroup};
+use crate::{Group, Status};
 use std::test::Fail;
-use sw_base::ScpiError;
+use sw_base::{ScpiError, StatusGroup};
 
 #[test]
 fn newest_of_33_errors_is_overflow(rt: HostRuntime) -> Result<(), Fail> {
@@ -24,6 +24,7 @@ fn newest_of_33_errors_is_overflow(rt: HostRuntime) -> Result<(), Fail> {
 #[test]
 fn status_byte_follows_its_registers(rt: HostRuntime) -> Result<(), Fail> {
     let mut status = Status::new(rt.alloc())?;
+    assert_eq!(rt; status.esr(), 128);
     assert_eq!(rt; status.read_esr(), 128);
     assert_eq!(rt; status.read_esr(), 0);
     status.set_sre(255);
@@ -96,6 +97,7 @@ fn group_alone(rt: HostRuntime) {
     assert_eq!(rt; group.ntr(), 2);
     group.set_condition(3);
     assert!(rt; group.summary());
+    assert_eq!(rt; group.event(), 1);
     assert_eq!(rt; group.take_event(), 1);
     group.set_condition(0);
     assert_eq!(rt; group.condition(), 0);

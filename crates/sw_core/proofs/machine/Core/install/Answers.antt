@@ -1,15 +1,14 @@
 use Rattle.std.proofs.Common.{arith, refl, ap, ◌∙◌}
 use Rattle.sw_cage.specs.Cage.{CageSeen}
-use Rattle.sw_cage.specs.Rack.{Rack}
 use Rattle.sw_cage.specs.Change.{any_failed}
 use Rattle.sw_core.specs.Panel.{Panel}
 use Rattle.sw_core.proofs.Calls.{failed_come}
 use Rattle.sw_core.proofs.machine.Core.install.Goals as goal
 
-pub returns-in-Ok-clause-step : goal.returns-in-Ok-clause-step
-returns-in-Ok-clause-step g c =
+pub returns-in-Ok-clause-acts : goal.returns-in-Ok-clause-acts
+returns-in-Ok-clause-acts g c =
     rw (← c.self.view_is) (
       ap (λ (s : CageSeen). any_failed c.self.inside.cage.rack s.rack) c.in-Ok.ensures.ok ∙ failed_come c.self.inside.cage.rack c.args.slot _ (omega (arith, c.in-Ok.ensures.accepted.first)) c.in-Ok.ensures.accepted.empty,
       c.in-Ok.ensures.accepted,
-      ap (λ (s : CageSeen). let p : Panel = record { cage = s; sessions = c.self.inside.sessions } in p) c.in-Ok.ensures.ok,
+      ap (λ (s : CageSeen). let p : Panel = record { cage = s; sessions = c.self.inside.sessions; status = c.self.inside.status; settings = c.self.inside.settings } in p) c.in-Ok.ensures.ok,
     )

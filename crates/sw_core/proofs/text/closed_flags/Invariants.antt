@@ -1,7 +1,0 @@
-use Rattle.std.specs.Prelude.{map, take}
-use Rattle.sw_cage.specs.Rack.{is_closed}
-use Rattle.sw_core.specs.Answers.{flag_of, IsRow}
-use Rattle.sw_core.proofs.text.closed_flags.Given as goal
-
-abbrev pub invariant-loop-chan : goal.invariant-loop-chan
-invariant-loop-chan g l = IsRow l.text.items (map (λ c. flag_of (is_closed l.cage.rack c)) (take l.chan-index l.chans))

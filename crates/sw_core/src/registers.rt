@@ -1,0 +1,142 @@
+//! Commands that tell or set status and settings, and call no card.
+
+ghost use Rattle.std.specs.Prelude.{◌≡◌, Bool, Some, None, true, false};
+ghost use Rattle.sw_core.specs.Registers.{number_told, status_set, alarmed, calmed};
+ghost use Rattle.sw_core.specs.Step.{StepDeed, deed_of};
+
+use crate::ask::SessionAnswer;
+use crate::machine::Core;
+use crate::text::{all_entries, oldest_entry, whole};
+use std::alloc::Global;
+use sw_base::{ScpiError, Sequence, StatusGroup};
+use sw_card::{Meter, Relay};
+use sw_channel::print_list;
+use sw_lex::Command;
+use sw_status::Status;
+
+/// The condition bit of a card's failure (own).
+const CARD_FAILED: u16 = 1 << 9;
+
+/// Tells QUEStionable that a card failed.
+pub fn alarm(status: &mut Status)
+    ensures { status.new ≡ alarmed status.old }
+{
+    status.set_condition(StatusGroup::Questionable, CARD_FAILED);
+}
+
+/// Tells QUEStionable that no failure stands any more.
+pub fn calm(status: &mut Status)
+    ensures { status.new ≡ calmed status.old }
+{
+    status.set_condition(StatusGroup::Questionable, 0);
+}
+
+/// Sets the status as the command says, if it is one that sets the status alone.
+pub fn set_status(status: &mut Status, command: &Command) -> bool
+    ensures done { result ≡ true → status_set status.old command.now ≡ Some status.new }
+    ensures other { result ≡ false → status_set status.old command.now ≡ None }
+    ensures same { result ≡ false → status.new ≡ status.old }
+{
+    match command {
+        Command::ClearStatus => status.clear(),
+        Command::EventEnable(bits) => status.set_ese(*bits),
+        Command::ServiceEnable(bits) => status.set_sre(*bits),
+        Command::OperationComplete => status.operation_complete(),
+        Command::Wait => {}
+        Command::Preset => status.preset(),
+        Command::GroupEnable(group, bits) => status.set_enable(*group, *bits),
+        Command::PositiveTransition(group, bits) => status.set_ptr(*group, *bits),
+        Command::NegativeTransition(group, bits) => status.set_ntr(*group, *bits),
+        _ => return false,
+    }
+    true
+}
+
+impl<R: Relay, M: Meter> Core<R, M> {
+    /// The number that a query answers, if it is one that answers a number and changes nothing by that.
+    pub(crate) fn number(&self, command: &Command, answered: bool) -> Option<u64>
+        ensures { result ≡ number_told self.now answered command.now }
+    {
+        let status = &self.status;
+        let settings = &self.settings;
+        Some(match command {
+            Command::EventEnableQuery => u64::from(status.ese()),
+            Command::ServiceEnableQuery => u64::from(status.sre()),
+            Command::StatusByteQuery => u64::from(status.byte(answered)),
+            Command::OperationCompleteQuery => 1,
+            Command::SelfTestQuery => 0,
+            Command::GroupConditionQuery(group) => u64::from(status.group(*group).condition()),
+            Command::GroupEnableQuery(group) => u64::from(status.group(*group).enable()),
+            Command::PositiveTransitionQuery(group) => u64::from(status.group(*group).ptr()),
+            Command::NegativeTransitionQuery(group) => u64::from(status.group(*group).ntr()),
+            Command::ErrorCountQuery => status.count() as u64,
+            Command::CountQuery(layer) => u64::from(settings.layer(*layer).count),
+            Command::ScanMeterQuery => u64::from(settings.meter()),
+            Command::PointsQuery => u64::from(settings.points()),
+            Command::BoundQuery => settings.bound(),
+            _ => return None,
+        })
+    }
+
+    /// The channels of the scan.
+    pub(crate) fn scan_query(&self, alloc: Global) -> SessionAnswer
+        ensures { StepDeed (deed_of self.now Command.ScanQuery) self.now Bool.false result self.now }
+    {
+        match print_list(alloc, self.settings.list()) {
+            Ok(text) => SessionAnswer::Done(Some(Sequence::new(text))),
+            Err(error) => SessionAnswer::Refused(error),
+        }
+    }
+
+    /// Reads the event status register out.
+    pub(crate) fn event_query(&mut self, alloc: Global) -> SessionAnswer
+        ensures { StepDeed (deed_of self.old Command.EventQuery) self.old Bool.false result self.new }
+    {
+        match whole(alloc, u64::from(self.status.esr())) {
+            Ok(text) => {
+                let _ = self.status.read_esr();
+                SessionAnswer::Done(Some(text))
+            }
+            Err(_) => SessionAnswer::Refused(ScpiError::OutOfMemory),
+        }
+    }
+
+    /// Reads a group's event register out.
+    pub(crate) fn group_event_query(&mut self, alloc: Global, group: StatusGroup) -> SessionAnswer
+        ensures { StepDeed (deed_of self.old (Command.GroupEventQuery group)) self.old Bool.false result self.new }
+    {
+        match whole(alloc, u64::from(self.status.group(group).event())) {
+            Ok(text) => {
+                let _ = self.status.take_event(group);
+                SessionAnswer::Done(Some(text))
+            }
+            Err(_) => SessionAnswer::Refused(ScpiError::OutOfMemory),
+        }
+    }
+
+    /// Takes the oldest error out of the queue.
+    pub(crate) fn next_error(&mut self, alloc: Global) -> SessionAnswer
+        ensures { StepDeed (deed_of self.old Command.NextErrorQuery) self.old Bool.false result self.new }
+    {
+        match oldest_entry(alloc, self.status.all_errors()) {
+            Ok(text) => {
+                let _ = self.status.pop_error();
+                SessionAnswer::Done(Some(text))
+            }
+            Err(_) => SessionAnswer::Refused(ScpiError::OutOfMemory),
+        }
+    }
+
+    /// Takes all errors out of the queue.
+    pub(crate) fn all_errors(&mut self, alloc: Global) -> SessionAnswer
+        ensures { StepDeed (deed_of self.old Command.AllErrorsQuery) self.old Bool.false result self.new }
+    {
+        match all_entries(alloc, self.status.all_errors()) {
+            Ok(text) => {
+                self.status.clear_errors();
+                SessionAnswer::Done(Some(text))
+            }
+            Err(_) => SessionAnswer::Refused(ScpiError::OutOfMemory),
+        }
+    }
+}

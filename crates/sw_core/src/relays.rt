@@ -1,0 +1,101 @@
+//! Commands that call the relay cards.
+
+ghost use Rattle.std.specs.Prelude.{◌≡◌, Bool};
+ghost use Rattle.sw_cage.specs.Change.{any_failed};
+ghost use Rattle.sw_lex.specs.declared.command.Command.TheVariants.{CloseState, OpenAll, Reset};
+ghost use Rattle.sw_core.specs.Step.{StepDeed, deed_of, StepClose, StepOpen, StepFlags};
+
+use crate::ask::SessionAnswer;
+use crate::machine::Core;
+use crate::registers::{alarm, calm};
+use crate::text::flags;
+use std::alloc::Global;
+use sw_base::{Chan, ScpiError, Sequence};
+use sw_cage::CloseRefusal;
+use sw_card::{Meter, Relay};
+use sw_channel::print_list;
+
+impl<R: Relay, M: Meter> Core<R, M> {
+    /// Judges the whole list, and then closes one channel after another.
+    #[tactic(auto, using(crate::proofs::Calls::failed_same))]
+    pub(crate) fn close(&mut self, chans: &[Chan]) -> SessionAnswer
+        ensures { StepClose self.old chans.now (any_failed self.old.cage.rack self.new.cage.rack) result self.new }
+    {
+        match self.cage.judge(chans) {
+            Err(CloseRefusal::Absent) => SessionAnswer::Refused(ScpiError::HardwareMissing),
+            Err(CloseRefusal::Clash) => SessionAnswer::Refused(ScpiError::SettingsConflict),
+            Ok(()) => match self.cage.close_all(chans) {
+                Ok(()) => SessionAnswer::Done(None),
+                Err(_) => {
+                    self.cage.open_all();
+                    alarm(&mut self.status);
+                    SessionAnswer::Refused(ScpiError::HardwareError)
+                }
+            },
+        }
+    }
+
+    /// Opens one channel after another.
+    #[tactic(auto, using(crate::proofs::Calls::failed_same))]
+    pub(crate) fn open(&mut self, chans: &[Chan]) -> SessionAnswer
+        ensures { StepOpen self.old chans.now (any_failed self.old.cage.rack self.new.cage.rack) result self.new }
+    {
+        if !self.cage.all_present(chans) {
+            return SessionAnswer::Refused(ScpiError::HardwareMissing);
+        }
+        match self.cage.open_listed(chans) {
+            Ok(()) => SessionAnswer::Done(None),
+            Err(_) => {
+                self.cage.open_all();
+                alarm(&mut self.status);
+                SessionAnswer::Refused(ScpiError::HardwareError)
+            }
+        }
+    }
+
+    /// Opens every relay.
+    #[tactic(auto, using(crate::proofs::Calls::failed_open))]
+    pub(crate) fn open_everything(&mut self) -> SessionAnswer
+        ensures { StepDeed (deed_of self.old OpenAll) self.old (any_failed self.old.cage.rack self.new.cage.rack) result self.new }
+    {
+        self.cage.open_all();
+        SessionAnswer::Done(None)
+    }
+
+    /// Opens every relay, and sets the settings to their reset values (IEEE 488.2, 10.32).
+    #[tactic(auto, using(crate::proofs::Calls::failed_open))]
+    pub(crate) fn reset(&mut self) -> SessionAnswer
+        ensures { StepDeed (deed_of self.old Reset) self.old (any_failed self.old.cage.rack self.new.cage.rack) result self.new }
+    {
+        self.cage.open_all();
+        calm(&mut self.status);
+        self.settings.reset();
+        SessionAnswer::Done(None)
+    }
+
+    /// For each channel whether it is closed, or, where `closed` is false, whether it is open.
+    pub(crate) fn flags(&self, alloc: Global, closed: bool, chans: &[Chan]) -> SessionAnswer
+        ensures { StepFlags self.now closed chans.now Bool.false result self.now }
+    {
+        if !self.cage.all_present(chans) {
+            return SessionAnswer::Refused(ScpiError::HardwareMissing);
+        }
+        match flags(alloc, &self.cage, closed, chans) {
+            Ok(text) => SessionAnswer::Done(Some(text)),
+            Err(_) => SessionAnswer::Refused(ScpiError::OutOfMemory),
+        }
+    }
+
+    /// The list of the closed channels.
+    pub(crate) fn close_state(&self, alloc: Global) -> SessionAnswer
+        ensures { StepDeed (deed_of self.now CloseState) self.now Bool.false result self.now }
+    {
+        match self.cage.closed_chans(alloc) {
+            Ok(closed) => match print_list(alloc, &closed) {
+                Ok(text) => SessionAnswer::Done(Some(Sequence::new(text))),
+                Err(error) => SessionAnswer::Refused(error),
+            },
+            Err(_) => SessionAnswer::Refused(ScpiError::OutOfMemory),
+        }
+    }
+}
