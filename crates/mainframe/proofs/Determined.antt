@@ -19,7 +19,7 @@ use Rattle.mainframe.specs.Law.{IsPlainRun}
 install_plain : (p : Panel) (slot : ℕ) (card : Account) (f : Bool) (a : AnswerView) (q : Panel) → Step p (AskInstall slot card) f a q → IsPlain a
 install_plain p slot card f SaysInstalled q s = tt
 install_plain p slot card f (SaysNotInstalled r) q s = tt
-install_plain p slot card f a q s = absurd s
+install_plain p slot card f a q (done, acts, is) = absurd acts
 
 install_once : StepIsDetermined → (p q q' : Panel) (slot : ℕ) (card : Account) → Stepped p (AskInstall slot card) q → Stepped p (AskInstall slot card) q' → q ≡ q'
 install_once law p q q' slot card s t = (law p q q' (AskInstall slot card) s.failed t.failed s.answer t.answer s.step t.step (install_plain p slot card s.failed s.answer q s.step) (install_plain p slot card t.failed t.answer q' t.step)).1

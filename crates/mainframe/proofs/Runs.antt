@@ -1,5 +1,5 @@
 -- A run, one line further.
-use Rattle.std.proofs.Common.{◌≡◌, ◌≢◌, ℕ, ◌+◌, ◌<◌, List, [], ◌∷◌, ◌++◌, length, take, Option, Some, None, IfSome, refl, ap, sym, ◌∙◌, subst, append_assoc, arith}
+use Rattle.std.proofs.Common.{◌≡◌, ◌≢◌, ℕ, ◌+◌, ◌<◌, List, [], ◌∷◌, ◌++◌, length, take, Option, Some, None, IfSome, Result, Ok, Err, OnOk, IfErr, inr, refl, ap, sym, ◌∙◌, subst, append_assoc, arith}
 use Rattle.std.proofs.lemmas.List.{append-nil}
 use Rattle.std.proofs.Math.Seq.{take-append-add}
 use Rattle.std.specs.Io.KnownBytes.{Appends, IsAtEnd}
@@ -9,7 +9,9 @@ use Rattle.sw_core.specs.Panel.{Panel}
 use Rattle.sw_session.specs.CoreDesk.{CorePasses}
 use Rattle.sw_session.specs.Talk.{Talked}
 use Rattle.mainframe.specs.Lines.{lines_of, WritesPart}
-use Rattle.mainframe.specs.Run.{Run, AnsweredFrom, PartFrom, CutFrom, EndsFrom}
+use Rattle.sw_card.specs.Account.{Account}
+use Rattle.mainframe.specs.Cards.{Fitted, fitted}
+use Rattle.mainframe.specs.Run.{IsSetUp, Run, Runs, AnsweredFrom, PartFrom, CutFrom, EndsFrom}
 use Rattle.mainframe.specs.declared.fault.RunFault.{RunFault}
 use Rattle.mainframe.specs.declared.fault.RunFault.TheVariants.{Input, Output, Memory}
 use Rattle.mainframe.proofs.Known.{appends-more}
@@ -126,3 +128,23 @@ pub ends-cut : (sid : Sid) (start : Panel) (fault : RunFault) (r0 r c0 c : Optio
 ends-cut sid start Input r0 r c0 c read h = h
 ends-cut sid start Memory r0 r c0 c read h = h
 ends-cut sid start Output r0 r c0 c read h = absurd (read refl)
+
+-- what the loop over the lines comes to, from a mainframe that was set up
+runs_set_up : (cards : Fitted) (sid : Sid) (start : Panel) (result : Result (Unit {0}) RunFault) (r0 left old new : Option (List ℕ)) → IsSetUp cards sid start
+    → OnOk result (IfSome r0 (λ input. AnsweredFrom sid start input [] old new)) → OnOk result (IfSome r0 (λ _. IsAtEnd left)) → IfErr result (λ fault. IfSome r0 (λ input. EndsFrom sid start fault input left old new))
+    → IfSome r0 (λ input. Runs cards result input left old new)
+runs_set_up cards sid start result None left old new s ok all err = tt
+runs_set_up cards sid start (Ok done) (Some input) left old new s ok all err = record { answered = record { sid = sid; start = start; set_up = s; answered = ok }; all = all; fault = tt }
+runs_set_up cards sid start (Err fault) (Some input) left old new s ok all err = record { answered = tt; all = tt; fault = inr (record { sid = sid; start = start; set_up = s; ends = err }) }
+
+-- and from the desk over it, with the cards by what their makers say of them
+pub runs_begun : (first second third fourth f s t m : Account) → f ≡ first → s ≡ second → t ≡ third → m ≡ fourth → (sid : Sid) (core desk : Panel) → desk ≡ core → (result : Result (Unit {0}) RunFault) (r0 left old new : Option (List ℕ)) → IsSetUp (fitted f s t m) sid core
+    → OnOk result (IfSome r0 (λ input. AnsweredFrom sid desk input [] old new)) → OnOk result (IfSome r0 (λ _. IsAtEnd left)) → IfErr result (λ fault. IfSome r0 (λ input. EndsFrom sid desk fault input left old new))
+    → IfSome r0 (λ input. Runs (fitted first second third fourth) result input left old new)
+runs_begun first second third fourth f s t m a b c d sid core desk e result r0 left old new up ok all err =
+    let one : IsSetUp (fitted first s t m) sid core = subst (λ (x : Account). IsSetUp (fitted x s t m) sid core) a up in
+    let two : IsSetUp (fitted first second t m) sid core = subst (λ (x : Account). IsSetUp (fitted first x t m) sid core) b one in
+    let three : IsSetUp (fitted first second third m) sid core = subst (λ (x : Account). IsSetUp (fitted first second x m) sid core) c two in
+    let four : IsSetUp (fitted first second third fourth) sid core = subst (λ (x : Account). IsSetUp (fitted first second third x) sid core) d three in
+    let there : IsSetUp (fitted first second third fourth) sid desk = subst (λ (p : Panel). IsSetUp (fitted first second third fourth) sid p) (sym e) four in
+    runs_set_up (fitted first second third fourth) sid desk result r0 left old new there ok all err

@@ -11,6 +11,8 @@ mod laws;
 mod reading;
 mod run;
 #[cfg(test)]
+mod sessions;
+#[cfg(test)]
 mod tests;
 mod writing;
 

@@ -1,0 +1,272 @@
+//! Sessions as a person would type them: each line, and what comes back.
+
+use crate::run::run_lines;
+use std::alloc::Global;
+use std::process::Abort;
+use std::test::Fail;
+
+/// Types the lines, of which the `fuse`-th closing of slot 1 fails, and compares each answer; an empty one is none.
+fn check(
+    rt: &impl Abort,
+    alloc: Global,
+    fuse: Option<u32>,
+    lines: &[(&str, &str)],
+) -> Result<(), Fail> {
+    let mut typed = Vec::new(alloc);
+    let mut told = Vec::new(alloc);
+    for (line, answer) in lines {
+        typed.extend_from_slice(line.as_bytes())?;
+        typed.push(b'\n')?;
+        told.extend_from_slice(answer.as_bytes())?;
+        if !answer.is_empty() {
+            told.push(b'\n')?;
+        }
+    }
+    let mut reader = typed.as_slice();
+    let mut out = Vec::new(alloc);
+    run_lines(alloc, &mut reader, &mut out, fuse)?;
+    assert_eq!(rt; out.as_slice(), told.as_slice());
+    Ok(())
+}
+
+#[test]
+fn a_conflict_is_queued(rt: HostRuntime) -> Result<(), Fail> {
+    check(
+        &rt,
+        rt.alloc(),
+        None,
+        &[
+            ("ROUT:CLOS (@1!1,3!1)", ""),
+            ("SYST:ERR?", "-221,\"Settings conflict\""),
+            ("ROUT:CLOS:STAT?", "(@)"),
+            ("SYST:ERR?", "0,\"No error\""),
+        ],
+    )
+}
+
+#[test]
+fn errors_are_queued_in_order(rt: HostRuntime) -> Result<(), Fail> {
+    check(
+        &rt,
+        rt.alloc(),
+        None,
+        &[(
+            "ROUT:CLOS (@5!1);CLOS (@9!1);CLOS (@1!0);:SYST:ERR:ALL?",
+            "-241,\"Hardware missing\",-222,\"Data out of range\",-222,\"Data out of range\"",
+        )],
+    )
+}
+
+#[test]
+fn a_failed_closing_is_told(rt: HostRuntime) -> Result<(), Fail> {
+    check(
+        &rt,
+        rt.alloc(),
+        Some(2),
+        &[
+            (
+                "ROUT:CLOS (@1!1);OPEN (@1!1);CLOS (@1!2);:SYST:ERR?",
+                "-240,\"Hardware error\"",
+            ),
+            ("ROUT:CLOS:STAT?", "(@)"),
+            ("STAT:QUES?;QUES?;QUES:COND?", "512;0;512"),
+            ("STAT:QUES:NTR 512;*RST;:STAT:QUES?;QUES:COND?", "512;0"),
+        ],
+    )
+}
+
+#[test]
+fn status_registers(rt: HostRuntime) -> Result<(), Fail> {
+    check(
+        &rt,
+        rt.alloc(),
+        None,
+        &[
+            ("*ESR?;*ESR?;*SRE 255;*SRE?", "128;0;191"),
+            ("FOO;*IDN?", ""),
+            ("*STB?;*CLS;*STB?", "68;80"),
+        ],
+    )?;
+    check(
+        &rt,
+        rt.alloc(),
+        None,
+        &[("*ESE 32;FOO", ""), ("*STB?;*ESR?", "36;160")],
+    )
+}
+
+#[test]
+fn numbers_are_rounded_and_judged(rt: HostRuntime) -> Result<(), Fail> {
+    check(
+        &rt,
+        rt.alloc(),
+        None,
+        &[
+            ("*ESE 2.5;*ESE?;*ESE -0.4;*ESE?", "3;0"),
+            (
+                "*ESE 256;*ESE -0.5;:SYST:ERR:ALL?",
+                "-222,\"Data out of range\",-222,\"Data out of range\"",
+            ),
+            ("*ESE 1E99999", ""),
+            ("SYST:ERR?", "-123,\"Exponent too large\""),
+            ("*ESE 1 E +1;*ESE?", "10"),
+            ("*ESE 1 S", ""),
+            ("SYST:ERR?", "-138,\"Suffix not allowed\""),
+        ],
+    )
+}
+
+#[test]
+fn settings_of_a_layer(rt: HostRuntime) -> Result<(), Fail> {
+    check(
+        &rt,
+        rt.alloc(),
+        None,
+        &[
+            (
+                "TRIG:DEL 1.0000005;DEL?;DEL 500 MS;DEL?",
+                "1.000001;0.500000",
+            ),
+            ("TRIG:COUN 2.5;COUN?;COUN 100000;COUN?", "3;100000"),
+            ("TRIG:COUN 100001;COUN 0;:SYST:ERR:COUN?", "2"),
+            ("TRIG:COUN 1E99999", ""),
+            (
+                "SYST:ERR:ALL?",
+                "-222,\"Data out of range\",-222,\"Data out of range\",-123,\"Exponent too large\"",
+            ),
+            (
+                "ARM:LAY2:SOUR EXT;SOUR?;:ARM:SOUR?;:TRIG:SOUR?",
+                "EXT;IMM;IMM",
+            ),
+            ("ARM:LAY3:COUN 2", ""),
+            ("SYST:ERR?", "-114,\"Header suffix out of range\""),
+        ],
+    )
+}
+
+#[test]
+fn settings_of_a_scan(rt: HostRuntime) -> Result<(), Fail> {
+    check(
+        &rt,
+        rt.alloc(),
+        None,
+        &[
+            ("DIAG:SCAN:BOUN?", "0"),
+            ("ROUT:SCAN (@1!5:1!3);SCAN?", "(@1!5,1!4,1!3)"),
+            ("ROUT:SCAN (@1!1:2!2)", ""),
+            ("ROUT:SCAN (@)", ""),
+            (
+                "SYST:ERR:ALL?",
+                "-222,\"Data out of range\",-171,\"Invalid expression\"",
+            ),
+            (
+                "ROUT:SCAN (@1!1);:ARM:COUN 2;SOUR BUS;:TRIG:COUN 3;DEL 0.5;:DIAG:SCAN:BOUN?",
+                "14",
+            ),
+            ("ROUT:SCAN:MET?;MET 9;MET 2;MET?", "4;2"),
+            ("TRAC:POIN?;POIN 100000;POIN?", "1000;100000"),
+            (
+                "*RST;:ROUT:SCAN?;SCAN:MET?;:TRAC:POIN?;:ARM:SOUR?",
+                "(@);4;1000;IMM",
+            ),
+            ("SYST:ERR:ALL?", "-222,\"Data out of range\""),
+        ],
+    )
+}
+
+/// A list of five times the 99 channels of a slot, and so many more.
+fn long_list(alloc: Global, more: &str) -> Result<Vec<u8>, Fail> {
+    let mut text = Vec::new(alloc);
+    text.extend_from_slice(b"ROUT:SCAN (@")?;
+    for _ in 0..5u8 {
+        text.extend_from_slice(b"1!1:1!99,")?;
+    }
+    text.extend_from_slice(more.as_bytes())?;
+    text.extend_from_slice(b");:SYST:ERR?\n")?;
+    Ok(text)
+}
+
+#[test]
+fn a_list_of_512_entries(rt: HostRuntime) -> Result<(), Fail> {
+    let mut typed = long_list(rt.alloc(), "1!1:1!18")?;
+    typed.extend_from_slice(&long_list(rt.alloc(), "1!1:1!17")?)?;
+    let mut reader = typed.as_slice();
+    let mut out = Vec::new(rt.alloc());
+    run_lines(rt.alloc(), &mut reader, &mut out, None)?;
+    assert_eq!(rt;
+        out.as_slice(),
+        b"-223,\"Too much data\"\n0,\"No error\"\n".as_slice()
+    );
+    Ok(())
+}
+
+#[test]
+fn a_full_error_queue(rt: HostRuntime) -> Result<(), Fail> {
+    let mut typed = Vec::new(rt.alloc());
+    for _ in 0..33u8 {
+        typed.extend_from_slice(b"FOO\n")?;
+    }
+    typed.extend_from_slice(b"SYST:ERR:COUN?\n")?;
+    let mut told = Vec::from_slice(rt.alloc(), b"32\n")?;
+    for _ in 0..31u8 {
+        typed.extend_from_slice(b"SYST:ERR?\n")?;
+        told.extend_from_slice(b"-113,\"Undefined header\"\n")?;
+    }
+    typed.extend_from_slice(b"SYST:ERR?;ERR?\n")?;
+    told.extend_from_slice(b"-350,\"Queue overflow\";0,\"No error\"\n")?;
+    let mut reader = typed.as_slice();
+    let mut out = Vec::new(rt.alloc());
+    run_lines(rt.alloc(), &mut reader, &mut out, None)?;
+    assert_eq!(rt; out.as_slice(), told.as_slice());
+    Ok(())
+}
+
+#[test]
+fn no_trigger_is_awaited(rt: HostRuntime) -> Result<(), Fail> {
+    check(
+        &rt,
+        rt.alloc(),
+        None,
+        &[
+            ("*TRG;:SYST:ERR?", "-211,\"Trigger ignored\""),
+            ("*OPC?;*OPC;*ESR?;*WAI;*TST?", "1;145;0"),
+        ],
+    )
+}
+
+#[test]
+fn twenty_lines_of_a_person(rt: HostRuntime) -> Result<(), Fail> {
+    check(
+        &rt,
+        rt.alloc(),
+        None,
+        &[
+            ("*IDN?", "OPENBENCH,SWM8,0,1.0"),
+            ("SYST:VERS?", "1999.0"),
+            ("*RST", ""),
+            ("*CLS", ""),
+            ("*SRE 4", ""),
+            ("ROUT:CLOS (@1!3,2!1:2!3)", ""),
+            ("ROUT:CLOS:STAT?", "(@1!3,2!1,2!2,2!3)"),
+            ("ROUT:CLOS? (@1!3,1!4)", "1,0"),
+            ("ROUT:OPEN? (@1!3,1!4)", "0,1"),
+            ("ROUT:CLOS (@3!1)", ""),
+            ("*STB?", "68"),
+            ("SYST:ERR:COUN?", "1"),
+            ("syst:err:next?", "-221,\"Settings conflict\""),
+            ("SYSTEM:ERROR?", "0,\"No error\""),
+            ("ROUT:OPEN:ALL;:ROUT:CLOS:STAT?", "(@)"),
+            (
+                "STAT:OPER:ENAB 65535;ENAB?;:STAT:PRES;:STAT:OPER:ENAB?;PTR?",
+                "32767;0;32767",
+            ),
+            (
+                "ROUT:SCAN (@1!1,1!2);SCAN?;:TRIG:COUN 4;COUN?",
+                "(@1!1,1!2);4",
+            ),
+            ("CLOS (@1!1)", ""),
+            ("SYST:ERR?", "-113,\"Undefined header\""),
+            ("*ESR?;*ESR?", "48;0"),
+        ],
+    )
+}
