@@ -1,0 +1,4 @@
+pub mod Label
+pub mod Table
+pub mod Seen
+pub mod Filling

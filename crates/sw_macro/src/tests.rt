@@ -1,0 +1,1 @@
+//! Macros at their limits.
