@@ -6,10 +6,12 @@
 //! It promises nothing of what a body means: a body need not be a program message.
 #![tactic(auto)]
 
+mod expand;
 mod filling;
 mod label;
 mod table;
 #[cfg(test)]
 mod tests;
 
+pub use expand::one_expansion;
 pub use table::Macros;

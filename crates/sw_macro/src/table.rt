@@ -4,6 +4,7 @@ ghost use Rattle.std.specs.Prelude.{◌≡◌, ◌++◌, ◌∷◌, [], None, So
 ghost use Rattle.sw_base.specs.declared.error.ScpiError.TheVariants.{OutOfMemory};
 ghost use Rattle.std.specs.Option.{option_map};
 ghost use Rattle.sw_macro.specs.Label.{in_capitals};
+ghost use Rattle.sw_macro.specs.Expansion.{macro_at};
 ghost use Rattle.sw_macro.specs.Table.{no_macros, body_of, without, labels, with_macro, without_macro, refusal_to_define, refusal_to_find, RefusedBy};
 
 use crate::label::{Label, read_label};
@@ -143,6 +144,19 @@ impl Macros {
         ensures { result ≡ self.now.on }
     {
         self.on
+    }
+
+    /// The label and the body of the macro that a text names, where the text is a label.
+    pub(crate) fn macro_at(&self, text: &[u8]) -> Option<(Label, &[u8])>
+        ensures { option_map (λ m. (m.0.items, m.1.now)) result ≡ macro_at self.now.macros text.now }
+    {
+        match read_label(text) {
+            None => None,
+            Some(key) => match self.found(&key) {
+                None => None,
+                Some(body) => Some((key, body)),
+            },
+        }
     }
 
     /// The body of the macro with this label.
