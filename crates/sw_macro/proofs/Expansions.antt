@@ -1,10 +1,10 @@
 -- Units in their places, and that a body becomes one text or one fault.
-use Rattle.std.proofs.Common.{◌≡◌, ℕ, ◌+◌, ◌-◌, ◌<◌, ◌≤◌, List, [], ◌∷◌, ◌++◌, length, take, drop, Option, Some, None, Result, Ok, Err, refl, sym, ap, subst, ◌∙◌, append_assoc, arith, inl, inr}
+use Rattle.std.proofs.Common.{◌≡◌, ℕ, ◌-◌, ◌≤◌, List, [], ◌∷◌, ◌++◌, length, take, drop, Option, Some, None, Result, Ok, Err, refl, sym, ap, subst, ◌∙◌, append_assoc, arith, inl, inr}
 use Rattle.std.proofs.lemmas.List.{append_cancel_right, length-append, take_at, drop_at}
 use Rattle.sw_base.specs.Text.{Spans}
 use Rattle.sw_base.proofs.Runs.{one_span}
 use Rattle.sw_base.specs.declared.error.ScpiError.{ScpiError}
-use Rattle.sw_lex.specs.Unit.{UnitView, IsUnit, IsWritten, Ends, Closes, is_gap}
+use Rattle.sw_lex.specs.Unit.{UnitView, IsWritten, Ends, Closes, is_gap}
 use Rattle.sw_lex.proofs.Once.{one_unit, unit_refused, blank_unit}
 use Rattle.sw_lex.proofs.Written.{one_written}
 use Rattle.sw_macro.specs.Table.{Macro, Table}

@@ -1,6 +1,6 @@
 -- Labels of macros (IEEE 488.2, 10.7): a letter, and then letters, digits or underscores, without regard to case. That
 -- they have at most 12 bytes is 7.6.1.
-use Rattle.std.specs.Prelude.{ℕ, Bool, true, false, ◌&&◌, nat_lt, List, [], ◌∷◌, length, map}
+use Rattle.std.specs.Prelude.{ℕ, Bool, false, ◌&&◌, nat_lt, List, [], ◌∷◌, length, map}
 use Rattle.std.specs.List.{list_all}
 use Rattle.std.specs.Char.{to_ascii_uppercase}
 use Rattle.sw_base.specs.Text.{is_letter, is_word}

@@ -1,5 +1,5 @@
 -- The macros of a session (IEEE 488.2, 10.7 to 10.9, 10.13, 10.16 and 10.22; SCPI-1999, volume 1, 21.8.10 for the errors).
-use Rattle.std.specs.Prelude.{◌≡◌, ℕ, Bool, true, false, not, nat_lt, nat_le, ◌++◌, List, [], ◌∷◌, length, map, Option, Some, None, is_some, is_none, ◌⊎◌, if◌then◌else◌}
+use Rattle.std.specs.Prelude.{◌≡◌, ℕ, Bool, false, not, nat_lt, nat_le, ◌++◌, List, [], ◌∷◌, length, map, Option, Some, None, is_some, if◌then◌else◌}
 use Rattle.std.specs.Str.{bytes_eq}
 use Rattle.sw_base.specs.declared.error.ScpiError.{ScpiError}
 use Rattle.sw_base.specs.declared.error.ScpiError.TheVariants.{IllegalMacroLabel, MacroDefinitionTooLong, MacroRedefinitionNotAllowed, MacroHeaderNotFound, TooMuchData, OutOfMemory}

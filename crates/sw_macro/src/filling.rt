@@ -67,10 +67,7 @@ fn put_for<'a>(
 }
 
 /// What a `$` before these bytes puts into a body, and what follows it; -274 for a missing element.
-fn put_at_mark<'a>(
-    more: &'a [u8],
-    unit: &RawUnit<'a>,
-) -> Result<(&'a [u8], &'a [u8]), ScpiError>
+fn put_at_mark<'a>(more: &'a [u8], unit: &RawUnit<'a>) -> Result<(&'a [u8], &'a [u8]), ScpiError>
     ensures ok { IfOk result (λ x. filled (unit_of unit.now).elements (36 ∷ more.now) ≡ led_by x.0.now (filled (unit_of unit.now).elements x.1.now)) }
     ensures shorter { IfOk result (λ x. length x.1.now ≤ length more.now) }
     ensures missing { IfErr result (λ e. filled (unit_of unit.now).elements (36 ∷ more.now) ≡ None) }

@@ -1,4 +1,4 @@
-use Rattle.std.proofs.Common.{◌≡◌, ◌++◌, ◌∷◌, [], ℕ, List, Option, Some, None, Result, Ok, Err, length, map, take, ◌-◌, Vec, Global, arith, refl, sym, ap, subst, ◌∙◌, inl, inr}
+use Rattle.std.proofs.Common.{◌≡◌, ◌++◌, ◌∷◌, [], ℕ, List, Option, Some, None, Result, Ok, Err, length, map, take, ◌-◌, Vec, Global, arith, ap, ◌∙◌, inl, inr}
 use Rattle.std.proofs.lemmas.List.{map_push, take_at, length-append}
 use Rattle.std.proofs.lemmas.Result.{err_from_is_err_and}
 use Rattle.std.specs.Option.{option_map}
@@ -7,9 +7,9 @@ use Rattle.sw_base.specs.declared.error.ScpiError.{ScpiError}
 use Rattle.sw_base.specs.declared.error.ScpiError.TheVariants.{OutOfMemory}
 use Rattle.std.specs.Prelude.{◌⊎◌}
 use Rattle.sw_macro.specs.Table.{Macro}
-use Rattle.sw_macro.specs.Expansion.{opened, Place, Becomes}
+use Rattle.sw_macro.specs.Expansion.{opened, Becomes}
 use Rattle.sw_macro.specs.Placed.{place_of}
-use Rattle.sw_macro.proofs.Expansions.{Onward, opened_so, within_so, onward_ends, onward_fails, onward_stops, onward_keeps, onward_goes}
+use Rattle.sw_macro.proofs.Expansions.{opened_so, within_so, onward_ends, onward_fails, onward_stops, onward_keeps, onward_goes}
 use Rattle.sw_macro.proofs.expand.+write_body.Goals as goal
 use Rattle.sw_macro.proofs.expand.+write_body.Goals.{in-None-2+in_ok-extend_from_slice-in-None-2, in-Some-2+in_ok-write_body-in-Some-2}
 
@@ -33,7 +33,7 @@ popped_is xs x all e =
 pub returns-in-None-clause-ok : goal.returns-in-None-clause-ok
 returns-in-None-clause-ok t c =
     onward_ends c.args.macros.now.macros (texts c.args.names.now.items) c.args.body.now c.args.out.now.items c.units.rest.now c.units.out.items c.extend_from_slice.new.self.items
-        c.units.invariant.onward c.in-None.ensures.none c.in_ok-extend_from_slice-in-None.ensures.items
+    c.units.invariant.onward c.in-None.ensures.none c.in_ok-extend_from_slice-in-None.ensures.items
 
 pub returns-in_err-open-in-Some-clause-err : goal.returns-in_err-open-in-Some-clause-err
 returns-in_err-open-in-Some-clause-err t c =
@@ -70,7 +70,7 @@ returns-in_err-write_body-in-Some-2-clause-err t c =
       | inr h ↦ inr (onward_stops ms names c.args.body.now c.args.out.now.items c.units.rest.now now place m e c.units.invariant.onward c.in-Some.ensures.some
           (opened_so ms (texts c.as_slice.result.now) names place.unit c.len.result kept now place.before (Ok (Some m)) passed c.in_ok-extend_from_slice-in-Some.ensures.items (c.len.ensures ∙ c.extend_from_slice-in-Some.new.self.ok.0) opens)
           (within_so ms (texts c.push.new.self.items) names c.as_slice-in-Some-2.result.now m.1 kept now place.before label.items (Err e)
-            (pushed_is c.args.names.now.items c.units.names.items label c.push.new.self.items so c.push.ensures.items) c.as_slice-in-Some-2.ensures.value c.in_ok-extend_from_slice-in-Some.ensures.items h))
+          (pushed_is c.args.names.now.items c.units.names.items label c.push.new.self.items so c.push.ensures.items) c.as_slice-in-Some-2.ensures.value c.in_ok-extend_from_slice-in-Some.ensures.items h))
     ])
 
 pub units-preserved : goal.units-preserved
@@ -84,13 +84,13 @@ units-preserved t c =
     let so = ap (λ (v : ArrayVec (ArrayVec ℕ)). v.items) c.units.invariant.names in
     let passed : texts c.as_slice.result.now ≡ names = ap texts (c.as_slice.ensures.value ∙ so) in
     let still : (a : Result (Option Macro) ScpiError) → opened ms (texts c.as_slice.result.now) place.unit c.len.result ≡ a → opened ms names place.unit (length (now ++ place.before)) ≡ a =
-        λ a h. opened_so ms (texts c.as_slice.result.now) names place.unit c.len.result kept now place.before a passed c.in_ok-extend_from_slice-in-Some.ensures.items (c.len.ensures ∙ c.extend_from_slice-in-Some.new.self.ok.0) h in
+    λ a h. opened_so ms (texts c.as_slice.result.now) names place.unit c.len.result kept now place.before a passed c.in_ok-extend_from_slice-in-Some.ensures.items (c.len.ensures ∙ c.extend_from_slice-in-Some.new.self.ok.0) h in
     record {
       names = elim c.match-branch-4.branch [
         | in-None-2+in_ok-extend_from_slice-in-None-2 w ↦ w.names-is ∙ c.units.invariant.names
         | in-Some-2+in_ok-write_body-in-Some-2 w ↦
             w.names-is ∙ ap vector (w.pop.ensures.rest ∙ ap (λ (v : ArrayVec (ArrayVec ℕ)). take (length v.items - 1) v.items) w.in_ok-write_body-in-Some-2.ensures.names
-                ∙ popped_is c.units.names.items w.in-Some-2.label w.push.new.self.items w.push.ensures.items)
+            ∙ popped_is c.units.names.items w.in-Some-2.label w.push.new.self.items w.push.ensures.items)
             ∙ c.units.invariant.names
       ];
       onward = elim c.match-branch-4.branch [
@@ -98,8 +98,8 @@ units-preserved t c =
             onward_keeps ms names c.args.body.now c.args.out.now.items c.units.rest.now now new place c.units.invariant.onward c.in-Some.ensures.some
             (still (Ok None) (c.in_ok-open-in-Some.ensures.opened ∙ ap viewed w.in-None-2.is))
             (c.in_ok-extend_from_slice-in-Some-2.ensures.items ∙ ap (λ (v : Vec ℕ Global). v.items ++ place.between) w.out-is
-              ∙ ap (λ (t : List ℕ). t ++ place.between) (w.in_ok-extend_from_slice-in-None-2.ensures.items
-                ∙ ap (λ (t : List ℕ). t ++ w.text.result.now) c.in_ok-extend_from_slice-in-Some.ensures.items ∙ ap (λ (t : List ℕ). (now ++ place.before) ++ t) w.text.ensures))
+            ∙ ap (λ (t : List ℕ). t ++ place.between) (w.in_ok-extend_from_slice-in-None-2.ensures.items
+            ∙ ap (λ (t : List ℕ). t ++ w.text.result.now) c.in_ok-extend_from_slice-in-Some.ensures.items ∙ ap (λ (t : List ℕ). (now ++ place.before) ++ t) w.text.ensures))
         | in-Some-2+in_ok-write_body-in-Some-2 w ↦
             let label = w.in-Some-2.label in
             let m : Macro = (label.items, w.in-Some-2.text.items) in
@@ -107,7 +107,7 @@ units-preserved t c =
             onward_goes ms names c.args.body.now c.args.out.now.items c.units.rest.now now done new place m c.units.invariant.onward c.in-Some.ensures.some
             (still (Ok (Some m)) (c.in_ok-open-in-Some.ensures.opened ∙ ap viewed w.in-Some-2.is))
             (within_so ms (texts w.push.new.self.items) names w.as_slice-in-Some-2.result.now m.1 kept now place.before label.items (Ok done)
-              (pushed_is c.args.names.now.items c.units.names.items label w.push.new.self.items so w.push.ensures.items) w.as_slice-in-Some-2.ensures.value c.in_ok-extend_from_slice-in-Some.ensures.items w.in_ok-write_body-in-Some-2.ensures.ok)
+            (pushed_is c.args.names.now.items c.units.names.items label w.push.new.self.items so w.push.ensures.items) w.as_slice-in-Some-2.ensures.value c.in_ok-extend_from_slice-in-Some.ensures.items w.in_ok-write_body-in-Some-2.ensures.ok)
             (c.in_ok-extend_from_slice-in-Some-2.ensures.items ∙ ap (λ (v : Vec ℕ Global). v.items ++ place.between) w.out-is)
       ];
     }

@@ -1,6 +1,4 @@
-use Rattle.std.proofs.Common.{◌≡◌, ◌-◌, ℕ, List, Result, length, map}
-use Rattle.sw_base.specs.declared.error.ScpiError.{ScpiError}
-use Rattle.sw_macro.specs.Expansion.{Becomes}
+use Rattle.std.proofs.Common.{◌≡◌, ◌-◌, length, map}
 use Rattle.sw_macro.proofs.Expansions.{Onward}
 use Rattle.sw_macro.proofs.expand.+write_body.Given as goal
 

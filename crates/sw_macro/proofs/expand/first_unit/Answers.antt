@@ -1,4 +1,4 @@
-use Rattle.std.proofs.Common.{◌≡◌, ◌++◌, ◌-◌, ℕ, List, length, take, refl, sym, ap, subst, ◌∙◌}
+use Rattle.std.proofs.Common.{◌++◌, ◌-◌, ℕ, List, length, take, refl, sym, ap, subst, ◌∙◌}
 use Rattle.sw_lex.specs.Unit.{IsWritten, unit_of}
 use Rattle.sw_macro.proofs.Expansions.{cut_front, written_within, left_is, rest_within, between_is}
 use Rattle.sw_macro.proofs.expand.first_unit.Goals as goal

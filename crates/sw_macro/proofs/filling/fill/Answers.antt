@@ -1,4 +1,4 @@
-use Rattle.std.proofs.Common.{◌≡◌, ◌++◌, ℕ, List, Option, Some, None, Err, subst, sym, ap, ◌∙◌, inr}
+use Rattle.std.proofs.Common.{◌++◌, ℕ, Option, Err, subst, sym, ap, ◌∙◌, inr}
 use Rattle.std.proofs.lemmas.Result.{err_from_is_err_and}
 use Rattle.sw_base.specs.declared.error.ScpiError.{ScpiError}
 use Rattle.sw_lex.specs.Unit.{unit_of}
@@ -14,7 +14,7 @@ returns-in-None-2 c =
     let n = c.args.before in
     let rest = c.parts.rest.now in
     inr (fits_not n ds body (d.whole ++ rest) c.put.new.text.items (filled_all ds body rest d.whole d.onward c.in-None.ensures.none)
-        (subst (λ (x : Option ℕ). IsDraft n (d.whole ++ rest) c.put.new.text.items x) c.in-None-2.is (c.in_ok-put-in-None.ensures n d.whole d.draft)))
+    (subst (λ (x : Option ℕ). IsDraft n (d.whole ++ rest) c.put.new.text.items x) c.in-None-2.is (c.in_ok-put-in-None.ensures n d.whole d.draft)))
 
 pub returns-in-Some-2 : goal.returns-in-Some-2
 returns-in-Some-2 c =
@@ -24,7 +24,7 @@ returns-in-Some-2 c =
     let n = c.args.before in
     let rest = c.parts.rest.now in
     fits n ds body (d.whole ++ rest) c.put.new.text.items c.in-Some-2.field-0 (filled_all ds body rest d.whole d.onward c.in-None.ensures.none)
-        (subst (λ (x : Option ℕ). IsDraft n (d.whole ++ rest) c.put.new.text.items x) c.in-Some-2.is (c.in_ok-put-in-None.ensures n d.whole d.draft))
+    (subst (λ (x : Option ℕ). IsDraft n (d.whole ++ rest) c.put.new.text.items x) c.in-Some-2.is (c.in_ok-put-in-None.ensures n d.whole d.draft))
 
 pub returns-in_err-bytes-in-Some : goal.returns-in_err-bytes-in-Some
 returns-in_err-bytes-in-Some c =

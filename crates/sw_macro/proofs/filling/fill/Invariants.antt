@@ -1,6 +1,5 @@
-use Rattle.std.proofs.Common.{◌≡◌, ℕ, List, length}
+use Rattle.std.proofs.Common.{length}
 use Rattle.sw_lex.specs.Unit.{unit_of}
-use Rattle.sw_macro.specs.Filling.{led_by, filled, IsDraft}
 use Rattle.sw_macro.proofs.Fillings.{Draft}
 use Rattle.sw_macro.proofs.filling.fill.Given as goal
 

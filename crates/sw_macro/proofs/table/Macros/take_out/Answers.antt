@@ -1,4 +1,4 @@
-use Rattle.std.proofs.Common.{ℕ, List, Option, Some, ap, ◌∙◌}
+use Rattle.std.proofs.Common.{ℕ, List, Option, ap, ◌∙◌}
 use Rattle.std.specs.Prelude.{is_some}
 use Rattle.sw_macro.specs.Table.{Table, Macro, body_of, without}
 use Rattle.sw_macro.specs.Seen.{macros_of}
@@ -14,4 +14,4 @@ pub returns-clause-removed : goal.returns-clause-removed
 returns-clause-removed c =
     let key = c.args.key.now.items in
     let removed = ap macros_of c.shift_remove.ensures.entries ∙ removed_is key c.self.inside.macros.entries in
-    ap (λ (ms : List Macro). record {macros = ms; on = c.self.inside.on}) removed ∙ ap (λ (t : Table). record {macros = without key t.macros; on = t.on}) c.self.view_is
+    ap (λ (ms : List Macro). record { macros = ms; on = c.self.inside.on }) removed ∙ ap (λ (t : Table). record { macros = without key t.macros; on = t.on }) c.self.view_is
