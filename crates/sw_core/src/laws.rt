@@ -7,8 +7,8 @@ pub fn every_run_is_exclusive()
     ensures { EveryRunIsExclusive }
 {}
 
-/// What was closed is closed, what was opened is open, a refusal changes nothing, and a card that failed or leaves
-/// leaves no relay closed.
+/// What was closed is closed, what was opened is open, a refusal queues its error and leaves all but the status as it
+/// was, and a card that failed or leaves leaves no relay closed.
 pub fn relays_obey()
     ensures { RelaysObey }
 {}

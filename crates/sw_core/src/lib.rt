@@ -5,7 +5,7 @@
 //! channel is closed and no two closed channels clash; the laws in `laws.rt` say so, and what closing, opening, refusing,
 //! failing and ejecting come to.
 //!
-//! Errors are answered and not kept yet, and events aren't numbered. What a relay really does is its card's own word.
+//! Events aren't numbered yet. What a relay really does is its card's own word.
 #![tactic(auto)]
 
 mod ask;

@@ -9,5 +9,6 @@ pub mod Quotes
 pub mod Blocks
 pub mod Leading
 pub mod Once
+pub mod Written
 pub mod Readings
 pub mod Meanings

@@ -104,7 +104,7 @@ one_gap text d c a b g h x y p s q t =
     let r = one_leads text d c a b p q in
     (r.0, (one_span is_blank a g x h y s (subst (λ (z : List ℕ). Spans is_blank z h y) (sym r.1) t)).1)
 
-one_next : (text : List ℕ) (d c : Datum) (x y : List ℕ) → IsNext text d x → IsNext text c y → (d ≡ c) × (x ≡ y)
+pub one_next : (text : List ℕ) (d c : Datum) (x y : List ℕ) → IsNext text d x → IsNext text c y → (d ≡ c) × (x ≡ y)
 one_next text d c x y p q =
     let r = one_gap text d c p.after q.after p.gap q.gap (44 ∷ p.others) (44 ∷ q.others) p.element p.before q.element q.before in
     let e : 44 ∷ p.others ≡ 44 ∷ q.others = r.1 in

@@ -51,6 +51,10 @@ data_of es = map datum_of es
 abbrev pub unit_of : RawUnit → UnitView
 unit_of u = record { header = heading_of u.header; query = u.query; elements = data_of u.elements.items }
 
+-- a unit as it is written
+abbrev pub written_of : RawUnit → List ℕ
+written_of u = u.text.now
+
 -- ---- bytes
 
 -- white space or the end of an empty unit
@@ -212,6 +216,38 @@ pub record IsUnit (text : List ℕ) (unit : UnitView) (rest : List ℕ) : Type 0
   pub asks : Asks after unit.query tail
   pub follows : IsTail tail unit.elements rest
   pub few : length unit.elements ≤ 16
+
+-- ---- a unit as it is written
+
+-- elements joined by commas, and what follows the last of them
+abbrev pub IsJoined : List ℕ → List Datum → List ℕ → Type 0
+IsJoined text [] left = ⊥
+IsJoined text (d ∷ []) left = Leads text d left
+IsJoined text (d ∷ c ∷ ds) left = (next : List ℕ) × IsNext text d next × IsJoined next (c ∷ ds) left
+
+-- what follows the last part of a unit: its last element, or where it has none its header and question mark
+abbrev pub IsLeft : List ℕ → List Datum → List ℕ → Type 0
+IsLeft tail [] left = left ≡ tail
+IsLeft tail (d ∷ ds) left = (gap : List ℕ) × (more : List ℕ) × Spans is_blank tail gap more × IsJoined more (d ∷ ds) left
+
+-- the first unit of a text as it is written, from its header's first byte to the last byte of its last part; what stands
+-- before it, and what follows it
+pub record IsWritten (text before : List ℕ) (unit : UnitView) (written left : List ℕ) : Type 0 where
+  pub start : List ℕ
+  pub after : List ℕ
+  pub tail : List ℕ
+  pub skipped : Spans is_gap text before start
+  pub header : Heads start unit.header after
+  pub asks : Asks after unit.query tail
+  pub ends : IsLeft tail unit.elements left
+  pub whole : start ≡ written ++ left
+
+-- white space, and the unit's end
+pub record Closes (left rest : List ℕ) : Type 0 where
+  pub gap : List ℕ
+  pub end : List ℕ
+  pub space : Spans is_blank left gap end
+  pub ends : Ends end rest
 
 -- ---- refusals: at the first byte that fits no form
 

@@ -41,7 +41,7 @@ fn kind_of_byte(b: u8) -> Option<Kind>
 }
 
 /// What stands before the rest of a text.
-fn before<'a>(text: &'a [u8], rest: &[u8]) -> &'a [u8]
+pub fn before<'a>(text: &'a [u8], rest: &[u8]) -> &'a [u8]
     requires { (front : List ℕ) × (text.now ≡ front ++ rest.now) }
     ensures { text.now ≡ result.now ++ rest.now }
 {

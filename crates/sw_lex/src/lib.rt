@@ -32,5 +32,6 @@ pub use elements::Kind;
 pub use headers::one_command;
 pub use meaning::{Resolved, every_spelling, one_meaning, resolve};
 pub use paths::Path;
+pub use runs::gaps;
 pub use table::Key;
 pub use unit::{Element, Header, RawUnit, next_unit, one_reading};

@@ -4,9 +4,9 @@ ghost use Rattle.std.specs.Prelude.{◌≡◌, ◌==◌, ◌++◌, ◌∷◌, �
 ghost use Rattle.sw_base.specs.Text.{is_blank, is_letter, is_word, AllPass, StartsOff};
 ghost use Rattle.sw_base.specs.declared.error.ScpiError.{ScpiError as Error};
 ghost use Rattle.sw_base.specs.declared.error.ScpiError.TheVariants.{SyntaxError};
-ghost use Rattle.sw_lex.specs.Unit.{UnitView, unit_of, heading_of, data_of, is_gap, fault_at, IsPath, BreaksOff, Heads, HasNoHeading, Asks, IsData, IsDataRefused, IsTail, IsTailRefused, IsUnit, IsRefused, IsBlank};
+ghost use Rattle.sw_lex.specs.Unit.{UnitView, unit_of, heading_of, data_of, is_gap, fault_at, IsPath, BreaksOff, Heads, HasNoHeading, Asks, IsData, IsDataRefused, IsTail, IsTailRefused, IsUnit, IsRefused, IsBlank, IsJoined, IsLeft, IsWritten, Closes, written_of};
 
-use crate::elements::read_element;
+use crate::elements::{before, read_element};
 use crate::runs::{end, fault_at, gaps, mnemonic, name};
 use arrayvec::ArrayVec;
 use sw_base::{ScpiError, blanks, eat};
@@ -52,6 +52,18 @@ pub struct RawUnit<'a> {
     pub query: bool,
     /// The data elements.
     pub elements: ArrayVec<Element<'a>, 16>,
+    /// The unit as it is written.
+    text: &'a [u8],
+}
+
+impl<'a> RawUnit<'a> {
+    /// The unit as it is written: from the first byte of its header to the last byte of its last part, without the white
+    /// space and separators around it. Its last part is its last element, or where it has none its question mark or header.
+    pub fn text(&self) -> &'a [u8]
+        ensures { result.now ≡ written_of self.now }
+    {
+        self.text
+    }
 }
 
 /// The mnemonics and colons at the front, and what follows them.
@@ -126,9 +138,11 @@ fn query_mark(text: &[u8]) -> (bool, &[u8])
     }
 }
 
-/// The elements up to the unit's end, and what follows it.
-fn read_data(text: &[u8]) -> Result<(ArrayVec<Element<'_>, 16>, &[u8]), ScpiError>
-    ensures ok { IfOk result (λ x. IsData text.now (data_of x.0.items) x.1.now) }
+/// The elements up to the unit's end, what follows the last of them, and what follows the end.
+fn read_data(text: &[u8]) -> Result<(ArrayVec<Element<'_>, 16>, &[u8], &[u8]), ScpiError>
+    ensures ok { IfOk result (λ x. IsData text.now (data_of x.0.items) x.2.now) }
+    ensures joined { IfOk result (λ x. IsJoined text.now (data_of x.0.items) x.1.now) }
+    ensures closes { IfOk result (λ x. Closes x.1.now x.2.now) }
     ensures few { IfOk result (λ x. length (data_of x.0.items) ≤ 16) }
     ensures err { IfErr result (λ e. IsDataRefused text.now e) }
 {
@@ -140,7 +154,7 @@ fn read_data(text: &[u8]) -> Result<(ArrayVec<Element<'_>, 16>, &[u8]), ScpiErro
         match end(more) {
             Some(others) => {
                 found.push(next);
-                return Ok((found, others));
+                return Ok((found, after, others));
             }
             None => match eat(more, b',') {
                 Some(others) => {
@@ -154,15 +168,17 @@ fn read_data(text: &[u8]) -> Result<(ArrayVec<Element<'_>, 16>, &[u8]), ScpiErro
     }
 }
 
-/// What follows a header: its data, and what follows the unit.
-fn read_tail(text: &[u8]) -> Result<(ArrayVec<Element<'_>, 16>, &[u8]), ScpiError>
-    ensures ok { IfOk result (λ x. IsTail text.now (data_of x.0.items) x.1.now) }
+/// What follows a header: its data, what follows the unit's last part, and what follows the unit.
+fn read_tail(text: &[u8]) -> Result<(ArrayVec<Element<'_>, 16>, &[u8], &[u8]), ScpiError>
+    ensures ok { IfOk result (λ x. IsTail text.now (data_of x.0.items) x.2.now) }
+    ensures left { IfOk result (λ x. IsLeft text.now (data_of x.0.items) x.1.now) }
+    ensures closes { IfOk result (λ x. Closes x.1.now x.2.now) }
     ensures few { IfOk result (λ x. length (data_of x.0.items) ≤ 16) }
     ensures err { IfErr result (λ e. IsTailRefused text.now e) }
 {
     let (gap, more) = blanks(text);
     match end(more) {
-        Some(rest) => Ok((ArrayVec::new(), rest)),
+        Some(rest) => Ok((ArrayVec::new(), text, rest)),
         None => {
             if gap.is_empty() {
                 return Err(fault_at(ScpiError::InvalidSeparator, more));
@@ -176,6 +192,7 @@ fn read_tail(text: &[u8]) -> Result<(ArrayVec<Element<'_>, 16>, &[u8]), ScpiErro
 /// (IEEE 488.2, 7.3).
 pub fn next_unit(text: &[u8]) -> Result<Option<(RawUnit<'_>, &[u8])>, ScpiError>
     ensures unit { IfOk result (λ o. IfSome o (λ x. IsUnit text.now (unit_of x.0) x.1.now)) }
+    ensures written { IfOk result (λ o. IfSome o (λ x. (before left : List ℕ) × IsWritten text.now before (unit_of x.0) (written_of x.0) left × Closes left x.1.now)) }
     ensures shorter { IfOk result (λ o. IfSome o (λ x. length x.1.now < length text.now)) }
     ensures none { IfOk result (λ o. IfNone o (IsBlank text.now)) }
     ensures refused { IfErr result (λ e. IsRefused text.now e) }
@@ -186,20 +203,23 @@ pub fn next_unit(text: &[u8]) -> Result<Option<(RawUnit<'_>, &[u8])>, ScpiError>
     }
     let (header, rest) = read_header(start)?;
     let (query, rest) = query_mark(rest);
-    let (elements, rest) = read_tail(rest)?;
+    let (elements, left, rest) = read_tail(rest)?;
     Ok(Some((
         RawUnit {
             header,
             query,
             elements,
+            text: before(start, left),
         },
         rest,
     )))
 }
 
-/// A law: no text is two units, nor refused in two ways, nor a unit and refused, nor blank and either.
+/// A law: no text is two units, nor refused in two ways, nor a unit and refused, nor blank and either; and no unit is
+/// written in two ways.
 pub fn one_reading()
     ensures units { (text : List ℕ) (u v : UnitView) (r s : List ℕ) → IsUnit text u r → IsUnit text v s → (u ≡ v) × (r ≡ s) }
+    ensures written { (text before front : List ℕ) (u : UnitView) (w v r s : List ℕ) → IsWritten text before u w r → IsWritten text front u v s → (before ≡ front) × (w ≡ v) × (r ≡ s) }
     ensures refusals { (text : List ℕ) (e f : Error) → IsRefused text e → IsRefused text f → e ≡ f }
     ensures apart { (text : List ℕ) (u : UnitView) (r : List ℕ) (e : Error) → IsUnit text u r → IsRefused text e → ⊥ }
     ensures no_unit { (text : List ℕ) (u : UnitView) (r : List ℕ) → IsBlank text → IsUnit text u r → ⊥ }

@@ -1,5 +1,6 @@
 use Rattle.sw_lex.specs.Unit.{heading_of, data_of}
 use Rattle.sw_lex.proofs.Shorter.{unit_rest}
+use Rattle.sw_lex.proofs.Written.{start_leaves}
 use Rattle.sw_lex.proofs.unit.next_unit.Goals as goal
 
 pub returns-clause-shorter : goal.returns-clause-shorter
@@ -19,3 +20,7 @@ returns-clause-shorter c =
       follows = c.in_ok-elements.ensures.ok;
       few = c.in_ok-elements.ensures.few;
     })
+
+pub before-requires : goal.before-requires
+before-requires c =
+    start_leaves _ _ _ _ _ _ _ c.in_ok-header.ensures.ok c.query_mark-query.ensures c.in_ok-elements.ensures.left

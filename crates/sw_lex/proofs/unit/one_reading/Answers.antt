@@ -1,8 +1,12 @@
 use Rattle.sw_lex.proofs.Once.{one_unit, one_refusal, unit_refused, blank_unit, blank_refused}
+use Rattle.sw_lex.proofs.Written.{one_written}
 use Rattle.sw_lex.proofs.unit.one_reading.Goals as goal
 
 pub returns-clause-units : goal.returns-clause-units
 returns-clause-units c = one_unit
+
+pub returns-clause-written : goal.returns-clause-written
+returns-clause-written c = one_written
 
 pub returns-clause-refusals : goal.returns-clause-refusals
 returns-clause-refusals c = one_refusal

@@ -2,6 +2,7 @@ use Rattle.std.proofs.Common.{subst, List, ℕ, inr, arith}
 use Rattle.std.proofs.lemmas.Result.{err_from_is_err_and}
 use Rattle.sw_base.specs.Text.{is_blank, Spans}
 use Rattle.sw_lex.proofs.Units.{reaches_more, reaches_last, data-push, stuck-refused}
+use Rattle.sw_lex.proofs.Written.{joined_last}
 use Rattle.sw_lex.proofs.unit.read_data.Goals as goal
 
 pub returns-in-Some-clause-ok : goal.returns-in-Some-clause-ok
@@ -14,6 +15,10 @@ returns-in-Some-clause-ok c =
       before = c.blanks.ensures;
       ends = c.in-Some.ensures.found;
     }))
+
+pub returns-in-Some-clause-joined : goal.returns-in-Some-clause-joined
+returns-in-Some-clause-joined c =
+    rw (c.push.ensures.items, data-push) (joined_last _ _ _ _ _ c.data.invariant.reached c.in_ok-next.ensures.ok)
 
 pub data-preserved : goal.data-preserved
 data-preserved c = record {

@@ -1,0 +1,4 @@
+pub mod Labels
+pub mod Tables
+pub mod Fillings
+pub mod Expansions

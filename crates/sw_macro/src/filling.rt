@@ -1,0 +1,128 @@
+//! Bodies of macros with their parameters put in.
+
+ghost use Rattle.std.specs.Prelude.{◌≡◌, ◌≤◌, ◌++◌, ◌∷◌, ℕ, List, None, IfOk, IfErr, length};
+ghost use Rattle.std.specs.Option.{option_map};
+ghost use Rattle.sw_base.specs.Memory.{Gives};
+ghost use Rattle.sw_base.specs.declared.error.ScpiError.TheVariants.{MacroParameterError};
+ghost use Rattle.sw_lex.specs.Unit.{datum_of, datum_text, unit_of};
+ghost use Rattle.sw_macro.specs.Filling.{is_place, parameter, led_by, filled, put_in, IsDraft};
+
+use std::alloc::{AllocError, Global};
+use sw_base::{ScpiError, cut};
+use sw_lex::{Element, RawUnit};
+
+/// The most bytes of an expansion.
+pub const LONGEST: usize = 65_536;
+
+/// Whether the byte after a `$` names a data element.
+fn is_place(b: u8) -> bool
+    ensures { result ≡ is_place b }
+{
+    b'1' <= b && b <= b'9'
+}
+
+/// An element as it is written.
+fn text_of(element: Element<'_>) -> &[u8]
+    ensures { result.now ≡ datum_text (datum_of element.entry) }
+{
+    match element {
+        Element::Number(text) => text,
+        Element::Character(text) => text,
+        Element::String(text) => text,
+        Element::Block(text) => text,
+        Element::Expression(text) => text,
+    }
+}
+
+/// The data element number `k` of a unit, from 0, as it is written.
+fn parameter<'a>(unit: &RawUnit<'a>, k: usize) -> Option<&'a [u8]>
+    ensures { option_map (λ text. text.now) result ≡ parameter (unit_of unit.now).elements k }
+{
+    match unit.elements.as_slice().get(k) {
+        None => None,
+        Some(element) => Some(text_of(*element)),
+    }
+}
+
+/// What a `$` before this byte and these others puts into a body, and what follows it; -274 for a missing element.
+fn put_for<'a>(
+    more: &'a [u8],
+    first: u8,
+    others: &'a [u8],
+    unit: &RawUnit<'a>,
+) -> Result<(&'a [u8], &'a [u8]), ScpiError>
+    requires whole { more.now ≡ first ∷ others.now }
+    ensures ok { IfOk result (λ x. filled (unit_of unit.now).elements (36 ∷ more.now) ≡ led_by x.0.now (filled (unit_of unit.now).elements x.1.now)) }
+    ensures shorter { IfOk result (λ x. length x.1.now ≤ length more.now) }
+    ensures missing { IfErr result (λ e. filled (unit_of unit.now).elements (36 ∷ more.now) ≡ None) }
+    ensures error { IfErr result (λ e. e ≡ MacroParameterError) }
+{
+    if !is_place(first) {
+        return Ok((b"$", more));
+    }
+    match parameter(unit, usize::from(first - b'1')) {
+        None => Err(ScpiError::MacroParameterError),
+        Some(bytes) => Ok((bytes, others)),
+    }
+}
+
+/// What a `$` before these bytes puts into a body, and what follows it; -274 for a missing element.
+fn put_at_mark<'a>(more: &'a [u8], unit: &RawUnit<'a>) -> Result<(&'a [u8], &'a [u8]), ScpiError>
+    ensures ok { IfOk result (λ x. filled (unit_of unit.now).elements (36 ∷ more.now) ≡ led_by x.0.now (filled (unit_of unit.now).elements x.1.now)) }
+    ensures shorter { IfOk result (λ x. length x.1.now ≤ length more.now) }
+    ensures missing { IfErr result (λ e. filled (unit_of unit.now).elements (36 ∷ more.now) ≡ None) }
+    ensures error { IfErr result (λ e. e ≡ MacroParameterError) }
+{
+    match more {
+        [] => Ok((b"$", more)),
+        [first, others @ ..] => put_for(more, *first, others, unit),
+    }
+}
+
+/// Appends the bytes where there is room for so many more, and gives the room that is left; none where there isn't enough.
+fn put(text: &mut Vec<u8>, bytes: &[u8], room: Option<usize>) -> Result<Option<usize>, AllocError>
+    ensures { (n : ℕ) (whole : List ℕ) → IsDraft n whole text.old.items room → IfOk result (λ left. IsDraft n (whole ++ bytes.now) text.new.items left) }
+{
+    match room {
+        None => Ok(None),
+        Some(room) => {
+            if bytes.len() > room {
+                return Ok(None);
+            }
+            text.extend_from_slice(bytes)?;
+            Ok(Some(room - bytes.len()))
+        }
+    }
+}
+
+/// A body with each `$1` to `$9` replaced by that data element of the unit, where so many bytes stand before it.
+///
+/// -274 where an element is missing, else -276 where it all comes to more than 65,536 bytes. No more than that is kept.
+pub fn fill<'a>(
+    alloc: Global,
+    body: &'a [u8],
+    unit: &RawUnit<'a>,
+    before: usize,
+) -> Result<Vec<u8>, ScpiError>
+    ensures { Gives (λ text. text.items) result (put_in (unit_of unit.now).elements body.now before) }
+{
+    let mut text = Vec::new(alloc);
+    let mut room = LONGEST.checked_sub(before);
+    let mut rest = body;
+    'parts: loop {
+        match cut(rest, b'$') {
+            None => {
+                return match put(&mut text, rest, room)? {
+                    None => Err(ScpiError::MacroRecursionError),
+                    Some(_) => Ok(text),
+                };
+            }
+            Some((front, more)) => {
+                let (bytes, others) = put_at_mark(more, unit)?;
+                room = put(&mut text, front, room)?;
+                room = put(&mut text, bytes, room)?;
+                rest = others;
+            }
+        }
+    }
+}
