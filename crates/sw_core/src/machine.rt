@@ -155,7 +155,10 @@ impl<R: Relay, M: Meter> Core<R, M> {
             Command::VersionQuery => told(version(alloc)),
             Command::CloseState => self.close_state(alloc),
             Command::ScanQuery => self.scan_query(alloc),
-            Command::SourceQuery(layer) => told(source_word(alloc, self.settings.layer(layer).source)),
+            Command::SourceQuery(layer) => told(source_word(
+                alloc,
+                self.settings.layer(layer).source,
+            )),
             Command::DelayQuery(layer) => told(seconds(alloc, self.settings.layer(layer).delay_us)),
             Command::EventQuery => self.event_query(alloc),
             Command::GroupEventQuery(group) => self.group_event_query(alloc, group),
