@@ -9,14 +9,17 @@
 #![tactic(auto)]
 
 mod ask;
+mod asks;
 mod event;
 mod laws;
 mod machine;
 mod registers;
 mod relays;
+mod scans;
 mod sessions;
 mod text;
+mod units;
 
-pub use ask::{Answer, Ask, SessionAnswer, SessionAsk, Sid};
+pub use ask::{Answer, Ask, SessionAnswer, SessionAsk, Sid, Work};
 pub use laws::{every_run_is_exclusive, relays_obey, step_is_determined};
 pub use machine::Core;

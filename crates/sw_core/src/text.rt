@@ -2,14 +2,15 @@
 
 ghost use Rattle.std.specs.Prelude.{◌≡◌, ◌<◌, ◌∷◌, [], ◌++◌, List, ℕ, length, IfOk, OnOk, map, decimal};
 ghost use Rattle.std.specs.List.{join_with_byte};
-ghost use Rattle.sw_base.specs.Reading.{fixed};
+ghost use Rattle.sw_base.specs.Reading.{fixed, reading_text};
 ghost use Rattle.sw_cage.specs.Rack.{is_closed};
 ghost use Rattle.sw_core.specs.Answers.{identity, version, flag_of, as_asked, entry, entry_of, no_error, oldest_entry, all_entries, source_word, IsRow, IsOpen, Tells};
 
 use crate::ask::SessionAnswer;
 use std::alloc::{AllocError, Global};
 use sw_base::{
-    Chan, NO_ERROR, ScpiError, Sequence, Source, print_micros, print_number, print_signed,
+    Chan, NO_ERROR, Reading, ScpiError, Sequence, Source, print_micros, print_number,
+    print_reading, print_signed,
 };
 use sw_cage::Cage;
 use sw_card::{Meter, Relay};
@@ -115,6 +116,20 @@ pub fn all_entries(alloc: Global, errors: &[ScpiError]) -> Result<Sequence<u8>, 
     for error in errors {
         separate(&mut text)?;
         add_entry(&mut text, *error)?;
+    }
+    Ok(Sequence::new(text))
+}
+
+/// The readings, joined by commas.
+pub fn all_readings(alloc: Global, readings: &[Reading]) -> Result<Sequence<u8>, AllocError>
+    ensures { IfOk result (λ text. text ≡ join_with_byte 44 (map reading_text readings.now)) }
+{
+    let mut text = Vec::with_capacity(alloc, readings.len())?;
+    let mut buffer = [0; 32];
+    for reading in readings {
+        separate(&mut text)?;
+        let end = print_reading(*reading, &mut buffer);
+        text.extend_from_slice(&buffer[..end])?;
     }
     Ok(Sequence::new(text))
 }
