@@ -222,14 +222,169 @@ fn a_full_error_queue(rt: HostRuntime) -> Result<(), Fail> {
 }
 
 #[test]
-fn no_trigger_is_awaited(rt: HostRuntime) -> Result<(), Fail> {
+fn operations_are_complete_at_once(rt: HostRuntime) -> Result<(), Fail> {
+    check(
+        &rt,
+        rt.alloc(),
+        None,
+        &[("*OPC?;*OPC;*ESR?;*WAI;*TST?", "1;129;0")],
+    )
+}
+
+#[test]
+fn a_scan_of_three_readings(rt: HostRuntime) -> Result<(), Fail> {
+    check(
+        &rt,
+        rt.alloc(),
+        None,
+        &[(
+            "ROUT:SCAN (@1!1,1!2);:TRIG:COUN 3;:INIT;*OPC?;:FETC?",
+            "1;1.000000000,1.000000001,1.000000002",
+        )],
+    )
+}
+
+#[test]
+fn a_scan_that_the_bus_triggers(rt: HostRuntime) -> Result<(), Fail> {
+    check(
+        &rt,
+        rt.alloc(),
+        None,
+        &[
+            (
+                "ROUT:SCAN (@1!1);:ARM:COUN 2;SOUR BUS;:TRIG:COUN 3;DEL 0.5;:DIAG:SCAN:BOUN?",
+                "14",
+            ),
+            ("INIT", ""),
+            ("STAT:OPER:COND?", "64"),
+            ("*TRG", ""),
+            ("TRAC:POIN:ACT?;:STAT:OPER:COND?", "3;64"),
+            ("*TRG", ""),
+            ("TRAC:POIN:ACT?;:STAT:OPER:COND?", "6;0"),
+        ],
+    )
+}
+
+#[test]
+fn more_readings_than_points(rt: HostRuntime) -> Result<(), Fail> {
+    check(
+        &rt,
+        rt.alloc(),
+        None,
+        &[
+            (
+                "ROUT:SCAN (@1!1);:ARM:COUN 2;SOUR BUS;:TRIG:COUN 3;DEL 0.5;:DIAG:SCAN:BOUN?",
+                "14",
+            ),
+            (
+                "TRAC:POIN 5;:INIT;:SYST:ERR?",
+                "-221,\"Settings conflict\"",
+            ),
+            ("TRAC:POIN 6;:INIT;:SYST:ERR?", "0,\"No error\""),
+        ],
+    )
+}
+
+#[test]
+fn scans_that_may_not_begin(rt: HostRuntime) -> Result<(), Fail> {
+    check(
+        &rt,
+        rt.alloc(),
+        None,
+        &[
+            ("INIT", ""),
+            ("SYST:ERR?", "-221,\"Settings conflict\""),
+            ("ROUT:SCAN (@1!1);SCAN:MET 2;:INIT", ""),
+            ("SYST:ERR?", "-241,\"Hardware missing\""),
+            ("ROUT:SCAN:MET 4;:ROUT:CLOS (@3!2);:INIT", ""),
+            ("SYST:ERR?", "-221,\"Settings conflict\""),
+            ("ROUT:OPEN:ALL;:INIT;*OPC?", "1"),
+        ],
+    )?;
+    check(
+        &rt,
+        rt.alloc(),
+        None,
+        &[
+            ("ROUT:SCAN (@1!1,5!1);:INIT;*OPC?", "1"),
+            (
+                "TRIG:COUN 2;:INIT;:SYST:ERR?",
+                "-241,\"Hardware missing\"",
+            ),
+        ],
+    )
+}
+
+#[test]
+fn happenings_that_no_scan_takes(rt: HostRuntime) -> Result<(), Fail> {
     check(
         &rt,
         rt.alloc(),
         None,
         &[
             ("*TRG;:SYST:ERR?", "-211,\"Trigger ignored\""),
-            ("*OPC?;*OPC;*ESR?;*WAI;*TST?", "1;145;0"),
+            (
+                "ROUT:SCAN (@1!1);:TRIG:SOUR BUS;:INIT;:INIT;:SYST:ERR?",
+                "-213,\"Init ignored\"",
+            ),
+            ("ARM:SIGN;:SYST:ERR?", "-212,\"Arm ignored\""),
+            ("ROUT:CLOS (@2!1);:SYST:ERR?", "-221,\"Settings conflict\""),
+            ("*OPC;*ESR?;:ABOR;*ESR?", "144;1"),
+        ],
+    )
+}
+
+#[test]
+fn a_meter_that_is_out(rt: HostRuntime) -> Result<(), Fail> {
+    check(
+        &rt,
+        rt.alloc(),
+        None,
+        &[
+            (
+                "ROUT:SCAN (@1!1);:INIT;:ABOR;:INIT;:SYST:ERR?",
+                "-221,\"Settings conflict\"",
+            ),
+            ("TRAC:POIN:ACT?", "0"),
+            ("INIT;*OPC?;:FETC?", "1;1.000000001"),
+        ],
+    )
+}
+
+#[test]
+fn a_wait_that_is_given_up(rt: HostRuntime) -> Result<(), Fail> {
+    check(
+        &rt,
+        rt.alloc(),
+        None,
+        &[
+            ("FETC?;:SYST:ERR?", "-230,\"Data corrupt or stale\""),
+            ("ROUT:SCAN (@1!1);:TRIG:SOUR BUS;:INIT", ""),
+            ("*WAI;:SYST:ERR?", "-221,\"Settings conflict\""),
+        ],
+    )
+}
+
+#[test]
+fn a_closing_fails_in_a_scan(rt: HostRuntime) -> Result<(), Fail> {
+    check(
+        &rt,
+        rt.alloc(),
+        Some(2),
+        &[
+            (
+                "ROUT:SCAN (@1!1,1!2);:TRIG:COUN 3;:INIT;*OPC?;:FETC?",
+                "1;1.000000000",
+            ),
+            (
+                "SYST:ERR?;:STAT:QUES:COND?;:ROUT:CLOS:STAT?",
+                "-240,\"Hardware error\";512;(@)",
+            ),
+            (
+                "INIT;*OPC?;:FETC?",
+                "1;1.000000001,1.000000002,1.000000003",
+            ),
+            ("STAT:QUES:COND?", "0"),
         ],
     )
 }

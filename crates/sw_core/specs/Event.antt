@@ -8,8 +8,7 @@ use Rattle.sw_trigger.specs.declared.layer.Awaited.{Awaited}
 use Rattle.sw_trigger.specs.declared.layer.Awaited.TheVariants.{Wait, Pause, Read}
 use Rattle.sw_status.specs.Registers.{group_conditioned}
 use Rattle.sw_status.specs.StatusModel.{StatusSeen, pushed, with_bit, with_group, event_ended}
-use Rattle.sw_cage.specs.Cage.{Scanning, CageSeen}
-use Rattle.sw_cage.specs.Advance.{awaits}
+use Rattle.sw_cage.specs.Advance.{awaited_now}
 use Rattle.sw_core.specs.declared.ask.SessionAnswer.{SessionAnswer}
 use Rattle.sw_core.specs.declared.ask.SessionAnswer.TheVariants.{Joined, Full, Stranger, Broken, Done, Snapshot, Refused, Hold, Worn}
 use Rattle.sw_core.specs.Panel.{Panel, is_running}
@@ -23,10 +22,6 @@ awaited_bits (Some (Wait Arm1)) = 64
 awaited_bits (Some (Wait Arm2)) = 64
 awaited_bits (Some (Pause micros)) = 0
 awaited_bits None = 0
-
-abbrev pub scan_bits : Option Scanning → ℕ
-scan_bits (Some at) = awaited_bits (awaits at)
-scan_bits None = 0
 
 abbrev pub with_operation : StatusSeen → ℕ → StatusSeen
 with_operation s bits = with_group s Operation (group_conditioned s.operation bits)
@@ -43,7 +38,7 @@ last_number = 2 ^ 64 - 1
 -- not, and the event is counted.
 abbrev pub ended : Panel → Panel
 ended p = record p {
-  status = event_ended (with_operation (completed p.status (p.pending && not (is_running p))) (scan_bits p.cage.scan));
+  status = event_ended (with_operation (completed p.status (p.pending && not (is_running p))) (awaited_bits (awaited_now p.cage.scan)));
   pending = p.pending && is_running p;
   events = min last_number (p.events + 1);
 }

@@ -1,5 +1,5 @@
 -- What one ask may be answered, and what state it leaves: one line for each legal pair.
-use Rattle.std.specs.Prelude.{◌≡◌, ◌≢◌, ℕ, ◌+◌, ◌-◌, ◌≤◌, ◌<◌, ◌==◌, ◌&&◌, not, Bool, true, false, List, [], ◌∷◌, length, Option, None, Some, slice_set, map, decimal, is_some, MatchBool, ◌⊎◌, Result, Ok, Err}
+use Rattle.std.specs.Prelude.{◌≡◌, ◌≢◌, ℕ, ◌+◌, ◌-◌, ◌≤◌, ◌<◌, ◌==◌, ◌&&◌, not, Bool, true, false, List, [], ◌∷◌, length, Option, None, Some, slice_set, map, decimal, is_some, MatchBool, ◌⊎◌, Result, Ok, Err, if◌then◌else◌}
 use Rattle.std.specs.List.{join_with_byte}
 use Rattle.sw_base.specs.Layout.{Channel, slot_at}
 use Rattle.sw_base.specs.Reading.{fixed, reading_text}
@@ -204,10 +204,14 @@ work_of (SaysPause ticket micros) = Some (Pauses ticket micros)
 work_of (SaysJob job) = Some (Measures job)
 work_of told = None
 
--- the cage told of its scan: where a card failed, every relay is open by it, and QUEStionable tells of it
+-- a card failed on the way
+abbrev pub is_fault : TakenSeen → Bool
+is_fault SaysFault = true
+is_fault told = false
+
+-- the cage went on, and QUEStionable tells of a card that failed on the way
 abbrev pub Tolls : Panel → CageSeen → TakenSeen → Bool → Panel → Type 0
-Tolls p cage SaysFault f q = (f ≡ true) × (q ≡ record p { cage = cage; status = alarmed p.status })
-Tolls p cage told f q = (f ≡ false) × (q ≡ record p { cage = cage })
+Tolls p cage told f q = (f ≡ is_fault told) × (q ≡ record p { cage = cage; status = if is_fault told then alarmed p.status else p.status })
 
 -- a happening is offered to the scan (SCPI-1999, 24)
 abbrev pub Happens : Panel → Happening → Bool → TakenSeen → Panel → Type 0
@@ -264,11 +268,11 @@ StepSnapshot p f (Refused OutOfMemory) q = (f ≡ false) × MayScan p × (q ≡ 
 StepSnapshot p f (Refused e) q = (f ≡ false) × RefusesScan p e × (q ≡ p)
 StepSnapshot p f answer q = ⊥
 
--- The scan of a plan began: the cage went from before the first item of its agenda, and no card's failure is told of,
+-- The scan of a plan began: the cage went from before the first item of its agenda. No card's failure is told of any more,
 -- unless one came on the way.
 abbrev pub Starts : Panel → Snapshot → Bool → TakenSeen → Panel → Type 0
-Starts p plan f SaysFault q = (f ≡ true) × (plan ≡ snapshot_of p) × Goes (begun p.cage) p.settings 0 SaysFault q.cage × (q ≡ record p { cage = q.cage; status = alarmed p.status })
-Starts p plan f told q = (f ≡ false) × (plan ≡ snapshot_of p) × Goes (begun p.cage) p.settings 0 told q.cage × (q ≡ record p { cage = q.cage; status = calmed p.status })
+Starts p plan f told q = (f ≡ is_fault told) × (plan ≡ snapshot_of p) × Goes (begun p.cage) p.settings 0 told q.cage
+    × (q ≡ record p { cage = q.cage; status = if is_fault told then alarmed p.status else calmed p.status })
 
 pub record IsStarted (p : Panel) (plan : Snapshot) (f : Bool) (work : Option WorkView) (q : Panel) : Type 0 where
   pub told : TakenSeen

@@ -17,6 +17,8 @@ mod registers;
 mod relays;
 mod scans;
 mod sessions;
+#[cfg(test)]
+mod tests;
 mod text;
 mod units;
 

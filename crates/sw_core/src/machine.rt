@@ -193,7 +193,7 @@ impl<R: Relay, M: Meter> Core<R, M> {
     ) -> (SessionAnswer, Option<Work<M>>)
         ensures { StepCommand (is_running self.old && waits_for_idle command) self.old (Ask.Unit sid command answered) answered command (any_failed self.old.cage.rack self.new.cage.rack) result.0 (work_view result.1) self.new }
     {
-        if self.cage.is_running() && waits_for_idle(&command) {
+        if !self.cage.is_idle() && waits_for_idle(&command) {
             return (
                 SessionAnswer::Hold(SessionAsk::Unit(sid, command, answered)),
                 None,

@@ -1,10 +1,10 @@
 //! Scans: their beginning, what happens to them, and the meters that return.
 
-ghost use Rattle.std.specs.Prelude.{◌≡◌, ◌||◌, Bool, IfSome, IfNone, None, Some, false};
+ghost use Rattle.std.specs.Prelude.{◌≡◌, ◌||◌, Bool, IfOk, IfSome, IfNone, None, Some, false};
 ghost use Rattle.sw_cage.specs.Change.{any_failed};
 ghost use Rattle.sw_cage.specs.TakenSeen.{taken_seen};
 ghost use Rattle.sw_core.specs.View.{work_view, answer_view, took_failure, AskFinished, HandsBack};
-ghost use Rattle.sw_core.specs.Step.{Happens, StepHappens, StepOutside, StepFinished, StepSnapshot, StepStart, RefusesScan, MayScan, Starts, session_told, work_of, happening_of};
+ghost use Rattle.sw_core.specs.Step.{Happens, StepHappens, StepOutside, StepFinished, StepSnapshot, StepStart, RefusesScan, MayScan, Starts, session_told, work_of, is_fault, snapshot_of, happening_of};
 
 use crate::ask::{Answer, SessionAnswer, Work};
 use crate::machine::Core;
@@ -58,13 +58,23 @@ fn session_told<M: Meter>(told: &Taken<M>, error: ScpiError) -> SessionAnswer
     }
 }
 
+/// Whether a card failed on the way.
+fn is_fault<M: Meter>(told: &Taken<M>) -> bool
+    ensures { result ≡ is_fault (taken_seen told.now) }
+{
+    match told {
+        Taken::Fault => true,
+        _ => false,
+    }
+}
+
 impl<R: Relay, M: Meter> Core<R, M> {
     /// Offers a happening to the scan.
     fn happens(&mut self, happening: Happening) -> Taken<M>
         ensures { Happens self.old happening (any_failed self.old.cage.rack self.new.cage.rack) (taken_seen result) self.new }
     {
         let told = self.cage.take(happening);
-        if told.is_fault() {
+        if is_fault(&told) {
             alarm(&mut self.status);
         }
         told
@@ -115,7 +125,7 @@ impl<R: Relay, M: Meter> Core<R, M> {
         ensures error { IfSome result (λ e. RefusesScan self.now e) }
         ensures none { IfNone result (MayScan self.now) }
     {
-        if self.cage.is_running() {
+        if !self.cage.is_idle() {
             return Some(ScpiError::InitIgnored);
         }
         if self.cage.has_out(self.settings.meter()) {

@@ -1,0 +1,6 @@
+//! temporary
+
+#[test]
+fn nothing(rt: HostRuntime) {
+    assert!(rt; true);
+}
