@@ -4,3 +4,4 @@ pub mod Orders
 pub mod Claiming
 pub mod Laws
 mod Calls
+pub mod Walks

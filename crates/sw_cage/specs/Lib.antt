@@ -5,3 +5,5 @@ pub mod Close
 pub mod Claims
 pub mod Channels
 pub mod Cage
+pub mod Advance
+pub mod Walk

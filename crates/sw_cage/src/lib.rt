@@ -15,6 +15,7 @@ mod refusal;
 mod slots;
 #[cfg(test)]
 mod tests;
+mod walk;
 
 pub use cage::Cage;
 pub use refusal::{CloseRefusal, EjectRefusal, InstallRefusal};
