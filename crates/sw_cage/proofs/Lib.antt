@@ -5,3 +5,6 @@ pub mod Claiming
 pub mod Laws
 mod Calls
 pub mod Walks
+pub mod Placed
+pub mod Layouts
+pub mod Held

@@ -7,3 +7,9 @@ pub mod Channels
 pub mod Cage
 pub mod Advance
 pub mod Walk
+pub mod Work
+pub mod ScanSeen
+pub mod Good
+pub mod TakenSeen
+pub mod Takes
+pub mod Goes

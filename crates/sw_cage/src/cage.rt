@@ -1,20 +1,24 @@
 //! The cage as the layers above see it.
 
-ghost use Rattle.std.specs.Prelude.{◌≡◌, ℕ, ◌-◌, List, [], ◌∷◌, Bool, true, false, None, Some, OnOk, OnErr, IfOk, IfErr, slice_set, replicate};
+ghost use Rattle.std.specs.Prelude.{◌≡◌, ℕ, ◌-◌, ◌≤◌, List, [], ◌∷◌, Bool, true, false, None, Some, IsOk, OnOk, OnErr, IfOk, IfErr, slice_set, is_some};
 ghost use Rattle.sw_base.specs.Layout.{Channel, slot_at, is_present, IsClash};
 ghost use Rattle.sw_card.specs.Account.{closed_at};
 ghost use Rattle.sw_cage.specs.Rack.{layout_of, is_closed, with_chan, option_rest, all_open, IsRackFault};
 ghost use Rattle.sw_cage.specs.Change.{Sets, IsDisturbed};
-ghost use Rattle.sw_cage.specs.Install.{CanInstall, RefusesInstall, RefusesEject};
+ghost use Rattle.sw_cage.specs.Install.{CanInstall, RefusesInstall, RefusesEject, stopped, without_card};
 ghost use Rattle.sw_cage.specs.Close.{all_present, CanClose, RefusesClose};
 ghost use Rattle.sw_cage.specs.Channels.{closed_list};
+ghost use Rattle.sw_cage.specs.Cage.{empty_cage, with_rack, fall, cage_layout};
 
 use crate::refusal::{CloseRefusal, EjectRefusal, InstallRefusal};
+use crate::scan::Scan;
 use crate::slots::Slots;
+use crate::tickets::Tickets;
 use std::alloc::{AllocError, Global};
 use std::marker::Model;
-use sw_base::Chan;
+use sw_base::{Chan, Reading};
 use sw_card::{Card, CardFault, Meter, Relay};
+use sw_verify::{Layout, Slot};
 
 /// Eight slots, numbered from 1, that hold relay and meter cards.
 ///
@@ -22,23 +26,42 @@ use sw_card::{Card, CardFault, Meter, Relay};
 #[derive(Drop)]
 pub struct Cage<R: Relay, M: Meter> {
     slots: Slots<R, M>,
+    out: Tickets,
+    number: u64,
+    scan: Option<Scan>,
+    readings: Vec<Reading>,
 }
 
 impl<R: Relay, M: Meter> Model for Cage<R, M> {
+    ghost use Rattle.std.specs.Prelude.{vec_capacity};
     ghost use Rattle.sw_cage.specs.Cage.{CageSeen};
+    ghost use Rattle.sw_cage.specs.Good.{IsKept};
 
     ghost Value = { CageSeen };
 
-    ghost view = { λ c. record { rack = c.slots } };
+    ghost view = { λ c. record { rack = c.slots; out = c.out; number = c.number; scan = c.scan; readings = c.readings.items } };
+
+    ghost invariant = { λ c. IsKept (record { rack = c.slots; out = c.out; number = c.number; scan = c.scan; readings = c.readings.items }) (vec_capacity c.readings) };
 }
 
 impl<R: Relay, M: Meter> Cage<R, M> {
     /// An empty cage.
     pub fn new(alloc: Global) -> Result<Self, AllocError>
-        ensures { IfOk result (λ cage. cage ≡ record { rack = replicate 8 None }) }
+        ensures { IfOk result (λ cage. cage ≡ empty_cage) }
+    {
+        Cage::with_number(alloc, 0)
+    }
+
+    /// An empty cage that counts its scans on from this number.
+    pub fn with_number(alloc: Global, number: u64) -> Result<Self, AllocError>
+        ensures { IfOk result (λ cage. cage ≡ record empty_cage { number = number }) }
     {
         Ok(Cage {
             slots: Slots::new(alloc)?,
+            out: Tickets::new(),
+            number,
+            scan: None,
+            readings: Vec::new(alloc),
         })
     }
 
@@ -50,48 +73,90 @@ impl<R: Relay, M: Meter> Cage<R, M> {
     ) -> Result<(), (InstallRefusal, Card<R, M>)>
         ensures ok { OnOk result (self.new ≡ record self.old { rack = slice_set self.old.rack (slot - 1) (Some card.1) }) }
         ensures accepted { OnOk result (CanInstall self.old.rack slot card.1) }
-        ensures refused { IfErr result (λ refusal. RefusesInstall self.old.rack slot card.1 refusal.0) }
+        ensures free { OnOk result ((self.old.scan ≡ None) × (slot_at self.old.out slot ≡ None)) }
+        ensures refused { IfErr result (λ refusal. RefusesInstall self.old slot card.1 refusal.0) }
         ensures err { OnErr result (self.new ≡ self.old) }
         ensures back { IfErr result (λ refusal. refusal.1 ≡ card) }
     {
+        if self.scan.is_some() {
+            return Err((InstallRefusal::Busy, card));
+        }
+        if self.out.at(slot).is_some() {
+            return Err((InstallRefusal::Occupied, card));
+        }
         self.slots.install(slot, card)
     }
 
-    /// Opens the card's relays and takes it out.
+    /// Opens the card's relays and takes it out; a scan that runs is ended first, as by [`Cage::abort`].
     pub fn eject(&mut self, slot: u8) -> Result<Card<R, M>, EjectRefusal>
         ensures ok { IfOk result (λ card. option_rest (slot_at self.old.rack slot) ≡ Some card.1) }
         ensures open { IfOk result (λ card. (ch : ℕ) → closed_at card.1.closed ch ≡ false) }
-        ensures taken { OnOk result (self.new ≡ record self.old { rack = slice_set self.old.rack (slot - 1) None }) }
-        ensures refused { IfErr result (λ refusal. RefusesEject self.old.rack slot refusal) }
+        ensures taken { OnOk result (self.new ≡ without_card (stopped self.old) slot) }
+        ensures refused { IfErr result (λ refusal. RefusesEject self.old slot refusal) }
         ensures err { OnErr result (self.new ≡ self.old) }
+    {
+        if self.out.at(slot).is_some() {
+            return Err(EjectRefusal::Out);
+        }
+        if !self.slots.has_card(slot) {
+            return Err(EjectRefusal::Vacant);
+        }
+        if self.scan.is_some() {
+            self.abort();
+        }
+        self.take_card(slot)
+    }
+
+    /// Opens the card's relays and takes it out of the slot, which has one.
+    fn take_card(&mut self, slot: u8) -> Result<Card<R, M>, EjectRefusal>
+        requires idle { self.old.scan ≡ None }
+        requires home { slot_at self.old.out slot ≡ None }
+        requires card { is_some (slot_at self.old.rack slot) ≡ true }
+        ensures card { IfOk result (λ card. option_rest (slot_at self.old.rack slot) ≡ Some card.1) }
+        ensures open { IfOk result (λ card. (ch : ℕ) → closed_at card.1.closed ch ≡ false) }
+        ensures taken { self.new ≡ without_card self.old slot }
+        ensures there { IsOk result }
     {
         self.slots.eject(slot)
     }
 
-    /// Closes one channel that clashes with no closed one, over all slots.
+    /// Ends the scan that runs, if one does, and opens every relay of every card. It cannot fail.
+    pub fn abort(&mut self)
+        ensures { self.new ≡ fall self.old }
+    {
+        self.slots.open_all();
+        self.scan = None;
+    }
+
+    /// Closes one channel that clashes with no closed one, over all slots. No scan may run.
     pub fn close(&mut self, chan: Chan) -> Result<(), CardFault>
+        requires idle { self.old.scan ≡ None }
         requires present { is_present (layout_of self.old.rack) chan ≡ true }
         requires open { is_closed self.old.rack chan ≡ false }
         requires apart { (c : Channel) → is_closed self.old.rack c ≡ true → IsClash (layout_of self.old.rack) chan c → ⊥ }
         ensures ok { OnOk result (Sets self.old.rack (chan ∷ []) true self.new.rack) }
         ensures err { OnErr result (IsRackFault self.old.rack chan (with_chan self.old.rack chan true) self.new.rack) }
         ensures disturbed { OnErr result (IsDisturbed self.old.rack (chan ∷ []) self.new.rack) }
+        ensures rest { self.new ≡ with_rack self.old self.new.rack }
     {
         self.slots.close(chan)
     }
 
-    /// Opens one channel.
+    /// Opens one channel. No scan may run.
     pub fn open(&mut self, chan: Chan) -> Result<(), CardFault>
-        requires { is_closed self.old.rack chan ≡ true }
+        requires idle { self.old.scan ≡ None }
+        requires closed { is_closed self.old.rack chan ≡ true }
         ensures ok { OnOk result (Sets self.old.rack (chan ∷ []) false self.new.rack) }
         ensures err { OnErr result (IsRackFault self.old.rack chan self.old.rack self.new.rack) }
         ensures disturbed { OnErr result (IsDisturbed self.old.rack (chan ∷ []) self.new.rack) }
+        ensures rest { self.new ≡ with_rack self.old self.new.rack }
     {
         self.slots.open(chan)
     }
 
-    /// Opens every relay of every card. It cannot fail.
+    /// Opens every relay of every card. It cannot fail. No scan may run.
     pub fn open_all(&mut self)
+        requires idle { self.old.scan ≡ None }
         ensures { self.new ≡ record self.old { rack = all_open self.old.rack } }
     {
         self.slots.open_all();
@@ -126,19 +191,23 @@ impl<R: Relay, M: Meter> Cage<R, M> {
         self.slots.judge(chans)
     }
 
-    /// Closes the channels that are open, in order. It stops at the first fault.
+    /// Closes the channels that are open, in order. It stops at the first fault. No scan may run.
     pub fn close_all(&mut self, chans: &[Chan]) -> Result<(), CardFault>
-        requires { CanClose (layout_of self.old.rack) (is_closed self.old.rack) chans.now }
+        requires idle { self.old.scan ≡ None }
+        requires apart { CanClose (layout_of self.old.rack) (is_closed self.old.rack) chans.now }
         ensures ok { OnOk result (Sets self.old.rack chans.now true self.new.rack) }
         ensures err { OnErr result (IsDisturbed self.old.rack chans.now self.new.rack) }
+        ensures rest { self.new ≡ with_rack self.old self.new.rack }
     {
         self.slots.close_all(chans)
     }
 
-    /// Opens the channels that are closed, in order. It stops at the first fault.
+    /// Opens the channels that are closed, in order. It stops at the first fault. No scan may run.
     pub fn open_listed(&mut self, chans: &[Chan]) -> Result<(), CardFault>
+        requires idle { self.old.scan ≡ None }
         ensures ok { OnOk result (Sets self.old.rack chans.now false self.new.rack) }
         ensures err { OnErr result (IsDisturbed self.old.rack chans.now self.new.rack) }
+        ensures rest { self.new ≡ with_rack self.old self.new.rack }
     {
         self.slots.open_listed(chans)
     }
@@ -148,5 +217,57 @@ impl<R: Relay, M: Meter> Cage<R, M> {
         ensures { IfOk result (λ chans. chans.items ≡ closed_list self.now.rack) }
     {
         self.slots.closed_chans(alloc)
+    }
+
+    /// The cards by slot; a meter that is out counts as its slot's.
+    pub fn layout(&self, alloc: Global) -> Result<Layout, AllocError>
+        ensures { IfOk result (λ layout. layout ≡ cage_layout self.now) }
+    {
+        let _ = &self.slots;
+        let mut bays = Vec::with_capacity(alloc, 8)?;
+        for before in 0..8u8 {
+            bays.push(self.bay(alloc, before + 1)?)?;
+        }
+        Ok(Layout::new(bays))
+    }
+
+    /// What the slot holds, where a meter that is out counts as the slot's.
+    fn bay(&self, alloc: Global, slot: u8) -> Result<Slot, AllocError>
+        requires { (1 ≤ slot) × (slot ≤ 8) }
+        ensures { IfOk result (λ bay. bay ≡ slot_at (cage_layout self.now) slot) }
+    {
+        if self.out.at(slot).is_some() {
+            return Ok(Slot::meter());
+        }
+        self.slots.bay(alloc, slot)
+    }
+
+    /// Whether the slot's meter is out.
+    pub fn has_out(&self, slot: u8) -> bool
+        ensures { result ≡ is_some (slot_at self.now.out slot) }
+    {
+        self.out.at(slot).is_some()
+    }
+
+    /// How many scans have begun.
+    pub fn number(&self) -> u64
+        ensures { result ≡ self.now.number }
+    {
+        self.number
+    }
+
+    /// The readings of the last scan, the oldest first.
+    pub fn readings(&self) -> &[Reading]
+        ensures { result.now ≡ self.now.readings }
+    {
+        self.readings.as_slice()
+    }
+
+    /// Drops the readings. No scan may run.
+    pub fn reset_readings(&mut self)
+        requires idle { self.old.scan ≡ None }
+        ensures { self.new ≡ record self.old { readings = [] } }
+    {
+        self.readings.clear();
     }
 }

@@ -11,11 +11,17 @@
 
 mod cage;
 mod claims;
+mod job;
 mod refusal;
+mod scan;
 mod slots;
+mod taken;
 #[cfg(test)]
 mod tests;
+mod tickets;
 mod walk;
 
 pub use cage::Cage;
+pub use job::{Finished, Job, Ticket};
 pub use refusal::{CloseRefusal, EjectRefusal, InstallRefusal};
+pub use taken::{Happening, Taken};
