@@ -8,3 +8,8 @@ pub mod Walks
 pub mod Placed
 pub mod Layouts
 pub mod Held
+pub mod Moving
+pub mod Underway
+pub mod Runs
+pub mod Among
+pub mod Happens

@@ -13,3 +13,4 @@ pub mod Good
 pub mod TakenSeen
 pub mod Takes
 pub mod Goes
+pub mod Moves

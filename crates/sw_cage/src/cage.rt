@@ -1,6 +1,6 @@
 //! The cage as the layers above see it.
 
-ghost use Rattle.std.specs.Prelude.{◌≡◌, ℕ, ◌-◌, ◌≤◌, List, [], ◌∷◌, Bool, true, false, None, Some, IsOk, OnOk, OnErr, IfOk, IfErr, slice_set, is_some};
+ghost use Rattle.std.specs.Prelude.{◌≡◌, ℕ, ◌-◌, ◌≤◌, List, [], ◌∷◌, Bool, true, false, None, Some, IsOk, OnOk, OnErr, IfOk, IfErr, slice_set, is_some, ◌↔◌, IsTrue, ◌+◌, ◌<◌, ◌^◌};
 ghost use Rattle.sw_base.specs.Layout.{Channel, slot_at, is_present, IsClash};
 ghost use Rattle.sw_card.specs.Account.{closed_at};
 ghost use Rattle.sw_cage.specs.Rack.{layout_of, is_closed, with_chan, option_rest, all_open, IsRackFault};
@@ -9,16 +9,24 @@ ghost use Rattle.sw_cage.specs.Install.{CanInstall, RefusesInstall, RefusesEject
 ghost use Rattle.sw_cage.specs.Close.{all_present, CanClose, RefusesClose};
 ghost use Rattle.sw_cage.specs.Channels.{closed_list};
 ghost use Rattle.sw_cage.specs.Cage.{empty_cage, with_rack, fall, cage_layout};
+ghost use Rattle.sw_verify.specs.Check.{IsReady};
+ghost use Rattle.sw_cage.specs.TakenSeen.{taken_seen, SaysIgnored};
+ghost use Rattle.sw_cage.specs.Takes.{Takes, TakesReturn, AwaitsOther, awaited_now};
+ghost use Rattle.sw_cage.specs.Goes.{Goes, GoesPast, Counts, begun, with_back};
 
+use crate::job::{Finished, Ticket};
+use crate::machine::go_on;
 use crate::refusal::{CloseRefusal, EjectRefusal, InstallRefusal};
 use crate::scan::Scan;
 use crate::slots::Slots;
+use crate::taken::{Happening, Taken};
 use crate::tickets::Tickets;
 use std::alloc::{AllocError, Global};
 use std::marker::Model;
 use sw_base::{Chan, Reading};
 use sw_card::{Card, CardFault, Meter, Relay};
-use sw_verify::{Layout, Slot};
+use sw_trigger::{Awaited, Settings};
+use sw_verify::{Layout, Plan, Slot};
 
 /// Eight slots, numbered from 1, that hold relay and meter cards.
 ///
@@ -270,4 +278,157 @@ impl<R: Relay, M: Meter> Cage<R, M> {
     {
         self.readings.clear();
     }
+
+    /// Whether no scan runs.
+    pub fn is_idle(&self) -> bool
+        ensures { IsTrue result ↔ (self.now.scan ≡ None) }
+    {
+        self.scan.is_none()
+    }
+
+    /// What the scan that runs awaits; nothing, where none runs.
+    pub fn running(&self) -> Option<Awaited>
+        ensures { result ≡ awaited_now self.now.scan }
+    {
+        match &self.scan {
+            Some(scan) => scan.awaited(),
+            None => None,
+        }
+    }
+
+    /// Begins the planned scan: its number is one more, and the readings of the last one are dropped. Room for its
+    /// readings is made first, so that nothing that happens to it wants memory; after an error nothing changed.
+    pub fn start(&mut self, alloc: Global, plan: Plan) -> Result<Taken<M>, AllocError>
+        requires idle { self.old.scan ≡ None }
+        requires number { self.old.number + 1 < 2 ^ 64 }
+        requires home { slot_at self.old.out plan.settings.meter ≡ None }
+        requires layout { cage_layout self.old ≡ plan.layout }
+        requires closed { closed_list self.old.rack ≡ plan.closed }
+        ensures ok { IfOk result (λ taken. Goes (begun self.old) plan.settings 0 (taken_seen taken) self.new) }
+        ensures err { OnErr result (self.new ≡ self.old) }
+    {
+        self.slots.closed_in_range();
+        let settings = ready_settings(plan);
+        let readings = Vec::with_capacity(alloc, settings.readings() as usize)?;
+        let (scan, moves) = Scan::begin(settings);
+        self.number += 1;
+        self.readings = readings;
+        let (scan, taken) = go_on(&mut self.slots, &mut self.out, scan, self.number, moves);
+        self.scan = scan;
+        Ok(taken)
+    }
+
+    /// Tells the scan that runs of a happening. One that it does not take changes nothing.
+    pub fn take(&mut self, happening: Happening) -> Taken<M>
+        ensures ignored { (Takes self.old happening → ⊥) → (taken_seen result ≡ SaysIgnored) × (self.new ≡ self.old) }
+        ensures taken { Takes self.old happening → GoesPast self.old (taken_seen result) self.new }
+    {
+        if !self.takes(happening) {
+            return Taken::Ignored;
+        }
+        self.go_past()
+    }
+
+    fn takes(&self, happening: Happening) -> bool
+        ensures { IsTrue result ↔ Takes self.now happening }
+    {
+        match &self.scan {
+            Some(scan) => scan.takes(self.number, happening),
+            None => false,
+        }
+    }
+
+    /// Goes past what the scan awaits, which is no reading.
+    fn go_past(&mut self) -> Taken<M>
+        requires { AwaitsOther self.old.scan }
+        ensures { GoesPast self.old (taken_seen result) self.new }
+    {
+        let Some(mut scan) = self.scan.take() else {
+            unreachable!();
+        };
+        let moves = scan.advance();
+        let (scan, taken) = go_on(&mut self.slots, &mut self.out, scan, self.number, moves);
+        self.scan = scan;
+        taken
+    }
+
+    /// Takes a meter back, unless it is not out of its slot under its ticket: then it is handed back.
+    ///
+    /// Where the scan that runs awaits it, its reading is added and the scan goes on; its failure ends the scan, as that
+    /// of any card call. The late return of a scan that is over adds nothing, and its failure ends nothing.
+    pub fn finish(&mut self, finished: Finished<M>) -> Result<Taken<M>, Finished<M>>
+        ensures in_slot { OnOk result (slot_at self.old.out finished.1.slot ≡ Some finished.1.ticket) }
+        ensures late { IfOk result (λ taken. (TakesReturn self.old finished.1.slot finished.1.ticket → ⊥) → (taken_seen taken ≡ SaysIgnored) × (self.new ≡ with_back self.old finished.1)) }
+        ensures taken { IfOk result (λ taken. TakesReturn self.old finished.1.slot finished.1.ticket → Counts (with_back self.old finished.1) finished.1.outcome (taken_seen taken) self.new) }
+        ensures elsewhere { OnErr result (slot_at self.old.out finished.1.slot ≡ Some finished.1.ticket → ⊥) }
+        ensures err { OnErr result (self.new ≡ self.old) }
+        ensures back { IfErr result (λ back. back ≡ finished) }
+    {
+        if !self.out.has(finished.slot(), finished.ticket()) {
+            return Err(finished);
+        }
+        if self.takes_return(finished.slot(), finished.ticket()) {
+            return Ok(self.count(finished));
+        }
+        self.put_back(finished);
+        Ok(Taken::Ignored)
+    }
+
+    fn takes_return(&self, slot: u8, ticket: Ticket) -> bool
+        ensures { IsTrue result ↔ TakesReturn self.now slot ticket }
+    {
+        match &self.scan {
+            Some(scan) => scan.takes_return(self.number, slot, ticket),
+            None => false,
+        }
+    }
+
+    /// Puts a meter back that the scan does not await.
+    fn put_back(&mut self, finished: Finished<M>)
+        requires out { slot_at self.old.out finished.1.slot ≡ Some finished.1.ticket }
+        requires late { TakesReturn self.old finished.1.slot finished.1.ticket → ⊥ }
+        ensures { self.new ≡ with_back self.old finished.1 }
+    {
+        let Finished { slot, meter, .. } = finished;
+        self.out.set(slot, None);
+        self.slots.put_meter(slot, meter);
+    }
+
+    /// Puts the meter back that the scan awaits, and goes on with its reading.
+    fn count(&mut self, finished: Finished<M>) -> Taken<M>
+        requires out { slot_at self.old.out finished.1.slot ≡ Some finished.1.ticket }
+        requires taken { TakesReturn self.old finished.1.slot finished.1.ticket }
+        ensures { Counts (with_back self.old finished.1) finished.1.outcome (taken_seen result) self.new }
+    {
+        let Finished {
+            slot,
+            meter,
+            outcome,
+            ..
+        } = finished;
+        self.out.set(slot, None);
+        self.slots.put_meter(slot, meter);
+        let Ok(reading) = outcome else {
+            self.slots.open_all();
+            self.scan = None;
+            return Taken::Fault;
+        };
+        self.readings.push(reading).unwrap();
+        let Some(mut scan) = self.scan.take() else {
+            unreachable!();
+        };
+        let moves = scan.advance();
+        let (scan, taken) = go_on(&mut self.slots, &mut self.out, scan, self.number, moves);
+        self.scan = scan;
+        taken
+    }
+}
+
+/// The settings of a plan.
+fn ready_settings(plan: Plan) -> Settings
+    ensures settings { result ≡ plan.settings }
+    ensures ready { IsReady plan }
+{
+    let snapshot = plan.into_snapshot();
+    snapshot.settings
 }

@@ -12,6 +12,7 @@
 mod cage;
 mod claims;
 mod job;
+mod machine;
 mod refusal;
 mod scan;
 mod slots;

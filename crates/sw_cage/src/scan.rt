@@ -1,10 +1,14 @@
 //! A scan that runs: its settings, and where it stands.
 
-ghost use Rattle.std.specs.Prelude.{◌≡◌, ℕ, ◌+◌, ◌<◌, ◌≤◌, ◌++◌, length, None};
+ghost use Rattle.std.specs.Prelude.{◌≡◌, ℕ, ◌+◌, ◌<◌, ◌≤◌, ◌++◌, length, None, ◌↔◌, IsTrue};
 ghost use Rattle.sw_trigger.specs.Settings.{layer_of};
 ghost use Rattle.sw_cage.specs.Advance.{awaits, way, next_place};
+ghost use Rattle.sw_cage.specs.Cage.{ticket_of};
 ghost use Rattle.sw_cage.specs.Walk.{moves_of};
+ghost use Rattle.sw_cage.specs.Takes.{TakesIf, TakesWait, TakesPause, AwaitsReturn};
 
+use crate::job::Ticket;
+use crate::taken::Happening;
 use crate::walk::{Moves, Walk, awaited, first, next};
 use std::marker::Model;
 use sw_base::{LayerName, Source};
@@ -76,6 +80,48 @@ impl Scan {
         }
     }
 
+    /// Whether the scan takes the happening, being number so many.
+    pub(crate) fn takes(&self, number: u64, happening: Happening) -> bool
+        ensures { IsTrue result ↔ TakesIf self.now.setup (ticket_of number self.now) (awaits self.now) happening }
+    {
+        let present = Ticket {
+            scan: number,
+            index: self.index,
+        };
+        match self.awaited() {
+            Some(Awaited::Wait(name)) => return self.wait_takes(name, happening),
+            Some(Awaited::Pause(_)) => return pause_takes(present, happening),
+            Some(Awaited::Read) => return false,
+            None => return false,
+        }
+    }
+
+    /// Whether a wait of the layer takes the happening.
+    fn wait_takes(&self, name: LayerName, happening: Happening) -> bool
+        ensures { IsTrue result ↔ TakesWait self.now.setup name happening }
+    {
+        match happening {
+            Happening::Bus => return self.source(name) == Source::Bus,
+            Happening::External => return self.source(name) == Source::External,
+            Happening::Signal(signalled) => return name == signalled,
+            Happening::Elapsed(_) => return false,
+        }
+    }
+
+    /// Whether the scan, being number so many, awaits the return of the slot's meter under the ticket.
+    pub(crate) fn takes_return(&self, number: u64, slot: u8, ticket: Ticket) -> bool
+        ensures { IsTrue result ↔ AwaitsReturn number self.now slot ticket }
+    {
+        let present = Ticket {
+            scan: number,
+            index: self.index,
+        };
+        match self.awaited() {
+            Some(Awaited::Read) => return self.meter() == slot && present.is_same(ticket),
+            _ => return false,
+        }
+    }
+
     /// The index of what the scan awaits in its agenda.
     pub(crate) fn index(&self) -> u64
         ensures { result ≡ self.now.index }
@@ -95,6 +141,16 @@ impl Scan {
         ensures { result ≡ (layer_of self.now.setup name).source }
     {
         self.settings.layer(name).source
+    }
+}
+
+/// Whether a pause under the present ticket takes the happening.
+fn pause_takes(present: Ticket, happening: Happening) -> bool
+    ensures { IsTrue result ↔ TakesPause present happening }
+{
+    match happening {
+        Happening::Elapsed(ticket) => return present.is_same(ticket),
+        _ => return false,
     }
 }
 

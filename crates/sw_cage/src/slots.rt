@@ -150,10 +150,7 @@ fn groups<R: Relay, M: Meter>(alloc: Global, card: &Card<R, M>) -> Result<Vec<u8
 }
 
 /// What the slot holds, as a layout tells it.
-fn bay_in<R: Relay, M: Meter>(
-    alloc: Global,
-    slot: &Option<Card<R, M>>,
-) -> Result<Slot, AllocError>
+fn bay_in<R: Relay, M: Meter>(alloc: Global, slot: &Option<Card<R, M>>) -> Result<Slot, AllocError>
     ensures { IfOk result (λ bay. bay ≡ option_bay (option_account slot.now)) }
 {
     let Some(card) = slot else {
@@ -447,5 +444,12 @@ impl<R: Relay, M: Meter> Slots<R, M> {
         ensures { IfOk result (λ bay. bay ≡ slot_at (layout_of self.now) slot) }
     {
         bay_in(alloc, &self.slots[slot as usize - 1])
+    }
+
+    /// A law: what is closed has a slot and a number in their ranges.
+    pub(crate) fn closed_in_range(&self)
+        ensures { (c : Channel) → is_closed self.now c ≡ true → (1 ≤ c.0) × (c.0 ≤ 8) × (1 ≤ c.1) × (c.1 ≤ 99) }
+    {
+        let _ = &self.slots;
     }
 }
