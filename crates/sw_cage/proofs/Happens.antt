@@ -1,5 +1,6 @@
 -- What happens to a running scan, and the cage stays good.
-use Rattle.std.proofs.Common.{◌≡◌, ◌≢◌, ℕ, zero, suc, ◌+◌, ◌-◌, ◌<◌, ◌≤◌, Bool, true, false, List, [], ◌∷◌, ◌++◌, length, take, drop, Option, Some, None, slice_set, refl, sym, ap, ◌∙◌, subst, arith, is_some, inl, inr, length-append}
+use Rattle.std.proofs.Common.{◌≡◌, ◌≢◌, ℕ, zero, suc, ◌+◌, ◌-◌, ◌<◌, ◌≤◌, Bool, true, false, List, [], ◌∷◌, ◌++◌, length, take, drop, Option, Some, None, slice_set, refl, sym, ap, ◌∙◌, subst, arith, is_some, inl, inr, length-append, Result, Ok, if◌then◌else◌}
+use Rattle.std.specs.Result.{is_ok}
 use mathlib.Core.Path.{fun_ext}
 use Rattle.std.proofs.lemmas.List.{length-map}
 use Rattle.std.proofs.lemmas.Bool.{cases_eq}
@@ -59,7 +60,7 @@ pub go_kept : (p q : CageSeen) (s : Setup) (i : ℕ) (told : TakenSeen) (moves :
     → Runs (bays_of p) p.number moves at told (bays_of q) q.scan → moves ≡ way s i → at ≡ next_place s i → q.number ≡ p.number → q.readings ≡ p.readings → IsKept q room
 go_kept p q s i told moves at room held g r h e f n rs =
     let h : Runs (bays_of p) p.number (way s i) (next_place s i) told (bays_of q) q.scan =
-          subst (λ (m : List Item). Runs (bays_of p) p.number m (next_place s i) told (bays_of q) q.scan) e (subst (λ (x : Scanning). Runs (bays_of p) p.number moves x told (bays_of q) q.scan) f h) in
+    subst (λ (m : List Item). Runs (bays_of p) p.number m (next_place s i) told (bays_of q) q.scan) e (subst (λ (x : Scanning). Runs (bays_of p) p.number moves x told (bays_of q) q.scan) f h) in
     let goes : Goes p s i told q = record { runs = h; number = n; readings = rs } in
     record { good = good_goes p q s i told held g goes; room = room_goes p q s i told room r h }
 
@@ -238,3 +239,13 @@ here_taken p q s s' t t' e f g h =
 
 pub here_late : (p q : CageSeen) (s s' : ℕ) (t t' : Ticket) → p ≡ q → s ≡ s' → t ≡ t' → (TakesReturnThere q.number q.scan s' t' → ⊥) → TakesReturnThere p.number p.scan s t → ⊥
 here_late p q s s' t t' e f g late h = late (here_taken q p s' s t' t (sym e) (sym f) (sym g) h)
+
+pub taken_scan : (number : ℕ) (scan : Option Scanning) (s : ℕ) (t : Ticket) → TakesReturnThere number scan s t → (at : Scanning) × ((scan ≡ Some at) × AwaitsReturn number at s t)
+taken_scan number None s t h = absurd h
+taken_scan number (Some at) s t h = (at, (refl, h))
+
+pub room_for : (p : CageSeen) (s : ℕ) (t : Ticket) (room : ℕ) → IsKept p room → TakesReturnThere p.number p.scan s t → length p.readings < room
+room_for p s t room k h = let w = taken_scan p.number p.scan s t h in room_left p w.0 s t room k w.1.0 w.1.1
+
+pub pushed : {T E : Type 0} (r : Result T E) (t : T) (xs new : List Reading) (x : Reading) → new ≡ (if is_ok r then xs ++ x ∷ [] else xs) → r ≡ Ok t → new ≡ xs ++ x ∷ []
+pushed r t xs new x e f = e ∙ ap (λ q. if is_ok q then xs ++ x ∷ [] else xs) f

@@ -145,10 +145,10 @@ bay_out p q s k e h =
 pub bay_in : (p q : CageSeen) (s : ℕ) → IsHeld p → p ≡ q → is_some (slot_at p.out s) ≡ false → slot_at (layout_of p.rack) s ≡ slot_at (cage_layout q) s
 bay_in p q s k e h =
     sym
-      (ap (λ (x : CageSeen). slot_at (cage_layout x) s) (sym e)
-      ∙ slot_with (layout_of p.rack) p.out s (k.outs ∙ sym k.slots ∙ sym (layout_length p.rack))
-      ∙ ap (λ (t : Option Ticket). or_meter (slot_at (layout_of p.rack) s) t) (is_none (slot_at p.out s) h)
-      ∙ or_in (slot_at (layout_of p.rack) s))
+    (ap (λ (x : CageSeen). slot_at (cage_layout x) s) (sym e)
+    ∙ slot_with (layout_of p.rack) p.out s (k.outs ∙ sym k.slots ∙ sym (layout_length p.rack))
+    ∙ ap (λ (t : Option Ticket). or_meter (slot_at (layout_of p.rack) s) t) (is_none (slot_at p.out s) h)
+    ∙ or_in (slot_at (layout_of p.rack) s))
 
 pub eight_bays : (p q : CageSeen) → IsHeld p → p ≡ q → length (cage_layout q) ≡ 8
 eight_bays p q k e = ap (λ (x : CageSeen). length (cage_layout x)) (sym e) ∙ with_length (layout_of p.rack) p.out ∙ layout_length p.rack ∙ k.slots

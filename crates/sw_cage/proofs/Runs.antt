@@ -139,7 +139,7 @@ module _ (p : CageSeen) (s : Setup) (i : ℕ) (mid : Rack) (k : IsHeld p) (g : C
       let h = held_there (Some at) in
       let home : slot_at (slice_set p.out (s.meter - 1) (Some t)) s.meter ≡ Some t = slot_set_same p.out s.meter (Some t) (omega (arith, g.range.meter.0)) (omega (arith, g.range.meter.1, k.outs)) in
       let same : layout_with (layout_of (slice_set mid (s.meter - 1) None)) (slice_set p.out (s.meter - 1) (Some t)) ≡ cage_layout there
-            = layout_sent mid p.out s.meter t job.meter (k.outs ∙ sym h.slots) (omega (arith, g.range.meter.0)) f in
+      = layout_sent mid p.out s.meter t job.meter (k.outs ∙ sym h.slots) (omega (arith, g.range.meter.0)) f in
       record {
         held = held_both there s.meter None (Some t) (Some at) h g.range.meter.0 g.range.meter.1 (λ x. refl) (λ u x. let y : t ≡ u = cc in omega (arith, ap (λ (z : Ticket). z.scan) y));
         running = record {

@@ -118,7 +118,7 @@ module _ (layout : Layout) (closed : Channels) (s : Setup) (i : ℕ) (w : IsOnWa
       let mine : IsWithin (effect none (take i (agenda s))) (effect w.found (take i (agenda s))) = within_after none w.found (take i (agenda s)) (λ x h. absurd (cc)) in
       let split : after ≡ (opens_of o ++ closes_of k) ++ r = sym (take-append-drop (length (way s i)) after) ∙ ap (λ (l : List Item). l ++ r) (leading_front after ∙ sym e) in
       moves_may layout closed (effect none (take i (agenda s))) o k r (subst (λ (b : Channels). IsWithin (effect none (take i (agenda s))) b) (sym w.so_far) mine)
-        (subst (λ (l : List Item). AllRight layout closed (effect none (take i (agenda s))) l) split right_here)
+      (subst (λ (l : List Item). AllRight layout closed (effect none (take i (agenda s))) l) split right_here)
 
   -- once they are made
   pub on_way_moved : (now : Channels) → now ≡ effect closed (way s i) → IsOnWay layout now s (i + length (way s i))

@@ -13,7 +13,7 @@ overflow_add-self-in-Some c =
     let step = c.next-step.result in
     let at = c.self.invariant.rest ∙ ap (rest_after s) c.in-Some.is ∙ c.next-step.ensures in
     let fits : i + (1 + c.count.result) < 2 ^ 64 =
-          omega (arith, c.count.ensures.count, short_of (agenda s) i (awaited_of s c.in-Some.walk) (moves_of step.moves) (rest_after s step.at) at, length-agenda s c.self.invariant.listed c.self.invariant.range) in
+    omega (arith, c.count.ensures.count, short_of (agenda s) i (awaited_of s c.in-Some.walk) (moves_of step.moves) (rest_after s step.at) at, length-agenda s c.self.invariant.listed c.self.invariant.range) in
     search rules
 
 pub invariant_of-self : goal.invariant_of-self
