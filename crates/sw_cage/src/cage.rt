@@ -100,6 +100,7 @@ impl<R: Relay, M: Meter> Cage<R, M> {
         ensures ok { IfOk result (λ card. option_rest (slot_at self.old.rack slot) ≡ Some card.1) }
         ensures open { IfOk result (λ card. (ch : ℕ) → closed_at card.1.closed ch ≡ false) }
         ensures taken { OnOk result (self.new ≡ without_card (stopped self.old) slot) }
+        ensures home { OnOk result (slot_at self.old.out slot ≡ None) }
         ensures refused { IfErr result (λ refusal. RefusesEject self.old slot refusal) }
         ensures err { OnErr result (self.new ≡ self.old) }
     {
@@ -279,15 +280,15 @@ impl<R: Relay, M: Meter> Cage<R, M> {
         self.readings.clear();
     }
 
-    /// Whether no scan runs.
-    pub fn is_idle(&self) -> bool
-        ensures { IsTrue result ↔ (self.now.scan ≡ None) }
+    /// Whether a scan runs.
+    pub fn is_running(&self) -> bool
+        ensures { result ≡ is_some self.now.scan }
     {
-        self.scan.is_none()
+        self.scan.is_some()
     }
 
     /// What the scan that runs awaits; nothing, where none runs.
-    pub fn running(&self) -> Option<Awaited>
+    pub fn awaited(&self) -> Option<Awaited>
         ensures { result ≡ awaited_now self.now.scan }
     {
         match &self.scan {
@@ -322,6 +323,7 @@ impl<R: Relay, M: Meter> Cage<R, M> {
     pub fn take(&mut self, happening: Happening) -> Taken<M>
         ensures ignored { (Takes self.old happening → ⊥) → (taken_seen result ≡ SaysIgnored) × (self.new ≡ self.old) }
         ensures taken { Takes self.old happening → GoesPast self.old (taken_seen result) self.new }
+        ensures takes { (taken_seen result ≡ SaysIgnored → ⊥) → Takes self.old happening }
     {
         if !self.takes(happening) {
             return Taken::Ignored;
@@ -360,6 +362,7 @@ impl<R: Relay, M: Meter> Cage<R, M> {
         ensures in_slot { OnOk result (slot_at self.old.out finished.1.slot ≡ Some finished.1.ticket) }
         ensures late { IfOk result (λ taken. (TakesReturn self.old finished.1.slot finished.1.ticket → ⊥) → (taken_seen taken ≡ SaysIgnored) × (self.new ≡ with_back self.old finished.1)) }
         ensures taken { IfOk result (λ taken. TakesReturn self.old finished.1.slot finished.1.ticket → Counts (with_back self.old finished.1) finished.1.outcome (taken_seen taken) self.new) }
+        ensures takes { IfOk result (λ taken. (taken_seen taken ≡ SaysIgnored → ⊥) → TakesReturn self.old finished.1.slot finished.1.ticket) }
         ensures elsewhere { OnErr result (slot_at self.old.out finished.1.slot ≡ Some finished.1.ticket → ⊥) }
         ensures err { OnErr result (self.new ≡ self.old) }
         ensures back { IfErr result (λ back. back ≡ finished) }

@@ -1,5 +1,5 @@
 mod Rows
-mod Safety
-mod Determined
 mod Calls
-mod Units
+mod Deeds
+mod Happened
+mod Numbered

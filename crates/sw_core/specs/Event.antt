@@ -8,7 +8,7 @@ use Rattle.sw_trigger.specs.declared.layer.Awaited.{Awaited}
 use Rattle.sw_trigger.specs.declared.layer.Awaited.TheVariants.{Wait, Pause, Read}
 use Rattle.sw_status.specs.Registers.{group_conditioned}
 use Rattle.sw_status.specs.StatusModel.{StatusSeen, pushed, with_bit, with_group, event_ended}
-use Rattle.sw_cage.specs.Advance.{awaited_now}
+use Rattle.sw_cage.specs.Takes.{awaited_now}
 use Rattle.sw_core.specs.declared.ask.SessionAnswer.{SessionAnswer}
 use Rattle.sw_core.specs.declared.ask.SessionAnswer.TheVariants.{Joined, Full, Stranger, Broken, Done, Snapshot, Refused, Hold, Worn}
 use Rattle.sw_core.specs.Panel.{Panel, is_running}
@@ -34,13 +34,17 @@ completed s complete = record s { esr = if complete then with_bit s.esr 0 else s
 abbrev pub last_number : ℕ
 last_number = 2 ^ 64 - 1
 
+-- the number after one more event
+abbrev pub next_number : ℕ → ℕ
+next_number n = min last_number (n + 1)
+
 -- The event ends: *OPC is done where no scan runs, OPERation tells what the scan awaits, a service request arises or
 -- not, and the event is counted.
 abbrev pub ended : Panel → Panel
 ended p = record p {
   status = event_ended (with_operation (completed p.status (p.pending && not (is_running p))) (awaited_bits (awaited_now p.cage.scan)));
   pending = p.pending && is_running p;
-  events = min last_number (p.events + 1);
+  events = next_number p.events;
 }
 
 -- an error is queued

@@ -41,19 +41,19 @@ pub record IsAlarmed (p q : Panel) : Type 0 where
 -- ROUTe:CLOSe and ROUTe:OPEN in the words of who sends them, and what leaves the cage
 pub record RelaysObey : Type 0 where
   -- after ROUTe:CLOSe that is done every channel of its list is closed
-  pub closes : (p q : Panel) (sid : Sid) (chans : List Channel) (answered failed : Bool) → Step p (AskSession (Ask.Unit sid (Command.Close chans) answered)) failed (SaysSession (Done None)) q → (c : Channel) → is_in chans c ≡ true → is_closed q.cage.rack c ≡ true
+  pub closes : (p q : Panel) (sid : Sid) (chans : List Channel) (answered failed : Bool) → Step p (AskSession (Ask.Unit sid (Command.Close chans) answered)) failed (SaysSession (Done None) None) q → (c : Channel) → is_in chans c ≡ true → is_closed q.cage.rack c ≡ true
   -- after ROUTe:OPEN that is done every channel of its list is open
-  pub opens : (p q : Panel) (sid : Sid) (chans : List Channel) (answered failed : Bool) → Step p (AskSession (Ask.Unit sid (Command.Open chans) answered)) failed (SaysSession (Done None)) q → (c : Channel) → is_in chans c ≡ true → is_closed q.cage.rack c ≡ false
+  pub opens : (p q : Panel) (sid : Sid) (chans : List Channel) (answered failed : Bool) → Step p (AskSession (Ask.Unit sid (Command.Open chans) answered)) failed (SaysSession (Done None) None) q → (c : Channel) → is_in chans c ≡ true → is_closed q.cage.rack c ≡ false
   -- a refusal for any other cause than a card's failure queues its error, and leaves all but the status as it was
-  pub refused : (p q : Panel) (ask : AskView) (failed : Bool) (e : ScpiError) → e ≢ HardwareError → Step p ask failed (SaysSession (Refused e)) q → q ≡ record p { status = event_ended (pushed p.status e) }
+  pub refused : (p q : Panel) (ask : AskView) (failed : Bool) (e : ScpiError) → e ≢ HardwareError → Step p ask failed (SaysSession (Refused e) None) q → q ≡ record p { status = event_ended (pushed p.status e) }
   -- after a card's failure every relay is open, -240 is queued, and QUEStionable condition bit 9 is set
-  pub failed : (p q : Panel) (ask : AskView) (failed : Bool) → Step p ask failed (SaysSession (Refused HardwareError)) q → IsAlarmed p q
+  pub failed : (p q : Panel) (ask : AskView) (failed : Bool) → Step p ask failed (SaysSession (Refused HardwareError) None) q → IsAlarmed p q
   -- an ejected card has no relay closed
   pub ejected : (p q : Panel) (slot : ℕ) (failed : Bool) (card : Account) → Step p (AskEject slot) failed (SaysEjected card) q → (k : ℕ) → closed_at card.closed k ≡ false
 
 -- an answer that tells of no want of memory and of no card's failure
 abbrev pub IsPlain : AnswerView → Type 0
-IsPlain (SaysSession (Refused e)) = (e ≢ OutOfMemory) × (e ≢ HardwareError)
+IsPlain (SaysSession (Refused e) work) = (e ≢ OutOfMemory) × (e ≢ HardwareError)
 IsPlain answer = Unit {0}
 
 -- Where memory suffices and no card fails, an ask has one answer and leaves one state.

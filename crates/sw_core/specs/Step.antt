@@ -38,7 +38,7 @@ use Rattle.sw_core.specs.declared.ask.Sid.{Sid}
 use Rattle.sw_core.specs.Sessions.{IsJoined, IsLeastFree}
 use Rattle.sw_core.specs.Panel.{Panel, with_rack, is_running}
 use Rattle.sw_core.specs.Registers.{number_told, status_set, alarmed, calmed, is_for_idle, waits_for_idle}
-use Rattle.sw_core.specs.Event.{concluded, last_number}
+use Rattle.sw_core.specs.Event.{concluded, last_number, next_number}
 use Rattle.sw_core.specs.View.{WorkView, Measures, Pauses, AskView, AskSession, AskInstall, AskEject, AskExternal, AskElapsed, AskFinished, AnswerView, SaysSession, SaysInstalled, SaysNotInstalled, SaysEjected, SaysNotEjected, SaysTaken, SaysMissed, SaysFailed, SaysBack, SaysWorn}
 
 -- the same cards but for their counts of failures, and every relay open
@@ -274,17 +274,22 @@ abbrev pub Starts : Panel → Snapshot → Bool → TakenSeen → Panel → Type
 Starts p plan f told q = (f ≡ is_fault told) × (plan ≡ snapshot_of p) × Goes (begun p.cage) p.settings 0 told q.cage
     × (q ≡ record p { cage = q.cage; status = if is_fault told then alarmed p.status else calmed p.status })
 
-pub record IsStarted (p : Panel) (plan : Snapshot) (f : Bool) (work : Option WorkView) (q : Panel) : Type 0 where
+abbrev pub started_answer : TakenSeen → SessionAnswer
+started_answer SaysFault = Refused HardwareError
+started_answer told = Done None
+
+pub record IsStarted (p : Panel) (plan : Snapshot) (f : Bool) (answer : SessionAnswer) (work : Option WorkView) (q : Panel) : Type 0 where
+  pub may : MayScan p
   pub told : TakenSeen
   pub starts : Starts p plan f told q
-  pub unbroken : told ≢ SaysFault
+  pub answer_is : answer ≡ started_answer told
   pub work_is : work ≡ work_of told
 
 -- a session begins the scan of a plan: one that was made of what is so now
 abbrev pub StepStart : Panel → Snapshot → Bool → SessionAnswer → Option WorkView → Panel → Type 0
-StepStart p plan f (Done None) work q = MayScan p × IsStarted p plan f work q
-StepStart p plan f (Refused HardwareError) None q = MayScan p × Starts p plan f SaysFault q
-StepStart p plan f (Refused OutOfMemory) None q = (f ≡ false) × MayScan p × (plan ≡ snapshot_of p) × (q ≡ p)
+StepStart p plan f (Done None) work q = IsStarted p plan f (Done None) work q
+StepStart p plan f (Refused HardwareError) work q = IsStarted p plan f (Refused HardwareError) work q
+StepStart p plan f (Refused OutOfMemory) None q = (f ≡ false) × MayScan p × (q ≡ p)
 StepStart p plan f (Refused SettingsConflict) None q = (f ≡ false) × (RefusesScan p SettingsConflict ⊎ (MayScan p × (plan ≢ snapshot_of p))) × (q ≡ p)
 StepStart p plan f (Refused e) None q = (f ≡ false) × RefusesScan p e × (q ≡ p)
 StepStart p plan f answer work q = ⊥
@@ -319,7 +324,7 @@ asker_of (Ask.Start sid plan) = Some sid
 
 -- a new session gets the least free number, and the number of events that there are once it has joined
 abbrev pub StepJoin : Panel → Bool → SessionAnswer → Option WorkView → Panel → Type 0
-StepJoin p f (Joined sid) None q = (f ≡ false) × IsLeastFree p.sessions sid.number × (sid.joined ≡ p.events + 1) × (q ≡ record p { sessions = slice_set p.sessions (sid.number - 1) (Some (p.events + 1)) })
+StepJoin p f (Joined sid) None q = (f ≡ false) × IsLeastFree p.sessions sid.number × (sid.joined ≡ next_number p.events) × (q ≡ record p { sessions = slice_set p.sessions (sid.number - 1) (Some (next_number p.events)) })
 StepJoin p f Full None q = (f ≡ false) × ((k : ℕ) → 1 ≤ k → k ≤ 16 → slot_at p.sessions k ≢ None) × (q ≡ p)
 StepJoin p f answer work q = ⊥
 
@@ -329,42 +334,38 @@ StepSession None p ask f answer work q = StepJoin p f answer work q
 StepSession (Some sid) p ask f Stranger None q = (f ≡ false) × (IsJoined p.sessions sid → ⊥) × (q ≡ p)
 StepSession (Some sid) p ask f answer work q = IsJoined p.sessions sid × StepJoined p ask f answer work q
 
+-- what is answered to no session by what the cage told
+abbrev pub outside_told : TakenSeen → AnswerView
+outside_told SaysIgnored = SaysMissed
+outside_told SaysFault = SaysFailed
+outside_told told = SaysTaken (work_of told)
+
 -- a happening that is no session's
-pub record IsTaken (p : Panel) (happening : Happening) (f : Bool) (work : Option WorkView) (q : Panel) : Type 0 where
+pub record StepOutside (p : Panel) (happening : Happening) (f : Bool) (answer : AnswerView) (q : Panel) : Type 0 where
   pub told : TakenSeen
   pub happens : Happens p happening f told q
-  pub taken : told ≢ SaysIgnored
-  pub unbroken : told ≢ SaysFault
-  pub work_is : work ≡ work_of told
-
-abbrev pub StepOutside : Panel → Happening → Bool → AnswerView → Panel → Type 0
-StepOutside p happening f (SaysTaken work) q = IsTaken p happening f work q
-StepOutside p happening f SaysMissed q = Happens p happening f SaysIgnored q
-StepOutside p happening f SaysFailed q = Happens p happening f SaysFault q
-StepOutside p happening f answer q = ⊥
+  pub answer_is : answer ≡ outside_told told
 
 -- the meter of this return is out under its ticket
 abbrev pub IsOut : Panel → FinishedSeen → Type 0
 IsOut p done = slot_at p.cage.out done.slot ≡ Some done.ticket
 
 -- The scan takes a meter's return: its reading is added and the scan goes on. A failure, of the meter or of a card on the
--- way, ends the scan.
+-- way, ends the scan. The late return of a scan that ended puts its meter back, whatever came of it.
 abbrev pub Returns : Panel → FinishedSeen → Bool → TakenSeen → Panel → Type 0
-Returns p done f told q = IsOut p done × TakesReturn p.cage done.slot done.ticket × Counts (with_back p.cage done) done.outcome told q.cage × Tolls p q.cage told f q
+Returns p done f SaysIgnored q = (f ≡ false) × (TakesReturn p.cage done.slot done.ticket → ⊥) × (q ≡ record p { cage = with_back p.cage done })
+Returns p done f told q = TakesReturn p.cage done.slot done.ticket × Counts (with_back p.cage done) done.outcome told q.cage × Tolls p q.cage told f q
 
-pub record IsReturned (p : Panel) (done : FinishedSeen) (f : Bool) (work : Option WorkView) (q : Panel) : Type 0 where
+-- a meter returns that was out under its ticket
+pub record IsReturned (p : Panel) (done : FinishedSeen) (f : Bool) (answer : AnswerView) (q : Panel) : Type 0 where
+  pub out : IsOut p done
   pub told : TakenSeen
   pub returns : Returns p done f told q
-  pub unbroken : told ≢ SaysFault
-  pub work_is : work ≡ work_of told
+  pub answer_is : answer ≡ outside_told told
 
--- A meter returns. The late return of a scan that ended puts it back, whatever came of it.
 abbrev pub StepFinished : Panel → FinishedSeen → Bool → AnswerView → Panel → Type 0
-StepFinished p done f (SaysTaken work) q = IsReturned p done f work q
-StepFinished p done f SaysFailed q = Returns p done f SaysFault q
-StepFinished p done f SaysMissed q = (f ≡ false) × IsOut p done × (TakesReturn p.cage done.slot done.ticket → ⊥) × (q ≡ record p { cage = with_back p.cage done })
 StepFinished p done f SaysBack q = (f ≡ false) × (IsOut p done → ⊥) × (q ≡ p)
-StepFinished p done f answer q = ⊥
+StepFinished p done f answer q = IsReturned p done f answer q
 
 -- What an ask does and is answered, before its event ends.
 abbrev pub Acts : Panel → AskView → Bool → AnswerView → Panel → Type 0

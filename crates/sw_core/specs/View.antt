@@ -1,6 +1,8 @@
 -- What is asked and answered as plain data: a card stands in it by its account.
 use Rattle.std.specs.Prelude.{◌≡◌, ℕ, Bool, true, false, Option, None, Some}
 use Rattle.sw_card.specs.Account.{Account}
+use Rattle.sw_cage.specs.Rack.{Rack}
+use Rattle.sw_cage.specs.Change.{any_failed}
 use Rattle.sw_cage.specs.Work.{JobSeen, FinishedSeen}
 use Rattle.sw_cage.specs.declared.job.Ticket.{Ticket}
 use Rattle.sw_cage.specs.declared.refusal.InstallRefusal.{InstallRefusal}
@@ -71,7 +73,8 @@ HandsBack (Ask.Finished done) (Answer.Back back) = back ≡ done
 HandsBack ask (Answer.Worn back) = back ≡ ask
 HandsBack ask answer = Unit {0}
 
--- a meter came back with a failure, and its scan took that
-abbrev pub took_failure : AskView → AnswerView → Bool
-took_failure (AskFinished done) SaysFailed = true
-took_failure ask answer = false
+-- A card failed in the call: its count of failures changed, or a meter came back with a failure that its scan took.
+abbrev pub failed_in : AskView → AnswerView → Rack → Rack → Bool
+failed_in (AskFinished done) SaysFailed old new = true
+failed_in (AskFinished done) answer old new = false
+failed_in ask answer old new = any_failed old new

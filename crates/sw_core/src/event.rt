@@ -65,12 +65,12 @@ impl<R: Relay, M: Meter> Core<R, M> {
     fn count_event(&mut self)
         ensures { self.new ≡ ended self.old }
     {
-        let running = !self.cage.is_idle();
+        let running = self.cage.is_running();
         if self.pending && !running {
             self.status.operation_complete();
         }
         self.pending = self.pending && running;
-        let bits = awaited_bits(self.cage.running());
+        let bits = awaited_bits(self.cage.awaited());
         self.status.set_condition(StatusGroup::Operation, bits);
         self.status.end_event();
         self.events = self.events.saturating_add(1);

@@ -17,8 +17,6 @@ mod registers;
 mod relays;
 mod scans;
 mod sessions;
-#[cfg(test)]
-mod tests;
 mod text;
 mod units;
 

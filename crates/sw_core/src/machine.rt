@@ -1,9 +1,9 @@
 //! The whole state of the mainframe, and the one call that changes it.
 
-ghost use Rattle.std.specs.Prelude.{◌≡◌, ◌||◌, ◌&&◌, Bool, IfOk, None, Some};
+ghost use Rattle.std.specs.Prelude.{◌≡◌, ◌&&◌, Bool, IfOk, None, Some};
 ghost use Rattle.sw_cage.specs.Change.{any_failed};
 ghost use Rattle.sw_core.specs.Sessions.{IsJoined};
-ghost use Rattle.sw_core.specs.View.{ask_view, answer_view, work_view, took_failure, HandsBack, AskInstall, AskEject};
+ghost use Rattle.sw_core.specs.View.{ask_view, answer_view, work_view, failed_in, HandsBack, AskInstall, AskEject};
 ghost use Rattle.sw_core.specs.Panel.{Panel, opening, opening_at, is_running};
 ghost use Rattle.sw_core.specs.Registers.{waits_for_idle};
 ghost use Rattle.sw_core.specs.Step.{Step, Acts, StepSession, StepJoin, StepJoined, StepCommand, asker_of};
@@ -76,8 +76,9 @@ impl<R: Relay, M: Meter> Core<R, M> {
     /// A refusal queues its error. Only queries, snapshots and the start of a scan take memory; where there is none, they
     /// are refused by -225 and change nothing. When 2^64 - 1 events were numbered, an ask is handed back, but for an
     /// abort, an eject and the return of a meter, which still act.
+    #[tactic(auto, using(crate::proofs::Numbered::worn_step, crate::proofs::Numbered::numbered_step))]
     pub fn apply(&mut self, alloc: Global, ask: Ask<R, M>) -> Answer<R, M>
-        ensures step { Step self.old (ask_view ask) (any_failed self.old.cage.rack self.new.cage.rack || took_failure (ask_view ask) (answer_view result)) (answer_view result) self.new }
+        ensures step { Step self.old (ask_view ask) (failed_in (ask_view ask) (answer_view result) self.old.cage.rack self.new.cage.rack) (answer_view result) self.new }
         ensures back { HandsBack ask result }
     {
         if self.events == u64::MAX && !acts_unnumbered(&ask) {
@@ -90,7 +91,7 @@ impl<R: Relay, M: Meter> Core<R, M> {
 
     /// Does what is asked, and leaves the end of the event to the caller.
     fn act(&mut self, alloc: Global, ask: Ask<R, M>) -> Answer<R, M>
-        ensures acts { Acts self.old (ask_view ask) (any_failed self.old.cage.rack self.new.cage.rack || took_failure (ask_view ask) (answer_view result)) (answer_view result) self.new }
+        ensures acts { Acts self.old (ask_view ask) (failed_in (ask_view ask) (answer_view result) self.old.cage.rack self.new.cage.rack) (answer_view result) self.new }
         ensures back { HandsBack ask result }
     {
         match ask {
@@ -148,10 +149,9 @@ impl<R: Relay, M: Meter> Core<R, M> {
     /// Makes a new session.
     #[tactic(auto, using(crate::proofs::Calls::failed_same))]
     fn join(&mut self) -> SessionAnswer
-        requires { self.old.events < 2 ^ 64 - 1 }
         ensures { StepJoin self.old (any_failed self.old.cage.rack self.new.cage.rack) result None self.new }
     {
-        match self.sessions.join(self.events + 1) {
+        match self.sessions.join(self.events.saturating_add(1)) {
             Some(sid) => SessionAnswer::Joined(sid),
             None => SessionAnswer::Full,
         }
@@ -191,9 +191,9 @@ impl<R: Relay, M: Meter> Core<R, M> {
         command: Command,
         answered: bool,
     ) -> (SessionAnswer, Option<Work<M>>)
-        ensures { StepCommand (is_running self.old && waits_for_idle command) self.old (Ask.Unit sid command answered) answered command (any_failed self.old.cage.rack self.new.cage.rack) result.0 (work_view result.1) self.new }
+        ensures { StepCommand (is_running self.old && waits_for_idle command) self.old (SessionAsk.Unit sid command answered) answered command (any_failed self.old.cage.rack self.new.cage.rack) result.0 (work_view result.1) self.new }
     {
-        if !self.cage.is_idle() && waits_for_idle(&command) {
+        if self.cage.is_running() && waits_for_idle(&command) {
             return (
                 SessionAnswer::Hold(SessionAsk::Unit(sid, command, answered)),
                 None,

@@ -1,6 +1,6 @@
 //! Commands that tell or set status and settings, and call no card.
 
-ghost use Rattle.std.specs.Prelude.{◌≡◌, Bool, Some, None, true, false};
+ghost use Rattle.std.specs.Prelude.{◌≡◌, Bool, Some, None, true, false, if◌then◌else◌};
 ghost use Rattle.sw_core.specs.Registers.{number_told, status_set, alarmed, calmed, is_for_idle, waits_for_idle};
 ghost use Rattle.sw_core.specs.Step.{StepDeed, deed_of};
 
@@ -29,6 +29,17 @@ pub fn calm(status: &mut Status)
     ensures { status.new ≡ calmed status.old }
 {
     status.set_condition(StatusGroup::Questionable, 0);
+}
+
+/// Tells QUEStionable whether a card failed.
+pub fn tell_failure(status: &mut Status, failed: bool)
+    ensures { status.new ≡ (if failed then alarmed status.old else calmed status.old) }
+{
+    if failed {
+        alarm(status);
+    } else {
+        calm(status);
+    }
 }
 
 /// Sets the status as the command says, if it is one that sets the status alone.

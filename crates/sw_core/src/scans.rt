@@ -1,14 +1,15 @@
 //! Scans: their beginning, what happens to them, and the meters that return.
 
-ghost use Rattle.std.specs.Prelude.{◌≡◌, ◌||◌, Bool, IfOk, IfSome, IfNone, None, Some, false};
+ghost use Rattle.std.specs.Prelude.{◌≡◌, Bool, IfOk, IfSome, IfNone, None, Some, false};
 ghost use Rattle.sw_cage.specs.Change.{any_failed};
 ghost use Rattle.sw_cage.specs.TakenSeen.{taken_seen};
-ghost use Rattle.sw_core.specs.View.{work_view, answer_view, took_failure, AskFinished, HandsBack};
-ghost use Rattle.sw_core.specs.Step.{Happens, StepHappens, StepOutside, StepFinished, StepSnapshot, StepStart, RefusesScan, MayScan, Starts, session_told, work_of, is_fault, snapshot_of, happening_of};
+ghost use Rattle.sw_core.specs.View.{work_view, answer_view, failed_in, AskFinished, HandsBack};
+ghost use Rattle.sw_core.specs.declared.ask.Ask.TheVariants as Ask;
+ghost use Rattle.sw_core.specs.Step.{Happens, StepHappens, StepOutside, StepFinished, StepSnapshot, StepStart, RefusesScan, MayScan, session_told, outside_told, started_answer, work_of, is_fault, snapshot_of, happening_of};
 
 use crate::ask::{Answer, SessionAnswer, Work};
 use crate::machine::Core;
-use crate::registers::{alarm, calm};
+use crate::registers::{alarm, tell_failure};
 use std::alloc::{AllocError, Global};
 use sw_base::{LayerName, ScpiError, Sequence};
 use sw_cage::{Finished, Happening, Taken};
@@ -58,6 +59,27 @@ fn session_told<M: Meter>(told: &Taken<M>, error: ScpiError) -> SessionAnswer
     }
 }
 
+/// What is answered to no session by what the cage told.
+fn outside_told<R: Relay, M: Meter>(told: Taken<M>) -> Answer<R, M>
+    ensures { answer_view result ≡ outside_told (taken_seen told) }
+{
+    match told {
+        Taken::Ignored => Answer::Missed,
+        Taken::Fault => Answer::Failed,
+        told => Answer::Taken(work_of(told)),
+    }
+}
+
+/// What a session is answered when its scan has begun.
+fn started_answer<M: Meter>(told: &Taken<M>) -> SessionAnswer
+    ensures { result ≡ started_answer (taken_seen told.now) }
+{
+    match told {
+        Taken::Fault => SessionAnswer::Refused(ScpiError::HardwareError),
+        _ => SessionAnswer::Done(None),
+    }
+}
+
 /// Whether a card failed on the way.
 fn is_fault<M: Meter>(told: &Taken<M>) -> bool
     ensures { result ≡ is_fault (taken_seen told.now) }
@@ -97,26 +119,23 @@ impl<R: Relay, M: Meter> Core<R, M> {
     pub(crate) fn outside(&mut self, happening: Happening) -> Answer<R, M>
         ensures { StepOutside self.old happening (any_failed self.old.cage.rack self.new.cage.rack) (answer_view result) self.new }
     {
-        match self.happens(happening) {
-            Taken::Ignored => Answer::Missed,
-            Taken::Fault => Answer::Failed,
-            told => Answer::Taken(work_of(told)),
-        }
+        let told = self.happens(happening);
+        outside_told(told)
     }
 
     /// Takes a meter back, and its reading where the scan awaits it.
     pub(crate) fn finished(&mut self, done: Finished<M>) -> Answer<R, M>
-        ensures finished { StepFinished self.old done.1 (any_failed self.old.cage.rack self.new.cage.rack || took_failure (AskFinished done.1) (answer_view result)) (answer_view result) self.new }
+        ensures finished { StepFinished self.old done.1 (failed_in (AskFinished done.1) (answer_view result) self.old.cage.rack self.new.cage.rack) (answer_view result) self.new }
         ensures back { HandsBack (Ask.Finished done) result }
     {
         match self.cage.finish(done) {
             Err(done) => Answer::Back(done),
-            Ok(Taken::Ignored) => Answer::Missed,
-            Ok(Taken::Fault) => {
-                alarm(&mut self.status);
-                Answer::Failed
+            Ok(told) => {
+                if is_fault(&told) {
+                    alarm(&mut self.status);
+                }
+                outside_told(told)
             }
-            Ok(told) => Answer::Taken(work_of(told)),
         }
     }
 
@@ -125,7 +144,7 @@ impl<R: Relay, M: Meter> Core<R, M> {
         ensures error { IfSome result (λ e. RefusesScan self.now e) }
         ensures none { IfNone result (MayScan self.now) }
     {
-        if !self.cage.is_idle() {
+        if self.cage.is_running() {
             return Some(ScpiError::InitIgnored);
         }
         if self.cage.has_out(self.settings.meter()) {
@@ -161,6 +180,7 @@ impl<R: Relay, M: Meter> Core<R, M> {
     }
 
     /// Begins the scan of a plan, where what it was made of is so now.
+    #[tactic(auto, using(crate::proofs::Happened::refused_start))]
     pub(crate) fn start(&mut self, alloc: Global, plan: Plan) -> (SessionAnswer, Option<Work<M>>)
         ensures { StepStart self.old plan (any_failed self.old.cage.rack self.new.cage.rack) result.0 (work_view result.1) self.new }
     {
@@ -183,13 +203,10 @@ impl<R: Relay, M: Meter> Core<R, M> {
     {
         match self.cage.start(alloc, plan) {
             Err(_) => (SessionAnswer::Refused(ScpiError::OutOfMemory), None),
-            Ok(Taken::Fault) => {
-                alarm(&mut self.status);
-                (SessionAnswer::Refused(ScpiError::HardwareError), None)
-            }
             Ok(told) => {
-                calm(&mut self.status);
-                (SessionAnswer::Done(None), work_of(told))
+                tell_failure(&mut self.status, is_fault(&told));
+                let answer = started_answer(&told);
+                (answer, work_of(told))
             }
         }
     }

@@ -121,17 +121,26 @@ pub fn all_entries(alloc: Global, errors: &[ScpiError]) -> Result<Sequence<u8>, 
 }
 
 /// The readings, joined by commas.
+#[tactic(auto, using(crate::proofs::Rows::reading_some))]
 pub fn all_readings(alloc: Global, readings: &[Reading]) -> Result<Sequence<u8>, AllocError>
     ensures { IfOk result (λ text. text ≡ join_with_byte 44 (map reading_text readings.now)) }
 {
     let mut text = Vec::with_capacity(alloc, readings.len())?;
-    let mut buffer = [0; 32];
     for reading in readings {
         separate(&mut text)?;
-        let end = print_reading(*reading, &mut buffer);
-        text.extend_from_slice(&buffer[..end])?;
+        add_reading(&mut text, *reading)?;
     }
     Ok(Sequence::new(text))
+}
+
+/// Adds a reading.
+fn add_reading(text: &mut Vec<u8>, reading: Reading) -> Result<(), AllocError>
+    ensures { OnOk result (text.new.items ≡ text.old.items ++ reading_text reading) }
+{
+    let mut buffer = [0; 32];
+    let end = print_reading(reading, &mut buffer);
+    text.extend_from_slice(&buffer[..end])?;
+    Ok(())
 }
 
 /// What an empty error queue answers.

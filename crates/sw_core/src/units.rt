@@ -36,7 +36,7 @@ impl<R: Relay, M: Meter> Core<R, M> {
     fn free(&mut self, alloc: Global, command: Command) -> SessionAnswer
         ensures { StepFree (is_running self.old && is_for_idle command) self.old command (any_failed self.old.cage.rack self.new.cage.rack) result self.new }
     {
-        if !self.cage.is_idle() && is_for_idle(&command) {
+        if self.cage.is_running() && is_for_idle(&command) {
             return SessionAnswer::Refused(ScpiError::SettingsConflict);
         }
         self.more(alloc, command)

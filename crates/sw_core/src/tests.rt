@@ -1,6 +1,0 @@
-//! temporary
-
-#[test]
-fn nothing(rt: HostRuntime) {
-    assert!(rt; true);
-}
