@@ -3,3 +3,6 @@ mod Calls
 mod Deeds
 mod Happened
 mod Numbered
+mod Same
+mod Going
+mod Determined

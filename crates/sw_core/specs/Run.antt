@@ -13,7 +13,7 @@ use Rattle.sw_core.specs.declared.ask.SessionAsk.TheVariants as Ask
 use Rattle.sw_core.specs.declared.ask.SessionAnswer.TheVariants.{Done, Refused}
 use Rattle.sw_status.specs.StatusModel.{queued, event_ended, pushed}
 use Rattle.sw_core.specs.Panel.{Panel, opening, IsSafe}
-use Rattle.sw_core.specs.View.{AskView, AskSession, AskEject, AnswerView, SaysSession, SaysEjected}
+use Rattle.sw_core.specs.View.{AskView, AskSession, AskEject, AnswerView, SaysSession, SaysEjected, SaysFailed}
 use Rattle.sw_core.specs.Step.{Step}
 
 -- one event: what was asked, whether a card failed in it, what was answered, and the state after it
@@ -54,6 +54,7 @@ pub record RelaysObey : Type 0 where
 -- an answer that tells of no want of memory and of no card's failure
 abbrev pub IsPlain : AnswerView → Type 0
 IsPlain (SaysSession (Refused e) work) = (e ≢ OutOfMemory) × (e ≢ HardwareError)
+IsPlain SaysFailed = ⊥
 IsPlain answer = Unit {0}
 
 -- Where memory suffices and no card fails, an ask has one answer and leaves one state.
