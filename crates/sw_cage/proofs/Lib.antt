@@ -13,3 +13,4 @@ pub mod Underway
 pub mod Runs
 pub mod Among
 pub mod Happens
+pub mod Exclusive

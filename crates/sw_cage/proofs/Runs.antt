@@ -64,7 +64,7 @@ meter_open : (m : MeterAccount) (ch : ℕ) → option_closed (Some (of_meter m))
 meter_open m ch = and_false (nat_lt 0 ch)
 
 -- a meter leaves its slot, or comes into it: nothing opens or closes
-closed_sent : (rack : Rack) (s : ℕ) (m : MeterAccount) → 1 ≤ s → s ≤ length rack → slot_at rack s ≡ Some (of_meter m) → (c : Channel) → is_closed (slice_set rack (s - 1) None) c ≡ is_closed rack c
+pub closed_sent : (rack : Rack) (s : ℕ) (m : MeterAccount) → 1 ≤ s → s ≤ length rack → slot_at rack s ≡ Some (of_meter m) → (c : Channel) → is_closed (slice_set rack (s - 1) None) c ≡ is_closed rack c
 closed_sent rack s m a b e c = elim (slot_cases rack s c.0 None (omega arith) b) [
   | inl f ↦ ap (λ o. option_closed o c.1) f.1 ∙ sym (ap (λ (x : ℕ). option_closed (slot_at rack x) c.1) f.0 ∙ ap (λ o. option_closed o c.1) e ∙ meter_open m c.1)
   | inr f ↦ ap (λ o. option_closed o c.1) f.1

@@ -31,7 +31,7 @@ awaits_first (Awaits w ∷ l) x e = let k : w ≡ x = cc in ap (λ (y : Awaited)
 awaits_first (Close c ∷ l) x e = absurd (cc)
 awaits_first (Open c ∷ l) x e = absurd (cc)
 
-leading_front : (l : List Item) → take (length (leading l)) l ≡ leading l
+pub leading_front : (l : List Item) → take (length (leading l)) l ≡ leading l
 leading_front [] = refl
 leading_front (Awaits x ∷ l) = refl
 leading_front (Close c ∷ l) = ap (λ (m : List Item). Close c ∷ m) (leading_front l)
@@ -105,7 +105,7 @@ pub may_move_in : (bays : Layout) (out : List (Option Ticket)) (h : length out �
 may_move_in bays out h b o k m = record { opens = m.opens; closes = may_close_in bays out h (effect b (opens_of o)) k m.closes }
 
 module _ (layout : Layout) (closed : Channels) (s : Setup) (i : ℕ) (w : IsOnWay layout closed s i) where
-  right_here : AllRight layout closed (effect none (take i (agenda s))) (drop i (agenda s))
+  pub right_here : AllRight layout closed (effect none (take i (agenda s))) (drop i (agenda s))
   right_here =
       let all : AllRight layout w.found none (take i (agenda s) ++ drop i (agenda s)) = subst (λ (l : List Item). AllRight layout w.found none l) (sym (take-append-drop i (agenda s))) w.sound.right in
       subst (λ (b : Channels). AllRight layout b (effect none (take i (agenda s))) (drop i (agenda s))) (sym w.so_far) (right_after layout w.found none (take i (agenda s)) (drop i (agenda s)) all)
