@@ -45,8 +45,8 @@ like_way p q b k e f x = exclusive_in (layout_of q.rack) q.out (lengths q k) (is
 exclusive_stays : (p q : CageSeen) (s : Setup) (i : ℕ) (mid : Rack) → IsHeld p → IsHeld q → CanGo p s i → IsExclusive (layout_of p.rack) (is_closed p.rack) → Moved p.rack (way s i) mid → (let b : Bays = record { rack = mid; out = p.out } in bays_of q ≡ b) → IsExclusive (layout_of q.rack) (is_closed q.rack)
 exclusive_stays p q s i mid k l g e m same =
     like_way p q (effect (is_closed p.rack) (way s i)) l
-      (ap (λ (b : Bays). layout_with (layout_of b.rack) b.out) same ∙ ap (λ (x : Layout). layout_with x p.out) (moved_layout p.rack mid (way s i) m))
-      (ap (λ (b : Bays). is_closed b.rack) same ∙ fun_ext m.closed) (exclusive_way p s i k g e)
+    (ap (λ (b : Bays). layout_with (layout_of b.rack) b.out) same ∙ ap (λ (x : Layout). layout_with x p.out) (moved_layout p.rack mid (way s i) m))
+    (ap (λ (b : Bays). is_closed b.rack) same ∙ fun_ext m.closed) (exclusive_way p s i k g e)
 
 exclusive_lands : (p q : CageSeen) (s : Setup) (i : ℕ) (told : TakenSeen) → IsHeld p → IsHeld q → CanGo p s i → IsExclusive (layout_of p.rack) (is_closed p.rack) → Lands (bays_of p) p.number (way s i) (next_place s i) told (bays_of q) q.scan → IsExclusive (layout_of q.rack) (is_closed q.rack)
 exclusive_lands p q s i SaysIgnored k l g e h = absurd h.arrives
@@ -58,11 +58,11 @@ exclusive_lands p q s i (SaysJob job) k l g e h =
     let sent = h.arrives.1 in
     let t = ticket_of p.number (next_place s i) in
     like_way p q (effect (is_closed p.rack) (way s i)) l
-      (ap (λ (b : Bays). layout_with (layout_of b.rack) b.out) sent.after
-      ∙ layout_sent mid p.out s.meter t job.meter (k.outs ∙ sym there.slots) (omega (arith, g.range.meter.0)) sent.meter
-      ∙ ap (λ (x : Layout). layout_with x p.out) (moved_layout p.rack mid (way s i) h.moved))
-      (ap (λ (b : Bays). is_closed b.rack) sent.after ∙ fun_ext (closed_sent mid s.meter job.meter g.range.meter.0 (omega (arith, g.range.meter.1, there.slots)) sent.meter) ∙ fun_ext h.moved.closed)
-      (exclusive_way p s i k g e)
+    (ap (λ (b : Bays). layout_with (layout_of b.rack) b.out) sent.after
+    ∙ layout_sent mid p.out s.meter t job.meter (k.outs ∙ sym there.slots) (omega (arith, g.range.meter.0)) sent.meter
+    ∙ ap (λ (x : Layout). layout_with x p.out) (moved_layout p.rack mid (way s i) h.moved))
+    (ap (λ (b : Bays). is_closed b.rack) sent.after ∙ fun_ext (closed_sent mid s.meter job.meter g.range.meter.0 (omega (arith, g.range.meter.1, there.slots)) sent.meter) ∙ fun_ext h.moved.closed)
+    (exclusive_way p s i k g e)
 exclusive_lands p q s i SaysEnded k l g e h = exclusive_stays p q s i h.rack k l g e h.moved h.arrives.1
 exclusive_lands p q s i SaysFault k l g e h = absurd h.arrives
 
