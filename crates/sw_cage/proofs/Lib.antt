@@ -14,3 +14,4 @@ pub mod Runs
 pub mod Among
 pub mod Happens
 pub mod Exclusive
+pub mod Failures

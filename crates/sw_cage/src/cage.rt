@@ -10,6 +10,7 @@ ghost use Rattle.sw_cage.specs.Close.{all_present, CanClose, RefusesClose};
 ghost use Rattle.sw_cage.specs.Channels.{closed_list};
 ghost use Rattle.sw_cage.specs.Cage.{empty_cage, with_rack, fall, cage_layout};
 ghost use Rattle.sw_verify.specs.Check.{IsReady};
+ghost use Rattle.sw_cage.specs.Work.{IsTold};
 ghost use Rattle.sw_cage.specs.Good.{IsGood};
 ghost use Rattle.sw_cage.specs.TakenSeen.{taken_seen, SaysIgnored};
 ghost use Rattle.sw_cage.specs.Takes.{Takes, TakesReturn, AwaitsOther, awaited_now};
@@ -369,14 +370,15 @@ impl<R: Relay, M: Meter> Cage<R, M> {
         ensures in_slot { OnOk result (slot_at self.old.out finished.1.slot ≡ Some finished.1.ticket) }
         ensures late { IfOk result (λ taken. (TakesReturn self.old finished.1.slot finished.1.ticket → ⊥) → (taken_seen taken ≡ SaysIgnored) × (self.new ≡ with_back self.old finished.1)) }
         ensures taken { IfOk result (λ taken. TakesReturn self.old finished.1.slot finished.1.ticket → Counts (with_back self.old finished.1) finished.1.outcome (taken_seen taken) self.new) }
+        ensures told { IsTold finished.1 }
         ensures elsewhere { OnErr result (slot_at self.old.out finished.1.slot ≡ Some finished.1.ticket → ⊥) }
         ensures err { OnErr result (self.new ≡ self.old) }
         ensures back { IfErr result (λ back. back ≡ finished) }
     {
-        if !self.out.has(finished.slot(), finished.ticket()) {
+        if !self.out.has(finished.slot, finished.ticket) {
             return Err(finished);
         }
-        if self.takes_return(finished.slot(), finished.ticket()) {
+        if self.takes_return(finished.slot, finished.ticket) {
             return Ok(self.count(finished));
         }
         self.put_back(finished);

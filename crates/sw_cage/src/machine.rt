@@ -60,6 +60,7 @@ fn open_first<R: Relay, M: Meter>(
     ensures ok { OnOk result (Moved slots.old (opens_of chan) slots.new) }
     ensures err { OnErr result (IsBroken slots.old slots.new) }
 {
+    slots.stay_safe();
     match chan {
         Some(chan) => slots.open(chan),
         None => Ok(()),
