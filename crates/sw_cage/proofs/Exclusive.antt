@@ -1,16 +1,16 @@
 -- Where a scan goes on, only present channels are closed, and no two of them clash.
-use Rattle.std.proofs.Common.{◌≡◌, ℕ, ◌+◌, ◌-◌, ◌≤◌, true, List, length, take, drop, Option, Some, None, slice_set, refl, sym, ap, ◌∙◌, subst, arith}
+use Rattle.std.proofs.Common.{◌≡◌, ℕ, List, length, take, drop, Option, sym, ap, ◌∙◌, subst, arith}
 use mathlib.Core.Path.{fun_ext}
-use Rattle.sw_base.specs.Layout.{Channel, Layout, is_present, IsClash, IsExclusive}
+use Rattle.sw_base.specs.Layout.{Layout, IsExclusive}
 use Rattle.sw_trigger.specs.Settings.{Setup}
 use Rattle.sw_trigger.specs.Agenda.{Item, agenda}
 use Rattle.sw_verify.specs.Channels.{Channels, none}
 use Rattle.sw_verify.specs.Sound.{effect}
 use Rattle.sw_verify.proofs.Throughout.{exclusive_throughout}
 use Rattle.sw_cage.specs.Rack.{Rack, layout_of, is_closed}
-use Rattle.sw_cage.specs.Cage.{CageSeen, Scanning, layout_with, cage_layout, ticket_of}
+use Rattle.sw_cage.specs.Cage.{CageSeen, layout_with, cage_layout, ticket_of}
 use Rattle.sw_cage.specs.Advance.{way, next_place}
-use Rattle.sw_cage.specs.Good.{IsHeld, IsGood}
+use Rattle.sw_cage.specs.Good.{IsHeld}
 use Rattle.sw_cage.specs.TakenSeen.{TakenSeen, SaysIgnored, SaysWaits, SaysPause, SaysJob, SaysEnded, SaysFault}
 use Rattle.sw_cage.specs.Goes.{Moved, Bays, bays_of, Lands, Goes}
 use Rattle.sw_cage.specs.declared.job.Ticket.{Ticket}

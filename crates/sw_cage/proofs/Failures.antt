@@ -1,5 +1,5 @@
 -- Whether a card's count of failures changed where a scan went on: exactly where that is told.
-use Rattle.std.proofs.Common.{◌≡◌, ℕ, zero, suc, ◌-◌, ◌||◌, nat_lt, Bool, true, false, List, [], ◌∷◌, Option, None, Some, slice_index_or, slice_set, refl, sym, ap, ◌∙◌, if◌then◌else◌}
+use Rattle.std.proofs.Common.{◌≡◌, ℕ, zero, suc, ◌-◌, ◌||◌, nat_lt, Bool, true, false, [], ◌∷◌, Option, None, Some, slice_index_or, slice_set, refl, ap, ◌∙◌, if◌then◌else◌}
 use Rattle.sw_base.specs.Layout.{slot_at}
 use Rattle.sw_card.specs.Account.{Account}
 use Rattle.sw_cage.specs.Rack.{Rack, all_open}

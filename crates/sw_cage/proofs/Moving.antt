@@ -1,15 +1,15 @@
 -- A scan's moves, by the calls on the cards that make them.
-use Rattle.std.proofs.Common.{◌≡◌, ℕ, ◌==◌, ◌||◌, ◌&&◌, not, Bool, true, false, List, [], ◌∷◌, ◌++◌, Option, None, Some, refl, sym, ◌∙◌, ap, subst, arith, map, if◌then◌else◌, Result, Ok, Err, OnErr}
+use Rattle.std.proofs.Common.{◌≡◌, ℕ, ◌==◌, ◌||◌, ◌&&◌, not, Bool, true, false, List, [], ◌∷◌, ◌++◌, Option, None, Some, refl, sym, ◌∙◌, ap, subst, arith, if◌then◌else◌, Result, Ok, Err, OnErr}
 use mathlib.Core.Path.{fun_ext}
 use Rattle.std.proofs.lemmas.Grind.{common_steps}
 use Rattle.sw_base.specs.Layout.{Channel, Bay, relays, meter, Layout, slot_at, bay_has, bay_is_meter, is_present, has_meter}
-use Rattle.sw_trigger.specs.Agenda.{Item, Awaits, Close, Open}
+use Rattle.sw_trigger.specs.Agenda.{Item, Close, Open}
 use Rattle.sw_verify.specs.Channels.{Channels, same_channel}
-use Rattle.sw_verify.specs.Sound.{CanClose, effect}
+use Rattle.sw_verify.specs.Sound.{effect}
 use Rattle.sw_verify.proofs.Round.{effect-append}
 use Rattle.sw_cage.specs.Rack.{Rack, layout_of, is_closed, option_rest, all_open, IsRackFault}
 use Rattle.sw_cage.specs.Change.{is_in, Sets, option_failed, RelayFailed, IsDisturbed}
-use Rattle.sw_cage.specs.Advance.{opens_of, closes_of}
+use Rattle.sw_cage.specs.Advance.{opens_of}
 use Rattle.sw_cage.specs.Moves.{MayClose, MayMove, IsBroken}
 use Rattle.sw_cage.specs.Cage.{Scanning}
 use Rattle.sw_cage.specs.TakenSeen.{TakenSeen, SaysIgnored, SaysWaits, SaysPause, SaysJob, SaysEnded, SaysFault}

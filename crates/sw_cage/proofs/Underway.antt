@@ -1,24 +1,20 @@
 -- A scan that runs: from item to item of its agenda.
-use Rattle.std.proofs.Common.{◌≡◌, ◌≢◌, ℕ, zero, suc, ◌+◌, ◌-◌, ◌<◌, ◌≤◌, Bool, true, false, ◌&&◌, ◌||◌, not, List, [], ◌∷◌, ◌++◌, length, take, drop, Option, Some, None, slice_set, refl, sym, ap, ◌∙◌, subst, arith, is_some, inl, inr, length-append}
-use mathlib.Core.Path.{fun_ext}
+use Rattle.std.proofs.Common.{◌≡◌, ℕ, ◌+◌, ◌<◌, Bool, true, false, ◌&&◌, ◌||◌, not, List, [], ◌∷◌, ◌++◌, length, take, drop, Option, Some, None, refl, sym, ap, ◌∙◌, subst, arith}
 use Rattle.std.proofs.Math.Seq.{take-add}
-use Rattle.std.proofs.lemmas.List.{take-append-drop, length-set}
-use Rattle.sw_base.specs.Layout.{Channel, Bay, meter, Layout, slot_at, is_present, has_meter, bay_is_meter, IsClash}
-use Rattle.sw_base.specs.declared.reading.Reading.{Reading}
-use Rattle.sw_card.specs.Account.{Account, MeterAccount, of_meter}
+use Rattle.std.proofs.lemmas.List.{take-append-drop}
+use Rattle.sw_base.specs.Layout.{Channel, Layout}
 use Rattle.sw_trigger.specs.declared.layer.Awaited.{Awaited}
-use Rattle.sw_trigger.specs.declared.layer.Awaited.TheVariants.{Wait, Pause, Read}
-use Rattle.sw_trigger.specs.Settings.{Setup, IsInRange}
+use Rattle.sw_trigger.specs.declared.layer.Awaited.TheVariants.{Read}
+use Rattle.sw_trigger.specs.Settings.{Setup}
 use Rattle.sw_trigger.specs.Agenda.{Item, Awaits, Close, Open, agenda}
 use Rattle.sw_trigger.specs.Counts.{reads, is_reading}
 use Rattle.sw_trigger.proofs.Awaiting.{reads-append}
 use Rattle.sw_verify.specs.Channels.{Channels, same_channel, none, with_channel, without}
-use Rattle.sw_verify.specs.Sound.{CanClose, AllRight, effect, IsSound}
+use Rattle.sw_verify.specs.Sound.{CanClose, AllRight, effect}
 use Rattle.sw_verify.proofs.Round.{effect-append}
-use Rattle.sw_cage.specs.Rack.{Rack, option_bay, layout_of, option_closed, is_closed}
-use Rattle.sw_cage.specs.Cage.{Scanning, CageSeen, or_meter, layout_with, cage_layout, ticket_of}
-use Rattle.sw_cage.specs.Advance.{leading, first_awaited, opens_of, closes_of, way, next_place, awaits}
-use Rattle.sw_cage.specs.Moves.{MayOpen, MayClose, MayMove}
+use Rattle.sw_cage.specs.Cage.{layout_with}
+use Rattle.sw_cage.specs.Advance.{leading, first_awaited, opens_of, closes_of, way}
+use Rattle.sw_cage.specs.Moves.{MayClose, MayMove}
 use Rattle.sw_cage.specs.Good.{IsOnWay}
 use Rattle.sw_cage.specs.declared.job.Ticket.{Ticket}
 use Rattle.sw_cage.proofs.Layouts.{present_with, clash_with}

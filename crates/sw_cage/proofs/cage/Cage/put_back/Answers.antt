@@ -1,7 +1,4 @@
-use Rattle.std.proofs.Common.{◌≡◌, ◌∙◌, sym, ap, subst, ℕ, Some}
-use Rattle.sw_base.specs.Layout.{slot_at}
-use Rattle.sw_cage.specs.Cage.{CageSeen}
-use Rattle.sw_cage.specs.Takes.{TakesReturnThere}
+use Rattle.std.proofs.Common.{ap}
 use Rattle.sw_cage.proofs.Happens.{kept_back, here_out, here_late}
 use Rattle.sw_cage.proofs.cage.Cage.put_back.Goals as goal
 
