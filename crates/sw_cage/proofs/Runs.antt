@@ -56,7 +56,7 @@ and_false : (b : Bool) → (b && false) ≡ false
 and_false true = refl
 and_false false = refl
 
-meter_open : (m : MeterAccount) (ch : ℕ) → option_closed (Some (of_meter m)) ch ≡ false
+pub meter_open : (m : MeterAccount) (ch : ℕ) → option_closed (Some (of_meter m)) ch ≡ false
 meter_open m ch = and_false (nat_lt 0 ch)
 
 -- a meter leaves its slot, or comes into it: nothing opens or closes

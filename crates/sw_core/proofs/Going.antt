@@ -158,5 +158,5 @@ returns_once p q q' done f f' told told' h k n m = elim (returns_as p done f tol
 
 pub starts_once : (p q q' : Panel) (plan : Snapshot) (f f' : Bool) (told told' : TakenSeen) → Starts p plan f told q → Starts p plan f' told' q' → told ≢ SaysFault → told' ≢ SaysFault → (told ≡ told') × (q ≡ q')
 starts_once p q q' plan f f' told told' h k n m =
-    let r = goes_once (begun p.cage) q.cage q'.cage p.settings 0 told told' h.2 k.2 n m in
-    (r.0, tolled p q q' told told' (calmed p.status) r.0 r.1 h.3 k.3)
+    let r = goes_once (begun p.cage) q.cage q'.cage p.settings 0 told told' h.3 k.3 n m in
+    (r.0, tolled p q q' told told' (calmed p.status) r.0 r.1 h.4 k.4)

@@ -6,3 +6,6 @@ mod Numbered
 mod Same
 mod Going
 mod Determined
+mod Kept
+mod Safety
+mod Obeyed
