@@ -41,7 +41,7 @@ measured-same : (a b b' : MeterAccount) (o : Result Reading CardFault) → IsMea
 measured-same a b b' (Ok r) m m' = m ∙ sym m'
 measured-same a b b' (Err e) m m' = m ∙ sym m'
 
-finished : ℕ → Ticket → MeterAccount → ℕ → Result Reading CardFault → FinishedSeen
+abbrev finished : ℕ → Ticket → MeterAccount → ℕ → Result Reading CardFault → FinishedSeen
 finished slot ticket meter before outcome = record { slot = slot; ticket = ticket; meter = meter; before = before; outcome = outcome }
 
 parts-same : (s s' : ℕ) (t t' : Ticket) (m m' : MeterAccount) (b b' : ℕ) (o o' : Result Reading CardFault) → s ≡ s' → t ≡ t' → m ≡ m' → b ≡ b' → o ≡ o' → finished s t m b o ≡ finished s' t' m' b' o'
