@@ -1,23 +1,29 @@
 -- A talk leaves no choice, where a text is read in one way.
 use Rattle.std.proofs.Common.{◌≡◌, ℕ, ◌+◌, Bool, true, false, MatchBool, List, [], ◌∷◌, ◌++◌, inl, inr, length, Some, None, Result, Ok, Err, refl, ap, sym, ◌∙◌, subst}
-use Rattle.std.specs.Prelude.{◌==◌, nat_lt}
+use Rattle.std.specs.Prelude.{◌==◌, nat_lt, slice_index_or, ◌-◌, ◌<◌, ◌⊎◌}
+use Rattle.std.proofs.Common.{⊎_elim}
+use Rattle.std.proofs.lemmas.Bool.{cases_order}
 use Rattle.sw_base.specs.declared.error.ScpiError.{ScpiError}
 use Rattle.sw_base.specs.declared.error.ScpiError.TheVariants.{SettingsConflict, OutOfMemory, InputBufferOverrun}
 use Rattle.sw_lex.specs.declared.command.Command.{Command}
 use Rattle.sw_lex.specs.Unit.{UnitView, IsUnit, IsRefused, IsBlank}
 use Rattle.sw_lex.specs.Meaning.{Nodes, Resolves}
+use Rattle.sw_verify.specs.declared.snapshot.Snapshot.{Snapshot as Taken}
+use Rattle.sw_verify.specs.declared.refusal.Refusal.{Refusal}
+use Rattle.sw_verify.specs.declared.refusal.Refusal.TheVariants.{EmptyList, NoChannel, NoMeter, GroupClash, TooManyReadings, BadNesting, BadJump, LeftClosed, NotClosed, NoMemory}
+use Rattle.sw_verify.specs.Check.{IsFirst, number_of, error_of}
 use Rattle.sw_core.specs.declared.ask.Sid.{Sid}
 use Rattle.sw_core.specs.declared.ask.SessionAsk.{SessionAsk}
 use Rattle.sw_core.specs.declared.ask.SessionAsk.TheVariants as Ask
 use Rattle.sw_core.specs.declared.ask.SessionAnswer.{SessionAnswer}
-use Rattle.sw_core.specs.declared.ask.SessionAnswer.TheVariants.{Joined, Full, Stranger, Broken, Done, Refused, Hold, Worn}
+use Rattle.sw_core.specs.declared.ask.SessionAnswer.TheVariants.{Joined, Full, Stranger, Broken, Done, Snapshot, Refused, Hold, Worn}
 use Rattle.sw_session.specs.declared.desk.Wake.{Wake}
 use Rattle.sw_session.specs.declared.desk.Wake.TheVariants.{Again, Over}
 use Rattle.sw_session.specs.declared.talker.After.{After}
 use Rattle.sw_session.specs.declared.talker.After.TheVariants.{Goes, Drops, Ends}
 use Rattle.sw_session.specs.Trace.{Entry, Asked, Waited}
 use Rattle.sw_session.specs.Script.{Ending, Complete, Refuses, Unread, IsScript}
-use Rattle.sw_session.specs.Talk.{Queues, Settles, Begins, Concludes, Serves, Proceeds, Talks, TalksUnits, Overruns, queued, after_of, has_answers, written, longest, turns}
+use Rattle.sw_session.specs.Talk.{Queues, Settles, Begins, Initiates, Plans, is_initiate, Concludes, Serves, Proceeds, Talks, TalksUnits, Overruns, queued, after_of, has_answers, written, longest, turns}
 use Rattle.sw_session.specs.Law.{IsAmple, AllAmple, SameTalk, TalkIsDetermined}
 
 -- the rests are the same talk, and ample
@@ -50,6 +56,7 @@ settles-asks sid turn ask a Broken f t r p = p.0
 settles-asks sid turn ask a (Done text) f t r p = p.0
 settles-asks sid turn ask a (Refused e) f t r p = p.0
 settles-asks sid turn ask a (Worn h) f t r p = p.0
+settles-asks sid turn ask a (Snapshot s) f t r p = p.0
 
 settles-final : (sid : Sid) (turn : ℕ) (ask a : SessionAsk) (x f : SessionAnswer) (t r : List Entry) → ((h : SessionAsk) → x ≡ Hold h → ⊥) → Settles sid turn ask (Asked a x ∷ t) f r → (f ≡ x) × (r ≡ t)
 settles-final sid turn ask a (Hold h) f t r differs p = absurd (differs h refl)
@@ -60,6 +67,7 @@ settles-final sid turn ask a Broken f t r differs p = (p.1, p.2)
 settles-final sid turn ask a (Done text) f t r differs p = (p.1, p.2)
 settles-final sid turn ask a (Refused e) f t r differs p = (p.1, p.2)
 settles-final sid turn ask a (Worn h) f t r differs p = (p.1, p.2)
+settles-final sid turn ask a (Snapshot s) f t r differs p = (p.1, p.2)
 
 -- an answer that is no hold
 told-same : (b b' : List ℕ) (sid : Sid) (turn : ℕ) (ask a : SessionAsk) (x : SessionAnswer) (t t' r r' : List Entry) (f f' : SessionAnswer) → ((h : SessionAsk) → x ≡ Hold h → ⊥) → Settles sid turn ask (Asked a x ∷ t) f r → Settles sid turn ask t' f' r'
@@ -121,10 +129,69 @@ settles-same b b' sid turn ask (Asked a Broken ∷ t) t' r r' f f' p q next = to
 settles-same b b' sid turn ask (Asked a (Done text) ∷ t) t' r r' f f' p q next = told-same b b' sid turn ask a (Done text) t t' r r' f f' (λ h is. absurd (cc (is))) p q next
 settles-same b b' sid turn ask (Asked a (Refused e) ∷ t) t' r r' f f' p q next = told-same b b' sid turn ask a (Refused e) t t' r r' f f' (λ h is. absurd (cc (is))) p q next
 settles-same b b' sid turn ask (Asked a (Worn h) ∷ t) t' r r' f f' p q next = told-same b b' sid turn ask a (Worn h) t t' r r' f f' (λ h is. absurd (cc (is))) p q next
+settles-same b b' sid turn ask (Asked a (Snapshot s) ∷ t) t' r r' f f' p q next = told-same b b' sid turn ask a (Snapshot s) t t' r r' f f' (λ h is. absurd (cc (is))) p q next
+
+-- a refusal by its number
+abbrev refusal_at : ℕ → Refusal
+refusal_at n = slice_index_or (EmptyList ∷ NoChannel ∷ NoMeter ∷ GroupClash ∷ TooManyReadings ∷ BadNesting ∷ BadJump ∷ LeftClosed ∷ NotClosed ∷ []) (n - 1) NoMemory
+
+at-number : (r : Refusal) → refusal_at (number_of r) ≡ r
+at-number EmptyList = refl
+at-number NoChannel = refl
+at-number NoMeter = refl
+at-number GroupClash = refl
+at-number TooManyReadings = refl
+at-number BadNesting = refl
+at-number BadJump = refl
+at-number LeftClosed = refl
+at-number NotClosed = refl
+at-number NoMemory = refl
+
+-- one refusal is the first
+first-one : (s : Taken) (r r' : Refusal) → IsFirst r s → IsFirst r' s → r ≡ r'
+first-one s r r' f f' =
+    ⊎_elim (λ (e : number_of r ≡ number_of r'). sym (at-number r) ∙ ap refusal_at e ∙ at-number r')
+    (λ (o : (number_of r < number_of r') ⊎ (number_of r' < number_of r)).
+    ⊎_elim (λ (l : number_of r < number_of r'). absurd (f'.none_before r l f.applies)) (λ (l : number_of r' < number_of r). absurd (f.none_before r' l f'.applies)) o)
+    (cases_order (number_of r) (number_of r'))
+
+-- an answer that stands
+stands-same : (b b' : List ℕ) (x : SessionAnswer) (t t' r r' : List Entry) (f f' : SessionAnswer) → (f ≡ x) × (r ≡ t) → (f' ≡ x) × (r' ≡ t') → (f ≡ f' → Rests b b' r r') → Rests b b' t t'
+stands-same b b' x t t' r r' f f' (fin, left) (fin', left') next = rw (← left, ← left') (next (fin ∙ sym fin'))
+
+plans-same : (b b' : List ℕ) (sid : Sid) (told : SessionAnswer) (t t' r r' : List Entry) (f f' : SessionAnswer) → Plans sid told t f r → Plans sid told t' f' r' → (f ≡ f' → Rests b b' r r') → Rests b b' t t'
+plans-same b b' sid (Snapshot s) t t' r r' f f' p q next = λ m n. elim p [
+  | inl k ↦ elim q [
+    | inl k' ↦ settles-same b b' sid 0 (Ask.Start sid s) t t' r r' f f' k.1 k'.1 next m n
+    | inr k' ↦ absurd (k'.0 k.0)
+  ]
+  | inr k ↦ elim q [
+    | inl k' ↦ absurd (k.0 k'.0)
+    | inr k' ↦
+        let one = first-one s k.1.0 k'.1.0 k.1.1 k'.1.1 in
+        queues-same b b' sid (error_of k.1.0) t t' r r' f f' k.1.2 (subst (λ (x : Refusal). Queues sid (error_of x) t' f' r') (sym one) k'.1.2) next m n
+  ]
+]
+plans-same b b' sid (Joined s) t t' r r' f f' p q next = stands-same b b' (Joined s) t t' r r' f f' p q next
+plans-same b b' sid Full t t' r r' f f' p q next = stands-same b b' Full t t' r r' f f' p q next
+plans-same b b' sid Stranger t t' r r' f f' p q next = stands-same b b' Stranger t t' r r' f f' p q next
+plans-same b b' sid Broken t t' r r' f f' p q next = stands-same b b' Broken t t' r r' f f' p q next
+plans-same b b' sid (Done text) t t' r r' f f' p q next = stands-same b b' (Done text) t t' r r' f f' p q next
+plans-same b b' sid (Refused e) t t' r r' f f' p q next = stands-same b b' (Refused e) t t' r r' f f' p q next
+plans-same b b' sid (Hold h) t t' r r' f f' p q next = stands-same b b' (Hold h) t t' r r' f f' p q next
+plans-same b b' sid (Worn h) t t' r r' f f' p q next = stands-same b b' (Worn h) t t' r r' f f' p q next
+
+initiates-same : (b b' : List ℕ) (sid : Sid) (t t' r r' : List Entry) (f f' : SessionAnswer) → Initiates sid t f r → Initiates sid t' f' r' → (f ≡ f' → Rests b b' r r') → Rests b b' t t'
+initiates-same b b' sid t t' r r' f f' (told, mid, p, k) (told', mid', p', k') next =
+    settles-same b b' sid 0 (Ask.Snapshot sid) t t' mid mid' told told' p p'
+    (λ same. plans-same b b' sid told mid mid' r r' f f' k (subst (λ (x : SessionAnswer). Plans sid x mid' f' r') (sym same) k') next)
 
 begins-same : (b b' : List ℕ) (sid : Sid) (answered : Bool) (command : Result Command ScpiError) (t t' r r' : List Entry) (f f' : SessionAnswer) → Begins sid answered command t f r → Begins sid answered command t' f' r'
     → (f ≡ f' → Rests b b' r r') → Rests b b' t t'
-begins-same b b' sid answered (Ok command) t t' r r' f f' p q next = settles-same b b' sid 0 (Ask.Unit sid command answered) t t' r r' f f' p q next
+begins-same b b' sid answered (Ok command) t t' r r' f f' p q next =
+    either-way (is_initiate command) (Initiates sid t f r) (Settles sid 0 (Ask.Unit sid command answered) t f r) (Initiates sid t' f' r') (Settles sid 0 (Ask.Unit sid command answered) t' f' r') p q
+    (λ k k'. initiates-same b b' sid t t' r r' f f' k k' next)
+    (λ k k'. settles-same b b' sid 0 (Ask.Unit sid command answered) t t' r r' f f' k k' next)
 begins-same b b' sid answered (Err e) t t' r r' f f' p q next = queues-same b b' sid e t t' r r' f f' p q next
 
 -- what comes of an answer that is no text
@@ -144,6 +211,7 @@ concludes-same b b' sid answers (Done (Some text)) t t' r r' after after' told t
 ]
 concludes-same b b' sid answers (Done None) t t' r r' after after' told told' p q next = plain-same b b' t t' r r' Goes after after' answers told told' p q next
 concludes-same b b' sid answers (Joined s) t t' r r' after after' told told' p q next = plain-same b b' t t' r r' Ends after after' answers told told' p q next
+concludes-same b b' sid answers (Snapshot s) t t' r r' after after' told told' p q next = plain-same b b' t t' r r' Ends after after' answers told told' p q next
 concludes-same b b' sid answers Full t t' r r' after after' told told' p q next = plain-same b b' t t' r r' Ends after after' answers told told' p q next
 concludes-same b b' sid answers Stranger t t' r r' after after' told told' p q next = plain-same b b' t t' r r' Ends after after' answers told told' p q next
 concludes-same b b' sid answers Broken t t' r r' after after' told told' p q next = plain-same b b' t t' r r' Ends after after' answers told told' p q next

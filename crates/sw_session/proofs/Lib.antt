@@ -1,5 +1,9 @@
 pub mod Led
 pub mod Lines
 pub mod Talks
+pub mod Begins
+pub mod Nearer
+pub mod Keeping
+pub mod HandedBack
 pub mod Determined
 pub mod CoreTalk

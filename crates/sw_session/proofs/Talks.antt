@@ -12,7 +12,7 @@ use Rattle.sw_lex.specs.Meaning.{Nodes, Resolves}
 use Rattle.sw_core.specs.declared.ask.Sid.{Sid}
 use Rattle.sw_core.specs.declared.ask.SessionAsk.{SessionAsk}
 use Rattle.sw_core.specs.declared.ask.SessionAnswer.{SessionAnswer}
-use Rattle.sw_core.specs.declared.ask.SessionAnswer.TheVariants.{Joined, Full, Stranger, Broken, Done, Refused, Hold, Worn}
+use Rattle.sw_core.specs.declared.ask.SessionAnswer.TheVariants.{Joined, Full, Stranger, Broken, Done, Snapshot, Refused, Hold, Worn}
 use Rattle.sw_session.specs.declared.desk.Wake.TheVariants.{Again, Over}
 use Rattle.sw_session.specs.declared.talker.After.{After}
 use Rattle.sw_session.specs.declared.talker.After.TheVariants.{Goes, Drops, Ends}
@@ -68,6 +68,7 @@ settles-told sid turn ask asked Broken rest same differ = (same, refl, refl)
 settles-told sid turn ask asked (Done text) rest same differ = (same, refl, refl)
 settles-told sid turn ask asked (Refused e) rest same differ = (same, refl, refl)
 settles-told sid turn ask asked (Worn back) rest same differ = (same, refl, refl)
+settles-told sid turn ask asked (Snapshot s) rest same differ = (same, refl, refl)
 
 pub settle-told : {D : Type 0} (passes : D → Entry → D → Type 0) (d0 d1 d2 : D) (sid : Sid) (turn : ℕ) (ask asked : SessionAsk) (final : SessionAnswer) → turn < turns → asked ≡ ask → ((held : SessionAsk) → final ≡ Hold held → ⊥) → Led passes d0 d1 (SettlesBy sid turn ask)
     → passes d1 (Asked asked final) d2 → Led passes d0 d2 (λ t rest. Settles sid 0 ask t final rest)

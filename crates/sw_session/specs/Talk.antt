@@ -5,12 +5,16 @@ use Rattle.sw_base.specs.declared.error.ScpiError.TheVariants.{SettingsConflict,
 use Rattle.sw_base.specs.Errors.{number_of}
 use Rattle.std.specs.Io.BufRead.{strip_last}
 use Rattle.sw_lex.specs.declared.command.Command.{Command}
+use Rattle.sw_lex.specs.declared.command.Command.TheVariants as Command
 use Rattle.sw_lex.specs.Unit.{UnitView}
 use Rattle.sw_lex.specs.Meaning.{Nodes, Resolves}
+use Rattle.sw_verify.specs.declared.refusal.Refusal.{Refusal}
+use Rattle.sw_verify.specs.Check.{IsReady, IsFirst, error_of}
 use Rattle.sw_core.specs.declared.ask.Sid.{Sid}
 use Rattle.sw_core.specs.declared.ask.SessionAsk.{SessionAsk}
 use Rattle.sw_core.specs.declared.ask.SessionAsk.TheVariants as Ask
 use Rattle.sw_core.specs.declared.ask.SessionAnswer.{SessionAnswer}
+use Rattle.sw_core.specs.declared.ask.SessionAnswer.TheVariants as Answer
 use Rattle.sw_core.specs.declared.ask.SessionAnswer.TheVariants.{Stranger, Broken, Done, Refused, Hold, Worn}
 use Rattle.sw_session.specs.declared.desk.Wake.TheVariants.{Again, Over}
 use Rattle.sw_session.specs.declared.talker.After.{After}
@@ -60,9 +64,25 @@ Settles sid turn ask (Asked a (Hold b) ∷ trace) final rest = ⊥
 Settles sid turn ask (Asked a r ∷ trace) final rest = (a ≡ ask) × (final ≡ r) × (rest ≡ trace)
 Settles sid turn ask trace final rest = ⊥
 
--- a command is asked, with whether the message has answered before; an error is queued
+-- What comes of a snapshot: the scan of one that is ready is asked to start, else the first refusal is queued. Any other
+-- answer is the unit's.
+abbrev pub Plans : Sid → SessionAnswer → List Entry → SessionAnswer → List Entry → Type 0
+Plans sid (Answer.Snapshot s) trace final rest =
+    (IsReady s × Settles sid 0 (Ask.Start sid s) trace final rest) ⊎ ((IsReady s → ⊥) × ((r : Refusal) × IsFirst r s × Queues sid (error_of r) trace final rest))
+Plans sid told trace final rest = (final ≡ told) × (rest ≡ trace)
+
+-- INITiate (SCPI-1999, 24): what a scan would begin from is asked, and its plan is made outside the mainframe (own)
+abbrev pub Initiates : Sid → List Entry → SessionAnswer → List Entry → Type 0
+Initiates sid trace final rest = (told : SessionAnswer) × (mid : List Entry) × Settles sid 0 (Ask.Snapshot sid) trace told mid × Plans sid told mid final rest
+
+abbrev pub is_initiate : Command → Bool
+is_initiate Command.Initiate = true
+is_initiate command = false
+
+-- a command is asked, with whether the message has answered before, but for INITiate; an error is queued
 abbrev pub Begins : Sid → Bool → Result Command ScpiError → List Entry → SessionAnswer → List Entry → Type 0
-Begins sid answered (Ok command) trace final rest = Settles sid 0 (Ask.Unit sid command answered) trace final rest
+Begins sid answered (Ok command) trace final rest =
+    MatchBool (is_initiate command) (Initiates sid trace final rest) (Settles sid 0 (Ask.Unit sid command answered) trace final rest)
 Begins sid answered (Err e) trace final rest = Queues sid e trace final rest
 
 -- whether the message goes on after an answer

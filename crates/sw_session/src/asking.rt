@@ -1,13 +1,14 @@
-//! Asking a desk until it answers, and queuing errors.
+//! Asking a desk until it answers, beginning scans, and queuing errors.
 
 ghost use Rattle.std.specs.Prelude.{◌≡◌};
 ghost use Rattle.sw_session.specs.Trace.{Led};
-ghost use Rattle.sw_session.specs.Talk.{Queues, Settles, Begins, queued};
+ghost use Rattle.sw_session.specs.Talk.{Queues, Settles, Begins, Initiates, Plans, is_initiate, queued};
 
 use crate::desk::{Desk, Wake};
 use sw_base::ScpiError;
 use sw_core::{SessionAnswer, SessionAsk, Sid};
 use sw_lex::Command;
+use sw_verify::Plan;
 
 /// How often a held ask is asked.
 const TURNS: u64 = 1 << 32;
@@ -22,8 +23,41 @@ pub fn begin<D: Desk>(
     ensures { Led D.passes desk.old desk.new (λ t rest. Begins sid answered command t result rest) }
 {
     match command {
-        Ok(command) => settle(desk, sid, SessionAsk::Unit(sid, command, answered)),
+        Ok(command) => {
+            if is_initiate(&command) {
+                initiate(desk, sid)
+            } else {
+                settle(desk, sid, SessionAsk::Unit(sid, command, answered))
+            }
+        }
         Err(error) => queue(desk, sid, error),
+    }
+}
+
+fn is_initiate(command: &Command) -> bool
+    ensures { result ≡ is_initiate command.now }
+{
+    matches!(command, Command::Initiate)
+}
+
+/// Asks what a scan would begin from, and plans it.
+fn initiate<D: Desk>(desk: &mut D, sid: Sid) -> SessionAnswer
+    ensures { Led D.passes desk.old desk.new (λ t rest. Initiates sid t result rest) }
+{
+    let told = settle(desk, sid, SessionAsk::Snapshot(sid));
+    plan(desk, sid, told)
+}
+
+/// Makes the plan of a snapshot and asks to start it, or queues why there is none. Any other answer stands.
+fn plan<D: Desk>(desk: &mut D, sid: Sid, told: SessionAnswer) -> SessionAnswer
+    ensures { Led D.passes desk.old desk.new (λ t rest. Plans sid told t result rest) }
+{
+    match told {
+        SessionAnswer::Snapshot(snapshot) => match Plan::make(snapshot) {
+            Ok(plan) => settle(desk, sid, SessionAsk::Start(sid, plan)),
+            Err(refusal) => queue(desk, sid, refusal.error()),
+        },
+        told => told,
     }
 }
 

@@ -14,8 +14,8 @@ pub fn talk_is_determined()
     one_meaning();
 }
 
-/// A law: over a mainframe the message alone determines what is written and the state that is left, where no growth is
-/// refused and no card fails.
+/// A law: over a mainframe the message and what is measured determine what is written and the desk that is left, where no
+/// growth is refused and no card fails.
 pub fn core_talk_is_determined()
     ensures { CoreTalkIsDetermined }
 {
