@@ -110,13 +110,16 @@ talks-whole sid trace bytes line t = at (leb_tells (length line) most_kept)
     at (inr (e, long)) = long-alike sid trace bytes (strip_last 10 (take most_kept line)) (strip_last 10 line)
         (strip-long (take most_kept line) (omega (arith, length-take most_kept line))) (strip-long line (omega arith)) t
 
-pub talked-whole : (p q : Panel) (sid : Sid) (line bytes : List ℕ) → Talked CorePasses p q sid (take most_kept line) bytes → Talked CorePasses p q sid line bytes
+pub talked-whole : (p q : DeskSeen) (sid : Sid) (line bytes : List ℕ) → Talked CorePasses p q sid (take most_kept line) bytes → Talked CorePasses p q sid line bytes
 talked-whole p q sid line bytes t = record { trace = t.trace; leads = t.leads; talks = talks-whole sid t.trace bytes line t.talks }
 
 -- nothing is kept at the end of the input alone
 pub kept-none : (old : Option (List ℕ)) (kept : List ℕ) → IfSome old (λ xs. kept ≡ take most_kept (take_through 10 xs)) → length kept ≡ 0 → IsAtEnd old
 kept-none None kept is none = tt
 kept-none (Some xs) kept is none = take_through-nil 10 xs (omega (arith, ap length is, length-take most_kept (take_through 10 xs)))
+
+pub line_whole : (p q : DeskSeen) (sid : Sid) (line bytes : List ℕ) → Line sid p (take most_kept line) bytes q → Line sid p line bytes q
+line_whole p q sid line bytes t = record { spoken = t.spoken; talked = talked-whole p t.spoken sid line bytes t.talked; rests = t.rests }
 
 pub kept-some : (xs kept : List ℕ) → kept ≡ take most_kept (take_through 10 xs) → 0 < length kept → 0 < length xs
 kept-some xs kept is some = take_through_nonempty 10 xs (omega (arith, ap length is, length-take most_kept (take_through 10 xs)))

@@ -141,6 +141,9 @@ fn run_on<R: Relay, M: Meter, Rd: BufRead, W: Write>(
             return Ok(());
         }
         let told = talker.message(&line, desk);
+        if !desk.rest() {
+            return Err(RunFault::Input);
+        }
         if let Err(fault) = write_bytes(writer, &told) {
             return Err(fault);
         }
