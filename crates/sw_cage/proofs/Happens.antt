@@ -1,9 +1,7 @@
 -- What happens to a running scan, and the cage stays good.
-use Rattle.std.proofs.Common.{◌≡◌, ◌≢◌, ℕ, zero, suc, ◌+◌, ◌-◌, ◌<◌, ◌≤◌, Bool, true, false, List, [], ◌∷◌, ◌++◌, length, take, drop, Option, Some, None, slice_set, refl, sym, ap, ◌∙◌, subst, arith, is_some, inl, inr, length-append, Result, Ok, if◌then◌else◌}
+use Rattle.std.proofs.Common.{◌≡◌, ◌≢◌, ℕ, ◌+◌, ◌-◌, ◌<◌, ◌≤◌, true, List, [], ◌∷◌, ◌++◌, length, Option, Some, None, slice_set, refl, sym, ap, ◌∙◌, subst, arith, is_some, length-append, Result, Ok, if◌then◌else◌}
 use Rattle.std.specs.Result.{is_ok}
 use mathlib.Core.Path.{fun_ext}
-use Rattle.std.proofs.lemmas.List.{length-map}
-use Rattle.std.proofs.lemmas.Bool.{cases_eq}
 use Rattle.sw_base.specs.Layout.{Channel, Layout, slot_at, has_meter}
 use Rattle.sw_base.specs.declared.reading.Reading.{Reading}
 use Rattle.sw_card.specs.Account.{MeterAccount, of_meter}
@@ -14,19 +12,19 @@ use Rattle.sw_trigger.specs.Agenda.{Item, agenda}
 use Rattle.sw_trigger.specs.Counts.{reads, is_reading}
 use Rattle.sw_verify.specs.Channels.{Channels, is_among}
 use Rattle.sw_verify.specs.Sound.{IsSound}
-use Rattle.sw_cage.specs.Rack.{Rack, layout_of, is_closed, all_open, option_rest}
+use Rattle.sw_cage.specs.Rack.{Rack, layout_of, is_closed, all_open}
 use Rattle.sw_cage.specs.Channels.{closed_list}
 use Rattle.sw_cage.specs.Cage.{Scanning, CageSeen, layout_with, cage_layout, ticket_of}
 use Rattle.sw_cage.specs.Advance.{opens_of, closes_of, way, next_place, awaits}
 use Rattle.sw_cage.specs.Moves.{MayMove}
-use Rattle.sw_cage.specs.Good.{IsOnWay, MeterStands, IsUnderway, IsRunning, IsHeld, IsGood, HasRoom, IsKept}
+use Rattle.sw_cage.specs.Good.{IsOnWay, MeterStands, IsUnderway, IsRunning, IsHeld, HasRoom, IsKept}
 use Rattle.sw_cage.specs.TakenSeen.{TakenSeen, SaysIgnored, SaysWaits, SaysPause, SaysJob, SaysEnded, SaysFault}
 use Rattle.sw_cage.specs.Takes.{AwaitsReturn, TakesReturnThere, AwaitsOther}
-use Rattle.sw_cage.specs.Goes.{Bays, bays_of, Runs, Goes}
+use Rattle.sw_cage.specs.Goes.{bays_of, Runs, Goes}
 use Rattle.sw_cage.specs.declared.job.Ticket.{Ticket}
 use Rattle.sw_cage.proofs.Racks.{some_slot, slot_set_same, slot_set_other}
-use Rattle.sw_cage.proofs.Layouts.{meter_in, layout_length, layout_back}
-use Rattle.sw_cage.proofs.Held.{Stays, stays_open, held_stays}
+use Rattle.sw_cage.proofs.Layouts.{meter_in, layout_back}
+use Rattle.sw_cage.proofs.Held.{stays_open, held_stays}
 use Rattle.sw_cage.proofs.Underway.{reads_past, reads_left, may_move, may_move_in, on_way_past, on_way_like}
 use Rattle.sw_cage.proofs.Among.{among_closed}
 use Rattle.sw_cage.proofs.Runs.{CanGo, lengths, closed_back, held_both, good_goes}

@@ -1,5 +1,5 @@
 -- What stays of a cage where its cards change.
-use Rattle.std.proofs.Common.{◌≡◌, ◌≢◌, ℕ, ◌+◌, ◌-◌, ◌≤◌, ◌<◌, Bool, true, false, List, [], ◌∷◌, ◌++◌, length, take, Option, None, Some, slice_index_or, slice_set, inl, inr, refl, sym, ◌∙◌, ap, subst, arith, map, is_some, zero, suc, replicate, nat_lt, if◌then◌else◌, Result, Ok, Err, OnOk, OnErr}
+use Rattle.std.proofs.Common.{◌≡◌, ℕ, ◌+◌, ◌-◌, ◌≤◌, ◌<◌, Bool, true, false, List, [], ◌∷◌, ◌++◌, length, take, Option, None, Some, slice_index_or, slice_set, inl, inr, refl, sym, ◌∙◌, ap, subst, arith, map, is_some, zero, suc, replicate, nat_lt, if◌then◌else◌, Result, Ok, Err, OnOk, OnErr}
 use Rattle.std.proofs.lemmas.List.{length-map, length-set, take_more}
 use Rattle.sw_base.specs.Layout.{Channel, Bay, meter, Layout, slot_at}
 use Rattle.sw_base.specs.declared.reading.Reading.{Reading}
@@ -8,7 +8,7 @@ use Rattle.sw_cage.specs.Rack.{Rack, option_bay, layout_of, option_rest, all_ope
 use Rattle.sw_cage.specs.Change.{Sets, option_plate, IsDisturbed}
 use Rattle.sw_cage.specs.Install.{CanInstall}
 use Rattle.sw_cage.specs.Cage.{CageSeen, Scanning, or_meter, cage_layout}
-use Rattle.sw_cage.specs.Good.{IsHeld, IsGood, IsRunning, HasRoom, IsKept}
+use Rattle.sw_cage.specs.Good.{IsHeld, IsRunning, IsKept}
 use Rattle.sw_cage.specs.declared.job.Ticket.{Ticket}
 use Rattle.sw_cage.proofs.Racks.{slot_map, slot_rest, slot_cases, slot_get, slot_layout, some_slot, is_none}
 use Rattle.sw_cage.proofs.Layouts.{slot_with, or_in, with_length, layout_length}

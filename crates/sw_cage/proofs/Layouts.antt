@@ -1,5 +1,5 @@
 -- The cage's cards by slot, those that are out among them.
-use Rattle.std.proofs.Common.{◌≡◌, ℕ, zero, suc, ◌-◌, ◌<◌, ◌≤◌, Bool, true, false, List, [], ◌∷◌, length, Option, None, Some, slice_index_or, slice_set, refl, sym, ◌∙◌, ap, subst, arith, map, nat_lt, if◌then◌else◌}
+use Rattle.std.proofs.Common.{◌≡◌, ℕ, zero, suc, ◌-◌, ◌<◌, Bool, true, false, List, [], ◌∷◌, length, Option, None, Some, slice_index_or, slice_set, refl, sym, ◌∙◌, ap, arith, nat_lt, if◌then◌else◌}
 use Rattle.std.proofs.lemmas.List.{map-set, length-map}
 use Rattle.sw_base.specs.Layout.{Channel, Bay, meter, Layout, slot_at, bay_has, bay_group, bay_is_meter, is_present, group_of, has_meter, IsClash}
 use Rattle.sw_card.specs.Account.{Account, MeterAccount, of_meter}

@@ -13,3 +13,5 @@ pub mod Underway
 pub mod Runs
 pub mod Among
 pub mod Happens
+pub mod Exclusive
+pub mod Failures

@@ -1,5 +1,5 @@
 -- Places in an agenda.
-use Rattle.std.proofs.Common.{◌≡◌, ℕ, zero, suc, ◌+◌, ◌-◌, ◌*◌, ◌<◌, ◌≤◌, ◌^◌, Bool, true, false, List, [], ◌∷◌, ◌++◌, length, take, drop, map, cond, eqb, Option, Some, None, refl, sym, ap, ◌∙◌, arith, length-append, length-drop}
+use Rattle.std.proofs.Common.{◌≡◌, ℕ, zero, suc, ◌+◌, ◌*◌, ◌<◌, ◌≤◌, ◌^◌, Bool, true, false, List, [], ◌∷◌, ◌++◌, length, drop, map, cond, eqb, Option, Some, None, refl, sym, ap, ◌∙◌, arith, length-append, length-drop}
 use Rattle.std.proofs.Math.Seq.{drop-drop, drop-append_seam}
 use Rattle.std.proofs.Math.Nat.{suc-mul}
 use Rattle.std.proofs.lemmas.Nat.{mul-le}
@@ -11,7 +11,7 @@ use Rattle.sw_base.specs.declared.terms.Source.{Source}
 use Rattle.sw_base.specs.declared.terms.Source.TheVariants.{Immediate, Bus, External, Hold}
 use Rattle.sw_trigger.specs.declared.layer.Layer.{Layer}
 use Rattle.sw_trigger.specs.declared.layer.Awaited.{Awaited}
-use Rattle.sw_trigger.specs.declared.layer.Awaited.TheVariants.{Wait, Pause, Read}
+use Rattle.sw_trigger.specs.declared.layer.Awaited.TheVariants.{Pause}
 use Rattle.sw_trigger.specs.Settings.{Setup, IsInRange}
 use Rattle.sw_trigger.specs.Agenda.{Item, Awaits, Close, Open, repeated, wait_of, pause_of, head_of, channel_at, visit, pass_of, passes, arm1_turn, arm2_turn, agenda}
 use Rattle.sw_trigger.proofs.Repeats.{length-repeated}
@@ -21,7 +21,7 @@ use Rattle.sw_cage.specs.declared.walk.Moves.{Moves}
 use Rattle.sw_cage.specs.declared.walk.Phase.{Phase}
 use Rattle.sw_cage.specs.declared.walk.Phase.TheVariants.{Arm1Wait, Arm1Pause, Arm2Wait, Arm2Pause, TriggerWait, TriggerPause, Reading}
 use Rattle.sw_cage.specs.Cage.{Scanning}
-use Rattle.sw_cage.specs.Advance.{leading, first_awaited, opens_of, closes_of, way, next_place, awaits}
+use Rattle.sw_cage.specs.Advance.{leading, first_awaited, opens_of, closes_of, way, next_place}
 use Rattle.sw_cage.specs.Walk.{rest_at, rest_of, rest_after, awaited_at, awaited_of, moves_of}
 
 -- what is left begins with what is awaited

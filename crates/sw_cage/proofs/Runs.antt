@@ -1,33 +1,29 @@
 -- What is so of a cage stays so where its scan goes on.
-use Rattle.std.proofs.Common.{◌≡◌, ◌≢◌, ℕ, zero, suc, ◌+◌, ◌-◌, ◌<◌, ◌≤◌, ◌&&◌, nat_lt, Bool, true, false, List, [], ◌∷◌, ◌++◌, length, take, drop, Option, Some, None, slice_set, Result, Ok, Err, refl, sym, ap, ◌∙◌, subst, arith, is_some, inl, inr, length-append}
+use Rattle.std.proofs.Common.{◌≡◌, ℕ, ◌+◌, ◌-◌, ◌<◌, ◌≤◌, ◌&&◌, nat_lt, Bool, true, false, List, length, take, Option, Some, None, slice_set, refl, sym, ap, ◌∙◌, subst, arith, is_some, inl, inr}
 use mathlib.Core.Path.{fun_ext}
 use Rattle.std.proofs.lemmas.List.{length-set}
-use Rattle.std.proofs.lemmas.Bool.{cases_eq}
-use Rattle.sw_base.specs.Layout.{Channel, Bay, meter, Layout, slot_at, has_meter, bay_is_meter}
-use Rattle.sw_base.specs.declared.terms.LayerName.{LayerName}
+use Rattle.sw_base.specs.Layout.{Channel, Layout, slot_at, has_meter, bay_is_meter}
 use Rattle.sw_base.specs.declared.reading.Reading.{Reading}
 use Rattle.sw_card.specs.Account.{Account, MeterAccount, of_meter}
-use Rattle.sw_card.specs.declared.board.CardFault.{CardFault}
 use Rattle.sw_trigger.specs.declared.layer.Awaited.{Awaited}
-use Rattle.sw_trigger.specs.declared.layer.Awaited.TheVariants.{Wait, Pause, Read}
+use Rattle.sw_trigger.specs.declared.layer.Awaited.TheVariants.{Read}
 use Rattle.sw_trigger.specs.Settings.{Setup, IsInRange}
-use Rattle.sw_trigger.specs.Agenda.{Item, agenda}
-use Rattle.sw_trigger.specs.Counts.{reads, is_reading}
+use Rattle.sw_trigger.specs.Agenda.{agenda}
+use Rattle.sw_trigger.specs.Counts.{reads}
 use Rattle.sw_verify.specs.Sound.{effect}
-use Rattle.sw_cage.specs.Rack.{Rack, option_bay, layout_of, option_closed, is_closed}
-use Rattle.sw_cage.specs.Cage.{Scanning, CageSeen, or_meter, layout_with, cage_layout, ticket_of, fall}
-use Rattle.sw_cage.specs.Advance.{first_awaited, way, next_place, awaits}
-use Rattle.sw_cage.specs.Good.{IsOnWay, MeterStands, IsUnderway, IsRunning, IsHeld, IsGood, HasRoom, IsKept}
-use Rattle.sw_cage.specs.Work.{JobSeen, FinishedSeen}
+use Rattle.sw_cage.specs.Rack.{Rack, layout_of, option_closed, is_closed}
+use Rattle.sw_cage.specs.Cage.{Scanning, CageSeen, or_meter, layout_with, cage_layout, ticket_of}
+use Rattle.sw_cage.specs.Advance.{way, next_place, awaits}
+use Rattle.sw_cage.specs.Good.{IsOnWay, MeterStands, IsHeld, IsGood}
+use Rattle.sw_cage.specs.Work.{JobSeen}
 use Rattle.sw_cage.specs.TakenSeen.{TakenSeen, SaysIgnored, SaysWaits, SaysPause, SaysJob, SaysEnded, SaysFault}
-use Rattle.sw_cage.specs.Takes.{AwaitsReturn, TakesReturn}
-use Rattle.sw_cage.specs.Goes.{Moved, HasFallen, Bays, bays_of, IsSent, Arrives, Lands, Falls, Runs, Goes, with_back, with_reading}
+use Rattle.sw_cage.specs.Goes.{Moved, Bays, bays_of, Lands, Falls, Goes}
 use Rattle.sw_cage.specs.declared.job.Ticket.{Ticket}
-use Rattle.sw_cage.proofs.Racks.{slot_cases, slot_set_same, slot_set_other, slot_layout}
-use Rattle.sw_cage.proofs.Layouts.{slot_with, or_in, meter_in, layout_length, layout_sent, layout_back}
-use Rattle.sw_cage.proofs.Held.{Stays, stays_rest, stays_plates, stays_open, held_stays}
+use Rattle.sw_cage.proofs.Racks.{slot_cases, slot_set_same, slot_set_other}
+use Rattle.sw_cage.proofs.Layouts.{slot_with, or_in, layout_length, layout_sent}
+use Rattle.sw_cage.proofs.Held.{stays_rest, stays_plates, held_stays}
 use Rattle.sw_cage.proofs.Moving.{moved_layout}
-use Rattle.sw_cage.proofs.Underway.{reads_way, reads_past, reads_left, on_way_moved, on_way_past, on_way_like}
+use Rattle.sw_cage.proofs.Underway.{reads_way, on_way_moved, on_way_like}
 
 abbrev cage : Rack → List (Option Ticket) → ℕ → Option Scanning → List Reading → CageSeen
 cage rack out number scan readings = record { rack = rack; out = out; number = number; scan = scan; readings = readings }
@@ -60,11 +56,11 @@ and_false : (b : Bool) → (b && false) ≡ false
 and_false true = refl
 and_false false = refl
 
-meter_open : (m : MeterAccount) (ch : ℕ) → option_closed (Some (of_meter m)) ch ≡ false
+pub meter_open : (m : MeterAccount) (ch : ℕ) → option_closed (Some (of_meter m)) ch ≡ false
 meter_open m ch = and_false (nat_lt 0 ch)
 
 -- a meter leaves its slot, or comes into it: nothing opens or closes
-closed_sent : (rack : Rack) (s : ℕ) (m : MeterAccount) → 1 ≤ s → s ≤ length rack → slot_at rack s ≡ Some (of_meter m) → (c : Channel) → is_closed (slice_set rack (s - 1) None) c ≡ is_closed rack c
+pub closed_sent : (rack : Rack) (s : ℕ) (m : MeterAccount) → 1 ≤ s → s ≤ length rack → slot_at rack s ≡ Some (of_meter m) → (c : Channel) → is_closed (slice_set rack (s - 1) None) c ≡ is_closed rack c
 closed_sent rack s m a b e c = elim (slot_cases rack s c.0 None (omega arith) b) [
   | inl f ↦ ap (λ o. option_closed o c.1) f.1 ∙ sym (ap (λ (x : ℕ). option_closed (slot_at rack x) c.1) f.0 ∙ ap (λ o. option_closed o c.1) e ∙ meter_open m c.1)
   | inr f ↦ ap (λ o. option_closed o c.1) f.1

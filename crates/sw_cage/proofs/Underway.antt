@@ -1,24 +1,20 @@
 -- A scan that runs: from item to item of its agenda.
-use Rattle.std.proofs.Common.{◌≡◌, ◌≢◌, ℕ, zero, suc, ◌+◌, ◌-◌, ◌<◌, ◌≤◌, Bool, true, false, ◌&&◌, ◌||◌, not, List, [], ◌∷◌, ◌++◌, length, take, drop, Option, Some, None, slice_set, refl, sym, ap, ◌∙◌, subst, arith, is_some, inl, inr, length-append}
-use mathlib.Core.Path.{fun_ext}
+use Rattle.std.proofs.Common.{◌≡◌, ℕ, ◌+◌, ◌<◌, Bool, true, false, ◌&&◌, ◌||◌, not, List, [], ◌∷◌, ◌++◌, length, take, drop, Option, Some, None, refl, sym, ap, ◌∙◌, subst, arith}
 use Rattle.std.proofs.Math.Seq.{take-add}
-use Rattle.std.proofs.lemmas.List.{take-append-drop, length-set}
-use Rattle.sw_base.specs.Layout.{Channel, Bay, meter, Layout, slot_at, is_present, has_meter, bay_is_meter, IsClash}
-use Rattle.sw_base.specs.declared.reading.Reading.{Reading}
-use Rattle.sw_card.specs.Account.{Account, MeterAccount, of_meter}
+use Rattle.std.proofs.lemmas.List.{take-append-drop}
+use Rattle.sw_base.specs.Layout.{Channel, Layout}
 use Rattle.sw_trigger.specs.declared.layer.Awaited.{Awaited}
-use Rattle.sw_trigger.specs.declared.layer.Awaited.TheVariants.{Wait, Pause, Read}
-use Rattle.sw_trigger.specs.Settings.{Setup, IsInRange}
+use Rattle.sw_trigger.specs.declared.layer.Awaited.TheVariants.{Read}
+use Rattle.sw_trigger.specs.Settings.{Setup}
 use Rattle.sw_trigger.specs.Agenda.{Item, Awaits, Close, Open, agenda}
 use Rattle.sw_trigger.specs.Counts.{reads, is_reading}
 use Rattle.sw_trigger.proofs.Awaiting.{reads-append}
 use Rattle.sw_verify.specs.Channels.{Channels, same_channel, none, with_channel, without}
-use Rattle.sw_verify.specs.Sound.{CanClose, AllRight, effect, IsSound}
+use Rattle.sw_verify.specs.Sound.{CanClose, AllRight, effect}
 use Rattle.sw_verify.proofs.Round.{effect-append}
-use Rattle.sw_cage.specs.Rack.{Rack, option_bay, layout_of, option_closed, is_closed}
-use Rattle.sw_cage.specs.Cage.{Scanning, CageSeen, or_meter, layout_with, cage_layout, ticket_of}
-use Rattle.sw_cage.specs.Advance.{leading, first_awaited, opens_of, closes_of, way, next_place, awaits}
-use Rattle.sw_cage.specs.Moves.{MayOpen, MayClose, MayMove}
+use Rattle.sw_cage.specs.Cage.{layout_with}
+use Rattle.sw_cage.specs.Advance.{leading, first_awaited, opens_of, closes_of, way}
+use Rattle.sw_cage.specs.Moves.{MayClose, MayMove}
 use Rattle.sw_cage.specs.Good.{IsOnWay}
 use Rattle.sw_cage.specs.declared.job.Ticket.{Ticket}
 use Rattle.sw_cage.proofs.Layouts.{present_with, clash_with}
@@ -31,7 +27,7 @@ awaits_first (Awaits w ∷ l) x e = let k : w ≡ x = cc in ap (λ (y : Awaited)
 awaits_first (Close c ∷ l) x e = absurd (cc)
 awaits_first (Open c ∷ l) x e = absurd (cc)
 
-leading_front : (l : List Item) → take (length (leading l)) l ≡ leading l
+pub leading_front : (l : List Item) → take (length (leading l)) l ≡ leading l
 leading_front [] = refl
 leading_front (Awaits x ∷ l) = refl
 leading_front (Close c ∷ l) = ap (λ (m : List Item). Close c ∷ m) (leading_front l)
@@ -105,7 +101,7 @@ pub may_move_in : (bays : Layout) (out : List (Option Ticket)) (h : length out �
 may_move_in bays out h b o k m = record { opens = m.opens; closes = may_close_in bays out h (effect b (opens_of o)) k m.closes }
 
 module _ (layout : Layout) (closed : Channels) (s : Setup) (i : ℕ) (w : IsOnWay layout closed s i) where
-  right_here : AllRight layout closed (effect none (take i (agenda s))) (drop i (agenda s))
+  pub right_here : AllRight layout closed (effect none (take i (agenda s))) (drop i (agenda s))
   right_here =
       let all : AllRight layout w.found none (take i (agenda s) ++ drop i (agenda s)) = subst (λ (l : List Item). AllRight layout w.found none l) (sym (take-append-drop i (agenda s))) w.sound.right in
       subst (λ (b : Channels). AllRight layout b (effect none (take i (agenda s))) (drop i (agenda s))) (sym w.so_far) (right_after layout w.found none (take i (agenda s)) (drop i (agenda s)) all)

@@ -1,5 +1,5 @@
 -- What a scan does after a happening that it took: past the item, and on over closings and openings to the next awaiting one.
-use Rattle.std.specs.Prelude.{◌≡◌, ℕ, ◌+◌, ◌-◌, true, false, List, [], ◌∷◌, ◌++◌, length, map, Option, Some, None, slice_set, Result, Ok, Err}
+use Rattle.std.specs.Prelude.{◌≡◌, ℕ, ◌+◌, ◌-◌, false, List, [], ◌∷◌, ◌++◌, map, Option, Some, None, slice_set, Result, Ok, Err}
 use Rattle.sw_base.specs.Layout.{Channel, slot_at}
 use Rattle.sw_base.specs.declared.terms.LayerName.{LayerName}
 use Rattle.sw_base.specs.declared.reading.Reading.{Reading}
@@ -10,7 +10,7 @@ use Rattle.sw_trigger.specs.Settings.{Setup}
 use Rattle.sw_trigger.specs.Agenda.{Item}
 use Rattle.sw_verify.specs.Sound.{effect}
 use Rattle.sw_cage.specs.Rack.{Rack, is_closed, all_open}
-use Rattle.sw_cage.specs.Change.{any_failed, option_plate}
+use Rattle.sw_cage.specs.Change.{RelayFailed, option_plate}
 use Rattle.sw_cage.specs.Cage.{Scanning, CageSeen, ticket_of, fall}
 use Rattle.sw_cage.specs.Advance.{way, next_place, awaits}
 use Rattle.sw_cage.specs.Work.{JobSeen, FinishedSeen}
@@ -22,10 +22,10 @@ pub record Moved (old : Rack) (moves : List Item) (new : Rack) : Type 0 where
   pub rest : all_open new ≡ all_open old
   pub closed : (c : Channel) → is_closed new c ≡ effect (is_closed old) moves c
 
--- a card call failed: the cards are the same, and every relay is open
+-- a call on a relay card failed: the cards are the same, and every relay is open
 pub record HasFallen (old new : Rack) : Type 0 where
   pub cards : map option_plate new ≡ map option_plate old
-  pub failed : any_failed old new ≡ true
+  pub failed : RelayFailed old new
   pub none : (c : Channel) → is_closed new c ≡ false
 
 -- the cards in their slots, and the tickets of those that are out

@@ -4,7 +4,7 @@ use Rattle.sw_base.specs.Layout.{Channel, Layout}
 use Rattle.sw_verify.specs.Channels.{Channels}
 use Rattle.sw_verify.specs.Sound.{CanClose, effect}
 use Rattle.sw_cage.specs.Rack.{Rack}
-use Rattle.sw_cage.specs.Change.{any_failed, option_plate}
+use Rattle.sw_cage.specs.Change.{RelayFailed, option_plate}
 use Rattle.sw_cage.specs.Advance.{opens_of}
 
 abbrev pub MayOpen : Channels → Option Channel → Type 0
@@ -20,7 +20,7 @@ pub record MayMove (layout : Layout) (closed : Channels) (to_open to_close : Opt
   pub opens : MayOpen closed to_open
   pub closes : MayClose layout (effect closed (opens_of to_open)) to_close
 
--- a card call failed: the cards are the same
+-- a call on a relay card failed: the cards are the same
 pub record IsBroken (old new : Rack) : Type 0 where
   pub cards : map option_plate new ≡ map option_plate old
-  pub failed : any_failed old new ≡ true
+  pub failed : RelayFailed old new

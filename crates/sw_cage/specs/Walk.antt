@@ -4,7 +4,7 @@ use Rattle.sw_base.specs.declared.terms.LayerName.TheVariants.{Arm1, Arm2, Trigg
 use Rattle.sw_trigger.specs.declared.layer.Awaited.{Awaited}
 use Rattle.sw_trigger.specs.declared.layer.Awaited.TheVariants.{Wait, Pause, Read}
 use Rattle.sw_trigger.specs.Settings.{Setup}
-use Rattle.sw_trigger.specs.Agenda.{Item, Awaits, Close, Open, repeated, pause_of, channel_at, visit, passes, arm1_turn, arm2_turn}
+use Rattle.sw_trigger.specs.Agenda.{Item, Awaits, Open, repeated, pause_of, channel_at, visit, passes, arm1_turn, arm2_turn}
 use Rattle.sw_cage.specs.declared.walk.Walk.{Walk}
 use Rattle.sw_cage.specs.declared.walk.Moves.{Moves}
 use Rattle.sw_cage.specs.declared.walk.Phase.{Phase}

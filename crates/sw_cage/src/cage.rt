@@ -1,7 +1,7 @@
 //! The cage as the layers above see it.
 
 ghost use Rattle.std.specs.Prelude.{◌≡◌, ℕ, ◌-◌, ◌≤◌, List, [], ◌∷◌, Bool, true, false, None, Some, IsOk, OnOk, OnErr, IfOk, IfErr, slice_set, is_some, ◌↔◌, IsTrue, ◌+◌, ◌<◌, ◌^◌};
-ghost use Rattle.sw_base.specs.Layout.{Channel, slot_at, is_present, IsClash};
+ghost use Rattle.sw_base.specs.Layout.{Channel, slot_at, is_present, IsClash, IsExclusive};
 ghost use Rattle.sw_card.specs.Account.{closed_at};
 ghost use Rattle.sw_cage.specs.Rack.{layout_of, is_closed, with_chan, option_rest, all_open, IsRackFault};
 ghost use Rattle.sw_cage.specs.Change.{Sets, IsDisturbed};
@@ -10,12 +10,14 @@ ghost use Rattle.sw_cage.specs.Close.{all_present, CanClose, RefusesClose};
 ghost use Rattle.sw_cage.specs.Channels.{closed_list};
 ghost use Rattle.sw_cage.specs.Cage.{empty_cage, with_rack, fall, cage_layout};
 ghost use Rattle.sw_verify.specs.Check.{IsReady};
+ghost use Rattle.sw_cage.specs.Work.{IsTold};
+ghost use Rattle.sw_cage.specs.Good.{IsGood};
 ghost use Rattle.sw_cage.specs.TakenSeen.{taken_seen, SaysIgnored};
 ghost use Rattle.sw_cage.specs.Takes.{Takes, TakesReturn, AwaitsOther, awaited_now};
 ghost use Rattle.sw_cage.specs.Goes.{Goes, GoesPast, Counts, begun, with_back};
 
 use crate::job::{Finished, Ticket};
-use crate::machine::go_on;
+use crate::machine::{go_on, take_in};
 use crate::refusal::{CloseRefusal, EjectRefusal, InstallRefusal};
 use crate::scan::Scan;
 use crate::slots::Slots;
@@ -133,8 +135,8 @@ impl<R: Relay, M: Meter> Cage<R, M> {
     pub fn abort(&mut self)
         ensures { self.new ≡ fall self.old }
     {
-        self.slots.open_all();
         self.scan = None;
+        self.open_all();
     }
 
     /// Closes one channel that clashes with no closed one, over all slots. No scan may run.
@@ -280,6 +282,14 @@ impl<R: Relay, M: Meter> Cage<R, M> {
         self.readings.clear();
     }
 
+    /// A law: what is so of every cage. It costs nothing.
+    pub fn stays_good(&self)
+        ensures good { IsGood self.now }
+        ensures exclusive { IsExclusive (layout_of self.now.rack) (is_closed self.now.rack) }
+    {
+        self.slots.stay_safe();
+    }
+
     /// Whether a scan runs.
     pub fn is_running(&self) -> bool
         ensures { result ≡ is_some self.now.scan }
@@ -308,7 +318,7 @@ impl<R: Relay, M: Meter> Cage<R, M> {
         ensures ok { IfOk result (λ taken. Goes (begun self.old) plan.settings 0 (taken_seen taken) self.new) }
         ensures err { OnErr result (self.new ≡ self.old) }
     {
-        self.slots.closed_in_range();
+        self.slots.stay_safe();
         let settings = ready_settings(plan);
         let readings = Vec::with_capacity(alloc, settings.readings() as usize)?;
         let (scan, moves) = Scan::begin(settings);
@@ -363,14 +373,15 @@ impl<R: Relay, M: Meter> Cage<R, M> {
         ensures late { IfOk result (λ taken. (TakesReturn self.old finished.1.slot finished.1.ticket → ⊥) → (taken_seen taken ≡ SaysIgnored) × (self.new ≡ with_back self.old finished.1)) }
         ensures taken { IfOk result (λ taken. TakesReturn self.old finished.1.slot finished.1.ticket → Counts (with_back self.old finished.1) finished.1.outcome (taken_seen taken) self.new) }
         ensures takes { IfOk result (λ taken. (taken_seen taken ≡ SaysIgnored → ⊥) → TakesReturn self.old finished.1.slot finished.1.ticket) }
+        ensures told { IsTold finished.1 }
         ensures elsewhere { OnErr result (slot_at self.old.out finished.1.slot ≡ Some finished.1.ticket → ⊥) }
         ensures err { OnErr result (self.new ≡ self.old) }
         ensures back { IfErr result (λ back. back ≡ finished) }
     {
-        if !self.out.has(finished.slot(), finished.ticket()) {
+        if !self.out.has(finished.slot, finished.ticket) {
             return Err(finished);
         }
-        if self.takes_return(finished.slot(), finished.ticket()) {
+        if self.takes_return(finished.slot, finished.ticket) {
             return Ok(self.count(finished));
         }
         self.put_back(finished);
@@ -393,8 +404,7 @@ impl<R: Relay, M: Meter> Cage<R, M> {
         ensures { self.new ≡ with_back self.old finished.1 }
     {
         let Finished { slot, meter, .. } = finished;
-        self.out.set(slot, None);
-        self.slots.put_meter(slot, meter);
+        take_in(&mut self.slots, &mut self.out, slot, meter);
     }
 
     /// Puts the meter back that the scan awaits, and goes on with its reading.
@@ -409,8 +419,7 @@ impl<R: Relay, M: Meter> Cage<R, M> {
             outcome,
             ..
         } = finished;
-        self.out.set(slot, None);
-        self.slots.put_meter(slot, meter);
+        take_in(&mut self.slots, &mut self.out, slot, meter);
         let Ok(reading) = outcome else {
             self.slots.open_all();
             self.scan = None;

@@ -1,7 +1,8 @@
 //! What a running scan does between two things that it awaits.
 
-ghost use Rattle.std.specs.Prelude.{◌≡◌, ◌≤◌, true, OnOk, OnErr, Some, None};
+ghost use Rattle.std.specs.Prelude.{◌≡◌, ◌-◌, ◌≤◌, true, OnOk, OnErr, Some, None, slice_set};
 ghost use Rattle.sw_base.specs.Layout.{has_meter};
+ghost use Rattle.sw_card.specs.Account.{of_meter};
 ghost use Rattle.sw_cage.specs.Rack.{layout_of, is_closed};
 ghost use Rattle.sw_cage.specs.Advance.{opens_of, closes_of};
 ghost use Rattle.sw_cage.specs.Walk.{moves_of};
@@ -16,7 +17,7 @@ use crate::taken::Taken;
 use crate::tickets::Tickets;
 use crate::walk::Moves;
 use sw_base::Chan;
-use sw_card::{CardFault, Meter, Relay};
+use sw_card::{CardFault, Meter, MeterCard, Relay};
 use sw_trigger::Awaited;
 
 /// Makes the moves, and tells what the scan awaits now that it has come there. After a fault every relay is open.
@@ -59,6 +60,7 @@ fn open_first<R: Relay, M: Meter>(
     ensures ok { OnOk result (Moved slots.old (opens_of chan) slots.new) }
     ensures err { OnErr result (IsBroken slots.old slots.new) }
 {
+    slots.stay_safe();
     match chan {
         Some(chan) => slots.open(chan),
         None => Ok(()),
@@ -123,4 +125,19 @@ fn send_out<R: Relay, M: Meter>(
         ticket,
         meter,
     }
+}
+
+/// Takes the slot's meter in again.
+pub(crate) fn take_in<R: Relay, M: Meter>(
+    slots: &mut Slots<R, M>,
+    out: &mut Tickets,
+    slot: u8,
+    meter: MeterCard<M>,
+)
+    requires { (1 ≤ slot) × (slot ≤ 8) }
+    ensures rack { slots.new ≡ slice_set slots.old (slot - 1) (Some (of_meter meter.1)) }
+    ensures out { out.new ≡ slice_set out.old (slot - 1) None }
+{
+    slots.put_meter(slot, meter);
+    out.set(slot, None);
 }

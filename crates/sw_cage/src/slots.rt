@@ -446,9 +446,10 @@ impl<R: Relay, M: Meter> Slots<R, M> {
         bay_in(alloc, &self.slots[slot as usize - 1])
     }
 
-    /// A law: what is closed has a slot and a number in their ranges.
-    pub(crate) fn closed_in_range(&self)
-        ensures { (c : Channel) → is_closed self.now c ≡ true → (1 ≤ c.0) × (c.0 ≤ 8) × (1 ≤ c.1) × (c.1 ≤ 99) }
+    /// A law: of eight slots only present channels are closed, with a number in its range, and no two of them clash.
+    pub(crate) fn stay_safe(&self)
+        ensures safe { IsSafe self.now }
+        ensures range { (c : Channel) → is_closed self.now c ≡ true → (1 ≤ c.0) × (c.0 ≤ 8) × (1 ≤ c.1) × (c.1 ≤ 99) }
     {
         let _ = &self.slots;
     }

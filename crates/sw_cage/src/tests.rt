@@ -3,12 +3,16 @@
 ghost use Rattle.std.specs.Prelude.{List, [], ◌∷◌, Option, None};
 ghost use Rattle.sw_base.specs.declared.reading.Reading.{Reading};
 
-use crate::{Cage, CloseRefusal, EjectRefusal, InstallRefusal};
-use std::alloc::Global;
+use crate::{Cage, CloseRefusal, EjectRefusal, Happening, InstallRefusal, Taken, Ticket};
+use std::alloc::{AllocError, Global};
 use std::process::Abort;
+use std::sync::Arc;
+use std::sync::atomic::{AtomicU64, Ordering};
 use std::test::Fail;
-use sw_base::{Chan, Reading};
+use sw_base::{Chan, LayerName, Reading, Sequence, Source};
 use sw_card::{Board, Card, CardFault, Meter, Relay};
+use sw_trigger::Settings;
+use sw_verify::{Plan, Snapshot};
 
 /// One relay.
 #[derive(Drop)]
@@ -133,15 +137,19 @@ fn close_together<R: Relay, M: Meter>(
     );
     assert_eq!(rt; cage.judge(&[Chan::new(4, 1)]), Err(CloseRefusal::Absent));
     assert!(rt; cage.all_present(&pair) && !cage.is_present(Chan::new(1, 2)));
-    if cage.judge(&pair).is_ok() {
+    if !cage.is_running() && cage.judge(&pair).is_ok() {
         assert!(rt; cage.close_all(&pair).is_ok());
     }
     assert_eq!(rt; cage.judge(&[Chan::new(3, 1)]), Err(CloseRefusal::Clash));
     let closed = cage.closed_chans(alloc)?;
     assert_eq!(rt; closed.as_slice(), &pair[..]);
-    assert!(rt; cage.open_listed(&pair[..1]).is_ok());
+    if !cage.is_running() {
+        assert!(rt; cage.open_listed(&pair[..1]).is_ok());
+    }
     assert!(rt; !cage.is_closed(Chan::new(1, 1)) && cage.is_closed(Chan::new(2, 1)));
-    cage.open_all();
+    if !cage.is_running() {
+        cage.open_all();
+    }
     assert!(rt; !cage.is_closed(Chan::new(2, 1)));
     Ok(())
 }
@@ -153,7 +161,7 @@ fn exchange<R: Relay, M: Meter>(
     closed: R,
 ) -> Result<(), Fail> {
     let pair = [Chan::new(1, 1), Chan::new(2, 1)];
-    if cage.judge(&pair).is_ok() {
+    if !cage.is_running() && cage.judge(&pair).is_ok() {
         assert!(rt; cage.close_all(&pair).is_ok());
     }
     let Ok(card) = cage.eject(1) else {
@@ -218,4 +226,226 @@ fn boxed_cards_in_a_cage(rt: HostRuntime) -> Result<(), Fail> {
     )?;
     let meter: Box<dyn Meter + Send> = Box::new(alloc, Steady { last: None })?;
     drive(&rt, alloc, (first, second, third, closed), meter)
+}
+
+/// What the relays of several cards did, in order: by threes of decimal digits the slot, the channel, and 1 for on.
+type Record = Arc<AtomicU64, Global>;
+
+/// Two relays of one group, which record what they do.
+#[derive(Drop)]
+struct Logged {
+    slot: u8,
+    group: u8,
+    first: bool,
+    second: bool,
+    record: Record,
+}
+
+impl Logged {
+    fn note(&self, ch: u8, on: bool) {
+        let on = if on { 1 } else { 0 };
+        let entry = u64::from(self.slot) * 100 + u64::from(ch) * 10 + on;
+        let before = self.record.load(Ordering::SeqCst);
+        let after = before.wrapping_mul(1000).wrapping_add(entry);
+        self.record.store(after, Ordering::SeqCst);
+    }
+}
+
+impl Board for Logged {
+    ghost the_serial = { λ s. s.slot };
+
+    ghost failed = { λ s. 0 };
+
+    fn serial(&self) -> u32 {
+        self.slot as u32
+    }
+
+    fn failures(&self) -> u64 {
+        0
+    }
+}
+
+impl Relay for Logged {
+    ghost groups = { λ s. s.group ∷ s.group ∷ [] };
+
+    ghost closed = { λ s. s.first ∷ s.second ∷ [] };
+
+    fn channels(&self) -> u8 {
+        2
+    }
+
+    fn group(&self, ch: u8) -> u8 {
+        if ch == 1 {
+            return self.group;
+        }
+        if ch == 2 {
+            return self.group;
+        }
+        0
+    }
+
+    fn is_closed(&self, ch: u8) -> bool {
+        if ch == 1 {
+            return self.first;
+        }
+        if ch == 2 {
+            return self.second;
+        }
+        false
+    }
+
+    fn close(&mut self, ch: u8) -> Result<(), CardFault> {
+        self.note(ch, true);
+        if ch == 1 {
+            self.first = true;
+        } else {
+            self.second = true;
+        }
+        Ok(())
+    }
+
+    fn open(&mut self, ch: u8) -> Result<(), CardFault> {
+        self.note(ch, false);
+        if ch == 1 {
+            self.first = false;
+        } else {
+            self.second = false;
+        }
+        Ok(())
+    }
+
+    fn open_all(&mut self) {
+        self.first = false;
+        self.second = false;
+    }
+}
+
+fn recording(slot: u8, group: u8, record: &Record) -> Result<Logged, AllocError> {
+    Ok(Logged {
+        slot,
+        group,
+        first: false,
+        second: false,
+        record: record.clone()?,
+    })
+}
+
+/// Begins a scan of these settings.
+fn begin<R: Relay, M: Meter>(
+    alloc: Global,
+    cage: &mut Cage<R, M>,
+    settings: Settings,
+) -> Result<Taken<M>, Fail> {
+    if cage.is_running() || cage.number() == u64::MAX || cage.has_out(settings.meter()) {
+        return Err("the cage is not ready")?;
+    }
+    let layout = cage.layout(alloc)?;
+    let closed = Sequence::new(cage.closed_chans(alloc)?);
+    let snapshot = Snapshot {
+        settings,
+        layout,
+        closed,
+    };
+    let Ok(plan) = Plan::make(snapshot) else {
+        return Err("the plan was refused")?;
+    };
+    Ok(cage.start(alloc, plan)?)
+}
+
+/// Measures until the scan is over.
+fn run_out<R: Relay, M: Meter>(cage: &mut Cage<R, M>, first: Taken<M>) -> Result<(), Fail> {
+    let mut taken = first;
+    for _ in 0..10u8 {
+        let Taken::Job(job) = taken else {
+            break;
+        };
+        let Ok(next) = cage.finish(job.run()) else {
+            return Err("the meter was handed back")?;
+        };
+        taken = next;
+    }
+    match taken {
+        Taken::Ended => Ok(()),
+        _ => Err("the scan did not end")?,
+    }
+}
+
+/// The channel of one card opens before that of the other closes, and so on one card.
+#[test]
+fn opens_before_it_closes(rt: HostRuntime) -> Result<(), Fail> {
+    let alloc = rt.alloc();
+    let record = Arc::new(alloc, AtomicU64::new(0))?;
+    let mut cage = Cage::new(alloc)?;
+    fill(
+        &mut cage,
+        recording(1, 1, &record)?,
+        recording(2, 0, &record)?,
+        recording(3, 1, &record)?,
+        Steady { last: None },
+    )?;
+    let mut settings = Settings::new(alloc);
+    settings.set_list([Chan::new(1, 1), Chan::new(3, 1)].to_vec(alloc)?)?;
+    settings.set_count(LayerName::Trigger, 2)?;
+    let taken = begin(alloc, &mut cage, settings)?;
+    run_out(&mut cage, taken)?;
+    assert_eq!(&rt; record.load(Ordering::SeqCst), 111_110_311_310);
+    assert_eq!(&rt;
+        cage.readings(),
+        &[Reading::Volts(2), Reading::Volts(2)][..]
+    );
+    record.store(0, Ordering::SeqCst);
+    let mut settings = Settings::new(alloc);
+    settings.set_list([Chan::new(2, 1), Chan::new(2, 2)].to_vec(alloc)?)?;
+    settings.set_count(LayerName::Trigger, 2)?;
+    let taken = begin(alloc, &mut cage, settings)?;
+    run_out(&mut cage, taken)?;
+    assert_eq!(&rt; record.load(Ordering::SeqCst), 211_210_221_220);
+    Ok(())
+}
+
+/// Triggers, pauses and returns are taken where they are awaited, and nowhere else.
+#[test]
+fn takes_what_is_awaited(rt: HostRuntime) -> Result<(), Fail> {
+    let alloc = rt.alloc();
+    let record = Arc::new(alloc, AtomicU64::new(0))?;
+    let mut cage = Cage::new(alloc)?;
+    fill(
+        &mut cage,
+        recording(1, 1, &record)?,
+        recording(2, 0, &record)?,
+        recording(3, 1, &record)?,
+        Steady { last: None },
+    )?;
+    let mut settings = Settings::new(alloc);
+    settings.set_list([Chan::new(1, 1)].to_vec(alloc)?)?;
+    settings.set_source(LayerName::Arm1, Source::Bus);
+    settings.set_delay(LayerName::Trigger, 500_000)?;
+    let taken = begin(alloc, &mut cage, settings)?;
+    assert!(&rt; matches!(taken, Taken::Waits));
+    assert!(&rt; matches!(cage.take(Happening::External), Taken::Ignored));
+    assert!(&rt;
+        matches!(
+            cage.take(Happening::Signal(LayerName::Arm2)),
+            Taken::Ignored
+        )
+    );
+    let Taken::Pause(ticket, micros) = cage.take(Happening::Bus) else {
+        return Err("no pause")?;
+    };
+    assert_eq!(&rt; (ticket, micros), (Ticket { scan: 1, index: 1 }, 500_000));
+    let stale = Ticket { scan: 0, index: 1 };
+    assert!(&rt; matches!(cage.take(Happening::Elapsed(stale)), Taken::Ignored));
+    let Taken::Job(job) = cage.take(Happening::Elapsed(ticket)) else {
+        return Err("no job")?;
+    };
+    assert!(&rt; cage.has_out(4) && cage.is_closed(Chan::new(1, 1)) && cage.awaited().is_some());
+    assert!(&rt; matches!(cage.eject(4), Err(EjectRefusal::Out)));
+    cage.abort();
+    assert!(&rt; !cage.is_running() && !cage.is_closed(Chan::new(1, 1)));
+    let Ok(taken) = cage.finish(job.run()) else {
+        return Err("the meter was handed back")?;
+    };
+    assert!(&rt; matches!(taken, Taken::Ignored));
+    assert!(&rt; !cage.has_out(4) && cage.readings().is_empty());
+    Ok(())
 }

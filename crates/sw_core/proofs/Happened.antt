@@ -12,12 +12,14 @@ use Rattle.sw_core.specs.declared.ask.SessionAnswer.TheVariants.{Refused}
 use Rattle.sw_base.specs.declared.reading.Reading.{Reading}
 use Rattle.sw_card.specs.declared.board.CardFault.{CardFault}
 use Rattle.sw_verify.specs.declared.snapshot.Snapshot.{Snapshot}
+use Rattle.sw_verify.specs.Check.{IsReady}
 use Rattle.sw_cage.specs.Work.{FinishedSeen}
 use Rattle.sw_cage.specs.Goes.{Bays, bays_of, Goes, GoesPast, GoesPastFrom, Counts, begun, with_back, with_reading}
 use Rattle.sw_cage.specs.Takes.{Takes, TakesReturn}
 use Rattle.sw_cage.specs.TakenSeen.{TakenSeen, SaysIgnored, SaysWaits, SaysPause, SaysJob, SaysEnded, SaysFault}
 use Rattle.sw_cage.specs.declared.taken.Happening.{Happening}
 use Rattle.sw_cage.proofs.Changes.{sets_unfailed, failed_from}
+use Rattle.sw_cage.proofs.Failures.{relay_failed}
 use Rattle.sw_core.specs.Panel.{Panel}
 use Rattle.sw_core.specs.Registers.{alarmed, calmed}
 use Rattle.sw_core.specs.Step.{is_fault, work_of, Happens, Returns, RefusesScan, MayScan, snapshot_of, Starts, IsStarted, StepStart, started_answer}
@@ -34,7 +36,7 @@ failed_goes p q s i (SaysPause ticket micros) h = still p.rack h.runs.rack (bays
 failed_goes p q s i (SaysJob job) h =
     ap (λ (b : Bays). any_failed p.rack b.rack) h.runs.arrives.1.after ∙ sym (failed_from p.rack h.runs.rack (slice_set h.runs.rack (s.meter - 1) None) h.runs.moved.rest) ∙ failed_go h.runs.rack (s.meter - 1)
 failed_goes p q s i SaysEnded h = still p.rack h.runs.rack (bays_of q) (record (bays_of p) { rack = h.runs.rack }) h.runs.moved.rest h.runs.arrives.1 refl
-failed_goes p q s i SaysFault h = h.runs.fallen.failed
+failed_goes p q s i SaysFault h = relay_failed p.rack q.rack h.runs.fallen.failed
 
 pub failed_past : (p q : CageSeen) (scan : Option Scanning) (told : TakenSeen) → GoesPastFrom p scan told q → any_failed p.rack q.rack ≡ is_fault told
 failed_past p q None told h = absurd h
@@ -77,14 +79,14 @@ returned p done SaysEnded cage s ignored taken takes e = let t : TakesReturn p.c
 returned p done SaysFault cage s ignored taken takes e = let t : TakesReturn p.cage done.slot done.ticket = takes (λ (x : SaysFault ≡ SaysIgnored). absurd (cc (x))) in (t, taken t, (refl, ap (λ (x : StatusSeen). told_panel p cage x) e))
 
 -- the scan of a plan began, by what the cage told
-pub started : (p : Panel) (plan : Snapshot) (told : TakenSeen) (cage : CageSeen) (s : StatusSeen) → MayScan p → plan ≡ snapshot_of p → Goes (begun p.cage) p.settings 0 told cage → s ≡ (if is_fault told then alarmed p.status else calmed p.status)
+pub started : (p : Panel) (plan : Snapshot) (told : TakenSeen) (cage : CageSeen) (s : StatusSeen) → MayScan p → plan ≡ snapshot_of p → IsReady plan → Goes (begun p.cage) p.settings 0 told cage → s ≡ (if is_fault told then alarmed p.status else calmed p.status)
     → StepStart p plan (any_failed p.cage.rack cage.rack) (started_answer told) (work_of told) (record p { cage = cage; status = s })
-started p plan SaysIgnored cage s may same goes e = absurd goes.runs.arrives
-started p plan SaysWaits cage s may same goes e = record { may = may; told = SaysWaits; starts = (failed_goes (begun p.cage) cage p.settings 0 (SaysWaits) goes, same, goes, ap (λ (x : StatusSeen). told_panel p cage x) e); answer_is = refl; work_is = refl }
-started p plan (SaysPause ticket micros) cage s may same goes e = record { may = may; told = SaysPause ticket micros; starts = (failed_goes (begun p.cage) cage p.settings 0 (SaysPause ticket micros) goes, same, goes, ap (λ (x : StatusSeen). told_panel p cage x) e); answer_is = refl; work_is = refl }
-started p plan (SaysJob job) cage s may same goes e = record { may = may; told = SaysJob job; starts = (failed_goes (begun p.cage) cage p.settings 0 (SaysJob job) goes, same, goes, ap (λ (x : StatusSeen). told_panel p cage x) e); answer_is = refl; work_is = refl }
-started p plan SaysEnded cage s may same goes e = record { may = may; told = SaysEnded; starts = (failed_goes (begun p.cage) cage p.settings 0 (SaysEnded) goes, same, goes, ap (λ (x : StatusSeen). told_panel p cage x) e); answer_is = refl; work_is = refl }
-started p plan SaysFault cage s may same goes e = record { may = may; told = SaysFault; starts = (failed_goes (begun p.cage) cage p.settings 0 (SaysFault) goes, same, goes, ap (λ (x : StatusSeen). told_panel p cage x) e); answer_is = refl; work_is = refl }
+started p plan SaysIgnored cage s may same ready goes e = absurd goes.runs.arrives
+started p plan SaysWaits cage s may same ready goes e = record { may = may; told = SaysWaits; starts = (failed_goes (begun p.cage) cage p.settings 0 (SaysWaits) goes, same, ready, goes, ap (λ (x : StatusSeen). told_panel p cage x) e); answer_is = refl; work_is = refl }
+started p plan (SaysPause ticket micros) cage s may same ready goes e = record { may = may; told = SaysPause ticket micros; starts = (failed_goes (begun p.cage) cage p.settings 0 (SaysPause ticket micros) goes, same, ready, goes, ap (λ (x : StatusSeen). told_panel p cage x) e); answer_is = refl; work_is = refl }
+started p plan (SaysJob job) cage s may same ready goes e = record { may = may; told = SaysJob job; starts = (failed_goes (begun p.cage) cage p.settings 0 (SaysJob job) goes, same, ready, goes, ap (λ (x : StatusSeen). told_panel p cage x) e); answer_is = refl; work_is = refl }
+started p plan SaysEnded cage s may same ready goes e = record { may = may; told = SaysEnded; starts = (failed_goes (begun p.cage) cage p.settings 0 (SaysEnded) goes, same, ready, goes, ap (λ (x : StatusSeen). told_panel p cage x) e); answer_is = refl; work_is = refl }
+started p plan SaysFault cage s may same ready goes e = record { may = may; told = SaysFault; starts = (failed_goes (begun p.cage) cage p.settings 0 (SaysFault) goes, same, ready, goes, ap (λ (x : StatusSeen). told_panel p cage x) e); answer_is = refl; work_is = refl }
 
 -- no scan began: for want of memory, for what is so of the cage, or for a plan of another state
 pub unbegun : (p : Panel) (plan : Snapshot) (cage : CageSeen) → cage ≡ p.cage → MayScan p → StepStart p plan (any_failed p.cage.rack cage.rack) (Refused OutOfMemory) None (record p { cage = cage })

@@ -3,3 +3,9 @@ mod Calls
 mod Deeds
 mod Happened
 mod Numbered
+mod Same
+mod Going
+mod Determined
+mod Kept
+mod Safety
+mod Obeyed

@@ -13,6 +13,7 @@ use Rattle.sw_lex.specs.declared.command.Command.{Command}
 use Rattle.sw_lex.specs.declared.command.Command.TheVariants as Command
 use Rattle.sw_trigger.specs.Settings.{Setup, layer_of, with_layer, most_of, longest_delay, at_reset}
 use Rattle.sw_verify.specs.declared.snapshot.Snapshot.{Snapshot}
+use Rattle.sw_verify.specs.Check.{IsReady}
 use Rattle.sw_status.specs.Registers.{event_taken}
 use Rattle.sw_status.specs.StatusModel.{StatusSeen, pushed, popped, cleared, group_of, with_group}
 use Rattle.sw_cage.specs.Rack.{Rack, layout_of, is_closed, all_open}
@@ -268,10 +269,10 @@ StepSnapshot p f (Refused OutOfMemory) q = (f ≡ false) × MayScan p × (q ≡ 
 StepSnapshot p f (Refused e) q = (f ≡ false) × RefusesScan p e × (q ≡ p)
 StepSnapshot p f answer q = ⊥
 
--- The scan of a plan began: the cage went from before the first item of its agenda. No card's failure is told of any more,
+-- The scan of a plan, which passed the check, began: the cage went from before the first item of its agenda. No card's failure is told of any more,
 -- unless one came on the way.
 abbrev pub Starts : Panel → Snapshot → Bool → TakenSeen → Panel → Type 0
-Starts p plan f told q = (f ≡ is_fault told) × (plan ≡ snapshot_of p) × Goes (begun p.cage) p.settings 0 told q.cage
+Starts p plan f told q = (f ≡ is_fault told) × (plan ≡ snapshot_of p) × IsReady plan × Goes (begun p.cage) p.settings 0 told q.cage
     × (q ≡ record p { cage = q.cage; status = if is_fault told then alarmed p.status else calmed p.status })
 
 abbrev pub started_answer : TakenSeen → SessionAnswer

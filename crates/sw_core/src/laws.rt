@@ -1,14 +1,16 @@
 //! What no run can do: laws over every list of events that are steps from the opening state.
 
-ghost use Rattle.sw_core.specs.Run.{EveryRunIsExclusive, RelaysObey, StepIsDetermined};
+ghost use Rattle.sw_core.specs.Run.{EveryRunIsGood, RelaysObey, StepIsDetermined};
 
-/// In every run no absent channel is ever closed, and no two closed channels clash.
-pub fn every_run_is_exclusive()
-    ensures { EveryRunIsExclusive }
+/// In every run no absent channel is ever closed and no two closed channels clash, and a scan that runs has done a prefix
+/// of its agenda, which is sound for the cards of the cage and for what it found closed.
+pub fn every_run_is_good()
+    ensures { EveryRunIsGood }
 {}
 
-/// What was closed is closed, what was opened is open, a refusal changes nothing, and a card that failed or leaves
-/// leaves no relay closed.
+/// What was closed is closed, what was opened is open, a refusal queues its error and does nothing else; after an abort, a
+/// reset, a card's failure and an eject from a running scan no scan runs and every relay is open; an ejected card leaves
+/// with its relays open.
 pub fn relays_obey()
     ensures { RelaysObey }
 {}

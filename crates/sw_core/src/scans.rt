@@ -3,6 +3,7 @@
 ghost use Rattle.std.specs.Prelude.{◌≡◌, Bool, IfOk, IfSome, IfNone, None, Some, false};
 ghost use Rattle.sw_cage.specs.Change.{any_failed};
 ghost use Rattle.sw_cage.specs.TakenSeen.{taken_seen};
+ghost use Rattle.sw_verify.specs.Check.{IsReady};
 ghost use Rattle.sw_core.specs.View.{work_view, answer_view, failed_in, AskFinished, HandsBack};
 ghost use Rattle.sw_core.specs.declared.ask.Ask.TheVariants as Ask;
 ghost use Rattle.sw_core.specs.Step.{Happens, StepHappens, StepOutside, StepFinished, StepSnapshot, StepStart, RefusesScan, MayScan, session_told, outside_told, started_answer, work_of, is_fault, snapshot_of, happening_of};
@@ -199,6 +200,7 @@ impl<R: Relay, M: Meter> Core<R, M> {
     fn begin(&mut self, alloc: Global, plan: Plan) -> (SessionAnswer, Option<Work<M>>)
         requires may { MayScan self.old }
         requires same { plan ≡ snapshot_of self.old }
+        requires ready { IsReady plan }
         ensures { StepStart self.old plan (any_failed self.old.cage.rack self.new.cage.rack) result.0 (work_view result.1) self.new }
     {
         match self.cage.start(alloc, plan) {

@@ -1,14 +1,11 @@
-use Rattle.std.proofs.Common.{◌≡◌, ◌∙◌, sym, ap, subst, ℕ, Some}
-use Rattle.sw_base.specs.Layout.{slot_at}
-use Rattle.sw_cage.specs.Cage.{CageSeen}
-use Rattle.sw_cage.specs.Takes.{TakesReturnThere}
+use Rattle.std.proofs.Common.{ap}
 use Rattle.sw_cage.proofs.Happens.{kept_back, here_out, here_late}
 use Rattle.sw_cage.proofs.cage.Cage.put_back.Goals as goal
 
 pub invariant_of-self : goal.invariant_of-self
 invariant_of-self g c =
     let f = c.finished.inside in
-    kept_back _ f.slot f.ticket f.meter.1 c.put_meter.new.self c.set.new.self _ c.self.invariant
+    kept_back _ f.slot f.ticket f.meter.1 c.take_in.new.slots c.take_in.new.out _ c.self.invariant
     (here_out _ c.args.self.now f.slot c.args.finished.1.slot f.ticket c.args.finished.1.ticket c.self.view_is (ap (λ x. x.1.slot) c.finished.view_is) (ap (λ x. x.1.ticket) c.finished.view_is) c.requires.out)
     (here_late _ c.args.self.now f.slot c.args.finished.1.slot f.ticket c.args.finished.1.ticket c.self.view_is (ap (λ x. x.1.slot) c.finished.view_is) (ap (λ x. x.1.ticket) c.finished.view_is) c.requires.late)
-    c.put_meter.ensures c.set.ensures
+    c.take_in.ensures.rack c.take_in.ensures.out

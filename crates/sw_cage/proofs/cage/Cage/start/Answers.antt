@@ -1,4 +1,4 @@
-use Rattle.std.proofs.Common.{◌≡◌, ◌≤◌, ◌+◌, ◌∙◌, ap, subst, refl, arith, vec_capacity}
+use Rattle.std.proofs.Common.{◌≤◌, ◌+◌, ◌∙◌, ap, subst, refl, arith, vec_capacity}
 use Rattle.sw_base.specs.Layout.{slot_at}
 use Rattle.sw_trigger.specs.Settings.{Setup, IsInRange}
 use Rattle.sw_trigger.specs.Agenda.{agenda}
@@ -16,7 +16,7 @@ go_on-scan-requires-clause-meter g c =
     let ready = c.ready_settings-settings.ensures.ready in
     let go = begins _ s c.args.plan.layout c.args.plan.closed (c.self.inside.number + 1) c.in_ok-readings.readings.items c.self.invariant.good.held ready.listed (subst IsInRange (c.settings.view_is ∙ same) c.settings.invariant)
     (ap (λ (p : CageSeen). slot_at p.out s.meter) c.self.view_is ∙ c.requires.home) ready.measured ready.sound (ap cage_layout c.self.view_is ∙ c.requires.layout) (ap (λ (p : CageSeen). closed_list p.rack) c.self.view_is ∙ c.requires.closed)
-    c.closed_in_range.ensures refl c.in_ok-readings.ensures.items in
+    c.stay_safe.ensures.range refl c.in_ok-readings.ensures.items in
     let at = c.begin-scan.ensures.scan ∙ ap (λ (x : Setup). next_place x 0) same in
     let moves = c.begin-scan.ensures.moves ∙ ap (λ (x : Setup). way x 0) same in
     go_meter _ s 0 c.begin-scan.result.0 go.go at
@@ -28,7 +28,7 @@ go_on-scan-requires-clause-may g c =
     let ready = c.ready_settings-settings.ensures.ready in
     let go = begins _ s c.args.plan.layout c.args.plan.closed (c.self.inside.number + 1) c.in_ok-readings.readings.items c.self.invariant.good.held ready.listed (subst IsInRange (c.settings.view_is ∙ same) c.settings.invariant)
     (ap (λ (p : CageSeen). slot_at p.out s.meter) c.self.view_is ∙ c.requires.home) ready.measured ready.sound (ap cage_layout c.self.view_is ∙ c.requires.layout) (ap (λ (p : CageSeen). closed_list p.rack) c.self.view_is ∙ c.requires.closed)
-    c.closed_in_range.ensures refl c.in_ok-readings.ensures.items in
+    c.stay_safe.ensures.range refl c.in_ok-readings.ensures.items in
     let at = c.begin-scan.ensures.scan ∙ ap (λ (x : Setup). next_place x 0) same in
     let moves = c.begin-scan.ensures.moves ∙ ap (λ (x : Setup). way x 0) same in
     go_may _ s 0 c.begin-scan.result.1.to_open c.begin-scan.result.1.to_close go.held go.go moves
@@ -40,7 +40,7 @@ invariant_of-self g c =
     let ready = c.ready_settings-settings.ensures.ready in
     let go = begins _ s c.args.plan.layout c.args.plan.closed (c.self.inside.number + 1) c.in_ok-readings.readings.items c.self.invariant.good.held ready.listed (subst IsInRange (c.settings.view_is ∙ same) c.settings.invariant)
     (ap (λ (p : CageSeen). slot_at p.out s.meter) c.self.view_is ∙ c.requires.home) ready.measured ready.sound (ap cage_layout c.self.view_is ∙ c.requires.layout) (ap (λ (p : CageSeen). closed_list p.rack) c.self.view_is ∙ c.requires.closed)
-    c.closed_in_range.ensures refl c.in_ok-readings.ensures.items in
+    c.stay_safe.ensures.range refl c.in_ok-readings.ensures.items in
     let at = c.begin-scan.ensures.scan ∙ ap (λ (x : Setup). next_place x 0) same in
     let moves = c.begin-scan.ensures.moves ∙ ap (λ (x : Setup). way x 0) same in
     let room : reads (agenda s) ≤ vec_capacity c.in_ok-readings.readings = omega (arith, c.in_ok-readings.ensures.exact, c.readings.ensures.readings, ap (λ (x : Setup). reads (agenda x)) same) in

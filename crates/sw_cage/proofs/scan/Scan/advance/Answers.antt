@@ -1,4 +1,4 @@
-use Rattle.std.proofs.Common.{◌≡◌, ◌+◌, ◌<◌, ◌++◌, ◌^◌, ℕ, length, drop, ap, ◌∙◌, arith, rules}
+use Rattle.std.proofs.Common.{◌≡◌, ◌+◌, ◌<◌, ◌^◌, ℕ, length, drop, ap, ◌∙◌, arith, rules}
 use Rattle.sw_trigger.specs.Agenda.{agenda}
 use Rattle.sw_cage.specs.Cage.{Scanning}
 use Rattle.sw_cage.specs.Advance.{way, next_place}

@@ -1,5 +1,4 @@
-use Rattle.std.proofs.Common.{ap, arith}
-use Rattle.sw_card.specs.Account.{Account}
+use Rattle.std.proofs.Common.{ap}
 use Rattle.sw_cage.proofs.Calls.{safe_put, put_is}
 use Rattle.sw_cage.proofs.slots.Slots.put_meter.Goals as goal
 

@@ -21,4 +21,4 @@ returns-in-Ok g c =
     let same : c.args.plan ≡ snapshot_of p = subst (λ (x : Panel). c.args.plan ≡ snapshot_of x) (sym c.self.view_is) c.requires.same in
     let goes : Goes (begun p.cage) p.settings 0 (taken_seen c.in-Ok.told) c.start.new.self = subst (λ (x : Setup). Goes (begun p.cage) x 0 (taken_seen c.in-Ok.told) c.start.new.self) (ap (λ (x : Snapshot). x.settings) same) c.in-Ok.ensures.ok in
     let status = c.tell_failure.ensures ∙ ap (λ (b : Bool). if b then alarmed p.status else calmed p.status) c.is_fault.ensures in
-    rw (← c.self.view_is, c.started_answer-answer.ensures, c.work_of.ensures) (started p c.args.plan (taken_seen c.in-Ok.told) c.start.new.self c.tell_failure.new.status (subst (λ (x : Panel). MayScan x) (sym c.self.view_is) c.requires.may) same goes status)
+    rw (← c.self.view_is, c.started_answer-answer.ensures, c.work_of.ensures) (started p c.args.plan (taken_seen c.in-Ok.told) c.start.new.self c.tell_failure.new.status (subst (λ (x : Panel). MayScan x) (sym c.self.view_is) c.requires.may) same c.requires.ready goes status)
