@@ -66,7 +66,7 @@ told-same (Pauses ticket micros) a a' os os' is is' same =
     (both, (subst (λ (x : AskView). measured x ++ os ≡ os') is (subst (λ (x : AskView). measured a ++ os ≡ measured x ++ os') is' same)))
 told-same (Measures job) a a' os os' (done, ran, is) (done', ran', is') same =
     let all : done.outcome ∷ os ≡ done'.outcome ∷ os' =
-      subst (λ (x : AskView). measured x ++ os ≡ done'.outcome ∷ os') is (subst (λ (x : AskView). measured a ++ os ≡ measured x ++ os') is' same) in
+    subst (λ (x : AskView). measured x ++ os ≡ done'.outcome ∷ os') is (subst (λ (x : AskView). measured a ++ os ≡ measured x ++ os') is' same) in
     let one = done-same job done done' ran ran' (head-same done.outcome done'.outcome os os' all) in
     (is ∙ ap AskFinished one ∙ sym is', tail-same done.outcome done'.outcome os os' all)
 
@@ -74,8 +74,8 @@ told-same (Measures job) a a' os os' (done, ran, is) (done', ran', is') same =
 asked-same : StepIsDetermined → (d d' : DeskSeen) (ask ask' : SessionAsk) (r r' : SessionAnswer) (q q' : DeskSeen) → d ≡ d' → ask ≡ ask' → TellsPlainly r → TellsPlainly r' → Answers [] d ask r q → Answers [] d' ask' r' q' → (r ≡ r') × (q ≡ q')
 asked-same once d d' ask ask' r r' q q' desks asks plain plain' a a' =
     let here : Step d.panel (AskSession ask) a'.failed (SaysSession r' a'.brings) a'.after =
-      subst (λ (x : SessionAsk). Step d.panel (AskSession x) a'.failed (SaysSession r' a'.brings) a'.after) (sym asks)
-      (subst (λ (x : DeskSeen). Step x.panel (AskSession ask') a'.failed (SaysSession r' a'.brings) a'.after) (sym desks) a'.step) in
+    subst (λ (x : SessionAsk). Step d.panel (AskSession x) a'.failed (SaysSession r' a'.brings) a'.after) (sym asks)
+    (subst (λ (x : DeskSeen). Step x.panel (AskSession ask') a'.failed (SaysSession r' a'.brings) a'.after) (sym desks) a'.step) in
     let one = once d.panel a.after a'.after (AskSession ask) a.failed a'.failed (SaysSession r a.brings) (SaysSession r' a'.brings) a.step here (plain a.brings) (plain' a'.brings) in (
       same-answer r r' a.brings a'.brings one.0,
       keeps-same a.after a'.after a.brings a'.brings d.work d'.work q q' one.1 (same-work r r' a.brings a'.brings one.0) (ap (λ (x : DeskSeen). x.work) desks) a.keeps a'.keeps,
@@ -94,7 +94,7 @@ worked-same once d d' q q' c c' os os' desks plain plain' outcomes w w' =
     let tells : Tells w.piece c'.ask = subst (λ (x : WorkView). Tells x c'.ask) (sym (first-piece w.piece w'.piece w.others w'.others queues)) w'.carries.tells in
     let told = told-same w.piece c.ask c'.ask os os' w.carries.tells tells outcomes in
     let here : Step d.panel c.ask c'.failed c'.answer c'.after =
-      subst (λ (x : AskView). Step d.panel x c'.failed c'.answer c'.after) (sym told.0) (subst (λ (x : DeskSeen). Step x.panel c'.ask c'.failed c'.answer c'.after) (sym desks) w'.carries.step) in
+    subst (λ (x : AskView). Step d.panel x c'.failed c'.answer c'.after) (sym told.0) (subst (λ (x : DeskSeen). Step x.panel c'.ask c'.failed c'.answer c'.after) (sym desks) w'.carries.step) in
     let one = once d.panel c.after c'.after c.ask c.failed c'.failed c.answer c'.answer w.carries.step here plain plain' in (
       keeps-same c.after c'.after (brought c.answer) (brought c'.answer) w.others w'.others q q' one.1 (ap brought one.0) (other-pieces w.piece w'.piece w.others w'.others queues) w.keeps w'.keeps,
       told.1,
@@ -134,8 +134,8 @@ same-run once d d' q q' b b' (Asked a r ∷ t) (Asked a' r' ∷ t') (mid, (cs, p
     let none' : cs' ≡ [] = n.0.1 in
     let one = asked-same once d d' a a' r r' mid mid' desks asks m.0.0 n.0.0 (subst (λ (x : List Carried). Answers x d a r mid) none p) (subst (λ (x : List Carried). Answers x d' a' r' mid') none' p') in
     let left : outcomes_of (carried_of mid t q l) ≡ outcomes_of (carried_of mid' t' q' l') =
-      subst (λ (x : List Carried). outcomes_in x ++ outcomes_of (carried_of mid t q l) ≡ outcomes_of (carried_of mid' t' q' l')) none
-      (subst (λ (x : List Carried). outcomes_in cs ++ outcomes_of (carried_of mid t q l) ≡ outcomes_in x ++ outcomes_of (carried_of mid' t' q' l')) none' outcomes) in
+    subst (λ (x : List Carried). outcomes_in x ++ outcomes_of (carried_of mid t q l) ≡ outcomes_of (carried_of mid' t' q' l')) none
+    (subst (λ (x : List Carried). outcomes_in cs ++ outcomes_of (carried_of mid t q l) ≡ outcomes_in x ++ outcomes_of (carried_of mid' t' q' l')) none' outcomes) in
     let rest = same-run once mid mid' q q' b b' t t' l l' one.1 m.1 n.1 left (on one.0) in
     (cc (asks, one.0, rest.0), rest.1, rest.2)
 same-run once d d' q q' b b' (Waited w ∷ t) (Waited w' ∷ t') (mid, (cs, p), l) (mid', (cs', p'), l') desks m n outcomes on =

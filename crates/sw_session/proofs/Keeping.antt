@@ -105,8 +105,8 @@ passes-ask old mid new ask failed answer brings step same kept = (
 pub passes-wait : (old mid next new : DeskSeen) (piece : WorkView) (brings : Option WorkView) → old ≡ record { panel = mid.panel; work = piece ∷ mid.work } → IsCarried mid piece brings next → IsKept next brings new → CorePasses old (Waited Again) new
 passes-wait old mid next new piece brings is k kept =
     let on : Keeps kept.carried k.c.after (brought k.c.answer) mid.work new =
-      subst (λ (x : Option WorkView). Keeps kept.carried k.c.after x mid.work new) k.brings_is
-      (subst (λ (p : Panel). Keeps kept.carried p brings mid.work new) k.panel_is (subst (λ (l : List WorkView). Keeps kept.carried next.panel brings l new) k.work_is kept.keeps)) in (
+    subst (λ (x : Option WorkView). Keeps kept.carried k.c.after x mid.work new) k.brings_is
+    (subst (λ (p : Panel). Keeps kept.carried p brings mid.work new) k.panel_is (subst (λ (l : List WorkView). Keeps kept.carried next.panel brings l new) k.work_is kept.keeps)) in (
       k.c ∷ kept.carried,
       record {
         piece = piece;
