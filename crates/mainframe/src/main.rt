@@ -5,6 +5,8 @@
 //! core from its opening state. Nothing is promised of what a terminal carries, nor of the texts of `clap`.
 #![tactic(auto)]
 
+#[cfg(test)]
+mod cages;
 mod cards;
 mod fault;
 mod laws;

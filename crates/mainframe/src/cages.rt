@@ -1,0 +1,237 @@
+//! Cards that come and go, and a card that fails, over a core of boxed cards.
+
+ghost use Rattle.std.specs.Prelude.{ℕ, Bool};
+
+use std::alloc::{AllocError, Global};
+use std::process::Abort;
+use std::sync::Arc;
+use std::sync::atomic::{AtomicU64, Ordering};
+use std::test::Fail;
+use sw_base::{Chan, ScpiError, Sequence};
+use sw_cage::{EjectRefusal, InstallRefusal};
+use sw_card::{Card, CardFault, Meter, Relay};
+use sw_core::{Answer, Ask, Core, SessionAnswer, SessionAsk, Sid};
+use sw_kinds::{Driver, Fuse, Matrix, Mux, SimDriver, SimSource, Volt};
+use sw_lex::Command;
+
+/// How often a driver was asked to drive a channel, and how often its supply was cut.
+#[derive(Drop)]
+struct Tally {
+    drives: AtomicU64,
+    cuts: AtomicU64,
+}
+
+type Record = Arc<Tally, Global>;
+
+/// A driver that tells a record outside what it was asked.
+#[derive(Drop)]
+struct Recorder {
+    coils: SimDriver,
+    record: Record,
+}
+
+impl Driver for Recorder {
+    ghost driven = { λ r k. ⟦<SimDriver as Driver>⟧.driven r.coils k };
+
+    fn drive(&mut self, ch: u8, on: bool) -> Result<(), CardFault> {
+        let _ = self.record.drives.fetch_add(1, Ordering::SeqCst);
+        self.coils.drive(ch, on)
+    }
+
+    fn cut(&mut self) {
+        let _ = self.record.cuts.fetch_add(1, Ordering::SeqCst);
+        self.coils.cut();
+    }
+}
+
+fn empty_record(alloc: Global) -> Result<Record, AllocError> {
+    let tally = Tally {
+        drives: AtomicU64::new(0),
+        cuts: AtomicU64::new(0),
+    };
+    Ok(Arc::new(alloc, tally)?)
+}
+
+fn recording(record: &Record) -> Result<Recorder, AllocError> {
+    let record = record.clone()?;
+    Ok(Recorder {
+        coils: SimDriver::new(),
+        record,
+    })
+}
+
+/// The drives and the cuts since this was asked last.
+fn calls(record: &Record) -> (u64, u64) {
+    (
+        record.drives.swap(0, Ordering::SeqCst),
+        record.cuts.swap(0, Ordering::SeqCst),
+    )
+}
+
+/// Puts a card into the slot.
+fn install<R: Relay, M: Meter>(
+    alloc: Global,
+    core: &mut Core<R, M>,
+    slot: u8,
+    card: Card<R, M>,
+) -> Result<(), Fail> {
+    match core.apply(alloc, Ask::Install(slot, card)) {
+        Answer::Installed => Ok(()),
+        _ => Err("a card was refused")?,
+    }
+}
+
+/// What the session's command is answered.
+fn unit<R: Relay, M: Meter>(
+    alloc: Global,
+    core: &mut Core<R, M>,
+    sid: Sid,
+    command: Command,
+) -> Result<SessionAnswer, Fail> {
+    match core.apply(alloc, Ask::Session(SessionAsk::Unit(sid, command, false))) {
+        Answer::Session(answer) => Ok(answer),
+        _ => Err("a session's ask was answered as a card's")?,
+    }
+}
+
+fn listed(alloc: Global, chans: &[Chan]) -> Result<Sequence<Chan>, AllocError> {
+    Ok(Sequence::new(Vec::from_slice(alloc, chans)?))
+}
+
+/// What ROUTe:CLOSe of these channels is answered.
+fn close<R: Relay, M: Meter>(
+    alloc: Global,
+    core: &mut Core<R, M>,
+    sid: Sid,
+    chans: &[Chan],
+) -> Result<SessionAnswer, Fail> {
+    let chans = listed(alloc, chans)?;
+    unit(alloc, core, sid, Command::Close(chans))
+}
+
+/// Compares the list of the closed channels.
+fn check_closed<R: Relay, M: Meter>(
+    rt: &impl Abort,
+    alloc: Global,
+    core: &mut Core<R, M>,
+    sid: Sid,
+    text: &[u8],
+) -> Result<(), Fail> {
+    let SessionAnswer::Done(Some(told)) = unit(alloc, core, sid, Command::CloseState)? else {
+        return Err("no list of the closed channels")?;
+    };
+    assert_eq!(rt; told.as_slice(), text);
+    Ok(())
+}
+
+/// A core that this session joined, with these cards in slots 1 to 3 and the meter in slot 4.
+fn set_up<R: Relay, M: Meter>(
+    alloc: Global,
+    cards: (R, R, R),
+    meter: M,
+) -> Result<(Core<R, M>, Sid), Fail> {
+    let (first, second, third) = cards;
+    let mut core = Core::new(alloc)?;
+    let Answer::Session(SessionAnswer::Joined(sid)) = core.apply(
+        alloc,
+        Ask::Session(SessionAsk::Join),
+    ) else {
+        return Err("nobody joined")?;
+    };
+    install(alloc, &mut core, 1, Card::relays(first))?;
+    install(alloc, &mut core, 2, Card::relays(second))?;
+    install(alloc, &mut core, 3, Card::relays(third))?;
+    install(alloc, &mut core, 4, Card::meter(meter))?;
+    Ok((core, sid))
+}
+
+/// Takes the card of slot 1 out while 1!1 and 2!1 are closed, and offers it and a card with a closed channel again.
+fn exchange<R: Relay, M: Meter>(
+    rt: &impl Abort,
+    alloc: Global,
+    cards: (R, R, R),
+    closed: R,
+    meter: M,
+) -> Result<(), Fail> {
+    let (mut core, sid) = set_up(alloc, cards, meter)?;
+    let answer = close(alloc, &mut core, sid, &[Chan::new(1, 1), Chan::new(2, 1)])?;
+    assert!(rt; matches!(answer, SessionAnswer::Done(None)));
+    check_closed(rt, alloc, &mut core, sid, b"(@1!1,2!1)")?;
+    let Answer::Ejected(card) = core.apply(alloc, Ask::Eject(1)) else {
+        return Err("slot 1 gave no card")?;
+    };
+    assert!(rt; card.serial() == 1 && !card.any_closed());
+    check_closed(rt, alloc, &mut core, sid, b"(@2!1)")?;
+    let again = core.apply(alloc, Ask::Eject(1));
+    assert!(rt; matches!(again, Answer::NotEjected(EjectRefusal::Vacant)));
+    let answer = core.apply(alloc, Ask::Install(2, card));
+    let Answer::NotInstalled(refusal, back) = answer else {
+        return Err("two cards in slot 2")?;
+    };
+    assert_eq!(rt; (refusal, back.serial()), (InstallRefusal::Occupied, 1));
+    let answer = core.apply(alloc, Ask::Install(5, Card::relays(closed)));
+    let Answer::NotInstalled(refusal, closed) = answer else {
+        return Err("a card with a closed channel was installed")?;
+    };
+    assert_eq!(rt; (refusal, closed.serial()), (InstallRefusal::BadLayout, 7));
+    assert!(rt; closed.is_closed(1));
+    install(alloc, &mut core, 1, back)?;
+    check_closed(rt, alloc, &mut core, sid, b"(@2!1)")
+}
+
+#[test]
+fn cards_come_and_go(rt: HostRuntime) -> Result<(), Fail> {
+    let alloc = rt.alloc();
+    let first: Box<dyn Relay + Send> = Box::new(alloc, Mux::new(1, 20, 1, SimDriver::new()))?;
+    let second: Box<dyn Relay + Send> = Box::new(alloc, Matrix::new(2, 16, SimDriver::new()))?;
+    let third: Box<dyn Relay + Send> = Box::new(alloc, Mux::new(3, 10, 1, SimDriver::new()))?;
+    let mut mux = Mux::new(7, 4, 1, SimDriver::new());
+    assert!(rt; mux.close(1).is_ok());
+    let closed: Box<dyn Relay + Send> = Box::new(alloc, mux)?;
+    let meter: Box<dyn Meter + Send> = Box::new(alloc, Volt::new(4, SimSource::new(1, 1)))?;
+    exchange(&rt, alloc, (first, second, third), closed, meter)
+}
+
+/// Closes 1!1 and 2!1, and fails at the closing of 1!2: then every card is called once, the third one too, which
+/// has nothing closed.
+fn blow<R: Relay, M: Meter>(
+    rt: &impl Abort,
+    alloc: Global,
+    cards: (R, R, R),
+    meter: M,
+    records: &[Record; 3],
+) -> Result<(), Fail> {
+    let (mut core, sid) = set_up(alloc, cards, meter)?;
+    let answer = close(alloc, &mut core, sid, &[Chan::new(1, 1), Chan::new(2, 1)])?;
+    assert!(rt; matches!(answer, SessionAnswer::Done(None)));
+    let [one, two, three] = records;
+    assert_eq!(rt; (calls(one).0, calls(two).0, calls(three).0), (1, 1, 0));
+    let answer = close(alloc, &mut core, sid, &[Chan::new(1, 2)])?;
+    assert!(rt; matches!(answer, SessionAnswer::Refused(ScpiError::HardwareError)));
+    assert_eq!(rt; calls(one), (1, 1));
+    assert_eq!(rt; calls(two), (0, 1));
+    assert_eq!(rt; calls(three), (0, 1));
+    check_closed(rt, alloc, &mut core, sid, b"(@)")
+}
+
+#[test]
+fn a_failure_opens_every_card(rt: HostRuntime) -> Result<(), Fail> {
+    let alloc = rt.alloc();
+    let records = [
+        empty_record(alloc)?,
+        empty_record(alloc)?,
+        empty_record(alloc)?,
+    ];
+    let fuse = Fuse::new(recording(&records[0])?, Some(2));
+    let first: Box<dyn Relay + Send> = Box::new(alloc, Matrix::new(1, 20, fuse))?;
+    let second: Box<dyn Relay + Send> = Box::new(
+        alloc,
+        Matrix::new(2, 16, recording(&records[1])?),
+    )?;
+    let third: Box<dyn Relay + Send> = Box::new(
+        alloc,
+        Mux::new(3, 10, 1, recording(&records[2])?),
+    )?;
+    let meter: Box<dyn Meter + Send> = Box::new(alloc, Volt::new(4, SimSource::new(1, 1)))?;
+    blow(&rt, alloc, (first, second, third), meter, &records)
+}
