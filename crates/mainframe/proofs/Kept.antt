@@ -9,12 +9,12 @@ use Rattle.std.proofs.KnownBytes.{Consumes-nil, Consumes-kept, Consumes-trans}
 use Rattle.std.proofs.BufReadLemmas.{Consumes_through, take_through-nil, take_through_nonempty}
 use Rattle.std.proofs.Transfers.{StopsAt-of_All, StopsAt-append}
 use Rattle.sw_core.specs.declared.ask.Sid.{Sid}
-use Rattle.sw_core.specs.Panel.{Panel}
-use Rattle.sw_session.specs.CoreDesk.{CorePasses}
+use Rattle.sw_session.specs.CoreDesk.{DeskSeen, CorePasses}
 use Rattle.sw_session.specs.Trace.{Entry}
 use Rattle.sw_session.specs.Talk.{Talked, TalksMessage, TalksUnits, Overruns, longest}
 use Rattle.mainframe.specs.declared.fault.RunFault.{RunFault}
 use Rattle.mainframe.specs.Kept.{most_kept, CutsLine, TakesPart}
+use Rattle.mainframe.specs.Run.{Line}
 
 take-both : (k end n : ℕ) (xs : List ℕ) → n ≡ min end k → take n xs ≡ take k (take end xs)
 take-both zero end n xs is = let none : n ≡ 0 = omega arith in ap (λ m. take m xs) none

@@ -6,7 +6,7 @@ use Rattle.std.specs.Io.KnownBytes.{Appends, IsAtEnd}
 use Rattle.std.specs.Io.BufRead.{take_through, drop_through, DropsThrough}
 use Rattle.sw_core.specs.declared.ask.Sid.{Sid}
 use Rattle.sw_core.specs.Panel.{Panel}
-use Rattle.sw_session.specs.CoreDesk.{DeskSeen, CorePasses}
+use Rattle.sw_session.specs.CoreDesk.{DeskSeen, CorePasses, Rests}
 use Rattle.sw_session.specs.Talk.{Talked}
 use Rattle.mainframe.specs.Lines.{lines_of, WritesPart}
 use Rattle.sw_card.specs.Account.{Account}
@@ -20,6 +20,13 @@ use Rattle.mainframe.proofs.Lines.{lines_of-through}
 use Rattle.std.specs.Io.{StopsAt}
 use Rattle.std.specs.Prelude.{if◌then◌else◌}
 use Rattle.mainframe.proofs.Kept.{kept-some, line_whole}
+
+pub line_rested : (sid talker : Sid) (q spoken mid : DeskSeen) (kept line told : List ℕ) (rested : Bool) → talker ≡ sid → line ≡ kept → Talked CorePasses q spoken talker line told → Rests spoken rested mid → rested ≡ true → Line sid q kept told mid
+line_rested sid talker q spoken mid kept line told rested sids lines talked rests is = record {
+  spoken = spoken;
+  talked = subst (λ (s : Sid). Talked CorePasses q spoken s kept told) sids (subst (λ (l : List ℕ). Talked CorePasses q spoken talker l told) lines talked);
+  rests = subst (λ (b : Bool). Rests spoken b mid) is rests;
+}
 
 pub run-push : (sid : Sid) (p q mid : DeskSeen) (done : List (List ℕ)) (line bytes told : List ℕ) → Run sid p done bytes q → Line sid q line told mid → Run sid p (done ++ line ∷ []) (bytes ++ told) mid
 run-push sid p q mid [] line bytes told r t =

@@ -107,7 +107,7 @@ fn join<R: Relay, M: Meter>(alloc: Global, core: &mut Core<R, M>) -> Sid
     ensures { Joins result core.new }
 {
     match core.apply(alloc, Ask::Session(SessionAsk::Join)) {
-        Answer::Session(SessionAnswer::Joined(sid)) => sid,
+        Answer::Session(SessionAnswer::Joined(sid), _) => sid,
         _ => unreachable!(),
     }
 }

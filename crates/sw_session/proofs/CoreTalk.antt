@@ -1,5 +1,5 @@
 -- A talk over a mainframe leaves no choice but what is measured, where memory suffices and no card fails.
-use Rattle.std.proofs.Common.{◌≡◌, ℕ, ◌≤◌, List, [], ◌∷◌, ◌++◌, length, Option, Some, None, Result, Ok, Err, refl, ap, sym, ◌∙◌, subst, arith}
+use Rattle.std.proofs.Common.{◌≡◌, ℕ, ◌≤◌, List, [], ◌∷◌, ◌++◌, length, Option, Some, None, Result, Ok, Err, refl, ap, sym, ◌∙◌, subst, arith, zero, suc, replicate}
 use Rattle.std.specs.Io.BufRead.{strip_last}
 use Rattle.std.specs.List.{AllByRecursion}
 use Rattle.std.proofs.lemmas.List.{append_assoc}
@@ -17,8 +17,8 @@ use Rattle.sw_core.specs.View.{WorkView, Measures, Pauses, AskView, AskSession, 
 use Rattle.sw_session.specs.declared.desk.Wake.{Wake}
 use Rattle.sw_session.specs.declared.desk.Wake.TheVariants.{Again, Over}
 use Rattle.sw_session.specs.Trace.{Entry, Asked, Waited, Leads}
-use Rattle.sw_session.specs.CoreDesk.{DeskSeen, Carried, Tells, Keeps, Answers, Works, PassesBy, CorePasses, brought}
-use Rattle.sw_session.specs.Law.{SameTalk, TellsPlainly, IsSmooth, AllSmooth, carried_of, measured, outcomes_in, outcomes_of, TalkIsDetermined, CoreTalkIsDetermined}
+use Rattle.sw_session.specs.CoreDesk.{DeskSeen, Carried, Tells, Keeps, Answers, Works, PassesBy, CorePasses, Rests, brought}
+use Rattle.sw_session.specs.Law.{SameTalk, TellsPlainly, IsSmooth, AllSmooth, carried_of, measured, outcomes_in, outcomes_of, waits_of, carried_at_rest, TalkIsDetermined, CoreTalkIsDetermined, CoreRestIsDetermined}
 
 -- what is kept, where nothing is carried out at once
 kept-same : (p : Panel) (brings : Option WorkView) (work : List WorkView) (q q' : DeskSeen) → Keeps [] p brings work q → Keeps [] p brings work q' → q ≡ q'
@@ -146,3 +146,13 @@ same-run once d d' q q' b b' (Waited w ∷ t) (Waited w' ∷ t') (mid, (cs, p), 
 pub core-talk-determined : StepIsDetermined → TalkIsDetermined → CoreTalkIsDetermined
 core-talk-determined once talk sid d e e' message bytes bytes' t t' ample ample' smooth smooth' outcomes =
     same-run once d d e e' bytes bytes' t.trace t'.trace t.leads t'.leads refl smooth smooth' outcomes (talk sid (strip_last 10 message) t.trace t'.trace bytes bytes' t.talks t'.talks ample ample')
+
+-- two rests wait alike until one is over
+rests-alike : (n m : ℕ) → SameTalk [] [] (replicate n (Waited Again) ++ Waited Over ∷ []) (replicate m (Waited Again) ++ Waited Over ∷ [])
+rests-alike zero zero = λ e. refl
+rests-alike zero (suc m) = λ e. absurd (cc (e))
+rests-alike (suc n) zero = λ e. absurd (cc (e))
+rests-alike (suc n) (suc m) = λ e. rests-alike n m
+
+pub core-rest-determined : StepIsDetermined → CoreRestIsDetermined
+core-rest-determined once d e e' r r' smooth smooth' outcomes = (same-run once d d e e' [] [] (waits_of r) (waits_of r') r.leads r'.leads refl smooth smooth' outcomes (rests-alike r.waits r'.waits)).2

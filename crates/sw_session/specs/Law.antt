@@ -1,5 +1,5 @@
 -- A talk leaves no choice.
-use Rattle.std.specs.Prelude.{◌≡◌, ◌≢◌, ℕ, ◌≤◌, List, [], ◌∷◌, ◌++◌, length, Option, Result}
+use Rattle.std.specs.Prelude.{◌≡◌, ◌≢◌, ℕ, ◌≤◌, List, [], ◌∷◌, ◌++◌, length, replicate, true, Option, Result}
 use Rattle.std.specs.List.{AllByRecursion}
 use Rattle.sw_base.specs.declared.error.ScpiError.TheVariants.{OutOfMemory}
 use Rattle.sw_core.specs.declared.ask.Sid.{Sid}
@@ -9,7 +9,8 @@ use Rattle.sw_card.specs.declared.board.CardFault.{CardFault}
 use Rattle.sw_core.specs.declared.ask.SessionAnswer.{SessionAnswer}
 use Rattle.sw_core.specs.Run.{IsPlain}
 use Rattle.sw_core.specs.View.{WorkView, AskView, AskFinished, SaysSession}
-use Rattle.sw_session.specs.CoreDesk.{DeskSeen, Carried, CorePasses}
+use Rattle.sw_session.specs.CoreDesk.{DeskSeen, Carried, CorePasses, Rests, last_wait}
+use Rattle.sw_session.specs.declared.desk.Wake.TheVariants.{Again}
 use Rattle.sw_session.specs.Trace.{Entry, Asked, Waited, Leads}
 use Rattle.sw_session.specs.Talk.{Talked, TalksMessage}
 
@@ -76,3 +77,14 @@ carried_in {old} {new} t = carried_of old t.trace new t.leads
 abbrev pub CoreTalkIsDetermined : Type 0
 CoreTalkIsDetermined = (sid : Sid) (d e e' : DeskSeen) (message bytes bytes' : List ℕ) (t : Talked CorePasses d e sid message bytes) (t' : Talked CorePasses d e' sid message bytes') → AllAmple t.trace → AllAmple t'.trace
     → AllSmooth t.trace (carried_in t) → AllSmooth t'.trace (carried_in t') → outcomes_of (carried_in t) ≡ outcomes_of (carried_in t') → (t.trace ≡ t'.trace) × (bytes ≡ bytes') × (e ≡ e')
+
+-- the calls of a rest that succeeds, and the pieces that were carried out in them
+abbrev pub waits_of : {old new : DeskSeen} → Rests old true new → List Entry
+waits_of r = replicate r.waits (Waited Again) ++ last_wait true
+
+abbrev pub carried_at_rest : {old new : DeskSeen} → Rests old true new → List (List Carried)
+carried_at_rest {old} {new} r = carried_of old (waits_of r) new r.leads
+
+-- A rest that succeeds leaves one desk for what is measured, where no growth was refused and no card failed.
+abbrev pub CoreRestIsDetermined : Type 0
+CoreRestIsDetermined = (d e e' : DeskSeen) (r : Rests d true e) (r' : Rests d true e') → AllSmooth (waits_of r) (carried_at_rest r) → AllSmooth (waits_of r') (carried_at_rest r') → outcomes_of (carried_at_rest r) ≡ outcomes_of (carried_at_rest r') → e ≡ e'

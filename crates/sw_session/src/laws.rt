@@ -1,6 +1,6 @@
 //! What follows from the contract of a talk.
 
-ghost use Rattle.sw_session.specs.Law.{TalkIsDetermined, CoreTalkIsDetermined};
+ghost use Rattle.sw_session.specs.Law.{TalkIsDetermined, CoreTalkIsDetermined, CoreRestIsDetermined};
 
 use sw_core::step_is_determined;
 use sw_lex::{one_meaning, one_reading};
@@ -21,4 +21,12 @@ pub fn core_talk_is_determined()
 {
     step_is_determined();
     talk_is_determined();
+}
+
+/// A law: over a mainframe what is measured determines the desk that a rest leaves, where no growth is refused and no card
+/// fails.
+pub fn core_rest_is_determined()
+    ensures { CoreRestIsDetermined }
+{
+    step_is_determined();
 }

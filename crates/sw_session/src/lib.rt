@@ -6,7 +6,7 @@
 //! each command, and gives the line of answers; for INITiate it makes the plan of the scan between two asks. Its contract
 //! is one relation, `Talked`: what is asked next after each answer, and what is written. The laws: the message and the
 //! desk's answers leave no choice (`talk_is_determined`), over a mainframe the message and what is measured leave none
-//! (`core_talk_is_determined`), where no growth was refused and no card failed.
+//! (`core_talk_is_determined`, `core_rest_is_determined`), where no growth was refused and no card failed.
 //!
 //! Not promised: that a desk ever answers anything but a hold, and that memory is there.
 #![tactic(auto)]
@@ -23,5 +23,5 @@ mod units;
 
 pub use core_desk::CoreDesk;
 pub use desk::{Desk, Wake};
-pub use laws::{core_talk_is_determined, talk_is_determined};
+pub use laws::{core_rest_is_determined, core_talk_is_determined, talk_is_determined};
 pub use talker::Talker;

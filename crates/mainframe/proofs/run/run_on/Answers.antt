@@ -1,15 +1,13 @@
-use Rattle.std.proofs.Common.{◌≡◌, ℕ, List, subst, ◌<◌, ◌∙◌, sym, ap, length, arith, Err, IfSome, eqb-true, vec_len, rules}
+use Rattle.std.proofs.Common.{◌≡◌, true, ℕ, List, subst, ◌<◌, ◌∙◌, sym, ap, length, arith, Err, IfSome, eqb-true, vec_len, rules}
 use Rattle.std.specs.Io.KnownBytes.{Appends}
 use Rattle.sw_core.specs.declared.ask.Sid.{Sid}
-use Rattle.sw_session.specs.CoreDesk.{CorePasses}
 use Rattle.sw_session.specs.declared.talker.Talker.{Talker}
-use Rattle.mainframe.specs.Run.{EndsFrom}
+use Rattle.mainframe.specs.Run.{EndsFrom, Line}
 use Rattle.mainframe.specs.declared.fault.RunFault.{RunFault}
-use Rattle.mainframe.specs.declared.fault.RunFault.TheVariants.{Output}
-use Rattle.sw_session.specs.Talk.{Talked}
+use Rattle.mainframe.specs.declared.fault.RunFault.TheVariants.{Input, Output}
 use Rattle.mainframe.specs.Lines.{WritesPart}
 use Rattle.mainframe.proofs.Known.{appends-nothing}
-use Rattle.mainframe.proofs.Runs.{progress-start, progress-end, progress-part, progress-all, progress-line, progress-cut, progress-stopped, ends-cut}
+use Rattle.mainframe.proofs.Runs.{progress-start, progress-end, progress-part, progress-all, progress-line, progress-cut, progress-stopped, progress-stuck, line_rested, ends-cut}
 use Rattle.mainframe.proofs.Kept.{kept-none}
 use Rattle.mainframe.proofs.run.run_on.Goals as goal
 
@@ -32,10 +30,10 @@ returns-in-Err-clause-err g c = ends-cut _ _ _ _ _ _ _ c.in-Err.ensures.fault (p
 pub returns-in-Err-write_bytes-clause-err : goal.returns-in-Err-write_bytes-clause-err
 returns-in-Err-write_bytes-clause-err g c =
     let some : 0 < length c.read_line.new.line.items = search rules in
-    let talked : Talked CorePasses c.loop-turn.desk c.message-told.new.desk c.args.sid c.read_line.new.line.items c.message-told.result.items =
-    subst (λ (s : Sid). Talked CorePasses c.loop-turn.desk c.message-told.new.desk s c.read_line.new.line.items c.message-told.result.items) c.loop-turn.invariant.sid
-    (subst (λ (t : List ℕ). Talked CorePasses c.loop-turn.desk c.message-told.new.desk c.loop-turn.talker.sid t c.message-told.result.items) c.deref.ensures.value c.message-told.ensures.talked) in
-    let part = progress-part c.args.sid c.args.desk.now (g.Rd.Read.remaining c.args.reader.now) (g.Rd.Read.remaining c.loop-turn.reader) (g.Rd.Read.remaining c.read_line.new.reader) (g.W.Write.contents c.args.writer.now) (g.W.Write.contents c.loop-turn.writer) (g.W.Write.contents c.write_bytes.new.writer) c.loop-turn.desk c.message-told.new.desk c.read_line.new.line.items c.message-told.result.items c.loop-turn.invariant.so_far c.in_default.ensures.kept c.in_default.ensures.rest some talked
+    let rested : c.rest.result ≡ true = search rules in
+    let answered : Line c.args.sid c.loop-turn.desk c.read_line.new.line.items c.message-told.result.items c.rest.new.self =
+    line_rested c.args.sid c.loop-turn.talker.sid c.loop-turn.desk c.message-told.new.desk c.rest.new.self c.read_line.new.line.items _ c.message-told.result.items c.rest.result c.loop-turn.invariant.sid c.deref.ensures.value c.message-told.ensures.talked c.rest.ensures.rests rested in
+    let part = progress-part c.args.sid c.args.desk.now (g.Rd.Read.remaining c.args.reader.now) (g.Rd.Read.remaining c.loop-turn.reader) (g.Rd.Read.remaining c.read_line.new.reader) (g.W.Write.contents c.args.writer.now) (g.W.Write.contents c.loop-turn.writer) (g.W.Write.contents c.write_bytes.new.writer) c.loop-turn.desk c.rest.new.self c.read_line.new.line.items c.message-told.result.items c.loop-turn.invariant.so_far c.in_default.ensures.kept c.in_default.ensures.rest some answered
     (subst (λ (b : List ℕ). WritesPart (g.W.Write.contents c.loop-turn.writer) (g.W.Write.contents c.write_bytes.new.writer) b) c.deref-in-loop-turn.ensures.value c.in-Err-write_bytes.ensures.err) in
     let wrote : Err c.in-Err-write_bytes.fault ≡ Err Output = c.in-Err-write_bytes.ensures.output in
     let output : c.in-Err-write_bytes.fault ≡ Output = cc in
@@ -44,14 +42,19 @@ returns-in-Err-write_bytes-clause-err g c =
 pub loop-turn-preserved : goal.loop-turn-preserved
 loop-turn-preserved g c =
     let some : 0 < length c.read_line.new.line.items = search rules in
-    let talked : Talked CorePasses c.loop-turn.desk c.message-told.new.desk c.args.sid c.read_line.new.line.items c.message-told.result.items =
-    subst (λ (s : Sid). Talked CorePasses c.loop-turn.desk c.message-told.new.desk s c.read_line.new.line.items c.message-told.result.items) c.loop-turn.invariant.sid
-    (subst (λ (t : List ℕ). Talked CorePasses c.loop-turn.desk c.message-told.new.desk c.loop-turn.talker.sid t c.message-told.result.items) c.deref.ensures.value c.message-told.ensures.talked) in
+    let rested : c.rest.result ≡ true = search rules in
+    let answered : Line c.args.sid c.loop-turn.desk c.read_line.new.line.items c.message-told.result.items c.rest.new.self =
+    line_rested c.args.sid c.loop-turn.talker.sid c.loop-turn.desk c.message-told.new.desk c.rest.new.self c.read_line.new.line.items _ c.message-told.result.items c.rest.result c.loop-turn.invariant.sid c.deref.ensures.value c.message-told.ensures.talked c.rest.ensures.rests rested in
     record {
       sid = ap (λ (t : Talker). t.sid) c.message-told.ensures.same ∙ c.loop-turn.invariant.sid;
-      so_far = progress-line c.args.sid c.args.desk.now (g.Rd.Read.remaining c.args.reader.now) (g.Rd.Read.remaining c.loop-turn.reader) (g.Rd.Read.remaining c.read_line.new.reader) (g.W.Write.contents c.args.writer.now) (g.W.Write.contents c.loop-turn.writer) (g.W.Write.contents c.write_bytes.new.writer) c.loop-turn.desk c.message-told.new.desk c.read_line.new.line.items c.message-told.result.items c.loop-turn.invariant.so_far c.in_default.ensures.kept c.in_default.ensures.rest some talked
+      so_far = progress-line c.args.sid c.args.desk.now (g.Rd.Read.remaining c.args.reader.now) (g.Rd.Read.remaining c.loop-turn.reader) (g.Rd.Read.remaining c.read_line.new.reader) (g.W.Write.contents c.args.writer.now) (g.W.Write.contents c.loop-turn.writer) (g.W.Write.contents c.write_bytes.new.writer) c.loop-turn.desk c.rest.new.self c.read_line.new.line.items c.message-told.result.items c.loop-turn.invariant.so_far c.in_default.ensures.kept c.in_default.ensures.rest some answered
           (subst (λ (b : List ℕ). Appends (g.W.Write.contents c.loop-turn.writer) (g.W.Write.contents c.write_bytes.new.writer) b) c.deref-in-loop-turn.ensures.value c.in_default-write_bytes.ensures.ok);
     }
 
 pub returns-clause-err : goal.returns-clause-err
 returns-clause-err g c = progress-stopped _ _ _ _ _ _ _ c.loop-turn.invariant.so_far
+
+pub returns-then-not-rest-clause-err : goal.returns-then-not-rest-clause-err
+returns-then-not-rest-clause-err g c =
+    ends-cut c.args.sid c.args.desk.now Input (g.Rd.Read.remaining c.args.reader.now) (g.Rd.Read.remaining c.read_line.new.reader) (g.W.Write.contents c.args.writer.now) (g.W.Write.contents c.loop-turn.writer) (λ (e : Input ≡ Output). absurd (cc (e)))
+    (progress-stuck c.args.sid c.args.desk.now (g.Rd.Read.remaining c.args.reader.now) (g.Rd.Read.remaining c.loop-turn.reader) (g.Rd.Read.remaining c.read_line.new.reader) (g.W.Write.contents c.args.writer.now) (g.W.Write.contents c.loop-turn.writer) c.loop-turn.desk c.loop-turn.invariant.so_far c.in_default.ensures.rest)
