@@ -89,7 +89,7 @@ fn unit<R: Relay, M: Meter>(
     command: Command,
 ) -> Result<SessionAnswer, Fail> {
     match core.apply(alloc, Ask::Session(SessionAsk::Unit(sid, command, false))) {
-        Answer::Session(answer) => Ok(answer),
+        Answer::Session(answer, _) => Ok(answer),
         _ => Err("a session's ask was answered as a card's")?,
     }
 }
@@ -132,7 +132,7 @@ fn set_up<R: Relay, M: Meter>(
 ) -> Result<(Core<R, M>, Sid), Fail> {
     let (first, second, third) = cards;
     let mut core = Core::new(alloc)?;
-    let Answer::Session(SessionAnswer::Joined(sid)) = core.apply(
+    let Answer::Session(SessionAnswer::Joined(sid), _) = core.apply(
         alloc,
         Ask::Session(SessionAsk::Join),
     ) else {

@@ -1,7 +1,6 @@
 -- A talk over a mainframe leaves no choice but what is measured, where memory suffices and no card fails.
-use Rattle.std.proofs.Common.{◌≡◌, ℕ, ◌≤◌, List, [], ◌∷◌, ◌++◌, length, Option, Some, None, Result, Ok, Err, refl, ap, sym, ◌∙◌, subst, arith, zero, suc, replicate}
+use Rattle.std.proofs.Common.{◌≡◌, ℕ, zero, suc, List, [], ◌∷◌, ◌++◌, replicate, Option, Some, None, Result, Ok, Err, refl, ap, sym, ◌∙◌, subst, arith}
 use Rattle.std.specs.Io.BufRead.{strip_last}
-use Rattle.std.specs.List.{AllByRecursion}
 use Rattle.std.proofs.lemmas.List.{append_assoc}
 use Rattle.sw_base.specs.declared.reading.Reading.{Reading}
 use Rattle.sw_card.specs.declared.board.CardFault.{CardFault}
@@ -13,7 +12,7 @@ use Rattle.sw_core.specs.declared.ask.SessionAnswer.{SessionAnswer}
 use Rattle.sw_core.specs.Panel.{Panel}
 use Rattle.sw_core.specs.Run.{StepIsDetermined, IsPlain}
 use Rattle.sw_core.specs.Step.{Step}
-use Rattle.sw_core.specs.View.{WorkView, Measures, Pauses, AskView, AskSession, AskFinished, SaysSession, AnswerView}
+use Rattle.sw_core.specs.View.{WorkView, Measures, Pauses, AskView, AskSession, AskFinished, SaysSession}
 use Rattle.sw_session.specs.declared.desk.Wake.{Wake}
 use Rattle.sw_session.specs.declared.desk.Wake.TheVariants.{Again, Over}
 use Rattle.sw_session.specs.Trace.{Entry, Asked, Waited, Leads}

@@ -1,19 +1,17 @@
 -- Work that is kept or carried out.
-use Rattle.std.proofs.Common.{◌≡◌, ◌≢◌, ℕ, suc, ◌+◌, ◌<◌, Bool, true, false, List, [], ◌∷◌, ◌++◌, Option, Some, None, refl, sym, ap, ◌∙◌, subst, arith}
+use Rattle.std.proofs.Common.{◌≡◌, ℕ, suc, ◌+◌, ◌<◌, Bool, true, false, List, [], ◌∷◌, ◌++◌, Option, Some, None, refl, sym, ap, ◌∙◌, subst, arith}
 use Rattle.std.specs.Prelude.{replicate}
 use Rattle.std.proofs.lemmas.List.{append-nil, replicate_more}
 use Rattle.sw_core.specs.declared.ask.SessionAsk.{SessionAsk}
 use Rattle.sw_core.specs.declared.ask.SessionAnswer.{SessionAnswer}
 use Rattle.sw_core.specs.declared.ask.Work.{Work}
-use Rattle.sw_core.specs.declared.ask.Work.TheVariants as Work
 use Rattle.sw_core.specs.declared.ask.Answer.{Answer}
-use Rattle.sw_core.specs.declared.ask.Answer.TheVariants as Answer
 use Rattle.sw_core.specs.Panel.{Panel}
 use Rattle.sw_core.specs.View.{WorkView, work_view, AskView, AskSession, AnswerView, answer_view, SaysSession}
 use Rattle.sw_core.specs.Step.{Step}
 use Rattle.sw_session.specs.declared.desk.Wake.TheVariants.{Again, Over}
 use Rattle.sw_session.specs.Trace.{Entry, Asked, Waited, Leads}
-use Rattle.sw_session.specs.CoreDesk.{DeskSeen, Carried, CarriesOut, Tells, Keeps, IsKept, IsCarried, PassesBy, CorePasses, Rests, last_wait, most_waits, brought, piece_seen}
+use Rattle.sw_session.specs.CoreDesk.{DeskSeen, Carried, CarriesOut, Tells, Keeps, IsKept, IsCarried, PassesBy, CorePasses, Rests, most_waits, brought, piece_seen}
 use Rattle.sw_session.proofs.Led.{leads-append}
 use Rattle.sw_session.proofs.Nearer.{left, nearer}
 

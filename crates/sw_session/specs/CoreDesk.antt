@@ -4,7 +4,6 @@ use Rattle.sw_cage.specs.Work.{FinishedSeen, IsDone}
 use Rattle.sw_core.specs.declared.ask.SessionAsk.{SessionAsk}
 use Rattle.sw_core.specs.declared.ask.SessionAnswer.{SessionAnswer}
 use Rattle.sw_core.specs.declared.ask.Work.{Work}
-use Rattle.sw_core.specs.declared.ask.Work.TheVariants as Work
 use Rattle.sw_core.specs.Panel.{Panel}
 use Rattle.sw_core.specs.View.{WorkView, Measures, Pauses, AskView, AskSession, AskElapsed, AskFinished, AnswerView, SaysSession, SaysTaken}
 use Rattle.sw_core.specs.Step.{Step}

@@ -5,7 +5,6 @@ use Rattle.sw_base.specs.declared.error.ScpiError.TheVariants.{SettingsConflict,
 use Rattle.sw_base.specs.Errors.{number_of}
 use Rattle.std.specs.Io.BufRead.{strip_last}
 use Rattle.sw_lex.specs.declared.command.Command.{Command}
-use Rattle.sw_lex.specs.declared.command.Command.TheVariants as Command
 use Rattle.sw_lex.specs.Unit.{UnitView}
 use Rattle.sw_lex.specs.Meaning.{Nodes, Resolves}
 use Rattle.sw_verify.specs.declared.refusal.Refusal.{Refusal}

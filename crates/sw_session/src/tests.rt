@@ -1,11 +1,10 @@
 //! Messages over a desk that answers as it is told.
 
-use crate::{CoreDesk, Desk, Talker, Wake};
+use crate::{Desk, Talker, Wake};
 use std::alloc::Global;
 use std::test::Fail;
 use sw_base::{Chan, ScpiError, Sequence};
-use sw_card::{Meter, Relay};
-use sw_core::{Core, SessionAnswer, SessionAsk, Sid};
+use sw_core::{SessionAnswer, SessionAsk, Sid};
 use sw_lex::Command;
 use sw_trigger::Settings;
 use sw_verify::{Layout, Slot, Snapshot};
@@ -77,7 +76,7 @@ impl Desk for Canned {
                 None => SessionAnswer::Refused(ScpiError::InitIgnored),
             },
             SessionAsk::Start(_, _) => {
-                self.started += 1;
+                self.started = self.started.saturating_add(1);
                 SessionAnswer::Done(None)
             }
             _ => SessionAnswer::Stranger,
@@ -204,19 +203,5 @@ fn starts_nothing_where_the_snapshot_is_refused(rt: HostRuntime) -> Result<(), F
     assert_eq!(rt; line.as_slice(), b"OPENBENCH,SWM8,0,1.0\n".as_slice());
     assert_eq!(rt; desk.started, 0);
     assert!(rt; desk.faults.is_empty());
-    Ok(())
-}
-
-#[test]
-fn rests_where_nothing_is_outstanding(rt: HostRuntime) -> Result<(), Fail> {
-    let core = Core::<Box<dyn Relay + Send>, Box<dyn Meter + Send>>::new(rt.alloc())?;
-    let mut desk = CoreDesk::new(rt.alloc(), core);
-    let joined = match desk.ask(SessionAsk::Join) {
-        SessionAnswer::Joined(sid) => sid.number,
-        _ => 0,
-    };
-    assert_eq!(rt; joined, 1);
-    assert!(rt; desk.rest());
-    assert_eq!(rt; desk.wait(), Wake::Over);
     Ok(())
 }

@@ -1,6 +1,6 @@
-use Rattle.std.proofs.Common.{refl, ◌∙◌, ap}
+use Rattle.std.proofs.Common.{◌∙◌, ap}
 use Rattle.sw_session.specs.CoreDesk.{DeskSeen}
-use Rattle.sw_session.proofs.Keeping.{keeps-start, keeps-none, keeps-last, keeps-on, same-carried, weight-falls}
+use Rattle.sw_session.proofs.Keeping.{keeps-none, keeps-last, keeps-on, same-carried, weight-falls}
 use Rattle.sw_session.proofs.core_desk.CoreDesk.keep.Goals as goal
 
 pub returns-in_default : goal.returns-in_default

@@ -1,4 +1,4 @@
-use Rattle.std.proofs.Common.{◌≡◌, ℕ}
+use Rattle.std.proofs.Common.{◌≡◌}
 use Rattle.sw_core.specs.View.{work_view}
 use Rattle.sw_session.proofs.Keeping.{KeepsBy, weight}
 use Rattle.sw_session.proofs.core_desk.CoreDesk.keep.Given as goal
