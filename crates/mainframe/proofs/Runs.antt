@@ -143,9 +143,9 @@ stops_cons : (x : ℕ) (t : List ℕ) → x ≢ 10 → StopsAt t 10 → StopsAt 
 stops_cons x [] n h = λ k d l e. absurd (omega (arith, l))
 stops_cons x (y ∷ t) n h = rw (let m : suc (suc (length t)) - 1 ≡ suc (length t) = omega arith in m) (stops_more x y t n (rw (← (let m : suc (length t) - 1 ≡ length t = omega arith in m)) h))
   where
-  stops_more : (x y : ℕ) (t : List ℕ) → x ≢ 10 → All (λ z. z ≢ 10) (take (length t) (y ∷ t)) → All (λ z. z ≢ 10) (x ∷ take (length t) (y ∷ t))
-  stops_more x y t n h zero d l = n
-  stops_more x y t n h (suc k) d l = h k d (omega (arith, l))
+    stops_more : (x y : ℕ) (t : List ℕ) → x ≢ 10 → All (λ z. z ≢ 10) (take (length t) (y ∷ t)) → All (λ z. z ≢ 10) (x ∷ take (length t) (y ∷ t))
+    stops_more x y t n h zero d l = n
+    stops_more x y t n h (suc k) d l = h k d (omega (arith, l))
 
 stops_if : (b : Bool) (x : ℕ) (t : List ℕ) → (x == 10) ≡ b → StopsAt t 10 → StopsAt (if b then x ∷ [] else x ∷ t) 10
 stops_if true x t e h = λ k d l f. absurd (omega (arith, l))
@@ -159,9 +159,9 @@ through_all : (xs : List ℕ) → take_through 10 xs ++ drop_through 10 xs ≡ x
 through_all [] = refl
 through_all (x ∷ xs) = through_if (x == 10) x xs (through_all xs)
   where
-  through_if : (b : Bool) (x : ℕ) (xs : List ℕ) → take_through 10 xs ++ drop_through 10 xs ≡ xs → (if b then x ∷ [] else x ∷ take_through 10 xs) ++ (if b then xs else drop_through 10 xs) ≡ x ∷ xs
-  through_if true x xs e = refl
-  through_if false x xs e = ap (λ l. x ∷ l) e
+    through_if : (b : Bool) (x : ℕ) (xs : List ℕ) → take_through 10 xs ++ drop_through 10 xs ≡ xs → (if b then x ∷ [] else x ∷ take_through 10 xs) ++ (if b then xs else drop_through 10 xs) ≡ x ∷ xs
+    through_if true x xs e = refl
+    through_if false x xs e = ap (λ l. x ∷ l) e
 
 pub progress-stuck : (sid : Sid) (start : DeskSeen) (r0 r r2 c0 c : Option (List ℕ)) (p : DeskSeen) → Progress sid start r0 r c0 c p → DropsThrough r r2 10 → IfSome r0 (λ input. CutFrom sid start input r2 c0 c)
 progress-stuck sid start None r r2 c0 c p h drops = tt

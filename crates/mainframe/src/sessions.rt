@@ -276,10 +276,7 @@ fn more_readings_than_points(rt: HostRuntime) -> Result<(), Fail> {
                 "ROUT:SCAN (@1!1);:ARM:COUN 2;SOUR BUS;:TRIG:COUN 3;DEL 0.5;:DIAG:SCAN:BOUN?",
                 "14",
             ),
-            (
-                "TRAC:POIN 5;:INIT;:SYST:ERR?",
-                "-221,\"Settings conflict\"",
-            ),
+            ("TRAC:POIN 5;:INIT;:SYST:ERR?", "-221,\"Settings conflict\""),
             ("TRAC:POIN 6;:INIT;:SYST:ERR?", "0,\"No error\""),
         ],
     )
@@ -307,10 +304,7 @@ fn scans_that_may_not_begin(rt: HostRuntime) -> Result<(), Fail> {
         None,
         &[
             ("ROUT:SCAN (@1!1,5!1);:INIT;*OPC?", "1"),
-            (
-                "TRIG:COUN 2;:INIT;:SYST:ERR?",
-                "-241,\"Hardware missing\"",
-            ),
+            ("TRIG:COUN 2;:INIT;:SYST:ERR?", "-241,\"Hardware missing\""),
         ],
     )
 }
@@ -380,10 +374,7 @@ fn a_closing_fails_in_a_scan(rt: HostRuntime) -> Result<(), Fail> {
                 "SYST:ERR?;:STAT:QUES:COND?;:ROUT:CLOS:STAT?",
                 "-240,\"Hardware error\";512;(@)",
             ),
-            (
-                "INIT;*OPC?;:FETC?",
-                "1;1.000000001,1.000000002,1.000000003",
-            ),
+            ("INIT;*OPC?;:FETC?", "1;1.000000001,1.000000002,1.000000003"),
             ("STAT:QUES:COND?", "0"),
         ],
     )

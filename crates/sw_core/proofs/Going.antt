@@ -50,9 +50,10 @@ sent_once : (old : Bays) (slot : ℕ) (ticket : Ticket) (j j' : JobSeen) (new ne
 sent_once old slot ticket j j' new new' h k =
     let slots : j.slot ≡ j'.slot = h.slot_is ∙ sym k.slot_is in
     let tickets : j.ticket ≡ j'.ticket = h.ticket_is ∙ sym k.ticket_is in
-    let meters : j.meter ≡ j'.meter = meter_once j.meter j'.meter (some_eq (of_meter j.meter) (of_meter j'.meter) (sym h.meter ∙ k.meter)) in
-    (ap (λ (x : ℕ). let r : JobSeen = record { slot = x; ticket = j.ticket; meter = j.meter } in r) slots ∙ ap (λ (x : Ticket). let r : JobSeen = record { slot = j'.slot; ticket = x; meter = j.meter } in r) tickets ∙ ap (λ (x : MeterAccount). let r : JobSeen = record { slot = j'.slot; ticket = j'.ticket; meter = x } in r) meters,
-     h.after ∙ sym k.after)
+    let meters : j.meter ≡ j'.meter = meter_once j.meter j'.meter (some_eq (of_meter j.meter) (of_meter j'.meter) (sym h.meter ∙ k.meter)) in (
+      ap (λ (x : ℕ). let r : JobSeen = record { slot = x; ticket = j.ticket; meter = j.meter } in r) slots ∙ ap (λ (x : Ticket). let r : JobSeen = record { slot = j'.slot; ticket = x; meter = j.meter } in r) tickets ∙ ap (λ (x : MeterAccount). let r : JobSeen = record { slot = j'.slot; ticket = j'.ticket; meter = x } in r) meters,
+      h.after ∙ sym k.after,
+    )
 
 arrives_once : (old : Bays) (number : ℕ) (at : Scanning) (told told' : TakenSeen) (new new' : Bays) (scan scan' : Option Scanning) → Arrives old number at told new scan → Arrives old number at told' new' scan' → IsSameGoing told told' new new' scan scan'
 arrives_once old number at SaysWaits SaysWaits new new' scan scan' h k = (refl, h.1 ∙ sym k.1, h.2 ∙ sym k.2)

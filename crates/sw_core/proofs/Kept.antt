@@ -186,9 +186,9 @@ slot_of c done k e = out_slot c c done.slot done.slot done.ticket k.good.held re
 room_any : (c : CageSeen) → IsGood c → (room : ℕ) × HasKept c room
 room_any c g = room_some c c.scan g refl
   where
-  room_some : (c : CageSeen) (scan : Option Scanning) → IsGood c → c.scan ≡ scan → (room : ℕ) × HasKept c room
-  room_some c None g e = (0, record { good = g; room = subst (λ (o : Option Scanning). HasRoom o 0) (sym e) tt })
-  room_some c (Some at) g e = (reads (agenda at.setup), has_room c at g e)
+    room_some : (c : CageSeen) (scan : Option Scanning) → IsGood c → c.scan ≡ scan → (room : ℕ) × HasKept c room
+    room_some c None g e = (0, record { good = g; room = subst (λ (o : Option Scanning). HasRoom o 0) (sym e) tt })
+    room_some c (Some at) g e = (reads (agenda at.setup), has_room c at g e)
 
 pub kept_late : (c : CageSeen) (done : FinishedSeen) → IsKept c → slot_at c.out done.slot ≡ Some done.ticket → (TakesReturn c done.slot done.ticket → ⊥) → IsKept (with_back c done)
 kept_late c done k e late =

@@ -131,9 +131,9 @@ IsHarmless p (Flags closed chans) = Unit {0}
 idle_of : (p : Panel) → (is_running p && true) ≡ false → is_running p ≡ false
 idle_of p e = and_true (is_running p) e
   where
-  and_true : (b : Bool) → (b && true) ≡ false → b ≡ false
-  and_true true e = e
-  and_true false e = refl
+    and_true : (b : Bool) → (b && true) ≡ false → b ≡ false
+    and_true true e = e
+    and_true false e = refl
 
 harmless_fetched : (readings : List Reading) (status : StatusSeen) (p : Panel) → IsHarmless p (fetched readings status)
 harmless_fetched [] status p = stale
@@ -327,13 +327,13 @@ few_card rack slot card can m = (can.fit m).few_channels
 stopped_fine : (c : CageSeen) → IsKept c → IsKept (stopped c) × ((stopped c).scan ≡ None) × ((stopped c).out ≡ c.out)
 stopped_fine c k = by_scan c (is_some c.scan) refl k
   where
-  by_scan : (c : CageSeen) (b : Bool) → is_some c.scan ≡ b → IsKept c → IsKept (stopped c) × ((stopped c).scan ≡ None) × ((stopped c).out ≡ c.out)
-  by_scan c true e k =
-      let s : stopped c ≡ fall c = ap (λ (b : Bool). if b then fall c else c) e in
-      (subst (λ (x : CageSeen). IsKept x) (sym s) (fallen_all c k), ap (λ (x : CageSeen). x.scan) s, ap (λ (x : CageSeen). x.out) s)
-  by_scan c false e k =
-      let s : stopped c ≡ c = ap (λ (b : Bool). if b then fall c else c) e in
-      (subst (λ (x : CageSeen). IsKept x) (sym s) k, ap (λ (x : CageSeen). x.scan) s ∙ is_none c.scan e, ap (λ (x : CageSeen). x.out) s)
+    by_scan : (c : CageSeen) (b : Bool) → is_some c.scan ≡ b → IsKept c → IsKept (stopped c) × ((stopped c).scan ≡ None) × ((stopped c).out ≡ c.out)
+    by_scan c true e k =
+        let s : stopped c ≡ fall c = ap (λ (b : Bool). if b then fall c else c) e in
+        (subst (λ (x : CageSeen). IsKept x) (sym s) (fallen_all c k), ap (λ (x : CageSeen). x.scan) s, ap (λ (x : CageSeen). x.out) s)
+    by_scan c false e k =
+        let s : stopped c ≡ c = ap (λ (b : Bool). if b then fall c else c) e in
+        (subst (λ (x : CageSeen). IsKept x) (sym s) k, ap (λ (x : CageSeen). x.scan) s ∙ is_none c.scan e, ap (λ (x : CageSeen). x.out) s)
 
 pub rest_closed : (rack : Rack) (slot : ℕ) (card : Account) → slot_at (all_open rack) slot ≡ Some card → (k : ℕ) → closed_at card.closed k ≡ false
 rest_closed rack slot card e k = ap (λ o. option_closed o k) (sym e) ∙ all_open_closed rack (slot, k)

@@ -71,4 +71,3 @@ same_rack (o ∷ r) (n ∷ s) e h =
 
 pub sets_once : (old new new' : Rack) (chans : List Channel) (on : Bool) → Sets old chans on new → Sets old chans on new' → new ≡ new'
 sets_once old new new' chans on s t = same_rack new new' (s.rest ∙ sym t.rest) (λ c. s.closed c ∙ sym (t.closed c))
-

@@ -28,7 +28,8 @@ pub fn acts_unnumbered<R: Relay, M: Meter>(ask: &Ask<R, M>) -> bool
     ensures { result ≡ acts_unnumbered (ask_view ask.now) }
 {
     match ask {
-        Ask::Session(SessionAsk::Unit(_, Command::Abort, _)) | Ask::Eject(_) | Ask::Finished(_) => true,
+        Ask::Session(SessionAsk::Unit(_, Command::Abort, _)) | Ask::Eject(_) | Ask::Finished(_) =>
+            true,
         _ => false,
     }
 }

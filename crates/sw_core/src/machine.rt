@@ -159,7 +159,12 @@ impl<R: Relay, M: Meter> Core<R, M> {
 
     /// Does what a session that is joined asks.
     #[tactic(auto, using(crate::proofs::Calls::failed_same))]
-    fn joined(&mut self, alloc: Global, sid: Sid, ask: SessionAsk) -> (SessionAnswer, Option<Work<M>>)
+    fn joined(
+        &mut self,
+        alloc: Global,
+        sid: Sid,
+        ask: SessionAsk,
+    ) -> (SessionAnswer, Option<Work<M>>)
         requires asker { asker_of ask ≡ Some sid }
         requires joined { IsJoined self.old.sessions sid }
         ensures { StepJoined self.old ask (any_failed self.old.cage.rack self.new.cage.rack) result.0 (work_view result.1) self.new }

@@ -53,7 +53,10 @@ impl<R: Relay, M: Meter> Core<R, M> {
             Command::VersionQuery => told(version(alloc)),
             Command::CloseState => self.close_state(alloc),
             Command::ScanQuery => self.scan_query(alloc),
-            Command::SourceQuery(layer) => told(source_word(alloc, self.settings.layer(layer).source)),
+            Command::SourceQuery(layer) => told(source_word(
+                alloc,
+                self.settings.layer(layer).source,
+            )),
             Command::DelayQuery(layer) => told(seconds(alloc, self.settings.layer(layer).delay_us)),
             Command::EventQuery => self.event_query(alloc),
             Command::GroupEventQuery(group) => self.group_event_query(alloc, group),
@@ -70,7 +73,9 @@ impl<R: Relay, M: Meter> Core<R, M> {
             Command::ClearStatus => self.clear_status(),
             Command::OperationComplete => self.complete_operation(),
             Command::Wait | Command::InitiateContinuous(false) => SessionAnswer::Done(None),
-            Command::InitiateContinuous(true) => SessionAnswer::Refused(ScpiError::SettingsConflict),
+            Command::InitiateContinuous(true) => SessionAnswer::Refused(
+                ScpiError::SettingsConflict,
+            ),
             Command::Count(layer, n) => taken(self.settings.set_count(layer, n)),
             Command::SetSource(layer, source) => self.set_source(layer, source),
             Command::Delay(layer, micros) => taken(self.settings.set_delay(layer, micros)),
