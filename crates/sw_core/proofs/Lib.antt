@@ -9,3 +9,4 @@ mod Determined
 mod Kept
 mod Safety
 mod Obeyed
+mod Nearing

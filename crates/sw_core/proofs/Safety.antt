@@ -417,7 +417,7 @@ none_if false o e = refl
 none_slot_out : (n s : ℕ) → slot_at (let r : List (Option Ticket) = replicate n None in r) s ≡ None
 none_slot_out n s = none_if (nat_lt 0 s) (slice_index_or (let r : List (Option Ticket) = replicate n None in r) (s - 1) None) (none_at n (s - 1))
 
-opening_fine_at : (events scans : ℕ) → IsFine (opening_at events scans)
+pub opening_fine_at : (events scans : ℕ) → IsFine (opening_at events scans)
 opening_fine_at events scans = record {
   cage = record {
     good = record {

@@ -6,3 +6,4 @@ pub mod Registers
 pub mod Event
 pub mod Step
 pub mod Run
+pub mod Ends

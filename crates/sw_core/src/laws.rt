@@ -1,6 +1,7 @@
 //! What no run can do: laws over every list of events that are steps from the opening state.
 
 ghost use Rattle.sw_core.specs.Run.{EveryRunIsGood, RelaysObey, StepIsDetermined};
+ghost use Rattle.sw_core.specs.Ends.{EveryScanEnds};
 
 /// In every run no absent channel is ever closed and no two closed channels clash, and a scan that runs has done a prefix
 /// of its agenda, which is sound for the cards of the cage and for what it found closed.
@@ -18,4 +19,10 @@ pub fn relays_obey()
 /// Where memory suffices and no card fails, an ask has one answer and leaves one state.
 pub fn step_is_determined()
     ensures { StepIsDetermined }
+{}
+
+/// In every run a scan is over after at most as many taken triggers, ends of pauses and returns of its meter as its plan's
+/// bound says; what it took and what it still awaits make up the bound.
+pub fn every_scan_ends()
+    ensures { EveryScanEnds }
 {}

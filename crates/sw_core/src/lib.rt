@@ -21,5 +21,5 @@ mod text;
 mod units;
 
 pub use ask::{Answer, Ask, SessionAnswer, SessionAsk, Sid, Work};
-pub use laws::{every_run_is_good, relays_obey, step_is_determined};
+pub use laws::{every_run_is_good, every_scan_ends, relays_obey, step_is_determined};
 pub use machine::Core;
