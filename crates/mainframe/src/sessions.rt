@@ -237,10 +237,16 @@ fn a_scan_of_three_readings(rt: HostRuntime) -> Result<(), Fail> {
         &rt,
         rt.alloc(),
         None,
-        &[(
-            "ROUT:SCAN (@1!1,1!2);:TRIG:COUN 3;:INIT;*OPC?;:FETC?",
-            "1;1.000000000,1.000000001,1.000000002",
-        )],
+        &[
+            (
+                "ROUT:SCAN (@1!1,1!2);:TRIG:COUN 3;:INIT;*OPC?;:FETC?",
+                "1;1.000000000,1.000000001,1.000000002",
+            ),
+            (
+                "INIT;:STAT:OPER:COND?;:TRAC:POIN:ACT?;*OPC?;:TRAC:POIN:ACT?",
+                "16;0;1;3",
+            ),
+        ],
     )
 }
 
