@@ -69,7 +69,7 @@ fn calls(record: &Record) -> (u64, u64) {
 }
 
 /// Puts a card into the slot.
-fn install<R: Relay, M: Meter>(
+pub(crate) fn install<R: Relay, M: Meter>(
     alloc: Global,
     core: &mut Core<R, M>,
     slot: u8,
@@ -125,7 +125,7 @@ fn check_closed<R: Relay, M: Meter>(
 }
 
 /// A core that this session joined, with these cards in slots 1 to 3 and the meter in slot 4.
-fn set_up<R: Relay, M: Meter>(
+pub(crate) fn set_up<R: Relay, M: Meter>(
     alloc: Global,
     cards: (R, R, R),
     meter: M,

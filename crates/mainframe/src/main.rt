@@ -13,6 +13,8 @@ mod laws;
 mod reading;
 mod run;
 #[cfg(test)]
+mod scans;
+#[cfg(test)]
 mod sessions;
 #[cfg(test)]
 mod tests;
