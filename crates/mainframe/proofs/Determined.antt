@@ -1,25 +1,41 @@
 -- A run leaves no choice: line by line, from a mainframe that was set up in one way.
-use Rattle.std.proofs.Common.{◌≡◌, ℕ, Bool, List, [], ◌∷◌, ◌++◌, sym, ap, subst, ◌∙◌}
+use Rattle.std.proofs.Common.{◌≡◌, ℕ, Bool, true, false, MatchBool, ◌==◌, ◌&&◌, not, List, [], ◌∷◌, ◌++◌, Result, None, sym, ap, subst, ◌∙◌}
 use Rattle.std.proofs.lemmas.List.{append-nil}
 use Rattle.sw_core.specs.declared.ask.Sid.{Sid}
 use Rattle.sw_core.specs.declared.ask.SessionAsk.TheVariants as Ask
 use Rattle.sw_core.specs.declared.ask.SessionAnswer.TheVariants.{Joined}
 use Rattle.sw_core.specs.Panel.{Panel, opening}
-use Rattle.sw_core.specs.View.{AskSession, AskInstall, AnswerView, SaysSession, SaysInstalled, SaysNotInstalled}
-use Rattle.sw_core.specs.Step.{Step}
+use Rattle.sw_core.specs.View.{AskSession, AskInstall, AnswerView, SaysSession, SaysInstalled, SaysNotInstalled, SaysWorn}
+use Rattle.sw_core.specs.Event.{last_number}
+use Rattle.sw_core.specs.Step.{Acts, acts_unnumbered, IsWorn, IsEvent, IsUnnumbered, Step}
 use Rattle.sw_core.specs.Run.{IsPlain, StepIsDetermined}
-use Rattle.sw_session.specs.Law.{CoreTalkIsDetermined}
+use Rattle.sw_base.specs.declared.reading.Reading.{Reading}
+use Rattle.sw_card.specs.declared.board.CardFault.{CardFault}
+use Rattle.sw_macro.specs.Table.{Table}
+use Rattle.sw_session.specs.CoreDesk.{DeskSeen, Rests}
+use Rattle.sw_session.specs.Law.{AllSmooth, waits_of, carried_in, carried_at_rest, outcomes_of, CoreTalkIsDetermined, CoreRestIsDetermined}
 use Rattle.sw_card.specs.Account.{Account}
 use Rattle.mainframe.specs.Lines.{lines_of}
 use Rattle.mainframe.specs.Cards.{Fitted}
-use Rattle.mainframe.specs.Run.{Stepped, AsksInTurn, Joins, IsSetUp, Run, RunsTo}
-use Rattle.mainframe.specs.Law.{IsPlainRun}
+use Rattle.mainframe.specs.Run.{State, state, begins_over, Stepped, AsksInTurn, Joins, IsSetUp, Line, Run, RunsTo}
+use Rattle.mainframe.specs.Law.{IsPlainLine, IsPlainRun, measured_in}
 
 -- an offer of a card is answered plainly
+install_worn : (slot : ℕ) (card : Account) (a : AnswerView) → IsWorn (AskInstall slot card) a → IsPlain a
+install_worn slot card SaysWorn w = tt
+install_worn slot card a w = absurd w
+
+install_acts : (p : Panel) (slot : ℕ) (card : Account) (f : Bool) (a : AnswerView) (q : Panel) → Acts p (AskInstall slot card) f a q → IsPlain a
+install_acts p slot card f SaysInstalled q s = tt
+install_acts p slot card f (SaysNotInstalled r) q s = tt
+install_acts p slot card f a q s = absurd s
+
+install_either : (b : Bool) (p : Panel) (slot : ℕ) (card : Account) (f : Bool) (a : AnswerView) (q : Panel) → MatchBool b (IsUnnumbered p (AskInstall slot card) f a q) (IsEvent p (AskInstall slot card) f a q) → IsPlain a
+install_either true p slot card f a q s = install_worn slot card a s.worn
+install_either false p slot card f a q s = install_acts p slot card f a s.done s.acts
+
 install_plain : (p : Panel) (slot : ℕ) (card : Account) (f : Bool) (a : AnswerView) (q : Panel) → Step p (AskInstall slot card) f a q → IsPlain a
-install_plain p slot card f SaysInstalled q s = tt
-install_plain p slot card f (SaysNotInstalled r) q s = tt
-install_plain p slot card f a q (done, acts, is) = absurd acts
+install_plain p slot card f a q s = install_either ((p.events == last_number) && not (acts_unnumbered (AskInstall slot card))) p slot card f a q s
 
 install_once : StepIsDetermined → (p q q' : Panel) (slot : ℕ) (card : Account) → Stepped p (AskInstall slot card) q → Stepped p (AskInstall slot card) q' → q ≡ q'
 install_once law p q q' slot card s t = (law p q q' (AskInstall slot card) s.failed t.failed s.answer t.answer s.step t.step (install_plain p slot card s.failed s.answer q s.step) (install_plain p slot card t.failed t.answer q' t.step)).1
@@ -35,8 +51,8 @@ offers_once law cards p p' q q' e (a, s, (b, t, (c, u, (d, v, is)))) (a', s', (b
 
 joined_once : StepIsDetermined → (sid sid' : Sid) (q q' : Panel) → Joins sid q → Joins sid' q' → (sid ≡ sid') × (q ≡ q')
 joined_once law sid sid' q q' j k =
-    let r = law opening q q' (AskSession Ask.Join) j.failed k.failed (SaysSession (Joined sid)) (SaysSession (Joined sid')) j.step k.step tt tt in
-    let e : SaysSession (Joined sid) ≡ SaysSession (Joined sid') = r.0 in
+    let r = law opening q q' (AskSession Ask.Join) j.failed k.failed (SaysSession (Joined sid) None) (SaysSession (Joined sid') None) j.step k.step tt tt in
+    let e : SaysSession (Joined sid) None ≡ SaysSession (Joined sid') None = r.0 in
     (let s : sid ≡ sid' = cc in s, r.1)
 
 pub set_up_once : StepIsDetermined → (cards : Fitted) (sid sid' : Sid) (p p' : Panel) → IsSetUp cards sid p → IsSetUp cards sid' p' → (sid ≡ sid') × (p ≡ p')
@@ -44,24 +60,54 @@ set_up_once law cards sid sid' p p' s t =
     let j = joined_once law sid sid' s.begun t.begun s.joined t.joined in
     (j.0, offers_once law cards s.begun t.begun p p' j.1 s.fitted t.fitted)
 
-run_same : CoreTalkIsDetermined → (sid : Sid) (p : Panel) (lines : List (List ℕ)) (bytes bytes' : List ℕ) (q q' : Panel) (r : Run sid p lines bytes q) (r' : Run sid p lines bytes' q') → IsPlainRun sid p lines bytes q r → IsPlainRun sid p lines bytes' q' r' → bytes ≡ bytes'
-run_same law sid p [] bytes bytes' q q' r r' a a' = r.0 ∙ sym r'.0
-run_same law sid p (l ∷ ls) bytes bytes' q q' r r' a a' =
-    let t = law sid p r.1 r'.1 l r.0 r'.0 r.3 r'.3 a.0.ample a'.0.ample a.0.plain a'.0.plain in
-    let more : r.2 ≡ r'.2 = subst (λ (m : Panel). (x : Run sid m ls r.2 q) → IsPlainRun sid m ls r.2 q x → r.2 ≡ r'.2) (sym t.2) (λ x y. run_same law sid r'.1 ls r.2 r'.2 q q' x r'.4 y a'.1) r.4 a.1 in
-    r.5 ∙ ap (λ (b : List ℕ). b ++ r.2) t.1 ∙ ap (λ (m : List ℕ). r'.0 ++ m) more ∙ sym r'.5
+state_same : (s s' : State) → s.desk ≡ s'.desk → s.macros ≡ s'.macros → s ≡ s'
+state_same s s' d m = ap (λ (x : DeskSeen). state x s.macros) d ∙ ap (λ (x : Table). state s'.desk x) m
+
+-- one line
+line_same : CoreTalkIsDetermined → CoreRestIsDetermined → (sid : Sid) (s e e' : State) (line told told' : List ℕ) (l : Line sid s line told e) (l' : Line sid s line told' e') → IsPlainLine l → IsPlainLine l'
+    → outcomes_of (carried_in l.talked) ≡ outcomes_of (carried_in l'.talked) → outcomes_of (carried_at_rest l.rests) ≡ outcomes_of (carried_at_rest l'.rests) → (told ≡ told') × (e ≡ e')
+line_same talk rest sid s e e' line told told' l l' a a' in_talk at_rest =
+    let t = talk sid s.desk l.spoken l'.spoken s.macros e.macros e'.macros line told told' l.talked l'.talked a.ample a'.ample a.talk a'.talk in_talk in
+    let After : DeskSeen → Type 0 = λ d. (r : Rests d true e.desk) → AllSmooth (waits_of r) (carried_at_rest r) → outcomes_of (carried_at_rest r) ≡ outcomes_of (carried_at_rest l'.rests) → e.desk ≡ e'.desk in
+    let there : After l'.spoken = λ r smooth same. rest l'.spoken e.desk e'.desk r l'.rests smooth a'.rest same in
+    let here : After l.spoken = subst After (sym t.3) there in
+    (t.1, state_same e e' (here l.rests a.rest at_rest) t.2)
+
+-- what was measured for the first line, and for the others
+first_of : {T : Type 0} (a b a' b' : T) (c c' : List T) → a ∷ b ∷ c ≡ a' ∷ b' ∷ c' → a ≡ a'
+first_of a b a' b' c c' same = cc (same)
+
+second_of : {T : Type 0} (a b a' b' : T) (c c' : List T) → a ∷ b ∷ c ≡ a' ∷ b' ∷ c' → b ≡ b'
+second_of a b a' b' c c' same = cc (same)
+
+others_of : {T : Type 0} (a b a' b' : T) (c c' : List T) → a ∷ b ∷ c ≡ a' ∷ b' ∷ c' → c ≡ c'
+others_of a b a' b' c c' same = cc (same)
+
+run_same : CoreTalkIsDetermined → CoreRestIsDetermined → (sid : Sid) (d : State) (lines : List (List ℕ)) (bytes bytes' : List ℕ) (e e' : State) (r : Run sid d lines bytes e) (r' : Run sid d lines bytes' e') → IsPlainRun sid d lines bytes e r → IsPlainRun sid d lines bytes' e' r'
+    → measured_in sid d lines bytes e r ≡ measured_in sid d lines bytes' e' r' → bytes ≡ bytes'
+run_same talk rest sid d [] bytes bytes' e e' r r' a a' same = r.0 ∙ sym r'.0
+run_same talk rest sid d (l ∷ ls) bytes bytes' e e' r r' a a' same =
+    let in_talk : outcomes_of (carried_in r.3.talked) ≡ outcomes_of (carried_in r'.3.talked) = first_of _ _ _ _ _ _ same in
+    let at_rest : outcomes_of (carried_at_rest r.3.rests) ≡ outcomes_of (carried_at_rest r'.3.rests) = second_of _ _ _ _ _ _ same in
+    let left : measured_in sid r.1 ls r.2 e r.4 ≡ measured_in sid r'.1 ls r'.2 e' r'.4 = others_of _ _ _ _ _ _ same in
+    let t = line_same talk rest sid d r.1 r'.1 l r.0 r'.0 r.3 r'.3 a.0 a'.0 in_talk at_rest in
+    let Onward : State → Type 0 = λ m. (x : Run sid m ls r.2 e) → IsPlainRun sid m ls r.2 e x → measured_in sid m ls r.2 e x ≡ measured_in sid r'.1 ls r'.2 e' r'.4 → r.2 ≡ r'.2 in
+    let there : Onward r'.1 = λ x y same. run_same talk rest sid r'.1 ls r.2 r'.2 e e' x r'.4 y a'.1 same in
+    let more : r.2 ≡ r'.2 = subst Onward (sym t.1) there r.4 a.1 left in
+    r.5 ∙ ap (λ (b : List ℕ). b ++ r.2) t.0 ∙ ap (λ (m : List ℕ). r'.0 ++ m) more ∙ sym r'.5
 
 all_lines : (input : List ℕ) (done : List (List ℕ)) → lines_of input ≡ done ++ lines_of [] → done ≡ lines_of input
 all_lines input done e = sym (append-nil done) ∙ sym e
 
-pub run_once : StepIsDetermined → CoreTalkIsDetermined → (cards : Fitted) (sid sid' : Sid) (start start' : Panel) (input bytes bytes' : List ℕ) → IsSetUp cards sid start → IsSetUp cards sid' start' → (r : RunsTo sid start input [] bytes) (r' : RunsTo sid' start' input [] bytes')
-    → IsPlainRun sid start r.done bytes r.after r.run → IsPlainRun sid' start' r'.done bytes' r'.after r'.run → bytes ≡ bytes'
-run_once step talk cards sid sid' start start' input bytes bytes' s s' r r' a a' =
+pub run_once : StepIsDetermined → CoreTalkIsDetermined → CoreRestIsDetermined → (cards : Fitted) (sid sid' : Sid) (start start' : Panel) (input bytes bytes' : List ℕ) → IsSetUp cards sid start → IsSetUp cards sid' start' → (r : RunsTo sid (begins_over start) input [] bytes) (r' : RunsTo sid' (begins_over start') input [] bytes')
+    → IsPlainRun sid (begins_over start) r.done bytes r.after r.run → IsPlainRun sid' (begins_over start') r'.done bytes' r'.after r'.run
+    → measured_in sid (begins_over start) r.done bytes r.after r.run ≡ measured_in sid' (begins_over start') r'.done bytes' r'.after r'.run → bytes ≡ bytes'
+run_once step talk rest cards sid sid' start start' input bytes bytes' s s' r r' a a' same =
     let u = set_up_once step cards sid sid' start start' s s' in
     let lines : r.done ≡ r'.done = all_lines input r.done r.lines ∙ sym (all_lines input r'.done r'.lines) in
-    let Same : Sid → Panel → List (List ℕ) → Type 0 = λ i p ls. (x : Run i p ls bytes r.after) → IsPlainRun i p ls bytes r.after x → bytes ≡ bytes' in
-    let last : Same sid' start' r'.done = λ x y. run_same talk sid' start' r'.done bytes bytes' r.after r'.after x r'.run y a' in
+    let Same : Sid → Panel → List (List ℕ) → Type 0 = λ i p ls. (x : Run i (begins_over p) ls bytes r.after) → IsPlainRun i (begins_over p) ls bytes r.after x → measured_in i (begins_over p) ls bytes r.after x ≡ measured_in sid' (begins_over start') r'.done bytes' r'.after r'.run → bytes ≡ bytes' in
+    let last : Same sid' start' r'.done = λ x y z. run_same talk rest sid' (begins_over start') r'.done bytes bytes' r.after r'.after x r'.run y a' z in
     let by_lines : Same sid' start' r.done = subst (λ (ls : List (List ℕ)). Same sid' start' ls) (sym lines) last in
     let by_start : Same sid' start r.done = subst (λ (p : Panel). Same sid' p r.done) (sym u.1) by_lines in
     let by_sid : Same sid start r.done = subst (λ (i : Sid). Same i start r.done) (sym u.0) by_start in
-    by_sid r.run a
+    by_sid r.run a same

@@ -9,12 +9,13 @@ use Rattle.std.proofs.KnownBytes.{Consumes-nil, Consumes-kept, Consumes-trans}
 use Rattle.std.proofs.BufReadLemmas.{Consumes_through, take_through-nil, take_through_nonempty}
 use Rattle.std.proofs.Transfers.{StopsAt-of_All, StopsAt-append}
 use Rattle.sw_core.specs.declared.ask.Sid.{Sid}
-use Rattle.sw_core.specs.Panel.{Panel}
-use Rattle.sw_session.specs.CoreDesk.{CorePasses}
+use Rattle.sw_macro.specs.Table.{Table}
+use Rattle.sw_session.specs.CoreDesk.{DeskSeen, CorePasses}
 use Rattle.sw_session.specs.Trace.{Entry}
 use Rattle.sw_session.specs.Talk.{Talked, TalksMessage, TalksUnits, Overruns, longest}
 use Rattle.mainframe.specs.declared.fault.RunFault.{RunFault}
 use Rattle.mainframe.specs.Kept.{most_kept, CutsLine, TakesPart}
+use Rattle.mainframe.specs.Run.{Line, State}
 
 take-both : (k end n : ℕ) (xs : List ℕ) → n ≡ min end k → take n xs ≡ take k (take end xs)
 take-both zero end n xs is = let none : n ≡ 0 = omega arith in ap (λ m. take m xs) none
@@ -96,27 +97,31 @@ strip-long text long = at (ends_with_byte 10 text)
     at true = omega (arith, length-take (length text - 1) text)
     at false = omega arith
 
-long-alike : (sid : Sid) (trace : List Entry) (bytes text text' : List ℕ) → longest < length text → longest < length text' → TalksMessage sid text trace bytes → TalksMessage sid text' trace bytes
-long-alike sid trace bytes text text' long long' t =
-    subst (λ (b : Bool). MatchBool b (Overruns sid trace bytes) (TalksUnits sid text' trace bytes)) (sym (lt-ltb longest (length text') long'))
-    (subst (λ (b : Bool). MatchBool b (Overruns sid trace bytes) (TalksUnits sid text trace bytes)) (lt-ltb longest (length text) long) t)
+long-alike : (sid : Sid) (macros macros' : Table) (trace : List Entry) (bytes text text' : List ℕ) → longest < length text → longest < length text' → TalksMessage sid macros text trace bytes macros' → TalksMessage sid macros text' trace bytes macros'
+long-alike sid macros macros' trace bytes text text' long long' t =
+    let Dropped : Type 0 = Overruns sid trace bytes × (macros' ≡ macros) in
+    subst (λ (b : Bool). MatchBool b Dropped (TalksUnits sid macros text' trace bytes macros')) (sym (lt-ltb longest (length text') long'))
+    (subst (λ (b : Bool). MatchBool b Dropped (TalksUnits sid macros text trace bytes macros')) (lt-ltb longest (length text) long) t)
 
 -- what is kept of a line is answered as the line is
-pub talks-whole : (sid : Sid) (trace : List Entry) (bytes line : List ℕ) → TalksMessage sid (strip_last 10 (take most_kept line)) trace bytes → TalksMessage sid (strip_last 10 line) trace bytes
-talks-whole sid trace bytes line t = at (leb_tells (length line) most_kept)
+pub talks-whole : (sid : Sid) (macros macros' : Table) (trace : List Entry) (bytes line : List ℕ) → TalksMessage sid macros (strip_last 10 (take most_kept line)) trace bytes macros' → TalksMessage sid macros (strip_last 10 line) trace bytes macros'
+talks-whole sid macros macros' trace bytes line t = at (leb_tells (length line) most_kept)
   where
-    at : ((leb (length line) most_kept ≡ true) × (length line ≤ most_kept)) ⊎ ((leb (length line) most_kept ≡ false) × (most_kept < length line)) → TalksMessage sid (strip_last 10 line) trace bytes
-    at (inl (e, short)) = subst (λ (l : List ℕ). TalksMessage sid (strip_last 10 l) trace bytes) (take_all most_kept line short) t
-    at (inr (e, long)) = long-alike sid trace bytes (strip_last 10 (take most_kept line)) (strip_last 10 line)
+    at : ((leb (length line) most_kept ≡ true) × (length line ≤ most_kept)) ⊎ ((leb (length line) most_kept ≡ false) × (most_kept < length line)) → TalksMessage sid macros (strip_last 10 line) trace bytes macros'
+    at (inl (e, short)) = subst (λ (l : List ℕ). TalksMessage sid macros (strip_last 10 l) trace bytes macros') (take_all most_kept line short) t
+    at (inr (e, long)) = long-alike sid macros macros' trace bytes (strip_last 10 (take most_kept line)) (strip_last 10 line)
         (strip-long (take most_kept line) (omega (arith, length-take most_kept line))) (strip-long line (omega arith)) t
 
-pub talked-whole : (p q : Panel) (sid : Sid) (line bytes : List ℕ) → Talked CorePasses p q sid (take most_kept line) bytes → Talked CorePasses p q sid line bytes
-talked-whole p q sid line bytes t = record { trace = t.trace; leads = t.leads; talks = talks-whole sid t.trace bytes line t.talks }
+pub talked-whole : (p q : DeskSeen) (sid : Sid) (macros macros' : Table) (line bytes : List ℕ) → Talked CorePasses p q sid macros (take most_kept line) bytes macros' → Talked CorePasses p q sid macros line bytes macros'
+talked-whole p q sid macros macros' line bytes t = record { trace = t.trace; leads = t.leads; talks = talks-whole sid macros macros' t.trace bytes line t.talks }
 
 -- nothing is kept at the end of the input alone
 pub kept-none : (old : Option (List ℕ)) (kept : List ℕ) → IfSome old (λ xs. kept ≡ take most_kept (take_through 10 xs)) → length kept ≡ 0 → IsAtEnd old
 kept-none None kept is none = tt
 kept-none (Some xs) kept is none = take_through-nil 10 xs (omega (arith, ap length is, length-take most_kept (take_through 10 xs)))
+
+pub line_whole : (p q : State) (sid : Sid) (line bytes : List ℕ) → Line sid p (take most_kept line) bytes q → Line sid p line bytes q
+line_whole p q sid line bytes t = record { spoken = t.spoken; talked = talked-whole p.desk t.spoken sid p.macros q.macros line bytes t.talked; rests = t.rests }
 
 pub kept-some : (xs kept : List ℕ) → kept ≡ take most_kept (take_through 10 xs) → 0 < length kept → 0 < length xs
 kept-some xs kept is some = take_through_nonempty 10 xs (omega (arith, ap length is, length-take most_kept (take_through 10 xs)))

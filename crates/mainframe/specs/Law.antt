@@ -1,25 +1,32 @@
--- A run leaves no choice.
-use Rattle.std.specs.Prelude.{◌≡◌, ℕ, List, [], ◌∷◌}
-use Rattle.std.specs.List.{AllByRecursion}
+-- A run leaves no choice but what is measured.
+use Rattle.std.specs.Prelude.{◌≡◌, ℕ, List, [], ◌∷◌, Result}
+use Rattle.sw_base.specs.declared.reading.Reading.{Reading}
+use Rattle.sw_card.specs.declared.board.CardFault.{CardFault}
 use Rattle.sw_core.specs.declared.ask.Sid.{Sid}
 use Rattle.sw_core.specs.Panel.{Panel}
-use Rattle.sw_session.specs.CoreDesk.{CorePasses}
-use Rattle.sw_session.specs.Talk.{Talked}
-use Rattle.sw_session.specs.Law.{AllAmple, TellsPlainly}
+use Rattle.sw_session.specs.Law.{AllAmple, AllSmooth, carried_in, waits_of, carried_at_rest, outcomes_of}
 use Rattle.mainframe.specs.Cards.{Fitted}
-use Rattle.mainframe.specs.Run.{IsSetUp, Run, RunsTo}
+use Rattle.mainframe.specs.Run.{State, begins_over, IsSetUp, Line, Run, RunsTo}
 
--- no growth was refused in the talk about one message, and no card failed
-pub record IsPlainTalk {p q : Panel} {sid : Sid} {message bytes : List ℕ} (t : Talked CorePasses p q sid message bytes) : Type 0 where
-  pub ample : AllAmple t.trace
-  pub plain : AllByRecursion TellsPlainly t.trace
+-- no growth was refused in the talk about one line and in the rest after it, and no card failed
+pub record IsPlainLine {sid : Sid} {old new : State} {line told : List ℕ} (l : Line sid old line told new) : Type 0 where
+  pub ample : AllAmple l.talked.trace
+  pub talk : AllSmooth l.talked.trace (carried_in l.talked)
+  pub rest : AllSmooth (waits_of l.rests) (carried_at_rest l.rests)
 
--- nor in the talk about any of these lines
-abbrev pub IsPlainRun : (sid : Sid) (p : Panel) (lines : List (List ℕ)) (bytes : List ℕ) (q : Panel) → Run sid p lines bytes q → Type 0
-IsPlainRun sid p [] bytes q run = Unit {0}
-IsPlainRun sid p (l ∷ ls) bytes q run = IsPlainTalk run.3 × IsPlainRun sid run.1 ls run.2 q run.4
+-- nor in any of these lines
+abbrev pub IsPlainRun : (sid : Sid) (s : State) (lines : List (List ℕ)) (bytes : List ℕ) (s' : State) → Run sid s lines bytes s' → Type 0
+IsPlainRun sid s [] bytes s' run = Unit {0}
+IsPlainRun sid s (l ∷ ls) bytes s' run = IsPlainLine run.3 × IsPlainRun sid run.1 ls run.2 s' run.4
 
--- Where no growth is refused and no card fails, what is written is determined by the cards and by what is read.
+-- what was measured: for each line in the talk about it, and in the rest after it
+abbrev pub measured_in : (sid : Sid) (s : State) (lines : List (List ℕ)) (bytes : List ℕ) (s' : State) → Run sid s lines bytes s' → List (List (Result Reading CardFault))
+measured_in sid s [] bytes s' run = []
+measured_in sid s (l ∷ ls) bytes s' run = outcomes_of (carried_in run.3.talked) ∷ outcomes_of (carried_at_rest run.3.rests) ∷ measured_in sid run.1 ls run.2 s' run.4
+
+-- Where no growth is refused and no card fails, what is written is determined by the cards, by what is read and by what is
+-- measured.
 abbrev pub RunIsDetermined : Type 0
-RunIsDetermined = (cards : Fitted) (sid sid' : Sid) (start start' : Panel) (input bytes bytes' : List ℕ) → IsSetUp cards sid start → IsSetUp cards sid' start' → (r : RunsTo sid start input [] bytes) (r' : RunsTo sid' start' input [] bytes')
-    → IsPlainRun sid start r.done bytes r.after r.run → IsPlainRun sid' start' r'.done bytes' r'.after r'.run → bytes ≡ bytes'
+RunIsDetermined = (cards : Fitted) (sid sid' : Sid) (start start' : Panel) (input bytes bytes' : List ℕ) → IsSetUp cards sid start → IsSetUp cards sid' start' → (r : RunsTo sid (begins_over start) input [] bytes) (r' : RunsTo sid' (begins_over start') input [] bytes')
+    → IsPlainRun sid (begins_over start) r.done bytes r.after r.run → IsPlainRun sid' (begins_over start') r'.done bytes' r'.after r'.run
+    → measured_in sid (begins_over start) r.done bytes r.after r.run ≡ measured_in sid' (begins_over start') r'.done bytes' r'.after r'.run → bytes ≡ bytes'

@@ -1,5 +1,5 @@
 -- What `run` writes for what it reads.
-use Rattle.std.specs.Prelude.{◌≡◌, ℕ, List, [], ◌∷◌, ◌++◌, Option, Some, Result, OnOk, IfErr, Bool, ◌⊎◌}
+use Rattle.std.specs.Prelude.{◌≡◌, ℕ, true, None, List, [], ◌∷◌, ◌++◌, Option, Some, Result, OnOk, IfErr, Bool, ◌⊎◌}
 use Rattle.std.specs.Io.KnownBytes.{Appends, Keeps, IsAtEnd}
 use Rattle.std.specs.Io.{StopsAt}
 use Rattle.sw_core.specs.declared.ask.Sid.{Sid}
@@ -8,12 +8,29 @@ use Rattle.sw_core.specs.declared.ask.SessionAnswer.TheVariants.{Joined}
 use Rattle.sw_core.specs.Panel.{Panel, opening}
 use Rattle.sw_core.specs.View.{AskView, AskSession, AskInstall, AnswerView, SaysSession}
 use Rattle.sw_core.specs.Step.{Step}
-use Rattle.sw_session.specs.CoreDesk.{CorePasses}
+use Rattle.sw_macro.specs.Table.{Table, no_macros}
+use Rattle.sw_session.specs.CoreDesk.{DeskSeen, CorePasses, Rests}
 use Rattle.sw_session.specs.Talk.{Talked}
 use Rattle.mainframe.specs.declared.fault.RunFault.{RunFault}
 use Rattle.mainframe.specs.declared.fault.RunFault.TheVariants.{Input, Output, Memory}
 use Rattle.mainframe.specs.Cards.{Fitted}
 use Rattle.mainframe.specs.Lines.{lines_of, WritesPart}
+
+-- where a run stands: its desk, and the macros of its session
+pub record State : Type 0 where
+  pub desk : DeskSeen
+  pub macros : Table
+
+abbrev pub state : DeskSeen → Table → State
+state desk macros = record { desk = desk; macros = macros }
+
+-- a desk over this mainframe, with nothing outstanding
+abbrev pub desk_over : Panel → DeskSeen
+desk_over p = record { panel = p; work = [] }
+
+-- a run begins over this mainframe with nothing outstanding, no macro, and macros off
+abbrev pub begins_over : Panel → State
+begins_over p = state (desk_over p) no_macros
 
 -- one step of the mainframe, whatever it answers
 pub record Stepped (p : Panel) (ask : AskView) (q : Panel) : Type 0 where
@@ -24,7 +41,7 @@ pub record Stepped (p : Panel) (ask : AskView) (q : Panel) : Type 0 where
 -- a session joins the opening mainframe
 pub record Joins (sid : Sid) (q : Panel) : Type 0 where
   pub failed : Bool
-  pub step : Step opening (AskSession Ask.Join) failed (SaysSession (Joined sid)) q
+  pub step : Step opening (AskSession Ask.Join) failed (SaysSession (Joined sid) None) q
 
 -- these asks one after another, whatever is answered
 abbrev pub AsksInTurn : Panel → List AskView → Panel → Type 0
@@ -37,33 +54,39 @@ pub record IsSetUp (cards : Fitted) (sid : Sid) (panel : Panel) : Type 0 where
   pub joined : Joins sid begun
   pub fitted : AsksInTurn begun (AskInstall 1 cards.first ∷ AskInstall 2 cards.second ∷ AskInstall 3 cards.third ∷ AskInstall 4 cards.fourth ∷ []) panel
 
--- these lines are talked over one after another, and answered by these bytes
-abbrev pub Run : Sid → Panel → List (List ℕ) → List ℕ → Panel → Type 0
-Run sid p [] bytes q = (bytes ≡ []) × (q ≡ p)
-Run sid p (l ∷ ls) bytes q = (told : List ℕ) × (mid : Panel) × (more : List ℕ) × Talked CorePasses p mid sid l told × Run sid mid ls more q × (bytes ≡ told ++ more)
+-- one line is talked over and answered by these bytes, and then all that is outstanding is carried out
+pub record Line (sid : Sid) (old : State) (line told : List ℕ) (new : State) : Type 0 where
+  pub spoken : DeskSeen
+  pub talked : Talked CorePasses old.desk spoken sid old.macros line told new.macros
+  pub rests : Rests spoken true new.desk
+
+-- these lines, one after another, are answered by these bytes; the macros of one are those of the next
+abbrev pub Run : Sid → State → List (List ℕ) → List ℕ → State → Type 0
+Run sid s [] bytes s' = (bytes ≡ []) × (s' ≡ s)
+Run sid s (l ∷ ls) bytes s' = (told : List ℕ) × (mid : State) × (more : List ℕ) × Line sid s l told mid × Run sid mid ls more s' × (bytes ≡ told ++ more)
 
 -- of the lines of the input those before the rest are answered by these bytes
-pub record RunsTo (sid : Sid) (start : Panel) (input rest bytes : List ℕ) : Type 0 where
+pub record RunsTo (sid : Sid) (start : State) (input rest bytes : List ℕ) : Type 0 where
   pub done : List (List ℕ)
   pub lines : lines_of input ≡ done ++ lines_of rest
-  pub after : Panel
+  pub after : State
   pub run : Run sid start done bytes after
 
 -- and all of these bytes are written
-pub record AnsweredFrom (sid : Sid) (start : Panel) (input rest : List ℕ) (old new : Option (List ℕ)) : Type 0 where
+pub record AnsweredFrom (sid : Sid) (start : State) (input rest : List ℕ) (old new : Option (List ℕ)) : Type 0 where
   pub bytes : List ℕ
   pub runs : RunsTo sid start input rest bytes
   pub writes : Appends old new bytes
 
 -- or a front part of them is
-pub record PartFrom (sid : Sid) (start : Panel) (input : List ℕ) (old new : Option (List ℕ)) : Type 0 where
+pub record PartFrom (sid : Sid) (start : State) (input : List ℕ) (old new : Option (List ℕ)) : Type 0 where
   pub rest : List ℕ
   pub bytes : List ℕ
   pub runs : RunsTo sid start input rest bytes
   pub writes : WritesPart old new bytes
 
 -- A read failed, with what it cut off of a line and what was left unread: all lines before that are answered.
-pub record CutFrom (sid : Sid) (start : Panel) (input : List ℕ) (left old new : Option (List ℕ)) : Type 0 where
+pub record CutFrom (sid : Sid) (start : State) (input : List ℕ) (left old new : Option (List ℕ)) : Type 0 where
   pub cut : List ℕ
   pub unread : List ℕ
   pub is_left : left ≡ Some unread
@@ -71,7 +94,7 @@ pub record CutFrom (sid : Sid) (start : Panel) (input : List ℕ) (left old new 
   pub answered : AnsweredFrom sid start input (cut ++ unread) old new
 
 -- what is written at a fault
-abbrev pub EndsFrom : Sid → Panel → RunFault → List ℕ → Option (List ℕ) → Option (List ℕ) → Option (List ℕ) → Type 0
+abbrev pub EndsFrom : Sid → State → RunFault → List ℕ → Option (List ℕ) → Option (List ℕ) → Option (List ℕ) → Type 0
 EndsFrom sid start Input input left old new = CutFrom sid start input left old new
 EndsFrom sid start Memory input left old new = CutFrom sid start input left old new
 EndsFrom sid start Output input left old new = PartFrom sid start input old new
@@ -81,14 +104,14 @@ pub record Answered (cards : Fitted) (input : List ℕ) (old new : Option (List 
   pub sid : Sid
   pub start : Panel
   pub set_up : IsSetUp cards sid start
-  pub answered : AnsweredFrom sid start input [] old new
+  pub answered : AnsweredFrom sid (begins_over start) input [] old new
 
 -- The input is answered up to a fault by a mainframe of these cards.
 pub record Cut (cards : Fitted) (fault : RunFault) (input : List ℕ) (left old new : Option (List ℕ)) : Type 0 where
   pub sid : Sid
   pub start : Panel
   pub set_up : IsSetUp cards sid start
-  pub ends : EndsFrom sid start fault input left old new
+  pub ends : EndsFrom sid (begins_over start) fault input left old new
 
 -- there was no memory to begin, and nothing was written
 abbrev pub Unbegun : RunFault → Option (List ℕ) → Option (List ℕ) → Type 0

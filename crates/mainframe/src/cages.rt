@@ -2,17 +2,17 @@
 
 ghost use Rattle.std.specs.Prelude.{ℕ, Bool};
 
+use crate::asks::{check_closed, close, eject, install, is_done, is_refused, offer, set_up};
 use std::alloc::{AllocError, Global};
 use std::process::Abort;
 use std::sync::Arc;
 use std::sync::atomic::{AtomicU64, Ordering};
 use std::test::Fail;
-use sw_base::{Chan, ScpiError, Sequence};
+use sw_base::{Chan, ScpiError};
 use sw_cage::{EjectRefusal, InstallRefusal};
 use sw_card::{Card, CardFault, Meter, Relay};
-use sw_core::{Answer, Ask, Core, SessionAnswer, SessionAsk, Sid};
+use sw_core::{Core, Sid};
 use sw_kinds::{Driver, Fuse, Matrix, Mux, SimDriver, SimSource, Volt};
-use sw_lex::Command;
 
 /// How often a driver was asked to drive a channel, and how often its supply was cut.
 #[derive(Drop)]
@@ -68,84 +68,26 @@ fn calls(record: &Record) -> (u64, u64) {
     )
 }
 
-/// Puts a card into the slot.
-fn install<R: Relay, M: Meter>(
-    alloc: Global,
-    core: &mut Core<R, M>,
-    slot: u8,
-    card: Card<R, M>,
-) -> Result<(), Fail> {
-    match core.apply(alloc, Ask::Install(slot, card)) {
-        Answer::Installed => Ok(()),
-        _ => Err("a card was refused")?,
-    }
-}
-
-/// What the session's command is answered.
-fn unit<R: Relay, M: Meter>(
-    alloc: Global,
-    core: &mut Core<R, M>,
-    sid: Sid,
-    command: Command,
-) -> Result<SessionAnswer, Fail> {
-    match core.apply(alloc, Ask::Session(SessionAsk::Unit(sid, command, false))) {
-        Answer::Session(answer) => Ok(answer),
-        _ => Err("a session's ask was answered as a card's")?,
-    }
-}
-
-fn listed(alloc: Global, chans: &[Chan]) -> Result<Sequence<Chan>, AllocError> {
-    Ok(Sequence::new(Vec::from_slice(alloc, chans)?))
-}
-
-/// What ROUTe:CLOSe of these channels is answered.
-fn close<R: Relay, M: Meter>(
-    alloc: Global,
-    core: &mut Core<R, M>,
-    sid: Sid,
-    chans: &[Chan],
-) -> Result<SessionAnswer, Fail> {
-    let chans = listed(alloc, chans)?;
-    unit(alloc, core, sid, Command::Close(chans))
-}
-
-/// Compares the list of the closed channels.
-fn check_closed<R: Relay, M: Meter>(
+/// Takes the card of slot 1 out while 1!1 and 2!1 are closed.
+fn take_out<R: Relay, M: Meter>(
     rt: &impl Abort,
     alloc: Global,
     core: &mut Core<R, M>,
     sid: Sid,
-    text: &[u8],
-) -> Result<(), Fail> {
-    let SessionAnswer::Done(Some(told)) = unit(alloc, core, sid, Command::CloseState)? else {
-        return Err("no list of the closed channels")?;
+) -> Result<Card<R, M>, Fail> {
+    let answer = close(alloc, core, sid, &[Chan::new(1, 1), Chan::new(2, 1)])?;
+    assert!(rt; is_done(&answer));
+    check_closed(rt, alloc, core, sid, b"(@1!1,2!1)")?;
+    let Ok(card) = eject(alloc, core, 1)? else {
+        return Err("slot 1 gave no card")?;
     };
-    assert_eq!(rt; told.as_slice(), text);
-    Ok(())
+    assert!(rt; card.serial() == 1 && !card.any_closed());
+    check_closed(rt, alloc, core, sid, b"(@2!1)")?;
+    assert!(rt; matches!(eject(alloc, core, 1)?, Err(EjectRefusal::Vacant)));
+    Ok(card)
 }
 
-/// A core that this session joined, with these cards in slots 1 to 3 and the meter in slot 4.
-fn set_up<R: Relay, M: Meter>(
-    alloc: Global,
-    cards: (R, R, R),
-    meter: M,
-) -> Result<(Core<R, M>, Sid), Fail> {
-    let (first, second, third) = cards;
-    let mut core = Core::new(alloc)?;
-    let Answer::Session(SessionAnswer::Joined(sid)) = core.apply(
-        alloc,
-        Ask::Session(SessionAsk::Join),
-    ) else {
-        return Err("nobody joined")?;
-    };
-    install(alloc, &mut core, 1, Card::relays(first))?;
-    install(alloc, &mut core, 2, Card::relays(second))?;
-    install(alloc, &mut core, 3, Card::relays(third))?;
-    install(alloc, &mut core, 4, Card::meter(meter))?;
-    Ok((core, sid))
-}
-
-/// Takes the card of slot 1 out while 1!1 and 2!1 are closed, and offers it and a card with a closed channel again.
+/// Offers the card and one with a closed channel where they don't fit, and puts the card back.
 fn exchange<R: Relay, M: Meter>(
     rt: &impl Abort,
     alloc: Global,
@@ -154,23 +96,12 @@ fn exchange<R: Relay, M: Meter>(
     meter: M,
 ) -> Result<(), Fail> {
     let (mut core, sid) = set_up(alloc, cards, meter)?;
-    let answer = close(alloc, &mut core, sid, &[Chan::new(1, 1), Chan::new(2, 1)])?;
-    assert!(rt; matches!(answer, SessionAnswer::Done(None)));
-    check_closed(rt, alloc, &mut core, sid, b"(@1!1,2!1)")?;
-    let Answer::Ejected(card) = core.apply(alloc, Ask::Eject(1)) else {
-        return Err("slot 1 gave no card")?;
-    };
-    assert!(rt; card.serial() == 1 && !card.any_closed());
-    check_closed(rt, alloc, &mut core, sid, b"(@2!1)")?;
-    let again = core.apply(alloc, Ask::Eject(1));
-    assert!(rt; matches!(again, Answer::NotEjected(EjectRefusal::Vacant)));
-    let answer = core.apply(alloc, Ask::Install(2, card));
-    let Answer::NotInstalled(refusal, back) = answer else {
+    let card = take_out(rt, alloc, &mut core, sid)?;
+    let Some((refusal, back)) = offer(alloc, &mut core, 2, card)? else {
         return Err("two cards in slot 2")?;
     };
     assert_eq!(rt; (refusal, back.serial()), (InstallRefusal::Occupied, 1));
-    let answer = core.apply(alloc, Ask::Install(5, Card::relays(closed)));
-    let Answer::NotInstalled(refusal, closed) = answer else {
+    let Some((refusal, closed)) = offer(alloc, &mut core, 5, Card::relays(closed))? else {
         return Err("a card with a closed channel was installed")?;
     };
     assert_eq!(rt; (refusal, closed.serial()), (InstallRefusal::BadLayout, 7));
@@ -203,11 +134,11 @@ fn blow<R: Relay, M: Meter>(
 ) -> Result<(), Fail> {
     let (mut core, sid) = set_up(alloc, cards, meter)?;
     let answer = close(alloc, &mut core, sid, &[Chan::new(1, 1), Chan::new(2, 1)])?;
-    assert!(rt; matches!(answer, SessionAnswer::Done(None)));
+    assert!(rt; is_done(&answer));
     let [one, two, three] = records;
     assert_eq!(rt; (calls(one).0, calls(two).0, calls(three).0), (1, 1, 0));
     let answer = close(alloc, &mut core, sid, &[Chan::new(1, 2)])?;
-    assert!(rt; matches!(answer, SessionAnswer::Refused(ScpiError::HardwareError)));
+    assert!(rt; is_refused(&answer, ScpiError::HardwareError));
     assert_eq!(rt; calls(one), (1, 1));
     assert_eq!(rt; calls(two), (0, 1));
     assert_eq!(rt; calls(three), (0, 1));

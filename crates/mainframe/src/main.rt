@@ -6,12 +6,16 @@
 #![tactic(auto)]
 
 #[cfg(test)]
+mod asks;
+#[cfg(test)]
 mod cages;
 mod cards;
 mod fault;
 mod laws;
 mod reading;
 mod run;
+#[cfg(test)]
+mod scans;
 #[cfg(test)]
 mod sessions;
 #[cfg(test)]

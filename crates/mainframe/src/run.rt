@@ -6,7 +6,8 @@ ghost use Rattle.sw_core.specs.View.{ask_view};
 ghost use Rattle.sw_card.specs.Account.{relay_account, of_meter};
 ghost use Rattle.sw_core.specs.Panel.{opening};
 ghost use Rattle.mainframe.specs.Cards.{fitted, program_cards};
-ghost use Rattle.mainframe.specs.Run.{IsSetUp, Joins, Stepped, AnsweredFrom, EndsFrom, Runs};
+ghost use Rattle.sw_macro.specs.Table.{no_macros};
+ghost use Rattle.mainframe.specs.Run.{state, IsSetUp, Joins, Stepped, AnsweredFrom, EndsFrom, Runs};
 
 use crate::cards::{first_card, meter_card, second_card, third_card};
 use crate::fault::RunFault;
@@ -107,7 +108,7 @@ fn join<R: Relay, M: Meter>(alloc: Global, core: &mut Core<R, M>) -> Sid
     ensures { Joins result core.new }
 {
     match core.apply(alloc, Ask::Session(SessionAsk::Join)) {
-        Answer::Session(SessionAnswer::Joined(sid)) => sid,
+        Answer::Session(SessionAnswer::Joined(sid), _) => sid,
         _ => unreachable!(),
     }
 }
@@ -127,9 +128,9 @@ fn run_on<R: Relay, M: Meter, Rd: BufRead, W: Write>(
     desk: &mut CoreDesk<R, M>,
     sid: Sid,
 ) -> Result<(), RunFault>
-    ensures ok { OnOk result (IfSome (Rd.remaining reader.old) (λ input. AnsweredFrom sid desk.old input [] (W.contents writer.old) (W.contents writer.new))) }
+    ensures ok { OnOk result (IfSome (Rd.remaining reader.old) (λ input. AnsweredFrom sid (state desk.old no_macros) input [] (W.contents writer.old) (W.contents writer.new))) }
     ensures all { OnOk result (IfSome (Rd.remaining reader.old) (λ _. IsAtEnd (Rd.remaining reader.new))) }
-    ensures err { IfErr result (λ fault. IfSome (Rd.remaining reader.old) (λ input. EndsFrom sid desk.old fault input (Rd.remaining reader.new) (W.contents writer.old) (W.contents writer.new))) }
+    ensures err { IfErr result (λ fault. IfSome (Rd.remaining reader.old) (λ input. EndsFrom sid (state desk.old no_macros) fault input (Rd.remaining reader.new) (W.contents writer.old) (W.contents writer.new))) }
 {
     let mut talker = Talker::new(alloc, sid);
     let mut line = Vec::new(alloc);
@@ -141,6 +142,9 @@ fn run_on<R: Relay, M: Meter, Rd: BufRead, W: Write>(
             return Ok(());
         }
         let told = talker.message(&line, desk);
+        if !desk.rest() {
+            return Err(RunFault::Input);
+        }
         if let Err(fault) = write_bytes(writer, &told) {
             return Err(fault);
         }

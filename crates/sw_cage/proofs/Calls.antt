@@ -1,12 +1,12 @@
 -- Lemmas on a call on one slot's card, from the cards to their accounts.
-use Rattle.std.proofs.Common.{◌≡◌, ℕ, ◌+◌, ◌-◌, ◌≤◌, ◌<◌, Bool, true, false, List, [], ◌∷◌, ◌++◌, length, take, drop, Option, None, Some, slice_index_or, slice_set, inl, inr, refl, sym, ◌∙◌, ap, subst, arith, map, replicate, is_some, Result, Ok, Err, OnOk, OnErr, zero, suc}
+use Rattle.std.proofs.Common.{◌≡◌, ℕ, ◌+◌, ◌-◌, ◌≤◌, ◌<◌, Bool, true, false, List, [], ◌∷◌, ◌++◌, length, take, drop, Option, None, Some, slice_index_or, slice_set, inl, inr, refl, sym, ◌∙◌, ap, subst, arith, map, replicate, is_some, Result, Ok, Err, OnOk, OnErr, zero, suc, ◌&&◌, nat_lt}
 use Rattle.std.proofs.lemmas.List.{get_or_default, length-map, map-set}
 use Rattle.std.proofs.lemmas.List.Edits.{map_over_more}
 use Rattle.std.proofs.Math.ListN.{get_or-map}
 use Rattle.std.proofs.Math.Seq.{take-append_seam}
 use Rattle.std.proofs.lemmas.Grind.{common_steps}
 use Rattle.sw_base.specs.Layout.{Channel, Layout, slot_at, is_present, IsClash}
-use Rattle.sw_card.specs.Account.{Account, is_meter, closed_at, at_rest}
+use Rattle.sw_card.specs.Account.{Account, MeterAccount, of_meter, is_meter, closed_at, at_rest}
 use Rattle.sw_card.proofs.Rows.{none_is_closed}
 use Rattle.sw_cage.specs.Rack.{Rack, option_account, rack_of, layout_of, option_closed, is_closed, OptionRow, IsSafe, option_set, with_chan, option_rest, all_open, IsSlotFault, IsRackFault}
 use Rattle.sw_cage.specs.Change.{is_in, Sets, IsDisturbed}
@@ -117,6 +117,20 @@ pub safe_installed : {C : Type 0} (items : List (Option (C × Account))) (s : �
 safe_installed items s card safe p h quiet states few =
     let b : s ≤ length (rack_of items) = omega (arith, safe.size, h) in
     subst IsSafe (sym (written items (rack_of items) (s - 1) (Some card) refl)) (safe_quiet (rack_of items) s (Some card.1) p b quiet (record { states = states; few = λ m. (few m).1 }) safe)
+
+none_closed_in : (b : Bool) → (b && false) ≡ false
+none_closed_in true = refl
+none_closed_in false = refl
+
+-- a meter is put into a slot
+pub safe_put : {C : Type 0} (items : List (Option (C × Account))) (s : ℕ) (card : C × Account) (m : MeterAccount) → IsSafe (rack_of items) → card.1 ≡ of_meter m → 1 ≤ s → s ≤ 8 → IsSafe (rack_of (slice_set items (s - 1) (Some card)))
+safe_put items s card m safe e p h =
+    let b : s ≤ length (rack_of items) = omega (arith, safe.size, h) in
+    subst IsSafe (sym (written items (rack_of items) (s - 1) (Some card) refl ∙ ap (λ (a : Account). slice_set (rack_of items) (s - 1) (Some a)) e))
+    (safe_quiet (rack_of items) s (Some (of_meter m)) p b (λ k. none_closed_in (nat_lt 0 k)) (record { states = refl; few = λ k. absurd (cc) }) safe)
+
+pub put_is : {C : Type 0} (items : List (Option (C × Account))) (value : Rack) (i : ℕ) (card : C × Account) (m : MeterAccount) → rack_of items ≡ value → card.1 ≡ of_meter m → rack_of (slice_set items i (Some card)) ≡ slice_set value i (Some (of_meter m))
+put_is items value i card m same e = written items value i (Some card) same ∙ ap (λ (a : Account). slice_set value i (Some a)) e
 
 pub safe_ejected : {C : Type 0} (items : List (Option (C × Account))) (value : Rack) (s : ℕ) (v : Option (C × Account)) → rack_of items ≡ value → v ≡ None → is_some (slot_at value s) ≡ true → IsSafe (rack_of items) → IsSafe (rack_of (slice_set items (s - 1) v))
 safe_ejected items value s v same none some safe =

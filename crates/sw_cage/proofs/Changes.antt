@@ -206,12 +206,12 @@ failed_set [] i v h = absurd (omega arith)
 failed_set (o ∷ rack) zero v h = ap (λ b. option_failed o v || b) (failed_same rack) ∙ or_false (option_failed o v)
 failed_set (o ∷ rack) (suc i) v h = ap (λ b. b || any_failed rack (slice_set rack i v)) (option_unfailed o) ∙ failed_set rack i v (omega arith)
 
-rest_old : (o n : Option Account) → option_failed (option_rest o) n ≡ option_failed o n
+pub rest_old : (o n : Option Account) → option_failed (option_rest o) n ≡ option_failed o n
 rest_old None n = refl
 rest_old (Some a) None = refl
 rest_old (Some a) (Some b) = refl
 
-rest_new : (o n : Option Account) → option_failed o (option_rest n) ≡ option_failed o n
+pub rest_new : (o n : Option Account) → option_failed o (option_rest n) ≡ option_failed o n
 rest_new None n = refl
 rest_new (Some a) None = refl
 rest_new (Some a) (Some b) = refl
@@ -278,7 +278,7 @@ slot_fault_plate (Some a) None n e f = absurd f
 slot_fault_plate (Some a) (Some m) None e f = absurd f
 slot_fault_plate (Some a) (Some m) (Some b) e f = let k : at_rest m ≡ at_rest a = cc in fault_plate a b m.closed (ap (λ (x : Account). x.closed) k) f
 
-fault_failed : (o most n : Option Account) → IsSlotFault o most n → option_failed o n ≡ true
+pub fault_failed : (o most n : Option Account) → IsSlotFault o most n → option_failed o n ≡ true
 fault_failed None most n f = absurd f
 fault_failed (Some a) None n f = absurd f
 fault_failed (Some a) (Some m) None f = absurd f

@@ -14,7 +14,7 @@ use Rattle.sw_cage.proofs.Racks.{present_at, group_in_slot}
 
 -- closed channels
 
-has_bounds : (a : Account) (ch : ℕ) → bay_has (Some (bay_of a)) ch ≡ true → (0 < ch) × ((is_meter a ≡ false) × (ch ≤ length a.groups))
+pub has_bounds : (a : Account) (ch : ℕ) → bay_has (Some (bay_of a)) ch ≡ true → (0 < ch) × ((is_meter a ≡ false) × (ch ≤ length a.groups))
 has_bounds a ch h = (grind (arith, common_steps), (grind (arith, common_steps), grind (arith, common_steps)))
 
 row_bounds : (o : Option Account) (ch : ℕ) → OptionRow o → bay_has (option_bay o) ch ≡ true → (1 ≤ ch) × (ch ≤ 99)

@@ -5,20 +5,20 @@ use Rattle.std.proofs.Math.ListN.{get_or-map}
 use Rattle.std.proofs.Math.Seq.{map-set_same}
 use Rattle.std.proofs.lemmas.Grind.{common_steps}
 use Rattle.std.proofs.lemmas.Bool.{cases_eq, cases_lt}
-use Rattle.sw_base.specs.Layout.{Channel, Bay, Layout, slot_at, bay_has, bay_group, is_present, group_of, IsClash, IsExclusive}
+use Rattle.sw_base.specs.Layout.{Channel, Bay, Layout, slot_at, bay_has, bay_group, bay_is_meter, has_meter, is_present, group_of, IsClash, IsExclusive}
 use Rattle.sw_card.specs.Account.{Account, set_closed, with_set, IsFault}
 use Rattle.sw_card.proofs.Rows.{closed_set, open_set, within_closed, length-within, none_is_closed, length-none}
 use Rattle.sw_cage.specs.Rack.{Rack, bay_of, option_bay, layout_of, option_closed, is_closed, IsRow, OptionRow, IsSafe, option_set, option_rest, all_open, IsSlotFault}
 
 -- slots
 
-pub slot_set_same : (rack : List (Option Account)) (s : ℕ) (v : Option Account) → 0 < s → s ≤ length rack → slot_at (slice_set rack (s - 1) v) s ≡ v
+pub slot_set_same : {A : Type 0} (rack : List (Option A)) (s : ℕ) (v : Option A) → 0 < s → s ≤ length rack → slot_at (slice_set rack (s - 1) v) s ≡ v
 slot_set_same rack s v p h = grind (arith, common_steps, get_or-set_same)
 
-pub slot_set_other : (rack : List (Option Account)) (s t : ℕ) (v : Option Account) → 0 < s → t ≢ s → slot_at (slice_set rack (s - 1) v) t ≡ slot_at rack t
+pub slot_set_other : {A : Type 0} (rack : List (Option A)) (s t : ℕ) (v : Option A) → 0 < s → t ≢ s → slot_at (slice_set rack (s - 1) v) t ≡ slot_at rack t
 slot_set_other rack s t v p h = grind (arith, common_steps, get_or-set_other)
 
-pub slot_cases : (rack : List (Option Account)) (s t : ℕ) (v : Option Account) → 0 < s → s ≤ length rack → ((t ≡ s) × (slot_at (slice_set rack (s - 1) v) t ≡ v)) ⊎ ((t ≢ s) × (slot_at (slice_set rack (s - 1) v) t ≡ slot_at rack t))
+pub slot_cases : {A : Type 0} (rack : List (Option A)) (s t : ℕ) (v : Option A) → 0 < s → s ≤ length rack → ((t ≡ s) × (slot_at (slice_set rack (s - 1) v) t ≡ v)) ⊎ ((t ≢ s) × (slot_at (slice_set rack (s - 1) v) t ≡ slot_at rack t))
 slot_cases rack s t v p h = elim (cases_eq t s) [ inl e ↦ inl (e, rw e (slot_set_same rack s v p h)) | inr n ↦ inr (n, slot_set_other rack s t v p n) ]
 
 slot_map_if : {A B : Type 0} (f : Option A → Option B) (l : List (Option A)) (i : ℕ) (b : Bool) → f None ≡ None → slice_index_or (map f l) i None ≡ f (slice_index_or l i None) → (if b then slice_index_or (map f l) i None else None) ≡ f (if b then slice_index_or l i None else None)
@@ -36,23 +36,23 @@ slot_layout rack s = slot_map option_bay rack s refl
 pub slot_rest : (rack : Rack) (s : ℕ) → slot_at (all_open rack) s ≡ option_rest (slot_at rack s)
 slot_rest rack s = slot_map option_rest rack s refl
 
-slot_zero : (rack : List (Option Account)) (s : ℕ) → s ≤ 0 → slot_at rack s ≡ None
+pub slot_zero : {A : Type 0} (rack : List (Option A)) (s : ℕ) → s ≤ 0 → slot_at rack s ≡ None
 slot_zero rack s h = grind (arith, common_steps)
 
-slot_past : (rack : List (Option Account)) (s : ℕ) → length rack < s → slot_at rack s ≡ None
+pub slot_past : {A : Type 0} (rack : List (Option A)) (s : ℕ) → length rack < s → slot_at rack s ≡ None
 slot_past rack s h = grind (arith, common_steps, get_or_past rack (s - 1) None)
 
-pub some_slot : (rack : Rack) (s : ℕ) → is_some (slot_at rack s) ≡ true → (0 < s) × (s ≤ length rack)
+pub some_slot : {A : Type 0} (rack : List (Option A)) (s : ℕ) → is_some (slot_at rack s) ≡ true → (0 < s) × (s ≤ length rack)
 some_slot rack s h = (
   elim (cases_lt 0 s) [ inl k ↦ k | inr k ↦ absurd (let e : false ≡ true = ap is_some (sym (slot_zero rack s k)) ∙ h in cc) ],
   elim (cases_lt (length rack) s) [ inl k ↦ absurd (let e : false ≡ true = ap is_some (sym (slot_past rack s k)) ∙ h in cc) | inr k ↦ k ],
 )
 
-pub is_none : (o : Option Account) → is_some o ≡ false → o ≡ None
+pub is_none : {A : Type 0} (o : Option A) → is_some o ≡ false → o ≡ None
 is_none None h = refl
 is_none (Some a) h = cc
 
-pub slot_get : (rack : List (Option Account)) (s : ℕ) → 0 < s → slot_at rack s ≡ slice_index_or rack (s - 1) None
+pub slot_get : {A : Type 0} (rack : List (Option A)) (s : ℕ) → 0 < s → slot_at rack s ≡ slice_index_or rack (s - 1) None
 slot_get rack s p = grind (arith, common_steps)
 
 -- what no change of the slot touches stays
@@ -84,6 +84,13 @@ closed_slot rack c h = some_slot rack c.0 (closed_some (slot_at rack c.0) c.1 h)
 
 pub same_chan : (c d : Channel) → d.0 ≡ c.0 → d.1 ≡ c.1 → d ≡ c
 same_chan c d e f = let k : ◌≡◌ {A = ℕ × ℕ} (d.0, d.1) (c.0, c.1) = cc in k
+
+option_meter_some : (o : Option Account) → bay_is_meter (option_bay o) ≡ true → is_some o ≡ true
+option_meter_some None h = h
+option_meter_some (Some a) h = refl
+
+pub meter_some : (rack : Rack) (s : ℕ) → has_meter (layout_of rack) s ≡ true → is_some (slot_at rack s) ≡ true
+meter_some rack s h = option_meter_some (slot_at rack s) (ap bay_is_meter (sym (slot_layout rack s)) ∙ h)
 
 -- one slot's change that closes one channel at most
 pub record IsSlotGrown (old : Option Account) (ch : ℕ) (new : Option Account) : Type 0 where

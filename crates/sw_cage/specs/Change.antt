@@ -1,9 +1,9 @@
 -- What a call on a list of channels does to the cage.
-use Rattle.std.specs.Prelude.{◌≡◌, ◌==◌, Bool, true, false, not, ◌&&◌, ◌||◌, List, [], ◌∷◌, map, Option, None, Some, if◌then◌else◌, ◌⊎◌}
+use Rattle.std.specs.Prelude.{◌≡◌, ℕ, ◌==◌, Bool, true, false, not, ◌&&◌, ◌||◌, List, [], ◌∷◌, map, Option, None, Some, if◌then◌else◌, ◌⊎◌}
 use Rattle.std.specs.List.{list_any}
-use Rattle.sw_base.specs.Layout.{Channel}
+use Rattle.sw_base.specs.Layout.{Channel, slot_at, has_meter}
 use Rattle.sw_card.specs.Account.{Account, none_closed}
-use Rattle.sw_cage.specs.Rack.{Rack, is_closed, all_open}
+use Rattle.sw_cage.specs.Rack.{Rack, layout_of, is_closed, all_open}
 
 abbrev pub same_channel : Channel → Channel → Bool
 same_channel a b = (a.0 == b.0) && (a.1 == b.1)
@@ -27,6 +27,12 @@ abbrev pub any_failed : Rack → Rack → Bool
 any_failed (a ∷ old) (b ∷ new) = option_failed a b || any_failed old new
 any_failed [] new = false
 any_failed (a ∷ old) [] = false
+
+-- a relay card's count of failures changed
+pub record RelayFailed (old new : Rack) : Type 0 where
+  pub slot : ℕ
+  pub relays : has_meter (layout_of old) slot ≡ false
+  pub counted : option_failed (slot_at old slot) (slot_at new slot) ≡ true
 
 -- a card but for its channels' states and its count of failures
 abbrev pub option_plate : Option Account → Option Account

@@ -1,8 +1,9 @@
 -- Which cards go into which slots, and which slots give a card.
-use Rattle.std.specs.Prelude.{◌≡◌, ℕ, ◌<◌, ◌≤◌, true, false, length, is_some, None, ◌⊎◌}
+use Rattle.std.specs.Prelude.{◌≡◌, ℕ, ◌-◌, ◌<◌, ◌≤◌, true, false, length, is_some, None, ◌⊎◌, slice_set, if◌then◌else◌}
 use Rattle.sw_base.specs.Layout.{slot_at}
 use Rattle.sw_card.specs.Account.{Account, is_meter, closed_at}
 use Rattle.sw_cage.specs.Rack.{Rack}
+use Rattle.sw_cage.specs.Cage.{CageSeen, fall}
 use Rattle.sw_cage.specs.declared.refusal.InstallRefusal.{InstallRefusal}
 use Rattle.sw_cage.specs.declared.refusal.InstallRefusal.TheVariants.{Busy, Occupied, BadLayout}
 use Rattle.sw_cage.specs.declared.refusal.EjectRefusal.{EjectRefusal}
@@ -28,13 +29,32 @@ IsUnfit card = (length card.groups ≡ 0) ⊎ ((99 < length card.groups) ⊎ ((c
 abbrev pub IsBadLayout : ℕ → Account → Type 0
 IsBadLayout slot card = (slot < 1) ⊎ ((8 < slot) ⊎ ((is_meter card ≡ false) × IsUnfit card))
 
--- Which refusal comes when; an occupied slot goes first, and nothing makes the cage busy yet.
-abbrev pub RefusesInstall : Rack → ℕ → Account → InstallRefusal → Type 0
-RefusesInstall rack slot card Busy = ⊥
-RefusesInstall rack slot card Occupied = is_some (slot_at rack slot) ≡ true
-RefusesInstall rack slot card BadLayout = (slot_at rack slot ≡ None) × IsBadLayout slot card
+-- Which refusal comes when; an occupied slot goes first.
+abbrev pub SlotsRefuseInstall : Rack → ℕ → Account → InstallRefusal → Type 0
+SlotsRefuseInstall rack slot card Busy = ⊥
+SlotsRefuseInstall rack slot card Occupied = is_some (slot_at rack slot) ≡ true
+SlotsRefuseInstall rack slot card BadLayout = (slot_at rack slot ≡ None) × IsBadLayout slot card
 
--- Why no card comes out; no card is ever out of its slot yet.
-abbrev pub RefusesEject : Rack → ℕ → EjectRefusal → Type 0
-RefusesEject rack slot Vacant = slot_at rack slot ≡ None
-RefusesEject rack slot Out = ⊥
+abbrev pub SlotsRefuseEject : Rack → ℕ → EjectRefusal → Type 0
+SlotsRefuseEject rack slot Vacant = slot_at rack slot ≡ None
+SlotsRefuseEject rack slot Out = ⊥
+
+-- Which refusal of a card comes when: a scan that runs goes first, then a slot with a card, in it or out.
+abbrev pub RefusesInstall : CageSeen → ℕ → Account → InstallRefusal → Type 0
+RefusesInstall p slot card Busy = is_some p.scan ≡ true
+RefusesInstall p slot card Occupied =
+    (is_some p.scan ≡ false) × ((is_some (slot_at p.out slot) ≡ true) ⊎ (is_some (slot_at p.rack slot) ≡ true))
+RefusesInstall p slot card BadLayout =
+    (is_some p.scan ≡ false) × (slot_at p.out slot ≡ None) × (slot_at p.rack slot ≡ None) × IsBadLayout slot card
+
+-- why no card comes out
+abbrev pub RefusesEject : CageSeen → ℕ → EjectRefusal → Type 0
+RefusesEject p slot Vacant = (slot_at p.out slot ≡ None) × (slot_at p.rack slot ≡ None)
+RefusesEject p slot Out = is_some (slot_at p.out slot) ≡ true
+
+-- the cage once no scan runs: one that ran fell
+abbrev pub stopped : CageSeen → CageSeen
+stopped p = if is_some p.scan then fall p else p
+
+abbrev pub without_card : CageSeen → ℕ → CageSeen
+without_card p slot = record p { rack = slice_set p.rack (slot - 1) None }

@@ -5,3 +5,12 @@ pub mod Close
 pub mod Claims
 pub mod Channels
 pub mod Cage
+pub mod Advance
+pub mod Walk
+pub mod Work
+pub mod ScanSeen
+pub mod Good
+pub mod TakenSeen
+pub mod Takes
+pub mod Goes
+pub mod Moves

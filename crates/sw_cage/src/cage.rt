@@ -1,20 +1,34 @@
 //! The cage as the layers above see it.
 
-ghost use Rattle.std.specs.Prelude.{◌≡◌, ℕ, ◌-◌, List, [], ◌∷◌, Bool, true, false, None, Some, OnOk, OnErr, IfOk, IfErr, slice_set, replicate};
-ghost use Rattle.sw_base.specs.Layout.{Channel, slot_at, is_present, IsClash};
+ghost use Rattle.std.specs.Prelude.{◌≡◌, ℕ, ◌-◌, ◌≤◌, List, [], ◌∷◌, Bool, true, false, None, Some, IsOk, OnOk, OnErr, IfOk, IfErr, slice_set, is_some, ◌↔◌, IsTrue, ◌+◌, ◌<◌, ◌^◌};
+ghost use Rattle.sw_base.specs.Layout.{Channel, slot_at, is_present, IsClash, IsExclusive};
 ghost use Rattle.sw_card.specs.Account.{closed_at};
 ghost use Rattle.sw_cage.specs.Rack.{layout_of, is_closed, with_chan, option_rest, all_open, IsRackFault};
 ghost use Rattle.sw_cage.specs.Change.{Sets, IsDisturbed};
-ghost use Rattle.sw_cage.specs.Install.{CanInstall, RefusesInstall, RefusesEject};
+ghost use Rattle.sw_cage.specs.Install.{CanInstall, RefusesInstall, RefusesEject, stopped, without_card};
 ghost use Rattle.sw_cage.specs.Close.{all_present, CanClose, RefusesClose};
 ghost use Rattle.sw_cage.specs.Channels.{closed_list};
+ghost use Rattle.sw_cage.specs.Cage.{empty_cage, with_rack, fall, cage_layout};
+ghost use Rattle.sw_verify.specs.Check.{IsReady};
+ghost use Rattle.sw_cage.specs.Work.{IsTold};
+ghost use Rattle.sw_cage.specs.Good.{IsGood};
+ghost use Rattle.sw_cage.specs.TakenSeen.{taken_seen, SaysIgnored};
+ghost use Rattle.sw_cage.specs.Takes.{Takes, TakesReturn, AwaitsOther, awaited_now};
+ghost use Rattle.sw_cage.specs.Goes.{Goes, GoesPast, Counts, begun, with_back};
 
+use crate::job::{Finished, Ticket};
+use crate::machine::{go_on, take_in};
 use crate::refusal::{CloseRefusal, EjectRefusal, InstallRefusal};
+use crate::scan::Scan;
 use crate::slots::Slots;
+use crate::taken::{Happening, Taken};
+use crate::tickets::Tickets;
 use std::alloc::{AllocError, Global};
 use std::marker::Model;
-use sw_base::Chan;
+use sw_base::{Chan, Reading};
 use sw_card::{Card, CardFault, Meter, Relay};
+use sw_trigger::{Awaited, Settings};
+use sw_verify::{Layout, Plan, Slot};
 
 /// Eight slots, numbered from 1, that hold relay and meter cards.
 ///
@@ -22,23 +36,42 @@ use sw_card::{Card, CardFault, Meter, Relay};
 #[derive(Drop)]
 pub struct Cage<R: Relay, M: Meter> {
     slots: Slots<R, M>,
+    out: Tickets,
+    number: u64,
+    scan: Option<Scan>,
+    readings: Vec<Reading>,
 }
 
 impl<R: Relay, M: Meter> Model for Cage<R, M> {
+    ghost use Rattle.std.specs.Prelude.{vec_capacity};
     ghost use Rattle.sw_cage.specs.Cage.{CageSeen};
+    ghost use Rattle.sw_cage.specs.Good.{IsKept};
 
     ghost Value = { CageSeen };
 
-    ghost view = { λ c. record { rack = c.slots } };
+    ghost view = { λ c. record { rack = c.slots; out = c.out; number = c.number; scan = c.scan; readings = c.readings.items } };
+
+    ghost invariant = { λ c. IsKept (record { rack = c.slots; out = c.out; number = c.number; scan = c.scan; readings = c.readings.items }) (vec_capacity c.readings) };
 }
 
 impl<R: Relay, M: Meter> Cage<R, M> {
     /// An empty cage.
     pub fn new(alloc: Global) -> Result<Self, AllocError>
-        ensures { IfOk result (λ cage. cage ≡ record { rack = replicate 8 None }) }
+        ensures { IfOk result (λ cage. cage ≡ empty_cage) }
+    {
+        Cage::with_number(alloc, 0)
+    }
+
+    /// An empty cage that counts its scans on from this number.
+    pub fn with_number(alloc: Global, number: u64) -> Result<Self, AllocError>
+        ensures { IfOk result (λ cage. cage ≡ record empty_cage { number = number }) }
     {
         Ok(Cage {
             slots: Slots::new(alloc)?,
+            out: Tickets::new(),
+            number,
+            scan: None,
+            readings: Vec::new(alloc),
         })
     }
 
@@ -50,48 +83,91 @@ impl<R: Relay, M: Meter> Cage<R, M> {
     ) -> Result<(), (InstallRefusal, Card<R, M>)>
         ensures ok { OnOk result (self.new ≡ record self.old { rack = slice_set self.old.rack (slot - 1) (Some card.1) }) }
         ensures accepted { OnOk result (CanInstall self.old.rack slot card.1) }
-        ensures refused { IfErr result (λ refusal. RefusesInstall self.old.rack slot card.1 refusal.0) }
+        ensures free { OnOk result ((self.old.scan ≡ None) × (slot_at self.old.out slot ≡ None)) }
+        ensures refused { IfErr result (λ refusal. RefusesInstall self.old slot card.1 refusal.0) }
         ensures err { OnErr result (self.new ≡ self.old) }
         ensures back { IfErr result (λ refusal. refusal.1 ≡ card) }
     {
+        if self.scan.is_some() {
+            return Err((InstallRefusal::Busy, card));
+        }
+        if self.out.at(slot).is_some() {
+            return Err((InstallRefusal::Occupied, card));
+        }
         self.slots.install(slot, card)
     }
 
-    /// Opens the card's relays and takes it out.
+    /// Opens the card's relays and takes it out; a scan that runs is ended first, as by [`Cage::abort`].
     pub fn eject(&mut self, slot: u8) -> Result<Card<R, M>, EjectRefusal>
         ensures ok { IfOk result (λ card. option_rest (slot_at self.old.rack slot) ≡ Some card.1) }
         ensures open { IfOk result (λ card. (ch : ℕ) → closed_at card.1.closed ch ≡ false) }
-        ensures taken { OnOk result (self.new ≡ record self.old { rack = slice_set self.old.rack (slot - 1) None }) }
-        ensures refused { IfErr result (λ refusal. RefusesEject self.old.rack slot refusal) }
+        ensures taken { OnOk result (self.new ≡ without_card (stopped self.old) slot) }
+        ensures home { OnOk result (slot_at self.old.out slot ≡ None) }
+        ensures refused { IfErr result (λ refusal. RefusesEject self.old slot refusal) }
         ensures err { OnErr result (self.new ≡ self.old) }
+    {
+        if self.out.at(slot).is_some() {
+            return Err(EjectRefusal::Out);
+        }
+        if !self.slots.has_card(slot) {
+            return Err(EjectRefusal::Vacant);
+        }
+        if self.scan.is_some() {
+            self.abort();
+        }
+        self.take_card(slot)
+    }
+
+    /// Opens the card's relays and takes it out of the slot, which has one.
+    fn take_card(&mut self, slot: u8) -> Result<Card<R, M>, EjectRefusal>
+        requires idle { self.old.scan ≡ None }
+        requires home { slot_at self.old.out slot ≡ None }
+        requires card { is_some (slot_at self.old.rack slot) ≡ true }
+        ensures card { IfOk result (λ card. option_rest (slot_at self.old.rack slot) ≡ Some card.1) }
+        ensures open { IfOk result (λ card. (ch : ℕ) → closed_at card.1.closed ch ≡ false) }
+        ensures taken { self.new ≡ without_card self.old slot }
+        ensures there { IsOk result }
     {
         self.slots.eject(slot)
     }
 
-    /// Closes one channel that clashes with no closed one, over all slots.
+    /// Ends the scan that runs, if one does, and opens every relay of every card. It cannot fail.
+    pub fn abort(&mut self)
+        ensures { self.new ≡ fall self.old }
+    {
+        self.scan = None;
+        self.open_all();
+    }
+
+    /// Closes one channel that clashes with no closed one, over all slots. No scan may run.
     pub fn close(&mut self, chan: Chan) -> Result<(), CardFault>
+        requires idle { self.old.scan ≡ None }
         requires present { is_present (layout_of self.old.rack) chan ≡ true }
         requires open { is_closed self.old.rack chan ≡ false }
         requires apart { (c : Channel) → is_closed self.old.rack c ≡ true → IsClash (layout_of self.old.rack) chan c → ⊥ }
         ensures ok { OnOk result (Sets self.old.rack (chan ∷ []) true self.new.rack) }
         ensures err { OnErr result (IsRackFault self.old.rack chan (with_chan self.old.rack chan true) self.new.rack) }
         ensures disturbed { OnErr result (IsDisturbed self.old.rack (chan ∷ []) self.new.rack) }
+        ensures rest { self.new ≡ with_rack self.old self.new.rack }
     {
         self.slots.close(chan)
     }
 
-    /// Opens one channel.
+    /// Opens one channel. No scan may run.
     pub fn open(&mut self, chan: Chan) -> Result<(), CardFault>
-        requires { is_closed self.old.rack chan ≡ true }
+        requires idle { self.old.scan ≡ None }
+        requires closed { is_closed self.old.rack chan ≡ true }
         ensures ok { OnOk result (Sets self.old.rack (chan ∷ []) false self.new.rack) }
         ensures err { OnErr result (IsRackFault self.old.rack chan self.old.rack self.new.rack) }
         ensures disturbed { OnErr result (IsDisturbed self.old.rack (chan ∷ []) self.new.rack) }
+        ensures rest { self.new ≡ with_rack self.old self.new.rack }
     {
         self.slots.open(chan)
     }
 
-    /// Opens every relay of every card. It cannot fail.
+    /// Opens every relay of every card. It cannot fail. No scan may run.
     pub fn open_all(&mut self)
+        requires idle { self.old.scan ≡ None }
         ensures { self.new ≡ record self.old { rack = all_open self.old.rack } }
     {
         self.slots.open_all();
@@ -126,19 +202,23 @@ impl<R: Relay, M: Meter> Cage<R, M> {
         self.slots.judge(chans)
     }
 
-    /// Closes the channels that are open, in order. It stops at the first fault.
+    /// Closes the channels that are open, in order. It stops at the first fault. No scan may run.
     pub fn close_all(&mut self, chans: &[Chan]) -> Result<(), CardFault>
-        requires { CanClose (layout_of self.old.rack) (is_closed self.old.rack) chans.now }
+        requires idle { self.old.scan ≡ None }
+        requires apart { CanClose (layout_of self.old.rack) (is_closed self.old.rack) chans.now }
         ensures ok { OnOk result (Sets self.old.rack chans.now true self.new.rack) }
         ensures err { OnErr result (IsDisturbed self.old.rack chans.now self.new.rack) }
+        ensures rest { self.new ≡ with_rack self.old self.new.rack }
     {
         self.slots.close_all(chans)
     }
 
-    /// Opens the channels that are closed, in order. It stops at the first fault.
+    /// Opens the channels that are closed, in order. It stops at the first fault. No scan may run.
     pub fn open_listed(&mut self, chans: &[Chan]) -> Result<(), CardFault>
+        requires idle { self.old.scan ≡ None }
         ensures ok { OnOk result (Sets self.old.rack chans.now false self.new.rack) }
         ensures err { OnErr result (IsDisturbed self.old.rack chans.now self.new.rack) }
+        ensures rest { self.new ≡ with_rack self.old self.new.rack }
     {
         self.slots.open_listed(chans)
     }
@@ -149,4 +229,218 @@ impl<R: Relay, M: Meter> Cage<R, M> {
     {
         self.slots.closed_chans(alloc)
     }
+
+    /// The cards by slot; a meter that is out counts as its slot's.
+    pub fn layout(&self, alloc: Global) -> Result<Layout, AllocError>
+        ensures { IfOk result (λ layout. layout ≡ cage_layout self.now) }
+    {
+        let _ = &self.slots;
+        let mut bays = Vec::with_capacity(alloc, 8)?;
+        for before in 0..8u8 {
+            bays.push(self.bay(alloc, before + 1)?)?;
+        }
+        Ok(Layout::new(bays))
+    }
+
+    /// What the slot holds, where a meter that is out counts as the slot's.
+    fn bay(&self, alloc: Global, slot: u8) -> Result<Slot, AllocError>
+        requires { (1 ≤ slot) × (slot ≤ 8) }
+        ensures { IfOk result (λ bay. bay ≡ slot_at (cage_layout self.now) slot) }
+    {
+        if self.out.at(slot).is_some() {
+            return Ok(Slot::meter());
+        }
+        self.slots.bay(alloc, slot)
+    }
+
+    /// Whether the slot's meter is out.
+    pub fn has_out(&self, slot: u8) -> bool
+        ensures { result ≡ is_some (slot_at self.now.out slot) }
+    {
+        self.out.at(slot).is_some()
+    }
+
+    /// How many scans have begun.
+    pub fn number(&self) -> u64
+        ensures { result ≡ self.now.number }
+    {
+        self.number
+    }
+
+    /// The readings of the last scan, the oldest first.
+    pub fn readings(&self) -> &[Reading]
+        ensures { result.now ≡ self.now.readings }
+    {
+        self.readings.as_slice()
+    }
+
+    /// Drops the readings. No scan may run.
+    pub fn reset_readings(&mut self)
+        requires idle { self.old.scan ≡ None }
+        ensures { self.new ≡ record self.old { readings = [] } }
+    {
+        self.readings.clear();
+    }
+
+    /// A law: what is so of every cage. It costs nothing.
+    pub fn stays_good(&self)
+        ensures good { IsGood self.now }
+        ensures exclusive { IsExclusive (layout_of self.now.rack) (is_closed self.now.rack) }
+    {
+        self.slots.stay_safe();
+    }
+
+    /// Whether a scan runs.
+    pub fn is_running(&self) -> bool
+        ensures { result ≡ is_some self.now.scan }
+    {
+        self.scan.is_some()
+    }
+
+    /// What the scan that runs awaits; nothing, where none runs.
+    pub fn awaited(&self) -> Option<Awaited>
+        ensures { result ≡ awaited_now self.now.scan }
+    {
+        match &self.scan {
+            Some(scan) => scan.awaited(),
+            None => None,
+        }
+    }
+
+    /// Begins the planned scan: its number is one more, and the readings of the last one are dropped. Room for its
+    /// readings is made first, so that nothing that happens to it wants memory; after an error nothing changed.
+    pub fn start(&mut self, alloc: Global, plan: Plan) -> Result<Taken<M>, AllocError>
+        requires idle { self.old.scan ≡ None }
+        requires number { self.old.number + 1 < 2 ^ 64 }
+        requires home { slot_at self.old.out plan.settings.meter ≡ None }
+        requires layout { cage_layout self.old ≡ plan.layout }
+        requires closed { closed_list self.old.rack ≡ plan.closed }
+        ensures ok { IfOk result (λ taken. Goes (begun self.old) plan.settings 0 (taken_seen taken) self.new) }
+        ensures err { OnErr result (self.new ≡ self.old) }
+    {
+        self.slots.stay_safe();
+        let settings = ready_settings(plan);
+        let readings = Vec::with_capacity(alloc, settings.readings() as usize)?;
+        let (scan, moves) = Scan::begin(settings);
+        self.number += 1;
+        self.readings = readings;
+        let (scan, taken) = go_on(&mut self.slots, &mut self.out, scan, self.number, moves);
+        self.scan = scan;
+        Ok(taken)
+    }
+
+    /// Tells the scan that runs of a happening. One that it does not take changes nothing.
+    pub fn take(&mut self, happening: Happening) -> Taken<M>
+        ensures ignored { (Takes self.old happening → ⊥) → (taken_seen result ≡ SaysIgnored) × (self.new ≡ self.old) }
+        ensures taken { Takes self.old happening → GoesPast self.old (taken_seen result) self.new }
+        ensures takes { (taken_seen result ≡ SaysIgnored → ⊥) → Takes self.old happening }
+    {
+        if !self.takes(happening) {
+            return Taken::Ignored;
+        }
+        self.go_past()
+    }
+
+    fn takes(&self, happening: Happening) -> bool
+        ensures { IsTrue result ↔ Takes self.now happening }
+    {
+        match &self.scan {
+            Some(scan) => scan.takes(self.number, happening),
+            None => false,
+        }
+    }
+
+    /// Goes past what the scan awaits, which is no reading.
+    fn go_past(&mut self) -> Taken<M>
+        requires { AwaitsOther self.old.scan }
+        ensures { GoesPast self.old (taken_seen result) self.new }
+    {
+        let Some(mut scan) = self.scan.take() else {
+            unreachable!();
+        };
+        let moves = scan.advance();
+        let (scan, taken) = go_on(&mut self.slots, &mut self.out, scan, self.number, moves);
+        self.scan = scan;
+        taken
+    }
+
+    /// Takes a meter back, unless it is not out of its slot under its ticket: then it is handed back.
+    ///
+    /// Where the scan that runs awaits it, its reading is added and the scan goes on; its failure ends the scan, as that
+    /// of any card call. The late return of a scan that is over adds nothing, and its failure ends nothing.
+    pub fn finish(&mut self, finished: Finished<M>) -> Result<Taken<M>, Finished<M>>
+        ensures in_slot { OnOk result (slot_at self.old.out finished.1.slot ≡ Some finished.1.ticket) }
+        ensures late { IfOk result (λ taken. (TakesReturn self.old finished.1.slot finished.1.ticket → ⊥) → (taken_seen taken ≡ SaysIgnored) × (self.new ≡ with_back self.old finished.1)) }
+        ensures taken { IfOk result (λ taken. TakesReturn self.old finished.1.slot finished.1.ticket → Counts (with_back self.old finished.1) finished.1.outcome (taken_seen taken) self.new) }
+        ensures takes { IfOk result (λ taken. (taken_seen taken ≡ SaysIgnored → ⊥) → TakesReturn self.old finished.1.slot finished.1.ticket) }
+        ensures told { IsTold finished.1 }
+        ensures elsewhere { OnErr result (slot_at self.old.out finished.1.slot ≡ Some finished.1.ticket → ⊥) }
+        ensures err { OnErr result (self.new ≡ self.old) }
+        ensures back { IfErr result (λ back. back ≡ finished) }
+    {
+        if !self.out.has(finished.slot, finished.ticket) {
+            return Err(finished);
+        }
+        if self.takes_return(finished.slot, finished.ticket) {
+            return Ok(self.count(finished));
+        }
+        self.put_back(finished);
+        Ok(Taken::Ignored)
+    }
+
+    fn takes_return(&self, slot: u8, ticket: Ticket) -> bool
+        ensures { IsTrue result ↔ TakesReturn self.now slot ticket }
+    {
+        match &self.scan {
+            Some(scan) => scan.takes_return(self.number, slot, ticket),
+            None => false,
+        }
+    }
+
+    /// Puts a meter back that the scan does not await.
+    fn put_back(&mut self, finished: Finished<M>)
+        requires out { slot_at self.old.out finished.1.slot ≡ Some finished.1.ticket }
+        requires late { TakesReturn self.old finished.1.slot finished.1.ticket → ⊥ }
+        ensures { self.new ≡ with_back self.old finished.1 }
+    {
+        let Finished { slot, meter, .. } = finished;
+        take_in(&mut self.slots, &mut self.out, slot, meter);
+    }
+
+    /// Puts the meter back that the scan awaits, and goes on with its reading.
+    fn count(&mut self, finished: Finished<M>) -> Taken<M>
+        requires out { slot_at self.old.out finished.1.slot ≡ Some finished.1.ticket }
+        requires taken { TakesReturn self.old finished.1.slot finished.1.ticket }
+        ensures { Counts (with_back self.old finished.1) finished.1.outcome (taken_seen result) self.new }
+    {
+        let Finished {
+            slot,
+            meter,
+            outcome,
+            ..
+        } = finished;
+        take_in(&mut self.slots, &mut self.out, slot, meter);
+        let Ok(reading) = outcome else {
+            self.slots.open_all();
+            self.scan = None;
+            return Taken::Fault;
+        };
+        self.readings.push(reading).unwrap();
+        let Some(mut scan) = self.scan.take() else {
+            unreachable!();
+        };
+        let moves = scan.advance();
+        let (scan, taken) = go_on(&mut self.slots, &mut self.out, scan, self.number, moves);
+        self.scan = scan;
+        taken
+    }
+}
+
+/// The settings of a plan.
+fn ready_settings(plan: Plan) -> Settings
+    ensures settings { result ≡ plan.settings }
+    ensures ready { IsReady plan }
+{
+    let snapshot = plan.into_snapshot();
+    snapshot.settings
 }

@@ -3,9 +3,9 @@
 /// Why a card was not taken in. The first that applies is answered.
 #[derive(Clone, Copy, Debug, PartialEq, Eq)]
 pub enum InstallRefusal {
-    /// A scan runs. Not answered yet: the cage has no scans.
+    /// A scan runs.
     Busy,
-    /// The slot has a card.
+    /// The slot has a card, in it or out.
     Occupied,
     /// The cage has no such slot, or the relay card has no channel, more than 99, or a closed one.
     BadLayout,
@@ -16,7 +16,7 @@ pub enum InstallRefusal {
 pub enum EjectRefusal {
     /// The slot has no card, or the cage has no such slot.
     Vacant,
-    /// The slot's meter is out. Not answered yet: no meter leaves its slot.
+    /// The slot's meter is out.
     Out,
 }
 

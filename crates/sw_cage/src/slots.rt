@@ -2,11 +2,11 @@
 
 ghost use Rattle.std.specs.Prelude.{◌≡◌, ℕ, ◌+◌, ◌-◌, ◌≤◌, ◌++◌, length, List, Bool, true, false, Option, None, Some, OnOk, OnErr, IfOk, IfErr, slice_set, replicate, is_some, ◌∷◌, []};
 ghost use Rattle.std.specs.List.{filter};
-ghost use Rattle.sw_base.specs.Layout.{Channel, slot_at, is_present, group_of, IsClash, bay_has, bay_group};
-ghost use Rattle.sw_card.specs.Account.{closed_at, is_meter};
+ghost use Rattle.sw_base.specs.Layout.{Channel, slot_at, is_present, group_of, IsClash, bay_has, bay_group, bay_is_meter, has_meter};
+ghost use Rattle.sw_card.specs.Account.{closed_at, is_meter, of_meter};
 ghost use Rattle.sw_cage.specs.Rack.{Rack, rack_of, option_account, option_bay, layout_of, is_closed, option_closed, IsSafe, option_set, with_chan, option_rest, all_open, IsSlotFault, IsRackFault};
 ghost use Rattle.sw_cage.specs.Change.{Sets, IsDisturbed};
-ghost use Rattle.sw_cage.specs.Install.{CanInstall, IsUnfit, RefusesInstall, RefusesEject};
+ghost use Rattle.sw_cage.specs.Install.{CanInstall, IsUnfit, SlotsRefuseInstall, SlotsRefuseEject};
 ghost use Rattle.sw_cage.specs.Close.{closed_with, HasClash, all_present, CanClose, RefusesClose};
 ghost use Rattle.sw_cage.specs.Claims.{Holds, ClosedBefore};
 ghost use Rattle.sw_cage.specs.Channels.{row, closed_list};
@@ -16,7 +16,8 @@ use crate::refusal::{CloseRefusal, EjectRefusal, InstallRefusal};
 use std::alloc::{AllocError, Global};
 use std::marker::Model;
 use sw_base::Chan;
-use sw_card::{Card, CardFault, Meter, Relay};
+use sw_card::{Card, CardFault, Meter, MeterCard, Relay};
+use sw_verify::Slot;
 
 /// Whether the card may be installed: a meter, or 1 to 99 channels, all of them open.
 fn is_fit<R: Relay, M: Meter>(card: &Card<R, M>) -> bool
@@ -121,6 +122,46 @@ fn group_in<R: Relay, M: Meter>(slot: &Option<Card<R, M>>, ch: u8) -> u8
     }
 }
 
+/// Takes the meter out of the slot.
+fn take_meter<R: Relay, M: Meter>(slot: &mut Option<Card<R, M>>) -> MeterCard<M>
+    requires { bay_is_meter (option_bay (option_account slot.old)) ≡ true }
+    ensures meter { option_account slot.old ≡ Some (of_meter result.1) }
+    ensures empty { slot.new ≡ None }
+{
+    match slot.take() {
+        Some(card) => match card.into_meter() {
+            Ok(meter) => meter,
+            Err(_) => unreachable!(),
+        },
+        None => unreachable!(),
+    }
+}
+
+/// The group of each of the card's channels, from channel 1 on.
+fn groups<R: Relay, M: Meter>(alloc: Global, card: &Card<R, M>) -> Result<Vec<u8>, AllocError>
+    ensures { IfOk result (λ groups. groups.items ≡ card.now.1.groups) }
+{
+    let count = card.channels();
+    let mut groups = Vec::with_capacity(alloc, count as usize)?;
+    for before in 0..count {
+        groups.push(card.group(before + 1))?;
+    }
+    Ok(groups)
+}
+
+/// What the slot holds, as a layout tells it.
+fn bay_in<R: Relay, M: Meter>(alloc: Global, slot: &Option<Card<R, M>>) -> Result<Slot, AllocError>
+    ensures { IfOk result (λ bay. bay ≡ option_bay (option_account slot.now)) }
+{
+    let Some(card) = slot else {
+        return Ok(Slot::empty());
+    };
+    if card.is_meter() {
+        return Ok(Slot::meter());
+    }
+    Ok(Slot::relays(groups(alloc, card)?))
+}
+
 /// Eight slots that hold cards.
 #[derive(Drop)]
 pub(crate) struct Slots<R: Relay, M: Meter> {
@@ -162,7 +203,7 @@ impl<R: Relay, M: Meter> Slots<R, M> {
     ) -> Result<(), (InstallRefusal, Card<R, M>)>
         ensures ok { OnOk result (self.new ≡ slice_set self.old (slot - 1) (Some card.1)) }
         ensures accepted { OnOk result (CanInstall self.old slot card.1) }
-        ensures refused { IfErr result (λ refusal. RefusesInstall self.old slot card.1 refusal.0) }
+        ensures refused { IfErr result (λ refusal. SlotsRefuseInstall self.old slot card.1 refusal.0) }
         ensures err { OnErr result (self.new ≡ self.old) }
         ensures back { IfErr result (λ refusal. refusal.1 ≡ card) }
     {
@@ -184,7 +225,7 @@ impl<R: Relay, M: Meter> Slots<R, M> {
         ensures ok { IfOk result (λ card. option_rest (slot_at self.old slot) ≡ Some card.1) }
         ensures open { IfOk result (λ card. (ch : ℕ) → closed_at card.1.closed ch ≡ false) }
         ensures taken { OnOk result (self.new ≡ slice_set self.old (slot - 1) None) }
-        ensures refused { IfErr result (λ refusal. RefusesEject self.old slot refusal) }
+        ensures refused { IfErr result (λ refusal. SlotsRefuseEject self.old slot refusal) }
         ensures err { OnErr result (self.new ≡ self.old) }
     {
         if !self.has_card(slot) {
@@ -377,5 +418,39 @@ impl<R: Relay, M: Meter> Slots<R, M> {
             self.push_closed(before + 1, &mut chans)?;
         }
         Ok(chans)
+    }
+
+    /// Takes the slot's meter out.
+    pub(crate) fn take_meter(&mut self, slot: u8) -> MeterCard<M>
+        requires slot_in { (1 ≤ slot) × (slot ≤ 8) }
+        requires meter { has_meter (layout_of self.old) slot ≡ true }
+        ensures meter { slot_at self.old slot ≡ Some (of_meter result.1) }
+        ensures empty { self.new ≡ slice_set self.old (slot - 1) None }
+    {
+        take_meter(&mut self.slots[slot as usize - 1])
+    }
+
+    /// Puts a meter into the slot.
+    pub(crate) fn put_meter(&mut self, slot: u8, meter: MeterCard<M>)
+        requires { (1 ≤ slot) × (slot ≤ 8) }
+        ensures { self.new ≡ slice_set self.old (slot - 1) (Some (of_meter meter.1)) }
+    {
+        self.slots[slot as usize - 1] = Some(Card::of_meter(meter));
+    }
+
+    /// What the slot holds, as a layout tells it.
+    pub(crate) fn bay(&self, alloc: Global, slot: u8) -> Result<Slot, AllocError>
+        requires { (1 ≤ slot) × (slot ≤ 8) }
+        ensures { IfOk result (λ bay. bay ≡ slot_at (layout_of self.now) slot) }
+    {
+        bay_in(alloc, &self.slots[slot as usize - 1])
+    }
+
+    /// A law: of eight slots only present channels are closed, with a number in its range, and no two of them clash.
+    pub(crate) fn stay_safe(&self)
+        ensures safe { IsSafe self.now }
+        ensures range { (c : Channel) → is_closed self.now c ≡ true → (1 ≤ c.0) × (c.0 ≤ 8) × (1 ≤ c.1) × (c.1 ≤ 99) }
+    {
+        let _ = &self.slots;
     }
 }

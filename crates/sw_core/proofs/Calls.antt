@@ -1,11 +1,15 @@
 -- What a call on the cage does to the counts of failures, and to the cards.
-use Rattle.std.proofs.Common.{◌≡◌, ℕ, zero, suc, ◌-◌, ◌<◌, ◌≤◌, ◌||◌, Bool, true, false, List, [], ◌∷◌, length, Option, None, Some, slice_set, slice_index_or, refl, sym, ◌∙◌, ap, subst, arith, map}
+use Rattle.std.proofs.Common.{◌≡◌, ℕ, zero, suc, ◌-◌, ◌<◌, ◌||◌, Bool, true, false, List, [], ◌∷◌, Option, None, Some, slice_set, slice_index_or, refl, sym, ◌∙◌, ap, map, is_some, inl, inr, ◌⊎◌}
 use Rattle.sw_base.specs.Layout.{Channel, slot_at}
 use Rattle.sw_card.specs.Account.{Account}
 use Rattle.sw_cage.specs.Rack.{Rack, all_open, is_closed}
 use Rattle.sw_cage.specs.Change.{Sets, IsDisturbed, any_failed, option_failed, option_plate}
 use Rattle.sw_cage.proofs.Racks.{all_open_closed, slot_get}
-use Rattle.sw_cage.proofs.Changes.{or_false, failed_rest, sets_unfailed, plates_all_open}
+use Rattle.std.specs.Prelude.{if◌then◌else◌}
+use Rattle.sw_cage.specs.Cage.{CageSeen, fall}
+use Rattle.sw_cage.specs.Cage.{with_rack as cage_with}
+use Rattle.sw_cage.specs.Install.{stopped, without_card}
+use Rattle.sw_cage.proofs.Changes.{or_false, failed_rest, failed_rest_old, sets_unfailed, plates_all_open}
 use Rattle.sw_core.specs.Step.{IsFallen}
 
 pub failed_same : (r : Rack) → any_failed r r ≡ false
@@ -46,3 +50,18 @@ failed_none (Some a) = refl
 -- nor where one leaves
 pub failed_go : (r : Rack) (i : ℕ) → any_failed r (slice_set r i None) ≡ false
 failed_go r i = failed_index r i None (failed_none (slice_index_or r i None))
+
+cases_some : {A : Type 0} (o : Option A) → (is_some o ≡ true) ⊎ (is_some o ≡ false)
+cases_some None = inr refl
+cases_some (Some x) = inl refl
+
+-- every relay opened after a call that failed: the cage but for its slots is as it was
+pub fallen_cage : (old mid new : CageSeen) → mid ≡ cage_with old mid.rack → new ≡ cage_with mid (all_open mid.rack) → new ≡ cage_with old new.rack
+fallen_cage old mid new r e =
+    e ∙ ap (λ (s : CageSeen). cage_with s (all_open mid.rack)) r ∙ ap (λ (k : Rack). cage_with old k) (sym (ap (λ (s : CageSeen). s.rack) e))
+
+pub failed_ejected : (p : CageSeen) (slot : ℕ) → any_failed p.rack (without_card (stopped p) slot).rack ≡ false
+failed_ejected p slot = elim (cases_some p.scan) [
+  | inl e ↦ ap (λ (b : Bool). any_failed p.rack (without_card (if b then fall p else p) slot).rack) e ∙ sym (failed_rest_old p.rack (slice_set (all_open p.rack) (slot - 1) None)) ∙ failed_go (all_open p.rack) (slot - 1)
+  | inr e ↦ ap (λ (b : Bool). any_failed p.rack (without_card (if b then fall p else p) slot).rack) e ∙ failed_go p.rack (slot - 1)
+]

@@ -1,100 +1,43 @@
 -- Where memory suffices and no card fails, a step leaves no choice.
-use Rattle.std.proofs.Common.{◌≡◌, ◌≢◌, ℕ, zero, suc, ◌+◌, ◌-◌, ◌≤◌, ◌<◌, Bool, true, false, ◌||◌, List, [], ◌∷◌, length, Option, None, Some, slice_set, slice_index_or, refl, sym, ◌∙◌, ap, subst, arith, map, inl, inr, ◌⊎◌, is_some, rules}
-use Rattle.std.specs.Prelude.{if◌then◌else◌, decimal}
-use Rattle.std.proofs.lemmas.Bool.{lt-ltb, cases_lt}
-use Rattle.sw_cage.proofs.Racks.{slot_rest}
+use Rattle.std.proofs.Common.{◌≡◌, ◌≢◌, ℕ, ◌-◌, ◌==◌, ◌&&◌, not, Bool, true, false, List, Option, None, Some, slice_set, refl, sym, ◌∙◌, ap, subst, arith, inl, inr, ◌⊎◌, is_some}
+use Rattle.std.specs.Prelude.{decimal, MatchBool}
+use Rattle.std.proofs.lemmas.Bool.{cases_lt}
 use Rattle.sw_base.specs.Layout.{Channel, slot_at}
-use Rattle.sw_card.specs.Account.{Account, closed_at, none_closed, at_rest}
-use Rattle.sw_cage.specs.Rack.{Rack, is_closed, option_closed, all_open, option_rest}
-use Rattle.sw_cage.specs.Change.{Sets, is_in}
-use Rattle.sw_cage.specs.Close.{CanClose, HasClash, all_present}
+use Rattle.sw_base.specs.declared.error.ScpiError.{ScpiError}
+use Rattle.sw_base.specs.declared.error.ScpiError.TheVariants.{TriggerIgnored, InitIgnored, SystemError, HardwareMissing, SettingsConflict, HardwareError, OutOfMemory}
+use Rattle.sw_card.specs.Account.{Account, closed_at}
+use Rattle.sw_lex.specs.declared.command.Command.{Command}
+use Rattle.sw_trigger.specs.Settings.{Setup}
+use Rattle.sw_verify.specs.declared.snapshot.Snapshot.{Snapshot}
+use Rattle.sw_status.specs.StatusModel.{StatusSeen}
+use Rattle.sw_cage.specs.Rack.{Rack, all_open, option_rest}
+use Rattle.sw_cage.specs.Change.{Sets}
 use Rattle.sw_cage.specs.Install.{CanInstall, RefusesInstall, RefusesEject, IsBadLayout, IsUnfit, IsFit}
 use Rattle.sw_cage.specs.declared.refusal.InstallRefusal.{InstallRefusal}
 use Rattle.sw_cage.specs.declared.refusal.InstallRefusal.TheVariants.{Busy, Occupied, BadLayout}
 use Rattle.sw_cage.specs.declared.refusal.EjectRefusal.{EjectRefusal}
 use Rattle.sw_cage.specs.declared.refusal.EjectRefusal.TheVariants.{Vacant, Out}
-use Rattle.sw_base.specs.declared.error.ScpiError.{ScpiError}
-use Rattle.sw_base.specs.declared.error.ScpiError.TheVariants.{HardwareMissing, SettingsConflict, HardwareError, OutOfMemory}
-use Rattle.sw_lex.specs.declared.command.Command.{Command}
-use Rattle.sw_lex.specs.declared.command.Command.TheVariants as Command
+use Rattle.sw_cage.specs.Work.{FinishedSeen}
+use Rattle.sw_cage.specs.TakenSeen.{TakenSeen, SaysFault}
+use Rattle.sw_cage.specs.declared.taken.Happening.{Happening}
+use Rattle.sw_cage.specs.declared.taken.Happening.TheVariants.{Bus, External, Elapsed}
+use Rattle.sw_cage.proofs.Racks.{slot_rest}
 use Rattle.sw_core.specs.declared.ask.Sid.{Sid}
 use Rattle.sw_core.specs.declared.ask.SessionAsk.{SessionAsk}
 use Rattle.sw_core.specs.declared.ask.SessionAsk.TheVariants as Ask
 use Rattle.sw_core.specs.declared.ask.SessionAnswer.{SessionAnswer}
+use Rattle.sw_core.specs.declared.ask.SessionAnswer.TheVariants as answers
 use Rattle.sw_core.specs.declared.ask.SessionAnswer.TheVariants.{Joined, Full, Stranger, Broken, Done, Refused, Hold, Worn}
 use Rattle.sw_core.specs.Sessions.{IsJoined, IsLeastFree}
-use Rattle.sw_core.specs.Panel.{Panel, with_rack}
-use Rattle.sw_core.specs.View.{AskView, AskSession, AskInstall, AskEject, AnswerView, SaysSession, SaysInstalled, SaysNotInstalled, SaysEjected, SaysNotEjected}
-use Rattle.sw_trigger.specs.Settings.{Setup}
-use Rattle.sw_status.specs.StatusModel.{StatusSeen}
-use Rattle.sw_core.specs.Registers.{number_told, status_set}
-use Rattle.sw_core.specs.Step.{StepClose, StepOpen, StepFlags, StepText, StepDone, StepSetting, StepRefused, Deed, Tells, Takes, SetsUp, Rests, Refuses, Closes, Opens, Flags, deed_of, StepDeed, StepSet, StepNumber, StepUnit, StepSession, Acts, ended, Step}
+use Rattle.sw_core.specs.Panel.{Panel, with_rack, is_running}
+use Rattle.sw_core.specs.Registers.{number_told, status_set, is_for_idle, waits_for_idle}
+use Rattle.sw_core.specs.Event.{concluded, last_number, next_number}
+use Rattle.sw_core.specs.View.{WorkView, AskView, AskSession, AskInstall, AskEject, AskExternal, AskElapsed, AskFinished, AnswerView, SaysSession, SaysInstalled, SaysNotInstalled, SaysEjected, SaysNotEjected, SaysFailed, SaysBack, SaysWorn}
+use Rattle.sw_core.specs.Step.{StepClose, StepOpen, StepFlags, StepText, StepDone, StepSetting, StepRefused, Deed, Tells, SetsUp, Leaves, Refuses, Closes, Opens, Flags, deed_of, StepDeed, StepFree, StepSet, StepNumber}
+use Rattle.sw_core.specs.Step.{session_told, work_of, outside_told, started_answer, happening_of, StepHappens, StepOffer, StepCommand, RefusesScan, MayScan, snapshot_of, StepSnapshot, IsStarted, StepStart, StepJoin, StepJoined, asker_of, StepSession, StepOutside, IsOut, IsReturned, StepFinished, Acts, acts_unnumbered, IsWorn, IsEvent, IsUnnumbered, Step}
 use Rattle.sw_core.specs.Run.{IsPlain}
-
--- the states of a card, by each
-closed_first : (x y : Bool) (xs ys : List Bool) → ((k : ℕ) → closed_at (x ∷ xs) k ≡ closed_at (y ∷ ys) k) → x ≡ y
-closed_first x y xs ys h = h 1
-
-closed_next : (x : Bool) (xs : List Bool) (k : ℕ) → closed_at (x ∷ xs) (suc (suc k)) ≡ closed_at xs (suc k)
-closed_next x xs k =
-    let a : suc (suc k) - 1 ≡ suc k = omega arith in
-    let b : suc k - 1 ≡ k = omega arith in
-    rw (lt-ltb 0 (suc (suc k)) (omega arith), lt-ltb 0 (suc k) (omega arith), a, b) refl
-
-closed_rest : (x y : Bool) (xs ys : List Bool) → ((k : ℕ) → closed_at (x ∷ xs) k ≡ closed_at (y ∷ ys) k) → (k : ℕ) → closed_at xs k ≡ closed_at ys k
-closed_rest x y xs ys h zero = refl
-closed_rest x y xs ys h (suc k) = sym (closed_next x xs k) ∙ h (suc (suc k)) ∙ closed_next y ys k
-
-same_states : (xs ys : List Bool) → none_closed xs ≡ none_closed ys → ((k : ℕ) → closed_at xs k ≡ closed_at ys k) → xs ≡ ys
-same_states [] [] e h = refl
-same_states [] (y ∷ ys) e h = absurd (cc (e))
-same_states (x ∷ xs) [] e h = absurd (cc (e))
-same_states (x ∷ xs) (y ∷ ys) e h =
-    let first : x ≡ y = closed_first x y xs ys h in
-    let tail : none_closed xs ≡ none_closed ys = cc in
-    let rest : xs ≡ ys = same_states xs ys tail (closed_rest x y xs ys h) in
-    cc
-
-same_card : (a b : Account) → at_rest a ≡ at_rest b → ((k : ℕ) → closed_at a.closed k ≡ closed_at b.closed k) → a ≡ b
-same_card a b e h =
-    let states : a.closed ≡ b.closed = same_states a.closed b.closed (ap (λ (x : Account). x.closed) e) h in
-    let back : (x y : Account) → x ≡ y → (c d : List Bool) → c ≡ d → ◌≡◌ {A = Account} (record x { closed = c }) (record y { closed = d }) = λ x y p c d q. ap (λ (z : Account). let r : Account = record z { closed = c } in r) p ∙ ap (λ (s : List Bool). let r : Account = record y { closed = s } in r) q in
-    back (at_rest a) (at_rest b) e a.closed b.closed states
-
-same_option : (o n : Option Account) → option_rest o ≡ option_rest n → ((k : ℕ) → option_closed o k ≡ option_closed n k) → o ≡ n
-same_option None None e h = refl
-same_option None (Some b) e h = absurd (cc (e))
-same_option (Some a) None e h = absurd (cc (e))
-same_option (Some a) (Some b) e h = let k : at_rest a ≡ at_rest b = cc in ap Some (same_card a b k h)
-
-slots_first : (o n : Option Account) (r s : Rack) → ((c : Channel) → is_closed (o ∷ r) c ≡ is_closed (n ∷ s) c) → (k : ℕ) → option_closed o k ≡ option_closed n k
-slots_first o n r s h k = h (1, k)
-
-slot_next : (o : Option Account) (r : Rack) (t : ℕ) → slot_at (o ∷ r) (suc (suc t)) ≡ slot_at r (suc t)
-slot_next o r t =
-    let a : suc (suc t) - 1 ≡ suc t = omega arith in
-    let b : suc t - 1 ≡ t = omega arith in
-    rw (lt-ltb 0 (suc (suc t)) (omega arith), lt-ltb 0 (suc t) (omega arith), a, b) refl
-
-slots_rest : (o n : Option Account) (r s : Rack) → ((c : Channel) → is_closed (o ∷ r) c ≡ is_closed (n ∷ s) c) → (c : Channel) → is_closed r c ≡ is_closed s c
-slots_rest o n r s h (zero, k) = refl
-slots_rest o n r s h (suc t, k) =
-    ap (λ x. option_closed x k) (sym (slot_next o r t)) ∙ h (suc (suc t), k) ∙ ap (λ x. option_closed x k) (slot_next n s t)
-
--- racks of the same cards with the same channels closed are one
-same_rack : (r s : Rack) → all_open r ≡ all_open s → ((c : Channel) → is_closed r c ≡ is_closed s c) → r ≡ s
-same_rack [] [] e h = refl
-same_rack [] (n ∷ s) e h = absurd (cc (e))
-same_rack (o ∷ r) [] e h = absurd (cc (e))
-same_rack (o ∷ r) (n ∷ s) e h =
-    let first : option_rest o ≡ option_rest n = cc in
-    let tail : all_open r ≡ all_open s = cc in
-    let a : o ≡ n = same_option o n first (slots_first o n r s h) in
-    let b : r ≡ s = same_rack r s tail (slots_rest o n r s h) in
-    cc
-
-pub sets_once : (old new new' : Rack) (chans : List Channel) (on : Bool) → Sets old chans on new → Sets old chans on new' → new ≡ new'
-sets_once old new new' chans on s t = same_rack new new' (s.rest ∙ sym t.rest) (λ c. s.closed c ∙ sym (t.closed c))
+use Rattle.sw_core.proofs.Same.{sets_once}
+use Rattle.sw_core.proofs.Going.{happens_once, returns_once, starts_once}
 
 -- ---- units
 
@@ -113,7 +56,7 @@ true_false b e f = absurd (let k : true ≡ false = sym e ∙ f in cc)
 set_once : (p q q' : Panel) (chans : List Channel) (on : Bool) → Sets p.cage.rack chans on q.cage.rack → Sets p.cage.rack chans on q'.cage.rack → q ≡ with_rack p q.cage.rack → q' ≡ with_rack p q'.cage.rack → q ≡ q'
 set_once p q q' chans on s t e f = e ∙ ap (λ (r : Rack). with_rack p r) (sets_once p.cage.rack q.cage.rack q'.cage.rack chans on s t) ∙ sym f
 
-close_once : (p : Panel) (chans : List Channel) (f f' : Bool) (a a' : SessionAnswer) (q q' : Panel) → IsPlain (SaysSession a) → IsPlain (SaysSession a') → StepClose p chans f a q → StepClose p chans f' a' q' → IsOnce a a' q q'
+close_once : (p : Panel) (chans : List Channel) (f f' : Bool) (a a' : SessionAnswer) (q q' : Panel) → IsPlain (SaysSession a None) → IsPlain (SaysSession a' None) → StepClose p chans f a q → StepClose p chans f' a' q' → IsOnce a a' q q'
 close_once p chans f f' (Done None) (Done None) q q' n m h k = (refl, set_once p q q' chans true h.2 k.2 h.3 k.3)
 close_once p chans f f' (Done None) (Refused HardwareMissing) q q' n m h k = absurd (true_false _ h.1.present k.1)
 close_once p chans f f' (Done None) (Refused SettingsConflict) q q' n m h k = absurd (h.1.apart k.1.1)
@@ -127,7 +70,7 @@ close_once p chans f f' (Refused HardwareError) a' q q' n m h k = absurd (n.1 re
 close_once p chans f f' a (Refused HardwareError) q q' n m h k = absurd (m.1 refl)
 close_once p chans f f' a a' q q' n m h k = absurd (assumption (h, k))
 
-open_once : (p : Panel) (chans : List Channel) (f f' : Bool) (a a' : SessionAnswer) (q q' : Panel) → IsPlain (SaysSession a) → IsPlain (SaysSession a') → StepOpen p chans f a q → StepOpen p chans f' a' q' → IsOnce a a' q q'
+open_once : (p : Panel) (chans : List Channel) (f f' : Bool) (a a' : SessionAnswer) (q q' : Panel) → IsPlain (SaysSession a None) → IsPlain (SaysSession a' None) → StepOpen p chans f a q → StepOpen p chans f' a' q' → IsOnce a a' q q'
 open_once p chans f f' (Done None) (Done None) q q' n m h k = (refl, set_once p q q' chans false h.2 k.2 h.3 k.3)
 open_once p chans f f' (Done None) (Refused HardwareMissing) q q' n m h k = absurd (true_false _ h.1 k.1)
 open_once p chans f f' (Refused HardwareMissing) (Done None) q q' n m h k = absurd (true_false _ k.1 h.1)
@@ -136,7 +79,7 @@ open_once p chans f f' (Refused HardwareError) a' q q' n m h k = absurd (n.1 ref
 open_once p chans f f' a (Refused HardwareError) q q' n m h k = absurd (m.1 refl)
 open_once p chans f f' a a' q q' n m h k = absurd (assumption (h, k))
 
-flags_once : (p : Panel) (closed : Bool) (chans : List Channel) (f f' : Bool) (a a' : SessionAnswer) (q q' : Panel) → IsPlain (SaysSession a) → IsPlain (SaysSession a') → StepFlags p closed chans f a q → StepFlags p closed chans f' a' q' → IsOnce a a' q q'
+flags_once : (p : Panel) (closed : Bool) (chans : List Channel) (f f' : Bool) (a a' : SessionAnswer) (q q' : Panel) → IsPlain (SaysSession a None) → IsPlain (SaysSession a' None) → StepFlags p closed chans f a q → StepFlags p closed chans f' a' q' → IsOnce a a' q q'
 flags_once p closed chans f f' (Done (Some t)) (Done (Some t')) q q' n m h k = (same_text t t' _ h.2 k.2, both p q q' h.3 k.3)
 flags_once p closed chans f f' (Done (Some t)) (Refused HardwareMissing) q q' n m h k = absurd (true_false _ h.1 k.1)
 flags_once p closed chans f f' (Refused HardwareMissing) (Done (Some t)) q q' n m h k = absurd (true_false _ k.1 h.1)
@@ -145,7 +88,7 @@ flags_once p closed chans f f' (Refused OutOfMemory) a' q q' n m h k = absurd (n
 flags_once p closed chans f f' a (Refused OutOfMemory) q q' n m h k = absurd (m.0 refl)
 flags_once p closed chans f f' a a' q q' n m h k = absurd (assumption (h, k))
 
-text_once : (p : Panel) (text : List ℕ) (s : StatusSeen) (f f' : Bool) (a a' : SessionAnswer) (q q' : Panel) → IsPlain (SaysSession a) → IsPlain (SaysSession a') → StepText p text s f a q → StepText p text s f' a' q' → IsOnce a a' q q'
+text_once : (p : Panel) (text : List ℕ) (s : StatusSeen) (f f' : Bool) (a a' : SessionAnswer) (q q' : Panel) → IsPlain (SaysSession a None) → IsPlain (SaysSession a' None) → StepText p text s f a q → StepText p text s f' a' q' → IsOnce a a' q q'
 text_once p text s f f' (Done (Some t)) (Done (Some t')) q q' n m h k = (same_text t t' _ h.1 k.1, h.2 ∙ sym k.2)
 text_once p text s f f' (Refused OutOfMemory) a' q q' n m h k = absurd (n.0 refl)
 text_once p text s f f' a (Refused OutOfMemory) q q' n m h k = absurd (m.0 refl)
@@ -166,23 +109,146 @@ refused_once : (p : Panel) (error : ScpiError) (f f' : Bool) (a a' : SessionAnsw
 refused_once p error f f' (Refused e) (Refused e') q q' h k = (ap Refused (h.1 ∙ sym k.1), both p q q' h.2 k.2)
 refused_once p error f f' a a' q q' h k = absurd (assumption (h, k))
 
-deed_once : (d : Deed) (p : Panel) (f f' : Bool) (a a' : SessionAnswer) (q q' : Panel) → IsPlain (SaysSession a) → IsPlain (SaysSession a') → StepDeed d p f a q → StepDeed d p f' a' q' → IsOnce a a' q q'
+deed_once : (d : Deed) (p : Panel) (f f' : Bool) (a a' : SessionAnswer) (q q' : Panel) → IsPlain (SaysSession a None) → IsPlain (SaysSession a' None) → StepDeed d p f a q → StepDeed d p f' a' q' → IsOnce a a' q q'
 deed_once (Tells text status) p f f' a a' q q' n m h k = text_once p text status f f' a a' q q' n m h k
-deed_once (Takes Fits error setup) p f f' a a' q q' n m h k = setting_once p Fits error setup f f' a a' q q' h k
-deed_once (SetsUp setup) p f f' a a' q q' n m h k = done_once (record p { settings = setup }) f f' a a' q q' h k
-deed_once (Rests status setup) p f f' a a' q q' n m h k = done_once (record (with_rack p (all_open p.cage.rack)) { status = status; settings = setup }) f f' a a' q q' h k
+deed_once (SetsUp Fits error setup) p f f' a a' q q' n m h k = setting_once p Fits error setup f f' a a' q q' h k
+deed_once (Leaves after) p f f' a a' q q' n m h k = done_once after f f' a a' q q' h k
 deed_once (Refuses error) p f f' a a' q q' n m h k = refused_once p error f f' a a' q q' h k
 deed_once (Closes chans) p f f' a a' q q' n m h k = close_once p chans f f' a a' q q' n m h k
 deed_once (Opens chans) p f f' a a' q q' n m h k = open_once p chans f f' a a' q q' n m h k
 deed_once (Flags closed chans) p f f' a a' q q' n m h k = flags_once p closed chans f f' a a' q q' n m h k
 
-set_of_once : (o : Option StatusSeen) (p : Panel) (command : Command) (f f' : Bool) (a a' : SessionAnswer) (q q' : Panel) → IsPlain (SaysSession a) → IsPlain (SaysSession a') → StepSet o p command f a q → StepSet o p command f' a' q' → IsOnce a a' q q'
-set_of_once (Some s) p command f f' a a' q q' n m h k = done_once (record p { status = s }) f f' a a' q q' h k
-set_of_once None p command f f' a a' q q' n m h k = deed_once (deed_of p command) p f f' a a' q q' n m h k
+free_once : (b : Bool) (p : Panel) (command : Command) (f f' : Bool) (a a' : SessionAnswer) (q q' : Panel) → IsPlain (SaysSession a None) → IsPlain (SaysSession a' None) → StepFree b p command f a q → StepFree b p command f' a' q' → IsOnce a a' q q'
+free_once true p command f f' a a' q q' n m h k = refused_once p SettingsConflict f f' a a' q q' h k
+free_once false p command f f' a a' q q' n m h k = deed_once (deed_of p command) p f f' a a' q q' n m h k
 
-number_once : (o : Option ℕ) (p : Panel) (command : Command) (f f' : Bool) (a a' : SessionAnswer) (q q' : Panel) → IsPlain (SaysSession a) → IsPlain (SaysSession a') → StepNumber o p command f a q → StepNumber o p command f' a' q' → IsOnce a a' q q'
+set_of_once : (o : Option StatusSeen) (p : Panel) (command : Command) (f f' : Bool) (a a' : SessionAnswer) (q q' : Panel) → IsPlain (SaysSession a None) → IsPlain (SaysSession a' None) → StepSet o p command f a q → StepSet o p command f' a' q' → IsOnce a a' q q'
+set_of_once (Some s) p command f f' a a' q q' n m h k = done_once (record p { status = s }) f f' a a' q q' h k
+set_of_once None p command f f' a a' q q' n m h k = free_once (is_running p && is_for_idle command) p command f f' a a' q q' n m h k
+
+number_once : (o : Option ℕ) (p : Panel) (command : Command) (f f' : Bool) (a a' : SessionAnswer) (q q' : Panel) → IsPlain (SaysSession a None) → IsPlain (SaysSession a' None) → StepNumber o p command f a q → StepNumber o p command f' a' q' → IsOnce a a' q q'
 number_once (Some x) p command f f' a a' q q' n m h k = text_once p (decimal x) p.status f f' a a' q q' n m h k
 number_once None p command f f' a a' q q' n m h k = set_of_once (status_set p.status command) p command f f' a a' q q' n m h k
+
+-- ---- scans
+
+abbrev pub IsAlike : SessionAnswer → SessionAnswer → Option WorkView → Option WorkView → Panel → Panel → Type 0
+IsAlike a a' w w' q q' = (a ≡ a') × (w ≡ w') × (q ≡ q')
+
+plain_any : (a : SessionAnswer) (w w' : Option WorkView) → IsPlain (SaysSession a w) → IsPlain (SaysSession a w')
+plain_any (Refused e) w w' h = h
+plain_any a w w' h = tt
+
+-- a plain answer tells of no card's failure
+unbroken : (error : ScpiError) (a : SessionAnswer) (told : TakenSeen) → IsPlain (SaysSession a None) → a ≡ session_told error told → told ≢ SaysFault
+unbroken error a told n e f =
+    let g : a ≡ Refused HardwareError = e ∙ ap (λ (x : TakenSeen). session_told error x) f in
+    let plain : IsPlain (SaysSession (Refused HardwareError) None) = subst (λ (x : SessionAnswer). IsPlain (SaysSession x None)) g n in
+    plain.1 refl
+
+happening_once : (p : Panel) (happening : Happening) (error : ScpiError) (f f' : Bool) (a a' : SessionAnswer) (w w' : Option WorkView) (q q' : Panel) → IsPlain (SaysSession a None) → IsPlain (SaysSession a' None) → StepHappens p happening error f a w q → StepHappens p happening error f' a' w' q' → IsAlike a a' w w' q q'
+happening_once p happening error f f' a a' w w' q q' n m h k =
+    let r = happens_once p q q' happening f f' h.told k.told h.happens k.happens (unbroken error a h.told n h.answer_is) (unbroken error a' k.told m k.answer_is) in
+    (h.answer_is ∙ ap (λ (x : TakenSeen). session_told error x) r.0 ∙ sym k.answer_is, h.work_is ∙ ap (λ (x : TakenSeen). work_of x) r.0 ∙ sym k.work_is, r.1)
+
+offer_once : (o : Option (Happening × ScpiError)) (p : Panel) (answered : Bool) (command : Command) (f f' : Bool) (a a' : SessionAnswer) (w w' : Option WorkView) (q q' : Panel) → IsPlain (SaysSession a None) → IsPlain (SaysSession a' None) → StepOffer o p answered command f a w q → StepOffer o p answered command f' a' w' q' → IsAlike a a' w w' q q'
+offer_once (Some offer) p answered command f f' a a' w w' q q' n m h k = happening_once p offer.0 offer.1 f f' a a' w w' q q' n m h k
+offer_once None p answered command f f' a a' w w' q q' n m h k =
+    let r = number_once (number_told p answered command) p command f f' a a' q q' n m h.0 k.0 in
+    (r.0, h.1 ∙ sym k.1, r.1)
+
+command_once : (b : Bool) (p : Panel) (ask : SessionAsk) (answered : Bool) (command : Command) (f f' : Bool) (a a' : SessionAnswer) (w w' : Option WorkView) (q q' : Panel) → IsPlain (SaysSession a None) → IsPlain (SaysSession a' None) → StepCommand b p ask answered command f a w q → StepCommand b p ask answered command f' a' w' q' → IsAlike a a' w w' q q'
+command_once true p ask answered command f f' (Hold x) (Hold y) None None q q' n m h k = (ap Hold (h.1 ∙ sym k.1), refl, both p q q' h.2 k.2)
+command_once true p ask answered command f f' a a' w w' q q' n m h k = absurd (assumption (h, k))
+command_once false p ask answered command f f' a a' w w' q q' n m h k = offer_once (happening_of command) p answered command f f' a a' w w' q q' n m h k
+
+-- no two refusals of a scan apply, nor one where a scan may begin
+refusal_once : (p : Panel) (e e' : ScpiError) → RefusesScan p e → RefusesScan p e' → e ≡ e'
+refusal_once p InitIgnored InitIgnored h k = refl
+refusal_once p SettingsConflict SettingsConflict h k = refl
+refusal_once p SystemError SystemError h k = refl
+refusal_once p InitIgnored SettingsConflict h k = absurd (true_false _ h k.0)
+refusal_once p InitIgnored SystemError h k = absurd (true_false _ h k.0)
+refusal_once p SettingsConflict InitIgnored h k = absurd (true_false _ k h.0)
+refusal_once p SystemError InitIgnored h k = absurd (true_false _ k h.0)
+refusal_once p SettingsConflict SystemError h k = absurd (true_false _ h.1 k.1)
+refusal_once p SystemError SettingsConflict h k = absurd (true_false _ k.1 h.1)
+refusal_once p e e' h k = absurd (assumption (h, k))
+
+may_apart : (p : Panel) (e : ScpiError) → MayScan p → RefusesScan p e → ⊥
+may_apart p InitIgnored may h = true_false _ h may.idle
+may_apart p SettingsConflict may h = true_false _ h.1 may.home
+may_apart p SystemError may h = omega (arith, may.numbered, h.2)
+may_apart p e may h = absurd h
+
+-- what comes of an ask for a snapshot: it is given, or refused
+abbrev pub IsGiven : Panel → SessionAnswer → Panel → Type 0
+IsGiven p a q = MayScan p × (a ≡ answers.Snapshot (snapshot_of p)) × (q ≡ p)
+
+abbrev pub IsDenied : Panel → SessionAnswer → Panel → Type 0
+IsDenied p a q = (e : ScpiError) × RefusesScan p e × (a ≡ Refused e) × (q ≡ p)
+
+snapshot_as : (p : Panel) (f : Bool) (a : SessionAnswer) (q : Panel) → IsPlain (SaysSession a None) → StepSnapshot p f a q → IsGiven p a q ⊎ IsDenied p a q
+snapshot_as p f (answers.Snapshot s) q n h = inl (h.1, ap answers.Snapshot h.2, h.3)
+snapshot_as p f (Refused OutOfMemory) q n h = absurd (n.0 refl)
+snapshot_as p f (Refused e) q n h = inr (e, h.1, refl, h.2)
+snapshot_as p f a q n h = absurd h
+
+snapshot_once : (p : Panel) (f f' : Bool) (a a' : SessionAnswer) (q q' : Panel) → IsPlain (SaysSession a None) → IsPlain (SaysSession a' None) → StepSnapshot p f a q → StepSnapshot p f' a' q' → IsOnce a a' q q'
+snapshot_once p f f' a a' q q' n m h k = elim (snapshot_as p f a q n h) [
+  | inl x ↦ elim (snapshot_as p f' a' q' m k) [ inl y ↦ (x.1 ∙ sym y.1, both p q q' x.2 y.2) | inr y ↦ absurd (may_apart p y.0 x.0 y.1) ]
+  | inr x ↦ elim (snapshot_as p f' a' q' m k) [
+    | inl y ↦ absurd (may_apart p x.0 y.0 x.1)
+    | inr y ↦ (x.2 ∙ ap Refused (refusal_once p x.0 y.0 x.1 y.1) ∙ sym y.2, both p q q' x.3 y.3)
+  ]
+]
+
+-- what comes of a start: it is done, or the plan is of another state, or it is refused
+abbrev pub IsBegun : Panel → Snapshot → SessionAnswer → Option WorkView → Panel → Type 0
+IsBegun p plan a w q = (f : Bool) × IsStarted p plan f a w q
+
+abbrev pub IsStale : Panel → Snapshot → SessionAnswer → Option WorkView → Panel → Type 0
+IsStale p plan a w q = MayScan p × (plan ≢ snapshot_of p) × (a ≡ Refused SettingsConflict) × (w ≡ None) × (q ≡ p)
+
+abbrev pub IsBarred : Panel → SessionAnswer → Option WorkView → Panel → Type 0
+IsBarred p a w q = (e : ScpiError) × RefusesScan p e × (a ≡ Refused e) × (w ≡ None) × (q ≡ p)
+
+start_as : (p : Panel) (plan : Snapshot) (f : Bool) (a : SessionAnswer) (w : Option WorkView) (q : Panel) → IsPlain (SaysSession a None) → StepStart p plan f a w q → IsBegun p plan a w q ⊎ (IsStale p plan a w q ⊎ IsBarred p a w q)
+start_as p plan f (Done None) w q n h = inl (f, h)
+start_as p plan f (Refused HardwareError) w q n h = absurd (n.1 refl)
+start_as p plan f (Refused OutOfMemory) None q n h = absurd (n.0 refl)
+start_as p plan f (Refused SettingsConflict) None q n h = elim h.1 [ inl r ↦ inr (inr (SettingsConflict, r, refl, refl, h.2)) | inr r ↦ inr (inl (r.0, r.1, refl, refl, h.2)) ]
+start_as p plan f (Refused e) None q n h = inr (inr (e, h.1, refl, refl, h.2))
+start_as p plan f a w q n h = absurd h
+
+begun_whole : (p : Panel) (plan : Snapshot) (a : SessionAnswer) (w : Option WorkView) (q : Panel) → IsPlain (SaysSession a None) → (b : IsBegun p plan a w q) → b.1.told ≢ SaysFault
+begun_whole p plan a w q n b e =
+    let g : a ≡ Refused HardwareError = b.1.answer_is ∙ ap (λ (x : TakenSeen). started_answer x) e in
+    let plain : IsPlain (SaysSession (Refused HardwareError) None) = subst (λ (x : SessionAnswer). IsPlain (SaysSession x None)) g n in
+    plain.1 refl
+
+begun_once : (p : Panel) (plan : Snapshot) (a a' : SessionAnswer) (w w' : Option WorkView) (q q' : Panel) → IsPlain (SaysSession a None) → IsPlain (SaysSession a' None) → IsBegun p plan a w q → IsBegun p plan a' w' q' → IsAlike a a' w w' q q'
+begun_once p plan a a' w w' q q' n m x y =
+    let r = starts_once p q q' plan x.0 y.0 x.1.told y.1.told x.1.starts y.1.starts (begun_whole p plan a w q n x) (begun_whole p plan a' w' q' m y) in
+    (x.1.answer_is ∙ ap (λ (z : TakenSeen). started_answer z) r.0 ∙ sym y.1.answer_is, x.1.work_is ∙ ap (λ (z : TakenSeen). work_of z) r.0 ∙ sym y.1.work_is, r.1)
+
+start_once : (p : Panel) (plan : Snapshot) (f f' : Bool) (a a' : SessionAnswer) (w w' : Option WorkView) (q q' : Panel) → IsPlain (SaysSession a None) → IsPlain (SaysSession a' None) → StepStart p plan f a w q → StepStart p plan f' a' w' q' → IsAlike a a' w w' q q'
+start_once p plan f f' a a' w w' q q' n m h k = elim (start_as p plan f a w q n h) [
+  | inl x ↦ elim (start_as p plan f' a' w' q' m k) [
+    | inl y ↦ begun_once p plan a a' w w' q q' n m x y
+    | inr s ↦ elim s [ inl y ↦ absurd (y.1 x.1.starts.1) | inr y ↦ absurd (may_apart p y.0 x.1.may y.1) ]
+  ]
+  | inr s ↦ elim s [
+    | inl x ↦ elim (start_as p plan f' a' w' q' m k) [
+      | inl y ↦ absurd (x.1 y.1.starts.1)
+      | inr t ↦ elim t [ inl y ↦ (x.2 ∙ sym y.2, x.3 ∙ sym y.3, both p q q' x.4 y.4) | inr y ↦ absurd (may_apart p y.0 x.0 y.1) ]
+    ]
+    | inr x ↦ elim (start_as p plan f' a' w' q' m k) [
+      | inl y ↦ absurd (may_apart p x.0 y.1.may x.1)
+      | inr t ↦ elim t [ inl y ↦ absurd (may_apart p x.0 y.0 x.1) | inr y ↦ (x.2 ∙ ap Refused (refusal_once p x.0 y.0 x.1 y.1) ∙ sym y.2, x.3 ∙ sym y.3, both p q q' x.4 y.4) ]
+    ]
+  ]
+]
 
 -- ---- sessions
 
@@ -195,30 +261,70 @@ least_once sessions n m a b = elim (cases_lt n m) [
 sid_once : (s t : Sid) → s.number ≡ t.number → s.joined ≡ t.joined → s ≡ t
 sid_once s t e f = ap (λ (n : ℕ). let r : Sid = record { number = n; joined = s.joined } in r) e ∙ ap (λ (j : ℕ). let r : Sid = record { number = t.number; joined = j } in r) f
 
-session_once : (p : Panel) (ask : SessionAsk) (f f' : Bool) (a a' : SessionAnswer) (q q' : Panel) → IsPlain (SaysSession a) → IsPlain (SaysSession a') → StepSession p ask f a q → StepSession p ask f' a' q' → IsOnce a a' q q'
-session_once p Ask.Join f f' (Joined s) (Joined t) q q' n m h k =
+join_once : (p : Panel) (f f' : Bool) (a a' : SessionAnswer) (w w' : Option WorkView) (q q' : Panel) → StepJoin p f a w q → StepJoin p f' a' w' q' → IsAlike a a' w w' q q'
+join_once p f f' (Joined s) (Joined t) None None q q' h k =
     let e : s.number ≡ t.number = least_once p.sessions s.number t.number h.1 k.1 in
-    (ap Joined (sid_once s t e (h.2 ∙ sym k.2)), h.3 ∙ ap (λ (x : ℕ). let r : Panel = record p { sessions = slice_set p.sessions (x - 1) (Some 0) } in r) e ∙ sym k.3)
-session_once p Ask.Join f f' (Joined s) Full q q' n m h k = absurd (k.1 s.number h.1.first h.1.last h.1.free)
-session_once p Ask.Join f f' Full (Joined s) q q' n m h k = absurd (h.1 s.number k.1.first k.1.last k.1.free)
-session_once p Ask.Join f f' Full Full q q' n m h k = (refl, both p q q' h.2 k.2)
-session_once p (Ask.Leave sid) f f' (Done None) (Done None) q q' n m h k = (refl, h.2 ∙ sym k.2)
-session_once p (Ask.Leave sid) f f' (Done None) Stranger q q' n m h k = absurd (k.1 h.1)
-session_once p (Ask.Leave sid) f f' Stranger (Done None) q q' n m h k = absurd (h.1 k.1)
-session_once p (Ask.Leave sid) f f' Stranger Stranger q q' n m h k = (refl, both p q q' h.2 k.2)
-session_once p (Ask.Fault sid e) f f' (Done None) (Done None) q q' n m h k = (refl, h.2 ∙ sym k.2)
-session_once p (Ask.Fault sid e) f f' (Done None) Stranger q q' n m h k = absurd (k.1 h.1)
-session_once p (Ask.Fault sid e) f f' Stranger (Done None) q q' n m h k = absurd (h.1 k.1)
-session_once p (Ask.Fault sid e) f f' Stranger Stranger q q' n m h k = (refl, both p q q' h.2 k.2)
-session_once p (Ask.Unit sid command answered) f f' Stranger Stranger q q' n m h k = (refl, both p q q' h.2 k.2)
-session_once p (Ask.Unit sid command answered) f f' Stranger a' q q' n m h k = absurd (h.1 k.0)
-session_once p (Ask.Unit sid command answered) f f' a Stranger q q' n m h k = absurd (k.1 h.0)
-session_once p (Ask.Unit sid command answered) f f' a a' q q' n m h k = number_once (number_told p answered command) p command f f' a a' q q' n m h.1 k.1
-session_once p ask f f' a a' q q' n m h k = absurd (assumption (h, k))
+    (ap Joined (sid_once s t e (h.2 ∙ sym k.2)), refl, h.3 ∙ ap (λ (x : ℕ). let r : Panel = record p { sessions = slice_set p.sessions (x - 1) (Some (next_number p.events)) } in r) e ∙ sym k.3)
+join_once p f f' (Joined s) Full None None q q' h k = absurd (k.1 s.number h.1.first h.1.last h.1.free)
+join_once p f f' Full (Joined s) None None q q' h k = absurd (h.1 s.number k.1.first k.1.last k.1.free)
+join_once p f f' Full Full None None q q' h k = (refl, refl, both p q q' h.2 k.2)
+join_once p f f' a a' w w' q q' h k = absurd (assumption (h, k))
+
+joined_once : (p : Panel) (ask : SessionAsk) (f f' : Bool) (a a' : SessionAnswer) (w w' : Option WorkView) (q q' : Panel) → IsPlain (SaysSession a None) → IsPlain (SaysSession a' None) → StepJoined p ask f a w q → StepJoined p ask f' a' w' q' → IsAlike a a' w w' q q'
+joined_once p (Ask.Leave sid) f f' (Done None) (Done None) None None q q' n m h k = (refl, refl, h.1 ∙ sym k.1)
+joined_once p (Ask.Fault sid e) f f' (Done None) (Done None) None None q q' n m h k = (refl, refl, h.1 ∙ sym k.1)
+joined_once p (Ask.Unit sid command answered) f f' a a' w w' q q' n m h k = command_once (is_running p && waits_for_idle command) p (Ask.Unit sid command answered) answered command f f' a a' w w' q q' n m h k
+joined_once p (Ask.Bus sid) f f' a a' w w' q q' n m h k = happening_once p Bus TriggerIgnored f f' a a' w w' q q' n m h k
+joined_once p (Ask.Snapshot sid) f f' a a' None None q q' n m h k = let r = snapshot_once p f f' a a' q q' n m h k in (r.0, refl, r.1)
+joined_once p (Ask.Start sid plan) f f' a a' w w' q q' n m h k = start_once p plan f f' a a' w w' q q' n m h k
+joined_once p ask f f' a a' w w' q q' n m h k = absurd (assumption (h, k))
+
+-- a stranger, or a joined session
+abbrev pub IsStrange : Panel → Sid → SessionAnswer → Option WorkView → Panel → Type 0
+IsStrange p sid a w q = (IsJoined p.sessions sid → ⊥) × (a ≡ Stranger) × (w ≡ None) × (q ≡ p)
+
+session_as : (p : Panel) (sid : Sid) (ask : SessionAsk) (f : Bool) (a : SessionAnswer) (w : Option WorkView) (q : Panel) → StepSession (Some sid) p ask f a w q → IsStrange p sid a w q ⊎ (IsJoined p.sessions sid × StepJoined p ask f a w q)
+session_as p sid ask f Stranger None q h = inl (h.1, refl, refl, h.2)
+session_as p sid ask f a w q h = inr h
+
+session_once : (o : Option Sid) (p : Panel) (ask : SessionAsk) (f f' : Bool) (a a' : SessionAnswer) (w w' : Option WorkView) (q q' : Panel) → IsPlain (SaysSession a None) → IsPlain (SaysSession a' None) → StepSession o p ask f a w q → StepSession o p ask f' a' w' q' → IsAlike a a' w w' q q'
+session_once None p ask f f' a a' w w' q q' n m h k = join_once p f f' a a' w w' q q' h k
+session_once (Some sid) p ask f f' a a' w w' q q' n m h k = elim (session_as p sid ask f a w q h) [
+  | inl x ↦ elim (session_as p sid ask f' a' w' q' k) [ inl y ↦ (x.1 ∙ sym y.1, x.2 ∙ sym y.2, both p q q' x.3 y.3) | inr y ↦ absurd (x.0 y.0) ]
+  | inr x ↦ elim (session_as p sid ask f' a' w' q' k) [ inl y ↦ absurd (y.0 x.0) | inr y ↦ joined_once p ask f f' a a' w w' q q' n m x.1 y.1 ]
+]
+
+-- ---- what is no session's
+
+outside_whole : (a : AnswerView) (told : TakenSeen) → IsPlain a → a ≡ outside_told told → told ≢ SaysFault
+outside_whole a told n e f =
+    let g : a ≡ SaysFailed = e ∙ ap (λ (x : TakenSeen). outside_told x) f in
+    subst (λ (x : AnswerView). IsPlain x) g n
+
+outside_once : (p : Panel) (happening : Happening) (f f' : Bool) (a a' : AnswerView) (q q' : Panel) → IsPlain a → IsPlain a' → StepOutside p happening f a q → StepOutside p happening f' a' q' → IsOnce a a' q q'
+outside_once p happening f f' a a' q q' n m h k =
+    let r = happens_once p q q' happening f f' h.told k.told h.happens k.happens (outside_whole a h.told n h.answer_is) (outside_whole a' k.told m k.answer_is) in
+    (h.answer_is ∙ ap (λ (x : TakenSeen). outside_told x) r.0 ∙ sym k.answer_is, r.1)
+
+abbrev pub IsBack : Panel → FinishedSeen → AnswerView → Panel → Type 0
+IsBack p done a q = (IsOut p done → ⊥) × (a ≡ SaysBack) × (q ≡ p)
+
+finished_as : (p : Panel) (done : FinishedSeen) (f : Bool) (a : AnswerView) (q : Panel) → StepFinished p done f a q → IsBack p done a q ⊎ IsReturned p done f a q
+finished_as p done f SaysBack q h = inl (h.1, refl, h.2)
+finished_as p done f a q h = inr h
+
+finished_once : (p : Panel) (done : FinishedSeen) (f f' : Bool) (a a' : AnswerView) (q q' : Panel) → IsPlain a → IsPlain a' → StepFinished p done f a q → StepFinished p done f' a' q' → IsOnce a a' q q'
+finished_once p done f f' a a' q q' n m h k = elim (finished_as p done f a q h) [
+  | inl x ↦ elim (finished_as p done f' a' q' k) [ inl y ↦ (x.1 ∙ sym y.1, both p q q' x.2 y.2) | inr y ↦ absurd (x.0 y.out) ]
+  | inr x ↦ elim (finished_as p done f' a' q' k) [
+    | inl y ↦ absurd (y.0 x.out)
+    | inr y ↦ (let r = returns_once p q q' done f f' x.told y.told x.returns y.returns (outside_whole a x.told n x.answer_is) (outside_whole a' y.told m y.answer_is) in (x.answer_is ∙ ap (λ (z : TakenSeen). outside_told z) r.0 ∙ sym y.answer_is, r.1))
+  ]
+]
 
 -- ---- cards
 
-some_none : (o : Option Account) → is_some o ≡ true → o ≡ None → ⊥
+some_none : {A : Type 0} (o : Option A) → is_some o ≡ true → o ≡ None → ⊥
 some_none None e f = absurd (cc (e))
 some_none (Some a) e f = absurd (cc (f))
 
@@ -240,44 +346,74 @@ bad_can rack slot card can bad = elim bad [
   ]
 ]
 
-install_apart : (rack : Rack) (slot : ℕ) (card : Account) (r : InstallRefusal) → CanInstall rack slot card → RefusesInstall rack slot card r → ⊥
-install_apart rack slot card Busy can bad = bad
-install_apart rack slot card Occupied can bad = some_none (slot_at rack slot) bad can.empty
-install_apart rack slot card BadLayout can bad = bad_can rack slot card can bad.1
+install_apart : (p : Panel) (slot : ℕ) (card : Account) (r : InstallRefusal) → is_running p ≡ false → slot_at p.cage.out slot ≡ None → CanInstall p.cage.rack slot card → RefusesInstall p.cage slot card r → ⊥
+install_apart p slot card Busy idle home can bad = true_false _ bad idle
+install_apart p slot card Occupied idle home can bad = elim bad.1 [ inl o ↦ some_none (slot_at p.cage.out slot) o home | inr o ↦ some_none (slot_at p.cage.rack slot) o can.empty ]
+install_apart p slot card BadLayout idle home can bad = bad_can p.cage.rack slot card can bad.3
 
-install_once : (rack : Rack) (slot : ℕ) (card : Account) (r r' : InstallRefusal) → RefusesInstall rack slot card r → RefusesInstall rack slot card r' → r ≡ r'
-install_once rack slot card Occupied Occupied h k = refl
-install_once rack slot card BadLayout BadLayout h k = refl
-install_once rack slot card Occupied BadLayout h k = absurd (some_none (slot_at rack slot) h k.0)
-install_once rack slot card BadLayout Occupied h k = absurd (some_none (slot_at rack slot) k h.0)
-install_once rack slot card r r' h k = absurd (assumption (h, k))
+taken_free : (p : Panel) (slot : ℕ) → slot_at p.cage.out slot ≡ None → slot_at p.cage.rack slot ≡ None → (is_some (slot_at p.cage.out slot) ≡ true) ⊎ (is_some (slot_at p.cage.rack slot) ≡ true) → ⊥
+taken_free p slot a b o = elim o [ inl x ↦ some_none (slot_at p.cage.out slot) x a | inr x ↦ some_none (slot_at p.cage.rack slot) x b ]
 
-eject_once : (rack : Rack) (slot : ℕ) (r r' : EjectRefusal) → RefusesEject rack slot r → RefusesEject rack slot r' → r ≡ r'
-eject_once rack slot Vacant Vacant h k = refl
-eject_once rack slot r r' h k = absurd (assumption (h, k))
+install_once : (p : Panel) (slot : ℕ) (card : Account) (r r' : InstallRefusal) → RefusesInstall p.cage slot card r → RefusesInstall p.cage slot card r' → r ≡ r'
+install_once p slot card Busy Busy h k = refl
+install_once p slot card Occupied Occupied h k = refl
+install_once p slot card BadLayout BadLayout h k = refl
+install_once p slot card Busy Occupied h k = absurd (true_false _ h k.0)
+install_once p slot card Occupied Busy h k = absurd (true_false _ k h.0)
+install_once p slot card Busy BadLayout h k = absurd (true_false _ h k.0)
+install_once p slot card BadLayout Busy h k = absurd (true_false _ k h.0)
+install_once p slot card Occupied BadLayout h k = absurd (taken_free p slot k.1 k.2 h.1)
+install_once p slot card BadLayout Occupied h k = absurd (taken_free p slot h.1 h.2 k.1)
+
+eject_once : (p : Panel) (slot : ℕ) (r r' : EjectRefusal) → RefusesEject p.cage slot r → RefusesEject p.cage slot r' → r ≡ r'
+eject_once p slot Vacant Vacant h k = refl
+eject_once p slot Out Out h k = refl
+eject_once p slot Vacant Out h k = absurd (some_none (slot_at p.cage.out slot) k h.0)
+eject_once p slot Out Vacant h k = absurd (some_none (slot_at p.cage.out slot) h k.0)
 
 rest_none : (rack : Rack) (slot : ℕ) (card : Account) → slot_at (all_open rack) slot ≡ Some card → slot_at rack slot ≡ None → ⊥
 rest_none rack slot card e f = let k : option_rest (slot_at rack slot) ≡ option_rest None = ap option_rest f in absurd (let g : None ≡ Some card = sym k ∙ sym (slot_rest rack slot) ∙ e in cc)
 
-eject_apart : (rack : Rack) (slot : ℕ) (card : Account) (r : EjectRefusal) → slot_at (all_open rack) slot ≡ Some card → RefusesEject rack slot r → ⊥
-eject_apart rack slot card Vacant e h = rest_none rack slot card e h
-eject_apart rack slot card Out e h = h
+eject_apart : (p : Panel) (slot : ℕ) (card : Account) (r : EjectRefusal) → slot_at p.cage.out slot ≡ None → slot_at (all_open p.cage.rack) slot ≡ Some card → RefusesEject p.cage slot r → ⊥
+eject_apart p slot card Vacant home e h = rest_none p.cage.rack slot card e h.1
+eject_apart p slot card Out home e h = some_none (slot_at p.cage.out slot) h home
 
 acts_once : (p q q' : Panel) (ask : AskView) (f f' : Bool) (a a' : AnswerView) → Acts p ask f a q → Acts p ask f' a' q' → IsPlain a → IsPlain a' → (a ≡ a') × (q ≡ q')
-acts_once p q q' (AskSession ask) f f' (SaysSession a) (SaysSession a') h k n m = let r = session_once p ask f f' a a' q q' n m h k in (ap SaysSession r.0, r.1)
-acts_once p q q' (AskInstall slot card) f f' SaysInstalled SaysInstalled h k n m = (refl, h.2 ∙ sym k.2)
-acts_once p q q' (AskInstall slot card) f f' SaysInstalled (SaysNotInstalled r) h k n m = absurd (install_apart p.cage.rack slot card r h.1 k.1)
-acts_once p q q' (AskInstall slot card) f f' (SaysNotInstalled r) SaysInstalled h k n m = absurd (install_apart p.cage.rack slot card r k.1 h.1)
-acts_once p q q' (AskInstall slot card) f f' (SaysNotInstalled r) (SaysNotInstalled r') h k n m = (ap SaysNotInstalled (install_once p.cage.rack slot card r r' h.1 k.1), both p q q' h.2 k.2)
+acts_once p q q' (AskSession ask) f f' (SaysSession a w) (SaysSession a' w') h k n m =
+    let r = session_once (asker_of ask) p ask f f' a a' w w' q q' (plain_any a w None n) (plain_any a' w' None m) h k in
+    (ap (λ (x : SessionAnswer). SaysSession x w) r.0 ∙ ap (λ (x : Option WorkView). SaysSession a' x) r.1, r.2)
+acts_once p q q' (AskInstall slot card) f f' SaysInstalled SaysInstalled h k n m = (refl, h.4 ∙ sym k.4)
+acts_once p q q' (AskInstall slot card) f f' SaysInstalled (SaysNotInstalled r) h k n m = absurd (install_apart p slot card r h.1 h.2 h.3 k.1)
+acts_once p q q' (AskInstall slot card) f f' (SaysNotInstalled r) SaysInstalled h k n m = absurd (install_apart p slot card r k.1 k.2 k.3 h.1)
+acts_once p q q' (AskInstall slot card) f f' (SaysNotInstalled r) (SaysNotInstalled r') h k n m = (ap SaysNotInstalled (install_once p slot card r r' h.1 k.1), both p q q' h.2 k.2)
 acts_once p q q' (AskEject slot) f f' (SaysEjected c) (SaysEjected c') h k n m =
-    let e : Some c ≡ Some c' = sym h.1 ∙ k.1 in
-    (let d : c ≡ c' = cc in ap SaysEjected d, h.2 ∙ sym k.2)
-acts_once p q q' (AskEject slot) f f' (SaysEjected c) (SaysNotEjected r) h k n m = absurd (eject_apart p.cage.rack slot c r h.1 k.1)
-acts_once p q q' (AskEject slot) f f' (SaysNotEjected r) (SaysEjected c) h k n m = absurd (eject_apart p.cage.rack slot c r k.1 h.1)
-acts_once p q q' (AskEject slot) f f' (SaysNotEjected r) (SaysNotEjected r') h k n m = (ap SaysNotEjected (eject_once p.cage.rack slot r r' h.1 k.1), both p q q' h.2 k.2)
+    let e : Some c ≡ Some c' = sym h.2 ∙ k.2 in
+    (let d : c ≡ c' = cc in ap SaysEjected d, h.3 ∙ sym k.3)
+acts_once p q q' (AskEject slot) f f' (SaysEjected c) (SaysNotEjected r) h k n m = absurd (eject_apart p slot c r h.1 h.2 k.1)
+acts_once p q q' (AskEject slot) f f' (SaysNotEjected r) (SaysEjected c) h k n m = absurd (eject_apart p slot c r k.1 k.2 h.1)
+acts_once p q q' (AskEject slot) f f' (SaysNotEjected r) (SaysNotEjected r') h k n m = (ap SaysNotEjected (eject_once p slot r r' h.1 k.1), both p q q' h.2 k.2)
+acts_once p q q' AskExternal f f' a a' h k n m = outside_once p External f f' a a' q q' n m h k
+acts_once p q q' (AskElapsed ticket) f f' a a' h k n m = outside_once p (Elapsed ticket) f f' a a' q q' n m h k
+acts_once p q q' (AskFinished done) f f' a a' h k n m = finished_once p done f f' a a' q q' n m h k
 acts_once p q q' ask f f' a a' h k n m = absurd (assumption (h, k))
 
+event_once : (p q q' : Panel) (ask : AskView) (f f' : Bool) (a a' : AnswerView) → IsEvent p ask f a q → IsEvent p ask f' a' q' → IsPlain a → IsPlain a' → (a ≡ a') × (q ≡ q')
+event_once p q q' ask f f' a a' h k n m =
+    let r = acts_once p h.done k.done ask f f' a a' h.acts k.acts n m in
+    (r.0, h.after ∙ ap (λ (x : Panel). concluded a x) r.1 ∙ ap (λ (b : AnswerView). concluded b k.done) r.0 ∙ sym k.after)
+
+worn_once : (ask : AskView) (a a' : AnswerView) → IsWorn ask a → IsWorn ask a' → a ≡ a'
+worn_once (AskSession ask) (SaysSession (Worn x) None) (SaysSession (Worn y) None) h k = ap (λ (z : SessionAsk). SaysSession (Worn z) None) (h ∙ sym k)
+worn_once (AskInstall slot card) SaysWorn SaysWorn h k = refl
+worn_once (AskEject slot) SaysWorn SaysWorn h k = refl
+worn_once AskExternal SaysWorn SaysWorn h k = refl
+worn_once (AskElapsed ticket) SaysWorn SaysWorn h k = refl
+worn_once (AskFinished done) SaysWorn SaysWorn h k = refl
+worn_once ask a a' h k = absurd (assumption (h, k))
+
+either_once : (b : Bool) (p q q' : Panel) (ask : AskView) (f f' : Bool) (a a' : AnswerView) → MatchBool b (IsUnnumbered p ask f a q) (IsEvent p ask f a q) → MatchBool b (IsUnnumbered p ask f' a' q') (IsEvent p ask f' a' q') → IsPlain a → IsPlain a' → (a ≡ a') × (q ≡ q')
+either_once true p q q' ask f f' a a' h k n m = (worn_once ask a a' h.worn k.worn, both p q q' h.same k.same)
+either_once false p q q' ask f f' a a' h k n m = event_once p q q' ask f f' a a' h k n m
+
 pub step_once : (p q q' : Panel) (ask : AskView) (f f' : Bool) (a a' : AnswerView) → Step p ask f a q → Step p ask f' a' q' → IsPlain a → IsPlain a' → (a ≡ a') × (q ≡ q')
-step_once p q q' ask f f' a a' (mid, acts, is) (mid', acts', is') n m =
-    let r = acts_once p mid mid' ask f f' a a' acts acts' n m in
-    (r.0, is ∙ ap (λ (x : Panel). let z : Panel = record x { status = ended a x.status } in z) r.1 ∙ ap (λ (b : AnswerView). let z : Panel = record mid' { status = ended b mid'.status } in z) r.0 ∙ sym is')
+step_once p q q' ask f f' a a' h k n m = either_once ((p.events == last_number) && not (acts_unnumbered ask)) p q q' ask f f' a a' h k n m

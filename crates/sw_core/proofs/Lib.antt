@@ -1,5 +1,13 @@
 mod Rows
-mod Safety
-mod Determined
 mod Calls
-mod Units
+mod Deeds
+mod Happened
+mod Numbered
+mod Same
+mod Going
+mod Determined
+mod Kept
+mod Safety
+mod Obeyed
+mod Course
+mod Nearing

@@ -1,10 +1,13 @@
 -- Rows of pieces, one more at a time.
-use Rattle.std.proofs.Common.{◌≡◌, ℕ, ◌+◌, ◌<◌, List, [], ◌∷◌, ◌++◌, length, map, take, Bool, true, false, refl, sym, ap, subst, ◌∙◌, arith, append_assoc}
+use Rattle.std.proofs.Common.{◌≡◌, ℕ, ◌<◌, List, [], ◌∷◌, ◌++◌, length, Bool, true, false, refl, sym, ap, pos, negsuc, suc, ◌/◌, ◌^◌, decimal, ◌∙◌, arith, append_assoc}
 use Rattle.std.specs.List.{join_with_byte, AllByRecursion}
-use Rattle.std.proofs.lemmas.List.{append-nil, length-append}
+use Rattle.std.proofs.lemmas.List.{length-append}
 use Rattle.std.specs.Fmt.{signed_decimal}
 use Rattle.sw_base.specs.Errors.{text_of, code_of}
 use Rattle.sw_base.specs.declared.error.ScpiError.{ScpiError}
+use Rattle.sw_base.specs.declared.reading.Reading.{Reading}
+use Rattle.sw_base.specs.declared.reading.Reading.TheVariants.{Volts, Overload}
+use Rattle.sw_base.specs.Reading.{fixed, last_digits, reading_text}
 use Rattle.sw_core.specs.Answers.{flag_of, entry_of, IsRow, IsOpen}
 
 some-push : (ps : List (List ℕ)) (p : List ℕ) → AllByRecursion (λ (q : List ℕ). 0 < length q) ps → 0 < length p → AllByRecursion (λ (q : List ℕ). 0 < length q) (ps ++ p ∷ [])
@@ -36,3 +39,11 @@ entry-some e = omega (arith, length-append (signed_decimal (code_of e)) (44 ∷ 
 pub flag-some : (b : Bool) → 0 < length (flag_of b)
 flag-some true = omega arith
 flag-some false = omega arith
+
+fixed_some : (n : ℕ) → 0 < length (fixed 9 n)
+fixed_some n = omega (arith, length-append (decimal (n / 10 ^ 9)) (46 ∷ last_digits 9 n))
+
+pub reading_some : (r : Reading) → 0 < length (reading_text r)
+reading_some (Volts (pos n)) = fixed_some n
+reading_some (Volts (negsuc n)) = omega (arith, fixed_some (suc n))
+reading_some Overload = omega arith

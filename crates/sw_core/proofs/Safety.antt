@@ -1,229 +1,105 @@
--- No step takes the cage from a safe state to another: by cases on the step, and then over every run.
-use Rattle.std.proofs.Common.{◌≡◌, ◌≢◌, ℕ, ◌-◌, ◌≤◌, ◌<◌, Bool, true, false, List, [], ◌∷◌, length, Option, None, Some, slice_set, refl, sym, ◌∙◌, ap, subst, arith, map, is_some}
-use Rattle.std.specs.Prelude.{if◌then◌else◌, decimal}
+-- No step takes the mainframe from a good state to another: by cases on the step, and then over every run.
+use Rattle.std.proofs.Common.{◌≡◌, ◌≢◌, ℕ, ◌-◌, ◌≤◌, ◌<◌, ◌==◌, ◌&&◌, not, Bool, true, false, List, [], ◌∷◌, length, Option, None, Some, slice_set, refl, sym, ◌∙◌, ap, subst, arith, is_some, zero, suc, nat_lt, slice_index_or}
+use Rattle.std.specs.Prelude.{if◌then◌else◌, decimal, MatchBool}
 use Rattle.std.specs.List.{AllByRecursion}
-use Rattle.std.proofs.lemmas.List.{length-map, length-set}
-use Rattle.sw_base.specs.Layout.{Channel, slot_at, IsExclusive}
+use Rattle.std.proofs.lemmas.List.{length-map}
+use Rattle.sw_base.specs.Layout.{Channel, slot_at}
+use Rattle.sw_base.specs.declared.reading.Reading.{Reading}
+use Rattle.sw_base.specs.declared.terms.LayerName.{LayerName}
+use Rattle.sw_base.specs.declared.terms.LayerName.TheVariants.{Arm1, Arm2, Trigger}
 use Rattle.sw_base.specs.declared.error.ScpiError.{ScpiError}
-use Rattle.sw_base.specs.declared.error.ScpiError.TheVariants.{UndefinedHeader, TriggerIgnored, DataOutOfRange, TooMuchData, HardwareMissing, SettingsConflict, HardwareError, OutOfMemory}
+use Rattle.sw_base.specs.declared.error.ScpiError.TheVariants.{UndefinedHeader, DataOutOfRange, TooMuchData, DataCorruptOrStale, HardwareMissing, SettingsConflict, HardwareError, OutOfMemory}
 use Rattle.sw_card.specs.Account.{Account, closed_at}
 use Rattle.sw_lex.specs.declared.command.Command.{Command}
-use Rattle.sw_lex.specs.declared.command.Command.TheVariants as Command
-use Rattle.sw_trigger.specs.Settings.{Setup}
-use Rattle.sw_status.specs.StatusModel.{StatusSeen, event_ended, pushed, queued}
+use Rattle.sw_trigger.specs.declared.layer.Layer.{Layer}
+use Rattle.sw_trigger.specs.Settings.{Setup, IsInRange, IsLayer, layer_of, with_layer, most_of, at_reset}
+use Rattle.sw_verify.specs.declared.snapshot.Snapshot.{Snapshot}
+use Rattle.sw_status.specs.StatusModel.{StatusSeen}
 use Rattle.sw_cage.specs.Rack.{Rack, layout_of, is_closed, option_closed, all_open, option_rest}
-use Rattle.sw_cage.specs.Change.{Sets, is_in, option_plate}
+use Rattle.sw_cage.specs.Change.{Sets}
 use Rattle.sw_cage.specs.Close.{CanClose}
-use Rattle.sw_cage.proofs.Racks.{some_slot, all_open_closed, exclusive_none, exclusive_quiet, none_slot}
-use Rattle.sw_cage.proofs.Laws.{exclusive_closing, exclusive_opening, sets_length}
+use Rattle.sw_cage.specs.Cage.{CageSeen, Scanning, fall}
+use Rattle.sw_cage.specs.Good.{IsRunning}
+use Rattle.sw_cage.specs.Install.{CanInstall, stopped, without_card}
+use Rattle.sw_cage.specs.Goes.{with_back}
+use Rattle.sw_cage.specs.Work.{FinishedSeen}
+use Rattle.sw_cage.specs.TakenSeen.{TakenSeen, SaysIgnored, SaysWaits, SaysPause, SaysJob, SaysEnded, SaysFault}
+use Rattle.sw_cage.specs.declared.taken.Happening.{Happening}
+use Rattle.sw_cage.specs.declared.taken.Happening.TheVariants.{Bus, External, Elapsed}
+use Rattle.sw_cage.proofs.Racks.{some_slot, is_none, all_open_closed, exclusive_none, exclusive_quiet, none_slot}
+use Rattle.sw_cage.proofs.Changes.{plates_all_open, plates_rest}
+use Rattle.sw_cage.proofs.Held.{held_set}
+use Rattle.sw_cage.proofs.Laws.{exclusive_closing, exclusive_opening}
 use Rattle.sw_core.specs.declared.ask.Sid.{Sid}
 use Rattle.sw_core.specs.declared.ask.SessionAsk.{SessionAsk}
 use Rattle.sw_core.specs.declared.ask.SessionAsk.TheVariants as Ask
 use Rattle.sw_core.specs.declared.ask.SessionAnswer.{SessionAnswer}
+use Rattle.sw_core.specs.declared.ask.SessionAnswer.TheVariants as answers
 use Rattle.sw_core.specs.declared.ask.SessionAnswer.TheVariants.{Joined, Full, Stranger, Broken, Done, Refused, Hold, Worn}
-use Rattle.sw_core.specs.Panel.{Panel, opening, with_rack, IsSafe}
-use Rattle.sw_core.specs.Registers.{number_told, status_set, alarmed}
-use Rattle.sw_core.specs.View.{AskView, AskSession, AskInstall, AskEject, AnswerView, SaysSession, SaysInstalled, SaysNotInstalled, SaysEjected, SaysNotEjected}
-use Rattle.sw_core.specs.Step.{IsFallen, Falls, MayClose, StepClose, StepOpen, StepFlags, StepText, StepDone, StepSetting, StepRefused, Deed, Tells, Takes, SetsUp, Rests, Refuses, Closes, Opens, Flags, deed_of, StepDeed, StepSet, StepNumber, StepUnit, StepSession, Acts, ended, Step}
-use Rattle.sw_core.specs.Run.{Event, IsRun, IsAlarmed}
+use Rattle.sw_core.specs.Panel.{Panel, opening_at, with_rack, is_running}
+use Rattle.sw_core.specs.Registers.{number_told, status_set, is_for_idle, waits_for_idle}
+use Rattle.sw_core.specs.Event.{concluded, session_concluded, last_number}
+use Rattle.sw_core.specs.View.{WorkView, AskView, AskSession, AskInstall, AskEject, AskExternal, AskElapsed, AskFinished, AnswerView, SaysSession, SaysInstalled, SaysNotInstalled, SaysEjected, SaysNotEjected, SaysTaken, SaysMissed, SaysFailed, SaysBack, SaysWorn}
+use Rattle.sw_core.specs.Step.{Falls, StepClose, StepOpen, StepFlags, StepText, StepDone, StepSetting, StepRefused, Deed, Tells, SetsUp, Leaves, Refuses, Closes, Opens, Flags, fetched, switched, deed_of, StepDeed, StepFree, StepSet, StepNumber}
+use Rattle.sw_core.specs.Step.{Happens, happening_of, StepOffer, MayScan, StepSnapshot, Starts, StepStart, StepCommand, StepJoin, StepJoined, asker_of, StepSession, StepOutside, IsOut, Returns, StepFinished, Acts, acts_unnumbered, IsEvent, IsUnnumbered, Step}
+use Rattle.sw_core.specs.Run.{Event, IsRun, IsGoodPanel}
+use Rattle.std.specs.Prelude.{replicate}
+use Rattle.sw_cage.specs.declared.job.Ticket.{Ticket}
+use Rattle.sw_core.proofs.Kept.{IsKept, OptionFew, few_set, kept_rack, kept_over, kept_past, kept_late, kept_counted, kept_begun}
 
--- what stays safe, and has eight slots
-pub record IsKept (rack : Rack) : Type 0 where
-  pub size : length rack ≡ 8
-  pub safe : IsExclusive (layout_of rack) (is_closed rack)
+-- what stays so of the mainframe
+pub record IsFine (p : Panel) : Type 0 where
+  pub cage : IsKept p.cage
+  pub range : IsInRange p.settings
 
-closing_kept : (old new : Rack) (chans : List Channel) → IsKept old → CanClose (layout_of old) (is_closed old) chans → Sets old chans true new → IsKept new
-closing_kept old new chans kept may s = record { size = sets_length old new chans true s ∙ kept.size; safe = exclusive_closing old new chans kept.safe may s }
+fine_as : (p q : Panel) → q.cage ≡ p.cage → q.settings ≡ p.settings → IsFine p → IsFine q
+fine_as p q c s k = record { cage = subst (λ (x : CageSeen). IsKept x) (sym c) k.cage; range = subst (λ (x : Setup). IsInRange x) (sym s) k.range }
 
-opening_kept : (old new : Rack) (chans : List Channel) → IsKept old → Sets old chans false new → IsKept new
-opening_kept old new chans kept s = record { size = sets_length old new chans false s ∙ kept.size; safe = exclusive_opening old new chans kept.safe s }
+fine_is : (p q : Panel) → q ≡ p → IsFine p → IsFine q
+fine_is p q e k = subst (λ (x : Panel). IsFine x) (sym e) k
 
-fallen_kept : (old new : Rack) → IsKept old → IsFallen old new → IsKept new
-fallen_kept old new kept f = record {
-  size = sym (length-map new option_plate) ∙ ap (λ (l : List (Option Account)). length l) f.cards ∙ length-map old option_plate ∙ kept.size;
-  safe = exclusive_none (layout_of new) (is_closed new) f.none;
+pub none_of : (p : Panel) → is_running p ≡ false → p.cage.scan ≡ None
+none_of p e = is_none p.cage.scan e
+
+-- ---- settings
+
+layer_range : (s : Setup) (l : LayerName) → IsInRange s → IsLayer (most_of l) (layer_of s l)
+layer_range s Arm1 r = r.arm1
+layer_range s Arm2 r = r.arm2
+layer_range s Trigger r = r.trigger
+
+range_layer : (s : Setup) (l : LayerName) (layer : Layer) → IsInRange s → IsLayer (most_of l) layer → IsInRange (with_layer s l layer)
+range_layer s Arm1 layer r h = record { arm1 = h; arm2 = r.arm2; trigger = r.trigger; list = r.list; meter = r.meter; points = r.points }
+range_layer s Arm2 layer r h = record { arm1 = r.arm1; arm2 = h; trigger = r.trigger; list = r.list; meter = r.meter; points = r.points }
+range_layer s Trigger layer r h = record { arm1 = r.arm1; arm2 = r.arm2; trigger = h; list = r.list; meter = r.meter; points = r.points }
+
+reset_range : IsInRange at_reset
+reset_range = record {
+  arm1 = record { count = (omega arith, omega arith); delay = omega arith };
+  arm2 = record { count = (omega arith, omega arith); delay = omega arith };
+  trigger = record { count = (omega arith, omega arith); delay = omega arith };
+  list = omega arith;
+  meter = (omega arith, omega arith);
+  points = (omega arith, omega arith);
 }
 
-rested_kept : (old : Rack) → IsKept old → IsKept (all_open old)
-rested_kept old kept = record { size = length-map old option_rest ∙ kept.size; safe = exclusive_none (layout_of (all_open old)) (is_closed (all_open old)) (all_open_closed old) }
+-- ---- the cage while no scan runs
 
--- the cage as it was
-same_kept : (p q : Panel) → q.cage.rack ≡ p.cage.rack → IsKept p.cage.rack → IsKept q.cage.rack
-same_kept p q e k = subst (λ (r : Rack). IsKept r) (sym e) k
+fallen_all : (c : CageSeen) → IsKept c → IsKept (fall c)
+fallen_all c k = kept_over c (all_open c.rack) k (plates_all_open c.rack) (all_open_closed c.rack)
 
-rack_of : (q r : Panel) → q ≡ r → q.cage.rack ≡ r.cage.rack
-rack_of q r e = ap (λ (x : Panel). x.cage.rack) e
-
--- ---- the cage in each row
-
-close_kept : (p : Panel) (chans : List Channel) (f : Bool) (answer : SessionAnswer) (q : Panel) → IsKept p.cage.rack → StepClose p chans f answer q → IsKept q.cage.rack
-close_kept p chans f (Done None) q k h = closing_kept p.cage.rack q.cage.rack chans k h.1 h.2
-close_kept p chans f (Refused HardwareMissing) q k h = same_kept p q (rack_of q p h.2) k
-close_kept p chans f (Refused SettingsConflict) q k h = same_kept p q (rack_of q p h.2) k
-close_kept p chans f (Refused HardwareError) q k h = fallen_kept p.cage.rack q.cage.rack k h.2.0
-close_kept p chans f answer q k h = absurd h
-
-open_kept : (p : Panel) (chans : List Channel) (f : Bool) (answer : SessionAnswer) (q : Panel) → IsKept p.cage.rack → StepOpen p chans f answer q → IsKept q.cage.rack
-open_kept p chans f (Done None) q k h = opening_kept p.cage.rack q.cage.rack chans k h.2
-open_kept p chans f (Refused HardwareMissing) q k h = same_kept p q (rack_of q p h.2) k
-open_kept p chans f (Refused HardwareError) q k h = fallen_kept p.cage.rack q.cage.rack k h.2.0
-open_kept p chans f answer q k h = absurd h
-
-flags_same : (p : Panel) (closed : Bool) (chans : List Channel) (f : Bool) (answer : SessionAnswer) (q : Panel) → StepFlags p closed chans f answer q → q.cage.rack ≡ p.cage.rack
-flags_same p closed chans f (Done (Some text)) q h = rack_of q p h.3
-flags_same p closed chans f (Refused HardwareMissing) q h = rack_of q p h.2
-flags_same p closed chans f (Refused OutOfMemory) q h = rack_of q p h.2
-flags_same p closed chans f answer q h = absurd h
-
-text_same : (p : Panel) (text : List ℕ) (status : StatusSeen) (f : Bool) (answer : SessionAnswer) (q : Panel) → StepText p text status f answer q → q.cage.rack ≡ p.cage.rack
-text_same p text status f (Done (Some t)) q h = rack_of q (record p { status = status }) h.2
-text_same p text status f (Refused OutOfMemory) q h = rack_of q p h.1
-text_same p text status f answer q h = absurd h
-
-done_rack : (after : Panel) (f : Bool) (answer : SessionAnswer) (q : Panel) → StepDone after f answer q → q.cage.rack ≡ after.cage.rack
-done_rack after f (Done None) q h = rack_of q after h.1
-done_rack after f answer q h = absurd h
-
-setting_same : (p : Panel) (Fits : Type 0) (error : ScpiError) (setup : Setup) (f : Bool) (answer : SessionAnswer) (q : Panel) → StepSetting p Fits error setup f answer q → q.cage.rack ≡ p.cage.rack
-setting_same p Fits error setup f (Done None) q h = rack_of q (record p { settings = setup }) h.2
-setting_same p Fits error setup f (Refused e) q h = rack_of q p h.3
-setting_same p Fits error setup f answer q h = absurd h
-
-refused_same : (p : Panel) (error : ScpiError) (f : Bool) (answer : SessionAnswer) (q : Panel) → StepRefused p error f answer q → q.cage.rack ≡ p.cage.rack
-refused_same p error f (Refused e) q h = rack_of q p h.2
-refused_same p error f answer q h = absurd h
-
-deed_kept : (d : Deed) (p : Panel) (f : Bool) (a : SessionAnswer) (q : Panel) → IsKept p.cage.rack → StepDeed d p f a q → IsKept q.cage.rack
-deed_kept (Tells text status) p f a q k h = same_kept p q (text_same p text status f a q h) k
-deed_kept (Takes Fits error setup) p f a q k h = same_kept p q (setting_same p Fits error setup f a q h) k
-deed_kept (SetsUp setup) p f a q k h = same_kept p q (done_rack (record p { settings = setup }) f a q h) k
-deed_kept (Rests status setup) p f a q k h = subst (λ (r : Rack). IsKept r) (sym (done_rack (record (with_rack p (all_open p.cage.rack)) { status = status; settings = setup }) f a q h)) (rested_kept p.cage.rack k)
-deed_kept (Refuses error) p f a q k h = same_kept p q (refused_same p error f a q h) k
-deed_kept (Closes chans) p f a q k h = close_kept p chans f a q k h
-deed_kept (Opens chans) p f a q k h = open_kept p chans f a q k h
-deed_kept (Flags closed chans) p f a q k h = same_kept p q (flags_same p closed chans f a q h) k
-
-set_kept : (o : Option StatusSeen) (p : Panel) (command : Command) (f : Bool) (a : SessionAnswer) (q : Panel) → IsKept p.cage.rack → StepSet o p command f a q → IsKept q.cage.rack
-set_kept (Some status) p command f a q k h = same_kept p q (done_rack (record p { status = status }) f a q h) k
-set_kept None p command f a q k h = deed_kept (deed_of p command) p f a q k h
-
-number_kept : (o : Option ℕ) (p : Panel) (command : Command) (f : Bool) (a : SessionAnswer) (q : Panel) → IsKept p.cage.rack → StepNumber o p command f a q → IsKept q.cage.rack
-number_kept (Some n) p command f a q k h = same_kept p q (text_same p (decimal n) p.status f a q h) k
-number_kept None p command f a q k h = set_kept (status_set p.status command) p command f a q k h
-
-session_kept : (p : Panel) (ask : SessionAsk) (f : Bool) (answer : SessionAnswer) (q : Panel) → IsKept p.cage.rack → StepSession p ask f answer q → IsKept q.cage.rack
-session_kept p Ask.Join f (Joined sid) q k h = subst (λ (r : Panel). IsKept r.cage.rack) (sym h.3) k
-session_kept p Ask.Join f Full q k h = same_kept p q (rack_of q p h.2) k
-session_kept p (Ask.Leave sid) f (Done None) q k h = subst (λ (r : Panel). IsKept r.cage.rack) (sym h.2) k
-session_kept p (Ask.Leave sid) f Stranger q k h = same_kept p q (rack_of q p h.2) k
-session_kept p (Ask.Fault sid e) f (Done None) q k h = subst (λ (r : Panel). IsKept r.cage.rack) (sym h.2) k
-session_kept p (Ask.Fault sid e) f Stranger q k h = same_kept p q (rack_of q p h.2) k
-session_kept p (Ask.Unit sid command answered) f Stranger q k h = same_kept p q (rack_of q p h.2) k
-session_kept p (Ask.Unit sid command answered) f answer q k h = number_kept (number_told p answered command) p command f answer q k h.1
-session_kept p ask f answer q k h = absurd h
-
-slot_kept : (rack : Rack) (s : ℕ) (v : Option Account) → 0 < s → s ≤ length rack → ((k : ℕ) → option_closed v k ≡ false) → IsKept rack → IsKept (slice_set rack (s - 1) v)
-slot_kept rack s v p h quiet kept = record {
-  size = length-set rack (s - 1) v ∙ kept.size;
-  safe = exclusive_quiet rack s v p h quiet kept.safe;
+-- readings don't matter where no scan runs
+dropped : (c : CageSeen) → IsKept c → c.scan ≡ None → IsKept (record c { readings = [] })
+dropped c k e = record {
+  good = record {
+    held = record { slots = k.good.held.slots; outs = k.good.held.outs; empty = k.good.held.empty; past = k.good.held.past };
+    running = subst (λ (o : Option Scanning). IsRunning (record c { readings = [] }) o) (sym e) tt;
+  };
+  safe = k.safe;
+  few = k.few;
 }
 
-rest_closed : (rack : Rack) (slot : ℕ) (card : Account) → slot_at (all_open rack) slot ≡ Some card → (k : ℕ) → closed_at card.closed k ≡ false
-rest_closed rack slot card e k = ap (λ o. option_closed o k) (sym e) ∙ all_open_closed rack (slot, k)
-
-rest_slot : (rack : Rack) (slot : ℕ) (card : Account) → slot_at (all_open rack) slot ≡ Some card → (0 < slot) × (slot ≤ length rack)
-rest_slot rack slot card e =
-    let r : (0 < slot) × (slot ≤ length (all_open rack)) = some_slot (all_open rack) slot (ap (λ o. is_some o) e) in
-    (r.0, subst (λ n. slot ≤ n) (length-map rack option_rest) r.1)
-
-acts_kept : (p : Panel) (ask : AskView) (f : Bool) (answer : AnswerView) (q : Panel) → IsKept p.cage.rack → Acts p ask f answer q → IsKept q.cage.rack
-acts_kept p (AskSession ask) f (SaysSession answer) q k h = session_kept p ask f answer q k h
-acts_kept p (AskInstall slot card) f SaysInstalled q k h =
-    subst (λ (r : Panel). IsKept r.cage.rack) (sym h.2) (slot_kept p.cage.rack slot (Some card) (omega (arith, h.1.first)) (omega (arith, h.1.last, k.size)) h.1.«open» k)
-acts_kept p (AskInstall slot card) f (SaysNotInstalled refusal) q k h = same_kept p q (rack_of q p h.2) k
-acts_kept p (AskEject slot) f (SaysEjected card) q k h =
-    let r : (0 < slot) × (slot ≤ length p.cage.rack) = rest_slot p.cage.rack slot card h.1 in
-    subst (λ (r : Panel). IsKept r.cage.rack) (sym h.2) (slot_kept p.cage.rack slot None r.0 r.1 (λ n. refl) k)
-acts_kept p (AskEject slot) f (SaysNotEjected refusal) q k h = same_kept p q (rack_of q p h.2) k
-acts_kept p ask f answer q k h = absurd h
-
-step_kept : (p : Panel) (ask : AskView) (f : Bool) (answer : AnswerView) (q : Panel) → IsKept p.cage.rack → Step p ask f answer q → IsKept q.cage.rack
-step_kept p ask f answer q k (done, acts, is) = subst (λ (r : Panel). IsKept r.cage.rack) (sym is) (acts_kept p ask f answer done k acts)
-
-opening_kept_at : IsKept opening.cage.rack
-opening_kept_at = record { size = refl; safe = exclusive_none (layout_of opening.cage.rack) (is_closed opening.cage.rack) (λ c. ap (λ o. option_closed o c.1) (none_slot 8 c.0)) }
-
-run_kept : (p : Panel) (es : List Event) → IsKept p.cage.rack → IsRun p es → AllByRecursion (λ e. IsSafe e.panel) es
-run_kept p [] k h = tt
-run_kept p (e ∷ es) k h = let t : IsKept e.panel.cage.rack = step_kept p e.ask e.failed e.answer e.panel k h.0 in (t.safe, run_kept e.panel es t h.1)
-
-pub every_run : (es : List Event) → IsRun opening es → AllByRecursion (λ e. IsSafe e.panel) es
-every_run es h = run_kept opening es opening_kept_at h
-
--- ---- in the words of who sends the commands
-
-pub closes : (p q : Panel) (sid : Sid) (chans : List Channel) (answered failed : Bool) → Step p (AskSession (Ask.Unit sid (Command.Close chans) answered)) failed (SaysSession (Done None)) q → (c : Channel) → is_in chans c ≡ true → is_closed q.cage.rack c ≡ true
-closes p q sid chans answered failed (done, acts, is) c i =
-    ap (λ (r : Rack). is_closed r c) (rack_of q _ is) ∙ acts.1.2.closed c ∙ ap (λ (b : Bool). if b then true else is_closed p.cage.rack c) i
-
-pub opens : (p q : Panel) (sid : Sid) (chans : List Channel) (answered failed : Bool) → Step p (AskSession (Ask.Unit sid (Command.Open chans) answered)) failed (SaysSession (Done None)) q → (c : Channel) → is_in chans c ≡ true → is_closed q.cage.rack c ≡ false
-opens p q sid chans answered failed (done, acts, is) c i =
-    ap (λ (r : Rack). is_closed r c) (rack_of q _ is) ∙ acts.1.2.closed c ∙ ap (λ (b : Bool). if b then false else is_closed p.cage.rack c) i
-
-close_refused : (p : Panel) (chans : List Channel) (f : Bool) (e : ScpiError) (q : Panel) → e ≢ HardwareError → StepClose p chans f (Refused e) q → q ≡ p
-close_refused p chans f HardwareMissing q n h = h.2
-close_refused p chans f SettingsConflict q n h = h.2
-close_refused p chans f HardwareError q n h = absurd (n refl)
-close_refused p chans f e q n h = absurd h
-
-open_refused : (p : Panel) (chans : List Channel) (f : Bool) (e : ScpiError) (q : Panel) → e ≢ HardwareError → StepOpen p chans f (Refused e) q → q ≡ p
-open_refused p chans f HardwareMissing q n h = h.2
-open_refused p chans f HardwareError q n h = absurd (n refl)
-open_refused p chans f e q n h = absurd h
-
-flags_refused : (p : Panel) (closed : Bool) (chans : List Channel) (f : Bool) (e : ScpiError) (q : Panel) → StepFlags p closed chans f (Refused e) q → q ≡ p
-flags_refused p closed chans f HardwareMissing q h = h.2
-flags_refused p closed chans f OutOfMemory q h = h.2
-flags_refused p closed chans f e q h = absurd h
-
-text_refused : (p : Panel) (text : List ℕ) (status : StatusSeen) (f : Bool) (e : ScpiError) (q : Panel) → StepText p text status f (Refused e) q → q ≡ p
-text_refused p text status f OutOfMemory q h = h.1
-text_refused p text status f e q h = absurd h
-
-deed_refused : (d : Deed) (p : Panel) (f : Bool) (e : ScpiError) (q : Panel) → e ≢ HardwareError → StepDeed d p f (Refused e) q → q ≡ p
-deed_refused (Tells text status) p f e q n h = text_refused p text status f e q h
-deed_refused (Takes Fits error setup) p f e q n h = h.3
-deed_refused (SetsUp setup) p f e q n h = absurd h
-deed_refused (Rests status setup) p f e q n h = absurd h
-deed_refused (Refuses error) p f e q n h = h.2
-deed_refused (Closes chans) p f e q n h = close_refused p chans f e q n h
-deed_refused (Opens chans) p f e q n h = open_refused p chans f e q n h
-deed_refused (Flags closed chans) p f e q n h = flags_refused p closed chans f e q h
-
-set_refused : (o : Option StatusSeen) (p : Panel) (command : Command) (f : Bool) (e : ScpiError) (q : Panel) → e ≢ HardwareError → StepSet o p command f (Refused e) q → q ≡ p
-set_refused (Some status) p command f e q n h = absurd h
-set_refused None p command f e q n h = deed_refused (deed_of p command) p f e q n h
-
-number_refused : (o : Option ℕ) (p : Panel) (command : Command) (f : Bool) (e : ScpiError) (q : Panel) → e ≢ HardwareError → StepNumber o p command f (Refused e) q → q ≡ p
-number_refused (Some m) p command f e q n h = text_refused p (decimal m) p.status f e q h
-number_refused None p command f e q n h = set_refused (status_set p.status command) p command f e q n h
-
-refused_acts : (p q : Panel) (ask : AskView) (failed : Bool) (e : ScpiError) → e ≢ HardwareError → Acts p ask failed (SaysSession (Refused e)) q → q ≡ p
-refused_acts p q (AskSession (Ask.Unit sid command answered)) failed e n h = number_refused (number_told p answered command) p command failed e q n h.1
-refused_acts p q (AskSession ask) failed e n h = absurd h
-refused_acts p q ask failed e n h = absurd h
-
-pub refused : (p q : Panel) (ask : AskView) (failed : Bool) (e : ScpiError) → e ≢ HardwareError → Step p ask failed (SaysSession (Refused e)) q → q ≡ record p { status = event_ended (pushed p.status e) }
-refused p q ask failed e n (done, acts, is) =
-    is ∙ ap (λ (x : Panel). let r : Panel = record x { status = event_ended (pushed x.status e) } in r) (refused_acts p done ask failed e n acts)
-
--- ---- after a card's failure
-
--- no deed is refused by that error of itself
-abbrev pub IsHarmless : Deed → Type 0
-IsHarmless (Takes Fits error setup) = error ≢ HardwareError
-IsHarmless (Refuses error) = error ≢ HardwareError
-IsHarmless d = Unit {0}
+-- ---- deeds
 
 out_of_range : DataOutOfRange ≢ HardwareError
 out_of_range e = absurd (cc (e))
@@ -231,69 +107,333 @@ out_of_range e = absurd (cc (e))
 too_much : TooMuchData ≢ HardwareError
 too_much e = absurd (cc (e))
 
-ignored : TriggerIgnored ≢ HardwareError
-ignored e = absurd (cc (e))
+stale : DataCorruptOrStale ≢ HardwareError
+stale e = absurd (cc (e))
+
+conflict : SettingsConflict ≢ HardwareError
+conflict e = absurd (cc (e))
 
 undefined : UndefinedHeader ≢ HardwareError
 undefined e = absurd (cc (e))
 
-harmless : (p : Panel) (command : Command) → IsHarmless (deed_of p command)
-harmless p Command.Identify = tt
-harmless p Command.VersionQuery = tt
-harmless p Command.CloseState = tt
-harmless p Command.ScanQuery = tt
-harmless p (Command.SourceQuery layer) = tt
-harmless p (Command.DelayQuery layer) = tt
-harmless p Command.EventQuery = tt
-harmless p (Command.GroupEventQuery group) = tt
-harmless p Command.NextErrorQuery = tt
-harmless p Command.AllErrorsQuery = tt
-harmless p (Command.Count layer n) = out_of_range
-harmless p (Command.SetSource layer source) = tt
-harmless p (Command.Delay layer micros) = out_of_range
-harmless p (Command.Scan chans) = too_much
-harmless p (Command.ScanMeter slot) = out_of_range
-harmless p (Command.Points n) = out_of_range
-harmless p (Command.Close chans) = tt
-harmless p (Command.CloseQuery chans) = tt
-harmless p (Command.Open chans) = tt
-harmless p (Command.OpenQuery chans) = tt
-harmless p Command.OpenAll = tt
-harmless p Command.Reset = tt
-harmless p Command.Trigger = ignored
-harmless p command = undefined
+-- a deed that leaves the mainframe fine, and is refused by no card's failure of its own
+abbrev pub IsHarmless : Panel → Deed → Type 0
+IsHarmless p (Tells text status) = Unit {0}
+IsHarmless p (SetsUp Fits error setup) = (Fits → IsInRange p.settings → IsInRange setup) × (error ≢ HardwareError)
+IsHarmless p (Leaves after) = IsFine p → IsKept after.cage × IsInRange after.settings
+IsHarmless p (Refuses error) = error ≢ HardwareError
+IsHarmless p (Closes chans) = is_running p ≡ false
+IsHarmless p (Opens chans) = is_running p ≡ false
+IsHarmless p (Flags closed chans) = Unit {0}
 
-deed_failed : (d : Deed) (p : Panel) (f : Bool) (q : Panel) → IsHarmless d → StepDeed d p f (Refused HardwareError) q → Falls p q
-deed_failed (Tells text status) p f q n h = absurd h
-deed_failed (Takes Fits error setup) p f q n h = absurd (n (sym h.2))
-deed_failed (SetsUp setup) p f q n h = absurd h
-deed_failed (Rests status setup) p f q n h = absurd h
-deed_failed (Refuses error) p f q n h = absurd (n (sym h.1))
-deed_failed (Closes chans) p f q n h = h.2
-deed_failed (Opens chans) p f q n h = h.2
-deed_failed (Flags closed chans) p f q n h = absurd h
+pub idle_of : (p : Panel) → (is_running p && true) ≡ false → is_running p ≡ false
+idle_of p e = and_true (is_running p) e
+  where
+    and_true : (b : Bool) → (b && true) ≡ false → b ≡ false
+    and_true true e = e
+    and_true false e = refl
 
-set_failed : (o : Option StatusSeen) (p : Panel) (command : Command) (f : Bool) (q : Panel) → StepSet o p command f (Refused HardwareError) q → Falls p q
-set_failed (Some status) p command f q h = absurd h
-set_failed None p command f q h = deed_failed (deed_of p command) p f q (harmless p command) h
+harmless_fetched : (readings : List Reading) (status : StatusSeen) (p : Panel) → IsHarmless p (fetched readings status)
+harmless_fetched [] status p = stale
+harmless_fetched (r ∷ readings) status p = tt
 
-number_failed : (o : Option ℕ) (p : Panel) (command : Command) (f : Bool) (q : Panel) → StepNumber o p command f (Refused HardwareError) q → Falls p q
-number_failed (Some m) p command f q h = absurd h
-number_failed None p command f q h = set_failed (status_set p.status command) p command f q h
+harmless_switched : (on : Bool) (p : Panel) → IsHarmless p (switched on p)
+harmless_switched true p = conflict
+harmless_switched false p = λ k. (k.cage, k.range)
 
-failed_acts : (p q : Panel) (ask : AskView) (failed : Bool) → Acts p ask failed (SaysSession (Refused HardwareError)) q → Falls p q
-failed_acts p q (AskSession (Ask.Unit sid command answered)) f h = number_failed (number_told p answered command) p command f q h.1
-failed_acts p q (AskSession ask) f h = absurd h
-failed_acts p q ask f h = absurd h
+pub harmless : (p : Panel) (command : Command) → (is_running p && is_for_idle command) ≡ false → IsHarmless p (deed_of p command)
+harmless p Command.Identify b = tt
+harmless p Command.VersionQuery b = tt
+harmless p Command.CloseState b = tt
+harmless p Command.ScanQuery b = tt
+harmless p (Command.SourceQuery layer) b = tt
+harmless p (Command.DelayQuery layer) b = tt
+harmless p Command.EventQuery b = tt
+harmless p (Command.GroupEventQuery group) b = tt
+harmless p Command.NextErrorQuery b = tt
+harmless p Command.AllErrorsQuery b = tt
+harmless p Command.Fetch b = harmless_fetched p.cage.readings p.status p
+harmless p (Command.Count layer n) b = (λ fits r. range_layer p.settings layer _ r (record { count = fits; delay = (layer_range p.settings layer r).delay }), out_of_range)
+harmless p (Command.SetSource layer source) b = λ k. (k.cage, range_layer p.settings layer _ k.range (record { count = (layer_range p.settings layer k.range).count; delay = (layer_range p.settings layer k.range).delay }))
+harmless p (Command.Delay layer micros) b = (λ fits r. range_layer p.settings layer _ r (record { count = (layer_range p.settings layer r).count; delay = fits }), out_of_range)
+harmless p (Command.Scan chans) b = (λ fits r. record { arm1 = r.arm1; arm2 = r.arm2; trigger = r.trigger; list = fits; meter = r.meter; points = r.points }, too_much)
+harmless p (Command.ScanMeter slot) b = (λ fits r. record { arm1 = r.arm1; arm2 = r.arm2; trigger = r.trigger; list = r.list; meter = fits; points = r.points }, out_of_range)
+harmless p (Command.Points n) b = (λ fits r. record { arm1 = r.arm1; arm2 = r.arm2; trigger = r.trigger; list = r.list; meter = r.meter; points = fits }, out_of_range)
+harmless p (Command.Close chans) b = idle_of p b
+harmless p (Command.CloseQuery chans) b = tt
+harmless p (Command.Open chans) b = idle_of p b
+harmless p (Command.OpenQuery chans) b = tt
+harmless p Command.OpenAll b = λ k. (kept_rack p.cage (all_open p.cage.rack) k.cage (none_of p (idle_of p b)) (plates_all_open p.cage.rack) (exclusive_none _ _ (all_open_closed p.cage.rack)), k.range)
+harmless p Command.Abort b = λ k. (fallen_all p.cage k.cage, k.range)
+harmless p Command.Reset b = λ k. (dropped (fall p.cage) (fallen_all p.cage k.cage) refl, reset_range)
+harmless p Command.ClearStatus b = λ k. (k.cage, k.range)
+harmless p Command.OperationComplete b = λ k. (k.cage, k.range)
+harmless p Command.Wait b = λ k. (k.cage, k.range)
+harmless p (Command.InitiateContinuous on) b = harmless_switched on p
+harmless p command b = undefined
 
-pub failed : (p q : Panel) (ask : AskView) (failed : Bool) → Step p ask failed (SaysSession (Refused HardwareError)) q → IsAlarmed p q
-failed p q ask f (done, acts, is) =
-    let fall : Falls p done = failed_acts p done ask f acts in
-    record {
-      none = λ c. ap (λ (r : Rack). is_closed r c) (rack_of q _ is) ∙ fall.0.none c;
-      told = ap (λ (x : Panel). x.status.errors) is ∙ ap (λ (x : Panel). queued x.status.errors HardwareError) fall.1;
-      condition = ap (λ (x : Panel). x.status.questionable.condition) is ∙ ap (λ (x : Panel). x.status.questionable.condition) fall.1;
-    }
+-- ---- commands
 
-pub ejected : (p q : Panel) (slot : ℕ) (failed : Bool) (card : Account) → Step p (AskEject slot) failed (SaysEjected card) q → (k : ℕ) → closed_at card.closed k ≡ false
-ejected p q slot f card (done, acts, is) k = rest_closed p.cage.rack slot card acts.1 k
+closing_fine : (p q : Panel) (chans : List Channel) → IsFine p → is_running p ≡ false → CanClose (layout_of p.cage.rack) (is_closed p.cage.rack) chans → Sets p.cage.rack chans true q.cage.rack → q ≡ with_rack p q.cage.rack → IsFine q
+closing_fine p q chans k idle may s e =
+    fine_is (with_rack p q.cage.rack) q e (record { cage = kept_rack p.cage q.cage.rack k.cage (none_of p idle) (plates_rest p.cage.rack q.cage.rack s.rest) (exclusive_closing p.cage.rack q.cage.rack chans k.cage.safe may s); range = k.range })
+
+opening_fine : (p q : Panel) (chans : List Channel) → IsFine p → is_running p ≡ false → Sets p.cage.rack chans false q.cage.rack → q ≡ with_rack p q.cage.rack → IsFine q
+opening_fine p q chans k idle s e =
+    fine_is (with_rack p q.cage.rack) q e (record { cage = kept_rack p.cage q.cage.rack k.cage (none_of p idle) (plates_rest p.cage.rack q.cage.rack s.rest) (exclusive_opening p.cage.rack q.cage.rack chans k.cage.safe s); range = k.range })
+
+falling_fine : (p q : Panel) → IsFine p → is_running p ≡ false → Falls p q → IsFine q
+falling_fine p q k idle f =
+    fine_as (with_rack p q.cage.rack) q (ap (λ (x : Panel). x.cage) f.1) (ap (λ (x : Panel). x.settings) f.1) (record { cage = kept_rack p.cage q.cage.rack k.cage (none_of p idle) f.0.cards (exclusive_none _ _ f.0.none); range = k.range })
+
+close_fine : (p : Panel) (chans : List Channel) (f : Bool) (a : SessionAnswer) (q : Panel) → IsFine p → is_running p ≡ false → StepClose p chans f a q → IsFine q
+close_fine p chans f (Done None) q k i h = closing_fine p q chans k i h.1 h.2 h.3
+close_fine p chans f (Refused HardwareMissing) q k i h = fine_is p q h.2 k
+close_fine p chans f (Refused SettingsConflict) q k i h = fine_is p q h.2 k
+close_fine p chans f (Refused HardwareError) q k i h = falling_fine p q k i h.2
+close_fine p chans f a q k i h = absurd h
+
+open_fine : (p : Panel) (chans : List Channel) (f : Bool) (a : SessionAnswer) (q : Panel) → IsFine p → is_running p ≡ false → StepOpen p chans f a q → IsFine q
+open_fine p chans f (Done None) q k i h = opening_fine p q chans k i h.2 h.3
+open_fine p chans f (Refused HardwareMissing) q k i h = fine_is p q h.2 k
+open_fine p chans f (Refused HardwareError) q k i h = falling_fine p q k i h.2
+open_fine p chans f a q k i h = absurd h
+
+flags_fine : (p : Panel) (closed : Bool) (chans : List Channel) (f : Bool) (a : SessionAnswer) (q : Panel) → IsFine p → StepFlags p closed chans f a q → IsFine q
+flags_fine p closed chans f (Done (Some text)) q k h = fine_is p q h.3 k
+flags_fine p closed chans f (Refused HardwareMissing) q k h = fine_is p q h.2 k
+flags_fine p closed chans f (Refused OutOfMemory) q k h = fine_is p q h.2 k
+flags_fine p closed chans f a q k h = absurd h
+
+text_fine : (p : Panel) (text : List ℕ) (status : StatusSeen) (f : Bool) (a : SessionAnswer) (q : Panel) → IsFine p → StepText p text status f a q → IsFine q
+text_fine p text status f (Done (Some t)) q k h = fine_as p q (ap (λ (x : Panel). x.cage) h.2) (ap (λ (x : Panel). x.settings) h.2) k
+text_fine p text status f (Refused OutOfMemory) q k h = fine_is p q h.1 k
+text_fine p text status f a q k h = absurd h
+
+done_fine : (after : Panel) (f : Bool) (a : SessionAnswer) (q : Panel) → IsFine after → StepDone after f a q → IsFine q
+done_fine after f (Done None) q k h = fine_is after q h.1 k
+done_fine after f a q k h = absurd h
+
+setting_fine : (p : Panel) (Fits : Type 0) (error : ScpiError) (setup : Setup) (f : Bool) (a : SessionAnswer) (q : Panel) → IsFine p → (Fits → IsInRange p.settings → IsInRange setup) → StepSetting p Fits error setup f a q → IsFine q
+setting_fine p Fits error setup f (Done None) q k r h = fine_is (record p { settings = setup }) q h.2 (record { cage = k.cage; range = r h.1 k.range })
+setting_fine p Fits error setup f (Refused e) q k r h = fine_is p q h.3 k
+setting_fine p Fits error setup f a q k r h = absurd h
+
+refused_fine : (p : Panel) (error : ScpiError) (f : Bool) (a : SessionAnswer) (q : Panel) → IsFine p → StepRefused p error f a q → IsFine q
+refused_fine p error f (Refused e) q k h = fine_is p q h.2 k
+refused_fine p error f a q k h = absurd h
+
+deed_fine : (d : Deed) (p : Panel) (f : Bool) (a : SessionAnswer) (q : Panel) → IsFine p → IsHarmless p d → StepDeed d p f a q → IsFine q
+deed_fine (Tells text status) p f a q k n h = text_fine p text status f a q k h
+deed_fine (SetsUp Fits error setup) p f a q k n h = setting_fine p Fits error setup f a q k n.0 h
+deed_fine (Leaves after) p f a q k n h = let r = n k in done_fine after f a q (record { cage = r.0; range = r.1 }) h
+deed_fine (Refuses error) p f a q k n h = refused_fine p error f a q k h
+deed_fine (Closes chans) p f a q k n h = close_fine p chans f a q k n h
+deed_fine (Opens chans) p f a q k n h = open_fine p chans f a q k n h
+deed_fine (Flags closed chans) p f a q k n h = flags_fine p closed chans f a q k h
+
+free_fine : (b : Bool) (p : Panel) (command : Command) (f : Bool) (a : SessionAnswer) (q : Panel) → IsFine p → (is_running p && is_for_idle command) ≡ b → StepFree b p command f a q → IsFine q
+free_fine true p command f a q k e h = refused_fine p SettingsConflict f a q k h
+free_fine false p command f a q k e h = deed_fine (deed_of p command) p f a q k (harmless p command e) h
+
+set_fine : (o : Option StatusSeen) (p : Panel) (command : Command) (f : Bool) (a : SessionAnswer) (q : Panel) → IsFine p → StepSet o p command f a q → IsFine q
+set_fine (Some status) p command f a q k h = done_fine (record p { status = status }) f a q (record { cage = k.cage; range = k.range }) h
+set_fine None p command f a q k h = free_fine (is_running p && is_for_idle command) p command f a q k refl h
+
+number_fine : (o : Option ℕ) (p : Panel) (command : Command) (f : Bool) (a : SessionAnswer) (q : Panel) → IsFine p → StepNumber o p command f a q → IsFine q
+number_fine (Some n) p command f a q k h = text_fine p (decimal n) p.status f a q k h
+number_fine None p command f a q k h = set_fine (status_set p.status command) p command f a q k h
+
+-- ---- scans
+
+tolled_fine : (p q : Panel) (s : StatusSeen) → IsFine p → IsKept q.cage → q ≡ record p { cage = q.cage; status = s } → IsFine q
+tolled_fine p q s k c e = record { cage = c; range = subst (λ (x : Setup). IsInRange x) (sym (ap (λ (x : Panel). x.settings) e)) k.range }
+
+happens_fine : (p : Panel) (happening : Happening) (f : Bool) (told : TakenSeen) (q : Panel) → IsFine p → Happens p happening f told q → IsFine q
+happens_fine p happening f SaysIgnored q k h = fine_is p q h.2 k
+happens_fine p happening f SaysWaits q k h = tolled_fine p q _ k (kept_past p.cage q.cage happening SaysWaits k.cage h.0 h.1) h.2.1
+happens_fine p happening f (SaysPause t u) q k h = tolled_fine p q _ k (kept_past p.cage q.cage happening (SaysPause t u) k.cage h.0 h.1) h.2.1
+happens_fine p happening f (SaysJob job) q k h = tolled_fine p q _ k (kept_past p.cage q.cage happening (SaysJob job) k.cage h.0 h.1) h.2.1
+happens_fine p happening f SaysEnded q k h = tolled_fine p q _ k (kept_past p.cage q.cage happening SaysEnded k.cage h.0 h.1) h.2.1
+happens_fine p happening f SaysFault q k h = tolled_fine p q _ k (kept_past p.cage q.cage happening SaysFault k.cage h.0 h.1) h.2.1
+
+returns_fine : (p : Panel) (done : FinishedSeen) (f : Bool) (told : TakenSeen) (q : Panel) → IsFine p → IsOut p done → Returns p done f told q → IsFine q
+returns_fine p done f SaysIgnored q k out h = fine_is (record p { cage = with_back p.cage done }) q h.2 (record { cage = kept_late p.cage done k.cage out h.1; range = k.range })
+returns_fine p done f SaysWaits q k out h = tolled_fine p q _ k (kept_counted p.cage q.cage done SaysWaits k.cage out h.0 h.1) h.2.1
+returns_fine p done f (SaysPause t u) q k out h = tolled_fine p q _ k (kept_counted p.cage q.cage done (SaysPause t u) k.cage out h.0 h.1) h.2.1
+returns_fine p done f (SaysJob job) q k out h = tolled_fine p q _ k (kept_counted p.cage q.cage done (SaysJob job) k.cage out h.0 h.1) h.2.1
+returns_fine p done f SaysEnded q k out h = tolled_fine p q _ k (kept_counted p.cage q.cage done SaysEnded k.cage out h.0 h.1) h.2.1
+returns_fine p done f SaysFault q k out h = tolled_fine p q _ k (kept_counted p.cage q.cage done SaysFault k.cage out h.0 h.1) h.2.1
+
+starts_fine : (p : Panel) (plan : Snapshot) (f : Bool) (told : TakenSeen) (q : Panel) → IsFine p → MayScan p → Starts p plan f told q → IsFine q
+starts_fine p plan f told q k may h = tolled_fine p q _ k (kept_begun p.cage q.cage p.settings plan told k.cage (is_none (slot_at p.cage.out p.settings.meter) may.home) k.range h.2 h.1 h.3) h.4
+
+offer_fine : (o : Option (Happening × ScpiError)) (p : Panel) (answered : Bool) (command : Command) (f : Bool) (a : SessionAnswer) (w : Option WorkView) (q : Panel) → IsFine p → StepOffer o p answered command f a w q → IsFine q
+offer_fine (Some offer) p answered command f a w q k h = happens_fine p offer.0 f h.told q k h.happens
+offer_fine None p answered command f a w q k h = number_fine (number_told p answered command) p command f a q k h.0
+
+command_fine : (b : Bool) (p : Panel) (ask : SessionAsk) (answered : Bool) (command : Command) (f : Bool) (a : SessionAnswer) (w : Option WorkView) (q : Panel) → IsFine p → StepCommand b p ask answered command f a w q → IsFine q
+command_fine true p ask answered command f (Hold x) None q k h = fine_is p q h.2 k
+command_fine true p ask answered command f a w q k h = absurd h
+command_fine false p ask answered command f a w q k h = offer_fine (happening_of command) p answered command f a w q k h
+
+snapshot_fine : (p : Panel) (f : Bool) (a : SessionAnswer) (q : Panel) → IsFine p → StepSnapshot p f a q → IsFine q
+snapshot_fine p f (answers.Snapshot s) q k h = fine_is p q h.3 k
+snapshot_fine p f (Refused OutOfMemory) q k h = fine_is p q h.2 k
+snapshot_fine p f (Refused e) q k h = fine_is p q h.2 k
+snapshot_fine p f a q k h = absurd h
+
+start_fine : (p : Panel) (plan : Snapshot) (f : Bool) (a : SessionAnswer) (w : Option WorkView) (q : Panel) → IsFine p → StepStart p plan f a w q → IsFine q
+start_fine p plan f (Done None) w q k h = starts_fine p plan f h.told q k h.may h.starts
+start_fine p plan f (Refused HardwareError) w q k h = starts_fine p plan f h.told q k h.may h.starts
+start_fine p plan f (Refused OutOfMemory) None q k h = fine_is p q h.2 k
+start_fine p plan f (Refused SettingsConflict) None q k h = fine_is p q h.2 k
+start_fine p plan f (Refused e) None q k h = fine_is p q h.2 k
+start_fine p plan f a w q k h = absurd h
+
+joined_fine : (p : Panel) (ask : SessionAsk) (f : Bool) (a : SessionAnswer) (w : Option WorkView) (q : Panel) → IsFine p → StepJoined p ask f a w q → IsFine q
+joined_fine p (Ask.Leave sid) f (Done None) None q k h = fine_as p q (ap (λ (x : Panel). x.cage) h.1) (ap (λ (x : Panel). x.settings) h.1) k
+joined_fine p (Ask.Fault sid e) f (Done None) None q k h = fine_as p q (ap (λ (x : Panel). x.cage) h.1) (ap (λ (x : Panel). x.settings) h.1) k
+joined_fine p (Ask.Unit sid command answered) f a w q k h = command_fine (is_running p && waits_for_idle command) p (Ask.Unit sid command answered) answered command f a w q k h
+joined_fine p (Ask.Bus sid) f a w q k h = happens_fine p Bus f h.told q k h.happens
+joined_fine p (Ask.Snapshot sid) f a None q k h = snapshot_fine p f a q k h
+joined_fine p (Ask.Start sid plan) f a w q k h = start_fine p plan f a w q k h
+joined_fine p ask f a w q k h = absurd h
+
+join_fine : (p : Panel) (f : Bool) (a : SessionAnswer) (w : Option WorkView) (q : Panel) → IsFine p → StepJoin p f a w q → IsFine q
+join_fine p f (Joined sid) None q k h = fine_as p q (ap (λ (x : Panel). x.cage) h.3) (ap (λ (x : Panel). x.settings) h.3) k
+join_fine p f Full None q k h = fine_is p q h.2 k
+join_fine p f a w q k h = absurd h
+
+session_fine : (o : Option Sid) (p : Panel) (ask : SessionAsk) (f : Bool) (a : SessionAnswer) (w : Option WorkView) (q : Panel) → IsFine p → StepSession o p ask f a w q → IsFine q
+session_fine None p ask f a w q k h = join_fine p f a w q k h
+session_fine (Some sid) p ask f Stranger None q k h = fine_is p q h.2 k
+session_fine (Some sid) p ask f a w q k h = joined_fine p ask f a w q k h.1
+
+-- ---- cards
+
+slot_fine : (c : CageSeen) (s : ℕ) (v : Option Account) → IsKept c → c.scan ≡ None → slot_at c.out s ≡ None → 1 ≤ s → s ≤ 8 → ((n : ℕ) → option_closed v n ≡ false) → OptionFew v → IsKept (record c { rack = slice_set c.rack (s - 1) v })
+slot_fine c s v k idle home a b quiet few = record {
+  good = record { held = held_set c s v c.scan k.good.held home a b; running = subst (λ (o : Option Scanning). IsRunning (record c { rack = slice_set c.rack (s - 1) v }) o) (sym idle) tt };
+  safe = exclusive_quiet c.rack s v (omega (arith, a)) (omega (arith, b, k.good.held.slots)) quiet k.safe;
+  few = few_set c.rack s v (omega (arith, a)) (omega (arith, b, k.good.held.slots)) few k.few;
+}
+
+few_card : (rack : Rack) (slot : ℕ) (card : Account) → CanInstall rack slot card → OptionFew (Some card)
+few_card rack slot card can m = (can.fit m).few_channels
+
+stopped_fine : (c : CageSeen) → IsKept c → IsKept (stopped c) × ((stopped c).scan ≡ None) × ((stopped c).out ≡ c.out)
+stopped_fine c k = by_scan c (is_some c.scan) refl k
+  where
+    by_scan : (c : CageSeen) (b : Bool) → is_some c.scan ≡ b → IsKept c → IsKept (stopped c) × ((stopped c).scan ≡ None) × ((stopped c).out ≡ c.out)
+    by_scan c true e k =
+        let s : stopped c ≡ fall c = ap (λ (b : Bool). if b then fall c else c) e in
+        (subst (λ (x : CageSeen). IsKept x) (sym s) (fallen_all c k), ap (λ (x : CageSeen). x.scan) s, ap (λ (x : CageSeen). x.out) s)
+    by_scan c false e k =
+        let s : stopped c ≡ c = ap (λ (b : Bool). if b then fall c else c) e in
+        (subst (λ (x : CageSeen). IsKept x) (sym s) k, ap (λ (x : CageSeen). x.scan) s ∙ is_none c.scan e, ap (λ (x : CageSeen). x.out) s)
+
+pub rest_closed : (rack : Rack) (slot : ℕ) (card : Account) → slot_at (all_open rack) slot ≡ Some card → (k : ℕ) → closed_at card.closed k ≡ false
+rest_closed rack slot card e k = ap (λ o. option_closed o k) (sym e) ∙ all_open_closed rack (slot, k)
+
+pub rest_slot : (rack : Rack) (slot : ℕ) (card : Account) → slot_at (all_open rack) slot ≡ Some card → (0 < slot) × (slot ≤ length rack)
+rest_slot rack slot card e =
+    let r : (0 < slot) × (slot ≤ length (all_open rack)) = some_slot (all_open rack) slot (ap (λ o. is_some o) e) in
+    (r.0, subst (λ n. slot ≤ n) (length-map rack option_rest) r.1)
+
+outside_fine : (p : Panel) (happening : Happening) (f : Bool) (a : AnswerView) (q : Panel) → IsFine p → StepOutside p happening f a q → IsFine q
+outside_fine p happening f a q k h = happens_fine p happening f h.told q k h.happens
+
+finished_fine : (p : Panel) (done : FinishedSeen) (f : Bool) (a : AnswerView) (q : Panel) → IsFine p → StepFinished p done f a q → IsFine q
+finished_fine p done f SaysBack q k h = fine_is p q h.2 k
+finished_fine p done f a q k h = returns_fine p done f h.told q k h.out h.returns
+
+acts_fine : (p : Panel) (ask : AskView) (f : Bool) (a : AnswerView) (q : Panel) → IsFine p → Acts p ask f a q → IsFine q
+acts_fine p (AskSession ask) f (SaysSession a w) q k h = session_fine (asker_of ask) p ask f a w q k h
+acts_fine p (AskInstall slot card) f SaysInstalled q k h =
+    fine_is (with_rack p (slice_set p.cage.rack (slot - 1) (Some card))) q h.4 (record { cage = slot_fine p.cage slot (Some card) k.cage (none_of p h.1) h.2 h.3.first h.3.last h.3.«open» (few_card p.cage.rack slot card h.3); range = k.range })
+acts_fine p (AskInstall slot card) f (SaysNotInstalled refusal) q k h = fine_is p q h.2 k
+acts_fine p (AskEject slot) f (SaysEjected card) q k h =
+    let r : (0 < slot) × (slot ≤ length p.cage.rack) = rest_slot p.cage.rack slot card h.2 in
+    let s = stopped_fine p.cage k.cage in
+    let home : slot_at (stopped p.cage).out slot ≡ None = subst (λ (o : _). slot_at o slot ≡ None) (sym s.2) h.1 in
+    let c : IsKept (without_card (stopped p.cage) slot) = slot_fine (stopped p.cage) slot None s.0 s.1 home (omega (arith, r.0)) (omega (arith, r.1, k.cage.good.held.slots)) (λ n. refl) tt in
+    record { cage = subst (λ (x : CageSeen). IsKept x) (sym (ap (λ (x : Panel). x.cage) h.3)) c; range = subst (λ (x : Setup). IsInRange x) (sym (ap (λ (x : Panel). x.settings) h.3)) k.range }
+acts_fine p (AskEject slot) f (SaysNotEjected refusal) q k h = fine_is p q h.2 k
+acts_fine p AskExternal f a q k h = outside_fine p External f a q k h
+acts_fine p (AskElapsed ticket) f a q k h = outside_fine p (Elapsed ticket) f a q k h
+acts_fine p (AskFinished done) f a q k h = finished_fine p done f a q k h
+acts_fine p ask f a q k h = absurd h
+
+-- the end of an event changes neither cage nor settings
+session_same : (a : SessionAnswer) (p : Panel) → ((session_concluded a p).cage ≡ p.cage) × ((session_concluded a p).settings ≡ p.settings)
+session_same Stranger p = (refl, refl)
+session_same Broken p = (refl, refl)
+session_same (Hold ask) p = (refl, refl)
+session_same (Worn ask) p = (refl, refl)
+session_same (Refused e) p = (refl, refl)
+session_same (Joined sid) p = (refl, refl)
+session_same Full p = (refl, refl)
+session_same (Done text) p = (refl, refl)
+session_same (answers.Snapshot s) p = (refl, refl)
+
+concluded_same : (a : AnswerView) (p : Panel) → ((concluded a p).cage ≡ p.cage) × ((concluded a p).settings ≡ p.settings)
+concluded_same (SaysSession a w) p = session_same a p
+concluded_same SaysInstalled p = (refl, refl)
+concluded_same (SaysNotInstalled refusal) p = (refl, refl)
+concluded_same (SaysEjected card) p = (refl, refl)
+concluded_same (SaysNotEjected refusal) p = (refl, refl)
+concluded_same (SaysTaken work) p = (refl, refl)
+concluded_same SaysMissed p = (refl, refl)
+concluded_same SaysFailed p = (refl, refl)
+concluded_same SaysBack p = (refl, refl)
+concluded_same SaysWorn p = (refl, refl)
+
+event_fine : (p : Panel) (ask : AskView) (f : Bool) (a : AnswerView) (q : Panel) → IsFine p → IsEvent p ask f a q → IsFine q
+event_fine p ask f a q k h =
+    let s = concluded_same a h.done in
+    fine_as h.done q (ap (λ (x : Panel). x.cage) h.after ∙ s.0) (ap (λ (x : Panel). x.settings) h.after ∙ s.1) (acts_fine p ask f a h.done k h.acts)
+
+either_fine : (b : Bool) (p : Panel) (ask : AskView) (f : Bool) (a : AnswerView) (q : Panel) → IsFine p → MatchBool b (IsUnnumbered p ask f a q) (IsEvent p ask f a q) → IsFine q
+either_fine true p ask f a q k h = fine_is p q h.same k
+either_fine false p ask f a q k h = event_fine p ask f a q k h
+
+pub step_fine : (p : Panel) (ask : AskView) (f : Bool) (a : AnswerView) (q : Panel) → IsFine p → Step p ask f a q → IsFine q
+step_fine p ask f a q k h = either_fine ((p.events == last_number) && not (acts_unnumbered ask)) p ask f a q k h
+
+-- ---- runs
+
+none_at : {A : Type 0} (n i : ℕ) → slice_index_or (let r : List (Option A) = replicate n None in r) i None ≡ None
+none_at zero i = refl
+none_at (suc n) zero = refl
+none_at (suc n) (suc i) = none_at n i
+
+none_if : {A : Type 0} (b : Bool) (o : Option A) → o ≡ None → (if b then o else None) ≡ None
+none_if true o e = e
+none_if false o e = refl
+
+none_slot_out : (n s : ℕ) → slot_at (let r : List (Option Ticket) = replicate n None in r) s ≡ None
+none_slot_out n s = none_if (nat_lt 0 s) (slice_index_or (let r : List (Option Ticket) = replicate n None in r) (s - 1) None) (none_at n (s - 1))
+
+pub opening_fine_at : (events scans : ℕ) → IsFine (opening_at events scans)
+opening_fine_at events scans = record {
+  cage = record {
+    good = record {
+      held = record { slots = refl; outs = refl; empty = λ s h. none_slot 8 s; past = λ s t h. absurd (let e = sym (none_slot_out 8 s) ∙ h in cc (e)) };
+      running = tt;
+    };
+    safe = exclusive_none _ _ (λ c. ap (λ o. option_closed o c.1) (none_slot 8 c.0));
+    few = λ s. subst (λ (o : Option Account). OptionFew o) (sym (none_slot 8 s)) tt;
+  };
+  range = reset_range;
+}
+
+good_of : (p : Panel) → IsFine p → IsGoodPanel p
+good_of p k = record { safe = k.cage.safe; good = k.cage.good }
+
+run_fine : (p : Panel) (es : List Event) → IsFine p → IsRun p es → AllByRecursion (λ e. IsGoodPanel e.panel) es
+run_fine p [] k h = tt
+run_fine p (e ∷ es) k h = let t : IsFine e.panel = step_fine p e.ask e.failed e.answer e.panel k h.0 in (good_of e.panel t, run_fine e.panel es t h.1)
+
+pub every_run : (events scans : ℕ) (es : List Event) → IsRun (opening_at events scans) es → AllByRecursion (λ e. IsGoodPanel e.panel) es
+every_run events scans es h = run_fine (opening_at events scans) es (opening_fine_at events scans) h

@@ -1,25 +1,42 @@
 -- The whole state of the mainframe as plain data.
-use Rattle.std.specs.Prelude.{None, replicate}
+use Rattle.std.specs.Prelude.{ℕ, Bool, false, None, replicate, is_some}
 use Rattle.sw_base.specs.Layout.{IsExclusive}
 use Rattle.sw_trigger.specs.Settings.{Setup, at_reset}
 use Rattle.sw_status.specs.StatusModel.{StatusSeen, first_status}
-use Rattle.sw_cage.specs.Cage.{CageSeen}
+use Rattle.sw_cage.specs.Cage.{CageSeen, empty_cage}
 use Rattle.sw_cage.specs.Rack.{Rack, layout_of, is_closed}
 use Rattle.sw_core.specs.Sessions.{Joins}
 
+-- pending: *OPC waits for the end of the scan; events: how many there were
 pub record Panel : Type 0 where
   pub cage : CageSeen
   pub sessions : Joins
   pub status : StatusSeen
   pub settings : Setup
+  pub pending : Bool
+  pub events : ℕ
 
--- an empty cage, nobody joined, status and settings as at the start
+-- an empty cage, nobody joined, status and settings as at the start, and these numbers of events and scans
+abbrev pub opening_at : ℕ → ℕ → Panel
+opening_at events scans = record {
+  cage = record empty_cage { number = scans };
+  sessions = replicate 16 None;
+  status = first_status;
+  settings = at_reset;
+  pending = false;
+  events = events;
+}
+
 abbrev pub opening : Panel
-opening = record { cage = record { rack = replicate 8 None }; sessions = replicate 16 None; status = first_status; settings = at_reset }
+opening = opening_at 0 0
 
 -- the same but for what the slots hold
 abbrev pub with_rack : Panel → Rack → Panel
 with_rack p rack = record p { cage = record p.cage { rack = rack } }
+
+-- a scan runs
+abbrev pub is_running : Panel → Bool
+is_running p = is_some p.cage.scan
 
 -- only relays of the cage are closed, and no two closed ones are of one group
 abbrev pub IsSafe : Panel → Type 0

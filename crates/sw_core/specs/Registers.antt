@@ -1,12 +1,11 @@
 -- What commands that call no card ask of status and settings: one line for each.
-use Rattle.std.specs.Prelude.{ℕ, Bool, Option, Some, None, length}
-use Rattle.sw_trigger.specs.Settings.{Setup, layer_of}
+use Rattle.std.specs.Prelude.{ℕ, Bool, true, false, Option, Some, None, length}
+use Rattle.sw_trigger.specs.Settings.{layer_of}
 use Rattle.sw_trigger.specs.Counts.{bound_of}
 use Rattle.sw_status.specs.Registers.{with_enable, with_ptr, with_ntr, group_conditioned}
-use Rattle.sw_status.specs.StatusModel.{StatusSeen, byte_of, cleared, enabled, preset, with_bit, group_of, with_group}
+use Rattle.sw_status.specs.StatusModel.{StatusSeen, byte_of, enabled, preset, group_of, with_group}
 use Rattle.sw_base.specs.declared.terms.StatusGroup.TheVariants.{Questionable}
 use Rattle.sw_lex.specs.declared.command.Command.{Command}
-use Rattle.sw_lex.specs.declared.command.Command.TheVariants as Command
 use Rattle.sw_core.specs.Panel.{Panel}
 
 -- The number that a query answers, where it changes nothing by that; `answered` says whether its message has answered
@@ -17,6 +16,7 @@ number_told p answered Command.ServiceEnableQuery = Some p.status.sre
 number_told p answered Command.StatusByteQuery = Some (byte_of p.status answered)
 number_told p answered Command.OperationCompleteQuery = Some 1
 number_told p answered Command.SelfTestQuery = Some 0
+number_told p answered Command.InitiateContinuousQuery = Some 0
 number_told p answered (Command.GroupConditionQuery group) = Some (group_of p.status group).condition
 number_told p answered (Command.GroupEnableQuery group) = Some (group_of p.status group).enable
 number_told p answered (Command.PositiveTransitionQuery group) = Some (group_of p.status group).ptr
@@ -25,17 +25,14 @@ number_told p answered Command.ErrorCountQuery = Some (length p.status.errors)
 number_told p answered (Command.CountQuery layer) = Some (layer_of p.settings layer).count
 number_told p answered Command.ScanMeterQuery = Some p.settings.meter
 number_told p answered Command.PointsQuery = Some p.settings.points
+number_told p answered Command.ActualPointsQuery = Some (length p.cage.readings)
 number_told p answered Command.BoundQuery = Some (bound_of p.settings)
 number_told p answered command = None
 
--- The status that a command leaves, where it sets nothing else. While no scan runs an operation is complete at once
--- (IEEE 488.2, 10 and 12.5; SCPI-1999, 20).
+-- The status that a command leaves, where it sets nothing else (IEEE 488.2, 10; SCPI-1999, 20).
 abbrev pub status_set : StatusSeen → Command → Option StatusSeen
-status_set s Command.ClearStatus = Some (cleared s)
 status_set s (Command.EventEnable bits) = Some (record s { ese = bits })
 status_set s (Command.ServiceEnable bits) = Some (enabled s bits)
-status_set s Command.OperationComplete = Some (record s { esr = with_bit s.esr 0 })
-status_set s Command.Wait = Some s
 status_set s Command.Preset = Some (preset s)
 status_set s (Command.GroupEnable group bits) = Some (with_group s group (with_enable (group_of s group) bits))
 status_set s (Command.PositiveTransition group bits) = Some (with_group s group (with_ptr (group_of s group) bits))
@@ -49,3 +46,22 @@ alarmed s = with_group s Questionable (group_conditioned s.questionable 512)
 -- it is over
 abbrev pub calmed : StatusSeen → StatusSeen
 calmed s = with_group s Questionable (group_conditioned s.questionable 0)
+
+-- what is refused while a scan runs (own)
+abbrev pub is_for_idle : Command → Bool
+is_for_idle (Command.Close chans) = true
+is_for_idle (Command.Open chans) = true
+is_for_idle Command.OpenAll = true
+is_for_idle (Command.Scan chans) = true
+is_for_idle (Command.ScanMeter slot) = true
+is_for_idle (Command.Count layer n) = true
+is_for_idle (Command.SetSource layer source) = true
+is_for_idle (Command.Delay layer micros) = true
+is_for_idle (Command.Points n) = true
+is_for_idle command = false
+
+-- what is held until no scan runs (IEEE 488.2, 12.5.2 and 12.5.3)
+abbrev pub waits_for_idle : Command → Bool
+waits_for_idle Command.OperationCompleteQuery = true
+waits_for_idle Command.Wait = true
+waits_for_idle command = false

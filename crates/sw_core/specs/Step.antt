@@ -1,31 +1,44 @@
 -- What one ask may be answered, and what state it leaves: one line for each legal pair.
-use Rattle.std.specs.Prelude.{◌≡◌, ◌≢◌, ℕ, ◌-◌, ◌≤◌, Bool, true, false, List, [], length, Option, None, Some, slice_set, map, decimal}
+use Rattle.std.specs.Prelude.{◌≡◌, ◌≢◌, ℕ, ◌-◌, ◌≤◌, ◌<◌, ◌==◌, ◌&&◌, not, Bool, true, false, List, [], ◌∷◌, length, Option, None, Some, slice_set, map, decimal, is_some, MatchBool, ◌⊎◌, if◌then◌else◌}
 use Rattle.std.specs.List.{join_with_byte}
 use Rattle.sw_base.specs.Layout.{Channel, slot_at}
-use Rattle.sw_base.specs.Reading.{fixed}
+use Rattle.sw_base.specs.Reading.{fixed, reading_text}
+use Rattle.sw_base.specs.declared.reading.Reading.{Reading}
 use Rattle.sw_base.specs.declared.error.ScpiError.{ScpiError}
-use Rattle.sw_base.specs.declared.error.ScpiError.TheVariants.{UndefinedHeader, TriggerIgnored, HardwareMissing, SettingsConflict, DataOutOfRange, TooMuchData, HardwareError, OutOfMemory}
+use Rattle.sw_base.specs.declared.error.ScpiError.TheVariants.{UndefinedHeader, TriggerIgnored, ArmIgnored, InitIgnored, HardwareMissing, SettingsConflict, DataOutOfRange, TooMuchData, DataCorruptOrStale, SystemError, HardwareError, OutOfMemory}
+use Rattle.sw_base.specs.declared.terms.LayerName.TheVariants as layer_name
 use Rattle.sw_channel.specs.Printing.{printed}
 use Rattle.sw_lex.specs.declared.command.Command.{Command}
-use Rattle.sw_lex.specs.declared.command.Command.TheVariants as Command
 use Rattle.sw_trigger.specs.Settings.{Setup, layer_of, with_layer, most_of, longest_delay, at_reset}
+use Rattle.sw_verify.specs.declared.snapshot.Snapshot.{Snapshot}
+use Rattle.sw_verify.specs.Check.{IsReady}
 use Rattle.sw_status.specs.Registers.{event_taken}
-use Rattle.sw_status.specs.StatusModel.{StatusSeen, pushed, popped, group_of, with_group, event_ended}
+use Rattle.sw_status.specs.StatusModel.{StatusSeen, pushed, popped, cleared, group_of, with_group}
 use Rattle.sw_cage.specs.Rack.{Rack, layout_of, is_closed, all_open}
 use Rattle.sw_cage.specs.Change.{Sets, option_plate}
 use Rattle.sw_cage.specs.Channels.{closed_list}
-use Rattle.sw_cage.specs.Close.{CanClose, HasClash, RefusesClose, all_present}
+use Rattle.sw_cage.specs.Close.{CanClose, RefusesClose, all_present}
 use Rattle.sw_cage.specs.declared.refusal.CloseRefusal.TheVariants.{Absent, Clash}
-use Rattle.sw_cage.specs.Install.{CanInstall, RefusesInstall, RefusesEject}
+use Rattle.sw_cage.specs.Install.{CanInstall, RefusesInstall, RefusesEject, stopped, without_card}
+use Rattle.sw_cage.specs.Cage.{CageSeen, cage_layout, fall}
+use Rattle.sw_cage.specs.Takes.{Takes, TakesReturn}
+use Rattle.sw_cage.specs.Goes.{Goes, GoesPast, Counts, begun, with_back}
+use Rattle.sw_cage.specs.Work.{FinishedSeen}
+use Rattle.sw_cage.specs.TakenSeen.{TakenSeen, SaysIgnored, SaysPause, SaysJob, SaysFault}
+use Rattle.sw_cage.specs.declared.taken.Happening.{Happening}
+use Rattle.sw_cage.specs.declared.taken.Happening.TheVariants.{Bus, External, Signal, Elapsed}
 use Rattle.sw_core.specs.declared.ask.SessionAsk.{SessionAsk}
 use Rattle.sw_core.specs.declared.ask.SessionAsk.TheVariants as Ask
 use Rattle.sw_core.specs.declared.ask.SessionAnswer.{SessionAnswer}
+use Rattle.sw_core.specs.declared.ask.SessionAnswer.TheVariants as Answer
 use Rattle.sw_core.specs.declared.ask.SessionAnswer.TheVariants.{Joined, Full, Stranger, Broken, Done, Refused, Hold, Worn}
 use Rattle.sw_core.specs.Answers.{identity, version, flag_of, as_asked, oldest_entry, all_entries, source_word}
+use Rattle.sw_core.specs.declared.ask.Sid.{Sid}
 use Rattle.sw_core.specs.Sessions.{IsJoined, IsLeastFree}
-use Rattle.sw_core.specs.Panel.{Panel, with_rack}
-use Rattle.sw_core.specs.Registers.{number_told, status_set, alarmed, calmed}
-use Rattle.sw_core.specs.View.{AskView, AskSession, AskInstall, AskEject, AnswerView, SaysSession, SaysInstalled, SaysNotInstalled, SaysEjected, SaysNotEjected}
+use Rattle.sw_core.specs.Panel.{Panel, with_rack, is_running}
+use Rattle.sw_core.specs.Registers.{number_told, status_set, alarmed, calmed, is_for_idle, waits_for_idle}
+use Rattle.sw_core.specs.Event.{concluded, last_number, next_number}
+use Rattle.sw_core.specs.View.{WorkView, Measures, Pauses, AskView, AskSession, AskInstall, AskEject, AskExternal, AskElapsed, AskFinished, AnswerView, SaysSession, SaysInstalled, SaysNotInstalled, SaysEjected, SaysNotEjected, SaysTaken, SaysMissed, SaysFailed, SaysBack, SaysWorn}
 
 -- the same cards but for their counts of failures, and every relay open
 pub record IsFallen (old new : Rack) : Type 0 where
@@ -93,11 +106,9 @@ pub data Deed : Type 1 where
   -- it tells a text, and leaves this status
   Tells : (text : List ℕ) → (status : StatusSeen) → Deed
   -- it leaves these settings where they fit, and is else refused
-  Takes : (Fits : Type 0) → (error : ScpiError) → (setup : Setup) → Deed
-  -- it leaves these settings
-  SetsUp : (setup : Setup) → Deed
-  -- every relay opens, and status and settings are these
-  Rests : (status : StatusSeen) → (setup : Setup) → Deed
+  SetsUp : (Fits : Type 0) → (error : ScpiError) → (setup : Setup) → Deed
+  -- it leaves this state
+  Leaves : (after : Panel) → Deed
   -- it is refused
   Refuses : (error : ScpiError) → Deed
   -- channels are closed, or opened, or it tells for each whether it is closed, or open
@@ -105,8 +116,25 @@ pub data Deed : Type 1 where
   Opens : (chans : List Channel) → Deed
   Flags : (closed : Bool) → (chans : List Channel) → Deed
 
--- The commands that do more than tell a number or set the status (SCPI-1999, 18, 20, 21.8 and 24; IEEE 488.2, 10). What
--- the instrument doesn't carry out yet is refused as an undefined header.
+-- the readings of the last scan, joined by commas
+abbrev pub fetched : List Reading → StatusSeen → Deed
+fetched [] status = Refuses DataCorruptOrStale
+fetched (r ∷ readings) status = Tells (join_with_byte 44 (map reading_text (r ∷ readings))) status
+
+-- INITiate:CONTinuous can't be switched on
+abbrev pub switched : Bool → Panel → Deed
+switched true p = Refuses SettingsConflict
+switched false p = Leaves p
+
+-- the state after *RST, and after ABORt
+abbrev pub reset : Panel → Panel
+reset p = record p { cage = record (fall p.cage) { readings = [] }; status = calmed p.status; settings = at_reset; pending = false }
+
+abbrev pub aborted : Panel → Panel
+aborted p = record p { cage = fall p.cage }
+
+-- The commands that do more than tell a number or set the status (SCPI-1999, 3, 18, 20, 21.8 and 24; IEEE 488.2, 10). What
+-- is asked otherwise, and what the instrument doesn't carry out yet, is refused as an undefined header.
 abbrev pub deed_of : Panel → Command → Deed
 deed_of p Command.Identify = Tells identity p.status
 deed_of p Command.VersionQuery = Tells version p.status
@@ -118,36 +146,45 @@ deed_of p Command.EventQuery = Tells (decimal p.status.esr) (record p.status { e
 deed_of p (Command.GroupEventQuery group) = Tells (decimal (group_of p.status group).event) (with_group p.status group (event_taken (group_of p.status group)))
 deed_of p Command.NextErrorQuery = Tells (oldest_entry p.status.errors) (popped p.status)
 deed_of p Command.AllErrorsQuery = Tells (all_entries p.status.errors) (record p.status { errors = [] })
-deed_of p (Command.Count layer n) = Takes ((1 ≤ n) × (n ≤ most_of layer)) DataOutOfRange (with_layer p.settings layer (record (layer_of p.settings layer) { count = n }))
-deed_of p (Command.SetSource layer source) = SetsUp (with_layer p.settings layer (record (layer_of p.settings layer) { source = source }))
-deed_of p (Command.Delay layer micros) = Takes (micros ≤ longest_delay) DataOutOfRange (with_layer p.settings layer (record (layer_of p.settings layer) { delay_us = micros }))
-deed_of p (Command.Scan chans) = Takes (length chans ≤ 512) TooMuchData (record p.settings { list = chans })
-deed_of p (Command.ScanMeter slot) = Takes ((1 ≤ slot) × (slot ≤ 8)) DataOutOfRange (record p.settings { meter = slot })
-deed_of p (Command.Points n) = Takes ((1 ≤ n) × (n ≤ 100000)) DataOutOfRange (record p.settings { points = n })
+deed_of p Command.Fetch = fetched p.cage.readings p.status
+deed_of p (Command.Count layer n) = SetsUp ((1 ≤ n) × (n ≤ most_of layer)) DataOutOfRange (with_layer p.settings layer (record (layer_of p.settings layer) { count = n }))
+deed_of p (Command.SetSource layer source) = Leaves (record p { settings = with_layer p.settings layer (record (layer_of p.settings layer) { source = source }) })
+deed_of p (Command.Delay layer micros) = SetsUp (micros ≤ longest_delay) DataOutOfRange (with_layer p.settings layer (record (layer_of p.settings layer) { delay_us = micros }))
+deed_of p (Command.Scan chans) = SetsUp (length chans ≤ 512) TooMuchData (record p.settings { list = chans })
+deed_of p (Command.ScanMeter slot) = SetsUp ((1 ≤ slot) × (slot ≤ 8)) DataOutOfRange (record p.settings { meter = slot })
+deed_of p (Command.Points n) = SetsUp ((1 ≤ n) × (n ≤ 100000)) DataOutOfRange (record p.settings { points = n })
 deed_of p (Command.Close chans) = Closes chans
 deed_of p (Command.CloseQuery chans) = Flags true chans
 deed_of p (Command.Open chans) = Opens chans
 deed_of p (Command.OpenQuery chans) = Flags false chans
-deed_of p Command.OpenAll = Rests p.status p.settings
-deed_of p Command.Reset = Rests (calmed p.status) at_reset
-deed_of p Command.Trigger = Refuses TriggerIgnored
+deed_of p Command.OpenAll = Leaves (with_rack p (all_open p.cage.rack))
+deed_of p Command.Abort = Leaves (aborted p)
+deed_of p Command.Reset = Leaves (reset p)
+deed_of p Command.ClearStatus = Leaves (record p { status = cleared p.status; pending = false })
+deed_of p Command.OperationComplete = Leaves (record p { pending = true })
+deed_of p Command.Wait = Leaves p
+deed_of p (Command.InitiateContinuous on) = switched on p
 deed_of p command = Refuses UndefinedHeader
 
 -- how each is answered, and what state it leaves
 abbrev pub StepDeed : Deed → Panel → Bool → SessionAnswer → Panel → Type 0
 StepDeed (Tells text status) p f a q = StepText p text status f a q
-StepDeed (Takes Fits error setup) p f a q = StepSetting p Fits error setup f a q
-StepDeed (SetsUp setup) p f a q = StepDone (record p { settings = setup }) f a q
-StepDeed (Rests status setup) p f a q = StepDone (record (with_rack p (all_open p.cage.rack)) { status = status; settings = setup }) f a q
+StepDeed (SetsUp Fits error setup) p f a q = StepSetting p Fits error setup f a q
+StepDeed (Leaves after) p f a q = StepDone after f a q
 StepDeed (Refuses error) p f a q = StepRefused p error f a q
 StepDeed (Closes chans) p f a q = StepClose p chans f a q
 StepDeed (Opens chans) p f a q = StepOpen p chans f a q
 StepDeed (Flags closed chans) p f a q = StepFlags p closed chans f a q
 
+-- a command that is refused while a scan runs, or its deed
+abbrev pub StepFree : Bool → Panel → Command → Bool → SessionAnswer → Panel → Type 0
+StepFree true p command f a q = StepRefused p SettingsConflict f a q
+StepFree false p command f a q = StepDeed (deed_of p command) p f a q
+
 -- a command that sets the status alone, or one of those
 abbrev pub StepSet : Option StatusSeen → Panel → Command → Bool → SessionAnswer → Panel → Type 0
 StepSet (Some status) p command f a q = StepDone (record p { status = status }) f a q
-StepSet None p command f a q = StepDeed (deed_of p command) p f a q
+StepSet None p command f a q = StepFree (is_running p && is_for_idle command) p command f a q
 
 -- a query of a number, or one of the others
 abbrev pub StepNumber : Option ℕ → Panel → Command → Bool → SessionAnswer → Panel → Type 0
@@ -158,47 +195,215 @@ StepNumber None p command f a q = StepSet (status_set p.status command) p comman
 abbrev pub StepUnit : Panel → Bool → Command → Bool → SessionAnswer → Panel → Type 0
 StepUnit p answered command f a q = StepNumber (number_told p answered command) p command f a q
 
+-- ---- scans
+
+-- the work that a scan awaits once it has come to this
+abbrev pub work_of : TakenSeen → Option WorkView
+work_of (SaysPause ticket micros) = Some (Pauses ticket micros)
+work_of (SaysJob job) = Some (Measures job)
+work_of told = None
+
+-- a card failed on the way
+abbrev pub is_fault : TakenSeen → Bool
+is_fault SaysFault = true
+is_fault told = false
+
+-- the cage went on, and QUEStionable tells of a card that failed on the way
+abbrev pub Tolls : Panel → CageSeen → TakenSeen → Bool → Panel → Type 0
+Tolls p cage told f q = (f ≡ is_fault told) × (q ≡ record p { cage = cage; status = if is_fault told then alarmed p.status else p.status })
+
+-- a happening is offered to the scan (SCPI-1999, 24)
+abbrev pub Happens : Panel → Happening → Bool → TakenSeen → Panel → Type 0
+Happens p happening f SaysIgnored q = (f ≡ false) × (Takes p.cage happening → ⊥) × (q ≡ p)
+Happens p happening f told q = Takes p.cage happening × GoesPast p.cage told q.cage × Tolls p q.cage told f q
+
+-- what a session is answered by what the cage told; what no scan takes is refused by this error
+abbrev pub session_told : ScpiError → TakenSeen → SessionAnswer
+session_told error SaysIgnored = Refused error
+session_told error SaysFault = Refused HardwareError
+session_told error told = Done None
+
+-- a session's happening
+pub record StepHappens (p : Panel) (happening : Happening) (error : ScpiError) (f : Bool) (answer : SessionAnswer) (work : Option WorkView) (q : Panel) : Type 0 where
+  pub told : TakenSeen
+  pub happens : Happens p happening f told q
+  pub answer_is : answer ≡ session_told error told
+  pub work_is : work ≡ work_of told
+
+-- the happening that a command is, and the error where no scan takes it
+abbrev pub happening_of : Command → Option (Happening × ScpiError)
+happening_of Command.Trigger = Some (Bus, TriggerIgnored)
+happening_of (Command.Signal layer_name.Trigger) = Some (Signal layer_name.Trigger, TriggerIgnored)
+happening_of (Command.Signal layer_name.Arm1) = Some (Signal layer_name.Arm1, ArmIgnored)
+happening_of (Command.Signal layer_name.Arm2) = Some (Signal layer_name.Arm2, ArmIgnored)
+happening_of command = None
+
+-- a command that is offered to the scan, or one of the others
+abbrev pub StepOffer : Option (Happening × ScpiError) → Panel → Bool → Command → Bool → SessionAnswer → Option WorkView → Panel → Type 0
+StepOffer (Some offer) p answered command f a work q = StepHappens p offer.0 offer.1 f a work q
+StepOffer None p answered command f a work q = StepUnit p answered command f a q × (work ≡ None)
+
+-- no scan may begin now, for this error: the first that applies
+abbrev pub RefusesScan : Panel → ScpiError → Type 0
+RefusesScan p InitIgnored = is_running p ≡ true
+RefusesScan p SettingsConflict = (is_running p ≡ false) × (is_some (slot_at p.cage.out p.settings.meter) ≡ true)
+RefusesScan p SystemError = (is_running p ≡ false) × (is_some (slot_at p.cage.out p.settings.meter) ≡ false) × (p.cage.number ≡ last_number)
+RefusesScan p error = ⊥
+
+-- a scan may begin: none runs, its meter is in, and it can be numbered
+pub record MayScan (p : Panel) : Type 0 where
+  pub idle : is_running p ≡ false
+  pub home : is_some (slot_at p.cage.out p.settings.meter) ≡ false
+  pub numbered : p.cage.number < last_number
+
+-- what a scan would begin from
+abbrev pub snapshot_of : Panel → Snapshot
+snapshot_of p = record { settings = p.settings; layout = cage_layout p.cage; closed = closed_list p.cage.rack }
+
+-- what a scan would begin from is asked
+abbrev pub StepSnapshot : Panel → Bool → SessionAnswer → Panel → Type 0
+StepSnapshot p f (Answer.Snapshot s) q = (f ≡ false) × MayScan p × (s ≡ snapshot_of p) × (q ≡ p)
+StepSnapshot p f (Refused OutOfMemory) q = (f ≡ false) × MayScan p × (q ≡ p)
+StepSnapshot p f (Refused e) q = (f ≡ false) × RefusesScan p e × (q ≡ p)
+StepSnapshot p f answer q = ⊥
+
+-- The scan of a plan, which passed the check, began: the cage went from before the first item of its agenda. No card's failure is told of any more,
+-- unless one came on the way.
+abbrev pub Starts : Panel → Snapshot → Bool → TakenSeen → Panel → Type 0
+Starts p plan f told q = (f ≡ is_fault told) × (plan ≡ snapshot_of p) × IsReady plan × Goes (begun p.cage) p.settings 0 told q.cage
+    × (q ≡ record p { cage = q.cage; status = if is_fault told then alarmed p.status else calmed p.status })
+
+abbrev pub started_answer : TakenSeen → SessionAnswer
+started_answer SaysFault = Refused HardwareError
+started_answer told = Done None
+
+pub record IsStarted (p : Panel) (plan : Snapshot) (f : Bool) (answer : SessionAnswer) (work : Option WorkView) (q : Panel) : Type 0 where
+  pub may : MayScan p
+  pub told : TakenSeen
+  pub starts : Starts p plan f told q
+  pub answer_is : answer ≡ started_answer told
+  pub work_is : work ≡ work_of told
+
+-- a session begins the scan of a plan: one that was made of what is so now
+abbrev pub StepStart : Panel → Snapshot → Bool → SessionAnswer → Option WorkView → Panel → Type 0
+StepStart p plan f (Done None) work q = IsStarted p plan f (Done None) work q
+StepStart p plan f (Refused HardwareError) work q = IsStarted p plan f (Refused HardwareError) work q
+StepStart p plan f (Refused OutOfMemory) None q = (f ≡ false) × MayScan p × (q ≡ p)
+StepStart p plan f (Refused SettingsConflict) None q = (f ≡ false) × (RefusesScan p SettingsConflict ⊎ (MayScan p × (plan ≢ snapshot_of p))) × (q ≡ p)
+StepStart p plan f (Refused e) None q = (f ≡ false) × RefusesScan p e × (q ≡ p)
+StepStart p plan f answer work q = ⊥
+
+-- ---- asks
+
+-- a command is held while a scan runs, or carried out
+abbrev pub StepCommand : Bool → Panel → SessionAsk → Bool → Command → Bool → SessionAnswer → Option WorkView → Panel → Type 0
+StepCommand true p ask answered command f (Hold back) None q = (f ≡ false) × (back ≡ ask) × (q ≡ p)
+StepCommand true p ask answered command f answer work q = ⊥
+StepCommand false p ask answered command f answer work q = StepOffer (happening_of command) p answered command f answer work q
+
+-- what a joined session asks
+abbrev pub StepJoined : Panel → SessionAsk → Bool → SessionAnswer → Option WorkView → Panel → Type 0
+StepJoined p (Ask.Leave sid) f (Done None) None q = (f ≡ false) × (q ≡ record p { sessions = slice_set p.sessions (sid.number - 1) None })
+StepJoined p (Ask.Fault sid e) f (Done None) None q = (f ≡ false) × (q ≡ record p { status = pushed p.status e })
+StepJoined p (Ask.Unit sid command answered) f answer work q = StepCommand (is_running p && waits_for_idle command) p (Ask.Unit sid command answered) answered command f answer work q
+StepJoined p (Ask.Bus sid) f answer work q = StepHappens p Bus TriggerIgnored f answer work q
+StepJoined p (Ask.Snapshot sid) f answer None q = StepSnapshot p f answer q
+StepJoined p (Ask.Start sid plan) f answer work q = StepStart p plan f answer work q
+StepJoined p ask f answer work q = ⊥
+
+-- who asks
+abbrev pub asker_of : SessionAsk → Option Sid
+asker_of Ask.Join = None
+asker_of (Ask.Leave sid) = Some sid
+asker_of (Ask.Unit sid command answered) = Some sid
+asker_of (Ask.Fault sid e) = Some sid
+asker_of (Ask.Bus sid) = Some sid
+asker_of (Ask.Snapshot sid) = Some sid
+asker_of (Ask.Start sid plan) = Some sid
+
+-- a new session gets the least free number, and the number of events that there are once it has joined
+abbrev pub StepJoin : Panel → Bool → SessionAnswer → Option WorkView → Panel → Type 0
+StepJoin p f (Joined sid) None q = (f ≡ false) × IsLeastFree p.sessions sid.number × (sid.joined ≡ next_number p.events) × (q ≡ record p { sessions = slice_set p.sessions (sid.number - 1) (Some (next_number p.events)) })
+StepJoin p f Full None q = (f ≡ false) × ((k : ℕ) → 1 ≤ k → k ≤ 16 → slot_at p.sessions k ≢ None) × (q ≡ p)
+StepJoin p f answer work q = ⊥
+
 -- a session's ask
-abbrev pub StepSession : Panel → SessionAsk → Bool → SessionAnswer → Panel → Type 0
-StepSession p Ask.Join f (Joined sid) q = (f ≡ false) × IsLeastFree p.sessions sid.number × (sid.joined ≡ 0) × (q ≡ record p { sessions = slice_set p.sessions (sid.number - 1) (Some 0) })
-StepSession p Ask.Join f Full q = (f ≡ false) × ((k : ℕ) → 1 ≤ k → k ≤ 16 → slot_at p.sessions k ≢ None) × (q ≡ p)
-StepSession p (Ask.Leave sid) f (Done None) q = (f ≡ false) × IsJoined p.sessions sid × (q ≡ record p { sessions = slice_set p.sessions (sid.number - 1) None })
-StepSession p (Ask.Leave sid) f Stranger q = (f ≡ false) × (IsJoined p.sessions sid → ⊥) × (q ≡ p)
-StepSession p (Ask.Fault sid e) f (Done None) q = (f ≡ false) × IsJoined p.sessions sid × (q ≡ record p { status = pushed p.status e })
-StepSession p (Ask.Fault sid e) f Stranger q = (f ≡ false) × (IsJoined p.sessions sid → ⊥) × (q ≡ p)
-StepSession p (Ask.Unit sid command answered) f Stranger q = (f ≡ false) × (IsJoined p.sessions sid → ⊥) × (q ≡ p)
-StepSession p (Ask.Unit sid command answered) f a q = IsJoined p.sessions sid × StepUnit p answered command f a q
-StepSession p ask f answer q = ⊥
+abbrev pub StepSession : Option Sid → Panel → SessionAsk → Bool → SessionAnswer → Option WorkView → Panel → Type 0
+StepSession None p ask f answer work q = StepJoin p f answer work q
+StepSession (Some sid) p ask f Stranger None q = (f ≡ false) × (IsJoined p.sessions sid → ⊥) × (q ≡ p)
+StepSession (Some sid) p ask f answer work q = IsJoined p.sessions sid × StepJoined p ask f answer work q
+
+-- what is answered to no session by what the cage told
+abbrev pub outside_told : TakenSeen → AnswerView
+outside_told SaysIgnored = SaysMissed
+outside_told SaysFault = SaysFailed
+outside_told told = SaysTaken (work_of told)
+
+-- a happening that is no session's
+pub record StepOutside (p : Panel) (happening : Happening) (f : Bool) (answer : AnswerView) (q : Panel) : Type 0 where
+  pub told : TakenSeen
+  pub happens : Happens p happening f told q
+  pub answer_is : answer ≡ outside_told told
+
+-- the meter of this return is out under its ticket
+abbrev pub IsOut : Panel → FinishedSeen → Type 0
+IsOut p done = slot_at p.cage.out done.slot ≡ Some done.ticket
+
+-- The scan takes a meter's return: its reading is added and the scan goes on. A failure, of the meter or of a card on the
+-- way, ends the scan. The late return of a scan that ended puts its meter back, whatever came of it.
+abbrev pub Returns : Panel → FinishedSeen → Bool → TakenSeen → Panel → Type 0
+Returns p done f SaysIgnored q = (f ≡ false) × (TakesReturn p.cage done.slot done.ticket → ⊥) × (q ≡ record p { cage = with_back p.cage done })
+Returns p done f told q = TakesReturn p.cage done.slot done.ticket × Counts (with_back p.cage done) done.outcome told q.cage × Tolls p q.cage told f q
+
+-- a meter returns that was out under its ticket
+pub record IsReturned (p : Panel) (done : FinishedSeen) (f : Bool) (answer : AnswerView) (q : Panel) : Type 0 where
+  pub out : IsOut p done
+  pub told : TakenSeen
+  pub returns : Returns p done f told q
+  pub answer_is : answer ≡ outside_told told
+
+abbrev pub StepFinished : Panel → FinishedSeen → Bool → AnswerView → Panel → Type 0
+StepFinished p done f SaysBack q = (f ≡ false) × (IsOut p done → ⊥) × (q ≡ p)
+StepFinished p done f answer q = IsReturned p done f answer q
 
 -- What an ask does and is answered, before its event ends.
 abbrev pub Acts : Panel → AskView → Bool → AnswerView → Panel → Type 0
-Acts p (AskSession ask) f (SaysSession answer) q = StepSession p ask f answer q
-Acts p (AskInstall slot card) f SaysInstalled q = (f ≡ false) × CanInstall p.cage.rack slot card × (q ≡ with_rack p (slice_set p.cage.rack (slot - 1) (Some card)))
-Acts p (AskInstall slot card) f (SaysNotInstalled refusal) q = (f ≡ false) × RefusesInstall p.cage.rack slot card refusal × (q ≡ p)
-Acts p (AskEject slot) f (SaysEjected card) q = (f ≡ false) × (slot_at (all_open p.cage.rack) slot ≡ Some card) × (q ≡ record (with_rack p (slice_set p.cage.rack (slot - 1) None)) { status = calmed p.status })
-Acts p (AskEject slot) f (SaysNotEjected refusal) q = (f ≡ false) × RefusesEject p.cage.rack slot refusal × (q ≡ p)
+Acts p (AskSession ask) f (SaysSession answer work) q = StepSession (asker_of ask) p ask f answer work q
+Acts p (AskInstall slot card) f SaysInstalled q = (f ≡ false) × (is_running p ≡ false) × (slot_at p.cage.out slot ≡ None) × CanInstall p.cage.rack slot card × (q ≡ with_rack p (slice_set p.cage.rack (slot - 1) (Some card)))
+Acts p (AskInstall slot card) f (SaysNotInstalled refusal) q = (f ≡ false) × RefusesInstall p.cage slot card refusal × (q ≡ p)
+Acts p (AskEject slot) f (SaysEjected card) q = (f ≡ false) × (slot_at p.cage.out slot ≡ None) × (slot_at (all_open p.cage.rack) slot ≡ Some card) × (q ≡ record p { cage = without_card (stopped p.cage) slot; status = calmed p.status })
+Acts p (AskEject slot) f (SaysNotEjected refusal) q = (f ≡ false) × RefusesEject p.cage slot refusal × (q ≡ p)
+Acts p AskExternal f answer q = StepOutside p External f answer q
+Acts p (AskElapsed ticket) f answer q = StepOutside p (Elapsed ticket) f answer q
+Acts p (AskFinished done) f answer q = StepFinished p done f answer q
 Acts p ask f answer q = ⊥
 
--- What is asked of no joined session, held, or can't be numbered is no event. A refusal queues its error, and then the
--- event ends: a service request arises or not.
-abbrev pub session_ended : SessionAnswer → StatusSeen → StatusSeen
-session_ended Stranger s = s
-session_ended Broken s = s
-session_ended (Hold ask) s = s
-session_ended (Worn ask) s = s
-session_ended (Refused e) s = event_ended (pushed s e)
-session_ended (Joined sid) s = event_ended s
-session_ended Full s = event_ended s
-session_ended (Done text) s = event_ended s
+-- what still acts when no more events can be numbered: what makes a scan idle, or brings a meter back
+abbrev pub acts_unnumbered : AskView → Bool
+acts_unnumbered (AskSession (Ask.Unit sid Command.Abort answered)) = true
+acts_unnumbered (AskEject slot) = true
+acts_unnumbered (AskFinished done) = true
+acts_unnumbered ask = false
 
--- the status after the event
-abbrev pub ended : AnswerView → StatusSeen → StatusSeen
-ended (SaysSession answer) s = session_ended answer s
-ended SaysInstalled s = event_ended s
-ended (SaysNotInstalled refusal) s = event_ended s
-ended (SaysEjected card) s = event_ended s
-ended (SaysNotEjected refusal) s = event_ended s
+-- the ask is handed back
+abbrev pub IsWorn : AskView → AnswerView → Type 0
+IsWorn (AskSession ask) (SaysSession (Worn back) None) = back ≡ ask
+IsWorn (AskSession ask) answer = ⊥
+IsWorn ask SaysWorn = Unit {0}
+IsWorn ask answer = ⊥
+
+-- an event that is numbered, or an ask that still acts
+pub record IsEvent (p : Panel) (ask : AskView) (f : Bool) (answer : AnswerView) (q : Panel) : Type 0 where
+  pub done : Panel
+  pub acts : Acts p ask f answer done
+  pub after : q ≡ concluded answer done
+
+-- an ask that can't be numbered any more changes nothing
+pub record IsUnnumbered (p : Panel) (ask : AskView) (f : Bool) (answer : AnswerView) (q : Panel) : Type 0 where
+  pub worn : IsWorn ask answer
+  pub unfailed : f ≡ false
+  pub same : q ≡ p
 
 -- From p, in a call in which a card failed or none did, the mainframe may give this answer and go on to q.
 abbrev pub Step : Panel → AskView → Bool → AnswerView → Panel → Type 0
-Step p ask f answer q = (done : Panel) × Acts p ask f answer done × (q ≡ record done { status = ended answer done.status })
+Step p ask f answer q = MatchBool ((p.events == last_number) && not (acts_unnumbered ask)) (IsUnnumbered p ask f answer q) (IsEvent p ask f answer q)

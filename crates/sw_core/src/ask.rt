@@ -1,9 +1,10 @@
 //! What is asked of the mainframe, and what it answers.
 
 use sw_base::{ScpiError, Sequence};
-use sw_cage::{EjectRefusal, InstallRefusal};
+use sw_cage::{EjectRefusal, Finished, InstallRefusal, Job, Ticket};
 use sw_card::{Card, Meter, Relay};
 use sw_lex::Command;
+use sw_verify::{Plan, Snapshot};
 
 /// A session: its number, 1 to 16, and the number of events after its Join, which tells it from an earlier session
 /// of that number.
@@ -26,6 +27,12 @@ pub enum SessionAsk {
     Unit(Sid, Command, bool),
     /// To queue an error that was found outside.
     Fault(Sid, ScpiError),
+    /// To give a bus trigger, as the interface's trigger message does.
+    Bus(Sid),
+    /// What a scan would begin from now, to be checked outside.
+    Snapshot(Sid),
+    /// To begin a scan that passed the check.
+    Start(Sid, Plan),
 }
 
 /// What a session is answered. It carries no card.
@@ -41,12 +48,23 @@ pub enum SessionAnswer {
     Broken,
     /// It was done. A query's answer comes with it.
     Done(Option<Sequence<u8>>),
+    /// What a scan would begin from.
+    Snapshot(Snapshot),
     /// It was refused, for this error.
     Refused(ScpiError),
     /// It can't be done yet: it is to be asked again after a wait.
     Hold(SessionAsk),
     /// The mainframe has numbered all the events that it can.
     Worn(SessionAsk),
+}
+
+/// What is to be carried out outside the mainframe before its scan goes on.
+#[derive(Drop)]
+pub enum Work<M: Meter> {
+    /// A measurement.
+    Measure(Job<M>),
+    /// A pause of so many microseconds, whose end is told under this ticket.
+    Pause(Ticket, u64),
 }
 
 /// What is asked of the mainframe.
@@ -58,13 +76,19 @@ pub enum Ask<R: Relay, M: Meter> {
     Install(u8, Card<R, M>),
     /// To hand the card of a slot out.
     Eject(u8),
+    /// The external trigger came.
+    External,
+    /// The pause under this ticket is over.
+    Elapsed(Ticket),
+    /// A meter has measured.
+    Finished(Finished<M>),
 }
 
 /// What the mainframe answers.
 #[derive(Drop)]
 pub enum Answer<R: Relay, M: Meter> {
-    /// What a session is answered.
-    Session(SessionAnswer),
+    /// What a session is answered, and the work that its scan awaits now.
+    Session(SessionAnswer, Option<Work<M>>),
     /// The card is in its slot.
     Installed,
     /// The card was not taken in, and is handed back.
@@ -73,4 +97,14 @@ pub enum Answer<R: Relay, M: Meter> {
     Ejected(Card<R, M>),
     /// No card came out.
     NotEjected(EjectRefusal),
+    /// The scan took it, and awaits this work now.
+    Taken(Option<Work<M>>),
+    /// No scan takes it. A meter that came with it is back in its slot.
+    Missed,
+    /// The scan took it and is over, for a card failed.
+    Failed,
+    /// The meter is not out under its ticket here, and is handed back.
+    Back(Finished<M>),
+    /// The mainframe has numbered all the events that it can.
+    Worn(Ask<R, M>),
 }

@@ -2,33 +2,77 @@
 
 ghost use Rattle.std.specs.Prelude.{◌≡◌};
 ghost use Rattle.sw_core.specs.View.{answer_view};
-ghost use Rattle.sw_core.specs.Step.{ended, session_ended};
+ghost use Rattle.sw_core.specs.Event.{concluded, session_concluded, ended, awaited_bits};
 
 use crate::ask::{Answer, SessionAnswer};
+use crate::machine::Core;
+use sw_base::{LayerName, ScpiError, StatusGroup};
 use sw_card::{Meter, Relay};
-use sw_status::Status;
+use sw_trigger::Awaited;
 
-/// Queues the error of a refusal, and ends the event. What was no event changes nothing.
-pub fn end_event<R: Relay, M: Meter>(status: &mut Status, answer: &Answer<R, M>)
-    ensures { status.new ≡ ended (answer_view answer.now) status.old }
+/// OPERation's condition: measuring (SCPI-1999, 20.2).
+const MEASURING: u16 = 1 << 4;
+/// Waiting for TRIGger.
+const WAITING_FOR_TRIGGER: u16 = 1 << 5;
+/// Waiting for ARM.
+const WAITING_FOR_ARM: u16 = 1 << 6;
+
+/// What OPERation tells where a scan awaits this.
+fn awaited_bits(awaited: Option<Awaited>) -> u16
+    ensures { result ≡ awaited_bits awaited }
 {
-    match answer {
-        Answer::Session(answer) => end_session_event(status, answer),
-        _ => status.end_event(),
+    match awaited {
+        Some(Awaited::Read) => MEASURING,
+        Some(Awaited::Wait(LayerName::Trigger)) => WAITING_FOR_TRIGGER,
+        Some(Awaited::Wait(LayerName::Arm1 | LayerName::Arm2)) => WAITING_FOR_ARM,
+        Some(Awaited::Pause(_)) | None => 0,
     }
 }
 
-/// Queues the error of a session's refusal, and ends the event.
-fn end_session_event(status: &mut Status, answer: &SessionAnswer)
-    ensures { status.new ≡ session_ended answer.now status.old }
-{
-    match answer {
-        SessionAnswer::Stranger
-        | SessionAnswer::Broken
-        | SessionAnswer::Hold(_)
-        | SessionAnswer::Worn(_) => return,
-        SessionAnswer::Refused(error) => status.push_error(*error),
-        SessionAnswer::Joined(_) | SessionAnswer::Full | SessionAnswer::Done(_) => {}
+impl<R: Relay, M: Meter> Core<R, M> {
+    /// Queues the error of a refusal, and ends the event. What was no event changes nothing.
+    pub(crate) fn end_event(&mut self, answer: &Answer<R, M>)
+        ensures { self.new ≡ concluded (answer_view answer.now) self.old }
+    {
+        match answer {
+            Answer::Session(answer, _) => self.end_session_event(answer),
+            Answer::Failed => {
+                self.status.push_error(ScpiError::HardwareError);
+                self.count_event();
+            }
+            Answer::Back(_) | Answer::Worn(_) => {}
+            _ => self.count_event(),
+        }
     }
-    status.end_event();
+
+    /// Queues the error of a session's refusal, and ends the event.
+    fn end_session_event(&mut self, answer: &SessionAnswer)
+        ensures { self.new ≡ session_concluded answer.now self.old }
+    {
+        match answer {
+            SessionAnswer::Stranger
+            | SessionAnswer::Broken
+            | SessionAnswer::Hold(_)
+            | SessionAnswer::Worn(_) => return,
+            SessionAnswer::Refused(error) => self.status.push_error(*error),
+            _ => {}
+        }
+        self.count_event();
+    }
+
+    /// `*OPC` is done where no scan runs, OPERation tells what the scan awaits, a service request arises or not, and the
+    /// event is counted.
+    fn count_event(&mut self)
+        ensures { self.new ≡ ended self.old }
+    {
+        let running = self.cage.is_running();
+        if self.pending && !running {
+            self.status.operation_complete();
+        }
+        self.pending = self.pending && running;
+        let bits = awaited_bits(self.cage.awaited());
+        self.status.set_condition(StatusGroup::Operation, bits);
+        self.status.end_event();
+        self.events = self.events.saturating_add(1);
+    }
 }

@@ -5,18 +5,21 @@
 //! channel is closed and no two closed channels clash; the laws in `laws.rt` say so, and what closing, opening, refusing,
 //! failing and ejecting come to.
 //!
-//! Events aren't numbered yet. What a relay really does is its card's own word.
+//! Errors are answered and not kept yet, and events aren't numbered. What a relay really does is its card's own word.
 #![tactic(auto)]
 
 mod ask;
+mod asks;
 mod event;
 mod laws;
 mod machine;
 mod registers;
 mod relays;
+mod scans;
 mod sessions;
 mod text;
+mod units;
 
-pub use ask::{Answer, Ask, SessionAnswer, SessionAsk, Sid};
-pub use laws::{every_run_is_exclusive, relays_obey, step_is_determined};
+pub use ask::{Answer, Ask, SessionAnswer, SessionAsk, Sid, Work};
+pub use laws::{every_run_is_good, every_scan_ends, relays_obey, step_is_determined};
 pub use machine::Core;

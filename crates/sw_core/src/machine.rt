@@ -1,40 +1,45 @@
 //! The whole state of the mainframe, and the one call that changes it.
 
-ghost use Rattle.std.specs.Prelude.{◌≡◌, Bool, IfOk, None};
+ghost use Rattle.std.specs.Prelude.{◌≡◌, ◌&&◌, Bool, IfOk, None, Some};
 ghost use Rattle.sw_cage.specs.Change.{any_failed};
-ghost use Rattle.sw_core.specs.View.{ask_view, answer_view, HandsBack, AskInstall, AskEject};
-ghost use Rattle.sw_core.specs.Answers.{Takes};
-ghost use Rattle.sw_core.specs.Panel.{Panel, opening};
-ghost use Rattle.sw_core.specs.Registers.{number_told, status_set};
-ghost use Rattle.sw_core.specs.Step.{Step, Acts, StepSession, StepUnit, StepDeed, deed_of};
+ghost use Rattle.sw_core.specs.Sessions.{IsJoined};
+ghost use Rattle.sw_core.specs.View.{ask_view, answer_view, work_view, failed_in, HandsBack, AskInstall, AskEject};
+ghost use Rattle.sw_core.specs.Panel.{Panel, opening, opening_at, is_running};
+ghost use Rattle.sw_core.specs.Registers.{waits_for_idle};
+ghost use Rattle.sw_core.specs.Step.{Step, Acts, StepSession, StepJoin, StepJoined, StepCommand, asker_of};
 
-use crate::ask::{Answer, Ask, SessionAnswer, SessionAsk};
-use crate::event::end_event;
-use crate::registers::{calm, set_status};
+use crate::ask::{Answer, Ask, SessionAnswer, SessionAsk, Sid, Work};
+use crate::asks::{acts_unnumbered, asker, unnumbered};
+use crate::registers::{calm, waits_for_idle};
+use crate::scans::happening_of;
 use crate::sessions::Sessions;
-use crate::text::{identity, seconds, source_word, told, version, whole};
 use std::alloc::{AllocError, Global};
 use std::marker::Model;
 use sw_base::ScpiError;
-use sw_cage::Cage;
+use sw_cage::{Cage, Happening};
 use sw_card::{Card, Meter, Relay};
 use sw_lex::Command;
 use sw_status::Status;
 use sw_trigger::Settings;
 
-/// The mainframe: its cage of cards, its sessions, its status and the settings of its scans. Contracts see its panel.
+/// The mainframe: its cage of cards and its scan, its sessions, its status and the settings of its scans. Contracts see
+/// its panel.
 #[derive(Drop)]
 pub struct Core<R: Relay, M: Meter> {
     pub(crate) cage: Cage<R, M>,
     pub(crate) sessions: Sessions,
     pub(crate) status: Status,
     pub(crate) settings: Settings,
+    /// Whether `*OPC` waits for the end of the scan.
+    pub(crate) pending: bool,
+    /// How many events there were.
+    pub(crate) events: u64,
 }
 
 impl<R: Relay, M: Meter> Model for Core<R, M> {
     ghost Value = { Panel };
 
-    ghost view = { λ c. record { cage = c.cage; sessions = c.sessions; status = c.status; settings = c.settings } };
+    ghost view = { λ c. record { cage = c.cage; sessions = c.sessions; status = c.status; settings = c.settings; pending = c.pending; events = c.events } };
 }
 
 impl<R: Relay, M: Meter> Core<R, M> {
@@ -42,36 +47,63 @@ impl<R: Relay, M: Meter> Core<R, M> {
     pub fn new(alloc: Global) -> Result<Self, AllocError>
         ensures { IfOk result (λ core. core ≡ opening) }
     {
+        Core::with_counts(alloc, 0, 0)
+    }
+
+    /// A mainframe that counts its events and its scans on from these numbers.
+    pub fn with_counts(alloc: Global, events: u64, scans: u64) -> Result<Self, AllocError>
+        ensures { IfOk result (λ core. core ≡ opening_at events scans) }
+    {
         Ok(Core {
-            cage: Cage::new(alloc)?,
+            cage: Cage::with_number(alloc, scans)?,
             sessions: Sessions::new(),
             status: Status::new(alloc)?,
             settings: Settings::new(alloc),
+            pending: false,
+            events,
         })
+    }
+
+    /// The number of events so far. It stays at 2^64 - 1.
+    pub fn events(&self) -> u64
+        ensures { result ≡ self.now.events }
+    {
+        self.events
     }
 
     /// Does what is asked: one event.
     ///
-    /// A refusal queues its error. Only a query's text takes memory; where there is none, the query is refused by -225
-    /// and reads nothing out.
+    /// A refusal queues its error. Only queries, snapshots and the start of a scan take memory; where there is none, they
+    /// are refused by -225 and change nothing. When 2^64 - 1 events were numbered, an ask is handed back, but for an
+    /// abort, an eject and the return of a meter, which still act.
+    #[tactic(auto, using(crate::proofs::Numbered::worn_step, crate::proofs::Numbered::numbered_step))]
     pub fn apply(&mut self, alloc: Global, ask: Ask<R, M>) -> Answer<R, M>
-        ensures step { Step self.old (ask_view ask) (any_failed self.old.cage.rack self.new.cage.rack) (answer_view result) self.new }
+        ensures step { Step self.old (ask_view ask) (failed_in (ask_view ask) (answer_view result) self.old.cage.rack self.new.cage.rack) (answer_view result) self.new }
         ensures back { HandsBack ask result }
     {
+        if self.events == u64::MAX && !acts_unnumbered(&ask) {
+            return unnumbered(ask);
+        }
         let answer = self.act(alloc, ask);
-        end_event(&mut self.status, &answer);
+        self.end_event(&answer);
         answer
     }
 
     /// Does what is asked, and leaves the end of the event to the caller.
     fn act(&mut self, alloc: Global, ask: Ask<R, M>) -> Answer<R, M>
-        ensures acts { Acts self.old (ask_view ask) (any_failed self.old.cage.rack self.new.cage.rack) (answer_view result) self.new }
+        ensures acts { Acts self.old (ask_view ask) (failed_in (ask_view ask) (answer_view result) self.old.cage.rack self.new.cage.rack) (answer_view result) self.new }
         ensures back { HandsBack ask result }
     {
         match ask {
-            Ask::Session(ask) => Answer::Session(self.session(alloc, ask)),
+            Ask::Session(ask) => {
+                let (answer, work) = self.session(alloc, ask);
+                Answer::Session(answer, work)
+            }
             Ask::Install(slot, card) => self.install(slot, card),
             Ask::Eject(slot) => self.eject(slot),
+            Ask::External => self.outside(Happening::External),
+            Ask::Elapsed(ticket) => self.outside(Happening::Elapsed(ticket)),
+            Ask::Finished(done) => self.finished(done),
         }
     }
 
@@ -100,97 +132,81 @@ impl<R: Relay, M: Meter> Core<R, M> {
     }
 
     #[tactic(auto, using(crate::proofs::Calls::failed_same))]
-    fn session(&mut self, alloc: Global, ask: SessionAsk) -> SessionAnswer
-        ensures { StepSession self.old ask (any_failed self.old.cage.rack self.new.cage.rack) result self.new }
+    fn session(&mut self, alloc: Global, ask: SessionAsk) -> (SessionAnswer, Option<Work<M>>)
+        ensures { StepSession (asker_of ask) self.old ask (any_failed self.old.cage.rack self.new.cage.rack) result.0 (work_view result.1) self.new }
+    {
+        match asker(&ask) {
+            None => (self.join(), None),
+            Some(sid) => {
+                if !self.sessions.has(sid) {
+                    return (SessionAnswer::Stranger, None);
+                }
+                self.joined(alloc, sid, ask)
+            }
+        }
+    }
+
+    /// Makes a new session.
+    #[tactic(auto, using(crate::proofs::Calls::failed_same))]
+    fn join(&mut self) -> SessionAnswer
+        ensures { StepJoin self.old (any_failed self.old.cage.rack self.new.cage.rack) result None self.new }
+    {
+        match self.sessions.join(self.events.saturating_add(1)) {
+            Some(sid) => SessionAnswer::Joined(sid),
+            None => SessionAnswer::Full,
+        }
+    }
+
+    /// Does what a session that is joined asks.
+    #[tactic(auto, using(crate::proofs::Calls::failed_same))]
+    fn joined(
+        &mut self,
+        alloc: Global,
+        sid: Sid,
+        ask: SessionAsk,
+    ) -> (SessionAnswer, Option<Work<M>>)
+        requires asker { asker_of ask ≡ Some sid }
+        requires joined { IsJoined self.old.sessions sid }
+        ensures { StepJoined self.old ask (any_failed self.old.cage.rack self.new.cage.rack) result.0 (work_view result.1) self.new }
     {
         match ask {
-            SessionAsk::Join => match self.sessions.join(0) {
-                Some(sid) => SessionAnswer::Joined(sid),
-                None => SessionAnswer::Full,
-            },
-            SessionAsk::Leave(sid) => {
-                if !self.sessions.has(sid) {
-                    return SessionAnswer::Stranger;
-                }
+            SessionAsk::Join => unreachable!(),
+            SessionAsk::Leave(_) => {
                 self.sessions.leave(sid);
-                SessionAnswer::Done(None)
+                (SessionAnswer::Done(None), None)
             }
-            SessionAsk::Fault(sid, error) => {
-                if !self.sessions.has(sid) {
-                    return SessionAnswer::Stranger;
-                }
+            SessionAsk::Fault(_, error) => {
                 self.status.push_error(error);
-                SessionAnswer::Done(None)
+                (SessionAnswer::Done(None), None)
             }
-            SessionAsk::Unit(sid, command, answered) => {
-                if !self.sessions.has(sid) {
-                    return SessionAnswer::Stranger;
-                }
-                self.unit(alloc, command, answered)
-            }
+            SessionAsk::Unit(sid, command, answered) => self.command(alloc, sid, command, answered),
+            SessionAsk::Bus(_) => self.offer(Happening::Bus, ScpiError::TriggerIgnored),
+            SessionAsk::Snapshot(_) => (self.snapshot(alloc), None),
+            SessionAsk::Start(_, plan) => self.start(alloc, plan),
         }
     }
 
-    /// Carries out a command; `answered` says whether its message has answered before.
-    #[tactic(auto, using(crate::proofs::Calls::failed_same, crate::proofs::Units::other_unit))]
-    fn unit(&mut self, alloc: Global, command: Command, answered: bool) -> SessionAnswer
-        ensures { StepUnit self.old answered command (any_failed self.old.cage.rack self.new.cage.rack) result self.new }
-    {
-        if let Some(n) = self.number(&command, answered) {
-            return told(whole(alloc, n));
-        }
-        if set_status(&mut self.status, &command) {
-            return SessionAnswer::Done(None);
-        }
-        self.more(alloc, command)
-    }
-
-    /// Carries out a command that does more than tell a number or set the status.
+    /// Carries out a command, unless it waits for the end of the scan; `answered` says whether its message has answered
+    /// before.
     #[tactic(auto, using(crate::proofs::Calls::failed_same))]
-    fn more(&mut self, alloc: Global, command: Command) -> SessionAnswer
-        ensures { StepDeed (deed_of self.old command) self.old (any_failed self.old.cage.rack self.new.cage.rack) result self.new }
+    fn command(
+        &mut self,
+        alloc: Global,
+        sid: Sid,
+        command: Command,
+        answered: bool,
+    ) -> (SessionAnswer, Option<Work<M>>)
+        ensures { StepCommand (is_running self.old && waits_for_idle command) self.old (SessionAsk.Unit sid command answered) answered command (any_failed self.old.cage.rack self.new.cage.rack) result.0 (work_view result.1) self.new }
     {
-        match command {
-            Command::Identify => told(identity(alloc)),
-            Command::VersionQuery => told(version(alloc)),
-            Command::CloseState => self.close_state(alloc),
-            Command::ScanQuery => self.scan_query(alloc),
-            Command::SourceQuery(layer) => told(source_word(
-                alloc,
-                self.settings.layer(layer).source,
-            )),
-            Command::DelayQuery(layer) => told(seconds(alloc, self.settings.layer(layer).delay_us)),
-            Command::EventQuery => self.event_query(alloc),
-            Command::GroupEventQuery(group) => self.group_event_query(alloc, group),
-            Command::NextErrorQuery => self.next_error(alloc),
-            Command::AllErrorsQuery => self.all_errors(alloc),
-            Command::Close(chans) => self.close(chans.as_slice()),
-            Command::CloseQuery(chans) => self.flags(alloc, true, chans.as_slice()),
-            Command::Open(chans) => self.open(chans.as_slice()),
-            Command::OpenQuery(chans) => self.flags(alloc, false, chans.as_slice()),
-            Command::OpenAll => self.open_everything(),
-            Command::Reset => self.reset(),
-            Command::Trigger => SessionAnswer::Refused(ScpiError::TriggerIgnored),
-            Command::Count(layer, n) => taken(self.settings.set_count(layer, n)),
-            Command::SetSource(layer, source) => {
-                self.settings.set_source(layer, source);
-                SessionAnswer::Done(None)
-            }
-            Command::Delay(layer, micros) => taken(self.settings.set_delay(layer, micros)),
-            Command::Scan(chans) => taken(self.settings.set_list(chans.into_vec())),
-            Command::ScanMeter(slot) => taken(self.settings.set_meter(slot)),
-            Command::Points(n) => taken(self.settings.set_points(n)),
-            _ => SessionAnswer::Refused(ScpiError::UndefinedHeader),
+        if self.cage.is_running() && waits_for_idle(&command) {
+            return (
+                SessionAnswer::Hold(SessionAsk::Unit(sid, command, answered)),
+                None,
+            );
         }
-    }
-}
-
-/// What a setting's command is answered.
-fn taken(set: Result<(), ScpiError>) -> SessionAnswer
-    ensures { Takes set result }
-{
-    match set {
-        Ok(()) => SessionAnswer::Done(None),
-        Err(error) => SessionAnswer::Refused(error),
+        match happening_of(&command) {
+            Some((happening, error)) => self.offer(happening, error),
+            None => (self.unit(alloc, command, answered), None),
+        }
     }
 }

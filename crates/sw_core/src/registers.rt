@@ -1,14 +1,14 @@
 //! Commands that tell or set status and settings, and call no card.
 
-ghost use Rattle.std.specs.Prelude.{◌≡◌, Bool, Some, None, true, false};
-ghost use Rattle.sw_core.specs.Registers.{number_told, status_set, alarmed, calmed};
+ghost use Rattle.std.specs.Prelude.{◌≡◌, Bool, Some, None, true, false, if◌then◌else◌};
+ghost use Rattle.sw_core.specs.Registers.{number_told, status_set, alarmed, calmed, is_for_idle, waits_for_idle};
 ghost use Rattle.sw_core.specs.Step.{StepDeed, deed_of};
 
 use crate::ask::SessionAnswer;
 use crate::machine::Core;
-use crate::text::{all_entries, oldest_entry, whole};
+use crate::text::{all_entries, all_readings, oldest_entry, whole};
 use std::alloc::Global;
-use sw_base::{ScpiError, Sequence, StatusGroup};
+use sw_base::{LayerName, ScpiError, Sequence, Source, StatusGroup};
 use sw_card::{Meter, Relay};
 use sw_channel::print_list;
 use sw_lex::Command;
@@ -31,6 +31,17 @@ pub fn calm(status: &mut Status)
     status.set_condition(StatusGroup::Questionable, 0);
 }
 
+/// Tells QUEStionable whether a card failed.
+pub fn tell_failure(status: &mut Status, failed: bool)
+    ensures { status.new ≡ (if failed then alarmed status.old else calmed status.old) }
+{
+    if failed {
+        alarm(status);
+    } else {
+        calm(status);
+    }
+}
+
 /// Sets the status as the command says, if it is one that sets the status alone.
 pub fn set_status(status: &mut Status, command: &Command) -> bool
     ensures done { result ≡ true → status_set status.old command.now ≡ Some status.new }
@@ -38,11 +49,8 @@ pub fn set_status(status: &mut Status, command: &Command) -> bool
     ensures same { result ≡ false → status.new ≡ status.old }
 {
     match command {
-        Command::ClearStatus => status.clear(),
         Command::EventEnable(bits) => status.set_ese(*bits),
         Command::ServiceEnable(bits) => status.set_sre(*bits),
-        Command::OperationComplete => status.operation_complete(),
-        Command::Wait => {}
         Command::Preset => status.preset(),
         Command::GroupEnable(group, bits) => status.set_enable(*group, *bits),
         Command::PositiveTransition(group, bits) => status.set_ptr(*group, *bits),
@@ -50,6 +58,34 @@ pub fn set_status(status: &mut Status, command: &Command) -> bool
         _ => return false,
     }
     true
+}
+
+/// Whether a command is refused while a scan runs.
+pub fn is_for_idle(command: &Command) -> bool
+    ensures { result ≡ is_for_idle command.now }
+{
+    match command {
+        Command::Close(_)
+        | Command::Open(_)
+        | Command::OpenAll
+        | Command::Scan(_)
+        | Command::ScanMeter(_)
+        | Command::Count(_, _)
+        | Command::SetSource(_, _)
+        | Command::Delay(_, _)
+        | Command::Points(_) => true,
+        _ => false,
+    }
+}
+
+/// Whether a command is held until no scan runs.
+pub fn waits_for_idle(command: &Command) -> bool
+    ensures { result ≡ waits_for_idle command.now }
+{
+    match command {
+        Command::OperationCompleteQuery | Command::Wait => true,
+        _ => false,
+    }
 }
 
 impl<R: Relay, M: Meter> Core<R, M> {
@@ -64,7 +100,7 @@ impl<R: Relay, M: Meter> Core<R, M> {
             Command::ServiceEnableQuery => u64::from(status.sre()),
             Command::StatusByteQuery => u64::from(status.byte(answered)),
             Command::OperationCompleteQuery => 1,
-            Command::SelfTestQuery => 0,
+            Command::SelfTestQuery | Command::InitiateContinuousQuery => 0,
             Command::GroupConditionQuery(group) => u64::from(status.group(*group).condition()),
             Command::GroupEnableQuery(group) => u64::from(status.group(*group).enable()),
             Command::PositiveTransitionQuery(group) => u64::from(status.group(*group).ptr()),
@@ -73,6 +109,7 @@ impl<R: Relay, M: Meter> Core<R, M> {
             Command::CountQuery(layer) => u64::from(settings.layer(*layer).count),
             Command::ScanMeterQuery => u64::from(settings.meter()),
             Command::PointsQuery => u64::from(settings.points()),
+            Command::ActualPointsQuery => self.cage.readings().len() as u64,
             Command::BoundQuery => settings.bound(),
             _ => return None,
         })
@@ -138,5 +175,44 @@ impl<R: Relay, M: Meter> Core<R, M> {
             }
             Err(_) => SessionAnswer::Refused(ScpiError::OutOfMemory),
         }
+    }
+
+    /// The readings of the last scan.
+    pub(crate) fn fetch(&self, alloc: Global) -> SessionAnswer
+        ensures { StepDeed (deed_of self.now Command.Fetch) self.now Bool.false result self.now }
+    {
+        let readings = self.cage.readings();
+        if readings.is_empty() {
+            return SessionAnswer::Refused(ScpiError::DataCorruptOrStale);
+        }
+        match all_readings(alloc, readings) {
+            Ok(text) => SessionAnswer::Done(Some(text)),
+            Err(_) => SessionAnswer::Refused(ScpiError::OutOfMemory),
+        }
+    }
+
+    /// Clears the error queue and the event registers, and drops a pending `*OPC` (IEEE 488.2, 10.3).
+    pub(crate) fn clear_status(&mut self) -> SessionAnswer
+        ensures { StepDeed (deed_of self.old Command.ClearStatus) self.old Bool.false result self.new }
+    {
+        self.status.clear();
+        self.pending = false;
+        SessionAnswer::Done(None)
+    }
+
+    /// Lets the end of the scan set its event bit; the end of this event, where no scan runs (IEEE 488.2, 10.18).
+    pub(crate) fn complete_operation(&mut self) -> SessionAnswer
+        ensures { StepDeed (deed_of self.old Command.OperationComplete) self.old Bool.false result self.new }
+    {
+        self.pending = true;
+        SessionAnswer::Done(None)
+    }
+
+    /// Sets where a layer's wait takes its trigger from.
+    pub(crate) fn set_source(&mut self, layer: LayerName, source: Source) -> SessionAnswer
+        ensures { StepDeed (deed_of self.old (Command.SetSource layer source)) self.old Bool.false result self.new }
+    {
+        self.settings.set_source(layer, source);
+        SessionAnswer::Done(None)
     }
 }

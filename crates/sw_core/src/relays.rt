@@ -1,8 +1,8 @@
 //! Commands that call the relay cards.
 
-ghost use Rattle.std.specs.Prelude.{◌≡◌, Bool};
+ghost use Rattle.std.specs.Prelude.{◌≡◌, Bool, None};
 ghost use Rattle.sw_cage.specs.Change.{any_failed};
-ghost use Rattle.sw_lex.specs.declared.command.Command.TheVariants.{CloseState, OpenAll, Reset};
+ghost use Rattle.sw_lex.specs.declared.command.Command.TheVariants.{Abort, CloseState, OpenAll, Reset};
 ghost use Rattle.sw_core.specs.Step.{StepDeed, deed_of, StepClose, StepOpen, StepFlags};
 
 use crate::ask::SessionAnswer;
@@ -19,6 +19,7 @@ impl<R: Relay, M: Meter> Core<R, M> {
     /// Judges the whole list, and then closes one channel after another.
     #[tactic(auto, using(crate::proofs::Calls::failed_same))]
     pub(crate) fn close(&mut self, chans: &[Chan]) -> SessionAnswer
+        requires idle { self.old.cage.scan ≡ None }
         ensures { StepClose self.old chans.now (any_failed self.old.cage.rack self.new.cage.rack) result self.new }
     {
         match self.cage.judge(chans) {
@@ -38,6 +39,7 @@ impl<R: Relay, M: Meter> Core<R, M> {
     /// Opens one channel after another.
     #[tactic(auto, using(crate::proofs::Calls::failed_same))]
     pub(crate) fn open(&mut self, chans: &[Chan]) -> SessionAnswer
+        requires idle { self.old.cage.scan ≡ None }
         ensures { StepOpen self.old chans.now (any_failed self.old.cage.rack self.new.cage.rack) result self.new }
     {
         if !self.cage.all_present(chans) {
@@ -56,20 +58,33 @@ impl<R: Relay, M: Meter> Core<R, M> {
     /// Opens every relay.
     #[tactic(auto, using(crate::proofs::Calls::failed_open))]
     pub(crate) fn open_everything(&mut self) -> SessionAnswer
+        requires idle { self.old.cage.scan ≡ None }
         ensures { StepDeed (deed_of self.old OpenAll) self.old (any_failed self.old.cage.rack self.new.cage.rack) result self.new }
     {
         self.cage.open_all();
         SessionAnswer::Done(None)
     }
 
-    /// Opens every relay, and sets the settings to their reset values (IEEE 488.2, 10.32).
+    /// Ends the scan, and opens every relay (SCPI-1999, 3).
+    #[tactic(auto, using(crate::proofs::Calls::failed_open))]
+    pub(crate) fn abort(&mut self) -> SessionAnswer
+        ensures { StepDeed (deed_of self.old Abort) self.old (any_failed self.old.cage.rack self.new.cage.rack) result self.new }
+    {
+        self.cage.abort();
+        SessionAnswer::Done(None)
+    }
+
+    /// Ends the scan, opens every relay, drops the readings and a pending `*OPC`, and sets the settings to their reset
+    /// values (IEEE 488.2, 10.32).
     #[tactic(auto, using(crate::proofs::Calls::failed_open))]
     pub(crate) fn reset(&mut self) -> SessionAnswer
         ensures { StepDeed (deed_of self.old Reset) self.old (any_failed self.old.cage.rack self.new.cage.rack) result self.new }
     {
-        self.cage.open_all();
+        self.cage.abort();
+        self.cage.reset_readings();
         calm(&mut self.status);
         self.settings.reset();
+        self.pending = false;
         SessionAnswer::Done(None)
     }
 

@@ -2,14 +2,15 @@
 
 ghost use Rattle.std.specs.Prelude.{◌≡◌, ◌<◌, ◌∷◌, [], ◌++◌, List, ℕ, length, IfOk, OnOk, map, decimal};
 ghost use Rattle.std.specs.List.{join_with_byte};
-ghost use Rattle.sw_base.specs.Reading.{fixed};
+ghost use Rattle.sw_base.specs.Reading.{fixed, reading_text};
 ghost use Rattle.sw_cage.specs.Rack.{is_closed};
 ghost use Rattle.sw_core.specs.Answers.{identity, version, flag_of, as_asked, entry, entry_of, no_error, oldest_entry, all_entries, source_word, IsRow, IsOpen, Tells};
 
 use crate::ask::SessionAnswer;
 use std::alloc::{AllocError, Global};
 use sw_base::{
-    Chan, NO_ERROR, ScpiError, Sequence, Source, print_micros, print_number, print_signed,
+    Chan, NO_ERROR, Reading, ScpiError, Sequence, Source, print_micros, print_number,
+    print_reading, print_signed,
 };
 use sw_cage::Cage;
 use sw_card::{Meter, Relay};
@@ -117,6 +118,29 @@ pub fn all_entries(alloc: Global, errors: &[ScpiError]) -> Result<Sequence<u8>, 
         add_entry(&mut text, *error)?;
     }
     Ok(Sequence::new(text))
+}
+
+/// The readings, joined by commas.
+#[tactic(auto, using(crate::proofs::Rows::reading_some))]
+pub fn all_readings(alloc: Global, readings: &[Reading]) -> Result<Sequence<u8>, AllocError>
+    ensures { IfOk result (λ text. text ≡ join_with_byte 44 (map reading_text readings.now)) }
+{
+    let mut text = Vec::with_capacity(alloc, readings.len())?;
+    for reading in readings {
+        separate(&mut text)?;
+        add_reading(&mut text, *reading)?;
+    }
+    Ok(Sequence::new(text))
+}
+
+/// Adds a reading.
+fn add_reading(text: &mut Vec<u8>, reading: Reading) -> Result<(), AllocError>
+    ensures { OnOk result (text.new.items ≡ text.old.items ++ reading_text reading) }
+{
+    let mut buffer = [0; 32];
+    let end = print_reading(reading, &mut buffer);
+    text.extend_from_slice(&buffer[..end])?;
+    Ok(())
 }
 
 /// What an empty error queue answers.

@@ -6,7 +6,7 @@ use Rattle.sw_lex.specs.Table.{rows as all_rows, from_common_rows, from_common_s
 use Rattle.sw_lex.specs.declared.table.Key.{Key}
 use Rattle.sw_lex.specs.declared.table.Row.{Row}
 use Rattle.sw_lex.specs.Found.{IsIn, Spelling, spellings, IsFound}
-use Rattle.sw_lex.proofs.Spelled.{all_short}
+use Rattle.sw_lex.proofs.Spelled.{all_short, all_fit}
 use Rattle.sw_lex.specs.Apart.{same_word, same_words, lacks_words, disjoint, one_number, numbers_agree, same_bool, apart_from, all_apart}
 
 pub rows_apart : all_apart all_rows ≡ true
@@ -131,3 +131,7 @@ one_found rows t ws query key other k m f g =
 pub rows_short : all_short all_rows ≡ true
 unfolding from_common_rows from_common_status_rows from_macro_rows from_arm_rows from_initiate_rows from_trigger_rows from_route_rows from_operation_rows from_questionable_rows from_system_rows from_diagnostic_rows from_fetch_rows
 rows_short = refl
+
+pub rows_fit : all_fit all_rows ≡ true
+unfolding from_common_rows from_common_status_rows from_macro_rows from_arm_rows from_initiate_rows from_trigger_rows from_route_rows from_operation_rows from_questionable_rows from_system_rows from_diagnostic_rows from_fetch_rows
+rows_fit = refl

@@ -1,15 +1,22 @@
 -- The nodes of a header.
-use Rattle.std.proofs.Common.{◌≡◌, ℕ, ◌<◌, Bool, true, false, not, List, [], ◌∷◌, ◌++◌, length, refl, sym, ap, ◌∙◌, map, append_assoc, arith, Bor, inl, inr, subst, Err}
+use Rattle.std.proofs.Common.{◌≡◌, ℕ, ◌<◌, ◌≤◌, Bool, true, false, not, List, [], ◌∷◌, ◌++◌, length, refl, sym, ap, ◌∙◌, map, append_assoc, arith, Bor, inl, inr, subst, Err}
 use Rattle.std.specs.Prelude.{◌==◌, if◌then◌else◌}
+use Rattle.std.specs.List.{All, list_all}
+use Rattle.std.proofs.lemmas.Grind.{common_steps}
+use Rattle.std.proofs.lemmas.List.Elements.{All-weaker}
+use Rattle.std.proofs.lemmas.List.Folds.{list_all-map}
+use Rattle.std.proofs.lemmas.List.Sums.{AllPass-from_list_all}
 use Rattle.std.proofs.lemmas.List.{length-append, length-map, map_push}
 use Rattle.sw_base.specs.Text.{Lacks}
 use Rattle.sw_lex.specs.Meaning.{Nodes, nodes_of, led_by, looked_up, capitals, asked, IsNone, IsRefusal, Resolves}
 use Rattle.sw_lex.specs.Values.{unnumbered}
 use Rattle.sw_base.specs.declared.error.ScpiError.{ScpiError}
 use Rattle.sw_lex.specs.Unit.{UnitView}
+use Rattle.sw_lex.specs.declared.table.Key.{Key}
+use Rattle.sw_lex.specs.Found.{IsFound}
 use Rattle.sw_lex.specs.Table.{rows}
-use Rattle.sw_lex.proofs.Spelled.{too_long}
-use Rattle.sw_lex.proofs.Apart.{rows_short}
+use Rattle.sw_lex.proofs.Spelled.{too_long, node_fits, found_fits}
+use Rattle.sw_lex.proofs.Apart.{rows_short, rows_fit}
 use Rattle.sw_base.specs.declared.error.ScpiError.TheVariants.{UndefinedHeader}
 use Rattle.std.specs.Char.{to_ascii_uppercase}
 use Rattle.std.proofs.lemmas.Simd.{map-map}
@@ -87,3 +94,15 @@ refused_is unit below nodes e h n r =
       | inl k ↦ inr (inl (record { nothing = n; key = k.0; number = k.1; found = k.2; refused = ap (λ (x : ScpiError). Err x) k.3; stays = refl }))
       | inr k ↦ inr (inr (record { nothing = n; nowhere = k.0; refused = ap (λ (x : ScpiError). Err x) k.1; stays = refl }))
     ]
+
+short_one : (w : List ℕ) → node_fits (map to_ascii_uppercase w) ≡ true → length w ≤ 12
+short_one w p =
+    let l : length (map to_ascii_uppercase w) ≤ 12 = grind (arith, common_steps) in
+    omega (arith, l, length-map w to_ascii_uppercase)
+
+-- the nodes of a header that was found
+pub found_short : (items : List (Bor (List ℕ))) (query : Bool) (key : Key) (k : ℕ) → IsFound rows (map (λ (w : Bor (List ℕ)). map to_ascii_uppercase w.now) items) query key k → All (λ w. length w.now ≤ 12) items
+found_short items query key k f =
+    let up : Bor (List ℕ) → List ℕ = λ w. map to_ascii_uppercase w.now in
+    let t : list_all (λ (w : Bor (List ℕ)). node_fits (up w)) items ≡ true = sym (list_all-map node_fits up items) ∙ found_fits rows (map up items) rows_fit query key k f in
+    All-weaker _ _ (λ w p. short_one w.now p) items (AllPass-from_list_all (λ (w : Bor (List ℕ)). node_fits (up w)) items t)

@@ -1,7 +1,8 @@
 -- The spellings that are listed are those that fit.
-use Rattle.std.proofs.Common.{◌≡◌, ℕ, List, [], ◌∷◌, ◌++◌, refl, sym, ap, subst, ◌∙◌, ◌⊎◌, inl, inr, Bool, true, false, Option, Some, None, length, ◌<◌, ◌≤◌, nat_le, ◌&&◌, arith}
+use Rattle.std.proofs.Common.{◌≡◌, ℕ, List, [], ◌∷◌, ◌++◌, refl, sym, ap, subst, ◌∙◌, ◌⊎◌, inl, inr, Bool, true, false, Option, Some, None, length, ◌<◌, ◌≤◌, nat_le, arith}
 use Rattle.std.proofs.lemmas.Bool.{and_parts}
 use Rattle.std.proofs.lemmas.Grind.{common_steps}
+use Rattle.std.specs.List.{list_all}
 use Rattle.std.specs.Prelude.{IfSome, IfNone}
 use Rattle.sw_lex.specs.declared.table.Key.{Key}
 use Rattle.sw_lex.specs.declared.table.Word.{Word}
@@ -22,6 +23,13 @@ in_right x (z ∷ xs) ys h = inr (in_right x xs ys h)
 in_cases : {X : Type 0} (x : X) (xs ys : List X) → IsIn x (xs ++ ys) → IsIn x xs ⊎ IsIn x ys
 in_cases x [] ys h = inr h
 in_cases x (z ∷ xs) ys h = elim h [ inl e ↦ inl (inl e) | inr r ↦ elim (in_cases x xs ys r) [ inl l ↦ inl (inr l) | inr q ↦ inr q ] ]
+
+-- each of these passes the test
+in_passes : {X : Type 0} (test : X → Bool) (x : X) (xs : List X) → list_all test xs ≡ true → IsIn x xs → test x ≡ true
+in_passes test x [] t h = absurd h
+in_passes test x (y ∷ ys) t h =
+    let p = and_parts (test y) (list_all test ys) t in
+    elim h [ inl e ↦ ap test e ∙ p.0 | inr i ↦ in_passes test x ys p.1 i ]
 
 abbrev spelling : List (List ℕ) → ℕ → Spelling
 spelling ws k = (ws, k)
@@ -232,8 +240,7 @@ right_some a b ws query (Some x) h = found_right a b ws query x.0 x.1 h
 -- ---- no header has more than four nodes
 
 abbrev pub all_short : List Row → Bool
-all_short [] = true
-all_short (r ∷ rows) = nat_le (length r.steps) 4 && all_short rows
+all_short rows = list_all (λ r. nat_le (length r.steps) 4) rows
 
 fits_length : (ss : List Step) (ws : List (List ℕ)) (k : ℕ) → Fits ss ws k → length ws ≤ length ss
 fits_length [] ws k f = rw f.0 (omega arith)
@@ -249,17 +256,30 @@ fits_length (Numbered w ∷ ss) (x ∷ ws) k f =
       | inr a ↦ elim a [ inl b ↦ omega (arith, fits_length ss ws b.0 b.1) | inr b ↦ omega (arith, fits_length ss (x ∷ ws) k b) ]
     ]
 
-short_at : (rows : List Row) (row : Row) → all_short rows ≡ true → IsIn row rows → length row.steps ≤ 4
-short_at [] row t h = absurd h
-short_at (r ∷ rows) row t h =
-    let p = and_parts (nat_le (length r.steps) 4) (all_short rows) t in
-    elim h [ inl e ↦ (let q : nat_le (length row.steps) 4 ≡ true = subst (λ (x : Row). nat_le (length x.steps) 4 ≡ true) (sym e) p.0 in grind (arith, common_steps)) | inr i ↦ short_at rows row p.1 i ]
-
 pub too_long : (rows : List Row) (ws : List (List ℕ)) → all_short rows ≡ true → 4 < length ws → (query : Bool) (key : Key) (k : ℕ) → IsFound rows ws query key k → ⊥
 too_long rows ws t l query key k f =
     let a = fits_length f.row.steps ws k (listed_fits f.row.steps ws k f.spelled) in
-    let b = short_at rows f.row t f.listed in
+    let p = in_passes (λ (r : Row). nat_le (length r.steps) 4) f.row rows t f.listed in
+    let b : length f.row.steps ≤ 4 = grind (arith, common_steps) in
     omega (arith, a, b, l)
+
+-- ---- no node of a header has more than twelve bytes
+
+abbrev pub node_fits : List ℕ → Bool
+node_fits word = nat_le (length word) 12
+
+abbrev spelling_fits : Spelling → Bool
+spelling_fits s = list_all node_fits s.0
+
+abbrev row_fits : Row → Bool
+row_fits r = list_all spelling_fits (spellings r.steps)
+
+abbrev pub all_fit : List Row → Bool
+all_fit rows = list_all row_fits rows
+
+pub found_fits : (rows : List Row) (ws : List (List ℕ)) → all_fit rows ≡ true → (query : Bool) (key : Key) (k : ℕ) → IsFound rows ws query key k → list_all node_fits ws ≡ true
+found_fits rows ws t query key k f =
+    in_passes spelling_fits (ws, k) (spellings f.row.steps) (in_passes row_fits f.row rows t f.listed) f.spelled
 
 -- ---- a header that begins with another byte is none of the rows
 

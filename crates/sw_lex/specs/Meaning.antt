@@ -25,7 +25,7 @@ abbrev pub Nodes : Type 0
 Nodes = List (List ℕ)
 
 abbrev pub path_of : Path → Nodes
-path_of p = map (λ w. w.now) p.nodes.items
+path_of p = map (λ w. w.items) p.nodes.items
 
 abbrev pub led_by : ℕ → Nodes → Nodes
 led_by b [] = (b ∷ []) ∷ []

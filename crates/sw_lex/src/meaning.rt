@@ -19,7 +19,7 @@ use crate::headers::find;
 use crate::owned::{body, content};
 use crate::paths::{Path, after, look_up, unnumbered_all};
 use crate::table::{Key, Whole};
-use crate::unit::{Element, RawUnit};
+use crate::unit::{Element, Header, RawUnit};
 use crate::values::{
     continuous_of, delay_of, macros_of, quantity, source_meant, switch_meant, whole_of,
 };
@@ -29,9 +29,9 @@ use sw_channel::read_list;
 
 /// What a unit gives: its command or its first refusal, and the path of the next unit.
 #[derive(Drop)]
-pub struct Resolved<'a> {
+pub struct Resolved {
     pub command: Result<Command, ScpiError>,
-    pub path: Path<'a>,
+    pub path: Path,
 }
 
 /// The command, where there are no data.
@@ -226,8 +226,8 @@ fn refusal(nodes: &[&[u8]], query: bool) -> ScpiError
 /// `InvalidSuffix`, and `DataOutOfRange`; of a word `InvalidCharacterData` where no setting has it, and
 /// `IllegalParameterValue` where another one has; those of a channel list; `OutOfMemory` where a list, a
 /// label or a body could not grow.
-pub fn resolve<'a>(alloc: Global, unit: &RawUnit<'a>, path: Path<'a>) -> Resolved<'a>
-    ensures { Resolves (unit_of unit.now) (path_of path.entry) result.command (path_of result.path) }
+pub fn resolve(alloc: Global, unit: &RawUnit<'_>, path: Path) -> Resolved
+    ensures { Resolves (unit_of unit.now) (path_of path) result.command (path_of result.path) }
 {
     match look_up(unit.header, &path) {
         None => Resolved {
@@ -241,7 +241,10 @@ pub fn resolve<'a>(alloc: Global, unit: &RawUnit<'a>, path: Path<'a>) -> Resolve
             },
             Some((key, number)) => Resolved {
                 command: obey(alloc, key, number, unit.elements.as_slice()),
-                path: after(unit.header, nodes, path),
+                path: match unit.header {
+                    Header::Common(_) => path,
+                    Header::Path { .. } => after(nodes.as_slice()),
+                },
             },
         },
     }

@@ -1,25 +1,41 @@
 //! Where a header is looked up.
 
-ghost use Rattle.std.specs.Prelude.{◌≡◌, ◌≤◌, ◌<◌, ◌++◌, [], length, map, IfSome, IfNone};
+ghost use Rattle.std.specs.Prelude.{◌≡◌, ◌≤◌, ◌<◌, ◌++◌, [], All, length, map, IfSome, IfNone};
 ghost use Rattle.sw_lex.specs.Unit.{heading_of};
 ghost use Rattle.sw_lex.specs.Values.{unnumbered};
-ghost use Rattle.sw_lex.specs.Meaning.{path_of, nodes_of, looked_up, path_after};
+ghost use Rattle.sw_lex.specs.Meaning.{path_of, nodes_of, looked_up, all_but_last};
 
 use crate::unit::Header;
 use crate::values::unnumbered;
 use arrayvec::ArrayVec;
 use sw_base::cut;
 
-/// The nodes below which a unit without a leading colon is looked up, as they are written in the message
-/// (SCPI-1999, volume 1, 6.2.4).
-#[derive(Drop)]
-pub struct Path<'a> {
-    nodes: ArrayVec<&'a [u8], 4>,
+/// The most bytes of a node in the table of headers, as of QUEStionable.
+const LONGEST_NODE: usize = 12;
+
+/// A node of a header that was found, as it was written.
+type Node = ArrayVec<u8, LONGEST_NODE>;
+
+/// A node with this text.
+fn copied(text: &[u8]) -> Node
+    requires { length text.now ≤ 12 }
+    ensures { result.items ≡ text.now }
+{
+    let mut node = Node::new();
+    let _ = node.try_extend_from_slice(text);
+    node
 }
 
-impl<'a> Path<'a> {
+/// The nodes below which a unit without a leading colon is looked up, as they were written in the message
+/// (SCPI-1999, volume 1, 6.2.4). They are its own: it may outlive the message, and takes no memory.
+#[derive(Drop)]
+pub struct Path {
+    nodes: ArrayVec<Node, 4>,
+}
+
+impl Path {
     /// The path at the start of a message.
-    pub fn root() -> Path<'a>
+    pub fn root() -> Path
         ensures { path_of result ≡ [] }
     {
         Path {
@@ -27,12 +43,14 @@ impl<'a> Path<'a> {
         }
     }
 
-    /// The same nodes.
-    fn copied(&self) -> ArrayVec<&'a [u8], 4>
+    /// Its nodes.
+    fn nodes(&self) -> ArrayVec<&[u8], 4>
         ensures { map (λ w. w.now) result.items ≡ path_of self.now }
     {
         let mut nodes = ArrayVec::new();
-        let _ = nodes.try_extend_from_slice(self.nodes.as_slice());
+        for node in self.nodes.as_slice() {
+            nodes.push(node.as_slice());
+        }
         nodes
     }
 }
@@ -62,7 +80,7 @@ fn joined<'a>(nodes: ArrayVec<&'a [u8], 4>, text: &'a [u8]) -> Option<ArrayVec<&
 }
 
 /// The nodes as which a header is looked up; none where they are more than four.
-pub fn look_up<'a>(header: Header<'a>, path: &Path<'a>) -> Option<ArrayVec<&'a [u8], 4>>
+pub fn look_up<'a>(header: Header<'a>, path: &'a Path) -> Option<ArrayVec<&'a [u8], 4>>
     ensures some { IfSome result (λ x. map (λ w. w.now) x.items ≡ looked_up (heading_of header.entry) (path_of path.now)) }
     ensures none { IfNone result (4 < length (looked_up (heading_of header.entry) (path_of path.now))) }
 {
@@ -76,25 +94,24 @@ pub fn look_up<'a>(header: Header<'a>, path: &Path<'a>) -> Option<ArrayVec<&'a [
             if leading {
                 joined(ArrayVec::new(), nodes)
             } else {
-                joined(path.copied(), nodes)
+                joined(path.nodes(), nodes)
             }
         }
     }
 }
 
-/// The path after a header that was found as these nodes.
-pub fn after<'a>(header: Header<'a>, nodes: ArrayVec<&'a [u8], 4>, path: Path<'a>) -> Path<'a>
-    requires { map (λ w. w.now) nodes.items ≡ looked_up (heading_of header) (path_of path) }
-    ensures { path_of result ≡ path_after (heading_of header.entry) (path_of path.entry) }
+/// The path after a header that was found as these nodes: all but the last.
+pub fn after(nodes: &[&[u8]]) -> Path
+    requires few { length nodes.now ≤ 4 }
+    requires short { All (λ w. length w.now ≤ 12) nodes.now }
+    ensures { path_of result ≡ all_but_last (map (λ w. w.now) nodes.now) }
 {
-    match header {
-        Header::Common(_) => path,
-        Header::Path { .. } => {
-            let mut nodes = nodes;
-            nodes.pop();
-            Path { nodes }
-        }
+    let mut above = ArrayVec::new();
+    for node in nodes {
+        above.push(copied(node));
     }
+    above.pop();
+    Path { nodes: above }
 }
 
 /// The nodes without a trigger layer's number.

@@ -94,6 +94,26 @@ fn keeps_paths(rt: HostRuntime) -> Result<(), Fail> {
     Ok(())
 }
 
+/// The path that the only unit of a message leaves. The message is gone then.
+fn path_left(alloc: Global, message: Vec<u8>) -> Result<Path, ScpiError> {
+    match next_unit(message.as_slice())? {
+        Some((unit, _)) => Ok(resolve(alloc, &unit, Path::root()).path),
+        None => Err(ScpiError::SystemError),
+    }
+}
+
+#[test]
+fn outlives_messages(rt: HostRuntime) -> Result<(), Fail> {
+    let message = b"status:questionable:ptransition 3".to_vec(rt.alloc())?;
+    let path = path_left(rt.alloc(), message)?;
+    let Some((unit, _)) = next_unit(b"NTR 2")? else {
+        return Err(ScpiError::SystemError.into());
+    };
+    let command = resolve(rt.alloc(), &unit, path).command?;
+    assert_eq!(rt; numbers(&command), (2, 2));
+    Ok(())
+}
+
 /// A command's number, and its layer or group where it has one.
 fn numbers(command: &Command) -> (u64, u8) {
     match command {

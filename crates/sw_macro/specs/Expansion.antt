@@ -1,6 +1,6 @@
 -- What a unit is replaced by while macros are on (IEEE 488.2, 7.6.1 and 10.7; the bounds, their errors and the order of
 -- faults are this project's own).
-use Rattle.std.specs.Prelude.{◌≡◌, ℕ, Bool, true, false, ◌||◌, nat_lt, nat_le, List, [], ◌∷◌, ◌++◌, length, Option, Some, None, Result, Ok, Err, ◌⊎◌, if◌then◌else◌}
+use Rattle.std.specs.Prelude.{◌≡◌, ℕ, Bool, true, false, ◌||◌, ◌&&◌, is_some, nat_lt, nat_le, List, [], ◌∷◌, ◌++◌, length, Option, Some, None, Result, Ok, Err, ◌⊎◌, if◌then◌else◌}
 use Rattle.std.specs.List.{list_any}
 use Rattle.std.specs.Str.{bytes_eq}
 use Rattle.std.specs.Result.{result_map_both}
@@ -28,6 +28,10 @@ named_by ms (path false nodes) = macro_at ms nodes
 -- the macro whose label is exactly the unit's header, without a colon and without a question mark
 abbrev pub called : List Macro → UnitView → Option Macro
 called ms unit = if unit.query then None else named_by ms unit.header
+
+-- whether a unit is replaced: macros are on, and it calls one
+abbrev pub calls : Table → UnitView → Bool
+calls t unit = t.on && is_some (called t.macros unit)
 
 -- ---- its body in the unit's place
 

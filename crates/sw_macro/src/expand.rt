@@ -1,13 +1,13 @@
 //! The expansion of a unit.
 
-ghost use Rattle.std.specs.Prelude.{◌≡◌, ◌<◌, ℕ, List, [], Result, Ok, Err, IfOk, IfErr, OnOk, IfSome, IfNone, map, length, ◌⊎◌};
+ghost use Rattle.std.specs.Prelude.{◌≡◌, ◌≢◌, ◌<◌, ℕ, true, false, None, List, [], Result, Ok, Err, IfOk, IfErr, OnOk, IfSome, IfNone, map, length, ◌⊎◌};
 ghost use Rattle.std.specs.Option.{option_map};
 ghost use Rattle.sw_base.specs.Memory.{Gives};
 ghost use Rattle.sw_base.specs.declared.error.ScpiError.{ScpiError as Error};
 ghost use Rattle.sw_base.specs.declared.error.ScpiError.TheVariants.{OutOfMemory};
 ghost use Rattle.sw_lex.specs.Unit.{UnitView, unit_of, written_of};
 ghost use Rattle.sw_macro.specs.Table.{Table};
-ghost use Rattle.sw_macro.specs.Expansion.{called, is_among, opened, Stands, HasNoUnit, Becomes, Expands};
+ghost use Rattle.sw_macro.specs.Expansion.{called, calls, opened_in, is_among, opened, Stands, HasNoUnit, Becomes, Expands};
 ghost use Rattle.sw_macro.specs.Placed.{place_of};
 
 use crate::filling::{LONGEST, fill};
@@ -149,6 +149,15 @@ fn write_body(
 }
 
 impl Macros {
+    /// Whether a unit is replaced: while macros are on, where its header is exactly a label.
+    pub fn calls(&self, unit: &RawUnit<'_>) -> bool
+        ensures calls { result ≡ calls self.now (unit_of unit.now) }
+        ensures replaced { result ≡ true → opened_in self.now (unit_of unit.now) ≢ Ok None }
+        ensures itself { result ≡ false → opened_in self.now (unit_of unit.now) ≡ Ok None }
+    {
+        self.enabled() && called(self, unit).is_some()
+    }
+
     /// What a unit is replaced by: while macros are on, a unit whose header is exactly a label, without a colon and a
     /// question mark, is replaced by the label's body, with each `$1` to `$9` replaced by that data element as it is
     /// written, and each unit of the body replaced in the same way. Any other unit gives its own text.

@@ -1,30 +1,40 @@
 -- A talk leaves no choice, where a text is read in one way.
 use Rattle.std.proofs.Common.{◌≡◌, ℕ, ◌+◌, Bool, true, false, MatchBool, List, [], ◌∷◌, ◌++◌, inl, inr, length, Some, None, Result, Ok, Err, refl, ap, sym, ◌∙◌, subst}
-use Rattle.std.specs.Prelude.{◌==◌, nat_lt}
+use Rattle.std.specs.Prelude.{◌==◌, nat_lt, slice_index_or, ◌-◌, ◌<◌, ◌⊎◌}
+use Rattle.std.proofs.Common.{⊎_elim}
+use Rattle.std.proofs.lemmas.Bool.{cases_order}
 use Rattle.sw_base.specs.declared.error.ScpiError.{ScpiError}
 use Rattle.sw_base.specs.declared.error.ScpiError.TheVariants.{SettingsConflict, OutOfMemory, InputBufferOverrun}
 use Rattle.sw_lex.specs.declared.command.Command.{Command}
 use Rattle.sw_lex.specs.Unit.{UnitView, IsUnit, IsRefused, IsBlank}
 use Rattle.sw_lex.specs.Meaning.{Nodes, Resolves}
+use Rattle.sw_verify.specs.declared.snapshot.Snapshot.{Snapshot as Taken}
+use Rattle.sw_verify.specs.declared.refusal.Refusal.{Refusal}
+use Rattle.sw_verify.specs.declared.refusal.Refusal.TheVariants.{EmptyList, NoChannel, NoMeter, GroupClash, TooManyReadings, BadNesting, BadJump, LeftClosed, NotClosed, NoMemory}
+use Rattle.sw_verify.specs.Check.{IsFirst, number_of, error_of}
+use Rattle.sw_macro.specs.Table.{Table}
+use Rattle.sw_macro.specs.Expansion.{calls, Expands}
 use Rattle.sw_core.specs.declared.ask.Sid.{Sid}
 use Rattle.sw_core.specs.declared.ask.SessionAsk.{SessionAsk}
 use Rattle.sw_core.specs.declared.ask.SessionAsk.TheVariants as Ask
 use Rattle.sw_core.specs.declared.ask.SessionAnswer.{SessionAnswer}
-use Rattle.sw_core.specs.declared.ask.SessionAnswer.TheVariants.{Joined, Full, Stranger, Broken, Done, Refused, Hold, Worn}
+use Rattle.sw_core.specs.declared.ask.SessionAnswer.TheVariants.{Joined, Full, Stranger, Broken, Done, Snapshot, Refused, Hold, Worn}
 use Rattle.sw_session.specs.declared.desk.Wake.{Wake}
 use Rattle.sw_session.specs.declared.desk.Wake.TheVariants.{Again, Over}
 use Rattle.sw_session.specs.declared.talker.After.{After}
 use Rattle.sw_session.specs.declared.talker.After.TheVariants.{Goes, Drops, Ends}
 use Rattle.sw_session.specs.Trace.{Entry, Asked, Waited}
 use Rattle.sw_session.specs.Script.{Ending, Complete, Refuses, Unread, IsScript}
-use Rattle.sw_session.specs.Talk.{Queues, Settles, Begins, Concludes, Serves, Proceeds, Talks, TalksUnits, Overruns, queued, after_of, has_answers, written, longest, turns}
-use Rattle.sw_session.specs.Law.{IsAmple, AllAmple, SameTalk, TalkIsDetermined}
+use Rattle.sw_session.specs.Macros.{Told, is_of_macros}
+use Rattle.sw_session.specs.Talk.{Queues, Settles, Begins, Obeys, Asks, Delivers, Reports, Initiates, Plans, is_initiate, table_after, Concludes, Serves, Standing, standing, Proceeds, Way, Talks, Itself, Unfolds, IsExpansion, Expanded, TalksUnits, Overruns, queued, after_of, has_answers, written, longest, turns}
+use Rattle.sw_session.specs.Law.{IsAmple, AllAmple, SameTalk, left, TalkIsDetermined}
+use Rattle.sw_session.proofs.Acted.{acts-same, written_so}
 
 -- the rests are the same talk, and ample
-abbrev Rests : List ℕ → List ℕ → List Entry → List Entry → Type 0
+abbrev Rests : {T : Type 0} → T → T → List Entry → List Entry → Type 0
 Rests b b' r r' = AllAmple r → AllAmple r' → SameTalk b b' r r'
 
-queues-same : (b b' : List ℕ) (sid : Sid) (e : ScpiError) (t t' r r' : List Entry) (f f' : SessionAnswer) → Queues sid e t f r → Queues sid e t' f' r' → (f ≡ f' → Rests b b' r r') → Rests b b' t t'
+queues-same : {T : Type 0} (b b' : T) (sid : Sid) (e : ScpiError) (t t' r r' : List Entry) (f f' : SessionAnswer) → Queues sid e t f r → Queues sid e t' f' r' → (f ≡ f' → Rests b b' r r') → Rests b b' t t'
 queues-same b b' sid e [] t' r r' f f' p q next m n = absurd p
 queues-same b b' sid e (Waited w ∷ t) t' r r' f f' p q next m n = absurd p
 queues-same b b' sid e (Asked a x ∷ t) [] r r' f f' p q next m n = absurd q
@@ -50,6 +60,7 @@ settles-asks sid turn ask a Broken f t r p = p.0
 settles-asks sid turn ask a (Done text) f t r p = p.0
 settles-asks sid turn ask a (Refused e) f t r p = p.0
 settles-asks sid turn ask a (Worn h) f t r p = p.0
+settles-asks sid turn ask a (Snapshot s) f t r p = p.0
 
 settles-final : (sid : Sid) (turn : ℕ) (ask a : SessionAsk) (x f : SessionAnswer) (t r : List Entry) → ((h : SessionAsk) → x ≡ Hold h → ⊥) → Settles sid turn ask (Asked a x ∷ t) f r → (f ≡ x) × (r ≡ t)
 settles-final sid turn ask a (Hold h) f t r differs p = absurd (differs h refl)
@@ -60,9 +71,10 @@ settles-final sid turn ask a Broken f t r differs p = (p.1, p.2)
 settles-final sid turn ask a (Done text) f t r differs p = (p.1, p.2)
 settles-final sid turn ask a (Refused e) f t r differs p = (p.1, p.2)
 settles-final sid turn ask a (Worn h) f t r differs p = (p.1, p.2)
+settles-final sid turn ask a (Snapshot s) f t r differs p = (p.1, p.2)
 
 -- an answer that is no hold
-told-same : (b b' : List ℕ) (sid : Sid) (turn : ℕ) (ask a : SessionAsk) (x : SessionAnswer) (t t' r r' : List Entry) (f f' : SessionAnswer) → ((h : SessionAsk) → x ≡ Hold h → ⊥) → Settles sid turn ask (Asked a x ∷ t) f r → Settles sid turn ask t' f' r'
+told-same : {T : Type 0} (b b' : T) (sid : Sid) (turn : ℕ) (ask a : SessionAsk) (x : SessionAnswer) (t t' r r' : List Entry) (f f' : SessionAnswer) → ((h : SessionAsk) → x ≡ Hold h → ⊥) → Settles sid turn ask (Asked a x ∷ t) f r → Settles sid turn ask t' f' r'
     → (f ≡ f' → Rests b b' r r') → Rests b b' (Asked a x ∷ t) t'
 told-same b b' sid turn ask a x t [] r r' f f' differs p q next m n = absurd q
 told-same b b' sid turn ask a x t (Waited w ∷ t') r r' f f' differs p q next m n = absurd q
@@ -84,7 +96,7 @@ settles-waits sid turn ask a h Over f t r p = p.1
 settles-waits sid turn ask a h Again f t r p = p.1
 
 -- an answer that is a hold
-hold-same : (b b' : List ℕ) (sid : Sid) (turn : ℕ) (ask a h : SessionAsk) (w : Wake) (t t' r' : List Entry) (f' : SessionAnswer) → a ≡ ask → ((u : List Entry) → Waits sid turn ask w u f' r' → Rests b b' t u) → Settles sid turn ask t' f' r'
+hold-same : {T : Type 0} (b b' : T) (sid : Sid) (turn : ℕ) (ask a h : SessionAsk) (w : Wake) (t t' r' : List Entry) (f' : SessionAnswer) → a ≡ ask → ((u : List Entry) → Waits sid turn ask w u f' r' → Rests b b' t u) → Settles sid turn ask t' f' r'
     → Rests b b' (Asked a (Hold h) ∷ Waited w ∷ t) t'
 hold-same b b' sid turn ask a h w t [] r' f' is on q m n = absurd q
 hold-same b b' sid turn ask a h w t (Waited v ∷ t') r' f' is on q m n = absurd q
@@ -102,7 +114,7 @@ either-way : (c : Bool) (P Q P' Q' : Type 0) {G : Type 0} → MatchBool c P Q �
 either-way true P Q P' Q' p p' one other = one p p'
 either-way false P Q P' Q' p p' one other = other p p'
 
-settles-same : (b b' : List ℕ) (sid : Sid) (turn : ℕ) (ask : SessionAsk) (t t' r r' : List Entry) (f f' : SessionAnswer) → Settles sid turn ask t f r → Settles sid turn ask t' f' r' → (f ≡ f' → Rests b b' r r') → Rests b b' t t'
+settles-same : {T : Type 0} (b b' : T) (sid : Sid) (turn : ℕ) (ask : SessionAsk) (t t' r r' : List Entry) (f f' : SessionAnswer) → Settles sid turn ask t f r → Settles sid turn ask t' f' r' → (f ≡ f' → Rests b b' r r') → Rests b b' t t'
 settles-same b b' sid turn ask [] t' r r' f f' p q next = absurd p
 settles-same b b' sid turn ask (Waited w ∷ t) t' r r' f f' p q next = absurd p
 settles-same b b' sid turn ask (Asked a (Hold h) ∷ []) t' r r' f f' p q next = absurd p
@@ -121,19 +133,103 @@ settles-same b b' sid turn ask (Asked a Broken ∷ t) t' r r' f f' p q next = to
 settles-same b b' sid turn ask (Asked a (Done text) ∷ t) t' r r' f f' p q next = told-same b b' sid turn ask a (Done text) t t' r r' f f' (λ h is. absurd (cc (is))) p q next
 settles-same b b' sid turn ask (Asked a (Refused e) ∷ t) t' r r' f f' p q next = told-same b b' sid turn ask a (Refused e) t t' r r' f f' (λ h is. absurd (cc (is))) p q next
 settles-same b b' sid turn ask (Asked a (Worn h) ∷ t) t' r r' f f' p q next = told-same b b' sid turn ask a (Worn h) t t' r r' f f' (λ h is. absurd (cc (is))) p q next
+settles-same b b' sid turn ask (Asked a (Snapshot s) ∷ t) t' r r' f f' p q next = told-same b b' sid turn ask a (Snapshot s) t t' r r' f f' (λ h is. absurd (cc (is))) p q next
 
-begins-same : (b b' : List ℕ) (sid : Sid) (answered : Bool) (command : Result Command ScpiError) (t t' r r' : List Entry) (f f' : SessionAnswer) → Begins sid answered command t f r → Begins sid answered command t' f' r'
-    → (f ≡ f' → Rests b b' r r') → Rests b b' t t'
-begins-same b b' sid answered (Ok command) t t' r r' f f' p q next = settles-same b b' sid 0 (Ask.Unit sid command answered) t t' r r' f f' p q next
-begins-same b b' sid answered (Err e) t t' r r' f f' p q next = queues-same b b' sid e t t' r r' f f' p q next
+-- a refusal by its number
+abbrev refusal_at : ℕ → Refusal
+refusal_at n = slice_index_or (EmptyList ∷ NoChannel ∷ NoMeter ∷ GroupClash ∷ TooManyReadings ∷ BadNesting ∷ BadJump ∷ LeftClosed ∷ NotClosed ∷ []) (n - 1) NoMemory
+
+at-number : (r : Refusal) → refusal_at (number_of r) ≡ r
+at-number EmptyList = refl
+at-number NoChannel = refl
+at-number NoMeter = refl
+at-number GroupClash = refl
+at-number TooManyReadings = refl
+at-number BadNesting = refl
+at-number BadJump = refl
+at-number LeftClosed = refl
+at-number NotClosed = refl
+at-number NoMemory = refl
+
+-- one refusal is the first
+first-one : (s : Taken) (r r' : Refusal) → IsFirst r s → IsFirst r' s → r ≡ r'
+first-one s r r' f f' =
+    ⊎_elim (λ (e : number_of r ≡ number_of r'). sym (at-number r) ∙ ap refusal_at e ∙ at-number r')
+    (λ (o : (number_of r < number_of r') ⊎ (number_of r' < number_of r)).
+    ⊎_elim (λ (l : number_of r < number_of r'). absurd (f'.none_before r l f.applies)) (λ (l : number_of r' < number_of r). absurd (f.none_before r' l f'.applies)) o)
+    (cases_order (number_of r) (number_of r'))
+
+-- an answer that stands
+stands-same : {T : Type 0} (b b' : T) (x : SessionAnswer) (t t' r r' : List Entry) (f f' : SessionAnswer) → (f ≡ x) × (r ≡ t) → (f' ≡ x) × (r' ≡ t') → (f ≡ f' → Rests b b' r r') → Rests b b' t t'
+stands-same b b' x t t' r r' f f' (fin, left) (fin', left') next = rw (← left, ← left') (next (fin ∙ sym fin'))
+
+plans-same : {T : Type 0} (b b' : T) (sid : Sid) (told : SessionAnswer) (t t' r r' : List Entry) (f f' : SessionAnswer) → Plans sid told t f r → Plans sid told t' f' r' → (f ≡ f' → Rests b b' r r') → Rests b b' t t'
+plans-same b b' sid (Snapshot s) t t' r r' f f' p q next = λ m n. elim p [
+  | inl k ↦ elim q [
+    | inl k' ↦ settles-same b b' sid 0 (Ask.Start sid s) t t' r r' f f' k.1 k'.1 next m n
+    | inr k' ↦ absurd (k'.0 k.0)
+  ]
+  | inr k ↦ elim q [
+    | inl k' ↦ absurd (k.0 k'.0)
+    | inr k' ↦
+        let one = first-one s k.1.0 k'.1.0 k.1.1 k'.1.1 in
+        queues-same b b' sid (error_of k.1.0) t t' r r' f f' k.1.2 (subst (λ (x : Refusal). Queues sid (error_of x) t' f' r') (sym one) k'.1.2) next m n
+  ]
+]
+plans-same b b' sid (Joined s) t t' r r' f f' p q next = stands-same b b' (Joined s) t t' r r' f f' p q next
+plans-same b b' sid Full t t' r r' f f' p q next = stands-same b b' Full t t' r r' f f' p q next
+plans-same b b' sid Stranger t t' r r' f f' p q next = stands-same b b' Stranger t t' r r' f f' p q next
+plans-same b b' sid Broken t t' r r' f f' p q next = stands-same b b' Broken t t' r r' f f' p q next
+plans-same b b' sid (Done text) t t' r r' f f' p q next = stands-same b b' (Done text) t t' r r' f f' p q next
+plans-same b b' sid (Refused e) t t' r r' f f' p q next = stands-same b b' (Refused e) t t' r r' f f' p q next
+plans-same b b' sid (Hold h) t t' r r' f f' p q next = stands-same b b' (Hold h) t t' r r' f f' p q next
+plans-same b b' sid (Worn h) t t' r r' f f' p q next = stands-same b b' (Worn h) t t' r r' f f' p q next
+
+initiates-same : {T : Type 0} (b b' : T) (sid : Sid) (t t' r r' : List Entry) (f f' : SessionAnswer) → Initiates sid t f r → Initiates sid t' f' r' → (f ≡ f' → Rests b b' r r') → Rests b b' t t'
+initiates-same b b' sid t t' r r' f f' (told, mid, p, k) (told', mid', p', k') next =
+    settles-same b b' sid 0 (Ask.Snapshot sid) t t' mid mid' told told' p p'
+    (λ same. plans-same b b' sid told mid mid' r r' f f' k (subst (λ (x : SessionAnswer). Plans sid x mid' f' r') (sym same) k') next)
+
+delivers-same : {T : Type 0} (b b' : T) (sid : Sid) (answered : Bool) (command : Command) (t t' r r' : List Entry) (f f' : SessionAnswer) → Delivers sid answered command t f r → Delivers sid answered command t' f' r' → (f ≡ f' → Rests b b' r r') → Rests b b' t t'
+delivers-same b b' sid answered command t t' r r' f f' p q next =
+    either-way (is_initiate command) (Initiates sid t f r) (Settles sid 0 (Ask.Unit sid command answered) t f r) (Initiates sid t' f' r') (Settles sid 0 (Ask.Unit sid command answered) t' f' r') p q
+    (λ k k'. initiates-same b b' sid t t' r r' f f' k k' next)
+    (λ k k'. settles-same b b' sid 0 (Ask.Unit sid command answered) t t' r r' f f' k k' next)
+
+asks-same : {T : Type 0} (b b' : T) (sid : Sid) (answered : Bool) (command : Command) (macros : Table) (t t' r r' : List Entry) (f f' : SessionAnswer) (m m' : Table) → Asks sid answered command macros t f m r → Asks sid answered command macros t' f' m' r'
+    → (f ≡ f' → m ≡ m' → Rests b b' r r') → Rests b b' t t'
+asks-same b b' sid answered command macros t t' r r' f f' m m' (p, is) (q, is') next =
+    delivers-same b b' sid answered command t t' r r' f f' p q (λ same. next same (is ∙ ap (λ (x : SessionAnswer). table_after command x macros) same ∙ sym is'))
+
+reports-same : {T : Type 0} (b b' : T) (sid : Sid) (told : Told) (t t' r r' : List Entry) (f f' : SessionAnswer) → Reports sid told t f r → Reports sid told t' f' r' → (f ≡ f' → Rests b b' r r') → Rests b b' t t'
+reports-same b b' sid (Ok text) t t' r r' f f' p q next = stands-same b b' (Done text) t t' r r' f f' p q next
+reports-same b b' sid (Err e) t t' r r' f f' p q next = queues-same b b' sid e t t' r r' f f' p q next
+
+-- what a macro command came to is no want of memory
+reports-ample : (sid : Sid) (told : Told) (t r : List Entry) (f : SessionAnswer) → AllAmple t → Reports sid told t f r → told ≡ Err OutOfMemory → ⊥
+reports-ample sid told t r f m p is = no-loss sid t r f m (subst (λ (x : Told). Reports sid x t f r) is p)
+
+obeys-same : {T : Type 0} (b b' : T) (sid : Sid) (command : Command) (macros : Table) (t t' r r' : List Entry) (f f' : SessionAnswer) (m m' : Table) → Obeys sid command macros t f m r → Obeys sid command macros t' f' m' r'
+    → (f ≡ f' → m ≡ m' → Rests b b' r r') → Rests b b' t t'
+obeys-same b b' sid command macros t t' r r' f f' m m' (told, acts, p) (told', acts', q) next = λ x y.
+    let one = acts-same command macros told told' m m' acts acts' (reports-ample sid told t r f x p) (reports-ample sid told' t' r' f' y q) in
+    reports-same b b' sid told t t' r r' f f' p (subst (λ (k : Told). Reports sid k t' f' r') (sym one.0) q) (λ same. next same one.1) x y
+
+begins-same : {T : Type 0} (b b' : T) (sid : Sid) (answered : Bool) (command : Result Command ScpiError) (macros : Table) (t t' r r' : List Entry) (f f' : SessionAnswer) (m m' : Table) → Begins sid answered command macros t f m r → Begins sid answered command macros t' f' m' r'
+    → (f ≡ f' → m ≡ m' → Rests b b' r r') → Rests b b' t t'
+begins-same b b' sid answered (Ok command) macros t t' r r' f f' m m' p q next =
+    either-way (is_of_macros command) (Obeys sid command macros t f m r) (Asks sid answered command macros t f m r) (Obeys sid command macros t' f' m' r') (Asks sid answered command macros t' f' m' r') p q
+    (λ k k'. obeys-same b b' sid command macros t t' r r' f f' m m' k k' next)
+    (λ k k'. asks-same b b' sid answered command macros t t' r r' f f' m m' k k' next)
+begins-same b b' sid answered (Err e) macros t t' r r' f f' m m' (p, is) (q, is') next = queues-same b b' sid e t t' r r' f f' p q (λ same. next same (is ∙ sym is'))
 
 -- what comes of an answer that is no text
-plain-same : (b b' : List ℕ) (t t' r r' : List Entry) (s after after' : After) (answers told told' : List (List ℕ)) → (after ≡ s) × (told ≡ answers) × (r ≡ t) → (after' ≡ s) × (told' ≡ answers) × (r' ≡ t')
+plain-same : {T : Type 0} (b b' : T) (t t' r r' : List Entry) (s after after' : After) (answers told told' : List (List ℕ)) → (after ≡ s) × (told ≡ answers) × (r ≡ t) → (after' ≡ s) × (told' ≡ answers) × (r' ≡ t')
     → (after ≡ after' → told ≡ told' → Rests b b' r r') → Rests b b' t t'
 plain-same b b' t t' r r' s after after' answers told told' (go, is, left) (go', is', left') next =
     rw (← left, ← left') (next (go ∙ sym go') (is ∙ sym is'))
 
-concludes-same : (b b' : List ℕ) (sid : Sid) (answers : List (List ℕ)) (f : SessionAnswer) (t t' r r' : List Entry) (after after' : After) (told told' : List (List ℕ)) → Concludes sid answers f t after told r → Concludes sid answers f t' after' told' r'
+concludes-same : {T : Type 0} (b b' : T) (sid : Sid) (answers : List (List ℕ)) (f : SessionAnswer) (t t' r r' : List Entry) (after after' : After) (told told' : List (List ℕ)) → Concludes sid answers f t after told r → Concludes sid answers f t' after' told' r'
     → (after ≡ after' → told ≡ told' → Rests b b' r r') → Rests b b' t t'
 concludes-same b b' sid answers (Done (Some text)) t t' r r' after after' told told' p q next = λ m n. elim p [
   | inl k ↦ elim q [
@@ -144,6 +240,7 @@ concludes-same b b' sid answers (Done (Some text)) t t' r r' after after' told t
 ]
 concludes-same b b' sid answers (Done None) t t' r r' after after' told told' p q next = plain-same b b' t t' r r' Goes after after' answers told told' p q next
 concludes-same b b' sid answers (Joined s) t t' r r' after after' told told' p q next = plain-same b b' t t' r r' Ends after after' answers told told' p q next
+concludes-same b b' sid answers (Snapshot s) t t' r r' after after' told told' p q next = plain-same b b' t t' r r' Ends after after' answers told told' p q next
 concludes-same b b' sid answers Full t t' r r' after after' told told' p q next = plain-same b b' t t' r r' Ends after after' answers told told' p q next
 concludes-same b b' sid answers Stranger t t' r r' after after' told told' p q next = plain-same b b' t t' r r' Ends after after' answers told told' p q next
 concludes-same b b' sid answers Broken t t' r r' after after' told told' p q next = plain-same b b' t t' r r' Ends after after' answers told told' p q next
@@ -151,20 +248,24 @@ concludes-same b b' sid answers (Refused e) t t' r r' after after' told told' p 
 concludes-same b b' sid answers (Hold h) t t' r r' after after' told told' p q next = plain-same b b' t t' r r' Ends after after' answers told told' p q next
 concludes-same b b' sid answers (Worn h) t t' r r' after after' told told' p q next = plain-same b b' t t' r r' Ends after after' answers told told' p q next
 
-serves-same : (b b' : List ℕ) (sid : Sid) (command : Result Command ScpiError) (answers : List (List ℕ)) (t t' r r' : List Entry) (after after' : After) (told told' : List (List ℕ)) → Serves sid command answers t after told r → Serves sid command answers t' after' told' r'
+standing-same : (s s' : Standing) → s.macros ≡ s'.macros → s.answers ≡ s'.answers → s ≡ s'
+standing-same s s' m a = ap (λ (x : Table). standing x s.answers) m ∙ ap (λ (x : List (List ℕ)). standing s'.macros x) a
+
+serves-same : {T : Type 0} (b b' : T) (sid : Sid) (command : Result Command ScpiError) (s : Standing) (t t' r r' : List Entry) (after after' : After) (told told' : Standing) → Serves sid command s t after told r → Serves sid command s t' after' told' r'
     → (after ≡ after' → told ≡ told' → Rests b b' r r') → Rests b b' t t'
-serves-same b b' sid command answers t t' r r' after after' told told' (f, mid, p, k) (f', mid', p', k') next =
-    begins-same b b' sid (has_answers answers) command t t' mid mid' f f' p p'
-    (λ same. concludes-same b b' sid answers f mid mid' r r' after after' told told' k (subst (λ (x : SessionAnswer). Concludes sid answers x mid' after' told' r') (sym same) k') next)
+serves-same b b' sid command s t t' r r' after after' told told' (f, mid, p, k) (f', mid', p', k') next =
+    begins-same b b' sid (has_answers s.answers) command s.macros t t' mid mid' f f' told.macros told'.macros p p'
+    (λ same macros. concludes-same b b' sid s.answers f mid mid' r r' after after' told.answers told'.answers k (subst (λ (x : SessionAnswer). Concludes sid s.answers x mid' after' told'.answers r') (sym same) k')
+    (λ go answers. next go (standing-same told told' macros answers)))
 
 -- the command of a unit that was served is no want of memory
-serves-ample : (sid : Sid) (command : Result Command ScpiError) (answers : List (List ℕ)) (t r : List Entry) (after : After) (told : List (List ℕ)) → AllAmple t → Serves sid command answers t after told r → command ≡ Err OutOfMemory → ⊥
-serves-ample sid command answers t r after told m (f, mid, p, k) is =
-    no-loss sid t mid f m (subst (λ (c : Result Command ScpiError). Begins sid (has_answers answers) c t f mid) is p)
+serves-ample : (sid : Sid) (command : Result Command ScpiError) (s : Standing) (t r : List Entry) (after : After) (told : Standing) → AllAmple t → Serves sid command s t after told r → command ≡ Err OutOfMemory → ⊥
+serves-ample sid command s t r after told m (f, mid, p, k) is =
+    no-loss sid t mid f m (subst (λ (c : Result Command ScpiError). Begins sid (has_answers s.answers) c s.macros t f told.macros mid) is p).0
 
 -- ---- the units
 
--- A text is read in one way, and a unit has one meaning, where memory suffices.
+-- A text is read in one way, and a unit has one meaning and one expansion, where memory suffices.
 pub record ReadsOnce : Type 0 where
   pub unit : (text rest rest' : List ℕ) (u u' : UnitView) → IsUnit text u rest → IsUnit text u' rest' → (u ≡ u') × (rest ≡ rest')
   pub error : (text : List ℕ) (e e' : ScpiError) → IsRefused text e → IsRefused text e' → e ≡ e'
@@ -172,49 +273,114 @@ pub record ReadsOnce : Type 0 where
   pub unit_or_error : (text rest : List ℕ) (u : UnitView) (e : ScpiError) → IsUnit text u rest → IsRefused text e → ⊥
   pub blank_or_error : (text : List ℕ) (e : ScpiError) → IsBlank text → IsRefused text e → ⊥
   pub command : (u : UnitView) (path : Nodes) (c c' : Result Command ScpiError) (p p' : Nodes) → Resolves u path c p → Resolves u path c' p' → (c ≡ Err OutOfMemory → ⊥) → (c' ≡ Err OutOfMemory → ⊥) → (c ≡ c') × (p ≡ p')
+  pub expansion : (t : Table) (u : UnitView) (written : List ℕ) (r r' : Result (List ℕ) ScpiError) → Expands t u written r → Expands t u written r' → r ≡ r'
 
-proceeds-same : (b b' : List ℕ) (on on' : List (List ℕ) → List Entry → Type 0) (step : After) (so_far : List (List ℕ)) (mid mid' r r' : List Entry) (after after' : After) (told told' : List (List ℕ)) → Proceeds on step so_far mid after told r → Proceeds on' step so_far mid' after' told' r'
-    → (after ≡ after' → told ≡ told' → Rests b b' r r') → (on so_far mid → on' so_far mid' → Rests b b' mid mid') → Rests b b' mid mid'
-proceeds-same b b' on on' Goes so_far mid mid' r r' after after' told told' p q next more = more p q
-proceeds-same b b' on on' Drops so_far mid mid' r r' after after' told told' p q next more = plain-same b b' mid mid' r r' Drops after after' so_far told told' p q next
-proceeds-same b b' on on' Ends so_far mid mid' r r' after after' told told' p q next more = plain-same b b' mid mid' r r' Ends after after' so_far told told' p q next
+-- one unit, talked over in this way, leaves no choice
+abbrev SameWay : {T : Type 0} → T → T → Way → Type 0
+SameWay b b' way = (u : UnitView) (path : Nodes) (s : Standing) (t t' r r' : List Entry) (after after' : After) (onward onward' : Nodes) (told told' : Standing) → way u path s t after onward told r → way u path s t' after' onward' told' r'
+    → (after ≡ after' → onward ≡ onward' → told ≡ told' → Rests b b' r r') → Rests b b' t t'
 
-talks-same : ReadsOnce → (b b' : List ℕ) (sid : Sid) (text : List ℕ) (us us' : List UnitView) (end end' : Ending) (path : Nodes) (answers : List (List ℕ)) (t t' r r' : List Entry) (after after' : After) (told told' : List (List ℕ)) → IsScript text us end → IsScript text us' end'
-    → Talks sid us end path answers t after told r → Talks sid us' end' path answers t' after' told' r' → (after ≡ after' → told ≡ told' → Rests b b' r r') → Rests b b' t t'
-talks-same reads b b' sid text [] us' Unread end' path answers t t' r r' after after' told told' s s' p q next = absurd p
-talks-same reads b b' sid text [] [] Complete Unread path answers t t' r r' after after' told told' s s' p q next = absurd q
-talks-same reads b b' sid text [] [] Complete Complete path answers t t' r r' after after' told told' s s' p q next = plain-same b b' t t' r r' Goes after after' answers told told' p q next
-talks-same reads b b' sid text [] [] Complete (Refuses e) path answers t t' r r' after after' told told' s s' p q next = absurd (reads.blank_or_error text e s s')
-talks-same reads b b' sid text [] (u' ∷ us') Complete end' path answers t t' r r' after after' told told' s s' p q next = absurd (reads.unit_or_blank text s'.0 u' s'.1 s)
-talks-same reads b b' sid text [] [] (Refuses e) Unread path answers t t' r r' after after' told told' s s' p q next = absurd q
-talks-same reads b b' sid text [] [] (Refuses e) Complete path answers t t' r r' after after' told told' s s' p q next = absurd (reads.blank_or_error text e s' s)
-talks-same reads b b' sid text [] [] (Refuses e) (Refuses e') path answers t t' r r' after after' told told' s s' p q next =
-    serves-same b b' sid (Err e) answers t t' r r' after after' told told' p (subst (λ (x : ScpiError). Serves sid (Err x) answers t' after' told' r') (sym (reads.error text e e' s s')) q) next
-talks-same reads b b' sid text [] (u' ∷ us') (Refuses e) end' path answers t t' r r' after after' told told' s s' p q next = absurd (reads.unit_or_error text s'.0 u' e s'.1 s)
-talks-same reads b b' sid text (u ∷ us) [] end Unread path answers t t' r r' after after' told told' s s' p q next = absurd q
-talks-same reads b b' sid text (u ∷ us) [] end Complete path answers t t' r r' after after' told told' s s' p q next = absurd (reads.unit_or_blank text s.0 u s.1 s')
-talks-same reads b b' sid text (u ∷ us) [] end (Refuses e) path answers t t' r r' after after' told told' s s' p q next = absurd (reads.unit_or_error text s.0 u e s.1 s')
-talks-same reads b b' sid text (u ∷ us) (u' ∷ us') end end' path answers t t' r r' after after' told told' (rest, is, s) (rest', is', s') (c, onward, step, so_far, mid, res, srv, on) (c', onward', step', so_far', mid', res', srv', on') next = λ m n.
+-- what comes of units that don't go on
+ends-same : {T : Type 0} (b b' : T) (t t' r r' : List Entry) (step after after' : After) (path onward onward' : Nodes) (s told told' : Standing) → (after ≡ step) × (onward ≡ path) × (told ≡ s) × (r ≡ t) → (after' ≡ step) × (onward' ≡ path) × (told' ≡ s) × (r' ≡ t')
+    → (after ≡ after' → onward ≡ onward' → told ≡ told' → Rests b b' r r') → Rests b b' t t'
+ends-same b b' t t' r r' step after after' path onward onward' s told told' (go, way, is, left) (go', way', is', left') next =
+    rw (← left, ← left') (next (go ∙ sym go') (way ∙ sym way') (is ∙ sym is'))
+
+proceeds-same : {T : Type 0} (b b' : T) (on on' : Nodes → Standing → List Entry → Type 0) (step : After) (path : Nodes) (s : Standing) (mid mid' r r' : List Entry) (after after' : After) (onward onward' : Nodes) (told told' : Standing) → Proceeds on step path s mid after onward told r → Proceeds on' step path s mid' after' onward' told' r'
+    → (after ≡ after' → onward ≡ onward' → told ≡ told' → Rests b b' r r') → (on path s mid → on' path s mid' → Rests b b' mid mid') → Rests b b' mid mid'
+proceeds-same b b' on on' Goes path s mid mid' r r' after after' onward onward' told told' p q next more = more p q
+proceeds-same b b' on on' Drops path s mid mid' r r' after after' onward onward' told told' p q next more = ends-same b b' mid mid' r r' Drops after after' path onward onward' s told told' p q next
+proceeds-same b b' on on' Ends path s mid mid' r r' after after' onward onward' told told' p q next more = ends-same b b' mid mid' r r' Ends after after' path onward onward' s told told' p q next
+
+-- the text breaks off
+refused-same : {T : Type 0} (b b' : T) (sid : Sid) (e e' : ScpiError) (path : Nodes) (s : Standing) (t t' r r' : List Entry) (after after' : After) (onward onward' : Nodes) (told told' : Standing) → e ≡ e' → Serves sid (Err e) s t after told r × (onward ≡ path) → Serves sid (Err e') s t' after' told' r' × (onward' ≡ path)
+    → (after ≡ after' → onward ≡ onward' → told ≡ told' → Rests b b' r r') → Rests b b' t t'
+refused-same b b' sid e e' path s t t' r r' after after' onward onward' told told' same (p, way) (q, way') next =
+    serves-same b b' sid (Err e) s t t' r r' after after' told told' p (subst (λ (x : ScpiError). Serves sid (Err x) s t' after' told' r') (sym same) q) (λ go is. next go (way ∙ sym way') is)
+
+talks-same : {T : Type 0} (b b' : T) (way : Way) → ReadsOnce → SameWay b b' way → (sid : Sid) (text : List ℕ) (us us' : List UnitView) (end end' : Ending) (path : Nodes) (s : Standing) (t t' r r' : List Entry) (after after' : After) (onward onward' : Nodes) (told told' : Standing)
+    → IsScript text us end → IsScript text us' end' → Talks way sid us end path s t after onward told r → Talks way sid us' end' path s t' after' onward' told' r'
+    → (after ≡ after' → onward ≡ onward' → told ≡ told' → Rests b b' r r') → Rests b b' t t'
+talks-same b b' way reads same sid text [] us' Unread end' path s t t' r r' after after' onward onward' told told' i i' p q next = absurd p
+talks-same b b' way reads same sid text [] [] Complete Unread path s t t' r r' after after' onward onward' told told' i i' p q next = absurd q
+talks-same b b' way reads same sid text [] [] Complete Complete path s t t' r r' after after' onward onward' told told' i i' p q next = ends-same b b' t t' r r' Goes after after' path onward onward' s told told' p q next
+talks-same b b' way reads same sid text [] [] Complete (Refuses e) path s t t' r r' after after' onward onward' told told' i i' p q next = absurd (reads.blank_or_error text e i i')
+talks-same b b' way reads same sid text [] (u' ∷ us') Complete end' path s t t' r r' after after' onward onward' told told' i i' p q next = absurd (reads.unit_or_blank text i'.0 u' i'.1 i)
+talks-same b b' way reads same sid text [] [] (Refuses e) Unread path s t t' r r' after after' onward onward' told told' i i' p q next = absurd q
+talks-same b b' way reads same sid text [] [] (Refuses e) Complete path s t t' r r' after after' onward onward' told told' i i' p q next = absurd (reads.blank_or_error text e i' i)
+talks-same b b' way reads same sid text [] [] (Refuses e) (Refuses e') path s t t' r r' after after' onward onward' told told' i i' p q next =
+    refused-same b b' sid e e' path s t t' r r' after after' onward onward' told told' (reads.error text e e' i i') p q next
+talks-same b b' way reads same sid text [] (u' ∷ us') (Refuses e) end' path s t t' r r' after after' onward onward' told told' i i' p q next = absurd (reads.unit_or_error text i'.0 u' e i'.1 i)
+talks-same b b' way reads same sid text (u ∷ us) [] end Unread path s t t' r r' after after' onward onward' told told' i i' p q next = absurd q
+talks-same b b' way reads same sid text (u ∷ us) [] end Complete path s t t' r r' after after' onward onward' told told' i i' p q next = absurd (reads.unit_or_blank text i.0 u i.1 i')
+talks-same b b' way reads same sid text (u ∷ us) [] end (Refuses e) path s t t' r r' after after' onward onward' told told' i i' p q next = absurd (reads.unit_or_error text i.0 u e i.1 i')
+talks-same b b' way reads same sid text (u ∷ us) (u' ∷ us') end end' path s t t' r r' after after' onward onward' told told' (rest, is, i) (rest', is', i') (step, below, so_far, mid, w, on) (step', below', so_far', mid', w', on') next =
     let one = reads.unit text rest rest' u u' is is' in
-    let res'' : Resolves u path c' onward' = subst (λ (x : UnitView). Resolves x path c' onward') (sym one.0) res' in
-    let cmd = reads.command u path c c' onward onward' res res'' (serves-ample sid c answers t mid step so_far m srv) (serves-ample sid c' answers t' mid' step' so_far' n srv') in
-    let script : IsScript rest us' end' = subst (λ (x : List ℕ). IsScript x us' end') (sym one.1) s' in
-    let srv'' : Serves sid c answers t' step' so_far' mid' = subst (λ (x : Result Command ScpiError). Serves sid x answers t' step' so_far' mid') (sym cmd.0) srv' in
-    let On : Nodes → List (List ℕ) → List Entry → Type 0 = λ way a x. Talks sid us' end' way a x after' told' r' in
-    let on'' : Proceeds (On onward) step' so_far' mid' after' told' r' = subst (λ (x : Nodes). Proceeds (On x) step' so_far' mid' after' told' r') (sym cmd.1) on' in
-    serves-same b b' sid c answers t t' mid mid' step step' so_far so_far' srv srv''
-    (λ same_step same_told.
-    let on1 : Proceeds (On onward) step so_far' mid' after' told' r' = subst (λ (x : After). Proceeds (On onward) x so_far' mid' after' told' r') (sym same_step) on'' in
-    let on2 : Proceeds (On onward) step so_far mid' after' told' r' = subst (λ (x : List (List ℕ)). Proceeds (On onward) step x mid' after' told' r') (sym same_told) on1 in
-    proceeds-same b b' (λ a x. Talks sid us end onward a x after told r) (On onward) step so_far mid mid' r r' after after' told told' on on2 next
-    (λ k k'. talks-same reads b b' sid rest us us' end end' onward so_far mid mid' r r' after after' told told' s script k k' next)) m n
+    let again : way u path s t' step' below' so_far' mid' = subst (λ (x : UnitView). way x path s t' step' below' so_far' mid') (sym one.0) w' in
+    let script : IsScript rest us' end' = subst (λ (x : List ℕ). IsScript x us' end') (sym one.1) i' in
+    let On : Nodes → Standing → List Entry → Type 0 = λ p a x. Talks way sid us' end' p a x after' onward' told' r' in
+    same u path s t t' mid mid' step step' below below' so_far so_far' w again
+    (λ same_step same_path same_told.
+    let on1 : Proceeds On step below' so_far' mid' after' onward' told' r' = subst (λ (x : After). Proceeds On x below' so_far' mid' after' onward' told' r') (sym same_step) on' in
+    let on2 : Proceeds On step below so_far' mid' after' onward' told' r' = subst (λ (x : Nodes). Proceeds On step x so_far' mid' after' onward' told' r') (sym same_path) on1 in
+    let on3 : Proceeds On step below so_far mid' after' onward' told' r' = subst (λ (x : Standing). Proceeds On step below x mid' after' onward' told' r') (sym same_told) on2 in
+    proceeds-same b b' (λ p a x. Talks way sid us end p a x after onward told r) On step below so_far mid mid' r r' after after' onward onward' told told' on on3 next
+    (λ k k'. talks-same b b' way reads same sid rest us us' end end' below so_far mid mid' r r' after after' onward onward' told told' i script k k' next))
 
--- nothing is left, and the same is written
-nothing-left : (b b' : List ℕ) → b ≡ b' → Rests b b' [] []
+itself-same : {T : Type 0} (b b' : T) → ReadsOnce → (sid : Sid) → SameWay b b' (Itself sid)
+itself-same b b' reads sid u path s t t' r r' after after' onward onward' told told' (c, res, srv) (c', res', srv') next = λ m n.
+    let one = reads.command u path c c' onward onward' res res' (serves-ample sid c s t r after told m srv) (serves-ample sid c' s t' r' after' told' n srv') in
+    serves-same b b' sid c s t t' r r' after after' told told' srv (subst (λ (x : Result Command ScpiError). Serves sid x s t' after' told' r') (sym one.0) srv') (λ go is. next go one.1 is) m n
+
+unfolds-same : {T : Type 0} (b b' : T) → ReadsOnce → (sid : Sid) (x : Result (List ℕ) ScpiError) (path : Nodes) (s : Standing) (t t' r r' : List Entry) (after after' : After) (onward onward' : Nodes) (told told' : Standing)
+    → Unfolds sid x path s t after onward told r → Unfolds sid x path s t' after' onward' told' r' → (after ≡ after' → onward ≡ onward' → told ≡ told' → Rests b b' r r') → Rests b b' t t'
+unfolds-same b b' reads sid (Ok text) path s t t' r r' after after' onward onward' told told' (us, end, i, p) (us', end', i', q) next =
+    talks-same b b' (Itself sid) reads (itself-same b b' reads sid) sid text us us' end end' path s t t' r r' after after' onward onward' told told' i i' p q next
+unfolds-same b b' reads sid (Err e) path s t t' r r' after after' onward onward' told told' p q next =
+    refused-same b b' sid e e path s t t' r r' after after' onward onward' told told' refl p q next
+
+-- an expansion that stood in a unit's place is no want of memory
+unfolds-ample : (sid : Sid) (x : Result (List ℕ) ScpiError) (path : Nodes) (s : Standing) (t r : List Entry) (after : After) (onward : Nodes) (told : Standing) → AllAmple t → Unfolds sid x path s t after onward told r → x ≡ Err OutOfMemory → ⊥
+unfolds-ample sid x path s t r after onward told m p is =
+    serves-ample sid (Err OutOfMemory) s t r after told m (subst (λ (y : Result (List ℕ) ScpiError). Unfolds sid y path s t after onward told r) is p).0 refl
+
+expansion-same : ReadsOnce → (macros : Table) (u : UnitView) (x x' : Result (List ℕ) ScpiError) → calls macros u ≡ true → IsExpansion macros u x → IsExpansion macros u x' → (x ≡ Err OutOfMemory → ⊥) → (x' ≡ Err OutOfMemory → ⊥) → x ≡ x'
+expansion-same reads macros u x x' does e e' some some' = elim e [
+  | inl w ↦ elim e' [
+    | inl w' ↦ reads.expansion macros u w.0 x x' w.1 (written_so macros u w'.0 w.0 x' does w'.1)
+    | inr lost ↦ absurd (some' lost)
+  ]
+  | inr lost ↦ absurd (some lost)
+]
+
+either-so : (c : Bool) (P Q P' Q' : Type 0) {G : Type 0} → MatchBool c P Q → MatchBool c P' Q' → (c ≡ true → P → P' → G) → (Q → Q' → G) → G
+either-so true P Q P' Q' p p' one other = one refl p p'
+either-so false P Q P' Q' p p' one other = other p p'
+
+expanded-same : {T : Type 0} (b b' : T) → ReadsOnce → (sid : Sid) → SameWay b b' (Expanded sid)
+expanded-same b b' reads sid u path s t t' r r' after after' onward onward' told told' p q next =
+    either-so (calls s.macros u)
+    ((x : Result (List ℕ) ScpiError) × IsExpansion s.macros u x × Unfolds sid x path s t after onward told r) (Itself sid u path s t after onward told r)
+    ((x : Result (List ℕ) ScpiError) × IsExpansion s.macros u x × Unfolds sid x path s t' after' onward' told' r') (Itself sid u path s t' after' onward' told' r') p q
+    (λ does k k' m n.
+    let one = expansion-same reads s.macros u k.0 k'.0 does k.1 k'.1 (unfolds-ample sid k.0 path s t r after onward told m k.2) (unfolds-ample sid k'.0 path s t' r' after' onward' told' n k'.2) in
+    unfolds-same b b' reads sid k.0 path s t t' r r' after after' onward onward' told told' k.2 (subst (λ (x : Result (List ℕ) ScpiError). Unfolds sid x path s t' after' onward' told' r') (sym one) k'.2) next m n)
+    (λ k k'. itself-same b b' reads sid u path s t t' r r' after after' onward onward' told told' k k' next)
+
+-- nothing is left, and the same is left
+nothing-left : {T : Type 0} (b b' : T) → b ≡ b' → Rests b b' [] []
 nothing-left b b' is m n = is
 
+left-same : (bytes bytes' : List ℕ) (macros macros' : Table) → bytes ≡ bytes' → macros ≡ macros' → left bytes macros ≡ left bytes' macros'
+left-same bytes bytes' macros macros' b m = ap (λ (x : List ℕ). left x macros) b ∙ ap (λ (x : Table). left bytes' x) m
+
 pub talk-determined : ReadsOnce → TalkIsDetermined
-talk-determined reads sid text t t' b b' p q = either-way (nat_lt longest (length text)) (Overruns sid t b) (TalksUnits sid text t b) (Overruns sid t' b') (TalksUnits sid text t' b') p q
-    (λ o o'. queues-same b b' sid InputBufferOverrun t t' [] [] o.0 o'.0 o.1 o'.1 (λ same. nothing-left b b' (o.2 ∙ sym o'.2)))
-    (λ k k'. talks-same reads b b' sid text k.units k'.units k.ending k'.ending [] [] t t' [] [] k.after k'.after k.answers k'.answers k.script k'.script k.talks k'.talks
-    (λ same_after same_told. nothing-left b b' (k.writes ∙ ap (λ x. written x k.answers) same_after ∙ ap (λ x. written k'.after x) same_told ∙ sym k'.writes)))
+talk-determined reads sid macros text t t' bytes bytes' kept kept' p q =
+    let b = left bytes kept in
+    let b' = left bytes' kept' in
+    either-way (nat_lt longest (length text)) (Overruns sid t bytes × (kept ≡ macros)) (TalksUnits sid macros text t bytes kept) (Overruns sid t' bytes' × (kept' ≡ macros)) (TalksUnits sid macros text t' bytes' kept') p q
+    (λ o o'. queues-same b b' sid InputBufferOverrun t t' [] [] o.0.0 o'.0.0 o.0.1 o'.0.1 (λ same. nothing-left b b' (left-same bytes bytes' kept kept' (o.0.2 ∙ sym o'.0.2) (o.1 ∙ sym o'.1))))
+    (λ k k'. talks-same b b' (Expanded sid) reads (expanded-same b b' reads sid) sid text k.units k'.units k.ending k'.ending [] (standing macros []) t t' [] [] k.after k'.after k.path k'.path (standing kept k.answers) (standing kept' k'.answers) k.script k'.script k.talks k'.talks
+    (λ same_after same_path same_told. nothing-left b b' (left-same bytes bytes' kept kept'
+    (k.writes ∙ ap (λ (x : After). written x k.answers) same_after ∙ ap (λ (x : Standing). written k'.after x.answers) same_told ∙ sym k'.writes)
+    (ap (λ (x : Standing). x.macros) same_told))))

@@ -14,6 +14,10 @@ led-none passes d P h = record { trace = []; leads = refl; admits = h }
 pub led-one : {D : Type 0} (passes : D → Entry → D → Type 0) (old new : D) (P : List Entry → List Entry → Type 0) (e : Entry) → passes old e new → ((rest : List Entry) → P (e ∷ rest) rest) → Led passes old new P
 led-one passes old new P e p h = record { trace = e ∷ []; leads = (new, p, refl); admits = h }
 
+-- what passed is also this
+pub led-so : {D : Type 0} (passes : D → Entry → D → Type 0) (old new : D) (P R : List Entry → List Entry → Type 0) → Led passes old new P → ((t rest : List Entry) → P t rest → R t rest) → Led passes old new R
+led-so passes old new P R p h = record { trace = p.trace; leads = p.leads; admits = λ rest. h _ rest (p.admits rest) }
+
 -- one passage after another
 pub led-then : {D : Type 0} (passes : D → Entry → D → Type 0) (old mid new : D) (P Q R : List Entry → List Entry → Type 0)
     → Led passes old mid P → Led passes mid new Q → ((t u rest : List Entry) → P t u → Q u rest → R t rest) → Led passes old new R

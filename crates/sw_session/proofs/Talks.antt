@@ -1,25 +1,27 @@
 -- The talk as far as it has come.
-use Rattle.std.proofs.Common.{◌≡◌, ℕ, ◌+◌, ◌<◌, Bool, true, false, MatchBool, List, [], ◌∷◌, ◌++◌, length, ◌≤◌, Result, Err, refl, sym, subst, append_assoc, arith}
-use Rattle.std.specs.Prelude.{◌==◌, nat_lt}
+use Rattle.std.proofs.Common.{◌≡◌, ℕ, ◌+◌, ◌<◌, Bool, true, false, MatchBool, List, [], ◌∷◌, ◌++◌, length, ◌≤◌, Result, Ok, Err, inl, inr, ap, refl, sym, subst, append_assoc, arith}
+use Rattle.std.specs.Prelude.{◌==◌, nat_lt, ◌⊎◌}
 use Rattle.std.specs.Io.BufRead.{strip_last}
 use Rattle.std.proofs.lemmas.List.{append-nil}
 use Rattle.std.proofs.lemmas.Bool.Decides.{nat_tests}
 use Rattle.sw_base.specs.declared.error.ScpiError.{ScpiError}
-use Rattle.sw_base.specs.declared.error.ScpiError.TheVariants.{SettingsConflict, InputBufferOverrun}
+use Rattle.sw_base.specs.declared.error.ScpiError.TheVariants.{SettingsConflict, OutOfMemory, InputBufferOverrun}
 use Rattle.sw_lex.specs.declared.command.Command.{Command}
 use Rattle.sw_lex.specs.Unit.{UnitView, IsUnit}
 use Rattle.sw_lex.specs.Meaning.{Nodes, Resolves}
+use Rattle.sw_macro.specs.Table.{Table}
+use Rattle.sw_macro.specs.Expansion.{calls, Expands}
 use Rattle.sw_core.specs.declared.ask.Sid.{Sid}
 use Rattle.sw_core.specs.declared.ask.SessionAsk.{SessionAsk}
 use Rattle.sw_core.specs.declared.ask.SessionAnswer.{SessionAnswer}
-use Rattle.sw_core.specs.declared.ask.SessionAnswer.TheVariants.{Joined, Full, Stranger, Broken, Done, Refused, Hold, Worn}
+use Rattle.sw_core.specs.declared.ask.SessionAnswer.TheVariants.{Joined, Full, Stranger, Broken, Done, Snapshot, Refused, Hold, Worn}
 use Rattle.sw_session.specs.declared.desk.Wake.TheVariants.{Again, Over}
 use Rattle.sw_session.specs.declared.talker.After.{After}
 use Rattle.sw_session.specs.declared.talker.After.TheVariants.{Goes, Drops, Ends}
 use Rattle.sw_session.specs.Trace.{Entry, Asked, Waited, Led}
 use Rattle.sw_session.specs.Script.{Ending, Complete, Refuses, Unread, IsScript}
-use Rattle.sw_session.specs.Talk.{Queues, Settles, Begins, Concludes, Serves, Proceeds, Talks, TalksUnits, TalksMessage, Talked, Overruns, has_answers, line_of, written, longest, turns}
-use Rattle.sw_session.proofs.Led.{led-none, led-more, led-then}
+use Rattle.sw_session.specs.Talk.{Queues, Settles, Begins, Concludes, Serves, Standing, standing, Proceeds, Way, Talks, Itself, Unfolds, IsExpansion, Expanded, TalksUnits, TalksMessage, Talked, Overruns, has_answers, line_of, written, longest, turns}
+use Rattle.sw_session.proofs.Led.{led-none, led-so, led-more, led-then}
 
 -- an ask that was held turn times is asked, or given up
 abbrev pub Awaits : Sid → ℕ → SessionAsk → List Entry → SessionAnswer → List Entry → Type 0
@@ -68,6 +70,7 @@ settles-told sid turn ask asked Broken rest same differ = (same, refl, refl)
 settles-told sid turn ask asked (Done text) rest same differ = (same, refl, refl)
 settles-told sid turn ask asked (Refused e) rest same differ = (same, refl, refl)
 settles-told sid turn ask asked (Worn back) rest same differ = (same, refl, refl)
+settles-told sid turn ask asked (Snapshot s) rest same differ = (same, refl, refl)
 
 pub settle-told : {D : Type 0} (passes : D → Entry → D → Type 0) (d0 d1 d2 : D) (sid : Sid) (turn : ℕ) (ask asked : SessionAsk) (final : SessionAnswer) → turn < turns → asked ≡ ask → ((held : SessionAsk) → final ≡ Hold held → ⊥) → Led passes d0 d1 (SettlesBy sid turn ask)
     → passes d1 (Asked asked final) d2 → Led passes d0 d2 (λ t rest. Settles sid 0 ask t final rest)
@@ -76,12 +79,12 @@ settle-told passes d0 d1 d2 sid turn ask asked final lt same differ led p =
     (λ t rest so. so final rest (awaits-open sid turn ask (Asked asked final ∷ rest) final rest lt (settles-told sid turn ask asked final rest same differ)))
 
 -- a unit that was begun is concluded
-pub serve-unit : {D : Type 0} (passes : D → Entry → D → Type 0) (d0 d1 d2 : D) (sid : Sid) (command : Result Command ScpiError) (answered : Bool) (answers : List (List ℕ)) (answer : SessionAnswer) (after : After) (answers' : List (List ℕ))
-    → answered ≡ has_answers answers → Led passes d0 d1 (λ t rest. Begins sid answered command t answer rest) → Led passes d1 d2 (λ t rest. Concludes sid answers answer t after answers' rest)
-    → Led passes d0 d2 (λ t rest. Serves sid command answers t after answers' rest)
-serve-unit passes d0 d1 d2 sid command answered answers answer after answers' told p q =
-    led-then passes d0 d1 d2 (λ t rest. Begins sid answered command t answer rest) (λ t rest. Concludes sid answers answer t after answers' rest) (λ t rest. Serves sid command answers t after answers' rest) p q
-    (λ t mid rest b k. (answer, mid, subst (λ (w : Bool). Begins sid w command t answer mid) told b, k))
+pub serve-unit : {D : Type 0} (passes : D → Entry → D → Type 0) (d0 d1 d2 : D) (sid : Sid) (command : Result Command ScpiError) (answered : Bool) (macros macros' : Table) (answers : List (List ℕ)) (answer : SessionAnswer) (after : After) (answers' : List (List ℕ))
+    → answered ≡ has_answers answers → Led passes d0 d1 (λ t rest. Begins sid answered command macros t answer macros' rest) → Led passes d1 d2 (λ t rest. Concludes sid answers answer t after answers' rest)
+    → Led passes d0 d2 (λ t rest. Serves sid command (standing macros answers) t after (standing macros' answers') rest)
+serve-unit passes d0 d1 d2 sid command answered macros macros' answers answer after answers' told p q =
+    led-then passes d0 d1 d2 (λ t rest. Begins sid answered command macros t answer macros' rest) (λ t rest. Concludes sid answers answer t after answers' rest) (λ t rest. Serves sid command (standing macros answers) t after (standing macros' answers') rest) p q
+    (λ t mid rest b k. (answer, mid, subst (λ (w : Bool). Begins sid w command macros t answer macros' mid) told b, k))
 
 -- a script of what is left, after these units, is one of the whole text
 abbrev pub ScriptsBy : List ℕ → List UnitView → List ℕ → Type 0
@@ -91,85 +94,117 @@ pub scripts-more : (text left rest : List ℕ) (front : List UnitView) (u : Unit
 scripts-more text left rest front u is so us ending s =
     subst (λ (l : List UnitView). IsScript text l ending) (sym (append_assoc front (u ∷ []) us)) (so (u ∷ us) ending (rest, is, s))
 
--- what is talked from the rest on, from this path and after these answers, is talked from the trace on, after these units
-abbrev pub TalksBy : Sid → List UnitView → Nodes → List (List ℕ) → Nodes → List (List ℕ) → List Entry → List Entry → Type 0
-TalksBy sid front start answers path told trace mid =
-    (us : List UnitView) (ending : Ending) (after : After) (answers' : List (List ℕ)) (rest : List Entry) → Talks sid us ending path told mid after answers' rest → Talks sid (front ++ us) ending start answers trace after answers' rest
+-- what is talked from the rest on, from this path and standing, is talked from the trace on, after these units
+abbrev pub TalksBy : Way → Sid → List UnitView → Nodes → Standing → Nodes → Standing → List Entry → List Entry → Type 0
+TalksBy way sid front start s path told trace mid =
+    (us : List UnitView) (ending : Ending) (after : After) (path' : Nodes) (s' : Standing) (rest : List Entry) → Talks way sid us ending path told mid after path' s' rest → Talks way sid (front ++ us) ending start s trace after path' s' rest
 
--- nothing was talked yet
-pub talk-starts : {D : Type 0} (passes : D → Entry → D → Type 0) (d : D) (sid : Sid) (start path : Nodes) (answers : List (List ℕ)) → path ≡ start → Led passes d d (TalksBy sid [] start answers path answers)
-talk-starts passes d sid start path answers is =
-    led-none passes d (TalksBy sid [] start answers path answers)
-    (λ rest us ending after answers' rest' w. subst (λ (p : Nodes). Talks sid us ending p answers rest after answers' rest') is w)
+stops : (on : Nodes → Standing → List Entry → Type 0) (after : After) (onward : Nodes) (told : Standing) (rest : List Entry) → (after ≡ Goes → ⊥) → Proceeds on after onward told rest after onward told rest
+stops on Goes onward told rest differs = absurd (differs refl)
+stops on Drops onward told rest differs = (refl, refl, refl, refl)
+stops on Ends onward told rest differs = (refl, refl, refl, refl)
 
--- a unit was served, and the talk goes on
-pub talk-goes : {D : Type 0} (passes : D → Entry → D → Type 0) (d0 d1 d2 : D) (sid : Sid) (front : List UnitView) (u : UnitView) (command : Result Command ScpiError) (start path path' : Nodes) (answers told told' : List (List ℕ)) → Resolves u path command path'
-    → Led passes d0 d1 (TalksBy sid front start answers path told) → Led passes d1 d2 (λ t rest. Serves sid command told t Goes told' rest) → Led passes d0 d2 (TalksBy sid (front ++ u ∷ []) start answers path' told')
-talk-goes passes d0 d1 d2 sid front u command start path path' answers told told' r p q =
-    led-then passes d0 d1 d2 (TalksBy sid front start answers path told) (λ t rest. Serves sid command told t Goes told' rest) (TalksBy sid (front ++ u ∷ []) start answers path' told') p q
-    (λ t mid rest so s us ending after answers' rest' w. subst (λ (l : List UnitView). Talks sid l ending start answers t after answers' rest') (sym (append_assoc front (u ∷ []) us))
-    (so (u ∷ us) ending after answers' rest' (command, path', Goes, told', rest, r, s, w)))
+module _ {D : Type 0} (passes : D → Entry → D → Type 0) (way : Way) (sid : Sid) where
+  -- nothing was talked yet
+  pub talk-starts : (d : D) (start : Nodes) (s : Standing) → Led passes d d (TalksBy way sid [] start s start s)
+  talk-starts d start s = led-none passes d (TalksBy way sid [] start s start s) (λ rest us ending after path' s' rest' w. w)
 
-stops : (on : List (List ℕ) → List Entry → Type 0) (after : After) (told : List (List ℕ)) (rest : List Entry) → (after ≡ Goes → ⊥) → Proceeds on after told rest after told rest
-stops on Goes told rest differs = absurd (differs refl)
-stops on Drops told rest differs = (refl, refl, refl)
-stops on Ends told rest differs = (refl, refl, refl)
+  -- a unit was talked over, and the talk goes on
+  pub talk-goes : (d0 d1 d2 : D) (front : List UnitView) (u : UnitView) (start path path' : Nodes) (s told told' : Standing)
+      → Led passes d0 d1 (TalksBy way sid front start s path told) → Led passes d1 d2 (λ t rest. way u path told t Goes path' told' rest) → Led passes d0 d2 (TalksBy way sid (front ++ u ∷ []) start s path' told')
+  talk-goes d0 d1 d2 front u start path path' s told told' p q =
+      led-then passes d0 d1 d2 (TalksBy way sid front start s path told) (λ t rest. way u path told t Goes path' told' rest) (TalksBy way sid (front ++ u ∷ []) start s path' told') p q
+      (λ t mid rest so w us ending after last s' rest' k. subst (λ (l : List UnitView). Talks way sid l ending start s t after last s' rest') (sym (append_assoc front (u ∷ []) us))
+      (so (u ∷ us) ending after last s' rest' (Goes, path', told', rest, w, k)))
 
--- the talk stops after a unit
-pub talk-stops : {D : Type 0} (passes : D → Entry → D → Type 0) (d0 d1 d2 : D) (sid : Sid) (front : List UnitView) (u : UnitView) (command : Result Command ScpiError) (start path path' : Nodes) (answers told told' : List (List ℕ)) (after : After) → Resolves u path command path'
-    → (after ≡ Goes → ⊥) → Led passes d0 d1 (TalksBy sid front start answers path told) → Led passes d1 d2 (λ t rest. Serves sid command told t after told' rest)
-    → Led passes d0 d2 (λ t rest. Talks sid (front ++ u ∷ []) Unread start answers t after told' rest)
-talk-stops passes d0 d1 d2 sid front u command start path path' answers told told' after r differs p q =
-    led-then passes d0 d1 d2 (TalksBy sid front start answers path told) (λ t rest. Serves sid command told t after told' rest) (λ t rest. Talks sid (front ++ u ∷ []) Unread start answers t after told' rest) p q
-    (λ t mid rest so s. so (u ∷ []) Unread after told' rest (command, path', after, told', rest, r, s, stops (λ so_far t'. Talks sid [] Unread path' so_far t' after told' rest) after told' rest differs))
+  -- the talk stops after a unit
+  pub talk-stops : (d0 d1 d2 : D) (front : List UnitView) (u : UnitView) (start path path' : Nodes) (s told told' : Standing) (after : After) → (after ≡ Goes → ⊥)
+      → Led passes d0 d1 (TalksBy way sid front start s path told) → Led passes d1 d2 (λ t rest. way u path told t after path' told' rest) → Led passes d0 d2 (λ t rest. Talks way sid (front ++ u ∷ []) Unread start s t after path' told' rest)
+  talk-stops d0 d1 d2 front u start path path' s told told' after differs p q =
+      led-then passes d0 d1 d2 (TalksBy way sid front start s path told) (λ t rest. way u path told t after path' told' rest) (λ t rest. Talks way sid (front ++ u ∷ []) Unread start s t after path' told' rest) p q
+      (λ t mid rest so w. so (u ∷ []) Unread after path' told' rest (after, path', told', rest, w, stops (λ p so_far t'. Talks way sid [] Unread p so_far t' after path' told' rest) after path' told' rest differs))
 
--- the text breaks off
-pub talk-refused : {D : Type 0} (passes : D → Entry → D → Type 0) (d0 d1 d2 : D) (sid : Sid) (front : List UnitView) (e : ScpiError) (start path : Nodes) (answers told told' : List (List ℕ)) (after : After)
-    → Led passes d0 d1 (TalksBy sid front start answers path told) → Led passes d1 d2 (λ t rest. Serves sid (Err e) told t after told' rest)
-    → Led passes d0 d2 (λ t rest. Talks sid (front ++ []) (Refuses e) start answers t after told' rest)
-talk-refused passes d0 d1 d2 sid front e start path answers told told' after p q =
-    led-then passes d0 d1 d2 (TalksBy sid front start answers path told) (λ t rest. Serves sid (Err e) told t after told' rest) (λ t rest. Talks sid (front ++ []) (Refuses e) start answers t after told' rest) p q
-    (λ t mid rest so s. so [] (Refuses e) after told' rest s)
+  -- the text breaks off
+  pub talk-refused : (d0 d1 d2 : D) (front : List UnitView) (e : ScpiError) (start path : Nodes) (s told told' : Standing) (after : After)
+      → Led passes d0 d1 (TalksBy way sid front start s path told) → Led passes d1 d2 (λ t rest. Serves sid (Err e) told t after told' rest) → Led passes d0 d2 (λ t rest. Talks way sid (front ++ []) (Refuses e) start s t after path told' rest)
+  talk-refused d0 d1 d2 front e start path s told told' after p q =
+      led-then passes d0 d1 d2 (TalksBy way sid front start s path told) (λ t rest. Serves sid (Err e) told t after told' rest) (λ t rest. Talks way sid (front ++ []) (Refuses e) start s t after path told' rest) p q
+      (λ t mid rest so k. so [] (Refuses e) after path told' rest (k, refl))
 
--- the text is over
-pub talk-complete : {D : Type 0} (passes : D → Entry → D → Type 0) (d0 d1 : D) (sid : Sid) (front : List UnitView) (start path : Nodes) (answers told : List (List ℕ))
-    → Led passes d0 d1 (TalksBy sid front start answers path told) → Led passes d0 d1 (λ t rest. Talks sid (front ++ []) Complete start answers t Goes told rest)
-talk-complete passes d0 d1 sid front start path answers told p =
-    led-more passes d0 d1 d1 (TalksBy sid front start answers path told) (λ t rest. Talks sid (front ++ []) Complete start answers t Goes told rest) [] p refl
-    (λ t rest so. so [] Complete Goes told rest (refl, refl, refl))
+  -- the text is over
+  pub talk-complete : (d0 d1 : D) (front : List UnitView) (start path : Nodes) (s told : Standing) → Led passes d0 d1 (TalksBy way sid front start s path told) → Led passes d0 d1 (λ t rest. Talks way sid (front ++ []) Complete start s t Goes path told rest)
+  talk-complete d0 d1 front start path s told p =
+      led-so passes d0 d1 (TalksBy way sid front start s path told) (λ t rest. Talks way sid (front ++ []) Complete start s t Goes path told rest) p
+      (λ t rest so. so [] Complete Goes path told rest (refl, refl, refl, refl))
+
+-- a unit's command or refusal is served
+pub itself-served : {D : Type 0} (passes : D → Entry → D → Type 0) (d0 d1 : D) (sid : Sid) (u : UnitView) (command : Result Command ScpiError) (path path' : Nodes) (s s' : Standing) (after : After) → Resolves u path command path'
+    → Led passes d0 d1 (λ t rest. Serves sid command s t after s' rest) → Led passes d0 d1 (λ t rest. Itself sid u path s t after path' s' rest)
+itself-served passes d0 d1 sid u command path path' s s' after r p =
+    led-so passes d0 d1 (λ t rest. Serves sid command s t after s' rest) (λ t rest. Itself sid u path s t after path' s' rest) p (λ t rest k. (command, r, k))
+
+expands : (b : Bool) (sid : Sid) (u : UnitView) (path path' : Nodes) (s s' : Standing) (after : After) (t rest : List Entry) → calls s.macros u ≡ b
+    → MatchBool b ((r : Result (List ℕ) ScpiError) × IsExpansion s.macros u r × Unfolds sid r path s t after path' s' rest) (Itself sid u path s t after path' s' rest) → Expanded sid u path s t after path' s' rest
+expands b sid u path path' s s' after t rest is m =
+    subst (λ (x : Bool). MatchBool x ((r : Result (List ℕ) ScpiError) × IsExpansion s.macros u r × Unfolds sid r path s t after path' s' rest) (Itself sid u path s t after path' s' rest)) (sym is) m
+
+-- a unit that calls no macro is itself
+pub expanded-itself : {D : Type 0} (passes : D → Entry → D → Type 0) (d0 d1 : D) (sid : Sid) (u : UnitView) (path path' : Nodes) (s s' : Standing) (after : After) → calls s.macros u ≡ false
+    → Led passes d0 d1 (λ t rest. Itself sid u path s t after path' s' rest) → Led passes d0 d1 (λ t rest. Expanded sid u path s t after path' s' rest)
+expanded-itself passes d0 d1 sid u path path' s s' after is p =
+    led-so passes d0 d1 (λ t rest. Itself sid u path s t after path' s' rest) (λ t rest. Expanded sid u path s t after path' s' rest) p (λ t rest k. expands false sid u path path' s s' after t rest is k)
+
+-- the fault of an expansion, or want of memory
+pub fault-expands : (t : Table) (u : UnitView) (written : List ℕ) (e : ScpiError) → (e ≡ OutOfMemory) ⊎ Expands t u written (Err e) → IsExpansion t u (Err e)
+fault-expands t u written e (inl lost) = inr (ap (λ (x : ScpiError). Err x) lost)
+fault-expands t u written e (inr so) = inl (written, so)
+
+-- the units of an expansion stand in a unit's place
+pub expanded-units : {D : Type 0} (passes : D → Entry → D → Type 0) (d0 d1 : D) (sid : Sid) (u : UnitView) (text : List ℕ) (units : List UnitView) (ending : Ending) (path path' : Nodes) (s s' : Standing) (after : After) → calls s.macros u ≡ true → IsExpansion s.macros u (Ok text) → IsScript text units ending
+    → Led passes d0 d1 (λ t rest. Talks (Itself sid) sid units ending path s t after path' s' rest) → Led passes d0 d1 (λ t rest. Expanded sid u path s t after path' s' rest)
+expanded-units passes d0 d1 sid u text units ending path path' s s' after is x script p =
+    led-so passes d0 d1 (λ t rest. Talks (Itself sid) sid units ending path s t after path' s' rest) (λ t rest. Expanded sid u path s t after path' s' rest) p
+    (λ t rest k. expands true sid u path path' s s' after t rest is (Ok text, x, (units, ending, script, k)))
+
+-- the fault of an expansion is queued
+pub expanded-fault : {D : Type 0} (passes : D → Entry → D → Type 0) (d0 d1 : D) (sid : Sid) (u : UnitView) (e : ScpiError) (path : Nodes) (s s' : Standing) (after : After) → calls s.macros u ≡ true → IsExpansion s.macros u (Err e)
+    → Led passes d0 d1 (λ t rest. Serves sid (Err e) s t after s' rest) → Led passes d0 d1 (λ t rest. Expanded sid u path s t after path s' rest)
+expanded-fault passes d0 d1 sid u e path s s' after is x p =
+    led-so passes d0 d1 (λ t rest. Serves sid (Err e) s t after s' rest) (λ t rest. Expanded sid u path s t after path s' rest) p (λ t rest k. expands true sid u path path s s' after t rest is (Err e, x, (k, refl)))
 
 -- a message that isn't too long, over a trace after which nothing is left
-pub talked-units : {D : Type 0} (passes : D → Entry → D → Type 0) (old new : D) (sid : Sid) (message text bytes : List ℕ) (units : List UnitView) (ending : Ending) (after : After) (answers : List (List ℕ)) → text ≡ strip_last 10 message → length text ≤ longest
-    → IsScript text units ending → bytes ≡ written after answers → Led passes old new (λ t rest. Talks sid units ending [] [] t after answers rest) → Talked passes old new sid message bytes
-talked-units passes old new sid message text bytes units ending after answers is few script writes led =
+pub talked-units : {D : Type 0} (passes : D → Entry → D → Type 0) (old new : D) (sid : Sid) (macros macros' : Table) (message text bytes : List ℕ) (units : List UnitView) (ending : Ending) (after : After) (path : Nodes) (answers : List (List ℕ)) → text ≡ strip_last 10 message → length text ≤ longest
+    → IsScript text units ending → bytes ≡ written after answers → Led passes old new (λ t rest. Talks (Expanded sid) sid units ending [] (standing macros []) t after path (standing macros' answers) rest) → Talked passes old new sid macros message bytes macros'
+talked-units passes old new sid macros macros' message text bytes units ending after path answers is few script writes led =
     let short : nat_lt longest (length text) ≡ false = grind (arith, nat_tests) in
-    let talk : TalksUnits sid text led.trace bytes = record {
+    let talk : TalksUnits sid macros text led.trace bytes macros' = record {
       units = units;
       ending = ending;
       script = script;
       after = after;
+      path = path;
       answers = answers;
-      talks = subst (λ (t : List Entry). Talks sid units ending [] [] t after answers []) (append-nil led.trace) (led.admits []);
+      talks = subst (λ (t : List Entry). Talks (Expanded sid) sid units ending [] (standing macros []) t after path (standing macros' answers) []) (append-nil led.trace) (led.admits []);
       writes = writes;
     } in
-    let all : TalksMessage sid text led.trace bytes = subst (λ (b : Bool). MatchBool b (Overruns sid led.trace bytes) (TalksUnits sid text led.trace bytes)) (sym short) talk in
+    let all : TalksMessage sid macros text led.trace bytes macros' = subst (λ (b : Bool). MatchBool b (Overruns sid led.trace bytes × (macros' ≡ macros)) (TalksUnits sid macros text led.trace bytes macros')) (sym short) talk in
     record {
       trace = led.trace;
       leads = led.leads;
-      talks = subst (λ (t : List ℕ). TalksMessage sid t led.trace bytes) is all;
+      talks = subst (λ (t : List ℕ). TalksMessage sid macros t led.trace bytes macros') is all;
     }
 
 -- a message that is too long
-pub talked-overrun : {D : Type 0} (passes : D → Entry → D → Type 0) (old new : D) (sid : Sid) (message text bytes : List ℕ) (final : SessionAnswer) → text ≡ strip_last 10 message → longest < length text
-    → bytes ≡ [] → Led passes old new (λ t rest. Queues sid InputBufferOverrun t final rest) → Talked passes old new sid message bytes
-talked-overrun passes old new sid message text bytes final is much writes led =
+pub talked-overrun : {D : Type 0} (passes : D → Entry → D → Type 0) (old new : D) (sid : Sid) (macros macros' : Table) (message text bytes : List ℕ) (final : SessionAnswer) → text ≡ strip_last 10 message → longest < length text
+    → bytes ≡ [] → macros' ≡ macros → Led passes old new (λ t rest. Queues sid InputBufferOverrun t final rest) → Talked passes old new sid macros message bytes macros'
+talked-overrun passes old new sid macros macros' message text bytes final is much writes kept led =
     let long : nat_lt longest (length text) ≡ true = grind (arith, nat_tests) in
     let over : Overruns sid led.trace bytes = (final, subst (λ (t : List Entry). Queues sid InputBufferOverrun t final []) (append-nil led.trace) (led.admits []), writes) in
-    let all : TalksMessage sid text led.trace bytes = subst (λ (b : Bool). MatchBool b (Overruns sid led.trace bytes) (TalksUnits sid text led.trace bytes)) (sym long) over in
+    let all : TalksMessage sid macros text led.trace bytes macros' = subst (λ (b : Bool). MatchBool b (Overruns sid led.trace bytes × (macros' ≡ macros)) (TalksUnits sid macros text led.trace bytes macros')) (sym long) (over, kept) in
     record {
       trace = led.trace;
       leads = led.leads;
-      talks = subst (λ (t : List ℕ). TalksMessage sid t led.trace bytes) is all;
+      talks = subst (λ (t : List ℕ). TalksMessage sid macros t led.trace bytes macros') is all;
     }
 
 pub written-ends : (after : After) (answers : List (List ℕ)) (bytes : List ℕ) → after ≡ Ends → bytes ≡ [] → bytes ≡ written after answers

@@ -1,13 +1,107 @@
 -- A desk over a mainframe of its own.
-use Rattle.std.specs.Prelude.{◌≡◌, Bool}
+use Rattle.std.specs.Prelude.{◌≡◌, ℕ, ◌-◌, ◌^◌, Bool, true, false, List, [], ◌∷◌, ◌++◌, replicate, Option, None, Some}
+use Rattle.sw_cage.specs.Work.{FinishedSeen, IsDone}
+use Rattle.sw_core.specs.declared.ask.SessionAsk.{SessionAsk}
+use Rattle.sw_core.specs.declared.ask.SessionAnswer.{SessionAnswer}
+use Rattle.sw_core.specs.declared.ask.Work.{Work}
 use Rattle.sw_core.specs.Panel.{Panel}
-use Rattle.sw_core.specs.View.{AskSession, SaysSession}
+use Rattle.sw_core.specs.View.{WorkView, Measures, Pauses, AskView, AskSession, AskElapsed, AskFinished, AnswerView, SaysSession, SaysTaken}
 use Rattle.sw_core.specs.Step.{Step}
 use Rattle.sw_session.specs.declared.desk.Wake.TheVariants.{Again, Over}
-use Rattle.sw_session.specs.Trace.{Entry, Asked, Waited}
+use Rattle.sw_session.specs.Trace.{Entry, Asked, Waited, Leads}
 
--- an ask is one step of the mainframe; nothing is ever outstanding, so a wait is over at once
-abbrev pub CorePasses : Panel → Entry → Panel → Type 0
-CorePasses p (Asked ask answer) q = (failed : Bool) × Step p (AskSession ask) failed (SaysSession answer) q
-CorePasses p (Waited Again) q = ⊥
-CorePasses p (Waited Over) q = q ≡ p
+-- the mainframe's panel, and the work that is outstanding, the oldest first
+pub record DeskSeen : Type 0 where
+  pub panel : Panel
+  pub work : List WorkView
+
+-- a piece of work as plain data
+abbrev pub piece_seen : {M : _} → Work M → WorkView
+piece_seen (Work.Measure job) = Measures job.1
+piece_seen (Work.Pause ticket micros) = Pauses ticket micros
+
+-- a piece that was carried out: what the mainframe was told, whether a card failed in that call, what it answered, and its
+-- state after that
+pub record Carried : Type 0 where
+  pub ask : AskView
+  pub failed : Bool
+  pub answer : AnswerView
+  pub after : Panel
+
+-- the work that comes with an answer
+abbrev pub brought : AnswerView → Option WorkView
+brought (SaysTaken work) = work
+brought answer = None
+
+-- what is told of a piece: that a pause is over, for pauses take no time; or a measurement, made once
+abbrev pub Tells : WorkView → AskView → Type 0
+Tells (Pauses ticket micros) ask = ask ≡ AskElapsed ticket
+Tells (Measures job) ask = (done : FinishedSeen) × IsDone job done × (ask ≡ AskFinished done)
+
+-- the piece is carried out, and the mainframe told
+pub record CarriesOut (old : Panel) (piece : WorkView) (c : Carried) : Type 0 where
+  pub tells : Tells piece c.ask
+  pub step : Step old c.ask c.failed c.answer c.after
+
+-- Work that came with an answer is kept behind the rest. Pieces for which a growth was refused are carried out at once, as
+-- is what comes of that.
+abbrev pub Keeps : List Carried → Panel → Option WorkView → List WorkView → DeskSeen → Type 0
+Keeps [] p None work new = new ≡ record { panel = p; work = work }
+Keeps [] p (Some piece) work new = new ≡ record { panel = p; work = work ++ piece ∷ [] }
+Keeps (c ∷ carried) p None work new = ⊥
+Keeps (c ∷ carried) p (Some piece) work new = CarriesOut p piece c × Keeps carried c.after (brought c.answer) work new
+
+-- The clauses of the desk's parts: work is kept, and a piece is carried out and brings this.
+pub record IsKept (old : DeskSeen) (brings : Option WorkView) (new : DeskSeen) : Type 0 where
+  pub carried : List Carried
+  pub keeps : Keeps carried old.panel brings old.work new
+
+pub record IsCarried (old : DeskSeen) (piece : WorkView) (brings : Option WorkView) (new : DeskSeen) : Type 0 where
+  pub c : Carried
+  pub carries : CarriesOut old.panel piece c
+  pub brings_is : brings ≡ brought c.answer
+  pub panel_is : new.panel ≡ c.after
+  pub work_is : new.work ≡ old.work
+
+-- an ask is one step of the mainframe, and its work is kept
+pub record Answers (carried : List Carried) (old : DeskSeen) (ask : SessionAsk) (answer : SessionAnswer) (new : DeskSeen) : Type 0 where
+  pub failed : Bool
+  pub brings : Option WorkView
+  pub after : Panel
+  pub step : Step old.panel (AskSession ask) failed (SaysSession answer brings) after
+  pub keeps : Keeps carried after brings old.work new
+
+-- the oldest piece is carried out, and what comes of it is kept
+pub record Works (c : Carried) (carried : List Carried) (old new : DeskSeen) : Type 0 where
+  pub piece : WorkView
+  pub others : List WorkView
+  pub oldest : old.work ≡ piece ∷ others
+  pub carries : CarriesOut old.panel piece c
+  pub keeps : Keeps carried c.after (brought c.answer) others new
+
+-- What is carried out in one call: at an ask nothing and at a wait one piece, where no growth is refused. A wait is over
+-- where nothing is outstanding.
+abbrev pub PassesBy : List Carried → DeskSeen → Entry → DeskSeen → Type 0
+PassesBy carried old (Asked ask answer) new = Answers carried old ask answer new
+PassesBy [] old (Waited Again) new = ⊥
+PassesBy (c ∷ carried) old (Waited Again) new = Works c carried old new
+PassesBy [] old (Waited Over) new = (old.work ≡ []) × (new ≡ old)
+PassesBy (c ∷ carried) old (Waited Over) new = ⊥
+
+abbrev pub CorePasses : DeskSeen → Entry → DeskSeen → Type 0
+CorePasses old entry new = (carried : List Carried) × PassesBy carried old entry new
+
+-- what a rest that succeeds ends with
+abbrev pub last_wait : Bool → List Entry
+last_wait true = Waited Over ∷ []
+last_wait false = []
+
+-- how often a rest waits at most
+abbrev pub most_waits : ℕ
+most_waits = 2 ^ 64 - 1
+
+-- The desk waits until nothing is outstanding, or so many times in vain.
+pub record Rests (old : DeskSeen) (rested : Bool) (new : DeskSeen) : Type 0 where
+  pub waits : ℕ
+  pub leads : Leads CorePasses old (replicate waits (Waited Again) ++ last_wait rested) new
+  pub in_vain : rested ≡ false → waits ≡ most_waits

@@ -1,14 +1,18 @@
 -- A talk leaves no choice.
-use Rattle.std.specs.Prelude.{◌≡◌, ◌≢◌, ℕ, List, [], ◌∷◌}
+use Rattle.std.specs.Prelude.{◌≡◌, ◌≢◌, ℕ, ◌≤◌, List, [], ◌∷◌, ◌++◌, length, replicate, true, Option, Result}
 use Rattle.std.specs.List.{AllByRecursion}
 use Rattle.sw_base.specs.declared.error.ScpiError.TheVariants.{OutOfMemory}
 use Rattle.sw_core.specs.declared.ask.Sid.{Sid}
 use Rattle.sw_core.specs.declared.ask.SessionAsk.TheVariants as Ask
-use Rattle.sw_core.specs.Panel.{Panel}
+use Rattle.sw_base.specs.declared.reading.Reading.{Reading}
+use Rattle.sw_card.specs.declared.board.CardFault.{CardFault}
+use Rattle.sw_core.specs.declared.ask.SessionAnswer.{SessionAnswer}
 use Rattle.sw_core.specs.Run.{IsPlain}
-use Rattle.sw_core.specs.View.{SaysSession}
-use Rattle.sw_session.specs.CoreDesk.{CorePasses}
-use Rattle.sw_session.specs.Trace.{Entry, Asked, Waited}
+use Rattle.sw_core.specs.View.{WorkView, AskView, AskFinished, SaysSession}
+use Rattle.sw_macro.specs.Table.{Table}
+use Rattle.sw_session.specs.CoreDesk.{DeskSeen, Carried, CorePasses, Rests, last_wait}
+use Rattle.sw_session.specs.declared.desk.Wake.TheVariants.{Again}
+use Rattle.sw_session.specs.Trace.{Entry, Asked, Waited, Leads}
 use Rattle.sw_session.specs.Talk.{Talked, TalksMessage}
 
 -- the talker had memory: it queued no error for want of it
@@ -20,24 +24,78 @@ abbrev pub AllAmple : List Entry → Type 0
 AllAmple trace = AllByRecursion IsAmple trace
 
 -- Two talks ask the same and wait at the same places, until the desk answers differently. Where it never does, they end
--- together and write the same.
-abbrev pub SameTalk : List ℕ → List ℕ → List Entry → List Entry → Type 0
-SameTalk bytes bytes' [] [] = bytes ≡ bytes'
-SameTalk bytes bytes' (Asked a r ∷ trace) (Asked a' r' ∷ trace') = (a ≡ a') × (r ≡ r' → SameTalk bytes bytes' trace trace')
-SameTalk bytes bytes' (Waited w ∷ trace) (Waited w' ∷ trace') = w ≡ w' → SameTalk bytes bytes' trace trace'
-SameTalk bytes bytes' trace trace' = ⊥
+-- together and leave the same.
+abbrev pub SameTalk : {T : Type 0} → T → T → List Entry → List Entry → Type 0
+SameTalk end end' [] [] = end ≡ end'
+SameTalk end end' (Asked a r ∷ trace) (Asked a' r' ∷ trace') = (a ≡ a') × (r ≡ r' → SameTalk end end' trace trace')
+SameTalk end end' (Waited w ∷ trace) (Waited w' ∷ trace') = w ≡ w' → SameTalk end end' trace trace'
+SameTalk end end' trace trace' = ⊥
 
--- The message and what the desk answers determine what is asked and what is written, where no growth was refused.
+-- what a talk leaves: what is written, and the session's macros
+pub record Left : Type 0 where
+  pub bytes : List ℕ
+  pub macros : Table
+
+abbrev pub left : List ℕ → Table → Left
+left bytes macros = record { bytes = bytes; macros = macros }
+
+-- The message, the macros and what the desk answers determine what is asked, what is written and the macros after it, where
+-- no growth was refused.
 abbrev pub TalkIsDetermined : Type 0
-TalkIsDetermined = (sid : Sid) (text : List ℕ) (trace trace' : List Entry) (bytes bytes' : List ℕ) → TalksMessage sid text trace bytes → TalksMessage sid text trace' bytes' → AllAmple trace → AllAmple trace' → SameTalk bytes bytes' trace trace'
+TalkIsDetermined = (sid : Sid) (macros : Table) (text : List ℕ) (trace trace' : List Entry) (bytes bytes' : List ℕ) (kept kept' : Table) → TalksMessage sid macros text trace bytes kept → TalksMessage sid macros text trace' bytes' kept' → AllAmple trace → AllAmple trace'
+    → SameTalk (left bytes kept) (left bytes' kept') trace trace'
 
 -- the mainframe tells of no want of memory and of no card's failure
-abbrev pub TellsPlainly : Entry → Type 0
-TellsPlainly (Asked ask answer) = IsPlain (SaysSession answer)
-TellsPlainly (Waited wake) = Unit {0}
+abbrev pub TellsPlainly : SessionAnswer → Type 0
+TellsPlainly answer = (work : Option WorkView) → IsPlain (SaysSession answer work)
 
--- Over a mainframe the message alone determines what is asked, answered and written and the state that is left, where no
--- growth was refused and no card failed.
+-- no growth was refused and no card failed in a call of the desk, in which these pieces were carried out
+abbrev pub IsSmooth : Entry → List Carried → Type 0
+IsSmooth (Asked ask answer) carried = TellsPlainly answer × (carried ≡ [])
+IsSmooth (Waited wake) carried = AllByRecursion (λ c. IsPlain c.answer) carried × (length carried ≤ 1)
+
+-- nor in any of these calls
+abbrev pub AllSmooth : List Entry → List (List Carried) → Type 0
+AllSmooth [] carried = Unit {0}
+AllSmooth (e ∷ trace) [] = ⊥
+AllSmooth (e ∷ trace) (c ∷ carried) = IsSmooth e c × AllSmooth trace carried
+
+-- the pieces that were carried out, call by call
+abbrev pub carried_of : (old : DeskSeen) (trace : List Entry) (new : DeskSeen) → Leads CorePasses old trace new → List (List Carried)
+carried_of old [] new l = []
+carried_of old (e ∷ trace) new (mid, passes, l) = passes.0 ∷ carried_of mid trace new l
+
+-- what was measured, if it is a measurement that is told
+abbrev pub measured : AskView → List (Result Reading CardFault)
+measured (AskFinished done) = done.outcome ∷ []
+measured ask = []
+
+-- what was measured, in order
+abbrev pub outcomes_in : List Carried → List (Result Reading CardFault)
+outcomes_in [] = []
+outcomes_in (c ∷ carried) = measured c.ask ++ outcomes_in carried
+
+abbrev pub outcomes_of : List (List Carried) → List (Result Reading CardFault)
+outcomes_of [] = []
+outcomes_of (c ∷ carried) = outcomes_in c ++ outcomes_of carried
+
+-- the pieces that were carried out in a talk
+abbrev pub carried_in : {old new : DeskSeen} {sid : Sid} {macros macros' : Table} {message bytes : List ℕ} → Talked CorePasses old new sid macros message bytes macros' → List (List Carried)
+carried_in {old} {new} t = carried_of old t.trace new t.leads
+
+-- Over a mainframe the message, the macros and the outcomes of the measurements that are carried out determine what is
+-- asked, answered and written, the desk that is left and the macros, where no growth was refused and no card failed.
 abbrev pub CoreTalkIsDetermined : Type 0
-CoreTalkIsDetermined = (sid : Sid) (p q q' : Panel) (message bytes bytes' : List ℕ) (t : Talked CorePasses p q sid message bytes) (t' : Talked CorePasses p q' sid message bytes') → AllAmple t.trace → AllAmple t'.trace
-    → AllByRecursion TellsPlainly t.trace → AllByRecursion TellsPlainly t'.trace → (t.trace ≡ t'.trace) × (bytes ≡ bytes') × (q ≡ q')
+CoreTalkIsDetermined = (sid : Sid) (d e e' : DeskSeen) (macros kept kept' : Table) (message bytes bytes' : List ℕ) (t : Talked CorePasses d e sid macros message bytes kept) (t' : Talked CorePasses d e' sid macros message bytes' kept') → AllAmple t.trace → AllAmple t'.trace
+    → AllSmooth t.trace (carried_in t) → AllSmooth t'.trace (carried_in t') → outcomes_of (carried_in t) ≡ outcomes_of (carried_in t') → (t.trace ≡ t'.trace) × (bytes ≡ bytes') × (kept ≡ kept') × (e ≡ e')
+
+-- the calls of a rest that succeeds, and the pieces that were carried out in them
+abbrev pub waits_of : {old new : DeskSeen} → Rests old true new → List Entry
+waits_of r = replicate r.waits (Waited Again) ++ last_wait true
+
+abbrev pub carried_at_rest : {old new : DeskSeen} → Rests old true new → List (List Carried)
+carried_at_rest {old} {new} r = carried_of old (waits_of r) new r.leads
+
+-- A rest that succeeds leaves one desk for what is measured, where no growth was refused and no card failed.
+abbrev pub CoreRestIsDetermined : Type 0
+CoreRestIsDetermined = (d e e' : DeskSeen) (r : Rests d true e) (r' : Rests d true e') → AllSmooth (waits_of r) (carried_at_rest r) → AllSmooth (waits_of r') (carried_at_rest r') → outcomes_of (carried_at_rest r) ≡ outcomes_of (carried_at_rest r') → e ≡ e'

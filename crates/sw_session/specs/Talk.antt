@@ -1,4 +1,4 @@
--- What is asked after each answer, and what is written (IEEE 488.2, 6.3 and 8.4; SCPI-1999, 21.8).
+-- What is asked after each answer, and what is written (IEEE 488.2, 6.3, 8.4 and 10.7; SCPI-1999, 21.8).
 use Rattle.std.specs.Prelude.{◌≡◌, ℕ, ◌+◌, ◌^◌, ◌⊎◌, ◌==◌, Bool, true, false, nat_lt, nat_le, ◌&&◌, MatchBool, List, [], ◌∷◌, ◌++◌, Some, Result, Ok, Err, length, if◌then◌else◌}
 use Rattle.sw_base.specs.declared.error.ScpiError.{ScpiError}
 use Rattle.sw_base.specs.declared.error.ScpiError.TheVariants.{SettingsConflict, OutOfMemory, InputBufferOverrun}
@@ -7,16 +7,22 @@ use Rattle.std.specs.Io.BufRead.{strip_last}
 use Rattle.sw_lex.specs.declared.command.Command.{Command}
 use Rattle.sw_lex.specs.Unit.{UnitView}
 use Rattle.sw_lex.specs.Meaning.{Nodes, Resolves}
+use Rattle.sw_macro.specs.Table.{Table}
+use Rattle.sw_macro.specs.Expansion.{calls, Expands}
+use Rattle.sw_verify.specs.declared.refusal.Refusal.{Refusal}
+use Rattle.sw_verify.specs.Check.{IsReady, IsFirst, error_of}
 use Rattle.sw_core.specs.declared.ask.Sid.{Sid}
 use Rattle.sw_core.specs.declared.ask.SessionAsk.{SessionAsk}
 use Rattle.sw_core.specs.declared.ask.SessionAsk.TheVariants as Ask
 use Rattle.sw_core.specs.declared.ask.SessionAnswer.{SessionAnswer}
+use Rattle.sw_core.specs.declared.ask.SessionAnswer.TheVariants as Answer
 use Rattle.sw_core.specs.declared.ask.SessionAnswer.TheVariants.{Stranger, Broken, Done, Refused, Hold, Worn}
 use Rattle.sw_session.specs.declared.desk.Wake.TheVariants.{Again, Over}
 use Rattle.sw_session.specs.declared.talker.After.{After}
 use Rattle.sw_session.specs.declared.talker.After.TheVariants.{Goes, Drops, Ends}
 use Rattle.sw_session.specs.Trace.{Entry, Asked, Waited, Leads, Led}
 use Rattle.sw_session.specs.Script.{Ending, Complete, Refuses, Unread, IsScript}
+use Rattle.sw_session.specs.Macros.{Told, Acts, is_of_macros}
 
 -- how often a held ask is asked
 abbrev pub turns : ℕ
@@ -60,10 +66,56 @@ Settles sid turn ask (Asked a (Hold b) ∷ trace) final rest = ⊥
 Settles sid turn ask (Asked a r ∷ trace) final rest = (a ≡ ask) × (final ≡ r) × (rest ≡ trace)
 Settles sid turn ask trace final rest = ⊥
 
--- a command is asked, with whether the message has answered before; an error is queued
-abbrev pub Begins : Sid → Bool → Result Command ScpiError → List Entry → SessionAnswer → List Entry → Type 0
-Begins sid answered (Ok command) trace final rest = Settles sid 0 (Ask.Unit sid command answered) trace final rest
-Begins sid answered (Err e) trace final rest = Queues sid e trace final rest
+-- What comes of a snapshot: the scan of one that is ready is asked to start, else the first refusal is queued. Any other
+-- answer is the unit's.
+abbrev pub Plans : Sid → SessionAnswer → List Entry → SessionAnswer → List Entry → Type 0
+Plans sid (Answer.Snapshot s) trace final rest =
+    (IsReady s × Settles sid 0 (Ask.Start sid s) trace final rest) ⊎ ((IsReady s → ⊥) × ((r : Refusal) × IsFirst r s × Queues sid (error_of r) trace final rest))
+Plans sid told trace final rest = (final ≡ told) × (rest ≡ trace)
+
+-- INITiate (SCPI-1999, 24): what a scan would begin from is asked, and its plan is made outside the mainframe (own)
+abbrev pub Initiates : Sid → List Entry → SessionAnswer → List Entry → Type 0
+Initiates sid trace final rest = (told : SessionAnswer) × (mid : List Entry) × Settles sid 0 (Ask.Snapshot sid) trace told mid × Plans sid told mid final rest
+
+abbrev pub is_initiate : Command → Bool
+is_initiate Command.Initiate = true
+is_initiate command = false
+
+-- a command is asked, with whether the message has answered before, but for INITiate
+abbrev pub Delivers : Sid → Bool → Command → List Entry → SessionAnswer → List Entry → Type 0
+Delivers sid answered command trace final rest =
+    MatchBool (is_initiate command) (Initiates sid trace final rest) (Settles sid 0 (Ask.Unit sid command answered) trace final rest)
+
+abbrev pub is_reset : Command → Bool
+is_reset Command.Reset = true
+is_reset command = false
+
+abbrev pub is_done : SessionAnswer → Bool
+is_done (Done text) = true
+is_done answer = false
+
+-- *RST that is done switches macros off and keeps them (IEEE 488.2, 10.32)
+abbrev pub table_after : Command → SessionAnswer → Table → Table
+table_after command answer t = if is_reset command && is_done answer then record t { on = false } else t
+
+-- any other command is asked, and leaves these macros
+abbrev pub Asks : Sid → Bool → Command → Table → List Entry → SessionAnswer → Table → List Entry → Type 0
+Asks sid answered command t trace final t' rest = Delivers sid answered command trace final rest × (t' ≡ table_after command final t)
+
+-- what a macro command comes to is the answer; a refusal is queued
+abbrev pub Reports : Sid → Told → List Entry → SessionAnswer → List Entry → Type 0
+Reports sid (Ok text) trace final rest = (final ≡ Done text) × (rest ≡ trace)
+Reports sid (Err e) trace final rest = Queues sid e trace final rest
+
+-- a macro command changes the macros, and asks nothing else
+abbrev pub Obeys : Sid → Command → Table → List Entry → SessionAnswer → Table → List Entry → Type 0
+Obeys sid command t trace final t' rest = (told : Told) × Acts command t told t' × Reports sid told trace final rest
+
+-- a command is begun, with these macros; an error is queued
+abbrev pub Begins : Sid → Bool → Result Command ScpiError → Table → List Entry → SessionAnswer → Table → List Entry → Type 0
+Begins sid answered (Ok command) t trace final t' rest =
+    MatchBool (is_of_macros command) (Obeys sid command t trace final t' rest) (Asks sid answered command t trace final t' rest)
+Begins sid answered (Err e) t trace final t' rest = Queues sid e trace final rest × (t' ≡ t)
 
 -- whether the message goes on after an answer
 abbrev pub after_of : SessionAnswer → After
@@ -77,27 +129,61 @@ Concludes sid answers (Done (Some text)) trace after answers' rest =
     ((after ≡ Goes) × (answers' ≡ answers ++ text ∷ []) × (rest ≡ trace)) ⊎ ((final : SessionAnswer) × Queues sid OutOfMemory trace final rest × (after ≡ after_of final) × (answers' ≡ answers))
 Concludes sid answers answer trace after answers' rest = (after ≡ after_of answer) × (answers' ≡ answers) × (rest ≡ trace)
 
--- one unit that is this command or error, the answers before it and after it
-abbrev pub Serves : Sid → Result Command ScpiError → List (List ℕ) → List Entry → After → List (List ℕ) → List Entry → Type 0
-Serves sid command answers trace after answers' rest =
-    (final : SessionAnswer) × (mid : List Entry) × Begins sid (has_answers answers) command trace final mid × Concludes sid answers final mid after answers' rest
+-- what a session has in the midst of a message: its macros, and the answers so far
+pub record Standing : Type 0 where
+  pub macros : Table
+  pub answers : List (List ℕ)
 
--- How the units go on after one of them: with the next, or not at all; then what comes of it is what came of all.
-abbrev pub Proceeds : (List (List ℕ) → List Entry → Type 0) → After → List (List ℕ) → List Entry → After → List (List ℕ) → List Entry → Type 0
-Proceeds on Goes told mid after answers' rest = on told mid
-Proceeds on Drops told mid after answers' rest = (after ≡ Drops) × (answers' ≡ told) × (rest ≡ mid)
-Proceeds on Ends told mid after answers' rest = (after ≡ Ends) × (answers' ≡ told) × (rest ≡ mid)
+abbrev pub standing : Table → List (List ℕ) → Standing
+standing t answers = record { macros = t; answers = answers }
 
--- The talk about these units, from this path and after these answers. Where the text breaks off at a byte that fits no
--- form, that error is queued. Nobody stops reading while the message goes on.
-abbrev pub Talks : Sid → List UnitView → Ending → Nodes → List (List ℕ) → List Entry → After → List (List ℕ) → List Entry → Type 0
-Talks sid [] Complete path answers trace after answers' rest = (after ≡ Goes) × (answers' ≡ answers) × (rest ≡ trace)
-Talks sid [] (Refuses e) path answers trace after answers' rest = Serves sid (Err e) answers trace after answers' rest
-Talks sid [] Unread path answers trace after answers' rest = ⊥
-Talks sid (u ∷ us) ending path answers trace after answers' rest =
-    (command : Result Command ScpiError) × (path' : Nodes) × (step : After) × (told : List (List ℕ)) × (mid : List Entry)
-    × Resolves u path command path' × Serves sid command answers trace step told mid
-    × Proceeds (λ so_far t. Talks sid us ending path' so_far t after answers' rest) step told mid after answers' rest
+-- one unit that is this command or error, from where the session stands to where it stands then
+abbrev pub Serves : Sid → Result Command ScpiError → Standing → List Entry → After → Standing → List Entry → Type 0
+Serves sid command s trace after s' rest =
+    (final : SessionAnswer) × (mid : List Entry) × Begins sid (has_answers s.answers) command s.macros trace final s'.macros mid × Concludes sid s.answers final mid after s'.answers rest
+
+-- How the units go on after one of them, below the path that it leaves: with the next, or not at all; then what comes of
+-- it is what came of all.
+abbrev pub Proceeds : (Nodes → Standing → List Entry → Type 0) → After → Nodes → Standing → List Entry → After → Nodes → Standing → List Entry → Type 0
+Proceeds on Goes onward told mid after path' s' rest = on onward told mid
+Proceeds on Drops onward told mid after path' s' rest = (after ≡ Drops) × (path' ≡ onward) × (s' ≡ told) × (rest ≡ mid)
+Proceeds on Ends onward told mid after path' s' rest = (after ≡ Ends) × (path' ≡ onward) × (s' ≡ told) × (rest ≡ mid)
+
+-- how one unit is talked over, from a path and a standing to those after it
+abbrev pub Way : Type 1
+Way = UnitView → Nodes → Standing → List Entry → After → Nodes → Standing → List Entry → Type 0
+
+-- The talk about these units, each in this way, from this path and standing. Where the text breaks off at a byte that fits
+-- no form, that error is queued. Nobody stops reading while the message goes on.
+abbrev pub Talks : Way → Sid → List UnitView → Ending → Nodes → Standing → List Entry → After → Nodes → Standing → List Entry → Type 0
+Talks way sid [] Complete path s trace after path' s' rest = (after ≡ Goes) × (path' ≡ path) × (s' ≡ s) × (rest ≡ trace)
+Talks way sid [] (Refuses e) path s trace after path' s' rest = Serves sid (Err e) s trace after s' rest × (path' ≡ path)
+Talks way sid [] Unread path s trace after path' s' rest = ⊥
+Talks way sid (u ∷ us) ending path s trace after path' s' rest =
+    (step : After) × (onward : Nodes) × (told : Standing) × (mid : List Entry)
+    × way u path s trace step onward told mid
+    × Proceeds (λ p so_far t. Talks way sid us ending p so_far t after path' s' rest) step onward told mid after path' s' rest
+
+-- a unit is itself: its command or its refusal is served
+abbrev pub Itself : Sid → Way
+Itself sid u path s trace after path' s' rest = (command : Result Command ScpiError) × Resolves u path command path' × Serves sid command s trace after s' rest
+
+-- An expansion stands in a unit's place: its text is read by itself, and each of its units is itself. A fault is queued,
+-- and leaves the path.
+abbrev pub Unfolds : Sid → Result (List ℕ) ScpiError → Nodes → Standing → List Entry → After → Nodes → Standing → List Entry → Type 0
+Unfolds sid (Ok text) path s trace after path' s' rest =
+    (units : List UnitView) × (ending : Ending) × IsScript text units ending × Talks (Itself sid) sid units ending path s trace after path' s' rest
+Unfolds sid (Err e) path s trace after path' s' rest = Serves sid (Err e) s trace after s' rest × (path' ≡ path)
+
+-- what a unit that calls a macro is replaced by, or the first fault; or there is no memory for it. How such a unit is
+-- written doesn't matter to that.
+abbrev pub IsExpansion : Table → UnitView → Result (List ℕ) ScpiError → Type 0
+IsExpansion t u r = ((written : List ℕ) × Expands t u written r) ⊎ (r ≡ Err OutOfMemory)
+
+-- a unit of a message: its expansion where it calls a macro, else itself (IEEE 488.2, 10.7)
+abbrev pub Expanded : Sid → Way
+Expanded sid u path s trace after path' s' rest =
+    MatchBool (calls s.macros u) ((r : Result (List ℕ) ScpiError) × IsExpansion s.macros u r × Unfolds sid r path s trace after path' s' rest) (Itself sid u path s trace after path' s' rest)
 
 -- what is written in the end
 abbrev pub written : After → List (List ℕ) → List ℕ
@@ -113,44 +199,46 @@ longest = 65536
 abbrev pub Overruns : Sid → List Entry → List ℕ → Type 0
 Overruns sid trace bytes = (final : SessionAnswer) × Queues sid InputBufferOverrun trace final [] × (bytes ≡ [])
 
--- the talk about the units of a message, with nothing asked besides
-pub record TalksUnits (sid : Sid) (text : List ℕ) (trace : List Entry) (bytes : List ℕ) : Type 0 where
+-- the talk about the units of a message from the root, with nothing asked besides
+pub record TalksUnits (sid : Sid) (macros : Table) (text : List ℕ) (trace : List Entry) (bytes : List ℕ) (macros' : Table) : Type 0 where
   pub units : List UnitView
   pub ending : Ending
   pub script : IsScript text units ending
   pub after : After
+  pub path : Nodes
   pub answers : List (List ℕ)
-  pub talks : Talks sid units ending [] [] trace after answers []
+  pub talks : Talks (Expanded sid) sid units ending [] (standing macros []) trace after path (standing macros' answers) []
   pub writes : bytes ≡ written after answers
 
--- the talk about a message without its line feed
-abbrev pub TalksMessage : Sid → List ℕ → List Entry → List ℕ → Type 0
-TalksMessage sid text trace bytes = MatchBool (nat_lt longest (length text)) (Overruns sid trace bytes) (TalksUnits sid text trace bytes)
+-- the talk about a message without its line feed, from these macros to those after it
+abbrev pub TalksMessage : Sid → Table → List ℕ → List Entry → List ℕ → Table → Type 0
+TalksMessage sid macros text trace bytes macros' =
+    MatchBool (nat_lt longest (length text)) (Overruns sid trace bytes × (macros' ≡ macros)) (TalksUnits sid macros text trace bytes macros')
 
--- A message of a session is talked over with a desk that goes from old to new, and these bytes are written. One line
--- feed at the message's end is dropped.
-pub record Talked {D : Type 0} (passes : D → Entry → D → Type 0) (old new : D) (sid : Sid) (message bytes : List ℕ) : Type 0 where
+-- A message of a session with these macros is talked over with a desk that goes from old to new, these bytes are written,
+-- and the session has those macros then. One line feed at the message's end is dropped.
+pub record Talked {D : Type 0} (passes : D → Entry → D → Type 0) (old new : D) (sid : Sid) (macros : Table) (message bytes : List ℕ) (macros' : Table) : Type 0 where
   pub trace : List Entry
   pub leads : Leads passes old trace new
-  pub talks : TalksMessage sid (strip_last 10 message) trace bytes
+  pub talks : TalksMessage sid macros (strip_last 10 message) trace bytes macros'
 
--- The clauses of the talker's parts, from answers that are written to answers that are written.
+-- The clauses of the talker's parts.
 
--- an answer is taken, from answers that are written to answers that are written
+-- a part goes from macros and answers that are written to macros and answers that are written
+abbrev pub OnLine : {D : Type 0} → (D → Entry → D → Type 0) → D → D → Table → List ℕ → Table → List ℕ → (Standing → Standing → List Entry → List Entry → Type 0) → Type 0
+OnLine passes old new t out t' out' part =
+    (answers : List (List ℕ)) → out ≡ line_of answers → (answers' : List (List ℕ)) × (out' ≡ line_of answers') × Led passes old new (part (standing t answers) (standing t' answers'))
+
+-- the units of a text are talked over in this way
+abbrev pub TalksLine : {D : Type 0} → Way → (D → Entry → D → Type 0) → D → D → Sid → List ℕ → Nodes → Table → List ℕ → After → Nodes → Table → List ℕ → Type 0
+TalksLine way passes old new sid text path t out after path' t' out' =
+    (answers : List (List ℕ)) → out ≡ line_of answers → (units : List UnitView) × (ending : Ending) × (answers' : List (List ℕ)) × IsScript text units ending × (out' ≡ line_of answers')
+    × Led passes old new (λ trace rest. Talks way sid units ending path (standing t answers) trace after path' (standing t' answers') rest)
+
+-- an answer is taken
 abbrev pub ConcludesLine : {D : Type 0} → (D → Entry → D → Type 0) → D → D → Sid → SessionAnswer → List ℕ → After → List ℕ → Type 0
 ConcludesLine passes old new sid answer out after out' =
     (answers : List (List ℕ)) → out ≡ line_of answers → (answers' : List (List ℕ)) × (out' ≡ line_of answers') × Led passes old new (λ t rest. Concludes sid answers answer t after answers' rest)
-
--- a unit is served from answers that are written, and leaves answers that are written
-abbrev pub ServesLine : {D : Type 0} → (D → Entry → D → Type 0) → D → D → Sid → Result Command ScpiError → List ℕ → After → List ℕ → Type 0
-ServesLine passes old new sid command out after out' =
-    (answers : List (List ℕ)) → out ≡ line_of answers → (answers' : List (List ℕ)) × (out' ≡ line_of answers') × Led passes old new (λ t rest. Serves sid command answers t after answers' rest)
-
--- the units of a text are talked over, from this path
-abbrev pub TalksLine : {D : Type 0} → (D → Entry → D → Type 0) → D → D → Sid → List ℕ → Nodes → List ℕ → After → List ℕ → Type 0
-TalksLine passes old new sid text path out after out' =
-    (answers : List (List ℕ)) → out ≡ line_of answers → (units : List UnitView) × (ending : Ending) × (answers' : List (List ℕ)) × IsScript text units ending × (out' ≡ line_of answers')
-    × Led passes old new (λ t rest. Talks sid units ending path answers t after answers' rest)
 
 -- a text joins the answers that are written
 abbrev pub JoinsLine : List ℕ → List ℕ → List ℕ → Type 0

@@ -1,29 +1,117 @@
-//! Asking a desk until it answers, and queuing errors.
+//! Beginning units: macro commands, asking a desk until it answers, beginning scans, and queuing errors.
 
 ghost use Rattle.std.specs.Prelude.{◌≡◌};
 ghost use Rattle.sw_session.specs.Trace.{Led};
-ghost use Rattle.sw_session.specs.Talk.{Queues, Settles, Begins, queued};
+ghost use Rattle.sw_session.specs.Talk.{Queues, Settles, Begins, Reports, Asks, Delivers, Initiates, Plans, is_initiate, is_reset, is_done, queued};
 
 use crate::desk::{Desk, Wake};
+use crate::macros::{Outcome, obey};
+use std::alloc::Global;
 use sw_base::ScpiError;
 use sw_core::{SessionAnswer, SessionAsk, Sid};
 use sw_lex::Command;
+use sw_macro::Macros;
+use sw_verify::Plan;
 
 /// How often a held ask is asked.
 const TURNS: u64 = 1 << 32;
 
-/// Asks a command, or queues why there is none. `answered` says whether the message has answered before.
+/// Begins a unit that is this command or error: a macro command is carried out, any other asked, and a refusal queued.
+/// `answered` says whether the message has answered before.
 pub fn begin<D: Desk>(
     desk: &mut D,
     sid: Sid,
+    alloc: Global,
+    macros: &mut Macros,
     command: Result<Command, ScpiError>,
     answered: bool,
 ) -> SessionAnswer
-    ensures { Led D.passes desk.old desk.new (λ t rest. Begins sid answered command t result rest) }
+    ensures { Led D.passes desk.old desk.new (λ t rest. Begins sid answered command macros.old t result macros.new rest) }
 {
     match command {
-        Ok(command) => settle(desk, sid, SessionAsk::Unit(sid, command, answered)),
+        Ok(command) => match obey(alloc, macros, &command) {
+            Some(outcome) => report(desk, sid, outcome),
+            None => ask(desk, sid, macros, command, answered),
+        },
         Err(error) => queue(desk, sid, error),
+    }
+}
+
+/// Answers what a macro command came to, and queues its refusal.
+fn report<D: Desk>(desk: &mut D, sid: Sid, outcome: Outcome) -> SessionAnswer
+    ensures { Led D.passes desk.old desk.new (λ t rest. Reports sid outcome t result rest) }
+{
+    match outcome {
+        Ok(text) => SessionAnswer::Done(text),
+        Err(refusal) => queue(desk, sid, refusal),
+    }
+}
+
+/// Asks a command; a reset that is done switches macros off.
+fn ask<D: Desk>(
+    desk: &mut D,
+    sid: Sid,
+    macros: &mut Macros,
+    command: Command,
+    answered: bool,
+) -> SessionAnswer
+    ensures { Led D.passes desk.old desk.new (λ t rest. Asks sid answered command macros.old t result macros.new rest) }
+{
+    let resets = is_reset(&command);
+    let answer = deliver(desk, sid, command, answered);
+    if resets && is_done(&answer) {
+        macros.enable(false);
+    }
+    answer
+}
+
+fn is_reset(command: &Command) -> bool
+    ensures { result ≡ is_reset command.now }
+{
+    matches!(command, Command::Reset)
+}
+
+fn is_done(answer: &SessionAnswer) -> bool
+    ensures { result ≡ is_done answer.now }
+{
+    matches!(answer, SessionAnswer::Done(_))
+}
+
+/// Asks a command until it isn't held; for INITiate the plan of a scan is made between two asks.
+fn deliver<D: Desk>(desk: &mut D, sid: Sid, command: Command, answered: bool) -> SessionAnswer
+    ensures { Led D.passes desk.old desk.new (λ t rest. Delivers sid answered command t result rest) }
+{
+    if is_initiate(&command) {
+        initiate(desk, sid)
+    } else {
+        settle(desk, sid, SessionAsk::Unit(sid, command, answered))
+    }
+}
+
+fn is_initiate(command: &Command) -> bool
+    ensures { result ≡ is_initiate command.now }
+{
+    matches!(command, Command::Initiate)
+}
+
+/// Asks what a scan would begin from, and plans it.
+fn initiate<D: Desk>(desk: &mut D, sid: Sid) -> SessionAnswer
+    ensures { Led D.passes desk.old desk.new (λ t rest. Initiates sid t result rest) }
+{
+    let told = settle(desk, sid, SessionAsk::Snapshot(sid));
+    plan(desk, sid, told)
+}
+
+/// Makes the plan of a snapshot and asks to start it, or queues why there is none. Any other answer stands.
+fn plan<D: Desk>(desk: &mut D, sid: Sid, told: SessionAnswer) -> SessionAnswer
+    ensures { Led D.passes desk.old desk.new (λ t rest. Plans sid told t result rest) }
+{
+    match told {
+        SessionAnswer::Snapshot(snapshot) => match Plan::make(snapshot) {
+            Ok(plan) => settle(desk, sid, SessionAsk::Start(sid, plan)),
+            Err(refusal) => queue(desk, sid, refusal.error()),
+        },
+        told => told,
     }
 }
 

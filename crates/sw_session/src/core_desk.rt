@@ -1,36 +1,129 @@
 //! A desk over a mainframe of its own.
 
-ghost use Rattle.std.specs.Prelude.{◌≡◌};
+ghost use Rattle.std.specs.Prelude.{◌≡◌, Bool, true, [], ◌∷◌, ◌++◌, OnOk, OnErr, IfErr, IfSome, IfNone};
+ghost use Rattle.sw_core.specs.View.{ask_view, answer_view, work_view};
+ghost use Rattle.sw_core.specs.Step.{Step};
+ghost use Rattle.sw_session.specs.CoreDesk.{IsKept, IsCarried, Tells, Rests, piece_seen};
 
 use crate::desk::{Desk, Wake};
 use std::alloc::Global;
+use std::collections::VecDeque;
 use std::marker::Model;
 use sw_card::{Meter, Relay};
-use sw_core::{Answer, Ask, Core, SessionAnswer, SessionAsk};
+use sw_core::{Answer, Ask, Core, SessionAnswer, SessionAsk, Work};
 
-/// A desk over a mainframe of its own, on one thread. Contracts see the mainframe's panel.
+/// A desk over a mainframe of its own, on one thread. Contracts see the mainframe's panel, and the work that is
+/// outstanding, the oldest first.
 ///
-/// Nothing is ever outstanding, so that a wait is over at once.
+/// A wait carries out the oldest piece, and is over where there is none. Pauses take no time. A piece for which there is
+/// no memory is carried out at once.
 #[derive(Drop)]
 pub struct CoreDesk<R: Relay, M: Meter> {
     alloc: Global,
     core: Core<R, M>,
+    work: VecDeque<Work<M>>,
 }
 
 impl<R: Relay, M: Meter> Model for CoreDesk<R, M> {
-    ghost use Rattle.sw_core.specs.Panel.{Panel};
+    ghost use Rattle.std.specs.Prelude.{map};
+    ghost use Rattle.sw_session.specs.CoreDesk.{DeskSeen, piece_seen};
 
-    ghost Value = { Panel };
+    ghost Value = { DeskSeen };
 
-    ghost view = { λ d. d.core };
+    ghost view = { λ d. record { panel = d.core; work = map piece_seen d.work.items } };
 }
 
 impl<R: Relay, M: Meter> CoreDesk<R, M> {
-    /// A desk over this mainframe.
+    /// A desk over this mainframe, with no work.
     pub fn new(alloc: Global, core: Core<R, M>) -> Self
-        ensures { result ≡ core }
+        ensures panel { result.panel ≡ core }
+        ensures work { result.work ≡ [] }
     {
-        CoreDesk { alloc, core }
+        CoreDesk {
+            alloc,
+            core,
+            work: VecDeque::new(alloc),
+        }
+    }
+
+    /// Waits until nothing is outstanding. After 2^64 - 1 waits it gives up and answers false.
+    pub fn rest(&mut self) -> bool
+        ensures rests { Rests self.old result self.new }
+        ensures rested { result ≡ true → self.new.work ≡ [] }
+    {
+        for _turn in 0..u64::MAX {
+            match self.wait() {
+                Wake::Again => {}
+                Wake::Over => return true,
+            }
+        }
+        false
+    }
+
+    /// Keeps work for a wait. Where there is no memory for that, it is carried out at once, and so is what comes of it.
+    fn keep(&mut self, work: Option<Work<M>>)
+        ensures { IsKept self.old (work_view work) self.new }
+    {
+        let mut work = work;
+        'pieces: loop {
+            let Some(piece) = work else {
+                return;
+            };
+            match self.put(piece) {
+                Ok(()) => return,
+                Err(piece) => work = self.carry(piece),
+            }
+        }
+    }
+
+    /// Puts a piece behind the rest, or hands it back where there is no memory for it.
+    fn put(&mut self, piece: Work<M>) -> Result<(), Work<M>>
+        ensures ok { OnOk result (self.new ≡ record { panel = self.old.panel; work = self.old.work ++ piece_seen piece ∷ [] }) }
+        ensures err { OnErr result (self.new ≡ self.old) }
+        ensures back { IfErr result (λ back. back ≡ piece) }
+    {
+        match self.work.push_back(piece) {
+            Ok(()) => Ok(()),
+            Err(refused) => Err(refused.value),
+        }
+    }
+
+    /// Takes the oldest piece off.
+    fn take(&mut self) -> Option<Work<M>>
+        ensures some { IfSome result (λ piece. self.old ≡ record { panel = self.new.panel; work = piece_seen piece ∷ self.new.work }) }
+        ensures none { IfNone result (self.old.work ≡ []) }
+        ensures same { IfNone result (self.new ≡ self.old) }
+    {
+        self.work.pop_front()
+    }
+
+    /// Carries a piece out and tells the mainframe, which gives what comes next.
+    fn carry(&mut self, piece: Work<M>) -> Option<Work<M>>
+        ensures { IsCarried self.old (piece_seen piece) (work_view result) self.new }
+    {
+        let ask = carry_out(piece);
+        match self.tell(ask) {
+            Answer::Taken(work) => work,
+            _ => None,
+        }
+    }
+
+    /// Asks the mainframe.
+    fn tell(&mut self, ask: Ask<R, M>) -> Answer<R, M>
+        ensures step { (failed : Bool) × Step self.old.panel (ask_view ask) failed (answer_view result) self.new.panel }
+        ensures work { self.new.work ≡ self.old.work }
+    {
+        self.core.apply(self.alloc, ask)
+    }
+}
+
+/// Carries a piece out, and gives what is to be told of it.
+fn carry_out<R: Relay, M: Meter>(piece: Work<M>) -> Ask<R, M>
+    ensures { Tells (piece_seen piece) (ask_view result) }
+{
+    match piece {
+        Work::Measure(job) => Ask::Finished(job.run()),
+        Work::Pause(ticket, _) => Ask::Elapsed(ticket),
     }
 }
 
@@ -40,13 +133,23 @@ impl<R: Relay, M: Meter> Desk for CoreDesk<R, M> {
     ghost passes = { CorePasses };
 
     fn ask(&mut self, ask: SessionAsk) -> SessionAnswer {
-        match self.core.apply(self.alloc, Ask::Session(ask)) {
-            Answer::Session(answer) => answer,
+        match self.tell(Ask::Session(ask)) {
+            Answer::Session(answer, work) => {
+                self.keep(work);
+                answer
+            }
             _ => unreachable!(),
         }
     }
 
     fn wait(&mut self) -> Wake {
-        Wake::Over
+        match self.take() {
+            Some(piece) => {
+                let work = self.carry(piece);
+                self.keep(work);
+                Wake::Again
+            }
+            None => Wake::Over,
+        }
     }
 }

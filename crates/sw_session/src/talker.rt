@@ -2,16 +2,20 @@
 
 ghost use Rattle.std.specs.Prelude.{◌≡◌, []};
 ghost use Rattle.std.specs.Io.BufRead.{strip_last};
-ghost use Rattle.sw_session.specs.Talk.{Talked, TalksLine, ServesLine, ConcludesLine, after_of, is_command_error, TellsAnswered};
+ghost use Rattle.sw_lex.specs.Unit.{unit_of};
+ghost use Rattle.sw_lex.specs.Meaning.{path_of};
+ghost use Rattle.sw_macro.specs.Table.{no_macros};
+ghost use Rattle.sw_session.specs.Talk.{Talked, TalksLine, OnLine, Itself, Expanded, Serves, ConcludesLine, after_of, is_command_error, TellsAnswered};
 
 use crate::asking::{begin, queue};
 use crate::desk::Desk;
 use crate::line::join;
-use crate::units::{Next, Units};
 use std::alloc::Global;
+use std::mem::replace;
 use sw_base::ScpiError;
 use sw_core::{SessionAnswer, Sid};
-use sw_lex::Command;
+use sw_lex::{Command, Path, RawUnit, next_unit, resolve};
+use sw_macro::Macros;
 
 /// The longest message that is taken, in bytes without the line feed at its end.
 const LONGEST: usize = 65_536;
@@ -21,26 +25,33 @@ const LONGEST: usize = 65_536;
 pub struct Talker {
     alloc: Global,
     sid: Sid,
+    macros: Macros,
 }
 
 impl Talker {
-    /// What the session that was joined under this number keeps.
+    /// What the session that was joined under this number keeps: no macro, and macros off.
     pub fn new(alloc: Global, sid: Sid) -> Self
-        ensures { result.sid ≡ sid }
+        ensures sid { result.sid ≡ sid }
+        ensures macros { result.macros ≡ no_macros }
     {
-        Talker { alloc, sid }
+        Talker {
+            alloc,
+            sid,
+            macros: Macros::new(alloc),
+        }
     }
 
     /// Talks over one program message: asks its commands, one unit after another, and gives the answers, joined by
     /// semicolons and ended by a line feed, or nothing (IEEE 488.2, 6.3 and 8.4).
     ///
     /// One line feed at the message's end is dropped. A message of more than 65,536 bytes is dropped whole, with error
-    /// -363. An error from -100 to -199 drops the rest of the message, any other its unit alone. Where the desk answers
-    /// that the session is being cleared, is joined no more, or that nothing more can be numbered, nothing is written.
-    /// An answer that finds no memory is dropped, with error -225.
+    /// -363. A unit that calls a macro is replaced by its expansion, whose units are final. An error from -100 to -199
+    /// drops the rest of the message, any other its unit alone. Where the desk answers that the session is being cleared,
+    /// is joined no more, or that nothing more can be numbered, nothing is written. An answer or an expansion that finds
+    /// no memory is dropped, with error -225.
     pub fn message<D: Desk>(&mut self, text: &[u8], desk: &mut D) -> Vec<u8>
-        ensures talked { Talked D.passes desk.old desk.new self.old.sid text.now result.items }
-        ensures same { self.new ≡ self.old }
+        ensures talked { Talked D.passes desk.old desk.new self.old.sid self.old.macros text.now result.items self.new.macros }
+        ensures same { self.new.sid ≡ self.old.sid }
     {
         let text = without_line_feed(text);
         if text.len() > LONGEST {
@@ -48,10 +59,124 @@ impl Talker {
             return Vec::new(self.alloc);
         }
         let mut out = Vec::new(self.alloc);
-        match talk(self.alloc, desk, self.sid, text, &mut out) {
+        let mut path = Path::root();
+        match self.talk(desk, text, &mut path, &mut out) {
             After::Ends => Vec::new(self.alloc),
             _ => out,
         }
+    }
+
+    /// Talks over the units of a message, below this path.
+    fn talk<D: Desk>(
+        &mut self,
+        desk: &mut D,
+        text: &[u8],
+        path: &mut Path,
+        out: &mut Vec<u8>,
+    ) -> After
+        ensures talks { TalksLine (Expanded self.old.sid) D.passes desk.old desk.new self.old.sid text.now (path_of path.old) self.old.macros out.old.items result (path_of path.new) self.new.macros out.new.items }
+        ensures same { self.new.sid ≡ self.old.sid }
+    {
+        let mut left = text;
+        'units: loop {
+            match next_unit(left) {
+                Ok(None) => return After::Goes,
+                Err(misfit) => return self.serve(desk, Err(misfit), out),
+                Ok(Some((unit, rest))) => {
+                    left = rest;
+                    match self.expand(desk, &unit, path, out) {
+                        After::Goes => {}
+                        after => return after,
+                    }
+                }
+            }
+        }
+    }
+
+    /// Talks over a unit of a message: its expansion where it calls a macro, else itself.
+    fn expand<D: Desk>(
+        &mut self,
+        desk: &mut D,
+        unit: &RawUnit<'_>,
+        path: &mut Path,
+        out: &mut Vec<u8>,
+    ) -> After
+        ensures unit { OnLine D.passes desk.old desk.new self.old.macros out.old.items self.new.macros out.new.items (λ s s' t rest. Expanded self.old.sid (unit_of unit.now) (path_of path.old) s t result (path_of path.new) s' rest) }
+        ensures same { self.new.sid ≡ self.old.sid }
+    {
+        if !self.macros.calls(unit) {
+            return self.unit(desk, unit, path, out);
+        }
+        match self.macros.expand(self.alloc, unit) {
+            Ok(text) => self.unfold(desk, &text, path, out),
+            Err(error) => self.serve(desk, Err(error), out),
+        }
+    }
+
+    /// Talks over the units of an expansion, below this path: each of them is itself.
+    fn unfold<D: Desk>(
+        &mut self,
+        desk: &mut D,
+        text: &[u8],
+        path: &mut Path,
+        out: &mut Vec<u8>,
+    ) -> After
+        ensures talks { TalksLine (Itself self.old.sid) D.passes desk.old desk.new self.old.sid text.now (path_of path.old) self.old.macros out.old.items result (path_of path.new) self.new.macros out.new.items }
+        ensures same { self.new.sid ≡ self.old.sid }
+    {
+        let mut left = text;
+        'units: loop {
+            match next_unit(left) {
+                Ok(None) => return After::Goes,
+                Err(error) => return self.serve(desk, Err(error), out),
+                Ok(Some((unit, rest))) => {
+                    left = rest;
+                    match self.unit(desk, &unit, path, out) {
+                        After::Goes => {}
+                        after => return after,
+                    }
+                }
+            }
+        }
+    }
+
+    /// Serves a unit's command or refusal, and leaves its path.
+    fn unit<D: Desk>(
+        &mut self,
+        desk: &mut D,
+        unit: &RawUnit<'_>,
+        path: &mut Path,
+        out: &mut Vec<u8>,
+    ) -> After
+        ensures unit { OnLine D.passes desk.old desk.new self.old.macros out.old.items self.new.macros out.new.items (λ s s' t rest. Itself self.old.sid (unit_of unit.now) (path_of path.old) s t result (path_of path.new) s' rest) }
+        ensures same { self.new.sid ≡ self.old.sid }
+    {
+        let below = replace(path, Path::root());
+        let resolved = resolve(self.alloc, unit, below);
+        *path = resolved.path;
+        self.serve(desk, resolved.command, out)
+    }
+
+    /// Serves one unit that is this command or error, and adds its answer to those that are written.
+    fn serve<D: Desk>(
+        &mut self,
+        desk: &mut D,
+        command: Result<Command, ScpiError>,
+        out: &mut Vec<u8>,
+    ) -> After
+        ensures serves { OnLine D.passes desk.old desk.new self.old.macros out.old.items self.new.macros out.new.items (λ s s' t rest. Serves self.old.sid command s t result s' rest) }
+        ensures same { self.new.sid ≡ self.old.sid }
+    {
+        let answered = has_answers(out);
+        let answer = begin(
+            desk,
+            self.sid,
+            self.alloc,
+            &mut self.macros,
+            command,
+            answered,
+        );
+        conclude(desk, self.sid, &answer, out)
     }
 }
 
@@ -74,37 +199,6 @@ pub enum After {
     Drops,
     /// The session is none any more: the rest is dropped, and nothing is written.
     Ends,
-}
-
-/// Talks over the units of a text, from the root.
-fn talk<D: Desk>(alloc: Global, desk: &mut D, sid: Sid, text: &[u8], out: &mut Vec<u8>) -> After
-    ensures { TalksLine D.passes desk.old desk.new sid text.now [] out.old.items result out.new.items }
-{
-    let mut units = Units::of(text);
-    'talk: loop {
-        match units.next(alloc) {
-            Next::End => return After::Goes,
-            Next::Misfit(error) => return serve(desk, sid, Err(error), out),
-            Next::Unit(command) => match serve(desk, sid, command, out) {
-                After::Goes => {}
-                after => return after,
-            },
-        }
-    }
-}
-
-/// Serves one unit that is this command or error, and adds its answer to those that are written.
-fn serve<D: Desk>(
-    desk: &mut D,
-    sid: Sid,
-    command: Result<Command, ScpiError>,
-    out: &mut Vec<u8>,
-) -> After
-    ensures { ServesLine D.passes desk.old desk.new sid command out.old.items result out.new.items }
-{
-    let answered = has_answers(out);
-    let answer = begin(desk, sid, command, answered);
-    conclude(desk, sid, &answer, out)
 }
 
 /// Whether anything was answered.

@@ -1,5 +1,5 @@
-use Rattle.sw_core.proofs.Safety.{closes, opens, refused, failed, ejected}
+use Rattle.sw_core.proofs.Obeyed.{closes, opens, refused, failed, aborted, reset, stopped_rest, ejected}
 use Rattle.sw_core.proofs.laws.relays_obey.Goals as goal
 
 pub returns : goal.returns
-returns c = record { closes = closes; opens = opens; refused = refused; failed = failed; ejected = ejected }
+returns c = record { closes = closes; opens = opens; refused = refused; failed = failed; aborted = aborted; reset = reset; stopped = stopped_rest; ejected = ejected }

@@ -1,4 +1,4 @@
-use Rattle.std.proofs.Common.{rules, length, arith, ap, sym, ◌∙◌}
+use Rattle.std.proofs.Common.{rules}
 use Rattle.sw_core.proofs.Rows.{open-first, open-next}
 use Rattle.sw_core.proofs.text.separate.Goals as goal
 

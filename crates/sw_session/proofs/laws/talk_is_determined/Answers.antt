@@ -9,4 +9,5 @@ returns c = talk-determined (record {
   unit_or_error = λ text rest u e is refused. c.one_reading.ensures.apart text u rest e is refused;
   blank_or_error = λ text e blank refused. c.one_reading.ensures.no_refusal text e blank refused;
   command = λ u path k k' p p' is is' ample ample'. c.one_meaning.ensures u path k k' p p' is is' ample ample';
+  expansion = λ t u written r r' p q. c.one_expansion.ensures t u written r r' p q;
 })

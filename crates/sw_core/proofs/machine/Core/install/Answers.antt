@@ -1,4 +1,4 @@
-use Rattle.std.proofs.Common.{arith, refl, ap, ◌∙◌}
+use Rattle.std.proofs.Common.{arith, ap, ◌∙◌, is_some}
 use Rattle.sw_cage.specs.Cage.{CageSeen}
 use Rattle.sw_cage.specs.Change.{any_failed}
 use Rattle.sw_core.specs.Panel.{Panel}
@@ -9,6 +9,8 @@ pub returns-in-Ok-clause-acts : goal.returns-in-Ok-clause-acts
 returns-in-Ok-clause-acts g c =
     rw (← c.self.view_is) (
       ap (λ (s : CageSeen). any_failed c.self.inside.cage.rack s.rack) c.in-Ok.ensures.ok ∙ failed_come c.self.inside.cage.rack c.args.slot _ (omega (arith, c.in-Ok.ensures.accepted.first)) c.in-Ok.ensures.accepted.empty,
+      ap (λ s. is_some s) c.in-Ok.ensures.free.0,
+      c.in-Ok.ensures.free.1,
       c.in-Ok.ensures.accepted,
-      ap (λ (s : CageSeen). let p : Panel = record { cage = s; sessions = c.self.inside.sessions; status = c.self.inside.status; settings = c.self.inside.settings } in p) c.in-Ok.ensures.ok,
+      ap (λ (s : CageSeen). let p : Panel = record { cage = s; sessions = c.self.inside.sessions; status = c.self.inside.status; settings = c.self.inside.settings; pending = c.self.inside.pending; events = c.self.inside.events } in p) c.in-Ok.ensures.ok,
     )

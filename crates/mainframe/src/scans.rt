@@ -1,0 +1,228 @@
+//! Scans over a core of boxed cards: what they take, what they miss, and what ends them.
+
+use crate::asks::{
+    check_closed, eject, ignores_trigger, install, is_done, is_idle, is_refused, is_worn, join,
+    joined, misses_end, misses_external, misses_return, offer, send, set_up, snapshot, unit,
+};
+use crate::cards::{first_card, meter_card, second_card, third_card};
+use std::alloc::Global;
+use std::process::Abort;
+use std::test::Fail;
+use sw_base::ScpiError;
+use sw_cage::{EjectRefusal, InstallRefusal, Job, Ticket};
+use sw_card::{Card, Meter, Relay};
+use sw_core::{Answer, Ask, Core, SessionAnswer, SessionAsk, Sid, Work};
+use sw_kinds::{Mux, SimDriver};
+use sw_lex::Command;
+use sw_verify::Plan;
+
+/// Begins the scan of a plan, and gives the work that it awaits.
+fn start<R: Relay, M: Meter>(
+    alloc: Global,
+    core: &mut Core<R, M>,
+    sid: Sid,
+    plan: Plan,
+) -> Result<Option<Work<M>>, Fail> {
+    match core.apply(alloc, Ask::Session(SessionAsk::Start(sid, plan))) {
+        Answer::Session(_, work) => Ok(work),
+        _ => Err("a session's ask was answered as a card's")?,
+    }
+}
+
+/// Begins a scan of what is set, and gives the work that it awaits.
+fn initiate<R: Relay, M: Meter>(
+    alloc: Global,
+    core: &mut Core<R, M>,
+    sid: Sid,
+) -> Result<Option<Work<M>>, Fail> {
+    let SessionAnswer::Snapshot(snapshot) = snapshot(alloc, core, sid)? else {
+        return Err("no scan may begin")?;
+    };
+    match Plan::make(snapshot) {
+        Ok(plan) => start(alloc, core, sid, plan),
+        Err(_) => Err("the scan is not sound")?,
+    }
+}
+
+/// Carries out the work and what comes of it, and counts the pieces.
+fn carry_out<R: Relay, M: Meter>(
+    alloc: Global,
+    core: &mut Core<R, M>,
+    work: Option<Work<M>>,
+) -> Result<u8, Fail> {
+    let mut work = work;
+    for pieces in 0..100u8 {
+        let ask = match work {
+            None => return Ok(pieces),
+            Some(Work::Measure(job)) => Ask::Finished(job.run()),
+            Some(Work::Pause(ticket, _)) => Ask::Elapsed(ticket),
+        };
+        let Answer::Taken(next) = core.apply(alloc, ask) else {
+            return Err("a piece of work was not taken")?;
+        };
+        work = next;
+    }
+    Err("the work never ends")?
+}
+
+/// Two rounds of ARM by the bus, with three delayed readings each.
+fn set_rounds<R: Relay, M: Meter>(
+    alloc: Global,
+    core: &mut Core<R, M>,
+    sid: Sid,
+) -> Result<(), Fail> {
+    let _ = send(alloc, core, sid, b"ROUT:SCAN (@1!1)")?;
+    let _ = send(alloc, core, sid, b"ARM:COUN 2")?;
+    let _ = send(alloc, core, sid, b"ARM:SOUR BUS")?;
+    let _ = send(alloc, core, sid, b"TRIG:COUN 3")?;
+    let _ = send(alloc, core, sid, b"TRIG:DEL 0.5")?;
+    Ok(())
+}
+
+/// What ARM's wait does not take, and what is refused once it is over.
+fn miss<R: Relay, M: Meter>(
+    rt: &impl Abort,
+    alloc: Global,
+    core: &mut Core<R, M>,
+    sid: Sid,
+) -> Result<Option<Work<M>>, Fail> {
+    assert!(rt; misses_external(alloc, core));
+    assert!(rt; misses_end(alloc, core, Ticket { scan: 1, index: 0 }));
+    let work = send(alloc, core, sid, b"*TRG")?;
+    assert!(rt; ignores_trigger(alloc, core, sid)?);
+    Ok(work)
+}
+
+fn rounds<R: Relay, M: Meter>(
+    rt: &impl Abort,
+    alloc: Global,
+    cards: (R, R, R),
+    meter: M,
+) -> Result<(), Fail> {
+    let (mut core, sid) = set_up(alloc, cards, meter)?;
+    set_rounds(alloc, &mut core, sid)?;
+    assert!(rt; initiate(alloc, &mut core, sid)?.is_none());
+    let work = miss(rt, alloc, &mut core, sid)?;
+    assert_eq!(rt; carry_out(alloc, &mut core, work)?, 6);
+    assert!(rt; !is_idle(alloc, &mut core, sid)?);
+    let work = send(alloc, &mut core, sid, b"*TRG")?;
+    assert_eq!(rt; carry_out(alloc, &mut core, work)?, 6);
+    assert!(rt; is_idle(alloc, &mut core, sid)?);
+    Ok(())
+}
+
+#[test]
+fn fourteen_happenings_end_the_scan(rt: HostRuntime) -> Result<(), Fail> {
+    let alloc = rt.alloc();
+    let first: Box<dyn Relay + Send> = Box::new(alloc, first_card(None))?;
+    let second: Box<dyn Relay + Send> = Box::new(alloc, second_card())?;
+    let third: Box<dyn Relay + Send> = Box::new(alloc, third_card())?;
+    let meter: Box<dyn Meter + Send> = Box::new(alloc, meter_card())?;
+    rounds(&rt, alloc, (first, second, third), meter)
+}
+
+/// No card comes into a cage while a scan runs, and no meter leaves while it measures.
+fn stay<R: Relay, M: Meter>(
+    rt: &impl Abort,
+    alloc: Global,
+    core: &mut Core<R, M>,
+    other: R,
+) -> Result<(), Fail> {
+    assert!(rt; matches!(eject(alloc, core, 4)?, Err(EjectRefusal::Out)));
+    assert!(rt; matches!(eject(alloc, core, 5)?, Err(EjectRefusal::Vacant)));
+    let Some((refusal, back)) = offer(alloc, core, 2, Card::relays(other))? else {
+        return Err("a card was installed in a scan")?;
+    };
+    assert_eq!(rt; (refusal, back.serial()), (InstallRefusal::Busy, 7));
+    Ok(())
+}
+
+/// The card of slot 1 leaves a running scan: every relay is open then, and no scan runs.
+fn leave<R: Relay, M: Meter>(
+    rt: &impl Abort,
+    alloc: Global,
+    core: &mut Core<R, M>,
+    sid: Sid,
+) -> Result<Card<R, M>, Fail> {
+    let Ok(card) = eject(alloc, core, 1)? else {
+        return Err("slot 1 gave no card")?;
+    };
+    assert!(rt; card.serial() == 1 && !card.any_closed());
+    check_closed(rt, alloc, core, sid, b"(@)")?;
+    assert!(rt; is_idle(alloc, core, sid)?);
+    Ok(card)
+}
+
+/// Begins a scan of 1!1 while 2!1 is closed, and gives its first measurement.
+fn measuring<R: Relay, M: Meter>(
+    alloc: Global,
+    core: &mut Core<R, M>,
+    sid: Sid,
+) -> Result<Job<M>, Fail> {
+    let _ = send(alloc, core, sid, b"ROUT:SCAN (@1!1)")?;
+    let _ = send(alloc, core, sid, b"ROUT:CLOS (@2!1)")?;
+    match initiate(alloc, core, sid)? {
+        Some(Work::Measure(job)) => Ok(job),
+        _ => Err("no reading is awaited")?,
+    }
+}
+
+/// Takes cards out of a running scan. Its meter returns to the cage whose scan is over, and can be taken out then.
+fn pull<R: Relay, M: Meter>(
+    rt: &impl Abort,
+    alloc: Global,
+    cards: (R, R, R),
+    other: R,
+    meter: M,
+) -> Result<(), Fail> {
+    let (mut core, sid) = set_up(alloc, cards, meter)?;
+    let job = measuring(alloc, &mut core, sid)?;
+    stay(rt, alloc, &mut core, other)?;
+    let card = leave(rt, alloc, &mut core, sid)?;
+    install(alloc, &mut core, 1, card)?;
+    assert!(rt; misses_return(alloc, &mut core, job));
+    assert!(rt; eject(alloc, &mut core, 4)?.is_ok());
+    Ok(())
+}
+
+#[test]
+fn cards_leave_a_running_scan(rt: HostRuntime) -> Result<(), Fail> {
+    let alloc = rt.alloc();
+    let first: Box<dyn Relay + Send> = Box::new(alloc, first_card(None))?;
+    let second: Box<dyn Relay + Send> = Box::new(alloc, second_card())?;
+    let third: Box<dyn Relay + Send> = Box::new(alloc, third_card())?;
+    let other: Box<dyn Relay + Send> = Box::new(alloc, Mux::new(7, 4, 1, SimDriver::new()))?;
+    let meter: Box<dyn Meter + Send> = Box::new(alloc, meter_card())?;
+    pull(&rt, alloc, (first, second, third), other, meter)
+}
+
+/// Once all events are numbered, an ask is handed back, but a scan can still be aborted.
+fn wear_out<R: Relay, M: Meter>(rt: &impl Abort, alloc: Global) -> Result<(), Fail> {
+    let mut worn: Core<R, M> = Core::with_counts(alloc, u64::MAX, 0)?;
+    assert!(rt; is_worn(&join(alloc, &mut worn)?));
+    let mut core: Core<R, M> = Core::with_counts(alloc, u64::MAX - 1, 0)?;
+    let sid = joined(alloc, &mut core)?;
+    assert!(rt; is_worn(&unit(alloc, &mut core, sid, Command::Identify)?));
+    assert!(rt; is_done(&unit(alloc, &mut core, sid, Command::Abort)?));
+    assert_eq!(rt; core.events(), u64::MAX);
+    Ok(())
+}
+
+#[test]
+fn events_are_worn_out(rt: HostRuntime) -> Result<(), Fail> {
+    wear_out::<Box<dyn Relay + Send>, Box<dyn Meter + Send>>(&rt, rt.alloc())
+}
+
+/// Once all scans are numbered, none begins.
+fn exhaust<R: Relay, M: Meter>(rt: &impl Abort, alloc: Global) -> Result<(), Fail> {
+    let mut core: Core<R, M> = Core::with_counts(alloc, 0, u64::MAX)?;
+    let sid = joined(alloc, &mut core)?;
+    let answer = snapshot(alloc, &mut core, sid)?;
+    assert!(rt; is_refused(&answer, ScpiError::SystemError));
+    Ok(())
+}
+
+#[test]
+fn scans_are_worn_out(rt: HostRuntime) -> Result<(), Fail> {
+    exhaust::<Box<dyn Relay + Send>, Box<dyn Meter + Send>>(&rt, rt.alloc())
+}

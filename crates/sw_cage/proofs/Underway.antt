@@ -1,0 +1,136 @@
+-- A scan that runs: from item to item of its agenda.
+use Rattle.std.proofs.Common.{◌≡◌, ℕ, ◌+◌, ◌<◌, Bool, true, false, ◌&&◌, ◌||◌, not, List, [], ◌∷◌, ◌++◌, length, take, drop, Option, Some, None, refl, sym, ap, ◌∙◌, subst, arith}
+use Rattle.std.proofs.Math.Seq.{take-add}
+use Rattle.std.proofs.lemmas.List.{take-append-drop}
+use Rattle.sw_base.specs.Layout.{Channel, Layout}
+use Rattle.sw_trigger.specs.declared.layer.Awaited.{Awaited}
+use Rattle.sw_trigger.specs.declared.layer.Awaited.TheVariants.{Read}
+use Rattle.sw_trigger.specs.Settings.{Setup}
+use Rattle.sw_trigger.specs.Agenda.{Item, Awaits, Close, Open, agenda}
+use Rattle.sw_trigger.specs.Counts.{reads, is_reading}
+use Rattle.sw_trigger.proofs.Awaiting.{reads-append}
+use Rattle.sw_verify.specs.Channels.{Channels, same_channel, none, with_channel, without}
+use Rattle.sw_verify.specs.Sound.{CanClose, AllRight, effect}
+use Rattle.sw_verify.proofs.Round.{effect-append}
+use Rattle.sw_cage.specs.Cage.{layout_with}
+use Rattle.sw_cage.specs.Advance.{leading, first_awaited, opens_of, closes_of, way}
+use Rattle.sw_cage.specs.Moves.{MayClose, MayMove}
+use Rattle.sw_cage.specs.Good.{IsOnWay}
+use Rattle.sw_cage.specs.declared.job.Ticket.{Ticket}
+use Rattle.sw_cage.proofs.Layouts.{present_with, clash_with}
+
+-- items
+
+awaits_first : (l : List Item) (x : Awaited) → first_awaited l ≡ Some x → l ≡ Awaits x ∷ drop 1 l
+awaits_first [] x e = absurd (cc)
+awaits_first (Awaits w ∷ l) x e = let k : w ≡ x = cc in ap (λ (y : Awaited). Awaits y ∷ l) k
+awaits_first (Close c ∷ l) x e = absurd (cc)
+awaits_first (Open c ∷ l) x e = absurd (cc)
+
+pub leading_front : (l : List Item) → take (length (leading l)) l ≡ leading l
+leading_front [] = refl
+leading_front (Awaits x ∷ l) = refl
+leading_front (Close c ∷ l) = ap (λ (m : List Item). Close c ∷ m) (leading_front l)
+leading_front (Open c ∷ l) = ap (λ (m : List Item). Open c ∷ m) (leading_front l)
+
+leading_reads : (l : List Item) → reads (leading l) ≡ 0
+leading_reads [] = refl
+leading_reads (Awaits x ∷ l) = refl
+leading_reads (Close c ∷ l) = leading_reads l
+leading_reads (Open c ∷ l) = leading_reads l
+
+take_way : (s : Setup) (i : ℕ) → take (i + length (way s i)) (agenda s) ≡ take i (agenda s) ++ way s i
+take_way s i = take-add i (length (way s i)) (agenda s) ∙ ap (λ (l : List Item). take i (agenda s) ++ l) (leading_front (drop i (agenda s)))
+
+take_past : (s : Setup) (i : ℕ) (x : Awaited) → first_awaited (drop i (agenda s)) ≡ Some x → take (i + 1) (agenda s) ≡ take i (agenda s) ++ Awaits x ∷ []
+take_past s i x e = take-add i 1 (agenda s) ∙ ap (λ (l : List Item). take i (agenda s) ++ take 1 l) (awaits_first (drop i (agenda s)) x e)
+
+pub reads_way : (s : Setup) (i : ℕ) → reads (take (i + length (way s i)) (agenda s)) ≡ reads (take i (agenda s))
+reads_way s i = ap reads (take_way s i) ∙ reads-append (take i (agenda s)) (way s i) ∙ omega (arith, leading_reads (drop i (agenda s)))
+
+pub reads_past : (s : Setup) (i : ℕ) (x : Awaited) → first_awaited (drop i (agenda s)) ≡ Some x → reads (take (i + 1) (agenda s)) ≡ reads (take i (agenda s)) + is_reading x
+reads_past s i x e = ap reads (take_past s i x e) ∙ reads-append (take i (agenda s)) (Awaits x ∷ []) ∙ omega arith
+
+-- a reading is left where one is awaited
+pub reads_left : (s : Setup) (i : ℕ) → first_awaited (drop i (agenda s)) ≡ Some Read → reads (take i (agenda s)) < reads (agenda s)
+reads_left s i e =
+    let whole = ap reads (sym (take-append-drop i (agenda s))) ∙ reads-append (take i (agenda s)) (drop i (agenda s)) in
+    let rest = ap reads (awaits_first (drop i (agenda s)) Read e) in
+    omega (arith, whole, rest)
+
+-- what is left of a sound agenda is right from where it has come
+right_after : (layout : Layout) (b m : Channels) (xs ys : List Item) → AllRight layout b m (xs ++ ys) → AllRight layout (effect b xs) (effect m xs) ys
+right_after layout b m [] ys h = h
+right_after layout b m (Awaits w ∷ xs) ys h = right_after layout b m xs ys h
+right_after layout b m (Close c ∷ xs) ys h = right_after layout (with_channel c b) (with_channel c m) xs ys h.1
+right_after layout b m (Open c ∷ xs) ys h = right_after layout (without c b) (without c m) xs ys h.1
+
+-- mine are closed
+abbrev IsWithin : Channels → Channels → Type 0
+IsWithin m b = (x : Channel) → m x ≡ true → b x ≡ true
+
+or_keeps : (t a b : Bool) → (a ≡ true → b ≡ true) → (t || a) ≡ true → (t || b) ≡ true
+or_keeps true a b f h = refl
+or_keeps false a b f h = f h
+
+and_keeps : (t a b : Bool) → (a ≡ true → b ≡ true) → (t && a) ≡ true → (t && b) ≡ true
+and_keeps true a b f h = f h
+and_keeps false a b f h = h
+
+within_after : (m b : Channels) (xs : List Item) → IsWithin m b → IsWithin (effect m xs) (effect b xs)
+within_after m b [] h = h
+within_after m b (Awaits w ∷ xs) h = within_after m b xs h
+within_after m b (Close c ∷ xs) h = within_after (with_channel c m) (with_channel c b) xs (λ x e. or_keeps (same_channel c x) (m x) (b x) (h x) e)
+within_after m b (Open c ∷ xs) h = within_after (without c m) (without c b) xs (λ x e. and_keeps (not (same_channel c x)) (m x) (b x) (h x) e)
+
+moves_may : (layout : Layout) (b m : Channels) (o k : Option Channel) (r : List Item) → IsWithin m b → AllRight layout b m ((opens_of o ++ closes_of k) ++ r) → MayMove layout b o k
+moves_may layout b m None None r w h = record { opens = tt; closes = tt }
+moves_may layout b m None (Some k) r w h = record { opens = tt; closes = h.0 }
+moves_may layout b m (Some o) None r w h = record { opens = w o h.0; closes = tt }
+moves_may layout b m (Some o) (Some k) r w h = record { opens = w o h.0; closes = h.1.0 }
+
+-- a meter that is out has no channel, so none is hindered or let by it
+can_close_in : (bays : Layout) (out : List (Option Ticket)) (h : length out ≡ length bays) (b : Channels) (c : Channel) → CanClose (layout_with bays out) b c → CanClose bays b c
+can_close_in bays out h b c k = record { present = sym (present_with bays out h c) ∙ k.present; was_open = k.was_open; apart = λ x e j. k.apart x e (clash_with bays out h c x j) }
+
+may_close_in : (bays : Layout) (out : List (Option Ticket)) (h : length out ≡ length bays) (b : Channels) (k : Option Channel) → MayClose (layout_with bays out) b k → MayClose bays b k
+may_close_in bays out h b None m = tt
+may_close_in bays out h b (Some c) m = can_close_in bays out h b c m
+
+pub may_move_in : (bays : Layout) (out : List (Option Ticket)) (h : length out ≡ length bays) (b : Channels) (o k : Option Channel) → MayMove (layout_with bays out) b o k → MayMove bays b o k
+may_move_in bays out h b o k m = record { opens = m.opens; closes = may_close_in bays out h (effect b (opens_of o)) k m.closes }
+
+module _ (layout : Layout) (closed : Channels) (s : Setup) (i : ℕ) (w : IsOnWay layout closed s i) where
+  pub right_here : AllRight layout closed (effect none (take i (agenda s))) (drop i (agenda s))
+  right_here =
+      let all : AllRight layout w.found none (take i (agenda s) ++ drop i (agenda s)) = subst (λ (l : List Item). AllRight layout w.found none l) (sym (take-append-drop i (agenda s))) w.sound.right in
+      subst (λ (b : Channels). AllRight layout b (effect none (take i (agenda s))) (drop i (agenda s))) (sym w.so_far) (right_after layout w.found none (take i (agenda s)) (drop i (agenda s)) all)
+
+  -- the moves that come next may be made
+  pub may_move : (o k : Option Channel) → opens_of o ++ closes_of k ≡ way s i → MayMove layout closed o k
+  may_move o k e =
+      let after = drop i (agenda s) in
+      let r = drop (length (way s i)) after in
+      let mine : IsWithin (effect none (take i (agenda s))) (effect w.found (take i (agenda s))) = within_after none w.found (take i (agenda s)) (λ x h. absurd (cc)) in
+      let split : after ≡ (opens_of o ++ closes_of k) ++ r = sym (take-append-drop (length (way s i)) after) ∙ ap (λ (l : List Item). l ++ r) (leading_front after ∙ sym e) in
+      moves_may layout closed (effect none (take i (agenda s))) o k r (subst (λ (b : Channels). IsWithin (effect none (take i (agenda s))) b) (sym w.so_far) mine)
+      (subst (λ (l : List Item). AllRight layout closed (effect none (take i (agenda s))) l) split right_here)
+
+  -- once they are made
+  pub on_way_moved : (now : Channels) → now ≡ effect closed (way s i) → IsOnWay layout now s (i + length (way s i))
+  on_way_moved now e = record {
+    found = w.found;
+    sound = w.sound;
+    so_far = e ∙ ap (λ (b : Channels). effect b (way s i)) w.so_far ∙ sym (effect-append w.found (take i (agenda s)) (way s i)) ∙ ap (effect w.found) (sym (take_way s i));
+  }
+
+  -- once what is awaited has come
+  pub on_way_past : (x : Awaited) → first_awaited (drop i (agenda s)) ≡ Some x → IsOnWay layout closed s (i + 1)
+  on_way_past x e = record {
+    found = w.found;
+    sound = w.sound;
+    so_far = w.so_far ∙ sym (effect-append w.found (take i (agenda s)) (Awaits x ∷ [])) ∙ ap (effect w.found) (sym (take_past s i x e));
+  }
+
+pub on_way_like : (layout layout' : Layout) (b b' : Channels) (s : Setup) (i : ℕ) → layout' ≡ layout → b' ≡ b → IsOnWay layout b s i → IsOnWay layout' b' s i
+on_way_like layout layout' b b' s i e f w = subst (λ (l : Layout). IsOnWay l b' s i) (sym e) (subst (λ (x : Channels). IsOnWay layout x s i) (sym f) w)

@@ -1,0 +1,47 @@
+use Rattle.std.proofs.Common.{◌≤◌, ◌+◌, ◌∙◌, ap, subst, refl, arith, vec_capacity}
+use Rattle.sw_base.specs.Layout.{slot_at}
+use Rattle.sw_trigger.specs.Settings.{Setup, IsInRange}
+use Rattle.sw_trigger.specs.Agenda.{agenda}
+use Rattle.sw_trigger.specs.Counts.{reads}
+use Rattle.sw_cage.specs.Channels.{closed_list}
+use Rattle.sw_cage.specs.Cage.{CageSeen, cage_layout}
+use Rattle.sw_cage.specs.Advance.{way, next_place}
+use Rattle.sw_cage.proofs.Happens.{begins, go_meter, go_may, go_kept}
+use Rattle.sw_cage.proofs.cage.Cage.start.Goals as goal
+
+pub go_on-scan-requires-clause-meter : goal.go_on-scan-requires-clause-meter
+go_on-scan-requires-clause-meter g c =
+    let s = c.args.plan.settings in
+    let same = c.ready_settings-settings.ensures.settings in
+    let ready = c.ready_settings-settings.ensures.ready in
+    let go = begins _ s c.args.plan.layout c.args.plan.closed (c.self.inside.number + 1) c.in_ok-readings.readings.items c.self.invariant.good.held ready.listed (subst IsInRange (c.settings.view_is ∙ same) c.settings.invariant)
+    (ap (λ (p : CageSeen). slot_at p.out s.meter) c.self.view_is ∙ c.requires.home) ready.measured ready.sound (ap cage_layout c.self.view_is ∙ c.requires.layout) (ap (λ (p : CageSeen). closed_list p.rack) c.self.view_is ∙ c.requires.closed)
+    c.stay_safe.ensures.range refl c.in_ok-readings.ensures.items in
+    let at = c.begin-scan.ensures.scan ∙ ap (λ (x : Setup). next_place x 0) same in
+    let moves = c.begin-scan.ensures.moves ∙ ap (λ (x : Setup). way x 0) same in
+    go_meter _ s 0 c.begin-scan.result.0 go.go at
+
+pub go_on-scan-requires-clause-may : goal.go_on-scan-requires-clause-may
+go_on-scan-requires-clause-may g c =
+    let s = c.args.plan.settings in
+    let same = c.ready_settings-settings.ensures.settings in
+    let ready = c.ready_settings-settings.ensures.ready in
+    let go = begins _ s c.args.plan.layout c.args.plan.closed (c.self.inside.number + 1) c.in_ok-readings.readings.items c.self.invariant.good.held ready.listed (subst IsInRange (c.settings.view_is ∙ same) c.settings.invariant)
+    (ap (λ (p : CageSeen). slot_at p.out s.meter) c.self.view_is ∙ c.requires.home) ready.measured ready.sound (ap cage_layout c.self.view_is ∙ c.requires.layout) (ap (λ (p : CageSeen). closed_list p.rack) c.self.view_is ∙ c.requires.closed)
+    c.stay_safe.ensures.range refl c.in_ok-readings.ensures.items in
+    let at = c.begin-scan.ensures.scan ∙ ap (λ (x : Setup). next_place x 0) same in
+    let moves = c.begin-scan.ensures.moves ∙ ap (λ (x : Setup). way x 0) same in
+    go_may _ s 0 c.begin-scan.result.1.to_open c.begin-scan.result.1.to_close go.held go.go moves
+
+pub invariant_of-self : goal.invariant_of-self
+invariant_of-self g c =
+    let s = c.args.plan.settings in
+    let same = c.ready_settings-settings.ensures.settings in
+    let ready = c.ready_settings-settings.ensures.ready in
+    let go = begins _ s c.args.plan.layout c.args.plan.closed (c.self.inside.number + 1) c.in_ok-readings.readings.items c.self.invariant.good.held ready.listed (subst IsInRange (c.settings.view_is ∙ same) c.settings.invariant)
+    (ap (λ (p : CageSeen). slot_at p.out s.meter) c.self.view_is ∙ c.requires.home) ready.measured ready.sound (ap cage_layout c.self.view_is ∙ c.requires.layout) (ap (λ (p : CageSeen). closed_list p.rack) c.self.view_is ∙ c.requires.closed)
+    c.stay_safe.ensures.range refl c.in_ok-readings.ensures.items in
+    let at = c.begin-scan.ensures.scan ∙ ap (λ (x : Setup). next_place x 0) same in
+    let moves = c.begin-scan.ensures.moves ∙ ap (λ (x : Setup). way x 0) same in
+    let room : reads (agenda s) ≤ vec_capacity c.in_ok-readings.readings = omega (arith, c.in_ok-readings.ensures.exact, c.readings.ensures.readings, ap (λ (x : Setup). reads (agenda x)) same) in
+    go_kept _ _ s 0 _ _ c.begin-scan.result.0 _ go.held go.go room c.go_on-scan.ensures moves at refl refl

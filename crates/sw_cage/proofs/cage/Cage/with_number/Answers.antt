@@ -1,0 +1,5 @@
+use Rattle.sw_cage.proofs.Held.{kept_new}
+use Rattle.sw_cage.proofs.cage.Cage.with_number.Goals as goal
+
+pub invariant_of-result : goal.invariant_of-result
+invariant_of-result g c = kept_new _ _ _ _ _ c.in_ok-new.ensures c.new-2.ensures

@@ -1,0 +1,70 @@
+-- Which happening a running scan takes: the ARM-TRIGger model's wait takes the trigger of its source, and its layer's SIGNal
+-- always (SCPI-1999, chapter 24); that pauses and readings end by a ticket is our own.
+use Rattle.std.specs.Prelude.{◌≡◌, ℕ, Option, Some, None}
+use Rattle.sw_base.specs.declared.terms.Source.TheVariants as source
+use Rattle.sw_base.specs.declared.terms.LayerName.{LayerName}
+use Rattle.sw_trigger.specs.declared.layer.Awaited.{Awaited}
+use Rattle.sw_trigger.specs.declared.layer.Awaited.TheVariants.{Wait, Pause, Read}
+use Rattle.sw_trigger.specs.Settings.{Setup, layer_of}
+use Rattle.sw_trigger.specs.Counts.{is_reading}
+use Rattle.sw_cage.specs.Cage.{Scanning, CageSeen, ticket_of}
+use Rattle.sw_cage.specs.Advance.{awaits}
+use Rattle.sw_cage.specs.declared.job.Ticket.{Ticket}
+use Rattle.sw_cage.specs.declared.taken.Happening.{Happening}
+use Rattle.sw_cage.specs.declared.taken.Happening.TheVariants.{Bus, External, Signal, Elapsed}
+
+-- a wait of the layer takes the happening
+abbrev pub TakesWait : Setup → LayerName → Happening → Type 0
+TakesWait s name Bus = (layer_of s name).source ≡ source.Bus
+TakesWait s name External = (layer_of s name).source ≡ source.External
+TakesWait s name (Signal signalled) = name ≡ signalled
+TakesWait s name (Elapsed ticket) = ⊥
+
+-- a pause under this ticket takes the happening
+abbrev pub TakesPause : Ticket → Happening → Type 0
+TakesPause present Bus = ⊥
+TakesPause present External = ⊥
+TakesPause present (Signal signalled) = ⊥
+TakesPause present (Elapsed ticket) = present ≡ ticket
+
+-- what awaits this takes the happening, under the ticket that is present
+abbrev pub TakesAt : Setup → Ticket → Awaited → Happening → Type 0
+TakesAt s present (Wait name) happening = TakesWait s name happening
+TakesAt s present (Pause micros) happening = TakesPause present happening
+TakesAt s present Read happening = ⊥
+
+abbrev pub TakesIf : Setup → Ticket → Option Awaited → Happening → Type 0
+TakesIf s present None happening = ⊥
+TakesIf s present (Some what) happening = TakesAt s present what happening
+
+abbrev pub TakesThere : ℕ → Option Scanning → Happening → Type 0
+TakesThere number None happening = ⊥
+TakesThere number (Some at) happening = TakesIf at.setup (ticket_of number at) (awaits at) happening
+
+-- the scan that runs takes the happening
+abbrev pub Takes : CageSeen → Happening → Type 0
+Takes p happening = TakesThere p.number p.scan happening
+
+-- the scan awaits the return of this slot's meter under this ticket
+pub record AwaitsReturn (number : ℕ) (at : Scanning) (slot : ℕ) (ticket : Ticket) : Type 0 where
+  pub reading : awaits at ≡ Some Read
+  pub slot_is : at.setup.meter ≡ slot
+  pub ticket_is : ticket_of number at ≡ ticket
+
+abbrev pub TakesReturnThere : ℕ → Option Scanning → ℕ → Ticket → Type 0
+TakesReturnThere number None slot ticket = ⊥
+TakesReturnThere number (Some at) slot ticket = AwaitsReturn number at slot ticket
+
+-- the scan that runs takes the return of this slot's meter under this ticket
+abbrev pub TakesReturn : CageSeen → ℕ → Ticket → Type 0
+TakesReturn p slot ticket = TakesReturnThere p.number p.scan slot ticket
+
+-- a scan runs and awaits a trigger or the end of a pause
+abbrev pub AwaitsOther : Option Scanning → Type 0
+AwaitsOther None = ⊥
+AwaitsOther (Some at) = (what : Awaited) × ((awaits at ≡ Some what) × (is_reading what ≡ 0))
+
+-- what the scan awaits, if one runs
+abbrev pub awaited_now : Option Scanning → Option Awaited
+awaited_now None = None
+awaited_now (Some at) = awaits at

@@ -1,0 +1,64 @@
+//! By slot the ticket under which its meter is out.
+
+ghost use Rattle.std.specs.Prelude.{◌≡◌, ℕ, ◌-◌, ◌≤◌, length, None, Some, replicate, slice_set, ◌↔◌, IsTrue};
+ghost use Rattle.sw_base.specs.Layout.{slot_at};
+
+use crate::job::Ticket;
+use std::marker::Model;
+
+/// By slot, from 1 to 8, the ticket under which its meter is out.
+#[derive(Drop)]
+pub(crate) struct Tickets {
+    by_slot: [Option<Ticket>; 8],
+}
+
+impl Model for Tickets {
+    ghost use Rattle.std.specs.Prelude.{◌≡◌, List, Option, length};
+    ghost use Rattle.sw_cage.specs.declared.job.Ticket.{Ticket};
+
+    ghost Value = { List (Option Ticket) };
+
+    ghost view = { λ t. t.by_slot };
+
+    ghost invariant = { λ t. length t.by_slot ≡ 8 };
+}
+
+impl Tickets {
+    /// No meter is out.
+    pub(crate) fn new() -> Self
+        ensures { result ≡ replicate 8 None }
+    {
+        Tickets { by_slot: [None; 8] }
+    }
+
+    /// The ticket under which the slot's meter is out.
+    #[tactic(auto, using(crate::proofs::Racks::slot_past))]
+    pub(crate) fn at(&self, slot: u8) -> Option<Ticket>
+        ensures { result ≡ slot_at self.now slot }
+    {
+        let by_slot = &self.by_slot;
+        if slot >= 1 && slot <= 8 {
+            by_slot[slot as usize - 1]
+        } else {
+            None
+        }
+    }
+
+    /// Whether the slot's meter is out under this ticket.
+    pub(crate) fn has(&self, slot: u8, ticket: Ticket) -> bool
+        ensures { IsTrue result ↔ (slot_at self.now slot ≡ Some ticket) }
+    {
+        match self.at(slot) {
+            Some(own) => own.is_same(ticket),
+            None => false,
+        }
+    }
+
+    /// Writes down that the slot's meter is out under the ticket, or in.
+    pub(crate) fn set(&mut self, slot: u8, ticket: Option<Ticket>)
+        requires { (1 ≤ slot) × (slot ≤ 8) }
+        ensures { self.new ≡ slice_set self.old (slot - 1) ticket }
+    {
+        self.by_slot[slot as usize - 1] = ticket;
+    }
+}

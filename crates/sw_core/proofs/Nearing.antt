@@ -1,0 +1,616 @@
+-- Every happening that a scan takes leaves it one less to await, and the same closed at its end.
+use Rattle.std.proofs.Common.{◌≡◌, ℕ, suc, ◌+◌, ◌≤◌, ◌<◌, ◌==◌, ◌&&◌, not, Bool, true, false, List, [], ◌∷◌, ◌++◌, length, take, drop, Option, None, Some, is_some, Result, Ok, Err, ◌⊎◌, inl, inr, refl, ap, sym, subst, ◌∙◌, arith}
+use Rattle.std.specs.Prelude.{if◌then◌else◌, decimal, MatchBool, IfSome}
+use Rattle.std.proofs.lemmas.List.{take-append-drop}
+use mathlib.Core.Path.{fun_ext}
+use Rattle.sw_base.specs.Layout.{Channel, slot_at}
+use Rattle.sw_base.specs.declared.reading.Reading.{Reading}
+use Rattle.sw_base.specs.declared.error.ScpiError.{ScpiError}
+use Rattle.sw_base.specs.declared.error.ScpiError.TheVariants.{OutOfMemory, TriggerIgnored, HardwareMissing, SettingsConflict, HardwareError}
+use Rattle.sw_base.specs.declared.terms.LayerName.TheVariants as layer_name
+use Rattle.sw_card.specs.declared.board.CardFault.{CardFault}
+use Rattle.sw_lex.specs.declared.command.Command.{Command}
+use Rattle.sw_trigger.specs.declared.layer.Awaited.{Awaited}
+use Rattle.sw_trigger.specs.declared.layer.Awaited.TheVariants.{Read}
+use Rattle.sw_trigger.specs.Settings.{Setup}
+use Rattle.sw_trigger.specs.Agenda.{Item, Awaits, Close, Open, agenda}
+use Rattle.sw_trigger.specs.Counts.{awaiting, bound_of, reads}
+use Rattle.sw_status.specs.StatusModel.{StatusSeen}
+use Rattle.sw_verify.specs.declared.snapshot.Snapshot.{Snapshot}
+use Rattle.sw_verify.specs.Channels.{Channels, is_among}
+use Rattle.sw_verify.specs.Sound.{effect}
+use Rattle.sw_verify.proofs.Round.{effect-append}
+use Rattle.sw_cage.specs.Rack.{is_closed}
+use Rattle.sw_cage.specs.Channels.{closed_list}
+use Rattle.sw_cage.specs.Cage.{Scanning, CageSeen, fall, ticket_of}
+use Rattle.sw_cage.specs.Install.{stopped}
+use Rattle.sw_cage.specs.Good.{IsRunning, IsHeld, MeterStands}
+use Rattle.sw_cage.specs.Advance.{leading, first_awaited, way, next_place, awaits}
+use Rattle.sw_cage.specs.Takes.{TakesIf, TakesThere, TakesReturnThere}
+use Rattle.sw_cage.specs.Work.{FinishedSeen}
+use Rattle.sw_cage.specs.TakenSeen.{TakenSeen, SaysIgnored, SaysWaits, SaysPause, SaysJob, SaysEnded, SaysFault}
+use Rattle.sw_cage.specs.declared.job.Ticket.{Ticket}
+use Rattle.sw_cage.specs.declared.taken.Happening.{Happening}
+use Rattle.sw_cage.specs.declared.taken.Happening.TheVariants.{Bus, External, Elapsed}
+use Rattle.sw_cage.specs.Goes.{Bays, bays_of, Arrives, Runs, Goes, GoesPastFrom, Counts, begun, with_back, with_reading}
+use Rattle.sw_core.specs.declared.ask.Sid.{Sid}
+use Rattle.sw_core.specs.declared.ask.SessionAsk.{SessionAsk}
+use Rattle.sw_core.specs.declared.ask.SessionAsk.TheVariants as Ask
+use Rattle.sw_core.specs.declared.ask.SessionAnswer.{SessionAnswer}
+use Rattle.sw_core.specs.declared.ask.SessionAnswer.TheVariants as answers
+use Rattle.sw_core.specs.declared.ask.SessionAnswer.TheVariants.{Joined, Full, Stranger, Broken, Done, Refused, Hold, Worn}
+use Rattle.sw_core.specs.Panel.{Panel, opening_at, is_running}
+use Rattle.sw_core.specs.Registers.{number_told, status_set, is_for_idle, waits_for_idle}
+use Rattle.sw_core.specs.Event.{concluded, session_concluded, last_number}
+use Rattle.sw_core.specs.Step.{StepClose, StepOpen, StepFlags, StepText, StepDone, StepSetting, StepRefused, Deed, Tells, SetsUp, Leaves, Refuses, Closes, Opens, Flags, fetched, switched, deed_of, StepDeed, StepFree, StepSet, StepNumber, Happens, session_told, happening_of, StepHappens, StepOffer, StepSnapshot, Starts, StepStart, started_answer, StepCommand, StepJoined, StepJoin, asker_of, StepSession, outside_told, StepOutside, Returns, StepFinished, Acts, acts_unnumbered, IsWorn, IsEvent, IsUnnumbered, Step}
+use Rattle.sw_core.specs.Run.{Event, IsRun}
+use Rattle.sw_core.specs.Ends.{left_at, left_of, left_in, went_on, was_taken, took_command, took, taken_in, begins, BeginsNone, last_of, IsFollowing, EveryScanEnds}
+use Rattle.sw_cage.proofs.Racks.{some_slot, is_none}
+use Rattle.sw_cage.proofs.Runs.{closed_back}
+use Rattle.sw_cage.proofs.Among.{among_closed}
+use Rattle.sw_core.proofs.Kept.{IsKept, inside}
+use Rattle.sw_core.proofs.Safety.{IsFine, none_of, idle_of, step_fine, opening_fine_at}
+use Rattle.sw_core.proofs.Course.{drop_past, leaves, leaves_goes, Holds, SameClosed, same_rack, holds_same, holds_none, holds_goes, holds_on}
+use Rattle.sw_core.specs.View.{WorkView, AskView, AskSession, AskInstall, AskEject, AskExternal, AskElapsed, AskFinished, AnswerView, SaysSession, SaysInstalled, SaysNotInstalled, SaysEjected, SaysNotEjected, SaysTaken, SaysMissed, SaysFailed, SaysBack, SaysWorn}
+
+-- ---- agendas
+
+-- what the first item awaits is the first of what is awaited
+awaited_first : (l : List Item) (x : Awaited) → first_awaited l ≡ Some x → length (awaiting l) ≡ suc (length (awaiting (drop 1 l)))
+awaited_first [] x e = absurd (cc (e))
+awaited_first (Awaits w ∷ l) x e = refl
+awaited_first (Close c ∷ l) x e = absurd (cc (e))
+awaited_first (Open c ∷ l) x e = absurd (cc (e))
+
+-- closings and openings await nothing
+lead_awaits : (l : List Item) → awaiting (drop (length (leading l)) l) ≡ awaiting l
+lead_awaits [] = refl
+lead_awaits (Awaits w ∷ l) = refl
+lead_awaits (Close c ∷ l) = lead_awaits l
+lead_awaits (Open c ∷ l) = lead_awaits l
+
+-- what they lead to awaits, or is the end
+lead_ends : (l : List Item) → first_awaited (drop (length (leading l)) l) ≡ None → awaiting l ≡ []
+lead_ends [] e = refl
+lead_ends (Awaits w ∷ l) e = absurd (cc (e))
+lead_ends (Close c ∷ l) e = lead_ends l e
+lead_ends (Open c ∷ l) e = lead_ends l e
+
+-- one awaited item is passed
+left_past : (at : Scanning) (x : Awaited) → awaits at ≡ Some x → left_at at ≡ suc (length (awaiting (drop (at.index + 1) (agenda at.setup))))
+left_past at x e = awaited_first (drop at.index (agenda at.setup)) x e ∙ ap (λ (l : List Item). suc (length (awaiting l))) (sym (drop_past at.index 1 (agenda at.setup)))
+
+-- and the next is come to
+left_next : (s : Setup) (i : ℕ) → left_at (next_place s i) ≡ length (awaiting (drop i (agenda s)))
+left_next s i = ap (λ (l : List Item). length (awaiting l)) (drop_past i (length (way s i)) (agenda s)) ∙ ap (λ (l : List Awaited). length l) (lead_awaits (drop i (agenda s)))
+
+left_none : (s : Setup) (i : ℕ) → awaits (next_place s i) ≡ None → length (awaiting (drop i (agenda s))) ≡ 0
+left_none s i e = ap (λ (l : List Awaited). length l) (lead_ends (drop i (agenda s)) (ap first_awaited (sym (drop_past i (length (way s i)) (agenda s))) ∙ e))
+
+-- ---- scans
+
+-- where a scan is that came to the next awaited item from item i on
+left_arrives : (old new : Bays) (number : ℕ) (s : Setup) (i : ℕ) (told : TakenSeen) (scan : Option Scanning) → Arrives old number (next_place s i) told new scan → left_of scan ≡ length (awaiting (drop i (agenda s)))
+left_arrives old new number s i SaysWaits scan h = ap left_of h.2 ∙ left_next s i
+left_arrives old new number s i (SaysPause ticket micros) scan h = ap left_of h.3 ∙ left_next s i
+left_arrives old new number s i (SaysJob job) scan h = ap left_of h.2 ∙ left_next s i
+left_arrives old new number s i SaysEnded scan h = ap left_of h.2 ∙ sym (left_none s i h.0)
+left_arrives old new number s i told scan h = absurd h
+
+-- unless a card failed, which ends it
+abbrev IsLeft : Option Scanning → ℕ → Type 0
+IsLeft scan n = (left_of scan ≡ n) ⊎ (scan ≡ None)
+
+left_runs : (old new : Bays) (number : ℕ) (s : Setup) (i : ℕ) (told : TakenSeen) (scan : Option Scanning) → Runs old number (way s i) (next_place s i) told new scan → IsLeft scan (length (awaiting (drop i (agenda s))))
+left_runs old new number s i SaysFault scan h = inr h.over
+left_runs old new number s i SaysIgnored scan h = inl (left_arrives (record old { rack = h.rack }) new number s i SaysIgnored scan h.arrives)
+left_runs old new number s i SaysWaits scan h = inl (left_arrives (record old { rack = h.rack }) new number s i SaysWaits scan h.arrives)
+left_runs old new number s i (SaysPause ticket micros) scan h = inl (left_arrives (record old { rack = h.rack }) new number s i (SaysPause ticket micros) scan h.arrives)
+left_runs old new number s i (SaysJob job) scan h = inl (left_arrives (record old { rack = h.rack }) new number s i (SaysJob job) scan h.arrives)
+left_runs old new number s i SaysEnded scan h = inl (left_arrives (record old { rack = h.rack }) new number s i SaysEnded scan h.arrives)
+
+-- From p to q so many happenings are taken, and as many less are awaited, unless the scan is over. No scan begins.
+pub record Nears (p : Panel) (taken : ℕ) (q : Panel) : Type 0 where
+  pub most : taken ≤ left_in p
+  pub left : (taken + left_in q ≡ left_in p) ⊎ (q.cage.scan ≡ None)
+  pub idle : p.cage.scan ≡ None → q.cage.scan ≡ None
+  pub holds : Holds p.cage q.cage
+
+near_same : (p q : Panel) → q.cage.scan ≡ p.cage.scan → SameClosed p.cage q.cage → Nears p 0 q
+near_same p q e r = record { most = omega arith; left = inl (omega (arith, (let n : left_in q ≡ left_in p = ap left_of e in n))); idle = λ i. e ∙ i; holds = holds_same p.cage q.cage e r }
+
+near_is : (p q : Panel) → q ≡ p → Nears p 0 q
+near_is p q e = near_same p q (ap (λ (x : Panel). x.cage.scan) e) (λ c. ap (λ (x : Panel). is_closed x.cage.rack c) e)
+
+near_none : (p q : Panel) → q.cage.scan ≡ None → Nears p 0 q
+near_none p q e = record { most = omega arith; left = inr e; idle = λ i. e; holds = holds_none p.cage q.cage e }
+
+near_goes : (p q : Panel) (from : CageSeen) (at : Scanning) (x : Awaited) (told : TakenSeen) → p.cage.scan ≡ Some at → awaits at ≡ Some x → SameClosed p.cage from → Goes from at.setup (at.index + 1) told q.cage → Nears p 1 q
+near_goes p q from at x told is e same g = by_left (length (awaiting (drop (at.index + 1) (agenda at.setup)))) (ap left_of is ∙ left_past at x e) (left_runs (bays_of from) (bays_of q.cage) from.number at.setup (at.index + 1) told q.cage.scan g.runs)
+  where
+    by_left : (n : ℕ) → left_in p ≡ suc n → IsLeft q.cage.scan n → Nears p 1 q
+    by_left n l (inl m) = record { most = omega (arith, l); left = inl (omega (arith, l, m)); idle = λ i. absurd (let r = sym is ∙ i in cc (r)); holds = holds_goes p.cage q.cage from at x told is e same g }
+    by_left n l (inr m) = record { most = omega (arith, l); left = inr m; idle = λ i. m; holds = holds_none p.cage q.cage m }
+
+takes_some : (s : Setup) (present : Ticket) (o : Option Awaited) (happening : Happening) → TakesIf s present o happening → (x : Awaited) × (o ≡ Some x)
+takes_some s present None happening h = absurd h
+takes_some s present (Some x) happening h = (x, refl)
+
+near_past : (p q : Panel) (happening : Happening) (told : TakenSeen) (scan : Option Scanning) → p.cage.scan ≡ scan → TakesThere p.cage.number scan happening → GoesPastFrom p.cage scan told q.cage → Nears p 1 q
+near_past p q happening told None is h g = absurd h
+near_past p q happening told (Some at) is h g = let x = takes_some at.setup (ticket_of p.cage.number at) (awaits at) happening h in near_goes p q p.cage at x.0 told is x.1 (λ c. refl) g
+
+abbrev of_taken : TakenSeen → ℕ
+of_taken SaysIgnored = 0
+of_taken told = 1
+
+near_happens : (p : Panel) (happening : Happening) (f : Bool) (told : TakenSeen) (q : Panel) → Happens p happening f told q → Nears p (of_taken told) q
+near_happens p happening f SaysIgnored q h = near_is p q h.2
+near_happens p happening f SaysWaits q h = near_past p q happening SaysWaits p.cage.scan refl h.0 h.1
+near_happens p happening f (SaysPause t u) q h = near_past p q happening (SaysPause t u) p.cage.scan refl h.0 h.1
+near_happens p happening f (SaysJob job) q h = near_past p q happening (SaysJob job) p.cage.scan refl h.0 h.1
+near_happens p happening f SaysEnded q h = near_past p q happening SaysEnded p.cage.scan refl h.0 h.1
+near_happens p happening f SaysFault q h = near_past p q happening SaysFault p.cage.scan refl h.0 h.1
+
+-- a meter's return that the scan takes
+near_counted : (p q : Panel) (done : FinishedSeen) (told : TakenSeen) (scan : Option Scanning) (outcome : Result Reading CardFault) → p.cage.scan ≡ scan → TakesReturnThere p.cage.number scan done.slot done.ticket → SameClosed p.cage (with_back p.cage done) → Counts (with_back p.cage done) outcome told q.cage → Nears p 1 q
+near_counted p q done told None outcome is h same g = absurd h
+near_counted p q done told (Some at) (Ok r) is h same g =
+    let from : CageSeen = with_reading (with_back p.cage done) r in
+    near_goes p q from at Read told is h.reading same (subst (λ (o : Option Scanning). GoesPastFrom from o told q.cage) is g)
+near_counted p q done told (Some at) (Err e) is h same g =
+    let n : left_in p ≡ suc (length (awaiting (drop (at.index + 1) (agenda at.setup)))) = ap left_of is ∙ left_past at Read h.reading in
+    let over : q.cage.scan ≡ None = ap (λ (x : CageSeen). x.scan) g.1 in
+    record { most = omega (arith, n); left = inr over; idle = λ i. over; holds = holds_none p.cage q.cage over }
+
+-- a meter that comes back closes and opens nothing
+same_back : (c : CageSeen) (done : FinishedSeen) → IsHeld c → slot_at c.out done.slot ≡ Some done.ticket → SameClosed c (with_back c done)
+same_back c done k e =
+    let out : is_some (slot_at c.out done.slot) ≡ true = ap (λ o. is_some o) e in
+    let b : (0 < done.slot) × (done.slot ≤ length c.out) = some_slot c.out done.slot out in
+    closed_back c.rack done.slot done.meter (omega (arith, b.0)) (omega (arith, b.1, k.outs, k.slots)) (k.empty done.slot out)
+
+near_returns : (p : Panel) (done : FinishedSeen) (f : Bool) (told : TakenSeen) (q : Panel) → SameClosed p.cage (with_back p.cage done) → Returns p done f told q → Nears p (of_taken told) q
+near_returns p done f SaysIgnored q same h = near_same p q (ap (λ (x : Panel). x.cage.scan) h.2) (λ c. ap (λ (x : Panel). is_closed x.cage.rack c) h.2 ∙ same c)
+near_returns p done f SaysWaits q same h = near_counted p q done SaysWaits p.cage.scan done.outcome refl h.0 same h.1
+near_returns p done f (SaysPause t u) q same h = near_counted p q done (SaysPause t u) p.cage.scan done.outcome refl h.0 same h.1
+near_returns p done f (SaysJob job) q same h = near_counted p q done (SaysJob job) p.cage.scan done.outcome refl h.0 same h.1
+near_returns p done f SaysEnded q same h = near_counted p q done SaysEnded p.cage.scan done.outcome refl h.0 same h.1
+near_returns p done f SaysFault q same h = near_counted p q done SaysFault p.cage.scan done.outcome refl h.0 same h.1
+
+-- ---- commands
+
+-- a deed leaves the cage with the scan that there was, or no scan runs then
+abbrev IsStill : Panel → Panel → Type 0
+IsStill p q = (q.cage ≡ p.cage) ⊎ (q.cage.scan ≡ None)
+
+near_still : (p q : Panel) → IsStill p q → Nears p 0 q
+near_still p q (inl e) = near_same p q (ap (λ (x : CageSeen). x.scan) e) (same_rack p.cage q.cage (ap (λ (x : CageSeen). x.rack) e))
+near_still p q (inr e) = near_none p q e
+
+still_as : (p q : Panel) → q ≡ p → IsStill p q
+still_as p q e = inl (ap (λ (x : Panel). x.cage) e)
+
+-- no scan ran, and none does
+still_idle : (p q : Panel) → p.cage.scan ≡ None → q.cage.scan ≡ p.cage.scan → IsStill p q
+still_idle p q i e = inr (e ∙ i)
+
+abbrev IsStillDeed : Panel → Deed → Type 0
+IsStillDeed p (Tells text status) = Unit {0}
+IsStillDeed p (SetsUp Fits error setup) = Unit {0}
+IsStillDeed p (Leaves after) = IsStill p after
+IsStillDeed p (Refuses error) = Unit {0}
+IsStillDeed p (Closes chans) = p.cage.scan ≡ None
+IsStillDeed p (Opens chans) = p.cage.scan ≡ None
+IsStillDeed p (Flags closed chans) = Unit {0}
+
+still_fetched : (readings : List Reading) (status : StatusSeen) (p : Panel) → IsStillDeed p (fetched readings status)
+still_fetched [] status p = tt
+still_fetched (r ∷ readings) status p = tt
+
+still_switched : (on : Bool) (p : Panel) → IsStillDeed p (switched on p)
+still_switched true p = tt
+still_switched false p = inl refl
+
+still_command : (p : Panel) (command : Command) → (is_running p && is_for_idle command) ≡ false → IsStillDeed p (deed_of p command)
+still_command p Command.Fetch i = still_fetched p.cage.readings p.status p
+still_command p (Command.SetSource layer source) i = inl refl
+still_command p (Command.Close chans) i = none_of p (idle_of p i)
+still_command p (Command.Open chans) i = none_of p (idle_of p i)
+still_command p Command.OpenAll i = inr (none_of p (idle_of p i))
+still_command p Command.Abort i = inr refl
+still_command p Command.Reset i = inr refl
+still_command p Command.ClearStatus i = inl refl
+still_command p Command.OperationComplete i = inl refl
+still_command p Command.Wait i = inl refl
+still_command p (Command.InitiateContinuous on) i = still_switched on p
+still_command p command i = tt
+
+still_close : (p : Panel) (chans : List Channel) (f : Bool) (a : SessionAnswer) (q : Panel) → p.cage.scan ≡ None → StepClose p chans f a q → IsStill p q
+still_close p chans f (Done None) q i h = still_idle p q i (ap (λ (x : Panel). x.cage.scan) h.3)
+still_close p chans f (Refused HardwareMissing) q i h = still_as p q h.2
+still_close p chans f (Refused SettingsConflict) q i h = still_as p q h.2
+still_close p chans f (Refused HardwareError) q i h = still_idle p q i (ap (λ (x : Panel). x.cage.scan) h.2.1)
+still_close p chans f a q i h = absurd h
+
+still_open : (p : Panel) (chans : List Channel) (f : Bool) (a : SessionAnswer) (q : Panel) → p.cage.scan ≡ None → StepOpen p chans f a q → IsStill p q
+still_open p chans f (Done None) q i h = still_idle p q i (ap (λ (x : Panel). x.cage.scan) h.3)
+still_open p chans f (Refused HardwareMissing) q i h = still_as p q h.2
+still_open p chans f (Refused HardwareError) q i h = still_idle p q i (ap (λ (x : Panel). x.cage.scan) h.2.1)
+still_open p chans f a q i h = absurd h
+
+still_flags : (p : Panel) (closed : Bool) (chans : List Channel) (f : Bool) (a : SessionAnswer) (q : Panel) → StepFlags p closed chans f a q → IsStill p q
+still_flags p closed chans f (Done (Some text)) q h = still_as p q h.3
+still_flags p closed chans f (Refused HardwareMissing) q h = still_as p q h.2
+still_flags p closed chans f (Refused OutOfMemory) q h = still_as p q h.2
+still_flags p closed chans f a q h = absurd h
+
+still_text : (p : Panel) (text : List ℕ) (status : StatusSeen) (f : Bool) (a : SessionAnswer) (q : Panel) → StepText p text status f a q → IsStill p q
+still_text p text status f (Done (Some t)) q h = inl (ap (λ (x : Panel). x.cage) h.2)
+still_text p text status f (Refused OutOfMemory) q h = still_as p q h.1
+still_text p text status f a q h = absurd h
+
+still_done : (p after : Panel) (f : Bool) (a : SessionAnswer) (q : Panel) → IsStill p after → StepDone after f a q → IsStill p q
+still_done p after f (Done None) q s h = subst (λ (x : Panel). IsStill p x) (sym h.1) s
+still_done p after f a q s h = absurd h
+
+still_setting : (p : Panel) (Fits : Type 0) (error : ScpiError) (setup : Setup) (f : Bool) (a : SessionAnswer) (q : Panel) → StepSetting p Fits error setup f a q → IsStill p q
+still_setting p Fits error setup f (Done None) q h = inl (ap (λ (x : Panel). x.cage) h.2)
+still_setting p Fits error setup f (Refused e) q h = still_as p q h.3
+still_setting p Fits error setup f a q h = absurd h
+
+still_refused : (p : Panel) (error : ScpiError) (f : Bool) (a : SessionAnswer) (q : Panel) → StepRefused p error f a q → IsStill p q
+still_refused p error f (Refused e) q h = still_as p q h.2
+still_refused p error f a q h = absurd h
+
+still_deed : (d : Deed) (p : Panel) (f : Bool) (a : SessionAnswer) (q : Panel) → IsStillDeed p d → StepDeed d p f a q → IsStill p q
+still_deed (Tells text status) p f a q n h = still_text p text status f a q h
+still_deed (SetsUp Fits error setup) p f a q n h = still_setting p Fits error setup f a q h
+still_deed (Leaves after) p f a q n h = still_done p after f a q n h
+still_deed (Refuses error) p f a q n h = still_refused p error f a q h
+still_deed (Closes chans) p f a q n h = still_close p chans f a q n h
+still_deed (Opens chans) p f a q n h = still_open p chans f a q n h
+still_deed (Flags closed chans) p f a q n h = still_flags p closed chans f a q h
+
+still_free : (b : Bool) (p : Panel) (command : Command) (f : Bool) (a : SessionAnswer) (q : Panel) → (is_running p && is_for_idle command) ≡ b → StepFree b p command f a q → IsStill p q
+still_free true p command f a q i h = still_refused p SettingsConflict f a q h
+still_free false p command f a q i h = still_deed (deed_of p command) p f a q (still_command p command i) h
+
+still_set : (o : Option StatusSeen) (p : Panel) (command : Command) (f : Bool) (a : SessionAnswer) (q : Panel) → StepSet o p command f a q → IsStill p q
+still_set (Some status) p command f a q h = still_done p (record p { status = status }) f a q (inl refl) h
+still_set None p command f a q h = still_free (is_running p && is_for_idle command) p command f a q refl h
+
+still_number : (o : Option ℕ) (p : Panel) (command : Command) (f : Bool) (a : SessionAnswer) (q : Panel) → StepNumber o p command f a q → IsStill p q
+still_number (Some n) p command f a q h = still_text p (decimal n) p.status f a q h
+still_number None p command f a q h = still_set (status_set p.status command) p command f a q h
+
+-- ---- sessions
+
+-- what is refused where no scan takes a happening is no card's failure
+abbrev IsQuiet : Option (Happening × ScpiError) → Type 0
+IsQuiet None = Unit {0}
+IsQuiet (Some offer) = went_on (Refused offer.1) ≡ 0
+
+quiet_of : (command : Command) → IsQuiet (happening_of command)
+quiet_of Command.Trigger = refl
+quiet_of (Command.Signal layer_name.Trigger) = refl
+quiet_of (Command.Signal layer_name.Arm1) = refl
+quiet_of (Command.Signal layer_name.Arm2) = refl
+quiet_of command = tt
+
+went_told : (error : ScpiError) (told : TakenSeen) → went_on (Refused error) ≡ 0 → went_on (session_told error told) ≡ of_taken told
+went_told error SaysIgnored q = q
+went_told error SaysWaits q = refl
+went_told error (SaysPause t u) q = refl
+went_told error (SaysJob job) q = refl
+went_told error SaysEnded q = refl
+went_told error SaysFault q = refl
+
+near_told : (p : Panel) (happening : Happening) (error : ScpiError) (f : Bool) (a : SessionAnswer) (w : Option WorkView) (q : Panel) → went_on (Refused error) ≡ 0 → StepHappens p happening error f a w q → Nears p (went_on a) q
+near_told p happening error f a w q quiet h = subst (λ (n : ℕ). Nears p n q) (sym (ap went_on h.answer_is ∙ went_told error h.told quiet)) (near_happens p happening f h.told q h.happens)
+
+near_offer : (o : Option (Happening × ScpiError)) (p : Panel) (answered : Bool) (command : Command) (f : Bool) (a : SessionAnswer) (w : Option WorkView) (q : Panel) → IsQuiet o → StepOffer o p answered command f a w q → Nears p (took_command o a) q
+near_offer (Some offer) p answered command f a w q quiet h = near_told p offer.0 offer.1 f a w q quiet h
+near_offer None p answered command f a w q quiet h = near_still p q (still_number (number_told p answered command) p command f a q h.0)
+
+-- what is held is no happening
+near_held : (o : Option (Happening × ScpiError)) (ask : SessionAsk) (p q : Panel) → q ≡ p → Nears p (took_command o (Hold ask)) q
+near_held (Some offer) ask p q e = near_still p q (still_as p q e)
+near_held None ask p q e = near_still p q (still_as p q e)
+
+near_command : (b : Bool) (p : Panel) (ask : SessionAsk) (answered : Bool) (command : Command) (f : Bool) (a : SessionAnswer) (w : Option WorkView) (q : Panel) → StepCommand b p ask answered command f a w q → Nears p (took_command (happening_of command) a) q
+near_command true p ask answered command f (Hold x) None q h = near_held (happening_of command) x p q h.2
+near_command true p ask answered command f a w q h = absurd h
+near_command false p ask answered command f a w q h = near_offer (happening_of command) p answered command f a w q (quiet_of command) h
+
+still_snapshot : (p : Panel) (f : Bool) (a : SessionAnswer) (q : Panel) → StepSnapshot p f a q → IsStill p q
+still_snapshot p f (answers.Snapshot s) q h = still_as p q h.3
+still_snapshot p f (Refused OutOfMemory) q h = still_as p q h.2
+still_snapshot p f (Refused e) q h = still_as p q h.2
+still_snapshot p f a q h = absurd h
+
+fault_told : (told : TakenSeen) → Refused HardwareError ≡ started_answer told → told ≡ SaysFault
+fault_told SaysFault e = refl
+fault_told told e = absurd (cc (e))
+
+-- a start that begins no scan: it is refused, or a card failed on the way
+still_start : (p : Panel) (sid : Sid) (plan : Snapshot) (f : Bool) (a : SessionAnswer) (w : Option WorkView) (q : Panel) → begins (AskSession (Ask.Start sid plan)) (SaysSession a w) ≡ false → StepStart p plan f a w q → IsStill p q
+still_start p sid plan f (Done None) w q n h = absurd (cc (n))
+still_start p sid plan f (Refused HardwareError) w q n h =
+    let g : Goes (begun p.cage) p.settings 0 SaysFault q.cage = subst (λ (t : TakenSeen). Goes (begun p.cage) p.settings 0 t q.cage) (fault_told h.told h.answer_is) h.starts.3 in
+    let r : Runs (bays_of (begun p.cage)) (p.cage.number + 1) (way p.settings 0) (next_place p.settings 0) SaysFault (bays_of q.cage) q.cage.scan = g.runs in
+    inr r.over
+still_start p sid plan f (Refused OutOfMemory) None q n h = still_as p q h.2
+still_start p sid plan f (Refused SettingsConflict) None q n h = still_as p q h.2
+still_start p sid plan f (Refused e) None q n h = still_as p q h.2
+still_start p sid plan f a w q n h = absurd h
+
+near_joined : (p : Panel) (ask : SessionAsk) (f : Bool) (a : SessionAnswer) (w : Option WorkView) (q : Panel) → begins (AskSession ask) (SaysSession a w) ≡ false → StepJoined p ask f a w q → Nears p (took (AskSession ask) (SaysSession a w)) q
+near_joined p (Ask.Leave sid) f (Done None) None q n h = near_still p q (inl (ap (λ (x : Panel). x.cage) h.1))
+near_joined p (Ask.Fault sid e) f (Done None) None q n h = near_still p q (inl (ap (λ (x : Panel). x.cage) h.1))
+near_joined p (Ask.Unit sid command answered) f a w q n h = near_command (is_running p && waits_for_idle command) p (Ask.Unit sid command answered) answered command f a w q h
+near_joined p (Ask.Bus sid) f a w q n h = near_told p Bus TriggerIgnored f a w q refl h
+near_joined p (Ask.Snapshot sid) f a None q n h = near_still p q (still_snapshot p f a q h)
+near_joined p (Ask.Start sid plan) f a w q n h = near_still p q (still_start p sid plan f a w q n h)
+near_joined p ask f a w q n h = absurd h
+
+still_join : (p : Panel) (f : Bool) (a : SessionAnswer) (w : Option WorkView) (q : Panel) → StepJoin p f a w q → IsStill p q
+still_join p f (Joined sid) None q h = inl (ap (λ (x : Panel). x.cage) h.3)
+still_join p f Full None q h = still_as p q h.2
+still_join p f a w q h = absurd h
+
+-- what a stranger asks is not taken
+took_none : (ask : SessionAsk) (w : Option WorkView) → took (AskSession ask) (SaysSession Stranger w) ≡ 0
+took_none (Ask.Unit sid command answered) w = none_of (happening_of command)
+  where
+    none_of : (o : Option (Happening × ScpiError)) → took_command o Stranger ≡ 0
+    none_of None = refl
+    none_of (Some offer) = refl
+took_none (Ask.Bus sid) w = refl
+took_none ask w = refl
+
+near_known : (sid : Sid) (p : Panel) (ask : SessionAsk) (f : Bool) (a : SessionAnswer) (w : Option WorkView) (q : Panel) → begins (AskSession ask) (SaysSession a w) ≡ false → StepSession (Some sid) p ask f a w q → Nears p (took (AskSession ask) (SaysSession a w)) q
+near_known sid p ask f Stranger None q n h = subst (λ (k : ℕ). Nears p k q) (sym (took_none ask None)) (near_still p q (still_as p q h.2))
+near_known sid p ask f a w q n h = near_joined p ask f a w q n h.1
+
+near_session : (p : Panel) (ask : SessionAsk) (f : Bool) (a : SessionAnswer) (w : Option WorkView) (q : Panel) → begins (AskSession ask) (SaysSession a w) ≡ false → StepSession (asker_of ask) p ask f a w q → Nears p (took (AskSession ask) (SaysSession a w)) q
+near_session p Ask.Join f a w q n h = near_still p q (still_join p f a w q h)
+near_session p (Ask.Leave sid) f a w q n h = near_known sid p (Ask.Leave sid) f a w q n h
+near_session p (Ask.Unit sid command answered) f a w q n h = near_known sid p (Ask.Unit sid command answered) f a w q n h
+near_session p (Ask.Fault sid e) f a w q n h = near_known sid p (Ask.Fault sid e) f a w q n h
+near_session p (Ask.Bus sid) f a w q n h = near_known sid p (Ask.Bus sid) f a w q n h
+near_session p (Ask.Snapshot sid) f a w q n h = near_known sid p (Ask.Snapshot sid) f a w q n h
+near_session p (Ask.Start sid plan) f a w q n h = near_known sid p (Ask.Start sid plan) f a w q n h
+
+-- ---- events
+
+was_told : (told : TakenSeen) → was_taken (outside_told told) ≡ of_taken told
+was_told SaysIgnored = refl
+was_told SaysWaits = refl
+was_told (SaysPause t u) = refl
+was_told (SaysJob job) = refl
+was_told SaysEnded = refl
+was_told SaysFault = refl
+
+near_outside : (p : Panel) (happening : Happening) (f : Bool) (a : AnswerView) (q : Panel) → StepOutside p happening f a q → Nears p (was_taken a) q
+near_outside p happening f a q h = subst (λ (n : ℕ). Nears p n q) (sym (ap was_taken h.answer_is ∙ was_told h.told)) (near_happens p happening f h.told q h.happens)
+
+near_finished : (p : Panel) (done : FinishedSeen) (f : Bool) (a : AnswerView) (q : Panel) → IsHeld p.cage → StepFinished p done f a q → Nears p (was_taken a) q
+near_finished p done f SaysBack q k h = near_is p q h.2
+near_finished p done f a q k h = subst (λ (n : ℕ). Nears p n q) (sym (ap was_taken h.answer_is ∙ was_told h.told)) (near_returns p done f h.told q (same_back p.cage done k h.out) h.returns)
+
+stopped_none : (c : CageSeen) → (stopped c).scan ≡ None
+stopped_none c = by_scan (is_some c.scan) refl
+  where
+    by_scan : (b : Bool) → is_some c.scan ≡ b → (if b then fall c else c).scan ≡ None
+    by_scan true e = refl
+    by_scan false e = is_none c.scan e
+
+near_acts : (p : Panel) (ask : AskView) (f : Bool) (a : AnswerView) (q : Panel) → IsHeld p.cage → begins ask a ≡ false → Acts p ask f a q → Nears p (took ask a) q
+near_acts p (AskSession ask) f (SaysSession a w) q k n h = near_session p ask f a w q n h
+near_acts p (AskInstall slot card) f SaysInstalled q k n h = near_still p q (still_idle p q (none_of p h.1) (ap (λ (x : Panel). x.cage.scan) h.4))
+near_acts p (AskInstall slot card) f (SaysNotInstalled refusal) q k n h = near_is p q h.2
+near_acts p (AskEject slot) f (SaysEjected card) q k n h = near_none p q (ap (λ (x : Panel). x.cage.scan) h.3 ∙ stopped_none p.cage)
+near_acts p (AskEject slot) f (SaysNotEjected refusal) q k n h = near_is p q h.2
+near_acts p AskExternal f a q k n h = near_outside p External f a q h
+near_acts p (AskElapsed ticket) f a q k n h = near_outside p (Elapsed ticket) f a q h
+near_acts p (AskFinished done) f a q k n h = near_finished p done f a q k h
+near_acts p ask f a q k n h = absurd h
+
+-- the end of an event changes no scan
+session_scan : (a : SessionAnswer) (p : Panel) → (session_concluded a p).cage ≡ p.cage
+session_scan Stranger p = refl
+session_scan Broken p = refl
+session_scan (Hold ask) p = refl
+session_scan (Worn ask) p = refl
+session_scan (Refused e) p = refl
+session_scan (Joined sid) p = refl
+session_scan Full p = refl
+session_scan (Done text) p = refl
+session_scan (answers.Snapshot s) p = refl
+
+concluded_scan : (a : AnswerView) (p : Panel) → (concluded a p).cage ≡ p.cage
+concluded_scan (SaysSession a w) p = session_scan a p
+concluded_scan SaysInstalled p = refl
+concluded_scan (SaysNotInstalled refusal) p = refl
+concluded_scan (SaysEjected card) p = refl
+concluded_scan (SaysNotEjected refusal) p = refl
+concluded_scan (SaysTaken work) p = refl
+concluded_scan SaysMissed p = refl
+concluded_scan SaysFailed p = refl
+concluded_scan SaysBack p = refl
+concluded_scan SaysWorn p = refl
+
+near_as : (p q r : Panel) (n : ℕ) → r.cage ≡ q.cage → Nears p n q → Nears p n r
+near_as p q r n e h =
+    let s : r.cage.scan ≡ q.cage.scan = ap (λ (c : CageSeen). c.scan) e in
+    record {
+      most = h.most;
+      left = elim h.left [ inl l ↦ inl (ap (λ (o : Option Scanning). n + left_of o) s ∙ l) | inr i ↦ inr (s ∙ i) ];
+      idle = λ i. s ∙ h.idle i;
+      holds = subst (λ (c : CageSeen). Holds p.cage c) (sym e) h.holds;
+    }
+
+near_event : (p : Panel) (ask : AskView) (f : Bool) (a : AnswerView) (q : Panel) → IsHeld p.cage → begins ask a ≡ false → IsEvent p ask f a q → Nears p (took ask a) q
+near_event p ask f a q k n h = near_as p h.done q (took ask a) (ap (λ (x : Panel). x.cage) h.after ∙ concluded_scan a h.done) (near_acts p ask f a h.done k n h.acts)
+
+-- what is handed back is not taken
+took_worn : (ask : AskView) (a : AnswerView) → IsWorn ask a → took ask a ≡ 0
+took_worn (AskSession (Ask.Unit sid command answered)) (SaysSession (Worn back) None) h = by_kind (happening_of command) back
+  where
+    by_kind : (o : Option (Happening × ScpiError)) (back : SessionAsk) → took_command o (Worn back) ≡ 0
+    by_kind None back = refl
+    by_kind (Some offer) back = refl
+took_worn (AskSession (Ask.Bus sid)) (SaysSession (Worn back) None) h = refl
+took_worn (AskSession Ask.Join) (SaysSession (Worn back) None) h = refl
+took_worn (AskSession (Ask.Leave sid)) (SaysSession (Worn back) None) h = refl
+took_worn (AskSession (Ask.Fault sid e)) (SaysSession (Worn back) None) h = refl
+took_worn (AskSession (Ask.Snapshot sid)) (SaysSession (Worn back) None) h = refl
+took_worn (AskSession (Ask.Start sid plan)) (SaysSession (Worn back) None) h = refl
+took_worn (AskInstall slot card) SaysWorn h = refl
+took_worn (AskEject slot) SaysWorn h = refl
+took_worn AskExternal SaysWorn h = refl
+took_worn (AskElapsed ticket) SaysWorn h = refl
+took_worn (AskFinished done) SaysWorn h = refl
+took_worn ask a h = absurd h
+
+near_either : (b : Bool) (p : Panel) (ask : AskView) (f : Bool) (a : AnswerView) (q : Panel) → IsHeld p.cage → begins ask a ≡ false → MatchBool b (IsUnnumbered p ask f a q) (IsEvent p ask f a q) → Nears p (took ask a) q
+near_either true p ask f a q k n h = subst (λ (k : ℕ). Nears p k q) (sym (took_worn ask a h.worn)) (near_still p q (still_as p q h.same))
+near_either false p ask f a q k n h = near_event p ask f a q k n h
+
+near_step : (p : Panel) (ask : AskView) (f : Bool) (a : AnswerView) (q : Panel) → IsHeld p.cage → begins ask a ≡ false → Step p ask f a q → Nears p (took ask a) q
+near_step p ask f a q k n h = near_either ((p.events == last_number) && not (acts_unnumbered ask)) p ask f a q k n h
+
+-- ---- runs
+
+near_on : (p m q : Panel) (a b : ℕ) → Nears p a m → Nears m b q → Nears p (a + b) q
+near_on p m q a b h k = by_first h.left k.left
+  where
+    by_first : (a + left_in m ≡ left_in p) ⊎ (m.cage.scan ≡ None) → (b + left_in q ≡ left_in m) ⊎ (q.cage.scan ≡ None) → Nears p (a + b) q
+    by_first (inl l) (inl r) = record { most = omega (arith, l, k.most); left = inl (omega (arith, l, r)); idle = λ i. k.idle (h.idle i); holds = holds_on p.cage m.cage q.cage h.holds k.holds }
+    by_first (inl l) (inr r) = record { most = omega (arith, l, k.most); left = inr r; idle = λ i. r; holds = holds_none p.cage q.cage r }
+    by_first (inr i) r =
+        let none : left_in m ≡ 0 = ap left_of i in
+        record { most = omega (arith, h.most, k.most, none); left = inr (k.idle i); idle = λ e. k.idle i; holds = holds_none p.cage q.cage (k.idle i) }
+
+near_run : (p : Panel) (events : List Event) → IsFine p → IsRun p events → BeginsNone events → Nears p (taken_in events) (last_of p events)
+near_run p [] k r n = near_is p p refl
+near_run p (e ∷ events) k r n =
+    let on : IsFine e.panel = step_fine p e.ask e.failed e.answer e.panel k r.0 in
+    near_on p e.panel (last_of e.panel events) (took e.ask e.answer) (taken_in events) (near_step p e.ask e.failed e.answer e.panel k.cage.good.held n.0 r.0) (near_run e.panel events on r.1 n.1)
+
+-- ---- a scan begins
+
+-- a scan that begins awaits all of its agenda
+left_started : (old new : Bays) (number : ℕ) (s : Setup) (i : ℕ) (told : TakenSeen) (scan : Option Scanning) → started_answer told ≡ Done None → Runs old number (way s i) (next_place s i) told new scan → left_of scan ≡ length (awaiting (drop i (agenda s)))
+left_started old new number s i SaysFault scan e h = absurd (cc (e))
+left_started old new number s i SaysIgnored scan e h = left_arrives (record old { rack = h.rack }) new number s i SaysIgnored scan h.arrives
+left_started old new number s i SaysWaits scan e h = left_arrives (record old { rack = h.rack }) new number s i SaysWaits scan h.arrives
+left_started old new number s i (SaysPause ticket micros) scan e h = left_arrives (record old { rack = h.rack }) new number s i (SaysPause ticket micros) scan h.arrives
+left_started old new number s i (SaysJob job) scan e h = left_arrives (record old { rack = h.rack }) new number s i (SaysJob job) scan h.arrives
+left_started old new number s i SaysEnded scan e h = left_arrives (record old { rack = h.rack }) new number s i SaysEnded scan h.arrives
+
+-- The scan of a plan begins: it awaits all of its agenda, and would leave closed what the plan found closed.
+record Begun (plan : Snapshot) (c : CageSeen) : Type 0 where
+  left : left_of c.scan ≡ bound_of plan.settings
+  held : (at : Scanning) → c.scan ≡ Some at → (at.setup ≡ plan.settings) × (leaves c.rack at ≡ is_among plan.closed)
+
+begun_by : (p q : Panel) (plan : Snapshot) (f : Bool) (told : TakenSeen) → IsKept p.cage → started_answer told ≡ Done None → Starts p plan f told q → Begun plan q.cage
+begun_by p q plan f told k e h =
+    let settings : plan.settings ≡ p.settings = ap (λ (s : Snapshot). s.settings) h.1 in
+    let listed : plan.closed ≡ closed_list p.cage.rack = ap (λ (s : Snapshot). s.closed) h.1 in
+    let found : is_closed p.cage.rack ≡ is_among plan.closed = sym (fun_ext (among_closed p.cage.rack (inside p.cage k))) ∙ ap is_among (sym listed) in
+    record {
+      left = left_started (bays_of (begun p.cage)) (bays_of q.cage) (p.cage.number + 1) p.settings 0 told q.cage.scan e h.3.runs ∙ ap bound_of (sym settings);
+      held = λ at is.
+          let r = leaves_goes (bays_of (begun p.cage)) (bays_of q.cage) (p.cage.number + 1) p.settings 0 told q.cage.scan at h.3.runs is in
+          let all : effect (is_closed p.cage.rack) (agenda p.settings) ≡ is_among plan.closed =
+          ap (λ (b : Channels). effect b (agenda p.settings)) found ∙ ap (λ (s : Setup). effect (is_among plan.closed) (agenda s)) (sym settings) ∙ fun_ext h.2.sound.back in
+          (r.0 ∙ sym settings, r.1 ∙ all);
+    }
+
+begun_start : (p q : Panel) (sid : Sid) (plan : Snapshot) (f : Bool) (a : SessionAnswer) (w : Option WorkView) → IsKept p.cage → begins (AskSession (Ask.Start sid plan)) (SaysSession a w) ≡ true → StepStart p plan f a w q → Begun plan q.cage
+begun_start p q sid plan f (Done None) w k n h = begun_by p q plan f h.told k (sym h.answer_is) h.starts
+begun_start p q sid plan f (Done (Some text)) w k n h = absurd h
+begun_start p q sid plan f a w k n h = absurd (cc (n))
+
+begun_session : (p q : Panel) (sid : Sid) (plan : Snapshot) (f : Bool) (a : SessionAnswer) (w : Option WorkView) → IsKept p.cage → begins (AskSession (Ask.Start sid plan)) (SaysSession a w) ≡ true → StepSession (Some sid) p (Ask.Start sid plan) f a w q → Begun plan q.cage
+begun_session p q sid plan f Stranger w k n h = absurd (cc (n))
+begun_session p q sid plan f a w k n h = begun_start p q sid plan f a w k n h.1
+
+begun_acts : (p q : Panel) (sid : Sid) (plan : Snapshot) (f : Bool) (a : AnswerView) → IsKept p.cage → begins (AskSession (Ask.Start sid plan)) a ≡ true → Acts p (AskSession (Ask.Start sid plan)) f a q → Begun plan q.cage
+begun_acts p q sid plan f (SaysSession a w) k n h = begun_session p q sid plan f a w k n h
+begun_acts p q sid plan f a k n h = absurd (cc (n))
+
+begun_worn : (sid : Sid) (plan : Snapshot) (a : AnswerView) → begins (AskSession (Ask.Start sid plan)) a ≡ true → IsWorn (AskSession (Ask.Start sid plan)) a → ⊥
+begun_worn sid plan (SaysSession (Worn back) None) n h = cc (n)
+begun_worn sid plan a n h = h
+
+begun_either : (b : Bool) (p q : Panel) (sid : Sid) (plan : Snapshot) (f : Bool) (a : AnswerView) → IsKept p.cage → begins (AskSession (Ask.Start sid plan)) a ≡ true → MatchBool b (IsUnnumbered p (AskSession (Ask.Start sid plan)) f a q) (IsEvent p (AskSession (Ask.Start sid plan)) f a q) → Begun plan q.cage
+begun_either true p q sid plan f a k n h = absurd (begun_worn sid plan a n h.worn)
+begun_either false p q sid plan f a k n h = subst (λ (c : CageSeen). Begun plan c) (sym (ap (λ (x : Panel). x.cage) h.after ∙ concluded_scan a h.done)) (begun_acts p h.done sid plan f a k n h.acts)
+
+begun_step : (p q : Panel) (sid : Sid) (plan : Snapshot) (f : Bool) (a : AnswerView) → IsKept p.cage → begins (AskSession (Ask.Start sid plan)) a ≡ true → Step p (AskSession (Ask.Start sid plan)) f a q → Begun plan q.cage
+begun_step p q sid plan f a k n h = begun_either ((p.events == last_number) && not (acts_unnumbered (AskSession (Ask.Start sid plan)))) p q sid plan f a k n h
+
+-- ---- runs
+
+-- a scan that runs awaits something
+stands_some : (out : Option Ticket) (ticket : Ticket) (o : Option Awaited) → MeterStands out ticket o → (x : Awaited) × (o ≡ Some x)
+stands_some out ticket None h = absurd h
+stands_some out ticket (Some x) h = (x, refl)
+
+over_at : (c : CageSeen) (scan : Option Scanning) → IsRunning c scan → left_of scan ≡ 0 → scan ≡ None
+over_at c None r n = refl
+over_at c (Some at) r n =
+    let x = stands_some _ _ (awaits at) r.meter in
+    let some : left_at at ≡ suc (length (awaiting (drop (at.index + 1) (agenda at.setup)))) = left_past at x.0 x.1 in
+    absurd (omega (arith, n, some))
+
+fine_last : (p : Panel) (events : List Event) → IsFine p → IsRun p events → IsFine (last_of p events)
+fine_last p [] k r = k
+fine_last p (e ∷ events) k r = fine_last e.panel events (step_fine p e.ask e.failed e.answer e.panel k r.0) r.1
+
+-- a run up to an event, that event, and the run from there
+pub record Cut (p : Panel) (before : List Event) (e : Event) (after : List Event) : Type 0 where
+  pub first : IsRun p before
+  pub step : Step (last_of p before) e.ask e.failed e.answer e.panel
+  pub onward : IsRun e.panel after
+
+cut_run : (p : Panel) (before : List Event) (e : Event) (after : List Event) → IsRun p (before ++ e ∷ after) → Cut p before e after
+cut_run p [] e after r = record { first = tt; step = r.0; onward = r.1 }
+cut_run p (b ∷ before) e after r = let c = cut_run b.panel before e after r.1 in record { first = (r.0, c.first); step = c.step; onward = c.onward }
+
+-- a scan that would leave closed what its plan found has done the front of its agenda from there
+follows : (plan : Snapshot) (start end : Panel) → Begun plan start.cage → Holds start.cage end.cage → (scan : Option Scanning) → end.cage.scan ≡ scan → IsRunning end.cage scan → IfSome scan (λ at. IsFollowing plan end at)
+follows plan start end b h None e r = tt
+follows plan start end b h (Some at) e r =
+    let old = h at e in
+    let first = b.held old.0 old.1 in
+    let same : at.setup ≡ plan.settings = old.2 ∙ first.0 in
+    let done = take at.index (agenda at.setup) in
+    let left = drop at.index (agenda at.setup) in
+    let found : r.way.found ≡ leaves end.cage.rack at =
+    sym (fun_ext r.way.sound.back) ∙ ap (effect r.way.found) (sym (take-append-drop at.index (agenda at.setup))) ∙ effect-append r.way.found done left ∙ ap (λ (m : Channels). effect m left) (sym r.way.so_far) in
+    let whole : r.way.found ≡ is_among plan.closed = found ∙ old.3 ∙ first.1 in
+    let now : is_closed end.cage.rack ≡ effect (is_among plan.closed) (take at.index (agenda plan.settings)) =
+    r.way.so_far ∙ ap (λ (m : Channels). effect m done) whole ∙ ap (λ (s : Setup). effect (is_among plan.closed) (take at.index (agenda s))) same in
+    record { settings = same; closed = λ c. ap (λ (m : Channels). m c) now; readings = r.readings ∙ ap (λ (s : Setup). reads (take at.index (agenda s))) same }
+
+pub every_scan : EveryScanEnds
+every_scan numbered scanned before start after sid plan run asks n none =
+    let c = cut_run (opening_at numbered scanned) before start after run in
+    let at = last_of (opening_at numbered scanned) before in
+    let ready : IsFine at = fine_last (opening_at numbered scanned) before (opening_fine_at numbered scanned) c.first in
+    let b : Begun plan start.panel.cage =
+    begun_step at start.panel sid plan start.failed start.answer ready.cage (subst (λ (x : AskView). begins x start.answer ≡ true) asks n) (subst (λ (x : AskView). Step at x start.failed start.answer start.panel) asks c.step) in
+    let fine : IsFine start.panel = step_fine at start.ask start.failed start.answer start.panel ready c.step in
+    let h = near_run start.panel after fine c.onward none in
+    let good = (fine_last start.panel after fine c.onward).cage.good.running in
+    let end = last_of start.panel after in
+    record {
+      follows = follows plan start.panel end b h.holds end.cage.scan refl good;
+      most = omega (arith, h.most, b.left);
+      adds_up = elim h.left [ inl l ↦ inl (l ∙ b.left) | inr i ↦ inr i ];
+      over = λ t. elim h.left [ inl l ↦ over_at end.cage end.cage.scan good (omega (arith, l, b.left, t)) | inr i ↦ i ];
+    }

@@ -1,0 +1,28 @@
+-- A step of an ask that can be numbered, and of one that can't.
+use Rattle.std.proofs.Common.{◌≡◌, ◌==◌, ◌&&◌, not, Bool, true, false, refl, sym, subst}
+use Rattle.std.specs.Prelude.{MatchBool}
+use Rattle.sw_core.specs.Panel.{Panel}
+use Rattle.sw_core.specs.Event.{last_number, concluded}
+use Rattle.sw_core.specs.View.{AskView, AskSession, AskInstall, AskEject, AskExternal, AskElapsed, AskFinished, AnswerView, SaysFailed, failed_in}
+use Rattle.sw_core.specs.Step.{Acts, acts_unnumbered, IsWorn, IsEvent, IsUnnumbered, Step}
+use Rattle.sw_core.proofs.Calls.{failed_same}
+
+unfailed_worn : (p : Panel) (ask : AskView) (answer : AnswerView) → IsWorn ask answer → failed_in ask answer p.cage.rack p.cage.rack ≡ false
+unfailed_worn p (AskFinished done) SaysFailed w = absurd w
+unfailed_worn p (AskFinished done) answer w = refl
+unfailed_worn p (AskSession ask) answer w = failed_same p.cage.rack
+unfailed_worn p (AskInstall slot card) answer w = failed_same p.cage.rack
+unfailed_worn p (AskEject slot) answer w = failed_same p.cage.rack
+unfailed_worn p AskExternal answer w = failed_same p.cage.rack
+unfailed_worn p (AskElapsed ticket) answer w = failed_same p.cage.rack
+
+pub worn_step : (p : Panel) (ask : AskView) (answer : AnswerView) → (p.events == last_number) ≡ true → acts_unnumbered ask ≡ false → IsWorn ask answer → Step p ask (failed_in ask answer p.cage.rack p.cage.rack) answer p
+worn_step p ask answer e n w =
+    let f = failed_in ask answer p.cage.rack p.cage.rack in
+    let yes : IsUnnumbered p ask f answer p = record { worn = w; unfailed = unfailed_worn p ask answer w; same = refl } in
+    subst (λ (a : Bool). MatchBool (a && not (acts_unnumbered ask)) (IsUnnumbered p ask f answer p) (IsEvent p ask f answer p)) (sym e) (subst (λ (b : Bool). MatchBool (true && not b) (IsUnnumbered p ask f answer p) (IsEvent p ask f answer p)) (sym n) yes)
+
+pub numbered_step : (p q done : Panel) (ask : AskView) (f : Bool) (answer : AnswerView) → ((p.events == last_number) && not (acts_unnumbered ask)) ≡ false → Acts p ask f answer done → q ≡ concluded answer done → Step p ask f answer q
+numbered_step p q done ask f answer n acts is =
+    let yes : IsEvent p ask f answer q = record { done = done; acts = acts; after = is } in
+    subst (λ (b : Bool). MatchBool b (IsUnnumbered p ask f answer q) (IsEvent p ask f answer q)) (sym n) yes

@@ -1,5 +1,0 @@
-use Rattle.sw_core.proofs.Safety.{every_run}
-use Rattle.sw_core.proofs.laws.every_run_is_exclusive.Goals as goal
-
-pub returns : goal.returns
-returns c = every_run

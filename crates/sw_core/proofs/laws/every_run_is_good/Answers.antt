@@ -1,0 +1,5 @@
+use Rattle.sw_core.proofs.Safety.{every_run}
+use Rattle.sw_core.proofs.laws.every_run_is_good.Goals as goal
+
+pub returns : goal.returns
+returns c = every_run

@@ -1,0 +1,5 @@
+use Rattle.sw_core.proofs.Nearing.{every_scan}
+use Rattle.sw_core.proofs.laws.every_scan_ends.Goals as goal
+
+pub returns : goal.returns
+returns c = every_scan

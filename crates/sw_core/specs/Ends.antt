@@ -1,0 +1,97 @@
+-- Every scan does what its plan says, and ends: what it has done, what it still awaits, and how many happenings it has taken.
+use Rattle.std.specs.Prelude.{◌≡◌, ℕ, ◌+◌, ◌≤◌, Bool, true, false, List, [], ◌∷◌, ◌++◌, length, take, drop, Option, None, Some, IfSome, ◌⊎◌}
+use Rattle.std.specs.List.{AllByRecursion}
+use Rattle.sw_base.specs.Layout.{Channel}
+use Rattle.sw_base.specs.declared.error.ScpiError.{ScpiError}
+use Rattle.sw_base.specs.declared.error.ScpiError.TheVariants.{HardwareError}
+use Rattle.sw_trigger.specs.Agenda.{agenda}
+use Rattle.sw_trigger.specs.Counts.{awaiting, bound_of, reads}
+use Rattle.sw_verify.specs.declared.snapshot.Snapshot.{Snapshot}
+use Rattle.sw_verify.specs.Channels.{is_among}
+use Rattle.sw_verify.specs.Sound.{effect}
+use Rattle.sw_cage.specs.Rack.{is_closed}
+use Rattle.sw_cage.specs.Cage.{Scanning}
+use Rattle.sw_cage.specs.declared.taken.Happening.{Happening}
+use Rattle.sw_core.specs.declared.ask.Sid.{Sid}
+use Rattle.sw_core.specs.declared.ask.SessionAsk.TheVariants as Ask
+use Rattle.sw_core.specs.declared.ask.SessionAnswer.{SessionAnswer}
+use Rattle.sw_core.specs.declared.ask.SessionAnswer.TheVariants.{Done, Refused}
+use Rattle.sw_core.specs.Panel.{Panel, opening_at}
+use Rattle.sw_core.specs.View.{AskView, AskSession, AskExternal, AskElapsed, AskFinished, AnswerView, SaysSession, SaysTaken, SaysFailed}
+use Rattle.sw_core.specs.Step.{happening_of}
+use Rattle.sw_core.specs.Run.{Event, IsRun}
+
+-- how many items of its agenda a scan still awaits, the present one included; none, where none runs
+abbrev pub left_at : Scanning → ℕ
+left_at at = length (awaiting (drop at.index (agenda at.setup)))
+
+abbrev pub left_of : Option Scanning → ℕ
+left_of None = 0
+left_of (Some at) = left_at at
+
+abbrev pub left_in : Panel → ℕ
+left_in p = left_of p.cage.scan
+
+-- 1 for what is answered where the scan took it: done, or a card failed on the way
+abbrev pub went_on : SessionAnswer → ℕ
+went_on (Done text) = 1
+went_on (Refused HardwareError) = 1
+went_on answer = 0
+
+abbrev pub was_taken : AnswerView → ℕ
+was_taken (SaysTaken work) = 1
+was_taken SaysFailed = 1
+was_taken answer = 0
+
+abbrev pub took_command : Option (Happening × ScpiError) → SessionAnswer → ℕ
+took_command None answer = 0
+took_command (Some offer) answer = went_on answer
+
+-- 1 for a trigger, the end of a pause, or a meter's return that a scan took
+abbrev pub took : AskView → AnswerView → ℕ
+took (AskSession (Ask.Unit sid command answered)) (SaysSession answer work) = took_command (happening_of command) answer
+took (AskSession (Ask.Bus sid)) (SaysSession answer work) = went_on answer
+took AskExternal answer = was_taken answer
+took (AskElapsed ticket) answer = was_taken answer
+took (AskFinished done) answer = was_taken answer
+took ask answer = 0
+
+-- how many of these events are taken
+abbrev pub taken_in : List Event → ℕ
+taken_in [] = 0
+taken_in (e ∷ events) = took e.ask e.answer + taken_in events
+
+-- a scan begins
+abbrev pub begins : AskView → AnswerView → Bool
+begins (AskSession (Ask.Start sid plan)) (SaysSession (Done text) work) = true
+begins ask answer = false
+
+-- none of these events begins a scan
+abbrev pub BeginsNone : List Event → Type 0
+BeginsNone events = AllByRecursion (λ e. begins e.ask e.answer ≡ false) events
+
+-- the state after these events
+abbrev pub last_of : Panel → List Event → Panel
+last_of p [] = p
+last_of p (e ∷ events) = last_of e.panel events
+
+-- A scan that runs has done the first items of its plan's agenda and no others: from what its plan found closed it has come
+-- to what is closed now, with the readings of those items.
+pub record IsFollowing (plan : Snapshot) (p : Panel) (at : Scanning) : Type 0 where
+  pub settings : at.setup ≡ plan.settings
+  pub closed : (c : Channel) → is_closed p.cage.rack c ≡ effect (is_among plan.closed) (take at.index (agenda plan.settings)) c
+  pub readings : length p.cage.readings ≡ reads (take at.index (agenda plan.settings))
+
+-- A scan has begun by the plan in the event before these, and none has since: while it runs it has done a prefix of its
+-- plan's agenda; it took no more happenings than its plan's bound; what it took and what it still awaits make up the bound,
+-- unless it is over; and when it took so many, it is over.
+pub record IsEnding (plan : Snapshot) (start : Panel) (events : List Event) : Type 0 where
+  pub follows : IfSome (last_of start events).cage.scan (λ at. IsFollowing plan (last_of start events) at)
+  pub most : taken_in events ≤ bound_of plan.settings
+  pub adds_up : (taken_in events + left_in (last_of start events) ≡ bound_of plan.settings) ⊎ ((last_of start events).cage.scan ≡ None)
+  pub over : taken_in events ≡ bound_of plan.settings → (last_of start events).cage.scan ≡ None
+
+-- in every run, whatever went before
+abbrev pub EveryScanEnds : Type 0
+EveryScanEnds = (numbered scanned : ℕ) (before : List Event) (start : Event) (after : List Event) (sid : Sid) (plan : Snapshot) → IsRun (opening_at numbered scanned) (before ++ start ∷ after)
+    → start.ask ≡ AskSession (Ask.Start sid plan) → begins start.ask start.answer ≡ true → BeginsNone after → IsEnding plan start.panel after

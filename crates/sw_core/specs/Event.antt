@@ -1,0 +1,77 @@
+-- The end of an event.
+use Rattle.std.specs.Prelude.{ℕ, ◌+◌, ◌-◌, ◌^◌, min, Bool, not, ◌&&◌, Option, Some, None, if◌then◌else◌}
+use Rattle.sw_base.specs.declared.error.ScpiError.{ScpiError}
+use Rattle.sw_base.specs.declared.error.ScpiError.TheVariants.{HardwareError}
+use Rattle.sw_base.specs.declared.terms.LayerName.TheVariants.{Arm1, Arm2, Trigger}
+use Rattle.sw_base.specs.declared.terms.StatusGroup.TheVariants.{Operation}
+use Rattle.sw_trigger.specs.declared.layer.Awaited.{Awaited}
+use Rattle.sw_trigger.specs.declared.layer.Awaited.TheVariants.{Wait, Pause, Read}
+use Rattle.sw_status.specs.Registers.{group_conditioned}
+use Rattle.sw_status.specs.StatusModel.{StatusSeen, pushed, with_bit, with_group, event_ended}
+use Rattle.sw_cage.specs.Takes.{awaited_now}
+use Rattle.sw_core.specs.declared.ask.SessionAnswer.{SessionAnswer}
+use Rattle.sw_core.specs.declared.ask.SessionAnswer.TheVariants.{Joined, Full, Stranger, Broken, Done, Snapshot, Refused, Hold, Worn}
+use Rattle.sw_core.specs.Panel.{Panel, is_running}
+use Rattle.sw_core.specs.View.{AnswerView, SaysSession, SaysInstalled, SaysNotInstalled, SaysEjected, SaysNotEjected, SaysTaken, SaysMissed, SaysFailed, SaysBack, SaysWorn}
+
+-- OPERation's condition: bit 4 at a reading, bit 5 at TRIGger's wait, bit 6 at an ARM layer's (SCPI-1999, 20.2)
+abbrev pub awaited_bits : Option Awaited → ℕ
+awaited_bits (Some Read) = 16
+awaited_bits (Some (Wait Trigger)) = 32
+awaited_bits (Some (Wait Arm1)) = 64
+awaited_bits (Some (Wait Arm2)) = 64
+awaited_bits (Some (Pause micros)) = 0
+awaited_bits None = 0
+
+abbrev pub with_operation : StatusSeen → ℕ → StatusSeen
+with_operation s bits = with_group s Operation (group_conditioned s.operation bits)
+
+-- an operation that was to be complete is, where no scan runs (IEEE 488.2, 12.5.1)
+abbrev pub completed : StatusSeen → Bool → StatusSeen
+completed s complete = record s { esr = if complete then with_bit s.esr 0 else s.esr }
+
+-- there is no number above
+abbrev pub last_number : ℕ
+last_number = 2 ^ 64 - 1
+
+-- the number after one more event
+abbrev pub next_number : ℕ → ℕ
+next_number n = min last_number (n + 1)
+
+-- The event ends: *OPC is done where no scan runs, OPERation tells what the scan awaits, a service request arises or
+-- not, and the event is counted.
+abbrev pub ended : Panel → Panel
+ended p = record p {
+  status = event_ended (with_operation (completed p.status (p.pending && not (is_running p))) (awaited_bits (awaited_now p.cage.scan)));
+  pending = p.pending && is_running p;
+  events = next_number p.events;
+}
+
+-- an error is queued
+abbrev pub erred : Panel → ScpiError → Panel
+erred p e = record p { status = pushed p.status e }
+
+-- What is asked of no joined session, held, handed back, or can't be numbered is no event. A refusal queues its error
+-- before its event ends.
+abbrev pub session_concluded : SessionAnswer → Panel → Panel
+session_concluded Stranger p = p
+session_concluded Broken p = p
+session_concluded (Hold ask) p = p
+session_concluded (Worn ask) p = p
+session_concluded (Refused e) p = ended (erred p e)
+session_concluded (Joined sid) p = ended p
+session_concluded Full p = ended p
+session_concluded (Done text) p = ended p
+session_concluded (Snapshot snapshot) p = ended p
+
+abbrev pub concluded : AnswerView → Panel → Panel
+concluded (SaysSession answer work) p = session_concluded answer p
+concluded SaysInstalled p = ended p
+concluded (SaysNotInstalled refusal) p = ended p
+concluded (SaysEjected card) p = ended p
+concluded (SaysNotEjected refusal) p = ended p
+concluded (SaysTaken work) p = ended p
+concluded SaysMissed p = ended p
+concluded SaysFailed p = ended (erred p HardwareError)
+concluded SaysBack p = p
+concluded SaysWorn p = p

@@ -1,0 +1,47 @@
+//! Who asks, and what still acts when no more events can be numbered.
+
+ghost use Rattle.std.specs.Prelude.{◌≡◌, false};
+ghost use Rattle.sw_core.specs.View.{ask_view, answer_view, HandsBack};
+ghost use Rattle.sw_core.specs.Step.{asker_of, acts_unnumbered, IsWorn};
+
+use crate::ask::{Answer, Ask, SessionAnswer, SessionAsk, Sid};
+use sw_card::{Meter, Relay};
+use sw_lex::Command;
+
+/// The session that asks.
+pub fn asker(ask: &SessionAsk) -> Option<Sid>
+    ensures { result ≡ asker_of ask.now }
+{
+    match ask {
+        SessionAsk::Join => None,
+        SessionAsk::Leave(sid)
+        | SessionAsk::Unit(sid, _, _)
+        | SessionAsk::Fault(sid, _)
+        | SessionAsk::Bus(sid)
+        | SessionAsk::Snapshot(sid)
+        | SessionAsk::Start(sid, _) => Some(*sid),
+    }
+}
+
+/// Whether an ask still acts when no more events can be numbered.
+pub fn acts_unnumbered<R: Relay, M: Meter>(ask: &Ask<R, M>) -> bool
+    ensures { result ≡ acts_unnumbered (ask_view ask.now) }
+{
+    match ask {
+        Ask::Session(SessionAsk::Unit(_, Command::Abort, _)) | Ask::Eject(_) | Ask::Finished(_) =>
+            true,
+        _ => false,
+    }
+}
+
+/// Hands an ask back that can't be numbered.
+pub fn unnumbered<R: Relay, M: Meter>(ask: Ask<R, M>) -> Answer<R, M>
+    requires { acts_unnumbered (ask_view ask) ≡ false }
+    ensures worn { IsWorn (ask_view ask) (answer_view result) }
+    ensures back { HandsBack ask result }
+{
+    match ask {
+        Ask::Session(ask) => Answer::Session(SessionAnswer::Worn(ask), None),
+        ask => Answer::Worn(ask),
+    }
+}

@@ -1,0 +1,215 @@
+//! Scans: their beginning, what happens to them, and the meters that return.
+
+ghost use Rattle.std.specs.Prelude.{◌≡◌, Bool, IfOk, IfSome, IfNone, None, Some, false};
+ghost use Rattle.sw_cage.specs.Change.{any_failed};
+ghost use Rattle.sw_cage.specs.TakenSeen.{taken_seen};
+ghost use Rattle.sw_verify.specs.Check.{IsReady};
+ghost use Rattle.sw_core.specs.View.{work_view, answer_view, failed_in, AskFinished, HandsBack};
+ghost use Rattle.sw_core.specs.declared.ask.Ask.TheVariants as Ask;
+ghost use Rattle.sw_core.specs.Step.{Happens, StepHappens, StepOutside, StepFinished, StepSnapshot, StepStart, RefusesScan, MayScan, session_told, outside_told, started_answer, work_of, is_fault, snapshot_of, happening_of};
+
+use crate::ask::{Answer, SessionAnswer, Work};
+use crate::machine::Core;
+use crate::registers::{alarm, tell_failure};
+use std::alloc::{AllocError, Global};
+use sw_base::{LayerName, ScpiError, Sequence};
+use sw_cage::{Finished, Happening, Taken};
+use sw_card::{Meter, Relay};
+use sw_lex::Command;
+use sw_verify::{Plan, Snapshot};
+
+/// The happening that a command is, and its error where no scan takes it.
+pub fn happening_of(command: &Command) -> Option<(Happening, ScpiError)>
+    ensures { result ≡ happening_of command.now }
+{
+    match command {
+        Command::Trigger => Some((Happening::Bus, ScpiError::TriggerIgnored)),
+        Command::Signal(LayerName::Trigger) => Some((
+            Happening::Signal(LayerName::Trigger),
+            ScpiError::TriggerIgnored,
+        )),
+        Command::Signal(LayerName::Arm1) => {
+            Some((Happening::Signal(LayerName::Arm1), ScpiError::ArmIgnored))
+        }
+        Command::Signal(LayerName::Arm2) => {
+            Some((Happening::Signal(LayerName::Arm2), ScpiError::ArmIgnored))
+        }
+        _ => None,
+    }
+}
+
+/// The work that a scan awaits once it has come to this.
+fn work_of<M: Meter>(told: Taken<M>) -> Option<Work<M>>
+    ensures { work_view result ≡ work_of (taken_seen told) }
+{
+    match told {
+        Taken::Pause(ticket, micros) => Some(Work::Pause(ticket, micros)),
+        Taken::Job(job) => Some(Work::Measure(job)),
+        _ => None,
+    }
+}
+
+/// What a session is answered by what the cage told; what no scan takes is refused by this error.
+fn session_told<M: Meter>(told: &Taken<M>, error: ScpiError) -> SessionAnswer
+    ensures { result ≡ session_told error (taken_seen told.now) }
+{
+    match told {
+        Taken::Ignored => SessionAnswer::Refused(error),
+        Taken::Fault => SessionAnswer::Refused(ScpiError::HardwareError),
+        _ => SessionAnswer::Done(None),
+    }
+}
+
+/// What is answered to no session by what the cage told.
+fn outside_told<R: Relay, M: Meter>(told: Taken<M>) -> Answer<R, M>
+    ensures { answer_view result ≡ outside_told (taken_seen told) }
+{
+    match told {
+        Taken::Ignored => Answer::Missed,
+        Taken::Fault => Answer::Failed,
+        told => Answer::Taken(work_of(told)),
+    }
+}
+
+/// What a session is answered when its scan has begun.
+fn started_answer<M: Meter>(told: &Taken<M>) -> SessionAnswer
+    ensures { result ≡ started_answer (taken_seen told.now) }
+{
+    match told {
+        Taken::Fault => SessionAnswer::Refused(ScpiError::HardwareError),
+        _ => SessionAnswer::Done(None),
+    }
+}
+
+/// Whether a card failed on the way.
+fn is_fault<M: Meter>(told: &Taken<M>) -> bool
+    ensures { result ≡ is_fault (taken_seen told.now) }
+{
+    match told {
+        Taken::Fault => true,
+        _ => false,
+    }
+}
+
+impl<R: Relay, M: Meter> Core<R, M> {
+    /// Offers a happening to the scan.
+    fn happens(&mut self, happening: Happening) -> Taken<M>
+        ensures { Happens self.old happening (any_failed self.old.cage.rack self.new.cage.rack) (taken_seen result) self.new }
+    {
+        let told = self.cage.take(happening);
+        if is_fault(&told) {
+            alarm(&mut self.status);
+        }
+        told
+    }
+
+    /// Offers a session's happening to the scan; where it isn't taken it is refused by this error.
+    pub(crate) fn offer(
+        &mut self,
+        happening: Happening,
+        error: ScpiError,
+    ) -> (SessionAnswer, Option<Work<M>>)
+        ensures { StepHappens self.old happening error (any_failed self.old.cage.rack self.new.cage.rack) result.0 (work_view result.1) self.new }
+    {
+        let told = self.happens(happening);
+        let answer = session_told(&told, error);
+        (answer, work_of(told))
+    }
+
+    /// Offers a happening that is no session's to the scan.
+    pub(crate) fn outside(&mut self, happening: Happening) -> Answer<R, M>
+        ensures { StepOutside self.old happening (any_failed self.old.cage.rack self.new.cage.rack) (answer_view result) self.new }
+    {
+        let told = self.happens(happening);
+        outside_told(told)
+    }
+
+    /// Takes a meter back, and its reading where the scan awaits it.
+    pub(crate) fn finished(&mut self, done: Finished<M>) -> Answer<R, M>
+        ensures finished { StepFinished self.old done.1 (failed_in (AskFinished done.1) (answer_view result) self.old.cage.rack self.new.cage.rack) (answer_view result) self.new }
+        ensures back { HandsBack (Ask.Finished done) result }
+    {
+        match self.cage.finish(done) {
+            Err(done) => Answer::Back(done),
+            Ok(told) => {
+                if is_fault(&told) {
+                    alarm(&mut self.status);
+                }
+                outside_told(told)
+            }
+        }
+    }
+
+    /// Why no scan may begin now.
+    fn refuses_scan(&self) -> Option<ScpiError>
+        ensures error { IfSome result (λ e. RefusesScan self.now e) }
+        ensures none { IfNone result (MayScan self.now) }
+    {
+        if self.cage.is_running() {
+            return Some(ScpiError::InitIgnored);
+        }
+        if self.cage.has_out(self.settings.meter()) {
+            return Some(ScpiError::SettingsConflict);
+        }
+        if self.cage.number() == u64::MAX {
+            return Some(ScpiError::SystemError);
+        }
+        None
+    }
+
+    /// What a scan would begin from.
+    pub(crate) fn snapshot(&self, alloc: Global) -> SessionAnswer
+        ensures { StepSnapshot self.now Bool.false result self.now }
+    {
+        if let Some(error) = self.refuses_scan() {
+            return SessionAnswer::Refused(error);
+        }
+        match self.take_snapshot(alloc) {
+            Ok(snapshot) => SessionAnswer::Snapshot(snapshot),
+            Err(_) => SessionAnswer::Refused(ScpiError::OutOfMemory),
+        }
+    }
+
+    fn take_snapshot(&self, alloc: Global) -> Result<Snapshot, AllocError>
+        ensures { IfOk result (λ s. s ≡ snapshot_of self.now) }
+    {
+        Ok(Snapshot {
+            settings: self.settings.try_copy(alloc)?,
+            layout: self.cage.layout(alloc)?,
+            closed: Sequence::new(self.cage.closed_chans(alloc)?),
+        })
+    }
+
+    /// Begins the scan of a plan, where what it was made of is so now.
+    #[tactic(auto, using(crate::proofs::Happened::refused_start))]
+    pub(crate) fn start(&mut self, alloc: Global, plan: Plan) -> (SessionAnswer, Option<Work<M>>)
+        ensures { StepStart self.old plan (any_failed self.old.cage.rack self.new.cage.rack) result.0 (work_view result.1) self.new }
+    {
+        if let Some(error) = self.refuses_scan() {
+            return (SessionAnswer::Refused(error), None);
+        }
+        let Ok(now) = self.take_snapshot(alloc) else {
+            return (SessionAnswer::Refused(ScpiError::OutOfMemory), None);
+        };
+        if !now.is_same(plan.snapshot()) {
+            return (SessionAnswer::Refused(ScpiError::SettingsConflict), None);
+        }
+        self.begin(alloc, plan)
+    }
+
+    fn begin(&mut self, alloc: Global, plan: Plan) -> (SessionAnswer, Option<Work<M>>)
+        requires may { MayScan self.old }
+        requires same { plan ≡ snapshot_of self.old }
+        requires ready { IsReady plan }
+        ensures { StepStart self.old plan (any_failed self.old.cage.rack self.new.cage.rack) result.0 (work_view result.1) self.new }
+    {
+        match self.cage.start(alloc, plan) {
+            Err(_) => (SessionAnswer::Refused(ScpiError::OutOfMemory), None),
+            Ok(told) => {
+                tell_failure(&mut self.status, is_fault(&told));
+                let answer = started_answer(&told);
+                (answer, work_of(told))
+            }
+        }
+    }
+}

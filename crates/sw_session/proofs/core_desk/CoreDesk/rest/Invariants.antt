@@ -1,0 +1,5 @@
+use Rattle.sw_session.proofs.Keeping.{WaitedBy}
+use Rattle.sw_session.proofs.core_desk.CoreDesk.rest.Given as goal
+
+abbrev pub invariant-loop-turn : goal.invariant-loop-turn
+invariant-loop-turn g l = WaitedBy l.fn.self l._turn l.self

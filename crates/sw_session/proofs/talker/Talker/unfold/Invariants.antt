@@ -1,0 +1,17 @@
+use Rattle.std.proofs.Common.{◌≡◌, List, ℕ, length}
+use Rattle.sw_lex.specs.Unit.{UnitView}
+use Rattle.sw_lex.specs.Meaning.{path_of}
+use Rattle.sw_session.specs.Trace.{Led}
+use Rattle.sw_session.specs.Talk.{Itself, standing, line_of}
+use Rattle.sw_session.proofs.Talks.{ScriptsBy, TalksBy}
+use Rattle.sw_session.proofs.talker.Talker.unfold.Given as goal
+
+abbrev pub invariant-units : goal.invariant-units
+invariant-units g l = record {
+  sid : l.self.sid ≡ l.fn.self.sid;
+  so_far : (answers : List (List ℕ)) → l.fn.out.items ≡ line_of answers → (front : List UnitView) × (told : List (List ℕ)) × ScriptsBy l.text front l.left × (l.out.items ≡ line_of told)
+      × Led g.D.Desk.passes l.fn.desk l.desk (TalksBy (Itself l.fn.self.sid) l.fn.self.sid front (path_of l.fn.path) (standing l.fn.self.macros answers) (path_of l.path) (standing l.self.macros told));
+}
+
+abbrev pub decreases-units : goal.decreases-units
+decreases-units g l = length l.left

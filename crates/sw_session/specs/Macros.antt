@@ -1,0 +1,77 @@
+-- The macro commands: what each does to a session's macros, and what it answers (IEEE 488.2, 10.7 to 10.9, 10.13, 10.16
+-- and 10.22; 8.7.9 for the block).
+use Rattle.std.specs.Prelude.{◌≡◌, ℕ, ◌+◌, Bool, true, false, List, [], ◌∷◌, ◌++◌, length, map, decimal, Option, Some, None, Result, Ok, Err}
+use Rattle.std.specs.List.{join_with_byte}
+use Rattle.sw_base.specs.declared.error.ScpiError.{ScpiError}
+use Rattle.sw_base.specs.declared.error.ScpiError.TheVariants.{OutOfMemory}
+use Rattle.sw_lex.specs.declared.command.Command.{Command}
+use Rattle.sw_lex.specs.declared.command.Command.TheVariants.{DefineMacro, MacroQuery, MacroLabelsQuery, RemoveMacro, PurgeMacros, EnableMacros, EnableMacrosQuery}
+use Rattle.sw_macro.specs.Label.{in_capitals}
+use Rattle.sw_macro.specs.Table.{Table, labels, body_of, with_macro, without_macro, refusal_to_define, refusal_to_find, RefusedBy}
+use Rattle.sw_core.specs.Answers.{flag_of}
+
+-- what a command comes to: its answer, if it has one, or its refusal
+abbrev pub Told : Type 0
+Told = Result (Option (List ℕ)) ScpiError
+
+-- ---- the texts
+
+-- a definite block: `#`, a digit that counts the digits of the length, the length, and the bytes
+abbrev pub block_of : List ℕ → List ℕ
+block_of bytes = 35 ∷ (48 + length (decimal (length bytes))) ∷ (decimal (length bytes) ++ bytes)
+
+-- a label in double quotes
+abbrev pub quoted : List ℕ → List ℕ
+quoted label = 34 ∷ (label ++ 34 ∷ [])
+
+-- labels, each in double quotes, joined by commas
+abbrev pub row_of : List (List ℕ) → List ℕ
+row_of labels = join_with_byte 44 (map quoted labels)
+
+-- an empty string for none
+abbrev pub labels_text : List (List ℕ) → List ℕ
+labels_text [] = quoted []
+labels_text (l ∷ ls) = row_of (l ∷ ls)
+
+-- ---- what comes of a command
+
+-- a text is answered, unless there is no memory for it
+abbrev pub Tells : List ℕ → Told → Type 0
+Tells text (Ok told) = told ≡ Some text
+Tells text (Err e) = e ≡ OutOfMemory
+
+-- *DMC: the macro is defined; or its first refusal, or want of memory, and the macros stay
+abbrev pub Defines : List ℕ → List ℕ → Table → Told → Table → Type 0
+Defines label body t (Ok text) t' = (refusal_to_define t label body ≡ None) × (text ≡ None) × (t' ≡ with_macro t label body)
+Defines label body t (Err e) t' = RefusedBy (refusal_to_define t label body) e × (t' ≡ t)
+
+-- *RMC: the macro is removed; or its refusal, and the macros stay
+abbrev pub Removes : List ℕ → Table → Told → Table → Type 0
+Removes label t (Ok text) t' = (refusal_to_find t label ≡ None) × (text ≡ None) × (t' ≡ without_macro t label)
+Removes label t (Err e) t' = (refusal_to_find t label ≡ Some e) × (t' ≡ t)
+
+-- *GMC?: the macro's body as a block; or its refusal, or want of memory
+abbrev pub TellsBody : List ℕ → Table → Told → Type 0
+TellsBody label t (Ok text) = (body : List ℕ) × (refusal_to_find t label ≡ None) × (body_of (in_capitals label) t.macros ≡ Some body) × (text ≡ Some (block_of body))
+TellsBody label t (Err e) = RefusedBy (refusal_to_find t label) e
+
+-- What a macro command does to the macros, and what it comes to.
+abbrev pub Acts : Command → Table → Told → Table → Type 0
+Acts (DefineMacro label body) t told t' = Defines label body t told t'
+Acts (MacroQuery label) t told t' = TellsBody label t told × (t' ≡ t)
+Acts MacroLabelsQuery t told t' = Tells (labels_text (labels t.macros)) told × (t' ≡ t)
+Acts (RemoveMacro label) t told t' = Removes label t told t'
+Acts PurgeMacros t told t' = (told ≡ Ok None) × (t' ≡ record t { macros = [] })
+Acts (EnableMacros on) t told t' = (told ≡ Ok None) × (t' ≡ record t { on = on })
+Acts EnableMacrosQuery t told t' = Tells (flag_of t.on) told × (t' ≡ t)
+Acts command t told t' = ⊥
+
+abbrev pub is_of_macros : Command → Bool
+is_of_macros (DefineMacro label body) = true
+is_of_macros (MacroQuery label) = true
+is_of_macros MacroLabelsQuery = true
+is_of_macros (RemoveMacro label) = true
+is_of_macros PurgeMacros = true
+is_of_macros (EnableMacros on) = true
+is_of_macros EnableMacrosQuery = true
+is_of_macros command = false

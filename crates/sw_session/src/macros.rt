@@ -1,0 +1,123 @@
+//! The macro commands.
+
+ghost use Rattle.std.specs.Prelude.{◌≡◌, ◌++◌, ◌∷◌, [], List, ℕ, true, false, IfOk, IfSome, IfNone, OnOk};
+ghost use Rattle.sw_macro.specs.Table.{labels};
+ghost use Rattle.sw_core.specs.Answers.{flag_of};
+ghost use Rattle.sw_session.specs.Macros.{block_of, labels_text, row_of, Tells, TellsBody, Defines, Removes, Acts, is_of_macros};
+
+use std::alloc::{AllocError, Global};
+use sw_base::{ScpiError, Sequence, print_number};
+use sw_lex::Command;
+use sw_macro::Macros;
+
+/// What a command comes to: its answer, if it has one, or its refusal.
+pub type Outcome = Result<Option<Sequence<u8>>, ScpiError>;
+
+/// Carries out a macro command; any other is left alone.
+pub fn obey(alloc: Global, macros: &mut Macros, command: &Command) -> Option<Outcome>
+    ensures acts { IfSome result (λ told. Acts command.now macros.old told macros.new) }
+    ensures mine { IfSome result (λ told. is_of_macros command.now ≡ true) }
+    ensures other { IfNone result (is_of_macros command.now ≡ false) }
+    ensures kept { IfNone result (macros.new ≡ macros.old) }
+{
+    match command {
+        Command::DefineMacro(label, body) => {
+            Some(define(alloc, macros, label.as_slice(), body.as_slice()))
+        }
+        Command::MacroQuery(label) => Some(tell_body(alloc, macros, label.as_slice())),
+        Command::MacroLabelsQuery => Some(tell_labels(alloc, macros)),
+        Command::RemoveMacro(label) => Some(remove(macros, label.as_slice())),
+        Command::PurgeMacros => {
+            macros.purge();
+            Some(Ok(None))
+        }
+        Command::EnableMacros(on) => {
+            macros.enable(*on);
+            Some(Ok(None))
+        }
+        Command::EnableMacrosQuery => Some(tell_enabled(alloc, macros)),
+        _ => None,
+    }
+}
+
+/// `*DMC`
+fn define(alloc: Global, macros: &mut Macros, label: &[u8], body: &[u8]) -> Outcome
+    ensures { Defines label.now body.now macros.old result macros.new }
+{
+    macros.define(alloc, label, body)?;
+    Ok(None)
+}
+
+/// `*RMC`
+fn remove(macros: &mut Macros, label: &[u8]) -> Outcome
+    ensures { Removes label.now macros.old result macros.new }
+{
+    macros.remove(label)?;
+    Ok(None)
+}
+
+/// `*GMC?`
+fn tell_body(alloc: Global, macros: &Macros, label: &[u8]) -> Outcome
+    ensures { TellsBody label.now macros.now result }
+{
+    let body = macros.body(label)?;
+    Ok(Some(block(alloc, body)?))
+}
+
+/// `*LMC?`
+fn tell_labels(alloc: Global, macros: &Macros) -> Outcome
+    ensures { Tells (labels_text (labels macros.now.macros)) result }
+{
+    Ok(Some(labels_text(alloc, macros)?))
+}
+
+/// `*EMC?`
+fn tell_enabled(alloc: Global, macros: &Macros) -> Outcome
+    ensures { Tells (flag_of macros.now.on) result }
+{
+    let flag = if macros.enabled() { b'1' } else { b'0' };
+    Ok(Some(Sequence::new(Vec::from_slice(alloc, &[flag])?)))
+}
+
+/// A definite block of these bytes (IEEE 488.2, 8.7.9).
+fn block(alloc: Global, bytes: &[u8]) -> Result<Sequence<u8>, AllocError>
+    ensures { IfOk result (λ text. text ≡ block_of bytes.now) }
+{
+    let mut size = [0; 32];
+    let digits = print_number(bytes.len() as u64, &mut size);
+    let mut text = Vec::new(alloc);
+    text.push(b'#')?;
+    text.push(b'0' + digits as u8)?;
+    text.extend_from_slice(&size[..digits])?;
+    text.extend_from_slice(bytes)?;
+    Ok(Sequence::new(text))
+}
+
+/// The labels in order of definition, each in double quotes, joined by commas; `""` for none.
+fn labels_text(alloc: Global, macros: &Macros) -> Result<Sequence<u8>, AllocError>
+    ensures { IfOk result (λ text. text ≡ labels_text (labels macros.now.macros)) }
+{
+    let mut text = Vec::new(alloc);
+    for i in 0..macros.len() {
+        if let Some(label) = macros.label(i) {
+            add_label(&mut text, label)?;
+        }
+    }
+    if text.is_empty() {
+        text.extend_from_slice(b"\"\"")?;
+    }
+    Ok(Sequence::new(text))
+}
+
+/// Adds a label in double quotes, behind a comma where labels stand before it.
+fn add_label(text: &mut Vec<u8>, label: &[u8]) -> Result<(), AllocError>
+    ensures { OnOk result ((before : List (List ℕ)) → text.old.items ≡ row_of before → text.new.items ≡ row_of (before ++ label.now ∷ [])) }
+{
+    if !text.is_empty() {
+        text.push(b',')?;
+    }
+    text.push(b'"')?;
+    text.extend_from_slice(label)?;
+    text.push(b'"')?;
+    Ok(())
+}
