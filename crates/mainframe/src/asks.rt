@@ -9,18 +9,42 @@ use sw_card::{Card, Meter, Relay};
 use sw_core::{Answer, Ask, Core, SessionAnswer, SessionAsk, Sid, Work};
 use sw_lex::{Command, Path, next_unit, resolve};
 
-/// What was expected of a session was answered to a card.
-const NOT_A_SESSION: &str = "a session's ask was answered as a card's";
+/// Asks the core. It promises nothing, so that a test is checked without all that `apply` promises.
+fn ask<R: Relay, M: Meter>(alloc: Global, core: &mut Core<R, M>, ask: Ask<R, M>) -> Answer<R, M> {
+    core.apply(alloc, ask)
+}
+
+/// What a session is answered, and the work that its scan awaits then.
+pub fn ask_session<R: Relay, M: Meter>(
+    alloc: Global,
+    core: &mut Core<R, M>,
+    asked: SessionAsk,
+) -> Result<(SessionAnswer, Option<Work<M>>), Fail> {
+    match ask(alloc, core, Ask::Session(asked)) {
+        Answer::Session(answer, work) => Ok((answer, work)),
+        _ => Err("a session's ask was answered as a card's")?,
+    }
+}
+
+/// Asks what is no session's ask and awaits no work but a piece of work that is taken, and gives the next one.
+pub fn take<R: Relay, M: Meter>(
+    alloc: Global,
+    core: &mut Core<R, M>,
+    happening: Ask<R, M>,
+) -> Result<Option<Work<M>>, Fail> {
+    match ask(alloc, core, happening) {
+        Answer::Taken(next) => Ok(next),
+        _ => Err("a piece of work was not taken")?,
+    }
+}
 
 /// What a Join is answered.
 pub fn join<R: Relay, M: Meter>(
     alloc: Global,
     core: &mut Core<R, M>,
 ) -> Result<SessionAnswer, Fail> {
-    match core.apply(alloc, Ask::Session(SessionAsk::Join)) {
-        Answer::Session(answer, _) => Ok(answer),
-        _ => Err(NOT_A_SESSION)?,
-    }
+    let (answer, _) = ask_session(alloc, core, SessionAsk::Join)?;
+    Ok(answer)
 }
 
 /// Joins as a session.
@@ -31,20 +55,6 @@ pub fn joined<R: Relay, M: Meter>(alloc: Global, core: &mut Core<R, M>) -> Resul
     }
 }
 
-/// Offers a card to the slot. A card that is refused comes back.
-pub fn offer<R: Relay, M: Meter>(
-    alloc: Global,
-    core: &mut Core<R, M>,
-    slot: u8,
-    card: Card<R, M>,
-) -> Result<Option<(InstallRefusal, Card<R, M>)>, Fail> {
-    match core.apply(alloc, Ask::Install(slot, card)) {
-        Answer::Installed => Ok(None),
-        Answer::NotInstalled(refusal, card) => Ok(Some((refusal, card))),
-        _ => Err("a card was answered as something else")?,
-    }
-}
-
 /// Puts a card into the slot.
 pub fn install<R: Relay, M: Meter>(
     alloc: Global,
@@ -52,9 +62,23 @@ pub fn install<R: Relay, M: Meter>(
     slot: u8,
     card: Card<R, M>,
 ) -> Result<(), Fail> {
-    match offer(alloc, core, slot, card)? {
-        None => Ok(()),
-        Some(_) => Err("a card was refused")?,
+    let answer = ask(alloc, core, Ask::Install(slot, card));
+    match is_installed(&answer) {
+        true => Ok(()),
+        false => Err("a card was refused")?,
+    }
+}
+
+/// Offers a card to the slot that does not take it, and gives it back.
+pub fn refused_card<R: Relay, M: Meter>(
+    alloc: Global,
+    core: &mut Core<R, M>,
+    slot: u8,
+    card: Card<R, M>,
+) -> Result<(InstallRefusal, Card<R, M>), Fail> {
+    match ask(alloc, core, Ask::Install(slot, card)) {
+        Answer::NotInstalled(refusal, card) => Ok((refusal, card)),
+        _ => Err("a card was not refused")?,
     }
 }
 
@@ -63,11 +87,33 @@ pub fn eject<R: Relay, M: Meter>(
     alloc: Global,
     core: &mut Core<R, M>,
     slot: u8,
-) -> Result<Result<Card<R, M>, EjectRefusal>, Fail> {
-    match core.apply(alloc, Ask::Eject(slot)) {
-        Answer::Ejected(card) => Ok(Ok(card)),
-        Answer::NotEjected(refusal) => Ok(Err(refusal)),
-        _ => Err("an eject was answered as something else")?,
+) -> Result<Card<R, M>, Fail> {
+    match ask(alloc, core, Ask::Eject(slot)) {
+        Answer::Ejected(card) => Ok(card),
+        _ => Err("no card came out")?,
+    }
+}
+
+/// Why no card comes out of the slot, if none does.
+pub fn refused_eject<R: Relay, M: Meter>(
+    alloc: Global,
+    core: &mut Core<R, M>,
+    slot: u8,
+) -> Option<EjectRefusal> {
+    let answer = ask(alloc, core, Ask::Eject(slot));
+    why_not_ejected(&answer)
+}
+
+/// Whether the card is in its slot.
+fn is_installed<R: Relay, M: Meter>(answer: &Answer<R, M>) -> bool {
+    matches!(answer, Answer::Installed)
+}
+
+/// Why no card came out, if none did.
+fn why_not_ejected<R: Relay, M: Meter>(answer: &Answer<R, M>) -> Option<EjectRefusal> {
+    match answer {
+        Answer::NotEjected(refusal) => Some(*refusal),
+        _ => None,
     }
 }
 
@@ -101,7 +147,7 @@ pub fn is_refused(answer: &SessionAnswer, error: ScpiError) -> bool {
 
 /// Whether the external trigger is missed.
 pub fn misses_external<R: Relay, M: Meter>(alloc: Global, core: &mut Core<R, M>) -> bool {
-    let answer = core.apply(alloc, Ask::External);
+    let answer = ask(alloc, core, Ask::External);
     is_missed(&answer)
 }
 
@@ -111,7 +157,7 @@ pub fn misses_end<R: Relay, M: Meter>(
     core: &mut Core<R, M>,
     ticket: Ticket,
 ) -> bool {
-    let answer = core.apply(alloc, Ask::Elapsed(ticket));
+    let answer = ask(alloc, core, Ask::Elapsed(ticket));
     is_missed(&answer)
 }
 
@@ -121,7 +167,7 @@ pub fn misses_return<R: Relay, M: Meter>(
     core: &mut Core<R, M>,
     job: Job<M>,
 ) -> bool {
-    let answer = core.apply(alloc, Ask::Finished(job.run()));
+    let answer = ask(alloc, core, Ask::Finished(job.run()));
     is_missed(&answer)
 }
 
@@ -132,10 +178,8 @@ pub fn unit<R: Relay, M: Meter>(
     sid: Sid,
     command: Command,
 ) -> Result<SessionAnswer, Fail> {
-    match core.apply(alloc, Ask::Session(SessionAsk::Unit(sid, command, false))) {
-        Answer::Session(answer, _) => Ok(answer),
-        _ => Err(NOT_A_SESSION)?,
-    }
+    let (answer, _) = ask_session(alloc, core, SessionAsk::Unit(sid, command, false))?;
+    Ok(answer)
 }
 
 /// What a session is answered that asks what a scan would begin from.
@@ -144,9 +188,18 @@ pub fn snapshot<R: Relay, M: Meter>(
     core: &mut Core<R, M>,
     sid: Sid,
 ) -> Result<SessionAnswer, Fail> {
-    match core.apply(alloc, Ask::Session(SessionAsk::Snapshot(sid))) {
-        Answer::Session(answer, _) => Ok(answer),
-        _ => Err(NOT_A_SESSION)?,
+    let (answer, _) = ask_session(alloc, core, SessionAsk::Snapshot(sid))?;
+    Ok(answer)
+}
+
+/// The command of a message of one unit.
+fn command_of(alloc: Global, text: &[u8]) -> Result<Command, Fail> {
+    let Ok(Some((unit, _))) = next_unit(text) else {
+        return Err("no unit was sent")?;
+    };
+    match resolve(alloc, &unit, Path::root()).command {
+        Ok(command) => Ok(command),
+        Err(_) => Err("no command was sent")?,
     }
 }
 
@@ -157,16 +210,9 @@ pub fn send<R: Relay, M: Meter>(
     sid: Sid,
     text: &[u8],
 ) -> Result<Option<Work<M>>, Fail> {
-    let Ok(Some((unit, _))) = next_unit(text) else {
-        return Err("no unit was sent")?;
-    };
-    let Ok(command) = resolve(alloc, &unit, Path::root()).command else {
-        return Err("no command was sent")?;
-    };
-    match core.apply(alloc, Ask::Session(SessionAsk::Unit(sid, command, false))) {
-        Answer::Session(_, work) => Ok(work),
-        _ => Err(NOT_A_SESSION)?,
-    }
+    let command = command_of(alloc, text)?;
+    let (_, work) = ask_session(alloc, core, SessionAsk::Unit(sid, command, false))?;
+    Ok(work)
 }
 
 /// Whether no scan runs.

@@ -2,7 +2,9 @@
 
 ghost use Rattle.std.specs.Prelude.{ℕ, Bool};
 
-use crate::asks::{check_closed, close, eject, install, is_done, is_refused, offer, set_up};
+use crate::asks::{
+    check_closed, close, eject, install, is_done, is_refused, refused_card, refused_eject, set_up,
+};
 use std::alloc::{AllocError, Global};
 use std::process::Abort;
 use std::sync::Arc;
@@ -78,13 +80,36 @@ fn take_out<R: Relay, M: Meter>(
     let answer = close(alloc, core, sid, &[Chan::new(1, 1), Chan::new(2, 1)])?;
     assert!(rt; is_done(&answer));
     check_closed(rt, alloc, core, sid, b"(@1!1,2!1)")?;
-    let Ok(card) = eject(alloc, core, 1)? else {
-        return Err("slot 1 gave no card")?;
-    };
+    let card = eject(alloc, core, 1)?;
     assert!(rt; card.serial() == 1 && !card.any_closed());
     check_closed(rt, alloc, core, sid, b"(@2!1)")?;
-    assert!(rt; matches!(eject(alloc, core, 1)?, Err(EjectRefusal::Vacant)));
+    assert_eq!(rt; refused_eject(alloc, core, 1), Some(EjectRefusal::Vacant));
     Ok(card)
+}
+
+/// A slot that has a card takes no other one.
+fn stay_occupied<R: Relay, M: Meter>(
+    rt: &impl Abort,
+    alloc: Global,
+    core: &mut Core<R, M>,
+    card: Card<R, M>,
+) -> Result<Card<R, M>, Fail> {
+    let (refusal, card) = refused_card(alloc, core, 2, card)?;
+    assert_eq!(rt; (refusal, card.serial()), (InstallRefusal::Occupied, 1));
+    Ok(card)
+}
+
+/// No slot takes a card with a closed channel, which it keeps closed.
+fn stay_out<R: Relay, M: Meter>(
+    rt: &impl Abort,
+    alloc: Global,
+    core: &mut Core<R, M>,
+    closed: R,
+) -> Result<(), Fail> {
+    let (refusal, card) = refused_card(alloc, core, 5, Card::relays(closed))?;
+    assert_eq!(rt; (refusal, card.serial()), (InstallRefusal::BadLayout, 7));
+    assert!(rt; card.is_closed(1));
+    Ok(())
 }
 
 /// Offers the card and one with a closed channel where they don't fit, and puts the card back.
@@ -97,16 +122,9 @@ fn exchange<R: Relay, M: Meter>(
 ) -> Result<(), Fail> {
     let (mut core, sid) = set_up(alloc, cards, meter)?;
     let card = take_out(rt, alloc, &mut core, sid)?;
-    let Some((refusal, back)) = offer(alloc, &mut core, 2, card)? else {
-        return Err("two cards in slot 2")?;
-    };
-    assert_eq!(rt; (refusal, back.serial()), (InstallRefusal::Occupied, 1));
-    let Some((refusal, closed)) = offer(alloc, &mut core, 5, Card::relays(closed))? else {
-        return Err("a card with a closed channel was installed")?;
-    };
-    assert_eq!(rt; (refusal, closed.serial()), (InstallRefusal::BadLayout, 7));
-    assert!(rt; closed.is_closed(1));
-    install(alloc, &mut core, 1, back)?;
+    let card = stay_occupied(rt, alloc, &mut core, card)?;
+    stay_out(rt, alloc, &mut core, closed)?;
+    install(alloc, &mut core, 1, card)?;
     check_closed(rt, alloc, &mut core, sid, b"(@2!1)")
 }
 

@@ -1,8 +1,9 @@
 //! Scans over a core of boxed cards: what they take, what they miss, and what ends them.
 
 use crate::asks::{
-    check_closed, eject, ignores_trigger, install, is_done, is_idle, is_refused, is_worn, join,
-    joined, misses_end, misses_external, misses_return, offer, send, set_up, snapshot, unit,
+    ask_session, check_closed, eject, ignores_trigger, install, is_done, is_idle, is_refused, is_worn,
+    join, joined, misses_end, misses_external, misses_return, refused_card, refused_eject, send, set_up,
+    snapshot, take, unit,
 };
 use crate::cards::{first_card, meter_card, second_card, third_card};
 use std::alloc::Global;
@@ -11,23 +12,10 @@ use std::test::Fail;
 use sw_base::ScpiError;
 use sw_cage::{EjectRefusal, InstallRefusal, Job, Ticket};
 use sw_card::{Card, Meter, Relay};
-use sw_core::{Answer, Ask, Core, SessionAnswer, SessionAsk, Sid, Work};
+use sw_core::{Ask, Core, SessionAnswer, SessionAsk, Sid, Work};
 use sw_kinds::{Mux, SimDriver};
 use sw_lex::Command;
 use sw_verify::Plan;
-
-/// Begins the scan of a plan, and gives the work that it awaits.
-fn start<R: Relay, M: Meter>(
-    alloc: Global,
-    core: &mut Core<R, M>,
-    sid: Sid,
-    plan: Plan,
-) -> Result<Option<Work<M>>, Fail> {
-    match core.apply(alloc, Ask::Session(SessionAsk::Start(sid, plan))) {
-        Answer::Session(_, work) => Ok(work),
-        _ => Err("a session's ask was answered as a card's")?,
-    }
-}
 
 /// Begins a scan of what is set, and gives the work that it awaits.
 fn initiate<R: Relay, M: Meter>(
@@ -35,12 +23,27 @@ fn initiate<R: Relay, M: Meter>(
     core: &mut Core<R, M>,
     sid: Sid,
 ) -> Result<Option<Work<M>>, Fail> {
-    let SessionAnswer::Snapshot(snapshot) = snapshot(alloc, core, sid)? else {
+    let plan = planned(snapshot(alloc, core, sid)?)?;
+    let (_, work) = ask_session(alloc, core, SessionAsk::Start(sid, plan))?;
+    Ok(work)
+}
+
+/// The plan of the scan that may begin.
+fn planned(answer: SessionAnswer) -> Result<Plan, Fail> {
+    let SessionAnswer::Snapshot(snapshot) = answer else {
         return Err("no scan may begin")?;
     };
     match Plan::make(snapshot) {
-        Ok(plan) => start(alloc, core, sid, plan),
+        Ok(plan) => Ok(plan),
         Err(_) => Err("the scan is not sound")?,
+    }
+}
+
+/// What a piece of work, once done, asks.
+fn done<R: Relay, M: Meter>(work: Work<M>) -> Ask<R, M> {
+    match work {
+        Work::Measure(job) => Ask::Finished(job.run()),
+        Work::Pause(ticket, _) => Ask::Elapsed(ticket),
     }
 }
 
@@ -50,17 +53,12 @@ fn carry_out<R: Relay, M: Meter>(
     core: &mut Core<R, M>,
     work: Option<Work<M>>,
 ) -> Result<u8, Fail> {
-    let mut work = work;
+    let mut next = work;
     for pieces in 0..100u8 {
-        let ask = match work {
-            None => return Ok(pieces),
-            Some(Work::Measure(job)) => Ask::Finished(job.run()),
-            Some(Work::Pause(ticket, _)) => Ask::Elapsed(ticket),
+        let Some(work) = next else {
+            return Ok(pieces);
         };
-        let Answer::Taken(next) = core.apply(alloc, ask) else {
-            return Err("a piece of work was not taken")?;
-        };
-        work = next;
+        next = take(alloc, core, done(work))?;
     }
     Err("the work never ends")?
 }
@@ -128,11 +126,9 @@ fn stay<R: Relay, M: Meter>(
     core: &mut Core<R, M>,
     other: R,
 ) -> Result<(), Fail> {
-    assert!(rt; matches!(eject(alloc, core, 4)?, Err(EjectRefusal::Out)));
-    assert!(rt; matches!(eject(alloc, core, 5)?, Err(EjectRefusal::Vacant)));
-    let Some((refusal, back)) = offer(alloc, core, 2, Card::relays(other))? else {
-        return Err("a card was installed in a scan")?;
-    };
+    assert_eq!(rt; refused_eject(alloc, core, 4), Some(EjectRefusal::Out));
+    assert_eq!(rt; refused_eject(alloc, core, 5), Some(EjectRefusal::Vacant));
+    let (refusal, back) = refused_card(alloc, core, 2, Card::relays(other))?;
     assert_eq!(rt; (refusal, back.serial()), (InstallRefusal::Busy, 7));
     Ok(())
 }
@@ -144,9 +140,7 @@ fn leave<R: Relay, M: Meter>(
     core: &mut Core<R, M>,
     sid: Sid,
 ) -> Result<Card<R, M>, Fail> {
-    let Ok(card) = eject(alloc, core, 1)? else {
-        return Err("slot 1 gave no card")?;
-    };
+    let card = eject(alloc, core, 1)?;
     assert!(rt; card.serial() == 1 && !card.any_closed());
     check_closed(rt, alloc, core, sid, b"(@)")?;
     assert!(rt; is_idle(alloc, core, sid)?);
@@ -181,7 +175,8 @@ fn pull<R: Relay, M: Meter>(
     let card = leave(rt, alloc, &mut core, sid)?;
     install(alloc, &mut core, 1, card)?;
     assert!(rt; misses_return(alloc, &mut core, job));
-    assert!(rt; eject(alloc, &mut core, 4)?.is_ok());
+    let meter = eject(alloc, &mut core, 4)?;
+    assert_eq!(rt; meter.serial(), 4);
     Ok(())
 }
 
