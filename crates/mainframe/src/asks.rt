@@ -9,24 +9,39 @@ use sw_card::{Card, Meter, Relay};
 use sw_core::{Answer, Ask, Core, SessionAnswer, SessionAsk, Sid, Work};
 use sw_lex::{Command, Path, next_unit, resolve};
 
+/// What was expected of a session was answered to a card.
+const NOT_A_SESSION: &str = "a session's ask was answered as a card's";
+
 /// Asks the core. It promises nothing, so that a test is checked without all that `apply` promises.
 fn ask<R: Relay, M: Meter>(alloc: Global, core: &mut Core<R, M>, ask: Ask<R, M>) -> Answer<R, M> {
     core.apply(alloc, ask)
 }
 
-/// What a session is answered, and the work that its scan awaits then.
-pub fn ask_session<R: Relay, M: Meter>(
+/// What a session is answered.
+pub fn answer_of<R: Relay, M: Meter>(
     alloc: Global,
     core: &mut Core<R, M>,
     asked: SessionAsk,
-) -> Result<(SessionAnswer, Option<Work<M>>), Fail> {
+) -> Result<SessionAnswer, Fail> {
     match ask(alloc, core, Ask::Session(asked)) {
-        Answer::Session(answer, work) => Ok((answer, work)),
-        _ => Err("a session's ask was answered as a card's")?,
+        Answer::Session(answer, _) => Ok(answer),
+        _ => Err(NOT_A_SESSION)?,
     }
 }
 
-/// Asks what is no session's ask and awaits no work but a piece of work that is taken, and gives the next one.
+/// The work that a scan awaits once a session has asked this.
+pub fn work_of<R: Relay, M: Meter>(
+    alloc: Global,
+    core: &mut Core<R, M>,
+    asked: SessionAsk,
+) -> Result<Option<Work<M>>, Fail> {
+    match ask(alloc, core, Ask::Session(asked)) {
+        Answer::Session(_, work) => Ok(work),
+        _ => Err(NOT_A_SESSION)?,
+    }
+}
+
+/// Tells the scan of a piece of work that is done, and gives the next one.
 pub fn take<R: Relay, M: Meter>(
     alloc: Global,
     core: &mut Core<R, M>,
@@ -43,8 +58,7 @@ pub fn join<R: Relay, M: Meter>(
     alloc: Global,
     core: &mut Core<R, M>,
 ) -> Result<SessionAnswer, Fail> {
-    let (answer, _) = ask_session(alloc, core, SessionAsk::Join)?;
-    Ok(answer)
+    answer_of(alloc, core, SessionAsk::Join)
 }
 
 /// Joins as a session.
@@ -55,6 +69,17 @@ pub fn joined<R: Relay, M: Meter>(alloc: Global, core: &mut Core<R, M>) -> Resul
     }
 }
 
+/// Whether the slot takes the card.
+fn takes<R: Relay, M: Meter>(
+    alloc: Global,
+    core: &mut Core<R, M>,
+    slot: u8,
+    card: Card<R, M>,
+) -> bool {
+    let answer = ask(alloc, core, Ask::Install(slot, card));
+    is_installed(&answer)
+}
+
 /// Puts a card into the slot.
 pub fn install<R: Relay, M: Meter>(
     alloc: Global,
@@ -62,11 +87,10 @@ pub fn install<R: Relay, M: Meter>(
     slot: u8,
     card: Card<R, M>,
 ) -> Result<(), Fail> {
-    let answer = ask(alloc, core, Ask::Install(slot, card));
-    match is_installed(&answer) {
-        true => Ok(()),
-        false => Err("a card was refused")?,
+    if !takes(alloc, core, slot, card) {
+        Err("a card was refused")?;
     }
+    Ok(())
 }
 
 /// Offers a card to the slot that does not take it, and gives it back.
@@ -178,8 +202,7 @@ pub fn unit<R: Relay, M: Meter>(
     sid: Sid,
     command: Command,
 ) -> Result<SessionAnswer, Fail> {
-    let (answer, _) = ask_session(alloc, core, SessionAsk::Unit(sid, command, false))?;
-    Ok(answer)
+    answer_of(alloc, core, SessionAsk::Unit(sid, command, false))
 }
 
 /// What a session is answered that asks what a scan would begin from.
@@ -188,8 +211,7 @@ pub fn snapshot<R: Relay, M: Meter>(
     core: &mut Core<R, M>,
     sid: Sid,
 ) -> Result<SessionAnswer, Fail> {
-    let (answer, _) = ask_session(alloc, core, SessionAsk::Snapshot(sid))?;
-    Ok(answer)
+    answer_of(alloc, core, SessionAsk::Snapshot(sid))
 }
 
 /// The command of a message of one unit.
@@ -211,8 +233,7 @@ pub fn send<R: Relay, M: Meter>(
     text: &[u8],
 ) -> Result<Option<Work<M>>, Fail> {
     let command = command_of(alloc, text)?;
-    let (_, work) = ask_session(alloc, core, SessionAsk::Unit(sid, command, false))?;
-    Ok(work)
+    work_of(alloc, core, SessionAsk::Unit(sid, command, false))
 }
 
 /// Whether no scan runs.
