@@ -1,6 +1,7 @@
 pub mod Racks
 pub mod Changes
 pub mod Orders
+mod Compared
 pub mod Claiming
 pub mod Laws
 mod Calls

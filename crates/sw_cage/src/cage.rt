@@ -253,6 +253,41 @@ impl<R: Relay, M: Meter> Cage<R, M> {
         self.slots.bay(alloc, slot)
     }
 
+    /// Whether the slot holds what the layout's slot tells, where a meter that is out counts as the slot's.
+    fn has_bay(&self, slot: u8, bay: &Slot) -> bool
+        requires { (1 ≤ slot) × (slot ≤ 8) }
+        ensures { IsTrue result ↔ (bay.now ≡ slot_at (cage_layout self.now) slot) }
+    {
+        if self.out.at(slot).is_some() {
+            return bay.is_meter();
+        }
+        self.slots.is_as(slot, bay)
+    }
+
+    /// Whether the layout is that of the cards, as [`Cage::layout`] tells it. It takes no memory.
+    pub fn has_layout(&self, layout: &Layout) -> bool
+        ensures { IsTrue result ↔ (layout.now ≡ cage_layout self.now) }
+    {
+        let _ = &self.slots;
+        let bays = layout.slots();
+        if bays.len() != 8 {
+            return false;
+        }
+        for before in 0..8u8 {
+            if !self.has_bay(before + 1, &bays[before as usize]) {
+                return false;
+            }
+        }
+        true
+    }
+
+    /// Whether these are the closed channels, as [`Cage::closed_chans`] tells them. It takes no memory.
+    pub fn has_closed(&self, chans: &[Chan]) -> bool
+        ensures { IsTrue result ↔ (chans.now ≡ closed_list self.now.rack) }
+    {
+        self.slots.has_closed(chans)
+    }
+
     /// Whether the slot's meter is out.
     pub fn has_out(&self, slot: u8) -> bool
         ensures { result ≡ is_some (slot_at self.now.out slot) }

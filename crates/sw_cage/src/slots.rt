@@ -1,6 +1,6 @@
 //! The eight slots and their cards.
 
-ghost use Rattle.std.specs.Prelude.{◌≡◌, ℕ, ◌+◌, ◌-◌, ◌≤◌, ◌++◌, length, List, Bool, true, false, Option, None, Some, OnOk, OnErr, IfOk, IfErr, slice_set, replicate, is_some, ◌∷◌, []};
+ghost use Rattle.std.specs.Prelude.{◌≡◌, ℕ, ◌+◌, ◌-◌, ◌≤◌, ◌++◌, length, List, Bool, true, false, Option, None, Some, OnOk, OnErr, IfOk, IfErr, slice_set, replicate, is_some, ◌∷◌, [], ◌<◌, ◌↔◌, IsTrue, IfSome, IfNone, take};
 ghost use Rattle.std.specs.List.{filter};
 ghost use Rattle.sw_base.specs.Layout.{Channel, slot_at, is_present, group_of, IsClash, bay_has, bay_group, bay_is_meter, has_meter};
 ghost use Rattle.sw_card.specs.Account.{closed_at, is_meter, of_meter};
@@ -9,7 +9,7 @@ ghost use Rattle.sw_cage.specs.Change.{Sets, IsDisturbed};
 ghost use Rattle.sw_cage.specs.Install.{CanInstall, IsUnfit, SlotsRefuseInstall, SlotsRefuseEject};
 ghost use Rattle.sw_cage.specs.Close.{closed_with, HasClash, all_present, CanClose, RefusesClose};
 ghost use Rattle.sw_cage.specs.Claims.{Holds, ClosedBefore};
-ghost use Rattle.sw_cage.specs.Channels.{row, closed_list};
+ghost use Rattle.sw_cage.specs.Channels.{row, rows, closed_list};
 
 use crate::claims::Claims;
 use crate::refusal::{CloseRefusal, EjectRefusal, InstallRefusal};
@@ -160,6 +160,38 @@ fn bay_in<R: Relay, M: Meter>(alloc: Global, slot: &Option<Card<R, M>>) -> Resul
         return Ok(Slot::meter());
     }
     Ok(Slot::relays(groups(alloc, card)?))
+}
+
+/// Whether these are the groups of the card's channels, from channel 1 on.
+fn has_groups<R: Relay, M: Meter>(card: &Card<R, M>, groups: &[u8]) -> bool
+    ensures { IsTrue result ↔ (groups.now ≡ card.now.1.groups) }
+{
+    let count = card.channels();
+    if groups.len() != count as usize {
+        return false;
+    }
+    for before in 0..count {
+        if card.group(before + 1) != groups[before as usize] {
+            return false;
+        }
+    }
+    true
+}
+
+/// Whether the slot holds what the layout's slot tells.
+fn is_as_in<R: Relay, M: Meter>(slot: &Option<Card<R, M>>, bay: &Slot) -> bool
+    ensures { IsTrue result ↔ (bay.now ≡ option_bay (option_account slot.now)) }
+{
+    let Some(card) = slot else {
+        return !bay.is_meter() && bay.groups().is_none();
+    };
+    if card.is_meter() {
+        return bay.is_meter();
+    }
+    match bay.groups() {
+        Some(groups) => has_groups(card, groups),
+        None => false,
+    }
 }
 
 /// Eight slots that hold cards.
@@ -420,6 +452,42 @@ impl<R: Relay, M: Meter> Slots<R, M> {
         Ok(chans)
     }
 
+    /// Where the closed channels of one more slot end in the list, unless it is not the list of the closed ones.
+    fn past_closed(&self, before: u8, chans: &[Chan], at: usize) -> Option<usize>
+        requires slot_in { before < 8 }
+        requires within { at ≤ length chans.now }
+        requires kept { take at chans.now ≡ filter (is_closed self.now) (rows before) }
+        ensures within { IfSome result (λ past. past ≤ length chans.now) }
+        ensures kept { IfSome result (λ past. take past chans.now ≡ filter (is_closed self.now) (rows (before + 1))) }
+        ensures other { IfNone result (chans.now ≡ closed_list self.now → ⊥) }
+    {
+        let mut past = at;
+        for below in 0..99u8 {
+            let chan = Chan::new(before + 1, below + 1);
+            if self.is_closed(chan) {
+                if past >= chans.len() || chans[past] != chan {
+                    return None;
+                }
+                past += 1;
+            }
+        }
+        Some(past)
+    }
+
+    /// Whether these are the closed channels, by slot and channel.
+    pub(crate) fn has_closed(&self, chans: &[Chan]) -> bool
+        ensures { IsTrue result ↔ (chans.now ≡ closed_list self.now) }
+    {
+        let mut at = 0;
+        for before in 0..8u8 {
+            let Some(past) = self.past_closed(before, chans, at) else {
+                return false;
+            };
+            at = past;
+        }
+        at == chans.len()
+    }
+
     /// Takes the slot's meter out.
     pub(crate) fn take_meter(&mut self, slot: u8) -> MeterCard<M>
         requires slot_in { (1 ≤ slot) × (slot ≤ 8) }
@@ -444,6 +512,14 @@ impl<R: Relay, M: Meter> Slots<R, M> {
         ensures { IfOk result (λ bay. bay ≡ slot_at (layout_of self.now) slot) }
     {
         bay_in(alloc, &self.slots[slot as usize - 1])
+    }
+
+    /// Whether the slot holds what the layout's slot tells.
+    pub(crate) fn is_as(&self, slot: u8, bay: &Slot) -> bool
+        requires { (1 ≤ slot) × (slot ≤ 8) }
+        ensures { IsTrue result ↔ (bay.now ≡ slot_at (layout_of self.now) slot) }
+    {
+        is_as_in(&self.slots[slot as usize - 1], bay)
     }
 
     /// A law: of eight slots only present channels are closed, with a number in its range, and no two of them clash.

@@ -479,6 +479,7 @@ fn takes_what_is_awaited(rt: HostRuntime) -> Result<(), Fail> {
     let alloc = rt.alloc();
     let record = Arc::new(alloc, AtomicU64::new(0))?;
     let mut cage = recorded(alloc, &record)?;
+    let layout = cage.layout(alloc)?;
     let mut settings = settings_of(alloc, &[Chan::new(1, 1)], 1)?;
     settings.set_source(LayerName::Arm1, Source::Bus);
     settings.set_delay(LayerName::Trigger, 500_000)?;
@@ -487,6 +488,8 @@ fn takes_what_is_awaited(rt: HostRuntime) -> Result<(), Fail> {
     assert_eq!(&rt; (ticket, micros), (Ticket { scan: 1, index: 1 }, 500_000));
     let job = measuring(&rt, &mut cage, ticket)?;
     assert!(&rt; cage.has_out(4) && cage.is_closed(Chan::new(1, 1)) && cage.awaited().is_some());
+    assert!(&rt; cage.has_layout(&layout) && cage.has_closed(&[Chan::new(1, 1)]));
+    assert!(&rt; !cage.has_closed(&[]) && !cage.has_closed(&[Chan::new(1, 1), Chan::new(1, 2)]));
     assert!(&rt; cage.eject(4).is_err());
     cage.abort();
     assert!(&rt; !cage.is_running() && !cage.is_closed(Chan::new(1, 1)));

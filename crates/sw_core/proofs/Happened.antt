@@ -89,17 +89,14 @@ started p plan SaysEnded cage s may same ready goes e = record { may = may; told
 started p plan SaysFault cage s may same ready goes e = record { may = may; told = SaysFault; starts = (failed_goes (begun p.cage) cage p.settings 0 (SaysFault) goes, same, ready, goes, ap (λ (x : StatusSeen). told_panel p cage x) e); answer_is = refl; work_is = refl }
 
 -- no scan began: for want of memory, for what is so of the cage, or for a plan of another state
-pub unbegun : (p : Panel) (plan : Snapshot) (cage : CageSeen) → cage ≡ p.cage → MayScan p → StepStart p plan (any_failed p.cage.rack cage.rack) (Refused OutOfMemory) None (record p { cage = cage })
-unbegun p plan cage e may = (ap (λ (c : CageSeen). any_failed p.cage.rack c.rack) e ∙ failed_same p.cage.rack, may, ap (λ (c : CageSeen). told_panel p c p.status) e)
+pub unbegun : (p : Panel) (plan : Snapshot) (cage : CageSeen) → cage ≡ p.cage → MayScan p → plan ≡ snapshot_of p → StepStart p plan (any_failed p.cage.rack cage.rack) (Refused OutOfMemory) None (record p { cage = cage })
+unbegun p plan cage e may same = (ap (λ (c : CageSeen). any_failed p.cage.rack c.rack) e ∙ failed_same p.cage.rack, may, same, ap (λ (c : CageSeen). told_panel p c p.status) e)
 
 pub refused_start : (p : Panel) (plan : Snapshot) (error : ScpiError) → RefusesScan p error → StepStart p plan (any_failed p.cage.rack p.cage.rack) (Refused error) None p
 refused_start p plan InitIgnored h = (failed_same p.cage.rack, h, refl)
 refused_start p plan SettingsConflict h = (failed_same p.cage.rack, inl h, refl)
 refused_start p plan SystemError h = (failed_same p.cage.rack, h, refl)
 refused_start p plan error h = absurd h
-
-pub unmade_start : (p : Panel) (plan : Snapshot) → MayScan p → StepStart p plan (any_failed p.cage.rack p.cage.rack) (Refused OutOfMemory) None p
-unmade_start p plan may = (failed_same p.cage.rack, may, refl)
 
 pub stale_start : (p : Panel) (plan : Snapshot) → MayScan p → (plan ≡ snapshot_of p → ⊥) → StepStart p plan (any_failed p.cage.rack p.cage.rack) (Refused SettingsConflict) None p
 stale_start p plan may other = (failed_same p.cage.rack, inr (may, other), refl)

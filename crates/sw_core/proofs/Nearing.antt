@@ -340,7 +340,7 @@ still_start p sid plan f (Refused HardwareError) w q n h =
     let g : Goes (begun p.cage) p.settings 0 SaysFault q.cage = subst (λ (t : TakenSeen). Goes (begun p.cage) p.settings 0 t q.cage) (fault_told h.told h.answer_is) h.starts.3 in
     let r : Runs (bays_of (begun p.cage)) (p.cage.number + 1) (way p.settings 0) (next_place p.settings 0) SaysFault (bays_of q.cage) q.cage.scan = g.runs in
     inr r.over
-still_start p sid plan f (Refused OutOfMemory) None q n h = still_as p q h.2
+still_start p sid plan f (Refused OutOfMemory) None q n h = still_as p q h.3
 still_start p sid plan f (Refused SettingsConflict) None q n h = still_as p q h.2
 still_start p sid plan f (Refused e) None q n h = still_as p q h.2
 still_start p sid plan f a w q n h = absurd h

@@ -171,7 +171,7 @@ snapshot_quiet p f e q h = h.2
 
 start_quiet : (p : Panel) (plan : Snapshot) (f : Bool) (e : ScpiError) (q : Panel) → StepStart p plan f (Refused e) None q → IsQuiet p e q
 start_quiet p plan f HardwareError q h n = absurd (n refl)
-start_quiet p plan f OutOfMemory q h n = h.2
+start_quiet p plan f OutOfMemory q h n = h.3
 start_quiet p plan f SettingsConflict q h n = h.2
 start_quiet p plan f e q h n = h.2
 

@@ -286,7 +286,7 @@ snapshot_fine p f a q k h = absurd h
 start_fine : (p : Panel) (plan : Snapshot) (f : Bool) (a : SessionAnswer) (w : Option WorkView) (q : Panel) → IsFine p → StepStart p plan f a w q → IsFine q
 start_fine p plan f (Done None) w q k h = starts_fine p plan f h.told q k h.may h.starts
 start_fine p plan f (Refused HardwareError) w q k h = starts_fine p plan f h.told q k h.may h.starts
-start_fine p plan f (Refused OutOfMemory) None q k h = fine_is p q h.2 k
+start_fine p plan f (Refused OutOfMemory) None q k h = fine_is p q h.3 k
 start_fine p plan f (Refused SettingsConflict) None q k h = fine_is p q h.2 k
 start_fine p plan f (Refused e) None q k h = fine_is p q h.2 k
 start_fine p plan f a w q k h = absurd h

@@ -288,7 +288,7 @@ pub record IsStarted (p : Panel) (plan : Snapshot) (f : Bool) (answer : SessionA
 abbrev pub StepStart : Panel → Snapshot → Bool → SessionAnswer → Option WorkView → Panel → Type 0
 StepStart p plan f (Done None) work q = IsStarted p plan f (Done None) work q
 StepStart p plan f (Refused HardwareError) work q = IsStarted p plan f (Refused HardwareError) work q
-StepStart p plan f (Refused OutOfMemory) None q = (f ≡ false) × MayScan p × (q ≡ p)
+StepStart p plan f (Refused OutOfMemory) None q = (f ≡ false) × MayScan p × (plan ≡ snapshot_of p) × (q ≡ p)
 StepStart p plan f (Refused SettingsConflict) None q = (f ≡ false) × (RefusesScan p SettingsConflict ⊎ (MayScan p × (plan ≢ snapshot_of p))) × (q ≡ p)
 StepStart p plan f (Refused e) None q = (f ≡ false) × RefusesScan p e × (q ≡ p)
 StepStart p plan f answer work q = ⊥

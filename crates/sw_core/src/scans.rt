@@ -1,6 +1,6 @@
 //! Scans: their beginning, what happens to them, and the meters that return.
 
-ghost use Rattle.std.specs.Prelude.{◌≡◌, Bool, IfOk, IfSome, IfNone, None, Some, false};
+ghost use Rattle.std.specs.Prelude.{◌≡◌, Bool, IfOk, IfSome, IfNone, None, Some, false, ◌↔◌, IsTrue};
 ghost use Rattle.sw_cage.specs.Change.{any_failed};
 ghost use Rattle.sw_cage.specs.TakenSeen.{taken_seen};
 ghost use Rattle.sw_verify.specs.Check.{IsReady};
@@ -188,13 +188,19 @@ impl<R: Relay, M: Meter> Core<R, M> {
         if let Some(error) = self.refuses_scan() {
             return (SessionAnswer::Refused(error), None);
         }
-        let Ok(now) = self.take_snapshot(alloc) else {
-            return (SessionAnswer::Refused(ScpiError::OutOfMemory), None);
-        };
-        if !now.is_same(plan.snapshot()) {
+        if !self.is_now(plan.snapshot()) {
             return (SessionAnswer::Refused(ScpiError::SettingsConflict), None);
         }
         self.begin(alloc, plan)
+    }
+
+    /// Whether the snapshot tells what is so now. It takes no memory.
+    fn is_now(&self, snapshot: &Snapshot) -> bool
+        ensures { IsTrue result ↔ (snapshot.now ≡ snapshot_of self.now) }
+    {
+        self.settings.is_same(&snapshot.settings)
+            && self.cage.has_layout(&snapshot.layout)
+            && self.cage.has_closed(snapshot.closed.as_slice())
     }
 
     fn begin(&mut self, alloc: Global, plan: Plan) -> (SessionAnswer, Option<Work<M>>)

@@ -2,4 +2,3 @@ pub mod Round
 pub mod Checked
 pub mod Throughout
 pub mod First
-pub mod Same

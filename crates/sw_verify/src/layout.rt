@@ -1,6 +1,6 @@
 //! Which cards stand in the slots of the cage.
 
-ghost use Rattle.std.specs.Prelude.{◌≡◌, ◌↔◌, Some, None, IsTrue, IfSome, IfNone};
+ghost use Rattle.std.specs.Prelude.{◌≡◌, ◌↔◌, ℕ, List, Some, None, IsTrue, IfSome, IfNone};
 ghost use Rattle.sw_base.specs.Layout.{relays, meter, bay_has, bay_group, bay_is_meter, slot_at, is_present, group_of, has_meter};
 
 use std::marker::Model;
@@ -58,15 +58,14 @@ impl Slot {
         }
     }
 
-    /// Whether the two hold the same.
-    pub fn is_same(&self, other: &Slot) -> bool
-        ensures { IsTrue result ↔ (self.now ≡ other.now) }
+    /// The groups of its relay card's channels, from channel 1 on.
+    pub fn groups(&self) -> Option<&[u8]>
+        ensures relays { IfSome result (λ groups. self.now ≡ Some (relays groups.now)) }
+        ensures none { IfNone result ((groups : List ℕ) → self.now ≡ Some (relays groups) → ⊥) }
     {
-        match (&self.holds, &other.holds) {
-            (Holds::Empty, Holds::Empty) => true,
-            (Holds::Meter, Holds::Meter) => true,
-            (Holds::Relays(a), Holds::Relays(b)) => a.as_slice() == b.as_slice(),
-            _ => false,
+        match &self.holds {
+            Holds::Relays(groups) => Some(groups.as_slice()),
+            _ => None,
         }
     }
 
@@ -94,8 +93,10 @@ impl Slot {
         }
     }
 
-    fn is_meter(&self) -> bool
-        ensures { result ≡ bay_is_meter self.now }
+    /// Whether it holds a meter.
+    pub fn is_meter(&self) -> bool
+        ensures is { result ≡ bay_is_meter self.now }
+        ensures meter { IsTrue result ↔ (self.now ≡ Some meter) }
     {
         match &self.holds {
             Holds::Meter => true,
@@ -158,21 +159,11 @@ impl Layout {
         }
     }
 
-    /// Whether the two hold the same in each slot.
-    pub fn is_same(&self, other: &Layout) -> bool
-        ensures { IsTrue result ↔ (self.now ≡ other.now) }
+    /// What each slot holds, from slot 1 on.
+    pub fn slots(&self) -> &[Slot]
+        ensures { result.now ≡ self.now }
     {
-        let slots = self.slots.as_slice();
-        let others = other.slots.as_slice();
-        if slots.len() != others.len() {
-            return false;
-        }
-        for i in 0..slots.len() {
-            if !slots[i].is_same(&others[i]) {
-                return false;
-            }
-        }
-        true
+        self.slots.as_slice()
     }
 
     fn slot(&self, slot: u8) -> Option<&Slot>

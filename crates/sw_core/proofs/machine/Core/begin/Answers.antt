@@ -13,7 +13,7 @@ use Rattle.sw_core.proofs.machine.Core.begin.Goals as goal
 pub returns-in-Err : goal.returns-in-Err
 returns-in-Err g c =
     let p : Panel = record { cage = c.self.inside.cage; sessions = c.self.inside.sessions; status = c.self.inside.status; settings = c.self.inside.settings; pending = c.self.inside.pending; events = c.self.inside.events } in
-    rw (← c.self.view_is) (unbegun p c.args.plan c.start.new.self c.in-Err.ensures.err (subst (λ (x : Panel). MayScan x) (sym c.self.view_is) c.requires.may))
+    rw (← c.self.view_is) (unbegun p c.args.plan c.start.new.self c.in-Err.ensures.err (subst (λ (x : Panel). MayScan x) (sym c.self.view_is) c.requires.may) (subst (λ (x : Panel). c.args.plan ≡ snapshot_of x) (sym c.self.view_is) c.requires.same))
 
 pub returns-in-Ok : goal.returns-in-Ok
 returns-in-Ok g c =

@@ -1,0 +1,7 @@
+use Rattle.std.proofs.Common.{sym, arith}
+use Rattle.sw_cage.specs.Rack.{is_closed}
+use Rattle.sw_cage.proofs.Orders.{rows_start}
+use Rattle.sw_cage.proofs.slots.Slots.has_closed.Goals as goal
+
+pub loop-before-init : goal.loop-before-init
+loop-before-init g c = record { within = omega arith; kept = sym (rows_start (is_closed c.args.self.now)) }
