@@ -1,9 +1,9 @@
 //! Scans over a core of boxed cards: what they take, what they miss, and what ends them.
 
 use crate::asks::{
-    ask_session, check_closed, eject, ignores_trigger, install, is_done, is_idle, is_refused, is_worn,
-    join, joined, misses_end, misses_external, misses_return, refused_card, refused_eject, send, set_up,
-    snapshot, take, unit,
+    answer_of, check_closed, eject, ignores_trigger, install, is_done, is_idle, is_refused,
+    is_worn, join, joined, misses_end, misses_external, misses_return, refused_card, refused_eject,
+    send, set_up, snapshot, take, unit, work_of,
 };
 use crate::cards::{first_card, meter_card, second_card, third_card};
 use std::alloc::Global;
@@ -17,15 +17,24 @@ use sw_kinds::{Mux, SimDriver};
 use sw_lex::Command;
 use sw_verify::Plan;
 
+/// The plan of a scan of what is set.
+fn made_plan<R: Relay, M: Meter>(
+    alloc: Global,
+    core: &mut Core<R, M>,
+    sid: Sid,
+) -> Result<Plan, Fail> {
+    let answer = snapshot(alloc, core, sid)?;
+    planned(answer)
+}
+
 /// Begins a scan of what is set, and gives the work that it awaits.
 fn initiate<R: Relay, M: Meter>(
     alloc: Global,
     core: &mut Core<R, M>,
     sid: Sid,
 ) -> Result<Option<Work<M>>, Fail> {
-    let plan = planned(snapshot(alloc, core, sid)?)?;
-    let (_, work) = ask_session(alloc, core, SessionAsk::Start(sid, plan))?;
-    Ok(work)
+    let plan = made_plan(alloc, core, sid)?;
+    work_of(alloc, core, SessionAsk::Start(sid, plan))
 }
 
 /// The plan of the scan that may begin.
@@ -189,6 +198,54 @@ fn cards_leave_a_running_scan(rt: HostRuntime) -> Result<(), Fail> {
     let other: Box<dyn Relay + Send> = Box::new(alloc, Mux::new(7, 4, 1, SimDriver::new()))?;
     let meter: Box<dyn Meter + Send> = Box::new(alloc, meter_card())?;
     pull(&rt, alloc, (first, second, third), other, meter)
+}
+
+/// Whether the start of the plan is refused as a conflict.
+fn is_stale<R: Relay, M: Meter>(
+    alloc: Global,
+    core: &mut Core<R, M>,
+    sid: Sid,
+    plan: Plan,
+) -> Result<bool, Fail> {
+    let answer = answer_of(alloc, core, SessionAsk::Start(sid, plan))?;
+    Ok(is_refused(&answer, ScpiError::SettingsConflict))
+}
+
+/// Whether a plan is stale once this was sent.
+fn is_outdated_by<R: Relay, M: Meter>(
+    alloc: Global,
+    core: &mut Core<R, M>,
+    sid: Sid,
+    text: &[u8],
+) -> Result<bool, Fail> {
+    let plan = made_plan(alloc, core, sid)?;
+    let _ = send(alloc, core, sid, text)?;
+    is_stale(alloc, core, sid, plan)
+}
+
+/// A plan begins no scan once its settings or the closed channels have changed.
+fn outdate<R: Relay, M: Meter>(
+    rt: &impl Abort,
+    alloc: Global,
+    cards: (R, R, R),
+    meter: M,
+) -> Result<(), Fail> {
+    let (mut core, sid) = set_up(alloc, cards, meter)?;
+    let _ = send(alloc, &mut core, sid, b"ROUT:SCAN (@1!1)")?;
+    assert!(rt; is_outdated_by(alloc, &mut core, sid, b"TRIG:COUN 2")?);
+    assert!(rt; is_outdated_by(alloc, &mut core, sid, b"ROUT:CLOS (@2!1)")?);
+    assert!(rt; !is_outdated_by(alloc, &mut core, sid, b"*CLS")?);
+    Ok(())
+}
+
+#[test]
+fn stale_plans_begin_nothing(rt: HostRuntime) -> Result<(), Fail> {
+    let alloc = rt.alloc();
+    let first: Box<dyn Relay + Send> = Box::new(alloc, first_card(None))?;
+    let second: Box<dyn Relay + Send> = Box::new(alloc, second_card())?;
+    let third: Box<dyn Relay + Send> = Box::new(alloc, third_card())?;
+    let meter: Box<dyn Meter + Send> = Box::new(alloc, meter_card())?;
+    outdate(&rt, alloc, (first, second, third), meter)
 }
 
 /// Once all events are numbered, an ask is handed back, but a scan can still be aborted.
