@@ -1,0 +1,7 @@
+pub mod KindNumbers
+pub mod Headers
+pub mod Decoders
+pub mod Streams
+pub mod ComingBack
+pub mod Runs
+pub mod Cuts

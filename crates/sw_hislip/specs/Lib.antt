@@ -1,0 +1,4 @@
+pub mod Kinds
+pub mod Wire
+pub mod Pending
+pub mod Stream
