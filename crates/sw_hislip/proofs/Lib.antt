@@ -5,3 +5,4 @@ pub mod Streams
 pub mod ComingBack
 pub mod Runs
 pub mod Cuts
+pub mod LockProofs

@@ -1,6 +1,8 @@
-//! What holds of every decoder and every stream.
+//! What holds of every decoder, every stream and every table of locks.
 
-ghost use Rattle.std.specs.Prelude.{ℕ, List};
+ghost use Rattle.std.specs.Prelude.{◌≡◌, ℕ, List, length};
+ghost use Rattle.sw_hislip.specs.LockTable.{LockTable};
+ghost use Rattle.sw_hislip.specs.LockRules.{AreRules};
 ghost use Rattle.sw_hislip.specs.declared.message.Message.{Message};
 ghost use Rattle.sw_hislip.specs.Pending.{Pending};
 ghost use Rattle.sw_hislip.specs.Stream.{Call, EveryMessageComesOut, OneStream, CutsDoNotMatter, ComesBack};
@@ -23,4 +25,9 @@ pub fn cuts_do_not_matter()
 /// A message that was encoded is decoded as it was, whatever follows it.
 pub fn encoded_is_decoded()
     ensures { (m : Message) → ComesBack m }
+{}
+
+/// A session is admitted, and a lock is granted, exactly where the rules say so in terms of the other sessions.
+pub fn locks_keep_their_rules()
+    ensures { (l : LockTable) (sid : ℕ) → length l.keys ≡ 16 → AreRules l sid }
 {}

@@ -1,6 +1,6 @@
 //! Messages as the bytes that clients and instruments exchange, and streams in all cuts.
 
-use crate::{Decoder, Kind, Message, WireFault, encode};
+use crate::{Decoder, Kind, LockReply, Locks, Message, Released, WireFault, encode};
 use std::alloc::{AllocError, Global};
 use std::test::Fail;
 use sw_base::Sequence;
@@ -240,4 +240,39 @@ fn single_bytes_give_the_same(rt: HostRuntime) -> Result<(), Fail> {
     }
     assert_eq!(rt; told.as_slice(), stream.as_slice());
     Ok(())
+}
+
+#[test]
+fn locks_go_by_their_rules(rt: HostRuntime) {
+    let alloc = rt.alloc();
+    let mut locks = Locks::new();
+    assert_eq!(rt; locks.ask(alloc, 1, b""), LockReply::Granted);
+    assert_eq!(rt; locks.ask(alloc, 2, b"k"), LockReply::NotNow);
+    assert_eq!(rt; locks.info(), (true, 1));
+    assert_eq!(rt; locks.ask(alloc, 1, b"k"), LockReply::Granted);
+    assert_eq!(rt; locks.info(), (true, 1));
+    assert_eq!(rt; locks.release(1), Released::Exclusive);
+    assert_eq!(rt; locks.release(1), Released::Shared);
+    assert_eq!(rt; locks.release(1), Released::Nothing);
+    assert_eq!(rt; locks.ask(alloc, 1, b""), LockReply::Granted);
+    assert_eq!(rt; locks.ask(alloc, 1, b""), LockReply::Wrong);
+}
+
+#[test]
+fn shared_locks_have_one_key(rt: HostRuntime) {
+    let alloc = rt.alloc();
+    let mut locks = Locks::new();
+    assert_eq!(rt; locks.ask(alloc, 1, &[b'k'; 257]), LockReply::Wrong);
+    assert_eq!(rt; locks.ask(alloc, 1, &[b'k'; 256]), LockReply::Granted);
+    assert_eq!(rt; locks.ask(alloc, 16, b"k"), LockReply::NotNow);
+    assert_eq!(rt; locks.ask(alloc, 16, &[b'k'; 256]), LockReply::Granted);
+    assert_eq!(rt; locks.info(), (false, 2));
+    assert!(rt; locks.admits(16));
+    assert!(rt; !locks.admits(2));
+    assert_eq!(rt; locks.ask(alloc, 2, b""), LockReply::NotNow);
+    assert_eq!(rt; locks.ask(alloc, 1, b""), LockReply::Granted);
+    assert!(rt; !locks.admits(16));
+    locks.leave(1);
+    assert!(rt; locks.admits(16));
+    assert_eq!(rt; locks.info(), (false, 1));
 }
