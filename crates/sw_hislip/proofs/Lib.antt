@@ -6,3 +6,5 @@ pub mod ComingBack
 pub mod Runs
 pub mod Cuts
 pub mod LockProofs
+pub mod LockTurns
+pub mod Wrong

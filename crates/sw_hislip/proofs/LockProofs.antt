@@ -19,7 +19,7 @@ alone (Some n) sid =
       | inr differ ↦ (λ h. absurd (both_ways _ (ne_eqb n sid differ) (not-false _ (not-true _ h))), λ h. absurd (differ (h n refl)))
     ]
 
-none_at : (xs : Keys) (i : ℕ) → list_all is_none xs ≡ true → get_or xs i None ≡ None
+pub none_at : (xs : Keys) (i : ℕ) → list_all is_none xs ≡ true → get_or xs i None ≡ None
 none_at [] i h = refl
 none_at (None ∷ xs) zero h = refl
 none_at (None ∷ xs) (suc i) h = none_at xs i h

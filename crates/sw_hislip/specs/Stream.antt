@@ -7,7 +7,7 @@ use Rattle.sw_hislip.specs.declared.header.Header.{Header}
 use Rattle.sw_hislip.specs.declared.kind.Kind.{Kind}
 use Rattle.sw_hislip.specs.declared.message.Message.{Message}
 use Rattle.sw_hislip.specs.Wire.{header, wire, IsHeader, IsMessage}
-use Rattle.sw_hislip.specs.Pending.{longest, Pending, nothing_fed, fed, Waits, Gives, Holds}
+use Rattle.sw_hislip.specs.Pending.{longest, Pending, nothing_fed, fed, HasWrongPrologue, Waits, Gives, Holds}
 
 -- no whole message, however large, stands at the front
 abbrev pub IsRest : List ℕ → Type 0
@@ -100,3 +100,13 @@ abbrev pub ComesBack : Message → Type 0
 ComesBack m =
     (old new : Pending) (more : List ℕ) (answer : Result (Option Message) WireFault) → Holds old.bytes m more → Gives old answer new
     → ((answer ≡ Ok (Some m)) × (new ≡ record { bytes = more; skip = old.skip })) ⊎ (answer ≡ Err NoMemory)
+
+-- every answer is that the prologue is wrong
+abbrev pub AllWrong : List Call → Type 0
+AllWrong [] = Unit {0}
+AllWrong (feeds piece ∷ calls) = AllWrong calls
+AllWrong (answers answer ∷ calls) = (answer ≡ Err BadPrologue) × AllWrong calls
+
+-- Once a wrong prologue stands in a message's place, nothing else is answered.
+abbrev pub WrongPrologueStays : List Call → Type 0
+WrongPrologueStays calls = (p q : Pending) → HasWrongPrologue p.bytes → Leads p calls q → AllWrong calls
