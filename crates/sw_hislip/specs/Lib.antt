@@ -1,0 +1,6 @@
+pub mod Kinds
+pub mod Wire
+pub mod Pending
+pub mod Stream
+pub mod LockTable
+pub mod LockRules

@@ -1,0 +1,64 @@
+-- The rules of locks in terms of the other sessions, and what holds of the locks at all times.
+use Rattle.std.specs.Prelude.{◌≡◌, ◌≢◌, ◌≤◌, ℕ, true, ◌⊎◌, ◌↔◌, List, [], ◌∷◌, length, None, Some}
+use Rattle.sw_hislip.specs.declared.locks.LockReply.{LockReply}
+use Rattle.sw_hislip.specs.LockTable.{LockTable, no_locks, key_of, shares, admits, grants, Replies, released, left}
+
+abbrev pub IsSession : ℕ → Type 0
+IsSession sid = (1 ≤ sid) × (sid ≤ 16)
+
+abbrev pub NoOtherExcludes : LockTable → ℕ → Type 0
+NoOtherExcludes l sid = (other : ℕ) → l.exclusive ≡ Some other → other ≡ sid
+
+abbrev pub NobodyShares : LockTable → Type 0
+NobodyShares l = (other : ℕ) → IsSession other → key_of l other ≡ None
+
+abbrev pub NoOtherShares : LockTable → ℕ → Type 0
+NoOtherShares l sid = (other : ℕ) → IsSession other → other ≢ sid → key_of l other ≡ None
+
+-- whoever shares a lock has this key
+abbrev pub AllHaveKey : LockTable → List ℕ → Type 0
+AllHaveKey l key = (other : ℕ) (held : List ℕ) → IsSession other → key_of l other ≡ Some held → held ≡ key
+
+-- A session is admitted where no other holds the exclusive lock, and nobody or itself shares one.
+abbrev pub Admits : LockTable → ℕ → Type 0
+Admits l sid = NoOtherExcludes l sid × (NobodyShares l ⊎ (shares l sid ≡ true))
+
+-- The exclusive lock is granted where no other session holds it, and no other shares one or the asker does; the shared one
+-- where no other holds the exclusive one, and all that share one have the same key.
+abbrev pub Grants : LockTable → ℕ → List ℕ → Type 0
+Grants l sid [] = NoOtherExcludes l sid × (NoOtherShares l sid ⊎ (shares l sid ≡ true))
+Grants l sid (b ∷ key) = NoOtherExcludes l sid × AllHaveKey l (b ∷ key)
+
+-- the tests of the code are these rules
+pub record AreRules (l : LockTable) (sid : ℕ) : Type 0 where
+  pub admitted : (admits l sid ≡ true) ↔ Admits l sid
+  pub granted : (key : List ℕ) → (grants l sid key ≡ true) ↔ Grants l sid key
+
+-- ---- all calls
+
+-- what a session did: it asked by a key and was answered so, released, or left
+pub data Turn : Type 0 where
+  asks : ℕ → List ℕ → LockReply → Turn
+  releases : ℕ → Turn
+  leaves : ℕ → Turn
+
+abbrev pub Takes : LockTable → Turn → LockTable → Type 0
+Takes old (asks sid key reply) new = IsSession sid × Replies old sid key reply new
+Takes old (releases sid) new = IsSession sid × (new ≡ released old sid)
+Takes old (leaves sid) new = IsSession sid × (new ≡ left old sid)
+
+-- the turns in this order lead from one table to another
+abbrev pub LeadsTo : LockTable → List Turn → LockTable → Type 0
+LeadsTo old [] new = new ≡ old
+LeadsTo old (turn ∷ turns) new = (after : LockTable) × Takes old turn after × LeadsTo after turns new
+
+-- What holds at all times: whoever holds the exclusive lock is a session; all that share a lock have one key; and beside
+-- the exclusive lock only those share one with whom its holder shares it.
+pub record IsOrderly (l : LockTable) : Type 0 where
+  pub sessions : length l.keys ≡ 16
+  pub holder : (sid : ℕ) → l.exclusive ≡ Some sid → IsSession sid
+  pub one_key : (a b : ℕ) (j k : List ℕ) → IsSession a → IsSession b → key_of l a ≡ Some j → key_of l b ≡ Some k → j ≡ k
+  pub beside : (holder other : ℕ) (k : List ℕ) → l.exclusive ≡ Some holder → IsSession other → key_of l other ≡ Some k → key_of l holder ≡ Some k
+
+abbrev pub StaysOrderly : List Turn → LockTable → Type 0
+StaysOrderly turns l = LeadsTo no_locks turns l → IsOrderly l

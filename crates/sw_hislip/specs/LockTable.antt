@@ -1,0 +1,123 @@
+-- The locks that are held, and the rules by which they are granted (IVI-6.1 HiSLIP, lock transaction; what is said to be
+-- own there is this project's choice).
+use Rattle.std.specs.Prelude.{◌≡◌, ℕ, zero, suc, ◌+◌, ◌-◌, Bool, true, false, not, ◌==◌, ◌&&◌, ◌||◌, nat_lt, ◌⊎◌, List, [], ◌∷◌, length, slice_set, slice_index_or, Option, None, Some, is_some, is_none, if◌then◌else◌}
+use Rattle.std.specs.List.{list_all}
+use Rattle.std.specs.Str.{bytes_eq}
+use Rattle.sw_hislip.specs.declared.locks.LockReply.{LockReply}
+use Rattle.sw_hislip.specs.declared.locks.LockReply.TheVariants.{Granted, NotNow, Wrong}
+use Rattle.sw_hislip.specs.declared.locks.Released.{Released}
+use Rattle.sw_hislip.specs.declared.locks.Released.TheVariants.{Exclusive, Shared, Nothing}
+
+-- the session that holds the exclusive lock, and of each session from 1 to 16 the key by which it shares one
+pub record LockTable : Type 0 where
+  pub exclusive : Option ℕ
+  pub keys : List (Option (List ℕ))
+
+abbrev pub no_locks : LockTable
+no_locks = record { exclusive = None; keys = None ∷ None ∷ None ∷ None ∷ None ∷ None ∷ None ∷ None ∷ None ∷ None ∷ None ∷ None ∷ None ∷ None ∷ None ∷ None ∷ [] }
+
+-- ---- who holds what
+
+-- the key by which the session shares a lock
+abbrev pub key_of : LockTable → ℕ → Option (List ℕ)
+key_of l sid = slice_index_or l.keys (sid - 1) None
+
+abbrev pub shares : LockTable → ℕ → Bool
+shares l sid = is_some (key_of l sid)
+
+abbrev pub is_holder : ℕ → Option ℕ → Bool
+is_holder sid None = false
+is_holder sid (Some holder) = holder == sid
+
+abbrev pub excludes : LockTable → ℕ → Bool
+excludes l sid = is_holder sid l.exclusive
+
+-- another session holds the exclusive lock
+abbrev pub other_excludes : LockTable → ℕ → Bool
+other_excludes l sid = is_some l.exclusive && not (excludes l sid)
+
+abbrev pub nobody_shares : LockTable → Bool
+nobody_shares l = list_all is_none l.keys
+
+-- this is the key, where one is held
+abbrev pub agrees : List ℕ → Option (List ℕ) → Bool
+agrees key None = true
+agrees key (Some held) = bytes_eq held key
+
+-- all sessions that share a lock have this key
+abbrev pub one_key : LockTable → List ℕ → Bool
+one_key l key = list_all (agrees key) l.keys
+
+-- the session holds a lock
+abbrev pub holds : LockTable → ℕ → Bool
+holds l sid = excludes l sid || shares l sid
+
+-- how many of the sessions from 1 to n hold a lock
+unfoldable pub holders : LockTable → ℕ → ℕ
+holders l zero = 0
+holders l (suc n) = holders l n + (if holds l (suc n) then 1 else 0)
+
+-- ---- the rules
+
+-- The session is admitted: no other holds the exclusive lock, and nobody or itself shares one.
+abbrev pub admits : LockTable → ℕ → Bool
+admits l sid = not (other_excludes l sid) && (nobody_shares l || shares l sid)
+
+-- the shared lock is granted: no other session holds the exclusive one, and all that share one have the same key
+abbrev pub grants_shared : LockTable → ℕ → List ℕ → Bool
+grants_shared l sid key = not (other_excludes l sid) && one_key l key
+
+-- A lock is granted, by an empty key the exclusive one: where the session is admitted.
+abbrev pub grants : LockTable → ℕ → List ℕ → Bool
+grants l sid [] = admits l sid
+grants l sid (b ∷ key) = grants_shared l sid (b ∷ key)
+
+-- the key has more than 256 bytes, or the session shares a lock already
+abbrev pub is_wrong_key : LockTable → ℕ → List ℕ → Bool
+is_wrong_key l sid key = nat_lt 256 (length key) || shares l sid
+
+-- the ask is an error
+abbrev pub is_wrong : LockTable → ℕ → List ℕ → Bool
+is_wrong l sid [] = excludes l sid
+is_wrong l sid (b ∷ key) = is_wrong_key l sid (b ∷ key)
+
+abbrev pub with_key : LockTable → ℕ → Option (List ℕ) → LockTable
+with_key l sid key = record { exclusive = l.exclusive; keys = slice_set l.keys (sid - 1) key }
+
+-- once the lock was granted
+abbrev pub granted : LockTable → ℕ → List ℕ → LockTable
+granted l sid [] = record { exclusive = Some sid; keys = l.keys }
+granted l sid (b ∷ key) = with_key l sid (Some (b ∷ key))
+
+-- there was no memory for a key, of which an exclusive lock has none
+abbrev pub MayLackMemory : LockTable → ℕ → List ℕ → Type 0
+MayLackMemory l sid [] = ⊥
+MayLackMemory l sid (b ∷ key) = grants l sid (b ∷ key) ≡ true
+
+-- What is answered to an ask, and the locks after it.
+abbrev pub Replies : LockTable → ℕ → List ℕ → LockReply → LockTable → Type 0
+Replies old sid key Granted new = (is_wrong old sid key ≡ false) × (grants old sid key ≡ true) × (new ≡ granted old sid key)
+Replies old sid key NotNow new = (is_wrong old sid key ≡ false) × (grants old sid key ≡ false) × (new ≡ old)
+Replies old sid key Wrong new = ((is_wrong old sid key ≡ true) ⊎ MayLackMemory old sid key) × (new ≡ old)
+
+-- the same of a key that is not empty
+abbrev pub RepliesShared : LockTable → ℕ → List ℕ → LockReply → LockTable → Type 0
+RepliesShared old sid key Granted new = (is_wrong_key old sid key ≡ false) × (grants_shared old sid key ≡ true) × (new ≡ with_key old sid (Some key))
+RepliesShared old sid key NotNow new = (is_wrong_key old sid key ≡ false) × (grants_shared old sid key ≡ false) × (new ≡ old)
+RepliesShared old sid key Wrong new = ((is_wrong_key old sid key ≡ true) ⊎ (grants_shared old sid key ≡ true)) × (new ≡ old)
+
+-- ---- freeing
+
+abbrev pub without_exclusive : LockTable → LockTable
+without_exclusive l = record { exclusive = None; keys = l.keys }
+
+-- what a release frees: the exclusive lock first
+abbrev pub freed : LockTable → ℕ → Released
+freed l sid = if excludes l sid then Exclusive else (if shares l sid then Shared else Nothing)
+
+abbrev pub released : LockTable → ℕ → LockTable
+released l sid = if excludes l sid then without_exclusive l else (if shares l sid then with_key l sid None else l)
+
+-- a session that leaves frees both
+abbrev pub left : LockTable → ℕ → LockTable
+left l sid = with_key (if excludes l sid then without_exclusive l else l) sid None

@@ -1,0 +1,235 @@
+//! Who holds the locks of the instrument.
+
+ghost use Rattle.std.specs.Prelude.{◌≡◌, ◌≤◌, is_some, is_none, []};
+ghost use Rattle.std.specs.List.{list_all};
+ghost use Rattle.sw_hislip.specs.LockTable.{no_locks, agrees, shares, other_excludes, admits, excludes, holds, holders, Replies, RepliesShared, freed, released, left};
+
+use std::alloc::Global;
+use std::marker::Model;
+use sw_base::Sequence;
+
+/// The most sessions, which are numbered from 1 (own choice).
+pub const SESSIONS: u8 = 16;
+
+/// The most bytes of a key (IVI-6.1 HiSLIP, lock transaction).
+const LONGEST_KEY: usize = 256;
+
+/// What is answered to a session that asks for a lock.
+#[derive(Clone, Copy, Debug, PartialEq, Eq)]
+pub enum LockReply {
+    Granted,
+    /// Other sessions hold locks that forbid it now.
+    NotNow,
+    /// The session holds such a lock already, the key is too long, or there is no memory for it.
+    Wrong,
+}
+
+/// What a release freed.
+#[derive(Clone, Copy, Debug, PartialEq, Eq)]
+pub enum Released {
+    Exclusive,
+    Shared,
+    /// The session held no lock.
+    Nothing,
+}
+
+/// The locks that are held: at most one session holds the exclusive lock; those that share one hold it by a key.
+///
+/// Contracts see a `LockTable`: the session with the exclusive lock, and the key of each session that shares one.
+#[derive(Debug, Drop)]
+pub struct Locks {
+    exclusive: Option<u8>,
+    /// The keys of the sessions 1 to 16.
+    keys: [Option<Sequence<u8>>; 16],
+}
+
+impl Model for Locks {
+    ghost use Rattle.sw_hislip.specs.LockTable.{LockTable};
+
+    ghost Value = { LockTable };
+
+    ghost view = { λ l. record { exclusive = l.exclusive; keys = l.keys } };
+}
+
+impl Locks {
+    /// No lock is held.
+    pub fn new() -> Locks
+        ensures { result ≡ no_locks }
+    {
+        Locks {
+            exclusive: None,
+            keys: [
+                None, None, None, None, None, None, None, None, None, None, None, None, None, None,
+                None, None,
+            ],
+        }
+    }
+
+    /// A session asks for a lock: for the exclusive one by an empty key, else for the shared one by its key. `Wrong` goes
+    /// before `NotNow`, and want of memory for a key, which is `Wrong` too, after it. Only `Granted` changes anything.
+    pub fn ask(&mut self, alloc: Global, sid: u8, key: &[u8]) -> LockReply
+        requires { (1 ≤ sid) × (sid ≤ 16) }
+        ensures { Replies self.old sid key.now result self.new }
+    {
+        if key.is_empty() {
+            return self.ask_exclusive(sid);
+        }
+        self.ask_shared(alloc, sid, key)
+    }
+
+    /// Frees a lock of the session at once: the exclusive one first, then the shared one.
+    pub fn release(&mut self, sid: u8) -> Released
+        requires { (1 ≤ sid) × (sid ≤ 16) }
+        ensures which { result ≡ freed self.old sid }
+        ensures rest { self.new ≡ released self.old sid }
+    {
+        if self.excludes(sid) {
+            self.exclusive = None;
+            Released::Exclusive
+        } else if self.shares(sid) {
+            self.keys[(sid - 1) as usize] = None;
+            Released::Shared
+        } else {
+            Released::Nothing
+        }
+    }
+
+    /// Whether no lock of another session keeps the session out.
+    pub fn admits(&self, sid: u8) -> bool
+        requires { (1 ≤ sid) × (sid ≤ 16) }
+        ensures { result ≡ admits self.now sid }
+    {
+        !self.other_excludes(sid) && (none_held(&self.keys) || self.shares(sid))
+    }
+
+    /// Whether the exclusive lock is held, and how many sessions hold a lock.
+    #[tactic(auto, unfolding(crate::specs::LockTable::holders))]
+    pub fn info(&self) -> (bool, u8)
+        ensures exclusive { result.0 ≡ is_some self.now.exclusive }
+        ensures holders { result.1 ≡ holders self.now 16 }
+    {
+        let mut count = 0;
+        for before in 0..SESSIONS {
+            if self.holds(before + 1) {
+                count += 1;
+            }
+        }
+        (self.exclusive.is_some(), count)
+    }
+
+    /// Frees every lock of a session that leaves.
+    pub fn leave(&mut self, sid: u8)
+        requires { (1 ≤ sid) × (sid ≤ 16) }
+        ensures { self.new ≡ left self.old sid }
+    {
+        if self.excludes(sid) {
+            self.exclusive = None;
+        }
+        self.keys[(sid - 1) as usize] = None;
+    }
+
+    /// A session asks for the exclusive lock.
+    fn ask_exclusive(&mut self, sid: u8) -> LockReply
+        requires { (1 ≤ sid) × (sid ≤ 16) }
+        ensures { Replies self.old sid [] result self.new }
+    {
+        if self.excludes(sid) {
+            LockReply::Wrong
+        } else if self.admits(sid) {
+            self.exclusive = Some(sid);
+            LockReply::Granted
+        } else {
+            LockReply::NotNow
+        }
+    }
+
+    /// A session asks for the shared lock.
+    fn ask_shared(&mut self, alloc: Global, sid: u8, key: &[u8]) -> LockReply
+        requires { (1 ≤ sid) × (sid ≤ 16) }
+        ensures { RepliesShared self.old sid key.now result self.new }
+    {
+        if key.len() > LONGEST_KEY || self.shares(sid) {
+            return LockReply::Wrong;
+        }
+        if self.other_excludes(sid) || !all_agree(&self.keys, key) {
+            return LockReply::NotNow;
+        }
+        match Vec::from_slice(alloc, key) {
+            Err(_) => LockReply::Wrong,
+            Ok(key) => {
+                self.keys[(sid - 1) as usize] = Some(Sequence::new(key));
+                LockReply::Granted
+            }
+        }
+    }
+
+    /// Whether the session holds the exclusive lock.
+    fn excludes(&self, sid: u8) -> bool
+        ensures { result ≡ excludes self.now sid }
+    {
+        match self.exclusive {
+            None => false,
+            Some(holder) => holder == sid,
+        }
+    }
+
+    /// Whether another session holds the exclusive lock.
+    fn other_excludes(&self, sid: u8) -> bool
+        ensures { result ≡ other_excludes self.now sid }
+    {
+        match self.exclusive {
+            None => false,
+            Some(holder) => holder != sid,
+        }
+    }
+
+    /// Whether the session shares a lock.
+    fn shares(&self, sid: u8) -> bool
+        requires { (1 ≤ sid) × (sid ≤ 16) }
+        ensures { result ≡ shares self.now sid }
+    {
+        self.keys[(sid - 1) as usize].is_some()
+    }
+
+    /// Whether the session holds a lock.
+    fn holds(&self, sid: u8) -> bool
+        requires { (1 ≤ sid) × (sid ≤ 16) }
+        ensures { result ≡ holds self.now sid }
+    {
+        self.excludes(sid) || self.shares(sid)
+    }
+}
+
+/// Whether no key is held.
+fn none_held(keys: &[Option<Sequence<u8>>]) -> bool
+    ensures { result ≡ list_all is_none keys.now }
+{
+    for held in keys {
+        if held.is_some() {
+            return false;
+        }
+    }
+    true
+}
+
+/// Whether all keys that are held are this one.
+fn all_agree(keys: &[Option<Sequence<u8>>], key: &[u8]) -> bool
+    ensures { result ≡ list_all (agrees key.now) keys.now }
+{
+    for held in keys {
+        if !agrees(held, key) {
+            return false;
+        }
+    }
+    true
+}
+
+/// Whether this is the key, where one is held.
+fn agrees(held: &Option<Sequence<u8>>, key: &[u8]) -> bool
+    ensures { result ≡ agrees key.now held.now }
+{
+    match held {
+        None => true,
+        Some(held) => held.as_slice() == key,
+    }
+}

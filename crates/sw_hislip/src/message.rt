@@ -1,0 +1,18 @@
+//! Messages.
+
+use crate::kind::Kind;
+use sw_base::Sequence;
+
+/// The most bytes of a payload that is taken (own choice).
+pub const LONGEST_PAYLOAD: u64 = 65_536;
+
+/// A message: its kind, the two fields whose meaning depends on the kind, and its payload (IVI-6.1 HiSLIP, message header).
+#[derive(Debug, Drop)]
+pub struct Message {
+    pub kind: Kind,
+    /// The control code.
+    pub control: u8,
+    /// The message parameter.
+    pub parameter: u32,
+    pub payload: Sequence<u8>,
+}
