@@ -134,7 +134,7 @@ abbrev pub aborted : Panel → Panel
 aborted p = record p { cage = fall p.cage }
 
 -- The commands that do more than tell a number or set the status (SCPI-1999, 3, 18, 20, 21.8 and 24; IEEE 488.2, 10). What
--- is asked otherwise, and what the instrument doesn't carry out yet, is refused as an undefined header.
+-- no session asks as a command, INITiate and the macro commands among them, is refused as an undefined header.
 abbrev pub deed_of : Panel → Command → Deed
 deed_of p Command.Identify = Tells identity p.status
 deed_of p Command.VersionQuery = Tells version p.status

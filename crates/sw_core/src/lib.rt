@@ -2,10 +2,10 @@
 //!
 //! The crate's contract to the layers above: `Core::apply` answers and goes on as the relation `Step` of
 //! `specs/Step.antt` says, with one line for each legal pair of ask and answer. Over every run of such steps no absent
-//! channel is closed and no two closed channels clash; the laws in `laws.rt` say so, and what closing, opening, refusing,
-//! failing and ejecting come to.
+//! channel is closed and no two closed channels clash, and a scan does a prefix of its plan's agenda and ends; the laws in
+//! `laws.rt` say so, and what closing, opening, refusing, failing and ejecting come to.
 //!
-//! Errors are answered and not kept yet, and events aren't numbered. What a relay really does is its card's own word.
+//! Not promised: that memory is there, and what a relay really does, which is its card's own word.
 #![tactic(auto)]
 
 mod ask;
