@@ -1,5 +1,5 @@
 -- Where memory suffices and no card fails, a step leaves no choice.
-use Rattle.std.proofs.Common.{◌≡◌, ◌≢◌, ℕ, ◌-◌, ◌==◌, ◌&&◌, not, Bool, true, false, List, Option, None, Some, slice_set, refl, sym, ◌∙◌, ap, subst, arith, inl, inr, ◌⊎◌, is_some}
+use Rattle.std.proofs.Common.{◌≡◌, ◌≢◌, ℕ, ◌==◌, ◌&&◌, not, Bool, true, false, List, Option, None, Some, refl, sym, ◌∙◌, ap, subst, arith, inl, inr, ◌⊎◌, is_some}
 use Rattle.std.specs.Prelude.{decimal, MatchBool}
 use Rattle.std.proofs.lemmas.Bool.{cases_lt}
 use Rattle.sw_base.specs.Layout.{Channel, slot_at}
@@ -27,14 +27,16 @@ use Rattle.sw_core.specs.declared.ask.SessionAsk.{SessionAsk}
 use Rattle.sw_core.specs.declared.ask.SessionAsk.TheVariants as Ask
 use Rattle.sw_core.specs.declared.ask.SessionAnswer.{SessionAnswer}
 use Rattle.sw_core.specs.declared.ask.SessionAnswer.TheVariants as answers
-use Rattle.sw_core.specs.declared.ask.SessionAnswer.TheVariants.{Joined, Full, Stranger, Broken, Done, Refused, Hold, Worn}
-use Rattle.sw_core.specs.Sessions.{IsJoined, IsLeastFree}
+use Rattle.sw_core.specs.declared.ask.SessionAnswer.TheVariants.{Joined, Full, Stranger, Broken, Done, Lock, Refused, Hold, Worn}
+use Rattle.sw_core.specs.Sessions.{SessionsSeen, IsJoined, IsLeastFree, fresh, with_seat}
+use Rattle.sw_core.specs.Seats.{asker_of}
+use Rattle.sw_core.proofs.Seating.{IsSound, seat_once}
 use Rattle.sw_core.specs.Panel.{Panel, with_rack, is_running}
 use Rattle.sw_core.specs.Registers.{number_told, status_set, is_for_idle, waits_for_idle}
 use Rattle.sw_core.specs.Event.{concluded, last_number, next_number}
 use Rattle.sw_core.specs.View.{WorkView, AskView, AskSession, AskInstall, AskEject, AskExternal, AskElapsed, AskFinished, AnswerView, SaysSession, SaysInstalled, SaysNotInstalled, SaysEjected, SaysNotEjected, SaysFailed, SaysBack, SaysWorn}
-use Rattle.sw_core.specs.Step.{StepClose, StepOpen, StepFlags, StepText, StepDone, StepSetting, StepRefused, Deed, Tells, SetsUp, Leaves, Refuses, Closes, Opens, Flags, deed_of, StepDeed, StepFree, StepSet, StepNumber}
-use Rattle.sw_core.specs.Step.{session_told, work_of, outside_told, started_answer, happening_of, StepHappens, StepOffer, StepCommand, RefusesScan, MayScan, snapshot_of, StepSnapshot, IsStarted, StepStart, StepJoin, StepJoined, asker_of, StepSession, StepOutside, IsOut, IsReturned, StepFinished, Acts, acts_unnumbered, IsWorn, IsEvent, IsUnnumbered, Step}
+use Rattle.sw_core.specs.Step.{StepClose, StepOpen, StepFlags, StepText, StepDone, StepSetting, StepRefused, Deed, Tells, SetsUp, Leaves, Refuses, Closes, Opens, Flags, deed_of, StepDeed, StepFree, StepSet, StepNumber, StepAdmitted, StepAttach, StepNew, IsServed, drops, shuts_out}
+use Rattle.sw_core.specs.Step.{session_told, work_of, outside_told, started_answer, happening_of, StepHappens, StepOffer, StepCommand, RefusesScan, MayScan, snapshot_of, StepSnapshot, IsStarted, StepStart, StepJoin, StepJoined, StepSession, StepOutside, IsOut, IsReturned, StepFinished, Acts, acts_unnumbered, IsWorn, IsEvent, IsUnnumbered, Step}
 use Rattle.sw_core.specs.Run.{IsPlain}
 use Rattle.sw_core.proofs.Same.{sets_once}
 use Rattle.sw_core.proofs.Going.{happens_once, returns_once, starts_once}
@@ -137,6 +139,7 @@ IsAlike a a' w w' q q' = (a ≡ a') × (w ≡ w') × (q ≡ q')
 
 plain_any : (a : SessionAnswer) (w w' : Option WorkView) → IsPlain (SaysSession a w) → IsPlain (SaysSession a w')
 plain_any (Refused e) w w' h = h
+plain_any (Lock code) w w' h = h
 plain_any a w w' h = tt
 
 -- a plain answer tells of no card's failure
@@ -252,7 +255,7 @@ start_once p plan f f' a a' w w' q q' n m h k = elim (start_as p plan f a w q n 
 
 -- ---- sessions
 
-least_once : (sessions : List (Option ℕ)) (n m : ℕ) → IsLeastFree sessions n → IsLeastFree sessions m → n ≡ m
+least_once : (sessions : SessionsSeen) (n m : ℕ) → IsLeastFree sessions n → IsLeastFree sessions m → n ≡ m
 least_once sessions n m a b = elim (cases_lt n m) [
   | inl l ↦ absurd (b.below n a.first l a.free)
   | inr k ↦ elim (cases_lt m n) [ inl l ↦ absurd (a.below m b.first l b.free) | inr j ↦ omega arith ]
@@ -264,34 +267,87 @@ sid_once s t e f = ap (λ (n : ℕ). let r : Sid = record { number = n; joined =
 join_once : (p : Panel) (f f' : Bool) (a a' : SessionAnswer) (w w' : Option WorkView) (q q' : Panel) → StepJoin p f a w q → StepJoin p f' a' w' q' → IsAlike a a' w w' q q'
 join_once p f f' (Joined s) (Joined t) None None q q' h k =
     let e : s.number ≡ t.number = least_once p.sessions s.number t.number h.1 k.1 in
-    (ap Joined (sid_once s t e (h.2 ∙ sym k.2)), refl, h.3 ∙ ap (λ (x : ℕ). let r : Panel = record p { sessions = slice_set p.sessions (x - 1) (Some (next_number p.events)) } in r) e ∙ sym k.3)
+    (ap Joined (sid_once s t e (h.2 ∙ sym k.2)), refl, h.3 ∙ ap (λ (x : ℕ). let r : Panel = record p { sessions = with_seat p.sessions x (Some (fresh (next_number p.events))) } in r) e ∙ sym k.3)
 join_once p f f' (Joined s) Full None None q q' h k = absurd (k.1 s.number h.1.first h.1.last h.1.free)
 join_once p f f' Full (Joined s) None None q q' h k = absurd (h.1 s.number k.1.first k.1.last k.1.free)
 join_once p f f' Full Full None None q q' h k = (refl, refl, both p q q' h.2 k.2)
 join_once p f f' a a' w w' q q' h k = absurd (assumption (h, k))
 
+-- what is plain tells of no error of a lock
+plain_sound : (a : SessionAnswer) → IsPlain (SaysSession a None) → IsSound a
+plain_sound (Lock code) n = n
+plain_sound a n = tt
+
+served_once : (p : Panel) (ask : SessionAsk) (f f' : Bool) (a a' : SessionAnswer) (q q' : Panel) → IsPlain (SaysSession a None) → IsPlain (SaysSession a' None) → IsServed p ask f a q → IsServed p ask f' a' q' → IsAlike a a' None None q q'
+served_once p ask f f' a a' q q' n m h k =
+    let r = seat_once p.sessions ask a a' h.sessions k.sessions (plain_sound a n) (plain_sound a' m) h.served k.served in
+    (r.0, refl, h.after ∙ ap (λ (x : SessionsSeen). let y : Panel = record p { sessions = x } in y) r.1 ∙ sym k.after)
+
+-- an error is queued, and nothing else is answered
+fault_once : (p : Panel) (sid : Sid) (e : ScpiError) (f f' : Bool) (a a' : SessionAnswer) (q q' : Panel) → StepJoined p (Ask.Fault sid e) f a None q → StepJoined p (Ask.Fault sid e) f' a' None q' → IsAlike a a' None None q q'
+fault_once p sid e f f' (Done None) (Done None) q q' h k = (refl, refl, h.1 ∙ sym k.1)
+fault_once p sid e f f' (Done None) a' q q' h k = absurd k.served
+fault_once p sid e f f' a a' q q' h k = absurd h.served
+
+fault_none : (p : Panel) (sid : Sid) (e : ScpiError) (f : Bool) (a : SessionAnswer) (w : WorkView) (q : Panel) → StepJoined p (Ask.Fault sid e) f a (Some w) q → ⊥
+fault_none p sid e f (Done None) w q h = h
+fault_none p sid e f a w q h = h
+
 joined_once : (p : Panel) (ask : SessionAsk) (f f' : Bool) (a a' : SessionAnswer) (w w' : Option WorkView) (q q' : Panel) → IsPlain (SaysSession a None) → IsPlain (SaysSession a' None) → StepJoined p ask f a w q → StepJoined p ask f' a' w' q' → IsAlike a a' w w' q q'
-joined_once p (Ask.Leave sid) f f' (Done None) (Done None) None None q q' n m h k = (refl, refl, h.1 ∙ sym k.1)
-joined_once p (Ask.Fault sid e) f f' (Done None) (Done None) None None q q' n m h k = (refl, refl, h.1 ∙ sym k.1)
+joined_once p (Ask.Fault sid e) f f' a a' None None q q' n m h k = fault_once p sid e f f' a a' q q' h k
+joined_once p (Ask.Fault sid e) f f' a a' (Some w) w' q q' n m h k = absurd (fault_none p sid e f a w q h)
+joined_once p (Ask.Fault sid e) f f' a a' None (Some w) q q' n m h k = absurd (fault_none p sid e f' a' w q' k)
 joined_once p (Ask.Unit sid command answered) f f' a a' w w' q q' n m h k = command_once (is_running p && waits_for_idle command) p (Ask.Unit sid command answered) answered command f f' a a' w w' q q' n m h k
 joined_once p (Ask.Bus sid) f f' a a' w w' q q' n m h k = happening_once p Bus TriggerIgnored f f' a a' w w' q q' n m h k
 joined_once p (Ask.Snapshot sid) f f' a a' None None q q' n m h k = let r = snapshot_once p f f' a a' q q' n m h k in (r.0, refl, r.1)
 joined_once p (Ask.Start sid plan) f f' a a' w w' q q' n m h k = start_once p plan f f' a a' w w' q q' n m h k
+joined_once p (Ask.Attached sid) f f' b b' None None q q' n m h k = served_once p (Ask.Attached sid) f f' b b' q q' n m h k
+joined_once p (Ask.Leave sid) f f' b b' None None q q' n m h k = served_once p (Ask.Leave sid) f f' b b' q q' n m h k
+joined_once p (Ask.Size sid size) f f' b b' None None q q' n m h k = served_once p (Ask.Size sid size) f f' b b' q q' n m h k
+joined_once p (Ask.MaxSize sid) f f' b b' None None q q' n m h k = served_once p (Ask.MaxSize sid) f f' b b' q q' n m h k
+joined_once p (Ask.Clear sid) f f' b b' None None q q' n m h k = served_once p (Ask.Clear sid) f f' b b' q q' n m h k
+joined_once p (Ask.Cleared sid) f f' b b' None None q q' n m h k = served_once p (Ask.Cleared sid) f f' b b' q q' n m h k
+joined_once p (Ask.Lock sid key) f f' b b' None None q q' n m h k = served_once p (Ask.Lock sid key) f f' b b' q q' n m h k
+joined_once p (Ask.Release sid) f f' b b' None None q q' n m h k = served_once p (Ask.Release sid) f f' b b' q q' n m h k
+joined_once p (Ask.LockInfo sid) f f' b b' None None q q' n m h k = served_once p (Ask.LockInfo sid) f f' b b' q q' n m h k
+joined_once p Ask.Join f f' a a' None None q q' n m h k = served_once p Ask.Join f f' a a' q q' n m h k
+joined_once p (Ask.Attach number) f f' a a' None None q q' n m h k = served_once p (Ask.Attach number) f f' a a' q q' n m h k
 joined_once p ask f f' a a' w w' q q' n m h k = absurd (assumption (h, k))
+
+admitted_once : (b o : Bool) (p : Panel) (ask : SessionAsk) (f f' : Bool) (a a' : SessionAnswer) (w w' : Option WorkView) (q q' : Panel) → IsPlain (SaysSession a None) → IsPlain (SaysSession a' None) → StepAdmitted b o p ask f a w q → StepAdmitted b o p ask f' a' w' q' → IsAlike a a' w w' q q'
+admitted_once true o p ask f f' Broken Broken None None q q' n m h k = (refl, refl, both p q q' h.1 k.1)
+admitted_once true o p ask f f' a a' w w' q q' n m h k = absurd (assumption (h, k))
+admitted_once false true p ask f f' (Hold x) (Hold y) None None q q' n m h k = (ap Hold (h.1 ∙ sym k.1), refl, both p q q' h.2 k.2)
+admitted_once false true p ask f f' a a' w w' q q' n m h k = absurd (assumption (h, k))
+admitted_once false false p ask f f' a a' w w' q q' n m h k = joined_once p ask f f' a a' w w' q q' n m h k
+
+attach_once : (p : Panel) (number : ℕ) (f f' : Bool) (a a' : SessionAnswer) (w w' : Option WorkView) (q q' : Panel) → StepAttach p number f a w q → StepAttach p number f' a' w' q' → IsAlike a a' w w' q q'
+attach_once p number f f' (Joined s) (Joined t) None None q q' h k =
+    let after : q.sessions ≡ q'.sessions = h.1.after ∙ sym k.1.after in
+    (ap Joined (sid_once s t (h.1.number_is ∙ sym k.1.number_is) (h.1.joined ∙ sym k.1.joined)), refl, h.2 ∙ ap (λ (x : SessionsSeen). let r : Panel = record p { sessions = x } in r) after ∙ sym k.2)
+attach_once p number f f' (Joined s) Stranger None None q q' h k = absurd (k.1 h.1.lacks)
+attach_once p number f f' Stranger (Joined s) None None q q' h k = absurd (h.1 k.1.lacks)
+attach_once p number f f' Stranger Stranger None None q q' h k = (refl, refl, both p q q' h.2 k.2)
+attach_once p number f f' a a' w w' q q' h k = absurd (assumption (h, k))
+
+new_once : (p : Panel) (ask : SessionAsk) (f f' : Bool) (a a' : SessionAnswer) (w w' : Option WorkView) (q q' : Panel) → StepNew p ask f a w q → StepNew p ask f' a' w' q' → IsAlike a a' w w' q q'
+new_once p Ask.Join f f' a a' w w' q q' h k = join_once p f f' a a' w w' q q' h k
+new_once p (Ask.Attach number) f f' a a' w w' q q' h k = attach_once p number f f' a a' w w' q q' h k
+new_once p ask f f' a a' w w' q q' h k = absurd (assumption (h, k))
 
 -- a stranger, or a joined session
 abbrev pub IsStrange : Panel → Sid → SessionAnswer → Option WorkView → Panel → Type 0
 IsStrange p sid a w q = (IsJoined p.sessions sid → ⊥) × (a ≡ Stranger) × (w ≡ None) × (q ≡ p)
 
-session_as : (p : Panel) (sid : Sid) (ask : SessionAsk) (f : Bool) (a : SessionAnswer) (w : Option WorkView) (q : Panel) → StepSession (Some sid) p ask f a w q → IsStrange p sid a w q ⊎ (IsJoined p.sessions sid × StepJoined p ask f a w q)
+session_as : (p : Panel) (sid : Sid) (ask : SessionAsk) (f : Bool) (a : SessionAnswer) (w : Option WorkView) (q : Panel) → StepSession (Some sid) p ask f a w q → IsStrange p sid a w q ⊎ (IsJoined p.sessions sid × StepAdmitted (drops p sid ask) (shuts_out p sid ask) p ask f a w q)
 session_as p sid ask f Stranger None q h = inl (h.1, refl, refl, h.2)
 session_as p sid ask f a w q h = inr h
 
 session_once : (o : Option Sid) (p : Panel) (ask : SessionAsk) (f f' : Bool) (a a' : SessionAnswer) (w w' : Option WorkView) (q q' : Panel) → IsPlain (SaysSession a None) → IsPlain (SaysSession a' None) → StepSession o p ask f a w q → StepSession o p ask f' a' w' q' → IsAlike a a' w w' q q'
-session_once None p ask f f' a a' w w' q q' n m h k = join_once p f f' a a' w w' q q' h k
+session_once None p ask f f' a a' w w' q q' n m h k = new_once p ask f f' a a' w w' q q' h k
 session_once (Some sid) p ask f f' a a' w w' q q' n m h k = elim (session_as p sid ask f a w q h) [
   | inl x ↦ elim (session_as p sid ask f' a' w' q' k) [ inl y ↦ (x.1 ∙ sym y.1, x.2 ∙ sym y.2, both p q q' x.3 y.3) | inr y ↦ absurd (x.0 y.0) ]
-  | inr x ↦ elim (session_as p sid ask f' a' w' q' k) [ inl y ↦ absurd (y.0 x.0) | inr y ↦ joined_once p ask f f' a a' w w' q q' n m x.1 y.1 ]
+  | inr x ↦ elim (session_as p sid ask f' a' w' q' k) [ inl y ↦ absurd (y.0 x.0) | inr y ↦ admitted_once (drops p sid ask) (shuts_out p sid ask) p ask f f' a a' w w' q q' n m x.1 y.1 ]
 ]
 
 -- ---- what is no session's

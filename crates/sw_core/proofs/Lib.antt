@@ -5,6 +5,7 @@ mod Happened
 mod Numbered
 mod Same
 mod Going
+mod Seating
 mod Determined
 mod Kept
 mod Safety

@@ -42,7 +42,8 @@ use Rattle.sw_core.specs.declared.ask.SessionAnswer.TheVariants.{Joined, Full, S
 use Rattle.sw_core.specs.Panel.{Panel, opening_at, is_running}
 use Rattle.sw_core.specs.Registers.{number_told, status_set, is_for_idle, waits_for_idle}
 use Rattle.sw_core.specs.Event.{concluded, session_concluded, last_number}
-use Rattle.sw_core.specs.Step.{StepClose, StepOpen, StepFlags, StepText, StepDone, StepSetting, StepRefused, Deed, Tells, SetsUp, Leaves, Refuses, Closes, Opens, Flags, fetched, switched, deed_of, StepDeed, StepFree, StepSet, StepNumber, Happens, session_told, happening_of, StepHappens, StepOffer, StepSnapshot, Starts, StepStart, started_answer, StepCommand, StepJoined, StepJoin, asker_of, StepSession, outside_told, StepOutside, Returns, StepFinished, Acts, acts_unnumbered, IsWorn, IsEvent, IsUnnumbered, Step}
+use Rattle.sw_core.specs.Seats.{asker_of}
+use Rattle.sw_core.specs.Step.{StepClose, StepOpen, StepFlags, StepText, StepDone, StepSetting, StepRefused, Deed, Tells, SetsUp, Leaves, Refuses, Closes, Opens, Flags, fetched, switched, deed_of, StepDeed, StepFree, StepSet, StepNumber, Happens, session_told, happening_of, StepHappens, StepOffer, StepSnapshot, Starts, StepStart, started_answer, StepCommand, IsServed, StepJoined, StepAdmitted, drops, shuts_out, StepJoin, StepAttach, StepSession, outside_told, StepOutside, Returns, StepFinished, Acts, acts_unnumbered, IsWorn, IsEvent, IsUnnumbered, Step}
 use Rattle.sw_core.specs.Run.{Event, IsRun}
 use Rattle.sw_core.specs.Ends.{left_at, left_of, left_in, went_on, was_taken, took_command, took, taken_in, begins, BeginsNone, last_of, IsFollowing, EveryScanEnds}
 use Rattle.sw_cage.proofs.Racks.{some_slot, is_none}
@@ -345,13 +346,27 @@ still_start p sid plan f (Refused SettingsConflict) None q n h = still_as p q h.
 still_start p sid plan f (Refused e) None q n h = still_as p q h.2
 still_start p sid plan f a w q n h = absurd h
 
+served_still : (p : Panel) (ask : SessionAsk) (f : Bool) (a : SessionAnswer) (q : Panel) → IsServed p ask f a q → IsStill p q
+served_still p ask f a q h = inl (ap (λ (x : Panel). x.cage) h.after)
+
 near_joined : (p : Panel) (ask : SessionAsk) (f : Bool) (a : SessionAnswer) (w : Option WorkView) (q : Panel) → begins (AskSession ask) (SaysSession a w) ≡ false → StepJoined p ask f a w q → Nears p (took (AskSession ask) (SaysSession a w)) q
-near_joined p (Ask.Leave sid) f (Done None) None q n h = near_still p q (inl (ap (λ (x : Panel). x.cage) h.1))
 near_joined p (Ask.Fault sid e) f (Done None) None q n h = near_still p q (inl (ap (λ (x : Panel). x.cage) h.1))
+near_joined p (Ask.Fault sid e) f a None q n h = near_still p q (served_still p (Ask.Fault sid e) f a q h)
 near_joined p (Ask.Unit sid command answered) f a w q n h = near_command (is_running p && waits_for_idle command) p (Ask.Unit sid command answered) answered command f a w q h
 near_joined p (Ask.Bus sid) f a w q n h = near_told p Bus TriggerIgnored f a w q refl h
 near_joined p (Ask.Snapshot sid) f a None q n h = near_still p q (still_snapshot p f a q h)
 near_joined p (Ask.Start sid plan) f a w q n h = near_still p q (still_start p sid plan f a w q n h)
+near_joined p (Ask.Attached sid) f answer None q n h = near_still p q (served_still p (Ask.Attached sid) f answer q h)
+near_joined p (Ask.Leave sid) f answer None q n h = near_still p q (served_still p (Ask.Leave sid) f answer q h)
+near_joined p (Ask.Size sid size) f answer None q n h = near_still p q (served_still p (Ask.Size sid size) f answer q h)
+near_joined p (Ask.MaxSize sid) f answer None q n h = near_still p q (served_still p (Ask.MaxSize sid) f answer q h)
+near_joined p (Ask.Clear sid) f answer None q n h = near_still p q (served_still p (Ask.Clear sid) f answer q h)
+near_joined p (Ask.Cleared sid) f answer None q n h = near_still p q (served_still p (Ask.Cleared sid) f answer q h)
+near_joined p (Ask.Lock sid key) f answer None q n h = near_still p q (served_still p (Ask.Lock sid key) f answer q h)
+near_joined p (Ask.Release sid) f answer None q n h = near_still p q (served_still p (Ask.Release sid) f answer q h)
+near_joined p (Ask.LockInfo sid) f answer None q n h = near_still p q (served_still p (Ask.LockInfo sid) f answer q h)
+near_joined p Ask.Join f answer None q n h = near_still p q (served_still p Ask.Join f answer q h)
+near_joined p (Ask.Attach number) f answer None q n h = near_still p q (served_still p (Ask.Attach number) f answer q h)
 near_joined p ask f a w q n h = absurd h
 
 still_join : (p : Panel) (f : Bool) (a : SessionAnswer) (w : Option WorkView) (q : Panel) → StepJoin p f a w q → IsStill p q
@@ -359,23 +374,44 @@ still_join p f (Joined sid) None q h = inl (ap (λ (x : Panel). x.cage) h.3)
 still_join p f Full None q h = still_as p q h.2
 still_join p f a w q h = absurd h
 
--- what a stranger asks is not taken
-took_none : (ask : SessionAsk) (w : Option WorkView) → took (AskSession ask) (SaysSession Stranger w) ≡ 0
-took_none (Ask.Unit sid command answered) w = none_of (happening_of command)
+still_attach : (p : Panel) (number : ℕ) (f : Bool) (a : SessionAnswer) (w : Option WorkView) (q : Panel) → StepAttach p number f a w q → IsStill p q
+still_attach p number f (Joined sid) None q h = inl (ap (λ (x : Panel). x.cage) h.2)
+still_attach p number f Stranger None q h = still_as p q h.2
+still_attach p number f a w q h = absurd h
+
+-- what a stranger asks, what is dropped and what is held is not taken
+took_none : (ask : SessionAsk) (a : SessionAnswer) (w : Option WorkView) → went_on a ≡ 0 → took (AskSession ask) (SaysSession a w) ≡ 0
+took_none (Ask.Unit sid command answered) a w n = none_of (happening_of command)
   where
-    none_of : (o : Option (Happening × ScpiError)) → took_command o Stranger ≡ 0
+    none_of : (o : Option (Happening × ScpiError)) → took_command o a ≡ 0
     none_of None = refl
-    none_of (Some offer) = refl
-took_none (Ask.Bus sid) w = refl
-took_none ask w = refl
+    none_of (Some offer) = n
+took_none (Ask.Bus sid) a w n = n
+took_none ask a w n = refl
+
+near_admitted : (b o : Bool) (p : Panel) (ask : SessionAsk) (f : Bool) (a : SessionAnswer) (w : Option WorkView) (q : Panel) → begins (AskSession ask) (SaysSession a w) ≡ false → StepAdmitted b o p ask f a w q → Nears p (took (AskSession ask) (SaysSession a w)) q
+near_admitted true o p ask f Broken None q n h = subst (λ (k : ℕ). Nears p k q) (sym (took_none ask Broken None refl)) (near_still p q (still_as p q h.1))
+near_admitted true o p ask f a w q n h = absurd h
+near_admitted false true p ask f (Hold back) None q n h = subst (λ (k : ℕ). Nears p k q) (sym (took_none ask (Hold back) None refl)) (near_still p q (still_as p q h.2))
+near_admitted false true p ask f a w q n h = absurd h
+near_admitted false false p ask f a w q n h = near_joined p ask f a w q n h
 
 near_known : (sid : Sid) (p : Panel) (ask : SessionAsk) (f : Bool) (a : SessionAnswer) (w : Option WorkView) (q : Panel) → begins (AskSession ask) (SaysSession a w) ≡ false → StepSession (Some sid) p ask f a w q → Nears p (took (AskSession ask) (SaysSession a w)) q
-near_known sid p ask f Stranger None q n h = subst (λ (k : ℕ). Nears p k q) (sym (took_none ask None)) (near_still p q (still_as p q h.2))
-near_known sid p ask f a w q n h = near_joined p ask f a w q n h.1
+near_known sid p ask f Stranger None q n h = subst (λ (k : ℕ). Nears p k q) (sym (took_none ask Stranger None refl)) (near_still p q (still_as p q h.2))
+near_known sid p ask f a w q n h = near_admitted (drops p sid ask) (shuts_out p sid ask) p ask f a w q n h.1
 
 near_session : (p : Panel) (ask : SessionAsk) (f : Bool) (a : SessionAnswer) (w : Option WorkView) (q : Panel) → begins (AskSession ask) (SaysSession a w) ≡ false → StepSession (asker_of ask) p ask f a w q → Nears p (took (AskSession ask) (SaysSession a w)) q
 near_session p Ask.Join f a w q n h = near_still p q (still_join p f a w q h)
-near_session p (Ask.Leave sid) f a w q n h = near_known sid p (Ask.Leave sid) f a w q n h
+near_session p (Ask.Attach number) f a w q n h = near_still p q (still_attach p number f a w q h)
+near_session p (Ask.Attached sid) f answer w q n h = near_known sid p (Ask.Attached sid) f answer w q n h
+near_session p (Ask.Leave sid) f answer w q n h = near_known sid p (Ask.Leave sid) f answer w q n h
+near_session p (Ask.Size sid size) f answer w q n h = near_known sid p (Ask.Size sid size) f answer w q n h
+near_session p (Ask.MaxSize sid) f answer w q n h = near_known sid p (Ask.MaxSize sid) f answer w q n h
+near_session p (Ask.Clear sid) f answer w q n h = near_known sid p (Ask.Clear sid) f answer w q n h
+near_session p (Ask.Cleared sid) f answer w q n h = near_known sid p (Ask.Cleared sid) f answer w q n h
+near_session p (Ask.Lock sid key) f answer w q n h = near_known sid p (Ask.Lock sid key) f answer w q n h
+near_session p (Ask.Release sid) f answer w q n h = near_known sid p (Ask.Release sid) f answer w q n h
+near_session p (Ask.LockInfo sid) f answer w q n h = near_known sid p (Ask.LockInfo sid) f answer w q n h
 near_session p (Ask.Unit sid command answered) f a w q n h = near_known sid p (Ask.Unit sid command answered) f a w q n h
 near_session p (Ask.Fault sid e) f a w q n h = near_known sid p (Ask.Fault sid e) f a w q n h
 near_session p (Ask.Bus sid) f a w q n h = near_known sid p (Ask.Bus sid) f a w q n h
@@ -428,6 +464,10 @@ session_scan (Joined sid) p = refl
 session_scan Full p = refl
 session_scan (Done text) p = refl
 session_scan (answers.Snapshot s) p = refl
+session_scan answers.Missed p = refl
+session_scan (answers.Max n) p = refl
+session_scan (answers.Lock code) p = refl
+session_scan (answers.Info exclusive n) p = refl
 
 concluded_scan : (a : AnswerView) (p : Panel) → (concluded a p).cage ≡ p.cage
 concluded_scan (SaysSession a w) p = session_scan a p
@@ -463,7 +503,16 @@ took_worn (AskSession (Ask.Unit sid command answered)) (SaysSession (Worn back) 
     by_kind (Some offer) back = refl
 took_worn (AskSession (Ask.Bus sid)) (SaysSession (Worn back) None) h = refl
 took_worn (AskSession Ask.Join) (SaysSession (Worn back) None) h = refl
+took_worn (AskSession (Ask.Attach number)) (SaysSession (Worn back) None) h = refl
+took_worn (AskSession (Ask.Attached sid)) (SaysSession (Worn back) None) h = refl
 took_worn (AskSession (Ask.Leave sid)) (SaysSession (Worn back) None) h = refl
+took_worn (AskSession (Ask.Size sid size)) (SaysSession (Worn back) None) h = refl
+took_worn (AskSession (Ask.MaxSize sid)) (SaysSession (Worn back) None) h = refl
+took_worn (AskSession (Ask.Clear sid)) (SaysSession (Worn back) None) h = refl
+took_worn (AskSession (Ask.Cleared sid)) (SaysSession (Worn back) None) h = refl
+took_worn (AskSession (Ask.Lock sid key)) (SaysSession (Worn back) None) h = refl
+took_worn (AskSession (Ask.Release sid)) (SaysSession (Worn back) None) h = refl
+took_worn (AskSession (Ask.LockInfo sid)) (SaysSession (Worn back) None) h = refl
 took_worn (AskSession (Ask.Fault sid e)) (SaysSession (Worn back) None) h = refl
 took_worn (AskSession (Ask.Snapshot sid)) (SaysSession (Worn back) None) h = refl
 took_worn (AskSession (Ask.Start sid plan)) (SaysSession (Worn back) None) h = refl
@@ -534,9 +583,16 @@ begun_start p q sid plan f (Done None) w k n h = begun_by p q plan f h.told k (s
 begun_start p q sid plan f (Done (Some text)) w k n h = absurd h
 begun_start p q sid plan f a w k n h = absurd (cc (n))
 
+begun_admitted : (b o : Bool) (p q : Panel) (sid : Sid) (plan : Snapshot) (f : Bool) (a : SessionAnswer) (w : Option WorkView) → IsKept p.cage → begins (AskSession (Ask.Start sid plan)) (SaysSession a w) ≡ true → StepAdmitted b o p (Ask.Start sid plan) f a w q → Begun plan q.cage
+begun_admitted true o p q sid plan f Broken None k n h = absurd (cc (n))
+begun_admitted true o p q sid plan f a w k n h = absurd h
+begun_admitted false true p q sid plan f (Hold back) None k n h = absurd (cc (n))
+begun_admitted false true p q sid plan f a w k n h = absurd h
+begun_admitted false false p q sid plan f a w k n h = begun_start p q sid plan f a w k n h
+
 begun_session : (p q : Panel) (sid : Sid) (plan : Snapshot) (f : Bool) (a : SessionAnswer) (w : Option WorkView) → IsKept p.cage → begins (AskSession (Ask.Start sid plan)) (SaysSession a w) ≡ true → StepSession (Some sid) p (Ask.Start sid plan) f a w q → Begun plan q.cage
 begun_session p q sid plan f Stranger w k n h = absurd (cc (n))
-begun_session p q sid plan f a w k n h = begun_start p q sid plan f a w k n h.1
+begun_session p q sid plan f a w k n h = begun_admitted (drops p sid (Ask.Start sid plan)) (shuts_out p sid (Ask.Start sid plan)) p q sid plan f a w k n h.1
 
 begun_acts : (p q : Panel) (sid : Sid) (plan : Snapshot) (f : Bool) (a : AnswerView) → IsKept p.cage → begins (AskSession (Ask.Start sid plan)) a ≡ true → Acts p (AskSession (Ask.Start sid plan)) f a q → Begun plan q.cage
 begun_acts p q sid plan f (SaysSession a w) k n h = begun_session p q sid plan f a w k n h

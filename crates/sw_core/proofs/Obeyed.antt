@@ -28,8 +28,9 @@ use Rattle.sw_core.specs.Panel.{Panel, is_running}
 use Rattle.sw_core.specs.Registers.{number_told, status_set, is_for_idle, waits_for_idle, alarmed}
 use Rattle.sw_core.specs.Event.{ended, erred, last_number}
 use Rattle.sw_core.specs.View.{WorkView, AskView, AskSession, AskInstall, AskEject, AskExternal, AskElapsed, AskFinished, AnswerView, SaysSession, SaysEjected}
+use Rattle.sw_core.specs.Seats.{asker_of}
 use Rattle.sw_core.specs.Step.{Falls, StepClose, StepOpen, StepFlags, StepText, Deed, Tells, SetsUp, Leaves, Refuses, Closes, Opens, Flags, deed_of, StepDeed, StepFree, StepSet, StepNumber}
-use Rattle.sw_core.specs.Step.{Happens, session_told, happening_of, StepOffer, StepCommand, StepSnapshot, StepStart, started_answer, Starts, outside_told, asker_of, StepJoined, StepSession, Acts, acts_unnumbered, IsWorn, IsEvent, IsUnnumbered, Step}
+use Rattle.sw_core.specs.Step.{Happens, session_told, happening_of, StepOffer, StepCommand, StepSnapshot, StepStart, started_answer, Starts, outside_told, StepJoined, StepAdmitted, StepNew, drops, shuts_out, StepSession, Acts, acts_unnumbered, IsWorn, IsEvent, IsUnnumbered, Step}
 use Rattle.sw_core.specs.Run.{IsAlarmed, IsAtRest}
 use Rattle.sw_core.proofs.Safety.{IsHarmless, harmless, rest_closed, rest_slot}
 
@@ -45,6 +46,12 @@ not_held : (b : Bool) (p : Panel) (ask : SessionAsk) (answered : Bool) (command 
 not_held true p ask answered command f t w q h = absurd h
 not_held false p ask answered command f t w q h = h
 
+-- what is done was neither dropped nor held
+not_kept_out : (b o : Bool) (p : Panel) (ask : SessionAsk) (f : Bool) (t : _) (w : Option WorkView) (q : Panel) → StepAdmitted b o p ask f (Done t) w q → StepJoined p ask f (Done t) w q
+not_kept_out true o p ask f t w q h = absurd h
+not_kept_out false true p ask f t w q h = absurd h
+not_kept_out false false p ask f t w q h = h
+
 not_barred : (b : Bool) (p : Panel) (command : Command) (f : Bool) (t : _) (q : Panel) → StepFree b p command f (Done t) q → StepDeed (deed_of p command) p f (Done t) q
 not_barred true p command f t q h = absurd h
 not_barred false p command f t q h = h
@@ -52,26 +59,26 @@ not_barred false p command f t q h = h
 pub closes : (p q : Panel) (sid : Sid) (chans : List Channel) (answered failed : Bool) → Step p (AskSession (Ask.Unit sid (Command.Close chans) answered)) failed (SaysSession (Done None) None) q → (c : Channel) → is_in chans c ≡ true → is_closed q.cage.rack c ≡ true
 closes p q sid chans answered failed h c i =
     let e = event_of p (AskSession (Ask.Unit sid (Command.Close chans) answered)) failed (SaysSession (Done None) None) q (λ w. w) h in
-    let d = not_barred (is_running p && true) p (Command.Close chans) failed None e.done (not_held (is_running p && false) p (Ask.Unit sid (Command.Close chans) answered) answered (Command.Close chans) failed None None e.done e.acts.1).0 in
+    let d = not_barred (is_running p && true) p (Command.Close chans) failed None e.done (not_held (is_running p && false) p (Ask.Unit sid (Command.Close chans) answered) answered (Command.Close chans) failed None None e.done (not_kept_out (drops p sid (Ask.Unit sid (Command.Close chans) answered)) (shuts_out p sid (Ask.Unit sid (Command.Close chans) answered)) p (Ask.Unit sid (Command.Close chans) answered) failed None None e.done e.acts.1)).0 in
     ap (λ (x : Panel). is_closed x.cage.rack c) e.after ∙ d.2.closed c ∙ ap (λ (b : Bool). if b then true else is_closed p.cage.rack c) i
 
 pub opens : (p q : Panel) (sid : Sid) (chans : List Channel) (answered failed : Bool) → Step p (AskSession (Ask.Unit sid (Command.Open chans) answered)) failed (SaysSession (Done None) None) q → (c : Channel) → is_in chans c ≡ true → is_closed q.cage.rack c ≡ false
 opens p q sid chans answered failed h c i =
     let e = event_of p (AskSession (Ask.Unit sid (Command.Open chans) answered)) failed (SaysSession (Done None) None) q (λ w. w) h in
-    let d = not_barred (is_running p && true) p (Command.Open chans) failed None e.done (not_held (is_running p && false) p (Ask.Unit sid (Command.Open chans) answered) answered (Command.Open chans) failed None None e.done e.acts.1).0 in
+    let d = not_barred (is_running p && true) p (Command.Open chans) failed None e.done (not_held (is_running p && false) p (Ask.Unit sid (Command.Open chans) answered) answered (Command.Open chans) failed None None e.done (not_kept_out (drops p sid (Ask.Unit sid (Command.Open chans) answered)) (shuts_out p sid (Ask.Unit sid (Command.Open chans) answered)) p (Ask.Unit sid (Command.Open chans) answered) failed None None e.done e.acts.1)).0 in
     ap (λ (x : Panel). is_closed x.cage.rack c) e.after ∙ d.2.closed c ∙ ap (λ (b : Bool). if b then false else is_closed p.cage.rack c) i
 
 pub aborted : (p q : Panel) (sid : Sid) (answered failed : Bool) → Step p (AskSession (Ask.Unit sid Command.Abort answered)) failed (SaysSession (Done None) None) q → IsAtRest q
 aborted p q sid answered failed h =
     let e = event_of p (AskSession (Ask.Unit sid Command.Abort answered)) failed (SaysSession (Done None) None) q (λ w. w) h in
-    let d = not_barred (is_running p && false) p Command.Abort failed None e.done (not_held (is_running p && false) p (Ask.Unit sid Command.Abort answered) answered Command.Abort failed None None e.done e.acts.1).0 in
+    let d = not_barred (is_running p && false) p Command.Abort failed None e.done (not_held (is_running p && false) p (Ask.Unit sid Command.Abort answered) answered Command.Abort failed None None e.done (not_kept_out (drops p sid (Ask.Unit sid Command.Abort answered)) (shuts_out p sid (Ask.Unit sid Command.Abort answered)) p (Ask.Unit sid Command.Abort answered) failed None None e.done e.acts.1)).0 in
     let cage = ap (λ (x : Panel). x.cage) e.after ∙ ap (λ (x : Panel). x.cage) d.1 in
     record { none = λ c. ap (λ (x : CageSeen). is_closed x.rack c) cage ∙ all_open_closed p.cage.rack c; idle = ap (λ (x : CageSeen). x.scan) cage }
 
 pub reset : (p q : Panel) (sid : Sid) (answered failed : Bool) → Step p (AskSession (Ask.Unit sid Command.Reset answered)) failed (SaysSession (Done None) None) q → IsAtRest q
 reset p q sid answered failed h =
     let e = event_of p (AskSession (Ask.Unit sid Command.Reset answered)) failed (SaysSession (Done None) None) q (λ w. w) h in
-    let d = not_barred (is_running p && false) p Command.Reset failed None e.done (not_held (is_running p && false) p (Ask.Unit sid Command.Reset answered) answered Command.Reset failed None None e.done e.acts.1).0 in
+    let d = not_barred (is_running p && false) p Command.Reset failed None e.done (not_held (is_running p && false) p (Ask.Unit sid Command.Reset answered) answered Command.Reset failed None None e.done (not_kept_out (drops p sid (Ask.Unit sid Command.Reset answered)) (shuts_out p sid (Ask.Unit sid Command.Reset answered)) p (Ask.Unit sid Command.Reset answered) failed None None e.done e.acts.1)).0 in
     let cage = ap (λ (x : Panel). x.cage) e.after ∙ ap (λ (x : Panel). x.cage) d.1 in
     record { none = λ c. ap (λ (x : CageSeen). is_closed x.rack c) cage ∙ all_open_closed p.cage.rack c; idle = ap (λ (x : CageSeen). x.scan) cage }
 
@@ -180,11 +187,32 @@ joined_quiet p (Ask.Unit sid command answered) f e q h n = command_quiet (is_run
 joined_quiet p (Ask.Bus sid) f e q h n = told_quiet p Bus TriggerIgnored f e h.told q h.answer_is h.happens n
 joined_quiet p (Ask.Snapshot sid) f e q h n = snapshot_quiet p f e q h
 joined_quiet p (Ask.Start sid plan) f e q h n = start_quiet p plan f e q h n
-joined_quiet p ask f e q h n = absurd h
+joined_quiet p (Ask.Fault sid error) f e q h n = absurd h.served
+joined_quiet p (Ask.Attached sid) f e q h n = absurd h.served
+joined_quiet p (Ask.Leave sid) f e q h n = absurd h.served
+joined_quiet p (Ask.Size sid size) f e q h n = absurd h.served
+joined_quiet p (Ask.MaxSize sid) f e q h n = absurd h.served
+joined_quiet p (Ask.Clear sid) f e q h n = absurd h.served
+joined_quiet p (Ask.Cleared sid) f e q h n = absurd h.served
+joined_quiet p (Ask.Lock sid key) f e q h n = absurd h.served
+joined_quiet p (Ask.Release sid) f e q h n = absurd h.served
+joined_quiet p (Ask.LockInfo sid) f e q h n = absurd h.served
+joined_quiet p (Ask.Attach number) f e q h n = absurd h.served
+joined_quiet p Ask.Join f e q h n = absurd h.served
+
+admitted_quiet : (b o : Bool) (p : Panel) (ask : SessionAsk) (f : Bool) (e : ScpiError) (q : Panel) → StepAdmitted b o p ask f (Refused e) None q → IsQuiet p e q
+admitted_quiet true o p ask f e q h n = absurd h
+admitted_quiet false true p ask f e q h n = absurd h
+admitted_quiet false false p ask f e q h n = joined_quiet p ask f e q h n
+
+new_quiet : (p : Panel) (ask : SessionAsk) (f : Bool) (e : ScpiError) (q : Panel) → StepNew p ask f (Refused e) None q → IsQuiet p e q
+new_quiet p Ask.Join f e q h n = absurd h
+new_quiet p (Ask.Attach number) f e q h n = absurd h
+new_quiet p ask f e q h n = absurd h
 
 session_quiet : (o : Option Sid) (p : Panel) (ask : SessionAsk) (f : Bool) (e : ScpiError) (q : Panel) → StepSession o p ask f (Refused e) None q → IsQuiet p e q
-session_quiet None p ask f e q h n = absurd h
-session_quiet (Some sid) p ask f e q h n = joined_quiet p ask f e q h.1 n
+session_quiet None p ask f e q h n = new_quiet p ask f e q h n
+session_quiet (Some sid) p ask f e q h n = admitted_quiet (drops p sid ask) (shuts_out p sid ask) p ask f e q h.1 n
 
 acts_quiet : (p : Panel) (ask : AskView) (f : Bool) (e : ScpiError) (q : Panel) → Acts p ask f (SaysSession (Refused e) None) q → IsQuiet p e q
 acts_quiet p (AskSession ask) f e q h n = session_quiet (asker_of ask) p ask f e q h n
@@ -289,11 +317,32 @@ joined_down p (Ask.Unit sid command answered) f q h = command_down (is_running p
 joined_down p (Ask.Bus sid) f q h = told_down p Bus TriggerIgnored f h.told q trigger_plain h.answer_is h.happens
 joined_down p (Ask.Snapshot sid) f q h = absurd h.1
 joined_down p (Ask.Start sid plan) f q h = start_down p plan f h.told None q h.answer_is h.starts
-joined_down p ask f q h = absurd h
+joined_down p (Ask.Fault sid error) f q h = absurd h.served
+joined_down p (Ask.Attached sid) f q h = absurd h.served
+joined_down p (Ask.Leave sid) f q h = absurd h.served
+joined_down p (Ask.Size sid size) f q h = absurd h.served
+joined_down p (Ask.MaxSize sid) f q h = absurd h.served
+joined_down p (Ask.Clear sid) f q h = absurd h.served
+joined_down p (Ask.Cleared sid) f q h = absurd h.served
+joined_down p (Ask.Lock sid key) f q h = absurd h.served
+joined_down p (Ask.Release sid) f q h = absurd h.served
+joined_down p (Ask.LockInfo sid) f q h = absurd h.served
+joined_down p (Ask.Attach number) f q h = absurd h.served
+joined_down p Ask.Join f q h = absurd h.served
+
+admitted_down : (b o : Bool) (p : Panel) (ask : SessionAsk) (f : Bool) (q : Panel) → StepAdmitted b o p ask f (Refused HardwareError) None q → IsDown p q
+admitted_down true o p ask f q h = absurd h
+admitted_down false true p ask f q h = absurd h
+admitted_down false false p ask f q h = joined_down p ask f q h
+
+new_down : (p : Panel) (ask : SessionAsk) (f : Bool) (q : Panel) → StepNew p ask f (Refused HardwareError) None q → IsDown p q
+new_down p Ask.Join f q h = absurd h
+new_down p (Ask.Attach number) f q h = absurd h
+new_down p ask f q h = absurd h
 
 session_down : (o : Option Sid) (p : Panel) (ask : SessionAsk) (f : Bool) (q : Panel) → StepSession o p ask f (Refused HardwareError) None q → IsDown p q
-session_down None p ask f q h = absurd h
-session_down (Some sid) p ask f q h = joined_down p ask f q h.1
+session_down None p ask f q h = new_down p ask f q h
+session_down (Some sid) p ask f q h = admitted_down (drops p sid ask) (shuts_out p sid ask) p ask f q h.1
 
 acts_down : (p : Panel) (ask : AskView) (f : Bool) (q : Panel) → Acts p ask f (SaysSession (Refused HardwareError) None) q → IsDown p q
 acts_down p (AskSession ask) f q h = session_down (asker_of ask) p ask f q h

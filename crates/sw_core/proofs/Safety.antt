@@ -40,8 +40,9 @@ use Rattle.sw_core.specs.Panel.{Panel, opening_at, with_rack, is_running}
 use Rattle.sw_core.specs.Registers.{number_told, status_set, is_for_idle, waits_for_idle}
 use Rattle.sw_core.specs.Event.{concluded, session_concluded, last_number}
 use Rattle.sw_core.specs.View.{WorkView, AskView, AskSession, AskInstall, AskEject, AskExternal, AskElapsed, AskFinished, AnswerView, SaysSession, SaysInstalled, SaysNotInstalled, SaysEjected, SaysNotEjected, SaysTaken, SaysMissed, SaysFailed, SaysBack, SaysWorn}
+use Rattle.sw_core.specs.Seats.{asker_of}
 use Rattle.sw_core.specs.Step.{Falls, StepClose, StepOpen, StepFlags, StepText, StepDone, StepSetting, StepRefused, Deed, Tells, SetsUp, Leaves, Refuses, Closes, Opens, Flags, fetched, switched, deed_of, StepDeed, StepFree, StepSet, StepNumber}
-use Rattle.sw_core.specs.Step.{Happens, happening_of, StepOffer, MayScan, StepSnapshot, Starts, StepStart, StepCommand, StepJoin, StepJoined, asker_of, StepSession, StepOutside, IsOut, Returns, StepFinished, Acts, acts_unnumbered, IsEvent, IsUnnumbered, Step}
+use Rattle.sw_core.specs.Step.{Happens, happening_of, StepOffer, MayScan, StepSnapshot, Starts, StepStart, StepCommand, StepJoin, StepAttach, StepNew, IsServed, StepJoined, StepAdmitted, drops, shuts_out, StepSession, StepOutside, IsOut, Returns, StepFinished, Acts, acts_unnumbered, IsEvent, IsUnnumbered, Step}
 use Rattle.sw_core.specs.Run.{Event, IsRun, IsGoodPanel}
 use Rattle.std.specs.Prelude.{replicate}
 use Rattle.sw_cage.specs.declared.job.Ticket.{Ticket}
@@ -291,24 +292,55 @@ start_fine p plan f (Refused SettingsConflict) None q k h = fine_is p q h.2 k
 start_fine p plan f (Refused e) None q k h = fine_is p q h.2 k
 start_fine p plan f a w q k h = absurd h
 
+served_fine : (p : Panel) (ask : SessionAsk) (f : Bool) (a : SessionAnswer) (q : Panel) → IsFine p → IsServed p ask f a q → IsFine q
+served_fine p ask f a q k h = fine_as p q (ap (λ (x : Panel). x.cage) h.after) (ap (λ (x : Panel). x.settings) h.after) k
+
 joined_fine : (p : Panel) (ask : SessionAsk) (f : Bool) (a : SessionAnswer) (w : Option WorkView) (q : Panel) → IsFine p → StepJoined p ask f a w q → IsFine q
-joined_fine p (Ask.Leave sid) f (Done None) None q k h = fine_as p q (ap (λ (x : Panel). x.cage) h.1) (ap (λ (x : Panel). x.settings) h.1) k
 joined_fine p (Ask.Fault sid e) f (Done None) None q k h = fine_as p q (ap (λ (x : Panel). x.cage) h.1) (ap (λ (x : Panel). x.settings) h.1) k
+joined_fine p (Ask.Fault sid e) f a None q k h = served_fine p (Ask.Fault sid e) f a q k h
 joined_fine p (Ask.Unit sid command answered) f a w q k h = command_fine (is_running p && waits_for_idle command) p (Ask.Unit sid command answered) answered command f a w q k h
 joined_fine p (Ask.Bus sid) f a w q k h = happens_fine p Bus f h.told q k h.happens
 joined_fine p (Ask.Snapshot sid) f a None q k h = snapshot_fine p f a q k h
 joined_fine p (Ask.Start sid plan) f a w q k h = start_fine p plan f a w q k h
+joined_fine p (Ask.Attached sid) f answer None q k h = served_fine p (Ask.Attached sid) f answer q k h
+joined_fine p (Ask.Leave sid) f answer None q k h = served_fine p (Ask.Leave sid) f answer q k h
+joined_fine p (Ask.Size sid n) f answer None q k h = served_fine p (Ask.Size sid n) f answer q k h
+joined_fine p (Ask.MaxSize sid) f answer None q k h = served_fine p (Ask.MaxSize sid) f answer q k h
+joined_fine p (Ask.Clear sid) f answer None q k h = served_fine p (Ask.Clear sid) f answer q k h
+joined_fine p (Ask.Cleared sid) f answer None q k h = served_fine p (Ask.Cleared sid) f answer q k h
+joined_fine p (Ask.Lock sid key) f answer None q k h = served_fine p (Ask.Lock sid key) f answer q k h
+joined_fine p (Ask.Release sid) f answer None q k h = served_fine p (Ask.Release sid) f answer q k h
+joined_fine p (Ask.LockInfo sid) f answer None q k h = served_fine p (Ask.LockInfo sid) f answer q k h
+joined_fine p Ask.Join f answer None q k h = served_fine p Ask.Join f answer q k h
+joined_fine p (Ask.Attach n) f answer None q k h = served_fine p (Ask.Attach n) f answer q k h
 joined_fine p ask f a w q k h = absurd h
+
+admitted_fine : (b o : Bool) (p : Panel) (ask : SessionAsk) (f : Bool) (a : SessionAnswer) (w : Option WorkView) (q : Panel) → IsFine p → StepAdmitted b o p ask f a w q → IsFine q
+admitted_fine true o p ask f Broken None q k h = fine_is p q h.1 k
+admitted_fine true o p ask f a w q k h = absurd h
+admitted_fine false true p ask f (Hold back) None q k h = fine_is p q h.2 k
+admitted_fine false true p ask f a w q k h = absurd h
+admitted_fine false false p ask f a w q k h = joined_fine p ask f a w q k h
 
 join_fine : (p : Panel) (f : Bool) (a : SessionAnswer) (w : Option WorkView) (q : Panel) → IsFine p → StepJoin p f a w q → IsFine q
 join_fine p f (Joined sid) None q k h = fine_as p q (ap (λ (x : Panel). x.cage) h.3) (ap (λ (x : Panel). x.settings) h.3) k
 join_fine p f Full None q k h = fine_is p q h.2 k
 join_fine p f a w q k h = absurd h
 
+attach_fine : (p : Panel) (n : ℕ) (f : Bool) (a : SessionAnswer) (w : Option WorkView) (q : Panel) → IsFine p → StepAttach p n f a w q → IsFine q
+attach_fine p n f (Joined sid) None q k h = fine_as p q (ap (λ (x : Panel). x.cage) h.2) (ap (λ (x : Panel). x.settings) h.2) k
+attach_fine p n f Stranger None q k h = fine_is p q h.2 k
+attach_fine p n f a w q k h = absurd h
+
+new_fine : (p : Panel) (ask : SessionAsk) (f : Bool) (a : SessionAnswer) (w : Option WorkView) (q : Panel) → IsFine p → StepNew p ask f a w q → IsFine q
+new_fine p Ask.Join f a w q k h = join_fine p f a w q k h
+new_fine p (Ask.Attach n) f a w q k h = attach_fine p n f a w q k h
+new_fine p ask f a w q k h = absurd h
+
 session_fine : (o : Option Sid) (p : Panel) (ask : SessionAsk) (f : Bool) (a : SessionAnswer) (w : Option WorkView) (q : Panel) → IsFine p → StepSession o p ask f a w q → IsFine q
-session_fine None p ask f a w q k h = join_fine p f a w q k h
+session_fine None p ask f a w q k h = new_fine p ask f a w q k h
 session_fine (Some sid) p ask f Stranger None q k h = fine_is p q h.2 k
-session_fine (Some sid) p ask f a w q k h = joined_fine p ask f a w q k h.1
+session_fine (Some sid) p ask f a w q k h = admitted_fine (drops p sid ask) (shuts_out p sid ask) p ask f a w q k h.1
 
 -- ---- cards
 
@@ -376,6 +408,10 @@ session_same (Joined sid) p = (refl, refl)
 session_same Full p = (refl, refl)
 session_same (Done text) p = (refl, refl)
 session_same (answers.Snapshot s) p = (refl, refl)
+session_same answers.Missed p = (refl, refl)
+session_same (answers.Max n) p = (refl, refl)
+session_same (answers.Lock code) p = (refl, refl)
+session_same (answers.Info exclusive n) p = (refl, refl)
 
 concluded_same : (a : AnswerView) (p : Panel) → ((concluded a p).cage ≡ p.cage) × ((concluded a p).settings ≡ p.settings)
 concluded_same (SaysSession a w) p = session_same a p

@@ -10,7 +10,7 @@ use Rattle.sw_status.specs.Registers.{group_conditioned}
 use Rattle.sw_status.specs.StatusModel.{StatusSeen, pushed, with_bit, with_group, event_ended}
 use Rattle.sw_cage.specs.Takes.{awaited_now}
 use Rattle.sw_core.specs.declared.ask.SessionAnswer.{SessionAnswer}
-use Rattle.sw_core.specs.declared.ask.SessionAnswer.TheVariants.{Joined, Full, Stranger, Broken, Done, Snapshot, Refused, Hold, Worn}
+use Rattle.sw_core.specs.declared.ask.SessionAnswer.TheVariants.{Joined, Full, Stranger, Broken, Done, Missed, Max, Lock, Info, Snapshot, Refused, Hold, Worn}
 use Rattle.sw_core.specs.Panel.{Panel, is_running}
 use Rattle.sw_core.specs.View.{AnswerView, SaysSession, SaysInstalled, SaysNotInstalled, SaysEjected, SaysNotEjected, SaysTaken, SaysMissed, SaysFailed, SaysBack, SaysWorn}
 
@@ -62,6 +62,10 @@ session_concluded (Refused e) p = ended (erred p e)
 session_concluded (Joined sid) p = ended p
 session_concluded Full p = ended p
 session_concluded (Done text) p = ended p
+session_concluded Missed p = ended p
+session_concluded (Max n) p = ended p
+session_concluded (Lock code) p = ended p
+session_concluded (Info exclusive n) p = ended p
 session_concluded (Snapshot snapshot) p = ended p
 
 abbrev pub concluded : AnswerView → Panel → Panel

@@ -1,5 +1,6 @@
 pub mod Answers
 pub mod Sessions
+pub mod Seats
 pub mod View
 pub mod Panel
 pub mod Registers

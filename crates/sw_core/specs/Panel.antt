@@ -1,16 +1,16 @@
 -- The whole state of the mainframe as plain data.
-use Rattle.std.specs.Prelude.{ℕ, Bool, false, None, replicate, is_some}
+use Rattle.std.specs.Prelude.{ℕ, Bool, false, is_some}
 use Rattle.sw_base.specs.Layout.{IsExclusive}
 use Rattle.sw_trigger.specs.Settings.{Setup, at_reset}
 use Rattle.sw_status.specs.StatusModel.{StatusSeen, first_status}
 use Rattle.sw_cage.specs.Cage.{CageSeen, empty_cage}
 use Rattle.sw_cage.specs.Rack.{Rack, layout_of, is_closed}
-use Rattle.sw_core.specs.Sessions.{Joins}
+use Rattle.sw_core.specs.Sessions.{SessionsSeen, nobody}
 
 -- pending: *OPC waits for the end of the scan; events: how many there were
 pub record Panel : Type 0 where
   pub cage : CageSeen
-  pub sessions : Joins
+  pub sessions : SessionsSeen
   pub status : StatusSeen
   pub settings : Setup
   pub pending : Bool
@@ -20,7 +20,7 @@ pub record Panel : Type 0 where
 abbrev pub opening_at : ℕ → ℕ → Panel
 opening_at events scans = record {
   cage = record empty_cage { number = scans };
-  sessions = replicate 16 None;
+  sessions = nobody;
   status = first_status;
   settings = at_reset;
   pending = false;

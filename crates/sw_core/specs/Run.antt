@@ -10,7 +10,7 @@ use Rattle.sw_cage.specs.Change.{is_in}
 use Rattle.sw_lex.specs.declared.command.Command.TheVariants as Command
 use Rattle.sw_core.specs.declared.ask.Sid.{Sid}
 use Rattle.sw_core.specs.declared.ask.SessionAsk.TheVariants as Ask
-use Rattle.sw_core.specs.declared.ask.SessionAnswer.TheVariants.{Done, Refused}
+use Rattle.sw_core.specs.declared.ask.SessionAnswer.TheVariants.{Done, Refused, Lock}
 use Rattle.sw_status.specs.StatusModel.{queued}
 use Rattle.sw_core.specs.Event.{ended, erred}
 use Rattle.sw_cage.specs.Good.{IsGood}
@@ -71,9 +71,10 @@ pub record RelaysObey : Type 0 where
   -- an ejected card has no relay closed
   pub ejected : (p q : Panel) (slot : ℕ) (failed : Bool) (card : Account) → Step p (AskEject slot) failed (SaysEjected card) q → (k : ℕ) → closed_at card.closed k ≡ false
 
--- an answer that tells of no want of memory and of no card's failure
+-- An answer that tells of no want of memory and of no card's failure. A lock that is an error may be for want of memory.
 abbrev pub IsPlain : AnswerView → Type 0
 IsPlain (SaysSession (Refused e) work) = (e ≢ OutOfMemory) × (e ≢ HardwareError)
+IsPlain (SaysSession (Lock code) work) = code ≢ 3
 IsPlain SaysFailed = ⊥
 IsPlain answer = Unit {0}
 

@@ -1,19 +1,48 @@
--- Which sessions are joined.
-use Rattle.std.specs.Prelude.{◌≡◌, ◌≢◌, ℕ, ◌≤◌, ◌<◌, List, Option, None, Some}
+-- Which sessions are joined, and which locks they hold.
+use Rattle.std.specs.Prelude.{◌≡◌, ◌≢◌, ℕ, ◌-◌, ◌≤◌, ◌<◌, Bool, false, List, Option, None, Some, replicate, slice_set}
 use Rattle.sw_base.specs.Layout.{slot_at}
+use Rattle.sw_hislip.specs.LockTable.{LockTable, no_locks}
 use Rattle.sw_core.specs.declared.ask.Sid.{Sid}
+use Rattle.sw_core.specs.declared.sessions.Seat.{Seat}
 
--- Of each of the sixteen session numbers, from 1 on, whether a session has it: the number of events after its Join.
-abbrev pub Joins : Type 0
-Joins = List (Option ℕ)
+-- of each of the sixteen session numbers, from 1 on, the session that has it; and who holds the locks
+pub record SessionsSeen : Type 0 where
+  pub seats : List (Option Seat)
+  pub locks : LockTable
+
+abbrev pub nobody : SessionsSeen
+nobody = record { seats = replicate 16 None; locks = no_locks }
+
+-- a session that has joined after so many events: it takes messages of 65,536 bytes until it tells otherwise
+abbrev pub fresh : ℕ → Seat
+fresh events = record { joined = events; attached = false; size = 65536; clearing = false }
+
+abbrev pub with_seat : SessionsSeen → ℕ → Option Seat → SessionsSeen
+with_seat s number seat = record s { seats = slice_set s.seats (number - 1) seat }
+
+abbrev pub joined_in : Option Seat → Option ℕ
+joined_in None = None
+joined_in (Some seat) = Some seat.joined
 
 -- the session is joined
-abbrev pub IsJoined : Joins → Sid → Type 0
-IsJoined sessions sid = slot_at sessions sid.number ≡ Some sid.joined
+abbrev pub IsJoined : SessionsSeen → Sid → Type 0
+IsJoined s sid = joined_in (slot_at s.seats sid.number) ≡ Some sid.joined
+
+abbrev pub seat_in : Option Seat → Seat
+seat_in None = fresh 0
+seat_in (Some seat) = seat
+
+-- what is known of the session with this number
+abbrev pub seat_of : SessionsSeen → ℕ → Seat
+seat_of s number = seat_in (slot_at s.seats number)
+
+-- the session is being cleared
+abbrev pub is_clearing : SessionsSeen → ℕ → Bool
+is_clearing s number = (seat_of s number).clearing
 
 -- the least number that no session has
-pub record IsLeastFree (sessions : Joins) (number : ℕ) : Type 0 where
+pub record IsLeastFree (s : SessionsSeen) (number : ℕ) : Type 0 where
   pub first : 1 ≤ number
   pub last : number ≤ 16
-  pub free : slot_at sessions number ≡ None
-  pub below : (k : ℕ) → 1 ≤ k → k < number → slot_at sessions k ≢ None
+  pub free : slot_at s.seats number ≡ None
+  pub below : (k : ℕ) → 1 ≤ k → k < number → slot_at s.seats k ≢ None

@@ -34,7 +34,9 @@ use Rattle.sw_core.specs.declared.ask.SessionAnswer.TheVariants as Answer
 use Rattle.sw_core.specs.declared.ask.SessionAnswer.TheVariants.{Joined, Full, Stranger, Broken, Done, Refused, Hold, Worn}
 use Rattle.sw_core.specs.Answers.{identity, version, flag_of, as_asked, oldest_entry, all_entries, source_word}
 use Rattle.sw_core.specs.declared.ask.Sid.{Sid}
-use Rattle.sw_core.specs.Sessions.{IsJoined, IsLeastFree}
+use Rattle.sw_hislip.specs.LockTable.{admits}
+use Rattle.sw_core.specs.Sessions.{SessionsSeen, IsJoined, IsLeastFree, is_clearing, fresh, with_seat}
+use Rattle.sw_core.specs.Seats.{asker_of, is_dropped, is_shut_out, StepSeat, LacksSecond, Attaches}
 use Rattle.sw_core.specs.Panel.{Panel, with_rack, is_running}
 use Rattle.sw_core.specs.Registers.{number_told, status_set, alarmed, calmed, is_for_idle, waits_for_idle}
 use Rattle.sw_core.specs.Event.{concluded, last_number, next_number}
@@ -301,37 +303,62 @@ StepCommand true p ask answered command f (Hold back) None q = (f ≡ false) × 
 StepCommand true p ask answered command f answer work q = ⊥
 StepCommand false p ask answered command f answer work q = StepOffer (happening_of command) p answered command f answer work q
 
--- what a joined session asks
+-- what a joined session asks of its seat or of the locks
+pub record IsServed (p : Panel) (ask : SessionAsk) (f : Bool) (answer : SessionAnswer) (q : Panel) : Type 0 where
+  pub sessions : SessionsSeen
+  pub served : StepSeat p.sessions ask answer sessions
+  pub unfailed : f ≡ false
+  pub after : q ≡ record p { sessions = sessions }
+
+-- what a joined session asks that may be done now
 abbrev pub StepJoined : Panel → SessionAsk → Bool → SessionAnswer → Option WorkView → Panel → Type 0
-StepJoined p (Ask.Leave sid) f (Done None) None q = (f ≡ false) × (q ≡ record p { sessions = slice_set p.sessions (sid.number - 1) None })
 StepJoined p (Ask.Fault sid e) f (Done None) None q = (f ≡ false) × (q ≡ record p { status = pushed p.status e })
 StepJoined p (Ask.Unit sid command answered) f answer work q = StepCommand (is_running p && waits_for_idle command) p (Ask.Unit sid command answered) answered command f answer work q
 StepJoined p (Ask.Bus sid) f answer work q = StepHappens p Bus TriggerIgnored f answer work q
 StepJoined p (Ask.Snapshot sid) f answer None q = StepSnapshot p f answer q
 StepJoined p (Ask.Start sid plan) f answer work q = StepStart p plan f answer work q
+StepJoined p ask f answer None q = IsServed p ask f answer q
 StepJoined p ask f answer work q = ⊥
 
--- who asks
-abbrev pub asker_of : SessionAsk → Option Sid
-asker_of Ask.Join = None
-asker_of (Ask.Leave sid) = Some sid
-asker_of (Ask.Unit sid command answered) = Some sid
-asker_of (Ask.Fault sid e) = Some sid
-asker_of (Ask.Bus sid) = Some sid
-asker_of (Ask.Snapshot sid) = Some sid
-asker_of (Ask.Start sid plan) = Some sid
+-- it is dropped while the session is being cleared, or held while the locks of other sessions keep it out
+abbrev pub StepAdmitted : Bool → Bool → Panel → SessionAsk → Bool → SessionAnswer → Option WorkView → Panel → Type 0
+StepAdmitted true out p ask f Broken None q = (f ≡ false) × (q ≡ p)
+StepAdmitted true out p ask f answer work q = ⊥
+StepAdmitted false true p ask f (Hold back) None q = (f ≡ false) × (back ≡ ask) × (q ≡ p)
+StepAdmitted false true p ask f answer work q = ⊥
+StepAdmitted false false p ask f answer work q = StepJoined p ask f answer work q
+
+-- what the session asks is dropped now
+abbrev pub drops : Panel → Sid → SessionAsk → Bool
+drops p sid ask = is_clearing p.sessions sid.number && is_dropped ask
+
+-- what the session asks waits for the locks of others now
+abbrev pub shuts_out : Panel → Sid → SessionAsk → Bool
+shuts_out p sid ask = not (admits p.sessions.locks sid.number) && is_shut_out ask
 
 -- a new session gets the least free number, and the number of events that there are once it has joined
 abbrev pub StepJoin : Panel → Bool → SessionAnswer → Option WorkView → Panel → Type 0
-StepJoin p f (Joined sid) None q = (f ≡ false) × IsLeastFree p.sessions sid.number × (sid.joined ≡ next_number p.events) × (q ≡ record p { sessions = slice_set p.sessions (sid.number - 1) (Some (next_number p.events)) })
-StepJoin p f Full None q = (f ≡ false) × ((k : ℕ) → 1 ≤ k → k ≤ 16 → slot_at p.sessions k ≢ None) × (q ≡ p)
+StepJoin p f (Joined sid) None q = (f ≡ false) × IsLeastFree p.sessions sid.number × (sid.joined ≡ next_number p.events) × (q ≡ record p { sessions = with_seat p.sessions sid.number (Some (fresh (next_number p.events))) })
+StepJoin p f Full None q = (f ≡ false) × ((k : ℕ) → 1 ≤ k → k ≤ 16 → slot_at p.sessions.seats k ≢ None) × (q ≡ p)
 StepJoin p f answer work q = ⊥
+
+-- a second channel for the session with this number
+abbrev pub StepAttach : Panel → ℕ → Bool → SessionAnswer → Option WorkView → Panel → Type 0
+StepAttach p number f (Joined sid) None q = (f ≡ false) × Attaches p.sessions number sid q.sessions × (q ≡ record p { sessions = q.sessions })
+StepAttach p number f Stranger None q = (f ≡ false) × (LacksSecond p.sessions number → ⊥) × (q ≡ p)
+StepAttach p number f answer work q = ⊥
+
+-- what is asked by none of the sessions
+abbrev pub StepNew : Panel → SessionAsk → Bool → SessionAnswer → Option WorkView → Panel → Type 0
+StepNew p Ask.Join f answer work q = StepJoin p f answer work q
+StepNew p (Ask.Attach number) f answer work q = StepAttach p number f answer work q
+StepNew p ask f answer work q = ⊥
 
 -- a session's ask
 abbrev pub StepSession : Option Sid → Panel → SessionAsk → Bool → SessionAnswer → Option WorkView → Panel → Type 0
-StepSession None p ask f answer work q = StepJoin p f answer work q
+StepSession None p ask f answer work q = StepNew p ask f answer work q
 StepSession (Some sid) p ask f Stranger None q = (f ≡ false) × (IsJoined p.sessions sid → ⊥) × (q ≡ p)
-StepSession (Some sid) p ask f answer work q = IsJoined p.sessions sid × StepJoined p ask f answer work q
+StepSession (Some sid) p ask f answer work q = IsJoined p.sessions sid × StepAdmitted (drops p sid ask) (shuts_out p sid ask) p ask f answer work q
 
 -- what is answered to no session by what the cage told
 abbrev pub outside_told : TakenSeen → AnswerView

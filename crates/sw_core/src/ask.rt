@@ -21,8 +21,26 @@ pub struct Sid {
 pub enum SessionAsk {
     /// To be one of the sessions.
     Join,
-    /// To be none of them any more.
+    /// To be the second channel of the session with this number.
+    Attach(u8),
+    /// Whether the session's second channel stands.
+    Attached(Sid),
+    /// To be none of the sessions any more. Its locks are freed.
     Leave(Sid),
+    /// To note the size of a message that the session takes, in bytes.
+    Size(Sid, u64),
+    /// What size was noted last.
+    MaxSize(Sid),
+    /// To drop what the session asks from now on.
+    Clear(Sid),
+    /// To take what the session asks again.
+    Cleared(Sid),
+    /// To lock the others out: by an empty key exclusively, else beside the sessions with the same key.
+    Lock(Sid, Sequence<u8>),
+    /// To free a lock.
+    Release(Sid),
+    /// Who holds locks.
+    LockInfo(Sid),
     /// To carry out a command. The flag says whether the message that it stands in has answered before.
     Unit(Sid, Command, bool),
     /// To queue an error that was found outside.
@@ -48,6 +66,15 @@ pub enum SessionAnswer {
     Broken,
     /// It was done. A query's answer comes with it.
     Done(Option<Sequence<u8>>),
+    /// It is not so yet.
+    Missed,
+    /// The size that was noted last, in bytes.
+    Max(u64),
+    /// What became of a lock, by the code of HiSLIP's response (IVI-6.1 HiSLIP, lock transaction): 1 where it was granted
+    /// or the exclusive one freed, 2 where the shared one was freed, 3 for an error or where none was held.
+    Lock(u8),
+    /// Whether the exclusive lock is held, and how many sessions hold a lock.
+    Info(bool, u8),
     /// What a scan would begin from.
     Snapshot(Snapshot),
     /// It was refused, for this error.

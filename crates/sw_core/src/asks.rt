@@ -2,7 +2,8 @@
 
 ghost use Rattle.std.specs.Prelude.{◌≡◌, false};
 ghost use Rattle.sw_core.specs.View.{ask_view, answer_view, HandsBack};
-ghost use Rattle.sw_core.specs.Step.{asker_of, acts_unnumbered, IsWorn};
+ghost use Rattle.sw_core.specs.Seats.{asker_of, is_dropped, is_shut_out};
+ghost use Rattle.sw_core.specs.Step.{acts_unnumbered, IsWorn};
 
 use crate::ask::{Answer, Ask, SessionAnswer, SessionAsk, Sid};
 use sw_card::{Meter, Relay};
@@ -13,13 +14,44 @@ pub fn asker(ask: &SessionAsk) -> Option<Sid>
     ensures { result ≡ asker_of ask.now }
 {
     match ask {
-        SessionAsk::Join => None,
-        SessionAsk::Leave(sid)
+        SessionAsk::Join | SessionAsk::Attach(_) => None,
+        SessionAsk::Attached(sid)
+        | SessionAsk::Leave(sid)
+        | SessionAsk::Size(sid, _)
+        | SessionAsk::MaxSize(sid)
+        | SessionAsk::Clear(sid)
+        | SessionAsk::Cleared(sid)
+        | SessionAsk::Lock(sid, _)
+        | SessionAsk::Release(sid)
+        | SessionAsk::LockInfo(sid)
         | SessionAsk::Unit(sid, _, _)
         | SessionAsk::Fault(sid, _)
         | SessionAsk::Bus(sid)
         | SessionAsk::Snapshot(sid)
         | SessionAsk::Start(sid, _) => Some(*sid),
+    }
+}
+
+/// Whether a session's ask is dropped while the session is being cleared.
+pub fn is_dropped(ask: &SessionAsk) -> bool
+    ensures { result ≡ is_dropped ask.now }
+{
+    match ask {
+        SessionAsk::Fault(_, _) | SessionAsk::Lock(_, _) => true,
+        _ => is_shut_out(ask),
+    }
+}
+
+/// Whether a session's ask waits for the locks of others.
+pub fn is_shut_out(ask: &SessionAsk) -> bool
+    ensures { result ≡ is_shut_out ask.now }
+{
+    match ask {
+        SessionAsk::Unit(_, _, _)
+        | SessionAsk::Bus(_)
+        | SessionAsk::Snapshot(_)
+        | SessionAsk::Start(_, _) => true,
+        _ => false,
     }
 }
 

@@ -2,11 +2,13 @@
 
 ghost use Rattle.std.specs.Prelude.{◌≡◌, ◌&&◌, Bool, IfOk, None, Some};
 ghost use Rattle.sw_cage.specs.Change.{any_failed};
+ghost use Rattle.sw_status.specs.StatusModel.{summary_of};
 ghost use Rattle.sw_core.specs.Sessions.{IsJoined};
 ghost use Rattle.sw_core.specs.View.{ask_view, answer_view, work_view, failed_in, HandsBack, AskInstall, AskEject};
 ghost use Rattle.sw_core.specs.Panel.{Panel, opening, opening_at, is_running};
 ghost use Rattle.sw_core.specs.Registers.{waits_for_idle};
-ghost use Rattle.sw_core.specs.Step.{Step, Acts, StepSession, StepJoin, StepJoined, StepCommand, asker_of};
+ghost use Rattle.sw_core.specs.Seats.{asker_of};
+ghost use Rattle.sw_core.specs.Step.{Step, Acts, StepSession, StepNew, StepJoin, StepAttach, StepJoined, StepCommand};
 
 use crate::ask::{Answer, Ask, SessionAnswer, SessionAsk, Sid, Work};
 use crate::asks::{acts_unnumbered, asker, unnumbered};
@@ -69,6 +71,14 @@ impl<R: Relay, M: Meter> Core<R, M> {
         ensures { result ≡ self.now.events }
     {
         self.events
+    }
+
+    /// The status byte without bits 4 and 6, and the number of service requests so far: what is published of the status.
+    pub fn pair(&self) -> (u8, u64)
+        ensures byte { result.0 ≡ summary_of self.now.status }
+        ensures requests { result.1 ≡ self.now.status.requests }
+    {
+        (self.status.summary(), self.status.requests())
     }
 
     /// Does what is asked: one event.
@@ -135,14 +145,40 @@ impl<R: Relay, M: Meter> Core<R, M> {
     fn session(&mut self, alloc: Global, ask: SessionAsk) -> (SessionAnswer, Option<Work<M>>)
         ensures { StepSession (asker_of ask) self.old ask (any_failed self.old.cage.rack self.new.cage.rack) result.0 (work_view result.1) self.new }
     {
-        match asker(&ask) {
-            None => (self.join(), None),
-            Some(sid) => {
-                if !self.sessions.has(sid) {
-                    return (SessionAnswer::Stranger, None);
-                }
-                self.joined(alloc, sid, ask)
-            }
+        let Some(sid) = asker(&ask) else {
+            return (self.newcomer(ask), None);
+        };
+        if !self.sessions.has(sid) {
+            return (SessionAnswer::Stranger, None);
+        }
+        if self.sessions.drops(sid, &ask) {
+            return (SessionAnswer::Broken, None);
+        }
+        if self.sessions.shuts_out(sid, &ask) {
+            return (SessionAnswer::Hold(ask), None);
+        }
+        self.joined(alloc, sid, ask)
+    }
+
+    /// Does what none of the sessions asks.
+    fn newcomer(&mut self, ask: SessionAsk) -> SessionAnswer
+        requires { asker_of ask ≡ None }
+        ensures { StepNew self.old ask (any_failed self.old.cage.rack self.new.cage.rack) result None self.new }
+    {
+        match ask {
+            SessionAsk::Attach(number) => self.attach(number),
+            _ => self.join(),
+        }
+    }
+
+    /// Makes the second channel of a session.
+    #[tactic(auto, using(crate::proofs::Calls::failed_same))]
+    fn attach(&mut self, number: u8) -> SessionAnswer
+        ensures { StepAttach self.old number (any_failed self.old.cage.rack self.new.cage.rack) result None self.new }
+    {
+        match self.sessions.attach(number) {
+            Some(sid) => SessionAnswer::Joined(sid),
+            None => SessionAnswer::Stranger,
         }
     }
 
@@ -170,11 +206,6 @@ impl<R: Relay, M: Meter> Core<R, M> {
         ensures { StepJoined self.old ask (any_failed self.old.cage.rack self.new.cage.rack) result.0 (work_view result.1) self.new }
     {
         match ask {
-            SessionAsk::Join => unreachable!(),
-            SessionAsk::Leave(_) => {
-                self.sessions.leave(sid);
-                (SessionAnswer::Done(None), None)
-            }
             SessionAsk::Fault(_, error) => {
                 self.status.push_error(error);
                 (SessionAnswer::Done(None), None)
@@ -183,6 +214,8 @@ impl<R: Relay, M: Meter> Core<R, M> {
             SessionAsk::Bus(_) => self.offer(Happening::Bus, ScpiError::TriggerIgnored),
             SessionAsk::Snapshot(_) => (self.snapshot(alloc), None),
             SessionAsk::Start(_, plan) => self.start(alloc, plan),
+            SessionAsk::Join | SessionAsk::Attach(_) => unreachable!(),
+            ask => (self.sessions.serve(alloc, sid, ask), None),
         }
     }
 

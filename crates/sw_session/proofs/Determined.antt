@@ -18,7 +18,7 @@ use Rattle.sw_core.specs.declared.ask.Sid.{Sid}
 use Rattle.sw_core.specs.declared.ask.SessionAsk.{SessionAsk}
 use Rattle.sw_core.specs.declared.ask.SessionAsk.TheVariants as Ask
 use Rattle.sw_core.specs.declared.ask.SessionAnswer.{SessionAnswer}
-use Rattle.sw_core.specs.declared.ask.SessionAnswer.TheVariants.{Joined, Full, Stranger, Broken, Done, Snapshot, Refused, Hold, Worn}
+use Rattle.sw_core.specs.declared.ask.SessionAnswer.TheVariants.{Joined, Full, Stranger, Broken, Done, Snapshot, Refused, Hold, Worn, Missed, Max, Lock, Info}
 use Rattle.sw_session.specs.declared.desk.Wake.{Wake}
 use Rattle.sw_session.specs.declared.desk.Wake.TheVariants.{Again, Over}
 use Rattle.sw_session.specs.declared.talker.After.{After}
@@ -55,6 +55,10 @@ settles-asks sid turn ask a (Hold h) f (Waited Over ∷ t) r p = p.0
 settles-asks sid turn ask a (Hold h) f (Waited Again ∷ t) r p = p.0
 settles-asks sid turn ask a (Joined s) f t r p = p.0
 settles-asks sid turn ask a Full f t r p = p.0
+settles-asks sid turn ask a Missed f t r p = p.0
+settles-asks sid turn ask a (Max size) f t r p = p.0
+settles-asks sid turn ask a (Lock code) f t r p = p.0
+settles-asks sid turn ask a (Info exclusive holders) f t r p = p.0
 settles-asks sid turn ask a Stranger f t r p = p.0
 settles-asks sid turn ask a Broken f t r p = p.0
 settles-asks sid turn ask a (Done text) f t r p = p.0
@@ -66,6 +70,10 @@ settles-final : (sid : Sid) (turn : ℕ) (ask a : SessionAsk) (x f : SessionAnsw
 settles-final sid turn ask a (Hold h) f t r differs p = absurd (differs h refl)
 settles-final sid turn ask a (Joined s) f t r differs p = (p.1, p.2)
 settles-final sid turn ask a Full f t r differs p = (p.1, p.2)
+settles-final sid turn ask a Missed f t r differs p = (p.1, p.2)
+settles-final sid turn ask a (Max size) f t r differs p = (p.1, p.2)
+settles-final sid turn ask a (Lock code) f t r differs p = (p.1, p.2)
+settles-final sid turn ask a (Info exclusive holders) f t r differs p = (p.1, p.2)
 settles-final sid turn ask a Stranger f t r differs p = (p.1, p.2)
 settles-final sid turn ask a Broken f t r differs p = (p.1, p.2)
 settles-final sid turn ask a (Done text) f t r differs p = (p.1, p.2)
@@ -128,6 +136,10 @@ settles-same b b' sid turn ask (Asked a (Hold h) ∷ Waited Again ∷ t) t' r r'
     (λ k k'. settles-same b b' sid (turn + 1) ask t u r r' f f' k k' next)) q
 settles-same b b' sid turn ask (Asked a (Joined s) ∷ t) t' r r' f f' p q next = told-same b b' sid turn ask a (Joined s) t t' r r' f f' (λ h is. absurd (cc (is))) p q next
 settles-same b b' sid turn ask (Asked a Full ∷ t) t' r r' f f' p q next = told-same b b' sid turn ask a Full t t' r r' f f' (λ h is. absurd (cc (is))) p q next
+settles-same b b' sid turn ask (Asked a Missed ∷ t) t' r r' f f' p q next = told-same b b' sid turn ask a Missed t t' r r' f f' (λ h is. absurd (cc (is))) p q next
+settles-same b b' sid turn ask (Asked a (Max size) ∷ t) t' r r' f f' p q next = told-same b b' sid turn ask a (Max size) t t' r r' f f' (λ h is. absurd (cc (is))) p q next
+settles-same b b' sid turn ask (Asked a (Lock code) ∷ t) t' r r' f f' p q next = told-same b b' sid turn ask a (Lock code) t t' r r' f f' (λ h is. absurd (cc (is))) p q next
+settles-same b b' sid turn ask (Asked a (Info exclusive holders) ∷ t) t' r r' f f' p q next = told-same b b' sid turn ask a (Info exclusive holders) t t' r r' f f' (λ h is. absurd (cc (is))) p q next
 settles-same b b' sid turn ask (Asked a Stranger ∷ t) t' r r' f f' p q next = told-same b b' sid turn ask a Stranger t t' r r' f f' (λ h is. absurd (cc (is))) p q next
 settles-same b b' sid turn ask (Asked a Broken ∷ t) t' r r' f f' p q next = told-same b b' sid turn ask a Broken t t' r r' f f' (λ h is. absurd (cc (is))) p q next
 settles-same b b' sid turn ask (Asked a (Done text) ∷ t) t' r r' f f' p q next = told-same b b' sid turn ask a (Done text) t t' r r' f f' (λ h is. absurd (cc (is))) p q next
@@ -178,6 +190,10 @@ plans-same b b' sid (Snapshot s) t t' r r' f f' p q next = λ m n. elim p [
 ]
 plans-same b b' sid (Joined s) t t' r r' f f' p q next = stands-same b b' (Joined s) t t' r r' f f' p q next
 plans-same b b' sid Full t t' r r' f f' p q next = stands-same b b' Full t t' r r' f f' p q next
+plans-same b b' sid Missed t t' r r' f f' p q next = stands-same b b' Missed t t' r r' f f' p q next
+plans-same b b' sid (Max size) t t' r r' f f' p q next = stands-same b b' (Max size) t t' r r' f f' p q next
+plans-same b b' sid (Lock code) t t' r r' f f' p q next = stands-same b b' (Lock code) t t' r r' f f' p q next
+plans-same b b' sid (Info exclusive holders) t t' r r' f f' p q next = stands-same b b' (Info exclusive holders) t t' r r' f f' p q next
 plans-same b b' sid Stranger t t' r r' f f' p q next = stands-same b b' Stranger t t' r r' f f' p q next
 plans-same b b' sid Broken t t' r r' f f' p q next = stands-same b b' Broken t t' r r' f f' p q next
 plans-same b b' sid (Done text) t t' r r' f f' p q next = stands-same b b' (Done text) t t' r r' f f' p q next
@@ -242,6 +258,10 @@ concludes-same b b' sid answers (Done None) t t' r r' after after' told told' p 
 concludes-same b b' sid answers (Joined s) t t' r r' after after' told told' p q next = plain-same b b' t t' r r' Ends after after' answers told told' p q next
 concludes-same b b' sid answers (Snapshot s) t t' r r' after after' told told' p q next = plain-same b b' t t' r r' Ends after after' answers told told' p q next
 concludes-same b b' sid answers Full t t' r r' after after' told told' p q next = plain-same b b' t t' r r' Ends after after' answers told told' p q next
+concludes-same b b' sid answers Missed t t' r r' after after' told told' p q next = plain-same b b' t t' r r' Ends after after' answers told told' p q next
+concludes-same b b' sid answers (Max size) t t' r r' after after' told told' p q next = plain-same b b' t t' r r' Ends after after' answers told told' p q next
+concludes-same b b' sid answers (Lock code) t t' r r' after after' told told' p q next = plain-same b b' t t' r r' Ends after after' answers told told' p q next
+concludes-same b b' sid answers (Info exclusive holders) t t' r r' after after' told told' p q next = plain-same b b' t t' r r' Ends after after' answers told told' p q next
 concludes-same b b' sid answers Stranger t t' r r' after after' told told' p q next = plain-same b b' t t' r r' Ends after after' answers told told' p q next
 concludes-same b b' sid answers Broken t t' r r' after after' told told' p q next = plain-same b b' t t' r r' Ends after after' answers told told' p q next
 concludes-same b b' sid answers (Refused e) t t' r r' after after' told told' p q next = plain-same b b' t t' r r' (after_of (Refused e)) after after' answers told told' p q next

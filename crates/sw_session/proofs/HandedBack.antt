@@ -8,12 +8,14 @@ use Rattle.sw_lex.specs.declared.command.Command.{Command}
 use Rattle.sw_core.specs.declared.ask.SessionAsk.{SessionAsk}
 use Rattle.sw_core.specs.declared.ask.SessionAsk.TheVariants as Ask
 use Rattle.sw_core.specs.declared.ask.SessionAnswer.{SessionAnswer}
-use Rattle.sw_core.specs.declared.ask.SessionAnswer.TheVariants.{Joined, Full, Stranger, Broken, Done, Snapshot, Refused, Hold, Worn}
+use Rattle.sw_core.specs.declared.ask.SessionAnswer.TheVariants.{Joined, Full, Stranger, Broken, Done, Snapshot, Refused, Hold, Worn, Missed, Max, Lock, Info}
 use Rattle.sw_core.specs.Panel.{Panel, is_running}
 use Rattle.sw_core.specs.Registers.{number_told, status_set, is_for_idle, waits_for_idle}
 use Rattle.sw_core.specs.Event.{last_number}
 use Rattle.sw_core.specs.View.{WorkView, AskSession, SaysSession}
-use Rattle.sw_core.specs.Step.{Deed, Tells, SetsUp, Leaves, Refuses, Closes, Opens, Flags, StepDeed, StepFree, StepSet, StepNumber, StepOffer, StepCommand, StepSession, Step, IsUnnumbered, IsEvent, session_told, happening_of, deed_of, asker_of, acts_unnumbered}
+use Rattle.sw_core.specs.Step.{Deed, Tells, SetsUp, Leaves, Refuses, Closes, Opens, Flags, StepDeed, StepFree, StepSet, StepNumber, StepOffer, StepCommand, StepSession, Step, IsUnnumbered, IsEvent, session_told, happening_of, deed_of, acts_unnumbered, StepJoined, StepAdmitted, drops, shuts_out}
+use Rattle.sw_core.specs.Seats.{asker_of}
+use Rattle.sw_core.specs.declared.ask.Sid.{Sid}
 use Rattle.sw_session.specs.Trace.{HandsBack}
 use Rattle.sw_session.proofs.Nearer.{numbered}
 
@@ -92,25 +94,96 @@ worn-command : (b : Bool) (p : Panel) (ask : SessionAsk) (answered : Bool) (comm
 worn-command true p ask answered command f back work q s = s
 worn-command false p ask answered command f back work q s = worn-offer (happening_of command) p answered command f back work q s
 
+held-served : (p : Panel) (ask : SessionAsk) (f : Bool) (back : SessionAsk) (work : Option WorkView) (q : Panel) → StepJoined p ask f (Hold back) work q → back ≡ ask
+held-served p (Ask.Unit sid command answered) f back work q s = hold-command (is_running p && waits_for_idle command) p (Ask.Unit sid command answered) answered command f back work q s
+held-served p (Ask.Fault sid e) f back None q s = absurd s.served
+held-served p (Ask.Fault sid e) f back (Some work) q s = absurd s
+held-served p (Ask.Bus sid) f back work q s = absurd (hold-told _ s.told back s.answer_is)
+held-served p (Ask.Snapshot sid) f back None q s = absurd s
+held-served p (Ask.Snapshot sid) f back (Some work) q s = absurd s
+held-served p (Ask.Start sid plan) f back work q s = absurd s
+held-served p (Ask.Lock sid key) f back None q s = s.served.1
+held-served p (Ask.Lock sid key) f back (Some work) q s = absurd s
+held-served p (Ask.Attached sid) f back None q s = absurd s.served
+held-served p (Ask.Attached sid) f back (Some work) q s = absurd s
+held-served p (Ask.Leave sid) f back None q s = absurd s.served
+held-served p (Ask.Leave sid) f back (Some work) q s = absurd s
+held-served p (Ask.Size sid size) f back None q s = absurd s.served
+held-served p (Ask.Size sid size) f back (Some work) q s = absurd s
+held-served p (Ask.MaxSize sid) f back None q s = absurd s.served
+held-served p (Ask.MaxSize sid) f back (Some work) q s = absurd s
+held-served p (Ask.Clear sid) f back None q s = absurd s.served
+held-served p (Ask.Clear sid) f back (Some work) q s = absurd s
+held-served p (Ask.Cleared sid) f back None q s = absurd s.served
+held-served p (Ask.Cleared sid) f back (Some work) q s = absurd s
+held-served p (Ask.Release sid) f back None q s = absurd s.served
+held-served p (Ask.Release sid) f back (Some work) q s = absurd s
+held-served p (Ask.LockInfo sid) f back None q s = absurd s.served
+held-served p (Ask.LockInfo sid) f back (Some work) q s = absurd s
+held-served p (Ask.Attach number) f back None q s = absurd s.served
+held-served p (Ask.Attach number) f back (Some work) q s = absurd s
+held-served p Ask.Join f back None q s = absurd s.served
+held-served p Ask.Join f back (Some work) q s = absurd s
+
+held-admitted : (b o : Bool) (p : Panel) (ask : SessionAsk) (f : Bool) (back : SessionAsk) (work : Option WorkView) (q : Panel) → StepAdmitted b o p ask f (Hold back) work q → back ≡ ask
+held-admitted true o p ask f back work q s = absurd s
+held-admitted false true p ask f back None q s = s.1
+held-admitted false true p ask f back (Some work) q s = absurd s
+held-admitted false false p ask f back work q s = held-served p ask f back work q s
+
+held-of : (o : Option Sid) (p : Panel) (ask : SessionAsk) (f : Bool) (back : SessionAsk) (work : Option WorkView) (q : Panel) → StepSession o p ask f (Hold back) work q → back ≡ ask
+held-of None p Ask.Join f back work q s = absurd s
+held-of None p (Ask.Attach number) f back work q s = absurd s
+held-of None p ask f back work q s = absurd s
+held-of (Some sid) p ask f back work q s = held-admitted (drops p sid ask) (shuts_out p sid ask) p ask f back work q s.1
+
 held : (p : Panel) (ask : SessionAsk) (f : Bool) (back : SessionAsk) (work : Option WorkView) (q : Panel) → StepSession (asker_of ask) p ask f (Hold back) work q → back ≡ ask
-held p Ask.Join f back work q s = absurd s
-held p (Ask.Leave sid) f back work q s = absurd s.1
-held p (Ask.Unit sid command answered) f back work q s = hold-command (is_running p && waits_for_idle command) p (Ask.Unit sid command answered) answered command f back work q s.1
-held p (Ask.Fault sid e) f back work q s = absurd s.1
-held p (Ask.Bus sid) f back work q s = absurd (hold-told _ s.1.told back s.1.answer_is)
-held p (Ask.Snapshot sid) f back None q s = absurd s.1
-held p (Ask.Snapshot sid) f back (Some work) q s = absurd s.1
-held p (Ask.Start sid plan) f back work q s = absurd s.1
+held p ask f back work q s = held-of (asker_of ask) p ask f back work q s
+
+unworn-served : (p : Panel) (ask : SessionAsk) (f : Bool) (back : SessionAsk) (work : Option WorkView) (q : Panel) → StepJoined p ask f (Worn back) work q → ⊥
+unworn-served p (Ask.Unit sid command answered) f back work q s = worn-command (is_running p && waits_for_idle command) p (Ask.Unit sid command answered) answered command f back work q s
+unworn-served p (Ask.Fault sid e) f back None q s = s.served
+unworn-served p (Ask.Fault sid e) f back (Some work) q s = s
+unworn-served p (Ask.Bus sid) f back work q s = worn-told _ s.told back s.answer_is
+unworn-served p (Ask.Snapshot sid) f back None q s = s
+unworn-served p (Ask.Snapshot sid) f back (Some work) q s = s
+unworn-served p (Ask.Start sid plan) f back work q s = s
+unworn-served p (Ask.Attached sid) f back None q s = s.served
+unworn-served p (Ask.Attached sid) f back (Some work) q s = s
+unworn-served p (Ask.Leave sid) f back None q s = s.served
+unworn-served p (Ask.Leave sid) f back (Some work) q s = s
+unworn-served p (Ask.Size sid size) f back None q s = s.served
+unworn-served p (Ask.Size sid size) f back (Some work) q s = s
+unworn-served p (Ask.MaxSize sid) f back None q s = s.served
+unworn-served p (Ask.MaxSize sid) f back (Some work) q s = s
+unworn-served p (Ask.Clear sid) f back None q s = s.served
+unworn-served p (Ask.Clear sid) f back (Some work) q s = s
+unworn-served p (Ask.Cleared sid) f back None q s = s.served
+unworn-served p (Ask.Cleared sid) f back (Some work) q s = s
+unworn-served p (Ask.Release sid) f back None q s = s.served
+unworn-served p (Ask.Release sid) f back (Some work) q s = s
+unworn-served p (Ask.LockInfo sid) f back None q s = s.served
+unworn-served p (Ask.LockInfo sid) f back (Some work) q s = s
+unworn-served p (Ask.Lock sid key) f back None q s = s.served
+unworn-served p (Ask.Lock sid key) f back (Some work) q s = s
+unworn-served p (Ask.Attach number) f back None q s = s.served
+unworn-served p (Ask.Attach number) f back (Some work) q s = s
+unworn-served p Ask.Join f back None q s = s.served
+unworn-served p Ask.Join f back (Some work) q s = s
+
+unworn-admitted : (b o : Bool) (p : Panel) (ask : SessionAsk) (f : Bool) (back : SessionAsk) (work : Option WorkView) (q : Panel) → StepAdmitted b o p ask f (Worn back) work q → ⊥
+unworn-admitted true o p ask f back work q s = s
+unworn-admitted false true p ask f back work q s = s
+unworn-admitted false false p ask f back work q s = unworn-served p ask f back work q s
+
+unworn-of : (o : Option Sid) (p : Panel) (ask : SessionAsk) (f : Bool) (back : SessionAsk) (work : Option WorkView) (q : Panel) → StepSession o p ask f (Worn back) work q → ⊥
+unworn-of None p Ask.Join f back work q s = s
+unworn-of None p (Ask.Attach number) f back work q s = s
+unworn-of None p ask f back work q s = s
+unworn-of (Some sid) p ask f back work q s = unworn-admitted (drops p sid ask) (shuts_out p sid ask) p ask f back work q s.1
 
 unworn : (p : Panel) (ask : SessionAsk) (f : Bool) (back : SessionAsk) (work : Option WorkView) (q : Panel) → StepSession (asker_of ask) p ask f (Worn back) work q → ⊥
-unworn p Ask.Join f back work q s = s
-unworn p (Ask.Leave sid) f back work q s = s.1
-unworn p (Ask.Unit sid command answered) f back work q s = worn-command (is_running p && waits_for_idle command) p (Ask.Unit sid command answered) answered command f back work q s.1
-unworn p (Ask.Fault sid e) f back work q s = s.1
-unworn p (Ask.Bus sid) f back work q s = worn-told _ s.1.told back s.1.answer_is
-unworn p (Ask.Snapshot sid) f back None q s = s.1
-unworn p (Ask.Snapshot sid) f back (Some work) q s = s.1
-unworn p (Ask.Start sid plan) f back work q s = s.1
+unworn p ask f back work q s = unworn-of (asker_of ask) p ask f back work q s
 
 worn : (p : Panel) (ask : SessionAsk) (f : Bool) (back : SessionAsk) (work : Option WorkView) (q : Panel) → IsUnnumbered p (AskSession ask) f (SaysSession (Worn back) work) q → back ≡ ask
 worn p ask f back None q u = u.worn
@@ -127,6 +200,10 @@ handed-back p ask f (Worn back) work q s =
     (λ (e : IsEvent p (AskSession ask) f (SaysSession (Worn back) work) q). absurd (unworn p ask f back work e.done e.acts))
 handed-back p ask f (Joined sid) work q s = tt
 handed-back p ask f Full work q s = tt
+handed-back p ask f Missed work q s = tt
+handed-back p ask f (Max size) work q s = tt
+handed-back p ask f (Lock code) work q s = tt
+handed-back p ask f (Info exclusive holders) work q s = tt
 handed-back p ask f Stranger work q s = tt
 handed-back p ask f Broken work q s = tt
 handed-back p ask f (Done text) work q s = tt

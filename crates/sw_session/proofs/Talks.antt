@@ -14,7 +14,7 @@ use Rattle.sw_macro.specs.Expansion.{calls, Expands}
 use Rattle.sw_core.specs.declared.ask.Sid.{Sid}
 use Rattle.sw_core.specs.declared.ask.SessionAsk.{SessionAsk}
 use Rattle.sw_core.specs.declared.ask.SessionAnswer.{SessionAnswer}
-use Rattle.sw_core.specs.declared.ask.SessionAnswer.TheVariants.{Joined, Full, Stranger, Broken, Done, Snapshot, Refused, Hold, Worn}
+use Rattle.sw_core.specs.declared.ask.SessionAnswer.TheVariants.{Joined, Full, Stranger, Broken, Done, Snapshot, Refused, Hold, Worn, Missed, Max, Lock, Info}
 use Rattle.sw_session.specs.declared.desk.Wake.TheVariants.{Again, Over}
 use Rattle.sw_session.specs.declared.talker.After.{After}
 use Rattle.sw_session.specs.declared.talker.After.TheVariants.{Goes, Drops, Ends}
@@ -65,6 +65,10 @@ settles-told : (sid : Sid) (turn : ℕ) (ask asked : SessionAsk) (final : Sessio
 settles-told sid turn ask asked (Hold held) rest same differ = absurd (differ held refl)
 settles-told sid turn ask asked (Joined s) rest same differ = (same, refl, refl)
 settles-told sid turn ask asked Full rest same differ = (same, refl, refl)
+settles-told sid turn ask asked Missed rest same differ = (same, refl, refl)
+settles-told sid turn ask asked (Max size) rest same differ = (same, refl, refl)
+settles-told sid turn ask asked (Lock code) rest same differ = (same, refl, refl)
+settles-told sid turn ask asked (Info exclusive holders) rest same differ = (same, refl, refl)
 settles-told sid turn ask asked Stranger rest same differ = (same, refl, refl)
 settles-told sid turn ask asked Broken rest same differ = (same, refl, refl)
 settles-told sid turn ask asked (Done text) rest same differ = (same, refl, refl)

@@ -1,0 +1,7 @@
+use Rattle.std.proofs.Common.{length, sym, ◌∙◌, ap}
+use Rattle.sw_core.specs.Sessions.{SessionsSeen}
+use Rattle.sw_core.proofs.Seating.{seated_number}
+use Rattle.sw_core.proofs.sessions.Sessions.lock.Goals as goal
+
+pub ask-requires : goal.ask-requires
+ask-requires c = seated_number c.args.self.now c.args.sid (sym (ap (λ (s : SessionsSeen). length s.seats) c.self.view_is) ∙ c.self.invariant) c.requires
