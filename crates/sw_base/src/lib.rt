@@ -28,7 +28,7 @@ pub use limits::{
     MESSAGE_BYTES, MNEMONIC_BYTES, POINTS, QUEUED_ERRORS, SESSIONS, SLOTS, TRIGGER_COUNT,
     limits_agree,
 };
-pub use number::{Nrf, Unit, one_reading};
+pub use number::{Exponent, Nrf, Unit, one_reading, read_exponent, read_mantissa};
 pub use reading::{Reading, one_text, print_micros, print_number, print_reading, print_signed};
 pub use sequence::Sequence;
 pub use terms::{LayerName, Source, StatusGroup};
