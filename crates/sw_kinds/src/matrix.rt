@@ -2,6 +2,7 @@
 
 ghost use Rattle.std.specs.Prelude.{◌≡◌, ℕ, ◌≤◌, replicate, true, false, OnOk, OnErr, IsTrue};
 ghost use Rattle.sw_base.specs.Layout.{has_channel};
+ghost use Rattle.sw_base.specs.Limits.{most_channels};
 ghost use Rattle.sw_card.specs.Account.{Account, relay_account, closed_at, with_set, at_rest};
 ghost use Rattle.sw_kinds.specs.Row.{counted};
 
@@ -27,7 +28,7 @@ impl<D: Driver> Model for Matrix<D> {
 impl<D: Driver> Matrix<D> {
     /// A card with its driver's supply cut and so nothing closed.
     pub fn new(serial: u32, channels: u8, driver: D) -> Self
-        requires { (1 ≤ channels) × (channels ≤ 99) }
+        requires { (1 ≤ channels) × (channels ≤ most_channels) }
         ensures driver { D.cuts driver result.0 }
         ensures account { result.1 ≡ relay_account serial 0 (replicate channels 0) (replicate channels false) }
     {

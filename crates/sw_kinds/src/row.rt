@@ -2,6 +2,7 @@
 
 ghost use Rattle.std.specs.Prelude.{◌≡◌, ℕ, ◌≤◌, ◌^◌, length, replicate, take, List, Bool, true, false, OnOk, OnErr, IsTrue};
 ghost use Rattle.sw_base.specs.Layout.{group_at, has_channel};
+ghost use Rattle.sw_base.specs.Limits.{most_channels};
 ghost use Rattle.sw_card.specs.Account.{Account, relay_account, closed_at, with_set, at_rest};
 ghost use Rattle.sw_kinds.specs.Row.{HoldsDriven, counted};
 
@@ -9,10 +10,11 @@ use crate::coils::Coils;
 use crate::driver::Driver;
 use crate::flags::no_flags;
 use std::marker::Model;
+use sw_base::CHANNELS;
 use sw_card::CardFault;
 
-/// The most channels of a card.
-const MOST: usize = 99;
+/// How many flags a row keeps: one for each channel that a card may have.
+const FLAGS: usize = CHANNELS as usize;
 
 /// Relays of one group over a driver. Contracts see the driver and the card's account.
 ///
@@ -22,7 +24,7 @@ pub(crate) struct Row<D: Driver> {
     failures: u64,
     channels: u8,
     group: u8,
-    closed: [bool; MOST],
+    closed: [bool; FLAGS],
     coils: Coils<D>,
 }
 
@@ -51,7 +53,7 @@ impl<D: Driver> Drop for Row<D> {
 impl<D: Driver> Row<D> {
     /// A row whose supply is cut.
     pub(crate) fn new(serial: u32, channels: u8, group: u8, driver: D) -> Self
-        requires { (1 ≤ channels) × (channels ≤ 99) }
+        requires { (1 ≤ channels) × (channels ≤ most_channels) }
         ensures driver { D.cuts driver result.0 }
         ensures account { result.1 ≡ relay_account serial 0 (replicate channels group) (replicate channels false) }
     {

@@ -1,6 +1,6 @@
 use Rattle.std.proofs.Common.{◌≡◌, length, rules}
 use Rattle.sw_base.proofs.Numerals.{no_mantissa}
-use Rattle.sw_base.proofs.number.mantissa.Goals as goal
+use Rattle.sw_base.proofs.number.read_mantissa.Goals as goal
 
 pub returns-then-is_empty-2-clause-none : goal.returns-then-is_empty-2-clause-none
 returns-then-is_empty-2-clause-none c =
