@@ -3,9 +3,7 @@ use Rattle.std.proofs.Common.{◌≡◌, ℕ, zero, suc, ◌-◌, ◌<◌, true,
 use Rattle.std.specs.List.{list_all}
 use Rattle.std.proofs.lemmas.Bool.{cases_eq, cases_Bool, eq-eqb, ne_eqb, not-true, not-false, and_parts, and_from, or_cases, or_left, or_right, both_ways}
 use Rattle.std.proofs.lemmas.Slice.Eq.{bytes_eq-Decides}
-use Rattle.sw_hislip.specs.LockTable.{LockTable, key_of, shares, is_holder, nobody_shares, agrees, one_key, admits, grants, Replies, RepliesShared}
-use Rattle.sw_hislip.specs.declared.locks.LockReply.{LockReply}
-use Rattle.sw_hislip.specs.declared.locks.LockReply.TheVariants.{Granted, NotNow, Wrong}
+use Rattle.sw_hislip.specs.LockTable.{LockTable, key_of, shares, is_holder, nobody_shares, agrees, one_key, admits, is_wrong_key, grants, grants_shared, MayLackMemory}
 use Rattle.sw_hislip.specs.LockRules.{NobodyShares, NoOtherShares, AllHaveKey, Admits, Grants, AreRules}
 
 abbrev Keys : Type 0
@@ -117,12 +115,10 @@ grants_is l sid (b ∷ key) n = (
   λ g. and_from _ _ ((alone l.exclusive sid).1 g.0) ((all_have l (b ∷ key) n).1 g.1),
 )
 
--- a key that is not empty
-pub replies_shared : (old new : LockTable) (sid : ℕ) (key : List ℕ) (reply : LockReply) → (0 < length key) → RepliesShared old sid key reply new → Replies old sid key reply new
-replies_shared old new sid [] reply some h = absurd (omega (arith, some))
-replies_shared old new sid (b ∷ key) Granted some h = h
-replies_shared old new sid (b ∷ key) NotNow some h = h
-replies_shared old new sid (b ∷ key) Wrong some h = h
+-- a key that is not empty asks for the shared lock
+pub lacks_shared : (l : LockTable) (sid : ℕ) (key : List ℕ) → 0 < length key → (is_wrong_key l sid key ≡ false) × (grants_shared l sid key ≡ true) → MayLackMemory l sid key
+lacks_shared l sid [] some h = absurd (omega (arith, some))
+lacks_shared l sid (b ∷ key) some h = h
 
 pub are_rules : (l : LockTable) (sid : ℕ) → length l.keys ≡ 16 → AreRules l sid
 are_rules l sid n = record { admitted = admits_is l sid n; granted = λ key. grants_is l sid key n }
