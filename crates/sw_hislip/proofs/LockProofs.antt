@@ -9,7 +9,7 @@ use Rattle.sw_hislip.specs.LockRules.{NobodyShares, NoOtherShares, AllHaveKey, A
 abbrev Keys : Type 0
 Keys = List (Option (List ℕ))
 
-alone : (e : Option ℕ) (sid : ℕ) → (not (is_some e && not (is_holder sid e)) ≡ true) ↔ ((other : ℕ) → e ≡ Some other → other ≡ sid)
+pub alone : (e : Option ℕ) (sid : ℕ) → (not (is_some e && not (is_holder sid e)) ≡ true) ↔ ((other : ℕ) → e ≡ Some other → other ≡ sid)
 alone None sid = (λ h other e. absurd cc, λ h. refl)
 alone (Some n) sid =
     elim (cases_eq n sid) [
@@ -49,7 +49,7 @@ place i = omega arith
 nobody : (l : LockTable) → length l.keys ≡ 16 → (nobody_shares l ≡ true) ↔ NobodyShares l
 nobody l n = (λ h other s. none_at l.keys (other - 1) h, λ h. none_all l.keys (λ i lt. ap (λ (j : ℕ). get_or l.keys j None) (sym (place i)) ∙ h (suc i) (omega arith, omega (arith, lt, n))))
 
-all_have : (l : LockTable) (key : List ℕ) → length l.keys ≡ 16 → (one_key l key ≡ true) ↔ AllHaveKey l key
+pub all_have : (l : LockTable) (key : List ℕ) → length l.keys ≡ 16 → (one_key l key ≡ true) ↔ AllHaveKey l key
 all_have l key n = (
   λ h other held s e. agree_at key l.keys (other - 1) held h e,
   λ h. agree_all key l.keys (λ i held lt e. h (suc i) held (omega arith, omega (arith, lt, n)) (ap (λ (j : ℕ). get_or l.keys j None) (place i) ∙ e)),

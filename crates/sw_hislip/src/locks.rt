@@ -5,6 +5,7 @@ ghost use Rattle.std.specs.List.{list_all};
 ghost use Rattle.sw_hislip.specs.LockTable.{no_locks, agrees, shares, other_excludes, admits, excludes, holds, holders};
 ghost use Rattle.sw_hislip.specs.LockTable.{is_wrong_key, grants_shared, with_key, Replies, RepliesBy, MayLackMemory};
 ghost use Rattle.sw_hislip.specs.LockTable.{freed, released, left};
+ghost use Rattle.sw_hislip.specs.LockRules.{IsOrderly};
 
 use std::alloc::{AllocError, Global};
 use std::marker::Model;
@@ -51,6 +52,10 @@ impl Model for Locks {
     ghost Value = { LockTable };
 
     ghost view = { λ l. record { exclusive = l.exclusive; keys = l.keys } };
+
+    ghost use Rattle.sw_hislip.specs.LockRules.{IsOrderly};
+
+    ghost invariant = { λ l. IsOrderly (record { exclusive = l.exclusive; keys = l.keys }) };
 }
 
 impl Locks {
@@ -102,7 +107,8 @@ impl Locks {
     /// Whether no lock of another session keeps the session out.
     pub fn admits(&self, sid: u8) -> bool
         requires { (1 ≤ sid) × (sid ≤ 16) }
-        ensures { result ≡ admits self.now sid }
+        ensures admitted { result ≡ admits self.now sid }
+        ensures orderly { IsOrderly self.now }
     {
         !self.other_excludes(sid) && (none_held(&self.keys) || self.shares(sid))
     }
@@ -112,6 +118,7 @@ impl Locks {
     pub fn info(&self) -> (bool, u8)
         ensures exclusive { result.0 ≡ is_some self.now.exclusive }
         ensures holders { result.1 ≡ holders self.now 16 }
+        ensures orderly { IsOrderly self.now }
     {
         let mut count = 0;
         for before in 0..SESSIONS {
