@@ -1,0 +1,6 @@
+//! Tests of the library crates through their public calls: outside values, printed text, and each call once on its happy
+//! path. What a contract says is not tested again.
+#![tactic(auto)]
+
+#[cfg(test)]
+mod hislip;
