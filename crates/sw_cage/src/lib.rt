@@ -20,8 +20,6 @@ mod refusal;
 mod scan;
 mod slots;
 mod taken;
-#[cfg(test)]
-mod tests;
 mod tickets;
 mod walk;
 

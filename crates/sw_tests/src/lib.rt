@@ -1,6 +1,8 @@
-//! Tests of the library crates through their public calls: outside values, printed text, and each call once on its happy
-//! path. What a contract says is not tested again.
+//! Tests of the library crates, by their public calls: what no contract says, the instrument's worked examples, and each
+//! public call once with ample memory. They stand here so that no crate is proved a second time for its tests.
 #![tactic(auto)]
 
+#[cfg(test)]
+mod cage;
 #[cfg(test)]
 mod hislip;
