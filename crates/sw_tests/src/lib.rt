@@ -6,3 +6,7 @@
 mod cage;
 #[cfg(test)]
 mod hislip;
+#[cfg(test)]
+mod trigger;
+#[cfg(test)]
+mod verify;
