@@ -17,8 +17,6 @@ mod number;
 mod reading;
 mod sequence;
 mod terms;
-#[cfg(test)]
-mod tests;
 
 pub use bytes::{blanks, cut, digits, eat, is_blank, is_digit, is_letter, is_word, letters, words};
 pub use chan::Chan;

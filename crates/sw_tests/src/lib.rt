@@ -3,9 +3,17 @@
 #![tactic(auto)]
 
 #[cfg(test)]
+mod base;
+#[cfg(test)]
 mod cage;
 #[cfg(test)]
+mod card;
+#[cfg(test)]
+mod channel;
+#[cfg(test)]
 mod hislip;
+#[cfg(test)]
+mod kinds;
 #[cfg(test)]
 mod trigger;
 #[cfg(test)]

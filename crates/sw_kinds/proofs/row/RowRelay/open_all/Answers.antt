@@ -1,6 +1,6 @@
 use Rattle.std.proofs.Common.{ap}
 use Rattle.sw_kinds.proofs.Rows.{account_none}
-use Rattle.sw_kinds.proofs.row.Row.open_all.Goals as goal
+use Rattle.sw_kinds.proofs.row.RowRelay.open_all.Goals as goal
 
 pub returns-clause-account : goal.returns-clause-account
 returns-clause-account g c =

@@ -1,8 +1,8 @@
 //! Lists with known answers, and the first refusals of others.
 
-use crate::{print_list, read_list};
 use std::test::Fail;
 use sw_base::{Chan, ScpiError};
+use sw_channel::{one_reading, print_list, read_list};
 
 #[test]
 fn reads_lists(rt: HostRuntime) -> Result<(), Fail> {
@@ -66,5 +66,6 @@ fn prints_lists(rt: HostRuntime) -> Result<(), Fail> {
     assert_eq!(rt; list.as_slice(), b"(@1!5,1!4,8!99)".as_slice());
     let none = print_list(rt.alloc(), &[])?;
     assert_eq!(rt; none.as_slice(), b"(@)".as_slice());
+    one_reading();
     Ok(())
 }

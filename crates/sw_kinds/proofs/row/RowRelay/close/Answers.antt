@@ -2,7 +2,7 @@ use Rattle.std.proofs.Common.{◌≡◌, ap, subst, true, OnErr}
 use Rattle.sw_card.specs.Account.{Account}
 use Rattle.sw_kinds.specs.Row.{counted}
 use Rattle.sw_kinds.proofs.Rows.{account_set}
-use Rattle.sw_kinds.proofs.row.Row.close.Goals as goal
+use Rattle.sw_kinds.proofs.row.RowRelay.close.Goals as goal
 
 pub returns-clause-ok : goal.returns-clause-ok
 returns-clause-ok g c = rw (← account_set c.args.self.now.1 c.self.inside.serial c.self.inside.failures c.self.inside.channels c.self.inside.group c.self.inside.closed c.args.ch true (ap (λ p. p.1) c.self.view_is) c.requires.present) c.drive.ensures.ok

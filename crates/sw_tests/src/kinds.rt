@@ -2,7 +2,6 @@
 
 ghost use Rattle.std.specs.Prelude.{ℕ, Bool};
 
-use crate::{Driver, Fuse, Matrix, Mux, SimDriver, SimSource, Source, Volt};
 use std::alloc::{AllocError, Global};
 use std::process::Abort;
 use std::sync::Arc;
@@ -10,6 +9,7 @@ use std::sync::atomic::{AtomicU64, Ordering};
 use std::test::Fail;
 use sw_base::Reading;
 use sw_card::{Board, CardFault, Meter, Relay};
+use sw_kinds::{Driver, Fuse, Matrix, Mux, SimDriver, SimSource, Source, Volt};
 
 type Record = Arc<AtomicU64, Global>;
 

@@ -1,10 +1,10 @@
 //! Numbers and readings: the worked examples, and values computed by another program with exact fractions.
 
-use crate::bytes::cut;
-use crate::error::ScpiError;
-use crate::number::{Nrf, Unit, one_reading};
-use crate::reading::{Reading, one_text, print_micros, print_number, print_reading, print_signed};
 use std::process::Abort;
+use sw_base::{
+    Nrf, Reading, ScpiError, Unit, cut, limits_agree, one_reading, one_text, print_micros,
+    print_number, print_reading, print_signed,
+};
 
 /// Texts with the nearest whole number behind `=`, or behind `!` the number of the error, over all of i64.
 const TABLE: &[u8] = b"\
@@ -52,9 +52,9 @@ fn numbers_of_the_table(rt: HostRuntime) {
 }
 
 fn text_of(entry: &[u8]) -> &[u8] {
-    match cut(entry, b'=') {
+    match cut(entry, b'=').or(cut(entry, b'!')) {
         Some((text, _)) => text,
-        None => cut(entry, b'!').map_or(entry, |(text, _)| text),
+        None => entry,
     }
 }
 
@@ -123,13 +123,22 @@ fn digits_that_count(rt: HostRuntime) {
     assert_eq!(rt; whole(&long, 0, 9), Err(ScpiError::TooManyDigits));
 }
 
+/// How much of the text stands behind its number.
+fn rest_of(text: &[u8]) -> Option<usize> {
+    match Nrf::read(text) {
+        Ok((_, rest)) => Some(rest.len()),
+        Err(_) => None,
+    }
+}
+
 #[test]
 fn rests(rt: HostRuntime) {
-    assert_eq!(rt; Nrf::read(b"1 E 2 S").map_or(9, |read| read.1.len()), 2);
-    assert_eq!(rt; Nrf::read(b"500 MS").map_or(9, |read| read.1.len()), 3);
-    assert_eq!(rt; Nrf::read(b"1E").map_or(9, |read| read.1.len()), 1);
+    assert_eq!(rt; rest_of(b"1 E 2 S"), Some(2));
+    assert_eq!(rt; rest_of(b"500 MS"), Some(3));
+    assert_eq!(rt; rest_of(b"1E"), Some(1));
     one_reading();
     one_text();
+    limits_agree();
 }
 
 fn shows(rt: &impl Abort, reading: Reading, want: &[u8]) {
