@@ -15,6 +15,10 @@ mod hislip;
 #[cfg(test)]
 mod kinds;
 #[cfg(test)]
+mod macros;
+#[cfg(test)]
+mod status;
+#[cfg(test)]
 mod trigger;
 #[cfg(test)]
 mod verify;
