@@ -3,9 +3,13 @@
 #![tactic(auto)]
 
 #[cfg(test)]
+mod asks;
+#[cfg(test)]
 mod base;
 #[cfg(test)]
 mod cage;
+#[cfg(test)]
+mod cages;
 #[cfg(test)]
 mod card;
 #[cfg(test)]
@@ -16,6 +20,8 @@ mod hislip;
 mod kinds;
 #[cfg(test)]
 mod macros;
+#[cfg(test)]
+mod scans;
 #[cfg(test)]
 mod status;
 #[cfg(test)]
