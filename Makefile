@@ -1,10 +1,31 @@
-# make run: answers the terminal's lines by a mainframe of simulated cards.   make test: the whole gate.
+# make try:   answers the terminal's lines in about a minute, by a program that nothing has proved.
+# make run:   the same by the proved program; the first time it proves it.
+# make test:  the whole gate.
+# make wrong: tries every wrong body, whatever is recorded of it.
+# make check CRATE=sw_lex: proves one crate.
+# make bench: times the program on each workload; NAME=lists: on one.
 RT ?= rt
+export RT
 
-.PHONY: run test
+.PHONY: try run test wrong check talks bench
+
+try:
+	@cd crates/mainframe && $(RT) try -- run
 
 run:
 	@cd crates/mainframe && $(RT) run -- run
 
 test:
-	$(RT) ci
+	@./gate
+
+wrong:
+	@wrong/try --all
+
+check:
+	@cd crates/$(CRATE) && $(RT) check
+
+talks:
+	@talks/run crates/mainframe/out/mainframe
+
+bench:
+	@bench/run $(NAME)
