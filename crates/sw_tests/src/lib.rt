@@ -10,3 +10,5 @@ mod card;
 mod channel;
 #[cfg(test)]
 mod kinds;
+#[cfg(test)]
+mod lex;
