@@ -19,6 +19,8 @@ mod hislip;
 #[cfg(test)]
 mod kinds;
 #[cfg(test)]
+mod lex;
+#[cfg(test)]
 mod macros;
 #[cfg(test)]
 mod scans;
