@@ -1,3 +1,4 @@
 pub mod Row
 pub mod Fuse
+pub mod FuseRuns
 pub mod Readings

@@ -2,6 +2,7 @@
 
 ghost use Rattle.std.specs.Prelude.{◌≡◌, ℕ, Option};
 ghost use Rattle.sw_kinds.specs.Fuse.{DrivesByFuse, is_failing, left_after};
+ghost use Rattle.sw_kinds.specs.FuseRuns.{FailByNumber, NeverFails, FailOnlyByNumber};
 
 use crate::driver::Driver;
 use std::marker::Model;
@@ -72,3 +73,11 @@ impl<D: Driver> Driver for Fuse<D> {
         self.driver.cut();
     }
 }
+
+/// A law: of the calls made through a new fuse, in any order, exactly the closing with its number fails by it, counted
+/// from 1, and every other call answers what the driver behind it answered. Over a driver that never fails that closing
+/// is the one call that fails.
+pub fn one_closing_fails<D: Driver>()
+    ensures numbered { FailByNumber ⟦<Fuse<D> as Driver>⟧.drives ⟦<Fuse<D> as Driver>⟧.cuts D.drives D.cuts }
+    ensures exactly { NeverFails D.drives → FailOnlyByNumber ⟦<Fuse<D> as Driver>⟧.drives ⟦<Fuse<D> as Driver>⟧.cuts }
+{}

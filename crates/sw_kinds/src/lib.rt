@@ -20,7 +20,7 @@ mod volt;
 
 pub use driver::Driver;
 pub use flags::no_flags;
-pub use fuse::Fuse;
+pub use fuse::{Fuse, one_closing_fails};
 pub use row::{Grouped, Matrix, Mux, Row, Ungrouped};
 pub use sim::{SimDriver, SimSource};
 pub use source::Source;
