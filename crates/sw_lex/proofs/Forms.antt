@@ -1,10 +1,10 @@
 -- The two forms of a mnemonic.
 use Rattle.std.proofs.Common.{◌≡◌, ℕ, Bool, true, false, not, List, [], ◌∷◌, ◌++◌, map, refl, sym, ap, subst, ◌∙◌, ◌⊎◌, inl, inr, IsTrue}
 use Rattle.std.specs.Prelude.{◌==◌, ◌&&◌, ◌||◌, if◌then◌else◌}
-use Rattle.std.specs.Char.{to_ascii_uppercase}
+use Rattle.std.specs.Char.{is_ascii_lowercase, to_ascii_uppercase}
 use Rattle.std.proofs.lemmas.Bool.{and_parts, eq-eqb, eqb-true, cases_Bool}
 use Rattle.std.proofs.lemmas.List.{same_from_push}
-use Rattle.sw_lex.specs.Words.{is_small, short_of, long_of}
+use Rattle.sw_lex.specs.Words.{short_of, long_of}
 use Rattle.sw_lex.specs.Found.{IsForm, IsNumbered}
 use Rattle.sw_lex.specs.Rows.{is_form_from}
 use Rattle.sw_lex.specs.Apart.{same_word}
@@ -27,16 +27,16 @@ not_false false h = refl
 
 rest_form : (word form : List ℕ) (capitals : Bool) → is_form_from word form capitals ≡ true → IsRest word form capitals
 rest_form [] [] capitals h = inr refl
-rest_form [] (b ∷ form) capitals h = let p = and_parts capitals (is_small b) h in inl (p.0, rw p.1 refl)
+rest_form [] (b ∷ form) capitals h = let p = and_parts capitals (is_ascii_lowercase b) h in inl (p.0, rw p.1 refl)
 rest_form (x ∷ word) [] capitals h = absurd (let z : false ≡ true = h in cc)
 rest_form (x ∷ word) (b ∷ form) capitals h =
-    let p = and_parts (x == to_ascii_uppercase b) (is_form_from word form (capitals && not (is_small b))) h in
+    let p = and_parts (x == to_ascii_uppercase b) (is_form_from word form (capitals && not (is_ascii_lowercase b))) h in
     let e : x ≡ to_ascii_uppercase b = eqb-true x (to_ascii_uppercase b) p.0 in
-    elim (rest_form word form (capitals && not (is_small b)) p.1) [
+    elim (rest_form word form (capitals && not (is_ascii_lowercase b)) p.1) [
       | inl s ↦
-          let q = and_parts capitals (not (is_small b)) s.0 in
+          let q = and_parts capitals (not (is_ascii_lowercase b)) s.0 in
           let w : x ∷ word ≡ to_ascii_uppercase b ∷ short_of form = ap (λ (y : ℕ). y ∷ word) e ∙ ap (λ (t : List ℕ). to_ascii_uppercase b ∷ t) s.1 in
-          inl (q.0, rw (not_false (is_small b) q.1) w)
+          inl (q.0, rw (not_false (is_ascii_lowercase b) q.1) w)
       | inr l ↦ inr (ap (λ (y : ℕ). y ∷ word) e ∙ ap (λ (t : List ℕ). to_ascii_uppercase b ∷ t) l)
     ]
 
@@ -47,8 +47,8 @@ form_rest : (word form : List ℕ) (capitals : Bool) → IsRest word form capita
 form_rest [] [] capitals h = refl
 form_rest [] (b ∷ form) capitals h =
     elim h [
-      | inl s ↦ elim (cases_Bool (is_small b)) [
-        | inl t ↦ and_both capitals (is_small b) s.0 t
+      | inl s ↦ elim (cases_Bool (is_ascii_lowercase b)) [
+        | inl t ↦ and_both capitals (is_ascii_lowercase b) s.0 t
         | inr f ↦ absurd (no_byte _ _ (rw f at s.1))
       ]
       | inr l ↦ absurd (no_byte _ _ l)
@@ -56,18 +56,18 @@ form_rest [] (b ∷ form) capitals h =
 form_rest (x ∷ word) [] capitals h = elim h [ inl s ↦ absurd (no_byte x word (sym s.1)) | inr l ↦ absurd (no_byte x word (sym l)) ]
 form_rest (x ∷ word) (b ∷ form) capitals h =
     elim h [
-      | inl s ↦ elim (cases_Bool (is_small b)) [
+      | inl s ↦ elim (cases_Bool (is_ascii_lowercase b)) [
         | inl t ↦ absurd (no_byte x word (sym (rw t at s.1)))
         | inr f ↦
             let p = heads x (to_ascii_uppercase b) word (short_of form) (rw f at s.1) in
-            let n : not (is_small b) ≡ true = rw f refl in
-            and_both (x == to_ascii_uppercase b) (is_form_from word form (capitals && not (is_small b))) (eq-eqb x (to_ascii_uppercase b) p.0)
-            (form_rest word form (capitals && not (is_small b)) (inl (and_both capitals (not (is_small b)) s.0 n, p.1)))
+            let n : not (is_ascii_lowercase b) ≡ true = rw f refl in
+            and_both (x == to_ascii_uppercase b) (is_form_from word form (capitals && not (is_ascii_lowercase b))) (eq-eqb x (to_ascii_uppercase b) p.0)
+            (form_rest word form (capitals && not (is_ascii_lowercase b)) (inl (and_both capitals (not (is_ascii_lowercase b)) s.0 n, p.1)))
       ]
       | inr l ↦
           let p = heads x (to_ascii_uppercase b) word (long_of form) l in
-          and_both (x == to_ascii_uppercase b) (is_form_from word form (capitals && not (is_small b))) (eq-eqb x (to_ascii_uppercase b) p.0)
-          (form_rest word form (capitals && not (is_small b)) (inr p.1))
+          and_both (x == to_ascii_uppercase b) (is_form_from word form (capitals && not (is_ascii_lowercase b))) (eq-eqb x (to_ascii_uppercase b) p.0)
+          (form_rest word form (capitals && not (is_ascii_lowercase b)) (inr p.1))
     ]
 
 pub is_form_yes : (word form : List ℕ) → is_form_from word form true ≡ true → IsForm form word

@@ -1,8 +1,7 @@
 -- How the rows of the code are read as entries of the table.
 use Rattle.std.specs.Prelude.{◌≡◌, ℕ, Bool, true, false, not, ◌==◌, ◌&&◌, List, [], ◌∷◌, ◌++◌, codes, Option, Some}
 use Rattle.std.specs.Prelude.{None, ◌⊎◌}
-use Rattle.std.specs.Char.{to_ascii_uppercase}
-use Rattle.sw_lex.specs.Words.{is_small}
+use Rattle.std.specs.Char.{is_ascii_lowercase, to_ascii_uppercase}
 use Rattle.sw_lex.specs.declared.table.Key.{Key}
 use Rattle.sw_lex.specs.declared.table.Word.{Word}
 use Rattle.sw_lex.specs.declared.table.Word.TheVariants as words
@@ -72,10 +71,10 @@ written words.Fetch = codes "FETCh"
 -- The word is the rest of the mnemonic's long form; or of its short form, where only capitals have been passed.
 abbrev pub is_form_from : List ℕ → List ℕ → Bool → Bool
 is_form_from [] [] capitals = true
-is_form_from [] (b ∷ form) capitals = capitals && is_small b
+is_form_from [] (b ∷ form) capitals = capitals && is_ascii_lowercase b
 is_form_from (x ∷ word) [] capitals = false
 is_form_from (x ∷ word) (b ∷ form) capitals =
-    x == to_ascii_uppercase b && is_form_from word form (capitals && not (is_small b))
+    x == to_ascii_uppercase b && is_form_from word form (capitals && not (is_ascii_lowercase b))
 
 -- the nodes of these steps, up to their end
 abbrev pub nodes_at : List Step → List Node
@@ -100,7 +99,8 @@ entry_at nodes query None = []
 entry_at nodes query (Some key) = record { nodes = nodes; query = query; key = key } ∷ []
 
 abbrev pub row_entries : Row → List Entry
-row_entries row = entry_at (nodes_at (steps_of row)) false row.command ++ entry_at (nodes_at (steps_of row)) true row.query
+row_entries row = entry_at (nodes_at (steps_of row)) false row.command
+    ++ entry_at (nodes_at (steps_of row)) true row.query
 
 unfoldable pub entries_of : List Row → List Entry
 entries_of [] = []

@@ -16,6 +16,10 @@ use Rattle.sw_lex.specs.declared.unit.Header.{Header}
 use Rattle.sw_lex.specs.declared.unit.Header.TheVariants as headers
 use Rattle.sw_lex.specs.declared.unit.RawUnit.{RawUnit}
 
+-- data elements of a unit: own
+abbrev pub most_elements : ℕ
+most_elements = 16
+
 -- ---- a unit as plain data
 
 -- a header as written: `*` and letters; or mnemonics joined by colons, after a leading colon or none
@@ -208,7 +212,7 @@ pub record IsTail (tail : List ℕ) (ds : List Datum) (rest : List ℕ) : Type 0
   pub before : Spans is_blank tail gap more
   pub follows : ((ds ≡ []) × Ends more rest) ⊎ ((0 < length gap) × HasNoEnd more × IsData more ds rest)
 
--- a unit at the front of a text, after white space and empty units, and what follows it; it has at most 16 elements
+-- a unit at the front of a text, after white space and empty units, and what follows it
 pub record IsUnit (text : List ℕ) (unit : UnitView) (rest : List ℕ) : Type 0 where
   pub before : List ℕ
   pub start : List ℕ
@@ -218,7 +222,7 @@ pub record IsUnit (text : List ℕ) (unit : UnitView) (rest : List ℕ) : Type 0
   pub header : Heads start unit.header after
   pub asks : Asks after unit.query tail
   pub follows : IsTail tail unit.elements rest
-  pub few : length unit.elements ≤ 16
+  pub few : length unit.elements ≤ most_elements
 
 -- ---- a unit as it is written
 
@@ -266,7 +270,7 @@ BeginsNone text e = (kind_at text ≡ None) × (e ≡ fault_at SyntaxError text)
 
 -- an element begins here, as the seventeenth
 abbrev pub IsSeventeenth : ℕ → List ℕ → ScpiError → Type 0
-IsSeventeenth n text e = (n ≡ 16) × (kind : Kind) × (kind_at text ≡ Some kind) × (e ≡ ParameterNotAllowed)
+IsSeventeenth n text e = (n ≡ most_elements) × (kind : Kind) × (kind_at text ≡ Some kind) × (e ≡ ParameterNotAllowed)
 
 -- a string that has no end
 pub record IsOpenString (text : List ℕ) (e : ScpiError) : Type 0 where
@@ -318,14 +322,15 @@ pub record IsUnseparated (text : List ℕ) (e : ScpiError) : Type 0 where
 
 -- the refusal at a place where an element should stand, with n before it
 abbrev pub IsStuck : ℕ → List ℕ → ScpiError → Type 0
-IsStuck n here e = BeginsNone here e ⊎ (IsSeventeenth n here e ⊎ ((n < 16) × (BreaksIn here e ⊎ IsUnseparated here e)))
+IsStuck n here e = BeginsNone here e
+    ⊎ (IsSeventeenth n here e ⊎ ((n < most_elements) × (BreaksIn here e ⊎ IsUnseparated here e)))
 
 -- the refusal of the data at the front of a text
 pub record IsDataRefused (text : List ℕ) (e : ScpiError) : Type 0 where
   pub front : List Datum
   pub here : List ℕ
   pub reached : Reaches text front here
-  pub few : length front ≤ 16
+  pub few : length front ≤ most_elements
   pub why : IsStuck (length front) here e
 
 -- the refusal of what follows a header

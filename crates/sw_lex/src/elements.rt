@@ -5,11 +5,12 @@ ghost use Rattle.std.specs.Prelude.{IfNone, length};
 ghost use Rattle.sw_base.specs.Text.{is_digit, AllPass, StartsOff};
 ghost use Rattle.sw_base.specs.Number.{value_of};
 ghost use Rattle.sw_lex.specs.Elements.{kind_of_byte, doubled, IsBlock, IsExpression, IsElement};
-ghost use Rattle.sw_lex.specs.Unit.{datum_of, datum_with, Leads, IsUnclosed, IsBadBlock, IsBroken, IsStuck};
+ghost use Rattle.sw_lex.specs.Unit.{most_elements, datum_of, datum_with, Leads, IsUnclosed, IsBadBlock, IsBroken};
+ghost use Rattle.sw_lex.specs.Unit.{IsStuck};
 
 use crate::numerals::numeral_end;
 use crate::runs::{fault_at, inners};
-use crate::unit::Element;
+use crate::unit::{ELEMENTS, Element};
 use sw_base::{ScpiError, cut, digits, eat, is_digit, is_letter, words};
 
 /// The kinds of data elements.
@@ -203,15 +204,15 @@ fn read_from<'a>(
     n: usize,
 ) -> Result<(Element<'a>, &'a [u8]), ScpiError>
     requires whole { text.now ≡ first ∷ more.now }
-    requires few { n ≤ 16 }
+    requires few { n ≤ most_elements }
     ensures ok { IfOk result (λ x. Leads text.now (datum_of x.0) x.1.now) }
-    ensures room { IfOk result (λ _. n < 16) }
+    ensures room { IfOk result (λ _. n < most_elements) }
     ensures err { IfErr result (λ e. IsStuck n text.now e) }
 {
     match kind_of_byte(first) {
         None => Err(fault_at(ScpiError::SyntaxError, text)),
         Some(kind) => {
-            if n == 16 {
+            if n == ELEMENTS {
                 return Err(ScpiError::ParameterNotAllowed);
             }
             let rest = element_end(text, first, more, kind)?;
@@ -222,9 +223,9 @@ fn read_from<'a>(
 
 /// The element at the front with n before it, and what follows it.
 pub fn read_element(text: &[u8], n: usize) -> Result<(Element<'_>, &[u8]), ScpiError>
-    requires { n ≤ 16 }
+    requires { n ≤ most_elements }
     ensures ok { IfOk result (λ x. Leads text.now (datum_of x.0) x.1.now) }
-    ensures room { IfOk result (λ _. n < 16) }
+    ensures room { IfOk result (λ _. n < most_elements) }
     ensures err { IfErr result (λ e. IsStuck n text.now e) }
 {
     match text {

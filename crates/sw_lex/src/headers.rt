@@ -2,7 +2,6 @@
 
 ghost use Rattle.std.specs.Prelude.{◌≡◌, ℕ, Bool, List, [], ◌∷◌, ◌++◌, map, IfSome, IfNone, IsTrue, ◌↔◌};
 ghost use Rattle.std.specs.Char.{to_ascii_uppercase};
-ghost use Rattle.sw_lex.specs.Words.{is_small};
 ghost use Rattle.sw_lex.specs.Found.{IsFound, IsForm, IsNumbered, Fits};
 ghost use Rattle.sw_lex.specs.Table.{entries};
 ghost use Rattle.sw_lex.specs.Rows.{nodes_at, Matches, is_form_from};
@@ -10,13 +9,6 @@ ghost use Rattle.sw_lex.specs.declared.table.Key.{Key};
 
 use crate::rows::rows;
 use crate::table::{Key, Row, Step, Word, key_at, steps_of, written};
-
-/// Whether a letter is a small one.
-fn is_small(b: u8) -> bool
-    ensures { result ≡ is_small b }
-{
-    b'a' <= b && b <= b'z'
-}
 
 /// Whether the rest of a word is the rest of the long form of a mnemonic, or of the short form, where only capitals of
 /// the mnemonic have been passed.
@@ -26,13 +18,13 @@ fn is_rest(word: &[u8], form: &[u8], capitals: bool) -> bool
     match word {
         [] => match form {
             [] => true,
-            [next, ..] => capitals && is_small(*next),
+            [next, ..] => capitals && next.is_ascii_lowercase(),
         },
         [byte, word @ ..] => match form {
             [] => false,
             [next, form @ ..] => {
                 if byte.to_ascii_uppercase() == next.to_ascii_uppercase() {
-                    is_rest(word, form, capitals && !is_small(*next))
+                    is_rest(word, form, capitals && !next.is_ascii_lowercase())
                 } else {
                     false
                 }

@@ -2,8 +2,8 @@
 //!
 //! `next_unit` cuts the next unit off a message by the grammar of `specs/Unit.antt`, or refuses it at the first byte
 //! that fits no form. `resolve` looks the unit's header up in the table of headers (`specs/Table.antt`), below the path
-//! that the units before it left, and gives the command with its data by `specs/Meaning.antt`, or the first refusal. The
-//! laws: no text has two readings (`one_reading`), no header is two commands (`one_command`), no unit two meanings
+//! that the units before it left, and gives the command with its data by `specs/Meaning.antt`, or the first refusal.
+//! The laws: no text has two readings (`one_reading`), no header is two commands (`one_command`), no unit two meanings
 //! (`one_meaning`), and each spelling of a header is its command (`every_spelling`).
 //!
 //! Whether a command can be carried out is no question here, nor whether a channel exists.
@@ -30,4 +30,4 @@ pub use meaning::{Resolved, every_spelling, one_meaning, resolve};
 pub use paths::Path;
 pub use runs::gaps;
 pub use table::Key;
-pub use unit::{Element, Header, RawUnit, next_unit, one_reading};
+pub use unit::{ELEMENTS, Element, Header, RawUnit, next_unit, one_reading};

@@ -5,7 +5,8 @@ ghost use Rattle.std.specs.Prelude.{IfNone, length};
 ghost use Rattle.sw_base.specs.Text.{is_blank, is_letter, is_word, AllPass, StartsOff};
 ghost use Rattle.sw_base.specs.declared.error.ScpiError.{ScpiError as Error};
 ghost use Rattle.sw_base.specs.declared.error.ScpiError.TheVariants.{SyntaxError};
-ghost use Rattle.sw_lex.specs.Unit.{UnitView, unit_of, heading_of, data_of, is_gap, fault_at, IsPath, BreaksOff, Heads};
+ghost use Rattle.sw_lex.specs.Unit.{most_elements, UnitView, unit_of, heading_of, data_of, is_gap, fault_at, IsPath};
+ghost use Rattle.sw_lex.specs.Unit.{BreaksOff, Heads};
 ghost use Rattle.sw_lex.specs.Unit.{HasNoHeading, Asks, IsData, IsDataRefused, IsTail, IsTailRefused, IsUnit};
 ghost use Rattle.sw_lex.specs.Unit.{IsRefused, IsBlank, IsJoined, IsLeft, IsWritten, Closes, written_of};
 
@@ -13,6 +14,9 @@ use crate::elements::{before, read_element};
 use crate::runs::{end, fault_at, gaps, mnemonic, name};
 use arrayvec::ArrayVec;
 use sw_base::{ScpiError, blanks, eat};
+
+/// The most data elements of a unit.
+pub const ELEMENTS: usize = 16;
 
 /// One data element, as it is written.
 #[derive(Clone, Copy, Debug, PartialEq, Eq)]
@@ -54,7 +58,7 @@ pub struct RawUnit<'a> {
     /// Whether a question mark follows the header.
     pub query: bool,
     /// The data elements.
-    pub elements: ArrayVec<Element<'a>, 16>,
+    pub elements: ArrayVec<Element<'a>, ELEMENTS>,
     /// The unit as it is written.
     text: &'a [u8],
 }
@@ -143,11 +147,11 @@ fn query_mark(text: &[u8]) -> (bool, &[u8])
 }
 
 /// The elements up to the unit's end, what follows the last of them, and what follows the end.
-fn read_data(text: &[u8]) -> Result<(ArrayVec<Element<'_>, 16>, &[u8], &[u8]), ScpiError>
+fn read_data(text: &[u8]) -> Result<(ArrayVec<Element<'_>, ELEMENTS>, &[u8], &[u8]), ScpiError>
     ensures ok { IfOk result (λ x. IsData text.now (data_of x.0.items) x.2.now) }
     ensures joined { IfOk result (λ x. IsJoined text.now (data_of x.0.items) x.1.now) }
     ensures closes { IfOk result (λ x. Closes x.1.now x.2.now) }
-    ensures few { IfOk result (λ x. length (data_of x.0.items) ≤ 16) }
+    ensures few { IfOk result (λ x. length (data_of x.0.items) ≤ most_elements) }
     ensures err { IfErr result (λ e. IsDataRefused text.now e) }
 {
     let mut found = ArrayVec::new();
@@ -173,11 +177,11 @@ fn read_data(text: &[u8]) -> Result<(ArrayVec<Element<'_>, 16>, &[u8], &[u8]), S
 }
 
 /// What follows a header: its data, what follows the unit's last part, and what follows the unit.
-fn read_tail(text: &[u8]) -> Result<(ArrayVec<Element<'_>, 16>, &[u8], &[u8]), ScpiError>
+fn read_tail(text: &[u8]) -> Result<(ArrayVec<Element<'_>, ELEMENTS>, &[u8], &[u8]), ScpiError>
     ensures ok { IfOk result (λ x. IsTail text.now (data_of x.0.items) x.2.now) }
     ensures left { IfOk result (λ x. IsLeft text.now (data_of x.0.items) x.1.now) }
     ensures closes { IfOk result (λ x. Closes x.1.now x.2.now) }
-    ensures few { IfOk result (λ x. length (data_of x.0.items) ≤ 16) }
+    ensures few { IfOk result (λ x. length (data_of x.0.items) ≤ most_elements) }
     ensures err { IfErr result (λ e. IsTailRefused text.now e) }
 {
     let (gap, more) = blanks(text);

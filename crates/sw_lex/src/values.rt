@@ -62,10 +62,8 @@ fn natural(n: &Nrf<'_>, low: u32, high: u32) -> Result<u32, ScpiError>
     ensures value { result ≡ natural_in low high (rounded n.now 0) }
     ensures range { IfOk result (λ m. m ≤ high) }
 {
-    match n.whole(i64::from(low), i64::from(high)) {
-        Err(e) => Err(e),
-        Ok(value) => Ok(value.unsigned_abs() as u32),
-    }
+    let value = n.whole(i64::from(low), i64::from(high))?;
+    Ok(value.unsigned_abs() as u32)
 }
 
 /// The command with this number, which takes no suffix.
@@ -73,10 +71,7 @@ pub fn whole_of(ask: Whole, number: u8, n: &Nrf<'_>, suffix: &[u8]) -> Result<Co
     ensures { result ≡ whole_of ask number n.now suffix.now }
 {
     match suffix {
-        [] => match natural(n, least(ask), greatest(ask)) {
-            Err(e) => Err(e),
-            Ok(m) => Ok(of_whole(ask, number, m)),
-        },
+        [] => Ok(of_whole(ask, number, natural(n, least(ask), greatest(ask))?)),
         _ => Err(ScpiError::SuffixNotAllowed),
     }
 }
@@ -99,10 +94,7 @@ pub fn macros_of(n: &Nrf<'_>, suffix: &[u8]) -> Result<Command, ScpiError>
     ensures { result ≡ macros_of n.now suffix.now }
 {
     match suffix {
-        [] => match n.whole(-32_767, 32_767) {
-            Err(e) => Err(e),
-            Ok(value) => Ok(Command::EnableMacros(value.unsigned_abs() > 0)),
-        },
+        [] => Ok(Command::EnableMacros(n.whole(-32_767, 32_767)?.unsigned_abs() > 0)),
         _ => Err(ScpiError::SuffixNotAllowed),
     }
 }
