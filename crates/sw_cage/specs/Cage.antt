@@ -1,5 +1,6 @@
 -- The cage as plain data.
 use Rattle.std.specs.Prelude.{ℕ, List, [], ◌∷◌, Option, None, Some, replicate}
+use Rattle.sw_base.specs.Limits.{most_slots}
 use Rattle.sw_base.specs.Layout.{Bay, meter, Layout}
 use Rattle.sw_base.specs.declared.reading.Reading.{Reading}
 use Rattle.sw_trigger.specs.Settings.{Setup}
@@ -23,7 +24,13 @@ pub record CageSeen : Type 0 where
 
 -- no card, nothing out, no scan begun
 abbrev pub empty_cage : CageSeen
-empty_cage = record { rack = replicate 8 None; out = replicate 8 None; number = 0; scan = None; readings = [] }
+empty_cage = record {
+  rack = replicate most_slots None;
+  out = replicate most_slots None;
+  number = 0;
+  scan = None;
+  readings = [];
+}
 
 abbrev pub with_rack : CageSeen → Rack → CageSeen
 with_rack p rack = record p { rack = rack }

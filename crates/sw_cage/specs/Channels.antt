@@ -1,6 +1,7 @@
 -- All channels that there can be, in order.
 use Rattle.std.specs.Prelude.{ℕ, zero, suc, List, [], ◌∷◌, ◌++◌}
 use Rattle.std.specs.List.{filter}
+use Rattle.sw_base.specs.Limits.{most_slots, most_channels}
 use Rattle.sw_base.specs.Layout.{Channel}
 use Rattle.sw_cage.specs.Rack.{Rack, is_closed}
 
@@ -9,11 +10,11 @@ unfoldable pub row : ℕ → ℕ → List Channel
 row slot zero = []
 row slot (suc ch) = row slot ch ++ (slot, suc ch) ∷ []
 
--- the 99 channels of each slot up to this one
+-- the channels of each slot up to this one
 unfoldable pub rows : ℕ → List Channel
 rows zero = []
-rows (suc slot) = rows slot ++ row (suc slot) 99
+rows (suc slot) = rows slot ++ row (suc slot) most_channels
 
 -- the closed channels by slot and channel
 abbrev pub closed_list : Rack → List Channel
-closed_list rack = filter (is_closed rack) (rows 8)
+closed_list rack = filter (is_closed rack) (rows most_slots)

@@ -1,5 +1,6 @@
 -- What is so of every cage.
 use Rattle.std.specs.Prelude.{◌≡◌, ℕ, ◌<◌, ◌≤◌, true, length, take, Option, Some, None, is_some}
+use Rattle.sw_base.specs.Limits.{most_slots}
 use Rattle.sw_base.specs.Layout.{Layout, slot_at, has_meter}
 use Rattle.sw_trigger.specs.declared.layer.Awaited.{Awaited}
 use Rattle.sw_trigger.specs.declared.layer.Awaited.TheVariants.{Wait, Pause, Read}
@@ -39,10 +40,10 @@ abbrev pub IsRunning : CageSeen → Option Scanning → Type 0
 IsRunning p None = Unit {0}
 IsRunning p (Some at) = IsUnderway p at
 
--- Eight slots; a slot whose meter is out is empty; and no ticket is of a scan to come.
+-- All slots; a slot whose meter is out is empty; and no ticket is of a scan to come.
 pub record IsHeld (p : CageSeen) : Type 0 where
-  pub slots : length p.rack ≡ 8
-  pub outs : length p.out ≡ 8
+  pub slots : length p.rack ≡ most_slots
+  pub outs : length p.out ≡ most_slots
   pub empty : (slot : ℕ) → is_some (slot_at p.out slot) ≡ true → slot_at p.rack slot ≡ None
   pub past : (slot : ℕ) (ticket : Ticket) → slot_at p.out slot ≡ Some ticket → ticket.scan ≤ p.number
 

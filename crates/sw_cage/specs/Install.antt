@@ -1,5 +1,6 @@
 -- Which cards go into which slots, and which slots give a card.
 use Rattle.std.specs.Prelude.{◌≡◌, ℕ, ◌-◌, ◌<◌, ◌≤◌, true, false, length, is_some, None, ◌⊎◌, slice_set, if◌then◌else◌}
+use Rattle.sw_base.specs.Limits.{most_slots, most_channels}
 use Rattle.sw_base.specs.Layout.{slot_at}
 use Rattle.sw_card.specs.Account.{Account, is_meter, closed_at}
 use Rattle.sw_cage.specs.Rack.{Rack}
@@ -9,25 +10,26 @@ use Rattle.sw_cage.specs.declared.refusal.InstallRefusal.TheVariants.{Busy, Occu
 use Rattle.sw_cage.specs.declared.refusal.EjectRefusal.{EjectRefusal}
 use Rattle.sw_cage.specs.declared.refusal.EjectRefusal.TheVariants.{Vacant, Out}
 
--- 1 to 99 channels
+-- one channel at least, and no more than a card may have
 pub record IsFit (card : Account) : Type 0 where
   pub some_channel : 1 ≤ length card.groups
-  pub few_channels : length card.groups ≤ 99
+  pub few_channels : length card.groups ≤ most_channels
 
--- the slot is one of the eight and empty; the card has nothing closed and, if it is no meter, 1 to 99 channels
+-- the slot is one of the cage's and empty; the card has nothing closed and is fit, if it is no meter
 pub record CanInstall (rack : Rack) (slot : ℕ) (card : Account) : Type 0 where
   pub empty : slot_at rack slot ≡ None
   pub first : 1 ≤ slot
-  pub last : slot ≤ 8
+  pub last : slot ≤ most_slots
   pub fit : is_meter card ≡ false → IsFit card
   pub «open» : (ch : ℕ) → closed_at card.closed ch ≡ false
 
--- no channel, more than 99, or one closed
+-- no channel, too many, or one closed
 abbrev pub IsUnfit : Account → Type 0
-IsUnfit card = (length card.groups ≡ 0) ⊎ ((99 < length card.groups) ⊎ ((ch : ℕ) × (closed_at card.closed ch ≡ true)))
+IsUnfit card = (length card.groups ≡ 0)
+    ⊎ ((most_channels < length card.groups) ⊎ ((ch : ℕ) × (closed_at card.closed ch ≡ true)))
 
 abbrev pub IsBadLayout : ℕ → Account → Type 0
-IsBadLayout slot card = (slot < 1) ⊎ ((8 < slot) ⊎ ((is_meter card ≡ false) × IsUnfit card))
+IsBadLayout slot card = (slot < 1) ⊎ ((most_slots < slot) ⊎ ((is_meter card ≡ false) × IsUnfit card))
 
 -- Which refusal comes when; an occupied slot goes first.
 abbrev pub SlotsRefuseInstall : Rack → ℕ → Account → InstallRefusal → Type 0

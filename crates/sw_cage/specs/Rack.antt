@@ -1,6 +1,7 @@
 -- What the slots of the cage hold, by the cards' own accounts.
 use Rattle.std.specs.Prelude.{◌≡◌, ℕ, ◌-◌, ◌≤◌, Bool, false, List, length, map, Option, None, Some, slice_set}
 use Rattle.std.specs.Prelude.{if◌then◌else◌}
+use Rattle.sw_base.specs.Limits.{most_slots, most_channels}
 use Rattle.sw_base.specs.Layout.{Channel, Bay, relays, meter, Layout, slot_at, IsExclusive}
 use Rattle.sw_card.specs.Account.{Account, is_meter, closed_at, with_set, at_rest, IsFault}
 
@@ -35,18 +36,18 @@ option_closed (Some a) ch = closed_at a.closed ch
 abbrev pub is_closed : Rack → Channel → Bool
 is_closed rack c = option_closed (slot_at rack c.0) c.1
 
--- a card has a state for each of its channels; a relay card has at most 99
+-- a card has a state for each of its channels; and a relay card no more than a card may have
 pub record IsRow (a : Account) : Type 0 where
   pub states : length a.closed ≡ length a.groups
-  pub few : is_meter a ≡ false → length a.groups ≤ 99
+  pub few : is_meter a ≡ false → length a.groups ≤ most_channels
 
 abbrev pub OptionRow : Option Account → Type 0
 OptionRow None = Unit {0}
 OptionRow (Some a) = IsRow a
 
--- of the eight slots only present channels are closed, and no two of them clash
+-- of the slots only present channels are closed, and no two of them clash
 pub record IsSafe (rack : Rack) : Type 0 where
-  pub size : length rack ≡ 8
+  pub size : length rack ≡ most_slots
   pub rows : (slot : ℕ) → OptionRow (slot_at rack slot)
   pub exclusive : IsExclusive (layout_of rack) (is_closed rack)
 

@@ -2,6 +2,7 @@
 
 ghost use Rattle.std.specs.Prelude.{◌≡◌, ℕ, ◌-◌, ◌≤◌, List, [], ◌∷◌, Bool, true, false, None, Some, IsOk, OnOk, OnErr};
 ghost use Rattle.std.specs.Prelude.{IfOk, IfErr, slice_set, is_some, ◌↔◌, IsTrue, ◌+◌, ◌<◌, ◌^◌, ◌||◌, is_err};
+ghost use Rattle.sw_base.specs.Limits.{most_slots};
 ghost use Rattle.sw_base.specs.Layout.{Channel, slot_at, is_present, IsClash, IsExclusive};
 ghost use Rattle.sw_card.specs.Account.{closed_at};
 ghost use Rattle.sw_cage.specs.Rack.{layout_of, is_closed, with_chan, option_rest, all_open, IsRackFault};
@@ -22,16 +23,16 @@ use crate::refusal::{CloseRefusal, EjectRefusal, InstallRefusal};
 use crate::scan::Scan;
 use crate::scan::machine::{go_on, take_in};
 use crate::scan::tickets::Tickets;
-use crate::slots::Slots;
+use crate::slots::{PLACES, Slots};
 use crate::taken::{Happening, Taken};
 use std::alloc::{AllocError, Global};
 use std::marker::Model;
-use sw_base::{Chan, Reading};
+use sw_base::{Chan, Reading, SLOTS};
 use sw_card::{Card, CardFault, Meter, Relay};
 use sw_trigger::{Awaited, Settings};
 use sw_verify::{Layout, Plan, Slot};
 
-/// Eight slots, numbered from 1, that hold relay and meter cards.
+/// Slots, numbered from 1, that hold relay and meter cards.
 ///
 /// Contracts see the cards in the slots by their own accounts.
 #[derive(Drop)]
@@ -252,8 +253,8 @@ impl<R: Relay, M: Meter> Cage<R, M> {
     {
         // Reading a field tells the proof what holds of every `Cage`.
         let _ = &self.slots;
-        let mut bays = Vec::with_capacity(alloc, 8)?;
-        for before in 0..8u8 {
+        let mut bays = Vec::with_capacity(alloc, PLACES)?;
+        for before in 0..SLOTS {
             bays.push(self.bay(alloc, before + 1)?)?;
         }
         Ok(Layout::new(bays))
@@ -261,7 +262,7 @@ impl<R: Relay, M: Meter> Cage<R, M> {
 
     /// What the slot holds, where a meter that is out counts as the slot's.
     fn bay(&self, alloc: Global, slot: u8) -> Result<Slot, AllocError>
-        requires { (1 ≤ slot) × (slot ≤ 8) }
+        requires { (1 ≤ slot) × (slot ≤ most_slots) }
         ensures { IfOk result (λ bay. bay ≡ slot_at (cage_layout self.now) slot) }
     {
         if self.out.at(slot).is_some() {
@@ -272,7 +273,7 @@ impl<R: Relay, M: Meter> Cage<R, M> {
 
     /// Whether the slot holds what the layout's slot tells, where a meter that is out counts as the slot's.
     fn has_bay(&self, slot: u8, bay: &Slot) -> bool
-        requires { (1 ≤ slot) × (slot ≤ 8) }
+        requires { (1 ≤ slot) × (slot ≤ most_slots) }
         ensures { IsTrue result ↔ (bay.now ≡ slot_at (cage_layout self.now) slot) }
     {
         if self.out.at(slot).is_some() {
@@ -288,10 +289,10 @@ impl<R: Relay, M: Meter> Cage<R, M> {
         // Reading a field tells the proof what holds of every `Cage`.
         let _ = &self.slots;
         let bays = layout.slots();
-        if bays.len() != 8 {
+        if bays.len() != PLACES {
             return false;
         }
-        for before in 0..8u8 {
+        for before in 0..SLOTS {
             if !self.has_bay(before + 1, &bays[before as usize]) {
                 return false;
             }

@@ -1,4 +1,4 @@
-//! The cage: eight slots of relay and meter cards, over all of which no two closed channels may clash, and the machine
+//! The cage: slots of relay and meter cards, over all of which no two closed channels may clash, and the machine
 //! that runs a scan over them.
 //!
 //! The crate's contract to the layers above: at the end of each call only present channels are closed, and no two

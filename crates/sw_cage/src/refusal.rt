@@ -7,7 +7,7 @@ pub enum InstallRefusal {
     Busy,
     /// The slot has a card, in it or out.
     Occupied,
-    /// The cage has no such slot, or the relay card has no channel, more than 99, or a closed one.
+    /// The cage has no such slot, or the relay card has no channel, too many, or a closed one.
     BadLayout,
 }
 

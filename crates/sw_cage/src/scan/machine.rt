@@ -1,6 +1,7 @@
 //! What a running scan does between two things that it awaits.
 
 ghost use Rattle.std.specs.Prelude.{◌≡◌, ◌-◌, ◌≤◌, true, OnOk, OnErr, Some, None, slice_set};
+ghost use Rattle.sw_base.specs.Limits.{most_slots};
 ghost use Rattle.sw_base.specs.Layout.{has_meter};
 ghost use Rattle.sw_card.specs.Account.{of_meter};
 ghost use Rattle.sw_cage.specs.Rack.{layout_of, is_closed};
@@ -28,7 +29,7 @@ pub(crate) fn go_on<R: Relay, M: Meter>(
     number: u64,
     moves: Moves,
 ) -> (Option<Scan>, Taken<M>)
-    requires slot_in { (1 ≤ scan.setup.meter) × (scan.setup.meter ≤ 8) }
+    requires slot_in { (1 ≤ scan.setup.meter) × (scan.setup.meter ≤ most_slots) }
     requires meter { has_meter (layout_of slots.old) scan.setup.meter ≡ true }
     requires may { MayMove (layout_of slots.old) (is_closed slots.old) moves.to_open moves.to_close }
     ensures { Runs (record { rack = slots.old; out = out.old }) number (moves_of moves) scan (taken_seen result.1)
@@ -89,7 +90,7 @@ fn arrive<R: Relay, M: Meter>(
     scan: Scan,
     number: u64,
 ) -> (Option<Scan>, Taken<M>)
-    requires slot_in { (1 ≤ scan.setup.meter) × (scan.setup.meter ≤ 8) }
+    requires slot_in { (1 ≤ scan.setup.meter) × (scan.setup.meter ≤ most_slots) }
     requires meter { has_meter (layout_of slots.old) scan.setup.meter ≡ true }
     ensures { Arrives (record { rack = slots.old; out = out.old }) number scan (taken_seen result.1)
         (record { rack = slots.new; out = out.new }) result.0 }
@@ -116,7 +117,7 @@ fn send_out<R: Relay, M: Meter>(
     slot: u8,
     ticket: Ticket,
 ) -> Job<M>
-    requires slot_in { (1 ≤ slot) × (slot ≤ 8) }
+    requires slot_in { (1 ≤ slot) × (slot ≤ most_slots) }
     requires meter { has_meter (layout_of slots.old) slot ≡ true }
     ensures { IsSent (record { rack = slots.old; out = out.old }) slot ticket result.1
         (record { rack = slots.new; out = out.new }) }
@@ -137,7 +138,7 @@ pub(crate) fn take_in<R: Relay, M: Meter>(
     slot: u8,
     meter: MeterCard<M>,
 )
-    requires { (1 ≤ slot) × (slot ≤ 8) }
+    requires { (1 ≤ slot) × (slot ≤ most_slots) }
     ensures rack { slots.new ≡ slice_set slots.old (slot - 1) (Some (of_meter meter.1)) }
     ensures out { out.new ≡ slice_set out.old (slot - 1) None }
 {

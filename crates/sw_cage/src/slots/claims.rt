@@ -7,10 +7,13 @@ ghost use Rattle.sw_cage.specs.Claims.{Index, claim_at};
 use std::marker::Model;
 use sw_base::Chan;
 
+/// As many as a card can tell apart: a group is one byte.
+const GROUPS: usize = 256;
+
 /// By group the channel that claims it, if any. A channel of no group claims none.
 #[derive(Drop)]
 pub(crate) struct Claims {
-    by_group: [Option<Chan>; 256],
+    by_group: [Option<Chan>; GROUPS],
 }
 
 impl Model for Claims {
@@ -26,7 +29,7 @@ impl Claims {
         ensures { result ≡ replicate 256 None }
     {
         Claims {
-            by_group: [None; 256],
+            by_group: [None; GROUPS],
         }
     }
 

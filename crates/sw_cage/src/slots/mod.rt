@@ -1,9 +1,10 @@
-//! The eight slots and their cards.
+//! The slots and their cards.
 
 ghost use Rattle.std.specs.Prelude.{◌≡◌, ℕ, ◌+◌, ◌-◌, ◌≤◌, ◌<◌, ◌++◌, ◌∷◌, [], length, take, replicate, slice_set};
 ghost use Rattle.std.specs.Prelude.{true, false, None, Some, is_some, OnOk, OnErr, IfOk, IfErr, IfSome, IfNone};
 ghost use Rattle.std.specs.Prelude.{◌↔◌, IsTrue};
 ghost use Rattle.std.specs.List.{filter};
+ghost use Rattle.sw_base.specs.Limits.{most_slots, most_channels};
 ghost use Rattle.sw_base.specs.Layout.{Channel, slot_at, is_present, group_of, IsClash, has_meter};
 ghost use Rattle.sw_card.specs.Account.{closed_at, of_meter};
 ghost use Rattle.sw_cage.specs.Rack.{Rack, rack_of, layout_of, is_closed, IsSafe, with_chan, option_rest};
@@ -21,11 +22,14 @@ use self::claims::Claims;
 use crate::refusal::{CloseRefusal, EjectRefusal, InstallRefusal};
 use std::alloc::{AllocError, Global};
 use std::marker::Model;
-use sw_base::Chan;
+use sw_base::{CHANNELS, Chan, SLOTS};
 use sw_card::{Card, CardFault, Meter, MeterCard, Relay};
 use sw_verify::Slot;
 
-/// Eight slots that hold cards.
+/// How many slots there are.
+pub(crate) const PLACES: usize = SLOTS as usize;
+
+/// All slots, and the cards in them.
 #[derive(Drop)]
 pub(crate) struct Slots<R: Relay, M: Meter> {
     slots: Vec<Option<Card<R, M>>>,
@@ -40,12 +44,12 @@ impl<R: Relay, M: Meter> Model for Slots<R, M> {
 }
 
 impl<R: Relay, M: Meter> Slots<R, M> {
-    /// Eight empty slots.
+    /// Empty slots.
     pub(crate) fn new(alloc: Global) -> Result<Self, AllocError>
-        ensures { IfOk result (λ slots. slots ≡ replicate 8 None) }
+        ensures { IfOk result (λ slots. slots ≡ replicate most_slots None) }
     {
-        let mut slots = Vec::with_capacity(alloc, 8)?;
-        for _ in 0..8usize {
+        let mut slots = Vec::with_capacity(alloc, PLACES)?;
+        for _ in 0..PLACES {
             slots.push(None)?;
         }
         Ok(Slots { slots })
@@ -55,7 +59,7 @@ impl<R: Relay, M: Meter> Slots<R, M> {
     pub(crate) fn has_card(&self, slot: u8) -> bool
         ensures { result ≡ is_some (slot_at self.now slot) }
     {
-        slot >= 1 && slot <= 8 && self.slots[slot as usize - 1].is_some()
+        slot >= 1 && slot <= SLOTS && self.slots[slot as usize - 1].is_some()
     }
 
     /// Puts a card into an empty slot.
@@ -73,7 +77,7 @@ impl<R: Relay, M: Meter> Slots<R, M> {
         if self.has_card(slot) {
             return Err((InstallRefusal::Occupied, card));
         }
-        if slot < 1 || slot > 8 {
+        if slot < 1 || slot > SLOTS {
             return Err((InstallRefusal::BadLayout, card));
         }
         if !slot::is_fit(&card) {
@@ -187,7 +191,7 @@ impl<R: Relay, M: Meter> Slots<R, M> {
 
     /// Lets each closed channel of the slot claim its group, unless two of one group are closed.
     fn claim_slot(&self, slot: u8, claims: &mut Claims) -> bool
-        requires slot_in { (1 ≤ slot) × (slot ≤ 8) }
+        requires slot_in { (1 ≤ slot) × (slot ≤ most_slots) }
         requires held { Holds (layout_of self.now) (ClosedBefore self.now slot 0) claims.old }
         ensures claimed { result ≡ true → Holds (layout_of self.now) (ClosedBefore self.now (slot + 1) 0) claims.new }
         ensures clash { result ≡ false → HasClash (layout_of self.now) (is_closed self.now) }
@@ -214,7 +218,7 @@ impl<R: Relay, M: Meter> Slots<R, M> {
     {
         // Reading a field tells the proof what holds of every `Slots`.
         let _ = &self.slots;
-        for before in 0..8u8 {
+        for before in 0..SLOTS {
             if !self.claim_slot(before + 1, claims) {
                 return false;
             }
@@ -258,8 +262,9 @@ impl<R: Relay, M: Meter> Slots<R, M> {
 
     /// Appends the closed channels of the slot.
     fn push_closed(&self, slot: u8, chans: &mut Vec<Chan>) -> Result<(), AllocError>
-        requires { (1 ≤ slot) × (slot ≤ 8) }
-        ensures { OnOk result (chans.new.items ≡ chans.old.items ++ filter (is_closed self.now) (row slot 99)) }
+        requires { (1 ≤ slot) × (slot ≤ most_slots) }
+        ensures { OnOk result (chans.new.items
+            ≡ chans.old.items ++ filter (is_closed self.now) (row slot most_channels)) }
     {
         let Some(card) = &self.slots[slot as usize - 1] else {
             return Ok(());
@@ -279,7 +284,7 @@ impl<R: Relay, M: Meter> Slots<R, M> {
         ensures { IfOk result (λ chans. chans.items ≡ closed_list self.now) }
     {
         let mut chans = Vec::new(alloc);
-        for before in 0..8u8 {
+        for before in 0..SLOTS {
             self.push_closed(before + 1, &mut chans)?;
         }
         Ok(chans)
@@ -287,7 +292,7 @@ impl<R: Relay, M: Meter> Slots<R, M> {
 
     /// Where the closed channels of one more slot end in the list, unless it is not the list of the closed ones.
     fn past_closed(&self, before: u8, chans: &[Chan], at: usize) -> Option<usize>
-        requires slot_in { before < 8 }
+        requires slot_in { before < most_slots }
         requires within { at ≤ length chans.now }
         requires kept { take at chans.now ≡ filter (is_closed self.now) (rows before) }
         ensures within { IfSome result (λ past. past ≤ length chans.now) }
@@ -295,7 +300,7 @@ impl<R: Relay, M: Meter> Slots<R, M> {
         ensures other { IfNone result (chans.now ≡ closed_list self.now → ⊥) }
     {
         let mut past = at;
-        for below in 0..99u8 {
+        for below in 0..CHANNELS {
             let chan = Chan::new(before + 1, below + 1);
             if self.is_closed(chan) {
                 if past >= chans.len() || chans[past] != chan {
@@ -312,7 +317,7 @@ impl<R: Relay, M: Meter> Slots<R, M> {
         ensures { IsTrue result ↔ (chans.now ≡ closed_list self.now) }
     {
         let mut at = 0;
-        for before in 0..8u8 {
+        for before in 0..SLOTS {
             let Some(past) = self.past_closed(before, chans, at) else {
                 return false;
             };
@@ -323,7 +328,7 @@ impl<R: Relay, M: Meter> Slots<R, M> {
 
     /// Takes the slot's meter out.
     pub(crate) fn take_meter(&mut self, slot: u8) -> MeterCard<M>
-        requires slot_in { (1 ≤ slot) × (slot ≤ 8) }
+        requires slot_in { (1 ≤ slot) × (slot ≤ most_slots) }
         requires meter { has_meter (layout_of self.old) slot ≡ true }
         ensures meter { slot_at self.old slot ≡ Some (of_meter result.1) }
         ensures empty { self.new ≡ slice_set self.old (slot - 1) None }
@@ -333,7 +338,7 @@ impl<R: Relay, M: Meter> Slots<R, M> {
 
     /// Puts a meter into the slot.
     pub(crate) fn put_meter(&mut self, slot: u8, meter: MeterCard<M>)
-        requires { (1 ≤ slot) × (slot ≤ 8) }
+        requires { (1 ≤ slot) × (slot ≤ most_slots) }
         ensures { self.new ≡ slice_set self.old (slot - 1) (Some (of_meter meter.1)) }
     {
         self.slots[slot as usize - 1] = Some(Card::of_meter(meter));
@@ -341,7 +346,7 @@ impl<R: Relay, M: Meter> Slots<R, M> {
 
     /// What the slot holds, as a layout tells it.
     pub(crate) fn bay(&self, alloc: Global, slot: u8) -> Result<Slot, AllocError>
-        requires { (1 ≤ slot) × (slot ≤ 8) }
+        requires { (1 ≤ slot) × (slot ≤ most_slots) }
         ensures { IfOk result (λ bay. bay ≡ slot_at (layout_of self.now) slot) }
     {
         slot::bay_in(alloc, &self.slots[slot as usize - 1])
@@ -349,16 +354,17 @@ impl<R: Relay, M: Meter> Slots<R, M> {
 
     /// Whether the slot holds what the layout's slot tells.
     pub(crate) fn is_as(&self, slot: u8, bay: &Slot) -> bool
-        requires { (1 ≤ slot) × (slot ≤ 8) }
+        requires { (1 ≤ slot) × (slot ≤ most_slots) }
         ensures { IsTrue result ↔ (bay.now ≡ slot_at (layout_of self.now) slot) }
     {
         slot::is_as_in(&self.slots[slot as usize - 1], bay)
     }
 
-    /// A law: of eight slots only present channels are closed, with a number in its range, and no two of them clash.
+    /// A law: of all slots only present channels are closed, with a number in its range, and no two of them clash.
     pub(crate) fn stay_safe(&self)
         ensures safe { IsSafe self.now }
-        ensures range { (c : Channel) → is_closed self.now c ≡ true → (1 ≤ c.0) × (c.0 ≤ 8) × (1 ≤ c.1) × (c.1 ≤ 99) }
+        ensures range { (c : Channel) → is_closed self.now c ≡ true
+            → (1 ≤ c.0) × (c.0 ≤ most_slots) × (1 ≤ c.1) × (c.1 ≤ most_channels) }
     {
         // Reading a field tells the proof what holds of every `Slots`.
         let _ = &self.slots;

@@ -1,6 +1,7 @@
 //! What is done with one slot and its card.
 
 ghost use Rattle.std.specs.Prelude.{◌≡◌, ℕ, ◌≤◌, length, true, false, None, Some, OnOk, OnErr, IfOk, ◌↔◌, IsTrue};
+ghost use Rattle.sw_base.specs.Limits.{most_channels};
 ghost use Rattle.sw_base.specs.Layout.{bay_has, bay_group, bay_is_meter};
 ghost use Rattle.sw_card.specs.Account.{closed_at, is_meter, of_meter};
 ghost use Rattle.sw_cage.specs.Rack.{rack_of, option_account, option_bay, option_closed, option_set, option_rest};
@@ -8,14 +9,15 @@ ghost use Rattle.sw_cage.specs.Rack.{all_open, IsSlotFault};
 ghost use Rattle.sw_cage.specs.Install.{IsUnfit};
 
 use std::alloc::{AllocError, Global};
+use sw_base::CHANNELS;
 use sw_card::{Card, CardFault, Meter, MeterCard, Relay};
 use sw_verify::Slot;
 
-/// Whether the card may be installed: a meter, or 1 to 99 channels, all of them open.
+/// Whether the card may be installed: a meter, or 1 to [`CHANNELS`] channels, all of them open.
 pub(super) fn is_fit<R: Relay, M: Meter>(card: &Card<R, M>) -> bool
     ensures open { result ≡ true → (ch : ℕ) → closed_at card.now.1.closed ch ≡ false }
     ensures few { result ≡ true → is_meter card.now.1 ≡ false
-        → (1 ≤ length card.now.1.groups) × (length card.now.1.groups ≤ 99) }
+        → (1 ≤ length card.now.1.groups) × (length card.now.1.groups ≤ most_channels) }
     ensures unfit { result ≡ false → (is_meter card.now.1 ≡ false) × IsUnfit card.now.1 }
     ensures states { length card.now.1.closed ≡ length card.now.1.groups }
 {
@@ -29,7 +31,7 @@ pub(super) fn is_fit<R: Relay, M: Meter>(card: &Card<R, M>) -> bool
     if channels == 0 {
         return false;
     }
-    channels <= 99
+    channels <= CHANNELS
 }
 
 /// Closes a channel of the card in the slot.
