@@ -1,3 +1,5 @@
 pub mod Unfolding
 pub mod Compiled
 pub mod Fits
+pub mod Listed
+pub mod Reread

@@ -3,3 +3,5 @@ pub mod Seen
 pub mod Code
 pub mod Tree
 pub mod Compiled
+pub mod Listing
+pub mod Reading

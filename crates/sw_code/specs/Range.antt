@@ -1,6 +1,7 @@
 -- Scan code: its steps and their ranges.
 use Rattle.std.specs.Prelude.{ℕ, ◌≤◌, List, length}
 use Rattle.std.specs.List.{AllByRecursion}
+use Rattle.sw_base.specs.Layout.{Channel}
 use Rattle.sw_code.specs.declared.code.Step.{Step}
 use Rattle.sw_code.specs.declared.code.Step.TheVariants as step
 
@@ -19,6 +20,16 @@ IsStep step.Read = Unit {0}
 IsStep (step.Open c) = Unit {0}
 IsStep (step.Loop k to) = (k ≤ 2) × (to ≤ 8191)
 IsStep step.Halt = Unit {0}
+
+-- a channel's slot is 1 to 8, its number 1 to 99
+abbrev pub IsChannel : Channel → Type 0
+IsChannel c = (1 ≤ c.0) × (c.0 ≤ 8) × (1 ≤ c.1) × (c.1 ≤ 99)
+
+-- the step's channel, if it has one, is in range
+abbrev pub HasChannel : Step → Type 0
+HasChannel (step.Close c) = IsChannel c
+HasChannel (step.Open c) = IsChannel c
+HasChannel _ = Unit {0}
 
 pub record IsInRange (p : Program) : Type 0 where
   pub meter : (1 ≤ p.meter) × (p.meter ≤ 8)

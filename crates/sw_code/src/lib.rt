@@ -8,6 +8,13 @@
 
 mod code;
 mod emit;
+mod fault;
+mod parts;
+mod print;
+mod read;
 
 pub use code::{Code, Step, one_unfolding};
 pub use emit::compile;
+pub use fault::{ListError, ListFault};
+pub use print::print_listing;
+pub use read::read_listing;

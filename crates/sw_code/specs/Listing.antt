@@ -1,0 +1,40 @@
+-- The listing of a code, version 1 (own): lines that end with a line feed, each of parts joined by one space.
+use Rattle.std.specs.Prelude.{ℕ, List, [], ◌∷◌, ◌++◌, codes, decimal}
+use Rattle.std.specs.List.{join_with_byte}
+use Rattle.sw_base.specs.Layout.{Channel}
+use Rattle.sw_base.specs.declared.terms.LayerName.{LayerName}
+use Rattle.sw_base.specs.declared.terms.LayerName.TheVariants.{Arm1, Arm2, Trigger}
+use Rattle.sw_code.specs.declared.code.Step.{Step}
+use Rattle.sw_code.specs.declared.code.Step.TheVariants as step
+use Rattle.sw_code.specs.Range.{Program}
+
+abbrev pub layer_word : LayerName → List ℕ
+layer_word Arm1 = codes "arm1"
+layer_word Arm2 = codes "arm2"
+layer_word Trigger = codes "trig"
+
+-- `s!c`
+abbrev pub channel_text : Channel → List ℕ
+channel_text c = decimal c.0 ++ 33 ∷ decimal c.1
+
+-- the parts of a step's line
+abbrev pub parts_of : Step → List (List ℕ)
+parts_of (step.Set k n) = codes "set" ∷ decimal k ∷ decimal n ∷ []
+parts_of (step.Wait name) = codes "wait" ∷ layer_word name ∷ []
+parts_of (step.Pause micros) = codes "pause" ∷ decimal micros ∷ []
+parts_of (step.Close c) = codes "close" ∷ channel_text c ∷ []
+parts_of step.Read = codes "read" ∷ []
+parts_of (step.Open c) = codes "open" ∷ channel_text c ∷ []
+parts_of (step.Loop k to) = codes "loop" ∷ decimal k ∷ decimal to ∷ []
+parts_of step.Halt = codes "halt" ∷ []
+
+abbrev pub line_of : List (List ℕ) → List ℕ
+line_of parts = join_with_byte 32 parts ++ 10 ∷ []
+
+abbrev pub lines_of : List Step → List ℕ
+lines_of [] = []
+lines_of (s ∷ steps) = line_of (parts_of s) ++ lines_of steps
+
+-- the version, the slot of the meter, and the steps
+abbrev pub listing_of : Program → List ℕ
+listing_of p = line_of (codes "scan" ∷ codes "1" ∷ []) ++ (line_of (codes "meter" ∷ decimal p.meter ∷ []) ++ lines_of p.steps)

@@ -1,0 +1,84 @@
+//! Parts of a text, and the numbers and channels among them.
+
+ghost use Rattle.std.specs.Prelude.{◌≡◌, ◌<◌, ◌≤◌, ◌∷◌, [], length, IfSome, IfNone, IfOk};
+ghost use Rattle.std.specs.List.{list_all};
+ghost use Rattle.std.specs.Str.{bytes_eq};
+ghost use Rattle.sw_base.specs.Text.{AllPass, is_digit};
+ghost use Rattle.sw_base.specs.Number.{value_of};
+ghost use Rattle.sw_code.specs.Reading.{parts_at, is_numeral, number_in, channel_in};
+
+use crate::fault::ListFault;
+use sw_base::{Chan, cut, is_digit};
+
+/// What stands before the first mark, and what follows it; none where there is no mark.
+pub fn first_part(bytes: &[u8], mark: u8) -> Option<(&[u8], &[u8])>
+    ensures found { IfSome result (λ x. parts_at mark bytes.now ≡ x.0.now ∷ parts_at mark x.1.now) }
+    ensures shorter { IfSome result (λ x. length x.1.now < length bytes.now) }
+    ensures more { IfSome result (λ x. 0 < length (parts_at mark x.1.now)) }
+    ensures none { IfNone result (parts_at mark bytes.now ≡ bytes.now ∷ []) }
+{
+    cut(bytes, mark)
+}
+
+pub fn is_word(part: &[u8], word: &[u8]) -> bool
+    ensures { result ≡ bytes_eq part.now word.now }
+{
+    part == word
+}
+
+/// The number that the part writes by at most 20 digits, where it is from `low` to `high`.
+#[tactic(auto, using(crate::proofs::Reread::numeral_digits))]
+pub fn number(part: &[u8], low: u64, high: u64) -> Result<u64, ListFault>
+    ensures number { result ≡ number_in low high part.now }
+    ensures range { IfOk result (λ n. (low ≤ n) × (n ≤ high)) }
+{
+    if !is_numeral(part) {
+        return Err(ListFault::BadNumber);
+    }
+    let n = value(part);
+    if n < u128::from(low) || n > u128::from(high) {
+        return Err(ListFault::BadNumber);
+    }
+    Ok(n as u64)
+}
+
+/// Whether the part is 1 to 20 digits.
+fn is_numeral(part: &[u8]) -> bool
+    ensures { result ≡ is_numeral part.now }
+{
+    !part.is_empty() && part.len() <= 20 && are_digits(part)
+}
+
+fn are_digits(part: &[u8]) -> bool
+    ensures { result ≡ list_all is_digit part.now }
+{
+    part.iter().all(|b| is_digit(*b))
+}
+
+/// The channel that the part writes as `slot!channel`.
+#[tactic(auto, using(crate::proofs::Listed::channel_more))]
+pub fn channel(part: &[u8]) -> Result<Chan, ListFault>
+    ensures { result ≡ channel_in (parts_at 33 part.now) }
+{
+    let Some((slot, ch)) = first_part(part, b'!') else {
+        return Err(ListFault::BadNumber);
+    };
+    if first_part(ch, b'!').is_some() {
+        return Err(ListFault::BadNumber);
+    }
+    let slot = number(slot, 1, 8)?;
+    let ch = number(ch, 1, 99)?;
+    Ok(Chan::new(slot as u8, ch as u8))
+}
+
+fn value(digits: &[u8]) -> u128
+    requires digits { AllPass is_digit digits.now }
+    requires short { length digits.now ≤ 20 }
+    ensures { result ≡ value_of digits.now }
+{
+    let mut n = 0;
+    for d in digits {
+        n = 10 * n + u128::from(*d - 48);
+    }
+    n
+}

@@ -1,0 +1,120 @@
+//! Printing a listing.
+
+ghost use Rattle.std.specs.Prelude.{◌≡◌, ◌++◌, [], ◌∷◌, List, ℕ, Ok, IfOk, IfErr, OnOk, decimal};
+ghost use Rattle.std.specs.List.{AllByRecursion, join_with_byte};
+ghost use Rattle.sw_base.specs.declared.error.ScpiError.TheVariants.{OutOfMemory};
+ghost use Rattle.sw_code.specs.Listing.{channel_text, parts_of, line_of, lines_of, listing_of, layer_word};
+ghost use Rattle.sw_code.specs.Reading.{code_in};
+ghost use Rattle.sw_code.specs.Range.{IsChannel, HasChannel, IsInRange};
+ghost use Rattle.sw_code.specs.declared.code.Step.TheVariants as step;
+
+use crate::code::{Code, Step};
+use std::alloc::{AllocError, Global};
+use sw_base::{Chan, LayerName, ScpiError, print_number};
+
+/// The listing of a code: `scan 1`, `meter` and its slot, and a line for each step, numbers without leading zeros.
+///
+/// `OutOfMemory` comes where the text found no room, and no other error.
+pub fn print_listing(alloc: Global, code: &Code) -> Result<Vec<u8>, ScpiError>
+    ensures printed { IfOk result (λ v. v.items ≡ listing_of code.now) }
+    // What is printed reads as the same code.
+    ensures read { IfOk result (λ v. code_in v.items ≡ Ok code.now) }
+    ensures refused { IfErr result (λ e. e ≡ OutOfMemory) }
+{
+    let text = all_lines(alloc, code)?;
+    Ok(text)
+}
+
+fn all_lines(alloc: Global, code: &Code) -> Result<Vec<u8>, AllocError>
+    ensures printed { IfOk result (λ v. v.items ≡ listing_of code.now) }
+    ensures channels { IfOk result (λ v. AllByRecursion HasChannel code.now.steps) }
+    ensures range { IfOk result (λ v. IsInRange code.now) }
+{
+    let mut out = Vec::new(alloc);
+    out.extend_from_slice(b"scan 1\nmeter ")?;
+    put_number(&mut out, u64::from(code.meter()))?;
+    out.push(b'\n')?;
+    put_steps(&mut out, code.steps())?;
+    Ok(out)
+}
+
+fn put_steps(out: &mut Vec<u8>, steps: &[Step]) -> Result<(), AllocError>
+    ensures printed { OnOk result (out.new.items ≡ out.old.items ++ lines_of steps.now) }
+    ensures channels { OnOk result (AllByRecursion HasChannel steps.now) }
+{
+    for step in steps {
+        put_step(out, *step)?;
+        out.push(b'\n')?;
+    }
+    Ok(())
+}
+
+/// Adds a step's line, without its line feed.
+fn put_step(out: &mut Vec<u8>, step: Step) -> Result<(), AllocError>
+    ensures printed { OnOk result (out.new.items ≡ out.old.items ++ join_with_byte 32 (parts_of step)) }
+    ensures channel { OnOk result (HasChannel step) }
+{
+    match step {
+        Step::Set(counter, count) => put_pair(out, b"set ", counter, u64::from(count)),
+        Step::Wait(name) => put_wait(out, name),
+        Step::Pause(micros) => {
+            out.extend_from_slice(b"pause ")?;
+            put_number(out, micros)
+        }
+        Step::Close(channel) => put_channel(out, b"close ", channel),
+        Step::Read => {
+            out.extend_from_slice(b"read")?;
+            Ok(())
+        }
+        Step::Open(channel) => put_channel(out, b"open ", channel),
+        Step::Loop(counter, step) => put_pair(out, b"loop ", counter, u64::from(step)),
+        Step::Halt => {
+            out.extend_from_slice(b"halt")?;
+            Ok(())
+        }
+    }
+}
+
+/// Adds a word with its space, a counter and a number.
+fn put_pair(out: &mut Vec<u8>, word: &[u8], counter: u8, number: u64) -> Result<(), AllocError>
+    ensures { OnOk result (out.new.items ≡ out.old.items ++ (word.now ++ (decimal counter ++ 32 ∷ decimal number))) }
+{
+    out.extend_from_slice(word)?;
+    put_number(out, u64::from(counter))?;
+    out.push(b' ')?;
+    put_number(out, number)
+}
+
+fn put_wait(out: &mut Vec<u8>, name: LayerName) -> Result<(), AllocError>
+    ensures { OnOk result (out.new.items ≡ out.old.items ++ join_with_byte 32 (parts_of (step.Wait name))) }
+{
+    let line: &[u8] = match name {
+        LayerName::Arm1 => b"wait arm1",
+        LayerName::Arm2 => b"wait arm2",
+        LayerName::Trigger => b"wait trig",
+    };
+    out.extend_from_slice(line)?;
+    Ok(())
+}
+
+/// Adds a word with its space, and `slot!channel`.
+fn put_channel(out: &mut Vec<u8>, word: &[u8], channel: Chan) -> Result<(), AllocError>
+    ensures printed { OnOk result (out.new.items ≡ out.old.items ++ (word.now ++ channel_text channel)) }
+    ensures range { IsChannel channel }
+{
+    let slot = channel.slot();
+    let ch = channel.ch();
+    out.extend_from_slice(word)?;
+    put_number(out, u64::from(slot))?;
+    out.push(b'!')?;
+    put_number(out, u64::from(ch))
+}
+
+fn put_number(out: &mut Vec<u8>, number: u64) -> Result<(), AllocError>
+    ensures { OnOk result (out.new.items ≡ out.old.items ++ decimal number) }
+{
+    let mut buffer = [0; 32];
+    let length = print_number(number, &mut buffer);
+    out.extend_from_slice(&buffer[..length])?;
+    Ok(())
+}
