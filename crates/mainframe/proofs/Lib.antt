@@ -1,5 +1,6 @@
 mod Known
 mod Lines
 mod Kept
+mod TurnLemmas
 mod Runs
 mod Determined

@@ -96,7 +96,7 @@ progress-line sid start (Some input) (Some xs) r2 c0 c1 c2 q mid kept told (done
     )
 
 pub progress-part : (sid : Sid) (start : State) (r0 r1 r2 c0 c1 c2 : Option (List ℕ)) (q mid : State) (kept told : List ℕ) → Progress sid start r0 r1 c0 c1 q → IfSome r1 (λ xs. kept ≡ take most_kept (take_through 10 xs)) → DropsThrough r1 r2 10 → 0 < length kept
-    → Line sid q kept told mid → WritesPart c1 c2 told → IfSome r0 (λ input. PartFrom sid start input c0 c2)
+    → Line sid q kept told mid → WritesPart c1 c2 told → IfSome r0 (λ input. PartFrom sid start input r2 c0 c2)
 progress-part sid start None r1 r2 c0 c1 c2 q mid kept told h is_kept rest some t a = tt
 progress-part sid start (Some input) None r2 c0 c1 c2 q mid kept told (done, written, left, at, lines, run, w) is_kept rest some t a = absurd (cc (at))
 progress-part sid start (Some input) (Some xs) r2 c0 c1 c2 q mid kept told (done, written, left, at, lines, run, w) is_kept rest some t a =
@@ -107,6 +107,7 @@ progress-part sid start (Some input) (Some xs) r2 c0 c1 c2 q mid kept told (done
     let part : take (length written + a.0) (written ++ told) ≡ written ++ take a.0 told = take-append-add written told a.0 in
     record {
       rest = drop_through 10 xs;
+      is_left = rest;
       bytes = written ++ told;
       runs = record {
         done = done ++ items ∷ [];

@@ -78,9 +78,10 @@ pub record AnsweredFrom (sid : Sid) (start : State) (input rest : List ℕ) (old
   pub runs : RunsTo sid start input rest bytes
   pub writes : Appends old new bytes
 
--- or a front part of them is
-pub record PartFrom (sid : Sid) (start : State) (input : List ℕ) (old new : Option (List ℕ)) : Type 0 where
+-- or a front part of them is, and all behind these lines is still unread
+pub record PartFrom (sid : Sid) (start : State) (input : List ℕ) (left old new : Option (List ℕ)) : Type 0 where
   pub rest : List ℕ
+  pub is_left : left ≡ Some rest
   pub bytes : List ℕ
   pub runs : RunsTo sid start input rest bytes
   pub writes : WritesPart old new bytes
@@ -97,7 +98,7 @@ pub record CutFrom (sid : Sid) (start : State) (input : List ℕ) (left old new 
 abbrev pub EndsFrom : Sid → State → RunFault → List ℕ → Option (List ℕ) → Option (List ℕ) → Option (List ℕ) → Type 0
 EndsFrom sid start Input input left old new = CutFrom sid start input left old new
 EndsFrom sid start Memory input left old new = CutFrom sid start input left old new
-EndsFrom sid start Output input left old new = PartFrom sid start input old new
+EndsFrom sid start Output input left old new = PartFrom sid start input left old new
 
 -- The whole input is answered by a mainframe of these cards.
 pub record Answered (cards : Fitted) (input : List ℕ) (old new : Option (List ℕ)) : Type 0 where
@@ -113,13 +114,15 @@ pub record Cut (cards : Fitted) (fault : RunFault) (input : List ℕ) (left old 
   pub set_up : IsSetUp cards sid start
   pub ends : EndsFrom sid (begins_over start) fault input left old new
 
--- there was no memory to begin, and nothing was written
-abbrev pub Unbegun : RunFault → Option (List ℕ) → Option (List ℕ) → Type 0
-Unbegun fault old new = (fault ≡ Memory) × Keeps old new
+-- there was no memory to begin: nothing was read, and nothing written
+pub record Unbegun (fault : RunFault) (input : List ℕ) (left old new : Option (List ℕ)) : Type 0 where
+  pub memory : fault ≡ Memory
+  pub unread : left ≡ Some input
+  pub unwritten : Keeps old new
 
 -- What a run comes to by a mainframe of these cards. At Ok all of the input was read and answered. At a fault either
 -- nothing was begun, or the answers are written up to the fault.
 pub record Runs (cards : Fitted) (result : Result (Unit {0}) RunFault) (input : List ℕ) (left old new : Option (List ℕ)) : Type 0 where
   pub answered : OnOk result (Answered cards input old new)
   pub all : OnOk result (IsAtEnd left)
-  pub fault : IfErr result (λ fault. Unbegun fault old new ⊎ Cut cards fault input left old new)
+  pub fault : IfErr result (λ fault. Unbegun fault input left old new ⊎ Cut cards fault input left old new)

@@ -1,17 +1,28 @@
 //! Why a run stops before its input ends.
 
+ghost use Rattle.std.specs.Prelude.{◌≡◌};
+
 use thiserror::Error;
 
-/// Why a run stops.
+/// Why a run stops. Its text is the line on standard error.
 #[derive(Clone, Copy, Debug, PartialEq, Eq, Drop, Error)]
 pub enum RunFault {
-    /// A read failed, or the input has more than 2^32 lines.
+    /// A read failed, or the reader was asked for bytes 2^32 times.
     #[error("mainframe: input failed")]
     Input,
     /// A write failed, or took nothing.
     #[error("mainframe: output failed")]
     Output,
-    /// There was no memory for the cage or a line.
+    /// There was no memory for the words of the command line, the cage or a line.
     #[error("mainframe: out of memory")]
     Memory,
+}
+
+impl RunFault {
+    /// The program's exit status after it.
+    pub fn status(self) -> u8
+        ensures { result ≡ 1 }
+    {
+        1
+    }
 }

@@ -2,7 +2,8 @@
 
 ghost use Rattle.std.specs.Prelude.{◌≡◌, ◌≢◌, ◌<◌, ◌≤◌, ◌-◌, All, length, take, OnOk, OnErr, IfErr, IfSome};
 ghost use Rattle.std.specs.Io.BufRead.{take_through, DropsThrough};
-ghost use Rattle.mainframe.specs.Kept.{most_kept, CutsLine, TakesPart};
+ghost use Rattle.mainframe.specs.Kept.{most_kept, CutsLine};
+ghost use Rattle.mainframe.specs.Turns.{Spends, FailsAfter};
 
 use crate::fault::RunFault;
 use std::io::{BufRead, ErrorKind};
@@ -10,48 +11,84 @@ use std::io::{BufRead, ErrorKind};
 /// How many bytes of a line are kept at most: the longest message, its line feed, and one byte.
 const MOST_KEPT: usize = 65_538;
 
-/// Takes the first line with its line feed from the reader, and keeps it, or its first 65,538 bytes where it is longer.
-/// Nothing is kept where the input is at its end.
-pub fn read_line<Rd: BufRead>(reader: &mut Rd, line: &mut Vec<u8>) -> Result<(), RunFault>
-    ensures kept { OnOk result (IfSome (Rd.remaining reader.old) (λ xs. line.new.items ≡ take most_kept (take_through 10 xs))) }
-    ensures rest { OnOk result (DropsThrough (Rd.remaining reader.old) (Rd.remaining reader.new) 10) }
-    ensures cut { OnErr result (CutsLine (Rd.remaining reader.old) (Rd.remaining reader.new)) }
+/// What lines are read from, in sight of what was written by then.
+pub trait Source<W> {
+    ghost use Rattle.std.specs.Prelude.{◌≡◌, ◌≢◌, ◌≤◌, ℕ, List, Option, length, IfErr, Err};
+    ghost use Rattle.mainframe.specs.Kept.{most_kept, TakesPart};
+
+    /// The bytes that are left to be read, where they are known.
+    ghost remaining: { Self → Option (List ℕ) };
+
+    /// It was asked for bytes once, while the writer was so, and went from one state to another.
+    ghost asked: { Self → W → Self → Type 0 };
+
+    /// A read failed, between these states.
+    ghost failed: { Self → Self → Type 0 };
+
+    /// Takes the bytes that are at hand, up to and including the first line feed, and keeps those that the line has
+    /// room for. Returns whether the line is complete.
+    fn read_part(&mut self, written: &W, line: &mut Vec<u8>) -> Result<bool, RunFault>
+        requires { length line.old.items ≤ most_kept }
+        ensures asked { asked self.old written.now self.new }
+        ensures part { TakesPart (remaining self.old) (remaining self.new) line.old.items line.new.items result }
+        ensures fault { IfErr result (λ fault. fault ≢ RunFault.Output) }
+        ensures failed { result ≡ Err RunFault.Input → failed self.old self.new };
+}
+
+/// Any reader is a source of lines. It tells nothing of what it sees.
+impl<Rd: BufRead, W> Source<W> for Rd {
+    ghost remaining = { λ r. Rd.remaining r };
+
+    ghost asked = { λ _ _ _. Unit {0} };
+
+    ghost failed = { λ _ _. Unit {0} };
+
+    fn read_part(&mut self, _written: &W, line: &mut Vec<u8>) -> Result<bool, RunFault> {
+        let available = match self.fill_buf() {
+            Ok(available) => available,
+            Err(e) => {
+                return match e.kind() {
+                    ErrorKind::Interrupted => Ok(false),
+                    ErrorKind::OutOfMemory => Err(RunFault::Memory),
+                    _ => Err(RunFault::Input),
+                };
+            }
+        };
+        let end = line_end(available);
+        let room = MOST_KEPT - line.len();
+        let Ok(()) = line.extend_from_slice(&available[..end.min(room)]) else {
+            return Err(RunFault::Memory);
+        };
+        let is_done = end == 0 || available[end - 1] == b'\n';
+        self.consume(end);
+        Ok(is_done)
+    }
+}
+
+/// Takes the first line with its line feed from the source, and keeps it, or its first 65,538 bytes where it is longer.
+/// Nothing is kept where the input is at its end. Each time that the source is asked for bytes spends a turn.
+pub fn read_line<S: Source<W>, W>(
+    source: &mut S,
+    written: &W,
+    turns: &mut u64,
+    line: &mut Vec<u8>,
+) -> Result<(), RunFault>
+    ensures kept { OnOk result (IfSome (S.remaining source.old) (λ xs. line.new.items ≡ take most_kept (take_through 10 xs))) }
+    ensures rest { OnOk result (DropsThrough (S.remaining source.old) (S.remaining source.new) 10) }
+    ensures cut { OnErr result (CutsLine (S.remaining source.old) (S.remaining source.new)) }
+    ensures turns { Spends S.asked source.old written.now turns.old turns.new source.new }
+    ensures spent { OnOk result (turns.new < turns.old) }
     ensures fault { IfErr result (λ fault. fault ≢ RunFault.Output) }
+    ensures cause { result ≡ Err RunFault.Input → FailsAfter S.failed turns.new source.new }
 {
     line.clear();
-    for _ in 0..u64::MAX {
-        if read_part(reader, line)? {
+    while *turns > 0 {
+        *turns -= 1;
+        if source.read_part(written, line)? {
             return Ok(());
         }
     }
     Err(RunFault::Input)
-}
-
-/// Takes the bytes that the reader has at hand, up to and including the first line feed, and keeps those that the line
-/// has room for. Returns whether the line is complete.
-fn read_part<Rd: BufRead>(reader: &mut Rd, line: &mut Vec<u8>) -> Result<bool, RunFault>
-    requires { length line.old.items ≤ most_kept }
-    ensures part { TakesPart (Rd.remaining reader.old) (Rd.remaining reader.new) line.old.items line.new.items result }
-    ensures fault { IfErr result (λ fault. fault ≢ RunFault.Output) }
-{
-    let available = match reader.fill_buf() {
-        Ok(available) => available,
-        Err(e) => {
-            return match e.kind() {
-                ErrorKind::Interrupted => Ok(false),
-                ErrorKind::OutOfMemory => Err(RunFault::Memory),
-                _ => Err(RunFault::Input),
-            };
-        }
-    };
-    let end = line_end(available);
-    let room = MOST_KEPT - line.len();
-    let Ok(()) = line.extend_from_slice(&available[..end.min(room)]) else {
-        return Err(RunFault::Memory);
-    };
-    let is_done = end == 0 || available[end - 1] == b'\n';
-    reader.consume(end);
-    Ok(is_done)
 }
 
 /// The length up to and including the first line feed, or the whole length.

@@ -1,17 +1,18 @@
 //! Lines in, lines out: each line that is read is one program message of one session.
 
-ghost use Rattle.std.specs.Prelude.{◌≡◌, OnOk, IfOk, IfSome, IfErr, []};
+ghost use Rattle.std.specs.Prelude.{◌≡◌, ◌⊎◌, ℕ, OnOk, IfOk, IfSome, IfErr, []};
 ghost use Rattle.std.specs.Io.KnownBytes.{IsAtEnd};
 ghost use Rattle.sw_core.specs.View.{ask_view};
 ghost use Rattle.sw_card.specs.Account.{relay_account, of_meter};
 ghost use Rattle.sw_core.specs.Panel.{opening};
 ghost use Rattle.mainframe.specs.Cards.{fitted, program_cards};
 ghost use Rattle.sw_macro.specs.Table.{no_macros};
+ghost use Rattle.mainframe.specs.Turns.{AsksInTurn, FailsAfter, IsInVain, most_turns, stand};
 ghost use Rattle.mainframe.specs.Run.{state, IsSetUp, Joins, Stepped, AnsweredFrom, EndsFrom, Runs};
 
 use crate::cards::{first_card, meter_card, second_card, third_card};
 use crate::fault::RunFault;
-use crate::reading::read_line;
+use crate::reading::{Source, read_line};
 use crate::writing::write_bytes;
 use std::alloc::{AllocError, Global};
 use std::io::{BufRead, Write};
@@ -19,13 +20,15 @@ use sw_card::{Card, Meter, Relay};
 use sw_core::{Answer, Ask, Core, SessionAnswer, SessionAsk, Sid};
 use sw_session::{CoreDesk, Talker};
 
-/// How many lines are taken at most.
+/// How often the source is asked for bytes at most.
 const TURNS: u64 = 1 << 32;
 
 /// Answers each line of the reader as a program message, by the program's cards: a multiplexer of 20 channels in group
 /// 1, a matrix of 16, a multiplexer of 10 in group 1 and a meter. `fuse` says which closing of slot 1 fails, from 1.
 ///
-/// An answer is written before the next line is read. At a fault the answers of the lines before stand.
+/// An answer is written and handed on before the reader is asked for more (`run_on`). At a fault the answers of the
+/// lines before stand, and nothing was read but those, and at a fault of the reader or for want of memory a part of the
+/// next.
 pub fn run_lines<Rd: BufRead, W: Write>(
     alloc: Global,
     reader: &mut Rd,
@@ -53,23 +56,23 @@ pub fn run_lines<Rd: BufRead, W: Write>(
     run_over(alloc, reader, writer, first, second, third, meter)
 }
 
-/// Answers each line of the reader as a program message, by these cards in slots 1 to 4.
-fn run_over<R: Relay, M: Meter, Rd: BufRead, W: Write>(
+/// Answers each line of the source as a program message, by these cards in slots 1 to 4.
+fn run_over<R: Relay, M: Meter, S: Source<W>, W: Write>(
     alloc: Global,
-    reader: &mut Rd,
+    source: &mut S,
     writer: &mut W,
     first: R,
     second: R,
     third: R,
     meter: M,
 ) -> Result<(), RunFault>
-    ensures { IfSome (Rd.remaining reader.old) (λ input. Runs
+    ensures { IfSome (S.remaining source.old) (λ input. Runs
         (fitted
         (relay_account (R.the_serial first) (R.failed first) (R.groups first) (R.closed first))
         (relay_account (R.the_serial second) (R.failed second) (R.groups second) (R.closed second))
         (relay_account (R.the_serial third) (R.failed third) (R.groups third) (R.closed third))
         (of_meter (record { serial = M.the_serial meter; failures = M.failed meter; last = M.last_reading meter })))
-        result input (Rd.remaining reader.new) (W.contents writer.old) (W.contents writer.new)) }
+        result input (S.remaining source.new) (W.contents writer.old) (W.contents writer.new)) }
 {
     let first = Card::relays(first);
     let second = Card::relays(second);
@@ -77,7 +80,7 @@ fn run_over<R: Relay, M: Meter, Rd: BufRead, W: Write>(
     match set_up(alloc, first, second, third, Card::meter(meter)) {
         Ok((core, sid)) => {
             let mut desk = CoreDesk::new(alloc, core);
-            run_on(alloc, reader, writer, &mut desk, sid)
+            run_on(alloc, source, writer, &mut desk, sid)
         }
         Err(_) => Err(RunFault::Memory),
     }
@@ -117,25 +120,30 @@ fn join<R: Relay, M: Meter>(alloc: Global, core: &mut Core<R, M>) -> Sid
 fn offer<R: Relay, M: Meter>(alloc: Global, core: &mut Core<R, M>, ask: Ask<R, M>)
     ensures { Stepped core.old (ask_view ask) core.new }
 {
-    let _ = core.apply(alloc, ask);
+    drop(core.apply(alloc, ask));
 }
 
-/// Answers each line of the reader by the desk.
-fn run_on<R: Relay, M: Meter, Rd: BufRead, W: Write>(
+/// Answers each line of the source by the desk. Each time that the source is asked for bytes, all answers so far are
+/// written and handed on.
+pub fn run_on<R: Relay, M: Meter, S: Source<W>, W: Write>(
     alloc: Global,
-    reader: &mut Rd,
+    source: &mut S,
     writer: &mut W,
     desk: &mut CoreDesk<R, M>,
     sid: Sid,
 ) -> Result<(), RunFault>
-    ensures ok { OnOk result (IfSome (Rd.remaining reader.old) (λ input. AnsweredFrom sid (state desk.old no_macros) input [] (W.contents writer.old) (W.contents writer.new))) }
-    ensures all { OnOk result (IfSome (Rd.remaining reader.old) (λ _. IsAtEnd (Rd.remaining reader.new))) }
-    ensures err { IfErr result (λ fault. IfSome (Rd.remaining reader.old) (λ input. EndsFrom sid (state desk.old no_macros) fault input (Rd.remaining reader.new) (W.contents writer.old) (W.contents writer.new))) }
+    ensures ok { OnOk result (IfSome (S.remaining source.old) (λ input. AnsweredFrom sid (state desk.old no_macros) input [] (W.contents writer.old) (W.contents writer.new))) }
+    ensures all { OnOk result (IfSome (S.remaining source.old) (λ _. IsAtEnd (S.remaining source.new))) }
+    ensures err { IfErr result (λ fault. IfSome (S.remaining source.old) (λ input. EndsFrom sid (state desk.old no_macros) fault input (S.remaining source.new) (W.contents writer.old) (W.contents writer.new))) }
+    ensures turns { (left : ℕ)
+        × AsksInTurn S.remaining S.asked W.contents sid (stand (state desk.old no_macros) source.old writer.old most_turns) left source.new
+        × (result ≡ Err RunFault.Input → FailsAfter S.failed left source.new ⊎ IsInVain desk.new) }
 {
     let mut talker = Talker::new(alloc, sid);
     let mut line = Vec::new(alloc);
-    for _turn in 0..TURNS {
-        if let Err(fault) = read_line(reader, &mut line) {
+    let mut turns = TURNS;
+    while turns > 0 {
+        if let Err(fault) = read_line(source, writer, &mut turns, &mut line) {
             return Err(fault);
         }
         if line.is_empty() {

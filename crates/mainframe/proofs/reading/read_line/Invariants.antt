@@ -1,7 +1,12 @@
+use Rattle.mainframe.specs.Turns.{Spends}
 use Rattle.mainframe.proofs.Kept.{Reading}
 use Rattle.mainframe.proofs.reading.read_line.Given as goal
 
-abbrev pub invariant-loop : goal.invariant-loop
-invariant-loop g l = record {
-  so_far : Reading (g.Rd.Read.remaining l.fn.reader) (g.Rd.Read.remaining l.reader) l.line.items;
+abbrev pub invariant-loop-turns : goal.invariant-loop-turns
+invariant-loop-turns g l = record {
+  so_far : Reading (g.S.Source.remaining l.fn.source) (g.S.Source.remaining l.source) l.line.items;
+  spends : Spends g.S.Source.asked l.fn.source l.fn.written l.fn.turns l.turns l.source;
 }
+
+abbrev pub decreases-loop-turns : goal.decreases-loop-turns
+decreases-loop-turns g l = l.turns

@@ -1,11 +1,16 @@
-use Rattle.std.specs.Prelude.{◌≡◌}
+use Rattle.std.specs.Prelude.{◌≡◌, ℕ, List}
 use Rattle.sw_macro.specs.Table.{no_macros}
 use Rattle.mainframe.specs.Run.{state}
+use Rattle.mainframe.specs.Turns.{stand, most_turns, TakesTurns}
 use Rattle.mainframe.proofs.Runs.{Progress}
 use Rattle.mainframe.proofs.run.run_on.Given as goal
 
-abbrev pub invariant-loop-turn : goal.invariant-loop-turn
-invariant-loop-turn g l = record {
+abbrev pub invariant-loop-turns : goal.invariant-loop-turns
+invariant-loop-turns g l = record {
   sid : l.talker.sid ≡ l.fn.sid;
-  so_far : Progress l.fn.sid (state l.fn.desk no_macros) (g.Rd.Read.remaining l.fn.reader) (g.Rd.Read.remaining l.reader) (g.W.Write.contents l.fn.writer) (g.W.Write.contents l.writer) (state l.desk l.talker.macros);
+  so_far : Progress l.fn.sid (state l.fn.desk no_macros) (g.S.Source.remaining l.fn.source) (g.S.Source.remaining l.source) (g.W.Write.contents l.fn.writer) (g.W.Write.contents l.writer) (state l.desk l.talker.macros);
+  in_turn : (lines : List (List ℕ)) × TakesTurns g.S.Source.remaining g.S.Source.asked g.W.Write.contents l.fn.sid (stand (state l.fn.desk no_macros) l.fn.source l.fn.writer most_turns) lines (stand (state l.desk l.talker.macros) l.source l.writer l.turns);
 }
+
+abbrev pub decreases-loop-turns : goal.decreases-loop-turns
+decreases-loop-turns g l = l.turns

@@ -1,0 +1,100 @@
+//! The words of the command line, the fault lines and the exit statuses.
+
+use crate::command_line::{Order, parse_words, unrun_status};
+use crate::fault::RunFault;
+use clap::error::ErrorKind;
+use std::alloc::Global;
+use std::process::Abort;
+use std::test::Fail;
+
+/// What the words after the program's name ask for, or why they ask for nothing to be run.
+fn asked(alloc: Global, words: &[&str]) -> Result<Result<Order, ErrorKind>, Fail> {
+    let mut line = Vec::new(alloc);
+    line.push(String::from_str(alloc, "mainframe")?)?;
+    for word in words {
+        line.push(String::from_str(alloc, word)?)?;
+    }
+    match parse_words(alloc, line.as_slice()) {
+        Ok(order) => Ok(Ok(order)),
+        Err(error) => Ok(Err(error.kind())),
+    }
+}
+
+#[test]
+fn a_run_with_a_fuse_and_without(rt: HostRuntime) -> Result<(), Fail> {
+    assert_eq!(rt; asked(rt.alloc(), &["run"])?, Ok(Order::Run(None)));
+    assert_eq!(rt;
+        asked(rt.alloc(), &["run", "--fuse", "1"])?,
+        Ok(Order::Run(Some(1)))
+    );
+    let most = asked(rt.alloc(), &["run", "--fuse", "1000000"])?;
+    assert_eq!(rt; most, Ok(Order::Run(Some(1_000_000))));
+    Ok(())
+}
+
+/// These words are refused with status 2.
+fn check_refused(
+    rt: &impl Abort,
+    alloc: Global,
+    words: &[&str],
+    kind: ErrorKind,
+) -> Result<(), Fail> {
+    assert_eq!(rt; asked(alloc, words)?, Err(kind));
+    assert_eq!(rt; unrun_status(kind), 2);
+    Ok(())
+}
+
+#[test]
+fn a_fuse_out_of_range(rt: HostRuntime) -> Result<(), Fail> {
+    let range = ErrorKind::ValueValidation;
+    check_refused(&rt, rt.alloc(), &["run", "--fuse", "0"], range)?;
+    check_refused(&rt, rt.alloc(), &["run", "--fuse", "1000001"], range)?;
+    check_refused(&rt, rt.alloc(), &["run", "--fuse", "two"], range)
+}
+
+#[test]
+fn a_subcommand_that_is_none(rt: HostRuntime) -> Result<(), Fail> {
+    check_refused(&rt, rt.alloc(), &[], ErrorKind::MissingSubcommand)?;
+    check_refused(&rt, rt.alloc(), &["walk"], ErrorKind::InvalidSubcommand)
+}
+
+#[test]
+fn help_and_version(rt: HostRuntime) -> Result<(), Fail> {
+    assert_eq!(rt;
+        asked(rt.alloc(), &["--help"])?,
+        Err(ErrorKind::DisplayHelp)
+    );
+    assert_eq!(rt;
+        asked(rt.alloc(), &["--version"])?,
+        Err(ErrorKind::DisplayVersion)
+    );
+    assert_eq!(rt; unrun_status(ErrorKind::DisplayHelp), 0);
+    assert_eq!(rt; unrun_status(ErrorKind::DisplayVersion), 0);
+    assert_eq!(rt; unrun_status(ErrorKind::OutOfMemory), 1);
+    Ok(())
+}
+
+/// The line and the status of a fault.
+fn check_fault(rt: &impl Abort, alloc: Global, fault: RunFault, text: &str) -> Result<(), Fail> {
+    let line = fault.to_string(alloc)?;
+    assert_eq!(rt; line.as_str(), text);
+    assert_eq!(rt; fault.status(), 1);
+    Ok(())
+}
+
+#[test]
+fn faults_have_a_line_and_a_status(rt: HostRuntime) -> Result<(), Fail> {
+    check_fault(&rt, rt.alloc(), RunFault::Input, "mainframe: input failed")?;
+    check_fault(
+        &rt,
+        rt.alloc(),
+        RunFault::Output,
+        "mainframe: output failed",
+    )?;
+    check_fault(
+        &rt,
+        rt.alloc(),
+        RunFault::Memory,
+        "mainframe: out of memory",
+    )
+}

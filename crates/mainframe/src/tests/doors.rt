@@ -1,0 +1,114 @@
+//! Readers and writers that fail, take little at a time, or look at what the other has.
+
+use crate::fault::RunFault;
+use crate::run::run_lines;
+use std::alloc::Global;
+use std::io;
+use std::io::{BufReader, Cursor, ErrorKind, Read, Write};
+use std::test::Fail;
+
+#[test]
+fn reads_a_cursor(rt: HostRuntime) -> Result<(), Fail> {
+    let mut reader = Cursor::new(b"*IDN?\n".as_slice());
+    let mut out = Vec::new(rt.alloc());
+    run_lines(rt.alloc(), &mut reader, &mut out, Some(1))?;
+    assert_eq!(rt; out.as_slice(), b"OPENBENCH,SWM8,0,1.0\n".as_slice());
+    Ok(())
+}
+
+/// Gives one line and the beginning of another, and fails from then on.
+#[derive(Drop)]
+struct Broken {
+    given: bool,
+}
+
+impl Read for Broken {
+    fn read(&mut self, buf: &mut [u8]) -> io::Result<usize> {
+        if self.given || buf.len() < 8 {
+            return Err(io::Error::from(ErrorKind::BrokenPipe));
+        }
+        self.given = true;
+        buf[..8].copy_from_slice(b"*IDN?\n*I");
+        Ok(8)
+    }
+}
+
+#[test]
+fn a_read_fails_in_a_line(rt: HostRuntime) -> Result<(), Fail> {
+    let mut reader = BufReader::new(rt.alloc(), Broken { given: false })?;
+    let mut out = Vec::new(rt.alloc());
+    assert!(rt; run_lines(rt.alloc(), &mut reader, &mut out, None) == Err(RunFault::Input));
+    assert_eq!(rt; out.as_slice(), b"OPENBENCH,SWM8,0,1.0\n".as_slice());
+    Ok(())
+}
+
+/// Takes two bytes at a time, and none once it is full.
+#[derive(Drop)]
+struct Short {
+    left: usize,
+}
+
+impl Write for Short {
+    fn write(&mut self, buf: &[u8]) -> io::Result<usize> {
+        let n = buf.len().min(self.left).min(2);
+        self.left -= n;
+        Ok(n)
+    }
+
+    fn flush(&mut self) -> io::Result<()> {
+        Ok(())
+    }
+}
+
+#[test]
+fn a_write_takes_nothing(rt: HostRuntime) -> Result<(), Fail> {
+    let mut writer = Short { left: 30 };
+    let mut reader = b"*IDN?\n*IDN?\n*IDN?".as_slice();
+    assert!(rt; run_lines(rt.alloc(), &mut reader, &mut writer, None) == Err(RunFault::Output));
+    assert_eq!(rt; (writer.left, reader), (0, b"*IDN?".as_slice()));
+    Ok(())
+}
+
+/// Fails by this cause.
+#[derive(Drop)]
+struct Failing {
+    kind: ErrorKind,
+}
+
+impl Read for Failing {
+    fn read(&mut self, _buf: &mut [u8]) -> io::Result<usize> {
+        Err(io::Error::from(self.kind))
+    }
+}
+
+impl Write for Failing {
+    fn write(&mut self, _buf: &[u8]) -> io::Result<usize> {
+        Err(io::Error::from(self.kind))
+    }
+
+    fn flush(&mut self) -> io::Result<()> {
+        Err(io::Error::from(self.kind))
+    }
+}
+
+/// What a run comes to whose reader fails by this cause.
+fn fault_of_read(alloc: Global, kind: ErrorKind) -> Result<Option<RunFault>, Fail> {
+    let mut reader = BufReader::new(alloc, Failing { kind })?;
+    let mut out = Vec::new(alloc);
+    Ok(run_lines(alloc, &mut reader, &mut out, None).err())
+}
+
+#[test]
+fn a_fault_is_told_by_its_cause(rt: HostRuntime) -> Result<(), Fail> {
+    let memory = fault_of_read(rt.alloc(), ErrorKind::OutOfMemory)?;
+    assert_eq!(rt; memory, Some(RunFault::Memory));
+    let input = fault_of_read(rt.alloc(), ErrorKind::BrokenPipe)?;
+    assert_eq!(rt; input, Some(RunFault::Input));
+    let mut reader = b"*IDN?".as_slice();
+    let mut writer = Failing {
+        kind: ErrorKind::OutOfMemory,
+    };
+    let output = run_lines(rt.alloc(), &mut reader, &mut writer, None);
+    assert_eq!(rt; output, Err(RunFault::Output));
+    Ok(())
+}

@@ -1,0 +1,25 @@
+//! The program on bytes: what is read, and what is written.
+
+mod command_line;
+mod doors;
+mod rows;
+
+use crate::run::run_lines;
+use std::alloc::Global;
+use std::process::Abort;
+use std::test::Fail;
+
+/// Types these bytes, of which the `fuse`-th closing of slot 1 fails, and compares what comes back.
+fn check(
+    rt: &impl Abort,
+    alloc: Global,
+    fuse: Option<u32>,
+    typed: &[u8],
+    told: &[u8],
+) -> Result<(), Fail> {
+    let mut reader = typed;
+    let mut out = Vec::new(alloc);
+    run_lines(alloc, &mut reader, &mut out, fuse)?;
+    assert_eq!(rt; out.as_slice(), told);
+    Ok(())
+}
