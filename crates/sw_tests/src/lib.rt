@@ -1,0 +1,5 @@
+//! Tests of the libraries, by their public calls.
+#![tactic(auto)]
+
+#[cfg(test)]
+mod session;
