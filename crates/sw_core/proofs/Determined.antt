@@ -1,12 +1,14 @@
 -- Where memory suffices and no card fails, a step leaves no choice.
-use Rattle.std.proofs.Common.{◌≡◌, ◌≢◌, ℕ, ◌==◌, ◌&&◌, not, Bool, true, false, List, Option, None, Some, refl, sym, ◌∙◌, ap, subst, arith, inl, inr, ◌⊎◌, is_some}
+use Rattle.std.proofs.Common.{◌≡◌, ◌≢◌, ℕ, ◌==◌, ◌&&◌, not, Bool, true, false, List, Option, None, Some, refl, sym, ◌∙◌, ap, subst, arith, inl, inr, ◌⊎◌, is_some, [], ◌∷◌, map}
 use Rattle.std.specs.Prelude.{decimal, MatchBool}
 use Rattle.std.proofs.lemmas.Bool.{cases_lt}
 use Rattle.sw_base.specs.Layout.{Channel, slot_at}
 use Rattle.sw_base.specs.declared.error.ScpiError.{ScpiError}
-use Rattle.sw_base.specs.declared.error.ScpiError.TheVariants.{TriggerIgnored, InitIgnored, SystemError, HardwareMissing, SettingsConflict, HardwareError, OutOfMemory}
+use Rattle.sw_base.specs.declared.error.ScpiError.TheVariants.{UndefinedHeader, DataCorruptOrStale, TriggerIgnored, InitIgnored, SystemError, HardwareMissing, SettingsConflict, HardwareError, OutOfMemory}
 use Rattle.sw_card.specs.Account.{Account, closed_at}
-use Rattle.sw_lex.specs.declared.command.Command.{Command}
+use Rattle.std.specs.List.{join_with_byte}
+use Rattle.sw_base.specs.Reading.{reading_text}
+use Rattle.sw_base.specs.declared.reading.Reading.{Reading}
 use Rattle.sw_trigger.specs.Settings.{Setup}
 use Rattle.sw_verify.specs.declared.snapshot.Snapshot.{Snapshot}
 use Rattle.sw_status.specs.StatusModel.{StatusSeen}
@@ -29,15 +31,16 @@ use Rattle.sw_core.specs.declared.ask.SessionAnswer.{SessionAnswer}
 use Rattle.sw_core.specs.declared.ask.SessionAnswer.TheVariants as answers
 use Rattle.sw_core.specs.declared.ask.SessionAnswer.TheVariants.{Joined, Full, Stranger, Broken, Done, Lock, Refused, Hold, Worn}
 use Rattle.sw_core.specs.Sessions.{SessionsSeen, IsJoined, IsLeastFree, fresh, with_seat}
-use Rattle.sw_core.specs.Seats.{asker_of}
-use Rattle.sw_core.proofs.Seating.{IsSound, seat_once}
+use Rattle.sw_core.specs.Seats.{asker_of, FindsKey}
+use Rattle.sw_core.proofs.Seating.{seat_once}
 use Rattle.sw_core.specs.Panel.{Panel, with_rack, is_running}
-use Rattle.sw_core.specs.Registers.{number_told, status_set, is_for_idle, waits_for_idle}
+use Rattle.sw_core.specs.Action.{Effect, TellsNumber, TellsText, TellsReadings, ReadsOut, SetsStatus, SetsUp, Closes, Opens, TellsRelays, Leaves}
+use Rattle.sw_core.specs.Action.{Resets, reset, Offers, Refuses, IsOfMacros, Initiates, Action, AtOnce, BetweenScans, AfterScan, action_of}
 use Rattle.sw_core.specs.Event.{concluded, last_number, next_number}
 use Rattle.sw_core.specs.View.{WorkView, AskView, AskSession, AskInstall, AskEject, AskExternal, AskElapsed, AskFinished, AnswerView, SaysSession, SaysInstalled, SaysNotInstalled, SaysEjected, SaysNotEjected, SaysFailed, SaysBack, SaysWorn}
-use Rattle.sw_core.specs.Step.{StepClose, StepOpen, StepFlags, StepText, StepDone, StepSetting, StepRefused, Deed, Tells, SetsUp, Leaves, Refuses, Closes, Opens, Flags, deed_of, StepDeed, StepFree, StepSet, StepNumber, StepAdmitted, StepAttach, StepNew, IsServed, drops, shuts_out}
-use Rattle.sw_core.specs.Step.{session_told, work_of, outside_told, started_answer, happening_of, StepHappens, StepOffer, StepCommand, RefusesScan, MayScan, snapshot_of, StepSnapshot, IsStarted, StepStart, StepJoin, StepJoined, StepSession, StepOutside, IsOut, IsReturned, StepFinished, Acts, acts_unnumbered, IsWorn, IsEvent, IsUnnumbered, Step}
-use Rattle.sw_core.specs.Run.{IsPlain}
+use Rattle.sw_core.specs.Step.{StepClose, StepOpen, StepFlags, StepText, StepDone, StepSetting, StepRefused, StepReadings, StepAlone, StepEffect, StepHeld, StepAction, StepAdmitted, StepAttach, StepNew, IsServed, drops, shuts_out}
+use Rattle.sw_core.specs.Step.{session_told, work_of, outside_told, started_answer, StepHappens, RefusesScan, MayScan, snapshot_of, StepSnapshot, IsStarted, StepStart, StepJoin, StepJoined, StepSession, StepOutside, IsOut, IsReturned, StepFinished, Acts, acts_unnumbered, IsWorn, IsEvent, IsUnnumbered, Step}
+use Rattle.sw_core.specs.Run.{IsPlain, KeepsKey}
 use Rattle.sw_core.proofs.Same.{sets_once}
 use Rattle.sw_core.proofs.Going.{happens_once, returns_once, starts_once}
 
@@ -111,26 +114,28 @@ refused_once : (p : Panel) (error : ScpiError) (f f' : Bool) (a a' : SessionAnsw
 refused_once p error f f' (Refused e) (Refused e') q q' h k = (ap Refused (h.1 ∙ sym k.1), both p q q' h.2 k.2)
 refused_once p error f f' a a' q q' h k = absurd (assumption (h, k))
 
-deed_once : (d : Deed) (p : Panel) (f f' : Bool) (a a' : SessionAnswer) (q q' : Panel) → IsPlain (SaysSession a None) → IsPlain (SaysSession a' None) → StepDeed d p f a q → StepDeed d p f' a' q' → IsOnce a a' q q'
-deed_once (Tells text status) p f f' a a' q q' n m h k = text_once p text status f f' a a' q q' n m h k
-deed_once (SetsUp Fits error setup) p f f' a a' q q' n m h k = setting_once p Fits error setup f f' a a' q q' h k
-deed_once (Leaves after) p f f' a a' q q' n m h k = done_once after f f' a a' q q' h k
-deed_once (Refuses error) p f f' a a' q q' n m h k = refused_once p error f f' a a' q q' h k
-deed_once (Closes chans) p f f' a a' q q' n m h k = close_once p chans f f' a a' q q' n m h k
-deed_once (Opens chans) p f f' a a' q q' n m h k = open_once p chans f f' a a' q q' n m h k
-deed_once (Flags closed chans) p f f' a a' q q' n m h k = flags_once p closed chans f f' a a' q q' n m h k
+readings_once : (l : List Reading) (p : Panel) (f f' : Bool) (a a' : SessionAnswer) (q q' : Panel)
+    → IsPlain (SaysSession a None) → IsPlain (SaysSession a' None) → StepReadings l p f a q → StepReadings l p f' a' q' → IsOnce a a' q q'
+readings_once [] p f f' a a' q q' n m h k = refused_once p DataCorruptOrStale f f' a a' q q' h k
+readings_once (r ∷ rs) p f f' a a' q q' n m h k = text_once p (join_with_byte 44 (map reading_text (r ∷ rs))) p.status f f' a a' q q' n m h k
 
-free_once : (b : Bool) (p : Panel) (command : Command) (f f' : Bool) (a a' : SessionAnswer) (q q' : Panel) → IsPlain (SaysSession a None) → IsPlain (SaysSession a' None) → StepFree b p command f a q → StepFree b p command f' a' q' → IsOnce a a' q q'
-free_once true p command f f' a a' q q' n m h k = refused_once p SettingsConflict f f' a a' q q' h k
-free_once false p command f f' a a' q q' n m h k = deed_once (deed_of p command) p f f' a a' q q' n m h k
-
-set_of_once : (o : Option StatusSeen) (p : Panel) (command : Command) (f f' : Bool) (a a' : SessionAnswer) (q q' : Panel) → IsPlain (SaysSession a None) → IsPlain (SaysSession a' None) → StepSet o p command f a q → StepSet o p command f' a' q' → IsOnce a a' q q'
-set_of_once (Some s) p command f f' a a' q q' n m h k = done_once (record p { status = s }) f f' a a' q q' h k
-set_of_once None p command f f' a a' q q' n m h k = free_once (is_running p && is_for_idle command) p command f f' a a' q q' n m h k
-
-number_once : (o : Option ℕ) (p : Panel) (command : Command) (f f' : Bool) (a a' : SessionAnswer) (q q' : Panel) → IsPlain (SaysSession a None) → IsPlain (SaysSession a' None) → StepNumber o p command f a q → StepNumber o p command f' a' q' → IsOnce a a' q q'
-number_once (Some x) p command f f' a a' q q' n m h k = text_once p (decimal x) p.status f f' a a' q q' n m h k
-number_once None p command f f' a a' q q' n m h k = set_of_once (status_set p.status command) p command f f' a a' q q' n m h k
+alone_once : (e : Effect) (p : Panel) (f f' : Bool) (a a' : SessionAnswer) (q q' : Panel)
+    → IsPlain (SaysSession a None) → IsPlain (SaysSession a' None) → StepAlone e p f a q → StepAlone e p f' a' q' → IsOnce a a' q q'
+alone_once (TellsNumber number) p f f' a a' q q' n m h k = text_once p (decimal (number p)) p.status f f' a a' q q' n m h k
+alone_once (TellsText text) p f f' a a' q q' n m h k = text_once p (text p) p.status f f' a a' q q' n m h k
+alone_once TellsReadings p f f' a a' q q' n m h k = readings_once p.cage.readings p f f' a a' q q' n m h k
+alone_once (ReadsOut text after) p f f' a a' q q' n m h k = text_once p (text p.status) (after p.status) f f' a a' q q' n m h k
+alone_once (SetsStatus after) p f f' a a' q q' n m h k = done_once (record p { status = after p.status }) f f' a a' q q' h k
+alone_once (SetsUp Fits error after) p f f' a a' q q' n m h k = setting_once p Fits error (after p.settings) f f' a a' q q' h k
+alone_once (Closes chans) p f f' a a' q q' n m h k = close_once p chans f f' a a' q q' n m h k
+alone_once (Opens chans) p f f' a a' q q' n m h k = open_once p chans f f' a a' q q' n m h k
+alone_once (TellsRelays closed chans) p f f' a a' q q' n m h k = flags_once p closed chans f f' a a' q q' n m h k
+alone_once (Leaves after) p f f' a a' q q' n m h k = done_once (after p) f f' a a' q q' h k
+alone_once Resets p f f' a a' q q' n m h k = done_once (reset p) f f' a a' q q' h k
+alone_once (Refuses error) p f f' a a' q q' n m h k = refused_once p error f f' a a' q q' h k
+alone_once IsOfMacros p f f' a a' q q' n m h k = refused_once p UndefinedHeader f f' a a' q q' h k
+alone_once Initiates p f f' a a' q q' n m h k = refused_once p UndefinedHeader f f' a a' q q' h k
+alone_once (Offers happening error) p f f' a a' q q' n m h k = absurd h
 
 -- ---- scans
 
@@ -139,7 +144,6 @@ IsAlike a a' w w' q q' = (a ≡ a') × (w ≡ w') × (q ≡ q')
 
 plain_any : (a : SessionAnswer) (w w' : Option WorkView) → IsPlain (SaysSession a w) → IsPlain (SaysSession a w')
 plain_any (Refused e) w w' h = h
-plain_any (Lock code) w w' h = h
 plain_any a w w' h = tt
 
 -- a plain answer tells of no card's failure
@@ -154,16 +158,38 @@ happening_once p happening error f f' a a' w w' q q' n m h k =
     let r = happens_once p q q' happening f f' h.told k.told h.happens k.happens (unbroken error a h.told n h.answer_is) (unbroken error a' k.told m k.answer_is) in
     (h.answer_is ∙ ap (λ (x : TakenSeen). session_told error x) r.0 ∙ sym k.answer_is, h.work_is ∙ ap (λ (x : TakenSeen). work_of x) r.0 ∙ sym k.work_is, r.1)
 
-offer_once : (o : Option (Happening × ScpiError)) (p : Panel) (answered : Bool) (command : Command) (f f' : Bool) (a a' : SessionAnswer) (w w' : Option WorkView) (q q' : Panel) → IsPlain (SaysSession a None) → IsPlain (SaysSession a' None) → StepOffer o p answered command f a w q → StepOffer o p answered command f' a' w' q' → IsAlike a a' w w' q q'
-offer_once (Some offer) p answered command f f' a a' w w' q q' n m h k = happening_once p offer.0 offer.1 f f' a a' w w' q q' n m h k
-offer_once None p answered command f f' a a' w w' q q' n m h k =
-    let r = number_once (number_told p answered command) p command f f' a a' q q' n m h.0 k.0 in
+effect_once : (e : Effect) (p : Panel) (f f' : Bool) (a a' : SessionAnswer) (w w' : Option WorkView) (q q' : Panel)
+    → IsPlain (SaysSession a None) → IsPlain (SaysSession a' None) → StepEffect e p f a w q → StepEffect e p f' a' w' q' → IsAlike a a' w w' q q'
+effect_once (Offers happening error) p f f' a a' w w' q q' n m h k = happening_once p happening error f f' a a' w w' q q' n m h k
+effect_once e p f f' a a' w w' q q' n m h k =
+    let r = alone_once e p f f' a a' q q' n m h.0 k.0 in
     (r.0, h.1 ∙ sym k.1, r.1)
 
-command_once : (b : Bool) (p : Panel) (ask : SessionAsk) (answered : Bool) (command : Command) (f f' : Bool) (a a' : SessionAnswer) (w w' : Option WorkView) (q q' : Panel) → IsPlain (SaysSession a None) → IsPlain (SaysSession a' None) → StepCommand b p ask answered command f a w q → StepCommand b p ask answered command f' a' w' q' → IsAlike a a' w w' q q'
-command_once true p ask answered command f f' (Hold x) (Hold y) None None q q' n m h k = (ap Hold (h.1 ∙ sym k.1), refl, both p q q' h.2 k.2)
-command_once true p ask answered command f f' a a' w w' q q' n m h k = absurd (assumption (h, k))
-command_once false p ask answered command f f' a a' w w' q q' n m h k = offer_once (happening_of command) p answered command f f' a a' w w' q q' n m h k
+held_once : (p : Panel) (ask : SessionAsk) (f f' : Bool) (a a' : SessionAnswer) (w w' : Option WorkView) (q q' : Panel)
+    → StepHeld p ask f a w q → StepHeld p ask f' a' w' q' → IsAlike a a' w w' q q'
+held_once p ask f f' (Hold x) (Hold y) None None q q' h k = (ap Hold (h.1 ∙ sym k.1), refl, both p q q' h.2 k.2)
+held_once p ask f f' a a' w w' q q' h k = absurd (assumption (h, k))
+
+-- what is so of two answers by one relation, and by another, is so by either
+either_alike : (b : Bool) (A B : SessionAnswer → Option WorkView → Panel → Type 0) (A' B' : SessionAnswer → Option WorkView → Panel → Type 0)
+    (a a' : SessionAnswer) (w w' : Option WorkView) (q q' : Panel) → (A a w q → A' a' w' q' → IsAlike a a' w w' q q')
+    → (B a w q → B' a' w' q' → IsAlike a a' w w' q q') → MatchBool b (A a w q) (B a w q) → MatchBool b (A' a' w' q') (B' a' w' q') → IsAlike a a' w w' q q'
+either_alike true A B A' B' a a' w w' q q' x y h k = x h k
+either_alike false A B A' B' a a' w w' q q' x y h k = y h k
+
+action_once : (x : Action) (p : Panel) (ask : SessionAsk) (f f' : Bool) (a a' : SessionAnswer) (w w' : Option WorkView) (q q' : Panel)
+    → IsPlain (SaysSession a None) → IsPlain (SaysSession a' None) → StepAction x p ask f a w q → StepAction x p ask f' a' w' q' → IsAlike a a' w w' q q'
+action_once (AtOnce e) p ask f f' a a' w w' q q' n m h k = effect_once e p f f' a a' w w' q q' n m h k
+action_once (BetweenScans e) p ask f f' a a' w w' q q' n m h k =
+    either_alike (is_running p) (λ a w q. StepRefused p SettingsConflict f a q × (w ≡ None)) (λ a w q. StepEffect e p f a w q)
+    (λ a w q. StepRefused p SettingsConflict f' a q × (w ≡ None)) (λ a w q. StepEffect e p f' a w q) a a' w w' q q'
+    (λ x y. (let r = refused_once p SettingsConflict f f' a a' q q' x.0 y.0 in (r.0, x.1 ∙ sym y.1, r.1)))
+    (λ x y. effect_once e p f f' a a' w w' q q' n m x y) h k
+action_once (AfterScan e) p ask f f' a a' w w' q q' n m h k =
+    either_alike (is_running p) (λ a w q. StepHeld p ask f a w q) (λ a w q. StepEffect e p f a w q)
+    (λ a w q. StepHeld p ask f' a w q) (λ a w q. StepEffect e p f' a w q) a a' w w' q q'
+    (λ x y. held_once p ask f f' a a' w w' q q' x y)
+    (λ x y. effect_once e p f f' a a' w w' q q' n m x y) h k
 
 -- no two refusals of a scan apply, nor one where a scan may begin
 refusal_once : (p : Panel) (e e' : ScpiError) → RefusesScan p e → RefusesScan p e' → e ≡ e'
@@ -273,14 +299,9 @@ join_once p f f' Full (Joined s) None None q q' h k = absurd (h.1 s.number k.1.f
 join_once p f f' Full Full None None q q' h k = (refl, refl, both p q q' h.2 k.2)
 join_once p f f' a a' w w' q q' h k = absurd (assumption (h, k))
 
--- what is plain tells of no error of a lock
-plain_sound : (a : SessionAnswer) → IsPlain (SaysSession a None) → IsSound a
-plain_sound (Lock code) n = n
-plain_sound a n = tt
-
-served_once : (p : Panel) (ask : SessionAsk) (f f' : Bool) (a a' : SessionAnswer) (q q' : Panel) → IsPlain (SaysSession a None) → IsPlain (SaysSession a' None) → IsServed p ask f a q → IsServed p ask f' a' q' → IsAlike a a' None None q q'
+served_once : (p : Panel) (ask : SessionAsk) (f f' : Bool) (a a' : SessionAnswer) (q q' : Panel) → FindsKey p.sessions ask a → FindsKey p.sessions ask a' → IsServed p ask f a q → IsServed p ask f' a' q' → IsAlike a a' None None q q'
 served_once p ask f f' a a' q q' n m h k =
-    let r = seat_once p.sessions ask a a' h.sessions k.sessions (plain_sound a n) (plain_sound a' m) h.served k.served in
+    let r = seat_once p.sessions ask a a' h.sessions k.sessions n m h.served k.served in
     (r.0, refl, h.after ∙ ap (λ (x : SessionsSeen). let y : Panel = record p { sessions = x } in y) r.1 ∙ sym k.after)
 
 -- an error is queued, and nothing else is answered
@@ -293,33 +314,32 @@ fault_none : (p : Panel) (sid : Sid) (e : ScpiError) (f : Bool) (a : SessionAnsw
 fault_none p sid e f (Done None) w q h = h
 fault_none p sid e f a w q h = h
 
-joined_once : (p : Panel) (ask : SessionAsk) (f f' : Bool) (a a' : SessionAnswer) (w w' : Option WorkView) (q q' : Panel) → IsPlain (SaysSession a None) → IsPlain (SaysSession a' None) → StepJoined p ask f a w q → StepJoined p ask f' a' w' q' → IsAlike a a' w w' q q'
-joined_once p (Ask.Fault sid e) f f' a a' None None q q' n m h k = fault_once p sid e f f' a a' q q' h k
-joined_once p (Ask.Fault sid e) f f' a a' (Some w) w' q q' n m h k = absurd (fault_none p sid e f a w q h)
-joined_once p (Ask.Fault sid e) f f' a a' None (Some w) q q' n m h k = absurd (fault_none p sid e f' a' w q' k)
-joined_once p (Ask.Unit sid command answered) f f' a a' w w' q q' n m h k = command_once (is_running p && waits_for_idle command) p (Ask.Unit sid command answered) answered command f f' a a' w w' q q' n m h k
-joined_once p (Ask.Bus sid) f f' a a' w w' q q' n m h k = happening_once p Bus TriggerIgnored f f' a a' w w' q q' n m h k
-joined_once p (Ask.Snapshot sid) f f' a a' None None q q' n m h k = let r = snapshot_once p f f' a a' q q' n m h k in (r.0, refl, r.1)
-joined_once p (Ask.Start sid plan) f f' a a' w w' q q' n m h k = start_once p plan f f' a a' w w' q q' n m h k
-joined_once p (Ask.Attached sid) f f' b b' None None q q' n m h k = served_once p (Ask.Attached sid) f f' b b' q q' n m h k
-joined_once p (Ask.Leave sid) f f' b b' None None q q' n m h k = served_once p (Ask.Leave sid) f f' b b' q q' n m h k
-joined_once p (Ask.Size sid size) f f' b b' None None q q' n m h k = served_once p (Ask.Size sid size) f f' b b' q q' n m h k
-joined_once p (Ask.MaxSize sid) f f' b b' None None q q' n m h k = served_once p (Ask.MaxSize sid) f f' b b' q q' n m h k
-joined_once p (Ask.Clear sid) f f' b b' None None q q' n m h k = served_once p (Ask.Clear sid) f f' b b' q q' n m h k
-joined_once p (Ask.Cleared sid) f f' b b' None None q q' n m h k = served_once p (Ask.Cleared sid) f f' b b' q q' n m h k
-joined_once p (Ask.Lock sid key) f f' b b' None None q q' n m h k = served_once p (Ask.Lock sid key) f f' b b' q q' n m h k
-joined_once p (Ask.Release sid) f f' b b' None None q q' n m h k = served_once p (Ask.Release sid) f f' b b' q q' n m h k
-joined_once p (Ask.LockInfo sid) f f' b b' None None q q' n m h k = served_once p (Ask.LockInfo sid) f f' b b' q q' n m h k
-joined_once p Ask.Join f f' a a' None None q q' n m h k = served_once p Ask.Join f f' a a' q q' n m h k
-joined_once p (Ask.Attach number) f f' a a' None None q q' n m h k = served_once p (Ask.Attach number) f f' a a' q q' n m h k
-joined_once p ask f f' a a' w w' q q' n m h k = absurd (assumption (h, k))
+joined_once : (p : Panel) (ask : SessionAsk) (f f' : Bool) (a a' : SessionAnswer) (w w' : Option WorkView) (q q' : Panel) → IsPlain (SaysSession a None) → IsPlain (SaysSession a' None) → FindsKey p.sessions ask a → FindsKey p.sessions ask a' → StepJoined p ask f a w q → StepJoined p ask f' a' w' q' → IsAlike a a' w w' q q'
+joined_once p (Ask.Fault sid e) f f' a a' None None q q' n m x y h k = fault_once p sid e f f' a a' q q' h k
+joined_once p (Ask.Fault sid e) f f' a a' (Some w) w' q q' n m x y h k = absurd (fault_none p sid e f a w q h)
+joined_once p (Ask.Fault sid e) f f' a a' None (Some w) q q' n m x y h k = absurd (fault_none p sid e f' a' w q' k)
+joined_once p (Ask.Unit sid command answered) f f' a a' w w' q q' n m x y h k = action_once (action_of answered command) p (Ask.Unit sid command answered) f f' a a' w w' q q' n m h k
+joined_once p (Ask.Bus sid) f f' a a' w w' q q' n m x y h k = happening_once p Bus TriggerIgnored f f' a a' w w' q q' n m h k
+joined_once p (Ask.Snapshot sid) f f' a a' None None q q' n m x y h k = let r = snapshot_once p f f' a a' q q' n m h k in (r.0, refl, r.1)
+joined_once p (Ask.Start sid plan) f f' a a' w w' q q' n m x y h k = start_once p plan f f' a a' w w' q q' n m h k
+joined_once p (Ask.Attached sid) f f' b b' None None q q' n m x y h k = served_once p (Ask.Attached sid) f f' b b' q q' x y h k
+joined_once p (Ask.Leave sid) f f' b b' None None q q' n m x y h k = served_once p (Ask.Leave sid) f f' b b' q q' x y h k
+joined_once p (Ask.Size sid size) f f' b b' None None q q' n m x y h k = served_once p (Ask.Size sid size) f f' b b' q q' x y h k
+joined_once p (Ask.MaxSize sid) f f' b b' None None q q' n m x y h k = served_once p (Ask.MaxSize sid) f f' b b' q q' x y h k
+joined_once p (Ask.Clear sid) f f' b b' None None q q' n m x y h k = served_once p (Ask.Clear sid) f f' b b' q q' x y h k
+joined_once p (Ask.Cleared sid) f f' b b' None None q q' n m x y h k = served_once p (Ask.Cleared sid) f f' b b' q q' x y h k
+joined_once p (Ask.Lock sid key) f f' b b' None None q q' n m x y h k = served_once p (Ask.Lock sid key) f f' b b' q q' x y h k
+joined_once p (Ask.Release sid) f f' b b' None None q q' n m x y h k = served_once p (Ask.Release sid) f f' b b' q q' x y h k
+joined_once p (Ask.LockInfo sid) f f' b b' None None q q' n m x y h k = served_once p (Ask.LockInfo sid) f f' b b' q q' x y h k
+joined_once p Ask.Join f f' a a' None None q q' n m x y h k = served_once p Ask.Join f f' a a' q q' x y h k
+joined_once p (Ask.Attach number) f f' a a' None None q q' n m x y h k = served_once p (Ask.Attach number) f f' a a' q q' x y h k
+joined_once p ask f f' a a' w w' q q' n m x y h k = absurd (assumption (h, k))
 
-admitted_once : (b o : Bool) (p : Panel) (ask : SessionAsk) (f f' : Bool) (a a' : SessionAnswer) (w w' : Option WorkView) (q q' : Panel) → IsPlain (SaysSession a None) → IsPlain (SaysSession a' None) → StepAdmitted b o p ask f a w q → StepAdmitted b o p ask f' a' w' q' → IsAlike a a' w w' q q'
-admitted_once true o p ask f f' Broken Broken None None q q' n m h k = (refl, refl, both p q q' h.1 k.1)
-admitted_once true o p ask f f' a a' w w' q q' n m h k = absurd (assumption (h, k))
-admitted_once false true p ask f f' (Hold x) (Hold y) None None q q' n m h k = (ap Hold (h.1 ∙ sym k.1), refl, both p q q' h.2 k.2)
-admitted_once false true p ask f f' a a' w w' q q' n m h k = absurd (assumption (h, k))
-admitted_once false false p ask f f' a a' w w' q q' n m h k = joined_once p ask f f' a a' w w' q q' n m h k
+admitted_once : (b o : Bool) (p : Panel) (ask : SessionAsk) (f f' : Bool) (a a' : SessionAnswer) (w w' : Option WorkView) (q q' : Panel) → IsPlain (SaysSession a None) → IsPlain (SaysSession a' None) → FindsKey p.sessions ask a → FindsKey p.sessions ask a' → StepAdmitted b o p ask f a w q → StepAdmitted b o p ask f' a' w' q' → IsAlike a a' w w' q q'
+admitted_once true o p ask f f' Broken Broken None None q q' n m x y h k = (refl, refl, both p q q' h.1 k.1)
+admitted_once true o p ask f f' a a' w w' q q' n m x y h k = absurd (assumption (h, k))
+admitted_once false true p ask f f' a a' w w' q q' n m x y h k = held_once p ask f f' a a' w w' q q' h k
+admitted_once false false p ask f f' a a' w w' q q' n m x y h k = joined_once p ask f f' a a' w w' q q' n m x y h k
 
 attach_once : (p : Panel) (number : ℕ) (f f' : Bool) (a a' : SessionAnswer) (w w' : Option WorkView) (q q' : Panel) → StepAttach p number f a w q → StepAttach p number f' a' w' q' → IsAlike a a' w w' q q'
 attach_once p number f f' (Joined s) (Joined t) None None q q' h k =
@@ -343,11 +363,11 @@ session_as : (p : Panel) (sid : Sid) (ask : SessionAsk) (f : Bool) (a : SessionA
 session_as p sid ask f Stranger None q h = inl (h.1, refl, refl, h.2)
 session_as p sid ask f a w q h = inr h
 
-session_once : (o : Option Sid) (p : Panel) (ask : SessionAsk) (f f' : Bool) (a a' : SessionAnswer) (w w' : Option WorkView) (q q' : Panel) → IsPlain (SaysSession a None) → IsPlain (SaysSession a' None) → StepSession o p ask f a w q → StepSession o p ask f' a' w' q' → IsAlike a a' w w' q q'
-session_once None p ask f f' a a' w w' q q' n m h k = new_once p ask f f' a a' w w' q q' h k
-session_once (Some sid) p ask f f' a a' w w' q q' n m h k = elim (session_as p sid ask f a w q h) [
+session_once : (o : Option Sid) (p : Panel) (ask : SessionAsk) (f f' : Bool) (a a' : SessionAnswer) (w w' : Option WorkView) (q q' : Panel) → IsPlain (SaysSession a None) → IsPlain (SaysSession a' None) → FindsKey p.sessions ask a → FindsKey p.sessions ask a' → StepSession o p ask f a w q → StepSession o p ask f' a' w' q' → IsAlike a a' w w' q q'
+session_once None p ask f f' a a' w w' q q' n m kx ky h k = new_once p ask f f' a a' w w' q q' h k
+session_once (Some sid) p ask f f' a a' w w' q q' n m kx ky h k = elim (session_as p sid ask f a w q h) [
   | inl x ↦ elim (session_as p sid ask f' a' w' q' k) [ inl y ↦ (x.1 ∙ sym y.1, x.2 ∙ sym y.2, both p q q' x.3 y.3) | inr y ↦ absurd (x.0 y.0) ]
-  | inr x ↦ elim (session_as p sid ask f' a' w' q' k) [ inl y ↦ absurd (y.0 x.0) | inr y ↦ admitted_once (drops p sid ask) (shuts_out p sid ask) p ask f f' a a' w w' q q' n m x.1 y.1 ]
+  | inr x ↦ elim (session_as p sid ask f' a' w' q' k) [ inl y ↦ absurd (y.0 x.0) | inr y ↦ admitted_once (drops p sid ask) (shuts_out p sid ask) p ask f f' a a' w w' q q' n m kx ky x.1 y.1 ]
 ]
 
 -- ---- what is no session's
@@ -434,28 +454,28 @@ eject_apart : (p : Panel) (slot : ℕ) (card : Account) (r : EjectRefusal) → s
 eject_apart p slot card Vacant home e h = rest_none p.cage.rack slot card e h.1
 eject_apart p slot card Out home e h = some_none (slot_at p.cage.out slot) h home
 
-acts_once : (p q q' : Panel) (ask : AskView) (f f' : Bool) (a a' : AnswerView) → Acts p ask f a q → Acts p ask f' a' q' → IsPlain a → IsPlain a' → (a ≡ a') × (q ≡ q')
-acts_once p q q' (AskSession ask) f f' (SaysSession a w) (SaysSession a' w') h k n m =
-    let r = session_once (asker_of ask) p ask f f' a a' w w' q q' (plain_any a w None n) (plain_any a' w' None m) h k in
+acts_once : (p q q' : Panel) (ask : AskView) (f f' : Bool) (a a' : AnswerView) → Acts p ask f a q → Acts p ask f' a' q' → IsPlain a → IsPlain a' → KeepsKey p ask a → KeepsKey p ask a' → (a ≡ a') × (q ≡ q')
+acts_once p q q' (AskSession ask) f f' (SaysSession a w) (SaysSession a' w') h k n m kx ky =
+    let r = session_once (asker_of ask) p ask f f' a a' w w' q q' (plain_any a w None n) (plain_any a' w' None m) kx ky h k in
     (ap (λ (x : SessionAnswer). SaysSession x w) r.0 ∙ ap (λ (x : Option WorkView). SaysSession a' x) r.1, r.2)
-acts_once p q q' (AskInstall slot card) f f' SaysInstalled SaysInstalled h k n m = (refl, h.4 ∙ sym k.4)
-acts_once p q q' (AskInstall slot card) f f' SaysInstalled (SaysNotInstalled r) h k n m = absurd (install_apart p slot card r h.1 h.2 h.3 k.1)
-acts_once p q q' (AskInstall slot card) f f' (SaysNotInstalled r) SaysInstalled h k n m = absurd (install_apart p slot card r k.1 k.2 k.3 h.1)
-acts_once p q q' (AskInstall slot card) f f' (SaysNotInstalled r) (SaysNotInstalled r') h k n m = (ap SaysNotInstalled (install_once p slot card r r' h.1 k.1), both p q q' h.2 k.2)
-acts_once p q q' (AskEject slot) f f' (SaysEjected c) (SaysEjected c') h k n m =
+acts_once p q q' (AskInstall slot card) f f' SaysInstalled SaysInstalled h k n m kx ky = (refl, h.4 ∙ sym k.4)
+acts_once p q q' (AskInstall slot card) f f' SaysInstalled (SaysNotInstalled r) h k n m kx ky = absurd (install_apart p slot card r h.1 h.2 h.3 k.1)
+acts_once p q q' (AskInstall slot card) f f' (SaysNotInstalled r) SaysInstalled h k n m kx ky = absurd (install_apart p slot card r k.1 k.2 k.3 h.1)
+acts_once p q q' (AskInstall slot card) f f' (SaysNotInstalled r) (SaysNotInstalled r') h k n m kx ky = (ap SaysNotInstalled (install_once p slot card r r' h.1 k.1), both p q q' h.2 k.2)
+acts_once p q q' (AskEject slot) f f' (SaysEjected c) (SaysEjected c') h k n m kx ky =
     let e : Some c ≡ Some c' = sym h.2 ∙ k.2 in
     (let d : c ≡ c' = cc in ap SaysEjected d, h.3 ∙ sym k.3)
-acts_once p q q' (AskEject slot) f f' (SaysEjected c) (SaysNotEjected r) h k n m = absurd (eject_apart p slot c r h.1 h.2 k.1)
-acts_once p q q' (AskEject slot) f f' (SaysNotEjected r) (SaysEjected c) h k n m = absurd (eject_apart p slot c r k.1 k.2 h.1)
-acts_once p q q' (AskEject slot) f f' (SaysNotEjected r) (SaysNotEjected r') h k n m = (ap SaysNotEjected (eject_once p slot r r' h.1 k.1), both p q q' h.2 k.2)
-acts_once p q q' AskExternal f f' a a' h k n m = outside_once p External f f' a a' q q' n m h k
-acts_once p q q' (AskElapsed ticket) f f' a a' h k n m = outside_once p (Elapsed ticket) f f' a a' q q' n m h k
-acts_once p q q' (AskFinished done) f f' a a' h k n m = finished_once p done f f' a a' q q' n m h k
-acts_once p q q' ask f f' a a' h k n m = absurd (assumption (h, k))
+acts_once p q q' (AskEject slot) f f' (SaysEjected c) (SaysNotEjected r) h k n m kx ky = absurd (eject_apart p slot c r h.1 h.2 k.1)
+acts_once p q q' (AskEject slot) f f' (SaysNotEjected r) (SaysEjected c) h k n m kx ky = absurd (eject_apart p slot c r k.1 k.2 h.1)
+acts_once p q q' (AskEject slot) f f' (SaysNotEjected r) (SaysNotEjected r') h k n m kx ky = (ap SaysNotEjected (eject_once p slot r r' h.1 k.1), both p q q' h.2 k.2)
+acts_once p q q' AskExternal f f' a a' h k n m kx ky = outside_once p External f f' a a' q q' n m h k
+acts_once p q q' (AskElapsed ticket) f f' a a' h k n m kx ky = outside_once p (Elapsed ticket) f f' a a' q q' n m h k
+acts_once p q q' (AskFinished done) f f' a a' h k n m kx ky = finished_once p done f f' a a' q q' n m h k
+acts_once p q q' ask f f' a a' h k n m kx ky = absurd (assumption (h, k))
 
-event_once : (p q q' : Panel) (ask : AskView) (f f' : Bool) (a a' : AnswerView) → IsEvent p ask f a q → IsEvent p ask f' a' q' → IsPlain a → IsPlain a' → (a ≡ a') × (q ≡ q')
-event_once p q q' ask f f' a a' h k n m =
-    let r = acts_once p h.done k.done ask f f' a a' h.acts k.acts n m in
+event_once : (p q q' : Panel) (ask : AskView) (f f' : Bool) (a a' : AnswerView) → IsEvent p ask f a q → IsEvent p ask f' a' q' → IsPlain a → IsPlain a' → KeepsKey p ask a → KeepsKey p ask a' → (a ≡ a') × (q ≡ q')
+event_once p q q' ask f f' a a' h k n m kx ky =
+    let r = acts_once p h.done k.done ask f f' a a' h.acts k.acts n m kx ky in
     (r.0, h.after ∙ ap (λ (x : Panel). concluded a x) r.1 ∙ ap (λ (b : AnswerView). concluded b k.done) r.0 ∙ sym k.after)
 
 worn_once : (ask : AskView) (a a' : AnswerView) → IsWorn ask a → IsWorn ask a' → a ≡ a'
@@ -467,9 +487,9 @@ worn_once (AskElapsed ticket) SaysWorn SaysWorn h k = refl
 worn_once (AskFinished done) SaysWorn SaysWorn h k = refl
 worn_once ask a a' h k = absurd (assumption (h, k))
 
-either_once : (b : Bool) (p q q' : Panel) (ask : AskView) (f f' : Bool) (a a' : AnswerView) → MatchBool b (IsUnnumbered p ask f a q) (IsEvent p ask f a q) → MatchBool b (IsUnnumbered p ask f' a' q') (IsEvent p ask f' a' q') → IsPlain a → IsPlain a' → (a ≡ a') × (q ≡ q')
-either_once true p q q' ask f f' a a' h k n m = (worn_once ask a a' h.worn k.worn, both p q q' h.same k.same)
-either_once false p q q' ask f f' a a' h k n m = event_once p q q' ask f f' a a' h k n m
+either_once : (b : Bool) (p q q' : Panel) (ask : AskView) (f f' : Bool) (a a' : AnswerView) → MatchBool b (IsUnnumbered p ask f a q) (IsEvent p ask f a q) → MatchBool b (IsUnnumbered p ask f' a' q') (IsEvent p ask f' a' q') → IsPlain a → IsPlain a' → KeepsKey p ask a → KeepsKey p ask a' → (a ≡ a') × (q ≡ q')
+either_once true p q q' ask f f' a a' h k n m kx ky = (worn_once ask a a' h.worn k.worn, both p q q' h.same k.same)
+either_once false p q q' ask f f' a a' h k n m kx ky = event_once p q q' ask f f' a a' h k n m kx ky
 
-pub step_once : (p q q' : Panel) (ask : AskView) (f f' : Bool) (a a' : AnswerView) → Step p ask f a q → Step p ask f' a' q' → IsPlain a → IsPlain a' → (a ≡ a') × (q ≡ q')
-step_once p q q' ask f f' a a' h k n m = either_once ((p.events == last_number) && not (acts_unnumbered ask)) p q q' ask f f' a a' h k n m
+pub step_once : (p q q' : Panel) (ask : AskView) (f f' : Bool) (a a' : AnswerView) → Step p ask f a q → Step p ask f' a' q' → IsPlain a → IsPlain a' → KeepsKey p ask a → KeepsKey p ask a' → (a ≡ a') × (q ≡ q')
+step_once p q q' ask f f' a a' h k n m kx ky = either_once ((p.events == last_number) && not (acts_unnumbered ask)) p q q' ask f f' a a' h k n m kx ky

@@ -1,6 +1,6 @@
 mod Rows
 mod Calls
-mod Deeds
+pub mod Answered
 mod Happened
 mod Numbered
 mod Same

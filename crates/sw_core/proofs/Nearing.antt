@@ -1,12 +1,14 @@
 -- Every happening that a scan takes leaves it one less to await, and the same closed at its end.
-use Rattle.std.proofs.Common.{◌≡◌, ℕ, suc, ◌+◌, ◌≤◌, ◌<◌, ◌==◌, ◌&&◌, not, Bool, true, false, List, [], ◌∷◌, ◌++◌, length, take, drop, Option, None, Some, is_some, Result, Ok, Err, ◌⊎◌, inl, inr, refl, ap, sym, subst, ◌∙◌, arith}
+use Rattle.std.proofs.Common.{◌≡◌, ℕ, suc, ◌+◌, ◌≤◌, ◌<◌, ◌==◌, ◌&&◌, not, Bool, true, false, List, [], ◌∷◌, ◌++◌, length, take, drop, Option, None, Some, is_some, Result, Ok, Err, ◌⊎◌, inl, inr, refl, ap, sym, subst, ◌∙◌, arith, map}
 use Rattle.std.specs.Prelude.{if◌then◌else◌, decimal, MatchBool, IfSome}
 use Rattle.std.proofs.lemmas.List.{take-append-drop}
+use Rattle.std.specs.List.{join_with_byte}
+use Rattle.sw_base.specs.Reading.{reading_text}
 use mathlib.Core.Path.{fun_ext}
 use Rattle.sw_base.specs.Layout.{Channel, slot_at}
 use Rattle.sw_base.specs.declared.reading.Reading.{Reading}
 use Rattle.sw_base.specs.declared.error.ScpiError.{ScpiError}
-use Rattle.sw_base.specs.declared.error.ScpiError.TheVariants.{OutOfMemory, TriggerIgnored, HardwareMissing, SettingsConflict, HardwareError}
+use Rattle.sw_base.specs.declared.error.ScpiError.TheVariants.{UndefinedHeader, DataCorruptOrStale, OutOfMemory, TriggerIgnored, HardwareMissing, SettingsConflict, HardwareError}
 use Rattle.sw_base.specs.declared.terms.LayerName.TheVariants as layer_name
 use Rattle.sw_card.specs.declared.board.CardFault.{CardFault}
 use Rattle.sw_lex.specs.declared.command.Command.{Command}
@@ -40,17 +42,18 @@ use Rattle.sw_core.specs.declared.ask.SessionAnswer.{SessionAnswer}
 use Rattle.sw_core.specs.declared.ask.SessionAnswer.TheVariants as answers
 use Rattle.sw_core.specs.declared.ask.SessionAnswer.TheVariants.{Joined, Full, Stranger, Broken, Done, Refused, Hold, Worn}
 use Rattle.sw_core.specs.Panel.{Panel, opening_at, is_running}
-use Rattle.sw_core.specs.Registers.{number_told, status_set, is_for_idle, waits_for_idle}
+use Rattle.sw_core.specs.Action.{Effect, TellsNumber, TellsText, TellsReadings, ReadsOut, SetsStatus, SetsUp, Closes, Opens, TellsRelays, Leaves}
+use Rattle.sw_core.specs.Action.{Resets, reset, Offers, Refuses, IsOfMacros, Initiates, Action, AtOnce, BetweenScans, AfterScan, action_of}
 use Rattle.sw_core.specs.Event.{concluded, session_concluded, last_number}
 use Rattle.sw_core.specs.Seats.{asker_of}
-use Rattle.sw_core.specs.Step.{StepClose, StepOpen, StepFlags, StepText, StepDone, StepSetting, StepRefused, Deed, Tells, SetsUp, Leaves, Refuses, Closes, Opens, Flags, fetched, switched, deed_of, StepDeed, StepFree, StepSet, StepNumber, Happens, session_told, happening_of, StepHappens, StepOffer, StepSnapshot, Starts, StepStart, started_answer, StepCommand, IsServed, StepJoined, StepAdmitted, drops, shuts_out, StepJoin, StepAttach, StepSession, outside_told, StepOutside, Returns, StepFinished, Acts, acts_unnumbered, IsWorn, IsEvent, IsUnnumbered, Step}
+use Rattle.sw_core.specs.Step.{StepClose, StepOpen, StepFlags, StepText, StepDone, StepSetting, StepRefused, StepReadings, StepAlone, StepEffect, StepHeld, StepAction, Happens, session_told, StepHappens, StepSnapshot, Starts, StepStart, started_answer, IsServed, StepJoined, StepAdmitted, drops, shuts_out, StepJoin, StepAttach, StepSession, outside_told, StepOutside, Returns, StepFinished, Acts, acts_unnumbered, IsWorn, IsEvent, IsUnnumbered, Step}
 use Rattle.sw_core.specs.Run.{Event, IsRun}
-use Rattle.sw_core.specs.Ends.{left_at, left_of, left_in, went_on, was_taken, took_command, took, taken_in, begins, BeginsNone, last_of, IsFollowing, EveryScanEnds}
+use Rattle.sw_core.specs.Ends.{left_at, left_of, left_in, went_on, was_taken, took_effect, took_command, took, taken_in, begins, BeginsNone, last_of, IsFollowing, EveryScanEnds}
 use Rattle.sw_cage.proofs.Racks.{some_slot, is_none}
 use Rattle.sw_cage.proofs.Runs.{closed_back}
 use Rattle.sw_cage.proofs.Among.{among_closed}
 use Rattle.sw_core.proofs.Kept.{IsKept, inside}
-use Rattle.sw_core.proofs.Safety.{IsFine, none_of, idle_of, step_fine, opening_fine_at}
+use Rattle.sw_core.proofs.Safety.{IsFine, none_of, step_fine, opening_fine_at}
 use Rattle.sw_core.proofs.Course.{drop_past, leaves, leaves_goes, Holds, SameClosed, same_rack, holds_same, holds_none, holds_goes, holds_on}
 use Rattle.sw_core.specs.View.{WorkView, AskView, AskSession, AskInstall, AskEject, AskExternal, AskElapsed, AskFinished, AnswerView, SaysSession, SaysInstalled, SaysNotInstalled, SaysEjected, SaysNotEjected, SaysTaken, SaysMissed, SaysFailed, SaysBack, SaysWorn}
 
@@ -181,7 +184,7 @@ near_returns p done f SaysFault q same h = near_counted p q done SaysFault p.cag
 
 -- ---- commands
 
--- a deed leaves the cage with the scan that there was, or no scan runs then
+-- a command leaves the cage with the scan that there was, or no scan runs then
 abbrev IsStill : Panel → Panel → Type 0
 IsStill p q = (q.cage ≡ p.cage) ⊎ (q.cage.scan ≡ None)
 
@@ -196,36 +199,93 @@ still_as p q e = inl (ap (λ (x : Panel). x.cage) e)
 still_idle : (p q : Panel) → p.cage.scan ≡ None → q.cage.scan ≡ p.cage.scan → IsStill p q
 still_idle p q i e = inr (e ∙ i)
 
-abbrev IsStillDeed : Panel → Deed → Type 0
-IsStillDeed p (Tells text status) = Unit {0}
-IsStillDeed p (SetsUp Fits error setup) = Unit {0}
-IsStillDeed p (Leaves after) = IsStill p after
-IsStillDeed p (Refuses error) = Unit {0}
-IsStillDeed p (Closes chans) = p.cage.scan ≡ None
-IsStillDeed p (Opens chans) = p.cage.scan ≡ None
-IsStillDeed p (Flags closed chans) = Unit {0}
+-- a happening that is refused is no card's failure
+abbrev IsStillEffect : Panel → Effect → Type 0
+IsStillEffect p (TellsNumber number) = Unit {0}
+IsStillEffect p (TellsText text) = Unit {0}
+IsStillEffect p TellsReadings = Unit {0}
+IsStillEffect p (ReadsOut text after) = Unit {0}
+IsStillEffect p (SetsStatus after) = Unit {0}
+IsStillEffect p (SetsUp Fits error after) = Unit {0}
+IsStillEffect p (Closes chans) = p.cage.scan ≡ None
+IsStillEffect p (Opens chans) = p.cage.scan ≡ None
+IsStillEffect p (TellsRelays closed chans) = Unit {0}
+IsStillEffect p (Leaves after) = IsStill p (after p)
+IsStillEffect p Resets = Unit {0}
+IsStillEffect p (Offers happening error) = went_on (Refused error) ≡ 0
+IsStillEffect p (Refuses error) = Unit {0}
+IsStillEffect p IsOfMacros = Unit {0}
+IsStillEffect p Initiates = Unit {0}
 
-still_fetched : (readings : List Reading) (status : StatusSeen) (p : Panel) → IsStillDeed p (fetched readings status)
-still_fetched [] status p = tt
-still_fetched (r ∷ readings) status p = tt
+abbrev IsStillAction : Panel → Action → Type 0
+IsStillAction p (AtOnce effect) = IsStillEffect p effect
+IsStillAction p (BetweenScans effect) = is_running p ≡ false → IsStillEffect p effect
+IsStillAction p (AfterScan effect) = IsStillEffect p effect
 
-still_switched : (on : Bool) (p : Panel) → IsStillDeed p (switched on p)
-still_switched true p = tt
-still_switched false p = inl refl
-
-still_command : (p : Panel) (command : Command) → (is_running p && is_for_idle command) ≡ false → IsStillDeed p (deed_of p command)
-still_command p Command.Fetch i = still_fetched p.cage.readings p.status p
-still_command p (Command.SetSource layer source) i = inl refl
-still_command p (Command.Close chans) i = none_of p (idle_of p i)
-still_command p (Command.Open chans) i = none_of p (idle_of p i)
-still_command p Command.OpenAll i = inr (none_of p (idle_of p i))
-still_command p Command.Abort i = inr refl
-still_command p Command.Reset i = inr refl
-still_command p Command.ClearStatus i = inl refl
-still_command p Command.OperationComplete i = inl refl
-still_command p Command.Wait i = inl refl
-still_command p (Command.InitiateContinuous on) i = still_switched on p
-still_command p command i = tt
+still_command : (p : Panel) (answered : Bool) (command : Command) → IsStillAction p (action_of answered command)
+still_command p answered Command.Identify = tt
+still_command p answered Command.Reset = tt
+still_command p answered Command.ClearStatus = inl refl
+still_command p answered (Command.EventEnable bits) = tt
+still_command p answered Command.EventEnableQuery = tt
+still_command p answered Command.EventQuery = tt
+still_command p answered (Command.ServiceEnable bits) = tt
+still_command p answered Command.ServiceEnableQuery = tt
+still_command p answered Command.StatusByteQuery = tt
+still_command p answered Command.OperationComplete = inl refl
+still_command p answered Command.OperationCompleteQuery = tt
+still_command p answered Command.Wait = inl refl
+still_command p answered Command.SelfTestQuery = tt
+still_command p answered Command.Trigger = refl
+still_command p answered (Command.DefineMacro label body) = tt
+still_command p answered (Command.MacroQuery label) = tt
+still_command p answered Command.MacroLabelsQuery = tt
+still_command p answered (Command.RemoveMacro label) = tt
+still_command p answered Command.PurgeMacros = tt
+still_command p answered (Command.EnableMacros on) = tt
+still_command p answered Command.EnableMacrosQuery = tt
+still_command p answered Command.Abort = inr refl
+still_command p answered Command.Initiate = tt
+still_command p answered (Command.InitiateContinuous true) = tt
+still_command p answered (Command.InitiateContinuous false) = inl refl
+still_command p answered Command.InitiateContinuousQuery = tt
+still_command p answered (Command.Count layer n) = λ i. tt
+still_command p answered (Command.CountQuery layer) = tt
+still_command p answered (Command.SetSource layer source) = λ i. inl refl
+still_command p answered (Command.SourceQuery layer) = tt
+still_command p answered (Command.Delay layer micros) = λ i. tt
+still_command p answered (Command.DelayQuery layer) = tt
+still_command p answered (Command.Signal layer_name.Trigger) = refl
+still_command p answered (Command.Signal layer_name.Arm1) = refl
+still_command p answered (Command.Signal layer_name.Arm2) = refl
+still_command p answered (Command.Close chans) = λ i. none_of p i
+still_command p answered (Command.CloseQuery chans) = tt
+still_command p answered Command.CloseState = tt
+still_command p answered (Command.Open chans) = λ i. none_of p i
+still_command p answered (Command.OpenQuery chans) = tt
+still_command p answered Command.OpenAll = λ i. inr (none_of p i)
+still_command p answered (Command.Scan chans) = λ i. tt
+still_command p answered Command.ScanQuery = tt
+still_command p answered (Command.ScanMeter slot) = λ i. tt
+still_command p answered Command.ScanMeterQuery = tt
+still_command p answered (Command.GroupEventQuery group) = tt
+still_command p answered (Command.GroupConditionQuery group) = tt
+still_command p answered (Command.GroupEnable group bits) = tt
+still_command p answered (Command.GroupEnableQuery group) = tt
+still_command p answered (Command.PositiveTransition group bits) = tt
+still_command p answered (Command.PositiveTransitionQuery group) = tt
+still_command p answered (Command.NegativeTransition group bits) = tt
+still_command p answered (Command.NegativeTransitionQuery group) = tt
+still_command p answered Command.Preset = tt
+still_command p answered Command.NextErrorQuery = tt
+still_command p answered Command.AllErrorsQuery = tt
+still_command p answered Command.ErrorCountQuery = tt
+still_command p answered Command.VersionQuery = tt
+still_command p answered (Command.Points n) = λ i. tt
+still_command p answered Command.PointsQuery = tt
+still_command p answered Command.ActualPointsQuery = tt
+still_command p answered Command.BoundQuery = tt
+still_command p answered Command.Fetch = tt
 
 still_close : (p : Panel) (chans : List Channel) (f : Bool) (a : SessionAnswer) (q : Panel) → p.cage.scan ≡ None → StepClose p chans f a q → IsStill p q
 still_close p chans f (Done None) q i h = still_idle p q i (ap (λ (x : Panel). x.cage.scan) h.3)
@@ -264,40 +324,28 @@ still_refused : (p : Panel) (error : ScpiError) (f : Bool) (a : SessionAnswer) (
 still_refused p error f (Refused e) q h = still_as p q h.2
 still_refused p error f a q h = absurd h
 
-still_deed : (d : Deed) (p : Panel) (f : Bool) (a : SessionAnswer) (q : Panel) → IsStillDeed p d → StepDeed d p f a q → IsStill p q
-still_deed (Tells text status) p f a q n h = still_text p text status f a q h
-still_deed (SetsUp Fits error setup) p f a q n h = still_setting p Fits error setup f a q h
-still_deed (Leaves after) p f a q n h = still_done p after f a q n h
-still_deed (Refuses error) p f a q n h = still_refused p error f a q h
-still_deed (Closes chans) p f a q n h = still_close p chans f a q n h
-still_deed (Opens chans) p f a q n h = still_open p chans f a q n h
-still_deed (Flags closed chans) p f a q n h = still_flags p closed chans f a q h
+still_readings : (l : List Reading) (p : Panel) (f : Bool) (a : SessionAnswer) (q : Panel) → StepReadings l p f a q → IsStill p q
+still_readings [] p f a q h = still_refused p DataCorruptOrStale f a q h
+still_readings (r ∷ rs) p f a q h = still_text p (join_with_byte 44 (map reading_text (r ∷ rs))) p.status f a q h
 
-still_free : (b : Bool) (p : Panel) (command : Command) (f : Bool) (a : SessionAnswer) (q : Panel) → (is_running p && is_for_idle command) ≡ b → StepFree b p command f a q → IsStill p q
-still_free true p command f a q i h = still_refused p SettingsConflict f a q h
-still_free false p command f a q i h = still_deed (deed_of p command) p f a q (still_command p command i) h
-
-still_set : (o : Option StatusSeen) (p : Panel) (command : Command) (f : Bool) (a : SessionAnswer) (q : Panel) → StepSet o p command f a q → IsStill p q
-still_set (Some status) p command f a q h = still_done p (record p { status = status }) f a q (inl refl) h
-still_set None p command f a q h = still_free (is_running p && is_for_idle command) p command f a q refl h
-
-still_number : (o : Option ℕ) (p : Panel) (command : Command) (f : Bool) (a : SessionAnswer) (q : Panel) → StepNumber o p command f a q → IsStill p q
-still_number (Some n) p command f a q h = still_text p (decimal n) p.status f a q h
-still_number None p command f a q h = still_set (status_set p.status command) p command f a q h
+still_alone : (d : Effect) (p : Panel) (f : Bool) (a : SessionAnswer) (q : Panel) → IsStillEffect p d → StepAlone d p f a q → IsStill p q
+still_alone (TellsNumber number) p f a q n h = still_text p (decimal (number p)) p.status f a q h
+still_alone (TellsText text) p f a q n h = still_text p (text p) p.status f a q h
+still_alone TellsReadings p f a q n h = still_readings p.cage.readings p f a q h
+still_alone (ReadsOut text after) p f a q n h = still_text p (text p.status) (after p.status) f a q h
+still_alone (SetsStatus after) p f a q n h = still_done p (record p { status = after p.status }) f a q (inl refl) h
+still_alone (SetsUp Fits error after) p f a q n h = still_setting p Fits error (after p.settings) f a q h
+still_alone (Closes chans) p f a q n h = still_close p chans f a q n h
+still_alone (Opens chans) p f a q n h = still_open p chans f a q n h
+still_alone (TellsRelays closed chans) p f a q n h = still_flags p closed chans f a q h
+still_alone (Leaves after) p f a q n h = still_done p (after p) f a q n h
+still_alone Resets p f a q n h = still_done p (reset p) f a q (inr refl) h
+still_alone (Refuses error) p f a q n h = still_refused p error f a q h
+still_alone IsOfMacros p f a q n h = still_refused p UndefinedHeader f a q h
+still_alone Initiates p f a q n h = still_refused p UndefinedHeader f a q h
+still_alone (Offers happening error) p f a q n h = absurd h
 
 -- ---- sessions
-
--- what is refused where no scan takes a happening is no card's failure
-abbrev IsQuiet : Option (Happening × ScpiError) → Type 0
-IsQuiet None = Unit {0}
-IsQuiet (Some offer) = went_on (Refused offer.1) ≡ 0
-
-quiet_of : (command : Command) → IsQuiet (happening_of command)
-quiet_of Command.Trigger = refl
-quiet_of (Command.Signal layer_name.Trigger) = refl
-quiet_of (Command.Signal layer_name.Arm1) = refl
-quiet_of (Command.Signal layer_name.Arm2) = refl
-quiet_of command = tt
 
 went_told : (error : ScpiError) (told : TakenSeen) → went_on (Refused error) ≡ 0 → went_on (session_told error told) ≡ of_taken told
 went_told error SaysIgnored q = q
@@ -310,19 +358,46 @@ went_told error SaysFault q = refl
 near_told : (p : Panel) (happening : Happening) (error : ScpiError) (f : Bool) (a : SessionAnswer) (w : Option WorkView) (q : Panel) → went_on (Refused error) ≡ 0 → StepHappens p happening error f a w q → Nears p (went_on a) q
 near_told p happening error f a w q quiet h = subst (λ (n : ℕ). Nears p n q) (sym (ap went_on h.answer_is ∙ went_told error h.told quiet)) (near_happens p happening f h.told q h.happens)
 
-near_offer : (o : Option (Happening × ScpiError)) (p : Panel) (answered : Bool) (command : Command) (f : Bool) (a : SessionAnswer) (w : Option WorkView) (q : Panel) → IsQuiet o → StepOffer o p answered command f a w q → Nears p (took_command o a) q
-near_offer (Some offer) p answered command f a w q quiet h = near_told p offer.0 offer.1 f a w q quiet h
-near_offer None p answered command f a w q quiet h = near_still p q (still_number (number_told p answered command) p command f a q h.0)
+near_effect : (d : Effect) (p : Panel) (f : Bool) (a : SessionAnswer) (w : Option WorkView) (q : Panel) → IsStillEffect p d → StepEffect d p f a w q → Nears p (took_effect d a) q
+near_effect (Offers happening error) p f a w q n h = near_told p happening error f a w q n h
+near_effect d p f a w q n h = near_still p q (still_alone d p f a q n h.0)
 
--- what is held is no happening
-near_held : (o : Option (Happening × ScpiError)) (ask : SessionAsk) (p q : Panel) → q ≡ p → Nears p (took_command o (Hold ask)) q
-near_held (Some offer) ask p q e = near_still p q (still_as p q e)
-near_held None ask p q e = near_still p q (still_as p q e)
+-- what is refused or held is not taken
+untaken : (d : Effect) (a : SessionAnswer) → went_on a ≡ 0 → took_effect d a ≡ 0
+untaken (Offers happening error) a e = e
+untaken d a e = refl
 
-near_command : (b : Bool) (p : Panel) (ask : SessionAsk) (answered : Bool) (command : Command) (f : Bool) (a : SessionAnswer) (w : Option WorkView) (q : Panel) → StepCommand b p ask answered command f a w q → Nears p (took_command (happening_of command) a) q
-near_command true p ask answered command f (Hold x) None q h = near_held (happening_of command) x p q h.2
-near_command true p ask answered command f a w q h = absurd h
-near_command false p ask answered command f a w q h = near_offer (happening_of command) p answered command f a w q (quiet_of command) h
+near_untaken : (d : Effect) (p : Panel) (a : SessionAnswer) (q : Panel) → went_on a ≡ 0 → IsStill p q → Nears p (took_effect d a) q
+near_untaken d p a q e s = subst (λ (k : ℕ). Nears p k q) (sym (untaken d a e)) (near_still p q s)
+
+near_refused : (d : Effect) (p : Panel) (f : Bool) (a : SessionAnswer) (q : Panel) → StepRefused p SettingsConflict f a q → Nears p (took_effect d a) q
+near_refused d p f (Refused e) q h = near_untaken d p (Refused e) q (ap (λ (x : ScpiError). went_on (Refused x)) h.1) (still_as p q h.2)
+near_refused d p f a q h = absurd h
+
+near_held : (d : Effect) (p : Panel) (ask : SessionAsk) (f : Bool) (a : SessionAnswer) (w : Option WorkView) (q : Panel) → StepHeld p ask f a w q → Nears p (took_effect d a) q
+near_held d p ask f (Hold x) None q h = near_untaken d p (Hold x) q refl (still_as p q h.2)
+near_held d p ask f a w q h = absurd h
+
+near_barred : (b : Bool) (d : Effect) (p : Panel) (f : Bool) (a : SessionAnswer) (w : Option WorkView) (q : Panel) → (b ≡ false → IsStillEffect p d)
+    → MatchBool b (StepRefused p SettingsConflict f a q × (w ≡ None)) (StepEffect d p f a w q) → Nears p (took_effect d a) q
+near_barred true d p f a w q n h = near_refused d p f a q h.0
+near_barred false d p f a w q n h = near_effect d p f a w q (n refl) h
+
+near_waiting : (b : Bool) (d : Effect) (p : Panel) (ask : SessionAsk) (f : Bool) (a : SessionAnswer) (w : Option WorkView) (q : Panel) → IsStillEffect p d
+    → MatchBool b (StepHeld p ask f a w q) (StepEffect d p f a w q) → Nears p (took_effect d a) q
+near_waiting true d p ask f a w q n h = near_held d p ask f a w q h
+near_waiting false d p ask f a w q n h = near_effect d p f a w q n h
+
+near_action : (x : Action) (p : Panel) (ask : SessionAsk) (f : Bool) (a : SessionAnswer) (w : Option WorkView) (q : Panel) → IsStillAction p x → StepAction x p ask f a w q → Nears p (took_command x a) q
+near_action (AtOnce d) p ask f a w q n h = near_effect d p f a w q n h
+near_action (BetweenScans d) p ask f a w q n h = near_barred (is_running p) d p f a w q n h
+near_action (AfterScan d) p ask f a w q n h = near_waiting (is_running p) d p ask f a w q n h
+
+-- nor is what takes none
+untaken_command : (x : Action) (a : SessionAnswer) → went_on a ≡ 0 → took_command x a ≡ 0
+untaken_command (AtOnce d) a e = untaken d a e
+untaken_command (BetweenScans d) a e = untaken d a e
+untaken_command (AfterScan d) a e = untaken d a e
 
 still_snapshot : (p : Panel) (f : Bool) (a : SessionAnswer) (q : Panel) → StepSnapshot p f a q → IsStill p q
 still_snapshot p f (answers.Snapshot s) q h = still_as p q h.3
@@ -352,7 +427,7 @@ served_still p ask f a q h = inl (ap (λ (x : Panel). x.cage) h.after)
 near_joined : (p : Panel) (ask : SessionAsk) (f : Bool) (a : SessionAnswer) (w : Option WorkView) (q : Panel) → begins (AskSession ask) (SaysSession a w) ≡ false → StepJoined p ask f a w q → Nears p (took (AskSession ask) (SaysSession a w)) q
 near_joined p (Ask.Fault sid e) f (Done None) None q n h = near_still p q (inl (ap (λ (x : Panel). x.cage) h.1))
 near_joined p (Ask.Fault sid e) f a None q n h = near_still p q (served_still p (Ask.Fault sid e) f a q h)
-near_joined p (Ask.Unit sid command answered) f a w q n h = near_command (is_running p && waits_for_idle command) p (Ask.Unit sid command answered) answered command f a w q h
+near_joined p (Ask.Unit sid command answered) f a w q n h = near_action (action_of answered command) p (Ask.Unit sid command answered) f a w q (still_command p answered command) h
 near_joined p (Ask.Bus sid) f a w q n h = near_told p Bus TriggerIgnored f a w q refl h
 near_joined p (Ask.Snapshot sid) f a None q n h = near_still p q (still_snapshot p f a q h)
 near_joined p (Ask.Start sid plan) f a w q n h = near_still p q (still_start p sid plan f a w q n h)
@@ -381,11 +456,7 @@ still_attach p number f a w q h = absurd h
 
 -- what a stranger asks, what is dropped and what is held is not taken
 took_none : (ask : SessionAsk) (a : SessionAnswer) (w : Option WorkView) → went_on a ≡ 0 → took (AskSession ask) (SaysSession a w) ≡ 0
-took_none (Ask.Unit sid command answered) a w n = none_of (happening_of command)
-  where
-    none_of : (o : Option (Happening × ScpiError)) → took_command o a ≡ 0
-    none_of None = refl
-    none_of (Some offer) = n
+took_none (Ask.Unit sid command answered) a w n = untaken_command (action_of answered command) a n
 took_none (Ask.Bus sid) a w n = n
 took_none ask a w n = refl
 
@@ -496,11 +567,7 @@ near_event p ask f a q k n h = near_as p h.done q (took ask a) (ap (λ (x : Pane
 
 -- what is handed back is not taken
 took_worn : (ask : AskView) (a : AnswerView) → IsWorn ask a → took ask a ≡ 0
-took_worn (AskSession (Ask.Unit sid command answered)) (SaysSession (Worn back) None) h = by_kind (happening_of command) back
-  where
-    by_kind : (o : Option (Happening × ScpiError)) (back : SessionAsk) → took_command o (Worn back) ≡ 0
-    by_kind None back = refl
-    by_kind (Some offer) back = refl
+took_worn (AskSession (Ask.Unit sid command answered)) (SaysSession (Worn back) None) h = untaken_command (action_of answered command) (Worn back) refl
 took_worn (AskSession (Ask.Bus sid)) (SaysSession (Worn back) None) h = refl
 took_worn (AskSession Ask.Join) (SaysSession (Worn back) None) h = refl
 took_worn (AskSession (Ask.Attach number)) (SaysSession (Worn back) None) h = refl

@@ -1,11 +1,13 @@
 -- What commands come to, in the words of who sends them.
-use Rattle.std.proofs.Common.{◌≡◌, ◌≢◌, ℕ, ◌-◌, ◌<◌, ◌≤◌, ◌==◌, ◌&&◌, not, Bool, true, false, List, length, Option, None, Some, slice_set, refl, sym, ◌∙◌, ap, subst, inl, inr}
+use Rattle.std.proofs.Common.{◌≡◌, ◌≢◌, ℕ, ◌-◌, ◌<◌, ◌≤◌, ◌==◌, ◌&&◌, not, Bool, true, false, List, length, Option, None, Some, slice_set, refl, sym, ◌∙◌, ap, subst, inl, inr, [], ◌∷◌, map}
 use Rattle.std.specs.Prelude.{if◌then◌else◌, decimal, MatchBool}
 use Rattle.std.proofs.lemmas.List.{length-map}
 use Rattle.sw_base.specs.Layout.{Channel}
 use Rattle.sw_base.specs.declared.error.ScpiError.{ScpiError}
-use Rattle.sw_base.specs.declared.error.ScpiError.TheVariants.{TriggerIgnored, ArmIgnored, HardwareMissing, SettingsConflict, HardwareError, OutOfMemory}
-use Rattle.sw_base.specs.declared.terms.LayerName.TheVariants.{Arm1, Arm2, Trigger}
+use Rattle.sw_base.specs.declared.error.ScpiError.TheVariants.{UndefinedHeader, DataCorruptOrStale, TriggerIgnored, HardwareMissing, SettingsConflict, HardwareError, OutOfMemory}
+use Rattle.std.specs.List.{join_with_byte}
+use Rattle.sw_base.specs.Reading.{reading_text}
+use Rattle.sw_base.specs.declared.reading.Reading.{Reading}
 use Rattle.sw_card.specs.Account.{Account, closed_at}
 use Rattle.sw_lex.specs.declared.command.Command.{Command}
 use Rattle.sw_verify.specs.declared.snapshot.Snapshot.{Snapshot}
@@ -25,14 +27,16 @@ use Rattle.sw_core.specs.declared.ask.SessionAsk.TheVariants as Ask
 use Rattle.sw_core.specs.declared.ask.SessionAnswer.{SessionAnswer}
 use Rattle.sw_core.specs.declared.ask.SessionAnswer.TheVariants.{Done, Refused}
 use Rattle.sw_core.specs.Panel.{Panel, is_running}
-use Rattle.sw_core.specs.Registers.{number_told, status_set, is_for_idle, waits_for_idle, alarmed}
+use Rattle.sw_core.specs.Action.{Effect, TellsNumber, TellsText, TellsReadings, ReadsOut, SetsStatus, SetsUp, Closes, Opens, TellsRelays, Leaves}
+use Rattle.sw_core.specs.Action.{Resets, Offers, Refuses, IsOfMacros, Initiates, Action, AtOnce, BetweenScans, AfterScan, action_of}
+use Rattle.sw_core.specs.Registers.{alarmed}
 use Rattle.sw_core.specs.Event.{ended, erred, last_number}
 use Rattle.sw_core.specs.View.{WorkView, AskView, AskSession, AskInstall, AskEject, AskExternal, AskElapsed, AskFinished, AnswerView, SaysSession, SaysEjected}
 use Rattle.sw_core.specs.Seats.{asker_of}
-use Rattle.sw_core.specs.Step.{Falls, StepClose, StepOpen, StepFlags, StepText, Deed, Tells, SetsUp, Leaves, Refuses, Closes, Opens, Flags, deed_of, StepDeed, StepFree, StepSet, StepNumber}
-use Rattle.sw_core.specs.Step.{Happens, session_told, happening_of, StepOffer, StepCommand, StepSnapshot, StepStart, started_answer, Starts, outside_told, StepJoined, StepAdmitted, StepNew, drops, shuts_out, StepSession, Acts, acts_unnumbered, IsWorn, IsEvent, IsUnnumbered, Step}
+use Rattle.sw_core.specs.Step.{Falls, StepClose, StepOpen, StepFlags, StepText, StepRefused, StepReadings, StepAlone, StepEffect, StepHeld, StepAction}
+use Rattle.sw_core.specs.Step.{Happens, session_told, StepSnapshot, StepStart, started_answer, Starts, outside_told, StepJoined, StepAdmitted, StepNew, drops, shuts_out, StepSession, Acts, acts_unnumbered, IsWorn, IsEvent, IsUnnumbered, Step}
 use Rattle.sw_core.specs.Run.{IsAlarmed, IsAtRest}
-use Rattle.sw_core.proofs.Safety.{IsHarmless, harmless, rest_closed, rest_slot}
+use Rattle.sw_core.proofs.Safety.{IsHarmless, IsHarmlessAction, harmless, rest_closed, rest_slot}
 
 -- an answer that hands nothing back is an event's
 event_if : (b : Bool) (p : Panel) (ask : AskView) (f : Bool) (a : AnswerView) (q : Panel) → (IsWorn ask a → ⊥) → MatchBool b (IsUnnumbered p ask f a q) (IsEvent p ask f a q) → IsEvent p ask f a q
@@ -42,43 +46,47 @@ event_if false p ask f a q n h = h
 event_of : (p : Panel) (ask : AskView) (f : Bool) (a : AnswerView) (q : Panel) → (IsWorn ask a → ⊥) → Step p ask f a q → IsEvent p ask f a q
 event_of p ask f a q n h = event_if ((p.events == last_number) && not (acts_unnumbered ask)) p ask f a q n h
 
-not_held : (b : Bool) (p : Panel) (ask : SessionAsk) (answered : Bool) (command : Command) (f : Bool) (t : _) (w : Option WorkView) (q : Panel) → StepCommand b p ask answered command f (Done t) w q → StepOffer (happening_of command) p answered command f (Done t) w q
-not_held true p ask answered command f t w q h = absurd h
-not_held false p ask answered command f t w q h = h
-
 -- what is done was neither dropped nor held
 not_kept_out : (b o : Bool) (p : Panel) (ask : SessionAsk) (f : Bool) (t : _) (w : Option WorkView) (q : Panel) → StepAdmitted b o p ask f (Done t) w q → StepJoined p ask f (Done t) w q
 not_kept_out true o p ask f t w q h = absurd h
 not_kept_out false true p ask f t w q h = absurd h
 not_kept_out false false p ask f t w q h = h
 
-not_barred : (b : Bool) (p : Panel) (command : Command) (f : Bool) (t : _) (q : Panel) → StepFree b p command f (Done t) q → StepDeed (deed_of p command) p f (Done t) q
-not_barred true p command f t q h = absurd h
-not_barred false p command f t q h = h
+-- a command that is done was not refused for a scan
+not_barred : (b : Bool) (p : Panel) (effect : Effect) (f : Bool) (t : _) (w : Option WorkView) (q : Panel)
+    → MatchBool b (StepRefused p SettingsConflict f (Done t) q × (w ≡ None)) (StepEffect effect p f (Done t) w q) → StepEffect effect p f (Done t) w q
+not_barred true p effect f t w q h = absurd h.0
+not_barred false p effect f t w q h = h
+
+-- what a joined session is answered that its command is done
+done_of : (p : Panel) (sid : Sid) (command : Command) (answered f : Bool) (q : Panel) (e : IsEvent p (AskSession (Ask.Unit sid command answered)) f (SaysSession (Done None) None) q)
+    → StepAction (action_of answered command) p (Ask.Unit sid command answered) f (Done None) None e.done
+done_of p sid command answered f q e =
+    not_kept_out (drops p sid (Ask.Unit sid command answered)) (shuts_out p sid (Ask.Unit sid command answered)) p (Ask.Unit sid command answered) f None None e.done e.acts.1
 
 pub closes : (p q : Panel) (sid : Sid) (chans : List Channel) (answered failed : Bool) → Step p (AskSession (Ask.Unit sid (Command.Close chans) answered)) failed (SaysSession (Done None) None) q → (c : Channel) → is_in chans c ≡ true → is_closed q.cage.rack c ≡ true
 closes p q sid chans answered failed h c i =
     let e = event_of p (AskSession (Ask.Unit sid (Command.Close chans) answered)) failed (SaysSession (Done None) None) q (λ w. w) h in
-    let d = not_barred (is_running p && true) p (Command.Close chans) failed None e.done (not_held (is_running p && false) p (Ask.Unit sid (Command.Close chans) answered) answered (Command.Close chans) failed None None e.done (not_kept_out (drops p sid (Ask.Unit sid (Command.Close chans) answered)) (shuts_out p sid (Ask.Unit sid (Command.Close chans) answered)) p (Ask.Unit sid (Command.Close chans) answered) failed None None e.done e.acts.1)).0 in
+    let d = (not_barred (is_running p) p (Closes chans) failed None None e.done (done_of p sid (Command.Close chans) answered failed q e)).0 in
     ap (λ (x : Panel). is_closed x.cage.rack c) e.after ∙ d.2.closed c ∙ ap (λ (b : Bool). if b then true else is_closed p.cage.rack c) i
 
 pub opens : (p q : Panel) (sid : Sid) (chans : List Channel) (answered failed : Bool) → Step p (AskSession (Ask.Unit sid (Command.Open chans) answered)) failed (SaysSession (Done None) None) q → (c : Channel) → is_in chans c ≡ true → is_closed q.cage.rack c ≡ false
 opens p q sid chans answered failed h c i =
     let e = event_of p (AskSession (Ask.Unit sid (Command.Open chans) answered)) failed (SaysSession (Done None) None) q (λ w. w) h in
-    let d = not_barred (is_running p && true) p (Command.Open chans) failed None e.done (not_held (is_running p && false) p (Ask.Unit sid (Command.Open chans) answered) answered (Command.Open chans) failed None None e.done (not_kept_out (drops p sid (Ask.Unit sid (Command.Open chans) answered)) (shuts_out p sid (Ask.Unit sid (Command.Open chans) answered)) p (Ask.Unit sid (Command.Open chans) answered) failed None None e.done e.acts.1)).0 in
+    let d = (not_barred (is_running p) p (Opens chans) failed None None e.done (done_of p sid (Command.Open chans) answered failed q e)).0 in
     ap (λ (x : Panel). is_closed x.cage.rack c) e.after ∙ d.2.closed c ∙ ap (λ (b : Bool). if b then false else is_closed p.cage.rack c) i
 
 pub aborted : (p q : Panel) (sid : Sid) (answered failed : Bool) → Step p (AskSession (Ask.Unit sid Command.Abort answered)) failed (SaysSession (Done None) None) q → IsAtRest q
 aborted p q sid answered failed h =
     let e = event_of p (AskSession (Ask.Unit sid Command.Abort answered)) failed (SaysSession (Done None) None) q (λ w. w) h in
-    let d = not_barred (is_running p && false) p Command.Abort failed None e.done (not_held (is_running p && false) p (Ask.Unit sid Command.Abort answered) answered Command.Abort failed None None e.done (not_kept_out (drops p sid (Ask.Unit sid Command.Abort answered)) (shuts_out p sid (Ask.Unit sid Command.Abort answered)) p (Ask.Unit sid Command.Abort answered) failed None None e.done e.acts.1)).0 in
+    let d = (done_of p sid Command.Abort answered failed q e).0 in
     let cage = ap (λ (x : Panel). x.cage) e.after ∙ ap (λ (x : Panel). x.cage) d.1 in
     record { none = λ c. ap (λ (x : CageSeen). is_closed x.rack c) cage ∙ all_open_closed p.cage.rack c; idle = ap (λ (x : CageSeen). x.scan) cage }
 
 pub reset : (p q : Panel) (sid : Sid) (answered failed : Bool) → Step p (AskSession (Ask.Unit sid Command.Reset answered)) failed (SaysSession (Done None) None) q → IsAtRest q
 reset p q sid answered failed h =
     let e = event_of p (AskSession (Ask.Unit sid Command.Reset answered)) failed (SaysSession (Done None) None) q (λ w. w) h in
-    let d = not_barred (is_running p && false) p Command.Reset failed None e.done (not_held (is_running p && false) p (Ask.Unit sid Command.Reset answered) answered Command.Reset failed None None e.done (not_kept_out (drops p sid (Ask.Unit sid Command.Reset answered)) (shuts_out p sid (Ask.Unit sid Command.Reset answered)) p (Ask.Unit sid Command.Reset answered) failed None None e.done e.acts.1)).0 in
+    let d = (done_of p sid Command.Reset answered failed q e).0 in
     let cage = ap (λ (x : Panel). x.cage) e.after ∙ ap (λ (x : Panel). x.cage) d.1 in
     record { none = λ c. ap (λ (x : CageSeen). is_closed x.rack c) cage ∙ all_open_closed p.cage.rack c; idle = ap (λ (x : CageSeen). x.scan) cage }
 
@@ -135,26 +143,26 @@ text_quiet : (p : Panel) (text : List ℕ) (status : StatusSeen) (f : Bool) (e :
 text_quiet p text status f OutOfMemory q h = h.1
 text_quiet p text status f e q h = absurd h
 
-deed_quiet : (d : Deed) (p : Panel) (f : Bool) (e : ScpiError) (q : Panel) → StepDeed d p f (Refused e) q → IsQuiet p e q
-deed_quiet (Tells text status) p f e q h n = text_quiet p text status f e q h
-deed_quiet (SetsUp Fits error setup) p f e q h n = h.3
-deed_quiet (Leaves after) p f e q h n = absurd h
-deed_quiet (Refuses error) p f e q h n = h.2
-deed_quiet (Closes chans) p f e q h n = close_quiet p chans f e q h n
-deed_quiet (Opens chans) p f e q h n = open_quiet p chans f e q h n
-deed_quiet (Flags closed chans) p f e q h n = flags_quiet p closed chans f e q h
+readings_quiet : (l : List Reading) (p : Panel) (f : Bool) (e : ScpiError) (q : Panel) → StepReadings l p f (Refused e) q → q ≡ p
+readings_quiet [] p f e q h = h.2
+readings_quiet (r ∷ rs) p f e q h = text_quiet p (join_with_byte 44 (map reading_text (r ∷ rs))) p.status f e q h
 
-free_quiet : (b : Bool) (p : Panel) (command : Command) (f : Bool) (e : ScpiError) (q : Panel) → StepFree b p command f (Refused e) q → IsQuiet p e q
-free_quiet true p command f e q h n = h.2
-free_quiet false p command f e q h n = deed_quiet (deed_of p command) p f e q h n
-
-set_quiet : (o : Option StatusSeen) (p : Panel) (command : Command) (f : Bool) (e : ScpiError) (q : Panel) → StepSet o p command f (Refused e) q → IsQuiet p e q
-set_quiet (Some status) p command f e q h n = absurd h
-set_quiet None p command f e q h n = free_quiet (is_running p && is_for_idle command) p command f e q h n
-
-number_quiet : (o : Option ℕ) (p : Panel) (command : Command) (f : Bool) (e : ScpiError) (q : Panel) → StepNumber o p command f (Refused e) q → IsQuiet p e q
-number_quiet (Some m) p command f e q h n = text_quiet p (decimal m) p.status f e q h
-number_quiet None p command f e q h n = set_quiet (status_set p.status command) p command f e q h n
+alone_quiet : (d : Effect) (p : Panel) (f : Bool) (e : ScpiError) (q : Panel) → StepAlone d p f (Refused e) q → IsQuiet p e q
+alone_quiet (TellsNumber number) p f e q h n = text_quiet p (decimal (number p)) p.status f e q h
+alone_quiet (TellsText text) p f e q h n = text_quiet p (text p) p.status f e q h
+alone_quiet TellsReadings p f e q h n = readings_quiet p.cage.readings p f e q h
+alone_quiet (ReadsOut text after) p f e q h n = text_quiet p (text p.status) (after p.status) f e q h
+alone_quiet (SetsStatus after) p f e q h n = absurd h
+alone_quiet (SetsUp Fits error after) p f e q h n = h.3
+alone_quiet (Closes chans) p f e q h n = close_quiet p chans f e q h n
+alone_quiet (Opens chans) p f e q h n = open_quiet p chans f e q h n
+alone_quiet (TellsRelays closed chans) p f e q h n = flags_quiet p closed chans f e q h
+alone_quiet (Leaves after) p f e q h n = absurd h
+alone_quiet Resets p f e q h n = absurd h
+alone_quiet (Refuses error) p f e q h n = h.2
+alone_quiet IsOfMacros p f e q h n = h.2
+alone_quiet Initiates p f e q h n = h.2
+alone_quiet (Offers happening error) p f e q h n = absurd h
 
 told_quiet : (p : Panel) (happening : Happening) (error : ScpiError) (f : Bool) (e : ScpiError) (told : TakenSeen) (q : Panel) → Refused e ≡ session_told error told → Happens p happening f told q → IsQuiet p e q
 told_quiet p happening error f e SaysIgnored q a h n = h.2
@@ -164,13 +172,24 @@ told_quiet p happening error f e (SaysPause t u) q a h n = absurd (cc (a))
 told_quiet p happening error f e (SaysJob j) q a h n = absurd (cc (a))
 told_quiet p happening error f e SaysEnded q a h n = absurd (cc (a))
 
-offer_quiet : (o : Option (Happening × ScpiError)) (p : Panel) (answered : Bool) (command : Command) (f : Bool) (e : ScpiError) (w : Option WorkView) (q : Panel) → StepOffer o p answered command f (Refused e) w q → IsQuiet p e q
-offer_quiet (Some offer) p answered command f e w q h n = told_quiet p offer.0 offer.1 f e h.told q h.answer_is h.happens n
-offer_quiet None p answered command f e w q h n = number_quiet (number_told p answered command) p command f e q h.0 n
+effect_quiet : (d : Effect) (p : Panel) (f : Bool) (e : ScpiError) (w : Option WorkView) (q : Panel) → StepEffect d p f (Refused e) w q → IsQuiet p e q
+effect_quiet (Offers happening error) p f e w q h n = told_quiet p happening error f e h.told q h.answer_is h.happens n
+effect_quiet d p f e w q h n = alone_quiet d p f e q h.0 n
 
-command_quiet : (b : Bool) (p : Panel) (ask : SessionAsk) (answered : Bool) (command : Command) (f : Bool) (e : ScpiError) (w : Option WorkView) (q : Panel) → StepCommand b p ask answered command f (Refused e) w q → IsQuiet p e q
-command_quiet true p ask answered command f e w q h n = absurd h
-command_quiet false p ask answered command f e w q h n = offer_quiet (happening_of command) p answered command f e w q h n
+barred_quiet : (b : Bool) (d : Effect) (p : Panel) (f : Bool) (e : ScpiError) (w : Option WorkView) (q : Panel)
+    → MatchBool b (StepRefused p SettingsConflict f (Refused e) q × (w ≡ None)) (StepEffect d p f (Refused e) w q) → IsQuiet p e q
+barred_quiet true d p f e w q h n = h.0.2
+barred_quiet false d p f e w q h n = effect_quiet d p f e w q h n
+
+held_quiet : (b : Bool) (d : Effect) (p : Panel) (ask : SessionAsk) (f : Bool) (e : ScpiError) (w : Option WorkView) (q : Panel)
+    → MatchBool b (StepHeld p ask f (Refused e) w q) (StepEffect d p f (Refused e) w q) → IsQuiet p e q
+held_quiet true d p ask f e w q h n = absurd h
+held_quiet false d p ask f e w q h n = effect_quiet d p f e w q h n
+
+action_quiet : (x : Action) (p : Panel) (ask : SessionAsk) (f : Bool) (e : ScpiError) (w : Option WorkView) (q : Panel) → StepAction x p ask f (Refused e) w q → IsQuiet p e q
+action_quiet (AtOnce d) p ask f e w q h n = effect_quiet d p f e w q h n
+action_quiet (BetweenScans d) p ask f e w q h n = barred_quiet (is_running p) d p f e w q h n
+action_quiet (AfterScan d) p ask f e w q h n = held_quiet (is_running p) d p ask f e w q h n
 
 snapshot_quiet : (p : Panel) (f : Bool) (e : ScpiError) (q : Panel) → StepSnapshot p f (Refused e) q → q ≡ p
 snapshot_quiet p f OutOfMemory q h = h.2
@@ -183,7 +202,7 @@ start_quiet p plan f SettingsConflict q h n = h.2
 start_quiet p plan f e q h n = h.2
 
 joined_quiet : (p : Panel) (ask : SessionAsk) (f : Bool) (e : ScpiError) (q : Panel) → StepJoined p ask f (Refused e) None q → IsQuiet p e q
-joined_quiet p (Ask.Unit sid command answered) f e q h n = command_quiet (is_running p && waits_for_idle command) p (Ask.Unit sid command answered) answered command f e None q h n
+joined_quiet p (Ask.Unit sid command answered) f e q h n = action_quiet (action_of answered command) p (Ask.Unit sid command answered) f e None q h n
 joined_quiet p (Ask.Bus sid) f e q h n = told_quiet p Bus TriggerIgnored f e h.told q h.answer_is h.happens n
 joined_quiet p (Ask.Snapshot sid) f e q h n = snapshot_quiet p f e q h
 joined_quiet p (Ask.Start sid plan) f e q h n = start_quiet p plan f e q h n
@@ -245,26 +264,29 @@ pub record IsDown (p q : Panel) : Type 0 where
 falls_down : (p q : Panel) → is_running p ≡ false → Falls p q → IsDown p q
 falls_down p q idle f = record { none = f.0.none; idle = ap (λ (x : Panel). x.cage.scan) f.1 ∙ is_none p.cage.scan idle; status = ap (λ (x : Panel). x.status) f.1 }
 
-deed_down : (d : Deed) (p : Panel) (f : Bool) (q : Panel) → IsHarmless p d → StepDeed d p f (Refused HardwareError) q → IsDown p q
-deed_down (Tells text status) p f q n h = absurd h
-deed_down (SetsUp Fits error setup) p f q n h = absurd (n.1 (sym h.2))
-deed_down (Leaves after) p f q n h = absurd h
-deed_down (Refuses error) p f q n h = absurd (n (sym h.1))
-deed_down (Closes chans) p f q n h = falls_down p q n h.2
-deed_down (Opens chans) p f q n h = falls_down p q n h.2
-deed_down (Flags closed chans) p f q n h = absurd h
+readings_down : (l : List Reading) (p : Panel) (f : Bool) (q : Panel) → StepReadings l p f (Refused HardwareError) q → IsDown p q
+readings_down [] p f q h = absurd (let x : HardwareError ≡ DataCorruptOrStale = h.1 in cc (x))
+readings_down (r ∷ rs) p f q h = absurd h
 
-free_down : (b : Bool) (p : Panel) (command : Command) (f : Bool) (q : Panel) → (is_running p && is_for_idle command) ≡ b → StepFree b p command f (Refused HardwareError) q → IsDown p q
-free_down true p command f q e h = absurd (let x : HardwareError ≡ SettingsConflict = h.1 in cc (x))
-free_down false p command f q e h = deed_down (deed_of p command) p f q (harmless p command e) h
+undefined_down : (p : Panel) (f : Bool) (q : Panel) → StepRefused p UndefinedHeader f (Refused HardwareError) q → IsDown p q
+undefined_down p f q h = absurd (let x : HardwareError ≡ UndefinedHeader = h.1 in cc (x))
 
-set_down : (o : Option StatusSeen) (p : Panel) (command : Command) (f : Bool) (q : Panel) → StepSet o p command f (Refused HardwareError) q → IsDown p q
-set_down (Some status) p command f q h = absurd h
-set_down None p command f q h = free_down (is_running p && is_for_idle command) p command f q refl h
-
-number_down : (o : Option ℕ) (p : Panel) (command : Command) (f : Bool) (q : Panel) → StepNumber o p command f (Refused HardwareError) q → IsDown p q
-number_down (Some m) p command f q h = absurd h
-number_down None p command f q h = set_down (status_set p.status command) p command f q h
+alone_down : (d : Effect) (p : Panel) (f : Bool) (q : Panel) → IsHarmless p d → StepAlone d p f (Refused HardwareError) q → IsDown p q
+alone_down (TellsNumber number) p f q n h = absurd h
+alone_down (TellsText text) p f q n h = absurd h
+alone_down TellsReadings p f q n h = readings_down p.cage.readings p f q h
+alone_down (ReadsOut text after) p f q n h = absurd h
+alone_down (SetsStatus after) p f q n h = absurd h
+alone_down (SetsUp Fits error after) p f q n h = absurd (n.1 (sym h.2))
+alone_down (Closes chans) p f q n h = falls_down p q n h.2
+alone_down (Opens chans) p f q n h = falls_down p q n h.2
+alone_down (TellsRelays closed chans) p f q n h = absurd h
+alone_down (Leaves after) p f q n h = absurd h
+alone_down Resets p f q n h = absurd h
+alone_down (Refuses error) p f q n h = absurd (n (sym h.1))
+alone_down IsOfMacros p f q n h = undefined_down p f q h
+alone_down Initiates p f q n h = undefined_down p f q h
+alone_down (Offers happening error) p f q n h = absurd h
 
 past_down : (c q : CageSeen) (scan : Option Scanning) → GoesPastFrom c scan SaysFault q → ((x : Channel) → is_closed q.rack x ≡ false) × (q.scan ≡ None)
 past_down c q None h = absurd h
@@ -281,28 +303,24 @@ told_down p happening error f SaysEnded q n a h = absurd (cc (a))
 trigger_plain : TriggerIgnored ≢ HardwareError
 trigger_plain e = absurd (cc (e))
 
-arm_plain : ArmIgnored ≢ HardwareError
-arm_plain e = absurd (cc (e))
+effect_down : (d : Effect) (p : Panel) (f : Bool) (w : Option WorkView) (q : Panel) → IsHarmless p d → StepEffect d p f (Refused HardwareError) w q → IsDown p q
+effect_down (Offers happening error) p f w q n h = told_down p happening error f h.told q n h.answer_is h.happens
+effect_down d p f w q n h = alone_down d p f q n h.0
 
--- the happenings that commands are
-abbrev pub IsPlainOffer : Option (Happening × ScpiError) → Type 0
-IsPlainOffer (Some offer) = offer.1 ≢ HardwareError
-IsPlainOffer None = Unit {0}
+barred_down : (b : Bool) (d : Effect) (p : Panel) (f : Bool) (w : Option WorkView) (q : Panel) → (b ≡ false → IsHarmless p d)
+    → MatchBool b (StepRefused p SettingsConflict f (Refused HardwareError) q × (w ≡ None)) (StepEffect d p f (Refused HardwareError) w q) → IsDown p q
+barred_down true d p f w q n h = absurd (let x : HardwareError ≡ SettingsConflict = h.0.1 in cc (x))
+barred_down false d p f w q n h = effect_down d p f w q (n refl) h
 
-plain_offer : (command : Command) → IsPlainOffer (happening_of command)
-plain_offer Command.Trigger = trigger_plain
-plain_offer (Command.Signal Trigger) = trigger_plain
-plain_offer (Command.Signal Arm1) = arm_plain
-plain_offer (Command.Signal Arm2) = arm_plain
-plain_offer command = tt
+held_down : (b : Bool) (d : Effect) (p : Panel) (ask : SessionAsk) (f : Bool) (w : Option WorkView) (q : Panel) → IsHarmless p d
+    → MatchBool b (StepHeld p ask f (Refused HardwareError) w q) (StepEffect d p f (Refused HardwareError) w q) → IsDown p q
+held_down true d p ask f w q n h = absurd h
+held_down false d p ask f w q n h = effect_down d p f w q n h
 
-offer_down : (o : Option (Happening × ScpiError)) (p : Panel) (answered : Bool) (command : Command) (f : Bool) (w : Option WorkView) (q : Panel) → IsPlainOffer o → StepOffer o p answered command f (Refused HardwareError) w q → IsDown p q
-offer_down (Some offer) p answered command f w q n h = told_down p offer.0 offer.1 f h.told q n h.answer_is h.happens
-offer_down None p answered command f w q n h = number_down (number_told p answered command) p command f q h.0
-
-command_down : (b : Bool) (p : Panel) (ask : SessionAsk) (answered : Bool) (command : Command) (f : Bool) (w : Option WorkView) (q : Panel) → StepCommand b p ask answered command f (Refused HardwareError) w q → IsDown p q
-command_down true p ask answered command f w q h = absurd h
-command_down false p ask answered command f w q h = offer_down (happening_of command) p answered command f w q (plain_offer command) h
+action_down : (x : Action) (p : Panel) (ask : SessionAsk) (f : Bool) (w : Option WorkView) (q : Panel) → IsHarmlessAction p x → StepAction x p ask f (Refused HardwareError) w q → IsDown p q
+action_down (AtOnce d) p ask f w q n h = effect_down d p f w q n h
+action_down (BetweenScans d) p ask f w q n h = barred_down (is_running p) d p f w q n h
+action_down (AfterScan d) p ask f w q n h = held_down (is_running p) d p ask f w q n h
 
 start_down : (p : Panel) (plan : Snapshot) (f : Bool) (told : TakenSeen) (w : Option WorkView) (q : Panel) → Refused HardwareError ≡ started_answer told → Starts p plan f told q → IsDown p q
 start_down p plan f SaysFault w q a h = record { none = h.3.runs.fallen.none; idle = h.3.runs.over; status = ap (λ (x : Panel). x.status) h.4 }
@@ -313,7 +331,7 @@ start_down p plan f (SaysJob j) w q a h = absurd (cc (a))
 start_down p plan f SaysEnded w q a h = absurd (cc (a))
 
 joined_down : (p : Panel) (ask : SessionAsk) (f : Bool) (q : Panel) → StepJoined p ask f (Refused HardwareError) None q → IsDown p q
-joined_down p (Ask.Unit sid command answered) f q h = command_down (is_running p && waits_for_idle command) p (Ask.Unit sid command answered) answered command f None q h
+joined_down p (Ask.Unit sid command answered) f q h = action_down (action_of answered command) p (Ask.Unit sid command answered) f None q (harmless p answered command) h
 joined_down p (Ask.Bus sid) f q h = told_down p Bus TriggerIgnored f h.told q trigger_plain h.answer_is h.happens
 joined_down p (Ask.Snapshot sid) f q h = absurd h.1
 joined_down p (Ask.Start sid plan) f q h = start_down p plan f h.told None q h.answer_is h.starts

@@ -1,14 +1,15 @@
 -- No step takes the mainframe from a good state to another: by cases on the step, and then over every run.
-use Rattle.std.proofs.Common.{◌≡◌, ◌≢◌, ℕ, ◌-◌, ◌≤◌, ◌<◌, ◌==◌, ◌&&◌, not, Bool, true, false, List, [], ◌∷◌, length, Option, None, Some, slice_set, refl, sym, ◌∙◌, ap, subst, arith, is_some, zero, suc, nat_lt, slice_index_or}
+use Rattle.std.proofs.Common.{◌≡◌, ◌≢◌, ℕ, ◌-◌, ◌≤◌, ◌<◌, ◌==◌, ◌&&◌, not, Bool, true, false, List, [], ◌∷◌, length, Option, None, Some, slice_set, refl, sym, ◌∙◌, ap, subst, arith, is_some, zero, suc, nat_lt, slice_index_or, map}
 use Rattle.std.specs.Prelude.{if◌then◌else◌, decimal, MatchBool}
-use Rattle.std.specs.List.{AllByRecursion}
+use Rattle.std.specs.List.{AllByRecursion, join_with_byte}
+use Rattle.sw_base.specs.Reading.{reading_text}
 use Rattle.std.proofs.lemmas.List.{length-map}
 use Rattle.sw_base.specs.Layout.{Channel, slot_at}
 use Rattle.sw_base.specs.declared.reading.Reading.{Reading}
 use Rattle.sw_base.specs.declared.terms.LayerName.{LayerName}
 use Rattle.sw_base.specs.declared.terms.LayerName.TheVariants.{Arm1, Arm2, Trigger}
 use Rattle.sw_base.specs.declared.error.ScpiError.{ScpiError}
-use Rattle.sw_base.specs.declared.error.ScpiError.TheVariants.{UndefinedHeader, DataOutOfRange, TooMuchData, DataCorruptOrStale, HardwareMissing, SettingsConflict, HardwareError, OutOfMemory}
+use Rattle.sw_base.specs.declared.error.ScpiError.TheVariants.{UndefinedHeader, TriggerIgnored, ArmIgnored, DataOutOfRange, TooMuchData, DataCorruptOrStale, HardwareMissing, SettingsConflict, HardwareError, OutOfMemory}
 use Rattle.sw_card.specs.Account.{Account, closed_at}
 use Rattle.sw_lex.specs.declared.command.Command.{Command}
 use Rattle.sw_trigger.specs.declared.layer.Layer.{Layer}
@@ -37,12 +38,13 @@ use Rattle.sw_core.specs.declared.ask.SessionAnswer.{SessionAnswer}
 use Rattle.sw_core.specs.declared.ask.SessionAnswer.TheVariants as answers
 use Rattle.sw_core.specs.declared.ask.SessionAnswer.TheVariants.{Joined, Full, Stranger, Broken, Done, Refused, Hold, Worn}
 use Rattle.sw_core.specs.Panel.{Panel, opening_at, with_rack, is_running}
-use Rattle.sw_core.specs.Registers.{number_told, status_set, is_for_idle, waits_for_idle}
+use Rattle.sw_core.specs.Action.{Effect, TellsNumber, TellsText, TellsReadings, ReadsOut, SetsStatus, SetsUp, Closes, Opens, TellsRelays, Leaves}
+use Rattle.sw_core.specs.Action.{Resets, reset, Offers, Refuses, IsOfMacros, Initiates, Action, AtOnce, BetweenScans, AfterScan, action_of}
 use Rattle.sw_core.specs.Event.{concluded, session_concluded, last_number}
 use Rattle.sw_core.specs.View.{WorkView, AskView, AskSession, AskInstall, AskEject, AskExternal, AskElapsed, AskFinished, AnswerView, SaysSession, SaysInstalled, SaysNotInstalled, SaysEjected, SaysNotEjected, SaysTaken, SaysMissed, SaysFailed, SaysBack, SaysWorn}
 use Rattle.sw_core.specs.Seats.{asker_of}
-use Rattle.sw_core.specs.Step.{Falls, StepClose, StepOpen, StepFlags, StepText, StepDone, StepSetting, StepRefused, Deed, Tells, SetsUp, Leaves, Refuses, Closes, Opens, Flags, fetched, switched, deed_of, StepDeed, StepFree, StepSet, StepNumber}
-use Rattle.sw_core.specs.Step.{Happens, happening_of, StepOffer, MayScan, StepSnapshot, Starts, StepStart, StepCommand, StepJoin, StepAttach, StepNew, IsServed, StepJoined, StepAdmitted, drops, shuts_out, StepSession, StepOutside, IsOut, Returns, StepFinished, Acts, acts_unnumbered, IsEvent, IsUnnumbered, Step}
+use Rattle.sw_core.specs.Step.{Falls, StepClose, StepOpen, StepFlags, StepText, StepDone, StepSetting, StepRefused, StepReadings, StepAlone, StepEffect, StepHeld, StepAction}
+use Rattle.sw_core.specs.Step.{Happens, MayScan, StepSnapshot, Starts, StepStart, StepJoin, StepAttach, StepNew, IsServed, StepJoined, StepAdmitted, drops, shuts_out, StepSession, StepOutside, IsOut, Returns, StepFinished, Acts, acts_unnumbered, IsEvent, IsUnnumbered, Step}
 use Rattle.sw_core.specs.Run.{Event, IsRun, IsGoodPanel}
 use Rattle.std.specs.Prelude.{replicate}
 use Rattle.sw_cage.specs.declared.job.Ticket.{Ticket}
@@ -100,7 +102,7 @@ dropped c k e = record {
   few = k.few;
 }
 
--- ---- deeds
+-- ---- effects
 
 out_of_range : DataOutOfRange ≢ HardwareError
 out_of_range e = absurd (cc (e))
@@ -108,70 +110,102 @@ out_of_range e = absurd (cc (e))
 too_much : TooMuchData ≢ HardwareError
 too_much e = absurd (cc (e))
 
-stale : DataCorruptOrStale ≢ HardwareError
-stale e = absurd (cc (e))
+not_triggered : TriggerIgnored ≢ HardwareError
+not_triggered e = absurd (cc (e))
+
+not_armed : ArmIgnored ≢ HardwareError
+not_armed e = absurd (cc (e))
 
 conflict : SettingsConflict ≢ HardwareError
 conflict e = absurd (cc (e))
 
-undefined : UndefinedHeader ≢ HardwareError
-undefined e = absurd (cc (e))
-
--- a deed that leaves the mainframe fine, and is refused by no card's failure of its own
-abbrev pub IsHarmless : Panel → Deed → Type 0
-IsHarmless p (Tells text status) = Unit {0}
-IsHarmless p (SetsUp Fits error setup) = (Fits → IsInRange p.settings → IsInRange setup) × (error ≢ HardwareError)
-IsHarmless p (Leaves after) = IsFine p → IsKept after.cage × IsInRange after.settings
-IsHarmless p (Refuses error) = error ≢ HardwareError
+-- what an effect leaves fine, and is refused by no card's failure of its own
+abbrev pub IsHarmless : Panel → Effect → Type 0
+IsHarmless p (TellsNumber number) = Unit {0}
+IsHarmless p (TellsText text) = Unit {0}
+IsHarmless p TellsReadings = Unit {0}
+IsHarmless p (ReadsOut text after) = Unit {0}
+IsHarmless p (SetsStatus after) = Unit {0}
+IsHarmless p (SetsUp Fits error after) = (Fits → IsInRange p.settings → IsInRange (after p.settings)) × (error ≢ HardwareError)
 IsHarmless p (Closes chans) = is_running p ≡ false
 IsHarmless p (Opens chans) = is_running p ≡ false
-IsHarmless p (Flags closed chans) = Unit {0}
+IsHarmless p (TellsRelays closed chans) = Unit {0}
+IsHarmless p (Leaves after) = IsFine p → IsKept (after p).cage × IsInRange (after p).settings
+IsHarmless p Resets = Unit {0}
+IsHarmless p (Offers happening error) = error ≢ HardwareError
+IsHarmless p (Refuses error) = error ≢ HardwareError
+IsHarmless p IsOfMacros = Unit {0}
+IsHarmless p Initiates = Unit {0}
 
-pub idle_of : (p : Panel) → (is_running p && true) ≡ false → is_running p ≡ false
-idle_of p e = and_true (is_running p) e
-  where
-    and_true : (b : Bool) → (b && true) ≡ false → b ≡ false
-    and_true true e = e
-    and_true false e = refl
+abbrev pub IsHarmlessAction : Panel → Action → Type 0
+IsHarmlessAction p (AtOnce effect) = IsHarmless p effect
+IsHarmlessAction p (BetweenScans effect) = is_running p ≡ false → IsHarmless p effect
+IsHarmlessAction p (AfterScan effect) = IsHarmless p effect
 
-harmless_fetched : (readings : List Reading) (status : StatusSeen) (p : Panel) → IsHarmless p (fetched readings status)
-harmless_fetched [] status p = stale
-harmless_fetched (r ∷ readings) status p = tt
-
-harmless_switched : (on : Bool) (p : Panel) → IsHarmless p (switched on p)
-harmless_switched true p = conflict
-harmless_switched false p = λ k. (k.cage, k.range)
-
-pub harmless : (p : Panel) (command : Command) → (is_running p && is_for_idle command) ≡ false → IsHarmless p (deed_of p command)
-harmless p Command.Identify b = tt
-harmless p Command.VersionQuery b = tt
-harmless p Command.CloseState b = tt
-harmless p Command.ScanQuery b = tt
-harmless p (Command.SourceQuery layer) b = tt
-harmless p (Command.DelayQuery layer) b = tt
-harmless p Command.EventQuery b = tt
-harmless p (Command.GroupEventQuery group) b = tt
-harmless p Command.NextErrorQuery b = tt
-harmless p Command.AllErrorsQuery b = tt
-harmless p Command.Fetch b = harmless_fetched p.cage.readings p.status p
-harmless p (Command.Count layer n) b = (λ fits r. range_layer p.settings layer _ r (record { count = fits; delay = (layer_range p.settings layer r).delay }), out_of_range)
-harmless p (Command.SetSource layer source) b = λ k. (k.cage, range_layer p.settings layer _ k.range (record { count = (layer_range p.settings layer k.range).count; delay = (layer_range p.settings layer k.range).delay }))
-harmless p (Command.Delay layer micros) b = (λ fits r. range_layer p.settings layer _ r (record { count = (layer_range p.settings layer r).count; delay = fits }), out_of_range)
-harmless p (Command.Scan chans) b = (λ fits r. record { arm1 = r.arm1; arm2 = r.arm2; trigger = r.trigger; list = fits; meter = r.meter; points = r.points }, too_much)
-harmless p (Command.ScanMeter slot) b = (λ fits r. record { arm1 = r.arm1; arm2 = r.arm2; trigger = r.trigger; list = r.list; meter = fits; points = r.points }, out_of_range)
-harmless p (Command.Points n) b = (λ fits r. record { arm1 = r.arm1; arm2 = r.arm2; trigger = r.trigger; list = r.list; meter = r.meter; points = fits }, out_of_range)
-harmless p (Command.Close chans) b = idle_of p b
-harmless p (Command.CloseQuery chans) b = tt
-harmless p (Command.Open chans) b = idle_of p b
-harmless p (Command.OpenQuery chans) b = tt
-harmless p Command.OpenAll b = λ k. (kept_rack p.cage (all_open p.cage.rack) k.cage (none_of p (idle_of p b)) (plates_all_open p.cage.rack) (exclusive_none _ _ (all_open_closed p.cage.rack)), k.range)
-harmless p Command.Abort b = λ k. (fallen_all p.cage k.cage, k.range)
-harmless p Command.Reset b = λ k. (dropped (fall p.cage) (fallen_all p.cage k.cage) refl, reset_range)
-harmless p Command.ClearStatus b = λ k. (k.cage, k.range)
-harmless p Command.OperationComplete b = λ k. (k.cage, k.range)
-harmless p Command.Wait b = λ k. (k.cage, k.range)
-harmless p (Command.InitiateContinuous on) b = harmless_switched on p
-harmless p command b = undefined
+pub harmless : (p : Panel) (answered : Bool) (command : Command) → IsHarmlessAction p (action_of answered command)
+harmless p answered Command.Identify = tt
+harmless p answered Command.Reset = tt
+harmless p answered Command.ClearStatus = λ k. (k.cage, k.range)
+harmless p answered (Command.EventEnable bits) = tt
+harmless p answered Command.EventEnableQuery = tt
+harmless p answered Command.EventQuery = tt
+harmless p answered (Command.ServiceEnable bits) = tt
+harmless p answered Command.ServiceEnableQuery = tt
+harmless p answered Command.StatusByteQuery = tt
+harmless p answered Command.OperationComplete = λ k. (k.cage, k.range)
+harmless p answered Command.OperationCompleteQuery = tt
+harmless p answered Command.Wait = λ k. (k.cage, k.range)
+harmless p answered Command.SelfTestQuery = tt
+harmless p answered Command.Trigger = not_triggered
+harmless p answered (Command.DefineMacro label body) = tt
+harmless p answered (Command.MacroQuery label) = tt
+harmless p answered Command.MacroLabelsQuery = tt
+harmless p answered (Command.RemoveMacro label) = tt
+harmless p answered Command.PurgeMacros = tt
+harmless p answered (Command.EnableMacros on) = tt
+harmless p answered Command.EnableMacrosQuery = tt
+harmless p answered Command.Abort = λ k. (fallen_all p.cage k.cage, k.range)
+harmless p answered Command.Initiate = tt
+harmless p answered (Command.InitiateContinuous true) = conflict
+harmless p answered (Command.InitiateContinuous false) = λ k. (k.cage, k.range)
+harmless p answered Command.InitiateContinuousQuery = tt
+harmless p answered (Command.Count layer n) = λ idle. (λ fits r. range_layer p.settings layer _ r (record { count = fits; delay = (layer_range p.settings layer r).delay }), out_of_range)
+harmless p answered (Command.CountQuery layer) = tt
+harmless p answered (Command.SetSource layer source) = λ idle k. (k.cage, range_layer p.settings layer _ k.range (record { count = (layer_range p.settings layer k.range).count; delay = (layer_range p.settings layer k.range).delay }))
+harmless p answered (Command.SourceQuery layer) = tt
+harmless p answered (Command.Delay layer micros) = λ idle. (λ fits r. range_layer p.settings layer _ r (record { count = (layer_range p.settings layer r).count; delay = fits }), out_of_range)
+harmless p answered (Command.DelayQuery layer) = tt
+harmless p answered (Command.Signal Trigger) = not_triggered
+harmless p answered (Command.Signal Arm1) = not_armed
+harmless p answered (Command.Signal Arm2) = not_armed
+harmless p answered (Command.Close chans) = λ idle. idle
+harmless p answered (Command.CloseQuery chans) = tt
+harmless p answered Command.CloseState = tt
+harmless p answered (Command.Open chans) = λ idle. idle
+harmless p answered (Command.OpenQuery chans) = tt
+harmless p answered Command.OpenAll = λ idle k. (kept_rack p.cage (all_open p.cage.rack) k.cage (none_of p idle) (plates_all_open p.cage.rack) (exclusive_none _ _ (all_open_closed p.cage.rack)), k.range)
+harmless p answered (Command.Scan chans) = λ idle. (λ fits r. record { arm1 = r.arm1; arm2 = r.arm2; trigger = r.trigger; list = fits; meter = r.meter; points = r.points }, too_much)
+harmless p answered Command.ScanQuery = tt
+harmless p answered (Command.ScanMeter slot) = λ idle. (λ fits r. record { arm1 = r.arm1; arm2 = r.arm2; trigger = r.trigger; list = r.list; meter = fits; points = r.points }, out_of_range)
+harmless p answered Command.ScanMeterQuery = tt
+harmless p answered (Command.GroupEventQuery group) = tt
+harmless p answered (Command.GroupConditionQuery group) = tt
+harmless p answered (Command.GroupEnable group bits) = tt
+harmless p answered (Command.GroupEnableQuery group) = tt
+harmless p answered (Command.PositiveTransition group bits) = tt
+harmless p answered (Command.PositiveTransitionQuery group) = tt
+harmless p answered (Command.NegativeTransition group bits) = tt
+harmless p answered (Command.NegativeTransitionQuery group) = tt
+harmless p answered Command.Preset = tt
+harmless p answered Command.NextErrorQuery = tt
+harmless p answered Command.AllErrorsQuery = tt
+harmless p answered Command.ErrorCountQuery = tt
+harmless p answered Command.VersionQuery = tt
+harmless p answered (Command.Points n) = λ idle. (λ fits r. record { arm1 = r.arm1; arm2 = r.arm2; trigger = r.trigger; list = r.list; meter = r.meter; points = fits }, out_of_range)
+harmless p answered Command.PointsQuery = tt
+harmless p answered Command.ActualPointsQuery = tt
+harmless p answered Command.BoundQuery = tt
+harmless p answered Command.Fetch = tt
 
 -- ---- commands
 
@@ -224,26 +258,26 @@ refused_fine : (p : Panel) (error : ScpiError) (f : Bool) (a : SessionAnswer) (q
 refused_fine p error f (Refused e) q k h = fine_is p q h.2 k
 refused_fine p error f a q k h = absurd h
 
-deed_fine : (d : Deed) (p : Panel) (f : Bool) (a : SessionAnswer) (q : Panel) → IsFine p → IsHarmless p d → StepDeed d p f a q → IsFine q
-deed_fine (Tells text status) p f a q k n h = text_fine p text status f a q k h
-deed_fine (SetsUp Fits error setup) p f a q k n h = setting_fine p Fits error setup f a q k n.0 h
-deed_fine (Leaves after) p f a q k n h = let r = n k in done_fine after f a q (record { cage = r.0; range = r.1 }) h
-deed_fine (Refuses error) p f a q k n h = refused_fine p error f a q k h
-deed_fine (Closes chans) p f a q k n h = close_fine p chans f a q k n h
-deed_fine (Opens chans) p f a q k n h = open_fine p chans f a q k n h
-deed_fine (Flags closed chans) p f a q k n h = flags_fine p closed chans f a q k h
+readings_fine : (l : List Reading) (p : Panel) (f : Bool) (a : SessionAnswer) (q : Panel) → IsFine p → StepReadings l p f a q → IsFine q
+readings_fine [] p f a q k h = refused_fine p DataCorruptOrStale f a q k h
+readings_fine (r ∷ rs) p f a q k h = text_fine p (join_with_byte 44 (map reading_text (r ∷ rs))) p.status f a q k h
 
-free_fine : (b : Bool) (p : Panel) (command : Command) (f : Bool) (a : SessionAnswer) (q : Panel) → IsFine p → (is_running p && is_for_idle command) ≡ b → StepFree b p command f a q → IsFine q
-free_fine true p command f a q k e h = refused_fine p SettingsConflict f a q k h
-free_fine false p command f a q k e h = deed_fine (deed_of p command) p f a q k (harmless p command e) h
-
-set_fine : (o : Option StatusSeen) (p : Panel) (command : Command) (f : Bool) (a : SessionAnswer) (q : Panel) → IsFine p → StepSet o p command f a q → IsFine q
-set_fine (Some status) p command f a q k h = done_fine (record p { status = status }) f a q (record { cage = k.cage; range = k.range }) h
-set_fine None p command f a q k h = free_fine (is_running p && is_for_idle command) p command f a q k refl h
-
-number_fine : (o : Option ℕ) (p : Panel) (command : Command) (f : Bool) (a : SessionAnswer) (q : Panel) → IsFine p → StepNumber o p command f a q → IsFine q
-number_fine (Some n) p command f a q k h = text_fine p (decimal n) p.status f a q k h
-number_fine None p command f a q k h = set_fine (status_set p.status command) p command f a q k h
+alone_fine : (d : Effect) (p : Panel) (f : Bool) (a : SessionAnswer) (q : Panel) → IsFine p → IsHarmless p d → StepAlone d p f a q → IsFine q
+alone_fine (TellsNumber number) p f a q k n h = text_fine p (decimal (number p)) p.status f a q k h
+alone_fine (TellsText text) p f a q k n h = text_fine p (text p) p.status f a q k h
+alone_fine TellsReadings p f a q k n h = readings_fine p.cage.readings p f a q k h
+alone_fine (ReadsOut text after) p f a q k n h = text_fine p (text p.status) (after p.status) f a q k h
+alone_fine (SetsStatus after) p f a q k n h = done_fine (record p { status = after p.status }) f a q (record { cage = k.cage; range = k.range }) h
+alone_fine (SetsUp Fits error after) p f a q k n h = setting_fine p Fits error (after p.settings) f a q k n.0 h
+alone_fine (Closes chans) p f a q k n h = close_fine p chans f a q k n h
+alone_fine (Opens chans) p f a q k n h = open_fine p chans f a q k n h
+alone_fine (TellsRelays closed chans) p f a q k n h = flags_fine p closed chans f a q k h
+alone_fine Resets p f a q k n h = done_fine (reset p) f a q (record { cage = dropped (fall p.cage) (fallen_all p.cage k.cage) refl; range = reset_range }) h
+alone_fine (Leaves after) p f a q k n h = let r = n k in done_fine (after p) f a q (record { cage = r.0; range = r.1 }) h
+alone_fine (Refuses error) p f a q k n h = refused_fine p error f a q k h
+alone_fine IsOfMacros p f a q k n h = refused_fine p UndefinedHeader f a q k h
+alone_fine Initiates p f a q k n h = refused_fine p UndefinedHeader f a q k h
+alone_fine (Offers happening error) p f a q k n h = absurd h
 
 -- ---- scans
 
@@ -269,14 +303,28 @@ returns_fine p done f SaysFault q k out h = tolled_fine p q _ k (kept_counted p.
 starts_fine : (p : Panel) (plan : Snapshot) (f : Bool) (told : TakenSeen) (q : Panel) → IsFine p → MayScan p → Starts p plan f told q → IsFine q
 starts_fine p plan f told q k may h = tolled_fine p q _ k (kept_begun p.cage q.cage p.settings plan told k.cage (is_none (slot_at p.cage.out p.settings.meter) may.home) k.range h.2 h.1 h.3) h.4
 
-offer_fine : (o : Option (Happening × ScpiError)) (p : Panel) (answered : Bool) (command : Command) (f : Bool) (a : SessionAnswer) (w : Option WorkView) (q : Panel) → IsFine p → StepOffer o p answered command f a w q → IsFine q
-offer_fine (Some offer) p answered command f a w q k h = happens_fine p offer.0 f h.told q k h.happens
-offer_fine None p answered command f a w q k h = number_fine (number_told p answered command) p command f a q k h.0
+effect_fine : (d : Effect) (p : Panel) (f : Bool) (a : SessionAnswer) (w : Option WorkView) (q : Panel) → IsFine p → IsHarmless p d → StepEffect d p f a w q → IsFine q
+effect_fine (Offers happening error) p f a w q k n h = happens_fine p happening f h.told q k h.happens
+effect_fine d p f a w q k n h = alone_fine d p f a q k n h.0
 
-command_fine : (b : Bool) (p : Panel) (ask : SessionAsk) (answered : Bool) (command : Command) (f : Bool) (a : SessionAnswer) (w : Option WorkView) (q : Panel) → IsFine p → StepCommand b p ask answered command f a w q → IsFine q
-command_fine true p ask answered command f (Hold x) None q k h = fine_is p q h.2 k
-command_fine true p ask answered command f a w q k h = absurd h
-command_fine false p ask answered command f a w q k h = offer_fine (happening_of command) p answered command f a w q k h
+held_fine : (p : Panel) (ask : SessionAsk) (f : Bool) (a : SessionAnswer) (w : Option WorkView) (q : Panel) → IsFine p → StepHeld p ask f a w q → IsFine q
+held_fine p ask f (Hold back) None q k h = fine_is p q h.2 k
+held_fine p ask f a w q k h = absurd h
+
+barred_fine : (b : Bool) (d : Effect) (p : Panel) (f : Bool) (a : SessionAnswer) (w : Option WorkView) (q : Panel) → IsFine p → (b ≡ false → IsHarmless p d)
+    → MatchBool b (StepRefused p SettingsConflict f a q × (w ≡ None)) (StepEffect d p f a w q) → IsFine q
+barred_fine true d p f a w q k n h = refused_fine p SettingsConflict f a q k h.0
+barred_fine false d p f a w q k n h = effect_fine d p f a w q k (n refl) h
+
+waiting_fine : (b : Bool) (d : Effect) (p : Panel) (ask : SessionAsk) (f : Bool) (a : SessionAnswer) (w : Option WorkView) (q : Panel) → IsFine p → IsHarmless p d
+    → MatchBool b (StepHeld p ask f a w q) (StepEffect d p f a w q) → IsFine q
+waiting_fine true d p ask f a w q k n h = held_fine p ask f a w q k h
+waiting_fine false d p ask f a w q k n h = effect_fine d p f a w q k n h
+
+action_fine : (x : Action) (p : Panel) (ask : SessionAsk) (f : Bool) (a : SessionAnswer) (w : Option WorkView) (q : Panel) → IsFine p → IsHarmlessAction p x → StepAction x p ask f a w q → IsFine q
+action_fine (AtOnce d) p ask f a w q k n h = effect_fine d p f a w q k n h
+action_fine (BetweenScans d) p ask f a w q k n h = barred_fine (is_running p) d p f a w q k n h
+action_fine (AfterScan d) p ask f a w q k n h = waiting_fine (is_running p) d p ask f a w q k n h
 
 snapshot_fine : (p : Panel) (f : Bool) (a : SessionAnswer) (q : Panel) → IsFine p → StepSnapshot p f a q → IsFine q
 snapshot_fine p f (answers.Snapshot s) q k h = fine_is p q h.3 k
@@ -298,7 +346,7 @@ served_fine p ask f a q k h = fine_as p q (ap (λ (x : Panel). x.cage) h.after) 
 joined_fine : (p : Panel) (ask : SessionAsk) (f : Bool) (a : SessionAnswer) (w : Option WorkView) (q : Panel) → IsFine p → StepJoined p ask f a w q → IsFine q
 joined_fine p (Ask.Fault sid e) f (Done None) None q k h = fine_as p q (ap (λ (x : Panel). x.cage) h.1) (ap (λ (x : Panel). x.settings) h.1) k
 joined_fine p (Ask.Fault sid e) f a None q k h = served_fine p (Ask.Fault sid e) f a q k h
-joined_fine p (Ask.Unit sid command answered) f a w q k h = command_fine (is_running p && waits_for_idle command) p (Ask.Unit sid command answered) answered command f a w q k h
+joined_fine p (Ask.Unit sid command answered) f a w q k h = action_fine (action_of answered command) p (Ask.Unit sid command answered) f a w q k (harmless p answered command) h
 joined_fine p (Ask.Bus sid) f a w q k h = happens_fine p Bus f h.told q k h.happens
 joined_fine p (Ask.Snapshot sid) f a None q k h = snapshot_fine p f a q k h
 joined_fine p (Ask.Start sid plan) f a w q k h = start_fine p plan f a w q k h
@@ -318,8 +366,7 @@ joined_fine p ask f a w q k h = absurd h
 admitted_fine : (b o : Bool) (p : Panel) (ask : SessionAsk) (f : Bool) (a : SessionAnswer) (w : Option WorkView) (q : Panel) → IsFine p → StepAdmitted b o p ask f a w q → IsFine q
 admitted_fine true o p ask f Broken None q k h = fine_is p q h.1 k
 admitted_fine true o p ask f a w q k h = absurd h
-admitted_fine false true p ask f (Hold back) None q k h = fine_is p q h.2 k
-admitted_fine false true p ask f a w q k h = absurd h
+admitted_fine false true p ask f a w q k h = held_fine p ask f a w q k h
 admitted_fine false false p ask f a w q k h = joined_fine p ask f a w q k h
 
 join_fine : (p : Panel) (f : Bool) (a : SessionAnswer) (w : Option WorkView) (q : Panel) → IsFine p → StepJoin p f a w q → IsFine q

@@ -11,14 +11,13 @@ use Rattle.sw_verify.specs.Channels.{is_among}
 use Rattle.sw_verify.specs.Sound.{effect}
 use Rattle.sw_cage.specs.Rack.{is_closed}
 use Rattle.sw_cage.specs.Cage.{Scanning}
-use Rattle.sw_cage.specs.declared.taken.Happening.{Happening}
 use Rattle.sw_core.specs.declared.ask.Sid.{Sid}
 use Rattle.sw_core.specs.declared.ask.SessionAsk.TheVariants as Ask
 use Rattle.sw_core.specs.declared.ask.SessionAnswer.{SessionAnswer}
 use Rattle.sw_core.specs.declared.ask.SessionAnswer.TheVariants.{Done, Refused}
 use Rattle.sw_core.specs.Panel.{Panel, opening_at}
 use Rattle.sw_core.specs.View.{AskView, AskSession, AskExternal, AskElapsed, AskFinished, AnswerView, SaysSession, SaysTaken, SaysFailed}
-use Rattle.sw_core.specs.Step.{happening_of}
+use Rattle.sw_core.specs.Action.{Effect, Offers, Action, AtOnce, BetweenScans, AfterScan, action_of}
 use Rattle.sw_core.specs.Run.{Event, IsRun}
 
 -- how many items of its agenda a scan still awaits, the present one included; none, where none runs
@@ -43,13 +42,18 @@ was_taken (SaysTaken work) = 1
 was_taken SaysFailed = 1
 was_taken answer = 0
 
-abbrev pub took_command : Option (Happening × ScpiError) → SessionAnswer → ℕ
-took_command None answer = 0
-took_command (Some offer) answer = went_on answer
+abbrev pub took_effect : Effect → SessionAnswer → ℕ
+took_effect (Offers happening error) answer = went_on answer
+took_effect effect answer = 0
+
+abbrev pub took_command : Action → SessionAnswer → ℕ
+took_command (AtOnce effect) answer = took_effect effect answer
+took_command (BetweenScans effect) answer = took_effect effect answer
+took_command (AfterScan effect) answer = took_effect effect answer
 
 -- 1 for a trigger, the end of a pause, or a meter's return that a scan took
 abbrev pub took : AskView → AnswerView → ℕ
-took (AskSession (Ask.Unit sid command answered)) (SaysSession answer work) = took_command (happening_of command) answer
+took (AskSession (Ask.Unit sid command answered)) (SaysSession answer work) = took_command (action_of answered command) answer
 took (AskSession (Ask.Bus sid)) (SaysSession answer work) = went_on answer
 took AskExternal answer = was_taken answer
 took (AskElapsed ticket) answer = was_taken answer

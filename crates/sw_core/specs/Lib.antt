@@ -5,6 +5,7 @@ pub mod View
 pub mod Panel
 pub mod Registers
 pub mod Event
+pub mod Action
 pub mod Step
 pub mod Run
 pub mod Ends

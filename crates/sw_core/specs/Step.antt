@@ -2,18 +2,17 @@
 use Rattle.std.specs.Prelude.{◌≡◌, ◌≢◌, ℕ, ◌-◌, ◌≤◌, ◌<◌, ◌==◌, ◌&&◌, not, Bool, true, false, List, [], ◌∷◌, length, Option, None, Some, slice_set, map, decimal, is_some, MatchBool, ◌⊎◌, if◌then◌else◌}
 use Rattle.std.specs.List.{join_with_byte}
 use Rattle.sw_base.specs.Layout.{Channel, slot_at}
-use Rattle.sw_base.specs.Reading.{fixed, reading_text}
+use Rattle.sw_base.specs.Reading.{reading_text}
 use Rattle.sw_base.specs.declared.reading.Reading.{Reading}
 use Rattle.sw_base.specs.declared.error.ScpiError.{ScpiError}
-use Rattle.sw_base.specs.declared.error.ScpiError.TheVariants.{UndefinedHeader, TriggerIgnored, ArmIgnored, InitIgnored, HardwareMissing, SettingsConflict, DataOutOfRange, TooMuchData, DataCorruptOrStale, SystemError, HardwareError, OutOfMemory}
-use Rattle.sw_base.specs.declared.terms.LayerName.TheVariants as layer_name
-use Rattle.sw_channel.specs.Printing.{printed}
+use Rattle.sw_base.specs.declared.error.ScpiError.TheVariants.{UndefinedHeader, TriggerIgnored, InitIgnored, HardwareMissing}
+use Rattle.sw_base.specs.declared.error.ScpiError.TheVariants.{SettingsConflict, DataCorruptOrStale, SystemError}
+use Rattle.sw_base.specs.declared.error.ScpiError.TheVariants.{HardwareError, OutOfMemory}
 use Rattle.sw_lex.specs.declared.command.Command.{Command}
-use Rattle.sw_trigger.specs.Settings.{Setup, layer_of, with_layer, most_of, longest_delay, at_reset}
+use Rattle.sw_trigger.specs.Settings.{Setup}
 use Rattle.sw_verify.specs.declared.snapshot.Snapshot.{Snapshot}
 use Rattle.sw_verify.specs.Check.{IsReady}
-use Rattle.sw_status.specs.Registers.{event_taken}
-use Rattle.sw_status.specs.StatusModel.{StatusSeen, pushed, popped, cleared, group_of, with_group}
+use Rattle.sw_status.specs.StatusModel.{StatusSeen, pushed}
 use Rattle.sw_cage.specs.Rack.{Rack, layout_of, is_closed, all_open}
 use Rattle.sw_cage.specs.Change.{Sets, option_plate}
 use Rattle.sw_cage.specs.Channels.{closed_list}
@@ -26,19 +25,21 @@ use Rattle.sw_cage.specs.Goes.{Goes, GoesPast, Counts, begun, with_back}
 use Rattle.sw_cage.specs.Work.{FinishedSeen}
 use Rattle.sw_cage.specs.TakenSeen.{TakenSeen, SaysIgnored, SaysPause, SaysJob, SaysFault}
 use Rattle.sw_cage.specs.declared.taken.Happening.{Happening}
-use Rattle.sw_cage.specs.declared.taken.Happening.TheVariants.{Bus, External, Signal, Elapsed}
+use Rattle.sw_cage.specs.declared.taken.Happening.TheVariants.{Bus, External, Elapsed}
 use Rattle.sw_core.specs.declared.ask.SessionAsk.{SessionAsk}
 use Rattle.sw_core.specs.declared.ask.SessionAsk.TheVariants as Ask
 use Rattle.sw_core.specs.declared.ask.SessionAnswer.{SessionAnswer}
 use Rattle.sw_core.specs.declared.ask.SessionAnswer.TheVariants as Answer
 use Rattle.sw_core.specs.declared.ask.SessionAnswer.TheVariants.{Joined, Full, Stranger, Broken, Done, Refused, Hold, Worn}
-use Rattle.sw_core.specs.Answers.{identity, version, flag_of, as_asked, oldest_entry, all_entries, source_word}
+use Rattle.sw_core.specs.Action.{Effect, TellsNumber, TellsText, TellsReadings, ReadsOut, SetsStatus, SetsUp, Closes, Opens, TellsRelays, Leaves}
+use Rattle.sw_core.specs.Action.{Resets, Offers, Refuses, IsOfMacros, Initiates, Action, AtOnce, BetweenScans, AfterScan, action_of, reset}
+use Rattle.sw_core.specs.Answers.{flag_of, as_asked}
 use Rattle.sw_core.specs.declared.ask.Sid.{Sid}
 use Rattle.sw_hislip.specs.LockTable.{admits}
 use Rattle.sw_core.specs.Sessions.{SessionsSeen, IsJoined, IsLeastFree, is_clearing, fresh, with_seat}
 use Rattle.sw_core.specs.Seats.{asker_of, is_dropped, is_shut_out, StepSeat, LacksSecond, Attaches}
 use Rattle.sw_core.specs.Panel.{Panel, with_rack, is_running}
-use Rattle.sw_core.specs.Registers.{number_told, status_set, alarmed, calmed, is_for_idle, waits_for_idle}
+use Rattle.sw_core.specs.Registers.{alarmed, calmed}
 use Rattle.sw_core.specs.Event.{concluded, last_number, next_number}
 use Rattle.sw_core.specs.View.{WorkView, Measures, Pauses, AskView, AskSession, AskInstall, AskEject, AskExternal, AskElapsed, AskFinished, AnswerView, SaysSession, SaysInstalled, SaysNotInstalled, SaysEjected, SaysNotEjected, SaysTaken, SaysMissed, SaysFailed, SaysBack, SaysWorn}
 
@@ -103,99 +104,10 @@ abbrev pub StepRefused : Panel → ScpiError → Bool → SessionAnswer → Pane
 StepRefused p error f (Refused e) q = (f ≡ false) × (e ≡ error) × (q ≡ p)
 StepRefused p error f answer q = ⊥
 
--- what a command does, if it does more than tell a number or set the status
-pub data Deed : Type 1 where
-  -- it tells a text, and leaves this status
-  Tells : (text : List ℕ) → (status : StatusSeen) → Deed
-  -- it leaves these settings where they fit, and is else refused
-  SetsUp : (Fits : Type 0) → (error : ScpiError) → (setup : Setup) → Deed
-  -- it leaves this state
-  Leaves : (after : Panel) → Deed
-  -- it is refused
-  Refuses : (error : ScpiError) → Deed
-  -- channels are closed, or opened, or it tells for each whether it is closed, or open
-  Closes : (chans : List Channel) → Deed
-  Opens : (chans : List Channel) → Deed
-  Flags : (closed : Bool) → (chans : List Channel) → Deed
-
--- the readings of the last scan, joined by commas
-abbrev pub fetched : List Reading → StatusSeen → Deed
-fetched [] status = Refuses DataCorruptOrStale
-fetched (r ∷ readings) status = Tells (join_with_byte 44 (map reading_text (r ∷ readings))) status
-
--- INITiate:CONTinuous can't be switched on
-abbrev pub switched : Bool → Panel → Deed
-switched true p = Refuses SettingsConflict
-switched false p = Leaves p
-
--- the state after *RST, and after ABORt
-abbrev pub reset : Panel → Panel
-reset p = record p { cage = record (fall p.cage) { readings = [] }; status = calmed p.status; settings = at_reset; pending = false }
-
-abbrev pub aborted : Panel → Panel
-aborted p = record p { cage = fall p.cage }
-
--- The commands that do more than tell a number or set the status (SCPI-1999, 3, 18, 20, 21.8 and 24; IEEE 488.2, 10). What
--- no session asks as a command, INITiate and the macro commands among them, is refused as an undefined header.
-abbrev pub deed_of : Panel → Command → Deed
-deed_of p Command.Identify = Tells identity p.status
-deed_of p Command.VersionQuery = Tells version p.status
-deed_of p Command.CloseState = Tells (printed (closed_list p.cage.rack)) p.status
-deed_of p Command.ScanQuery = Tells (printed p.settings.list) p.status
-deed_of p (Command.SourceQuery layer) = Tells (source_word (layer_of p.settings layer).source) p.status
-deed_of p (Command.DelayQuery layer) = Tells (fixed 6 (layer_of p.settings layer).delay_us) p.status
-deed_of p Command.EventQuery = Tells (decimal p.status.esr) (record p.status { esr = 0 })
-deed_of p (Command.GroupEventQuery group) = Tells (decimal (group_of p.status group).event) (with_group p.status group (event_taken (group_of p.status group)))
-deed_of p Command.NextErrorQuery = Tells (oldest_entry p.status.errors) (popped p.status)
-deed_of p Command.AllErrorsQuery = Tells (all_entries p.status.errors) (record p.status { errors = [] })
-deed_of p Command.Fetch = fetched p.cage.readings p.status
-deed_of p (Command.Count layer n) = SetsUp ((1 ≤ n) × (n ≤ most_of layer)) DataOutOfRange (with_layer p.settings layer (record (layer_of p.settings layer) { count = n }))
-deed_of p (Command.SetSource layer source) = Leaves (record p { settings = with_layer p.settings layer (record (layer_of p.settings layer) { source = source }) })
-deed_of p (Command.Delay layer micros) = SetsUp (micros ≤ longest_delay) DataOutOfRange (with_layer p.settings layer (record (layer_of p.settings layer) { delay_us = micros }))
-deed_of p (Command.Scan chans) = SetsUp (length chans ≤ 512) TooMuchData (record p.settings { list = chans })
-deed_of p (Command.ScanMeter slot) = SetsUp ((1 ≤ slot) × (slot ≤ 8)) DataOutOfRange (record p.settings { meter = slot })
-deed_of p (Command.Points n) = SetsUp ((1 ≤ n) × (n ≤ 100000)) DataOutOfRange (record p.settings { points = n })
-deed_of p (Command.Close chans) = Closes chans
-deed_of p (Command.CloseQuery chans) = Flags true chans
-deed_of p (Command.Open chans) = Opens chans
-deed_of p (Command.OpenQuery chans) = Flags false chans
-deed_of p Command.OpenAll = Leaves (with_rack p (all_open p.cage.rack))
-deed_of p Command.Abort = Leaves (aborted p)
-deed_of p Command.Reset = Leaves (reset p)
-deed_of p Command.ClearStatus = Leaves (record p { status = cleared p.status; pending = false })
-deed_of p Command.OperationComplete = Leaves (record p { pending = true })
-deed_of p Command.Wait = Leaves p
-deed_of p (Command.InitiateContinuous on) = switched on p
-deed_of p command = Refuses UndefinedHeader
-
--- how each is answered, and what state it leaves
-abbrev pub StepDeed : Deed → Panel → Bool → SessionAnswer → Panel → Type 0
-StepDeed (Tells text status) p f a q = StepText p text status f a q
-StepDeed (SetsUp Fits error setup) p f a q = StepSetting p Fits error setup f a q
-StepDeed (Leaves after) p f a q = StepDone after f a q
-StepDeed (Refuses error) p f a q = StepRefused p error f a q
-StepDeed (Closes chans) p f a q = StepClose p chans f a q
-StepDeed (Opens chans) p f a q = StepOpen p chans f a q
-StepDeed (Flags closed chans) p f a q = StepFlags p closed chans f a q
-
--- a command that is refused while a scan runs, or its deed
-abbrev pub StepFree : Bool → Panel → Command → Bool → SessionAnswer → Panel → Type 0
-StepFree true p command f a q = StepRefused p SettingsConflict f a q
-StepFree false p command f a q = StepDeed (deed_of p command) p f a q
-
--- a command that sets the status alone, or one of those
-abbrev pub StepSet : Option StatusSeen → Panel → Command → Bool → SessionAnswer → Panel → Type 0
-StepSet (Some status) p command f a q = StepDone (record p { status = status }) f a q
-StepSet None p command f a q = StepFree (is_running p && is_for_idle command) p command f a q
-
--- a query of a number, or one of the others
-abbrev pub StepNumber : Option ℕ → Panel → Command → Bool → SessionAnswer → Panel → Type 0
-StepNumber (Some n) p command f a q = StepText p (decimal n) p.status f a q
-StepNumber None p command f a q = StepSet (status_set p.status command) p command f a q
-
--- A command of a joined session, whose message has answered before or not, in a call in which a card failed or none did.
-abbrev pub StepUnit : Panel → Bool → Command → Bool → SessionAnswer → Panel → Type 0
-StepUnit p answered command f a q = StepNumber (number_told p answered command) p command f a q
+-- the readings of the last scan, joined by commas; where there are none, the query is refused
+abbrev pub StepReadings : List Reading → Panel → Bool → SessionAnswer → Panel → Type 0
+StepReadings [] p f answer q = StepRefused p DataCorruptOrStale f answer q
+StepReadings (r ∷ rs) p f answer q = StepText p (join_with_byte 44 (map reading_text (r ∷ rs))) p.status f answer q
 
 -- ---- scans
 
@@ -232,18 +144,43 @@ pub record StepHappens (p : Panel) (happening : Happening) (error : ScpiError) (
   pub answer_is : answer ≡ session_told error told
   pub work_is : work ≡ work_of told
 
--- the happening that a command is, and the error where no scan takes it
-abbrev pub happening_of : Command → Option (Happening × ScpiError)
-happening_of Command.Trigger = Some (Bus, TriggerIgnored)
-happening_of (Command.Signal layer_name.Trigger) = Some (Signal layer_name.Trigger, TriggerIgnored)
-happening_of (Command.Signal layer_name.Arm1) = Some (Signal layer_name.Arm1, ArmIgnored)
-happening_of (Command.Signal layer_name.Arm2) = Some (Signal layer_name.Arm2, ArmIgnored)
-happening_of command = None
+-- ---- commands
 
--- a command that is offered to the scan, or one of the others
-abbrev pub StepOffer : Option (Happening × ScpiError) → Panel → Bool → Command → Bool → SessionAnswer → Option WorkView → Panel → Type 0
-StepOffer (Some offer) p answered command f a work q = StepHappens p offer.0 offer.1 f a work q
-StepOffer None p answered command f a work q = StepUnit p answered command f a q × (work ≡ None)
+-- a command that is offered to no scan
+abbrev pub StepAlone : Effect → Panel → Bool → SessionAnswer → Panel → Type 0
+StepAlone (TellsNumber number) p f answer q = StepText p (decimal (number p)) p.status f answer q
+StepAlone (TellsText text) p f answer q = StepText p (text p) p.status f answer q
+StepAlone TellsReadings p f answer q = StepReadings p.cage.readings p f answer q
+StepAlone (ReadsOut text after) p f answer q = StepText p (text p.status) (after p.status) f answer q
+StepAlone (SetsStatus after) p f answer q = StepDone (record p { status = after p.status }) f answer q
+StepAlone (SetsUp Fits error after) p f answer q = StepSetting p Fits error (after p.settings) f answer q
+StepAlone (Closes chans) p f answer q = StepClose p chans f answer q
+StepAlone (Opens chans) p f answer q = StepOpen p chans f answer q
+StepAlone (TellsRelays closed chans) p f answer q = StepFlags p closed chans f answer q
+StepAlone (Leaves after) p f answer q = StepDone (after p) f answer q
+StepAlone Resets p f answer q = StepDone (reset p) f answer q
+StepAlone (Refuses error) p f answer q = StepRefused p error f answer q
+StepAlone IsOfMacros p f answer q = StepRefused p UndefinedHeader f answer q
+StepAlone Initiates p f answer q = StepRefused p UndefinedHeader f answer q
+StepAlone (Offers happening error) p f answer q = ⊥
+
+-- a command that is carried out
+abbrev pub StepEffect : Effect → Panel → Bool → SessionAnswer → Option WorkView → Panel → Type 0
+StepEffect (Offers happening error) p f answer work q = StepHappens p happening error f answer work q
+StepEffect effect p f answer work q = StepAlone effect p f answer q × (work ≡ None)
+
+-- an ask that is held changes nothing
+abbrev pub StepHeld : Panel → SessionAsk → Bool → SessionAnswer → Option WorkView → Panel → Type 0
+StepHeld p ask f (Hold back) None q = (f ≡ false) × (back ≡ ask) × (q ≡ p)
+StepHeld p ask f answer work q = ⊥
+
+-- A command is carried out, or refused or held while a scan runs.
+abbrev pub StepAction : Action → Panel → SessionAsk → Bool → SessionAnswer → Option WorkView → Panel → Type 0
+StepAction (AtOnce effect) p ask f answer work q = StepEffect effect p f answer work q
+StepAction (BetweenScans effect) p ask f answer work q =
+    MatchBool (is_running p) (StepRefused p SettingsConflict f answer q × (work ≡ None)) (StepEffect effect p f answer work q)
+StepAction (AfterScan effect) p ask f answer work q =
+    MatchBool (is_running p) (StepHeld p ask f answer work q) (StepEffect effect p f answer work q)
 
 -- no scan may begin now, for this error: the first that applies
 abbrev pub RefusesScan : Panel → ScpiError → Type 0
@@ -297,12 +234,6 @@ StepStart p plan f answer work q = ⊥
 
 -- ---- asks
 
--- a command is held while a scan runs, or carried out
-abbrev pub StepCommand : Bool → Panel → SessionAsk → Bool → Command → Bool → SessionAnswer → Option WorkView → Panel → Type 0
-StepCommand true p ask answered command f (Hold back) None q = (f ≡ false) × (back ≡ ask) × (q ≡ p)
-StepCommand true p ask answered command f answer work q = ⊥
-StepCommand false p ask answered command f answer work q = StepOffer (happening_of command) p answered command f answer work q
-
 -- what a joined session asks of its seat or of the locks
 pub record IsServed (p : Panel) (ask : SessionAsk) (f : Bool) (answer : SessionAnswer) (q : Panel) : Type 0 where
   pub sessions : SessionsSeen
@@ -313,7 +244,8 @@ pub record IsServed (p : Panel) (ask : SessionAsk) (f : Bool) (answer : SessionA
 -- what a joined session asks that may be done now
 abbrev pub StepJoined : Panel → SessionAsk → Bool → SessionAnswer → Option WorkView → Panel → Type 0
 StepJoined p (Ask.Fault sid e) f (Done None) None q = (f ≡ false) × (q ≡ record p { status = pushed p.status e })
-StepJoined p (Ask.Unit sid command answered) f answer work q = StepCommand (is_running p && waits_for_idle command) p (Ask.Unit sid command answered) answered command f answer work q
+StepJoined p (Ask.Unit sid command answered) f answer work q =
+    StepAction (action_of answered command) p (Ask.Unit sid command answered) f answer work q
 StepJoined p (Ask.Bus sid) f answer work q = StepHappens p Bus TriggerIgnored f answer work q
 StepJoined p (Ask.Snapshot sid) f answer None q = StepSnapshot p f answer q
 StepJoined p (Ask.Start sid plan) f answer work q = StepStart p plan f answer work q
@@ -324,8 +256,7 @@ StepJoined p ask f answer work q = ⊥
 abbrev pub StepAdmitted : Bool → Bool → Panel → SessionAsk → Bool → SessionAnswer → Option WorkView → Panel → Type 0
 StepAdmitted true out p ask f Broken None q = (f ≡ false) × (q ≡ p)
 StepAdmitted true out p ask f answer work q = ⊥
-StepAdmitted false true p ask f (Hold back) None q = (f ≡ false) × (back ≡ ask) × (q ≡ p)
-StepAdmitted false true p ask f answer work q = ⊥
+StepAdmitted false true p ask f answer work q = StepHeld p ask f answer work q
 StepAdmitted false false p ask f answer work q = StepJoined p ask f answer work q
 
 -- what the session asks is dropped now

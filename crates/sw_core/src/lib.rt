@@ -10,6 +10,7 @@
 
 mod ask;
 mod asks;
+mod commands;
 mod event;
 mod laws;
 mod machine;
@@ -18,7 +19,6 @@ mod relays;
 mod scans;
 mod sessions;
 mod text;
-mod units;
 
 pub use ask::{Answer, Ask, SessionAnswer, SessionAsk, Sid, Work};
 pub use laws::{every_run_is_good, every_scan_ends, relays_obey, step_is_determined};

@@ -1,26 +1,23 @@
 //! The whole state of the mainframe, and the one call that changes it.
 
-ghost use Rattle.std.specs.Prelude.{◌≡◌, ◌&&◌, Bool, IfOk, None, Some};
+ghost use Rattle.std.specs.Prelude.{◌≡◌, Bool, IfOk, None, Some};
 ghost use Rattle.sw_cage.specs.Change.{any_failed};
 ghost use Rattle.sw_status.specs.StatusModel.{summary_of};
 ghost use Rattle.sw_core.specs.Sessions.{IsJoined};
 ghost use Rattle.sw_core.specs.View.{ask_view, answer_view, work_view, failed_in, HandsBack, AskInstall, AskEject};
-ghost use Rattle.sw_core.specs.Panel.{Panel, opening, opening_at, is_running};
-ghost use Rattle.sw_core.specs.Registers.{waits_for_idle};
+ghost use Rattle.sw_core.specs.Panel.{Panel, opening, opening_at};
 ghost use Rattle.sw_core.specs.Seats.{asker_of};
-ghost use Rattle.sw_core.specs.Step.{Step, Acts, StepSession, StepNew, StepJoin, StepAttach, StepJoined, StepCommand};
+ghost use Rattle.sw_core.specs.Step.{Step, Acts, StepSession, StepNew, StepJoin, StepAttach, StepJoined};
 
 use crate::ask::{Answer, Ask, SessionAnswer, SessionAsk, Sid, Work};
 use crate::asks::{acts_unnumbered, asker, unnumbered};
-use crate::registers::{calm, waits_for_idle};
-use crate::scans::happening_of;
+use crate::registers::calm;
 use crate::sessions::Sessions;
 use std::alloc::{AllocError, Global};
 use std::marker::Model;
 use sw_base::ScpiError;
 use sw_cage::{Cage, Happening};
 use sw_card::{Card, Meter, Relay};
-use sw_lex::Command;
 use sw_status::Status;
 use sw_trigger::Settings;
 
@@ -216,30 +213,6 @@ impl<R: Relay, M: Meter> Core<R, M> {
             SessionAsk::Start(_, plan) => self.start(alloc, plan),
             SessionAsk::Join | SessionAsk::Attach(_) => unreachable!(),
             ask => (self.sessions.serve(alloc, sid, ask), None),
-        }
-    }
-
-    /// Carries out a command, unless it waits for the end of the scan; `answered` says whether its message has answered
-    /// before.
-    #[tactic(auto, using(crate::proofs::Calls::failed_same))]
-    fn command(
-        &mut self,
-        alloc: Global,
-        sid: Sid,
-        command: Command,
-        answered: bool,
-    ) -> (SessionAnswer, Option<Work<M>>)
-        ensures { StepCommand (is_running self.old && waits_for_idle command) self.old (SessionAsk.Unit sid command answered) answered command (any_failed self.old.cage.rack self.new.cage.rack) result.0 (work_view result.1) self.new }
-    {
-        if self.cage.is_running() && waits_for_idle(&command) {
-            return (
-                SessionAnswer::Hold(SessionAsk::Unit(sid, command, answered)),
-                None,
-            );
-        }
-        match happening_of(&command) {
-            Some((happening, error)) => self.offer(happening, error),
-            None => (self.unit(alloc, command, answered), None),
         }
     }
 }

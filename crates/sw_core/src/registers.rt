@@ -1,17 +1,23 @@
 //! Commands that tell or set status and settings, and call no card.
 
-ghost use Rattle.std.specs.Prelude.{◌≡◌, Bool, Some, None, true, false, if◌then◌else◌};
-ghost use Rattle.sw_core.specs.Registers.{number_told, status_set, alarmed, calmed, is_for_idle, waits_for_idle};
-ghost use Rattle.sw_core.specs.Step.{StepDeed, deed_of};
+ghost use Rattle.std.specs.Prelude.{◌≡◌, [], Bool, decimal, if◌then◌else◌};
+ghost use Rattle.sw_channel.specs.Printing.{printed};
+ghost use Rattle.sw_status.specs.Registers.{event_taken};
+ghost use Rattle.sw_status.specs.StatusModel.{popped, cleared, group_of, with_group};
+ghost use Rattle.sw_core.specs.Action.{with_source};
+ghost use Rattle.sw_base.specs.Reading.{fixed};
+ghost use Rattle.sw_trigger.specs.Settings.{layer_of};
+ghost use Rattle.sw_core.specs.Answers.{oldest_entry, all_entries, source_word};
+ghost use Rattle.sw_core.specs.Registers.{alarmed, calmed};
+ghost use Rattle.sw_core.specs.Step.{StepText, StepReadings, StepDone};
 
 use crate::ask::SessionAnswer;
 use crate::machine::Core;
-use crate::text::{all_entries, all_readings, oldest_entry, whole};
+use crate::text::{all_entries, all_readings, oldest_entry, seconds, source_word, told, whole};
 use std::alloc::Global;
 use sw_base::{LayerName, ScpiError, Sequence, Source, StatusGroup};
 use sw_card::{Meter, Relay};
 use sw_channel::print_list;
-use sw_lex::Command;
 use sw_status::Status;
 
 /// The condition bit of a card's failure (own).
@@ -42,82 +48,17 @@ pub fn tell_failure(status: &mut Status, failed: bool)
     }
 }
 
-/// Sets the status as the command says, if it is one that sets the status alone.
-pub fn set_status(status: &mut Status, command: &Command) -> bool
-    ensures done { result ≡ true → status_set status.old command.now ≡ Some status.new }
-    ensures other { result ≡ false → status_set status.old command.now ≡ None }
-    ensures same { result ≡ false → status.new ≡ status.old }
-{
-    match command {
-        Command::EventEnable(bits) => status.set_ese(*bits),
-        Command::ServiceEnable(bits) => status.set_sre(*bits),
-        Command::Preset => status.preset(),
-        Command::GroupEnable(group, bits) => status.set_enable(*group, *bits),
-        Command::PositiveTransition(group, bits) => status.set_ptr(*group, *bits),
-        Command::NegativeTransition(group, bits) => status.set_ntr(*group, *bits),
-        _ => return false,
-    }
-    true
-}
-
-/// Whether a command is refused while a scan runs.
-pub fn is_for_idle(command: &Command) -> bool
-    ensures { result ≡ is_for_idle command.now }
-{
-    match command {
-        Command::Close(_)
-        | Command::Open(_)
-        | Command::OpenAll
-        | Command::Scan(_)
-        | Command::ScanMeter(_)
-        | Command::Count(_, _)
-        | Command::SetSource(_, _)
-        | Command::Delay(_, _)
-        | Command::Points(_) => true,
-        _ => false,
-    }
-}
-
-/// Whether a command is held until no scan runs.
-pub fn waits_for_idle(command: &Command) -> bool
-    ensures { result ≡ waits_for_idle command.now }
-{
-    match command {
-        Command::OperationCompleteQuery | Command::Wait => true,
-        _ => false,
-    }
-}
-
 impl<R: Relay, M: Meter> Core<R, M> {
-    /// The number that a query answers, if it is one that answers a number and changes nothing by that.
-    pub(crate) fn number(&self, command: &Command, answered: bool) -> Option<u64>
-        ensures { result ≡ number_told self.now answered command.now }
+    /// A number as an answer.
+    pub(crate) fn number(&self, alloc: Global, n: u64) -> SessionAnswer
+        ensures { StepText self.now (decimal n) self.now.status Bool.false result self.now }
     {
-        let status = &self.status;
-        let settings = &self.settings;
-        Some(match command {
-            Command::EventEnableQuery => u64::from(status.ese()),
-            Command::ServiceEnableQuery => u64::from(status.sre()),
-            Command::StatusByteQuery => u64::from(status.byte(answered)),
-            Command::OperationCompleteQuery => 1,
-            Command::SelfTestQuery | Command::InitiateContinuousQuery => 0,
-            Command::GroupConditionQuery(group) => u64::from(status.group(*group).condition()),
-            Command::GroupEnableQuery(group) => u64::from(status.group(*group).enable()),
-            Command::PositiveTransitionQuery(group) => u64::from(status.group(*group).ptr()),
-            Command::NegativeTransitionQuery(group) => u64::from(status.group(*group).ntr()),
-            Command::ErrorCountQuery => status.count() as u64,
-            Command::CountQuery(layer) => u64::from(settings.layer(*layer).count),
-            Command::ScanMeterQuery => u64::from(settings.meter()),
-            Command::PointsQuery => u64::from(settings.points()),
-            Command::ActualPointsQuery => self.cage.readings().len() as u64,
-            Command::BoundQuery => settings.bound(),
-            _ => return None,
-        })
+        told(whole(alloc, n))
     }
 
     /// The channels of the scan.
     pub(crate) fn scan_query(&self, alloc: Global) -> SessionAnswer
-        ensures { StepDeed (deed_of self.now Command.ScanQuery) self.now Bool.false result self.now }
+        ensures { StepText self.now (printed self.now.settings.list) self.now.status Bool.false result self.now }
     {
         match print_list(alloc, self.settings.list()) {
             Ok(text) => SessionAnswer::Done(Some(Sequence::new(text))),
@@ -125,9 +66,23 @@ impl<R: Relay, M: Meter> Core<R, M> {
         }
     }
 
+    /// Where a layer's wait takes its trigger from.
+    pub(crate) fn source_query(&self, alloc: Global, layer: LayerName) -> SessionAnswer
+        ensures { StepText self.now (source_word (layer_of self.now.settings layer).source) self.now.status Bool.false result self.now }
+    {
+        told(source_word(alloc, self.settings.layer(layer).source))
+    }
+
+    /// How long a layer's wait pauses.
+    pub(crate) fn delay_query(&self, alloc: Global, layer: LayerName) -> SessionAnswer
+        ensures { StepText self.now (fixed 6 (layer_of self.now.settings layer).delay_us) self.now.status Bool.false result self.now }
+    {
+        told(seconds(alloc, self.settings.layer(layer).delay_us))
+    }
+
     /// Reads the event status register out.
     pub(crate) fn event_query(&mut self, alloc: Global) -> SessionAnswer
-        ensures { StepDeed (deed_of self.old Command.EventQuery) self.old Bool.false result self.new }
+        ensures { StepText self.old (decimal self.old.status.esr) (record self.old.status { esr = 0 }) Bool.false result self.new }
     {
         match whole(alloc, u64::from(self.status.esr())) {
             Ok(text) => {
@@ -140,7 +95,7 @@ impl<R: Relay, M: Meter> Core<R, M> {
 
     /// Reads a group's event register out.
     pub(crate) fn group_event_query(&mut self, alloc: Global, group: StatusGroup) -> SessionAnswer
-        ensures { StepDeed (deed_of self.old (Command.GroupEventQuery group)) self.old Bool.false result self.new }
+        ensures { StepText self.old (decimal (group_of self.old.status group).event) (with_group self.old.status group (event_taken (group_of self.old.status group))) Bool.false result self.new }
     {
         match whole(alloc, u64::from(self.status.group(group).event())) {
             Ok(text) => {
@@ -153,7 +108,7 @@ impl<R: Relay, M: Meter> Core<R, M> {
 
     /// Takes the oldest error out of the queue.
     pub(crate) fn next_error(&mut self, alloc: Global) -> SessionAnswer
-        ensures { StepDeed (deed_of self.old Command.NextErrorQuery) self.old Bool.false result self.new }
+        ensures { StepText self.old (oldest_entry self.old.status.errors) (popped self.old.status) Bool.false result self.new }
     {
         match oldest_entry(alloc, self.status.all_errors()) {
             Ok(text) => {
@@ -166,7 +121,7 @@ impl<R: Relay, M: Meter> Core<R, M> {
 
     /// Takes all errors out of the queue.
     pub(crate) fn all_errors(&mut self, alloc: Global) -> SessionAnswer
-        ensures { StepDeed (deed_of self.old Command.AllErrorsQuery) self.old Bool.false result self.new }
+        ensures { StepText self.old (all_entries self.old.status.errors) (record self.old.status { errors = [] }) Bool.false result self.new }
     {
         match all_entries(alloc, self.status.all_errors()) {
             Ok(text) => {
@@ -179,7 +134,7 @@ impl<R: Relay, M: Meter> Core<R, M> {
 
     /// The readings of the last scan.
     pub(crate) fn fetch(&self, alloc: Global) -> SessionAnswer
-        ensures { StepDeed (deed_of self.now Command.Fetch) self.now Bool.false result self.now }
+        ensures { StepReadings self.now.cage.readings self.now Bool.false result self.now }
     {
         let readings = self.cage.readings();
         if readings.is_empty() {
@@ -193,7 +148,7 @@ impl<R: Relay, M: Meter> Core<R, M> {
 
     /// Clears the error queue and the event registers, and drops a pending `*OPC` (IEEE 488.2, 10.3).
     pub(crate) fn clear_status(&mut self) -> SessionAnswer
-        ensures { StepDeed (deed_of self.old Command.ClearStatus) self.old Bool.false result self.new }
+        ensures { StepDone (record self.old { status = cleared self.old.status; pending = Bool.false }) Bool.false result self.new }
     {
         self.status.clear();
         self.pending = false;
@@ -202,7 +157,7 @@ impl<R: Relay, M: Meter> Core<R, M> {
 
     /// Lets the end of the scan set its event bit; the end of this event, where no scan runs (IEEE 488.2, 10.18).
     pub(crate) fn complete_operation(&mut self) -> SessionAnswer
-        ensures { StepDeed (deed_of self.old Command.OperationComplete) self.old Bool.false result self.new }
+        ensures { StepDone (record self.old { pending = Bool.true }) Bool.false result self.new }
     {
         self.pending = true;
         SessionAnswer::Done(None)
@@ -210,7 +165,7 @@ impl<R: Relay, M: Meter> Core<R, M> {
 
     /// Sets where a layer's wait takes its trigger from.
     pub(crate) fn set_source(&mut self, layer: LayerName, source: Source) -> SessionAnswer
-        ensures { StepDeed (deed_of self.old (Command.SetSource layer source)) self.old Bool.false result self.new }
+        ensures { StepDone (record self.old { settings = with_source layer source self.old.settings }) Bool.false result self.new }
     {
         self.settings.set_source(layer, source);
         SessionAnswer::Done(None)

@@ -2,8 +2,12 @@
 
 ghost use Rattle.std.specs.Prelude.{◌≡◌, Bool, None};
 ghost use Rattle.sw_cage.specs.Change.{any_failed};
-ghost use Rattle.sw_lex.specs.declared.command.Command.TheVariants.{Abort, CloseState, OpenAll, Reset};
-ghost use Rattle.sw_core.specs.Step.{StepDeed, deed_of, StepClose, StepOpen, StepFlags};
+ghost use Rattle.sw_cage.specs.Rack.{all_open};
+ghost use Rattle.sw_cage.specs.Channels.{closed_list};
+ghost use Rattle.sw_channel.specs.Printing.{printed};
+ghost use Rattle.sw_core.specs.Action.{aborted, reset};
+ghost use Rattle.sw_core.specs.Panel.{with_rack};
+ghost use Rattle.sw_core.specs.Step.{StepText, StepDone, StepClose, StepOpen, StepFlags};
 
 use crate::ask::SessionAnswer;
 use crate::machine::Core;
@@ -59,7 +63,7 @@ impl<R: Relay, M: Meter> Core<R, M> {
     #[tactic(auto, using(crate::proofs::Calls::failed_open))]
     pub(crate) fn open_everything(&mut self) -> SessionAnswer
         requires idle { self.old.cage.scan ≡ None }
-        ensures { StepDeed (deed_of self.old OpenAll) self.old (any_failed self.old.cage.rack self.new.cage.rack) result self.new }
+        ensures { StepDone (with_rack self.old (all_open self.old.cage.rack)) (any_failed self.old.cage.rack self.new.cage.rack) result self.new }
     {
         self.cage.open_all();
         SessionAnswer::Done(None)
@@ -68,7 +72,7 @@ impl<R: Relay, M: Meter> Core<R, M> {
     /// Ends the scan, and opens every relay (SCPI-1999, 3).
     #[tactic(auto, using(crate::proofs::Calls::failed_open))]
     pub(crate) fn abort(&mut self) -> SessionAnswer
-        ensures { StepDeed (deed_of self.old Abort) self.old (any_failed self.old.cage.rack self.new.cage.rack) result self.new }
+        ensures { StepDone (aborted self.old) (any_failed self.old.cage.rack self.new.cage.rack) result self.new }
     {
         self.cage.abort();
         SessionAnswer::Done(None)
@@ -78,7 +82,7 @@ impl<R: Relay, M: Meter> Core<R, M> {
     /// values (IEEE 488.2, 10.32).
     #[tactic(auto, using(crate::proofs::Calls::failed_open))]
     pub(crate) fn reset(&mut self) -> SessionAnswer
-        ensures { StepDeed (deed_of self.old Reset) self.old (any_failed self.old.cage.rack self.new.cage.rack) result self.new }
+        ensures { StepDone (reset self.old) (any_failed self.old.cage.rack self.new.cage.rack) result self.new }
     {
         self.cage.abort();
         self.cage.reset_readings();
@@ -103,7 +107,7 @@ impl<R: Relay, M: Meter> Core<R, M> {
 
     /// The list of the closed channels.
     pub(crate) fn close_state(&self, alloc: Global) -> SessionAnswer
-        ensures { StepDeed (deed_of self.now CloseState) self.now Bool.false result self.now }
+        ensures { StepText self.now (printed (closed_list self.now.cage.rack)) self.now.status Bool.false result self.now }
     {
         match self.cage.closed_chans(alloc) {
             Ok(closed) => match print_list(alloc, &closed) {

@@ -6,37 +6,16 @@ ghost use Rattle.sw_cage.specs.TakenSeen.{taken_seen};
 ghost use Rattle.sw_verify.specs.Check.{IsReady};
 ghost use Rattle.sw_core.specs.View.{work_view, answer_view, failed_in, AskFinished, HandsBack};
 ghost use Rattle.sw_core.specs.declared.ask.Ask.TheVariants as Ask;
-ghost use Rattle.sw_core.specs.Step.{Happens, StepHappens, StepOutside, StepFinished, StepSnapshot, StepStart, RefusesScan, MayScan, session_told, outside_told, started_answer, work_of, is_fault, snapshot_of, happening_of};
+ghost use Rattle.sw_core.specs.Step.{Happens, StepHappens, StepOutside, StepFinished, StepSnapshot, StepStart, RefusesScan, MayScan, session_told, outside_told, started_answer, work_of, is_fault, snapshot_of};
 
 use crate::ask::{Answer, SessionAnswer, Work};
 use crate::machine::Core;
 use crate::registers::{alarm, tell_failure};
 use std::alloc::{AllocError, Global};
-use sw_base::{LayerName, ScpiError, Sequence};
+use sw_base::{ScpiError, Sequence};
 use sw_cage::{Finished, Happening, Taken};
 use sw_card::{Meter, Relay};
-use sw_lex::Command;
 use sw_verify::{Plan, Snapshot};
-
-/// The happening that a command is, and its error where no scan takes it.
-pub fn happening_of(command: &Command) -> Option<(Happening, ScpiError)>
-    ensures { result ≡ happening_of command.now }
-{
-    match command {
-        Command::Trigger => Some((Happening::Bus, ScpiError::TriggerIgnored)),
-        Command::Signal(LayerName::Trigger) => Some((
-            Happening::Signal(LayerName::Trigger),
-            ScpiError::TriggerIgnored,
-        )),
-        Command::Signal(LayerName::Arm1) => {
-            Some((Happening::Signal(LayerName::Arm1), ScpiError::ArmIgnored))
-        }
-        Command::Signal(LayerName::Arm2) => {
-            Some((Happening::Signal(LayerName::Arm2), ScpiError::ArmIgnored))
-        }
-        _ => None,
-    }
-}
 
 /// The work that a scan awaits once it has come to this.
 fn work_of<M: Meter>(told: Taken<M>) -> Option<Work<M>>

@@ -1,59 +1,87 @@
 -- A unit is begun.
-use Rattle.std.proofs.Common.{◌≡◌, Bool, true, false, MatchBool, List, Ok, Err, sym, subst}
+use Rattle.std.proofs.Common.{◌≡◌, ℕ, Bool, true, false, List, Option, Ok, Err, refl, sym, subst}
 use Rattle.sw_base.specs.declared.error.ScpiError.{ScpiError}
 use Rattle.sw_lex.specs.declared.command.Command.{Command}
+use Rattle.sw_lex.specs.declared.command.Command.TheVariants.{DefineMacro, MacroQuery, MacroLabelsQuery, RemoveMacro, PurgeMacros, EnableMacros, EnableMacrosQuery, Initiate, InitiateContinuous, Reset, Signal}
+use Rattle.sw_base.specs.declared.terms.LayerName.TheVariants as layer_name
+use Rattle.sw_core.specs.Action.{Effect, IsOfMacros, action_of}
+use Rattle.sw_core.specs.declared.ask.SessionAnswer.TheVariants.{Done}
 use Rattle.sw_macro.specs.Table.{Table}
 use Rattle.sw_core.specs.declared.ask.Sid.{Sid}
 use Rattle.sw_core.specs.declared.ask.SessionAsk.TheVariants as Ask
 use Rattle.sw_core.specs.declared.ask.SessionAnswer.{SessionAnswer}
 use Rattle.sw_session.specs.Trace.{Entry, Led}
-use Rattle.sw_session.specs.Macros.{Told, Acts, is_of_macros}
-use Rattle.sw_session.specs.Talk.{Queues, Settles, Begins, Reports, Obeys, Asks, Delivers, Initiates, Plans, is_initiate, table_after}
-use Rattle.sw_session.proofs.Led.{led-so, led-then}
+use Rattle.sw_session.specs.Macros.{Told, Acts}
+use Rattle.sw_session.specs.Talk.{Queues, Settles, Begins, BeginsBy, begun, effect_of, Reports, StartsScan, Plans, table_reset}
+use Rattle.sw_session.proofs.Led.{led-none, led-so, led-then}
 
 module _ {D : Type 0} (passes : D → Entry → D → Type 0) (sid : Sid) where
   pub initiate-planned : (d0 d1 d2 : D) (told final : SessionAnswer) → Led passes d0 d1 (λ t rest. Settles sid 0 (Ask.Snapshot sid) t told rest) → Led passes d1 d2 (λ t rest. Plans sid told t final rest)
-      → Led passes d0 d2 (λ t rest. Initiates sid t final rest)
+      → Led passes d0 d2 (λ t rest. StartsScan sid t final rest)
   initiate-planned d0 d1 d2 told final p q =
-      led-then passes d0 d1 d2 (λ t rest. Settles sid 0 (Ask.Snapshot sid) t told rest) (λ t rest. Plans sid told t final rest) (λ t rest. Initiates sid t final rest) p q
+      led-then passes d0 d1 d2 (λ t rest. Settles sid 0 (Ask.Snapshot sid) t told rest) (λ t rest. Plans sid told t final rest) (λ t rest. StartsScan sid t final rest) p q
       (λ t mid rest s k. (told, mid, s, k))
 
-  delivers : (b : Bool) (command : Command) (answered : Bool) (t : List Entry) (final : SessionAnswer) (rest : List Entry) → is_initiate command ≡ b → MatchBool b (Initiates sid t final rest) (Settles sid 0 (Ask.Unit sid command answered) t final rest)
-      → Delivers sid answered command t final rest
-  delivers b command answered t final rest is m =
-      subst (λ (x : Bool). MatchBool x (Initiates sid t final rest) (Settles sid 0 (Ask.Unit sid command answered) t final rest)) (sym is) m
+  -- a command that is the mainframe's is asked
+  asked : (command : Command) (answered : Bool) (macros : Table) (t : List Entry) (final : SessionAnswer) (rest : List Entry)
+      → ((label body : List ℕ) → command ≡ DefineMacro label body → ⊥) → ((label : List ℕ) → command ≡ MacroQuery label → ⊥) → (command ≡ MacroLabelsQuery → ⊥)
+      → ((label : List ℕ) → command ≡ RemoveMacro label → ⊥) → (command ≡ PurgeMacros → ⊥) → ((on : Bool) → command ≡ EnableMacros on → ⊥) → (command ≡ EnableMacrosQuery → ⊥)
+      → (command ≡ Initiate → ⊥) → (command ≡ Reset → ⊥) → Settles sid 0 (Ask.Unit sid command answered) t final rest
+      → Begins sid answered (Ok command) macros t (begun final macros rest)
+  asked (DefineMacro label body) answered macros t final rest n1 n2 n3 n4 n5 n6 n7 n8 n9 s = absurd (n1 label body refl)
+  asked (MacroQuery label) answered macros t final rest n1 n2 n3 n4 n5 n6 n7 n8 n9 s = absurd (n2 label refl)
+  asked MacroLabelsQuery answered macros t final rest n1 n2 n3 n4 n5 n6 n7 n8 n9 s = absurd (n3 refl)
+  asked (RemoveMacro label) answered macros t final rest n1 n2 n3 n4 n5 n6 n7 n8 n9 s = absurd (n4 label refl)
+  asked PurgeMacros answered macros t final rest n1 n2 n3 n4 n5 n6 n7 n8 n9 s = absurd (n5 refl)
+  asked (EnableMacros on) answered macros t final rest n1 n2 n3 n4 n5 n6 n7 n8 n9 s = absurd (n6 on refl)
+  asked EnableMacrosQuery answered macros t final rest n1 n2 n3 n4 n5 n6 n7 n8 n9 s = absurd (n7 refl)
+  asked Initiate answered macros t final rest n1 n2 n3 n4 n5 n6 n7 n8 n9 s = absurd (n8 refl)
+  asked Reset answered macros t final rest n1 n2 n3 n4 n5 n6 n7 n8 n9 s = absurd (n9 refl)
+  asked (Signal layer_name.Trigger) answered macros t final rest n1 n2 n3 n4 n5 n6 n7 n8 n9 s = (s, refl)
+  asked (Signal layer_name.Arm1) answered macros t final rest n1 n2 n3 n4 n5 n6 n7 n8 n9 s = (s, refl)
+  asked (Signal layer_name.Arm2) answered macros t final rest n1 n2 n3 n4 n5 n6 n7 n8 n9 s = (s, refl)
+  asked (InitiateContinuous true) answered macros t final rest n1 n2 n3 n4 n5 n6 n7 n8 n9 s = (s, refl)
+  asked (InitiateContinuous false) answered macros t final rest n1 n2 n3 n4 n5 n6 n7 n8 n9 s = (s, refl)
+  asked command answered macros t final rest n1 n2 n3 n4 n5 n6 n7 n8 n9 s = (s, refl)
 
-  pub deliver-initiate : (d0 d1 : D) (command : Command) (answered : Bool) (final : SessionAnswer) → is_initiate command ≡ true → Led passes d0 d1 (λ t rest. Initiates sid t final rest) → Led passes d0 d1 (λ t rest. Delivers sid answered command t final rest)
-  deliver-initiate d0 d1 command answered final is p =
-      led-so passes d0 d1 (λ t rest. Initiates sid t final rest) (λ t rest. Delivers sid answered command t final rest) p (λ t rest k. delivers true command answered t final rest is k)
-
-  -- a command was asked, and macros are switched off where that was a reset that is done
-  pub asks-delivered : (d0 d1 : D) (command : Command) (answered : Bool) (final : SessionAnswer) (macros macros' : Table) → macros' ≡ table_after command final macros → Led passes d0 d1 (λ t rest. Delivers sid answered command t final rest)
-      → Led passes d0 d1 (λ t rest. Asks sid answered command macros t final macros' rest)
-  asks-delivered d0 d1 command answered final macros macros' is p =
-      led-so passes d0 d1 (λ t rest. Delivers sid answered command t final rest) (λ t rest. Asks sid answered command macros t final macros' rest) p (λ t rest k. (k, is))
-
-  begins : (b : Bool) (command : Command) (answered : Bool) (macros : Table) (t : List Entry) (final : SessionAnswer) (macros' : Table) (rest : List Entry) → is_of_macros command ≡ b
-      → MatchBool b (Obeys sid command macros t final macros' rest) (Asks sid answered command macros t final macros' rest) → Begins sid answered (Ok command) macros t final macros' rest
-  begins b command answered macros t final macros' rest is m =
-      subst (λ (x : Bool). MatchBool x (Obeys sid command macros t final macros' rest) (Asks sid answered command macros t final macros' rest)) (sym is) m
+  pub begins-asked : (d0 d1 : D) (command : Command) (answered : Bool) (final : SessionAnswer) (macros : Table)
+      → ((label body : List ℕ) → command ≡ DefineMacro label body → ⊥) → ((label : List ℕ) → command ≡ MacroQuery label → ⊥) → (command ≡ MacroLabelsQuery → ⊥)
+      → ((label : List ℕ) → command ≡ RemoveMacro label → ⊥) → (command ≡ PurgeMacros → ⊥) → ((on : Bool) → command ≡ EnableMacros on → ⊥) → (command ≡ EnableMacrosQuery → ⊥)
+      → (command ≡ Initiate → ⊥) → (command ≡ Reset → ⊥) → Led passes d0 d1 (λ t rest. Settles sid 0 (Ask.Unit sid command answered) t final rest)
+      → Led passes d0 d1 (λ t rest. Begins sid answered (Ok command) macros t (begun final macros rest))
+  begins-asked d0 d1 command answered final macros n1 n2 n3 n4 n5 n6 n7 n8 n9 p =
+      led-so passes d0 d1 (λ t rest. Settles sid 0 (Ask.Unit sid command answered) t final rest) (λ t rest. Begins sid answered (Ok command) macros t (begun final macros rest)) p
+      (λ t rest s. asked command answered macros t final rest n1 n2 n3 n4 n5 n6 n7 n8 n9 s)
 
   -- a macro command was carried out
-  pub begins-obeyed : (d0 d1 : D) (command : Command) (answered : Bool) (told : Told) (final : SessionAnswer) (macros macros' : Table) → is_of_macros command ≡ true → Acts command macros told macros' → Led passes d0 d1 (λ t rest. Reports sid told t final rest)
-      → Led passes d0 d1 (λ t rest. Begins sid answered (Ok command) macros t final macros' rest)
-  begins-obeyed d0 d1 command answered told final macros macros' is acts p =
-      led-so passes d0 d1 (λ t rest. Reports sid told t final rest) (λ t rest. Begins sid answered (Ok command) macros t final macros' rest) p
-      (λ t rest k. begins true command answered macros t final macros' rest is (told, acts, k))
+  pub begins-reported : (d0 d1 : D) (command : Command) (answered : Bool) (told : Told) (final : SessionAnswer) (macros macros' : Table) → effect_of (action_of answered command) ≡ IsOfMacros → Acts command macros told macros'
+      → Led passes d0 d1 (λ t rest. Reports sid told t final rest) → Led passes d0 d1 (λ t rest. Begins sid answered (Ok command) macros t (begun final macros' rest))
+  begins-reported d0 d1 command answered told final macros macros' is acts p =
+      led-so passes d0 d1 (λ t rest. Reports sid told t final rest) (λ t rest. Begins sid answered (Ok command) macros t (begun final macros' rest)) p
+      (λ t rest k. subst (λ (e : Effect). BeginsBy e sid answered command macros t (begun final macros' rest)) (sym is) (told, acts, k))
 
-  -- another command was asked
-  pub begins-asked : (d0 d1 : D) (command : Command) (answered : Bool) (final : SessionAnswer) (macros same macros' : Table) → is_of_macros command ≡ false → same ≡ macros → Led passes d0 d1 (λ t rest. Asks sid answered command same t final macros' rest)
-      → Led passes d0 d1 (λ t rest. Begins sid answered (Ok command) macros t final macros' rest)
-  begins-asked d0 d1 command answered final macros same macros' is kept p =
-      led-so passes d0 d1 (λ t rest. Asks sid answered command same t final macros' rest) (λ t rest. Begins sid answered (Ok command) macros t final macros' rest) p
-      (λ t rest k. begins false command answered macros t final macros' rest is (subst (λ (x : Table). Asks sid answered command x t final macros' rest) kept k))
+  -- and needed no desk
+  pub begins-done : (d : D) (command : Command) (answered : Bool) (text : Option (List ℕ)) (macros macros' : Table) → effect_of (action_of answered command) ≡ IsOfMacros → Acts command macros (Ok text) macros'
+      → Led passes d d (λ t rest. Begins sid answered (Ok command) macros t (begun (Done text) macros' rest))
+  begins-done d command answered text macros macros' is acts =
+      led-none passes d (λ t rest. Begins sid answered (Ok command) macros t (begun (Done text) macros' rest))
+      (λ rest. subst (λ (e : Effect). BeginsBy e sid answered command macros rest (begun (Done text) macros' rest)) (sym is) (Ok text, acts, (refl, refl)))
+
+  -- a scan was to start
+  pub begins-scan : (d0 d1 : D) (command : Command) (answered : Bool) (final : SessionAnswer) (macros : Table) → command ≡ Initiate → Led passes d0 d1 (λ t rest. StartsScan sid t final rest)
+      → Led passes d0 d1 (λ t rest. Begins sid answered (Ok command) macros t (begun final macros rest))
+  begins-scan d0 d1 command answered final macros is p =
+      led-so passes d0 d1 (λ t rest. StartsScan sid t final rest) (λ t rest. Begins sid answered (Ok command) macros t (begun final macros rest)) p
+      (λ t rest k. subst (λ (x : Command). Begins sid answered (Ok x) macros t (begun final macros rest)) (sym is) (k, refl))
+
+  -- a reset was asked
+  pub begins-reset : (d0 d1 : D) (answered : Bool) (final : SessionAnswer) (macros macros' : Table) → macros' ≡ table_reset final macros
+      → Led passes d0 d1 (λ t rest. Settles sid 0 (Ask.Unit sid Reset answered) t final rest) → Led passes d0 d1 (λ t rest. Begins sid answered (Ok Reset) macros t (begun final macros' rest))
+  begins-reset d0 d1 answered final macros macros' is p =
+      led-so passes d0 d1 (λ t rest. Settles sid 0 (Ask.Unit sid Reset answered) t final rest) (λ t rest. Begins sid answered (Ok Reset) macros t (begun final macros' rest)) p (λ t rest k. (k, is))
 
   -- an error was queued
   pub begins-queued : (d0 d1 : D) (e : ScpiError) (answered : Bool) (final : SessionAnswer) (macros macros' : Table) → macros' ≡ macros → Led passes d0 d1 (λ t rest. Queues sid e t final rest)
-      → Led passes d0 d1 (λ t rest. Begins sid answered (Err e) macros t final macros' rest)
+      → Led passes d0 d1 (λ t rest. Begins sid answered (Err e) macros t (begun final macros' rest))
   begins-queued d0 d1 e answered final macros macros' is p =
-      led-so passes d0 d1 (λ t rest. Queues sid e t final rest) (λ t rest. Begins sid answered (Err e) macros t final macros' rest) p (λ t rest k. (k, is))
+      led-so passes d0 d1 (λ t rest. Queues sid e t final rest) (λ t rest. Begins sid answered (Err e) macros t (begun final macros' rest)) p (λ t rest k. (k, is))

@@ -14,6 +14,7 @@ use Rattle.sw_verify.specs.declared.refusal.Refusal.TheVariants.{EmptyList, NoCh
 use Rattle.sw_verify.specs.Check.{IsFirst, number_of, error_of}
 use Rattle.sw_macro.specs.Table.{Table}
 use Rattle.sw_macro.specs.Expansion.{calls, Expands}
+use Rattle.sw_core.specs.Action.{Effect, IsOfMacros, Initiates, Resets, action_of}
 use Rattle.sw_core.specs.declared.ask.Sid.{Sid}
 use Rattle.sw_core.specs.declared.ask.SessionAsk.{SessionAsk}
 use Rattle.sw_core.specs.declared.ask.SessionAsk.TheVariants as Ask
@@ -25,8 +26,8 @@ use Rattle.sw_session.specs.declared.talker.After.{After}
 use Rattle.sw_session.specs.declared.talker.After.TheVariants.{Goes, Drops, Ends}
 use Rattle.sw_session.specs.Trace.{Entry, Asked, Waited}
 use Rattle.sw_session.specs.Script.{Ending, Complete, Refuses, Unread, IsScript}
-use Rattle.sw_session.specs.Macros.{Told, is_of_macros}
-use Rattle.sw_session.specs.Talk.{Queues, Settles, Begins, Obeys, Asks, Delivers, Reports, Initiates, Plans, is_initiate, table_after, Concludes, Serves, Standing, standing, Proceeds, Way, Talks, Itself, Unfolds, IsExpansion, Expanded, TalksUnits, Overruns, queued, after_of, has_answers, written, longest, turns}
+use Rattle.sw_session.specs.Macros.{Told}
+use Rattle.sw_session.specs.Talk.{Queues, Settles, Begins, BeginsBy, Begun, begun, effect_of, Reports, StartsScan, Plans, table_reset, Concludes, Serves, Standing, standing, Proceeds, Way, Talks, Itself, Unfolds, IsExpansion, Expanded, TalksUnits, Overruns, queued, after_of, has_answers, written, longest, turns}
 use Rattle.sw_session.specs.Law.{IsAmple, AllAmple, SameTalk, left, TalkIsDetermined}
 use Rattle.sw_session.proofs.Acted.{acts-same, written_so}
 
@@ -201,21 +202,10 @@ plans-same b b' sid (Refused e) t t' r r' f f' p q next = stands-same b b' (Refu
 plans-same b b' sid (Hold h) t t' r r' f f' p q next = stands-same b b' (Hold h) t t' r r' f f' p q next
 plans-same b b' sid (Worn h) t t' r r' f f' p q next = stands-same b b' (Worn h) t t' r r' f f' p q next
 
-initiates-same : {T : Type 0} (b b' : T) (sid : Sid) (t t' r r' : List Entry) (f f' : SessionAnswer) → Initiates sid t f r → Initiates sid t' f' r' → (f ≡ f' → Rests b b' r r') → Rests b b' t t'
-initiates-same b b' sid t t' r r' f f' (told, mid, p, k) (told', mid', p', k') next =
+starts-same : {T : Type 0} (b b' : T) (sid : Sid) (t t' r r' : List Entry) (f f' : SessionAnswer) → StartsScan sid t f r → StartsScan sid t' f' r' → (f ≡ f' → Rests b b' r r') → Rests b b' t t'
+starts-same b b' sid t t' r r' f f' (told, mid, p, k) (told', mid', p', k') next =
     settles-same b b' sid 0 (Ask.Snapshot sid) t t' mid mid' told told' p p'
     (λ same. plans-same b b' sid told mid mid' r r' f f' k (subst (λ (x : SessionAnswer). Plans sid x mid' f' r') (sym same) k') next)
-
-delivers-same : {T : Type 0} (b b' : T) (sid : Sid) (answered : Bool) (command : Command) (t t' r r' : List Entry) (f f' : SessionAnswer) → Delivers sid answered command t f r → Delivers sid answered command t' f' r' → (f ≡ f' → Rests b b' r r') → Rests b b' t t'
-delivers-same b b' sid answered command t t' r r' f f' p q next =
-    either-way (is_initiate command) (Initiates sid t f r) (Settles sid 0 (Ask.Unit sid command answered) t f r) (Initiates sid t' f' r') (Settles sid 0 (Ask.Unit sid command answered) t' f' r') p q
-    (λ k k'. initiates-same b b' sid t t' r r' f f' k k' next)
-    (λ k k'. settles-same b b' sid 0 (Ask.Unit sid command answered) t t' r r' f f' k k' next)
-
-asks-same : {T : Type 0} (b b' : T) (sid : Sid) (answered : Bool) (command : Command) (macros : Table) (t t' r r' : List Entry) (f f' : SessionAnswer) (m m' : Table) → Asks sid answered command macros t f m r → Asks sid answered command macros t' f' m' r'
-    → (f ≡ f' → m ≡ m' → Rests b b' r r') → Rests b b' t t'
-asks-same b b' sid answered command macros t t' r r' f f' m m' (p, is) (q, is') next =
-    delivers-same b b' sid answered command t t' r r' f f' p q (λ same. next same (is ∙ ap (λ (x : SessionAnswer). table_after command x macros) same ∙ sym is'))
 
 reports-same : {T : Type 0} (b b' : T) (sid : Sid) (told : Told) (t t' r r' : List Entry) (f f' : SessionAnswer) → Reports sid told t f r → Reports sid told t' f' r' → (f ≡ f' → Rests b b' r r') → Rests b b' t t'
 reports-same b b' sid (Ok text) t t' r r' f f' p q next = stands-same b b' (Done text) t t' r r' f f' p q next
@@ -225,19 +215,35 @@ reports-same b b' sid (Err e) t t' r r' f f' p q next = queues-same b b' sid e t
 reports-ample : (sid : Sid) (told : Told) (t r : List Entry) (f : SessionAnswer) → AllAmple t → Reports sid told t f r → told ≡ Err OutOfMemory → ⊥
 reports-ample sid told t r f m p is = no-loss sid t r f m (subst (λ (x : Told). Reports sid x t f r) is p)
 
-obeys-same : {T : Type 0} (b b' : T) (sid : Sid) (command : Command) (macros : Table) (t t' r r' : List Entry) (f f' : SessionAnswer) (m m' : Table) → Obeys sid command macros t f m r → Obeys sid command macros t' f' m' r'
-    → (f ≡ f' → m ≡ m' → Rests b b' r r') → Rests b b' t t'
-obeys-same b b' sid command macros t t' r r' f f' m m' (told, acts, p) (told', acts', q) next = λ x y.
-    let one = acts-same command macros told told' m m' acts acts' (reports-ample sid told t r f x p) (reports-ample sid told' t' r' f' y q) in
-    reports-same b b' sid told t t' r r' f f' p (subst (λ (k : Told). Reports sid k t' f' r') (sym one.0) q) (λ same. next same one.1) x y
+-- what comes of two units that were begun alike
+abbrev Onward : {T : Type 0} → T → T → Begun → Begun → Type 0
+Onward b b' x x' = x.answer ≡ x'.answer → x.macros ≡ x'.macros → Rests b b' x.rest x'.rest
 
-begins-same : {T : Type 0} (b b' : T) (sid : Sid) (answered : Bool) (command : Result Command ScpiError) (macros : Table) (t t' r r' : List Entry) (f f' : SessionAnswer) (m m' : Table) → Begins sid answered command macros t f m r → Begins sid answered command macros t' f' m' r'
-    → (f ≡ f' → m ≡ m' → Rests b b' r r') → Rests b b' t t'
-begins-same b b' sid answered (Ok command) macros t t' r r' f f' m m' p q next =
-    either-way (is_of_macros command) (Obeys sid command macros t f m r) (Asks sid answered command macros t f m r) (Obeys sid command macros t' f' m' r') (Asks sid answered command macros t' f' m' r') p q
-    (λ k k'. obeys-same b b' sid command macros t t' r r' f f' m m' k k' next)
-    (λ k k'. asks-same b b' sid answered command macros t t' r r' f f' m m' k k' next)
-begins-same b b' sid answered (Err e) macros t t' r r' f f' m m' (p, is) (q, is') next = queues-same b b' sid e t t' r r' f f' p q (λ same. next same (is ∙ sym is'))
+obeys-same : {T : Type 0} (b b' : T) (sid : Sid) (answered : Bool) (command : Command) (macros : Table) (t t' : List Entry) (x x' : Begun)
+    → BeginsBy IsOfMacros sid answered command macros t x → BeginsBy IsOfMacros sid answered command macros t' x' → Onward b b' x x' → Rests b b' t t'
+obeys-same b b' sid answered command macros t t' x x' (told, acts, p) (told', acts', q) next = λ y z.
+    let one = acts-same command macros told told' x.macros x'.macros acts acts' (reports-ample sid told t x.rest x.answer y p) (reports-ample sid told' t' x'.rest x'.answer z q) in
+    reports-same b b' sid told t t' x.rest x'.rest x.answer x'.answer p (subst (λ (k : Told). Reports sid k t' x'.answer x'.rest) (sym one.0) q) (λ same. next same one.1) y z
+
+asks-same : {T : Type 0} (b b' : T) (sid : Sid) (ask : SessionAsk) (macros : Table) (t t' : List Entry) (x x' : Begun)
+    → Settles sid 0 ask t x.answer x.rest × (x.macros ≡ macros) → Settles sid 0 ask t' x'.answer x'.rest × (x'.macros ≡ macros) → Onward b b' x x' → Rests b b' t t'
+asks-same b b' sid ask macros t t' x x' p q next =
+    settles-same b b' sid 0 ask t t' x.rest x'.rest x.answer x'.answer p.0 q.0 (λ same. next same (p.1 ∙ sym q.1))
+
+by-same : {T : Type 0} (b b' : T) (effect : Effect) (sid : Sid) (answered : Bool) (command : Command) (macros : Table) (t t' : List Entry) (x x' : Begun)
+    → BeginsBy effect sid answered command macros t x → BeginsBy effect sid answered command macros t' x' → Onward b b' x x' → Rests b b' t t'
+by-same b b' IsOfMacros sid answered command macros t t' x x' p q next = obeys-same b b' sid answered command macros t t' x x' p q next
+by-same b b' Initiates sid answered command macros t t' x x' p q next =
+    starts-same b b' sid t t' x.rest x'.rest x.answer x'.answer p.0 q.0 (λ same. next same (p.1 ∙ sym q.1))
+by-same b b' Resets sid answered command macros t t' x x' p q next =
+    settles-same b b' sid 0 (Ask.Unit sid command answered) t t' x.rest x'.rest x.answer x'.answer p.0 q.0
+    (λ same. next same (p.1 ∙ ap (λ (a : SessionAnswer). table_reset a macros) same ∙ sym q.1))
+by-same b b' effect sid answered command macros t t' x x' p q next = asks-same b b' sid (Ask.Unit sid command answered) macros t t' x x' p q next
+
+begins-same : {T : Type 0} (b b' : T) (sid : Sid) (answered : Bool) (command : Result Command ScpiError) (macros : Table) (t t' : List Entry) (x x' : Begun)
+    → Begins sid answered command macros t x → Begins sid answered command macros t' x' → Onward b b' x x' → Rests b b' t t'
+begins-same b b' sid answered (Ok command) macros t t' x x' p q next = by-same b b' (effect_of (action_of answered command)) sid answered command macros t t' x x' p q next
+begins-same b b' sid answered (Err e) macros t t' x x' (p, is) (q, is') next = queues-same b b' sid e t t' x.rest x'.rest x.answer x'.answer p q (λ same. next same (is ∙ sym is'))
 
 -- what comes of an answer that is no text
 plain-same : {T : Type 0} (b b' : T) (t t' r r' : List Entry) (s after after' : After) (answers told told' : List (List ℕ)) → (after ≡ s) × (told ≡ answers) × (r ≡ t) → (after' ≡ s) × (told' ≡ answers) × (r' ≡ t')
@@ -274,14 +280,14 @@ standing-same s s' m a = ap (λ (x : Table). standing x s.answers) m ∙ ap (λ 
 serves-same : {T : Type 0} (b b' : T) (sid : Sid) (command : Result Command ScpiError) (s : Standing) (t t' r r' : List Entry) (after after' : After) (told told' : Standing) → Serves sid command s t after told r → Serves sid command s t' after' told' r'
     → (after ≡ after' → told ≡ told' → Rests b b' r r') → Rests b b' t t'
 serves-same b b' sid command s t t' r r' after after' told told' (f, mid, p, k) (f', mid', p', k') next =
-    begins-same b b' sid (has_answers s.answers) command s.macros t t' mid mid' f f' told.macros told'.macros p p'
+    begins-same b b' sid (has_answers s.answers) command s.macros t t' (begun f told.macros mid) (begun f' told'.macros mid') p p'
     (λ same macros. concludes-same b b' sid s.answers f mid mid' r r' after after' told.answers told'.answers k (subst (λ (x : SessionAnswer). Concludes sid s.answers x mid' after' told'.answers r') (sym same) k')
     (λ go answers. next go (standing-same told told' macros answers)))
 
 -- the command of a unit that was served is no want of memory
 serves-ample : (sid : Sid) (command : Result Command ScpiError) (s : Standing) (t r : List Entry) (after : After) (told : Standing) → AllAmple t → Serves sid command s t after told r → command ≡ Err OutOfMemory → ⊥
 serves-ample sid command s t r after told m (f, mid, p, k) is =
-    no-loss sid t mid f m (subst (λ (c : Result Command ScpiError). Begins sid (has_answers s.answers) c s.macros t f told.macros mid) is p).0
+    no-loss sid t mid f m (subst (λ (c : Result Command ScpiError). Begins sid (has_answers s.answers) c s.macros t (begun f told.macros mid)) is p).0
 
 -- ---- the units
 

@@ -20,7 +20,7 @@ use Rattle.sw_session.specs.declared.talker.After.{After}
 use Rattle.sw_session.specs.declared.talker.After.TheVariants.{Goes, Drops, Ends}
 use Rattle.sw_session.specs.Trace.{Entry, Asked, Waited, Led}
 use Rattle.sw_session.specs.Script.{Ending, Complete, Refuses, Unread, IsScript}
-use Rattle.sw_session.specs.Talk.{Queues, Settles, Begins, Concludes, Serves, Standing, standing, Proceeds, Way, Talks, Itself, Unfolds, IsExpansion, Expanded, TalksUnits, TalksMessage, Talked, Overruns, has_answers, line_of, written, longest, turns}
+use Rattle.sw_session.specs.Talk.{Queues, Settles, Begins, begun, Concludes, Serves, Standing, standing, Proceeds, Way, Talks, Itself, Unfolds, IsExpansion, Expanded, TalksUnits, TalksMessage, Talked, Overruns, has_answers, line_of, written, longest, turns}
 use Rattle.sw_session.proofs.Led.{led-none, led-so, led-more, led-then}
 
 -- an ask that was held turn times is asked, or given up
@@ -84,11 +84,11 @@ settle-told passes d0 d1 d2 sid turn ask asked final lt same differ led p =
 
 -- a unit that was begun is concluded
 pub serve-unit : {D : Type 0} (passes : D → Entry → D → Type 0) (d0 d1 d2 : D) (sid : Sid) (command : Result Command ScpiError) (answered : Bool) (macros macros' : Table) (answers : List (List ℕ)) (answer : SessionAnswer) (after : After) (answers' : List (List ℕ))
-    → answered ≡ has_answers answers → Led passes d0 d1 (λ t rest. Begins sid answered command macros t answer macros' rest) → Led passes d1 d2 (λ t rest. Concludes sid answers answer t after answers' rest)
+    → answered ≡ has_answers answers → Led passes d0 d1 (λ t rest. Begins sid answered command macros t (begun answer macros' rest)) → Led passes d1 d2 (λ t rest. Concludes sid answers answer t after answers' rest)
     → Led passes d0 d2 (λ t rest. Serves sid command (standing macros answers) t after (standing macros' answers') rest)
 serve-unit passes d0 d1 d2 sid command answered macros macros' answers answer after answers' told p q =
-    led-then passes d0 d1 d2 (λ t rest. Begins sid answered command macros t answer macros' rest) (λ t rest. Concludes sid answers answer t after answers' rest) (λ t rest. Serves sid command (standing macros answers) t after (standing macros' answers') rest) p q
-    (λ t mid rest b k. (answer, mid, subst (λ (w : Bool). Begins sid w command macros t answer macros' mid) told b, k))
+    led-then passes d0 d1 d2 (λ t rest. Begins sid answered command macros t (begun answer macros' rest)) (λ t rest. Concludes sid answers answer t after answers' rest) (λ t rest. Serves sid command (standing macros answers) t after (standing macros' answers') rest) p q
+    (λ t mid rest b k. (answer, mid, subst (λ (w : Bool). Begins sid w command macros t (begun answer macros' mid)) told b, k))
 
 -- a script of what is left, after these units, is one of the whole text
 abbrev pub ScriptsBy : List ℕ → List UnitView → List ℕ → Type 0

@@ -65,13 +65,3 @@ Acts PurgeMacros t told t' = (told ≡ Ok None) × (t' ≡ record t { macros = [
 Acts (EnableMacros on) t told t' = (told ≡ Ok None) × (t' ≡ record t { on = on })
 Acts EnableMacrosQuery t told t' = Tells (flag_of t.on) told × (t' ≡ t)
 Acts command t told t' = ⊥
-
-abbrev pub is_of_macros : Command → Bool
-is_of_macros (DefineMacro label body) = true
-is_of_macros (MacroQuery label) = true
-is_of_macros MacroLabelsQuery = true
-is_of_macros (RemoveMacro label) = true
-is_of_macros PurgeMacros = true
-is_of_macros (EnableMacros on) = true
-is_of_macros EnableMacrosQuery = true
-is_of_macros command = false

@@ -11,6 +11,7 @@ use Rattle.sw_macro.specs.Table.{Table}
 use Rattle.sw_macro.specs.Expansion.{calls, Expands}
 use Rattle.sw_verify.specs.declared.refusal.Refusal.{Refusal}
 use Rattle.sw_verify.specs.Check.{IsReady, IsFirst, error_of}
+use Rattle.sw_core.specs.Action.{Effect, IsOfMacros, Initiates, Resets, Action, AtOnce, BetweenScans, AfterScan, action_of}
 use Rattle.sw_core.specs.declared.ask.Sid.{Sid}
 use Rattle.sw_core.specs.declared.ask.SessionAsk.{SessionAsk}
 use Rattle.sw_core.specs.declared.ask.SessionAsk.TheVariants as Ask
@@ -22,7 +23,7 @@ use Rattle.sw_session.specs.declared.talker.After.{After}
 use Rattle.sw_session.specs.declared.talker.After.TheVariants.{Goes, Drops, Ends}
 use Rattle.sw_session.specs.Trace.{Entry, Asked, Waited, Leads, Led}
 use Rattle.sw_session.specs.Script.{Ending, Complete, Refuses, Unread, IsScript}
-use Rattle.sw_session.specs.Macros.{Told, Acts, is_of_macros}
+use Rattle.sw_session.specs.Macros.{Told, Acts}
 
 -- how often a held ask is asked
 abbrev pub turns : ℕ
@@ -74,48 +75,51 @@ Plans sid (Answer.Snapshot s) trace final rest =
 Plans sid told trace final rest = (final ≡ told) × (rest ≡ trace)
 
 -- INITiate (SCPI-1999, 24): what a scan would begin from is asked, and its plan is made outside the mainframe (own)
-abbrev pub Initiates : Sid → List Entry → SessionAnswer → List Entry → Type 0
-Initiates sid trace final rest = (told : SessionAnswer) × (mid : List Entry) × Settles sid 0 (Ask.Snapshot sid) trace told mid × Plans sid told mid final rest
-
-abbrev pub is_initiate : Command → Bool
-is_initiate Command.Initiate = true
-is_initiate command = false
-
--- a command is asked, with whether the message has answered before, but for INITiate
-abbrev pub Delivers : Sid → Bool → Command → List Entry → SessionAnswer → List Entry → Type 0
-Delivers sid answered command trace final rest =
-    MatchBool (is_initiate command) (Initiates sid trace final rest) (Settles sid 0 (Ask.Unit sid command answered) trace final rest)
-
-abbrev pub is_reset : Command → Bool
-is_reset Command.Reset = true
-is_reset command = false
+abbrev pub StartsScan : Sid → List Entry → SessionAnswer → List Entry → Type 0
+StartsScan sid trace final rest =
+    (told : SessionAnswer) × (mid : List Entry) × Settles sid 0 (Ask.Snapshot sid) trace told mid × Plans sid told mid final rest
 
 abbrev pub is_done : SessionAnswer → Bool
 is_done (Done text) = true
 is_done answer = false
 
--- *RST that is done switches macros off and keeps them (IEEE 488.2, 10.32)
-abbrev pub table_after : Command → SessionAnswer → Table → Table
-table_after command answer t = if is_reset command && is_done answer then record t { on = false } else t
-
--- any other command is asked, and leaves these macros
-abbrev pub Asks : Sid → Bool → Command → Table → List Entry → SessionAnswer → Table → List Entry → Type 0
-Asks sid answered command t trace final t' rest = Delivers sid answered command trace final rest × (t' ≡ table_after command final t)
+-- a reset that is done switches macros off and keeps them (IEEE 488.2, 10.32)
+abbrev pub table_reset : SessionAnswer → Table → Table
+table_reset answer t = if is_done answer then record t { on = false } else t
 
 -- what a macro command comes to is the answer; a refusal is queued
 abbrev pub Reports : Sid → Told → List Entry → SessionAnswer → List Entry → Type 0
 Reports sid (Ok text) trace final rest = (final ≡ Done text) × (rest ≡ trace)
 Reports sid (Err e) trace final rest = Queues sid e trace final rest
 
--- a macro command changes the macros, and asks nothing else
-abbrev pub Obeys : Sid → Command → Table → List Entry → SessionAnswer → Table → List Entry → Type 0
-Obeys sid command t trace final t' rest = (told : Told) × Acts command t told t' × Reports sid told trace final rest
+-- what a unit comes to once it has begun: its answer, the macros after it, and the trace that is left
+pub record Begun : Type 0 where
+  pub answer : SessionAnswer
+  pub macros : Table
+  pub rest : List Entry
 
--- a command is begun, with these macros; an error is queued
-abbrev pub Begins : Sid → Bool → Result Command ScpiError → Table → List Entry → SessionAnswer → Table → List Entry → Type 0
-Begins sid answered (Ok command) t trace final t' rest =
-    MatchBool (is_of_macros command) (Obeys sid command t trace final t' rest) (Asks sid answered command t trace final t' rest)
-Begins sid answered (Err e) t trace final t' rest = Queues sid e trace final rest × (t' ≡ t)
+abbrev pub begun : SessionAnswer → Table → List Entry → Begun
+begun answer macros rest = record { answer = answer; macros = macros; rest = rest }
+
+abbrev pub effect_of : Action → Effect
+effect_of (AtOnce effect) = effect
+effect_of (BetweenScans effect) = effect
+effect_of (AfterScan effect) = effect
+
+-- A command by what it does: a macro command changes the macros and asks nothing else, INITiate starts a scan, and any
+-- other is asked.
+abbrev pub BeginsBy : Effect → Sid → Bool → Command → Table → List Entry → Begun → Type 0
+BeginsBy IsOfMacros sid answered command t trace b = (told : Told) × Acts command t told b.macros × Reports sid told trace b.answer b.rest
+BeginsBy Initiates sid answered command t trace b = StartsScan sid trace b.answer b.rest × (b.macros ≡ t)
+BeginsBy Resets sid answered command t trace b =
+    Settles sid 0 (Ask.Unit sid command answered) trace b.answer b.rest × (b.macros ≡ table_reset b.answer t)
+BeginsBy effect sid answered command t trace b =
+    Settles sid 0 (Ask.Unit sid command answered) trace b.answer b.rest × (b.macros ≡ t)
+
+-- a command is begun, with these macros, whether the message has answered before or not; an error is queued
+abbrev pub Begins : Sid → Bool → Result Command ScpiError → Table → List Entry → Begun → Type 0
+Begins sid answered (Ok command) t trace b = BeginsBy (effect_of (action_of answered command)) sid answered command t trace b
+Begins sid answered (Err e) t trace b = Queues sid e trace b.answer b.rest × (b.macros ≡ t)
 
 -- whether the message goes on after an answer
 abbrev pub after_of : SessionAnswer → After
@@ -140,7 +144,9 @@ standing t answers = record { macros = t; answers = answers }
 -- one unit that is this command or error, from where the session stands to where it stands then
 abbrev pub Serves : Sid → Result Command ScpiError → Standing → List Entry → After → Standing → List Entry → Type 0
 Serves sid command s trace after s' rest =
-    (final : SessionAnswer) × (mid : List Entry) × Begins sid (has_answers s.answers) command s.macros trace final s'.macros mid × Concludes sid s.answers final mid after s'.answers rest
+    (final : SessionAnswer) × (mid : List Entry)
+    × Begins sid (has_answers s.answers) command s.macros trace (begun final s'.macros mid)
+    × Concludes sid s.answers final mid after s'.answers rest
 
 -- How the units go on after one of them, below the path that it leaves: with the next, or not at all; then what comes of
 -- it is what came of all.

@@ -1,11 +1,11 @@
 //! Beginning units: macro commands, asking a desk until it answers, beginning scans, and queuing errors.
 
-ghost use Rattle.std.specs.Prelude.{◌≡◌};
+ghost use Rattle.std.specs.Prelude.{◌≡◌, Ok};
 ghost use Rattle.sw_session.specs.Trace.{Led};
-ghost use Rattle.sw_session.specs.Talk.{Queues, Settles, Begins, Reports, Asks, Delivers, Initiates, Plans, is_initiate, is_reset, is_done, queued};
+ghost use Rattle.sw_session.specs.Talk.{Queues, Settles, Begins, begun, Reports, StartsScan, Plans, table_reset, is_done, queued};
 
 use crate::desk::{Desk, Wake};
-use crate::macros::{Outcome, obey};
+use crate::macros::{Outcome, define, remove, tell_body, tell_enabled, tell_labels};
 use std::alloc::Global;
 use sw_base::ScpiError;
 use sw_core::{SessionAnswer, SessionAsk, Sid};
@@ -16,8 +16,8 @@ use sw_verify::Plan;
 /// How often a held ask is asked.
 const TURNS: u64 = 1 << 32;
 
-/// Begins a unit that is this command or error: a macro command is carried out, any other asked, and a refusal queued.
-/// `answered` says whether the message has answered before.
+/// Begins a unit that is this command or error: a command is carried out, an error queued. `answered` says whether the
+/// message has answered before.
 pub fn begin<D: Desk>(
     desk: &mut D,
     sid: Sid,
@@ -26,14 +26,57 @@ pub fn begin<D: Desk>(
     command: Result<Command, ScpiError>,
     answered: bool,
 ) -> SessionAnswer
-    ensures { Led D.passes desk.old desk.new (λ t rest. Begins sid answered command macros.old t result macros.new rest) }
+    ensures { Led D.passes desk.old desk.new (λ t rest. Begins sid answered command macros.old t (begun result macros.new rest)) }
 {
     match command {
-        Ok(command) => match obey(alloc, macros, &command) {
-            Some(outcome) => report(desk, sid, outcome),
-            None => ask(desk, sid, macros, command, answered),
-        },
+        Ok(command) => carry_out(desk, sid, alloc, macros, command, answered),
         Err(error) => queue(desk, sid, error),
+    }
+}
+
+/// Carries a command out: one of the session's own by itself, any other by asking the desk.
+fn carry_out<D: Desk>(
+    desk: &mut D,
+    sid: Sid,
+    alloc: Global,
+    macros: &mut Macros,
+    command: Command,
+    answered: bool,
+) -> SessionAnswer
+    ensures { Led D.passes desk.old desk.new (λ t rest. Begins sid answered (Ok command) macros.old t (begun result macros.new rest)) }
+{
+    match command {
+        Command::DefineMacro(label, body) => {
+            let outcome = define(alloc, macros, label.as_slice(), body.as_slice());
+            report(desk, sid, outcome)
+        }
+        Command::MacroQuery(label) => {
+            let outcome = tell_body(alloc, macros, label.as_slice());
+            report(desk, sid, outcome)
+        }
+        Command::MacroLabelsQuery => {
+            let outcome = tell_labels(alloc, macros);
+            report(desk, sid, outcome)
+        }
+        Command::RemoveMacro(label) => {
+            let outcome = remove(macros, label.as_slice());
+            report(desk, sid, outcome)
+        }
+        Command::PurgeMacros => {
+            macros.purge();
+            SessionAnswer::Done(None)
+        }
+        Command::EnableMacros(on) => {
+            macros.enable(on);
+            SessionAnswer::Done(None)
+        }
+        Command::EnableMacrosQuery => {
+            let outcome = tell_enabled(alloc, macros);
+            report(desk, sid, outcome)
+        }
+        Command::Initiate => initiate(desk, sid),
+        Command::Reset => reset(desk, sid, macros, answered),
+        command => settle(desk, sid, SessionAsk::Unit(sid, command, answered)),
     }
 }
 
@@ -47,28 +90,16 @@ fn report<D: Desk>(desk: &mut D, sid: Sid, outcome: Outcome) -> SessionAnswer
     }
 }
 
-/// Asks a command; a reset that is done switches macros off.
-fn ask<D: Desk>(
-    desk: &mut D,
-    sid: Sid,
-    macros: &mut Macros,
-    command: Command,
-    answered: bool,
-) -> SessionAnswer
-    ensures { Led D.passes desk.old desk.new (λ t rest. Asks sid answered command macros.old t result macros.new rest) }
+/// Asks for a reset; one that is done switches macros off.
+fn reset<D: Desk>(desk: &mut D, sid: Sid, macros: &mut Macros, answered: bool) -> SessionAnswer
+    ensures asked { Led D.passes desk.old desk.new (λ t rest. Settles sid 0 (SessionAsk.Unit sid Command.Reset answered) t result rest) }
+    ensures switched { macros.new ≡ table_reset result macros.old }
 {
-    let resets = is_reset(&command);
-    let answer = deliver(desk, sid, command, answered);
-    if resets && is_done(&answer) {
+    let answer = settle(desk, sid, SessionAsk::Unit(sid, Command::Reset, answered));
+    if is_done(&answer) {
         macros.enable(false);
     }
     answer
-}
-
-fn is_reset(command: &Command) -> bool
-    ensures { result ≡ is_reset command.now }
-{
-    matches!(command, Command::Reset)
 }
 
 fn is_done(answer: &SessionAnswer) -> bool
@@ -77,26 +108,9 @@ fn is_done(answer: &SessionAnswer) -> bool
     matches!(answer, SessionAnswer::Done(_))
 }
 
-/// Asks a command until it isn't held; for INITiate the plan of a scan is made between two asks.
-fn deliver<D: Desk>(desk: &mut D, sid: Sid, command: Command, answered: bool) -> SessionAnswer
-    ensures { Led D.passes desk.old desk.new (λ t rest. Delivers sid answered command t result rest) }
-{
-    if is_initiate(&command) {
-        initiate(desk, sid)
-    } else {
-        settle(desk, sid, SessionAsk::Unit(sid, command, answered))
-    }
-}
-
-fn is_initiate(command: &Command) -> bool
-    ensures { result ≡ is_initiate command.now }
-{
-    matches!(command, Command::Initiate)
-}
-
 /// Asks what a scan would begin from, and plans it.
 fn initiate<D: Desk>(desk: &mut D, sid: Sid) -> SessionAnswer
-    ensures { Led D.passes desk.old desk.new (λ t rest. Initiates sid t result rest) }
+    ensures { Led D.passes desk.old desk.new (λ t rest. StartsScan sid t result rest) }
 {
     let told = settle(desk, sid, SessionAsk::Snapshot(sid));
     plan(desk, sid, told)

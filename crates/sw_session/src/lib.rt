@@ -20,8 +20,6 @@ mod laws;
 mod line;
 mod macros;
 mod talker;
-#[cfg(test)]
-mod tests;
 
 pub use core_desk::CoreDesk;
 pub use desk::{Desk, Wake};

@@ -3,45 +3,17 @@
 ghost use Rattle.std.specs.Prelude.{◌≡◌, ◌++◌, ◌∷◌, [], List, ℕ, true, false, IfOk, IfSome, IfNone, OnOk};
 ghost use Rattle.sw_macro.specs.Table.{labels};
 ghost use Rattle.sw_core.specs.Answers.{flag_of};
-ghost use Rattle.sw_session.specs.Macros.{block_of, labels_text, row_of, Tells, TellsBody, Defines, Removes, Acts, is_of_macros};
+ghost use Rattle.sw_session.specs.Macros.{block_of, labels_text, row_of, Tells, TellsBody, Defines, Removes};
 
 use std::alloc::{AllocError, Global};
 use sw_base::{ScpiError, Sequence, print_number};
-use sw_lex::Command;
 use sw_macro::Macros;
 
 /// What a command comes to: its answer, if it has one, or its refusal.
 pub type Outcome = Result<Option<Sequence<u8>>, ScpiError>;
 
-/// Carries out a macro command; any other is left alone.
-pub fn obey(alloc: Global, macros: &mut Macros, command: &Command) -> Option<Outcome>
-    ensures acts { IfSome result (λ told. Acts command.now macros.old told macros.new) }
-    ensures mine { IfSome result (λ told. is_of_macros command.now ≡ true) }
-    ensures other { IfNone result (is_of_macros command.now ≡ false) }
-    ensures kept { IfNone result (macros.new ≡ macros.old) }
-{
-    match command {
-        Command::DefineMacro(label, body) => {
-            Some(define(alloc, macros, label.as_slice(), body.as_slice()))
-        }
-        Command::MacroQuery(label) => Some(tell_body(alloc, macros, label.as_slice())),
-        Command::MacroLabelsQuery => Some(tell_labels(alloc, macros)),
-        Command::RemoveMacro(label) => Some(remove(macros, label.as_slice())),
-        Command::PurgeMacros => {
-            macros.purge();
-            Some(Ok(None))
-        }
-        Command::EnableMacros(on) => {
-            macros.enable(*on);
-            Some(Ok(None))
-        }
-        Command::EnableMacrosQuery => Some(tell_enabled(alloc, macros)),
-        _ => None,
-    }
-}
-
 /// `*DMC`
-fn define(alloc: Global, macros: &mut Macros, label: &[u8], body: &[u8]) -> Outcome
+pub fn define(alloc: Global, macros: &mut Macros, label: &[u8], body: &[u8]) -> Outcome
     ensures { Defines label.now body.now macros.old result macros.new }
 {
     macros.define(alloc, label, body)?;
@@ -49,7 +21,7 @@ fn define(alloc: Global, macros: &mut Macros, label: &[u8], body: &[u8]) -> Outc
 }
 
 /// `*RMC`
-fn remove(macros: &mut Macros, label: &[u8]) -> Outcome
+pub fn remove(macros: &mut Macros, label: &[u8]) -> Outcome
     ensures { Removes label.now macros.old result macros.new }
 {
     macros.remove(label)?;
@@ -57,7 +29,7 @@ fn remove(macros: &mut Macros, label: &[u8]) -> Outcome
 }
 
 /// `*GMC?`
-fn tell_body(alloc: Global, macros: &Macros, label: &[u8]) -> Outcome
+pub fn tell_body(alloc: Global, macros: &Macros, label: &[u8]) -> Outcome
     ensures { TellsBody label.now macros.now result }
 {
     let body = macros.body(label)?;
@@ -65,14 +37,14 @@ fn tell_body(alloc: Global, macros: &Macros, label: &[u8]) -> Outcome
 }
 
 /// `*LMC?`
-fn tell_labels(alloc: Global, macros: &Macros) -> Outcome
+pub fn tell_labels(alloc: Global, macros: &Macros) -> Outcome
     ensures { Tells (labels_text (labels macros.now.macros)) result }
 {
     Ok(Some(labels_text(alloc, macros)?))
 }
 
 /// `*EMC?`
-fn tell_enabled(alloc: Global, macros: &Macros) -> Outcome
+pub fn tell_enabled(alloc: Global, macros: &Macros) -> Outcome
     ensures { Tells (flag_of macros.now.on) result }
 {
     let flag = if macros.enabled() { b'1' } else { b'0' };

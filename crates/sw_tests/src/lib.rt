@@ -25,6 +25,8 @@ mod macros;
 #[cfg(test)]
 mod scans;
 #[cfg(test)]
+mod session;
+#[cfg(test)]
 mod status;
 #[cfg(test)]
 mod trigger;

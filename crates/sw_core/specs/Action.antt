@@ -1,0 +1,166 @@
+-- What each command comes to: one row for each.
+use Rattle.std.specs.Prelude.{◌≡◌, ℕ, ◌≤◌, Bool, true, false, List, [], length, decimal}
+use Rattle.sw_base.specs.Layout.{Channel}
+use Rattle.sw_base.specs.Reading.{fixed}
+use Rattle.sw_base.specs.declared.error.ScpiError.{ScpiError}
+use Rattle.sw_base.specs.declared.error.ScpiError.TheVariants.{TriggerIgnored, ArmIgnored}
+use Rattle.sw_base.specs.declared.error.ScpiError.TheVariants.{SettingsConflict, DataOutOfRange, TooMuchData}
+use Rattle.sw_base.specs.declared.terms.LayerName.{LayerName}
+use Rattle.sw_base.specs.declared.terms.LayerName.TheVariants as layer_name
+use Rattle.sw_base.specs.declared.terms.Source.{Source}
+use Rattle.sw_channel.specs.Printing.{printed}
+use Rattle.sw_lex.specs.declared.command.Command.{Command}
+use Rattle.sw_trigger.specs.Settings.{Setup, layer_of, with_layer, most_of, longest_delay, at_reset}
+use Rattle.sw_trigger.specs.Counts.{bound_of}
+use Rattle.sw_status.specs.Registers.{event_taken, with_enable, with_ptr, with_ntr}
+use Rattle.sw_status.specs.StatusModel.{StatusSeen, byte_of, enabled, preset, popped, cleared}
+use Rattle.sw_status.specs.StatusModel.{group_of, with_group}
+use Rattle.sw_cage.specs.Rack.{all_open}
+use Rattle.sw_cage.specs.Channels.{closed_list}
+use Rattle.sw_cage.specs.Cage.{fall}
+use Rattle.sw_cage.specs.declared.taken.Happening.{Happening}
+use Rattle.sw_cage.specs.declared.taken.Happening.TheVariants.{Bus, Signal}
+use Rattle.sw_core.specs.Answers.{identity, version, oldest_entry, all_entries, source_word}
+use Rattle.sw_core.specs.Panel.{Panel, with_rack}
+use Rattle.sw_core.specs.Registers.{calmed}
+
+-- what a command does when it is carried out
+pub data Effect : Type 1 where
+  -- it tells a number
+  TellsNumber : (number : Panel → ℕ) → Effect
+  -- it tells a text
+  TellsText : (text : Panel → List ℕ) → Effect
+  -- it tells the readings of the last scan
+  TellsReadings : Effect
+  -- it tells a text of the status, and leaves this status
+  ReadsOut : (text : StatusSeen → List ℕ) → (after : StatusSeen → StatusSeen) → Effect
+  -- it sets the status
+  SetsStatus : (after : StatusSeen → StatusSeen) → Effect
+  -- it changes the settings where they fit then, and is else refused by this error
+  SetsUp : (Fits : Type 0) → (error : ScpiError) → (after : Setup → Setup) → Effect
+  -- it closes channels, or opens them, or tells for each whether it is closed, or open
+  Closes : (chans : List Channel) → Effect
+  Opens : (chans : List Channel) → Effect
+  TellsRelays : (closed : Bool) → (chans : List Channel) → Effect
+  -- it leaves this state
+  Leaves : (after : Panel → Panel) → Effect
+  -- it resets the mainframe
+  Resets : Effect
+  -- it is offered to the scan; where no scan takes it, it is refused by this error
+  Offers : (happening : Happening) → (error : ScpiError) → Effect
+  -- it is refused by this error
+  Refuses : (error : ScpiError) → Effect
+  -- A session's own: macros, and the beginning of a scan. The mainframe is asked neither as a command, and refuses it
+  -- as an undefined header.
+  IsOfMacros : Effect
+  Initiates : Effect
+
+-- when it is carried out
+pub data Action : Type 1 where
+  -- whether a scan runs or not
+  AtOnce : (effect : Effect) → Action
+  -- while no scan runs; it is refused while one runs (own)
+  BetweenScans : (effect : Effect) → Action
+  -- while no scan runs; it is held while one runs (IEEE 488.2, 12.5.2 and 12.5.3)
+  AfterScan : (effect : Effect) → Action
+
+-- the state after *RST, and after ABORt
+abbrev pub reset : Panel → Panel
+reset p = record p {
+  cage = record (fall p.cage) { readings = [] };
+  status = calmed p.status;
+  settings = at_reset;
+  pending = false;
+}
+
+abbrev pub aborted : Panel → Panel
+aborted p = record p { cage = fall p.cage }
+
+-- the settings with another value at a layer
+abbrev pub with_count : LayerName → ℕ → Setup → Setup
+with_count layer n s = with_layer s layer (record (layer_of s layer) { count = n })
+
+abbrev pub with_source : LayerName → Source → Setup → Setup
+with_source layer source s = with_layer s layer (record (layer_of s layer) { source = source })
+
+abbrev pub with_delay : LayerName → ℕ → Setup → Setup
+with_delay layer micros s = with_layer s layer (record (layer_of s layer) { delay_us = micros })
+
+-- What a command comes to, where its message has answered before or not, which is when a message is available
+-- (SCPI-1999, 3, 18, 20, 21.8 and 24; IEEE 488.2, 10 and 11.2).
+abbrev pub action_of : Bool → Command → Action
+action_of answered Command.Identify = AtOnce (TellsText (λ p. identity))
+action_of answered Command.Reset = AtOnce Resets
+action_of answered Command.ClearStatus = AtOnce (Leaves (λ p. record p { status = cleared p.status; pending = false }))
+action_of answered (Command.EventEnable bits) = AtOnce (SetsStatus (λ s. record s { ese = bits }))
+action_of answered Command.EventEnableQuery = AtOnce (TellsNumber (λ p. p.status.ese))
+action_of answered Command.EventQuery = AtOnce (ReadsOut (λ s. decimal s.esr) (λ s. record s { esr = 0 }))
+action_of answered (Command.ServiceEnable bits) = AtOnce (SetsStatus (λ s. enabled s bits))
+action_of answered Command.ServiceEnableQuery = AtOnce (TellsNumber (λ p. p.status.sre))
+action_of answered Command.StatusByteQuery = AtOnce (TellsNumber (λ p. byte_of p.status answered))
+action_of answered Command.OperationComplete = AtOnce (Leaves (λ p. record p { pending = true }))
+action_of answered Command.OperationCompleteQuery = AfterScan (TellsNumber (λ p. 1))
+action_of answered Command.Wait = AfterScan (Leaves (λ p. p))
+action_of answered Command.SelfTestQuery = AtOnce (TellsNumber (λ p. 0))
+action_of answered Command.Trigger = AtOnce (Offers Bus TriggerIgnored)
+action_of answered (Command.DefineMacro label body) = AtOnce IsOfMacros
+action_of answered (Command.MacroQuery label) = AtOnce IsOfMacros
+action_of answered Command.MacroLabelsQuery = AtOnce IsOfMacros
+action_of answered (Command.RemoveMacro label) = AtOnce IsOfMacros
+action_of answered Command.PurgeMacros = AtOnce IsOfMacros
+action_of answered (Command.EnableMacros on) = AtOnce IsOfMacros
+action_of answered Command.EnableMacrosQuery = AtOnce IsOfMacros
+action_of answered Command.Abort = AtOnce (Leaves aborted)
+action_of answered Command.Initiate = AtOnce Initiates
+action_of answered (Command.InitiateContinuous true) = AtOnce (Refuses SettingsConflict)
+action_of answered (Command.InitiateContinuous false) = AtOnce (Leaves (λ p. p))
+action_of answered Command.InitiateContinuousQuery = AtOnce (TellsNumber (λ p. 0))
+action_of answered (Command.Count layer n) =
+    BetweenScans (SetsUp ((1 ≤ n) × (n ≤ most_of layer)) DataOutOfRange (with_count layer n))
+action_of answered (Command.CountQuery layer) = AtOnce (TellsNumber (λ p. (layer_of p.settings layer).count))
+action_of answered (Command.SetSource layer source) =
+    BetweenScans (Leaves (λ p. record p { settings = with_source layer source p.settings }))
+action_of answered (Command.SourceQuery layer) =
+    AtOnce (TellsText (λ p. source_word (layer_of p.settings layer).source))
+action_of answered (Command.Delay layer micros) =
+    BetweenScans (SetsUp (micros ≤ longest_delay) DataOutOfRange (with_delay layer micros))
+action_of answered (Command.DelayQuery layer) = AtOnce (TellsText (λ p. fixed 6 (layer_of p.settings layer).delay_us))
+action_of answered (Command.Signal layer_name.Trigger) = AtOnce (Offers (Signal layer_name.Trigger) TriggerIgnored)
+action_of answered (Command.Signal layer_name.Arm1) = AtOnce (Offers (Signal layer_name.Arm1) ArmIgnored)
+action_of answered (Command.Signal layer_name.Arm2) = AtOnce (Offers (Signal layer_name.Arm2) ArmIgnored)
+action_of answered (Command.Close chans) = BetweenScans (Closes chans)
+action_of answered (Command.CloseQuery chans) = AtOnce (TellsRelays true chans)
+action_of answered Command.CloseState = AtOnce (TellsText (λ p. printed (closed_list p.cage.rack)))
+action_of answered (Command.Open chans) = BetweenScans (Opens chans)
+action_of answered (Command.OpenQuery chans) = AtOnce (TellsRelays false chans)
+action_of answered Command.OpenAll = BetweenScans (Leaves (λ p. with_rack p (all_open p.cage.rack)))
+action_of answered (Command.Scan chans) =
+    BetweenScans (SetsUp (length chans ≤ 512) TooMuchData (λ s. record s { list = chans }))
+action_of answered Command.ScanQuery = AtOnce (TellsText (λ p. printed p.settings.list))
+action_of answered (Command.ScanMeter slot) =
+    BetweenScans (SetsUp ((1 ≤ slot) × (slot ≤ 8)) DataOutOfRange (λ s. record s { meter = slot }))
+action_of answered Command.ScanMeterQuery = AtOnce (TellsNumber (λ p. p.settings.meter))
+action_of answered (Command.GroupEventQuery group) =
+    AtOnce (ReadsOut (λ s. decimal (group_of s group).event) (λ s. with_group s group (event_taken (group_of s group))))
+action_of answered (Command.GroupConditionQuery group) = AtOnce (TellsNumber (λ p. (group_of p.status group).condition))
+action_of answered (Command.GroupEnable group bits) =
+    AtOnce (SetsStatus (λ s. with_group s group (with_enable (group_of s group) bits)))
+action_of answered (Command.GroupEnableQuery group) = AtOnce (TellsNumber (λ p. (group_of p.status group).enable))
+action_of answered (Command.PositiveTransition group bits) =
+    AtOnce (SetsStatus (λ s. with_group s group (with_ptr (group_of s group) bits)))
+action_of answered (Command.PositiveTransitionQuery group) = AtOnce (TellsNumber (λ p. (group_of p.status group).ptr))
+action_of answered (Command.NegativeTransition group bits) =
+    AtOnce (SetsStatus (λ s. with_group s group (with_ntr (group_of s group) bits)))
+action_of answered (Command.NegativeTransitionQuery group) = AtOnce (TellsNumber (λ p. (group_of p.status group).ntr))
+action_of answered Command.Preset = AtOnce (SetsStatus preset)
+action_of answered Command.NextErrorQuery = AtOnce (ReadsOut (λ s. oldest_entry s.errors) popped)
+action_of answered Command.AllErrorsQuery =
+    AtOnce (ReadsOut (λ s. all_entries s.errors) (λ s. record s { errors = [] }))
+action_of answered Command.ErrorCountQuery = AtOnce (TellsNumber (λ p. length p.status.errors))
+action_of answered Command.VersionQuery = AtOnce (TellsText (λ p. version))
+action_of answered (Command.Points n) =
+    BetweenScans (SetsUp ((1 ≤ n) × (n ≤ 100000)) DataOutOfRange (λ s. record s { points = n }))
+action_of answered Command.PointsQuery = AtOnce (TellsNumber (λ p. p.settings.points))
+action_of answered Command.ActualPointsQuery = AtOnce (TellsNumber (λ p. length p.cage.readings))
+action_of answered Command.BoundQuery = AtOnce (TellsNumber (λ p. bound_of p.settings))
+action_of answered Command.Fetch = AtOnce TellsReadings
