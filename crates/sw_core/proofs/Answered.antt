@@ -111,6 +111,7 @@ admitted p sid ask f a w q joined d o h = by_answer a w h
     clear a w h =
         subst (λ (x : Bool). StepAdmitted x (shuts_out p sid ask) p ask f a w q) (sym d)
         (subst (λ (x : Bool). StepAdmitted false x p ask f a w q) (sym o) h)
+
     by_answer : (a : SessionAnswer) (w : Option WorkView) → StepJoined p ask f a w q → StepSession (Some sid) p ask f a w q
     by_answer Stranger None h = absurd (known p ask f q h)
     by_answer a w h = (joined, clear a w h)

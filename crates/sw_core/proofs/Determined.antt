@@ -183,14 +183,14 @@ action_once : (x : Action) (p : Panel) (ask : SessionAsk) (f f' : Bool) (a a' : 
 action_once (AtOnce e) p ask f f' a a' w w' q q' n m h k = effect_once e p f f' a a' w w' q q' n m h k
 action_once (BetweenScans e) p ask f f' a a' w w' q q' n m h k =
     either_alike (is_running p) (λ a w q. StepRefused p SettingsConflict f a q × (w ≡ None)) (λ a w q. StepEffect e p f a w q)
-      (λ a w q. StepRefused p SettingsConflict f' a q × (w ≡ None)) (λ a w q. StepEffect e p f' a w q) a a' w w' q q'
-      (λ x y. (let r = refused_once p SettingsConflict f f' a a' q q' x.0 y.0 in (r.0, x.1 ∙ sym y.1, r.1)))
-      (λ x y. effect_once e p f f' a a' w w' q q' n m x y) h k
+    (λ a w q. StepRefused p SettingsConflict f' a q × (w ≡ None)) (λ a w q. StepEffect e p f' a w q) a a' w w' q q'
+    (λ x y. (let r = refused_once p SettingsConflict f f' a a' q q' x.0 y.0 in (r.0, x.1 ∙ sym y.1, r.1)))
+    (λ x y. effect_once e p f f' a a' w w' q q' n m x y) h k
 action_once (AfterScan e) p ask f f' a a' w w' q q' n m h k =
     either_alike (is_running p) (λ a w q. StepHeld p ask f a w q) (λ a w q. StepEffect e p f a w q)
-      (λ a w q. StepHeld p ask f' a w q) (λ a w q. StepEffect e p f' a w q) a a' w w' q q'
-      (λ x y. held_once p ask f f' a a' w w' q q' x y)
-      (λ x y. effect_once e p f f' a a' w w' q q' n m x y) h k
+    (λ a w q. StepHeld p ask f' a w q) (λ a w q. StepEffect e p f' a w q) a a' w w' q q'
+    (λ x y. held_once p ask f f' a a' w w' q q' x y)
+    (λ x y. effect_once e p f f' a a' w w' q q' n m x y) h k
 
 -- no two refusals of a scan apply, nor one where a scan may begin
 refusal_once : (p : Panel) (e e' : ScpiError) → RefusesScan p e → RefusesScan p e' → e ≡ e'

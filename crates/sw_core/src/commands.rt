@@ -44,10 +44,7 @@ impl<R: Relay, M: Meter> Core<R, M> {
             | Command::SetSource(_, _)
             | Command::Delay(_, _)
             | Command::Points(_)
-                if running =>
-            {
-                (SessionAnswer::Refused(ScpiError::SettingsConflict), None)
-            }
+                if running => { (SessionAnswer::Refused(ScpiError::SettingsConflict), None) }
             Command::Identify => (told(identity(alloc)), None),
             Command::Reset => (self.reset(), None),
             Command::ClearStatus => (self.clear_status(), None),
@@ -63,7 +60,10 @@ impl<R: Relay, M: Meter> Core<R, M> {
             }
             Command::ServiceEnableQuery => (self.number(alloc, u64::from(self.status.sre())), None),
             Command::StatusByteQuery => {
-                (self.number(alloc, u64::from(self.status.byte(answered))), None)
+                (
+                    self.number(alloc, u64::from(self.status.byte(answered))),
+                    None,
+                )
             }
             Command::OperationComplete => (self.complete_operation(), None),
             Command::OperationCompleteQuery => (self.number(alloc, 1), None),
@@ -85,7 +85,10 @@ impl<R: Relay, M: Meter> Core<R, M> {
             }
             Command::Count(layer, n) => (taken(self.settings.set_count(layer, n)), None),
             Command::CountQuery(layer) => {
-                (self.number(alloc, u64::from(self.settings.layer(layer).count)), None)
+                (
+                    self.number(alloc, u64::from(self.settings.layer(layer).count)),
+                    None,
+                )
             }
             Command::SetSource(layer, source) => (self.set_source(layer, source), None),
             Command::SourceQuery(layer) => (self.source_query(alloc, layer), None),
@@ -115,28 +118,40 @@ impl<R: Relay, M: Meter> Core<R, M> {
             Command::ScanMeterQuery => (self.number(alloc, u64::from(self.settings.meter())), None),
             Command::GroupEventQuery(group) => (self.group_event_query(alloc, group), None),
             Command::GroupConditionQuery(group) => {
-                (self.number(alloc, u64::from(self.status.group(group).condition())), None)
+                (
+                    self.number(alloc, u64::from(self.status.group(group).condition())),
+                    None,
+                )
             }
             Command::GroupEnable(group, bits) => {
                 self.status.set_enable(group, bits);
                 (SessionAnswer::Done(None), None)
             }
             Command::GroupEnableQuery(group) => {
-                (self.number(alloc, u64::from(self.status.group(group).enable())), None)
+                (
+                    self.number(alloc, u64::from(self.status.group(group).enable())),
+                    None,
+                )
             }
             Command::PositiveTransition(group, bits) => {
                 self.status.set_ptr(group, bits);
                 (SessionAnswer::Done(None), None)
             }
             Command::PositiveTransitionQuery(group) => {
-                (self.number(alloc, u64::from(self.status.group(group).ptr())), None)
+                (
+                    self.number(alloc, u64::from(self.status.group(group).ptr())),
+                    None,
+                )
             }
             Command::NegativeTransition(group, bits) => {
                 self.status.set_ntr(group, bits);
                 (SessionAnswer::Done(None), None)
             }
             Command::NegativeTransitionQuery(group) => {
-                (self.number(alloc, u64::from(self.status.group(group).ntr())), None)
+                (
+                    self.number(alloc, u64::from(self.status.group(group).ntr())),
+                    None,
+                )
             }
             Command::Preset => {
                 self.status.preset();
