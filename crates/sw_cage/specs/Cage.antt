@@ -13,8 +13,7 @@ pub record Scanning : Type 0 where
   pub index : ℕ
 
 -- what is seen of a cage: the cards in their slots, by slot the ticket under which its meter is out, the number of
--- scans
--- begun, the scan that runs, and the readings of the last one
+-- scans begun, the scan that runs, and the readings of the last one
 pub record CageSeen : Type 0 where
   pub rack : Rack
   pub out : List (Option Ticket)

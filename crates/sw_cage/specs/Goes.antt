@@ -45,13 +45,11 @@ pub record IsSent (old : Bays) (slot : ℕ) (ticket : Ticket) (job : JobSeen) (n
   pub meter : slot_at old.rack slot ≡ Some (of_meter job.meter)
   pub after : new ≡ record {
     rack = slice_set old.rack (slot - 1) None;
-    out =
-        slice_set old.out (slot - 1) (Some ticket);
+    out = slice_set old.out (slot - 1) (Some ticket);
   }
 
 -- What is told where the scan has come to this place: what it awaits there. A pause and a reading come with their
--- ticket, and
--- for a reading the meter goes out.
+-- ticket, and for a reading the meter goes out.
 abbrev pub Arrives : Bays → ℕ → Scanning → TakenSeen → Bays → Option Scanning → Type 0
 Arrives old number at SaysIgnored new scan = ⊥
 Arrives old number at SaysWaits new scan = ((name : LayerName) × (awaits at ≡ Some (Wait name))) × (new ≡ old)
@@ -104,8 +102,7 @@ GoesPast p told q = GoesPastFrom p p.scan told q
 abbrev pub with_back : CageSeen → FinishedSeen → CageSeen
 with_back p done = record p {
   rack = slice_set p.rack (done.slot - 1) (Some (of_meter done.meter));
-  out =
-      slice_set p.out (done.slot - 1) None;
+  out = slice_set p.out (done.slot - 1) None;
 }
 
 -- the readings once a measurement has come to this: a reading is added, a failure adds none
