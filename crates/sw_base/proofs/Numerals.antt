@@ -1,11 +1,13 @@
 -- A text is read as a number in one way.
-use Rattle.std.proofs.Common.{◌≡◌, ℕ, zero, suc, ◌<◌, ◌≤◌, Bool, true, false, not, ℤ, ◌⊎◌, List, [], ◌∷◌, ◌++◌, length, refl, sym, ap, ◌∙◌, subst, inl, inr, arith}
+use Rattle.std.proofs.Common.{◌≡◌, ℕ, zero, suc, ◌<◌, ◌≤◌, Bool, true, false, not, ℤ, ◌⊎◌, List, [], ◌∷◌, ◌++◌, length, refl, sym, ap, ◌∙◌, subst, inl, inr}
+use Rattle.std.proofs.Common.{arith}
 use Rattle.sw_base.specs.Text.{is_blank, is_digit, is_letter, StartsOff, Spans}
 use mir.Syntax.{w32, w128}
 use mir.Val.{to_z, of_z}
 use Rattle.std.specs.Prelude.{◌==◌, unsigned_abs, FitsSigned}
 use Rattle.std.proofs.lemmas.Int.{to_z-of_z, fits_signed_from_abs}
-use Rattle.sw_base.specs.Number.{Written, value_of, with_sign, is_negative, unsigned, IsFraction, IsMantissa, IsExponent, IsTail, is_end, IsEnded, IsNumber, from_first, significant, IsInLimits, IsRefused}
+use Rattle.sw_base.specs.Number.{Written, value_of, with_sign, is_negative, unsigned, IsFraction, IsMantissa, IsExponent, IsTail, is_end, IsEnded, IsNumber}
+use Rattle.sw_base.specs.Number.{from_first, significant, IsInLimits, IsRefused}
 use Rattle.sw_base.specs.declared.error.ScpiError.{ScpiError}
 use Rattle.sw_base.specs.declared.error.ScpiError.TheVariants.{InvalidCharacterInNumber, ExponentTooLarge, TooManyDigits}
 use Rattle.std.proofs.lemmas.Bool.{cases_Bool}
@@ -22,7 +24,8 @@ one_fraction text d r d' r' (inl (a, e, s)) (inr (off, f, t)) = absurd (no_point
 one_fraction text d r d' r' (inr (off, f, t)) (inl (a, e, s)) = absurd (no_point a text e off)
 one_fraction text d r d' r' (inr (o, e, s)) (inr (p, f, t)) = (e ∙ sym f, s ∙ sym t)
 
-pub one_mantissa : (text : List ℕ) (n : Written) (rest : List ℕ) (m : Written) (other : List ℕ) → IsMantissa text n rest → IsMantissa text m other → (n.negative ≡ m.negative) × (n.whole ≡ m.whole) × (n.fraction ≡ m.fraction) × (rest ≡ other)
+pub one_mantissa : (text : List ℕ) (n : Written) (rest : List ℕ) (m : Written) (other : List ℕ) → IsMantissa text n rest → IsMantissa text m other
+    → (n.negative ≡ m.negative) × (n.whole ≡ m.whole) × (n.fraction ≡ m.fraction) × (rest ≡ other)
 one_mantissa text n rest m other h g =
     let before = one_span is_digit (unsigned text) n.whole h.pointed m.whole g.pointed h.before g.before in
     let after = one_fraction g.pointed n.fraction rest m.fraction other (subst (λ (x : List ℕ). IsFraction x n.fraction rest) before.1 h.after) g.after in
@@ -35,13 +38,15 @@ one_mark marked after other (inr e) (inl f) = let h : ◌≡◌ {A = ℕ} 101 69
 one_mark marked after other (inr e) (inr f) = cc
 
 -- where an exponent is marked and its digits stand
-pub one_place : (text : List ℕ) (negative : Bool) (digits rest : List ℕ) (h : IsExponent text negative digits rest) (before marked after gap signed : List ℕ) → Spans is_blank text before marked → (marked ≡ 69 ∷ after) ⊎ (marked ≡ 101 ∷ after) → Spans is_blank after gap signed → h.signed ≡ signed
+pub one_place : (text : List ℕ) (negative : Bool) (digits rest : List ℕ) (h : IsExponent text negative digits rest) (before marked after gap signed : List ℕ)
+    → Spans is_blank text before marked → (marked ≡ 69 ∷ after) ⊎ (marked ≡ 101 ∷ after) → Spans is_blank after gap signed → h.signed ≡ signed
 one_place text negative digits rest h before marked after gap signed s m t =
     let first = one_span is_blank text h.before h.marked before marked h.blank s in
     let behind = one_mark marked h.after after (subst (λ (x : List ℕ). (x ≡ 69 ∷ h.after) ⊎ (x ≡ 101 ∷ h.after)) first.1 h.mark) m in
     (one_span is_blank after h.gap h.signed gap signed (subst (λ (x : List ℕ). Spans is_blank x h.gap h.signed) behind h.space) t).1
 
-pub one_exponent : (text : List ℕ) (negative : Bool) (digits rest : List ℕ) (negative' : Bool) (digits' rest' : List ℕ) → IsExponent text negative digits rest → IsExponent text negative' digits' rest' → (negative ≡ negative') × (digits ≡ digits') × (rest ≡ rest')
+pub one_exponent : (text : List ℕ) (negative : Bool) (digits rest : List ℕ) (negative' : Bool) (digits' rest' : List ℕ) → IsExponent text negative digits rest
+    → IsExponent text negative' digits' rest' → (negative ≡ negative') × (digits ≡ digits') × (rest ≡ rest')
 one_exponent text n d r n' d' r' h g =
     let place : h.signed ≡ g.signed = one_place text n d r h g.before g.marked g.after g.gap g.signed g.blank g.mark g.space in
     let all = one_span is_digit (unsigned g.signed) d r d' r' (subst (λ (x : List ℕ). Spans is_digit (unsigned x) d r) place h.all) g.all in
@@ -56,7 +61,8 @@ one_tail text e rest f other (inl (n, d, h, v)) (inr (none, w, t)) = absurd (non
 one_tail text e rest f other (inr (none, w, t)) (inl (n, d, h, v)) = absurd (none n d other h)
 one_tail text e rest f other (inr (p, v, s)) (inr (q, w, t)) = (v ∙ sym w, s ∙ sym t)
 
-pub one_number : (text : List ℕ) (n : Written) (rest : List ℕ) (m : Written) (other : List ℕ) → IsNumber text n rest → IsNumber text m other → (n ≡ m) × (rest ≡ other)
+pub one_number : (text : List ℕ) (n : Written) (rest : List ℕ) (m : Written) (other : List ℕ) → IsNumber text n rest → IsNumber text m other → (n ≡ m)
+    × (rest ≡ other)
 one_number text n rest m other h g =
     let front = one_mantissa text n h.after m g.after h.mantissa g.mantissa in
     let back = one_tail g.after n.exponent rest m.exponent other (subst (λ (x : List ℕ). IsTail x n.exponent rest) front.3 h.tail) g.tail in
@@ -73,18 +79,22 @@ one_number text n rest m other h g =
 pub ended : (text front rest : List ℕ) → Spans is_letter text front rest → IsEnded text → StartsOff (λ b. not (is_end b)) rest
 ended text front rest s h = let same = one_span is_letter text h.letters h.rest front rest h.all s in subst (StartsOff (λ b. not (is_end b))) same.1 h.end
 
-pub no_mark : (text : List ℕ) (negative : Bool) (digits rest before marked : List ℕ) → IsExponent text negative digits rest → Spans is_blank text before marked → ((after : List ℕ) → (marked ≡ 69 ∷ after) ⊎ (marked ≡ 101 ∷ after) → ⊥) → ⊥
+pub no_mark : (text : List ℕ) (negative : Bool) (digits rest before marked : List ℕ) → IsExponent text negative digits rest → Spans is_blank text before marked
+    → ((after : List ℕ) → (marked ≡ 69 ∷ after) ⊎ (marked ≡ 101 ∷ after) → ⊥) → ⊥
 no_mark text negative digits rest before marked h s none =
     let first = one_span is_blank text h.before h.marked before marked h.blank s in
     none h.after (subst (λ (x : List ℕ). (x ≡ 69 ∷ h.after) ⊎ (x ≡ 101 ∷ h.after)) first.1 h.mark)
 
-pub no_digits : (text : List ℕ) (negative : Bool) (digits rest before marked after gap signed front back : List ℕ) → IsExponent text negative digits rest → Spans is_blank text before marked → (marked ≡ 69 ∷ after) ⊎ (marked ≡ 101 ∷ after) → Spans is_blank after gap signed → Spans is_digit (unsigned signed) front back → length front ≡ 0 → ⊥
+pub no_digits : (text : List ℕ) (negative : Bool) (digits rest before marked after gap signed front back : List ℕ) → IsExponent text negative digits rest
+    → Spans is_blank text before marked → (marked ≡ 69 ∷ after) ⊎ (marked ≡ 101 ∷ after) → Spans is_blank after gap signed
+    → Spans is_digit (unsigned signed) front back → length front ≡ 0 → ⊥
 no_digits text negative digits rest before marked after gap signed front back h s m t d none =
     let place = one_place text negative digits rest h before marked after gap signed s m t in
     let all = one_span is_digit (unsigned signed) digits rest front back (subst (λ (x : List ℕ). Spans is_digit (unsigned x) digits rest) place h.all) d in
     omega (arith, h.digit, ap length all.0)
 
-pub no_mantissa : (text whole pointed fraction rest : List ℕ) → Spans is_digit (unsigned text) whole pointed → IsFraction pointed fraction rest → length whole ≡ 0 → length fraction ≡ 0 → (n : Written) (other : List ℕ) → IsMantissa text n other → ⊥
+pub no_mantissa : (text whole pointed fraction rest : List ℕ) → Spans is_digit (unsigned text) whole pointed → IsFraction pointed fraction rest
+    → length whole ≡ 0 → length fraction ≡ 0 → (n : Written) (other : List ℕ) → IsMantissa text n other → ⊥
 no_mantissa text whole pointed fraction rest s t p q n other h =
     let before = one_span is_digit (unsigned text) n.whole h.pointed whole pointed h.before s in
     let after = one_fraction pointed n.fraction other fraction rest (subst (λ (x : List ℕ). IsFraction x n.fraction other) before.1 h.after) t in
@@ -108,7 +118,8 @@ from_first-some (b ∷ whole) fraction h =
     ]
 
 -- a mantissa, an exponent or none, and an end make a number
-pub number_is : (text : List ℕ) (m : Written) (after rest : List ℕ) (e : ℤ) → IsMantissa text m after → IsTail after e rest → IsEnded rest → IsNumber text (record m { exponent = e }) rest
+pub number_is : (text : List ℕ) (m : Written) (after rest : List ℕ) (e : ℤ) → IsMantissa text m after → IsTail after e rest → IsEnded rest
+    → IsNumber text (record m { exponent = e }) rest
 number_is text m after rest e h t s = record {
   after = after;
   mantissa = record { sign = h.sign; pointed = h.pointed; before = h.before; after = h.after; digit = h.digit };
@@ -116,7 +127,8 @@ number_is text m after rest e h t s = record {
   ended = s;
 }
 
-pub not_ended : (text : List ℕ) (m : Written) (after other : List ℕ) (e : ℤ) → IsMantissa text m after → IsTail after e other → (IsEnded other → ⊥) → (n : Written) (rest : List ℕ) → IsNumber text n rest → ⊥
+pub not_ended : (text : List ℕ) (m : Written) (after other : List ℕ) (e : ℤ) → IsMantissa text m after → IsTail after e other → (IsEnded other → ⊥)
+    → (n : Written) (rest : List ℕ) → IsNumber text n rest → ⊥
 not_ended text m after other e h t none n rest g =
     let front = one_mantissa text n g.after m after g.mantissa h in
     let back = one_tail after n.exponent rest e other (subst (λ (x : List ℕ). IsTail x n.exponent rest) front.3 g.tail) t in
@@ -163,7 +175,8 @@ cause text _ h = absurd h
 either : (text : List ℕ) (n : Written) (rest : List ℕ) (e : ScpiError) → IsNumber text n rest → IsInLimits n → Cause text e → ⊥
 either text n rest _ h l (malformed none) = none n rest h
 either text n rest _ h l (long g) = omega (arith, l.digits, g.many, ap significant (one_number text n rest g.n g.rest h g.number).0)
-either text n rest _ h l (steep g) = omega (arith, l.exponent, g.large, ap (λ (x : Written). unsigned_abs x.exponent) (one_number text n rest g.n g.rest h g.number).0)
+either text n rest _ h l (steep g) =
+    omega (arith, l.exponent, g.large, ap (λ (x : Written). unsigned_abs x.exponent) (one_number text n rest g.n g.rest h g.number).0)
 
 apart : (text : List ℕ) → IsLong text → IsSteep text → ⊥
 apart text h g = omega (arith, h.many, g.few, ap significant (one_number text h.n h.rest g.n g.rest h.number g.number).0)

@@ -1,10 +1,12 @@
 -- Digits as they are printed.
-use Rattle.std.proofs.Common.{◌≡◌, ℕ, zero, suc, ◌+◌, ◌-◌, ◌*◌, ◌/◌, ◌%◌, ◌^◌, ◌<◌, ◌≤◌, List, [], ◌∷◌, ◌++◌, length, get_or, take, drop, set, refl, sym, ap, ◌∙◌, inl, inr, arith, add-one}
+use Rattle.std.proofs.Common.{◌≡◌, ℕ, zero, suc, ◌+◌, ◌-◌, ◌*◌, ◌/◌, ◌%◌, ◌^◌, ◌<◌, ◌≤◌, List, [], ◌∷◌, ◌++◌, length, get_or, take, drop, set, refl, sym, ap}
+use Rattle.std.proofs.Common.{◌∙◌, inl, inr, arith, add-one}
 use Rattle.std.specs.Prelude.{pos, negsuc, codes}
 use Rattle.std.proofs.Math.Nat.{div-one, div-div-eq-div-mul, pow-succ', div-le_self}
 use Rattle.std.proofs.lemmas.Bool.{cases_lt}
 use Rattle.std.specs.Fmt.{decimal}
-use Rattle.std.proofs.lemmas.List.{append_assoc, drop-set, length_push, length-append, length-drop, take_more_set, take_at, drop-set-lt, drop-drop, drop_at, same_from_push, get_or_append_left}
+use Rattle.std.proofs.lemmas.List.{append_assoc, drop-set, length_push, length-append, length-drop, take_more_set, take_at, drop-set-lt, drop-drop, drop_at}
+use Rattle.std.proofs.lemmas.List.{same_from_push, get_or_append_left}
 use Rattle.std.proofs.lemmas.Fmt.{decimal_digit, decimal_step, decimal_by_steps, decimal_nonempty, first_decimal, decimal_injective}
 use Rattle.sw_base.specs.Reading.{last_digits, fixed, reading_text, IsBounded}
 use Rattle.sw_base.specs.declared.reading.Reading.{Reading}
@@ -24,7 +26,8 @@ length-last_digits zero n = refl
 length-last_digits (suc k) n = length_push (last_digits k (n / 10)) (48 + n % 10) ∙ ap (λ m. m + 1) (length-last_digits k (n / 10)) ∙ add-one k
 
 -- one digit is written before those behind it
-pub one_digit : (start end left : ℕ) (buffer : List ℕ) → start < end → end ≤ length buffer → last_digits (end - 1 - start) (left / 10) ++ drop (end - 1) (set buffer (end - 1) (48 + left % 10)) ≡ last_digits (end - start) left ++ drop end buffer
+pub one_digit : (start end left : ℕ) (buffer : List ℕ) → start < end → end ≤ length buffer
+    → last_digits (end - 1 - start) (left / 10) ++ drop (end - 1) (set buffer (end - 1) (48 + left % 10)) ≡ last_digits (end - start) left ++ drop end buffer
 one_digit start end left buffer low high =
     let k : end - start ≡ suc (end - 1 - start) = omega arith in
     let at : end - 1 < length buffer = omega arith in
@@ -51,15 +54,19 @@ pub length-decimal_digit : (n : ℕ) → n < 10 → length (decimal n) ≡ 1
 length-decimal_digit n below = ap length (decimal_digit n below)
 
 -- a point put behind what was written, and digits behind the point
-pub one_point : (old front digits more : List ℕ) (p places : ℕ) → length front + length digits ≡ p → p < length old → take (p + 1) (set (front ++ (digits ++ drop p old)) p 46) ++ (more ++ drop (p + 1 + places) (set (front ++ (digits ++ drop p old)) p 46)) ≡ front ++ (digits ++ 46 ∷ more) ++ drop (p + 1 + places) old
+pub one_point : (old front digits more : List ℕ) (p places : ℕ) → length front + length digits ≡ p → p < length old
+    → take (p + 1) (set (front ++ (digits ++ drop p old)) p 46) ++ (more ++ drop (p + 1 + places) (set (front ++ (digits ++ drop p old)) p 46))
+    ≡ front ++ (digits ++ 46 ∷ more) ++ drop (p + 1 + places) old
 one_point old front digits more p places long within =
     let whole : List ℕ = (front ++ digits) ++ drop p old in
     let at : length (front ++ digits) ≡ p = length-append front digits ∙ long in
     let room : p < length whole = omega (arith, length-append (front ++ digits) (drop p old), length-drop p old) in
-    let left : take (p + 1) (set whole p 46) ≡ (front ++ digits) ++ 46 ∷ [] = take_more_set whole p 46 room ∙ rw (take_at (front ++ digits) (drop p old) p at) refl in
+    let left : take (p + 1) (set whole p 46) ≡ (front ++ digits) ++ 46 ∷ [] = take_more_set whole p 46 room
+    ∙ rw (take_at (front ++ digits) (drop p old) p at) refl in
     let far : p + 1 + places ≡ p + (1 + places) = omega arith in
     let right : drop (p + 1 + places) (set whole p 46) ≡ drop (p + 1 + places) old =
-    drop-set-lt (p + 1 + places) whole p 46 (omega arith) ∙ rw (far, ← drop-drop (1 + places) p whole, drop_at (front ++ digits) (drop p old) p at, drop-drop (1 + places) p old) refl in
+    drop-set-lt (p + 1 + places) whole p 46 (omega arith)
+    ∙ rw (far, ← drop-drop (1 + places) p whole, drop_at (front ++ digits) (drop p old) p at, drop-drop (1 + places) p old) refl in
     let same : front ++ (digits ++ drop p old) ≡ whole = sym (append_assoc front digits (drop p old)) in
     rw (same, left, right) (simp append_assoc)
 
@@ -73,7 +80,8 @@ same_fronts xs ys s t h e = (
 same_number : (k n m : ℕ) → n / 10 ^ k ≡ m / 10 ^ k → last_digits k n ≡ last_digits k m → n ≡ m
 same_number zero n m h e = sym (div-one n) ∙ h ∙ div-one m
 same_number (suc k) n m h e =
-    let parts = same_from_push (last_digits k (n / 10)) (last_digits k (m / 10)) (48 + n % 10) (48 + m % 10) (sym (last_digits_push k n) ∙ e ∙ last_digits_push k m) in
+    let parts = same_from_push (last_digits k (n / 10)) (last_digits k (m / 10)) (48 + n % 10) (48 + m % 10) (sym (last_digits_push k n) ∙ e
+    ∙ last_digits_push k m) in
     let ten : 10 ^ suc k ≡ 10 * 10 ^ k = pow-succ' 10 k in
     let fronts : n / 10 / 10 ^ k ≡ m / 10 / 10 ^ k = div-div-eq-div-mul n 10 (10 ^ k) ∙ (rw ten at h) ∙ sym (div-div-eq-div-mul m 10 (10 ^ k)) in
     let tenths : n / 10 ≡ m / 10 = same_number k (n / 10) (m / 10) fronts parts.0 in
@@ -81,7 +89,8 @@ same_number (suc k) n m h e =
     omega arith
 
 length-fixed : (places n : ℕ) → length (fixed places n) ≡ length (decimal (n / 10 ^ places)) + (1 + places)
-length-fixed places n = length-append (decimal (n / 10 ^ places)) (46 ∷ last_digits places n) ∙ ap (λ (k : ℕ). length (decimal (n / 10 ^ places)) + k) (ap suc (length-last_digits places n) ∙ one_before places)
+length-fixed places n = length-append (decimal (n / 10 ^ places)) (46 ∷ last_digits places n)
+    ∙ ap (λ (k : ℕ). length (decimal (n / 10 ^ places)) + k) (ap suc (length-last_digits places n) ∙ one_before places)
   where
     one_before : (k : ℕ) → suc k ≡ 1 + k
     one_before k = omega arith
@@ -104,10 +113,12 @@ fixed_first places n rest p e =
     let a = n / 10 ^ places in
     let low : a ≤ n = div-le_self n (10 ^ places) in
     let some : 0 < length (decimal a) = decimal_nonempty a (omega arith) in
-    let first : get_or (decimal a) 0 0 ≡ 45 = sym (get_or_append_left (decimal a) (46 ∷ last_digits places n) 0 0 some) ∙ ap (λ (xs : List ℕ). get_or xs 0 0) e in
+    let first : get_or (decimal a) 0 0 ≡ 45 = sym (get_or_append_left (decimal a) (46 ∷ last_digits places n) 0 0 some)
+    ∙ ap (λ (xs : List ℕ). get_or xs 0 0) e in
     elim (cases_lt 0 a) [
       | inl above ↦ omega (arith, first_decimal a above (omega arith), first)
-      | inr none ↦ let zero_is : a ≡ 0 = omega arith in let text : decimal a ≡ 48 ∷ [] = rw zero_is (decimal_digit 0 (omega arith)) in omega (arith, first, ap (λ (xs : List ℕ). get_or xs 0 0) text)
+      | inr none ↦ let zero_is : a ≡ 0 = omega arith in let text : decimal a ≡ 48 ∷ [] = rw zero_is (decimal_digit 0 (omega arith)) in
+          omega (arith, first, ap (λ (xs : List ℕ). get_or xs 0 0) text)
     ]
 
 -- a reading in volts is longer than the text of an overload
@@ -121,7 +132,8 @@ reading_text_same (Volts (pos n)) (Volts (pos m)) p q e = ap (λ k. Volts (pos k
 reading_text_same (Volts (pos n)) (Volts (negsuc m)) p q e = absurd (fixed_first 9 n (fixed 9 (suc m)) p e)
 reading_text_same (Volts (pos n)) Overload p q e = absurd (not_overload n p e)
 reading_text_same (Volts (negsuc n)) (Volts (pos m)) p q e = absurd (fixed_first 9 m (fixed 9 (suc n)) q (sym e))
-reading_text_same (Volts (negsuc n)) (Volts (negsuc m)) p q e = let same : suc n ≡ suc m = fixed_same 9 (suc n) (suc m) p q (let t = e in cc) in let less : n ≡ m = omega arith in ap (λ k. Volts (negsuc k)) less
+reading_text_same (Volts (negsuc n)) (Volts (negsuc m)) p q e = let same : suc n ≡ suc m = fixed_same 9 (suc n) (suc m) p q (let t = e in cc) in
+    let less : n ≡ m = omega arith in ap (λ k. Volts (negsuc k)) less
 reading_text_same (Volts (negsuc n)) Overload p q e = let f : ◌≡◌ {A = ℕ} 45 57 = cc in absurd (omega (arith, f))
 reading_text_same Overload (Volts (pos m)) p q e = absurd (not_overload m q (sym e))
 reading_text_same Overload (Volts (negsuc m)) p q e = let f : ◌≡◌ {A = ℕ} 57 45 = cc in absurd (omega (arith, f))

@@ -1,5 +1,6 @@
 -- The digit behind the point decides how a number is rounded.
-use Rattle.std.proofs.Common.{◌≡◌, ℕ, suc, ◌+◌, ◌-◌, ◌*◌, ◌/◌, ◌^◌, ◌<◌, ◌≤◌, pos, negsuc, neg_ℤ, ◌-ℤ◌, true, List, [], ◌∷◌, ◌++◌, length, get_or, take, drop, refl, sym, ap, ◌∙◌, subst, inl, inr, arith, add-one, add-zero}
+use Rattle.std.proofs.Common.{◌≡◌, ℕ, suc, ◌+◌, ◌-◌, ◌*◌, ◌/◌, ◌^◌, ◌<◌, ◌≤◌, pos, negsuc, neg_ℤ, ◌-ℤ◌, true, List, [], ◌∷◌, ◌++◌, length, get_or, take, drop}
+use Rattle.std.proofs.Common.{refl, sym, ap, ◌∙◌, subst, inl, inr, arith, add-one, add-zero}
 use Rattle.std.proofs.lemmas.List.{length-append, append_assoc, drop_more, take-append-drop, length-drop}
 use Rattle.std.proofs.lemmas.Nat.{div-mul-add}
 use Rattle.std.proofs.lemmas.Int.{ints}
@@ -55,7 +56,8 @@ round_down a d c q high below =
     rw sum (div-mul-add a (2 * (q * 10)) r room)
 
 -- the number with the point in front of the last digits, d the first of them
-pub nearest_is : (front : List ℕ) (d : ℕ) (more : List ℕ) → AllPass is_digit (d ∷ more) → magnitude (value_of (front ++ d ∷ more)) (negsuc (length more)) ≡ value_of front + carry d
+pub nearest_is : (front : List ℕ) (d : ℕ) (more : List ℕ) → AllPass is_digit (d ∷ more)
+    → magnitude (value_of (front ++ d ∷ more)) (negsuc (length more)) ≡ value_of front + carry d
 unfolding magnitude
 nearest_is front d more h =
     let k = length more in
@@ -73,7 +75,8 @@ nearest_is front d more h =
     ])
 
 -- the point moved to the right, to within the fraction
-pub right_near : (whole fraction : List ℕ) (k : ℕ) → k < length fraction → AllPass is_digit fraction → magnitude (value_of (whole ++ fraction)) (pos k -ℤ pos (length fraction)) ≡ value_of (whole ++ take k fraction) + carry (get_or fraction k 0)
+pub right_near : (whole fraction : List ℕ) (k : ℕ) → k < length fraction → AllPass is_digit fraction
+    → magnitude (value_of (whole ++ fraction)) (pos k -ℤ pos (length fraction)) ≡ value_of (whole ++ take k fraction) + carry (get_or fraction k 0)
 right_near whole fraction k within h =
     let d = get_or fraction k 0 in
     let more = drop (k + 1) fraction in
@@ -91,19 +94,25 @@ right_far m k l far =
     rw place refl
 
 -- the point moved to the left, to within the whole part
-pub left_near : (whole fraction : List ℕ) (point places : ℕ) → 0 < places → point + places ≡ length whole → AllPass is_digit whole → AllPass is_digit fraction → magnitude (value_of (whole ++ fraction)) (neg_ℤ (pos places) -ℤ pos (length fraction)) ≡ value_of (take point whole) + carry (get_or whole point 0)
+pub left_near : (whole fraction : List ℕ) (point places : ℕ) → 0 < places → point + places ≡ length whole → AllPass is_digit whole → AllPass is_digit fraction
+    → magnitude (value_of (whole ++ fraction)) (neg_ℤ (pos places) -ℤ pos (length fraction)) ≡ value_of (take point whole) + carry (get_or whole point 0)
 left_near whole fraction point places some at h g =
     let d = get_or whole point 0 in
     let more = drop (point + 1) whole ++ fraction in
     let within : point < length whole = omega arith in
-    let cut : whole ≡ take point whole ++ d ∷ drop (point + 1) whole = sym (take-append-drop point whole) ∙ ap (λ t. take point whole ++ t) (drop_more whole point 0 within) in
-    let text : whole ++ fraction ≡ take point whole ++ d ∷ more = ap (λ t. t ++ fraction) cut ∙ append_assoc (take point whole) (d ∷ drop (point + 1) whole) fraction in
-    let digits : AllPass is_digit (d ∷ more) = AllPass-right is_digit (take point whole) (d ∷ more) (subst (AllPass is_digit) text (AllPass-append is_digit whole fraction h g)) in
-    let place : neg_ℤ (pos places) -ℤ pos (length fraction) ≡ negsuc (length more) = omega (arith, ints, length-append (drop (point + 1) whole) fraction, length-drop (point + 1) whole) in
+    let cut : whole ≡ take point whole ++ d ∷ drop (point + 1) whole = sym (take-append-drop point whole)
+    ∙ ap (λ t. take point whole ++ t) (drop_more whole point 0 within) in
+    let text : whole ++ fraction ≡ take point whole ++ d ∷ more = ap (λ t. t ++ fraction) cut
+    ∙ append_assoc (take point whole) (d ∷ drop (point + 1) whole) fraction in
+    let digits : AllPass is_digit (d ∷ more) =
+    AllPass-right is_digit (take point whole) (d ∷ more) (subst (AllPass is_digit) text (AllPass-append is_digit whole fraction h g)) in
+    let place : neg_ℤ (pos places) -ℤ pos (length fraction) ≡ negsuc (length more) =
+    omega (arith, ints, length-append (drop (point + 1) whole) fraction, length-drop (point + 1) whole) in
     rw (place, text) (nearest_is (take point whole) d more digits)
 
 -- the point moved to the left, past the whole part
-pub left_far : (whole fraction : List ℕ) (places : ℕ) → length whole < places → AllPass is_digit whole → AllPass is_digit fraction → magnitude (value_of (whole ++ fraction)) (neg_ℤ (pos places) -ℤ pos (length fraction)) ≡ 0
+pub left_far : (whole fraction : List ℕ) (places : ℕ) → length whole < places → AllPass is_digit whole → AllPass is_digit fraction
+    → magnitude (value_of (whole ++ fraction)) (neg_ℤ (pos places) -ℤ pos (length fraction)) ≡ 0
 unfolding magnitude
 left_far whole fraction places far h g =
     let j = places + length fraction - 1 in

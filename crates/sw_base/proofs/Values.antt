@@ -15,7 +15,8 @@ pub value_after-ge : (n : ℕ) (digits : List ℕ) → n ≤ value_after n digit
 value_after-ge n [] = omega arith
 value_after-ge n (b ∷ digits) = let more : n * 10 + (b - 48) ≤ value_after (n * 10 + (b - 48)) digits = value_after-ge (n * 10 + (b - 48)) digits in omega arith
 
-pub value_at : (n i : ℕ) (digits : List ℕ) → i < length digits → value_after n (drop i digits) ≡ value_after (n * 10 + (get_or digits i 0 - 48)) (drop (i + 1) digits)
+pub value_at : (n i : ℕ) (digits : List ℕ) → i < length digits
+    → value_after n (drop i digits) ≡ value_after (n * 10 + (get_or digits i 0 - 48)) (drop (i + 1) digits)
 value_at n i digits within = at_drop_more (value_after n) digits i 0 within
 
 pub value_at_le : (n i : ℕ) (digits : List ℕ) → i < length digits → n * 10 + (get_or digits i 0 - 48) ≤ value_after n (drop i digits)

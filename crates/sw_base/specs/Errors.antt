@@ -1,7 +1,21 @@
 -- The table of errors (SCPI-1999, 21.8).
 use Rattle.std.specs.Prelude.{ℕ, ◌-◌, ℤ, negsuc, List, nat_lt, codes, if◌then◌else◌}
 use Rattle.sw_base.specs.declared.error.ScpiError.{ScpiError}
-use Rattle.sw_base.specs.declared.error.ScpiError.TheVariants.{InvalidCharacter, SyntaxError, InvalidSeparator, DataTypeError, GetNotAllowed, ParameterNotAllowed, MissingParameter, UndefinedHeader, HeaderSuffixOutOfRange, InvalidCharacterInNumber, ExponentTooLarge, TooManyDigits, InvalidSuffix, SuffixNotAllowed, InvalidCharacterData, InvalidStringData, InvalidBlockData, InvalidExpression, TriggerIgnored, ArmIgnored, InitIgnored, SettingsConflict, DataOutOfRange, TooMuchData, IllegalParameterValue, OutOfMemory, DataCorruptOrStale, HardwareError, HardwareMissing, IllegalMacroLabel, MacroParameterError, MacroDefinitionTooLong, MacroRecursionError, MacroRedefinitionNotAllowed, MacroHeaderNotFound, SystemError, QueueOverflow, InputBufferOverrun, QueryInterrupted}
+use Rattle.sw_base.specs.declared.error.ScpiError.TheVariants.{InvalidCharacter, SyntaxError, InvalidSeparator}
+use Rattle.sw_base.specs.declared.error.ScpiError.TheVariants.{DataTypeError, GetNotAllowed, ParameterNotAllowed}
+use Rattle.sw_base.specs.declared.error.ScpiError.TheVariants.{MissingParameter, UndefinedHeader}
+use Rattle.sw_base.specs.declared.error.ScpiError.TheVariants.{HeaderSuffixOutOfRange, InvalidCharacterInNumber}
+use Rattle.sw_base.specs.declared.error.ScpiError.TheVariants.{ExponentTooLarge, TooManyDigits, InvalidSuffix}
+use Rattle.sw_base.specs.declared.error.ScpiError.TheVariants.{SuffixNotAllowed, InvalidCharacterData}
+use Rattle.sw_base.specs.declared.error.ScpiError.TheVariants.{InvalidStringData, InvalidBlockData, InvalidExpression}
+use Rattle.sw_base.specs.declared.error.ScpiError.TheVariants.{TriggerIgnored, ArmIgnored, InitIgnored}
+use Rattle.sw_base.specs.declared.error.ScpiError.TheVariants.{SettingsConflict, DataOutOfRange, TooMuchData}
+use Rattle.sw_base.specs.declared.error.ScpiError.TheVariants.{IllegalParameterValue, OutOfMemory, DataCorruptOrStale}
+use Rattle.sw_base.specs.declared.error.ScpiError.TheVariants.{HardwareError, HardwareMissing, IllegalMacroLabel}
+use Rattle.sw_base.specs.declared.error.ScpiError.TheVariants.{MacroParameterError, MacroDefinitionTooLong}
+use Rattle.sw_base.specs.declared.error.ScpiError.TheVariants.{MacroRecursionError, MacroRedefinitionNotAllowed}
+use Rattle.sw_base.specs.declared.error.ScpiError.TheVariants.{MacroHeaderNotFound, SystemError, QueueOverflow}
+use Rattle.sw_base.specs.declared.error.ScpiError.TheVariants.{InputBufferOverrun, QueryInterrupted}
 
 -- the number without its sign
 abbrev pub number_of : ScpiError → ℕ

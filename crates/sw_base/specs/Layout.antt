@@ -1,5 +1,6 @@
 -- What the slots of a cage hold, and which two channels must never be closed together.
-use Rattle.std.specs.Prelude.{◌≡◌, ◌≢◌, ℕ, ◌-◌, Bool, true, false, nat_lt, nat_le, ◌&&◌, List, length, Option, Some, None, slice_index_or, if◌then◌else◌}
+use Rattle.std.specs.Prelude.{◌≡◌, ◌≢◌, ℕ, ◌-◌, Bool, true, false, nat_lt, nat_le, ◌&&◌, List, length, Option, Some}
+use Rattle.std.specs.Prelude.{None, slice_index_or, if◌then◌else◌}
 
 -- a channel: its slot and its number on its card, both from 1
 abbrev pub Channel : Type 0

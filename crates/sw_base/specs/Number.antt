@@ -1,8 +1,11 @@
 -- A decimal number in a text, and the whole number nearest to it (IEEE 488.2, 7.7.2).
-use Rattle.std.specs.Prelude.{◌≡◌, ℕ, ◌+◌, ◌-◌, ◌*◌, ◌/◌, ◌^◌, ◌<◌, ◌≤◌, Bool, false, not, nat_lt, ◌==◌, ◌||◌, ◌&&◌, ◌⊎◌, ℤ, pos, negsuc, neg_ℤ, ◌+ℤ◌, ◌-ℤ◌, int_le, unsigned_abs, List, [], ◌∷◌, ◌++◌, length, Result, Ok, Err, if◌then◌else◌}
+use Rattle.std.specs.Prelude.{◌≡◌, ℕ, ◌+◌, ◌-◌, ◌*◌, ◌/◌, ◌^◌, ◌<◌, ◌≤◌, Bool, false, not, nat_lt, ◌==◌, ◌||◌, ◌&&◌}
+use Rattle.std.specs.Prelude.{◌⊎◌, ℤ, pos, negsuc, neg_ℤ, ◌+ℤ◌, ◌-ℤ◌, int_le, unsigned_abs, List, [], ◌∷◌, ◌++◌, length}
+use Rattle.std.specs.Prelude.{Result, Ok, Err, if◌then◌else◌}
 use Rattle.sw_base.specs.Text.{is_blank, is_digit, is_letter, StartsOff, Spans}
 use Rattle.sw_base.specs.declared.error.ScpiError.{ScpiError}
-use Rattle.sw_base.specs.declared.error.ScpiError.TheVariants.{InvalidCharacterInNumber, ExponentTooLarge, TooManyDigits, DataOutOfRange}
+use Rattle.sw_base.specs.declared.error.ScpiError.TheVariants.{InvalidCharacterInNumber, ExponentTooLarge}
+use Rattle.sw_base.specs.declared.error.ScpiError.TheVariants.{TooManyDigits, DataOutOfRange}
 use Rattle.sw_base.specs.declared.number.Unit.{Unit as TimeUnit}
 use Rattle.sw_base.specs.declared.number.Unit.TheVariants.{S, Ms, Us}
 
@@ -65,8 +68,10 @@ pub record IsExponent (text : List ℕ) (negative : Bool) (digits rest : List �
 -- an exponent where one can be read, else none, which counts as 0; and the rest
 abbrev pub IsTail : List ℕ → ℤ → List ℕ → Type 0
 IsTail text exponent rest =
-    ((negative : Bool) × (digits : List ℕ) × IsExponent text negative digits rest × (exponent ≡ with_sign negative (value_of digits)))
-    ⊎ (((negative : Bool) (digits other : List ℕ) → IsExponent text negative digits other → ⊥) × (exponent ≡ pos 0) × (rest ≡ text))
+    ((negative : Bool) × (digits : List ℕ) × IsExponent text negative digits rest
+    × (exponent ≡ with_sign negative (value_of digits)))
+    ⊎ (((negative : Bool) (digits other : List ℕ) → IsExponent text negative digits other → ⊥) × (exponent ≡ pos 0)
+    × (rest ≡ text))
 
 -- white space, a comma or a semicolon
 abbrev pub is_end : ℕ → Bool
@@ -105,7 +110,8 @@ pub record IsInLimits (n : Written) : Type 0 where
 abbrev pub IsRefused : List ℕ → ScpiError → Type 0
 IsRefused text InvalidCharacterInNumber = (n : Written) (rest : List ℕ) → IsNumber text n rest → ⊥
 IsRefused text TooManyDigits = (n : Written) × (rest : List ℕ) × IsNumber text n rest × (255 < significant n)
-IsRefused text ExponentTooLarge = (n : Written) × (rest : List ℕ) × IsNumber text n rest × (significant n ≤ 255) × (32000 < unsigned_abs n.exponent)
+IsRefused text ExponentTooLarge = (n : Written) × (rest : List ℕ) × IsNumber text n rest × (significant n ≤ 255)
+    × (32000 < unsigned_abs n.exponent)
 IsRefused text _ = ⊥
 
 -- m * 10 ^ e as a whole number, a half rounded up

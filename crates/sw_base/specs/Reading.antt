@@ -1,5 +1,6 @@
 -- Numbers and readings as text.
-use Rattle.std.specs.Prelude.{ℕ, suc, zero, ◌+◌, ◌/◌, ◌%◌, ◌^◌, ◌<◌, pos, negsuc, unsigned_abs, List, [], ◌∷◌, ◌++◌, codes, decimal}
+use Rattle.std.specs.Prelude.{ℕ, suc, zero, ◌+◌, ◌/◌, ◌%◌, ◌^◌, ◌<◌, pos, negsuc, unsigned_abs, List, [], ◌∷◌, ◌++◌}
+use Rattle.std.specs.Prelude.{codes, decimal}
 use Rattle.sw_base.specs.declared.reading.Reading.{Reading}
 use Rattle.sw_base.specs.declared.reading.Reading.TheVariants.{Volts, Overload}
 
@@ -12,7 +13,8 @@ last_digits (suc width) n = last_digits width (n / 10) ++ (48 + n % 10) ∷ []
 abbrev pub fixed : ℕ → ℕ → List ℕ
 fixed places n = decimal (n / 10 ^ places) ++ 46 ∷ last_digits places n
 
--- a reading in nanovolts as volts with nine decimals; an overload as the number that stands for infinity (SCPI-1999, 7.2.1.4)
+-- a reading in nanovolts as volts with nine decimals; an overload as the number that stands for infinity (SCPI-1999,
+-- 7.2.1.4)
 abbrev pub reading_text : Reading → List ℕ
 reading_text (Volts (pos n)) = fixed 9 n
 reading_text (Volts (negsuc n)) = 45 ∷ fixed 9 (suc n)

@@ -3,7 +3,9 @@
 //! `specs/Limits.antt` says the same numbers to contracts; `limits_agree` proves that they are the same.
 
 ghost use Rattle.std.specs.Prelude.{◌≡◌};
-ghost use Rattle.sw_base.specs.Limits.{most_slots, most_channels, most_entries, most_bytes, most_sessions, most_points, most_arm_count, most_trigger_count, longest_delay, most_macros, longest_body, most_levels, longest_mnemonic, most_errors};
+ghost use Rattle.sw_base.specs.Limits.{most_slots, most_channels, most_entries, most_bytes, most_sessions, most_points};
+ghost use Rattle.sw_base.specs.Limits.{most_arm_count, most_trigger_count, longest_delay, most_macros, longest_body};
+ghost use Rattle.sw_base.specs.Limits.{most_levels, longest_mnemonic, most_errors};
 
 /// How many slots a cage has. They are numbered from 1.
 pub const SLOTS: u8 = 8;
@@ -51,7 +53,8 @@ pub const QUEUED_ERRORS: usize = 32;
 pub fn limits_agree()
     ensures slots { (SLOTS ≡ most_slots) × (CHANNELS ≡ most_channels) }
     ensures texts { (LIST_ENTRIES ≡ most_entries) × (MESSAGE_BYTES ≡ most_bytes) × (MNEMONIC_BYTES ≡ longest_mnemonic) }
-    ensures scans { (POINTS ≡ most_points) × (ARM_COUNT ≡ most_arm_count) × (TRIGGER_COUNT ≡ most_trigger_count) × (LONGEST_DELAY ≡ longest_delay) }
+    ensures scans { (POINTS ≡ most_points) × (ARM_COUNT ≡ most_arm_count) × (TRIGGER_COUNT ≡ most_trigger_count)
+        × (LONGEST_DELAY ≡ longest_delay) }
     ensures macros { (MACROS ≡ most_macros) × (BODY_BYTES ≡ longest_body) × (MACRO_LEVELS ≡ most_levels) }
     ensures sessions { (SESSIONS ≡ most_sessions) × (QUEUED_ERRORS ≡ most_errors) }
 {}

@@ -1,9 +1,14 @@
 //! Numbers as text: their form, their refusals, and their value rounded to a whole number.
 
-ghost use Rattle.std.specs.Prelude.{◌≡◌, ℕ, ◌+◌, ◌*◌, ◌^◌, ◌<◌, ◌≤◌, ◌↔◌, ◌++◌, ◌∷◌, ◌⊎◌, [], List, length, pos, neg_ℤ, ◌-ℤ◌, unsigned_abs, Bool, not, IsTrue, IfSome, IfNone, IfOk, IfErr, nat_le, if◌then◌else◌};
+ghost use Rattle.std.specs.Prelude.{◌≡◌, ℕ, ◌+◌, ◌*◌, ◌^◌, ◌<◌, ◌≤◌, ◌↔◌, ◌++◌, ◌∷◌, ◌⊎◌, [], List, length, pos, neg_ℤ};
+ghost use Rattle.std.specs.Prelude.{◌-ℤ◌, unsigned_abs, Bool, not, IsTrue, IfSome, IfNone, IfOk, IfErr, nat_le};
+ghost use Rattle.std.specs.Prelude.{if◌then◌else◌};
 ghost use Rattle.sw_base.specs.Text.{is_digit, is_letter, AllPass, StartsOff, Spans};
 ghost use Rattle.sw_base.specs.declared.error.ScpiError.{ScpiError as Fault};
-ghost use Rattle.sw_base.specs.Number.{Written, value_after, value_of, is_negative, unsigned, with_sign, IsFraction, IsMantissa, IsExponent, IsTail, is_end, IsEnded, IsNumber, from_first, significant, IsInLimits, IsRefused, magnitude, size_of, rounded, in_range, tens_of, in_u64};
+ghost use Rattle.sw_base.specs.Number.{Written, value_after, value_of, is_negative, unsigned, with_sign, IsFraction};
+ghost use Rattle.sw_base.specs.Number.{IsMantissa, IsExponent, IsTail, is_end, IsEnded, IsNumber, from_first};
+ghost use Rattle.sw_base.specs.Number.{significant, IsInLimits, IsRefused, magnitude, size_of, rounded, in_range};
+ghost use Rattle.sw_base.specs.Number.{tens_of, in_u64};
 
 use crate::bytes::{blanks, digits, eat, is_blank, letters};
 use crate::error::ScpiError;
@@ -51,9 +56,15 @@ pub struct Nrf<'a> {
 impl<'a> Model for Nrf<'a> {
     ghost Value = { Written };
 
-    ghost view = { λ n. record { negative = n.negative; whole = n.whole.now; fraction = n.fraction.now; exponent = n.exponent } };
+    ghost view = { λ n. record {
+      negative = n.negative;
+      whole = n.whole.now;
+      fraction = n.fraction.now;
+      exponent = n.exponent;
+    } };
 
-    ghost invariant = { λ n. AllPass is_digit n.whole.now × AllPass is_digit n.fraction.now × (unsigned_abs n.exponent ≤ 32000) };
+    ghost invariant = { λ n. AllPass is_digit n.whole.now × AllPass is_digit n.fraction.now
+        × (unsigned_abs n.exponent ≤ 32000) };
 }
 
 impl<'a> Nrf<'a> {
@@ -134,9 +145,11 @@ impl<'a> Nrf<'a> {
 
 /// A law: a text is one number with one rest, or has one refusal, and not both.
 pub fn one_reading()
-    ensures number { (text : List ℕ) (n m : Written) (rest other : List ℕ) → IsNumber text n rest → IsNumber text m other → (n ≡ m) × (rest ≡ other) }
+    ensures number { (text : List ℕ) (n m : Written) (rest other : List ℕ) → IsNumber text n rest
+        → IsNumber text m other → (n ≡ m) × (rest ≡ other) }
     ensures refusal { (text : List ℕ) (e f : Fault) → IsRefused text e → IsRefused text f → e ≡ f }
-    ensures either { (text : List ℕ) (n : Written) (rest : List ℕ) (e : Fault) → IsNumber text n rest → IsInLimits n → IsRefused text e → ⊥ }
+    ensures either { (text : List ℕ) (n : Written) (rest : List ℕ) (e : Fault) → IsNumber text n rest → IsInLimits n
+        → IsRefused text e → ⊥ }
 {}
 
 /// Whether a minus stands first, and what follows the sign, if there is one.
@@ -203,8 +216,10 @@ pub struct Exponent<'a> {
 
 /// The exponent at the front, if one stands there, and what follows it.
 pub fn read_exponent(text: &[u8]) -> Option<(Exponent<'_>, &[u8])>
-    ensures found { IfSome result (λ x. (e : IsExponent text.now x.0.negative x.0.digits.now x.1.now) × (IsTrue x.0.apart ↔ (0 < length e.before + length e.gap))) }
-    ensures none { IfNone result ((negative : Bool) (digits rest : List ℕ) → IsExponent text.now negative digits rest → ⊥) }
+    ensures found { IfSome result (λ x. (e : IsExponent text.now x.0.negative x.0.digits.now x.1.now)
+        × (IsTrue x.0.apart ↔ (0 < length e.before + length e.gap))) }
+    ensures none { IfNone result ((negative : Bool) (digits rest : List ℕ) → IsExponent text.now negative digits rest
+        → ⊥) }
 {
     let (before, marked) = blanks(text);
     let after = eat_mark(marked)?;
@@ -345,8 +360,10 @@ fn exponent_size(digits: &[u8]) -> Option<u32>
 fn moved_right(whole: &[u8], fraction: &[u8], places: usize) -> Option<u64>
     requires whole { AllPass is_digit whole.now }
     requires fraction { AllPass is_digit fraction.now }
-    ensures some { IfSome result (λ n. n ≡ magnitude (value_of (whole.now ++ fraction.now)) (pos places -ℤ pos (length fraction.now))) }
-    ensures none { IfNone result (2 ^ 64 ≤ magnitude (value_of (whole.now ++ fraction.now)) (pos places -ℤ pos (length fraction.now))) }
+    ensures some { IfSome result
+        (λ n. n ≡ magnitude (value_of (whole.now ++ fraction.now)) (pos places -ℤ pos (length fraction.now))) }
+    ensures none { IfNone result
+        (2 ^ 64 ≤ magnitude (value_of (whole.now ++ fraction.now)) (pos places -ℤ pos (length fraction.now))) }
 {
     if places < fraction.len() {
         nearest(whole, &fraction[..places], fraction[places])
@@ -362,8 +379,10 @@ fn moved_left(whole: &[u8], fraction: &[u8], places: usize) -> Option<u64>
     requires places { 0 < places }
     requires whole { AllPass is_digit whole.now }
     requires fraction { AllPass is_digit fraction.now }
-    ensures some { IfSome result (λ n. n ≡ magnitude (value_of (whole.now ++ fraction.now)) (neg_ℤ (pos places) -ℤ pos (length fraction.now))) }
-    ensures none { IfNone result (2 ^ 64 ≤ magnitude (value_of (whole.now ++ fraction.now)) (neg_ℤ (pos places) -ℤ pos (length fraction.now))) }
+    ensures some { IfSome result
+        (λ n. n ≡ magnitude (value_of (whole.now ++ fraction.now)) (neg_ℤ (pos places) -ℤ pos (length fraction.now))) }
+    ensures none { IfNone result
+        (2 ^ 64 ≤ magnitude (value_of (whole.now ++ fraction.now)) (neg_ℤ (pos places) -ℤ pos (length fraction.now))) }
 {
     if whole.len() < places {
         return Some(0);

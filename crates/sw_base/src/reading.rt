@@ -85,7 +85,8 @@ fn write_minus(negative: bool, buffer: &mut [u8; 32]) -> usize
 /// Writes `whole`, a point and the last `places` digits of `n` from `start` on, and returns where the text ends.
 fn write_fixed(whole: u64, n: u64, places: usize, buffer: &mut [u8; 32], start: usize) -> usize
     requires { (start ≤ 1) × (places ≤ 10) }
-    ensures text { buffer.new ≡ take start buffer.old ++ (decimal whole ++ (46 ∷ last_digits places n)) ++ drop result buffer.old }
+    ensures text { buffer.new
+        ≡ take start buffer.old ++ (decimal whole ++ (46 ∷ last_digits places n)) ++ drop result buffer.old }
     ensures end { result ≡ start + length (decimal whole) + 1 + places }
     ensures within { result ≤ 32 }
 {

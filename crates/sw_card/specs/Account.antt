@@ -1,8 +1,10 @@
 -- What is seen of a card: its serial number, how often it failed, its relays, and what it measured last.
-use Rattle.std.specs.Prelude.{◌≡◌, ℕ, ◌+◌, ◌-◌, ◌%◌, ◌^◌, Bool, true, false, ◌&&◌, nat_lt, List, [], ◌∷◌, Option, None, Some, slice_index_or, slice_set, is_some, Result, Ok, Err}
+use Rattle.std.specs.Prelude.{◌≡◌, ℕ, ◌+◌, ◌-◌, ◌%◌, ◌^◌, Bool, true, false, ◌&&◌, nat_lt, List, [], ◌∷◌, Option, None}
+use Rattle.std.specs.Prelude.{Some, slice_index_or, slice_set, is_some, Result, Ok, Err}
 use Rattle.sw_base.specs.declared.reading.Reading.{Reading}
 
--- a card by its own account: each channel's group and whether it is closed, from channel 1 on; of a meter, its last reading, and no channels
+-- a card by its own account: each channel's group and whether it is closed, from channel 1 on; of a meter, its last
+-- reading, and no channels
 pub record Account : Type 0 where
   pub serial : ℕ
   pub failures : ℕ
@@ -11,7 +13,8 @@ pub record Account : Type 0 where
   pub last : Option (Option Reading)
 
 abbrev pub relay_account : ℕ → ℕ → List ℕ → List Bool → Account
-relay_account serial failures groups closed = record { serial = serial; failures = failures; groups = groups; closed = closed; last = None }
+relay_account serial failures groups closed =
+    record { serial = serial; failures = failures; groups = groups; closed = closed; last = None }
 
 -- a meter card by its own account
 pub record MeterAccount : Type 0 where

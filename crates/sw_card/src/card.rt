@@ -3,7 +3,8 @@
 ghost use Rattle.std.proofs.Common.{inl, inr};
 ghost use Rattle.std.specs.Prelude.{◌≡◌, ℕ, length, Bool, true, false, OnOk, OnErr, IfOk, IfErr, IsTrue, None};
 ghost use Rattle.sw_base.specs.Layout.{group_at, has_channel};
-ghost use Rattle.sw_card.specs.Account.{closed_at, set_closed, relay_account, of_meter, is_meter, with_set, at_rest, IsFault};
+ghost use Rattle.sw_card.specs.Account.{closed_at, set_closed, relay_account, of_meter, is_meter, with_set, at_rest};
+ghost use Rattle.sw_card.specs.Account.{IsFault};
 
 use crate::board::CardFault;
 use crate::meter::{Meter, MeterCard};
@@ -38,7 +39,8 @@ impl<R: Relay, M: Meter> Card<R, M> {
     /// A relay card as a card.
     pub fn relays(relay: R) -> Self
         ensures card { result.0 ≡ inl relay }
-        ensures account { result.1 ≡ relay_account (R.the_serial relay) (R.failed relay) (R.groups relay) (R.closed relay) }
+        ensures account { result.1
+            ≡ relay_account (R.the_serial relay) (R.failed relay) (R.groups relay) (R.closed relay) }
     {
         Card {
             kind: Kind::Relays(RelayCard::new(relay)),
@@ -48,7 +50,11 @@ impl<R: Relay, M: Meter> Card<R, M> {
     /// A meter as a card.
     pub fn meter(meter: M) -> Self
         ensures card { result.0 ≡ inr meter }
-        ensures account { result.1 ≡ of_meter (record { serial = M.the_serial meter; failures = M.failed meter; last = M.last_reading meter }) }
+        ensures account { result.1 ≡ of_meter (record {
+          serial = M.the_serial meter;
+          failures = M.failed meter;
+          last = M.last_reading meter;
+        }) }
     {
         Card {
             kind: Kind::Meters(MeterCard::new(meter)),

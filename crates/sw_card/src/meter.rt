@@ -60,14 +60,21 @@ pub struct MeterCard<M: Meter> {
 impl<M: Meter> Model for MeterCard<M> {
     ghost Value = { M × MeterAccount };
 
-    ghost view = { λ c. (c.meter, record { serial = M.the_serial c.meter; failures = M.failed c.meter; last = M.last_reading c.meter }) };
+    ghost view = { λ c. (
+      c.meter,
+      record { serial = M.the_serial c.meter; failures = M.failed c.meter; last = M.last_reading c.meter },
+    ) };
 }
 
 impl<M: Meter> MeterCard<M> {
     /// The card as one value.
     pub fn new(meter: M) -> Self
         ensures card { result.0 ≡ meter }
-        ensures account { result.1 ≡ record { serial = M.the_serial meter; failures = M.failed meter; last = M.last_reading meter } }
+        ensures account { result.1 ≡ record {
+          serial = M.the_serial meter;
+          failures = M.failed meter;
+          last = M.last_reading meter;
+        } }
     {
         MeterCard { meter }
     }
@@ -75,7 +82,11 @@ impl<M: Meter> MeterCard<M> {
     /// The card itself.
     pub fn into_meter(self) -> M
         ensures card { result ≡ self.0 }
-        ensures account { self.1 ≡ record { serial = M.the_serial result; failures = M.failed result; last = M.last_reading result } }
+        ensures account { self.1 ≡ record {
+          serial = M.the_serial result;
+          failures = M.failed result;
+          last = M.last_reading result;
+        } }
     {
         let MeterCard { meter } = self;
         meter

@@ -2,7 +2,8 @@
 
 ghost use Rattle.std.specs.Prelude.{◌≡◌, ℕ, ◌+◌, ◌%◌, ◌^◌, length, List, Bool, true, false, OnOk, OnErr, IsTrue};
 ghost use Rattle.sw_base.specs.Layout.{group_at, has_channel};
-ghost use Rattle.sw_card.specs.Account.{Account, closed_at, set_closed, none_closed, IsWithin, relay_account, with_set, at_rest, IsFault};
+ghost use Rattle.sw_card.specs.Account.{Account, closed_at, set_closed, none_closed, IsWithin, relay_account, with_set};
+ghost use Rattle.sw_card.specs.Account.{at_rest, IsFault};
 
 use crate::board::{Board, CardFault};
 use std::marker::Model;
@@ -110,13 +111,19 @@ pub struct RelayCard<R: Relay> {
 impl<R: Relay> Model for RelayCard<R> {
     ghost Value = { R × Account };
 
-    ghost view = { λ c. (c.relay, relay_account (R.the_serial c.relay) (R.failed c.relay) (R.groups c.relay) (R.closed c.relay)) };
+    ghost view = { λ c. (
+      c.relay,
+      relay_account (R.the_serial c.relay) (R.failed c.relay) (R.groups c.relay) (R.closed c.relay),
+    ) };
 }
 
 impl<R: Relay> RelayCard<R> {
     /// The card as one value.
     pub fn new(relay: R) -> Self
-        ensures { result ≡ (relay, relay_account (R.the_serial relay) (R.failed relay) (R.groups relay) (R.closed relay)) }
+        ensures { result ≡ (
+          relay,
+          relay_account (R.the_serial relay) (R.failed relay) (R.groups relay) (R.closed relay),
+        ) }
     {
         RelayCard { relay }
     }
@@ -124,7 +131,8 @@ impl<R: Relay> RelayCard<R> {
     /// The card itself.
     pub fn into_relay(self) -> R
         ensures card { result ≡ self.0 }
-        ensures account { relay_account (R.the_serial result) (R.failed result) (R.groups result) (R.closed result) ≡ self.1 }
+        ensures account { relay_account (R.the_serial result) (R.failed result) (R.groups result) (R.closed result)
+            ≡ self.1 }
     {
         let RelayCard { relay } = self;
         relay

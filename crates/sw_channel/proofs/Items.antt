@@ -4,7 +4,7 @@ use Rattle.std.specs.Prelude.{◌↔◌}
 use Rattle.std.proofs.lemmas.List.{append_cancel_right}
 use Rattle.sw_base.specs.Text.{Lacks}
 use Rattle.sw_base.proofs.Runs.{Lacks-none}
-use Rattle.sw_channel.specs.Grammar.{Written, plain, pair, Item, one, range, IsNumber, IsChannel, IsItem, IsItems, IsList}
+use Rattle.sw_channel.specs.Grammar.{WrittenChannel, plain, pair, Item, one, range, IsPadded, IsChannel, IsItem, IsItems, IsList}
 use Rattle.sw_channel.proofs.Marks.{IsMark, number_lacks, one_number, joined_none, joined_cut, joined_lacks}
 
 bang : IsMark 33
@@ -18,25 +18,28 @@ comma = record { blank = refl; digit = refl }
 
 -- ---- channels
 
-pub channel_whole : (text : List ℕ) → Lacks 33 text → (w : Written) → IsChannel text w → (n : List ℕ) × (w ≡ plain n) × IsNumber text n
+pub channel_whole : (text : List ℕ) → Lacks 33 text → (w : WrittenChannel) → IsChannel text w → (n : List ℕ) × (w ≡ plain n) × IsPadded text n
 channel_whole text h (plain n) p = (n, refl, p)
 channel_whole text h (pair s c) p = absurd (joined_none h p)
 
-pub channel_cut : (text left right : List ℕ) → Lacks 33 left → text ≡ left ++ 33 ∷ right → (w : Written) → IsChannel text w → (s c : List ℕ) × (w ≡ pair s c) × IsNumber left s × IsNumber right c
+pub channel_cut : (text left right : List ℕ) → Lacks 33 left → text ≡ left ++ 33 ∷ right → (w : WrittenChannel) → IsChannel text w → (s c : List ℕ)
+    × (w ≡ pair s c)
+    × IsPadded left s × IsPadded right c
 channel_cut text left right h e (plain n) p = absurd (Lacks-none 33 left right (subst (Lacks 33) e (number_lacks 33 bang text n p)))
 channel_cut text left right h e (pair s c) p = let r = joined_cut (λ t. number_lacks 33 bang t s) h e p in (s, c, refl, r.0, r.1)
 
-pub channel_stop : (text left right : List ℕ) → Lacks 33 left → text ≡ left ++ 33 ∷ right → ((n : List ℕ) → IsNumber left n → ⊥) ⊎ ((n : List ℕ) → IsNumber right n → ⊥) → (w : Written) → IsChannel text w → ⊥
+pub channel_stop : (text left right : List ℕ) → Lacks 33 left → text ≡ left ++ 33 ∷ right → ((n : List ℕ) → IsPadded left n → ⊥)
+    ⊎ ((n : List ℕ) → IsPadded right n → ⊥) → (w : WrittenChannel) → IsChannel text w → ⊥
 channel_stop text left right h e none w p =
     let r = channel_cut text left right h e w p in
     elim none [ inl f ↦ f r.0 r.3 | inr f ↦ f r.1 r.4 ]
 
 -- a mark other than `!`
-channel_lacks : (mark : ℕ) → IsMark mark → Lacks mark (33 ∷ []) → (text : List ℕ) (w : Written) → IsChannel text w → Lacks mark text
+channel_lacks : (mark : ℕ) → IsMark mark → Lacks mark (33 ∷ []) → (text : List ℕ) (w : WrittenChannel) → IsChannel text w → Lacks mark text
 channel_lacks mark m o text (plain n) p = number_lacks mark m text n p
 channel_lacks mark m o text (pair s c) p = joined_lacks mark o.0 (λ t. number_lacks mark m t s) (λ t. number_lacks mark m t c) p
 
-one_channel : (text : List ℕ) (w v : Written) → IsChannel text w → IsChannel text v → w ≡ v
+one_channel : (text : List ℕ) (w v : WrittenChannel) → IsChannel text w → IsChannel text v → w ≡ v
 one_channel text (plain n) v p q =
     let r = channel_whole text (number_lacks 33 bang text n p) v q in
     ap plain (one_number text n r.0 p r.2) ∙ sym r.1
@@ -48,21 +51,23 @@ one_channel text (pair s c) v p q =
 
 -- ---- items
 
-no_colon : (text : List ℕ) (w : Written) → IsChannel text w → Lacks 58 text
+no_colon : (text : List ℕ) (w : WrittenChannel) → IsChannel text w → Lacks 58 text
 no_colon text w p = channel_lacks 58 colon (refl, tt) text w p
 
-no_comma : (text : List ℕ) (w : Written) → IsChannel text w → Lacks 44 text
+no_comma : (text : List ℕ) (w : WrittenChannel) → IsChannel text w → Lacks 44 text
 no_comma text w p = channel_lacks 44 comma (refl, tt) text w p
 
-pub item_whole : (text : List ℕ) → Lacks 58 text → (i : Item) → IsItem text i → (w : Written) × (i ≡ one w) × IsChannel text w
+pub item_whole : (text : List ℕ) → Lacks 58 text → (i : Item) → IsItem text i → (w : WrittenChannel) × (i ≡ one w) × IsChannel text w
 item_whole text h (one w) p = (w, refl, p)
 item_whole text h (range v w) p = absurd (joined_none h p)
 
-pub item_cut : (text left right : List ℕ) → Lacks 58 left → text ≡ left ++ 58 ∷ right → (i : Item) → IsItem text i → (v w : Written) × (i ≡ range v w) × IsChannel left v × IsChannel right w
+pub item_cut : (text left right : List ℕ) → Lacks 58 left → text ≡ left ++ 58 ∷ right → (i : Item) → IsItem text i → (v w : WrittenChannel) × (i ≡ range v w)
+    × IsChannel left v × IsChannel right w
 item_cut text left right h e (one w) p = absurd (Lacks-none 58 left right (subst (Lacks 58) e (no_colon text w p)))
 item_cut text left right h e (range v w) p = let r = joined_cut (λ t. no_colon t v) h e p in (v, w, refl, r.0, r.1)
 
-pub item_stop : (text left right : List ℕ) → Lacks 58 left → text ≡ left ++ 58 ∷ right → ((w : Written) → IsChannel left w → ⊥) ⊎ ((w : Written) → IsChannel right w → ⊥) → (i : Item) → IsItem text i → ⊥
+pub item_stop : (text left right : List ℕ) → Lacks 58 left → text ≡ left ++ 58 ∷ right → ((w : WrittenChannel) → IsChannel left w → ⊥)
+    ⊎ ((w : WrittenChannel) → IsChannel right w → ⊥) → (i : Item) → IsItem text i → ⊥
 item_stop text left right h e none i p =
     let r = item_cut text left right h e i p in
     elim none [ inl f ↦ f r.0 r.3 | inr f ↦ f r.1 r.4 ]
@@ -88,7 +93,8 @@ items_last text h [] p = absurd p
 items_last text h (i ∷ []) p = (i, refl, p)
 items_last text h (i ∷ j ∷ is) p = absurd (joined_none h p)
 
-pub items_cut : (text left right : List ℕ) → Lacks 44 left → text ≡ left ++ 44 ∷ right → (is : List Item) → IsItems text is → (i : Item) × (js : List Item) × (is ≡ i ∷ js) × IsItem left i × IsItems right js
+pub items_cut : (text left right : List ℕ) → Lacks 44 left → text ≡ left ++ 44 ∷ right → (is : List Item) → IsItems text is → (i : Item) × (js : List Item)
+    × (is ≡ i ∷ js) × IsItem left i × IsItems right js
 items_cut text left right h e [] p = absurd p
 items_cut text left right h e (i ∷ []) p = absurd (Lacks-none 44 left right (subst (Lacks 44) e (item_lacks text i p)))
 items_cut text left right h e (i ∷ j ∷ is) p = let r = joined_cut (λ t. item_lacks t i) h e p in (i, j ∷ is, refl, r.0, r.1)
@@ -98,11 +104,13 @@ items_join text left right i [] e p q = absurd q
 items_join text left right i (j ∷ is) e p q = record { left = left; right = right; first = p; second = q; whole = e }
 
 -- whether the rest is items and commas, after one item
-pub items_more : (text left right : List ℕ) → Lacks 44 left → text ≡ left ++ 44 ∷ right → (i : Item) → IsItem left i → ((is : List Item) × IsItems text is) ↔ ((is : List Item) × IsItems right is)
+pub items_more : (text left right : List ℕ) → Lacks 44 left → text ≡ left ++ 44 ∷ right → (i : Item) → IsItem left i → ((is : List Item) × IsItems text is)
+    ↔ ((is : List Item) × IsItems right is)
 items_more text left right h e i p =
     (λ x. let r = items_cut text left right h e x.0 x.1 in (r.1, r.4), λ x. (i ∷ x.0, items_join text left right i x.0 e p x.1))
 
-pub items_stop : (text left right : List ℕ) → Lacks 44 left → text ≡ left ++ 44 ∷ right → ((i : Item) → IsItem left i → ⊥) → ((is : List Item) × IsItems text is) → ⊥
+pub items_stop : (text left right : List ℕ) → Lacks 44 left → text ≡ left ++ 44 ∷ right → ((i : Item) → IsItem left i → ⊥)
+    → ((is : List Item) × IsItems text is) → ⊥
 items_stop text left right h e none x = let r = items_cut text left right h e x.0 x.1 in none r.0 r.3
 
 one_items : (text : List ℕ) (is js : List Item) → IsItems text is → IsItems text js → is ≡ js

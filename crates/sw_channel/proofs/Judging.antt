@@ -1,5 +1,6 @@
 -- Judging the items from left to right: one after another, and what it gives in the end.
-use Rattle.std.proofs.Common.{◌≡◌, ℕ, ◌+◌, ◌-◌, ◌<◌, ◌≤◌, ◌≢◌, map, true, false, List, [], ◌∷◌, ◌++◌, length, refl, sym, ap, subst, ◌∙◌, append_assoc, arith, ◌⊎◌, inl, inr, lit≤}
+use Rattle.std.proofs.Common.{◌≡◌, ℕ, ◌+◌, ◌-◌, ◌<◌, ◌≤◌, ◌≢◌, map, true, false, List, [], ◌∷◌, ◌++◌, length, refl, sym, ap, subst, ◌∙◌, append_assoc, arith}
+use Rattle.std.proofs.Common.{◌⊎◌, inl, inr, lit≤}
 use Rattle.std.specs.Prelude.{Option, Some, None, Result, Ok, Err, nat_le, IfOk}
 use Rattle.std.specs.Result.{result_map_both}
 use Rattle.std.specs.List.{range_with_len}
@@ -12,7 +13,7 @@ use Rattle.sw_base.specs.declared.error.ScpiError.{ScpiError}
 use Rattle.sw_base.specs.declared.error.ScpiError.TheVariants.{InvalidExpression, DataOutOfRange, OutOfMemory, TooMuchData}
 use Rattle.sw_channel.specs.Grammar.{Item, IsItems, IsList}
 use Rattle.sw_channel.specs.Meaning.{channels_of, channels_between, count_between, towards, Mean, Spells, judged, judged_with}
-use Rattle.sw_channel.specs.Reading.{IsNoList, IsRefused, Reads}
+use Rattle.sw_channel.specs.Reading.{IsNoList, IsRefusedList, Reads}
 use Rattle.sw_channel.specs.Seen.{LeadsTo, counted, Judges}
 use Rattle.sw_channel.proofs.Items.{one_list, list_body}
 
@@ -25,7 +26,8 @@ okay : (cs ds : List Channel) → done cs ≡ done ds → cs ≡ ds
 okay cs ds e = cc
 
 -- the channels that were added, and what judging the rest gives
-ok_step : (front all : List Channel) (o : Option (List Channel)) (rest : List Channel → Result (List Channel) ScpiError) → judged_with front o rest ≡ Ok all → (cs : List Channel) × (o ≡ Some cs) × (length front + length cs ≤ 512) × (rest (front ++ cs) ≡ Ok all)
+ok_step : (front all : List Channel) (o : Option (List Channel)) (rest : List Channel → Result (List Channel) ScpiError) → judged_with front o rest ≡ Ok all
+    → (cs : List Channel) × (o ≡ Some cs) × (length front + length cs ≤ 512) × (rest (front ++ cs) ≡ Ok all)
 ok_step front all None rest e = absurd cc
 ok_step front all (Some c) rest e =
     elim (cases_Bool (nat_le (length front + length c) 512)) [
@@ -33,7 +35,8 @@ ok_step front all (Some c) rest e =
       | inr t ↦ absurd (let k = rw t at e in cc)
     ]
 
-pub judged_ok : (front all : List Channel) (is : List Item) → judged front is ≡ Ok all → length front ≤ 512 → (cs : List Channel) × (all ≡ front ++ cs) × Mean is cs × (length all ≤ 512)
+pub judged_ok : (front all : List Channel) (is : List Item) → judged front is ≡ Ok all → length front ≤ 512 → (cs : List Channel) × (all ≡ front ++ cs)
+    × Mean is cs × (length all ≤ 512)
 judged_ok front all [] e h =
     let k : front ≡ all = okay front all e in
     ([], sym k ∙ sym (append-nil front), refl, rw (← k) h)
@@ -51,7 +54,8 @@ ok_judged front cs (i ∷ is) m h =
     let r = ok_judged (front ++ m.0) m.1 is m.3 fits in
     rw (m.2, room, r, whole) refl
 
-err_step : (front : List Channel) (o : Option (List Channel)) (rest : List Channel → Result (List Channel) ScpiError) → ((more : List Channel) → rest more ≡ Err InvalidExpression → ⊥) → judged_with front o rest ≡ Err InvalidExpression → ⊥
+err_step : (front : List Channel) (o : Option (List Channel)) (rest : List Channel → Result (List Channel) ScpiError)
+    → ((more : List Channel) → rest more ≡ Err InvalidExpression → ⊥) → judged_with front o rest ≡ Err InvalidExpression → ⊥
 err_step front None rest f e = cc
 err_step front (Some c) rest f e =
     elim (cases_Bool (nat_le (length front + length c) 512)) [
@@ -64,7 +68,8 @@ judged_err front [] e = cc
 judged_err front (i ∷ is) e = err_step front (channels_of i) (λ more. judged more is) (λ more. judged_err more is) e
 
 -- the channels of the first item, and what judging the rest gives
-pub ok_item : (front all : List Channel) (i : Item) (is : List Item) → judged front (i ∷ is) ≡ Ok all → (cs : List Channel) × (channels_of i ≡ Some cs) × (length front + length cs ≤ 512) × (judged (front ++ cs) is ≡ Ok all)
+pub ok_item : (front all : List Channel) (i : Item) (is : List Item) → judged front (i ∷ is) ≡ Ok all → (cs : List Channel) × (channels_of i ≡ Some cs)
+    × (length front + length cs ≤ 512) × (judged (front ++ cs) is ≡ Ok all)
 ok_item front all i is e = ok_step front all (channels_of i) (λ more. judged more is) e
 
 pub ok_last : (front all : List Channel) → judged front [] ≡ Ok all → front ≡ all
@@ -89,7 +94,7 @@ given_once text r s x y =
 of_spelled : (text : List ℕ) (cs : List Channel) → Spells text cs → length cs ≤ 512 → Gives-whole text (Ok cs)
 of_spelled text cs h k = inr (h.0, h.1, ok_judged [] cs h.0 h.2 k)
 
-of_refused : (text : List ℕ) (e : ScpiError) → IsRefused text e → Gives-whole text (Err e)
+of_refused : (text : List ℕ) (e : ScpiError) → IsRefusedList text e → Gives-whole text (Err e)
 of_refused text e h = elim h [ inl x ↦ inl (x.0, ap Err x.1) | inr x ↦ inr x ]
 
 of_read : (text : List ℕ) (r : Result (List Channel) ScpiError) → Reads text r → r ≢ Err OutOfMemory → Gives-whole text r
@@ -99,22 +104,24 @@ of_read text (Err e) h n = elim h [ inl f ↦ of_refused text e f | inr m ↦ ab
 pub one_reading : (text : List ℕ) (r s : Result (List Channel) ScpiError) → Reads text r → Reads text s → r ≢ Err OutOfMemory → s ≢ Err OutOfMemory → r ≡ s
 one_reading text r s h k n m = given_once text r s (of_read text r h n) (of_read text s k m)
 
-spelled_refused : (text : List ℕ) (cs : List Channel) (e : ScpiError) → Spells text cs → length cs ≤ 512 → IsRefused text e → ⊥
+spelled_refused : (text : List ℕ) (cs : List Channel) (e : ScpiError) → Spells text cs → length cs ≤ 512 → IsRefusedList text e → ⊥
 spelled_refused text cs e h k f = let z : done cs ≡ Err e = given_once text (Ok cs) (Err e) (of_spelled text cs h k) (of_refused text e f) in cc
 
 abbrev refuse : ScpiError → Result (List Channel) ScpiError
 refuse e = Err e
 
-same_refusal : (text : List ℕ) (d e : ScpiError) → IsRefused text d → IsRefused text e → d ≡ e
+same_refusal : (text : List ℕ) (d e : ScpiError) → IsRefusedList text d → IsRefusedList text e → d ≡ e
 same_refusal text d e f g = let z : refuse d ≡ refuse e = given_once text (Err d) (Err e) (of_refused text d f) (of_refused text e g) in cc
 
 -- ---- what follows from a reading, at any view of what was read
 
-pub found_by : {X : Type 0} (view : X → List Channel) (r : Result X ScpiError) (text : List ℕ) → Reads text (result_map_both view (λ e. e) r) → IfOk r (λ v. Spells text (view v) × (length (view v) ≤ 512))
+pub found_by : {X : Type 0} (view : X → List Channel) (r : Result X ScpiError) (text : List ℕ) → Reads text (result_map_both view (λ e. e) r)
+    → IfOk r (λ v. Spells text (view v) × (length (view v) ≤ 512))
 found_by view (Ok v) text h = h
 found_by view (Err e) text h = tt
 
-pub refused_by : {X : Type 0} (view : X → List Channel) (r : Result X ScpiError) (text : List ℕ) → Reads text (result_map_both view (λ e. e) r) → (e : ScpiError) → IsRefused text e → r ≡ Err e
+pub refused_by : {X : Type 0} (view : X → List Channel) (r : Result X ScpiError) (text : List ℕ) → Reads text (result_map_both view (λ e. e) r)
+    → (e : ScpiError) → IsRefusedList text e → r ≡ Err e
 refused_by view (Ok v) text h e f = absurd (spelled_refused text (view v) e h.0 h.1 f)
 refused_by view (Err d) text h e f =
     elim h [
@@ -122,7 +129,8 @@ refused_by view (Err d) text h e f =
       | inr m ↦ absurd (spelled_refused text m.1.0 e m.1.1 m.1.2 f)
     ]
 
-gives_by : {X : Type 0} (view : X → List Channel) (r : Result X ScpiError) (text : List ℕ) → Reads text (result_map_both view (λ e. e) r) → (all : Result (List Channel) ScpiError) → Gives-whole text all → Gives view r all
+gives_by : {X : Type 0} (view : X → List Channel) (r : Result X ScpiError) (text : List ℕ) → Reads text (result_map_both view (λ e. e) r)
+    → (all : Result (List Channel) ScpiError) → Gives-whole text all → Gives view r all
 gives_by view (Ok v) text h all g = given_once text all (Ok (view v)) g (of_spelled text (view v) h.0 h.1)
 gives_by view (Err e) text h all g =
     elim h [
@@ -130,41 +138,51 @@ gives_by view (Err e) text h all g =
       | inr m ↦ inl m.0
     ]
 
-pub only_by : {X : Type 0} (view : X → List Channel) (r : Result X ScpiError) (text : List ℕ) → Reads text (result_map_both view (λ e. e) r) → (cs : List Channel) → Spells text cs → length cs ≤ 512 → Gives view r (Ok cs)
+pub only_by : {X : Type 0} (view : X → List Channel) (r : Result X ScpiError) (text : List ℕ) → Reads text (result_map_both view (λ e. e) r)
+    → (cs : List Channel) → Spells text cs → length cs ≤ 512 → Gives view r (Ok cs)
 only_by view r text h cs s k = gives_by view r text h (Ok cs) (of_spelled text cs s k)
 
-pub judged_by : {X : Type 0} (view : X → List Channel) (r : Result X ScpiError) (text : List ℕ) → Reads text (result_map_both view (λ e. e) r) → (is : List Item) → IsList text is → Gives view r (judged [] is)
+pub judged_by : {X : Type 0} (view : X → List Channel) (r : Result X ScpiError) (text : List ℕ) → Reads text (result_map_both view (λ e. e) r)
+    → (is : List Item) → IsList text is → Gives view r (judged [] is)
 judged_by view r text h is l = gives_by view r text h (judged [] is) (inr (is, l, refl))
 
-no_list : (text : List ℕ) → IsRefused text InvalidExpression → IsNoList text
+no_list : (text : List ℕ) → IsRefusedList text InvalidExpression → IsNoList text
 no_list text f = elim f [ inl x ↦ x.0 | inr x ↦ absurd (judged_err [] x.0 x.2) ]
 
-pub malformed_by : {X : Type 0} (view : X → List Channel) (r : Result X ScpiError) (text : List ℕ) → Reads text (result_map_both view (λ e. e) r) → r ≡ Err InvalidExpression → IsNoList text
+pub malformed_by : {X : Type 0} (view : X → List Channel) (r : Result X ScpiError) (text : List ℕ) → Reads text (result_map_both view (λ e. e) r)
+    → r ≡ Err InvalidExpression → IsNoList text
 malformed_by view (Ok v) text h k = absurd cc
 malformed_by view (Err e) text h k =
     let n : e ≡ InvalidExpression = cc in
     elim h [
-      | inl f ↦ no_list text (subst (λ (d : ScpiError). IsRefused text d) n f)
+      | inl f ↦ no_list text (subst (λ (d : ScpiError). IsRefusedList text d) n f)
       | inr m ↦ absurd (let z : InvalidExpression ≡ OutOfMemory = sym n ∙ m.0 in cc)
     ]
 
 -- ---- judging without keeping the channels
 
-pub leads_none : (n : ℕ) (i : Item) (is : List Item) (all : Result (List Channel) ScpiError) → channels_of i ≡ None → LeadsTo (Ok n) (i ∷ is) all → all ≡ Err DataOutOfRange
+pub leads_none : (n : ℕ) (i : Item) (is : List Item) (all : Result (List Channel) ScpiError) → channels_of i ≡ None → LeadsTo (Ok n) (i ∷ is) all
+    → all ≡ Err DataOutOfRange
 leads_none n i is all e h = let k = rw e at h.2 in sym k
 
 pub length-between : (slot first last : ℕ) → length (channels_between slot first last) ≡ count_between first last
 length-between slot first last = length-map-range_with_len (λ k. (slot, towards first last k)) 0 (count_between first last)
 
-pub leads_fits : (n : ℕ) (i : Item) (is : List Item) (all : Result (List Channel) ScpiError) (slot first last more : ℕ) → channels_of i ≡ Some (channels_between slot first last) → more ≡ count_between first last → n ≤ 512 - more → more ≤ 99 → LeadsTo (Ok n) (i ∷ is) all → LeadsTo (Ok (n + more)) is all
+pub leads_fits : (n : ℕ) (i : Item) (is : List Item) (all : Result (List Channel) ScpiError) (slot first last more : ℕ)
+    → channels_of i ≡ Some (channels_between slot first last) → more ≡ count_between first last → n ≤ 512 - more → more ≤ 99 → LeadsTo (Ok n) (i ∷ is) all
+    → LeadsTo (Ok (n + more)) is all
 leads_fits n i is all slot first last more e m h k x =
-    let room : nat_le (length x.0 + length (channels_between slot first last)) 512 ≡ true = le-leb _ _ (omega (arith, h, k, m, x.1, length-between slot first last)) in
+    let room : nat_le (length x.0 + length (channels_between slot first last)) 512 ≡ true =
+    le-leb _ _ (omega (arith, h, k, m, x.1, length-between slot first last)) in
     let y = rw (e, room) at x.2 in
     (x.0 ++ channels_between slot first last, omega (arith, length-append x.0 (channels_between slot first last), length-between slot first last, m, x.1), y)
 
-pub leads_full : (n : ℕ) (i : Item) (is : List Item) (all : Result (List Channel) ScpiError) (slot first last more : ℕ) → channels_of i ≡ Some (channels_between slot first last) → more ≡ count_between first last → 512 - more < n → LeadsTo (Ok n) (i ∷ is) all → all ≡ Err TooMuchData
+pub leads_full : (n : ℕ) (i : Item) (is : List Item) (all : Result (List Channel) ScpiError) (slot first last more : ℕ)
+    → channels_of i ≡ Some (channels_between slot first last) → more ≡ count_between first last → 512 - more < n → LeadsTo (Ok n) (i ∷ is) all
+    → all ≡ Err TooMuchData
 leads_full n i is all slot first last more e m h x =
-    let full : nat_le (length x.0 + length (channels_between slot first last)) 512 ≡ false = lt-leb _ _ (omega (arith, h, m, x.1, length-between slot first last)) in
+    let full : nat_le (length x.0 + length (channels_between slot first last)) 512 ≡ false =
+    lt-leb _ _ (omega (arith, h, m, x.1, length-between slot first last)) in
     let y = rw (e, full) at x.2 in sym y
 
 pub leads_done : (r : Result ℕ ScpiError) (all : Result (List Channel) ScpiError) → LeadsTo r [] all → r ≡ counted all
@@ -186,14 +204,15 @@ items_judged body n h =
       | inr x ↦ let y = counted_ok (judged [] x.0) n x.2 in (x.0, y.0, x.1, y.1)
     ]
 
-pub items_refused : (text body : List ℕ) (e : ScpiError) → text ≡ 40 ∷ 64 ∷ (body ++ 41 ∷ []) → Judges body (Err e) → IsRefused text e
+pub items_refused : (text body : List ℕ) (e : ScpiError) → text ≡ 40 ∷ 64 ∷ (body ++ 41 ∷ []) → Judges body (Err e) → IsRefusedList text e
 items_refused text body e t h =
     elim h [
       | inl x ↦ inl (λ is l. x.0 is (list_body body text is t l), let z = x.1 in cc)
       | inr x ↦ inr (x.0, (body, x.1, t), counted_err (judged [] x.0) e x.2)
     ]
 
-pub items_spelled : (text body : List ℕ) (is : List Item) (cs : List Channel) → text ≡ 40 ∷ 64 ∷ (body ++ 41 ∷ []) → IsItems body is → judged [] is ≡ Ok cs → Spells text cs × (length cs ≤ 512)
+pub items_spelled : (text body : List ℕ) (is : List Item) (cs : List Channel) → text ≡ 40 ∷ 64 ∷ (body ++ 41 ∷ []) → IsItems body is → judged [] is ≡ Ok cs
+    → Spells text cs × (length cs ≤ 512)
 items_spelled text body is cs t h e =
     let j = judged_ok [] cs is e (lit≤ tt) in
     ((is, (body, h, t), subst (λ (ds : List Channel). Mean is ds) (sym j.1) j.2), j.3)
@@ -206,7 +225,9 @@ towards_up first last k n h e = rw (le-leb first last h) e
 towards_down : (first last k n : ℕ) → last < first → n ≡ first - k → n ≡ towards first last k
 towards_down first last k n h e = rw (lt-leb first last h) e
 
-pub run_more : (out more front : List Channel) (slot first last k n : ℕ) → out ≡ front ++ map (λ i. (slot, towards first last i)) (range_with_len 0 k) → more ≡ out ++ (slot, n) ∷ [] → ((first ≤ last) × (n ≡ first + k)) ⊎ ((last < first) × (n ≡ first - k)) → more ≡ front ++ map (λ i. (slot, towards first last i)) (range_with_len 0 (k + 1))
+pub run_more : (out more front : List Channel) (slot first last k n : ℕ) → out ≡ front ++ map (λ i. (slot, towards first last i)) (range_with_len 0 k)
+    → more ≡ out ++ (slot, n) ∷ [] → ((first ≤ last) × (n ≡ first + k)) ⊎ ((last < first) × (n ≡ first - k))
+    → more ≡ front ++ map (λ i. (slot, towards first last i)) (range_with_len 0 (k + 1))
 run_more out more front slot first last k n e m b =
     let f : ℕ → Channel = λ i. (slot, towards first last i) in
     let at : n ≡ towards first last k = elim b [ inl x ↦ towards_up first last k n x.0 x.1 | inr x ↦ towards_down first last k n x.0 x.1 ] in

@@ -3,17 +3,17 @@ use Rattle.std.specs.Prelude.{◌≡◌, ℕ, ◌<◌, List, [], ◌∷◌, ◌+
 use Rattle.sw_base.specs.Text.{is_blank, is_digit, AllPass}
 
 -- A channel as it is written: a plain number, or a slot and a number on its card, each as its digits.
-pub data Written : Type 0 where
-  plain : List ℕ → Written
-  pair : List ℕ → List ℕ → Written
+pub data WrittenChannel : Type 0 where
+  plain : List ℕ → WrittenChannel
+  pair : List ℕ → List ℕ → WrittenChannel
 
 -- An item of a list as it is written: a channel, or the two ends of a range.
 pub data Item : Type 0 where
-  one : Written → Item
-  range : Written → Written → Item
+  one : WrittenChannel → Item
+  range : WrittenChannel → WrittenChannel → Item
 
 -- a number: its digits, with white space on either side
-pub record IsNumber (text digits : List ℕ) : Type 0 where
+pub record IsPadded (text digits : List ℕ) : Type 0 where
   pub before : List ℕ
   pub after : List ℕ
   pub whole : text ≡ before ++ (digits ++ after)
@@ -31,9 +31,9 @@ pub record IsJoined (mark : ℕ) (First Second : List ℕ → Type 0) (text : Li
   pub whole : text ≡ left ++ mark ∷ right
 
 -- a channel: a number, or two joined by `!`
-abbrev pub IsChannel : List ℕ → Written → Type 0
-IsChannel text (plain n) = IsNumber text n
-IsChannel text (pair s c) = IsJoined 33 (λ t. IsNumber t s) (λ t. IsNumber t c) text
+abbrev pub IsChannel : List ℕ → WrittenChannel → Type 0
+IsChannel text (plain n) = IsPadded text n
+IsChannel text (pair s c) = IsJoined 33 (λ t. IsPadded t s) (λ t. IsPadded t c) text
 
 -- an item: a channel, or two joined by `:`
 abbrev pub IsItem : List ℕ → Item → Type 0

@@ -1,12 +1,13 @@
 -- Which channels a list that is written right names, and how it is refused.
-use Rattle.std.specs.Prelude.{◌≡◌, ℕ, ◌+◌, ◌-◌, ◌*◌, ◌/◌, ◌%◌, nat_lt, nat_le, ◌==◌, ◌&&◌, List, [], ◌∷◌, ◌++◌, length, map, Option, Some, None, Result, Ok, Err, if◌then◌else◌}
+use Rattle.std.specs.Prelude.{◌≡◌, ℕ, ◌+◌, ◌-◌, ◌*◌, ◌/◌, ◌%◌, nat_lt, nat_le, ◌==◌, ◌&&◌, List, [], ◌∷◌, ◌++◌, length}
+use Rattle.std.specs.Prelude.{map, Option, Some, None, Result, Ok, Err, if◌then◌else◌}
 use Rattle.std.specs.List.{range_with_len}
 use Rattle.std.specs.Option.{option_and_then}
 use Rattle.sw_base.specs.Layout.{Channel}
 use Rattle.sw_base.specs.Limits.{most_slots, most_channels, most_entries}
 use Rattle.sw_base.specs.declared.error.ScpiError.{ScpiError}
 use Rattle.sw_base.specs.declared.error.ScpiError.TheVariants.{DataOutOfRange, TooMuchData}
-use Rattle.sw_channel.specs.Grammar.{Written, plain, pair, Item, one, range, IsList}
+use Rattle.sw_channel.specs.Grammar.{WrittenChannel, plain, pair, Item, one, range, IsList}
 
 -- ---- channels
 
@@ -16,17 +17,18 @@ number_from n [] = n
 number_from n (d ∷ ds) = number_from (10 * n + (d - 48)) ds
 
 -- Of more than nine digits, leading zeros counted, there is none.
-abbrev pub number_of : List ℕ → Option ℕ
-number_of digits = if nat_lt 9 (length digits) then None else Some (number_from 0 digits)
+abbrev pub short_number : List ℕ → Option ℕ
+short_number digits = if nat_lt 9 (length digits) then None else Some (number_from 0 digits)
 
 -- the cage's slots and a card's channels are numbered from 1
 abbrev pub channel_at : ℕ → ℕ → Option Channel
-channel_at s c = if nat_le 1 s && nat_le s most_slots && nat_le 1 c && nat_le c most_channels then Some ((s, c)) else None
+channel_at s c =
+    if nat_le 1 s && nat_le s most_slots && nat_le 1 c && nat_le c most_channels then Some ((s, c)) else None
 
 -- a plain n is channel n mod 100 of slot n div 100
-abbrev pub channel_of : Written → Option Channel
-channel_of (plain n) = option_and_then (λ k. channel_at (k / 100) (k % 100)) (number_of n)
-channel_of (pair s c) = option_and_then (λ i. option_and_then (λ k. channel_at i k) (number_of c)) (number_of s)
+abbrev pub channel_of : WrittenChannel → Option Channel
+channel_of (plain n) = option_and_then (λ k. channel_at (k / 100) (k % 100)) (short_number n)
+channel_of (pair s c) = option_and_then (λ i. option_and_then (λ k. channel_at i k) (short_number c)) (short_number s)
 
 -- ---- ranges
 
@@ -56,7 +58,8 @@ channels_of (range v w) = option_and_then (λ a. option_and_then (λ b. range_of
 -- The items name the channels, in order and with repeats.
 abbrev pub Mean : List Item → List Channel → Type 0
 Mean [] cs = cs ≡ []
-Mean (i ∷ is) cs = (first : List Channel) × (others : List Channel) × (channels_of i ≡ Some first) × Mean is others × (cs ≡ first ++ others)
+Mean (i ∷ is) cs = (first : List Channel) × (others : List Channel) × (channels_of i ≡ Some first) × Mean is others
+    × (cs ≡ first ++ others)
 
 -- The text spells the channels, one item or more, however many they are.
 abbrev pub Spells : List ℕ → List Channel → Type 0
@@ -65,9 +68,11 @@ Spells text cs = (items : List Item) × IsList text items × Mean items cs
 -- ---- refusals
 
 -- what an item that names these adds to the channels in front of it: none such is -222, one entry too many is -223
-abbrev pub judged_with : List Channel → Option (List Channel) → (List Channel → Result (List Channel) ScpiError) → Result (List Channel) ScpiError
+abbrev pub judged_with : List Channel → Option (List Channel) → (List Channel → Result (List Channel) ScpiError)
+    → Result (List Channel) ScpiError
 judged_with front None rest = Err DataOutOfRange
-judged_with front (Some cs) rest = if nat_le (length front + length cs) most_entries then rest (front ++ cs) else Err TooMuchData
+judged_with front (Some cs) rest =
+    if nat_le (length front + length cs) most_entries then rest (front ++ cs) else Err TooMuchData
 
 -- the channels of the items after those in front, or the first refusal from left to right
 abbrev pub judged : List Channel → List Item → Result (List Channel) ScpiError

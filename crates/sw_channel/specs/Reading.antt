@@ -12,10 +12,12 @@ abbrev pub IsNoList : List ℕ → Type 0
 IsNoList text = (items : List Item) → IsList text items → ⊥
 
 -- The first refusal of the text: -171 for what is no list anywhere in it, else that of its first item that has one.
-abbrev pub IsRefused : List ℕ → ScpiError → Type 0
-IsRefused text e = (IsNoList text × (e ≡ InvalidExpression)) ⊎ ((items : List Item) × IsList text items × (judged [] items ≡ Err e))
+abbrev pub IsRefusedList : List ℕ → ScpiError → Type 0
+IsRefusedList text e = (IsNoList text × (e ≡ InvalidExpression))
+    ⊎ ((items : List Item) × IsList text items × (judged [] items ≡ Err e))
 
 -- The channels that the text spells, at most that many; or its first refusal; or want of memory for such channels.
 abbrev pub Reads : List ℕ → Result (List Channel) ScpiError → Type 0
 Reads text (Ok cs) = Spells text cs × (length cs ≤ most_entries)
-Reads text (Err e) = IsRefused text e ⊎ ((e ≡ OutOfMemory) × ((cs : List Channel) × Spells text cs × (length cs ≤ most_entries)))
+Reads text (Err e) = IsRefusedList text e
+    ⊎ ((e ≡ OutOfMemory) × ((cs : List Channel) × Spells text cs × (length cs ≤ most_entries)))

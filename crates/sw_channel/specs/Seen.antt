@@ -3,7 +3,7 @@ use Rattle.std.specs.Prelude.{◌≡◌, ℕ, List, length, Result, Ok, Err, ◌
 use Rattle.std.specs.Result.{result_map_both}
 use Rattle.sw_base.specs.Layout.{Channel}
 use Rattle.sw_base.specs.Text.{AllPass, is_digit}
-use Rattle.sw_channel.specs.Grammar.{Written, plain, pair, Item, one, range, IsItems}
+use Rattle.sw_channel.specs.Grammar.{WrittenChannel, plain, pair, Item, one, range, IsItems}
 use Rattle.sw_base.specs.declared.error.ScpiError.{ScpiError}
 use Rattle.sw_base.specs.declared.error.ScpiError.TheVariants.{InvalidExpression}
 use Rattle.sw_channel.specs.Meaning.{channels_between, judged}
@@ -13,7 +13,7 @@ use Rattle.sw_channel.specs.declared.written.Entry.{Entry}
 use Rattle.sw_channel.specs.declared.written.Entry.TheVariants as entries
 use Rattle.sw_channel.specs.declared.run.Run.{Run}
 
-abbrev pub place_seen : Place → Written
+abbrev pub place_seen : Place → WrittenChannel
 place_seen (places.Plain n) = plain n.now
 place_seen (places.Pair s c) = pair s.now c.now
 
@@ -22,7 +22,7 @@ entry_seen (entries.One p) = one (place_seen p)
 entry_seen (entries.Range p q) = range (place_seen p) (place_seen q)
 
 -- the numbers of a channel are digits
-abbrev pub AreDigits : Written → Type 0
+abbrev pub AreDigits : WrittenChannel → Type 0
 AreDigits (plain n) = AllPass is_digit n
 AreDigits (pair s c) = AllPass is_digit s × AllPass is_digit c
 
@@ -45,4 +45,5 @@ counted r = result_map_both length (λ e. e) r
 
 -- the number of channels that the items name or their first refusal, or -171 where the text is no items
 abbrev pub Judges : List ℕ → Result ℕ ScpiError → Type 0
-Judges text r = (((is : List Item) → IsItems text is → ⊥) × (r ≡ Err InvalidExpression)) ⊎ ((is : List Item) × IsItems text is × (r ≡ counted (judged [] is)))
+Judges text r = (((is : List Item) → IsItems text is → ⊥) × (r ≡ Err InvalidExpression))
+    ⊎ ((is : List Item) × IsItems text is × (r ≡ counted (judged [] is)))

@@ -8,7 +8,7 @@ ghost use Rattle.sw_base.specs.Limits.{most_entries};
 ghost use Rattle.sw_base.specs.Text.{AllPass, is_digit};
 ghost use Rattle.sw_base.specs.declared.error.ScpiError.{ScpiError as Error};
 ghost use Rattle.sw_channel.specs.Grammar.{Item, IsItem, IsItems};
-ghost use Rattle.sw_channel.specs.Meaning.{number_of, channel_at, channel_of, channels_of, judged};
+ghost use Rattle.sw_channel.specs.Meaning.{short_number, channel_at, channel_of, channels_of, judged};
 ghost use Rattle.sw_channel.specs.Seen.{place_seen, entry_seen, AreDigits, AreAllDigits, channels_in, LeadsTo, Judges};
 
 use crate::parse::read_entry;
@@ -20,7 +20,7 @@ use sw_base::{CHANNELS, Chan, LIST_ENTRIES, SLOTS, ScpiError, cut};
 /// The number that digits write, of at most nine of them.
 fn value(digits: &[u8]) -> Option<u32>
     requires { AllPass is_digit digits.now }
-    ensures { result ≡ number_of digits.now }
+    ensures { result ≡ short_number digits.now }
 {
     if digits.len() > 9 {
         return None;
@@ -90,7 +90,8 @@ fn run_of(entry: Entry<'_>) -> Option<Run>
 fn judge_entry(found: Result<usize, ScpiError>, entry: Entry<'_>) -> Result<usize, ScpiError>
     requires digits { AreAllDigits (entry_seen entry) }
     requires within { ForOk found (λ n. n ≤ most_entries) }
-    ensures leads { (is : List Item) (all : Result (List Channel) Error) → LeadsTo found (entry_seen entry.entry ∷ is) all → LeadsTo result is all }
+    ensures leads { (is : List Item) (all : Result (List Channel) Error)
+        → LeadsTo found (entry_seen entry.entry ∷ is) all → LeadsTo result is all }
     ensures within { IfOk result (λ n. n ≤ most_entries) }
 {
     match found {
@@ -150,7 +151,8 @@ fn push_run(chans: &mut Vec<Chan>, run: &Run) -> Result<(), AllocError>
 /// Adds the channels of the item that the text writes.
 fn push_item(chans: &mut Vec<Chan>, text: &[u8]) -> Result<(), AllocError>
     requires { (i : Item) × (cs : List Channel) × IsItem text.now i × (channels_of i ≡ Some cs) }
-    ensures { (i : Item) (cs : List Channel) → IsItem text.now i → channels_of i ≡ Some cs → OnOk result (chans.new.items ≡ chans.old.items ++ cs) }
+    ensures { (i : Item) (cs : List Channel) → IsItem text.now i → channels_of i ≡ Some cs
+        → OnOk result (chans.new.items ≡ chans.old.items ++ cs) }
 {
     let entry = read_entry(text).unwrap();
     let run = run_of(entry).unwrap();
@@ -160,7 +162,8 @@ fn push_item(chans: &mut Vec<Chan>, text: &[u8]) -> Result<(), AllocError>
 /// The channels of the items that the text writes, which are `count`.
 pub fn collect(alloc: Global, text: &[u8], count: usize) -> Result<Vec<Chan>, AllocError>
     requires { (is : List Item) × (cs : List Channel) × IsItems text.now is × (judged [] is ≡ Ok cs) }
-    ensures { (is : List Item) (cs : List Channel) → IsItems text.now is → judged [] is ≡ Ok cs → IfOk result (λ v. v.items ≡ cs) }
+    ensures { (is : List Item) (cs : List Channel) → IsItems text.now is → judged [] is ≡ Ok cs
+        → IfOk result (λ v. v.items ≡ cs) }
 {
     let mut chans = Vec::with_capacity(alloc, count)?;
     let mut rest = text;

@@ -1,7 +1,7 @@
 //! From bytes to what is written: numbers, channels, items, and the body of a list.
 
 ghost use Rattle.std.specs.Prelude.{◌≡◌, ◌↔◌, ◌∷◌, ◌++◌, List, [], ℕ, IfSome, IfNone, IsTrue};
-ghost use Rattle.sw_channel.specs.Grammar.{Written, Item, IsNumber, IsChannel, IsItem, IsItems};
+ghost use Rattle.sw_channel.specs.Grammar.{WrittenChannel, Item, IsPadded, IsChannel, IsItem, IsItems};
 ghost use Rattle.sw_channel.specs.Seen.{place_seen, entry_seen};
 
 use crate::written::{Entry, Place};
@@ -9,8 +9,8 @@ use sw_base::{blanks, cut, digits};
 
 /// The digits of a number with white space round it.
 fn read_number(text: &[u8]) -> Option<&[u8]>
-    ensures found { IfSome result (λ d. IsNumber text.now d.now) }
-    ensures none { IfNone result ((d : List ℕ) → IsNumber text.now d → ⊥) }
+    ensures found { IfSome result (λ d. IsPadded text.now d.now) }
+    ensures none { IfNone result ((d : List ℕ) → IsPadded text.now d → ⊥) }
 {
     let (_, rest) = blanks(text);
     let (found, rest) = digits(rest);
@@ -27,7 +27,7 @@ fn read_number(text: &[u8]) -> Option<&[u8]>
 /// A channel.
 fn read_place(text: &[u8]) -> Option<Place<'_>>
     ensures found { IfSome result (λ p. IsChannel text.now (place_seen p)) }
-    ensures none { IfNone result ((w : Written) → IsChannel text.now w → ⊥) }
+    ensures none { IfNone result ((w : WrittenChannel) → IsChannel text.now w → ⊥) }
 {
     match cut(text, b'!') {
         None => match read_number(text) {

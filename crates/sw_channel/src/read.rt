@@ -9,7 +9,7 @@ ghost use Rattle.sw_base.specs.declared.error.ScpiError.{ScpiError as Error};
 ghost use Rattle.sw_base.specs.declared.error.ScpiError.TheVariants.{OutOfMemory};
 ghost use Rattle.sw_channel.specs.Grammar.{Item, IsList};
 ghost use Rattle.sw_channel.specs.Meaning.{Spells, judged};
-ghost use Rattle.sw_channel.specs.Reading.{Reads, IsRefused, IsNoList};
+ghost use Rattle.sw_channel.specs.Reading.{Reads, IsRefusedList, IsNoList};
 
 use crate::collect::{collect, judge};
 use crate::parse::body_of;
@@ -34,9 +34,10 @@ pub fn read_list(alloc: Global, text: &[u8]) -> Result<Vec<Chan>, ScpiError>
     // What is read is spelled so.
     ensures found { IfOk result (λ v. Spells text.now v.items × (length v.items ≤ most_entries)) }
     // What is spelled so is read, unless memory runs out.
-    ensures only { (cs : List Channel) → Spells text.now cs → length cs ≤ most_entries → Gives (λ v. v.items) result (Ok cs) }
+    ensures only { (cs : List Channel) → Spells text.now cs → length cs ≤ most_entries
+        → Gives (λ v. v.items) result (Ok cs) }
     // What is refused is refused so, however much memory there is.
-    ensures refused { (e : Error) → IsRefused text.now e → result ≡ Err e }
+    ensures refused { (e : Error) → IsRefusedList text.now e → result ≡ Err e }
     // A text that is written right gives its channels or its first refusal, unless memory runs out.
     ensures judged { (is : List Item) → IsList text.now is → Gives (λ v. v.items) result (judged [] is) }
     // Any other text, and no other, is no list.
@@ -61,6 +62,9 @@ fn read(alloc: Global, text: &[u8]) -> Result<Vec<Chan>, ScpiError>
 /// A law: but for want of memory there is one answer to a text. No text spells two lists, nor a list of at most 512
 /// and a refusal, nor has it two first refusals; and what is refused is refused with any memory.
 pub fn one_reading()
-    ensures one { (text : List ℕ) (r s : Result (List Channel) Error) → Reads text r → Reads text s → r ≢ Err OutOfMemory → s ≢ Err OutOfMemory → r ≡ s }
-    ensures refused { (text : List ℕ) (e : Error) (r : Result (List Channel) Error) → IsRefused text e → Reads text r → r ≡ Err e }
+    ensures one { (text : List ℕ) (r s : Result (List Channel) Error) → Reads text r → Reads text s
+        → r ≢ Err OutOfMemory → s ≢ Err OutOfMemory → r ≡ s }
+    ensures refused { (text : List ℕ) (e : Error) (r : Result (List Channel) Error) → IsRefusedList text e
+        → Reads text r
+        → r ≡ Err e }
 {}

@@ -1,5 +1,6 @@
 -- Which call of a run a fuse turns into a fault.
-use Rattle.std.proofs.Common.{◌≡◌, ℕ, ◌+◌, Bool, true, false, List, [], ◌∷◌, ◌++◌, Option, Some, None, Result, Ok, Err, ◌⊎◌, inl, inr, refl, sym, ◌∙◌, subst, arith}
+use Rattle.std.proofs.Common.{◌≡◌, ℕ, ◌+◌, Bool, true, false, List, [], ◌∷◌, ◌++◌, Option, Some, None, Result, Ok, Err, ◌⊎◌, inl, inr, refl, sym, ◌∙◌, subst}
+use Rattle.std.proofs.Common.{arith}
 use Rattle.std.proofs.lemmas.Bool.{cases_Bool}
 use Rattle.std.proofs.lemmas.Grind.{common_steps}
 use Rattle.std.specs.Prelude.{IsErr, IsOk, if◌then◌else◌, ◌==◌}
@@ -25,7 +26,8 @@ later false left n h = grind (arith, common_steps, h)
 later true None n h = grind (arith, common_steps, h)
 later true (Some left) n h = grind (arith, common_steps, h)
 
-counted : {D : Type 0} (drives : Switches D) (cuts : Cuts D) (driven : D → ℕ → Bool) (f g : D × Option ℕ) (m : Made) → Does (fuse_switches drives driven) (fuse_cuts cuts) f m g → g.1 ≡ left_after (is_closing m) f.1
+counted : {D : Type 0} (drives : Switches D) (cuts : Cuts D) (driven : D → ℕ → Bool) (f g : D × Option ℕ) (m : Made)
+    → Does (fuse_switches drives driven) (fuse_cuts cuts) f m g → g.1 ≡ left_after (is_closing m) f.1
 counted drives cuts driven f g (switch ch on, answer) d = d.counted
 counted drives cuts driven f g (cut, answer) d = d.0.1
 
@@ -40,7 +42,8 @@ is_at true None h k = grind (arith, common_steps, k)
 is_at true (Some left) h k = grind (arith, common_steps, k)
 
 -- the first call of a run
-first : {D : Type 0} (drives : Switches D) (cuts : Cuts D) (driven : D → ℕ → Bool) (f g : D × Option ℕ) (m : Made) → Does (fuse_switches drives driven) (fuse_cuts cuts) f m g → FailsByNumber drives cuts f.1 [] m
+first : {D : Type 0} (drives : Switches D) (cuts : Cuts D) (driven : D → ℕ → Bool) (f g : D × Option ℕ) (m : Made)
+    → Does (fuse_switches drives driven) (fuse_cuts cuts) f m g → FailsByNumber drives cuts f.1 [] m
 first drives cuts driven f g (switch ch on, answer) d = record {
   fails = λ n. d.reports (is_at on f.1 n.closes n.same);
   passes = λ none. elim (cases_Bool (is_failing on f.1)) [
@@ -53,7 +56,8 @@ first drives cuts driven f g (cut, answer) d = record {
   passes = λ none. (f.0, g.0, (d.0.0, d.1));
 }
 
-pub numbered : {D : Type 0} (drives : Switches D) (cuts : Cuts D) (driven : D → ℕ → Bool) (f end : D × Option ℕ) (before after : List Made) (m : Made) → Runs (fuse_switches drives driven) (fuse_cuts cuts) f (before ++ m ∷ after) end → FailsByNumber drives cuts f.1 before m
+pub numbered : {D : Type 0} (drives : Switches D) (cuts : Cuts D) (driven : D → ℕ → Bool) (f end : D × Option ℕ) (before after : List Made) (m : Made)
+    → Runs (fuse_switches drives driven) (fuse_cuts cuts) f (before ++ m ∷ after) end → FailsByNumber drives cuts f.1 before m
 numbered drives cuts driven f end [] after m runs = first drives cuts driven f runs.0 m runs.1
 numbered drives cuts driven f end (x ∷ before) after m runs =
     let next : runs.0.1 ≡ left_after (is_closing x) f.1 = counted drives cuts driven f runs.0 x runs.1 in
@@ -78,11 +82,15 @@ no_fault : {E : Type 0} (r : Result (Unit {0}) E) → IsOk r → IsErr r → ⊥
 no_fault (Ok x) h k = let no : false ≡ true = k in cc
 no_fault (Err e) h k = let no : false ≡ true = h in cc
 
-passed : {D : Type 0} (drives : Switches D) (cuts : Cuts D) → ((old : D) (ch : ℕ) (on : Bool) (answer : Result (Unit {0}) CardFault) (new : D) → drives old ch on answer new → IsOk answer) → (old new : D) (m : Made) → Does drives cuts old m new → IsErr m.1 → ⊥
+passed : {D : Type 0} (drives : Switches D) (cuts : Cuts D)
+    → ((old : D) (ch : ℕ) (on : Bool) (answer : Result (Unit {0}) CardFault) (new : D) → drives old ch on answer new → IsOk answer) → (old new : D) (m : Made)
+    → Does drives cuts old m new → IsErr m.1 → ⊥
 passed drives cuts never old new (switch ch on, answer) d h = no_fault answer (never old ch on answer new d) h
 passed drives cuts never old new (cut, answer) d h = no_fault answer (subst IsOk (sym d.1) refl) h
 
-pub only_numbered : {D : Type 0} (drives : Switches D) (cuts : Cuts D) → ((old : D) (ch : ℕ) (on : Bool) (answer : Result (Unit {0}) CardFault) (new : D) → drives old ch on answer new → IsOk answer) → (number : Option ℕ) (before : List Made) (m : Made) → FailsByNumber drives cuts number before m → IsErr m.1 → IsNumbered number before m
+pub only_numbered : {D : Type 0} (drives : Switches D) (cuts : Cuts D)
+    → ((old : D) (ch : ℕ) (on : Bool) (answer : Result (Unit {0}) CardFault) (new : D) → drives old ch on answer new → IsOk answer)
+    → (number : Option ℕ) (before : List Made) (m : Made) → FailsByNumber drives cuts number before m → IsErr m.1 → IsNumbered number before m
 only_numbered drives cuts never number before m h err =
     elim (decided number before m) [
       | inl n ↦ n

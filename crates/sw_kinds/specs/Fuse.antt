@@ -1,5 +1,6 @@
 -- A driver of which one closing fails: the closings that are left to it, and what one call does.
-use Rattle.std.specs.Prelude.{◌≡◌, ℕ, ◌-◌, Bool, true, false, nat_lt, ◌==◌, Option, Some, None, Result, IsErr, OnOk, if◌then◌else◌}
+use Rattle.std.specs.Prelude.{◌≡◌, ℕ, ◌-◌, Bool, true, false, nat_lt, ◌==◌, Option, Some, None, Result, IsErr, OnOk}
+use Rattle.std.specs.Prelude.{if◌then◌else◌}
 use Rattle.sw_card.specs.declared.board.CardFault.{CardFault}
 
 -- the closings up to the failing one, after one more call; an opening is none
@@ -16,8 +17,11 @@ is_failing true (Some left) = left == 1
 
 -- One call through the fuse, by what a call of the driver behind it does and leaves driven: it passes, but at the
 -- failing closing it reports a fault, and the driver behind it was asked all the same.
-pub record DrivesByFuse {D : Type 0} (drives : D → ℕ → Bool → Result (Unit {0}) CardFault → D → Type 0) (driven : D → ℕ → Bool) (old : D × Option ℕ) (ch : ℕ) (on : Bool) (result : Result (Unit {0}) CardFault) (new : D × Option ℕ) : Type 0 where
+pub record DrivesByFuse {D : Type 0}
+    (drives : D → ℕ → Bool → Result (Unit {0}) CardFault → D → Type 0) (driven : D → ℕ → Bool)
+    (old : D × Option ℕ) (ch : ℕ) (on : Bool) (result : Result (Unit {0}) CardFault) (new : D × Option ℕ) : Type 0 where
   pub counted : new.1 ≡ left_after on old.1
   pub passes : is_failing on old.1 ≡ false → drives old.0 ch on result new.0
   pub reports : is_failing on old.1 ≡ true → IsErr result
-  pub asks : is_failing on old.1 ≡ true → (asked : Result (Unit {0}) CardFault) × (drives old.0 ch on asked new.0 × OnOk asked (driven new.0 ch ≡ on))
+  pub asks : is_failing on old.1 ≡ true → (asked : Result (Unit {0}) CardFault)
+      × (drives old.0 ch on asked new.0 × OnOk asked (driven new.0 ch ≡ on))

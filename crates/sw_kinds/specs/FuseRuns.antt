@@ -61,7 +61,8 @@ FailByNumber {D} through cutting switches cuts =
 -- no call that switches may fail
 abbrev pub NeverFails : {D : Type 0} → Switches D → Type 0
 NeverFails {D} switches =
-    (old : D) (ch : ℕ) (on : Bool) (answer : Result (Unit {0}) CardFault) (new : D) → switches old ch on answer new → IsOk answer
+    (old : D) (ch : ℕ) (on : Bool) (answer : Result (Unit {0}) CardFault) (new : D) → switches old ch on answer new
+    → IsOk answer
 
 -- Of every list of calls that is made through a new fuse a call failed exactly where it is the one with the number.
 abbrev pub FailOnlyByNumber : {D : Type 0} → Switches (D × Option ℕ) → Cuts (D × Option ℕ) → Type 0

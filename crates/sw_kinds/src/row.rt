@@ -45,7 +45,10 @@ pub struct Row<D: Driver, K> {
 impl<D: Driver, K> Model for Row<D, K> {
     ghost Value = { D × Account };
 
-    ghost view = { λ r. (r.coils, relay_account r.serial r.failures (replicate r.channels r.group) (take r.channels r.closed)) };
+    ghost view = { λ r. (
+      r.coils,
+      relay_account r.serial r.failures (replicate r.channels r.group) (take r.channels r.closed),
+    ) };
 
     ghost invariant = { λ r. HoldsDriven (D.driven r.coils) r.channels r.closed };
 }

@@ -1,6 +1,6 @@
 //! A driver and a source without hardware.
 
-ghost use Rattle.std.specs.Prelude.{◌≡◌, ℕ, ◌+◌, ◌^◌, ◌≤◌, ℤ, Bool, false, true, Option, Some, Ok, IsOk, slice_index_or};
+ghost use Rattle.std.specs.Prelude.{◌≡◌, ℕ, ◌+◌, ℤ, false, Option, Some, Ok, IsOk, slice_index_or};
 ghost use Rattle.sw_kinds.specs.Readings.{reading_after};
 
 use crate::driver::Driver;
@@ -74,7 +74,8 @@ impl SimSource {
 }
 
 impl Source for SimSource {
-    ghost samples = { λ s result t. (result ≡ Ok (reading_after s 0)) × ((n : ℕ) → reading_after t n ≡ reading_after s (n + 1)) };
+    ghost samples = { λ s result t.
+        (result ≡ Ok (reading_after s 0)) × ((n : ℕ) → reading_after t n ≡ reading_after s (n + 1)) };
 
     fn sample(&mut self) -> Result<Reading, CardFault> {
         let Some(volts) = self.next else {

@@ -9,8 +9,10 @@ returns-then-whole-places-clause-some c =
 
 pub returns-clause-some : goal.returns-clause-some
 returns-clause-some c =
-    rw (left_near c.args.whole.now c.args.fraction.now (length c.args.whole.now - c.args.places) c.args.places c.requires.places (omega arith) c.requires.whole c.requires.fraction) (rw (append-nil) at c.nearest.ensures.some)
+    rw (left_near c.args.whole.now c.args.fraction.now (length c.args.whole.now - c.args.places) c.args.places c.requires.places
+    (omega arith) c.requires.whole c.requires.fraction) (rw (append-nil) at c.nearest.ensures.some)
 
 pub returns-clause-none : goal.returns-clause-none
 returns-clause-none c =
-    rw (left_near c.args.whole.now c.args.fraction.now (length c.args.whole.now - c.args.places) c.args.places c.requires.places (omega arith) c.requires.whole c.requires.fraction) (rw (append-nil) at c.nearest.ensures.none)
+    rw (left_near c.args.whole.now c.args.fraction.now (length c.args.whole.now - c.args.places) c.args.places c.requires.places
+    (omega arith) c.requires.whole c.requires.fraction) (rw (append-nil) at c.nearest.ensures.none)

@@ -5,7 +5,12 @@ use Rattle.sw_base.proofs.number.nearest.Goals as goal
 
 pub returns-in_err-append-clause-none : goal.returns-in_err-append-clause-none
 returns-in_err-append-clause-none c =
-    rw c.from_residual.ensures (omega (arith, c.in_err-append.ensures.none, value_after-append 0 c.args.first.now c.args.second.now, value_after-ge (value_of c.args.first.now) c.args.second.now))
+    rw c.from_residual.ensures (omega (
+      arith,
+      c.in_err-append.ensures.none,
+      value_after-append 0 c.args.first.now c.args.second.now,
+      value_after-ge (value_of c.args.first.now) c.args.second.now,
+    ))
 
 pub returns-in_err-append-2-clause-none : goal.returns-in_err-append-2-clause-none
 returns-in_err-append-2-clause-none c =

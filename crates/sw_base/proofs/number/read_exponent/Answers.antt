@@ -10,7 +10,8 @@ returns-in_err-after-clause-none c =
 pub returns-then-is_empty-clause-none : goal.returns-then-is_empty-clause-none
 returns-then-is_empty-clause-none c negative digits rest h =
     let empty : length c.digits.result.0.now ≡ 0 = search rules in
-    no_digits _ negative digits rest _ _ _ _ _ _ _ h c.blanks.ensures c.in_ok-after.ensures.found c.blanks-2.ensures (rw c.sign-negative.ensures.rest at c.digits.ensures) empty
+    no_digits _ negative digits rest _ _ _ _ _ _ _ h c.blanks.ensures c.in_ok-after.ensures.found c.blanks-2.ensures
+    (rw c.sign-negative.ensures.rest at c.digits.ensures) empty
 
 pub returns-clause-found : goal.returns-clause-found
 returns-clause-found c =

@@ -21,5 +21,6 @@ returns c =
     let i = c.loop-end.invariant in
     let at : c.loop-end.end ≡ c.args.start = omega arith in
     let none : c.loop-end.end - c.args.start ≡ 0 = omega arith in
-    let back : drop c.args.start c.loop-end.buffer ≡ last_digits c.args.count c.args.n ++ drop (c.args.start + c.args.count) c.args.buffer.now = rw (none, last_digits_none, at) at i.digits in
+    let back : drop c.args.start c.loop-end.buffer ≡ last_digits c.args.count c.args.n ++ drop (c.args.start + c.args.count) c.args.buffer.now =
+    rw (none, last_digits_none, at) at i.digits in
     sym (take-append-drop c.args.start c.loop-end.buffer) ∙ rw (i.front, back) refl

@@ -6,7 +6,8 @@ use Rattle.sw_channel.specs.Meaning.{judged}
 use Rattle.sw_channel.proofs.collect.collect.Given as goal
 
 abbrev pub invariant-list : goal.invariant-list
-invariant-list l = (is : List Item) (cs : List Channel) → IsItems l.text is → judged [] is ≡ Ok cs → (js : List Item) × IsItems l.rest js × (judged l.chans.items js ≡ Ok cs)
+invariant-list l = (is : List Item) (cs : List Channel) → IsItems l.text is → judged [] is ≡ Ok cs → (js : List Item) × IsItems l.rest js
+    × (judged l.chans.items js ≡ Ok cs)
 
 abbrev pub decreases-list : goal.decreases-list
 decreases-list l = length l.rest

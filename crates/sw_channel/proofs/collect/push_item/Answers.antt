@@ -16,7 +16,8 @@ named (Some r) cs e = search rules
 pub unwrap-run-requires : goal.unwrap-run-requires
 unwrap-run-requires c =
     let f = rw c.unwrap-entry.ensures at c.read_entry.ensures.found in
-    let e : option_map channels_in c.run_of.result ≡ Some c.requires.1 = sym c.run_of.ensures ∙ ap channels_of (one_item _ _ c.requires.0 f c.requires.2) ∙ c.requires.3 in
+    let e : option_map channels_in c.run_of.result ≡ Some c.requires.1 = sym c.run_of.ensures ∙ ap channels_of (one_item _ _ c.requires.0 f c.requires.2)
+    ∙ c.requires.3 in
     named _ _ e
 
 pub returns : goal.returns

@@ -28,6 +28,7 @@ pub loop-d-preserved : goal.loop-d-preserved
 loop-d-preserved c =
     let x = get_or c.args.digits.now c.loop-d.d-index 0 in
     let d : is_digit x ≡ true = All-from_recursion (λ (b : ℕ). is_digit b ≡ true) c.args.digits.now c.requires c.loop-d.d-index 0 c.loop-d-test.true in
-    let e : drop c.loop-d.d-index c.args.digits.now ≡ x ∷ drop (suc c.loop-d.d-index) c.args.digits.now = drop-cons c.args.digits.now c.loop-d.d-index 0 c.loop-d-test.true in
+    let e : drop c.loop-d.d-index c.args.digits.now ≡ x ∷ drop (suc c.loop-d.d-index) c.args.digits.now =
+    drop-cons c.args.digits.now c.loop-d.d-index 0 c.loop-d-test.true in
     let r = rw e at c.loop-d.invariant.rest in
     record { small = next c.loop-d.n c.loop-d.d-index x c.loop-d.invariant.small d; rest = rw add-one r }

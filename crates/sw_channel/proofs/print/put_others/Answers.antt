@@ -3,7 +3,8 @@ use Rattle.sw_channel.proofs.print.put_others.Goals as goal
 
 pub loop-chan-preserved : goal.loop-chan-preserved
 loop-chan-preserved c = record {
-  printed = one_more _ _ _ _ _ _ _ c.loop-chan-test.true c.chan-item.is c.in_ok-push.ensures.items (c.in_ok-put_channel.ensures.printed) c.loop-chan.invariant.printed;
+  printed = one_more _ _ _ _ _ _ _ c.loop-chan-test.true c.chan-item.is c.in_ok-push.ensures.items
+      (c.in_ok-put_channel.ensures.printed) c.loop-chan.invariant.printed;
   in_range = in_range-more _ _ _ c.loop-chan-test.true c.chan-item.is c.loop-chan.invariant.in_range c.in_ok-put_channel.ensures.in_range;
 }
 

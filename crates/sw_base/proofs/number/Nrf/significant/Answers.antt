@@ -16,4 +16,8 @@ returns-else-is_empty c =
     let whole = c.self.inside.whole.now in
     let fraction = c.self.inside.fraction.now in
     let some : 0 < length c.from_first-whole.result.now = grind arith in
-    rw (← c.self.view_is, c.from_first-whole.ensures, from_first-some whole fraction (rw c.from_first-whole.ensures at some)) (sym (length-append (from_first whole) fraction))
+    rw (
+      ← c.self.view_is,
+      c.from_first-whole.ensures,
+      from_first-some whole fraction (rw c.from_first-whole.ensures at some),
+    ) (sym (length-append (from_first whole) fraction))

@@ -11,5 +11,11 @@ returns-then-failing-clause-drives g c =
       counted = left;
       passes = λ h. absurd (let k : true ≡ false = sym failing ∙ h in cc);
       reports = λ _. refl;
-      asks = λ _. (c.drive-outcome.result, (subst (λ d. g.D.Driver.drives d c.args.ch c.args.on c.drive-outcome.result c.drive-outcome.new.self) behind c.drive-outcome.ensures.drives, c.drive-outcome.ensures.ok));
+      asks = λ _. (
+        c.drive-outcome.result,
+        (
+          subst (λ d. g.D.Driver.drives d c.args.ch c.args.on c.drive-outcome.result c.drive-outcome.new.self) behind c.drive-outcome.ensures.drives,
+          c.drive-outcome.ensures.ok,
+        ),
+      );
     }
