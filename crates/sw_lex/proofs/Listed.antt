@@ -1,11 +1,11 @@
 -- What one of the rows matches is found in the table that they are.
-use Rattle.std.proofs.Common.{◌≡◌, ℕ, Bool, true, false, List, [], ◌∷◌, ◌++◌, refl, sym, ap, subst, ◌∙◌, inl, inr, Option, Some, None}
+use Rattle.std.proofs.Common.{◌≡◌, ℕ, Bool, true, false, List, [], ◌∷◌, refl, sym, ap, subst, inl, inr, Option, Some, None}
 use Rattle.std.specs.Prelude.{IfSome, IfNone}
 use Rattle.sw_lex.specs.declared.table.Key.{Key}
 use Rattle.sw_lex.specs.declared.table.Row.{Row}
 use Rattle.sw_lex.specs.Table.{Node, Entry, entries}
 use Rattle.sw_lex.specs.Rows.{nodes_at, steps_of, key_at, entry_at, row_entries, entries_of, Matches}
-use Rattle.sw_lex.specs.Found.{IsIn, spellings, Fits, IsFound}
+use Rattle.sw_lex.specs.Found.{IsIn, Fits, IsFound}
 use Rattle.sw_lex.proofs.Spelled.{in_left, in_right, in_cases, fits_listed, listed_fits}
 
 -- ---- one row

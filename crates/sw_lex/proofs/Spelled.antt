@@ -1,10 +1,9 @@
 -- The spellings that are listed are those that fit.
-use Rattle.std.proofs.Common.{◌≡◌, ℕ, List, [], ◌∷◌, ◌++◌, refl, sym, ap, subst, ◌∙◌, ◌⊎◌, inl, inr, Bool, true, false, Option, Some, None, length, ◌<◌, ◌≤◌}
+use Rattle.std.proofs.Common.{◌≡◌, ℕ, List, [], ◌∷◌, ◌++◌, refl, ap, ◌∙◌, ◌⊎◌, inl, inr, Bool, true, length, ◌<◌, ◌≤◌}
 use Rattle.std.proofs.Common.{nat_le, arith}
 use Rattle.std.proofs.lemmas.Bool.{and_parts}
 use Rattle.std.proofs.lemmas.Grind.{common_steps}
 use Rattle.std.specs.List.{list_all}
-use Rattle.std.specs.Prelude.{IfSome, IfNone}
 use Rattle.sw_lex.specs.declared.table.Key.{Key}
 use Rattle.sw_lex.specs.Words.{short_of, long_of}
 use Rattle.sw_lex.specs.Table.{Node, must, may, numbered, Entry}

@@ -1,7 +1,7 @@
 -- The table of headers (SCPI-1999, volume 2; IEEE 488.2, 10), each as the standard writes it: mnemonics joined by
 -- colons, nodes that may be left out in brackets, and a question mark behind a query. `#` stands for a number, 1 or 2,
 -- or none.
-use Rattle.std.specs.Prelude.{ℕ, Bool, true, false, ◌==◌, ◌||◌, List, [], ◌∷◌, map, codes, if◌then◌else◌}
+use Rattle.std.specs.Prelude.{ℕ, Bool, false, ◌==◌, ◌||◌, List, [], ◌∷◌, map, codes, if◌then◌else◌}
 use Rattle.sw_base.specs.declared.terms.StatusGroup.TheVariants as groups
 use Rattle.sw_lex.specs.declared.table.Key.{Key}
 use Rattle.sw_lex.specs.declared.table.Key.TheVariants as keys
