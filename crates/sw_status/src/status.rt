@@ -53,8 +53,7 @@ impl Model for Status {
     } };
 
     ghost invariant = { λ s.
-      (most_errors ≤ vec_capacity s.errors) × (vec_len s.errors ≤ most_errors) × (s.requests < 2 ^ 56)
-    };
+        (most_errors ≤ vec_capacity s.errors) × (vec_len s.errors ≤ most_errors) × (s.requests < 2 ^ 56) };
 }
 
 impl Status {
