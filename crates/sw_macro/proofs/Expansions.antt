@@ -2,14 +2,14 @@
 use Rattle.std.proofs.Common.{◌≡◌, ℕ, ◌-◌, ◌≤◌, List, [], ◌∷◌, ◌++◌, length, take, drop, Option, Some, None, Result, Ok, Err, refl, sym, ap, subst, ◌∙◌}
 use Rattle.std.proofs.Common.{append_assoc, arith, inl, inr}
 use Rattle.std.proofs.lemmas.List.{append_cancel_right, length-append, take_at, drop_at}
-use Rattle.sw_base.specs.Text.{Spans}
+use Rattle.sw_base.specs.Text.{AllPass, Spans}
 use Rattle.sw_base.proofs.Runs.{one_span}
 use Rattle.sw_base.specs.declared.error.ScpiError.{ScpiError}
-use Rattle.sw_lex.specs.Unit.{UnitView, IsWritten, Ends, Closes, is_gap}
+use Rattle.sw_lex.specs.Unit.{UnitView, IsUnit, IsWritten, Ends, Closes, is_gap}
 use Rattle.sw_lex.proofs.Once.{one_unit, unit_refused, blank_unit}
 use Rattle.sw_lex.proofs.Written.{one_written}
 use Rattle.sw_macro.specs.Table.{Macro, Table}
-use Rattle.sw_macro.specs.Expansion.{opened, Place, Stands, HasNoUnit, Becomes, ends, keeps, fails, stops, goes, judged, Replaces, opened_in, Expands}
+use Rattle.sw_macro.specs.Expansion.{opened, Place, IsFirstUnit, HasNoUnit, Becomes, ends, keeps, fails, stops, goes, within_bound, Replaces, opened_in, Expands}
 
 -- ---- the code's cut of a text
 
@@ -21,31 +21,90 @@ closes_front left rest c = at_end left c.gap c.end rest c.space.whole c.ends
     at_end left gap [] rest w e = (gap, w ∙ ap (λ (t : List ℕ). gap ++ t) (sym e))
     at_end left gap (b ∷ end) rest w e = (gap ++ b ∷ [], w ∙ ap (λ (t : List ℕ). gap ++ b ∷ t) (sym e.1) ∙ sym (append_assoc gap (b ∷ []) rest))
 
--- the parts of a text by their lengths
-pub record Cut (start written left between rest : List ℕ) : Type 0 where
-  pub whole : start ≡ written ++ left
+-- the first unit of a text, which stands at the front of what follows a gap, and the parts round it
+pub record FirstUnitParts (text before start : List ℕ) (u : UnitView) (w rest : List ℕ) : Type 0 where
+  pub left : List ℕ
+  pub between : List ℕ
+  pub whole : start ≡ w ++ left
   pub parts : left ≡ between ++ rest
+  pub writes : IsWritten text before u w left
 
-pub cut_front : (text before start b : List ℕ) (u : UnitView) (w left rest : List ℕ) → Spans is_gap text before start → IsWritten text b u w left
-    → Closes left rest → (between : List ℕ) × (b ≡ before) × Cut start w left between rest
-cut_front text before start b u w left rest s p c =
-    let r = one_span is_gap text b p.start before start p.skipped s in
-    let f = closes_front left rest c in
-    (f.0, r.0, record { whole = sym r.1 ∙ p.whole; parts = f.1 })
+-- what follows a gap begins with none
+no_gap : (text before start : List ℕ) → Spans is_gap text before start → Spans is_gap start [] start
+no_gap text before start s = record { whole = refl; pass = tt; off = s.off }
 
-pub written_within : (start w left between rest : List ℕ) → Cut start w left between rest → length w ≤ length start
-written_within start w left between rest c = omega (arith, ap (λ (t : List ℕ). length t) c.whole, length-append w left)
+pub first_after_gap : (text before start : List ℕ) (u : UnitView) (w rest : List ℕ) → Spans is_gap text before start
+    → (b : List ℕ) × (left : List ℕ) × IsWritten start b u w left × Closes left rest → FirstUnitParts text before start u w rest
+first_after_gap text before start u w rest s e =
+    let p = e.2 in
+    let r = one_span is_gap start e.0 p.start [] start p.skipped (no_gap text before start s) in
+    let f = closes_front e.1 rest e.3 in
+    record {
+      left = e.1;
+      between = f.0;
+      whole = sym r.1 ∙ p.whole;
+      parts = f.1;
+      writes = record {
+        start = p.start;
+        after = p.after;
+        tail = p.tail;
+        skipped = subst (λ (x : List ℕ). Spans is_gap text before x) (sym r.1) s;
+        header = p.header;
+        asks = p.asks;
+        ends = p.ends;
+        whole = p.whole;
+      };
+    }
 
-pub left_is : (start w left between rest : List ℕ) (n : ℕ) → Cut start w left between rest → length w ≡ n → drop n start ≡ left
-left_is start w left between rest n c h = rw c.whole (drop_at w left n h)
+pub unit_after_gap : (text before start : List ℕ) (u : UnitView) (rest : List ℕ) → Spans is_gap text before start
+    → IsUnit start u rest → IsUnit text u rest
+unit_after_gap text before start u rest s i =
+    let r = one_span is_gap start i.before i.start [] start i.skipped (no_gap text before start s) in
+    record {
+      before = before;
+      start = i.start;
+      after = i.after;
+      tail = i.tail;
+      skipped = subst (λ (x : List ℕ). Spans is_gap text before x) (sym r.1) s;
+      header = i.header;
+      asks = i.asks;
+      follows = i.follows;
+      few = i.few;
+    }
 
-pub rest_within : (start w left between rest : List ℕ) → Cut start w left between rest → length rest ≤ length left
-rest_within start w left between rest c = omega (arith, ap (λ (t : List ℕ). length t) c.parts, length-append between rest)
+all_more : (front rest : List ℕ) → AllPass is_gap front → AllPass is_gap rest → AllPass is_gap (front ++ rest)
+all_more [] rest a h = h
+all_more (b ∷ front) rest a h = (a.0, all_more front rest a.1 h)
 
-pub between_is : (start w left between rest : List ℕ) (n : ℕ) → Cut start w left between rest → n ≡ length left - length rest → take n left ≡ between
-between_is start w left between rest n c h =
-    let k : length between ≡ n = omega (arith, ap (λ (t : List ℕ). length t) c.parts, length-append between rest, h) in
-    rw c.parts (take_at between rest n k)
+pub none_after_gap : (text before start : List ℕ) → Spans is_gap text before start → HasNoUnit start → HasNoUnit text
+none_after_gap text before start s (inl blank) =
+    inl (subst (λ (x : List ℕ). AllPass is_gap x) (sym s.whole) (all_more before start s.pass blank))
+none_after_gap text before start s (inr (e, i)) =
+    let r = one_span is_gap start i.before i.start [] start i.skipped (no_gap text before start s) in
+    inr (
+      e,
+      record {
+        before = before;
+        start = i.start;
+        skipped = subst (λ (x : List ℕ). Spans is_gap text before x) (sym r.1) s;
+        some = i.some;
+        refused = i.refused;
+      },
+    )
+
+pub written_within : (start w left : List ℕ) → start ≡ w ++ left → length w ≤ length start
+written_within start w left e = omega (arith, ap (λ (t : List ℕ). length t) e, length-append w left)
+
+pub left_is : (start w left : List ℕ) (n : ℕ) → start ≡ w ++ left → length w ≡ n → drop n start ≡ left
+left_is start w left n e h = rw e (drop_at w left n h)
+
+pub rest_within : (left between rest : List ℕ) → left ≡ between ++ rest → length rest ≤ length left
+rest_within left between rest e = omega (arith, ap (λ (t : List ℕ). length t) e, length-append between rest)
+
+pub between_is : (left between rest : List ℕ) (n : ℕ) → left ≡ between ++ rest → n ≡ length left - length rest → take n left ≡ between
+between_is left between rest n e h =
+    let k : length between ≡ n = omega (arith, ap (λ (t : List ℕ). length t) e, length-append between rest, h) in
+    rw e (take_at between rest n k)
 
 -- ---- what was written so far
 
@@ -63,7 +122,9 @@ opened_so ms passed names u n kept now before a p k l h =
     ap (λ (m : ℕ). opened ms names u m) (sym (l ∙ ap (λ (t : List ℕ). length t) k)) ∙ ap (λ (x : List (List ℕ)). opened ms x u n) (sym p) ∙ h
 
 -- the outcome of a body within, likewise
-pub within_so : (ms : List Macro) (passed names : List (List ℕ)) (text body : List ℕ) (kept now before : List ℕ) (label : List ℕ) (r : Result (List ℕ) ScpiError) → passed ≡ names ++ label ∷ [] → text ≡ body → kept ≡ now ++ before → Becomes ms passed text kept r → Becomes ms (names ++ label ∷ []) body (now ++ before) r
+pub within_so : (ms : List Macro) (passed names : List (List ℕ)) (text body kept now before label : List ℕ) (r : Result (List ℕ) ScpiError)
+    → passed ≡ names ++ label ∷ [] → text ≡ body → kept ≡ now ++ before → Becomes ms passed text kept r
+    → Becomes ms (names ++ label ∷ []) body (now ++ before) r
 within_so ms passed names text body kept now before label r p t k d =
     subst (λ (x : List (List ℕ)). Becomes ms x body (now ++ before) r) p
     (subst (λ (x : List ℕ). Becomes ms passed x (now ++ before) r) t
@@ -75,23 +136,23 @@ onward_ends ms names body first rest now new o h e =
     o.so (Ok new) (subst (λ (t : List ℕ). Becomes ms names rest now (Ok t)) (sym e) (ends h))
 
 pub onward_fails : (ms : List Macro) (names : List (List ℕ)) (body first rest now : List ℕ) (p : Place) (e : ScpiError) → Onward ms names body first rest now
-    → Stands rest p → opened ms names p.unit (length (now ++ p.before)) ≡ Err e → Becomes ms names body first (Err e)
+    → IsFirstUnit rest p → opened ms names p.unit (length (now ++ p.before)) ≡ Err e → Becomes ms names body first (Err e)
 onward_fails ms names body first rest now p e o s h = o.so (Err e) (fails s h)
 
 pub onward_stops : (ms : List Macro) (names : List (List ℕ)) (body first rest now : List ℕ) (p : Place) (m : Macro) (e : ScpiError)
-    → Onward ms names body first rest now → Stands rest p → opened ms names p.unit (length (now ++ p.before)) ≡ Ok (Some m)
+    → Onward ms names body first rest now → IsFirstUnit rest p → opened ms names p.unit (length (now ++ p.before)) ≡ Ok (Some m)
     → Becomes ms (names ++ m.0 ∷ []) m.1 (now ++ p.before) (Err e) → Becomes ms names body first (Err e)
 onward_stops ms names body first rest now p m e o s h d = o.so (Err e) (stops {m = m} s h d)
 
 pub onward_keeps : (ms : List Macro) (names : List (List ℕ)) (body first rest now new : List ℕ) (p : Place) → Onward ms names body first rest now
-    → Stands rest p → opened ms names p.unit (length (now ++ p.before)) ≡ Ok None → new ≡ ((now ++ p.before) ++ p.written) ++ p.between
+    → IsFirstUnit rest p → opened ms names p.unit (length (now ++ p.before)) ≡ Ok None → new ≡ ((now ++ p.before) ++ p.written) ++ p.between
     → Onward ms names body first p.rest new
 onward_keeps ms names body first rest now new p o s h e = record {
   so = λ r d. o.so r (keeps s h (subst (λ (t : List ℕ). Becomes ms names p.rest t r) e d));
 }
 
 pub onward_goes : (ms : List Macro) (names : List (List ℕ)) (body first rest now done new : List ℕ) (p : Place) (m : Macro)
-    → Onward ms names body first rest now → Stands rest p → opened ms names p.unit (length (now ++ p.before)) ≡ Ok (Some m)
+    → Onward ms names body first rest now → IsFirstUnit rest p → opened ms names p.unit (length (now ++ p.before)) ≡ Ok (Some m)
     → Becomes ms (names ++ m.0 ∷ []) m.1 (now ++ p.before) (Ok done) → new ≡ done ++ p.between → Onward ms names body first p.rest new
 onward_goes ms names body first rest now done new p m o s h d e = record {
   so = λ r f. o.so r (goes {m = m} s h d (subst (λ (t : List ℕ). Becomes ms names p.rest t r) e f));
@@ -109,14 +170,15 @@ place_is p q a b c d e =
     ∙ ap (λ (x : List ℕ). place q.before q.unit x p.between p.rest) c ∙ ap (λ (x : List ℕ). place q.before q.unit q.written x p.rest) d
     ∙ ap (λ (x : List ℕ). place q.before q.unit q.written q.between x) e
 
-one_place : (text : List ℕ) (p q : Place) → Stands text p → Stands text q → p ≡ q
+one_place : (text : List ℕ) (p q : Place) → IsFirstUnit text p → IsFirstUnit text q → p ≡ q
 one_place text p q s t =
     let u = one_unit text p.unit q.unit p.rest q.rest s.reads t.reads in
-    let w = one_written text p.before q.before q.unit p.written q.written s.left t.left (subst (λ (x : UnitView). IsWritten text p.before x p.written s.left) u.0 s.writes) t.writes in
+    let w = one_written text p.before q.before q.unit p.written q.written s.left t.left
+    (subst (λ (x : UnitView). IsWritten text p.before x p.written s.left) u.0 s.writes) t.writes in
     let m = append_cancel_right p.between q.between p.rest (sym s.parts ∙ w.2 ∙ t.parts ∙ ap (λ (x : List ℕ). q.between ++ x) (sym u.1)) in
     place_is p q w.0 u.0 w.1 m u.1
 
-no_place : (text : List ℕ) (p : Place) → HasNoUnit text → Stands text p → ⊥
+no_place : (text : List ℕ) (p : Place) → HasNoUnit text → IsFirstUnit text p → ⊥
 no_place text p h s =
     elim h [ inl b ↦ blank_unit text p.unit p.rest b s.reads | inr e ↦ unit_refused text p.unit p.rest e.0 s.reads e.1 ]
 
@@ -125,8 +187,8 @@ no_place text p h s =
 opened_at : List Macro → List (List ℕ) → List ℕ → Place → Result (Option Macro) ScpiError
 opened_at ms names sofar p = opened ms names p.unit (length (sofar ++ p.before))
 
-one_opened : (ms : List Macro) (names : List (List ℕ)) (text sofar : List ℕ) (p q : Place) (a b : Result (Option Macro) ScpiError) → Stands text p
-    → Stands text q → opened ms names p.unit (length (sofar ++ p.before)) ≡ a → opened ms names q.unit (length (sofar ++ q.before)) ≡ b → a ≡ b
+one_opened : (ms : List Macro) (names : List (List ℕ)) (text sofar : List ℕ) (p q : Place) (a b : Result (Option Macro) ScpiError) → IsFirstUnit text p
+    → IsFirstUnit text q → opened ms names p.unit (length (sofar ++ p.before)) ≡ a → opened ms names q.unit (length (sofar ++ q.before)) ≡ b → a ≡ b
 one_opened ms names text sofar p q a b s t h k =
     sym h ∙ ap (λ (z : Place). opened ms names z.unit (length (sofar ++ z.before))) (one_place text p q s t) ∙ k
 
@@ -167,19 +229,19 @@ same_text : (t u : List ℕ) → wrote t ≡ wrote u → t ≡ u
 same_text t u e = cc
 
 -- what one place becomes, another place of the same text becomes
-moved : (ms : List Macro) (names : List (List ℕ)) (text sofar : List ℕ) (p q : Place) (r : Result (List ℕ) ScpiError) → Stands text p → Stands text q
+moved : (ms : List Macro) (names : List (List ℕ)) (text sofar : List ℕ) (p q : Place) (r : Result (List ℕ) ScpiError) → IsFirstUnit text p → IsFirstUnit text q
     → Becomes ms names q.rest (((sofar ++ q.before) ++ q.written) ++ q.between) r → Becomes ms names p.rest (((sofar ++ p.before) ++ p.written) ++ p.between) r
 moved ms names text sofar p q r s t d =
     subst (λ (z : Place). Becomes ms names z.rest (((sofar ++ z.before) ++ z.written) ++ z.between) r) (sym (one_place text p q s t)) d
 
-moved_within : (ms : List Macro) (names : List (List ℕ)) (text sofar : List ℕ) (p q : Place) (m k : Macro) (r : Result (List ℕ) ScpiError) → Stands text p
-    → Stands text q → m ≡ k → Becomes ms (names ++ k.0 ∷ []) k.1 (sofar ++ q.before) r → Becomes ms (names ++ m.0 ∷ []) m.1 (sofar ++ p.before) r
+moved_within : (ms : List Macro) (names : List (List ℕ)) (text sofar : List ℕ) (p q : Place) (m k : Macro) (r : Result (List ℕ) ScpiError) → IsFirstUnit text p
+    → IsFirstUnit text q → m ≡ k → Becomes ms (names ++ k.0 ∷ []) k.1 (sofar ++ q.before) r → Becomes ms (names ++ m.0 ∷ []) m.1 (sofar ++ p.before) r
 moved_within ms names text sofar p q m k r s t e d =
     subst (λ (z : Place). Becomes ms (names ++ m.0 ∷ []) m.1 (sofar ++ z.before) r) (sym (one_place text p q s t))
     (subst (λ (z : Macro). Becomes ms (names ++ z.0 ∷ []) z.1 (sofar ++ q.before) r) (sym e) d)
 
-moved_on : (ms : List Macro) (names : List (List ℕ)) (text : List ℕ) (p q : Place) (a b : List ℕ) (r : Result (List ℕ) ScpiError) → Stands text p
-    → Stands text q → a ≡ b → Becomes ms names q.rest (b ++ q.between) r → Becomes ms names p.rest (a ++ p.between) r
+moved_on : (ms : List Macro) (names : List (List ℕ)) (text : List ℕ) (p q : Place) (a b : List ℕ) (r : Result (List ℕ) ScpiError) → IsFirstUnit text p
+    → IsFirstUnit text q → a ≡ b → Becomes ms names q.rest (b ++ q.between) r → Becomes ms names p.rest (a ++ p.between) r
 moved_on ms names text p q a b r s t e d =
     subst (λ (z : Place). Becomes ms names z.rest (a ++ z.between) r) (sym (one_place text p q s t))
     (subst (λ (z : List ℕ). Becomes ms names q.rest (z ++ q.between) r) (sym e) d)
@@ -221,19 +283,23 @@ one_becomes ms (stops {names = names} {text = text} {sofar = sofar} {p = p} {m =
 one_becomes ms (stops {names = names} {text = text} {sofar = sofar} {p = p} {m = m} s o d) (fails {p = q} {e = e} t u) =
     refused_some e m (one_opened ms names text sofar q p (Err e) (Ok (Some m)) t s u o)
 one_becomes ms (stops {names = names} {text = text} {sofar = sofar} {p = p} {m = m} s o d) (stops {p = q} {m = k} {e = e} t u f) =
-    one_becomes ms d (moved_within ms names text sofar p q m k (Err e) s t (same_macro m k (one_opened ms names text sofar p q (Ok (Some m)) (Ok (Some k)) s t o u)) f)
+    let same : m ≡ k = same_macro m k (one_opened ms names text sofar p q (Ok (Some m)) (Ok (Some k)) s t o u) in
+    one_becomes ms d (moved_within ms names text sofar p q m k (Err e) s t same f)
 one_becomes ms (stops {names = names} {text = text} {sofar = sofar} {p = p} {m = m} {e = e} s o d) (goes {done = done} {p = q} {m = k} t u f g) =
-    wrote_faulty done e (sym (one_becomes ms d (moved_within ms names text sofar p q m k (Ok done) s t (same_macro m k (one_opened ms names text sofar p q (Ok (Some m)) (Ok (Some k)) s t o u)) f)))
+    let same : m ≡ k = same_macro m k (one_opened ms names text sofar p q (Ok (Some m)) (Ok (Some k)) s t o u) in
+    wrote_faulty done e (sym (one_becomes ms d (moved_within ms names text sofar p q m k (Ok done) s t same f)))
 one_becomes ms (goes {text = text} {p = p} s o d g) (ends h) = absurd (no_place text p h s)
 one_becomes ms (goes {names = names} {text = text} {sofar = sofar} {p = p} {m = m} s o d g) (keeps {p = q} t u f) =
     none_some m (one_opened ms names text sofar q p (Ok None) (Ok (Some m)) t s u o)
 one_becomes ms (goes {names = names} {text = text} {sofar = sofar} {p = p} {m = m} s o d g) (fails {p = q} {e = e} t u) =
     refused_some e m (one_opened ms names text sofar q p (Err e) (Ok (Some m)) t s u o)
 one_becomes ms (goes {names = names} {text = text} {sofar = sofar} {done = done} {p = p} {m = m} s o d g) (stops {p = q} {m = k} {e = e} t u f) =
-    wrote_faulty done e ((one_becomes ms d (moved_within ms names text sofar p q m k (Err e) s t (same_macro m k (one_opened ms names text sofar p q (Ok (Some m)) (Ok (Some k)) s t o u)) f)))
-one_becomes ms (goes {names = names} {text = text} {sofar = sofar} {done = done} {p = p} {m = m} s o d g) (goes {done = other} {p = q} {m = k} {r = r} t u f h) =
-    let z : wrote done ≡ wrote other = one_becomes ms d (moved_within ms names text sofar p q m k (Ok other) s t (same_macro m k (one_opened ms names text sofar p q (Ok (Some m)) (Ok (Some k)) s t o u)) f) in
-    one_becomes ms g (moved_on ms names text p q done other r s t (same_text done other z) h)
+    let same : m ≡ k = same_macro m k (one_opened ms names text sofar p q (Ok (Some m)) (Ok (Some k)) s t o u) in
+    wrote_faulty done e (one_becomes ms d (moved_within ms names text sofar p q m k (Err e) s t same f))
+one_becomes ms (goes {names = names} {text = text} {sofar = sofar} {done = done} {p = p} {m = m} s o d g) (goes {done = also} {p = q} {m = k} {r = r} t u f h) =
+    let same : m ≡ k = same_macro m k (one_opened ms names text sofar p q (Ok (Some m)) (Ok (Some k)) s t o u) in
+    let z : wrote done ≡ wrote also = one_becomes ms d (moved_within ms names text sofar p q m k (Ok also) s t same f) in
+    one_becomes ms g (moved_on ms names text p q done also r s t (same_text done also z) h)
 
 -- ---- one expansion
 
@@ -242,7 +308,7 @@ one_replaced : (ms : List Macro) (o : Result (Option Macro) ScpiError) (written 
 one_replaced ms (Err e) written r s h k = h ∙ sym k
 one_replaced ms (Ok None) written r s h k = h ∙ sym k
 one_replaced ms (Ok (Some m)) written r s h k =
-    h.2 ∙ ap (λ (x : Result (List ℕ) ScpiError). judged x) (one_becomes ms h.1 k.1) ∙ sym k.2
+    h.2 ∙ ap (λ (x : Result (List ℕ) ScpiError). within_bound x) (one_becomes ms h.1 k.1) ∙ sym k.2
 
 pub one_expanded : (t : Table) (unit : UnitView) (written : List ℕ) (r s : Result (List ℕ) ScpiError) → Expands t unit written r → Expands t unit written s
     → r ≡ s

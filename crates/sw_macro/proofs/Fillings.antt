@@ -11,28 +11,29 @@ use Rattle.std.specs.Option.{option_map}
 use Rattle.std.proofs.lemmas.Option.{slice_get-map, slice_get_read}
 use Rattle.sw_lex.specs.declared.unit.Element.{Element}
 use Rattle.sw_lex.specs.Unit.{Datum, datum_of, datum_text, data_of}
-use Rattle.sw_macro.specs.Filling.{is_place, parameter, led_by, joined, filled, longest, fitting, put_in, IsDraft}
+use Rattle.sw_base.specs.Limits.{most_bytes}
+use Rattle.sw_macro.specs.Filling.{is_place, parameter, prefixed, joined, filled, fitting, put_in, IsDraft}
 
 -- ---- texts after other texts
 
-led_none : (o : Option (List ℕ)) → led_by [] o ≡ o
+led_none : (o : Option (List ℕ)) → prefixed [] o ≡ o
 led_none None = refl
 led_none (Some t) = refl
 
-pub led_led : (xs ys : List ℕ) (o : Option (List ℕ)) → led_by xs (led_by ys o) ≡ led_by (xs ++ ys) o
+pub led_led : (xs ys : List ℕ) (o : Option (List ℕ)) → prefixed xs (prefixed ys o) ≡ prefixed (xs ++ ys) o
 led_led xs ys None = refl
 led_led xs ys (Some t) = ap (λ (x : List ℕ). Some x) (sym (append_assoc xs ys t))
 
 -- ---- bytes that are no `$`
 
-lead_one : (ds : List Datum) (b : ℕ) (t : List ℕ) → not (b == 36) ≡ true → filled ds (b ∷ t) ≡ led_by (b ∷ []) (filled ds t)
+lead_one : (ds : List Datum) (b : ℕ) (t : List ℕ) → not (b == 36) ≡ true → filled ds (b ∷ t) ≡ prefixed (b ∷ []) (filled ds t)
 lead_one ds b [] h = refl
 lead_one ds b (c ∷ t) h = let k : (b == 36) ≡ false = grind (arith, common_steps) in rw k refl
 
-pub lead_lacks : (ds : List Datum) (left t : List ℕ) → Lacks 36 left → filled ds (left ++ t) ≡ led_by left (filled ds t)
+pub lead_lacks : (ds : List Datum) (left t : List ℕ) → Lacks 36 left → filled ds (left ++ t) ≡ prefixed left (filled ds t)
 lead_lacks ds [] t a = sym (led_none (filled ds t))
 lead_lacks ds (b ∷ left) t a =
-    lead_one ds b (left ++ t) a.0 ∙ ap (λ (o : Option (List ℕ)). led_by (b ∷ []) o) (lead_lacks ds left t a.1) ∙ led_led (b ∷ []) left (filled ds t)
+    lead_one ds b (left ++ t) a.0 ∙ ap (λ (o : Option (List ℕ)). prefixed (b ∷ []) o) (lead_lacks ds left t a.1) ∙ led_led (b ∷ []) left (filled ds t)
 
 pub all_lacks : (ds : List Datum) (left : List ℕ) → Lacks 36 left → filled ds left ≡ Some left
 all_lacks ds left a =
@@ -40,7 +41,7 @@ all_lacks ds left a =
 
 -- ---- a `$`
 
-pub mark_stays : (ds : List Datum) (c : ℕ) (others : List ℕ) → is_place c ≡ false → filled ds (36 ∷ c ∷ others) ≡ led_by (36 ∷ []) (filled ds (c ∷ others))
+pub mark_stays : (ds : List Datum) (c : ℕ) (others : List ℕ) → is_place c ≡ false → filled ds (36 ∷ c ∷ others) ≡ prefixed (36 ∷ []) (filled ds (c ∷ others))
 mark_stays ds c others h = rw h refl
 
 pub mark_stands : (ds : List Datum) (c : ℕ) (others : List ℕ) → is_place c ≡ true
@@ -53,34 +54,36 @@ mark_stands ds c others h = rw h refl
 pub record Draft (n : ℕ) (ds : List Datum) (body rest kept : List ℕ) (room : Option ℕ) : Type 0 where
   pub whole : List ℕ
   pub draft : IsDraft n whole kept room
-  pub onward : filled ds body ≡ led_by whole (filled ds rest)
+  pub onward : filled ds body ≡ prefixed whole (filled ds rest)
 
-pub filled_more : (ds : List Datum) (body rest whole front more bytes others : List ℕ) → filled ds body ≡ led_by whole (filled ds rest)
-    → rest ≡ front ++ 36 ∷ more → Lacks 36 front → filled ds (36 ∷ more) ≡ led_by bytes (filled ds others)
-    → filled ds body ≡ led_by ((whole ++ front) ++ bytes) (filled ds others)
+pub filled_more : (ds : List Datum) (body rest whole front more bytes others : List ℕ) → filled ds body ≡ prefixed whole (filled ds rest)
+    → rest ≡ front ++ 36 ∷ more → Lacks 36 front → filled ds (36 ∷ more) ≡ prefixed bytes (filled ds others)
+    → filled ds body ≡ prefixed ((whole ++ front) ++ bytes) (filled ds others)
 filled_more ds body rest whole front more bytes others h e a m =
-    h ∙ ap (λ (t : List ℕ). led_by whole (filled ds t)) e ∙ ap (λ (o : Option (List ℕ)). led_by whole o) (lead_lacks ds front (36 ∷ more) a ∙ ap (λ (o : Option (List ℕ)). led_by front o) m)
-    ∙ led_led whole front (led_by bytes (filled ds others)) ∙ led_led (whole ++ front) bytes (filled ds others)
+    h ∙ ap (λ (t : List ℕ). prefixed whole (filled ds t)) e
+    ∙ ap (λ (o : Option (List ℕ)). prefixed whole o) (lead_lacks ds front (36 ∷ more) a ∙ ap (λ (o : Option (List ℕ)). prefixed front o) m)
+    ∙ led_led whole front (prefixed bytes (filled ds others)) ∙ led_led (whole ++ front) bytes (filled ds others)
 
-pub filled_missing : (ds : List Datum) (body rest whole front more : List ℕ) → filled ds body ≡ led_by whole (filled ds rest) → rest ≡ front ++ 36 ∷ more
+pub filled_missing : (ds : List Datum) (body rest whole front more : List ℕ) → filled ds body ≡ prefixed whole (filled ds rest) → rest ≡ front ++ 36 ∷ more
     → Lacks 36 front → filled ds (36 ∷ more) ≡ None → filled ds body ≡ None
 filled_missing ds body rest whole front more h e a m =
-    h ∙ ap (λ (t : List ℕ). led_by whole (filled ds t)) e ∙ ap (λ (o : Option (List ℕ)). led_by whole o) (lead_lacks ds front (36 ∷ more) a ∙ ap (λ (o : Option (List ℕ)). led_by front o) m)
+    h ∙ ap (λ (t : List ℕ). prefixed whole (filled ds t)) e
+    ∙ ap (λ (o : Option (List ℕ)). prefixed whole o) (lead_lacks ds front (36 ∷ more) a ∙ ap (λ (o : Option (List ℕ)). prefixed front o) m)
 
-pub filled_all : (ds : List Datum) (body rest whole : List ℕ) → filled ds body ≡ led_by whole (filled ds rest) → Lacks 36 rest
+pub filled_all : (ds : List Datum) (body rest whole : List ℕ) → filled ds body ≡ prefixed whole (filled ds rest) → Lacks 36 rest
     → filled ds body ≡ Some (whole ++ rest)
-filled_all ds body rest whole h a = h ∙ ap (λ (o : Option (List ℕ)). led_by whole o) (all_lacks ds rest a)
+filled_all ds body rest whole h a = h ∙ ap (λ (o : Option (List ℕ)). prefixed whole o) (all_lacks ds rest a)
 
 pub fits_not : (n : ℕ) (ds : List Datum) (body whole kept : List ℕ) → filled ds body ≡ Some whole → IsDraft n whole kept None
     → put_in ds body n ≡ Err MacroRecursionError
 fits_not n ds body whole kept h d =
-    let k : nat_lt longest (n + length whole) ≡ true = grind (arith, common_steps) in
+    let k : nat_lt most_bytes (n + length whole) ≡ true = grind (arith, common_steps) in
     ap (λ (o : Option (List ℕ)). fitting n o) h ∙ (rw k refl)
 
 pub fits : (n : ℕ) (ds : List Datum) (body whole kept : List ℕ) (room : ℕ) → filled ds body ≡ Some whole → IsDraft n whole kept (Some room)
     → put_in ds body n ≡ Ok kept
 fits n ds body whole kept room h d =
-    let k : nat_lt longest (n + length whole) ≡ false = grind (arith, common_steps) in
+    let k : nat_lt most_bytes (n + length whole) ≡ false = grind (arith, common_steps) in
     let f : fitting n (Some whole) ≡ Ok whole = rw k refl in
     ap (λ (o : Option (List ℕ)). fitting n o) h ∙ f ∙ ap (λ (t : List ℕ). Ok t) (sym d.0)
 

@@ -2,3 +2,4 @@ pub mod Labels
 pub mod Tables
 pub mod Fillings
 pub mod Expansions
+pub mod LimitsKept

@@ -1,16 +1,17 @@
--- What a unit is replaced by while macros are on (IEEE 488.2, 7.6.1 and 10.7; the bounds, their errors and the order of
--- faults are this project's own).
+-- What a unit is replaced by while macros are on (IEEE 488.2, 10.7 and 10.8; the bounds, their errors and the order of
+-- faults are own).
 use Rattle.std.specs.Prelude.{◌≡◌, ℕ, Bool, true, false, ◌||◌, ◌&&◌, is_some, nat_lt, nat_le, List, [], ◌∷◌, ◌++◌}
 use Rattle.std.specs.Prelude.{length, Option, Some, None, Result, Ok, Err, ◌⊎◌, if◌then◌else◌}
 use Rattle.std.specs.List.{list_any}
 use Rattle.std.specs.Str.{bytes_eq}
 use Rattle.std.specs.Result.{result_map_both}
+use Rattle.sw_base.specs.Limits.{most_levels, most_bytes}
 use Rattle.sw_base.specs.declared.error.ScpiError.{ScpiError}
 use Rattle.sw_base.specs.declared.error.ScpiError.TheVariants.{MacroRecursionError}
 use Rattle.sw_lex.specs.Unit.{Heading, common, path, UnitView, IsUnit, IsRefused, IsBlank, IsWritten}
 use Rattle.sw_macro.specs.Label.{is_label, in_capitals}
 use Rattle.sw_macro.specs.Table.{Macro, Table, body_of}
-use Rattle.sw_macro.specs.Filling.{longest, put_in}
+use Rattle.sw_macro.specs.Filling.{put_in}
 
 -- ---- the macro that a unit calls
 
@@ -36,24 +37,24 @@ calls t unit = t.on && is_some (called t.macros unit)
 
 -- ---- its body in the unit's place
 
-abbrev pub is_among : List ℕ → List (List ℕ) → Bool
-is_among label names = list_any (bytes_eq label) names
+abbrev pub is_one_of : List ℕ → List (List ℕ) → Bool
+is_one_of label names = list_any (bytes_eq label) names
 
 abbrev pub opening : List (List ℕ) → UnitView → ℕ → Option Macro → Result (Option Macro) ScpiError
 opening names unit n None = Ok None
 opening names unit n (Some m) =
-    if is_among m.0 names || nat_le 8 (length names) then Err MacroRecursionError
+    if is_one_of m.0 names || nat_le most_levels (length names) then Err MacroRecursionError
     else result_map_both (λ text. Some (m.0, text)) (λ e. e) (put_in unit.elements m.1 n)
 
--- The label and the filled body of the macro that a unit calls, or none where it calls none. The names are the labels in
--- whose bodies the unit stands, the outermost first; n bytes stand before it. A label inside its own body and a ninth
--- level are refused first.
+-- The label and the filled body of the macro that a unit calls, or none where it calls none. The names are the labels
+-- in whose bodies the unit stands, the outermost first; n bytes stand before it. A label inside its own body and a
+-- ninth level are refused first.
 abbrev pub opened : List Macro → List (List ℕ) → UnitView → ℕ → Result (Option Macro) ScpiError
 opened ms names unit n = opening names unit n (called ms unit)
 
 -- ---- a filled body, unit by unit
 
--- a unit in its place: what stands before it, itself as it is written, what stands between it and the rest, and the rest
+-- a unit in its place: what stands before it, itself as it is written, what stands between it and the rest, and that
 pub record Place : Type 0 where
   pub before : List ℕ
   pub unit : UnitView
@@ -62,7 +63,7 @@ pub record Place : Type 0 where
   pub rest : List ℕ
 
 -- the first unit of a text
-pub record Stands (text : List ℕ) (p : Place) : Type 0 where
+pub record IsFirstUnit (text : List ℕ) (p : Place) : Type 0 where
   pub reads : IsUnit text p.unit p.rest
   pub left : List ℕ
   pub writes : IsWritten text p.before p.unit p.written left
@@ -79,24 +80,24 @@ pub data Becomes (ms : List Macro) : List (List ℕ) → List ℕ → List ℕ �
       → Becomes ms names text sofar (Ok (sofar ++ text))
   -- a unit that calls no macro stays as it is written
   keeps : {names : List (List ℕ)} {text sofar : List ℕ} {p : Place} {r : Result (List ℕ) ScpiError}
-      → Stands text p
+      → IsFirstUnit text p
       → opened ms names p.unit (length (sofar ++ p.before)) ≡ Ok None
       → Becomes ms names p.rest (((sofar ++ p.before) ++ p.written) ++ p.between) r
       → Becomes ms names text sofar r
   -- a macro that can't be opened
   fails : {names : List (List ℕ)} {text sofar : List ℕ} {p : Place} {e : ScpiError}
-      → Stands text p
+      → IsFirstUnit text p
       → opened ms names p.unit (length (sofar ++ p.before)) ≡ Err e
       → Becomes ms names text sofar (Err e)
   -- a fault within the body of a macro
   stops : {names : List (List ℕ)} {text sofar : List ℕ} {p : Place} {m : Macro} {e : ScpiError}
-      → Stands text p
+      → IsFirstUnit text p
       → opened ms names p.unit (length (sofar ++ p.before)) ≡ Ok (Some m)
       → Becomes ms (names ++ m.0 ∷ []) m.1 (sofar ++ p.before) (Err e)
       → Becomes ms names text sofar (Err e)
   -- what the body of a macro becomes stands in the unit's place
   goes : {names : List (List ℕ)} {text sofar done : List ℕ} {p : Place} {m : Macro} {r : Result (List ℕ) ScpiError}
-      → Stands text p
+      → IsFirstUnit text p
       → opened ms names p.unit (length (sofar ++ p.before)) ≡ Ok (Some m)
       → Becomes ms (names ++ m.0 ∷ []) m.1 (sofar ++ p.before) (Ok done)
       → Becomes ms names p.rest (done ++ p.between) r
@@ -105,14 +106,15 @@ pub data Becomes (ms : List Macro) : List (List ℕ) → List ℕ → List ℕ �
 -- ---- the expansion of a unit
 
 -- the finished text is judged once more
-abbrev pub judged : Result (List ℕ) ScpiError → Result (List ℕ) ScpiError
-judged (Err e) = Err e
-judged (Ok text) = if nat_lt longest (length text) then Err MacroRecursionError else Ok text
+abbrev pub within_bound : Result (List ℕ) ScpiError → Result (List ℕ) ScpiError
+within_bound (Err e) = Err e
+within_bound (Ok text) = if nat_lt most_bytes (length text) then Err MacroRecursionError else Ok text
 
 abbrev pub Replaces : List Macro → Result (Option Macro) ScpiError → List ℕ → Result (List ℕ) ScpiError → Type 0
 Replaces ms (Err e) written r = r ≡ Err e
 Replaces ms (Ok None) written r = r ≡ Ok written
-Replaces ms (Ok (Some m)) written r = (text : Result (List ℕ) ScpiError) × Becomes ms (m.0 ∷ []) m.1 [] text × (r ≡ judged text)
+Replaces ms (Ok (Some m)) written r =
+    (text : Result (List ℕ) ScpiError) × Becomes ms (m.0 ∷ []) m.1 [] text × (r ≡ within_bound text)
 
 -- while macros are off no unit calls one
 abbrev pub opened_in : Table → UnitView → Result (Option Macro) ScpiError

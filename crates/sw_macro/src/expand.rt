@@ -4,27 +4,25 @@ ghost use Rattle.std.specs.Prelude.{◌≡◌, ◌≢◌, ◌<◌, ℕ, true, fa
 ghost use Rattle.std.specs.Prelude.{IfSome, IfNone, map, length, ◌⊎◌};
 ghost use Rattle.std.specs.Option.{option_map};
 ghost use Rattle.sw_base.specs.Memory.{Gives};
+ghost use Rattle.sw_base.specs.Limits.{most_levels};
 ghost use Rattle.sw_base.specs.declared.error.ScpiError.{ScpiError as Error};
 ghost use Rattle.sw_base.specs.declared.error.ScpiError.TheVariants.{OutOfMemory};
 ghost use Rattle.sw_lex.specs.Unit.{UnitView, unit_of, written_of};
 ghost use Rattle.sw_macro.specs.Table.{Table};
-ghost use Rattle.sw_macro.specs.Expansion.{called, calls, opened_in, is_among, opened, Stands, HasNoUnit, Becomes};
+ghost use Rattle.sw_macro.specs.Expansion.{called, calls, opened_in, is_one_of, opened, IsFirstUnit, HasNoUnit, Becomes};
 ghost use Rattle.sw_macro.specs.Expansion.{Expands};
-ghost use Rattle.sw_macro.specs.Placed.{place_of};
+ghost use Rattle.sw_macro.specs.Placed.{piece_seen, names_of};
 
-use crate::filling::{LONGEST, fill};
+use crate::filling::fill;
 use crate::label::Label;
 use crate::table::Macros;
 use arrayvec::ArrayVec;
 use std::alloc::Global;
-use sw_base::ScpiError;
+use sw_base::{MACRO_LEVELS, MESSAGE_BYTES, ScpiError};
 use sw_lex::{Header, RawUnit, gaps, next_unit};
 
-/// The most levels of an expansion.
-const LEVELS: usize = 8;
-
 /// The labels in whose bodies a unit stands, the outermost first.
-type Names = ArrayVec<Label, LEVELS>;
+type Names = ArrayVec<Label, MACRO_LEVELS>;
 
 /// The first unit of a text in its place.
 #[derive(Drop)]
@@ -39,13 +37,13 @@ struct Piece<'a> {
 
 /// The first unit of a text in its place; none where no unit can be read.
 fn first_unit(text: &[u8]) -> Option<Piece<'_>>
-    ensures some { IfSome result (λ p. Stands text.now (place_of p)) }
+    ensures some { IfSome result (λ p. IsFirstUnit text.now (piece_seen p)) }
     ensures shorter { IfSome result (λ p. length p.rest.now < length text.now) }
     ensures none { IfNone result (HasNoUnit text.now) }
 {
-    match next_unit(text) {
+    let (before, start) = gaps(text);
+    match next_unit(start) {
         Ok(Some((unit, rest))) => {
-            let (before, start) = gaps(text);
             let (_, left) = start.split_at(unit.text().len());
             let (between, _) = left.split_at(left.len() - rest.len());
             Some(Piece {
@@ -77,8 +75,8 @@ fn called<'a>(macros: &'a Macros, unit: &RawUnit<'_>) -> Option<(Label, &'a [u8]
 }
 
 /// Whether the label is one of these.
-fn is_among(label: &Label, names: &[Label]) -> bool
-    ensures { result ≡ is_among label.now.items (map (λ name. name.items) names.now) }
+fn is_one_of(label: &Label, names: &[Label]) -> bool
+    ensures { result ≡ is_one_of label.now.items (names_of names.now) }
 {
     for name in names {
         if label == name {
@@ -99,13 +97,14 @@ fn open(
     names: &[Label],
     before: usize,
 ) -> Result<Option<(Label, Vec<u8>)>, ScpiError>
-    ensures opened { Gives (λ o. option_map (λ m. (m.0.items, m.1.items)) o) result (opened macros.now.macros (map (λ name. name.items) names.now) (unit_of unit.now) before) }
-    ensures room { IfOk result (λ o. IfSome o (λ _. length names.now < 8)) }
+    ensures opened { Gives (λ o. option_map (λ m. (m.0.items, m.1.items)) o) result
+        (opened macros.now.macros (names_of names.now) (unit_of unit.now) before) }
+    ensures room { IfOk result (λ o. IfSome o (λ _. length names.now < most_levels)) }
 {
     match called(macros, unit) {
         None => Ok(None),
         Some((label, body)) => {
-            if is_among(&label, names) || names.len() >= LEVELS {
+            if is_one_of(&label, names) || names.len() >= MACRO_LEVELS {
                 return Err(ScpiError::MacroRecursionError);
             }
             let text = fill(alloc, body, unit, before)?;
@@ -122,9 +121,11 @@ fn write_body(
     names: &mut Names,
     out: &mut Vec<u8>,
 ) -> Result<(), ScpiError>
-    ensures ok { OnOk result (Becomes macros.now.macros (map (λ name. name.items) names.old.items) body.now out.old.items (Ok out.new.items)) }
+    ensures ok { OnOk result
+        (Becomes macros.now.macros (names_of names.old.items) body.now out.old.items (Ok out.new.items)) }
     ensures names { OnOk result (names.new ≡ names.old) }
-    ensures err { IfErr result (λ e. (e ≡ OutOfMemory) ⊎ Becomes macros.now.macros (map (λ name. name.items) names.old.items) body.now out.old.items (Err e)) }
+    ensures err { IfErr result (λ e. (e ≡ OutOfMemory)
+        ⊎ Becomes macros.now.macros (names_of names.old.items) body.now out.old.items (Err e)) }
 {
     let mut rest = body;
     'units: loop {
@@ -164,12 +165,13 @@ impl Macros {
     /// question mark, is replaced by the label's body, with each `$1` to `$9` replaced by that data element as it is
     /// written, and each unit of the body replaced in the same way. Any other unit gives its own text.
     ///
-    /// At each label, the outer first and from left to right: -276 for a label inside its own body and for a ninth level,
-    /// -274 for a missing element, -276 where the text so far and the body come to more than 65,536 bytes. The finished
-    /// text is judged once more. -225 where a growth is refused.
+    /// At each label, the outer first and from left to right: -276 for a label inside its own body and for a ninth
+    /// level, -274 for a missing element, -276 where the text so far and the body come to more than 65,536 bytes. The
+    /// finished text is judged once more. -225 where a growth is refused.
     pub fn expand(&self, alloc: Global, unit: &RawUnit<'_>) -> Result<Vec<u8>, ScpiError>
         ensures ok { IfOk result (λ text. Expands self.now (unit_of unit.now) (written_of unit.now) (Ok text.items)) }
-        ensures err { IfErr result (λ e. (e ≡ OutOfMemory) ⊎ Expands self.now (unit_of unit.now) (written_of unit.now) (Err e)) }
+        ensures err { IfErr result (λ e. (e ≡ OutOfMemory)
+            ⊎ Expands self.now (unit_of unit.now) (written_of unit.now) (Err e)) }
     {
         if !self.enabled() {
             return Ok(unit.text().to_vec(alloc)?);
@@ -181,7 +183,7 @@ impl Macros {
                 names.push(label);
                 let mut out = Vec::new(alloc);
                 write_body(self, alloc, body.as_slice(), &mut names, &mut out)?;
-                if out.len() > LONGEST {
+                if out.len() > MESSAGE_BYTES {
                     Err(ScpiError::MacroRecursionError)
                 } else {
                     Ok(out)
@@ -193,5 +195,6 @@ impl Macros {
 
 /// A law: no unit has two expansions, nor two first faults, nor an expansion and a fault.
 pub fn one_expansion()
-    ensures { (t : Table) (unit : UnitView) (written : List ℕ) (r s : Result (List ℕ) Error) → Expands t unit written r → Expands t unit written s → r ≡ s }
+    ensures { (t : Table) (unit : UnitView) (written : List ℕ) (r s : Result (List ℕ) Error)
+        → Expands t unit written r → Expands t unit written s → r ≡ s }
 {}

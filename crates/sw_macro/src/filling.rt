@@ -5,14 +5,11 @@ ghost use Rattle.std.specs.Option.{option_map};
 ghost use Rattle.sw_base.specs.Memory.{Gives};
 ghost use Rattle.sw_base.specs.declared.error.ScpiError.TheVariants.{MacroParameterError};
 ghost use Rattle.sw_lex.specs.Unit.{datum_of, datum_text, unit_of};
-ghost use Rattle.sw_macro.specs.Filling.{is_place, parameter, led_by, filled, put_in, IsDraft};
+ghost use Rattle.sw_macro.specs.Filling.{is_place, parameter, filled, put_in, PutsFor, IsDraft};
 
 use std::alloc::{AllocError, Global};
-use sw_base::{ScpiError, cut};
+use sw_base::{MESSAGE_BYTES, ScpiError, cut};
 use sw_lex::{Element, RawUnit};
-
-/// The most bytes of an expansion.
-pub const LONGEST: usize = 65_536;
 
 /// Whether the byte after a `$` names a data element.
 fn is_place(b: u8) -> bool
@@ -52,7 +49,7 @@ fn put_for<'a>(
     unit: &RawUnit<'a>,
 ) -> Result<(&'a [u8], &'a [u8]), ScpiError>
     requires whole { more.now ≡ first ∷ others.now }
-    ensures ok { IfOk result (λ x. filled (unit_of unit.now).elements (36 ∷ more.now) ≡ led_by x.0.now (filled (unit_of unit.now).elements x.1.now)) }
+    ensures ok { IfOk result (λ x. PutsFor (unit_of unit.now).elements more.now x.0.now x.1.now) }
     ensures shorter { IfOk result (λ x. length x.1.now ≤ length more.now) }
     ensures missing { IfErr result (λ e. filled (unit_of unit.now).elements (36 ∷ more.now) ≡ None) }
     ensures error { IfErr result (λ e. e ≡ MacroParameterError) }
@@ -68,7 +65,7 @@ fn put_for<'a>(
 
 /// What a `$` before these bytes puts into a body, and what follows it; -274 for a missing element.
 fn put_at_mark<'a>(more: &'a [u8], unit: &RawUnit<'a>) -> Result<(&'a [u8], &'a [u8]), ScpiError>
-    ensures ok { IfOk result (λ x. filled (unit_of unit.now).elements (36 ∷ more.now) ≡ led_by x.0.now (filled (unit_of unit.now).elements x.1.now)) }
+    ensures ok { IfOk result (λ x. PutsFor (unit_of unit.now).elements more.now x.0.now x.1.now) }
     ensures shorter { IfOk result (λ x. length x.1.now ≤ length more.now) }
     ensures missing { IfErr result (λ e. filled (unit_of unit.now).elements (36 ∷ more.now) ≡ None) }
     ensures error { IfErr result (λ e. e ≡ MacroParameterError) }
@@ -79,9 +76,11 @@ fn put_at_mark<'a>(more: &'a [u8], unit: &RawUnit<'a>) -> Result<(&'a [u8], &'a 
     }
 }
 
-/// Appends the bytes where there is room for so many more, and gives the room that is left; none where there isn't enough.
+/// Appends the bytes where there is room for so many more, and gives the room that is left; none where there isn't
+/// enough.
 fn put(text: &mut Vec<u8>, bytes: &[u8], room: Option<usize>) -> Result<Option<usize>, AllocError>
-    ensures { (n : ℕ) (whole : List ℕ) → IsDraft n whole text.old.items room → IfOk result (λ left. IsDraft n (whole ++ bytes.now) text.new.items left) }
+    ensures { (n : ℕ) (whole : List ℕ) → IsDraft n whole text.old.items room
+        → IfOk result (λ left. IsDraft n (whole ++ bytes.now) text.new.items left) }
 {
     match room {
         None => Ok(None),
@@ -107,7 +106,7 @@ pub fn fill<'a>(
     ensures { Gives (λ text. text.items) result (put_in (unit_of unit.now).elements body.now before) }
 {
     let mut text = Vec::new(alloc);
-    let mut room = LONGEST.checked_sub(before);
+    let mut room = MESSAGE_BYTES.checked_sub(before);
     let mut rest = body;
     'parts: loop {
         match cut(rest, b'$') {

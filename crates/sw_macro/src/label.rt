@@ -1,18 +1,15 @@
 //! Labels of macros.
 
-ghost use Rattle.std.specs.Prelude.{◌≡◌, ◌&&◌, nat_lt, length, true, false, IfSome, IfNone};
+ghost use Rattle.std.specs.Prelude.{◌≡◌, ◌∷◌, true, false, IfSome, IfNone};
 ghost use Rattle.std.specs.List.{list_all};
-ghost use Rattle.sw_base.specs.Text.{is_letter, is_word};
+ghost use Rattle.sw_base.specs.Text.{is_word};
 ghost use Rattle.sw_macro.specs.Label.{is_label, in_capitals};
 
 use arrayvec::ArrayVec;
-use sw_base::{is_letter, words};
-
-/// The most bytes of a label.
-pub const LONGEST_LABEL: usize = 12;
+use sw_base::{MNEMONIC_BYTES, is_letter, words};
 
 /// A label in capitals.
-pub type Label = ArrayVec<u8, LONGEST_LABEL>;
+pub type Label = ArrayVec<u8, MNEMONIC_BYTES>;
 
 /// Whether the bytes are letters, digits and underscores.
 fn all_words(bytes: &[u8]) -> bool
@@ -24,9 +21,9 @@ fn all_words(bytes: &[u8]) -> bool
 
 /// Whether the byte and the others are a label.
 fn is_label_of(first: u8, others: &[u8]) -> bool
-    ensures { result ≡ (is_letter first && (list_all is_word others.now && nat_lt (length others.now) 12)) }
+    ensures { result ≡ is_label (first ∷ others.now) }
 {
-    is_letter(first) && all_words(others) && others.len() < LONGEST_LABEL
+    is_letter(first) && others.len() < MNEMONIC_BYTES && all_words(others)
 }
 
 /// Whether the bytes are a label: a letter, and then letters, digits or underscores, 1 to 12 bytes.

@@ -1,30 +1,27 @@
 //! The macros that a session has defined.
 
-ghost use Rattle.std.specs.Prelude.{◌≡◌, ◌++◌, ◌∷◌, [], None, Some, is_some, length, slice_get, IfOk, IfErr, OnOk};
-ghost use Rattle.std.specs.Prelude.{OnErr};
-ghost use Rattle.sw_base.specs.declared.error.ScpiError.TheVariants.{OutOfMemory};
+ghost use Rattle.std.specs.Prelude.{◌≡◌, ◌≤◌, ◌<◌, ◌++◌, ◌∷◌, [], false, None, Some, is_some, length, slice_get};
+ghost use Rattle.std.specs.Prelude.{IfOk, IfErr, OnOk, OnErr, IfSome};
+ghost use Rattle.sw_base.specs.declared.error.ScpiError.TheVariants.{MacroHeaderNotFound, OutOfMemory};
 ghost use Rattle.std.specs.Option.{option_map};
 ghost use Rattle.sw_macro.specs.Label.{in_capitals};
 ghost use Rattle.sw_macro.specs.Expansion.{macro_at};
-ghost use Rattle.sw_macro.specs.Table.{no_macros, body_of, without, labels, with_macro, without_macro};
+ghost use Rattle.sw_base.specs.Limits.{most_macros, longest_body};
+ghost use Rattle.sw_macro.specs.Table.{no_macros, body_of, without_label, labels, with_macro, without_macro};
+ghost use Rattle.sw_macro.specs.Table.{IsMacro, IsTable};
 ghost use Rattle.sw_macro.specs.Table.{refusal_to_define, refusal_to_find, RefusedBy};
 
 use crate::label::{Label, read_label};
 use indexmap::IndexMap;
 use std::alloc::Global;
 use std::marker::Model;
-use sw_base::{ScpiError, Sequence};
-
-/// The most bytes of a body.
-const LONGEST_BODY: usize = 4096;
-
-/// The most macros of a session.
-const MOST: usize = 64;
+use sw_base::{BODY_BYTES, MACROS, ScpiError, Sequence};
 
 /// The macros of a session.
 ///
-/// Contracts see the definitions that were taken and not removed or purged since, in order, each a label in capitals and
-/// a body, and whether macros are on.
+/// Contracts see the definitions that were taken and not removed or purged since, in order, each a label in capitals
+/// and a body, and whether macros are on. No label is there twice, there are at most 64 macros, and no body has more
+/// than 4,096 bytes.
 #[derive(Drop)]
 pub struct Macros {
     macros: IndexMap<Label, Sequence<u8>>,
@@ -32,13 +29,15 @@ pub struct Macros {
 }
 
 impl Model for Macros {
-    ghost use Rattle.sw_macro.specs.Table.{Table};
+    ghost use Rattle.sw_macro.specs.Table.{Table, IsTable};
 
     ghost Value = { Table };
 
-    ghost use Rattle.sw_macro.specs.Seen.{table_of};
+    ghost use Rattle.sw_macro.specs.Seen.{table_of, macros_in};
 
     ghost view = { table_of };
+
+    ghost invariant = { λ m. IsTable (macros_in m.macros.entries) };
 }
 
 impl Macros {
@@ -52,8 +51,8 @@ impl Macros {
         }
     }
 
-    /// Defines a macro (`*DMC`). In this order: -273 for what is no label, -275 for a body of more than 4,096 bytes, -277
-    /// for a label that is defined, -223 for a 65th macro, -225 for want of memory.
+    /// Defines a macro (`*DMC`). In this order: -273 for what is no label, -275 for a body of more than 4,096 bytes,
+    /// -277 for a label that is defined, -223 for a 65th macro, -225 for want of memory.
     pub fn define(&mut self, alloc: Global, label: &[u8], body: &[u8]) -> Result<(), ScpiError>
         ensures taken { OnOk result (refusal_to_define self.old label.now body.now ≡ None) }
         ensures defined { OnOk result (self.new ≡ with_macro self.old label.now body.now) }
@@ -64,22 +63,24 @@ impl Macros {
             Some(key) => key,
             None => return Err(ScpiError::IllegalMacroLabel),
         };
-        if body.len() > LONGEST_BODY {
+        if body.len() > BODY_BYTES {
             return Err(ScpiError::MacroDefinitionTooLong);
         }
         if self.found(&key).is_some() {
             return Err(ScpiError::MacroRedefinitionNotAllowed);
         }
-        if self.len() >= MOST {
+        if self.len() >= MACROS {
             return Err(ScpiError::TooMuchData);
         }
         self.append(alloc, key, body)
     }
 
-    /// Removes a macro (`*RMC`). In this order: -273 for what is no label, -278 for one that isn't defined.
+    /// Removes a macro (`*RMC`), so that its label is not defined any more. In this order: -273 for what is no label,
+    /// -278 for one that isn't defined.
     pub fn remove(&mut self, label: &[u8]) -> Result<(), ScpiError>
         ensures taken { OnOk result (refusal_to_find self.old label.now ≡ None) }
         ensures removed { OnOk result (self.new ≡ without_macro self.old label.now) }
+        ensures gone { OnOk result (refusal_to_find self.new label.now ≡ Some MacroHeaderNotFound) }
         ensures refused { IfErr result (λ e. refusal_to_find self.old label.now ≡ Some e) }
         ensures kept { OnErr result (self.new ≡ self.old) }
     {
@@ -105,6 +106,7 @@ impl Macros {
     /// The body of a macro (`*GMC?`). In this order: -273 for what is no label, -278 for one that isn't defined.
     pub fn body(&self, label: &[u8]) -> Result<&[u8], ScpiError>
         ensures found { IfOk result (λ body. body_of (in_capitals label.now) self.now.macros ≡ Some body.now) }
+        ensures short { IfOk result (λ body. length body.now ≤ longest_body) }
         ensures taken { OnOk result (refusal_to_find self.now label.now ≡ None) }
         ensures refused { IfErr result (λ e. refusal_to_find self.now label.now ≡ Some e) }
     {
@@ -117,9 +119,10 @@ impl Macros {
         }
     }
 
-    /// How many macros are defined.
+    /// How many macros are defined. Of every session's macros no two have one label, and none is beyond the limits.
     pub fn len(&self) -> usize
-        ensures { result ≡ length self.now.macros }
+        ensures count { result ≡ length self.now.macros }
+        ensures limits { IsTable self.now.macros }
     {
         self.macros.len()
     }
@@ -163,7 +166,8 @@ impl Macros {
 
     /// The body of the macro with this label.
     fn found(&self, key: &Label) -> Option<&[u8]>
-        ensures { option_map (λ body. body.now) result ≡ body_of key.now.items self.now.macros }
+        ensures value { option_map (λ body. body.now) result ≡ body_of key.now.items self.now.macros }
+        ensures short { IfSome result (λ body. length body.now ≤ longest_body) }
     {
         match self.macros.get(key) {
             None => None,
@@ -173,8 +177,11 @@ impl Macros {
 
     /// Adds a macro with a label that isn't defined, as the last.
     fn append(&mut self, alloc: Global, key: Label, body: &[u8]) -> Result<(), ScpiError>
-        requires { body_of key.items self.old.macros ≡ None }
-        ensures added { OnOk result (self.new ≡ record self.old { macros = self.old.macros ++ (key.items, body.now) ∷ [] }) }
+        requires absent { body_of key.items self.old.macros ≡ None }
+        requires room { length self.old.macros < most_macros }
+        requires good { IsMacro (key.items, body.now) }
+        ensures added { OnOk result
+            (self.new ≡ record self.old { macros = self.old.macros ++ (key.items, body.now) ∷ [] }) }
         ensures kept { OnErr result (self.new ≡ self.old) }
         ensures error { IfErr result (λ e. e ≡ OutOfMemory) }
     {
@@ -186,7 +193,9 @@ impl Macros {
     /// Removes the macro with this label, and answers whether there was one.
     fn take_out(&mut self, key: &Label) -> bool
         ensures found { result ≡ is_some (body_of key.now.items self.old.macros) }
-        ensures removed { self.new ≡ record self.old { macros = without key.now.items self.old.macros } }
+        ensures removed { self.new ≡ record self.old { macros = without_label key.now.items self.old.macros } }
+        ensures gone { body_of key.now.items self.new.macros ≡ None }
+        ensures kept { result ≡ false → self.new ≡ self.old }
     {
         self.macros.shift_remove(key).is_some()
     }

@@ -1,6 +1,7 @@
 -- What the record of StatusModel promises, in the words of those who read a status.
 use Rattle.std.specs.Prelude.{◌≡◌, ℕ, ◌+◌, ◌-◌, ◌^◌, ◌<◌, ◌≤◌, ◌↔◌, Bool, true, false, nat_lt, nat_le, Some, List, []}
 use Rattle.std.specs.Prelude.{◌∷◌, ◌++◌, length, take, slice_get, if◌then◌else◌}
+use Rattle.sw_base.specs.Limits.{most_errors}
 use Rattle.sw_base.specs.declared.error.ScpiError.{ScpiError}
 use Rattle.sw_base.specs.declared.error.ScpiError.TheVariants.{QueueOverflow}
 use Rattle.sw_base.specs.declared.terms.StatusGroup.{StatusGroup}
@@ -10,17 +11,18 @@ use Rattle.sw_status.specs.Registers.{group_conditioned}
 use Rattle.sw_status.specs.StatusModel.{StatusSeen, IsStatus, queued, pushed, popped, cleared, preset, enabled}
 use Rattle.sw_status.specs.StatusModel.{with_group, byte_of, asking_of, event_ended, IsSettled}
 
--- Each entry of the queue after an error is what stands in its place once the error is put behind the others, or is the
--- 32nd and -350, in a queue that was full; and there are at most 32.
+-- Each entry of the queue after an error is what stands in its place once the error is put behind the others, or is
+-- the last there is room for and -350, in a queue that was full; and there are never more.
 pub record LosesOnlyToOverflow (errors : List ScpiError) (e : ScpiError) : Type 0 where
-  pub oldest : take 31 (queued errors e) ≡ take 31 (errors ++ e ∷ [])
-  pub newest : length errors < 32 → queued errors e ≡ errors ++ e ∷ []
-  pub full : length errors ≡ 32 → slice_get (queued errors e) 31 ≡ Some QueueOverflow
-  pub most : length errors ≤ 32 → length (queued errors e) ≤ 32
+  pub oldest : take (most_errors - 1) (queued errors e) ≡ take (most_errors - 1) (errors ++ e ∷ [])
+  pub newest : length errors < most_errors → queued errors e ≡ errors ++ e ∷ []
+  pub full : length errors ≡ most_errors → slice_get (queued errors e) (most_errors - 1) ≡ Some QueueOverflow
+  pub most : length errors ≤ most_errors → length (queued errors e) ≤ most_errors
 
--- what a queue that nobody reads holds once these errors came: all of them, or the first 31 and -350
+-- what a queue that nobody reads holds once these errors came: all of them, or where they are too many the first of
+-- them and -350 as the newest
 abbrev pub held_of : List ScpiError → List ScpiError
-held_of came = if nat_le (length came) 32 then came else take 31 came ++ QueueOverflow ∷ []
+held_of came = if nat_le (length came) most_errors then came else take (most_errors - 1) came ++ QueueOverflow ∷ []
 
 -- each bit of the status byte; bits 0 and 1 aren't used
 pub record TellsEachBit (s : StatusSeen) (mav : Bool) : Type 0 where

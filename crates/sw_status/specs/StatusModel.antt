@@ -4,6 +4,7 @@ use Rattle.std.specs.Prelude.{List, [], ◌∷◌, ◌++◌, length, take, drop,
 use Rattle.sw_base.specs.declared.error.ScpiError.{ScpiError}
 use Rattle.sw_base.specs.declared.error.ScpiError.TheVariants.{QueueOverflow}
 use Rattle.sw_base.specs.Errors.{event_bit_of}
+use Rattle.sw_base.specs.Limits.{most_errors}
 use Rattle.sw_status.specs.Registers.{GroupSeen, IsGroup, first_group, event_taken, group_preset, group_summary}
 use Rattle.sw_status.specs.Registers.{register, has_bit, share_bit}
 use Rattle.sw_base.specs.declared.terms.StatusGroup.{StatusGroup}
@@ -36,11 +37,12 @@ first_status = record {
 
 -- the queue has room
 abbrev pub has_room : List ScpiError → Bool
-has_room errors = nat_lt (length errors) 32
+has_room errors = nat_lt (length errors) most_errors
 
--- the queue after an error: where it doesn't fit, the 31 oldest stay and the newest entry becomes -350
+-- the queue after an error: where it doesn't fit, the newest entry becomes -350 and the older ones stay (the room is
+-- own; SCPI-1999, 21.8.1, asks for two at least)
 unfoldable pub queued : List ScpiError → ScpiError → List ScpiError
-queued errors e = if has_room errors then errors ++ e ∷ [] else take 31 errors ++ QueueOverflow ∷ []
+queued errors e = if has_room errors then errors ++ e ∷ [] else take (most_errors - 1) errors ++ QueueOverflow ∷ []
 
 -- a register with bit k set too
 abbrev pub with_bit : ℕ → ℕ → ℕ
@@ -91,8 +93,8 @@ flag_of k on = if on then 2 ^ k else 0
 -- event status register, bit 7 for OPERation.
 unfoldable pub summary_of : StatusSeen → ℕ
 summary_of s =
-    flag_of 2 (nat_lt 0 (length s.errors)) + flag_of 3 (group_summary s.questionable) + flag_of 5 (share_bit s.esr s.ese)
-    + flag_of 7 (group_summary s.operation)
+    flag_of 2 (nat_lt 0 (length s.errors)) + flag_of 3 (group_summary s.questionable)
+    + flag_of 5 (share_bit s.esr s.ese) + flag_of 7 (group_summary s.operation)
 
 -- The status byte: bit 4 where a message is available, and bit 6 where a bit of it is enabled by *SRE.
 unfoldable pub byte_of : StatusSeen → Bool → ℕ
@@ -126,7 +128,7 @@ IsSettled s = s.asking ≡ asking_of s
 
 -- what holds of every status
 pub record IsStatus (s : StatusSeen) : Type 0 where
-  pub errors : length s.errors ≤ 32
+  pub errors : length s.errors ≤ most_errors
   pub operation : IsGroup s.operation
   pub questionable : IsGroup s.questionable
   pub requests : s.requests < 2 ^ 56

@@ -1,6 +1,7 @@
 //! The status that all sessions share.
 
 ghost use Rattle.std.specs.Prelude.{◌≡◌, ◌<◌, ◌≤◌, ◌^◌, ◌++◌, ◌∷◌, [], length, slice_get, IfOk};
+ghost use Rattle.sw_base.specs.Limits.{most_errors};
 ghost use Rattle.sw_status.specs.Registers.{group_conditioned, event_taken, with_enable, with_ptr, with_ntr};
 ghost use Rattle.sw_status.specs.StatusModel.{first_status, pushed, popped, cleared, preset, enabled, group_of};
 ghost use Rattle.sw_status.specs.StatusModel.{with_group, with_bit, summary_of, byte_of, event_ended, counted_of};
@@ -10,10 +11,7 @@ use crate::group::Group;
 use std::alloc::{AllocError, Global};
 use std::marker::Model;
 use std::mem;
-use sw_base::{ScpiError, StatusGroup};
-
-/// The queue's room (own choice; SCPI-1999, 21.8.1 asks for two at least).
-const QUEUE_ROOM: usize = 32;
+use sw_base::{QUEUED_ERRORS, ScpiError, StatusGroup};
 
 /// The greatest count of service requests, which it keeps.
 const MOST_REQUESTS: u64 = 0xff_ffff_ffff_ffff;
@@ -38,6 +36,7 @@ pub struct Status {
 
 impl Model for Status {
     ghost use Rattle.std.specs.Prelude.{◌≤◌, ◌<◌, ◌^◌, vec_len, vec_capacity};
+    ghost use Rattle.sw_base.specs.Limits.{most_errors};
     ghost use Rattle.sw_status.specs.StatusModel.{StatusSeen};
 
     ghost Value = { StatusSeen };
@@ -53,7 +52,8 @@ impl Model for Status {
       requests = s.requests;
     } };
 
-    ghost invariant = { λ s. (32 ≤ vec_capacity s.errors) × (vec_len s.errors ≤ 32) × (s.requests < 2 ^ 56) };
+    ghost invariant = { λ s.
+        (most_errors ≤ vec_capacity s.errors) × (vec_len s.errors ≤ most_errors) × (s.requests < 2 ^ 56) };
 }
 
 impl Status {
@@ -62,7 +62,7 @@ impl Status {
         ensures { IfOk result (λ s. s ≡ first_status) }
     {
         Ok(Status {
-            errors: Vec::with_capacity(alloc, QUEUE_ROOM)?,
+            errors: Vec::with_capacity(alloc, QUEUED_ERRORS)?,
             esr: POWER_ON,
             ese: 0,
             sre: 0,
@@ -89,11 +89,11 @@ impl Status {
         ensures { self.new ≡ pushed self.old error }
     {
         self.esr |= 1 << error.event_bit();
-        if self.errors.len() < QUEUE_ROOM {
+        if self.errors.len() < QUEUED_ERRORS {
             self.errors.push_reserved(error);
         } else {
             self.esr |= 1 << ScpiError::QueueOverflow.event_bit();
-            self.errors.truncate(QUEUE_ROOM - 1);
+            self.errors.truncate(QUEUED_ERRORS - 1);
             self.errors.push_reserved(ScpiError::QueueOverflow);
         }
     }
@@ -113,7 +113,7 @@ impl Status {
     /// The queue, the oldest error first.
     pub fn all_errors(&self) -> &[ScpiError]
         ensures value { result.now ≡ self.now.errors }
-        ensures most { length result.now ≤ 32 }
+        ensures most { length result.now ≤ most_errors }
     {
         self.errors.as_slice()
     }
@@ -128,7 +128,7 @@ impl Status {
     /// The number of errors in the queue, at most 32.
     pub fn count(&self) -> usize
         ensures value { result ≡ length self.now.errors }
-        ensures most { result ≤ 32 }
+        ensures most { result ≤ most_errors }
     {
         self.errors.len()
     }

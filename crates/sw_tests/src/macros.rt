@@ -1,10 +1,10 @@
 //! Macros at their limits, and expansions.
 
-use sw_macro::Macros;
 use std::alloc::{AllocError, Global};
 use std::test::Fail;
 use sw_base::ScpiError;
 use sw_lex::next_unit;
+use sw_macro::Macros;
 
 /// What the first unit of a message becomes.
 fn expanded(alloc: Global, macros: &Macros, message: &[u8]) -> Result<Vec<u8>, ScpiError> {
@@ -208,33 +208,5 @@ fn expands_to_65536_bytes(rt: HostRuntime) -> Result<(), Fail> {
         expanded(alloc, &macros, b"D").err(),
         Some(ScpiError::MacroRecursionError)
     );
-    Ok(())
-}
-
-#[test]
-fn refuses_doubling_at_once(rt: HostRuntime) -> Result<(), Fail> {
-    let alloc = rt.alloc();
-    let mut macros = Macros::new(alloc);
-    let doubled = b"$1$1$1$1$1$1$1$1$1$1$1$1$1$1$1$1";
-    macros.define(alloc, b"M08", doubled.as_slice())?;
-    for n in 1..8u8 {
-        let next = numbered(n + 1);
-        let body = [
-            b'M', next[1], next[2], b' ', b'$', b'1', b';', b'M', next[1], next[2], b' ', b'$',
-            b'1',
-        ];
-        macros.define(alloc, numbered(n).as_slice(), body.as_slice())?;
-    }
-    macros.enable(true);
-    assert_eq!(rt;
-        expanded(alloc, &macros, b"M02 12345678901234567890")?.len(),
-        20_543
-    );
-    let long = expanded(
-        alloc,
-        &macros,
-        b"M01 123456789012345678901234567890123456789012345678901234567890",
-    );
-    assert_eq!(rt; long.err(), Some(ScpiError::MacroRecursionError));
     Ok(())
 }

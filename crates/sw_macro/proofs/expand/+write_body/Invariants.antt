@@ -1,4 +1,5 @@
-use Rattle.std.proofs.Common.{◌≡◌, ◌-◌, length, map}
+use Rattle.std.proofs.Common.{◌≡◌, ◌-◌, length}
+use Rattle.sw_macro.specs.Placed.{names_of}
 use Rattle.sw_macro.proofs.Expansions.{Onward}
 use Rattle.sw_macro.proofs.expand.+write_body.Given as goal
 
@@ -8,7 +9,7 @@ decreases-write_body l = 8 - length l.names.now.items
 abbrev pub invariant-units : goal.invariant-units
 invariant-units l = record {
   names : l.names ≡ l.fn.names;
-  onward : Onward l.macros.macros (map (λ name. name.items) l.fn.names.items) l.body l.fn.out.items l.rest l.out.items;
+  onward : Onward l.macros.macros (names_of l.fn.names.items) l.body l.fn.out.items l.rest l.out.items;
 }
 
 abbrev pub decreases-units : goal.decreases-units

@@ -33,7 +33,9 @@ returns-in_err-bytes-in-Some c =
     let body = c.args.body.now in
     let p = err_from_is_err_and c.from_residual-in_err-bytes-in-Some.result c.from_residual-in_err-bytes-in-Some.ensures.1 in
     let f = c.in-Some.ensures.found in
-    rw (p.1, p.2) (inr (missing c.args.before ds body (filled_missing ds body c.parts.rest.now d.whole c.in-Some.front.now c.in-Some.more.now d.onward f.1 f.0 c.in_err-bytes-in-Some.ensures.missing) ∙ ap (λ (x : ScpiError). Err x) (sym c.in_err-bytes-in-Some.ensures.error)))
+    let none = filled_missing ds body c.parts.rest.now d.whole c.in-Some.front.now c.in-Some.more.now d.onward f.1 f.0
+    c.in_err-bytes-in-Some.ensures.missing in
+    rw (p.1, p.2) (inr (missing c.args.before ds body none ∙ ap (λ (x : ScpiError). Err x) (sym c.in_err-bytes-in-Some.ensures.error)))
 
 pub parts-preserved : goal.parts-preserved
 parts-preserved c =
@@ -46,5 +48,6 @@ parts-preserved c =
     record {
       whole = (d.whole ++ front) ++ c.in_ok-bytes-in-Some.bytes.now;
       draft = c.in_ok-room-in-Some-2.ensures n (d.whole ++ front) (c.in_ok-room-in-Some.ensures n d.whole d.draft);
-      onward = filled_more ds body c.parts.rest.now d.whole front c.in-Some.more.now c.in_ok-bytes-in-Some.bytes.now c.in_ok-bytes-in-Some.others.now d.onward f.1 f.0 c.in_ok-bytes-in-Some.ensures.ok;
+      onward = filled_more ds body c.parts.rest.now d.whole front c.in-Some.more.now c.in_ok-bytes-in-Some.bytes.now c.in_ok-bytes-in-Some.others.now d.onward
+          f.1 f.0 c.in_ok-bytes-in-Some.ensures.ok;
     }
