@@ -1,48 +1,70 @@
--- What is told doesn't depend on the cuts.
-use Rattle.std.proofs.Common.{◌≡◌, ℕ, ◌<◌, List, [], ◌∷◌, ◌++◌, map, refl, sym, ap, ap₂, ◌∙◌, arith, inl, inr, subst, Err, Result}
+-- What is told doesn't depend on the cuts, and what is left is no whole message.
+use Rattle.std.proofs.Common.{◌≡◌, ℕ, ◌+◌, ◌<◌, List, [], ◌∷◌, ◌++◌, length, map, take, sym, ap, ap₂, ◌∙◌}
+use Rattle.std.proofs.Common.{length-append, arith, inl, inr, subst, Err, Result}
 use Rattle.sw_hislip.specs.declared.header.Header.{Header}
 use Rattle.sw_hislip.specs.declared.kind.Kind.{Kind}
 use Rattle.sw_hislip.specs.declared.message.Message.{Message}
-use Rattle.sw_hislip.specs.Wire.{header, Begins}
-use Rattle.sw_hislip.specs.Pending.{Pending, longest, Waits}
-use Rattle.sw_hislip.specs.Stream.{told_of, Call, stream_of, told, IsStream, Stands, Skips, Follows, CutsDoNotMatter}
-use Rattle.sw_hislip.proofs.Streams.{one_header, short_rest, waits_rest, partial_rest, stream_is_one}
+use Rattle.sw_hislip.specs.Wire.{header, HasHeader}
+use Rattle.sw_hislip.specs.Pending.{Pending, DecoderSeen, longest_payload, Waits}
+use Rattle.sw_hislip.specs.Stream.{told_of, Call, stream_of, told, IsRest, IsSkipped, Leaves, Follows, Rests}
+use Rattle.sw_hislip.specs.Stream.{LeavesARest, TellAlike, CutsDoNotMatter, RoomIsBounded}
+use Rattle.sw_hislip.proofs.Streams.{one_header, short_rest, rests_rest, partial_rest, stream_is_one}
 use Rattle.sw_hislip.proofs.Runs.{every_one}
 
-stands_stream : (bytes : List ℕ) (t : List (Result Message Kind)) (p : Pending) → (s : Stands bytes t p) → Waits p.bytes → IsStream bytes s.messages p.bytes
-stands_stream bytes t p s w = record { whole = s.whole; each = s.each; partial = waits_rest p.bytes w }
+rest_is : (ms : List Message) (rest : List ℕ) (t : List (Result Message Kind)) (p : Pending) → Leaves ms rest t p → Rests p.bytes → IsRest rest
+rest_is ms rest t p (inl (told_is, same)) r = subst IsRest (ap (λ (q : Pending). q.bytes) same) (rests_rest p.bytes r)
+rest_is ms rest t p (inr (kind, s, told_is, none)) r = partial_rest rest s.h s.got s.begins (omega (arith, s.missing, s.some))
 
-skips_begins : (bytes : List ℕ) (t : List (Result Message Kind)) (p : Pending) → (s : Skips bytes t p) → Begins (header s.h ++ s.got) s.h s.got
-skips_begins bytes t p s = record { whole = refl; proper = s.proper }
+pub left_is : (bytes : List ℕ) (t : List (Result Message Kind)) (p : Pending) → LeavesARest bytes t p
+left_is bytes t p f r = record { whole = f.whole; each = f.each; partial = rest_is f.messages f.rest t p f.leaves r }
 
-skips_stream : (bytes : List ℕ) (t : List (Result Message Kind)) (p : Pending) → (s : Skips bytes t p) → IsStream bytes s.messages (header s.h ++ s.got)
-skips_stream bytes t p s =
-    record { whole = s.whole; each = s.each; partial = partial_rest (header s.h ++ s.got) s.h s.got (skips_begins bytes t p s) (omega (arith, s.missing, s.some)) }
-
--- what waits is no front of a large payload
-not_large : (bytes : List ℕ) (h : Header) (got : List ℕ) → Waits bytes → Begins bytes h got → longest < h.length → ⊥
-not_large bytes h got (inl short) b large = short_rest bytes h got short b.whole
-not_large bytes h got (inr l) b large =
+-- where a decoder rests stands no front of a large payload
+not_large : (bytes : List ℕ) (h : Header) (got : List ℕ) → Rests bytes → HasHeader bytes h got → longest_payload < h.length → ⊥
+not_large bytes h got (inl (inl short)) b large = short_rest bytes h got short b.whole
+not_large bytes h got (inl (inr l)) b large =
     let same : l.h.length ≡ h.length = ap (λ (g : Header). g.length) (one_header bytes l.h h l.got got l.begins b).0 in
     absurd (omega (arith, same, large, l.fits))
+not_large bytes h got (inr prologue) b large = prologue.wrong (ap (take 2) b.whole)
 
-apart : (bytes : List ℕ) (t u : List (Result Message Kind)) (p q : Pending) → Waits p.bytes → Stands bytes t p → Skips bytes u q → ⊥
-apart bytes t u p q w s k =
-    let both = stream_is_one bytes s.messages k.messages p.bytes (header k.h ++ k.got) (stands_stream bytes t p s w) (skips_stream bytes u q k) in
-    not_large p.bytes k.h k.got w (record { whole = both.1; proper = k.proper }) k.large
+apart : (p : Pending) (rest : List ℕ) (kind : Kind) (skip : ℕ) → Rests p.bytes → p.bytes ≡ rest → IsSkipped rest kind skip → ⊥
+apart p rest kind skip r same s = not_large rest s.h s.got (subst Rests same r) s.begins s.large
 
-same_told : (bytes : List ℕ) (t u : List (Result Message Kind)) (p q : Pending) → Follows bytes t p → Follows bytes u q → Waits p.bytes → Waits q.bytes → t ≡ u
-same_told bytes t u p q (inl s) (inl k) v w =
-    let both = stream_is_one bytes s.messages k.messages p.bytes q.bytes (stands_stream bytes t p s v) (stands_stream bytes u q k w) in
-    s.told_is ∙ ap (map told_of) both.0 ∙ sym k.told_is
-same_told bytes t u p q (inl s) (inr k) v w = absurd (apart bytes t u p q v s k)
-same_told bytes t u p q (inr s) (inl k) v w = absurd (apart bytes u t q p w k s)
-same_told bytes t u p q (inr s) (inr k) v w =
-    let both = stream_is_one bytes s.messages k.messages (header s.h ++ s.got) (header k.h ++ k.got) (skips_stream bytes t p s) (skips_stream bytes u q k) in
-    let one = one_header (header s.h ++ s.got) s.h k.h s.got k.got (skips_begins bytes t p s) (record { whole = both.1; proper = k.proper }) in
-    s.told_is ∙ ap₂ (λ (ms : List Message) (h : Header). map told_of ms ++ Err h.kind ∷ []) both.0 one.0 ∙ sym k.told_is
+same_skipped : (p q : Pending) (rest : List ℕ) (kind other : Kind) → p.bytes ≡ [] → q.bytes ≡ [] → IsSkipped rest kind p.skip → IsSkipped rest other q.skip
+    → (kind ≡ other) × (p ≡ q)
+same_skipped p q rest kind other none empty s k =
+    let one = one_header rest s.h k.h s.got k.got s.begins k.begins in
+    let size : s.h.length ≡ k.h.length = ap (λ (g : Header). g.length) one.0 in
+    let got : length s.got ≡ length k.got = ap length one.1 in
+    let skip : p.skip ≡ q.skip = omega (arith, size, got, s.missing, k.missing) in (
+      sym s.kind_is ∙ ap (λ (g : Header). g.kind) one.0 ∙ k.kind_is,
+      ap₂ (λ (b : List ℕ) (n : ℕ). let x : Pending = record { bytes = b; skip = n } in x) (none ∙ sym empty) skip,
+    )
+
+same_left : (ms : List Message) (rest : List ℕ) (t u : List (Result Message Kind)) (p q : Pending) → Leaves ms rest t p → Leaves ms rest u q
+    → Rests p.bytes → Rests q.bytes → (t ≡ u) × (p ≡ q)
+same_left ms rest t u p q (inl (told_p, is_p)) (inl (told_q, is_q)) r v = (told_p ∙ sym told_q, is_p ∙ sym is_q)
+same_left ms rest t u p q (inl (told_p, is_p)) (inr (kind, s, told_q, none)) r v = absurd (apart p rest kind q.skip r (ap (λ (x : Pending). x.bytes) is_p) s)
+same_left ms rest t u p q (inr (kind, s, told_p, none)) (inl (told_q, is_q)) r v = absurd (apart q rest kind p.skip v (ap (λ (x : Pending). x.bytes) is_q) s)
+same_left ms rest t u p q (inr (kind, s, told_p, none)) (inr (other, k, told_q, empty)) r v =
+    let both = same_skipped p q rest kind other none empty s k in
+    (told_p ∙ ap (λ (x : Kind). map told_of ms ++ Err x ∷ []) both.0 ∙ sym told_q, both.1)
+
+pub alike : (bytes : List ℕ) (t u : List (Result Message Kind)) (p q : Pending) → TellAlike bytes t u p q
+alike bytes t u p q f g r v =
+    let one = stream_is_one bytes f.messages g.messages f.rest g.rest (left_is bytes t p f r) (left_is bytes u q g v) in
+    let moved = subst (λ (x : List ℕ). Leaves g.messages x t p) one.1 (subst (λ (x : List Message). Leaves x f.rest t p) one.0 f.leaves) in
+    same_left g.messages g.rest t u p q moved g.leaves r v
 
 pub no_matter : (calls others : List Call) → CutsDoNotMatter calls others
 no_matter calls others p q l m v w e =
-    same_told (stream_of others) (told calls) (told others) p q
+    alike (stream_of others) (told calls) (told others) p q
     (subst (λ (b : List ℕ). Follows b (told calls) p) e (every_one calls p l)) (every_one others q m) v w
+
+short_wait : (bytes : List ℕ) → Waits bytes → length bytes < 16 + longest_payload
+short_wait bytes (inl short) = omega (arith, short)
+short_wait bytes (inr l) =
+    let n : length bytes ≡ 16 + length l.got = ap length l.begins.whole ∙ length-append (header l.h) l.got in
+    omega (arith, n, l.fits, l.lacks)
+
+pub bounded_room : (d : DecoderSeen) → RoomIsBounded d
+bounded_room d lean waits = omega (arith, lean.spare, short_wait d.pending.bytes waits)

@@ -1,13 +1,14 @@
 -- A header that is read is the header that was written, and bytes begin with one header.
-use Rattle.std.proofs.Common.{◌≡◌, ℕ, ◌+◌, ◌^◌, ◌<◌, ◌≤◌, List, [], ◌∷◌, ◌++◌, length, get_or, take, drop, refl, sym, ap, ap₂, ◌∙◌, append_assoc, arith, inl, inr}
+use Rattle.std.proofs.Common.{◌≡◌, ℕ, ◌+◌, ◌^◌, ◌<◌, ◌≤◌, List, [], ◌∷◌, ◌++◌, length, get_or, take, drop, refl, sym, ap, ap₂, ◌∙◌, append_assoc, arith, inl}
+use Rattle.std.proofs.Common.{inr}
 use Rattle.std.specs.Int.{w32, w64, from_be_bytes, to_be_bytes}
 use Rattle.std.proofs.lemmas.List.{take-append-drop, drop-drop, length-take, length-drop, get_or-drop, get_or-take, get_or_past}
 use Rattle.std.proofs.lemmas.Bool.{cases_lt}
 use Rattle.std.proofs.lemmas.Nat.{be_bytes_4, be_bytes_8, from_be_bytes-to_be_bytes_4, from_be_bytes-to_be_bytes_8}
 use Rattle.sw_hislip.specs.declared.header.Header.{Header}
 use Rattle.sw_hislip.specs.declared.kind.Kind.{Kind}
-use Rattle.sw_hislip.specs.Kinds.{number_of, IsKind}
-use Rattle.sw_hislip.specs.Wire.{header, IsHeader, Begins}
+use Rattle.sw_hislip.specs.Kinds.{kind_number, IsKind}
+use Rattle.sw_hislip.specs.Wire.{header, IsHeader, HasHeader}
 use Rattle.sw_hislip.proofs.KindNumbers.{kind_same}
 
 -- what follows the first four bytes: a parameter, a length, and the rest
@@ -77,16 +78,16 @@ piece_bytes bytes m n h i =
     ]
 
 -- the fields that are read of 16 bytes are those of their header
-pub read_is : (bytes ps ls : List ℕ) (kind : Kind) (parameter size : ℕ) → ((i : ℕ) → get_or bytes i 0 < 256) → IsKind kind → number_of kind ≡ get_or bytes 2 0
+pub read_is : (bytes ps ls : List ℕ) (kind : Kind) (parameter size : ℕ) → ((i : ℕ) → get_or bytes i 0 < 256) → IsKind kind → kind_number kind ≡ get_or bytes 2 0
     → 16 ≤ length bytes → get_or bytes 0 0 ≡ 0x48 → get_or bytes 1 0 ≡ 0x53 → ps ≡ take 4 (drop 4 bytes) → ls ≡ take 8 (drop 8 bytes)
     → parameter ≡ from_be_bytes w32 ps → size ≡ from_be_bytes w64 ls → parameter < 2 ^ 32 → size < 2 ^ 64
-    → Begins bytes (record { kind = kind; control = get_or bytes 3 0; parameter = parameter; length = size }) (drop 16 bytes)
+    → HasHeader bytes (record { kind = kind; control = get_or bytes 3 0; parameter = parameter; length = size }) (drop 16 bytes)
 read_is bytes ps ls kind parameter size each proper k long e0 e1 p l pe le pb lb =
     let four : length (take 4 (drop 4 bytes)) ≡ 4 = rw (length-take, length-drop) (omega (arith, long)) in
     let eight : length (take 8 (drop 8 bytes)) ≡ 8 = rw (length-take, length-drop) (omega (arith, long)) in
     let ps_is = be_bytes_4 (take 4 (drop 4 bytes)) parameter four (piece_bytes bytes 4 4 each) (pe ∙ ap (from_be_bytes w32) p) in
     let ls_is = be_bytes_8 (take 8 (drop 8 bytes)) size eight (piece_bytes bytes 8 8 each) (le ∙ ap (from_be_bytes w64) l) in
     record {
-      whole = fields bytes (to_be_bytes w32 parameter) (to_be_bytes w64 size) (number_of kind) long e0 e1 k ps_is ls_is;
+      whole = fields bytes (to_be_bytes w32 parameter) (to_be_bytes w64 size) (kind_number kind) long e0 e1 k ps_is ls_is;
       proper = record { kind = proper; control = each 3; parameter = pb; length = lb };
     }

@@ -2,17 +2,26 @@
 use Rattle.std.proofs.Common.{◌≡◌, ℕ, List, [], ◌∷◌, refl, sym, ap, ◌∙◌, get_or, if◌then◌else◌, nat_lt, arith}
 use Rattle.std.proofs.lemmas.Bool.{lt-ltb, le-ltb}
 use Rattle.sw_hislip.specs.declared.kind.Kind.{Kind}
-use Rattle.sw_hislip.specs.declared.kind.Kind.TheVariants.{Initialize, InitializeResponse, FatalError, Error, AsyncLock, AsyncLockResponse, Data, DataEnd, DeviceClearComplete, DeviceClearAcknowledge, AsyncRemoteLocalControl, AsyncRemoteLocalResponse, Trigger, Interrupted, AsyncInterrupted, AsyncMaximumMessageSize, AsyncMaximumMessageSizeResponse, AsyncInitialize, AsyncInitializeResponse, AsyncDeviceClear, AsyncServiceRequest, AsyncStatusQuery, AsyncStatusResponse, AsyncDeviceClearAcknowledge, AsyncLockInfo, AsyncLockInfoResponse, Undefined, Vendor}
-use Rattle.sw_hislip.specs.Kinds.{number_of, IsKind}
+use Rattle.sw_hislip.specs.declared.kind.Kind.TheVariants.{Initialize, InitializeResponse, FatalError, Error, AsyncLock, AsyncLockResponse, Data, DataEnd}
+use Rattle.sw_hislip.specs.declared.kind.Kind.TheVariants.{DeviceClearComplete, DeviceClearAcknowledge, AsyncRemoteLocalControl, AsyncRemoteLocalResponse}
+use Rattle.sw_hislip.specs.declared.kind.Kind.TheVariants.{Trigger, Interrupted, AsyncInterrupted, AsyncMaximumMessageSize, AsyncMaximumMessageSizeResponse}
+use Rattle.sw_hislip.specs.declared.kind.Kind.TheVariants.{AsyncInitialize, AsyncInitializeResponse, AsyncDeviceClear, AsyncServiceRequest, AsyncStatusQuery}
+use Rattle.sw_hislip.specs.declared.kind.Kind.TheVariants.{AsyncStatusResponse, AsyncDeviceClearAcknowledge, AsyncLockInfo, AsyncLockInfoResponse, Undefined}
+use Rattle.sw_hislip.specs.declared.kind.Kind.TheVariants.{Vendor}
+use Rattle.sw_hislip.specs.Kinds.{kind_number, IsKind}
 
 -- the defined kinds in the order of their numbers
 abbrev kinds : List Kind
-kinds = Initialize ∷ InitializeResponse ∷ FatalError ∷ Error ∷ AsyncLock ∷ AsyncLockResponse ∷ Data ∷ DataEnd ∷ DeviceClearComplete ∷ DeviceClearAcknowledge ∷ AsyncRemoteLocalControl ∷ AsyncRemoteLocalResponse ∷ Trigger ∷ Interrupted ∷ AsyncInterrupted ∷ AsyncMaximumMessageSize ∷ AsyncMaximumMessageSizeResponse ∷ AsyncInitialize ∷ AsyncInitializeResponse ∷ AsyncDeviceClear ∷ AsyncServiceRequest ∷ AsyncStatusQuery ∷ AsyncStatusResponse ∷ AsyncDeviceClearAcknowledge ∷ AsyncLockInfo ∷ AsyncLockInfoResponse ∷ []
+kinds =
+    Initialize ∷ InitializeResponse ∷ FatalError ∷ Error ∷ AsyncLock ∷ AsyncLockResponse ∷ Data ∷ DataEnd ∷ DeviceClearComplete ∷
+    DeviceClearAcknowledge ∷ AsyncRemoteLocalControl ∷ AsyncRemoteLocalResponse ∷ Trigger ∷ Interrupted ∷ AsyncInterrupted ∷ AsyncMaximumMessageSize ∷
+    AsyncMaximumMessageSizeResponse ∷ AsyncInitialize ∷ AsyncInitializeResponse ∷ AsyncDeviceClear ∷ AsyncServiceRequest ∷ AsyncStatusQuery ∷
+    AsyncStatusResponse ∷ AsyncDeviceClearAcknowledge ∷ AsyncLockInfo ∷ AsyncLockInfoResponse ∷ []
 
 abbrev kind_of : ℕ → Kind
 kind_of n = if nat_lt n 26 then get_or kinds n Data else (if nat_lt n 128 then Undefined n else Vendor n)
 
-kind_back : (k : Kind) → IsKind k → kind_of (number_of k) ≡ k
+kind_back : (k : Kind) → IsKind k → kind_of (kind_number k) ≡ k
 kind_back Initialize h = refl
 kind_back InitializeResponse h = refl
 kind_back FatalError h = refl
@@ -42,5 +51,5 @@ kind_back AsyncLockInfoResponse h = refl
 kind_back (Undefined n) h = rw (le-ltb n 26 h.0, lt-ltb n 128 h.1) refl
 kind_back (Vendor n) h = rw (le-ltb n 26 (omega (arith, h.0)), le-ltb n 128 h.0) refl
 
-pub kind_same : (k l : Kind) → IsKind k → IsKind l → number_of k ≡ number_of l → k ≡ l
+pub kind_same : (k l : Kind) → IsKind k → IsKind l → kind_number k ≡ kind_number l → k ≡ l
 kind_same k l p q e = sym (kind_back k p) ∙ ap kind_of e ∙ kind_back l q

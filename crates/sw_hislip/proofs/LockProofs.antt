@@ -1,9 +1,11 @@
 -- The tests of locks are the rules in terms of the other sessions.
-use Rattle.std.proofs.Common.{◌≡◌, ℕ, zero, suc, ◌-◌, ◌<◌, true, false, not, ◌&&◌, is_some, is_none, List, [], ◌∷◌, length, get_or, Option, Some, None, refl, sym, ap, ◌∙◌, arith, inl, inr, ◌↔◌}
+use Rattle.std.proofs.Common.{◌≡◌, ℕ, zero, suc, ◌-◌, ◌<◌, true, false, not, ◌&&◌, is_some, is_none, List, [], ◌∷◌, length, get_or, Option, Some, None, refl}
+use Rattle.std.proofs.Common.{sym, ap, ◌∙◌, arith, inl, inr, ◌↔◌}
 use Rattle.std.specs.List.{list_all}
 use Rattle.std.proofs.lemmas.Bool.{cases_eq, cases_Bool, eq-eqb, ne_eqb, not-true, not-false, and_parts, and_from, or_cases, or_left, or_right, both_ways}
 use Rattle.std.proofs.lemmas.Slice.Eq.{bytes_eq-Decides}
-use Rattle.sw_hislip.specs.LockTable.{LockTable, key_of, shares, is_holder, nobody_shares, agrees, one_key, admits, is_wrong_key, grants, grants_shared, MayLackMemory}
+use Rattle.sw_hislip.specs.LockTable.{LockTable, key_of, shares, is_holder, nobody_shares, agrees, one_key, admits, is_wrong_key, grants, grants_shared}
+use Rattle.sw_hislip.specs.LockTable.{MayLackMemory}
 use Rattle.sw_hislip.specs.LockRules.{NobodyShares, NoOtherShares, AllHaveKey, Admits, Grants, AreRules}
 
 abbrev Keys : Type 0
@@ -47,7 +49,10 @@ place : (i : ℕ) → suc i - 1 ≡ i
 place i = omega arith
 
 nobody : (l : LockTable) → length l.keys ≡ 16 → (nobody_shares l ≡ true) ↔ NobodyShares l
-nobody l n = (λ h other s. none_at l.keys (other - 1) h, λ h. none_all l.keys (λ i lt. ap (λ (j : ℕ). get_or l.keys j None) (sym (place i)) ∙ h (suc i) (omega arith, omega (arith, lt, n))))
+nobody l n = (
+  λ h other s. none_at l.keys (other - 1) h,
+  λ h. none_all l.keys (λ i lt. ap (λ (j : ℕ). get_or l.keys j None) (sym (place i)) ∙ h (suc i) (omega arith, omega (arith, lt, n))),
+)
 
 pub all_have : (l : LockTable) (key : List ℕ) → length l.keys ≡ 16 → (one_key l key ≡ true) ↔ AllHaveKey l key
 all_have l key n = (
@@ -116,7 +121,8 @@ grants_is l sid (b ∷ key) n = (
 )
 
 -- a key that is not empty asks for the shared lock
-pub lacks_shared : (l : LockTable) (sid : ℕ) (key : List ℕ) → 0 < length key → (is_wrong_key l sid key ≡ false) × (grants_shared l sid key ≡ true) → MayLackMemory l sid key
+pub lacks_shared : (l : LockTable) (sid : ℕ) (key : List ℕ) → 0 < length key → (is_wrong_key l sid key ≡ false) × (grants_shared l sid key ≡ true)
+    → MayLackMemory l sid key
 lacks_shared l sid [] some h = absurd (omega (arith, some))
 lacks_shared l sid (b ∷ key) some h = h
 

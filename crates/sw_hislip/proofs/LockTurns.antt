@@ -3,7 +3,8 @@ use Rattle.std.proofs.Common.{◌≡◌, ℕ, ◌-◌, true, false, cond, is_som
 use Rattle.std.proofs.lemmas.Bool.{cases_eq, cases_Bool, eq-eqb, and_parts, both_ways, cond-true, cond-false}
 use Rattle.std.proofs.lemmas.List.{get_or-set_same, get_or-set_other, length-set}
 use Rattle.sw_hislip.specs.declared.locks.LockReply.TheVariants.{Granted, NotNow, Wrong}
-use Rattle.sw_hislip.specs.LockTable.{LockTable, no_locks, key_of, shares, excludes, is_holder, with_key, without_exclusive, released, left, granted, grants, grants_shared}
+use Rattle.sw_hislip.specs.LockTable.{LockTable, no_locks, key_of, shares, excludes, is_holder, with_key, without_exclusive, released, left, granted}
+use Rattle.sw_hislip.specs.LockTable.{grants, grants_shared}
 use Rattle.sw_hislip.specs.LockRules.{IsSession, NoOtherExcludes, AllHaveKey, Grants, IsOrderly, LockTurn, asks, releases, leaves, KeepsOrder}
 use Rattle.sw_hislip.proofs.LockProofs.{alone, all_have, are_rules, none_at}
 
@@ -28,7 +29,8 @@ same_holder (Some i) m n p q = cc
 key_same : (l : LockTable) (sid : ℕ) (k : Option (List ℕ)) → length l.keys ≡ 16 → IsSession sid → key_of (with_key l sid k) sid ≡ k
 key_same l sid k n s = get_or-set_same l.keys (sid - 1) k None (omega (arith, n, s.0, s.1))
 
-key_other : (l : LockTable) (sid other : ℕ) (k : Option (List ℕ)) → IsSession sid → IsSession other → (other ≡ sid → ⊥) → key_of (with_key l sid k) other ≡ key_of l other
+key_other : (l : LockTable) (sid other : ℕ) (k : Option (List ℕ)) → IsSession sid → IsSession other → (other ≡ sid → ⊥)
+    → key_of (with_key l sid k) other ≡ key_of l other
 key_other l sid other k s t differ = get_or-set_other l.keys (sid - 1) (other - 1) k None (λ e. differ (omega (arith, e, s.0, t.0)))
 
 -- ---- a grant
@@ -53,7 +55,8 @@ grants_exclusive l sid s o g = record {
       sym (ap (key_of l) same) ∙ here;
 }
 
-grants_key : (l : LockTable) (sid : ℕ) (key : List ℕ) → IsSession sid → IsOrderly l → NoOtherExcludes l sid → AllHaveKey l key → IsOrderly (with_key l sid (Some key))
+grants_key : (l : LockTable) (sid : ℕ) (key : List ℕ) → IsSession sid → IsOrderly l → NoOtherExcludes l sid → AllHaveKey l key
+    → IsOrderly (with_key l sid (Some key))
 grants_key l sid key s o alone all =
     let new = with_key l sid (Some key) in
     let has : (other : ℕ) (k : List ℕ) → IsSession other → key_of new other ≡ Some k → k ≡ key = λ other k t own.
@@ -69,7 +72,8 @@ grants_key l sid key s o alone all =
           ap (key_of new) (alone holder e) ∙ key_same l sid (Some key) o.sessions s ∙ ap Some (sym (has other k t own));
     }
 
-pub shares_orderly : (l : LockTable) (sid : ℕ) (key : List ℕ) → IsSession sid → IsOrderly l → grants_shared l sid key ≡ true → IsOrderly (with_key l sid (Some key))
+pub shares_orderly : (l : LockTable) (sid : ℕ) (key : List ℕ) → IsSession sid → IsOrderly l → grants_shared l sid key ≡ true
+    → IsOrderly (with_key l sid (Some key))
 shares_orderly l sid key s o g =
     let both = and_parts _ _ g in
     grants_key l sid key s o ((alone l.exclusive sid).0 both.0) ((all_have l key o.sessions).0 both.1)

@@ -1,25 +1,28 @@
 -- Bytes are one list of messages and one rest.
-use Rattle.std.proofs.Common.{◌≡◌, ℕ, ◌+◌, ◌<◌, List, [], ◌∷◌, ◌++◌, length, refl, sym, ap, ap₂, ◌∙◌, append_assoc, length-append, arith, inl, inr, flat_map}
+use Rattle.std.proofs.Common.{◌≡◌, ℕ, ◌+◌, ◌<◌, List, [], ◌∷◌, ◌++◌, length, take, refl, sym, ap, ap₂, ◌∙◌, append_assoc, length-append, arith, inl, inr}
+use Rattle.std.proofs.Common.{flat_map}
 use Rattle.std.specs.List.{AllByRecursion}
 use Rattle.sw_hislip.specs.declared.header.Header.{Header}
 use Rattle.sw_hislip.specs.declared.message.Message.{Message}
-use Rattle.sw_hislip.specs.Wire.{header, wire, header_of, IsMessage, Begins}
+use Rattle.sw_hislip.specs.Wire.{header, wire, header_of, IsWireMessage, HasHeader}
 use Rattle.sw_hislip.specs.Pending.{Waits}
-use Rattle.sw_hislip.specs.Stream.{IsRest, OneStream}
+use Rattle.sw_hislip.specs.Stream.{IsRest, Rests, OneStream}
 use Rattle.sw_hislip.proofs.Headers.{same_front, same_header}
 
 -- a message at the front begins with its header
-pub message_begins : (bytes : List ℕ) (m : Message) (more : List ℕ) → IsMessage m → bytes ≡ wire m ++ more → Begins bytes (header_of m) (m.payload ++ more)
+pub message_begins : (bytes : List ℕ) (m : Message) (more : List ℕ) → IsWireMessage m → bytes ≡ wire m ++ more
+    → HasHeader bytes (header_of m) (m.payload ++ more)
 message_begins bytes m more p e = record { whole = e ∙ append_assoc (header (header_of m)) m.payload more; proper = p }
 
 -- one header stands at the front
-pub one_header : (bytes : List ℕ) (h g : Header) (x y : List ℕ) → Begins bytes h x → Begins bytes g y → (h ≡ g) × (x ≡ y)
+pub one_header : (bytes : List ℕ) (h g : Header) (x y : List ℕ) → HasHeader bytes h x → HasHeader bytes g y → (h ≡ g) × (x ≡ y)
 one_header bytes h g x y a b = same_header h g x y a.proper b.proper (sym a.whole ∙ b.whole)
 
 -- one message stands at the front
-pub one_message : (m n : Message) (x y : List ℕ) → IsMessage m → IsMessage n → wire m ++ x ≡ wire n ++ y → (m ≡ n) × (x ≡ y)
+pub one_message : (m n : Message) (x y : List ℕ) → IsWireMessage m → IsWireMessage n → wire m ++ x ≡ wire n ++ y → (m ≡ n) × (x ≡ y)
 one_message m n x y p q e =
-    let both = one_header (wire m ++ x) (header_of m) (header_of n) (m.payload ++ x) (n.payload ++ y) (message_begins (wire m ++ x) m x p refl) (message_begins (wire m ++ x) n y q e) in
+    let both = one_header (wire m ++ x) (header_of m) (header_of n) (m.payload ++ x) (n.payload ++ y)
+    (message_begins (wire m ++ x) m x p refl) (message_begins (wire m ++ x) n y q e) in
     let rest = same_front m.payload n.payload x y (ap (λ (h : Header). h.length) both.0) both.1 in
     (ap₂ (λ (h : Header) (l : List ℕ). record { kind = h.kind; control = h.control; parameter = h.parameter; payload = l }) both.0 rest.0, rest.1)
 
@@ -30,7 +33,7 @@ short_rest bytes h more short e =
     absurd (omega (arith, short, n))
 
 -- a header, and less than its payload
-pub partial_rest : (bytes : List ℕ) (h : Header) (got : List ℕ) → Begins bytes h got → length got < h.length → IsRest bytes
+pub partial_rest : (bytes : List ℕ) (h : Header) (got : List ℕ) → HasHeader bytes h got → length got < h.length → IsRest bytes
 partial_rest bytes h got b lacks m more p e =
     let both = one_header bytes h (header_of m) got (m.payload ++ more) b (message_begins bytes m more p e) in
     let n : h.length ≡ length m.payload = ap (λ (g : Header). g.length) both.0 in
@@ -41,7 +44,11 @@ pub waits_rest : (bytes : List ℕ) → Waits bytes → IsRest bytes
 waits_rest bytes (inl short) m more p e = short_rest bytes (header_of m) (m.payload ++ more) short (e ∙ append_assoc (header (header_of m)) m.payload more)
 waits_rest bytes (inr l) m more p e = partial_rest bytes l.h l.got l.begins l.lacks m more p e
 
-same_stream : (ms ns : List Message) (rest other : List ℕ) → AllByRecursion IsMessage ms → AllByRecursion IsMessage ns → IsRest rest → IsRest other
+pub rests_rest : (bytes : List ℕ) → Rests bytes → IsRest bytes
+rests_rest bytes (inl waits) m more p e = waits_rest bytes waits m more p e
+rests_rest bytes (inr prologue) m more p e = prologue.wrong (ap (take 2) e)
+
+same_stream : (ms ns : List Message) (rest other : List ℕ) → AllByRecursion IsWireMessage ms → AllByRecursion IsWireMessage ns → IsRest rest → IsRest other
     → flat_map wire ms ++ rest ≡ flat_map wire ns ++ other → (ms ≡ ns) × (rest ≡ other)
 same_stream [] [] rest other p q r s e = (refl, e)
 same_stream [] (n ∷ ns) rest other p q r s e = absurd (r n (flat_map wire ns ++ other) q.0 (e ∙ append_assoc (wire n) (flat_map wire ns) other))

@@ -4,10 +4,11 @@ use Rattle.std.proofs.lemmas.List.{take-append-le}
 use Rattle.sw_hislip.specs.declared.fault.WireFault.{WireFault}
 use Rattle.sw_hislip.specs.declared.fault.WireFault.TheVariants.{BadPrologue, TooLarge, NoMemory}
 use Rattle.sw_hislip.specs.declared.message.Message.{Message}
-use Rattle.sw_hislip.specs.Pending.{Pending, fed, HasWrongPrologue, Gives}
+use Rattle.sw_hislip.specs.Pending.{Pending, fed, HasWrongPrologue, GivesNext}
 use Rattle.sw_hislip.specs.Stream.{Call, feeds, answers, WrongPrologueStays}
 
-gives_wrong : (old new : Pending) (answer : Result (Option Message) WireFault) → HasWrongPrologue old.bytes → Gives old answer new → (answer ≡ Err BadPrologue) × (new ≡ old)
+gives_wrong : (old new : Pending) (answer : Result (Option Message) WireFault) → HasWrongPrologue old.bytes → GivesNext old answer new
+    → (answer ≡ Err BadPrologue) × (new ≡ old)
 gives_wrong old new (Ok (Some m)) w (holds, skip) = absurd (w.wrong (ap (take 2) holds.whole))
 gives_wrong old new (Ok None) w (inl short, same) = absurd (omega (arith, short, w.header))
 gives_wrong old new (Ok None) w (inr l, same) = absurd (w.wrong (ap (take 2) l.begins.whole))

@@ -1,38 +1,47 @@
 -- Numbers of the kinds of messages (IVI-6.1 HiSLIP, message type value definitions).
 use Rattle.std.specs.Prelude.{ℕ, ◌<◌, ◌≤◌}
 use Rattle.sw_hislip.specs.declared.kind.Kind.{Kind}
-use Rattle.sw_hislip.specs.declared.kind.Kind.TheVariants.{Initialize, InitializeResponse, FatalError, Error, AsyncLock, AsyncLockResponse, Data, DataEnd, DeviceClearComplete, DeviceClearAcknowledge, AsyncRemoteLocalControl, AsyncRemoteLocalResponse, Trigger, Interrupted, AsyncInterrupted, AsyncMaximumMessageSize, AsyncMaximumMessageSizeResponse, AsyncInitialize, AsyncInitializeResponse, AsyncDeviceClear, AsyncServiceRequest, AsyncStatusQuery, AsyncStatusResponse, AsyncDeviceClearAcknowledge, AsyncLockInfo, AsyncLockInfoResponse, Undefined, Vendor}
+use Rattle.sw_hislip.specs.declared.kind.Kind.TheVariants.{Initialize, InitializeResponse, FatalError, Error, AsyncLock}
+use Rattle.sw_hislip.specs.declared.kind.Kind.TheVariants.{AsyncLockResponse, Data, DataEnd, DeviceClearComplete}
+use Rattle.sw_hislip.specs.declared.kind.Kind.TheVariants.{DeviceClearAcknowledge, AsyncRemoteLocalControl}
+use Rattle.sw_hislip.specs.declared.kind.Kind.TheVariants.{AsyncRemoteLocalResponse, Trigger, Interrupted}
+use Rattle.sw_hislip.specs.declared.kind.Kind.TheVariants.{AsyncInterrupted, AsyncMaximumMessageSize}
+use Rattle.sw_hislip.specs.declared.kind.Kind.TheVariants.{AsyncMaximumMessageSizeResponse, AsyncInitialize}
+use Rattle.sw_hislip.specs.declared.kind.Kind.TheVariants.{AsyncInitializeResponse, AsyncDeviceClear}
+use Rattle.sw_hislip.specs.declared.kind.Kind.TheVariants.{AsyncServiceRequest, AsyncStatusQuery, AsyncStatusResponse}
+use Rattle.sw_hislip.specs.declared.kind.Kind.TheVariants.{AsyncDeviceClearAcknowledge, AsyncLockInfo}
+use Rattle.sw_hislip.specs.declared.kind.Kind.TheVariants.{AsyncLockInfoResponse, Undefined, Vendor}
 
 -- the number in the header
-abbrev pub number_of : Kind → ℕ
-number_of Initialize = 0
-number_of InitializeResponse = 1
-number_of FatalError = 2
-number_of Error = 3
-number_of AsyncLock = 4
-number_of AsyncLockResponse = 5
-number_of Data = 6
-number_of DataEnd = 7
-number_of DeviceClearComplete = 8
-number_of DeviceClearAcknowledge = 9
-number_of AsyncRemoteLocalControl = 10
-number_of AsyncRemoteLocalResponse = 11
-number_of Trigger = 12
-number_of Interrupted = 13
-number_of AsyncInterrupted = 14
-number_of AsyncMaximumMessageSize = 15
-number_of AsyncMaximumMessageSizeResponse = 16
-number_of AsyncInitialize = 17
-number_of AsyncInitializeResponse = 18
-number_of AsyncDeviceClear = 19
-number_of AsyncServiceRequest = 20
-number_of AsyncStatusQuery = 21
-number_of AsyncStatusResponse = 22
-number_of AsyncDeviceClearAcknowledge = 23
-number_of AsyncLockInfo = 24
-number_of AsyncLockInfoResponse = 25
-number_of (Undefined n) = n
-number_of (Vendor n) = n
+abbrev pub kind_number : Kind → ℕ
+kind_number Initialize = 0
+kind_number InitializeResponse = 1
+kind_number FatalError = 2
+kind_number Error = 3
+kind_number AsyncLock = 4
+kind_number AsyncLockResponse = 5
+kind_number Data = 6
+kind_number DataEnd = 7
+kind_number DeviceClearComplete = 8
+kind_number DeviceClearAcknowledge = 9
+kind_number AsyncRemoteLocalControl = 10
+kind_number AsyncRemoteLocalResponse = 11
+kind_number Trigger = 12
+kind_number Interrupted = 13
+kind_number AsyncInterrupted = 14
+kind_number AsyncMaximumMessageSize = 15
+kind_number AsyncMaximumMessageSizeResponse = 16
+kind_number AsyncInitialize = 17
+kind_number AsyncInitializeResponse = 18
+kind_number AsyncDeviceClear = 19
+kind_number AsyncServiceRequest = 20
+kind_number AsyncStatusQuery = 21
+kind_number AsyncStatusResponse = 22
+kind_number AsyncDeviceClearAcknowledge = 23
+kind_number AsyncLockInfo = 24
+kind_number AsyncLockInfoResponse = 25
+kind_number (Undefined n) = n
+kind_number (Vendor n) = n
 
 -- what stands for a number is in its range, so that each number from 0 to 255 is of one kind
 abbrev pub IsKind : Kind → Type 0

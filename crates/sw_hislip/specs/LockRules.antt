@@ -1,10 +1,11 @@
 -- The rules of locks in terms of the other sessions, and what holds of the locks at all times.
 use Rattle.std.specs.Prelude.{◌≡◌, ◌≢◌, ◌≤◌, ℕ, true, ◌⊎◌, ◌↔◌, List, [], ◌∷◌, length, None, Some}
+use Rattle.sw_base.specs.Limits.{most_sessions}
 use Rattle.sw_hislip.specs.declared.locks.LockReply.{LockReply}
 use Rattle.sw_hislip.specs.LockTable.{LockTable, key_of, shares, admits, grants, Replies, released, left}
 
 abbrev pub IsSession : ℕ → Type 0
-IsSession sid = (1 ≤ sid) × (sid ≤ 16)
+IsSession sid = (1 ≤ sid) × (sid ≤ most_sessions)
 
 abbrev pub NoOtherExcludes : LockTable → ℕ → Type 0
 NoOtherExcludes l sid = (other : ℕ) → l.exclusive ≡ Some other → other ≡ sid
@@ -23,8 +24,8 @@ AllHaveKey l key = (other : ℕ) (held : List ℕ) → IsSession other → key_o
 abbrev pub Admits : LockTable → ℕ → Type 0
 Admits l sid = NoOtherExcludes l sid × (NobodyShares l ⊎ (shares l sid ≡ true))
 
--- The exclusive lock is granted where no other session holds it, and no other shares one or the asker does; the shared one
--- where no other holds the exclusive one, and all that share one have the same key.
+-- The exclusive lock is granted where no other session holds it, and no other shares one or the asker does; the shared
+-- one where no other holds the exclusive one, and all that share one have the same key.
 abbrev pub Grants : LockTable → ℕ → List ℕ → Type 0
 Grants l sid [] = NoOtherExcludes l sid × (NoOtherShares l sid ⊎ (shares l sid ≡ true))
 Grants l sid (b ∷ key) = NoOtherExcludes l sid × AllHaveKey l (b ∷ key)
@@ -36,13 +37,14 @@ pub record AreRules (l : LockTable) (sid : ℕ) : Type 0 where
 
 -- ---- order
 
--- What holds at all times: whoever holds the exclusive lock is a session; all that share a lock have one key; and beside
--- the exclusive lock only those share one with whom its holder shares it.
+-- What holds at all times: whoever holds the exclusive lock is a session; all that share a lock have one key; and
+-- beside the exclusive lock only those share one with whom its holder shares it.
 pub record IsOrderly (l : LockTable) : Type 0 where
-  pub sessions : length l.keys ≡ 16
+  pub sessions : length l.keys ≡ most_sessions
   pub holder : (sid : ℕ) → l.exclusive ≡ Some sid → IsSession sid
   pub one_key : (a b : ℕ) (j k : List ℕ) → IsSession a → IsSession b → key_of l a ≡ Some j → key_of l b ≡ Some k → j ≡ k
-  pub beside : (holder other : ℕ) (k : List ℕ) → l.exclusive ≡ Some holder → IsSession other → key_of l other ≡ Some k → key_of l holder ≡ Some k
+  pub beside : (holder other : ℕ) (k : List ℕ) → l.exclusive ≡ Some holder → IsSession other
+      → key_of l other ≡ Some k → key_of l holder ≡ Some k
 
 -- what a session does: it asks by a key and is answered so, releases, or leaves
 pub data LockTurn : Type 0 where

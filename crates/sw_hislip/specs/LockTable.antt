@@ -1,8 +1,11 @@
--- The locks that are held, and the rules by which they are granted (IVI-6.1 HiSLIP, lock transaction; what is said to be
--- own there is this project's choice).
-use Rattle.std.specs.Prelude.{◌≡◌, ℕ, zero, suc, ◌+◌, ◌-◌, Bool, true, false, not, ◌==◌, ◌&&◌, ◌||◌, nat_lt, List, [], ◌∷◌, length, slice_set, slice_index_or, Option, None, Some, is_some, is_none, if◌then◌else◌}
+-- The locks that are held, and the rules by which they are granted (IVI-6.1 HiSLIP, lock transaction; what is said to
+-- be own there is this project's choice).
+use Rattle.std.specs.Prelude.{◌≡◌, ℕ, zero, suc, ◌+◌, ◌-◌, Bool, true, false, not, ◌==◌, ◌&&◌, ◌||◌, nat_lt, List, []}
+use Rattle.std.specs.Prelude.{◌∷◌, length, replicate, slice_set, slice_index_or, Option, None, Some, is_some, is_none}
+use Rattle.std.specs.Prelude.{if◌then◌else◌}
 use Rattle.std.specs.List.{list_all}
 use Rattle.std.specs.Str.{bytes_eq}
+use Rattle.sw_base.specs.Limits.{most_sessions}
 use Rattle.sw_hislip.specs.declared.locks.LockReply.{LockReply}
 use Rattle.sw_hislip.specs.declared.locks.LockReply.TheVariants.{Granted, NotNow, Wrong}
 use Rattle.sw_hislip.specs.declared.locks.Released.{Released}
@@ -14,7 +17,7 @@ pub record LockTable : Type 0 where
   pub keys : List (Option (List ℕ))
 
 abbrev pub no_locks : LockTable
-no_locks = record { exclusive = None; keys = None ∷ None ∷ None ∷ None ∷ None ∷ None ∷ None ∷ None ∷ None ∷ None ∷ None ∷ None ∷ None ∷ None ∷ None ∷ None ∷ [] }
+no_locks = record { exclusive = None; keys = replicate most_sessions None }
 
 -- ---- who holds what
 
@@ -89,8 +92,8 @@ abbrev pub granted : LockTable → ℕ → List ℕ → LockTable
 granted l sid [] = record { exclusive = Some sid; keys = l.keys }
 granted l sid (b ∷ key) = with_key l sid (Some (b ∷ key))
 
--- What is answered to an ask that is an error or not, and that is due or not; the locks before it, once it is granted, and
--- after it. An error goes before a lock that is not due.
+-- What is answered to an ask that is an error or not, and that is due or not; the locks before it, once it is granted,
+-- and after it. An error goes before a lock that is not due.
 abbrev pub RepliesBy : Bool → Bool → LockTable → LockTable → LockReply → LockTable → Type 0
 RepliesBy wrong due old after Granted new = (wrong ≡ false) × (due ≡ true) × (new ≡ after)
 RepliesBy wrong due old after NotNow new = (wrong ≡ false) × (due ≡ false) × (new ≡ old)
@@ -98,7 +101,8 @@ RepliesBy wrong due old after Wrong new = (wrong ≡ true) × (new ≡ old)
 
 -- What is answered to an ask, and the locks after it.
 abbrev pub Replies : LockTable → ℕ → List ℕ → LockReply → LockTable → Type 0
-Replies old sid key reply new = RepliesBy (is_wrong old sid key) (grants old sid key) old (granted old sid key) reply new
+Replies old sid key reply new =
+    RepliesBy (is_wrong old sid key) (grants old sid key) old (granted old sid key) reply new
 
 -- A shared lock is due, and its key may find no memory. An exclusive lock needs none.
 abbrev pub MayLackMemory : LockTable → ℕ → List ℕ → Type 0

@@ -1,19 +1,32 @@
 -- What a decoder has not taken yet, and what its calls make of it.
-use Rattle.std.specs.Prelude.{◌≡◌, ◌≢◌, ◌<◌, ◌≤◌, ◌-◌, ℕ, ◌⊎◌, List, [], ◌∷◌, ◌++◌, length, take, drop, Option, None, Some, Result, Ok, Err}
+use Rattle.std.specs.Prelude.{◌≡◌, ◌≢◌, ◌<◌, ◌≤◌, ◌*◌, ◌-◌, ℕ, ◌⊎◌, List, [], ◌∷◌, ◌++◌, length, take, drop, Option}
+use Rattle.std.specs.Prelude.{None, Some, Result, Ok, Err}
+use Rattle.sw_base.specs.Limits.{most_bytes}
 use Rattle.sw_hislip.specs.declared.fault.WireFault.{WireFault}
 use Rattle.sw_hislip.specs.declared.fault.WireFault.TheVariants.{BadPrologue, TooLarge, NoMemory}
 use Rattle.sw_hislip.specs.declared.header.Header.{Header}
 use Rattle.sw_hislip.specs.declared.message.Message.{Message}
-use Rattle.sw_hislip.specs.Wire.{Begins, wire, IsMessage}
+use Rattle.sw_hislip.specs.Wire.{HasHeader, wire, IsWireMessage}
 
 -- the most bytes of a payload that is taken
-abbrev pub longest : ℕ
-longest = 65536
+abbrev pub longest_payload : ℕ
+longest_payload = most_bytes
 
 -- the bytes that were fed and not taken, and how many of the bytes to come are of a payload that is skipped
 pub record Pending : Type 0 where
   pub bytes : List ℕ
   pub skip : ℕ
+
+-- What contracts see of a decoder: what is pending, and how many bytes of the stream it keeps in memory.
+pub record DecoderSeen : Type 0 where
+  pub pending : Pending
+  pub room : ℕ
+
+-- Nothing is kept of a payload that is skipped, and of what was taken no more than of what is pending.
+pub record IsLean (d : DecoderSeen) : Type 0 where
+  pub skipped : 0 < d.pending.skip → d.room ≡ 0
+  pub held : length d.pending.bytes ≤ d.room
+  pub spare : d.room ≤ 2 * length d.pending.bytes
 
 -- a decoder at the start
 abbrev pub nothing_fed : Pending
@@ -29,45 +42,49 @@ pub record HasWrongPrologue (bytes : List ℕ) : Type 0 where
   pub wrong : take 2 bytes ≢ 0x48 ∷ 0x53 ∷ []
 
 -- a whole message that is taken stands at the front, and more follows it
-pub record Holds (bytes : List ℕ) (m : Message) (more : List ℕ) : Type 0 where
+pub record HasMessage (bytes : List ℕ) (m : Message) (more : List ℕ) : Type 0 where
   pub whole : bytes ≡ wire m ++ more
-  pub proper : IsMessage m
-  pub fits : length m.payload ≤ longest
+  pub proper : IsWireMessage m
+  pub fits : length m.payload ≤ longest_payload
 
 -- the header of a payload that is too large stands at the front, and so much of the payload
 pub record IsTooLarge (bytes : List ℕ) (h : Header) (got : List ℕ) : Type 0 where
-  pub begins : Begins bytes h got
-  pub large : longest < h.length
+  pub begins : HasHeader bytes h got
+  pub large : longest_payload < h.length
 
 -- the header of a payload that is taken stands at the front, and less than that payload
 pub record LacksPayload (bytes : List ℕ) : Type 0 where
   pub h : Header
   pub got : List ℕ
-  pub begins : Begins bytes h got
-  pub fits : h.length ≤ longest
+  pub begins : HasHeader bytes h got
+  pub fits : h.length ≤ longest_payload
   pub lacks : length got < h.length
 
 -- no message is whole, and no fault is to be seen: less than a header is there, or less than its payload
 abbrev pub Waits : List ℕ → Type 0
 Waits bytes = (length bytes < 16) ⊎ LacksPayload bytes
 
+-- after so many bytes were taken from the front
+abbrev pub without_front : Pending → ℕ → Pending
+without_front p n = record { bytes = drop n p.bytes; skip = p.skip }
+
 -- after so much of a payload of n bytes that is skipped
 abbrev pub skipping : List ℕ → ℕ → Pending
 skipping got n = record { bytes = drop n got; skip = n - length got }
 
 -- What is answered to the bytes at the front, and what is pending after it.
-abbrev pub Gives : Pending → Result (Option Message) WireFault → Pending → Type 0
-Gives old (Ok (Some m)) new = Holds old.bytes m new.bytes × (new.skip ≡ old.skip)
-Gives old (Ok None) new = Waits old.bytes × (new ≡ old)
-Gives old (Err BadPrologue) new = HasWrongPrologue old.bytes × (new ≡ old)
+abbrev pub GivesNext : Pending → Result (Option Message) WireFault → Pending → Type 0
+GivesNext old (Ok (Some m)) new = HasMessage old.bytes m new.bytes × (new.skip ≡ old.skip)
+GivesNext old (Ok None) new = Waits old.bytes × (new ≡ old)
+GivesNext old (Err BadPrologue) new = HasWrongPrologue old.bytes × (new ≡ old)
 -- what is there of the payload is dropped, the rest of it is to be skipped
-Gives old (Err (TooLarge kind)) new =
+GivesNext old (Err (TooLarge kind)) new =
     (h : Header) × (got : List ℕ) × IsTooLarge old.bytes h got × (h.kind ≡ kind) × (new ≡ skipping got h.length)
 -- there is a message, and no memory for its payload
-Gives old (Err NoMemory) new = (m : Message) × (more : List ℕ) × Holds old.bytes m more × (new ≡ old)
+GivesNext old (Err NoMemory) new = (m : Message) × (more : List ℕ) × HasMessage old.bytes m more × (new ≡ old)
 
 -- what the header at the front is, if it is there
-abbrev pub Reads : List ℕ → Result (Option Header) WireFault → Type 0
-Reads bytes (Ok None) = length bytes < 16
-Reads bytes (Ok (Some h)) = Begins bytes h (drop 16 bytes)
-Reads bytes (Err e) = (e ≡ BadPrologue) × HasWrongPrologue bytes
+abbrev pub ReadsHeader : List ℕ → Result (Option Header) WireFault → Type 0
+ReadsHeader bytes (Ok None) = length bytes < 16
+ReadsHeader bytes (Ok (Some h)) = HasHeader bytes h (drop 16 bytes)
+ReadsHeader bytes (Err e) = (e ≡ BadPrologue) × HasWrongPrologue bytes

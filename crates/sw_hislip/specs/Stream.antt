@@ -1,27 +1,29 @@
 -- The stream of a connection, and what a decoder tells of it over all its calls.
-use Rattle.std.specs.Prelude.{◌≡◌, ◌<◌, ◌+◌, ℕ, nat_lt, ◌⊎◌, List, [], ◌∷◌, ◌++◌, length, map, Option, None, Some, Result, Ok, Err, if◌then◌else◌}
+use Rattle.std.specs.Prelude.{◌≡◌, ◌<◌, ◌+◌, ◌*◌, ℕ, nat_lt, ◌⊎◌, List, [], ◌∷◌, ◌++◌, length, map, Option, None, Some}
+use Rattle.std.specs.Prelude.{Result, Ok, Err, if◌then◌else◌}
 use Rattle.std.specs.List.{AllByRecursion, flat_map}
 use Rattle.sw_hislip.specs.declared.fault.WireFault.{WireFault}
 use Rattle.sw_hislip.specs.declared.fault.WireFault.TheVariants.{BadPrologue, TooLarge, NoMemory}
 use Rattle.sw_hislip.specs.declared.header.Header.{Header}
 use Rattle.sw_hislip.specs.declared.kind.Kind.{Kind}
 use Rattle.sw_hislip.specs.declared.message.Message.{Message}
-use Rattle.sw_hislip.specs.Wire.{header, wire, IsHeader, IsMessage}
-use Rattle.sw_hislip.specs.Pending.{longest, Pending, nothing_fed, fed, HasWrongPrologue, Waits, Gives, Holds}
+use Rattle.sw_hislip.specs.Wire.{wire, IsWireMessage, HasHeader}
+use Rattle.sw_hislip.specs.Pending.{longest_payload, Pending, DecoderSeen, IsLean, nothing_fed, fed}
+use Rattle.sw_hislip.specs.Pending.{HasWrongPrologue, Waits, GivesNext, HasMessage}
 
 -- no whole message, however large, stands at the front
 abbrev pub IsRest : List ℕ → Type 0
-IsRest rest = (m : Message) (more : List ℕ) → IsMessage m → rest ≡ wire m ++ more → ⊥
+IsRest rest = (m : Message) (more : List ℕ) → IsWireMessage m → rest ≡ wire m ++ more → ⊥
 
 -- the bytes are these messages, and then a rest that is no whole message
 pub record IsStream (bytes : List ℕ) (messages : List Message) (rest : List ℕ) : Type 0 where
   pub whole : bytes ≡ flat_map wire messages ++ rest
-  pub each : AllByRecursion IsMessage messages
+  pub each : AllByRecursion IsWireMessage messages
   pub partial : IsRest rest
 
 -- what is told of a message: itself, or its kind where its payload is too large
 abbrev pub told_of : Message → Result Message Kind
-told_of m = if nat_lt longest (length m.payload) then Err m.kind else Ok m
+told_of m = if nat_lt longest_payload (length m.payload) then Err m.kind else Ok m
 
 -- ---- a decoder's calls
 
@@ -31,10 +33,10 @@ pub data Call : Type 0 where
   answers : Result (Option Message) WireFault → Call
 
 -- the calls in this order lead from one state to another
-abbrev pub Leads : Pending → List Call → Pending → Type 0
-Leads old [] new = new ≡ old
-Leads old (feeds piece ∷ calls) new = Leads (fed old piece) calls new
-Leads old (answers answer ∷ calls) new = (after : Pending) × Gives old answer after × Leads after calls new
+abbrev pub Decodes : Pending → List Call → Pending → Type 0
+Decodes old [] new = new ≡ old
+Decodes old (feeds piece ∷ calls) new = Decodes (fed old piece) calls new
+Decodes old (answers answer ∷ calls) new = (after : Pending) × GivesNext old answer after × Decodes after calls new
 
 -- all bytes that were fed
 abbrev pub stream_of : List Call → List ℕ
@@ -54,51 +56,71 @@ told (feeds piece ∷ calls) = told calls
 
 -- ---- where a decoder stands in the stream
 
--- these messages were told, and what follows them is pending
-pub record Stands (bytes : List ℕ) (told : List (Result Message Kind)) (p : Pending) : Type 0 where
-  pub messages : List Message
-  pub each : AllByRecursion IsMessage messages
-  pub whole : bytes ≡ flat_map wire messages ++ p.bytes
-  pub told_is : told ≡ map told_of messages
-  pub no_skip : p.skip ≡ 0
-
--- these messages were told, and one more that is too large, of which the payload is still coming
-pub record Skips (bytes : List ℕ) (told : List (Result Message Kind)) (p : Pending) : Type 0 where
-  pub messages : List Message
-  pub each : AllByRecursion IsMessage messages
+-- The front of a message whose payload is too large and is skipped: so many of its bytes are still to come.
+pub record IsSkipped (rest : List ℕ) (kind : Kind) (skip : ℕ) : Type 0 where
   pub h : Header
   pub got : List ℕ
-  pub whole : bytes ≡ flat_map wire messages ++ (header h ++ got)
-  pub proper : IsHeader h
-  pub large : longest < h.length
-  pub told_is : told ≡ map told_of messages ++ Err h.kind ∷ []
-  pub missing : length got + p.skip ≡ h.length
-  pub some : 0 < p.skip
-  pub none_kept : p.bytes ≡ []
+  pub begins : HasHeader rest h got
+  pub large : longest_payload < h.length
+  pub kind_is : h.kind ≡ kind
+  pub missing : length got + skip ≡ h.length
+  pub some : 0 < skip
 
-abbrev pub Follows : List ℕ → List (Result Message Kind) → Pending → Type 0
-Follows bytes told p = Stands bytes told p ⊎ Skips bytes told p
+-- Of these messages was told, and the rest is pending; or the rest is the front of one that is skipped, of which was
+-- told too.
+abbrev pub Leaves : List Message → List ℕ → List (Result Message Kind) → Pending → Type 0
+Leaves messages rest told p =
+    ((told ≡ map told_of messages) × (p ≡ record { bytes = rest; skip = 0 }))
+    ⊎ ((kind : Kind) × IsSkipped rest kind p.skip × (told ≡ map told_of messages ++ Err kind ∷ []) × (p.bytes ≡ []))
+
+-- What was told is told of messages of the stream, from its start on and in order, and of no others.
+pub record Follows (bytes : List ℕ) (told : List (Result Message Kind)) (p : Pending) : Type 0 where
+  pub messages : List Message
+  pub rest : List ℕ
+  pub each : AllByRecursion IsWireMessage messages
+  pub whole : bytes ≡ flat_map wire messages ++ rest
+  pub leaves : Leaves messages rest told p
+
+-- A decoder rests: it waits for more, or a wrong prologue stands in a message's place.
+abbrev pub Rests : List ℕ → Type 0
+Rests bytes = Waits bytes ⊎ HasWrongPrologue bytes
 
 -- ---- the laws
 
 -- Whatever the calls of a new decoder are, what was told is told of the messages of the stream, in order.
 abbrev pub EveryMessageComesOut : List Call → Pending → Type 0
-EveryMessageComesOut calls p = Leads nothing_fed calls p → Follows (stream_of calls) (told calls) p
+EveryMessageComesOut calls p = Decodes nothing_fed calls p → Follows (stream_of calls) (told calls) p
+
+-- Where a decoder rests, it has told of every message: what is left is no whole one.
+abbrev pub LeavesARest : List ℕ → List (Result Message Kind) → Pending → Type 0
+LeavesARest bytes told p = (f : Follows bytes told p) → Rests p.bytes → IsStream bytes f.messages f.rest
 
 -- bytes are one list of messages and one rest
 abbrev pub OneStream : List ℕ → Type 0
-OneStream bytes = (ms ns : List Message) (rest other : List ℕ) → IsStream bytes ms rest → IsStream bytes ns other → (ms ≡ ns) × (rest ≡ other)
+OneStream bytes =
+    (ms ns : List Message) (rest other : List ℕ) → IsStream bytes ms rest → IsStream bytes ns other
+    → (ms ≡ ns) × (rest ≡ other)
 
--- Two decoders that were fed the same stream, each in its own pieces, and that both wait for more, told the same.
+-- Two decoders that were fed the same stream and that both rest told the same, and the same is pending in both.
+abbrev pub TellAlike : List ℕ → List (Result Message Kind) → List (Result Message Kind) → Pending → Pending → Type 0
+TellAlike bytes t u p q =
+    Follows bytes t p → Follows bytes u q → Rests p.bytes → Rests q.bytes → (t ≡ u) × (p ≡ q)
+
+-- the same of two lists of calls that feed one stream, each in its own pieces
 abbrev pub CutsDoNotMatter : List Call → List Call → Type 0
 CutsDoNotMatter calls others =
-    (p q : Pending) → Leads nothing_fed calls p → Leads nothing_fed others q → Waits p.bytes → Waits q.bytes
-    → stream_of calls ≡ stream_of others → told calls ≡ told others
+    (p q : Pending) → Decodes nothing_fed calls p → Decodes nothing_fed others q → Rests p.bytes → Rests q.bytes
+    → stream_of calls ≡ stream_of others → (told calls ≡ told others) × (p ≡ q)
+
+-- a decoder that waits for more keeps less than twice a header and the longest payload in memory
+abbrev pub RoomIsBounded : DecoderSeen → Type 0
+RoomIsBounded d = IsLean d → Waits d.pending.bytes → d.room < 2 * (16 + longest_payload)
 
 -- A message on the wire is given back, whatever follows it, unless there is no memory for it.
 abbrev pub ComesBack : Message → Type 0
 ComesBack m =
-    (old new : Pending) (more : List ℕ) (answer : Result (Option Message) WireFault) → Holds old.bytes m more → Gives old answer new
+    (old new : Pending) (more : List ℕ) (answer : Result (Option Message) WireFault) → HasMessage old.bytes m more
+    → GivesNext old answer new
     → ((answer ≡ Ok (Some m)) × (new ≡ record { bytes = more; skip = old.skip })) ⊎ (answer ≡ Err NoMemory)
 
 -- every answer is that the prologue is wrong
@@ -109,4 +131,4 @@ AllWrong (answers answer ∷ calls) = (answer ≡ Err BadPrologue) × AllWrong c
 
 -- Once a wrong prologue stands in a message's place, nothing else is answered.
 abbrev pub WrongPrologueStays : List Call → Type 0
-WrongPrologueStays calls = (p q : Pending) → HasWrongPrologue p.bytes → Leads p calls q → AllWrong calls
+WrongPrologueStays calls = (p q : Pending) → HasWrongPrologue p.bytes → Decodes p calls q → AllWrong calls

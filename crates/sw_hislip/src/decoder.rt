@@ -1,7 +1,7 @@
 //! Bytes to messages.
 
-ghost use Rattle.std.specs.Prelude.{◌≡◌, ◌≤◌, drop, length, OnOk, OnErr};
-ghost use Rattle.sw_hislip.specs.Pending.{nothing_fed, fed, skipping, Gives};
+ghost use Rattle.std.specs.Prelude.{◌≡◌, ◌≤◌, ◌+◌, drop, length, IsOk, OnOk, OnErr};
+ghost use Rattle.sw_hislip.specs.Pending.{nothing_fed, fed, without_front, skipping, GivesNext, IsLean};
 
 use crate::fault::WireFault;
 use crate::header::{HEADER, read_header};
@@ -12,7 +12,8 @@ use sw_base::Sequence;
 
 /// The bytes of a connection, fed in any pieces, as messages.
 ///
-/// Contracts see a `Pending`: the bytes that were fed and not taken, and how many of the bytes to come are skipped.
+/// Contracts see a `DecoderSeen`: the bytes that were fed and not taken, how many of the bytes to come are skipped, and
+/// how many bytes of the stream are kept in memory.
 #[derive(Drop)]
 pub struct Decoder {
     buffer: Vec<u8>,
@@ -22,20 +23,24 @@ pub struct Decoder {
 }
 
 impl Model for Decoder {
-    ghost use Rattle.std.specs.Prelude.{◌≤◌, drop, vec_len};
-    ghost use Rattle.sw_hislip.specs.Pending.{Pending};
+    ghost use Rattle.std.specs.Prelude.{◌≡◌, ◌≤◌, ◌<◌, ◌*◌, drop, vec_len};
+    ghost use Rattle.sw_hislip.specs.Pending.{DecoderSeen};
 
-    ghost Value = { Pending };
+    ghost Value = { DecoderSeen };
 
-    ghost view = { λ d. record { bytes = drop d.taken d.buffer.items; skip = d.skip } };
+    ghost view = { λ d. record {
+      pending = record { bytes = drop d.taken d.buffer.items; skip = d.skip };
+      room = vec_len d.buffer;
+    } };
 
-    ghost invariant = { λ d. d.taken ≤ vec_len d.buffer };
+    ghost invariant = { λ d. (2 * d.taken ≤ vec_len d.buffer) × (0 < d.skip → vec_len d.buffer ≡ 0) };
 }
 
 impl Decoder {
     /// A decoder that was fed nothing.
     pub fn new(alloc: Global) -> Decoder
-        ensures { result ≡ nothing_fed }
+        ensures nothing { result.pending ≡ nothing_fed }
+        ensures lean { IsLean result }
     {
         Decoder {
             buffer: Vec::new(alloc),
@@ -44,17 +49,18 @@ impl Decoder {
         }
     }
 
-    /// Takes the next piece of the stream. Bytes of a payload that is skipped are dropped and take no memory. Refused is
-    /// only want of memory, and then nothing changed.
+    /// Takes the next piece of the stream. Bytes of a payload that is skipped are dropped and take no memory. Refused
+    /// is only want of memory, and then nothing changed.
     pub fn feed(&mut self, piece: &[u8]) -> Result<(), AllocError>
-        ensures fed { OnOk result (self.new ≡ fed self.old piece.now) }
+        ensures fed { OnOk result (self.new.pending ≡ fed self.old.pending piece.now) }
         ensures kept { OnErr result (self.new ≡ self.old) }
+        ensures skipped { length piece.now ≤ self.old.pending.skip → IsOk result }
+        ensures lean { IsLean self.new }
     {
         if piece.len() as u64 <= self.skip {
             self.skip -= piece.len() as u64;
             return Ok(());
         }
-        self.compact();
         let (_, kept) = piece.split_at(self.skip as usize);
         self.buffer.extend_from_slice(kept)?;
         self.skip = 0;
@@ -66,7 +72,8 @@ impl Decoder {
     /// `BadPrologue` changes nothing, so it is answered again. `TooLarge` is answered once, and the payload is then
     /// skipped. `NoMemory` changes nothing.
     pub fn next(&mut self, alloc: Global) -> Result<Option<Message>, WireFault>
-        ensures { Gives self.old result self.new }
+        ensures given { GivesNext self.old.pending result self.new.pending }
+        ensures lean { IsLean self.new }
     {
         let (_, unread) = self.buffer.as_slice().split_at(self.taken);
         let header = match read_header(unread)? {
@@ -86,7 +93,7 @@ impl Decoder {
         match Vec::from_slice(alloc, payload) {
             Err(_) => Err(WireFault::NoMemory),
             Ok(payload) => {
-                self.taken += HEADER + length;
+                self.take(HEADER + length);
                 Ok(Some(Message {
                     kind: header.kind,
                     control: header.control,
@@ -97,31 +104,39 @@ impl Decoder {
         }
     }
 
+    /// How many bytes of the stream are kept in memory.
+    pub fn room(&self) -> usize
+        ensures room { result ≡ self.now.room }
+        ensures lean { IsLean self.now }
+    {
+        self.buffer.len()
+    }
+
     /// Drops what is there of a payload after its header at the front, and skips the rest of it.
     fn skip_payload(&mut self, size: u64)
-        requires { 16 ≤ length self.old.bytes }
-        ensures { self.new ≡ skipping (drop 16 self.old.bytes) size }
+        requires { 16 ≤ length self.old.pending.bytes }
+        ensures skipped { self.new.pending ≡ skipping (drop 16 self.old.pending.bytes) size }
+        ensures lean { IsLean self.new }
     {
-        self.taken += HEADER;
-        let there = (self.buffer.len() - self.taken) as u64;
-        if there < size {
-            self.taken = self.buffer.len();
-            self.skip = size - there;
+        let there = (self.buffer.len() - self.taken - HEADER) as u64;
+        if size <= there {
+            self.take(HEADER + size as usize);
         } else {
-            self.taken += size as usize;
-            self.skip = 0;
+            self.buffer.clear();
+            self.taken = 0;
+            self.skip = size - there;
         }
     }
 
-    /// Frees what was taken, where it is at least half of the buffer: so bytes are moved no more often than they are
-    /// taken.
-    fn compact(&mut self)
-        ensures { self.new ≡ self.old }
+    /// Takes bytes from the front. What was taken is given up once it is more than what is left, so that a byte is
+    /// moved no more often than one is taken.
+    fn take(&mut self, count: usize)
+        requires { count ≤ length self.old.pending.bytes }
+        ensures taken { self.new.pending ≡ without_front self.old.pending count }
+        ensures lean { IsLean self.new }
     {
-        if self.taken == self.buffer.len() {
-            self.buffer.clear();
-            self.taken = 0;
-        } else if self.buffer.len() - self.taken <= self.taken {
+        self.taken += count;
+        if self.taken > self.buffer.len() - self.taken {
             let _ = self.buffer.drain(..self.taken);
             self.taken = 0;
         }

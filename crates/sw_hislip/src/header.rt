@@ -2,7 +2,7 @@
 
 ghost use Rattle.std.specs.Prelude.{◌≡◌, length};
 ghost use Rattle.std.specs.Int.{w32, w64, from_be_bytes};
-ghost use Rattle.sw_hislip.specs.Pending.{Reads};
+ghost use Rattle.sw_hislip.specs.Pending.{ReadsHeader};
 
 use crate::fault::WireFault;
 use crate::kind::Kind;
@@ -21,7 +21,7 @@ pub struct Header {
 
 /// The header at the front; none where fewer than 16 bytes are there. `BadPrologue` where it doesn't begin with `HS`.
 pub fn read_header(bytes: &[u8]) -> Result<Option<Header>, WireFault>
-    ensures { Reads bytes.now result }
+    ensures { ReadsHeader bytes.now result }
 {
     if bytes.len() < HEADER {
         return Ok(None);

@@ -1,7 +1,7 @@
 //! Kinds of messages.
 
 ghost use Rattle.std.specs.Prelude.{◌≡◌};
-ghost use Rattle.sw_hislip.specs.Kinds.{number_of, IsKind};
+ghost use Rattle.sw_hislip.specs.Kinds.{kind_number, IsKind};
 
 /// What a message is, by the number of its type (IVI-6.1 HiSLIP, message type value definitions).
 #[derive(Clone, Copy, Debug, PartialEq, Eq)]
@@ -41,7 +41,7 @@ pub enum Kind {
 impl Kind {
     /// The kind with this number in the header.
     pub fn of(number: u8) -> Kind
-        ensures value { number_of result ≡ number }
+        ensures value { kind_number result ≡ number }
         ensures proper { IsKind result }
     {
         match number {
@@ -78,7 +78,7 @@ impl Kind {
 
     /// Its number in the header.
     pub fn number(self) -> u8
-        ensures { result ≡ number_of self }
+        ensures { result ≡ kind_number self }
     {
         match self {
             Kind::Initialize => 0,

@@ -1,15 +1,24 @@
 //! What holds of every decoder, every stream and every table of locks.
 
-ghost use Rattle.std.specs.Prelude.{◌≡◌, ℕ, List, length};
+ghost use Rattle.std.specs.Prelude.{◌≡◌, ℕ, List, Result, length};
+ghost use Rattle.sw_base.specs.Limits.{most_sessions};
 ghost use Rattle.sw_hislip.specs.LockTable.{LockTable, no_locks};
 ghost use Rattle.sw_hislip.specs.LockRules.{LockTurn, AreRules, IsOrderly, KeepsOrder};
+ghost use Rattle.sw_hislip.specs.declared.kind.Kind.{Kind};
 ghost use Rattle.sw_hislip.specs.declared.message.Message.{Message};
-ghost use Rattle.sw_hislip.specs.Pending.{Pending};
-ghost use Rattle.sw_hislip.specs.Stream.{Call, EveryMessageComesOut, OneStream, CutsDoNotMatter, WrongPrologueStays, ComesBack};
+ghost use Rattle.sw_hislip.specs.Pending.{Pending, DecoderSeen};
+ghost use Rattle.sw_hislip.specs.Stream.{Call, EveryMessageComesOut, LeavesARest, OneStream, TellAlike};
+ghost use Rattle.sw_hislip.specs.Stream.{CutsDoNotMatter, RoomIsBounded, ComesBack, WrongPrologueStays};
 
 /// Whatever the calls of a decoder are, it tells of the messages of its stream, in order, and of nothing else.
 pub fn every_message_comes_out()
     ensures { (calls : List Call) (p : Pending) → EveryMessageComesOut calls p }
+{}
+
+/// Where a decoder waits for more, or stands at a wrong prologue, it has told of every message of its stream: what is
+/// left is no whole message.
+pub fn nothing_whole_is_left()
+    ensures { (bytes : List ℕ) (told : List (Result Message Kind)) (p : Pending) → LeavesARest bytes told p }
 {}
 
 /// Bytes are one list of messages and one rest that is no whole message.
@@ -17,9 +26,16 @@ pub fn one_stream()
     ensures { (bytes : List ℕ) → OneStream bytes }
 {}
 
-/// What a decoder tells of a stream doesn't depend on the pieces in which it was fed.
+/// What a decoder tells of a stream, and what is pending then, doesn't depend on the pieces in which it was fed: where
+/// it waits for more, and where the stream ends in a wrong prologue.
 pub fn cuts_do_not_matter()
-    ensures { (calls others : List Call) → CutsDoNotMatter calls others }
+    ensures calls { (calls others : List Call) → CutsDoNotMatter calls others }
+    ensures streams { (bytes : List ℕ) (t u : List (Result Message Kind)) (p q : Pending) → TellAlike bytes t u p q }
+{}
+
+/// A decoder that waits for more keeps less than 131,104 bytes in memory, whatever was fed.
+pub fn room_is_bounded()
+    ensures { (d : DecoderSeen) → RoomIsBounded d }
 {}
 
 /// A wrong prologue is answered from then on, whatever is fed.
@@ -34,7 +50,7 @@ pub fn encoded_is_decoded()
 
 /// A session is admitted, and a lock is granted, exactly where the rules say so in terms of the other sessions.
 pub fn locks_keep_their_rules()
-    ensures { (l : LockTable) (sid : ℕ) → length l.keys ≡ 16 → AreRules l sid }
+    ensures { (l : LockTable) (sid : ℕ) → length l.keys ≡ most_sessions → AreRules l sid }
 {}
 
 /// Each turn of a session keeps the order of the locks: all that share one have one key, and beside the exclusive lock

@@ -1,9 +1,11 @@
 //! HiSLIP messages as bytes, and the locks of an instrument (IVI-6.1 HiSLIP, protocol version 1.0).
 //!
-//! The contract to the layers above: `encode` writes the one wire form of a message, `wire`. A `Decoder` is fed the bytes
-//! of a connection in any pieces and gives its messages one by one. Up to a rest that is no whole message the stream is
-//! these messages and no others, however it was cut (`every_message_comes_out`, `one_stream`); a wrong prologue and a
-//! payload that is too large are told only where they stand in a message's place. Want of memory changes nothing.
+//! The contract to the layers above: `encode` writes the one wire form of a message, `wire`. A `Decoder` is fed the
+//! bytes of a connection in any pieces and gives its messages one by one: up to a rest that is no whole message the
+//! stream is these messages and no others, however it was cut (`every_message_comes_out`, `nothing_whole_is_left`,
+//! `one_stream`, `cuts_do_not_matter`). A wrong prologue and a payload that is too large are told only where they stand
+//! in a message's place. Nothing is kept of a payload that is skipped, and of what was taken no more than of what is
+//! left (`room_is_bounded`). Want of memory changes nothing.
 //!
 //! `Locks` is seen as a table: who holds the exclusive lock, and by which key each session shares one. Each call is an
 //! equation on it, by the rules of `specs/LockRules.antt` (`locks_keep_their_rules`, `locks_stay_orderly`).
@@ -26,7 +28,7 @@ pub use fault::WireFault;
 pub use kind::Kind;
 pub use laws::{
     cuts_do_not_matter, encoded_is_decoded, every_message_comes_out, locks_keep_their_rules,
-    locks_stay_orderly, one_stream, wrong_prologue_stays,
+    locks_stay_orderly, nothing_whole_is_left, one_stream, room_is_bounded, wrong_prologue_stays,
 };
-pub use locks::{LockReply, Locks, Released, SESSIONS};
+pub use locks::{LockReply, Locks, Released};
 pub use message::{LONGEST_PAYLOAD, Message};

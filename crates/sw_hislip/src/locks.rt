@@ -4,15 +4,16 @@ ghost use Rattle.std.specs.Prelude.{◌≡◌, ◌≤◌, true, false, is_some, 
 ghost use Rattle.std.specs.List.{list_all};
 ghost use Rattle.sw_hislip.specs.LockTable.{no_locks, agrees, shares, other_excludes, admits, excludes, holds, holders};
 ghost use Rattle.sw_hislip.specs.LockTable.{is_wrong_key, grants_shared, with_key, Replies, RepliesBy, MayLackMemory};
+ghost use Rattle.sw_base.specs.Limits.{most_sessions};
 ghost use Rattle.sw_hislip.specs.LockTable.{freed, released, left};
 ghost use Rattle.sw_hislip.specs.LockRules.{IsOrderly};
 
 use std::alloc::{AllocError, Global};
 use std::marker::Model;
-use sw_base::Sequence;
+use sw_base::{SESSIONS, Sequence};
 
-/// The most sessions, which are numbered from 1 (own choice).
-pub const SESSIONS: u8 = 16;
+/// A place for each session.
+const PLACES: usize = SESSIONS as usize;
 
 /// The most bytes of a key (IVI-6.1 HiSLIP, lock transaction).
 const LONGEST_KEY: usize = 256;
@@ -42,8 +43,8 @@ pub enum Released {
 #[derive(Debug, Drop)]
 pub struct Locks {
     exclusive: Option<u8>,
-    /// The keys of the sessions 1 to 16.
-    keys: [Option<Sequence<u8>>; 16],
+    /// The keys of the sessions, by number from 1.
+    keys: [Option<Sequence<u8>>; PLACES],
 }
 
 impl Model for Locks {
@@ -72,11 +73,11 @@ impl Locks {
         }
     }
 
-    /// A session asks for a lock: for the exclusive one by an empty key, else for the shared one by its key. `Wrong` goes
-    /// before `NotNow`. Refused is only want of memory for the key of a shared lock that is due. Only `Granted` changes
-    /// anything.
+    /// A session asks for a lock: for the exclusive one by an empty key, else for the shared one by its key. `Wrong`
+    /// goes before `NotNow`. Refused is only want of memory for the key of a shared lock that is due. Only `Granted`
+    /// changes anything.
     pub fn ask(&mut self, alloc: Global, sid: u8, key: &[u8]) -> Result<LockReply, AllocError>
-        requires { (1 ≤ sid) × (sid ≤ 16) }
+        requires { (1 ≤ sid) × (sid ≤ most_sessions) }
         ensures replied { IfOk result (λ reply. Replies self.old sid key.now reply self.new) }
         ensures due { OnErr result (MayLackMemory self.old sid key.now) }
         ensures kept { OnErr result (self.new ≡ self.old) }
@@ -89,7 +90,7 @@ impl Locks {
 
     /// Frees a lock of the session at once: the exclusive one first, then the shared one.
     pub fn release(&mut self, sid: u8) -> Released
-        requires { (1 ≤ sid) × (sid ≤ 16) }
+        requires { (1 ≤ sid) × (sid ≤ most_sessions) }
         ensures which { result ≡ freed self.old sid }
         ensures rest { self.new ≡ released self.old sid }
     {
@@ -106,7 +107,7 @@ impl Locks {
 
     /// Whether no lock of another session keeps the session out.
     pub fn admits(&self, sid: u8) -> bool
-        requires { (1 ≤ sid) × (sid ≤ 16) }
+        requires { (1 ≤ sid) × (sid ≤ most_sessions) }
         ensures admitted { result ≡ admits self.now sid }
         ensures orderly { IsOrderly self.now }
     {
@@ -117,7 +118,7 @@ impl Locks {
     #[tactic(auto, unfolding(crate::specs::LockTable::holders))]
     pub fn info(&self) -> (bool, u8)
         ensures exclusive { result.0 ≡ is_some self.now.exclusive }
-        ensures holders { result.1 ≡ holders self.now 16 }
+        ensures holders { result.1 ≡ holders self.now most_sessions }
         ensures orderly { IsOrderly self.now }
     {
         let mut count = 0;
@@ -131,7 +132,7 @@ impl Locks {
 
     /// Frees every lock of a session that leaves.
     pub fn leave(&mut self, sid: u8)
-        requires { (1 ≤ sid) × (sid ≤ 16) }
+        requires { (1 ≤ sid) × (sid ≤ most_sessions) }
         ensures { self.new ≡ left self.old sid }
     {
         if self.excludes(sid) {
@@ -142,7 +143,7 @@ impl Locks {
 
     /// A session asks for the exclusive lock.
     fn ask_exclusive(&mut self, sid: u8) -> LockReply
-        requires { (1 ≤ sid) × (sid ≤ 16) }
+        requires { (1 ≤ sid) × (sid ≤ most_sessions) }
         ensures { Replies self.old sid [] result self.new }
     {
         if self.excludes(sid) {
@@ -157,7 +158,7 @@ impl Locks {
 
     /// A session asks for the shared lock.
     fn ask_shared(&mut self, alloc: Global, sid: u8, key: &[u8]) -> Result<LockReply, AllocError>
-        requires { (1 ≤ sid) × (sid ≤ 16) }
+        requires { (1 ≤ sid) × (sid ≤ most_sessions) }
         ensures replied { IfOk result (λ reply.
             RepliesBy (is_wrong_key self.old sid key.now) (grants_shared self.old sid key.now)
             self.old (with_key self.old sid (Some key.now)) reply self.new) }
@@ -198,7 +199,7 @@ impl Locks {
 
     /// Whether the session shares a lock.
     fn shares(&self, sid: u8) -> bool
-        requires { (1 ≤ sid) × (sid ≤ 16) }
+        requires { (1 ≤ sid) × (sid ≤ most_sessions) }
         ensures { result ≡ shares self.now sid }
     {
         self.keys[(sid - 1) as usize].is_some()
@@ -206,7 +207,7 @@ impl Locks {
 
     /// Whether the session holds a lock.
     fn holds(&self, sid: u8) -> bool
-        requires { (1 ≤ sid) × (sid ≤ 16) }
+        requires { (1 ≤ sid) × (sid ≤ most_sessions) }
         ensures { result ≡ holds self.now sid }
     {
         self.excludes(sid) || self.shares(sid)

@@ -1,5 +1,5 @@
-use Rattle.sw_hislip.proofs.Cuts.{no_matter}
+use Rattle.sw_hislip.proofs.Cuts.{alike, no_matter}
 use Rattle.sw_hislip.proofs.laws.cuts_do_not_matter.Goals as goal
 
 pub returns : goal.returns
-returns c = no_matter
+returns c = record { calls = no_matter; streams = alike }
