@@ -9,24 +9,34 @@ use Rattle.mainframe.specs.Cards.{Fitted}
 use Rattle.mainframe.specs.Run.{State, begins_over, IsSetUp, Line, Run, RunsTo}
 
 -- no growth was refused in the talk about one line and in the rest after it, and no card failed
-pub record IsPlainLine {sid : Sid} {old new : State} {line told : List ℕ} (l : Line sid old line told new) : Type 0 where
+pub record IsPlainLine {sid : Sid} {old new : State} {line told : List ℕ}
+    (l : Line sid old line told new) : Type 0 where
   pub ample : AllAmple l.talked.trace
   pub talk : AllSmooth l.talked.trace (carried_in l.talked)
   pub rest : AllSmooth (waits_of l.rests) (carried_at_rest l.rests)
 
 -- nor in any of these lines
-abbrev pub IsPlainRun : (sid : Sid) (s : State) (lines : List (List ℕ)) (bytes : List ℕ) (s' : State) → Run sid s lines bytes s' → Type 0
+abbrev pub IsPlainRun : (sid : Sid) (s : State) (lines : List (List ℕ)) (bytes : List ℕ) (s' : State)
+    → Run sid s lines bytes s' → Type 0
 IsPlainRun sid s [] bytes s' run = Unit {0}
 IsPlainRun sid s (l ∷ ls) bytes s' run = IsPlainLine run.3 × IsPlainRun sid run.1 ls run.2 s' run.4
 
 -- what was measured: for each line in the talk about it, and in the rest after it
-abbrev pub measured_in : (sid : Sid) (s : State) (lines : List (List ℕ)) (bytes : List ℕ) (s' : State) → Run sid s lines bytes s' → List (List (Result Reading CardFault))
+abbrev pub measured_in : (sid : Sid) (s : State) (lines : List (List ℕ)) (bytes : List ℕ) (s' : State)
+    → Run sid s lines bytes s' → List (List (Result Reading CardFault))
 measured_in sid s [] bytes s' run = []
-measured_in sid s (l ∷ ls) bytes s' run = outcomes_of (carried_in run.3.talked) ∷ outcomes_of (carried_at_rest run.3.rests) ∷ measured_in sid run.1 ls run.2 s' run.4
+measured_in sid s (l ∷ ls) bytes s' run =
+    outcomes_of (carried_in run.3.talked) ∷ outcomes_of (carried_at_rest run.3.rests)
+    ∷ measured_in sid run.1 ls run.2 s' run.4
 
--- Where no growth is refused and no card fails, what is written is determined by the cards, by what is read and by what is
--- measured.
+-- Where no growth is refused and no card fails, what is written is determined by the cards, by what is read and by what
+-- is measured.
 abbrev pub RunIsDetermined : Type 0
-RunIsDetermined = (cards : Fitted) (sid sid' : Sid) (start start' : Panel) (input bytes bytes' : List ℕ) → IsSetUp cards sid start → IsSetUp cards sid' start' → (r : RunsTo sid (begins_over start) input [] bytes) (r' : RunsTo sid' (begins_over start') input [] bytes')
-    → IsPlainRun sid (begins_over start) r.done bytes r.after r.run → IsPlainRun sid' (begins_over start') r'.done bytes' r'.after r'.run
-    → measured_in sid (begins_over start) r.done bytes r.after r.run ≡ measured_in sid' (begins_over start') r'.done bytes' r'.after r'.run → bytes ≡ bytes'
+RunIsDetermined = (cards : Fitted) (sid sid' : Sid) (start start' : Panel) (input bytes bytes' : List ℕ)
+    → IsSetUp cards sid start → IsSetUp cards sid' start'
+    → (r : RunsTo sid (begins_over start) input [] bytes) (r' : RunsTo sid' (begins_over start') input [] bytes')
+    → IsPlainRun sid (begins_over start) r.done bytes r.after r.run
+    → IsPlainRun sid' (begins_over start') r'.done bytes' r'.after r'.run
+    → measured_in sid (begins_over start) r.done bytes r.after r.run
+    ≡ measured_in sid' (begins_over start') r'.done bytes' r'.after r'.run
+    → bytes ≡ bytes'

@@ -52,7 +52,9 @@ AsksInTurn p (a ∷ more) q = (mid : Panel) × Stepped p a mid × AsksInTurn mid
 pub record IsSetUp (cards : Fitted) (sid : Sid) (panel : Panel) : Type 0 where
   pub begun : Panel
   pub joined : Joins sid begun
-  pub fitted : AsksInTurn begun (AskInstall 1 cards.first ∷ AskInstall 2 cards.second ∷ AskInstall 3 cards.third ∷ AskInstall 4 cards.fourth ∷ []) panel
+  pub fitted : AsksInTurn begun
+      (AskInstall 1 cards.first ∷ AskInstall 2 cards.second
+      ∷ AskInstall 3 cards.third ∷ AskInstall 4 cards.fourth ∷ []) panel
 
 -- one line is talked over and answered by these bytes, and then all that is outstanding is carried out
 pub record Line (sid : Sid) (old : State) (line told : List ℕ) (new : State) : Type 0 where
@@ -63,7 +65,9 @@ pub record Line (sid : Sid) (old : State) (line told : List ℕ) (new : State) :
 -- these lines, one after another, are answered by these bytes; the macros of one are those of the next
 abbrev pub Run : Sid → State → List (List ℕ) → List ℕ → State → Type 0
 Run sid s [] bytes s' = (bytes ≡ []) × (s' ≡ s)
-Run sid s (l ∷ ls) bytes s' = (told : List ℕ) × (mid : State) × (more : List ℕ) × Line sid s l told mid × Run sid mid ls more s' × (bytes ≡ told ++ more)
+Run sid s (l ∷ ls) bytes s' =
+    (told : List ℕ) × (mid : State) × (more : List ℕ) × Line sid s l told mid × Run sid mid ls more s'
+    × (bytes ≡ told ++ more)
 
 -- of the lines of the input those before the rest are answered by these bytes
 pub record RunsTo (sid : Sid) (start : State) (input rest bytes : List ℕ) : Type 0 where
@@ -122,7 +126,8 @@ pub record Unbegun (fault : RunFault) (input : List ℕ) (left old new : Option 
 
 -- What a run comes to by a mainframe of these cards. At Ok all of the input was read and answered. At a fault either
 -- nothing was begun, or the answers are written up to the fault.
-pub record Runs (cards : Fitted) (result : Result (Unit {0}) RunFault) (input : List ℕ) (left old new : Option (List ℕ)) : Type 0 where
+pub record Runs (cards : Fitted) (result : Result (Unit {0}) RunFault) (input : List ℕ)
+    (left old new : Option (List ℕ)) : Type 0 where
   pub answered : OnOk result (Answered cards input old new)
   pub all : OnOk result (IsAtEnd left)
   pub fault : IfErr result (λ fault. Unbegun fault input left old new ⊎ Cut cards fault input left old new)

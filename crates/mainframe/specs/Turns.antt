@@ -34,7 +34,8 @@ abbrev pub most_turns : ℕ
 most_turns = 2 ^ 32
 
 -- One line is taken while the writer has the answers so far, then it is talked over, and then its answer is written.
-pub record TakesTurn {S W : Type 0} (remaining : S → Option (List ℕ)) (asked : S → W → S → Type 0) (contents : W → Option (List ℕ)) (sid : Sid) (a : Stand S W) (line : List ℕ) (b : Stand S W) : Type 0 where
+pub record TakesTurn {S W : Type 0} (remaining : S → Option (List ℕ)) (asked : S → W → S → Type 0)
+    (contents : W → Option (List ℕ)) (sid : Sid) (a : Stand S W) (line : List ℕ) (b : Stand S W) : Type 0 where
   pub told : List ℕ
   pub reads : Spends asked a.source a.writer a.turns b.turns b.source
   pub takes : IfSome (remaining a.source) (λ xs. line ≡ take_through 10 xs)
@@ -43,13 +44,16 @@ pub record TakesTurn {S W : Type 0} (remaining : S → Option (List ℕ)) (asked
   pub writes : Appends (contents a.writer) (contents b.writer) told
 
 -- these lines, one after another
-abbrev pub TakesTurns : {S W : Type 0} → (S → Option (List ℕ)) → (S → W → S → Type 0) → (W → Option (List ℕ)) → Sid → Stand S W → List (List ℕ) → Stand S W → Type 0
+abbrev pub TakesTurns : {S W : Type 0} → (S → Option (List ℕ)) → (S → W → S → Type 0) → (W → Option (List ℕ)) → Sid
+    → Stand S W → List (List ℕ) → Stand S W → Type 0
 TakesTurns remaining asked contents sid a [] b = b ≡ a
-TakesTurns remaining asked contents sid a (line ∷ more) b = (mid : _) × TakesTurn remaining asked contents sid a line mid × TakesTurns remaining asked contents sid mid more b
+TakesTurns remaining asked contents sid a (line ∷ more) b =
+    (mid : _) × TakesTurn remaining asked contents sid a line mid × TakesTurns remaining asked contents sid mid more b
 
 -- All that a run asks of its source, down to so many turns: whole lines in turn, and then what is asked while all
 -- answers to these are written, and no more than they.
-pub record AsksInTurn {S W : Type 0} (remaining : S → Option (List ℕ)) (asked : S → W → S → Type 0) (contents : W → Option (List ℕ)) (sid : Sid) (a : Stand S W) (left : ℕ) (source : S) : Type 0 where
+pub record AsksInTurn {S W : Type 0} (remaining : S → Option (List ℕ)) (asked : S → W → S → Type 0)
+    (contents : W → Option (List ℕ)) (sid : Sid) (a : Stand S W) (left : ℕ) (source : S) : Type 0 where
   pub lines : List (List ℕ)
   pub last : Stand S W
   pub turns : TakesTurns remaining asked contents sid a lines last

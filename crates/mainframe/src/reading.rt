@@ -73,7 +73,8 @@ pub fn read_line<S: Source<W>, W>(
     turns: &mut u64,
     line: &mut Vec<u8>,
 ) -> Result<(), RunFault>
-    ensures kept { OnOk result (IfSome (S.remaining source.old) (λ xs. line.new.items ≡ take most_kept (take_through 10 xs))) }
+    ensures kept { OnOk result (IfSome (S.remaining source.old) (λ xs.
+        line.new.items ≡ take most_kept (take_through 10 xs))) }
     ensures rest { OnOk result (DropsThrough (S.remaining source.old) (S.remaining source.new) 10) }
     ensures cut { OnErr result (CutsLine (S.remaining source.old) (S.remaining source.new)) }
     ensures turns { Spends S.asked source.old written.now turns.old turns.new source.new }

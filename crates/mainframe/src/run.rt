@@ -35,7 +35,8 @@ pub fn run_lines<Rd: BufRead, W: Write>(
     writer: &mut W,
     fuse: Option<u32>,
 ) -> Result<(), RunFault>
-    ensures { IfSome (Rd.remaining reader.old) (λ input. Runs program_cards result input (Rd.remaining reader.new) (W.contents writer.old) (W.contents writer.new)) }
+    ensures { IfSome (Rd.remaining reader.old) (λ input. Runs program_cards result input
+        (Rd.remaining reader.new) (W.contents writer.old) (W.contents writer.new)) }
 {
     let Ok(boxed) = Box::new(alloc, first_card(fuse)) else {
         return Err(RunFault::Memory);
@@ -132,11 +133,15 @@ pub fn run_on<R: Relay, M: Meter, S: Source<W>, W: Write>(
     desk: &mut CoreDesk<R, M>,
     sid: Sid,
 ) -> Result<(), RunFault>
-    ensures ok { OnOk result (IfSome (S.remaining source.old) (λ input. AnsweredFrom sid (state desk.old no_macros) input [] (W.contents writer.old) (W.contents writer.new))) }
+    ensures ok { OnOk result (IfSome (S.remaining source.old) (λ input. AnsweredFrom sid
+        (state desk.old no_macros) input [] (W.contents writer.old) (W.contents writer.new))) }
     ensures all { OnOk result (IfSome (S.remaining source.old) (λ _. IsAtEnd (S.remaining source.new))) }
-    ensures err { IfErr result (λ fault. IfSome (S.remaining source.old) (λ input. EndsFrom sid (state desk.old no_macros) fault input (S.remaining source.new) (W.contents writer.old) (W.contents writer.new))) }
+    ensures err { IfErr result (λ fault. IfSome (S.remaining source.old) (λ input. EndsFrom sid
+        (state desk.old no_macros) fault input (S.remaining source.new)
+        (W.contents writer.old) (W.contents writer.new))) }
     ensures turns { (left : ℕ)
-        × AsksInTurn S.remaining S.asked W.contents sid (stand (state desk.old no_macros) source.old writer.old most_turns) left source.new
+        × AsksInTurn S.remaining S.asked W.contents sid
+        (stand (state desk.old no_macros) source.old writer.old most_turns) left source.new
         × (result ≡ Err RunFault.Input → FailsAfter S.failed left source.new ⊎ IsInVain desk.new) }
 {
     let mut talker = Talker::new(alloc, sid);
