@@ -5,6 +5,8 @@ use crate::run::run_lines;
 use std::alloc::Global;
 use std::io;
 use std::io::{BufReader, Cursor, ErrorKind, Read, Write};
+use std::sync::Arc;
+use std::sync::atomic::{AtomicU64, Ordering};
 use std::test::Fail;
 
 #[test]
@@ -66,6 +68,98 @@ fn a_write_takes_nothing(rt: HostRuntime) -> Result<(), Fail> {
     let mut reader = b"*IDN?\n*IDN?\n*IDN?".as_slice();
     assert!(rt; run_lines(rt.alloc(), &mut reader, &mut writer, None) == Err(RunFault::Output));
     assert_eq!(rt; (writer.left, reader), (0, b"*IDN?".as_slice()));
+    Ok(())
+}
+
+/// How many bytes were handed on by a writer.
+#[derive(Drop)]
+struct Tally {
+    handed_on: AtomicU64,
+}
+
+/// Keeps what it takes to itself until it is flushed, and is interrupted at every second write.
+#[derive(Drop)]
+struct Keeper {
+    kept: u64,
+    is_ready: bool,
+    tally: Arc<Tally, Global>,
+}
+
+impl Write for Keeper {
+    fn write(&mut self, buf: &[u8]) -> io::Result<usize> {
+        self.is_ready = !self.is_ready;
+        if self.is_ready {
+            return Err(io::Error::from(ErrorKind::Interrupted));
+        }
+        self.kept = self.kept.saturating_add(buf.len() as u64);
+        Ok(buf.len())
+    }
+
+    fn flush(&mut self) -> io::Result<()> {
+        self.tally.handed_on.store(self.kept, Ordering::SeqCst);
+        Ok(())
+    }
+}
+
+/// Gives a piece of a line at a time, and looks before each how much was handed on by then. It fails where that is not
+/// what the lines before have answered. It is interrupted once.
+#[derive(Drop)]
+struct Looker {
+    given: u8,
+    was_interrupted: bool,
+    tally: Arc<Tally, Global>,
+}
+
+/// What a looker gives, and how many bytes the lines before have answered.
+fn piece(index: u8) -> Option<(&'static [u8], u64)> {
+    match index {
+        0 => Some((b"*IDN?\n", 0)),
+        1 => Some((b"*WAI;*", 21)),
+        2 => Some((b"OPC?\n;*OPC;", 21)),
+        3 => Some((b"*IDN?\n", 23)),
+        4 => Some((b"*TST?\n", 44)),
+        _ => None,
+    }
+}
+
+impl Read for Looker {
+    fn read(&mut self, buf: &mut [u8]) -> io::Result<usize> {
+        if !self.was_interrupted {
+            self.was_interrupted = true;
+            return Err(io::Error::from(ErrorKind::Interrupted));
+        }
+        let Some((bytes, answered)) = piece(self.given) else {
+            return Ok(0);
+        };
+        if self.tally.handed_on.load(Ordering::SeqCst) != answered {
+            return Err(io::Error::from(ErrorKind::BrokenPipe));
+        }
+        self.given = self.given.saturating_add(1);
+        let taken = bytes.len().min(buf.len());
+        buf[..taken].copy_from_slice(&bytes[..taken]);
+        Ok(taken)
+    }
+}
+
+#[test]
+fn answers_are_handed_on_before_more_is_read(rt: HostRuntime) -> Result<(), Fail> {
+    let tally = Tally {
+        handed_on: AtomicU64::new(0),
+    };
+    let tally = Arc::new(rt.alloc(), tally)?;
+    let looker = Looker {
+        given: 0,
+        was_interrupted: false,
+        tally: tally.clone()?,
+    };
+    let mut reader = BufReader::new(rt.alloc(), looker)?;
+    let mut writer = Keeper {
+        kept: 0,
+        is_ready: false,
+        tally: tally.clone()?,
+    };
+    run_lines(rt.alloc(), &mut reader, &mut writer, None)?;
+    assert_eq!(rt; tally.handed_on.load(Ordering::SeqCst), 46);
     Ok(())
 }
 

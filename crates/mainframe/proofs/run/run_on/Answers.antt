@@ -1,7 +1,6 @@
-use Rattle.std.proofs.Common.{◌≡◌, Bool, true, false, ◌∷◌, ◌++◌, ℕ, List, subst, ◌<◌, ◌∙◌, sym, ap, length, arith, [], Ok, Err, inl, inr, IfSome, eqb-true, vec_len, rules}
+use Rattle.std.proofs.Common.{◌≡◌, Bool, true, false, ◌∷◌, ◌++◌, ℕ, List, subst, ◌<◌, ◌∙◌, sym, ap, length, arith, [], Err, inl, inr, IfSome, eqb-true, vec_len, rules}
 use Rattle.std.proofs.lemmas.Bool.{eqb-false}
 use Rattle.std.specs.Io.KnownBytes.{Appends}
-use Rattle.sw_core.specs.declared.ask.Sid.{Sid}
 use Rattle.sw_macro.specs.Table.{Table, no_macros}
 use Rattle.sw_session.specs.CoreDesk.{Rests}
 use Rattle.mainframe.specs.Run.{EndsFrom, Line, state}
