@@ -9,7 +9,8 @@ use Rattle.sw_lex.specs.Unit.{UnitView, IsUnit, IsWritten, Ends, Closes, is_gap}
 use Rattle.sw_lex.proofs.Once.{one_unit, unit_refused, blank_unit}
 use Rattle.sw_lex.proofs.Written.{one_written}
 use Rattle.sw_macro.specs.Table.{Macro, Table}
-use Rattle.sw_macro.specs.Expansion.{opened, Place, IsFirstUnit, HasNoUnit, Becomes, ends, keeps, fails, stops, goes, within_bound, Replaces, opened_in, Expands}
+use Rattle.sw_macro.specs.Expansion.{opened, Place, IsFirstUnit, HasNoUnit, Becomes, ends, keeps, fails, stops, goes, within_bound, Replaces, opened_in}
+use Rattle.sw_macro.specs.Expansion.{Expands}
 
 -- ---- the code's cut of a text
 

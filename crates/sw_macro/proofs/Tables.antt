@@ -27,7 +27,8 @@ removed_at false e es rest ms h = ap (λ (xs : List Macro). macro_in e ∷ xs) h
 
 pub removed_is : (label : List ℕ) (es : List (ArrayVec ℕ × List ℕ)) → macros_in (remove_entry (named label) es) ≡ without_label label (macros_in es)
 removed_is label [] = refl
-removed_is label (e ∷ es) = removed_at (bytes_eq label e.0.items) e es (remove_entry (named label) es) (without_label label (macros_in es)) (removed_is label es)
+removed_is label (e ∷ es) =
+    removed_at (bytes_eq label e.0.items) e es (remove_entry (named label) es) (without_label label (macros_in es)) (removed_is label es)
 
 abbrev pub same_key : ArrayVec ℕ → ArrayVec ℕ → Bool
 same_key a b = bytes_eq a.items b.items

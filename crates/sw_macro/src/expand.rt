@@ -9,8 +9,8 @@ ghost use Rattle.sw_base.specs.declared.error.ScpiError.{ScpiError as Error};
 ghost use Rattle.sw_base.specs.declared.error.ScpiError.TheVariants.{OutOfMemory};
 ghost use Rattle.sw_lex.specs.Unit.{UnitView, unit_of, written_of};
 ghost use Rattle.sw_macro.specs.Table.{Table};
-ghost use Rattle.sw_macro.specs.Expansion.{called, calls, opened_in, is_one_of, opened, IsFirstUnit, HasNoUnit, Becomes};
-ghost use Rattle.sw_macro.specs.Expansion.{Expands};
+ghost use Rattle.sw_macro.specs.Expansion.{called, calls, opened_in, is_one_of, opened, IsFirstUnit, HasNoUnit};
+ghost use Rattle.sw_macro.specs.Expansion.{Becomes, Expands};
 ghost use Rattle.sw_macro.specs.Placed.{piece_seen, names_of};
 
 use crate::filling::fill;
