@@ -15,6 +15,8 @@ mod card;
 #[cfg(test)]
 mod channel;
 #[cfg(test)]
+mod code;
+#[cfg(test)]
 mod hislip;
 #[cfg(test)]
 mod kinds;

@@ -4,3 +4,7 @@ pub mod Seen
 pub mod Marks
 pub mod Check
 pub mod Moments
+pub mod Nest
+pub mod Look
+pub mod Judged
+pub mod VerifiedSeen

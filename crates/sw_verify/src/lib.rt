@@ -10,14 +10,19 @@
 
 pub mod laws;
 mod layout;
+mod look;
 mod marks;
+mod nest;
 mod plan;
 mod ready;
 mod refusal;
 mod snapshot;
+mod tally;
+mod verified;
 
 pub use layout::{Layout, Slot};
 pub use plan::Plan;
 pub use ready::check;
 pub use refusal::Refusal;
 pub use snapshot::Snapshot;
+pub use verified::{Verified, verify};

@@ -1,0 +1,68 @@
+//! Whether the loops of a code are nested.
+
+ghost use Rattle.std.specs.Prelude.{◌≡◌, ◌≤◌, [], length, IfOk};
+ghost use Rattle.sw_verify.specs.Nest.{fault_in, in_use};
+
+use crate::refusal::Refusal;
+use std::alloc::{AllocError, Global};
+use sw_code::Step;
+
+/// A loop that is not ended yet: its counter, its count and its first step.
+#[derive(Clone, Copy, Debug, PartialEq, Eq)]
+pub struct Frame {
+    pub counter: u8,
+    pub count: u32,
+    pub start: u16,
+}
+
+/// The first fault in the nesting of the loops, if there is one: BadNesting or BadJump.
+pub fn nesting(alloc: Global, steps: &[Step]) -> Result<Option<Refusal>, AllocError>
+    requires { length steps.now ≤ 8192 }
+    ensures { IfOk result (λ fault. fault ≡ fault_in steps.now 0 []) }
+{
+    let mut frames = Vec::new(alloc);
+    for i in 0..steps.len() {
+        match steps[i] {
+            Step::Set(counter, count) => {
+                if is_in_use(frames.as_slice(), counter) {
+                    return Ok(Some(Refusal::BadNesting));
+                }
+                let start = i as u16 + 1;
+                frames.insert(
+                    0,
+                    Frame {
+                        counter,
+                        count,
+                        start,
+                    },
+                )?;
+            }
+            Step::Loop(counter, target) => {
+                if frames.is_empty() {
+                    return Ok(Some(Refusal::BadNesting));
+                }
+                let frame = frames.remove(0);
+                if counter != frame.counter {
+                    return Ok(Some(Refusal::BadNesting));
+                }
+                if target != frame.start {
+                    return Ok(Some(Refusal::BadJump));
+                }
+            }
+            Step::Halt => {
+                if i + 1 == steps.len() && frames.is_empty() {
+                    return Ok(None);
+                }
+                return Ok(Some(Refusal::BadNesting));
+            }
+            Step::Wait(_) | Step::Pause(_) | Step::Close(_) | Step::Read | Step::Open(_) => {}
+        }
+    }
+    Ok(Some(Refusal::BadNesting))
+}
+
+fn is_in_use(frames: &[Frame], counter: u8) -> bool
+    ensures { result ≡ in_use frames.now counter }
+{
+    frames.iter().any(|frame| counter == frame.counter)
+}
