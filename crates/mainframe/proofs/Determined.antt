@@ -38,7 +38,7 @@ install_plain : (p : Panel) (slot : ℕ) (card : Account) (f : Bool) (a : Answer
 install_plain p slot card f a q s = install_either ((p.events == last_number) && not (acts_unnumbered (AskInstall slot card))) p slot card f a q s
 
 install_once : StepIsDetermined → (p q q' : Panel) (slot : ℕ) (card : Account) → Stepped p (AskInstall slot card) q → Stepped p (AskInstall slot card) q' → q ≡ q'
-install_once law p q q' slot card s t = (law p q q' (AskInstall slot card) s.failed t.failed s.answer t.answer s.step t.step (install_plain p slot card s.failed s.answer q s.step) (install_plain p slot card t.failed t.answer q' t.step)).1
+install_once law p q q' slot card s t = (law p q q' (AskInstall slot card) s.failed t.failed s.answer t.answer s.step t.step (install_plain p slot card s.failed s.answer q s.step) (install_plain p slot card t.failed t.answer q' t.step) tt tt).1
 
 offers_once : StepIsDetermined → (cards : Fitted) (p p' q q' : Panel) → p ≡ p' → AsksInTurn p (AskInstall 1 cards.first ∷ AskInstall 2 cards.second ∷ AskInstall 3 cards.third ∷ AskInstall 4 cards.fourth ∷ []) q
     → AsksInTurn p' (AskInstall 1 cards.first ∷ AskInstall 2 cards.second ∷ AskInstall 3 cards.third ∷ AskInstall 4 cards.fourth ∷ []) q' → q ≡ q'
@@ -51,7 +51,7 @@ offers_once law cards p p' q q' e (a, s, (b, t, (c, u, (d, v, is)))) (a', s', (b
 
 joined_once : StepIsDetermined → (sid sid' : Sid) (q q' : Panel) → Joins sid q → Joins sid' q' → (sid ≡ sid') × (q ≡ q')
 joined_once law sid sid' q q' j k =
-    let r = law opening q q' (AskSession Ask.Join) j.failed k.failed (SaysSession (Joined sid) None) (SaysSession (Joined sid') None) j.step k.step tt tt in
+    let r = law opening q q' (AskSession Ask.Join) j.failed k.failed (SaysSession (Joined sid) None) (SaysSession (Joined sid') None) j.step k.step tt tt tt tt in
     let e : SaysSession (Joined sid) None ≡ SaysSession (Joined sid') None = r.0 in
     (let s : sid ≡ sid' = cc in s, r.1)
 

@@ -1,6 +1,7 @@
 //! Channels.
 
-ghost use Rattle.std.specs.Prelude.{◌≡◌, ℕ, ◌≤◌, ◌↔◌, IsTrue};
+ghost use Rattle.std.specs.Prelude.{◌≡◌, ℕ, ◌≤◌};
+ghost use Rattle.sw_base.specs.Limits.{most_slots, most_channels};
 
 use std::marker::Model;
 
@@ -18,7 +19,7 @@ impl Model for Chan {
 
     ghost view = { λ c. (c.slot, c.ch) };
 
-    ghost invariant = { λ c. (1 ≤ c.slot) × (c.slot ≤ 8) × (1 ≤ c.ch) × (c.ch ≤ 99) };
+    ghost invariant = { λ c. (1 ≤ c.slot) × (c.slot ≤ most_slots) × (1 ≤ c.ch) × (c.ch ≤ most_channels) };
 
     ghost inverse = { λ d. record { slot = d.0; ch = d.1 } };
 }
@@ -26,8 +27,8 @@ impl Model for Chan {
 impl Chan {
     /// The channel `ch` of the card in `slot`.
     pub fn new(slot: u8, ch: u8) -> Chan
-        requires slot_in { (1 ≤ slot) × (slot ≤ 8) }
-        requires ch_in { (1 ≤ ch) × (ch ≤ 99) }
+        requires slot_in { (1 ≤ slot) × (slot ≤ most_slots) }
+        requires ch_in { (1 ≤ ch) × (ch ≤ most_channels) }
         ensures { result ≡ (slot, ch) }
     {
         Chan { slot, ch }
@@ -36,7 +37,7 @@ impl Chan {
     /// The slot of its card, from 1.
     pub fn slot(self) -> u8
         ensures value { result ≡ self.0 }
-        ensures range { (1 ≤ result) × (result ≤ 8) }
+        ensures range { (1 ≤ result) × (result ≤ most_slots) }
     {
         self.slot
     }
@@ -44,7 +45,7 @@ impl Chan {
     /// Its number on its card, from 1.
     pub fn ch(self) -> u8
         ensures value { result ≡ self.1 }
-        ensures range { (1 ≤ result) × (result ≤ 99) }
+        ensures range { (1 ≤ result) × (result ≤ most_channels) }
     {
         self.ch
     }

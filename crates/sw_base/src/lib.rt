@@ -1,4 +1,4 @@
-//! What every layer of the mainframe speaks of: channels, errors, runs of bytes, numbers and readings,
+//! What every layer of the mainframe speaks of: limits, channels, errors, runs of bytes, numbers and readings,
 //! and lists that a value owns.
 //!
 //! The crate's contract to the layers above: an error has one number, one text and one event bit; a channel is a pair
@@ -12,17 +12,21 @@
 mod bytes;
 mod chan;
 mod error;
+mod limits;
 mod number;
 mod reading;
 mod sequence;
 mod terms;
-#[cfg(test)]
-mod tests;
 
 pub use bytes::{blanks, cut, digits, eat, is_blank, is_digit, is_letter, is_word, letters, words};
 pub use chan::Chan;
 pub use error::{NO_ERROR, ScpiError};
-pub use number::{Nrf, Unit, one_reading};
+pub use limits::{
+    ARM_COUNT, BODY_BYTES, CHANNELS, LIST_ENTRIES, LONGEST_DELAY, MACRO_LEVELS, MACROS,
+    MESSAGE_BYTES, MNEMONIC_BYTES, POINTS, QUEUED_ERRORS, SESSIONS, SLOTS, TRIGGER_COUNT,
+    limits_agree,
+};
+pub use number::{Exponent, Nrf, Unit, one_reading, read_exponent, read_mantissa};
 pub use reading::{Reading, one_text, print_micros, print_number, print_reading, print_signed};
 pub use sequence::Sequence;
 pub use terms::{LayerName, Source, StatusGroup};

@@ -66,7 +66,7 @@ impl<'a> Nrf<'a> {
         ensures within { IfOk result (λ x. IsInLimits x.0) }
         ensures refused { IfErr result (IsRefused text.now) }
     {
-        let Some((mut number, after)) = mantissa(text) else {
+        let Some((mut number, after)) = read_mantissa(text) else {
             return Err(ScpiError::InvalidCharacterInNumber);
         };
         let (negative, digits, rest) = tail(after);
@@ -160,8 +160,8 @@ fn fraction(text: &[u8]) -> (&[u8], &[u8])
     }
 }
 
-/// The mantissa at the front as a number without exponent, and what follows it.
-fn mantissa(text: &[u8]) -> Option<(Nrf<'_>, &[u8])>
+/// The mantissa at the front, if one stands there, as a number without exponent; and what follows it.
+pub fn read_mantissa(text: &[u8]) -> Option<(Nrf<'_>, &[u8])>
     ensures found { IfSome result (λ x. IsMantissa text.now x.0 x.1.now × (x.0.exponent ≡ pos 0)) }
     ensures none { IfNone result ((n : Written) (rest : List ℕ) → IsMantissa text.now n rest → ⊥) }
 {
@@ -193,21 +193,36 @@ fn eat_mark(text: &[u8]) -> Option<&[u8]>
     }
 }
 
-/// The exponent at the front: whether it is negative, its digits, and what follows them.
-fn exponent(text: &[u8]) -> Option<(bool, &[u8], &[u8])>
-    ensures found { IfSome result (λ x. IsExponent text.now x.0 x.1.now x.2.now) }
+/// An exponent as a text writes it: its sign, its digits, and whether white space stands round its `E`.
+#[derive(Clone, Copy, Debug)]
+pub struct Exponent<'a> {
+    pub negative: bool,
+    pub digits: &'a [u8],
+    pub apart: bool,
+}
+
+/// The exponent at the front, if one stands there, and what follows it.
+pub fn read_exponent(text: &[u8]) -> Option<(Exponent<'_>, &[u8])>
+    ensures found { IfSome result (λ x. (e : IsExponent text.now x.0.negative x.0.digits.now x.1.now) × (IsTrue x.0.apart ↔ (0 < length e.before + length e.gap))) }
     ensures none { IfNone result ((negative : Bool) (digits rest : List ℕ) → IsExponent text.now negative digits rest → ⊥) }
 {
-    let (_, marked) = blanks(text);
+    let (before, marked) = blanks(text);
     let after = eat_mark(marked)?;
-    let (_, signed) = blanks(after);
+    let (gap, signed) = blanks(after);
     let (negative, unsigned) = sign(signed);
     let (digits, rest) = digits(unsigned);
     if digits.is_empty() {
-        None
-    } else {
-        Some((negative, digits, rest))
+        return None;
     }
+    let apart = before.len() + gap.len() > 0;
+    Some((
+        Exponent {
+            negative,
+            digits,
+            apart,
+        },
+        rest,
+    ))
 }
 
 /// The exponent at the front, or none of no digits; and what follows it.
@@ -215,8 +230,8 @@ fn tail(text: &[u8]) -> (bool, &[u8], &[u8])
     ensures tail { IsTail text.now (with_sign result.0 (value_of result.1.now)) result.2.now }
     ensures digits { AllPass is_digit result.1.now }
 {
-    match exponent(text) {
-        Some(found) => found,
+    match read_exponent(text) {
+        Some((found, rest)) => (found.negative, found.digits, rest),
         None => (false, &[], text),
     }
 }

@@ -1,5 +1,6 @@
 -- The list of closed channels has each closed channel, and no other.
-use Rattle.std.proofs.Common.{◌≡◌, ◌≢◌, ℕ, zero, suc, ◌≤◌, ◌||◌, ◌&&◌, Bool, true, false, List, [], ◌∷◌, ◌++◌, refl, sym, ap, ◌∙◌, subst, arith, inl, inr, if◌then◌else◌}
+use Rattle.std.proofs.Common.{◌≡◌, ◌≢◌, ℕ, zero, suc, ◌≤◌, ◌||◌, ◌&&◌, Bool, true, false, List, [], ◌∷◌, ◌++◌, refl, sym, ap, ◌∙◌, subst, arith, inl, inr}
+use Rattle.std.proofs.Common.{if◌then◌else◌}
 use Rattle.std.specs.List.{filter, list_any}
 use Rattle.std.proofs.lemmas.List.Folds.{list_any-append}
 use Rattle.std.proofs.lemmas.Bool.{cases_eq}
@@ -18,7 +19,8 @@ kept_at true v false false h = sym (h refl)
 kept_at false v w true h = refl
 kept_at false v w false h = refl
 
-among_if : (keep : Bool) (y : Channel) (l : List Channel) (x : Channel) → list_any (same_channel x) (if keep then y ∷ l else l) ≡ (if keep then same_channel x y || list_any (same_channel x) l else list_any (same_channel x) l)
+among_if : (keep : Bool) (y : Channel) (l : List Channel) (x : Channel)
+    → list_any (same_channel x) (if keep then y ∷ l else l) ≡ (if keep then same_channel x y || list_any (same_channel x) l else list_any (same_channel x) l)
 among_if true y l x = refl
 among_if false y l x = refl
 
@@ -62,7 +64,8 @@ closed_and true v h = refl
 closed_and false true h = h refl
 closed_and false false h = refl
 
-pub among_closed : (rack : Rack) → ((c : Channel) → is_closed rack c ≡ true → (1 ≤ c.0) × (c.0 ≤ 8) × (1 ≤ c.1) × (c.1 ≤ 99)) → (x : Channel) → is_among (closed_list rack) x ≡ is_closed rack x
+pub among_closed : (rack : Rack) → ((c : Channel) → is_closed rack c ≡ true → (1 ≤ c.0) × (c.0 ≤ 8) × (1 ≤ c.1) × (c.1 ≤ 99)) → (x : Channel)
+    → is_among (closed_list rack) x ≡ is_closed rack x
 among_closed rack inside x =
     among_filter (is_closed rack) (rows 8) x
     ∙ closed_and (is_among (rows 8) x) (is_closed rack x) (λ e. let b = inside x e in among_rows 8 x b.0 b.1 b.2 b.3)

@@ -1,5 +1,6 @@
 -- Lemmas on what a call on channels does to the cage.
-use Rattle.std.proofs.Common.{◌≡◌, ◌≢◌, ℕ, ◌+◌, ◌-◌, ◌%◌, ◌^◌, ◌≤◌, ◌<◌, ◌==◌, ◌||◌, ◌&&◌, not, Bool, true, false, List, [], ◌∷◌, ◌++◌, length, take, drop, Option, None, Some, slice_index_or, slice_set, ◌⊎◌, inl, inr, refl, sym, ◌∙◌, ap, arith, map, suc, zero, if◌then◌else◌}
+use Rattle.std.proofs.Common.{◌≡◌, ◌≢◌, ℕ, ◌+◌, ◌-◌, ◌%◌, ◌^◌, ◌≤◌, ◌<◌, ◌==◌, ◌||◌, ◌&&◌, not, Bool, true, false, List, [], ◌∷◌, ◌++◌, length, take, drop}
+use Rattle.std.proofs.Common.{Option, None, Some, slice_index_or, slice_set, ◌⊎◌, inl, inr, refl, sym, ◌∙◌, ap, arith, map, suc, zero, if◌then◌else◌}
 use Rattle.std.specs.List.{list_any}
 use Rattle.std.proofs.lemmas.List.{get_or-set_same, get_or-set_other, take_more, take-append-drop}
 use Rattle.std.proofs.lemmas.List.Folds.{list_any-append, list_any_at}
@@ -7,7 +8,8 @@ use Rattle.std.proofs.lemmas.Grind.{common_steps}
 use Rattle.std.proofs.lemmas.Bool.{cases_eq}
 use Rattle.sw_base.specs.Layout.{Channel, slot_at, bay_has, is_present}
 use Rattle.sw_card.specs.Account.{Account, closed_at, set_closed, none_closed, IsWithin, at_rest, IsFault}
-use Rattle.sw_cage.specs.Rack.{Rack, bay_of, option_bay, layout_of, option_closed, is_closed, OptionRow, option_set, with_chan, option_rest, all_open, IsSlotFault}
+use Rattle.sw_cage.specs.Rack.{Rack, bay_of, option_bay, layout_of, option_closed, is_closed, OptionRow, option_set, with_chan, option_rest, all_open}
+use Rattle.sw_cage.specs.Rack.{IsSlotFault}
 use Rattle.sw_cage.specs.Change.{same_channel, is_in, Sets, option_failed, any_failed, option_plate, IsDisturbed}
 use Rattle.sw_cage.proofs.Racks.{slot_set_same, slot_cases, slot_get, map_slot, present_slot, present_at, same_chan, IsSlotGrown, layout_all_open}
 
@@ -72,13 +74,16 @@ pub in_one : (c d : Channel) → is_in (c ∷ []) d ≡ true → d ≡ c
 in_one c d h = same_is c d (sym (or_false (same_channel d c)) ∙ h)
 
 pub in_take : (chans : List Channel) (i : ℕ) (c : Channel) → is_in (take i chans) c ≡ true → is_in chans c ≡ true
-in_take chans i c h = ap (list_any (same_channel c)) (sym (take-append-drop i chans)) ∙ list_any-append (same_channel c) (take i chans) (drop i chans) ∙ or_left (is_in (take i chans) c) (is_in (drop i chans) c) h
+in_take chans i c h = ap (list_any (same_channel c)) (sym (take-append-drop i chans)) ∙ list_any-append (same_channel c) (take i chans) (drop i chans) ∙ or_left
+    (is_in (take i chans) c) (is_in (drop i chans) c) h
 
 pub in_at : (chans : List Channel) (i : ℕ) (c d : Channel) → i < length chans → c ≡ slice_index_or chans i d → is_in chans c ≡ true
 in_at chans i c d h e = list_any_at (same_channel c) chans i d h (same_yes (slice_index_or chans i d) c e)
 
-pub in_more : (chans : List Channel) (i : ℕ) (c d : Channel) → i < length chans → c ≡ slice_index_or chans i d → (x : Channel) → is_in (take (i + 1) chans) x ≡ (is_in (take i chans) x || is_in (c ∷ []) x)
-in_more chans i c d h e x = ap (list_any (same_channel x)) (take_more chans i d h ∙ ap (λ y. take i chans ++ y ∷ []) (sym e)) ∙ list_any-append (same_channel x) (take i chans) (c ∷ [])
+pub in_more : (chans : List Channel) (i : ℕ) (c d : Channel) → i < length chans → c ≡ slice_index_or chans i d → (x : Channel)
+    → is_in (take (i + 1) chans) x ≡ (is_in (take i chans) x || is_in (c ∷ []) x)
+in_more chans i c d h e x = ap (list_any (same_channel x)) (take_more chans i d h ∙ ap (λ y. take i chans ++ y ∷ []) (sym e)) ∙ list_any-append (same_channel x)
+    (take i chans) (c ∷ [])
 
 -- one channel is set
 
@@ -104,21 +109,25 @@ option_same : (o : Option Account) (ch : ℕ) (on : Bool) → OptionRow o → ba
 option_same None ch on r h = absurd (cc)
 option_same (Some a) ch on r h = let b : (0 < ch) × (ch ≤ length a.groups) = has_bounds a ch h in closed_same a.closed ch on b.0 (omega (arith, r.states, b.1))
 
-option_other : (o : Option Account) (ch k : ℕ) (on : Bool) → bay_has (option_bay o) ch ≡ true → k ≢ ch → option_closed (option_set o ch on) k ≡ option_closed o k
+option_other : (o : Option Account) (ch k : ℕ) (on : Bool) → bay_has (option_bay o) ch ≡ true → k ≢ ch
+    → option_closed (option_set o ch on) k ≡ option_closed o k
 option_other None ch k on h n = refl
 option_other (Some a) ch k on h n = let b : (0 < ch) × (ch ≤ length a.groups) = has_bounds a ch h in closed_other a.closed ch k on b.0 n
 
-closed_there : (rack : Rack) (c d : Channel) (on : Bool) → OptionRow (slot_at rack c.0) → is_present (layout_of rack) c ≡ true → d ≡ c → is_closed (with_chan rack c on) d ≡ on
+closed_there : (rack : Rack) (c d : Channel) (on : Bool) → OptionRow (slot_at rack c.0) → is_present (layout_of rack) c ≡ true → d ≡ c
+    → is_closed (with_chan rack c on) d ≡ on
 closed_there rack c d on r h e =
     let b : (0 < c.0) × (c.0 ≤ length rack) = present_slot rack c h in
     ap (is_closed (with_chan rack c on)) e ∙ ap (λ o. option_closed o c.1) (slot_set_same rack c.0 (option_set (slot_at rack c.0) c.1 on) b.0 b.1)
     ∙ option_same (slot_at rack c.0) c.1 on r (sym (present_at rack c) ∙ h)
 
-closed_elsewhere : (rack : Rack) (c d : Channel) (on : Bool) → is_present (layout_of rack) c ≡ true → d ≢ c → is_closed (with_chan rack c on) d ≡ is_closed rack d
+closed_elsewhere : (rack : Rack) (c d : Channel) (on : Bool) → is_present (layout_of rack) c ≡ true → d ≢ c
+    → is_closed (with_chan rack c on) d ≡ is_closed rack d
 closed_elsewhere rack c d on h n =
     let b : (0 < c.0) × (c.0 ≤ length rack) = present_slot rack c h in
     elim (slot_cases rack c.0 d.0 (option_set (slot_at rack c.0) c.1 on) b.0 b.1) [
-      | inl e ↦ ap (λ o. option_closed o d.1) e.1 ∙ option_other (slot_at rack c.0) c.1 d.1 on (sym (present_at rack c) ∙ h) (λ k. n (same_chan c d e.0 k)) ∙ ap (λ s. option_closed (slot_at rack s) d.1) (sym e.0)
+      | inl e ↦ ap (λ o. option_closed o d.1) e.1 ∙ option_other (slot_at rack c.0) c.1 d.1 on (sym (present_at rack c) ∙ h) (λ k. n (same_chan c d e.0 k)) ∙ ap
+          (λ s. option_closed (slot_at rack s) d.1) (sym e.0)
       | inr m ↦ ap (λ o. option_closed o d.1) m.1
     ]
 
@@ -134,7 +143,8 @@ in_yes c d e = or_left (same_channel d c) false (same_yes c d e)
 in_no : (c d : Channel) → d ≢ c → is_in (c ∷ []) d ≡ false
 in_no c d n = or_false (same_channel d c) ∙ same_no c d n
 
-pub sets_one : (rack : Rack) (c : Channel) (on : Bool) → OptionRow (slot_at rack c.0) → is_present (layout_of rack) c ≡ true → Sets rack (c ∷ []) on (with_chan rack c on)
+pub sets_one : (rack : Rack) (c : Channel) (on : Bool) → OptionRow (slot_at rack c.0) → is_present (layout_of rack) c ≡ true
+    → Sets rack (c ∷ []) on (with_chan rack c on)
 sets_one rack c on r h = let b : (0 < c.0) × (c.0 ≤ length rack) = present_slot rack c h in record {
   rest = map_slot option_rest rack c.0 (option_set (slot_at rack c.0) c.1 on) b.0 (option_set_rest (slot_at rack c.0) c.1 on);
   closed = λ d. elim (chan_cases c d) [
@@ -154,7 +164,8 @@ if_more true false on r m n e f = e ∙ f
 if_more false true on r m n e f = e
 if_more false false on r m n e f = e ∙ f
 
-pub sets_more : (rack now new : Rack) (chans : List Channel) (i : ℕ) (c d : Channel) (on : Bool) → i < length chans → c ≡ slice_index_or chans i d → Sets rack (take i chans) on now → Sets now (c ∷ []) on new → Sets rack (take (i + 1) chans) on new
+pub sets_more : (rack now new : Rack) (chans : List Channel) (i : ℕ) (c d : Channel) (on : Bool) → i < length chans → c ≡ slice_index_or chans i d
+    → Sets rack (take i chans) on now → Sets now (c ∷ []) on new → Sets rack (take (i + 1) chans) on new
 sets_more rack now new chans i c d on h e before step = record {
   rest = step.rest ∙ before.rest;
   closed = λ x. if_more (is_in (take i chans) x) (is_in (c ∷ []) x) on (is_closed rack x) (is_closed now x) (is_closed new x) (step.closed x) (before.closed x)
@@ -181,7 +192,8 @@ if_cases : (a on r m : Bool) → m ≡ (if a then on else r) → m ≡ true → 
 if_cases true on r m e h = inr refl
 if_cases false on r m e h = inl (sym e ∙ h)
 
-pub sets_closed : (old new : Rack) (chans : List Channel) (on : Bool) → Sets old chans on new → (c : Channel) → is_closed new c ≡ true → (is_closed old c ≡ true) ⊎ (is_in chans c ≡ true)
+pub sets_closed : (old new : Rack) (chans : List Channel) (on : Bool) → Sets old chans on new → (c : Channel) → is_closed new c ≡ true
+    → (is_closed old c ≡ true) ⊎ (is_in chans c ≡ true)
 sets_closed old new chans on s c h = if_cases (is_in chans c) on (is_closed old c) (is_closed new c) (s.closed c) h
 
 -- failures
@@ -201,7 +213,8 @@ failed_same [] = refl
 failed_same (o ∷ rack) = ap (λ b. b || any_failed rack rack) (option_unfailed o) ∙ failed_same rack
 
 -- one slot's change alone decides
-pub failed_set : (rack : Rack) (i : ℕ) (v : Option Account) → i < length rack → any_failed rack (slice_set rack i v) ≡ option_failed (slice_index_or rack i None) v
+pub failed_set : (rack : Rack) (i : ℕ) (v : Option Account) → i < length rack
+    → any_failed rack (slice_set rack i v) ≡ option_failed (slice_index_or rack i None) v
 failed_set [] i v h = absurd (omega arith)
 failed_set (o ∷ rack) zero v h = ap (λ b. option_failed o v || b) (failed_same rack) ∙ or_false (option_failed o v)
 failed_set (o ∷ rack) (suc i) v h = ap (λ b. b || any_failed rack (slice_set rack i v)) (option_unfailed o) ∙ failed_set rack i v (omega arith)
@@ -270,7 +283,8 @@ none_within [] (y ∷ ys) w = absurd w
 none_within (x ∷ xs) [] w = absurd w
 
 fault_plate : (a b : Account) (most : List Bool) → none_closed most ≡ none_closed a.closed → IsFault a most b → option_plate (Some b) ≡ option_plate (Some a)
-fault_plate a b most e f = let s = f.serial in let g = f.groups in let l = f.last in let n : none_closed b.closed ≡ none_closed a.closed = none_within b.closed most f.within ∙ e in cc
+fault_plate a b most e f = let s = f.serial in let g = f.groups in let l = f.last in let n : none_closed b.closed ≡ none_closed a.closed =
+    none_within b.closed most f.within ∙ e in cc
 
 slot_fault_plate : (o most n : Option Account) → option_rest most ≡ option_rest o → IsSlotFault o most n → option_plate n ≡ option_plate o
 slot_fault_plate None most n e f = absurd f
@@ -285,18 +299,21 @@ fault_failed (Some a) (Some m) None f = absurd f
 fault_failed (Some a) (Some m) (Some b) f = next_ne b.failures a.failures f.count
 
 -- one slot's fault
-pub disturbed_one : (rack : Rack) (c : Channel) (most v : Option Account) → 0 < c.0 → c.0 ≤ length rack → option_rest most ≡ option_rest (slot_at rack c.0) → IsSlotFault (slot_at rack c.0) most v → IsSlotGrown (slot_at rack c.0) c.1 v → IsDisturbed rack (c ∷ []) (slice_set rack (c.0 - 1) v)
+pub disturbed_one : (rack : Rack) (c : Channel) (most v : Option Account) → 0 < c.0 → c.0 ≤ length rack → option_rest most ≡ option_rest (slot_at rack c.0)
+    → IsSlotFault (slot_at rack c.0) most v → IsSlotGrown (slot_at rack c.0) c.1 v → IsDisturbed rack (c ∷ []) (slice_set rack (c.0 - 1) v)
 disturbed_one rack c most v p h e fault grown = record {
   cards = map_slot option_plate rack c.0 v p (slot_fault_plate (slot_at rack c.0) most v e fault);
   failed = failed_set rack (c.0 - 1) v (omega arith) ∙ ap (λ o. option_failed o v) (sym (slot_get rack c.0 p)) ∙ fault_failed (slot_at rack c.0) most v fault;
   within = λ d k. elim (slot_cases rack c.0 d.0 v p h) [
-    | inl s ↦ elim (grown.closed d.1 (ap (λ o. option_closed o d.1) (sym s.1) ∙ k)) [ inl o ↦ inl (ap (λ t. option_closed (slot_at rack t) d.1) s.0 ∙ o) | inr f ↦ inr (in_yes c d (same_chan c d s.0 f)) ]
+    | inl s ↦ elim (grown.closed d.1 (ap (λ o. option_closed o d.1) (sym s.1) ∙ k))
+        [ inl o ↦ inl (ap (λ t. option_closed (slot_at rack t) d.1) s.0 ∙ o) | inr f ↦ inr (in_yes c d (same_chan c d s.0 f)) ]
     | inr n ↦ inl (ap (λ o. option_closed o d.1) (sym n.1) ∙ k)
   ];
 }
 
 -- a fault after some channels of the list were set
-pub disturbed_more : (rack now new : Rack) (chans : List Channel) (i : ℕ) (c d : Channel) (on : Bool) → i < length chans → c ≡ slice_index_or chans i d → Sets rack (take i chans) on now → IsDisturbed now (c ∷ []) new → IsDisturbed rack chans new
+pub disturbed_more : (rack now new : Rack) (chans : List Channel) (i : ℕ) (c d : Channel) (on : Bool) → i < length chans → c ≡ slice_index_or chans i d
+    → Sets rack (take i chans) on now → IsDisturbed now (c ∷ []) new → IsDisturbed rack chans new
 disturbed_more rack now new chans i c d on h e before fault = record {
   cards = fault.cards ∙ plates_rest rack now before.rest;
   failed = sym (failed_from rack now new before.rest) ∙ fault.failed;

@@ -1,5 +1,6 @@
 -- Lemmas on a list that is compared with the closed channels, by slot and channel.
-use Rattle.std.proofs.Common.{◌≡◌, ℕ, ◌+◌, ◌≤◌, ◌<◌, Bool, true, false, List, [], ◌∷◌, ◌++◌, length, take, not, ◌&&◌, eqb, slice_index_or, inl, inr, refl, sym, ◌∙◌, ap, subst, arith, zero, suc, add-one, append_assoc}
+use Rattle.std.proofs.Common.{◌≡◌, ℕ, ◌+◌, ◌≤◌, ◌<◌, Bool, true, false, List, [], ◌∷◌, ◌++◌, length, take, not, ◌&&◌, eqb, slice_index_or, inl, inr, refl, sym}
+use Rattle.std.proofs.Common.{◌∙◌, ap, subst, arith, zero, suc, add-one, append_assoc}
 use Rattle.std.specs.List.{filter}
 use Rattle.std.proofs.lemmas.List.{append-nil, length-append, length-take-le}
 use Rattle.std.proofs.lemmas.List.Elements.{filter-append}
@@ -15,7 +16,11 @@ grown : (f g : ℕ → List Channel) → ((n : ℕ) → f (n + 1) ≡ f n ++ g n
 grown f g more m zero h = let e : m ≡ 0 = omega arith in ([], ap f (sym e) ∙ sym (append-nil (f m)))
 grown f g more m (suc n) h = elim (cases_lt n m) [
   | inl l ↦ (let e : m ≡ suc n = omega arith in ([], ap f (sym e) ∙ sym (append-nil (f m))))
-  | inr k ↦ (let r = grown f g more m n k in (r.0 ++ g n, subst (λ j. f j ≡ f n ++ g n) (add-one n) (more n) ∙ ap (λ l. l ++ g n) r.1 ∙ append_assoc (f m) r.0 (g n)))
+  | inr k ↦ (let r = grown f g more m n k in (
+    r.0 ++ g n,
+    subst (λ j. f j ≡ f n ++ g n) (add-one n) (more n) ∙ ap (λ l. l ++ g n) r.1 ∙ append_assoc (f m) r.0
+        (g n),
+  ))
 ]
 
 -- all channels: those before this one, it, and the rest
@@ -35,7 +40,8 @@ filter_first : (closed : Channel → Bool) (c : Channel) (l : List Channel) → 
 filter_first closed c l h = rw h refl
 
 -- the list of the closed channels has this one where those before it end
-pub next_is : (closed : Channel → Bool) (slot ch past : ℕ) (chans : List Channel) (d : Channel) → slot < 8 → ch < 99 → past ≤ length chans → take past chans ≡ filter closed (rows slot) ++ filter closed (row (slot + 1) ch) → closed (slot + 1, ch + 1) ≡ true → chans ≡ filter closed (rows 8)
+pub next_is : (closed : Channel → Bool) (slot ch past : ℕ) (chans : List Channel) (d : Channel) → slot < 8 → ch < 99 → past ≤ length chans
+    → take past chans ≡ filter closed (rows slot) ++ filter closed (row (slot + 1) ch) → closed (slot + 1, ch + 1) ≡ true → chans ≡ filter closed (rows 8)
     → (past < length chans) × (slice_index_or chans past d ≡ (slot + 1, ch + 1))
 next_is closed slot ch past chans d h k within kept on is =
     let w = around slot ch h k in
@@ -44,8 +50,12 @@ next_is closed slot ch past chans d h k within kept on is =
     is ∙ ap (filter closed) w.1 ∙ filter-append closed (rows slot ++ row (slot + 1) ch) ((slot + 1, ch + 1) ∷ w.0)
     ∙ ap (λ l. l ++ filter closed ((slot + 1, ch + 1) ∷ w.0)) front ∙ ap (λ l. take past chans ++ l) (filter_first closed (slot + 1, ch + 1) w.0 on) in
     let n : length (take past chans) ≡ past = length-take-le past chans within in
-    let all : length chans ≡ length (take past chans) + length ((slot + 1, ch + 1) ∷ filter closed w.0) = ap length e ∙ length-append (take past chans) ((slot + 1, ch + 1) ∷ filter closed w.0) in
-    (omega (arith, n, all), ap (λ l. slice_index_or l past d) e ∙ ap (λ (j : ℕ). slice_index_or (take past chans ++ (slot + 1, ch + 1) ∷ filter closed w.0) j d) (sym n) ∙ get_or-append_seam (take past chans) (slot + 1, ch + 1) (filter closed w.0) d)
+    let all : length chans ≡ length (take past chans) + length ((slot + 1, ch + 1) ∷ filter closed w.0) =
+    ap length e ∙ length-append (take past chans) ((slot + 1, ch + 1) ∷ filter closed w.0) in (
+      omega (arith, n, all),
+      ap (λ l. slice_index_or l past d) e ∙ ap (λ (j : ℕ). slice_index_or (take past chans ++ (slot + 1, ch + 1) ∷ filter closed w.0) j d)
+          (sym n) ∙ get_or-append_seam (take past chans) (slot + 1, ch + 1) (filter closed w.0) d,
+    )
 
 -- what `a != b` tells of channels
 pub unequal : (r : Bool) (a b : Channel) → r ≡ not (eqb a.0 b.0 && eqb a.1 b.1) → r ≡ true → a ≡ b → ⊥

@@ -22,33 +22,51 @@ use Rattle.sw_cage.proofs.Underway.{right_here, leading_front}
 use Rattle.sw_cage.proofs.Runs.{CanGo, lengths, closed_sent, good_goes}
 
 -- a meter that is out has no channel
-pub exclusive_with : (bays : Layout) (out : List (Option Ticket)) → length out ≡ length bays → (b : Channels) → IsExclusive bays b → IsExclusive (layout_with bays out) b
+pub exclusive_with : (bays : Layout) (out : List (Option Ticket)) → length out ≡ length bays → (b : Channels) → IsExclusive bays b
+    → IsExclusive (layout_with bays out) b
 exclusive_with bays out h b e = record {
   present = λ c k. present_with bays out h c ∙ e.present c k;
-  apart = λ x y j k w. e.apart x y j k (record { other = w.other; grouped = λ f. w.grouped (group_with bays out h x ∙ f); same = sym (group_with bays out h x) ∙ w.same ∙ group_with bays out h y });
+  apart = λ x y j k w. e.apart x y j k (record {
+    other = w.other;
+    grouped = λ f. w.grouped (group_with bays out h x ∙ f);
+    same =
+        sym (group_with bays out h x) ∙ w.same ∙ group_with bays out h y;
+  });
 }
 
-pub exclusive_in : (bays : Layout) (out : List (Option Ticket)) → length out ≡ length bays → (b : Channels) → IsExclusive (layout_with bays out) b → IsExclusive bays b
-exclusive_in bays out h b e = record { present = λ c k. sym (present_with bays out h c) ∙ e.present c k; apart = λ x y j k w. e.apart x y j k (clash_with bays out h x y w) }
+pub exclusive_in : (bays : Layout) (out : List (Option Ticket)) → length out ≡ length bays → (b : Channels) → IsExclusive (layout_with bays out) b
+    → IsExclusive bays b
+exclusive_in bays out h b e = record {
+  present = λ c k. sym (present_with bays out h c) ∙ e.present c k;
+  apart =
+      λ x y j k w. e.apart x y j k (clash_with bays out h x y w);
+}
 
 -- the moves of a scan keep the cage exclusive
-exclusive_way : (p : CageSeen) (s : Setup) (i : ℕ) → IsHeld p → CanGo p s i → IsExclusive (layout_of p.rack) (is_closed p.rack) → IsExclusive (cage_layout p) (effect (is_closed p.rack) (way s i))
+exclusive_way : (p : CageSeen) (s : Setup) (i : ℕ) → IsHeld p → CanGo p s i → IsExclusive (layout_of p.rack) (is_closed p.rack)
+    → IsExclusive (cage_layout p) (effect (is_closed p.rack) (way s i))
 exclusive_way p s i k g e =
     subst (λ (l : List Item). IsExclusive (cage_layout p) (effect (is_closed p.rack) l)) (leading_front (drop i (agenda s)))
-    (exclusive_throughout (cage_layout p) (is_closed p.rack) (effect none (take i (agenda s))) (drop i (agenda s)) (right_here (cage_layout p) (is_closed p.rack) s i g.way)
+    (exclusive_throughout (cage_layout p) (is_closed p.rack) (effect none (take i (agenda s))) (drop i (agenda s))
+    (right_here (cage_layout p) (is_closed p.rack) s i g.way)
     (exclusive_with (layout_of p.rack) p.out (lengths p k) (is_closed p.rack) e) (length (way s i)))
 
 -- a cage of the same cards in and out, where this is closed
-like_way : (p q : CageSeen) (b : Channels) → IsHeld q → cage_layout q ≡ cage_layout p → is_closed q.rack ≡ b → IsExclusive (cage_layout p) b → IsExclusive (layout_of q.rack) (is_closed q.rack)
-like_way p q b k e f x = exclusive_in (layout_of q.rack) q.out (lengths q k) (is_closed q.rack) (subst (λ (l : Layout). IsExclusive l (is_closed q.rack)) (sym e) (subst (IsExclusive (cage_layout p)) (sym f) x))
+like_way : (p q : CageSeen) (b : Channels) → IsHeld q → cage_layout q ≡ cage_layout p → is_closed q.rack ≡ b → IsExclusive (cage_layout p) b
+    → IsExclusive (layout_of q.rack) (is_closed q.rack)
+like_way p q b k e f x = exclusive_in (layout_of q.rack) q.out (lengths q k) (is_closed q.rack)
+    (subst (λ (l : Layout). IsExclusive l (is_closed q.rack)) (sym e) (subst (IsExclusive (cage_layout p)) (sym f) x))
 
-exclusive_stays : (p q : CageSeen) (s : Setup) (i : ℕ) (mid : Rack) → IsHeld p → IsHeld q → CanGo p s i → IsExclusive (layout_of p.rack) (is_closed p.rack) → Moved p.rack (way s i) mid → (let b : Bays = record { rack = mid; out = p.out } in bays_of q ≡ b) → IsExclusive (layout_of q.rack) (is_closed q.rack)
+exclusive_stays : (p q : CageSeen) (s : Setup) (i : ℕ) (mid : Rack) → IsHeld p → IsHeld q → CanGo p s i → IsExclusive (layout_of p.rack) (is_closed p.rack)
+    → Moved p.rack (way s i) mid → (let b : Bays = record { rack = mid; out = p.out } in bays_of q ≡ b) → IsExclusive (layout_of q.rack) (is_closed q.rack)
 exclusive_stays p q s i mid k l g e m same =
     like_way p q (effect (is_closed p.rack) (way s i)) l
     (ap (λ (b : Bays). layout_with (layout_of b.rack) b.out) same ∙ ap (λ (x : Layout). layout_with x p.out) (moved_layout p.rack mid (way s i) m))
     (ap (λ (b : Bays). is_closed b.rack) same ∙ fun_ext m.closed) (exclusive_way p s i k g e)
 
-exclusive_lands : (p q : CageSeen) (s : Setup) (i : ℕ) (told : TakenSeen) → IsHeld p → IsHeld q → CanGo p s i → IsExclusive (layout_of p.rack) (is_closed p.rack) → Lands (bays_of p) p.number (way s i) (next_place s i) told (bays_of q) q.scan → IsExclusive (layout_of q.rack) (is_closed q.rack)
+exclusive_lands : (p q : CageSeen) (s : Setup) (i : ℕ) (told : TakenSeen) → IsHeld p → IsHeld q → CanGo p s i
+    → IsExclusive (layout_of p.rack) (is_closed p.rack) → Lands (bays_of p) p.number (way s i) (next_place s i) told (bays_of q) q.scan
+    → IsExclusive (layout_of q.rack) (is_closed q.rack)
 exclusive_lands p q s i SaysIgnored k l g e h = absurd h.arrives
 exclusive_lands p q s i SaysWaits k l g e h = exclusive_stays p q s i h.rack k l g e h.moved h.arrives.1
 exclusive_lands p q s i (SaysPause t micros) k l g e h = exclusive_stays p q s i h.rack k l g e h.moved h.arrives.2
@@ -61,16 +79,19 @@ exclusive_lands p q s i (SaysJob job) k l g e h =
     (ap (λ (b : Bays). layout_with (layout_of b.rack) b.out) sent.after
     ∙ layout_sent mid p.out s.meter t job.meter (k.outs ∙ sym there.slots) (omega (arith, g.range.meter.0)) sent.meter
     ∙ ap (λ (x : Layout). layout_with x p.out) (moved_layout p.rack mid (way s i) h.moved))
-    (ap (λ (b : Bays). is_closed b.rack) sent.after ∙ fun_ext (closed_sent mid s.meter job.meter g.range.meter.0 (omega (arith, g.range.meter.1, there.slots)) sent.meter) ∙ fun_ext h.moved.closed)
+    (ap (λ (b : Bays). is_closed b.rack) sent.after ∙ fun_ext (closed_sent mid s.meter job.meter g.range.meter.0 (omega (arith, g.range.meter.1, there.slots))
+    sent.meter) ∙ fun_ext h.moved.closed)
     (exclusive_way p s i k g e)
 exclusive_lands p q s i SaysEnded k l g e h = exclusive_stays p q s i h.rack k l g e h.moved h.arrives.1
 exclusive_lands p q s i SaysFault k l g e h = absurd h.arrives
 
 -- Wherever a scan goes on to, the cage is exclusive.
-pub exclusive_goes : (p q : CageSeen) (s : Setup) (i : ℕ) (told : TakenSeen) → IsHeld p → CanGo p s i → IsExclusive (layout_of p.rack) (is_closed p.rack) → Goes p s i told q → IsExclusive (layout_of q.rack) (is_closed q.rack)
+pub exclusive_goes : (p q : CageSeen) (s : Setup) (i : ℕ) (told : TakenSeen) → IsHeld p → CanGo p s i → IsExclusive (layout_of p.rack) (is_closed p.rack)
+    → Goes p s i told q → IsExclusive (layout_of q.rack) (is_closed q.rack)
 exclusive_goes p q s i SaysFault k g e h = exclusive_none (layout_of q.rack) (is_closed q.rack) h.runs.fallen.none
 exclusive_goes p q s i SaysIgnored k g e h = exclusive_lands p q s i SaysIgnored k (good_goes p q s i SaysIgnored k g h).held g e h.runs
 exclusive_goes p q s i SaysWaits k g e h = exclusive_lands p q s i SaysWaits k (good_goes p q s i SaysWaits k g h).held g e h.runs
-exclusive_goes p q s i (SaysPause t micros) k g e h = exclusive_lands p q s i (SaysPause t micros) k (good_goes p q s i (SaysPause t micros) k g h).held g e h.runs
+exclusive_goes p q s i (SaysPause t micros) k g e h = exclusive_lands p q s i (SaysPause t micros) k (good_goes p q s i (SaysPause t micros) k g h).held g e
+    h.runs
 exclusive_goes p q s i (SaysJob job) k g e h = exclusive_lands p q s i (SaysJob job) k (good_goes p q s i (SaysJob job) k g h).held g e h.runs
 exclusive_goes p q s i SaysEnded k g e h = exclusive_lands p q s i SaysEnded k (good_goes p q s i SaysEnded k g h).held g e h.runs

@@ -1,13 +1,18 @@
 -- Whether a card's count of failures changed where a scan went on: exactly where that is told.
-use Rattle.std.proofs.Common.{◌≡◌, ℕ, zero, suc, ◌-◌, ◌||◌, nat_lt, Bool, true, false, [], ◌∷◌, Option, None, Some, slice_index_or, slice_set, refl, ap, ◌∙◌, if◌then◌else◌}
+use Rattle.std.proofs.Common.{◌≡◌, ℕ, zero, suc, ◌-◌, ◌||◌, ◌++◌, nat_lt, Bool, true, false, [], ◌∷◌, Option, None, Some, slice_index_or, slice_set, refl, sym, ap, ◌∙◌}
+use Rattle.std.proofs.Common.{if◌then◌else◌, Result, Ok, Err, is_err, List}
 use Rattle.sw_base.specs.Layout.{slot_at}
 use Rattle.sw_card.specs.Account.{Account}
 use Rattle.sw_cage.specs.Rack.{Rack, all_open}
 use Rattle.sw_cage.specs.Change.{option_failed, any_failed, RelayFailed}
-use Rattle.sw_cage.specs.TakenSeen.{TakenSeen, SaysIgnored, SaysWaits, SaysPause, SaysJob, SaysEnded, SaysFault}
-use Rattle.sw_cage.specs.Goes.{Bays, bays_of, Goes}
-use Rattle.sw_cage.specs.Cage.{CageSeen}
+use Rattle.sw_cage.specs.TakenSeen.{TakenSeen, SaysIgnored, SaysWaits, SaysPause, SaysJob, SaysEnded, SaysFault, tells_fault}
+use Rattle.sw_cage.specs.Goes.{Bays, bays_of, Runs, Goes, GoesPast, GoesPastFrom, Counts, with_reading, readings_with}
+use Rattle.sw_cage.specs.Cage.{Scanning, CageSeen}
+use Rattle.sw_base.specs.declared.reading.Reading.{Reading}
+use Rattle.sw_card.specs.declared.board.CardFault.{CardFault}
 use Rattle.sw_trigger.specs.Settings.{Setup}
+use Rattle.sw_trigger.specs.Agenda.{Item}
+use Rattle.sw_cage.specs.Advance.{way, next_place}
 use Rattle.sw_cage.proofs.Changes.{or_left, or_right, sets_unfailed}
 
 never_out : (o : Option Account) → option_failed o None ≡ false
@@ -44,32 +49,46 @@ unfailed_out (a ∷ old) (b ∷ mid) (suc i) h =
     let w = or_none (option_failed a b) (any_failed old mid) h in
     ap (λ t. t || any_failed old (slice_set mid i None)) w.0 ∙ unfailed_out old mid i w.1
 
--- nor is one that came back
-pub unfailed_back : (old new : Rack) (i : ℕ) (v : Option Account) → slice_index_or old i None ≡ None → any_failed (slice_set old i v) new ≡ false → any_failed old new ≡ false
-unfailed_back [] new i v e h = refl
-unfailed_back (a ∷ old) [] i v e h = refl
-unfailed_back (a ∷ old) (b ∷ new) zero v e h = ap (λ o. option_failed o b || any_failed old new) e ∙ (or_none (option_failed v b) (any_failed old new) h).1
-unfailed_back (a ∷ old) (b ∷ new) (suc i) v e h =
-    let w = or_none (option_failed a b) (any_failed (slice_set old i v) new) h in
-    ap (λ t. t || any_failed old new) w.0 ∙ unfailed_back old new i v e w.1
-
-abbrev pub is_fault : TakenSeen → Bool
-is_fault SaysIgnored = false
-is_fault SaysWaits = false
-is_fault (SaysPause ticket micros) = false
-is_fault (SaysJob job) = false
-is_fault SaysEnded = false
-is_fault SaysFault = true
-
-rack_like : (old mid : Rack) (p q : Bays) → all_open mid ≡ all_open old → q.rack ≡ mid → any_failed old q.rack ≡ false
-rack_like old mid p q e f = ap (any_failed old) f ∙ sets_unfailed old mid e
+like : (old mid : Rack) (new : Bays) → all_open mid ≡ all_open old → new.rack ≡ mid → any_failed old new.rack ≡ false
+like old mid new e f = ap (any_failed old) f ∙ sets_unfailed old mid e
 
 -- a scan that goes on tells of a fault exactly where a card's count changed
-pub failed_goes : (p q : CageSeen) (s : Setup) (i : ℕ) (told : TakenSeen) → Goes p s i told q → any_failed p.rack q.rack ≡ is_fault told
-failed_goes p q s i SaysIgnored h = absurd h.runs.arrives
-failed_goes p q s i SaysWaits h = rack_like p.rack h.runs.rack (bays_of p) (bays_of q) h.runs.moved.rest (ap (λ (b : Bays). b.rack) h.runs.arrives.1)
-failed_goes p q s i (SaysPause t micros) h = rack_like p.rack h.runs.rack (bays_of p) (bays_of q) h.runs.moved.rest (ap (λ (b : Bays). b.rack) h.runs.arrives.2)
-failed_goes p q s i (SaysJob job) h =
-    ap (any_failed p.rack) (ap (λ (b : Bays). b.rack) h.runs.arrives.1.after) ∙ unfailed_out p.rack h.runs.rack (s.meter - 1) (sets_unfailed p.rack h.runs.rack h.runs.moved.rest)
-failed_goes p q s i SaysEnded h = rack_like p.rack h.runs.rack (bays_of p) (bays_of q) h.runs.moved.rest (ap (λ (b : Bays). b.rack) h.runs.arrives.1)
-failed_goes p q s i SaysFault h = relay_failed p.rack q.rack h.runs.fallen.failed
+pub failed_runs : (old new : Bays) (number : ℕ) (moves : List Item) (at : Scanning) (told : TakenSeen) (scan : Option Scanning)
+    → Runs old number moves at told new scan → any_failed old.rack new.rack ≡ tells_fault told
+failed_runs old new number moves at SaysIgnored scan h = absurd h.arrives
+failed_runs old new number moves at SaysWaits scan h = like old.rack h.rack new h.moved.rest (ap (λ (b : Bays). b.rack) h.arrives.1)
+failed_runs old new number moves at (SaysPause t micros) scan h = like old.rack h.rack new h.moved.rest (ap (λ (b : Bays). b.rack) h.arrives.2)
+failed_runs old new number moves at (SaysJob job) scan h =
+    ap (any_failed old.rack) (ap (λ (b : Bays). b.rack) h.arrives.1.after) ∙ unfailed_out old.rack h.rack (at.setup.meter - 1)
+    (sets_unfailed old.rack h.rack h.moved.rest)
+failed_runs old new number moves at SaysEnded scan h = like old.rack h.rack new h.moved.rest (ap (λ (b : Bays). b.rack) h.arrives.1)
+failed_runs old new number moves at SaysFault scan h = relay_failed old.rack new.rack h.fallen.failed
+
+pub failed_goes : (p q : CageSeen) (s : Setup) (i : ℕ) (told : TakenSeen) → Goes p s i told q → any_failed p.rack q.rack ≡ tells_fault told
+failed_goes p q s i told h = failed_runs (bays_of p) (bays_of q) p.number (way s i) (next_place s i) told q.scan h.runs
+
+past_from : (p q : CageSeen) (scan : Option Scanning) (told : TakenSeen) → GoesPastFrom p scan told q
+    → any_failed p.rack q.rack ≡ tells_fault told
+past_from p q None told h = absurd h
+past_from p q (Some at) told h = failed_goes p q at.setup _ told h
+
+pub failed_past : (p q : CageSeen) (told : TakenSeen) → GoesPast p told q → any_failed p.rack q.rack ≡ tells_fault told
+failed_past p q told h = past_from p q p.scan told h
+
+-- a return that is taken tells of a fault exactly where its measurement failed, or a relay card's count changed
+pub failed_counts : (p q : CageSeen) (outcome : Result Reading CardFault) (told : TakenSeen) → Counts p outcome told q
+    → tells_fault told ≡ (is_err outcome || any_failed p.rack q.rack)
+failed_counts p q (Ok r) told h = sym (failed_past (with_reading p r) q told h)
+failed_counts p q (Err e) told h = ap tells_fault h.0
+
+readings_from : (p q : CageSeen) (scan : Option Scanning) (told : TakenSeen) → GoesPastFrom p scan told q → q.readings ≡ p.readings
+readings_from p q None told h = absurd h
+readings_from p q (Some at) told h = h.readings
+
+pub readings_past : (p q : CageSeen) (told : TakenSeen) → GoesPast p told q → q.readings ≡ p.readings
+readings_past p q told h = readings_from p q p.scan told h
+
+pub readings_counts : (p q : CageSeen) (outcome : Result Reading CardFault) (told : TakenSeen) → Counts p outcome told q
+    → q.readings ≡ readings_with p.readings outcome
+readings_counts p q (Ok r) told h = readings_past (with_reading p r) q told h
+readings_counts p q (Err e) told h = ap (λ (x : CageSeen). x.readings) h.1

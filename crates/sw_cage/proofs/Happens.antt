@@ -1,5 +1,6 @@
 -- What happens to a running scan, and the cage stays good.
-use Rattle.std.proofs.Common.{◌≡◌, ◌≢◌, ℕ, ◌+◌, ◌-◌, ◌<◌, ◌≤◌, true, List, [], ◌∷◌, ◌++◌, length, Option, Some, None, slice_set, refl, sym, ap, ◌∙◌, subst, arith, is_some, length-append, Result, Ok, if◌then◌else◌}
+use Rattle.std.proofs.Common.{◌≡◌, ◌≢◌, ℕ, ◌+◌, ◌-◌, ◌<◌, ◌≤◌, true, List, [], ◌∷◌, ◌++◌, length, Option, Some, None, slice_set, refl, sym, ap, ◌∙◌, subst}
+use Rattle.std.proofs.Common.{arith, is_some, length-append, Result, Ok, if◌then◌else◌}
 use Rattle.std.specs.Result.{is_ok}
 use mathlib.Core.Path.{fun_ext}
 use Rattle.sw_base.specs.Layout.{Channel, Layout, slot_at, has_meter}
@@ -37,8 +38,10 @@ go_meter p s i at g e = ap (λ (x : Scanning). has_meter (layout_of p.rack) x.se
 pub go_slot : (p : CageSeen) (s : Setup) (i : ℕ) (at : Scanning) → CanGo p s i → at ≡ next_place s i → (1 ≤ at.setup.meter) × (at.setup.meter ≤ 8)
 go_slot p s i at g e = subst (λ (x : Scanning). (1 ≤ x.setup.meter) × (x.setup.meter ≤ 8)) (sym e) g.range.meter
 
-pub go_may : (p : CageSeen) (s : Setup) (i : ℕ) (o k : Option Channel) → IsHeld p → CanGo p s i → opens_of o ++ closes_of k ≡ way s i → MayMove (layout_of p.rack) (is_closed p.rack) o k
-go_may p s i o k held g e = may_move_in (layout_of p.rack) p.out (lengths p held) (is_closed p.rack) o k (may_move (cage_layout p) (is_closed p.rack) s i g.way o k e)
+pub go_may : (p : CageSeen) (s : Setup) (i : ℕ) (o k : Option Channel) → IsHeld p → CanGo p s i → opens_of o ++ closes_of k ≡ way s i
+    → MayMove (layout_of p.rack) (is_closed p.rack) o k
+go_may p s i o k held g e = may_move_in (layout_of p.rack) p.out (lengths p held) (is_closed p.rack) o k
+    (may_move (cage_layout p) (is_closed p.rack) s i g.way o k e)
 
 room_some : (room : ℕ) (s : Setup) (i : ℕ) (scan : Option Scanning) → reads (agenda s) ≤ room → scan ≡ Some (next_place s i) → HasRoom scan room
 room_some room s i scan r e = subst (λ (o : Option Scanning). HasRoom o room) (sym e) r
@@ -46,7 +49,8 @@ room_some room s i scan r e = subst (λ (o : Option Scanning). HasRoom o room) (
 room_none : (room : ℕ) (scan : Option Scanning) → scan ≡ None → HasRoom scan room
 room_none room scan e = subst (λ (o : Option Scanning). HasRoom o room) (sym e) tt
 
-room_goes : (p q : CageSeen) (s : Setup) (i : ℕ) (told : TakenSeen) (room : ℕ) → reads (agenda s) ≤ room → Runs (bays_of p) p.number (way s i) (next_place s i) told (bays_of q) q.scan → HasRoom q.scan room
+room_goes : (p q : CageSeen) (s : Setup) (i : ℕ) (told : TakenSeen) (room : ℕ) → reads (agenda s) ≤ room
+    → Runs (bays_of p) p.number (way s i) (next_place s i) told (bays_of q) q.scan → HasRoom q.scan room
 room_goes p q s i SaysIgnored room r h = absurd h.arrives
 room_goes p q s i SaysWaits room r h = room_some room s i q.scan r h.arrives.2
 room_goes p q s i (SaysPause t micros) room r h = room_some room s i q.scan r h.arrives.3
@@ -54,11 +58,14 @@ room_goes p q s i (SaysJob job) room r h = room_some room s i q.scan r h.arrives
 room_goes p q s i SaysEnded room r h = room_none room q.scan h.arrives.2
 room_goes p q s i SaysFault room r h = room_none room q.scan h.over
 
-pub go_kept : (p q : CageSeen) (s : Setup) (i : ℕ) (told : TakenSeen) (moves : List Item) (at : Scanning) (room : ℕ) → IsHeld p → CanGo p s i → reads (agenda s) ≤ room
-    → Runs (bays_of p) p.number moves at told (bays_of q) q.scan → moves ≡ way s i → at ≡ next_place s i → q.number ≡ p.number → q.readings ≡ p.readings → IsKept q room
+pub go_kept : (p q : CageSeen) (s : Setup) (i : ℕ) (told : TakenSeen) (moves : List Item) (at : Scanning) (room : ℕ) → IsHeld p → CanGo p s i
+    → reads (agenda s) ≤ room
+    → Runs (bays_of p) p.number moves at told (bays_of q) q.scan → moves ≡ way s i → at ≡ next_place s i → q.number ≡ p.number → q.readings ≡ p.readings
+    → IsKept q room
 go_kept p q s i told moves at room held g r h e f n rs =
     let h : Runs (bays_of p) p.number (way s i) (next_place s i) told (bays_of q) q.scan =
-    subst (λ (m : List Item). Runs (bays_of p) p.number m (next_place s i) told (bays_of q) q.scan) e (subst (λ (x : Scanning). Runs (bays_of p) p.number moves x told (bays_of q) q.scan) f h) in
+    subst (λ (m : List Item). Runs (bays_of p) p.number m (next_place s i) told (bays_of q) q.scan) e
+    (subst (λ (x : Scanning). Runs (bays_of p) p.number moves x told (bays_of q) q.scan) f h) in
     let goes : Goes p s i told q = record { runs = h; number = n; readings = rs } in
     record { good = good_goes p q s i told held g goes; room = room_goes p q s i told room r h }
 
@@ -82,7 +89,8 @@ pub go_other : (p : CageSeen) (at : Scanning) (room : ℕ) → IsKept p room →
 go_other p at room k e o =
     let u : IsUnderway p at = running_at p at k.good.running e in
     let x : Awaited = o.0 in
-    let home : slot_at p.out at.setup.meter ≡ None = other_home (slot_at p.out at.setup.meter) (ticket_of p.number at) x o.1.1 (subst (MeterStands (slot_at p.out at.setup.meter) (ticket_of p.number at)) o.1.0 u.meter) in
+    let home : slot_at p.out at.setup.meter ≡ None = other_home (slot_at p.out at.setup.meter) (ticket_of p.number at) x o.1.1
+    (subst (MeterStands (slot_at p.out at.setup.meter) (ticket_of p.number at)) o.1.0 u.meter) in
     record {
       listed = u.listed;
       range = u.range;
@@ -121,25 +129,32 @@ module _ (p : CageSeen) (s : ℕ) (t : Ticket) (m : MeterAccount) (k : IsHeld p)
   closed_same : is_closed rack_back ≡ is_closed p.rack
   closed_same = let b = slot_some p s t k out in fun_ext (closed_back p.rack s m b.0 (omega (arith, b.1, k.slots)) empty_slot)
 
-  way_back : (setup : Setup) (i : ℕ) → IsOnWay (cage_layout p) (is_closed p.rack) setup i → IsOnWay (layout_with (layout_of rack_back) out_back) (is_closed rack_back) setup i
-  way_back setup i w = on_way_like (cage_layout p) (layout_with (layout_of rack_back) out_back) (is_closed p.rack) (is_closed rack_back) setup i layout_same closed_same w
+  way_back : (setup : Setup) (i : ℕ) → IsOnWay (cage_layout p) (is_closed p.rack) setup i
+      → IsOnWay (layout_with (layout_of rack_back) out_back) (is_closed rack_back) setup i
+  way_back setup i w = on_way_like (cage_layout p) (layout_with (layout_of rack_back) out_back) (is_closed p.rack) (is_closed rack_back) setup i layout_same
+      closed_same w
 
   -- the scan that awaits it goes on
-  pub go_counted : (at : Scanning) (r : Reading) → IsUnderway p at → AwaitsReturn p.number at s t → CanGo (record p { rack = rack_back; out = out_back; readings = p.readings ++ r ∷ [] }) at.setup (at.index + 1)
+  pub go_counted : (at : Scanning) (r : Reading) → IsUnderway p at → AwaitsReturn p.number at s t
+      → CanGo (record p { rack = rack_back; out = out_back; readings = p.readings ++ r ∷ [] }) at.setup (at.index + 1)
   go_counted at r u w =
       let b = slot_some p s t k out in
-      let home : slot_at out_back at.setup.meter ≡ None = ap (slot_at out_back) w.slot_is ∙ slot_set_same p.out s None (omega (arith, b.0)) (omega (arith, b.1, k.outs)) in
+      let home : slot_at out_back at.setup.meter ≡ None = ap (slot_at out_back) w.slot_is ∙ slot_set_same p.out s None (omega (arith, b.0))
+      (omega (arith, b.1, k.outs)) in
       record {
         listed = u.listed;
         range = u.range;
         home = home;
-        measured = meter_in (layout_of rack_back) out_back (lengths (record p { rack = rack_back; out = out_back }) (held_back p.scan)) at.setup.meter (ap (λ (l : Layout). has_meter l at.setup.meter) layout_same ∙ u.measured) home;
-        way = on_way_past (layout_with (layout_of rack_back) out_back) (is_closed rack_back) at.setup at.index (way_back at.setup at.index u.way) Read w.reading;
+        measured = meter_in (layout_of rack_back) out_back (lengths (record p { rack = rack_back; out = out_back }) (held_back p.scan)) at.setup.meter
+            (ap (λ (l : Layout). has_meter l at.setup.meter) layout_same ∙ u.measured) home;
+        way = on_way_past (layout_with (layout_of rack_back) out_back) (is_closed rack_back) at.setup at.index (way_back at.setup at.index u.way) Read
+            w.reading;
         readings = omega (arith, length-append p.readings (r ∷ []), u.readings, reads_past at.setup at.index Read w.reading);
       }
 
   -- another scan's meter is out in the slot
-  stands_out : (at : Scanning) (x : Option Awaited) → awaits at ≡ x → at.setup.meter ≡ s → MeterStands (Some t) (ticket_of p.number at) x → AwaitsReturn p.number at s t
+  stands_out : (at : Scanning) (x : Option Awaited) → awaits at ≡ x → at.setup.meter ≡ s → MeterStands (Some t) (ticket_of p.number at) x
+      → AwaitsReturn p.number at s t
   stands_out at None e f w = absurd w
   stands_out at (Some (Wait name)) e f w = absurd (cc)
   stands_out at (Some (Pause micros)) e f w = absurd (cc)
@@ -148,23 +163,27 @@ module _ (p : CageSeen) (s : ℕ) (t : Ticket) (m : MeterAccount) (k : IsHeld p)
   underway_back : (at : Scanning) → IsUnderway p at → (AwaitsReturn p.number at s t → ⊥) → IsUnderway (record p { rack = rack_back; out = out_back }) at
   underway_back at u late =
       let b = slot_some p s t k out in
-      let other : at.setup.meter ≢ s = λ e. late (stands_out at (awaits at) refl e (subst (λ (o : Option Ticket). MeterStands o (ticket_of p.number at) (awaits at)) (ap (slot_at p.out) e ∙ out) u.meter)) in
+      let other : at.setup.meter ≢ s = λ e. late (stands_out at (awaits at) refl e
+      (subst (λ (o : Option Ticket). MeterStands o (ticket_of p.number at) (awaits at)) (ap (slot_at p.out) e ∙ out) u.meter)) in
       record {
         listed = u.listed;
         range = u.range;
         measured = ap (λ (l : Layout). has_meter l at.setup.meter) layout_same ∙ u.measured;
         way = way_back at.setup at.index u.way;
         readings = u.readings;
-        meter = subst (λ (o : Option Ticket). MeterStands o (ticket_of p.number at) (awaits at)) (sym (slot_set_other p.out s at.setup.meter None (omega (arith, b.0)) other)) u.meter;
+        meter = subst (λ (o : Option Ticket). MeterStands o (ticket_of p.number at) (awaits at))
+            (sym (slot_set_other p.out s at.setup.meter None (omega (arith, b.0)) other)) u.meter;
       }
 
-  running_back : (scan : Option Scanning) → IsRunning p scan → (TakesReturnThere p.number scan s t → ⊥) → IsRunning (record p { rack = rack_back; out = out_back }) scan
+  running_back : (scan : Option Scanning) → IsRunning p scan → (TakesReturnThere p.number scan s t → ⊥)
+      → IsRunning (record p { rack = rack_back; out = out_back }) scan
   running_back None r late = tt
   running_back (Some at) r late = underway_back at r late
 
 -- what the code has, by its parts
 
-pub kept_back : (p : CageSeen) (s : ℕ) (t : Ticket) (m : MeterAccount) (rack : Rack) (out : List (Option Ticket)) (room : ℕ) → IsKept p room → slot_at p.out s ≡ Some t → (TakesReturnThere p.number p.scan s t → ⊥)
+pub kept_back : (p : CageSeen) (s : ℕ) (t : Ticket) (m : MeterAccount) (rack : Rack) (out : List (Option Ticket)) (room : ℕ) → IsKept p room
+    → slot_at p.out s ≡ Some t → (TakesReturnThere p.number p.scan s t → ⊥)
     → rack ≡ slice_set p.rack (s - 1) (Some (of_meter m)) → out ≡ slice_set p.out (s - 1) None → IsKept (record p { rack = rack; out = out }) room
 kept_back p s t m rack out room k at late e f =
     subst (λ (x : Rack). IsKept (record p { rack = x; out = out }) room) (sym e)
@@ -173,18 +192,26 @@ kept_back p s t m rack out room k at late e f =
       room = k.room;
     }))
 
-pub kept_failed : (p : CageSeen) (s : ℕ) (t : Ticket) (m : MeterAccount) (rack rested : Rack) (out : List (Option Ticket)) (room : ℕ) → IsKept p room → slot_at p.out s ≡ Some t
-    → rack ≡ slice_set p.rack (s - 1) (Some (of_meter m)) → out ≡ slice_set p.out (s - 1) None → rested ≡ all_open rack → IsKept (record p { rack = rested; out = out; scan = None }) room
+pub kept_failed : (p : CageSeen) (s : ℕ) (t : Ticket) (m : MeterAccount) (rack rested : Rack) (out : List (Option Ticket)) (room : ℕ) → IsKept p room
+    → slot_at p.out s ≡ Some t
+    → rack ≡ slice_set p.rack (s - 1) (Some (of_meter m)) → out ≡ slice_set p.out (s - 1) None → rested ≡ all_open rack
+    → IsKept (record p { rack = rested; out = out; scan = None }) room
 kept_failed p s t m rack rested out room k at e f h =
     let back : CageSeen = record p { rack = slice_set p.rack (s - 1) (Some (of_meter m)); out = slice_set p.out (s - 1) None; scan = None } in
     subst (λ (x : Rack). IsKept (record p { rack = x; out = out; scan = None }) room) (sym (h ∙ ap all_open e))
-    (subst (λ (x : List (Option Ticket)). IsKept (record p { rack = all_open (slice_set p.rack (s - 1) (Some (of_meter m))); out = x; scan = None }) room) (sym f) (record {
-      good = record { held = held_stays back (all_open (slice_set p.rack (s - 1) (Some (of_meter m)))) None (held_back p s t m k.good.held at None) (stays_open (slice_set p.rack (s - 1) (Some (of_meter m)))); running = tt };
+    (subst (λ (x : List (Option Ticket)). IsKept (record p { rack = all_open (slice_set p.rack (s - 1) (Some (of_meter m))); out = x; scan = None }) room)
+    (sym f) (record {
+      good = record {
+        held = held_stays back (all_open (slice_set p.rack (s - 1) (Some (of_meter m)))) None (held_back p s t m k.good.held at None)
+            (stays_open (slice_set p.rack (s - 1) (Some (of_meter m))));
+        running = tt;
+      };
       room = tt;
     }))
 
 -- there is room for one more reading
-pub room_left : (p : CageSeen) (at : Scanning) (s : ℕ) (t : Ticket) (room : ℕ) → IsKept p room → p.scan ≡ Some at → AwaitsReturn p.number at s t → length p.readings < room
+pub room_left : (p : CageSeen) (at : Scanning) (s : ℕ) (t : Ticket) (room : ℕ) → IsKept p room → p.scan ≡ Some at → AwaitsReturn p.number at s t
+    → length p.readings < room
 room_left p at s t room k e w =
     let u : IsUnderway p at = running_at p at k.good.running e in
     omega (arith, u.readings, reads_left at.setup at.index w.reading, room_at p at room k e)
@@ -194,20 +221,26 @@ pub record Counted (p : CageSeen) (s : Setup) (i : ℕ) : Type 0 where
   pub held : IsHeld p
   pub go : CanGo p s i
 
-pub counted : (p : CageSeen) (at : Scanning) (s : ℕ) (t : Ticket) (m : MeterAccount) (r : Reading) (rack : Rack) (out : List (Option Ticket)) (readings : List Reading) (room : ℕ) → IsKept p room → p.scan ≡ Some at → AwaitsReturn p.number at s t → slot_at p.out s ≡ Some t
-    → rack ≡ slice_set p.rack (s - 1) (Some (of_meter m)) → out ≡ slice_set p.out (s - 1) None → readings ≡ p.readings ++ r ∷ [] → Counted (record p { rack = rack; out = out; readings = readings }) at.setup (at.index + 1)
+pub counted : (p : CageSeen) (at : Scanning) (s : ℕ) (t : Ticket) (m : MeterAccount) (r : Reading) (rack : Rack) (out : List (Option Ticket))
+    (readings : List Reading) (room : ℕ) → IsKept p room → p.scan ≡ Some at → AwaitsReturn p.number at s t → slot_at p.out s ≡ Some t
+    → rack ≡ slice_set p.rack (s - 1) (Some (of_meter m)) → out ≡ slice_set p.out (s - 1) None → readings ≡ p.readings ++ r ∷ []
+    → Counted (record p { rack = rack; out = out; readings = readings }) at.setup (at.index + 1)
 counted p at s t m r rack out readings room k e w h a b c =
     subst (λ (x : Rack). Counted (record p { rack = x; out = out; readings = readings }) at.setup (at.index + 1)) (sym a)
-    (subst (λ (x : List (Option Ticket)). Counted (record p { rack = slice_set p.rack (s - 1) (Some (of_meter m)); out = x; readings = readings }) at.setup (at.index + 1)) (sym b)
-    (subst (λ (x : List Reading). Counted (record p { rack = slice_set p.rack (s - 1) (Some (of_meter m)); out = slice_set p.out (s - 1) None; readings = x }) at.setup (at.index + 1)) (sym c)
+    (subst (λ (x : List (Option Ticket)). Counted (record p { rack = slice_set p.rack (s - 1) (Some (of_meter m)); out = x; readings = readings }) at.setup
+    (at.index + 1)) (sym b)
+    (subst (λ (x : List Reading). Counted (record p { rack = slice_set p.rack (s - 1) (Some (of_meter m)); out = slice_set p.out (s - 1) None; readings = x })
+    at.setup (at.index + 1)) (sym c)
     (let k' = held_back p s t m k.good.held h p.scan in record {
       held = record { slots = k'.slots; outs = k'.outs; empty = k'.empty; past = k'.past };
       go = go_counted p s t m k.good.held h at r (running_at p at k.good.running e) w;
     })))
 
 -- a scan begins
-pub begins : (p : CageSeen) (s : Setup) (layout : Layout) (closed : List Channel) (number : ℕ) (readings : List Reading) → IsHeld p → 0 < length s.list → IsInRange s → slot_at p.out s.meter ≡ None → has_meter layout s.meter ≡ true
-    → IsSound layout (is_among closed) s.points (agenda s) → cage_layout p ≡ layout → closed_list p.rack ≡ closed → ((c : Channel) → is_closed p.rack c ≡ true → (1 ≤ c.0) × (c.0 ≤ 8) × (1 ≤ c.1) × (c.1 ≤ 99))
+pub begins : (p : CageSeen) (s : Setup) (layout : Layout) (closed : List Channel) (number : ℕ) (readings : List Reading) → IsHeld p → 0 < length s.list
+    → IsInRange s → slot_at p.out s.meter ≡ None → has_meter layout s.meter ≡ true
+    → IsSound layout (is_among closed) s.points (agenda s) → cage_layout p ≡ layout → closed_list p.rack ≡ closed
+    → ((c : Channel) → is_closed p.rack c ≡ true → (1 ≤ c.0) × (c.0 ≤ 8) × (1 ≤ c.1) × (c.1 ≤ 99))
     → number ≡ p.number + 1 → readings ≡ [] → Counted (record p { number = number; readings = readings }) s 0
 begins p s layout closed number readings k listed range home measured sound e f inside n r =
     let found : is_among closed ≡ is_closed p.rack = ap is_among (sym f) ∙ fun_ext (among_closed p.rack inside) in
@@ -220,7 +253,8 @@ begins p s layout closed number readings k listed range home measured sound e f 
         measured = meter_in (layout_of p.rack) p.out (lengths p k) s.meter (ap (λ (l : Layout). has_meter l s.meter) e ∙ measured) home;
         way = record {
           found = is_closed p.rack;
-          sound = subst (λ (l : Layout). IsSound l (is_closed p.rack) s.points (agenda s)) (sym e) (subst (λ (b : Channels). IsSound layout b s.points (agenda s)) found sound);
+          sound = subst (λ (l : Layout). IsSound l (is_closed p.rack) s.points (agenda s)) (sym e)
+              (subst (λ (b : Channels). IsSound layout b s.points (agenda s)) found sound);
           so_far = refl;
         };
         readings = ap length r;
@@ -231,19 +265,24 @@ begins p s layout closed number readings k listed range home measured sound e f 
 pub here_out : (p q : CageSeen) (s s' : ℕ) (t t' : Ticket) → p ≡ q → s ≡ s' → t ≡ t' → slot_at q.out s' ≡ Some t' → slot_at p.out s ≡ Some t
 here_out p q s s' t t' e f g h = ap (λ (x : CageSeen). slot_at x.out s) e ∙ ap (λ (n : ℕ). slot_at q.out n) f ∙ h ∙ ap (λ (u : Ticket). Some u) (sym g)
 
-pub here_taken : (p q : CageSeen) (s s' : ℕ) (t t' : Ticket) → p ≡ q → s ≡ s' → t ≡ t' → TakesReturnThere q.number q.scan s' t' → TakesReturnThere p.number p.scan s t
+pub here_taken : (p q : CageSeen) (s s' : ℕ) (t t' : Ticket) → p ≡ q → s ≡ s' → t ≡ t' → TakesReturnThere q.number q.scan s' t'
+    → TakesReturnThere p.number p.scan s t
 here_taken p q s s' t t' e f g h =
-    subst (λ (x : CageSeen). TakesReturnThere x.number x.scan s t) (sym e) (subst (λ (n : ℕ). TakesReturnThere q.number q.scan n t) (sym f) (subst (λ (u : Ticket). TakesReturnThere q.number q.scan s' u) (sym g) h))
+    subst (λ (x : CageSeen). TakesReturnThere x.number x.scan s t) (sym e)
+    (subst (λ (n : ℕ). TakesReturnThere q.number q.scan n t) (sym f) (subst (λ (u : Ticket). TakesReturnThere q.number q.scan s' u) (sym g) h))
 
-pub here_late : (p q : CageSeen) (s s' : ℕ) (t t' : Ticket) → p ≡ q → s ≡ s' → t ≡ t' → (TakesReturnThere q.number q.scan s' t' → ⊥) → TakesReturnThere p.number p.scan s t → ⊥
+pub here_late : (p q : CageSeen) (s s' : ℕ) (t t' : Ticket) → p ≡ q → s ≡ s' → t ≡ t' → (TakesReturnThere q.number q.scan s' t' → ⊥)
+    → TakesReturnThere p.number p.scan s t → ⊥
 here_late p q s s' t t' e f g late h = late (here_taken q p s' s t' t (sym e) (sym f) (sym g) h)
 
-pub taken_scan : (number : ℕ) (scan : Option Scanning) (s : ℕ) (t : Ticket) → TakesReturnThere number scan s t → (at : Scanning) × ((scan ≡ Some at) × AwaitsReturn number at s t)
+pub taken_scan : (number : ℕ) (scan : Option Scanning) (s : ℕ) (t : Ticket) → TakesReturnThere number scan s t
+    → (at : Scanning) × ((scan ≡ Some at) × AwaitsReturn number at s t)
 taken_scan number None s t h = absurd h
 taken_scan number (Some at) s t h = (at, (refl, h))
 
 pub room_for : (p : CageSeen) (s : ℕ) (t : Ticket) (room : ℕ) → IsKept p room → TakesReturnThere p.number p.scan s t → length p.readings < room
 room_for p s t room k h = let w = taken_scan p.number p.scan s t h in room_left p w.0 s t room k w.1.0 w.1.1
 
-pub pushed : {T E : Type 0} (r : Result T E) (t : T) (xs new : List Reading) (x : Reading) → new ≡ (if is_ok r then xs ++ x ∷ [] else xs) → r ≡ Ok t → new ≡ xs ++ x ∷ []
+pub pushed : {T E : Type 0} (r : Result T E) (t : T) (xs new : List Reading) (x : Reading) → new ≡ (if is_ok r then xs ++ x ∷ [] else xs) → r ≡ Ok t
+    → new ≡ xs ++ x ∷ []
 pushed r t xs new x e f = e ∙ ap (λ q. if is_ok q then xs ++ x ∷ [] else xs) f

@@ -1,5 +1,7 @@
 -- What stays of a cage where its cards change.
-use Rattle.std.proofs.Common.{◌≡◌, ℕ, ◌+◌, ◌-◌, ◌≤◌, ◌<◌, Bool, true, false, List, [], ◌∷◌, ◌++◌, length, take, Option, None, Some, slice_index_or, slice_set, inl, inr, refl, sym, ◌∙◌, ap, subst, arith, map, is_some, zero, suc, replicate, nat_lt, if◌then◌else◌, Result, Ok, Err, OnOk, OnErr}
+use Rattle.std.proofs.Common.{◌≡◌, ℕ, ◌+◌, ◌-◌, ◌≤◌, ◌<◌, Bool, true, false, List, [], ◌∷◌, ◌++◌, length, take, Option, None, Some, slice_index_or, slice_set}
+use Rattle.std.proofs.Common.{inl, inr, refl, sym, ◌∙◌, ap, subst, arith, map, is_some, zero, suc, replicate, nat_lt, if◌then◌else◌, Result, Ok, Err, OnOk}
+use Rattle.std.proofs.Common.{OnErr}
 use Rattle.std.proofs.lemmas.List.{length-map, length-set, take_more}
 use Rattle.sw_base.specs.Layout.{Channel, Bay, meter, Layout, slot_at}
 use Rattle.sw_base.specs.declared.reading.Reading.{Reading}
@@ -43,13 +45,15 @@ stays_rest old new e = record {
 pub stays_plates : (old new : Rack) → map option_plate new ≡ map option_plate old → Stays old new
 stays_plates old new e = record {
   size = sym (length-map new option_plate) ∙ ap length e ∙ length-map old option_plate;
-  empty = λ s h. plate_empty (slot_at new s) (sym (slot_map option_plate new s refl) ∙ ap (λ (r : Rack). slot_at r s) e ∙ slot_map option_plate old s refl ∙ ap option_plate h);
+  empty = λ s h. plate_empty (slot_at new s) (sym (slot_map option_plate new s refl) ∙ ap (λ (r : Rack). slot_at r s) e ∙ slot_map option_plate old s refl ∙ ap
+      option_plate h);
 }
 
 pub stays_open : (old : Rack) → Stays old (all_open old)
 stays_open old = record { size = length-map old option_rest; empty = λ s h. slot_rest old s ∙ ap option_rest h }
 
-pub stays_call : {T E : Type 0} (r : Result T E) (old new : Rack) (chans : List Channel) (on : Bool) → OnOk r (Sets old chans on new) → OnErr r (IsDisturbed old chans new) → Stays old new
+pub stays_call : {T E : Type 0} (r : Result T E) (old new : Rack) (chans : List Channel) (on : Bool) → OnOk r (Sets old chans on new)
+    → OnErr r (IsDisturbed old chans new) → Stays old new
 stays_call (Ok t) old new chans on ok err = stays_rest old new ok.rest
 stays_call (Err e) old new chans on ok err = stays_plates old new err.cards
 
@@ -72,7 +76,8 @@ out_none None h e = absurd (cc)
 out_none (Some t) h e = cc
 
 -- a slot that no meter of it is out changes
-pub held_set : (p : CageSeen) (s : ℕ) (v : Option Account) (scan : Option Scanning) → IsHeld p → slot_at p.out s ≡ None → 1 ≤ s → s ≤ 8 → IsHeld (record p { rack = slice_set p.rack (s - 1) v; scan = scan })
+pub held_set : (p : CageSeen) (s : ℕ) (v : Option Account) (scan : Option Scanning) → IsHeld p → slot_at p.out s ≡ None → 1 ≤ s → s ≤ 8
+    → IsHeld (record p { rack = slice_set p.rack (s - 1) v; scan = scan })
 held_set p s v scan k home a b = record {
   slots = length-set p.rack (s - 1) v ∙ k.slots;
   outs = k.outs;
@@ -83,21 +88,32 @@ held_set p s v scan k home a b = record {
   past = k.past;
 }
 
-pub kept_install : {T E : Type 0} (r : Result T E) (p : CageSeen) (s : ℕ) (card : Account) (rack : Rack) (room : ℕ) → IsKept p room → p.scan ≡ None → slot_at p.out s ≡ None
-    → OnOk r (rack ≡ slice_set p.rack (s - 1) (Some card)) → OnOk r (CanInstall p.rack s card) → OnErr r (rack ≡ p.rack) → IsKept (record p { rack = rack }) room
+pub kept_install : {T E : Type 0} (r : Result T E) (p : CageSeen) (s : ℕ) (card : Account) (rack : Rack) (room : ℕ) → IsKept p room → p.scan ≡ None
+    → slot_at p.out s ≡ None
+    → OnOk r (rack ≡ slice_set p.rack (s - 1) (Some card)) → OnOk r (CanInstall p.rack s card) → OnErr r (rack ≡ p.rack)
+    → IsKept (record p { rack = rack }) room
 kept_install (Ok t) p s card rack room k idle home ok can err = subst (λ (x : Rack). IsKept (record p { rack = x }) room) (sym ok) (record {
-  good = record { held = held_set p s (Some card) p.scan k.good.held home can.first can.last; running = subst (IsRunning (record p { rack = slice_set p.rack (s - 1) (Some card) })) (sym idle) tt };
+  good = record {
+    held = held_set p s (Some card) p.scan k.good.held home can.first can.last;
+    running =
+        subst (IsRunning (record p { rack = slice_set p.rack (s - 1) (Some card) })) (sym idle) tt;
+  };
   room = k.room;
 })
 kept_install (Err e) p s card rack room k idle home ok can err = subst (λ (x : Rack). IsKept (record p { rack = x }) room) (sym err) k
 
 -- a card is taken out
-pub kept_taken : {T E : Type 0} (r : Result T E) (p : CageSeen) (s : ℕ) (rack : Rack) (room : ℕ) → IsKept p room → p.scan ≡ None → slot_at p.out s ≡ None → is_some (slot_at p.rack s) ≡ true
+pub kept_taken : {T E : Type 0} (r : Result T E) (p : CageSeen) (s : ℕ) (rack : Rack) (room : ℕ) → IsKept p room → p.scan ≡ None → slot_at p.out s ≡ None
+    → is_some (slot_at p.rack s) ≡ true
     → OnOk r (rack ≡ slice_set p.rack (s - 1) None) → OnErr r (rack ≡ p.rack) → IsKept (record p { rack = rack }) room
 kept_taken (Ok t) p s rack room k idle home some ok err =
     let b : (0 < s) × (s ≤ length p.rack) = some_slot p.rack s some in
     subst (λ (x : Rack). IsKept (record p { rack = x }) room) (sym ok) (record {
-      good = record { held = held_set p s None p.scan k.good.held home (omega (arith, b.0)) (omega (arith, b.1, k.good.held.slots)); running = subst (IsRunning (record p { rack = slice_set p.rack (s - 1) None })) (sym idle) tt };
+      good = record {
+        held = held_set p s None p.scan k.good.held home (omega (arith, b.0)) (omega (arith, b.1, k.good.held.slots));
+        running =
+            subst (IsRunning (record p { rack = slice_set p.rack (s - 1) None })) (sym idle) tt;
+      };
       room = k.room;
     })
 kept_taken (Err e) p s rack room k idle home some ok err = subst (λ (x : Rack). IsKept (record p { rack = x }) room) (sym err) k
@@ -122,7 +138,8 @@ kept_new rack out number readings room e f = record {
       slots = ap length e;
       outs = ap length f;
       empty = λ s h. absurd (out_none (slot_at out s) h (ap (λ (l : List (Option Ticket)). slot_at l s) f ∙ none_out 8 s));
-      past = λ s t e. absurd (let g : ◌≡◌ {A = Option Ticket} None (Some t) = sym (none_out 8 s) ∙ ap (λ (l : List (Option Ticket)). slot_at l s) (sym f) ∙ e in cc);
+      past = λ s t e. absurd (let g : ◌≡◌ {A = Option Ticket} None (Some t) = sym (none_out 8 s) ∙ ap (λ (l : List (Option Ticket)). slot_at l s) (sym f) ∙ e in
+          cc);
     };
     running = tt;
   };
@@ -153,9 +170,11 @@ bay_in p q s k e h =
 pub eight_bays : (p q : CageSeen) → IsHeld p → p ≡ q → length (cage_layout q) ≡ 8
 eight_bays p q k e = ap (λ (x : CageSeen). length (cage_layout x)) (sym e) ∙ with_length (layout_of p.rack) p.out ∙ layout_length p.rack ∙ k.slots
 
-pub next_bay : (l : Layout) (i : ℕ) (now new : Layout) (b : Option Bay) → length l ≡ 8 → i < 8 → now ≡ take i l → b ≡ slot_at l (i + 1) → new ≡ now ++ b ∷ [] → new ≡ take (i + 1) l
+pub next_bay : (l : Layout) (i : ℕ) (now new : Layout) (b : Option Bay) → length l ≡ 8 → i < 8 → now ≡ take i l → b ≡ slot_at l (i + 1) → new ≡ now ++ b ∷ []
+    → new ≡ take (i + 1) l
 next_bay l i now new b n h e f g =
-    g ∙ ap (λ (x : Layout). x ++ b ∷ []) e ∙ ap (λ (y : Option Bay). take i l ++ y ∷ []) (f ∙ slot_get l (i + 1) (omega arith) ∙ ap (λ (k : ℕ). slice_index_or l k None) (let k : i + 1 - 1 ≡ i = omega arith in k))
+    g ∙ ap (λ (x : Layout). x ++ b ∷ []) e ∙ ap (λ (y : Option Bay). take i l ++ y ∷ [])
+    (f ∙ slot_get l (i + 1) (omega arith) ∙ ap (λ (k : ℕ). slice_index_or l k None) (let k : i + 1 - 1 ≡ i = omega arith in k))
     ∙ sym (take_more l i None (omega arith))
 
 pub rest_twice : (rack : Rack) (s : ℕ) → option_rest (slot_at (all_open rack) s) ≡ option_rest (slot_at rack s)

@@ -22,14 +22,25 @@ all_in p (x ∷ chans) c all h = elim (or_cases (same_channel c x) (is_in chans 
   | inr i ↦ all_in p chans c (and_right (p x) (list_all p chans) all) i
 ]
 
-closed_too : (old new : Rack) (chans : List Channel) → Sets old chans true new → (c : Channel) → is_closed new c ≡ true → closed_with (is_closed old) chans c ≡ true
-closed_too old new chans sets c k = elim (sets_closed old new chans true sets c k) [ inl o ↦ or_right (is_in chans c) (is_closed old c) o | inr i ↦ or_left (is_in chans c) (is_closed old c) i ]
+closed_too : (old new : Rack) (chans : List Channel) → Sets old chans true new → (c : Channel) → is_closed new c ≡ true
+    → closed_with (is_closed old) chans c ≡ true
+closed_too old new chans sets c k = elim (sets_closed old new chans true sets c k)
+    [ inl o ↦ or_right (is_in chans c) (is_closed old c) o | inr i ↦ or_left (is_in chans c) (is_closed old c) i ]
 
 -- channels that may be closed together are closed
-pub exclusive_closing : (old new : Rack) (chans : List Channel) → IsExclusive (layout_of old) (is_closed old) → CanClose (layout_of old) (is_closed old) chans → Sets old chans true new → IsExclusive (layout_of new) (is_closed new)
+pub exclusive_closing : (old new : Rack) (chans : List Channel) → IsExclusive (layout_of old) (is_closed old) → CanClose (layout_of old) (is_closed old) chans
+    → Sets old chans true new → IsExclusive (layout_of new) (is_closed new)
 exclusive_closing old new chans safe can sets = subst (λ l. IsExclusive l (is_closed new)) (sym (sets_layout old new chans true sets)) (record {
-  present = λ c k. elim (sets_closed old new chans true sets c k) [ inl o ↦ safe.present c o | inr i ↦ all_in (is_present (layout_of old)) chans c can.present i ];
-  apart = λ a b ka kb clash. can.apart (record { one = a; other = b; one_closed = closed_too old new chans sets a ka; other_closed = closed_too old new chans sets b kb; clash = clash });
+  present = λ c k. elim (sets_closed old new chans true sets c k)
+      [ inl o ↦ safe.present c o | inr i ↦ all_in (is_present (layout_of old)) chans c can.present i ];
+  apart = λ a b ka kb clash. can.apart (record {
+    one = a;
+    other = b;
+    one_closed = closed_too old new chans sets a ka;
+    other_closed =
+        closed_too old new chans sets b kb;
+    clash = clash;
+  });
 })
 
 if_false : (a r m : Bool) → m ≡ (if a then false else r) → m ≡ true → r ≡ true
@@ -37,10 +48,12 @@ if_false true r m e h = cc
 if_false false r m e h = sym e ∙ h
 
 -- channels are opened
-pub exclusive_opening : (old new : Rack) (chans : List Channel) → IsExclusive (layout_of old) (is_closed old) → Sets old chans false new → IsExclusive (layout_of new) (is_closed new)
+pub exclusive_opening : (old new : Rack) (chans : List Channel) → IsExclusive (layout_of old) (is_closed old) → Sets old chans false new
+    → IsExclusive (layout_of new) (is_closed new)
 exclusive_opening old new chans safe sets = subst (λ l. IsExclusive l (is_closed new)) (sym (sets_layout old new chans false sets)) (record {
   present = λ c k. safe.present c (if_false (is_in chans c) (is_closed old c) (is_closed new c) (sets.closed c) k);
-  apart = λ a b ka kb clash. safe.apart a b (if_false (is_in chans a) (is_closed old a) (is_closed new a) (sets.closed a) ka) (if_false (is_in chans b) (is_closed old b) (is_closed new b) (sets.closed b) kb) clash;
+  apart = λ a b ka kb clash. safe.apart a b (if_false (is_in chans a) (is_closed old a) (is_closed new a) (sets.closed a) ka)
+      (if_false (is_in chans b) (is_closed old b) (is_closed new b) (sets.closed b) kb) clash;
 })
 
 -- every relay is opened

@@ -1,5 +1,6 @@
 -- A scan's moves, by the calls on the cards that make them.
-use Rattle.std.proofs.Common.{◌≡◌, ℕ, ◌==◌, ◌||◌, ◌&&◌, not, Bool, true, false, List, [], ◌∷◌, ◌++◌, Option, None, Some, refl, sym, ◌∙◌, ap, subst, arith, if◌then◌else◌, Result, Ok, Err, OnErr}
+use Rattle.std.proofs.Common.{◌≡◌, ℕ, ◌==◌, ◌||◌, ◌&&◌, not, Bool, true, false, List, [], ◌∷◌, ◌++◌, Option, None, Some, refl, sym, ◌∙◌, ap, subst, arith}
+use Rattle.std.proofs.Common.{if◌then◌else◌, Result, Ok, Err, OnErr}
 use mathlib.Core.Path.{fun_ext}
 use Rattle.std.proofs.lemmas.Grind.{common_steps}
 use Rattle.sw_base.specs.Layout.{Channel, Bay, relays, meter, Layout, slot_at, bay_has, bay_is_meter, is_present, has_meter}
@@ -38,10 +39,18 @@ pub moved_none : (old : Rack) → Moved old [] old
 moved_none old = record { rest = refl; closed = λ x. refl }
 
 pub moved_open : (old new : Rack) (c : Channel) → Sets old (c ∷ []) false new → Moved old (Open c ∷ []) new
-moved_open old new c s = record { rest = s.rest; closed = λ x. s.closed x ∙ ap (λ (t : Bool). if t then false else is_closed old x) (in_one_is c x) ∙ if_without (same_channel c x) (is_closed old x) }
+moved_open old new c s = record {
+  rest = s.rest;
+  closed = λ x. s.closed x ∙ ap (λ (t : Bool). if t then false else is_closed old x) (in_one_is c x) ∙ if_without
+      (same_channel c x) (is_closed old x);
+}
 
 pub moved_close : (old new : Rack) (c : Channel) → Sets old (c ∷ []) true new → Moved old (Close c ∷ []) new
-moved_close old new c s = record { rest = s.rest; closed = λ x. s.closed x ∙ ap (λ (t : Bool). if t then true else is_closed old x) (in_one_is c x) ∙ if_with (same_channel c x) (is_closed old x) }
+moved_close old new c s = record {
+  rest = s.rest;
+  closed = λ x. s.closed x ∙ ap (λ (t : Bool). if t then true else is_closed old x) (in_one_is c x) ∙ if_with
+      (same_channel c x) (is_closed old x);
+}
 
 pub moved_both : (old mid new : Rack) (xs ys : List Item) → Moved old xs mid → Moved mid ys new → Moved old (xs ++ ys) new
 moved_both old mid new xs ys a b = record {
@@ -52,7 +61,8 @@ moved_both old mid new xs ys a b = record {
 pub moved_layout : (old mid : Rack) (xs : List Item) → Moved old xs mid → layout_of mid ≡ layout_of old
 moved_layout old mid xs m = layout_rest old mid m.rest
 
-pub may_close_there : (old mid : Rack) (o k : Option Channel) → MayMove (layout_of old) (is_closed old) o k → Moved old (opens_of o) mid → MayClose (layout_of mid) (is_closed mid) k
+pub may_close_there : (old mid : Rack) (o k : Option Channel) → MayMove (layout_of old) (is_closed old) o k → Moved old (opens_of o) mid
+    → MayClose (layout_of mid) (is_closed mid) k
 may_close_there old mid o k may m =
     subst (λ (l : Layout). MayClose l (is_closed mid) k) (sym (moved_layout old mid (opens_of o) m))
     (subst (λ (b : Channels). MayClose (layout_of old) b k) (sym (fun_ext m.closed)) may.closes)
@@ -63,28 +73,42 @@ not_meter (Some meter) ch h = absurd (cc)
 not_meter (Some (relays groups)) ch h = refl
 
 -- a call on a channel that is there failed
-pub broken_call : (old most new : Rack) (c : Channel) → is_present (layout_of old) c ≡ true → IsRackFault old c most new → IsDisturbed old (c ∷ []) new → IsBroken old new
+pub broken_call : (old most new : Rack) (c : Channel) → is_present (layout_of old) c ≡ true → IsRackFault old c most new → IsDisturbed old (c ∷ []) new
+    → IsBroken old new
 broken_call old most new c p f d = record {
   cards = d.cards;
-  failed = record { slot = c.0; relays = not_meter (slot_at (layout_of old) c.0) c.1 p; counted = fault_failed (slot_at old c.0) (slot_at most c.0) (slot_at new c.0) f.fault };
+  failed = record {
+    slot = c.0;
+    relays = not_meter (slot_at (layout_of old) c.0) c.1 p;
+    counted =
+        fault_failed (slot_at old c.0) (slot_at most c.0) (slot_at new c.0) f.fault;
+  };
 }
 
-pub broken_result : {T E : Type 0} (r : Result T E) (old most new : Rack) (c : Channel) → is_present (layout_of old) c ≡ true → OnErr r (IsRackFault old c most new) → OnErr r (IsDisturbed old (c ∷ []) new) → OnErr r (IsBroken old new)
+pub broken_result : {T E : Type 0} (r : Result T E) (old most new : Rack) (c : Channel) → is_present (layout_of old) c ≡ true
+    → OnErr r (IsRackFault old c most new) → OnErr r (IsDisturbed old (c ∷ []) new) → OnErr r (IsBroken old new)
 broken_result (Ok t) old most new c p f d = tt
 broken_result (Err e) old most new c p f d = broken_call old most new c p f d
 
 relay_after : (old mid new : Rack) (xs : List Item) → Moved old xs mid → RelayFailed mid new → RelayFailed old new
 relay_after old mid new xs m f =
     let s = f.slot in
-    let same : option_rest (slot_at old s) ≡ option_rest (slot_at mid s) = sym (slot_rest old s) ∙ ap (λ (r : Rack). slot_at r s) (sym m.rest) ∙ slot_rest mid s in
+    let same : option_rest (slot_at old s) ≡ option_rest (slot_at mid s) =
+    sym (slot_rest old s) ∙ ap (λ (r : Rack). slot_at r s) (sym m.rest) ∙ slot_rest mid s in
     record {
       slot = s;
       relays = ap (λ (l : Layout). has_meter l s) (sym (moved_layout old mid xs m)) ∙ f.relays;
-      counted = sym (rest_old (slot_at old s) (slot_at new s)) ∙ ap (λ o. option_failed o (slot_at new s)) same ∙ rest_old (slot_at mid s) (slot_at new s) ∙ f.counted;
+      counted = sym (rest_old (slot_at old s) (slot_at new s)) ∙ ap (λ o. option_failed o (slot_at new s)) same ∙ rest_old (slot_at mid s) (slot_at new s) ∙
+          f.counted;
     }
 
 relay_rested : (old new : Rack) → RelayFailed old new → RelayFailed old (all_open new)
-relay_rested old new f = record { slot = f.slot; relays = f.relays; counted = ap (option_failed (slot_at old f.slot)) (slot_rest new f.slot) ∙ rest_new (slot_at old f.slot) (slot_at new f.slot) ∙ f.counted }
+relay_rested old new f = record {
+  slot = f.slot;
+  relays = f.relays;
+  counted =
+      ap (option_failed (slot_at old f.slot)) (slot_rest new f.slot) ∙ rest_new (slot_at old f.slot) (slot_at new f.slot) ∙ f.counted;
+}
 
 pub broken_after : (old mid new : Rack) (xs : List Item) → Moved old xs mid → IsBroken mid new → IsBroken old new
 broken_after old mid new xs m b = record { cards = b.cards ∙ plates_rest old mid m.rest; failed = relay_after old mid new xs m b.failed }
@@ -95,7 +119,8 @@ fallen old new b = record { cards = plates_all_open new ∙ b.cards; failed = re
 pub meter_there : (old mid : Rack) (xs : List Item) (s : ℕ) → Moved old xs mid → has_meter (layout_of old) s ≡ true → has_meter (layout_of mid) s ≡ true
 meter_there old mid xs s m h = ap (λ (l : Layout). has_meter l s) (moved_layout old mid xs m) ∙ h
 
-pub landed : (old : Bays) (number : ℕ) (moves : List Item) (at : Scanning) (told : TakenSeen) (new : Bays) (scan : Option Scanning) → Lands old number moves at told new scan → Runs old number moves at told new scan
+pub landed : (old : Bays) (number : ℕ) (moves : List Item) (at : Scanning) (told : TakenSeen) (new : Bays) (scan : Option Scanning)
+    → Lands old number moves at told new scan → Runs old number moves at told new scan
 landed old number moves at SaysIgnored new scan h = h
 landed old number moves at SaysWaits new scan h = h
 landed old number moves at (SaysPause ticket micros) new scan h = h

@@ -1,5 +1,6 @@
 -- Lemmas on the list of closed channels, by slot and channel.
-use Rattle.std.proofs.Common.{◌≡◌, ℕ, ◌+◌, ◌≤◌, ◌<◌, Bool, true, false, List, [], ◌∷◌, ◌++◌, length, Option, None, Some, inl, inr, refl, sym, ◌∙◌, ap, subst, arith, zero, suc, add-one, append_assoc}
+use Rattle.std.proofs.Common.{◌≡◌, ℕ, ◌+◌, ◌≤◌, ◌<◌, Bool, true, false, List, [], ◌∷◌, ◌++◌, length, Option, None, Some, inl, inr, refl, sym, ◌∙◌, ap, subst}
+use Rattle.std.proofs.Common.{arith, zero, suc, add-one, append_assoc}
 use Rattle.std.specs.List.{filter}
 use Rattle.std.proofs.lemmas.List.{append-nil}
 use Rattle.std.proofs.lemmas.List.Elements.{filter-append}
@@ -19,7 +20,8 @@ has_bounds a ch h = (grind (arith, common_steps), (grind (arith, common_steps), 
 
 row_bounds : (o : Option Account) (ch : ℕ) → OptionRow o → bay_has (option_bay o) ch ≡ true → (1 ≤ ch) × (ch ≤ 99)
 row_bounds None ch r h = absurd (cc)
-row_bounds (Some a) ch r h = let b : (0 < ch) × ((is_meter a ≡ false) × (ch ≤ length a.groups)) = has_bounds a ch h in let f : length a.groups ≤ 99 = r.few b.1.0 in (omega (arith, b.0), omega (arith, b.1.1, f))
+row_bounds (Some a) ch r h = let b : (0 < ch) × ((is_meter a ≡ false) × (ch ≤ length a.groups)) = has_bounds a ch h in let f : length a.groups ≤ 99 =
+    r.few b.1.0 in (omega (arith, b.0), omega (arith, b.1.1, f))
 
 -- a closed channel's number
 pub closed_number : (rack : Rack) (c : Channel) → IsSafe rack → is_closed rack c ≡ true → (1 ≤ c.1) × (c.1 ≤ 99)
@@ -29,7 +31,8 @@ present_group : (a : Account) (ch : ℕ) → bay_has (Some (bay_of a)) ch ≡ tr
 present_group a ch h = grind (arith, common_steps)
 
 -- the group that the card tells of a closed channel
-pub closed_group : (rack : Rack) (c : Channel) (a : Account) → IsSafe rack → slot_at rack c.0 ≡ Some a → is_closed rack c ≡ true → group_of (layout_of rack) c ≡ group_at a.groups c.1
+pub closed_group : (rack : Rack) (c : Channel) (a : Account) → IsSafe rack → slot_at rack c.0 ≡ Some a → is_closed rack c ≡ true
+    → group_of (layout_of rack) c ≡ group_at a.groups c.1
 closed_group rack c a safe at h =
     let has : bay_has (Some (bay_of a)) c.1 ≡ true = ap (λ o. bay_has (option_bay o) c.1) (sym at) ∙ sym (present_at rack c) ∙ safe.exclusive.present c h in
     group_in_slot rack c ∙ ap (λ o. bay_group (option_bay o) c.1) at ∙ present_group a c.1 has
@@ -57,21 +60,27 @@ filter_one closed c h = rw h refl
 filter_none : (closed : Channel → Bool) (c : Channel) → closed c ≡ false → filter closed (c ∷ []) ≡ []
 filter_none closed c h = rw h refl
 
-pub row_closed : (closed : Channel → Bool) (slot ch : ℕ) → closed (slot, ch + 1) ≡ true → filter closed (row slot (ch + 1)) ≡ filter closed (row slot ch) ++ (slot, ch + 1) ∷ []
-row_closed closed slot ch h = ap (filter closed) (row_more slot ch) ∙ filter-append closed (row slot ch) ((slot, ch + 1) ∷ []) ∙ ap (λ l. filter closed (row slot ch) ++ l) (filter_one closed (slot, ch + 1) h)
+pub row_closed : (closed : Channel → Bool) (slot ch : ℕ) → closed (slot, ch + 1) ≡ true
+    → filter closed (row slot (ch + 1)) ≡ filter closed (row slot ch) ++ (slot, ch + 1) ∷ []
+row_closed closed slot ch h = ap (filter closed) (row_more slot ch) ∙ filter-append closed (row slot ch) ((slot, ch + 1) ∷ []) ∙ ap
+    (λ l. filter closed (row slot ch) ++ l) (filter_one closed (slot, ch + 1) h)
 
 pub row_open : (closed : Channel → Bool) (slot ch : ℕ) → closed (slot, ch + 1) ≡ false → filter closed (row slot (ch + 1)) ≡ filter closed (row slot ch)
-row_open closed slot ch h = ap (filter closed) (row_more slot ch) ∙ filter-append closed (row slot ch) ((slot, ch + 1) ∷ []) ∙ ap (λ l. filter closed (row slot ch) ++ l) (filter_none closed (slot, ch + 1) h) ∙ append-nil (filter closed (row slot ch))
+row_open closed slot ch h = ap (filter closed) (row_more slot ch) ∙ filter-append closed (row slot ch) ((slot, ch + 1) ∷ []) ∙ ap
+    (λ l. filter closed (row slot ch) ++ l) (filter_none closed (slot, ch + 1) h) ∙ append-nil (filter closed (row slot ch))
 
-pub row_past : (closed : Channel → Bool) (slot m n : ℕ) → m ≤ n → ((k : ℕ) → m < k → closed (slot, k) ≡ false) → filter closed (row slot n) ≡ filter closed (row slot m)
+pub row_past : (closed : Channel → Bool) (slot m n : ℕ) → m ≤ n → ((k : ℕ) → m < k → closed (slot, k) ≡ false)
+    → filter closed (row slot n) ≡ filter closed (row slot m)
 row_past closed slot m zero h past = let e : m ≡ 0 = omega arith in ap (λ j. filter closed (row slot j)) (sym e)
 row_past closed slot m (suc n) h past = elim (cases_lt n m) [
   | inl l ↦ let e : m ≡ suc n = omega arith in ap (λ j. filter closed (row slot j)) (sym e)
-  | inr g ↦ subst (λ j. filter closed (row slot j) ≡ filter closed (row slot n)) (add-one n) (row_open closed slot n (past (n + 1) (omega arith))) ∙ row_past closed slot m n g past
+  | inr g ↦ subst (λ j. filter closed (row slot j) ≡ filter closed (row slot n)) (add-one n) (row_open closed slot n (past (n + 1) (omega arith))) ∙ row_past
+      closed slot m n g past
 ]
 
 -- the channels up to the card's last are all that may be closed
-pub row_whole : (closed : Channel → Bool) (slot n : ℕ) → ((k : ℕ) → n < k → closed (slot, k) ≡ false) → ((k : ℕ) → 99 < k → closed (slot, k) ≡ false) → filter closed (row slot n) ≡ filter closed (row slot 99)
+pub row_whole : (closed : Channel → Bool) (slot n : ℕ) → ((k : ℕ) → n < k → closed (slot, k) ≡ false) → ((k : ℕ) → 99 < k → closed (slot, k) ≡ false)
+    → filter closed (row slot n) ≡ filter closed (row slot 99)
 row_whole closed slot n past far = elim (cases_lt n 99) [
   | inl l ↦ sym (row_past closed slot n 99 (omega arith) past)
   | inr g ↦ row_past closed slot 99 n g far
@@ -82,7 +91,8 @@ is_false true h = absurd (h refl)
 is_false false h = refl
 
 pub closed_far : (rack : Rack) (slot k : ℕ) → IsSafe rack → 99 < k → is_closed rack (slot, k) ≡ false
-closed_far rack slot k safe h = is_false (is_closed rack (slot, k)) (λ e. let b : (1 ≤ k) × (k ≤ 99) = closed_number rack (slot, k) safe e in absurd (omega (arith, b.1)))
+closed_far rack slot k safe h = is_false (is_closed rack (slot, k))
+    (λ e. let b : (1 ≤ k) × (k ≤ 99) = closed_number rack (slot, k) safe e in absurd (omega (arith, b.1)))
 
 row_nowhere : (closed : Channel → Bool) (slot n : ℕ) → ((k : ℕ) → closed (slot, k) ≡ false) → filter closed (row slot n) ≡ []
 unfolding row
@@ -100,20 +110,26 @@ unfolding rows
 rows_start closed = refl
 
 -- one more closed channel is appended
-pub push_row : (first now new : List Channel) (closed : Channel → Bool) (slot ch : ℕ) (c : Channel) → now ≡ first ++ filter closed (row slot ch) → new ≡ now ++ c ∷ [] → c ≡ (slot, ch + 1) → closed (slot, ch + 1) ≡ true → new ≡ first ++ filter closed (row slot (ch + 1))
+pub push_row : (first now new : List Channel) (closed : Channel → Bool) (slot ch : ℕ) (c : Channel) → now ≡ first ++ filter closed (row slot ch)
+    → new ≡ now ++ c ∷ [] → c ≡ (slot, ch + 1) → closed (slot, ch + 1) ≡ true → new ≡ first ++ filter closed (row slot (ch + 1))
 push_row first now new closed slot ch c kept e is h =
     e ∙ ap (λ l. l ++ c ∷ []) kept ∙ append_assoc first (filter closed (row slot ch)) (c ∷ [])
     ∙ ap (λ (x : Channel). first ++ (filter closed (row slot ch) ++ x ∷ [])) is ∙ ap (λ l. first ++ l) (sym (row_closed closed slot ch h))
 
-pub skip_row : (first now : List Channel) (closed : Channel → Bool) (slot ch : ℕ) → now ≡ first ++ filter closed (row slot ch) → closed (slot, ch + 1) ≡ false → now ≡ first ++ filter closed (row slot (ch + 1))
+pub skip_row : (first now : List Channel) (closed : Channel → Bool) (slot ch : ℕ) → now ≡ first ++ filter closed (row slot ch) → closed (slot, ch + 1) ≡ false
+    → now ≡ first ++ filter closed (row slot (ch + 1))
 skip_row first now closed slot ch kept h = kept ∙ ap (λ l. first ++ l) (sym (row_open closed slot ch h))
 
 pub add_nothing : (first more : List Channel) → more ≡ [] → first ≡ first ++ more
 add_nothing first more e = sym (ap (λ l. first ++ l) e ∙ append-nil first)
 
-pub push_rows : (now new : List Channel) (closed : Channel → Bool) (slot : ℕ) → now ≡ filter closed (rows slot) → new ≡ now ++ filter closed (row (slot + 1) 99) → new ≡ filter closed (rows (slot + 1))
-push_rows now new closed slot kept e = e ∙ ap (λ l. l ++ filter closed (row (slot + 1) 99)) kept ∙ sym (filter-append closed (rows slot) (row (slot + 1) 99)) ∙ ap (filter closed) (sym (rows_more slot))
+pub push_rows : (now new : List Channel) (closed : Channel → Bool) (slot : ℕ) → now ≡ filter closed (rows slot) → new ≡ now ++ filter closed (row (slot + 1) 99)
+    → new ≡ filter closed (rows (slot + 1))
+push_rows now new closed slot kept e = e ∙ ap (λ l. l ++ filter closed (row (slot + 1) 99)) kept ∙ sym (filter-append closed (rows slot) (row (slot + 1) 99)) ∙
+    ap (filter closed) (sym (rows_more slot))
 
 -- the card's channels are all that may be closed in its slot
-pub card_row : (rack : Rack) (slot n : ℕ) (a : Account) → IsSafe rack → slot_at rack slot ≡ Some a → length a.closed ≤ n → filter (is_closed rack) (row slot n) ≡ filter (is_closed rack) (row slot 99)
-card_row rack slot n a safe at h = row_whole (is_closed rack) slot n (λ k l. closed_beyond rack slot a k at (omega (arith, h, l))) (λ k l. closed_far rack slot k safe l)
+pub card_row : (rack : Rack) (slot n : ℕ) (a : Account) → IsSafe rack → slot_at rack slot ≡ Some a → length a.closed ≤ n
+    → filter (is_closed rack) (row slot n) ≡ filter (is_closed rack) (row slot 99)
+card_row rack slot n a safe at h = row_whole (is_closed rack) slot n (λ k l. closed_beyond rack slot a k at (omega (arith, h, l)))
+    (λ k l. closed_far rack slot k safe l)

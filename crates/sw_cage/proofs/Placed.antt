@@ -1,5 +1,6 @@
 -- Places in an agenda.
-use Rattle.std.proofs.Common.{◌≡◌, ℕ, zero, suc, ◌+◌, ◌*◌, ◌<◌, ◌≤◌, ◌^◌, Bool, true, false, List, [], ◌∷◌, ◌++◌, length, drop, map, cond, eqb, Option, Some, None, refl, sym, ap, ◌∙◌, arith, length-append, length-drop}
+use Rattle.std.proofs.Common.{◌≡◌, ℕ, zero, suc, ◌+◌, ◌*◌, ◌<◌, ◌≤◌, ◌^◌, Bool, true, false, List, [], ◌∷◌, ◌++◌, length, drop, map, cond, eqb, Option, Some}
+use Rattle.std.proofs.Common.{None, refl, sym, ap, ◌∙◌, arith, length-append, length-drop}
 use Rattle.std.proofs.Math.Seq.{drop-drop, drop-append_seam}
 use Rattle.std.proofs.Math.Nat.{suc-mul}
 use Rattle.std.proofs.lemmas.Nat.{mul-le}
@@ -13,13 +14,14 @@ use Rattle.sw_trigger.specs.declared.layer.Layer.{Layer}
 use Rattle.sw_trigger.specs.declared.layer.Awaited.{Awaited}
 use Rattle.sw_trigger.specs.declared.layer.Awaited.TheVariants.{Pause}
 use Rattle.sw_trigger.specs.Settings.{Setup, IsInRange}
-use Rattle.sw_trigger.specs.Agenda.{Item, Awaits, Close, Open, repeated, wait_of, pause_of, head_of, channel_at, visit, pass_of, passes, arm1_turn, arm2_turn, agenda}
+use Rattle.sw_trigger.specs.Agenda.{Item, Awaits, Close, Open, repeated, wait_of, pause_of, head_of, channel_at, visit, pass_of, passes, arm1_turn, arm2_turn}
+use Rattle.sw_trigger.specs.Agenda.{agenda}
 use Rattle.sw_trigger.proofs.Repeats.{length-repeated}
 use Rattle.sw_trigger.proofs.Awaiting.{agenda_is}
-use Rattle.sw_cage.specs.declared.walk.Walk.{Walk}
-use Rattle.sw_cage.specs.declared.walk.Moves.{Moves}
-use Rattle.sw_cage.specs.declared.walk.Phase.{Phase}
-use Rattle.sw_cage.specs.declared.walk.Phase.TheVariants.{Arm1Wait, Arm1Pause, Arm2Wait, Arm2Pause, TriggerWait, TriggerPause, Reading}
+use Rattle.sw_cage.specs.declared.scan.walk.Walk.{Walk}
+use Rattle.sw_cage.specs.declared.scan.walk.Moves.{Moves}
+use Rattle.sw_cage.specs.declared.scan.walk.Phase.{Phase}
+use Rattle.sw_cage.specs.declared.scan.walk.Phase.TheVariants.{Arm1Wait, Arm1Pause, Arm2Wait, Arm2Pause, TriggerWait, TriggerPause, Reading}
 use Rattle.sw_cage.specs.Cage.{Scanning}
 use Rattle.sw_cage.specs.Advance.{leading, first_awaited, opens_of, closes_of, way, next_place}
 use Rattle.sw_cage.specs.Walk.{rest_at, rest_of, rest_after, awaited_at, awaited_of, moves_of}
@@ -60,7 +62,8 @@ module _ (s : Setup) (i : ℕ) (moves : Moves) (at : Option Walk) (e : drop i (a
   way_is = sym (ap leading e ∙ leading_moves moves.to_open moves.to_close (rest_after s at) (leading_rest s at))
 
   pub rest_there : drop (i + length (moves_of moves)) (agenda s) ≡ rest_after s at
-  rest_there = sym (drop-drop (length (moves_of moves)) i (agenda s)) ∙ ap (drop (length (moves_of moves))) e ∙ drop-append_seam (moves_of moves) (rest_after s at)
+  rest_there = sym (drop-drop (length (moves_of moves)) i (agenda s)) ∙ ap (drop (length (moves_of moves))) e ∙ drop-append_seam (moves_of moves)
+      (rest_after s at)
 
   pub place_is : (n : ℕ) → n ≡ i + length (moves_of moves) → (let p : Scanning = record { setup = s; index = n } in p) ≡ next_place s i
   place_is n h = ap (λ (k : ℕ). let p : Scanning = record { setup = s; index = k } in p) (h ∙ ap (λ (l : List Item). i + length l) way_is)
@@ -78,18 +81,41 @@ length-cond_pause false micros = omega arith
 
 length-head : (name : LayerName) (l : Layer) → length (map Awaits (head_of name l)) ≤ 2
 length-head name l =
-    omega (arith, length-map (head_of name l) Awaits, length-append (wait_of name l.source) (pause_of l.delay_us), length-wait name l.source, length-cond_pause (eqb l.delay_us 0) l.delay_us)
+    omega (
+      arith,
+      length-map (head_of name l) Awaits,
+      length-append (wait_of name l.source) (pause_of l.delay_us),
+      length-wait name l.source,
+      length-cond_pause (eqb l.delay_us 0) l.delay_us,
+    )
 
 length-passes : (s : Setup) (k n : ℕ) → length (passes s k n) ≤ n * 5
 length-passes s k zero = omega arith
 length-passes s k (suc n) =
-    omega (arith, length-append (pass_of s k) (passes s (suc k) n), length-append (map Awaits (head_of Trigger s.trigger)) (visit (channel_at s.list k)), length-head Trigger s.trigger, length-passes s (suc k) n, suc-mul n 5)
+    omega (
+      arith,
+      length-append (pass_of s k) (passes s (suc k) n),
+      length-append (map Awaits (head_of Trigger s.trigger)) (visit (channel_at s.list k)),
+      length-head Trigger s.trigger,
+      length-passes s (suc k) n,
+      suc-mul n 5,
+    )
 
 pub length-agenda : (s : Setup) → 0 < length s.list → IsInRange s → length (agenda s) + 3 < 2 ^ 64
 length-agenda s h i =
     let a3 : s.trigger.count * 5 ≤ 100000 * 5 = mul-le s.trigger.count 5 100000 5 i.trigger.count.1 (omega arith) in
-    let a2 : length (arm2_turn s) ≤ 500002 = omega (arith, length-append (map Awaits (head_of Arm2 s.arm2)) (passes s 0 s.trigger.count), length-head Arm2 s.arm2, length-passes s 0 s.trigger.count) in
+    let a2 : length (arm2_turn s) ≤ 500002 = omega (
+      arith,
+      length-append (map Awaits (head_of Arm2 s.arm2)) (passes s 0 s.trigger.count),
+      length-head Arm2 s.arm2,
+      length-passes s 0 s.trigger.count,
+    ) in
     let b2 : s.arm2.count * length (arm2_turn s) ≤ 1000 * 500002 = mul-le s.arm2.count (length (arm2_turn s)) 1000 500002 i.arm2.count.1 a2 in
-    let a1 : length (arm1_turn s) ≤ 500002002 = omega (arith, length-append (map Awaits (head_of Arm1 s.arm1)) (repeated s.arm2.count (arm2_turn s)), length-head Arm1 s.arm1, length-repeated s.arm2.count (arm2_turn s)) in
+    let a1 : length (arm1_turn s) ≤ 500002002 = omega (
+      arith,
+      length-append (map Awaits (head_of Arm1 s.arm1)) (repeated s.arm2.count (arm2_turn s)),
+      length-head Arm1 s.arm1,
+      length-repeated s.arm2.count (arm2_turn s),
+    ) in
     let b1 : s.arm1.count * length (arm1_turn s) ≤ 1000 * 500002002 = mul-le s.arm1.count (length (arm1_turn s)) 1000 500002002 i.arm1.count.1 a1 in
     omega (arith, ap length (agenda_is s h), length-repeated s.arm1.count (arm1_turn s))

@@ -1,5 +1,6 @@
 -- Lemmas on the slots of a cage: one slot's change, and what stays of layout and closed channels.
-use Rattle.std.proofs.Common.{◌≡◌, ◌≢◌, ℕ, ◌-◌, ◌≤◌, ◌<◌, Bool, true, false, List, [], ◌∷◌, length, Option, None, Some, slice_index_or, slice_set, ◌⊎◌, inl, inr, refl, sym, ◌∙◌, ap, subst, arith, map, suc, zero, is_some, replicate, nat_lt, if◌then◌else◌, Result, Ok, Err, OnOk, OnErr}
+use Rattle.std.proofs.Common.{◌≡◌, ◌≢◌, ℕ, ◌-◌, ◌≤◌, ◌<◌, Bool, true, false, List, [], ◌∷◌, length, Option, None, Some, slice_index_or, slice_set, ◌⊎◌, inl}
+use Rattle.std.proofs.Common.{inr, refl, sym, ◌∙◌, ap, subst, arith, map, suc, zero, is_some, replicate, nat_lt, if◌then◌else◌, Result, Ok, Err, OnOk, OnErr}
 use Rattle.std.proofs.lemmas.List.{get_or-set_same, get_or-set_other, length-set, get_or_past, length-map}
 use Rattle.std.proofs.Math.ListN.{get_or-map}
 use Rattle.std.proofs.Math.Seq.{map-set_same}
@@ -8,7 +9,8 @@ use Rattle.std.proofs.lemmas.Bool.{cases_eq, cases_lt}
 use Rattle.sw_base.specs.Layout.{Channel, Bay, Layout, slot_at, bay_has, bay_group, bay_is_meter, has_meter, is_present, group_of, IsClash, IsExclusive}
 use Rattle.sw_card.specs.Account.{Account, set_closed, with_set, IsFault}
 use Rattle.sw_card.proofs.Rows.{closed_set, open_set, within_closed, length-within, none_is_closed, length-none}
-use Rattle.sw_cage.specs.Rack.{Rack, bay_of, option_bay, layout_of, option_closed, is_closed, IsRow, OptionRow, IsSafe, option_set, option_rest, all_open, IsSlotFault}
+use Rattle.sw_cage.specs.Rack.{Rack, bay_of, option_bay, layout_of, option_closed, is_closed, IsRow, OptionRow, IsSafe, option_set, option_rest, all_open}
+use Rattle.sw_cage.specs.Rack.{IsSlotFault}
 
 -- slots
 
@@ -18,16 +20,20 @@ slot_set_same rack s v p h = grind (arith, common_steps, get_or-set_same)
 pub slot_set_other : {A : Type 0} (rack : List (Option A)) (s t : ℕ) (v : Option A) → 0 < s → t ≢ s → slot_at (slice_set rack (s - 1) v) t ≡ slot_at rack t
 slot_set_other rack s t v p h = grind (arith, common_steps, get_or-set_other)
 
-pub slot_cases : {A : Type 0} (rack : List (Option A)) (s t : ℕ) (v : Option A) → 0 < s → s ≤ length rack → ((t ≡ s) × (slot_at (slice_set rack (s - 1) v) t ≡ v)) ⊎ ((t ≢ s) × (slot_at (slice_set rack (s - 1) v) t ≡ slot_at rack t))
+pub slot_cases : {A : Type 0} (rack : List (Option A)) (s t : ℕ) (v : Option A) → 0 < s → s ≤ length rack
+    → ((t ≡ s) × (slot_at (slice_set rack (s - 1) v) t ≡ v)) ⊎ ((t ≢ s) × (slot_at (slice_set rack (s - 1) v) t ≡ slot_at rack t))
 slot_cases rack s t v p h = elim (cases_eq t s) [ inl e ↦ inl (e, rw e (slot_set_same rack s v p h)) | inr n ↦ inr (n, slot_set_other rack s t v p n) ]
 
-slot_map_if : {A B : Type 0} (f : Option A → Option B) (l : List (Option A)) (i : ℕ) (b : Bool) → f None ≡ None → slice_index_or (map f l) i None ≡ f (slice_index_or l i None) → (if b then slice_index_or (map f l) i None else None) ≡ f (if b then slice_index_or l i None else None)
+slot_map_if : {A B : Type 0} (f : Option A → Option B) (l : List (Option A)) (i : ℕ) (b : Bool) → f None ≡ None
+    → slice_index_or (map f l) i None ≡ f (slice_index_or l i None)
+    → (if b then slice_index_or (map f l) i None else None) ≡ f (if b then slice_index_or l i None else None)
 slot_map_if f l i true n e = e
 slot_map_if f l i false n e = sym n
 
 pub slot_map : {A B : Type 0} (f : Option A → Option B) (l : List (Option A)) (s : ℕ) → f None ≡ None → slot_at (map f l) s ≡ f (slot_at l s)
 slot_map f l s n =
-    let e : slice_index_or (map f l) (s - 1) None ≡ f (slice_index_or l (s - 1) None) = subst (λ d. slice_index_or (map f l) (s - 1) d ≡ f (slice_index_or l (s - 1) None)) n (get_or-map f l (s - 1) None) in
+    let e : slice_index_or (map f l) (s - 1) None ≡ f (slice_index_or l (s - 1) None) =
+    subst (λ d. slice_index_or (map f l) (s - 1) d ≡ f (slice_index_or l (s - 1) None)) n (get_or-map f l (s - 1) None) in
     slot_map_if f l (s - 1) (nat_lt 0 s) n e
 
 pub slot_layout : (rack : Rack) (s : ℕ) → slot_at (layout_of rack) s ≡ option_bay (slot_at rack s)
@@ -56,7 +62,8 @@ pub slot_get : {A : Type 0} (rack : List (Option A)) (s : ℕ) → 0 < s → slo
 slot_get rack s p = grind (arith, common_steps)
 
 -- what no change of the slot touches stays
-pub map_slot : {B : Type 0} (f : Option Account → B) (rack : Rack) (s : ℕ) (v : Option Account) → 0 < s → f v ≡ f (slot_at rack s) → map f (slice_set rack (s - 1) v) ≡ map f rack
+pub map_slot : {B : Type 0} (f : Option Account → B) (rack : Rack) (s : ℕ) (v : Option Account) → 0 < s → f v ≡ f (slot_at rack s)
+    → map f (slice_set rack (s - 1) v) ≡ map f rack
 map_slot f rack s v p e = map-set_same f rack (s - 1) v None (e ∙ ap f (slot_get rack s p))
 
 -- channels
@@ -119,7 +126,8 @@ fault_row a b most e f r = record {
   few = λ m. subst (λ (g : List ℕ). length g ≤ 99) (sym f.groups) (r.few (ap is_some (sym f.last) ∙ m));
 }
 
-pub closing_fault_grows : (a b : Account) (ch : ℕ) → bay_has (Some (bay_of a)) ch ≡ true → IsFault a (set_closed a.closed ch true) b → IsSlotGrown (Some a) ch (Some b)
+pub closing_fault_grows : (a b : Account) (ch : ℕ) → bay_has (Some (bay_of a)) ch ≡ true → IsFault a (set_closed a.closed ch true) b
+    → IsSlotGrown (Some a) ch (Some b)
 closing_fault_grows a b ch h f = record {
   bay = ap (λ (x : Bay). Some x) (fault_bay a b (set_closed a.closed ch true) f);
   row = fault_row a b (set_closed a.closed ch true) (length-set a.closed (ch - 1) true) f;
@@ -134,13 +142,15 @@ opening_fault_grows a b ch f = record {
 }
 
 -- what a call of close or open on a card does to the slot that holds it
-pub closed_grows : {T E : Type 0} (o n : Option Account) (r : Result T E) (ch : ℕ) → bay_has (option_bay o) ch ≡ true → OnOk r (n ≡ option_set o ch true) → OnErr r (IsSlotFault o (option_set o ch true) n) → IsSlotGrown o ch n
+pub closed_grows : {T E : Type 0} (o n : Option Account) (r : Result T E) (ch : ℕ) → bay_has (option_bay o) ch ≡ true → OnOk r (n ≡ option_set o ch true)
+    → OnErr r (IsSlotFault o (option_set o ch true) n) → IsSlotGrown o ch n
 closed_grows None n r ch h ok err = absurd (cc)
 closed_grows (Some a) n (Ok t) ch h ok err = rw ok (closing_grows a ch h)
 closed_grows (Some a) (Some b) (Err t) ch h ok err = closing_fault_grows a b ch h err
 closed_grows (Some a) None (Err t) ch h ok err = absurd err
 
-pub opened_grows : {T E : Type 0} (o n : Option Account) (r : Result T E) (ch : ℕ) → option_closed o ch ≡ true → OnOk r (n ≡ option_set o ch false) → OnErr r (IsSlotFault o o n) → IsSlotGrown o ch n
+pub opened_grows : {T E : Type 0} (o n : Option Account) (r : Result T E) (ch : ℕ) → option_closed o ch ≡ true → OnOk r (n ≡ option_set o ch false)
+    → OnErr r (IsSlotFault o o n) → IsSlotGrown o ch n
 opened_grows None n r ch h ok err = absurd (cc)
 opened_grows (Some a) n (Ok t) ch h ok err = rw ok (opening_grows a ch)
 opened_grows (Some a) (Some b) (Err t) ch h ok err = opening_fault_grows a b ch err
@@ -152,39 +162,50 @@ pub clash_sym : (layout : Layout) (a b : Channel) → IsClash layout a b → IsC
 clash_sym layout a b k = record { other = λ e. k.other (sym e); grouped = λ e. k.grouped (k.same ∙ e); same = sym k.same }
 
 -- one more closed channel that clashes with none
-pub exclusive_grown : (layout : Layout) (old new : Channel → Bool) (c : Channel) → ((d : Channel) → new d ≡ true → (old d ≡ true) ⊎ (d ≡ c)) → IsExclusive layout old → is_present layout c ≡ true → ((d : Channel) → old d ≡ true → IsClash layout c d → ⊥) → IsExclusive layout new
+pub exclusive_grown : (layout : Layout) (old new : Channel → Bool) (c : Channel) → ((d : Channel) → new d ≡ true → (old d ≡ true) ⊎ (d ≡ c))
+    → IsExclusive layout old → is_present layout c ≡ true → ((d : Channel) → old d ≡ true → IsClash layout c d → ⊥) → IsExclusive layout new
 exclusive_grown layout old new c grown safe present apart = record {
   present = λ d k. elim (grown d k) [ inl o ↦ safe.present d o | inr e ↦ ap (is_present layout) e ∙ present ];
   apart = λ a b ka kb clash.
       elim (grown a ka) [
-        | inl oa ↦ elim (grown b kb) [ inl ob ↦ safe.apart a b oa ob clash | inr eb ↦ apart a oa (subst (λ x. IsClash layout x a) eb (clash_sym layout a b clash)) ]
+        | inl oa ↦ elim (grown b kb) [
+          | inl ob ↦ safe.apart a b oa ob clash
+          | inr eb ↦ apart a oa
+              (subst (λ x. IsClash layout x a) eb (clash_sym layout a b clash))
+        ]
         | inr ea ↦ elim (grown b kb) [ inl ob ↦ apart b ob (subst (λ x. IsClash layout x b) ea clash) | inr eb ↦ clash.other (ea ∙ sym eb) ]
       ];
 }
 
-rows_set : (rack : Rack) (s : ℕ) (v : Option Account) → 0 < s → s ≤ length rack → OptionRow v → ((t : ℕ) → OptionRow (slot_at rack t)) → (t : ℕ) → OptionRow (slot_at (slice_set rack (s - 1) v) t)
+rows_set : (rack : Rack) (s : ℕ) (v : Option Account) → 0 < s → s ≤ length rack → OptionRow v → ((t : ℕ) → OptionRow (slot_at rack t)) → (t : ℕ)
+    → OptionRow (slot_at (slice_set rack (s - 1) v) t)
 rows_set rack s v p h row rows t = elim (slot_cases rack s t v p h) [ inl e ↦ subst OptionRow (sym e.1) row | inr n ↦ subst OptionRow (sym n.1) (rows t) ]
 
-grown_closed : (rack : Rack) (c : Channel) (v : Option Account) → 0 < c.0 → c.0 ≤ length rack → IsSlotGrown (slot_at rack c.0) c.1 v → (d : Channel) → is_closed (slice_set rack (c.0 - 1) v) d ≡ true → (is_closed rack d ≡ true) ⊎ (d ≡ c)
+grown_closed : (rack : Rack) (c : Channel) (v : Option Account) → 0 < c.0 → c.0 ≤ length rack → IsSlotGrown (slot_at rack c.0) c.1 v → (d : Channel)
+    → is_closed (slice_set rack (c.0 - 1) v) d ≡ true → (is_closed rack d ≡ true) ⊎ (d ≡ c)
 grown_closed rack c v p h grown d k =
     elim (slot_cases rack c.0 d.0 v p h) [
-      | inl e ↦ elim (grown.closed d.1 (ap (λ o. option_closed o d.1) (sym e.1) ∙ k)) [ inl o ↦ inl (ap (λ s. option_closed (slot_at rack s) d.1) e.0 ∙ o) | inr f ↦ inr (same_chan c d e.0 f) ]
+      | inl e ↦ elim (grown.closed d.1 (ap (λ o. option_closed o d.1) (sym e.1) ∙ k))
+          [ inl o ↦ inl (ap (λ s. option_closed (slot_at rack s) d.1) e.0 ∙ o) | inr f ↦ inr (same_chan c d e.0 f) ]
       | inr n ↦ inl (ap (λ o. option_closed o d.1) (sym n.1) ∙ k)
     ]
 
 -- closing one channel that clashes with none, whatever comes of it, keeps the cage safe
-pub safe_grown : (rack : Rack) (c : Channel) (v : Option Account) → IsSlotGrown (slot_at rack c.0) c.1 v → IsSafe rack → is_present (layout_of rack) c ≡ true → ((d : Channel) → is_closed rack d ≡ true → IsClash (layout_of rack) c d → ⊥) → IsSafe (slice_set rack (c.0 - 1) v)
+pub safe_grown : (rack : Rack) (c : Channel) (v : Option Account) → IsSlotGrown (slot_at rack c.0) c.1 v → IsSafe rack → is_present (layout_of rack) c ≡ true
+    → ((d : Channel) → is_closed rack d ≡ true → IsClash (layout_of rack) c d → ⊥) → IsSafe (slice_set rack (c.0 - 1) v)
 safe_grown rack c v grown safe present apart =
     let r : (0 < c.0) × (c.0 ≤ length rack) = present_slot rack c present in
     record {
       size = length-set rack (c.0 - 1) v ∙ safe.size;
       rows = rows_set rack c.0 v r.0 r.1 (grown.row (safe.rows c.0)) safe.rows;
       exclusive = subst (λ l. IsExclusive l (is_closed (slice_set rack (c.0 - 1) v))) (sym (map_slot option_bay rack c.0 v r.0 grown.bay))
-          (exclusive_grown (layout_of rack) (is_closed rack) (is_closed (slice_set rack (c.0 - 1) v)) c (grown_closed rack c v r.0 r.1 grown) safe.exclusive present apart);
+          (exclusive_grown (layout_of rack) (is_closed rack) (is_closed (slice_set rack (c.0 - 1) v)) c (grown_closed rack c v r.0 r.1 grown) safe.exclusive
+          present apart);
     }
 
 -- opening a closed channel, whatever comes of it, keeps the cage safe
-pub safe_opened : (rack : Rack) (c : Channel) (v : Option Account) → IsSlotGrown (slot_at rack c.0) c.1 v → IsSafe rack → is_closed rack c ≡ true → IsSafe (slice_set rack (c.0 - 1) v)
+pub safe_opened : (rack : Rack) (c : Channel) (v : Option Account) → IsSlotGrown (slot_at rack c.0) c.1 v → IsSafe rack → is_closed rack c ≡ true
+    → IsSafe (slice_set rack (c.0 - 1) v)
 safe_opened rack c v grown safe closed = safe_grown rack c v grown safe (safe.exclusive.present c closed) (λ d k. safe.exclusive.apart c d closed k)
 
 -- nothing closed
@@ -219,25 +240,35 @@ safe_all_open rack size rows = record {
 }
 
 -- a slot that is closed nowhere now
-quiet_other : (rack : Rack) (s : ℕ) (v : Option Account) → 0 < s → s ≤ length rack → ((k : ℕ) → option_closed v k ≡ false) → (d : Channel) → is_closed (slice_set rack (s - 1) v) d ≡ true → slot_at (slice_set rack (s - 1) v) d.0 ≡ slot_at rack d.0
+quiet_other : (rack : Rack) (s : ℕ) (v : Option Account) → 0 < s → s ≤ length rack → ((k : ℕ) → option_closed v k ≡ false) → (d : Channel)
+    → is_closed (slice_set rack (s - 1) v) d ≡ true → slot_at (slice_set rack (s - 1) v) d.0 ≡ slot_at rack d.0
 quiet_other rack s v p h quiet d k = elim (slot_cases rack s d.0 v p h) [
   | inl e ↦ absurd (let f : option_closed v d.1 ≡ true = ap (λ o. option_closed o d.1) (sym e.1) ∙ k in let n = quiet d.1 in cc)
   | inr n ↦ n.1
 ]
 
 -- whatever comes into a slot or leaves it with nothing closed keeps the cage exclusive
-pub exclusive_quiet : (rack : Rack) (s : ℕ) (v : Option Account) → 0 < s → s ≤ length rack → ((k : ℕ) → option_closed v k ≡ false) → IsExclusive (layout_of rack) (is_closed rack) → IsExclusive (layout_of (slice_set rack (s - 1) v)) (is_closed (slice_set rack (s - 1) v))
+pub exclusive_quiet : (rack : Rack) (s : ℕ) (v : Option Account) → 0 < s → s ≤ length rack → ((k : ℕ) → option_closed v k ≡ false)
+    → IsExclusive (layout_of rack) (is_closed rack) → IsExclusive (layout_of (slice_set rack (s - 1) v)) (is_closed (slice_set rack (s - 1) v))
 exclusive_quiet rack s v p h quiet safe =
-    let same : (d : Channel) → is_closed (slice_set rack (s - 1) v) d ≡ true → slot_at (slice_set rack (s - 1) v) d.0 ≡ slot_at rack d.0 = quiet_other rack s v p h quiet in
-    let was : (d : Channel) → is_closed (slice_set rack (s - 1) v) d ≡ true → is_closed rack d ≡ true = λ d k. ap (λ o. option_closed o d.1) (sym (same d k)) ∙ k in
-    let has : (d : Channel) → is_closed (slice_set rack (s - 1) v) d ≡ true → is_present (layout_of (slice_set rack (s - 1) v)) d ≡ is_present (layout_of rack) d = λ d k. present_at (slice_set rack (s - 1) v) d ∙ ap (λ o. bay_has (option_bay o) d.1) (same d k) ∙ sym (present_at rack d) in
-    let group : (d : Channel) → is_closed (slice_set rack (s - 1) v) d ≡ true → group_of (layout_of (slice_set rack (s - 1) v)) d ≡ group_of (layout_of rack) d = λ d k. group_in_slot (slice_set rack (s - 1) v) d ∙ ap (λ o. bay_group (option_bay o) d.1) (same d k) ∙ sym (group_in_slot rack d) in
+    let same : (d : Channel) → is_closed (slice_set rack (s - 1) v) d ≡ true → slot_at (slice_set rack (s - 1) v) d.0 ≡ slot_at rack d.0 =
+    quiet_other rack s v p h quiet in
+    let was : (d : Channel) → is_closed (slice_set rack (s - 1) v) d ≡ true → is_closed rack d ≡ true =
+    λ d k. ap (λ o. option_closed o d.1) (sym (same d k)) ∙ k in
+    let has : (d : Channel) → is_closed (slice_set rack (s - 1) v) d ≡ true
+    → is_present (layout_of (slice_set rack (s - 1) v)) d ≡ is_present (layout_of rack) d =
+    λ d k. present_at (slice_set rack (s - 1) v) d ∙ ap (λ o. bay_has (option_bay o) d.1) (same d k) ∙ sym (present_at rack d) in
+    let group : (d : Channel) → is_closed (slice_set rack (s - 1) v) d ≡ true
+    → group_of (layout_of (slice_set rack (s - 1) v)) d ≡ group_of (layout_of rack) d =
+    λ d k. group_in_slot (slice_set rack (s - 1) v) d ∙ ap (λ o. bay_group (option_bay o) d.1) (same d k) ∙ sym (group_in_slot rack d) in
     record {
       present = λ d k. has d k ∙ safe.present d (was d k);
-      apart = λ a b ka kb clash. safe.apart a b (was a ka) (was b kb) (record { other = clash.other; grouped = λ e. clash.grouped (group a ka ∙ e); same = sym (group a ka) ∙ clash.same ∙ group b kb });
+      apart = λ a b ka kb clash. safe.apart a b (was a ka) (was b kb)
+          (record { other = clash.other; grouped = λ e. clash.grouped (group a ka ∙ e); same = sym (group a ka) ∙ clash.same ∙ group b kb });
     }
 
-pub safe_quiet : (rack : Rack) (s : ℕ) (v : Option Account) → 0 < s → s ≤ length rack → ((k : ℕ) → option_closed v k ≡ false) → OptionRow v → IsSafe rack → IsSafe (slice_set rack (s - 1) v)
+pub safe_quiet : (rack : Rack) (s : ℕ) (v : Option Account) → 0 < s → s ≤ length rack → ((k : ℕ) → option_closed v k ≡ false) → OptionRow v → IsSafe rack
+    → IsSafe (slice_set rack (s - 1) v)
 safe_quiet rack s v p h quiet row safe = record {
   size = length-set rack (s - 1) v ∙ safe.size;
   rows = rows_set rack s v p h row safe.rows;

@@ -1,5 +1,6 @@
 -- What is so of a cage stays so where its scan goes on.
-use Rattle.std.proofs.Common.{◌≡◌, ℕ, ◌+◌, ◌-◌, ◌<◌, ◌≤◌, ◌&&◌, nat_lt, Bool, true, false, List, length, take, Option, Some, None, slice_set, refl, sym, ap, ◌∙◌, subst, arith, is_some, inl, inr}
+use Rattle.std.proofs.Common.{◌≡◌, ℕ, ◌+◌, ◌-◌, ◌<◌, ◌≤◌, ◌&&◌, nat_lt, Bool, true, false, List, length, take, Option, Some, None, slice_set, refl, sym, ap}
+use Rattle.std.proofs.Common.{◌∙◌, subst, arith, is_some, inl, inr}
 use mathlib.Core.Path.{fun_ext}
 use Rattle.std.proofs.lemmas.List.{length-set}
 use Rattle.sw_base.specs.Layout.{Channel, Layout, slot_at, has_meter, bay_is_meter}
@@ -49,7 +50,8 @@ pub lengths : (p : CageSeen) → IsHeld p → length p.out ≡ length (layout_of
 lengths p k = k.outs ∙ sym k.slots ∙ sym (layout_length p.rack)
 
 -- a meter in its slot is one of the cage's
-meter_with : (bays : Layout) (out : List (Option Ticket)) (s : ℕ) → length out ≡ length bays → slot_at out s ≡ None → has_meter bays s ≡ true → has_meter (layout_with bays out) s ≡ true
+meter_with : (bays : Layout) (out : List (Option Ticket)) (s : ℕ) → length out ≡ length bays → slot_at out s ≡ None → has_meter bays s ≡ true
+    → has_meter (layout_with bays out) s ≡ true
 meter_with bays out s h e m = ap bay_is_meter (slot_with bays out s h ∙ ap (or_meter (slot_at bays s)) e ∙ or_in (slot_at bays s)) ∙ m
 
 and_false : (b : Bool) → (b && false) ≡ false
@@ -60,26 +62,32 @@ pub meter_open : (m : MeterAccount) (ch : ℕ) → option_closed (Some (of_meter
 meter_open m ch = and_false (nat_lt 0 ch)
 
 -- a meter leaves its slot, or comes into it: nothing opens or closes
-pub closed_sent : (rack : Rack) (s : ℕ) (m : MeterAccount) → 1 ≤ s → s ≤ length rack → slot_at rack s ≡ Some (of_meter m) → (c : Channel) → is_closed (slice_set rack (s - 1) None) c ≡ is_closed rack c
+pub closed_sent : (rack : Rack) (s : ℕ) (m : MeterAccount) → 1 ≤ s → s ≤ length rack → slot_at rack s ≡ Some (of_meter m) → (c : Channel)
+    → is_closed (slice_set rack (s - 1) None) c ≡ is_closed rack c
 closed_sent rack s m a b e c = elim (slot_cases rack s c.0 None (omega arith) b) [
-  | inl f ↦ ap (λ o. option_closed o c.1) f.1 ∙ sym (ap (λ (x : ℕ). option_closed (slot_at rack x) c.1) f.0 ∙ ap (λ o. option_closed o c.1) e ∙ meter_open m c.1)
+  | inl f ↦ ap (λ o. option_closed o c.1) f.1 ∙ sym (ap (λ (x : ℕ). option_closed (slot_at rack x) c.1) f.0 ∙ ap (λ o. option_closed o c.1) e ∙ meter_open m
+      c.1)
   | inr f ↦ ap (λ o. option_closed o c.1) f.1
 ]
 
-pub closed_back : (rack : Rack) (s : ℕ) (m : MeterAccount) → 1 ≤ s → s ≤ length rack → slot_at rack s ≡ None → (c : Channel) → is_closed (slice_set rack (s - 1) (Some (of_meter m))) c ≡ is_closed rack c
+pub closed_back : (rack : Rack) (s : ℕ) (m : MeterAccount) → 1 ≤ s → s ≤ length rack → slot_at rack s ≡ None → (c : Channel)
+    → is_closed (slice_set rack (s - 1) (Some (of_meter m))) c ≡ is_closed rack c
 closed_back rack s m a b e c = elim (slot_cases rack s c.0 (Some (of_meter m)) (omega arith) b) [
-  | inl f ↦ ap (λ o. option_closed o c.1) f.1 ∙ meter_open m c.1 ∙ sym (ap (λ (x : ℕ). option_closed (slot_at rack x) c.1) f.0 ∙ ap (λ o. option_closed o c.1) e)
+  | inl f ↦ ap (λ o. option_closed o c.1) f.1 ∙ meter_open m c.1 ∙ sym
+      (ap (λ (x : ℕ). option_closed (slot_at rack x) c.1) f.0 ∙ ap (λ o. option_closed o c.1) e)
   | inr f ↦ ap (λ o. option_closed o c.1) f.1
 ]
 
 -- a slot's card and ticket change together
-pub held_both : (p : CageSeen) (s : ℕ) (v : Option Account) (t : Option Ticket) (scan : Option Scanning) → IsHeld p → 1 ≤ s → s ≤ 8 → (is_some t ≡ true → v ≡ None) → ((u : Ticket) → t ≡ Some u → u.scan ≤ p.number)
+pub held_both : (p : CageSeen) (s : ℕ) (v : Option Account) (t : Option Ticket) (scan : Option Scanning) → IsHeld p → 1 ≤ s → s ≤ 8
+    → (is_some t ≡ true → v ≡ None) → ((u : Ticket) → t ≡ Some u → u.scan ≤ p.number)
     → IsHeld (record p { rack = slice_set p.rack (s - 1) v; out = slice_set p.out (s - 1) t; scan = scan })
 held_both p s v t scan k a b empty past = record {
   slots = length-set p.rack (s - 1) v ∙ k.slots;
   outs = length-set p.out (s - 1) t ∙ k.outs;
   empty = λ x h. elim (slot_cases p.rack s x v (omega arith) (omega (arith, k.slots))) [
-    | inl e ↦ e.1 ∙ empty (ap is_some (sym (slot_set_same p.out s t (omega arith) (omega (arith, k.outs)))) ∙ ap (λ (y : ℕ). is_some (slot_at (slice_set p.out (s - 1) t) y)) (sym e.0) ∙ h)
+    | inl e ↦ e.1 ∙ empty (ap is_some (sym (slot_set_same p.out s t (omega arith) (omega (arith, k.outs)))) ∙ ap
+        (λ (y : ℕ). is_some (slot_at (slice_set p.out (s - 1) t) y)) (sym e.0) ∙ h)
     | inr n ↦ n.1 ∙ k.empty x (ap is_some (sym (slot_set_other p.out s x t (omega arith) n.0)) ∙ h)
   ];
   past = λ x u h. elim (slot_cases p.out s x t (omega arith) (omega (arith, k.outs))) [
@@ -104,7 +112,8 @@ module _ (p : CageSeen) (s : Setup) (i : ℕ) (mid : Rack) (k : IsHeld p) (g : C
 
   way_there : IsOnWay (cage_layout there) (is_closed mid) s (i + length (way s i))
   way_there =
-      on_way_like (cage_layout p) (cage_layout there) (effect (is_closed p.rack) (way s i)) (is_closed mid) s (i + length (way s i)) (ap (λ (l : Layout). layout_with l p.out) same_layout) (fun_ext m.closed)
+      on_way_like (cage_layout p) (cage_layout there) (effect (is_closed p.rack) (way s i)) (is_closed mid) s (i + length (way s i))
+      (ap (λ (l : Layout). layout_with l p.out) same_layout) (fun_ext m.closed)
       (on_way_moved (cage_layout p) (is_closed p.rack) s i g.way (effect (is_closed p.rack) (way s i)) refl)
 
   readings_there : length p.readings ≡ reads (take (i + length (way s i)) (agenda s))
@@ -133,16 +142,19 @@ module _ (p : CageSeen) (s : Setup) (i : ℕ) (mid : Rack) (k : IsHeld p) (g : C
   good_reading job e f =
       let t = ticket_of p.number at in
       let h = held_there (Some at) in
-      let home : slot_at (slice_set p.out (s.meter - 1) (Some t)) s.meter ≡ Some t = slot_set_same p.out s.meter (Some t) (omega (arith, g.range.meter.0)) (omega (arith, g.range.meter.1, k.outs)) in
+      let home : slot_at (slice_set p.out (s.meter - 1) (Some t)) s.meter ≡ Some t =
+      slot_set_same p.out s.meter (Some t) (omega (arith, g.range.meter.0)) (omega (arith, g.range.meter.1, k.outs)) in
       let same : layout_with (layout_of (slice_set mid (s.meter - 1) None)) (slice_set p.out (s.meter - 1) (Some t)) ≡ cage_layout there
       = layout_sent mid p.out s.meter t job.meter (k.outs ∙ sym h.slots) (omega (arith, g.range.meter.0)) f in
       record {
-        held = held_both there s.meter None (Some t) (Some at) h g.range.meter.0 g.range.meter.1 (λ x. refl) (λ u x. let y : t ≡ u = cc in omega (arith, ap (λ (z : Ticket). z.scan) y));
+        held = held_both there s.meter None (Some t) (Some at) h g.range.meter.0 g.range.meter.1 (λ x. refl)
+            (λ u x. let y : t ≡ u = cc in omega (arith, ap (λ (z : Ticket). z.scan) y));
         running = record {
           listed = g.listed;
           range = g.range;
           measured = ap (λ (l : Layout). has_meter l s.meter) same ∙ meter_with (layout_of mid) p.out s.meter (lengths there h) g.home meter_there;
-          way = on_way_like (cage_layout there) (layout_with (layout_of (slice_set mid (s.meter - 1) None)) (slice_set p.out (s.meter - 1) (Some t))) (is_closed mid) (is_closed (slice_set mid (s.meter - 1) None)) s (i + length (way s i)) same
+          way = on_way_like (cage_layout there) (layout_with (layout_of (slice_set mid (s.meter - 1) None)) (slice_set p.out (s.meter - 1) (Some t)))
+              (is_closed mid) (is_closed (slice_set mid (s.meter - 1) None)) s (i + length (way s i)) same
               (fun_ext (closed_sent mid s.meter job.meter g.range.meter.0 (omega (arith, g.range.meter.1, h.slots)) f)) way_there;
           readings = readings_there;
           meter = subst (λ (o : Option Ticket). MeterStands o t (awaits at)) (sym home) (subst (λ (w : Option Awaited). MeterStands (Some t) t w) (sym e) refl);
@@ -150,7 +162,8 @@ module _ (p : CageSeen) (s : Setup) (i : ℕ) (mid : Rack) (k : IsHeld p) (g : C
       }
 
 -- wherever the scan comes to, the cage is good
-pub good_lands : (p q : CageSeen) (s : Setup) (i : ℕ) (told : TakenSeen) → IsHeld p → CanGo p s i → Lands (bays_of p) p.number (way s i) (next_place s i) told (bays_of q) q.scan → q.number ≡ p.number → q.readings ≡ p.readings → IsGood q
+pub good_lands : (p q : CageSeen) (s : Setup) (i : ℕ) (told : TakenSeen) → IsHeld p → CanGo p s i
+    → Lands (bays_of p) p.number (way s i) (next_place s i) told (bays_of q) q.scan → q.number ≡ p.number → q.readings ≡ p.readings → IsGood q
 good_lands p q s i SaysIgnored k g l n r = absurd l.arrives
 good_lands p q s i SaysFault k g l n r = absurd l.arrives
 good_lands p q s i SaysWaits k g l n r =
@@ -162,7 +175,12 @@ good_lands p q s i (SaysPause t micros) k g l n r =
 good_lands p q s i (SaysJob job) k g l n r =
     let at = next_place s i in
     let sent = l.arrives.1 in
-    subst IsGood (sym (same_cage q (record p { rack = slice_set l.rack (s.meter - 1) None; out = slice_set p.out (s.meter - 1) (Some (ticket_of p.number at)); scan = Some at }) sent.after n l.arrives.2 r))
+    subst IsGood (sym (same_cage q (record p {
+      rack = slice_set l.rack (s.meter - 1) None;
+      out =
+          slice_set p.out (s.meter - 1) (Some (ticket_of p.number at));
+      scan = Some at;
+    }) sent.after n l.arrives.2 r))
     (good_reading p s i l.rack k g l.moved job l.arrives.0 sent.meter)
 good_lands p q s i SaysEnded k g l n r =
     subst IsGood (sym (same_cage q (record p { rack = l.rack; scan = None }) l.arrives.1 n l.arrives.2 r))
@@ -170,7 +188,8 @@ good_lands p q s i SaysEnded k g l n r =
 
 good_falls : (p q : CageSeen) → IsHeld p → Falls (bays_of p) (bays_of q) q.scan → q.number ≡ p.number → q.readings ≡ p.readings → IsGood q
 good_falls p q k f n r =
-    subst IsGood (sym (same_cage q (record p { rack = q.rack; scan = None }) (ap (λ (o : List (Option Ticket)). let b : Bays = record { rack = q.rack; out = o } in b) f.out) n f.over r))
+    subst IsGood (sym (same_cage q (record p { rack = q.rack; scan = None })
+    (ap (λ (o : List (Option Ticket)). let b : Bays = record { rack = q.rack; out = o } in b) f.out) n f.over r))
     (record { held = held_stays p q.rack None k (stays_plates p.rack q.rack f.fallen.cards); running = tt })
 
 pub good_goes : (p q : CageSeen) (s : Setup) (i : ℕ) (told : TakenSeen) → IsHeld p → CanGo p s i → Goes p s i told q → IsGood q

@@ -1,5 +1,6 @@
 -- A scan that runs: from item to item of its agenda.
-use Rattle.std.proofs.Common.{◌≡◌, ℕ, ◌+◌, ◌<◌, Bool, true, false, ◌&&◌, ◌||◌, not, List, [], ◌∷◌, ◌++◌, length, take, drop, Option, Some, None, refl, sym, ap, ◌∙◌, subst, arith}
+use Rattle.std.proofs.Common.{◌≡◌, ℕ, ◌+◌, ◌<◌, Bool, true, false, ◌&&◌, ◌||◌, not, List, [], ◌∷◌, ◌++◌, length, take, drop, Option, Some, None, refl, sym, ap}
+use Rattle.std.proofs.Common.{◌∙◌, subst, arith}
 use Rattle.std.proofs.Math.Seq.{take-add}
 use Rattle.std.proofs.lemmas.List.{take-append-drop}
 use Rattle.sw_base.specs.Layout.{Channel, Layout}
@@ -48,7 +49,8 @@ take_past s i x e = take-add i 1 (agenda s) ∙ ap (λ (l : List Item). take i (
 pub reads_way : (s : Setup) (i : ℕ) → reads (take (i + length (way s i)) (agenda s)) ≡ reads (take i (agenda s))
 reads_way s i = ap reads (take_way s i) ∙ reads-append (take i (agenda s)) (way s i) ∙ omega (arith, leading_reads (drop i (agenda s)))
 
-pub reads_past : (s : Setup) (i : ℕ) (x : Awaited) → first_awaited (drop i (agenda s)) ≡ Some x → reads (take (i + 1) (agenda s)) ≡ reads (take i (agenda s)) + is_reading x
+pub reads_past : (s : Setup) (i : ℕ) (x : Awaited) → first_awaited (drop i (agenda s)) ≡ Some x
+    → reads (take (i + 1) (agenda s)) ≡ reads (take i (agenda s)) + is_reading x
 reads_past s i x e = ap reads (take_past s i x e) ∙ reads-append (take i (agenda s)) (Awaits x ∷ []) ∙ omega arith
 
 -- a reading is left where one is awaited
@@ -83,37 +85,51 @@ within_after m b (Awaits w ∷ xs) h = within_after m b xs h
 within_after m b (Close c ∷ xs) h = within_after (with_channel c m) (with_channel c b) xs (λ x e. or_keeps (same_channel c x) (m x) (b x) (h x) e)
 within_after m b (Open c ∷ xs) h = within_after (without c m) (without c b) xs (λ x e. and_keeps (not (same_channel c x)) (m x) (b x) (h x) e)
 
-moves_may : (layout : Layout) (b m : Channels) (o k : Option Channel) (r : List Item) → IsWithin m b → AllRight layout b m ((opens_of o ++ closes_of k) ++ r) → MayMove layout b o k
+moves_may : (layout : Layout) (b m : Channels) (o k : Option Channel) (r : List Item) → IsWithin m b → AllRight layout b m ((opens_of o ++ closes_of k) ++ r)
+    → MayMove layout b o k
 moves_may layout b m None None r w h = record { opens = tt; closes = tt }
 moves_may layout b m None (Some k) r w h = record { opens = tt; closes = h.0 }
 moves_may layout b m (Some o) None r w h = record { opens = w o h.0; closes = tt }
 moves_may layout b m (Some o) (Some k) r w h = record { opens = w o h.0; closes = h.1.0 }
 
 -- a meter that is out has no channel, so none is hindered or let by it
-can_close_in : (bays : Layout) (out : List (Option Ticket)) (h : length out ≡ length bays) (b : Channels) (c : Channel) → CanClose (layout_with bays out) b c → CanClose bays b c
-can_close_in bays out h b c k = record { present = sym (present_with bays out h c) ∙ k.present; was_open = k.was_open; apart = λ x e j. k.apart x e (clash_with bays out h c x j) }
+can_close_in : (bays : Layout) (out : List (Option Ticket)) (h : length out ≡ length bays) (b : Channels) (c : Channel) → CanClose (layout_with bays out) b c
+    → CanClose bays b c
+can_close_in bays out h b c k = record {
+  present = sym (present_with bays out h c) ∙ k.present;
+  was_open = k.was_open;
+  apart =
+      λ x e j. k.apart x e (clash_with bays out h c x j);
+}
 
-may_close_in : (bays : Layout) (out : List (Option Ticket)) (h : length out ≡ length bays) (b : Channels) (k : Option Channel) → MayClose (layout_with bays out) b k → MayClose bays b k
+may_close_in : (bays : Layout) (out : List (Option Ticket)) (h : length out ≡ length bays) (b : Channels) (k : Option Channel)
+    → MayClose (layout_with bays out) b k → MayClose bays b k
 may_close_in bays out h b None m = tt
 may_close_in bays out h b (Some c) m = can_close_in bays out h b c m
 
-pub may_move_in : (bays : Layout) (out : List (Option Ticket)) (h : length out ≡ length bays) (b : Channels) (o k : Option Channel) → MayMove (layout_with bays out) b o k → MayMove bays b o k
+pub may_move_in : (bays : Layout) (out : List (Option Ticket)) (h : length out ≡ length bays) (b : Channels) (o k : Option Channel)
+    → MayMove (layout_with bays out) b o k → MayMove bays b o k
 may_move_in bays out h b o k m = record { opens = m.opens; closes = may_close_in bays out h (effect b (opens_of o)) k m.closes }
 
 module _ (layout : Layout) (closed : Channels) (s : Setup) (i : ℕ) (w : IsOnWay layout closed s i) where
   pub right_here : AllRight layout closed (effect none (take i (agenda s))) (drop i (agenda s))
   right_here =
-      let all : AllRight layout w.found none (take i (agenda s) ++ drop i (agenda s)) = subst (λ (l : List Item). AllRight layout w.found none l) (sym (take-append-drop i (agenda s))) w.sound.right in
-      subst (λ (b : Channels). AllRight layout b (effect none (take i (agenda s))) (drop i (agenda s))) (sym w.so_far) (right_after layout w.found none (take i (agenda s)) (drop i (agenda s)) all)
+      let all : AllRight layout w.found none (take i (agenda s) ++ drop i (agenda s)) =
+      subst (λ (l : List Item). AllRight layout w.found none l) (sym (take-append-drop i (agenda s))) w.sound.right in
+      subst (λ (b : Channels). AllRight layout b (effect none (take i (agenda s))) (drop i (agenda s))) (sym w.so_far)
+      (right_after layout w.found none (take i (agenda s)) (drop i (agenda s)) all)
 
   -- the moves that come next may be made
   pub may_move : (o k : Option Channel) → opens_of o ++ closes_of k ≡ way s i → MayMove layout closed o k
   may_move o k e =
       let after = drop i (agenda s) in
       let r = drop (length (way s i)) after in
-      let mine : IsWithin (effect none (take i (agenda s))) (effect w.found (take i (agenda s))) = within_after none w.found (take i (agenda s)) (λ x h. absurd (cc)) in
-      let split : after ≡ (opens_of o ++ closes_of k) ++ r = sym (take-append-drop (length (way s i)) after) ∙ ap (λ (l : List Item). l ++ r) (leading_front after ∙ sym e) in
-      moves_may layout closed (effect none (take i (agenda s))) o k r (subst (λ (b : Channels). IsWithin (effect none (take i (agenda s))) b) (sym w.so_far) mine)
+      let mine : IsWithin (effect none (take i (agenda s))) (effect w.found (take i (agenda s))) =
+      within_after none w.found (take i (agenda s)) (λ x h. absurd (cc)) in
+      let split : after ≡ (opens_of o ++ closes_of k) ++ r = sym (take-append-drop (length (way s i)) after) ∙ ap (λ (l : List Item). l ++ r)
+      (leading_front after ∙ sym e) in
+      moves_may layout closed (effect none (take i (agenda s))) o k r
+      (subst (λ (b : Channels). IsWithin (effect none (take i (agenda s))) b) (sym w.so_far) mine)
       (subst (λ (l : List Item). AllRight layout closed (effect none (take i (agenda s))) l) split right_here)
 
   -- once they are made
@@ -121,7 +137,8 @@ module _ (layout : Layout) (closed : Channels) (s : Setup) (i : ℕ) (w : IsOnWa
   on_way_moved now e = record {
     found = w.found;
     sound = w.sound;
-    so_far = e ∙ ap (λ (b : Channels). effect b (way s i)) w.so_far ∙ sym (effect-append w.found (take i (agenda s)) (way s i)) ∙ ap (effect w.found) (sym (take_way s i));
+    so_far = e ∙ ap (λ (b : Channels). effect b (way s i)) w.so_far ∙ sym (effect-append w.found (take i (agenda s)) (way s i)) ∙ ap (effect w.found)
+        (sym (take_way s i));
   }
 
   -- once what is awaited has come

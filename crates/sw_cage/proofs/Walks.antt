@@ -19,7 +19,8 @@ repeated_more (suc n) xs h =
 
 -- the first of the passes that are left
 pub passes_then : (s : Setup) (k : ℕ) (ys : List Item) → k < s.trigger.count
-    → passes s k (s.trigger.count - k) ++ ys ≡ map Awaits (head_of Trigger s.trigger) ++ (visit (channel_at s.list k) ++ (passes s (suc k) (s.trigger.count - suc k) ++ ys))
+    → passes s k (s.trigger.count - k) ++ ys ≡ map Awaits (head_of Trigger s.trigger) ++
+    (visit (channel_at s.list k) ++ (passes s (suc k) (s.trigger.count - suc k) ++ ys))
 passes_then s k ys h =
     let n : s.trigger.count - k ≡ suc (s.trigger.count - suc k) = omega arith in
     let later = passes s (suc k) (s.trigger.count - suc k) in

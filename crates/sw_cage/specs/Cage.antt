@@ -11,7 +11,8 @@ pub record Scanning : Type 0 where
   pub setup : Setup
   pub index : ℕ
 
--- what is seen of a cage: the cards in their slots, by slot the ticket under which its meter is out, the number of scans
+-- what is seen of a cage: the cards in their slots, by slot the ticket under which its meter is out, the number of
+-- scans
 -- begun, the scan that runs, and the readings of the last one
 pub record CageSeen : Type 0 where
   pub rack : Rack

@@ -1,5 +1,7 @@
--- What a scan does after a happening that it took: past the item, and on over closings and openings to the next awaiting one.
-use Rattle.std.specs.Prelude.{◌≡◌, ℕ, ◌+◌, ◌-◌, false, List, [], ◌∷◌, ◌++◌, map, Option, Some, None, slice_set, Result, Ok, Err}
+-- What a scan does after a happening that it took: past the item, and on over closings and openings to the next
+-- awaiting one.
+use Rattle.std.specs.Prelude.{◌≡◌, ℕ, ◌+◌, ◌-◌, false, List, [], ◌∷◌, ◌++◌, map, Option, Some, None, slice_set, Result}
+use Rattle.std.specs.Prelude.{Ok, Err}
 use Rattle.sw_base.specs.Layout.{Channel, slot_at}
 use Rattle.sw_base.specs.declared.terms.LayerName.{LayerName}
 use Rattle.sw_base.specs.declared.reading.Reading.{Reading}
@@ -41,21 +43,29 @@ pub record IsSent (old : Bays) (slot : ℕ) (ticket : Ticket) (job : JobSeen) (n
   pub slot_is : job.slot ≡ slot
   pub ticket_is : job.ticket ≡ ticket
   pub meter : slot_at old.rack slot ≡ Some (of_meter job.meter)
-  pub after : new ≡ record { rack = slice_set old.rack (slot - 1) None; out = slice_set old.out (slot - 1) (Some ticket) }
+  pub after : new ≡ record {
+    rack = slice_set old.rack (slot - 1) None;
+    out =
+        slice_set old.out (slot - 1) (Some ticket);
+  }
 
--- What is told where the scan has come to this place: what it awaits there. A pause and a reading come with their ticket, and
+-- What is told where the scan has come to this place: what it awaits there. A pause and a reading come with their
+-- ticket, and
 -- for a reading the meter goes out.
 abbrev pub Arrives : Bays → ℕ → Scanning → TakenSeen → Bays → Option Scanning → Type 0
 Arrives old number at SaysIgnored new scan = ⊥
-Arrives old number at SaysWaits new scan = ((name : LayerName) × (awaits at ≡ Some (Wait name))) × (new ≡ old) × (scan ≡ Some at)
+Arrives old number at SaysWaits new scan = ((name : LayerName) × (awaits at ≡ Some (Wait name))) × (new ≡ old)
+    × (scan ≡ Some at)
 Arrives old number at (SaysPause ticket micros) new scan =
     (awaits at ≡ Some (Pause micros)) × (ticket ≡ ticket_of number at) × (new ≡ old) × (scan ≡ Some at)
-Arrives old number at (SaysJob job) new scan = (awaits at ≡ Some Read) × IsSent old at.setup.meter (ticket_of number at) job new × (scan ≡ Some at)
+Arrives old number at (SaysJob job) new scan = (awaits at ≡ Some Read) × IsSent old at.setup.meter (ticket_of number at)
+    job new × (scan ≡ Some at)
 Arrives old number at SaysEnded new scan = (awaits at ≡ None) × (new ≡ old) × (scan ≡ None)
 Arrives old number at SaysFault new scan = ⊥
 
 -- after the moves the scan has come to this place
-pub record Lands (old : Bays) (number : ℕ) (moves : List Item) (at : Scanning) (told : TakenSeen) (new : Bays) (scan : Option Scanning) : Type 0 where
+pub record Lands (old : Bays) (number : ℕ) (moves : List Item) (at : Scanning) (told : TakenSeen) (new : Bays)
+    (scan : Option Scanning) : Type 0 where
   pub rack : Rack
   pub moved : Moved old.rack moves rack
   pub arrives : Arrives (record old { rack = rack }) number at told new scan
@@ -71,7 +81,8 @@ abbrev pub Runs : Bays → ℕ → List Item → Scanning → TakenSeen → Bays
 Runs old number moves at SaysFault new scan = Falls old new scan
 Runs old number moves at SaysIgnored new scan = Lands old number moves at SaysIgnored new scan
 Runs old number moves at SaysWaits new scan = Lands old number moves at SaysWaits new scan
-Runs old number moves at (SaysPause ticket micros) new scan = Lands old number moves at (SaysPause ticket micros) new scan
+Runs old number moves at (SaysPause ticket micros) new scan =
+    Lands old number moves at (SaysPause ticket micros) new scan
 Runs old number moves at (SaysJob job) new scan = Lands old number moves at (SaysJob job) new scan
 Runs old number moves at SaysEnded new scan = Lands old number moves at SaysEnded new scan
 
@@ -91,12 +102,22 @@ GoesPast p told q = GoesPastFrom p p.scan told q
 
 -- the meter is back in its slot
 abbrev pub with_back : CageSeen → FinishedSeen → CageSeen
-with_back p done = record p { rack = slice_set p.rack (done.slot - 1) (Some (of_meter done.meter)); out = slice_set p.out (done.slot - 1) None }
+with_back p done = record p {
+  rack = slice_set p.rack (done.slot - 1) (Some (of_meter done.meter));
+  out =
+      slice_set p.out (done.slot - 1) None;
+}
+
+-- the readings once a measurement has come to this: a reading is added, a failure adds none
+abbrev pub readings_with : List Reading → Result Reading CardFault → List Reading
+readings_with readings (Ok r) = readings ++ r ∷ []
+readings_with readings (Err e) = readings
 
 abbrev pub with_reading : CageSeen → Reading → CageSeen
 with_reading p r = record p { readings = p.readings ++ r ∷ [] }
 
--- a return that the scan takes, the meter being back: its reading is added and the scan goes on; its failure ends the scan
+-- a return that the scan takes, the meter being back: its reading is added and the scan goes on; its failure ends the
+-- scan
 abbrev pub Counts : CageSeen → Result Reading CardFault → TakenSeen → CageSeen → Type 0
 Counts p (Ok r) told q = GoesPast (with_reading p r) told q
 Counts p (Err e) told q = (told ≡ SaysFault) × (q ≡ fall p)

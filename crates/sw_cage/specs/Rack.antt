@@ -1,5 +1,6 @@
 -- What the slots of the cage hold, by the cards' own accounts.
-use Rattle.std.specs.Prelude.{◌≡◌, ℕ, ◌-◌, ◌≤◌, Bool, false, List, length, map, Option, None, Some, slice_set, if◌then◌else◌}
+use Rattle.std.specs.Prelude.{◌≡◌, ℕ, ◌-◌, ◌≤◌, Bool, false, List, length, map, Option, None, Some, slice_set}
+use Rattle.std.specs.Prelude.{if◌then◌else◌}
 use Rattle.sw_base.specs.Layout.{Channel, Bay, relays, meter, Layout, slot_at, IsExclusive}
 use Rattle.sw_card.specs.Account.{Account, is_meter, closed_at, with_set, at_rest, IsFault}
 

@@ -1,5 +1,5 @@
 -- What the cage tells of a happening, as plain data.
-use Rattle.std.specs.Prelude.{ℕ}
+use Rattle.std.specs.Prelude.{ℕ, Bool, true, false}
 use Rattle.sw_cage.specs.Work.{JobSeen}
 use Rattle.sw_cage.specs.declared.job.Ticket.{Ticket}
 use Rattle.sw_cage.specs.declared.taken.Taken.{Taken}
@@ -20,3 +20,12 @@ taken_seen (Pause ticket micros) = SaysPause ticket micros
 taken_seen (Job job) = SaysJob job.1
 taken_seen Ended = SaysEnded
 taken_seen Fault = SaysFault
+
+-- whether a card's failure is told
+abbrev pub tells_fault : TakenSeen → Bool
+tells_fault SaysIgnored = false
+tells_fault SaysWaits = false
+tells_fault (SaysPause ticket micros) = false
+tells_fault (SaysJob job) = false
+tells_fault SaysEnded = false
+tells_fault SaysFault = true

@@ -1,4 +1,5 @@
--- Which happening a running scan takes: the ARM-TRIGger model's wait takes the trigger of its source, and its layer's SIGNal
+-- Which happening a running scan takes: the ARM-TRIGger model's wait takes the trigger of its source, and its layer's
+-- SIGNal
 -- always (SCPI-1999, chapter 24); that pauses and readings end by a ticket is our own.
 use Rattle.std.specs.Prelude.{◌≡◌, ℕ, Option, Some, None}
 use Rattle.sw_base.specs.declared.terms.Source.TheVariants as source

@@ -4,11 +4,13 @@ use Rattle.sw_base.specs.declared.terms.LayerName.TheVariants.{Arm1, Arm2, Trigg
 use Rattle.sw_trigger.specs.declared.layer.Awaited.{Awaited}
 use Rattle.sw_trigger.specs.declared.layer.Awaited.TheVariants.{Wait, Pause, Read}
 use Rattle.sw_trigger.specs.Settings.{Setup}
-use Rattle.sw_trigger.specs.Agenda.{Item, Awaits, Open, repeated, pause_of, channel_at, visit, passes, arm1_turn, arm2_turn}
-use Rattle.sw_cage.specs.declared.walk.Walk.{Walk}
-use Rattle.sw_cage.specs.declared.walk.Moves.{Moves}
-use Rattle.sw_cage.specs.declared.walk.Phase.{Phase}
-use Rattle.sw_cage.specs.declared.walk.Phase.TheVariants.{Arm1Wait, Arm1Pause, Arm2Wait, Arm2Pause, TriggerWait, TriggerPause, Reading}
+use Rattle.sw_trigger.specs.Agenda.{Item, Awaits, Open, repeated, pause_of, channel_at, visit, passes, arm1_turn}
+use Rattle.sw_trigger.specs.Agenda.{arm2_turn}
+use Rattle.sw_cage.specs.declared.scan.walk.Walk.{Walk}
+use Rattle.sw_cage.specs.declared.scan.walk.Moves.{Moves}
+use Rattle.sw_cage.specs.declared.scan.walk.Phase.{Phase}
+use Rattle.sw_cage.specs.declared.scan.walk.Phase.TheVariants.{Arm1Wait, Arm1Pause, Arm2Wait, Arm2Pause, TriggerWait}
+use Rattle.sw_cage.specs.declared.scan.walk.Phase.TheVariants.{TriggerPause, Reading}
 use Rattle.sw_cage.specs.Advance.{opens_of, closes_of}
 
 -- so many further turns of ARM layer 1
@@ -21,15 +23,19 @@ after_passes s arm1_left arm2_left = repeated arm2_left (arm2_turn s) ++ after_a
 
 -- what comes after a pass
 abbrev pub after_pass : Setup → ℕ → ℕ → ℕ → List Item
-after_pass s arm1_left arm2_left pass = passes s (suc pass) (s.trigger.count - suc pass) ++ after_passes s arm1_left arm2_left
+after_pass s arm1_left arm2_left pass = passes s (suc pass) (s.trigger.count - suc pass) ++ after_passes s arm1_left
+    arm2_left
 
 -- the awaiting item at which the scan stands, and all after it
 abbrev pub rest_at : Setup → ℕ → ℕ → ℕ → Phase → List Item
-rest_at s a b k Arm1Wait = Awaits (Wait Arm1) ∷ (map Awaits (pause_of s.arm1.delay_us) ++ (repeated s.arm2.count (arm2_turn s) ++ after_arm2 s a))
+rest_at s a b k Arm1Wait = Awaits (Wait Arm1) ∷ (map Awaits (pause_of s.arm1.delay_us) ++
+    (repeated s.arm2.count (arm2_turn s) ++ after_arm2 s a))
 rest_at s a b k Arm1Pause = Awaits (Pause s.arm1.delay_us) ∷ (repeated s.arm2.count (arm2_turn s) ++ after_arm2 s a)
-rest_at s a b k Arm2Wait = Awaits (Wait Arm2) ∷ (map Awaits (pause_of s.arm2.delay_us) ++ (passes s 0 s.trigger.count ++ after_passes s a b))
+rest_at s a b k Arm2Wait = Awaits (Wait Arm2) ∷ (map Awaits (pause_of s.arm2.delay_us) ++
+    (passes s 0 s.trigger.count ++ after_passes s a b))
 rest_at s a b k Arm2Pause = Awaits (Pause s.arm2.delay_us) ∷ (passes s 0 s.trigger.count ++ after_passes s a b)
-rest_at s a b k TriggerWait = Awaits (Wait Trigger) ∷ (map Awaits (pause_of s.trigger.delay_us) ++ (visit (channel_at s.list k) ++ after_pass s a b k))
+rest_at s a b k TriggerWait = Awaits (Wait Trigger) ∷
+    (map Awaits (pause_of s.trigger.delay_us) ++ (visit (channel_at s.list k) ++ after_pass s a b k))
 rest_at s a b k TriggerPause = Awaits (Pause s.trigger.delay_us) ∷ (visit (channel_at s.list k) ++ after_pass s a b k)
 rest_at s a b k Reading = Awaits Read ∷ Open (channel_at s.list k) ∷ after_pass s a b k
 

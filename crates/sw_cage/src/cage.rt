@@ -1,10 +1,11 @@
 //! The cage as the layers above see it.
 
-ghost use Rattle.std.specs.Prelude.{◌≡◌, ℕ, ◌-◌, ◌≤◌, List, [], ◌∷◌, Bool, true, false, None, Some, IsOk, OnOk, OnErr, IfOk, IfErr, slice_set, is_some, ◌↔◌, IsTrue, ◌+◌, ◌<◌, ◌^◌};
+ghost use Rattle.std.specs.Prelude.{◌≡◌, ℕ, ◌-◌, ◌≤◌, List, [], ◌∷◌, Bool, true, false, None, Some, IsOk, OnOk, OnErr};
+ghost use Rattle.std.specs.Prelude.{IfOk, IfErr, slice_set, is_some, ◌↔◌, IsTrue, ◌+◌, ◌<◌, ◌^◌, ◌||◌, is_err};
 ghost use Rattle.sw_base.specs.Layout.{Channel, slot_at, is_present, IsClash, IsExclusive};
 ghost use Rattle.sw_card.specs.Account.{closed_at};
 ghost use Rattle.sw_cage.specs.Rack.{layout_of, is_closed, with_chan, option_rest, all_open, IsRackFault};
-ghost use Rattle.sw_cage.specs.Change.{Sets, IsDisturbed};
+ghost use Rattle.sw_cage.specs.Change.{Sets, IsDisturbed, any_failed};
 ghost use Rattle.sw_cage.specs.Install.{CanInstall, RefusesInstall, RefusesEject, stopped, without_card};
 ghost use Rattle.sw_cage.specs.Close.{all_present, CanClose, RefusesClose};
 ghost use Rattle.sw_cage.specs.Channels.{closed_list};
@@ -12,17 +13,17 @@ ghost use Rattle.sw_cage.specs.Cage.{empty_cage, with_rack, fall, cage_layout};
 ghost use Rattle.sw_verify.specs.Check.{IsReady};
 ghost use Rattle.sw_cage.specs.Work.{IsTold};
 ghost use Rattle.sw_cage.specs.Good.{IsGood};
-ghost use Rattle.sw_cage.specs.TakenSeen.{taken_seen, SaysIgnored};
+ghost use Rattle.sw_cage.specs.TakenSeen.{taken_seen, tells_fault, SaysIgnored};
 ghost use Rattle.sw_cage.specs.Takes.{Takes, TakesReturn, AwaitsOther, awaited_now};
-ghost use Rattle.sw_cage.specs.Goes.{Goes, GoesPast, Counts, begun, with_back};
+ghost use Rattle.sw_cage.specs.Goes.{Goes, GoesPast, Counts, begun, with_back, readings_with};
 
 use crate::job::{Finished, Ticket};
-use crate::machine::{go_on, take_in};
 use crate::refusal::{CloseRefusal, EjectRefusal, InstallRefusal};
 use crate::scan::Scan;
+use crate::scan::machine::{go_on, take_in};
+use crate::scan::tickets::Tickets;
 use crate::slots::Slots;
 use crate::taken::{Happening, Taken};
-use crate::tickets::Tickets;
 use std::alloc::{AllocError, Global};
 use std::marker::Model;
 use sw_base::{Chan, Reading};
@@ -49,9 +50,21 @@ impl<R: Relay, M: Meter> Model for Cage<R, M> {
 
     ghost Value = { CageSeen };
 
-    ghost view = { λ c. record { rack = c.slots; out = c.out; number = c.number; scan = c.scan; readings = c.readings.items } };
+    ghost view = { λ c. record {
+      rack = c.slots;
+      out = c.out;
+      number = c.number;
+      scan = c.scan;
+      readings = c.readings.items;
+    } };
 
-    ghost invariant = { λ c. IsKept (record { rack = c.slots; out = c.out; number = c.number; scan = c.scan; readings = c.readings.items }) (vec_capacity c.readings) };
+    ghost invariant = { λ c. IsKept (record {
+      rack = c.slots;
+      out = c.out;
+      number = c.number;
+      scan = c.scan;
+      readings = c.readings.items;
+    }) (vec_capacity c.readings) };
 }
 
 impl<R: Relay, M: Meter> Cage<R, M> {
@@ -81,7 +94,8 @@ impl<R: Relay, M: Meter> Cage<R, M> {
         slot: u8,
         card: Card<R, M>,
     ) -> Result<(), (InstallRefusal, Card<R, M>)>
-        ensures ok { OnOk result (self.new ≡ record self.old { rack = slice_set self.old.rack (slot - 1) (Some card.1) }) }
+        ensures ok { OnOk result (self.new ≡
+            record self.old { rack = slice_set self.old.rack (slot - 1) (Some card.1) }) }
         ensures accepted { OnOk result (CanInstall self.old.rack slot card.1) }
         ensures free { OnOk result ((self.old.scan ≡ None) × (slot_at self.old.out slot ≡ None)) }
         ensures refused { IfErr result (λ refusal. RefusesInstall self.old slot card.1 refusal.0) }
@@ -144,7 +158,8 @@ impl<R: Relay, M: Meter> Cage<R, M> {
         requires idle { self.old.scan ≡ None }
         requires present { is_present (layout_of self.old.rack) chan ≡ true }
         requires open { is_closed self.old.rack chan ≡ false }
-        requires apart { (c : Channel) → is_closed self.old.rack c ≡ true → IsClash (layout_of self.old.rack) chan c → ⊥ }
+        requires apart { (c : Channel) → is_closed self.old.rack c ≡ true
+            → IsClash (layout_of self.old.rack) chan c → ⊥ }
         ensures ok { OnOk result (Sets self.old.rack (chan ∷ []) true self.new.rack) }
         ensures err { OnErr result (IsRackFault self.old.rack chan (with_chan self.old.rack chan true) self.new.rack) }
         ensures disturbed { OnErr result (IsDisturbed self.old.rack (chan ∷ []) self.new.rack) }
@@ -197,7 +212,8 @@ impl<R: Relay, M: Meter> Cage<R, M> {
     /// Whether the channels may be closed together, beside what is closed.
     pub fn judge(&self, chans: &[Chan]) -> Result<(), CloseRefusal>
         ensures ok { OnOk result (CanClose (layout_of self.now.rack) (is_closed self.now.rack) chans.now) }
-        ensures err { IfErr result (λ refusal. RefusesClose (layout_of self.now.rack) (is_closed self.now.rack) chans.now refusal) }
+        ensures err { IfErr result (λ refusal.
+            RefusesClose (layout_of self.now.rack) (is_closed self.now.rack) chans.now refusal) }
     {
         self.slots.judge(chans)
     }
@@ -234,6 +250,7 @@ impl<R: Relay, M: Meter> Cage<R, M> {
     pub fn layout(&self, alloc: Global) -> Result<Layout, AllocError>
         ensures { IfOk result (λ layout. layout ≡ cage_layout self.now) }
     {
+        // Reading a field tells the proof what holds of every `Cage`.
         let _ = &self.slots;
         let mut bays = Vec::with_capacity(alloc, 8)?;
         for before in 0..8u8 {
@@ -268,6 +285,7 @@ impl<R: Relay, M: Meter> Cage<R, M> {
     pub fn has_layout(&self, layout: &Layout) -> bool
         ensures { IsTrue result ↔ (layout.now ≡ cage_layout self.now) }
     {
+        // Reading a field tells the proof what holds of every `Cage`.
         let _ = &self.slots;
         let bays = layout.slots();
         if bays.len() != 8 {
@@ -351,6 +369,8 @@ impl<R: Relay, M: Meter> Cage<R, M> {
         requires layout { cage_layout self.old ≡ plan.layout }
         requires closed { closed_list self.old.rack ≡ plan.closed }
         ensures ok { IfOk result (λ taken. Goes (begun self.old) plan.settings 0 (taken_seen taken) self.new) }
+        ensures failed { IfOk result (λ taken.
+            tells_fault (taken_seen taken) ≡ any_failed self.old.rack self.new.rack) }
         ensures err { OnErr result (self.new ≡ self.old) }
     {
         self.slots.stay_safe();
@@ -369,6 +389,8 @@ impl<R: Relay, M: Meter> Cage<R, M> {
         ensures ignored { (Takes self.old happening → ⊥) → (taken_seen result ≡ SaysIgnored) × (self.new ≡ self.old) }
         ensures taken { Takes self.old happening → GoesPast self.old (taken_seen result) self.new }
         ensures takes { (taken_seen result ≡ SaysIgnored → ⊥) → Takes self.old happening }
+        ensures failed { tells_fault (taken_seen result) ≡ any_failed self.old.rack self.new.rack }
+        ensures readings { self.new.readings ≡ self.old.readings }
     {
         if !self.takes(happening) {
             return Taken::Ignored;
@@ -401,13 +423,21 @@ impl<R: Relay, M: Meter> Cage<R, M> {
 
     /// Takes a meter back, unless it is not out of its slot under its ticket: then it is handed back.
     ///
-    /// Where the scan that runs awaits it, its reading is added and the scan goes on; its failure ends the scan, as that
-    /// of any card call. The late return of a scan that is over adds nothing, and its failure ends nothing.
+    /// Where the scan that runs awaits it, its reading is added and the scan goes on; its failure ends the scan, as
+    /// that of any card call. The late return of a scan that is over adds nothing, and its failure ends nothing.
     pub fn finish(&mut self, finished: Finished<M>) -> Result<Taken<M>, Finished<M>>
         ensures in_slot { OnOk result (slot_at self.old.out finished.1.slot ≡ Some finished.1.ticket) }
-        ensures late { IfOk result (λ taken. (TakesReturn self.old finished.1.slot finished.1.ticket → ⊥) → (taken_seen taken ≡ SaysIgnored) × (self.new ≡ with_back self.old finished.1)) }
-        ensures taken { IfOk result (λ taken. TakesReturn self.old finished.1.slot finished.1.ticket → Counts (with_back self.old finished.1) finished.1.outcome (taken_seen taken) self.new) }
-        ensures takes { IfOk result (λ taken. (taken_seen taken ≡ SaysIgnored → ⊥) → TakesReturn self.old finished.1.slot finished.1.ticket) }
+        ensures late { IfOk result (λ taken. (TakesReturn self.old finished.1.slot finished.1.ticket → ⊥)
+            → (taken_seen taken ≡ SaysIgnored) × (self.new ≡ with_back self.old finished.1)) }
+        ensures taken { IfOk result (λ taken. TakesReturn self.old finished.1.slot finished.1.ticket
+            → Counts (with_back self.old finished.1) finished.1.outcome (taken_seen taken) self.new) }
+        ensures takes { IfOk result (λ taken. (taken_seen taken ≡ SaysIgnored → ⊥)
+            → TakesReturn self.old finished.1.slot finished.1.ticket) }
+        ensures failed { IfOk result (λ taken. TakesReturn self.old finished.1.slot finished.1.ticket
+            → tells_fault (taken_seen taken)
+            ≡ (is_err finished.1.outcome || any_failed (with_back self.old finished.1).rack self.new.rack)) }
+        ensures readings { IfOk result (λ taken. TakesReturn self.old finished.1.slot finished.1.ticket
+            → self.new.readings ≡ readings_with self.old.readings finished.1.outcome) }
         ensures told { IsTold finished.1 }
         ensures elsewhere { OnErr result (slot_at self.old.out finished.1.slot ≡ Some finished.1.ticket → ⊥) }
         ensures err { OnErr result (self.new ≡ self.old) }

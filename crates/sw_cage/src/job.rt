@@ -54,9 +54,24 @@ impl<M: Meter> Model for Finished<M> {
 
     ghost Value = { M × FinishedSeen };
 
-    ghost view = { λ f. (f.meter.0, record { slot = f.slot; ticket = f.ticket; meter = f.meter.1; before = f.before; outcome = f.outcome }) };
+    ghost view = { λ f. (
+      f.meter.0,
+      record {
+        slot = f.slot;
+        ticket = f.ticket;
+        meter = f.meter.1;
+        before = f.before;
+        outcome = f.outcome;
+      },
+    ) };
 
-    ghost invariant = { λ f. IsTold (record { slot = f.slot; ticket = f.ticket; meter = f.meter.1; before = f.before; outcome = f.outcome }) };
+    ghost invariant = { λ f. IsTold (record {
+      slot = f.slot;
+      ticket = f.ticket;
+      meter = f.meter.1;
+      before = f.before;
+      outcome = f.outcome;
+    }) };
 }
 
 impl<M: Meter> Job<M> {

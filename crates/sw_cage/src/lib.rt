@@ -13,17 +13,11 @@
 #![tactic(auto)]
 
 mod cage;
-mod claims;
 mod job;
-mod machine;
 mod refusal;
 mod scan;
 mod slots;
 mod taken;
-#[cfg(test)]
-mod tests;
-mod tickets;
-mod walk;
 
 pub use cage::Cage;
 pub use job::{Finished, Job, Ticket};

@@ -13,8 +13,6 @@ mod board;
 mod card;
 mod meter;
 mod relay;
-#[cfg(test)]
-mod tests;
 
 pub use board::{Board, CardFault};
 pub use card::Card;

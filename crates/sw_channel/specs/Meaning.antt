@@ -3,6 +3,7 @@ use Rattle.std.specs.Prelude.{◌≡◌, ℕ, ◌+◌, ◌-◌, ◌*◌, ◌/◌
 use Rattle.std.specs.List.{range_with_len}
 use Rattle.std.specs.Option.{option_and_then}
 use Rattle.sw_base.specs.Layout.{Channel}
+use Rattle.sw_base.specs.Limits.{most_slots, most_channels, most_entries}
 use Rattle.sw_base.specs.declared.error.ScpiError.{ScpiError}
 use Rattle.sw_base.specs.declared.error.ScpiError.TheVariants.{DataOutOfRange, TooMuchData}
 use Rattle.sw_channel.specs.Grammar.{Written, plain, pair, Item, one, range, IsList}
@@ -18,9 +19,9 @@ number_from n (d ∷ ds) = number_from (10 * n + (d - 48)) ds
 abbrev pub number_of : List ℕ → Option ℕ
 number_of digits = if nat_lt 9 (length digits) then None else Some (number_from 0 digits)
 
--- slots are 1 to 8, channels 1 to 99
+-- the cage's slots and a card's channels are numbered from 1
 abbrev pub channel_at : ℕ → ℕ → Option Channel
-channel_at s c = if nat_le 1 s && nat_le s 8 && nat_le 1 c && nat_le c 99 then Some ((s, c)) else None
+channel_at s c = if nat_le 1 s && nat_le s most_slots && nat_le 1 c && nat_le c most_channels then Some ((s, c)) else None
 
 -- a plain n is channel n mod 100 of slot n div 100
 abbrev pub channel_of : Written → Option Channel
@@ -63,10 +64,10 @@ Spells text cs = (items : List Item) × IsList text items × Mean items cs
 
 -- ---- refusals
 
--- what an item that names these adds to the channels in front of it: none such is -222, a 513th entry is -223
+-- what an item that names these adds to the channels in front of it: none such is -222, one entry too many is -223
 abbrev pub judged_with : List Channel → Option (List Channel) → (List Channel → Result (List Channel) ScpiError) → Result (List Channel) ScpiError
 judged_with front None rest = Err DataOutOfRange
-judged_with front (Some cs) rest = if nat_le (length front + length cs) 512 then rest (front ++ cs) else Err TooMuchData
+judged_with front (Some cs) rest = if nat_le (length front + length cs) most_entries then rest (front ++ cs) else Err TooMuchData
 
 -- the channels of the items after those in front, or the first refusal from left to right
 abbrev pub judged : List Channel → List Item → Result (List Channel) ScpiError

@@ -1,6 +1,7 @@
 -- A channel list as it is printed.
 use Rattle.std.specs.Prelude.{ℕ, ◌+◌, ◌/◌, ◌%◌, nat_le, ◌≤◌, List, [], ◌∷◌, ◌++◌, if◌then◌else◌}
 use Rattle.sw_base.specs.Layout.{Channel}
+use Rattle.sw_base.specs.Limits.{most_slots, most_channels}
 
 -- a number below 100, with no leading zero
 abbrev pub printed_number : ℕ → List ℕ
@@ -24,6 +25,6 @@ printed_body (c ∷ cs) = printed_channel c ++ printed_others cs
 abbrev pub printed : List Channel → List ℕ
 printed cs = 40 ∷ 64 ∷ (printed_body cs ++ 41 ∷ [])
 
--- slots are 1 to 8, channels 1 to 99
+-- the cage's slots and a card's channels are numbered from 1
 abbrev pub InRange : Channel → Type 0
-InRange c = (1 ≤ c.0) × (c.0 ≤ 8) × (1 ≤ c.1) × (c.1 ≤ 99)
+InRange c = (1 ≤ c.0) × (c.0 ≤ most_slots) × (1 ≤ c.1) × (c.1 ≤ most_channels)

@@ -1,6 +1,7 @@
 -- What reading a text as a channel list may answer.
 use Rattle.std.specs.Prelude.{◌≡◌, ◌≤◌, ℕ, List, [], length, Result, Ok, Err, ◌⊎◌}
 use Rattle.sw_base.specs.Layout.{Channel}
+use Rattle.sw_base.specs.Limits.{most_entries}
 use Rattle.sw_base.specs.declared.error.ScpiError.{ScpiError}
 use Rattle.sw_base.specs.declared.error.ScpiError.TheVariants.{InvalidExpression, OutOfMemory}
 use Rattle.sw_channel.specs.Grammar.{Item, IsList}
@@ -14,7 +15,7 @@ IsNoList text = (items : List Item) → IsList text items → ⊥
 abbrev pub IsRefused : List ℕ → ScpiError → Type 0
 IsRefused text e = (IsNoList text × (e ≡ InvalidExpression)) ⊎ ((items : List Item) × IsList text items × (judged [] items ≡ Err e))
 
--- The channels that the text spells, at most 512; or its first refusal; or want of memory for such channels.
+-- The channels that the text spells, at most that many; or its first refusal; or want of memory for such channels.
 abbrev pub Reads : List ℕ → Result (List Channel) ScpiError → Type 0
-Reads text (Ok cs) = Spells text cs × (length cs ≤ 512)
-Reads text (Err e) = IsRefused text e ⊎ ((e ≡ OutOfMemory) × ((cs : List Channel) × Spells text cs × (length cs ≤ 512)))
+Reads text (Ok cs) = Spells text cs × (length cs ≤ most_entries)
+Reads text (Err e) = IsRefused text e ⊎ ((e ≡ OutOfMemory) × ((cs : List Channel) × Spells text cs × (length cs ≤ most_entries)))

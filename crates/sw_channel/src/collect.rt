@@ -4,6 +4,7 @@ ghost use Rattle.std.specs.Prelude.{◌≡◌, ◌≤◌, ◌∷◌, ◌++◌, L
 ghost use Rattle.std.specs.Option.{option_map};
 ghost use Rattle.std.specs.Result.{ForOk};
 ghost use Rattle.sw_base.specs.Layout.{Channel};
+ghost use Rattle.sw_base.specs.Limits.{most_entries};
 ghost use Rattle.sw_base.specs.Text.{AllPass, is_digit};
 ghost use Rattle.sw_base.specs.declared.error.ScpiError.{ScpiError as Error};
 ghost use Rattle.sw_channel.specs.Grammar.{Item, IsItem, IsItems};
@@ -14,10 +15,7 @@ use crate::parse::read_entry;
 use crate::run::Run;
 use crate::written::{Entry, Place};
 use std::alloc::{AllocError, Global};
-use sw_base::{Chan, ScpiError, cut};
-
-/// How many channels a list names at most.
-const LIST_LIMIT: usize = 512;
+use sw_base::{CHANNELS, Chan, LIST_ENTRIES, SLOTS, ScpiError, cut};
 
 /// The number that digits write, of at most nine of them.
 fn value(digits: &[u8]) -> Option<u32>
@@ -38,7 +36,7 @@ fn value(digits: &[u8]) -> Option<u32>
 fn channel_at(slot: u32, ch: u32) -> Option<Chan>
     ensures { result ≡ channel_at slot ch }
 {
-    if 1 <= slot && slot <= 8 && 1 <= ch && ch <= 99 {
+    if 1 <= slot && slot <= u32::from(SLOTS) && 1 <= ch && ch <= u32::from(CHANNELS) {
         Some(Chan::new(slot as u8, ch as u8))
     } else {
         None
@@ -91,9 +89,9 @@ fn run_of(entry: Entry<'_>) -> Option<Run>
 /// What is found after one more item: how many channels all name, or the first refusal.
 fn judge_entry(found: Result<usize, ScpiError>, entry: Entry<'_>) -> Result<usize, ScpiError>
     requires digits { AreAllDigits (entry_seen entry) }
-    requires within { ForOk found (λ n. n ≤ 512) }
+    requires within { ForOk found (λ n. n ≤ most_entries) }
     ensures leads { (is : List Item) (all : Result (List Channel) Error) → LeadsTo found (entry_seen entry.entry ∷ is) all → LeadsTo result is all }
-    ensures within { IfOk result (λ n. n ≤ 512) }
+    ensures within { IfOk result (λ n. n ≤ most_entries) }
 {
     match found {
         Err(e) => Err(e),
@@ -101,7 +99,7 @@ fn judge_entry(found: Result<usize, ScpiError>, entry: Entry<'_>) -> Result<usiz
             None => Err(ScpiError::DataOutOfRange),
             Some(run) => {
                 let more = run.count() as usize;
-                if count > LIST_LIMIT - more {
+                if count > LIST_ENTRIES - more {
                     return Err(ScpiError::TooMuchData);
                 }
                 Ok(count + more)

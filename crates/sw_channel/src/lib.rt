@@ -13,8 +13,6 @@ mod parse;
 mod print;
 mod read;
 mod run;
-#[cfg(test)]
-mod tests;
 mod written;
 
 pub use print::print_list;

@@ -3,6 +3,7 @@
 ghost use Rattle.std.specs.Prelude.{◌≡◌, ◌≢◌, ◌≤◌, ◌↔◌, List, [], ℕ, length, Result, IfOk, Ok, Err};
 ghost use Rattle.std.specs.Result.{result_map_both};
 ghost use Rattle.sw_base.specs.Layout.{Channel};
+ghost use Rattle.sw_base.specs.Limits.{most_entries};
 ghost use Rattle.sw_base.specs.Memory.{Gives};
 ghost use Rattle.sw_base.specs.declared.error.ScpiError.{ScpiError as Error};
 ghost use Rattle.sw_base.specs.declared.error.ScpiError.TheVariants.{OutOfMemory};
@@ -31,9 +32,9 @@ pub fn read_list(alloc: Global, text: &[u8]) -> Result<Vec<Chan>, ScpiError>
     // The answer is what the text spells, its first refusal, or want of memory for what it spells.
     ensures reads { Reads text.now (result_map_both (λ v. v.items) (λ e. e) result) }
     // What is read is spelled so.
-    ensures found { IfOk result (λ v. Spells text.now v.items × (length v.items ≤ 512)) }
+    ensures found { IfOk result (λ v. Spells text.now v.items × (length v.items ≤ most_entries)) }
     // What is spelled so is read, unless memory runs out.
-    ensures only { (cs : List Channel) → Spells text.now cs → length cs ≤ 512 → Gives (λ v. v.items) result (Ok cs) }
+    ensures only { (cs : List Channel) → Spells text.now cs → length cs ≤ most_entries → Gives (λ v. v.items) result (Ok cs) }
     // What is refused is refused so, however much memory there is.
     ensures refused { (e : Error) → IsRefused text.now e → result ≡ Err e }
     // A text that is written right gives its channels or its first refusal, unless memory runs out.

@@ -1,6 +1,7 @@
 //! Runs of channels: what one item of a list names.
 
 ghost use Rattle.std.specs.Prelude.{◌≡◌, ◌≤◌};
+ghost use Rattle.sw_base.specs.Limits.{most_channels};
 ghost use Rattle.sw_channel.specs.Meaning.{count_between};
 
 use sw_base::Chan;
@@ -17,7 +18,7 @@ impl Run {
     /// How many channels these are.
     pub fn count(&self) -> u8
         ensures value { result ≡ count_between self.now.first.1 self.now.last.1 }
-        ensures range { result ≤ 99 }
+        ensures range { result ≤ most_channels }
     {
         let from = self.first.ch();
         let to = self.last.ch();

@@ -31,8 +31,8 @@ use Rattle.sw_core.specs.declared.ask.SessionAnswer.{SessionAnswer}
 use Rattle.sw_core.specs.declared.ask.SessionAnswer.TheVariants as answers
 use Rattle.sw_core.specs.declared.ask.SessionAnswer.TheVariants.{Joined, Full, Stranger, Broken, Done, Lock, Refused, Hold, Worn}
 use Rattle.sw_core.specs.Sessions.{SessionsSeen, IsJoined, IsLeastFree, fresh, with_seat}
-use Rattle.sw_core.specs.Seats.{asker_of}
-use Rattle.sw_core.proofs.Seating.{IsSound, seat_once}
+use Rattle.sw_core.specs.Seats.{asker_of, FindsKey}
+use Rattle.sw_core.proofs.Seating.{seat_once}
 use Rattle.sw_core.specs.Panel.{Panel, with_rack, is_running}
 use Rattle.sw_core.specs.Action.{Effect, TellsNumber, TellsText, TellsReadings, ReadsOut, SetsStatus, SetsUp, Closes, Opens, TellsRelays, Leaves}
 use Rattle.sw_core.specs.Action.{Resets, reset, Offers, Refuses, IsOfMacros, Initiates, Action, AtOnce, BetweenScans, AfterScan, action_of}
@@ -40,7 +40,7 @@ use Rattle.sw_core.specs.Event.{concluded, last_number, next_number}
 use Rattle.sw_core.specs.View.{WorkView, AskView, AskSession, AskInstall, AskEject, AskExternal, AskElapsed, AskFinished, AnswerView, SaysSession, SaysInstalled, SaysNotInstalled, SaysEjected, SaysNotEjected, SaysFailed, SaysBack, SaysWorn}
 use Rattle.sw_core.specs.Step.{StepClose, StepOpen, StepFlags, StepText, StepDone, StepSetting, StepRefused, StepReadings, StepAlone, StepEffect, StepHeld, StepAction, StepAdmitted, StepAttach, StepNew, IsServed, drops, shuts_out}
 use Rattle.sw_core.specs.Step.{session_told, work_of, outside_told, started_answer, StepHappens, RefusesScan, MayScan, snapshot_of, StepSnapshot, IsStarted, StepStart, StepJoin, StepJoined, StepSession, StepOutside, IsOut, IsReturned, StepFinished, Acts, acts_unnumbered, IsWorn, IsEvent, IsUnnumbered, Step}
-use Rattle.sw_core.specs.Run.{IsPlain}
+use Rattle.sw_core.specs.Run.{IsPlain, KeepsKey}
 use Rattle.sw_core.proofs.Same.{sets_once}
 use Rattle.sw_core.proofs.Going.{happens_once, returns_once, starts_once}
 
@@ -144,7 +144,6 @@ IsAlike a a' w w' q q' = (a ≡ a') × (w ≡ w') × (q ≡ q')
 
 plain_any : (a : SessionAnswer) (w w' : Option WorkView) → IsPlain (SaysSession a w) → IsPlain (SaysSession a w')
 plain_any (Refused e) w w' h = h
-plain_any (Lock code) w w' h = h
 plain_any a w w' h = tt
 
 -- a plain answer tells of no card's failure
@@ -300,14 +299,9 @@ join_once p f f' Full (Joined s) None None q q' h k = absurd (h.1 s.number k.1.f
 join_once p f f' Full Full None None q q' h k = (refl, refl, both p q q' h.2 k.2)
 join_once p f f' a a' w w' q q' h k = absurd (assumption (h, k))
 
--- what is plain tells of no error of a lock
-plain_sound : (a : SessionAnswer) → IsPlain (SaysSession a None) → IsSound a
-plain_sound (Lock code) n = n
-plain_sound a n = tt
-
-served_once : (p : Panel) (ask : SessionAsk) (f f' : Bool) (a a' : SessionAnswer) (q q' : Panel) → IsPlain (SaysSession a None) → IsPlain (SaysSession a' None) → IsServed p ask f a q → IsServed p ask f' a' q' → IsAlike a a' None None q q'
+served_once : (p : Panel) (ask : SessionAsk) (f f' : Bool) (a a' : SessionAnswer) (q q' : Panel) → FindsKey p.sessions ask a → FindsKey p.sessions ask a' → IsServed p ask f a q → IsServed p ask f' a' q' → IsAlike a a' None None q q'
 served_once p ask f f' a a' q q' n m h k =
-    let r = seat_once p.sessions ask a a' h.sessions k.sessions (plain_sound a n) (plain_sound a' m) h.served k.served in
+    let r = seat_once p.sessions ask a a' h.sessions k.sessions n m h.served k.served in
     (r.0, refl, h.after ∙ ap (λ (x : SessionsSeen). let y : Panel = record p { sessions = x } in y) r.1 ∙ sym k.after)
 
 -- an error is queued, and nothing else is answered
@@ -320,32 +314,32 @@ fault_none : (p : Panel) (sid : Sid) (e : ScpiError) (f : Bool) (a : SessionAnsw
 fault_none p sid e f (Done None) w q h = h
 fault_none p sid e f a w q h = h
 
-joined_once : (p : Panel) (ask : SessionAsk) (f f' : Bool) (a a' : SessionAnswer) (w w' : Option WorkView) (q q' : Panel) → IsPlain (SaysSession a None) → IsPlain (SaysSession a' None) → StepJoined p ask f a w q → StepJoined p ask f' a' w' q' → IsAlike a a' w w' q q'
-joined_once p (Ask.Fault sid e) f f' a a' None None q q' n m h k = fault_once p sid e f f' a a' q q' h k
-joined_once p (Ask.Fault sid e) f f' a a' (Some w) w' q q' n m h k = absurd (fault_none p sid e f a w q h)
-joined_once p (Ask.Fault sid e) f f' a a' None (Some w) q q' n m h k = absurd (fault_none p sid e f' a' w q' k)
-joined_once p (Ask.Unit sid command answered) f f' a a' w w' q q' n m h k = action_once (action_of answered command) p (Ask.Unit sid command answered) f f' a a' w w' q q' n m h k
-joined_once p (Ask.Bus sid) f f' a a' w w' q q' n m h k = happening_once p Bus TriggerIgnored f f' a a' w w' q q' n m h k
-joined_once p (Ask.Snapshot sid) f f' a a' None None q q' n m h k = let r = snapshot_once p f f' a a' q q' n m h k in (r.0, refl, r.1)
-joined_once p (Ask.Start sid plan) f f' a a' w w' q q' n m h k = start_once p plan f f' a a' w w' q q' n m h k
-joined_once p (Ask.Attached sid) f f' b b' None None q q' n m h k = served_once p (Ask.Attached sid) f f' b b' q q' n m h k
-joined_once p (Ask.Leave sid) f f' b b' None None q q' n m h k = served_once p (Ask.Leave sid) f f' b b' q q' n m h k
-joined_once p (Ask.Size sid size) f f' b b' None None q q' n m h k = served_once p (Ask.Size sid size) f f' b b' q q' n m h k
-joined_once p (Ask.MaxSize sid) f f' b b' None None q q' n m h k = served_once p (Ask.MaxSize sid) f f' b b' q q' n m h k
-joined_once p (Ask.Clear sid) f f' b b' None None q q' n m h k = served_once p (Ask.Clear sid) f f' b b' q q' n m h k
-joined_once p (Ask.Cleared sid) f f' b b' None None q q' n m h k = served_once p (Ask.Cleared sid) f f' b b' q q' n m h k
-joined_once p (Ask.Lock sid key) f f' b b' None None q q' n m h k = served_once p (Ask.Lock sid key) f f' b b' q q' n m h k
-joined_once p (Ask.Release sid) f f' b b' None None q q' n m h k = served_once p (Ask.Release sid) f f' b b' q q' n m h k
-joined_once p (Ask.LockInfo sid) f f' b b' None None q q' n m h k = served_once p (Ask.LockInfo sid) f f' b b' q q' n m h k
-joined_once p Ask.Join f f' a a' None None q q' n m h k = served_once p Ask.Join f f' a a' q q' n m h k
-joined_once p (Ask.Attach number) f f' a a' None None q q' n m h k = served_once p (Ask.Attach number) f f' a a' q q' n m h k
-joined_once p ask f f' a a' w w' q q' n m h k = absurd (assumption (h, k))
+joined_once : (p : Panel) (ask : SessionAsk) (f f' : Bool) (a a' : SessionAnswer) (w w' : Option WorkView) (q q' : Panel) → IsPlain (SaysSession a None) → IsPlain (SaysSession a' None) → FindsKey p.sessions ask a → FindsKey p.sessions ask a' → StepJoined p ask f a w q → StepJoined p ask f' a' w' q' → IsAlike a a' w w' q q'
+joined_once p (Ask.Fault sid e) f f' a a' None None q q' n m x y h k = fault_once p sid e f f' a a' q q' h k
+joined_once p (Ask.Fault sid e) f f' a a' (Some w) w' q q' n m x y h k = absurd (fault_none p sid e f a w q h)
+joined_once p (Ask.Fault sid e) f f' a a' None (Some w) q q' n m x y h k = absurd (fault_none p sid e f' a' w q' k)
+joined_once p (Ask.Unit sid command answered) f f' a a' w w' q q' n m x y h k = action_once (action_of answered command) p (Ask.Unit sid command answered) f f' a a' w w' q q' n m h k
+joined_once p (Ask.Bus sid) f f' a a' w w' q q' n m x y h k = happening_once p Bus TriggerIgnored f f' a a' w w' q q' n m h k
+joined_once p (Ask.Snapshot sid) f f' a a' None None q q' n m x y h k = let r = snapshot_once p f f' a a' q q' n m h k in (r.0, refl, r.1)
+joined_once p (Ask.Start sid plan) f f' a a' w w' q q' n m x y h k = start_once p plan f f' a a' w w' q q' n m h k
+joined_once p (Ask.Attached sid) f f' b b' None None q q' n m x y h k = served_once p (Ask.Attached sid) f f' b b' q q' x y h k
+joined_once p (Ask.Leave sid) f f' b b' None None q q' n m x y h k = served_once p (Ask.Leave sid) f f' b b' q q' x y h k
+joined_once p (Ask.Size sid size) f f' b b' None None q q' n m x y h k = served_once p (Ask.Size sid size) f f' b b' q q' x y h k
+joined_once p (Ask.MaxSize sid) f f' b b' None None q q' n m x y h k = served_once p (Ask.MaxSize sid) f f' b b' q q' x y h k
+joined_once p (Ask.Clear sid) f f' b b' None None q q' n m x y h k = served_once p (Ask.Clear sid) f f' b b' q q' x y h k
+joined_once p (Ask.Cleared sid) f f' b b' None None q q' n m x y h k = served_once p (Ask.Cleared sid) f f' b b' q q' x y h k
+joined_once p (Ask.Lock sid key) f f' b b' None None q q' n m x y h k = served_once p (Ask.Lock sid key) f f' b b' q q' x y h k
+joined_once p (Ask.Release sid) f f' b b' None None q q' n m x y h k = served_once p (Ask.Release sid) f f' b b' q q' x y h k
+joined_once p (Ask.LockInfo sid) f f' b b' None None q q' n m x y h k = served_once p (Ask.LockInfo sid) f f' b b' q q' x y h k
+joined_once p Ask.Join f f' a a' None None q q' n m x y h k = served_once p Ask.Join f f' a a' q q' x y h k
+joined_once p (Ask.Attach number) f f' a a' None None q q' n m x y h k = served_once p (Ask.Attach number) f f' a a' q q' x y h k
+joined_once p ask f f' a a' w w' q q' n m x y h k = absurd (assumption (h, k))
 
-admitted_once : (b o : Bool) (p : Panel) (ask : SessionAsk) (f f' : Bool) (a a' : SessionAnswer) (w w' : Option WorkView) (q q' : Panel) → IsPlain (SaysSession a None) → IsPlain (SaysSession a' None) → StepAdmitted b o p ask f a w q → StepAdmitted b o p ask f' a' w' q' → IsAlike a a' w w' q q'
-admitted_once true o p ask f f' Broken Broken None None q q' n m h k = (refl, refl, both p q q' h.1 k.1)
-admitted_once true o p ask f f' a a' w w' q q' n m h k = absurd (assumption (h, k))
-admitted_once false true p ask f f' a a' w w' q q' n m h k = held_once p ask f f' a a' w w' q q' h k
-admitted_once false false p ask f f' a a' w w' q q' n m h k = joined_once p ask f f' a a' w w' q q' n m h k
+admitted_once : (b o : Bool) (p : Panel) (ask : SessionAsk) (f f' : Bool) (a a' : SessionAnswer) (w w' : Option WorkView) (q q' : Panel) → IsPlain (SaysSession a None) → IsPlain (SaysSession a' None) → FindsKey p.sessions ask a → FindsKey p.sessions ask a' → StepAdmitted b o p ask f a w q → StepAdmitted b o p ask f' a' w' q' → IsAlike a a' w w' q q'
+admitted_once true o p ask f f' Broken Broken None None q q' n m x y h k = (refl, refl, both p q q' h.1 k.1)
+admitted_once true o p ask f f' a a' w w' q q' n m x y h k = absurd (assumption (h, k))
+admitted_once false true p ask f f' a a' w w' q q' n m x y h k = held_once p ask f f' a a' w w' q q' h k
+admitted_once false false p ask f f' a a' w w' q q' n m x y h k = joined_once p ask f f' a a' w w' q q' n m x y h k
 
 attach_once : (p : Panel) (number : ℕ) (f f' : Bool) (a a' : SessionAnswer) (w w' : Option WorkView) (q q' : Panel) → StepAttach p number f a w q → StepAttach p number f' a' w' q' → IsAlike a a' w w' q q'
 attach_once p number f f' (Joined s) (Joined t) None None q q' h k =
@@ -369,11 +363,11 @@ session_as : (p : Panel) (sid : Sid) (ask : SessionAsk) (f : Bool) (a : SessionA
 session_as p sid ask f Stranger None q h = inl (h.1, refl, refl, h.2)
 session_as p sid ask f a w q h = inr h
 
-session_once : (o : Option Sid) (p : Panel) (ask : SessionAsk) (f f' : Bool) (a a' : SessionAnswer) (w w' : Option WorkView) (q q' : Panel) → IsPlain (SaysSession a None) → IsPlain (SaysSession a' None) → StepSession o p ask f a w q → StepSession o p ask f' a' w' q' → IsAlike a a' w w' q q'
-session_once None p ask f f' a a' w w' q q' n m h k = new_once p ask f f' a a' w w' q q' h k
-session_once (Some sid) p ask f f' a a' w w' q q' n m h k = elim (session_as p sid ask f a w q h) [
+session_once : (o : Option Sid) (p : Panel) (ask : SessionAsk) (f f' : Bool) (a a' : SessionAnswer) (w w' : Option WorkView) (q q' : Panel) → IsPlain (SaysSession a None) → IsPlain (SaysSession a' None) → FindsKey p.sessions ask a → FindsKey p.sessions ask a' → StepSession o p ask f a w q → StepSession o p ask f' a' w' q' → IsAlike a a' w w' q q'
+session_once None p ask f f' a a' w w' q q' n m kx ky h k = new_once p ask f f' a a' w w' q q' h k
+session_once (Some sid) p ask f f' a a' w w' q q' n m kx ky h k = elim (session_as p sid ask f a w q h) [
   | inl x ↦ elim (session_as p sid ask f' a' w' q' k) [ inl y ↦ (x.1 ∙ sym y.1, x.2 ∙ sym y.2, both p q q' x.3 y.3) | inr y ↦ absurd (x.0 y.0) ]
-  | inr x ↦ elim (session_as p sid ask f' a' w' q' k) [ inl y ↦ absurd (y.0 x.0) | inr y ↦ admitted_once (drops p sid ask) (shuts_out p sid ask) p ask f f' a a' w w' q q' n m x.1 y.1 ]
+  | inr x ↦ elim (session_as p sid ask f' a' w' q' k) [ inl y ↦ absurd (y.0 x.0) | inr y ↦ admitted_once (drops p sid ask) (shuts_out p sid ask) p ask f f' a a' w w' q q' n m kx ky x.1 y.1 ]
 ]
 
 -- ---- what is no session's
@@ -460,28 +454,28 @@ eject_apart : (p : Panel) (slot : ℕ) (card : Account) (r : EjectRefusal) → s
 eject_apart p slot card Vacant home e h = rest_none p.cage.rack slot card e h.1
 eject_apart p slot card Out home e h = some_none (slot_at p.cage.out slot) h home
 
-acts_once : (p q q' : Panel) (ask : AskView) (f f' : Bool) (a a' : AnswerView) → Acts p ask f a q → Acts p ask f' a' q' → IsPlain a → IsPlain a' → (a ≡ a') × (q ≡ q')
-acts_once p q q' (AskSession ask) f f' (SaysSession a w) (SaysSession a' w') h k n m =
-    let r = session_once (asker_of ask) p ask f f' a a' w w' q q' (plain_any a w None n) (plain_any a' w' None m) h k in
+acts_once : (p q q' : Panel) (ask : AskView) (f f' : Bool) (a a' : AnswerView) → Acts p ask f a q → Acts p ask f' a' q' → IsPlain a → IsPlain a' → KeepsKey p ask a → KeepsKey p ask a' → (a ≡ a') × (q ≡ q')
+acts_once p q q' (AskSession ask) f f' (SaysSession a w) (SaysSession a' w') h k n m kx ky =
+    let r = session_once (asker_of ask) p ask f f' a a' w w' q q' (plain_any a w None n) (plain_any a' w' None m) kx ky h k in
     (ap (λ (x : SessionAnswer). SaysSession x w) r.0 ∙ ap (λ (x : Option WorkView). SaysSession a' x) r.1, r.2)
-acts_once p q q' (AskInstall slot card) f f' SaysInstalled SaysInstalled h k n m = (refl, h.4 ∙ sym k.4)
-acts_once p q q' (AskInstall slot card) f f' SaysInstalled (SaysNotInstalled r) h k n m = absurd (install_apart p slot card r h.1 h.2 h.3 k.1)
-acts_once p q q' (AskInstall slot card) f f' (SaysNotInstalled r) SaysInstalled h k n m = absurd (install_apart p slot card r k.1 k.2 k.3 h.1)
-acts_once p q q' (AskInstall slot card) f f' (SaysNotInstalled r) (SaysNotInstalled r') h k n m = (ap SaysNotInstalled (install_once p slot card r r' h.1 k.1), both p q q' h.2 k.2)
-acts_once p q q' (AskEject slot) f f' (SaysEjected c) (SaysEjected c') h k n m =
+acts_once p q q' (AskInstall slot card) f f' SaysInstalled SaysInstalled h k n m kx ky = (refl, h.4 ∙ sym k.4)
+acts_once p q q' (AskInstall slot card) f f' SaysInstalled (SaysNotInstalled r) h k n m kx ky = absurd (install_apart p slot card r h.1 h.2 h.3 k.1)
+acts_once p q q' (AskInstall slot card) f f' (SaysNotInstalled r) SaysInstalled h k n m kx ky = absurd (install_apart p slot card r k.1 k.2 k.3 h.1)
+acts_once p q q' (AskInstall slot card) f f' (SaysNotInstalled r) (SaysNotInstalled r') h k n m kx ky = (ap SaysNotInstalled (install_once p slot card r r' h.1 k.1), both p q q' h.2 k.2)
+acts_once p q q' (AskEject slot) f f' (SaysEjected c) (SaysEjected c') h k n m kx ky =
     let e : Some c ≡ Some c' = sym h.2 ∙ k.2 in
     (let d : c ≡ c' = cc in ap SaysEjected d, h.3 ∙ sym k.3)
-acts_once p q q' (AskEject slot) f f' (SaysEjected c) (SaysNotEjected r) h k n m = absurd (eject_apart p slot c r h.1 h.2 k.1)
-acts_once p q q' (AskEject slot) f f' (SaysNotEjected r) (SaysEjected c) h k n m = absurd (eject_apart p slot c r k.1 k.2 h.1)
-acts_once p q q' (AskEject slot) f f' (SaysNotEjected r) (SaysNotEjected r') h k n m = (ap SaysNotEjected (eject_once p slot r r' h.1 k.1), both p q q' h.2 k.2)
-acts_once p q q' AskExternal f f' a a' h k n m = outside_once p External f f' a a' q q' n m h k
-acts_once p q q' (AskElapsed ticket) f f' a a' h k n m = outside_once p (Elapsed ticket) f f' a a' q q' n m h k
-acts_once p q q' (AskFinished done) f f' a a' h k n m = finished_once p done f f' a a' q q' n m h k
-acts_once p q q' ask f f' a a' h k n m = absurd (assumption (h, k))
+acts_once p q q' (AskEject slot) f f' (SaysEjected c) (SaysNotEjected r) h k n m kx ky = absurd (eject_apart p slot c r h.1 h.2 k.1)
+acts_once p q q' (AskEject slot) f f' (SaysNotEjected r) (SaysEjected c) h k n m kx ky = absurd (eject_apart p slot c r k.1 k.2 h.1)
+acts_once p q q' (AskEject slot) f f' (SaysNotEjected r) (SaysNotEjected r') h k n m kx ky = (ap SaysNotEjected (eject_once p slot r r' h.1 k.1), both p q q' h.2 k.2)
+acts_once p q q' AskExternal f f' a a' h k n m kx ky = outside_once p External f f' a a' q q' n m h k
+acts_once p q q' (AskElapsed ticket) f f' a a' h k n m kx ky = outside_once p (Elapsed ticket) f f' a a' q q' n m h k
+acts_once p q q' (AskFinished done) f f' a a' h k n m kx ky = finished_once p done f f' a a' q q' n m h k
+acts_once p q q' ask f f' a a' h k n m kx ky = absurd (assumption (h, k))
 
-event_once : (p q q' : Panel) (ask : AskView) (f f' : Bool) (a a' : AnswerView) → IsEvent p ask f a q → IsEvent p ask f' a' q' → IsPlain a → IsPlain a' → (a ≡ a') × (q ≡ q')
-event_once p q q' ask f f' a a' h k n m =
-    let r = acts_once p h.done k.done ask f f' a a' h.acts k.acts n m in
+event_once : (p q q' : Panel) (ask : AskView) (f f' : Bool) (a a' : AnswerView) → IsEvent p ask f a q → IsEvent p ask f' a' q' → IsPlain a → IsPlain a' → KeepsKey p ask a → KeepsKey p ask a' → (a ≡ a') × (q ≡ q')
+event_once p q q' ask f f' a a' h k n m kx ky =
+    let r = acts_once p h.done k.done ask f f' a a' h.acts k.acts n m kx ky in
     (r.0, h.after ∙ ap (λ (x : Panel). concluded a x) r.1 ∙ ap (λ (b : AnswerView). concluded b k.done) r.0 ∙ sym k.after)
 
 worn_once : (ask : AskView) (a a' : AnswerView) → IsWorn ask a → IsWorn ask a' → a ≡ a'
@@ -493,9 +487,9 @@ worn_once (AskElapsed ticket) SaysWorn SaysWorn h k = refl
 worn_once (AskFinished done) SaysWorn SaysWorn h k = refl
 worn_once ask a a' h k = absurd (assumption (h, k))
 
-either_once : (b : Bool) (p q q' : Panel) (ask : AskView) (f f' : Bool) (a a' : AnswerView) → MatchBool b (IsUnnumbered p ask f a q) (IsEvent p ask f a q) → MatchBool b (IsUnnumbered p ask f' a' q') (IsEvent p ask f' a' q') → IsPlain a → IsPlain a' → (a ≡ a') × (q ≡ q')
-either_once true p q q' ask f f' a a' h k n m = (worn_once ask a a' h.worn k.worn, both p q q' h.same k.same)
-either_once false p q q' ask f f' a a' h k n m = event_once p q q' ask f f' a a' h k n m
+either_once : (b : Bool) (p q q' : Panel) (ask : AskView) (f f' : Bool) (a a' : AnswerView) → MatchBool b (IsUnnumbered p ask f a q) (IsEvent p ask f a q) → MatchBool b (IsUnnumbered p ask f' a' q') (IsEvent p ask f' a' q') → IsPlain a → IsPlain a' → KeepsKey p ask a → KeepsKey p ask a' → (a ≡ a') × (q ≡ q')
+either_once true p q q' ask f f' a a' h k n m kx ky = (worn_once ask a a' h.worn k.worn, both p q q' h.same k.same)
+either_once false p q q' ask f f' a a' h k n m kx ky = event_once p q q' ask f f' a a' h k n m kx ky
 
-pub step_once : (p q q' : Panel) (ask : AskView) (f f' : Bool) (a a' : AnswerView) → Step p ask f a q → Step p ask f' a' q' → IsPlain a → IsPlain a' → (a ≡ a') × (q ≡ q')
-step_once p q q' ask f f' a a' h k n m = either_once ((p.events == last_number) && not (acts_unnumbered ask)) p q q' ask f f' a a' h k n m
+pub step_once : (p q q' : Panel) (ask : AskView) (f f' : Bool) (a a' : AnswerView) → Step p ask f a q → Step p ask f' a' q' → IsPlain a → IsPlain a' → KeepsKey p ask a → KeepsKey p ask a' → (a ≡ a') × (q ≡ q')
+step_once p q q' ask f f' a a' h k n m kx ky = either_once ((p.events == last_number) && not (acts_unnumbered ask)) p q q' ask f f' a a' h k n m kx ky

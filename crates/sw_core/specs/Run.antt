@@ -10,12 +10,13 @@ use Rattle.sw_cage.specs.Change.{is_in}
 use Rattle.sw_lex.specs.declared.command.Command.TheVariants as Command
 use Rattle.sw_core.specs.declared.ask.Sid.{Sid}
 use Rattle.sw_core.specs.declared.ask.SessionAsk.TheVariants as Ask
-use Rattle.sw_core.specs.declared.ask.SessionAnswer.TheVariants.{Done, Refused, Lock}
+use Rattle.sw_core.specs.declared.ask.SessionAnswer.TheVariants.{Done, Refused}
 use Rattle.sw_status.specs.StatusModel.{queued}
 use Rattle.sw_core.specs.Event.{ended, erred}
 use Rattle.sw_cage.specs.Good.{IsGood}
 use Rattle.sw_core.specs.Panel.{Panel, opening_at, is_running, IsSafe}
 use Rattle.sw_core.specs.View.{AskView, AskSession, AskEject, AnswerView, SaysSession, SaysEjected, SaysFailed}
+use Rattle.sw_core.specs.Seats.{FindsKey}
 use Rattle.sw_core.specs.Step.{Step}
 
 -- one event: what was asked, whether a card failed in it, what was answered, and the state after it
@@ -71,13 +72,18 @@ pub record RelaysObey : Type 0 where
   -- an ejected card has no relay closed
   pub ejected : (p q : Panel) (slot : ℕ) (failed : Bool) (card : Account) → Step p (AskEject slot) failed (SaysEjected card) q → (k : ℕ) → closed_at card.closed k ≡ false
 
--- An answer that tells of no want of memory and of no card's failure. A lock that is an error may be for want of memory.
+-- an answer that tells of no want of memory and of no card's failure
 abbrev pub IsPlain : AnswerView → Type 0
 IsPlain (SaysSession (Refused e) work) = (e ≢ OutOfMemory) × (e ≢ HardwareError)
-IsPlain (SaysSession (Lock code) work) = code ≢ 3
 IsPlain SaysFailed = ⊥
 IsPlain answer = Unit {0}
 
+-- nor of a key of a lock that found no memory
+abbrev pub KeepsKey : Panel → AskView → AnswerView → Type 0
+KeepsKey p (AskSession ask) (SaysSession answer work) = FindsKey p.sessions ask answer
+KeepsKey p ask answer = Unit {0}
+
 -- Where memory suffices and no card fails, an ask has one answer and leaves one state.
 abbrev pub StepIsDetermined : Type 0
-StepIsDetermined = (p q q' : Panel) (ask : AskView) (f f' : Bool) (a a' : AnswerView) → Step p ask f a q → Step p ask f' a' q' → IsPlain a → IsPlain a' → (a ≡ a') × (q ≡ q')
+StepIsDetermined = (p q q' : Panel) (ask : AskView) (f f' : Bool) (a a' : AnswerView) → Step p ask f a q → Step p ask f' a' q' → IsPlain a → IsPlain a'
+    → KeepsKey p ask a → KeepsKey p ask a' → (a ≡ a') × (q ≡ q')

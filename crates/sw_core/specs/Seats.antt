@@ -1,7 +1,7 @@
 -- What a session asks of its seat and of the locks, and what it is answered (IVI-6.1 HiSLIP; what a clear drops is own).
 use Rattle.std.specs.Prelude.{◌≡◌, ℕ, ◌⊎◌, Bool, true, false, not, List, Option, None, Some, is_some}
 use Rattle.sw_base.specs.Layout.{slot_at}
-use Rattle.sw_hislip.specs.LockTable.{LockTable, Replies, holders, freed, released, left}
+use Rattle.sw_hislip.specs.LockTable.{LockTable, Replies, MayLackMemory, holders, freed, released, left}
 use Rattle.sw_hislip.specs.declared.locks.LockReply.TheVariants as Reply
 use Rattle.sw_hislip.specs.declared.locks.Released.{Released}
 use Rattle.sw_hislip.specs.declared.locks.Released.TheVariants as Freed
@@ -84,15 +84,22 @@ released_code Freed.Exclusive = 1
 released_code Freed.Shared = 2
 released_code Freed.Nothing = 3
 
--- a lock is granted, or the ask is an error
+-- A lock is granted, the ask is an error, or the key of a lock that is due found no memory.
 abbrev pub Locks : LockTable → ℕ → List ℕ → ℕ → LockTable → Type 0
-Locks l number key code m = ((code ≡ 1) × Replies l number key Reply.Granted m) ⊎ ((code ≡ 3) × Replies l number key Reply.Wrong m)
+Locks l number key code m =
+    ((code ≡ 1) × Replies l number key Reply.Granted m)
+    ⊎ (((code ≡ 3) × Replies l number key Reply.Wrong m) ⊎ ((code ≡ 3) × MayLackMemory l number key × (m ≡ l)))
 
 -- an ask for a lock: it is held where the lock is not to be had now
 abbrev pub StepLock : SessionsSeen → Sid → List ℕ → SessionAnswer → SessionsSeen → Type 0
 StepLock s sid key (Lock code) t = Locks s.locks sid.number key code t.locks × (t.seats ≡ s.seats)
 StepLock s sid key (Hold back) t = Replies s.locks sid.number key Reply.NotNow t.locks × (back ≡ Ask.Lock sid key) × (t ≡ s)
 StepLock s sid key answer t = ⊥
+
+-- The answer tells of no want of memory: a lock is no error while its key is due and may find none.
+abbrev pub FindsKey : SessionsSeen → SessionAsk → SessionAnswer → Type 0
+FindsKey s (Ask.Lock sid key) (Lock code) = code ≡ 3 → MayLackMemory s.locks sid.number key → ⊥
+FindsKey s ask answer = Unit {0}
 
 -- What a joined session asks of its seat or of the locks.
 abbrev pub StepSeat : SessionsSeen → SessionAsk → SessionAnswer → SessionsSeen → Type 0

@@ -177,9 +177,11 @@ impl Sessions {
         ensures { StepLock self.old sid key result self.new }
     {
         match self.locks.ask(alloc, sid.number, key.as_slice()) {
-            LockReply::Granted => SessionAnswer::Lock(1),
-            LockReply::NotNow => SessionAnswer::Hold(SessionAsk::Lock(sid, key)),
-            LockReply::Wrong => SessionAnswer::Lock(3),
+            Ok(LockReply::Granted) => SessionAnswer::Lock(1),
+            Ok(LockReply::NotNow) => SessionAnswer::Hold(SessionAsk::Lock(sid, key)),
+            Ok(LockReply::Wrong) => SessionAnswer::Lock(3),
+            // A key that finds no memory is answered as an error.
+            Err(_) => SessionAnswer::Lock(3),
         }
     }
 

@@ -3,15 +3,13 @@ use Rattle.std.proofs.Common.{◌≡◌, ℕ, zero, suc, ◌-◌, ◌<◌, true,
 use Rattle.std.specs.List.{list_all}
 use Rattle.std.proofs.lemmas.Bool.{cases_eq, cases_Bool, eq-eqb, ne_eqb, not-true, not-false, and_parts, and_from, or_cases, or_left, or_right, both_ways}
 use Rattle.std.proofs.lemmas.Slice.Eq.{bytes_eq-Decides}
-use Rattle.sw_hislip.specs.LockTable.{LockTable, key_of, shares, is_holder, nobody_shares, agrees, one_key, admits, grants, Replies, RepliesShared}
-use Rattle.sw_hislip.specs.declared.locks.LockReply.{LockReply}
-use Rattle.sw_hislip.specs.declared.locks.LockReply.TheVariants.{Granted, NotNow, Wrong}
+use Rattle.sw_hislip.specs.LockTable.{LockTable, key_of, shares, is_holder, nobody_shares, agrees, one_key, admits, is_wrong_key, grants, grants_shared, MayLackMemory}
 use Rattle.sw_hislip.specs.LockRules.{NobodyShares, NoOtherShares, AllHaveKey, Admits, Grants, AreRules}
 
 abbrev Keys : Type 0
 Keys = List (Option (List ℕ))
 
-alone : (e : Option ℕ) (sid : ℕ) → (not (is_some e && not (is_holder sid e)) ≡ true) ↔ ((other : ℕ) → e ≡ Some other → other ≡ sid)
+pub alone : (e : Option ℕ) (sid : ℕ) → (not (is_some e && not (is_holder sid e)) ≡ true) ↔ ((other : ℕ) → e ≡ Some other → other ≡ sid)
 alone None sid = (λ h other e. absurd cc, λ h. refl)
 alone (Some n) sid =
     elim (cases_eq n sid) [
@@ -51,7 +49,7 @@ place i = omega arith
 nobody : (l : LockTable) → length l.keys ≡ 16 → (nobody_shares l ≡ true) ↔ NobodyShares l
 nobody l n = (λ h other s. none_at l.keys (other - 1) h, λ h. none_all l.keys (λ i lt. ap (λ (j : ℕ). get_or l.keys j None) (sym (place i)) ∙ h (suc i) (omega arith, omega (arith, lt, n))))
 
-all_have : (l : LockTable) (key : List ℕ) → length l.keys ≡ 16 → (one_key l key ≡ true) ↔ AllHaveKey l key
+pub all_have : (l : LockTable) (key : List ℕ) → length l.keys ≡ 16 → (one_key l key ≡ true) ↔ AllHaveKey l key
 all_have l key n = (
   λ h other held s e. agree_at key l.keys (other - 1) held h e,
   λ h. agree_all key l.keys (λ i held lt e. h (suc i) held (omega arith, omega (arith, lt, n)) (ap (λ (j : ℕ). get_or l.keys j None) (place i) ∙ e)),
@@ -117,12 +115,10 @@ grants_is l sid (b ∷ key) n = (
   λ g. and_from _ _ ((alone l.exclusive sid).1 g.0) ((all_have l (b ∷ key) n).1 g.1),
 )
 
--- a key that is not empty
-pub replies_shared : (old new : LockTable) (sid : ℕ) (key : List ℕ) (reply : LockReply) → (0 < length key) → RepliesShared old sid key reply new → Replies old sid key reply new
-replies_shared old new sid [] reply some h = absurd (omega (arith, some))
-replies_shared old new sid (b ∷ key) Granted some h = h
-replies_shared old new sid (b ∷ key) NotNow some h = h
-replies_shared old new sid (b ∷ key) Wrong some h = h
+-- a key that is not empty asks for the shared lock
+pub lacks_shared : (l : LockTable) (sid : ℕ) (key : List ℕ) → 0 < length key → (is_wrong_key l sid key ≡ false) × (grants_shared l sid key ≡ true) → MayLackMemory l sid key
+lacks_shared l sid [] some h = absurd (omega (arith, some))
+lacks_shared l sid (b ∷ key) some h = h
 
 pub are_rules : (l : LockTable) (sid : ℕ) → length l.keys ≡ 16 → AreRules l sid
 are_rules l sid n = record { admitted = admits_is l sid n; granted = λ key. grants_is l sid key n }

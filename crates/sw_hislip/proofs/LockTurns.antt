@@ -1,11 +1,11 @@
 -- What holds of the locks at all times.
 use Rattle.std.proofs.Common.{◌≡◌, ℕ, ◌-◌, true, false, cond, is_some, List, [], ◌∷◌, length, Option, Some, None, refl, sym, ap, ◌∙◌, arith, inl, inr, subst}
-use Rattle.std.proofs.lemmas.Bool.{cases_eq, cases_Bool, eq-eqb, both_ways, cond-true, cond-false}
+use Rattle.std.proofs.lemmas.Bool.{cases_eq, cases_Bool, eq-eqb, and_parts, both_ways, cond-true, cond-false}
 use Rattle.std.proofs.lemmas.List.{get_or-set_same, get_or-set_other, length-set}
 use Rattle.sw_hislip.specs.declared.locks.LockReply.TheVariants.{Granted, NotNow, Wrong}
-use Rattle.sw_hislip.specs.LockTable.{LockTable, no_locks, key_of, shares, excludes, is_holder, with_key, without_exclusive, released, left, granted, grants}
-use Rattle.sw_hislip.specs.LockRules.{IsSession, NoOtherExcludes, AllHaveKey, Grants, Turn, asks, releases, leaves, Takes, LeadsTo, IsOrderly, StaysOrderly}
-use Rattle.sw_hislip.proofs.LockProofs.{are_rules, none_at}
+use Rattle.sw_hislip.specs.LockTable.{LockTable, no_locks, key_of, shares, excludes, is_holder, with_key, without_exclusive, released, left, granted, grants, grants_shared}
+use Rattle.sw_hislip.specs.LockRules.{IsSession, NoOtherExcludes, AllHaveKey, Grants, IsOrderly, LockTurn, asks, releases, leaves, KeepsOrder}
+use Rattle.sw_hislip.proofs.LockProofs.{alone, all_have, are_rules, none_at}
 
 some_is : (x : Option (List ℕ)) → is_some x ≡ true → (k : List ℕ) × (x ≡ Some k)
 some_is None h = absurd cc
@@ -69,11 +69,14 @@ grants_key l sid key s o alone all =
           ap (key_of new) (alone holder e) ∙ key_same l sid (Some key) o.sessions s ∙ ap Some (sym (has other k t own));
     }
 
+pub shares_orderly : (l : LockTable) (sid : ℕ) (key : List ℕ) → IsSession sid → IsOrderly l → grants_shared l sid key ≡ true → IsOrderly (with_key l sid (Some key))
+shares_orderly l sid key s o g =
+    let both = and_parts _ _ g in
+    grants_key l sid key s o ((alone l.exclusive sid).0 both.0) ((all_have l key o.sessions).0 both.1)
+
 grants_orderly : (l : LockTable) (sid : ℕ) (key : List ℕ) → IsSession sid → IsOrderly l → grants l sid key ≡ true → IsOrderly (granted l sid key)
 grants_orderly l sid [] s o g = grants_exclusive l sid s o (((are_rules l sid o.sessions).granted []).0 g)
-grants_orderly l sid (b ∷ key) s o g =
-    let rule = ((are_rules l sid o.sessions).granted (b ∷ key)).0 g in
-    grants_key l sid (b ∷ key) s o rule.0 rule.1
+grants_orderly l sid (b ∷ key) s o g = shares_orderly l sid (b ∷ key) s o g
 
 -- ---- a lock is freed
 
@@ -123,26 +126,19 @@ leave_orderly l sid s o =
           (frees_key l sid s o not_own)
     ]
 
--- ---- all turns
+-- ---- one step
 
-takes_orderly : (old new : LockTable) (turn : Turn) → IsOrderly old → Takes old turn new → IsOrderly new
-takes_orderly old new (asks sid key Granted) o (s, (right, grant, same)) = subst IsOrderly (sym same) (grants_orderly old sid key s o grant)
-takes_orderly old new (asks sid key NotNow) o (s, (right, not_now, same)) = subst IsOrderly (sym same) o
-takes_orderly old new (asks sid key Wrong) o (s, (why, same)) = subst IsOrderly (sym same) o
-takes_orderly old new (releases sid) o (s, same) = subst IsOrderly (sym same) (release_orderly old sid s o)
-takes_orderly old new (leaves sid) o (s, same) = subst IsOrderly (sym same) (leave_orderly old sid s o)
+pub step_orderly : (old new : LockTable) (turn : LockTurn) → KeepsOrder old turn new
+step_orderly old new (asks sid key Granted) o (s, (right, grant, same)) = subst IsOrderly (sym same) (grants_orderly old sid key s o grant)
+step_orderly old new (asks sid key NotNow) o (s, (right, not_now, same)) = subst IsOrderly (sym same) o
+step_orderly old new (asks sid key Wrong) o (s, (why, same)) = subst IsOrderly (sym same) o
+step_orderly old new (releases sid) o (s, same) = subst IsOrderly (sym same) (release_orderly old sid s o)
+step_orderly old new (leaves sid) o (s, same) = subst IsOrderly (sym same) (leave_orderly old sid s o)
 
-turns_orderly : (turns : List Turn) (old new : LockTable) → IsOrderly old → LeadsTo old turns new → IsOrderly new
-turns_orderly [] old new o t = subst IsOrderly (sym t) o
-turns_orderly (turn ∷ turns) old new o (after, takes, more) = turns_orderly turns after new (takes_orderly old after turn o takes) more
-
-at_first : IsOrderly no_locks
-at_first = record {
+pub first_orderly : IsOrderly no_locks
+first_orderly = record {
   sessions = refl;
   holder = λ sid e. absurd cc;
   one_key = λ a b j k s t p q. absurd (not_none (key_of no_locks a) j (none_at no_locks.keys (a - 1) refl) p);
   beside = λ holder other k e t own. absurd cc;
 }
-
-pub stays_orderly : (turns : List Turn) (l : LockTable) → StaysOrderly turns l
-stays_orderly turns l t = turns_orderly turns no_locks l at_first t

@@ -1,7 +1,7 @@
 -- The rules of locks in terms of the other sessions, and what holds of the locks at all times.
 use Rattle.std.specs.Prelude.{◌≡◌, ◌≢◌, ◌≤◌, ℕ, true, ◌⊎◌, ◌↔◌, List, [], ◌∷◌, length, None, Some}
 use Rattle.sw_hislip.specs.declared.locks.LockReply.{LockReply}
-use Rattle.sw_hislip.specs.LockTable.{LockTable, no_locks, key_of, shares, admits, grants, Replies, released, left}
+use Rattle.sw_hislip.specs.LockTable.{LockTable, key_of, shares, admits, grants, Replies, released, left}
 
 abbrev pub IsSession : ℕ → Type 0
 IsSession sid = (1 ≤ sid) × (sid ≤ 16)
@@ -34,23 +34,7 @@ pub record AreRules (l : LockTable) (sid : ℕ) : Type 0 where
   pub admitted : (admits l sid ≡ true) ↔ Admits l sid
   pub granted : (key : List ℕ) → (grants l sid key ≡ true) ↔ Grants l sid key
 
--- ---- all calls
-
--- what a session did: it asked by a key and was answered so, released, or left
-pub data Turn : Type 0 where
-  asks : ℕ → List ℕ → LockReply → Turn
-  releases : ℕ → Turn
-  leaves : ℕ → Turn
-
-abbrev pub Takes : LockTable → Turn → LockTable → Type 0
-Takes old (asks sid key reply) new = IsSession sid × Replies old sid key reply new
-Takes old (releases sid) new = IsSession sid × (new ≡ released old sid)
-Takes old (leaves sid) new = IsSession sid × (new ≡ left old sid)
-
--- the turns in this order lead from one table to another
-abbrev pub LeadsTo : LockTable → List Turn → LockTable → Type 0
-LeadsTo old [] new = new ≡ old
-LeadsTo old (turn ∷ turns) new = (after : LockTable) × Takes old turn after × LeadsTo after turns new
+-- ---- order
 
 -- What holds at all times: whoever holds the exclusive lock is a session; all that share a lock have one key; and beside
 -- the exclusive lock only those share one with whom its holder shares it.
@@ -60,5 +44,17 @@ pub record IsOrderly (l : LockTable) : Type 0 where
   pub one_key : (a b : ℕ) (j k : List ℕ) → IsSession a → IsSession b → key_of l a ≡ Some j → key_of l b ≡ Some k → j ≡ k
   pub beside : (holder other : ℕ) (k : List ℕ) → l.exclusive ≡ Some holder → IsSession other → key_of l other ≡ Some k → key_of l holder ≡ Some k
 
-abbrev pub StaysOrderly : List Turn → LockTable → Type 0
-StaysOrderly turns l = LeadsTo no_locks turns l → IsOrderly l
+-- what a session does: it asks by a key and is answered so, releases, or leaves
+pub data LockTurn : Type 0 where
+  asks : ℕ → List ℕ → LockReply → LockTurn
+  releases : ℕ → LockTurn
+  leaves : ℕ → LockTurn
+
+-- The turn leads from one table to the other. An ask that found no memory changes nothing, and is none.
+abbrev pub LockStep : LockTable → LockTurn → LockTable → Type 0
+LockStep old (asks sid key reply) new = IsSession sid × Replies old sid key reply new
+LockStep old (releases sid) new = IsSession sid × (new ≡ released old sid)
+LockStep old (leaves sid) new = IsSession sid × (new ≡ left old sid)
+
+abbrev pub KeepsOrder : LockTable → LockTurn → LockTable → Type 0
+KeepsOrder old turn new = IsOrderly old → LockStep old turn new → IsOrderly new

@@ -1,6 +1,6 @@
 -- The locks that are held, and the rules by which they are granted (IVI-6.1 HiSLIP, lock transaction; what is said to be
 -- own there is this project's choice).
-use Rattle.std.specs.Prelude.{◌≡◌, ℕ, zero, suc, ◌+◌, ◌-◌, Bool, true, false, not, ◌==◌, ◌&&◌, ◌||◌, nat_lt, ◌⊎◌, List, [], ◌∷◌, length, slice_set, slice_index_or, Option, None, Some, is_some, is_none, if◌then◌else◌}
+use Rattle.std.specs.Prelude.{◌≡◌, ℕ, zero, suc, ◌+◌, ◌-◌, Bool, true, false, not, ◌==◌, ◌&&◌, ◌||◌, nat_lt, List, [], ◌∷◌, length, slice_set, slice_index_or, Option, None, Some, is_some, is_none, if◌then◌else◌}
 use Rattle.std.specs.List.{list_all}
 use Rattle.std.specs.Str.{bytes_eq}
 use Rattle.sw_hislip.specs.declared.locks.LockReply.{LockReply}
@@ -89,22 +89,21 @@ abbrev pub granted : LockTable → ℕ → List ℕ → LockTable
 granted l sid [] = record { exclusive = Some sid; keys = l.keys }
 granted l sid (b ∷ key) = with_key l sid (Some (b ∷ key))
 
--- there was no memory for a key, of which an exclusive lock has none
-abbrev pub MayLackMemory : LockTable → ℕ → List ℕ → Type 0
-MayLackMemory l sid [] = ⊥
-MayLackMemory l sid (b ∷ key) = grants l sid (b ∷ key) ≡ true
+-- What is answered to an ask that is an error or not, and that is due or not; the locks before it, once it is granted, and
+-- after it. An error goes before a lock that is not due.
+abbrev pub RepliesBy : Bool → Bool → LockTable → LockTable → LockReply → LockTable → Type 0
+RepliesBy wrong due old after Granted new = (wrong ≡ false) × (due ≡ true) × (new ≡ after)
+RepliesBy wrong due old after NotNow new = (wrong ≡ false) × (due ≡ false) × (new ≡ old)
+RepliesBy wrong due old after Wrong new = (wrong ≡ true) × (new ≡ old)
 
 -- What is answered to an ask, and the locks after it.
 abbrev pub Replies : LockTable → ℕ → List ℕ → LockReply → LockTable → Type 0
-Replies old sid key Granted new = (is_wrong old sid key ≡ false) × (grants old sid key ≡ true) × (new ≡ granted old sid key)
-Replies old sid key NotNow new = (is_wrong old sid key ≡ false) × (grants old sid key ≡ false) × (new ≡ old)
-Replies old sid key Wrong new = ((is_wrong old sid key ≡ true) ⊎ MayLackMemory old sid key) × (new ≡ old)
+Replies old sid key reply new = RepliesBy (is_wrong old sid key) (grants old sid key) old (granted old sid key) reply new
 
--- the same of a key that is not empty
-abbrev pub RepliesShared : LockTable → ℕ → List ℕ → LockReply → LockTable → Type 0
-RepliesShared old sid key Granted new = (is_wrong_key old sid key ≡ false) × (grants_shared old sid key ≡ true) × (new ≡ with_key old sid (Some key))
-RepliesShared old sid key NotNow new = (is_wrong_key old sid key ≡ false) × (grants_shared old sid key ≡ false) × (new ≡ old)
-RepliesShared old sid key Wrong new = ((is_wrong_key old sid key ≡ true) ⊎ (grants_shared old sid key ≡ true)) × (new ≡ old)
+-- A shared lock is due, and its key may find no memory. An exclusive lock needs none.
+abbrev pub MayLackMemory : LockTable → ℕ → List ℕ → Type 0
+MayLackMemory l sid [] = ⊥
+MayLackMemory l sid (b ∷ key) = (is_wrong l sid (b ∷ key) ≡ false) × (grants l sid (b ∷ key) ≡ true)
 
 -- ---- freeing
 

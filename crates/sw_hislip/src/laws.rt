@@ -1,8 +1,8 @@
 //! What holds of every decoder, every stream and every table of locks.
 
 ghost use Rattle.std.specs.Prelude.{◌≡◌, ℕ, List, length};
-ghost use Rattle.sw_hislip.specs.LockTable.{LockTable};
-ghost use Rattle.sw_hislip.specs.LockRules.{Turn, AreRules, StaysOrderly};
+ghost use Rattle.sw_hislip.specs.LockTable.{LockTable, no_locks};
+ghost use Rattle.sw_hislip.specs.LockRules.{LockTurn, AreRules, IsOrderly, KeepsOrder};
 ghost use Rattle.sw_hislip.specs.declared.message.Message.{Message};
 ghost use Rattle.sw_hislip.specs.Pending.{Pending};
 ghost use Rattle.sw_hislip.specs.Stream.{Call, EveryMessageComesOut, OneStream, CutsDoNotMatter, WrongPrologueStays, ComesBack};
@@ -37,8 +37,9 @@ pub fn locks_keep_their_rules()
     ensures { (l : LockTable) (sid : ℕ) → length l.keys ≡ 16 → AreRules l sid }
 {}
 
-/// Whatever sessions ask, release and leave: all that share a lock have one key, and beside the exclusive lock only those
-/// share one with whom its holder shares it.
+/// Each turn of a session keeps the order of the locks: all that share one have one key, and beside the exclusive lock
+/// only those share one with whom its holder shares it. Where there are none they are in order.
 pub fn locks_stay_orderly()
-    ensures { (turns : List Turn) (l : LockTable) → StaysOrderly turns l }
+    ensures first { IsOrderly no_locks }
+    ensures step { (old new : LockTable) (turn : LockTurn) → KeepsOrder old turn new }
 {}

@@ -19,8 +19,6 @@ mod kind;
 mod laws;
 mod locks;
 mod message;
-#[cfg(test)]
-mod tests;
 
 pub use decoder::Decoder;
 pub use encoding::encode;

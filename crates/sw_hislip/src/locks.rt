@@ -1,10 +1,13 @@
 //! Who holds the locks of the instrument.
 
-ghost use Rattle.std.specs.Prelude.{◌≡◌, ◌≤◌, is_some, is_none, []};
+ghost use Rattle.std.specs.Prelude.{◌≡◌, ◌≤◌, true, false, is_some, is_none, [], Some, IfOk, OnErr};
 ghost use Rattle.std.specs.List.{list_all};
-ghost use Rattle.sw_hislip.specs.LockTable.{no_locks, agrees, shares, other_excludes, admits, excludes, holds, holders, Replies, RepliesShared, freed, released, left};
+ghost use Rattle.sw_hislip.specs.LockTable.{no_locks, agrees, shares, other_excludes, admits, excludes, holds, holders};
+ghost use Rattle.sw_hislip.specs.LockTable.{is_wrong_key, grants_shared, with_key, Replies, RepliesBy, MayLackMemory};
+ghost use Rattle.sw_hislip.specs.LockTable.{freed, released, left};
+ghost use Rattle.sw_hislip.specs.LockRules.{IsOrderly};
 
-use std::alloc::Global;
+use std::alloc::{AllocError, Global};
 use std::marker::Model;
 use sw_base::Sequence;
 
@@ -20,7 +23,7 @@ pub enum LockReply {
     Granted,
     /// Other sessions hold locks that forbid it now.
     NotNow,
-    /// The session holds such a lock already, the key is too long, or there is no memory for it.
+    /// The session holds such a lock already, or the key has more than 256 bytes.
     Wrong,
 }
 
@@ -49,6 +52,10 @@ impl Model for Locks {
     ghost Value = { LockTable };
 
     ghost view = { λ l. record { exclusive = l.exclusive; keys = l.keys } };
+
+    ghost use Rattle.sw_hislip.specs.LockRules.{IsOrderly};
+
+    ghost invariant = { λ l. IsOrderly (record { exclusive = l.exclusive; keys = l.keys }) };
 }
 
 impl Locks {
@@ -66,13 +73,16 @@ impl Locks {
     }
 
     /// A session asks for a lock: for the exclusive one by an empty key, else for the shared one by its key. `Wrong` goes
-    /// before `NotNow`, and want of memory for a key, which is `Wrong` too, after it. Only `Granted` changes anything.
-    pub fn ask(&mut self, alloc: Global, sid: u8, key: &[u8]) -> LockReply
+    /// before `NotNow`. Refused is only want of memory for the key of a shared lock that is due. Only `Granted` changes
+    /// anything.
+    pub fn ask(&mut self, alloc: Global, sid: u8, key: &[u8]) -> Result<LockReply, AllocError>
         requires { (1 ≤ sid) × (sid ≤ 16) }
-        ensures { Replies self.old sid key.now result self.new }
+        ensures replied { IfOk result (λ reply. Replies self.old sid key.now reply self.new) }
+        ensures due { OnErr result (MayLackMemory self.old sid key.now) }
+        ensures kept { OnErr result (self.new ≡ self.old) }
     {
         if key.is_empty() {
-            return self.ask_exclusive(sid);
+            return Ok(self.ask_exclusive(sid));
         }
         self.ask_shared(alloc, sid, key)
     }
@@ -97,7 +107,8 @@ impl Locks {
     /// Whether no lock of another session keeps the session out.
     pub fn admits(&self, sid: u8) -> bool
         requires { (1 ≤ sid) × (sid ≤ 16) }
-        ensures { result ≡ admits self.now sid }
+        ensures admitted { result ≡ admits self.now sid }
+        ensures orderly { IsOrderly self.now }
     {
         !self.other_excludes(sid) && (none_held(&self.keys) || self.shares(sid))
     }
@@ -107,6 +118,7 @@ impl Locks {
     pub fn info(&self) -> (bool, u8)
         ensures exclusive { result.0 ≡ is_some self.now.exclusive }
         ensures holders { result.1 ≡ holders self.now 16 }
+        ensures orderly { IsOrderly self.now }
     {
         let mut count = 0;
         for before in 0..SESSIONS {
@@ -144,23 +156,24 @@ impl Locks {
     }
 
     /// A session asks for the shared lock.
-    fn ask_shared(&mut self, alloc: Global, sid: u8, key: &[u8]) -> LockReply
+    fn ask_shared(&mut self, alloc: Global, sid: u8, key: &[u8]) -> Result<LockReply, AllocError>
         requires { (1 ≤ sid) × (sid ≤ 16) }
-        ensures { RepliesShared self.old sid key.now result self.new }
+        ensures replied { IfOk result (λ reply.
+            RepliesBy (is_wrong_key self.old sid key.now) (grants_shared self.old sid key.now)
+            self.old (with_key self.old sid (Some key.now)) reply self.new) }
+        ensures due { OnErr result
+            ((is_wrong_key self.old sid key.now ≡ false) × (grants_shared self.old sid key.now ≡ true)) }
+        ensures kept { OnErr result (self.new ≡ self.old) }
     {
         if key.len() > LONGEST_KEY || self.shares(sid) {
-            return LockReply::Wrong;
+            return Ok(LockReply::Wrong);
         }
         if self.other_excludes(sid) || !all_agree(&self.keys, key) {
-            return LockReply::NotNow;
+            return Ok(LockReply::NotNow);
         }
-        match Vec::from_slice(alloc, key) {
-            Err(_) => LockReply::Wrong,
-            Ok(key) => {
-                self.keys[(sid - 1) as usize] = Some(Sequence::new(key));
-                LockReply::Granted
-            }
-        }
+        let key = Vec::from_slice(alloc, key)?;
+        self.keys[(sid - 1) as usize] = Some(Sequence::new(key));
+        Ok(LockReply::Granted)
     }
 
     /// Whether the session holds the exclusive lock.

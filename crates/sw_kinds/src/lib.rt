@@ -13,8 +13,6 @@ mod coils;
 mod driver;
 mod flags;
 mod fuse;
-mod matrix;
-mod mux;
 mod row;
 mod sim;
 mod source;
@@ -23,11 +21,7 @@ mod volt;
 pub use driver::Driver;
 pub use flags::no_flags;
 pub use fuse::Fuse;
-pub use matrix::Matrix;
-pub use mux::Mux;
+pub use row::{Grouped, Matrix, Mux, Row, Ungrouped};
 pub use sim::{SimDriver, SimSource};
 pub use source::Source;
 pub use volt::Volt;
-
-#[cfg(test)]
-mod tests;

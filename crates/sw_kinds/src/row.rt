@@ -1,32 +1,48 @@
-//! A row of relays over a driver: the body that the kinds of relay cards share.
+//! A row of relays over a driver: the kinds of relay cards.
 
-ghost use Rattle.std.specs.Prelude.{◌≡◌, ℕ, ◌≤◌, ◌^◌, length, replicate, take, List, Bool, true, false, OnOk, OnErr, IsTrue};
-ghost use Rattle.sw_base.specs.Layout.{group_at, has_channel};
+ghost use Rattle.std.specs.Prelude.{◌≡◌, ℕ, ◌≤◌, replicate, take, true, false, OnOk, OnErr, IsTrue};
+ghost use Rattle.sw_base.specs.Layout.{has_channel};
+ghost use Rattle.sw_base.specs.Limits.{most_channels};
 ghost use Rattle.sw_card.specs.Account.{Account, relay_account, closed_at, with_set, at_rest};
 ghost use Rattle.sw_kinds.specs.Row.{HoldsDriven, counted};
 
 use crate::coils::Coils;
 use crate::driver::Driver;
 use crate::flags::no_flags;
-use std::marker::Model;
-use sw_card::CardFault;
+use std::marker::{Model, PhantomData};
+use sw_base::CHANNELS;
+use sw_card::{Board, CardFault, Relay};
 
-/// The most channels of a card.
-const MOST: usize = 99;
+/// How many flags a row keeps: one for each channel that a card may have.
+const FLAGS: usize = CHANNELS as usize;
 
-/// Relays of one group over a driver. Contracts see the driver and the card's account.
+/// Names a card whose channels are all in one exclusion group.
+pub enum Grouped {}
+
+/// Names a card whose channels are in no exclusion group.
+pub enum Ungrouped {}
+
+/// A card of 1 to 99 relays, all in one exclusion group.
+pub type Mux<D> = Row<D, Grouped>;
+
+/// A card of 1 to 99 relays in no exclusion group.
+pub type Matrix<D> = Row<D, Ungrouped>;
+
+/// A card of relays over a driver, in an exclusion group or in none. Contracts see the driver and the card's account.
 ///
-/// A channel counts as closed from before its coil is driven until it surely isn't.
-pub(crate) struct Row<D: Driver> {
+/// A channel counts as closed from before its coil is driven until it surely isn't. The card takes no memory. When it
+/// is dropped the driver's supply is cut.
+pub struct Row<D: Driver, K> {
     serial: u32,
     failures: u64,
     channels: u8,
     group: u8,
-    closed: [bool; MOST],
+    closed: [bool; FLAGS],
     coils: Coils<D>,
+    kind: PhantomData<K>,
 }
 
-impl<D: Driver> Model for Row<D> {
+impl<D: Driver, K> Model for Row<D, K> {
     ghost Value = { D × Account };
 
     ghost view = { λ r. (r.coils, relay_account r.serial r.failures (replicate r.channels r.group) (take r.channels r.closed)) };
@@ -34,7 +50,7 @@ impl<D: Driver> Model for Row<D> {
     ghost invariant = { λ r. HoldsDriven (D.driven r.coils) r.channels r.closed };
 }
 
-impl<D: Driver> Drop for Row<D> {
+impl<D: Driver, K> Drop for Row<D, K> {
     fn drop(self) {
         let Row {
             serial: _,
@@ -43,15 +59,38 @@ impl<D: Driver> Drop for Row<D> {
             group: _,
             closed: _,
             mut coils,
+            kind: _,
         } = self;
         coils.cut();
     }
 }
 
-impl<D: Driver> Row<D> {
-    /// A row whose supply is cut.
-    pub(crate) fn new(serial: u32, channels: u8, group: u8, driver: D) -> Self
-        requires { (1 ≤ channels) × (channels ≤ 99) }
+impl<D: Driver> Row<D, Grouped> {
+    /// A card with its driver's supply cut and so nothing closed. Group 0 is no group.
+    pub fn new(serial: u32, channels: u8, group: u8, driver: D) -> Self
+        requires { (1 ≤ channels) × (channels ≤ most_channels) }
+        ensures driver { D.cuts driver result.0 }
+        ensures account { result.1 ≡ relay_account serial 0 (replicate channels group) (replicate channels false) }
+    {
+        Row::at_rest(serial, channels, group, driver)
+    }
+}
+
+impl<D: Driver> Row<D, Ungrouped> {
+    /// A card with its driver's supply cut and so nothing closed.
+    pub fn new(serial: u32, channels: u8, driver: D) -> Self
+        requires { (1 ≤ channels) × (channels ≤ most_channels) }
+        ensures driver { D.cuts driver result.0 }
+        ensures account { result.1 ≡ relay_account serial 0 (replicate channels 0) (replicate channels false) }
+    {
+        Row::at_rest(serial, channels, 0, driver)
+    }
+}
+
+impl<D: Driver, K> Row<D, K> {
+    /// A card whose supply is cut.
+    fn at_rest(serial: u32, channels: u8, group: u8, driver: D) -> Self
+        requires { (1 ≤ channels) × (channels ≤ most_channels) }
         ensures driver { D.cuts driver result.0 }
         ensures account { result.1 ≡ relay_account serial 0 (replicate channels group) (replicate channels false) }
     {
@@ -62,49 +101,16 @@ impl<D: Driver> Row<D> {
             group,
             closed: no_flags(),
             coils: Coils::new(driver),
+            kind: PhantomData,
         }
     }
 
-    pub(crate) fn serial(&self) -> u32
-        ensures { result ≡ self.now.1.serial }
-    {
-        self.serial
-    }
-
-    pub(crate) fn failures(&self) -> u64
-        ensures { result ≡ self.now.1.failures }
-    {
-        self.failures
-    }
-
-    pub(crate) fn driver(&self) -> &D
+    /// The driver: every channel that it drives is closed by the card's account.
+    pub fn driver(&self) -> &D
         ensures driver { result.now ≡ self.now.0 }
         ensures held { (k : ℕ) → D.driven result.now k ≡ true → closed_at self.now.1.closed k ≡ true }
     {
         self.coils.driver()
-    }
-
-    pub(crate) fn channels(&self) -> u8
-        ensures groups { result ≡ length self.now.1.groups }
-        ensures closed { result ≡ length self.now.1.closed }
-    {
-        self.channels
-    }
-
-    pub(crate) fn group(&self, ch: u8) -> u8
-        ensures { result ≡ group_at self.now.1.groups ch }
-    {
-        if ch >= 1 && ch <= self.channels {
-            self.group
-        } else {
-            0
-        }
-    }
-
-    pub(crate) fn is_closed(&self, ch: u8) -> bool
-        ensures { result ≡ closed_at self.now.1.closed ch }
-    {
-        ch >= 1 && ch <= self.channels && self.closed[ch as usize - 1]
     }
 
     /// Asks the driver for a channel that counts as closed, and counts a fault.
@@ -121,9 +127,47 @@ impl<D: Driver> Row<D> {
         }
         outcome
     }
+}
 
-    pub(crate) fn close(&mut self, ch: u8) -> Result<(), CardFault>
+impl<D: Driver, K> Board for Row<D, K> {
+    ghost the_serial = { λ c. c.1.serial };
+
+    ghost failed = { λ c. c.1.failures };
+
+    fn serial(&self) -> u32 {
+        self.serial
+    }
+
+    fn failures(&self) -> u64 {
+        self.failures
+    }
+}
+
+impl<D: Driver, K> Relay for Row<D, K> {
+    ghost groups = { λ c. c.1.groups };
+
+    ghost closed = { λ c. c.1.closed };
+
+    fn channels(&self) -> u8 {
+        self.channels
+    }
+
+    fn group(&self, ch: u8) -> u8 {
+        if ch >= 1 && ch <= self.channels {
+            self.group
+        } else {
+            0
+        }
+    }
+
+    fn is_closed(&self, ch: u8) -> bool {
+        ch >= 1 && ch <= self.channels && self.closed[ch as usize - 1]
+    }
+
+    /// Fails exactly where the driver does; the channel then counts as closed.
+    fn close(&mut self, ch: u8) -> Result<(), CardFault>
         requires present { IsTrue (has_channel self.old.1.groups ch) }
+        requires open { closed_at self.old.1.closed ch ≡ false }
         ensures driver { D.drives self.old.0 ch true result self.new.0 }
         ensures ok { OnOk result (self.new.1 ≡ with_set self.old.1 ch true) }
         ensures err { OnErr result (self.new.1 ≡ counted (with_set self.old.1 ch true)) }
@@ -132,7 +176,8 @@ impl<D: Driver> Row<D> {
         self.drive(ch, true)
     }
 
-    pub(crate) fn open(&mut self, ch: u8) -> Result<(), CardFault>
+    /// Fails exactly where the driver does; the channel then counts as closed still.
+    fn open(&mut self, ch: u8) -> Result<(), CardFault>
         requires { closed_at self.old.1.closed ch ≡ true }
         ensures driver { D.drives self.old.0 ch false result self.new.0 }
         ensures ok { OnOk result (self.new.1 ≡ with_set self.old.1 ch false) }
@@ -143,7 +188,8 @@ impl<D: Driver> Row<D> {
         Ok(())
     }
 
-    pub(crate) fn open_all(&mut self)
+    /// Cuts the driver's supply.
+    fn open_all(&mut self)
         ensures driver { D.cuts self.old.0 self.new.0 }
         ensures account { self.new.1 ≡ at_rest self.old.1 }
     {

@@ -2,22 +2,21 @@
 use Rattle.std.proofs.Common.{◌≡◌, ℕ, Bool, true, false, not, List, [], ◌∷◌, refl, sym, ap, subst, ◌∙◌, inl, inr, IsTrue}
 use Rattle.std.specs.Prelude.{◌==◌, ◌&&◌, ◌||◌}
 use Rattle.std.proofs.lemmas.Bool.{and_parts, eq-eqb, eqb-true, cases_Bool}
-use Rattle.sw_lex.specs.Table.{rows as all_rows, from_common_rows, from_common_status_rows, from_macro_rows, from_arm_rows, from_initiate_rows, from_trigger_rows, from_route_rows, from_operation_rows, from_questionable_rows, from_system_rows, from_diagnostic_rows, from_fetch_rows}
+use Rattle.sw_lex.specs.Table.{Entry, table, entries}
 use Rattle.sw_lex.specs.declared.table.Key.{Key}
-use Rattle.sw_lex.specs.declared.table.Row.{Row}
 use Rattle.sw_lex.specs.Found.{IsIn, Spelling, spellings, IsFound}
 use Rattle.sw_lex.proofs.Spelled.{all_short, all_fit}
 use Rattle.sw_lex.specs.Apart.{same_word, same_words, lacks_words, disjoint, one_number, numbers_agree, same_bool, apart_from, all_apart}
 
-pub rows_apart : all_apart all_rows ≡ true
-unfolding from_common_rows from_common_status_rows from_macro_rows from_arm_rows from_initiate_rows from_trigger_rows from_route_rows from_operation_rows from_questionable_rows from_system_rows from_diagnostic_rows from_fetch_rows
-rows_apart = refl
+pub entries_apart : all_apart entries ≡ true
+unfolding table entries
+entries_apart = refl
 
-same_word-refl : (x : List ℕ) → same_word x x ≡ true
+pub same_word-refl : (x : List ℕ) → same_word x x ≡ true
 same_word-refl [] = refl
 same_word-refl (b ∷ x) = rw (eq-eqb b b refl) (same_word-refl x)
 
-same_eq : (x y : List ℕ) → same_word x y ≡ true → x ≡ y
+pub same_eq : (x y : List ℕ) → same_word x y ≡ true → x ≡ y
 same_eq [] [] h = refl
 same_eq [] (y ∷ ys) h = absurd (let z : false ≡ true = h in cc)
 same_eq (x ∷ xs) [] h = absurd (let z : false ≡ true = h in cc)
@@ -95,43 +94,52 @@ agree ws k m (s ∷ ss) t h g =
       ]
     ]
 
-apart_at : (r q : Row) (rows : List Row) → apart_from r rows ≡ true → IsIn q rows → r.query ≡ q.query → disjoint (spellings r.steps) (spellings q.steps) ≡ true
+apart_at : (r q : Entry) (es : List Entry) → apart_from r es ≡ true → IsIn q es → r.query ≡ q.query → disjoint (spellings r.nodes) (spellings q.nodes) ≡ true
 apart_at r q [] t h e = absurd h
-apart_at r q (x ∷ rows) t h e =
-    let p = and_parts (not (same_bool r.query x.query) || disjoint (spellings r.steps) (spellings x.steps)) (apart_from r rows) t in
+apart_at r q (x ∷ es) t h e =
+    let p = and_parts (not (same_bool r.query x.query) || disjoint (spellings r.nodes) (spellings x.nodes)) (apart_from r es) t in
     elim h [
       | inl i ↦
-          let b : same_bool r.query x.query ≡ true = subst (λ (y : Bool). same_bool r.query y ≡ true) (e ∙ ap (λ (y : Row). y.query) i) (same_bool-refl r.query) in
-          let z : disjoint (spellings r.steps) (spellings x.steps) ≡ true = rw b at p.0 in
-          subst (λ (y : Row). disjoint (spellings r.steps) (spellings y.steps) ≡ true) (sym i) z
-      | inr i ↦ apart_at r q rows p.1 i e
+          let b : same_bool r.query x.query ≡ true =
+          subst (λ (y : Bool). same_bool r.query y ≡ true) (e ∙ ap (λ (y : Entry). y.query) i) (same_bool-refl r.query) in
+          let z : disjoint (spellings r.nodes) (spellings x.nodes) ≡ true = rw b at p.0 in
+          subst (λ (y : Entry). disjoint (spellings r.nodes) (spellings y.nodes) ≡ true) (sym i) z
+      | inr i ↦ apart_at r q es p.1 i e
     ]
 
-one_row : (rows : List Row) → all_apart rows ≡ true → (r q : Row) (ws : List (List ℕ)) (k m : ℕ) → IsIn r rows → IsIn q rows → r.query ≡ q.query → IsIn (ws, k) (spellings r.steps) → IsIn (ws, m) (spellings q.steps) → (r.key ≡ q.key) × (k ≡ m)
-one_row [] t r q ws k m h g e a b = absurd h
-one_row (x ∷ rows) t r q ws k m h g e a b =
-    let p = and_parts (apart_from x rows) (numbers_agree (spellings x.steps) && all_apart rows) t in
-    let s = and_parts (numbers_agree (spellings x.steps)) (all_apart rows) p.1 in
+one_entry : (es : List Entry) → all_apart es ≡ true → (r q : Entry) (ws : List (List ℕ)) (k m : ℕ) → IsIn r es → IsIn q es → r.query ≡ q.query
+    → IsIn (ws, k) (spellings r.nodes) → IsIn (ws, m) (spellings q.nodes) → (r.key ≡ q.key) × (k ≡ m)
+one_entry [] t r q ws k m h g e a b = absurd h
+one_entry (x ∷ es) t r q ws k m h g e a b =
+    let p = and_parts (apart_from x es) (numbers_agree (spellings x.nodes) && all_apart es) t in
+    let s = and_parts (numbers_agree (spellings x.nodes)) (all_apart es) p.1 in
     elim h [
       | inl i ↦ elim g [
-        | inl j ↦ (ap (λ (y : Row). y.key) (i ∙ sym j), agree ws k m (spellings x.steps) s.0 (subst (λ (y : Row). IsIn (ws, k) (spellings y.steps)) i a) (subst (λ (y : Row). IsIn (ws, m) (spellings y.steps)) j b))
-        | inr j ↦ absurd (disjoint_not ws k m (spellings x.steps) (spellings q.steps) (apart_at x q rows p.0 j (ap (λ (y : Row). y.query) (sym i) ∙ e)) (subst (λ (y : Row). IsIn (ws, k) (spellings y.steps)) i a) b)
+        | inl j ↦ (
+          ap (λ (y : Entry). y.key) (i ∙ sym j),
+          agree ws k m (spellings x.nodes) s.0 (subst (λ (y : Entry). IsIn (ws, k) (spellings y.nodes)) i a)
+              (subst (λ (y : Entry). IsIn (ws, m) (spellings y.nodes)) j b),
+        )
+        | inr j ↦ absurd (disjoint_not ws k m (spellings x.nodes) (spellings q.nodes) (apart_at x q es p.0 j (ap (λ (y : Entry). y.query) (sym i) ∙ e))
+            (subst (λ (y : Entry). IsIn (ws, k) (spellings y.nodes)) i a) b)
       ]
       | inr i ↦ elim g [
-        | inl j ↦ absurd (disjoint_not ws m k (spellings x.steps) (spellings r.steps) (apart_at x r rows p.0 i (ap (λ (y : Row). y.query) (sym j) ∙ sym e)) (subst (λ (y : Row). IsIn (ws, m) (spellings y.steps)) j b) a)
-        | inr j ↦ one_row rows s.1 r q ws k m i j e a b
+        | inl j ↦ absurd (disjoint_not ws m k (spellings x.nodes) (spellings r.nodes) (apart_at x r es p.0 i (ap (λ (y : Entry). y.query) (sym j) ∙ sym e))
+            (subst (λ (y : Entry). IsIn (ws, m) (spellings y.nodes)) j b) a)
+        | inr j ↦ one_entry es s.1 r q ws k m i j e a b
       ]
     ]
 
-pub one_found : (rows : List Row) → all_apart rows ≡ true → (ws : List (List ℕ)) (query : Bool) (key other : Key) (k m : ℕ) → IsFound rows ws query key k → IsFound rows ws query other m → (key ≡ other) × (k ≡ m)
-one_found rows t ws query key other k m f g =
-    let r = one_row rows t f.row g.row ws k m f.listed g.listed (f.query_is ∙ sym g.query_is) f.spelled g.spelled in
+pub one_found : (es : List Entry) → all_apart es ≡ true → (ws : List (List ℕ)) (query : Bool) (key other : Key) (k m : ℕ) → IsFound es ws query key k
+    → IsFound es ws query other m → (key ≡ other) × (k ≡ m)
+one_found es t ws query key other k m f g =
+    let r = one_entry es t f.entry g.entry ws k m f.listed g.listed (f.query_is ∙ sym g.query_is) f.spelled g.spelled in
     (sym f.key_is ∙ r.0 ∙ g.key_is, r.1)
 
-pub rows_short : all_short all_rows ≡ true
-unfolding from_common_rows from_common_status_rows from_macro_rows from_arm_rows from_initiate_rows from_trigger_rows from_route_rows from_operation_rows from_questionable_rows from_system_rows from_diagnostic_rows from_fetch_rows
-rows_short = refl
+pub entries_short : all_short entries ≡ true
+unfolding table entries
+entries_short = refl
 
-pub rows_fit : all_fit all_rows ≡ true
-unfolding from_common_rows from_common_status_rows from_macro_rows from_arm_rows from_initiate_rows from_trigger_rows from_route_rows from_operation_rows from_questionable_rows from_system_rows from_diagnostic_rows from_fetch_rows
-rows_fit = refl
+pub entries_fit : all_fit entries ≡ true
+unfolding table entries
+entries_fit = refl

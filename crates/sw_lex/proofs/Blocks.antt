@@ -10,7 +10,8 @@ use Rattle.sw_base.proofs.Rounding.{value_lt}
 use Rattle.sw_lex.proofs.Shorter.{longer}
 use Rattle.sw_lex.proofs.Units.{front_of, rest_of}
 
-pub block_at : (w : ℕ) (others bytes rest : List ℕ) (b : IsBlock (35 ∷ w ∷ others) bytes rest) → (w ≡ 48 + length b.digits) × (others ≡ b.digits ++ (bytes ++ rest))
+pub block_at : (w : ℕ) (others bytes rest : List ℕ) (b : IsBlock (35 ∷ w ∷ others) bytes rest)
+    → (w ≡ 48 + length b.digits) × (others ≡ b.digits ++ (bytes ++ rest))
 block_at w others bytes rest b =
     let e : 35 ∷ w ∷ others ≡ 35 ∷ (48 + length b.digits) ∷ (b.digits ++ (bytes ++ rest)) = b.whole in
     let f : w ∷ others ≡ (48 + length b.digits) ∷ (b.digits ++ (bytes ++ rest)) = cc in
@@ -28,8 +29,10 @@ one_block text c d a b p q =
     let n : 48 + length p.digits ≡ 48 + length q.digits = cc in
     let g : p.digits ++ (c ++ a) ≡ q.digits ++ (d ++ b) = cc in
     let m : length q.digits ≡ length p.digits = omega (arith, n) in
-    let ds : p.digits ≡ q.digits = sym (front_of (p.digits ++ (c ++ a)) p.digits (c ++ a) (length p.digits) refl refl) ∙ front_of (p.digits ++ (c ++ a)) q.digits (d ++ b) (length p.digits) g m in
-    let h : c ++ a ≡ d ++ b = sym (rest_of (p.digits ++ (c ++ a)) p.digits (c ++ a) (length p.digits) refl refl) ∙ rest_of (p.digits ++ (c ++ a)) q.digits (d ++ b) (length p.digits) g m in
+    let ds : p.digits ≡ q.digits = sym (front_of (p.digits ++ (c ++ a)) p.digits (c ++ a) (length p.digits) refl refl)
+    ∙ front_of (p.digits ++ (c ++ a)) q.digits (d ++ b) (length p.digits) g m in
+    let h : c ++ a ≡ d ++ b = sym (rest_of (p.digits ++ (c ++ a)) p.digits (c ++ a) (length p.digits) refl refl)
+    ∙ rest_of (p.digits ++ (c ++ a)) q.digits (d ++ b) (length p.digits) g m in
     let l : length d ≡ length c = q.counted ∙ ap (λ (t : List ℕ). value_of t) (sym ds) ∙ sym p.counted in (
       sym (front_of (c ++ a) c a (length c) refl refl) ∙ front_of (c ++ a) d b (length c) h l,
       sym (rest_of (c ++ a) c a (length c) refl refl) ∙ rest_of (c ++ a) d b (length c) h l,
@@ -46,13 +49,15 @@ block_tail text bytes rest b = (
 pub too_short : (text : List ℕ) (width : ℕ) → length text < width → (digits bytes rest : List ℕ) → length digits ≡ width → text ≡ digits ++ (bytes ++ rest) → ⊥
 too_short text width l digits bytes rest n e = omega (arith, l, n, longer text digits (bytes ++ rest) e)
 
-pub not_digits : (text : List ℕ) (width : ℕ) (front others : List ℕ) → Spans is_digit (take width text) front others → 0 < length others → (digits bytes rest : List ℕ) → AllPass is_digit digits → length digits ≡ width → text ≡ digits ++ (bytes ++ rest) → ⊥
+pub not_digits : (text : List ℕ) (width : ℕ) (front others : List ℕ) → Spans is_digit (take width text) front others → 0 < length others
+    → (digits bytes rest : List ℕ) → AllPass is_digit digits → length digits ≡ width → text ≡ digits ++ (bytes ++ rest) → ⊥
 not_digits text width front others s l digits bytes rest a n e =
     let t : take width text ≡ digits = front_of text digits (bytes ++ rest) width e n in
     let r = one_span is_digit (take width text) front others digits [] s (record { whole = t ∙ sym (append-nil digits); pass = a; off = tt }) in
     omega (arith, l, ap (λ (x : List ℕ). length x) r.1)
 
-pub few_bytes : (text : List ℕ) (width : ℕ) → length (drop width text) < value_of (take width text) → (digits bytes rest : List ℕ) → length digits ≡ width → length bytes ≡ value_of digits → text ≡ digits ++ (bytes ++ rest) → ⊥
+pub few_bytes : (text : List ℕ) (width : ℕ) → length (drop width text) < value_of (take width text) → (digits bytes rest : List ℕ) → length digits ≡ width
+    → length bytes ≡ value_of digits → text ≡ digits ++ (bytes ++ rest) → ⊥
 few_bytes text width l digits bytes rest n m e =
     let t : take width text ≡ digits = front_of text digits (bytes ++ rest) width e n in
     let d : drop width text ≡ bytes ++ rest = rest_of text digits (bytes ++ rest) width e n in

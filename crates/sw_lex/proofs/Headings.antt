@@ -7,7 +7,8 @@ use Rattle.sw_base.specs.Text.{is_letter, is_word, AllPass, StartsOff}
 use Rattle.sw_base.proofs.Runs.{AllPass-append, AllPass-weaker, same_span}
 use Rattle.sw_base.specs.declared.error.ScpiError.{ScpiError}
 use Rattle.sw_base.specs.declared.error.ScpiError.TheVariants.{SyntaxError}
-use Rattle.sw_lex.specs.Unit.{Heading, common, path, heading_text, IsHeading, IsName, IsMnemonic, IsPath, colons, Asks, Heads, BreaksOff, HasNoHeading, fault_at}
+use Rattle.sw_lex.specs.Unit.{Heading, common, path, heading_text, IsHeading, IsName, IsMnemonic, IsPath, colons, Asks, Heads, BreaksOff, HasNoHeading}
+use Rattle.sw_lex.specs.Unit.{fault_at}
 use Rattle.sw_lex.proofs.Shorter.{longer, heading_some}
 
 -- one byte can't pass a test and fail it
@@ -35,11 +36,16 @@ words_of (b ∷ bs) h = (letter-word b h.0, h.1)
 colons_node : (ms : List (List ℕ)) → AllByRecursion IsMnemonic ms → AllPass is_node (colons ms)
 colons_node [] a = tt
 colons_node (m ∷ ms) a =
-    AllPass-append is_node (m ++ 58 ∷ []) (colons ms) (AllPass-append is_node m (58 ∷ []) (AllPass-weaker is_word is_node word-node m (words_of m a.0)) (refl, tt)) (colons_node ms a.1)
+    AllPass-append is_node (m ++ 58 ∷ []) (colons ms) (AllPass-append is_node m (58 ∷ []) (AllPass-weaker is_word is_node word-node m (words_of m a.0)) (
+      refl,
+      tt,
+    )) (colons_node ms a.1)
 
 path_node : (t : List ℕ) → IsPath t → AllPass is_node t
 path_node t p =
-    subst (λ (x : List ℕ). AllPass is_node x) (sym p.whole) (AllPass-append is_node (colons p.nodes) p.last (colons_node p.nodes p.each) (AllPass-weaker is_word is_node word-node p.last (words_of p.last p.last_one)))
+    subst (λ (x : List ℕ). AllPass is_node x) (sym p.whole)
+    (AllPass-append is_node (colons p.nodes) p.last (colons_node p.nodes p.each)
+    (AllPass-weaker is_word is_node word-node p.last (words_of p.last p.last_one)))
 
 off_node : (a : List ℕ) → StartsOff is_word a → StartsOff (λ b. b == 58) a → StartsOff is_node a
 off_node [] h k = tt
@@ -56,7 +62,8 @@ First (common t) b = b ≡ 42
 First (path true t) b = b ≡ 58
 First (path false t) b = is_letter b ≡ true
 
-path_first : (ms : List (List ℕ)) (last x : List ℕ) (b : ℕ) (more : List ℕ) → AllByRecursion IsMnemonic ms → IsMnemonic last → b ∷ more ≡ (colons ms ++ last) ++ x → is_letter b ≡ true
+path_first : (ms : List (List ℕ)) (last x : List ℕ) (b : ℕ) (more : List ℕ) → AllByRecursion IsMnemonic ms → IsMnemonic last
+    → b ∷ more ≡ (colons ms ++ last) ++ x → is_letter b ≡ true
 path_first [] [] x b more a h e = absurd h
 path_first [] (c ∷ cs) x b more a h e = let k : b ≡ c = cc in subst (λ (y : ℕ). is_letter y ≡ true) (sym k) h.0
 path_first ([] ∷ ms) last x b more a h e = absurd a.0
@@ -72,7 +79,8 @@ first_of (path false t) after b more i e = path_first i.nodes i.last after b mor
 star_first : (t name x : List ℕ) → t ≡ 42 ∷ name → t ++ x ≡ 42 ∷ (name ++ x)
 star_first t name x e = ap (λ (y : List ℕ). y ++ x) e
 
-one_common : (t u a b : List ℕ) → IsHeading (common t) → IsHeading (common u) → StartsOff is_letter a → StartsOff is_letter b → t ++ a ≡ u ++ b → (common t ≡ common u) × (a ≡ b)
+one_common : (t u a b : List ℕ) → IsHeading (common t) → IsHeading (common u) → StartsOff is_letter a → StartsOff is_letter b → t ++ a ≡ u ++ b
+    → (common t ≡ common u) × (a ≡ b)
 one_common t u a b p q o n e =
     let f : 42 ∷ (p.0 ++ a) ≡ 42 ∷ (q.0 ++ b) = sym (star_first t p.0 a p.2) ∙ e ∙ star_first u q.0 b q.2 in
     let g : p.0 ++ a ≡ q.0 ++ b = cc in
@@ -87,12 +95,20 @@ one_path l t u a b p q o n e =
 
 one_form : (h k : Heading) (a b : List ℕ) (c : ℕ) (more : List ℕ) → Heads (c ∷ more) h a → Heads (c ∷ more) k b → (h ≡ k) × (a ≡ b)
 one_form (common t) (common u) a b c more p q = one_common t u a b p.form q.form p.far q.far (sym p.whole ∙ q.whole)
-one_form (common t) (path true u) a b c more p q = absurd (let x : c ≡ 42 = first_of (common t) a c more p.form p.whole in let y : c ≡ 58 = first_of (path true u) b c more q.form q.whole in equal_not 42 58 (sym x ∙ y) refl)
-one_form (common t) (path false u) a b c more p q = absurd (let x : c ≡ 42 = first_of (common t) a c more p.form p.whole in not_both is_letter c 42 x (first_of (path false u) b c more q.form q.whole) refl)
-one_form (path true t) (common u) a b c more p q = absurd (let x : c ≡ 58 = first_of (path true t) a c more p.form p.whole in let y : c ≡ 42 = first_of (common u) b c more q.form q.whole in equal_not 42 58 (sym y ∙ x) refl)
-one_form (path false t) (common u) a b c more p q = absurd (let x : c ≡ 42 = first_of (common u) b c more q.form q.whole in not_both is_letter c 42 x (first_of (path false t) a c more p.form p.whole) refl)
-one_form (path true t) (path false u) a b c more p q = absurd (let x : c ≡ 58 = first_of (path true t) a c more p.form p.whole in not_both is_letter c 58 x (first_of (path false u) b c more q.form q.whole) refl)
-one_form (path false t) (path true u) a b c more p q = absurd (let x : c ≡ 58 = first_of (path true u) b c more q.form q.whole in not_both is_letter c 58 x (first_of (path false t) a c more p.form p.whole) refl)
+one_form (common t) (path true u) a b c more p q =
+    absurd (let x : c ≡ 42 = first_of (common t) a c more p.form p.whole in let y : c ≡ 58 = first_of (path true u) b c more q.form q.whole in
+    equal_not 42 58 (sym x ∙ y) refl)
+one_form (common t) (path false u) a b c more p q =
+    absurd (let x : c ≡ 42 = first_of (common t) a c more p.form p.whole in not_both is_letter c 42 x (first_of (path false u) b c more q.form q.whole) refl)
+one_form (path true t) (common u) a b c more p q =
+    absurd (let x : c ≡ 58 = first_of (path true t) a c more p.form p.whole in let y : c ≡ 42 = first_of (common u) b c more q.form q.whole in
+    equal_not 42 58 (sym y ∙ x) refl)
+one_form (path false t) (common u) a b c more p q =
+    absurd (let x : c ≡ 42 = first_of (common u) b c more q.form q.whole in not_both is_letter c 42 x (first_of (path false t) a c more p.form p.whole) refl)
+one_form (path true t) (path false u) a b c more p q =
+    absurd (let x : c ≡ 58 = first_of (path true t) a c more p.form p.whole in not_both is_letter c 58 x (first_of (path false u) b c more q.form q.whole) refl)
+one_form (path false t) (path true u) a b c more p q =
+    absurd (let x : c ≡ 58 = first_of (path true u) b c more q.form q.whole in not_both is_letter c 58 x (first_of (path false t) a c more p.form p.whole) refl)
 one_form (path true t) (path true u) a b c more p q =
     let e : 58 ∷ (t ++ a) ≡ 58 ∷ (u ++ b) = sym p.whole ∙ q.whole in
     let f : t ++ a ≡ u ++ b = cc in
@@ -125,7 +141,8 @@ name_clash more (c ∷ cs) x o h e =
 colon_on : (m : List ℕ) (ms : List (List ℕ)) (x : List ℕ) → colons (m ∷ ms) ++ x ≡ m ++ 58 ∷ (colons ms ++ x)
 colon_on m ms x = append_assoc (m ++ 58 ∷ []) (colons ms) x ∙ append_assoc m (58 ∷ []) (colons ms ++ x)
 
-break_path : (ms ns : List (List ℕ)) (more last a : List ℕ) → AllByRecursion IsMnemonic ms → StartsOff is_letter more → AllByRecursion IsMnemonic ns → IsMnemonic last → StartsOff is_word a → StartsOff (λ b. b == 58) a → colons ms ++ more ≡ colons ns ++ (last ++ a) → ⊥
+break_path : (ms ns : List (List ℕ)) (more last a : List ℕ) → AllByRecursion IsMnemonic ms → StartsOff is_letter more → AllByRecursion IsMnemonic ns
+    → IsMnemonic last → StartsOff is_word a → StartsOff (λ b. b == 58) a → colons ms ++ more ≡ colons ns ++ (last ++ a) → ⊥
 break_path [] [] more last a p o q h w c e = letter_clash more last a o h e
 break_path [] (n ∷ ns) more last a p o q h w c e = letter_clash more n (58 ∷ (colons ns ++ (last ++ a))) o q.0 (e ∙ colon_on n ns (last ++ a))
 break_path (m ∷ ms) [] more last a p o q h w c e =
@@ -133,28 +150,33 @@ break_path (m ∷ ms) [] more last a p o q h w c e =
     let z : true ≡ false = subst (λ (y : List ℕ). StartsOff (λ b. b == 58) y) (sym r.1) c in
     cc
 break_path (m ∷ ms) (n ∷ ns) more last a p o q h w c e =
-    let r = same_span is_word m (58 ∷ (colons ms ++ more)) n (58 ∷ (colons ns ++ (last ++ a))) (words_of m p.0) refl (words_of n q.0) refl (sym (colon_on m ms more) ∙ e ∙ colon_on n ns (last ++ a)) in
+    let r = same_span is_word m (58 ∷ (colons ms ++ more)) n (58 ∷ (colons ns ++ (last ++ a))) (words_of m p.0) refl (words_of n q.0) refl
+    (sym (colon_on m ms more) ∙ e ∙ colon_on n ns (last ++ a)) in
     let s : 58 ∷ (colons ms ++ more) ≡ 58 ∷ (colons ns ++ (last ++ a)) = r.1 in
     let f : colons ms ++ more ≡ colons ns ++ (last ++ a) = cc in
     break_path ms ns more last a p.1 o q.1 h w c f
 
-break_break : (ms ns : List (List ℕ)) (more rest : List ℕ) → AllByRecursion IsMnemonic ms → StartsOff is_letter more → AllByRecursion IsMnemonic ns → StartsOff is_letter rest → colons ms ++ more ≡ colons ns ++ rest → more ≡ rest
+break_break : (ms ns : List (List ℕ)) (more rest : List ℕ) → AllByRecursion IsMnemonic ms → StartsOff is_letter more → AllByRecursion IsMnemonic ns
+    → StartsOff is_letter rest → colons ms ++ more ≡ colons ns ++ rest → more ≡ rest
 break_break [] [] more rest p o q n e = e
 break_break [] (k ∷ ns) more rest p o q n e = absurd (letter_clash more k (58 ∷ (colons ns ++ rest)) o q.0 (e ∙ colon_on k ns rest))
 break_break (m ∷ ms) [] more rest p o q n e = absurd (letter_clash rest m (58 ∷ (colons ms ++ more)) n p.0 (sym e ∙ colon_on m ms more))
 break_break (m ∷ ms) (k ∷ ns) more rest p o q n e =
-    let r = same_span is_word m (58 ∷ (colons ms ++ more)) k (58 ∷ (colons ns ++ rest)) (words_of m p.0) refl (words_of k q.0) refl (sym (colon_on m ms more) ∙ e ∙ colon_on k ns rest) in
+    let r = same_span is_word m (58 ∷ (colons ms ++ more)) k (58 ∷ (colons ns ++ rest)) (words_of m p.0) refl (words_of k q.0) refl (sym (colon_on m ms more)
+    ∙ e ∙ colon_on k ns rest) in
     let s : 58 ∷ (colons ms ++ more) ≡ 58 ∷ (colons ns ++ rest) = r.1 in
     let f : colons ms ++ more ≡ colons ns ++ rest = cc in
     break_break ms ns more rest p.1 o q.1 n f
 
 one_break : (text : List ℕ) (e f : ScpiError) → BreaksOff text e → BreaksOff text f → e ≡ f
 one_break text e f a b =
-    a.error ∙ ap (λ (x : List ℕ). fault_at SyntaxError x) (break_break a.nodes b.nodes a.more b.more a.each a.off b.each b.off (sym a.whole ∙ b.whole)) ∙ sym b.error
+    a.error ∙ ap (λ (x : List ℕ). fault_at SyntaxError x) (break_break a.nodes b.nodes a.more b.more a.each a.off b.each b.off (sym a.whole ∙ b.whole))
+    ∙ sym b.error
 
 break_not : (text t a : List ℕ) (e : ScpiError) → BreaksOff text e → IsPath t → StartsOff is_word a → StartsOff (λ b. b == 58) a → text ≡ t ++ a → ⊥
 break_not text t a e x p w c f =
-    break_path x.nodes p.nodes x.more p.last a x.each x.off p.each p.last_one w c (sym x.whole ∙ f ∙ ap (λ (y : List ℕ). y ++ a) p.whole ∙ append_assoc (colons p.nodes) p.last a)
+    break_path x.nodes p.nodes x.more p.last a x.each x.off p.each p.last_one w c (sym x.whole ∙ f ∙ ap (λ (y : List ℕ). y ++ a) p.whole
+    ∙ append_assoc (colons p.nodes) p.last a)
 
 none_form : (h : Heading) (a : List ℕ) (b : ℕ) (more : List ℕ) (e : ScpiError) → HasNoHeading (b ∷ more) e → Heads (b ∷ more) h a → ⊥
 none_form (common t) a b more e n p =

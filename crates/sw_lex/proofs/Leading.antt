@@ -32,9 +32,11 @@ begins b k e =
         | inr l ↦ elim (cases_Bool (is_quote b)) [
           | inl q ↦ (let f : Some kinds.String ≡ Some k = rw (n, l, q) at e in let g : kinds.String ≡ k = cc in subst (λ (x : Kind). Begins x b) g q)
           | inr q ↦ elim (cases_Bool (b == 35)) [
-            | inl h ↦ (let f : Some kinds.Block ≡ Some k = rw (n, l, q, h) at e in let g : kinds.Block ≡ k = cc in subst (λ (x : Kind). Begins x b) g (eqb-true b 35 h))
+            | inl h ↦ (let f : Some kinds.Block ≡ Some k = rw (n, l, q, h) at e in let g : kinds.Block ≡ k = cc in
+                subst (λ (x : Kind). Begins x b) g (eqb-true b 35 h))
             | inr h ↦ elim (cases_Bool (b == 40)) [
-              | inl p ↦ (let f : Some kinds.Expression ≡ Some k = rw (n, l, q, h, p) at e in let g : kinds.Expression ≡ k = cc in subst (λ (x : Kind). Begins x b) g (eqb-true b 40 p))
+              | inl p ↦ (let f : Some kinds.Expression ≡ Some k = rw (n, l, q, h, p) at e in let g : kinds.Expression ≡ k = cc in
+                  subst (λ (x : Kind). Begins x b) g (eqb-true b 40 p))
               | inr p ↦ absurd (let f : None ≡ Some k = rw (n, l, q, h, p) at e in cc)
             ]
           ]
@@ -98,10 +100,12 @@ pub one_leads : (text : List ℕ) (d c : Datum) (a b : List ℕ) → Leads text 
 one_leads text d c a b p q =
     let k = one_kind text (kind_of d) (kind_of c) p.starts q.starts in
     let r = one_rest (kind_of d) text a b p.form (subst (λ (x : Kind). IsElement x text b) (sym k) q.form) in
-    let t : datum_text d ≡ datum_text c = append_cancel_right (datum_text d) (datum_text c) a (sym p.whole ∙ q.whole ∙ ap (λ (x : List ℕ). datum_text c ++ x) (sym r)) in
+    let t : datum_text d ≡ datum_text c =
+    append_cancel_right (datum_text d) (datum_text c) a (sym p.whole ∙ q.whole ∙ ap (λ (x : List ℕ). datum_text c ++ x) (sym r)) in
     (sym (with_text d) ∙ ap (λ (x : Kind). datum_with x (datum_text d)) k ∙ ap (λ (x : List ℕ). datum_with (kind_of c) x) t ∙ with_text c, r)
 
-pub leads_is : (text : List ℕ) (k : Kind) (t rest : List ℕ) → kind_at text ≡ Some k → IsElement k text rest → text ≡ t ++ rest → Leads text (datum_with k t) rest
+pub leads_is : (text : List ℕ) (k : Kind) (t rest : List ℕ) → kind_at text ≡ Some k → IsElement k text rest → text ≡ t ++ rest
+    → Leads text (datum_with k t) rest
 leads_is text k t rest e f w = record {
   starts = e ∙ ap (λ (x : Kind). Some x) (sym (kind_with k t));
   form = subst (λ (x : Kind). IsElement x text rest) (sym (kind_with k t)) f;

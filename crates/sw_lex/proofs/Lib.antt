@@ -1,6 +1,8 @@
 pub mod Units
 pub mod Numbers
 pub mod Spelled
+pub mod Forms
+pub mod Listed
 pub mod Apart
 pub mod Nodes
 pub mod Shorter

@@ -10,19 +10,19 @@ use Rattle.sw_lex.specs.declared.command.Command.TheVariants as commands
 use Rattle.sw_lex.specs.declared.table.Key.{Key}
 use Rattle.sw_lex.specs.declared.table.Key.TheVariants as keys
 use Rattle.sw_lex.specs.Unit.{Datum, number, character, string, block, expression, UnitView}
-use Rattle.sw_lex.specs.Table.{rows}
-use Rattle.sw_lex.specs.declared.table.Row.{Row}
+use Rattle.sw_lex.specs.Table.{Entry, entries}
 use Rattle.sw_lex.specs.Found.{IsIn, spellings, IsFound}
 use Rattle.sw_lex.specs.Commands.{layer_of, of_common, of_instrument, of_layer, of_group, of_channels}
 use Rattle.sw_lex.specs.Values.{on_ok, IsQuantity, ReadsQuantity, ReadsString, ReadsBlock, whole_of, continuous_of, macros_of, delay_of, source_meant}
-use Rattle.sw_lex.specs.Meaning.{Nodes, asked, path_after, WithNone, WithList, OfList, WithString, OfString, Defines, OfMacro, WithNumber, OfNumber, OfWord, OfSwitch, Obeys, Resolves}
+use Rattle.sw_lex.specs.Meaning.{Nodes, asked, path_after, WithNone, WithList, OfList, WithString, OfString, Defines, OfMacro, WithNumber, OfNumber, OfWord}
+use Rattle.sw_lex.specs.Meaning.{OfSwitch, Decodes, Resolves}
 use Rattle.sw_base.specs.Text.{is_blank, Spans}
 use Rattle.sw_base.specs.Number.{Written}
 use Rattle.sw_base.proofs.Runs.{one_span}
 use Rattle.sw_base.proofs.Numerals.{one_number, not_both, one_refusal}
 use Rattle.sw_lex.proofs.Quotes.{one_string}
 use Rattle.sw_lex.proofs.Blocks.{one_block}
-use Rattle.sw_lex.proofs.Apart.{one_found, rows_apart}
+use Rattle.sw_lex.proofs.Apart.{one_found, entries_apart}
 
 one_none : (command : Command) (ds : List Datum) (r s : Result Command ScpiError) → WithNone command ds r → WithNone command ds s → r ≡ s
 one_none command [] r s a b = a ∙ sym b
@@ -37,7 +37,8 @@ one_list (block t ∷ []) r s a b n m = a ∙ sym b
 one_list (expression t ∷ []) r s a b n m = one_reading t r s a b n m
 one_list (d ∷ c ∷ ds) r s a b n m = a ∙ sym b
 
-one_of_list : (make : List Channel → Command) (ds : List Datum) (r s : Result Command ScpiError) → OfList make ds r → OfList make ds s → r ≢ Err OutOfMemory → s ≢ Err OutOfMemory → r ≡ s
+one_of_list : (make : List Channel → Command) (ds : List Datum) (r s : Result Command ScpiError) → OfList make ds r → OfList make ds s → r ≢ Err OutOfMemory
+    → s ≢ Err OutOfMemory → r ≡ s
 one_of_list make ds r s a b n m =
     let f : Result (List Channel) ScpiError → Result Command ScpiError = λ x. result_map_both make (λ e. e) x in
     let e = one_list ds a.0 b.0 a.1 b.1 (λ k. n (a.2 ∙ ap f k)) (λ k. m (b.2 ∙ ap f k)) in
@@ -71,11 +72,13 @@ one_with_number (block t ∷ []) r s a b = a ∙ sym b
 one_with_number (expression t ∷ []) r s a b = a ∙ sym b
 one_with_number (d ∷ c ∷ ds) r s a b = a ∙ sym b
 
-one_of_number : (meaning : Written → List ℕ → Result Command ScpiError) (ds : List Datum) (r s : Result Command ScpiError) → OfNumber meaning ds r → OfNumber meaning ds s → r ≡ s
+one_of_number : (meaning : Written → List ℕ → Result Command ScpiError) (ds : List Datum) (r s : Result Command ScpiError) → OfNumber meaning ds r
+    → OfNumber meaning ds s → r ≡ s
 one_of_number meaning ds r s a b =
     a.2 ∙ ap (λ (q : Result (Written × List ℕ) ScpiError). on_ok q (λ x. meaning x.0 x.1)) (one_with_number ds a.0 b.0 a.1 b.1) ∙ sym b.2
 
-one_of_word : (meaning : List ℕ → Result Command ScpiError) (ds : List Datum) (r s : Result Command ScpiError) → OfWord meaning ds r → OfWord meaning ds s → r ≡ s
+one_of_word : (meaning : List ℕ → Result Command ScpiError) (ds : List Datum) (r s : Result Command ScpiError) → OfWord meaning ds r → OfWord meaning ds s
+    → r ≡ s
 one_of_word meaning [] r s a b = a ∙ sym b
 one_of_word meaning (number t ∷ []) r s a b = a ∙ sym b
 one_of_word meaning (character t ∷ []) r s a b = a ∙ sym b
@@ -94,7 +97,8 @@ one_of_switch (block t ∷ []) r s a b = a ∙ sym b
 one_of_switch (expression t ∷ []) r s a b = a ∙ sym b
 one_of_switch (d ∷ c ∷ ds) r s a b = a ∙ sym b
 
-one_reads_string : (text : List ℕ) (r s : Result (List ℕ) ScpiError) → ReadsString text r → ReadsString text s → r ≢ Err OutOfMemory → s ≢ Err OutOfMemory → r ≡ s
+one_reads_string : (text : List ℕ) (r s : Result (List ℕ) ScpiError) → ReadsString text r → ReadsString text s → r ≢ Err OutOfMemory → s ≢ Err OutOfMemory
+    → r ≡ s
 one_reads_string text (Ok x) (Ok y) p q n m = ap (λ (t : List ℕ). Ok t) (one_string text x y [] [] p q).0
 one_reads_string text (Ok x) (Err e) p q n m =
     elim q [ inl a ↦ absurd (m (ap (λ (f : ScpiError). Err f) a.2)) | inr a ↦ absurd (a.0 x p) ]
@@ -127,17 +131,20 @@ one_with_string (block t ∷ []) r s a b n m = a ∙ sym b
 one_with_string (expression t ∷ []) r s a b n m = a ∙ sym b
 one_with_string (d ∷ c ∷ ds) r s a b n m = a ∙ sym b
 
-one_of_string : (make : List ℕ → Command) (ds : List Datum) (r s : Result Command ScpiError) → OfString make ds r → OfString make ds s → r ≢ Err OutOfMemory → s ≢ Err OutOfMemory → r ≡ s
+one_of_string : (make : List ℕ → Command) (ds : List Datum) (r s : Result Command ScpiError) → OfString make ds r → OfString make ds s → r ≢ Err OutOfMemory
+    → s ≢ Err OutOfMemory → r ≡ s
 one_of_string make ds r s a b n m =
     let f : Result (List ℕ) ScpiError → Result Command ScpiError = λ x. result_map_both make (λ e. e) x in
     let e = one_with_string ds a.0 b.0 a.1 b.1 (λ k. n (a.2 ∙ ap f k)) (λ k. m (b.2 ∙ ap f k)) in
     a.2 ∙ ap f e ∙ sym b.2
 
-label_memory : (body : List ℕ) (label : Result (List ℕ) ScpiError) (r : Result Command ScpiError) → Defines body label r → r ≢ Err OutOfMemory → label ≢ Err OutOfMemory
+label_memory : (body : List ℕ) (label : Result (List ℕ) ScpiError) (r : Result Command ScpiError) → Defines body label r → r ≢ Err OutOfMemory
+    → label ≢ Err OutOfMemory
 label_memory body (Ok x) r d n k = let z : Ok x ≡ Err OutOfMemory = k in cc
 label_memory body (Err e) r d n k = let z : Err e ≡ Err OutOfMemory = k in let y : e ≡ OutOfMemory = cc in n (d ∙ ap (λ (g : ScpiError). Err g) y)
 
-one_defines : (body : List ℕ) (label : Result (List ℕ) ScpiError) (r s : Result Command ScpiError) → Defines body label r → Defines body label s → r ≢ Err OutOfMemory → s ≢ Err OutOfMemory → r ≡ s
+one_defines : (body : List ℕ) (label : Result (List ℕ) ScpiError) (r s : Result Command ScpiError) → Defines body label r → Defines body label s
+    → r ≢ Err OutOfMemory → s ≢ Err OutOfMemory → r ≡ s
 one_defines body (Err e) r s a b n m = a ∙ sym b
 one_defines body (Ok x) r s a b n m =
     let f : Result (List ℕ) ScpiError → Result Command ScpiError = λ q. result_map_both (λ y. commands.DefineMacro x y) (λ e. e) q in
@@ -160,29 +167,32 @@ one_of_macro (string t ∷ block u ∷ []) r s a b n m =
     one_defines u a.0 r s a.2 (subst (λ (x : Result (List ℕ) ScpiError). Defines u x s) (sym e) b.2) n m
 one_of_macro (d ∷ c ∷ e ∷ ds) r s a b n m = a ∙ sym b
 
-one_obeyed : (key : Key) (k : ℕ) (ds : List Datum) (r s : Result Command ScpiError) → Obeys key k ds r → Obeys key k ds s → r ≢ Err OutOfMemory → s ≢ Err OutOfMemory → r ≡ s
-one_obeyed (keys.Common ask) k ds r s a b n m = one_none (of_common ask) ds r s a b
-one_obeyed (keys.Instrument ask) k ds r s a b n m = one_none (of_instrument ask) ds r s a b
-one_obeyed (keys.Layer ask family) k ds r s a b n m = one_none (of_layer ask (layer_of family k)) ds r s a b
-one_obeyed (keys.Group ask group) k ds r s a b n m = one_none (of_group ask group) ds r s a b
-one_obeyed (keys.Channels ask) k ds r s a b n m = one_of_list (of_channels ask) ds r s a b n m
-one_obeyed (keys.Whole ask) k ds r s a b n m = one_of_number (whole_of ask k) ds r s a b
-one_obeyed (keys.Delay family) k ds r s a b n m = one_of_number (delay_of (layer_of family k)) ds r s a b
-one_obeyed (keys.Source family) k ds r s a b n m = one_of_word (source_meant (layer_of family k)) ds r s a b
-one_obeyed keys.Continuous k ds r s a b n m = one_of_switch ds r s a b
-one_obeyed keys.EnableMacros k ds r s a b n m = one_of_number macros_of ds r s a b
-one_obeyed keys.DefineMacro k ds r s a b n m = one_of_macro ds r s a b n m
-one_obeyed keys.MacroQuery k ds r s a b n m = one_of_string (λ label. commands.MacroQuery label) ds r s a b n m
-one_obeyed keys.RemoveMacro k ds r s a b n m = one_of_string (λ label. commands.RemoveMacro label) ds r s a b n m
+one_decoded : (key : Key) (k : ℕ) (ds : List Datum) (r s : Result Command ScpiError) → Decodes key k ds r → Decodes key k ds s → r ≢ Err OutOfMemory
+    → s ≢ Err OutOfMemory → r ≡ s
+one_decoded (keys.Common ask) k ds r s a b n m = one_none (of_common ask) ds r s a b
+one_decoded (keys.Instrument ask) k ds r s a b n m = one_none (of_instrument ask) ds r s a b
+one_decoded (keys.Layer ask family) k ds r s a b n m = one_none (of_layer ask (layer_of family k)) ds r s a b
+one_decoded (keys.Group ask group) k ds r s a b n m = one_none (of_group ask group) ds r s a b
+one_decoded (keys.Channels ask) k ds r s a b n m = one_of_list (of_channels ask) ds r s a b n m
+one_decoded (keys.Whole ask) k ds r s a b n m = one_of_number (whole_of ask k) ds r s a b
+one_decoded (keys.Delay family) k ds r s a b n m = one_of_number (delay_of (layer_of family k)) ds r s a b
+one_decoded (keys.Source family) k ds r s a b n m = one_of_word (source_meant (layer_of family k)) ds r s a b
+one_decoded keys.Continuous k ds r s a b n m = one_of_switch ds r s a b
+one_decoded keys.EnableMacros k ds r s a b n m = one_of_number macros_of ds r s a b
+one_decoded keys.DefineMacro k ds r s a b n m = one_of_macro ds r s a b n m
+one_decoded keys.MacroQuery k ds r s a b n m = one_of_string (λ label. commands.MacroQuery label) ds r s a b n m
+one_decoded keys.RemoveMacro k ds r s a b n m = one_of_string (λ label. commands.RemoveMacro label) ds r s a b n m
 
-pub one_meaning : (unit : UnitView) (below : Nodes) (r s : Result Command ScpiError) (a b : Nodes) → Resolves unit below r a → Resolves unit below s b → r ≢ Err OutOfMemory → s ≢ Err OutOfMemory → (r ≡ s) × (a ≡ b)
+pub one_meaning : (unit : UnitView) (below : Nodes) (r s : Result Command ScpiError) (a b : Nodes) → Resolves unit below r a → Resolves unit below s b
+    → r ≢ Err OutOfMemory → s ≢ Err OutOfMemory → (r ≡ s) × (a ≡ b)
 one_meaning unit below r s a b p q n m =
     elim p [
       | inl c ↦ elim q [
         | inl d ↦
-            let k = one_found rows rows_apart (asked unit below) unit.query c.key d.key c.number d.number c.found d.found in
-            let o : Obeys c.key c.number unit.elements s = subst (λ (x : Key). Obeys x c.number unit.elements s) (sym k.0) (subst (λ (x : ℕ). Obeys d.key x unit.elements s) (sym k.1) d.obeyed) in
-            (one_obeyed c.key c.number unit.elements r s c.obeyed o n m, c.onward ∙ sym d.onward)
+            let k = one_found entries entries_apart (asked unit below) unit.query c.key d.key c.number d.number c.found d.found in
+            let o : Decodes c.key c.number unit.elements s =
+            subst (λ (x : Key). Decodes x c.number unit.elements s) (sym k.0) (subst (λ (x : ℕ). Decodes d.key x unit.elements s) (sym k.1) d.decoded) in
+            (one_decoded c.key c.number unit.elements r s c.decoded o n m, c.onward ∙ sym d.onward)
         | inr d ↦ elim d [ inl e ↦ absurd (e.nothing c.key c.number c.found) | inr e ↦ absurd (e.nothing c.key c.number c.found) ]
       ]
       | inr c ↦ elim c [
@@ -197,12 +207,14 @@ one_meaning unit below r s a b p q n m =
       ]
     ]
 
-pub every_spelling : (row : Row) (unit : UnitView) (below : Nodes) (m : ℕ) (r : Result Command ScpiError) (left : Nodes) → IsIn row rows → row.query ≡ unit.query → IsIn (asked unit below, m) (spellings row.steps) → Resolves unit below r left → Obeys row.key m unit.elements r × (left ≡ path_after unit.header below)
-every_spelling row unit below m r left i q s h =
-    let f : IsFound rows (asked unit below) unit.query row.key m = record { row = row; listed = i; query_is = q; key_is = refl; spelled = s } in
+pub every_spelling : (entry : Entry) (unit : UnitView) (below : Nodes) (m : ℕ) (r : Result Command ScpiError) (left : Nodes) → IsIn entry entries
+    → entry.query ≡ unit.query → IsIn (asked unit below, m) (spellings entry.nodes) → Resolves unit below r left
+    → Decodes entry.key m unit.elements r × (left ≡ path_after unit.header below)
+every_spelling entry unit below m r left i q s h =
+    let f : IsFound entries (asked unit below) unit.query entry.key m = record { entry = entry; listed = i; query_is = q; key_is = refl; spelled = s } in
     elim h [
       | inl c ↦
-          let k = one_found rows rows_apart (asked unit below) unit.query c.key row.key c.number m c.found f in
-          (subst (λ (x : ℕ). Obeys row.key x unit.elements r) k.1 (subst (λ (x : Key). Obeys x c.number unit.elements r) k.0 c.obeyed), c.onward)
-      | inr d ↦ elim d [ inl e ↦ absurd (e.nothing row.key m f) | inr e ↦ absurd (e.nothing row.key m f) ]
+          let k = one_found entries entries_apart (asked unit below) unit.query c.key entry.key c.number m c.found f in
+          (subst (λ (x : ℕ). Decodes entry.key x unit.elements r) k.1 (subst (λ (x : Key). Decodes x c.number unit.elements r) k.0 c.decoded), c.onward)
+      | inr d ↦ elim d [ inl e ↦ absurd (e.nothing entry.key m f) | inr e ↦ absurd (e.nothing entry.key m f) ]
     ]

@@ -1,5 +1,6 @@
 -- The nodes of a header.
-use Rattle.std.proofs.Common.{◌≡◌, ℕ, ◌<◌, ◌≤◌, Bool, true, false, not, List, [], ◌∷◌, ◌++◌, length, refl, sym, ap, ◌∙◌, map, append_assoc, arith, Bor, inl, inr, subst, Err}
+use Rattle.std.proofs.Common.{◌≡◌, ℕ, ◌<◌, ◌≤◌, Bool, true, false, not, List, [], ◌∷◌, ◌++◌, length, refl, sym, ap, ◌∙◌, map, append_assoc, arith, Bor, inl}
+use Rattle.std.proofs.Common.{inr, subst, Err}
 use Rattle.std.specs.Prelude.{◌==◌, if◌then◌else◌}
 use Rattle.std.specs.List.{All, list_all}
 use Rattle.std.proofs.lemmas.Grind.{common_steps}
@@ -14,9 +15,9 @@ use Rattle.sw_base.specs.declared.error.ScpiError.{ScpiError}
 use Rattle.sw_lex.specs.Unit.{UnitView}
 use Rattle.sw_lex.specs.declared.table.Key.{Key}
 use Rattle.sw_lex.specs.Found.{IsFound}
-use Rattle.sw_lex.specs.Table.{rows}
+use Rattle.sw_lex.specs.Table.{entries}
 use Rattle.sw_lex.proofs.Spelled.{too_long, node_fits, found_fits}
-use Rattle.sw_lex.proofs.Apart.{rows_short, rows_fit}
+use Rattle.sw_lex.proofs.Apart.{entries_short, entries_fit}
 use Rattle.sw_base.specs.declared.error.ScpiError.TheVariants.{UndefinedHeader}
 use Rattle.std.specs.Char.{to_ascii_uppercase}
 use Rattle.std.proofs.lemmas.Simd.{map-map}
@@ -53,13 +54,16 @@ nodes_some (b ∷ bs) =
 abbrev pub texts : List (Bor (List ℕ)) → Nodes
 texts ws = map (λ w. w.now) ws
 
-pub nodes_on : (items : List (Bor (List ℕ))) (node : Bor (List ℕ)) (rest more : List ℕ) (all : Nodes) → texts items ++ nodes_of rest ≡ all → Lacks 58 node.now → rest ≡ node.now ++ 58 ∷ more → texts (items ++ node ∷ []) ++ nodes_of more ≡ all
+pub nodes_on : (items : List (Bor (List ℕ))) (node : Bor (List ℕ)) (rest more : List ℕ) (all : Nodes) → texts items ++ nodes_of rest ≡ all → Lacks 58 node.now
+    → rest ≡ node.now ++ 58 ∷ more → texts (items ++ node ∷ []) ++ nodes_of more ≡ all
 nodes_on items node rest more all h l e =
     let n : nodes_of rest ≡ node.now ∷ nodes_of more = ap (λ (t : List ℕ). nodes_of t) e ∙ nodes_cut node.now more l in
-    let p : texts (items ++ node ∷ []) ++ nodes_of more ≡ (texts items ++ node.now ∷ []) ++ nodes_of more = ap (λ (t : Nodes). t ++ nodes_of more) (map_push (λ (w : Bor (List ℕ)). w.now) items node) in
+    let p : texts (items ++ node ∷ []) ++ nodes_of more ≡ (texts items ++ node.now ∷ []) ++ nodes_of more =
+    ap (λ (t : Nodes). t ++ nodes_of more) (map_push (λ (w : Bor (List ℕ)). w.now) items node) in
     p ∙ append_assoc (texts items) (node.now ∷ []) (nodes_of more) ∙ ap (λ (t : Nodes). texts items ++ t) (sym n) ∙ h
 
-pub nodes_end : (items : List (Bor (List ℕ))) (node : Bor (List ℕ)) (all : Nodes) → texts items ++ nodes_of node.now ≡ all → Lacks 58 node.now → texts (items ++ node ∷ []) ≡ all
+pub nodes_end : (items : List (Bor (List ℕ))) (node : Bor (List ℕ)) (all : Nodes) → texts items ++ nodes_of node.now ≡ all → Lacks 58 node.now
+    → texts (items ++ node ∷ []) ≡ all
 nodes_end items node all h l =
     map_push (λ (w : Bor (List ℕ)). w.now) items node ∙ ap (λ (t : Nodes). texts items ++ t) (sym (nodes_one node.now l)) ∙ h
 
@@ -69,7 +73,8 @@ nodes_many items rest all h e =
     omega (arith, n, e, length-append (texts items) (nodes_of rest), length-map items (λ (w : Bor (List ℕ)). w.now), nodes_some rest)
 
 -- the nodes in capitals, as the table is asked
-pub capitals_of : (items : List (Bor (List ℕ))) (all : Nodes) → texts items ≡ all → map (λ (w : Bor (List ℕ)). map to_ascii_uppercase w.now) items ≡ capitals all
+pub capitals_of : (items : List (Bor (List ℕ))) (all : Nodes) → texts items ≡ all
+    → map (λ (w : Bor (List ℕ)). map to_ascii_uppercase w.now) items ≡ capitals all
 capitals_of items all e = sym (map-map (λ (t : List ℕ). map to_ascii_uppercase t) (λ (w : Bor (List ℕ)). w.now) items) ∙ ap (λ (t : Nodes). capitals t) e
 
 pub unknown_many : (unit : UnitView) (below : Nodes) → 4 < length (looked_up unit.header below) → Resolves unit below (Err UndefinedHeader) below
@@ -77,18 +82,22 @@ unknown_many unit below l =
     let ns = looked_up unit.header below in
     let up : List ℕ → List ℕ = λ w. map to_ascii_uppercase w in
     inr (inr (record {
-      nothing = too_long rows (capitals ns) rows_short (omega (arith, l, length-map ns up)) unit.query;
-      nowhere = too_long rows (capitals (map unnumbered ns)) rows_short (omega (arith, l, length-map (map unnumbered ns) up, length-map ns unnumbered)) unit.query;
+      nothing = too_long entries (capitals ns) entries_short (omega (arith, l, length-map ns up)) unit.query;
+      nowhere = too_long entries (capitals (map unnumbered ns)) entries_short
+          (omega (arith, l, length-map (map unnumbered ns) up, length-map ns unnumbered)) unit.query;
       refused = refl;
       stays = refl;
     }))
 
 -- the nodes without a number, in capitals
-pub plain_of : (items nodes : List (Bor (List ℕ))) → texts items ≡ map (λ (w : Bor (List ℕ)). unnumbered w.now) nodes → map (λ (w : Bor (List ℕ)). map to_ascii_uppercase w.now) items ≡ capitals (map unnumbered (texts nodes))
+pub plain_of : (items nodes : List (Bor (List ℕ))) → texts items ≡ map (λ (w : Bor (List ℕ)). unnumbered w.now) nodes
+    → map (λ (w : Bor (List ℕ)). map to_ascii_uppercase w.now) items ≡ capitals (map unnumbered (texts nodes))
 plain_of items nodes e =
-    capitals_of items (map (λ (w : Bor (List ℕ)). unnumbered w.now) nodes) e ∙ ap (λ (t : Nodes). capitals t) (sym (map-map unnumbered (λ (w : Bor (List ℕ)). w.now) nodes))
+    capitals_of items (map (λ (w : Bor (List ℕ)). unnumbered w.now) nodes) e
+    ∙ ap (λ (t : Nodes). capitals t) (sym (map-map unnumbered (λ (w : Bor (List ℕ)). w.now) nodes))
 
-pub refused_is : (unit : UnitView) (below nodes : Nodes) (e : ScpiError) → nodes ≡ looked_up unit.header below → IsNone (asked unit below) unit.query → IsRefusal nodes unit.query e → Resolves unit below (Err e) below
+pub refused_is : (unit : UnitView) (below nodes : Nodes) (e : ScpiError) → nodes ≡ looked_up unit.header below → IsNone (asked unit below) unit.query
+    → IsRefusal nodes unit.query e → Resolves unit below (Err e) below
 refused_is unit below nodes e h n r =
     elim (subst (λ (x : Nodes). IsRefusal x unit.query e) h r) [
       | inl k ↦ inr (inl (record { nothing = n; key = k.0; number = k.1; found = k.2; refused = ap (λ (x : ScpiError). Err x) k.3; stays = refl }))
@@ -101,8 +110,10 @@ short_one w p =
     omega (arith, l, length-map w to_ascii_uppercase)
 
 -- the nodes of a header that was found
-pub found_short : (items : List (Bor (List ℕ))) (query : Bool) (key : Key) (k : ℕ) → IsFound rows (map (λ (w : Bor (List ℕ)). map to_ascii_uppercase w.now) items) query key k → All (λ w. length w.now ≤ 12) items
+pub found_short : (items : List (Bor (List ℕ))) (query : Bool) (key : Key) (k : ℕ)
+    → IsFound entries (map (λ (w : Bor (List ℕ)). map to_ascii_uppercase w.now) items) query key k → All (λ w. length w.now ≤ 12) items
 found_short items query key k f =
     let up : Bor (List ℕ) → List ℕ = λ w. map to_ascii_uppercase w.now in
-    let t : list_all (λ (w : Bor (List ℕ)). node_fits (up w)) items ≡ true = sym (list_all-map node_fits up items) ∙ found_fits rows (map up items) rows_fit query key k f in
+    let t : list_all (λ (w : Bor (List ℕ)). node_fits (up w)) items ≡ true = sym (list_all-map node_fits up items)
+    ∙ found_fits entries (map up items) entries_fit query key k f in
     All-weaker _ _ (λ w p. short_one w.now p) items (AllPass-from_list_all (λ (w : Bor (List ℕ)). node_fits (up w)) items t)

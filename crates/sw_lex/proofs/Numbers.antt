@@ -1,17 +1,13 @@
 -- Where a number at the front of a text ends.
-use Rattle.std.proofs.Common.{◌≡◌, ℕ, ◌+◌, ◌<◌, Bool, List, [], ◌∷◌, ◌++◌, length, refl, sym, ap, subst, ◌∙◌, arith, inl, inr, ◌⊎◌, append_assoc, pos}
+use Rattle.std.proofs.Common.{◌≡◌, ℕ, ◌+◌, ◌<◌, Bool, List, [], ◌∷◌, ◌++◌, length, refl, sym, ap, subst, ◌∙◌, arith, inl, inr, ◌⊎◌, append_assoc}
 use Rattle.std.specs.Prelude.{◌==◌, ◌||◌}
 use Rattle.std.proofs.lemmas.Bool.{cases_Bool}
 use Rattle.sw_base.specs.Text.{is_blank, is_digit, is_letter, Spans}
-use Rattle.sw_base.specs.Number.{Written, is_negative, unsigned, IsFraction, IsMantissa, IsExponent}
+use Rattle.sw_base.specs.Number.{Written, unsigned, IsFraction, IsMantissa, IsExponent}
 use Rattle.sw_base.proofs.Runs.{one_span}
 use Rattle.sw_base.proofs.Numerals.{one_mantissa, one_exponent}
 use Rattle.sw_lex.proofs.Headings.{equal_not}
 use Rattle.sw_lex.specs.Elements.{is_run, IsApart, IsBody, IsSuffixed, IsNumeral}
-
-pub mantissa_is : (text whole pointed fraction rest : List ℕ) → Spans is_digit (unsigned text) whole pointed → IsFraction pointed fraction rest → 0 < length whole + length fraction → (n : Written) × IsMantissa text n rest
-mantissa_is text whole pointed fraction rest s f l =
-    (record { negative = is_negative text; whole = whole; fraction = fraction; exponent = pos 0 }, record { sign = refl; pointed = pointed; before = s; after = f; digit = l })
 
 -- ---- white space round the `E`
 
@@ -22,7 +18,8 @@ first (b ∷ bytes) = b
 two_marks : (a b : List ℕ) → 69 ∷ a ≡ 101 ∷ b → ⊥
 two_marks a b e = equal_not 69 101 (ap (λ (t : List ℕ). first t) e) refl
 
-one_blanks : (text : List ℕ) (negative : Bool) (digits rest : List ℕ) (h : IsExponent text negative digits rest) (before marked after gap signed : List ℕ) → Spans is_blank text before marked → (marked ≡ 69 ∷ after) ⊎ (marked ≡ 101 ∷ after) → Spans is_blank after gap signed → (h.before ≡ before) × (h.gap ≡ gap)
+one_blanks : (text : List ℕ) (negative : Bool) (digits rest : List ℕ) (h : IsExponent text negative digits rest) (before marked after gap signed : List ℕ)
+    → Spans is_blank text before marked → (marked ≡ 69 ∷ after) ⊎ (marked ≡ 101 ∷ after) → Spans is_blank after gap signed → (h.before ≡ before) × (h.gap ≡ gap)
 one_blanks text negative digits rest h before marked after gap signed s m t =
     let a = one_span is_blank text h.before h.marked before marked h.blank s in
     let b : h.after ≡ after = elim h.mark [
@@ -38,8 +35,10 @@ one_blanks text negative digits rest h before marked after gap signed s m t =
     let c = one_span is_blank after h.gap h.signed gap signed (subst (λ (x : List ℕ). Spans is_blank x h.gap h.signed) b h.space) t in
     (a.0, c.0)
 
-same_blanks : (text : List ℕ) (negative : Bool) (digits rest : List ℕ) (negative' : Bool) (digits' rest' : List ℕ) (h : IsExponent text negative digits rest) (k : IsExponent text negative' digits' rest') → (h.before ≡ k.before) × (h.gap ≡ k.gap)
-same_blanks text negative digits rest negative' digits' rest' h k = one_blanks text negative digits rest h k.before k.marked k.after k.gap k.signed k.blank k.mark k.space
+same_blanks : (text : List ℕ) (negative : Bool) (digits rest : List ℕ) (negative' : Bool) (digits' rest' : List ℕ) (h : IsExponent text negative digits rest)
+    (k : IsExponent text negative' digits' rest') → (h.before ≡ k.before) × (h.gap ≡ k.gap)
+same_blanks text negative digits rest negative' digits' rest' h k =
+    one_blanks text negative digits rest h k.before k.marked k.after k.gap k.signed k.blank k.mark k.space
 
 -- ---- one end
 
@@ -49,18 +48,22 @@ after_of text after n other p m = (one_mantissa text p.number p.after n after p.
 pub no_mantissa_apart : (text : List ℕ) → ((n : Written) (rest : List ℕ) → IsMantissa text n rest → ⊥) → (other : List ℕ) → IsApart text other → ⊥
 no_mantissa_apart text h other p = h p.number p.after p.mantissa
 
-pub no_exponent_apart : (text after : List ℕ) (n : Written) → IsMantissa text n after → ((negative : Bool) (digits rest : List ℕ) → IsExponent after negative digits rest → ⊥) → (other : List ℕ) → IsApart text other → ⊥
+pub no_exponent_apart : (text after : List ℕ) (n : Written) → IsMantissa text n after
+    → ((negative : Bool) (digits rest : List ℕ) → IsExponent after negative digits rest → ⊥) → (other : List ℕ) → IsApart text other → ⊥
 no_exponent_apart text after n m h other p =
     h p.negative p.digits other (subst (λ (x : List ℕ). IsExponent x p.negative p.digits other) (after_of text after n other p m) p.exponent)
 
-not_apart_here : (text other : List ℕ) (p : IsApart text other) (negative : Bool) (digits rest : List ℕ) (e : IsExponent p.after negative digits rest) → (0 < length e.before + length e.gap → ⊥) → ⊥
+not_apart_here : (text other : List ℕ) (p : IsApart text other) (negative : Bool) (digits rest : List ℕ) (e : IsExponent p.after negative digits rest)
+    → (0 < length e.before + length e.gap → ⊥) → ⊥
 not_apart_here text other p negative digits rest e h =
     let r = same_blanks p.after p.negative p.digits other negative digits rest p.exponent e in
     h (omega (arith, p.apart, ap (λ (x : List ℕ). length x) r.0, ap (λ (x : List ℕ). length x) r.1))
 
-pub not_apart : (text after : List ℕ) (n : Written) (negative : Bool) (digits rest : List ℕ) → IsMantissa text n after → (e : IsExponent after negative digits rest) → (0 < length e.before + length e.gap → ⊥) → (other : List ℕ) → IsApart text other → ⊥
+pub not_apart : (text after : List ℕ) (n : Written) (negative : Bool) (digits rest : List ℕ) → IsMantissa text n after
+    → (e : IsExponent after negative digits rest) → (0 < length e.before + length e.gap → ⊥) → (other : List ℕ) → IsApart text other → ⊥
 not_apart text after n negative digits rest m e h other p =
-    subst (λ (x : List ℕ). (e : IsExponent x negative digits rest) → (0 < length e.before + length e.gap → ⊥) → ⊥) (after_of text after n other p m) (not_apart_here text other p negative digits rest) e h
+    subst (λ (x : List ℕ). (e : IsExponent x negative digits rest) → (0 < length e.before + length e.gap → ⊥)
+    → ⊥) (after_of text after n other p m) (not_apart_here text other p negative digits rest) e h
 
 pub one_apart : (text a b : List ℕ) → IsApart text a → IsApart text b → a ≡ b
 one_apart text a b p q =
@@ -119,14 +122,19 @@ fraction_tail text digits rest f =
 
 mantissa_tail : (text : List ℕ) (n : Written) (rest : List ℕ) → IsMantissa text n rest → Tail text rest
 mantissa_tail text n rest m =
-    tail_on text (unsigned text) rest (unsigned_tail text) (tail_on (unsigned text) m.pointed rest (span_tail is_digit (unsigned text) n.whole m.pointed m.before) (fraction_tail m.pointed n.fraction rest m.after))
+    tail_on text (unsigned text) rest (unsigned_tail text)
+    (tail_on (unsigned text) m.pointed rest (span_tail is_digit (unsigned text) n.whole m.pointed m.before)
+    (fraction_tail m.pointed n.fraction rest m.after))
 
 mark_tail : (marked after : List ℕ) → (marked ≡ 69 ∷ after) ⊎ (marked ≡ 101 ∷ after) → Tail marked after
 mark_tail marked after m = elim m [ inl e ↦ (69 ∷ [], e) | inr e ↦ (101 ∷ [], e) ]
 
 exponent_tail : (text : List ℕ) (negative : Bool) (digits rest : List ℕ) → IsExponent text negative digits rest → Tail text rest
 exponent_tail text negative digits rest e =
-    tail_on text e.marked rest (span_tail is_blank text e.before e.marked e.blank) (tail_on e.marked e.after rest (mark_tail e.marked e.after e.mark) (tail_on e.after e.signed rest (span_tail is_blank e.after e.gap e.signed e.space) (tail_on e.signed (unsigned e.signed) rest (unsigned_tail e.signed) (span_tail is_digit (unsigned e.signed) digits rest e.all))))
+    tail_on text e.marked rest (span_tail is_blank text e.before e.marked e.blank)
+    (tail_on e.marked e.after rest (mark_tail e.marked e.after e.mark)
+    (tail_on e.after e.signed rest (span_tail is_blank e.after e.gap e.signed e.space)
+    (tail_on e.signed (unsigned e.signed) rest (unsigned_tail e.signed) (span_tail is_digit (unsigned e.signed) digits rest e.all))))
 
 body_tail : (text rest : List ℕ) → IsBody text rest → Tail text rest
 body_tail text rest b =
@@ -139,7 +147,8 @@ suffix_tail : (text rest : List ℕ) → IsSuffixed text rest → Tail text rest
 suffix_tail text rest s =
     elim s.ends [
       | inl e ↦ ([], sym e.1)
-      | inr e ↦ subst (λ (x : List ℕ). Tail text x) (sym e.1) (tail_on text s.more s.after (span_tail is_blank text s.gap s.more s.blank) (span_tail is_letter s.more s.letters s.after s.all))
+      | inr e ↦ subst (λ (x : List ℕ). Tail text x) (sym e.1)
+          (tail_on text s.more s.after (span_tail is_blank text s.gap s.more s.blank) (span_tail is_letter s.more s.letters s.after s.all))
     ]
 
 pub numeral_tail : (text rest : List ℕ) → IsNumeral text rest → Tail text rest

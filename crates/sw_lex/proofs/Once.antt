@@ -1,12 +1,15 @@
 -- A text has at most one unit at its front, or one refusal.
-use Rattle.std.proofs.Common.{◌≡◌, ℕ, ◌+◌, ◌<◌, ◌≤◌, Bool, true, false, not, Some, None, List, [], ◌∷◌, ◌++◌, length, refl, sym, ap, subst, ◌∙◌, arith, inl, inr}
+use Rattle.std.proofs.Common.{◌≡◌, ℕ, ◌+◌, ◌<◌, ◌≤◌, Bool, true, false, not, Some, None, List, [], ◌∷◌, ◌++◌, length, refl, sym, ap, subst, ◌∙◌, arith, inl}
+use Rattle.std.proofs.Common.{inr}
 use Rattle.std.specs.Prelude.{◌==◌}
 use Rattle.std.proofs.lemmas.List.{append-nil}
 use Rattle.sw_base.specs.Text.{is_blank, is_digit, StartsOff, Spans}
 use Rattle.sw_base.proofs.Runs.{same_span, one_span}
 use Rattle.sw_base.specs.declared.error.ScpiError.{ScpiError}
 use Rattle.sw_base.specs.declared.error.ScpiError.TheVariants.{DataTypeError, InvalidSeparator, InvalidExpression}
-use Rattle.sw_lex.specs.Unit.{Heading, Heads, Asks, Datum, kind_of, Leads, Ends, IsNext, IsLast, IsData, IsTail, UnitView, IsUnit, Reaches, IsStuck, BeginsNone, IsSeventeenth, IsUnclosed, IsBadBlock, IsBroken, BreaksIn, IsUnseparated, IsDataRefused, IsTailRefused, IsPartRefused, IsRefused, IsBlank, HasNoHeading, is_gap, fault_at, heading_text}
+use Rattle.sw_lex.specs.Unit.{Heading, Heads, Asks, Datum, kind_of, Leads, Ends, IsNext, IsLast, IsData, IsTail, UnitView, IsUnit, Reaches, IsStuck}
+use Rattle.sw_lex.specs.Unit.{BeginsNone, IsSeventeenth, IsUnclosed, IsBadBlock, IsBroken, BreaksIn, IsUnseparated, IsDataRefused, IsTailRefused}
+use Rattle.sw_lex.specs.Unit.{IsPartRefused, IsRefused, IsBlank, HasNoHeading, is_gap, fault_at, heading_text}
 use Rattle.sw_lex.specs.declared.elements.Kind.{Kind}
 use Rattle.sw_lex.specs.declared.elements.Kind.TheVariants as kinds
 use Rattle.sw_lex.specs.Elements.{is_inner, IsBlock, IsExpression, IsElement}
@@ -49,7 +52,8 @@ bad_block_not text e bytes a u p =
     elim u.why [
       | inl x ↦ x.1 bytes a p
       | inr x ↦
-          let m : u.more ≡ (48 + length p.digits) ∷ (p.digits ++ (bytes ++ a)) = same_more text u.more ((48 + length p.digits) ∷ (p.digits ++ (bytes ++ a))) u.opened p.whole in
+          let m : u.more ≡ (48 + length p.digits) ∷ (p.digits ++ (bytes ++ a)) =
+          same_more text u.more ((48 + length p.digits) ∷ (p.digits ++ (bytes ++ a))) u.opened p.whole in
           let f : x.0 ∷ x.1 ≡ (48 + length p.digits) ∷ (p.digits ++ (bytes ++ a)) = sym x.2 ∙ m in
           let k : x.0 ≡ 48 + length p.digits = cc in
           let l : is_digit (48 + length p.digits) ≡ true = width_digit (length p.digits) p.few in
@@ -99,7 +103,8 @@ ends_once [] r s a b = a ∙ sym b
 ends_once (c ∷ more) r s a b = a.1 ∙ sym b.1
 
 -- the white space after one element, and what follows it
-one_gap : (text : List ℕ) (d c : Datum) (a b g h x y : List ℕ) → Leads text d a → Spans is_blank a g x → Leads text c b → Spans is_blank b h y → (d ≡ c) × (x ≡ y)
+one_gap : (text : List ℕ) (d c : Datum) (a b g h x y : List ℕ) → Leads text d a → Spans is_blank a g x → Leads text c b → Spans is_blank b h y
+    → (d ≡ c) × (x ≡ y)
 one_gap text d c a b g h x y p s q t =
     let r = one_leads text d c a b p q in
     (r.0, (one_span is_blank a g x h y s (subst (λ (z : List ℕ). Spans is_blank z h y) (sym r.1) t)).1)
@@ -218,7 +223,8 @@ one_data text (d ∷ b ∷ ds) (c ∷ a ∷ cs) x y p q =
     (ap (λ (z : Datum). z ∷ b ∷ ds) r.0 ∙ ap (λ (zs : List Datum). c ∷ zs) s.0, s.1)
 
 -- data that are read to their end are not refused, with k elements before them
-data_stuck : (k : ℕ) (text : List ℕ) (ds front : List Datum) (x here : List ℕ) (e : ScpiError) → k + length ds ≤ 16 → IsData text ds x → Reaches text front here → IsStuck (k + length front) here e → ⊥
+data_stuck : (k : ℕ) (text : List ℕ) (ds front : List Datum) (x here : List ℕ) (e : ScpiError) → k + length ds ≤ 16 → IsData text ds x → Reaches text front here
+    → IsStuck (k + length front) here e → ⊥
 data_stuck k text [] front x here e l p r s = p
 data_stuck k text (d ∷ []) [] x here e l p r s =
     stuck_last (k + 0) here e d x s (omega (arith, l)) (subst (λ (z : List ℕ). IsLast z d x) r p)
@@ -228,9 +234,11 @@ data_stuck k text (d ∷ []) (f ∷ fs) x here e l p r s = next_last text f d r.
 data_stuck k text (d ∷ b ∷ ds) (f ∷ fs) x here e l p r s =
     let n = one_next text d f p.0 r.0 p.1 r.1 in
     let c : k + length (f ∷ fs) ≡ k + 1 + length fs = omega arith in
-    data_stuck (k + 1) p.0 (b ∷ ds) fs x here e (omega (arith, l)) p.2 (subst (λ (z : List ℕ). Reaches z fs here) (sym n.1) r.2) (subst (λ (z : ℕ). IsStuck z here e) c s)
+    data_stuck (k + 1) p.0 (b ∷ ds) fs x here e (omega (arith, l)) p.2 (subst (λ (z : List ℕ). Reaches z fs here) (sym n.1) r.2)
+    (subst (λ (z : ℕ). IsStuck z here e) c s)
 
-stuck_stuck : (k : ℕ) (text : List ℕ) (front others : List Datum) (here there : List ℕ) (e f : ScpiError) → k + length front ≤ 16 → k + length others ≤ 16 → Reaches text front here → IsStuck (k + length front) here e → Reaches text others there → IsStuck (k + length others) there f → e ≡ f
+stuck_stuck : (k : ℕ) (text : List ℕ) (front others : List Datum) (here there : List ℕ) (e f : ScpiError) → k + length front ≤ 16 → k + length others ≤ 16
+    → Reaches text front here → IsStuck (k + length front) here e → Reaches text others there → IsStuck (k + length others) there f → e ≡ f
 stuck_stuck k text [] [] here there e f l m r s q t =
     one_stuck (k + 0) here e f s (subst (λ (z : List ℕ). IsStuck (k + 0) z f) (sym q ∙ r) t)
 stuck_stuck k text [] (d ∷ ds) here there e f l m r s q t =
@@ -241,7 +249,8 @@ stuck_stuck k text (d ∷ ds) (c ∷ cs) here there e f l m r s q t =
     let n = one_next text d c r.0 q.0 r.1 q.1 in
     let a : k + length (d ∷ ds) ≡ k + 1 + length ds = omega arith in
     let b : k + length (c ∷ cs) ≡ k + 1 + length cs = omega arith in
-    stuck_stuck (k + 1) r.0 ds cs here there e f (omega (arith, l)) (omega (arith, m)) r.2 (subst (λ (z : ℕ). IsStuck z here e) a s) (subst (λ (z : List ℕ). Reaches z cs there) (sym n.1) q.2) (subst (λ (z : ℕ). IsStuck z there f) b t)
+    stuck_stuck (k + 1) r.0 ds cs here there e f (omega (arith, l)) (omega (arith, m)) r.2 (subst (λ (z : ℕ). IsStuck z here e) a s)
+    (subst (λ (z : List ℕ). Reaches z cs there) (sym n.1) q.2) (subst (λ (z : ℕ). IsStuck z there f) b t)
 
 data_refused : (text : List ℕ) (ds : List Datum) (x : List ℕ) (e : ScpiError) → length ds ≤ 16 → IsData text ds x → IsDataRefused text e → ⊥
 data_refused text ds x e l p r =
@@ -252,7 +261,8 @@ one_data_refusal : (text : List ℕ) (e f : ScpiError) → IsDataRefused text e 
 one_data_refusal text e f r s =
     let c : length r.front ≡ 0 + length r.front = omega arith in
     let d : length s.front ≡ 0 + length s.front = omega arith in
-    stuck_stuck 0 text r.front s.front r.here s.here e f (omega (arith, r.few)) (omega (arith, s.few)) r.reached (subst (λ (z : ℕ). IsStuck z r.here e) c r.why) s.reached (subst (λ (z : ℕ). IsStuck z s.here f) d s.why)
+    stuck_stuck 0 text r.front s.front r.here s.here e f (omega (arith, r.few)) (omega (arith, s.few)) r.reached
+    (subst (λ (z : ℕ). IsStuck z r.here e) c r.why) s.reached (subst (λ (z : ℕ). IsStuck z s.here f) d s.why)
 
 -- ---- what follows a header
 
@@ -324,7 +334,8 @@ one_unit text u v x y p q =
     let d = one_tail p.tail u.elements v.elements x y p.follows (subst (λ (z : List ℕ). IsTail z v.elements y) (sym c.1) q.follows) in
     (view_is u v b.0 c.0 d.0, d.1)
 
-part_refused : (start after tail : List ℕ) (u : UnitView) (x : List ℕ) (e : ScpiError) → Heads start u.header after → Asks after u.query tail → IsTail tail u.elements x → length u.elements ≤ 16 → IsPartRefused start e → ⊥
+part_refused : (start after tail : List ℕ) (u : UnitView) (x : List ℕ) (e : ScpiError) → Heads start u.header after → Asks after u.query tail
+    → IsTail tail u.elements x → length u.elements ≤ 16 → IsPartRefused start e → ⊥
 part_refused start after tail u x e h k t l r =
     let b = one_heading start u.header r.heading after r.after h r.header in
     let c = one_ask after u.query r.query tail r.tail k (subst (λ (z : List ℕ). Asks z r.query r.tail) (sym b.1) r.asks) in

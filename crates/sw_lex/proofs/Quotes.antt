@@ -61,32 +61,42 @@ one_doubled m (a ∷ c) (b ∷ d) x y s t e =
 
 -- ---- the closing mark
 
-pub never_closed : (m : ℕ) (text front rest : List ℕ) → text ≡ doubled m front ++ rest → Lacks m rest → (content after : List ℕ) → text ≡ doubled m content ++ m ∷ after → StartsOff (λ b. b == m) after → ⊥
+pub never_closed : (m : ℕ) (text front rest : List ℕ) → text ≡ doubled m front ++ rest → Lacks m rest → (content after : List ℕ)
+    → text ≡ doubled m content ++ m ∷ after → StartsOff (λ b. b == m) after → ⊥
 never_closed m text front rest e l content after f o =
-    let g : text ≡ doubled m (front ++ rest) ++ [] = e ∙ ap (λ (t : List ℕ). doubled m front ++ t) (sym (doubled-none m rest l)) ∙ sym (doubled-append m front rest) ∙ sym (append-nil (doubled m (front ++ rest))) in
+    let g : text ≡ doubled m (front ++ rest) ++ [] = e ∙ ap (λ (t : List ℕ). doubled m front ++ t) (sym (doubled-none m rest l))
+    ∙ sym (doubled-append m front rest) ∙ sym (append-nil (doubled m (front ++ rest))) in
     let r = one_doubled m (front ++ rest) content [] (m ∷ after) tt (refl, o) (sym g ∙ f) in
     let z : [] ≡ m ∷ after = r.1 in
     cc
 
-pub closed_at : (m : ℕ) (text front rest left more : List ℕ) → text ≡ doubled m front ++ rest → Lacks m left → rest ≡ left ++ m ∷ more → text ≡ doubled m (front ++ left) ++ m ∷ more
+pub closed_at : (m : ℕ) (text front rest left more : List ℕ) → text ≡ doubled m front ++ rest → Lacks m left → rest ≡ left ++ m ∷ more
+    → text ≡ doubled m (front ++ left) ++ m ∷ more
 closed_at m text front rest left more e l f =
-    let g : doubled m (front ++ left) ≡ doubled m front ++ left = doubled-append m front left ∙ ap (λ (t : List ℕ). doubled m front ++ t) (doubled-none m left l) in
+    let g : doubled m (front ++ left) ≡ doubled m front ++ left = doubled-append m front left
+    ∙ ap (λ (t : List ℕ). doubled m front ++ t) (doubled-none m left l) in
     e ∙ ap (λ (t : List ℕ). doubled m front ++ t) f ∙ sym (append_assoc (doubled m front) left (m ∷ more)) ∙ ap (λ (t : List ℕ). t ++ m ∷ more) (sym g)
 
 doubled-mark : (m : ℕ) → doubled m (m ∷ []) ≡ m ∷ m ∷ []
 doubled-mark m = elim (cases_Bool (m == m)) [ inl e ↦ rw e refl | inr e ↦ absurd (equal_not m m refl e) ]
 
-pub doubled_on : (m : ℕ) (text front rest left more others : List ℕ) → text ≡ doubled m front ++ rest → Lacks m left → rest ≡ left ++ m ∷ more → more ≡ m ∷ others → text ≡ doubled m ((front ++ left) ++ m ∷ []) ++ others
+pub doubled_on : (m : ℕ) (text front rest left more others : List ℕ) → text ≡ doubled m front ++ rest → Lacks m left → rest ≡ left ++ m ∷ more
+    → more ≡ m ∷ others → text ≡ doubled m ((front ++ left) ++ m ∷ []) ++ others
 doubled_on m text front rest left more others e l f g =
-    closed_at m text front rest left more e l f ∙ ap (λ (t : List ℕ). doubled m (front ++ left) ++ m ∷ t) g ∙ sym (append_assoc (doubled m (front ++ left)) (m ∷ m ∷ []) others) ∙ ap (λ (t : List ℕ). t ++ others) (sym (doubled-append m (front ++ left) (m ∷ []) ∙ ap (λ (t : List ℕ). doubled m (front ++ left) ++ t) (doubled-mark m)))
+    closed_at m text front rest left more e l f ∙ ap (λ (t : List ℕ). doubled m (front ++ left) ++ m ∷ t) g
+    ∙ sym (append_assoc (doubled m (front ++ left)) (m ∷ m ∷ []) others)
+    ∙ ap (λ (t : List ℕ). t ++ others) (sym (doubled-append m (front ++ left) (m ∷ [])
+    ∙ ap (λ (t : List ℕ). doubled m (front ++ left) ++ t) (doubled-mark m)))
 
 -- ---- one string
 
-at_mark : (m b : ℕ) (more content rest : List ℕ) → m ≡ b → is_quote m ≡ true → more ≡ doubled m content ++ m ∷ rest → StartsOff (λ c. c == m) rest → (is_quote b ≡ true) × (more ≡ doubled b content ++ b ∷ rest) × StartsOff (λ c. c == b) rest
+at_mark : (m b : ℕ) (more content rest : List ℕ) → m ≡ b → is_quote m ≡ true → more ≡ doubled m content ++ m ∷ rest → StartsOff (λ c. c == m) rest
+    → (is_quote b ≡ true) × (more ≡ doubled b content ++ b ∷ rest) × StartsOff (λ c. c == b) rest
 at_mark m b more content rest e q w o =
     subst (λ (x : ℕ). (is_quote x ≡ true) × (more ≡ doubled x content ++ x ∷ rest) × StartsOff (λ c. c == x) rest) e (q, w, o)
 
-pub string_at : (b : ℕ) (more content rest : List ℕ) → IsString (b ∷ more) content rest → (is_quote b ≡ true) × (more ≡ doubled b content ++ b ∷ rest) × StartsOff (λ c. c == b) rest
+pub string_at : (b : ℕ) (more content rest : List ℕ) → IsString (b ∷ more) content rest → (is_quote b ≡ true) × (more ≡ doubled b content ++ b ∷ rest)
+    × StartsOff (λ c. c == b) rest
 string_at b more content rest s =
     let e : b ∷ more ≡ s.mark ∷ (doubled s.mark content ++ s.mark ∷ rest) = s.whole in
     let k : s.mark ≡ b = cc in
@@ -103,22 +113,28 @@ one_string (x ∷ more) c d a b s t =
     (r.0, cc)
 
 pub string_tail : (text content rest : List ℕ) → IsString text content rest → (front : List ℕ) × (text ≡ front ++ rest)
-string_tail text content rest s =
-    ((s.mark ∷ (doubled s.mark content ++ s.mark ∷ [])), s.whole ∙ ap (λ (t : List ℕ). s.mark ∷ t) (sym (append_assoc (doubled s.mark content) (s.mark ∷ []) rest)))
+string_tail text content rest s = (
+  (s.mark ∷ (doubled s.mark content ++ s.mark ∷ [])),
+  s.whole
+      ∙ ap (λ (t : List ℕ). s.mark ∷ t) (sym (append_assoc (doubled s.mark content) (s.mark ∷ []) rest)),
+)
 
 -- the content up to the last mark
-pub closed_content : (m : ℕ) (text front rest left more content : List ℕ) → text ≡ doubled m front ++ rest → Lacks m left → rest ≡ left ++ m ∷ more → StartsOff (λ b. b == m) more → text ≡ doubled m content ++ m ∷ [] → front ++ left ≡ content
+pub closed_content : (m : ℕ) (text front rest left more content : List ℕ) → text ≡ doubled m front ++ rest → Lacks m left → rest ≡ left ++ m ∷ more
+    → StartsOff (λ b. b == m) more → text ≡ doubled m content ++ m ∷ [] → front ++ left ≡ content
 closed_content m text front rest left more content e l f o h =
     (one_doubled m (front ++ left) content (m ∷ more) (m ∷ []) (refl, o) (refl, tt) (sym (closed_at m text front rest left more e l f) ∙ h)).0
 
 -- a string that goes on isn't the whole text
-goes_on : (m b : ℕ) (text content rest : List ℕ) → text ≡ doubled m content ++ m ∷ (b ∷ rest) → StartsOff (λ c. c == m) (b ∷ rest) → (other : List ℕ) → IsString (m ∷ text) other [] → ⊥
+goes_on : (m b : ℕ) (text content rest : List ℕ) → text ≡ doubled m content ++ m ∷ (b ∷ rest) → StartsOff (λ c. c == m) (b ∷ rest) → (other : List ℕ)
+    → IsString (m ∷ text) other [] → ⊥
 goes_on m b text content rest e o other s =
     let p = string_at m text other [] s in
     let r = one_doubled m content other (m ∷ b ∷ rest) (m ∷ []) (refl, o) (refl, tt) (sym e ∙ p.1) in
     let z : m ∷ b ∷ rest ≡ m ∷ [] = r.1 in
     cc
 
-pub not_whole : (m : ℕ) (text content rest : List ℕ) → text ≡ doubled m content ++ m ∷ rest → StartsOff (λ c. c == m) rest → 0 < length rest → (other : List ℕ) → IsString (m ∷ text) other [] → ⊥
+pub not_whole : (m : ℕ) (text content rest : List ℕ) → text ≡ doubled m content ++ m ∷ rest → StartsOff (λ c. c == m) rest → 0 < length rest → (other : List ℕ)
+    → IsString (m ∷ text) other [] → ⊥
 not_whole m text content [] e o l other s = omega (arith, l)
 not_whole m text content (b ∷ rest) e o l other s = goes_on m b text content rest e o other s

@@ -2,7 +2,8 @@
 use Rattle.std.proofs.Common.{◌≡◌, ℕ, ◌+◌, ◌<◌, ◌≤◌, Bool, true, false, List, [], ◌∷◌, ◌++◌, length, ap, arith, inl, inr}
 use Rattle.std.proofs.lemmas.List.{length-append}
 use Rattle.sw_base.specs.Text.{Spans}
-use Rattle.sw_lex.specs.Unit.{Heading, common, path, heading_text, IsHeading, IsMnemonic, IsPath, colon, colons, Asks, Datum, datum_text, Leads, Ends, IsNext, IsLast, IsData, IsTail, IsUnit, UnitView}
+use Rattle.sw_lex.specs.Unit.{Heading, common, path, heading_text, IsHeading, IsMnemonic, IsPath, colon, colons, Asks, Datum, datum_text, Leads, Ends, IsNext}
+use Rattle.sw_lex.specs.Unit.{IsLast, IsData, IsTail, IsUnit, UnitView}
 
 pub longer : (text part rest : List ℕ) → text ≡ part ++ rest → length part + length rest ≡ length text
 longer text part rest e = omega (arith, length-append part rest, ap (λ (t : List ℕ). length t) e)

@@ -6,7 +6,8 @@ use Rattle.sw_base.specs.Text.{is_letter, StartsOff}
 use Rattle.sw_base.specs.declared.error.ScpiError.{ScpiError}
 use Rattle.sw_base.specs.declared.error.ScpiError.TheVariants.{SyntaxError}
 use Rattle.sw_lex.specs.declared.unit.Element.{Element}
-use Rattle.sw_lex.specs.Unit.{IsMnemonic, IsName, colons, IsPath, BreaksOff, Datum, IsData, Reaches, IsNext, IsLast, fault_at, data_of, datum_of, IsStuck, IsDataRefused, Heads, common}
+use Rattle.sw_lex.specs.Unit.{IsMnemonic, IsName, colons, IsPath, BreaksOff, Datum, IsData, Reaches, IsNext, IsLast, fault_at, data_of, datum_of, IsStuck}
+use Rattle.sw_lex.specs.Unit.{IsDataRefused, Heads, common}
 
 -- ---- a part of a text by its length
 
@@ -43,7 +44,8 @@ whole-push text rest m more ms e f =
 len-push : (ms : List (List ℕ)) (m : List ℕ) (n : ℕ) → length (colons ms) ≡ n → length (colons (ms ++ m ∷ [])) ≡ n + length m + 1
 len-push ms m n e = ap (λ (t : List ℕ). length t) (colons-push ms m) ∙ omega (arith, length-append (colons ms) (m ++ 58 ∷ []), length-append m (58 ∷ []))
 
-pub Front-more : (text : List ℕ) (n : ℕ) (rest m after more : List ℕ) → Front text n rest → IsMnemonic m → rest ≡ m ++ after → after ≡ 58 ∷ more → Front text (n + length m + 1) more
+pub Front-more : (text : List ℕ) (n : ℕ) (rest m after more : List ℕ) → Front text n rest → IsMnemonic m → rest ≡ m ++ after → after ≡ 58 ∷ more
+    → Front text (n + length m + 1) more
 Front-more text n rest m after more f h e g = record {
   nodes = f.nodes ++ m ∷ [];
   each = each-push f.nodes m f.each h;
@@ -57,7 +59,8 @@ front-whole text n rest m more f e = f.whole ∙ ap (λ (t : List ℕ). colons f
 front-len : (text : List ℕ) (n : ℕ) (rest m : List ℕ) (f : Front text n rest) → length (colons f.nodes ++ m) ≡ n + length m
 front-len text n rest m f = omega (arith, f.len, length-append (colons f.nodes) m)
 
-pub Front-path : (text : List ℕ) (n : ℕ) (rest m more : List ℕ) → Front text n rest → IsMnemonic m → rest ≡ m ++ more → IsPath (take (n + length m) text) × (text ≡ take (n + length m) text ++ drop (n + length m) text)
+pub Front-path : (text : List ℕ) (n : ℕ) (rest m more : List ℕ) → Front text n rest → IsMnemonic m → rest ≡ m ++ more
+    → IsPath (take (n + length m) text) × (text ≡ take (n + length m) text ++ drop (n + length m) text)
 Front-path text n rest m more f h e = (
   record {
     nodes = f.nodes;
@@ -72,16 +75,19 @@ Front-path text n rest m more f h e = (
 pub Front-rest : (text : List ℕ) (n : ℕ) (rest m more : List ℕ) → Front text n rest → rest ≡ m ++ more → drop (n + length m) text ≡ more
 Front-rest text n rest m more f e = rest_of text (colons f.nodes ++ m) more (n + length m) (front-whole text n rest m more f e) (front-len text n rest m f)
 
-pub Front-off : (text : List ℕ) (n : ℕ) (rest : List ℕ) (e : ScpiError) → Front text n rest → StartsOff is_letter rest → e ≡ fault_at SyntaxError rest → BreaksOff text e
+pub Front-off : (text : List ℕ) (n : ℕ) (rest : List ℕ) (e : ScpiError) → Front text n rest → StartsOff is_letter rest → e ≡ fault_at SyntaxError rest
+    → BreaksOff text e
 Front-off text n rest e f o h = record { nodes = f.nodes; each = f.each; more = rest; whole = f.whole; off = o; error = h }
 
 -- ---- data so far
 
-pub reaches_more : (text : List ℕ) (ds : List Datum) (here next : List ℕ) (d : Datum) → Reaches text ds here → IsNext here d next → Reaches text (ds ++ d ∷ []) next
+pub reaches_more : (text : List ℕ) (ds : List Datum) (here next : List ℕ) (d : Datum) → Reaches text ds here → IsNext here d next
+    → Reaches text (ds ++ d ∷ []) next
 reaches_more text [] here next d r n = (next, subst (λ (t : List ℕ). IsNext t d next) (sym r) n, refl)
 reaches_more text (c ∷ ds) here next d r n = (r.0, r.1, reaches_more r.0 ds here next d r.2 n)
 
-pub reaches_last : (text : List ℕ) (ds : List Datum) (here rest : List ℕ) (d : Datum) → Reaches text ds here → IsLast here d rest → IsData text (ds ++ d ∷ []) rest
+pub reaches_last : (text : List ℕ) (ds : List Datum) (here rest : List ℕ) (d : Datum) → Reaches text ds here → IsLast here d rest
+    → IsData text (ds ++ d ∷ []) rest
 reaches_last text [] here rest d r n = subst (λ (t : List ℕ). IsLast t d rest) (sym r) n
 reaches_last text (c ∷ []) here rest d r n = (r.0, r.1, reaches_last r.0 [] here rest d r.2 n)
 reaches_last text (c ∷ b ∷ ds) here rest d r n = (r.0, r.1, reaches_last r.0 (b ∷ ds) here rest d r.2 n)
@@ -89,7 +95,8 @@ reaches_last text (c ∷ b ∷ ds) here rest d r n = (r.0, r.1, reaches_last r.0
 pub data-push : (es : List Element) (e : Element) → data_of (es ++ e ∷ []) ≡ data_of es ++ datum_of e ∷ []
 data-push es e = map_push datum_of es e
 
-stuck-here : (text here : List ℕ) (ds : List Datum) (n : ℕ) (e : ScpiError) → Reaches text ds here → n ≡ length ds → n ≤ 16 → IsStuck n here e → IsDataRefused text e
+stuck-here : (text here : List ℕ) (ds : List Datum) (n : ℕ) (e : ScpiError) → Reaches text ds here → n ≡ length ds → n ≤ 16 → IsStuck n here e
+    → IsDataRefused text e
 stuck-here text here ds n e r k f s = record {
   front = ds;
   here = here;
@@ -98,12 +105,14 @@ stuck-here text here ds n e r k f s = record {
   why = subst (λ (m : ℕ). IsStuck m here e) k s;
 }
 
-pub stuck-refused : (text here : List ℕ) (es : List Element) (n : ℕ) (e : ScpiError) → Reaches text (data_of es) here → n ≡ length es → n ≤ 16 → IsStuck n here e → IsDataRefused text e
+pub stuck-refused : (text here : List ℕ) (es : List Element) (n : ℕ) (e : ScpiError) → Reaches text (data_of es) here → n ≡ length es → n ≤ 16
+    → IsStuck n here e → IsDataRefused text e
 stuck-refused text here es n e r k = stuck-here text here (data_of es) n e r (k ∙ sym (length-map es datum_of))
 
 -- ---- a common header
 
-pub common-heads : (text more name rest : List ℕ) → text ≡ 42 ∷ more → IsName name → more ≡ name ++ rest → StartsOff is_letter rest → Heads text (common (take (length name + 1) text)) (drop (length name + 1) text)
+pub common-heads : (text more name rest : List ℕ) → text ≡ 42 ∷ more → IsName name → more ≡ name ++ rest → StartsOff is_letter rest
+    → Heads text (common (take (length name + 1) text)) (drop (length name + 1) text)
 common-heads text more name rest e h f o =
     let w : text ≡ (42 ∷ name) ++ rest = e ∙ ap (λ (t : List ℕ). 42 ∷ t) f in
     let n : length (42 ∷ name) ≡ length name + 1 = omega (arith, length-append (42 ∷ []) name) in

@@ -41,13 +41,15 @@ asks_leaves : (after : List ℕ) (query : Bool) (tail : List ℕ) → Asks after
 asks_leaves after true tail a = (63 ∷ [], a)
 asks_leaves after false tail a = ([], a.0)
 
-pub start_leaves : (start : List ℕ) (h : Heading) (after : List ℕ) (q : Bool) (tail : List ℕ) (ds : List Datum) (left : List ℕ) → Heads start h after → Asks after q tail → IsLeft tail ds left → Leaves start left
+pub start_leaves : (start : List ℕ) (h : Heading) (after : List ℕ) (q : Bool) (tail : List ℕ) (ds : List Datum) (left : List ℕ) → Heads start h after
+    → Asks after q tail → IsLeft tail ds left → Leaves start left
 start_leaves start h after q tail ds left p a l =
     leaves_more start after left (heading_text h, p.whole) (leaves_more after tail left (asks_leaves after q tail a) (left_leaves tail ds left l))
 
 -- ---- data so far
 
-pub joined_last : (text : List ℕ) (ds : List Datum) (here left : List ℕ) (d : Datum) → Reaches text ds here → Leads here d left → IsJoined text (ds ++ d ∷ []) left
+pub joined_last : (text : List ℕ) (ds : List Datum) (here left : List ℕ) (d : Datum) → Reaches text ds here → Leads here d left
+    → IsJoined text (ds ++ d ∷ []) left
 joined_last text [] here left d r n = subst (λ (t : List ℕ). Leads t d left) (sym r) n
 joined_last text (c ∷ []) here left d r n = (r.0, r.1, joined_last r.0 [] here left d r.2 n)
 joined_last text (c ∷ b ∷ ds) here left d r n = (r.0, r.1, joined_last r.0 (b ∷ ds) here left d r.2 n)
@@ -71,7 +73,8 @@ one_left tail (d ∷ ds) a b p q =
     let r = one_span is_blank tail p.0 p.1 q.0 q.1 p.2 q.2 in
     one_joined p.1 (d ∷ ds) a b p.3 (subst (λ (z : List ℕ). IsJoined z (d ∷ ds) b) (sym r.1) q.3)
 
-pub one_written : (text before front : List ℕ) (u : UnitView) (w v r s : List ℕ) → IsWritten text before u w r → IsWritten text front u v s → (before ≡ front) × (w ≡ v) × (r ≡ s)
+pub one_written : (text before front : List ℕ) (u : UnitView) (w v r s : List ℕ) → IsWritten text before u w r → IsWritten text front u v s
+    → (before ≡ front) × (w ≡ v) × (r ≡ s)
 one_written text before front u w v r s p q =
     let a = one_span is_gap text before p.start front q.start p.skipped q.skipped in
     let b = one_heading p.start u.header u.header p.after q.after p.header (subst (λ (z : List ℕ). Heads z u.header q.after) (sym a.1) q.header) in

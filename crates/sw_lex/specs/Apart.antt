@@ -1,6 +1,6 @@
 -- A test over a whole table: no header is two commands.
 use Rattle.std.specs.Prelude.{ℕ, Bool, true, false, not, ◌==◌, ◌&&◌, ◌||◌, List, [], ◌∷◌}
-use Rattle.sw_lex.specs.declared.table.Row.{Row}
+use Rattle.sw_lex.specs.Table.{Entry}
 use Rattle.sw_lex.specs.Found.{Spelling, spellings}
 
 abbrev pub same_word : List ℕ → List ℕ → Bool
@@ -24,7 +24,7 @@ abbrev pub disjoint : List Spelling → List Spelling → Bool
 disjoint [] ts = true
 disjoint (s ∷ ss) ts = lacks_words s.0 ts && disjoint ss ts
 
--- a spelling of the row has one number
+-- a spelling of the entry has one number
 abbrev pub one_number : Spelling → List Spelling → Bool
 one_number s [] = true
 one_number s (t ∷ ts) = (not (same_words s.0 t.0) || s.1 == t.1) && one_number s ts
@@ -37,11 +37,12 @@ abbrev pub same_bool : Bool → Bool → Bool
 same_bool true b = b
 same_bool false b = not b
 
--- apart from each later row of its kind
-abbrev pub apart_from : Row → List Row → Bool
-apart_from r [] = true
-apart_from r (q ∷ rows) = (not (same_bool r.query q.query) || disjoint (spellings r.steps) (spellings q.steps)) && apart_from r rows
+-- apart from each later entry of its kind
+abbrev pub apart_from : Entry → List Entry → Bool
+apart_from e [] = true
+apart_from e (d ∷ es) = (not (same_bool e.query d.query) || disjoint (spellings e.nodes) (spellings d.nodes))
+    && apart_from e es
 
-abbrev pub all_apart : List Row → Bool
+abbrev pub all_apart : List Entry → Bool
 all_apart [] = true
-all_apart (r ∷ rows) = apart_from r rows && (numbers_agree (spellings r.steps) && all_apart rows)
+all_apart (e ∷ es) = apart_from e es && (numbers_agree (spellings e.nodes) && all_apart es)

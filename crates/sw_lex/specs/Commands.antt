@@ -1,6 +1,7 @@
 -- The commands of the keys, and the ranges of their numbers (SCPI-1999, volume 2; IEEE 488.2, 10).
 use Rattle.std.specs.Prelude.{ℕ, List, ◌==◌, if◌then◌else◌}
 use Rattle.sw_base.specs.Layout.{Channel}
+use Rattle.sw_base.specs.Limits.{most_slots, most_points, most_arm_count, most_trigger_count}
 use Rattle.sw_base.specs.declared.terms.LayerName.{LayerName}
 use Rattle.sw_base.specs.declared.terms.LayerName.TheVariants as layers
 use Rattle.sw_base.specs.declared.terms.StatusGroup.{StatusGroup}
@@ -106,10 +107,10 @@ least whole_ones.Points = 1
 abbrev pub greatest : Whole → ℕ
 greatest whole_ones.EventEnable = 255
 greatest whole_ones.ServiceEnable = 255
-greatest (whole_ones.Count families.Arm) = 1000
-greatest (whole_ones.Count families.Trigger) = 100000
-greatest whole_ones.ScanMeter = 8
+greatest (whole_ones.Count families.Arm) = most_arm_count
+greatest (whole_ones.Count families.Trigger) = most_trigger_count
+greatest whole_ones.ScanMeter = most_slots
 greatest (whole_ones.Enable group) = 65535
 greatest (whole_ones.PositiveTransition group) = 65535
 greatest (whole_ones.NegativeTransition group) = 65535
-greatest whole_ones.Points = 100000
+greatest whole_ones.Points = most_points

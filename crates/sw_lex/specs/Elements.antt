@@ -1,5 +1,6 @@
 -- Data elements at the front of a text (IEEE 488.2, 7.7).
-use Rattle.std.specs.Prelude.{◌≡◌, ℕ, ◌+◌, ◌<◌, ◌≤◌, Bool, true, not, nat_lt, ◌==◌, ◌&&◌, ◌||◌, List, [], ◌∷◌, ◌++◌, length, ◌⊎◌, if◌then◌else◌, Option, Some, None}
+use Rattle.std.specs.Prelude.{◌≡◌, ℕ, ◌+◌, ◌<◌, ◌≤◌, Bool, true, not, nat_lt, ◌==◌, ◌&&◌, ◌||◌, List, [], ◌∷◌, ◌++◌}
+use Rattle.std.specs.Prelude.{length, ◌⊎◌, if◌then◌else◌, Option, Some, None}
 use Rattle.sw_base.specs.Text.{is_blank, is_digit, is_letter, is_word, AllPass, StartsOff, Spans}
 use Rattle.sw_base.specs.Number.{Written, IsMantissa, IsExponent, value_of}
 use Rattle.sw_lex.specs.declared.elements.Kind.{Kind}
@@ -52,7 +53,8 @@ pub record IsApart (text rest : List ℕ) : Type 0 where
 
 -- such a number, or else all up to white space, a comma or a semicolon
 abbrev pub IsBody : List ℕ → List ℕ → Type 0
-IsBody text rest = IsApart text rest ⊎ (((other : List ℕ) → IsApart text other → ⊥) × (run : List ℕ) × Spans is_run text run rest)
+IsBody text rest = IsApart text rest
+    ⊎ (((other : List ℕ) → IsApart text other → ⊥) × (run : List ℕ) × Spans is_run text run rest)
 
 -- then letters, and white space before them; where there are no letters, nothing
 pub record IsSuffixed (text rest : List ℕ) : Type 0 where

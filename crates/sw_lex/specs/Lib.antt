@@ -1,8 +1,9 @@
 pub mod Elements
 pub mod Unit
 pub mod Words
-pub mod Found
 pub mod Table
+pub mod Found
+pub mod Rows
 pub mod Apart
 pub mod Commands
 pub mod Values

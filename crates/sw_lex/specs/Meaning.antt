@@ -1,10 +1,12 @@
 -- From a unit to its command (SCPI-1999, volume 1, 6.2.4 for paths; 21.8.9 for refusals).
-use Rattle.std.specs.Prelude.{◌≡◌, ℕ, ◌-◌, Bool, true, false, ◌==◌, List, [], ◌∷◌, ◌++◌, length, map, take, Result, Ok, Err, ◌⊎◌, if◌then◌else◌}
+use Rattle.std.specs.Prelude.{◌≡◌, ℕ, ◌-◌, Bool, true, false, ◌==◌, List, [], ◌∷◌, ◌++◌, length, map, take, Result, Ok}
+use Rattle.std.specs.Prelude.{Err, ◌⊎◌, if◌then◌else◌}
 use Rattle.std.specs.Char.{to_ascii_uppercase}
 use Rattle.std.specs.Result.{result_map_both}
 use Rattle.sw_base.specs.Layout.{Channel}
 use Rattle.sw_base.specs.declared.error.ScpiError.{ScpiError}
-use Rattle.sw_base.specs.declared.error.ScpiError.TheVariants.{DataTypeError, ParameterNotAllowed, MissingParameter, UndefinedHeader, HeaderSuffixOutOfRange}
+use Rattle.sw_base.specs.declared.error.ScpiError.TheVariants.{DataTypeError, ParameterNotAllowed, MissingParameter}
+use Rattle.sw_base.specs.declared.error.ScpiError.TheVariants.{UndefinedHeader, HeaderSuffixOutOfRange}
 use Rattle.sw_base.specs.Number.{Written}
 use Rattle.sw_channel.specs.Reading.{Reads}
 use Rattle.sw_lex.specs.declared.command.Command.{Command}
@@ -14,9 +16,10 @@ use Rattle.sw_lex.specs.declared.table.Key.TheVariants as keys
 use Rattle.sw_lex.specs.declared.paths.Path.{Path}
 use Rattle.sw_lex.specs.Unit.{Heading, common, path, Datum, number, character, string, block, expression, UnitView}
 use Rattle.sw_lex.specs.Commands.{layer_of, of_common, of_instrument, of_layer, of_group, of_channels}
-use Rattle.sw_lex.specs.Values.{on_ok, ReadsQuantity, ReadsString, ReadsBlock, whole_of, continuous_of, macros_of, delay_of, source_meant, switch_meant, unnumbered}
+use Rattle.sw_lex.specs.Values.{on_ok, ReadsQuantity, ReadsString, ReadsBlock, whole_of, continuous_of, macros_of}
+use Rattle.sw_lex.specs.Values.{delay_of, source_meant, switch_meant, unnumbered}
 use Rattle.sw_lex.specs.Found.{IsFound}
-use Rattle.sw_lex.specs.Table.{rows}
+use Rattle.sw_lex.specs.Table.{entries}
 
 -- ---- where a header is looked up
 
@@ -73,7 +76,8 @@ WithList (d ∷ c ∷ ds) r = r ≡ Err ParameterNotAllowed
 
 -- the command of one channel list
 abbrev pub OfList : (List Channel → Command) → List Datum → Result Command ScpiError → Type 0
-OfList make ds r = (read : Result (List Channel) ScpiError) × WithList ds read × (r ≡ result_map_both make (λ e. e) read)
+OfList make ds r = (read : Result (List Channel) ScpiError) × WithList ds read
+    × (r ≡ result_map_both make (λ e. e) read)
 
 -- one number: the number and its suffix, or the first refusal
 abbrev pub WithNumber : List Datum → Result (Written × List ℕ) ScpiError → Type 0
@@ -87,7 +91,8 @@ WithNumber (d ∷ c ∷ ds) r = r ≡ Err ParameterNotAllowed
 
 -- the command of one number
 abbrev pub OfNumber : (Written → List ℕ → Result Command ScpiError) → List Datum → Result Command ScpiError → Type 0
-OfNumber meaning ds r = (read : Result (Written × List ℕ) ScpiError) × WithNumber ds read × (r ≡ on_ok read (λ x. meaning x.0 x.1))
+OfNumber meaning ds r = (read : Result (Written × List ℕ) ScpiError) × WithNumber ds read
+    × (r ≡ on_ok read (λ x. meaning x.0 x.1))
 
 -- the command of one word
 abbrev pub OfWord : (List ℕ → Result Command ScpiError) → List Datum → Result Command ScpiError → Type 0
@@ -102,7 +107,8 @@ OfWord meaning (d ∷ c ∷ ds) r = r ≡ Err ParameterNotAllowed
 -- the command of one switch: a word or a number
 abbrev pub OfSwitch : List Datum → Result Command ScpiError → Type 0
 OfSwitch [] r = r ≡ Err MissingParameter
-OfSwitch (number t ∷ []) r = (read : Result (Written × List ℕ) ScpiError) × ReadsQuantity t read × (r ≡ on_ok read (λ x. continuous_of x.0 x.1))
+OfSwitch (number t ∷ []) r = (read : Result (Written × List ℕ) ScpiError) × ReadsQuantity t read
+    × (r ≡ on_ok read (λ x. continuous_of x.0 x.1))
 OfSwitch (character t ∷ []) r = r ≡ switch_meant t
 OfSwitch (string t ∷ []) r = r ≡ Err DataTypeError
 OfSwitch (block t ∷ []) r = r ≡ Err DataTypeError
@@ -126,7 +132,8 @@ OfString make ds r = (read : Result (List ℕ) ScpiError) × WithString ds read 
 -- the definition of a macro with this body, where its label was read
 abbrev pub Defines : List ℕ → Result (List ℕ) ScpiError → Result Command ScpiError → Type 0
 Defines body (Err e) r = r ≡ Err e
-Defines body (Ok label) r = (read : Result (List ℕ) ScpiError) × ReadsBlock body read × (r ≡ result_map_both (λ b. commands.DefineMacro label b) (λ e. e) read)
+Defines body (Ok label) r = (read : Result (List ℕ) ScpiError) × ReadsBlock body read
+    × (r ≡ result_map_both (λ b. commands.DefineMacro label b) (λ e. e) read)
 
 -- the definition of a macro: a label in a string, and a body in a block
 abbrev pub OfMacro : List Datum → Result Command ScpiError → Type 0
@@ -145,20 +152,20 @@ OfMacro (d ∷ c ∷ b ∷ ds) r = r ≡ Err ParameterNotAllowed
 
 -- the command of a header with this number in it and these data, or its first refusal; or want of memory where a list,
 -- a string or a block is read
-abbrev pub Obeys : Key → ℕ → List Datum → Result Command ScpiError → Type 0
-Obeys (keys.Common ask) k ds r = WithNone (of_common ask) ds r
-Obeys (keys.Instrument ask) k ds r = WithNone (of_instrument ask) ds r
-Obeys (keys.Layer ask family) k ds r = WithNone (of_layer ask (layer_of family k)) ds r
-Obeys (keys.Group ask group) k ds r = WithNone (of_group ask group) ds r
-Obeys (keys.Channels ask) k ds r = OfList (of_channels ask) ds r
-Obeys (keys.Whole ask) k ds r = OfNumber (whole_of ask k) ds r
-Obeys (keys.Delay family) k ds r = OfNumber (delay_of (layer_of family k)) ds r
-Obeys (keys.Source family) k ds r = OfWord (source_meant (layer_of family k)) ds r
-Obeys keys.Continuous k ds r = OfSwitch ds r
-Obeys keys.EnableMacros k ds r = OfNumber macros_of ds r
-Obeys keys.DefineMacro k ds r = OfMacro ds r
-Obeys keys.MacroQuery k ds r = OfString (λ label. commands.MacroQuery label) ds r
-Obeys keys.RemoveMacro k ds r = OfString (λ label. commands.RemoveMacro label) ds r
+abbrev pub Decodes : Key → ℕ → List Datum → Result Command ScpiError → Type 0
+Decodes (keys.Common ask) k ds r = WithNone (of_common ask) ds r
+Decodes (keys.Instrument ask) k ds r = WithNone (of_instrument ask) ds r
+Decodes (keys.Layer ask family) k ds r = WithNone (of_layer ask (layer_of family k)) ds r
+Decodes (keys.Group ask group) k ds r = WithNone (of_group ask group) ds r
+Decodes (keys.Channels ask) k ds r = OfList (of_channels ask) ds r
+Decodes (keys.Whole ask) k ds r = OfNumber (whole_of ask k) ds r
+Decodes (keys.Delay family) k ds r = OfNumber (delay_of (layer_of family k)) ds r
+Decodes (keys.Source family) k ds r = OfWord (source_meant (layer_of family k)) ds r
+Decodes keys.Continuous k ds r = OfSwitch ds r
+Decodes keys.EnableMacros k ds r = OfNumber macros_of ds r
+Decodes keys.DefineMacro k ds r = OfMacro ds r
+Decodes keys.MacroQuery k ds r = OfString (λ label. commands.MacroQuery label) ds r
+Decodes keys.RemoveMacro k ds r = OfString (λ label. commands.RemoveMacro label) ds r
 
 -- ---- a unit's meaning
 
@@ -171,35 +178,39 @@ abbrev pub plain : UnitView → Nodes → Nodes
 plain unit below = capitals (map unnumbered (looked_up unit.header below))
 
 abbrev pub IsNone : Nodes → Bool → Type 0
-IsNone words query = (key : Key) (number : ℕ) → IsFound rows words query key number → ⊥
+IsNone words query = (key : Key) (number : ℕ) → IsFound entries words query key number → ⊥
 
 -- the refusal of nodes that are no header of the table
 abbrev pub IsRefusal : Nodes → Bool → ScpiError → Type 0
 IsRefusal nodes query e =
-    ((key : Key) × (number : ℕ) × IsFound rows (capitals (map unnumbered nodes)) query key number × (e ≡ HeaderSuffixOutOfRange))
+    ((key : Key) × (number : ℕ) × IsFound entries (capitals (map unnumbered nodes)) query key number
+    × (e ≡ HeaderSuffixOutOfRange))
     ⊎ (IsNone (capitals (map unnumbered nodes)) query × (e ≡ UndefinedHeader))
 
 -- the header is one of the table
-pub record IsCommand (unit : UnitView) (below : Nodes) (result : Result Command ScpiError) (after : Nodes) : Type 0 where
+pub record IsCommand (unit : UnitView) (below : Nodes) (result : Result Command ScpiError)
+    (after : Nodes) : Type 0 where
   pub key : Key
   pub number : ℕ
-  pub found : IsFound rows (asked unit below) unit.query key number
-  pub obeyed : Obeys key number unit.elements result
+  pub found : IsFound entries (asked unit below) unit.query key number
+  pub decoded : Decodes key number unit.elements result
   pub onward : after ≡ path_after unit.header below
 
 -- the header is none of the table, with its question mark or without as it is written
-pub record IsUnknown (unit : UnitView) (below : Nodes) (result : Result Command ScpiError) (after : Nodes) : Type 0 where
+pub record IsUnknown (unit : UnitView) (below : Nodes) (result : Result Command ScpiError)
+    (after : Nodes) : Type 0 where
   pub nothing : IsNone (asked unit below) unit.query
   pub nowhere : IsNone (plain unit below) unit.query
   pub refused : result ≡ Err UndefinedHeader
   pub stays : after ≡ below
 
 -- the header is none of the table, but is one without its trigger layer's number
-pub record IsMisnumbered (unit : UnitView) (below : Nodes) (result : Result Command ScpiError) (after : Nodes) : Type 0 where
+pub record IsMisnumbered (unit : UnitView) (below : Nodes) (result : Result Command ScpiError)
+    (after : Nodes) : Type 0 where
   pub nothing : IsNone (asked unit below) unit.query
   pub key : Key
   pub number : ℕ
-  pub found : IsFound rows (plain unit below) unit.query key number
+  pub found : IsFound entries (plain unit below) unit.query key number
   pub refused : result ≡ Err HeaderSuffixOutOfRange
   pub stays : after ≡ below
 

@@ -1,9 +1,12 @@
 -- Program message units (IEEE 488.2, 7.3 to 7.7; SCPI-1999, volume 1, 6).
-use Rattle.std.specs.Prelude.{◌≡◌, ℕ, ◌<◌, ◌≤◌, Bool, true, false, not, nat_lt, ◌==◌, ◌||◌, List, [], ◌∷◌, ◌++◌, length, map, ◌⊎◌, if◌then◌else◌, Option, Some, None}
+use Rattle.std.specs.Prelude.{◌≡◌, ℕ, ◌<◌, ◌≤◌, Bool, true, false, not, nat_lt, ◌==◌, ◌||◌, List, [], ◌∷◌, ◌++◌}
+use Rattle.std.specs.Prelude.{length, map, ◌⊎◌, if◌then◌else◌, Option, Some, None}
 use Rattle.std.specs.List.{AllByRecursion, flat_map}
 use Rattle.sw_base.specs.Text.{is_blank, is_digit, is_letter, is_word, AllPass, StartsOff, Spans}
 use Rattle.sw_base.specs.declared.error.ScpiError.{ScpiError}
-use Rattle.sw_base.specs.declared.error.ScpiError.TheVariants.{InvalidCharacter, SyntaxError, InvalidSeparator, ParameterNotAllowed, DataTypeError, InvalidStringData, InvalidBlockData, InvalidExpression}
+use Rattle.sw_base.specs.declared.error.ScpiError.TheVariants.{InvalidCharacter, SyntaxError, InvalidSeparator}
+use Rattle.sw_base.specs.declared.error.ScpiError.TheVariants.{ParameterNotAllowed, DataTypeError, InvalidStringData}
+use Rattle.sw_base.specs.declared.error.ScpiError.TheVariants.{InvalidBlockData, InvalidExpression}
 use Rattle.sw_lex.specs.Elements.{is_inner, kind_at, IsString, IsBlock, IsElement}
 use Rattle.sw_lex.specs.declared.elements.Kind.{Kind}
 use Rattle.sw_lex.specs.declared.elements.Kind.TheVariants as kinds
@@ -228,10 +231,11 @@ IsJoined text (d ∷ c ∷ ds) left = (next : List ℕ) × IsNext text d next ×
 -- what follows the last part of a unit: its last element, or where it has none its header and question mark
 abbrev pub IsLeft : List ℕ → List Datum → List ℕ → Type 0
 IsLeft tail [] left = left ≡ tail
-IsLeft tail (d ∷ ds) left = (gap : List ℕ) × (more : List ℕ) × Spans is_blank tail gap more × IsJoined more (d ∷ ds) left
+IsLeft tail (d ∷ ds) left = (gap : List ℕ) × (more : List ℕ) × Spans is_blank tail gap more
+    × IsJoined more (d ∷ ds) left
 
--- the first unit of a text as it is written, from its header's first byte to the last byte of its last part; what stands
--- before it, and what follows it
+-- the first unit of a text as it is written, from its header's first byte to the last byte of its last part; what
+-- stands before it, and what follows it
 pub record IsWritten (text before : List ℕ) (unit : UnitView) (written left : List ℕ) : Type 0 where
   pub start : List ℕ
   pub after : List ℕ
@@ -274,7 +278,8 @@ pub record IsBadBlock (text : List ℕ) (e : ScpiError) : Type 0 where
   pub more : List ℕ
   pub opened : text ≡ 35 ∷ more
   pub why :
-      (StartsOff (λ b. not (is_digit b)) more × ((bytes after : List ℕ) → IsBlock text bytes after → ⊥) × (e ≡ InvalidBlockData))
+      (StartsOff (λ b. not (is_digit b)) more × ((bytes after : List ℕ) → IsBlock text bytes after → ⊥)
+      × (e ≡ InvalidBlockData))
       ⊎ ((b : ℕ) × (others : List ℕ) × (more ≡ b ∷ others) × (is_digit b ≡ false) × (e ≡ fault_at DataTypeError more))
 
 -- an expression that has no end

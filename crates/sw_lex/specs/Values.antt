@@ -1,11 +1,16 @@
 -- What data mean: numbers with their suffixes, and words (IEEE 488.2, 7.7; SCPI-1999, volume 1, 7 and 21.8).
-use Rattle.std.specs.Prelude.{◌≡◌, ℕ, Bool, true, false, nat_lt, nat_le, ◌&&◌, ◌||◌, List, [], ◌∷◌, map, codes, ℤ, pos, neg_ℤ, unsigned_abs, Result, Ok, Err, Option, Some, None, ◌⊎◌, if◌then◌else◌}
+use Rattle.std.specs.Prelude.{◌≡◌, ℕ, Bool, true, false, nat_lt, nat_le, ◌&&◌, ◌||◌, List, [], ◌∷◌, map, codes, ℤ, pos}
+use Rattle.std.specs.Prelude.{neg_ℤ, unsigned_abs, Result, Ok, Err, Option, Some, None, ◌⊎◌, if◌then◌else◌}
 use Rattle.std.specs.Char.{to_ascii_uppercase}
 use Rattle.std.specs.Result.{result_map_both}
 use Rattle.sw_base.specs.Text.{is_blank, is_digit, is_letter, AllPass, Spans}
+use Rattle.sw_base.specs.Limits.{longest_delay}
 use Rattle.sw_base.specs.Number.{Written, IsNumber, IsInLimits, IsRefused, rounded, in_range, tens_of, in_u64}
 use Rattle.sw_base.specs.declared.error.ScpiError.{ScpiError}
-use Rattle.sw_base.specs.declared.error.ScpiError.TheVariants.{InvalidCharacterInNumber, InvalidSuffix, SuffixNotAllowed, InvalidCharacterData, InvalidStringData, InvalidBlockData, DataOutOfRange, IllegalParameterValue, OutOfMemory}
+use Rattle.sw_base.specs.declared.error.ScpiError.TheVariants.{InvalidCharacterInNumber, InvalidSuffix}
+use Rattle.sw_base.specs.declared.error.ScpiError.TheVariants.{SuffixNotAllowed, InvalidCharacterData}
+use Rattle.sw_base.specs.declared.error.ScpiError.TheVariants.{InvalidStringData, InvalidBlockData, DataOutOfRange}
+use Rattle.sw_base.specs.declared.error.ScpiError.TheVariants.{IllegalParameterValue, OutOfMemory}
 use Rattle.sw_base.specs.declared.number.Unit.{Unit as TimeUnit}
 use Rattle.sw_base.specs.declared.number.Unit.TheVariants.{S, Ms, Us}
 use Rattle.sw_base.specs.declared.terms.LayerName.{LayerName}
@@ -13,8 +18,6 @@ use Rattle.sw_base.specs.declared.terms.Source.{Source}
 use Rattle.sw_base.specs.declared.terms.Source.TheVariants as sources
 use Rattle.sw_lex.specs.declared.command.Command.{Command}
 use Rattle.sw_lex.specs.declared.command.Command.TheVariants as commands
-use Rattle.sw_lex.specs.declared.table.Word.{Word}
-use Rattle.sw_lex.specs.declared.table.Word.TheVariants as words
 use Rattle.sw_lex.specs.declared.table.Whole.{Whole}
 use Rattle.sw_lex.specs.Elements.{IsString, IsBlock}
 use Rattle.sw_lex.specs.Apart.{same_word}
@@ -49,7 +52,8 @@ natural_in low high z = result_map_both unsigned_abs (λ e. e) (in_range (pos lo
 
 -- the nearest whole number of what takes no suffix, in the command's range
 abbrev pub whole_of : Whole → ℕ → Written → List ℕ → Result Command ScpiError
-whole_of ask number n [] = result_map_both (λ m. of_whole ask number m) (λ e. e) (natural_in (least ask) (greatest ask) (rounded n 0))
+whole_of ask number n [] = result_map_both (λ m. of_whole ask number m) (λ e. e)
+    (natural_in (least ask) (greatest ask) (rounded n 0))
 whole_of ask number n (b ∷ suffix) = Err SuffixNotAllowed
 
 -- a number that doesn't round to 0 is ON
@@ -61,21 +65,31 @@ continuous_of n [] = Ok (commands.InitiateContinuous (not_zero (rounded n 0)))
 continuous_of n (b ∷ suffix) = Err SuffixNotAllowed
 
 abbrev pub macros_of : Written → List ℕ → Result Command ScpiError
-macros_of n [] = result_map_both (λ z. commands.EnableMacros (not_zero z)) (λ e. e) (in_range (neg_ℤ (pos 32767)) (pos 32767) (rounded n 0))
+macros_of n [] = result_map_both (λ z. commands.EnableMacros (not_zero z)) (λ e. e)
+    (in_range (neg_ℤ (pos 32767)) (pos 32767) (rounded n 0))
 macros_of n (b ∷ suffix) = Err SuffixNotAllowed
+
+-- ---- words
+
+-- one of the two forms
+abbrev pub is_named : List ℕ → List ℕ → Bool
+is_named word text = same_word text (short_of word) || same_word text (long_of word)
+
+-- ---- delays
 
 -- a suffix names a unit of time, none seconds
 abbrev pub unit_of : List ℕ → Option TimeUnit
 unit_of suffix =
-    if same_word suffix [] then Some S
-    else if same_word suffix (codes "S") then Some S
-    else if same_word suffix (codes "MS") then Some Ms
-    else if same_word suffix (codes "US") then Some Us
+    if is_named [] suffix then Some S
+    else if is_named (codes "S") suffix then Some S
+    else if is_named (codes "MS") suffix then Some Ms
+    else if is_named (codes "US") suffix then Some Us
     else None
 
 -- a delay is at most an hour
 abbrev pub delay_within : LayerName → Result ℕ ScpiError → Result Command ScpiError
-delay_within layer (Ok micros) = if nat_le micros 3600000000 then Ok (commands.Delay layer micros) else Err DataOutOfRange
+delay_within layer (Ok micros) = if nat_le micros longest_delay then Ok (commands.Delay layer micros)
+    else Err DataOutOfRange
 delay_within layer (Err e) = Err e
 
 abbrev pub delay_in : LayerName → Written → Option TimeUnit → Result Command ScpiError
@@ -101,22 +115,19 @@ ReadsBlock text (Err e) =
     ((bytes : List ℕ) × IsBlock text bytes [] × (e ≡ OutOfMemory))
     ⊎ (((bytes : List ℕ) → IsBlock text bytes [] → ⊥) × (e ≡ InvalidBlockData))
 
--- ---- words
-
--- one of the two forms
-abbrev pub is_named : Word → List ℕ → Bool
-is_named word text = same_word text (short_of word) || same_word text (long_of word)
+-- ---- sources and switches
 
 abbrev pub source_of : List ℕ → Option Source
 source_of text =
-    if is_named words.Immediate text then Some sources.Immediate
-    else if is_named words.Bus text then Some sources.Bus
-    else if is_named words.External text then Some sources.External
-    else if is_named words.Hold text then Some sources.Hold
+    if is_named (codes "IMMediate") text then Some sources.Immediate
+    else if is_named (codes "BUS") text then Some sources.Bus
+    else if is_named (codes "EXTernal") text then Some sources.External
+    else if is_named (codes "HOLD") text then Some sources.Hold
     else None
 
 abbrev pub switch_of : List ℕ → Option Bool
-switch_of text = if is_named words.On text then Some true else if is_named words.Off text then Some false else None
+switch_of text = if is_named (codes "ON") text then Some true else if is_named (codes "OFF") text then Some false
+    else None
 
 -- a word of the setting; another setting's word; none of all words
 abbrev pub source_named : LayerName → Option Source → Option Bool → Result Command ScpiError
@@ -130,7 +141,8 @@ switch_named None (Some source) = Err IllegalParameterValue
 switch_named None None = Err InvalidCharacterData
 
 abbrev pub source_meant : LayerName → List ℕ → Result Command ScpiError
-source_meant layer text = source_named layer (source_of (map to_ascii_uppercase text)) (switch_of (map to_ascii_uppercase text))
+source_meant layer text = source_named layer (source_of (map to_ascii_uppercase text))
+    (switch_of (map to_ascii_uppercase text))
 
 abbrev pub switch_meant : List ℕ → Result Command ScpiError
 switch_meant text = switch_named (switch_of (map to_ascii_uppercase text)) (source_of (map to_ascii_uppercase text))
@@ -153,4 +165,5 @@ all_digits (b ∷ bytes) = is_digit b && all_digits bytes
 
 -- LAYer without the number behind it; any other word stays
 abbrev pub unnumbered : List ℕ → List ℕ
-unnumbered word = if is_named words.Layer (map to_ascii_uppercase (leading word)) && all_digits (trailing word) then leading word else word
+unnumbered word = if is_named (codes "LAYer") (map to_ascii_uppercase (leading word))
+    && all_digits (trailing word) then leading word else word

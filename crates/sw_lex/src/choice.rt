@@ -1,11 +1,12 @@
 //! From a key to its command.
 
 ghost use Rattle.std.specs.Prelude.{◌≡◌, ◌≤◌};
-ghost use Rattle.sw_lex.specs.Commands.{layer_of, of_common, of_instrument, of_layer, of_group, of_channels, of_whole, least, greatest};
+ghost use Rattle.sw_lex.specs.Commands.{layer_of, of_common, of_instrument, of_layer, of_group, of_channels, of_whole};
+ghost use Rattle.sw_lex.specs.Commands.{least, greatest};
 
 use crate::command::Command;
 use crate::table::{Channels, Common, Family, GroupAsk, Instrument, LayerAsk, Whole};
-use sw_base::{Chan, LayerName, Sequence, StatusGroup};
+use sw_base::{ARM_COUNT, Chan, LayerName, POINTS, SLOTS, Sequence, StatusGroup, TRIGGER_COUNT};
 
 /// The layer of a header with this number, 0 where it has none.
 pub fn layer_of(family: Family, number: u8) -> LayerName
@@ -136,9 +137,10 @@ pub fn greatest(ask: Whole) -> u32
 {
     match ask {
         Whole::EventEnable | Whole::ServiceEnable => 255,
-        Whole::Count(Family::Arm) => 1000,
-        Whole::Count(Family::Trigger) | Whole::Points => 100_000,
-        Whole::ScanMeter => 8,
+        Whole::Count(Family::Arm) => ARM_COUNT,
+        Whole::Count(Family::Trigger) => TRIGGER_COUNT,
+        Whole::ScanMeter => u32::from(SLOTS),
         Whole::Enable(_) | Whole::PositiveTransition(_) | Whole::NegativeTransition(_) => 65_535,
+        Whole::Points => POINTS,
     }
 }

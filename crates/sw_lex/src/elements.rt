@@ -1,6 +1,7 @@
 //! Data elements: from the bytes of a unit to one element.
 
-ghost use Rattle.std.specs.Prelude.{◌≡◌, ◌≤◌, ◌<◌, ◌++◌, ◌∷◌, ◌==◌, ℕ, List, [], Some, true, IfOk, IfErr, IfSome, IfNone, length};
+ghost use Rattle.std.specs.Prelude.{◌≡◌, ◌≤◌, ◌<◌, ◌++◌, ◌∷◌, ◌==◌, ℕ, List, [], Some, true, IfOk, IfErr, IfSome};
+ghost use Rattle.std.specs.Prelude.{IfNone, length};
 ghost use Rattle.sw_base.specs.Text.{is_digit, AllPass, StartsOff};
 ghost use Rattle.sw_base.specs.Number.{value_of};
 ghost use Rattle.sw_lex.specs.Elements.{kind_of_byte, doubled, IsBlock, IsExpression, IsElement};
@@ -51,8 +52,10 @@ pub fn before<'a>(text: &'a [u8], rest: &[u8]) -> &'a [u8]
 
 /// What follows the next mark that isn't doubled.
 pub fn closing(text: &[u8], mark: u8) -> Option<&[u8]>
-    ensures some { IfSome result (λ rest. (content : List ℕ) × (text.now ≡ doubled mark content ++ mark ∷ rest.now) × StartsOff (λ b. b == mark) rest.now) }
-    ensures none { IfNone result ((content rest : List ℕ) → text.now ≡ doubled mark content ++ mark ∷ rest → StartsOff (λ b. b == mark) rest → ⊥) }
+    ensures some { IfSome result (λ rest. (content : List ℕ) × (text.now ≡ doubled mark content ++ mark ∷ rest.now)
+        × StartsOff (λ b. b == mark) rest.now) }
+    ensures none { IfNone result ((content rest : List ℕ) → text.now ≡ doubled mark content ++ mark ∷ rest
+        → StartsOff (λ b. b == mark) rest → ⊥) }
 {
     let mut rest = text;
     'marks: loop {
@@ -82,8 +85,10 @@ fn value(digits: &[u8]) -> usize
 /// The bytes of a block whose length these digits tell, and what follows them.
 fn counted(text: &[u8], width: usize) -> Option<(&[u8], &[u8])>
     requires { width ≤ 9 }
-    ensures some { IfSome result (λ x. (digits : List ℕ) × AllPass is_digit digits × (length digits ≡ width) × (length x.0.now ≡ value_of digits) × (text.now ≡ digits ++ (x.0.now ++ x.1.now))) }
-    ensures none { IfNone result ((digits bytes rest : List ℕ) → AllPass is_digit digits → length digits ≡ width → length bytes ≡ value_of digits → text.now ≡ digits ++ (bytes ++ rest) → ⊥) }
+    ensures some { IfSome result (λ x. (digits : List ℕ) × AllPass is_digit digits × (length digits ≡ width)
+        × (length x.0.now ≡ value_of digits) × (text.now ≡ digits ++ (x.0.now ++ x.1.now))) }
+    ensures none { IfNone result ((digits bytes rest : List ℕ) → AllPass is_digit digits → length digits ≡ width
+        → length bytes ≡ value_of digits → text.now ≡ digits ++ (bytes ++ rest) → ⊥) }
 {
     if text.len() < width {
         return None;

@@ -1,18 +1,16 @@
 //! Program messages: from the bytes of a line to the commands that it asks for.
 //!
-//! `next_unit` cuts the next unit off a message by the grammar of `specs/Unit.antt`, or refuses it at the first byte that
-//! fits no form. `resolve` looks the unit's header up in the table of headers, below the path that the units before it
-//! left, and gives the command with its data by `specs/Meaning.antt`, or the first refusal. The laws: no text has two
-//! readings (`one_reading`), no header is two commands (`one_command`), no unit two meanings (`one_meaning`), and each
-//! spelling of a header is its command (`every_spelling`).
+//! `next_unit` cuts the next unit off a message by the grammar of `specs/Unit.antt`, or refuses it at the first byte
+//! that fits no form. `resolve` looks the unit's header up in the table of headers (`specs/Table.antt`), below the path
+//! that the units before it left, and gives the command with its data by `specs/Meaning.antt`, or the first refusal. The
+//! laws: no text has two readings (`one_reading`), no header is two commands (`one_command`), no unit two meanings
+//! (`one_meaning`), and each spelling of a header is its command (`every_spelling`).
 //!
-//! Whether a command can be carried out
-//! is no question here, nor whether a channel exists.
+//! Whether a command can be carried out is no question here, nor whether a channel exists.
 #![tactic(auto)]
 
 mod choice;
 mod command;
-mod common_rows;
 mod elements;
 mod headers;
 mod meaning;
@@ -22,8 +20,6 @@ mod paths;
 mod rows;
 mod runs;
 mod table;
-#[cfg(test)]
-mod tests;
 mod unit;
 mod values;
 

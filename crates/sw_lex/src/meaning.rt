@@ -7,11 +7,12 @@ ghost use Rattle.sw_base.specs.declared.error.ScpiError.{ScpiError as Error};
 ghost use Rattle.sw_base.specs.declared.error.ScpiError.TheVariants.{OutOfMemory};
 ghost use Rattle.sw_lex.specs.declared.command.Command.{Command as Meant};
 ghost use Rattle.sw_lex.specs.Unit.{UnitView, unit_of, data_of};
-ghost use Rattle.sw_lex.specs.Meaning.{asked, path_after, Nodes, path_of, WithNone, WithList, WithString, Defines, OfMacro, WithNumber, OfNumber, OfWord, OfSwitch, Obeys, IsRefusal, Resolves};
-ghost use Rattle.sw_lex.specs.declared.table.Row.{Row};
+ghost use Rattle.sw_lex.specs.Meaning.{asked, path_after, Nodes, path_of, WithNone, WithList, WithString, Defines};
+ghost use Rattle.sw_lex.specs.Meaning.{OfMacro, WithNumber, OfNumber, OfWord, OfSwitch, Decodes, IsRefusal, Resolves};
 ghost use Rattle.sw_lex.specs.Found.{IsIn, spellings};
-ghost use Rattle.sw_lex.specs.Table.{rows};
-ghost use Rattle.sw_lex.specs.Values.{on_ok, ReadsQuantity, ReadsString, whole_of, continuous_of, macros_of, delay_of, source_meant};
+ghost use Rattle.sw_lex.specs.Table.{Entry, entries};
+ghost use Rattle.sw_lex.specs.Values.{on_ok, ReadsQuantity, ReadsString, whole_of, continuous_of, macros_of, delay_of};
+ghost use Rattle.sw_lex.specs.Values.{source_meant};
 
 use crate::choice::{layer_of, of_channels, of_common, of_group, of_instrument, of_layer};
 use crate::command::Command;
@@ -118,7 +119,8 @@ fn of_source(layer: LayerName, elements: &[Element<'_>]) -> Result<Command, Scpi
 
 /// `INITiate:CONTinuous` with the number of a text.
 fn of_number(text: &[u8]) -> Result<Command, ScpiError>
-    ensures { (read : Result (Written × List ℕ) Error) × ReadsQuantity text.now read × (result ≡ on_ok read (λ x. continuous_of x.0 x.1)) }
+    ensures { (read : Result (Written × List ℕ) Error) × ReadsQuantity text.now read
+        × (result ≡ on_ok read (λ x. continuous_of x.0 x.1)) }
 {
     match quantity(text) {
         Err(e) => Err(e),
@@ -187,8 +189,13 @@ fn of_macro(alloc: Global, elements: &[Element<'_>]) -> Result<Command, ScpiErro
 }
 
 /// The command of a header with this number in it and these data.
-fn obey(alloc: Global, key: Key, number: u8, elements: &[Element<'_>]) -> Result<Command, ScpiError>
-    ensures { Obeys key number (data_of elements.now) result }
+fn decode(
+    alloc: Global,
+    key: Key,
+    number: u8,
+    elements: &[Element<'_>],
+) -> Result<Command, ScpiError>
+    ensures { Decodes key number (data_of elements.now) result }
 {
     match key {
         Key::Common(ask) => no_data(of_common(ask), elements),
@@ -240,7 +247,7 @@ pub fn resolve(alloc: Global, unit: &RawUnit<'_>, path: Path) -> Resolved
                 path,
             },
             Some((key, number)) => Resolved {
-                command: obey(alloc, key, number, unit.elements.as_slice()),
+                command: decode(alloc, key, number, unit.elements.as_slice()),
                 path: match unit.header {
                     Header::Common(_) => path,
                     Header::Path { .. } => after(nodes.as_slice()),
@@ -252,10 +259,15 @@ pub fn resolve(alloc: Global, unit: &RawUnit<'_>, path: Path) -> Resolved
 
 /// A law: but for want of memory, a unit below a path has one command or one first refusal, and leaves one path.
 pub fn one_meaning()
-    ensures { (unit : UnitView) (below : Nodes) (r s : Result Meant Error) (a b : Nodes) → Resolves unit below r a → Resolves unit below s b → r ≢ Err OutOfMemory → s ≢ Err OutOfMemory → (r ≡ s) × (a ≡ b) }
+    ensures { (unit : UnitView) (below : Nodes) (r s : Result Meant Error) (a b : Nodes) → Resolves unit below r a
+        → Resolves unit below s b → r ≢ Err OutOfMemory → s ≢ Err OutOfMemory → (r ≡ s) × (a ≡ b) }
 {}
 
-/// A law: a unit whose header is a spelling of a row of the table is that row's command, whichever spelling it is.
+/// A law: a unit whose header is a spelling of an entry of the table is what that entry asks for, whichever spelling
+/// it is.
 pub fn every_spelling()
-    ensures { (row : Row) (unit : UnitView) (below : Nodes) (number : ℕ) (r : Result Meant Error) (left : Nodes) → IsIn row rows → row.query ≡ unit.query → IsIn (asked unit below, number) (spellings row.steps) → Resolves unit below r left → Obeys row.key number unit.elements r × (left ≡ path_after unit.header below) }
+    ensures { (entry : Entry) (unit : UnitView) (below : Nodes) (number : ℕ) (r : Result Meant Error) (left : Nodes)
+        → IsIn entry entries → entry.query ≡ unit.query → IsIn (asked unit below, number) (spellings entry.nodes)
+        → Resolves unit below r left → Decodes entry.key number unit.elements r
+        × (left ≡ path_after unit.header below) }
 {}

@@ -61,21 +61,12 @@ pub fn content(alloc: Global, text: &[u8]) -> Result<Sequence<u8>, ScpiError>
     }
 }
 
-/// The same bytes.
-fn copied(alloc: Global, bytes: &[u8]) -> Result<Vec<u8>, AllocError>
-    ensures { IfOk result (λ v. v.items ≡ bytes.now) }
-{
-    let mut copy = Vec::with_capacity(alloc, bytes.len())?;
-    copy.extend_from_slice(bytes)?;
-    Ok(copy)
-}
-
 /// The bytes of a block.
 pub fn body(alloc: Global, text: &[u8]) -> Result<Sequence<u8>, ScpiError>
     ensures { ReadsBlock text.now result }
 {
     match block_bytes(text) {
         None => Err(ScpiError::InvalidBlockData),
-        Some(bytes) => Ok(Sequence::new(copied(alloc, bytes)?)),
+        Some(bytes) => Ok(Sequence::new(bytes.to_vec(alloc)?)),
     }
 }

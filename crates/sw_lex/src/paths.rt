@@ -1,6 +1,7 @@
 //! Where a header is looked up.
 
 ghost use Rattle.std.specs.Prelude.{◌≡◌, ◌≤◌, ◌<◌, ◌++◌, [], All, length, map, IfSome, IfNone};
+ghost use Rattle.sw_base.specs.Limits.{longest_mnemonic};
 ghost use Rattle.sw_lex.specs.Unit.{heading_of};
 ghost use Rattle.sw_lex.specs.Values.{unnumbered};
 ghost use Rattle.sw_lex.specs.Meaning.{path_of, nodes_of, looked_up, all_but_last};
@@ -8,17 +9,14 @@ ghost use Rattle.sw_lex.specs.Meaning.{path_of, nodes_of, looked_up, all_but_las
 use crate::unit::Header;
 use crate::values::unnumbered;
 use arrayvec::ArrayVec;
-use sw_base::cut;
-
-/// The most bytes of a node in the table of headers, as of QUEStionable.
-const LONGEST_NODE: usize = 12;
+use sw_base::{MNEMONIC_BYTES, cut};
 
 /// A node of a header that was found, as it was written.
-type Node = ArrayVec<u8, LONGEST_NODE>;
+type Node = ArrayVec<u8, MNEMONIC_BYTES>;
 
 /// A node with this text.
 fn copied(text: &[u8]) -> Node
-    requires { length text.now ≤ 12 }
+    requires { length text.now ≤ longest_mnemonic }
     ensures { result.items ≡ text.now }
 {
     let mut node = Node::new();
@@ -57,7 +55,8 @@ impl Path {
 
 /// The nodes of a text after those given; none where they are more than four, as in no header of the table.
 fn joined<'a>(nodes: ArrayVec<&'a [u8], 4>, text: &'a [u8]) -> Option<ArrayVec<&'a [u8], 4>>
-    ensures some { IfSome result (λ x. map (λ w. w.now) x.items ≡ map (λ w. w.now) nodes.entry.items ++ nodes_of text.now) }
+    ensures some { IfSome result (λ x. map (λ w. w.now) x.items ≡ map (λ w. w.now) nodes.entry.items
+        ++ nodes_of text.now) }
     ensures none { IfNone result (4 < length (map (λ w. w.now) nodes.entry.items ++ nodes_of text.now)) }
 {
     let mut nodes = nodes;
@@ -81,7 +80,8 @@ fn joined<'a>(nodes: ArrayVec<&'a [u8], 4>, text: &'a [u8]) -> Option<ArrayVec<&
 
 /// The nodes as which a header is looked up; none where they are more than four.
 pub fn look_up<'a>(header: Header<'a>, path: &'a Path) -> Option<ArrayVec<&'a [u8], 4>>
-    ensures some { IfSome result (λ x. map (λ w. w.now) x.items ≡ looked_up (heading_of header.entry) (path_of path.now)) }
+    ensures some { IfSome result (λ x. map (λ w. w.now) x.items
+        ≡ looked_up (heading_of header.entry) (path_of path.now)) }
     ensures none { IfNone result (4 < length (looked_up (heading_of header.entry) (path_of path.now))) }
 {
     match header {
@@ -103,7 +103,7 @@ pub fn look_up<'a>(header: Header<'a>, path: &'a Path) -> Option<ArrayVec<&'a [u
 /// The path after a header that was found as these nodes: all but the last.
 pub fn after(nodes: &[&[u8]]) -> Path
     requires few { length nodes.now ≤ 4 }
-    requires short { All (λ w. length w.now ≤ 12) nodes.now }
+    requires short { All (λ w. length w.now ≤ longest_mnemonic) nodes.now }
     ensures { path_of result ≡ all_but_last (map (λ w. w.now) nodes.now) }
 {
     let mut above = ArrayVec::new();

@@ -1,557 +1,323 @@
-//! The rows of the headers of the instrument (SCPI-1999, volume 2).
+//! The rows of the table of headers (SCPI-1999, volume 2; IEEE 488.2, 10).
 
-use crate::table::{Channels, Family, GroupAsk, Instrument, Key, LayerAsk, Row, Step, Whole, Word};
+ghost use Rattle.std.specs.Prelude.{◌≡◌};
+ghost use Rattle.sw_lex.specs.Table.{entries};
+ghost use Rattle.sw_lex.specs.Rows.{entries_of};
+
+use crate::table::Step::{End, May, Must, Numbered};
+use crate::table::{
+    Channels, Common, Family, GroupAsk, Instrument, Key, LayerAsk, Row, Whole, Word,
+};
 use sw_base::StatusGroup;
 
-pub const ARM_ROWS: [Row; 8] = [
+/// The headers of the commands, each with what it asks for as a command and as a query.
+static ROWS: [Row; 53] = [
     Row {
-        steps: [Step::Must(Word::Abort), Step::End, Step::End, Step::End],
-        query: false,
-        key: Key::Instrument(Instrument::Abort),
+        nodes: (Must(Word::Identification), End, End),
+        command: None,
+        query: Some(Key::Common(Common::Identify)),
     },
     Row {
-        steps: [
-            Step::Must(Word::Arm),
-            Step::Numbered(Word::Layer),
-            Step::Must(Word::Count),
-            Step::End,
-        ],
-        query: false,
-        key: Key::Whole(Whole::Count(Family::Arm)),
+        nodes: (Must(Word::Reset), End, End),
+        command: Some(Key::Common(Common::Reset)),
+        query: None,
     },
     Row {
-        steps: [
-            Step::Must(Word::Arm),
-            Step::Numbered(Word::Layer),
-            Step::Must(Word::Count),
-            Step::End,
-        ],
-        query: true,
-        key: Key::Layer(LayerAsk::CountQuery, Family::Arm),
+        nodes: (Must(Word::OperationComplete), End, End),
+        command: Some(Key::Common(Common::OperationComplete)),
+        query: Some(Key::Common(Common::OperationCompleteQuery)),
     },
     Row {
-        steps: [
-            Step::Must(Word::Arm),
-            Step::Numbered(Word::Layer),
-            Step::Must(Word::Source),
-            Step::End,
-        ],
-        query: false,
-        key: Key::Source(Family::Arm),
+        nodes: (Must(Word::Wait), End, End),
+        command: Some(Key::Common(Common::Wait)),
+        query: None,
     },
     Row {
-        steps: [
-            Step::Must(Word::Arm),
-            Step::Numbered(Word::Layer),
-            Step::Must(Word::Source),
-            Step::End,
-        ],
-        query: true,
-        key: Key::Layer(LayerAsk::SourceQuery, Family::Arm),
+        nodes: (Must(Word::SelfTest), End, End),
+        command: None,
+        query: Some(Key::Common(Common::SelfTestQuery)),
     },
     Row {
-        steps: [
-            Step::Must(Word::Arm),
-            Step::Numbered(Word::Layer),
-            Step::Must(Word::Delay),
-            Step::End,
-        ],
-        query: false,
-        key: Key::Delay(Family::Arm),
+        nodes: (Must(Word::TriggerNow), End, End),
+        command: Some(Key::Common(Common::Trigger)),
+        query: None,
     },
     Row {
-        steps: [
-            Step::Must(Word::Arm),
-            Step::Numbered(Word::Layer),
-            Step::Must(Word::Delay),
-            Step::End,
-        ],
-        query: true,
-        key: Key::Layer(LayerAsk::DelayQuery, Family::Arm),
+        nodes: (Must(Word::ClearStatus), End, End),
+        command: Some(Key::Common(Common::ClearStatus)),
+        query: None,
     },
     Row {
-        steps: [
-            Step::Must(Word::Arm),
-            Step::Numbered(Word::Layer),
-            Step::Must(Word::Signal),
-            Step::End,
-        ],
-        query: false,
-        key: Key::Layer(LayerAsk::Signal, Family::Arm),
-    },
-];
-
-pub const INITIATE_ROWS: [Row; 3] = [
-    Row {
-        steps: [
-            Step::Must(Word::Initiate),
-            Step::May(Word::Immediate),
-            Step::End,
-            Step::End,
-        ],
-        query: false,
-        key: Key::Instrument(Instrument::Initiate),
+        nodes: (Must(Word::EventEnable), End, End),
+        command: Some(Key::Whole(Whole::EventEnable)),
+        query: Some(Key::Common(Common::EventEnableQuery)),
     },
     Row {
-        steps: [
-            Step::Must(Word::Initiate),
-            Step::Must(Word::Continuous),
-            Step::End,
-            Step::End,
-        ],
-        query: false,
-        key: Key::Continuous,
+        nodes: (Must(Word::EventStatus), End, End),
+        command: None,
+        query: Some(Key::Common(Common::EventQuery)),
     },
     Row {
-        steps: [
-            Step::Must(Word::Initiate),
-            Step::Must(Word::Continuous),
-            Step::End,
-            Step::End,
-        ],
-        query: true,
-        key: Key::Instrument(Instrument::InitiateContinuousQuery),
-    },
-];
-
-pub const TRIGGER_ROWS: [Row; 10] = [
-    Row {
-        steps: [
-            Step::Must(Word::Trigger),
-            Step::Must(Word::Count),
-            Step::End,
-            Step::End,
-        ],
-        query: false,
-        key: Key::Whole(Whole::Count(Family::Trigger)),
+        nodes: (Must(Word::ServiceEnable), End, End),
+        command: Some(Key::Whole(Whole::ServiceEnable)),
+        query: Some(Key::Common(Common::ServiceEnableQuery)),
     },
     Row {
-        steps: [
-            Step::Must(Word::Trigger),
-            Step::Must(Word::Count),
-            Step::End,
-            Step::End,
-        ],
-        query: true,
-        key: Key::Layer(LayerAsk::CountQuery, Family::Trigger),
+        nodes: (Must(Word::StatusByte), End, End),
+        command: None,
+        query: Some(Key::Common(Common::StatusByteQuery)),
     },
     Row {
-        steps: [
-            Step::Must(Word::Trigger),
-            Step::Must(Word::Source),
-            Step::End,
-            Step::End,
-        ],
-        query: false,
-        key: Key::Source(Family::Trigger),
+        nodes: (Must(Word::DefineMacro), End, End),
+        command: Some(Key::DefineMacro),
+        query: None,
     },
     Row {
-        steps: [
-            Step::Must(Word::Trigger),
-            Step::Must(Word::Source),
-            Step::End,
-            Step::End,
-        ],
-        query: true,
-        key: Key::Layer(LayerAsk::SourceQuery, Family::Trigger),
+        nodes: (Must(Word::GetMacro), End, End),
+        command: None,
+        query: Some(Key::MacroQuery),
     },
     Row {
-        steps: [
-            Step::Must(Word::Trigger),
-            Step::Must(Word::Delay),
-            Step::End,
-            Step::End,
-        ],
-        query: false,
-        key: Key::Delay(Family::Trigger),
+        nodes: (Must(Word::RemoveMacro), End, End),
+        command: Some(Key::RemoveMacro),
+        query: None,
     },
     Row {
-        steps: [
-            Step::Must(Word::Trigger),
-            Step::Must(Word::Delay),
-            Step::End,
-            Step::End,
-        ],
-        query: true,
-        key: Key::Layer(LayerAsk::DelayQuery, Family::Trigger),
+        nodes: (Must(Word::LearnMacro), End, End),
+        command: None,
+        query: Some(Key::Common(Common::MacroLabelsQuery)),
     },
     Row {
-        steps: [
-            Step::Must(Word::Trigger),
-            Step::Must(Word::Signal),
-            Step::End,
-            Step::End,
-        ],
-        query: false,
-        key: Key::Layer(LayerAsk::Signal, Family::Trigger),
+        nodes: (Must(Word::PurgeMacros), End, End),
+        command: Some(Key::Common(Common::PurgeMacros)),
+        query: None,
     },
     Row {
-        steps: [
-            Step::Must(Word::Trace),
-            Step::Must(Word::Points),
-            Step::End,
-            Step::End,
-        ],
-        query: false,
-        key: Key::Whole(Whole::Points),
+        nodes: (Must(Word::EnableMacros), End, End),
+        command: Some(Key::EnableMacros),
+        query: Some(Key::Common(Common::EnableMacrosQuery)),
     },
     Row {
-        steps: [
-            Step::Must(Word::Trace),
-            Step::Must(Word::Points),
-            Step::End,
-            Step::End,
-        ],
-        query: true,
-        key: Key::Instrument(Instrument::PointsQuery),
+        nodes: (Must(Word::Abort), End, End),
+        command: Some(Key::Instrument(Instrument::Abort)),
+        query: None,
     },
     Row {
-        steps: [
-            Step::Must(Word::Trace),
-            Step::Must(Word::Points),
-            Step::Must(Word::Actual),
-            Step::End,
-        ],
-        query: true,
-        key: Key::Instrument(Instrument::ActualPointsQuery),
-    },
-];
-
-pub const ROUTE_ROWS: [Row; 10] = [
-    Row {
-        steps: [
-            Step::Must(Word::Route),
-            Step::Must(Word::Close),
-            Step::End,
-            Step::End,
-        ],
-        query: false,
-        key: Key::Channels(Channels::Close),
+        nodes: (Must(Word::Arm), Numbered(Word::Layer), Must(Word::Count)),
+        command: Some(Key::Whole(Whole::Count(Family::Arm))),
+        query: Some(Key::Layer(LayerAsk::CountQuery, Family::Arm)),
     },
     Row {
-        steps: [
-            Step::Must(Word::Route),
-            Step::Must(Word::Close),
-            Step::End,
-            Step::End,
-        ],
-        query: true,
-        key: Key::Channels(Channels::CloseQuery),
+        nodes: (Must(Word::Arm), Numbered(Word::Layer), Must(Word::Source)),
+        command: Some(Key::Source(Family::Arm)),
+        query: Some(Key::Layer(LayerAsk::SourceQuery, Family::Arm)),
     },
     Row {
-        steps: [
-            Step::Must(Word::Route),
-            Step::Must(Word::Close),
-            Step::Must(Word::State),
-            Step::End,
-        ],
-        query: true,
-        key: Key::Instrument(Instrument::CloseState),
+        nodes: (Must(Word::Arm), Numbered(Word::Layer), Must(Word::Delay)),
+        command: Some(Key::Delay(Family::Arm)),
+        query: Some(Key::Layer(LayerAsk::DelayQuery, Family::Arm)),
     },
     Row {
-        steps: [
-            Step::Must(Word::Route),
-            Step::Must(Word::Open),
-            Step::End,
-            Step::End,
-        ],
-        query: false,
-        key: Key::Channels(Channels::Open),
+        nodes: (Must(Word::Arm), Numbered(Word::Layer), Must(Word::Signal)),
+        command: Some(Key::Layer(LayerAsk::Signal, Family::Arm)),
+        query: None,
     },
     Row {
-        steps: [
-            Step::Must(Word::Route),
-            Step::Must(Word::Open),
-            Step::End,
-            Step::End,
-        ],
-        query: true,
-        key: Key::Channels(Channels::OpenQuery),
+        nodes: (Must(Word::Initiate), May(Word::Immediate), End),
+        command: Some(Key::Instrument(Instrument::Initiate)),
+        query: None,
     },
     Row {
-        steps: [
-            Step::Must(Word::Route),
-            Step::Must(Word::Open),
-            Step::Must(Word::All),
-            Step::End,
-        ],
-        query: false,
-        key: Key::Instrument(Instrument::OpenAll),
+        nodes: (Must(Word::Initiate), Must(Word::Continuous), End),
+        command: Some(Key::Continuous),
+        query: Some(Key::Instrument(Instrument::InitiateContinuousQuery)),
     },
     Row {
-        steps: [
-            Step::Must(Word::Route),
-            Step::Must(Word::Scan),
-            Step::End,
-            Step::End,
-        ],
-        query: false,
-        key: Key::Channels(Channels::Scan),
+        nodes: (Must(Word::Trigger), Must(Word::Count), End),
+        command: Some(Key::Whole(Whole::Count(Family::Trigger))),
+        query: Some(Key::Layer(LayerAsk::CountQuery, Family::Trigger)),
     },
     Row {
-        steps: [
-            Step::Must(Word::Route),
-            Step::Must(Word::Scan),
-            Step::End,
-            Step::End,
-        ],
-        query: true,
-        key: Key::Instrument(Instrument::ScanQuery),
+        nodes: (Must(Word::Trigger), Must(Word::Source), End),
+        command: Some(Key::Source(Family::Trigger)),
+        query: Some(Key::Layer(LayerAsk::SourceQuery, Family::Trigger)),
     },
     Row {
-        steps: [
-            Step::Must(Word::Route),
-            Step::Must(Word::Scan),
-            Step::Must(Word::Meter),
-            Step::End,
-        ],
-        query: false,
-        key: Key::Whole(Whole::ScanMeter),
+        nodes: (Must(Word::Trigger), Must(Word::Delay), End),
+        command: Some(Key::Delay(Family::Trigger)),
+        query: Some(Key::Layer(LayerAsk::DelayQuery, Family::Trigger)),
     },
     Row {
-        steps: [
-            Step::Must(Word::Route),
-            Step::Must(Word::Scan),
-            Step::Must(Word::Meter),
-            Step::End,
-        ],
-        query: true,
-        key: Key::Instrument(Instrument::ScanMeterQuery),
+        nodes: (Must(Word::Trigger), Must(Word::Signal), End),
+        command: Some(Key::Layer(LayerAsk::Signal, Family::Trigger)),
+        query: None,
+    },
+    Row {
+        nodes: (Must(Word::Trace), Must(Word::Points), End),
+        command: Some(Key::Whole(Whole::Points)),
+        query: Some(Key::Instrument(Instrument::PointsQuery)),
+    },
+    Row {
+        nodes: (Must(Word::Trace), Must(Word::Points), Must(Word::Actual)),
+        command: None,
+        query: Some(Key::Instrument(Instrument::ActualPointsQuery)),
+    },
+    Row {
+        nodes: (Must(Word::Route), Must(Word::Close), End),
+        command: Some(Key::Channels(Channels::Close)),
+        query: Some(Key::Channels(Channels::CloseQuery)),
+    },
+    Row {
+        nodes: (Must(Word::Route), Must(Word::Close), Must(Word::State)),
+        command: None,
+        query: Some(Key::Instrument(Instrument::CloseState)),
+    },
+    Row {
+        nodes: (Must(Word::Route), Must(Word::Open), End),
+        command: Some(Key::Channels(Channels::Open)),
+        query: Some(Key::Channels(Channels::OpenQuery)),
+    },
+    Row {
+        nodes: (Must(Word::Route), Must(Word::Open), Must(Word::All)),
+        command: Some(Key::Instrument(Instrument::OpenAll)),
+        query: None,
+    },
+    Row {
+        nodes: (Must(Word::Route), Must(Word::Scan), End),
+        command: Some(Key::Channels(Channels::Scan)),
+        query: Some(Key::Instrument(Instrument::ScanQuery)),
+    },
+    Row {
+        nodes: (Must(Word::Route), Must(Word::Scan), Must(Word::Meter)),
+        command: Some(Key::Whole(Whole::ScanMeter)),
+        query: Some(Key::Instrument(Instrument::ScanMeterQuery)),
+    },
+    Row {
+        nodes: (Must(Word::Status), Must(Word::Operation), May(Word::Event)),
+        command: None,
+        query: Some(Key::Group(GroupAsk::EventQuery, StatusGroup::Operation)),
+    },
+    Row {
+        nodes: (
+            Must(Word::Status),
+            Must(Word::Operation),
+            Must(Word::Condition),
+        ),
+        command: None,
+        query: Some(Key::Group(GroupAsk::ConditionQuery, StatusGroup::Operation)),
+    },
+    Row {
+        nodes: (
+            Must(Word::Status),
+            Must(Word::Operation),
+            Must(Word::Enable),
+        ),
+        command: Some(Key::Whole(Whole::Enable(StatusGroup::Operation))),
+        query: Some(Key::Group(GroupAsk::EnableQuery, StatusGroup::Operation)),
+    },
+    Row {
+        nodes: (
+            Must(Word::Status),
+            Must(Word::Operation),
+            Must(Word::PositiveTransition),
+        ),
+        command: Some(Key::Whole(Whole::PositiveTransition(StatusGroup::Operation))),
+        query: Some(Key::Group(GroupAsk::PositiveTransitionQuery, StatusGroup::Operation)),
+    },
+    Row {
+        nodes: (
+            Must(Word::Status),
+            Must(Word::Operation),
+            Must(Word::NegativeTransition),
+        ),
+        command: Some(Key::Whole(Whole::NegativeTransition(StatusGroup::Operation))),
+        query: Some(Key::Group(GroupAsk::NegativeTransitionQuery, StatusGroup::Operation)),
+    },
+    Row {
+        nodes: (
+            Must(Word::Status),
+            Must(Word::Questionable),
+            May(Word::Event),
+        ),
+        command: None,
+        query: Some(Key::Group(GroupAsk::EventQuery, StatusGroup::Questionable)),
+    },
+    Row {
+        nodes: (
+            Must(Word::Status),
+            Must(Word::Questionable),
+            Must(Word::Condition),
+        ),
+        command: None,
+        query: Some(Key::Group(GroupAsk::ConditionQuery, StatusGroup::Questionable)),
+    },
+    Row {
+        nodes: (
+            Must(Word::Status),
+            Must(Word::Questionable),
+            Must(Word::Enable),
+        ),
+        command: Some(Key::Whole(Whole::Enable(StatusGroup::Questionable))),
+        query: Some(Key::Group(GroupAsk::EnableQuery, StatusGroup::Questionable)),
+    },
+    Row {
+        nodes: (
+            Must(Word::Status),
+            Must(Word::Questionable),
+            Must(Word::PositiveTransition),
+        ),
+        command: Some(Key::Whole(Whole::PositiveTransition(StatusGroup::Questionable))),
+        query: Some(Key::Group(GroupAsk::PositiveTransitionQuery, StatusGroup::Questionable)),
+    },
+    Row {
+        nodes: (
+            Must(Word::Status),
+            Must(Word::Questionable),
+            Must(Word::NegativeTransition),
+        ),
+        command: Some(Key::Whole(Whole::NegativeTransition(StatusGroup::Questionable))),
+        query: Some(Key::Group(GroupAsk::NegativeTransitionQuery, StatusGroup::Questionable)),
+    },
+    Row {
+        nodes: (Must(Word::Status), Must(Word::Preset), End),
+        command: Some(Key::Instrument(Instrument::Preset)),
+        query: None,
+    },
+    Row {
+        nodes: (Must(Word::System), Must(Word::Error), May(Word::Next)),
+        command: None,
+        query: Some(Key::Instrument(Instrument::NextErrorQuery)),
+    },
+    Row {
+        nodes: (Must(Word::System), Must(Word::Error), Must(Word::All)),
+        command: None,
+        query: Some(Key::Instrument(Instrument::AllErrorsQuery)),
+    },
+    Row {
+        nodes: (Must(Word::System), Must(Word::Error), Must(Word::Count)),
+        command: None,
+        query: Some(Key::Instrument(Instrument::ErrorCountQuery)),
+    },
+    Row {
+        nodes: (Must(Word::System), Must(Word::Version), End),
+        command: None,
+        query: Some(Key::Instrument(Instrument::VersionQuery)),
+    },
+    Row {
+        nodes: (Must(Word::Diagnostic), Must(Word::Scan), Must(Word::Bound)),
+        command: None,
+        query: Some(Key::Instrument(Instrument::BoundQuery)),
+    },
+    Row {
+        nodes: (Must(Word::Fetch), End, End),
+        command: None,
+        query: Some(Key::Instrument(Instrument::Fetch)),
     },
 ];
 
-pub const OPERATION_ROWS: [Row; 8] = [
-    Row {
-        steps: [
-            Step::Must(Word::Status),
-            Step::Must(Word::Operation),
-            Step::May(Word::Event),
-            Step::End,
-        ],
-        query: true,
-        key: Key::Group(GroupAsk::EventQuery, StatusGroup::Operation),
-    },
-    Row {
-        steps: [
-            Step::Must(Word::Status),
-            Step::Must(Word::Operation),
-            Step::Must(Word::Condition),
-            Step::End,
-        ],
-        query: true,
-        key: Key::Group(GroupAsk::ConditionQuery, StatusGroup::Operation),
-    },
-    Row {
-        steps: [
-            Step::Must(Word::Status),
-            Step::Must(Word::Operation),
-            Step::Must(Word::Enable),
-            Step::End,
-        ],
-        query: false,
-        key: Key::Whole(Whole::Enable(StatusGroup::Operation)),
-    },
-    Row {
-        steps: [
-            Step::Must(Word::Status),
-            Step::Must(Word::Operation),
-            Step::Must(Word::Enable),
-            Step::End,
-        ],
-        query: true,
-        key: Key::Group(GroupAsk::EnableQuery, StatusGroup::Operation),
-    },
-    Row {
-        steps: [
-            Step::Must(Word::Status),
-            Step::Must(Word::Operation),
-            Step::Must(Word::PositiveTransition),
-            Step::End,
-        ],
-        query: false,
-        key: Key::Whole(Whole::PositiveTransition(StatusGroup::Operation)),
-    },
-    Row {
-        steps: [
-            Step::Must(Word::Status),
-            Step::Must(Word::Operation),
-            Step::Must(Word::PositiveTransition),
-            Step::End,
-        ],
-        query: true,
-        key: Key::Group(GroupAsk::PositiveTransitionQuery, StatusGroup::Operation),
-    },
-    Row {
-        steps: [
-            Step::Must(Word::Status),
-            Step::Must(Word::Operation),
-            Step::Must(Word::NegativeTransition),
-            Step::End,
-        ],
-        query: false,
-        key: Key::Whole(Whole::NegativeTransition(StatusGroup::Operation)),
-    },
-    Row {
-        steps: [
-            Step::Must(Word::Status),
-            Step::Must(Word::Operation),
-            Step::Must(Word::NegativeTransition),
-            Step::End,
-        ],
-        query: true,
-        key: Key::Group(GroupAsk::NegativeTransitionQuery, StatusGroup::Operation),
-    },
-];
-
-pub const QUESTIONABLE_ROWS: [Row; 9] = [
-    Row {
-        steps: [
-            Step::Must(Word::Status),
-            Step::Must(Word::Questionable),
-            Step::May(Word::Event),
-            Step::End,
-        ],
-        query: true,
-        key: Key::Group(GroupAsk::EventQuery, StatusGroup::Questionable),
-    },
-    Row {
-        steps: [
-            Step::Must(Word::Status),
-            Step::Must(Word::Questionable),
-            Step::Must(Word::Condition),
-            Step::End,
-        ],
-        query: true,
-        key: Key::Group(GroupAsk::ConditionQuery, StatusGroup::Questionable),
-    },
-    Row {
-        steps: [
-            Step::Must(Word::Status),
-            Step::Must(Word::Questionable),
-            Step::Must(Word::Enable),
-            Step::End,
-        ],
-        query: false,
-        key: Key::Whole(Whole::Enable(StatusGroup::Questionable)),
-    },
-    Row {
-        steps: [
-            Step::Must(Word::Status),
-            Step::Must(Word::Questionable),
-            Step::Must(Word::Enable),
-            Step::End,
-        ],
-        query: true,
-        key: Key::Group(GroupAsk::EnableQuery, StatusGroup::Questionable),
-    },
-    Row {
-        steps: [
-            Step::Must(Word::Status),
-            Step::Must(Word::Questionable),
-            Step::Must(Word::PositiveTransition),
-            Step::End,
-        ],
-        query: false,
-        key: Key::Whole(Whole::PositiveTransition(StatusGroup::Questionable)),
-    },
-    Row {
-        steps: [
-            Step::Must(Word::Status),
-            Step::Must(Word::Questionable),
-            Step::Must(Word::PositiveTransition),
-            Step::End,
-        ],
-        query: true,
-        key: Key::Group(GroupAsk::PositiveTransitionQuery, StatusGroup::Questionable),
-    },
-    Row {
-        steps: [
-            Step::Must(Word::Status),
-            Step::Must(Word::Questionable),
-            Step::Must(Word::NegativeTransition),
-            Step::End,
-        ],
-        query: false,
-        key: Key::Whole(Whole::NegativeTransition(StatusGroup::Questionable)),
-    },
-    Row {
-        steps: [
-            Step::Must(Word::Status),
-            Step::Must(Word::Questionable),
-            Step::Must(Word::NegativeTransition),
-            Step::End,
-        ],
-        query: true,
-        key: Key::Group(GroupAsk::NegativeTransitionQuery, StatusGroup::Questionable),
-    },
-    Row {
-        steps: [
-            Step::Must(Word::Status),
-            Step::Must(Word::Preset),
-            Step::End,
-            Step::End,
-        ],
-        query: false,
-        key: Key::Instrument(Instrument::Preset),
-    },
-];
-
-pub const SYSTEM_ROWS: [Row; 4] = [
-    Row {
-        steps: [
-            Step::Must(Word::System),
-            Step::Must(Word::Error),
-            Step::May(Word::Next),
-            Step::End,
-        ],
-        query: true,
-        key: Key::Instrument(Instrument::NextErrorQuery),
-    },
-    Row {
-        steps: [
-            Step::Must(Word::System),
-            Step::Must(Word::Error),
-            Step::Must(Word::All),
-            Step::End,
-        ],
-        query: true,
-        key: Key::Instrument(Instrument::AllErrorsQuery),
-    },
-    Row {
-        steps: [
-            Step::Must(Word::System),
-            Step::Must(Word::Error),
-            Step::Must(Word::Count),
-            Step::End,
-        ],
-        query: true,
-        key: Key::Instrument(Instrument::ErrorCountQuery),
-    },
-    Row {
-        steps: [
-            Step::Must(Word::System),
-            Step::Must(Word::Version),
-            Step::End,
-            Step::End,
-        ],
-        query: true,
-        key: Key::Instrument(Instrument::VersionQuery),
-    },
-];
-
-pub const DIAGNOSTIC_ROWS: [Row; 1] = [Row {
-    steps: [
-        Step::Must(Word::Diagnostic),
-        Step::Must(Word::Scan),
-        Step::Must(Word::Bound),
-        Step::End,
-    ],
-    query: true,
-    key: Key::Instrument(Instrument::BoundQuery),
-}];
-
-pub const FETCH_ROWS: [Row; 1] = [Row {
-    steps: [Step::Must(Word::Fetch), Step::End, Step::End, Step::End],
-    query: true,
-    key: Key::Instrument(Instrument::Fetch),
-}];
+/// The table of headers.
+pub fn rows() -> &'static [Row]
+    ensures { entries_of result.now ≡ entries }
+{
+    &ROWS
+}

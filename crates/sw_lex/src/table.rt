@@ -1,7 +1,7 @@
 //! The commands' headers, as a table (SCPI-1999, volume 1, 6.2; IEEE 488.2, 10).
 
 ghost use Rattle.std.specs.Prelude.{◌≡◌};
-ghost use Rattle.sw_lex.specs.Words.{short_of, long_of};
+ghost use Rattle.sw_lex.specs.Rows.{key_at, steps_of, written};
 
 use sw_base::StatusGroup;
 
@@ -183,16 +183,11 @@ pub enum Word {
     Diagnostic,
     Bound,
     Fetch,
-    Bus,
-    External,
-    Hold,
-    On,
-    Off,
 }
 
-/// Its short form, in capitals.
-pub fn short_of(word: Word) -> &'static [u8]
-    ensures { result.now ≡ short_of word }
+/// A mnemonic as the standard writes it: its short form in capitals, and what the long form adds in small letters.
+pub fn written(word: Word) -> &'static [u8]
+    ensures { result.now ≡ written word }
 {
     match word {
         Word::Identification => b"*IDN",
@@ -212,115 +207,43 @@ pub fn short_of(word: Word) -> &'static [u8]
         Word::RemoveMacro => b"*RMC",
         Word::PurgeMacros => b"*PMC",
         Word::EnableMacros => b"*EMC",
-        Word::Abort => b"ABOR",
-        Word::Initiate => b"INIT",
-        Word::Immediate => b"IMM",
-        Word::Continuous => b"CONT",
+        Word::Abort => b"ABORt",
+        Word::Initiate => b"INITiate",
+        Word::Immediate => b"IMMediate",
+        Word::Continuous => b"CONTinuous",
         Word::Arm => b"ARM",
-        Word::Layer => b"LAY",
-        Word::Count => b"COUN",
-        Word::Source => b"SOUR",
-        Word::Delay => b"DEL",
-        Word::Signal => b"SIGN",
-        Word::Trigger => b"TRIG",
-        Word::Route => b"ROUT",
-        Word::Close => b"CLOS",
-        Word::State => b"STAT",
+        Word::Layer => b"LAYer",
+        Word::Count => b"COUNt",
+        Word::Source => b"SOURce",
+        Word::Delay => b"DELay",
+        Word::Signal => b"SIGNal",
+        Word::Trigger => b"TRIGger",
+        Word::Route => b"ROUTe",
+        Word::Close => b"CLOSe",
+        Word::State => b"STATe",
         Word::Open => b"OPEN",
         Word::All => b"ALL",
         Word::Scan => b"SCAN",
-        Word::Meter => b"MET",
-        Word::Status => b"STAT",
-        Word::Operation => b"OPER",
-        Word::Event => b"EVEN",
-        Word::Condition => b"COND",
-        Word::Enable => b"ENAB",
-        Word::PositiveTransition => b"PTR",
-        Word::NegativeTransition => b"NTR",
-        Word::Questionable => b"QUES",
-        Word::Preset => b"PRES",
-        Word::System => b"SYST",
-        Word::Error => b"ERR",
+        Word::Meter => b"METer",
+        Word::Status => b"STATus",
+        Word::Operation => b"OPERation",
+        Word::Event => b"EVENt",
+        Word::Condition => b"CONDition",
+        Word::Enable => b"ENABle",
+        Word::PositiveTransition => b"PTRansition",
+        Word::NegativeTransition => b"NTRansition",
+        Word::Questionable => b"QUEStionable",
+        Word::Preset => b"PRESet",
+        Word::System => b"SYSTem",
+        Word::Error => b"ERRor",
         Word::Next => b"NEXT",
-        Word::Version => b"VERS",
-        Word::Trace => b"TRAC",
-        Word::Points => b"POIN",
-        Word::Actual => b"ACT",
-        Word::Diagnostic => b"DIAG",
-        Word::Bound => b"BOUN",
-        Word::Fetch => b"FETC",
-        Word::Bus => b"BUS",
-        Word::External => b"EXT",
-        Word::Hold => b"HOLD",
-        Word::On => b"ON",
-        Word::Off => b"OFF",
-    }
-}
-
-/// Its long form, in capitals.
-pub fn long_of(word: Word) -> &'static [u8]
-    ensures { result.now ≡ long_of word }
-{
-    match word {
-        Word::Identification => b"*IDN",
-        Word::Reset => b"*RST",
-        Word::ClearStatus => b"*CLS",
-        Word::EventEnable => b"*ESE",
-        Word::EventStatus => b"*ESR",
-        Word::ServiceEnable => b"*SRE",
-        Word::StatusByte => b"*STB",
-        Word::OperationComplete => b"*OPC",
-        Word::Wait => b"*WAI",
-        Word::SelfTest => b"*TST",
-        Word::TriggerNow => b"*TRG",
-        Word::DefineMacro => b"*DMC",
-        Word::GetMacro => b"*GMC",
-        Word::LearnMacro => b"*LMC",
-        Word::RemoveMacro => b"*RMC",
-        Word::PurgeMacros => b"*PMC",
-        Word::EnableMacros => b"*EMC",
-        Word::Abort => b"ABORT",
-        Word::Initiate => b"INITIATE",
-        Word::Immediate => b"IMMEDIATE",
-        Word::Continuous => b"CONTINUOUS",
-        Word::Arm => b"ARM",
-        Word::Layer => b"LAYER",
-        Word::Count => b"COUNT",
-        Word::Source => b"SOURCE",
-        Word::Delay => b"DELAY",
-        Word::Signal => b"SIGNAL",
-        Word::Trigger => b"TRIGGER",
-        Word::Route => b"ROUTE",
-        Word::Close => b"CLOSE",
-        Word::State => b"STATE",
-        Word::Open => b"OPEN",
-        Word::All => b"ALL",
-        Word::Scan => b"SCAN",
-        Word::Meter => b"METER",
-        Word::Status => b"STATUS",
-        Word::Operation => b"OPERATION",
-        Word::Event => b"EVENT",
-        Word::Condition => b"CONDITION",
-        Word::Enable => b"ENABLE",
-        Word::PositiveTransition => b"PTRANSITION",
-        Word::NegativeTransition => b"NTRANSITION",
-        Word::Questionable => b"QUESTIONABLE",
-        Word::Preset => b"PRESET",
-        Word::System => b"SYSTEM",
-        Word::Error => b"ERROR",
-        Word::Next => b"NEXT",
-        Word::Version => b"VERSION",
-        Word::Trace => b"TRACE",
-        Word::Points => b"POINTS",
-        Word::Actual => b"ACTUAL",
-        Word::Diagnostic => b"DIAGNOSTIC",
-        Word::Bound => b"BOUND",
-        Word::Fetch => b"FETCH",
-        Word::Bus => b"BUS",
-        Word::External => b"EXTERNAL",
-        Word::Hold => b"HOLD",
-        Word::On => b"ON",
-        Word::Off => b"OFF",
+        Word::Version => b"VERSion",
+        Word::Trace => b"TRACe",
+        Word::Points => b"POINts",
+        Word::Actual => b"ACTual",
+        Word::Diagnostic => b"DIAGnostic",
+        Word::Bound => b"BOUNd",
+        Word::Fetch => b"FETCh",
     }
 }
 
@@ -337,10 +260,25 @@ pub enum Step {
     End,
 }
 
-/// A header and the command that it is.
+/// A header, and what it asks for as a command and as a query.
 #[derive(Clone, Copy)]
 pub struct Row {
-    pub steps: [Step; 4],
-    pub query: bool,
-    pub key: Key,
+    pub nodes: (Step, Step, Step),
+    pub command: Option<Key>,
+    pub query: Option<Key>,
+}
+
+/// The nodes of a row's header.
+pub fn steps_of(row: &Row) -> [Step; 3]
+    ensures { result ≡ steps_of row.now }
+{
+    let (first, second, third) = row.nodes;
+    [first, second, third]
+}
+
+/// What the header of a row asks for, with a question mark or without.
+pub fn key_at(query: bool, row: &Row) -> Option<Key>
+    ensures { result ≡ key_at query row.now }
+{
+    if query { row.query } else { row.command }
 }

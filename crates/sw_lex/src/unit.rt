@@ -1,10 +1,13 @@
 //! Units: from the bytes of a message to one header and its data.
 
-ghost use Rattle.std.specs.Prelude.{◌≡◌, ◌==◌, ◌++◌, ◌∷◌, ◌≤◌, ◌<◌, ℕ, List, [], true, false, IfOk, IfErr, IfSome, IfNone, length};
+ghost use Rattle.std.specs.Prelude.{◌≡◌, ◌==◌, ◌++◌, ◌∷◌, ◌≤◌, ◌<◌, ℕ, List, [], true, false, IfOk, IfErr, IfSome};
+ghost use Rattle.std.specs.Prelude.{IfNone, length};
 ghost use Rattle.sw_base.specs.Text.{is_blank, is_letter, is_word, AllPass, StartsOff};
 ghost use Rattle.sw_base.specs.declared.error.ScpiError.{ScpiError as Error};
 ghost use Rattle.sw_base.specs.declared.error.ScpiError.TheVariants.{SyntaxError};
-ghost use Rattle.sw_lex.specs.Unit.{UnitView, unit_of, heading_of, data_of, is_gap, fault_at, IsPath, BreaksOff, Heads, HasNoHeading, Asks, IsData, IsDataRefused, IsTail, IsTailRefused, IsUnit, IsRefused, IsBlank, IsJoined, IsLeft, IsWritten, Closes, written_of};
+ghost use Rattle.sw_lex.specs.Unit.{UnitView, unit_of, heading_of, data_of, is_gap, fault_at, IsPath, BreaksOff, Heads};
+ghost use Rattle.sw_lex.specs.Unit.{HasNoHeading, Asks, IsData, IsDataRefused, IsTail, IsTailRefused, IsUnit};
+ghost use Rattle.sw_lex.specs.Unit.{IsRefused, IsBlank, IsJoined, IsLeft, IsWritten, Closes, written_of};
 
 use crate::elements::{before, read_element};
 use crate::runs::{end, fault_at, gaps, mnemonic, name};
@@ -57,8 +60,9 @@ pub struct RawUnit<'a> {
 }
 
 impl<'a> RawUnit<'a> {
-    /// The unit as it is written: from the first byte of its header to the last byte of its last part, without the white
-    /// space and separators around it. Its last part is its last element, or where it has none its question mark or header.
+    /// The unit as it is written: from the first byte of its header to the last byte of its last part, without the
+    /// white space and separators around it. Its last part is its last element, or where it has none its question mark
+    /// or header.
     pub fn text(&self) -> &'a [u8]
         ensures { result.now ≡ written_of self.now }
     {
@@ -192,7 +196,8 @@ fn read_tail(text: &[u8]) -> Result<(ArrayVec<Element<'_>, 16>, &[u8], &[u8]), S
 /// (IEEE 488.2, 7.3).
 pub fn next_unit(text: &[u8]) -> Result<Option<(RawUnit<'_>, &[u8])>, ScpiError>
     ensures unit { IfOk result (λ o. IfSome o (λ x. IsUnit text.now (unit_of x.0) x.1.now)) }
-    ensures written { IfOk result (λ o. IfSome o (λ x. (before left : List ℕ) × IsWritten text.now before (unit_of x.0) (written_of x.0) left × Closes left x.1.now)) }
+    ensures written { IfOk result (λ o. IfSome o (λ x. (before left : List ℕ)
+        × IsWritten text.now before (unit_of x.0) (written_of x.0) left × Closes left x.1.now)) }
     ensures shorter { IfOk result (λ o. IfSome o (λ x. length x.1.now < length text.now)) }
     ensures none { IfOk result (λ o. IfNone o (IsBlank text.now)) }
     ensures refused { IfErr result (λ e. IsRefused text.now e) }
@@ -218,8 +223,10 @@ pub fn next_unit(text: &[u8]) -> Result<Option<(RawUnit<'_>, &[u8])>, ScpiError>
 /// A law: no text is two units, nor refused in two ways, nor a unit and refused, nor blank and either; and no unit is
 /// written in two ways.
 pub fn one_reading()
-    ensures units { (text : List ℕ) (u v : UnitView) (r s : List ℕ) → IsUnit text u r → IsUnit text v s → (u ≡ v) × (r ≡ s) }
-    ensures written { (text before front : List ℕ) (u : UnitView) (w v r s : List ℕ) → IsWritten text before u w r → IsWritten text front u v s → (before ≡ front) × (w ≡ v) × (r ≡ s) }
+    ensures units { (text : List ℕ) (u v : UnitView) (r s : List ℕ) → IsUnit text u r → IsUnit text v s
+        → (u ≡ v) × (r ≡ s) }
+    ensures written { (text before front : List ℕ) (u : UnitView) (w v r s : List ℕ) → IsWritten text before u w r
+        → IsWritten text front u v s → (before ≡ front) × (w ≡ v) × (r ≡ s) }
     ensures refusals { (text : List ℕ) (e f : Error) → IsRefused text e → IsRefused text f → e ≡ f }
     ensures apart { (text : List ℕ) (u : UnitView) (r : List ℕ) (e : Error) → IsUnit text u r → IsRefused text e → ⊥ }
     ensures no_unit { (text : List ℕ) (u : UnitView) (r : List ℕ) → IsBlank text → IsUnit text u r → ⊥ }

@@ -5,18 +5,18 @@ ghost use Rattle.std.specs.Char.{to_ascii_uppercase};
 ghost use Rattle.std.specs.Result.{result_map_both};
 ghost use Rattle.sw_base.specs.Text.{is_blank, is_letter, AllPass, Spans};
 ghost use Rattle.sw_base.specs.Number.{Written, rounded};
-ghost use Rattle.sw_lex.specs.Apart.{same_word};
-ghost use Rattle.sw_lex.specs.Values.{IsQuantity, ReadsQuantity, natural_in, whole_of, continuous_of, macros_of, unit_of, delay_of, delay_in, is_named, source_of, switch_of, source_meant, switch_meant, all_digits, unnumbered};
+ghost use Rattle.sw_lex.specs.Values.{IsQuantity, ReadsQuantity, natural_in, whole_of, continuous_of, macros_of};
+ghost use Rattle.sw_lex.specs.Values.{unit_of, delay_of, delay_in, is_named, source_of, switch_of, source_meant};
+ghost use Rattle.sw_lex.specs.Values.{switch_meant, all_digits, unnumbered};
 
 use crate::choice::{greatest, least, of_whole};
 use crate::command::Command;
-use crate::headers::is_same;
-use crate::numerals::{exponent_end, mantissa_end};
-use crate::table::{Whole, Word, long_of, short_of};
-use sw_base::{LayerName, Nrf, ScpiError, Source, Unit, blanks, digits, letters};
-
-/// The longest delay, in microseconds.
-const LONGEST_DELAY: u64 = 3_600_000_000;
+use crate::headers::is_form;
+use crate::table::Whole;
+use sw_base::{
+    LONGEST_DELAY, LayerName, Nrf, ScpiError, Source, Unit, blanks, digits, letters, read_exponent,
+    read_mantissa,
+};
 
 /// Whether only letters stand there, after white space.
 fn is_suffix(text: &[u8]) -> bool
@@ -31,11 +31,11 @@ fn is_suffix(text: &[u8]) -> bool
 fn is_quantity(text: &[u8]) -> bool
     ensures { IsTrue result ↔ ((n : Written) × (suffix : List ℕ) × IsQuantity text.now n suffix) }
 {
-    match mantissa_end(text) {
+    match read_mantissa(text) {
         None => false,
-        Some(after) => match exponent_end(after) {
+        Some((_, after)) => match read_exponent(after) {
             None => is_suffix(after),
-            Some((rest, _)) => is_suffix(rest),
+            Some((_, rest)) => is_suffix(rest),
         },
     }
 }
@@ -107,24 +107,25 @@ pub fn macros_of(n: &Nrf<'_>, suffix: &[u8]) -> Result<Command, ScpiError>
     }
 }
 
-/// Whether a word is a form, but for the case of its letters.
-fn is_text(word: &[u8], form: &[u8]) -> bool
-    ensures { result ≡ same_word (map to_ascii_uppercase word.now) form.now }
+/// Whether a text is one of the two forms of a mnemonic that is written as in the standard, but for the case of its
+/// letters.
+fn is_named(form: &[u8], text: &[u8]) -> bool
+    ensures { result ≡ is_named form.now (map to_ascii_uppercase text.now) }
 {
-    is_same(word, form)
+    is_form(text, form)
 }
 
 /// The unit of time that a suffix names.
 fn unit_of(suffix: &[u8]) -> Option<Unit>
     ensures { result ≡ unit_of (map to_ascii_uppercase suffix.now) }
 {
-    if is_text(suffix, b"") {
+    if is_named(b"", suffix) {
         Some(Unit::S)
-    } else if is_text(suffix, b"S") {
+    } else if is_named(b"S", suffix) {
         Some(Unit::S)
-    } else if is_text(suffix, b"MS") {
+    } else if is_named(b"MS", suffix) {
         Some(Unit::Ms)
-    } else if is_text(suffix, b"US") {
+    } else if is_named(b"US", suffix) {
         Some(Unit::Us)
     } else {
         None
@@ -150,23 +151,16 @@ pub fn delay_of(layer: LayerName, n: &Nrf<'_>, suffix: &[u8]) -> Result<Command,
     }
 }
 
-/// Whether a text is one of a word's two forms, but for the case of its letters.
-fn is_named(word: Word, text: &[u8]) -> bool
-    ensures { result ≡ is_named word (map to_ascii_uppercase text.now) }
-{
-    is_text(text, short_of(word)) || is_text(text, long_of(word))
-}
-
 fn source_of(text: &[u8]) -> Option<Source>
     ensures { result ≡ source_of (map to_ascii_uppercase text.now) }
 {
-    if is_named(Word::Immediate, text) {
+    if is_named(b"IMMediate", text) {
         Some(Source::Immediate)
-    } else if is_named(Word::Bus, text) {
+    } else if is_named(b"BUS", text) {
         Some(Source::Bus)
-    } else if is_named(Word::External, text) {
+    } else if is_named(b"EXTernal", text) {
         Some(Source::External)
-    } else if is_named(Word::Hold, text) {
+    } else if is_named(b"HOLD", text) {
         Some(Source::Hold)
     } else {
         None
@@ -176,9 +170,9 @@ fn source_of(text: &[u8]) -> Option<Source>
 fn switch_of(text: &[u8]) -> Option<bool>
     ensures { result ≡ switch_of (map to_ascii_uppercase text.now) }
 {
-    if is_named(Word::On, text) {
+    if is_named(b"ON", text) {
         Some(true)
-    } else if is_named(Word::Off, text) {
+    } else if is_named(b"OFF", text) {
         Some(false)
     } else {
         None
@@ -224,7 +218,7 @@ pub fn unnumbered(word: &[u8]) -> &[u8]
     ensures { result.now ≡ unnumbered word.now }
 {
     let (front, rest) = letters(word);
-    if is_named(Word::Layer, front) {
+    if is_named(b"LAYer", front) {
         if all_digits(rest) { front } else { word }
     } else {
         word

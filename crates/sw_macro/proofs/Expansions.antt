@@ -1,5 +1,6 @@
 -- Units in their places, and that a body becomes one text or one fault.
-use Rattle.std.proofs.Common.{◌≡◌, ℕ, ◌-◌, ◌≤◌, List, [], ◌∷◌, ◌++◌, length, take, drop, Option, Some, None, Result, Ok, Err, refl, sym, ap, subst, ◌∙◌, append_assoc, arith, inl, inr}
+use Rattle.std.proofs.Common.{◌≡◌, ℕ, ◌-◌, ◌≤◌, List, [], ◌∷◌, ◌++◌, length, take, drop, Option, Some, None, Result, Ok, Err, refl, sym, ap, subst, ◌∙◌}
+use Rattle.std.proofs.Common.{append_assoc, arith, inl, inr}
 use Rattle.std.proofs.lemmas.List.{append_cancel_right, length-append, take_at, drop_at}
 use Rattle.sw_base.specs.Text.{Spans}
 use Rattle.sw_base.proofs.Runs.{one_span}
@@ -25,7 +26,8 @@ pub record Cut (start written left between rest : List ℕ) : Type 0 where
   pub whole : start ≡ written ++ left
   pub parts : left ≡ between ++ rest
 
-pub cut_front : (text before start b : List ℕ) (u : UnitView) (w left rest : List ℕ) → Spans is_gap text before start → IsWritten text b u w left → Closes left rest → (between : List ℕ) × (b ≡ before) × Cut start w left between rest
+pub cut_front : (text before start b : List ℕ) (u : UnitView) (w left rest : List ℕ) → Spans is_gap text before start → IsWritten text b u w left
+    → Closes left rest → (between : List ℕ) × (b ≡ before) × Cut start w left between rest
 cut_front text before start b u w left rest s p c =
     let r = one_span is_gap text b p.start before start p.skipped s in
     let f = closes_front left rest c in
@@ -55,7 +57,8 @@ pub onward_none : (ms : List Macro) (names : List (List ℕ)) (body first : List
 onward_none ms names body first = record { so = λ r d. d }
 
 -- the outcome of `open`, for the labels and the length that were passed
-pub opened_so : (ms : List Macro) (passed names : List (List ℕ)) (u : UnitView) (n : ℕ) (kept now before : List ℕ) (a : Result (Option Macro) ScpiError) → passed ≡ names → kept ≡ now ++ before → n ≡ length kept → opened ms passed u n ≡ a → opened ms names u (length (now ++ before)) ≡ a
+pub opened_so : (ms : List Macro) (passed names : List (List ℕ)) (u : UnitView) (n : ℕ) (kept now before : List ℕ) (a : Result (Option Macro) ScpiError)
+    → passed ≡ names → kept ≡ now ++ before → n ≡ length kept → opened ms passed u n ≡ a → opened ms names u (length (now ++ before)) ≡ a
 opened_so ms passed names u n kept now before a p k l h =
     ap (λ (m : ℕ). opened ms names u m) (sym (l ∙ ap (λ (t : List ℕ). length t) k)) ∙ ap (λ (x : List (List ℕ)). opened ms x u n) (sym p) ∙ h
 
@@ -66,22 +69,30 @@ within_so ms passed names text body kept now before label r p t k d =
     (subst (λ (x : List ℕ). Becomes ms passed x (now ++ before) r) t
     (subst (λ (x : List ℕ). Becomes ms passed text x r) k d))
 
-pub onward_ends : (ms : List Macro) (names : List (List ℕ)) (body first rest now new : List ℕ) → Onward ms names body first rest now → HasNoUnit rest → new ≡ now ++ rest → Becomes ms names body first (Ok new)
+pub onward_ends : (ms : List Macro) (names : List (List ℕ)) (body first rest now new : List ℕ) → Onward ms names body first rest now → HasNoUnit rest
+    → new ≡ now ++ rest → Becomes ms names body first (Ok new)
 onward_ends ms names body first rest now new o h e =
     o.so (Ok new) (subst (λ (t : List ℕ). Becomes ms names rest now (Ok t)) (sym e) (ends h))
 
-pub onward_fails : (ms : List Macro) (names : List (List ℕ)) (body first rest now : List ℕ) (p : Place) (e : ScpiError) → Onward ms names body first rest now → Stands rest p → opened ms names p.unit (length (now ++ p.before)) ≡ Err e → Becomes ms names body first (Err e)
+pub onward_fails : (ms : List Macro) (names : List (List ℕ)) (body first rest now : List ℕ) (p : Place) (e : ScpiError) → Onward ms names body first rest now
+    → Stands rest p → opened ms names p.unit (length (now ++ p.before)) ≡ Err e → Becomes ms names body first (Err e)
 onward_fails ms names body first rest now p e o s h = o.so (Err e) (fails s h)
 
-pub onward_stops : (ms : List Macro) (names : List (List ℕ)) (body first rest now : List ℕ) (p : Place) (m : Macro) (e : ScpiError) → Onward ms names body first rest now → Stands rest p → opened ms names p.unit (length (now ++ p.before)) ≡ Ok (Some m) → Becomes ms (names ++ m.0 ∷ []) m.1 (now ++ p.before) (Err e) → Becomes ms names body first (Err e)
+pub onward_stops : (ms : List Macro) (names : List (List ℕ)) (body first rest now : List ℕ) (p : Place) (m : Macro) (e : ScpiError)
+    → Onward ms names body first rest now → Stands rest p → opened ms names p.unit (length (now ++ p.before)) ≡ Ok (Some m)
+    → Becomes ms (names ++ m.0 ∷ []) m.1 (now ++ p.before) (Err e) → Becomes ms names body first (Err e)
 onward_stops ms names body first rest now p m e o s h d = o.so (Err e) (stops {m = m} s h d)
 
-pub onward_keeps : (ms : List Macro) (names : List (List ℕ)) (body first rest now new : List ℕ) (p : Place) → Onward ms names body first rest now → Stands rest p → opened ms names p.unit (length (now ++ p.before)) ≡ Ok None → new ≡ ((now ++ p.before) ++ p.written) ++ p.between → Onward ms names body first p.rest new
+pub onward_keeps : (ms : List Macro) (names : List (List ℕ)) (body first rest now new : List ℕ) (p : Place) → Onward ms names body first rest now
+    → Stands rest p → opened ms names p.unit (length (now ++ p.before)) ≡ Ok None → new ≡ ((now ++ p.before) ++ p.written) ++ p.between
+    → Onward ms names body first p.rest new
 onward_keeps ms names body first rest now new p o s h e = record {
   so = λ r d. o.so r (keeps s h (subst (λ (t : List ℕ). Becomes ms names p.rest t r) e d));
 }
 
-pub onward_goes : (ms : List Macro) (names : List (List ℕ)) (body first rest now done new : List ℕ) (p : Place) (m : Macro) → Onward ms names body first rest now → Stands rest p → opened ms names p.unit (length (now ++ p.before)) ≡ Ok (Some m) → Becomes ms (names ++ m.0 ∷ []) m.1 (now ++ p.before) (Ok done) → new ≡ done ++ p.between → Onward ms names body first p.rest new
+pub onward_goes : (ms : List Macro) (names : List (List ℕ)) (body first rest now done new : List ℕ) (p : Place) (m : Macro)
+    → Onward ms names body first rest now → Stands rest p → opened ms names p.unit (length (now ++ p.before)) ≡ Ok (Some m)
+    → Becomes ms (names ++ m.0 ∷ []) m.1 (now ++ p.before) (Ok done) → new ≡ done ++ p.between → Onward ms names body first p.rest new
 onward_goes ms names body first rest now done new p m o s h d e = record {
   so = λ r f. o.so r (goes {m = m} s h d (subst (λ (t : List ℕ). Becomes ms names p.rest t r) e f));
 }
@@ -114,7 +125,8 @@ no_place text p h s =
 opened_at : List Macro → List (List ℕ) → List ℕ → Place → Result (Option Macro) ScpiError
 opened_at ms names sofar p = opened ms names p.unit (length (sofar ++ p.before))
 
-one_opened : (ms : List Macro) (names : List (List ℕ)) (text sofar : List ℕ) (p q : Place) (a b : Result (Option Macro) ScpiError) → Stands text p → Stands text q → opened ms names p.unit (length (sofar ++ p.before)) ≡ a → opened ms names q.unit (length (sofar ++ q.before)) ≡ b → a ≡ b
+one_opened : (ms : List Macro) (names : List (List ℕ)) (text sofar : List ℕ) (p q : Place) (a b : Result (Option Macro) ScpiError) → Stands text p
+    → Stands text q → opened ms names p.unit (length (sofar ++ p.before)) ≡ a → opened ms names q.unit (length (sofar ++ q.before)) ≡ b → a ≡ b
 one_opened ms names text sofar p q a b s t h k =
     sym h ∙ ap (λ (z : Place). opened ms names z.unit (length (sofar ++ z.before))) (one_place text p q s t) ∙ k
 
@@ -155,16 +167,19 @@ same_text : (t u : List ℕ) → wrote t ≡ wrote u → t ≡ u
 same_text t u e = cc
 
 -- what one place becomes, another place of the same text becomes
-moved : (ms : List Macro) (names : List (List ℕ)) (text sofar : List ℕ) (p q : Place) (r : Result (List ℕ) ScpiError) → Stands text p → Stands text q → Becomes ms names q.rest (((sofar ++ q.before) ++ q.written) ++ q.between) r → Becomes ms names p.rest (((sofar ++ p.before) ++ p.written) ++ p.between) r
+moved : (ms : List Macro) (names : List (List ℕ)) (text sofar : List ℕ) (p q : Place) (r : Result (List ℕ) ScpiError) → Stands text p → Stands text q
+    → Becomes ms names q.rest (((sofar ++ q.before) ++ q.written) ++ q.between) r → Becomes ms names p.rest (((sofar ++ p.before) ++ p.written) ++ p.between) r
 moved ms names text sofar p q r s t d =
     subst (λ (z : Place). Becomes ms names z.rest (((sofar ++ z.before) ++ z.written) ++ z.between) r) (sym (one_place text p q s t)) d
 
-moved_within : (ms : List Macro) (names : List (List ℕ)) (text sofar : List ℕ) (p q : Place) (m k : Macro) (r : Result (List ℕ) ScpiError) → Stands text p → Stands text q → m ≡ k → Becomes ms (names ++ k.0 ∷ []) k.1 (sofar ++ q.before) r → Becomes ms (names ++ m.0 ∷ []) m.1 (sofar ++ p.before) r
+moved_within : (ms : List Macro) (names : List (List ℕ)) (text sofar : List ℕ) (p q : Place) (m k : Macro) (r : Result (List ℕ) ScpiError) → Stands text p
+    → Stands text q → m ≡ k → Becomes ms (names ++ k.0 ∷ []) k.1 (sofar ++ q.before) r → Becomes ms (names ++ m.0 ∷ []) m.1 (sofar ++ p.before) r
 moved_within ms names text sofar p q m k r s t e d =
     subst (λ (z : Place). Becomes ms (names ++ m.0 ∷ []) m.1 (sofar ++ z.before) r) (sym (one_place text p q s t))
     (subst (λ (z : Macro). Becomes ms (names ++ z.0 ∷ []) z.1 (sofar ++ q.before) r) (sym e) d)
 
-moved_on : (ms : List Macro) (names : List (List ℕ)) (text : List ℕ) (p q : Place) (a b : List ℕ) (r : Result (List ℕ) ScpiError) → Stands text p → Stands text q → a ≡ b → Becomes ms names q.rest (b ++ q.between) r → Becomes ms names p.rest (a ++ p.between) r
+moved_on : (ms : List Macro) (names : List (List ℕ)) (text : List ℕ) (p q : Place) (a b : List ℕ) (r : Result (List ℕ) ScpiError) → Stands text p
+    → Stands text q → a ≡ b → Becomes ms names q.rest (b ++ q.between) r → Becomes ms names p.rest (a ++ p.between) r
 moved_on ms names text p q a b r s t e d =
     subst (λ (z : Place). Becomes ms names z.rest (a ++ z.between) r) (sym (one_place text p q s t))
     (subst (λ (z : List ℕ). Becomes ms names q.rest (z ++ q.between) r) (sym e) d)
@@ -175,7 +190,8 @@ same_macro m k e = let z : Some m ≡ Some k = cc in cc
 same_fault : (e f : ScpiError) → refuses e ≡ refuses f → faulty e ≡ faulty f
 same_fault e f h = let z : e ≡ f = cc in ap (λ (x : ScpiError). Err x) z
 
-pub one_becomes : (ms : List Macro) {names : List (List ℕ)} {text sofar : List ℕ} {r q : Result (List ℕ) ScpiError} → Becomes ms names text sofar r → Becomes ms names text sofar q → r ≡ q
+pub one_becomes : (ms : List Macro) {names : List (List ℕ)} {text sofar : List ℕ} {r q : Result (List ℕ) ScpiError} → Becomes ms names text sofar r
+    → Becomes ms names text sofar q → r ≡ q
 one_becomes ms (ends h) (ends k) = refl
 one_becomes ms (ends {text = text} h) (keeps {p = p} s o d) = absurd (no_place text p h s)
 one_becomes ms (ends {text = text} h) (fails {p = p} s o) = absurd (no_place text p h s)
@@ -221,11 +237,13 @@ one_becomes ms (goes {names = names} {text = text} {sofar = sofar} {done = done}
 
 -- ---- one expansion
 
-one_replaced : (ms : List Macro) (o : Result (Option Macro) ScpiError) (written : List ℕ) (r s : Result (List ℕ) ScpiError) → Replaces ms o written r → Replaces ms o written s → r ≡ s
+one_replaced : (ms : List Macro) (o : Result (Option Macro) ScpiError) (written : List ℕ) (r s : Result (List ℕ) ScpiError) → Replaces ms o written r
+    → Replaces ms o written s → r ≡ s
 one_replaced ms (Err e) written r s h k = h ∙ sym k
 one_replaced ms (Ok None) written r s h k = h ∙ sym k
 one_replaced ms (Ok (Some m)) written r s h k =
     h.2 ∙ ap (λ (x : Result (List ℕ) ScpiError). judged x) (one_becomes ms h.1 k.1) ∙ sym k.2
 
-pub one_expanded : (t : Table) (unit : UnitView) (written : List ℕ) (r s : Result (List ℕ) ScpiError) → Expands t unit written r → Expands t unit written s → r ≡ s
+pub one_expanded : (t : Table) (unit : UnitView) (written : List ℕ) (r s : Result (List ℕ) ScpiError) → Expands t unit written r → Expands t unit written s
+    → r ≡ s
 one_expanded t unit written r s h k = one_replaced t.macros (opened_in t unit) written r s h k

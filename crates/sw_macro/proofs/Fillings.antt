@@ -1,5 +1,6 @@
 -- A body cut at its `$`.
-use Rattle.std.proofs.Common.{◌≡◌, ℕ, ◌+◌, ◌-◌, ◌<◌, true, false, not, List, [], ◌∷◌, ◌++◌, length, get_or, Option, Some, None, Ok, Err, refl, sym, ap, ◌∙◌, append_assoc, arith}
+use Rattle.std.proofs.Common.{◌≡◌, ℕ, ◌+◌, ◌-◌, ◌<◌, true, false, not, List, [], ◌∷◌, ◌++◌, length, get_or, Option, Some, None, Ok, Err, refl, sym, ap, ◌∙◌}
+use Rattle.std.proofs.Common.{append_assoc, arith}
 use Rattle.std.specs.Prelude.{◌==◌, nat_lt}
 use Rattle.std.proofs.lemmas.List.{append-nil}
 use Rattle.std.proofs.lemmas.Grind.{common_steps}
@@ -42,7 +43,8 @@ all_lacks ds left a =
 pub mark_stays : (ds : List Datum) (c : ℕ) (others : List ℕ) → is_place c ≡ false → filled ds (36 ∷ c ∷ others) ≡ led_by (36 ∷ []) (filled ds (c ∷ others))
 mark_stays ds c others h = rw h refl
 
-pub mark_stands : (ds : List Datum) (c : ℕ) (others : List ℕ) → is_place c ≡ true → filled ds (36 ∷ c ∷ others) ≡ joined (parameter ds (c - 49)) (filled ds others)
+pub mark_stands : (ds : List Datum) (c : ℕ) (others : List ℕ) → is_place c ≡ true
+    → filled ds (36 ∷ c ∷ others) ≡ joined (parameter ds (c - 49)) (filled ds others)
 mark_stands ds c others h = rw h refl
 
 -- ---- what was written so far
@@ -53,24 +55,30 @@ pub record Draft (n : ℕ) (ds : List Datum) (body rest kept : List ℕ) (room :
   pub draft : IsDraft n whole kept room
   pub onward : filled ds body ≡ led_by whole (filled ds rest)
 
-pub filled_more : (ds : List Datum) (body rest whole front more bytes others : List ℕ) → filled ds body ≡ led_by whole (filled ds rest) → rest ≡ front ++ 36 ∷ more → Lacks 36 front → filled ds (36 ∷ more) ≡ led_by bytes (filled ds others) → filled ds body ≡ led_by ((whole ++ front) ++ bytes) (filled ds others)
+pub filled_more : (ds : List Datum) (body rest whole front more bytes others : List ℕ) → filled ds body ≡ led_by whole (filled ds rest)
+    → rest ≡ front ++ 36 ∷ more → Lacks 36 front → filled ds (36 ∷ more) ≡ led_by bytes (filled ds others)
+    → filled ds body ≡ led_by ((whole ++ front) ++ bytes) (filled ds others)
 filled_more ds body rest whole front more bytes others h e a m =
     h ∙ ap (λ (t : List ℕ). led_by whole (filled ds t)) e ∙ ap (λ (o : Option (List ℕ)). led_by whole o) (lead_lacks ds front (36 ∷ more) a ∙ ap (λ (o : Option (List ℕ)). led_by front o) m)
     ∙ led_led whole front (led_by bytes (filled ds others)) ∙ led_led (whole ++ front) bytes (filled ds others)
 
-pub filled_missing : (ds : List Datum) (body rest whole front more : List ℕ) → filled ds body ≡ led_by whole (filled ds rest) → rest ≡ front ++ 36 ∷ more → Lacks 36 front → filled ds (36 ∷ more) ≡ None → filled ds body ≡ None
+pub filled_missing : (ds : List Datum) (body rest whole front more : List ℕ) → filled ds body ≡ led_by whole (filled ds rest) → rest ≡ front ++ 36 ∷ more
+    → Lacks 36 front → filled ds (36 ∷ more) ≡ None → filled ds body ≡ None
 filled_missing ds body rest whole front more h e a m =
     h ∙ ap (λ (t : List ℕ). led_by whole (filled ds t)) e ∙ ap (λ (o : Option (List ℕ)). led_by whole o) (lead_lacks ds front (36 ∷ more) a ∙ ap (λ (o : Option (List ℕ)). led_by front o) m)
 
-pub filled_all : (ds : List Datum) (body rest whole : List ℕ) → filled ds body ≡ led_by whole (filled ds rest) → Lacks 36 rest → filled ds body ≡ Some (whole ++ rest)
+pub filled_all : (ds : List Datum) (body rest whole : List ℕ) → filled ds body ≡ led_by whole (filled ds rest) → Lacks 36 rest
+    → filled ds body ≡ Some (whole ++ rest)
 filled_all ds body rest whole h a = h ∙ ap (λ (o : Option (List ℕ)). led_by whole o) (all_lacks ds rest a)
 
-pub fits_not : (n : ℕ) (ds : List Datum) (body whole kept : List ℕ) → filled ds body ≡ Some whole → IsDraft n whole kept None → put_in ds body n ≡ Err MacroRecursionError
+pub fits_not : (n : ℕ) (ds : List Datum) (body whole kept : List ℕ) → filled ds body ≡ Some whole → IsDraft n whole kept None
+    → put_in ds body n ≡ Err MacroRecursionError
 fits_not n ds body whole kept h d =
     let k : nat_lt longest (n + length whole) ≡ true = grind (arith, common_steps) in
     ap (λ (o : Option (List ℕ)). fitting n o) h ∙ (rw k refl)
 
-pub fits : (n : ℕ) (ds : List Datum) (body whole kept : List ℕ) (room : ℕ) → filled ds body ≡ Some whole → IsDraft n whole kept (Some room) → put_in ds body n ≡ Ok kept
+pub fits : (n : ℕ) (ds : List Datum) (body whole kept : List ℕ) (room : ℕ) → filled ds body ≡ Some whole → IsDraft n whole kept (Some room)
+    → put_in ds body n ≡ Ok kept
 fits n ds body whole kept room h d =
     let k : nat_lt longest (n + length whole) ≡ false = grind (arith, common_steps) in
     let f : fitting n (Some whole) ≡ Ok whole = rw k refl in
@@ -81,7 +89,8 @@ missing n ds body h = ap (λ (o : Option (List ℕ)). fitting n o) h
 
 -- ---- one data element
 
-pub parameter_at : (items xs : List Element) (k : ℕ) (e : Element) (t : List ℕ) → xs ≡ items → k < length xs → e ≡ get_or xs k e → t ≡ datum_text (datum_of e) → Some t ≡ parameter (data_of items) k
+pub parameter_at : (items xs : List Element) (k : ℕ) (e : Element) (t : List ℕ) → xs ≡ items → k < length xs → e ≡ get_or xs k e → t ≡ datum_text (datum_of e)
+    → Some t ≡ parameter (data_of items) k
 parameter_at items xs k e t s l g f =
     let h : Some e ≡ slice_get xs k = sym (slice_get_read xs (length xs) k e refl l g) in
     ap (λ (x : List ℕ). Some x) f

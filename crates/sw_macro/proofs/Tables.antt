@@ -20,7 +20,8 @@ pub found_is : (label : List ℕ) (es : List (ArrayVec ℕ × List ℕ)) → loo
 found_is label [] = refl
 found_is label (e ∷ es) = ap (λ (o : Option (List ℕ)). cond (bytes_eq label e.0.items) (Some e.1) o) (found_is label es)
 
-removed_at : (b : Bool) (e : ArrayVec ℕ × List ℕ) (es rest : List (ArrayVec ℕ × List ℕ)) (ms : List Macro) → macros_of rest ≡ ms → macros_of (cond b es (e ∷ rest)) ≡ cond b (macros_of es) (macro_of e ∷ ms)
+removed_at : (b : Bool) (e : ArrayVec ℕ × List ℕ) (es rest : List (ArrayVec ℕ × List ℕ)) (ms : List Macro) → macros_of rest ≡ ms
+    → macros_of (cond b es (e ∷ rest)) ≡ cond b (macros_of es) (macro_of e ∷ ms)
 removed_at true e es rest ms h = refl
 removed_at false e es rest ms h = ap (λ (xs : List Macro). macro_of e ∷ xs) h
 
@@ -31,11 +32,13 @@ removed_is label (e ∷ es) = removed_at (bytes_eq label e.0.items) e es (remove
 abbrev pub same_label : ArrayVec ℕ → ArrayVec ℕ → Bool
 same_label a b = bytes_eq a.items b.items
 
-pub added_is : {S : Type 0} (m : IndexMap (ArrayVec ℕ) (List ℕ) S) (k : ArrayVec ℕ) (body : List ℕ) → body_of k.items (macros_of m.entries) ≡ None → macros_of (insert_entry same_label m.entries k body) ≡ macros_of m.entries ++ (k.items, body) ∷ []
+pub added_is : {S : Type 0} (m : IndexMap (ArrayVec ℕ) (List ℕ) S) (k : ArrayVec ℕ) (body : List ℕ) → body_of k.items (macros_of m.entries) ≡ None
+    → macros_of (insert_entry same_label m.entries k body) ≡ macros_of m.entries ++ (k.items, body) ∷ []
 added_is m k body h =
     ap (λ (es : List (ArrayVec ℕ × List ℕ)). macros_of es) (insert_entry-new same_label m k body (found_is k.items m.entries ∙ h)) ∙ map_push macro_of m.entries (k, body)
 
-without_at : (b : Bool) (m : Macro) (ms rest : List Macro) (o : Option (List ℕ)) → is_some (cond b (Some m.1) o) ≡ false → (is_some o ≡ false → rest ≡ ms) → cond b ms (m ∷ rest) ≡ m ∷ ms
+without_at : (b : Bool) (m : Macro) (ms rest : List Macro) (o : Option (List ℕ)) → is_some (cond b (Some m.1) o) ≡ false → (is_some o ≡ false → rest ≡ ms)
+    → cond b ms (m ∷ rest) ≡ m ∷ ms
 without_at true m ms rest o h f = absurd (let z : true ≡ false = h in cc)
 without_at false m ms rest o h f = ap (λ (xs : List Macro). m ∷ xs) (f h)
 
@@ -44,7 +47,8 @@ without_none label [] h = refl
 without_none label (m ∷ ms) h = without_at (bytes_eq label m.0) m ms (without label ms) (body_of label ms) h (without_none label ms)
 
 -- the label at a place
-pub label_at : (es : List (ArrayVec ℕ × List ℕ)) (i : ℕ) (k : ArrayVec ℕ) (body : List ℕ) → Some (k, body) ≡ slice_get es i → Some k.items ≡ slice_get (labels (macros_of es)) i
+pub label_at : (es : List (ArrayVec ℕ × List ℕ)) (i : ℕ) (k : ArrayVec ℕ) (body : List ℕ) → Some (k, body) ≡ slice_get es i
+    → Some k.items ≡ slice_get (labels (macros_of es)) i
 label_at es i k body h =
     ap (λ (o : Option (ArrayVec ℕ × List ℕ)). option_map (λ m. m.0) (option_map macro_of o)) h
     ∙ sym (slice_get-map (λ m. m.0) (macros_of es) i ∙ ap (λ (o : Option Macro). option_map (λ m. m.0) o) (slice_get-map macro_of es i))

@@ -1,8 +1,11 @@
 -- The macros of a session (IEEE 488.2, 10.7 to 10.9, 10.13, 10.16 and 10.22; SCPI-1999, volume 1, 21.8.10 for the errors).
-use Rattle.std.specs.Prelude.{◌≡◌, ℕ, Bool, false, not, nat_lt, nat_le, ◌++◌, List, [], ◌∷◌, length, map, Option, Some, None, is_some, if◌then◌else◌}
+use Rattle.std.specs.Prelude.{◌≡◌, ℕ, Bool, false, not, nat_lt, nat_le, ◌++◌, List, [], ◌∷◌, length, map, Option, Some}
+use Rattle.std.specs.Prelude.{None, is_some, if◌then◌else◌}
 use Rattle.std.specs.Str.{bytes_eq}
 use Rattle.sw_base.specs.declared.error.ScpiError.{ScpiError}
-use Rattle.sw_base.specs.declared.error.ScpiError.TheVariants.{IllegalMacroLabel, MacroDefinitionTooLong, MacroRedefinitionNotAllowed, MacroHeaderNotFound, TooMuchData, OutOfMemory}
+use Rattle.sw_base.specs.declared.error.ScpiError.TheVariants.{IllegalMacroLabel, MacroDefinitionTooLong}
+use Rattle.sw_base.specs.declared.error.ScpiError.TheVariants.{MacroRedefinitionNotAllowed, MacroHeaderNotFound}
+use Rattle.sw_base.specs.declared.error.ScpiError.TheVariants.{TooMuchData, OutOfMemory}
 use Rattle.sw_macro.specs.Label.{is_label, in_capitals}
 
 -- a label in capitals, and the body that it stands for

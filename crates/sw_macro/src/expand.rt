@@ -1,13 +1,15 @@
 //! The expansion of a unit.
 
-ghost use Rattle.std.specs.Prelude.{◌≡◌, ◌≢◌, ◌<◌, ℕ, true, false, None, List, [], Result, Ok, Err, IfOk, IfErr, OnOk, IfSome, IfNone, map, length, ◌⊎◌};
+ghost use Rattle.std.specs.Prelude.{◌≡◌, ◌≢◌, ◌<◌, ℕ, true, false, None, List, [], Result, Ok, Err, IfOk, IfErr, OnOk};
+ghost use Rattle.std.specs.Prelude.{IfSome, IfNone, map, length, ◌⊎◌};
 ghost use Rattle.std.specs.Option.{option_map};
 ghost use Rattle.sw_base.specs.Memory.{Gives};
 ghost use Rattle.sw_base.specs.declared.error.ScpiError.{ScpiError as Error};
 ghost use Rattle.sw_base.specs.declared.error.ScpiError.TheVariants.{OutOfMemory};
 ghost use Rattle.sw_lex.specs.Unit.{UnitView, unit_of, written_of};
 ghost use Rattle.sw_macro.specs.Table.{Table};
-ghost use Rattle.sw_macro.specs.Expansion.{called, calls, opened_in, is_among, opened, Stands, HasNoUnit, Becomes, Expands};
+ghost use Rattle.sw_macro.specs.Expansion.{called, calls, opened_in, is_among, opened, Stands, HasNoUnit, Becomes};
+ghost use Rattle.sw_macro.specs.Expansion.{Expands};
 ghost use Rattle.sw_macro.specs.Placed.{place_of};
 
 use crate::filling::{LONGEST, fill};

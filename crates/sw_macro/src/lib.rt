@@ -13,8 +13,6 @@ mod expand;
 mod filling;
 mod label;
 mod table;
-#[cfg(test)]
-mod tests;
 
 pub use expand::one_expansion;
 pub use table::Macros;

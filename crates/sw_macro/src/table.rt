@@ -1,11 +1,13 @@
 //! The macros that a session has defined.
 
-ghost use Rattle.std.specs.Prelude.{◌≡◌, ◌++◌, ◌∷◌, [], None, Some, is_some, length, slice_get, IfOk, IfErr, OnOk, OnErr};
+ghost use Rattle.std.specs.Prelude.{◌≡◌, ◌++◌, ◌∷◌, [], None, Some, is_some, length, slice_get, IfOk, IfErr, OnOk};
+ghost use Rattle.std.specs.Prelude.{OnErr};
 ghost use Rattle.sw_base.specs.declared.error.ScpiError.TheVariants.{OutOfMemory};
 ghost use Rattle.std.specs.Option.{option_map};
 ghost use Rattle.sw_macro.specs.Label.{in_capitals};
 ghost use Rattle.sw_macro.specs.Expansion.{macro_at};
-ghost use Rattle.sw_macro.specs.Table.{no_macros, body_of, without, labels, with_macro, without_macro, refusal_to_define, refusal_to_find, RefusedBy};
+ghost use Rattle.sw_macro.specs.Table.{no_macros, body_of, without, labels, with_macro, without_macro};
+ghost use Rattle.sw_macro.specs.Table.{refusal_to_define, refusal_to_find, RefusedBy};
 
 use crate::label::{Label, read_label};
 use indexmap::IndexMap;

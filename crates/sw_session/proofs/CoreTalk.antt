@@ -10,14 +10,14 @@ use Rattle.sw_cage.specs.declared.job.Ticket.{Ticket}
 use Rattle.sw_core.specs.declared.ask.SessionAsk.{SessionAsk}
 use Rattle.sw_core.specs.declared.ask.SessionAnswer.{SessionAnswer}
 use Rattle.sw_core.specs.Panel.{Panel}
-use Rattle.sw_core.specs.Run.{StepIsDetermined, IsPlain}
+use Rattle.sw_core.specs.Run.{StepIsDetermined, IsPlain, KeepsKey}
 use Rattle.sw_core.specs.Step.{Step}
-use Rattle.sw_core.specs.View.{WorkView, Measures, Pauses, AskView, AskSession, AskFinished, SaysSession}
+use Rattle.sw_core.specs.View.{WorkView, Measures, Pauses, AskView, AskSession, AskFinished, AnswerView, SaysSession}
 use Rattle.sw_session.specs.declared.desk.Wake.{Wake}
 use Rattle.sw_session.specs.declared.desk.Wake.TheVariants.{Again, Over}
 use Rattle.sw_session.specs.Trace.{Entry, Asked, Waited, Leads}
 use Rattle.sw_session.specs.CoreDesk.{DeskSeen, Carried, Tells, Keeps, Answers, Works, PassesBy, CorePasses, brought}
-use Rattle.sw_session.specs.Law.{SameTalk, TellsPlainly, IsSmooth, AllSmooth, carried_of, measured, outcomes_in, outcomes_of, waits_of, Left, left, TalkIsDetermined, CoreTalkIsDetermined, CoreRestIsDetermined}
+use Rattle.sw_session.specs.Law.{SameTalk, TellsPlainly, KeepsKeys, IsSmooth, AllSmooth, carried_of, measured, outcomes_in, outcomes_of, waits_of, Left, left, TalkIsDetermined, CoreTalkIsDetermined, CoreRestIsDetermined}
 
 -- what is kept, where nothing is carried out at once
 kept-same : (p : Panel) (brings : Option WorkView) (work : List WorkView) (q q' : DeskSeen) → Keeps [] p brings work q → Keeps [] p brings work q' → q ≡ q'
@@ -70,12 +70,13 @@ told-same (Measures job) a a' os os' (done, ran, is) (done', ran', is') same =
     (is ∙ ap AskFinished one ∙ sym is', tail-same done.outcome done'.outcome os os' all)
 
 -- an ask
-asked-same : StepIsDetermined → (d d' : DeskSeen) (ask ask' : SessionAsk) (r r' : SessionAnswer) (q q' : DeskSeen) → d ≡ d' → ask ≡ ask' → TellsPlainly r → TellsPlainly r' → Answers [] d ask r q → Answers [] d' ask' r' q' → (r ≡ r') × (q ≡ q')
-asked-same once d d' ask ask' r r' q q' desks asks plain plain' a a' =
+asked-same : StepIsDetermined → (d d' : DeskSeen) (ask ask' : SessionAsk) (r r' : SessionAnswer) (q q' : DeskSeen) → d ≡ d' → ask ≡ ask' → TellsPlainly r → TellsPlainly r' → KeepsKeys ask r → KeepsKeys ask' r' → Answers [] d ask r q → Answers [] d' ask' r' q' → (r ≡ r') × (q ≡ q')
+asked-same once d d' ask ask' r r' q q' desks asks plain plain' keys keys' a a' =
+    let key = subst (λ (x : SessionAsk). KeepsKey d.panel (AskSession x) (SaysSession r' a'.brings)) (sym asks) (keys' d.panel a'.brings) in
     let here : Step d.panel (AskSession ask) a'.failed (SaysSession r' a'.brings) a'.after =
     subst (λ (x : SessionAsk). Step d.panel (AskSession x) a'.failed (SaysSession r' a'.brings) a'.after) (sym asks)
     (subst (λ (x : DeskSeen). Step x.panel (AskSession ask') a'.failed (SaysSession r' a'.brings) a'.after) (sym desks) a'.step) in
-    let one = once d.panel a.after a'.after (AskSession ask) a.failed a'.failed (SaysSession r a.brings) (SaysSession r' a'.brings) a.step here (plain a.brings) (plain' a'.brings) in (
+    let one = once d.panel a.after a'.after (AskSession ask) a.failed a'.failed (SaysSession r a.brings) (SaysSession r' a'.brings) a.step here (plain a.brings) (plain' a'.brings) (keys d.panel a.brings) key in (
       same-answer r r' a.brings a'.brings one.0,
       keeps-same a.after a'.after a.brings a'.brings d.work d'.work q q' one.1 (same-work r r' a.brings a'.brings one.0) (ap (λ (x : DeskSeen). x.work) desks) a.keeps a'.keeps,
     )
@@ -86,6 +87,11 @@ first-piece x y xs ys is = cc (is)
 other-pieces : (x y : WorkView) (xs ys : List WorkView) → x ∷ xs ≡ y ∷ ys → xs ≡ ys
 other-pieces x y xs ys is = cc (is)
 
+-- a piece that is carried out asks for no lock
+told-keeps : (piece : WorkView) (p : Panel) (ask : AskView) (a : AnswerView) → Tells piece ask → KeepsKey p ask a
+told-keeps (Pauses ticket micros) p ask a is = subst (λ (x : AskView). KeepsKey p x a) (sym is) tt
+told-keeps (Measures job) p ask a (done, ran, is) = subst (λ (x : AskView). KeepsKey p x a) (sym is) tt
+
 -- a wait in which one piece is carried out
 worked-same : StepIsDetermined → (d d' q q' : DeskSeen) (c c' : Carried) (os os' : List (Result Reading CardFault)) → d ≡ d' → IsPlain c.answer → IsPlain c'.answer → measured c.ask ++ os ≡ measured c'.ask ++ os' → Works c [] d q → Works c' [] d' q' → (q ≡ q') × (os ≡ os')
 worked-same once d d' q q' c c' os os' desks plain plain' outcomes w w' =
@@ -94,7 +100,7 @@ worked-same once d d' q q' c c' os os' desks plain plain' outcomes w w' =
     let told = told-same w.piece c.ask c'.ask os os' w.carries.tells tells outcomes in
     let here : Step d.panel c.ask c'.failed c'.answer c'.after =
     subst (λ (x : AskView). Step d.panel x c'.failed c'.answer c'.after) (sym told.0) (subst (λ (x : DeskSeen). Step x.panel c'.ask c'.failed c'.answer c'.after) (sym desks) w'.carries.step) in
-    let one = once d.panel c.after c'.after c.ask c.failed c'.failed c.answer c'.answer w.carries.step here plain plain' in (
+    let one = once d.panel c.after c'.after c.ask c.failed c'.failed c.answer c'.answer w.carries.step here plain plain' (told-keeps w.piece d.panel c.ask c.answer w.carries.tells) (told-keeps w.piece d.panel c.ask c'.answer w.carries.tells) in (
       keeps-same c.after c'.after (brought c.answer) (brought c'.answer) w.others w'.others q q' one.1 (ap brought one.0) (other-pieces w.piece w'.piece w.others w'.others queues) w.keeps w'.keeps,
       told.1,
     )
@@ -131,7 +137,7 @@ same-run once d d' q q' b b' (Waited w ∷ t) (Asked a r ∷ t') l l' desks m n 
 same-run once d d' q q' b b' (Asked a r ∷ t) (Asked a' r' ∷ t') (mid, (cs, p), l) (mid', (cs', p'), l') desks m n outcomes (asks, on) =
     let none : cs ≡ [] = m.0.1 in
     let none' : cs' ≡ [] = n.0.1 in
-    let one = asked-same once d d' a a' r r' mid mid' desks asks m.0.0 n.0.0 (subst (λ (x : List Carried). Answers x d a r mid) none p) (subst (λ (x : List Carried). Answers x d' a' r' mid') none' p') in
+    let one = asked-same once d d' a a' r r' mid mid' desks asks m.0.0 n.0.0 m.0.2 n.0.2 (subst (λ (x : List Carried). Answers x d a r mid) none p) (subst (λ (x : List Carried). Answers x d' a' r' mid') none' p') in
     let left : outcomes_of (carried_of mid t q l) ≡ outcomes_of (carried_of mid' t' q' l') =
     subst (λ (x : List Carried). outcomes_in x ++ outcomes_of (carried_of mid t q l) ≡ outcomes_of (carried_of mid' t' q' l')) none
     (subst (λ (x : List Carried). outcomes_in cs ++ outcomes_of (carried_of mid t q l) ≡ outcomes_in x ++ outcomes_of (carried_of mid' t' q' l')) none' outcomes) in

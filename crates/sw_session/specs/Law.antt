@@ -3,12 +3,14 @@ use Rattle.std.specs.Prelude.{◌≡◌, ◌≢◌, ℕ, ◌≤◌, List, [], �
 use Rattle.std.specs.List.{AllByRecursion}
 use Rattle.sw_base.specs.declared.error.ScpiError.TheVariants.{OutOfMemory}
 use Rattle.sw_core.specs.declared.ask.Sid.{Sid}
+use Rattle.sw_core.specs.declared.ask.SessionAsk.{SessionAsk}
 use Rattle.sw_core.specs.declared.ask.SessionAsk.TheVariants as Ask
 use Rattle.sw_base.specs.declared.reading.Reading.{Reading}
 use Rattle.sw_card.specs.declared.board.CardFault.{CardFault}
 use Rattle.sw_core.specs.declared.ask.SessionAnswer.{SessionAnswer}
-use Rattle.sw_core.specs.Run.{IsPlain}
-use Rattle.sw_core.specs.View.{WorkView, AskView, AskFinished, SaysSession}
+use Rattle.sw_core.specs.Panel.{Panel}
+use Rattle.sw_core.specs.Run.{IsPlain, KeepsKey}
+use Rattle.sw_core.specs.View.{WorkView, AskView, AskSession, AskFinished, SaysSession}
 use Rattle.sw_macro.specs.Table.{Table}
 use Rattle.sw_session.specs.CoreDesk.{DeskSeen, Carried, CorePasses, Rests, last_wait}
 use Rattle.sw_session.specs.declared.desk.Wake.TheVariants.{Again}
@@ -49,9 +51,13 @@ TalkIsDetermined = (sid : Sid) (macros : Table) (text : List ℕ) (trace trace' 
 abbrev pub TellsPlainly : SessionAnswer → Type 0
 TellsPlainly answer = (work : Option WorkView) → IsPlain (SaysSession answer work)
 
+-- nor of a key of a lock that found no memory
+abbrev pub KeepsKeys : SessionAsk → SessionAnswer → Type 0
+KeepsKeys ask answer = (p : Panel) (work : Option WorkView) → KeepsKey p (AskSession ask) (SaysSession answer work)
+
 -- no growth was refused and no card failed in a call of the desk, in which these pieces were carried out
 abbrev pub IsSmooth : Entry → List Carried → Type 0
-IsSmooth (Asked ask answer) carried = TellsPlainly answer × (carried ≡ [])
+IsSmooth (Asked ask answer) carried = TellsPlainly answer × (carried ≡ []) × KeepsKeys ask answer
 IsSmooth (Waited wake) carried = AllByRecursion (λ c. IsPlain c.answer) carried × (length carried ≤ 1)
 
 -- nor in any of these calls

@@ -1,10 +1,12 @@
 -- Registers by their bits.
-use Rattle.std.proofs.Common.{◌≡◌, ℕ, zero, suc, ◌+◌, ◌-◌, ◌*◌, ◌^◌, ◌<◌, Bool, true, false, not, ◌&&◌, ◌||◌, ◌⊎◌, refl, sym, ap, ◌∙◌, arith, add-zero, inl, inr, bit_and, bit_or, w8, w16}
+use Rattle.std.proofs.Common.{◌≡◌, ℕ, zero, suc, ◌+◌, ◌-◌, ◌*◌, ◌^◌, ◌<◌, Bool, true, false, not, ◌&&◌, ◌||◌, ◌⊎◌, refl, sym, ap, ◌∙◌, arith, add-zero, inl}
+use Rattle.std.proofs.Common.{inr, bit_and, bit_or, w8, w16}
 use Rattle.std.specs.Prelude.{◌==◌}
 use Rattle.std.specs.Int.{bit_at}
 use Rattle.std.proofs.Math.Nat.{two-pow-succ}
 use Rattle.std.proofs.lemmas.Nat.{and_le_l, and_le_r, or_lt}
-use Rattle.std.proofs.lemmas.Nat.Bits.{bit_at_and, bit_at_or, bit_at_not, bit_at-lt, bit_at_cat_low, bit_at_cat_high, bit_at_above, bit_at-zero, same_from_bits_below}
+use Rattle.std.proofs.lemmas.Nat.Bits.{bit_at_and, bit_at_or, bit_at_not, bit_at-lt, bit_at_cat_low, bit_at_cat_high, bit_at_above, bit_at-zero}
+use Rattle.std.proofs.lemmas.Nat.Bits.{same_from_bits_below}
 use Rattle.std.proofs.lemmas.Bool.{cases_Bool, cases_lt}
 use Rattle.sw_status.specs.Registers.{has_bit, register, low_15, latches, latched}
 use Rattle.sw_status.specs.StatusModel.{arises}
@@ -105,7 +107,8 @@ latched_small event ptr ntr old new e p n =
     let b : fall < 2 ^ 15 = (let h = and_le_r (bit_and old (65535 - new)) ntr in omega arith) in
     or_lt 15 event (bit_or rise fall) e (or_lt 15 rise fall a b)
 
-pub latched_is : (event ptr ntr old new : ℕ) → event < 2 ^ 15 → ptr < 2 ^ 15 → ntr < 2 ^ 15 → old < 2 ^ 15 → new < 2 ^ 15 → latched_word event ptr ntr old new ≡ latched event ptr ntr old new
+pub latched_is : (event ptr ntr old new : ℕ) → event < 2 ^ 15 → ptr < 2 ^ 15 → ntr < 2 ^ 15 → old < 2 ^ 15 → new < 2 ^ 15
+    → latched_word event ptr ntr old new ≡ latched event ptr ntr old new
 unfolding latched
 latched_is event ptr ntr old new e p n o w =
     is_register 15 (latched_word event ptr ntr old new) (latches event ptr ntr old new) (latched_small event ptr ntr old new e p n) (λ k h. bit k h)

@@ -35,7 +35,8 @@ word q u e o m s = flag_of 2 q + flag_of 3 u + flag_of 5 e + flag_of 7 o + flag_
 tells : (k : ℕ) → (Bool → Bool → Bool → Bool → Bool → Bool → Bool) → Bool
 tells k bit = each (λ q. each (λ u. each (λ e. each (λ o. each (λ m. each (λ s. same (has_bit (word q u e o m s) k) (bit q u e o m s)))))))
 
-tells-at : (k : ℕ) (bit : Bool → Bool → Bool → Bool → Bool → Bool → Bool) → tells k bit ≡ true → (q u e o m s : Bool) → has_bit (word q u e o m s) k ≡ bit q u e o m s
+tells-at : (k : ℕ) (bit : Bool → Bool → Bool → Bool → Bool → Bool → Bool) → tells k bit ≡ true → (q u e o m s : Bool)
+    → has_bit (word q u e o m s) k ≡ bit q u e o m s
 unfolding tells
 tells-at k bit t q u e o m s =
     same-true (has_bit (word q u e o m s) k) (bit q u e o m s)

@@ -2,3 +2,4 @@ pub mod Bits
 pub mod Queue
 pub mod Byte
 pub mod Requests
+pub mod Limits

@@ -1,5 +1,6 @@
 -- The queue: an error is lost only to -350.
-use Rattle.std.proofs.Common.{◌≡◌, ℕ, zero, suc, ◌+◌, ◌<◌, ◌≤◌, Some, List, [], ◌∷◌, ◌++◌, length, take, set, fold, refl, sym, ap, ◌∙◌, arith, inl, inr, append_assoc, length-append}
+use Rattle.std.proofs.Common.{◌≡◌, ℕ, zero, suc, ◌+◌, ◌<◌, ◌≤◌, Some, List, [], ◌∷◌, ◌++◌, length, take, fold, refl, sym, ap, ◌∙◌, arith, inl, inr}
+use Rattle.std.proofs.Common.{append_assoc, length-append}
 use Rattle.std.specs.Prelude.{slice_get}
 use Rattle.std.proofs.lemmas.List.{append-nil, take-append-le, length-take}
 use Rattle.std.proofs.lemmas.Bool.{cases_lt, lt-ltb, le-ltb, le-leb, lt-leb}
@@ -7,17 +8,6 @@ use Rattle.sw_base.specs.declared.error.ScpiError.{ScpiError}
 use Rattle.sw_base.specs.declared.error.ScpiError.TheVariants.{QueueOverflow}
 use Rattle.sw_status.specs.StatusModel.{queued}
 use Rattle.sw_status.specs.Laws.{LosesOnlyToOverflow, held_of}
-
--- a write to the last place
-pub set_last : {A : Type 0} (n : ℕ) (xs : List A) (x : A) → length xs ≡ suc n → set xs n x ≡ take n xs ++ x ∷ []
-set_last n [] x h = absurd (omega arith)
-set_last zero (y ∷ []) x h = refl
-set_last zero (y ∷ z ∷ xs) x h = absurd (omega arith)
-set_last (suc n) (y ∷ xs) x h = let ih = set_last n xs x (omega arith) in ap (λ l. y ∷ l) ih
-
--- the code's write of the newest entry
-pub newest_written : (errors : List ScpiError) (e : ScpiError) → length errors ≡ 32 → set errors 31 e ≡ take 31 errors ++ e ∷ []
-newest_written errors e h = set_last 31 errors e h
 
 pub front_kept : {A : Type 0} (n : ℕ) (xs ys : List A) → n ≤ length xs → take n (take n xs ++ ys) ≡ take n xs
 front_kept zero xs ys h = refl
@@ -77,7 +67,10 @@ queued-held came e =
       | inr full ↦
           rw (held_front (came ++ e ∷ []) (omega arith), take-append-le 31 came (e ∷ []) (omega arith))
           (elim (cases_lt 32 (length came)) [
-            | inl over ↦ rw (held_front came over) (let z : take 31 (take 31 came ++ QueueOverflow ∷ []) ≡ take 31 came = front_kept 31 came (QueueOverflow ∷ []) (omega arith) in rw (queued-full (take 31 came ++ QueueOverflow ∷ []) e (rw (length-append, length-take) (omega arith)), z) refl)
+            | inl over ↦
+                let full : List ScpiError = take 31 came ++ QueueOverflow ∷ [] in
+                let z : take 31 full ≡ take 31 came = front_kept 31 came (QueueOverflow ∷ []) (omega arith) in
+                rw (held_front came over) (rw (queued-full full e (rw (length-append, length-take) (omega arith)), z) refl)
             | inr exact ↦ rw (held_all came exact) (queued-full came e full)
           ])
     ]

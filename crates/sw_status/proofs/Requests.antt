@@ -4,12 +4,8 @@ use Rattle.std.specs.Prelude.{◌==◌, if◌then◌else◌}
 use Rattle.std.proofs.lemmas.Bool.{cases_Bool, and_parts, and_from, not-true, not_from_false, eqb-false, ne_eqb}
 use Rattle.sw_status.specs.Registers.{has_bit, register}
 use Rattle.sw_status.specs.StatusModel.{StatusSeen, arises, raised, counted_of, asking_of, summary_of, event_ended, IsSettled, first_status}
-use Rattle.sw_status.specs.Laws.{CountsOnce}
+use Rattle.sw_status.specs.Laws.{NewlyAsks, CountsOnce}
 use Rattle.sw_status.proofs.Bits.{register-none, register-some, register-bit}
-
--- a bit asks for service now that didn't before
-abbrev pub NewlyAsks : ℕ → ℕ → Type 0
-NewlyAsks before now = (k : ℕ) × (k < 8) × (has_bit now k ≡ true) × (has_bit before k ≡ false)
 
 pub arises-asks : (before now : ℕ) → arises before now ≡ true → NewlyAsks before now
 unfolding arises
@@ -46,7 +42,10 @@ pub counted-rises : (n before now : ℕ) → n < 2 ^ 56 - 1 → (counted_of n be
 counted-rises n before now h =
     elim (cases_Bool (arises before now)) [
       | inl e ↦ (λ _. arises-asks before now e, λ _. rw e (omega arith))
-      | inr e ↦ (λ rose. absurd (let z : n ≡ n + 1 = rw e at rose in omega arith), λ asks. absurd (let z : true ≡ false = sym (asks-arises before now asks) ∙ e in cc))
+      | inr e ↦ (
+        λ rose. absurd (let z : n ≡ n + 1 = rw e at rose in omega arith),
+        λ asks. absurd (let z : true ≡ false = sym (asks-arises before now asks) ∙ e in cc),
+      )
     ]
 
 -- an event that ended leaves nothing open, and nor does the start
@@ -58,6 +57,9 @@ pub settled-first : IsSettled first_status
 unfolding summary_of
 settled-first = refl
 
+pub counted-range : (n before now : ℕ) → n < 2 ^ 56 → counted_of n before now < 2 ^ 56
+counted-range n before now h = elim (cases_Bool (arises before now)) [ inl e ↦ rw e (omega arith) | inr e ↦ rw e (omega arith) ]
+
 pub counts_once : (s : StatusSeen) → CountsOnce s
 unfolding summary_of
 counts_once s = record {
@@ -65,6 +67,8 @@ counts_once s = record {
   never_falls = counted-least s.requests s.asking (asking_of s);
   rises = counted-rises s.requests s.asking (asking_of s);
   stays = counted-stays s.requests s.asking (asking_of s);
-  once = ap (λ (b : Bool). record (event_ended s) { requests = if b then raised (event_ended s).requests else (event_ended s).requests }) (arises-same (asking_of s));
+  once =
+      let t = event_ended s in
+      ap (λ (b : Bool). record t { requests = if b then raised t.requests else t.requests }) (arises-same (asking_of s));
   settled = settled-ended s;
 }

@@ -60,8 +60,8 @@ with_ntr g bits = record g { ntr = low_15 bits }
 abbrev pub group_summary : GroupSeen → Bool
 group_summary g = share_bit g.event g.enable
 
--- Bit k of the event register once the condition was old and is new: it was set, or the condition rose from 0 to 1 where
--- PTRansition has the bit, or fell from 1 to 0 where NTRansition has it.
+-- Bit k of the event register once the condition was old and is new: it was set, or the condition rose from 0 to 1
+-- where PTRansition has the bit, or fell from 1 to 0 where NTRansition has it.
 abbrev pub latches : ℕ → ℕ → ℕ → ℕ → ℕ → ℕ → Bool
 latches event ptr ntr old new k =
     has_bit event k

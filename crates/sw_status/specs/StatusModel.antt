@@ -1,9 +1,11 @@
 -- The status of the instrument as one record, and what each call makes of it (IEEE 488.2, 11; SCPI-1999, 20 and 21.8).
-use Rattle.std.specs.Prelude.{◌≡◌, ◌<◌, ◌≤◌, ℕ, ◌+◌, ◌-◌, ◌^◌, min, Bool, not, nat_lt, ◌==◌, ◌&&◌, bit_and, bit_or, List, [], ◌∷◌, ◌++◌, length, take, drop, if◌then◌else◌}
+use Rattle.std.specs.Prelude.{◌≡◌, ◌<◌, ◌≤◌, ℕ, ◌+◌, ◌-◌, ◌^◌, min, Bool, not, nat_lt, ◌==◌, ◌&&◌, bit_and, bit_or}
+use Rattle.std.specs.Prelude.{List, [], ◌∷◌, ◌++◌, length, take, drop, if◌then◌else◌}
 use Rattle.sw_base.specs.declared.error.ScpiError.{ScpiError}
 use Rattle.sw_base.specs.declared.error.ScpiError.TheVariants.{QueueOverflow}
 use Rattle.sw_base.specs.Errors.{event_bit_of}
-use Rattle.sw_status.specs.Registers.{GroupSeen, IsGroup, first_group, event_taken, group_preset, group_summary, register, has_bit, share_bit}
+use Rattle.sw_status.specs.Registers.{GroupSeen, IsGroup, first_group, event_taken, group_preset, group_summary}
+use Rattle.sw_status.specs.Registers.{register, has_bit, share_bit}
 use Rattle.sw_base.specs.declared.terms.StatusGroup.{StatusGroup}
 use Rattle.sw_base.specs.declared.terms.StatusGroup.TheVariants.{Operation, Questionable}
 
@@ -21,7 +23,16 @@ pub record StatusSeen : Type 0 where
 
 -- at the start, where bit 7 of *ESR? tells that the power came on
 abbrev pub first_status : StatusSeen
-first_status = record { errors = []; esr = 2 ^ 7; ese = 0; sre = 0; operation = first_group; questionable = first_group; asking = 0; requests = 0 }
+first_status = record {
+  errors = [];
+  esr = 2 ^ 7;
+  ese = 0;
+  sre = 0;
+  operation = first_group;
+  questionable = first_group;
+  asking = 0;
+  requests = 0;
+}
 
 -- the queue has room
 abbrev pub has_room : List ScpiError → Bool
@@ -51,7 +62,8 @@ popped s = record s { errors = drop 1 s.errors }
 
 -- after *CLS
 abbrev pub cleared : StatusSeen → StatusSeen
-cleared s = record s { errors = []; esr = 0; operation = event_taken s.operation; questionable = event_taken s.questionable }
+cleared s =
+    record s { errors = []; esr = 0; operation = event_taken s.operation; questionable = event_taken s.questionable }
 
 -- after STATus:PRESet
 abbrev pub preset : StatusSeen → StatusSeen
@@ -75,11 +87,12 @@ with_group s Questionable g = record s { questionable = g }
 abbrev pub flag_of : ℕ → Bool → ℕ
 flag_of k on = if on then 2 ^ k else 0
 
--- The status byte without bits 4 and 6: bit 2 where the queue has an error, bit 3 for QUEStionable, bit 5 for the event
--- status register, bit 7 for OPERation.
+-- The status byte without bits 4 and 6: bit 2 where the queue has an error, bit 3 for QUEStionable, bit 5 for the
+-- event status register, bit 7 for OPERation.
 unfoldable pub summary_of : StatusSeen → ℕ
 summary_of s =
-    flag_of 2 (nat_lt 0 (length s.errors)) + flag_of 3 (group_summary s.questionable) + flag_of 5 (share_bit s.esr s.ese) + flag_of 7 (group_summary s.operation)
+    flag_of 2 (nat_lt 0 (length s.errors)) + flag_of 3 (group_summary s.questionable) + flag_of 5 (share_bit s.esr s.ese)
+    + flag_of 7 (group_summary s.operation)
 
 -- The status byte: bit 4 where a message is available, and bit 6 where a bit of it is enabled by *SRE.
 unfoldable pub byte_of : StatusSeen → Bool → ℕ

@@ -1,7 +1,8 @@
 //! The registers of one status group.
 
 ghost use Rattle.std.specs.Prelude.{◌≡◌, ◌<◌, ◌^◌, ◌↔◌, IsTrue};
-ghost use Rattle.sw_status.specs.Registers.{first_group, event_taken, with_enable, with_ptr, with_ntr, group_preset, group_summary, group_conditioned, IsGroup};
+ghost use Rattle.sw_status.specs.Registers.{first_group, event_taken, with_enable, with_ptr, with_ntr, group_preset};
+ghost use Rattle.sw_status.specs.Registers.{group_summary, group_conditioned, IsGroup};
 
 use std::marker::Model;
 use std::mem;
@@ -55,13 +56,6 @@ impl Group {
         }
     }
 
-    /// What holds of every group: bit 15 of each register is 0.
-    pub fn keeps_its_limits(&self)
-        ensures { IsGroup self.now }
-    {
-        let _ = &self.condition;
-    }
-
     /// The condition register.
     pub fn condition(&self) -> u16
         ensures { result ≡ self.now.condition }
@@ -97,10 +91,11 @@ impl Group {
         self.ntr
     }
 
-    /// Whether an event is set and enabled.
+    /// Whether an event is set and enabled. Of every group bit 15 of each register is 0.
     #[inline]
     pub fn summary(&self) -> bool
-        ensures { result ≡ group_summary self.now }
+        ensures value { result ≡ group_summary self.now }
+        ensures limits { IsGroup self.now }
     {
         self.event & self.enable != 0
     }
@@ -135,7 +130,6 @@ impl Group {
     }
 
     /// Makes these bits the condition, bit 15 dropped; what rises or falls sets its event where the filters let it.
-    #[tactic(auto, using(crate::proofs::Bits::latched_is, crate::proofs::Bits::latched_small, crate::proofs::Bits::low_15_small))]
     pub fn set_condition(&mut self, bits: u16)
         ensures { self.new ≡ group_conditioned self.old bits }
     {

@@ -2,9 +2,10 @@
 
 ghost use Rattle.std.specs.Prelude.{◌≡◌, ℕ, Bool, List, [], fold};
 ghost use Rattle.sw_base.specs.declared.error.ScpiError.{ScpiError};
-ghost use Rattle.sw_status.specs.Registers.{GroupSeen};
-ghost use Rattle.sw_status.specs.StatusModel.{StatusSeen, queued, first_status, IsSettled};
+ghost use Rattle.sw_status.specs.Registers.{GroupSeen, IsGroup, first_group};
+ghost use Rattle.sw_status.specs.StatusModel.{StatusSeen, IsStatus, queued, first_status, IsSettled};
 ghost use Rattle.sw_status.specs.Laws.{LosesOnlyToOverflow, held_of, TellsEachBit, CountsOnce, LatchesEachBit};
+ghost use Rattle.sw_status.specs.Laws.{KeepsBit15Clear, KeepsLimits};
 
 /// An error is lost only to -350, and at most 32 are held.
 pub fn error_is_lost_only_to_overflow()
@@ -31,4 +32,13 @@ pub fn event_counts_once()
 /// condition fell and NTRansition has it.
 pub fn transition_filters_decide()
     ensures { (g : GroupSeen) (bits : ℕ) → LatchesEachBit g bits }
+{}
+
+/// A status starts within its limits and stays there whatever it is told: at most 32 errors, fewer than 2^56 requests,
+/// and in each group's registers bit 15 is 0.
+pub fn limits_are_kept()
+    ensures start { IsStatus first_status }
+    ensures each { (s : StatusSeen) → IsStatus s → KeepsLimits s }
+    ensures group_start { IsGroup first_group }
+    ensures each_group { (g : GroupSeen) → IsGroup g → KeepsBit15Clear g }
 {}

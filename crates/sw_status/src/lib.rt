@@ -11,12 +11,10 @@
 mod group;
 mod laws;
 mod status;
-#[cfg(test)]
-mod tests;
 
 pub use group::Group;
 pub use laws::{
-    byte_tells_each_bit, error_is_lost_only_to_overflow, event_counts_once, queue_holds_the_oldest,
-    transition_filters_decide,
+    byte_tells_each_bit, error_is_lost_only_to_overflow, event_counts_once, limits_are_kept,
+    queue_holds_the_oldest, transition_filters_decide,
 };
 pub use status::Status;

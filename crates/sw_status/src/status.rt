@@ -2,7 +2,9 @@
 
 ghost use Rattle.std.specs.Prelude.{◌≡◌, ◌<◌, ◌≤◌, ◌^◌, ◌++◌, ◌∷◌, [], length, slice_get, IfOk};
 ghost use Rattle.sw_status.specs.Registers.{group_conditioned, event_taken, with_enable, with_ptr, with_ntr};
-ghost use Rattle.sw_status.specs.StatusModel.{first_status, pushed, popped, cleared, preset, enabled, group_of, with_group, with_bit, summary_of, byte_of, event_ended, counted_of, flag_of, IsStatus};
+ghost use Rattle.sw_status.specs.StatusModel.{first_status, pushed, popped, cleared, preset, enabled, group_of};
+ghost use Rattle.sw_status.specs.StatusModel.{with_group, with_bit, summary_of, byte_of, event_ended, counted_of};
+ghost use Rattle.sw_status.specs.StatusModel.{flag_of, IsStatus};
 
 use crate::group::Group;
 use std::alloc::{AllocError, Global};
@@ -71,17 +73,18 @@ impl Status {
         })
     }
 
-    /// What holds of every status: at most 32 errors, bit 15 of each group's registers 0, fewer than 2^56 requests.
+    /// A law: every status has at most 32 errors, fewer than 2^56 requests, and in each group's registers bit 15 is 0.
+    ///
+    /// A caller learns from it what holds of a status whose history it doesn't know.
     pub fn keeps_its_limits(&self)
         ensures { IsStatus self.now }
     {
-        self.operation.keeps_its_limits();
-        self.questionable.keeps_its_limits();
+        let _ = self.summary();
     }
 
     /// Queues an error and sets its event bit. Where the queue is full, the newest entry becomes -350, and both errors
     /// set their bits.
-    #[tactic(auto, using(crate::proofs::Queue::newest_written), unfolding(crate::specs::StatusModel::queued, crate::specs::StatusModel::marked))]
+    #[tactic(auto, unfolding(crate::specs::StatusModel::queued, crate::specs::StatusModel::marked))]
     pub fn push_error(&mut self, error: ScpiError)
         ensures { self.new ≡ pushed self.old error }
     {
@@ -90,7 +93,8 @@ impl Status {
             self.errors.push_reserved(error);
         } else {
             self.esr |= 1 << ScpiError::QueueOverflow.event_bit();
-            self.errors[QUEUE_ROOM - 1] = ScpiError::QueueOverflow;
+            self.errors.truncate(QUEUE_ROOM - 1);
+            self.errors.push_reserved(ScpiError::QueueOverflow);
         }
     }
 
@@ -154,6 +158,7 @@ impl Status {
     pub fn summary(&self) -> u8
         ensures value { result ≡ summary_of self.now }
         ensures range { result ≤ 0xac }
+        ensures limits { IsStatus self.now }
     {
         flag(2, !self.errors.is_empty())
             + flag(3, self.questionable.summary())
@@ -272,8 +277,8 @@ impl Status {
         }
     }
 
-    /// Makes these bits a group's condition, bit 15 dropped. A bit that rises or falls sets its event bit where PTRansition
-    /// or NTRansition has it. Conditions change once per event.
+    /// Makes these bits a group's condition, bit 15 dropped. A bit that rises or falls sets its event bit where
+    /// PTRansition or NTRansition has it.
     pub fn set_condition(&mut self, which: StatusGroup, bits: u16)
         ensures { self.new ≡ with_group self.old which (group_conditioned (group_of self.old which) bits) }
     {
@@ -292,8 +297,8 @@ impl Status {
         self.requests
     }
 
-    /// Ends an event. A service request arises where a bit of the summary is set and enabled in *SRE, and wasn't both when
-    /// the last event ended (own choice). A second call in a row counts none.
+    /// Ends an event. A service request arises where a bit of the summary is set and enabled in *SRE, and wasn't both
+    /// when the last event ended (own choice). A second call in a row counts none.
     pub fn end_event(&mut self)
         ensures { self.new ≡ event_ended self.old }
     {

@@ -11,8 +11,6 @@
 mod counts;
 mod layer;
 mod settings;
-#[cfg(test)]
-mod tests;
 
 pub use layer::{Awaited, Layer};
 pub use settings::Settings;

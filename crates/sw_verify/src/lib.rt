@@ -15,8 +15,6 @@ mod plan;
 mod ready;
 mod refusal;
 mod snapshot;
-#[cfg(test)]
-mod tests;
 
 pub use layout::{Layout, Slot};
 pub use plan::Plan;

@@ -1,5 +1,5 @@
-use Rattle.sw_hislip.proofs.LockTurns.{stays_orderly}
+use Rattle.sw_hislip.proofs.LockTurns.{first_orderly, step_orderly}
 use Rattle.sw_hislip.proofs.laws.locks_stay_orderly.Goals as goal
 
 pub returns : goal.returns
-returns c = stays_orderly
+returns c = record { first = first_orderly; step = step_orderly }

@@ -6,6 +6,12 @@ use Rattle.sw_lex.proofs.elements.value.Goals as goal
 pub loop-digit-preserved : goal.loop-digit-preserved
 loop-digit-preserved c = record {
   rest = search rules;
-  small = omega (arith, c.from.ensures, value_at_le c.loop-digit.n c.loop-digit.digit-index c.args.digits.now (omega arith), c.loop-digit.invariant.value, nine c.args.digits.now c.requires.numeric c.requires.few);
+  small = omega (
+    arith,
+    c.from.ensures,
+    value_at_le c.loop-digit.n c.loop-digit.digit-index c.args.digits.now (omega arith),
+    c.loop-digit.invariant.value,
+    nine c.args.digits.now c.requires.numeric c.requires.few,
+  );
   value = rw c.from.ensures (sym (value_at c.loop-digit.n c.loop-digit.digit-index c.args.digits.now (omega arith)) ∙ c.loop-digit.invariant.value);
 }

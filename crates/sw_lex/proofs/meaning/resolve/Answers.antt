@@ -12,7 +12,8 @@ returns-in-None c = unknown_many _ _ c.in-None.ensures.none
 
 pub returns-in-None-find : goal.returns-in-None-find
 returns-in-None-find c =
-    refused_is _ _ _ _ c.in-Some.ensures.some (rw (capitals_of _ _ c.in-Some.ensures.some) at (rw c.as_slice.ensures.value at c.in-None-find.ensures.none)) (rw c.as_slice-in-None-find.ensures.value at c.refusal.ensures)
+    refused_is _ _ _ _ c.in-Some.ensures.some (rw (capitals_of _ _ c.in-Some.ensures.some) at (rw c.as_slice.ensures.value at c.in-None-find.ensures.none))
+    (rw c.as_slice-in-None-find.ensures.value at c.refusal.ensures)
 
 pub after-requires-clause-short : goal.after-requires-clause-short
 after-requires-clause-short c =
@@ -23,11 +24,12 @@ returns-after-unit c = inl (record {
   key = c.in-Some-find.key;
   number = c.in-Some-find.number;
   found = rw (capitals_of _ _ c.in-Some.ensures.some) at (rw c.as_slice.ensures.value at c.in-Some-find.ensures.some);
-  obeyed = search rules;
+  decoded = search rules;
   onward = elim c.match-unit.branch [
     | in-Common w ↦ ap (λ (p : Path). path_of p) w.result-is ∙ sym (ap (λ (h : Header). path_after (heading_of h) (path_of c.args.path)) w.in-Common.is)
     | in-Path w ↦
-        let found : map (λ w. w.now) w.as_slice-in-Path.result.now ≡ looked_up (heading_of c.args.unit.now.header) (path_of c.args.path) = rw (w.as_slice-in-Path.ensures.value) c.in-Some.ensures.some in
+        let found : map (λ w. w.now) w.as_slice-in-Path.result.now ≡ looked_up (heading_of c.args.unit.now.header) (path_of c.args.path) =
+        rw (w.as_slice-in-Path.ensures.value) c.in-Some.ensures.some in
         ap (λ (p : Path). path_of p) w.result-is ∙ w.after.ensures ∙ rw (found, w.in-Path.is) refl
   ];
 })

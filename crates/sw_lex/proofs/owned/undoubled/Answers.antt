@@ -12,4 +12,7 @@ returns-in-None-eat c content e =
 pub marks-preserved : goal.marks-preserved
 marks-preserved c =
     let f = c.in-Some.ensures.found in
-    rw (c.in_ok-push-in-Some-eat.ensures.items, c.in_ok-extend_from_slice-in-Some.ensures.items) (doubled_on c.args.mark _ _ _ _ _ _ c.marks.invariant f.0 f.1 c.in-Some-eat.ensures.found)
+    rw (
+      c.in_ok-push-in-Some-eat.ensures.items,
+      c.in_ok-extend_from_slice-in-Some.ensures.items,
+    ) (doubled_on c.args.mark _ _ _ _ _ _ c.marks.invariant f.0 f.1 c.in-Some-eat.ensures.found)

@@ -22,7 +22,8 @@ viewed o = Ok (option_map (λ m. (m.0.items, m.1.items)) o)
 abbrev vector : List (ArrayVec ℕ) → ArrayVec (ArrayVec ℕ)
 vector xs = record { items = xs }
 
-pushed_is : (names passed : List (ArrayVec ℕ)) (label : ArrayVec ℕ) (all : List (ArrayVec ℕ)) → passed ≡ names → all ≡ passed ++ label ∷ [] → texts all ≡ texts names ++ label.items ∷ []
+pushed_is : (names passed : List (ArrayVec ℕ)) (label : ArrayVec ℕ) (all : List (ArrayVec ℕ)) → passed ≡ names → all ≡ passed ++ label ∷ []
+    → texts all ≡ texts names ++ label.items ∷ []
 pushed_is names passed label all e h =
     ap texts (h ∙ ap (λ (xs : List (ArrayVec ℕ)). xs ++ label ∷ []) e) ∙ map_push (λ name. name.items) names label
 

@@ -4,4 +4,5 @@ use Rattle.sw_cage.proofs.Held.{kept_idle, stays_call}
 use Rattle.sw_cage.proofs.cage.Cage.close.Goals as goal
 
 pub invariant_of-self : goal.invariant_of-self
-invariant_of-self g c = kept_idle _ c.close.new.self _ c.self.invariant (ap (λ (p : CageSeen). p.scan) c.self.view_is ∙ c.requires.idle) (stays_call c.close.result c.self.inside.slots c.close.new.self _ true c.close.ensures.ok c.close.ensures.disturbed)
+invariant_of-self g c = kept_idle _ c.close.new.self _ c.self.invariant (ap (λ (p : CageSeen). p.scan) c.self.view_is ∙ c.requires.idle)
+    (stays_call c.close.result c.self.inside.slots c.close.new.self _ true c.close.ensures.ok c.close.ensures.disturbed)

@@ -10,7 +10,8 @@ pub returns-clause-ok : goal.returns-clause-ok
 returns-clause-ok g c =
     let same : option_rest (slot_at c.if-is_some-2.self.rack c.args.slot) ≡ option_rest (slot_at c.args.self.now.rack c.args.slot) =
     elim c.if-is_some-2.branch [
-      | then-is_some-2 w ↦ ap (λ (p : CageSeen). option_rest (slot_at p.rack c.args.slot)) (w.self-is ∙ w.abort.ensures) ∙ rest_twice c.args.self.now.rack c.args.slot
+      | then-is_some-2 w ↦ ap (λ (p : CageSeen). option_rest (slot_at p.rack c.args.slot)) (w.self-is ∙ w.abort.ensures) ∙ rest_twice c.args.self.now.rack
+          c.args.slot
       | else-is_some-2 w ↦ ap (λ (p : CageSeen). option_rest (slot_at p.rack c.args.slot)) w.self-is
     ] in
     subst (λ o. IfOk c.take_card.result (λ card. o ≡ Some card.1)) same c.take_card.ensures.card

@@ -16,11 +16,13 @@ go_on-scan-requires-clause-may g c =
     let at = c.in-Some.scan in
     let is : c.self.inside.scan ≡ Some at = sym c.take.ensures.value ∙ c.in-Some.is in
     let other = subst AwaitsOther (sym (ap (λ (p : CageSeen). p.scan) c.self.view_is) ∙ is) c.requires in
-    go_may _ at.setup (at.index + 1) c.advance-moves.result.to_open c.advance-moves.result.to_close c.self.invariant.good.held (go_other _ at _ c.self.invariant is other) c.advance-moves.ensures.moves
+    go_may _ at.setup (at.index + 1) c.advance-moves.result.to_open c.advance-moves.result.to_close c.self.invariant.good.held
+    (go_other _ at _ c.self.invariant is other) c.advance-moves.ensures.moves
 
 pub invariant_of-self : goal.invariant_of-self
 invariant_of-self g c =
     let at = c.in-Some.scan in
     let is : c.self.inside.scan ≡ Some at = sym c.take.ensures.value ∙ c.in-Some.is in
     let other = subst AwaitsOther (sym (ap (λ (p : CageSeen). p.scan) c.self.view_is) ∙ is) c.requires in
-    go_kept _ _ at.setup (at.index + 1) _ _ c.advance-moves.new.self _ c.self.invariant.good.held (go_other _ at _ c.self.invariant is other) (room_at _ at _ c.self.invariant is) c.go_on-scan.ensures c.advance-moves.ensures.moves c.advance-moves.ensures.scan refl refl
+    go_kept _ _ at.setup (at.index + 1) _ _ c.advance-moves.new.self _ c.self.invariant.good.held (go_other _ at _ c.self.invariant is other)
+    (room_at _ at _ c.self.invariant is) c.go_on-scan.ensures c.advance-moves.ensures.moves c.advance-moves.ensures.scan refl refl

@@ -5,15 +5,28 @@ use Rattle.sw_cage.proofs.Held.{eight_bays, next_bay}
 use Rattle.sw_cage.proofs.cage.Cage.has_layout.Goals as goal
 
 pub returns-then-bays-ne8 : goal.returns-then-bays-ne8
-returns-then-bays-ne8 g c = (λ t. absurd (cc), λ e. absurd (omega (arith, c.if-bays-ne8.true, ap length c.slots-bays.ensures, ap length e, eight_bays _ c.args.self.now c.self.invariant.good.held c.self.view_is)))
+returns-then-bays-ne8 g c = (
+  λ t. absurd (cc),
+  λ e. absurd (omega (
+    arith,
+    c.if-bays-ne8.true,
+    ap length c.slots-bays.ensures,
+    ap length e,
+    eight_bays _ c.args.self.now c.self.invariant.good.held c.self.view_is,
+  )),
+)
 
 pub loop-before-preserved : goal.loop-before-preserved
-loop-before-preserved g c = next_bay (cage_layout c.args.self.now) c.loop-before.before (take c.loop-before.before c.slots-bays.result.now) (take (c.loop-before.before + 1) c.slots-bays.result.now) c.index-bays-before.result (eight_bays _ c.args.self.now c.self.invariant.good.held c.self.view_is) (omega arith) c.loop-before.invariant (c.has_bay.ensures.0 (cc))
-    (take_more c.slots-bays.result.now c.loop-before.before c.index-bays-before.result (omega (arith, c.if-bays-ne8.false)) ∙ ap (λ y. take c.loop-before.before c.slots-bays.result.now ++ y ∷ []) (sym c.index-bays-before.is))
+loop-before-preserved g c = next_bay (cage_layout c.args.self.now) c.loop-before.before (take c.loop-before.before c.slots-bays.result.now)
+    (take (c.loop-before.before + 1) c.slots-bays.result.now) c.index-bays-before.result
+    (eight_bays _ c.args.self.now c.self.invariant.good.held c.self.view_is) (omega arith) c.loop-before.invariant (c.has_bay.ensures.0 (cc))
+    (take_more c.slots-bays.result.now c.loop-before.before c.index-bays-before.result (omega (arith, c.if-bays-ne8.false)) ∙ ap
+    (λ y. take c.loop-before.before c.slots-bays.result.now ++ y ∷ []) (sym c.index-bays-before.is))
 
 pub returns : goal.returns
 returns g c = (
   λ t. sym c.slots-bays.ensures ∙ sym (take_all c.loop-before.before c.slots-bays.result.now (omega (arith, c.if-bays-ne8.false))) ∙ c.loop-before.invariant
-      ∙ take_all c.loop-before.before (cage_layout c.args.self.now) (omega (arith, c.loop-before-test.false, eight_bays _ c.args.self.now c.self.invariant.good.held c.self.view_is)),
+      ∙ take_all c.loop-before.before (cage_layout c.args.self.now)
+      (omega (arith, c.loop-before-test.false, eight_bays _ c.args.self.now c.self.invariant.good.held c.self.view_is)),
   λ e. cc,
 )

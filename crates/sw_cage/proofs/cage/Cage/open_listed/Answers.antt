@@ -4,4 +4,5 @@ use Rattle.sw_cage.proofs.Held.{kept_idle, stays_call}
 use Rattle.sw_cage.proofs.cage.Cage.open_listed.Goals as goal
 
 pub invariant_of-self : goal.invariant_of-self
-invariant_of-self g c = kept_idle _ c.open_listed.new.self _ c.self.invariant (ap (λ (p : CageSeen). p.scan) c.self.view_is ∙ c.requires.idle) (stays_call c.open_listed.result c.self.inside.slots c.open_listed.new.self c.args.chans.now false c.open_listed.ensures.ok c.open_listed.ensures.err)
+invariant_of-self g c = kept_idle _ c.open_listed.new.self _ c.self.invariant (ap (λ (p : CageSeen). p.scan) c.self.view_is ∙ c.requires.idle)
+    (stays_call c.open_listed.result c.self.inside.slots c.open_listed.new.self c.args.chans.now false c.open_listed.ensures.ok c.open_listed.ensures.err)

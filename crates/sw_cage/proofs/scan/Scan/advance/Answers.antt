@@ -13,7 +13,12 @@ overflow_add-self-in-Some c =
     let step = c.next-step.result in
     let at = c.self.invariant.rest ∙ ap (rest_after s) c.in-Some.is ∙ c.next-step.ensures in
     let fits : i + (1 + c.count.result) < 2 ^ 64 =
-    omega (arith, c.count.ensures.count, short_of (agenda s) i (awaited_of s c.in-Some.walk) (moves_of step.moves) (rest_after s step.at) at, length-agenda s c.self.invariant.listed c.self.invariant.range) in
+    omega (
+      arith,
+      c.count.ensures.count,
+      short_of (agenda s) i (awaited_of s c.in-Some.walk) (moves_of step.moves) (rest_after s step.at) at,
+      length-agenda s c.self.invariant.listed c.self.invariant.range,
+    ) in
     search rules
 
 pub invariant_of-self : goal.invariant_of-self
@@ -26,7 +31,8 @@ invariant_of-self c =
     record {
       listed = c.self.invariant.listed;
       range = c.self.invariant.range;
-      rest = ap (λ (n : ℕ). drop n (agenda s)) e ∙ rest_there s (i + 1) step.moves step.at (behind (agenda s) i (awaited_of s c.in-Some.walk) (moves_of step.moves) (rest_after s step.at) at);
+      rest = ap (λ (n : ℕ). drop n (agenda s)) e ∙ rest_there s (i + 1) step.moves step.at
+          (behind (agenda s) i (awaited_of s c.in-Some.walk) (moves_of step.moves) (rest_after s step.at) at);
     }
 
 pub returns-clause-scan : goal.returns-clause-scan
@@ -36,7 +42,8 @@ returns-clause-scan c =
     let step = c.next-step.result in
     let at = c.self.invariant.rest ∙ ap (rest_after s) c.in-Some.is ∙ c.next-step.ensures in
     let e : i + (1 + c.count.result) ≡ i + 1 + length (moves_of step.moves) = omega (arith, c.count.ensures.count) in
-    place_is s (i + 1) step.moves step.at (behind (agenda s) i (awaited_of s c.in-Some.walk) (moves_of step.moves) (rest_after s step.at) at) (i + (1 + c.count.result)) e
+    place_is s (i + 1) step.moves step.at (behind (agenda s) i (awaited_of s c.in-Some.walk) (moves_of step.moves) (rest_after s step.at) at)
+    (i + (1 + c.count.result)) e
     ∙ ap (λ (p : Scanning). next_place p.setup (p.index + 1)) c.self.view_is
 
 pub returns-clause-moves : goal.returns-clause-moves

@@ -7,4 +7,5 @@ pub loop-before-init : goal.loop-before-init
 loop-before-init g c = c.new-chans.ensures.items ∙ sym (rows_start (is_closed c.args.self.now))
 
 pub loop-before-preserved : goal.loop-before-preserved
-loop-before-preserved g c = push_rows c.loop-before.chans.items c.push_closed.new.chans.items (is_closed c.args.self.now) c.loop-before.before c.loop-before.invariant c.in_ok-push_closed.ensures
+loop-before-preserved g c = push_rows c.loop-before.chans.items c.push_closed.new.chans.items (is_closed c.args.self.now) c.loop-before.before
+    c.loop-before.invariant c.in_ok-push_closed.ensures

@@ -3,10 +3,12 @@ use Rattle.sw_cage.proofs.Calls.{safe_ejected, ejected_card, ejected_open, empti
 use Rattle.sw_cage.proofs.slots.Slots.eject.Goals as goal
 
 pub invariant_of-self : goal.invariant_of-self
-invariant_of-self g c = safe_ejected c.self.inside.slots.items c.args.self.now c.args.slot c.take_rested.new.slot c.self.view_is c.take_rested.ensures.empty (search rules) c.self.invariant
+invariant_of-self g c = safe_ejected c.self.inside.slots.items c.args.self.now c.args.slot c.take_rested.new.slot c.self.view_is c.take_rested.ensures.empty
+    (search rules) c.self.invariant
 
 pub returns-clause-ok : goal.returns-clause-ok
-returns-clause-ok g c = ejected_card c.self.inside.slots.items c.args.self.now c.args.slot c.index_mut.result.now c.in-Some.card.1 c.self.view_is c.self.invariant (search rules) c.index_mut.ensures.value c.in-Some.ensures.card
+returns-clause-ok g c = ejected_card c.self.inside.slots.items c.args.self.now c.args.slot c.index_mut.result.now c.in-Some.card.1 c.self.view_is
+    c.self.invariant (search rules) c.index_mut.ensures.value c.in-Some.ensures.card
 
 pub returns-clause-taken : goal.returns-clause-taken
 returns-clause-taken g c = emptied c.self.inside.slots.items c.args.self.now _ c.take_rested.new.slot c.self.view_is c.take_rested.ensures.empty

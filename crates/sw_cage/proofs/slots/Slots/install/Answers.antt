@@ -4,13 +4,25 @@ use Rattle.sw_cage.proofs.Calls.{safe_installed, written}
 use Rattle.sw_cage.proofs.slots.Slots.install.Goals as goal
 
 pub returns-then-slot-lt1-clause-refused : goal.returns-then-slot-lt1-clause-refused
-returns-then-slot-lt1-clause-refused g c = (is_none _ (sym c.has_card.ensures ∙ c.if-has_card.false), elim c.then-slot-lt1.either [ inl h ↦ inl h | inr h ↦ inr (inl h.1) ])
+returns-then-slot-lt1-clause-refused g c = (
+  is_none _ (sym c.has_card.ensures ∙ c.if-has_card.false),
+  elim c.then-slot-lt1.either [ inl h ↦ inl h | inr h ↦ inr (inl h.1) ],
+)
 
 pub invariant_of-self : goal.invariant_of-self
-invariant_of-self g c = safe_installed c.self.inside.slots.items c.args.slot c.args.card c.self.invariant (omega arith) (omega arith) (c.is_fit.ensures.open (search rules)) c.is_fit.ensures.states (c.is_fit.ensures.few (search rules))
+invariant_of-self g c = safe_installed c.self.inside.slots.items c.args.slot c.args.card c.self.invariant (omega arith) (omega arith)
+    (c.is_fit.ensures.open (search rules)) c.is_fit.ensures.states (c.is_fit.ensures.few (search rules))
 
 pub returns-clause-ok : goal.returns-clause-ok
 returns-clause-ok g c = written c.self.inside.slots.items c.args.self.now _ (Some c.args.card) c.self.view_is
 
 pub returns-clause-accepted : goal.returns-clause-accepted
-returns-clause-accepted g c = record { empty = is_none _ (sym c.has_card.ensures ∙ c.if-has_card.false); first = omega arith; last = omega arith; fit = λ m. record { some_channel = (c.is_fit.ensures.few (search rules) m).0; few_channels = (c.is_fit.ensures.few (search rules) m).1 }; «open» = c.is_fit.ensures.open (search rules) }
+returns-clause-accepted g c = record {
+  empty = is_none _ (sym c.has_card.ensures ∙ c.if-has_card.false);
+  first = omega arith;
+  last = omega arith;
+  fit =
+      λ m. record { some_channel = (c.is_fit.ensures.few (search rules) m).0; few_channels = (c.is_fit.ensures.few (search rules) m).1 };
+  «open» =
+      c.is_fit.ensures.open (search rules);
+}

@@ -2,13 +2,21 @@ use Rattle.sw_cage.proofs.Calls.{open_item}
 use Rattle.sw_cage.proofs.slots.Slots.open.Goals as goal
 
 pub invariant_of-self : goal.invariant_of-self
-invariant_of-self g c = (open_item c.self.inside.slots.items c.args.self.now c.args.chan c.slot.result c.ch.result c.index_mut.result.now c.open_in.new.slot c.open_in.result c.slot.ensures.value c.ch.ensures.value c.slot.ensures.range.0 c.slot.ensures.range.1 c.self.view_is c.self.invariant c.index_mut.ensures.value c.requires c.open_in.ensures.ok c.open_in.ensures.err).safe
+invariant_of-self g c = (open_item c.self.inside.slots.items c.args.self.now c.args.chan c.slot.result c.ch.result c.index_mut.result.now c.open_in.new.slot
+    c.open_in.result c.slot.ensures.value c.ch.ensures.value c.slot.ensures.range.0 c.slot.ensures.range.1 c.self.view_is c.self.invariant
+    c.index_mut.ensures.value c.requires c.open_in.ensures.ok c.open_in.ensures.err).safe
 
 pub returns-clause-ok : goal.returns-clause-ok
-returns-clause-ok g c = (open_item c.self.inside.slots.items c.args.self.now c.args.chan c.slot.result c.ch.result c.index_mut.result.now c.open_in.new.slot c.open_in.result c.slot.ensures.value c.ch.ensures.value c.slot.ensures.range.0 c.slot.ensures.range.1 c.self.view_is c.self.invariant c.index_mut.ensures.value c.requires c.open_in.ensures.ok c.open_in.ensures.err).ok
+returns-clause-ok g c = (open_item c.self.inside.slots.items c.args.self.now c.args.chan c.slot.result c.ch.result c.index_mut.result.now c.open_in.new.slot
+    c.open_in.result c.slot.ensures.value c.ch.ensures.value c.slot.ensures.range.0 c.slot.ensures.range.1 c.self.view_is c.self.invariant
+    c.index_mut.ensures.value c.requires c.open_in.ensures.ok c.open_in.ensures.err).ok
 
 pub returns-clause-err : goal.returns-clause-err
-returns-clause-err g c = (open_item c.self.inside.slots.items c.args.self.now c.args.chan c.slot.result c.ch.result c.index_mut.result.now c.open_in.new.slot c.open_in.result c.slot.ensures.value c.ch.ensures.value c.slot.ensures.range.0 c.slot.ensures.range.1 c.self.view_is c.self.invariant c.index_mut.ensures.value c.requires c.open_in.ensures.ok c.open_in.ensures.err).err
+returns-clause-err g c = (open_item c.self.inside.slots.items c.args.self.now c.args.chan c.slot.result c.ch.result c.index_mut.result.now c.open_in.new.slot
+    c.open_in.result c.slot.ensures.value c.ch.ensures.value c.slot.ensures.range.0 c.slot.ensures.range.1 c.self.view_is c.self.invariant
+    c.index_mut.ensures.value c.requires c.open_in.ensures.ok c.open_in.ensures.err).err
 
 pub returns-clause-disturbed : goal.returns-clause-disturbed
-returns-clause-disturbed g c = (open_item c.self.inside.slots.items c.args.self.now c.args.chan c.slot.result c.ch.result c.index_mut.result.now c.open_in.new.slot c.open_in.result c.slot.ensures.value c.ch.ensures.value c.slot.ensures.range.0 c.slot.ensures.range.1 c.self.view_is c.self.invariant c.index_mut.ensures.value c.requires c.open_in.ensures.ok c.open_in.ensures.err).disturbed
+returns-clause-disturbed g c = (open_item c.self.inside.slots.items c.args.self.now c.args.chan c.slot.result c.ch.result c.index_mut.result.now
+    c.open_in.new.slot c.open_in.result c.slot.ensures.value c.ch.ensures.value c.slot.ensures.range.0 c.slot.ensures.range.1 c.self.view_is c.self.invariant
+    c.index_mut.ensures.value c.requires c.open_in.ensures.ok c.open_in.ensures.err).disturbed

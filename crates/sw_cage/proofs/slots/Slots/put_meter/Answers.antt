@@ -3,7 +3,8 @@ use Rattle.sw_cage.proofs.Calls.{safe_put, put_is}
 use Rattle.sw_cage.proofs.slots.Slots.put_meter.Goals as goal
 
 pub invariant_of-self : goal.invariant_of-self
-invariant_of-self g c = safe_put c.self.inside.slots.items c.args.slot c.of_meter.result c.args.meter.1 c.self.invariant (ap (λ p. p.1) c.of_meter.ensures) c.requires.0 c.requires.1
+invariant_of-self g c = safe_put c.self.inside.slots.items c.args.slot c.of_meter.result c.args.meter.1 c.self.invariant (ap (λ p. p.1) c.of_meter.ensures)
+    c.requires.0 c.requires.1
 
 pub returns : goal.returns
 returns g c = put_is c.self.inside.slots.items c.args.self.now _ c.of_meter.result c.args.meter.1 c.self.view_is (ap (λ p. p.1) c.of_meter.ensures)

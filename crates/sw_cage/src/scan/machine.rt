@@ -1,0 +1,146 @@
+//! What a running scan does between two things that it awaits.
+
+ghost use Rattle.std.specs.Prelude.{◌≡◌, ◌-◌, ◌≤◌, true, OnOk, OnErr, Some, None, slice_set};
+ghost use Rattle.sw_base.specs.Layout.{has_meter};
+ghost use Rattle.sw_card.specs.Account.{of_meter};
+ghost use Rattle.sw_cage.specs.Rack.{layout_of, is_closed};
+ghost use Rattle.sw_cage.specs.Advance.{opens_of, closes_of};
+ghost use Rattle.sw_cage.specs.Walk.{moves_of};
+ghost use Rattle.sw_cage.specs.Moves.{MayOpen, MayClose, MayMove, IsBroken};
+ghost use Rattle.sw_cage.specs.TakenSeen.{taken_seen};
+ghost use Rattle.sw_cage.specs.Goes.{Moved, IsSent, Arrives, Runs};
+
+use crate::job::{Job, Ticket};
+use crate::scan::Scan;
+use crate::scan::tickets::Tickets;
+use crate::scan::walk::Moves;
+use crate::slots::Slots;
+use crate::taken::Taken;
+use sw_base::Chan;
+use sw_card::{CardFault, Meter, MeterCard, Relay};
+use sw_trigger::Awaited;
+
+/// Makes the moves, and tells what the scan awaits now that it has come there. After a fault every relay is open.
+pub(crate) fn go_on<R: Relay, M: Meter>(
+    slots: &mut Slots<R, M>,
+    out: &mut Tickets,
+    scan: Scan,
+    number: u64,
+    moves: Moves,
+) -> (Option<Scan>, Taken<M>)
+    requires slot_in { (1 ≤ scan.setup.meter) × (scan.setup.meter ≤ 8) }
+    requires meter { has_meter (layout_of slots.old) scan.setup.meter ≡ true }
+    requires may { MayMove (layout_of slots.old) (is_closed slots.old) moves.to_open moves.to_close }
+    ensures { Runs (record { rack = slots.old; out = out.old }) number (moves_of moves) scan (taken_seen result.1)
+        (record { rack = slots.new; out = out.new }) result.0 }
+{
+    match make_moves(slots, moves) {
+        Ok(()) => return arrive(slots, out, scan, number),
+        Err(_) => {
+            slots.open_all();
+            return (None, Taken::Fault);
+        }
+    }
+}
+
+/// Opens, and then closes.
+fn make_moves<R: Relay, M: Meter>(slots: &mut Slots<R, M>, moves: Moves) -> Result<(), CardFault>
+    requires { MayMove (layout_of slots.old) (is_closed slots.old) moves.to_open moves.to_close }
+    ensures ok { OnOk result (Moved slots.old (moves_of moves) slots.new) }
+    ensures err { OnErr result (IsBroken slots.old slots.new) }
+{
+    open_first(slots, moves.to_open)?;
+    close_then(slots, moves.to_close)
+}
+
+fn open_first<R: Relay, M: Meter>(
+    slots: &mut Slots<R, M>,
+    chan: Option<Chan>,
+) -> Result<(), CardFault>
+    requires { MayOpen (is_closed slots.old) chan }
+    ensures ok { OnOk result (Moved slots.old (opens_of chan) slots.new) }
+    ensures err { OnErr result (IsBroken slots.old slots.new) }
+{
+    slots.stay_safe();
+    match chan {
+        Some(chan) => slots.open(chan),
+        None => Ok(()),
+    }
+}
+
+fn close_then<R: Relay, M: Meter>(
+    slots: &mut Slots<R, M>,
+    chan: Option<Chan>,
+) -> Result<(), CardFault>
+    requires { MayClose (layout_of slots.old) (is_closed slots.old) chan }
+    ensures ok { OnOk result (Moved slots.old (closes_of chan) slots.new) }
+    ensures err { OnErr result (IsBroken slots.old slots.new) }
+{
+    match chan {
+        Some(chan) => slots.close(chan),
+        None => Ok(()),
+    }
+}
+
+/// What the scan awaits where it stands; for a reading its meter goes out.
+fn arrive<R: Relay, M: Meter>(
+    slots: &mut Slots<R, M>,
+    out: &mut Tickets,
+    scan: Scan,
+    number: u64,
+) -> (Option<Scan>, Taken<M>)
+    requires slot_in { (1 ≤ scan.setup.meter) × (scan.setup.meter ≤ 8) }
+    requires meter { has_meter (layout_of slots.old) scan.setup.meter ≡ true }
+    ensures { Arrives (record { rack = slots.old; out = out.old }) number scan (taken_seen result.1)
+        (record { rack = slots.new; out = out.new }) result.0 }
+{
+    let ticket = Ticket {
+        scan: number,
+        index: scan.index(),
+    };
+    match scan.awaited() {
+        None => return (None, Taken::Ended),
+        Some(Awaited::Wait(_)) => return (Some(scan), Taken::Waits),
+        Some(Awaited::Pause(micros)) => return (Some(scan), Taken::Pause(ticket, micros)),
+        Some(Awaited::Read) => {
+            let job = send_out(slots, out, scan.meter(), ticket);
+            return (Some(scan), Taken::Job(job));
+        }
+    }
+}
+
+/// Sends the slot's meter out under the ticket.
+fn send_out<R: Relay, M: Meter>(
+    slots: &mut Slots<R, M>,
+    out: &mut Tickets,
+    slot: u8,
+    ticket: Ticket,
+) -> Job<M>
+    requires slot_in { (1 ≤ slot) × (slot ≤ 8) }
+    requires meter { has_meter (layout_of slots.old) slot ≡ true }
+    ensures { IsSent (record { rack = slots.old; out = out.old }) slot ticket result.1
+        (record { rack = slots.new; out = out.new }) }
+{
+    let meter = slots.take_meter(slot);
+    out.set(slot, Some(ticket));
+    Job {
+        slot,
+        ticket,
+        meter,
+    }
+}
+
+/// Takes the slot's meter in again.
+pub(crate) fn take_in<R: Relay, M: Meter>(
+    slots: &mut Slots<R, M>,
+    out: &mut Tickets,
+    slot: u8,
+    meter: MeterCard<M>,
+)
+    requires { (1 ≤ slot) × (slot ≤ 8) }
+    ensures rack { slots.new ≡ slice_set slots.old (slot - 1) (Some (of_meter meter.1)) }
+    ensures out { out.new ≡ slice_set out.old (slot - 1) None }
+{
+    slots.put_meter(slot, meter);
+    out.set(slot, None);
+}

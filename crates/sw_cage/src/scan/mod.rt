@@ -1,0 +1,169 @@
+//! A scan that runs: its settings, and where it stands.
+
+ghost use Rattle.std.specs.Prelude.{◌≡◌, ℕ, ◌+◌, ◌<◌, ◌≤◌, ◌++◌, length, None, ◌↔◌, IsTrue};
+ghost use Rattle.sw_trigger.specs.Settings.{layer_of};
+ghost use Rattle.sw_cage.specs.Advance.{awaits, way, next_place};
+ghost use Rattle.sw_cage.specs.Cage.{ticket_of};
+ghost use Rattle.sw_cage.specs.Walk.{moves_of};
+ghost use Rattle.sw_cage.specs.Takes.{TakesIf, TakesWait, TakesPause, AwaitsReturn};
+
+pub(crate) mod machine;
+pub(crate) mod tickets;
+mod walk;
+
+use self::walk::{Moves, Walk, awaited, first, next};
+use crate::job::Ticket;
+use crate::taken::Happening;
+use std::marker::Model;
+use sw_base::{LayerName, Source};
+use sw_trigger::{Awaited, Settings};
+
+/// A scan that runs.
+///
+/// Contracts see its settings and the index of what it awaits in its agenda, and not the walk that finds it.
+#[derive(Drop)]
+pub(crate) struct Scan {
+    settings: Settings,
+    walk: Option<Walk>,
+    index: u64,
+}
+
+impl Model for Scan {
+    ghost use Rattle.sw_cage.specs.Cage.{Scanning};
+
+    ghost Value = { Scanning };
+
+    ghost use Rattle.sw_cage.specs.ScanSeen.{place_of, IsPlaced};
+
+    ghost view = { place_of };
+
+    ghost invariant = { IsPlaced };
+}
+
+impl Scan {
+    /// A scan at the first thing that it awaits, and what is done before that.
+    pub(crate) fn begin(settings: Settings) -> (Scan, Moves)
+        requires { 0 < length settings.list }
+        ensures scan { result.0 ≡ next_place settings 0 }
+        ensures moves { moves_of result.1 ≡ way settings 0 }
+    {
+        let step = first(&settings);
+        let index = count(step.moves);
+        let scan = Scan {
+            settings,
+            walk: step.at,
+            index,
+        };
+        (scan, step.moves)
+    }
+
+    /// What the scan awaits; nothing, where it is over.
+    pub(crate) fn awaited(&self) -> Option<Awaited>
+        ensures { result ≡ awaits self.now }
+    {
+        match &self.walk {
+            Some(walk) => Some(awaited(&self.settings, walk)),
+            None => None,
+        }
+    }
+
+    /// Goes past what the scan awaits, and tells what is done before the next.
+    pub(crate) fn advance(&mut self) -> Moves
+        requires { awaits self.old ≡ None → ⊥ }
+        ensures scan { self.new ≡ next_place self.old.setup (self.old.index + 1) }
+        ensures moves { moves_of result ≡ way self.old.setup (self.old.index + 1) }
+    {
+        match &self.walk {
+            Some(walk) => {
+                let step = next(&self.settings, walk);
+                self.index += 1 + count(step.moves);
+                self.walk = step.at;
+                step.moves
+            }
+            None => unreachable!(),
+        }
+    }
+
+    /// Whether the scan takes the happening, being number so many.
+    pub(crate) fn takes(&self, number: u64, happening: Happening) -> bool
+        ensures { IsTrue result ↔ TakesIf self.now.setup (ticket_of number self.now) (awaits self.now) happening }
+    {
+        let present = Ticket {
+            scan: number,
+            index: self.index,
+        };
+        match self.awaited() {
+            Some(Awaited::Wait(name)) => return self.wait_takes(name, happening),
+            Some(Awaited::Pause(_)) => return pause_takes(present, happening),
+            Some(Awaited::Read) => return false,
+            None => return false,
+        }
+    }
+
+    /// Whether a wait of the layer takes the happening.
+    fn wait_takes(&self, name: LayerName, happening: Happening) -> bool
+        ensures { IsTrue result ↔ TakesWait self.now.setup name happening }
+    {
+        match happening {
+            Happening::Bus => return self.source(name) == Source::Bus,
+            Happening::External => return self.source(name) == Source::External,
+            Happening::Signal(signalled) => return name == signalled,
+            Happening::Elapsed(_) => return false,
+        }
+    }
+
+    /// Whether the scan, being number so many, awaits the return of the slot's meter under the ticket.
+    pub(crate) fn takes_return(&self, number: u64, slot: u8, ticket: Ticket) -> bool
+        ensures { IsTrue result ↔ AwaitsReturn number self.now slot ticket }
+    {
+        let present = Ticket {
+            scan: number,
+            index: self.index,
+        };
+        match self.awaited() {
+            Some(Awaited::Read) => return self.meter() == slot && present.is_same(ticket),
+            _ => return false,
+        }
+    }
+
+    /// The index of what the scan awaits in its agenda.
+    pub(crate) fn index(&self) -> u64
+        ensures { result ≡ self.now.index }
+    {
+        self.index
+    }
+
+    /// The slot of the scan's meter.
+    pub(crate) fn meter(&self) -> u8
+        ensures { result ≡ self.now.setup.meter }
+    {
+        self.settings.meter()
+    }
+
+    /// Where the layer's wait takes its trigger from.
+    pub(crate) fn source(&self, name: LayerName) -> Source
+        ensures { result ≡ (layer_of self.now.setup name).source }
+    {
+        self.settings.layer(name).source
+    }
+}
+
+/// Whether a pause under the present ticket takes the happening.
+fn pause_takes(present: Ticket, happening: Happening) -> bool
+    ensures { IsTrue result ↔ TakesPause present happening }
+{
+    match happening {
+        Happening::Elapsed(ticket) => return present.is_same(ticket),
+        _ => return false,
+    }
+}
+
+/// How many moves they are.
+fn count(moves: Moves) -> u64
+    ensures count { result ≡ length (moves_of moves) }
+    ensures few { result ≤ 2 }
+{
+    let opened = if moves.to_open.is_some() { 1 } else { 0 };
+    let closed = if moves.to_close.is_some() { 1 } else { 0 };
+    opened + closed
+}

@@ -1,0 +1,366 @@
+//! The eight slots and their cards.
+
+ghost use Rattle.std.specs.Prelude.{◌≡◌, ℕ, ◌+◌, ◌-◌, ◌≤◌, ◌<◌, ◌++◌, ◌∷◌, [], length, take, replicate, slice_set};
+ghost use Rattle.std.specs.Prelude.{true, false, None, Some, is_some, OnOk, OnErr, IfOk, IfErr, IfSome, IfNone};
+ghost use Rattle.std.specs.Prelude.{◌↔◌, IsTrue};
+ghost use Rattle.std.specs.List.{filter};
+ghost use Rattle.sw_base.specs.Layout.{Channel, slot_at, is_present, group_of, IsClash, has_meter};
+ghost use Rattle.sw_card.specs.Account.{closed_at, of_meter};
+ghost use Rattle.sw_cage.specs.Rack.{Rack, rack_of, layout_of, is_closed, IsSafe, with_chan, option_rest};
+ghost use Rattle.sw_cage.specs.Rack.{all_open, IsRackFault};
+ghost use Rattle.sw_cage.specs.Change.{Sets, IsDisturbed};
+ghost use Rattle.sw_cage.specs.Install.{CanInstall, SlotsRefuseInstall, SlotsRefuseEject};
+ghost use Rattle.sw_cage.specs.Close.{closed_with, HasClash, all_present, CanClose, RefusesClose};
+ghost use Rattle.sw_cage.specs.Claims.{Holds, ClosedBefore};
+ghost use Rattle.sw_cage.specs.Channels.{row, rows, closed_list};
+
+mod claims;
+mod slot;
+
+use self::claims::Claims;
+use crate::refusal::{CloseRefusal, EjectRefusal, InstallRefusal};
+use std::alloc::{AllocError, Global};
+use std::marker::Model;
+use sw_base::Chan;
+use sw_card::{Card, CardFault, Meter, MeterCard, Relay};
+use sw_verify::Slot;
+
+/// Eight slots that hold cards.
+#[derive(Drop)]
+pub(crate) struct Slots<R: Relay, M: Meter> {
+    slots: Vec<Option<Card<R, M>>>,
+}
+
+impl<R: Relay, M: Meter> Model for Slots<R, M> {
+    ghost Value = { Rack };
+
+    ghost view = { λ c. rack_of c.slots.items };
+
+    ghost invariant = { λ c. IsSafe (rack_of c.slots.items) };
+}
+
+impl<R: Relay, M: Meter> Slots<R, M> {
+    /// Eight empty slots.
+    pub(crate) fn new(alloc: Global) -> Result<Self, AllocError>
+        ensures { IfOk result (λ slots. slots ≡ replicate 8 None) }
+    {
+        let mut slots = Vec::with_capacity(alloc, 8)?;
+        for _ in 0..8usize {
+            slots.push(None)?;
+        }
+        Ok(Slots { slots })
+    }
+
+    /// Whether the slot is one of the cage's and has a card.
+    pub(crate) fn has_card(&self, slot: u8) -> bool
+        ensures { result ≡ is_some (slot_at self.now slot) }
+    {
+        slot >= 1 && slot <= 8 && self.slots[slot as usize - 1].is_some()
+    }
+
+    /// Puts a card into an empty slot.
+    pub(crate) fn install(
+        &mut self,
+        slot: u8,
+        card: Card<R, M>,
+    ) -> Result<(), (InstallRefusal, Card<R, M>)>
+        ensures ok { OnOk result (self.new ≡ slice_set self.old (slot - 1) (Some card.1)) }
+        ensures accepted { OnOk result (CanInstall self.old slot card.1) }
+        ensures refused { IfErr result (λ refusal. SlotsRefuseInstall self.old slot card.1 refusal.0) }
+        ensures err { OnErr result (self.new ≡ self.old) }
+        ensures back { IfErr result (λ refusal. refusal.1 ≡ card) }
+    {
+        if self.has_card(slot) {
+            return Err((InstallRefusal::Occupied, card));
+        }
+        if slot < 1 || slot > 8 {
+            return Err((InstallRefusal::BadLayout, card));
+        }
+        if !slot::is_fit(&card) {
+            return Err((InstallRefusal::BadLayout, card));
+        }
+        self.slots[slot as usize - 1] = Some(card);
+        Ok(())
+    }
+
+    /// Opens the card's relays and takes it out.
+    pub(crate) fn eject(&mut self, slot: u8) -> Result<Card<R, M>, EjectRefusal>
+        ensures ok { IfOk result (λ card. option_rest (slot_at self.old slot) ≡ Some card.1) }
+        ensures open { IfOk result (λ card. (ch : ℕ) → closed_at card.1.closed ch ≡ false) }
+        ensures taken { OnOk result (self.new ≡ slice_set self.old (slot - 1) None) }
+        ensures refused { IfErr result (λ refusal. SlotsRefuseEject self.old slot refusal) }
+        ensures err { OnErr result (self.new ≡ self.old) }
+    {
+        if !self.has_card(slot) {
+            return Err(EjectRefusal::Vacant);
+        }
+        match slot::take_rested(&mut self.slots[slot as usize - 1]) {
+            Some(card) => Ok(card),
+            None => unreachable!(),
+        }
+    }
+
+    /// Closes one channel.
+    pub(crate) fn close(&mut self, chan: Chan) -> Result<(), CardFault>
+        requires present { is_present (layout_of self.old) chan ≡ true }
+        requires open { is_closed self.old chan ≡ false }
+        requires apart { (c : Channel) → is_closed self.old c ≡ true → IsClash (layout_of self.old) chan c → ⊥ }
+        ensures ok { OnOk result (Sets self.old (chan ∷ []) true self.new) }
+        ensures err { OnErr result (IsRackFault self.old chan (with_chan self.old chan true) self.new) }
+        ensures disturbed { OnErr result (IsDisturbed self.old (chan ∷ []) self.new) }
+    {
+        slot::close_in(&mut self.slots[chan.slot() as usize - 1], chan.ch())
+    }
+
+    /// Opens one channel.
+    pub(crate) fn open(&mut self, chan: Chan) -> Result<(), CardFault>
+        requires { is_closed self.old chan ≡ true }
+        ensures ok { OnOk result (Sets self.old (chan ∷ []) false self.new) }
+        ensures err { OnErr result (IsRackFault self.old chan self.old self.new) }
+        ensures disturbed { OnErr result (IsDisturbed self.old (chan ∷ []) self.new) }
+    {
+        slot::open_in(&mut self.slots[chan.slot() as usize - 1], chan.ch())
+    }
+
+    /// Opens every relay of every card.
+    pub(crate) fn open_all(&mut self)
+        ensures { self.new ≡ all_open self.old }
+    {
+        slot::rest_all(&mut self.slots)
+    }
+
+    /// Whether the cage has the channel.
+    pub(crate) fn is_present(&self, chan: Chan) -> bool
+        ensures { result ≡ is_present (layout_of self.now) chan }
+    {
+        slot::present_in(&self.slots[chan.slot() as usize - 1], chan.ch())
+    }
+
+    /// Whether the channel is closed.
+    pub(crate) fn is_closed(&self, chan: Chan) -> bool
+        ensures { result ≡ is_closed self.now chan }
+    {
+        slot::closed_in(&self.slots[chan.slot() as usize - 1], chan.ch())
+    }
+
+    /// The group of a channel that the cage has.
+    fn group(&self, chan: Chan) -> u8
+        requires { is_present (layout_of self.now) chan ≡ true }
+        ensures { result ≡ group_of (layout_of self.now) chan }
+    {
+        slot::group_in(&self.slots[chan.slot() as usize - 1], chan.ch())
+    }
+
+    /// Whether the cage has every channel of the list.
+    pub(crate) fn all_present(&self, chans: &[Chan]) -> bool
+        ensures { result ≡ all_present (layout_of self.now) chans.now }
+    {
+        chans.iter().all(|chan| self.is_present(*chan))
+    }
+
+    /// Closes the channels that are open, in order.
+    pub(crate) fn close_all(&mut self, chans: &[Chan]) -> Result<(), CardFault>
+        requires { CanClose (layout_of self.old) (is_closed self.old) chans.now }
+        ensures ok { OnOk result (Sets self.old chans.now true self.new) }
+        ensures err { OnErr result (IsDisturbed self.old chans.now self.new) }
+    {
+        for chan in chans {
+            if !self.is_closed(*chan) {
+                self.close(*chan)?;
+            }
+        }
+        Ok(())
+    }
+
+    /// Opens the channels that are closed, in order.
+    pub(crate) fn open_listed(&mut self, chans: &[Chan]) -> Result<(), CardFault>
+        ensures ok { OnOk result (Sets self.old chans.now false self.new) }
+        ensures err { OnErr result (IsDisturbed self.old chans.now self.new) }
+    {
+        for chan in chans {
+            if self.is_closed(*chan) {
+                self.open(*chan)?;
+            }
+        }
+        Ok(())
+    }
+
+    /// Lets each closed channel of the slot claim its group, unless two of one group are closed.
+    fn claim_slot(&self, slot: u8, claims: &mut Claims) -> bool
+        requires slot_in { (1 ≤ slot) × (slot ≤ 8) }
+        requires held { Holds (layout_of self.now) (ClosedBefore self.now slot 0) claims.old }
+        ensures claimed { result ≡ true → Holds (layout_of self.now) (ClosedBefore self.now (slot + 1) 0) claims.new }
+        ensures clash { result ≡ false → HasClash (layout_of self.now) (is_closed self.now) }
+    {
+        let Some(card) = &self.slots[slot as usize - 1] else {
+            return true;
+        };
+        for before in 0..card.channels() {
+            let ch = before + 1;
+            if card.is_closed(ch) {
+                if !claims.claim(card.group(ch), Chan::new(slot, ch)) {
+                    return false;
+                }
+            }
+        }
+        true
+    }
+
+    /// Lets each closed channel claim its group, unless two of one group are closed.
+    fn claim_closed(&self, claims: &mut Claims) -> bool
+        requires { Holds (layout_of self.now) (ClosedBefore self.now 1 0) claims.old }
+        ensures claimed { result ≡ true → Holds (layout_of self.now) (λ c. is_closed self.now c ≡ true) claims.new }
+        ensures clash { result ≡ false → HasClash (layout_of self.now) (is_closed self.now) }
+    {
+        // Reading a field tells the proof what holds of every `Slots`.
+        let _ = &self.slots;
+        for before in 0..8u8 {
+            if !self.claim_slot(before + 1, claims) {
+                return false;
+            }
+        }
+        true
+    }
+
+    /// Lets each channel of the list claim its group, unless another channel has it.
+    fn claim_listed(&self, chans: &[Chan], claims: &mut Claims) -> bool
+        requires present { all_present (layout_of self.now) chans.now ≡ true }
+        requires held { Holds (layout_of self.now) (λ c. is_closed self.now c ≡ true) claims.old }
+        ensures apart { result ≡ true → HasClash (layout_of self.now) (closed_with (is_closed self.now) chans.now) → ⊥ }
+        ensures clash { result ≡ false → HasClash (layout_of self.now) (closed_with (is_closed self.now) chans.now) }
+    {
+        for chan in chans {
+            if !claims.claim(self.group(*chan), *chan) {
+                return false;
+            }
+        }
+        true
+    }
+
+    /// Whether the channels may be closed together.
+    pub(crate) fn judge(&self, chans: &[Chan]) -> Result<(), CloseRefusal>
+        ensures ok { OnOk result (CanClose (layout_of self.now) (is_closed self.now) chans.now) }
+        ensures err { IfErr result (λ refusal.
+            RefusesClose (layout_of self.now) (is_closed self.now) chans.now refusal) }
+    {
+        if !self.all_present(chans) {
+            return Err(CloseRefusal::Absent);
+        }
+        let mut claims = Claims::new();
+        if !self.claim_closed(&mut claims) {
+            return Err(CloseRefusal::Clash);
+        }
+        if !self.claim_listed(chans, &mut claims) {
+            return Err(CloseRefusal::Clash);
+        }
+        Ok(())
+    }
+
+    /// Appends the closed channels of the slot.
+    fn push_closed(&self, slot: u8, chans: &mut Vec<Chan>) -> Result<(), AllocError>
+        requires { (1 ≤ slot) × (slot ≤ 8) }
+        ensures { OnOk result (chans.new.items ≡ chans.old.items ++ filter (is_closed self.now) (row slot 99)) }
+    {
+        let Some(card) = &self.slots[slot as usize - 1] else {
+            return Ok(());
+        };
+        let channels = card.channels();
+        for before in 0..channels {
+            let ch = before + 1;
+            if card.is_closed(ch) {
+                chans.push(Chan::new(slot, ch))?;
+            }
+        }
+        Ok(())
+    }
+
+    /// The closed channels, by slot and channel.
+    pub(crate) fn closed_chans(&self, alloc: Global) -> Result<Vec<Chan>, AllocError>
+        ensures { IfOk result (λ chans. chans.items ≡ closed_list self.now) }
+    {
+        let mut chans = Vec::new(alloc);
+        for before in 0..8u8 {
+            self.push_closed(before + 1, &mut chans)?;
+        }
+        Ok(chans)
+    }
+
+    /// Where the closed channels of one more slot end in the list, unless it is not the list of the closed ones.
+    fn past_closed(&self, before: u8, chans: &[Chan], at: usize) -> Option<usize>
+        requires slot_in { before < 8 }
+        requires within { at ≤ length chans.now }
+        requires kept { take at chans.now ≡ filter (is_closed self.now) (rows before) }
+        ensures within { IfSome result (λ past. past ≤ length chans.now) }
+        ensures kept { IfSome result (λ past. take past chans.now ≡ filter (is_closed self.now) (rows (before + 1))) }
+        ensures other { IfNone result (chans.now ≡ closed_list self.now → ⊥) }
+    {
+        let mut past = at;
+        for below in 0..99u8 {
+            let chan = Chan::new(before + 1, below + 1);
+            if self.is_closed(chan) {
+                if past >= chans.len() || chans[past] != chan {
+                    return None;
+                }
+                past += 1;
+            }
+        }
+        Some(past)
+    }
+
+    /// Whether these are the closed channels, by slot and channel.
+    pub(crate) fn has_closed(&self, chans: &[Chan]) -> bool
+        ensures { IsTrue result ↔ (chans.now ≡ closed_list self.now) }
+    {
+        let mut at = 0;
+        for before in 0..8u8 {
+            let Some(past) = self.past_closed(before, chans, at) else {
+                return false;
+            };
+            at = past;
+        }
+        at == chans.len()
+    }
+
+    /// Takes the slot's meter out.
+    pub(crate) fn take_meter(&mut self, slot: u8) -> MeterCard<M>
+        requires slot_in { (1 ≤ slot) × (slot ≤ 8) }
+        requires meter { has_meter (layout_of self.old) slot ≡ true }
+        ensures meter { slot_at self.old slot ≡ Some (of_meter result.1) }
+        ensures empty { self.new ≡ slice_set self.old (slot - 1) None }
+    {
+        slot::take_meter(&mut self.slots[slot as usize - 1])
+    }
+
+    /// Puts a meter into the slot.
+    pub(crate) fn put_meter(&mut self, slot: u8, meter: MeterCard<M>)
+        requires { (1 ≤ slot) × (slot ≤ 8) }
+        ensures { self.new ≡ slice_set self.old (slot - 1) (Some (of_meter meter.1)) }
+    {
+        self.slots[slot as usize - 1] = Some(Card::of_meter(meter));
+    }
+
+    /// What the slot holds, as a layout tells it.
+    pub(crate) fn bay(&self, alloc: Global, slot: u8) -> Result<Slot, AllocError>
+        requires { (1 ≤ slot) × (slot ≤ 8) }
+        ensures { IfOk result (λ bay. bay ≡ slot_at (layout_of self.now) slot) }
+    {
+        slot::bay_in(alloc, &self.slots[slot as usize - 1])
+    }
+
+    /// Whether the slot holds what the layout's slot tells.
+    pub(crate) fn is_as(&self, slot: u8, bay: &Slot) -> bool
+        requires { (1 ≤ slot) × (slot ≤ 8) }
+        ensures { IsTrue result ↔ (bay.now ≡ slot_at (layout_of self.now) slot) }
+    {
+        slot::is_as_in(&self.slots[slot as usize - 1], bay)
+    }
+
+    /// A law: of eight slots only present channels are closed, with a number in its range, and no two of them clash.
+    pub(crate) fn stay_safe(&self)
+        ensures safe { IsSafe self.now }
+        ensures range { (c : Channel) → is_closed self.now c ≡ true → (1 ≤ c.0) × (c.0 ≤ 8) × (1 ≤ c.1) × (c.1 ≤ 99) }
+    {
+        // Reading a field tells the proof what holds of every `Slots`.
+        let _ = &self.slots;
+    }
+}

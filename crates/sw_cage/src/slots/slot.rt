@@ -1,0 +1,199 @@
+//! What is done with one slot and its card.
+
+ghost use Rattle.std.specs.Prelude.{◌≡◌, ℕ, ◌≤◌, length, true, false, None, Some, OnOk, OnErr, IfOk, ◌↔◌, IsTrue};
+ghost use Rattle.sw_base.specs.Layout.{bay_has, bay_group, bay_is_meter};
+ghost use Rattle.sw_card.specs.Account.{closed_at, is_meter, of_meter};
+ghost use Rattle.sw_cage.specs.Rack.{rack_of, option_account, option_bay, option_closed, option_set, option_rest};
+ghost use Rattle.sw_cage.specs.Rack.{all_open, IsSlotFault};
+ghost use Rattle.sw_cage.specs.Install.{IsUnfit};
+
+use std::alloc::{AllocError, Global};
+use sw_card::{Card, CardFault, Meter, MeterCard, Relay};
+use sw_verify::Slot;
+
+/// Whether the card may be installed: a meter, or 1 to 99 channels, all of them open.
+pub(super) fn is_fit<R: Relay, M: Meter>(card: &Card<R, M>) -> bool
+    ensures open { result ≡ true → (ch : ℕ) → closed_at card.now.1.closed ch ≡ false }
+    ensures few { result ≡ true → is_meter card.now.1 ≡ false
+        → (1 ≤ length card.now.1.groups) × (length card.now.1.groups ≤ 99) }
+    ensures unfit { result ≡ false → (is_meter card.now.1 ≡ false) × IsUnfit card.now.1 }
+    ensures states { length card.now.1.closed ≡ length card.now.1.groups }
+{
+    let channels = card.channels();
+    if card.any_closed() {
+        return false;
+    }
+    if card.is_meter() {
+        return true;
+    }
+    if channels == 0 {
+        return false;
+    }
+    channels <= 99
+}
+
+/// Closes a channel of the card in the slot.
+pub(super) fn close_in<R: Relay, M: Meter>(
+    slot: &mut Option<Card<R, M>>,
+    ch: u8,
+) -> Result<(), CardFault>
+    requires present { bay_has (option_bay (option_account slot.old)) ch ≡ true }
+    requires open { option_closed (option_account slot.old) ch ≡ false }
+    ensures ok { OnOk result (option_account slot.new ≡ option_set (option_account slot.old) ch true) }
+    ensures err { OnErr result (IsSlotFault (option_account slot.old) (option_set (option_account slot.old) ch true)
+        (option_account slot.new)) }
+{
+    match slot {
+        Some(card) => card.close(ch),
+        None => unreachable!(),
+    }
+}
+
+/// Opens a channel of the card in the slot.
+pub(super) fn open_in<R: Relay, M: Meter>(
+    slot: &mut Option<Card<R, M>>,
+    ch: u8,
+) -> Result<(), CardFault>
+    requires { option_closed (option_account slot.old) ch ≡ true }
+    ensures ok { OnOk result (option_account slot.new ≡ option_set (option_account slot.old) ch false) }
+    ensures err { OnErr result
+        (IsSlotFault (option_account slot.old) (option_account slot.old) (option_account slot.new)) }
+{
+    match slot {
+        Some(card) => card.open(ch),
+        None => unreachable!(),
+    }
+}
+
+/// Opens every channel of the card in the slot.
+pub(super) fn rest_in<R: Relay, M: Meter>(slot: &mut Option<Card<R, M>>)
+    ensures { option_account slot.new ≡ option_rest (option_account slot.old) }
+{
+    if let Some(card) = slot {
+        card.open_all();
+    }
+}
+
+/// Takes the card out of the slot with every channel open.
+pub(super) fn take_rested<R: Relay, M: Meter>(slot: &mut Option<Card<R, M>>) -> Option<Card<R, M>>
+    ensures card { option_account result ≡ option_rest (option_account slot.old) }
+    ensures empty { slot.new ≡ None }
+{
+    rest_in(slot);
+    slot.take()
+}
+
+/// Opens every channel of the cards in the slots.
+pub(super) fn rest_all<R: Relay, M: Meter>(slots: &mut [Option<Card<R, M>>])
+    ensures { rack_of slots.new ≡ all_open (rack_of slots.old) }
+{
+    for slot in slots {
+        rest_in(slot);
+    }
+}
+
+/// Whether the card in the slot has the channel.
+pub(super) fn present_in<R: Relay, M: Meter>(slot: &Option<Card<R, M>>, ch: u8) -> bool
+    ensures { result ≡ bay_has (option_bay (option_account slot.now)) ch }
+{
+    match slot {
+        Some(card) => !card.is_meter() && ch >= 1 && ch <= card.channels(),
+        None => false,
+    }
+}
+
+/// Whether the channel of the card in the slot is closed.
+pub(super) fn closed_in<R: Relay, M: Meter>(slot: &Option<Card<R, M>>, ch: u8) -> bool
+    ensures { result ≡ option_closed (option_account slot.now) ch }
+{
+    match slot {
+        Some(card) => card.is_closed(ch),
+        None => false,
+    }
+}
+
+/// The group of the channel of the card in the slot, which the card has.
+pub(super) fn group_in<R: Relay, M: Meter>(slot: &Option<Card<R, M>>, ch: u8) -> u8
+    requires { bay_has (option_bay (option_account slot.now)) ch ≡ true }
+    ensures { result ≡ bay_group (option_bay (option_account slot.now)) ch }
+{
+    match slot {
+        Some(card) => card.group(ch),
+        None => unreachable!(),
+    }
+}
+
+/// Takes the meter out of the slot.
+pub(super) fn take_meter<R: Relay, M: Meter>(slot: &mut Option<Card<R, M>>) -> MeterCard<M>
+    requires { bay_is_meter (option_bay (option_account slot.old)) ≡ true }
+    ensures meter { option_account slot.old ≡ Some (of_meter result.1) }
+    ensures empty { slot.new ≡ None }
+{
+    match slot.take() {
+        Some(card) => match card.into_meter() {
+            Ok(meter) => meter,
+            Err(_) => unreachable!(),
+        },
+        None => unreachable!(),
+    }
+}
+
+/// The group of each of the card's channels, from channel 1 on.
+fn groups<R: Relay, M: Meter>(alloc: Global, card: &Card<R, M>) -> Result<Vec<u8>, AllocError>
+    ensures { IfOk result (λ groups. groups.items ≡ card.now.1.groups) }
+{
+    let count = card.channels();
+    let mut groups = Vec::with_capacity(alloc, count as usize)?;
+    for before in 0..count {
+        groups.push(card.group(before + 1))?;
+    }
+    Ok(groups)
+}
+
+/// What the slot holds, as a layout tells it.
+pub(super) fn bay_in<R: Relay, M: Meter>(
+    alloc: Global,
+    slot: &Option<Card<R, M>>,
+) -> Result<Slot, AllocError>
+    ensures { IfOk result (λ bay. bay ≡ option_bay (option_account slot.now)) }
+{
+    let Some(card) = slot else {
+        return Ok(Slot::empty());
+    };
+    if card.is_meter() {
+        return Ok(Slot::meter());
+    }
+    Ok(Slot::relays(groups(alloc, card)?))
+}
+
+/// Whether these are the groups of the card's channels, from channel 1 on.
+fn has_groups<R: Relay, M: Meter>(card: &Card<R, M>, groups: &[u8]) -> bool
+    ensures { IsTrue result ↔ (groups.now ≡ card.now.1.groups) }
+{
+    let count = card.channels();
+    if groups.len() != count as usize {
+        return false;
+    }
+    for before in 0..count {
+        if card.group(before + 1) != groups[before as usize] {
+            return false;
+        }
+    }
+    true
+}
+
+/// Whether the slot holds what the layout's slot tells.
+pub(super) fn is_as_in<R: Relay, M: Meter>(slot: &Option<Card<R, M>>, bay: &Slot) -> bool
+    ensures { IsTrue result ↔ (bay.now ≡ option_bay (option_account slot.now)) }
+{
+    let Some(card) = slot else {
+        return !bay.is_meter() && bay.groups().is_none();
+    };
+    if card.is_meter() {
+        return bay.is_meter();
+    }
+    match bay.groups() {
+        Some(groups) => has_groups(card, groups),
+        None => false,
+    }
+}

@@ -1,0 +1,151 @@
+-- The code of settings is in range.
+use Rattle.std.proofs.Common.{◌≡◌, ℕ, zero, suc, ◌+◌, ◌*◌, ◌/◌, ◌%◌, ◌<◌, ◌≤◌, Bool, true, false, cond, eqb, List, [], ◌∷◌, ◌++◌, length, map, refl, sym, ap, ◌∙◌, subst, arith, length-append}
+use Rattle.std.specs.List.{AllByRecursion}
+use Rattle.std.proofs.lemmas.Bool.Decides.{nat_tests}
+use Rattle.std.proofs.lemmas.List.{length-map}
+use Rattle.std.proofs.lemmas.Nat.{mod_below}
+use Rattle.std.proofs.Math.Nat.{suc-mul, div-le_self}
+use Rattle.sw_base.specs.declared.terms.LayerName.{LayerName}
+use Rattle.sw_base.specs.declared.terms.LayerName.TheVariants.{Arm1, Arm2, Trigger}
+use Rattle.sw_base.specs.declared.terms.Source.{Source}
+use Rattle.sw_base.specs.declared.terms.Source.TheVariants.{Immediate, Bus, External, Hold}
+use Rattle.sw_trigger.specs.declared.layer.Layer.{Layer}
+use Rattle.sw_trigger.specs.declared.layer.Awaited.TheVariants.{Wait, Pause, Read}
+use Rattle.sw_trigger.specs.Settings.{Setup, IsInRange}
+use Rattle.sw_trigger.specs.Agenda.{Item, Awaits, Close, Open, head_of, wait_of, pause_of, channel_at, visit, pass_of, passes}
+use Rattle.sw_code.specs.declared.code.Step.{Step}
+use Rattle.sw_code.specs.declared.code.Step.TheVariants as step
+use Rattle.sw_code.specs.Range.{IsStep, IsInRange as IsCode}
+use Rattle.sw_code.specs.Tree.{Tree, Nil, Then, Times, step_of, size, flatten}
+use Rattle.sw_code.specs.Compiled.{line, passes_tree, tree_of, compiled}
+use Rattle.sw_code.proofs.Unfolding.{length-flatten}
+
+abbrev pub Fits : List Item → Type 0
+Fits items = AllByRecursion (λ x. IsStep (step_of x)) items
+
+-- each loop and each item of the tree is in range
+abbrev pub IsFit : Tree → Type 0
+IsFit Nil = Unit {0}
+IsFit (Then x rest) = IsStep (step_of x) × IsFit rest
+IsFit (Times k n body rest) = ((k ≤ 2) × (1 ≤ n) × (n ≤ 100000)) × IsFit body × IsFit rest
+
+steps-append : (xs ys : List Step) → AllByRecursion IsStep xs → AllByRecursion IsStep ys → AllByRecursion IsStep (xs ++ ys)
+steps-append [] ys a b = b
+steps-append (x ∷ xs) ys a b = (a.0, steps-append xs ys a.1 b)
+
+fits-append : (xs ys : List Item) → Fits xs → Fits ys → Fits (xs ++ ys)
+fits-append [] ys a b = b
+fits-append (x ∷ xs) ys a b = (a.0, fits-append xs ys a.1 b)
+
+fit_steps : (t : Tree) (pc : ℕ) → IsFit t → pc + size t ≤ 8191 → AllByRecursion IsStep (flatten t pc)
+fit_steps Nil pc f h = tt
+fit_steps (Then x rest) pc f h = (f.0, fit_steps rest (pc + 1) f.1 (omega arith))
+fit_steps (Times k n body rest) pc f h =
+    let target : pc + 1 ≤ 8191 = omega arith in (
+      f.0,
+      steps-append (flatten body (pc + 1)) (step.Loop k (pc + 1) ∷ flatten rest (pc + 2 + size body))
+          (fit_steps body (pc + 1) f.1 (omega arith))
+          ((f.0.0, target), fit_steps rest (pc + 2 + size body) f.2 (omega arith)),
+    )
+
+fit-line : (xs : List Item) (rest : Tree) → Fits xs → IsFit rest → IsFit (line xs rest)
+fit-line [] rest a b = b
+fit-line (x ∷ xs) rest a b = (a.0, fit-line xs rest a.1 b)
+
+size-line : (xs : List Item) (rest : Tree) → size (line xs rest) ≡ length xs + size rest
+size-line [] rest = omega arith
+size-line (x ∷ xs) rest = omega (arith, size-line xs rest)
+
+fits-wait : (name : LayerName) (source : Source) → Fits (map Awaits (wait_of name source)) × (length (wait_of name source) ≤ 1)
+fits-wait name Immediate = (tt, omega arith)
+fits-wait name Bus = ((tt, tt), omega arith)
+fits-wait name External = ((tt, tt), omega arith)
+fits-wait name Hold = ((tt, tt), omega arith)
+
+fits-pause : (micros : ℕ) → micros ≤ 3600000000 → Fits (map Awaits (pause_of micros)) × (length (pause_of micros) ≤ 1)
+fits-pause zero h = (tt, omega arith)
+fits-pause (suc m) h =
+    let e : eqb (suc m) 0 ≡ false = grind (arith, nat_tests) in
+    subst (λ (b : Bool). Fits (map Awaits (cond b [] (Pause (suc m) ∷ []))) × (length (cond b [] (Pause (suc m) ∷ [])) ≤ 1)) (sym e)
+    (((omega arith, h), tt), omega arith)
+
+map-append-awaits : (xs ys : List _) → map Awaits (xs ++ ys) ≡ map Awaits xs ++ map Awaits ys
+map-append-awaits [] ys = refl
+map-append-awaits (x ∷ xs) ys = ap (λ (l : List Item). Awaits x ∷ l) (map-append-awaits xs ys)
+
+fits-head : (name : LayerName) (l : Layer) → l.delay_us ≤ 3600000000 → Fits (map Awaits (head_of name l))
+fits-head name l h =
+    subst Fits (sym (map-append-awaits (wait_of name l.source) (pause_of l.delay_us)))
+    (fits-append (map Awaits (wait_of name l.source)) (map Awaits (pause_of l.delay_us)) (fits-wait name l.source).0 (fits-pause l.delay_us h).0)
+
+length-head : (name : LayerName) (l : Layer) → l.delay_us ≤ 3600000000 → length (map Awaits (head_of name l)) ≤ 2
+length-head name l h =
+    let a = (fits-wait name l.source).1 in
+    let b = (fits-pause l.delay_us h).1 in
+    omega (arith, a, b, length-map (head_of name l) Awaits, length-append (wait_of name l.source) (pause_of l.delay_us))
+
+module _ (s : Setup) (h : s.trigger.delay_us ≤ 3600000000) where
+  fits-passes : (k n : ℕ) → Fits (passes s k n)
+  fits-passes k zero = tt
+  fits-passes k (suc n) =
+      fits-append (pass_of s k) (passes s (suc k) n)
+      (fits-append (map Awaits (head_of Trigger s.trigger)) (visit (channel_at s.list k)) (fits-head Trigger s.trigger h) (tt, (tt, (tt, tt))))
+      (fits-passes (suc k) n)
+
+  length-passes : (k n : ℕ) → length (passes s k n) ≤ n * 5
+  length-passes k zero = omega arith
+  length-passes k (suc n) =
+      omega (arith, length-append (pass_of s k) (passes s (suc k) n), length-append (map Awaits (head_of Trigger s.trigger)) (visit (channel_at s.list k)), length-head Trigger s.trigger h, length-passes (suc k) n, suc-mul n 5)
+
+  fit-some : (n : ℕ) → IsFit (line (passes s 0 n) Nil) × (size (line (passes s 0 n) Nil) ≤ n * 5)
+  fit-some n = (fit-line (passes s 0 n) Nil (fits-passes 0 n) tt, omega (arith, size-line (passes s 0 n) Nil, length-passes 0 n))
+
+  fit-rounds : 0 < length s.list → length s.list ≤ 512 → s.trigger.count ≤ 100000 → IsFit (passes_tree s) × (size (passes_tree s) ≤ 5122)
+  fit-rounds some most count =
+      at (s.trigger.count / length s.list) (div-le_self s.trigger.count (length s.list))
+    where
+      left : ℕ
+      left = s.trigger.count % length s.list
+
+      at : (q : ℕ) → q ≤ s.trigger.count → IsFit (cond (eqb q 0) (line (passes s 0 left) Nil) (Times 2 q (line (passes s 0 (length s.list)) Nil) (line (passes s 0 left) Nil))) × (size (cond (eqb q 0) (line (passes s 0 left) Nil) (Times 2 q (line (passes s 0 (length s.list)) Nil) (line (passes s 0 left) Nil))) ≤ 5122)
+      at zero below =
+          let r = fit-some left in
+          let small : left < length s.list = mod_below s.trigger.count (length s.list) some in
+          (r.0, omega (arith, r.1, small))
+      at (suc q) below =
+          let e : eqb (suc q) 0 ≡ false = grind (arith, nat_tests) in
+          let r = fit-some left in
+          let a = fit-some (length s.list) in
+          let small : left < length s.list = mod_below s.trigger.count (length s.list) some in
+          let body = line (passes s 0 (length s.list)) Nil in
+          let rest = line (passes s 0 left) Nil in
+          let few : 2 + size body + size rest ≤ 5122 = omega (arith, r.1, a.1, small) in
+          let count : suc q ≤ 100000 = omega arith in
+          let two : 2 ≤ 2 = omega arith in
+          let one : 1 ≤ suc q = omega arith in
+          subst (λ (b : Bool). IsFit (cond b rest (Times 2 (suc q) body rest)) × (size (cond b rest (Times 2 (suc q) body rest)) ≤ 5122)) (sym e)
+          (((two, one, count), a.0, r.0), few)
+
+fit-tree : (s : Setup) → 0 < length s.list → IsInRange s → IsFit (tree_of s) × (size (tree_of s) ≤ 5130)
+fit-tree s some i =
+    let inner = fit-rounds s i.trigger.delay some i.list i.trigger.count.1 in
+    let i1 = map Awaits (head_of Arm1 s.arm1) in
+    let i2 = map Awaits (head_of Arm2 s.arm2) in
+    let body2 = line i2 (passes_tree s) in
+    let loop2 = Times 1 s.arm2.count body2 Nil in
+    let c1 : s.arm1.count ≤ 100000 = omega (arith, i.arm1.count.1) in
+    let c2 : s.arm2.count ≤ 100000 = omega (arith, i.arm2.count.1) in
+    let z : 0 ≤ 2 = omega arith in
+    let o : 1 ≤ 2 = omega arith in (
+      ((z, i.arm1.count.0, c1), fit-line i1 loop2 (fits-head Arm1 s.arm1 i.arm1.delay) (((o, i.arm2.count.0, c2), fit-line i2 (passes_tree s) (fits-head Arm2 s.arm2 i.arm2.delay) inner.0, tt)), tt),
+      omega (arith, size-line i1 loop2, size-line i2 (passes_tree s), inner.1, length-head Arm1 s.arm1 i.arm1.delay, length-head Arm2 s.arm2 i.arm2.delay),
+    )
+
+pub compiled_fits : (s : Setup) → 0 < length s.list → IsInRange s → IsCode (compiled s)
+compiled_fits s some i =
+    let t = fit-tree s some i in
+    record {
+      meter = i.meter;
+      length = omega (arith, length-append (flatten (tree_of s) 0) (step.Halt ∷ []), length-flatten (tree_of s) 0, t.1);
+      steps = steps-append (flatten (tree_of s) 0) (step.Halt ∷ []) (fit_steps (tree_of s) 0 t.0 (omega (arith, t.1))) (tt, tt);
+    }

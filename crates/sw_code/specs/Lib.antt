@@ -1,0 +1,5 @@
+pub mod Range
+pub mod Seen
+pub mod Code
+pub mod Tree
+pub mod Compiled

@@ -1,0 +1,109 @@
+//! From settings to scan code.
+
+ghost use Rattle.std.specs.Prelude.{◌≡◌, ◌+◌, ◌<◌, ◌≤◌, [], ◌∷◌, ◌++◌, length, map, IfOk, IfErr, OnOk};
+ghost use Rattle.sw_base.specs.declared.error.ScpiError.TheVariants.{OutOfMemory};
+ghost use Rattle.sw_trigger.specs.Agenda.{agenda, head_of, pass_of, passes, Awaits};
+ghost use Rattle.sw_code.specs.Code.{Unfolds};
+ghost use Rattle.sw_code.specs.Range.{IsInRange};
+ghost use Rattle.sw_code.specs.Tree.{flatten};
+ghost use Rattle.sw_code.specs.Compiled.{steps_of, passes_tree, compiled};
+
+use crate::code::{Code, Step};
+use std::alloc::{AllocError, Global};
+use sw_base::{LayerName, ScpiError, Source};
+use sw_trigger::{Layer, Settings};
+
+/// The code of a scan: one loop for each ARM layer, and one for whole rounds of the list. `OutOfMemory` comes where the
+/// steps found no room, and no other error.
+pub fn compile(alloc: Global, settings: &Settings) -> Result<Code, ScpiError>
+    requires listed { 0 < length settings.now.list }
+    ensures code { IfOk result (λ code. code ≡ compiled settings.now) }
+    ensures unfolds { IfOk result (λ code. Unfolds code.steps (agenda settings.now)) }
+    ensures refused { IfErr result (λ e. e ≡ OutOfMemory) }
+{
+    match all_steps(alloc, settings) {
+        Ok(steps) => Ok(Code::new(settings.meter(), steps)),
+        Err(_) => Err(ScpiError::OutOfMemory),
+    }
+}
+
+fn all_steps(alloc: Global, settings: &Settings) -> Result<Vec<Step>, AllocError>
+    requires listed { 0 < length settings.now.list }
+    ensures steps { IfOk result (λ steps. steps.items ≡ (compiled settings.now).steps) }
+    ensures range { IfOk result (λ steps. IsInRange (compiled settings.now)) }
+    ensures unfolds { IfOk result (λ steps. Unfolds (compiled settings.now).steps (agenda settings.now)) }
+{
+    let arm1 = settings.layer(LayerName::Arm1);
+    let arm2 = settings.layer(LayerName::Arm2);
+    let mut steps = Vec::new(alloc);
+    steps.push(Step::Set(0, arm1.count))?;
+    put_head(&mut steps, LayerName::Arm1, arm1)?;
+    steps.push(Step::Set(1, arm2.count))?;
+    let start = steps.len() as u16;
+    put_head(&mut steps, LayerName::Arm2, arm2)?;
+    put_rounds(&mut steps, settings)?;
+    steps.push(Step::Loop(1, start))?;
+    steps.push(Step::Loop(0, 1))?;
+    steps.push(Step::Halt)?;
+    Ok(steps)
+}
+
+/// Adds the passes of one turn of ARM layer 2: whole rounds of the list as a loop, then those left over.
+fn put_rounds(steps: &mut Vec<Step>, settings: &Settings) -> Result<(), AllocError>
+    requires listed { 0 < length settings.now.list }
+    requires short { length steps.old.items < 100 }
+    ensures { OnOk result (steps.new.items ≡ steps.old.items ++ flatten (passes_tree settings.now) (length steps.old.items)) }
+{
+    let count = settings.layer(LayerName::Trigger).count;
+    let entries = settings.list().len() as u32;
+    let rounds = count / entries;
+    if rounds == 0 {
+        return put_passes(steps, settings, count % entries);
+    }
+    let start = steps.len() as u16 + 1;
+    steps.push(Step::Set(2, rounds))?;
+    put_passes(steps, settings, entries)?;
+    steps.push(Step::Loop(2, start))?;
+    put_passes(steps, settings, count % entries)
+}
+
+/// Adds the first passes.
+fn put_passes(steps: &mut Vec<Step>, settings: &Settings, count: u32) -> Result<(), AllocError>
+    requires listed { 0 < length settings.now.list }
+    ensures { OnOk result (steps.new.items ≡ steps.old.items ++ steps_of (passes settings.now 0 count)) }
+{
+    for k in 0..count {
+        put_pass(steps, settings, k)?;
+    }
+    Ok(())
+}
+
+fn put_pass(steps: &mut Vec<Step>, settings: &Settings, k: u32) -> Result<(), AllocError>
+    requires listed { 0 < length settings.now.list }
+    ensures { OnOk result (steps.new.items ≡ steps.old.items ++ steps_of (pass_of settings.now k)) }
+{
+    let channel = settings.channel(k);
+    put_head(
+        steps,
+        LayerName::Trigger,
+        settings.layer(LayerName::Trigger),
+    )?;
+    steps.push(Step::Close(channel))?;
+    steps.push(Step::Read)?;
+    steps.push(Step::Open(channel))?;
+    Ok(())
+}
+
+/// Adds a layer's wait and pause.
+fn put_head(steps: &mut Vec<Step>, name: LayerName, layer: Layer) -> Result<(), AllocError>
+    ensures head { OnOk result (steps.new.items ≡ steps.old.items ++ steps_of (map Awaits (head_of name layer))) }
+    ensures short { OnOk result (length steps.new.items ≤ length steps.old.items + 2) }
+{
+    if layer.source != Source::Immediate {
+        steps.push(Step::Wait(name))?;
+    }
+    if layer.delay_us != 0 {
+        steps.push(Step::Pause(layer.delay_us))?;
+    }
+    Ok(())
+}
