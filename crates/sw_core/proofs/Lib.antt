@@ -6,6 +6,10 @@ mod Numbered
 mod Same
 mod Going
 mod Seating
+mod OneCommand
+mod OneScan
+mod OneSession
+mod OneCard
 mod Determined
 mod Kept
 mod Safety
