@@ -5,7 +5,10 @@
 //! where it opens no channel but its own, makes no more readings than there is room for and leaves closed what it found
 //! closed. Else it gives the first refusal that applies. What follows for a scan that passes is in `laws`.
 //!
-//! It takes no memory, and promises nothing of a scan whose cards or closed channels change after the check.
+//! `verify` judges scan code: what it accepts unfolds to items that are sound here, with the counts that it
+//! tells. It visits each step once.
+//!
+//! The check takes no memory. The crate promises nothing of a scan whose cards or closed channels change after the check.
 #![tactic(auto)]
 
 pub mod laws;
