@@ -57,14 +57,18 @@ fn reads_elements(rt: HostRuntime) -> Result<(), Fail> {
         return Err(ScpiError::SystemError.into());
     };
     assert!(rt; rest == b"B".as_slice());
-    assert_eq!(rt; unit.elements.as_slice(), [
-        Element::Number(b"1 E +1"),
-        Element::Number(b"-.5 S"),
-        Element::Character(b"On_1"),
-        Element::String(b"\"a;\"\"b\""),
-        Element::Block(b"#13a;\n"),
-        Element::Expression(b"(;,)"),
-    ].as_slice());
+    assert_eq!(rt;
+        unit.elements.as_slice(),
+        [
+            Element::Number(b"1 E +1"),
+            Element::Number(b"-.5 S"),
+            Element::Character(b"On_1"),
+            Element::String(b"\"a;\"\"b\""),
+            Element::Block(b"#13a;\n"),
+            Element::Expression(b"(;,)"),
+        ]
+        .as_slice()
+    );
     Ok(())
 }
 

@@ -1,8 +1,8 @@
 //! What the calls answer, with values from the standards' registers.
 
-use sw_status::{Group, Status};
 use std::test::Fail;
 use sw_base::{ScpiError, StatusGroup};
+use sw_status::{Group, Status};
 
 #[test]
 fn newest_of_33_errors_is_overflow(rt: HostRuntime) -> Result<(), Fail> {
