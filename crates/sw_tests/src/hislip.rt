@@ -102,6 +102,7 @@ fn large_payload_is_skipped(rt: HostRuntime) -> Result<(), Fail> {
         decoder.feed(&[b'H'; 4096])?;
         assert!(rt; waits(alloc, &mut decoder));
     }
+    assert_eq!(rt; decoder.room(), 0);
     decoder.feed(b"H")?;
     decoder.feed(&TRIGGER)?;
     let told = next_bytes(alloc, &mut decoder).ok().ok_or("no fault")?;
