@@ -33,4 +33,6 @@ mod status;
 #[cfg(test)]
 mod trigger;
 #[cfg(test)]
+mod verified;
+#[cfg(test)]
 mod verify;
