@@ -1,18 +1,18 @@
-pub mod Racks
-pub mod Changes
-pub mod Orders
-mod Compared
-pub mod Claiming
-pub mod Laws
-mod Calls
-pub mod Walks
-pub mod Placed
-pub mod Layouts
-pub mod Held
-pub mod Moving
-pub mod Underway
-pub mod Runs
-pub mod Among
-pub mod Happens
-pub mod Exclusive
-pub mod Failures
+pub mod SlotChangeLemmas
+pub mod ChannelCallLemmas
+pub mod ClosedListLemmas
+mod ComparedListLemmas
+pub mod ClaimLemmas
+pub mod ExclusionLemmas
+mod OneSlotLemmas
+pub mod TurnLemmas
+pub mod PlaceLemmas
+pub mod LayoutLemmas
+pub mod KeptLemmas
+pub mod MoveLemmas
+pub mod UnderwayLemmas
+pub mod AdvanceLemmas
+pub mod ClosedMemberLemmas
+pub mod HappeningLemmas
+pub mod ExclusiveScanLemmas
+pub mod FailureLemmas

@@ -4,14 +4,14 @@ use Rattle.sw_base.specs.Layout.{Channel}
 use Rattle.sw_trigger.specs.declared.layer.Awaited.{Awaited}
 use Rattle.sw_trigger.specs.Settings.{Setup}
 use Rattle.sw_trigger.specs.Agenda.{Item, Awaits, Close, Open, agenda}
-use Rattle.sw_cage.specs.Cage.{Scanning}
+use Rattle.sw_cage.specs.Cage.{ScanSeen}
 
 -- the closings and openings before the next awaiting item
-abbrev pub leading : List Item → List Item
-leading [] = []
-leading (Awaits what ∷ items) = []
-leading (Close c ∷ items) = Close c ∷ leading items
-leading (Open c ∷ items) = Open c ∷ leading items
+abbrev pub leading_moves : List Item → List Item
+leading_moves [] = []
+leading_moves (Awaits what ∷ items) = []
+leading_moves (Close c ∷ items) = Close c ∷ leading_moves items
+leading_moves (Open c ∷ items) = Open c ∷ leading_moves items
 
 -- what the first item awaits, if it awaits
 abbrev pub first_awaited : List Item → Option Awaited
@@ -29,13 +29,13 @@ closes_of None = []
 closes_of (Some c) = Close c ∷ []
 
 -- what is done from item i on, before the next awaiting item
-abbrev pub way : Setup → ℕ → List Item
-way s i = leading (drop i (agenda s))
+abbrev pub moves_from : Setup → ℕ → List Item
+moves_from s i = leading_moves (drop i (agenda s))
 
 -- the first awaiting item from item i on, or the agenda's end
-abbrev pub next_place : Setup → ℕ → Scanning
-next_place s i = record { setup = s; index = i + length (way s i) }
+abbrev pub next_place : Setup → ℕ → ScanSeen
+next_place s i = record { setup = s; index = i + length (moves_from s i) }
 
 -- what a scan awaits; nothing, where it is over
-abbrev pub awaits : Scanning → Option Awaited
+abbrev pub awaits : ScanSeen → Option Awaited
 awaits at = first_awaited (drop at.index (agenda at.setup))

@@ -4,7 +4,7 @@ use Rattle.std.specs.Prelude.{if◌then◌else◌, ◌⊎◌}
 use Rattle.std.specs.List.{list_any}
 use Rattle.sw_base.specs.Layout.{Channel, slot_at, has_meter}
 use Rattle.sw_card.specs.Account.{Account, none_closed}
-use Rattle.sw_cage.specs.Rack.{Rack, layout_of, is_closed, all_open}
+use Rattle.sw_cage.specs.Accounts.{Accounts, layout_of, is_closed, all_open}
 
 abbrev pub same_channel : Channel → Channel → Bool
 same_channel a b = (a.0 == b.0) && (a.1 == b.1)
@@ -13,7 +13,7 @@ abbrev pub is_in : List Channel → Channel → Bool
 is_in chans c = list_any (same_channel c) chans
 
 -- The channels of the list are closed, or open, and all else is as it was.
-pub record Sets (old : Rack) (chans : List Channel) (on : Bool) (new : Rack) : Type 0 where
+pub record Sets (old : Accounts) (chans : List Channel) (on : Bool) (new : Accounts) : Type 0 where
   pub rest : all_open new ≡ all_open old
   pub closed : (c : Channel) → is_closed new c ≡ (if is_in chans c then on else is_closed old c)
 
@@ -24,24 +24,24 @@ option_failed None b = false
 option_failed (Some a) None = false
 
 -- whether a card's count of failures changed
-abbrev pub any_failed : Rack → Rack → Bool
+abbrev pub any_failed : Accounts → Accounts → Bool
 any_failed (a ∷ old) (b ∷ new) = option_failed a b || any_failed old new
 any_failed [] new = false
 any_failed (a ∷ old) [] = false
 
 -- a relay card's count of failures changed
-pub record RelayFailed (old new : Rack) : Type 0 where
+pub record RelayFailed (old new : Accounts) : Type 0 where
   pub slot : ℕ
   pub relays : has_meter (layout_of old) slot ≡ false
   pub counted : option_failed (slot_at old slot) (slot_at new slot) ≡ true
 
 -- a card but for its channels' states and its count of failures
-abbrev pub option_plate : Option Account → Option Account
-option_plate None = None
-option_plate (Some a) = Some (record a { failures = 0; closed = none_closed a.closed })
+abbrev pub identity : Option Account → Option Account
+identity None = None
+identity (Some a) = Some (record a { failures = 0; closed = none_closed a.closed })
 
 -- A card call failed: the cards are the same, and nothing is closed but what was and channels of the list.
-pub record IsDisturbed (old : Rack) (chans : List Channel) (new : Rack) : Type 0 where
-  pub cards : map option_plate new ≡ map option_plate old
+pub record IsDisturbed (old : Accounts) (chans : List Channel) (new : Accounts) : Type 0 where
+  pub cards : map identity new ≡ map identity old
   pub failed : any_failed old new ≡ true
   pub within : (c : Channel) → is_closed new c ≡ true → (is_closed old c ≡ true) ⊎ (is_in chans c ≡ true)

@@ -9,13 +9,13 @@ use Rattle.sw_trigger.specs.Agenda.{agenda}
 use Rattle.sw_trigger.specs.Counts.{reads}
 use Rattle.sw_verify.specs.Channels.{Channels}
 use Rattle.sw_verify.specs.Sound.{effect, IsSound}
-use Rattle.sw_cage.specs.Rack.{is_closed}
-use Rattle.sw_cage.specs.Cage.{Scanning, CageSeen, cage_layout, ticket_of}
+use Rattle.sw_cage.specs.Accounts.{is_closed}
+use Rattle.sw_cage.specs.Cage.{ScanSeen, CageSeen, cage_layout, ticket_of}
 use Rattle.sw_cage.specs.Advance.{awaits}
 use Rattle.sw_cage.specs.declared.job.Ticket.{Ticket}
 
 -- A sound scan has done the items before this one: from some channels that it found closed it has come to these.
-pub record IsOnWay (layout : Layout) (closed : Channels) (s : Setup) (index : ℕ) : Type 0 where
+pub record HasDone (layout : Layout) (closed : Channels) (s : Setup) (index : ℕ) : Type 0 where
   pub found : Channels
   pub sound : IsSound layout found s.points (agenda s)
   pub so_far : closed ≡ effect found (take index (agenda s))
@@ -28,23 +28,23 @@ MeterStands out ticket (Some (Pause micros)) = out ≡ None
 MeterStands out ticket (Some Read) = out ≡ Some ticket
 
 -- A scan runs: it is sound for the cage's cards, stands at an item that awaits, and has made the readings before that.
-pub record IsUnderway (p : CageSeen) (at : Scanning) : Type 0 where
+pub record IsUnderway (p : CageSeen) (at : ScanSeen) : Type 0 where
   pub listed : 0 < length at.setup.list
   pub range : IsInRange at.setup
   pub measured : has_meter (cage_layout p) at.setup.meter ≡ true
-  pub way : IsOnWay (cage_layout p) (is_closed p.rack) at.setup at.index
+  pub way : HasDone (cage_layout p) (is_closed p.cards) at.setup at.index
   pub readings : length p.readings ≡ reads (take at.index (agenda at.setup))
   pub meter : MeterStands (slot_at p.out at.setup.meter) (ticket_of p.number at) (awaits at)
 
-abbrev pub IsRunning : CageSeen → Option Scanning → Type 0
+abbrev pub IsRunning : CageSeen → Option ScanSeen → Type 0
 IsRunning p None = Unit {0}
 IsRunning p (Some at) = IsUnderway p at
 
 -- All slots; a slot whose meter is out is empty; and no ticket is of a scan to come.
 pub record IsHeld (p : CageSeen) : Type 0 where
-  pub slots : length p.rack ≡ most_slots
+  pub slots : length p.cards ≡ most_slots
   pub outs : length p.out ≡ most_slots
-  pub empty : (slot : ℕ) → is_some (slot_at p.out slot) ≡ true → slot_at p.rack slot ≡ None
+  pub empty : (slot : ℕ) → is_some (slot_at p.out slot) ≡ true → slot_at p.cards slot ≡ None
   pub past : (slot : ℕ) (ticket : Ticket) → slot_at p.out slot ≡ Some ticket → ticket.scan ≤ p.number
 
 -- what is so of every cage: a scan that runs is underway
@@ -53,10 +53,10 @@ pub record IsGood (p : CageSeen) : Type 0 where
   pub running : IsRunning p p.scan
 
 -- there is room for every reading of the scan
-abbrev pub HasRoom : Option Scanning → ℕ → Type 0
+abbrev pub HasRoom : Option ScanSeen → ℕ → Type 0
 HasRoom None capacity = Unit {0}
 HasRoom (Some at) capacity = reads (agenda at.setup) ≤ capacity
 
-pub record IsKept (p : CageSeen) (capacity : ℕ) : Type 0 where
+pub record IsGoodWithRoom (p : CageSeen) (capacity : ℕ) : Type 0 where
   pub good : IsGood p
   pub room : HasRoom p.scan capacity

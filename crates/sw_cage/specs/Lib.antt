@@ -1,4 +1,4 @@
-pub mod Rack
+pub mod Accounts
 pub mod Change
 pub mod Install
 pub mod Close
@@ -8,9 +8,9 @@ pub mod Cage
 pub mod Advance
 pub mod Walk
 pub mod Work
-pub mod ScanSeen
+pub mod ScanPlace
 pub mod Good
 pub mod TakenSeen
 pub mod Takes
-pub mod Goes
+pub mod Outcome
 pub mod Moves

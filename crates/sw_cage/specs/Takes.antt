@@ -7,7 +7,7 @@ use Rattle.sw_trigger.specs.declared.layer.Awaited.{Awaited}
 use Rattle.sw_trigger.specs.declared.layer.Awaited.TheVariants.{Wait, Pause, Read}
 use Rattle.sw_trigger.specs.Settings.{Setup, layer_of}
 use Rattle.sw_trigger.specs.Counts.{is_reading}
-use Rattle.sw_cage.specs.Cage.{Scanning, CageSeen, ticket_of}
+use Rattle.sw_cage.specs.Cage.{ScanSeen, CageSeen, ticket_of}
 use Rattle.sw_cage.specs.Advance.{awaits}
 use Rattle.sw_cage.specs.declared.job.Ticket.{Ticket}
 use Rattle.sw_cage.specs.declared.taken.Happening.{Happening}
@@ -37,7 +37,7 @@ abbrev pub TakesIf : Setup → Ticket → Option Awaited → Happening → Type 
 TakesIf s present None happening = ⊥
 TakesIf s present (Some what) happening = TakesAt s present what happening
 
-abbrev pub TakesThere : ℕ → Option Scanning → Happening → Type 0
+abbrev pub TakesThere : ℕ → Option ScanSeen → Happening → Type 0
 TakesThere number None happening = ⊥
 TakesThere number (Some at) happening = TakesIf at.setup (ticket_of number at) (awaits at) happening
 
@@ -46,12 +46,12 @@ abbrev pub Takes : CageSeen → Happening → Type 0
 Takes p happening = TakesThere p.number p.scan happening
 
 -- the scan awaits the return of this slot's meter under this ticket
-pub record AwaitsReturn (number : ℕ) (at : Scanning) (slot : ℕ) (ticket : Ticket) : Type 0 where
+pub record AwaitsReturn (number : ℕ) (at : ScanSeen) (slot : ℕ) (ticket : Ticket) : Type 0 where
   pub reading : awaits at ≡ Some Read
   pub slot_is : at.setup.meter ≡ slot
   pub ticket_is : ticket_of number at ≡ ticket
 
-abbrev pub TakesReturnThere : ℕ → Option Scanning → ℕ → Ticket → Type 0
+abbrev pub TakesReturnThere : ℕ → Option ScanSeen → ℕ → Ticket → Type 0
 TakesReturnThere number None slot ticket = ⊥
 TakesReturnThere number (Some at) slot ticket = AwaitsReturn number at slot ticket
 
@@ -60,11 +60,11 @@ abbrev pub TakesReturn : CageSeen → ℕ → Ticket → Type 0
 TakesReturn p slot ticket = TakesReturnThere p.number p.scan slot ticket
 
 -- a scan runs and awaits a trigger or the end of a pause
-abbrev pub AwaitsOther : Option Scanning → Type 0
+abbrev pub AwaitsOther : Option ScanSeen → Type 0
 AwaitsOther None = ⊥
 AwaitsOther (Some at) = (what : Awaited) × ((awaits at ≡ Some what) × (is_reading what ≡ 0))
 
 -- what the scan awaits, if one runs
-abbrev pub awaited_now : Option Scanning → Option Awaited
+abbrev pub awaited_now : Option ScanSeen → Option Awaited
 awaited_now None = None
 awaited_now (Some at) = awaits at

@@ -5,18 +5,18 @@ ghost use Rattle.std.specs.Prelude.{IfOk, IfErr, slice_set, is_some, ◌↔◌, 
 ghost use Rattle.sw_base.specs.Limits.{most_slots};
 ghost use Rattle.sw_base.specs.Layout.{Channel, slot_at, is_present, IsClash, IsExclusive};
 ghost use Rattle.sw_card.specs.Account.{closed_at};
-ghost use Rattle.sw_cage.specs.Rack.{layout_of, is_closed, with_chan, option_rest, all_open, IsRackFault};
+ghost use Rattle.sw_cage.specs.Accounts.{layout_of, is_closed, with_chan, option_rest, all_open, IsChannelFault};
 ghost use Rattle.sw_cage.specs.Change.{Sets, IsDisturbed, any_failed};
 ghost use Rattle.sw_cage.specs.Install.{CanInstall, RefusesInstall, RefusesEject, stopped, without_card};
 ghost use Rattle.sw_cage.specs.Close.{all_present, CanClose, RefusesClose};
 ghost use Rattle.sw_cage.specs.Channels.{closed_list};
-ghost use Rattle.sw_cage.specs.Cage.{empty_cage, with_rack, fall, cage_layout};
+ghost use Rattle.sw_cage.specs.Cage.{empty_cage, with_cards, safe_state, cage_layout};
 ghost use Rattle.sw_verify.specs.Check.{IsReady};
 ghost use Rattle.sw_cage.specs.Work.{IsTold};
 ghost use Rattle.sw_cage.specs.Good.{IsGood};
 ghost use Rattle.sw_cage.specs.TakenSeen.{taken_seen, tells_fault, SaysIgnored};
 ghost use Rattle.sw_cage.specs.Takes.{Takes, TakesReturn, AwaitsOther, awaited_now};
-ghost use Rattle.sw_cage.specs.Goes.{Goes, GoesPast, Counts, begun, with_back, readings_with};
+ghost use Rattle.sw_cage.specs.Outcome.{Advances, AdvancesPast, Counts, begun, with_back, readings_with};
 
 use crate::job::{Finished, Ticket};
 use crate::refusal::{CloseRefusal, EjectRefusal, InstallRefusal};
@@ -47,20 +47,20 @@ pub struct Cage<R: Relay, M: Meter> {
 impl<R: Relay, M: Meter> Model for Cage<R, M> {
     ghost use Rattle.std.specs.Prelude.{vec_capacity};
     ghost use Rattle.sw_cage.specs.Cage.{CageSeen};
-    ghost use Rattle.sw_cage.specs.Good.{IsKept};
+    ghost use Rattle.sw_cage.specs.Good.{IsGoodWithRoom};
 
     ghost Value = { CageSeen };
 
     ghost view = { λ c. record {
-      rack = c.slots;
+      cards = c.slots;
       out = c.out;
       number = c.number;
       scan = c.scan;
       readings = c.readings.items;
     } };
 
-    ghost invariant = { λ c. IsKept (record {
-      rack = c.slots;
+    ghost invariant = { λ c. IsGoodWithRoom (record {
+      cards = c.slots;
       out = c.out;
       number = c.number;
       scan = c.scan;
@@ -96,8 +96,8 @@ impl<R: Relay, M: Meter> Cage<R, M> {
         card: Card<R, M>,
     ) -> Result<(), (InstallRefusal, Card<R, M>)>
         ensures ok { OnOk result (self.new ≡
-            record self.old { rack = slice_set self.old.rack (slot - 1) (Some card.1) }) }
-        ensures accepted { OnOk result (CanInstall self.old.rack slot card.1) }
+            record self.old { cards = slice_set self.old.cards (slot - 1) (Some card.1) }) }
+        ensures accepted { OnOk result (CanInstall self.old.cards slot card.1) }
         ensures free { OnOk result ((self.old.scan ≡ None) × (slot_at self.old.out slot ≡ None)) }
         ensures refused { IfErr result (λ refusal. RefusesInstall self.old slot card.1 refusal.0) }
         ensures err { OnErr result (self.new ≡ self.old) }
@@ -114,7 +114,7 @@ impl<R: Relay, M: Meter> Cage<R, M> {
 
     /// Opens the card's relays and takes it out; a scan that runs is ended first, as by [`Cage::abort`].
     pub fn eject(&mut self, slot: u8) -> Result<Card<R, M>, EjectRefusal>
-        ensures ok { IfOk result (λ card. option_rest (slot_at self.old.rack slot) ≡ Some card.1) }
+        ensures ok { IfOk result (λ card. option_rest (slot_at self.old.cards slot) ≡ Some card.1) }
         ensures open { IfOk result (λ card. (ch : ℕ) → closed_at card.1.closed ch ≡ false) }
         ensures taken { OnOk result (self.new ≡ without_card (stopped self.old) slot) }
         ensures home { OnOk result (slot_at self.old.out slot ≡ None) }
@@ -137,8 +137,8 @@ impl<R: Relay, M: Meter> Cage<R, M> {
     fn take_card(&mut self, slot: u8) -> Result<Card<R, M>, EjectRefusal>
         requires idle { self.old.scan ≡ None }
         requires home { slot_at self.old.out slot ≡ None }
-        requires card { is_some (slot_at self.old.rack slot) ≡ true }
-        ensures card { IfOk result (λ card. option_rest (slot_at self.old.rack slot) ≡ Some card.1) }
+        requires card { is_some (slot_at self.old.cards slot) ≡ true }
+        ensures card { IfOk result (λ card. option_rest (slot_at self.old.cards slot) ≡ Some card.1) }
         ensures open { IfOk result (λ card. (ch : ℕ) → closed_at card.1.closed ch ≡ false) }
         ensures taken { self.new ≡ without_card self.old slot }
         ensures there { IsOk result }
@@ -148,7 +148,7 @@ impl<R: Relay, M: Meter> Cage<R, M> {
 
     /// Ends the scan that runs, if one does, and opens every relay of every card. It cannot fail.
     pub fn abort(&mut self)
-        ensures { self.new ≡ fall self.old }
+        ensures { self.new ≡ safe_state self.old }
     {
         self.scan = None;
         self.open_all();
@@ -157,14 +157,14 @@ impl<R: Relay, M: Meter> Cage<R, M> {
     /// Closes one channel that clashes with no closed one, over all slots. No scan may run.
     pub fn close(&mut self, chan: Chan) -> Result<(), CardFault>
         requires idle { self.old.scan ≡ None }
-        requires present { is_present (layout_of self.old.rack) chan ≡ true }
-        requires open { is_closed self.old.rack chan ≡ false }
-        requires apart { (c : Channel) → is_closed self.old.rack c ≡ true
-            → IsClash (layout_of self.old.rack) chan c → ⊥ }
-        ensures ok { OnOk result (Sets self.old.rack (chan ∷ []) true self.new.rack) }
-        ensures err { OnErr result (IsRackFault self.old.rack chan (with_chan self.old.rack chan true) self.new.rack) }
-        ensures disturbed { OnErr result (IsDisturbed self.old.rack (chan ∷ []) self.new.rack) }
-        ensures rest { self.new ≡ with_rack self.old self.new.rack }
+        requires present { is_present (layout_of self.old.cards) chan ≡ true }
+        requires open { is_closed self.old.cards chan ≡ false }
+        requires apart { (c : Channel) → is_closed self.old.cards c ≡ true
+            → IsClash (layout_of self.old.cards) chan c → ⊥ }
+        ensures ok { OnOk result (Sets self.old.cards (chan ∷ []) true self.new.cards) }
+        ensures err { OnErr result (IsChannelFault self.old.cards chan (with_chan self.old.cards chan true) self.new.cards) }
+        ensures disturbed { OnErr result (IsDisturbed self.old.cards (chan ∷ []) self.new.cards) }
+        ensures rest { self.new ≡ with_cards self.old self.new.cards }
     {
         self.slots.close(chan)
     }
@@ -172,11 +172,11 @@ impl<R: Relay, M: Meter> Cage<R, M> {
     /// Opens one channel. No scan may run.
     pub fn open(&mut self, chan: Chan) -> Result<(), CardFault>
         requires idle { self.old.scan ≡ None }
-        requires closed { is_closed self.old.rack chan ≡ true }
-        ensures ok { OnOk result (Sets self.old.rack (chan ∷ []) false self.new.rack) }
-        ensures err { OnErr result (IsRackFault self.old.rack chan self.old.rack self.new.rack) }
-        ensures disturbed { OnErr result (IsDisturbed self.old.rack (chan ∷ []) self.new.rack) }
-        ensures rest { self.new ≡ with_rack self.old self.new.rack }
+        requires closed { is_closed self.old.cards chan ≡ true }
+        ensures ok { OnOk result (Sets self.old.cards (chan ∷ []) false self.new.cards) }
+        ensures err { OnErr result (IsChannelFault self.old.cards chan self.old.cards self.new.cards) }
+        ensures disturbed { OnErr result (IsDisturbed self.old.cards (chan ∷ []) self.new.cards) }
+        ensures rest { self.new ≡ with_cards self.old self.new.cards }
     {
         self.slots.open(chan)
     }
@@ -184,65 +184,65 @@ impl<R: Relay, M: Meter> Cage<R, M> {
     /// Opens every relay of every card. It cannot fail. No scan may run.
     pub fn open_all(&mut self)
         requires idle { self.old.scan ≡ None }
-        ensures { self.new ≡ record self.old { rack = all_open self.old.rack } }
+        ensures { self.new ≡ record self.old { cards = all_open self.old.cards } }
     {
         self.slots.open_all();
     }
 
     /// Whether the cage has the channel.
     pub fn is_present(&self, chan: Chan) -> bool
-        ensures { result ≡ is_present (layout_of self.now.rack) chan }
+        ensures { result ≡ is_present (layout_of self.now.cards) chan }
     {
         self.slots.is_present(chan)
     }
 
     /// Whether the cage has every channel of the list.
     pub fn all_present(&self, chans: &[Chan]) -> bool
-        ensures { result ≡ all_present (layout_of self.now.rack) chans.now }
+        ensures { result ≡ all_present (layout_of self.now.cards) chans.now }
     {
         self.slots.all_present(chans)
     }
 
     /// Whether the channel is closed.
     pub fn is_closed(&self, chan: Chan) -> bool
-        ensures { result ≡ is_closed self.now.rack chan }
+        ensures { result ≡ is_closed self.now.cards chan }
     {
         self.slots.is_closed(chan)
     }
 
     /// Whether the channels may be closed together, beside what is closed.
     pub fn judge(&self, chans: &[Chan]) -> Result<(), CloseRefusal>
-        ensures ok { OnOk result (CanClose (layout_of self.now.rack) (is_closed self.now.rack) chans.now) }
+        ensures ok { OnOk result (CanClose (layout_of self.now.cards) (is_closed self.now.cards) chans.now) }
         ensures err { IfErr result (λ refusal.
-            RefusesClose (layout_of self.now.rack) (is_closed self.now.rack) chans.now refusal) }
+            RefusesClose (layout_of self.now.cards) (is_closed self.now.cards) chans.now refusal) }
     {
         self.slots.judge(chans)
     }
 
     /// Closes the channels that are open, in order. It stops at the first fault. No scan may run.
-    pub fn close_all(&mut self, chans: &[Chan]) -> Result<(), CardFault>
+    pub fn close_listed(&mut self, chans: &[Chan]) -> Result<(), CardFault>
         requires idle { self.old.scan ≡ None }
-        requires apart { CanClose (layout_of self.old.rack) (is_closed self.old.rack) chans.now }
-        ensures ok { OnOk result (Sets self.old.rack chans.now true self.new.rack) }
-        ensures err { OnErr result (IsDisturbed self.old.rack chans.now self.new.rack) }
-        ensures rest { self.new ≡ with_rack self.old self.new.rack }
+        requires apart { CanClose (layout_of self.old.cards) (is_closed self.old.cards) chans.now }
+        ensures ok { OnOk result (Sets self.old.cards chans.now true self.new.cards) }
+        ensures err { OnErr result (IsDisturbed self.old.cards chans.now self.new.cards) }
+        ensures rest { self.new ≡ with_cards self.old self.new.cards }
     {
-        self.slots.close_all(chans)
+        self.slots.close_listed(chans)
     }
 
     /// Opens the channels that are closed, in order. It stops at the first fault. No scan may run.
     pub fn open_listed(&mut self, chans: &[Chan]) -> Result<(), CardFault>
         requires idle { self.old.scan ≡ None }
-        ensures ok { OnOk result (Sets self.old.rack chans.now false self.new.rack) }
-        ensures err { OnErr result (IsDisturbed self.old.rack chans.now self.new.rack) }
-        ensures rest { self.new ≡ with_rack self.old self.new.rack }
+        ensures ok { OnOk result (Sets self.old.cards chans.now false self.new.cards) }
+        ensures err { OnErr result (IsDisturbed self.old.cards chans.now self.new.cards) }
+        ensures rest { self.new ≡ with_cards self.old self.new.cards }
     {
         self.slots.open_listed(chans)
     }
 
     /// The closed channels, by slot and channel.
     pub fn closed_chans(&self, alloc: Global) -> Result<Vec<Chan>, AllocError>
-        ensures { IfOk result (λ chans. chans.items ≡ closed_list self.now.rack) }
+        ensures { IfOk result (λ chans. chans.items ≡ closed_list self.now.cards) }
     {
         self.slots.closed_chans(alloc)
     }
@@ -255,31 +255,31 @@ impl<R: Relay, M: Meter> Cage<R, M> {
         let _ = &self.slots;
         let mut bays = Vec::with_capacity(alloc, PLACES)?;
         for before in 0..SLOTS {
-            bays.push(self.bay(alloc, before + 1)?)?;
+            bays.push(self.contents(alloc, before + 1)?)?;
         }
         Ok(Layout::new(bays))
     }
 
     /// What the slot holds, where a meter that is out counts as the slot's.
-    fn bay(&self, alloc: Global, slot: u8) -> Result<Slot, AllocError>
+    fn contents(&self, alloc: Global, slot: u8) -> Result<Slot, AllocError>
         requires { (1 ≤ slot) × (slot ≤ most_slots) }
-        ensures { IfOk result (λ bay. bay ≡ slot_at (cage_layout self.now) slot) }
+        ensures { IfOk result (λ contents. contents ≡ slot_at (cage_layout self.now) slot) }
     {
         if self.out.at(slot).is_some() {
             return Ok(Slot::meter());
         }
-        self.slots.bay(alloc, slot)
+        self.slots.contents(alloc, slot)
     }
 
     /// Whether the slot holds what the layout's slot tells, where a meter that is out counts as the slot's.
-    fn has_bay(&self, slot: u8, bay: &Slot) -> bool
+    fn has_contents(&self, slot: u8, contents: &Slot) -> bool
         requires { (1 ≤ slot) × (slot ≤ most_slots) }
-        ensures { IsTrue result ↔ (bay.now ≡ slot_at (cage_layout self.now) slot) }
+        ensures { IsTrue result ↔ (contents.now ≡ slot_at (cage_layout self.now) slot) }
     {
         if self.out.at(slot).is_some() {
-            return bay.is_meter();
+            return contents.is_meter();
         }
-        self.slots.is_as(slot, bay)
+        self.slots.is_as(slot, contents)
     }
 
     /// Whether the layout is that of the cards, as [`Cage::layout`] tells it. It takes no memory.
@@ -293,7 +293,7 @@ impl<R: Relay, M: Meter> Cage<R, M> {
             return false;
         }
         for before in 0..SLOTS {
-            if !self.has_bay(before + 1, &bays[before as usize]) {
+            if !self.has_contents(before + 1, &bays[before as usize]) {
                 return false;
             }
         }
@@ -302,7 +302,7 @@ impl<R: Relay, M: Meter> Cage<R, M> {
 
     /// Whether these are the closed channels, as [`Cage::closed_chans`] tells them. It takes no memory.
     pub fn has_closed(&self, chans: &[Chan]) -> bool
-        ensures { IsTrue result ↔ (chans.now ≡ closed_list self.now.rack) }
+        ensures { IsTrue result ↔ (chans.now ≡ closed_list self.now.cards) }
     {
         self.slots.has_closed(chans)
     }
@@ -339,7 +339,7 @@ impl<R: Relay, M: Meter> Cage<R, M> {
     /// A law: what is so of every cage. It costs nothing.
     pub fn stays_good(&self)
         ensures good { IsGood self.now }
-        ensures exclusive { IsExclusive (layout_of self.now.rack) (is_closed self.now.rack) }
+        ensures exclusive { IsExclusive (layout_of self.now.cards) (is_closed self.now.cards) }
     {
         self.slots.stay_safe();
     }
@@ -368,10 +368,10 @@ impl<R: Relay, M: Meter> Cage<R, M> {
         requires number { self.old.number + 1 < 2 ^ 64 }
         requires home { slot_at self.old.out plan.settings.meter ≡ None }
         requires layout { cage_layout self.old ≡ plan.layout }
-        requires closed { closed_list self.old.rack ≡ plan.closed }
-        ensures ok { IfOk result (λ taken. Goes (begun self.old) plan.settings 0 (taken_seen taken) self.new) }
+        requires closed { closed_list self.old.cards ≡ plan.closed }
+        ensures ok { IfOk result (λ taken. Advances (begun self.old) plan.settings 0 (taken_seen taken) self.new) }
         ensures failed { IfOk result (λ taken.
-            tells_fault (taken_seen taken) ≡ any_failed self.old.rack self.new.rack) }
+            tells_fault (taken_seen taken) ≡ any_failed self.old.cards self.new.cards) }
         ensures err { OnErr result (self.new ≡ self.old) }
     {
         self.slots.stay_safe();
@@ -388,9 +388,9 @@ impl<R: Relay, M: Meter> Cage<R, M> {
     /// Tells the scan that runs of a happening. One that it does not take changes nothing.
     pub fn take(&mut self, happening: Happening) -> Taken<M>
         ensures ignored { (Takes self.old happening → ⊥) → (taken_seen result ≡ SaysIgnored) × (self.new ≡ self.old) }
-        ensures taken { Takes self.old happening → GoesPast self.old (taken_seen result) self.new }
+        ensures taken { Takes self.old happening → AdvancesPast self.old (taken_seen result) self.new }
         ensures takes { (taken_seen result ≡ SaysIgnored → ⊥) → Takes self.old happening }
-        ensures failed { tells_fault (taken_seen result) ≡ any_failed self.old.rack self.new.rack }
+        ensures failed { tells_fault (taken_seen result) ≡ any_failed self.old.cards self.new.cards }
         ensures readings { self.new.readings ≡ self.old.readings }
     {
         if !self.takes(happening) {
@@ -411,7 +411,7 @@ impl<R: Relay, M: Meter> Cage<R, M> {
     /// Goes past what the scan awaits, which is no reading.
     fn go_past(&mut self) -> Taken<M>
         requires { AwaitsOther self.old.scan }
-        ensures { GoesPast self.old (taken_seen result) self.new }
+        ensures { AdvancesPast self.old (taken_seen result) self.new }
     {
         let Some(mut scan) = self.scan.take() else {
             unreachable!();
@@ -436,7 +436,7 @@ impl<R: Relay, M: Meter> Cage<R, M> {
             → TakesReturn self.old finished.1.slot finished.1.ticket) }
         ensures failed { IfOk result (λ taken. TakesReturn self.old finished.1.slot finished.1.ticket
             → tells_fault (taken_seen taken)
-            ≡ (is_err finished.1.outcome || any_failed (with_back self.old finished.1).rack self.new.rack)) }
+            ≡ (is_err finished.1.outcome || any_failed (with_back self.old finished.1).cards self.new.cards)) }
         ensures readings { IfOk result (λ taken. TakesReturn self.old finished.1.slot finished.1.ticket
             → self.new.readings ≡ readings_with self.old.readings finished.1.outcome) }
         ensures told { IsTold finished.1 }

@@ -115,7 +115,7 @@ fn close<R: Relay, M: Meter>(cage: &mut Cage<R, M>, chans: &[Chan]) -> bool {
     if cage.is_running() || cage.judge(chans).is_err() {
         return false;
     }
-    cage.close_all(chans).is_ok()
+    cage.close_listed(chans).is_ok()
 }
 
 /// Begins a scan of these settings.

@@ -4,12 +4,12 @@ ghost use Rattle.std.specs.Prelude.{◌≡◌, ◌-◌, ◌≤◌, true, OnOk, O
 ghost use Rattle.sw_base.specs.Limits.{most_slots};
 ghost use Rattle.sw_base.specs.Layout.{has_meter};
 ghost use Rattle.sw_card.specs.Account.{of_meter};
-ghost use Rattle.sw_cage.specs.Rack.{layout_of, is_closed};
+ghost use Rattle.sw_cage.specs.Accounts.{layout_of, is_closed};
 ghost use Rattle.sw_cage.specs.Advance.{opens_of, closes_of};
 ghost use Rattle.sw_cage.specs.Walk.{moves_of};
-ghost use Rattle.sw_cage.specs.Moves.{MayOpen, MayClose, MayMove, IsBroken};
+ghost use Rattle.sw_cage.specs.Moves.{MayOpenNext, MayCloseNext, MayMove, RelayCallFailed};
 ghost use Rattle.sw_cage.specs.TakenSeen.{taken_seen};
-ghost use Rattle.sw_cage.specs.Goes.{Moved, IsSent, Arrives, Runs};
+ghost use Rattle.sw_cage.specs.Outcome.{Moved, IsSent, Arrives, AdvancesOrFails};
 
 use crate::job::{Job, Ticket};
 use crate::scan::Scan;
@@ -32,8 +32,8 @@ pub(crate) fn go_on<R: Relay, M: Meter>(
     requires slot_in { (1 ≤ scan.setup.meter) × (scan.setup.meter ≤ most_slots) }
     requires meter { has_meter (layout_of slots.old) scan.setup.meter ≡ true }
     requires may { MayMove (layout_of slots.old) (is_closed slots.old) moves.to_open moves.to_close }
-    ensures { Runs (record { rack = slots.old; out = out.old }) number (moves_of moves) scan (taken_seen result.1)
-        (record { rack = slots.new; out = out.new }) result.0 }
+    ensures { AdvancesOrFails (record { cards = slots.old; out = out.old }) number (moves_of moves) scan (taken_seen result.1)
+        (record { cards = slots.new; out = out.new }) result.0 }
 {
     match make_moves(slots, moves) {
         Ok(()) => return arrive(slots, out, scan, number),
@@ -48,7 +48,7 @@ pub(crate) fn go_on<R: Relay, M: Meter>(
 fn make_moves<R: Relay, M: Meter>(slots: &mut Slots<R, M>, moves: Moves) -> Result<(), CardFault>
     requires { MayMove (layout_of slots.old) (is_closed slots.old) moves.to_open moves.to_close }
     ensures ok { OnOk result (Moved slots.old (moves_of moves) slots.new) }
-    ensures err { OnErr result (IsBroken slots.old slots.new) }
+    ensures err { OnErr result (RelayCallFailed slots.old slots.new) }
 {
     open_first(slots, moves.to_open)?;
     close_then(slots, moves.to_close)
@@ -58,9 +58,9 @@ fn open_first<R: Relay, M: Meter>(
     slots: &mut Slots<R, M>,
     chan: Option<Chan>,
 ) -> Result<(), CardFault>
-    requires { MayOpen (is_closed slots.old) chan }
+    requires { MayOpenNext (is_closed slots.old) chan }
     ensures ok { OnOk result (Moved slots.old (opens_of chan) slots.new) }
-    ensures err { OnErr result (IsBroken slots.old slots.new) }
+    ensures err { OnErr result (RelayCallFailed slots.old slots.new) }
 {
     slots.stay_safe();
     match chan {
@@ -73,9 +73,9 @@ fn close_then<R: Relay, M: Meter>(
     slots: &mut Slots<R, M>,
     chan: Option<Chan>,
 ) -> Result<(), CardFault>
-    requires { MayClose (layout_of slots.old) (is_closed slots.old) chan }
+    requires { MayCloseNext (layout_of slots.old) (is_closed slots.old) chan }
     ensures ok { OnOk result (Moved slots.old (closes_of chan) slots.new) }
-    ensures err { OnErr result (IsBroken slots.old slots.new) }
+    ensures err { OnErr result (RelayCallFailed slots.old slots.new) }
 {
     match chan {
         Some(chan) => slots.close(chan),
@@ -92,8 +92,8 @@ fn arrive<R: Relay, M: Meter>(
 ) -> (Option<Scan>, Taken<M>)
     requires slot_in { (1 ≤ scan.setup.meter) × (scan.setup.meter ≤ most_slots) }
     requires meter { has_meter (layout_of slots.old) scan.setup.meter ≡ true }
-    ensures { Arrives (record { rack = slots.old; out = out.old }) number scan (taken_seen result.1)
-        (record { rack = slots.new; out = out.new }) result.0 }
+    ensures { Arrives (record { cards = slots.old; out = out.old }) number scan (taken_seen result.1)
+        (record { cards = slots.new; out = out.new }) result.0 }
 {
     let ticket = Ticket {
         scan: number,
@@ -119,8 +119,8 @@ fn send_out<R: Relay, M: Meter>(
 ) -> Job<M>
     requires slot_in { (1 ≤ slot) × (slot ≤ most_slots) }
     requires meter { has_meter (layout_of slots.old) slot ≡ true }
-    ensures { IsSent (record { rack = slots.old; out = out.old }) slot ticket result.1
-        (record { rack = slots.new; out = out.new }) }
+    ensures { IsSent (record { cards = slots.old; out = out.old }) slot ticket result.1
+        (record { cards = slots.new; out = out.new }) }
 {
     let meter = slots.take_meter(slot);
     out.set(slot, Some(ticket));
@@ -139,7 +139,7 @@ pub(crate) fn take_in<R: Relay, M: Meter>(
     meter: MeterCard<M>,
 )
     requires { (1 ≤ slot) × (slot ≤ most_slots) }
-    ensures rack { slots.new ≡ slice_set slots.old (slot - 1) (Some (of_meter meter.1)) }
+    ensures cards { slots.new ≡ slice_set slots.old (slot - 1) (Some (of_meter meter.1)) }
     ensures out { out.new ≡ slice_set out.old (slot - 1) None }
 {
     slots.put_meter(slot, meter);

@@ -2,7 +2,7 @@
 
 ghost use Rattle.std.specs.Prelude.{◌≡◌, ℕ, ◌+◌, ◌<◌, ◌≤◌, ◌++◌, length, None, ◌↔◌, IsTrue};
 ghost use Rattle.sw_trigger.specs.Settings.{layer_of};
-ghost use Rattle.sw_cage.specs.Advance.{awaits, way, next_place};
+ghost use Rattle.sw_cage.specs.Advance.{awaits, moves_from, next_place};
 ghost use Rattle.sw_cage.specs.Cage.{ticket_of};
 ghost use Rattle.sw_cage.specs.Walk.{moves_of};
 ghost use Rattle.sw_cage.specs.Takes.{TakesIf, TakesWait, TakesPause, AwaitsReturn};
@@ -29,13 +29,13 @@ pub(crate) struct Scan {
 }
 
 impl Model for Scan {
-    ghost use Rattle.sw_cage.specs.Cage.{Scanning};
+    ghost use Rattle.sw_cage.specs.Cage.{ScanSeen};
 
-    ghost Value = { Scanning };
+    ghost Value = { ScanSeen };
 
-    ghost use Rattle.sw_cage.specs.ScanSeen.{place_of, IsPlaced};
+    ghost use Rattle.sw_cage.specs.ScanPlace.{scan_seen, IsPlaced};
 
-    ghost view = { place_of };
+    ghost view = { scan_seen };
 
     ghost invariant = { IsPlaced };
 }
@@ -45,7 +45,7 @@ impl Scan {
     pub(crate) fn begin(settings: Settings) -> (Scan, Moves)
         requires { 0 < length settings.list }
         ensures scan { result.0 ≡ next_place settings 0 }
-        ensures moves { moves_of result.1 ≡ way settings 0 }
+        ensures moves { moves_of result.1 ≡ moves_from settings 0 }
     {
         let step = first(&settings);
         let index = count(step.moves);
@@ -71,7 +71,7 @@ impl Scan {
     pub(crate) fn advance(&mut self) -> Moves
         requires { awaits self.old ≡ None → ⊥ }
         ensures scan { self.new ≡ next_place self.old.setup (self.old.index + 1) }
-        ensures moves { moves_of result ≡ way self.old.setup (self.old.index + 1) }
+        ensures moves { moves_of result ≡ moves_from self.old.setup (self.old.index + 1) }
     {
         match &self.walk {
             Some(walk) => {

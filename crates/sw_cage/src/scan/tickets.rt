@@ -38,7 +38,7 @@ impl Tickets {
     }
 
     /// The ticket under which the slot's meter is out.
-    #[tactic(auto, using(crate::proofs::Racks::slot_past))]
+    #[tactic(auto, using(crate::proofs::SlotChangeLemmas::slot_past))]
     pub(crate) fn at(&self, slot: u8) -> Option<Ticket>
         ensures { result ≡ slot_at self.now slot }
     {

@@ -74,7 +74,7 @@ pub(crate) fn first(settings: &Settings) -> Step
 }
 
 /// The way from an awaiting item to the next.
-#[tactic(auto, using(crate::proofs::Walks::repeated_then))]
+#[tactic(auto, using(crate::proofs::TurnLemmas::repeated_then))]
 pub(crate) fn next(settings: &Settings, walk: &Walk) -> Step
     requires { 0 < length settings.now.list }
     ensures { rest_of settings.now walk.now ≡ Awaits (awaited_of settings.now walk.now)
@@ -162,7 +162,7 @@ fn leave(settings: &Settings, walk: &Walk) -> Step
 }
 
 /// On from a pass that is over: to the next one, or to a further turn of an ARM layer.
-#[tactic(auto, using(crate::proofs::Walks::passes_over, crate::proofs::Walks::turn_over))]
+#[tactic(auto, using(crate::proofs::TurnLemmas::passes_over, crate::proofs::TurnLemmas::turn_over))]
 fn go_on(settings: &Settings, walk: &Walk) -> Step
     requires { 0 < length settings.now.list }
     ensures way { after_pass settings.now walk.now.arm1_left walk.now.arm2_left walk.now.pass ≡ moves_of result.moves
@@ -185,7 +185,7 @@ fn go_on(settings: &Settings, walk: &Walk) -> Step
 }
 
 /// Into a turn of ARM layer 1, with so many further ones.
-#[tactic(auto, using(crate::proofs::Walks::repeated_then))]
+#[tactic(auto, using(crate::proofs::TurnLemmas::repeated_then))]
 fn enter_arm1(settings: &Settings, arm1_left: u32) -> Step
     requires { 0 < length settings.now.list }
     ensures way { arm1_turn settings.now ++ after_arm2 settings.now arm1_left ≡ moves_of result.moves
@@ -226,7 +226,7 @@ fn enter_arm2(settings: &Settings, arm1_left: u32, arm2_left: u32) -> Step
 }
 
 /// Into a pass.
-#[tactic(auto, using(crate::proofs::Walks::passes_then))]
+#[tactic(auto, using(crate::proofs::TurnLemmas::passes_then))]
 fn enter_pass(settings: &Settings, arm1_left: u32, arm2_left: u32, pass: u32) -> Step
     requires listed { 0 < length settings.now.list }
     requires within { pass < settings.now.trigger.count }

@@ -7,12 +7,12 @@ ghost use Rattle.std.specs.List.{filter};
 ghost use Rattle.sw_base.specs.Limits.{most_slots, most_channels};
 ghost use Rattle.sw_base.specs.Layout.{Channel, slot_at, is_present, group_of, IsClash, has_meter};
 ghost use Rattle.sw_card.specs.Account.{closed_at, of_meter};
-ghost use Rattle.sw_cage.specs.Rack.{Rack, rack_of, layout_of, is_closed, IsSafe, with_chan, option_rest};
-ghost use Rattle.sw_cage.specs.Rack.{all_open, IsRackFault};
+ghost use Rattle.sw_cage.specs.Accounts.{Accounts, accounts_of, layout_of, is_closed, AreSafe, with_chan, option_rest};
+ghost use Rattle.sw_cage.specs.Accounts.{all_open, IsChannelFault};
 ghost use Rattle.sw_cage.specs.Change.{Sets, IsDisturbed};
 ghost use Rattle.sw_cage.specs.Install.{CanInstall, SlotsRefuseInstall, SlotsRefuseEject};
 ghost use Rattle.sw_cage.specs.Close.{closed_with, HasClash, all_present, CanClose, RefusesClose};
-ghost use Rattle.sw_cage.specs.Claims.{Holds, ClosedBefore};
+ghost use Rattle.sw_cage.specs.Claims.{IndexesClaims, ClosedBefore};
 ghost use Rattle.sw_cage.specs.Channels.{row, rows, closed_list};
 
 mod claims;
@@ -36,11 +36,11 @@ pub(crate) struct Slots<R: Relay, M: Meter> {
 }
 
 impl<R: Relay, M: Meter> Model for Slots<R, M> {
-    ghost Value = { Rack };
+    ghost Value = { Accounts };
 
-    ghost view = { λ c. rack_of c.slots.items };
+    ghost view = { λ c. accounts_of c.slots.items };
 
-    ghost invariant = { λ c. IsSafe (rack_of c.slots.items) };
+    ghost invariant = { λ c. AreSafe (accounts_of c.slots.items) };
 }
 
 impl<R: Relay, M: Meter> Slots<R, M> {
@@ -110,7 +110,7 @@ impl<R: Relay, M: Meter> Slots<R, M> {
         requires open { is_closed self.old chan ≡ false }
         requires apart { (c : Channel) → is_closed self.old c ≡ true → IsClash (layout_of self.old) chan c → ⊥ }
         ensures ok { OnOk result (Sets self.old (chan ∷ []) true self.new) }
-        ensures err { OnErr result (IsRackFault self.old chan (with_chan self.old chan true) self.new) }
+        ensures err { OnErr result (IsChannelFault self.old chan (with_chan self.old chan true) self.new) }
         ensures disturbed { OnErr result (IsDisturbed self.old (chan ∷ []) self.new) }
     {
         slot::close_in(&mut self.slots[chan.slot() as usize - 1], chan.ch())
@@ -120,7 +120,7 @@ impl<R: Relay, M: Meter> Slots<R, M> {
     pub(crate) fn open(&mut self, chan: Chan) -> Result<(), CardFault>
         requires { is_closed self.old chan ≡ true }
         ensures ok { OnOk result (Sets self.old (chan ∷ []) false self.new) }
-        ensures err { OnErr result (IsRackFault self.old chan self.old self.new) }
+        ensures err { OnErr result (IsChannelFault self.old chan self.old self.new) }
         ensures disturbed { OnErr result (IsDisturbed self.old (chan ∷ []) self.new) }
     {
         slot::open_in(&mut self.slots[chan.slot() as usize - 1], chan.ch())
@@ -163,7 +163,7 @@ impl<R: Relay, M: Meter> Slots<R, M> {
     }
 
     /// Closes the channels that are open, in order.
-    pub(crate) fn close_all(&mut self, chans: &[Chan]) -> Result<(), CardFault>
+    pub(crate) fn close_listed(&mut self, chans: &[Chan]) -> Result<(), CardFault>
         requires { CanClose (layout_of self.old) (is_closed self.old) chans.now }
         ensures ok { OnOk result (Sets self.old chans.now true self.new) }
         ensures err { OnErr result (IsDisturbed self.old chans.now self.new) }
@@ -192,8 +192,8 @@ impl<R: Relay, M: Meter> Slots<R, M> {
     /// Lets each closed channel of the slot claim its group, unless two of one group are closed.
     fn claim_slot(&self, slot: u8, claims: &mut Claims) -> bool
         requires slot_in { (1 ≤ slot) × (slot ≤ most_slots) }
-        requires held { Holds (layout_of self.now) (ClosedBefore self.now slot 0) claims.old }
-        ensures claimed { result ≡ true → Holds (layout_of self.now) (ClosedBefore self.now (slot + 1) 0) claims.new }
+        requires held { IndexesClaims (layout_of self.now) (ClosedBefore self.now slot 0) claims.old }
+        ensures claimed { result ≡ true → IndexesClaims (layout_of self.now) (ClosedBefore self.now (slot + 1) 0) claims.new }
         ensures clash { result ≡ false → HasClash (layout_of self.now) (is_closed self.now) }
     {
         let Some(card) = &self.slots[slot as usize - 1] else {
@@ -212,8 +212,8 @@ impl<R: Relay, M: Meter> Slots<R, M> {
 
     /// Lets each closed channel claim its group, unless two of one group are closed.
     fn claim_closed(&self, claims: &mut Claims) -> bool
-        requires { Holds (layout_of self.now) (ClosedBefore self.now 1 0) claims.old }
-        ensures claimed { result ≡ true → Holds (layout_of self.now) (λ c. is_closed self.now c ≡ true) claims.new }
+        requires { IndexesClaims (layout_of self.now) (ClosedBefore self.now 1 0) claims.old }
+        ensures claimed { result ≡ true → IndexesClaims (layout_of self.now) (λ c. is_closed self.now c ≡ true) claims.new }
         ensures clash { result ≡ false → HasClash (layout_of self.now) (is_closed self.now) }
     {
         // Reading a field tells the proof what holds of every `Slots`.
@@ -229,7 +229,7 @@ impl<R: Relay, M: Meter> Slots<R, M> {
     /// Lets each channel of the list claim its group, unless another channel has it.
     fn claim_listed(&self, chans: &[Chan], claims: &mut Claims) -> bool
         requires present { all_present (layout_of self.now) chans.now ≡ true }
-        requires held { Holds (layout_of self.now) (λ c. is_closed self.now c ≡ true) claims.old }
+        requires held { IndexesClaims (layout_of self.now) (λ c. is_closed self.now c ≡ true) claims.old }
         ensures apart { result ≡ true → HasClash (layout_of self.now) (closed_with (is_closed self.now) chans.now) → ⊥ }
         ensures clash { result ≡ false → HasClash (layout_of self.now) (closed_with (is_closed self.now) chans.now) }
     {
@@ -345,24 +345,24 @@ impl<R: Relay, M: Meter> Slots<R, M> {
     }
 
     /// What the slot holds, as a layout tells it.
-    pub(crate) fn bay(&self, alloc: Global, slot: u8) -> Result<Slot, AllocError>
+    pub(crate) fn contents(&self, alloc: Global, slot: u8) -> Result<Slot, AllocError>
         requires { (1 ≤ slot) × (slot ≤ most_slots) }
-        ensures { IfOk result (λ bay. bay ≡ slot_at (layout_of self.now) slot) }
+        ensures { IfOk result (λ contents. contents ≡ slot_at (layout_of self.now) slot) }
     {
-        slot::bay_in(alloc, &self.slots[slot as usize - 1])
+        slot::contents_in(alloc, &self.slots[slot as usize - 1])
     }
 
     /// Whether the slot holds what the layout's slot tells.
-    pub(crate) fn is_as(&self, slot: u8, bay: &Slot) -> bool
+    pub(crate) fn is_as(&self, slot: u8, contents: &Slot) -> bool
         requires { (1 ≤ slot) × (slot ≤ most_slots) }
-        ensures { IsTrue result ↔ (bay.now ≡ slot_at (layout_of self.now) slot) }
+        ensures { IsTrue result ↔ (contents.now ≡ slot_at (layout_of self.now) slot) }
     {
-        slot::is_as_in(&self.slots[slot as usize - 1], bay)
+        slot::is_as_in(&self.slots[slot as usize - 1], contents)
     }
 
     /// A law: of all slots only present channels are closed, with a number in its range, and no two of them clash.
     pub(crate) fn stay_safe(&self)
-        ensures safe { IsSafe self.now }
+        ensures safe { AreSafe self.now }
         ensures range { (c : Channel) → is_closed self.now c ≡ true
             → (1 ≤ c.0) × (c.0 ≤ most_slots) × (1 ≤ c.1) × (c.1 ≤ most_channels) }
     {

@@ -4,8 +4,8 @@ ghost use Rattle.std.specs.Prelude.{◌≡◌, ℕ, ◌≤◌, length, true, fal
 ghost use Rattle.sw_base.specs.Limits.{most_channels};
 ghost use Rattle.sw_base.specs.Layout.{bay_has, bay_group, bay_is_meter};
 ghost use Rattle.sw_card.specs.Account.{closed_at, is_meter, of_meter};
-ghost use Rattle.sw_cage.specs.Rack.{rack_of, option_account, option_bay, option_closed, option_set, option_rest};
-ghost use Rattle.sw_cage.specs.Rack.{all_open, IsSlotFault};
+ghost use Rattle.sw_cage.specs.Accounts.{accounts_of, option_account, slot_contents, option_closed, option_set, option_rest};
+ghost use Rattle.sw_cage.specs.Accounts.{all_open, IsSlotFault};
 ghost use Rattle.sw_cage.specs.Install.{IsUnfit};
 
 use std::alloc::{AllocError, Global};
@@ -39,7 +39,7 @@ pub(super) fn close_in<R: Relay, M: Meter>(
     slot: &mut Option<Card<R, M>>,
     ch: u8,
 ) -> Result<(), CardFault>
-    requires present { bay_has (option_bay (option_account slot.old)) ch ≡ true }
+    requires present { bay_has (slot_contents (option_account slot.old)) ch ≡ true }
     requires open { option_closed (option_account slot.old) ch ≡ false }
     ensures ok { OnOk result (option_account slot.new ≡ option_set (option_account slot.old) ch true) }
     ensures err { OnErr result (IsSlotFault (option_account slot.old) (option_set (option_account slot.old) ch true)
@@ -87,7 +87,7 @@ pub(super) fn take_rested<R: Relay, M: Meter>(slot: &mut Option<Card<R, M>>) -> 
 
 /// Opens every channel of the cards in the slots.
 pub(super) fn rest_all<R: Relay, M: Meter>(slots: &mut [Option<Card<R, M>>])
-    ensures { rack_of slots.new ≡ all_open (rack_of slots.old) }
+    ensures { accounts_of slots.new ≡ all_open (accounts_of slots.old) }
 {
     for slot in slots {
         rest_in(slot);
@@ -96,7 +96,7 @@ pub(super) fn rest_all<R: Relay, M: Meter>(slots: &mut [Option<Card<R, M>>])
 
 /// Whether the card in the slot has the channel.
 pub(super) fn present_in<R: Relay, M: Meter>(slot: &Option<Card<R, M>>, ch: u8) -> bool
-    ensures { result ≡ bay_has (option_bay (option_account slot.now)) ch }
+    ensures { result ≡ bay_has (slot_contents (option_account slot.now)) ch }
 {
     match slot {
         Some(card) => !card.is_meter() && ch >= 1 && ch <= card.channels(),
@@ -116,8 +116,8 @@ pub(super) fn closed_in<R: Relay, M: Meter>(slot: &Option<Card<R, M>>, ch: u8) -
 
 /// The group of the channel of the card in the slot, which the card has.
 pub(super) fn group_in<R: Relay, M: Meter>(slot: &Option<Card<R, M>>, ch: u8) -> u8
-    requires { bay_has (option_bay (option_account slot.now)) ch ≡ true }
-    ensures { result ≡ bay_group (option_bay (option_account slot.now)) ch }
+    requires { bay_has (slot_contents (option_account slot.now)) ch ≡ true }
+    ensures { result ≡ bay_group (slot_contents (option_account slot.now)) ch }
 {
     match slot {
         Some(card) => card.group(ch),
@@ -127,7 +127,7 @@ pub(super) fn group_in<R: Relay, M: Meter>(slot: &Option<Card<R, M>>, ch: u8) ->
 
 /// Takes the meter out of the slot.
 pub(super) fn take_meter<R: Relay, M: Meter>(slot: &mut Option<Card<R, M>>) -> MeterCard<M>
-    requires { bay_is_meter (option_bay (option_account slot.old)) ≡ true }
+    requires { bay_is_meter (slot_contents (option_account slot.old)) ≡ true }
     ensures meter { option_account slot.old ≡ Some (of_meter result.1) }
     ensures empty { slot.new ≡ None }
 {
@@ -153,11 +153,11 @@ fn groups<R: Relay, M: Meter>(alloc: Global, card: &Card<R, M>) -> Result<Vec<u8
 }
 
 /// What the slot holds, as a layout tells it.
-pub(super) fn bay_in<R: Relay, M: Meter>(
+pub(super) fn contents_in<R: Relay, M: Meter>(
     alloc: Global,
     slot: &Option<Card<R, M>>,
 ) -> Result<Slot, AllocError>
-    ensures { IfOk result (λ bay. bay ≡ option_bay (option_account slot.now)) }
+    ensures { IfOk result (λ contents. contents ≡ slot_contents (option_account slot.now)) }
 {
     let Some(card) = slot else {
         return Ok(Slot::empty());
@@ -185,16 +185,16 @@ fn has_groups<R: Relay, M: Meter>(card: &Card<R, M>, groups: &[u8]) -> bool
 }
 
 /// Whether the slot holds what the layout's slot tells.
-pub(super) fn is_as_in<R: Relay, M: Meter>(slot: &Option<Card<R, M>>, bay: &Slot) -> bool
-    ensures { IsTrue result ↔ (bay.now ≡ option_bay (option_account slot.now)) }
+pub(super) fn is_as_in<R: Relay, M: Meter>(slot: &Option<Card<R, M>>, contents: &Slot) -> bool
+    ensures { IsTrue result ↔ (contents.now ≡ slot_contents (option_account slot.now)) }
 {
     let Some(card) = slot else {
-        return !bay.is_meter() && bay.groups().is_none();
+        return !contents.is_meter() && contents.groups().is_none();
     };
     if card.is_meter() {
-        return bay.is_meter();
+        return contents.is_meter();
     }
-    match bay.groups() {
+    match contents.groups() {
         Some(groups) => has_groups(card, groups),
         None => false,
     }

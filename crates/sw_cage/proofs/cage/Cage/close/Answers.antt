@@ -1,6 +1,6 @@
 use Rattle.std.proofs.Common.{◌∙◌, ap, true}
 use Rattle.sw_cage.specs.Cage.{CageSeen}
-use Rattle.sw_cage.proofs.Held.{kept_idle, stays_call}
+use Rattle.sw_cage.proofs.KeptLemmas.{kept_idle, stays_call}
 use Rattle.sw_cage.proofs.cage.Cage.close.Goals as goal
 
 pub invariant_of-self : goal.invariant_of-self

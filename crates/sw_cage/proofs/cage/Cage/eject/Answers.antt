@@ -1,17 +1,17 @@
 use Rattle.std.proofs.Common.{◌≡◌, ◌∙◌, ap, subst, Some, IfOk}
 use Rattle.sw_base.specs.Layout.{slot_at}
-use Rattle.sw_cage.specs.Rack.{option_rest}
+use Rattle.sw_cage.specs.Accounts.{option_rest}
 use Rattle.sw_cage.specs.Cage.{CageSeen}
-use Rattle.sw_cage.proofs.Held.{rest_twice}
+use Rattle.sw_cage.proofs.KeptLemmas.{rest_twice}
 use Rattle.sw_cage.proofs.cage.Cage.eject.Goals.{then-is_some-2, else-is_some-2}
 use Rattle.sw_cage.proofs.cage.Cage.eject.Goals as goal
 
 pub returns-clause-ok : goal.returns-clause-ok
 returns-clause-ok g c =
-    let same : option_rest (slot_at c.if-is_some-2.self.rack c.args.slot) ≡ option_rest (slot_at c.args.self.now.rack c.args.slot) =
+    let same : option_rest (slot_at c.if-is_some-2.self.cards c.args.slot) ≡ option_rest (slot_at c.args.self.now.cards c.args.slot) =
     elim c.if-is_some-2.branch [
-      | then-is_some-2 w ↦ ap (λ (p : CageSeen). option_rest (slot_at p.rack c.args.slot)) (w.self-is ∙ w.abort.ensures) ∙ rest_twice c.args.self.now.rack
+      | then-is_some-2 w ↦ ap (λ (p : CageSeen). option_rest (slot_at p.cards c.args.slot)) (w.self-is ∙ w.abort.ensures) ∙ rest_twice c.args.self.now.cards
           c.args.slot
-      | else-is_some-2 w ↦ ap (λ (p : CageSeen). option_rest (slot_at p.rack c.args.slot)) w.self-is
+      | else-is_some-2 w ↦ ap (λ (p : CageSeen). option_rest (slot_at p.cards c.args.slot)) w.self-is
     ] in
     subst (λ o. IfOk c.take_card.result (λ card. o ≡ Some card.1)) same c.take_card.ensures.card

@@ -1,6 +1,6 @@
-use Rattle.sw_cage.specs.Goes.{with_back}
+use Rattle.sw_cage.specs.Outcome.{with_back}
 use Rattle.sw_cage.specs.TakenSeen.{taken_seen}
-use Rattle.sw_cage.proofs.Failures.{failed_counts, readings_counts}
+use Rattle.sw_cage.proofs.FailureLemmas.{failed_counts, readings_counts}
 use Rattle.sw_cage.proofs.cage.Cage.finish.Goals as goal
 
 pub returns-then-takes_return-clause-failed : goal.returns-then-takes_return-clause-failed

@@ -1,7 +1,7 @@
 use Rattle.std.proofs.Common.{◌≡◌, ◌+◌, ◌∙◌, sym, ap, subst, refl, Some}
 use Rattle.sw_cage.specs.Cage.{CageSeen}
 use Rattle.sw_cage.specs.Takes.{AwaitsOther}
-use Rattle.sw_cage.proofs.Happens.{go_meter, go_may, go_kept, go_other, room_at}
+use Rattle.sw_cage.proofs.HappeningLemmas.{go_meter, go_may, go_kept, go_other, room_at}
 use Rattle.sw_cage.proofs.cage.Cage.go_past.Goals as goal
 
 pub go_on-scan-requires-clause-meter : goal.go_on-scan-requires-clause-meter

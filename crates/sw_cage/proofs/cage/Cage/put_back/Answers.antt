@@ -1,5 +1,5 @@
 use Rattle.std.proofs.Common.{ap}
-use Rattle.sw_cage.proofs.Happens.{kept_back, here_out, here_late}
+use Rattle.sw_cage.proofs.HappeningLemmas.{kept_back, here_out, here_late}
 use Rattle.sw_cage.proofs.cage.Cage.put_back.Goals as goal
 
 pub invariant_of-self : goal.invariant_of-self
@@ -10,4 +10,4 @@ invariant_of-self g c =
     (ap (λ x. x.1.ticket) c.finished.view_is) c.requires.out)
     (here_late _ c.args.self.now f.slot c.args.finished.1.slot f.ticket c.args.finished.1.ticket c.self.view_is (ap (λ x. x.1.slot) c.finished.view_is)
     (ap (λ x. x.1.ticket) c.finished.view_is) c.requires.late)
-    c.take_in.ensures.rack c.take_in.ensures.out
+    c.take_in.ensures.cards c.take_in.ensures.out

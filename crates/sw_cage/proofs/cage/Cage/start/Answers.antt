@@ -5,13 +5,13 @@ use Rattle.sw_trigger.specs.Agenda.{agenda}
 use Rattle.sw_trigger.specs.Counts.{reads}
 use Rattle.sw_cage.specs.Channels.{closed_list}
 use Rattle.sw_cage.specs.Cage.{CageSeen, cage_layout}
-use Rattle.sw_cage.specs.Advance.{way, next_place}
+use Rattle.sw_cage.specs.Advance.{moves_from, next_place}
 use Rattle.sw_cage.specs.Walk.{moves_of}
 use Rattle.sw_cage.specs.Change.{any_failed}
-use Rattle.sw_cage.specs.Goes.{Bays}
+use Rattle.sw_cage.specs.Outcome.{Occupancy}
 use Rattle.sw_cage.specs.TakenSeen.{taken_seen}
-use Rattle.sw_cage.proofs.Happens.{begins, go_meter, go_may, go_kept}
-use Rattle.sw_cage.proofs.Failures.{failed_runs}
+use Rattle.sw_cage.proofs.HappeningLemmas.{begins, go_meter, go_may, go_kept}
+use Rattle.sw_cage.proofs.FailureLemmas.{failed_runs}
 use Rattle.sw_cage.proofs.cage.Cage.start.Goals as goal
 
 pub go_on-scan-requires-clause-meter : goal.go_on-scan-requires-clause-meter
@@ -22,10 +22,10 @@ go_on-scan-requires-clause-meter g c =
     let go = begins _ s c.args.plan.layout c.args.plan.closed (c.self.inside.number + 1) c.in_ok-readings.readings.items c.self.invariant.good.held ready.listed
     (subst IsInRange (c.settings.view_is ∙ same) c.settings.invariant)
     (ap (λ (p : CageSeen). slot_at p.out s.meter) c.self.view_is ∙ c.requires.home) ready.measured ready.sound
-    (ap cage_layout c.self.view_is ∙ c.requires.layout) (ap (λ (p : CageSeen). closed_list p.rack) c.self.view_is ∙ c.requires.closed)
+    (ap cage_layout c.self.view_is ∙ c.requires.layout) (ap (λ (p : CageSeen). closed_list p.cards) c.self.view_is ∙ c.requires.closed)
     c.stay_safe.ensures.range refl c.in_ok-readings.ensures.items in
     let at = c.begin-scan.ensures.scan ∙ ap (λ (x : Setup). next_place x 0) same in
-    let moves = c.begin-scan.ensures.moves ∙ ap (λ (x : Setup). way x 0) same in
+    let moves = c.begin-scan.ensures.moves ∙ ap (λ (x : Setup). moves_from x 0) same in
     go_meter _ s 0 c.begin-scan.result.0 go.go at
 
 pub go_on-scan-requires-clause-may : goal.go_on-scan-requires-clause-may
@@ -36,10 +36,10 @@ go_on-scan-requires-clause-may g c =
     let go = begins _ s c.args.plan.layout c.args.plan.closed (c.self.inside.number + 1) c.in_ok-readings.readings.items c.self.invariant.good.held ready.listed
     (subst IsInRange (c.settings.view_is ∙ same) c.settings.invariant)
     (ap (λ (p : CageSeen). slot_at p.out s.meter) c.self.view_is ∙ c.requires.home) ready.measured ready.sound
-    (ap cage_layout c.self.view_is ∙ c.requires.layout) (ap (λ (p : CageSeen). closed_list p.rack) c.self.view_is ∙ c.requires.closed)
+    (ap cage_layout c.self.view_is ∙ c.requires.layout) (ap (λ (p : CageSeen). closed_list p.cards) c.self.view_is ∙ c.requires.closed)
     c.stay_safe.ensures.range refl c.in_ok-readings.ensures.items in
     let at = c.begin-scan.ensures.scan ∙ ap (λ (x : Setup). next_place x 0) same in
-    let moves = c.begin-scan.ensures.moves ∙ ap (λ (x : Setup). way x 0) same in
+    let moves = c.begin-scan.ensures.moves ∙ ap (λ (x : Setup). moves_from x 0) same in
     go_may _ s 0 c.begin-scan.result.1.to_open c.begin-scan.result.1.to_close go.held go.go moves
 
 pub invariant_of-self : goal.invariant_of-self
@@ -50,18 +50,18 @@ invariant_of-self g c =
     let go = begins _ s c.args.plan.layout c.args.plan.closed (c.self.inside.number + 1) c.in_ok-readings.readings.items c.self.invariant.good.held ready.listed
     (subst IsInRange (c.settings.view_is ∙ same) c.settings.invariant)
     (ap (λ (p : CageSeen). slot_at p.out s.meter) c.self.view_is ∙ c.requires.home) ready.measured ready.sound
-    (ap cage_layout c.self.view_is ∙ c.requires.layout) (ap (λ (p : CageSeen). closed_list p.rack) c.self.view_is ∙ c.requires.closed)
+    (ap cage_layout c.self.view_is ∙ c.requires.layout) (ap (λ (p : CageSeen). closed_list p.cards) c.self.view_is ∙ c.requires.closed)
     c.stay_safe.ensures.range refl c.in_ok-readings.ensures.items in
     let at = c.begin-scan.ensures.scan ∙ ap (λ (x : Setup). next_place x 0) same in
-    let moves = c.begin-scan.ensures.moves ∙ ap (λ (x : Setup). way x 0) same in
+    let moves = c.begin-scan.ensures.moves ∙ ap (λ (x : Setup). moves_from x 0) same in
     let room : reads (agenda s) ≤ vec_capacity c.in_ok-readings.readings =
     omega (arith, c.in_ok-readings.ensures.exact, c.readings.ensures.readings, ap (λ (x : Setup). reads (agenda x)) same) in
     go_kept _ _ s 0 _ _ c.begin-scan.result.0 _ go.held go.go room c.go_on-scan.ensures moves at refl refl
 
 pub returns-clause-failed : goal.returns-clause-failed
 returns-clause-failed g c =
-    let old : Bays = record { rack = c.self.inside.slots; out = c.self.inside.out } in
-    let new : Bays = record { rack = c.go_on-scan.new.slots; out = c.go_on-scan.new.out } in
+    let old : Occupancy = record { cards = c.self.inside.slots; out = c.self.inside.out } in
+    let new : Occupancy = record { cards = c.go_on-scan.new.slots; out = c.go_on-scan.new.out } in
     sym (failed_runs old new (c.self.inside.number + 1) (moves_of c.begin-scan.result.1) c.begin-scan.result.0 (taken_seen c.go_on-scan.result.1)
     c.go_on-scan.result.0 c.go_on-scan.ensures)
-    ∙ ap (λ (p : CageSeen). any_failed p.rack c.go_on-scan.new.slots) c.self.view_is
+    ∙ ap (λ (p : CageSeen). any_failed p.cards c.go_on-scan.new.slots) c.self.view_is

@@ -1,4 +1,4 @@
-use Rattle.sw_cage.proofs.Held.{kept_new}
+use Rattle.sw_cage.proofs.KeptLemmas.{kept_new}
 use Rattle.sw_cage.proofs.cage.Cage.with_number.Goals as goal
 
 pub invariant_of-result : goal.invariant_of-result

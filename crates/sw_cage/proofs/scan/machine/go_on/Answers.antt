@@ -1,7 +1,7 @@
 use Rattle.std.proofs.Common.{refl, sym, subst}
 use Rattle.sw_cage.specs.Walk.{moves_of}
-use Rattle.sw_cage.specs.Goes.{HasFallen}
-use Rattle.sw_cage.proofs.Moving.{meter_there, fallen}
+use Rattle.sw_cage.specs.Outcome.{IsSafeAfterFault}
+use Rattle.sw_cage.proofs.MoveLemmas.{meter_there, fallen}
 use Rattle.sw_cage.proofs.scan.machine.go_on.Goals as goal
 
 pub arrive-requires-clause-meter : goal.arrive-requires-clause-meter
@@ -10,7 +10,7 @@ arrive-requires-clause-meter g c = meter_there c.args.slots.now c.make_moves.new
 
 pub returns-in-Err : goal.returns-in-Err
 returns-in-Err g c = record {
-  fallen = subst (HasFallen c.args.slots.now) (sym c.open_all.ensures) (fallen c.args.slots.now c.make_moves.new.slots c.in-Err.ensures.err);
+  fallen = subst (IsSafeAfterFault c.args.slots.now) (sym c.open_all.ensures) (fallen c.args.slots.now c.make_moves.new.slots c.in-Err.ensures.err);
   out = refl;
   over = refl;
 }

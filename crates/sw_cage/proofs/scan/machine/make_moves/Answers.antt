@@ -1,6 +1,6 @@
 use Rattle.std.proofs.lemmas.Result.{on_err_weaker}
 use Rattle.sw_cage.specs.Advance.{opens_of}
-use Rattle.sw_cage.proofs.Moving.{may_close_there, broken_after}
+use Rattle.sw_cage.proofs.MoveLemmas.{may_close_there, broken_after}
 use Rattle.sw_cage.proofs.scan.machine.make_moves.Goals as goal
 
 pub close_then-requires : goal.close_then-requires

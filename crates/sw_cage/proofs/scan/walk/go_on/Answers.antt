@@ -1,6 +1,6 @@
 use Rattle.std.proofs.Common.{◌∙◌, ap, arith}
 use Rattle.sw_trigger.specs.declared.layer.Layer.{Layer}
-use Rattle.sw_cage.proofs.Walks.{passes_over, turn_then, turn_over, arm1_then}
+use Rattle.sw_cage.proofs.TurnLemmas.{passes_over, turn_then, turn_over, arm1_then}
 use Rattle.sw_cage.proofs.scan.walk.go_on.Goals as goal
 
 pub returns-then-walk-gt0-clause-way : goal.returns-then-walk-gt0-clause-way

@@ -1,5 +1,5 @@
-use Rattle.sw_cage.specs.Rack.{is_closed, layout_of}
-use Rattle.sw_cage.proofs.Claiming.{with_clash, with_more, with_apart}
+use Rattle.sw_cage.specs.Accounts.{is_closed, layout_of}
+use Rattle.sw_cage.proofs.ClaimLemmas.{with_clash, with_more, with_apart}
 use Rattle.sw_cage.proofs.slots.Slots.claim_listed.Goals as goal
 
 pub returns-then-not-claim-clause-clash : goal.returns-then-not-claim-clause-clash

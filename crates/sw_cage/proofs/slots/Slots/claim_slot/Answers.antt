@@ -1,10 +1,10 @@
 use Rattle.std.proofs.Common.{◌+◌, sym, ◌∙◌, subst, arith, true, false}
-use Rattle.sw_cage.specs.Rack.{IsSafe}
-use Rattle.sw_cage.specs.Claims.{Holds, ClosedBefore}
-use Rattle.sw_cage.specs.Rack.{layout_of}
-use Rattle.sw_cage.proofs.Orders.{closed_number, closed_group, closed_beyond, closed_nowhere}
-use Rattle.sw_cage.proofs.Claiming.{before_first, before_next, before_claimed, before_open, before_clash}
-use Rattle.sw_cage.proofs.Calls.{read_some, read_none, closed_by}
+use Rattle.sw_cage.specs.Accounts.{AreSafe}
+use Rattle.sw_cage.specs.Claims.{IndexesClaims, ClosedBefore}
+use Rattle.sw_cage.specs.Accounts.{layout_of}
+use Rattle.sw_cage.proofs.ClosedListLemmas.{closed_number, closed_group, closed_beyond, closed_nowhere}
+use Rattle.sw_cage.proofs.ClaimLemmas.{before_first, before_next, before_claimed, before_open, before_clash}
+use Rattle.sw_cage.proofs.OneSlotLemmas.{read_some, read_none, closed_by}
 use Rattle.sw_cage.proofs.slots.Slots.claim_slot.Goals.{then-is_closed+else-not-claim, else-is_closed}
 use Rattle.sw_cage.proofs.slots.Slots.claim_slot.Goals as goal
 
@@ -20,7 +20,7 @@ pub new-requires-clause-ch_in : goal.new-requires-clause-ch_in
 new-requires-clause-ch_in g c = closed_number c.args.self.now (
   c.args.slot,
   c.loop-before.before + 1,
-) (subst IsSafe c.self.view_is c.self.invariant)
+) (subst AreSafe c.self.view_is c.self.invariant)
     (closed_by c.args.self.now c.args.slot (c.loop-before.before + 1) c.in-Some.card.1 true
     (read_some c.self.inside.slots.items c.args.self.now c.args.slot c.index.result.now c.in-Some.card c.self.view_is c.self.invariant.size c.requires.slot_in.0
     c.requires.slot_in.1 c.index.ensures c.in-Some.is) (sym c.is_closed.ensures ∙ c.if-is_closed.true))
@@ -34,7 +34,7 @@ returns-then-not-claim-clause-clash g c u =
     (c.group.ensures ∙ sym (closed_group c.args.self.now (
       c.args.slot,
       c.loop-before.before + 1,
-    ) c.in-Some.card.1 (subst IsSafe c.self.view_is c.self.invariant)
+    ) c.in-Some.card.1 (subst AreSafe c.self.view_is c.self.invariant)
     (read_some c.self.inside.slots.items c.args.self.now c.args.slot c.index.result.now c.in-Some.card c.self.view_is c.self.invariant.size
     c.requires.slot_in.0 c.requires.slot_in.1 c.index.ensures c.in-Some.is) closed)) (c.claim.ensures.grouped c.if-not-claim.true) c.new.result
     c.new.ensures (c.claim.ensures.taken c.if-not-claim.true)
@@ -45,18 +45,18 @@ loop-before-preserved g c = elim c.if-is_closed.branch [
       let closed = (closed_by c.args.self.now c.args.slot (c.loop-before.before + 1) c.in-Some.card.1 true
       (read_some c.self.inside.slots.items c.args.self.now c.args.slot c.index.result.now c.in-Some.card c.self.view_is c.self.invariant.size
       c.requires.slot_in.0 c.requires.slot_in.1 c.index.ensures c.in-Some.is) (sym c.is_closed.ensures ∙ w.if-is_closed.true)) in
-      subst (Holds (layout_of c.args.self.now) (ClosedBefore c.args.self.now c.args.slot (c.loop-before.before + 1 + 1))) (sym w.claims-is)
+      subst (IndexesClaims (layout_of c.args.self.now) (ClosedBefore c.args.self.now c.args.slot (c.loop-before.before + 1 + 1))) (sym w.claims-is)
       (before_claimed c.args.self.now c.loop-before.claims w.claim.new.self c.args.slot (c.loop-before.before + 1) w.group.result w.new.result w.new.ensures
       c.loop-before.invariant closed (w.group.ensures ∙ sym (closed_group c.args.self.now (
         c.args.slot,
         c.loop-before.before + 1,
-      ) c.in-Some.card.1 (subst IsSafe c.self.view_is c.self.invariant)
+      ) c.in-Some.card.1 (subst AreSafe c.self.view_is c.self.invariant)
       (read_some c.self.inside.slots.items c.args.self.now c.args.slot c.index.result.now c.in-Some.card c.self.view_is c.self.invariant.size
       c.requires.slot_in.0 c.requires.slot_in.1 c.index.ensures c.in-Some.is) closed))
       (w.claim.ensures.free w.if-not-claim.false) (w.claim.ensures.claimed w.if-not-claim.false) (w.claim.ensures.room w.if-not-claim.false)
       (w.claim.ensures.groupless w.if-not-claim.false))
   | else-is_closed w ↦
-      subst (Holds (layout_of c.args.self.now) (ClosedBefore c.args.self.now c.args.slot (c.loop-before.before + 1 + 1))) (sym w.claims-is)
+      subst (IndexesClaims (layout_of c.args.self.now) (ClosedBefore c.args.self.now c.args.slot (c.loop-before.before + 1 + 1))) (sym w.claims-is)
       (before_open c.args.self.now c.loop-before.claims c.args.slot (c.loop-before.before + 1) c.loop-before.invariant
       (closed_by c.args.self.now c.args.slot (c.loop-before.before + 1) c.in-Some.card.1 false
       (read_some c.self.inside.slots.items c.args.self.now c.args.slot c.index.result.now c.in-Some.card c.self.view_is c.self.invariant.size

@@ -1,4 +1,4 @@
-use Rattle.sw_cage.proofs.Calls.{close_item}
+use Rattle.sw_cage.proofs.OneSlotLemmas.{close_item}
 use Rattle.sw_cage.proofs.slots.Slots.close.Goals as goal
 
 pub invariant_of-self : goal.invariant_of-self

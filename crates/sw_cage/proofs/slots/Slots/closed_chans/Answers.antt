@@ -1,6 +1,6 @@
 use Rattle.std.proofs.Common.{sym, ◌∙◌}
-use Rattle.sw_cage.specs.Rack.{is_closed}
-use Rattle.sw_cage.proofs.Orders.{rows_start, push_rows}
+use Rattle.sw_cage.specs.Accounts.{is_closed}
+use Rattle.sw_cage.proofs.ClosedListLemmas.{rows_start, push_rows}
 use Rattle.sw_cage.proofs.slots.Slots.closed_chans.Goals as goal
 
 pub loop-before-init : goal.loop-before-init

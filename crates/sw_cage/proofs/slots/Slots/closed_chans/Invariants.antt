@@ -1,6 +1,6 @@
 use Rattle.std.proofs.Common.{◌≡◌}
 use Rattle.std.specs.List.{filter}
-use Rattle.sw_cage.specs.Rack.{is_closed}
+use Rattle.sw_cage.specs.Accounts.{is_closed}
 use Rattle.sw_cage.specs.Channels.{rows}
 use Rattle.sw_cage.proofs.slots.Slots.closed_chans.Given as goal
 

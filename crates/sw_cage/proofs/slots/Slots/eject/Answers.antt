@@ -1,5 +1,5 @@
 use Rattle.std.proofs.Common.{rules}
-use Rattle.sw_cage.proofs.Calls.{safe_ejected, ejected_card, ejected_open, emptied}
+use Rattle.sw_cage.proofs.OneSlotLemmas.{safe_ejected, ejected_card, ejected_open, emptied}
 use Rattle.sw_cage.proofs.slots.Slots.eject.Goals as goal
 
 pub invariant_of-self : goal.invariant_of-self

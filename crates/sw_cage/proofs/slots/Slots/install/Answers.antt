@@ -1,6 +1,6 @@
 use Rattle.std.proofs.Common.{arith, Some, sym, ◌∙◌, inl, inr, rules}
-use Rattle.sw_cage.proofs.Racks.{is_none}
-use Rattle.sw_cage.proofs.Calls.{safe_installed, written}
+use Rattle.sw_cage.proofs.SlotChangeLemmas.{is_none}
+use Rattle.sw_cage.proofs.OneSlotLemmas.{safe_installed, written}
 use Rattle.sw_cage.proofs.slots.Slots.install.Goals as goal
 
 pub returns-then-slot-lt1-clause-refused : goal.returns-then-slot-lt1-clause-refused

@@ -1,6 +1,6 @@
-use Rattle.sw_cage.specs.Rack.{layout_of}
+use Rattle.sw_cage.specs.Accounts.{layout_of}
 use Rattle.sw_cage.specs.Claims.{ClosedBefore}
-use Rattle.sw_cage.proofs.Claiming.{holds_none, before_none}
+use Rattle.sw_cage.proofs.ClaimLemmas.{holds_none, before_none}
 use Rattle.sw_cage.proofs.slots.Slots.judge.Goals as goal
 
 pub claim_closed-requires : goal.claim_closed-requires

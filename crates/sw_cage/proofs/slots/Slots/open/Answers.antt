@@ -1,4 +1,4 @@
-use Rattle.sw_cage.proofs.Calls.{open_item}
+use Rattle.sw_cage.proofs.OneSlotLemmas.{open_item}
 use Rattle.sw_cage.proofs.slots.Slots.open.Goals as goal
 
 pub invariant_of-self : goal.invariant_of-self

@@ -1,7 +1,7 @@
 use Rattle.std.proofs.Common.{◌+◌, sym, ◌∙◌, subst, take, false}
 use Rattle.sw_cage.specs.Change.{Sets}
-use Rattle.sw_cage.proofs.Changes.{sets_more, sets_same, disturbed_more}
-use Rattle.sw_cage.proofs.Calls.{on_err}
+use Rattle.sw_cage.proofs.ChannelCallLemmas.{sets_more, sets_same, disturbed_more}
+use Rattle.sw_cage.proofs.OneSlotLemmas.{on_err}
 use Rattle.sw_cage.proofs.slots.Slots.open_listed.Goals.{then-is_closed+in_ok-open, else-is_closed}
 use Rattle.sw_cage.proofs.slots.Slots.open_listed.Goals as goal
 

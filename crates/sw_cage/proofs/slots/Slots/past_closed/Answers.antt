@@ -2,10 +2,10 @@ use Rattle.std.proofs.Common.{◌≡◌, ℕ, ◌+◌, ◌++◌, ◌∙◌, ap, 
 use Rattle.std.specs.List.{filter}
 use Rattle.std.proofs.lemmas.List.{take_more}
 use Rattle.sw_base.specs.Layout.{Channel}
-use Rattle.sw_cage.specs.Rack.{is_closed}
+use Rattle.sw_cage.specs.Accounts.{is_closed}
 use Rattle.sw_cage.specs.Channels.{row, rows}
-use Rattle.sw_cage.proofs.Orders.{add_nothing, row_start, push_row, skip_row, push_rows}
-use Rattle.sw_cage.proofs.Compared.{next_is, unequal, equal}
+use Rattle.sw_cage.proofs.ClosedListLemmas.{add_nothing, row_start, push_row, skip_row, push_rows}
+use Rattle.sw_cage.proofs.ComparedListLemmas.{next_is, unequal, equal}
 use Rattle.sw_cage.proofs.slots.Slots.past_closed.Goals.{then-past-chans-via-then-past-chans, then-past-chans-via-else-past-chans+then-ne}
 use Rattle.sw_cage.proofs.slots.Slots.past_closed.Goals.{then-is_closed+else-past-chans+else-ne, else-is_closed}
 use Rattle.sw_cage.proofs.slots.Slots.past_closed.Goals as goal

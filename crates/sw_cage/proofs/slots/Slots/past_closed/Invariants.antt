@@ -1,6 +1,6 @@
 use Rattle.std.proofs.Common.{◌≡◌, ◌≤◌, ◌+◌, ◌++◌, length, take}
 use Rattle.std.specs.List.{filter}
-use Rattle.sw_cage.specs.Rack.{is_closed}
+use Rattle.sw_cage.specs.Accounts.{is_closed}
 use Rattle.sw_cage.specs.Channels.{row, rows}
 use Rattle.sw_cage.proofs.slots.Slots.past_closed.Given as goal
 

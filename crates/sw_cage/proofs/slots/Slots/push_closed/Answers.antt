@@ -1,7 +1,7 @@
 use Rattle.std.proofs.Common.{◌+◌, sym, ◌∙◌, ap, subst, arith, true, false, ◌++◌}
-use Rattle.sw_cage.specs.Rack.{IsSafe, is_closed}
-use Rattle.sw_cage.proofs.Orders.{closed_number, row_empty, row_start, push_row, skip_row, add_nothing, card_row}
-use Rattle.sw_cage.proofs.Calls.{read_some, read_none, closed_by}
+use Rattle.sw_cage.specs.Accounts.{AreSafe, is_closed}
+use Rattle.sw_cage.proofs.ClosedListLemmas.{closed_number, row_empty, row_start, push_row, skip_row, add_nothing, card_row}
+use Rattle.sw_cage.proofs.OneSlotLemmas.{read_some, read_none, closed_by}
 use Rattle.sw_cage.proofs.slots.Slots.push_closed.Goals.{then-is_closed+in_ok-push, else-is_closed}
 use Rattle.sw_cage.proofs.slots.Slots.push_closed.Goals as goal
 
@@ -17,7 +17,7 @@ pub new-requires-clause-ch_in : goal.new-requires-clause-ch_in
 new-requires-clause-ch_in g c = closed_number c.args.self.now (
   c.args.slot,
   c.loop-before.before + 1,
-) (subst IsSafe c.self.view_is c.self.invariant)
+) (subst AreSafe c.self.view_is c.self.invariant)
     (closed_by c.args.self.now c.args.slot (c.loop-before.before + 1) c.in-Some.card.1 true
     (read_some c.self.inside.slots.items c.args.self.now c.args.slot c.index.result.now c.in-Some.card c.self.view_is c.self.invariant.size c.requires.0
     c.requires.1 c.index.ensures c.in-Some.is) (sym c.is_closed.ensures ∙ c.if-is_closed.true))
@@ -38,6 +38,6 @@ loop-before-preserved g c = elim c.if-is_closed.branch [
 
 pub returns : goal.returns
 returns g c = c.loop-before.invariant ∙ ap (λ l. c.args.chans.now.items ++ l)
-    (card_row c.args.self.now c.args.slot c.loop-before.before c.in-Some.card.1 (subst IsSafe c.self.view_is c.self.invariant)
+    (card_row c.args.self.now c.args.slot c.loop-before.before c.in-Some.card.1 (subst AreSafe c.self.view_is c.self.invariant)
     (read_some c.self.inside.slots.items c.args.self.now c.args.slot c.index.result.now c.in-Some.card c.self.view_is c.self.invariant.size c.requires.0
     c.requires.1 c.index.ensures c.in-Some.is) (omega (arith, c.loop-before-test.false, c.channels-channels.ensures.closed)))

@@ -1,6 +1,6 @@
 use Rattle.std.proofs.Common.{◌≡◌, ◌++◌}
 use Rattle.std.specs.List.{filter}
-use Rattle.sw_cage.specs.Rack.{is_closed}
+use Rattle.sw_cage.specs.Accounts.{is_closed}
 use Rattle.sw_cage.specs.Channels.{row}
 use Rattle.sw_cage.proofs.slots.Slots.push_closed.Given as goal
 

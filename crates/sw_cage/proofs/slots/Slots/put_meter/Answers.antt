@@ -1,5 +1,5 @@
 use Rattle.std.proofs.Common.{ap}
-use Rattle.sw_cage.proofs.Calls.{safe_put, put_is}
+use Rattle.sw_cage.proofs.OneSlotLemmas.{safe_put, put_is}
 use Rattle.sw_cage.proofs.slots.Slots.put_meter.Goals as goal
 
 pub invariant_of-self : goal.invariant_of-self

@@ -1,5 +1,5 @@
-use Rattle.sw_cage.proofs.Racks.{meter_some}
-use Rattle.sw_cage.proofs.Calls.{safe_ejected, emptied}
+use Rattle.sw_cage.proofs.SlotChangeLemmas.{meter_some}
+use Rattle.sw_cage.proofs.OneSlotLemmas.{safe_ejected, emptied}
 use Rattle.sw_cage.proofs.slots.Slots.take_meter.Goals as goal
 
 pub invariant_of-self : goal.invariant_of-self

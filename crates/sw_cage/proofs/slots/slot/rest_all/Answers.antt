@@ -1,6 +1,6 @@
 use Rattle.std.proofs.Common.{sym, ◌∙◌, ap}
-use Rattle.sw_cage.specs.Rack.{option_rest, option_account}
-use Rattle.sw_cage.proofs.Calls.{rest_more}
+use Rattle.sw_cage.specs.Accounts.{option_rest, option_account}
+use Rattle.sw_cage.proofs.OneSlotLemmas.{rest_more}
 use Rattle.sw_cage.proofs.slots.slot.rest_all.Goals as goal
 
 pub loop-slot-preserved : goal.loop-slot-preserved

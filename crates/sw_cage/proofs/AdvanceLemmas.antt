@@ -12,42 +12,42 @@ use Rattle.sw_trigger.specs.Settings.{Setup, IsInRange}
 use Rattle.sw_trigger.specs.Agenda.{agenda}
 use Rattle.sw_trigger.specs.Counts.{reads}
 use Rattle.sw_verify.specs.Sound.{effect}
-use Rattle.sw_cage.specs.Rack.{Rack, layout_of, option_closed, is_closed}
-use Rattle.sw_cage.specs.Cage.{Scanning, CageSeen, or_meter, layout_with, cage_layout, ticket_of}
-use Rattle.sw_cage.specs.Advance.{way, next_place, awaits}
-use Rattle.sw_cage.specs.Good.{IsOnWay, MeterStands, IsHeld, IsGood}
+use Rattle.sw_cage.specs.Accounts.{Accounts, layout_of, option_closed, is_closed}
+use Rattle.sw_cage.specs.Cage.{ScanSeen, CageSeen, or_meter, layout_with, cage_layout, ticket_of}
+use Rattle.sw_cage.specs.Advance.{moves_from, next_place, awaits}
+use Rattle.sw_cage.specs.Good.{HasDone, MeterStands, IsHeld, IsGood}
 use Rattle.sw_cage.specs.Work.{JobSeen}
 use Rattle.sw_cage.specs.TakenSeen.{TakenSeen, SaysIgnored, SaysWaits, SaysPause, SaysJob, SaysEnded, SaysFault}
-use Rattle.sw_cage.specs.Goes.{Moved, Bays, bays_of, Lands, Falls, Goes}
+use Rattle.sw_cage.specs.Outcome.{Moved, Occupancy, occupancy_of, Reaches, EntersSafeState, Advances}
 use Rattle.sw_cage.specs.declared.job.Ticket.{Ticket}
-use Rattle.sw_cage.proofs.Racks.{slot_cases, slot_set_same, slot_set_other}
-use Rattle.sw_cage.proofs.Layouts.{slot_with, or_in, layout_length, layout_sent}
-use Rattle.sw_cage.proofs.Held.{stays_rest, stays_plates, held_stays}
-use Rattle.sw_cage.proofs.Moving.{moved_layout}
-use Rattle.sw_cage.proofs.Underway.{reads_way, on_way_moved, on_way_like}
+use Rattle.sw_cage.proofs.SlotChangeLemmas.{slot_cases, slot_set_same, slot_set_other}
+use Rattle.sw_cage.proofs.LayoutLemmas.{slot_with, or_in, layout_length, layout_sent}
+use Rattle.sw_cage.proofs.KeptLemmas.{stays_rest, stays_identities, held_stays}
+use Rattle.sw_cage.proofs.MoveLemmas.{moved_layout}
+use Rattle.sw_cage.proofs.UnderwayLemmas.{reads_way, on_way_moved, on_way_like}
 
-abbrev cage : Rack → List (Option Ticket) → ℕ → Option Scanning → List Reading → CageSeen
-cage rack out number scan readings = record { rack = rack; out = out; number = number; scan = scan; readings = readings }
+abbrev cage : Accounts → List (Option Ticket) → ℕ → Option ScanSeen → List Reading → CageSeen
+cage rack out number scan readings = record { cards = rack; out = out; number = number; scan = scan; readings = readings }
 
 -- two cages of the same parts
-pub same_cage : (p q : CageSeen) → bays_of p ≡ bays_of q → p.number ≡ q.number → p.scan ≡ q.scan → p.readings ≡ q.readings → p ≡ q
+pub same_cage : (p q : CageSeen) → occupancy_of p ≡ occupancy_of q → p.number ≡ q.number → p.scan ≡ q.scan → p.readings ≡ q.readings → p ≡ q
 same_cage p q bays number scan readings =
-    ap (λ (b : Bays). cage b.rack b.out p.number p.scan p.readings) bays
-    ∙ ap (λ (n : ℕ). cage q.rack q.out n p.scan p.readings) number
-    ∙ ap (λ (s : Option Scanning). cage q.rack q.out q.number s p.readings) scan
-    ∙ ap (λ (r : List Reading). cage q.rack q.out q.number q.scan r) readings
+    ap (λ (b : Occupancy). cage b.cards b.out p.number p.scan p.readings) bays
+    ∙ ap (λ (n : ℕ). cage q.cards q.out n p.scan p.readings) number
+    ∙ ap (λ (s : Option ScanSeen). cage q.cards q.out q.number s p.readings) scan
+    ∙ ap (λ (r : List Reading). cage q.cards q.out q.number q.scan r) readings
 
 -- A scan that is sound for the cage stands between two items; its meter is in its slot.
 pub record CanGo (p : CageSeen) (s : Setup) (i : ℕ) : Type 0 where
   pub listed : 0 < length s.list
   pub range : IsInRange s
   pub home : slot_at p.out s.meter ≡ None
-  pub measured : has_meter (layout_of p.rack) s.meter ≡ true
-  pub way : IsOnWay (cage_layout p) (is_closed p.rack) s i
+  pub measured : has_meter (layout_of p.cards) s.meter ≡ true
+  pub way : HasDone (cage_layout p) (is_closed p.cards) s i
   pub readings : length p.readings ≡ reads (take i (agenda s))
 
-pub lengths : (p : CageSeen) → IsHeld p → length p.out ≡ length (layout_of p.rack)
-lengths p k = k.outs ∙ sym k.slots ∙ sym (layout_length p.rack)
+pub lengths : (p : CageSeen) → IsHeld p → length p.out ≡ length (layout_of p.cards)
+lengths p k = k.outs ∙ sym k.slots ∙ sym (layout_length p.cards)
 
 -- a meter in its slot is one of the cage's
 meter_with : (bays : Layout) (out : List (Option Ticket)) (s : ℕ) → length out ≡ length bays → slot_at out s ≡ None → has_meter bays s ≡ true
@@ -62,7 +62,7 @@ pub meter_open : (m : MeterAccount) (ch : ℕ) → option_closed (Some (of_meter
 meter_open m ch = and_false (nat_lt 0 ch)
 
 -- a meter leaves its slot, or comes into it: nothing opens or closes
-pub closed_sent : (rack : Rack) (s : ℕ) (m : MeterAccount) → 1 ≤ s → s ≤ length rack → slot_at rack s ≡ Some (of_meter m) → (c : Channel)
+pub closed_sent : (rack : Accounts) (s : ℕ) (m : MeterAccount) → 1 ≤ s → s ≤ length rack → slot_at rack s ≡ Some (of_meter m) → (c : Channel)
     → is_closed (slice_set rack (s - 1) None) c ≡ is_closed rack c
 closed_sent rack s m a b e c = elim (slot_cases rack s c.0 None (omega arith) b) [
   | inl f ↦ ap (λ o. option_closed o c.1) f.1 ∙ sym (ap (λ (x : ℕ). option_closed (slot_at rack x) c.1) f.0 ∙ ap (λ o. option_closed o c.1) e ∙ meter_open m
@@ -70,7 +70,7 @@ closed_sent rack s m a b e c = elim (slot_cases rack s c.0 None (omega arith) b)
   | inr f ↦ ap (λ o. option_closed o c.1) f.1
 ]
 
-pub closed_back : (rack : Rack) (s : ℕ) (m : MeterAccount) → 1 ≤ s → s ≤ length rack → slot_at rack s ≡ None → (c : Channel)
+pub closed_back : (rack : Accounts) (s : ℕ) (m : MeterAccount) → 1 ≤ s → s ≤ length rack → slot_at rack s ≡ None → (c : Channel)
     → is_closed (slice_set rack (s - 1) (Some (of_meter m))) c ≡ is_closed rack c
 closed_back rack s m a b e c = elim (slot_cases rack s c.0 (Some (of_meter m)) (omega arith) b) [
   | inl f ↦ ap (λ o. option_closed o c.1) f.1 ∙ meter_open m c.1 ∙ sym
@@ -79,13 +79,13 @@ closed_back rack s m a b e c = elim (slot_cases rack s c.0 (Some (of_meter m)) (
 ]
 
 -- a slot's card and ticket change together
-pub held_both : (p : CageSeen) (s : ℕ) (v : Option Account) (t : Option Ticket) (scan : Option Scanning) → IsHeld p → 1 ≤ s → s ≤ 8
+pub held_both : (p : CageSeen) (s : ℕ) (v : Option Account) (t : Option Ticket) (scan : Option ScanSeen) → IsHeld p → 1 ≤ s → s ≤ 8
     → (is_some t ≡ true → v ≡ None) → ((u : Ticket) → t ≡ Some u → u.scan ≤ p.number)
-    → IsHeld (record p { rack = slice_set p.rack (s - 1) v; out = slice_set p.out (s - 1) t; scan = scan })
+    → IsHeld (record p { cards = slice_set p.cards (s - 1) v; out = slice_set p.out (s - 1) t; scan = scan })
 held_both p s v t scan k a b empty past = record {
-  slots = length-set p.rack (s - 1) v ∙ k.slots;
+  slots = length-set p.cards (s - 1) v ∙ k.slots;
   outs = length-set p.out (s - 1) t ∙ k.outs;
-  empty = λ x h. elim (slot_cases p.rack s x v (omega arith) (omega (arith, k.slots))) [
+  empty = λ x h. elim (slot_cases p.cards s x v (omega arith) (omega (arith, k.slots))) [
     | inl e ↦ e.1 ∙ empty (ap is_some (sym (slot_set_same p.out s t (omega arith) (omega (arith, k.outs)))) ∙ ap
         (λ (y : ℕ). is_some (slot_at (slice_set p.out (s - 1) t) y)) (sym e.0) ∙ h)
     | inr n ↦ n.1 ∙ k.empty x (ap is_some (sym (slot_set_other p.out s x t (omega arith) n.0)) ∙ h)
@@ -97,26 +97,26 @@ held_both p s v t scan k a b empty past = record {
 }
 
 -- the scan has made its moves, and stands at the next item
-module _ (p : CageSeen) (s : Setup) (i : ℕ) (mid : Rack) (k : IsHeld p) (g : CanGo p s i) (m : Moved p.rack (way s i) mid) where
-  abbrev at : Scanning
+module _ (p : CageSeen) (s : Setup) (i : ℕ) (mid : Accounts) (k : IsHeld p) (g : CanGo p s i) (m : Moved p.cards (moves_from s i) mid) where
+  abbrev at : ScanSeen
   at = next_place s i
 
   abbrev there : CageSeen
-  there = record p { rack = mid; scan = Some at }
+  there = record p { cards = mid; scan = Some at }
 
-  same_layout : layout_of mid ≡ layout_of p.rack
-  same_layout = moved_layout p.rack mid (way s i) m
+  same_layout : layout_of mid ≡ layout_of p.cards
+  same_layout = moved_layout p.cards mid (moves_from s i) m
 
-  held_there : (scan : Option Scanning) → IsHeld (record p { rack = mid; scan = scan })
-  held_there scan = held_stays p mid scan k (stays_rest p.rack mid m.rest)
+  held_there : (scan : Option ScanSeen) → IsHeld (record p { cards = mid; scan = scan })
+  held_there scan = held_stays p mid scan k (stays_rest p.cards mid m.rest)
 
-  way_there : IsOnWay (cage_layout there) (is_closed mid) s (i + length (way s i))
+  way_there : HasDone (cage_layout there) (is_closed mid) s (i + length (moves_from s i))
   way_there =
-      on_way_like (cage_layout p) (cage_layout there) (effect (is_closed p.rack) (way s i)) (is_closed mid) s (i + length (way s i))
+      on_way_like (cage_layout p) (cage_layout there) (effect (is_closed p.cards) (moves_from s i)) (is_closed mid) s (i + length (moves_from s i))
       (ap (λ (l : Layout). layout_with l p.out) same_layout) (fun_ext m.closed)
-      (on_way_moved (cage_layout p) (is_closed p.rack) s i g.way (effect (is_closed p.rack) (way s i)) refl)
+      (on_way_moved (cage_layout p) (is_closed p.cards) s i g.way (effect (is_closed p.cards) (moves_from s i)) refl)
 
-  readings_there : length p.readings ≡ reads (take (i + length (way s i)) (agenda s))
+  readings_there : length p.readings ≡ reads (take (i + length (moves_from s i)) (agenda s))
   readings_there = g.readings ∙ sym (reads_way s i)
 
   meter_there : has_meter (layout_of mid) s.meter ≡ true
@@ -138,7 +138,7 @@ module _ (p : CageSeen) (s : Setup) (i : ℕ) (mid : Rack) (k : IsHeld p) (g : C
 
   -- at a reading
   pub good_reading : (job : JobSeen) → awaits at ≡ Some Read → slot_at mid s.meter ≡ Some (of_meter job.meter)
-      → IsGood (record p { rack = slice_set mid (s.meter - 1) None; out = slice_set p.out (s.meter - 1) (Some (ticket_of p.number at)); scan = Some at })
+      → IsGood (record p { cards = slice_set mid (s.meter - 1) None; out = slice_set p.out (s.meter - 1) (Some (ticket_of p.number at)); scan = Some at })
   good_reading job e f =
       let t = ticket_of p.number at in
       let h = held_there (Some at) in
@@ -154,7 +154,7 @@ module _ (p : CageSeen) (s : Setup) (i : ℕ) (mid : Rack) (k : IsHeld p) (g : C
           range = g.range;
           measured = ap (λ (l : Layout). has_meter l s.meter) same ∙ meter_with (layout_of mid) p.out s.meter (lengths there h) g.home meter_there;
           way = on_way_like (cage_layout there) (layout_with (layout_of (slice_set mid (s.meter - 1) None)) (slice_set p.out (s.meter - 1) (Some t)))
-              (is_closed mid) (is_closed (slice_set mid (s.meter - 1) None)) s (i + length (way s i)) same
+              (is_closed mid) (is_closed (slice_set mid (s.meter - 1) None)) s (i + length (moves_from s i)) same
               (fun_ext (closed_sent mid s.meter job.meter g.range.meter.0 (omega (arith, g.range.meter.1, h.slots)) f)) way_there;
           readings = readings_there;
           meter = subst (λ (o : Option Ticket). MeterStands o t (awaits at)) (sym home) (subst (λ (w : Option Awaited). MeterStands (Some t) t w) (sym e) refl);
@@ -163,36 +163,36 @@ module _ (p : CageSeen) (s : Setup) (i : ℕ) (mid : Rack) (k : IsHeld p) (g : C
 
 -- wherever the scan comes to, the cage is good
 pub good_lands : (p q : CageSeen) (s : Setup) (i : ℕ) (told : TakenSeen) → IsHeld p → CanGo p s i
-    → Lands (bays_of p) p.number (way s i) (next_place s i) told (bays_of q) q.scan → q.number ≡ p.number → q.readings ≡ p.readings → IsGood q
+    → Reaches (occupancy_of p) p.number (moves_from s i) (next_place s i) told (occupancy_of q) q.scan → q.number ≡ p.number → q.readings ≡ p.readings → IsGood q
 good_lands p q s i SaysIgnored k g l n r = absurd l.arrives
 good_lands p q s i SaysFault k g l n r = absurd l.arrives
 good_lands p q s i SaysWaits k g l n r =
-    subst IsGood (sym (same_cage q (record p { rack = l.rack; scan = Some (next_place s i) }) l.arrives.1 n l.arrives.2 r))
-    (good_waiting p s i l.rack k g l.moved (subst (MeterStands None (ticket_of p.number (next_place s i))) (sym l.arrives.0.1) refl))
+    subst IsGood (sym (same_cage q (record p { cards = l.cards; scan = Some (next_place s i) }) l.arrives.1 n l.arrives.2 r))
+    (good_waiting p s i l.cards k g l.moved (subst (MeterStands None (ticket_of p.number (next_place s i))) (sym l.arrives.0.1) refl))
 good_lands p q s i (SaysPause t micros) k g l n r =
-    subst IsGood (sym (same_cage q (record p { rack = l.rack; scan = Some (next_place s i) }) l.arrives.2 n l.arrives.3 r))
-    (good_waiting p s i l.rack k g l.moved (subst (MeterStands None (ticket_of p.number (next_place s i))) (sym l.arrives.0) refl))
+    subst IsGood (sym (same_cage q (record p { cards = l.cards; scan = Some (next_place s i) }) l.arrives.2 n l.arrives.3 r))
+    (good_waiting p s i l.cards k g l.moved (subst (MeterStands None (ticket_of p.number (next_place s i))) (sym l.arrives.0) refl))
 good_lands p q s i (SaysJob job) k g l n r =
     let at = next_place s i in
     let sent = l.arrives.1 in
     subst IsGood (sym (same_cage q (record p {
-      rack = slice_set l.rack (s.meter - 1) None;
+      cards = slice_set l.cards (s.meter - 1) None;
       out =
           slice_set p.out (s.meter - 1) (Some (ticket_of p.number at));
       scan = Some at;
     }) sent.after n l.arrives.2 r))
-    (good_reading p s i l.rack k g l.moved job l.arrives.0 sent.meter)
+    (good_reading p s i l.cards k g l.moved job l.arrives.0 sent.meter)
 good_lands p q s i SaysEnded k g l n r =
-    subst IsGood (sym (same_cage q (record p { rack = l.rack; scan = None }) l.arrives.1 n l.arrives.2 r))
-    (record { held = held_stays p l.rack None k (stays_rest p.rack l.rack l.moved.rest); running = tt })
+    subst IsGood (sym (same_cage q (record p { cards = l.cards; scan = None }) l.arrives.1 n l.arrives.2 r))
+    (record { held = held_stays p l.cards None k (stays_rest p.cards l.cards l.moved.rest); running = tt })
 
-good_falls : (p q : CageSeen) → IsHeld p → Falls (bays_of p) (bays_of q) q.scan → q.number ≡ p.number → q.readings ≡ p.readings → IsGood q
+good_falls : (p q : CageSeen) → IsHeld p → EntersSafeState (occupancy_of p) (occupancy_of q) q.scan → q.number ≡ p.number → q.readings ≡ p.readings → IsGood q
 good_falls p q k f n r =
-    subst IsGood (sym (same_cage q (record p { rack = q.rack; scan = None })
-    (ap (λ (o : List (Option Ticket)). let b : Bays = record { rack = q.rack; out = o } in b) f.out) n f.over r))
-    (record { held = held_stays p q.rack None k (stays_plates p.rack q.rack f.fallen.cards); running = tt })
+    subst IsGood (sym (same_cage q (record p { cards = q.cards; scan = None })
+    (ap (λ (o : List (Option Ticket)). let b : Occupancy = record { cards = q.cards; out = o } in b) f.out) n f.over r))
+    (record { held = held_stays p q.cards None k (stays_identities p.cards q.cards f.fallen.cards); running = tt })
 
-pub good_goes : (p q : CageSeen) (s : Setup) (i : ℕ) (told : TakenSeen) → IsHeld p → CanGo p s i → Goes p s i told q → IsGood q
+pub good_goes : (p q : CageSeen) (s : Setup) (i : ℕ) (told : TakenSeen) → IsHeld p → CanGo p s i → Advances p s i told q → IsGood q
 good_goes p q s i SaysFault k g h = good_falls p q k h.runs h.number h.readings
 good_goes p q s i SaysIgnored k g h = good_lands p q s i SaysIgnored k g h.runs h.number h.readings
 good_goes p q s i SaysWaits k g h = good_lands p q s i SaysWaits k g h.runs h.number h.readings

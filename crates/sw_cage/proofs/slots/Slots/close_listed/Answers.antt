@@ -1,9 +1,9 @@
 use Rattle.std.proofs.Common.{◌+◌, sym, ◌∙◌, subst, take, true}
 use Rattle.sw_cage.specs.Change.{Sets}
-use Rattle.sw_cage.proofs.Changes.{sets_more, sets_same, disturbed_more}
-use Rattle.sw_cage.proofs.Calls.{on_err, next_present, next_apart}
-use Rattle.sw_cage.proofs.slots.Slots.close_all.Goals.{then-not-is_closed+in_ok-close, else-not-is_closed}
-use Rattle.sw_cage.proofs.slots.Slots.close_all.Goals as goal
+use Rattle.sw_cage.proofs.ChannelCallLemmas.{sets_more, sets_same, disturbed_more}
+use Rattle.sw_cage.proofs.OneSlotLemmas.{on_err, next_present, next_apart}
+use Rattle.sw_cage.proofs.slots.Slots.close_listed.Goals.{then-not-is_closed+in_ok-close, else-not-is_closed}
+use Rattle.sw_cage.proofs.slots.Slots.close_listed.Goals as goal
 
 pub close-requires-clause-present : goal.close-requires-clause-present
 close-requires-clause-present g c = next_present c.args.self.now c.loop-chan.self c.args.chans.now c.loop-chan.chan-index c.chan-item.result

@@ -9,8 +9,8 @@ use Rattle.std.proofs.lemmas.Bool.{cases_eq, cases_lt}
 use Rattle.sw_base.specs.Layout.{Channel, Bay, Layout, slot_at, bay_has, bay_group, bay_is_meter, has_meter, is_present, group_of, IsClash, IsExclusive}
 use Rattle.sw_card.specs.Account.{Account, set_closed, with_set, IsFault}
 use Rattle.sw_card.proofs.Rows.{closed_set, open_set, within_closed, length-within, none_is_closed, length-none}
-use Rattle.sw_cage.specs.Rack.{Rack, bay_of, option_bay, layout_of, option_closed, is_closed, IsRow, OptionRow, IsSafe, option_set, option_rest, all_open}
-use Rattle.sw_cage.specs.Rack.{IsSlotFault}
+use Rattle.sw_cage.specs.Accounts.{Accounts, card_contents, slot_contents, layout_of, option_closed, is_closed, IsWellFormed, OptionWellFormed, AreSafe, option_set, option_rest, all_open}
+use Rattle.sw_cage.specs.Accounts.{IsSlotFault}
 
 -- slots
 
@@ -36,10 +36,10 @@ slot_map f l s n =
     subst (λ d. slice_index_or (map f l) (s - 1) d ≡ f (slice_index_or l (s - 1) None)) n (get_or-map f l (s - 1) None) in
     slot_map_if f l (s - 1) (nat_lt 0 s) n e
 
-pub slot_layout : (rack : Rack) (s : ℕ) → slot_at (layout_of rack) s ≡ option_bay (slot_at rack s)
-slot_layout rack s = slot_map option_bay rack s refl
+pub slot_layout : (rack : Accounts) (s : ℕ) → slot_at (layout_of rack) s ≡ slot_contents (slot_at rack s)
+slot_layout rack s = slot_map slot_contents rack s refl
 
-pub slot_rest : (rack : Rack) (s : ℕ) → slot_at (all_open rack) s ≡ option_rest (slot_at rack s)
+pub slot_rest : (rack : Accounts) (s : ℕ) → slot_at (all_open rack) s ≡ option_rest (slot_at rack s)
 slot_rest rack s = slot_map option_rest rack s refl
 
 pub slot_zero : {A : Type 0} (rack : List (Option A)) (s : ℕ) → s ≤ 0 → slot_at rack s ≡ None
@@ -62,71 +62,71 @@ pub slot_get : {A : Type 0} (rack : List (Option A)) (s : ℕ) → 0 < s → slo
 slot_get rack s p = grind (arith, common_steps)
 
 -- what no change of the slot touches stays
-pub map_slot : {B : Type 0} (f : Option Account → B) (rack : Rack) (s : ℕ) (v : Option Account) → 0 < s → f v ≡ f (slot_at rack s)
+pub map_slot : {B : Type 0} (f : Option Account → B) (rack : Accounts) (s : ℕ) (v : Option Account) → 0 < s → f v ≡ f (slot_at rack s)
     → map f (slice_set rack (s - 1) v) ≡ map f rack
 map_slot f rack s v p e = map-set_same f rack (s - 1) v None (e ∙ ap f (slot_get rack s p))
 
 -- channels
 
-pub present_at : (rack : Rack) (c : Channel) → is_present (layout_of rack) c ≡ bay_has (option_bay (slot_at rack c.0)) c.1
+pub present_at : (rack : Accounts) (c : Channel) → is_present (layout_of rack) c ≡ bay_has (slot_contents (slot_at rack c.0)) c.1
 present_at rack c = ap (λ b. bay_has b c.1) (slot_layout rack c.0)
 
-pub group_in_slot : (rack : Rack) (c : Channel) → group_of (layout_of rack) c ≡ bay_group (option_bay (slot_at rack c.0)) c.1
+pub group_in_slot : (rack : Accounts) (c : Channel) → group_of (layout_of rack) c ≡ bay_group (slot_contents (slot_at rack c.0)) c.1
 group_in_slot rack c = ap (λ b. bay_group b c.1) (slot_layout rack c.0)
 
-present_some : (o : Option Account) (ch : ℕ) → bay_has (option_bay o) ch ≡ true → is_some o ≡ true
+present_some : (o : Option Account) (ch : ℕ) → bay_has (slot_contents o) ch ≡ true → is_some o ≡ true
 present_some None ch h = h
 present_some (Some a) ch h = refl
 
 -- a channel that is there is in one of the slots
-pub present_slot : (rack : Rack) (c : Channel) → is_present (layout_of rack) c ≡ true → (0 < c.0) × (c.0 ≤ length rack)
+pub present_slot : (rack : Accounts) (c : Channel) → is_present (layout_of rack) c ≡ true → (0 < c.0) × (c.0 ≤ length rack)
 present_slot rack c h = some_slot rack c.0 (present_some (slot_at rack c.0) c.1 (sym (present_at rack c) ∙ h))
 
 closed_some : (o : Option Account) (ch : ℕ) → option_closed o ch ≡ true → is_some o ≡ true
 closed_some None ch h = h
 closed_some (Some a) ch h = refl
 
-pub closed_slot : (rack : Rack) (c : Channel) → is_closed rack c ≡ true → (0 < c.0) × (c.0 ≤ length rack)
+pub closed_slot : (rack : Accounts) (c : Channel) → is_closed rack c ≡ true → (0 < c.0) × (c.0 ≤ length rack)
 closed_slot rack c h = some_slot rack c.0 (closed_some (slot_at rack c.0) c.1 h)
 
 pub same_chan : (c d : Channel) → d.0 ≡ c.0 → d.1 ≡ c.1 → d ≡ c
 same_chan c d e f = let k : ◌≡◌ {A = ℕ × ℕ} (d.0, d.1) (c.0, c.1) = cc in k
 
-option_meter_some : (o : Option Account) → bay_is_meter (option_bay o) ≡ true → is_some o ≡ true
+option_meter_some : (o : Option Account) → bay_is_meter (slot_contents o) ≡ true → is_some o ≡ true
 option_meter_some None h = h
 option_meter_some (Some a) h = refl
 
-pub meter_some : (rack : Rack) (s : ℕ) → has_meter (layout_of rack) s ≡ true → is_some (slot_at rack s) ≡ true
+pub meter_some : (rack : Accounts) (s : ℕ) → has_meter (layout_of rack) s ≡ true → is_some (slot_at rack s) ≡ true
 meter_some rack s h = option_meter_some (slot_at rack s) (ap bay_is_meter (sym (slot_layout rack s)) ∙ h)
 
 -- one slot's change that closes one channel at most
 pub record IsSlotGrown (old : Option Account) (ch : ℕ) (new : Option Account) : Type 0 where
-  pub bay : option_bay new ≡ option_bay old
-  pub row : OptionRow old → OptionRow new
+  pub bay : slot_contents new ≡ slot_contents old
+  pub row : OptionWellFormed old → OptionWellFormed new
   pub closed : (k : ℕ) → option_closed new k ≡ true → (option_closed old k ≡ true) ⊎ (k ≡ ch)
 
-has_positive : (a : Account) (ch : ℕ) → bay_has (Some (bay_of a)) ch ≡ true → 0 < ch
+has_positive : (a : Account) (ch : ℕ) → bay_has (Some (card_contents a)) ch ≡ true → 0 < ch
 has_positive a ch h = grind (arith, common_steps)
 
-set_row : (a : Account) (ch : ℕ) (on : Bool) → IsRow a → IsRow (with_set a ch on)
+set_row : (a : Account) (ch : ℕ) (on : Bool) → IsWellFormed a → IsWellFormed (with_set a ch on)
 set_row a ch on r = record { states = length-set a.closed (ch - 1) on ∙ r.states; few = r.few }
 
-pub closing_grows : (a : Account) (ch : ℕ) → bay_has (Some (bay_of a)) ch ≡ true → IsSlotGrown (Some a) ch (Some (with_set a ch true))
+pub closing_grows : (a : Account) (ch : ℕ) → bay_has (Some (card_contents a)) ch ≡ true → IsSlotGrown (Some a) ch (Some (with_set a ch true))
 closing_grows a ch h = record { bay = refl; row = set_row a ch true; closed = λ k e. closed_set a.closed ch k (has_positive a ch h) e }
 
 pub opening_grows : (a : Account) (ch : ℕ) → IsSlotGrown (Some a) ch (Some (with_set a ch false))
 opening_grows a ch = record { bay = refl; row = set_row a ch false; closed = λ k e. inl (open_set a.closed ch k e) }
 
-fault_bay : (a b : Account) (most : List Bool) → IsFault a most b → bay_of b ≡ bay_of a
+fault_bay : (a b : Account) (most : List Bool) → IsFault a most b → card_contents b ≡ card_contents a
 fault_bay a b most f = let g = f.groups in let l = f.last in cc
 
-fault_row : (a b : Account) (most : List Bool) → length most ≡ length a.closed → IsFault a most b → IsRow a → IsRow b
+fault_row : (a b : Account) (most : List Bool) → length most ≡ length a.closed → IsFault a most b → IsWellFormed a → IsWellFormed b
 fault_row a b most e f r = record {
   states = length-within b.closed most f.within ∙ e ∙ r.states ∙ sym (ap length f.groups);
   few = λ m. subst (λ (g : List ℕ). length g ≤ 99) (sym f.groups) (r.few (ap is_some (sym f.last) ∙ m));
 }
 
-pub closing_fault_grows : (a b : Account) (ch : ℕ) → bay_has (Some (bay_of a)) ch ≡ true → IsFault a (set_closed a.closed ch true) b
+pub closing_fault_grows : (a b : Account) (ch : ℕ) → bay_has (Some (card_contents a)) ch ≡ true → IsFault a (set_closed a.closed ch true) b
     → IsSlotGrown (Some a) ch (Some b)
 closing_fault_grows a b ch h f = record {
   bay = ap (λ (x : Bay). Some x) (fault_bay a b (set_closed a.closed ch true) f);
@@ -142,7 +142,7 @@ opening_fault_grows a b ch f = record {
 }
 
 -- what a call of close or open on a card does to the slot that holds it
-pub closed_grows : {T E : Type 0} (o n : Option Account) (r : Result T E) (ch : ℕ) → bay_has (option_bay o) ch ≡ true → OnOk r (n ≡ option_set o ch true)
+pub closed_grows : {T E : Type 0} (o n : Option Account) (r : Result T E) (ch : ℕ) → bay_has (slot_contents o) ch ≡ true → OnOk r (n ≡ option_set o ch true)
     → OnErr r (IsSlotFault o (option_set o ch true) n) → IsSlotGrown o ch n
 closed_grows None n r ch h ok err = absurd (cc)
 closed_grows (Some a) n (Ok t) ch h ok err = rw ok (closing_grows a ch h)
@@ -177,11 +177,11 @@ exclusive_grown layout old new c grown safe present apart = record {
       ];
 }
 
-rows_set : (rack : Rack) (s : ℕ) (v : Option Account) → 0 < s → s ≤ length rack → OptionRow v → ((t : ℕ) → OptionRow (slot_at rack t)) → (t : ℕ)
-    → OptionRow (slot_at (slice_set rack (s - 1) v) t)
-rows_set rack s v p h row rows t = elim (slot_cases rack s t v p h) [ inl e ↦ subst OptionRow (sym e.1) row | inr n ↦ subst OptionRow (sym n.1) (rows t) ]
+rows_set : (rack : Accounts) (s : ℕ) (v : Option Account) → 0 < s → s ≤ length rack → OptionWellFormed v → ((t : ℕ) → OptionWellFormed (slot_at rack t)) → (t : ℕ)
+    → OptionWellFormed (slot_at (slice_set rack (s - 1) v) t)
+rows_set rack s v p h row rows t = elim (slot_cases rack s t v p h) [ inl e ↦ subst OptionWellFormed (sym e.1) row | inr n ↦ subst OptionWellFormed (sym n.1) (rows t) ]
 
-grown_closed : (rack : Rack) (c : Channel) (v : Option Account) → 0 < c.0 → c.0 ≤ length rack → IsSlotGrown (slot_at rack c.0) c.1 v → (d : Channel)
+grown_closed : (rack : Accounts) (c : Channel) (v : Option Account) → 0 < c.0 → c.0 ≤ length rack → IsSlotGrown (slot_at rack c.0) c.1 v → (d : Channel)
     → is_closed (slice_set rack (c.0 - 1) v) d ≡ true → (is_closed rack d ≡ true) ⊎ (d ≡ c)
 grown_closed rack c v p h grown d k =
     elim (slot_cases rack c.0 d.0 v p h) [
@@ -191,21 +191,21 @@ grown_closed rack c v p h grown d k =
     ]
 
 -- closing one channel that clashes with none, whatever comes of it, keeps the cage safe
-pub safe_grown : (rack : Rack) (c : Channel) (v : Option Account) → IsSlotGrown (slot_at rack c.0) c.1 v → IsSafe rack → is_present (layout_of rack) c ≡ true
-    → ((d : Channel) → is_closed rack d ≡ true → IsClash (layout_of rack) c d → ⊥) → IsSafe (slice_set rack (c.0 - 1) v)
+pub safe_grown : (rack : Accounts) (c : Channel) (v : Option Account) → IsSlotGrown (slot_at rack c.0) c.1 v → AreSafe rack → is_present (layout_of rack) c ≡ true
+    → ((d : Channel) → is_closed rack d ≡ true → IsClash (layout_of rack) c d → ⊥) → AreSafe (slice_set rack (c.0 - 1) v)
 safe_grown rack c v grown safe present apart =
     let r : (0 < c.0) × (c.0 ≤ length rack) = present_slot rack c present in
     record {
       size = length-set rack (c.0 - 1) v ∙ safe.size;
       rows = rows_set rack c.0 v r.0 r.1 (grown.row (safe.rows c.0)) safe.rows;
-      exclusive = subst (λ l. IsExclusive l (is_closed (slice_set rack (c.0 - 1) v))) (sym (map_slot option_bay rack c.0 v r.0 grown.bay))
+      exclusive = subst (λ l. IsExclusive l (is_closed (slice_set rack (c.0 - 1) v))) (sym (map_slot slot_contents rack c.0 v r.0 grown.bay))
           (exclusive_grown (layout_of rack) (is_closed rack) (is_closed (slice_set rack (c.0 - 1) v)) c (grown_closed rack c v r.0 r.1 grown) safe.exclusive
           present apart);
     }
 
 -- opening a closed channel, whatever comes of it, keeps the cage safe
-pub safe_opened : (rack : Rack) (c : Channel) (v : Option Account) → IsSlotGrown (slot_at rack c.0) c.1 v → IsSafe rack → is_closed rack c ≡ true
-    → IsSafe (slice_set rack (c.0 - 1) v)
+pub safe_opened : (rack : Accounts) (c : Channel) (v : Option Account) → IsSlotGrown (slot_at rack c.0) c.1 v → AreSafe rack → is_closed rack c ≡ true
+    → AreSafe (slice_set rack (c.0 - 1) v)
 safe_opened rack c v grown safe closed = safe_grown rack c v grown safe (safe.exclusive.present c closed) (λ d k. safe.exclusive.apart c d closed k)
 
 -- nothing closed
@@ -214,33 +214,33 @@ rest_closed : (o : Option Account) (k : ℕ) → option_closed (option_rest o) k
 rest_closed None k = refl
 rest_closed (Some a) k = none_is_closed a.closed k
 
-rest_bay : (o : Option Account) → option_bay (option_rest o) ≡ option_bay o
+rest_bay : (o : Option Account) → slot_contents (option_rest o) ≡ slot_contents o
 rest_bay None = refl
 rest_bay (Some a) = refl
 
-rest_row : (o : Option Account) → OptionRow o → OptionRow (option_rest o)
+rest_row : (o : Option Account) → OptionWellFormed o → OptionWellFormed (option_rest o)
 rest_row None r = r
 rest_row (Some a) r = record { states = length-none a.closed ∙ r.states; few = r.few }
 
-pub all_open_closed : (rack : Rack) (c : Channel) → is_closed (all_open rack) c ≡ false
+pub all_open_closed : (rack : Accounts) (c : Channel) → is_closed (all_open rack) c ≡ false
 all_open_closed rack c = ap (λ o. option_closed o c.1) (slot_rest rack c.0) ∙ rest_closed (slot_at rack c.0) c.1
 
-pub layout_all_open : (rack : Rack) → layout_of (all_open rack) ≡ layout_of rack
+pub layout_all_open : (rack : Accounts) → layout_of (all_open rack) ≡ layout_of rack
 layout_all_open [] = refl
 layout_all_open (o ∷ rack) = let e = rest_bay o in let f = layout_all_open rack in cc
 
 pub exclusive_none : (layout : Layout) (closed : Channel → Bool) → ((c : Channel) → closed c ≡ false) → IsExclusive layout closed
 exclusive_none layout closed none = record { present = λ c k. absurd (let e = none c in cc); apart = λ a b ka kb clash. absurd (let e = none a in cc) }
 
-pub safe_all_open : (rack : Rack) → length rack ≡ 8 → ((s : ℕ) → OptionRow (slot_at rack s)) → IsSafe (all_open rack)
+pub safe_all_open : (rack : Accounts) → length rack ≡ 8 → ((s : ℕ) → OptionWellFormed (slot_at rack s)) → AreSafe (all_open rack)
 safe_all_open rack size rows = record {
   size = length-map rack option_rest ∙ size;
-  rows = λ s. subst OptionRow (sym (slot_rest rack s)) (rest_row (slot_at rack s) (rows s));
+  rows = λ s. subst OptionWellFormed (sym (slot_rest rack s)) (rest_row (slot_at rack s) (rows s));
   exclusive = exclusive_none (layout_of (all_open rack)) (is_closed (all_open rack)) (all_open_closed rack);
 }
 
 -- a slot that is closed nowhere now
-quiet_other : (rack : Rack) (s : ℕ) (v : Option Account) → 0 < s → s ≤ length rack → ((k : ℕ) → option_closed v k ≡ false) → (d : Channel)
+quiet_other : (rack : Accounts) (s : ℕ) (v : Option Account) → 0 < s → s ≤ length rack → ((k : ℕ) → option_closed v k ≡ false) → (d : Channel)
     → is_closed (slice_set rack (s - 1) v) d ≡ true → slot_at (slice_set rack (s - 1) v) d.0 ≡ slot_at rack d.0
 quiet_other rack s v p h quiet d k = elim (slot_cases rack s d.0 v p h) [
   | inl e ↦ absurd (let f : option_closed v d.1 ≡ true = ap (λ o. option_closed o d.1) (sym e.1) ∙ k in let n = quiet d.1 in cc)
@@ -248,7 +248,7 @@ quiet_other rack s v p h quiet d k = elim (slot_cases rack s d.0 v p h) [
 ]
 
 -- whatever comes into a slot or leaves it with nothing closed keeps the cage exclusive
-pub exclusive_quiet : (rack : Rack) (s : ℕ) (v : Option Account) → 0 < s → s ≤ length rack → ((k : ℕ) → option_closed v k ≡ false)
+pub exclusive_quiet : (rack : Accounts) (s : ℕ) (v : Option Account) → 0 < s → s ≤ length rack → ((k : ℕ) → option_closed v k ≡ false)
     → IsExclusive (layout_of rack) (is_closed rack) → IsExclusive (layout_of (slice_set rack (s - 1) v)) (is_closed (slice_set rack (s - 1) v))
 exclusive_quiet rack s v p h quiet safe =
     let same : (d : Channel) → is_closed (slice_set rack (s - 1) v) d ≡ true → slot_at (slice_set rack (s - 1) v) d.0 ≡ slot_at rack d.0 =
@@ -257,25 +257,25 @@ exclusive_quiet rack s v p h quiet safe =
     λ d k. ap (λ o. option_closed o d.1) (sym (same d k)) ∙ k in
     let has : (d : Channel) → is_closed (slice_set rack (s - 1) v) d ≡ true
     → is_present (layout_of (slice_set rack (s - 1) v)) d ≡ is_present (layout_of rack) d =
-    λ d k. present_at (slice_set rack (s - 1) v) d ∙ ap (λ o. bay_has (option_bay o) d.1) (same d k) ∙ sym (present_at rack d) in
+    λ d k. present_at (slice_set rack (s - 1) v) d ∙ ap (λ o. bay_has (slot_contents o) d.1) (same d k) ∙ sym (present_at rack d) in
     let group : (d : Channel) → is_closed (slice_set rack (s - 1) v) d ≡ true
     → group_of (layout_of (slice_set rack (s - 1) v)) d ≡ group_of (layout_of rack) d =
-    λ d k. group_in_slot (slice_set rack (s - 1) v) d ∙ ap (λ o. bay_group (option_bay o) d.1) (same d k) ∙ sym (group_in_slot rack d) in
+    λ d k. group_in_slot (slice_set rack (s - 1) v) d ∙ ap (λ o. bay_group (slot_contents o) d.1) (same d k) ∙ sym (group_in_slot rack d) in
     record {
       present = λ d k. has d k ∙ safe.present d (was d k);
       apart = λ a b ka kb clash. safe.apart a b (was a ka) (was b kb)
           (record { other = clash.other; grouped = λ e. clash.grouped (group a ka ∙ e); same = sym (group a ka) ∙ clash.same ∙ group b kb });
     }
 
-pub safe_quiet : (rack : Rack) (s : ℕ) (v : Option Account) → 0 < s → s ≤ length rack → ((k : ℕ) → option_closed v k ≡ false) → OptionRow v → IsSafe rack
-    → IsSafe (slice_set rack (s - 1) v)
+pub safe_quiet : (rack : Accounts) (s : ℕ) (v : Option Account) → 0 < s → s ≤ length rack → ((k : ℕ) → option_closed v k ≡ false) → OptionWellFormed v → AreSafe rack
+    → AreSafe (slice_set rack (s - 1) v)
 safe_quiet rack s v p h quiet row safe = record {
   size = length-set rack (s - 1) v ∙ safe.size;
   rows = rows_set rack s v p h row safe.rows;
   exclusive = exclusive_quiet rack s v p h quiet safe.exclusive;
 }
 
-none_at : (n i : ℕ) → slice_index_or (let r : Rack = replicate n None in r) i None ≡ None
+none_at : (n i : ℕ) → slice_index_or (let r : Accounts = replicate n None in r) i None ≡ None
 none_at zero i = refl
 none_at (suc n) zero = refl
 none_at (suc n) (suc i) = none_at n i
@@ -284,12 +284,12 @@ none_if : (b : Bool) (o : Option Account) → o ≡ None → (if b then o else N
 none_if true o e = e
 none_if false o e = refl
 
-pub none_slot : (n s : ℕ) → slot_at (let r : Rack = replicate n None in r) s ≡ None
-none_slot n s = none_if (nat_lt 0 s) (slice_index_or (let r : Rack = replicate n None in r) (s - 1) None) (none_at n (s - 1))
+pub none_slot : (n s : ℕ) → slot_at (let r : Accounts = replicate n None in r) s ≡ None
+none_slot n s = none_if (nat_lt 0 s) (slice_index_or (let r : Accounts = replicate n None in r) (s - 1) None) (none_at n (s - 1))
 
-pub safe_empty : IsSafe (replicate 8 None)
+pub safe_empty : AreSafe (replicate 8 None)
 safe_empty = record {
   size = refl;
-  rows = λ s. subst OptionRow (sym (none_slot 8 s)) tt;
+  rows = λ s. subst OptionWellFormed (sym (none_slot 8 s)) tt;
   exclusive = exclusive_none (layout_of (replicate 8 None)) (is_closed (replicate 8 None)) (λ c. ap (λ o. option_closed o c.1) (none_slot 8 c.0));
 }

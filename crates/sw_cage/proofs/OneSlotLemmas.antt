@@ -10,14 +10,14 @@ use Rattle.std.proofs.lemmas.Grind.{common_steps}
 use Rattle.sw_base.specs.Layout.{Channel, Layout, slot_at, is_present, IsClash}
 use Rattle.sw_card.specs.Account.{Account, MeterAccount, of_meter, is_meter, closed_at, at_rest}
 use Rattle.sw_card.proofs.Rows.{none_is_closed}
-use Rattle.sw_cage.specs.Rack.{Rack, option_account, rack_of, layout_of, option_closed, is_closed, OptionRow, IsSafe, option_set, with_chan, option_rest}
-use Rattle.sw_cage.specs.Rack.{all_open, IsSlotFault, IsRackFault}
+use Rattle.sw_cage.specs.Accounts.{Accounts, option_account, accounts_of, layout_of, option_closed, is_closed, OptionWellFormed, AreSafe, option_set, with_chan, option_rest}
+use Rattle.sw_cage.specs.Accounts.{all_open, IsSlotFault, IsChannelFault}
 use Rattle.sw_cage.specs.Change.{is_in, Sets, IsDisturbed}
 use Rattle.sw_cage.specs.Close.{all_present, CanClose}
 use Rattle.std.specs.List.{list_all}
-use Rattle.sw_cage.proofs.Racks.{slot_map, slot_set_same, present_slot, present_at, some_slot, IsSlotGrown, closed_grows, opened_grows, safe_grown, safe_opened}
-use Rattle.sw_cage.proofs.Racks.{safe_quiet}
-use Rattle.sw_cage.proofs.Changes.{sets_one, disturbed_one, option_set_rest, and_left, and_right, or_left, or_right, in_at, in_take, sets_layout, sets_closed}
+use Rattle.sw_cage.proofs.SlotChangeLemmas.{slot_map, slot_set_same, present_slot, present_at, some_slot, IsSlotGrown, closed_grows, opened_grows, safe_grown, safe_opened}
+use Rattle.sw_cage.proofs.SlotChangeLemmas.{safe_quiet}
+use Rattle.sw_cage.proofs.ChannelCallLemmas.{sets_one, disturbed_one, option_set_rest, and_left, and_right, or_left, or_right, in_at, in_take, sets_layout, sets_closed}
 
 -- cards read and written
 
@@ -27,44 +27,44 @@ item_get l s p = grind (arith, common_steps)
 item_read : {A : Type 0} (l : List (Option A)) (s : ℕ) (x : Option A) → 0 < s → s ≤ length l → x ≡ slice_index_or l (s - 1) x → slot_at l s ≡ x
 item_read l s x p h e = item_get l s p ∙ get_or_default l (s - 1) None x (omega arith) ∙ sym e
 
-pub read : {C : Type 0} (items : List (Option (C × Account))) (value : Rack) (s : ℕ) (x : Option (C × Account)) → rack_of items ≡ value
-    → length (rack_of items) ≡ 8 → 0 < s → s ≤ 8 → x ≡ slice_index_or items (s - 1) x → slot_at value s ≡ option_account x
+pub read : {C : Type 0} (items : List (Option (C × Account))) (value : Accounts) (s : ℕ) (x : Option (C × Account)) → accounts_of items ≡ value
+    → length (accounts_of items) ≡ 8 → 0 < s → s ≤ 8 → x ≡ slice_index_or items (s - 1) x → slot_at value s ≡ option_account x
 read items value s x same size p h e =
-    let n : length (rack_of items) ≡ length items = length-map items option_account in
-    ap (λ (r : Rack). slot_at r s) (sym same) ∙ slot_map option_account items s refl ∙ ap option_account (item_read items s x p (omega arith) e)
+    let n : length (accounts_of items) ≡ length items = length-map items option_account in
+    ap (λ (r : Accounts). slot_at r s) (sym same) ∙ slot_map option_account items s refl ∙ ap option_account (item_read items s x p (omega arith) e)
 
-pub written : {C : Type 0} (items : List (Option (C × Account))) (value : Rack) (i : ℕ) (v : Option (C × Account)) → rack_of items ≡ value
-    → rack_of (slice_set items i v) ≡ slice_set value i (option_account v)
-written items value i v same = map-set option_account items i v ∙ ap (λ (r : Rack). slice_set r i (option_account v)) same
+pub written : {C : Type 0} (items : List (Option (C × Account))) (value : Accounts) (i : ℕ) (v : Option (C × Account)) → accounts_of items ≡ value
+    → accounts_of (slice_set items i v) ≡ slice_set value i (option_account v)
+written items value i v same = map-set option_account items i v ∙ ap (λ (r : Accounts). slice_set r i (option_account v)) same
 
-pub read_some : {C : Type 0} (items : List (Option (C × Account))) (value : Rack) (s : ℕ) (x : Option (C × Account)) (card : C × Account)
-    → rack_of items ≡ value → length (rack_of items) ≡ 8 → 0 < s → s ≤ 8 → x ≡ slice_index_or items (s - 1) x → x ≡ Some card → slot_at value s ≡ Some card.1
+pub read_some : {C : Type 0} (items : List (Option (C × Account))) (value : Accounts) (s : ℕ) (x : Option (C × Account)) (card : C × Account)
+    → accounts_of items ≡ value → length (accounts_of items) ≡ 8 → 0 < s → s ≤ 8 → x ≡ slice_index_or items (s - 1) x → x ≡ Some card → slot_at value s ≡ Some card.1
 read_some items value s x card same size p h e is = read items value s x same size p h e ∙ ap option_account is
 
-pub read_none : {C : Type 0} (items : List (Option (C × Account))) (value : Rack) (s : ℕ) (x : Option (C × Account)) → rack_of items ≡ value
-    → length (rack_of items) ≡ 8 → 0 < s → s ≤ 8 → x ≡ slice_index_or items (s - 1) x → x ≡ None → slot_at value s ≡ None
+pub read_none : {C : Type 0} (items : List (Option (C × Account))) (value : Accounts) (s : ℕ) (x : Option (C × Account)) → accounts_of items ≡ value
+    → length (accounts_of items) ≡ 8 → 0 < s → s ≤ 8 → x ≡ slice_index_or items (s - 1) x → x ≡ None → slot_at value s ≡ None
 read_none items value s x same size p h e is = read items value s x same size p h e ∙ ap option_account is
 
-pub closed_by : (value : Rack) (s ch : ℕ) (a : Account) (b : Bool) → slot_at value s ≡ Some a → closed_at a.closed ch ≡ b → is_closed value (s, ch) ≡ b
+pub closed_by : (value : Accounts) (s ch : ℕ) (a : Account) (b : Bool) → slot_at value s ≡ Some a → closed_at a.closed ch ≡ b → is_closed value (s, ch) ≡ b
 closed_by value s ch a b at e = ap (λ o. option_closed o ch) at ∙ e
 
 -- what a call of close or open on one channel did, with the cage still safe
-pub record AfterCall {T E : Type 0} (value : Rack) (c : Channel) (most : Rack) (on : Bool) (r : Result T E) (new : Rack) : Type 0 where
-  pub safe : IsSafe new
+pub record AfterCall {T E : Type 0} (value : Accounts) (c : Channel) (most : Accounts) (on : Bool) (r : Result T E) (new : Accounts) : Type 0 where
+  pub safe : AreSafe new
   pub ok : OnOk r (Sets value (c ∷ []) on new)
-  pub err : OnErr r (IsRackFault value c most new)
+  pub err : OnErr r (IsChannelFault value c most new)
   pub disturbed : OnErr r (IsDisturbed value (c ∷ []) new)
 
-fault_at : (value : Rack) (c : Channel) (most : Rack) (n : Option Account) → 0 < c.0 → c.0 ≤ length value → IsSlotFault (slot_at value c.0) (slot_at most c.0) n
-    → IsRackFault value c most (slice_set value (c.0 - 1) n)
+fault_at : (value : Accounts) (c : Channel) (most : Accounts) (n : Option Account) → 0 < c.0 → c.0 ≤ length value → IsSlotFault (slot_at value c.0) (slot_at most c.0) n
+    → IsChannelFault value c most (slice_set value (c.0 - 1) n)
 fault_at value c most n p h f = let e : slot_at (slice_set value (c.0 - 1) n) c.0 ≡ n = slot_set_same value c.0 n p h in record {
   others = ap (slice_set value (c.0 - 1)) (sym e);
   fault = subst (IsSlotFault (slot_at value c.0) (slot_at most c.0)) (sym e) f;
 }
 
-after_call : {T E : Type 0} (value : Rack) (c : Channel) (most : Rack) (on : Bool) (n : Option Account) (r : Result T E) → OptionRow (slot_at value c.0)
+after_call : {T E : Type 0} (value : Accounts) (c : Channel) (most : Accounts) (on : Bool) (n : Option Account) (r : Result T E) → OptionWellFormed (slot_at value c.0)
     → is_present (layout_of value) c ≡ true → IsSlotGrown (slot_at value c.0) c.1 n → option_rest (slot_at most c.0) ≡ option_rest (slot_at value c.0)
-    → IsSafe (slice_set value (c.0 - 1) n)
+    → AreSafe (slice_set value (c.0 - 1) n)
     → OnOk r (n ≡ option_set (slot_at value c.0) c.1 on) → OnErr r (IsSlotFault (slot_at value c.0) (slot_at most c.0) n)
     → AfterCall value c most on r (slice_set value (c.0 - 1) n)
 after_call value c most on n (Ok t) row present grown rest safe ok err = record {
@@ -80,7 +80,7 @@ after_call value c most on n (Err t) row present grown rest safe ok err = let b 
   disturbed = disturbed_one value c (slot_at most c.0) n b.0 b.1 rest err grown;
 }
 
-after_close : {T E : Type 0} (value : Rack) (c : Channel) (n : Option Account) (r : Result T E) → IsSafe value → is_present (layout_of value) c ≡ true
+after_close : {T E : Type 0} (value : Accounts) (c : Channel) (n : Option Account) (r : Result T E) → AreSafe value → is_present (layout_of value) c ≡ true
     → ((d : Channel) → is_closed value d ≡ true → IsClash (layout_of value) c d → ⊥)
     → OnOk r (n ≡ option_set (slot_at value c.0) c.1 true) → OnErr r (IsSlotFault (slot_at value c.0) (option_set (slot_at value c.0) c.1 true) n)
     → AfterCall value c (with_chan value c true) true r (slice_set value (c.0 - 1) n)
@@ -93,7 +93,7 @@ after_close value c n r safe present apart ok err =
     (safe_grown value c n grown safe present apart) ok
     (subst (λ o. OnErr r (IsSlotFault (slot_at value c.0) o n)) (sym most) err)
 
-after_open : {T E : Type 0} (value : Rack) (c : Channel) (n : Option Account) (r : Result T E) → IsSafe value → is_closed value c ≡ true
+after_open : {T E : Type 0} (value : Accounts) (c : Channel) (n : Option Account) (r : Result T E) → AreSafe value → is_closed value c ≡ true
     → OnOk r (n ≡ option_set (slot_at value c.0) c.1 false) → OnErr r (IsSlotFault (slot_at value c.0) (slot_at value c.0) n)
     → AfterCall value c value false r (slice_set value (c.0 - 1) n)
 after_open value c n r safe closed ok err =
@@ -102,75 +102,75 @@ after_open value c n r safe closed ok err =
 
 -- the same of the cards
 
-pub close_item : {C T E : Type 0} (items : List (Option (C × Account))) (value : Rack) (c : Channel) (s ch : ℕ) (x v : Option (C × Account)) (r : Result T E)
-    → s ≡ c.0 → ch ≡ c.1 → 1 ≤ s → s ≤ 8 → rack_of items ≡ value → IsSafe (rack_of items) → x ≡ slice_index_or items (s - 1) x
+pub close_item : {C T E : Type 0} (items : List (Option (C × Account))) (value : Accounts) (c : Channel) (s ch : ℕ) (x v : Option (C × Account)) (r : Result T E)
+    → s ≡ c.0 → ch ≡ c.1 → 1 ≤ s → s ≤ 8 → accounts_of items ≡ value → AreSafe (accounts_of items) → x ≡ slice_index_or items (s - 1) x
     → is_present (layout_of value) c ≡ true → ((d : Channel) → is_closed value d ≡ true → IsClash (layout_of value) c d → ⊥)
     → OnOk r (option_account v ≡ option_set (option_account x) ch true)
     → OnErr r (IsSlotFault (option_account x) (option_set (option_account x) ch true) (option_account v))
-    → AfterCall value c (with_chan value c true) true r (rack_of (slice_set items (s - 1) v))
+    → AfterCall value c (with_chan value c true) true r (accounts_of (slice_set items (s - 1) v))
 close_item items value c s ch x v r se che p h same safe is present apart ok err =
     let e : ◌≡◌ {A = ℕ × ℕ} (s, ch) c = let k : ◌≡◌ {A = ℕ × ℕ} (s, ch) (c.0, c.1) = cc in k in
     let at : slot_at value s ≡ option_account x = read items value s x same safe.size p h is in
     subst (AfterCall value c (with_chan value c true) true r) (sym (written items value (s - 1) v same))
     (subst (λ (d : Channel). AfterCall value d (with_chan value d true) true r (slice_set value (s - 1) (option_account v))) e
-    (after_close value (s, ch) (option_account v) r (subst IsSafe same safe) (ap (is_present (layout_of value)) e ∙ present)
+    (after_close value (s, ch) (option_account v) r (subst AreSafe same safe) (ap (is_present (layout_of value)) e ∙ present)
     (subst (λ (y : Channel). (d : Channel) → is_closed value d ≡ true → IsClash (layout_of value) y d → ⊥) (sym e) apart)
     (subst (λ o. OnOk r (option_account v ≡ option_set o ch true)) (sym at) ok)
     (subst (λ o. OnErr r (IsSlotFault o (option_set o ch true) (option_account v))) (sym at) err)))
 
-pub open_item : {C T E : Type 0} (items : List (Option (C × Account))) (value : Rack) (c : Channel) (s ch : ℕ) (x v : Option (C × Account)) (r : Result T E)
-    → s ≡ c.0 → ch ≡ c.1 → 1 ≤ s → s ≤ 8 → rack_of items ≡ value → IsSafe (rack_of items) → x ≡ slice_index_or items (s - 1) x
+pub open_item : {C T E : Type 0} (items : List (Option (C × Account))) (value : Accounts) (c : Channel) (s ch : ℕ) (x v : Option (C × Account)) (r : Result T E)
+    → s ≡ c.0 → ch ≡ c.1 → 1 ≤ s → s ≤ 8 → accounts_of items ≡ value → AreSafe (accounts_of items) → x ≡ slice_index_or items (s - 1) x
     → is_closed value c ≡ true
     → OnOk r (option_account v ≡ option_set (option_account x) ch false) → OnErr r (IsSlotFault (option_account x) (option_account x) (option_account v))
-    → AfterCall value c value false r (rack_of (slice_set items (s - 1) v))
+    → AfterCall value c value false r (accounts_of (slice_set items (s - 1) v))
 open_item items value c s ch x v r se che p h same safe is closed ok err =
     let e : ◌≡◌ {A = ℕ × ℕ} (s, ch) c = let k : ◌≡◌ {A = ℕ × ℕ} (s, ch) (c.0, c.1) = cc in k in
     let at : slot_at value s ≡ option_account x = read items value s x same safe.size p h is in
     subst (AfterCall value c value false r) (sym (written items value (s - 1) v same))
     (subst (λ (d : Channel). AfterCall value d value false r (slice_set value (s - 1) (option_account v))) e
-    (after_open value (s, ch) (option_account v) r (subst IsSafe same safe) (ap (is_closed value) e ∙ closed)
+    (after_open value (s, ch) (option_account v) r (subst AreSafe same safe) (ap (is_closed value) e ∙ closed)
     (subst (λ o. OnOk r (option_account v ≡ option_set o ch false)) (sym at) ok)
     (subst (λ o. OnErr r (IsSlotFault o o (option_account v))) (sym at) err)))
 
 -- installing and ejecting
 
-pub safe_installed : {C : Type 0} (items : List (Option (C × Account))) (s : ℕ) (card : C × Account) → IsSafe (rack_of items) → 1 ≤ s → s ≤ 8
+pub safe_installed : {C : Type 0} (items : List (Option (C × Account))) (s : ℕ) (card : C × Account) → AreSafe (accounts_of items) → 1 ≤ s → s ≤ 8
     → ((ch : ℕ) → closed_at card.1.closed ch ≡ false) → length card.1.closed ≡ length card.1.groups
-    → (is_meter card.1 ≡ false → (1 ≤ length card.1.groups) × (length card.1.groups ≤ 99)) → IsSafe (rack_of (slice_set items (s - 1) (Some card)))
+    → (is_meter card.1 ≡ false → (1 ≤ length card.1.groups) × (length card.1.groups ≤ 99)) → AreSafe (accounts_of (slice_set items (s - 1) (Some card)))
 safe_installed items s card safe p h quiet states few =
-    let b : s ≤ length (rack_of items) = omega (arith, safe.size, h) in
-    subst IsSafe (sym (written items (rack_of items) (s - 1) (Some card) refl))
-    (safe_quiet (rack_of items) s (Some card.1) p b quiet (record { states = states; few = λ m. (few m).1 }) safe)
+    let b : s ≤ length (accounts_of items) = omega (arith, safe.size, h) in
+    subst AreSafe (sym (written items (accounts_of items) (s - 1) (Some card) refl))
+    (safe_quiet (accounts_of items) s (Some card.1) p b quiet (record { states = states; few = λ m. (few m).1 }) safe)
 
 none_closed_in : (b : Bool) → (b && false) ≡ false
 none_closed_in true = refl
 none_closed_in false = refl
 
 -- a meter is put into a slot
-pub safe_put : {C : Type 0} (items : List (Option (C × Account))) (s : ℕ) (card : C × Account) (m : MeterAccount) → IsSafe (rack_of items) → card.1 ≡ of_meter m
-    → 1 ≤ s → s ≤ 8 → IsSafe (rack_of (slice_set items (s - 1) (Some card)))
+pub safe_put : {C : Type 0} (items : List (Option (C × Account))) (s : ℕ) (card : C × Account) (m : MeterAccount) → AreSafe (accounts_of items) → card.1 ≡ of_meter m
+    → 1 ≤ s → s ≤ 8 → AreSafe (accounts_of (slice_set items (s - 1) (Some card)))
 safe_put items s card m safe e p h =
-    let b : s ≤ length (rack_of items) = omega (arith, safe.size, h) in
-    subst IsSafe (sym (written items (rack_of items) (s - 1) (Some card) refl ∙ ap (λ (a : Account). slice_set (rack_of items) (s - 1) (Some a)) e))
-    (safe_quiet (rack_of items) s (Some (of_meter m)) p b (λ k. none_closed_in (nat_lt 0 k)) (record { states = refl; few = λ k. absurd (cc) }) safe)
+    let b : s ≤ length (accounts_of items) = omega (arith, safe.size, h) in
+    subst AreSafe (sym (written items (accounts_of items) (s - 1) (Some card) refl ∙ ap (λ (a : Account). slice_set (accounts_of items) (s - 1) (Some a)) e))
+    (safe_quiet (accounts_of items) s (Some (of_meter m)) p b (λ k. none_closed_in (nat_lt 0 k)) (record { states = refl; few = λ k. absurd (cc) }) safe)
 
-pub put_is : {C : Type 0} (items : List (Option (C × Account))) (value : Rack) (i : ℕ) (card : C × Account) (m : MeterAccount) → rack_of items ≡ value
-    → card.1 ≡ of_meter m → rack_of (slice_set items i (Some card)) ≡ slice_set value i (Some (of_meter m))
+pub put_is : {C : Type 0} (items : List (Option (C × Account))) (value : Accounts) (i : ℕ) (card : C × Account) (m : MeterAccount) → accounts_of items ≡ value
+    → card.1 ≡ of_meter m → accounts_of (slice_set items i (Some card)) ≡ slice_set value i (Some (of_meter m))
 put_is items value i card m same e = written items value i (Some card) same ∙ ap (λ (a : Account). slice_set value i (Some a)) e
 
-pub safe_ejected : {C : Type 0} (items : List (Option (C × Account))) (value : Rack) (s : ℕ) (v : Option (C × Account)) → rack_of items ≡ value → v ≡ None
-    → is_some (slot_at value s) ≡ true → IsSafe (rack_of items) → IsSafe (rack_of (slice_set items (s - 1) v))
+pub safe_ejected : {C : Type 0} (items : List (Option (C × Account))) (value : Accounts) (s : ℕ) (v : Option (C × Account)) → accounts_of items ≡ value → v ≡ None
+    → is_some (slot_at value s) ≡ true → AreSafe (accounts_of items) → AreSafe (accounts_of (slice_set items (s - 1) v))
 safe_ejected items value s v same none some safe =
-    let b : (0 < s) × (s ≤ length (rack_of items)) = some_slot (rack_of items) s (ap (λ (r : Rack). is_some (slot_at r s)) same ∙ some) in
-    subst IsSafe (sym (written items (rack_of items) (s - 1) v refl))
-    (subst (λ (o : Option Account). IsSafe (slice_set (rack_of items) (s - 1) o)) (sym (ap option_account none))
-    (safe_quiet (rack_of items) s None b.0 b.1 (λ k. refl) tt safe))
+    let b : (0 < s) × (s ≤ length (accounts_of items)) = some_slot (accounts_of items) s (ap (λ (r : Accounts). is_some (slot_at r s)) same ∙ some) in
+    subst AreSafe (sym (written items (accounts_of items) (s - 1) v refl))
+    (subst (λ (o : Option Account). AreSafe (slice_set (accounts_of items) (s - 1) o)) (sym (ap option_account none))
+    (safe_quiet (accounts_of items) s None b.0 b.1 (λ k. refl) tt safe))
 
-pub ejected_card : {C : Type 0} (items : List (Option (C × Account))) (value : Rack) (s : ℕ) (x : Option (C × Account)) (card : Account) → rack_of items ≡ value
-    → IsSafe (rack_of items) → is_some (slot_at value s) ≡ true → x ≡ slice_index_or items (s - 1) x → Some card ≡ option_rest (option_account x)
+pub ejected_card : {C : Type 0} (items : List (Option (C × Account))) (value : Accounts) (s : ℕ) (x : Option (C × Account)) (card : Account) → accounts_of items ≡ value
+    → AreSafe (accounts_of items) → is_some (slot_at value s) ≡ true → x ≡ slice_index_or items (s - 1) x → Some card ≡ option_rest (option_account x)
     → option_rest (slot_at value s) ≡ Some card
 ejected_card items value s x card same safe some is e =
-    let b : (0 < s) × (s ≤ length (rack_of items)) = some_slot (rack_of items) s (ap (λ (r : Rack). is_some (slot_at r s)) same ∙ some) in
+    let b : (0 < s) × (s ≤ length (accounts_of items)) = some_slot (accounts_of items) s (ap (λ (r : Accounts). is_some (slot_at r s)) same ∙ some) in
     ap option_rest (read items value s x same safe.size b.0 (omega (arith, b.1, safe.size)) is) ∙ sym e
 
 rested_open : (o : Option Account) (card : Account) → Some card ≡ option_rest o → (ch : ℕ) → closed_at card.closed ch ≡ false
@@ -182,32 +182,32 @@ pub ejected_open : {C : Type 0} (x : Option (C × Account)) (card : Account) →
     → closed_at card.closed ch ≡ false
 ejected_open x card e ch = rested_open (option_account x) card e ch
 
-pub emptied : {C : Type 0} (items : List (Option (C × Account))) (value : Rack) (i : ℕ) (v : Option (C × Account)) → rack_of items ≡ value → v ≡ None
-    → rack_of (slice_set items i v) ≡ slice_set value i None
+pub emptied : {C : Type 0} (items : List (Option (C × Account))) (value : Accounts) (i : ℕ) (v : Option (C × Account)) → accounts_of items ≡ value → v ≡ None
+    → accounts_of (slice_set items i v) ≡ slice_set value i None
 emptied items value i v same none = written items value i v same ∙ ap (λ (o : Option Account). slice_set value i o) (ap option_account none)
 
 -- loops over the slots
 
 pub rest_more : {C : Type 0} (items first : List (Option (C × Account))) (i : ℕ) (x v : Option (C × Account)) → i < length first
-    → rack_of items ≡ map option_rest (take i (rack_of first)) ++ drop i (rack_of first) → x ≡ slice_index_or items i x
-    → option_account v ≡ option_rest (option_account x) → rack_of (slice_set items i v) ≡ map option_rest (take (i + 1) (rack_of first)) ++ drop (i + 1)
-    (rack_of first)
+    → accounts_of items ≡ map option_rest (take i (accounts_of first)) ++ drop i (accounts_of first) → x ≡ slice_index_or items i x
+    → option_account v ≡ option_rest (option_account x) → accounts_of (slice_set items i v) ≡ map option_rest (take (i + 1) (accounts_of first)) ++ drop (i + 1)
+    (accounts_of first)
 rest_more items first i x v h kept is e =
-    let n : length (rack_of first) ≡ length first = length-map first option_account in
-    map-set option_account items i v ∙ ap (slice_set (rack_of items) i) e
-    ∙ map_over_more option_rest (rack_of first) (rack_of items) i (option_account x) (omega arith) kept
+    let n : length (accounts_of first) ≡ length first = length-map first option_account in
+    map-set option_account items i v ∙ ap (slice_set (accounts_of items) i) e
+    ∙ map_over_more option_rest (accounts_of first) (accounts_of items) i (option_account x) (omega arith) kept
     (ap option_account is ∙ sym (get_or-map option_account items i x))
 
-pub all_rested : {C : Type 0} (items lent new : List (Option (C × Account))) (len : ℕ) → lent ≡ items → rack_of new ≡ all_open (rack_of lent)
-    → length lent ≡ len → rack_of (take len (new ++ drop (length new) items)) ≡ all_open (rack_of items)
+pub all_rested : {C : Type 0} (items lent new : List (Option (C × Account))) (len : ℕ) → lent ≡ items → accounts_of new ≡ all_open (accounts_of lent)
+    → length lent ≡ len → accounts_of (take len (new ++ drop (length new) items)) ≡ all_open (accounts_of items)
 all_rested items lent new len same e n =
-    let k : length (rack_of new) ≡ length (rack_of lent) = ap length e ∙ length-map (rack_of lent) option_rest in
+    let k : length (accounts_of new) ≡ length (accounts_of lent) = ap length e ∙ length-map (accounts_of lent) option_rest in
     let m : len ≡ length new = sym n ∙ sym (length-map lent option_account) ∙ sym k ∙ length-map new option_account in
-    ap (λ (j : ℕ). rack_of (take j (new ++ drop (length new) items))) m ∙ ap rack_of (take-append_seam new (drop (length new) items)) ∙ e ∙ ap
-    (λ l. all_open (rack_of l)) same
+    ap (λ (j : ℕ). accounts_of (take j (new ++ drop (length new) items))) m ∙ ap accounts_of (take-append_seam new (drop (length new) items)) ∙ e ∙ ap
+    (λ l. all_open (accounts_of l)) same
 
-pub new_rack : {C : Type 0} (items : List (Option (C × Account))) (n : ℕ) → items ≡ replicate n None → 8 ≤ n → n ≤ 8 → rack_of items ≡ replicate 8 None
-new_rack items n e p h = let k : n ≡ 8 = omega arith in ap rack_of (e ∙ ap (λ (j : ℕ). replicate j None) k)
+pub new_rack : {C : Type 0} (items : List (Option (C × Account))) (n : ℕ) → items ≡ replicate n None → 8 ≤ n → n ≤ 8 → accounts_of items ≡ replicate 8 None
+new_rack items n e p h = let k : n ≡ 8 = omega arith in ap accounts_of (e ∙ ap (λ (j : ℕ). replicate j None) k)
 
 -- loops over a list of channels
 
@@ -224,12 +224,12 @@ pub present_item : (layout : Layout) (chans : List Channel) (i : ℕ) (c d : Cha
     → all_present layout chans ≡ true → is_present layout c ≡ true
 present_item layout chans i c d h e all = ap (is_present layout) e ∙ all_at (is_present layout) chans i d h all
 
-pub next_present : (rack now : Rack) (chans : List Channel) (i : ℕ) (c : Channel) → i < length chans → c ≡ slice_index_or chans i c
+pub next_present : (rack now : Accounts) (chans : List Channel) (i : ℕ) (c : Channel) → i < length chans → c ≡ slice_index_or chans i c
     → CanClose (layout_of rack) (is_closed rack) chans → Sets rack (take i chans) true now → is_present (layout_of now) c ≡ true
 next_present rack now chans i c h e can sets = ap (λ l. is_present l c) (sets_layout rack now (take i chans) true sets) ∙ present_item (layout_of rack) chans i
     c c h e can.present
 
-pub next_apart : (rack now : Rack) (chans : List Channel) (i : ℕ) (c : Channel) → i < length chans → c ≡ slice_index_or chans i c
+pub next_apart : (rack now : Accounts) (chans : List Channel) (i : ℕ) (c : Channel) → i < length chans → c ≡ slice_index_or chans i c
     → CanClose (layout_of rack) (is_closed rack) chans → Sets rack (take i chans) true now → (d : Channel) → is_closed now d ≡ true
     → IsClash (layout_of now) c d → ⊥
 next_apart rack now chans i c h e can sets d k clash = can.apart (record {

@@ -8,10 +8,10 @@ use Rattle.std.proofs.lemmas.Grind.{common_steps}
 use Rattle.std.proofs.lemmas.Bool.{cases_eq}
 use Rattle.sw_base.specs.Layout.{Channel, slot_at, bay_has, is_present}
 use Rattle.sw_card.specs.Account.{Account, closed_at, set_closed, none_closed, IsWithin, at_rest, IsFault}
-use Rattle.sw_cage.specs.Rack.{Rack, bay_of, option_bay, layout_of, option_closed, is_closed, OptionRow, option_set, with_chan, option_rest, all_open}
-use Rattle.sw_cage.specs.Rack.{IsSlotFault}
-use Rattle.sw_cage.specs.Change.{same_channel, is_in, Sets, option_failed, any_failed, option_plate, IsDisturbed}
-use Rattle.sw_cage.proofs.Racks.{slot_set_same, slot_cases, slot_get, map_slot, present_slot, present_at, same_chan, IsSlotGrown, layout_all_open}
+use Rattle.sw_cage.specs.Accounts.{Accounts, card_contents, slot_contents, layout_of, option_closed, is_closed, OptionWellFormed, option_set, with_chan, option_rest, all_open}
+use Rattle.sw_cage.specs.Accounts.{IsSlotFault}
+use Rattle.sw_cage.specs.Change.{same_channel, is_in, Sets, option_failed, any_failed, identity, IsDisturbed}
+use Rattle.sw_cage.proofs.SlotChangeLemmas.{slot_set_same, slot_cases, slot_get, map_slot, present_slot, present_at, same_chan, IsSlotGrown, layout_all_open}
 
 -- channels
 
@@ -102,26 +102,26 @@ closed_same l ch on p h = grind (arith, common_steps, get_or-set_same)
 closed_other : (l : List Bool) (ch k : ℕ) (on : Bool) → 0 < ch → k ≢ ch → closed_at (set_closed l ch on) k ≡ closed_at l k
 closed_other l ch k on p h = grind (arith, common_steps, get_or-set_other)
 
-has_bounds : (a : Account) (ch : ℕ) → bay_has (Some (bay_of a)) ch ≡ true → (0 < ch) × (ch ≤ length a.groups)
+has_bounds : (a : Account) (ch : ℕ) → bay_has (Some (card_contents a)) ch ≡ true → (0 < ch) × (ch ≤ length a.groups)
 has_bounds a ch h = (grind (arith, common_steps), grind (arith, common_steps))
 
-option_same : (o : Option Account) (ch : ℕ) (on : Bool) → OptionRow o → bay_has (option_bay o) ch ≡ true → option_closed (option_set o ch on) ch ≡ on
+option_same : (o : Option Account) (ch : ℕ) (on : Bool) → OptionWellFormed o → bay_has (slot_contents o) ch ≡ true → option_closed (option_set o ch on) ch ≡ on
 option_same None ch on r h = absurd (cc)
 option_same (Some a) ch on r h = let b : (0 < ch) × (ch ≤ length a.groups) = has_bounds a ch h in closed_same a.closed ch on b.0 (omega (arith, r.states, b.1))
 
-option_other : (o : Option Account) (ch k : ℕ) (on : Bool) → bay_has (option_bay o) ch ≡ true → k ≢ ch
+option_other : (o : Option Account) (ch k : ℕ) (on : Bool) → bay_has (slot_contents o) ch ≡ true → k ≢ ch
     → option_closed (option_set o ch on) k ≡ option_closed o k
 option_other None ch k on h n = refl
 option_other (Some a) ch k on h n = let b : (0 < ch) × (ch ≤ length a.groups) = has_bounds a ch h in closed_other a.closed ch k on b.0 n
 
-closed_there : (rack : Rack) (c d : Channel) (on : Bool) → OptionRow (slot_at rack c.0) → is_present (layout_of rack) c ≡ true → d ≡ c
+closed_there : (rack : Accounts) (c d : Channel) (on : Bool) → OptionWellFormed (slot_at rack c.0) → is_present (layout_of rack) c ≡ true → d ≡ c
     → is_closed (with_chan rack c on) d ≡ on
 closed_there rack c d on r h e =
     let b : (0 < c.0) × (c.0 ≤ length rack) = present_slot rack c h in
     ap (is_closed (with_chan rack c on)) e ∙ ap (λ o. option_closed o c.1) (slot_set_same rack c.0 (option_set (slot_at rack c.0) c.1 on) b.0 b.1)
     ∙ option_same (slot_at rack c.0) c.1 on r (sym (present_at rack c) ∙ h)
 
-closed_elsewhere : (rack : Rack) (c d : Channel) (on : Bool) → is_present (layout_of rack) c ≡ true → d ≢ c
+closed_elsewhere : (rack : Accounts) (c d : Channel) (on : Bool) → is_present (layout_of rack) c ≡ true → d ≢ c
     → is_closed (with_chan rack c on) d ≡ is_closed rack d
 closed_elsewhere rack c d on h n =
     let b : (0 < c.0) × (c.0 ≤ length rack) = present_slot rack c h in
@@ -143,7 +143,7 @@ in_yes c d e = or_left (same_channel d c) false (same_yes c d e)
 in_no : (c d : Channel) → d ≢ c → is_in (c ∷ []) d ≡ false
 in_no c d n = or_false (same_channel d c) ∙ same_no c d n
 
-pub sets_one : (rack : Rack) (c : Channel) (on : Bool) → OptionRow (slot_at rack c.0) → is_present (layout_of rack) c ≡ true
+pub sets_one : (rack : Accounts) (c : Channel) (on : Bool) → OptionWellFormed (slot_at rack c.0) → is_present (layout_of rack) c ≡ true
     → Sets rack (c ∷ []) on (with_chan rack c on)
 sets_one rack c on r h = let b : (0 < c.0) × (c.0 ≤ length rack) = present_slot rack c h in record {
   rest = map_slot option_rest rack c.0 (option_set (slot_at rack c.0) c.1 on) b.0 (option_set_rest (slot_at rack c.0) c.1 on);
@@ -155,7 +155,7 @@ sets_one rack c on r h = let b : (0 < c.0) × (c.0 ≤ length rack) = present_sl
 
 -- several channels are set
 
-pub sets_none : (rack : Rack) (on : Bool) → Sets rack [] on rack
+pub sets_none : (rack : Accounts) (on : Bool) → Sets rack [] on rack
 sets_none rack on = record { rest = refl; closed = λ c. refl }
 
 if_more : (a b on r m n : Bool) → n ≡ (if b then on else m) → m ≡ (if a then on else r) → n ≡ (if (a || b) then on else r)
@@ -164,7 +164,7 @@ if_more true false on r m n e f = e ∙ f
 if_more false true on r m n e f = e
 if_more false false on r m n e f = e ∙ f
 
-pub sets_more : (rack now new : Rack) (chans : List Channel) (i : ℕ) (c d : Channel) (on : Bool) → i < length chans → c ≡ slice_index_or chans i d
+pub sets_more : (rack now new : Accounts) (chans : List Channel) (i : ℕ) (c d : Channel) (on : Bool) → i < length chans → c ≡ slice_index_or chans i d
     → Sets rack (take i chans) on now → Sets now (c ∷ []) on new → Sets rack (take (i + 1) chans) on new
 sets_more rack now new chans i c d on h e before step = record {
   rest = step.rest ∙ before.rest;
@@ -173,7 +173,7 @@ sets_more rack now new chans i c d on h e before step = record {
 }
 
 -- a channel that is so already
-pub sets_same : (rack : Rack) (c : Channel) (on : Bool) → is_closed rack c ≡ on → Sets rack (c ∷ []) on rack
+pub sets_same : (rack : Accounts) (c : Channel) (on : Bool) → is_closed rack c ≡ on → Sets rack (c ∷ []) on rack
 sets_same rack c on h = record {
   rest = refl;
   closed = λ d. elim (chan_cases c d) [
@@ -182,17 +182,17 @@ sets_same rack c on h = record {
   ];
 }
 
-pub layout_rest : (old new : Rack) → all_open new ≡ all_open old → layout_of new ≡ layout_of old
+pub layout_rest : (old new : Accounts) → all_open new ≡ all_open old → layout_of new ≡ layout_of old
 layout_rest old new e = sym (layout_all_open new) ∙ ap layout_of e ∙ layout_all_open old
 
-pub sets_layout : (old new : Rack) (chans : List Channel) (on : Bool) → Sets old chans on new → layout_of new ≡ layout_of old
+pub sets_layout : (old new : Accounts) (chans : List Channel) (on : Bool) → Sets old chans on new → layout_of new ≡ layout_of old
 sets_layout old new chans on s = layout_rest old new s.rest
 
 if_cases : (a on r m : Bool) → m ≡ (if a then on else r) → m ≡ true → (r ≡ true) ⊎ (a ≡ true)
 if_cases true on r m e h = inr refl
 if_cases false on r m e h = inl (sym e ∙ h)
 
-pub sets_closed : (old new : Rack) (chans : List Channel) (on : Bool) → Sets old chans on new → (c : Channel) → is_closed new c ≡ true
+pub sets_closed : (old new : Accounts) (chans : List Channel) (on : Bool) → Sets old chans on new → (c : Channel) → is_closed new c ≡ true
     → (is_closed old c ≡ true) ⊎ (is_in chans c ≡ true)
 sets_closed old new chans on s c h = if_cases (is_in chans c) on (is_closed old c) (is_closed new c) (s.closed c) h
 
@@ -208,12 +208,12 @@ option_unfailed : (o : Option Account) → option_failed o o ≡ false
 option_unfailed None = refl
 option_unfailed (Some a) = same_count a.failures
 
-pub failed_same : (rack : Rack) → any_failed rack rack ≡ false
+pub failed_same : (rack : Accounts) → any_failed rack rack ≡ false
 failed_same [] = refl
 failed_same (o ∷ rack) = ap (λ b. b || any_failed rack rack) (option_unfailed o) ∙ failed_same rack
 
 -- one slot's change alone decides
-pub failed_set : (rack : Rack) (i : ℕ) (v : Option Account) → i < length rack
+pub failed_set : (rack : Accounts) (i : ℕ) (v : Option Account) → i < length rack
     → any_failed rack (slice_set rack i v) ≡ option_failed (slice_index_or rack i None) v
 failed_set [] i v h = absurd (omega arith)
 failed_set (o ∷ rack) zero v h = ap (λ b. option_failed o v || b) (failed_same rack) ∙ or_false (option_failed o v)
@@ -229,22 +229,22 @@ rest_new None n = refl
 rest_new (Some a) None = refl
 rest_new (Some a) (Some b) = refl
 
-pub failed_rest_old : (rack n : Rack) → any_failed (all_open rack) n ≡ any_failed rack n
+pub failed_rest_old : (rack n : Accounts) → any_failed (all_open rack) n ≡ any_failed rack n
 failed_rest_old [] n = refl
 failed_rest_old (o ∷ rack) [] = refl
 failed_rest_old (o ∷ rack) (v ∷ n) = let e = rest_old o v in let f = failed_rest_old rack n in cc
 
 -- opening every relay fails nowhere
-pub failed_rest : (rack n : Rack) → any_failed rack (all_open n) ≡ any_failed rack n
+pub failed_rest : (rack n : Accounts) → any_failed rack (all_open n) ≡ any_failed rack n
 failed_rest [] n = refl
 failed_rest (o ∷ rack) [] = refl
 failed_rest (o ∷ rack) (v ∷ n) = let e = rest_new o v in let f = failed_rest rack n in cc
 
 -- where all but the states is as it was, no card failed
-pub sets_unfailed : (old new : Rack) → all_open new ≡ all_open old → any_failed old new ≡ false
+pub sets_unfailed : (old new : Accounts) → all_open new ≡ all_open old → any_failed old new ≡ false
 sets_unfailed old new e = sym (failed_rest old new) ∙ ap (any_failed old) e ∙ failed_rest old old ∙ failed_same old
 
-pub failed_from : (old now new : Rack) → all_open now ≡ all_open old → any_failed now new ≡ any_failed old new
+pub failed_from : (old now new : Accounts) → all_open now ≡ all_open old → any_failed now new ≡ any_failed old new
 failed_from old now new e = sym (failed_rest_old now new) ∙ ap (λ r. any_failed r new) e ∙ failed_rest_old old new
 
 -- faults
@@ -253,27 +253,27 @@ none_none : (l : List Bool) → none_closed (none_closed l) ≡ none_closed l
 none_none [] = refl
 none_none (x ∷ l) = ap (λ t. false ∷ t) (none_none l)
 
-rest_plate : (o : Option Account) → option_plate (option_rest o) ≡ option_plate o
+rest_plate : (o : Option Account) → identity (option_rest o) ≡ identity o
 rest_plate None = refl
 rest_plate (Some a) = ap (λ (l : List Bool). let b : Account = record a { failures = 0; closed = l } in Some b) (none_none a.closed)
 
-pub plates_all_open : (rack : Rack) → map option_plate (all_open rack) ≡ map option_plate rack
-plates_all_open [] = refl
-plates_all_open (o ∷ rack) = let e = rest_plate o in let f = plates_all_open rack in cc
+pub identities_all_open : (rack : Accounts) → map identity (all_open rack) ≡ map identity rack
+identities_all_open [] = refl
+identities_all_open (o ∷ rack) = let e = rest_plate o in let f = identities_all_open rack in cc
 
-pub plates_rest : (old new : Rack) → all_open new ≡ all_open old → map option_plate new ≡ map option_plate old
-plates_rest old new e = sym (plates_all_open new) ∙ ap (map option_plate) e ∙ plates_all_open old
+pub identities_rest : (old new : Accounts) → all_open new ≡ all_open old → map identity new ≡ map identity old
+identities_rest old new e = sym (identities_all_open new) ∙ ap (map identity) e ∙ identities_all_open old
 
-plate_bay : (o : Option Account) → option_bay (option_plate o) ≡ option_bay o
+plate_bay : (o : Option Account) → slot_contents (identity o) ≡ slot_contents o
 plate_bay None = refl
 plate_bay (Some a) = refl
 
-layout_plates : (rack : Rack) → layout_of (map option_plate rack) ≡ layout_of rack
+layout_plates : (rack : Accounts) → layout_of (map identity rack) ≡ layout_of rack
 layout_plates [] = refl
 layout_plates (o ∷ rack) = let e = plate_bay o in let f = layout_plates rack in cc
 
 -- the same cards are the same layout
-pub plates_layout : (old new : Rack) → map option_plate new ≡ map option_plate old → layout_of new ≡ layout_of old
+pub plates_layout : (old new : Accounts) → map identity new ≡ map identity old → layout_of new ≡ layout_of old
 plates_layout old new e = sym (layout_plates new) ∙ ap layout_of e ∙ layout_plates old
 
 none_within : (xs ys : List Bool) → IsWithin xs ys → none_closed xs ≡ none_closed ys
@@ -282,11 +282,11 @@ none_within (x ∷ xs) (y ∷ ys) w = ap (λ t. false ∷ t) (none_within xs ys 
 none_within [] (y ∷ ys) w = absurd w
 none_within (x ∷ xs) [] w = absurd w
 
-fault_plate : (a b : Account) (most : List Bool) → none_closed most ≡ none_closed a.closed → IsFault a most b → option_plate (Some b) ≡ option_plate (Some a)
+fault_plate : (a b : Account) (most : List Bool) → none_closed most ≡ none_closed a.closed → IsFault a most b → identity (Some b) ≡ identity (Some a)
 fault_plate a b most e f = let s = f.serial in let g = f.groups in let l = f.last in let n : none_closed b.closed ≡ none_closed a.closed =
     none_within b.closed most f.within ∙ e in cc
 
-slot_fault_plate : (o most n : Option Account) → option_rest most ≡ option_rest o → IsSlotFault o most n → option_plate n ≡ option_plate o
+slot_fault_plate : (o most n : Option Account) → option_rest most ≡ option_rest o → IsSlotFault o most n → identity n ≡ identity o
 slot_fault_plate None most n e f = absurd f
 slot_fault_plate (Some a) None n e f = absurd f
 slot_fault_plate (Some a) (Some m) None e f = absurd f
@@ -299,10 +299,10 @@ fault_failed (Some a) (Some m) None f = absurd f
 fault_failed (Some a) (Some m) (Some b) f = next_ne b.failures a.failures f.count
 
 -- one slot's fault
-pub disturbed_one : (rack : Rack) (c : Channel) (most v : Option Account) → 0 < c.0 → c.0 ≤ length rack → option_rest most ≡ option_rest (slot_at rack c.0)
+pub disturbed_one : (rack : Accounts) (c : Channel) (most v : Option Account) → 0 < c.0 → c.0 ≤ length rack → option_rest most ≡ option_rest (slot_at rack c.0)
     → IsSlotFault (slot_at rack c.0) most v → IsSlotGrown (slot_at rack c.0) c.1 v → IsDisturbed rack (c ∷ []) (slice_set rack (c.0 - 1) v)
 disturbed_one rack c most v p h e fault grown = record {
-  cards = map_slot option_plate rack c.0 v p (slot_fault_plate (slot_at rack c.0) most v e fault);
+  cards = map_slot identity rack c.0 v p (slot_fault_plate (slot_at rack c.0) most v e fault);
   failed = failed_set rack (c.0 - 1) v (omega arith) ∙ ap (λ o. option_failed o v) (sym (slot_get rack c.0 p)) ∙ fault_failed (slot_at rack c.0) most v fault;
   within = λ d k. elim (slot_cases rack c.0 d.0 v p h) [
     | inl s ↦ elim (grown.closed d.1 (ap (λ o. option_closed o d.1) (sym s.1) ∙ k))
@@ -312,10 +312,10 @@ disturbed_one rack c most v p h e fault grown = record {
 }
 
 -- a fault after some channels of the list were set
-pub disturbed_more : (rack now new : Rack) (chans : List Channel) (i : ℕ) (c d : Channel) (on : Bool) → i < length chans → c ≡ slice_index_or chans i d
+pub disturbed_more : (rack now new : Accounts) (chans : List Channel) (i : ℕ) (c d : Channel) (on : Bool) → i < length chans → c ≡ slice_index_or chans i d
     → Sets rack (take i chans) on now → IsDisturbed now (c ∷ []) new → IsDisturbed rack chans new
 disturbed_more rack now new chans i c d on h e before fault = record {
-  cards = fault.cards ∙ plates_rest rack now before.rest;
+  cards = fault.cards ∙ identities_rest rack now before.rest;
   failed = sym (failed_from rack now new before.rest) ∙ fault.failed;
   within = λ x k. elim (fault.within x k) [
     | inl o ↦ elim (sets_closed rack now (take i chans) on before x o) [ inl r ↦ inl r | inr t ↦ inr (in_take chans i x t) ]

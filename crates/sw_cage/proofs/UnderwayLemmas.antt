@@ -14,11 +14,11 @@ use Rattle.sw_verify.specs.Channels.{Channels, same_channel, none, with_channel,
 use Rattle.sw_verify.specs.Sound.{CanClose, AllRight, effect}
 use Rattle.sw_verify.proofs.Round.{effect-append}
 use Rattle.sw_cage.specs.Cage.{layout_with}
-use Rattle.sw_cage.specs.Advance.{leading, first_awaited, opens_of, closes_of, way}
-use Rattle.sw_cage.specs.Moves.{MayClose, MayMove}
-use Rattle.sw_cage.specs.Good.{IsOnWay}
+use Rattle.sw_cage.specs.Advance.{leading_moves, first_awaited, opens_of, closes_of, moves_from}
+use Rattle.sw_cage.specs.Moves.{MayCloseNext, MayMove}
+use Rattle.sw_cage.specs.Good.{HasDone}
 use Rattle.sw_cage.specs.declared.job.Ticket.{Ticket}
-use Rattle.sw_cage.proofs.Layouts.{present_with, clash_with}
+use Rattle.sw_cage.proofs.LayoutLemmas.{present_with, clash_with}
 
 -- items
 
@@ -28,26 +28,26 @@ awaits_first (Awaits w ∷ l) x e = let k : w ≡ x = cc in ap (λ (y : Awaited)
 awaits_first (Close c ∷ l) x e = absurd (cc)
 awaits_first (Open c ∷ l) x e = absurd (cc)
 
-pub leading_front : (l : List Item) → take (length (leading l)) l ≡ leading l
+pub leading_front : (l : List Item) → take (length (leading_moves l)) l ≡ leading_moves l
 leading_front [] = refl
 leading_front (Awaits x ∷ l) = refl
 leading_front (Close c ∷ l) = ap (λ (m : List Item). Close c ∷ m) (leading_front l)
 leading_front (Open c ∷ l) = ap (λ (m : List Item). Open c ∷ m) (leading_front l)
 
-leading_reads : (l : List Item) → reads (leading l) ≡ 0
+leading_reads : (l : List Item) → reads (leading_moves l) ≡ 0
 leading_reads [] = refl
 leading_reads (Awaits x ∷ l) = refl
 leading_reads (Close c ∷ l) = leading_reads l
 leading_reads (Open c ∷ l) = leading_reads l
 
-take_way : (s : Setup) (i : ℕ) → take (i + length (way s i)) (agenda s) ≡ take i (agenda s) ++ way s i
-take_way s i = take-add i (length (way s i)) (agenda s) ∙ ap (λ (l : List Item). take i (agenda s) ++ l) (leading_front (drop i (agenda s)))
+take_way : (s : Setup) (i : ℕ) → take (i + length (moves_from s i)) (agenda s) ≡ take i (agenda s) ++ moves_from s i
+take_way s i = take-add i (length (moves_from s i)) (agenda s) ∙ ap (λ (l : List Item). take i (agenda s) ++ l) (leading_front (drop i (agenda s)))
 
 take_past : (s : Setup) (i : ℕ) (x : Awaited) → first_awaited (drop i (agenda s)) ≡ Some x → take (i + 1) (agenda s) ≡ take i (agenda s) ++ Awaits x ∷ []
 take_past s i x e = take-add i 1 (agenda s) ∙ ap (λ (l : List Item). take i (agenda s) ++ take 1 l) (awaits_first (drop i (agenda s)) x e)
 
-pub reads_way : (s : Setup) (i : ℕ) → reads (take (i + length (way s i)) (agenda s)) ≡ reads (take i (agenda s))
-reads_way s i = ap reads (take_way s i) ∙ reads-append (take i (agenda s)) (way s i) ∙ omega (arith, leading_reads (drop i (agenda s)))
+pub reads_way : (s : Setup) (i : ℕ) → reads (take (i + length (moves_from s i)) (agenda s)) ≡ reads (take i (agenda s))
+reads_way s i = ap reads (take_way s i) ∙ reads-append (take i (agenda s)) (moves_from s i) ∙ omega (arith, leading_reads (drop i (agenda s)))
 
 pub reads_past : (s : Setup) (i : ℕ) (x : Awaited) → first_awaited (drop i (agenda s)) ≡ Some x
     → reads (take (i + 1) (agenda s)) ≡ reads (take i (agenda s)) + is_reading x
@@ -103,7 +103,7 @@ can_close_in bays out h b c k = record {
 }
 
 may_close_in : (bays : Layout) (out : List (Option Ticket)) (h : length out ≡ length bays) (b : Channels) (k : Option Channel)
-    → MayClose (layout_with bays out) b k → MayClose bays b k
+    → MayCloseNext (layout_with bays out) b k → MayCloseNext bays b k
 may_close_in bays out h b None m = tt
 may_close_in bays out h b (Some c) m = can_close_in bays out h b c m
 
@@ -111,7 +111,7 @@ pub may_move_in : (bays : Layout) (out : List (Option Ticket)) (h : length out �
     → MayMove (layout_with bays out) b o k → MayMove bays b o k
 may_move_in bays out h b o k m = record { opens = m.opens; closes = may_close_in bays out h (effect b (opens_of o)) k m.closes }
 
-module _ (layout : Layout) (closed : Channels) (s : Setup) (i : ℕ) (w : IsOnWay layout closed s i) where
+module _ (layout : Layout) (closed : Channels) (s : Setup) (i : ℕ) (w : HasDone layout closed s i) where
   pub right_here : AllRight layout closed (effect none (take i (agenda s))) (drop i (agenda s))
   right_here =
       let all : AllRight layout w.found none (take i (agenda s) ++ drop i (agenda s)) =
@@ -120,34 +120,34 @@ module _ (layout : Layout) (closed : Channels) (s : Setup) (i : ℕ) (w : IsOnWa
       (right_after layout w.found none (take i (agenda s)) (drop i (agenda s)) all)
 
   -- the moves that come next may be made
-  pub may_move : (o k : Option Channel) → opens_of o ++ closes_of k ≡ way s i → MayMove layout closed o k
+  pub may_move : (o k : Option Channel) → opens_of o ++ closes_of k ≡ moves_from s i → MayMove layout closed o k
   may_move o k e =
       let after = drop i (agenda s) in
-      let r = drop (length (way s i)) after in
+      let r = drop (length (moves_from s i)) after in
       let mine : IsWithin (effect none (take i (agenda s))) (effect w.found (take i (agenda s))) =
       within_after none w.found (take i (agenda s)) (λ x h. absurd (cc)) in
-      let split : after ≡ (opens_of o ++ closes_of k) ++ r = sym (take-append-drop (length (way s i)) after) ∙ ap (λ (l : List Item). l ++ r)
+      let split : after ≡ (opens_of o ++ closes_of k) ++ r = sym (take-append-drop (length (moves_from s i)) after) ∙ ap (λ (l : List Item). l ++ r)
       (leading_front after ∙ sym e) in
       moves_may layout closed (effect none (take i (agenda s))) o k r
       (subst (λ (b : Channels). IsWithin (effect none (take i (agenda s))) b) (sym w.so_far) mine)
       (subst (λ (l : List Item). AllRight layout closed (effect none (take i (agenda s))) l) split right_here)
 
   -- once they are made
-  pub on_way_moved : (now : Channels) → now ≡ effect closed (way s i) → IsOnWay layout now s (i + length (way s i))
+  pub on_way_moved : (now : Channels) → now ≡ effect closed (moves_from s i) → HasDone layout now s (i + length (moves_from s i))
   on_way_moved now e = record {
     found = w.found;
     sound = w.sound;
-    so_far = e ∙ ap (λ (b : Channels). effect b (way s i)) w.so_far ∙ sym (effect-append w.found (take i (agenda s)) (way s i)) ∙ ap (effect w.found)
+    so_far = e ∙ ap (λ (b : Channels). effect b (moves_from s i)) w.so_far ∙ sym (effect-append w.found (take i (agenda s)) (moves_from s i)) ∙ ap (effect w.found)
         (sym (take_way s i));
   }
 
   -- once what is awaited has come
-  pub on_way_past : (x : Awaited) → first_awaited (drop i (agenda s)) ≡ Some x → IsOnWay layout closed s (i + 1)
+  pub on_way_past : (x : Awaited) → first_awaited (drop i (agenda s)) ≡ Some x → HasDone layout closed s (i + 1)
   on_way_past x e = record {
     found = w.found;
     sound = w.sound;
     so_far = w.so_far ∙ sym (effect-append w.found (take i (agenda s)) (Awaits x ∷ [])) ∙ ap (effect w.found) (sym (take_past s i x e));
   }
 
-pub on_way_like : (layout layout' : Layout) (b b' : Channels) (s : Setup) (i : ℕ) → layout' ≡ layout → b' ≡ b → IsOnWay layout b s i → IsOnWay layout' b' s i
-on_way_like layout layout' b b' s i e f w = subst (λ (l : Layout). IsOnWay l b' s i) (sym e) (subst (λ (x : Channels). IsOnWay layout x s i) (sym f) w)
+pub on_way_like : (layout layout' : Layout) (b b' : Channels) (s : Setup) (i : ℕ) → layout' ≡ layout → b' ≡ b → HasDone layout b s i → HasDone layout' b' s i
+on_way_like layout layout' b b' s i e f w = subst (λ (l : Layout). HasDone l b' s i) (sym e) (subst (λ (x : Channels). HasDone layout x s i) (sym f) w)

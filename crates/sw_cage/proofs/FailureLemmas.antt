@@ -3,23 +3,23 @@ use Rattle.std.proofs.Common.{◌≡◌, ℕ, zero, suc, ◌-◌, ◌||◌, ◌+
 use Rattle.std.proofs.Common.{if◌then◌else◌, Result, Ok, Err, is_err, List}
 use Rattle.sw_base.specs.Layout.{slot_at}
 use Rattle.sw_card.specs.Account.{Account}
-use Rattle.sw_cage.specs.Rack.{Rack, all_open}
+use Rattle.sw_cage.specs.Accounts.{Accounts, all_open}
 use Rattle.sw_cage.specs.Change.{option_failed, any_failed, RelayFailed}
 use Rattle.sw_cage.specs.TakenSeen.{TakenSeen, SaysIgnored, SaysWaits, SaysPause, SaysJob, SaysEnded, SaysFault, tells_fault}
-use Rattle.sw_cage.specs.Goes.{Bays, bays_of, Runs, Goes, GoesPast, GoesPastFrom, Counts, with_reading, readings_with}
-use Rattle.sw_cage.specs.Cage.{Scanning, CageSeen}
+use Rattle.sw_cage.specs.Outcome.{Occupancy, occupancy_of, AdvancesOrFails, Advances, AdvancesPast, AdvancesPastFrom, Counts, with_reading, readings_with}
+use Rattle.sw_cage.specs.Cage.{ScanSeen, CageSeen}
 use Rattle.sw_base.specs.declared.reading.Reading.{Reading}
 use Rattle.sw_card.specs.declared.board.CardFault.{CardFault}
 use Rattle.sw_trigger.specs.Settings.{Setup}
 use Rattle.sw_trigger.specs.Agenda.{Item}
-use Rattle.sw_cage.specs.Advance.{way, next_place}
-use Rattle.sw_cage.proofs.Changes.{or_left, or_right, sets_unfailed}
+use Rattle.sw_cage.specs.Advance.{moves_from, next_place}
+use Rattle.sw_cage.proofs.ChannelCallLemmas.{or_left, or_right, sets_unfailed}
 
 never_out : (o : Option Account) → option_failed o None ≡ false
 never_out None = refl
 never_out (Some a) = refl
 
-at_index : (old new : Rack) (i : ℕ) → option_failed (slice_index_or old i None) (slice_index_or new i None) ≡ true → any_failed old new ≡ true
+at_index : (old new : Accounts) (i : ℕ) → option_failed (slice_index_or old i None) (slice_index_or new i None) ≡ true → any_failed old new ≡ true
 at_index [] new i h = absurd (cc)
 at_index (a ∷ old) [] i h = absurd (let e = never_out (slice_index_or (a ∷ old) i None) in cc)
 at_index (a ∷ old) (b ∷ new) zero h = or_left (option_failed a b) (any_failed old new) h
@@ -30,10 +30,10 @@ at_if true x y h = h
 at_if false x y h = absurd (cc)
 
 -- one slot's card decides
-pub failed_at : (old new : Rack) (s : ℕ) → option_failed (slot_at old s) (slot_at new s) ≡ true → any_failed old new ≡ true
+pub failed_at : (old new : Accounts) (s : ℕ) → option_failed (slot_at old s) (slot_at new s) ≡ true → any_failed old new ≡ true
 failed_at old new s h = at_index old new (s - 1) (at_if (nat_lt 0 s) (slice_index_or old (s - 1) None) (slice_index_or new (s - 1) None) h)
 
-pub relay_failed : (old new : Rack) → RelayFailed old new → any_failed old new ≡ true
+pub relay_failed : (old new : Accounts) → RelayFailed old new → any_failed old new ≡ true
 relay_failed old new f = failed_at old new f.slot f.counted
 
 or_none : (a b : Bool) → (a || b) ≡ false → (a ≡ false) × (b ≡ false)
@@ -41,7 +41,7 @@ or_none true b h = absurd (cc)
 or_none false b h = (refl, h)
 
 -- a card that went out is not looked at
-pub unfailed_out : (old mid : Rack) (i : ℕ) → any_failed old mid ≡ false → any_failed old (slice_set mid i None) ≡ false
+pub unfailed_out : (old mid : Accounts) (i : ℕ) → any_failed old mid ≡ false → any_failed old (slice_set mid i None) ≡ false
 unfailed_out [] mid i h = refl
 unfailed_out (a ∷ old) [] i h = refl
 unfailed_out (a ∷ old) (b ∷ mid) zero h = ap (λ t. t || any_failed old mid) (never_out a) ∙ (or_none (option_failed a b) (any_failed old mid) h).1
@@ -49,43 +49,43 @@ unfailed_out (a ∷ old) (b ∷ mid) (suc i) h =
     let w = or_none (option_failed a b) (any_failed old mid) h in
     ap (λ t. t || any_failed old (slice_set mid i None)) w.0 ∙ unfailed_out old mid i w.1
 
-like : (old mid : Rack) (new : Bays) → all_open mid ≡ all_open old → new.rack ≡ mid → any_failed old new.rack ≡ false
+like : (old mid : Accounts) (new : Occupancy) → all_open mid ≡ all_open old → new.cards ≡ mid → any_failed old new.cards ≡ false
 like old mid new e f = ap (any_failed old) f ∙ sets_unfailed old mid e
 
 -- a scan that goes on tells of a fault exactly where a card's count changed
-pub failed_runs : (old new : Bays) (number : ℕ) (moves : List Item) (at : Scanning) (told : TakenSeen) (scan : Option Scanning)
-    → Runs old number moves at told new scan → any_failed old.rack new.rack ≡ tells_fault told
+pub failed_runs : (old new : Occupancy) (number : ℕ) (moves : List Item) (at : ScanSeen) (told : TakenSeen) (scan : Option ScanSeen)
+    → AdvancesOrFails old number moves at told new scan → any_failed old.cards new.cards ≡ tells_fault told
 failed_runs old new number moves at SaysIgnored scan h = absurd h.arrives
-failed_runs old new number moves at SaysWaits scan h = like old.rack h.rack new h.moved.rest (ap (λ (b : Bays). b.rack) h.arrives.1)
-failed_runs old new number moves at (SaysPause t micros) scan h = like old.rack h.rack new h.moved.rest (ap (λ (b : Bays). b.rack) h.arrives.2)
+failed_runs old new number moves at SaysWaits scan h = like old.cards h.cards new h.moved.rest (ap (λ (b : Occupancy). b.cards) h.arrives.1)
+failed_runs old new number moves at (SaysPause t micros) scan h = like old.cards h.cards new h.moved.rest (ap (λ (b : Occupancy). b.cards) h.arrives.2)
 failed_runs old new number moves at (SaysJob job) scan h =
-    ap (any_failed old.rack) (ap (λ (b : Bays). b.rack) h.arrives.1.after) ∙ unfailed_out old.rack h.rack (at.setup.meter - 1)
-    (sets_unfailed old.rack h.rack h.moved.rest)
-failed_runs old new number moves at SaysEnded scan h = like old.rack h.rack new h.moved.rest (ap (λ (b : Bays). b.rack) h.arrives.1)
-failed_runs old new number moves at SaysFault scan h = relay_failed old.rack new.rack h.fallen.failed
+    ap (any_failed old.cards) (ap (λ (b : Occupancy). b.cards) h.arrives.1.after) ∙ unfailed_out old.cards h.cards (at.setup.meter - 1)
+    (sets_unfailed old.cards h.cards h.moved.rest)
+failed_runs old new number moves at SaysEnded scan h = like old.cards h.cards new h.moved.rest (ap (λ (b : Occupancy). b.cards) h.arrives.1)
+failed_runs old new number moves at SaysFault scan h = relay_failed old.cards new.cards h.fallen.failed
 
-pub failed_goes : (p q : CageSeen) (s : Setup) (i : ℕ) (told : TakenSeen) → Goes p s i told q → any_failed p.rack q.rack ≡ tells_fault told
-failed_goes p q s i told h = failed_runs (bays_of p) (bays_of q) p.number (way s i) (next_place s i) told q.scan h.runs
+pub failed_goes : (p q : CageSeen) (s : Setup) (i : ℕ) (told : TakenSeen) → Advances p s i told q → any_failed p.cards q.cards ≡ tells_fault told
+failed_goes p q s i told h = failed_runs (occupancy_of p) (occupancy_of q) p.number (moves_from s i) (next_place s i) told q.scan h.runs
 
-past_from : (p q : CageSeen) (scan : Option Scanning) (told : TakenSeen) → GoesPastFrom p scan told q
-    → any_failed p.rack q.rack ≡ tells_fault told
+past_from : (p q : CageSeen) (scan : Option ScanSeen) (told : TakenSeen) → AdvancesPastFrom p scan told q
+    → any_failed p.cards q.cards ≡ tells_fault told
 past_from p q None told h = absurd h
 past_from p q (Some at) told h = failed_goes p q at.setup _ told h
 
-pub failed_past : (p q : CageSeen) (told : TakenSeen) → GoesPast p told q → any_failed p.rack q.rack ≡ tells_fault told
+pub failed_past : (p q : CageSeen) (told : TakenSeen) → AdvancesPast p told q → any_failed p.cards q.cards ≡ tells_fault told
 failed_past p q told h = past_from p q p.scan told h
 
 -- a return that is taken tells of a fault exactly where its measurement failed, or a relay card's count changed
 pub failed_counts : (p q : CageSeen) (outcome : Result Reading CardFault) (told : TakenSeen) → Counts p outcome told q
-    → tells_fault told ≡ (is_err outcome || any_failed p.rack q.rack)
+    → tells_fault told ≡ (is_err outcome || any_failed p.cards q.cards)
 failed_counts p q (Ok r) told h = sym (failed_past (with_reading p r) q told h)
 failed_counts p q (Err e) told h = ap tells_fault h.0
 
-readings_from : (p q : CageSeen) (scan : Option Scanning) (told : TakenSeen) → GoesPastFrom p scan told q → q.readings ≡ p.readings
+readings_from : (p q : CageSeen) (scan : Option ScanSeen) (told : TakenSeen) → AdvancesPastFrom p scan told q → q.readings ≡ p.readings
 readings_from p q None told h = absurd h
 readings_from p q (Some at) told h = h.readings
 
-pub readings_past : (p q : CageSeen) (told : TakenSeen) → GoesPast p told q → q.readings ≡ p.readings
+pub readings_past : (p q : CageSeen) (told : TakenSeen) → AdvancesPast p told q → q.readings ≡ p.readings
 readings_past p q told h = readings_from p q p.scan told h
 
 pub readings_counts : (p q : CageSeen) (outcome : Result Reading CardFault) (told : TakenSeen) → Counts p outcome told q

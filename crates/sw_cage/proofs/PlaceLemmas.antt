@@ -22,8 +22,8 @@ use Rattle.sw_cage.specs.declared.scan.walk.Walk.{Walk}
 use Rattle.sw_cage.specs.declared.scan.walk.Moves.{Moves}
 use Rattle.sw_cage.specs.declared.scan.walk.Phase.{Phase}
 use Rattle.sw_cage.specs.declared.scan.walk.Phase.TheVariants.{Arm1Wait, Arm1Pause, Arm2Wait, Arm2Pause, TriggerWait, TriggerPause, Reading}
-use Rattle.sw_cage.specs.Cage.{Scanning}
-use Rattle.sw_cage.specs.Advance.{leading, first_awaited, opens_of, closes_of, way, next_place}
+use Rattle.sw_cage.specs.Cage.{ScanSeen}
+use Rattle.sw_cage.specs.Advance.{leading_moves, first_awaited, opens_of, closes_of, moves_from, next_place}
 use Rattle.sw_cage.specs.Walk.{rest_at, rest_of, rest_after, awaited_at, awaited_of, moves_of}
 
 -- what is left begins with what is awaited
@@ -36,18 +36,18 @@ rest_awaits s a b k TriggerWait = (_, refl)
 rest_awaits s a b k TriggerPause = (_, refl)
 rest_awaits s a b k Reading = (_, refl)
 
-leading_rest : (s : Setup) (w : Option Walk) → leading (rest_after s w) ≡ []
+leading_rest : (s : Setup) (w : Option Walk) → leading_moves (rest_after s w) ≡ []
 leading_rest s None = refl
-leading_rest s (Some w) = ap leading (rest_awaits s w.arm1_left w.arm2_left w.pass w.phase).1
+leading_rest s (Some w) = ap leading_moves (rest_awaits s w.arm1_left w.arm2_left w.pass w.phase).1
 
 pub first_rest : (s : Setup) (w : Walk) → first_awaited (rest_of s w) ≡ Some (awaited_of s w)
 first_rest s w = ap first_awaited (rest_awaits s w.arm1_left w.arm2_left w.pass w.phase).1
 
-leading_moves : (o c : Option Channel) (l : List Item) → leading l ≡ [] → leading ((opens_of o ++ closes_of c) ++ l) ≡ opens_of o ++ closes_of c
-leading_moves None None l h = h
-leading_moves None (Some c) l h = ap (λ (m : List Item). Close c ∷ m) h
-leading_moves (Some o) None l h = ap (λ (m : List Item). Open o ∷ m) h
-leading_moves (Some o) (Some c) l h = ap (λ (m : List Item). Open o ∷ Close c ∷ m) h
+moves_lead : (o c : Option Channel) (l : List Item) → leading_moves l ≡ [] → leading_moves ((opens_of o ++ closes_of c) ++ l) ≡ opens_of o ++ closes_of c
+moves_lead None None l h = h
+moves_lead None (Some c) l h = ap (λ (m : List Item). Close c ∷ m) h
+moves_lead (Some o) None l h = ap (λ (m : List Item). Open o ∷ m) h
+moves_lead (Some o) (Some c) l h = ap (λ (m : List Item). Open o ∷ Close c ∷ m) h
 
 -- from item i, over the moves, to what is left then
 pub behind : (a : List Item) (i : ℕ) (x : Awaited) (m r : List Item) → drop i a ≡ Awaits x ∷ (m ++ r) → drop (i + 1) a ≡ m ++ r
@@ -56,17 +56,17 @@ behind a i x m r at = sym (drop-drop 1 i a) ∙ ap (drop 1) at
 pub short_of : (a : List Item) (i : ℕ) (x : Awaited) (m r : List Item) → drop i a ≡ Awaits x ∷ (m ++ r) → i + 1 + length m ≤ length a
 short_of a i x m r at = omega (arith, ap length at, length-drop i a, length-append m r)
 
--- the moves of a step are the way, and end where the next item is awaited
+-- the moves of a step are all up to the next awaiting item, and end where the next item is awaited
 module _ (s : Setup) (i : ℕ) (moves : Moves) (at : Option Walk) (e : drop i (agenda s) ≡ moves_of moves ++ rest_after s at) where
-  pub way_is : moves_of moves ≡ way s i
-  way_is = sym (ap leading e ∙ leading_moves moves.to_open moves.to_close (rest_after s at) (leading_rest s at))
+  pub way_is : moves_of moves ≡ moves_from s i
+  way_is = sym (ap leading_moves e ∙ moves_lead moves.to_open moves.to_close (rest_after s at) (leading_rest s at))
 
   pub rest_there : drop (i + length (moves_of moves)) (agenda s) ≡ rest_after s at
   rest_there = sym (drop-drop (length (moves_of moves)) i (agenda s)) ∙ ap (drop (length (moves_of moves))) e ∙ drop-append_seam (moves_of moves)
       (rest_after s at)
 
-  pub place_is : (n : ℕ) → n ≡ i + length (moves_of moves) → (let p : Scanning = record { setup = s; index = n } in p) ≡ next_place s i
-  place_is n h = ap (λ (k : ℕ). let p : Scanning = record { setup = s; index = k } in p) (h ∙ ap (λ (l : List Item). i + length l) way_is)
+  pub place_is : (n : ℕ) → n ≡ i + length (moves_of moves) → (let p : ScanSeen = record { setup = s; index = n } in p) ≡ next_place s i
+  place_is n h = ap (λ (k : ℕ). let p : ScanSeen = record { setup = s; index = k } in p) (h ∙ ap (λ (l : List Item). i + length l) way_is)
 
 -- how long an agenda is at most
 length-wait : (name : LayerName) (source : Source) → length (wait_of name source) ≤ 1

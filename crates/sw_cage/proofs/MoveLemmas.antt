@@ -8,15 +8,15 @@ use Rattle.sw_trigger.specs.Agenda.{Item, Close, Open}
 use Rattle.sw_verify.specs.Channels.{Channels, same_channel}
 use Rattle.sw_verify.specs.Sound.{effect}
 use Rattle.sw_verify.proofs.Round.{effect-append}
-use Rattle.sw_cage.specs.Rack.{Rack, layout_of, is_closed, option_rest, all_open, IsRackFault}
+use Rattle.sw_cage.specs.Accounts.{Accounts, layout_of, is_closed, option_rest, all_open, IsChannelFault}
 use Rattle.sw_cage.specs.Change.{is_in, Sets, option_failed, RelayFailed, IsDisturbed}
 use Rattle.sw_cage.specs.Advance.{opens_of}
-use Rattle.sw_cage.specs.Moves.{MayClose, MayMove, IsBroken}
-use Rattle.sw_cage.specs.Cage.{Scanning}
+use Rattle.sw_cage.specs.Moves.{MayCloseNext, MayMove, RelayCallFailed}
+use Rattle.sw_cage.specs.Cage.{ScanSeen}
 use Rattle.sw_cage.specs.TakenSeen.{TakenSeen, SaysIgnored, SaysWaits, SaysPause, SaysJob, SaysEnded, SaysFault}
-use Rattle.sw_cage.specs.Goes.{Moved, HasFallen, Bays, Lands, Runs}
-use Rattle.sw_cage.proofs.Racks.{slot_rest, all_open_closed}
-use Rattle.sw_cage.proofs.Changes.{or_false, layout_rest, plates_rest, plates_all_open, rest_old, rest_new, fault_failed}
+use Rattle.sw_cage.specs.Outcome.{Moved, IsSafeAfterFault, Occupancy, Reaches, AdvancesOrFails}
+use Rattle.sw_cage.proofs.SlotChangeLemmas.{slot_rest, all_open_closed}
+use Rattle.sw_cage.proofs.ChannelCallLemmas.{or_false, layout_rest, identities_rest, identities_all_open, rest_old, rest_new, fault_failed}
 
 swap_eq : (m n : ℕ) → (m == n) ≡ (n == m)
 swap_eq m n = grind (arith, common_steps)
@@ -35,37 +35,37 @@ if_with : (t b : Bool) → (if t then true else b) ≡ (t || b)
 if_with true b = refl
 if_with false b = refl
 
-pub moved_none : (old : Rack) → Moved old [] old
+pub moved_none : (old : Accounts) → Moved old [] old
 moved_none old = record { rest = refl; closed = λ x. refl }
 
-pub moved_open : (old new : Rack) (c : Channel) → Sets old (c ∷ []) false new → Moved old (Open c ∷ []) new
+pub moved_open : (old new : Accounts) (c : Channel) → Sets old (c ∷ []) false new → Moved old (Open c ∷ []) new
 moved_open old new c s = record {
   rest = s.rest;
   closed = λ x. s.closed x ∙ ap (λ (t : Bool). if t then false else is_closed old x) (in_one_is c x) ∙ if_without
       (same_channel c x) (is_closed old x);
 }
 
-pub moved_close : (old new : Rack) (c : Channel) → Sets old (c ∷ []) true new → Moved old (Close c ∷ []) new
+pub moved_close : (old new : Accounts) (c : Channel) → Sets old (c ∷ []) true new → Moved old (Close c ∷ []) new
 moved_close old new c s = record {
   rest = s.rest;
   closed = λ x. s.closed x ∙ ap (λ (t : Bool). if t then true else is_closed old x) (in_one_is c x) ∙ if_with
       (same_channel c x) (is_closed old x);
 }
 
-pub moved_both : (old mid new : Rack) (xs ys : List Item) → Moved old xs mid → Moved mid ys new → Moved old (xs ++ ys) new
+pub moved_both : (old mid new : Accounts) (xs ys : List Item) → Moved old xs mid → Moved mid ys new → Moved old (xs ++ ys) new
 moved_both old mid new xs ys a b = record {
   rest = b.rest ∙ a.rest;
   closed = λ x. b.closed x ∙ ap (λ (m : Channels). effect m ys x) (fun_ext a.closed) ∙ ap (λ (m : Channels). m x) (sym (effect-append (is_closed old) xs ys));
 }
 
-pub moved_layout : (old mid : Rack) (xs : List Item) → Moved old xs mid → layout_of mid ≡ layout_of old
+pub moved_layout : (old mid : Accounts) (xs : List Item) → Moved old xs mid → layout_of mid ≡ layout_of old
 moved_layout old mid xs m = layout_rest old mid m.rest
 
-pub may_close_there : (old mid : Rack) (o k : Option Channel) → MayMove (layout_of old) (is_closed old) o k → Moved old (opens_of o) mid
-    → MayClose (layout_of mid) (is_closed mid) k
+pub may_close_there : (old mid : Accounts) (o k : Option Channel) → MayMove (layout_of old) (is_closed old) o k → Moved old (opens_of o) mid
+    → MayCloseNext (layout_of mid) (is_closed mid) k
 may_close_there old mid o k may m =
-    subst (λ (l : Layout). MayClose l (is_closed mid) k) (sym (moved_layout old mid (opens_of o) m))
-    (subst (λ (b : Channels). MayClose (layout_of old) b k) (sym (fun_ext m.closed)) may.closes)
+    subst (λ (l : Layout). MayCloseNext l (is_closed mid) k) (sym (moved_layout old mid (opens_of o) m))
+    (subst (λ (b : Channels). MayCloseNext (layout_of old) b k) (sym (fun_ext m.closed)) may.closes)
 
 not_meter : (b : Option Bay) (ch : ℕ) → bay_has b ch ≡ true → bay_is_meter b ≡ false
 not_meter None ch h = refl
@@ -73,8 +73,8 @@ not_meter (Some meter) ch h = absurd (cc)
 not_meter (Some (relays groups)) ch h = refl
 
 -- a call on a channel that is there failed
-pub broken_call : (old most new : Rack) (c : Channel) → is_present (layout_of old) c ≡ true → IsRackFault old c most new → IsDisturbed old (c ∷ []) new
-    → IsBroken old new
+pub broken_call : (old most new : Accounts) (c : Channel) → is_present (layout_of old) c ≡ true → IsChannelFault old c most new → IsDisturbed old (c ∷ []) new
+    → RelayCallFailed old new
 broken_call old most new c p f d = record {
   cards = d.cards;
   failed = record {
@@ -85,16 +85,16 @@ broken_call old most new c p f d = record {
   };
 }
 
-pub broken_result : {T E : Type 0} (r : Result T E) (old most new : Rack) (c : Channel) → is_present (layout_of old) c ≡ true
-    → OnErr r (IsRackFault old c most new) → OnErr r (IsDisturbed old (c ∷ []) new) → OnErr r (IsBroken old new)
+pub broken_result : {T E : Type 0} (r : Result T E) (old most new : Accounts) (c : Channel) → is_present (layout_of old) c ≡ true
+    → OnErr r (IsChannelFault old c most new) → OnErr r (IsDisturbed old (c ∷ []) new) → OnErr r (RelayCallFailed old new)
 broken_result (Ok t) old most new c p f d = tt
 broken_result (Err e) old most new c p f d = broken_call old most new c p f d
 
-relay_after : (old mid new : Rack) (xs : List Item) → Moved old xs mid → RelayFailed mid new → RelayFailed old new
+relay_after : (old mid new : Accounts) (xs : List Item) → Moved old xs mid → RelayFailed mid new → RelayFailed old new
 relay_after old mid new xs m f =
     let s = f.slot in
     let same : option_rest (slot_at old s) ≡ option_rest (slot_at mid s) =
-    sym (slot_rest old s) ∙ ap (λ (r : Rack). slot_at r s) (sym m.rest) ∙ slot_rest mid s in
+    sym (slot_rest old s) ∙ ap (λ (r : Accounts). slot_at r s) (sym m.rest) ∙ slot_rest mid s in
     record {
       slot = s;
       relays = ap (λ (l : Layout). has_meter l s) (sym (moved_layout old mid xs m)) ∙ f.relays;
@@ -102,7 +102,7 @@ relay_after old mid new xs m f =
           f.counted;
     }
 
-relay_rested : (old new : Rack) → RelayFailed old new → RelayFailed old (all_open new)
+relay_rested : (old new : Accounts) → RelayFailed old new → RelayFailed old (all_open new)
 relay_rested old new f = record {
   slot = f.slot;
   relays = f.relays;
@@ -110,17 +110,17 @@ relay_rested old new f = record {
       ap (option_failed (slot_at old f.slot)) (slot_rest new f.slot) ∙ rest_new (slot_at old f.slot) (slot_at new f.slot) ∙ f.counted;
 }
 
-pub broken_after : (old mid new : Rack) (xs : List Item) → Moved old xs mid → IsBroken mid new → IsBroken old new
-broken_after old mid new xs m b = record { cards = b.cards ∙ plates_rest old mid m.rest; failed = relay_after old mid new xs m b.failed }
+pub broken_after : (old mid new : Accounts) (xs : List Item) → Moved old xs mid → RelayCallFailed mid new → RelayCallFailed old new
+broken_after old mid new xs m b = record { cards = b.cards ∙ identities_rest old mid m.rest; failed = relay_after old mid new xs m b.failed }
 
-pub fallen : (old new : Rack) → IsBroken old new → HasFallen old (all_open new)
-fallen old new b = record { cards = plates_all_open new ∙ b.cards; failed = relay_rested old new b.failed; none = all_open_closed new }
+pub fallen : (old new : Accounts) → RelayCallFailed old new → IsSafeAfterFault old (all_open new)
+fallen old new b = record { cards = identities_all_open new ∙ b.cards; failed = relay_rested old new b.failed; none = all_open_closed new }
 
-pub meter_there : (old mid : Rack) (xs : List Item) (s : ℕ) → Moved old xs mid → has_meter (layout_of old) s ≡ true → has_meter (layout_of mid) s ≡ true
+pub meter_there : (old mid : Accounts) (xs : List Item) (s : ℕ) → Moved old xs mid → has_meter (layout_of old) s ≡ true → has_meter (layout_of mid) s ≡ true
 meter_there old mid xs s m h = ap (λ (l : Layout). has_meter l s) (moved_layout old mid xs m) ∙ h
 
-pub landed : (old : Bays) (number : ℕ) (moves : List Item) (at : Scanning) (told : TakenSeen) (new : Bays) (scan : Option Scanning)
-    → Lands old number moves at told new scan → Runs old number moves at told new scan
+pub landed : (old : Occupancy) (number : ℕ) (moves : List Item) (at : ScanSeen) (told : TakenSeen) (new : Occupancy) (scan : Option ScanSeen)
+    → Reaches old number moves at told new scan → AdvancesOrFails old number moves at told new scan
 landed old number moves at SaysIgnored new scan h = h
 landed old number moves at SaysWaits new scan h = h
 landed old number moves at (SaysPause ticket micros) new scan h = h

@@ -11,46 +11,46 @@ use Rattle.sw_trigger.specs.declared.layer.Awaited.TheVariants.{Wait, Pause, Rea
 use Rattle.sw_trigger.specs.Settings.{Setup}
 use Rattle.sw_trigger.specs.Agenda.{Item}
 use Rattle.sw_verify.specs.Sound.{effect}
-use Rattle.sw_cage.specs.Rack.{Rack, is_closed, all_open}
-use Rattle.sw_cage.specs.Change.{RelayFailed, option_plate}
-use Rattle.sw_cage.specs.Cage.{Scanning, CageSeen, ticket_of, fall}
-use Rattle.sw_cage.specs.Advance.{way, next_place, awaits}
+use Rattle.sw_cage.specs.Accounts.{Accounts, is_closed, all_open}
+use Rattle.sw_cage.specs.Change.{RelayFailed, identity}
+use Rattle.sw_cage.specs.Cage.{ScanSeen, CageSeen, ticket_of, safe_state}
+use Rattle.sw_cage.specs.Advance.{moves_from, next_place, awaits}
 use Rattle.sw_cage.specs.Work.{JobSeen, FinishedSeen}
 use Rattle.sw_cage.specs.TakenSeen.{TakenSeen, SaysIgnored, SaysWaits, SaysPause, SaysJob, SaysEnded, SaysFault}
 use Rattle.sw_cage.specs.declared.job.Ticket.{Ticket}
 
 -- the closings and openings are done, and the cards are the same
-pub record Moved (old : Rack) (moves : List Item) (new : Rack) : Type 0 where
+pub record Moved (old : Accounts) (moves : List Item) (new : Accounts) : Type 0 where
   pub rest : all_open new ≡ all_open old
   pub closed : (c : Channel) → is_closed new c ≡ effect (is_closed old) moves c
 
 -- a call on a relay card failed: the cards are the same, and every relay is open
-pub record HasFallen (old new : Rack) : Type 0 where
-  pub cards : map option_plate new ≡ map option_plate old
+pub record IsSafeAfterFault (old new : Accounts) : Type 0 where
+  pub cards : map identity new ≡ map identity old
   pub failed : RelayFailed old new
   pub none : (c : Channel) → is_closed new c ≡ false
 
 -- the cards in their slots, and the tickets of those that are out
-pub record Bays : Type 0 where
-  pub rack : Rack
+pub record Occupancy : Type 0 where
+  pub cards : Accounts
   pub out : List (Option Ticket)
 
-abbrev pub bays_of : CageSeen → Bays
-bays_of p = record { rack = p.rack; out = p.out }
+abbrev pub occupancy_of : CageSeen → Occupancy
+occupancy_of p = record { cards = p.cards; out = p.out }
 
 -- the meter of the slot goes out under the ticket
-pub record IsSent (old : Bays) (slot : ℕ) (ticket : Ticket) (job : JobSeen) (new : Bays) : Type 0 where
+pub record IsSent (old : Occupancy) (slot : ℕ) (ticket : Ticket) (job : JobSeen) (new : Occupancy) : Type 0 where
   pub slot_is : job.slot ≡ slot
   pub ticket_is : job.ticket ≡ ticket
-  pub meter : slot_at old.rack slot ≡ Some (of_meter job.meter)
+  pub meter : slot_at old.cards slot ≡ Some (of_meter job.meter)
   pub after : new ≡ record {
-    rack = slice_set old.rack (slot - 1) None;
+    cards = slice_set old.cards (slot - 1) None;
     out = slice_set old.out (slot - 1) (Some ticket);
   }
 
 -- What is told where the scan has come to this place: what it awaits there. A pause and a reading come with their
 -- ticket, and for a reading the meter goes out.
-abbrev pub Arrives : Bays → ℕ → Scanning → TakenSeen → Bays → Option Scanning → Type 0
+abbrev pub Arrives : Occupancy → ℕ → ScanSeen → TakenSeen → Occupancy → Option ScanSeen → Type 0
 Arrives old number at SaysIgnored new scan = ⊥
 Arrives old number at SaysWaits new scan = ((name : LayerName) × (awaits at ≡ Some (Wait name))) × (new ≡ old)
     × (scan ≡ Some at)
@@ -62,46 +62,46 @@ Arrives old number at SaysEnded new scan = (awaits at ≡ None) × (new ≡ old)
 Arrives old number at SaysFault new scan = ⊥
 
 -- after the moves the scan has come to this place
-pub record Lands (old : Bays) (number : ℕ) (moves : List Item) (at : Scanning) (told : TakenSeen) (new : Bays)
-    (scan : Option Scanning) : Type 0 where
-  pub rack : Rack
-  pub moved : Moved old.rack moves rack
-  pub arrives : Arrives (record old { rack = rack }) number at told new scan
+pub record Reaches (old : Occupancy) (number : ℕ) (moves : List Item) (at : ScanSeen) (told : TakenSeen) (new : Occupancy)
+    (scan : Option ScanSeen) : Type 0 where
+  pub cards : Accounts
+  pub moved : Moved old.cards moves cards
+  pub arrives : Arrives (record old { cards = cards }) number at told new scan
 
 -- a card call failed on the way: the scan is over
-pub record Falls (old new : Bays) (scan : Option Scanning) : Type 0 where
-  pub fallen : HasFallen old.rack new.rack
+pub record EntersSafeState (old new : Occupancy) (scan : Option ScanSeen) : Type 0 where
+  pub fallen : IsSafeAfterFault old.cards new.cards
   pub out : new.out ≡ old.out
   pub over : scan ≡ None
 
 -- the moves are made, and the place is reached, unless a card call fails
-abbrev pub Runs : Bays → ℕ → List Item → Scanning → TakenSeen → Bays → Option Scanning → Type 0
-Runs old number moves at SaysFault new scan = Falls old new scan
-Runs old number moves at SaysIgnored new scan = Lands old number moves at SaysIgnored new scan
-Runs old number moves at SaysWaits new scan = Lands old number moves at SaysWaits new scan
-Runs old number moves at (SaysPause ticket micros) new scan =
-    Lands old number moves at (SaysPause ticket micros) new scan
-Runs old number moves at (SaysJob job) new scan = Lands old number moves at (SaysJob job) new scan
-Runs old number moves at SaysEnded new scan = Lands old number moves at SaysEnded new scan
+abbrev pub AdvancesOrFails : Occupancy → ℕ → List Item → ScanSeen → TakenSeen → Occupancy → Option ScanSeen → Type 0
+AdvancesOrFails old number moves at SaysFault new scan = EntersSafeState old new scan
+AdvancesOrFails old number moves at SaysIgnored new scan = Reaches old number moves at SaysIgnored new scan
+AdvancesOrFails old number moves at SaysWaits new scan = Reaches old number moves at SaysWaits new scan
+AdvancesOrFails old number moves at (SaysPause ticket micros) new scan =
+    Reaches old number moves at (SaysPause ticket micros) new scan
+AdvancesOrFails old number moves at (SaysJob job) new scan = Reaches old number moves at (SaysJob job) new scan
+AdvancesOrFails old number moves at SaysEnded new scan = Reaches old number moves at SaysEnded new scan
 
 -- From item i of the settings' agenda the scan goes on to the next awaiting item, and tells what it awaits there.
-pub record Goes (p : CageSeen) (s : Setup) (i : ℕ) (told : TakenSeen) (q : CageSeen) : Type 0 where
-  pub runs : Runs (bays_of p) p.number (way s i) (next_place s i) told (bays_of q) q.scan
+pub record Advances (p : CageSeen) (s : Setup) (i : ℕ) (told : TakenSeen) (q : CageSeen) : Type 0 where
+  pub runs : AdvancesOrFails (occupancy_of p) p.number (moves_from s i) (next_place s i) told (occupancy_of q) q.scan
   pub number : q.number ≡ p.number
   pub readings : q.readings ≡ p.readings
 
 -- past what the scan awaits
-abbrev pub GoesPastFrom : CageSeen → Option Scanning → TakenSeen → CageSeen → Type 0
-GoesPastFrom p None told q = ⊥
-GoesPastFrom p (Some at) told q = Goes p at.setup (at.index + 1) told q
+abbrev pub AdvancesPastFrom : CageSeen → Option ScanSeen → TakenSeen → CageSeen → Type 0
+AdvancesPastFrom p None told q = ⊥
+AdvancesPastFrom p (Some at) told q = Advances p at.setup (at.index + 1) told q
 
-abbrev pub GoesPast : CageSeen → TakenSeen → CageSeen → Type 0
-GoesPast p told q = GoesPastFrom p p.scan told q
+abbrev pub AdvancesPast : CageSeen → TakenSeen → CageSeen → Type 0
+AdvancesPast p told q = AdvancesPastFrom p p.scan told q
 
 -- the meter is back in its slot
 abbrev pub with_back : CageSeen → FinishedSeen → CageSeen
 with_back p done = record p {
-  rack = slice_set p.rack (done.slot - 1) (Some (of_meter done.meter));
+  cards = slice_set p.cards (done.slot - 1) (Some (of_meter done.meter));
   out = slice_set p.out (done.slot - 1) None;
 }
 
@@ -116,8 +116,8 @@ with_reading p r = record p { readings = p.readings ++ r ∷ [] }
 -- a return that the scan takes, the meter being back: its reading is added and the scan goes on; its failure ends the
 -- scan
 abbrev pub Counts : CageSeen → Result Reading CardFault → TakenSeen → CageSeen → Type 0
-Counts p (Ok r) told q = GoesPast (with_reading p r) told q
-Counts p (Err e) told q = (told ≡ SaysFault) × (q ≡ fall p)
+Counts p (Ok r) told q = AdvancesPast (with_reading p r) told q
+Counts p (Err e) told q = (told ≡ SaysFault) × (q ≡ safe_state p)
 
 -- a scan begins: its number is one more, and no reading is made
 abbrev pub begun : CageSeen → CageSeen

@@ -13,44 +13,44 @@ use Rattle.sw_trigger.specs.Agenda.{Item, agenda}
 use Rattle.sw_trigger.specs.Counts.{reads, is_reading}
 use Rattle.sw_verify.specs.Channels.{Channels, is_among}
 use Rattle.sw_verify.specs.Sound.{IsSound}
-use Rattle.sw_cage.specs.Rack.{Rack, layout_of, is_closed, all_open}
+use Rattle.sw_cage.specs.Accounts.{Accounts, layout_of, is_closed, all_open}
 use Rattle.sw_cage.specs.Channels.{closed_list}
-use Rattle.sw_cage.specs.Cage.{Scanning, CageSeen, layout_with, cage_layout, ticket_of}
-use Rattle.sw_cage.specs.Advance.{opens_of, closes_of, way, next_place, awaits}
+use Rattle.sw_cage.specs.Cage.{ScanSeen, CageSeen, layout_with, cage_layout, ticket_of}
+use Rattle.sw_cage.specs.Advance.{opens_of, closes_of, moves_from, next_place, awaits}
 use Rattle.sw_cage.specs.Moves.{MayMove}
-use Rattle.sw_cage.specs.Good.{IsOnWay, MeterStands, IsUnderway, IsRunning, IsHeld, HasRoom, IsKept}
+use Rattle.sw_cage.specs.Good.{HasDone, MeterStands, IsUnderway, IsRunning, IsHeld, HasRoom, IsGoodWithRoom}
 use Rattle.sw_cage.specs.TakenSeen.{TakenSeen, SaysIgnored, SaysWaits, SaysPause, SaysJob, SaysEnded, SaysFault}
 use Rattle.sw_cage.specs.Takes.{AwaitsReturn, TakesReturnThere, AwaitsOther}
-use Rattle.sw_cage.specs.Goes.{bays_of, Runs, Goes}
+use Rattle.sw_cage.specs.Outcome.{occupancy_of, AdvancesOrFails, Advances}
 use Rattle.sw_cage.specs.declared.job.Ticket.{Ticket}
-use Rattle.sw_cage.proofs.Racks.{some_slot, slot_set_same, slot_set_other}
-use Rattle.sw_cage.proofs.Layouts.{meter_in, layout_back}
-use Rattle.sw_cage.proofs.Held.{stays_open, held_stays}
-use Rattle.sw_cage.proofs.Underway.{reads_past, reads_left, may_move, may_move_in, on_way_past, on_way_like}
-use Rattle.sw_cage.proofs.Among.{among_closed}
-use Rattle.sw_cage.proofs.Runs.{CanGo, lengths, closed_back, held_both, good_goes}
+use Rattle.sw_cage.proofs.SlotChangeLemmas.{some_slot, slot_set_same, slot_set_other}
+use Rattle.sw_cage.proofs.LayoutLemmas.{meter_in, layout_back}
+use Rattle.sw_cage.proofs.KeptLemmas.{stays_open, held_stays}
+use Rattle.sw_cage.proofs.UnderwayLemmas.{reads_past, reads_left, may_move, may_move_in, on_way_past, on_way_like}
+use Rattle.sw_cage.proofs.ClosedMemberLemmas.{among_closed}
+use Rattle.sw_cage.proofs.AdvanceLemmas.{CanGo, lengths, closed_back, held_both, good_goes}
 
 -- a scan that can go on
 
-pub go_meter : (p : CageSeen) (s : Setup) (i : ℕ) (at : Scanning) → CanGo p s i → at ≡ next_place s i → has_meter (layout_of p.rack) at.setup.meter ≡ true
-go_meter p s i at g e = ap (λ (x : Scanning). has_meter (layout_of p.rack) x.setup.meter) e ∙ g.measured
+pub go_meter : (p : CageSeen) (s : Setup) (i : ℕ) (at : ScanSeen) → CanGo p s i → at ≡ next_place s i → has_meter (layout_of p.cards) at.setup.meter ≡ true
+go_meter p s i at g e = ap (λ (x : ScanSeen). has_meter (layout_of p.cards) x.setup.meter) e ∙ g.measured
 
-pub go_slot : (p : CageSeen) (s : Setup) (i : ℕ) (at : Scanning) → CanGo p s i → at ≡ next_place s i → (1 ≤ at.setup.meter) × (at.setup.meter ≤ 8)
-go_slot p s i at g e = subst (λ (x : Scanning). (1 ≤ x.setup.meter) × (x.setup.meter ≤ 8)) (sym e) g.range.meter
+pub go_slot : (p : CageSeen) (s : Setup) (i : ℕ) (at : ScanSeen) → CanGo p s i → at ≡ next_place s i → (1 ≤ at.setup.meter) × (at.setup.meter ≤ 8)
+go_slot p s i at g e = subst (λ (x : ScanSeen). (1 ≤ x.setup.meter) × (x.setup.meter ≤ 8)) (sym e) g.range.meter
 
-pub go_may : (p : CageSeen) (s : Setup) (i : ℕ) (o k : Option Channel) → IsHeld p → CanGo p s i → opens_of o ++ closes_of k ≡ way s i
-    → MayMove (layout_of p.rack) (is_closed p.rack) o k
-go_may p s i o k held g e = may_move_in (layout_of p.rack) p.out (lengths p held) (is_closed p.rack) o k
-    (may_move (cage_layout p) (is_closed p.rack) s i g.way o k e)
+pub go_may : (p : CageSeen) (s : Setup) (i : ℕ) (o k : Option Channel) → IsHeld p → CanGo p s i → opens_of o ++ closes_of k ≡ moves_from s i
+    → MayMove (layout_of p.cards) (is_closed p.cards) o k
+go_may p s i o k held g e = may_move_in (layout_of p.cards) p.out (lengths p held) (is_closed p.cards) o k
+    (may_move (cage_layout p) (is_closed p.cards) s i g.way o k e)
 
-room_some : (room : ℕ) (s : Setup) (i : ℕ) (scan : Option Scanning) → reads (agenda s) ≤ room → scan ≡ Some (next_place s i) → HasRoom scan room
-room_some room s i scan r e = subst (λ (o : Option Scanning). HasRoom o room) (sym e) r
+room_some : (room : ℕ) (s : Setup) (i : ℕ) (scan : Option ScanSeen) → reads (agenda s) ≤ room → scan ≡ Some (next_place s i) → HasRoom scan room
+room_some room s i scan r e = subst (λ (o : Option ScanSeen). HasRoom o room) (sym e) r
 
-room_none : (room : ℕ) (scan : Option Scanning) → scan ≡ None → HasRoom scan room
-room_none room scan e = subst (λ (o : Option Scanning). HasRoom o room) (sym e) tt
+room_none : (room : ℕ) (scan : Option ScanSeen) → scan ≡ None → HasRoom scan room
+room_none room scan e = subst (λ (o : Option ScanSeen). HasRoom o room) (sym e) tt
 
 room_goes : (p q : CageSeen) (s : Setup) (i : ℕ) (told : TakenSeen) (room : ℕ) → reads (agenda s) ≤ room
-    → Runs (bays_of p) p.number (way s i) (next_place s i) told (bays_of q) q.scan → HasRoom q.scan room
+    → AdvancesOrFails (occupancy_of p) p.number (moves_from s i) (next_place s i) told (occupancy_of q) q.scan → HasRoom q.scan room
 room_goes p q s i SaysIgnored room r h = absurd h.arrives
 room_goes p q s i SaysWaits room r h = room_some room s i q.scan r h.arrives.2
 room_goes p q s i (SaysPause t micros) room r h = room_some room s i q.scan r h.arrives.3
@@ -58,26 +58,26 @@ room_goes p q s i (SaysJob job) room r h = room_some room s i q.scan r h.arrives
 room_goes p q s i SaysEnded room r h = room_none room q.scan h.arrives.2
 room_goes p q s i SaysFault room r h = room_none room q.scan h.over
 
-pub go_kept : (p q : CageSeen) (s : Setup) (i : ℕ) (told : TakenSeen) (moves : List Item) (at : Scanning) (room : ℕ) → IsHeld p → CanGo p s i
+pub go_kept : (p q : CageSeen) (s : Setup) (i : ℕ) (told : TakenSeen) (moves : List Item) (at : ScanSeen) (room : ℕ) → IsHeld p → CanGo p s i
     → reads (agenda s) ≤ room
-    → Runs (bays_of p) p.number moves at told (bays_of q) q.scan → moves ≡ way s i → at ≡ next_place s i → q.number ≡ p.number → q.readings ≡ p.readings
-    → IsKept q room
+    → AdvancesOrFails (occupancy_of p) p.number moves at told (occupancy_of q) q.scan → moves ≡ moves_from s i → at ≡ next_place s i → q.number ≡ p.number → q.readings ≡ p.readings
+    → IsGoodWithRoom q room
 go_kept p q s i told moves at room held g r h e f n rs =
-    let h : Runs (bays_of p) p.number (way s i) (next_place s i) told (bays_of q) q.scan =
-    subst (λ (m : List Item). Runs (bays_of p) p.number m (next_place s i) told (bays_of q) q.scan) e
-    (subst (λ (x : Scanning). Runs (bays_of p) p.number moves x told (bays_of q) q.scan) f h) in
-    let goes : Goes p s i told q = record { runs = h; number = n; readings = rs } in
+    let h : AdvancesOrFails (occupancy_of p) p.number (moves_from s i) (next_place s i) told (occupancy_of q) q.scan =
+    subst (λ (m : List Item). AdvancesOrFails (occupancy_of p) p.number m (next_place s i) told (occupancy_of q) q.scan) e
+    (subst (λ (x : ScanSeen). AdvancesOrFails (occupancy_of p) p.number moves x told (occupancy_of q) q.scan) f h) in
+    let goes : Advances p s i told q = record { runs = h; number = n; readings = rs } in
     record { good = good_goes p q s i told held g goes; room = room_goes p q s i told room r h }
 
 -- past a wait or a pause
 
-running_at : (p : CageSeen) (at : Scanning) → IsRunning p p.scan → p.scan ≡ Some at → IsUnderway p at
+running_at : (p : CageSeen) (at : ScanSeen) → IsRunning p p.scan → p.scan ≡ Some at → IsUnderway p at
 running_at p at r e = subst (IsRunning p) e r
 
-pub room_at : (p : CageSeen) (at : Scanning) (room : ℕ) → IsKept p room → p.scan ≡ Some at → reads (agenda at.setup) ≤ room
-room_at p at room k e = subst (λ (o : Option Scanning). HasRoom o room) e k.room
+pub room_at : (p : CageSeen) (at : ScanSeen) (room : ℕ) → IsGoodWithRoom p room → p.scan ≡ Some at → reads (agenda at.setup) ≤ room
+room_at p at room k e = subst (λ (o : Option ScanSeen). HasRoom o room) e k.room
 
-pub awaits_some : (at : Scanning) → AwaitsOther (Some at) → awaits at ≡ None → ⊥
+pub awaits_some : (at : ScanSeen) → AwaitsOther (Some at) → awaits at ≡ None → ⊥
 awaits_some at o e = cc
 
 other_home : (out : Option Ticket) (t : Ticket) (x : Awaited) → is_reading x ≡ 0 → MeterStands out t (Some x) → out ≡ None
@@ -85,7 +85,7 @@ other_home out t (Wait name) n m = m
 other_home out t (Pause micros) n m = m
 other_home out t Read n m = absurd (omega arith)
 
-pub go_other : (p : CageSeen) (at : Scanning) (room : ℕ) → IsKept p room → p.scan ≡ Some at → AwaitsOther (Some at) → CanGo p at.setup (at.index + 1)
+pub go_other : (p : CageSeen) (at : ScanSeen) (room : ℕ) → IsGoodWithRoom p room → p.scan ≡ Some at → AwaitsOther (Some at) → CanGo p at.setup (at.index + 1)
 go_other p at room k e o =
     let u : IsUnderway p at = running_at p at k.good.running e in
     let x : Awaited = o.0 in
@@ -95,8 +95,8 @@ go_other p at room k e o =
       listed = u.listed;
       range = u.range;
       home = home;
-      measured = meter_in (layout_of p.rack) p.out (lengths p k.good.held) at.setup.meter u.measured home;
-      way = on_way_past (cage_layout p) (is_closed p.rack) at.setup at.index u.way x o.1.0;
+      measured = meter_in (layout_of p.cards) p.out (lengths p k.good.held) at.setup.meter u.measured home;
+      way = on_way_past (cage_layout p) (is_closed p.cards) at.setup at.index u.way x o.1.0;
       readings = u.readings ∙ omega (arith, reads_past at.setup at.index x o.1.0, o.1.1);
     }
 
@@ -111,32 +111,32 @@ pub out_slot : (p q : CageSeen) (s s' : ℕ) (t : Ticket) → IsHeld p → p ≡
 out_slot p q s s' t k e f h = slot_some p s t k (ap (λ (x : CageSeen). slot_at x.out s) e ∙ ap (λ (n : ℕ). slot_at q.out n) (sym f) ∙ h)
 
 module _ (p : CageSeen) (s : ℕ) (t : Ticket) (m : MeterAccount) (k : IsHeld p) (out : slot_at p.out s ≡ Some t) where
-  abbrev rack_back : Rack
-  rack_back = slice_set p.rack (s - 1) (Some (of_meter m))
+  abbrev rack_back : Accounts
+  rack_back = slice_set p.cards (s - 1) (Some (of_meter m))
 
   abbrev out_back : List (Option Ticket)
   out_back = slice_set p.out (s - 1) None
 
-  pub held_back : (scan : Option Scanning) → IsHeld (record p { rack = rack_back; out = out_back; scan = scan })
+  pub held_back : (scan : Option ScanSeen) → IsHeld (record p { cards = rack_back; out = out_back; scan = scan })
   held_back scan = let b = slot_some p s t k out in held_both p s (Some (of_meter m)) None scan k b.0 b.1 (λ h. absurd (cc)) (λ u h. absurd (cc))
 
-  empty_slot : slot_at p.rack s ≡ None
+  empty_slot : slot_at p.cards s ≡ None
   empty_slot = k.empty s (ap is_some out)
 
   layout_same : layout_with (layout_of rack_back) out_back ≡ cage_layout p
-  layout_same = let b = slot_some p s t k out in layout_back p.rack p.out s t m (k.outs ∙ sym k.slots) (omega (arith, b.0)) empty_slot out
+  layout_same = let b = slot_some p s t k out in layout_back p.cards p.out s t m (k.outs ∙ sym k.slots) (omega (arith, b.0)) empty_slot out
 
-  closed_same : is_closed rack_back ≡ is_closed p.rack
-  closed_same = let b = slot_some p s t k out in fun_ext (closed_back p.rack s m b.0 (omega (arith, b.1, k.slots)) empty_slot)
+  closed_same : is_closed rack_back ≡ is_closed p.cards
+  closed_same = let b = slot_some p s t k out in fun_ext (closed_back p.cards s m b.0 (omega (arith, b.1, k.slots)) empty_slot)
 
-  way_back : (setup : Setup) (i : ℕ) → IsOnWay (cage_layout p) (is_closed p.rack) setup i
-      → IsOnWay (layout_with (layout_of rack_back) out_back) (is_closed rack_back) setup i
-  way_back setup i w = on_way_like (cage_layout p) (layout_with (layout_of rack_back) out_back) (is_closed p.rack) (is_closed rack_back) setup i layout_same
+  way_back : (setup : Setup) (i : ℕ) → HasDone (cage_layout p) (is_closed p.cards) setup i
+      → HasDone (layout_with (layout_of rack_back) out_back) (is_closed rack_back) setup i
+  way_back setup i w = on_way_like (cage_layout p) (layout_with (layout_of rack_back) out_back) (is_closed p.cards) (is_closed rack_back) setup i layout_same
       closed_same w
 
   -- the scan that awaits it goes on
-  pub go_counted : (at : Scanning) (r : Reading) → IsUnderway p at → AwaitsReturn p.number at s t
-      → CanGo (record p { rack = rack_back; out = out_back; readings = p.readings ++ r ∷ [] }) at.setup (at.index + 1)
+  pub go_counted : (at : ScanSeen) (r : Reading) → IsUnderway p at → AwaitsReturn p.number at s t
+      → CanGo (record p { cards = rack_back; out = out_back; readings = p.readings ++ r ∷ [] }) at.setup (at.index + 1)
   go_counted at r u w =
       let b = slot_some p s t k out in
       let home : slot_at out_back at.setup.meter ≡ None = ap (slot_at out_back) w.slot_is ∙ slot_set_same p.out s None (omega (arith, b.0))
@@ -145,7 +145,7 @@ module _ (p : CageSeen) (s : ℕ) (t : Ticket) (m : MeterAccount) (k : IsHeld p)
         listed = u.listed;
         range = u.range;
         home = home;
-        measured = meter_in (layout_of rack_back) out_back (lengths (record p { rack = rack_back; out = out_back }) (held_back p.scan)) at.setup.meter
+        measured = meter_in (layout_of rack_back) out_back (lengths (record p { cards = rack_back; out = out_back }) (held_back p.scan)) at.setup.meter
             (ap (λ (l : Layout). has_meter l at.setup.meter) layout_same ∙ u.measured) home;
         way = on_way_past (layout_with (layout_of rack_back) out_back) (is_closed rack_back) at.setup at.index (way_back at.setup at.index u.way) Read
             w.reading;
@@ -153,14 +153,14 @@ module _ (p : CageSeen) (s : ℕ) (t : Ticket) (m : MeterAccount) (k : IsHeld p)
       }
 
   -- another scan's meter is out in the slot
-  stands_out : (at : Scanning) (x : Option Awaited) → awaits at ≡ x → at.setup.meter ≡ s → MeterStands (Some t) (ticket_of p.number at) x
+  stands_out : (at : ScanSeen) (x : Option Awaited) → awaits at ≡ x → at.setup.meter ≡ s → MeterStands (Some t) (ticket_of p.number at) x
       → AwaitsReturn p.number at s t
   stands_out at None e f w = absurd w
   stands_out at (Some (Wait name)) e f w = absurd (cc)
   stands_out at (Some (Pause micros)) e f w = absurd (cc)
   stands_out at (Some Read) e f w = record { reading = e; slot_is = f; ticket_is = let y : ticket_of p.number at ≡ t = cc in y }
 
-  underway_back : (at : Scanning) → IsUnderway p at → (AwaitsReturn p.number at s t → ⊥) → IsUnderway (record p { rack = rack_back; out = out_back }) at
+  underway_back : (at : ScanSeen) → IsUnderway p at → (AwaitsReturn p.number at s t → ⊥) → IsUnderway (record p { cards = rack_back; out = out_back }) at
   underway_back at u late =
       let b = slot_some p s t k out in
       let other : at.setup.meter ≢ s = λ e. late (stands_out at (awaits at) refl e
@@ -175,42 +175,42 @@ module _ (p : CageSeen) (s : ℕ) (t : Ticket) (m : MeterAccount) (k : IsHeld p)
             (sym (slot_set_other p.out s at.setup.meter None (omega (arith, b.0)) other)) u.meter;
       }
 
-  running_back : (scan : Option Scanning) → IsRunning p scan → (TakesReturnThere p.number scan s t → ⊥)
-      → IsRunning (record p { rack = rack_back; out = out_back }) scan
+  running_back : (scan : Option ScanSeen) → IsRunning p scan → (TakesReturnThere p.number scan s t → ⊥)
+      → IsRunning (record p { cards = rack_back; out = out_back }) scan
   running_back None r late = tt
   running_back (Some at) r late = underway_back at r late
 
 -- what the code has, by its parts
 
-pub kept_back : (p : CageSeen) (s : ℕ) (t : Ticket) (m : MeterAccount) (rack : Rack) (out : List (Option Ticket)) (room : ℕ) → IsKept p room
+pub kept_back : (p : CageSeen) (s : ℕ) (t : Ticket) (m : MeterAccount) (rack : Accounts) (out : List (Option Ticket)) (room : ℕ) → IsGoodWithRoom p room
     → slot_at p.out s ≡ Some t → (TakesReturnThere p.number p.scan s t → ⊥)
-    → rack ≡ slice_set p.rack (s - 1) (Some (of_meter m)) → out ≡ slice_set p.out (s - 1) None → IsKept (record p { rack = rack; out = out }) room
+    → rack ≡ slice_set p.cards (s - 1) (Some (of_meter m)) → out ≡ slice_set p.out (s - 1) None → IsGoodWithRoom (record p { cards = rack; out = out }) room
 kept_back p s t m rack out room k at late e f =
-    subst (λ (x : Rack). IsKept (record p { rack = x; out = out }) room) (sym e)
-    (subst (λ (x : List (Option Ticket)). IsKept (record p { rack = slice_set p.rack (s - 1) (Some (of_meter m)); out = x }) room) (sym f) (record {
+    subst (λ (x : Accounts). IsGoodWithRoom (record p { cards = x; out = out }) room) (sym e)
+    (subst (λ (x : List (Option Ticket)). IsGoodWithRoom (record p { cards = slice_set p.cards (s - 1) (Some (of_meter m)); out = x }) room) (sym f) (record {
       good = record { held = held_back p s t m k.good.held at p.scan; running = running_back p s t m k.good.held at p.scan k.good.running late };
       room = k.room;
     }))
 
-pub kept_failed : (p : CageSeen) (s : ℕ) (t : Ticket) (m : MeterAccount) (rack rested : Rack) (out : List (Option Ticket)) (room : ℕ) → IsKept p room
+pub kept_failed : (p : CageSeen) (s : ℕ) (t : Ticket) (m : MeterAccount) (rack rested : Accounts) (out : List (Option Ticket)) (room : ℕ) → IsGoodWithRoom p room
     → slot_at p.out s ≡ Some t
-    → rack ≡ slice_set p.rack (s - 1) (Some (of_meter m)) → out ≡ slice_set p.out (s - 1) None → rested ≡ all_open rack
-    → IsKept (record p { rack = rested; out = out; scan = None }) room
+    → rack ≡ slice_set p.cards (s - 1) (Some (of_meter m)) → out ≡ slice_set p.out (s - 1) None → rested ≡ all_open rack
+    → IsGoodWithRoom (record p { cards = rested; out = out; scan = None }) room
 kept_failed p s t m rack rested out room k at e f h =
-    let back : CageSeen = record p { rack = slice_set p.rack (s - 1) (Some (of_meter m)); out = slice_set p.out (s - 1) None; scan = None } in
-    subst (λ (x : Rack). IsKept (record p { rack = x; out = out; scan = None }) room) (sym (h ∙ ap all_open e))
-    (subst (λ (x : List (Option Ticket)). IsKept (record p { rack = all_open (slice_set p.rack (s - 1) (Some (of_meter m))); out = x; scan = None }) room)
+    let back : CageSeen = record p { cards = slice_set p.cards (s - 1) (Some (of_meter m)); out = slice_set p.out (s - 1) None; scan = None } in
+    subst (λ (x : Accounts). IsGoodWithRoom (record p { cards = x; out = out; scan = None }) room) (sym (h ∙ ap all_open e))
+    (subst (λ (x : List (Option Ticket)). IsGoodWithRoom (record p { cards = all_open (slice_set p.cards (s - 1) (Some (of_meter m))); out = x; scan = None }) room)
     (sym f) (record {
       good = record {
-        held = held_stays back (all_open (slice_set p.rack (s - 1) (Some (of_meter m)))) None (held_back p s t m k.good.held at None)
-            (stays_open (slice_set p.rack (s - 1) (Some (of_meter m))));
+        held = held_stays back (all_open (slice_set p.cards (s - 1) (Some (of_meter m)))) None (held_back p s t m k.good.held at None)
+            (stays_open (slice_set p.cards (s - 1) (Some (of_meter m))));
         running = tt;
       };
       room = tt;
     }))
 
 -- there is room for one more reading
-pub room_left : (p : CageSeen) (at : Scanning) (s : ℕ) (t : Ticket) (room : ℕ) → IsKept p room → p.scan ≡ Some at → AwaitsReturn p.number at s t
+pub room_left : (p : CageSeen) (at : ScanSeen) (s : ℕ) (t : Ticket) (room : ℕ) → IsGoodWithRoom p room → p.scan ≡ Some at → AwaitsReturn p.number at s t
     → length p.readings < room
 room_left p at s t room k e w =
     let u : IsUnderway p at = running_at p at k.good.running e in
@@ -221,15 +221,15 @@ pub record Counted (p : CageSeen) (s : Setup) (i : ℕ) : Type 0 where
   pub held : IsHeld p
   pub go : CanGo p s i
 
-pub counted : (p : CageSeen) (at : Scanning) (s : ℕ) (t : Ticket) (m : MeterAccount) (r : Reading) (rack : Rack) (out : List (Option Ticket))
-    (readings : List Reading) (room : ℕ) → IsKept p room → p.scan ≡ Some at → AwaitsReturn p.number at s t → slot_at p.out s ≡ Some t
-    → rack ≡ slice_set p.rack (s - 1) (Some (of_meter m)) → out ≡ slice_set p.out (s - 1) None → readings ≡ p.readings ++ r ∷ []
-    → Counted (record p { rack = rack; out = out; readings = readings }) at.setup (at.index + 1)
+pub counted : (p : CageSeen) (at : ScanSeen) (s : ℕ) (t : Ticket) (m : MeterAccount) (r : Reading) (rack : Accounts) (out : List (Option Ticket))
+    (readings : List Reading) (room : ℕ) → IsGoodWithRoom p room → p.scan ≡ Some at → AwaitsReturn p.number at s t → slot_at p.out s ≡ Some t
+    → rack ≡ slice_set p.cards (s - 1) (Some (of_meter m)) → out ≡ slice_set p.out (s - 1) None → readings ≡ p.readings ++ r ∷ []
+    → Counted (record p { cards = rack; out = out; readings = readings }) at.setup (at.index + 1)
 counted p at s t m r rack out readings room k e w h a b c =
-    subst (λ (x : Rack). Counted (record p { rack = x; out = out; readings = readings }) at.setup (at.index + 1)) (sym a)
-    (subst (λ (x : List (Option Ticket)). Counted (record p { rack = slice_set p.rack (s - 1) (Some (of_meter m)); out = x; readings = readings }) at.setup
+    subst (λ (x : Accounts). Counted (record p { cards = x; out = out; readings = readings }) at.setup (at.index + 1)) (sym a)
+    (subst (λ (x : List (Option Ticket)). Counted (record p { cards = slice_set p.cards (s - 1) (Some (of_meter m)); out = x; readings = readings }) at.setup
     (at.index + 1)) (sym b)
-    (subst (λ (x : List Reading). Counted (record p { rack = slice_set p.rack (s - 1) (Some (of_meter m)); out = slice_set p.out (s - 1) None; readings = x })
+    (subst (λ (x : List Reading). Counted (record p { cards = slice_set p.cards (s - 1) (Some (of_meter m)); out = slice_set p.out (s - 1) None; readings = x })
     at.setup (at.index + 1)) (sym c)
     (let k' = held_back p s t m k.good.held h p.scan in record {
       held = record { slots = k'.slots; outs = k'.outs; empty = k'.empty; past = k'.past };
@@ -239,21 +239,21 @@ counted p at s t m r rack out readings room k e w h a b c =
 -- a scan begins
 pub begins : (p : CageSeen) (s : Setup) (layout : Layout) (closed : List Channel) (number : ℕ) (readings : List Reading) → IsHeld p → 0 < length s.list
     → IsInRange s → slot_at p.out s.meter ≡ None → has_meter layout s.meter ≡ true
-    → IsSound layout (is_among closed) s.points (agenda s) → cage_layout p ≡ layout → closed_list p.rack ≡ closed
-    → ((c : Channel) → is_closed p.rack c ≡ true → (1 ≤ c.0) × (c.0 ≤ 8) × (1 ≤ c.1) × (c.1 ≤ 99))
+    → IsSound layout (is_among closed) s.points (agenda s) → cage_layout p ≡ layout → closed_list p.cards ≡ closed
+    → ((c : Channel) → is_closed p.cards c ≡ true → (1 ≤ c.0) × (c.0 ≤ 8) × (1 ≤ c.1) × (c.1 ≤ 99))
     → number ≡ p.number + 1 → readings ≡ [] → Counted (record p { number = number; readings = readings }) s 0
 begins p s layout closed number readings k listed range home measured sound e f inside n r =
-    let found : is_among closed ≡ is_closed p.rack = ap is_among (sym f) ∙ fun_ext (among_closed p.rack inside) in
+    let found : is_among closed ≡ is_closed p.cards = ap is_among (sym f) ∙ fun_ext (among_closed p.cards inside) in
     record {
       held = record { slots = k.slots; outs = k.outs; empty = k.empty; past = λ x t h. omega (arith, k.past x t h, n) };
       go = record {
         listed = listed;
         range = range;
         home = home;
-        measured = meter_in (layout_of p.rack) p.out (lengths p k) s.meter (ap (λ (l : Layout). has_meter l s.meter) e ∙ measured) home;
+        measured = meter_in (layout_of p.cards) p.out (lengths p k) s.meter (ap (λ (l : Layout). has_meter l s.meter) e ∙ measured) home;
         way = record {
-          found = is_closed p.rack;
-          sound = subst (λ (l : Layout). IsSound l (is_closed p.rack) s.points (agenda s)) (sym e)
+          found = is_closed p.cards;
+          sound = subst (λ (l : Layout). IsSound l (is_closed p.cards) s.points (agenda s)) (sym e)
               (subst (λ (b : Channels). IsSound layout b s.points (agenda s)) found sound);
           so_far = refl;
         };
@@ -275,12 +275,12 @@ pub here_late : (p q : CageSeen) (s s' : ℕ) (t t' : Ticket) → p ≡ q → s 
     → TakesReturnThere p.number p.scan s t → ⊥
 here_late p q s s' t t' e f g late h = late (here_taken q p s' s t' t (sym e) (sym f) (sym g) h)
 
-pub taken_scan : (number : ℕ) (scan : Option Scanning) (s : ℕ) (t : Ticket) → TakesReturnThere number scan s t
-    → (at : Scanning) × ((scan ≡ Some at) × AwaitsReturn number at s t)
+pub taken_scan : (number : ℕ) (scan : Option ScanSeen) (s : ℕ) (t : Ticket) → TakesReturnThere number scan s t
+    → (at : ScanSeen) × ((scan ≡ Some at) × AwaitsReturn number at s t)
 taken_scan number None s t h = absurd h
 taken_scan number (Some at) s t h = (at, (refl, h))
 
-pub room_for : (p : CageSeen) (s : ℕ) (t : Ticket) (room : ℕ) → IsKept p room → TakesReturnThere p.number p.scan s t → length p.readings < room
+pub room_for : (p : CageSeen) (s : ℕ) (t : Ticket) (room : ℕ) → IsGoodWithRoom p room → TakesReturnThere p.number p.scan s t → length p.readings < room
 room_for p s t room k h = let w = taken_scan p.number p.scan s t h in room_left p w.0 s t room k w.1.0 w.1.1
 
 pub pushed : {T E : Type 0} (r : Result T E) (t : T) (xs new : List Reading) (x : Reading) → new ≡ (if is_ok r then xs ++ x ∷ [] else xs) → r ≡ Ok t

@@ -1,19 +1,19 @@
--- What keeps a rack exclusive, told by what the cage's calls promise.
+-- What keeps the cards exclusive, told by what the cage's calls promise.
 use Rattle.std.proofs.Common.{◌≡◌, Bool, true, false, List, length, inl, inr, sym, ◌∙◌, ap, subst, ◌∷◌, [], if◌then◌else◌}
 use Rattle.std.proofs.lemmas.List.{length-map}
 use Rattle.std.specs.List.{list_all}
 use Rattle.sw_base.specs.Layout.{Channel, is_present, IsExclusive}
-use Rattle.sw_cage.specs.Rack.{Rack, layout_of, is_closed, option_rest, all_open}
-use Rattle.sw_cage.specs.Change.{same_channel, is_in, Sets, option_plate, IsDisturbed}
+use Rattle.sw_cage.specs.Accounts.{Accounts, layout_of, is_closed, option_rest, all_open}
+use Rattle.sw_cage.specs.Change.{same_channel, is_in, Sets, identity, IsDisturbed}
 use Rattle.sw_cage.specs.Close.{closed_with, CanClose}
-use Rattle.sw_cage.proofs.Racks.{exclusive_none, all_open_closed}
-use Rattle.sw_cage.proofs.Changes.{sets_layout, sets_closed, and_left, and_right, or_cases, or_left, or_right, same_is}
+use Rattle.sw_cage.proofs.SlotChangeLemmas.{exclusive_none, all_open_closed}
+use Rattle.sw_cage.proofs.ChannelCallLemmas.{sets_layout, sets_closed, and_left, and_right, or_cases, or_left, or_right, same_is}
 
-pub sets_length : (old new : Rack) (chans : List Channel) (on : Bool) → Sets old chans on new → length new ≡ length old
+pub sets_length : (old new : Accounts) (chans : List Channel) (on : Bool) → Sets old chans on new → length new ≡ length old
 sets_length old new chans on s = sym (length-map new option_rest) ∙ ap length s.rest ∙ length-map old option_rest
 
-pub disturbed_length : (old new : Rack) (chans : List Channel) → IsDisturbed old chans new → length new ≡ length old
-disturbed_length old new chans d = sym (length-map new option_plate) ∙ ap length d.cards ∙ length-map old option_plate
+pub disturbed_length : (old new : Accounts) (chans : List Channel) → IsDisturbed old chans new → length new ≡ length old
+disturbed_length old new chans d = sym (length-map new identity) ∙ ap length d.cards ∙ length-map old identity
 
 all_in : (p : Channel → Bool) (chans : List Channel) (c : Channel) → list_all p chans ≡ true → is_in chans c ≡ true → p c ≡ true
 all_in p [] c all h = absurd (cc)
@@ -22,13 +22,13 @@ all_in p (x ∷ chans) c all h = elim (or_cases (same_channel c x) (is_in chans 
   | inr i ↦ all_in p chans c (and_right (p x) (list_all p chans) all) i
 ]
 
-closed_too : (old new : Rack) (chans : List Channel) → Sets old chans true new → (c : Channel) → is_closed new c ≡ true
+closed_too : (old new : Accounts) (chans : List Channel) → Sets old chans true new → (c : Channel) → is_closed new c ≡ true
     → closed_with (is_closed old) chans c ≡ true
 closed_too old new chans sets c k = elim (sets_closed old new chans true sets c k)
     [ inl o ↦ or_right (is_in chans c) (is_closed old c) o | inr i ↦ or_left (is_in chans c) (is_closed old c) i ]
 
 -- channels that may be closed together are closed
-pub exclusive_closing : (old new : Rack) (chans : List Channel) → IsExclusive (layout_of old) (is_closed old) → CanClose (layout_of old) (is_closed old) chans
+pub exclusive_closing : (old new : Accounts) (chans : List Channel) → IsExclusive (layout_of old) (is_closed old) → CanClose (layout_of old) (is_closed old) chans
     → Sets old chans true new → IsExclusive (layout_of new) (is_closed new)
 exclusive_closing old new chans safe can sets = subst (λ l. IsExclusive l (is_closed new)) (sym (sets_layout old new chans true sets)) (record {
   present = λ c k. elim (sets_closed old new chans true sets c k)
@@ -48,7 +48,7 @@ if_false true r m e h = cc
 if_false false r m e h = sym e ∙ h
 
 -- channels are opened
-pub exclusive_opening : (old new : Rack) (chans : List Channel) → IsExclusive (layout_of old) (is_closed old) → Sets old chans false new
+pub exclusive_opening : (old new : Accounts) (chans : List Channel) → IsExclusive (layout_of old) (is_closed old) → Sets old chans false new
     → IsExclusive (layout_of new) (is_closed new)
 exclusive_opening old new chans safe sets = subst (λ l. IsExclusive l (is_closed new)) (sym (sets_layout old new chans false sets)) (record {
   present = λ c k. safe.present c (if_false (is_in chans c) (is_closed old c) (is_closed new c) (sets.closed c) k);
@@ -57,5 +57,5 @@ exclusive_opening old new chans safe sets = subst (λ l. IsExclusive l (is_close
 })
 
 -- every relay is opened
-pub exclusive_all_open : (rack : Rack) → IsExclusive (layout_of (all_open rack)) (is_closed (all_open rack))
+pub exclusive_all_open : (rack : Accounts) → IsExclusive (layout_of (all_open rack)) (is_closed (all_open rack))
 exclusive_all_open rack = exclusive_none (layout_of (all_open rack)) (is_closed (all_open rack)) (all_open_closed rack)

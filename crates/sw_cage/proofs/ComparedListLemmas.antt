@@ -9,7 +9,7 @@ use Rattle.std.proofs.Math.Seq.{get_or-append_seam}
 use Rattle.sw_base.specs.Layout.{Channel}
 use Rattle.sw_trigger.proofs.Same.{channel_decides}
 use Rattle.sw_cage.specs.Channels.{row, rows}
-use Rattle.sw_cage.proofs.Orders.{row_more, rows_more}
+use Rattle.sw_cage.proofs.ClosedListLemmas.{row_more, rows_more}
 
 -- a list that grows begins with what it was
 grown : (f g : ℕ → List Channel) → ((n : ℕ) → f (n + 1) ≡ f n ++ g n) → (m n : ℕ) → m ≤ n → (X : List Channel) × (f n ≡ f m ++ X)

@@ -2,12 +2,12 @@
 use Rattle.std.specs.Prelude.{◌≡◌, ◌<◌, length, drop}
 use Rattle.sw_trigger.specs.Settings.{IsInRange}
 use Rattle.sw_trigger.specs.Agenda.{agenda}
-use Rattle.sw_cage.specs.Cage.{Scanning}
+use Rattle.sw_cage.specs.Cage.{ScanSeen}
 use Rattle.sw_cage.specs.Walk.{rest_after}
 use Rattle.sw_cage.specs.declared.scan.Scan.TheInside.{Inside}
 
-abbrev pub place_of : Inside → Scanning
-place_of s = record { setup = s.settings; index = s.index }
+abbrev pub scan_seen : Inside → ScanSeen
+scan_seen s = record { setup = s.settings; index = s.index }
 
 -- the walk stands at the item of that index
 pub record IsPlaced (s : Inside) : Type 0 where

@@ -7,9 +7,9 @@ use Rattle.std.proofs.lemmas.Bool.{cases_eq}
 use Rattle.sw_base.specs.Layout.{Channel}
 use Rattle.sw_verify.specs.Channels.{same_channel, is_among}
 use Rattle.sw_verify.proofs.Round.{same_channel_is, same_channel_self}
-use Rattle.sw_cage.specs.Rack.{Rack, is_closed}
+use Rattle.sw_cage.specs.Accounts.{Accounts, is_closed}
 use Rattle.sw_cage.specs.Channels.{row, rows, closed_list}
-use Rattle.sw_cage.proofs.Changes.{or_left, or_right}
+use Rattle.sw_cage.proofs.ChannelCallLemmas.{or_left, or_right}
 
 -- one that passes and is in the list, and no other
 kept_at : (t v w : Bool) (keep : Bool) → (t ≡ true → v ≡ keep) → (if keep then t || (w && v) else w && v) ≡ ((t || w) && v)
@@ -64,7 +64,7 @@ closed_and true v h = refl
 closed_and false true h = h refl
 closed_and false false h = refl
 
-pub among_closed : (rack : Rack) → ((c : Channel) → is_closed rack c ≡ true → (1 ≤ c.0) × (c.0 ≤ 8) × (1 ≤ c.1) × (c.1 ≤ 99)) → (x : Channel)
+pub among_closed : (rack : Accounts) → ((c : Channel) → is_closed rack c ≡ true → (1 ≤ c.0) × (c.0 ≤ 8) × (1 ≤ c.1) × (c.1 ≤ 99)) → (x : Channel)
     → is_among (closed_list rack) x ≡ is_closed rack x
 among_closed rack inside x =
     among_filter (is_closed rack) (rows 8) x

@@ -9,39 +9,39 @@ use Rattle.std.proofs.lemmas.Bool.{cases_lt}
 use Rattle.sw_base.specs.Layout.{Channel, slot_at, bay_has, bay_group, group_at, group_of}
 use Rattle.sw_card.specs.Account.{Account, is_meter}
 use Rattle.sw_card.proofs.Rows.{closed_past}
-use Rattle.sw_cage.specs.Rack.{Rack, bay_of, option_bay, layout_of, option_closed, is_closed, OptionRow, IsSafe}
+use Rattle.sw_cage.specs.Accounts.{Accounts, card_contents, slot_contents, layout_of, option_closed, is_closed, OptionWellFormed, AreSafe}
 use Rattle.sw_cage.specs.Channels.{row, rows}
-use Rattle.sw_cage.proofs.Racks.{present_at, group_in_slot}
+use Rattle.sw_cage.proofs.SlotChangeLemmas.{present_at, group_in_slot}
 
 -- closed channels
 
-pub has_bounds : (a : Account) (ch : ℕ) → bay_has (Some (bay_of a)) ch ≡ true → (0 < ch) × ((is_meter a ≡ false) × (ch ≤ length a.groups))
+pub has_bounds : (a : Account) (ch : ℕ) → bay_has (Some (card_contents a)) ch ≡ true → (0 < ch) × ((is_meter a ≡ false) × (ch ≤ length a.groups))
 has_bounds a ch h = (grind (arith, common_steps), (grind (arith, common_steps), grind (arith, common_steps)))
 
-row_bounds : (o : Option Account) (ch : ℕ) → OptionRow o → bay_has (option_bay o) ch ≡ true → (1 ≤ ch) × (ch ≤ 99)
+row_bounds : (o : Option Account) (ch : ℕ) → OptionWellFormed o → bay_has (slot_contents o) ch ≡ true → (1 ≤ ch) × (ch ≤ 99)
 row_bounds None ch r h = absurd (cc)
 row_bounds (Some a) ch r h = let b : (0 < ch) × ((is_meter a ≡ false) × (ch ≤ length a.groups)) = has_bounds a ch h in let f : length a.groups ≤ 99 =
     r.few b.1.0 in (omega (arith, b.0), omega (arith, b.1.1, f))
 
 -- a closed channel's number
-pub closed_number : (rack : Rack) (c : Channel) → IsSafe rack → is_closed rack c ≡ true → (1 ≤ c.1) × (c.1 ≤ 99)
+pub closed_number : (rack : Accounts) (c : Channel) → AreSafe rack → is_closed rack c ≡ true → (1 ≤ c.1) × (c.1 ≤ 99)
 closed_number rack c safe h = row_bounds (slot_at rack c.0) c.1 (safe.rows c.0) (sym (present_at rack c) ∙ safe.exclusive.present c h)
 
-present_group : (a : Account) (ch : ℕ) → bay_has (Some (bay_of a)) ch ≡ true → bay_group (Some (bay_of a)) ch ≡ group_at a.groups ch
+present_group : (a : Account) (ch : ℕ) → bay_has (Some (card_contents a)) ch ≡ true → bay_group (Some (card_contents a)) ch ≡ group_at a.groups ch
 present_group a ch h = grind (arith, common_steps)
 
 -- the group that the card tells of a closed channel
-pub closed_group : (rack : Rack) (c : Channel) (a : Account) → IsSafe rack → slot_at rack c.0 ≡ Some a → is_closed rack c ≡ true
+pub closed_group : (rack : Accounts) (c : Channel) (a : Account) → AreSafe rack → slot_at rack c.0 ≡ Some a → is_closed rack c ≡ true
     → group_of (layout_of rack) c ≡ group_at a.groups c.1
 closed_group rack c a safe at h =
-    let has : bay_has (Some (bay_of a)) c.1 ≡ true = ap (λ o. bay_has (option_bay o) c.1) (sym at) ∙ sym (present_at rack c) ∙ safe.exclusive.present c h in
-    group_in_slot rack c ∙ ap (λ o. bay_group (option_bay o) c.1) at ∙ present_group a c.1 has
+    let has : bay_has (Some (card_contents a)) c.1 ≡ true = ap (λ o. bay_has (slot_contents o) c.1) (sym at) ∙ sym (present_at rack c) ∙ safe.exclusive.present c h in
+    group_in_slot rack c ∙ ap (λ o. bay_group (slot_contents o) c.1) at ∙ present_group a c.1 has
 
 -- in a slot nothing is closed past the last channel
-pub closed_beyond : (rack : Rack) (slot : ℕ) (a : Account) (k : ℕ) → slot_at rack slot ≡ Some a → length a.closed < k → is_closed rack (slot, k) ≡ false
+pub closed_beyond : (rack : Accounts) (slot : ℕ) (a : Account) (k : ℕ) → slot_at rack slot ≡ Some a → length a.closed < k → is_closed rack (slot, k) ≡ false
 closed_beyond rack slot a k at h = ap (λ o. option_closed o k) at ∙ closed_past a.closed k h
 
-pub closed_nowhere : (rack : Rack) (slot k : ℕ) → slot_at rack slot ≡ None → is_closed rack (slot, k) ≡ false
+pub closed_nowhere : (rack : Accounts) (slot k : ℕ) → slot_at rack slot ≡ None → is_closed rack (slot, k) ≡ false
 closed_nowhere rack slot k at = ap (λ o. option_closed o k) at
 
 -- rows
@@ -90,7 +90,7 @@ is_false : (b : Bool) → (b ≡ true → ⊥) → b ≡ false
 is_false true h = absurd (h refl)
 is_false false h = refl
 
-pub closed_far : (rack : Rack) (slot k : ℕ) → IsSafe rack → 99 < k → is_closed rack (slot, k) ≡ false
+pub closed_far : (rack : Accounts) (slot k : ℕ) → AreSafe rack → 99 < k → is_closed rack (slot, k) ≡ false
 closed_far rack slot k safe h = is_false (is_closed rack (slot, k))
     (λ e. let b : (1 ≤ k) × (k ≤ 99) = closed_number rack (slot, k) safe e in absurd (omega (arith, b.1)))
 
@@ -98,7 +98,7 @@ row_nowhere : (closed : Channel → Bool) (slot n : ℕ) → ((k : ℕ) → clos
 unfolding row
 row_nowhere closed slot n none = row_past closed slot 0 n (omega arith) (λ k h. none k)
 
-pub row_empty : (rack : Rack) (slot n : ℕ) → slot_at rack slot ≡ None → filter (is_closed rack) (row slot n) ≡ []
+pub row_empty : (rack : Accounts) (slot n : ℕ) → slot_at rack slot ≡ None → filter (is_closed rack) (row slot n) ≡ []
 row_empty rack slot n at = row_nowhere (is_closed rack) slot n (λ k. closed_nowhere rack slot k at)
 
 pub row_start : (closed : Channel → Bool) (slot : ℕ) → filter closed (row slot 0) ≡ []
@@ -129,7 +129,7 @@ push_rows now new closed slot kept e = e ∙ ap (λ l. l ++ filter closed (row (
     ap (filter closed) (sym (rows_more slot))
 
 -- the card's channels are all that may be closed in its slot
-pub card_row : (rack : Rack) (slot n : ℕ) (a : Account) → IsSafe rack → slot_at rack slot ≡ Some a → length a.closed ≤ n
+pub card_row : (rack : Accounts) (slot n : ℕ) (a : Account) → AreSafe rack → slot_at rack slot ≡ Some a → length a.closed ≤ n
     → filter (is_closed rack) (row slot n) ≡ filter (is_closed rack) (row slot 99)
 card_row rack slot n a safe at h = row_whole (is_closed rack) slot n (λ k l. closed_beyond rack slot a k at (omega (arith, h, l)))
     (λ k l. closed_far rack slot k safe l)

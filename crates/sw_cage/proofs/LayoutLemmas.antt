@@ -4,10 +4,10 @@ use Rattle.std.proofs.Common.{◌∙◌, ap, arith, nat_lt, if◌then◌else◌}
 use Rattle.std.proofs.lemmas.List.{map-set, length-map}
 use Rattle.sw_base.specs.Layout.{Channel, Bay, meter, Layout, slot_at, bay_has, bay_group, bay_is_meter, is_present, group_of, has_meter, IsClash}
 use Rattle.sw_card.specs.Account.{Account, MeterAccount, of_meter}
-use Rattle.sw_cage.specs.Rack.{Rack, option_bay, layout_of}
+use Rattle.sw_cage.specs.Accounts.{Accounts, slot_contents, layout_of}
 use Rattle.sw_cage.specs.Cage.{or_meter, layout_with}
 use Rattle.sw_cage.specs.declared.job.Ticket.{Ticket}
-use Rattle.sw_cage.proofs.Racks.{slot_get, slot_layout}
+use Rattle.sw_cage.proofs.SlotChangeLemmas.{slot_get, slot_layout}
 
 or_has : (b : Option Bay) (t : Option Ticket) (ch : ℕ) → bay_has (or_meter b t) ch ≡ bay_has b ch
 or_has None None ch = refl
@@ -78,23 +78,23 @@ back_index (b ∷ bays) (u ∷ out) zero t h e f = ap (λ (x : Option Bay). x �
     (sym (ap (λ (y : Option Bay). or_meter y u) e ∙ ap (λ (v : Option Ticket). or_meter None v) f))
 back_index (b ∷ bays) (u ∷ out) (suc i) t h e f = ap (λ (l : Layout). or_meter b u ∷ l) (back_index bays out i t (omega arith) e f)
 
-layout_set : (rack : Rack) (i : ℕ) (v : Option Account) → layout_of (slice_set rack i v) ≡ slice_set (layout_of rack) i (option_bay v)
-layout_set rack i v = map-set option_bay rack i v
+layout_set : (rack : Accounts) (i : ℕ) (v : Option Account) → layout_of (slice_set rack i v) ≡ slice_set (layout_of rack) i (slot_contents v)
+layout_set rack i v = map-set slot_contents rack i v
 
-pub layout_length : (rack : Rack) → length (layout_of rack) ≡ length rack
-layout_length rack = length-map rack option_bay
+pub layout_length : (rack : Accounts) → length (layout_of rack) ≡ length rack
+layout_length rack = length-map rack slot_contents
 
-pub layout_sent : (rack : Rack) (out : List (Option Ticket)) (s : ℕ) (t : Ticket) (m : MeterAccount) → length out ≡ length rack → 0 < s
+pub layout_sent : (rack : Accounts) (out : List (Option Ticket)) (s : ℕ) (t : Ticket) (m : MeterAccount) → length out ≡ length rack → 0 < s
     → slot_at rack s ≡ Some (of_meter m)
     → layout_with (layout_of (slice_set rack (s - 1) None)) (slice_set out (s - 1) (Some t)) ≡ layout_with (layout_of rack) out
 layout_sent rack out s t m h p e =
     ap (λ (l : Layout). layout_with l (slice_set out (s - 1) (Some t))) (layout_set rack (s - 1) None)
-    ∙ sent_index (layout_of rack) out (s - 1) t (h ∙ sym (layout_length rack)) (sym (slot_get (layout_of rack) s p) ∙ slot_layout rack s ∙ ap option_bay e)
+    ∙ sent_index (layout_of rack) out (s - 1) t (h ∙ sym (layout_length rack)) (sym (slot_get (layout_of rack) s p) ∙ slot_layout rack s ∙ ap slot_contents e)
 
-pub layout_back : (rack : Rack) (out : List (Option Ticket)) (s : ℕ) (t : Ticket) (m : MeterAccount) → length out ≡ length rack → 0 < s → slot_at rack s ≡ None
+pub layout_back : (rack : Accounts) (out : List (Option Ticket)) (s : ℕ) (t : Ticket) (m : MeterAccount) → length out ≡ length rack → 0 < s → slot_at rack s ≡ None
     → slot_at out s ≡ Some t
     → layout_with (layout_of (slice_set rack (s - 1) (Some (of_meter m)))) (slice_set out (s - 1) None) ≡ layout_with (layout_of rack) out
 layout_back rack out s t m h p e f =
     ap (λ (l : Layout). layout_with l (slice_set out (s - 1) None)) (layout_set rack (s - 1) (Some (of_meter m)))
-    ∙ back_index (layout_of rack) out (s - 1) t (h ∙ sym (layout_length rack)) (sym (slot_get (layout_of rack) s p) ∙ slot_layout rack s ∙ ap option_bay e)
+    ∙ back_index (layout_of rack) out (s - 1) t (h ∙ sym (layout_length rack)) (sym (slot_get (layout_of rack) s p) ∙ slot_layout rack s ∙ ap slot_contents e)
     (sym (slot_get out s p) ∙ f)

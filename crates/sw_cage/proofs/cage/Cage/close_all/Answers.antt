@@ -1,8 +1,0 @@
-use Rattle.std.proofs.Common.{◌∙◌, ap, true}
-use Rattle.sw_cage.specs.Cage.{CageSeen}
-use Rattle.sw_cage.proofs.Held.{kept_idle, stays_call}
-use Rattle.sw_cage.proofs.cage.Cage.close_all.Goals as goal
-
-pub invariant_of-self : goal.invariant_of-self
-invariant_of-self g c = kept_idle _ c.close_all.new.self _ c.self.invariant (ap (λ (p : CageSeen). p.scan) c.self.view_is ∙ c.requires.idle)
-    (stays_call c.close_all.result c.self.inside.slots c.close_all.new.self c.args.chans.now true c.close_all.ensures.ok c.close_all.ensures.err)
