@@ -1,6 +1,7 @@
 -- What is so of a cage stays so where its scan goes on.
 use Rattle.std.proofs.Common.{◌≡◌, ℕ, ◌+◌, ◌-◌, ◌<◌, ◌≤◌, ◌&&◌, nat_lt, Bool, true, false, List, length, take, Option, Some, None, slice_set, refl, sym, ap}
 use Rattle.std.proofs.Common.{◌∙◌, subst, arith, is_some, inl, inr}
+use Rattle.sw_base.specs.Limits.{most_slots}
 use mathlib.Core.Path.{fun_ext}
 use Rattle.std.proofs.lemmas.List.{length-set}
 use Rattle.sw_base.specs.Layout.{Channel, Layout, slot_at, has_meter, bay_is_meter}
@@ -79,7 +80,7 @@ closed_back rack s m a b e c = elim (slot_cases rack s c.0 (Some (of_meter m)) (
 ]
 
 -- a slot's card and ticket change together
-pub held_both : (p : CageSeen) (s : ℕ) (v : Option Account) (t : Option Ticket) (scan : Option ScanSeen) → IsHeld p → 1 ≤ s → s ≤ 8
+pub held_both : (p : CageSeen) (s : ℕ) (v : Option Account) (t : Option Ticket) (scan : Option ScanSeen) → IsHeld p → 1 ≤ s → s ≤ most_slots
     → (is_some t ≡ true → v ≡ None) → ((u : Ticket) → t ≡ Some u → u.scan ≤ p.number)
     → IsHeld (record p { cards = slice_set p.cards (s - 1) v; out = slice_set p.out (s - 1) t; scan = scan })
 held_both p s v t scan k a b empty past = record {
@@ -163,7 +164,8 @@ module _ (p : CageSeen) (s : Setup) (i : ℕ) (mid : Accounts) (k : IsHeld p) (g
 
 -- wherever the scan comes to, the cage is good
 pub good_lands : (p q : CageSeen) (s : Setup) (i : ℕ) (told : TakenSeen) → IsHeld p → CanGo p s i
-    → Reaches (occupancy_of p) p.number (moves_from s i) (next_place s i) told (occupancy_of q) q.scan → q.number ≡ p.number → q.readings ≡ p.readings → IsGood q
+    → Reaches (occupancy_of p) p.number (moves_from s i) (next_place s i) told (occupancy_of q) q.scan → q.number ≡ p.number → q.readings ≡ p.readings
+    → IsGood q
 good_lands p q s i SaysIgnored k g l n r = absurd l.arrives
 good_lands p q s i SaysFault k g l n r = absurd l.arrives
 good_lands p q s i SaysWaits k g l n r =

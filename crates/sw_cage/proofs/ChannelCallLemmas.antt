@@ -8,7 +8,8 @@ use Rattle.std.proofs.lemmas.Grind.{common_steps}
 use Rattle.std.proofs.lemmas.Bool.{cases_eq}
 use Rattle.sw_base.specs.Layout.{Channel, slot_at, bay_has, is_present}
 use Rattle.sw_card.specs.Account.{Account, closed_at, set_closed, none_closed, IsWithin, at_rest, IsFault}
-use Rattle.sw_cage.specs.Accounts.{Accounts, card_contents, slot_contents, layout_of, option_closed, is_closed, OptionWellFormed, option_set, with_chan, option_rest, all_open}
+use Rattle.sw_cage.specs.Accounts.{Accounts, card_contents, slot_contents, layout_of, option_closed, is_closed, OptionWellFormed, option_set, with_chan}
+use Rattle.sw_cage.specs.Accounts.{option_rest, all_open}
 use Rattle.sw_cage.specs.Accounts.{IsSlotFault}
 use Rattle.sw_cage.specs.Change.{same_channel, is_in, Sets, option_failed, any_failed, identity, IsDisturbed}
 use Rattle.sw_cage.proofs.SlotChangeLemmas.{slot_set_same, slot_cases, slot_get, map_slot, present_slot, present_at, same_chan, IsSlotGrown, layout_all_open}

@@ -3,6 +3,7 @@ use Rattle.std.proofs.Common.{◌≡◌, ◌≢◌, ℕ, ◌+◌, ◌≤◌, ◌
 use Rattle.std.proofs.Common.{inr, refl, sym, ◌∙◌, ap, subst, arith, zero, suc, replicate, take}
 use Rattle.std.proofs.lemmas.List.{get_or-set_same, get_or-set_other, take_all}
 use Rattle.std.proofs.lemmas.Bool.{cases_eq, cases_lt}
+use Rattle.sw_base.specs.Limits.{most_slots}
 use Rattle.sw_base.specs.Layout.{Channel, Layout, group_of, IsClash, slot_at}
 use Rattle.sw_card.specs.Account.{Account}
 use Rattle.sw_cage.specs.Accounts.{Accounts, layout_of, is_closed, option_closed}
@@ -12,7 +13,8 @@ use Rattle.sw_cage.specs.Claims.{Index, claim_at, IndexesClaims, ClosedBefore}
 use Rattle.sw_cage.proofs.SlotChangeLemmas.{same_chan, closed_slot}
 use Rattle.sw_cage.proofs.ChannelCallLemmas.{in_more, in_take, in_at, in_one, in_yes, or_cases, or_left, or_right}
 
-pub holds_same : (layout : Layout) (P Q : Channel → Type 0) (index : Index) → ((c : Channel) → P c → Q c) → ((c : Channel) → Q c → P c) → IndexesClaims layout P index
+pub holds_same : (layout : Layout) (P Q : Channel → Type 0) (index : Index) → ((c : Channel) → P c → Q c) → ((c : Channel) → Q c → P c)
+    → IndexesClaims layout P index
     → IndexesClaims layout Q index
 holds_same layout P Q index to back h = record {
   told = λ c q n. h.told c (back c q) n;
@@ -24,7 +26,8 @@ none_claimed zero group = refl
 none_claimed (suc n) zero = refl
 none_claimed (suc n) (suc group) = none_claimed n group
 
-pub holds_none : (layout : Layout) (P : Channel → Type 0) (index : Index) (n : ℕ) → index ≡ replicate n None → ((c : Channel) → P c → ⊥) → IndexesClaims layout P index
+pub holds_none : (layout : Layout) (P : Channel → Type 0) (index : Index) (n : ℕ) → index ≡ replicate n None → ((c : Channel) → P c → ⊥)
+    → IndexesClaims layout P index
 holds_none layout P index n e none = record {
   told = λ c p m. absurd (none c p);
   held = λ group c h. absurd (let k : None ≡ Some c = sym (none_claimed n group) ∙ ap (λ (i : Index). claim_at i group) (sym e) ∙ h in cc);
@@ -50,7 +53,8 @@ more_held layout P index group c h g room at d e = elim (cases_eq at group) [
 ]
 
 -- one more channel claims its group
-pub holds_more : (layout : Layout) (P : Channel → Type 0) (index new : Index) (group : ℕ) (c : Channel) → IndexesClaims layout P index → group ≡ group_of layout c
+pub holds_more : (layout : Layout) (P : Channel → Type 0) (index new : Index) (group : ℕ) (c : Channel) → IndexesClaims layout P index
+    → group ≡ group_of layout c
     → (group ≢ 0 → (other : Channel) → claim_at index group ≡ Some other → other ≡ c) → (group ≢ 0 → new ≡ slice_set index group (Some c))
     → (group ≢ 0 → group < length index) → (group ≡ 0 → new ≡ index) → IndexesClaims layout (λ d. (P d) ⊎ (d ≡ c)) new
 holds_more layout P index new group c h g free claimed room groupless = elim (cases_eq group 0) [
@@ -132,7 +136,8 @@ before_claimed rack index new slot ch group c e h closed g free claimed room gro
     (λ n. claimed n ∙ ap (λ (x : Channel). slice_set index group (Some x)) e) room groupless
 
 -- an open channel changes nothing
-pub before_open : (rack : Accounts) (index : Index) (slot ch : ℕ) → IndexesClaims (layout_of rack) (ClosedBefore rack slot ch) index → is_closed rack (slot, ch) ≡ false
+pub before_open : (rack : Accounts) (index : Index) (slot ch : ℕ) → IndexesClaims (layout_of rack) (ClosedBefore rack slot ch) index
+    → is_closed rack (slot, ch) ≡ false
     → IndexesClaims (layout_of rack) (ClosedBefore rack slot (ch + 1)) index
 before_open rack index slot ch h «open» = holds_same (layout_of rack) (ClosedBefore rack slot ch) (ClosedBefore rack slot (ch + 1)) index
     (λ c p. (p.0, elim p.1 [ inl l ↦ inl l | inr r ↦ inr (r.0, omega (arith, r.1)) ]))
@@ -170,9 +175,9 @@ before_next rack index slot ch h past = holds_same (layout_of rack) (ClosedBefor
 -- closed channels and listed ones
 
 -- past the last slot nothing is closed
-pub closed_all : (rack : Accounts) (index : Index) → length rack ≡ 8 → IndexesClaims (layout_of rack) (ClosedBefore rack 9 0) index
+pub closed_all : (rack : Accounts) (index : Index) → length rack ≡ most_slots → IndexesClaims (layout_of rack) (ClosedBefore rack (most_slots + 1) 0) index
     → IndexesClaims (layout_of rack) (λ c. is_closed rack c ≡ true) index
-closed_all rack index size h = holds_same (layout_of rack) (ClosedBefore rack 9 0) (λ c. is_closed rack c ≡ true) index (λ c p. p.0)
+closed_all rack index size h = holds_same (layout_of rack) (ClosedBefore rack (most_slots + 1) 0) (λ c. is_closed rack c ≡ true) index (λ c p. p.0)
     (λ c p. (p, inl (let b : (0 < c.0) × (c.0 ≤ length rack) = closed_slot rack c p in omega (arith, size, b.1)))) h
 
 with_step : (closed : Channel → Bool) (chans : List Channel) (i : ℕ) (c d : Channel) → i < length chans → c ≡ slice_index_or chans i d → (x : Channel)

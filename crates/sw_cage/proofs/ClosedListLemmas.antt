@@ -6,6 +6,7 @@ use Rattle.std.proofs.lemmas.List.{append-nil}
 use Rattle.std.proofs.lemmas.List.Elements.{filter-append}
 use Rattle.std.proofs.lemmas.Grind.{common_steps}
 use Rattle.std.proofs.lemmas.Bool.{cases_lt}
+use Rattle.sw_base.specs.Limits.{most_channels}
 use Rattle.sw_base.specs.Layout.{Channel, slot_at, bay_has, bay_group, group_at, group_of}
 use Rattle.sw_card.specs.Account.{Account, is_meter}
 use Rattle.sw_card.proofs.Rows.{closed_past}
@@ -18,13 +19,13 @@ use Rattle.sw_cage.proofs.SlotChangeLemmas.{present_at, group_in_slot}
 pub has_bounds : (a : Account) (ch : ℕ) → bay_has (Some (card_contents a)) ch ≡ true → (0 < ch) × ((is_meter a ≡ false) × (ch ≤ length a.groups))
 has_bounds a ch h = (grind (arith, common_steps), (grind (arith, common_steps), grind (arith, common_steps)))
 
-row_bounds : (o : Option Account) (ch : ℕ) → OptionWellFormed o → bay_has (slot_contents o) ch ≡ true → (1 ≤ ch) × (ch ≤ 99)
+row_bounds : (o : Option Account) (ch : ℕ) → OptionWellFormed o → bay_has (slot_contents o) ch ≡ true → (1 ≤ ch) × (ch ≤ most_channels)
 row_bounds None ch r h = absurd (cc)
-row_bounds (Some a) ch r h = let b : (0 < ch) × ((is_meter a ≡ false) × (ch ≤ length a.groups)) = has_bounds a ch h in let f : length a.groups ≤ 99 =
+row_bounds (Some a) ch r h = let b : (0 < ch) × ((is_meter a ≡ false) × (ch ≤ length a.groups)) = has_bounds a ch h in let f : length a.groups ≤ most_channels =
     r.few b.1.0 in (omega (arith, b.0), omega (arith, b.1.1, f))
 
 -- a closed channel's number
-pub closed_number : (rack : Accounts) (c : Channel) → AreSafe rack → is_closed rack c ≡ true → (1 ≤ c.1) × (c.1 ≤ 99)
+pub closed_number : (rack : Accounts) (c : Channel) → AreSafe rack → is_closed rack c ≡ true → (1 ≤ c.1) × (c.1 ≤ most_channels)
 closed_number rack c safe h = row_bounds (slot_at rack c.0) c.1 (safe.rows c.0) (sym (present_at rack c) ∙ safe.exclusive.present c h)
 
 present_group : (a : Account) (ch : ℕ) → bay_has (Some (card_contents a)) ch ≡ true → bay_group (Some (card_contents a)) ch ≡ group_at a.groups ch
@@ -34,7 +35,8 @@ present_group a ch h = grind (arith, common_steps)
 pub closed_group : (rack : Accounts) (c : Channel) (a : Account) → AreSafe rack → slot_at rack c.0 ≡ Some a → is_closed rack c ≡ true
     → group_of (layout_of rack) c ≡ group_at a.groups c.1
 closed_group rack c a safe at h =
-    let has : bay_has (Some (card_contents a)) c.1 ≡ true = ap (λ o. bay_has (slot_contents o) c.1) (sym at) ∙ sym (present_at rack c) ∙ safe.exclusive.present c h in
+    let has : bay_has (Some (card_contents a)) c.1 ≡ true = ap (λ o. bay_has (slot_contents o) c.1) (sym at) ∙ sym (present_at rack c) ∙ safe.exclusive.present
+    c h in
     group_in_slot rack c ∙ ap (λ o. bay_group (slot_contents o) c.1) at ∙ present_group a c.1 has
 
 -- in a slot nothing is closed past the last channel
@@ -50,7 +52,7 @@ pub row_more : (slot ch : ℕ) → row slot (ch + 1) ≡ row slot ch ++ (slot, c
 unfolding row
 row_more slot ch = rw add-one refl
 
-pub rows_more : (slot : ℕ) → rows (slot + 1) ≡ rows slot ++ row (slot + 1) 99
+pub rows_more : (slot : ℕ) → rows (slot + 1) ≡ rows slot ++ row (slot + 1) most_channels
 unfolding rows
 rows_more slot = rw add-one refl
 
@@ -79,20 +81,20 @@ row_past closed slot m (suc n) h past = elim (cases_lt n m) [
 ]
 
 -- the channels up to the card's last are all that may be closed
-pub row_whole : (closed : Channel → Bool) (slot n : ℕ) → ((k : ℕ) → n < k → closed (slot, k) ≡ false) → ((k : ℕ) → 99 < k → closed (slot, k) ≡ false)
-    → filter closed (row slot n) ≡ filter closed (row slot 99)
-row_whole closed slot n past far = elim (cases_lt n 99) [
-  | inl l ↦ sym (row_past closed slot n 99 (omega arith) past)
-  | inr g ↦ row_past closed slot 99 n g far
+pub row_whole : (closed : Channel → Bool) (slot n : ℕ) → ((k : ℕ) → n < k → closed (slot, k) ≡ false) → ((k : ℕ) → most_channels < k → closed (slot, k) ≡ false)
+    → filter closed (row slot n) ≡ filter closed (row slot most_channels)
+row_whole closed slot n past far = elim (cases_lt n most_channels) [
+  | inl l ↦ sym (row_past closed slot n most_channels (omega arith) past)
+  | inr g ↦ row_past closed slot most_channels n g far
 ]
 
 is_false : (b : Bool) → (b ≡ true → ⊥) → b ≡ false
 is_false true h = absurd (h refl)
 is_false false h = refl
 
-pub closed_far : (rack : Accounts) (slot k : ℕ) → AreSafe rack → 99 < k → is_closed rack (slot, k) ≡ false
+pub closed_far : (rack : Accounts) (slot k : ℕ) → AreSafe rack → most_channels < k → is_closed rack (slot, k) ≡ false
 closed_far rack slot k safe h = is_false (is_closed rack (slot, k))
-    (λ e. let b : (1 ≤ k) × (k ≤ 99) = closed_number rack (slot, k) safe e in absurd (omega (arith, b.1)))
+    (λ e. let b : (1 ≤ k) × (k ≤ most_channels) = closed_number rack (slot, k) safe e in absurd (omega (arith, b.1)))
 
 row_nowhere : (closed : Channel → Bool) (slot n : ℕ) → ((k : ℕ) → closed (slot, k) ≡ false) → filter closed (row slot n) ≡ []
 unfolding row
@@ -123,13 +125,15 @@ skip_row first now closed slot ch kept h = kept ∙ ap (λ l. first ++ l) (sym (
 pub add_nothing : (first more : List Channel) → more ≡ [] → first ≡ first ++ more
 add_nothing first more e = sym (ap (λ l. first ++ l) e ∙ append-nil first)
 
-pub push_rows : (now new : List Channel) (closed : Channel → Bool) (slot : ℕ) → now ≡ filter closed (rows slot) → new ≡ now ++ filter closed (row (slot + 1) 99)
+pub push_rows : (now new : List Channel) (closed : Channel → Bool) (slot : ℕ) → now ≡ filter closed (rows slot)
+    → new ≡ now ++ filter closed (row (slot + 1) most_channels)
     → new ≡ filter closed (rows (slot + 1))
-push_rows now new closed slot kept e = e ∙ ap (λ l. l ++ filter closed (row (slot + 1) 99)) kept ∙ sym (filter-append closed (rows slot) (row (slot + 1) 99)) ∙
+push_rows now new closed slot kept e = e ∙ ap (λ l. l ++ filter closed (row (slot + 1) most_channels)) kept ∙ sym
+    (filter-append closed (rows slot) (row (slot + 1) most_channels)) ∙
     ap (filter closed) (sym (rows_more slot))
 
 -- the card's channels are all that may be closed in its slot
 pub card_row : (rack : Accounts) (slot n : ℕ) (a : Account) → AreSafe rack → slot_at rack slot ≡ Some a → length a.closed ≤ n
-    → filter (is_closed rack) (row slot n) ≡ filter (is_closed rack) (row slot 99)
+    → filter (is_closed rack) (row slot n) ≡ filter (is_closed rack) (row slot most_channels)
 card_row rack slot n a safe at h = row_whole (is_closed rack) slot n (λ k l. closed_beyond rack slot a k at (omega (arith, h, l)))
     (λ k l. closed_far rack slot k safe l)

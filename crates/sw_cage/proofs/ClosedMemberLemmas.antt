@@ -4,6 +4,7 @@ use Rattle.std.proofs.Common.{if◌then◌else◌}
 use Rattle.std.specs.List.{filter, list_any}
 use Rattle.std.proofs.lemmas.List.Folds.{list_any-append}
 use Rattle.std.proofs.lemmas.Bool.{cases_eq}
+use Rattle.sw_base.specs.Limits.{most_slots, most_channels}
 use Rattle.sw_base.specs.Layout.{Channel}
 use Rattle.sw_verify.specs.Channels.{same_channel, is_among}
 use Rattle.sw_verify.proofs.Round.{same_channel_is, same_channel_self}
@@ -35,7 +36,7 @@ row_next : (slot ch : ℕ) → row slot (suc ch) ≡ row slot ch ++ (slot, suc c
 unfolding row
 row_next slot ch = refl
 
-rows_next : (slot : ℕ) → rows (suc slot) ≡ rows slot ++ row (suc slot) 99
+rows_next : (slot : ℕ) → rows (suc slot) ≡ rows slot ++ row (suc slot) most_channels
 unfolding rows
 rows_next slot = refl
 
@@ -50,13 +51,13 @@ among_row slot (suc n) x e a b =
       | inr f ↦ or_left (is_among (row slot n) x) (is_among ((slot, suc n) ∷ []) x) (among_row slot n x e a (let d : x.1 ≢ suc n = f in grind arith))
     ]
 
-among_rows : (n : ℕ) (x : Channel) → 1 ≤ x.0 → x.0 ≤ n → 1 ≤ x.1 → x.1 ≤ 99 → is_among (rows n) x ≡ true
+among_rows : (n : ℕ) (x : Channel) → 1 ≤ x.0 → x.0 ≤ n → 1 ≤ x.1 → x.1 ≤ most_channels → is_among (rows n) x ≡ true
 among_rows zero x a b c d = absurd (omega arith)
 among_rows (suc n) x a b c d =
-    ap (list_any (same_channel x)) (rows_next n) ∙ list_any-append (same_channel x) (rows n) (row (suc n) 99)
+    ap (list_any (same_channel x)) (rows_next n) ∙ list_any-append (same_channel x) (rows n) (row (suc n) most_channels)
     ∙ elim (cases_eq x.0 (suc n)) [
-      | inl f ↦ or_right (is_among (rows n) x) (is_among (row (suc n) 99) x) (among_row (suc n) 99 x f c d)
-      | inr f ↦ or_left (is_among (rows n) x) (is_among (row (suc n) 99) x) (among_rows n x a (let e : x.0 ≢ suc n = f in grind arith) c d)
+      | inl f ↦ or_right (is_among (rows n) x) (is_among (row (suc n) most_channels) x) (among_row (suc n) most_channels x f c d)
+      | inr f ↦ or_left (is_among (rows n) x) (is_among (row (suc n) most_channels) x) (among_rows n x a (let e : x.0 ≢ suc n = f in grind arith) c d)
     ]
 
 closed_and : (m v : Bool) → (v ≡ true → m ≡ true) → (m && v) ≡ v
@@ -64,8 +65,9 @@ closed_and true v h = refl
 closed_and false true h = h refl
 closed_and false false h = refl
 
-pub among_closed : (rack : Accounts) → ((c : Channel) → is_closed rack c ≡ true → (1 ≤ c.0) × (c.0 ≤ 8) × (1 ≤ c.1) × (c.1 ≤ 99)) → (x : Channel)
+pub among_closed : (rack : Accounts) → ((c : Channel) → is_closed rack c ≡ true → (1 ≤ c.0) × (c.0 ≤ most_slots) × (1 ≤ c.1) × (c.1 ≤ most_channels))
+    → (x : Channel)
     → is_among (closed_list rack) x ≡ is_closed rack x
 among_closed rack inside x =
-    among_filter (is_closed rack) (rows 8) x
-    ∙ closed_and (is_among (rows 8) x) (is_closed rack x) (λ e. let b = inside x e in among_rows 8 x b.0 b.1 b.2 b.3)
+    among_filter (is_closed rack) (rows most_slots) x
+    ∙ closed_and (is_among (rows most_slots) x) (is_closed rack x) (λ e. let b = inside x e in among_rows most_slots x b.0 b.1 b.2 b.3)

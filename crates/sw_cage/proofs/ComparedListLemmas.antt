@@ -6,6 +6,7 @@ use Rattle.std.proofs.lemmas.List.{append-nil, length-append, length-take-le}
 use Rattle.std.proofs.lemmas.List.Elements.{filter-append}
 use Rattle.std.proofs.lemmas.Bool.{cases_lt}
 use Rattle.std.proofs.Math.Seq.{get_or-append_seam}
+use Rattle.sw_base.specs.Limits.{most_slots, most_channels}
 use Rattle.sw_base.specs.Layout.{Channel}
 use Rattle.sw_trigger.proofs.Same.{channel_decides}
 use Rattle.sw_cage.specs.Channels.{row, rows}
@@ -24,10 +25,11 @@ grown f g more m (suc n) h = elim (cases_lt n m) [
 ]
 
 -- all channels: those before this one, it, and the rest
-around : (slot ch : ℕ) → slot < 8 → ch < 99 → (X : List Channel) × (rows 8 ≡ (rows slot ++ row (slot + 1) ch) ++ (slot + 1, ch + 1) ∷ X)
+around : (slot ch : ℕ) → slot < most_slots → ch < most_channels → (X : List Channel)
+    × (rows most_slots ≡ (rows slot ++ row (slot + 1) ch) ++ (slot + 1, ch + 1) ∷ X)
 around slot ch h k =
-    let a = grown rows (λ n. row (n + 1) 99) rows_more (slot + 1) 8 (omega arith) in
-    let b = grown (row (slot + 1)) (λ n. (slot + 1, n + 1) ∷ []) (row_more (slot + 1)) (ch + 1) 99 (omega arith) in (
+    let a = grown rows (λ n. row (n + 1) most_channels) rows_more (slot + 1) most_slots (omega arith) in
+    let b = grown (row (slot + 1)) (λ n. (slot + 1, n + 1) ∷ []) (row_more (slot + 1)) (ch + 1) most_channels (omega arith) in (
       b.0 ++ a.0,
       a.1 ∙ ap (λ l. l ++ a.0)
           (rows_more slot
@@ -40,8 +42,9 @@ filter_first : (closed : Channel → Bool) (c : Channel) (l : List Channel) → 
 filter_first closed c l h = rw h refl
 
 -- the list of the closed channels has this one where those before it end
-pub next_is : (closed : Channel → Bool) (slot ch past : ℕ) (chans : List Channel) (d : Channel) → slot < 8 → ch < 99 → past ≤ length chans
-    → take past chans ≡ filter closed (rows slot) ++ filter closed (row (slot + 1) ch) → closed (slot + 1, ch + 1) ≡ true → chans ≡ filter closed (rows 8)
+pub next_is : (closed : Channel → Bool) (slot ch past : ℕ) (chans : List Channel) (d : Channel) → slot < most_slots → ch < most_channels → past ≤ length chans
+    → take past chans ≡ filter closed (rows slot) ++ filter closed (row (slot + 1) ch) → closed (slot + 1, ch + 1) ≡ true
+    → chans ≡ filter closed (rows most_slots)
     → (past < length chans) × (slice_index_or chans past d ≡ (slot + 1, ch + 1))
 next_is closed slot ch past chans d h k within kept on is =
     let w = around slot ch h k in

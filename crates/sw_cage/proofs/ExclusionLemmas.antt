@@ -28,7 +28,8 @@ closed_too old new chans sets c k = elim (sets_closed old new chans true sets c 
     [ inl o ↦ or_right (is_in chans c) (is_closed old c) o | inr i ↦ or_left (is_in chans c) (is_closed old c) i ]
 
 -- channels that may be closed together are closed
-pub exclusive_closing : (old new : Accounts) (chans : List Channel) → IsExclusive (layout_of old) (is_closed old) → CanClose (layout_of old) (is_closed old) chans
+pub exclusive_closing : (old new : Accounts) (chans : List Channel) → IsExclusive (layout_of old) (is_closed old)
+    → CanClose (layout_of old) (is_closed old) chans
     → Sets old chans true new → IsExclusive (layout_of new) (is_closed new)
 exclusive_closing old new chans safe can sets = subst (λ l. IsExclusive l (is_closed new)) (sym (sets_layout old new chans true sets)) (record {
   present = λ c k. elim (sets_closed old new chans true sets c k)

@@ -57,11 +57,14 @@ like_way : (p q : CageSeen) (b : Channels) → IsHeld q → cage_layout q ≡ ca
 like_way p q b k e f x = exclusive_in (layout_of q.cards) q.out (lengths q k) (is_closed q.cards)
     (subst (λ (l : Layout). IsExclusive l (is_closed q.cards)) (sym e) (subst (IsExclusive (cage_layout p)) (sym f) x))
 
-exclusive_stays : (p q : CageSeen) (s : Setup) (i : ℕ) (mid : Accounts) → IsHeld p → IsHeld q → CanGo p s i → IsExclusive (layout_of p.cards) (is_closed p.cards)
-    → Moved p.cards (moves_from s i) mid → (let b : Occupancy = record { cards = mid; out = p.out } in occupancy_of q ≡ b) → IsExclusive (layout_of q.cards) (is_closed q.cards)
+exclusive_stays : (p q : CageSeen) (s : Setup) (i : ℕ) (mid : Accounts) → IsHeld p → IsHeld q → CanGo p s i
+    → IsExclusive (layout_of p.cards) (is_closed p.cards)
+    → Moved p.cards (moves_from s i) mid → (let b : Occupancy = record { cards = mid; out = p.out } in occupancy_of q ≡ b)
+    → IsExclusive (layout_of q.cards) (is_closed q.cards)
 exclusive_stays p q s i mid k l g e m same =
     like_way p q (effect (is_closed p.cards) (moves_from s i)) l
-    (ap (λ (b : Occupancy). layout_with (layout_of b.cards) b.out) same ∙ ap (λ (x : Layout). layout_with x p.out) (moved_layout p.cards mid (moves_from s i) m))
+    (ap (λ (b : Occupancy). layout_with (layout_of b.cards) b.out) same ∙ ap (λ (x : Layout). layout_with x p.out)
+    (moved_layout p.cards mid (moves_from s i) m))
     (ap (λ (b : Occupancy). is_closed b.cards) same ∙ fun_ext m.closed) (exclusive_way p s i k g e)
 
 exclusive_lands : (p q : CageSeen) (s : Setup) (i : ℕ) (told : TakenSeen) → IsHeld p → IsHeld q → CanGo p s i
@@ -79,7 +82,8 @@ exclusive_lands p q s i (SaysJob job) k l g e h =
     (ap (λ (b : Occupancy). layout_with (layout_of b.cards) b.out) sent.after
     ∙ layout_sent mid p.out s.meter t job.meter (k.outs ∙ sym there.slots) (omega (arith, g.range.meter.0)) sent.meter
     ∙ ap (λ (x : Layout). layout_with x p.out) (moved_layout p.cards mid (moves_from s i) h.moved))
-    (ap (λ (b : Occupancy). is_closed b.cards) sent.after ∙ fun_ext (closed_sent mid s.meter job.meter g.range.meter.0 (omega (arith, g.range.meter.1, there.slots))
+    (ap (λ (b : Occupancy). is_closed b.cards) sent.after ∙ fun_ext
+    (closed_sent mid s.meter job.meter g.range.meter.0 (omega (arith, g.range.meter.1, there.slots))
     sent.meter) ∙ fun_ext h.moved.closed)
     (exclusive_way p s i k g e)
 exclusive_lands p q s i SaysEnded k l g e h = exclusive_stays p q s i h.cards k l g e h.moved h.arrives.1

@@ -2,6 +2,7 @@
 use Rattle.std.proofs.Common.{◌≡◌, ◌≢◌, ℕ, ◌+◌, ◌-◌, ◌<◌, ◌≤◌, true, List, [], ◌∷◌, ◌++◌, length, Option, Some, None, slice_set, refl, sym, ap, ◌∙◌, subst}
 use Rattle.std.proofs.Common.{arith, is_some, length-append, Result, Ok, if◌then◌else◌}
 use Rattle.std.specs.Result.{is_ok}
+use Rattle.sw_base.specs.Limits.{most_slots, most_channels}
 use mathlib.Core.Path.{fun_ext}
 use Rattle.sw_base.specs.Layout.{Channel, Layout, slot_at, has_meter}
 use Rattle.sw_base.specs.declared.reading.Reading.{Reading}
@@ -35,8 +36,8 @@ use Rattle.sw_cage.proofs.AdvanceLemmas.{CanGo, lengths, closed_back, held_both,
 pub go_meter : (p : CageSeen) (s : Setup) (i : ℕ) (at : ScanSeen) → CanGo p s i → at ≡ next_place s i → has_meter (layout_of p.cards) at.setup.meter ≡ true
 go_meter p s i at g e = ap (λ (x : ScanSeen). has_meter (layout_of p.cards) x.setup.meter) e ∙ g.measured
 
-pub go_slot : (p : CageSeen) (s : Setup) (i : ℕ) (at : ScanSeen) → CanGo p s i → at ≡ next_place s i → (1 ≤ at.setup.meter) × (at.setup.meter ≤ 8)
-go_slot p s i at g e = subst (λ (x : ScanSeen). (1 ≤ x.setup.meter) × (x.setup.meter ≤ 8)) (sym e) g.range.meter
+pub go_slot : (p : CageSeen) (s : Setup) (i : ℕ) (at : ScanSeen) → CanGo p s i → at ≡ next_place s i → (1 ≤ at.setup.meter) × (at.setup.meter ≤ most_slots)
+go_slot p s i at g e = subst (λ (x : ScanSeen). (1 ≤ x.setup.meter) × (x.setup.meter ≤ most_slots)) (sym e) g.range.meter
 
 pub go_may : (p : CageSeen) (s : Setup) (i : ℕ) (o k : Option Channel) → IsHeld p → CanGo p s i → opens_of o ++ closes_of k ≡ moves_from s i
     → MayMove (layout_of p.cards) (is_closed p.cards) o k
@@ -60,7 +61,8 @@ room_goes p q s i SaysFault room r h = room_none room q.scan h.over
 
 pub go_kept : (p q : CageSeen) (s : Setup) (i : ℕ) (told : TakenSeen) (moves : List Item) (at : ScanSeen) (room : ℕ) → IsHeld p → CanGo p s i
     → reads (agenda s) ≤ room
-    → AdvancesOrFails (occupancy_of p) p.number moves at told (occupancy_of q) q.scan → moves ≡ moves_from s i → at ≡ next_place s i → q.number ≡ p.number → q.readings ≡ p.readings
+    → AdvancesOrFails (occupancy_of p) p.number moves at told (occupancy_of q) q.scan → moves ≡ moves_from s i → at ≡ next_place s i → q.number ≡ p.number
+    → q.readings ≡ p.readings
     → IsGoodWithRoom q room
 go_kept p q s i told moves at room held g r h e f n rs =
     let h : AdvancesOrFails (occupancy_of p) p.number (moves_from s i) (next_place s i) told (occupancy_of q) q.scan =
@@ -102,12 +104,12 @@ go_other p at room k e o =
 
 -- a meter comes back
 
-slot_some : (p : CageSeen) (s : ℕ) (t : Ticket) → IsHeld p → slot_at p.out s ≡ Some t → (1 ≤ s) × (s ≤ 8)
+slot_some : (p : CageSeen) (s : ℕ) (t : Ticket) → IsHeld p → slot_at p.out s ≡ Some t → (1 ≤ s) × (s ≤ most_slots)
 slot_some p s t k e =
     let b : (0 < s) × (s ≤ length p.out) = some_slot p.out s (ap is_some e) in
     (omega (arith, b.0), omega (arith, b.1, k.outs))
 
-pub out_slot : (p q : CageSeen) (s s' : ℕ) (t : Ticket) → IsHeld p → p ≡ q → s' ≡ s → slot_at q.out s' ≡ Some t → (1 ≤ s) × (s ≤ 8)
+pub out_slot : (p q : CageSeen) (s s' : ℕ) (t : Ticket) → IsHeld p → p ≡ q → s' ≡ s → slot_at q.out s' ≡ Some t → (1 ≤ s) × (s ≤ most_slots)
 out_slot p q s s' t k e f h = slot_some p s t k (ap (λ (x : CageSeen). slot_at x.out s) e ∙ ap (λ (n : ℕ). slot_at q.out n) (sym f) ∙ h)
 
 module _ (p : CageSeen) (s : ℕ) (t : Ticket) (m : MeterAccount) (k : IsHeld p) (out : slot_at p.out s ≡ Some t) where
@@ -192,14 +194,16 @@ kept_back p s t m rack out room k at late e f =
       room = k.room;
     }))
 
-pub kept_failed : (p : CageSeen) (s : ℕ) (t : Ticket) (m : MeterAccount) (rack rested : Accounts) (out : List (Option Ticket)) (room : ℕ) → IsGoodWithRoom p room
+pub kept_failed : (p : CageSeen) (s : ℕ) (t : Ticket) (m : MeterAccount) (rack rested : Accounts) (out : List (Option Ticket)) (room : ℕ)
+    → IsGoodWithRoom p room
     → slot_at p.out s ≡ Some t
     → rack ≡ slice_set p.cards (s - 1) (Some (of_meter m)) → out ≡ slice_set p.out (s - 1) None → rested ≡ all_open rack
     → IsGoodWithRoom (record p { cards = rested; out = out; scan = None }) room
 kept_failed p s t m rack rested out room k at e f h =
     let back : CageSeen = record p { cards = slice_set p.cards (s - 1) (Some (of_meter m)); out = slice_set p.out (s - 1) None; scan = None } in
     subst (λ (x : Accounts). IsGoodWithRoom (record p { cards = x; out = out; scan = None }) room) (sym (h ∙ ap all_open e))
-    (subst (λ (x : List (Option Ticket)). IsGoodWithRoom (record p { cards = all_open (slice_set p.cards (s - 1) (Some (of_meter m))); out = x; scan = None }) room)
+    (subst (λ (x : List (Option Ticket)). IsGoodWithRoom (record p { cards = all_open (slice_set p.cards (s - 1) (Some (of_meter m))); out = x; scan = None })
+    room)
     (sym f) (record {
       good = record {
         held = held_stays back (all_open (slice_set p.cards (s - 1) (Some (of_meter m)))) None (held_back p s t m k.good.held at None)
@@ -240,7 +244,7 @@ counted p at s t m r rack out readings room k e w h a b c =
 pub begins : (p : CageSeen) (s : Setup) (layout : Layout) (closed : List Channel) (number : ℕ) (readings : List Reading) → IsHeld p → 0 < length s.list
     → IsInRange s → slot_at p.out s.meter ≡ None → has_meter layout s.meter ≡ true
     → IsSound layout (is_among closed) s.points (agenda s) → cage_layout p ≡ layout → closed_list p.cards ≡ closed
-    → ((c : Channel) → is_closed p.cards c ≡ true → (1 ≤ c.0) × (c.0 ≤ 8) × (1 ≤ c.1) × (c.1 ≤ 99))
+    → ((c : Channel) → is_closed p.cards c ≡ true → (1 ≤ c.0) × (c.0 ≤ most_slots) × (1 ≤ c.1) × (c.1 ≤ most_channels))
     → number ≡ p.number + 1 → readings ≡ [] → Counted (record p { number = number; readings = readings }) s 0
 begins p s layout closed number readings k listed range home measured sound e f inside n r =
     let found : is_among closed ≡ is_closed p.cards = ap is_among (sym f) ∙ fun_ext (among_closed p.cards inside) in

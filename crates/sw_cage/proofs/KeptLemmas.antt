@@ -3,6 +3,7 @@ use Rattle.std.proofs.Common.{◌≡◌, ℕ, ◌+◌, ◌-◌, ◌≤◌, ◌<�
 use Rattle.std.proofs.Common.{inl, inr, refl, sym, ◌∙◌, ap, subst, arith, map, is_some, zero, suc, replicate, nat_lt, if◌then◌else◌, Result, Ok, Err, OnOk}
 use Rattle.std.proofs.Common.{OnErr}
 use Rattle.std.proofs.lemmas.List.{length-map, length-set, take_more}
+use Rattle.sw_base.specs.Limits.{most_slots}
 use Rattle.sw_base.specs.Layout.{Channel, Bay, meter, Layout, slot_at}
 use Rattle.sw_base.specs.declared.reading.Reading.{Reading}
 use Rattle.sw_card.specs.Account.{Account, none_closed}
@@ -61,14 +62,16 @@ pub held_stays : (p : CageSeen) (rack : Accounts) (scan : Option ScanSeen) → I
 held_stays p rack scan k e = record { slots = e.size ∙ k.slots; outs = k.outs; empty = λ s h. e.empty s (k.empty s h); past = k.past }
 
 -- no scan runs, and the cards change
-pub kept_idle : (p : CageSeen) (rack : Accounts) (room : ℕ) → IsGoodWithRoom p room → p.scan ≡ None → Stays p.cards rack → IsGoodWithRoom (record p { cards = rack }) room
+pub kept_idle : (p : CageSeen) (rack : Accounts) (room : ℕ) → IsGoodWithRoom p room → p.scan ≡ None → Stays p.cards rack
+    → IsGoodWithRoom (record p { cards = rack }) room
 kept_idle p rack room k idle e = record {
   good = record { held = held_stays p rack p.scan k.good.held e; running = subst (IsRunning (record p { cards = rack })) (sym idle) tt };
   room = k.room;
 }
 
 -- whatever ran is over
-pub kept_over : (p : CageSeen) (rack : Accounts) (room : ℕ) → IsGoodWithRoom p room → Stays p.cards rack → IsGoodWithRoom (record p { cards = rack; scan = None }) room
+pub kept_over : (p : CageSeen) (rack : Accounts) (room : ℕ) → IsGoodWithRoom p room → Stays p.cards rack
+    → IsGoodWithRoom (record p { cards = rack; scan = None }) room
 kept_over p rack room k e = record { good = record { held = held_stays p rack None k.good.held e; running = tt }; room = tt }
 
 out_none : (o : Option Ticket) → is_some o ≡ true → o ≡ None → ⊥
@@ -76,7 +79,7 @@ out_none None h e = absurd (cc)
 out_none (Some t) h e = cc
 
 -- a slot that no meter of it is out changes
-pub held_set : (p : CageSeen) (s : ℕ) (v : Option Account) (scan : Option ScanSeen) → IsHeld p → slot_at p.out s ≡ None → 1 ≤ s → s ≤ 8
+pub held_set : (p : CageSeen) (s : ℕ) (v : Option Account) (scan : Option ScanSeen) → IsHeld p → slot_at p.out s ≡ None → 1 ≤ s → s ≤ most_slots
     → IsHeld (record p { cards = slice_set p.cards (s - 1) v; scan = scan })
 held_set p s v scan k home a b = record {
   slots = length-set p.cards (s - 1) v ∙ k.slots;
@@ -103,7 +106,8 @@ kept_install (Ok t) p s card rack room k idle home ok can err = subst (λ (x : A
 kept_install (Err e) p s card rack room k idle home ok can err = subst (λ (x : Accounts). IsGoodWithRoom (record p { cards = x }) room) (sym err) k
 
 -- a card is taken out
-pub kept_taken : {T E : Type 0} (r : Result T E) (p : CageSeen) (s : ℕ) (rack : Accounts) (room : ℕ) → IsGoodWithRoom p room → p.scan ≡ None → slot_at p.out s ≡ None
+pub kept_taken : {T E : Type 0} (r : Result T E) (p : CageSeen) (s : ℕ) (rack : Accounts) (room : ℕ) → IsGoodWithRoom p room → p.scan ≡ None
+    → slot_at p.out s ≡ None
     → is_some (slot_at p.cards s) ≡ true
     → OnOk r (rack ≡ slice_set p.cards (s - 1) None) → OnErr r (rack ≡ p.cards) → IsGoodWithRoom (record p { cards = rack }) room
 kept_taken (Ok t) p s rack room k idle home some ok err =
@@ -130,15 +134,17 @@ none_if false o e = refl
 none_out : (n s : ℕ) → slot_at (let l : List (Option Ticket) = replicate n None in l) s ≡ None
 none_out n s = none_if (nat_lt 0 s) (slice_index_or (let l : List (Option Ticket) = replicate n None in l) (s - 1) None) (none_index n (s - 1))
 
-pub kept_new : (rack : Accounts) (out : List (Option Ticket)) (number : ℕ) (readings : List Reading) (room : ℕ) → rack ≡ replicate 8 None → out ≡ replicate 8 None
+pub kept_new : (rack : Accounts) (out : List (Option Ticket)) (number : ℕ) (readings : List Reading) (room : ℕ) → rack ≡ replicate most_slots None
+    → out ≡ replicate most_slots None
     → IsGoodWithRoom (record { cards = rack; out = out; number = number; scan = None; readings = readings }) room
 kept_new rack out number readings room e f = record {
   good = record {
     held = record {
       slots = ap length e;
       outs = ap length f;
-      empty = λ s h. absurd (out_none (slot_at out s) h (ap (λ (l : List (Option Ticket)). slot_at l s) f ∙ none_out 8 s));
-      past = λ s t e. absurd (let g : ◌≡◌ {A = Option Ticket} None (Some t) = sym (none_out 8 s) ∙ ap (λ (l : List (Option Ticket)). slot_at l s) (sym f) ∙ e in
+      empty = λ s h. absurd (out_none (slot_at out s) h (ap (λ (l : List (Option Ticket)). slot_at l s) f ∙ none_out most_slots s));
+      past = λ s t e. absurd (let g : ◌≡◌ {A = Option Ticket} None (Some t) =
+          sym (none_out most_slots s) ∙ ap (λ (l : List (Option Ticket)). slot_at l s) (sym f) ∙ e in
           cc);
     };
     running = tt;
@@ -167,10 +173,11 @@ bay_in p q s k e h =
     ∙ ap (λ (t : Option Ticket). or_meter (slot_at (layout_of p.cards) s) t) (is_none (slot_at p.out s) h)
     ∙ or_in (slot_at (layout_of p.cards) s))
 
-pub eight_bays : (p q : CageSeen) → IsHeld p → p ≡ q → length (cage_layout q) ≡ 8
-eight_bays p q k e = ap (λ (x : CageSeen). length (cage_layout x)) (sym e) ∙ with_length (layout_of p.cards) p.out ∙ layout_length p.cards ∙ k.slots
+pub all_contents : (p q : CageSeen) → IsHeld p → p ≡ q → length (cage_layout q) ≡ most_slots
+all_contents p q k e = ap (λ (x : CageSeen). length (cage_layout x)) (sym e) ∙ with_length (layout_of p.cards) p.out ∙ layout_length p.cards ∙ k.slots
 
-pub next_bay : (l : Layout) (i : ℕ) (now new : Layout) (b : Option Bay) → length l ≡ 8 → i < 8 → now ≡ take i l → b ≡ slot_at l (i + 1) → new ≡ now ++ b ∷ []
+pub next_bay : (l : Layout) (i : ℕ) (now new : Layout) (b : Option Bay) → length l ≡ most_slots → i < most_slots → now ≡ take i l → b ≡ slot_at l (i + 1)
+    → new ≡ now ++ b ∷ []
     → new ≡ take (i + 1) l
 next_bay l i now new b n h e f g =
     g ∙ ap (λ (x : Layout). x ++ b ∷ []) e ∙ ap (λ (y : Option Bay). take i l ++ y ∷ [])

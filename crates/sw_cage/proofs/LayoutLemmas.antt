@@ -91,7 +91,8 @@ layout_sent rack out s t m h p e =
     ap (λ (l : Layout). layout_with l (slice_set out (s - 1) (Some t))) (layout_set rack (s - 1) None)
     ∙ sent_index (layout_of rack) out (s - 1) t (h ∙ sym (layout_length rack)) (sym (slot_get (layout_of rack) s p) ∙ slot_layout rack s ∙ ap slot_contents e)
 
-pub layout_back : (rack : Accounts) (out : List (Option Ticket)) (s : ℕ) (t : Ticket) (m : MeterAccount) → length out ≡ length rack → 0 < s → slot_at rack s ≡ None
+pub layout_back : (rack : Accounts) (out : List (Option Ticket)) (s : ℕ) (t : Ticket) (m : MeterAccount) → length out ≡ length rack → 0 < s
+    → slot_at rack s ≡ None
     → slot_at out s ≡ Some t
     → layout_with (layout_of (slice_set rack (s - 1) (Some (of_meter m)))) (slice_set out (s - 1) None) ≡ layout_with (layout_of rack) out
 layout_back rack out s t m h p e f =

@@ -7,17 +7,21 @@ use Rattle.std.proofs.lemmas.List.Edits.{map_over_more}
 use Rattle.std.proofs.Math.ListN.{get_or-map}
 use Rattle.std.proofs.Math.Seq.{take-append_seam}
 use Rattle.std.proofs.lemmas.Grind.{common_steps}
+use Rattle.sw_base.specs.Limits.{most_slots, most_channels}
 use Rattle.sw_base.specs.Layout.{Channel, Layout, slot_at, is_present, IsClash}
 use Rattle.sw_card.specs.Account.{Account, MeterAccount, of_meter, is_meter, closed_at, at_rest}
 use Rattle.sw_card.proofs.Rows.{none_is_closed}
-use Rattle.sw_cage.specs.Accounts.{Accounts, option_account, accounts_of, layout_of, option_closed, is_closed, OptionWellFormed, AreSafe, option_set, with_chan, option_rest}
+use Rattle.sw_cage.specs.Accounts.{Accounts, option_account, accounts_of, layout_of, option_closed, is_closed, OptionWellFormed, AreSafe, option_set, with_chan}
+use Rattle.sw_cage.specs.Accounts.{option_rest}
 use Rattle.sw_cage.specs.Accounts.{all_open, IsSlotFault, IsChannelFault}
 use Rattle.sw_cage.specs.Change.{is_in, Sets, IsDisturbed}
 use Rattle.sw_cage.specs.Close.{all_present, CanClose}
 use Rattle.std.specs.List.{list_all}
-use Rattle.sw_cage.proofs.SlotChangeLemmas.{slot_map, slot_set_same, present_slot, present_at, some_slot, IsSlotGrown, closed_grows, opened_grows, safe_grown, safe_opened}
+use Rattle.sw_cage.proofs.SlotChangeLemmas.{slot_map, slot_set_same, present_slot, present_at, some_slot, IsSlotGrown, closed_grows, opened_grows, safe_grown}
+use Rattle.sw_cage.proofs.SlotChangeLemmas.{safe_opened}
 use Rattle.sw_cage.proofs.SlotChangeLemmas.{safe_quiet}
-use Rattle.sw_cage.proofs.ChannelCallLemmas.{sets_one, disturbed_one, option_set_rest, and_left, and_right, or_left, or_right, in_at, in_take, sets_layout, sets_closed}
+use Rattle.sw_cage.proofs.ChannelCallLemmas.{sets_one, disturbed_one, option_set_rest, and_left, and_right, or_left, or_right, in_at, in_take, sets_layout}
+use Rattle.sw_cage.proofs.ChannelCallLemmas.{sets_closed}
 
 -- cards read and written
 
@@ -28,7 +32,7 @@ item_read : {A : Type 0} (l : List (Option A)) (s : ℕ) (x : Option A) → 0 < 
 item_read l s x p h e = item_get l s p ∙ get_or_default l (s - 1) None x (omega arith) ∙ sym e
 
 pub read : {C : Type 0} (items : List (Option (C × Account))) (value : Accounts) (s : ℕ) (x : Option (C × Account)) → accounts_of items ≡ value
-    → length (accounts_of items) ≡ 8 → 0 < s → s ≤ 8 → x ≡ slice_index_or items (s - 1) x → slot_at value s ≡ option_account x
+    → length (accounts_of items) ≡ most_slots → 0 < s → s ≤ most_slots → x ≡ slice_index_or items (s - 1) x → slot_at value s ≡ option_account x
 read items value s x same size p h e =
     let n : length (accounts_of items) ≡ length items = length-map items option_account in
     ap (λ (r : Accounts). slot_at r s) (sym same) ∙ slot_map option_account items s refl ∙ ap option_account (item_read items s x p (omega arith) e)
@@ -38,11 +42,12 @@ pub written : {C : Type 0} (items : List (Option (C × Account))) (value : Accou
 written items value i v same = map-set option_account items i v ∙ ap (λ (r : Accounts). slice_set r i (option_account v)) same
 
 pub read_some : {C : Type 0} (items : List (Option (C × Account))) (value : Accounts) (s : ℕ) (x : Option (C × Account)) (card : C × Account)
-    → accounts_of items ≡ value → length (accounts_of items) ≡ 8 → 0 < s → s ≤ 8 → x ≡ slice_index_or items (s - 1) x → x ≡ Some card → slot_at value s ≡ Some card.1
+    → accounts_of items ≡ value → length (accounts_of items) ≡ most_slots → 0 < s → s ≤ most_slots → x ≡ slice_index_or items (s - 1) x → x ≡ Some card
+    → slot_at value s ≡ Some card.1
 read_some items value s x card same size p h e is = read items value s x same size p h e ∙ ap option_account is
 
 pub read_none : {C : Type 0} (items : List (Option (C × Account))) (value : Accounts) (s : ℕ) (x : Option (C × Account)) → accounts_of items ≡ value
-    → length (accounts_of items) ≡ 8 → 0 < s → s ≤ 8 → x ≡ slice_index_or items (s - 1) x → x ≡ None → slot_at value s ≡ None
+    → length (accounts_of items) ≡ most_slots → 0 < s → s ≤ most_slots → x ≡ slice_index_or items (s - 1) x → x ≡ None → slot_at value s ≡ None
 read_none items value s x same size p h e is = read items value s x same size p h e ∙ ap option_account is
 
 pub closed_by : (value : Accounts) (s ch : ℕ) (a : Account) (b : Bool) → slot_at value s ≡ Some a → closed_at a.closed ch ≡ b → is_closed value (s, ch) ≡ b
@@ -55,14 +60,16 @@ pub record AfterCall {T E : Type 0} (value : Accounts) (c : Channel) (most : Acc
   pub err : OnErr r (IsChannelFault value c most new)
   pub disturbed : OnErr r (IsDisturbed value (c ∷ []) new)
 
-fault_at : (value : Accounts) (c : Channel) (most : Accounts) (n : Option Account) → 0 < c.0 → c.0 ≤ length value → IsSlotFault (slot_at value c.0) (slot_at most c.0) n
+fault_at : (value : Accounts) (c : Channel) (most : Accounts) (n : Option Account) → 0 < c.0 → c.0 ≤ length value
+    → IsSlotFault (slot_at value c.0) (slot_at most c.0) n
     → IsChannelFault value c most (slice_set value (c.0 - 1) n)
 fault_at value c most n p h f = let e : slot_at (slice_set value (c.0 - 1) n) c.0 ≡ n = slot_set_same value c.0 n p h in record {
   others = ap (slice_set value (c.0 - 1)) (sym e);
   fault = subst (IsSlotFault (slot_at value c.0) (slot_at most c.0)) (sym e) f;
 }
 
-after_call : {T E : Type 0} (value : Accounts) (c : Channel) (most : Accounts) (on : Bool) (n : Option Account) (r : Result T E) → OptionWellFormed (slot_at value c.0)
+after_call : {T E : Type 0} (value : Accounts) (c : Channel) (most : Accounts) (on : Bool) (n : Option Account) (r : Result T E)
+    → OptionWellFormed (slot_at value c.0)
     → is_present (layout_of value) c ≡ true → IsSlotGrown (slot_at value c.0) c.1 n → option_rest (slot_at most c.0) ≡ option_rest (slot_at value c.0)
     → AreSafe (slice_set value (c.0 - 1) n)
     → OnOk r (n ≡ option_set (slot_at value c.0) c.1 on) → OnErr r (IsSlotFault (slot_at value c.0) (slot_at most c.0) n)
@@ -102,8 +109,9 @@ after_open value c n r safe closed ok err =
 
 -- the same of the cards
 
-pub close_item : {C T E : Type 0} (items : List (Option (C × Account))) (value : Accounts) (c : Channel) (s ch : ℕ) (x v : Option (C × Account)) (r : Result T E)
-    → s ≡ c.0 → ch ≡ c.1 → 1 ≤ s → s ≤ 8 → accounts_of items ≡ value → AreSafe (accounts_of items) → x ≡ slice_index_or items (s - 1) x
+pub close_item : {C T E : Type 0} (items : List (Option (C × Account))) (value : Accounts) (c : Channel) (s ch : ℕ) (x v : Option (C × Account))
+    (r : Result T E)
+    → s ≡ c.0 → ch ≡ c.1 → 1 ≤ s → s ≤ most_slots → accounts_of items ≡ value → AreSafe (accounts_of items) → x ≡ slice_index_or items (s - 1) x
     → is_present (layout_of value) c ≡ true → ((d : Channel) → is_closed value d ≡ true → IsClash (layout_of value) c d → ⊥)
     → OnOk r (option_account v ≡ option_set (option_account x) ch true)
     → OnErr r (IsSlotFault (option_account x) (option_set (option_account x) ch true) (option_account v))
@@ -119,7 +127,7 @@ close_item items value c s ch x v r se che p h same safe is present apart ok err
     (subst (λ o. OnErr r (IsSlotFault o (option_set o ch true) (option_account v))) (sym at) err)))
 
 pub open_item : {C T E : Type 0} (items : List (Option (C × Account))) (value : Accounts) (c : Channel) (s ch : ℕ) (x v : Option (C × Account)) (r : Result T E)
-    → s ≡ c.0 → ch ≡ c.1 → 1 ≤ s → s ≤ 8 → accounts_of items ≡ value → AreSafe (accounts_of items) → x ≡ slice_index_or items (s - 1) x
+    → s ≡ c.0 → ch ≡ c.1 → 1 ≤ s → s ≤ most_slots → accounts_of items ≡ value → AreSafe (accounts_of items) → x ≡ slice_index_or items (s - 1) x
     → is_closed value c ≡ true
     → OnOk r (option_account v ≡ option_set (option_account x) ch false) → OnErr r (IsSlotFault (option_account x) (option_account x) (option_account v))
     → AfterCall value c value false r (accounts_of (slice_set items (s - 1) v))
@@ -134,9 +142,10 @@ open_item items value c s ch x v r se che p h same safe is closed ok err =
 
 -- installing and ejecting
 
-pub safe_installed : {C : Type 0} (items : List (Option (C × Account))) (s : ℕ) (card : C × Account) → AreSafe (accounts_of items) → 1 ≤ s → s ≤ 8
+pub safe_installed : {C : Type 0} (items : List (Option (C × Account))) (s : ℕ) (card : C × Account) → AreSafe (accounts_of items) → 1 ≤ s → s ≤ most_slots
     → ((ch : ℕ) → closed_at card.1.closed ch ≡ false) → length card.1.closed ≡ length card.1.groups
-    → (is_meter card.1 ≡ false → (1 ≤ length card.1.groups) × (length card.1.groups ≤ 99)) → AreSafe (accounts_of (slice_set items (s - 1) (Some card)))
+    → (is_meter card.1 ≡ false → (1 ≤ length card.1.groups) × (length card.1.groups ≤ most_channels))
+    → AreSafe (accounts_of (slice_set items (s - 1) (Some card)))
 safe_installed items s card safe p h quiet states few =
     let b : s ≤ length (accounts_of items) = omega (arith, safe.size, h) in
     subst AreSafe (sym (written items (accounts_of items) (s - 1) (Some card) refl))
@@ -147,8 +156,9 @@ none_closed_in true = refl
 none_closed_in false = refl
 
 -- a meter is put into a slot
-pub safe_put : {C : Type 0} (items : List (Option (C × Account))) (s : ℕ) (card : C × Account) (m : MeterAccount) → AreSafe (accounts_of items) → card.1 ≡ of_meter m
-    → 1 ≤ s → s ≤ 8 → AreSafe (accounts_of (slice_set items (s - 1) (Some card)))
+pub safe_put : {C : Type 0} (items : List (Option (C × Account))) (s : ℕ) (card : C × Account) (m : MeterAccount) → AreSafe (accounts_of items)
+    → card.1 ≡ of_meter m
+    → 1 ≤ s → s ≤ most_slots → AreSafe (accounts_of (slice_set items (s - 1) (Some card)))
 safe_put items s card m safe e p h =
     let b : s ≤ length (accounts_of items) = omega (arith, safe.size, h) in
     subst AreSafe (sym (written items (accounts_of items) (s - 1) (Some card) refl ∙ ap (λ (a : Account). slice_set (accounts_of items) (s - 1) (Some a)) e))
@@ -158,7 +168,8 @@ pub put_is : {C : Type 0} (items : List (Option (C × Account))) (value : Accoun
     → card.1 ≡ of_meter m → accounts_of (slice_set items i (Some card)) ≡ slice_set value i (Some (of_meter m))
 put_is items value i card m same e = written items value i (Some card) same ∙ ap (λ (a : Account). slice_set value i (Some a)) e
 
-pub safe_ejected : {C : Type 0} (items : List (Option (C × Account))) (value : Accounts) (s : ℕ) (v : Option (C × Account)) → accounts_of items ≡ value → v ≡ None
+pub safe_ejected : {C : Type 0} (items : List (Option (C × Account))) (value : Accounts) (s : ℕ) (v : Option (C × Account)) → accounts_of items ≡ value
+    → v ≡ None
     → is_some (slot_at value s) ≡ true → AreSafe (accounts_of items) → AreSafe (accounts_of (slice_set items (s - 1) v))
 safe_ejected items value s v same none some safe =
     let b : (0 < s) × (s ≤ length (accounts_of items)) = some_slot (accounts_of items) s (ap (λ (r : Accounts). is_some (slot_at r s)) same ∙ some) in
@@ -166,7 +177,8 @@ safe_ejected items value s v same none some safe =
     (subst (λ (o : Option Account). AreSafe (slice_set (accounts_of items) (s - 1) o)) (sym (ap option_account none))
     (safe_quiet (accounts_of items) s None b.0 b.1 (λ k. refl) tt safe))
 
-pub ejected_card : {C : Type 0} (items : List (Option (C × Account))) (value : Accounts) (s : ℕ) (x : Option (C × Account)) (card : Account) → accounts_of items ≡ value
+pub ejected_card : {C : Type 0} (items : List (Option (C × Account))) (value : Accounts) (s : ℕ) (x : Option (C × Account)) (card : Account)
+    → accounts_of items ≡ value
     → AreSafe (accounts_of items) → is_some (slot_at value s) ≡ true → x ≡ slice_index_or items (s - 1) x → Some card ≡ option_rest (option_account x)
     → option_rest (slot_at value s) ≡ Some card
 ejected_card items value s x card same safe some is e =
@@ -206,8 +218,9 @@ all_rested items lent new len same e n =
     ap (λ (j : ℕ). accounts_of (take j (new ++ drop (length new) items))) m ∙ ap accounts_of (take-append_seam new (drop (length new) items)) ∙ e ∙ ap
     (λ l. all_open (accounts_of l)) same
 
-pub new_rack : {C : Type 0} (items : List (Option (C × Account))) (n : ℕ) → items ≡ replicate n None → 8 ≤ n → n ≤ 8 → accounts_of items ≡ replicate 8 None
-new_rack items n e p h = let k : n ≡ 8 = omega arith in ap accounts_of (e ∙ ap (λ (j : ℕ). replicate j None) k)
+pub new_rack : {C : Type 0} (items : List (Option (C × Account))) (n : ℕ) → items ≡ replicate n None → most_slots ≤ n → n ≤ most_slots
+    → accounts_of items ≡ replicate most_slots None
+new_rack items n e p h = let k : n ≡ most_slots = omega arith in ap accounts_of (e ∙ ap (λ (j : ℕ). replicate j None) k)
 
 -- loops over a list of channels
 

@@ -6,10 +6,12 @@ use Rattle.std.proofs.Math.ListN.{get_or-map}
 use Rattle.std.proofs.Math.Seq.{map-set_same}
 use Rattle.std.proofs.lemmas.Grind.{common_steps}
 use Rattle.std.proofs.lemmas.Bool.{cases_eq, cases_lt}
+use Rattle.sw_base.specs.Limits.{most_slots, most_channels}
 use Rattle.sw_base.specs.Layout.{Channel, Bay, Layout, slot_at, bay_has, bay_group, bay_is_meter, has_meter, is_present, group_of, IsClash, IsExclusive}
 use Rattle.sw_card.specs.Account.{Account, set_closed, with_set, IsFault}
 use Rattle.sw_card.proofs.Rows.{closed_set, open_set, within_closed, length-within, none_is_closed, length-none}
-use Rattle.sw_cage.specs.Accounts.{Accounts, card_contents, slot_contents, layout_of, option_closed, is_closed, IsWellFormed, OptionWellFormed, AreSafe, option_set, option_rest, all_open}
+use Rattle.sw_cage.specs.Accounts.{Accounts, card_contents, slot_contents, layout_of, option_closed, is_closed, IsWellFormed, OptionWellFormed, AreSafe}
+use Rattle.sw_cage.specs.Accounts.{option_set, option_rest, all_open}
 use Rattle.sw_cage.specs.Accounts.{IsSlotFault}
 
 -- slots
@@ -123,7 +125,7 @@ fault_bay a b most f = let g = f.groups in let l = f.last in cc
 fault_row : (a b : Account) (most : List Bool) → length most ≡ length a.closed → IsFault a most b → IsWellFormed a → IsWellFormed b
 fault_row a b most e f r = record {
   states = length-within b.closed most f.within ∙ e ∙ r.states ∙ sym (ap length f.groups);
-  few = λ m. subst (λ (g : List ℕ). length g ≤ 99) (sym f.groups) (r.few (ap is_some (sym f.last) ∙ m));
+  few = λ m. subst (λ (g : List ℕ). length g ≤ most_channels) (sym f.groups) (r.few (ap is_some (sym f.last) ∙ m));
 }
 
 pub closing_fault_grows : (a b : Account) (ch : ℕ) → bay_has (Some (card_contents a)) ch ≡ true → IsFault a (set_closed a.closed ch true) b
@@ -177,9 +179,11 @@ exclusive_grown layout old new c grown safe present apart = record {
       ];
 }
 
-rows_set : (rack : Accounts) (s : ℕ) (v : Option Account) → 0 < s → s ≤ length rack → OptionWellFormed v → ((t : ℕ) → OptionWellFormed (slot_at rack t)) → (t : ℕ)
+rows_set : (rack : Accounts) (s : ℕ) (v : Option Account) → 0 < s → s ≤ length rack → OptionWellFormed v → ((t : ℕ) → OptionWellFormed (slot_at rack t))
+    → (t : ℕ)
     → OptionWellFormed (slot_at (slice_set rack (s - 1) v) t)
-rows_set rack s v p h row rows t = elim (slot_cases rack s t v p h) [ inl e ↦ subst OptionWellFormed (sym e.1) row | inr n ↦ subst OptionWellFormed (sym n.1) (rows t) ]
+rows_set rack s v p h row rows t = elim (slot_cases rack s t v p h)
+    [ inl e ↦ subst OptionWellFormed (sym e.1) row | inr n ↦ subst OptionWellFormed (sym n.1) (rows t) ]
 
 grown_closed : (rack : Accounts) (c : Channel) (v : Option Account) → 0 < c.0 → c.0 ≤ length rack → IsSlotGrown (slot_at rack c.0) c.1 v → (d : Channel)
     → is_closed (slice_set rack (c.0 - 1) v) d ≡ true → (is_closed rack d ≡ true) ⊎ (d ≡ c)
@@ -191,7 +195,8 @@ grown_closed rack c v p h grown d k =
     ]
 
 -- closing one channel that clashes with none, whatever comes of it, keeps the cage safe
-pub safe_grown : (rack : Accounts) (c : Channel) (v : Option Account) → IsSlotGrown (slot_at rack c.0) c.1 v → AreSafe rack → is_present (layout_of rack) c ≡ true
+pub safe_grown : (rack : Accounts) (c : Channel) (v : Option Account) → IsSlotGrown (slot_at rack c.0) c.1 v → AreSafe rack
+    → is_present (layout_of rack) c ≡ true
     → ((d : Channel) → is_closed rack d ≡ true → IsClash (layout_of rack) c d → ⊥) → AreSafe (slice_set rack (c.0 - 1) v)
 safe_grown rack c v grown safe present apart =
     let r : (0 < c.0) × (c.0 ≤ length rack) = present_slot rack c present in
@@ -232,7 +237,7 @@ layout_all_open (o ∷ rack) = let e = rest_bay o in let f = layout_all_open rac
 pub exclusive_none : (layout : Layout) (closed : Channel → Bool) → ((c : Channel) → closed c ≡ false) → IsExclusive layout closed
 exclusive_none layout closed none = record { present = λ c k. absurd (let e = none c in cc); apart = λ a b ka kb clash. absurd (let e = none a in cc) }
 
-pub safe_all_open : (rack : Accounts) → length rack ≡ 8 → ((s : ℕ) → OptionWellFormed (slot_at rack s)) → AreSafe (all_open rack)
+pub safe_all_open : (rack : Accounts) → length rack ≡ most_slots → ((s : ℕ) → OptionWellFormed (slot_at rack s)) → AreSafe (all_open rack)
 safe_all_open rack size rows = record {
   size = length-map rack option_rest ∙ size;
   rows = λ s. subst OptionWellFormed (sym (slot_rest rack s)) (rest_row (slot_at rack s) (rows s));
@@ -267,7 +272,8 @@ exclusive_quiet rack s v p h quiet safe =
           (record { other = clash.other; grouped = λ e. clash.grouped (group a ka ∙ e); same = sym (group a ka) ∙ clash.same ∙ group b kb });
     }
 
-pub safe_quiet : (rack : Accounts) (s : ℕ) (v : Option Account) → 0 < s → s ≤ length rack → ((k : ℕ) → option_closed v k ≡ false) → OptionWellFormed v → AreSafe rack
+pub safe_quiet : (rack : Accounts) (s : ℕ) (v : Option Account) → 0 < s → s ≤ length rack → ((k : ℕ) → option_closed v k ≡ false) → OptionWellFormed v
+    → AreSafe rack
     → AreSafe (slice_set rack (s - 1) v)
 safe_quiet rack s v p h quiet row safe = record {
   size = length-set rack (s - 1) v ∙ safe.size;
@@ -287,9 +293,10 @@ none_if false o e = refl
 pub none_slot : (n s : ℕ) → slot_at (let r : Accounts = replicate n None in r) s ≡ None
 none_slot n s = none_if (nat_lt 0 s) (slice_index_or (let r : Accounts = replicate n None in r) (s - 1) None) (none_at n (s - 1))
 
-pub safe_empty : AreSafe (replicate 8 None)
+pub safe_empty : AreSafe (replicate most_slots None)
 safe_empty = record {
   size = refl;
-  rows = λ s. subst OptionWellFormed (sym (none_slot 8 s)) tt;
-  exclusive = exclusive_none (layout_of (replicate 8 None)) (is_closed (replicate 8 None)) (λ c. ap (λ o. option_closed o c.1) (none_slot 8 c.0));
+  rows = λ s. subst OptionWellFormed (sym (none_slot most_slots s)) tt;
+  exclusive = exclusive_none (layout_of (replicate most_slots None)) (is_closed (replicate most_slots None))
+      (λ c. ap (λ o. option_closed o c.1) (none_slot most_slots c.0));
 }

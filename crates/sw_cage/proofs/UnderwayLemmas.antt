@@ -137,7 +137,8 @@ module _ (layout : Layout) (closed : Channels) (s : Setup) (i : ℕ) (w : HasDon
   on_way_moved now e = record {
     found = w.found;
     sound = w.sound;
-    so_far = e ∙ ap (λ (b : Channels). effect b (moves_from s i)) w.so_far ∙ sym (effect-append w.found (take i (agenda s)) (moves_from s i)) ∙ ap (effect w.found)
+    so_far = e ∙ ap (λ (b : Channels). effect b (moves_from s i)) w.so_far ∙ sym (effect-append w.found (take i (agenda s)) (moves_from s i)) ∙ ap
+        (effect w.found)
         (sym (take_way s i));
   }
 

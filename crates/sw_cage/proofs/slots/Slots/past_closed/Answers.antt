@@ -1,6 +1,7 @@
 use Rattle.std.proofs.Common.{◌≡◌, ℕ, ◌+◌, ◌++◌, ◌∙◌, ap, sym, refl, arith, take, true, [], ◌∷◌}
 use Rattle.std.specs.List.{filter}
 use Rattle.std.proofs.lemmas.List.{take_more}
+use Rattle.sw_base.specs.Limits.{most_channels}
 use Rattle.sw_base.specs.Layout.{Channel}
 use Rattle.sw_cage.specs.Accounts.{is_closed}
 use Rattle.sw_cage.specs.Channels.{row, rows}
@@ -52,4 +53,4 @@ loop-below-preserved g c = elim c.if-is_closed.branch [
 pub returns-clause-kept : goal.returns-clause-kept
 returns-clause-kept g c = push_rows (filter (is_closed c.args.self.now) (rows c.args.before)) _ (is_closed c.args.self.now) c.args.before refl
     (c.loop-below.invariant.kept ∙ ap (λ (k : ℕ). filter (is_closed c.args.self.now) (rows c.args.before) ++ filter (is_closed c.args.self.now)
-    (row (c.args.before + 1) k)) (let k : c.loop-below.below ≡ 99 = omega arith in k))
+    (row (c.args.before + 1) k)) (let k : c.loop-below.below ≡ most_channels = omega arith in k))

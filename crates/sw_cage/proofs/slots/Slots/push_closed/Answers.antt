@@ -1,4 +1,5 @@
 use Rattle.std.proofs.Common.{◌+◌, sym, ◌∙◌, ap, subst, arith, true, false, ◌++◌}
+use Rattle.sw_base.specs.Limits.{most_channels}
 use Rattle.sw_cage.specs.Accounts.{AreSafe, is_closed}
 use Rattle.sw_cage.proofs.ClosedListLemmas.{closed_number, row_empty, row_start, push_row, skip_row, add_nothing, card_row}
 use Rattle.sw_cage.proofs.OneSlotLemmas.{read_some, read_none, closed_by}
@@ -6,7 +7,7 @@ use Rattle.sw_cage.proofs.slots.Slots.push_closed.Goals.{then-is_closed+in_ok-pu
 use Rattle.sw_cage.proofs.slots.Slots.push_closed.Goals as goal
 
 pub returns-in_default : goal.returns-in_default
-returns-in_default g c = add_nothing c.args.chans.now.items _ (row_empty c.args.self.now c.args.slot 99
+returns-in_default g c = add_nothing c.args.chans.now.items _ (row_empty c.args.self.now c.args.slot most_channels
     (read_none c.self.inside.slots.items c.args.self.now c.args.slot c.index.result.now c.self.view_is c.self.invariant.size c.requires.0 c.requires.1
     c.index.ensures c.in_default.is))
 
