@@ -7,15 +7,15 @@ use Rattle.sw_trigger.specs.Settings.{Setup}
 use Rattle.sw_trigger.specs.Agenda.{Item, Awaits, Close, Open, agenda}
 use Rattle.sw_verify.specs.Channels.{Channels, with_channel, without}
 use Rattle.sw_verify.specs.Sound.{effect}
-use Rattle.sw_cage.specs.Rack.{Rack, is_closed}
-use Rattle.sw_cage.specs.Cage.{Scanning, CageSeen}
-use Rattle.sw_cage.specs.Advance.{leading, first_awaited, way, next_place, awaits}
+use Rattle.sw_cage.specs.Accounts.{Accounts, is_closed}
+use Rattle.sw_cage.specs.Cage.{ScanSeen, CageSeen}
+use Rattle.sw_cage.specs.Advance.{leading_moves, first_awaited, moves_from, next_place, awaits}
 use Rattle.sw_cage.specs.Work.{JobSeen}
 use Rattle.sw_cage.specs.TakenSeen.{TakenSeen, SaysIgnored, SaysWaits, SaysPause, SaysJob, SaysEnded, SaysFault}
 use Rattle.sw_cage.specs.declared.job.Ticket.{Ticket}
-use Rattle.sw_cage.specs.Goes.{Moved, Bays, bays_of, IsSent, Runs, Goes}
-use Rattle.sw_cage.proofs.Racks.{some_slot}
-use Rattle.sw_cage.proofs.Runs.{closed_sent}
+use Rattle.sw_cage.specs.Outcome.{Moved, Occupancy, occupancy_of, IsSent, AdvancesOrFails, Advances}
+use Rattle.sw_cage.proofs.SlotChangeLemmas.{some_slot}
+use Rattle.sw_cage.proofs.AdvanceLemmas.{closed_sent}
 
 -- ---- lists
 
@@ -30,11 +30,11 @@ drop_past (suc i) n (x ∷ l) = ap (λ (m : ℕ). drop m (x ∷ l)) (let e : suc
 
 -- ---- what is left closed at the end
 
-abbrev pub leaves : Rack → Scanning → Channels
+abbrev pub leaves : Accounts → ScanSeen → Channels
 leaves rack at = effect (is_closed rack) (drop at.index (agenda at.setup))
 
 -- by the closings and openings at the front, and then by the rest
-effect_lead : (b : Channels) (l : List Item) → effect (effect b (leading l)) (drop (length (leading l)) l) ≡ effect b l
+effect_lead : (b : Channels) (l : List Item) → effect (effect b (leading_moves l)) (drop (length (leading_moves l)) l) ≡ effect b l
 effect_lead b [] = refl
 effect_lead b (Awaits w ∷ l) = refl
 effect_lead b (Close c ∷ l) = effect_lead (with_channel c b) l
@@ -47,50 +47,50 @@ effect_first b (Awaits w ∷ l) x e = refl
 effect_first b (Close c ∷ l) x e = absurd (cc (e))
 effect_first b (Open c ∷ l) x e = absurd (cc (e))
 
-effect_next : (b : Channels) (s : Setup) (i : ℕ) → effect (effect b (way s i)) (drop (i + length (way s i)) (agenda s)) ≡ effect b (drop i (agenda s))
-effect_next b s i = ap (λ (l : List Item). effect (effect b (way s i)) l) (drop_past i (length (way s i)) (agenda s)) ∙ effect_lead b (drop i (agenda s))
+effect_next : (b : Channels) (s : Setup) (i : ℕ) → effect (effect b (moves_from s i)) (drop (i + length (moves_from s i)) (agenda s)) ≡ effect b (drop i (agenda s))
+effect_next b s i = ap (λ (l : List Item). effect (effect b (moves_from s i)) l) (drop_past i (length (moves_from s i)) (agenda s)) ∙ effect_lead b (drop i (agenda s))
 
 -- ---- moves
 
 -- a scan stands at this place, by these settings, and would leave closed what these items do
-abbrev IsCome : Rack → Channels → Setup → ℕ → Scanning → Type 0
+abbrev IsCome : Accounts → Channels → Setup → ℕ → ScanSeen → Type 0
 IsCome rack b s i at = (at.setup ≡ s) × (leaves rack at ≡ effect b (drop i (agenda s)))
 
-come : (old mid new : Rack) (s : Setup) (i : ℕ) (scan : Option Scanning) (at : Scanning) → Moved old (way s i) mid → is_closed new ≡ is_closed mid → scan ≡ Some (next_place s i) → scan ≡ Some at → IsCome new (is_closed old) s i at
+come : (old mid new : Accounts) (s : Setup) (i : ℕ) (scan : Option ScanSeen) (at : ScanSeen) → Moved old (moves_from s i) mid → is_closed new ≡ is_closed mid → scan ≡ Some (next_place s i) → scan ≡ Some at → IsCome new (is_closed old) s i at
 come old mid new s i scan at m e f g =
     let there : next_place s i ≡ at = let h = sym f ∙ g in cc (h) in
-    let here : IsCome new (is_closed old) s i (next_place s i) = (refl, ap (λ (b : Channels). effect b (drop (i + length (way s i)) (agenda s))) (e ∙ fun_ext m.closed) ∙ effect_next (is_closed old) s i) in
-    subst (λ (x : Scanning). IsCome new (is_closed old) s i x) there here
+    let here : IsCome new (is_closed old) s i (next_place s i) = (refl, ap (λ (b : Channels). effect b (drop (i + length (moves_from s i)) (agenda s))) (e ∙ fun_ext m.closed) ∙ effect_next (is_closed old) s i) in
+    subst (λ (x : ScanSeen). IsCome new (is_closed old) s i x) there here
 
-bay_closed : (old new : Bays) → new ≡ old → is_closed new.rack ≡ is_closed old.rack
-bay_closed old new e = ap (λ (b : Bays). is_closed b.rack) e
+bay_closed : (old new : Occupancy) → new ≡ old → is_closed new.cards ≡ is_closed old.cards
+bay_closed old new e = ap (λ (b : Occupancy). is_closed b.cards) e
 
 -- a meter that leaves closes and opens nothing
-sent_closed : (old : Bays) (slot : ℕ) (ticket : Ticket) (job : JobSeen) (new : Bays) → IsSent old slot ticket job new → is_closed new.rack ≡ is_closed old.rack
+sent_closed : (old : Occupancy) (slot : ℕ) (ticket : Ticket) (job : JobSeen) (new : Occupancy) → IsSent old slot ticket job new → is_closed new.cards ≡ is_closed old.cards
 sent_closed old slot ticket job new h =
-    let b : (0 < slot) × (slot ≤ length old.rack) = some_slot old.rack slot (ap (λ o. is_some o) h.meter) in
-    ap (λ (x : Bays). is_closed x.rack) h.after ∙ fun_ext (closed_sent old.rack slot job.meter (omega (arith, b.0)) b.1 h.meter)
+    let b : (0 < slot) × (slot ≤ length old.cards) = some_slot old.cards slot (ap (λ o. is_some o) h.meter) in
+    ap (λ (x : Occupancy). is_closed x.cards) h.after ∙ fun_ext (closed_sent old.cards slot job.meter (omega (arith, b.0)) b.1 h.meter)
 
 -- where a scan comes to it leaves closed what it would have before
-pub leaves_goes : (old new : Bays) (number : ℕ) (s : Setup) (i : ℕ) (told : TakenSeen) (scan : Option Scanning) (at : Scanning) → Runs old number (way s i) (next_place s i) told new scan → scan ≡ Some at → IsCome new.rack (is_closed old.rack) s i at
+pub leaves_goes : (old new : Occupancy) (number : ℕ) (s : Setup) (i : ℕ) (told : TakenSeen) (scan : Option ScanSeen) (at : ScanSeen) → AdvancesOrFails old number (moves_from s i) (next_place s i) told new scan → scan ≡ Some at → IsCome new.cards (is_closed old.cards) s i at
 leaves_goes old new number s i SaysFault scan at h e = absurd (let n = sym h.over ∙ e in cc (n))
 leaves_goes old new number s i SaysIgnored scan at h e = absurd h.arrives
-leaves_goes old new number s i SaysWaits scan at h e = come old.rack h.rack new.rack s i scan at h.moved (bay_closed (record old { rack = h.rack }) new h.arrives.1) h.arrives.2 e
-leaves_goes old new number s i (SaysPause ticket micros) scan at h e = come old.rack h.rack new.rack s i scan at h.moved (bay_closed (record old { rack = h.rack }) new h.arrives.2) h.arrives.3 e
-leaves_goes old new number s i (SaysJob job) scan at h e = come old.rack h.rack new.rack s i scan at h.moved (sent_closed (record old { rack = h.rack }) _ _ job new h.arrives.1) h.arrives.2 e
+leaves_goes old new number s i SaysWaits scan at h e = come old.cards h.cards new.cards s i scan at h.moved (bay_closed (record old { cards = h.cards }) new h.arrives.1) h.arrives.2 e
+leaves_goes old new number s i (SaysPause ticket micros) scan at h e = come old.cards h.cards new.cards s i scan at h.moved (bay_closed (record old { cards = h.cards }) new h.arrives.2) h.arrives.3 e
+leaves_goes old new number s i (SaysJob job) scan at h e = come old.cards h.cards new.cards s i scan at h.moved (sent_closed (record old { cards = h.cards }) _ _ job new h.arrives.1) h.arrives.2 e
 leaves_goes old new number s i SaysEnded scan at h e = absurd (let n = sym h.arrives.2 ∙ e in cc (n))
 
 -- ---- one cage and a later one
 
 -- a scan that runs then ran before, by the same settings, and would leave the same closed
 abbrev pub Holds : CageSeen → CageSeen → Type 0
-Holds p q = (at : Scanning) → q.scan ≡ Some at → (old : Scanning) × (p.scan ≡ Some old) × (at.setup ≡ old.setup) × (leaves q.rack at ≡ leaves p.rack old)
+Holds p q = (at : ScanSeen) → q.scan ≡ Some at → (old : ScanSeen) × (p.scan ≡ Some old) × (at.setup ≡ old.setup) × (leaves q.cards at ≡ leaves p.cards old)
 
 abbrev pub SameClosed : CageSeen → CageSeen → Type 0
-SameClosed p q = (c : Channel) → is_closed q.rack c ≡ is_closed p.rack c
+SameClosed p q = (c : Channel) → is_closed q.cards c ≡ is_closed p.cards c
 
-pub same_rack : (p q : CageSeen) → q.rack ≡ p.rack → SameClosed p q
-same_rack p q e c = ap (λ (r : Rack). is_closed r c) e
+pub same_rack : (p q : CageSeen) → q.cards ≡ p.cards → SameClosed p q
+same_rack p q e c = ap (λ (r : Accounts). is_closed r c) e
 
 pub holds_same : (p q : CageSeen) → q.scan ≡ p.scan → SameClosed p q → Holds p q
 holds_same p q e r at i = (at, sym e ∙ i, refl, ap (λ (b : Channels). effect b (drop at.index (agenda at.setup))) (fun_ext r))
@@ -98,11 +98,11 @@ holds_same p q e r at i = (at, sym e ∙ i, refl, ap (λ (b : Channels). effect 
 pub holds_none : (p q : CageSeen) → q.scan ≡ None → Holds p q
 holds_none p q e at i = absurd (let n = sym e ∙ i in cc (n))
 
-pub holds_goes : (p q from : CageSeen) (at : Scanning) (x : Awaited) (told : TakenSeen) → p.scan ≡ Some at → awaits at ≡ Some x → SameClosed p from → Goes from at.setup (at.index + 1) told q → Holds p q
+pub holds_goes : (p q from : CageSeen) (at : ScanSeen) (x : Awaited) (told : TakenSeen) → p.scan ≡ Some at → awaits at ≡ Some x → SameClosed p from → Advances from at.setup (at.index + 1) told q → Holds p q
 holds_goes p q from at x told is e same g new i =
-    let r = leaves_goes (bays_of from) (bays_of q) from.number at.setup (at.index + 1) told q.scan new g.runs i in
-    let past : effect (is_closed from.rack) (drop (at.index + 1) (agenda at.setup)) ≡ leaves p.rack at =
-    ap (λ (b : Channels). effect b (drop (at.index + 1) (agenda at.setup))) (fun_ext same) ∙ ap (λ (l : List Item). effect (is_closed p.rack) l) (drop_past at.index 1 (agenda at.setup)) ∙ effect_first (is_closed p.rack) (drop at.index (agenda at.setup)) x e in
+    let r = leaves_goes (occupancy_of from) (occupancy_of q) from.number at.setup (at.index + 1) told q.scan new g.runs i in
+    let past : effect (is_closed from.cards) (drop (at.index + 1) (agenda at.setup)) ≡ leaves p.cards at =
+    ap (λ (b : Channels). effect b (drop (at.index + 1) (agenda at.setup))) (fun_ext same) ∙ ap (λ (l : List Item). effect (is_closed p.cards) l) (drop_past at.index 1 (agenda at.setup)) ∙ effect_first (is_closed p.cards) (drop at.index (agenda at.setup)) x e in
     (at, is, r.0, r.1 ∙ past)
 
 pub holds_on : (p m q : CageSeen) → Holds p m → Holds m q → Holds p q

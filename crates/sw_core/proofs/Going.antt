@@ -9,26 +9,26 @@ use Rattle.sw_trigger.specs.Settings.{Setup}
 use Rattle.sw_trigger.specs.Agenda.{Item}
 use Rattle.sw_verify.specs.declared.snapshot.Snapshot.{Snapshot}
 use Rattle.sw_status.specs.StatusModel.{StatusSeen}
-use Rattle.sw_cage.specs.Rack.{Rack}
-use Rattle.sw_cage.specs.Cage.{Scanning, CageSeen, ticket_of}
-use Rattle.sw_cage.specs.Advance.{way, next_place}
+use Rattle.sw_cage.specs.Accounts.{Accounts}
+use Rattle.sw_cage.specs.Cage.{ScanSeen, CageSeen, ticket_of}
+use Rattle.sw_cage.specs.Advance.{moves_from, next_place}
 use Rattle.sw_cage.specs.Takes.{Takes, TakesReturn}
 use Rattle.sw_cage.specs.Work.{JobSeen, FinishedSeen}
 use Rattle.sw_cage.specs.TakenSeen.{TakenSeen, SaysIgnored, SaysWaits, SaysPause, SaysJob, SaysEnded, SaysFault}
 use Rattle.sw_cage.specs.declared.job.Ticket.{Ticket}
 use Rattle.sw_cage.specs.declared.taken.Happening.{Happening}
-use Rattle.sw_cage.specs.Goes.{Moved, Bays, bays_of, IsSent, Arrives, Lands, Runs, Goes, GoesPast, GoesPastFrom, Counts, begun, with_back, with_reading}
-use Rattle.sw_cage.proofs.Runs.{same_cage}
+use Rattle.sw_cage.specs.Outcome.{Moved, Occupancy, occupancy_of, IsSent, Arrives, Reaches, AdvancesOrFails, Advances, AdvancesPast, AdvancesPastFrom, Counts, begun, with_back, with_reading}
+use Rattle.sw_cage.proofs.AdvanceLemmas.{same_cage}
 use Rattle.sw_core.specs.Panel.{Panel}
 use Rattle.sw_core.specs.Registers.{alarmed, calmed}
 use Rattle.sw_core.specs.Step.{is_fault, Happens, Returns, Starts}
 use Rattle.sw_core.proofs.Same.{same_rack}
 
-moved_once : (old new new' : Rack) (moves : List Item) → Moved old moves new → Moved old moves new' → new ≡ new'
+moved_once : (old new new' : Accounts) (moves : List Item) → Moved old moves new → Moved old moves new' → new ≡ new'
 moved_once old new new' moves h k = same_rack new new' (h.rest ∙ sym k.rest) (λ c. h.closed c ∙ sym (k.closed c))
 
 -- what is told where a scan has come to, and what is left
-abbrev pub IsSameGoing : TakenSeen → TakenSeen → Bays → Bays → Option Scanning → Option Scanning → Type 0
+abbrev pub IsSameGoing : TakenSeen → TakenSeen → Occupancy → Occupancy → Option ScanSeen → Option ScanSeen → Type 0
 IsSameGoing told told' new new' scan scan' = (told ≡ told') × (new ≡ new') × (scan ≡ scan')
 
 some_eq : {A : Type 0} (a b : A) → ◌≡◌ {A = Option A} (Some a) (Some b) → a ≡ b
@@ -44,7 +44,7 @@ meter_once m m' e =
     let last = some_eq m.last m'.last (ap (λ (a : Account). a.last) e) in
     ap (λ (x : ℕ). let r : MeterAccount = record { serial = x; failures = m.failures; last = m.last } in r) serial ∙ ap (λ (x : ℕ). let r : MeterAccount = record { serial = m'.serial; failures = x; last = m.last } in r) failures ∙ ap (λ (x : Option Reading). let r : MeterAccount = record { serial = m'.serial; failures = m'.failures; last = x } in r) last
 
-sent_once : (old : Bays) (slot : ℕ) (ticket : Ticket) (j j' : JobSeen) (new new' : Bays) → IsSent old slot ticket j new → IsSent old slot ticket j' new' → (j ≡ j') × (new ≡ new')
+sent_once : (old : Occupancy) (slot : ℕ) (ticket : Ticket) (j j' : JobSeen) (new new' : Occupancy) → IsSent old slot ticket j new → IsSent old slot ticket j' new' → (j ≡ j') × (new ≡ new')
 sent_once old slot ticket j j' new new' h k =
     let slots : j.slot ≡ j'.slot = h.slot_is ∙ sym k.slot_is in
     let tickets : j.ticket ≡ j'.ticket = h.ticket_is ∙ sym k.ticket_is in
@@ -53,7 +53,7 @@ sent_once old slot ticket j j' new new' h k =
       h.after ∙ sym k.after,
     )
 
-arrives_once : (old : Bays) (number : ℕ) (at : Scanning) (told told' : TakenSeen) (new new' : Bays) (scan scan' : Option Scanning) → Arrives old number at told new scan → Arrives old number at told' new' scan' → IsSameGoing told told' new new' scan scan'
+arrives_once : (old : Occupancy) (number : ℕ) (at : ScanSeen) (told told' : TakenSeen) (new new' : Occupancy) (scan scan' : Option ScanSeen) → Arrives old number at told new scan → Arrives old number at told' new' scan' → IsSameGoing told told' new new' scan scan'
 arrives_once old number at SaysWaits SaysWaits new new' scan scan' h k = (refl, h.1 ∙ sym k.1, h.2 ∙ sym k.2)
 arrives_once old number at (SaysPause t u) (SaysPause t' u') new new' scan scan' h k =
     let e : Some (Pause u) ≡ Some (Pause u') = sym h.0 ∙ k.0 in
@@ -74,13 +74,13 @@ arrives_once old number at SaysEnded (SaysPause t' u') new new' scan scan' h k =
 arrives_once old number at SaysEnded (SaysJob j') new new' scan scan' h k = absurd (let e = sym h.0 ∙ k.0 in cc (e))
 arrives_once old number at told told' new new' scan scan' h k = absurd (assumption (h, k))
 
-lands_once : (old : Bays) (number : ℕ) (moves : List Item) (at : Scanning) (told told' : TakenSeen) (new new' : Bays) (scan scan' : Option Scanning) → Lands old number moves at told new scan → Lands old number moves at told' new' scan' → IsSameGoing told told' new new' scan scan'
+lands_once : (old : Occupancy) (number : ℕ) (moves : List Item) (at : ScanSeen) (told told' : TakenSeen) (new new' : Occupancy) (scan scan' : Option ScanSeen) → Reaches old number moves at told new scan → Reaches old number moves at told' new' scan' → IsSameGoing told told' new new' scan scan'
 lands_once old number moves at told told' new new' scan scan' h k =
-    let racks : h.rack ≡ k.rack = moved_once old.rack h.rack k.rack moves h.moved k.moved in
-    arrives_once (record old { rack = k.rack }) number at told told' new new' scan scan' (subst (λ (r : Rack). let b : Bays = record old { rack = r } in Arrives b number at told new scan) racks h.arrives) k.arrives
+    let racks : h.cards ≡ k.cards = moved_once old.cards h.cards k.cards moves h.moved k.moved in
+    arrives_once (record old { cards = k.cards }) number at told told' new new' scan scan' (subst (λ (r : Accounts). let b : Occupancy = record old { cards = r } in Arrives b number at told new scan) racks h.arrives) k.arrives
 
 -- no card failed, so that the scan has come somewhere
-lands : (old : Bays) (number : ℕ) (moves : List Item) (at : Scanning) (told : TakenSeen) (new : Bays) (scan : Option Scanning) → told ≢ SaysFault → Runs old number moves at told new scan → Lands old number moves at told new scan
+lands : (old : Occupancy) (number : ℕ) (moves : List Item) (at : ScanSeen) (told : TakenSeen) (new : Occupancy) (scan : Option ScanSeen) → told ≢ SaysFault → AdvancesOrFails old number moves at told new scan → Reaches old number moves at told new scan
 lands old number moves at SaysFault new scan n h = absurd (n refl)
 lands old number moves at SaysIgnored new scan n h = h
 lands old number moves at SaysWaits new scan n h = h
@@ -88,12 +88,12 @@ lands old number moves at (SaysPause ticket micros) new scan n h = h
 lands old number moves at (SaysJob job) new scan n h = h
 lands old number moves at SaysEnded new scan n h = h
 
-pub goes_once : (p q q' : CageSeen) (s : Setup) (i : ℕ) (told told' : TakenSeen) → Goes p s i told q → Goes p s i told' q' → told ≢ SaysFault → told' ≢ SaysFault → (told ≡ told') × (q ≡ q')
+pub goes_once : (p q q' : CageSeen) (s : Setup) (i : ℕ) (told told' : TakenSeen) → Advances p s i told q → Advances p s i told' q' → told ≢ SaysFault → told' ≢ SaysFault → (told ≡ told') × (q ≡ q')
 goes_once p q q' s i told told' h k n m =
-    let r = lands_once (bays_of p) p.number (way s i) (next_place s i) told told' (bays_of q) (bays_of q') q.scan q'.scan (lands _ _ _ _ told _ _ n h.runs) (lands _ _ _ _ told' _ _ m k.runs) in
+    let r = lands_once (occupancy_of p) p.number (moves_from s i) (next_place s i) told told' (occupancy_of q) (occupancy_of q') q.scan q'.scan (lands _ _ _ _ told _ _ n h.runs) (lands _ _ _ _ told' _ _ m k.runs) in
     (r.0, same_cage q q' r.1 (h.number ∙ sym k.number) r.2 (h.readings ∙ sym k.readings))
 
-past_once : (p q q' : CageSeen) (scan : Option Scanning) (told told' : TakenSeen) → GoesPastFrom p scan told q → GoesPastFrom p scan told' q' → told ≢ SaysFault → told' ≢ SaysFault → (told ≡ told') × (q ≡ q')
+past_once : (p q q' : CageSeen) (scan : Option ScanSeen) (told told' : TakenSeen) → AdvancesPastFrom p scan told q → AdvancesPastFrom p scan told' q' → told ≢ SaysFault → told' ≢ SaysFault → (told ≡ told') × (q ≡ q')
 past_once p q q' None told told' h k n m = absurd h
 past_once p q q' (Some at) told told' h k n m = goes_once p q q' at.setup (at.index + 1) told told' h k n m
 
@@ -109,7 +109,7 @@ abbrev pub IsIgnored : Panel → Happening → TakenSeen → Panel → Type 0
 IsIgnored p happening told q = (told ≡ SaysIgnored) × (Takes p.cage happening → ⊥) × (q ≡ p)
 
 abbrev pub IsGoing : Panel → Happening → TakenSeen → Panel → Type 0
-IsGoing p happening told q = Takes p.cage happening × GoesPast p.cage told q.cage × (q ≡ record p { cage = q.cage; status = if is_fault told then alarmed p.status else p.status })
+IsGoing p happening told q = Takes p.cage happening × AdvancesPast p.cage told q.cage × (q ≡ record p { cage = q.cage; status = if is_fault told then alarmed p.status else p.status })
 
 happens_as : (p : Panel) (happening : Happening) (f : Bool) (told : TakenSeen) (q : Panel) → Happens p happening f told q → IsIgnored p happening told q ⊎ IsGoing p happening told q
 happens_as p happening f SaysIgnored q h = inl (refl, h.1, h.2)

@@ -3,9 +3,9 @@ use Rattle.std.proofs.Common.{◌≡◌, ℕ, ◌+◌, ◌-◌, false, Option, N
 use Rattle.std.specs.Prelude.{if◌then◌else◌}
 use Rattle.sw_status.specs.StatusModel.{StatusSeen}
 use Rattle.sw_trigger.specs.Settings.{Setup}
-use Rattle.sw_cage.specs.Rack.{Rack, all_open}
+use Rattle.sw_cage.specs.Accounts.{Accounts, all_open}
 use Rattle.sw_cage.specs.Change.{any_failed}
-use Rattle.sw_cage.specs.Cage.{Scanning, CageSeen}
+use Rattle.sw_cage.specs.Cage.{ScanSeen, CageSeen}
 use Rattle.sw_base.specs.declared.error.ScpiError.{ScpiError}
 use Rattle.sw_base.specs.declared.error.ScpiError.TheVariants.{OutOfMemory, InitIgnored, SettingsConflict, SystemError}
 use Rattle.sw_core.specs.declared.ask.SessionAnswer.TheVariants.{Refused}
@@ -14,35 +14,35 @@ use Rattle.sw_card.specs.declared.board.CardFault.{CardFault}
 use Rattle.sw_verify.specs.declared.snapshot.Snapshot.{Snapshot}
 use Rattle.sw_verify.specs.Check.{IsReady}
 use Rattle.sw_cage.specs.Work.{FinishedSeen}
-use Rattle.sw_cage.specs.Goes.{Bays, bays_of, Goes, GoesPast, GoesPastFrom, Counts, begun, with_back, with_reading}
+use Rattle.sw_cage.specs.Outcome.{Occupancy, occupancy_of, Advances, AdvancesPast, AdvancesPastFrom, Counts, begun, with_back, with_reading}
 use Rattle.sw_cage.specs.Takes.{Takes, TakesReturn}
 use Rattle.sw_cage.specs.TakenSeen.{TakenSeen, SaysIgnored, SaysWaits, SaysPause, SaysJob, SaysEnded, SaysFault}
 use Rattle.sw_cage.specs.declared.taken.Happening.{Happening}
-use Rattle.sw_cage.proofs.Changes.{sets_unfailed, failed_from}
-use Rattle.sw_cage.proofs.Failures.{relay_failed}
+use Rattle.sw_cage.proofs.ChannelCallLemmas.{sets_unfailed, failed_from}
+use Rattle.sw_cage.proofs.FailureLemmas.{relay_failed}
 use Rattle.sw_core.specs.Panel.{Panel}
 use Rattle.sw_core.specs.Registers.{alarmed, calmed}
 use Rattle.sw_core.specs.Step.{is_fault, work_of, Happens, Returns, RefusesScan, MayScan, snapshot_of, StepStart, started_answer}
 use Rattle.sw_core.proofs.Calls.{failed_same, failed_go}
 
 -- the cage went nowhere but on: no card failed
-still : (old rack : Rack) (new mid : Bays) → all_open rack ≡ all_open old → new ≡ mid → mid.rack ≡ rack → any_failed old new.rack ≡ false
-still old rack new mid e n m = ap (λ (b : Bays). any_failed old b.rack) n ∙ ap (λ (r : Rack). any_failed old r) m ∙ sets_unfailed old rack e
+still : (old rack : Accounts) (new mid : Occupancy) → all_open rack ≡ all_open old → new ≡ mid → mid.cards ≡ rack → any_failed old new.cards ≡ false
+still old rack new mid e n m = ap (λ (b : Occupancy). any_failed old b.cards) n ∙ ap (λ (r : Accounts). any_failed old r) m ∙ sets_unfailed old rack e
 
-pub failed_goes : (p q : CageSeen) (s : Setup) (i : ℕ) (told : TakenSeen) → Goes p s i told q → any_failed p.rack q.rack ≡ is_fault told
+pub failed_goes : (p q : CageSeen) (s : Setup) (i : ℕ) (told : TakenSeen) → Advances p s i told q → any_failed p.cards q.cards ≡ is_fault told
 failed_goes p q s i SaysIgnored h = absurd (h.runs.arrives)
-failed_goes p q s i SaysWaits h = still p.rack h.runs.rack (bays_of q) (record (bays_of p) { rack = h.runs.rack }) h.runs.moved.rest h.runs.arrives.1 refl
-failed_goes p q s i (SaysPause ticket micros) h = still p.rack h.runs.rack (bays_of q) (record (bays_of p) { rack = h.runs.rack }) h.runs.moved.rest h.runs.arrives.2 refl
+failed_goes p q s i SaysWaits h = still p.cards h.runs.cards (occupancy_of q) (record (occupancy_of p) { cards = h.runs.cards }) h.runs.moved.rest h.runs.arrives.1 refl
+failed_goes p q s i (SaysPause ticket micros) h = still p.cards h.runs.cards (occupancy_of q) (record (occupancy_of p) { cards = h.runs.cards }) h.runs.moved.rest h.runs.arrives.2 refl
 failed_goes p q s i (SaysJob job) h =
-    ap (λ (b : Bays). any_failed p.rack b.rack) h.runs.arrives.1.after ∙ sym (failed_from p.rack h.runs.rack (slice_set h.runs.rack (s.meter - 1) None) h.runs.moved.rest) ∙ failed_go h.runs.rack (s.meter - 1)
-failed_goes p q s i SaysEnded h = still p.rack h.runs.rack (bays_of q) (record (bays_of p) { rack = h.runs.rack }) h.runs.moved.rest h.runs.arrives.1 refl
-failed_goes p q s i SaysFault h = relay_failed p.rack q.rack h.runs.fallen.failed
+    ap (λ (b : Occupancy). any_failed p.cards b.cards) h.runs.arrives.1.after ∙ sym (failed_from p.cards h.runs.cards (slice_set h.runs.cards (s.meter - 1) None) h.runs.moved.rest) ∙ failed_go h.runs.cards (s.meter - 1)
+failed_goes p q s i SaysEnded h = still p.cards h.runs.cards (occupancy_of q) (record (occupancy_of p) { cards = h.runs.cards }) h.runs.moved.rest h.runs.arrives.1 refl
+failed_goes p q s i SaysFault h = relay_failed p.cards q.cards h.runs.fallen.failed
 
-pub failed_past : (p q : CageSeen) (scan : Option Scanning) (told : TakenSeen) → GoesPastFrom p scan told q → any_failed p.rack q.rack ≡ is_fault told
+pub failed_past : (p q : CageSeen) (scan : Option ScanSeen) (told : TakenSeen) → AdvancesPastFrom p scan told q → any_failed p.cards q.cards ≡ is_fault told
 failed_past p q None told h = absurd h
 failed_past p q (Some at) told h = failed_goes p q at.setup (at.index + 1) told h
 
-pub never_ignored : (p q : CageSeen) (scan : Option Scanning) → GoesPastFrom p scan SaysIgnored q → ⊥
+pub never_ignored : (p q : CageSeen) (scan : Option ScanSeen) → AdvancesPastFrom p scan SaysIgnored q → ⊥
 never_ignored p q None h = h
 never_ignored p q (Some at) h = h.runs.arrives
 
@@ -50,12 +50,12 @@ abbrev told_panel : Panel → CageSeen → StatusSeen → Panel
 told_panel p cage s = record p { cage = cage; status = s }
 
 -- a call of the cage with a happening, by what it told
-pub happened : (p : Panel) (h : Happening) (told : TakenSeen) (cage : CageSeen) (s : StatusSeen) → ((Takes p.cage h → ⊥) → (told ≡ SaysIgnored) × (cage ≡ p.cage)) → (Takes p.cage h → GoesPast p.cage told cage) → ((told ≡ SaysIgnored → ⊥) → Takes p.cage h)
-    → s ≡ (if is_fault told then alarmed p.status else p.status) → Happens p h (any_failed p.cage.rack cage.rack) told (record p { cage = cage; status = s })
+pub happened : (p : Panel) (h : Happening) (told : TakenSeen) (cage : CageSeen) (s : StatusSeen) → ((Takes p.cage h → ⊥) → (told ≡ SaysIgnored) × (cage ≡ p.cage)) → (Takes p.cage h → AdvancesPast p.cage told cage) → ((told ≡ SaysIgnored → ⊥) → Takes p.cage h)
+    → s ≡ (if is_fault told then alarmed p.status else p.status) → Happens p h (any_failed p.cage.cards cage.cards) told (record p { cage = cage; status = s })
 happened p h SaysIgnored cage s ignored taken takes e =
     let none : Takes p.cage h → ⊥ = λ t. never_ignored p.cage cage p.cage.scan (taken t) in
     let same : cage ≡ p.cage = (ignored none).1 in
-    (ap (λ (c : CageSeen). any_failed p.cage.rack c.rack) same ∙ failed_same p.cage.rack, none, ap (λ (x : StatusSeen). told_panel p cage x) e ∙ ap (λ (c : CageSeen). told_panel p c p.status) same)
+    (ap (λ (c : CageSeen). any_failed p.cage.cards c.cards) same ∙ failed_same p.cage.cards, none, ap (λ (x : StatusSeen). told_panel p cage x) e ∙ ap (λ (c : CageSeen). told_panel p c p.status) same)
 happened p h SaysWaits cage s ignored taken takes e = let t : Takes p.cage h = takes (λ (x : SaysWaits ≡ SaysIgnored). absurd (cc (x))) in (t, taken t, (failed_past p.cage cage p.cage.scan SaysWaits (taken t), ap (λ (x : StatusSeen). told_panel p cage x) e))
 happened p h (SaysPause ticket micros) cage s ignored taken takes e = let t : Takes p.cage h = takes (λ (x : SaysPause ticket micros ≡ SaysIgnored). absurd (cc (x))) in (t, taken t, (failed_past p.cage cage p.cage.scan (SaysPause ticket micros) (taken t), ap (λ (x : StatusSeen). told_panel p cage x) e))
 happened p h (SaysJob job) cage s ignored taken takes e = let t : Takes p.cage h = takes (λ (x : SaysJob job ≡ SaysIgnored). absurd (cc (x))) in (t, taken t, (failed_past p.cage cage p.cage.scan (SaysJob job) (taken t), ap (λ (x : StatusSeen). told_panel p cage x) e))
@@ -79,8 +79,8 @@ returned p done SaysEnded cage s ignored taken takes e = let t : TakesReturn p.c
 returned p done SaysFault cage s ignored taken takes e = let t : TakesReturn p.cage done.slot done.ticket = takes (λ (x : SaysFault ≡ SaysIgnored). absurd (cc (x))) in (t, taken t, (refl, ap (λ (x : StatusSeen). told_panel p cage x) e))
 
 -- the scan of a plan began, by what the cage told
-pub started : (p : Panel) (plan : Snapshot) (told : TakenSeen) (cage : CageSeen) (s : StatusSeen) → MayScan p → plan ≡ snapshot_of p → IsReady plan → Goes (begun p.cage) p.settings 0 told cage → s ≡ (if is_fault told then alarmed p.status else calmed p.status)
-    → StepStart p plan (any_failed p.cage.rack cage.rack) (started_answer told) (work_of told) (record p { cage = cage; status = s })
+pub started : (p : Panel) (plan : Snapshot) (told : TakenSeen) (cage : CageSeen) (s : StatusSeen) → MayScan p → plan ≡ snapshot_of p → IsReady plan → Advances (begun p.cage) p.settings 0 told cage → s ≡ (if is_fault told then alarmed p.status else calmed p.status)
+    → StepStart p plan (any_failed p.cage.cards cage.cards) (started_answer told) (work_of told) (record p { cage = cage; status = s })
 started p plan SaysIgnored cage s may same ready goes e = absurd goes.runs.arrives
 started p plan SaysWaits cage s may same ready goes e = record { may = may; told = SaysWaits; starts = (failed_goes (begun p.cage) cage p.settings 0 (SaysWaits) goes, same, ready, goes, ap (λ (x : StatusSeen). told_panel p cage x) e); answer_is = refl; work_is = refl }
 started p plan (SaysPause ticket micros) cage s may same ready goes e = record { may = may; told = SaysPause ticket micros; starts = (failed_goes (begun p.cage) cage p.settings 0 (SaysPause ticket micros) goes, same, ready, goes, ap (λ (x : StatusSeen). told_panel p cage x) e); answer_is = refl; work_is = refl }
@@ -89,14 +89,14 @@ started p plan SaysEnded cage s may same ready goes e = record { may = may; told
 started p plan SaysFault cage s may same ready goes e = record { may = may; told = SaysFault; starts = (failed_goes (begun p.cage) cage p.settings 0 (SaysFault) goes, same, ready, goes, ap (λ (x : StatusSeen). told_panel p cage x) e); answer_is = refl; work_is = refl }
 
 -- no scan began: for want of memory, for what is so of the cage, or for a plan of another state
-pub unbegun : (p : Panel) (plan : Snapshot) (cage : CageSeen) → cage ≡ p.cage → MayScan p → plan ≡ snapshot_of p → StepStart p plan (any_failed p.cage.rack cage.rack) (Refused OutOfMemory) None (record p { cage = cage })
-unbegun p plan cage e may same = (ap (λ (c : CageSeen). any_failed p.cage.rack c.rack) e ∙ failed_same p.cage.rack, may, same, ap (λ (c : CageSeen). told_panel p c p.status) e)
+pub unbegun : (p : Panel) (plan : Snapshot) (cage : CageSeen) → cage ≡ p.cage → MayScan p → plan ≡ snapshot_of p → StepStart p plan (any_failed p.cage.cards cage.cards) (Refused OutOfMemory) None (record p { cage = cage })
+unbegun p plan cage e may same = (ap (λ (c : CageSeen). any_failed p.cage.cards c.cards) e ∙ failed_same p.cage.cards, may, same, ap (λ (c : CageSeen). told_panel p c p.status) e)
 
-pub refused_start : (p : Panel) (plan : Snapshot) (error : ScpiError) → RefusesScan p error → StepStart p plan (any_failed p.cage.rack p.cage.rack) (Refused error) None p
-refused_start p plan InitIgnored h = (failed_same p.cage.rack, h, refl)
-refused_start p plan SettingsConflict h = (failed_same p.cage.rack, inl h, refl)
-refused_start p plan SystemError h = (failed_same p.cage.rack, h, refl)
+pub refused_start : (p : Panel) (plan : Snapshot) (error : ScpiError) → RefusesScan p error → StepStart p plan (any_failed p.cage.cards p.cage.cards) (Refused error) None p
+refused_start p plan InitIgnored h = (failed_same p.cage.cards, h, refl)
+refused_start p plan SettingsConflict h = (failed_same p.cage.cards, inl h, refl)
+refused_start p plan SystemError h = (failed_same p.cage.cards, h, refl)
 refused_start p plan error h = absurd h
 
-pub stale_start : (p : Panel) (plan : Snapshot) → MayScan p → (plan ≡ snapshot_of p → ⊥) → StepStart p plan (any_failed p.cage.rack p.cage.rack) (Refused SettingsConflict) None p
-stale_start p plan may other = (failed_same p.cage.rack, inr (may, other), refl)
+pub stale_start : (p : Panel) (plan : Snapshot) → MayScan p → (plan ≡ snapshot_of p → ⊥) → StepStart p plan (any_failed p.cage.cards p.cage.cards) (Refused SettingsConflict) None p
+stale_start p plan may other = (failed_same p.cage.cards, inr (may, other), refl)

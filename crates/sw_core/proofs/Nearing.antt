@@ -22,19 +22,19 @@ use Rattle.sw_verify.specs.declared.snapshot.Snapshot.{Snapshot}
 use Rattle.sw_verify.specs.Channels.{Channels, is_among}
 use Rattle.sw_verify.specs.Sound.{effect}
 use Rattle.sw_verify.proofs.Round.{effect-append}
-use Rattle.sw_cage.specs.Rack.{is_closed}
+use Rattle.sw_cage.specs.Accounts.{is_closed}
 use Rattle.sw_cage.specs.Channels.{closed_list}
-use Rattle.sw_cage.specs.Cage.{Scanning, CageSeen, fall, ticket_of}
+use Rattle.sw_cage.specs.Cage.{ScanSeen, CageSeen, safe_state, ticket_of}
 use Rattle.sw_cage.specs.Install.{stopped}
 use Rattle.sw_cage.specs.Good.{IsRunning, IsHeld, MeterStands}
-use Rattle.sw_cage.specs.Advance.{leading, first_awaited, way, next_place, awaits}
+use Rattle.sw_cage.specs.Advance.{leading_moves, first_awaited, moves_from, next_place, awaits}
 use Rattle.sw_cage.specs.Takes.{TakesIf, TakesThere, TakesReturnThere}
 use Rattle.sw_cage.specs.Work.{FinishedSeen}
 use Rattle.sw_cage.specs.TakenSeen.{TakenSeen, SaysIgnored, SaysWaits, SaysPause, SaysJob, SaysEnded, SaysFault}
 use Rattle.sw_cage.specs.declared.job.Ticket.{Ticket}
 use Rattle.sw_cage.specs.declared.taken.Happening.{Happening}
 use Rattle.sw_cage.specs.declared.taken.Happening.TheVariants.{Bus, External, Elapsed}
-use Rattle.sw_cage.specs.Goes.{Bays, bays_of, Arrives, Runs, Goes, GoesPastFrom, Counts, begun, with_back, with_reading}
+use Rattle.sw_cage.specs.Outcome.{Occupancy, occupancy_of, Arrives, AdvancesOrFails, Advances, AdvancesPastFrom, Counts, begun, with_back, with_reading}
 use Rattle.sw_core.specs.declared.ask.Sid.{Sid}
 use Rattle.sw_core.specs.declared.ask.SessionAsk.{SessionAsk}
 use Rattle.sw_core.specs.declared.ask.SessionAsk.TheVariants as Ask
@@ -49,9 +49,9 @@ use Rattle.sw_core.specs.Seats.{asker_of}
 use Rattle.sw_core.specs.Step.{StepClose, StepOpen, StepFlags, StepText, StepDone, StepSetting, StepRefused, StepReadings, StepAlone, StepEffect, StepHeld, StepAction, Happens, session_told, StepHappens, StepSnapshot, Starts, StepStart, started_answer, IsServed, StepJoined, StepAdmitted, drops, shuts_out, StepJoin, StepAttach, StepSession, outside_told, StepOutside, Returns, StepFinished, Acts, acts_unnumbered, IsWorn, IsEvent, IsUnnumbered, Step}
 use Rattle.sw_core.specs.Run.{Event, IsRun}
 use Rattle.sw_core.specs.Ends.{left_at, left_of, left_in, went_on, was_taken, took_effect, took_command, took, taken_in, begins, BeginsNone, last_of, IsFollowing, EveryScanEnds}
-use Rattle.sw_cage.proofs.Racks.{some_slot, is_none}
-use Rattle.sw_cage.proofs.Runs.{closed_back}
-use Rattle.sw_cage.proofs.Among.{among_closed}
+use Rattle.sw_cage.proofs.SlotChangeLemmas.{some_slot, is_none}
+use Rattle.sw_cage.proofs.AdvanceLemmas.{closed_back}
+use Rattle.sw_cage.proofs.ClosedMemberLemmas.{among_closed}
 use Rattle.sw_core.proofs.Kept.{IsKept, inside}
 use Rattle.sw_core.proofs.Safety.{IsFine, none_of, step_fine, opening_fine_at}
 use Rattle.sw_core.proofs.Course.{drop_past, leaves, leaves_goes, Holds, SameClosed, same_rack, holds_same, holds_none, holds_goes, holds_on}
@@ -67,34 +67,34 @@ awaited_first (Close c ∷ l) x e = absurd (cc (e))
 awaited_first (Open c ∷ l) x e = absurd (cc (e))
 
 -- closings and openings await nothing
-lead_awaits : (l : List Item) → awaiting (drop (length (leading l)) l) ≡ awaiting l
+lead_awaits : (l : List Item) → awaiting (drop (length (leading_moves l)) l) ≡ awaiting l
 lead_awaits [] = refl
 lead_awaits (Awaits w ∷ l) = refl
 lead_awaits (Close c ∷ l) = lead_awaits l
 lead_awaits (Open c ∷ l) = lead_awaits l
 
 -- what they lead to awaits, or is the end
-lead_ends : (l : List Item) → first_awaited (drop (length (leading l)) l) ≡ None → awaiting l ≡ []
+lead_ends : (l : List Item) → first_awaited (drop (length (leading_moves l)) l) ≡ None → awaiting l ≡ []
 lead_ends [] e = refl
 lead_ends (Awaits w ∷ l) e = absurd (cc (e))
 lead_ends (Close c ∷ l) e = lead_ends l e
 lead_ends (Open c ∷ l) e = lead_ends l e
 
 -- one awaited item is passed
-left_past : (at : Scanning) (x : Awaited) → awaits at ≡ Some x → left_at at ≡ suc (length (awaiting (drop (at.index + 1) (agenda at.setup))))
+left_past : (at : ScanSeen) (x : Awaited) → awaits at ≡ Some x → left_at at ≡ suc (length (awaiting (drop (at.index + 1) (agenda at.setup))))
 left_past at x e = awaited_first (drop at.index (agenda at.setup)) x e ∙ ap (λ (l : List Item). suc (length (awaiting l))) (sym (drop_past at.index 1 (agenda at.setup)))
 
 -- and the next is come to
 left_next : (s : Setup) (i : ℕ) → left_at (next_place s i) ≡ length (awaiting (drop i (agenda s)))
-left_next s i = ap (λ (l : List Item). length (awaiting l)) (drop_past i (length (way s i)) (agenda s)) ∙ ap (λ (l : List Awaited). length l) (lead_awaits (drop i (agenda s)))
+left_next s i = ap (λ (l : List Item). length (awaiting l)) (drop_past i (length (moves_from s i)) (agenda s)) ∙ ap (λ (l : List Awaited). length l) (lead_awaits (drop i (agenda s)))
 
 left_none : (s : Setup) (i : ℕ) → awaits (next_place s i) ≡ None → length (awaiting (drop i (agenda s))) ≡ 0
-left_none s i e = ap (λ (l : List Awaited). length l) (lead_ends (drop i (agenda s)) (ap first_awaited (sym (drop_past i (length (way s i)) (agenda s))) ∙ e))
+left_none s i e = ap (λ (l : List Awaited). length l) (lead_ends (drop i (agenda s)) (ap first_awaited (sym (drop_past i (length (moves_from s i)) (agenda s))) ∙ e))
 
 -- ---- scans
 
 -- where a scan is that came to the next awaited item from item i on
-left_arrives : (old new : Bays) (number : ℕ) (s : Setup) (i : ℕ) (told : TakenSeen) (scan : Option Scanning) → Arrives old number (next_place s i) told new scan → left_of scan ≡ length (awaiting (drop i (agenda s)))
+left_arrives : (old new : Occupancy) (number : ℕ) (s : Setup) (i : ℕ) (told : TakenSeen) (scan : Option ScanSeen) → Arrives old number (next_place s i) told new scan → left_of scan ≡ length (awaiting (drop i (agenda s)))
 left_arrives old new number s i SaysWaits scan h = ap left_of h.2 ∙ left_next s i
 left_arrives old new number s i (SaysPause ticket micros) scan h = ap left_of h.3 ∙ left_next s i
 left_arrives old new number s i (SaysJob job) scan h = ap left_of h.2 ∙ left_next s i
@@ -102,16 +102,16 @@ left_arrives old new number s i SaysEnded scan h = ap left_of h.2 ∙ sym (left_
 left_arrives old new number s i told scan h = absurd h
 
 -- unless a card failed, which ends it
-abbrev IsLeft : Option Scanning → ℕ → Type 0
+abbrev IsLeft : Option ScanSeen → ℕ → Type 0
 IsLeft scan n = (left_of scan ≡ n) ⊎ (scan ≡ None)
 
-left_runs : (old new : Bays) (number : ℕ) (s : Setup) (i : ℕ) (told : TakenSeen) (scan : Option Scanning) → Runs old number (way s i) (next_place s i) told new scan → IsLeft scan (length (awaiting (drop i (agenda s))))
+left_runs : (old new : Occupancy) (number : ℕ) (s : Setup) (i : ℕ) (told : TakenSeen) (scan : Option ScanSeen) → AdvancesOrFails old number (moves_from s i) (next_place s i) told new scan → IsLeft scan (length (awaiting (drop i (agenda s))))
 left_runs old new number s i SaysFault scan h = inr h.over
-left_runs old new number s i SaysIgnored scan h = inl (left_arrives (record old { rack = h.rack }) new number s i SaysIgnored scan h.arrives)
-left_runs old new number s i SaysWaits scan h = inl (left_arrives (record old { rack = h.rack }) new number s i SaysWaits scan h.arrives)
-left_runs old new number s i (SaysPause ticket micros) scan h = inl (left_arrives (record old { rack = h.rack }) new number s i (SaysPause ticket micros) scan h.arrives)
-left_runs old new number s i (SaysJob job) scan h = inl (left_arrives (record old { rack = h.rack }) new number s i (SaysJob job) scan h.arrives)
-left_runs old new number s i SaysEnded scan h = inl (left_arrives (record old { rack = h.rack }) new number s i SaysEnded scan h.arrives)
+left_runs old new number s i SaysIgnored scan h = inl (left_arrives (record old { cards = h.cards }) new number s i SaysIgnored scan h.arrives)
+left_runs old new number s i SaysWaits scan h = inl (left_arrives (record old { cards = h.cards }) new number s i SaysWaits scan h.arrives)
+left_runs old new number s i (SaysPause ticket micros) scan h = inl (left_arrives (record old { cards = h.cards }) new number s i (SaysPause ticket micros) scan h.arrives)
+left_runs old new number s i (SaysJob job) scan h = inl (left_arrives (record old { cards = h.cards }) new number s i (SaysJob job) scan h.arrives)
+left_runs old new number s i SaysEnded scan h = inl (left_arrives (record old { cards = h.cards }) new number s i SaysEnded scan h.arrives)
 
 -- From p to q so many happenings are taken, and as many less are awaited, unless the scan is over. No scan begins.
 pub record Nears (p : Panel) (taken : ℕ) (q : Panel) : Type 0 where
@@ -124,13 +124,13 @@ near_same : (p q : Panel) → q.cage.scan ≡ p.cage.scan → SameClosed p.cage 
 near_same p q e r = record { most = omega arith; left = inl (omega (arith, (let n : left_in q ≡ left_in p = ap left_of e in n))); idle = λ i. e ∙ i; holds = holds_same p.cage q.cage e r }
 
 near_is : (p q : Panel) → q ≡ p → Nears p 0 q
-near_is p q e = near_same p q (ap (λ (x : Panel). x.cage.scan) e) (λ c. ap (λ (x : Panel). is_closed x.cage.rack c) e)
+near_is p q e = near_same p q (ap (λ (x : Panel). x.cage.scan) e) (λ c. ap (λ (x : Panel). is_closed x.cage.cards c) e)
 
 near_none : (p q : Panel) → q.cage.scan ≡ None → Nears p 0 q
 near_none p q e = record { most = omega arith; left = inr e; idle = λ i. e; holds = holds_none p.cage q.cage e }
 
-near_goes : (p q : Panel) (from : CageSeen) (at : Scanning) (x : Awaited) (told : TakenSeen) → p.cage.scan ≡ Some at → awaits at ≡ Some x → SameClosed p.cage from → Goes from at.setup (at.index + 1) told q.cage → Nears p 1 q
-near_goes p q from at x told is e same g = by_left (length (awaiting (drop (at.index + 1) (agenda at.setup)))) (ap left_of is ∙ left_past at x e) (left_runs (bays_of from) (bays_of q.cage) from.number at.setup (at.index + 1) told q.cage.scan g.runs)
+near_goes : (p q : Panel) (from : CageSeen) (at : ScanSeen) (x : Awaited) (told : TakenSeen) → p.cage.scan ≡ Some at → awaits at ≡ Some x → SameClosed p.cage from → Advances from at.setup (at.index + 1) told q.cage → Nears p 1 q
+near_goes p q from at x told is e same g = by_left (length (awaiting (drop (at.index + 1) (agenda at.setup)))) (ap left_of is ∙ left_past at x e) (left_runs (occupancy_of from) (occupancy_of q.cage) from.number at.setup (at.index + 1) told q.cage.scan g.runs)
   where
     by_left : (n : ℕ) → left_in p ≡ suc n → IsLeft q.cage.scan n → Nears p 1 q
     by_left n l (inl m) = record { most = omega (arith, l); left = inl (omega (arith, l, m)); idle = λ i. absurd (let r = sym is ∙ i in cc (r)); holds = holds_goes p.cage q.cage from at x told is e same g }
@@ -140,7 +140,7 @@ takes_some : (s : Setup) (present : Ticket) (o : Option Awaited) (happening : Ha
 takes_some s present None happening h = absurd h
 takes_some s present (Some x) happening h = (x, refl)
 
-near_past : (p q : Panel) (happening : Happening) (told : TakenSeen) (scan : Option Scanning) → p.cage.scan ≡ scan → TakesThere p.cage.number scan happening → GoesPastFrom p.cage scan told q.cage → Nears p 1 q
+near_past : (p q : Panel) (happening : Happening) (told : TakenSeen) (scan : Option ScanSeen) → p.cage.scan ≡ scan → TakesThere p.cage.number scan happening → AdvancesPastFrom p.cage scan told q.cage → Nears p 1 q
 near_past p q happening told None is h g = absurd h
 near_past p q happening told (Some at) is h g = let x = takes_some at.setup (ticket_of p.cage.number at) (awaits at) happening h in near_goes p q p.cage at x.0 told is x.1 (λ c. refl) g
 
@@ -157,11 +157,11 @@ near_happens p happening f SaysEnded q h = near_past p q happening SaysEnded p.c
 near_happens p happening f SaysFault q h = near_past p q happening SaysFault p.cage.scan refl h.0 h.1
 
 -- a meter's return that the scan takes
-near_counted : (p q : Panel) (done : FinishedSeen) (told : TakenSeen) (scan : Option Scanning) (outcome : Result Reading CardFault) → p.cage.scan ≡ scan → TakesReturnThere p.cage.number scan done.slot done.ticket → SameClosed p.cage (with_back p.cage done) → Counts (with_back p.cage done) outcome told q.cage → Nears p 1 q
+near_counted : (p q : Panel) (done : FinishedSeen) (told : TakenSeen) (scan : Option ScanSeen) (outcome : Result Reading CardFault) → p.cage.scan ≡ scan → TakesReturnThere p.cage.number scan done.slot done.ticket → SameClosed p.cage (with_back p.cage done) → Counts (with_back p.cage done) outcome told q.cage → Nears p 1 q
 near_counted p q done told None outcome is h same g = absurd h
 near_counted p q done told (Some at) (Ok r) is h same g =
     let from : CageSeen = with_reading (with_back p.cage done) r in
-    near_goes p q from at Read told is h.reading same (subst (λ (o : Option Scanning). GoesPastFrom from o told q.cage) is g)
+    near_goes p q from at Read told is h.reading same (subst (λ (o : Option ScanSeen). AdvancesPastFrom from o told q.cage) is g)
 near_counted p q done told (Some at) (Err e) is h same g =
     let n : left_in p ≡ suc (length (awaiting (drop (at.index + 1) (agenda at.setup)))) = ap left_of is ∙ left_past at Read h.reading in
     let over : q.cage.scan ≡ None = ap (λ (x : CageSeen). x.scan) g.1 in
@@ -172,10 +172,10 @@ same_back : (c : CageSeen) (done : FinishedSeen) → IsHeld c → slot_at c.out 
 same_back c done k e =
     let out : is_some (slot_at c.out done.slot) ≡ true = ap (λ o. is_some o) e in
     let b : (0 < done.slot) × (done.slot ≤ length c.out) = some_slot c.out done.slot out in
-    closed_back c.rack done.slot done.meter (omega (arith, b.0)) (omega (arith, b.1, k.outs, k.slots)) (k.empty done.slot out)
+    closed_back c.cards done.slot done.meter (omega (arith, b.0)) (omega (arith, b.1, k.outs, k.slots)) (k.empty done.slot out)
 
 near_returns : (p : Panel) (done : FinishedSeen) (f : Bool) (told : TakenSeen) (q : Panel) → SameClosed p.cage (with_back p.cage done) → Returns p done f told q → Nears p (of_taken told) q
-near_returns p done f SaysIgnored q same h = near_same p q (ap (λ (x : Panel). x.cage.scan) h.2) (λ c. ap (λ (x : Panel). is_closed x.cage.rack c) h.2 ∙ same c)
+near_returns p done f SaysIgnored q same h = near_same p q (ap (λ (x : Panel). x.cage.scan) h.2) (λ c. ap (λ (x : Panel). is_closed x.cage.cards c) h.2 ∙ same c)
 near_returns p done f SaysWaits q same h = near_counted p q done SaysWaits p.cage.scan done.outcome refl h.0 same h.1
 near_returns p done f (SaysPause t u) q same h = near_counted p q done (SaysPause t u) p.cage.scan done.outcome refl h.0 same h.1
 near_returns p done f (SaysJob job) q same h = near_counted p q done (SaysJob job) p.cage.scan done.outcome refl h.0 same h.1
@@ -189,7 +189,7 @@ abbrev IsStill : Panel → Panel → Type 0
 IsStill p q = (q.cage ≡ p.cage) ⊎ (q.cage.scan ≡ None)
 
 near_still : (p q : Panel) → IsStill p q → Nears p 0 q
-near_still p q (inl e) = near_same p q (ap (λ (x : CageSeen). x.scan) e) (same_rack p.cage q.cage (ap (λ (x : CageSeen). x.rack) e))
+near_still p q (inl e) = near_same p q (ap (λ (x : CageSeen). x.scan) e) (same_rack p.cage q.cage (ap (λ (x : CageSeen). x.cards) e))
 near_still p q (inr e) = near_none p q e
 
 still_as : (p q : Panel) → q ≡ p → IsStill p q
@@ -413,8 +413,8 @@ fault_told told e = absurd (cc (e))
 still_start : (p : Panel) (sid : Sid) (plan : Snapshot) (f : Bool) (a : SessionAnswer) (w : Option WorkView) (q : Panel) → begins (AskSession (Ask.Start sid plan)) (SaysSession a w) ≡ false → StepStart p plan f a w q → IsStill p q
 still_start p sid plan f (Done None) w q n h = absurd (cc (n))
 still_start p sid plan f (Refused HardwareError) w q n h =
-    let g : Goes (begun p.cage) p.settings 0 SaysFault q.cage = subst (λ (t : TakenSeen). Goes (begun p.cage) p.settings 0 t q.cage) (fault_told h.told h.answer_is) h.starts.3 in
-    let r : Runs (bays_of (begun p.cage)) (p.cage.number + 1) (way p.settings 0) (next_place p.settings 0) SaysFault (bays_of q.cage) q.cage.scan = g.runs in
+    let g : Advances (begun p.cage) p.settings 0 SaysFault q.cage = subst (λ (t : TakenSeen). Advances (begun p.cage) p.settings 0 t q.cage) (fault_told h.told h.answer_is) h.starts.3 in
+    let r : AdvancesOrFails (occupancy_of (begun p.cage)) (p.cage.number + 1) (moves_from p.settings 0) (next_place p.settings 0) SaysFault (occupancy_of q.cage) q.cage.scan = g.runs in
     inr r.over
 still_start p sid plan f (Refused OutOfMemory) None q n h = still_as p q h.3
 still_start p sid plan f (Refused SettingsConflict) None q n h = still_as p q h.2
@@ -509,7 +509,7 @@ near_finished p done f a q k h = subst (λ (n : ℕ). Nears p n q) (sym (ap was_
 stopped_none : (c : CageSeen) → (stopped c).scan ≡ None
 stopped_none c = by_scan (is_some c.scan) refl
   where
-    by_scan : (b : Bool) → is_some c.scan ≡ b → (if b then fall c else c).scan ≡ None
+    by_scan : (b : Bool) → is_some c.scan ≡ b → (if b then safe_state c else c).scan ≡ None
     by_scan true e = refl
     by_scan false e = is_none c.scan e
 
@@ -557,7 +557,7 @@ near_as p q r n e h =
     let s : r.cage.scan ≡ q.cage.scan = ap (λ (c : CageSeen). c.scan) e in
     record {
       most = h.most;
-      left = elim h.left [ inl l ↦ inl (ap (λ (o : Option Scanning). n + left_of o) s ∙ l) | inr i ↦ inr (s ∙ i) ];
+      left = elim h.left [ inl l ↦ inl (ap (λ (o : Option ScanSeen). n + left_of o) s ∙ l) | inr i ↦ inr (s ∙ i) ];
       idle = λ i. s ∙ h.idle i;
       holds = subst (λ (c : CageSeen). Holds p.cage c) (sym e) h.holds;
     }
@@ -618,29 +618,29 @@ near_run p (e ∷ events) k r n =
 -- ---- a scan begins
 
 -- a scan that begins awaits all of its agenda
-left_started : (old new : Bays) (number : ℕ) (s : Setup) (i : ℕ) (told : TakenSeen) (scan : Option Scanning) → started_answer told ≡ Done None → Runs old number (way s i) (next_place s i) told new scan → left_of scan ≡ length (awaiting (drop i (agenda s)))
+left_started : (old new : Occupancy) (number : ℕ) (s : Setup) (i : ℕ) (told : TakenSeen) (scan : Option ScanSeen) → started_answer told ≡ Done None → AdvancesOrFails old number (moves_from s i) (next_place s i) told new scan → left_of scan ≡ length (awaiting (drop i (agenda s)))
 left_started old new number s i SaysFault scan e h = absurd (cc (e))
-left_started old new number s i SaysIgnored scan e h = left_arrives (record old { rack = h.rack }) new number s i SaysIgnored scan h.arrives
-left_started old new number s i SaysWaits scan e h = left_arrives (record old { rack = h.rack }) new number s i SaysWaits scan h.arrives
-left_started old new number s i (SaysPause ticket micros) scan e h = left_arrives (record old { rack = h.rack }) new number s i (SaysPause ticket micros) scan h.arrives
-left_started old new number s i (SaysJob job) scan e h = left_arrives (record old { rack = h.rack }) new number s i (SaysJob job) scan h.arrives
-left_started old new number s i SaysEnded scan e h = left_arrives (record old { rack = h.rack }) new number s i SaysEnded scan h.arrives
+left_started old new number s i SaysIgnored scan e h = left_arrives (record old { cards = h.cards }) new number s i SaysIgnored scan h.arrives
+left_started old new number s i SaysWaits scan e h = left_arrives (record old { cards = h.cards }) new number s i SaysWaits scan h.arrives
+left_started old new number s i (SaysPause ticket micros) scan e h = left_arrives (record old { cards = h.cards }) new number s i (SaysPause ticket micros) scan h.arrives
+left_started old new number s i (SaysJob job) scan e h = left_arrives (record old { cards = h.cards }) new number s i (SaysJob job) scan h.arrives
+left_started old new number s i SaysEnded scan e h = left_arrives (record old { cards = h.cards }) new number s i SaysEnded scan h.arrives
 
 -- The scan of a plan begins: it awaits all of its agenda, and would leave closed what the plan found closed.
 record Begun (plan : Snapshot) (c : CageSeen) : Type 0 where
   left : left_of c.scan ≡ bound_of plan.settings
-  held : (at : Scanning) → c.scan ≡ Some at → (at.setup ≡ plan.settings) × (leaves c.rack at ≡ is_among plan.closed)
+  held : (at : ScanSeen) → c.scan ≡ Some at → (at.setup ≡ plan.settings) × (leaves c.cards at ≡ is_among plan.closed)
 
 begun_by : (p q : Panel) (plan : Snapshot) (f : Bool) (told : TakenSeen) → IsKept p.cage → started_answer told ≡ Done None → Starts p plan f told q → Begun plan q.cage
 begun_by p q plan f told k e h =
     let settings : plan.settings ≡ p.settings = ap (λ (s : Snapshot). s.settings) h.1 in
-    let listed : plan.closed ≡ closed_list p.cage.rack = ap (λ (s : Snapshot). s.closed) h.1 in
-    let found : is_closed p.cage.rack ≡ is_among plan.closed = sym (fun_ext (among_closed p.cage.rack (inside p.cage k))) ∙ ap is_among (sym listed) in
+    let listed : plan.closed ≡ closed_list p.cage.cards = ap (λ (s : Snapshot). s.closed) h.1 in
+    let found : is_closed p.cage.cards ≡ is_among plan.closed = sym (fun_ext (among_closed p.cage.cards (inside p.cage k))) ∙ ap is_among (sym listed) in
     record {
-      left = left_started (bays_of (begun p.cage)) (bays_of q.cage) (p.cage.number + 1) p.settings 0 told q.cage.scan e h.3.runs ∙ ap bound_of (sym settings);
+      left = left_started (occupancy_of (begun p.cage)) (occupancy_of q.cage) (p.cage.number + 1) p.settings 0 told q.cage.scan e h.3.runs ∙ ap bound_of (sym settings);
       held = λ at is.
-          let r = leaves_goes (bays_of (begun p.cage)) (bays_of q.cage) (p.cage.number + 1) p.settings 0 told q.cage.scan at h.3.runs is in
-          let all : effect (is_closed p.cage.rack) (agenda p.settings) ≡ is_among plan.closed =
+          let r = leaves_goes (occupancy_of (begun p.cage)) (occupancy_of q.cage) (p.cage.number + 1) p.settings 0 told q.cage.scan at h.3.runs is in
+          let all : effect (is_closed p.cage.cards) (agenda p.settings) ≡ is_among plan.closed =
           ap (λ (b : Channels). effect b (agenda p.settings)) found ∙ ap (λ (s : Setup). effect (is_among plan.closed) (agenda s)) (sym settings) ∙ fun_ext h.2.sound.back in
           (r.0 ∙ sym settings, r.1 ∙ all);
     }
@@ -683,7 +683,7 @@ stands_some : (out : Option Ticket) (ticket : Ticket) (o : Option Awaited) → M
 stands_some out ticket None h = absurd h
 stands_some out ticket (Some x) h = (x, refl)
 
-over_at : (c : CageSeen) (scan : Option Scanning) → IsRunning c scan → left_of scan ≡ 0 → scan ≡ None
+over_at : (c : CageSeen) (scan : Option ScanSeen) → IsRunning c scan → left_of scan ≡ 0 → scan ≡ None
 over_at c None r n = refl
 over_at c (Some at) r n =
     let x = stands_some _ _ (awaits at) r.meter in
@@ -705,7 +705,7 @@ cut_run p [] e after r = record { first = tt; step = r.0; onward = r.1 }
 cut_run p (b ∷ before) e after r = let c = cut_run b.panel before e after r.1 in record { first = (r.0, c.first); step = c.step; onward = c.onward }
 
 -- a scan that would leave closed what its plan found has done the front of its agenda from there
-follows : (plan : Snapshot) (start end : Panel) → Begun plan start.cage → Holds start.cage end.cage → (scan : Option Scanning) → end.cage.scan ≡ scan → IsRunning end.cage scan → IfSome scan (λ at. IsFollowing plan end at)
+follows : (plan : Snapshot) (start end : Panel) → Begun plan start.cage → Holds start.cage end.cage → (scan : Option ScanSeen) → end.cage.scan ≡ scan → IsRunning end.cage scan → IfSome scan (λ at. IsFollowing plan end at)
 follows plan start end b h None e r = tt
 follows plan start end b h (Some at) e r =
     let old = h at e in
@@ -713,10 +713,10 @@ follows plan start end b h (Some at) e r =
     let same : at.setup ≡ plan.settings = old.2 ∙ first.0 in
     let done = take at.index (agenda at.setup) in
     let left = drop at.index (agenda at.setup) in
-    let found : r.way.found ≡ leaves end.cage.rack at =
+    let found : r.way.found ≡ leaves end.cage.cards at =
     sym (fun_ext r.way.sound.back) ∙ ap (effect r.way.found) (sym (take-append-drop at.index (agenda at.setup))) ∙ effect-append r.way.found done left ∙ ap (λ (m : Channels). effect m left) (sym r.way.so_far) in
     let whole : r.way.found ≡ is_among plan.closed = found ∙ old.3 ∙ first.1 in
-    let now : is_closed end.cage.rack ≡ effect (is_among plan.closed) (take at.index (agenda plan.settings)) =
+    let now : is_closed end.cage.cards ≡ effect (is_among plan.closed) (take at.index (agenda plan.settings)) =
     r.way.so_far ∙ ap (λ (m : Channels). effect m done) whole ∙ ap (λ (s : Setup). effect (is_among plan.closed) (take at.index (agenda s))) same in
     record { settings = same; closed = λ c. ap (λ (m : Channels). m c) now; readings = r.readings ∙ ap (λ (s : Setup). reads (take at.index (agenda s))) same }
 

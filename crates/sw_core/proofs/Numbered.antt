@@ -7,18 +7,18 @@ use Rattle.sw_core.specs.View.{AskView, AskSession, AskInstall, AskEject, AskExt
 use Rattle.sw_core.specs.Step.{Acts, acts_unnumbered, IsWorn, IsEvent, IsUnnumbered, Step}
 use Rattle.sw_core.proofs.Calls.{failed_same}
 
-unfailed_worn : (p : Panel) (ask : AskView) (answer : AnswerView) → IsWorn ask answer → failed_in ask answer p.cage.rack p.cage.rack ≡ false
+unfailed_worn : (p : Panel) (ask : AskView) (answer : AnswerView) → IsWorn ask answer → failed_in ask answer p.cage.cards p.cage.cards ≡ false
 unfailed_worn p (AskFinished done) SaysFailed w = absurd w
 unfailed_worn p (AskFinished done) answer w = refl
-unfailed_worn p (AskSession ask) answer w = failed_same p.cage.rack
-unfailed_worn p (AskInstall slot card) answer w = failed_same p.cage.rack
-unfailed_worn p (AskEject slot) answer w = failed_same p.cage.rack
-unfailed_worn p AskExternal answer w = failed_same p.cage.rack
-unfailed_worn p (AskElapsed ticket) answer w = failed_same p.cage.rack
+unfailed_worn p (AskSession ask) answer w = failed_same p.cage.cards
+unfailed_worn p (AskInstall slot card) answer w = failed_same p.cage.cards
+unfailed_worn p (AskEject slot) answer w = failed_same p.cage.cards
+unfailed_worn p AskExternal answer w = failed_same p.cage.cards
+unfailed_worn p (AskElapsed ticket) answer w = failed_same p.cage.cards
 
-pub worn_step : (p : Panel) (ask : AskView) (answer : AnswerView) → (p.events == last_number) ≡ true → acts_unnumbered ask ≡ false → IsWorn ask answer → Step p ask (failed_in ask answer p.cage.rack p.cage.rack) answer p
+pub worn_step : (p : Panel) (ask : AskView) (answer : AnswerView) → (p.events == last_number) ≡ true → acts_unnumbered ask ≡ false → IsWorn ask answer → Step p ask (failed_in ask answer p.cage.cards p.cage.cards) answer p
 worn_step p ask answer e n w =
-    let f = failed_in ask answer p.cage.rack p.cage.rack in
+    let f = failed_in ask answer p.cage.cards p.cage.cards in
     let yes : IsUnnumbered p ask f answer p = record { worn = w; unfailed = unfailed_worn p ask answer w; same = refl } in
     subst (λ (a : Bool). MatchBool (a && not (acts_unnumbered ask)) (IsUnnumbered p ask f answer p) (IsEvent p ask f answer p)) (sym e) (subst (λ (b : Bool). MatchBool (true && not b) (IsUnnumbered p ask f answer p) (IsEvent p ask f answer p)) (sym n) yes)
 

@@ -12,15 +12,15 @@ use Rattle.sw_card.specs.Account.{Account, closed_at}
 use Rattle.sw_lex.specs.declared.command.Command.{Command}
 use Rattle.sw_verify.specs.declared.snapshot.Snapshot.{Snapshot}
 use Rattle.sw_status.specs.StatusModel.{StatusSeen, queued}
-use Rattle.sw_cage.specs.Rack.{Rack, is_closed, option_closed, all_open, option_rest}
+use Rattle.sw_cage.specs.Accounts.{Accounts, is_closed, option_closed, all_open, option_rest}
 use Rattle.sw_cage.specs.Change.{is_in}
-use Rattle.sw_cage.specs.Cage.{CageSeen, Scanning, fall}
+use Rattle.sw_cage.specs.Cage.{CageSeen, ScanSeen, safe_state}
 use Rattle.sw_cage.specs.Install.{stopped, without_card}
-use Rattle.sw_cage.specs.Goes.{GoesPastFrom}
+use Rattle.sw_cage.specs.Outcome.{AdvancesPastFrom}
 use Rattle.sw_cage.specs.TakenSeen.{TakenSeen, SaysIgnored, SaysWaits, SaysPause, SaysJob, SaysEnded, SaysFault}
 use Rattle.sw_cage.specs.declared.taken.Happening.{Happening}
 use Rattle.sw_cage.specs.declared.taken.Happening.TheVariants.{Bus}
-use Rattle.sw_cage.proofs.Racks.{is_none, slot_cases, all_open_closed}
+use Rattle.sw_cage.proofs.SlotChangeLemmas.{is_none, slot_cases, all_open_closed}
 use Rattle.sw_core.specs.declared.ask.Sid.{Sid}
 use Rattle.sw_core.specs.declared.ask.SessionAsk.{SessionAsk}
 use Rattle.sw_core.specs.declared.ask.SessionAsk.TheVariants as Ask
@@ -64,36 +64,36 @@ done_of : (p : Panel) (sid : Sid) (command : Command) (answered f : Bool) (q : P
 done_of p sid command answered f q e =
     not_kept_out (drops p sid (Ask.Unit sid command answered)) (shuts_out p sid (Ask.Unit sid command answered)) p (Ask.Unit sid command answered) f None None e.done e.acts.1
 
-pub closes : (p q : Panel) (sid : Sid) (chans : List Channel) (answered failed : Bool) → Step p (AskSession (Ask.Unit sid (Command.Close chans) answered)) failed (SaysSession (Done None) None) q → (c : Channel) → is_in chans c ≡ true → is_closed q.cage.rack c ≡ true
+pub closes : (p q : Panel) (sid : Sid) (chans : List Channel) (answered failed : Bool) → Step p (AskSession (Ask.Unit sid (Command.Close chans) answered)) failed (SaysSession (Done None) None) q → (c : Channel) → is_in chans c ≡ true → is_closed q.cage.cards c ≡ true
 closes p q sid chans answered failed h c i =
     let e = event_of p (AskSession (Ask.Unit sid (Command.Close chans) answered)) failed (SaysSession (Done None) None) q (λ w. w) h in
     let d = (not_barred (is_running p) p (Closes chans) failed None None e.done (done_of p sid (Command.Close chans) answered failed q e)).0 in
-    ap (λ (x : Panel). is_closed x.cage.rack c) e.after ∙ d.2.closed c ∙ ap (λ (b : Bool). if b then true else is_closed p.cage.rack c) i
+    ap (λ (x : Panel). is_closed x.cage.cards c) e.after ∙ d.2.closed c ∙ ap (λ (b : Bool). if b then true else is_closed p.cage.cards c) i
 
-pub opens : (p q : Panel) (sid : Sid) (chans : List Channel) (answered failed : Bool) → Step p (AskSession (Ask.Unit sid (Command.Open chans) answered)) failed (SaysSession (Done None) None) q → (c : Channel) → is_in chans c ≡ true → is_closed q.cage.rack c ≡ false
+pub opens : (p q : Panel) (sid : Sid) (chans : List Channel) (answered failed : Bool) → Step p (AskSession (Ask.Unit sid (Command.Open chans) answered)) failed (SaysSession (Done None) None) q → (c : Channel) → is_in chans c ≡ true → is_closed q.cage.cards c ≡ false
 opens p q sid chans answered failed h c i =
     let e = event_of p (AskSession (Ask.Unit sid (Command.Open chans) answered)) failed (SaysSession (Done None) None) q (λ w. w) h in
     let d = (not_barred (is_running p) p (Opens chans) failed None None e.done (done_of p sid (Command.Open chans) answered failed q e)).0 in
-    ap (λ (x : Panel). is_closed x.cage.rack c) e.after ∙ d.2.closed c ∙ ap (λ (b : Bool). if b then false else is_closed p.cage.rack c) i
+    ap (λ (x : Panel). is_closed x.cage.cards c) e.after ∙ d.2.closed c ∙ ap (λ (b : Bool). if b then false else is_closed p.cage.cards c) i
 
 pub aborted : (p q : Panel) (sid : Sid) (answered failed : Bool) → Step p (AskSession (Ask.Unit sid Command.Abort answered)) failed (SaysSession (Done None) None) q → IsAtRest q
 aborted p q sid answered failed h =
     let e = event_of p (AskSession (Ask.Unit sid Command.Abort answered)) failed (SaysSession (Done None) None) q (λ w. w) h in
     let d = (done_of p sid Command.Abort answered failed q e).0 in
     let cage = ap (λ (x : Panel). x.cage) e.after ∙ ap (λ (x : Panel). x.cage) d.1 in
-    record { none = λ c. ap (λ (x : CageSeen). is_closed x.rack c) cage ∙ all_open_closed p.cage.rack c; idle = ap (λ (x : CageSeen). x.scan) cage }
+    record { none = λ c. ap (λ (x : CageSeen). is_closed x.cards c) cage ∙ all_open_closed p.cage.cards c; idle = ap (λ (x : CageSeen). x.scan) cage }
 
 pub reset : (p q : Panel) (sid : Sid) (answered failed : Bool) → Step p (AskSession (Ask.Unit sid Command.Reset answered)) failed (SaysSession (Done None) None) q → IsAtRest q
 reset p q sid answered failed h =
     let e = event_of p (AskSession (Ask.Unit sid Command.Reset answered)) failed (SaysSession (Done None) None) q (λ w. w) h in
     let d = (done_of p sid Command.Reset answered failed q e).0 in
     let cage = ap (λ (x : Panel). x.cage) e.after ∙ ap (λ (x : Panel). x.cage) d.1 in
-    record { none = λ c. ap (λ (x : CageSeen). is_closed x.rack c) cage ∙ all_open_closed p.cage.rack c; idle = ap (λ (x : CageSeen). x.scan) cage }
+    record { none = λ c. ap (λ (x : CageSeen). is_closed x.cards c) cage ∙ all_open_closed p.cage.cards c; idle = ap (λ (x : CageSeen). x.scan) cage }
 
 pub ejected : (p q : Panel) (slot : ℕ) (failed : Bool) (card : Account) → Step p (AskEject slot) failed (SaysEjected card) q → (k : ℕ) → closed_at card.closed k ≡ false
-ejected p q slot f card h k = rest_closed p.cage.rack slot card (event_of p (AskEject slot) f (SaysEjected card) q (λ w. w) h).acts.2 k
+ejected p q slot f card h k = rest_closed p.cage.cards slot card (event_of p (AskEject slot) f (SaysEjected card) q (λ w. w) h).acts.2 k
 
-bare_slot : (rack : Rack) (slot : ℕ) (c : Channel) → 0 < slot → slot ≤ length rack → ((x : Channel) → is_closed rack x ≡ false) → is_closed (slice_set rack (slot - 1) None) c ≡ false
+bare_slot : (rack : Accounts) (slot : ℕ) (c : Channel) → 0 < slot → slot ≤ length rack → ((x : Channel) → is_closed rack x ≡ false) → is_closed (slice_set rack (slot - 1) None) c ≡ false
 bare_slot rack slot c a b bare = elim (slot_cases rack slot c.0 None a b) [
   | inl e ↦ ap (λ o. option_closed o c.1) e.1
   | inr e ↦ ap (λ o. option_closed o c.1) e.1 ∙ bare c
@@ -102,11 +102,11 @@ bare_slot rack slot c a b bare = elim (slot_cases rack slot c.0 None a b) [
 pub stopped_rest : (p q : Panel) (slot : ℕ) (failed : Bool) (card : Account) → is_running p ≡ true → Step p (AskEject slot) failed (SaysEjected card) q → IsAtRest q
 stopped_rest p q slot f card run h =
     let e = event_of p (AskEject slot) f (SaysEjected card) q (λ w. w) h in
-    let fell : stopped p.cage ≡ fall p.cage = ap (λ (b : Bool). if b then fall p.cage else p.cage) run in
-    let cage : q.cage ≡ without_card (fall p.cage) slot = ap (λ (x : Panel). x.cage) e.after ∙ ap (λ (x : Panel). x.cage) e.acts.3 ∙ ap (λ (x : CageSeen). without_card x slot) fell in
-    let r : (0 < slot) × (slot ≤ length p.cage.rack) = rest_slot p.cage.rack slot card e.acts.2 in
+    let fell : stopped p.cage ≡ safe_state p.cage = ap (λ (b : Bool). if b then safe_state p.cage else p.cage) run in
+    let cage : q.cage ≡ without_card (safe_state p.cage) slot = ap (λ (x : Panel). x.cage) e.after ∙ ap (λ (x : Panel). x.cage) e.acts.3 ∙ ap (λ (x : CageSeen). without_card x slot) fell in
+    let r : (0 < slot) × (slot ≤ length p.cage.cards) = rest_slot p.cage.cards slot card e.acts.2 in
     record {
-      none = λ c. ap (λ (x : CageSeen). is_closed x.rack c) cage ∙ bare_slot (all_open p.cage.rack) slot c r.0 (subst (λ n. slot ≤ n) (sym (length-map p.cage.rack option_rest)) r.1) (all_open_closed p.cage.rack);
+      none = λ c. ap (λ (x : CageSeen). is_closed x.cards c) cage ∙ bare_slot (all_open p.cage.cards) slot c r.0 (subst (λ n. slot ≤ n) (sym (length-map p.cage.cards option_rest)) r.1) (all_open_closed p.cage.cards);
       idle = ap (λ (x : CageSeen). x.scan) cage;
     }
 
@@ -257,7 +257,7 @@ refused p q ask failed e n h =
 
 -- no scan runs, every relay is open, the queue is as it was, and QUEStionable tells of it
 pub record IsDown (p q : Panel) : Type 0 where
-  pub none : (c : Channel) → is_closed q.cage.rack c ≡ false
+  pub none : (c : Channel) → is_closed q.cage.cards c ≡ false
   pub idle : q.cage.scan ≡ None
   pub status : q.status ≡ alarmed p.status
 
@@ -288,7 +288,7 @@ alone_down IsOfMacros p f q n h = undefined_down p f q h
 alone_down Initiates p f q n h = undefined_down p f q h
 alone_down (Offers happening error) p f q n h = absurd h
 
-past_down : (c q : CageSeen) (scan : Option Scanning) → GoesPastFrom c scan SaysFault q → ((x : Channel) → is_closed q.rack x ≡ false) × (q.scan ≡ None)
+past_down : (c q : CageSeen) (scan : Option ScanSeen) → AdvancesPastFrom c scan SaysFault q → ((x : Channel) → is_closed q.cards x ≡ false) × (q.scan ≡ None)
 past_down c q None h = absurd h
 past_down c q (Some at) h = (h.runs.fallen.none, h.runs.over)
 
@@ -374,7 +374,7 @@ failed p q ask f h =
     let x = event_of p ask f _ q (unworn ask HardwareError) h in
     let d = acts_down p ask f x.done x.acts in
     record {
-      none = λ c. ap (λ (y : Panel). is_closed y.cage.rack c) x.after ∙ d.none c;
+      none = λ c. ap (λ (y : Panel). is_closed y.cage.cards c) x.after ∙ d.none c;
       idle = ap (λ (y : Panel). y.cage.scan) x.after ∙ d.idle;
       told = ap (λ (y : Panel). y.status.errors) x.after ∙ ap (λ (s : StatusSeen). queued s.errors HardwareError) d.status;
       condition = ap (λ (y : Panel). y.status.questionable.condition) x.after ∙ ap (λ (s : StatusSeen). s.questionable.condition) d.status;

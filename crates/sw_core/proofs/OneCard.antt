@@ -2,13 +2,13 @@
 use Rattle.std.proofs.Common.{◌≡◌, ℕ, true, false, Option, None, Some, refl, sym, ◌∙◌, ap, arith, inl, inr, ◌⊎◌, is_some}
 use Rattle.sw_base.specs.Layout.{slot_at}
 use Rattle.sw_card.specs.Account.{Account, closed_at}
-use Rattle.sw_cage.specs.Rack.{Rack, all_open, option_rest}
+use Rattle.sw_cage.specs.Accounts.{Accounts, all_open, option_rest}
 use Rattle.sw_cage.specs.Install.{CanInstall, RefusesInstall, RefusesEject, IsBadLayout, IsUnfit, IsFit}
 use Rattle.sw_cage.specs.declared.refusal.InstallRefusal.{InstallRefusal}
 use Rattle.sw_cage.specs.declared.refusal.InstallRefusal.TheVariants.{Busy, Occupied, BadLayout}
 use Rattle.sw_cage.specs.declared.refusal.EjectRefusal.{EjectRefusal}
 use Rattle.sw_cage.specs.declared.refusal.EjectRefusal.TheVariants.{Vacant, Out}
-use Rattle.sw_cage.proofs.Racks.{slot_rest}
+use Rattle.sw_cage.proofs.SlotChangeLemmas.{slot_rest}
 use Rattle.sw_core.specs.Panel.{Panel, is_running}
 use Rattle.sw_core.proofs.OneCommand.{true_false}
 
@@ -25,7 +25,7 @@ unfit_fit card fit none bad = elim bad [
   ]
 ]
 
-pub bad_can : (rack : Rack) (slot : ℕ) (card : Account) → CanInstall rack slot card → IsBadLayout slot card → ⊥
+pub bad_can : (rack : Accounts) (slot : ℕ) (card : Account) → CanInstall rack slot card → IsBadLayout slot card → ⊥
 bad_can rack slot card can bad = elim bad [
   | inl l ↦ omega (arith, can.first)
   | inr rest ↦ elim rest [
@@ -34,13 +34,13 @@ bad_can rack slot card can bad = elim bad [
   ]
 ]
 
-pub install_apart : (p : Panel) (slot : ℕ) (card : Account) (r : InstallRefusal) → is_running p ≡ false → slot_at p.cage.out slot ≡ None → CanInstall p.cage.rack slot card → RefusesInstall p.cage slot card r → ⊥
+pub install_apart : (p : Panel) (slot : ℕ) (card : Account) (r : InstallRefusal) → is_running p ≡ false → slot_at p.cage.out slot ≡ None → CanInstall p.cage.cards slot card → RefusesInstall p.cage slot card r → ⊥
 install_apart p slot card Busy idle home can bad = true_false _ bad idle
-install_apart p slot card Occupied idle home can bad = elim bad.1 [ inl o ↦ some_none (slot_at p.cage.out slot) o home | inr o ↦ some_none (slot_at p.cage.rack slot) o can.empty ]
-install_apart p slot card BadLayout idle home can bad = bad_can p.cage.rack slot card can bad.3
+install_apart p slot card Occupied idle home can bad = elim bad.1 [ inl o ↦ some_none (slot_at p.cage.out slot) o home | inr o ↦ some_none (slot_at p.cage.cards slot) o can.empty ]
+install_apart p slot card BadLayout idle home can bad = bad_can p.cage.cards slot card can bad.3
 
-pub taken_free : (p : Panel) (slot : ℕ) → slot_at p.cage.out slot ≡ None → slot_at p.cage.rack slot ≡ None → (is_some (slot_at p.cage.out slot) ≡ true) ⊎ (is_some (slot_at p.cage.rack slot) ≡ true) → ⊥
-taken_free p slot a b o = elim o [ inl x ↦ some_none (slot_at p.cage.out slot) x a | inr x ↦ some_none (slot_at p.cage.rack slot) x b ]
+pub taken_free : (p : Panel) (slot : ℕ) → slot_at p.cage.out slot ≡ None → slot_at p.cage.cards slot ≡ None → (is_some (slot_at p.cage.out slot) ≡ true) ⊎ (is_some (slot_at p.cage.cards slot) ≡ true) → ⊥
+taken_free p slot a b o = elim o [ inl x ↦ some_none (slot_at p.cage.out slot) x a | inr x ↦ some_none (slot_at p.cage.cards slot) x b ]
 
 pub install_once : (p : Panel) (slot : ℕ) (card : Account) (r r' : InstallRefusal) → RefusesInstall p.cage slot card r → RefusesInstall p.cage slot card r' → r ≡ r'
 install_once p slot card Busy Busy h k = refl
@@ -59,9 +59,9 @@ eject_once p slot Out Out h k = refl
 eject_once p slot Vacant Out h k = absurd (some_none (slot_at p.cage.out slot) k h.0)
 eject_once p slot Out Vacant h k = absurd (some_none (slot_at p.cage.out slot) h k.0)
 
-pub rest_none : (rack : Rack) (slot : ℕ) (card : Account) → slot_at (all_open rack) slot ≡ Some card → slot_at rack slot ≡ None → ⊥
+pub rest_none : (rack : Accounts) (slot : ℕ) (card : Account) → slot_at (all_open rack) slot ≡ Some card → slot_at rack slot ≡ None → ⊥
 rest_none rack slot card e f = let k : option_rest (slot_at rack slot) ≡ option_rest None = ap option_rest f in absurd (let g : None ≡ Some card = sym k ∙ sym (slot_rest rack slot) ∙ e in cc)
 
-pub eject_apart : (p : Panel) (slot : ℕ) (card : Account) (r : EjectRefusal) → slot_at p.cage.out slot ≡ None → slot_at (all_open p.cage.rack) slot ≡ Some card → RefusesEject p.cage slot r → ⊥
-eject_apart p slot card Vacant home e h = rest_none p.cage.rack slot card e h.1
+pub eject_apart : (p : Panel) (slot : ℕ) (card : Account) (r : EjectRefusal) → slot_at p.cage.out slot ≡ None → slot_at (all_open p.cage.cards) slot ≡ Some card → RefusesEject p.cage slot r → ⊥
+eject_apart p slot card Vacant home e h = rest_none p.cage.cards slot card e h.1
 eject_apart p slot card Out home e h = some_none (slot_at p.cage.out slot) h home

@@ -16,21 +16,21 @@ use Rattle.sw_trigger.specs.declared.layer.Layer.{Layer}
 use Rattle.sw_trigger.specs.Settings.{Setup, IsInRange, IsLayer, layer_of, with_layer, most_of, at_reset}
 use Rattle.sw_verify.specs.declared.snapshot.Snapshot.{Snapshot}
 use Rattle.sw_status.specs.StatusModel.{StatusSeen}
-use Rattle.sw_cage.specs.Rack.{Rack, layout_of, is_closed, option_closed, all_open, option_rest}
+use Rattle.sw_cage.specs.Accounts.{Accounts, layout_of, is_closed, option_closed, all_open, option_rest}
 use Rattle.sw_cage.specs.Change.{Sets}
 use Rattle.sw_cage.specs.Close.{CanClose}
-use Rattle.sw_cage.specs.Cage.{CageSeen, Scanning, fall}
+use Rattle.sw_cage.specs.Cage.{CageSeen, ScanSeen, safe_state}
 use Rattle.sw_cage.specs.Good.{IsRunning}
 use Rattle.sw_cage.specs.Install.{CanInstall, stopped, without_card}
-use Rattle.sw_cage.specs.Goes.{with_back}
+use Rattle.sw_cage.specs.Outcome.{with_back}
 use Rattle.sw_cage.specs.Work.{FinishedSeen}
 use Rattle.sw_cage.specs.TakenSeen.{TakenSeen, SaysIgnored, SaysWaits, SaysPause, SaysJob, SaysEnded, SaysFault}
 use Rattle.sw_cage.specs.declared.taken.Happening.{Happening}
 use Rattle.sw_cage.specs.declared.taken.Happening.TheVariants.{Bus, External, Elapsed}
-use Rattle.sw_cage.proofs.Racks.{some_slot, is_none, all_open_closed, exclusive_none, exclusive_quiet, none_slot}
-use Rattle.sw_cage.proofs.Changes.{plates_all_open, plates_rest}
-use Rattle.sw_cage.proofs.Held.{held_set}
-use Rattle.sw_cage.proofs.Laws.{exclusive_closing, exclusive_opening}
+use Rattle.sw_cage.proofs.SlotChangeLemmas.{some_slot, is_none, all_open_closed, exclusive_none, exclusive_quiet, none_slot}
+use Rattle.sw_cage.proofs.ChannelCallLemmas.{identities_all_open, identities_rest}
+use Rattle.sw_cage.proofs.KeptLemmas.{held_set}
+use Rattle.sw_cage.proofs.ExclusionLemmas.{exclusive_closing, exclusive_opening}
 use Rattle.sw_core.specs.declared.ask.Sid.{Sid}
 use Rattle.sw_core.specs.declared.ask.SessionAsk.{SessionAsk}
 use Rattle.sw_core.specs.declared.ask.SessionAsk.TheVariants as Ask
@@ -88,15 +88,15 @@ reset_range = record {
 
 -- ---- the cage while no scan runs
 
-fallen_all : (c : CageSeen) → IsKept c → IsKept (fall c)
-fallen_all c k = kept_over c (all_open c.rack) k (plates_all_open c.rack) (all_open_closed c.rack)
+fallen_all : (c : CageSeen) → IsKept c → IsKept (safe_state c)
+fallen_all c k = kept_over c (all_open c.cards) k (identities_all_open c.cards) (all_open_closed c.cards)
 
 -- readings don't matter where no scan runs
 dropped : (c : CageSeen) → IsKept c → c.scan ≡ None → IsKept (record c { readings = [] })
 dropped c k e = record {
   good = record {
     held = record { slots = k.good.held.slots; outs = k.good.held.outs; empty = k.good.held.empty; past = k.good.held.past };
-    running = subst (λ (o : Option Scanning). IsRunning (record c { readings = [] }) o) (sym e) tt;
+    running = subst (λ (o : Option ScanSeen). IsRunning (record c { readings = [] }) o) (sym e) tt;
   };
   safe = k.safe;
   few = k.few;
@@ -183,7 +183,7 @@ harmless p answered (Command.CloseQuery chans) = tt
 harmless p answered Command.CloseState = tt
 harmless p answered (Command.Open chans) = λ idle. idle
 harmless p answered (Command.OpenQuery chans) = tt
-harmless p answered Command.OpenAll = λ idle k. (kept_rack p.cage (all_open p.cage.rack) k.cage (none_of p idle) (plates_all_open p.cage.rack) (exclusive_none _ _ (all_open_closed p.cage.rack)), k.range)
+harmless p answered Command.OpenAll = λ idle k. (kept_rack p.cage (all_open p.cage.cards) k.cage (none_of p idle) (identities_all_open p.cage.cards) (exclusive_none _ _ (all_open_closed p.cage.cards)), k.range)
 harmless p answered (Command.Scan chans) = λ idle. (λ fits r. record { arm1 = r.arm1; arm2 = r.arm2; trigger = r.trigger; list = fits; meter = r.meter; points = r.points }, too_much)
 harmless p answered Command.ScanQuery = tt
 harmless p answered (Command.ScanMeter slot) = λ idle. (λ fits r. record { arm1 = r.arm1; arm2 = r.arm2; trigger = r.trigger; list = r.list; meter = fits; points = r.points }, out_of_range)
@@ -209,17 +209,17 @@ harmless p answered Command.Fetch = tt
 
 -- ---- commands
 
-closing_fine : (p q : Panel) (chans : List Channel) → IsFine p → is_running p ≡ false → CanClose (layout_of p.cage.rack) (is_closed p.cage.rack) chans → Sets p.cage.rack chans true q.cage.rack → q ≡ with_rack p q.cage.rack → IsFine q
+closing_fine : (p q : Panel) (chans : List Channel) → IsFine p → is_running p ≡ false → CanClose (layout_of p.cage.cards) (is_closed p.cage.cards) chans → Sets p.cage.cards chans true q.cage.cards → q ≡ with_rack p q.cage.cards → IsFine q
 closing_fine p q chans k idle may s e =
-    fine_is (with_rack p q.cage.rack) q e (record { cage = kept_rack p.cage q.cage.rack k.cage (none_of p idle) (plates_rest p.cage.rack q.cage.rack s.rest) (exclusive_closing p.cage.rack q.cage.rack chans k.cage.safe may s); range = k.range })
+    fine_is (with_rack p q.cage.cards) q e (record { cage = kept_rack p.cage q.cage.cards k.cage (none_of p idle) (identities_rest p.cage.cards q.cage.cards s.rest) (exclusive_closing p.cage.cards q.cage.cards chans k.cage.safe may s); range = k.range })
 
-opening_fine : (p q : Panel) (chans : List Channel) → IsFine p → is_running p ≡ false → Sets p.cage.rack chans false q.cage.rack → q ≡ with_rack p q.cage.rack → IsFine q
+opening_fine : (p q : Panel) (chans : List Channel) → IsFine p → is_running p ≡ false → Sets p.cage.cards chans false q.cage.cards → q ≡ with_rack p q.cage.cards → IsFine q
 opening_fine p q chans k idle s e =
-    fine_is (with_rack p q.cage.rack) q e (record { cage = kept_rack p.cage q.cage.rack k.cage (none_of p idle) (plates_rest p.cage.rack q.cage.rack s.rest) (exclusive_opening p.cage.rack q.cage.rack chans k.cage.safe s); range = k.range })
+    fine_is (with_rack p q.cage.cards) q e (record { cage = kept_rack p.cage q.cage.cards k.cage (none_of p idle) (identities_rest p.cage.cards q.cage.cards s.rest) (exclusive_opening p.cage.cards q.cage.cards chans k.cage.safe s); range = k.range })
 
 falling_fine : (p q : Panel) → IsFine p → is_running p ≡ false → Falls p q → IsFine q
 falling_fine p q k idle f =
-    fine_as (with_rack p q.cage.rack) q (ap (λ (x : Panel). x.cage) f.1) (ap (λ (x : Panel). x.settings) f.1) (record { cage = kept_rack p.cage q.cage.rack k.cage (none_of p idle) f.0.cards (exclusive_none _ _ f.0.none); range = k.range })
+    fine_as (with_rack p q.cage.cards) q (ap (λ (x : Panel). x.cage) f.1) (ap (λ (x : Panel). x.settings) f.1) (record { cage = kept_rack p.cage q.cage.cards k.cage (none_of p idle) f.0.cards (exclusive_none _ _ f.0.none); range = k.range })
 
 close_fine : (p : Panel) (chans : List Channel) (f : Bool) (a : SessionAnswer) (q : Panel) → IsFine p → is_running p ≡ false → StepClose p chans f a q → IsFine q
 close_fine p chans f (Done None) q k i h = closing_fine p q chans k i h.1 h.2 h.3
@@ -272,7 +272,7 @@ alone_fine (SetsUp Fits error after) p f a q k n h = setting_fine p Fits error (
 alone_fine (Closes chans) p f a q k n h = close_fine p chans f a q k n h
 alone_fine (Opens chans) p f a q k n h = open_fine p chans f a q k n h
 alone_fine (TellsRelays closed chans) p f a q k n h = flags_fine p closed chans f a q k h
-alone_fine Resets p f a q k n h = done_fine (reset p) f a q (record { cage = dropped (fall p.cage) (fallen_all p.cage k.cage) refl; range = reset_range }) h
+alone_fine Resets p f a q k n h = done_fine (reset p) f a q (record { cage = dropped (safe_state p.cage) (fallen_all p.cage k.cage) refl; range = reset_range }) h
 alone_fine (Leaves after) p f a q k n h = let r = n k in done_fine (after p) f a q (record { cage = r.0; range = r.1 }) h
 alone_fine (Refuses error) p f a q k n h = refused_fine p error f a q k h
 alone_fine IsOfMacros p f a q k n h = refused_fine p UndefinedHeader f a q k h
@@ -391,14 +391,14 @@ session_fine (Some sid) p ask f a w q k h = admitted_fine (drops p sid ask) (shu
 
 -- ---- cards
 
-slot_fine : (c : CageSeen) (s : ℕ) (v : Option Account) → IsKept c → c.scan ≡ None → slot_at c.out s ≡ None → 1 ≤ s → s ≤ 8 → ((n : ℕ) → option_closed v n ≡ false) → OptionFew v → IsKept (record c { rack = slice_set c.rack (s - 1) v })
+slot_fine : (c : CageSeen) (s : ℕ) (v : Option Account) → IsKept c → c.scan ≡ None → slot_at c.out s ≡ None → 1 ≤ s → s ≤ 8 → ((n : ℕ) → option_closed v n ≡ false) → OptionFew v → IsKept (record c { cards = slice_set c.cards (s - 1) v })
 slot_fine c s v k idle home a b quiet few = record {
-  good = record { held = held_set c s v c.scan k.good.held home a b; running = subst (λ (o : Option Scanning). IsRunning (record c { rack = slice_set c.rack (s - 1) v }) o) (sym idle) tt };
-  safe = exclusive_quiet c.rack s v (omega (arith, a)) (omega (arith, b, k.good.held.slots)) quiet k.safe;
-  few = few_set c.rack s v (omega (arith, a)) (omega (arith, b, k.good.held.slots)) few k.few;
+  good = record { held = held_set c s v c.scan k.good.held home a b; running = subst (λ (o : Option ScanSeen). IsRunning (record c { cards = slice_set c.cards (s - 1) v }) o) (sym idle) tt };
+  safe = exclusive_quiet c.cards s v (omega (arith, a)) (omega (arith, b, k.good.held.slots)) quiet k.safe;
+  few = few_set c.cards s v (omega (arith, a)) (omega (arith, b, k.good.held.slots)) few k.few;
 }
 
-few_card : (rack : Rack) (slot : ℕ) (card : Account) → CanInstall rack slot card → OptionFew (Some card)
+few_card : (rack : Accounts) (slot : ℕ) (card : Account) → CanInstall rack slot card → OptionFew (Some card)
 few_card rack slot card can m = (can.fit m).few_channels
 
 stopped_fine : (c : CageSeen) → IsKept c → IsKept (stopped c) × ((stopped c).scan ≡ None) × ((stopped c).out ≡ c.out)
@@ -406,16 +406,16 @@ stopped_fine c k = by_scan c (is_some c.scan) refl k
   where
     by_scan : (c : CageSeen) (b : Bool) → is_some c.scan ≡ b → IsKept c → IsKept (stopped c) × ((stopped c).scan ≡ None) × ((stopped c).out ≡ c.out)
     by_scan c true e k =
-        let s : stopped c ≡ fall c = ap (λ (b : Bool). if b then fall c else c) e in
+        let s : stopped c ≡ safe_state c = ap (λ (b : Bool). if b then safe_state c else c) e in
         (subst (λ (x : CageSeen). IsKept x) (sym s) (fallen_all c k), ap (λ (x : CageSeen). x.scan) s, ap (λ (x : CageSeen). x.out) s)
     by_scan c false e k =
-        let s : stopped c ≡ c = ap (λ (b : Bool). if b then fall c else c) e in
+        let s : stopped c ≡ c = ap (λ (b : Bool). if b then safe_state c else c) e in
         (subst (λ (x : CageSeen). IsKept x) (sym s) k, ap (λ (x : CageSeen). x.scan) s ∙ is_none c.scan e, ap (λ (x : CageSeen). x.out) s)
 
-pub rest_closed : (rack : Rack) (slot : ℕ) (card : Account) → slot_at (all_open rack) slot ≡ Some card → (k : ℕ) → closed_at card.closed k ≡ false
+pub rest_closed : (rack : Accounts) (slot : ℕ) (card : Account) → slot_at (all_open rack) slot ≡ Some card → (k : ℕ) → closed_at card.closed k ≡ false
 rest_closed rack slot card e k = ap (λ o. option_closed o k) (sym e) ∙ all_open_closed rack (slot, k)
 
-pub rest_slot : (rack : Rack) (slot : ℕ) (card : Account) → slot_at (all_open rack) slot ≡ Some card → (0 < slot) × (slot ≤ length rack)
+pub rest_slot : (rack : Accounts) (slot : ℕ) (card : Account) → slot_at (all_open rack) slot ≡ Some card → (0 < slot) × (slot ≤ length rack)
 rest_slot rack slot card e =
     let r : (0 < slot) × (slot ≤ length (all_open rack)) = some_slot (all_open rack) slot (ap (λ o. is_some o) e) in
     (r.0, subst (λ n. slot ≤ n) (length-map rack option_rest) r.1)
@@ -430,10 +430,10 @@ finished_fine p done f a q k h = returns_fine p done f h.told q k h.out h.return
 acts_fine : (p : Panel) (ask : AskView) (f : Bool) (a : AnswerView) (q : Panel) → IsFine p → Acts p ask f a q → IsFine q
 acts_fine p (AskSession ask) f (SaysSession a w) q k h = session_fine (asker_of ask) p ask f a w q k h
 acts_fine p (AskInstall slot card) f SaysInstalled q k h =
-    fine_is (with_rack p (slice_set p.cage.rack (slot - 1) (Some card))) q h.4 (record { cage = slot_fine p.cage slot (Some card) k.cage (none_of p h.1) h.2 h.3.first h.3.last h.3.«open» (few_card p.cage.rack slot card h.3); range = k.range })
+    fine_is (with_rack p (slice_set p.cage.cards (slot - 1) (Some card))) q h.4 (record { cage = slot_fine p.cage slot (Some card) k.cage (none_of p h.1) h.2 h.3.first h.3.last h.3.«open» (few_card p.cage.cards slot card h.3); range = k.range })
 acts_fine p (AskInstall slot card) f (SaysNotInstalled refusal) q k h = fine_is p q h.2 k
 acts_fine p (AskEject slot) f (SaysEjected card) q k h =
-    let r : (0 < slot) × (slot ≤ length p.cage.rack) = rest_slot p.cage.rack slot card h.2 in
+    let r : (0 < slot) × (slot ≤ length p.cage.cards) = rest_slot p.cage.cards slot card h.2 in
     let s = stopped_fine p.cage k.cage in
     let home : slot_at (stopped p.cage).out slot ≡ None = subst (λ (o : _). slot_at o slot ≡ None) (sym s.2) h.1 in
     let c : IsKept (without_card (stopped p.cage) slot) = slot_fine (stopped p.cage) slot None s.0 s.1 home (omega (arith, r.0)) (omega (arith, r.1, k.cage.good.held.slots)) (λ n. refl) tt in

@@ -3,7 +3,7 @@ use Rattle.std.proofs.Common.{◌≡◌, ℕ, zero, suc, ◌-◌, Bool, List, []
 use Rattle.std.proofs.lemmas.Bool.{lt-ltb}
 use Rattle.sw_base.specs.Layout.{Channel, slot_at}
 use Rattle.sw_card.specs.Account.{Account, closed_at, none_closed, at_rest}
-use Rattle.sw_cage.specs.Rack.{Rack, is_closed, option_closed, all_open, option_rest}
+use Rattle.sw_cage.specs.Accounts.{Accounts, is_closed, option_closed, all_open, option_rest}
 use Rattle.sw_cage.specs.Change.{Sets}
 
 -- the states of a card, by each
@@ -42,22 +42,22 @@ same_option None (Some b) e h = absurd (cc (e))
 same_option (Some a) None e h = absurd (cc (e))
 same_option (Some a) (Some b) e h = let k : at_rest a ≡ at_rest b = cc in ap Some (same_card a b k h)
 
-slots_first : (o n : Option Account) (r s : Rack) → ((c : Channel) → is_closed (o ∷ r) c ≡ is_closed (n ∷ s) c) → (k : ℕ) → option_closed o k ≡ option_closed n k
+slots_first : (o n : Option Account) (r s : Accounts) → ((c : Channel) → is_closed (o ∷ r) c ≡ is_closed (n ∷ s) c) → (k : ℕ) → option_closed o k ≡ option_closed n k
 slots_first o n r s h k = h (1, k)
 
-slot_next : (o : Option Account) (r : Rack) (t : ℕ) → slot_at (o ∷ r) (suc (suc t)) ≡ slot_at r (suc t)
+slot_next : (o : Option Account) (r : Accounts) (t : ℕ) → slot_at (o ∷ r) (suc (suc t)) ≡ slot_at r (suc t)
 slot_next o r t =
     let a : suc (suc t) - 1 ≡ suc t = omega arith in
     let b : suc t - 1 ≡ t = omega arith in
     rw (lt-ltb 0 (suc (suc t)) (omega arith), lt-ltb 0 (suc t) (omega arith), a, b) refl
 
-slots_rest : (o n : Option Account) (r s : Rack) → ((c : Channel) → is_closed (o ∷ r) c ≡ is_closed (n ∷ s) c) → (c : Channel) → is_closed r c ≡ is_closed s c
+slots_rest : (o n : Option Account) (r s : Accounts) → ((c : Channel) → is_closed (o ∷ r) c ≡ is_closed (n ∷ s) c) → (c : Channel) → is_closed r c ≡ is_closed s c
 slots_rest o n r s h (zero, k) = refl
 slots_rest o n r s h (suc t, k) =
     ap (λ x. option_closed x k) (sym (slot_next o r t)) ∙ h (suc (suc t), k) ∙ ap (λ x. option_closed x k) (slot_next n s t)
 
 -- racks of the same cards with the same channels closed are one
-pub same_rack : (r s : Rack) → all_open r ≡ all_open s → ((c : Channel) → is_closed r c ≡ is_closed s c) → r ≡ s
+pub same_rack : (r s : Accounts) → all_open r ≡ all_open s → ((c : Channel) → is_closed r c ≡ is_closed s c) → r ≡ s
 same_rack [] [] e h = refl
 same_rack [] (n ∷ s) e h = absurd (cc (e))
 same_rack (o ∷ r) [] e h = absurd (cc (e))
@@ -68,5 +68,5 @@ same_rack (o ∷ r) (n ∷ s) e h =
     let b : r ≡ s = same_rack r s tail (slots_rest o n r s h) in
     cc
 
-pub sets_once : (old new new' : Rack) (chans : List Channel) (on : Bool) → Sets old chans on new → Sets old chans on new' → new ≡ new'
+pub sets_once : (old new new' : Accounts) (chans : List Channel) (on : Bool) → Sets old chans on new → Sets old chans on new' → new ≡ new'
 sets_once old new new' chans on s t = same_rack new new' (s.rest ∙ sym t.rest) (λ c. s.closed c ∙ sym (t.closed c))

@@ -1,7 +1,7 @@
 -- What a session asks of its seat or of the locks has one answer where memory suffices.
 use Rattle.std.proofs.Common.{◌≡◌, ◌≢◌, ◌≤◌, ℕ, Bool, true, false, List, length, Option, None, Some, is_some, refl, sym, ◌∙◌, ap, arith, inl, inr}
 use Rattle.sw_base.specs.Layout.{slot_at}
-use Rattle.sw_cage.proofs.Racks.{some_slot}
+use Rattle.sw_cage.proofs.SlotChangeLemmas.{some_slot}
 use Rattle.sw_hislip.specs.LockTable.{LockTable, Replies, MayLackMemory, is_wrong, grants}
 use Rattle.sw_hislip.specs.declared.locks.LockReply.TheVariants as Reply
 use Rattle.sw_core.specs.declared.ask.Sid.{Sid}

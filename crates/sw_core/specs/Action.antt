@@ -15,9 +15,9 @@ use Rattle.sw_trigger.specs.Counts.{bound_of}
 use Rattle.sw_status.specs.Registers.{event_taken, with_enable, with_ptr, with_ntr}
 use Rattle.sw_status.specs.StatusModel.{StatusSeen, byte_of, enabled, preset, popped, cleared}
 use Rattle.sw_status.specs.StatusModel.{group_of, with_group}
-use Rattle.sw_cage.specs.Rack.{all_open}
+use Rattle.sw_cage.specs.Accounts.{all_open}
 use Rattle.sw_cage.specs.Channels.{closed_list}
-use Rattle.sw_cage.specs.Cage.{fall}
+use Rattle.sw_cage.specs.Cage.{safe_state}
 use Rattle.sw_cage.specs.declared.taken.Happening.{Happening}
 use Rattle.sw_cage.specs.declared.taken.Happening.TheVariants.{Bus, Signal}
 use Rattle.sw_core.specs.Answers.{identity, version, oldest_entry, all_entries, source_word}
@@ -67,14 +67,14 @@ pub data Action : Type 1 where
 -- the state after *RST, and after ABORt
 abbrev pub reset : Panel → Panel
 reset p = record p {
-  cage = record (fall p.cage) { readings = [] };
+  cage = record (safe_state p.cage) { readings = [] };
   status = calmed p.status;
   settings = at_reset;
   pending = false;
 }
 
 abbrev pub aborted : Panel → Panel
-aborted p = record p { cage = fall p.cage }
+aborted p = record p { cage = safe_state p.cage }
 
 -- the settings with another value at a layer
 abbrev pub with_count : LayerName → ℕ → Setup → Setup
@@ -130,10 +130,10 @@ action_of answered (Command.Signal layer_name.Arm1) = AtOnce (Offers (Signal lay
 action_of answered (Command.Signal layer_name.Arm2) = AtOnce (Offers (Signal layer_name.Arm2) ArmIgnored)
 action_of answered (Command.Close chans) = BetweenScans (Closes chans)
 action_of answered (Command.CloseQuery chans) = AtOnce (TellsRelays true chans)
-action_of answered Command.CloseState = AtOnce (TellsText (λ p. printed (closed_list p.cage.rack)))
+action_of answered Command.CloseState = AtOnce (TellsText (λ p. printed (closed_list p.cage.cards)))
 action_of answered (Command.Open chans) = BetweenScans (Opens chans)
 action_of answered (Command.OpenQuery chans) = AtOnce (TellsRelays false chans)
-action_of answered Command.OpenAll = BetweenScans (Leaves (λ p. with_rack p (all_open p.cage.rack)))
+action_of answered Command.OpenAll = BetweenScans (Leaves (λ p. with_rack p (all_open p.cage.cards)))
 action_of answered (Command.Scan chans) =
     BetweenScans (SetsUp (length chans ≤ 512) TooMuchData (λ s. record s { list = chans }))
 action_of answered Command.ScanQuery = AtOnce (TellsText (λ p. printed p.settings.list))

@@ -9,8 +9,8 @@ use Rattle.sw_trigger.specs.Counts.{awaiting, bound_of, reads}
 use Rattle.sw_verify.specs.declared.snapshot.Snapshot.{Snapshot}
 use Rattle.sw_verify.specs.Channels.{is_among}
 use Rattle.sw_verify.specs.Sound.{effect}
-use Rattle.sw_cage.specs.Rack.{is_closed}
-use Rattle.sw_cage.specs.Cage.{Scanning}
+use Rattle.sw_cage.specs.Accounts.{is_closed}
+use Rattle.sw_cage.specs.Cage.{ScanSeen}
 use Rattle.sw_core.specs.declared.ask.Sid.{Sid}
 use Rattle.sw_core.specs.declared.ask.SessionAsk.TheVariants as Ask
 use Rattle.sw_core.specs.declared.ask.SessionAnswer.{SessionAnswer}
@@ -21,10 +21,10 @@ use Rattle.sw_core.specs.Action.{Effect, Offers, Action, AtOnce, BetweenScans, A
 use Rattle.sw_core.specs.Run.{Event, IsRun}
 
 -- how many items of its agenda a scan still awaits, the present one included; none, where none runs
-abbrev pub left_at : Scanning → ℕ
+abbrev pub left_at : ScanSeen → ℕ
 left_at at = length (awaiting (drop at.index (agenda at.setup)))
 
-abbrev pub left_of : Option Scanning → ℕ
+abbrev pub left_of : Option ScanSeen → ℕ
 left_of None = 0
 left_of (Some at) = left_at at
 
@@ -81,9 +81,9 @@ last_of p (e ∷ events) = last_of e.panel events
 
 -- A scan that runs has done the first items of its plan's agenda and no others: from what its plan found closed it has come
 -- to what is closed now, with the readings of those items.
-pub record IsFollowing (plan : Snapshot) (p : Panel) (at : Scanning) : Type 0 where
+pub record IsFollowing (plan : Snapshot) (p : Panel) (at : ScanSeen) : Type 0 where
   pub settings : at.setup ≡ plan.settings
-  pub closed : (c : Channel) → is_closed p.cage.rack c ≡ effect (is_among plan.closed) (take at.index (agenda plan.settings)) c
+  pub closed : (c : Channel) → is_closed p.cage.cards c ≡ effect (is_among plan.closed) (take at.index (agenda plan.settings)) c
   pub readings : length p.cage.readings ≡ reads (take at.index (agenda plan.settings))
 
 -- A scan has begun by the plan in the event before these, and none has since: while it runs it has done a prefix of its

@@ -4,7 +4,7 @@ use Rattle.sw_base.specs.Layout.{IsExclusive}
 use Rattle.sw_trigger.specs.Settings.{Setup, at_reset}
 use Rattle.sw_status.specs.StatusModel.{StatusSeen, first_status}
 use Rattle.sw_cage.specs.Cage.{CageSeen, empty_cage}
-use Rattle.sw_cage.specs.Rack.{Rack, layout_of, is_closed}
+use Rattle.sw_cage.specs.Accounts.{Accounts, layout_of, is_closed}
 use Rattle.sw_core.specs.Sessions.{SessionsSeen, nobody}
 
 -- pending: *OPC waits for the end of the scan; events: how many there were
@@ -31,8 +31,8 @@ abbrev pub opening : Panel
 opening = opening_at 0 0
 
 -- the same but for what the slots hold
-abbrev pub with_rack : Panel → Rack → Panel
-with_rack p rack = record p { cage = record p.cage { rack = rack } }
+abbrev pub with_rack : Panel → Accounts → Panel
+with_rack p rack = record p { cage = record p.cage { cards = rack } }
 
 -- a scan runs
 abbrev pub is_running : Panel → Bool
@@ -40,4 +40,4 @@ is_running p = is_some p.cage.scan
 
 -- only relays of the cage are closed, and no two closed ones are of one group
 abbrev pub IsSafe : Panel → Type 0
-IsSafe p = IsExclusive (layout_of p.cage.rack) (is_closed p.cage.rack)
+IsSafe p = IsExclusive (layout_of p.cage.cards) (is_closed p.cage.cards)

@@ -5,7 +5,7 @@ use Rattle.sw_base.specs.Layout.{Channel}
 use Rattle.sw_base.specs.declared.error.ScpiError.{ScpiError}
 use Rattle.sw_base.specs.declared.error.ScpiError.TheVariants.{HardwareError, OutOfMemory}
 use Rattle.sw_card.specs.Account.{Account, closed_at}
-use Rattle.sw_cage.specs.Rack.{is_closed}
+use Rattle.sw_cage.specs.Accounts.{is_closed}
 use Rattle.sw_cage.specs.Change.{is_in}
 use Rattle.sw_lex.specs.declared.command.Command.TheVariants as Command
 use Rattle.sw_core.specs.declared.ask.Sid.{Sid}
@@ -44,22 +44,22 @@ EveryRunIsGood = (numbered scanned : ℕ) (events : List Event) → IsRun (openi
 
 -- no scan runs, every relay is open, -240 is queued behind the errors before it, and QUEStionable tells of a card's failure
 pub record IsAlarmed (p q : Panel) : Type 0 where
-  pub none : (c : Channel) → is_closed q.cage.rack c ≡ false
+  pub none : (c : Channel) → is_closed q.cage.cards c ≡ false
   pub idle : q.cage.scan ≡ None
   pub told : q.status.errors ≡ queued p.status.errors HardwareError
   pub condition : q.status.questionable.condition ≡ 512
 
 -- no scan runs, and every relay of every slot is open
 pub record IsAtRest (q : Panel) : Type 0 where
-  pub none : (c : Channel) → is_closed q.cage.rack c ≡ false
+  pub none : (c : Channel) → is_closed q.cage.cards c ≡ false
   pub idle : q.cage.scan ≡ None
 
 -- ROUTe:CLOSe and ROUTe:OPEN in the words of who sends them, and what leaves the cage
 pub record RelaysObey : Type 0 where
   -- after ROUTe:CLOSe that is done every channel of its list is closed
-  pub closes : (p q : Panel) (sid : Sid) (chans : List Channel) (answered failed : Bool) → Step p (AskSession (Ask.Unit sid (Command.Close chans) answered)) failed (SaysSession (Done None) None) q → (c : Channel) → is_in chans c ≡ true → is_closed q.cage.rack c ≡ true
+  pub closes : (p q : Panel) (sid : Sid) (chans : List Channel) (answered failed : Bool) → Step p (AskSession (Ask.Unit sid (Command.Close chans) answered)) failed (SaysSession (Done None) None) q → (c : Channel) → is_in chans c ≡ true → is_closed q.cage.cards c ≡ true
   -- after ROUTe:OPEN that is done every channel of its list is open
-  pub opens : (p q : Panel) (sid : Sid) (chans : List Channel) (answered failed : Bool) → Step p (AskSession (Ask.Unit sid (Command.Open chans) answered)) failed (SaysSession (Done None) None) q → (c : Channel) → is_in chans c ≡ true → is_closed q.cage.rack c ≡ false
+  pub opens : (p q : Panel) (sid : Sid) (chans : List Channel) (answered failed : Bool) → Step p (AskSession (Ask.Unit sid (Command.Open chans) answered)) failed (SaysSession (Done None) None) q → (c : Channel) → is_in chans c ≡ true → is_closed q.cage.cards c ≡ false
   -- a refusal for any other cause than a card's failure queues its error, ends its event, and does nothing else
   pub refused : (p q : Panel) (ask : AskView) (failed : Bool) (e : ScpiError) → e ≢ HardwareError → Step p ask failed (SaysSession (Refused e) None) q → q ≡ ended (erred p e)
   -- after a card's failure every relay is open, -240 is queued, and QUEStionable condition bit 9 is set

@@ -13,15 +13,15 @@ use Rattle.sw_trigger.specs.Settings.{Setup}
 use Rattle.sw_verify.specs.declared.snapshot.Snapshot.{Snapshot}
 use Rattle.sw_verify.specs.Check.{IsReady}
 use Rattle.sw_status.specs.StatusModel.{StatusSeen, pushed}
-use Rattle.sw_cage.specs.Rack.{Rack, layout_of, is_closed, all_open}
-use Rattle.sw_cage.specs.Change.{Sets, option_plate}
+use Rattle.sw_cage.specs.Accounts.{Accounts, layout_of, is_closed, all_open}
+use Rattle.sw_cage.specs.Change.{Sets, identity}
 use Rattle.sw_cage.specs.Channels.{closed_list}
 use Rattle.sw_cage.specs.Close.{CanClose, RefusesClose, all_present}
 use Rattle.sw_cage.specs.declared.refusal.CloseRefusal.TheVariants.{Absent, Clash}
 use Rattle.sw_cage.specs.Install.{CanInstall, RefusesInstall, RefusesEject, stopped, without_card}
-use Rattle.sw_cage.specs.Cage.{CageSeen, cage_layout, fall}
+use Rattle.sw_cage.specs.Cage.{CageSeen, cage_layout, safe_state}
 use Rattle.sw_cage.specs.Takes.{Takes, TakesReturn}
-use Rattle.sw_cage.specs.Goes.{Goes, GoesPast, Counts, begun, with_back}
+use Rattle.sw_cage.specs.Outcome.{Advances, AdvancesPast, Counts, begun, with_back}
 use Rattle.sw_cage.specs.Work.{FinishedSeen}
 use Rattle.sw_cage.specs.TakenSeen.{TakenSeen, SaysIgnored, SaysPause, SaysJob, SaysFault}
 use Rattle.sw_cage.specs.declared.taken.Happening.{Happening}
@@ -44,40 +44,40 @@ use Rattle.sw_core.specs.Event.{concluded, last_number, next_number}
 use Rattle.sw_core.specs.View.{WorkView, Measures, Pauses, AskView, AskSession, AskInstall, AskEject, AskExternal, AskElapsed, AskFinished, AnswerView, SaysSession, SaysInstalled, SaysNotInstalled, SaysEjected, SaysNotEjected, SaysTaken, SaysMissed, SaysFailed, SaysBack, SaysWorn}
 
 -- the same cards but for their counts of failures, and every relay open
-pub record IsFallen (old new : Rack) : Type 0 where
-  pub cards : map option_plate new ≡ map option_plate old
+pub record IsFallen (old new : Accounts) : Type 0 where
+  pub cards : map identity new ≡ map identity old
   pub none : (c : Channel) → is_closed new c ≡ false
 
 -- A card failed: every relay is open, and QUEStionable tells of it (own).
 abbrev pub Falls : Panel → Panel → Type 0
-Falls p q = IsFallen p.cage.rack q.cage.rack × (q ≡ record (with_rack p q.cage.rack) { status = alarmed p.status })
+Falls p q = IsFallen p.cage.cards q.cage.cards × (q ≡ record (with_rack p q.cage.cards) { status = alarmed p.status })
 
 -- the listed channels may be closed: the cage has them, and at the end no two closed ones clash
 abbrev pub MayClose : Panel → List Channel → Type 0
-MayClose p chans = CanClose (layout_of p.cage.rack) (is_closed p.cage.rack) chans
+MayClose p chans = CanClose (layout_of p.cage.cards) (is_closed p.cage.cards) chans
 
 -- the cage has each of the channels
 abbrev pub has_all : Panel → List Channel → Bool
-has_all p chans = all_present (layout_of p.cage.rack) chans
+has_all p chans = all_present (layout_of p.cage.cards) chans
 
 -- ROUTe:CLOSe of these channels (SCPI-1999, 18.1)
 abbrev pub StepClose : Panel → List Channel → Bool → SessionAnswer → Panel → Type 0
-StepClose p chans f (Done None) q = (f ≡ false) × MayClose p chans × Sets p.cage.rack chans true q.cage.rack × (q ≡ with_rack p q.cage.rack)
-StepClose p chans f (Refused HardwareMissing) q = (f ≡ false) × RefusesClose (layout_of p.cage.rack) (is_closed p.cage.rack) chans Absent × (q ≡ p)
-StepClose p chans f (Refused SettingsConflict) q = (f ≡ false) × RefusesClose (layout_of p.cage.rack) (is_closed p.cage.rack) chans Clash × (q ≡ p)
+StepClose p chans f (Done None) q = (f ≡ false) × MayClose p chans × Sets p.cage.cards chans true q.cage.cards × (q ≡ with_rack p q.cage.cards)
+StepClose p chans f (Refused HardwareMissing) q = (f ≡ false) × RefusesClose (layout_of p.cage.cards) (is_closed p.cage.cards) chans Absent × (q ≡ p)
+StepClose p chans f (Refused SettingsConflict) q = (f ≡ false) × RefusesClose (layout_of p.cage.cards) (is_closed p.cage.cards) chans Clash × (q ≡ p)
 StepClose p chans f (Refused HardwareError) q = (f ≡ true) × MayClose p chans × Falls p q
 StepClose p chans f answer q = ⊥
 
 -- ROUTe:OPEN of these channels (SCPI-1999, 18.3)
 abbrev pub StepOpen : Panel → List Channel → Bool → SessionAnswer → Panel → Type 0
-StepOpen p chans f (Done None) q = (f ≡ false) × (has_all p chans ≡ true) × Sets p.cage.rack chans false q.cage.rack × (q ≡ with_rack p q.cage.rack)
+StepOpen p chans f (Done None) q = (f ≡ false) × (has_all p chans ≡ true) × Sets p.cage.cards chans false q.cage.cards × (q ≡ with_rack p q.cage.cards)
 StepOpen p chans f (Refused HardwareMissing) q = (f ≡ false) × (has_all p chans ≡ false) × (q ≡ p)
 StepOpen p chans f (Refused HardwareError) q = (f ≡ true) × (has_all p chans ≡ true) × Falls p q
 StepOpen p chans f answer q = ⊥
 
 -- ROUTe:CLOSe? of these channels, for each whether it is closed, or ROUTe:OPEN?, whether it is open, joined by commas
 abbrev pub StepFlags : Panel → Bool → List Channel → Bool → SessionAnswer → Panel → Type 0
-StepFlags p closed chans f (Done (Some text)) q = (f ≡ false) × (has_all p chans ≡ true) × (text ≡ join_with_byte 44 (map (λ c. flag_of (as_asked closed (is_closed p.cage.rack c))) chans)) × (q ≡ p)
+StepFlags p closed chans f (Done (Some text)) q = (f ≡ false) × (has_all p chans ≡ true) × (text ≡ join_with_byte 44 (map (λ c. flag_of (as_asked closed (is_closed p.cage.cards c))) chans)) × (q ≡ p)
 StepFlags p closed chans f (Refused HardwareMissing) q = (f ≡ false) × (has_all p chans ≡ false) × (q ≡ p)
 StepFlags p closed chans f (Refused OutOfMemory) q = (f ≡ false) × (has_all p chans ≡ true) × (q ≡ p)
 StepFlags p closed chans f answer q = ⊥
@@ -129,7 +129,7 @@ Tolls p cage told f q = (f ≡ is_fault told) × (q ≡ record p { cage = cage; 
 -- a happening is offered to the scan (SCPI-1999, 24)
 abbrev pub Happens : Panel → Happening → Bool → TakenSeen → Panel → Type 0
 Happens p happening f SaysIgnored q = (f ≡ false) × (Takes p.cage happening → ⊥) × (q ≡ p)
-Happens p happening f told q = Takes p.cage happening × GoesPast p.cage told q.cage × Tolls p q.cage told f q
+Happens p happening f told q = Takes p.cage happening × AdvancesPast p.cage told q.cage × Tolls p q.cage told f q
 
 -- what a session is answered by what the cage told; what no scan takes is refused by this error
 abbrev pub session_told : ScpiError → TakenSeen → SessionAnswer
@@ -197,7 +197,7 @@ pub record MayScan (p : Panel) : Type 0 where
 
 -- what a scan would begin from
 abbrev pub snapshot_of : Panel → Snapshot
-snapshot_of p = record { settings = p.settings; layout = cage_layout p.cage; closed = closed_list p.cage.rack }
+snapshot_of p = record { settings = p.settings; layout = cage_layout p.cage; closed = closed_list p.cage.cards }
 
 -- what a scan would begin from is asked
 abbrev pub StepSnapshot : Panel → Bool → SessionAnswer → Panel → Type 0
@@ -209,7 +209,7 @@ StepSnapshot p f answer q = ⊥
 -- The scan of a plan, which passed the check, began: the cage went from before the first item of its agenda. No card's failure is told of any more,
 -- unless one came on the way.
 abbrev pub Starts : Panel → Snapshot → Bool → TakenSeen → Panel → Type 0
-Starts p plan f told q = (f ≡ is_fault told) × (plan ≡ snapshot_of p) × IsReady plan × Goes (begun p.cage) p.settings 0 told q.cage
+Starts p plan f told q = (f ≡ is_fault told) × (plan ≡ snapshot_of p) × IsReady plan × Advances (begun p.cage) p.settings 0 told q.cage
     × (q ≡ record p { cage = q.cage; status = if is_fault told then alarmed p.status else calmed p.status })
 
 abbrev pub started_answer : TakenSeen → SessionAnswer
@@ -327,9 +327,9 @@ StepFinished p done f answer q = IsReturned p done f answer q
 -- What an ask does and is answered, before its event ends.
 abbrev pub Acts : Panel → AskView → Bool → AnswerView → Panel → Type 0
 Acts p (AskSession ask) f (SaysSession answer work) q = StepSession (asker_of ask) p ask f answer work q
-Acts p (AskInstall slot card) f SaysInstalled q = (f ≡ false) × (is_running p ≡ false) × (slot_at p.cage.out slot ≡ None) × CanInstall p.cage.rack slot card × (q ≡ with_rack p (slice_set p.cage.rack (slot - 1) (Some card)))
+Acts p (AskInstall slot card) f SaysInstalled q = (f ≡ false) × (is_running p ≡ false) × (slot_at p.cage.out slot ≡ None) × CanInstall p.cage.cards slot card × (q ≡ with_rack p (slice_set p.cage.cards (slot - 1) (Some card)))
 Acts p (AskInstall slot card) f (SaysNotInstalled refusal) q = (f ≡ false) × RefusesInstall p.cage slot card refusal × (q ≡ p)
-Acts p (AskEject slot) f (SaysEjected card) q = (f ≡ false) × (slot_at p.cage.out slot ≡ None) × (slot_at (all_open p.cage.rack) slot ≡ Some card) × (q ≡ record p { cage = without_card (stopped p.cage) slot; status = calmed p.status })
+Acts p (AskEject slot) f (SaysEjected card) q = (f ≡ false) × (slot_at p.cage.out slot ≡ None) × (slot_at (all_open p.cage.cards) slot ≡ Some card) × (q ≡ record p { cage = without_card (stopped p.cage) slot; status = calmed p.status })
 Acts p (AskEject slot) f (SaysNotEjected refusal) q = (f ≡ false) × RefusesEject p.cage slot refusal × (q ≡ p)
 Acts p AskExternal f answer q = StepOutside p External f answer q
 Acts p (AskElapsed ticket) f answer q = StepOutside p (Elapsed ticket) f answer q

@@ -1,7 +1,7 @@
 -- What is asked and answered as plain data: a card stands in it by its account.
 use Rattle.std.specs.Prelude.{◌≡◌, ℕ, Bool, true, false, Option, None, Some}
 use Rattle.sw_card.specs.Account.{Account}
-use Rattle.sw_cage.specs.Rack.{Rack}
+use Rattle.sw_cage.specs.Accounts.{Accounts}
 use Rattle.sw_cage.specs.Change.{any_failed}
 use Rattle.sw_cage.specs.Work.{JobSeen, FinishedSeen}
 use Rattle.sw_cage.specs.declared.job.Ticket.{Ticket}
@@ -71,7 +71,7 @@ HandsBack ask (Answer.Worn back) = back ≡ ask
 HandsBack ask answer = Unit {0}
 
 -- A card failed in the call: its count of failures changed, or a meter came back with a failure that its scan took.
-abbrev pub failed_in : AskView → AnswerView → Rack → Rack → Bool
+abbrev pub failed_in : AskView → AnswerView → Accounts → Accounts → Bool
 failed_in (AskFinished done) SaysFailed old new = true
 failed_in (AskFinished done) answer old new = false
 failed_in ask answer old new = any_failed old new

@@ -27,7 +27,7 @@ impl<R: Relay, M: Meter> Core<R, M> {
         command: Command,
         answered: bool,
     ) -> (SessionAnswer, Option<Work<M>>)
-        ensures { StepAction (action_of answered command) self.old (SessionAsk.Unit sid command answered) (any_failed self.old.cage.rack self.new.cage.rack) result.0 (work_view result.1) self.new }
+        ensures { StepAction (action_of answered command) self.old (SessionAsk.Unit sid command answered) (any_failed self.old.cage.cards self.new.cage.cards) result.0 (work_view result.1) self.new }
     {
         let running = self.cage.is_running();
         match command {

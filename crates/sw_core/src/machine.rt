@@ -85,7 +85,7 @@ impl<R: Relay, M: Meter> Core<R, M> {
     /// abort, an eject and the return of a meter, which still act.
     #[tactic(auto, using(crate::proofs::Numbered::worn_step, crate::proofs::Numbered::numbered_step))]
     pub fn apply(&mut self, alloc: Global, ask: Ask<R, M>) -> Answer<R, M>
-        ensures step { Step self.old (ask_view ask) (failed_in (ask_view ask) (answer_view result) self.old.cage.rack self.new.cage.rack) (answer_view result) self.new }
+        ensures step { Step self.old (ask_view ask) (failed_in (ask_view ask) (answer_view result) self.old.cage.cards self.new.cage.cards) (answer_view result) self.new }
         ensures back { HandsBack ask result }
     {
         if self.events == u64::MAX && !acts_unnumbered(&ask) {
@@ -98,7 +98,7 @@ impl<R: Relay, M: Meter> Core<R, M> {
 
     /// Does what is asked, and leaves the end of the event to the caller.
     fn act(&mut self, alloc: Global, ask: Ask<R, M>) -> Answer<R, M>
-        ensures acts { Acts self.old (ask_view ask) (failed_in (ask_view ask) (answer_view result) self.old.cage.rack self.new.cage.rack) (answer_view result) self.new }
+        ensures acts { Acts self.old (ask_view ask) (failed_in (ask_view ask) (answer_view result) self.old.cage.cards self.new.cage.cards) (answer_view result) self.new }
         ensures back { HandsBack ask result }
     {
         match ask {
@@ -116,7 +116,7 @@ impl<R: Relay, M: Meter> Core<R, M> {
 
     #[tactic(auto, using(crate::proofs::Calls::failed_same))]
     fn install(&mut self, slot: u8, card: Card<R, M>) -> Answer<R, M>
-        ensures acts { Acts self.old (AskInstall slot card.1) (any_failed self.old.cage.rack self.new.cage.rack) (answer_view result) self.new }
+        ensures acts { Acts self.old (AskInstall slot card.1) (any_failed self.old.cage.cards self.new.cage.cards) (answer_view result) self.new }
         ensures back { HandsBack (Ask.Install slot card) result }
     {
         match self.cage.install(slot, card) {
@@ -127,7 +127,7 @@ impl<R: Relay, M: Meter> Core<R, M> {
 
     #[tactic(auto, using(crate::proofs::Calls::failed_same))]
     fn eject(&mut self, slot: u8) -> Answer<R, M>
-        ensures { Acts self.old (AskEject slot) (any_failed self.old.cage.rack self.new.cage.rack) (answer_view result) self.new }
+        ensures { Acts self.old (AskEject slot) (any_failed self.old.cage.cards self.new.cage.cards) (answer_view result) self.new }
     {
         match self.cage.eject(slot) {
             Ok(card) => {
@@ -140,7 +140,7 @@ impl<R: Relay, M: Meter> Core<R, M> {
 
     #[tactic(auto, using(crate::proofs::Calls::failed_same))]
     fn session(&mut self, alloc: Global, ask: SessionAsk) -> (SessionAnswer, Option<Work<M>>)
-        ensures { StepSession (asker_of ask) self.old ask (any_failed self.old.cage.rack self.new.cage.rack) result.0 (work_view result.1) self.new }
+        ensures { StepSession (asker_of ask) self.old ask (any_failed self.old.cage.cards self.new.cage.cards) result.0 (work_view result.1) self.new }
     {
         let Some(sid) = asker(&ask) else {
             return (self.newcomer(ask), None);
@@ -160,7 +160,7 @@ impl<R: Relay, M: Meter> Core<R, M> {
     /// Does what none of the sessions asks.
     fn newcomer(&mut self, ask: SessionAsk) -> SessionAnswer
         requires { asker_of ask ≡ None }
-        ensures { StepNew self.old ask (any_failed self.old.cage.rack self.new.cage.rack) result None self.new }
+        ensures { StepNew self.old ask (any_failed self.old.cage.cards self.new.cage.cards) result None self.new }
     {
         match ask {
             SessionAsk::Attach(number) => self.attach(number),
@@ -171,7 +171,7 @@ impl<R: Relay, M: Meter> Core<R, M> {
     /// Makes the second channel of a session.
     #[tactic(auto, using(crate::proofs::Calls::failed_same))]
     fn attach(&mut self, number: u8) -> SessionAnswer
-        ensures { StepAttach self.old number (any_failed self.old.cage.rack self.new.cage.rack) result None self.new }
+        ensures { StepAttach self.old number (any_failed self.old.cage.cards self.new.cage.cards) result None self.new }
     {
         match self.sessions.attach(number) {
             Some(sid) => SessionAnswer::Joined(sid),
@@ -182,7 +182,7 @@ impl<R: Relay, M: Meter> Core<R, M> {
     /// Makes a new session.
     #[tactic(auto, using(crate::proofs::Calls::failed_same))]
     fn join(&mut self) -> SessionAnswer
-        ensures { StepJoin self.old (any_failed self.old.cage.rack self.new.cage.rack) result None self.new }
+        ensures { StepJoin self.old (any_failed self.old.cage.cards self.new.cage.cards) result None self.new }
     {
         match self.sessions.join(self.events.saturating_add(1)) {
             Some(sid) => SessionAnswer::Joined(sid),
@@ -200,7 +200,7 @@ impl<R: Relay, M: Meter> Core<R, M> {
     ) -> (SessionAnswer, Option<Work<M>>)
         requires asker { asker_of ask ≡ Some sid }
         requires joined { IsJoined self.old.sessions sid }
-        ensures { StepJoined self.old ask (any_failed self.old.cage.rack self.new.cage.rack) result.0 (work_view result.1) self.new }
+        ensures { StepJoined self.old ask (any_failed self.old.cage.cards self.new.cage.cards) result.0 (work_view result.1) self.new }
     {
         match ask {
             SessionAsk::Fault(_, error) => {

@@ -2,7 +2,7 @@
 
 ghost use Rattle.std.specs.Prelude.{◌≡◌, Bool, None};
 ghost use Rattle.sw_cage.specs.Change.{any_failed};
-ghost use Rattle.sw_cage.specs.Rack.{all_open};
+ghost use Rattle.sw_cage.specs.Accounts.{all_open};
 ghost use Rattle.sw_cage.specs.Channels.{closed_list};
 ghost use Rattle.sw_channel.specs.Printing.{printed};
 ghost use Rattle.sw_core.specs.Action.{aborted, reset};
@@ -24,12 +24,12 @@ impl<R: Relay, M: Meter> Core<R, M> {
     #[tactic(auto, using(crate::proofs::Calls::failed_same))]
     pub(crate) fn close(&mut self, chans: &[Chan]) -> SessionAnswer
         requires idle { self.old.cage.scan ≡ None }
-        ensures { StepClose self.old chans.now (any_failed self.old.cage.rack self.new.cage.rack) result self.new }
+        ensures { StepClose self.old chans.now (any_failed self.old.cage.cards self.new.cage.cards) result self.new }
     {
         match self.cage.judge(chans) {
             Err(CloseRefusal::Absent) => SessionAnswer::Refused(ScpiError::HardwareMissing),
             Err(CloseRefusal::Clash) => SessionAnswer::Refused(ScpiError::SettingsConflict),
-            Ok(()) => match self.cage.close_all(chans) {
+            Ok(()) => match self.cage.close_listed(chans) {
                 Ok(()) => SessionAnswer::Done(None),
                 Err(_) => {
                     self.cage.open_all();
@@ -44,7 +44,7 @@ impl<R: Relay, M: Meter> Core<R, M> {
     #[tactic(auto, using(crate::proofs::Calls::failed_same))]
     pub(crate) fn open(&mut self, chans: &[Chan]) -> SessionAnswer
         requires idle { self.old.cage.scan ≡ None }
-        ensures { StepOpen self.old chans.now (any_failed self.old.cage.rack self.new.cage.rack) result self.new }
+        ensures { StepOpen self.old chans.now (any_failed self.old.cage.cards self.new.cage.cards) result self.new }
     {
         if !self.cage.all_present(chans) {
             return SessionAnswer::Refused(ScpiError::HardwareMissing);
@@ -63,7 +63,7 @@ impl<R: Relay, M: Meter> Core<R, M> {
     #[tactic(auto, using(crate::proofs::Calls::failed_open))]
     pub(crate) fn open_everything(&mut self) -> SessionAnswer
         requires idle { self.old.cage.scan ≡ None }
-        ensures { StepDone (with_rack self.old (all_open self.old.cage.rack)) (any_failed self.old.cage.rack self.new.cage.rack) result self.new }
+        ensures { StepDone (with_rack self.old (all_open self.old.cage.cards)) (any_failed self.old.cage.cards self.new.cage.cards) result self.new }
     {
         self.cage.open_all();
         SessionAnswer::Done(None)
@@ -72,7 +72,7 @@ impl<R: Relay, M: Meter> Core<R, M> {
     /// Ends the scan, and opens every relay (SCPI-1999, 3).
     #[tactic(auto, using(crate::proofs::Calls::failed_open))]
     pub(crate) fn abort(&mut self) -> SessionAnswer
-        ensures { StepDone (aborted self.old) (any_failed self.old.cage.rack self.new.cage.rack) result self.new }
+        ensures { StepDone (aborted self.old) (any_failed self.old.cage.cards self.new.cage.cards) result self.new }
     {
         self.cage.abort();
         SessionAnswer::Done(None)
@@ -82,7 +82,7 @@ impl<R: Relay, M: Meter> Core<R, M> {
     /// values (IEEE 488.2, 10.32).
     #[tactic(auto, using(crate::proofs::Calls::failed_open))]
     pub(crate) fn reset(&mut self) -> SessionAnswer
-        ensures { StepDone (reset self.old) (any_failed self.old.cage.rack self.new.cage.rack) result self.new }
+        ensures { StepDone (reset self.old) (any_failed self.old.cage.cards self.new.cage.cards) result self.new }
     {
         self.cage.abort();
         self.cage.reset_readings();
@@ -107,7 +107,7 @@ impl<R: Relay, M: Meter> Core<R, M> {
 
     /// The list of the closed channels.
     pub(crate) fn close_state(&self, alloc: Global) -> SessionAnswer
-        ensures { StepText self.now (printed (closed_list self.now.cage.rack)) self.now.status Bool.false result self.now }
+        ensures { StepText self.now (printed (closed_list self.now.cage.cards)) self.now.status Bool.false result self.now }
     {
         match self.cage.closed_chans(alloc) {
             Ok(closed) => match print_list(alloc, &closed) {

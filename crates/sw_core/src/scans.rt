@@ -73,7 +73,7 @@ fn is_fault<M: Meter>(told: &Taken<M>) -> bool
 impl<R: Relay, M: Meter> Core<R, M> {
     /// Offers a happening to the scan.
     fn happens(&mut self, happening: Happening) -> Taken<M>
-        ensures { Happens self.old happening (any_failed self.old.cage.rack self.new.cage.rack) (taken_seen result) self.new }
+        ensures { Happens self.old happening (any_failed self.old.cage.cards self.new.cage.cards) (taken_seen result) self.new }
     {
         let told = self.cage.take(happening);
         if is_fault(&told) {
@@ -88,7 +88,7 @@ impl<R: Relay, M: Meter> Core<R, M> {
         happening: Happening,
         error: ScpiError,
     ) -> (SessionAnswer, Option<Work<M>>)
-        ensures { StepHappens self.old happening error (any_failed self.old.cage.rack self.new.cage.rack) result.0 (work_view result.1) self.new }
+        ensures { StepHappens self.old happening error (any_failed self.old.cage.cards self.new.cage.cards) result.0 (work_view result.1) self.new }
     {
         let told = self.happens(happening);
         let answer = session_told(&told, error);
@@ -97,7 +97,7 @@ impl<R: Relay, M: Meter> Core<R, M> {
 
     /// Offers a happening that is no session's to the scan.
     pub(crate) fn outside(&mut self, happening: Happening) -> Answer<R, M>
-        ensures { StepOutside self.old happening (any_failed self.old.cage.rack self.new.cage.rack) (answer_view result) self.new }
+        ensures { StepOutside self.old happening (any_failed self.old.cage.cards self.new.cage.cards) (answer_view result) self.new }
     {
         let told = self.happens(happening);
         outside_told(told)
@@ -105,7 +105,7 @@ impl<R: Relay, M: Meter> Core<R, M> {
 
     /// Takes a meter back, and its reading where the scan awaits it.
     pub(crate) fn finished(&mut self, done: Finished<M>) -> Answer<R, M>
-        ensures finished { StepFinished self.old done.1 (failed_in (AskFinished done.1) (answer_view result) self.old.cage.rack self.new.cage.rack) (answer_view result) self.new }
+        ensures finished { StepFinished self.old done.1 (failed_in (AskFinished done.1) (answer_view result) self.old.cage.cards self.new.cage.cards) (answer_view result) self.new }
         ensures back { HandsBack (Ask.Finished done) result }
     {
         match self.cage.finish(done) {
@@ -162,7 +162,7 @@ impl<R: Relay, M: Meter> Core<R, M> {
     /// Begins the scan of a plan, where what it was made of is so now.
     #[tactic(auto, using(crate::proofs::Happened::refused_start))]
     pub(crate) fn start(&mut self, alloc: Global, plan: Plan) -> (SessionAnswer, Option<Work<M>>)
-        ensures { StepStart self.old plan (any_failed self.old.cage.rack self.new.cage.rack) result.0 (work_view result.1) self.new }
+        ensures { StepStart self.old plan (any_failed self.old.cage.cards self.new.cage.cards) result.0 (work_view result.1) self.new }
     {
         if let Some(error) = self.refuses_scan() {
             return (SessionAnswer::Refused(error), None);
@@ -186,7 +186,7 @@ impl<R: Relay, M: Meter> Core<R, M> {
         requires may { MayScan self.old }
         requires same { plan ≡ snapshot_of self.old }
         requires ready { IsReady plan }
-        ensures { StepStart self.old plan (any_failed self.old.cage.rack self.new.cage.rack) result.0 (work_view result.1) self.new }
+        ensures { StepStart self.old plan (any_failed self.old.cage.cards self.new.cage.cards) result.0 (work_view result.1) self.new }
     {
         match self.cage.start(alloc, plan) {
             Err(_) => (SessionAnswer::Refused(ScpiError::OutOfMemory), None),

@@ -3,7 +3,7 @@
 ghost use Rattle.std.specs.Prelude.{◌≡◌, ◌<◌, ◌∷◌, [], ◌++◌, List, ℕ, length, IfOk, OnOk, map, decimal};
 ghost use Rattle.std.specs.List.{join_with_byte};
 ghost use Rattle.sw_base.specs.Reading.{fixed, reading_text};
-ghost use Rattle.sw_cage.specs.Rack.{is_closed};
+ghost use Rattle.sw_cage.specs.Accounts.{is_closed};
 ghost use Rattle.sw_core.specs.Answers.{identity, version, flag_of, as_asked, entry, entry_of, no_error, oldest_entry, all_entries, source_word, IsRow, IsOpen, Tells};
 
 use crate::ask::SessionAnswer;
@@ -67,7 +67,7 @@ pub fn flags<R: Relay, M: Meter>(
     closed: bool,
     chans: &[Chan],
 ) -> Result<Sequence<u8>, AllocError>
-    ensures { IfOk result (λ text. text ≡ join_with_byte 44 (map (λ c. flag_of (as_asked closed (is_closed cage.now.rack c))) chans.now)) }
+    ensures { IfOk result (λ text. text ≡ join_with_byte 44 (map (λ c. flag_of (as_asked closed (is_closed cage.now.cards c))) chans.now)) }
 {
     let mut text = Vec::with_capacity(alloc, chans.len())?;
     for chan in chans {

@@ -7,9 +7,9 @@ use Rattle.sw_trigger.specs.declared.layer.Awaited.{Awaited}
 use Rattle.sw_trigger.specs.declared.layer.Awaited.TheVariants.{Pause, Read}
 use Rattle.sw_trigger.specs.Settings.{Setup}
 use Rattle.sw_trigger.specs.Agenda.{Item, agenda}
-use Rattle.sw_cage.specs.Cage.{Scanning, CageSeen}
-use Rattle.sw_cage.specs.Advance.{way, next_place, first_awaited, awaits}
-use Rattle.sw_cage.specs.Goes.{Goes, GoesPastFrom, Counts, with_reading, with_back}
+use Rattle.sw_cage.specs.Cage.{ScanSeen, CageSeen}
+use Rattle.sw_cage.specs.Advance.{moves_from, next_place, first_awaited, awaits}
+use Rattle.sw_cage.specs.Outcome.{Advances, AdvancesPastFrom, Counts, with_reading, with_back}
 use Rattle.sw_cage.specs.Work.{FinishedSeen}
 use Rattle.sw_cage.specs.declared.job.Ticket.{Ticket}
 use Rattle.sw_cage.specs.declared.taken.Happening.{Happening}
@@ -22,7 +22,7 @@ use Rattle.sw_core.specs.Event.{last_number}
 use Rattle.sw_session.specs.CoreDesk.{Carried, Tells, CarriesOut, brought}
 
 -- the items of its agenda that a scan has before it
-abbrev pub items_left : Option Scanning → ℕ
+abbrev pub items_left : Option ScanSeen → ℕ
 items_left None = 0
 items_left (Some at) = length (agenda at.setup) - at.index
 
@@ -36,12 +36,12 @@ within [] (suc i) what h = absurd (cc h)
 within (x ∷ items) zero what h = omega arith
 within (x ∷ items) (suc i) what h = let r = within items i what h in omega arith
 
-lands : (s : Setup) (i : ℕ) (what : Awaited) (scan : Option Scanning) → awaits (next_place s (i + 1)) ≡ Some what → scan ≡ Some (next_place s (i + 1)) → items_left scan < length (agenda s) - i
+lands : (s : Setup) (i : ℕ) (what : Awaited) (scan : Option ScanSeen) → awaits (next_place s (i + 1)) ≡ Some what → scan ≡ Some (next_place s (i + 1)) → items_left scan < length (agenda s) - i
 lands s i what scan awaited is =
-    let w : i + 1 + length (way s (i + 1)) < length (agenda s) = within (agenda s) (i + 1 + length (way s (i + 1))) what awaited in
-    subst (λ (x : Option Scanning). items_left x < length (agenda s) - i) (sym is) (omega arith)
+    let w : i + 1 + length (moves_from s (i + 1)) < length (agenda s) = within (agenda s) (i + 1 + length (moves_from s (i + 1))) what awaited in
+    subst (λ (x : Option ScanSeen). items_left x < length (agenda s) - i) (sym is) (omega arith)
 
-goes : (p q : CageSeen) (s : Setup) (i : ℕ) (told : TakenSeen) (work : WorkView) → Goes p s (i + 1) told q → work_of told ≡ Some work → items_left q.scan < length (agenda s) - i
+goes : (p q : CageSeen) (s : Setup) (i : ℕ) (told : TakenSeen) (work : WorkView) → Advances p s (i + 1) told q → work_of told ≡ Some work → items_left q.scan < length (agenda s) - i
 goes p q s i SaysIgnored work g is = absurd (cc is)
 goes p q s i SaysWaits work g is = absurd (cc is)
 goes p q s i (SaysPause ticket micros) work g is = let a = g.runs.arrives in lands s i (Pause micros) q.scan a.0 a.3
@@ -49,7 +49,7 @@ goes p q s i (SaysJob job) work g is = let a = g.runs.arrives in lands s i Read 
 goes p q s i SaysEnded work g is = absurd (cc is)
 goes p q s i SaysFault work g is = absurd (cc is)
 
-past : (p q : CageSeen) (scan : Option Scanning) (told : TakenSeen) (work : WorkView) → GoesPastFrom p scan told q → work_of told ≡ Some work → items_left q.scan < items_left scan
+past : (p q : CageSeen) (scan : Option ScanSeen) (told : TakenSeen) (work : WorkView) → AdvancesPastFrom p scan told q → work_of told ≡ Some work → items_left q.scan < items_left scan
 past p q None told work g is = absurd g
 past p q (Some at) told work g is = goes p q at.setup at.index told work g is
 

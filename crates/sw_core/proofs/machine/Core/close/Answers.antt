@@ -6,14 +6,14 @@ use Rattle.sw_core.specs.Registers.{alarmed}
 use Rattle.sw_core.proofs.Calls.{failed_sets, fallen, fallen_cage}
 use Rattle.sw_core.proofs.machine.Core.close.Goals as goal
 
-pub returns-in-Ok-close_all : goal.returns-in-Ok-close_all
-returns-in-Ok-close_all g c =
-    let cage = ap (λ (s : CageSeen). let p : Panel = record { cage = s; sessions = c.self.inside.sessions; status = c.self.inside.status; settings = c.self.inside.settings; pending = c.self.inside.pending; events = c.self.inside.events } in p) c.close_all.ensures.rest in
-    rw (← c.self.view_is) (failed_sets _ _ _ _ c.in-Ok-close_all.ensures.ok, c.in-Ok.ensures.ok, c.in-Ok-close_all.ensures.ok, cage)
+pub returns-in-Ok-close_listed : goal.returns-in-Ok-close_listed
+returns-in-Ok-close_listed g c =
+    let cage = ap (λ (s : CageSeen). let p : Panel = record { cage = s; sessions = c.self.inside.sessions; status = c.self.inside.status; settings = c.self.inside.settings; pending = c.self.inside.pending; events = c.self.inside.events } in p) c.close_listed.ensures.rest in
+    rw (← c.self.view_is) (failed_sets _ _ _ _ c.in-Ok-close_listed.ensures.ok, c.in-Ok.ensures.ok, c.in-Ok-close_listed.ensures.ok, cage)
 
 pub returns-in-Err : goal.returns-in-Err
 returns-in-Err g c =
-    let f = fallen c.self.inside.cage.rack c.close_all.new.self.rack c.open_all.new.self.rack c.args.chans.now c.in-Err.ensures.err (ap (λ (s : CageSeen). s.rack) c.open_all.ensures) in
+    let f = fallen c.self.inside.cage.cards c.close_listed.new.self.cards c.open_all.new.self.cards c.args.chans.now c.in-Err.ensures.err (ap (λ (s : CageSeen). s.cards) c.open_all.ensures) in
     let told = ap (λ (s : StatusSeen). let p : Panel = record { cage = c.open_all.new.self; sessions = c.self.inside.sessions; status = s; settings = c.self.inside.settings; pending = c.self.inside.pending; events = c.self.inside.events } in p) c.alarm.ensures in
-    let cage = ap (λ (s : CageSeen). let p : Panel = record { cage = s; sessions = c.self.inside.sessions; status = alarmed c.self.inside.status; settings = c.self.inside.settings; pending = c.self.inside.pending; events = c.self.inside.events } in p) (fallen_cage c.self.inside.cage c.close_all.new.self c.open_all.new.self c.close_all.ensures.rest c.open_all.ensures) in
+    let cage = ap (λ (s : CageSeen). let p : Panel = record { cage = s; sessions = c.self.inside.sessions; status = alarmed c.self.inside.status; settings = c.self.inside.settings; pending = c.self.inside.pending; events = c.self.inside.events } in p) (fallen_cage c.self.inside.cage c.close_listed.new.self c.open_all.new.self c.close_listed.ensures.rest c.open_all.ensures) in
     rw (← c.self.view_is) (f.0, c.in-Ok.ensures.ok, (f.1, told ∙ cage))

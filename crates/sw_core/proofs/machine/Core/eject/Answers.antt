@@ -1,7 +1,7 @@
 use Rattle.std.proofs.Common.{ap, ◌∙◌}
 use Rattle.sw_cage.specs.Cage.{CageSeen}
 use Rattle.sw_cage.specs.Change.{any_failed}
-use Rattle.sw_cage.proofs.Racks.{slot_rest}
+use Rattle.sw_cage.proofs.SlotChangeLemmas.{slot_rest}
 use Rattle.sw_status.specs.StatusModel.{StatusSeen}
 use Rattle.sw_core.specs.Panel.{Panel}
 use Rattle.sw_core.specs.Registers.{calmed}
@@ -13,8 +13,8 @@ returns-in-Ok g c =
     let cage = ap (λ (s : CageSeen). let p : Panel = record { cage = s; sessions = c.self.inside.sessions; status = calmed c.self.inside.status; settings = c.self.inside.settings; pending = c.self.inside.pending; events = c.self.inside.events } in p) c.in-Ok.ensures.taken in
     let told = ap (λ (s : StatusSeen). let p : Panel = record { cage = c.eject.new.self; sessions = c.self.inside.sessions; status = s; settings = c.self.inside.settings; pending = c.self.inside.pending; events = c.self.inside.events } in p) c.calm.ensures in
     rw (← c.self.view_is) (
-      ap (λ (s : CageSeen). any_failed c.self.inside.cage.rack s.rack) c.in-Ok.ensures.taken ∙ failed_ejected c.self.inside.cage c.args.slot,
+      ap (λ (s : CageSeen). any_failed c.self.inside.cage.cards s.cards) c.in-Ok.ensures.taken ∙ failed_ejected c.self.inside.cage c.args.slot,
       c.in-Ok.ensures.home,
-      slot_rest c.self.inside.cage.rack c.args.slot ∙ c.in-Ok.ensures.ok,
+      slot_rest c.self.inside.cage.cards c.args.slot ∙ c.in-Ok.ensures.ok,
       told ∙ cage,
     )

@@ -13,7 +13,7 @@ returns-in-Ok g c =
 
 pub returns-in-Err : goal.returns-in-Err
 returns-in-Err g c =
-    let f = fallen c.self.inside.cage.rack c.open_listed.new.self.rack c.open_all.new.self.rack c.args.chans.now c.in-Err.ensures.err (ap (λ (s : CageSeen). s.rack) c.open_all.ensures) in
+    let f = fallen c.self.inside.cage.cards c.open_listed.new.self.cards c.open_all.new.self.cards c.args.chans.now c.in-Err.ensures.err (ap (λ (s : CageSeen). s.cards) c.open_all.ensures) in
     let told = ap (λ (s : StatusSeen). let p : Panel = record { cage = c.open_all.new.self; sessions = c.self.inside.sessions; status = s; settings = c.self.inside.settings; pending = c.self.inside.pending; events = c.self.inside.events } in p) c.alarm.ensures in
     let cage = ap (λ (s : CageSeen). let p : Panel = record { cage = s; sessions = c.self.inside.sessions; status = alarmed c.self.inside.status; settings = c.self.inside.settings; pending = c.self.inside.pending; events = c.self.inside.events } in p) (fallen_cage c.self.inside.cage c.open_listed.new.self c.open_all.new.self c.open_listed.ensures.rest c.open_all.ensures) in
     rw (← c.self.view_is) (f.0, sym c.all_present.ensures ∙ c.if-not-all_present.false, (f.1, told ∙ cage))

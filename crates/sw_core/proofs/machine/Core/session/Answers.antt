@@ -14,7 +14,7 @@ pub returns : goal.returns
 returns g c =
     let p = c.args.self.now in
     let sid = c.in-Some.sid in
-    let f = any_failed p.cage.rack c.joined.new.self.cage.rack in
+    let f = any_failed p.cage.cards c.joined.new.self.cage.cards in
     let sessions : c.self.inside.sessions ≡ p.sessions = ap (λ (x : Panel). x.sessions) c.self.view_is in
     let joined : IsJoined p.sessions sid = subst (λ (s : SessionsSeen). IsJoined s sid) sessions (c.has.ensures.0 c.if-not-has.false) in
     let heard = ap (λ (s : SessionsSeen). is_clearing s sid.number && is_dropped c.args.ask) (sym sessions) ∙ sym c.drops.ensures ∙ c.if-drops.false in
