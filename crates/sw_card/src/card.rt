@@ -1,12 +1,15 @@
 //! A card of either kind.
 
 ghost use Rattle.std.proofs.Common.{inl, inr};
-ghost use Rattle.std.specs.Prelude.{◌≡◌, ℕ, length, Bool, true, false, OnOk, OnErr, IfOk, IfErr, IsTrue, None};
+ghost use Rattle.std.specs.Prelude.{◌≡◌, ℕ, length, Bool, true, false, OnOk, OnErr, IfOk, IfErr, IsTrue, None, take};
 ghost use Rattle.sw_base.specs.Layout.{group_at, has_channel};
+ghost use Rattle.sw_base.specs.Limits.{most_channels};
 ghost use Rattle.sw_card.specs.Account.{closed_at, set_closed, relay_account, of_meter, is_meter, with_set, at_rest};
 ghost use Rattle.sw_card.specs.Account.{IsFault};
+ghost use Rattle.sw_card.specs.Mask.{IsMaskOf};
 
 use crate::board::CardFault;
+use crate::mask::Mask;
 use crate::meter::{Meter, MeterCard};
 use crate::relay::{Relay, RelayCard};
 use std::marker::Model;
@@ -195,6 +198,16 @@ impl<R: Relay, M: Meter> Card<R, M> {
         match &mut self.kind {
             Kind::Relays(card) => card.open_all(),
             Kind::Meters(_) => {}
+        }
+    }
+
+    /// The closed channels among those that a card in a slot may have; of a meter none is.
+    pub fn closed_mask(&self) -> Mask
+        ensures { IsMaskOf result (take most_channels self.now.1.closed) }
+    {
+        match &self.kind {
+            Kind::Relays(card) => card.closed_mask(),
+            Kind::Meters(_) => Mask::new(),
         }
     }
 

@@ -1,12 +1,16 @@
 //! Relay cards.
 
-ghost use Rattle.std.specs.Prelude.{◌≡◌, ℕ, ◌+◌, ◌%◌, ◌^◌, length, List, Bool, true, false, OnOk, OnErr, IsTrue};
+ghost use Rattle.std.specs.Prelude.{◌≡◌, ℕ, ◌+◌, ◌%◌, ◌^◌, length, List, Bool, true, false, OnOk, OnErr, IsTrue, take};
 ghost use Rattle.sw_base.specs.Layout.{group_at, has_channel};
+ghost use Rattle.sw_base.specs.Limits.{most_channels};
 ghost use Rattle.sw_card.specs.Account.{Account, closed_at, set_closed, none_closed, IsWithin, relay_account, with_set};
 ghost use Rattle.sw_card.specs.Account.{at_rest, IsFault};
+ghost use Rattle.sw_card.specs.Mask.{IsMaskOf};
 
 use crate::board::{Board, CardFault};
+use crate::mask::Mask;
 use std::marker::Model;
+use sw_base::CHANNELS;
 
 /// A card of relays, numbered from 1.
 ///
@@ -198,6 +202,19 @@ impl<R: Relay> RelayCard<R> {
         ensures { self.new.1 ≡ at_rest self.old.1 }
     {
         self.relay.open_all();
+    }
+
+    /// The closed channels among those that a card in a slot may have.
+    pub fn closed_mask(&self) -> Mask
+        ensures { IsMaskOf result (take most_channels self.now.1.closed) }
+    {
+        let mut mask = Mask::new();
+        for before in 0..self.channels().min(CHANNELS) {
+            if self.is_closed(before + 1) {
+                mask.insert(before + 1);
+            }
+        }
+        mask
     }
 
     /// Whether any channel is closed.
