@@ -4,11 +4,11 @@ ghost use Rattle.std.specs.Prelude.{◌≡◌, ℕ, Bool, List, [], ◌∷◌, �
 ghost use Rattle.std.specs.Char.{to_ascii_uppercase};
 ghost use Rattle.sw_lex.specs.Found.{IsFound, IsForm, IsNumbered, Fits};
 ghost use Rattle.sw_lex.specs.Table.{entries};
-ghost use Rattle.sw_lex.specs.Rows.{nodes_at, Matches, is_form_from};
+ghost use Rattle.sw_lex.specs.Rows.{nodes_at, MatchesRow, Matches, is_form_from};
 ghost use Rattle.sw_lex.specs.declared.table.Key.{Key};
 
-use crate::rows::rows;
-use crate::table::{Key, Row, Step, Word, key_at, steps_of, written};
+use crate::rows::{Group, Row, Step, groups};
+use crate::table::Key;
 
 /// Whether the rest of a word is the rest of the long form of a mnemonic, or of the short form, where only capitals of
 /// the mnemonic have been passed.
@@ -61,21 +61,18 @@ fn spelled(steps: &[Step], words: &[&[u8]]) -> Option<u8>
     match steps {
         [] => if words.is_empty() { Some(0) } else { None },
         [step, others @ ..] => match *step {
-            Step::End => if words.is_empty() { Some(0) } else { None },
             Step::Must(form) => match words {
                 [] => None,
-                [word, rest @ ..] => {
-                    if is_form(word, written(form)) {
-                        spelled(others, rest)
-                    } else {
-                        None
-                    }
-                }
+                [word, rest @ ..] => if is_form(word, form) {
+                    spelled(others, rest)
+                } else {
+                    None
+                },
             },
             Step::May(form) => match words {
                 [] => spelled(others, words),
                 [word, rest @ ..] => {
-                    if is_form(word, written(form)) {
+                    if is_form(word, form) {
                         if let Some(number) = spelled(others, rest) {
                             return Some(number);
                         }
@@ -87,13 +84,13 @@ fn spelled(steps: &[Step], words: &[&[u8]]) -> Option<u8>
                 [] => spelled(others, words),
                 [word, rest @ ..] => {
                     if let Some(number) = spelled(others, rest) {
-                        if is_form(word, written(form)) {
+                        if is_form(word, form) {
                             return Some(number);
                         }
-                        if is_numbered(word, written(form), b'1') {
+                        if is_numbered(word, form, b'1') {
                             return Some(1);
                         }
-                        if is_numbered(word, written(form), b'2') {
+                        if is_numbered(word, form, b'2') {
                             return Some(2);
                         }
                     }
@@ -104,17 +101,34 @@ fn spelled(steps: &[Step], words: &[&[u8]]) -> Option<u8>
     }
 }
 
-/// What the first row asks for that a header spells, and the number in the header.
-fn matching(rows: &[Row], words: &[&[u8]], query: bool) -> Option<(Key, u8)>
-    ensures some { IfSome result (λ x. Matches rows.now
+/// What the first row asks for that these words spell below its first node, and the number in them.
+fn below(rows: &[Row], words: &[&[u8]], query: bool) -> Option<(Key, u8)>
+    ensures some { IfSome result (λ x. MatchesRow rows.now
         (map (λ w. map to_ascii_uppercase w.now) words.now) query x.0 x.1) }
     ensures none { IfNone result ((key : Key) (k : ℕ)
-        → Matches rows.now (map (λ w. map to_ascii_uppercase w.now) words.now) query key k → ⊥) }
+        → MatchesRow rows.now (map (λ w. map to_ascii_uppercase w.now) words.now) query key k → ⊥) }
 {
     for row in rows {
-        if let Some(key) = key_at(query, row) {
-            if let Some(number) = spelled(&steps_of(row), words) {
-                return Some((key, number));
+        if row.is_query() == query {
+            if let Some(number) = spelled(row.steps(), words) {
+                return Some((row.key(), number));
+            }
+        }
+    }
+    None
+}
+
+/// What a header asks for that is this word and then these, and the number in it.
+fn matching(groups: &[Group], word: &[u8], words: &[&[u8]], query: bool) -> Option<(Key, u8)>
+    ensures some { IfSome result (λ x. Matches groups.now (map to_ascii_uppercase word.now)
+        (map (λ w. map to_ascii_uppercase w.now) words.now) query x.0 x.1) }
+    ensures none { IfNone result ((key : Key) (k : ℕ) → Matches groups.now (map to_ascii_uppercase word.now)
+        (map (λ w. map to_ascii_uppercase w.now) words.now) query key k → ⊥) }
+{
+    for group in groups {
+        if is_form(word, group.first) {
+            if let Some(found) = below(group.rows, words, query) {
+                return Some(found);
             }
         }
     }
@@ -128,7 +142,11 @@ pub fn find(words: &[&[u8]], query: bool) -> Option<(Key, u8)>
     ensures none { IfNone result ((key : Key) (k : ℕ)
         → IsFound entries (map (λ w. map to_ascii_uppercase w.now) words.now) query key k → ⊥) }
 {
-    matching(rows(), words, query)
+    let table = groups();
+    match words {
+        [] => None,
+        [word, words @ ..] => matching(table, word, words, query),
+    }
 }
 
 /// No header is two commands.

@@ -2,322 +2,354 @@
 
 ghost use Rattle.std.specs.Prelude.{◌≡◌};
 ghost use Rattle.sw_lex.specs.Table.{entries};
-ghost use Rattle.sw_lex.specs.Rows.{entries_of};
+ghost use Rattle.sw_lex.specs.Rows.{entries_of, is_query, steps_of, key_of};
 
-use crate::table::Step::{End, May, Must, Numbered};
-use crate::table::{
-    Channels, Common, Family, GroupAsk, Instrument, Key, LayerAsk, Row, Whole, Word,
-};
-use sw_base::StatusGroup;
+use crate::rows::Row::{Command, Query};
+use crate::rows::Step::{May, Must, Numbered};
+use crate::table::Family::{Arm, Trigger};
+use crate::table::{Channels, Common, GroupAsk, Instrument, Key, LayerAsk, Whole};
+use sw_base::StatusGroup::{Operation, Questionable};
 
-/// The headers of the commands, each with what it asks for as a command and as a query.
-static ROWS: [Row; 53] = [
-    Row {
-        nodes: (Must(Word::Identification), End, End),
-        command: None,
-        query: Some(Key::Common(Common::Identify)),
+/// A node of a header, with its mnemonic as the standard writes it: its short form in capitals, and what the long form
+/// adds in small letters.
+#[derive(Clone, Copy)]
+pub enum Step {
+    /// It has to be there.
+    Must(&'static [u8]),
+    /// It may be left out.
+    May(&'static [u8]),
+    /// It may be left out, and may have a number, 1 or 2.
+    Numbered(&'static [u8]),
+}
+
+/// A header's nodes below the first, and what it asks for: as a command, or with a question mark.
+#[derive(Clone, Copy)]
+pub enum Row {
+    Command(&'static [Step], Key),
+    Query(&'static [Step], Key),
+}
+
+impl Row {
+    /// Whether it has a question mark.
+    pub fn is_query(&self) -> bool
+        ensures { result ≡ is_query self.now }
+    {
+        match *self {
+            Command(..) => false,
+            Query(..) => true,
+        }
+    }
+
+    /// Its nodes below the first.
+    pub fn steps(&self) -> &'static [Step]
+        ensures { result.now ≡ steps_of self.now }
+    {
+        match *self {
+            Command(steps, _) | Query(steps, _) => steps,
+        }
+    }
+
+    /// What it asks for.
+    pub fn key(&self) -> Key
+        ensures { result ≡ key_of self.now }
+    {
+        match *self {
+            Command(_, key) | Query(_, key) => key,
+        }
+    }
+}
+
+/// The headers that begin with one mnemonic.
+#[derive(Clone, Copy)]
+pub struct Group {
+    pub first: &'static [u8],
+    pub rows: &'static [Row],
+}
+
+/// The headers of the commands, by their first mnemonics.
+static GROUPS: [Group; 27] = [
+    Group {
+        first: b"*IDN",
+        rows: &[Query(&[], Key::Common(Common::Identify))],
     },
-    Row {
-        nodes: (Must(Word::Reset), End, End),
-        command: Some(Key::Common(Common::Reset)),
-        query: None,
+    Group {
+        first: b"*RST",
+        rows: &[Command(&[], Key::Common(Common::Reset))],
     },
-    Row {
-        nodes: (Must(Word::OperationComplete), End, End),
-        command: Some(Key::Common(Common::OperationComplete)),
-        query: Some(Key::Common(Common::OperationCompleteQuery)),
+    Group {
+        first: b"*OPC",
+        rows: &[
+            Command(&[], Key::Common(Common::OperationComplete)),
+            Query(&[], Key::Common(Common::OperationCompleteQuery)),
+        ],
     },
-    Row {
-        nodes: (Must(Word::Wait), End, End),
-        command: Some(Key::Common(Common::Wait)),
-        query: None,
+    Group {
+        first: b"*WAI",
+        rows: &[Command(&[], Key::Common(Common::Wait))],
     },
-    Row {
-        nodes: (Must(Word::SelfTest), End, End),
-        command: None,
-        query: Some(Key::Common(Common::SelfTestQuery)),
+    Group {
+        first: b"*TST",
+        rows: &[Query(&[], Key::Common(Common::SelfTestQuery))],
     },
-    Row {
-        nodes: (Must(Word::TriggerNow), End, End),
-        command: Some(Key::Common(Common::Trigger)),
-        query: None,
+    Group {
+        first: b"*TRG",
+        rows: &[Command(&[], Key::Common(Common::Trigger))],
     },
-    Row {
-        nodes: (Must(Word::ClearStatus), End, End),
-        command: Some(Key::Common(Common::ClearStatus)),
-        query: None,
+    Group {
+        first: b"*CLS",
+        rows: &[Command(&[], Key::Common(Common::ClearStatus))],
     },
-    Row {
-        nodes: (Must(Word::EventEnable), End, End),
-        command: Some(Key::Whole(Whole::EventEnable)),
-        query: Some(Key::Common(Common::EventEnableQuery)),
+    Group {
+        first: b"*ESE",
+        rows: &[
+            Command(&[], Key::Whole(Whole::EventEnable)),
+            Query(&[], Key::Common(Common::EventEnableQuery)),
+        ],
     },
-    Row {
-        nodes: (Must(Word::EventStatus), End, End),
-        command: None,
-        query: Some(Key::Common(Common::EventQuery)),
+    Group {
+        first: b"*ESR",
+        rows: &[Query(&[], Key::Common(Common::EventQuery))],
     },
-    Row {
-        nodes: (Must(Word::ServiceEnable), End, End),
-        command: Some(Key::Whole(Whole::ServiceEnable)),
-        query: Some(Key::Common(Common::ServiceEnableQuery)),
+    Group {
+        first: b"*SRE",
+        rows: &[
+            Command(&[], Key::Whole(Whole::ServiceEnable)),
+            Query(&[], Key::Common(Common::ServiceEnableQuery)),
+        ],
     },
-    Row {
-        nodes: (Must(Word::StatusByte), End, End),
-        command: None,
-        query: Some(Key::Common(Common::StatusByteQuery)),
+    Group {
+        first: b"*STB",
+        rows: &[Query(&[], Key::Common(Common::StatusByteQuery))],
     },
-    Row {
-        nodes: (Must(Word::DefineMacro), End, End),
-        command: Some(Key::DefineMacro),
-        query: None,
+    Group {
+        first: b"*DMC",
+        rows: &[Command(&[], Key::DefineMacro)],
     },
-    Row {
-        nodes: (Must(Word::GetMacro), End, End),
-        command: None,
-        query: Some(Key::MacroQuery),
+    Group {
+        first: b"*GMC",
+        rows: &[Query(&[], Key::MacroQuery)],
     },
-    Row {
-        nodes: (Must(Word::RemoveMacro), End, End),
-        command: Some(Key::RemoveMacro),
-        query: None,
+    Group {
+        first: b"*RMC",
+        rows: &[Command(&[], Key::RemoveMacro)],
     },
-    Row {
-        nodes: (Must(Word::LearnMacro), End, End),
-        command: None,
-        query: Some(Key::Common(Common::MacroLabelsQuery)),
+    Group {
+        first: b"*LMC",
+        rows: &[Query(&[], Key::Common(Common::MacroLabelsQuery))],
     },
-    Row {
-        nodes: (Must(Word::PurgeMacros), End, End),
-        command: Some(Key::Common(Common::PurgeMacros)),
-        query: None,
+    Group {
+        first: b"*PMC",
+        rows: &[Command(&[], Key::Common(Common::PurgeMacros))],
     },
-    Row {
-        nodes: (Must(Word::EnableMacros), End, End),
-        command: Some(Key::EnableMacros),
-        query: Some(Key::Common(Common::EnableMacrosQuery)),
+    Group {
+        first: b"*EMC",
+        rows: &[
+            Command(&[], Key::EnableMacros),
+            Query(&[], Key::Common(Common::EnableMacrosQuery)),
+        ],
     },
-    Row {
-        nodes: (Must(Word::Abort), End, End),
-        command: Some(Key::Instrument(Instrument::Abort)),
-        query: None,
+    Group {
+        first: b"ABORt",
+        rows: &[Command(&[], Key::Instrument(Instrument::Abort))],
     },
-    Row {
-        nodes: (Must(Word::Arm), Numbered(Word::Layer), Must(Word::Count)),
-        command: Some(Key::Whole(Whole::Count(Family::Arm))),
-        query: Some(Key::Layer(LayerAsk::CountQuery, Family::Arm)),
+    Group {
+        first: b"ARM",
+        rows: &[
+            Command(
+                &[Numbered(b"LAYer"), Must(b"COUNt")],
+                Key::Whole(Whole::Count(Arm)),
+            ),
+            Query(
+                &[Numbered(b"LAYer"), Must(b"COUNt")],
+                Key::Layer(LayerAsk::CountQuery, Arm),
+            ),
+            Command(&[Numbered(b"LAYer"), Must(b"SOURce")], Key::Source(Arm)),
+            Query(
+                &[Numbered(b"LAYer"), Must(b"SOURce")],
+                Key::Layer(LayerAsk::SourceQuery, Arm),
+            ),
+            Command(&[Numbered(b"LAYer"), Must(b"DELay")], Key::Delay(Arm)),
+            Query(
+                &[Numbered(b"LAYer"), Must(b"DELay")],
+                Key::Layer(LayerAsk::DelayQuery, Arm),
+            ),
+            Command(
+                &[Numbered(b"LAYer"), Must(b"SIGNal")],
+                Key::Layer(LayerAsk::Signal, Arm),
+            ),
+        ],
     },
-    Row {
-        nodes: (Must(Word::Arm), Numbered(Word::Layer), Must(Word::Source)),
-        command: Some(Key::Source(Family::Arm)),
-        query: Some(Key::Layer(LayerAsk::SourceQuery, Family::Arm)),
+    Group {
+        first: b"INITiate",
+        rows: &[
+            Command(&[May(b"IMMediate")], Key::Instrument(Instrument::Initiate)),
+            Command(&[Must(b"CONTinuous")], Key::Continuous),
+            Query(
+                &[Must(b"CONTinuous")],
+                Key::Instrument(Instrument::InitiateContinuousQuery),
+            ),
+        ],
     },
-    Row {
-        nodes: (Must(Word::Arm), Numbered(Word::Layer), Must(Word::Delay)),
-        command: Some(Key::Delay(Family::Arm)),
-        query: Some(Key::Layer(LayerAsk::DelayQuery, Family::Arm)),
+    Group {
+        first: b"TRIGger",
+        rows: &[
+            Command(&[Must(b"COUNt")], Key::Whole(Whole::Count(Trigger))),
+            Query(&[Must(b"COUNt")], Key::Layer(LayerAsk::CountQuery, Trigger)),
+            Command(&[Must(b"SOURce")], Key::Source(Trigger)),
+            Query(
+                &[Must(b"SOURce")],
+                Key::Layer(LayerAsk::SourceQuery, Trigger),
+            ),
+            Command(&[Must(b"DELay")], Key::Delay(Trigger)),
+            Query(&[Must(b"DELay")], Key::Layer(LayerAsk::DelayQuery, Trigger)),
+            Command(&[Must(b"SIGNal")], Key::Layer(LayerAsk::Signal, Trigger)),
+        ],
     },
-    Row {
-        nodes: (Must(Word::Arm), Numbered(Word::Layer), Must(Word::Signal)),
-        command: Some(Key::Layer(LayerAsk::Signal, Family::Arm)),
-        query: None,
+    Group {
+        first: b"TRACe",
+        rows: &[
+            Command(&[Must(b"POINts")], Key::Whole(Whole::Points)),
+            Query(&[Must(b"POINts")], Key::Instrument(Instrument::PointsQuery)),
+            Query(
+                &[Must(b"POINts"), Must(b"ACTual")],
+                Key::Instrument(Instrument::ActualPointsQuery),
+            ),
+        ],
     },
-    Row {
-        nodes: (Must(Word::Initiate), May(Word::Immediate), End),
-        command: Some(Key::Instrument(Instrument::Initiate)),
-        query: None,
+    Group {
+        first: b"ROUTe",
+        rows: &[
+            Command(&[Must(b"CLOSe")], Key::Channels(Channels::Close)),
+            Query(&[Must(b"CLOSe")], Key::Channels(Channels::CloseQuery)),
+            Query(
+                &[Must(b"CLOSe"), Must(b"STATe")],
+                Key::Instrument(Instrument::CloseState),
+            ),
+            Command(&[Must(b"OPEN")], Key::Channels(Channels::Open)),
+            Query(&[Must(b"OPEN")], Key::Channels(Channels::OpenQuery)),
+            Command(
+                &[Must(b"OPEN"), Must(b"ALL")],
+                Key::Instrument(Instrument::OpenAll),
+            ),
+            Command(&[Must(b"SCAN")], Key::Channels(Channels::Scan)),
+            Query(&[Must(b"SCAN")], Key::Instrument(Instrument::ScanQuery)),
+            Command(
+                &[Must(b"SCAN"), Must(b"METer")],
+                Key::Whole(Whole::ScanMeter),
+            ),
+            Query(
+                &[Must(b"SCAN"), Must(b"METer")],
+                Key::Instrument(Instrument::ScanMeterQuery),
+            ),
+        ],
     },
-    Row {
-        nodes: (Must(Word::Initiate), Must(Word::Continuous), End),
-        command: Some(Key::Continuous),
-        query: Some(Key::Instrument(Instrument::InitiateContinuousQuery)),
+    Group {
+        first: b"STATus",
+        rows: &[
+            Query(
+                &[Must(b"OPERation"), May(b"EVENt")],
+                Key::Group(GroupAsk::EventQuery, Operation),
+            ),
+            Query(
+                &[Must(b"OPERation"), Must(b"CONDition")],
+                Key::Group(GroupAsk::ConditionQuery, Operation),
+            ),
+            Command(
+                &[Must(b"OPERation"), Must(b"ENABle")],
+                Key::Whole(Whole::Enable(Operation)),
+            ),
+            Query(
+                &[Must(b"OPERation"), Must(b"ENABle")],
+                Key::Group(GroupAsk::EnableQuery, Operation),
+            ),
+            Command(
+                &[Must(b"OPERation"), Must(b"PTRansition")],
+                Key::Whole(Whole::PositiveTransition(Operation)),
+            ),
+            Query(
+                &[Must(b"OPERation"), Must(b"PTRansition")],
+                Key::Group(GroupAsk::PositiveTransitionQuery, Operation),
+            ),
+            Command(
+                &[Must(b"OPERation"), Must(b"NTRansition")],
+                Key::Whole(Whole::NegativeTransition(Operation)),
+            ),
+            Query(
+                &[Must(b"OPERation"), Must(b"NTRansition")],
+                Key::Group(GroupAsk::NegativeTransitionQuery, Operation),
+            ),
+            Query(
+                &[Must(b"QUEStionable"), May(b"EVENt")],
+                Key::Group(GroupAsk::EventQuery, Questionable),
+            ),
+            Query(
+                &[Must(b"QUEStionable"), Must(b"CONDition")],
+                Key::Group(GroupAsk::ConditionQuery, Questionable),
+            ),
+            Command(
+                &[Must(b"QUEStionable"), Must(b"ENABle")],
+                Key::Whole(Whole::Enable(Questionable)),
+            ),
+            Query(
+                &[Must(b"QUEStionable"), Must(b"ENABle")],
+                Key::Group(GroupAsk::EnableQuery, Questionable),
+            ),
+            Command(
+                &[Must(b"QUEStionable"), Must(b"PTRansition")],
+                Key::Whole(Whole::PositiveTransition(Questionable)),
+            ),
+            Query(
+                &[Must(b"QUEStionable"), Must(b"PTRansition")],
+                Key::Group(GroupAsk::PositiveTransitionQuery, Questionable),
+            ),
+            Command(
+                &[Must(b"QUEStionable"), Must(b"NTRansition")],
+                Key::Whole(Whole::NegativeTransition(Questionable)),
+            ),
+            Query(
+                &[Must(b"QUEStionable"), Must(b"NTRansition")],
+                Key::Group(GroupAsk::NegativeTransitionQuery, Questionable),
+            ),
+            Command(&[Must(b"PRESet")], Key::Instrument(Instrument::Preset)),
+        ],
     },
-    Row {
-        nodes: (Must(Word::Trigger), Must(Word::Count), End),
-        command: Some(Key::Whole(Whole::Count(Family::Trigger))),
-        query: Some(Key::Layer(LayerAsk::CountQuery, Family::Trigger)),
+    Group {
+        first: b"SYSTem",
+        rows: &[
+            Query(
+                &[Must(b"ERRor"), May(b"NEXT")],
+                Key::Instrument(Instrument::NextErrorQuery),
+            ),
+            Query(
+                &[Must(b"ERRor"), Must(b"ALL")],
+                Key::Instrument(Instrument::AllErrorsQuery),
+            ),
+            Query(
+                &[Must(b"ERRor"), Must(b"COUNt")],
+                Key::Instrument(Instrument::ErrorCountQuery),
+            ),
+            Query(
+                &[Must(b"VERSion")],
+                Key::Instrument(Instrument::VersionQuery),
+            ),
+        ],
     },
-    Row {
-        nodes: (Must(Word::Trigger), Must(Word::Source), End),
-        command: Some(Key::Source(Family::Trigger)),
-        query: Some(Key::Layer(LayerAsk::SourceQuery, Family::Trigger)),
+    Group {
+        first: b"DIAGnostic",
+        rows: &[Query(
+            &[Must(b"SCAN"), Must(b"BOUNd")],
+            Key::Instrument(Instrument::BoundQuery),
+        )],
     },
-    Row {
-        nodes: (Must(Word::Trigger), Must(Word::Delay), End),
-        command: Some(Key::Delay(Family::Trigger)),
-        query: Some(Key::Layer(LayerAsk::DelayQuery, Family::Trigger)),
-    },
-    Row {
-        nodes: (Must(Word::Trigger), Must(Word::Signal), End),
-        command: Some(Key::Layer(LayerAsk::Signal, Family::Trigger)),
-        query: None,
-    },
-    Row {
-        nodes: (Must(Word::Trace), Must(Word::Points), End),
-        command: Some(Key::Whole(Whole::Points)),
-        query: Some(Key::Instrument(Instrument::PointsQuery)),
-    },
-    Row {
-        nodes: (Must(Word::Trace), Must(Word::Points), Must(Word::Actual)),
-        command: None,
-        query: Some(Key::Instrument(Instrument::ActualPointsQuery)),
-    },
-    Row {
-        nodes: (Must(Word::Route), Must(Word::Close), End),
-        command: Some(Key::Channels(Channels::Close)),
-        query: Some(Key::Channels(Channels::CloseQuery)),
-    },
-    Row {
-        nodes: (Must(Word::Route), Must(Word::Close), Must(Word::State)),
-        command: None,
-        query: Some(Key::Instrument(Instrument::CloseState)),
-    },
-    Row {
-        nodes: (Must(Word::Route), Must(Word::Open), End),
-        command: Some(Key::Channels(Channels::Open)),
-        query: Some(Key::Channels(Channels::OpenQuery)),
-    },
-    Row {
-        nodes: (Must(Word::Route), Must(Word::Open), Must(Word::All)),
-        command: Some(Key::Instrument(Instrument::OpenAll)),
-        query: None,
-    },
-    Row {
-        nodes: (Must(Word::Route), Must(Word::Scan), End),
-        command: Some(Key::Channels(Channels::Scan)),
-        query: Some(Key::Instrument(Instrument::ScanQuery)),
-    },
-    Row {
-        nodes: (Must(Word::Route), Must(Word::Scan), Must(Word::Meter)),
-        command: Some(Key::Whole(Whole::ScanMeter)),
-        query: Some(Key::Instrument(Instrument::ScanMeterQuery)),
-    },
-    Row {
-        nodes: (Must(Word::Status), Must(Word::Operation), May(Word::Event)),
-        command: None,
-        query: Some(Key::Group(GroupAsk::EventQuery, StatusGroup::Operation)),
-    },
-    Row {
-        nodes: (
-            Must(Word::Status),
-            Must(Word::Operation),
-            Must(Word::Condition),
-        ),
-        command: None,
-        query: Some(Key::Group(GroupAsk::ConditionQuery, StatusGroup::Operation)),
-    },
-    Row {
-        nodes: (
-            Must(Word::Status),
-            Must(Word::Operation),
-            Must(Word::Enable),
-        ),
-        command: Some(Key::Whole(Whole::Enable(StatusGroup::Operation))),
-        query: Some(Key::Group(GroupAsk::EnableQuery, StatusGroup::Operation)),
-    },
-    Row {
-        nodes: (
-            Must(Word::Status),
-            Must(Word::Operation),
-            Must(Word::PositiveTransition),
-        ),
-        command: Some(Key::Whole(Whole::PositiveTransition(StatusGroup::Operation))),
-        query: Some(Key::Group(GroupAsk::PositiveTransitionQuery, StatusGroup::Operation)),
-    },
-    Row {
-        nodes: (
-            Must(Word::Status),
-            Must(Word::Operation),
-            Must(Word::NegativeTransition),
-        ),
-        command: Some(Key::Whole(Whole::NegativeTransition(StatusGroup::Operation))),
-        query: Some(Key::Group(GroupAsk::NegativeTransitionQuery, StatusGroup::Operation)),
-    },
-    Row {
-        nodes: (
-            Must(Word::Status),
-            Must(Word::Questionable),
-            May(Word::Event),
-        ),
-        command: None,
-        query: Some(Key::Group(GroupAsk::EventQuery, StatusGroup::Questionable)),
-    },
-    Row {
-        nodes: (
-            Must(Word::Status),
-            Must(Word::Questionable),
-            Must(Word::Condition),
-        ),
-        command: None,
-        query: Some(Key::Group(GroupAsk::ConditionQuery, StatusGroup::Questionable)),
-    },
-    Row {
-        nodes: (
-            Must(Word::Status),
-            Must(Word::Questionable),
-            Must(Word::Enable),
-        ),
-        command: Some(Key::Whole(Whole::Enable(StatusGroup::Questionable))),
-        query: Some(Key::Group(GroupAsk::EnableQuery, StatusGroup::Questionable)),
-    },
-    Row {
-        nodes: (
-            Must(Word::Status),
-            Must(Word::Questionable),
-            Must(Word::PositiveTransition),
-        ),
-        command: Some(Key::Whole(Whole::PositiveTransition(StatusGroup::Questionable))),
-        query: Some(Key::Group(GroupAsk::PositiveTransitionQuery, StatusGroup::Questionable)),
-    },
-    Row {
-        nodes: (
-            Must(Word::Status),
-            Must(Word::Questionable),
-            Must(Word::NegativeTransition),
-        ),
-        command: Some(Key::Whole(Whole::NegativeTransition(StatusGroup::Questionable))),
-        query: Some(Key::Group(GroupAsk::NegativeTransitionQuery, StatusGroup::Questionable)),
-    },
-    Row {
-        nodes: (Must(Word::Status), Must(Word::Preset), End),
-        command: Some(Key::Instrument(Instrument::Preset)),
-        query: None,
-    },
-    Row {
-        nodes: (Must(Word::System), Must(Word::Error), May(Word::Next)),
-        command: None,
-        query: Some(Key::Instrument(Instrument::NextErrorQuery)),
-    },
-    Row {
-        nodes: (Must(Word::System), Must(Word::Error), Must(Word::All)),
-        command: None,
-        query: Some(Key::Instrument(Instrument::AllErrorsQuery)),
-    },
-    Row {
-        nodes: (Must(Word::System), Must(Word::Error), Must(Word::Count)),
-        command: None,
-        query: Some(Key::Instrument(Instrument::ErrorCountQuery)),
-    },
-    Row {
-        nodes: (Must(Word::System), Must(Word::Version), End),
-        command: None,
-        query: Some(Key::Instrument(Instrument::VersionQuery)),
-    },
-    Row {
-        nodes: (Must(Word::Diagnostic), Must(Word::Scan), Must(Word::Bound)),
-        command: None,
-        query: Some(Key::Instrument(Instrument::BoundQuery)),
-    },
-    Row {
-        nodes: (Must(Word::Fetch), End, End),
-        command: None,
-        query: Some(Key::Instrument(Instrument::Fetch)),
+    Group {
+        first: b"FETCh",
+        rows: &[Query(&[], Key::Instrument(Instrument::Fetch))],
     },
 ];
 
 /// The table of headers.
-pub fn rows() -> &'static [Row]
+pub fn groups() -> &'static [Group]
     ensures { entries_of result.now ≡ entries }
 {
-    &ROWS
+    &GROUPS
 }

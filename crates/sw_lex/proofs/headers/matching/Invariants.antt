@@ -4,7 +4,7 @@ use Rattle.sw_lex.specs.declared.table.Key.{Key}
 use Rattle.sw_lex.specs.Rows.{Matches}
 use Rattle.sw_lex.proofs.headers.matching.Given as goal
 
-abbrev pub invariant-loop-row : goal.invariant-loop-row
-invariant-loop-row l = (key : Key) (k : ℕ)
-    → Matches l.rows (map (λ w. map to_ascii_uppercase w.now) l.words) l.query key k
-    ↔ Matches (drop l.row-index l.rows) (map (λ w. map to_ascii_uppercase w.now) l.words) l.query key k
+abbrev pub invariant-loop-group : goal.invariant-loop-group
+invariant-loop-group l = (key : Key) (k : ℕ)
+    → Matches l.groups (map to_ascii_uppercase l.word) (map (λ w. map to_ascii_uppercase w.now) l.words) l.query key k
+    ↔ Matches (drop l.group-index l.groups) (map to_ascii_uppercase l.word) (map (λ w. map to_ascii_uppercase w.now) l.words) l.query key k

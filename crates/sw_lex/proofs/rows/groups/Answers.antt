@@ -1,7 +1,7 @@
 use Rattle.std.proofs.Common.{refl}
 use Rattle.sw_lex.specs.Table.{table, entries}
 use Rattle.sw_lex.specs.Rows.{entries_of}
-use Rattle.sw_lex.proofs.rows.rows.Goals as goal
+use Rattle.sw_lex.proofs.rows.groups.Goals as goal
 
 pub returns : goal.returns
 unfolding entries_of table entries
