@@ -1,5 +1,6 @@
 pub mod Unfolding
 pub mod Compiled
 pub mod Fits
+pub mod Pacing
 pub mod Listed
 pub mod Reread

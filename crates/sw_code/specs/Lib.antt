@@ -5,3 +5,4 @@ pub mod Tree
 pub mod Compiled
 pub mod Listing
 pub mod Reading
+pub mod Pace

@@ -134,7 +134,7 @@ fn begin<R: Relay, M: Meter>(
         layout,
         closed,
     };
-    let Ok(plan) = Plan::make(snapshot) else {
+    let Ok(plan) = Plan::make(alloc, snapshot) else {
         return Err("the plan was refused")?;
     };
     Ok(cage.start(alloc, plan)?)

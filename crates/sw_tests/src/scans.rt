@@ -22,13 +22,13 @@ fn made_plan<R: Relay, M: Meter>(
     sid: Sid,
 ) -> Result<Plan, Fail> {
     let answer = snapshot(alloc, core, sid)?;
-    planned(answer)
+    planned(alloc, answer)
 }
 
 /// The plan of the scan that may begin.
-fn planned(answer: SessionAnswer) -> Result<Plan, Fail> {
+fn planned(alloc: Global, answer: SessionAnswer) -> Result<Plan, Fail> {
     match answer {
-        SessionAnswer::Snapshot(snapshot) => match Plan::make(snapshot) {
+        SessionAnswer::Snapshot(snapshot) => match Plan::make(alloc, snapshot) {
             Ok(plan) => Ok(plan),
             Err(_) => Err("the scan is not sound")?,
         },

@@ -96,7 +96,12 @@ fn readings_fit_the_points(rt: HostRuntime) -> Result<(), Fail> {
 
 #[test]
 fn plan_keeps_its_snapshot(rt: HostRuntime) -> Result<(), Fail> {
-    let plan = Plan::make(snapshot(rt.alloc(), &[Chan::new(1, 1)], &[Chan::new(2, 16)])?)?;
+    let plan = Plan::make(
+        rt.alloc(),
+        snapshot(rt.alloc(), &[Chan::new(1, 1)], &[Chan::new(2, 16)])?,
+    )?;
+    assert_eq!(rt; plan.code().meter(), 4);
+    assert_eq!(rt; plan.code().steps().len(), 10);
     laws::ends_as_it_began(plan.snapshot());
     laws::closes_one_at_a_time(plan.snapshot());
     laws::stays_within_its_points(plan.snapshot());

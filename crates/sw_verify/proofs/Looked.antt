@@ -1,19 +1,18 @@
 -- What the verifier's lists tell of the closed sets.
-use Rattle.std.proofs.Common.{◌≡◌, ℕ, zero, suc, ◌+◌, Bool, true, false, ◌||◌, ◌&&◌, not, cond, eqb, List, [], ◌∷◌, ◌++◌, length, Option, Some, None, refl, sym, ap, ◌∙◌, subst, arith, ◌⊎◌, inl, inr, ⊎_elim}
+use Rattle.std.proofs.Common.{◌≡◌, Bool, true, false, ◌||◌, ◌&&◌, not, cond, eqb, List, [], ◌∷◌, ◌++◌, length, Option, Some, None, refl, sym, ap, ◌∙◌, subst, arith, ◌⊎◌, inl, inr, ⊎_elim}
 use mathlib.Core.Path.{fun_ext}
 use Rattle.std.proofs.lemmas.Bool.Decides.{nat_tests}
 use Rattle.std.proofs.lemmas.List.{nil_from_length}
-use Rattle.std.specs.List.{list_all, list_any, filter}
+use Rattle.std.specs.List.{list_all}
 use Rattle.sw_base.specs.Layout.{Channel, Layout, is_present}
 use Rattle.sw_code.specs.declared.code.Step.{Step}
 use Rattle.sw_code.specs.declared.code.Step.TheVariants as step
 use Rattle.sw_verify.specs.declared.refusal.Refusal.{Refusal}
 use Rattle.sw_verify.specs.declared.refusal.Refusal.TheVariants.{NoChannel, GroupClash, LeftClosed, NotClosed}
 use Rattle.sw_verify.specs.Channels.{Channels, none, is_among, same_channel, with_channel, without}
-use Rattle.sw_verify.specs.Sound.{CanClose}
 use Rattle.sw_verify.specs.Marks.{is_free}
-use Rattle.sw_verify.specs.Nest.{StepsRight, LoopIsRound}
-use Rattle.sw_verify.specs.Look.{look_in, same_set, take_out, at_end, at_close, blocked_by}
+use Rattle.sw_verify.specs.Nest.{StepsRight}
+use Rattle.sw_verify.specs.Look.{look_in, same_set, take_out, at_close, blocked_by}
 use Rattle.sw_verify.proofs.Round.{same_channel_is, same_channel_self}
 use Rattle.sw_verify.proofs.Checked.{can_close}
 use Rattle.std.proofs.lemmas.Bool.{or_cases}

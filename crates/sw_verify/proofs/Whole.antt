@@ -1,5 +1,5 @@
 -- What the verifier's look at each step tells of the whole run.
-use Rattle.std.proofs.Common.{◌≡◌, ℕ, zero, suc, ◌+◌, ◌-◌, ◌*◌, ◌<◌, ◌≤◌, Bool, true, false, ◌||◌, ◌&&◌, not, cond, eqb, List, [], ◌∷◌, ◌++◌, length, Option, Some, None, refl, sym, ap, ◌∙◌, subst, arith, append_assoc, append-nil, length-append, add_assoc}
+use Rattle.std.proofs.Common.{◌≡◌, ℕ, zero, suc, ◌+◌, ◌*◌, ◌<◌, ◌≤◌, Bool, true, false, ◌||◌, ◌&&◌, not, cond, eqb, List, [], ◌∷◌, ◌++◌, length, Option, Some, None, refl, sym, ap, ◌∙◌, subst, arith, append_assoc, add_assoc}
 use Rattle.std.proofs.lemmas.Bool.Decides.{nat_tests}
 use Rattle.std.specs.Option.{IfSome}
 use Rattle.std.specs.List.{AllByRecursion}
@@ -8,7 +8,6 @@ use Rattle.sw_trigger.specs.declared.layer.Awaited.{Awaited}
 use Rattle.sw_trigger.specs.declared.layer.Awaited.TheVariants.{Wait, Pause, Read}
 use Rattle.sw_code.specs.declared.code.Step.{Step}
 use Rattle.sw_code.specs.declared.code.Step.TheVariants as step
-use Rattle.sw_verify.specs.declared.refusal.Refusal.{Refusal}
 use Rattle.sw_verify.specs.declared.refusal.Refusal.TheVariants.{BadNesting, BadJump}
 use Rattle.sw_verify.specs.declared.nest.Frame.{Frame}
 use Rattle.sw_trigger.specs.Agenda.{Item, Awaits, Close, Open, repeated}
@@ -20,11 +19,11 @@ use Rattle.sw_base.specs.Layout.{has_meter}
 use Rattle.sw_code.specs.Range.{Program, IsStep, IsInRange}
 use Rattle.sw_verify.specs.Channels.{is_among}
 use Rattle.sw_verify.specs.Look.{look_in}
-use Rattle.sw_verify.specs.Judged.{Judged, HasCounts, IsVerified}
+use Rattle.sw_verify.specs.Judged.{HasCounts, IsVerified}
 use Rattle.sw_verify.proofs.Looked.{looked_from_start}
-use Rattle.sw_verify.specs.Sound.{AllRight, effect, IsSound, CanClose}
+use Rattle.sw_verify.specs.Sound.{AllRight, effect, IsSound}
 use Rattle.sw_code.specs.Tree.{Tree, Nil, Then, Times, step_of, size, flatten, meaning, IsNested}
-use Rattle.sw_verify.specs.Nest.{in_use, at_halt, at_loop, fault_in, AreCounted, LoopIsRound, StepsRight, tally, tally_loop, every, is_read}
+use Rattle.sw_verify.specs.Nest.{in_use, at_loop, fault_in, AreCounted, StepsRight, tally, every, is_read}
 use Rattle.sw_code.proofs.Unfolding.{unfolds}
 use Rattle.sw_verify.proofs.Round.{effect-append, same_channel_is}
 

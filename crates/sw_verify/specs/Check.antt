@@ -51,6 +51,10 @@ pub record IsFirst (r : Refusal) (p : Snapshot) : Type 0 where
   pub applies : Faulty r p
   pub none_before : (q : Refusal) → number_of q < number_of r → Faulty q p → ⊥
 
+-- The snapshot does not pass the check, and r is the first refusal that applies; or it does, and memory ran out.
+abbrev pub IsRefused : Refusal → Snapshot → Type 0
+IsRefused r p = ((IsReady p → ⊥) × IsFirst r p) ⊎ (IsReady p × (r ≡ NoMemory))
+
 abbrev pub error_of : Refusal → ScpiError
 error_of EmptyList = SettingsConflict
 error_of NoChannel = HardwareMissing

@@ -8,3 +8,4 @@ pub mod Nest
 pub mod Look
 pub mod Judged
 pub mod VerifiedSeen
+pub mod PlanSeen

@@ -8,6 +8,8 @@
 //! `verify` judges scan code: what it accepts unfolds to items that are sound here, with the counts that it
 //! tells. It visits each step once.
 //!
+//! A `Plan` is a snapshot that passed the check, with its code, which unfolds to the agenda of the settings.
+//!
 //! The check takes no memory. The crate promises nothing of a scan whose cards or closed channels change after the check.
 #![tactic(auto)]
 

@@ -1,19 +1,25 @@
-//! A scan that passed the check.
+//! A scan that passed the check, with its code.
 
-ghost use Rattle.std.specs.Prelude.{◌≡◌, ◌↔◌, IsOk, IfOk, IfErr};
-ghost use Rattle.sw_verify.specs.Check.{IsReady, IsFirst};
+ghost use Rattle.std.specs.Prelude.{◌≡◌, IfOk, IfErr};
+ghost use Rattle.sw_trigger.specs.Agenda.{agenda};
+ghost use Rattle.sw_code.specs.Code.{Unfolds};
+ghost use Rattle.sw_code.specs.Compiled.{compiled};
+ghost use Rattle.sw_verify.specs.Check.{IsReady, IsRefused};
 
 use crate::ready::check;
 use crate::refusal::Refusal;
 use crate::snapshot::Snapshot;
+use std::alloc::Global;
 use std::marker::Model;
+use sw_code::{Code, compile};
 
-/// A snapshot that passed the check. There is no other way to make one.
+/// A snapshot that passed the check, and the code of its scan. There is no other way to make one.
 ///
-/// Contracts see the snapshot.
+/// Contracts see the snapshot, which the code follows from.
 #[derive(Debug, Drop)]
 pub struct Plan {
     snapshot: Snapshot,
+    code: Code,
 }
 
 impl Model for Plan {
@@ -21,22 +27,29 @@ impl Model for Plan {
 
     ghost Value = { Snapshot };
 
-    ghost use Rattle.sw_verify.specs.Check.{IsReady};
+    ghost use Rattle.sw_verify.specs.PlanSeen.{IsPlan};
 
     ghost view = { λ p. p.snapshot };
 
-    ghost invariant = { λ p. IsReady p.snapshot };
+    ghost invariant = { IsPlan };
 }
 
 impl Plan {
-    /// The plan of a snapshot that passes the check; else the first refusal that applies.
-    pub fn make(snapshot: Snapshot) -> Result<Plan, Refusal>
-        ensures ok { IsOk result ↔ IsReady snapshot }
+    /// The plan of a snapshot that passes the check; else the first refusal that applies, or `NoMemory` where the code
+    /// found no room.
+    pub fn make(alloc: Global, snapshot: Snapshot) -> Result<Plan, Refusal>
+        ensures ready { IfOk result (λ p. IsReady snapshot) }
         ensures plan { IfOk result (λ p. p ≡ snapshot) }
-        ensures first { IfErr result (λ r. IsFirst r snapshot) }
+        ensures refused { IfErr result (λ r. IsRefused r snapshot) }
     {
         check(&snapshot)?;
-        Ok(Plan { snapshot })
+        match compile(alloc, &snapshot.settings) {
+            Ok(code) => Ok(Plan { snapshot, code }),
+            Err(_) => {
+                drop(snapshot);
+                Err(Refusal::NoMemory)
+            }
+        }
     }
 
     /// What the scan begins from.
@@ -47,12 +60,32 @@ impl Plan {
         &self.snapshot
     }
 
+    /// The code of the scan.
+    pub fn code(&self) -> &Code
+        ensures code { result.now ≡ compiled self.now.settings }
+        ensures unfolds { Unfolds result.now.steps (agenda self.now.settings) }
+        ensures ready { IsReady self.now }
+    {
+        &self.code
+    }
+
     /// What the scan begins from, as a value.
     pub fn into_snapshot(self) -> Snapshot
         ensures snapshot { result ≡ self }
         ensures ready { IsReady self }
     {
-        let Plan { snapshot } = self;
+        let Plan { snapshot, .. } = self;
         snapshot
+    }
+
+    /// What the scan begins from, and its code.
+    pub fn into_parts(self) -> (Snapshot, Code)
+        ensures snapshot { result.0 ≡ self }
+        ensures code { result.1 ≡ compiled self.settings }
+        ensures unfolds { Unfolds result.1.steps (agenda self.settings) }
+        ensures ready { IsReady self }
+    {
+        let Plan { snapshot, code } = self;
+        (snapshot, code)
     }
 }
