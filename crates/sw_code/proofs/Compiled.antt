@@ -16,7 +16,7 @@ use Rattle.sw_code.specs.Compiled.{line, steps_of, passes_tree, tree_of}
 use Rattle.sw_trigger.proofs.Awaiting.{agenda_is}
 use Rattle.sw_code.proofs.Unfolding.{unfolds}
 
-meaning-line : (xs : List Item) (rest : Tree) → meaning (line xs rest) ≡ xs ++ meaning rest
+pub meaning-line : (xs : List Item) (rest : Tree) → meaning (line xs rest) ≡ xs ++ meaning rest
 meaning-line [] rest = refl
 meaning-line (x ∷ xs) rest = ap (λ (l : List Item). x ∷ l) (meaning-line xs rest)
 
@@ -66,7 +66,7 @@ rounds s (suc q) r =
     ∙ ap (λ (l : List Item). passes s 0 n ++ l) (passes-round s 0 (q * n + r) ∙ rounds s q r)
     ∙ sym (append_assoc (passes s 0 n) (repeated q (passes s 0 n)) (passes s 0 r))
 
-meaning-passes : (s : Setup) → meaning (passes_tree s) ≡ passes s 0 s.trigger.count
+pub meaning-passes : (s : Setup) → meaning (passes_tree s) ≡ passes s 0 s.trigger.count
 meaning-passes s = at (s.trigger.count / length s.list) (s.trigger.count % length s.list) (div-add-mod' s.trigger.count (length s.list)) where
   left : (r : ℕ) → meaning (line (passes s 0 r) Nil) ≡ passes s 0 r
   left r = meaning-line (passes s 0 r) Nil ∙ append-nil (passes s 0 r)
@@ -80,7 +80,7 @@ meaning-passes s = at (s.trigger.count / length s.list) (s.trigger.count % lengt
       ∙ ap (λ (l : List Item). repeated (suc q) (passes s 0 (length s.list)) ++ l) (left r)
       ∙ sym (rounds s (suc q) r) ∙ ap (passes s 0) e
 
-meaning-tree : (s : Setup) → 0 < length s.list → meaning (tree_of s) ≡ agenda s
+pub meaning-tree : (s : Setup) → 0 < length s.list → meaning (tree_of s) ≡ agenda s
 meaning-tree s h =
     let arm2 : meaning (line (map Awaits (head_of Arm2 s.arm2)) (passes_tree s)) ≡ arm2_turn s =
     meaning-line (map Awaits (head_of Arm2 s.arm2)) (passes_tree s) ∙ ap (λ (l : List Item). map Awaits (head_of Arm2 s.arm2) ++ l) (meaning-passes s) in
@@ -103,7 +103,7 @@ nested-passes s used free = at (s.trigger.count / length s.list) where
         nested-line used (passes s 0 (s.trigger.count % length s.list)) Nil tt,
       )
 
-nested-tree : (s : Setup) → IsInRange s → IsNested (λ k. false) (tree_of s)
+pub nested-tree : (s : Setup) → IsInRange s → IsNested (λ k. false) (tree_of s)
 nested-tree s i = (
   i.arm1.count.0,
   refl,

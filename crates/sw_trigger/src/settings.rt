@@ -195,7 +195,8 @@ impl Settings {
 
     /// How many readings there is room for.
     pub fn points(&self) -> u32
-        ensures { result ≡ self.now.points }
+        ensures points { result ≡ self.now.points }
+        ensures range { IsInRange self.now }
     {
         self.points
     }

@@ -51,14 +51,14 @@ used_from p s a =
     all_from p s.list s.trigger.count (0, 0) (λ j k l. subst (λ (i : ℕ). p (get_or s.list i (0, 0)) ≡ true) (mod-eq_of_lt l) (a j k))
 
 -- a channel of the list passes the test exactly where the list's test says so
-any_among : (p : Channel → Bool) (xs : List Channel) (x : Channel) → is_among xs x ≡ true → p x ≡ true → list_any p xs ≡ true
+pub any_among : (p : Channel → Bool) (xs : List Channel) (x : Channel) → is_among xs x ≡ true → p x ≡ true → list_any p xs ≡ true
 any_among p [] x m h = absurd (cc m)
 any_among p (y ∷ ys) x m h =
     ⊎_elim (λ (e : same_channel x y ≡ true). or_left (p y) (list_any p ys) (ap p (sym (same_channel_is x y e)) ∙ h))
     (λ (e : is_among ys x ≡ true). or_right (p y) (list_any p ys) (any_among p ys x e h))
     (or_cases (same_channel x y) (is_among ys x) m)
 
-among_any : (p : Channel → Bool) (xs : List Channel) → list_any p xs ≡ true → (x : Channel) × (is_among xs x ≡ true) × (p x ≡ true)
+pub among_any : (p : Channel → Bool) (xs : List Channel) → list_any p xs ≡ true → (x : Channel) × (is_among xs x ≡ true) × (p x ≡ true)
 among_any p [] h = absurd (cc h)
 among_any p (y ∷ ys) h =
     ⊎_elim (λ (e : p y ≡ true). (y, or_left (same_channel y y) (is_among ys y) (same_channel_self y), e))

@@ -3,5 +3,10 @@ pub mod Checked
 pub mod Throughout
 pub mod First
 pub mod Nesting
-pub mod Looked
+pub mod Rows
+pub mod Ledgers
+pub mod Looking
 pub mod Whole
+pub mod Complete
+pub mod Limits
+pub mod Denying

@@ -18,9 +18,7 @@ use Rattle.sw_trigger.specs.Counts.{awaiting, reads}
 use Rattle.sw_base.specs.Layout.{has_meter}
 use Rattle.sw_code.specs.Range.{Program, IsStep, IsInRange}
 use Rattle.sw_verify.specs.Channels.{is_among}
-use Rattle.sw_verify.specs.Look.{look_in}
 use Rattle.sw_verify.specs.Judged.{HasCounts, IsVerified}
-use Rattle.sw_verify.proofs.Looked.{looked_from_start}
 use Rattle.sw_verify.specs.Sound.{AllRight, effect, IsSound}
 use Rattle.sw_code.specs.Tree.{Tree, Nil, Then, Times, step_of, size, flatten, meaning, IsNested}
 use Rattle.sw_verify.specs.Nest.{in_use, at_loop, fault_in, AreCounted, StepsRight, tally, every, is_read}
@@ -312,14 +310,10 @@ verified layout b code room w h s k =
     )
 
 -- what the looks and counts of a code say
-pub judged : (layout : Layout) (closed : List Channel) (code : Program) (room bound readings : ℕ) (s1 s2 s3 : List Step) → IsInRange code → s1 ≡ code.steps → s2 ≡ code.steps → s3 ≡ code.steps → None ≡ fault_in s1 0 [] → None ≡ look_in layout closed s2 [] [] → has_meter layout code.meter ≡ true → bound ≡ tally every s3 1 [] → readings ≡ tally is_read s3 1 [] → readings ≤ room → IsVerified layout (is_among closed) room code (record { code = code; bound = bound; readings = readings })
-judged layout closed code room bound readings s1 s2 s3 i e1 e2 e3 fault wrong meter b r most =
-    let f : fault_in code.steps 0 [] ≡ None = ap (λ (l : List Step). fault_in l 0 []) (sym e1) ∙ sym fault in
-    let w : look_in layout closed code.steps [] [] ≡ None = ap (λ (l : List Step). look_in layout closed l [] []) (sym e2) ∙ sym wrong in
-    let n : readings ≡ tally is_read code.steps 1 [] = r ∙ ap (λ (l : List Step). tally is_read l 1 []) e3 in
-    let m : bound ≡ tally every code.steps 1 [] = b ∙ ap (λ (l : List Step). tally every l 1 []) e3 in
+pub judged : (layout : Layout) (b : Channels) (code : Program) (room bound readings : ℕ) → IsInRange code → fault_in code.steps 0 [] ≡ None → StepsRight layout code.steps b none [] → has_meter layout code.meter ≡ true → bound ≡ tally every code.steps 1 [] → readings ≡ tally is_read code.steps 1 [] → readings ≤ room → IsVerified layout b room code (record { code = code; bound = bound; readings = readings })
+judged layout b code room bound readings i nested right meter m n most =
     let few : tally is_read code.steps 1 [] ≤ room = subst (λ (x : ℕ). x ≤ room) n most in
-    let all = verified layout (is_among closed) code.steps room (counted code.steps i.steps) f (looked_from_start layout closed code.steps w) few in
+    let all = verified layout b code.steps room (counted code.steps i.steps) nested right few in
     record { same = refl; measured = meter; items = all.0; unfolds = all.1; sound = all.2; bound = m ∙ all.4; readings = n ∙ all.3 }
 
 pub has_counts : (layout : Layout) (closed : Channels) (room : ℕ) (code : Program) (bound readings : ℕ) → IsVerified layout closed room code (record { code = code; bound = bound; readings = readings }) → HasCounts (record { code = code; bound = bound; readings = readings })

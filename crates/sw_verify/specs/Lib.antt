@@ -5,7 +5,9 @@ pub mod Marks
 pub mod Check
 pub mod Moments
 pub mod Nest
-pub mod Look
+pub mod Stops
+pub mod Ledger
 pub mod Judged
 pub mod VerifiedSeen
 pub mod PlanSeen
+pub mod Denied

@@ -1,5 +1,5 @@
 -- What the verifier looks at, each step once.
-use Rattle.std.specs.Prelude.{◌≡◌, ℕ, ◌+◌, ◌*◌, ◌<◌, ◌==◌, Bool, true, false, not, List, [], ◌∷◌, Option, Some, None, if◌then◌else◌}
+use Rattle.std.specs.Prelude.{◌≡◌, ℕ, ◌+◌, ◌*◌, ◌<◌, ◌≤◌, ◌==◌, Bool, true, false, not, List, [], ◌∷◌, Option, Some, None, if◌then◌else◌}
 use Rattle.std.specs.List.{list_any}
 use Rattle.sw_base.specs.Layout.{Layout}
 use Rattle.sw_code.specs.declared.code.Step.{Step}
@@ -93,3 +93,23 @@ tally counts (step.Read ∷ steps) f gs = tally_item counts Read f (tally counts
 tally counts (step.Open c ∷ steps) f gs = tally counts steps f gs
 tally counts (step.Loop k to ∷ steps) f gs = tally_loop gs (tally counts steps)
 tally counts (step.Halt ∷ steps) f gs = 0
+
+-- each factor is at most 10^15
+abbrev pub Limited : ℕ → Type 0
+Limited f = f ≤ 1000000000000000
+
+abbrev pub limited_loop : List ℕ → (ℕ → List ℕ → Type 0) → Type 0
+limited_loop [] go = ⊥
+limited_loop (g ∷ gs) go = Limited g × go g gs
+
+-- each step is done at most 10^15 times, f times the one that comes next, and as often as these what follows the ends of the loops
+abbrev pub AreLimited : List Step → ℕ → List ℕ → Type 0
+AreLimited [] f gs = Unit {0}
+AreLimited (step.Set k n ∷ steps) f gs = Limited (f * n) × AreLimited steps (f * n) (f ∷ gs)
+AreLimited (step.Wait name ∷ steps) f gs = AreLimited steps f gs
+AreLimited (step.Pause micros ∷ steps) f gs = AreLimited steps f gs
+AreLimited (step.Close c ∷ steps) f gs = AreLimited steps f gs
+AreLimited (step.Read ∷ steps) f gs = AreLimited steps f gs
+AreLimited (step.Open c ∷ steps) f gs = AreLimited steps f gs
+AreLimited (step.Loop k to ∷ steps) f gs = limited_loop gs (AreLimited steps)
+AreLimited (step.Halt ∷ steps) f gs = Unit {0}

@@ -15,6 +15,7 @@
 
 pub mod laws;
 mod layout;
+mod ledger;
 mod look;
 mod marks;
 mod nest;

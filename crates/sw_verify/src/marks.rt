@@ -1,6 +1,6 @@
 //! The closed channels and their groups as rows of flags, so that an entry is judged without a walk over them.
 
-ghost use Rattle.std.specs.Prelude.{◌≡◌, ◌<◌};
+ghost use Rattle.std.specs.Prelude.{◌≡◌, length};
 ghost use Rattle.std.specs.List.{list_all};
 ghost use Rattle.sw_verify.specs.Marks.{place, IsChannel, ChannelMarks, GroupMarks, is_free};
 
@@ -8,7 +8,7 @@ use crate::layout::Layout;
 use sw_base::Chan;
 
 /// A place for each channel: its slot, up to 8, times 100 and its number, up to 99.
-const PLACES: usize = 900;
+pub const PLACES: usize = 900;
 
 /// Whether each of the channels is open, and has no closed channel in its nonzero group.
 pub fn are_free(layout: &Layout, closed: &[Chan], channels: &[Chan]) -> bool
@@ -25,8 +25,9 @@ pub fn are_free(layout: &Layout, closed: &[Chan], channels: &[Chan]) -> bool
     true
 }
 
-fn channel_marks(channels: &[Chan]) -> [bool; PLACES]
-    ensures { ChannelMarks channels.now result }
+pub fn channel_marks(channels: &[Chan]) -> [bool; PLACES]
+    ensures marks { ChannelMarks channels.now result }
+    ensures size { length result ≡ 900 }
 {
     let mut marks = [false; PLACES];
     for c in channels {
@@ -35,8 +36,9 @@ fn channel_marks(channels: &[Chan]) -> [bool; PLACES]
     marks
 }
 
-fn group_marks(layout: &Layout, channels: &[Chan]) -> [bool; 256]
-    ensures { GroupMarks layout.now channels.now result }
+pub fn group_marks(layout: &Layout, channels: &[Chan]) -> [bool; 256]
+    ensures marks { GroupMarks layout.now channels.now result }
+    ensures size { length result ≡ 256 }
 {
     let mut marks = [false; 256];
     for c in channels {
@@ -45,7 +47,7 @@ fn group_marks(layout: &Layout, channels: &[Chan]) -> [bool; 256]
     marks
 }
 
-fn place(c: Chan) -> usize
+pub fn place(c: Chan) -> usize
     ensures place { result ≡ place c }
     ensures channel { IsChannel c }
 {

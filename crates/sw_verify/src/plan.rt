@@ -4,11 +4,13 @@ ghost use Rattle.std.specs.Prelude.{◌≡◌, IfOk, IfErr};
 ghost use Rattle.sw_trigger.specs.Agenda.{agenda};
 ghost use Rattle.sw_code.specs.Code.{Unfolds};
 ghost use Rattle.sw_code.specs.Compiled.{compiled};
+ghost use Rattle.sw_verify.specs.declared.refusal.Refusal.TheVariants.{NoMemory};
 ghost use Rattle.sw_verify.specs.Check.{IsReady, IsRefused};
 
 use crate::ready::check;
 use crate::refusal::Refusal;
 use crate::snapshot::Snapshot;
+use crate::verified::verify;
 use std::alloc::Global;
 use std::marker::Model;
 use sw_code::{Code, compile};
@@ -35,19 +37,19 @@ impl Model for Plan {
 }
 
 impl Plan {
-    /// The plan of a snapshot that passes the check; else the first refusal that applies, or `NoMemory` where the code
-    /// found no room.
+    /// The plan of a snapshot that passes the check, by code that was verified; else the first refusal that applies, or
+    /// `NoMemory`.
     pub fn make(alloc: Global, snapshot: Snapshot) -> Result<Plan, Refusal>
         ensures ready { IfOk result (λ p. IsReady snapshot) }
         ensures plan { IfOk result (λ p. p ≡ snapshot) }
         ensures refused { IfErr result (λ r. IsRefused r snapshot) }
     {
         check(&snapshot)?;
-        match compile(alloc, &snapshot.settings) {
+        match verified_code(alloc, &snapshot) {
             Ok(code) => Ok(Plan { snapshot, code }),
-            Err(_) => {
+            Err(refusal) => {
                 drop(snapshot);
-                Err(Refusal::NoMemory)
+                Err(refusal)
             }
         }
     }
@@ -88,4 +90,20 @@ impl Plan {
         let Plan { snapshot, code } = self;
         (snapshot, code)
     }
+}
+
+/// The code of a snapshot that passed the check. The verifier refuses none but for want of memory.
+fn verified_code(alloc: Global, snapshot: &Snapshot) -> Result<Code, Refusal>
+    requires ready { IsReady snapshot.now }
+    ensures code { IfOk result (λ code. code ≡ compiled snapshot.now.settings) }
+    ensures unfolds { IfOk result (λ code. Unfolds code.steps (agenda snapshot.now.settings)) }
+    ensures refused { IfErr result (λ r. r ≡ NoMemory) }
+{
+    let settings = &snapshot.settings;
+    let Ok(code) = compile(alloc, settings) else {
+        return Err(Refusal::NoMemory);
+    };
+    let closed = snapshot.closed.as_slice();
+    let verified = verify(alloc, code, &snapshot.layout, closed, settings.points())?;
+    Ok(verified.into_code())
 }

@@ -1,7 +1,7 @@
 //! How many things a code awaits over its whole run, by one visit of each step.
 
-ghost use Rattle.std.specs.Prelude.{◌≡◌, [], IfOk, IfSome};
-ghost use Rattle.sw_verify.specs.Nest.{tally, every, is_read};
+ghost use Rattle.std.specs.Prelude.{◌≡◌, ◌≤◌, [], length, IfOk};
+ghost use Rattle.sw_verify.specs.Nest.{AreLimited, tally, every, is_read};
 
 use std::alloc::{AllocError, Global};
 use sw_code::Step;
@@ -13,49 +13,34 @@ pub struct Counts {
     pub readings: u128,
 }
 
-/// The counts of a code whose loops are nested; none where one is 2^128 or more.
-pub fn tally(alloc: Global, steps: &[Step]) -> Result<Option<Counts>, AllocError>
-    ensures bound { IfOk result (λ r. IfSome r (λ x. x.bound ≡ tally every steps.now 1 [])) }
-    ensures readings { IfOk result (λ r. IfSome r (λ x. x.readings ≡ tally is_read steps.now 1 [])) }
+/// The counts of a code whose loops are nested. Each step is done at most 10^15 times, so 128 bits hold them.
+pub fn tally(alloc: Global, steps: &[Step]) -> Result<Counts, AllocError>
+    requires length { length steps.now ≤ 8192 }
+    requires limited { AreLimited steps.now 1 [] }
+    ensures bound { IfOk result (λ x. x.bound ≡ tally every steps.now 1 []) }
+    ensures readings { IfOk result (λ x. x.readings ≡ tally is_read steps.now 1 []) }
 {
-    let mut bound: u128 = 0;
-    let mut readings: u128 = 0;
-    let mut factor: u128 = 1;
+    let mut counts = Counts {
+        bound: 0,
+        readings: 0,
+    };
+    let mut turns: u128 = 1;
     let mut saved = Vec::new(alloc);
     for i in 0..steps.len() {
         match steps[i] {
             Step::Set(_, count) => {
-                saved.insert(0, factor)?;
-                let Some(more) = factor.checked_mul(u128::from(count)) else {
-                    return Ok(None);
-                };
-                factor = more;
+                saved.insert(0, turns)?;
+                turns *= u128::from(count);
             }
-            Step::Loop(_, _) => {
-                if saved.is_empty() {
-                    return Ok(None);
-                }
-                factor = saved.remove(0);
-            }
-            Step::Wait(_) | Step::Pause(_) => {
-                let Some(more) = bound.checked_add(factor) else {
-                    return Ok(None);
-                };
-                bound = more;
-            }
+            Step::Loop(_, _) => turns = saved.remove(0),
+            Step::Wait(_) | Step::Pause(_) => counts.bound += turns,
             Step::Read => {
-                let Some(more) = bound.checked_add(factor) else {
-                    return Ok(None);
-                };
-                let Some(more_readings) = readings.checked_add(factor) else {
-                    return Ok(None);
-                };
-                bound = more;
-                readings = more_readings;
+                counts.bound += turns;
+                counts.readings += turns;
             }
-            Step::Halt => return Ok(Some(Counts { bound, readings })),
+            Step::Halt => return Ok(counts),
             Step::Close(_) | Step::Open(_) => {}
         }
     }
-    Ok(Some(Counts { bound, readings }))
+    Ok(counts)
 }

@@ -1,8 +1,11 @@
 //! Scan code that was verified.
 
-ghost use Rattle.std.specs.Prelude.{◌≡◌, IfOk};
+ghost use Rattle.std.specs.Prelude.{◌≡◌, ℕ, true, IfOk, IfErr};
+ghost use Rattle.sw_base.specs.Layout.{has_meter};
 ghost use Rattle.sw_verify.specs.Channels.{is_among};
+ghost use Rattle.sw_verify.specs.declared.refusal.Refusal.TheVariants.{NoMemory};
 ghost use Rattle.sw_verify.specs.Judged.{IsVerified, HasCounts};
+ghost use Rattle.sw_verify.specs.Denied.{IsInOrder, IsDenied, IsPlanned};
 
 use crate::layout::Layout;
 use crate::look::look;
@@ -58,10 +61,19 @@ impl Verified {
     {
         &self.code
     }
+
+    /// The code, as a value.
+    pub fn into_code(self) -> Code
+        ensures code { result ≡ self.code }
+        ensures counts { HasCounts self }
+    {
+        let Verified { code, .. } = self;
+        code
+    }
 }
 
 /// The code with its counts, where it may be done with these cards, while these channels are closed and there is room for
-/// so many readings; else a refusal.
+/// so many readings; else the first refusal that applies.
 ///
 /// It visits each step once, however often the loops make it.
 pub fn verify(
@@ -72,6 +84,29 @@ pub fn verify(
     points: u32,
 ) -> Result<Verified, Refusal>
     ensures sound { IfOk result (λ v. IsVerified layout.now (is_among closed.now) points code v) }
+    ensures refused { IfErr result (λ r. IsDenied layout.now (is_among closed.now) points code r) }
+    // What settings that pass the check compile to is refused for want of memory alone.
+    ensures complete { IfErr result (λ r. IsPlanned layout.now (is_among closed.now) points code → r ≡ NoMemory) }
+{
+    in_order(alloc, &code, layout, closed)?;
+    let Ok(counts) = tally(alloc, code.steps()) else {
+        return Err(Refusal::NoMemory);
+    };
+    if counts.readings > u128::from(points) {
+        return Err(Refusal::TooManyReadings);
+    }
+    Ok(Verified {
+        code,
+        bound: counts.bound,
+        readings: counts.readings,
+    })
+}
+
+/// Whether its loops are nested, each step may be done and its meter is there; else the first refusal that applies.
+fn in_order(alloc: Global, code: &Code, layout: &Layout, closed: &[Chan]) -> Result<(), Refusal>
+    ensures order { IfOk result (λ u. IsInOrder layout.now (is_among closed.now) code.now) }
+    ensures meter { IfOk result (λ u. has_meter layout.now code.now.meter ≡ true) }
+    ensures refused { IfErr result (λ r. (room : ℕ) → IsDenied layout.now (is_among closed.now) room code.now r) }
 {
     match nesting(alloc, code.steps()) {
         Err(_) => return Err(Refusal::NoMemory),
@@ -86,18 +121,5 @@ pub fn verify(
     if !layout.has_meter(code.meter()) {
         return Err(Refusal::NoMeter);
     }
-    match tally(alloc, code.steps()) {
-        Err(_) => Err(Refusal::NoMemory),
-        Ok(None) => Err(Refusal::TooManyReadings),
-        Ok(Some(counts)) => {
-            if counts.readings > u128::from(points) {
-                return Err(Refusal::TooManyReadings);
-            }
-            Ok(Verified {
-                code,
-                bound: counts.bound,
-                readings: counts.readings,
-            })
-        }
-    }
+    Ok(())
 }

@@ -1,0 +1,77 @@
+//! What is closed while the verifier looks at a code's steps, as rows of flags.
+
+ghost use Rattle.std.specs.Prelude.{◌≡◌, ◌<◌, true, false, OnOk, IfErr};
+ghost use Rattle.sw_base.specs.Layout.{Channel};
+ghost use Rattle.sw_verify.specs.declared.refusal.Refusal.TheVariants.{NotClosed};
+ghost use Rattle.sw_verify.specs.Channels.{Channels, none, is_among, with_channel, without};
+ghost use Rattle.sw_verify.specs.Sound.{CanClose};
+ghost use Rattle.sw_verify.specs.Stops.{IsBarred};
+ghost use Rattle.sw_verify.specs.Ledger.{Shows, is_taken};
+
+use crate::layout::Layout;
+use crate::marks::{PLACES, channel_marks, group_marks, place};
+use crate::refusal::Refusal;
+use sw_base::Chan;
+
+/// What was closed at the start, what the code closed since, and the groups of both.
+#[derive(Drop)]
+pub struct Ledger {
+    found: [bool; PLACES],
+    pub mine: [bool; PLACES],
+    groups: [bool; 256],
+}
+
+impl Ledger {
+    pub fn new(layout: &Layout, closed: &[Chan]) -> Ledger
+        ensures { Shows layout.now (is_among closed.now) (is_among closed.now) none result }
+    {
+        Ledger {
+            found: channel_marks(closed),
+            mine: [false; PLACES],
+            groups: group_marks(layout, closed),
+        }
+    }
+
+    /// Closes a channel, where it is there, is open and shares a group with no closed one.
+    pub fn close(&mut self, layout: &Layout, c: Chan) -> Result<(), Refusal>
+        ensures closed { OnOk result ((start b m : Channels) → Shows layout.now start b m self.old
+            → CanClose layout.now b c × Shows layout.now start (with_channel c b) (with_channel c m) self.new) }
+        ensures barred { IfErr result (λ r. (start b m : Channels) → Shows layout.now start b m self.old
+            → IsBarred layout.now b c r) }
+    {
+        if !layout.has_channel(c) {
+            return Err(Refusal::NoChannel);
+        }
+        let at = place(c);
+        let group = layout.group(c);
+        if self.is_taken(at, group) {
+            return Err(Refusal::GroupClash);
+        }
+        self.mine[at] = true;
+        self.groups[usize::from(group)] = true;
+        Ok(())
+    }
+
+    /// Opens a channel, where the code closed it.
+    pub fn open(&mut self, layout: &Layout, c: Chan) -> Result<(), Refusal>
+        ensures opened { OnOk result ((start b m : Channels) → Shows layout.now start b m self.old
+            → (m c ≡ true) × Shows layout.now start (without c b) (without c m) self.new) }
+        ensures refused { IfErr result (λ r. (r ≡ NotClosed) × ((start b m : Channels)
+            → Shows layout.now start b m self.old → m c ≡ false)) }
+    {
+        let at = place(c);
+        if !self.mine[at] {
+            return Err(Refusal::NotClosed);
+        }
+        self.mine[at] = false;
+        self.groups[usize::from(layout.group(c))] = false;
+        Ok(())
+    }
+
+    fn is_taken(&self, at: usize, group: u8) -> bool
+        requires { at < 900 }
+        ensures { result ≡ is_taken self.now at group }
+    {
+        self.found[at] || self.mine[at] || (group != 0 && self.groups[usize::from(group)])
+    }
+}
