@@ -5,7 +5,9 @@ mod ComparedListLemmas
 pub mod ClaimLemmas
 pub mod ExclusionLemmas
 mod OneSlotLemmas
-pub mod TurnLemmas
+pub mod StepLemmas
+pub mod VisitLemmas
+pub mod WayLemmas
 pub mod PlaceLemmas
 pub mod LayoutLemmas
 pub mod KeptLemmas

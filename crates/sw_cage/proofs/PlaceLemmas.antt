@@ -1,6 +1,6 @@
 -- Places in an agenda.
 use Rattle.std.proofs.Common.{◌≡◌, ℕ, zero, suc, ◌+◌, ◌*◌, ◌<◌, ◌≤◌, ◌^◌, Bool, true, false, List, [], ◌∷◌, ◌++◌, length, drop, map, cond, eqb, Option, Some}
-use Rattle.std.proofs.Common.{None, refl, sym, ap, ◌∙◌, arith, length-append, length-drop}
+use Rattle.std.proofs.Common.{None, refl, sym, ap, ◌∙◌, subst, arith, length-append, length-drop}
 use Rattle.std.proofs.Math.Seq.{drop-drop, drop-append_seam}
 use Rattle.std.proofs.Math.Nat.{suc-mul}
 use Rattle.std.proofs.lemmas.Nat.{mul-le}
@@ -18,30 +18,16 @@ use Rattle.sw_trigger.specs.Agenda.{Item, Awaits, Close, Open, repeated, wait_of
 use Rattle.sw_trigger.specs.Agenda.{agenda}
 use Rattle.sw_trigger.proofs.Repeats.{length-repeated}
 use Rattle.sw_trigger.proofs.Awaiting.{agenda_is}
-use Rattle.sw_cage.specs.declared.scan.walk.Walk.{Walk}
-use Rattle.sw_cage.specs.declared.scan.walk.Moves.{Moves}
-use Rattle.sw_cage.specs.declared.scan.walk.Phase.{Phase}
-use Rattle.sw_cage.specs.declared.scan.walk.Phase.TheVariants.{Arm1Wait, Arm1Pause, Arm2Wait, Arm2Pause, TriggerWait, TriggerPause, Reading}
+use Rattle.sw_cage.specs.declared.scan.steps.Moves.{Moves}
 use Rattle.sw_cage.specs.Cage.{ScanSeen}
 use Rattle.sw_cage.specs.Advance.{leading_moves, first_awaited, opens_of, closes_of, moves_from, next_place}
-use Rattle.sw_cage.specs.Walk.{rest_at, rest_of, rest_after, awaited_at, awaited_of, moves_of}
-
--- what is left begins with what is awaited
-rest_awaits : (s : Setup) (a b k : ℕ) (p : Phase) → (l : List Item) × (rest_at s a b k p ≡ Awaits (awaited_at s p) ∷ l)
-rest_awaits s a b k Arm1Wait = (_, refl)
-rest_awaits s a b k Arm1Pause = (_, refl)
-rest_awaits s a b k Arm2Wait = (_, refl)
-rest_awaits s a b k Arm2Pause = (_, refl)
-rest_awaits s a b k TriggerWait = (_, refl)
-rest_awaits s a b k TriggerPause = (_, refl)
-rest_awaits s a b k Reading = (_, refl)
-
-leading_rest : (s : Setup) (w : Option Walk) → leading_moves (rest_after s w) ≡ []
-leading_rest s None = refl
-leading_rest s (Some w) = ap leading_moves (rest_awaits s w.arm1_left w.arm2_left w.pass w.phase).1
-
-pub first_rest : (s : Setup) (w : Walk) → first_awaited (rest_of s w) ≡ Some (awaited_of s w)
-first_rest s w = ap first_awaited (rest_awaits s w.arm1_left w.arm2_left w.pass w.phase).1
+use Rattle.sw_code.specs.declared.code.Step.{Step}
+use Rattle.sw_cage.specs.declared.scan.steps.Place.{Place}
+use Rattle.std.specs.List.{slice_get}
+use Rattle.sw_cage.specs.declared.scan.steps.Way.{Way}
+use Rattle.sw_cage.specs.Steps.{Does, IsResting, AreVisitsOn, LeadsOn, moves_of}
+use Rattle.sw_cage.proofs.StepLemmas.{first_of_rest}
+use Rattle.sw_cage.proofs.VisitLemmas.{visits-agenda, visits_past}
 
 moves_lead : (o c : Option Channel) (l : List Item) → leading_moves l ≡ [] → leading_moves ((opens_of o ++ closes_of c) ++ l) ≡ opens_of o ++ closes_of c
 moves_lead None None l h = h
@@ -49,24 +35,64 @@ moves_lead None (Some c) l h = ap (λ (m : List Item). Close c ∷ m) h
 moves_lead (Some o) None l h = ap (λ (m : List Item). Open o ∷ m) h
 moves_lead (Some o) (Some c) l h = ap (λ (m : List Item). Open o ∷ Close c ∷ m) h
 
--- from item i, over the moves, to what is left then
-pub behind : (a : List Item) (i : ℕ) (x : Awaited) (m r : List Item) → drop i a ≡ Awaits x ∷ (m ++ r) → drop (i + 1) a ≡ m ++ r
-behind a i x m r at = sym (drop-drop 1 i a) ∙ ap (drop 1) at
+-- what is left where something is awaited
+pub some_awaited : (l : List Item) → (first_awaited l ≡ None → ⊥) → (what : Awaited) × (first_awaited l ≡ Some what) × (l ≡ Awaits what ∷ drop 1 l)
+some_awaited [] h = absurd (h refl)
+some_awaited (Awaits what ∷ l) h = (what, refl, refl)
+some_awaited (Close c ∷ l) h = absurd (h refl)
+some_awaited (Open c ∷ l) h = absurd (h refl)
 
-pub short_of : (a : List Item) (i : ℕ) (x : Awaited) (m r : List Item) → drop i a ≡ Awaits x ∷ (m ++ r) → i + 1 + length m ≤ length a
-short_of a i x m r at = omega (arith, ap length at, length-drop i a, length-append m r)
+module _ (code : List Step) (at : Place) (s : Setup) (i : ℕ) (does : Does code at (drop i (agenda s))) (awaited : first_awaited (drop i (agenda s)) ≡ None → ⊥) where
+  abbrev pub what_there : Awaited
+  what_there = (some_awaited (drop i (agenda s)) awaited).0
 
--- the moves of a step are all up to the next awaiting item, and end where the next item is awaited
-module _ (s : Setup) (i : ℕ) (moves : Moves) (at : Option Walk) (e : drop i (agenda s) ≡ moves_of moves ++ rest_after s at) where
+  pub behind : drop i (agenda s) ≡ Awaits what_there ∷ drop (i + 1) (agenda s)
+  behind = (some_awaited (drop i (agenda s)) awaited).2 ∙ ap (λ (l : List Item). Awaits what_there ∷ l) (drop-drop 1 i (agenda s))
+
+  pub does_there : Does code at (Awaits what_there ∷ drop (i + 1) (agenda s))
+  does_there = subst (Does code at) behind does
+
+  pub visits_there : 0 < length s.list → AreVisitsOn (drop (i + 1) (agenda s))
+  visits_there h = visits_past (agenda s) i what_there (visits-agenda s h) (some_awaited (drop i (agenda s)) awaited).1
+
+  pub short_of : (m r : List Item) → drop (i + 1) (agenda s) ≡ m ++ r → i + 1 + length m ≤ length (agenda s)
+  short_of m r e = omega (arith, ap length behind, ap length e, length-drop i (agenda s), length-append m r)
+
+-- the moves of a way are all up to the next awaiting item, and end where the next item is awaited
+module _ (s : Setup) (i : ℕ) (moves : Moves) (rest : List Item) (lead : leading_moves rest ≡ []) (e : drop i (agenda s) ≡ moves_of moves ++ rest) where
   pub way_is : moves_of moves ≡ moves_from s i
-  way_is = sym (ap leading_moves e ∙ moves_lead moves.to_open moves.to_close (rest_after s at) (leading_rest s at))
+  way_is = sym (ap leading_moves e ∙ moves_lead moves.to_open moves.to_close rest lead)
 
-  pub rest_there : drop (i + length (moves_of moves)) (agenda s) ≡ rest_after s at
-  rest_there = sym (drop-drop (length (moves_of moves)) i (agenda s)) ∙ ap (drop (length (moves_of moves))) e ∙ drop-append_seam (moves_of moves)
-      (rest_after s at)
+  pub rest_there : drop (i + length (moves_of moves)) (agenda s) ≡ rest
+  rest_there = sym (drop-drop (length (moves_of moves)) i (agenda s)) ∙ ap (drop (length (moves_of moves))) e ∙ drop-append_seam (moves_of moves) rest
 
   pub place_is : (n : ℕ) → n ≡ i + length (moves_of moves) → (let p : ScanSeen = record { setup = s; index = n } in p) ≡ next_place s i
   place_is n h = ap (λ (k : ℕ). let p : ScanSeen = record { setup = s; index = k } in p) (h ∙ ap (λ (l : List Item). i + length l) way_is)
+
+-- where a way has led
+pub record Stands (code : List Step) (items : List Item) (way : Way) : Type 0 where
+  pub rest : List Item
+  pub split : items ≡ moves_of way.moves ++ rest
+  pub does : Does code way.at rest
+  pub rests : IsResting (slice_get code way.at.step)
+  pub lead : leading_moves rest ≡ []
+
+pub stands : (code : List Step) (items : List Item) (way : Way) → LeadsOn code items way → Stands code items way
+stands code items way l = record {
+  rest = l.rest;
+  split = l.split;
+  does = l.does;
+  rests = l.rests;
+  lead = first_of_rest code way.at l.rest l.rests l.does;
+}
+
+-- past what is awaited
+pub leads_on : (code : List Step) (at : Place) (s : Setup) (i : ℕ) (does : Does code at (drop i (agenda s))) (awaited : first_awaited (drop i (agenda s)) ≡ None → ⊥)
+    → 0 < length s.list → (way : Way) → ((what : Awaited) (items : List Item) → Does code at (Awaits what ∷ items) → AreVisitsOn items → LeadsOn code items way)
+    → Stands code (drop (i + 1) (agenda s)) way
+leads_on code at s i does awaited listed way leads =
+    stands code (drop (i + 1) (agenda s)) way
+    (leads (what_there code at s i does awaited) (drop (i + 1) (agenda s)) (does_there code at s i does awaited) (visits_there code at s i does awaited listed))
 
 -- how long an agenda is at most
 length-wait : (name : LayerName) (source : Source) → length (wait_of name source) ≤ 1

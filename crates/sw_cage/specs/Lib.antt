@@ -6,7 +6,7 @@ pub mod Claims
 pub mod Channels
 pub mod Cage
 pub mod Advance
-pub mod Walk
+pub mod Steps
 pub mod Work
 pub mod ScanPlace
 pub mod Good

@@ -11,6 +11,7 @@ ghost use Rattle.sw_cage.specs.Install.{CanInstall, RefusesInstall, RefusesEject
 ghost use Rattle.sw_cage.specs.Close.{all_present, CanClose, RefusesClose};
 ghost use Rattle.sw_cage.specs.Channels.{closed_list};
 ghost use Rattle.sw_cage.specs.Cage.{empty_cage, with_cards, safe_state, cage_layout};
+ghost use Rattle.sw_code.specs.Compiled.{compiled};
 ghost use Rattle.sw_verify.specs.Check.{IsReady};
 ghost use Rattle.sw_cage.specs.Work.{IsTold};
 ghost use Rattle.sw_cage.specs.Good.{IsGood};
@@ -29,6 +30,7 @@ use std::alloc::{AllocError, Global};
 use std::marker::Model;
 use sw_base::{Chan, Reading, SLOTS};
 use sw_card::{Card, CardFault, Meter, Relay};
+use sw_code::Code;
 use sw_trigger::{Awaited, Settings};
 use sw_verify::{Layout, Plan, Slot};
 
@@ -375,9 +377,9 @@ impl<R: Relay, M: Meter> Cage<R, M> {
         ensures err { OnErr result (self.new ≡ self.old) }
     {
         self.slots.stay_safe();
-        let settings = ready_settings(plan);
+        let (settings, code) = ready_parts(plan);
         let readings = Vec::with_capacity(alloc, settings.readings() as usize)?;
-        let (scan, moves) = Scan::begin(settings);
+        let (scan, moves) = Scan::begin(settings, code);
         self.number += 1;
         self.readings = readings;
         let (scan, taken) = go_on(&mut self.slots, &mut self.out, scan, self.number, moves);
@@ -502,11 +504,12 @@ impl<R: Relay, M: Meter> Cage<R, M> {
     }
 }
 
-/// The settings of a plan.
-fn ready_settings(plan: Plan) -> Settings
-    ensures settings { result ≡ plan.settings }
+/// The settings of a plan, and their code.
+fn ready_parts(plan: Plan) -> (Settings, Code)
+    ensures settings { result.0 ≡ plan.settings }
+    ensures code { result.1 ≡ compiled plan.settings }
     ensures ready { IsReady plan }
 {
-    let snapshot = plan.into_snapshot();
-    snapshot.settings
+    let (snapshot, code) = plan.into_parts();
+    (snapshot.settings, code)
 }

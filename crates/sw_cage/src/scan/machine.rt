@@ -6,7 +6,7 @@ ghost use Rattle.sw_base.specs.Layout.{has_meter};
 ghost use Rattle.sw_card.specs.Account.{of_meter};
 ghost use Rattle.sw_cage.specs.Accounts.{layout_of, is_closed};
 ghost use Rattle.sw_cage.specs.Advance.{opens_of, closes_of};
-ghost use Rattle.sw_cage.specs.Walk.{moves_of};
+ghost use Rattle.sw_cage.specs.Steps.{moves_of};
 ghost use Rattle.sw_cage.specs.Moves.{MayOpenNext, MayCloseNext, MayMove, RelayCallFailed};
 ghost use Rattle.sw_cage.specs.TakenSeen.{taken_seen};
 ghost use Rattle.sw_cage.specs.Outcome.{Moved, IsSent, Arrives, AdvancesOrFails};
@@ -14,7 +14,7 @@ ghost use Rattle.sw_cage.specs.Outcome.{Moved, IsSent, Arrives, AdvancesOrFails}
 use crate::job::{Job, Ticket};
 use crate::scan::Scan;
 use crate::scan::tickets::Tickets;
-use crate::scan::walk::Moves;
+use crate::scan::steps::Moves;
 use crate::slots::Slots;
 use crate::taken::Taken;
 use sw_base::Chan;

@@ -1,30 +1,33 @@
-//! A scan that runs: its settings, and where it stands.
+//! A scan that runs: its settings, its code, and where it stands.
 
 ghost use Rattle.std.specs.Prelude.{◌≡◌, ℕ, ◌+◌, ◌<◌, ◌≤◌, ◌++◌, length, None, ◌↔◌, IsTrue};
-ghost use Rattle.sw_trigger.specs.Settings.{layer_of};
+ghost use Rattle.sw_trigger.specs.Settings.{IsInRange, layer_of};
+ghost use Rattle.sw_code.specs.Compiled.{compiled};
 ghost use Rattle.sw_cage.specs.Advance.{awaits, moves_from, next_place};
 ghost use Rattle.sw_cage.specs.Cage.{ticket_of};
-ghost use Rattle.sw_cage.specs.Walk.{moves_of};
+ghost use Rattle.sw_cage.specs.Steps.{moves_of};
 ghost use Rattle.sw_cage.specs.Takes.{TakesIf, TakesWait, TakesPause, AwaitsReturn};
 
 pub(crate) mod machine;
+mod steps;
 pub(crate) mod tickets;
-mod walk;
 
-use self::walk::{Moves, Walk, awaited, first, next};
+use self::steps::{Moves, Place, awaited, first, next};
 use crate::job::Ticket;
 use crate::taken::Happening;
 use std::marker::Model;
 use sw_base::{LayerName, Source};
+use sw_code::Code;
 use sw_trigger::{Awaited, Settings};
 
 /// A scan that runs.
 ///
-/// Contracts see its settings and the index of what it awaits in its agenda, and not the walk that finds it.
+/// Contracts see its settings and the index of what it awaits in its agenda, and not the steps that lead there.
 #[derive(Drop)]
 pub(crate) struct Scan {
     settings: Settings,
-    walk: Option<Walk>,
+    code: Code,
+    at: Place,
     index: u64,
 }
 
@@ -42,29 +45,29 @@ impl Model for Scan {
 
 impl Scan {
     /// A scan at the first thing that it awaits, and what is done before that.
-    pub(crate) fn begin(settings: Settings) -> (Scan, Moves)
-        requires { 0 < length settings.list }
+    pub(crate) fn begin(settings: Settings, code: Code) -> (Scan, Moves)
+        requires listed { 0 < length settings.list }
+        requires range { IsInRange settings }
+        requires code { code ≡ compiled settings }
         ensures scan { result.0 ≡ next_place settings 0 }
         ensures moves { moves_of result.1 ≡ moves_from settings 0 }
     {
-        let step = first(&settings);
-        let index = count(step.moves);
+        let way = first(code.steps());
+        let index = count(way.moves);
         let scan = Scan {
             settings,
-            walk: step.at,
+            code,
+            at: way.at,
             index,
         };
-        (scan, step.moves)
+        (scan, way.moves)
     }
 
     /// What the scan awaits; nothing, where it is over.
     pub(crate) fn awaited(&self) -> Option<Awaited>
         ensures { result ≡ awaits self.now }
     {
-        match &self.walk {
-            Some(walk) => Some(awaited(&self.settings, walk)),
-            None => None,
-        }
+        awaited(self.code.steps(), self.at)
     }
 
     /// Goes past what the scan awaits, and tells what is done before the next.
@@ -73,15 +76,10 @@ impl Scan {
         ensures scan { self.new ≡ next_place self.old.setup (self.old.index + 1) }
         ensures moves { moves_of result ≡ moves_from self.old.setup (self.old.index + 1) }
     {
-        match &self.walk {
-            Some(walk) => {
-                let step = next(&self.settings, walk);
-                self.index += 1 + count(step.moves);
-                self.walk = step.at;
-                step.moves
-            }
-            None => unreachable!(),
-        }
+        let way = next(self.code.steps(), self.at);
+        self.index += 1 + count(way.moves);
+        self.at = way.at;
+        way.moves
     }
 
     /// Whether the scan takes the happening, being number so many.

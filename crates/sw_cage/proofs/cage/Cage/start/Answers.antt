@@ -6,7 +6,7 @@ use Rattle.sw_trigger.specs.Counts.{reads}
 use Rattle.sw_cage.specs.Channels.{closed_list}
 use Rattle.sw_cage.specs.Cage.{CageSeen, cage_layout}
 use Rattle.sw_cage.specs.Advance.{moves_from, next_place}
-use Rattle.sw_cage.specs.Walk.{moves_of}
+use Rattle.sw_cage.specs.Steps.{moves_of}
 use Rattle.sw_cage.specs.Change.{any_failed}
 use Rattle.sw_cage.specs.Outcome.{Occupancy}
 use Rattle.sw_cage.specs.TakenSeen.{taken_seen}
@@ -17,8 +17,8 @@ use Rattle.sw_cage.proofs.cage.Cage.start.Goals as goal
 pub go_on-scan-requires-clause-meter : goal.go_on-scan-requires-clause-meter
 go_on-scan-requires-clause-meter g c =
     let s = c.args.plan.settings in
-    let same = c.ready_settings-settings.ensures.settings in
-    let ready = c.ready_settings-settings.ensures.ready in
+    let same = c.ready_parts-settings.ensures.settings in
+    let ready = c.ready_parts-settings.ensures.ready in
     let go = begins _ s c.args.plan.layout c.args.plan.closed (c.self.inside.number + 1) c.in_ok-readings.readings.items c.self.invariant.good.held ready.listed
     (subst IsInRange (c.settings.view_is ∙ same) c.settings.invariant)
     (ap (λ (p : CageSeen). slot_at p.out s.meter) c.self.view_is ∙ c.requires.home) ready.measured ready.sound
@@ -31,8 +31,8 @@ go_on-scan-requires-clause-meter g c =
 pub go_on-scan-requires-clause-may : goal.go_on-scan-requires-clause-may
 go_on-scan-requires-clause-may g c =
     let s = c.args.plan.settings in
-    let same = c.ready_settings-settings.ensures.settings in
-    let ready = c.ready_settings-settings.ensures.ready in
+    let same = c.ready_parts-settings.ensures.settings in
+    let ready = c.ready_parts-settings.ensures.ready in
     let go = begins _ s c.args.plan.layout c.args.plan.closed (c.self.inside.number + 1) c.in_ok-readings.readings.items c.self.invariant.good.held ready.listed
     (subst IsInRange (c.settings.view_is ∙ same) c.settings.invariant)
     (ap (λ (p : CageSeen). slot_at p.out s.meter) c.self.view_is ∙ c.requires.home) ready.measured ready.sound
@@ -45,8 +45,8 @@ go_on-scan-requires-clause-may g c =
 pub invariant_of-self : goal.invariant_of-self
 invariant_of-self g c =
     let s = c.args.plan.settings in
-    let same = c.ready_settings-settings.ensures.settings in
-    let ready = c.ready_settings-settings.ensures.ready in
+    let same = c.ready_parts-settings.ensures.settings in
+    let ready = c.ready_parts-settings.ensures.ready in
     let go = begins _ s c.args.plan.layout c.args.plan.closed (c.self.inside.number + 1) c.in_ok-readings.readings.items c.self.invariant.good.held ready.listed
     (subst IsInRange (c.settings.view_is ∙ same) c.settings.invariant)
     (ap (λ (p : CageSeen). slot_at p.out s.meter) c.self.view_is ∙ c.requires.home) ready.measured ready.sound

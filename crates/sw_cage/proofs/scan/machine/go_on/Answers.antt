@@ -1,5 +1,5 @@
 use Rattle.std.proofs.Common.{refl, sym, subst}
-use Rattle.sw_cage.specs.Walk.{moves_of}
+use Rattle.sw_cage.specs.Steps.{moves_of}
 use Rattle.sw_cage.specs.Outcome.{IsSafeAfterFault}
 use Rattle.sw_cage.proofs.MoveLemmas.{meter_there, fallen}
 use Rattle.sw_cage.proofs.scan.machine.go_on.Goals as goal

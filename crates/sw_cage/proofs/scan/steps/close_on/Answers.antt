@@ -1,0 +1,25 @@
+use Rattle.std.proofs.Common.{◌≡◌, ℕ, ◌+◌, ◌∙◌, sym, ap, subst, List, Some}
+use Rattle.std.specs.List.{slice_get}
+use Rattle.sw_trigger.specs.Agenda.{Item}
+use Rattle.sw_code.specs.declared.code.Step.TheVariants as step
+use Rattle.sw_code.specs.Pace.{IsNear}
+use Rattle.sw_cage.specs.declared.scan.steps.Place.{Place}
+use Rattle.sw_cage.specs.Steps.{Does, closed_by}
+use Rattle.sw_cage.proofs.StepLemmas.{place}
+use Rattle.sw_cage.proofs.WayLemmas.{closer, way_closes}
+use Rattle.sw_cage.proofs.scan.steps.close_on.Goals as goal
+
+pub settle-requires-clause-near : goal.settle-requires-clause-near
+settle-requires-clause-near c =
+    let code = c.args.steps.now in
+    let at = c.args.at in
+    let e = closer (slice_get code at.step) c.in-Some.chan (sym c.to_close.ensures.closes ∙ c.in-Some.is) in
+    subst (λ (p : Place). IsNear code 6 p.step) (sym c.past.ensures) (c.requires.paced.after at.step (step.Close c.in-Some.chan) e)
+
+pub returns-in-Some-clause-way : goal.returns-in-Some-clause-way
+returns-in-Some-clause-way c = λ items d v.
+    let code = c.args.steps.now in
+    let at = c.args.at in
+    let e = sym c.to_close.ensures.closes ∙ c.in-Some.is in
+    way_closes code at items d c.in-Some.chan c.settle.result e v
+    (λ l f. c.settle.ensures.does l (subst (λ (p : Place). Does code p l) (sym c.past.ensures) f)) c.settle.ensures.near

@@ -1,0 +1,12 @@
+use Rattle.std.proofs.Common.{◌-◌, ◌≤◌, List}
+use Rattle.sw_trigger.specs.Agenda.{Item}
+use Rattle.sw_code.specs.Pace.{IsNear}
+use Rattle.sw_cage.specs.Steps.{Does}
+use Rattle.sw_cage.proofs.scan.steps.settle.Given as goal
+
+abbrev pub invariant-loop-turn : goal.invariant-loop-turn
+invariant-loop-turn l = record {
+  few : l.turn ≤ 6;
+  near : IsNear l.steps (6 - l.turn) l.place.step;
+  does : (items : List Item) → Does l.steps l.fn.at items → Does l.steps l.place items;
+}

@@ -1,0 +1,67 @@
+-- Where in its code a scan stands, and what is done from there to the next step that awaits.
+use Rattle.std.specs.Prelude.{◌≡◌, ℕ, List, [], ◌∷◌, ◌++◌, Option, Some, None, slice_index_or}
+use Rattle.std.specs.List.{slice_get}
+use Rattle.sw_base.specs.Layout.{Channel}
+use Rattle.sw_trigger.specs.Agenda.{Item, Awaits, Close, Open}
+use Rattle.sw_code.specs.declared.code.Step.{Step}
+use Rattle.sw_code.specs.declared.code.Step.TheVariants as step
+use Rattle.sw_code.specs.Code.{Counters, exec}
+use Rattle.sw_cage.specs.declared.scan.steps.Place.{Place}
+use Rattle.sw_cage.specs.declared.scan.steps.Moves.{Moves}
+use Rattle.sw_cage.specs.declared.scan.steps.Way.{Way}
+use Rattle.sw_cage.specs.Advance.{opens_of, closes_of}
+
+abbrev pub counters_of : List ℕ → Counters
+counters_of counters = λ k. slice_index_or counters k 0
+
+-- from the place on the code does these items, and then halts
+pub record Does (code : List Step) (place : Place) (items : List Item) : Type 0 where
+  pub steps : ℕ
+  pub run : exec code steps place.step (counters_of place.counters) ≡ Some items
+
+-- the step awaits, or is the end
+abbrev pub IsResting : Option Step → Type 0
+IsResting None = ⊥
+IsResting (Some (step.Set k n)) = ⊥
+IsResting (Some (step.Wait name)) = Unit {0}
+IsResting (Some (step.Pause micros)) = Unit {0}
+IsResting (Some (step.Close c)) = ⊥
+IsResting (Some step.Read) = Unit {0}
+IsResting (Some (step.Open c)) = ⊥
+IsResting (Some (step.Loop k to)) = ⊥
+IsResting (Some step.Halt) = Unit {0}
+
+-- the channel that the step opens, and that which it closes
+abbrev pub opened_by : Option Step → Option Channel
+opened_by (Some (step.Open c)) = Some c
+opened_by _ = None
+
+abbrev pub closed_by : Option Step → Option Channel
+closed_by (Some (step.Close c)) = Some c
+closed_by _ = None
+
+-- what is closed is opened after one awaiting item
+abbrev pub AreVisits : List Item → Type 0
+AreVisits [] = Unit {0}
+AreVisits (Awaits what ∷ items) = AreVisits items
+AreVisits (Close c ∷ Awaits what ∷ Open d ∷ items) = AreVisits items
+AreVisits (Close c ∷ _) = ⊥
+AreVisits (Open c ∷ items) = ⊥
+
+-- the same, where the first visit may have begun
+abbrev pub AreVisitsOn : List Item → Type 0
+AreVisitsOn [] = Unit {0}
+AreVisitsOn (Awaits what ∷ items) = AreVisits (Awaits what ∷ items)
+AreVisitsOn (Close c ∷ items) = AreVisits (Close c ∷ items)
+AreVisitsOn (Open c ∷ items) = AreVisits items
+
+-- the moves as items: first what opens, then what closes
+abbrev pub moves_of : Moves → List Item
+moves_of moves = opens_of moves.to_open ++ closes_of moves.to_close
+
+-- of these items the moves are done, and the rest from a step on that awaits, or is the end
+pub record LeadsOn (code : List Step) (items : List Item) (way : Way) : Type 0 where
+  pub rest : List Item
+  pub split : items ≡ moves_of way.moves ++ rest
+  pub does : Does code way.at rest
+  pub rests : IsResting (slice_get code way.at.step)
