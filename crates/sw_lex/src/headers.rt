@@ -4,7 +4,7 @@ ghost use Rattle.std.specs.Prelude.{◌≡◌, ℕ, Bool, List, [], ◌∷◌, �
 ghost use Rattle.std.specs.Char.{to_ascii_uppercase};
 ghost use Rattle.sw_lex.specs.Found.{IsFound, IsForm, IsNumbered, Fits};
 ghost use Rattle.sw_lex.specs.Table.{entries};
-ghost use Rattle.sw_lex.specs.Rows.{nodes_at, MatchesRow, Matches, is_form_from};
+ghost use Rattle.sw_lex.specs.Rows.{nodes_at, MatchesRow, Matches, is_form_from, is_starred};
 ghost use Rattle.sw_lex.specs.declared.table.Key.{Key};
 
 use crate::rows::{Group, Row, Step, groups};
@@ -135,6 +135,16 @@ fn matching(groups: &[Group], word: &[u8], words: &[&[u8]], query: bool) -> Opti
     None
 }
 
+/// Whether the word is a common header.
+fn is_starred(word: &[u8]) -> bool
+    ensures { result ≡ is_starred word.now }
+{
+    match word {
+        [first, ..] => *first == b'*',
+        [] => false,
+    }
+}
+
 /// The command that a header is, and the number in it.
 pub fn find(words: &[&[u8]], query: bool) -> Option<(Key, u8)>
     ensures some { IfSome result (λ x. IsFound entries
@@ -142,10 +152,16 @@ pub fn find(words: &[&[u8]], query: bool) -> Option<(Key, u8)>
     ensures none { IfNone result ((key : Key) (k : ℕ)
         → IsFound entries (map (λ w. map to_ascii_uppercase w.now) words.now) query key k → ⊥) }
 {
-    let table = groups();
+    let (common, others) = groups();
     match words {
         [] => None,
-        [word, words @ ..] => matching(table, word, words, query),
+        [word, words @ ..] => {
+            if is_starred(word) {
+                matching(common, word, words, query)
+            } else {
+                matching(others, word, words, query)
+            }
+        }
     }
 }
 

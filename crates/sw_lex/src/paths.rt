@@ -106,12 +106,16 @@ pub fn after(nodes: &[&[u8]]) -> Path
     requires short { All (λ w. length w.now ≤ longest_mnemonic) nodes.now }
     ensures { path_of result ≡ all_but_last (map (λ w. w.now) nodes.now) }
 {
-    let mut above = ArrayVec::new();
-    for node in nodes {
-        above.push(copied(node));
+    match nodes {
+        [] => Path::root(),
+        [leading @ .., _] => {
+            let mut above = ArrayVec::new();
+            for node in leading {
+                above.push(copied(node));
+            }
+            Path { nodes: above }
+        }
     }
-    above.pop();
-    Path { nodes: above }
 }
 
 /// The nodes without a trigger layer's number.

@@ -1,8 +1,9 @@
 //! The rows of the table of headers (SCPI-1999, volume 2; IEEE 488.2, 10).
 
-ghost use Rattle.std.specs.Prelude.{◌≡◌};
+ghost use Rattle.std.specs.Prelude.{◌≡◌, ◌++◌, true, not};
+ghost use Rattle.std.specs.List.{list_all};
 ghost use Rattle.sw_lex.specs.Table.{entries};
-ghost use Rattle.sw_lex.specs.Rows.{entries_of, is_query, steps_of, key_of};
+ghost use Rattle.sw_lex.specs.Rows.{entries_of, is_query, is_starred, steps_of, key_of};
 
 use crate::rows::Row::{Command, Query};
 use crate::rows::Step::{May, Must, Numbered};
@@ -66,8 +67,8 @@ pub struct Group {
     pub rows: &'static [Row],
 }
 
-/// The headers of the commands, by their first mnemonics.
-static GROUPS: [Group; 27] = [
+/// The common commands.
+static COMMON: [Group; 17] = [
     Group {
         first: b"*IDN",
         rows: &[Query(&[], Key::Common(Common::Identify))],
@@ -148,6 +149,10 @@ static GROUPS: [Group; 27] = [
             Query(&[], Key::Common(Common::EnableMacrosQuery)),
         ],
     },
+];
+
+/// The headers of the other commands, by their first mnemonics.
+static PATHS: [Group; 10] = [
     Group {
         first: b"ABORt",
         rows: &[Command(&[], Key::Instrument(Instrument::Abort))],
@@ -347,9 +352,11 @@ static GROUPS: [Group; 27] = [
     },
 ];
 
-/// The table of headers.
-pub fn groups() -> &'static [Group]
-    ensures { entries_of result.now ≡ entries }
+/// The table of headers: the common commands, and the others.
+pub fn groups() -> (&'static [Group], &'static [Group])
+    ensures all { entries_of (result.0.now ++ result.1.now) ≡ entries }
+    ensures common { list_all (λ group. is_starred group.first.now) result.0.now ≡ true }
+    ensures others { list_all (λ group. not (is_starred group.first.now)) result.1.now ≡ true }
 {
-    &GROUPS
+    (&COMMON, &PATHS)
 }
