@@ -1,9 +1,10 @@
 //! A driver of which one closing fails.
 
 ghost use Rattle.std.specs.Prelude.{◌≡◌, ℕ, Option};
-ghost use Rattle.sw_kinds.specs.Fuse.{DrivesByFuse, is_failing, left_after};
+ghost use Rattle.sw_kinds.specs.Fuse.{DrivesByFuse};
 ghost use Rattle.sw_kinds.specs.FuseRuns.{FailByNumber, NeverFails, FailOnlyByNumber};
 
+use crate::countdown::Countdown;
 use crate::driver::Driver;
 use std::marker::Model;
 use sw_card::CardFault;
@@ -14,13 +15,13 @@ use sw_card::CardFault;
 #[derive(Drop)]
 pub struct Fuse<D: Driver> {
     driver: D,
-    left: Option<u32>,
+    countdown: Countdown,
 }
 
 impl<D: Driver> Model for Fuse<D> {
     ghost Value = { D × Option ℕ };
 
-    ghost view = { λ f. (f.driver, f.left) };
+    ghost view = { λ f. (f.driver, f.countdown) };
 }
 
 impl<D: Driver> Fuse<D> {
@@ -30,25 +31,7 @@ impl<D: Driver> Fuse<D> {
     {
         Fuse {
             driver,
-            left: closing,
-        }
-    }
-
-    /// Counts the call, and says whether it is the failing closing.
-    fn count(&mut self, on: bool) -> bool
-        ensures failing { result ≡ is_failing on self.old.1 }
-        ensures counted { self.new ≡ (self.old.0, left_after on self.old.1) }
-    {
-        match self.left {
-            Some(left) if on && left > 1 => {
-                self.left = Some(left - 1);
-                false
-            }
-            Some(left) if on => {
-                self.left = None;
-                left == 1
-            }
-            _ => false,
+            countdown: Countdown::new(closing),
         }
     }
 }
@@ -61,7 +44,7 @@ impl<D: Driver> Driver for Fuse<D> {
     ghost cuts = { λ f g. D.cuts f.0 g.0 × (g.1 ≡ f.1) };
 
     fn drive(&mut self, ch: u8, on: bool) -> Result<(), CardFault> {
-        let failing = self.count(on);
+        let failing = self.countdown.count(on);
         let outcome = self.driver.drive(ch, on);
         if failing {
             return Err(CardFault);

@@ -1,20 +1,16 @@
 //! A row of relays over a driver: the kinds of relay cards.
 
-ghost use Rattle.std.specs.Prelude.{◌≡◌, ℕ, ◌≤◌, replicate, take, true, false, OnOk, OnErr, IsTrue};
+ghost use Rattle.std.specs.Prelude.{◌≡◌, ℕ, ◌≤◌, replicate, true, false, OnOk, OnErr, IsTrue};
 ghost use Rattle.sw_base.specs.Layout.{has_channel};
 ghost use Rattle.sw_base.specs.Limits.{most_channels};
 ghost use Rattle.sw_card.specs.Account.{Account, relay_account, closed_at, with_set, at_rest};
+ghost use Rattle.sw_card.specs.Mask.{states_of};
 ghost use Rattle.sw_kinds.specs.Row.{HoldsDriven, counted};
 
 use crate::coils::Coils;
 use crate::driver::Driver;
-use crate::flags::no_flags;
 use std::marker::{Model, PhantomData};
-use sw_base::CHANNELS;
-use sw_card::{Board, CardFault, Relay};
-
-/// How many flags a row keeps: one for each channel that a card may have.
-const FLAGS: usize = CHANNELS as usize;
+use sw_card::{Board, CardFault, Mask, Relay};
 
 /// Names a card whose channels are all in one exclusion group.
 pub enum Grouped {}
@@ -37,7 +33,7 @@ pub struct Row<D: Driver, K> {
     failures: u64,
     channels: u8,
     group: u8,
-    closed: [bool; FLAGS],
+    closed: Mask,
     coils: Coils<D>,
     kind: PhantomData<K>,
 }
@@ -47,7 +43,7 @@ impl<D: Driver, K> Model for Row<D, K> {
 
     ghost view = { λ r. (
       r.coils,
-      relay_account r.serial r.failures (replicate r.channels r.group) (take r.channels r.closed),
+      relay_account r.serial r.failures (replicate r.channels r.group) (states_of r.closed r.channels),
     ) };
 
     ghost invariant = { λ r. HoldsDriven (D.driven r.coils) r.channels r.closed };
@@ -102,7 +98,7 @@ impl<D: Driver, K> Row<D, K> {
             failures: 0,
             channels,
             group,
-            closed: no_flags(),
+            closed: Mask::new(),
             coils: Coils::new(driver),
             kind: PhantomData,
         }
@@ -164,7 +160,7 @@ impl<D: Driver, K> Relay for Row<D, K> {
     }
 
     fn is_closed(&self, ch: u8) -> bool {
-        ch >= 1 && ch <= self.channels && self.closed[ch as usize - 1]
+        ch <= self.channels && self.closed.has(ch)
     }
 
     /// Fails exactly where the driver does; the channel then counts as closed.
@@ -175,7 +171,7 @@ impl<D: Driver, K> Relay for Row<D, K> {
         ensures ok { OnOk result (self.new.1 ≡ with_set self.old.1 ch true) }
         ensures err { OnErr result (self.new.1 ≡ counted (with_set self.old.1 ch true)) }
     {
-        self.closed[ch as usize - 1] = true;
+        self.closed.insert(ch);
         self.drive(ch, true)
     }
 
@@ -187,7 +183,7 @@ impl<D: Driver, K> Relay for Row<D, K> {
         ensures err { OnErr result (self.new.1 ≡ counted self.old.1) }
     {
         self.drive(ch, false)?;
-        self.closed[ch as usize - 1] = false;
+        self.closed.remove(ch);
         Ok(())
     }
 
@@ -197,6 +193,6 @@ impl<D: Driver, K> Relay for Row<D, K> {
         ensures account { self.new.1 ≡ at_rest self.old.1 }
     {
         self.coils.cut();
-        self.closed = no_flags();
+        self.closed = Mask::new();
     }
 }

@@ -1,0 +1,55 @@
+//! A driver of which one opening fails.
+
+ghost use Rattle.std.specs.Prelude.{◌≡◌, ℕ, Option};
+ghost use Rattle.sw_kinds.specs.Fuse.{DrivesByOpenFuse};
+
+use crate::countdown::Countdown;
+use crate::driver::Driver;
+use std::marker::Model;
+use sw_card::CardFault;
+
+/// A driver whose k-th opening, counted from 1, fails once, the relay staying as it was. Every other call passes.
+///
+/// Contracts see the driver behind it, and the openings up to the failing one, that one included.
+#[derive(Drop)]
+pub struct OpenFuse<D: Driver> {
+    driver: D,
+    countdown: Countdown,
+}
+
+impl<D: Driver> Model for OpenFuse<D> {
+    ghost Value = { D × Option ℕ };
+
+    ghost view = { λ f. (f.driver, f.countdown) };
+}
+
+impl<D: Driver> OpenFuse<D> {
+    /// Lets the opening with this number fail; none where there is no number, nor with number 0.
+    pub fn new(driver: D, opening: Option<u32>) -> Self
+        ensures { result ≡ (driver, opening) }
+    {
+        OpenFuse {
+            driver,
+            countdown: Countdown::new(opening),
+        }
+    }
+}
+
+impl<D: Driver> Driver for OpenFuse<D> {
+    ghost driven = { λ f. D.driven f.0 };
+
+    ghost drives = { λ f ch on result g. DrivesByOpenFuse D.drives f ch on result g };
+
+    ghost cuts = { λ f g. D.cuts f.0 g.0 × (g.1 ≡ f.1) };
+
+    fn drive(&mut self, ch: u8, on: bool) -> Result<(), CardFault> {
+        if self.countdown.count(!on) {
+            return Err(CardFault);
+        }
+        self.driver.drive(ch, on)
+    }
+
+    fn cut(&mut self) {
+        self.driver.cut();
+    }
+}
