@@ -11,7 +11,7 @@ use Rattle.sw_lex.specs.Meaning.{Nodes, Resolves}
 use Rattle.sw_verify.specs.declared.snapshot.Snapshot.{Snapshot as Taken}
 use Rattle.sw_verify.specs.declared.refusal.Refusal.{Refusal}
 use Rattle.sw_verify.specs.declared.refusal.Refusal.TheVariants.{EmptyList, NoChannel, NoMeter, GroupClash, TooManyReadings, BadNesting, BadJump, LeftClosed, NotClosed, NoMemory}
-use Rattle.sw_verify.specs.Check.{IsFirst, number_of, error_of}
+use Rattle.sw_verify.specs.Check.{IsReady, IsFirst, IsRefused, number_of, error_of}
 use Rattle.sw_macro.specs.Table.{Table}
 use Rattle.sw_macro.specs.Expansion.{calls, Expands}
 use Rattle.sw_core.specs.Action.{Effect, IsOfMacros, Initiates, Resets, action_of}
@@ -180,17 +180,27 @@ first-one s r r' f f' =
 stands-same : {T : Type 0} (b b' : T) (x : SessionAnswer) (t t' r r' : List Entry) (f f' : SessionAnswer) → (f ≡ x) × (r ≡ t) → (f' ≡ x) × (r' ≡ t') → (f ≡ f' → Rests b b' r r') → Rests b b' t t'
 stands-same b b' x t t' r r' f f' (fin, left) (fin', left') next = rw (← left, ← left') (next (fin ∙ sym fin'))
 
+-- the first refusal, where no error is queued for want of memory
+refused-first : (sid : Sid) (s : Taken) (r : Refusal) (t rest : List Entry) (f : SessionAnswer) → AllAmple t → IsRefused r s
+    → Queues sid (error_of r) t f rest → (IsReady s → ⊥) × IsFirst r s
+refused-first sid s r t rest f m x q = elim x [
+  | inl y ↦ y
+  | inr y ↦ absurd (no-loss sid t rest f m (subst (λ (k : Refusal). Queues sid (error_of k) t f rest) y.1 q))
+]
+
 plans-same : {T : Type 0} (b b' : T) (sid : Sid) (told : SessionAnswer) (t t' r r' : List Entry) (f f' : SessionAnswer) → Plans sid told t f r → Plans sid told t' f' r' → (f ≡ f' → Rests b b' r r') → Rests b b' t t'
 plans-same b b' sid (Snapshot s) t t' r r' f f' p q next = λ m n. elim p [
   | inl k ↦ elim q [
     | inl k' ↦ settles-same b b' sid 0 (Ask.Start sid s) t t' r r' f f' k.1 k'.1 next m n
-    | inr k' ↦ absurd (k'.0 k.0)
+    | inr k' ↦ absurd ((refused-first sid s k'.0 t' r' f' n k'.1 k'.2).0 k.0)
   ]
   | inr k ↦ elim q [
-    | inl k' ↦ absurd (k.0 k'.0)
+    | inl k' ↦ absurd ((refused-first sid s k.0 t r f m k.1 k.2).0 k'.0)
     | inr k' ↦
-        let one = first-one s k.1.0 k'.1.0 k.1.1 k'.1.1 in
-        queues-same b b' sid (error_of k.1.0) t t' r r' f f' k.1.2 (subst (λ (x : Refusal). Queues sid (error_of x) t' f' r') (sym one) k'.1.2) next m n
+        let first = refused-first sid s k.0 t r f m k.1 k.2 in
+        let first' = refused-first sid s k'.0 t' r' f' n k'.1 k'.2 in
+        let one = first-one s k.0 k'.0 first.1 first'.1 in
+        queues-same b b' sid (error_of k.0) t t' r r' f f' k.2 (subst (λ (x : Refusal). Queues sid (error_of x) t' f' r') (sym one) k'.2) next m n
   ]
 ]
 plans-same b b' sid (Joined s) t t' r r' f f' p q next = stands-same b b' (Joined s) t t' r r' f f' p q next

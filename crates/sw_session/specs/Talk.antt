@@ -10,7 +10,7 @@ use Rattle.sw_lex.specs.Meaning.{Nodes, Resolves}
 use Rattle.sw_macro.specs.Table.{Table}
 use Rattle.sw_macro.specs.Expansion.{calls, Expands}
 use Rattle.sw_verify.specs.declared.refusal.Refusal.{Refusal}
-use Rattle.sw_verify.specs.Check.{IsReady, IsFirst, error_of}
+use Rattle.sw_verify.specs.Check.{IsReady, IsRefused, error_of}
 use Rattle.sw_core.specs.Action.{Effect, IsOfMacros, Initiates, Resets, Action, AtOnce, BetweenScans, AfterScan, action_of}
 use Rattle.sw_core.specs.declared.ask.Sid.{Sid}
 use Rattle.sw_core.specs.declared.ask.SessionAsk.{SessionAsk}
@@ -68,11 +68,12 @@ Settles sid turn ask (Asked a (Hold b) ∷ trace) final rest = ⊥
 Settles sid turn ask (Asked a r ∷ trace) final rest = (a ≡ ask) × (final ≡ r) × (rest ≡ trace)
 Settles sid turn ask trace final rest = ⊥
 
--- What comes of a snapshot: the scan of one that is ready is asked to start, else the first refusal is queued. Any other
--- answer is the unit's.
+-- What comes of a snapshot: the scan of one that is ready is asked to start, else the first refusal is queued; where there
+-- is no memory for the plan of one that is ready, -225 is. Any other answer is the unit's.
 abbrev pub Plans : Sid → SessionAnswer → List Entry → SessionAnswer → List Entry → Type 0
 Plans sid (Answer.Snapshot s) trace final rest =
-    (IsReady s × Settles sid 0 (Ask.Start sid s) trace final rest) ⊎ ((IsReady s → ⊥) × ((r : Refusal) × IsFirst r s × Queues sid (error_of r) trace final rest))
+    (IsReady s × Settles sid 0 (Ask.Start sid s) trace final rest)
+    ⊎ ((r : Refusal) × IsRefused r s × Queues sid (error_of r) trace final rest)
 Plans sid told trace final rest = (final ≡ told) × (rest ≡ trace)
 
 -- INITiate (SCPI-1999, 24): what a scan would begin from is asked, and its plan is made outside the mainframe (own)

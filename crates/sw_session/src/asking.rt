@@ -74,7 +74,7 @@ fn carry_out<D: Desk>(
             let outcome = tell_enabled(alloc, macros);
             report(desk, sid, outcome)
         }
-        Command::Initiate => initiate(desk, sid),
+        Command::Initiate => initiate(desk, sid, alloc),
         Command::Reset => reset(desk, sid, macros, answered),
         command => settle(desk, sid, SessionAsk::Unit(sid, command, answered)),
     }
@@ -109,19 +109,19 @@ fn is_done(answer: &SessionAnswer) -> bool
 }
 
 /// Asks what a scan would begin from, and plans it.
-fn initiate<D: Desk>(desk: &mut D, sid: Sid) -> SessionAnswer
+fn initiate<D: Desk>(desk: &mut D, sid: Sid, alloc: Global) -> SessionAnswer
     ensures { Led D.passes desk.old desk.new (λ t rest. StartsScan sid t result rest) }
 {
     let told = settle(desk, sid, SessionAsk::Snapshot(sid));
-    plan(desk, sid, told)
+    plan(desk, sid, alloc, told)
 }
 
 /// Makes the plan of a snapshot and asks to start it, or queues why there is none. Any other answer stands.
-fn plan<D: Desk>(desk: &mut D, sid: Sid, told: SessionAnswer) -> SessionAnswer
+fn plan<D: Desk>(desk: &mut D, sid: Sid, alloc: Global, told: SessionAnswer) -> SessionAnswer
     ensures { Led D.passes desk.old desk.new (λ t rest. Plans sid told t result rest) }
 {
     match told {
-        SessionAnswer::Snapshot(snapshot) => match Plan::make(snapshot) {
+        SessionAnswer::Snapshot(snapshot) => match Plan::make(alloc, snapshot) {
             Ok(plan) => settle(desk, sid, SessionAsk::Start(sid, plan)),
             Err(refusal) => queue(desk, sid, refusal.error()),
         },
