@@ -1,5 +1,5 @@
 -- Whether a card's count of failures changed where a scan went on: exactly where that is told.
-use Rattle.std.proofs.Common.{◌≡◌, ℕ, zero, suc, ◌-◌, ◌||◌, ◌++◌, nat_lt, Bool, true, false, [], ◌∷◌, Option, None, Some, slice_index_or, slice_set, refl, sym}
+use Rattle.std.proofs.Common.{◌≡◌, ℕ, zero, suc, ◌-◌, ◌||◌, nat_lt, Bool, true, false, [], ◌∷◌, Option, None, Some, slice_index_or, slice_set, refl, sym}
 use Rattle.std.proofs.Common.{ap, ◌∙◌}
 use Rattle.std.proofs.Common.{if◌then◌else◌, Result, Ok, Err, is_err, List}
 use Rattle.sw_base.specs.Layout.{slot_at}

@@ -1,12 +1,9 @@
 -- Single steps of a scan's code.
-use Rattle.std.proofs.Common.{◌≡◌, ℕ, zero, suc, ◌+◌, ◌-◌, ◌<◌, ◌≤◌, ◌≢◌, Bool, true, false, cond, eqb, List, [], ◌∷◌, ◌++◌, length, replicate, Option, Some, None, slice_set, refl, sym, ap, ◌∙◌, subst, arith, get_or, ◌⊎◌, inl, inr}
+use Rattle.std.proofs.Common.{◌≡◌, ℕ, zero, suc, ◌+◌, ◌-◌, ◌<◌, ◌≤◌, ◌≢◌, Bool, true, false, cond, eqb, List, [], ◌∷◌, length, replicate, Option, Some, None, slice_set, refl, sym, ap, ◌∙◌, subst, arith, get_or, ◌⊎◌, inl, inr}
 use mathlib.Core.Path.{fun_ext}
-use Rattle.std.specs.Prelude.{slice_index_or}
 use Rattle.std.specs.List.{slice_get, AllByRecursion}
 use Rattle.std.proofs.lemmas.Bool.Decides.{nat_tests}
 use Rattle.std.proofs.lemmas.List.{get_or-set_same, get_or-set_other}
-use Rattle.std.proofs.lemmas.Option.{slice_get_within}
-use Rattle.sw_base.specs.Layout.{Channel}
 use Rattle.sw_trigger.specs.declared.layer.Awaited.{Awaited}
 use Rattle.sw_trigger.specs.declared.layer.Awaited.TheVariants.{Wait, Pause, Read}
 use Rattle.sw_trigger.specs.Agenda.{Item, Awaits, Close, Open}
@@ -17,10 +14,8 @@ use Rattle.sw_code.specs.Code.{Counters, put, passing, act, exec, Unfolds}
 use Rattle.sw_code.specs.Tree.{step_of}
 use Rattle.sw_code.specs.Pace.{IsNearBy, IsNear, IsNearAfter, IsPaced}
 use Rattle.sw_cage.specs.declared.scan.steps.Place.{Place}
-use Rattle.sw_cage.specs.declared.scan.steps.Moves.{Moves}
-use Rattle.sw_cage.specs.declared.scan.steps.Way.{Way}
-use Rattle.sw_cage.specs.Advance.{leading_moves, first_awaited, opens_of, closes_of}
-use Rattle.sw_cage.specs.Steps.{counters_of, Does, IsResting, AreVisits, AreVisitsOn, moves_of, LeadsOn}
+use Rattle.sw_cage.specs.Advance.{leading_moves}
+use Rattle.sw_cage.specs.Steps.{counters_of, Does, IsResting}
 
 abbrev pub place : ℕ → List ℕ → Place
 place pc counters = record { step = pc; counters = counters }

@@ -1,18 +1,16 @@
 -- The way of a scan's code from one awaiting step to the next.
-use Rattle.std.proofs.Common.{◌≡◌, ◌≢◌, ℕ, zero, suc, ◌+◌, List, [], ◌∷◌, ◌++◌, Option, Some, None, refl, sym, ap, ◌∙◌, subst}
+use Rattle.std.proofs.Common.{◌≡◌, ◌+◌, List, [], ◌∷◌, ◌++◌, Option, Some, None, refl, ap, ◌∙◌, subst}
 use Rattle.std.specs.List.{slice_get}
 use Rattle.sw_base.specs.Layout.{Channel}
-use Rattle.sw_trigger.specs.declared.layer.Awaited.{Awaited}
 use Rattle.sw_trigger.specs.declared.layer.Awaited.TheVariants.{Wait, Pause, Read}
 use Rattle.sw_trigger.specs.Agenda.{Item, Awaits, Close, Open}
 use Rattle.sw_code.specs.declared.code.Step.{Step}
 use Rattle.sw_code.specs.declared.code.Step.TheVariants as step
 use Rattle.sw_code.specs.Pace.{IsNearBy, IsNear}
 use Rattle.sw_cage.specs.declared.scan.steps.Place.{Place}
-use Rattle.sw_cage.specs.declared.scan.steps.Moves.{Moves}
 use Rattle.sw_cage.specs.declared.scan.steps.Way.{Way}
 use Rattle.sw_cage.specs.Advance.{opens_of, closes_of}
-use Rattle.sw_cage.specs.Steps.{Does, IsResting, AreVisits, AreVisitsOn, moves_of, LeadsOn, opened_by, closed_by}
+use Rattle.sw_cage.specs.Steps.{Does, IsResting, AreVisits, AreVisitsOn, LeadsOn, opened_by, closed_by}
 use Rattle.sw_cage.proofs.StepLemmas.{place, does_none, does_halt, does_item, rests_awaiting}
 
 abbrev way : Option Channel → Option Channel → Place → Way

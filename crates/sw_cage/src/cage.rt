@@ -19,20 +19,22 @@ ghost use Rattle.sw_cage.specs.TakenSeen.{taken_seen, tells_fault, SaysIgnored};
 ghost use Rattle.sw_cage.specs.Takes.{Takes, TakesReturn, AwaitsOther, awaited_now};
 ghost use Rattle.sw_cage.specs.Outcome.{Advances, AdvancesPast, Counts, begun, with_back, readings_with};
 
+mod layout;
+
 use crate::job::{Finished, Ticket};
 use crate::refusal::{CloseRefusal, EjectRefusal, InstallRefusal};
 use crate::scan::Scan;
 use crate::scan::machine::{go_on, take_in};
 use crate::scan::tickets::Tickets;
-use crate::slots::{PLACES, Slots};
+use crate::slots::Slots;
 use crate::taken::{Happening, Taken};
 use std::alloc::{AllocError, Global};
 use std::marker::Model;
-use sw_base::{Chan, Reading, SLOTS};
+use sw_base::{Chan, Reading};
 use sw_card::{Card, CardFault, Meter, Relay};
 use sw_code::Code;
 use sw_trigger::{Awaited, Settings};
-use sw_verify::{Layout, Plan, Slot};
+use sw_verify::Plan;
 
 /// Slots, numbered from 1, that hold relay and meter cards.
 ///
@@ -247,59 +249,6 @@ impl<R: Relay, M: Meter> Cage<R, M> {
         ensures { IfOk result (λ chans. chans.items ≡ closed_list self.now.cards) }
     {
         self.slots.closed_chans(alloc)
-    }
-
-    /// The cards by slot; a meter that is out counts as its slot's.
-    pub fn layout(&self, alloc: Global) -> Result<Layout, AllocError>
-        ensures { IfOk result (λ layout. layout ≡ cage_layout self.now) }
-    {
-        // Reading a field tells the proof what holds of every `Cage`.
-        let _ = &self.slots;
-        let mut bays = Vec::with_capacity(alloc, PLACES)?;
-        for before in 0..SLOTS {
-            bays.push(self.contents(alloc, before + 1)?)?;
-        }
-        Ok(Layout::new(bays))
-    }
-
-    /// What the slot holds, where a meter that is out counts as the slot's.
-    fn contents(&self, alloc: Global, slot: u8) -> Result<Slot, AllocError>
-        requires { (1 ≤ slot) × (slot ≤ most_slots) }
-        ensures { IfOk result (λ contents. contents ≡ slot_at (cage_layout self.now) slot) }
-    {
-        if self.out.at(slot).is_some() {
-            return Ok(Slot::meter());
-        }
-        self.slots.contents(alloc, slot)
-    }
-
-    /// Whether the slot holds what the layout's slot tells, where a meter that is out counts as the slot's.
-    fn has_contents(&self, slot: u8, contents: &Slot) -> bool
-        requires { (1 ≤ slot) × (slot ≤ most_slots) }
-        ensures { IsTrue result ↔ (contents.now ≡ slot_at (cage_layout self.now) slot) }
-    {
-        if self.out.at(slot).is_some() {
-            return contents.is_meter();
-        }
-        self.slots.is_as(slot, contents)
-    }
-
-    /// Whether the layout is that of the cards, as [`Cage::layout`] tells it. It takes no memory.
-    pub fn has_layout(&self, layout: &Layout) -> bool
-        ensures { IsTrue result ↔ (layout.now ≡ cage_layout self.now) }
-    {
-        // Reading a field tells the proof what holds of every `Cage`.
-        let _ = &self.slots;
-        let bays = layout.slots();
-        if bays.len() != PLACES {
-            return false;
-        }
-        for before in 0..SLOTS {
-            if !self.has_contents(before + 1, &bays[before as usize]) {
-                return false;
-            }
-        }
-        true
     }
 
     /// Whether these are the closed channels, as [`Cage::closed_chans`] tells them. It takes no memory.

@@ -152,7 +152,7 @@ fn settle(steps: &[Step], at: Place) -> Place
     ensures does { (items : List Item) → Does steps.now at items → Does steps.now result items }
 {
     let mut place = at;
-    for turn in 0..MOST_COUNTING {
+    for _ in 0..MOST_COUNTING {
         match counted(steps, place) {
             Some(next) => place = next,
             None => return place,

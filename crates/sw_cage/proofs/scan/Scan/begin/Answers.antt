@@ -1,6 +1,6 @@
 use Rattle.std.proofs.Common.{◌≡◌, ◌+◌, ◌∙◌, length, drop, sym, ap, subst, arith, List}
 use Rattle.std.specs.List.{slice_get}
-use Rattle.sw_trigger.specs.Agenda.{Item, agenda}
+use Rattle.sw_trigger.specs.Agenda.{agenda}
 use Rattle.sw_code.specs.declared.code.Step.{Step}
 use Rattle.sw_code.specs.Code.{Unfolds}
 use Rattle.sw_code.specs.Compiled.{compiled}

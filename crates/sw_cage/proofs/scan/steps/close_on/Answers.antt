@@ -1,11 +1,9 @@
-use Rattle.std.proofs.Common.{◌≡◌, ℕ, ◌+◌, ◌∙◌, sym, ap, subst, List, Some}
+use Rattle.std.proofs.Common.{◌∙◌, sym, subst}
 use Rattle.std.specs.List.{slice_get}
-use Rattle.sw_trigger.specs.Agenda.{Item}
 use Rattle.sw_code.specs.declared.code.Step.TheVariants as step
 use Rattle.sw_code.specs.Pace.{IsNear}
 use Rattle.sw_cage.specs.declared.scan.steps.Place.{Place}
-use Rattle.sw_cage.specs.Steps.{Does, closed_by}
-use Rattle.sw_cage.proofs.StepLemmas.{place}
+use Rattle.sw_cage.specs.Steps.{Does}
 use Rattle.sw_cage.proofs.WayLemmas.{closer, way_closes}
 use Rattle.sw_cage.proofs.scan.steps.close_on.Goals as goal
 

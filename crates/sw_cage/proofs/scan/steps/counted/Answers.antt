@@ -1,12 +1,9 @@
-use Rattle.std.proofs.Common.{◌≡◌, ℕ, suc, ◌+◌, ◌<◌, ◌≤◌, ◌∙◌, sym, ap, subst, arith, List, length, Some, slice_set, ◌⊎◌, inl, inr}
-use Rattle.std.specs.Prelude.{slice_index_or}
+use Rattle.std.proofs.Common.{◌≡◌, ◌+◌, ◌∙◌, sym, ap, subst, arith, length, Some, slice_set}
 use Rattle.std.specs.List.{slice_get}
-use Rattle.sw_trigger.specs.Agenda.{Item}
 use Rattle.sw_code.specs.declared.code.Step.TheVariants as step
-use Rattle.sw_code.specs.Pace.{IsNear}
 use Rattle.sw_cage.specs.declared.scan.steps.Place.{Place}
 use Rattle.sw_cage.specs.Steps.{Does}
-use Rattle.sw_cage.proofs.StepLemmas.{place, range_at, near_at, does_set, loop_near, loop_does}
+use Rattle.sw_cage.proofs.StepLemmas.{place, range_at, does_set, loop_near, loop_does}
 use Rattle.sw_cage.proofs.scan.steps.counted.Goals as goal
 
 pub returns-in-Some-Set-clause-does : goal.returns-in-Some-Set-clause-does

@@ -1,4 +1,4 @@
-use Rattle.std.proofs.Common.{◌≡◌, ◌+◌, sym, subst}
+use Rattle.std.proofs.Common.{sym, subst}
 use Rattle.sw_code.specs.Pace.{IsNear}
 use Rattle.sw_cage.specs.declared.scan.steps.Place.{Place}
 use Rattle.sw_cage.specs.Steps.{Does}

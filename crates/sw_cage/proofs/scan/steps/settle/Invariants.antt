@@ -4,9 +4,9 @@ use Rattle.sw_code.specs.Pace.{IsNear}
 use Rattle.sw_cage.specs.Steps.{Does}
 use Rattle.sw_cage.proofs.scan.steps.settle.Given as goal
 
-abbrev pub invariant-loop-turn : goal.invariant-loop-turn
-invariant-loop-turn l = record {
-  few : l.turn ≤ 6;
-  near : IsNear l.steps (6 - l.turn) l.place.step;
+abbrev pub invariant-loop : goal.invariant-loop
+invariant-loop l = record {
+  few : l.counter ≤ 6;
+  near : IsNear l.steps (6 - l.counter) l.place.step;
   does : (items : List Item) → Does l.steps l.fn.at items → Does l.steps l.place items;
 }

@@ -1,0 +1,68 @@
+//! Which cards the cage has, as a plan sees them.
+
+ghost use Rattle.std.specs.Prelude.{◌≡◌, ◌≤◌, IfOk, ◌↔◌, IsTrue};
+ghost use Rattle.sw_base.specs.Limits.{most_slots};
+ghost use Rattle.sw_base.specs.Layout.{slot_at};
+ghost use Rattle.sw_cage.specs.Cage.{cage_layout};
+
+use crate::cage::Cage;
+use crate::slots::PLACES;
+use std::alloc::{AllocError, Global};
+use sw_base::SLOTS;
+use sw_card::{Meter, Relay};
+use sw_verify::{Layout, Slot};
+
+impl<R: Relay, M: Meter> Cage<R, M> {
+    /// The cards by slot; a meter that is out counts as its slot's.
+    pub fn layout(&self, alloc: Global) -> Result<Layout, AllocError>
+        ensures { IfOk result (λ layout. layout ≡ cage_layout self.now) }
+    {
+        // Reading a field tells the proof what holds of every `Cage`.
+        let _ = &self.slots;
+        let mut bays = Vec::with_capacity(alloc, PLACES)?;
+        for before in 0..SLOTS {
+            bays.push(self.contents(alloc, before + 1)?)?;
+        }
+        Ok(Layout::new(bays))
+    }
+
+    /// What the slot holds, where a meter that is out counts as the slot's.
+    fn contents(&self, alloc: Global, slot: u8) -> Result<Slot, AllocError>
+        requires { (1 ≤ slot) × (slot ≤ most_slots) }
+        ensures { IfOk result (λ contents. contents ≡ slot_at (cage_layout self.now) slot) }
+    {
+        if self.out.at(slot).is_some() {
+            return Ok(Slot::meter());
+        }
+        self.slots.contents(alloc, slot)
+    }
+
+    /// Whether the slot holds what the layout's slot tells, where a meter that is out counts as the slot's.
+    fn has_contents(&self, slot: u8, contents: &Slot) -> bool
+        requires { (1 ≤ slot) × (slot ≤ most_slots) }
+        ensures { IsTrue result ↔ (contents.now ≡ slot_at (cage_layout self.now) slot) }
+    {
+        if self.out.at(slot).is_some() {
+            return contents.is_meter();
+        }
+        self.slots.is_as(slot, contents)
+    }
+
+    /// Whether the layout is that of the cards, as [`Cage::layout`] tells it. It takes no memory.
+    pub fn has_layout(&self, layout: &Layout) -> bool
+        ensures { IsTrue result ↔ (layout.now ≡ cage_layout self.now) }
+    {
+        // Reading a field tells the proof what holds of every `Cage`.
+        let _ = &self.slots;
+        let bays = layout.slots();
+        if bays.len() != PLACES {
+            return false;
+        }
+        for before in 0..SLOTS {
+            if !self.has_contents(before + 1, &bays[before as usize]) {
+                return false;
+            }
+        }
+        true
+    }
+}
