@@ -4,6 +4,7 @@ ghost use Rattle.std.specs.Prelude.{◌≡◌, ℕ, Bool, List, [], ◌∷◌, �
 ghost use Rattle.std.specs.Char.{to_ascii_uppercase};
 ghost use Rattle.sw_lex.specs.Found.{IsFound, IsForm, IsNumbered, Fits};
 ghost use Rattle.sw_lex.specs.Table.{entries};
+ghost use Rattle.sw_lex.specs.Values.{is_named};
 ghost use Rattle.sw_lex.specs.Rows.{nodes_at, MatchesRow, Matches, is_form_from, is_starred};
 ghost use Rattle.sw_lex.specs.declared.table.Key.{Key};
 
@@ -36,7 +37,8 @@ fn is_rest(word: &[u8], form: &[u8], capitals: bool) -> bool
 /// Whether a word is the short form or the long form of a mnemonic that is written as in the standard, but for the
 /// case of its letters.
 pub fn is_form(word: &[u8], form: &[u8]) -> bool
-    ensures { IsTrue result ↔ IsForm form.now (map to_ascii_uppercase word.now) }
+    ensures form { IsTrue result ↔ IsForm form.now (map to_ascii_uppercase word.now) }
+    ensures named { result ≡ is_named form.now (map to_ascii_uppercase word.now) }
 {
     is_rest(word, form, true)
 }

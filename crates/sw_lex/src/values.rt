@@ -6,7 +6,7 @@ ghost use Rattle.std.specs.Result.{result_map_both};
 ghost use Rattle.sw_base.specs.Text.{is_blank, is_letter, AllPass, Spans};
 ghost use Rattle.sw_base.specs.Number.{Written, rounded};
 ghost use Rattle.sw_lex.specs.Values.{IsQuantity, ReadsQuantity, natural_in, whole_of, continuous_of, macros_of};
-ghost use Rattle.sw_lex.specs.Values.{unit_of, delay_of, delay_in, is_named, source_of, switch_of, source_meant};
+ghost use Rattle.sw_lex.specs.Values.{unit_of, delay_of, delay_in, source_of, switch_of, source_meant};
 ghost use Rattle.sw_lex.specs.Values.{switch_meant, all_digits, unnumbered};
 
 use crate::choice::{greatest, least, of_whole};
@@ -99,25 +99,17 @@ pub fn macros_of(n: &Nrf<'_>, suffix: &[u8]) -> Result<Command, ScpiError>
     }
 }
 
-/// Whether a text is one of the two forms of a mnemonic that is written as in the standard, but for the case of its
-/// letters.
-fn is_named(form: &[u8], text: &[u8]) -> bool
-    ensures { result ≡ is_named form.now (map to_ascii_uppercase text.now) }
-{
-    is_form(text, form)
-}
-
 /// The unit of time that a suffix names.
 fn unit_of(suffix: &[u8]) -> Option<Unit>
     ensures { result ≡ unit_of (map to_ascii_uppercase suffix.now) }
 {
-    if is_named(b"", suffix) {
+    if is_form(suffix, b"") {
         Some(Unit::S)
-    } else if is_named(b"S", suffix) {
+    } else if is_form(suffix, b"S") {
         Some(Unit::S)
-    } else if is_named(b"MS", suffix) {
+    } else if is_form(suffix, b"MS") {
         Some(Unit::Ms)
-    } else if is_named(b"US", suffix) {
+    } else if is_form(suffix, b"US") {
         Some(Unit::Us)
     } else {
         None
@@ -146,13 +138,13 @@ pub fn delay_of(layer: LayerName, n: &Nrf<'_>, suffix: &[u8]) -> Result<Command,
 fn source_of(text: &[u8]) -> Option<Source>
     ensures { result ≡ source_of (map to_ascii_uppercase text.now) }
 {
-    if is_named(b"IMMediate", text) {
+    if is_form(text, b"IMMediate") {
         Some(Source::Immediate)
-    } else if is_named(b"BUS", text) {
+    } else if is_form(text, b"BUS") {
         Some(Source::Bus)
-    } else if is_named(b"EXTernal", text) {
+    } else if is_form(text, b"EXTernal") {
         Some(Source::External)
-    } else if is_named(b"HOLD", text) {
+    } else if is_form(text, b"HOLD") {
         Some(Source::Hold)
     } else {
         None
@@ -162,9 +154,9 @@ fn source_of(text: &[u8]) -> Option<Source>
 fn switch_of(text: &[u8]) -> Option<bool>
     ensures { result ≡ switch_of (map to_ascii_uppercase text.now) }
 {
-    if is_named(b"ON", text) {
+    if is_form(text, b"ON") {
         Some(true)
-    } else if is_named(b"OFF", text) {
+    } else if is_form(text, b"OFF") {
         Some(false)
     } else {
         None
@@ -210,7 +202,7 @@ pub fn unnumbered(word: &[u8]) -> &[u8]
     ensures { result.now ≡ unnumbered word.now }
 {
     let (front, rest) = letters(word);
-    if is_named(b"LAYer", front) {
+    if is_form(front, b"LAYer") {
         if all_digits(rest) { front } else { word }
     } else {
         word

@@ -24,6 +24,7 @@ pub returns-in-empty-clause-none : goal.returns-in-empty-clause-none
 returns-in-empty-clause-none c =
     let e : map up c.args.words.now ≡ [] = ap (λ (ws : List (Bor (List ℕ))). map up ws) (none c.args.words.now c.in-empty.len_below) in
     λ key k f. nothing_there _ c.args.query key k c.groups.ensures.all (subst (λ (ws : List (List ℕ)). IsFound entries ws c.args.query key k) e f)
+
 pub returns-then-is_starred-clause-some : goal.returns-then-is_starred-clause-some
 returns-then-is_starred-clause-some c =
     subst (λ (ws : List (List ℕ)). IfSome c.matching.result (λ x. IsFound entries ws c.args.query x.0 x.1)) (whole c.args.words.now _ c.in-len1-up.len_at_least)

@@ -14,4 +14,5 @@ all_taken ws i l m =
     ∙ ap (λ (n : ℕ). take (n - 1) (texts ws)) (sym (length-map ws (λ (w : Bor (List ℕ)). w.now)))
 
 pub returns-after-loop-node : goal.returns-after-loop-node
-returns-after-loop-node c = c.loop-node.invariant.taken ∙ all_taken c.args.nodes.now c.loop-node.node-index c.loop-node-test.false c.loop-node.auto.node-index-end
+returns-after-loop-node c =
+    c.loop-node.invariant.taken ∙ all_taken c.args.nodes.now c.loop-node.node-index c.loop-node-test.false c.loop-node.auto.node-index-end
