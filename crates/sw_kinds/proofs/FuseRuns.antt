@@ -1,19 +1,20 @@
 -- Which call of a run a fuse turns into a fault.
-use Rattle.std.proofs.Common.{◌≡◌, ℕ, ◌+◌, Bool, true, false, List, [], ◌∷◌, ◌++◌, Option, Some, None, Result, Ok, Err, ◌⊎◌, inl, inr, refl, sym, ◌∙◌, subst}
+use Rattle.std.proofs.Common.{◌≡◌, ℕ, ◌+◌, Bool, true, false, List, [], ◌∷◌, ◌++◌, Option, Some, None, Result, ◌⊎◌, inl, inr, sym, ◌∙◌}
 use Rattle.std.proofs.Common.{arith}
 use Rattle.std.proofs.lemmas.Bool.{cases_Bool}
 use Rattle.std.proofs.lemmas.Grind.{common_steps}
-use Rattle.std.specs.Prelude.{IsErr, IsOk, if◌then◌else◌, ◌==◌}
+use Rattle.std.specs.Prelude.{IsErr, if◌then◌else◌, ◌==◌}
+use Rattle.sw_base.specs.declared.reading.Reading.{Reading}
 use Rattle.sw_card.specs.declared.board.CardFault.{CardFault}
-use Rattle.sw_kinds.specs.Fuse.{left_after, is_failing, DrivesByFuse}
-use Rattle.sw_kinds.specs.FuseRuns.{switch, cut, Made, Switches, Cuts, is_closing, closings, Does, Runs, IsNumbered, FailsByNumber}
+use Rattle.sw_kinds.specs.Fuse.{left_after, is_failing, DrivesByFuse, DrivesByOpenFuse, SamplesByFuse}
+use Rattle.sw_kinds.specs.FuseRuns.{switch, cut, Made, Switches, Cuts, is_closing, is_opening, HasFailed, Does, Calls, Runs, counted}
+use Rattle.sw_kinds.specs.FuseRuns.{IsNumbered, FailsByNumber, NeverFails}
 
--- what a fuse says of its calls, by what the driver behind it says and drives
-abbrev pub fuse_switches : {D : Type 0} → Switches D → (D → ℕ → Bool) → Switches (D × Option ℕ)
-fuse_switches drives driven = λ f ch on result g. DrivesByFuse drives driven f ch on result g
-
-abbrev pub fuse_cuts : {D : Type 0} → Cuts D → Cuts (D × Option ℕ)
-fuse_cuts cuts = λ f g. cuts f.0 g.0 × (g.1 ≡ f.1)
+-- each call through a fuse: it is counted, it fails where it is the failing one, and else passes
+pub record ByCountdown {S M : Type 0} (counts : M → Bool) (Failed : M → Type 0) (through : Calls (S × Option ℕ) M) (does : Calls S M) : Type 0 where
+  pub count : (f g : S × Option ℕ) (m : M) → through f m g → g.1 ≡ left_after (counts m) f.1
+  pub reports : (f g : S × Option ℕ) (m : M) → through f m g → is_failing (counts m) f.1 ≡ true → Failed m
+  pub passes : (f g : S × Option ℕ) (m : M) → through f m g → is_failing (counts m) f.1 ≡ false → does f.0 m g.0
 
 -- the counter after a call is at a number just where it was, before the call, at that number with this call counted
 earlier : (on : Bool) (left : Option ℕ) (n : ℕ) → left_after on left ≡ Some (n + 1) → left ≡ Some ((if on then 1 else 0) + n + 1)
@@ -26,11 +27,6 @@ later false left n h = grind (arith, common_steps, h)
 later true None n h = grind (arith, common_steps, h)
 later true (Some left) n h = grind (arith, common_steps, h)
 
-counted : {D : Type 0} (drives : Switches D) (cuts : Cuts D) (driven : D → ℕ → Bool) (f g : D × Option ℕ) (m : Made)
-    → Does (fuse_switches drives driven) (fuse_cuts cuts) f m g → g.1 ≡ left_after (is_closing m) f.1
-counted drives cuts driven f g (switch ch on, answer) d = d.counted
-counted drives cuts driven f g (cut, answer) d = d.0.1
-
 failing : (on : Bool) (left : Option ℕ) → is_failing on left ≡ true → (on ≡ true) × (left ≡ Some (0 + 1))
 failing false left h = grind (arith, common_steps, h)
 failing true None h = grind (arith, common_steps, h)
@@ -41,58 +37,93 @@ is_at false left h k = grind (arith, common_steps, h)
 is_at true None h k = grind (arith, common_steps, k)
 is_at true (Some left) h k = grind (arith, common_steps, k)
 
--- the first call of a run
-first : {D : Type 0} (drives : Switches D) (cuts : Cuts D) (driven : D → ℕ → Bool) (f g : D × Option ℕ) (m : Made)
-    → Does (fuse_switches drives driven) (fuse_cuts cuts) f m g → FailsByNumber drives cuts f.1 [] m
-first drives cuts driven f g (switch ch on, answer) d = record {
-  fails = λ n. d.reports (is_at on f.1 n.closes n.same);
-  passes = λ none. elim (cases_Bool (is_failing on f.1)) [
-    | inl h ↦ let k = failing on f.1 h in absurd (none (record { closes = k.0; same = k.1 }))
-    | inr h ↦ (f.0, g.0, d.passes h)
+pub numbered : {S M : Type 0} (counts : M → Bool) (Failed : M → Type 0) (through : Calls (S × Option ℕ) M) (does : Calls S M)
+    → ByCountdown counts Failed through does → (f end : S × Option ℕ) (before after : List M) (m : M) → Runs through f (before ++ m ∷ after) end
+    → FailsByNumber counts Failed does f.1 before m
+numbered counts Failed through does by f end [] after m runs = record {
+  fails = λ n. by.reports f runs.0 m runs.1 (is_at (counts m) f.1 n.counts_it n.same);
+  passes = λ none. elim (cases_Bool (is_failing (counts m) f.1)) [
+    | inl h ↦ let k = failing (counts m) f.1 h in absurd (none (record { counts_it = k.0; same = k.1 }))
+    | inr h ↦ (f.0, runs.0.0, by.passes f runs.0 m runs.1 h)
   ];
 }
-first drives cuts driven f g (cut, answer) d = record {
-  fails = λ n. absurd (let h : false ≡ true = n.closes in cc);
-  passes = λ none. (f.0, g.0, (d.0.0, d.1));
-}
-
-pub numbered : {D : Type 0} (drives : Switches D) (cuts : Cuts D) (driven : D → ℕ → Bool) (f end : D × Option ℕ) (before after : List Made) (m : Made)
-    → Runs (fuse_switches drives driven) (fuse_cuts cuts) f (before ++ m ∷ after) end → FailsByNumber drives cuts f.1 before m
-numbered drives cuts driven f end [] after m runs = first drives cuts driven f runs.0 m runs.1
-numbered drives cuts driven f end (x ∷ before) after m runs =
-    let next : runs.0.1 ≡ left_after (is_closing x) f.1 = counted drives cuts driven f runs.0 x runs.1 in
-    let tail = numbered drives cuts driven runs.0 end before after m runs.2 in
+numbered counts Failed through does by f end (x ∷ before) after m runs =
+    let next : runs.0.1 ≡ left_after (counts x) f.1 = by.count f runs.0 x runs.1 in
+    let tail = numbered counts Failed through does by runs.0 end before after m runs.2 in
     record {
-      fails = λ n. tail.fails (record { closes = n.closes; same = next ∙ later (is_closing x) f.1 (closings before) n.same });
-      passes = λ none. tail.passes (λ n. none (record { closes = n.closes; same = earlier (is_closing x) f.1 (closings before) (sym next ∙ n.same) }));
+      fails = λ n. tail.fails (record { counts_it = n.counts_it; same = next ∙ later (counts x) f.1 (counted counts before) n.same });
+      passes = λ none. tail.passes
+          (λ n. none (record { counts_it = n.counts_it; same = earlier (counts x) f.1 (counted counts before) (sym next ∙ n.same) }));
     }
 
-decided : (number : Option ℕ) (before : List Made) (m : Made) → IsNumbered number before m ⊎ (IsNumbered number before m → ⊥)
-decided None before m = inr (λ n. let h : None ≡ Some (closings before + 1) = n.same in cc)
-decided (Some k) before m =
-    elim (cases_Bool (is_closing m)) [
-      | inl on ↦ elim (cases_Bool (k == (closings before + 1))) [
-        | inl same ↦ inl (record { closes = on; same = grind (arith, common_steps, same) })
+decided : {M : Type 0} (counts : M → Bool) (number : Option ℕ) (before : List M) (m : M)
+    → IsNumbered counts number before m ⊎ (IsNumbered counts number before m → ⊥)
+decided counts None before m = inr (λ n. let h : None ≡ Some (counted counts before + 1) = n.same in cc)
+decided counts (Some k) before m =
+    elim (cases_Bool (counts m)) [
+      | inl on ↦ elim (cases_Bool (k == (counted counts before + 1))) [
+        | inl same ↦ inl (record { counts_it = on; same = grind (arith, common_steps, same) })
         | inr other ↦ inr (λ n. let h = n.same in grind (arith, common_steps, other, h))
       ]
-      | inr off ↦ inr (λ n. let h = sym n.closes ∙ off in cc)
+      | inr off ↦ inr (λ n. let h = sym n.counts_it ∙ off in cc)
     ]
 
-no_fault : {E : Type 0} (r : Result (Unit {0}) E) → IsOk r → IsErr r → ⊥
-no_fault (Ok x) h k = let no : false ≡ true = k in cc
-no_fault (Err e) h k = let no : false ≡ true = h in cc
-
-passed : {D : Type 0} (drives : Switches D) (cuts : Cuts D)
-    → ((old : D) (ch : ℕ) (on : Bool) (answer : Result (Unit {0}) CardFault) (new : D) → drives old ch on answer new → IsOk answer) → (old new : D) (m : Made)
-    → Does drives cuts old m new → IsErr m.1 → ⊥
-passed drives cuts never old new (switch ch on, answer) d h = no_fault answer (never old ch on answer new d) h
-passed drives cuts never old new (cut, answer) d h = no_fault answer (subst IsOk (sym d.1) refl) h
-
-pub only_numbered : {D : Type 0} (drives : Switches D) (cuts : Cuts D)
-    → ((old : D) (ch : ℕ) (on : Bool) (answer : Result (Unit {0}) CardFault) (new : D) → drives old ch on answer new → IsOk answer)
-    → (number : Option ℕ) (before : List Made) (m : Made) → FailsByNumber drives cuts number before m → IsErr m.1 → IsNumbered number before m
-only_numbered drives cuts never number before m h err =
-    elim (decided number before m) [
+pub only_numbered : {S M : Type 0} (counts : M → Bool) (Failed : M → Type 0) (does : Calls S M) → NeverFails Failed does
+    → (number : Option ℕ) (before : List M) (m : M) → FailsByNumber counts Failed does number before m → Failed m → IsNumbered counts number before m
+only_numbered counts Failed does never number before m h failed =
+    elim (decided counts number before m) [
       | inl n ↦ n
-      | inr none ↦ let p = h.passes none in absurd (passed drives cuts never p.0 p.1 m p.2 err)
+      | inr none ↦ let p = h.passes none in absurd (never p.0 m p.1 p.2 failed)
     ]
+
+-- what the fuses say of their calls, by what is behind them
+abbrev pub fuse_switches : {D : Type 0} → Switches D → (D → ℕ → Bool) → Switches (D × Option ℕ)
+fuse_switches drives driven = λ f ch on result g. DrivesByFuse drives driven f ch on result g
+
+abbrev pub open_fuse_switches : {D : Type 0} → Switches D → Switches (D × Option ℕ)
+open_fuse_switches drives = λ f ch on result g. DrivesByOpenFuse drives f ch on result g
+
+abbrev pub fuse_cuts : {D : Type 0} → Cuts D → Cuts (D × Option ℕ)
+fuse_cuts cuts = λ f g. cuts f.0 g.0 × (g.1 ≡ f.1)
+
+abbrev pub fuse_samples : {S : Type 0} → Calls S (Result Reading CardFault) → Calls (S × Option ℕ) (Result Reading CardFault)
+fuse_samples samples = λ f result g. SamplesByFuse samples f result g
+
+pub closings_by : {D : Type 0} (drives : Switches D) (cuts : Cuts D) (driven : D → ℕ → Bool)
+    → ByCountdown is_closing HasFailed (Does (fuse_switches drives driven) (fuse_cuts cuts)) (Does drives cuts)
+closings_by {D} drives cuts driven = record { count = count; reports = reports; passes = passes } where
+  through : Calls (D × Option ℕ) Made
+  through = Does (fuse_switches drives driven) (fuse_cuts cuts)
+
+  count : (f g : D × Option ℕ) (m : Made) → through f m g → g.1 ≡ left_after (is_closing m) f.1
+  count f g (switch ch on, answer) d = d.counted
+  count f g (cut, answer) d = d.0.1
+
+  reports : (f g : D × Option ℕ) (m : Made) → through f m g → is_failing (is_closing m) f.1 ≡ true → HasFailed m
+  reports f g (switch ch on, answer) d h = d.reports h
+  reports f g (cut, answer) d h = absurd (let no : false ≡ true = h in cc)
+
+  passes : (f g : D × Option ℕ) (m : Made) → through f m g → is_failing (is_closing m) f.1 ≡ false → Does drives cuts f.0 m g.0
+  passes f g (switch ch on, answer) d h = d.passes h
+  passes f g (cut, answer) d h = (d.0.0, d.1)
+
+pub openings_by : {D : Type 0} (drives : Switches D) (cuts : Cuts D)
+    → ByCountdown is_opening HasFailed (Does (open_fuse_switches drives) (fuse_cuts cuts)) (Does drives cuts)
+openings_by {D} drives cuts = record { count = count; reports = reports; passes = passes } where
+  through : Calls (D × Option ℕ) Made
+  through = Does (open_fuse_switches drives) (fuse_cuts cuts)
+
+  count : (f g : D × Option ℕ) (m : Made) → through f m g → g.1 ≡ left_after (is_opening m) f.1
+  count f g (switch ch on, answer) d = d.counted
+  count f g (cut, answer) d = d.0.1
+
+  reports : (f g : D × Option ℕ) (m : Made) → through f m g → is_failing (is_opening m) f.1 ≡ true → HasFailed m
+  reports f g (switch ch on, answer) d h = d.reports h
+  reports f g (cut, answer) d h = absurd (let no : false ≡ true = h in cc)
+
+  passes : (f g : D × Option ℕ) (m : Made) → through f m g → is_failing (is_opening m) f.1 ≡ false → Does drives cuts f.0 m g.0
+  passes f g (switch ch on, answer) d h = d.passes h
+  passes f g (cut, answer) d h = (d.0.0, d.1)
+
+pub readings_by : {S : Type 0} (samples : Calls S (Result Reading CardFault)) → ByCountdown (λ _. true) IsErr (fuse_samples samples) samples
+readings_by samples = record { count = λ f g m d. d.counted; reports = λ f g m d h. d.reports h; passes = λ f g m d h. d.passes h }

@@ -1,6 +1,6 @@
 -- Drivers and sources of which one call fails: the calls that are left until then, and what one call does.
-use Rattle.std.specs.Prelude.{◌≡◌, ℕ, ◌-◌, Bool, true, false, not, nat_lt, ◌==◌, Option, Some, None, Result, IsErr, OnOk}
-use Rattle.std.specs.Prelude.{if◌then◌else◌}
+use Rattle.std.specs.Prelude.{◌≡◌, ℕ, ◌-◌, Bool, true, false, not, nat_lt, ◌==◌, Option, Some, None, Result, IsErr}
+use Rattle.std.specs.Prelude.{OnOk, if◌then◌else◌}
 use Rattle.sw_base.specs.declared.reading.Reading.{Reading}
 use Rattle.sw_card.specs.declared.board.CardFault.{CardFault}
 
@@ -16,8 +16,8 @@ is_failing false left = false
 is_failing true None = false
 is_failing true (Some left) = left == 1
 
--- One call through the fuse of closings, by what a call of the driver behind it does and leaves driven: it passes, but at the
--- failing closing it reports a fault, and the driver behind it was asked all the same.
+-- One call through the fuse of closings, by what a call of the driver behind it does and leaves driven: it passes, but
+-- at the failing closing it reports a fault, and the driver behind it was asked all the same.
 pub record DrivesByFuse {D : Type 0}
     (drives : D → ℕ → Bool → Result (Unit {0}) CardFault → D → Type 0) (driven : D → ℕ → Bool)
     (old : D × Option ℕ) (ch : ℕ) (on : Bool) (result : Result (Unit {0}) CardFault) (new : D × Option ℕ) : Type 0 where

@@ -1,6 +1,6 @@
--- Lists of calls that a driver was asked for, one after another, and which of them a fuse turns into a fault (own).
-use Rattle.std.specs.Prelude.{◌≡◌, ℕ, ◌+◌, ◌↔◌, Bool, true, false, List, [], ◌∷◌, ◌++◌, Option, Some, if◌then◌else◌}
-use Rattle.std.specs.Prelude.{Result, Ok, IsOk, IsErr}
+-- Lists of calls made one after another, and which of them a fuse turns into a fault (own).
+use Rattle.std.specs.Prelude.{◌≡◌, ℕ, ◌+◌, ◌↔◌, Bool, true, false, not, List, [], ◌∷◌, ◌++◌, Option, Some}
+use Rattle.std.specs.Prelude.{if◌then◌else◌, Result, Ok, IsErr}
 use Rattle.sw_card.specs.declared.board.CardFault.{CardFault}
 
 -- a call of a driver: a channel is asked for, on or off, or the supply is cut
@@ -8,7 +8,7 @@ pub data Call : Type 0 where
   switch : (ch : ℕ) → (on : Bool) → Call
   cut : Call
 
--- a call that was made, and what it answered
+-- a call of a driver that was made, and what it answered
 abbrev pub Made : Type 0
 Made = Call × Result (Unit {0}) CardFault
 
@@ -19,54 +19,62 @@ Switches D = D → ℕ → Bool → Result (Unit {0}) CardFault → D → Type 0
 abbrev pub Cuts : Type 0 → Type 1
 Cuts D = D → D → Type 0
 
--- the call closes a channel
+-- the call closes a channel; opens one; failed
 abbrev pub is_closing : Made → Bool
 is_closing (switch ch on, answer) = on
 is_closing (cut, answer) = false
 
--- how many of the calls close a channel
-abbrev pub closings : List Made → ℕ
-closings [] = 0
-closings (m ∷ made) = (if is_closing m then 1 else 0) + closings made
+abbrev pub is_opening : Made → Bool
+is_opening (switch ch on, answer) = not on
+is_opening (cut, answer) = false
+
+abbrev pub HasFailed : Made → Type 0
+HasFailed m = IsErr m.1
 
 -- the driver before a call, the call, the driver after it; a cut answers that it was done
 abbrev pub Does : {D : Type 0} → Switches D → Cuts D → D → Made → D → Type 0
 Does switches cuts before (switch ch on, answer) after = switches before ch on answer after
 Does switches cuts before (cut, answer) after = cuts before after × (answer ≡ Ok tt)
 
--- the driver before these calls, made one after another, and after them
-abbrev pub Runs : {D : Type 0} → Switches D → Cuts D → D → List Made → D → Type 0
-Runs switches cuts before [] after = before ≡ after
-Runs {D} switches cuts before (m ∷ made) after =
-    (between : D) × Does switches cuts before m between × Runs switches cuts between made after
+-- what a call, made and answered so, may do to what it is made of
+abbrev pub Calls : Type 0 → Type 0 → Type 1
+Calls S M = S → M → S → Type 0
 
--- the call is the closing with this number, counted from 1, where these were made before it
-pub record IsNumbered (number : Option ℕ) (before : List Made) (m : Made) : Type 0 where
-  pub closes : is_closing m ≡ true
-  pub same : number ≡ Some (closings before + 1)
+-- what is called before these calls, made one after another, and after them
+abbrev pub Runs : {S M : Type 0} → Calls S M → S → List M → S → Type 0
+Runs does before [] after = before ≡ after
+Runs {S} does before (m ∷ made) after = (between : S) × does before m between × Runs does between made after
 
--- The call with this number failed, and any other answered what the driver behind the fuse may answer.
-pub record FailsByNumber {D : Type 0} (switches : Switches D) (cuts : Cuts D)
-    (number : Option ℕ) (before : List Made) (m : Made) : Type 0 where
-  pub fails : IsNumbered number before m → IsErr m.1
-  pub passes : (IsNumbered number before m → ⊥) → (old new : D) × Does switches cuts old m new
+-- how many of the calls count
+abbrev pub counted : {M : Type 0} → (M → Bool) → List M → ℕ
+counted counts [] = 0
+counted counts (m ∷ made) = (if counts m then 1 else 0) + counted counts made
+
+-- of the calls that count it is the one with this number, counted from 1, where these were made before it
+pub record IsNumbered {M : Type 0} (counts : M → Bool) (number : Option ℕ) (before : List M) (m : M) : Type 0 where
+  pub counts_it : counts m ≡ true
+  pub same : number ≡ Some (counted counts before + 1)
+
+-- The call with this number failed, and any other answered what is behind the fuse may answer.
+pub record FailsByNumber {S M : Type 0} (counts : M → Bool) (Failed : M → Type 0) (does : Calls S M)
+    (number : Option ℕ) (before : List M) (m : M) : Type 0 where
+  pub fails : IsNumbered counts number before m → Failed m
+  pub passes : (IsNumbered counts number before m → ⊥) → (old new : S) × does old m new
 
 -- So it is with each call of every list of calls that is made through a new fuse, by what the fuse says of its calls.
-abbrev pub FailByNumber : {D : Type 0} → Switches (D × Option ℕ) → Cuts (D × Option ℕ) → Switches D → Cuts D → Type 0
-FailByNumber {D} through cutting switches cuts =
-    (driver : D) (number : Option ℕ) (before after : List Made) (m : Made) (end : D × Option ℕ)
-    → Runs through cutting (driver, number) (before ++ m ∷ after) end
-    → FailsByNumber switches cuts number before m
+abbrev pub FailByNumber : {S M : Type 0} → (M → Bool) → (M → Type 0) → Calls (S × Option ℕ) M → Calls S M → Type 0
+FailByNumber {S} {M} counts Failed through does =
+    (behind : S) (number : Option ℕ) (before after : List M) (m : M) (end : S × Option ℕ)
+    → Runs through (behind, number) (before ++ m ∷ after) end
+    → FailsByNumber counts Failed does number before m
 
--- no call that switches may fail
-abbrev pub NeverFails : {D : Type 0} → Switches D → Type 0
-NeverFails {D} switches =
-    (old : D) (ch : ℕ) (on : Bool) (answer : Result (Unit {0}) CardFault) (new : D) → switches old ch on answer new
-    → IsOk answer
+-- no call may fail
+abbrev pub NeverFails : {S M : Type 0} → (M → Type 0) → Calls S M → Type 0
+NeverFails {S} {M} Failed does = (old : S) (m : M) (new : S) → does old m new → Failed m → ⊥
 
 -- Of every list of calls that is made through a new fuse a call failed exactly where it is the one with the number.
-abbrev pub FailOnlyByNumber : {D : Type 0} → Switches (D × Option ℕ) → Cuts (D × Option ℕ) → Type 0
-FailOnlyByNumber {D} through cutting =
-    (driver : D) (number : Option ℕ) (before after : List Made) (m : Made) (end : D × Option ℕ)
-    → Runs through cutting (driver, number) (before ++ m ∷ after) end
-    → (IsErr m.1 ↔ IsNumbered number before m)
+abbrev pub FailOnlyByNumber : {S M : Type 0} → (M → Bool) → (M → Type 0) → Calls (S × Option ℕ) M → Type 0
+FailOnlyByNumber {S} {M} counts Failed through =
+    (behind : S) (number : Option ℕ) (before after : List M) (m : M) (end : S × Option ℕ)
+    → Runs through (behind, number) (before ++ m ∷ after) end
+    → (Failed m ↔ IsNumbered counts number before m)

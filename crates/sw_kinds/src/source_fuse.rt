@@ -1,7 +1,8 @@
 //! A source of which one reading fails.
 
-ghost use Rattle.std.specs.Prelude.{◌≡◌, ℕ, Option};
+ghost use Rattle.std.specs.Prelude.{◌≡◌, ℕ, true, Option, IsErr};
 ghost use Rattle.sw_kinds.specs.Fuse.{SamplesByFuse};
+ghost use Rattle.sw_kinds.specs.FuseRuns.{FailByNumber, NeverFails, FailOnlyByNumber};
 
 use crate::countdown::Countdown;
 use crate::source::Source;
@@ -46,3 +47,11 @@ impl<S: Source> Source for SourceFuse<S> {
         self.source.sample()
     }
 }
+
+/// A law: of the readings asked for through a new fuse exactly the one with its number fails by it, counted from 1, and
+/// every other answers what the source behind it answered. Over a source that never fails it is the one that fails.
+pub fn one_reading_fails<S: Source>()
+    ensures numbered { FailByNumber (λ _. true) IsErr ⟦<SourceFuse<S> as Source>⟧.samples S.samples }
+    ensures exactly { NeverFails IsErr S.samples
+        → FailOnlyByNumber (λ _. true) IsErr ⟦<SourceFuse<S> as Source>⟧.samples }
+{}
