@@ -85,7 +85,7 @@ known_action (BetweenScans e) p ask f q h = barred_answered (is_running p) e p f
 known_action (AfterScan e) p ask f q h = known_waiting (is_running p) e p ask f q h
 
 known : (p : Panel) (ask : SessionAsk) (f : Bool) (q : Panel) → StepJoined p ask f Stranger None q → ⊥
-known p (Ask.Unit sid command answered) f q h = known_action (action_of answered command) p (Ask.Unit sid command answered) f q h
+known p (Ask.Unit sid command available) f q h = known_action (action_of available command) p (Ask.Unit sid command available) f q h
 known p (Ask.Bus sid) f q h = happening_answered _ h.told Stranger h.answer_is
 known p (Ask.Snapshot sid) f q h = h
 known p (Ask.Start sid plan) f q h = h

@@ -10,7 +10,7 @@ use Rattle.sw_cage.specs.Cage.{CageSeen, safe_state}
 use Rattle.sw_cage.specs.Cage.{with_cards as cage_with}
 use Rattle.sw_cage.specs.Install.{stopped, without_card}
 use Rattle.sw_cage.proofs.ChannelCallLemmas.{or_false, failed_rest, failed_rest_old, sets_unfailed, identities_all_open}
-use Rattle.sw_core.specs.Step.{IsFallen}
+use Rattle.sw_core.specs.Step.{IsFailSafe}
 
 pub failed_same : (r : Accounts) → any_failed r r ≡ false
 failed_same r = Rattle.sw_cage.proofs.ChannelCallLemmas.failed_same r
@@ -22,7 +22,7 @@ pub failed_sets : (old new : Accounts) (chans : List Channel) (on : Bool) → Se
 failed_sets old new chans on s = sets_unfailed old new s.rest
 
 -- a failing call, and then every relay opened
-pub fallen : (old mid new : Accounts) (chans : List Channel) → IsDisturbed old chans mid → new ≡ all_open mid → (any_failed old new ≡ true) × IsFallen old new
+pub fallen : (old mid new : Accounts) (chans : List Channel) → IsDisturbed old chans mid → new ≡ all_open mid → (any_failed old new ≡ true) × IsFailSafe old new
 fallen old mid new chans d e = (
   ap (λ (r : Accounts). any_failed old r) e ∙ failed_rest old mid ∙ d.failed,
   record {

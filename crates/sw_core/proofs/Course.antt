@@ -47,7 +47,7 @@ effect_first b (Awaits w ∷ l) x e = refl
 effect_first b (Close c ∷ l) x e = absurd (cc (e))
 effect_first b (Open c ∷ l) x e = absurd (cc (e))
 
-effect_next : (b : Channels) (s : Setup) (i : ℕ) → effect (effect b (moves_from s i)) (drop (i + length (moves_from s i)) (agenda s)) ≡ effect b (drop i (agenda s))
+pub effect_next : (b : Channels) (s : Setup) (i : ℕ) → effect (effect b (moves_from s i)) (drop (i + length (moves_from s i)) (agenda s)) ≡ effect b (drop i (agenda s))
 effect_next b s i = ap (λ (l : List Item). effect (effect b (moves_from s i)) l) (drop_past i (length (moves_from s i)) (agenda s)) ∙ effect_lead b (drop i (agenda s))
 
 -- ---- moves
@@ -98,12 +98,17 @@ holds_same p q e r at i = (at, sym e ∙ i, refl, ap (λ (b : Channels). effect 
 pub holds_none : (p q : CageSeen) → q.scan ≡ None → Holds p q
 holds_none p q e at i = absurd (let n = sym e ∙ i in cc (n))
 
+-- past what it awaits a scan would leave the same closed
+pub past_closed : (p from : CageSeen) (at : ScanSeen) (x : Awaited) → awaits at ≡ Some x → SameClosed p from → effect (is_closed from.cards) (drop (at.index + 1) (agenda at.setup)) ≡ leaves p.cards at
+past_closed p from at x e same =
+    ap (λ (b : Channels). effect b (drop (at.index + 1) (agenda at.setup))) (fun_ext same)
+    ∙ ap (λ (l : List Item). effect (is_closed p.cards) l) (drop_past at.index 1 (agenda at.setup))
+    ∙ effect_first (is_closed p.cards) (drop at.index (agenda at.setup)) x e
+
 pub holds_goes : (p q from : CageSeen) (at : ScanSeen) (x : Awaited) (told : TakenSeen) → p.scan ≡ Some at → awaits at ≡ Some x → SameClosed p from → Advances from at.setup (at.index + 1) told q → Holds p q
 holds_goes p q from at x told is e same g new i =
     let r = leaves_goes (occupancy_of from) (occupancy_of q) from.number at.setup (at.index + 1) told q.scan new g.runs i in
-    let past : effect (is_closed from.cards) (drop (at.index + 1) (agenda at.setup)) ≡ leaves p.cards at =
-    ap (λ (b : Channels). effect b (drop (at.index + 1) (agenda at.setup))) (fun_ext same) ∙ ap (λ (l : List Item). effect (is_closed p.cards) l) (drop_past at.index 1 (agenda at.setup)) ∙ effect_first (is_closed p.cards) (drop at.index (agenda at.setup)) x e in
-    (at, is, r.0, r.1 ∙ past)
+    (at, is, r.0, r.1 ∙ past_closed p from at x e same)
 
 pub holds_on : (p m q : CageSeen) → Holds p m → Holds m q → Holds p q
 holds_on p m q h k at i = let a = k at i in let b = h a.0 a.1 in (b.0, b.1, a.2 ∙ b.2, a.3 ∙ b.3)

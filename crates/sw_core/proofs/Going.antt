@@ -14,14 +14,14 @@ use Rattle.sw_cage.specs.Cage.{ScanSeen, CageSeen, ticket_of}
 use Rattle.sw_cage.specs.Advance.{moves_from, next_place}
 use Rattle.sw_cage.specs.Takes.{Takes, TakesReturn}
 use Rattle.sw_cage.specs.Work.{JobSeen, FinishedSeen}
-use Rattle.sw_cage.specs.TakenSeen.{TakenSeen, SaysIgnored, SaysWaits, SaysPause, SaysJob, SaysEnded, SaysFault}
+use Rattle.sw_cage.specs.TakenSeen.{TakenSeen, SaysIgnored, SaysWaits, SaysPause, SaysJob, SaysEnded, SaysFault, tells_fault}
 use Rattle.sw_cage.specs.declared.job.Ticket.{Ticket}
 use Rattle.sw_cage.specs.declared.taken.Happening.{Happening}
 use Rattle.sw_cage.specs.Outcome.{Moved, Occupancy, occupancy_of, IsSent, Arrives, Reaches, AdvancesOrFails, Advances, AdvancesPast, AdvancesPastFrom, Counts, begun, with_back, with_reading}
 use Rattle.sw_cage.proofs.AdvanceLemmas.{same_cage}
 use Rattle.sw_core.specs.Panel.{Panel}
-use Rattle.sw_core.specs.Registers.{alarmed, calmed}
-use Rattle.sw_core.specs.Step.{is_fault, Happens, Returns, Starts}
+use Rattle.sw_core.specs.Registers.{card_fault_reported, card_fault_cleared}
+use Rattle.sw_core.specs.Step.{Happens, Returns, Starts}
 use Rattle.sw_core.proofs.Same.{same_rack}
 
 moved_once : (old new new' : Accounts) (moves : List Item) → Moved old moves new → Moved old moves new' → new ≡ new'
@@ -101,15 +101,15 @@ abbrev pub told_cage : Panel → CageSeen → StatusSeen → Panel
 told_cage p c s = record p { cage = c; status = s }
 
 -- two calls that told the same and left the same cage left the same panel
-tolled : (p q q' : Panel) (told told' : TakenSeen) (calm : StatusSeen) → told ≡ told' → q.cage ≡ q'.cage → q ≡ record p { cage = q.cage; status = if is_fault told then alarmed p.status else calm } → q' ≡ record p { cage = q'.cage; status = if is_fault told' then alarmed p.status else calm } → q ≡ q'
-tolled p q q' told told' calm t c e f =
-    e ∙ ap (λ (x : CageSeen). told_cage p x (if is_fault told then alarmed p.status else calm)) c ∙ ap (λ (x : TakenSeen). told_cage p q'.cage (if is_fault x then alarmed p.status else calm)) t ∙ sym f
+reported : (p q q' : Panel) (told told' : TakenSeen) (cleared : StatusSeen) → told ≡ told' → q.cage ≡ q'.cage → q ≡ record p { cage = q.cage; status = if tells_fault told then card_fault_reported p.status else cleared } → q' ≡ record p { cage = q'.cage; status = if tells_fault told' then card_fault_reported p.status else cleared } → q ≡ q'
+reported p q q' told told' cleared t c e f =
+    e ∙ ap (λ (x : CageSeen). told_cage p x (if tells_fault told then card_fault_reported p.status else cleared)) c ∙ ap (λ (x : TakenSeen). told_cage p q'.cage (if tells_fault x then card_fault_reported p.status else cleared)) t ∙ sym f
 
 abbrev pub IsIgnored : Panel → Happening → TakenSeen → Panel → Type 0
 IsIgnored p happening told q = (told ≡ SaysIgnored) × (Takes p.cage happening → ⊥) × (q ≡ p)
 
 abbrev pub IsGoing : Panel → Happening → TakenSeen → Panel → Type 0
-IsGoing p happening told q = Takes p.cage happening × AdvancesPast p.cage told q.cage × (q ≡ record p { cage = q.cage; status = if is_fault told then alarmed p.status else p.status })
+IsGoing p happening told q = Takes p.cage happening × AdvancesPast p.cage told q.cage × (q ≡ record p { cage = q.cage; status = if tells_fault told then card_fault_reported p.status else p.status })
 
 happens_as : (p : Panel) (happening : Happening) (f : Bool) (told : TakenSeen) (q : Panel) → Happens p happening f told q → IsIgnored p happening told q ⊎ IsGoing p happening told q
 happens_as p happening f SaysIgnored q h = inl (refl, h.1, h.2)
@@ -124,7 +124,7 @@ happens_once p q q' happening f f' told told' h k n m = elim (happens_as p happe
   | inl a ↦ elim (happens_as p happening f' told' q' k) [ inl b ↦ (a.0 ∙ sym b.0, a.2 ∙ sym b.2) | inr b ↦ absurd (a.1 b.0) ]
   | inr a ↦ elim (happens_as p happening f' told' q' k) [
     | inl b ↦ absurd (b.1 a.0)
-    | inr b ↦ (let r = past_once p.cage q.cage q'.cage p.cage.scan told told' a.1 b.1 n m in (r.0, tolled p q q' told told' p.status r.0 r.1 a.2 b.2))
+    | inr b ↦ (let r = past_once p.cage q.cage q'.cage p.cage.scan told told' a.1 b.1 n m in (r.0, reported p q q' told told' p.status r.0 r.1 a.2 b.2))
   ]
 ]
 
@@ -136,7 +136,7 @@ abbrev pub IsLate : Panel → FinishedSeen → TakenSeen → Panel → Type 0
 IsLate p done told q = (told ≡ SaysIgnored) × (TakesReturn p.cage done.slot done.ticket → ⊥) × (q ≡ record p { cage = with_back p.cage done })
 
 abbrev pub IsCounted : Panel → FinishedSeen → TakenSeen → Panel → Type 0
-IsCounted p done told q = TakesReturn p.cage done.slot done.ticket × Counts (with_back p.cage done) done.outcome told q.cage × (q ≡ record p { cage = q.cage; status = if is_fault told then alarmed p.status else p.status })
+IsCounted p done told q = TakesReturn p.cage done.slot done.ticket × Counts (with_back p.cage done) done.outcome told q.cage × (q ≡ record p { cage = q.cage; status = if tells_fault told then card_fault_reported p.status else p.status })
 
 returns_as : (p : Panel) (done : FinishedSeen) (f : Bool) (told : TakenSeen) (q : Panel) → Returns p done f told q → IsLate p done told q ⊎ IsCounted p done told q
 returns_as p done f SaysIgnored q h = inl (refl, h.1, h.2)
@@ -151,11 +151,11 @@ returns_once p q q' done f f' told told' h k n m = elim (returns_as p done f tol
   | inl a ↦ elim (returns_as p done f' told' q' k) [ inl b ↦ (a.0 ∙ sym b.0, a.2 ∙ sym b.2) | inr b ↦ absurd (a.1 b.0) ]
   | inr a ↦ elim (returns_as p done f' told' q' k) [
     | inl b ↦ absurd (b.1 a.0)
-    | inr b ↦ (let r = counts_once (with_back p.cage done) q.cage q'.cage done.outcome told told' a.1 b.1 n m in (r.0, tolled p q q' told told' p.status r.0 r.1 a.2 b.2))
+    | inr b ↦ (let r = counts_once (with_back p.cage done) q.cage q'.cage done.outcome told told' a.1 b.1 n m in (r.0, reported p q q' told told' p.status r.0 r.1 a.2 b.2))
   ]
 ]
 
 pub starts_once : (p q q' : Panel) (plan : Snapshot) (f f' : Bool) (told told' : TakenSeen) → Starts p plan f told q → Starts p plan f' told' q' → told ≢ SaysFault → told' ≢ SaysFault → (told ≡ told') × (q ≡ q')
 starts_once p q q' plan f f' told told' h k n m =
     let r = goes_once (begun p.cage) q.cage q'.cage p.settings 0 told told' h.3 k.3 n m in
-    (r.0, tolled p q q' told told' (calmed p.status) r.0 r.1 h.4 k.4)
+    (r.0, reported p q q' told told' (card_fault_cleared p.status) r.0 r.1 h.4 k.4)

@@ -21,6 +21,7 @@ use Rattle.sw_cage.specs.Cage.{ScanSeen, CageSeen, cage_layout, layout_with, tic
 use Rattle.sw_cage.specs.Advance.{moves_from, next_place, awaits}
 use Rattle.sw_cage.specs.Good.{IsHeld, IsGood, IsRunning, HasRoom}
 use Rattle.sw_cage.specs.Good.{IsGoodWithRoom as HasKept}
+use Rattle.sw_core.specs.Good.{OptionFew, IsFew}
 use Rattle.sw_cage.specs.Takes.{Takes, TakesIf, TakesReturn, TakesReturnThere, AwaitsOther}
 use Rattle.sw_cage.specs.Work.{FinishedSeen}
 use Rattle.sw_cage.specs.TakenSeen.{TakenSeen, SaysIgnored, SaysWaits, SaysPause, SaysJob, SaysEnded, SaysFault}
@@ -36,14 +37,6 @@ use Rattle.sw_cage.proofs.MoveLemmas.{moved_layout}
 use Rattle.sw_cage.proofs.UnderwayLemmas.{right_here, leading_front}
 use Rattle.sw_cage.proofs.AdvanceLemmas.{CanGo, lengths, meter_open, good_goes}
 use Rattle.sw_cage.proofs.HappeningLemmas.{go_other, kept_back, kept_failed, counted, begins, out_slot}
-
--- a relay card has at most 99 channels
-abbrev pub OptionFew : Option Account → Type 0
-OptionFew None = Unit {0}
-OptionFew (Some a) = is_meter a ≡ false → length a.groups ≤ 99
-
-abbrev pub IsFew : Accounts → Type 0
-IsFew rack = (slot : ℕ) → OptionFew (slot_at rack slot)
 
 -- the cage is good, no two closed channels clash, and cards are as they may be
 pub record IsKept (c : CageSeen) : Type 0 where

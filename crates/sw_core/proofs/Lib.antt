@@ -12,7 +12,13 @@ mod OneSession
 mod OneCard
 mod Determined
 mod Kept
+mod Harmless
 mod Safety
+mod Settled
 mod Obeyed
 mod Course
-mod Nearing
+mod Advancing
+mod Still
+mod Moving
+mod ScanRuns
+mod EveryRun

@@ -1,5 +1,5 @@
 -- What commands come to, in the words of who sends them.
-use Rattle.std.proofs.Common.{◌≡◌, ◌≢◌, ℕ, ◌-◌, ◌<◌, ◌≤◌, ◌==◌, ◌&&◌, not, Bool, true, false, List, length, Option, None, Some, slice_set, refl, sym, ◌∙◌, ap, subst, inl, inr, [], ◌∷◌, map}
+use Rattle.std.proofs.Common.{Result, Ok, Err, ◌≡◌, ◌≢◌, ℕ, ◌-◌, ◌<◌, ◌≤◌, ◌==◌, ◌&&◌, not, Bool, true, false, List, length, Option, None, Some, slice_set, refl, sym, ◌∙◌, ap, subst, inl, inr, [], ◌∷◌, map}
 use Rattle.std.specs.Prelude.{if◌then◌else◌, decimal, MatchBool}
 use Rattle.std.proofs.lemmas.List.{length-map}
 use Rattle.sw_base.specs.Layout.{Channel}
@@ -16,10 +16,13 @@ use Rattle.sw_cage.specs.Accounts.{Accounts, is_closed, option_closed, all_open,
 use Rattle.sw_cage.specs.Change.{is_in}
 use Rattle.sw_cage.specs.Cage.{CageSeen, ScanSeen, safe_state}
 use Rattle.sw_cage.specs.Install.{stopped, without_card}
-use Rattle.sw_cage.specs.Outcome.{AdvancesPastFrom}
+use Rattle.sw_cage.specs.Outcome.{AdvancesPastFrom, Counts, with_back, with_reading}
+use Rattle.sw_cage.specs.Work.{FinishedSeen}
+use Rattle.sw_card.specs.declared.board.CardFault.{CardFault}
+use Rattle.sw_core.proofs.Settled.{is_outside}
 use Rattle.sw_cage.specs.TakenSeen.{TakenSeen, SaysIgnored, SaysWaits, SaysPause, SaysJob, SaysEnded, SaysFault}
 use Rattle.sw_cage.specs.declared.taken.Happening.{Happening}
-use Rattle.sw_cage.specs.declared.taken.Happening.TheVariants.{Bus}
+use Rattle.sw_cage.specs.declared.taken.Happening.TheVariants.{Bus, External, Elapsed}
 use Rattle.sw_cage.proofs.SlotChangeLemmas.{is_none, slot_cases, all_open_closed}
 use Rattle.sw_core.specs.declared.ask.Sid.{Sid}
 use Rattle.sw_core.specs.declared.ask.SessionAsk.{SessionAsk}
@@ -29,14 +32,15 @@ use Rattle.sw_core.specs.declared.ask.SessionAnswer.TheVariants.{Done, Refused}
 use Rattle.sw_core.specs.Panel.{Panel, is_running}
 use Rattle.sw_core.specs.Action.{Effect, TellsNumber, TellsText, TellsReadings, ReadsOut, SetsStatus, SetsUp, Closes, Opens, TellsRelays, Leaves}
 use Rattle.sw_core.specs.Action.{Resets, Offers, Refuses, IsOfMacros, Initiates, Action, AtOnce, BetweenScans, AfterScan, action_of}
-use Rattle.sw_core.specs.Registers.{alarmed}
+use Rattle.sw_core.specs.Registers.{card_fault_reported}
 use Rattle.sw_core.specs.Event.{ended, erred, last_number}
-use Rattle.sw_core.specs.View.{WorkView, AskView, AskSession, AskInstall, AskEject, AskExternal, AskElapsed, AskFinished, AnswerView, SaysSession, SaysEjected}
+use Rattle.sw_core.specs.View.{WorkView, AskView, AskSession, AskInstall, AskEject, AskExternal, AskElapsed, AskFinished, AnswerView, SaysSession, SaysEjected, SaysFailed}
 use Rattle.sw_core.specs.Seats.{asker_of}
-use Rattle.sw_core.specs.Step.{Falls, StepClose, StepOpen, StepFlags, StepText, StepRefused, StepReadings, StepAlone, StepEffect, StepHeld, StepAction}
-use Rattle.sw_core.specs.Step.{Happens, session_told, StepSnapshot, StepStart, started_answer, Starts, outside_told, StepJoined, StepAdmitted, StepNew, drops, shuts_out, StepSession, Acts, acts_unnumbered, IsWorn, IsEvent, IsUnnumbered, Step}
-use Rattle.sw_core.specs.Run.{IsAlarmed, IsAtRest}
-use Rattle.sw_core.proofs.Safety.{IsHarmless, IsHarmlessAction, harmless, rest_closed, rest_slot}
+use Rattle.sw_core.specs.Step.{FailsSafe, StepClose, StepOpen, StepFlags, StepText, StepRefused, StepReadings, StepAlone, StepEffect, StepHeld, StepAction}
+use Rattle.sw_core.specs.Step.{StepOutside, Returns, Happens, session_told, StepSnapshot, StepStart, started_answer, Starts, outside_told, StepJoined, StepAdmitted, StepNew, drops, shuts_out, StepSession, Acts, acts_unnumbered, IsWorn, IsEvent, IsUnnumbered, Step}
+use Rattle.sw_core.specs.Run.{IsAfterCardFault, IsAtRest, IsDoneFor, tells_failure}
+use Rattle.sw_core.proofs.Harmless.{IsHarmless, IsHarmlessAction, harmless}
+use Rattle.sw_core.proofs.Safety.{rest_closed, rest_slot}
 
 -- an answer that hands nothing back is an event's
 event_if : (b : Bool) (p : Panel) (ask : AskView) (f : Bool) (a : AnswerView) (q : Panel) → (IsWorn ask a → ⊥) → MatchBool b (IsUnnumbered p ask f a q) (IsEvent p ask f a q) → IsEvent p ask f a q
@@ -59,41 +63,51 @@ not_barred true p effect f t w q h = absurd h.0
 not_barred false p effect f t w q h = h
 
 -- what a joined session is answered that its command is done
-done_of : (p : Panel) (sid : Sid) (command : Command) (answered f : Bool) (q : Panel) (e : IsEvent p (AskSession (Ask.Unit sid command answered)) f (SaysSession (Done None) None) q)
-    → StepAction (action_of answered command) p (Ask.Unit sid command answered) f (Done None) None e.done
-done_of p sid command answered f q e =
-    not_kept_out (drops p sid (Ask.Unit sid command answered)) (shuts_out p sid (Ask.Unit sid command answered)) p (Ask.Unit sid command answered) f None None e.done e.acts.1
+done_of : (p : Panel) (sid : Sid) (command : Command) (available f : Bool) (q : Panel) (e : IsEvent p (AskSession (Ask.Unit sid command available)) f (SaysSession (Done None) None) q)
+    → StepAction (action_of available command) p (Ask.Unit sid command available) f (Done None) None e.done
+done_of p sid command available f q e =
+    not_kept_out (drops p sid (Ask.Unit sid command available)) (shuts_out p sid (Ask.Unit sid command available)) p (Ask.Unit sid command available) f None None e.done e.acts.1
 
-pub closes : (p q : Panel) (sid : Sid) (chans : List Channel) (answered failed : Bool) → Step p (AskSession (Ask.Unit sid (Command.Close chans) answered)) failed (SaysSession (Done None) None) q → (c : Channel) → is_in chans c ≡ true → is_closed q.cage.cards c ≡ true
-closes p q sid chans answered failed h c i =
-    let e = event_of p (AskSession (Ask.Unit sid (Command.Close chans) answered)) failed (SaysSession (Done None) None) q (λ w. w) h in
-    let d = (not_barred (is_running p) p (Closes chans) failed None None e.done (done_of p sid (Command.Close chans) answered failed q e)).0 in
+pub closes : (p q : Panel) (chans : List Channel) (available failed : Bool) → IsDoneFor p (Command.Close chans) available failed q → (c : Channel) → is_in chans c ≡ true
+    → is_closed q.cage.cards c ≡ true
+closes p q chans available failed s c i =
+    let sid = s.0 in
+    let h = s.1 in
+    let e = event_of p (AskSession (Ask.Unit sid (Command.Close chans) available)) failed (SaysSession (Done None) None) q (λ w. w) h in
+    let d = (not_barred (is_running p) p (Closes chans) failed None None e.done (done_of p sid (Command.Close chans) available failed q e)).0 in
     ap (λ (x : Panel). is_closed x.cage.cards c) e.after ∙ d.2.closed c ∙ ap (λ (b : Bool). if b then true else is_closed p.cage.cards c) i
 
-pub opens : (p q : Panel) (sid : Sid) (chans : List Channel) (answered failed : Bool) → Step p (AskSession (Ask.Unit sid (Command.Open chans) answered)) failed (SaysSession (Done None) None) q → (c : Channel) → is_in chans c ≡ true → is_closed q.cage.cards c ≡ false
-opens p q sid chans answered failed h c i =
-    let e = event_of p (AskSession (Ask.Unit sid (Command.Open chans) answered)) failed (SaysSession (Done None) None) q (λ w. w) h in
-    let d = (not_barred (is_running p) p (Opens chans) failed None None e.done (done_of p sid (Command.Open chans) answered failed q e)).0 in
+pub opens : (p q : Panel) (chans : List Channel) (available failed : Bool) → IsDoneFor p (Command.Open chans) available failed q → (c : Channel) → is_in chans c ≡ true
+    → is_closed q.cage.cards c ≡ false
+opens p q chans available failed s c i =
+    let sid = s.0 in
+    let h = s.1 in
+    let e = event_of p (AskSession (Ask.Unit sid (Command.Open chans) available)) failed (SaysSession (Done None) None) q (λ w. w) h in
+    let d = (not_barred (is_running p) p (Opens chans) failed None None e.done (done_of p sid (Command.Open chans) available failed q e)).0 in
     ap (λ (x : Panel). is_closed x.cage.cards c) e.after ∙ d.2.closed c ∙ ap (λ (b : Bool). if b then false else is_closed p.cage.cards c) i
 
-pub aborted : (p q : Panel) (sid : Sid) (answered failed : Bool) → Step p (AskSession (Ask.Unit sid Command.Abort answered)) failed (SaysSession (Done None) None) q → IsAtRest q
-aborted p q sid answered failed h =
-    let e = event_of p (AskSession (Ask.Unit sid Command.Abort answered)) failed (SaysSession (Done None) None) q (λ w. w) h in
-    let d = (done_of p sid Command.Abort answered failed q e).0 in
+pub aborted : (p q : Panel) (available failed : Bool) → IsDoneFor p Command.Abort available failed q → IsAtRest q
+aborted p q available failed s =
+    let sid = s.0 in
+    let h = s.1 in
+    let e = event_of p (AskSession (Ask.Unit sid Command.Abort available)) failed (SaysSession (Done None) None) q (λ w. w) h in
+    let d = (done_of p sid Command.Abort available failed q e).0 in
     let cage = ap (λ (x : Panel). x.cage) e.after ∙ ap (λ (x : Panel). x.cage) d.1 in
     record { none = λ c. ap (λ (x : CageSeen). is_closed x.cards c) cage ∙ all_open_closed p.cage.cards c; idle = ap (λ (x : CageSeen). x.scan) cage }
 
-pub reset : (p q : Panel) (sid : Sid) (answered failed : Bool) → Step p (AskSession (Ask.Unit sid Command.Reset answered)) failed (SaysSession (Done None) None) q → IsAtRest q
-reset p q sid answered failed h =
-    let e = event_of p (AskSession (Ask.Unit sid Command.Reset answered)) failed (SaysSession (Done None) None) q (λ w. w) h in
-    let d = (done_of p sid Command.Reset answered failed q e).0 in
+pub reset : (p q : Panel) (available failed : Bool) → IsDoneFor p Command.Reset available failed q → IsAtRest q
+reset p q available failed s =
+    let sid = s.0 in
+    let h = s.1 in
+    let e = event_of p (AskSession (Ask.Unit sid Command.Reset available)) failed (SaysSession (Done None) None) q (λ w. w) h in
+    let d = (done_of p sid Command.Reset available failed q e).0 in
     let cage = ap (λ (x : Panel). x.cage) e.after ∙ ap (λ (x : Panel). x.cage) d.1 in
     record { none = λ c. ap (λ (x : CageSeen). is_closed x.cards c) cage ∙ all_open_closed p.cage.cards c; idle = ap (λ (x : CageSeen). x.scan) cage }
 
 pub ejected : (p q : Panel) (slot : ℕ) (failed : Bool) (card : Account) → Step p (AskEject slot) failed (SaysEjected card) q → (k : ℕ) → closed_at card.closed k ≡ false
 ejected p q slot f card h k = rest_closed p.cage.cards slot card (event_of p (AskEject slot) f (SaysEjected card) q (λ w. w) h).acts.2 k
 
-bare_slot : (rack : Accounts) (slot : ℕ) (c : Channel) → 0 < slot → slot ≤ length rack → ((x : Channel) → is_closed rack x ≡ false) → is_closed (slice_set rack (slot - 1) None) c ≡ false
+pub bare_slot : (rack : Accounts) (slot : ℕ) (c : Channel) → 0 < slot → slot ≤ length rack → ((x : Channel) → is_closed rack x ≡ false) → is_closed (slice_set rack (slot - 1) None) c ≡ false
 bare_slot rack slot c a b bare = elim (slot_cases rack slot c.0 None a b) [
   | inl e ↦ ap (λ o. option_closed o c.1) e.1
   | inr e ↦ ap (λ o. option_closed o c.1) e.1 ∙ bare c
@@ -202,7 +216,7 @@ start_quiet p plan f SettingsConflict q h n = h.2
 start_quiet p plan f e q h n = h.2
 
 joined_quiet : (p : Panel) (ask : SessionAsk) (f : Bool) (e : ScpiError) (q : Panel) → StepJoined p ask f (Refused e) None q → IsQuiet p e q
-joined_quiet p (Ask.Unit sid command answered) f e q h n = action_quiet (action_of answered command) p (Ask.Unit sid command answered) f e None q h n
+joined_quiet p (Ask.Unit sid command available) f e q h n = action_quiet (action_of available command) p (Ask.Unit sid command available) f e None q h n
 joined_quiet p (Ask.Bus sid) f e q h n = told_quiet p Bus TriggerIgnored f e h.told q h.answer_is h.happens n
 joined_quiet p (Ask.Snapshot sid) f e q h n = snapshot_quiet p f e q h
 joined_quiet p (Ask.Start sid plan) f e q h n = start_quiet p plan f e q h n
@@ -255,31 +269,32 @@ refused p q ask failed e n h =
 
 -- ---- a card's failure
 
--- no scan runs, every relay is open, the queue is as it was, and QUEStionable tells of it
-pub record IsDown (p q : Panel) : Type 0 where
+-- a card failed: no scan runs, every relay is open, the queue is as it was, and QUEStionable tells of it
+pub record IsDown (p : Panel) (f : Bool) (q : Panel) : Type 0 where
+  pub failed : f ≡ true
   pub none : (c : Channel) → is_closed q.cage.cards c ≡ false
   pub idle : q.cage.scan ≡ None
-  pub status : q.status ≡ alarmed p.status
+  pub status : q.status ≡ card_fault_reported p.status
 
-falls_down : (p q : Panel) → is_running p ≡ false → Falls p q → IsDown p q
-falls_down p q idle f = record { none = f.0.none; idle = ap (λ (x : Panel). x.cage.scan) f.1 ∙ is_none p.cage.scan idle; status = ap (λ (x : Panel). x.status) f.1 }
+falls_down : (p : Panel) (f : Bool) (q : Panel) → f ≡ true → is_running p ≡ false → FailsSafe p q → IsDown p f q
+falls_down p f q t idle s = record { failed = t; none = s.0.none; idle = ap (λ (x : Panel). x.cage.scan) s.1 ∙ is_none p.cage.scan idle; status = ap (λ (x : Panel). x.status) s.1 }
 
-readings_down : (l : List Reading) (p : Panel) (f : Bool) (q : Panel) → StepReadings l p f (Refused HardwareError) q → IsDown p q
+readings_down : (l : List Reading) (p : Panel) (f : Bool) (q : Panel) → StepReadings l p f (Refused HardwareError) q → IsDown p f q
 readings_down [] p f q h = absurd (let x : HardwareError ≡ DataCorruptOrStale = h.1 in cc (x))
 readings_down (r ∷ rs) p f q h = absurd h
 
-undefined_down : (p : Panel) (f : Bool) (q : Panel) → StepRefused p UndefinedHeader f (Refused HardwareError) q → IsDown p q
+undefined_down : (p : Panel) (f : Bool) (q : Panel) → StepRefused p UndefinedHeader f (Refused HardwareError) q → IsDown p f q
 undefined_down p f q h = absurd (let x : HardwareError ≡ UndefinedHeader = h.1 in cc (x))
 
-alone_down : (d : Effect) (p : Panel) (f : Bool) (q : Panel) → IsHarmless p d → StepAlone d p f (Refused HardwareError) q → IsDown p q
+alone_down : (d : Effect) (p : Panel) (f : Bool) (q : Panel) → IsHarmless p d → StepAlone d p f (Refused HardwareError) q → IsDown p f q
 alone_down (TellsNumber number) p f q n h = absurd h
 alone_down (TellsText text) p f q n h = absurd h
 alone_down TellsReadings p f q n h = readings_down p.cage.readings p f q h
 alone_down (ReadsOut text after) p f q n h = absurd h
 alone_down (SetsStatus after) p f q n h = absurd h
 alone_down (SetsUp Fits error after) p f q n h = absurd (n.1 (sym h.2))
-alone_down (Closes chans) p f q n h = falls_down p q n h.2
-alone_down (Opens chans) p f q n h = falls_down p q n h.2
+alone_down (Closes chans) p f q n h = falls_down p f q h.0 n h.2
+alone_down (Opens chans) p f q n h = falls_down p f q h.0 n h.2
 alone_down (TellsRelays closed chans) p f q n h = absurd h
 alone_down (Leaves after) p f q n h = absurd h
 alone_down Resets p f q n h = absurd h
@@ -292,8 +307,8 @@ past_down : (c q : CageSeen) (scan : Option ScanSeen) → AdvancesPastFrom c sca
 past_down c q None h = absurd h
 past_down c q (Some at) h = (h.runs.fallen.none, h.runs.over)
 
-told_down : (p : Panel) (happening : Happening) (error : ScpiError) (f : Bool) (told : TakenSeen) (q : Panel) → error ≢ HardwareError → Refused HardwareError ≡ session_told error told → Happens p happening f told q → IsDown p q
-told_down p happening error f SaysFault q n a h = let r = past_down p.cage q.cage p.cage.scan h.1 in record { none = r.0; idle = r.1; status = ap (λ (x : Panel). x.status) h.2.1 }
+told_down : (p : Panel) (happening : Happening) (error : ScpiError) (f : Bool) (told : TakenSeen) (q : Panel) → error ≢ HardwareError → Refused HardwareError ≡ session_told error told → Happens p happening f told q → IsDown p f q
+told_down p happening error f SaysFault q n a h = let r = past_down p.cage q.cage p.cage.scan h.1 in record { failed = h.2.0; none = r.0; idle = r.1; status = ap (λ (x : Panel). x.status) h.2.1 }
 told_down p happening error f SaysIgnored q n a h = absurd (n (let x : HardwareError ≡ error = cc (a) in sym x))
 told_down p happening error f SaysWaits q n a h = absurd (cc (a))
 told_down p happening error f (SaysPause t u) q n a h = absurd (cc (a))
@@ -303,79 +318,130 @@ told_down p happening error f SaysEnded q n a h = absurd (cc (a))
 trigger_plain : TriggerIgnored ≢ HardwareError
 trigger_plain e = absurd (cc (e))
 
-effect_down : (d : Effect) (p : Panel) (f : Bool) (w : Option WorkView) (q : Panel) → IsHarmless p d → StepEffect d p f (Refused HardwareError) w q → IsDown p q
+effect_down : (d : Effect) (p : Panel) (f : Bool) (w : Option WorkView) (q : Panel) → IsHarmless p d → StepEffect d p f (Refused HardwareError) w q → IsDown p f q
 effect_down (Offers happening error) p f w q n h = told_down p happening error f h.told q n h.answer_is h.happens
 effect_down d p f w q n h = alone_down d p f q n h.0
 
 barred_down : (b : Bool) (d : Effect) (p : Panel) (f : Bool) (w : Option WorkView) (q : Panel) → (b ≡ false → IsHarmless p d)
-    → MatchBool b (StepRefused p SettingsConflict f (Refused HardwareError) q × (w ≡ None)) (StepEffect d p f (Refused HardwareError) w q) → IsDown p q
+    → MatchBool b (StepRefused p SettingsConflict f (Refused HardwareError) q × (w ≡ None)) (StepEffect d p f (Refused HardwareError) w q) → IsDown p f q
 barred_down true d p f w q n h = absurd (let x : HardwareError ≡ SettingsConflict = h.0.1 in cc (x))
 barred_down false d p f w q n h = effect_down d p f w q (n refl) h
 
 held_down : (b : Bool) (d : Effect) (p : Panel) (ask : SessionAsk) (f : Bool) (w : Option WorkView) (q : Panel) → IsHarmless p d
-    → MatchBool b (StepHeld p ask f (Refused HardwareError) w q) (StepEffect d p f (Refused HardwareError) w q) → IsDown p q
+    → MatchBool b (StepHeld p ask f (Refused HardwareError) w q) (StepEffect d p f (Refused HardwareError) w q) → IsDown p f q
 held_down true d p ask f w q n h = absurd h
 held_down false d p ask f w q n h = effect_down d p f w q n h
 
-action_down : (x : Action) (p : Panel) (ask : SessionAsk) (f : Bool) (w : Option WorkView) (q : Panel) → IsHarmlessAction p x → StepAction x p ask f (Refused HardwareError) w q → IsDown p q
+action_down : (x : Action) (p : Panel) (ask : SessionAsk) (f : Bool) (w : Option WorkView) (q : Panel) → IsHarmlessAction p x → StepAction x p ask f (Refused HardwareError) w q → IsDown p f q
 action_down (AtOnce d) p ask f w q n h = effect_down d p f w q n h
 action_down (BetweenScans d) p ask f w q n h = barred_down (is_running p) d p f w q n h
 action_down (AfterScan d) p ask f w q n h = held_down (is_running p) d p ask f w q n h
 
-start_down : (p : Panel) (plan : Snapshot) (f : Bool) (told : TakenSeen) (w : Option WorkView) (q : Panel) → Refused HardwareError ≡ started_answer told → Starts p plan f told q → IsDown p q
-start_down p plan f SaysFault w q a h = record { none = h.3.runs.fallen.none; idle = h.3.runs.over; status = ap (λ (x : Panel). x.status) h.4 }
+start_down : (p : Panel) (plan : Snapshot) (f : Bool) (told : TakenSeen) (w : Option WorkView) (q : Panel) → Refused HardwareError ≡ started_answer told → Starts p plan f told q → IsDown p f q
+start_down p plan f SaysFault w q a h = record { failed = h.0; none = h.3.runs.fallen.none; idle = h.3.runs.over; status = ap (λ (x : Panel). x.status) h.4 }
 start_down p plan f SaysIgnored w q a h = absurd (cc (a))
 start_down p plan f SaysWaits w q a h = absurd (cc (a))
 start_down p plan f (SaysPause t u) w q a h = absurd (cc (a))
 start_down p plan f (SaysJob j) w q a h = absurd (cc (a))
 start_down p plan f SaysEnded w q a h = absurd (cc (a))
 
-joined_down : (p : Panel) (ask : SessionAsk) (f : Bool) (q : Panel) → StepJoined p ask f (Refused HardwareError) None q → IsDown p q
-joined_down p (Ask.Unit sid command answered) f q h = action_down (action_of answered command) p (Ask.Unit sid command answered) f None q (harmless p answered command) h
-joined_down p (Ask.Bus sid) f q h = told_down p Bus TriggerIgnored f h.told q trigger_plain h.answer_is h.happens
-joined_down p (Ask.Snapshot sid) f q h = absurd h.1
-joined_down p (Ask.Start sid plan) f q h = start_down p plan f h.told None q h.answer_is h.starts
-joined_down p (Ask.Fault sid error) f q h = absurd h.served
-joined_down p (Ask.Attached sid) f q h = absurd h.served
-joined_down p (Ask.Leave sid) f q h = absurd h.served
-joined_down p (Ask.Size sid size) f q h = absurd h.served
-joined_down p (Ask.MaxSize sid) f q h = absurd h.served
-joined_down p (Ask.Clear sid) f q h = absurd h.served
-joined_down p (Ask.Cleared sid) f q h = absurd h.served
-joined_down p (Ask.Lock sid key) f q h = absurd h.served
-joined_down p (Ask.Release sid) f q h = absurd h.served
-joined_down p (Ask.LockInfo sid) f q h = absurd h.served
-joined_down p (Ask.Attach number) f q h = absurd h.served
-joined_down p Ask.Join f q h = absurd h.served
+joined_down : (p : Panel) (ask : SessionAsk) (f : Bool) (w : Option WorkView) (q : Panel) → StepJoined p ask f (Refused HardwareError) w q → IsDown p f q
+joined_down p (Ask.Unit sid command available) f w q h = action_down (action_of available command) p (Ask.Unit sid command available) f w q (harmless p available command) h
+joined_down p (Ask.Bus sid) f w q h = told_down p Bus TriggerIgnored f h.told q trigger_plain h.answer_is h.happens
+joined_down p (Ask.Snapshot sid) f None q h = absurd h.1
+joined_down p (Ask.Start sid plan) f w q h = start_down p plan f h.told w q h.answer_is h.starts
+joined_down p (Ask.Fault sid error) f None q h = absurd h.served
+joined_down p (Ask.Attached sid) f None q h = absurd h.served
+joined_down p (Ask.Leave sid) f None q h = absurd h.served
+joined_down p (Ask.Size sid size) f None q h = absurd h.served
+joined_down p (Ask.MaxSize sid) f None q h = absurd h.served
+joined_down p (Ask.Clear sid) f None q h = absurd h.served
+joined_down p (Ask.Cleared sid) f None q h = absurd h.served
+joined_down p (Ask.Lock sid key) f None q h = absurd h.served
+joined_down p (Ask.Release sid) f None q h = absurd h.served
+joined_down p (Ask.LockInfo sid) f None q h = absurd h.served
+joined_down p (Ask.Attach number) f None q h = absurd h.served
+joined_down p Ask.Join f None q h = absurd h.served
+joined_down p ask f w q h = absurd h
 
-admitted_down : (b o : Bool) (p : Panel) (ask : SessionAsk) (f : Bool) (q : Panel) → StepAdmitted b o p ask f (Refused HardwareError) None q → IsDown p q
-admitted_down true o p ask f q h = absurd h
-admitted_down false true p ask f q h = absurd h
-admitted_down false false p ask f q h = joined_down p ask f q h
+admitted_down : (b o : Bool) (p : Panel) (ask : SessionAsk) (f : Bool) (w : Option WorkView) (q : Panel) → StepAdmitted b o p ask f (Refused HardwareError) w q → IsDown p f q
+admitted_down true o p ask f w q h = absurd h
+admitted_down false true p ask f w q h = absurd h
+admitted_down false false p ask f w q h = joined_down p ask f w q h
 
-new_down : (p : Panel) (ask : SessionAsk) (f : Bool) (q : Panel) → StepNew p ask f (Refused HardwareError) None q → IsDown p q
-new_down p Ask.Join f q h = absurd h
-new_down p (Ask.Attach number) f q h = absurd h
-new_down p ask f q h = absurd h
+new_down : (p : Panel) (ask : SessionAsk) (f : Bool) (w : Option WorkView) (q : Panel) → StepNew p ask f (Refused HardwareError) w q → IsDown p f q
+new_down p Ask.Join f w q h = absurd h
+new_down p (Ask.Attach number) f w q h = absurd h
+new_down p ask f w q h = absurd h
 
-session_down : (o : Option Sid) (p : Panel) (ask : SessionAsk) (f : Bool) (q : Panel) → StepSession o p ask f (Refused HardwareError) None q → IsDown p q
-session_down None p ask f q h = new_down p ask f q h
-session_down (Some sid) p ask f q h = admitted_down (drops p sid ask) (shuts_out p sid ask) p ask f q h.1
+session_down : (o : Option Sid) (p : Panel) (ask : SessionAsk) (f : Bool) (w : Option WorkView) (q : Panel) → StepSession o p ask f (Refused HardwareError) w q → IsDown p f q
+session_down None p ask f w q h = new_down p ask f w q h
+session_down (Some sid) p ask f w q h = admitted_down (drops p sid ask) (shuts_out p sid ask) p ask f w q h.1
 
-acts_down : (p : Panel) (ask : AskView) (f : Bool) (q : Panel) → Acts p ask f (SaysSession (Refused HardwareError) None) q → IsDown p q
-acts_down p (AskSession ask) f q h = session_down (asker_of ask) p ask f q h
-acts_down p (AskFinished done) f q h = absurd (outside_apart h.told (Refused HardwareError) h.answer_is)
-acts_down p AskExternal f q h = absurd (outside_apart h.told (Refused HardwareError) h.answer_is)
-acts_down p (AskElapsed ticket) f q h = absurd (outside_apart h.told (Refused HardwareError) h.answer_is)
-acts_down p ask f q h = absurd h
+-- told to no session
 
-pub failed : (p q : Panel) (ask : AskView) (failed : Bool) → Step p ask failed (SaysSession (Refused HardwareError) None) q → IsAlarmed p q
-failed p q ask f h =
-    let x = event_of p ask f _ q (unworn ask HardwareError) h in
-    let d = acts_down p ask f x.done x.acts in
-    record {
-      none = λ c. ap (λ (y : Panel). is_closed y.cage.cards c) x.after ∙ d.none c;
-      idle = ap (λ (y : Panel). y.cage.scan) x.after ∙ d.idle;
-      told = ap (λ (y : Panel). y.status.errors) x.after ∙ ap (λ (s : StatusSeen). queued s.errors HardwareError) d.status;
-      condition = ap (λ (y : Panel). y.status.questionable.condition) x.after ∙ ap (λ (s : StatusSeen). s.questionable.condition) d.status;
-    }
+outside_fault : (told : TakenSeen) → SaysFailed ≡ outside_told told → told ≡ SaysFault
+outside_fault SaysFault e = refl
+outside_fault told e = absurd (cc (e))
+
+happens_down : (p : Panel) (happening : Happening) (f : Bool) (q : Panel) → Happens p happening f SaysFault q → IsDown p f q
+happens_down p happening f q h = let r = past_down p.cage q.cage p.cage.scan h.1 in record { failed = h.2.0; none = r.0; idle = r.1; status = ap (λ (x : Panel). x.status) h.2.1 }
+
+outside_down : (p : Panel) (happening : Happening) (f : Bool) (q : Panel) → StepOutside p happening f SaysFailed q → IsDown p f q
+outside_down p happening f q h = happens_down p happening f q (subst (λ (t : TakenSeen). Happens p happening f t q) (outside_fault h.told h.answer_is) h.happens)
+
+counts_down : (c q : CageSeen) (outcome : Result Reading CardFault) → Counts c outcome SaysFault q → ((x : Channel) → is_closed q.cards x ≡ false) × (q.scan ≡ None)
+counts_down c q (Ok r) g = past_down (with_reading c r) q c.scan g
+counts_down c q (Err e) g = (λ x. ap (λ (y : CageSeen). is_closed y.cards x) g.1 ∙ all_open_closed c.cards x, ap (λ (y : CageSeen). y.scan) g.1)
+
+returns_down : (p : Panel) (done : FinishedSeen) (f : Bool) (q : Panel) → Returns p done f SaysFault q → IsDown p f q
+returns_down p done f q h =
+    let r = counts_down (with_back p.cage done) q.cage done.outcome h.1 in
+    record { failed = h.2.0; none = r.0; idle = r.1; status = ap (λ (x : Panel). x.status) h.2.1 }
+
+acts_down : (p : Panel) (ask : AskView) (f : Bool) (w : Option WorkView) (q : Panel) → Acts p ask f (SaysSession (Refused HardwareError) w) q → IsDown p f q
+acts_down p (AskSession ask) f w q h = session_down (asker_of ask) p ask f w q h
+acts_down p (AskFinished done) f w q h = absurd (is_outside h.told (SaysSession (Refused HardwareError) w) h.answer_is)
+acts_down p AskExternal f w q h = absurd (is_outside h.told (SaysSession (Refused HardwareError) w) h.answer_is)
+acts_down p (AskElapsed ticket) f w q h = absurd (is_outside h.told (SaysSession (Refused HardwareError) w) h.answer_is)
+acts_down p ask f w q h = absurd h
+
+fails_down : (p : Panel) (ask : AskView) (f : Bool) (q : Panel) → Acts p ask f SaysFailed q → IsDown p f q
+fails_down p AskExternal f q h = outside_down p External f q h
+fails_down p (AskElapsed ticket) f q h = outside_down p (Elapsed ticket) f q h
+fails_down p (AskFinished done) f q h = returns_down p done f q (subst (λ (t : TakenSeen). Returns p done f t q) (outside_fault h.told h.answer_is) h.returns)
+fails_down p ask f q h = absurd h
+
+worn_failure : (ask : AskView) (w : Option WorkView) → IsWorn ask (SaysSession (Refused HardwareError) w) → ⊥
+worn_failure (AskSession ask) w h = h
+worn_failure (AskInstall slot card) w h = h
+worn_failure (AskEject slot) w h = h
+worn_failure AskExternal w h = h
+worn_failure (AskElapsed ticket) w h = h
+worn_failure (AskFinished done) w h = h
+
+worn_failed : (ask : AskView) → IsWorn ask SaysFailed → ⊥
+worn_failed (AskSession ask) h = h
+worn_failed (AskInstall slot card) h = h
+worn_failed (AskEject slot) h = h
+worn_failed AskExternal h = h
+worn_failed (AskElapsed ticket) h = h
+worn_failed (AskFinished done) h = h
+
+down_after : (p done q : Panel) (f : Bool) → IsDown p f done → q ≡ ended (erred done HardwareError) → (f ≡ true) × IsAfterCardFault p q
+down_after p done q f d after = (
+  d.failed,
+  record {
+    none = λ c. ap (λ (y : Panel). is_closed y.cage.cards c) after ∙ d.none c;
+    idle = ap (λ (y : Panel). y.cage.scan) after ∙ d.idle;
+    told = ap (λ (y : Panel). y.status.errors) after ∙ ap (λ (s : StatusSeen). queued s.errors HardwareError) d.status;
+    condition = ap (λ (y : Panel). y.status.questionable.condition) after ∙ ap (λ (s : StatusSeen). s.questionable.condition) d.status;
+  },
+)
+
+pub failed : (p q : Panel) (ask : AskView) (failed : Bool) (answer : AnswerView) → tells_failure answer ≡ true → Step p ask failed answer q → (failed ≡ true) × IsAfterCardFault p q
+failed p q ask f SaysFailed t h = let x = event_of p ask f SaysFailed q (worn_failed ask) h in down_after p x.done q f (fails_down p ask f x.done x.acts) x.after
+failed p q ask f (SaysSession (Refused HardwareError) w) t h =
+    let x = event_of p ask f (SaysSession (Refused HardwareError) w) q (worn_failure ask w) h in
+    down_after p x.done q f (acts_down p ask f w x.done x.acts) x.after
+failed p q ask f answer t h = absurd (cc (t))

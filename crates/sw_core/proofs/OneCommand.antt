@@ -13,7 +13,7 @@ use Rattle.sw_cage.specs.Accounts.{Accounts}
 use Rattle.sw_cage.specs.Change.{Sets}
 use Rattle.sw_core.specs.declared.ask.SessionAnswer.{SessionAnswer}
 use Rattle.sw_core.specs.declared.ask.SessionAnswer.TheVariants.{Done, Refused}
-use Rattle.sw_core.specs.Panel.{Panel, with_rack}
+use Rattle.sw_core.specs.Panel.{Panel, with_cards}
 use Rattle.sw_core.specs.Action.{Effect, TellsNumber, TellsText, TellsReadings, ReadsOut, SetsStatus, SetsUp, Closes, Opens, TellsRelays, Leaves}
 use Rattle.sw_core.specs.Action.{Resets, reset, Offers, Refuses, IsOfMacros, Initiates}
 use Rattle.sw_core.specs.View.{SaysSession}
@@ -33,8 +33,8 @@ same_text t t' x e f = ap (λ (y : List ℕ). Done (Some y)) (e ∙ sym f)
 pub true_false : (b : Bool) → b ≡ true → b ≡ false → ⊥
 true_false b e f = absurd (let k : true ≡ false = sym e ∙ f in cc)
 
-pub set_once : (p q q' : Panel) (chans : List Channel) (on : Bool) → Sets p.cage.cards chans on q.cage.cards → Sets p.cage.cards chans on q'.cage.cards → q ≡ with_rack p q.cage.cards → q' ≡ with_rack p q'.cage.cards → q ≡ q'
-set_once p q q' chans on s t e f = e ∙ ap (λ (r : Accounts). with_rack p r) (sets_once p.cage.cards q.cage.cards q'.cage.cards chans on s t) ∙ sym f
+pub set_once : (p q q' : Panel) (chans : List Channel) (on : Bool) → Sets p.cage.cards chans on q.cage.cards → Sets p.cage.cards chans on q'.cage.cards → q ≡ with_cards p q.cage.cards → q' ≡ with_cards p q'.cage.cards → q ≡ q'
+set_once p q q' chans on s t e f = e ∙ ap (λ (r : Accounts). with_cards p r) (sets_once p.cage.cards q.cage.cards q'.cage.cards chans on s t) ∙ sym f
 
 pub close_once : (p : Panel) (chans : List Channel) (f f' : Bool) (a a' : SessionAnswer) (q q' : Panel) → IsPlain (SaysSession a None) → IsPlain (SaysSession a' None) → StepClose p chans f a q → StepClose p chans f' a' q' → IsOnce a a' q q'
 close_once p chans f f' (Done None) (Done None) q q' n m h k = (refl, set_once p q q' chans true h.2 k.2 h.3 k.3)

@@ -60,7 +60,7 @@ pub joined_once : (p : Panel) (ask : SessionAsk) (f f' : Bool) (a a' : SessionAn
 joined_once p (Ask.Fault sid e) f f' a a' None None q q' n m x y h k = fault_once p sid e f f' a a' q q' h k
 joined_once p (Ask.Fault sid e) f f' a a' (Some w) w' q q' n m x y h k = absurd (fault_none p sid e f a w q h)
 joined_once p (Ask.Fault sid e) f f' a a' None (Some w) q q' n m x y h k = absurd (fault_none p sid e f' a' w q' k)
-joined_once p (Ask.Unit sid command answered) f f' a a' w w' q q' n m x y h k = action_once (action_of answered command) p (Ask.Unit sid command answered) f f' a a' w w' q q' n m h k
+joined_once p (Ask.Unit sid command available) f f' a a' w w' q q' n m x y h k = action_once (action_of available command) p (Ask.Unit sid command available) f f' a a' w w' q q' n m h k
 joined_once p (Ask.Bus sid) f f' a a' w w' q q' n m x y h k = happening_once p Bus TriggerIgnored f f' a a' w w' q q' n m h k
 joined_once p (Ask.Snapshot sid) f f' a a' None None q q' n m x y h k = let r = snapshot_once p f f' a a' q q' n m h k in (r.0, refl, r.1)
 joined_once p (Ask.Start sid plan) f f' a a' w w' q q' n m x y h k = start_once p plan f f' a a' w w' q q' n m h k

@@ -1,4 +1,4 @@
--- No step takes the mainframe from a good state to another: by cases on the step, and then over every run.
+-- No step takes the mainframe from a fine state to another: by cases on the step.
 use Rattle.std.proofs.Common.{◌≡◌, ◌≢◌, ℕ, ◌-◌, ◌≤◌, ◌<◌, ◌==◌, ◌&&◌, not, Bool, true, false, List, [], ◌∷◌, length, Option, None, Some, slice_set, refl, sym, ◌∙◌, ap, subst, arith, is_some, zero, suc, nat_lt, slice_index_or, map}
 use Rattle.std.specs.Prelude.{if◌then◌else◌, decimal, MatchBool}
 use Rattle.std.specs.List.{AllByRecursion, join_with_byte}
@@ -15,7 +15,7 @@ use Rattle.sw_lex.specs.declared.command.Command.{Command}
 use Rattle.sw_trigger.specs.declared.layer.Layer.{Layer}
 use Rattle.sw_trigger.specs.Settings.{Setup, IsInRange, IsLayer, layer_of, with_layer, most_of, at_reset}
 use Rattle.sw_verify.specs.declared.snapshot.Snapshot.{Snapshot}
-use Rattle.sw_status.specs.StatusModel.{StatusSeen}
+use Rattle.sw_status.specs.StatusModel.{StatusSeen, IsStatus, pushed}
 use Rattle.sw_cage.specs.Accounts.{Accounts, layout_of, is_closed, option_closed, all_open, option_rest}
 use Rattle.sw_cage.specs.Change.{Sets}
 use Rattle.sw_cage.specs.Close.{CanClose}
@@ -37,189 +37,46 @@ use Rattle.sw_core.specs.declared.ask.SessionAsk.TheVariants as Ask
 use Rattle.sw_core.specs.declared.ask.SessionAnswer.{SessionAnswer}
 use Rattle.sw_core.specs.declared.ask.SessionAnswer.TheVariants as answers
 use Rattle.sw_core.specs.declared.ask.SessionAnswer.TheVariants.{Joined, Full, Stranger, Broken, Done, Refused, Hold, Worn}
-use Rattle.sw_core.specs.Panel.{Panel, opening_at, with_rack, is_running}
+use Rattle.sw_core.specs.Panel.{Panel, opening_at, with_cards, is_running}
 use Rattle.sw_core.specs.Action.{Effect, TellsNumber, TellsText, TellsReadings, ReadsOut, SetsStatus, SetsUp, Closes, Opens, TellsRelays, Leaves}
 use Rattle.sw_core.specs.Action.{Resets, reset, Offers, Refuses, IsOfMacros, Initiates, Action, AtOnce, BetweenScans, AfterScan, action_of}
 use Rattle.sw_core.specs.Event.{concluded, session_concluded, last_number}
 use Rattle.sw_core.specs.View.{WorkView, AskView, AskSession, AskInstall, AskEject, AskExternal, AskElapsed, AskFinished, AnswerView, SaysSession, SaysInstalled, SaysNotInstalled, SaysEjected, SaysNotEjected, SaysTaken, SaysMissed, SaysFailed, SaysBack, SaysWorn}
 use Rattle.sw_core.specs.Seats.{asker_of}
-use Rattle.sw_core.specs.Step.{Falls, StepClose, StepOpen, StepFlags, StepText, StepDone, StepSetting, StepRefused, StepReadings, StepAlone, StepEffect, StepHeld, StepAction}
+use Rattle.sw_core.specs.Step.{FailsSafe, StepClose, StepOpen, StepFlags, StepText, StepDone, StepSetting, StepRefused, StepReadings, StepAlone, StepEffect, StepHeld, StepAction}
 use Rattle.sw_core.specs.Step.{Happens, MayScan, StepSnapshot, Starts, StepStart, StepJoin, StepAttach, StepNew, IsServed, StepJoined, StepAdmitted, drops, shuts_out, StepSession, StepOutside, IsOut, Returns, StepFinished, Acts, acts_unnumbered, IsEvent, IsUnnumbered, Step}
-use Rattle.sw_core.specs.Run.{Event, IsRun, IsGoodPanel}
 use Rattle.std.specs.Prelude.{replicate}
 use Rattle.sw_cage.specs.declared.job.Ticket.{Ticket}
-use Rattle.sw_core.proofs.Kept.{IsKept, OptionFew, few_set, kept_rack, kept_over, kept_past, kept_late, kept_counted, kept_begun}
-
--- what stays so of the mainframe
-pub record IsFine (p : Panel) : Type 0 where
-  pub cage : IsKept p.cage
-  pub range : IsInRange p.settings
-
-fine_as : (p q : Panel) → q.cage ≡ p.cage → q.settings ≡ p.settings → IsFine p → IsFine q
-fine_as p q c s k = record { cage = subst (λ (x : CageSeen). IsKept x) (sym c) k.cage; range = subst (λ (x : Setup). IsInRange x) (sym s) k.range }
-
-fine_is : (p q : Panel) → q ≡ p → IsFine p → IsFine q
-fine_is p q e k = subst (λ (x : Panel). IsFine x) (sym e) k
-
-pub none_of : (p : Panel) → is_running p ≡ false → p.cage.scan ≡ None
-none_of p e = is_none p.cage.scan e
-
--- ---- settings
-
-layer_range : (s : Setup) (l : LayerName) → IsInRange s → IsLayer (most_of l) (layer_of s l)
-layer_range s Arm1 r = r.arm1
-layer_range s Arm2 r = r.arm2
-layer_range s Trigger r = r.trigger
-
-range_layer : (s : Setup) (l : LayerName) (layer : Layer) → IsInRange s → IsLayer (most_of l) layer → IsInRange (with_layer s l layer)
-range_layer s Arm1 layer r h = record { arm1 = h; arm2 = r.arm2; trigger = r.trigger; list = r.list; meter = r.meter; points = r.points }
-range_layer s Arm2 layer r h = record { arm1 = r.arm1; arm2 = h; trigger = r.trigger; list = r.list; meter = r.meter; points = r.points }
-range_layer s Trigger layer r h = record { arm1 = r.arm1; arm2 = r.arm2; trigger = h; list = r.list; meter = r.meter; points = r.points }
-
-reset_range : IsInRange at_reset
-reset_range = record {
-  arm1 = record { count = (omega arith, omega arith); delay = omega arith };
-  arm2 = record { count = (omega arith, omega arith); delay = omega arith };
-  trigger = record { count = (omega arith, omega arith); delay = omega arith };
-  list = omega arith;
-  meter = (omega arith, omega arith);
-  points = (omega arith, omega arith);
-}
-
--- ---- the cage while no scan runs
-
-fallen_all : (c : CageSeen) → IsKept c → IsKept (safe_state c)
-fallen_all c k = kept_over c (all_open c.cards) k (identities_all_open c.cards) (all_open_closed c.cards)
-
--- readings don't matter where no scan runs
-dropped : (c : CageSeen) → IsKept c → c.scan ≡ None → IsKept (record c { readings = [] })
-dropped c k e = record {
-  good = record {
-    held = record { slots = k.good.held.slots; outs = k.good.held.outs; empty = k.good.held.empty; past = k.good.held.past };
-    running = subst (λ (o : Option ScanSeen). IsRunning (record c { readings = [] }) o) (sym e) tt;
-  };
-  safe = k.safe;
-  few = k.few;
-}
-
--- ---- effects
-
-out_of_range : DataOutOfRange ≢ HardwareError
-out_of_range e = absurd (cc (e))
-
-too_much : TooMuchData ≢ HardwareError
-too_much e = absurd (cc (e))
-
-not_triggered : TriggerIgnored ≢ HardwareError
-not_triggered e = absurd (cc (e))
-
-not_armed : ArmIgnored ≢ HardwareError
-not_armed e = absurd (cc (e))
-
-conflict : SettingsConflict ≢ HardwareError
-conflict e = absurd (cc (e))
-
--- what an effect leaves fine, and is refused by no card's failure of its own
-abbrev pub IsHarmless : Panel → Effect → Type 0
-IsHarmless p (TellsNumber number) = Unit {0}
-IsHarmless p (TellsText text) = Unit {0}
-IsHarmless p TellsReadings = Unit {0}
-IsHarmless p (ReadsOut text after) = Unit {0}
-IsHarmless p (SetsStatus after) = Unit {0}
-IsHarmless p (SetsUp Fits error after) = (Fits → IsInRange p.settings → IsInRange (after p.settings)) × (error ≢ HardwareError)
-IsHarmless p (Closes chans) = is_running p ≡ false
-IsHarmless p (Opens chans) = is_running p ≡ false
-IsHarmless p (TellsRelays closed chans) = Unit {0}
-IsHarmless p (Leaves after) = IsFine p → IsKept (after p).cage × IsInRange (after p).settings
-IsHarmless p Resets = Unit {0}
-IsHarmless p (Offers happening error) = error ≢ HardwareError
-IsHarmless p (Refuses error) = error ≢ HardwareError
-IsHarmless p IsOfMacros = Unit {0}
-IsHarmless p Initiates = Unit {0}
-
-abbrev pub IsHarmlessAction : Panel → Action → Type 0
-IsHarmlessAction p (AtOnce effect) = IsHarmless p effect
-IsHarmlessAction p (BetweenScans effect) = is_running p ≡ false → IsHarmless p effect
-IsHarmlessAction p (AfterScan effect) = IsHarmless p effect
-
-pub harmless : (p : Panel) (answered : Bool) (command : Command) → IsHarmlessAction p (action_of answered command)
-harmless p answered Command.Identify = tt
-harmless p answered Command.Reset = tt
-harmless p answered Command.ClearStatus = λ k. (k.cage, k.range)
-harmless p answered (Command.EventEnable bits) = tt
-harmless p answered Command.EventEnableQuery = tt
-harmless p answered Command.EventQuery = tt
-harmless p answered (Command.ServiceEnable bits) = tt
-harmless p answered Command.ServiceEnableQuery = tt
-harmless p answered Command.StatusByteQuery = tt
-harmless p answered Command.OperationComplete = λ k. (k.cage, k.range)
-harmless p answered Command.OperationCompleteQuery = tt
-harmless p answered Command.Wait = λ k. (k.cage, k.range)
-harmless p answered Command.SelfTestQuery = tt
-harmless p answered Command.Trigger = not_triggered
-harmless p answered (Command.DefineMacro label body) = tt
-harmless p answered (Command.MacroQuery label) = tt
-harmless p answered Command.MacroLabelsQuery = tt
-harmless p answered (Command.RemoveMacro label) = tt
-harmless p answered Command.PurgeMacros = tt
-harmless p answered (Command.EnableMacros on) = tt
-harmless p answered Command.EnableMacrosQuery = tt
-harmless p answered Command.Abort = λ k. (fallen_all p.cage k.cage, k.range)
-harmless p answered Command.Initiate = tt
-harmless p answered (Command.InitiateContinuous true) = conflict
-harmless p answered (Command.InitiateContinuous false) = λ k. (k.cage, k.range)
-harmless p answered Command.InitiateContinuousQuery = tt
-harmless p answered (Command.Count layer n) = λ idle. (λ fits r. range_layer p.settings layer _ r (record { count = fits; delay = (layer_range p.settings layer r).delay }), out_of_range)
-harmless p answered (Command.CountQuery layer) = tt
-harmless p answered (Command.SetSource layer source) = λ idle k. (k.cage, range_layer p.settings layer _ k.range (record { count = (layer_range p.settings layer k.range).count; delay = (layer_range p.settings layer k.range).delay }))
-harmless p answered (Command.SourceQuery layer) = tt
-harmless p answered (Command.Delay layer micros) = λ idle. (λ fits r. range_layer p.settings layer _ r (record { count = (layer_range p.settings layer r).count; delay = fits }), out_of_range)
-harmless p answered (Command.DelayQuery layer) = tt
-harmless p answered (Command.Signal Trigger) = not_triggered
-harmless p answered (Command.Signal Arm1) = not_armed
-harmless p answered (Command.Signal Arm2) = not_armed
-harmless p answered (Command.Close chans) = λ idle. idle
-harmless p answered (Command.CloseQuery chans) = tt
-harmless p answered Command.CloseState = tt
-harmless p answered (Command.Open chans) = λ idle. idle
-harmless p answered (Command.OpenQuery chans) = tt
-harmless p answered Command.OpenAll = λ idle k. (kept_rack p.cage (all_open p.cage.cards) k.cage (none_of p idle) (identities_all_open p.cage.cards) (exclusive_none _ _ (all_open_closed p.cage.cards)), k.range)
-harmless p answered (Command.Scan chans) = λ idle. (λ fits r. record { arm1 = r.arm1; arm2 = r.arm2; trigger = r.trigger; list = fits; meter = r.meter; points = r.points }, too_much)
-harmless p answered Command.ScanQuery = tt
-harmless p answered (Command.ScanMeter slot) = λ idle. (λ fits r. record { arm1 = r.arm1; arm2 = r.arm2; trigger = r.trigger; list = r.list; meter = fits; points = r.points }, out_of_range)
-harmless p answered Command.ScanMeterQuery = tt
-harmless p answered (Command.GroupEventQuery group) = tt
-harmless p answered (Command.GroupConditionQuery group) = tt
-harmless p answered (Command.GroupEnable group bits) = tt
-harmless p answered (Command.GroupEnableQuery group) = tt
-harmless p answered (Command.PositiveTransition group bits) = tt
-harmless p answered (Command.PositiveTransitionQuery group) = tt
-harmless p answered (Command.NegativeTransition group bits) = tt
-harmless p answered (Command.NegativeTransitionQuery group) = tt
-harmless p answered Command.Preset = tt
-harmless p answered Command.NextErrorQuery = tt
-harmless p answered Command.AllErrorsQuery = tt
-harmless p answered Command.ErrorCountQuery = tt
-harmless p answered Command.VersionQuery = tt
-harmless p answered (Command.Points n) = λ idle. (λ fits r. record { arm1 = r.arm1; arm2 = r.arm2; trigger = r.trigger; list = r.list; meter = r.meter; points = fits }, out_of_range)
-harmless p answered Command.PointsQuery = tt
-harmless p answered Command.ActualPointsQuery = tt
-harmless p answered Command.BoundQuery = tt
-harmless p answered Command.Fetch = tt
+use Rattle.sw_core.specs.Good.{OptionFew}
+use Rattle.sw_core.proofs.Kept.{IsKept, few_set, kept_rack, kept_over, kept_past, kept_late, kept_counted, kept_begun}
+use Rattle.std.specs.Prelude.{IfSome}
+use Rattle.std.proofs.Common.{Result, Ok, Err, ◌+◌}
+use Rattle.sw_card.specs.declared.board.CardFault.{CardFault}
+use Rattle.sw_base.specs.declared.terms.StatusGroup.TheVariants.{Operation}
+use Rattle.sw_cage.specs.Advance.{next_place}
+use Rattle.sw_cage.specs.Takes.{awaited_now}
+use Rattle.sw_cage.specs.TakenSeen.{tells_fault}
+use Rattle.sw_cage.specs.Outcome.{Advances, AdvancesPastFrom, Counts, with_reading, begun}
+use Rattle.sw_status.proofs.Limits.{status-kept, status-start}
+use Rattle.sw_core.specs.Registers.{card_fault_reported, card_fault_cleared}
+use Rattle.sw_core.specs.Sessions.{with_seat, fresh}
+use Rattle.sw_core.specs.Event.{ended, erred, completed, with_operation, awaited_bits, next_number}
+use Rattle.sw_core.proofs.Harmless.{IsFine, GoesBy, by_none, fine_as, fine_is, none_of, reset_range, told_group, reported_status, cleared_status, fallen_all, dropped, IsHarmless, IsHarmlessAction, harmless}
 
 -- ---- commands
 
-closing_fine : (p q : Panel) (chans : List Channel) → IsFine p → is_running p ≡ false → CanClose (layout_of p.cage.cards) (is_closed p.cage.cards) chans → Sets p.cage.cards chans true q.cage.cards → q ≡ with_rack p q.cage.cards → IsFine q
+closing_fine : (p q : Panel) (chans : List Channel) → IsFine p → is_running p ≡ false → CanClose (layout_of p.cage.cards) (is_closed p.cage.cards) chans → Sets p.cage.cards chans true q.cage.cards → q ≡ with_cards p q.cage.cards → IsFine q
 closing_fine p q chans k idle may s e =
-    fine_is (with_rack p q.cage.cards) q e (record { cage = kept_rack p.cage q.cage.cards k.cage (none_of p idle) (identities_rest p.cage.cards q.cage.cards s.rest) (exclusive_closing p.cage.cards q.cage.cards chans k.cage.safe may s); range = k.range })
+    fine_is (with_cards p q.cage.cards) q e (record { cage = kept_rack p.cage q.cage.cards k.cage (none_of p idle) (identities_rest p.cage.cards q.cage.cards s.rest) (exclusive_closing p.cage.cards q.cage.cards chans k.cage.safe may s); range = k.range; settings = k.settings; status = k.status })
 
-opening_fine : (p q : Panel) (chans : List Channel) → IsFine p → is_running p ≡ false → Sets p.cage.cards chans false q.cage.cards → q ≡ with_rack p q.cage.cards → IsFine q
+opening_fine : (p q : Panel) (chans : List Channel) → IsFine p → is_running p ≡ false → Sets p.cage.cards chans false q.cage.cards → q ≡ with_cards p q.cage.cards → IsFine q
 opening_fine p q chans k idle s e =
-    fine_is (with_rack p q.cage.cards) q e (record { cage = kept_rack p.cage q.cage.cards k.cage (none_of p idle) (identities_rest p.cage.cards q.cage.cards s.rest) (exclusive_opening p.cage.cards q.cage.cards chans k.cage.safe s); range = k.range })
+    fine_is (with_cards p q.cage.cards) q e (record { cage = kept_rack p.cage q.cage.cards k.cage (none_of p idle) (identities_rest p.cage.cards q.cage.cards s.rest) (exclusive_opening p.cage.cards q.cage.cards chans k.cage.safe s); range = k.range; settings = k.settings; status = k.status })
 
-falling_fine : (p q : Panel) → IsFine p → is_running p ≡ false → Falls p q → IsFine q
+falling_fine : (p q : Panel) → IsFine p → is_running p ≡ false → FailsSafe p q → IsFine q
 falling_fine p q k idle f =
-    fine_as (with_rack p q.cage.cards) q (ap (λ (x : Panel). x.cage) f.1) (ap (λ (x : Panel). x.settings) f.1) (record { cage = kept_rack p.cage q.cage.cards k.cage (none_of p idle) f.0.cards (exclusive_none _ _ f.0.none); range = k.range })
+    let next : Panel = record (with_cards p q.cage.cards) { status = card_fault_reported p.status } in
+    fine_is next q f.1 (record { cage = kept_rack p.cage q.cage.cards k.cage (none_of p idle) f.0.cards (exclusive_none _ _ f.0.none); range = k.range; settings = k.settings; status = reported_status p.status k.status })
 
 close_fine : (p : Panel) (chans : List Channel) (f : Bool) (a : SessionAnswer) (q : Panel) → IsFine p → is_running p ≡ false → StepClose p chans f a q → IsFine q
 close_fine p chans f (Done None) q k i h = closing_fine p q chans k i h.1 h.2 h.3
@@ -240,19 +97,19 @@ flags_fine p closed chans f (Refused HardwareMissing) q k h = fine_is p q h.2 k
 flags_fine p closed chans f (Refused OutOfMemory) q k h = fine_is p q h.2 k
 flags_fine p closed chans f a q k h = absurd h
 
-text_fine : (p : Panel) (text : List ℕ) (status : StatusSeen) (f : Bool) (a : SessionAnswer) (q : Panel) → IsFine p → StepText p text status f a q → IsFine q
-text_fine p text status f (Done (Some t)) q k h = fine_as p q (ap (λ (x : Panel). x.cage) h.2) (ap (λ (x : Panel). x.settings) h.2) k
-text_fine p text status f (Refused OutOfMemory) q k h = fine_is p q h.1 k
-text_fine p text status f a q k h = absurd h
+text_fine : (p : Panel) (text : List ℕ) (status : StatusSeen) (f : Bool) (a : SessionAnswer) (q : Panel) → IsFine p → IsStatus status → StepText p text status f a q → IsFine q
+text_fine p text status f (Done (Some t)) q k u h = fine_is (record p { status = status }) q h.2 (record { cage = k.cage; range = k.range; settings = k.settings; status = u })
+text_fine p text status f (Refused OutOfMemory) q k u h = fine_is p q h.1 k
+text_fine p text status f a q k u h = absurd h
 
 done_fine : (after : Panel) (f : Bool) (a : SessionAnswer) (q : Panel) → IsFine after → StepDone after f a q → IsFine q
 done_fine after f (Done None) q k h = fine_is after q h.1 k
 done_fine after f a q k h = absurd h
 
-setting_fine : (p : Panel) (Fits : Type 0) (error : ScpiError) (setup : Setup) (f : Bool) (a : SessionAnswer) (q : Panel) → IsFine p → (Fits → IsInRange p.settings → IsInRange setup) → StepSetting p Fits error setup f a q → IsFine q
-setting_fine p Fits error setup f (Done None) q k r h = fine_is (record p { settings = setup }) q h.2 (record { cage = k.cage; range = r h.1 k.range })
-setting_fine p Fits error setup f (Refused e) q k r h = fine_is p q h.3 k
-setting_fine p Fits error setup f a q k r h = absurd h
+setting_fine : (p : Panel) (Fits : Type 0) (error : ScpiError) (setup : Setup) (f : Bool) (a : SessionAnswer) (q : Panel) → IsFine p → is_running p ≡ false → (Fits → IsInRange p.settings → IsInRange setup) → StepSetting p Fits error setup f a q → IsFine q
+setting_fine p Fits error setup f (Done None) q k i r h = fine_is (record p { settings = setup }) q h.2 (record { cage = k.cage; range = r h.1 k.range; settings = by_none p.cage.scan setup (none_of p i); status = k.status })
+setting_fine p Fits error setup f (Refused e) q k i r h = fine_is p q h.3 k
+setting_fine p Fits error setup f a q k i r h = absurd h
 
 refused_fine : (p : Panel) (error : ScpiError) (f : Bool) (a : SessionAnswer) (q : Panel) → IsFine p → StepRefused p error f a q → IsFine q
 refused_fine p error f (Refused e) q k h = fine_is p q h.2 k
@@ -260,20 +117,20 @@ refused_fine p error f a q k h = absurd h
 
 readings_fine : (l : List Reading) (p : Panel) (f : Bool) (a : SessionAnswer) (q : Panel) → IsFine p → StepReadings l p f a q → IsFine q
 readings_fine [] p f a q k h = refused_fine p DataCorruptOrStale f a q k h
-readings_fine (r ∷ rs) p f a q k h = text_fine p (join_with_byte 44 (map reading_text (r ∷ rs))) p.status f a q k h
+readings_fine (r ∷ rs) p f a q k h = text_fine p (join_with_byte 44 (map reading_text (r ∷ rs))) p.status f a q k k.status h
 
 alone_fine : (d : Effect) (p : Panel) (f : Bool) (a : SessionAnswer) (q : Panel) → IsFine p → IsHarmless p d → StepAlone d p f a q → IsFine q
-alone_fine (TellsNumber number) p f a q k n h = text_fine p (decimal (number p)) p.status f a q k h
-alone_fine (TellsText text) p f a q k n h = text_fine p (text p) p.status f a q k h
+alone_fine (TellsNumber number) p f a q k n h = text_fine p (decimal (number p)) p.status f a q k k.status h
+alone_fine (TellsText text) p f a q k n h = text_fine p (text p) p.status f a q k k.status h
 alone_fine TellsReadings p f a q k n h = readings_fine p.cage.readings p f a q k h
-alone_fine (ReadsOut text after) p f a q k n h = text_fine p (text p.status) (after p.status) f a q k h
-alone_fine (SetsStatus after) p f a q k n h = done_fine (record p { status = after p.status }) f a q (record { cage = k.cage; range = k.range }) h
-alone_fine (SetsUp Fits error after) p f a q k n h = setting_fine p Fits error (after p.settings) f a q k n.0 h
+alone_fine (ReadsOut text after) p f a q k n h = text_fine p (text p.status) (after p.status) f a q k (n k.status) h
+alone_fine (SetsStatus after) p f a q k n h = done_fine (record p { status = after p.status }) f a q (record { cage = k.cage; range = k.range; settings = k.settings; status = n k.status }) h
+alone_fine (SetsUp Fits error after) p f a q k n h = setting_fine p Fits error (after p.settings) f a q k n.2 n.0 h
 alone_fine (Closes chans) p f a q k n h = close_fine p chans f a q k n h
 alone_fine (Opens chans) p f a q k n h = open_fine p chans f a q k n h
 alone_fine (TellsRelays closed chans) p f a q k n h = flags_fine p closed chans f a q k h
-alone_fine Resets p f a q k n h = done_fine (reset p) f a q (record { cage = dropped (safe_state p.cage) (fallen_all p.cage k.cage) refl; range = reset_range }) h
-alone_fine (Leaves after) p f a q k n h = let r = n k in done_fine (after p) f a q (record { cage = r.0; range = r.1 }) h
+alone_fine Resets p f a q k n h = done_fine (reset p) f a q (record { cage = dropped (safe_state p.cage) (fallen_all p.cage k.cage) refl; range = reset_range; settings = tt; status = cleared_status p.status k.status }) h
+alone_fine (Leaves after) p f a q k n h = done_fine (after p) f a q (n k) h
 alone_fine (Refuses error) p f a q k n h = refused_fine p error f a q k h
 alone_fine IsOfMacros p f a q k n h = refused_fine p UndefinedHeader f a q k h
 alone_fine Initiates p f a q k n h = refused_fine p UndefinedHeader f a q k h
@@ -281,27 +138,61 @@ alone_fine (Offers happening error) p f a q k n h = absurd h
 
 -- ---- scans
 
-tolled_fine : (p q : Panel) (s : StatusSeen) → IsFine p → IsKept q.cage → q ≡ record p { cage = q.cage; status = s } → IsFine q
-tolled_fine p q s k c e = record { cage = c; range = subst (λ (x : Setup). IsInRange x) (sym (ap (λ (x : Panel). x.settings) e)) k.range }
+-- a scan goes on by its settings
+by_place : (s : Setup) (i : ℕ) (scan : Option ScanSeen) → scan ≡ Some (next_place s i) → GoesBy scan s
+by_place s i scan e = subst (λ (o : Option ScanSeen). GoesBy o s) (sym e) refl
+
+by_goes : (c q : CageSeen) (s : Setup) (i : ℕ) (told : TakenSeen) → Advances c s i told q → GoesBy q.scan s
+by_goes c q s i SaysIgnored g = absurd g.runs.arrives
+by_goes c q s i SaysWaits g = by_place s i q.scan g.runs.arrives.2
+by_goes c q s i (SaysPause t u) g = by_place s i q.scan g.runs.arrives.3
+by_goes c q s i (SaysJob job) g = by_place s i q.scan g.runs.arrives.2
+by_goes c q s i SaysEnded g = by_none q.scan s g.runs.arrives.2
+by_goes c q s i SaysFault g = by_none q.scan s g.runs.over
+
+by_past : (c q : CageSeen) (scan : Option ScanSeen) (s : Setup) (told : TakenSeen) → GoesBy scan s → AdvancesPastFrom c scan told q → GoesBy q.scan s
+by_past c q None s told k g = absurd g
+by_past c q (Some at) s told k g = subst (λ (x : Setup). GoesBy q.scan x) k (by_goes c q at.setup (at.index + 1) told g)
+
+by_counts : (c q : CageSeen) (outcome : Result Reading CardFault) (s : Setup) (told : TakenSeen) → GoesBy c.scan s → Counts c outcome told q → GoesBy q.scan s
+by_counts c q (Ok r) s told k g = by_past (with_reading c r) q c.scan s told k g
+by_counts c q (Err e) s told k g = by_none q.scan s (ap (λ (x : CageSeen). x.scan) g.1)
+
+status_if : (b : Bool) (s t : StatusSeen) → IsStatus s → IsStatus t → IsStatus (if b then s else t)
+status_if true s t u v = u
+status_if false s t u v = v
+
+reported_fine : (p q : Panel) (told : TakenSeen) → IsFine p → IsKept q.cage → GoesBy q.cage.scan p.settings
+    → q ≡ record p { cage = q.cage; status = if tells_fault told then card_fault_reported p.status else p.status } → IsFine q
+reported_fine p q told k c g e =
+    let s : StatusSeen = if tells_fault told then card_fault_reported p.status else p.status in
+    let u : IsStatus s = status_if (tells_fault told) (card_fault_reported p.status) p.status (reported_status p.status k.status) k.status in
+    let next : Panel = record p { cage = q.cage; status = s } in
+    fine_is next q e (record { cage = c; range = k.range; settings = g; status = u })
 
 happens_fine : (p : Panel) (happening : Happening) (f : Bool) (told : TakenSeen) (q : Panel) → IsFine p → Happens p happening f told q → IsFine q
 happens_fine p happening f SaysIgnored q k h = fine_is p q h.2 k
-happens_fine p happening f SaysWaits q k h = tolled_fine p q _ k (kept_past p.cage q.cage happening SaysWaits k.cage h.0 h.1) h.2.1
-happens_fine p happening f (SaysPause t u) q k h = tolled_fine p q _ k (kept_past p.cage q.cage happening (SaysPause t u) k.cage h.0 h.1) h.2.1
-happens_fine p happening f (SaysJob job) q k h = tolled_fine p q _ k (kept_past p.cage q.cage happening (SaysJob job) k.cage h.0 h.1) h.2.1
-happens_fine p happening f SaysEnded q k h = tolled_fine p q _ k (kept_past p.cage q.cage happening SaysEnded k.cage h.0 h.1) h.2.1
-happens_fine p happening f SaysFault q k h = tolled_fine p q _ k (kept_past p.cage q.cage happening SaysFault k.cage h.0 h.1) h.2.1
+happens_fine p happening f SaysWaits q k h = reported_fine p q SaysWaits k (kept_past p.cage q.cage happening SaysWaits k.cage h.0 h.1) (by_past p.cage q.cage p.cage.scan p.settings SaysWaits k.settings h.1) h.2.1
+happens_fine p happening f (SaysPause t u) q k h = reported_fine p q (SaysPause t u) k (kept_past p.cage q.cage happening (SaysPause t u) k.cage h.0 h.1) (by_past p.cage q.cage p.cage.scan p.settings (SaysPause t u) k.settings h.1) h.2.1
+happens_fine p happening f (SaysJob job) q k h = reported_fine p q (SaysJob job) k (kept_past p.cage q.cage happening (SaysJob job) k.cage h.0 h.1) (by_past p.cage q.cage p.cage.scan p.settings (SaysJob job) k.settings h.1) h.2.1
+happens_fine p happening f SaysEnded q k h = reported_fine p q SaysEnded k (kept_past p.cage q.cage happening SaysEnded k.cage h.0 h.1) (by_past p.cage q.cage p.cage.scan p.settings SaysEnded k.settings h.1) h.2.1
+happens_fine p happening f SaysFault q k h = reported_fine p q SaysFault k (kept_past p.cage q.cage happening SaysFault k.cage h.0 h.1) (by_past p.cage q.cage p.cage.scan p.settings SaysFault k.settings h.1) h.2.1
 
 returns_fine : (p : Panel) (done : FinishedSeen) (f : Bool) (told : TakenSeen) (q : Panel) → IsFine p → IsOut p done → Returns p done f told q → IsFine q
-returns_fine p done f SaysIgnored q k out h = fine_is (record p { cage = with_back p.cage done }) q h.2 (record { cage = kept_late p.cage done k.cage out h.1; range = k.range })
-returns_fine p done f SaysWaits q k out h = tolled_fine p q _ k (kept_counted p.cage q.cage done SaysWaits k.cage out h.0 h.1) h.2.1
-returns_fine p done f (SaysPause t u) q k out h = tolled_fine p q _ k (kept_counted p.cage q.cage done (SaysPause t u) k.cage out h.0 h.1) h.2.1
-returns_fine p done f (SaysJob job) q k out h = tolled_fine p q _ k (kept_counted p.cage q.cage done (SaysJob job) k.cage out h.0 h.1) h.2.1
-returns_fine p done f SaysEnded q k out h = tolled_fine p q _ k (kept_counted p.cage q.cage done SaysEnded k.cage out h.0 h.1) h.2.1
-returns_fine p done f SaysFault q k out h = tolled_fine p q _ k (kept_counted p.cage q.cage done SaysFault k.cage out h.0 h.1) h.2.1
+returns_fine p done f SaysIgnored q k out h = fine_is (record p { cage = with_back p.cage done }) q h.2 (record { cage = kept_late p.cage done k.cage out h.1; range = k.range; settings = k.settings; status = k.status })
+returns_fine p done f SaysWaits q k out h = reported_fine p q SaysWaits k (kept_counted p.cage q.cage done SaysWaits k.cage out h.0 h.1) (by_counts (with_back p.cage done) q.cage done.outcome p.settings SaysWaits k.settings h.1) h.2.1
+returns_fine p done f (SaysPause t u) q k out h = reported_fine p q (SaysPause t u) k (kept_counted p.cage q.cage done (SaysPause t u) k.cage out h.0 h.1) (by_counts (with_back p.cage done) q.cage done.outcome p.settings (SaysPause t u) k.settings h.1) h.2.1
+returns_fine p done f (SaysJob job) q k out h = reported_fine p q (SaysJob job) k (kept_counted p.cage q.cage done (SaysJob job) k.cage out h.0 h.1) (by_counts (with_back p.cage done) q.cage done.outcome p.settings (SaysJob job) k.settings h.1) h.2.1
+returns_fine p done f SaysEnded q k out h = reported_fine p q SaysEnded k (kept_counted p.cage q.cage done SaysEnded k.cage out h.0 h.1) (by_counts (with_back p.cage done) q.cage done.outcome p.settings SaysEnded k.settings h.1) h.2.1
+returns_fine p done f SaysFault q k out h = reported_fine p q SaysFault k (kept_counted p.cage q.cage done SaysFault k.cage out h.0 h.1) (by_counts (with_back p.cage done) q.cage done.outcome p.settings SaysFault k.settings h.1) h.2.1
 
 starts_fine : (p : Panel) (plan : Snapshot) (f : Bool) (told : TakenSeen) (q : Panel) → IsFine p → MayScan p → Starts p plan f told q → IsFine q
-starts_fine p plan f told q k may h = tolled_fine p q _ k (kept_begun p.cage q.cage p.settings plan told k.cage (is_none (slot_at p.cage.out p.settings.meter) may.home) k.range h.2 h.1 h.3) h.4
+starts_fine p plan f told q k may h =
+    let s : StatusSeen = if tells_fault told then card_fault_reported p.status else card_fault_cleared p.status in
+    let u : IsStatus s = status_if (tells_fault told) _ _ (reported_status p.status k.status) (cleared_status p.status k.status) in
+    let next : Panel = record p { cage = q.cage; status = s } in
+    let c : IsKept q.cage = kept_begun p.cage q.cage p.settings plan told k.cage (is_none (slot_at p.cage.out p.settings.meter) may.home) k.range h.2 h.1 h.3 in
+    fine_is next q h.4 (record { cage = c; range = k.range; settings = by_goes (begun p.cage) q.cage p.settings 0 told h.3; status = u })
 
 effect_fine : (d : Effect) (p : Panel) (f : Bool) (a : SessionAnswer) (w : Option WorkView) (q : Panel) → IsFine p → IsHarmless p d → StepEffect d p f a w q → IsFine q
 effect_fine (Offers happening error) p f a w q k n h = happens_fine p happening f h.told q k h.happens
@@ -341,12 +232,12 @@ start_fine p plan f (Refused e) None q k h = fine_is p q h.2 k
 start_fine p plan f a w q k h = absurd h
 
 served_fine : (p : Panel) (ask : SessionAsk) (f : Bool) (a : SessionAnswer) (q : Panel) → IsFine p → IsServed p ask f a q → IsFine q
-served_fine p ask f a q k h = fine_as p q (ap (λ (x : Panel). x.cage) h.after) (ap (λ (x : Panel). x.settings) h.after) k
+served_fine p ask f a q k h = fine_is (record p { sessions = h.sessions }) q h.after (record { cage = k.cage; range = k.range; settings = k.settings; status = k.status })
 
 joined_fine : (p : Panel) (ask : SessionAsk) (f : Bool) (a : SessionAnswer) (w : Option WorkView) (q : Panel) → IsFine p → StepJoined p ask f a w q → IsFine q
-joined_fine p (Ask.Fault sid e) f (Done None) None q k h = fine_as p q (ap (λ (x : Panel). x.cage) h.1) (ap (λ (x : Panel). x.settings) h.1) k
+joined_fine p (Ask.Fault sid e) f (Done None) None q k h = fine_is (record p { status = pushed p.status e }) q h.1 (record { cage = k.cage; range = k.range; settings = k.settings; status = (status-kept p.status k.status).error e })
 joined_fine p (Ask.Fault sid e) f a None q k h = served_fine p (Ask.Fault sid e) f a q k h
-joined_fine p (Ask.Unit sid command answered) f a w q k h = action_fine (action_of answered command) p (Ask.Unit sid command answered) f a w q k (harmless p answered command) h
+joined_fine p (Ask.Unit sid command available) f a w q k h = action_fine (action_of available command) p (Ask.Unit sid command available) f a w q k (harmless p available command) h
 joined_fine p (Ask.Bus sid) f a w q k h = happens_fine p Bus f h.told q k h.happens
 joined_fine p (Ask.Snapshot sid) f a None q k h = snapshot_fine p f a q k h
 joined_fine p (Ask.Start sid plan) f a w q k h = start_fine p plan f a w q k h
@@ -370,12 +261,12 @@ admitted_fine false true p ask f a w q k h = held_fine p ask f a w q k h
 admitted_fine false false p ask f a w q k h = joined_fine p ask f a w q k h
 
 join_fine : (p : Panel) (f : Bool) (a : SessionAnswer) (w : Option WorkView) (q : Panel) → IsFine p → StepJoin p f a w q → IsFine q
-join_fine p f (Joined sid) None q k h = fine_as p q (ap (λ (x : Panel). x.cage) h.3) (ap (λ (x : Panel). x.settings) h.3) k
+join_fine p f (Joined sid) None q k h = fine_is (record p { sessions = with_seat p.sessions sid.number (Some (fresh (next_number p.events))) }) q h.3 (record { cage = k.cage; range = k.range; settings = k.settings; status = k.status })
 join_fine p f Full None q k h = fine_is p q h.2 k
 join_fine p f a w q k h = absurd h
 
 attach_fine : (p : Panel) (n : ℕ) (f : Bool) (a : SessionAnswer) (w : Option WorkView) (q : Panel) → IsFine p → StepAttach p n f a w q → IsFine q
-attach_fine p n f (Joined sid) None q k h = fine_as p q (ap (λ (x : Panel). x.cage) h.2) (ap (λ (x : Panel). x.settings) h.2) k
+attach_fine p n f (Joined sid) None q k h = fine_is (record p { sessions = q.sessions }) q h.2 (record { cage = k.cage; range = k.range; settings = k.settings; status = k.status })
 attach_fine p n f Stranger None q k h = fine_is p q h.2 k
 attach_fine p n f a w q k h = absurd h
 
@@ -430,52 +321,60 @@ finished_fine p done f a q k h = returns_fine p done f h.told q k h.out h.return
 acts_fine : (p : Panel) (ask : AskView) (f : Bool) (a : AnswerView) (q : Panel) → IsFine p → Acts p ask f a q → IsFine q
 acts_fine p (AskSession ask) f (SaysSession a w) q k h = session_fine (asker_of ask) p ask f a w q k h
 acts_fine p (AskInstall slot card) f SaysInstalled q k h =
-    fine_is (with_rack p (slice_set p.cage.cards (slot - 1) (Some card))) q h.4 (record { cage = slot_fine p.cage slot (Some card) k.cage (none_of p h.1) h.2 h.3.first h.3.last h.3.«open» (few_card p.cage.cards slot card h.3); range = k.range })
+    fine_is (with_cards p (slice_set p.cage.cards (slot - 1) (Some card))) q h.4 (record { cage = slot_fine p.cage slot (Some card) k.cage (none_of p h.1) h.2 h.3.first h.3.last h.3.«open» (few_card p.cage.cards slot card h.3); range = k.range; settings = k.settings; status = k.status })
 acts_fine p (AskInstall slot card) f (SaysNotInstalled refusal) q k h = fine_is p q h.2 k
 acts_fine p (AskEject slot) f (SaysEjected card) q k h =
     let r : (0 < slot) × (slot ≤ length p.cage.cards) = rest_slot p.cage.cards slot card h.2 in
     let s = stopped_fine p.cage k.cage in
     let home : slot_at (stopped p.cage).out slot ≡ None = subst (λ (o : _). slot_at o slot ≡ None) (sym s.2) h.1 in
     let c : IsKept (without_card (stopped p.cage) slot) = slot_fine (stopped p.cage) slot None s.0 s.1 home (omega (arith, r.0)) (omega (arith, r.1, k.cage.good.held.slots)) (λ n. refl) tt in
-    record { cage = subst (λ (x : CageSeen). IsKept x) (sym (ap (λ (x : Panel). x.cage) h.3)) c; range = subst (λ (x : Setup). IsInRange x) (sym (ap (λ (x : Panel). x.settings) h.3)) k.range }
+    fine_is (record p { cage = without_card (stopped p.cage) slot; status = card_fault_cleared p.status }) q h.3 (record { cage = c; range = k.range; settings = by_none (stopped p.cage).scan p.settings s.1; status = cleared_status p.status k.status })
 acts_fine p (AskEject slot) f (SaysNotEjected refusal) q k h = fine_is p q h.2 k
 acts_fine p AskExternal f a q k h = outside_fine p External f a q k h
 acts_fine p (AskElapsed ticket) f a q k h = outside_fine p (Elapsed ticket) f a q k h
 acts_fine p (AskFinished done) f a q k h = finished_fine p done f a q k h
 acts_fine p ask f a q k h = absurd h
 
--- the end of an event changes neither cage nor settings
-session_same : (a : SessionAnswer) (p : Panel) → ((session_concluded a p).cage ≡ p.cage) × ((session_concluded a p).settings ≡ p.settings)
-session_same Stranger p = (refl, refl)
-session_same Broken p = (refl, refl)
-session_same (Hold ask) p = (refl, refl)
-session_same (Worn ask) p = (refl, refl)
-session_same (Refused e) p = (refl, refl)
-session_same (Joined sid) p = (refl, refl)
-session_same Full p = (refl, refl)
-session_same (Done text) p = (refl, refl)
-session_same (answers.Snapshot s) p = (refl, refl)
-session_same answers.Missed p = (refl, refl)
-session_same (answers.Max n) p = (refl, refl)
-session_same (answers.Lock code) p = (refl, refl)
-session_same (answers.Info exclusive n) p = (refl, refl)
+-- an event that ends
+pub ended_fine : (p : Panel) → IsFine p → IsFine (ended p)
+ended_fine p k =
+    let done : StatusSeen = completed p.status (p.opc_waits && not (is_running p)) in
+    let u : IsStatus done = (status-kept p.status k.status).event_status _ in
+    let o : IsStatus (with_operation done (awaited_bits (awaited_now p.cage.scan))) = (status-kept done u).group Operation _ ((told_group done Operation u).conditioned _) in
+    record { cage = k.cage; range = k.range; settings = k.settings; status = (status-kept _ o).ended }
 
-concluded_same : (a : AnswerView) (p : Panel) → ((concluded a p).cage ≡ p.cage) × ((concluded a p).settings ≡ p.settings)
-concluded_same (SaysSession a w) p = session_same a p
-concluded_same SaysInstalled p = (refl, refl)
-concluded_same (SaysNotInstalled refusal) p = (refl, refl)
-concluded_same (SaysEjected card) p = (refl, refl)
-concluded_same (SaysNotEjected refusal) p = (refl, refl)
-concluded_same (SaysTaken work) p = (refl, refl)
-concluded_same SaysMissed p = (refl, refl)
-concluded_same SaysFailed p = (refl, refl)
-concluded_same SaysBack p = (refl, refl)
-concluded_same SaysWorn p = (refl, refl)
+pub erred_fine : (p : Panel) (e : ScpiError) → IsFine p → IsFine (erred p e)
+erred_fine p e k = record { cage = k.cage; range = k.range; settings = k.settings; status = (status-kept p.status k.status).error e }
+
+session_ended : (a : SessionAnswer) (p : Panel) → IsFine p → IsFine (session_concluded a p)
+session_ended Stranger p k = k
+session_ended Broken p k = k
+session_ended (Hold ask) p k = k
+session_ended (Worn ask) p k = k
+session_ended (Refused e) p k = ended_fine (erred p e) (erred_fine p e k)
+session_ended (Joined sid) p k = ended_fine p k
+session_ended Full p k = ended_fine p k
+session_ended (Done text) p k = ended_fine p k
+session_ended (answers.Snapshot s) p k = ended_fine p k
+session_ended answers.Missed p k = ended_fine p k
+session_ended (answers.Max n) p k = ended_fine p k
+session_ended (answers.Lock code) p k = ended_fine p k
+session_ended (answers.Info exclusive n) p k = ended_fine p k
+
+concluded_fine : (a : AnswerView) (p : Panel) → IsFine p → IsFine (concluded a p)
+concluded_fine (SaysSession a w) p k = session_ended a p k
+concluded_fine SaysInstalled p k = ended_fine p k
+concluded_fine (SaysNotInstalled refusal) p k = ended_fine p k
+concluded_fine (SaysEjected card) p k = ended_fine p k
+concluded_fine (SaysNotEjected refusal) p k = ended_fine p k
+concluded_fine (SaysTaken work) p k = ended_fine p k
+concluded_fine SaysMissed p k = ended_fine p k
+concluded_fine SaysFailed p k = ended_fine (erred p HardwareError) (erred_fine p HardwareError k)
+concluded_fine SaysBack p k = k
+concluded_fine SaysWorn p k = k
 
 event_fine : (p : Panel) (ask : AskView) (f : Bool) (a : AnswerView) (q : Panel) → IsFine p → IsEvent p ask f a q → IsFine q
-event_fine p ask f a q k h =
-    let s = concluded_same a h.done in
-    fine_as h.done q (ap (λ (x : Panel). x.cage) h.after ∙ s.0) (ap (λ (x : Panel). x.settings) h.after ∙ s.1) (acts_fine p ask f a h.done k h.acts)
+event_fine p ask f a q k h = fine_is (concluded a h.done) q h.after (concluded_fine a h.done (acts_fine p ask f a h.done k h.acts))
 
 either_fine : (b : Bool) (p : Panel) (ask : AskView) (f : Bool) (a : AnswerView) (q : Panel) → IsFine p → MatchBool b (IsUnnumbered p ask f a q) (IsEvent p ask f a q) → IsFine q
 either_fine true p ask f a q k h = fine_is p q h.same k
@@ -484,7 +383,7 @@ either_fine false p ask f a q k h = event_fine p ask f a q k h
 pub step_fine : (p : Panel) (ask : AskView) (f : Bool) (a : AnswerView) (q : Panel) → IsFine p → Step p ask f a q → IsFine q
 step_fine p ask f a q k h = either_fine ((p.events == last_number) && not (acts_unnumbered ask)) p ask f a q k h
 
--- ---- runs
+-- ---- at the start
 
 none_at : {A : Type 0} (n i : ℕ) → slice_index_or (let r : List (Option A) = replicate n None in r) i None ≡ None
 none_at zero i = refl
@@ -509,14 +408,6 @@ opening_fine_at events scans = record {
     few = λ s. subst (λ (o : Option Account). OptionFew o) (sym (none_slot 8 s)) tt;
   };
   range = reset_range;
+  settings = tt;
+  status = status-start;
 }
-
-good_of : (p : Panel) → IsFine p → IsGoodPanel p
-good_of p k = record { safe = k.cage.safe; good = k.cage.good }
-
-run_fine : (p : Panel) (es : List Event) → IsFine p → IsRun p es → AllByRecursion (λ e. IsGoodPanel e.panel) es
-run_fine p [] k h = tt
-run_fine p (e ∷ es) k h = let t : IsFine e.panel = step_fine p e.ask e.failed e.answer e.panel k h.0 in (good_of e.panel t, run_fine e.panel es t h.1)
-
-pub every_run : (events scans : ℕ) (es : List Event) → IsRun (opening_at events scans) es → AllByRecursion (λ e. IsGoodPanel e.panel) es
-every_run events scans es h = run_fine (opening_at events scans) es (opening_fine_at events scans) h

@@ -21,8 +21,8 @@ use Rattle.sw_cage.specs.Cage.{safe_state}
 use Rattle.sw_cage.specs.declared.taken.Happening.{Happening}
 use Rattle.sw_cage.specs.declared.taken.Happening.TheVariants.{Bus, Signal}
 use Rattle.sw_core.specs.Answers.{identity, version, oldest_entry, all_entries, source_word}
-use Rattle.sw_core.specs.Panel.{Panel, with_rack}
-use Rattle.sw_core.specs.Registers.{calmed}
+use Rattle.sw_core.specs.Panel.{Panel, with_cards}
+use Rattle.sw_core.specs.Registers.{card_fault_cleared}
 
 -- what a command does when it is carried out
 pub data Effect : Type 1 where
@@ -68,9 +68,9 @@ pub data Action : Type 1 where
 abbrev pub reset : Panel → Panel
 reset p = record p {
   cage = record (safe_state p.cage) { readings = [] };
-  status = calmed p.status;
+  status = card_fault_cleared p.status;
   settings = at_reset;
-  pending = false;
+  opc_waits = false;
 }
 
 abbrev pub aborted : Panel → Panel
@@ -89,78 +89,80 @@ with_delay layer micros s = with_layer s layer (record (layer_of s layer) { dela
 -- What a command comes to, where its message has answered before or not, which is when a message is available
 -- (SCPI-1999, 3, 18, 20, 21.8 and 24; IEEE 488.2, 10 and 11.2).
 abbrev pub action_of : Bool → Command → Action
-action_of answered Command.Identify = AtOnce (TellsText (λ p. identity))
-action_of answered Command.Reset = AtOnce Resets
-action_of answered Command.ClearStatus = AtOnce (Leaves (λ p. record p { status = cleared p.status; pending = false }))
-action_of answered (Command.EventEnable bits) = AtOnce (SetsStatus (λ s. record s { ese = bits }))
-action_of answered Command.EventEnableQuery = AtOnce (TellsNumber (λ p. p.status.ese))
-action_of answered Command.EventQuery = AtOnce (ReadsOut (λ s. decimal s.esr) (λ s. record s { esr = 0 }))
-action_of answered (Command.ServiceEnable bits) = AtOnce (SetsStatus (λ s. enabled s bits))
-action_of answered Command.ServiceEnableQuery = AtOnce (TellsNumber (λ p. p.status.sre))
-action_of answered Command.StatusByteQuery = AtOnce (TellsNumber (λ p. byte_of p.status answered))
-action_of answered Command.OperationComplete = AtOnce (Leaves (λ p. record p { pending = true }))
-action_of answered Command.OperationCompleteQuery = AfterScan (TellsNumber (λ p. 1))
-action_of answered Command.Wait = AfterScan (Leaves (λ p. p))
-action_of answered Command.SelfTestQuery = AtOnce (TellsNumber (λ p. 0))
-action_of answered Command.Trigger = AtOnce (Offers Bus TriggerIgnored)
-action_of answered (Command.DefineMacro label body) = AtOnce IsOfMacros
-action_of answered (Command.MacroQuery label) = AtOnce IsOfMacros
-action_of answered Command.MacroLabelsQuery = AtOnce IsOfMacros
-action_of answered (Command.RemoveMacro label) = AtOnce IsOfMacros
-action_of answered Command.PurgeMacros = AtOnce IsOfMacros
-action_of answered (Command.EnableMacros on) = AtOnce IsOfMacros
-action_of answered Command.EnableMacrosQuery = AtOnce IsOfMacros
-action_of answered Command.Abort = AtOnce (Leaves aborted)
-action_of answered Command.Initiate = AtOnce Initiates
-action_of answered (Command.InitiateContinuous true) = AtOnce (Refuses SettingsConflict)
-action_of answered (Command.InitiateContinuous false) = AtOnce (Leaves (λ p. p))
-action_of answered Command.InitiateContinuousQuery = AtOnce (TellsNumber (λ p. 0))
-action_of answered (Command.Count layer n) =
+action_of available Command.Identify = AtOnce (TellsText (λ p. identity))
+action_of available Command.Reset = AtOnce Resets
+action_of available Command.ClearStatus =
+    AtOnce (Leaves (λ p. record p { status = cleared p.status; opc_waits = false }))
+action_of available (Command.EventEnable bits) = AtOnce (SetsStatus (λ s. record s { ese = bits }))
+action_of available Command.EventEnableQuery = AtOnce (TellsNumber (λ p. p.status.ese))
+action_of available Command.EventQuery = AtOnce (ReadsOut (λ s. decimal s.esr) (λ s. record s { esr = 0 }))
+action_of available (Command.ServiceEnable bits) = AtOnce (SetsStatus (λ s. enabled s bits))
+action_of available Command.ServiceEnableQuery = AtOnce (TellsNumber (λ p. p.status.sre))
+action_of available Command.StatusByteQuery = AtOnce (TellsNumber (λ p. byte_of p.status available))
+action_of available Command.OperationComplete = AtOnce (Leaves (λ p. record p { opc_waits = true }))
+action_of available Command.OperationCompleteQuery = AfterScan (TellsNumber (λ p. 1))
+action_of available Command.Wait = AfterScan (Leaves (λ p. p))
+action_of available Command.SelfTestQuery = AtOnce (TellsNumber (λ p. 0))
+action_of available Command.Trigger = AtOnce (Offers Bus TriggerIgnored)
+action_of available (Command.DefineMacro label body) = AtOnce IsOfMacros
+action_of available (Command.MacroQuery label) = AtOnce IsOfMacros
+action_of available Command.MacroLabelsQuery = AtOnce IsOfMacros
+action_of available (Command.RemoveMacro label) = AtOnce IsOfMacros
+action_of available Command.PurgeMacros = AtOnce IsOfMacros
+action_of available (Command.EnableMacros on) = AtOnce IsOfMacros
+action_of available Command.EnableMacrosQuery = AtOnce IsOfMacros
+action_of available Command.Abort = AtOnce (Leaves aborted)
+action_of available Command.Initiate = AtOnce Initiates
+action_of available (Command.InitiateContinuous true) = AtOnce (Refuses SettingsConflict)
+action_of available (Command.InitiateContinuous false) = AtOnce (Leaves (λ p. p))
+action_of available Command.InitiateContinuousQuery = AtOnce (TellsNumber (λ p. 0))
+action_of available (Command.Count layer n) =
     BetweenScans (SetsUp ((1 ≤ n) × (n ≤ most_of layer)) DataOutOfRange (with_count layer n))
-action_of answered (Command.CountQuery layer) = AtOnce (TellsNumber (λ p. (layer_of p.settings layer).count))
-action_of answered (Command.SetSource layer source) =
+action_of available (Command.CountQuery layer) = AtOnce (TellsNumber (λ p. (layer_of p.settings layer).count))
+action_of available (Command.SetSource layer source) =
     BetweenScans (Leaves (λ p. record p { settings = with_source layer source p.settings }))
-action_of answered (Command.SourceQuery layer) =
+action_of available (Command.SourceQuery layer) =
     AtOnce (TellsText (λ p. source_word (layer_of p.settings layer).source))
-action_of answered (Command.Delay layer micros) =
+action_of available (Command.Delay layer micros) =
     BetweenScans (SetsUp (micros ≤ longest_delay) DataOutOfRange (with_delay layer micros))
-action_of answered (Command.DelayQuery layer) = AtOnce (TellsText (λ p. fixed 6 (layer_of p.settings layer).delay_us))
-action_of answered (Command.Signal layer_name.Trigger) = AtOnce (Offers (Signal layer_name.Trigger) TriggerIgnored)
-action_of answered (Command.Signal layer_name.Arm1) = AtOnce (Offers (Signal layer_name.Arm1) ArmIgnored)
-action_of answered (Command.Signal layer_name.Arm2) = AtOnce (Offers (Signal layer_name.Arm2) ArmIgnored)
-action_of answered (Command.Close chans) = BetweenScans (Closes chans)
-action_of answered (Command.CloseQuery chans) = AtOnce (TellsRelays true chans)
-action_of answered Command.CloseState = AtOnce (TellsText (λ p. printed (closed_list p.cage.cards)))
-action_of answered (Command.Open chans) = BetweenScans (Opens chans)
-action_of answered (Command.OpenQuery chans) = AtOnce (TellsRelays false chans)
-action_of answered Command.OpenAll = BetweenScans (Leaves (λ p. with_rack p (all_open p.cage.cards)))
-action_of answered (Command.Scan chans) =
+action_of available (Command.DelayQuery layer) = AtOnce (TellsText (λ p. fixed 6 (layer_of p.settings layer).delay_us))
+action_of available (Command.Signal layer_name.Trigger) = AtOnce (Offers (Signal layer_name.Trigger) TriggerIgnored)
+action_of available (Command.Signal layer_name.Arm1) = AtOnce (Offers (Signal layer_name.Arm1) ArmIgnored)
+action_of available (Command.Signal layer_name.Arm2) = AtOnce (Offers (Signal layer_name.Arm2) ArmIgnored)
+action_of available (Command.Close chans) = BetweenScans (Closes chans)
+action_of available (Command.CloseQuery chans) = AtOnce (TellsRelays true chans)
+action_of available Command.CloseState = AtOnce (TellsText (λ p. printed (closed_list p.cage.cards)))
+action_of available (Command.Open chans) = BetweenScans (Opens chans)
+action_of available (Command.OpenQuery chans) = AtOnce (TellsRelays false chans)
+action_of available Command.OpenAll = BetweenScans (Leaves (λ p. with_cards p (all_open p.cage.cards)))
+action_of available (Command.Scan chans) =
     BetweenScans (SetsUp (length chans ≤ 512) TooMuchData (λ s. record s { list = chans }))
-action_of answered Command.ScanQuery = AtOnce (TellsText (λ p. printed p.settings.list))
-action_of answered (Command.ScanMeter slot) =
+action_of available Command.ScanQuery = AtOnce (TellsText (λ p. printed p.settings.list))
+action_of available (Command.ScanMeter slot) =
     BetweenScans (SetsUp ((1 ≤ slot) × (slot ≤ 8)) DataOutOfRange (λ s. record s { meter = slot }))
-action_of answered Command.ScanMeterQuery = AtOnce (TellsNumber (λ p. p.settings.meter))
-action_of answered (Command.GroupEventQuery group) =
+action_of available Command.ScanMeterQuery = AtOnce (TellsNumber (λ p. p.settings.meter))
+action_of available (Command.GroupEventQuery group) =
     AtOnce (ReadsOut (λ s. decimal (group_of s group).event) (λ s. with_group s group (event_taken (group_of s group))))
-action_of answered (Command.GroupConditionQuery group) = AtOnce (TellsNumber (λ p. (group_of p.status group).condition))
-action_of answered (Command.GroupEnable group bits) =
+action_of available (Command.GroupConditionQuery group) =
+    AtOnce (TellsNumber (λ p. (group_of p.status group).condition))
+action_of available (Command.GroupEnable group bits) =
     AtOnce (SetsStatus (λ s. with_group s group (with_enable (group_of s group) bits)))
-action_of answered (Command.GroupEnableQuery group) = AtOnce (TellsNumber (λ p. (group_of p.status group).enable))
-action_of answered (Command.PositiveTransition group bits) =
+action_of available (Command.GroupEnableQuery group) = AtOnce (TellsNumber (λ p. (group_of p.status group).enable))
+action_of available (Command.PositiveTransition group bits) =
     AtOnce (SetsStatus (λ s. with_group s group (with_ptr (group_of s group) bits)))
-action_of answered (Command.PositiveTransitionQuery group) = AtOnce (TellsNumber (λ p. (group_of p.status group).ptr))
-action_of answered (Command.NegativeTransition group bits) =
+action_of available (Command.PositiveTransitionQuery group) = AtOnce (TellsNumber (λ p. (group_of p.status group).ptr))
+action_of available (Command.NegativeTransition group bits) =
     AtOnce (SetsStatus (λ s. with_group s group (with_ntr (group_of s group) bits)))
-action_of answered (Command.NegativeTransitionQuery group) = AtOnce (TellsNumber (λ p. (group_of p.status group).ntr))
-action_of answered Command.Preset = AtOnce (SetsStatus preset)
-action_of answered Command.NextErrorQuery = AtOnce (ReadsOut (λ s. oldest_entry s.errors) popped)
-action_of answered Command.AllErrorsQuery =
+action_of available (Command.NegativeTransitionQuery group) = AtOnce (TellsNumber (λ p. (group_of p.status group).ntr))
+action_of available Command.Preset = AtOnce (SetsStatus preset)
+action_of available Command.NextErrorQuery = AtOnce (ReadsOut (λ s. oldest_entry s.errors) popped)
+action_of available Command.AllErrorsQuery =
     AtOnce (ReadsOut (λ s. all_entries s.errors) (λ s. record s { errors = [] }))
-action_of answered Command.ErrorCountQuery = AtOnce (TellsNumber (λ p. length p.status.errors))
-action_of answered Command.VersionQuery = AtOnce (TellsText (λ p. version))
-action_of answered (Command.Points n) =
+action_of available Command.ErrorCountQuery = AtOnce (TellsNumber (λ p. length p.status.errors))
+action_of available Command.VersionQuery = AtOnce (TellsText (λ p. version))
+action_of available (Command.Points n) =
     BetweenScans (SetsUp ((1 ≤ n) × (n ≤ 100000)) DataOutOfRange (λ s. record s { points = n }))
-action_of answered Command.PointsQuery = AtOnce (TellsNumber (λ p. p.settings.points))
-action_of answered Command.ActualPointsQuery = AtOnce (TellsNumber (λ p. length p.cage.readings))
-action_of answered Command.BoundQuery = AtOnce (TellsNumber (λ p. bound_of p.settings))
-action_of answered Command.Fetch = AtOnce TellsReadings
+action_of available Command.PointsQuery = AtOnce (TellsNumber (λ p. p.settings.points))
+action_of available Command.ActualPointsQuery = AtOnce (TellsNumber (λ p. length p.cage.readings))
+action_of available Command.BoundQuery = AtOnce (TellsNumber (λ p. bound_of p.settings))
+action_of available Command.Fetch = AtOnce TellsReadings

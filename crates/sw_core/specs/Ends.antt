@@ -1,24 +1,28 @@
--- Every scan does what its plan says, and ends: what it has done, what it still awaits, and how many happenings it has taken.
-use Rattle.std.specs.Prelude.{◌≡◌, ℕ, ◌+◌, ◌≤◌, Bool, true, false, List, [], ◌∷◌, ◌++◌, length, take, drop, Option, None, Some, IfSome, ◌⊎◌}
+-- Every scan does what its plan says, and ends: what it has done, what it still awaits, and how many happenings it has
+-- taken.
+use Rattle.std.specs.Prelude.{◌≡◌, ℕ, ◌+◌, ◌≤◌, Bool, true, false, List, [], ◌∷◌, ◌++◌, length, take, drop}
+use Rattle.std.specs.Prelude.{Option, None, Some, IfSome, ◌⊎◌, ◌||◌}
 use Rattle.std.specs.List.{AllByRecursion}
 use Rattle.sw_base.specs.Layout.{Channel}
 use Rattle.sw_base.specs.declared.error.ScpiError.{ScpiError}
 use Rattle.sw_base.specs.declared.error.ScpiError.TheVariants.{HardwareError}
 use Rattle.sw_trigger.specs.Agenda.{agenda}
-use Rattle.sw_trigger.specs.Counts.{awaiting, bound_of, reads}
+use Rattle.sw_trigger.specs.Counts.{awaiting, bound_of, readings_of, reads}
 use Rattle.sw_verify.specs.declared.snapshot.Snapshot.{Snapshot}
 use Rattle.sw_verify.specs.Channels.{is_among}
 use Rattle.sw_verify.specs.Sound.{effect}
 use Rattle.sw_cage.specs.Accounts.{is_closed}
+use Rattle.sw_lex.specs.declared.command.Command.TheVariants as command
 use Rattle.sw_cage.specs.Cage.{ScanSeen}
 use Rattle.sw_core.specs.declared.ask.Sid.{Sid}
 use Rattle.sw_core.specs.declared.ask.SessionAsk.TheVariants as Ask
 use Rattle.sw_core.specs.declared.ask.SessionAnswer.{SessionAnswer}
 use Rattle.sw_core.specs.declared.ask.SessionAnswer.TheVariants.{Done, Refused}
-use Rattle.sw_core.specs.Panel.{Panel, opening_at}
-use Rattle.sw_core.specs.View.{AskView, AskSession, AskExternal, AskElapsed, AskFinished, AnswerView, SaysSession, SaysTaken, SaysFailed}
+use Rattle.sw_core.specs.Panel.{Panel, opening_at, is_running}
+use Rattle.sw_core.specs.View.{AskView, AskSession, AskEject, AskExternal, AskElapsed, AskFinished}
+use Rattle.sw_core.specs.View.{AnswerView, SaysSession, SaysEjected, SaysTaken, SaysFailed}
 use Rattle.sw_core.specs.Action.{Effect, Offers, Action, AtOnce, BetweenScans, AfterScan, action_of}
-use Rattle.sw_core.specs.Run.{Event, IsRun}
+use Rattle.sw_core.specs.Run.{Event, IsRun, tells_failure}
 
 -- how many items of its agenda a scan still awaits, the present one included; none, where none runs
 abbrev pub left_at : ScanSeen → ℕ
@@ -53,7 +57,8 @@ took_command (AfterScan effect) answer = took_effect effect answer
 
 -- 1 for a trigger, the end of a pause, or a meter's return that a scan took
 abbrev pub took : AskView → AnswerView → ℕ
-took (AskSession (Ask.Unit sid command answered)) (SaysSession answer work) = took_command (action_of answered command) answer
+took (AskSession (Ask.Unit sid unit available)) (SaysSession answer work) =
+    took_command (action_of available unit) answer
 took (AskSession (Ask.Bus sid)) (SaysSession answer work) = went_on answer
 took AskExternal answer = was_taken answer
 took (AskElapsed ticket) answer = was_taken answer
@@ -79,23 +84,80 @@ abbrev pub last_of : Panel → List Event → Panel
 last_of p [] = p
 last_of p (e ∷ events) = last_of e.panel events
 
--- A scan that runs has done the first items of its plan's agenda and no others: from what its plan found closed it has come
--- to what is closed now, with the readings of those items.
+-- A scan that runs has done the first items of its plan's agenda and no others: from what its plan found closed it has
+-- come to what is closed now, with the readings of those items.
 pub record IsFollowing (plan : Snapshot) (p : Panel) (at : ScanSeen) : Type 0 where
   pub settings : at.setup ≡ plan.settings
-  pub closed : (c : Channel) → is_closed p.cage.cards c ≡ effect (is_among plan.closed) (take at.index (agenda plan.settings)) c
+  pub closed : (c : Channel)
+      → is_closed p.cage.cards c ≡ effect (is_among plan.closed) (take at.index (agenda plan.settings)) c
   pub readings : length p.cage.readings ≡ reads (take at.index (agenda plan.settings))
 
+-- ABORt and *RST, and the eject of a card, done
+abbrev pub stops : AskView → AnswerView → Bool
+stops (AskSession (Ask.Unit sid command.Abort available)) (SaysSession (Done None) work) = true
+stops (AskSession (Ask.Unit sid command.Reset available)) (SaysSession (Done None) work) = true
+stops (AskEject slot) (SaysEjected card) = true
+stops ask answer = false
+
+-- what ends a scan before it has come to its end: these, and a card's failure
+abbrev pub breaks_off : AskView → AnswerView → Bool
+breaks_off ask answer = tells_failure answer || stops ask answer
+
+-- The scan of a plan came to its end.
+pub record IsComplete (plan : Snapshot) (count : ℕ) (p : Panel) : Type 0 where
+  -- what is closed is what the plan found closed
+  pub closed : (c : Channel) → is_closed p.cage.cards c ≡ is_among plan.closed c
+  -- it has taken as many happenings as its bound says
+  pub taken : count ≡ bound_of plan.settings
+  -- its readings are those of its whole agenda
+  pub readings : length p.cage.readings ≡ readings_of plan.settings
+  -- there was room for them
+  pub room : length p.cage.readings ≤ plan.settings.points
+
+-- The scan of a plan was ended before.
+pub record IsBrokenOff (plan : Snapshot) (p : Panel) : Type 0 where
+  -- no relay of any slot is closed
+  pub none : (c : Channel) → is_closed p.cage.cards c ≡ false
+  -- so many items of its agenda it has done
+  pub items : ℕ
+  -- its readings are those of these items; *RST drops them
+  pub readings : length p.cage.readings ≡ reads (take items (agenda plan.settings))
+  -- there was room for them
+  pub room : length p.cage.readings ≤ plan.settings.points
+
+-- The scan of a plan runs before this event, and none runs after it: then it is complete, or one of four things ended
+-- it and it is broken off. Nothing else ends a scan.
+abbrev pub IsOver : Snapshot → ℕ → Event → Type 0
+IsOver plan taken e = IsComplete plan (taken + took e.ask e.answer) e.panel
+    ⊎ ((breaks_off e.ask e.answer ≡ true) × IsBrokenOff plan e.panel)
+
 -- A scan has begun by the plan in the event before these, and none has since: while it runs it has done a prefix of its
--- plan's agenda; it took no more happenings than its plan's bound; what it took and what it still awaits make up the bound,
--- unless it is over; and when it took so many, it is over.
+-- plan's agenda; it took no more happenings than its plan's bound; what it took and what it still awaits make up the
+-- bound, unless it is over; and when it took so many, it is over.
 pub record IsEnding (plan : Snapshot) (start : Panel) (events : List Event) : Type 0 where
   pub follows : IfSome (last_of start events).cage.scan (λ at. IsFollowing plan (last_of start events) at)
   pub most : taken_in events ≤ bound_of plan.settings
-  pub adds_up : (taken_in events + left_in (last_of start events) ≡ bound_of plan.settings) ⊎ ((last_of start events).cage.scan ≡ None)
+  pub adds_up : (taken_in events + left_in (last_of start events) ≡ bound_of plan.settings)
+      ⊎ ((last_of start events).cage.scan ≡ None)
   pub over : taken_in events ≡ bound_of plan.settings → (last_of start events).cage.scan ≡ None
 
--- in every run, whatever went before
+-- a scan begins by the plan in the event
+pub record Begins (plan : Snapshot) (start : Event) : Type 0 where
+  pub sid : Sid
+  pub ask : start.ask ≡ AskSession (Ask.Start sid plan)
+  pub done : begins start.ask start.answer ≡ true
+
+-- Of a scan that began in an event of any run, whatever went before, and of the events after that.
+pub record ScanEnds (plan : Snapshot) (start : Event) : Type 0 where
+  -- it runs then
+  pub runs : is_running start.panel ≡ true
+  -- while none begins
+  pub along : (after : List Event) → BeginsNone after → IsRun start.panel after → IsEnding plan start.panel after
+  -- where it is over
+  pub ends : (between : List Event) (e : Event) → BeginsNone (between ++ e ∷ []) → IsRun start.panel (between ++ e ∷ [])
+      → is_running (last_of start.panel between) ≡ true → is_running e.panel ≡ false → IsOver plan (taken_in between) e
+
+-- in every run
 abbrev pub EveryScanEnds : Type 0
-EveryScanEnds = (numbered scanned : ℕ) (before : List Event) (start : Event) (after : List Event) (sid : Sid) (plan : Snapshot) → IsRun (opening_at numbered scanned) (before ++ start ∷ after)
-    → start.ask ≡ AskSession (Ask.Start sid plan) → begins start.ask start.answer ≡ true → BeginsNone after → IsEnding plan start.panel after
+EveryScanEnds = (numbered scanned : ℕ) (before : List Event) (start : Event) (plan : Snapshot)
+    → IsRun (opening_at numbered scanned) (before ++ start ∷ []) → Begins plan start → ScanEnds plan start

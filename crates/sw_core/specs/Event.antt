@@ -10,9 +10,11 @@ use Rattle.sw_status.specs.Registers.{group_conditioned}
 use Rattle.sw_status.specs.StatusModel.{StatusSeen, pushed, with_bit, with_group, event_ended}
 use Rattle.sw_cage.specs.Takes.{awaited_now}
 use Rattle.sw_core.specs.declared.ask.SessionAnswer.{SessionAnswer}
-use Rattle.sw_core.specs.declared.ask.SessionAnswer.TheVariants.{Joined, Full, Stranger, Broken, Done, Missed, Max, Lock, Info, Snapshot, Refused, Hold, Worn}
+use Rattle.sw_core.specs.declared.ask.SessionAnswer.TheVariants.{Joined, Full, Stranger, Broken, Done, Missed, Max}
+use Rattle.sw_core.specs.declared.ask.SessionAnswer.TheVariants.{Lock, Info, Snapshot, Refused, Hold, Worn}
 use Rattle.sw_core.specs.Panel.{Panel, is_running}
-use Rattle.sw_core.specs.View.{AnswerView, SaysSession, SaysInstalled, SaysNotInstalled, SaysEjected, SaysNotEjected, SaysTaken, SaysMissed, SaysFailed, SaysBack, SaysWorn}
+use Rattle.sw_core.specs.View.{AnswerView, SaysSession, SaysInstalled, SaysNotInstalled, SaysEjected, SaysNotEjected}
+use Rattle.sw_core.specs.View.{SaysTaken, SaysMissed, SaysFailed, SaysBack, SaysWorn}
 
 -- OPERation's condition: bit 4 at a reading, bit 5 at TRIGger's wait, bit 6 at an ARM layer's (SCPI-1999, 20.2)
 abbrev pub awaited_bits : Option Awaited → ℕ
@@ -42,8 +44,9 @@ next_number n = min last_number (n + 1)
 -- not, and the event is counted.
 abbrev pub ended : Panel → Panel
 ended p = record p {
-  status = event_ended (with_operation (completed p.status (p.pending && not (is_running p))) (awaited_bits (awaited_now p.cage.scan)));
-  pending = p.pending && is_running p;
+  status = event_ended (with_operation
+      (completed p.status (p.opc_waits && not (is_running p))) (awaited_bits (awaited_now p.cage.scan)));
+  opc_waits = p.opc_waits && is_running p;
   events = next_number p.events;
 }
 

@@ -7,5 +7,6 @@ pub mod Registers
 pub mod Event
 pub mod Action
 pub mod Step
+pub mod Good
 pub mod Run
 pub mod Ends

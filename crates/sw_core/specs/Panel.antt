@@ -7,13 +7,13 @@ use Rattle.sw_cage.specs.Cage.{CageSeen, empty_cage}
 use Rattle.sw_cage.specs.Accounts.{Accounts, layout_of, is_closed}
 use Rattle.sw_core.specs.Sessions.{SessionsSeen, nobody}
 
--- pending: *OPC waits for the end of the scan; events: how many there were
+-- opc_waits: an *OPC waits for the end of the scan; events: how many there were
 pub record Panel : Type 0 where
   pub cage : CageSeen
   pub sessions : SessionsSeen
   pub status : StatusSeen
   pub settings : Setup
-  pub pending : Bool
+  pub opc_waits : Bool
   pub events : ℕ
 
 -- an empty cage, nobody joined, status and settings as at the start, and these numbers of events and scans
@@ -23,7 +23,7 @@ opening_at events scans = record {
   sessions = nobody;
   status = first_status;
   settings = at_reset;
-  pending = false;
+  opc_waits = false;
   events = events;
 }
 
@@ -31,8 +31,8 @@ abbrev pub opening : Panel
 opening = opening_at 0 0
 
 -- the same but for what the slots hold
-abbrev pub with_rack : Panel → Accounts → Panel
-with_rack p rack = record p { cage = record p.cage { cards = rack } }
+abbrev pub with_cards : Panel → Accounts → Panel
+with_cards p rack = record p { cage = record p.cage { cards = rack } }
 
 -- a scan runs
 abbrev pub is_running : Panel → Bool

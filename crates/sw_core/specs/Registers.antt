@@ -4,9 +4,9 @@ use Rattle.sw_status.specs.StatusModel.{StatusSeen, with_group}
 use Rattle.sw_base.specs.declared.terms.StatusGroup.TheVariants.{Questionable}
 
 -- QUEStionable condition bit 9: a card failed (own)
-abbrev pub alarmed : StatusSeen → StatusSeen
-alarmed s = with_group s Questionable (group_conditioned s.questionable 512)
+abbrev pub card_fault_reported : StatusSeen → StatusSeen
+card_fault_reported s = with_group s Questionable (group_conditioned s.questionable 512)
 
 -- it is over
-abbrev pub calmed : StatusSeen → StatusSeen
-calmed s = with_group s Questionable (group_conditioned s.questionable 0)
+abbrev pub card_fault_cleared : StatusSeen → StatusSeen
+card_fault_cleared s = with_group s Questionable (group_conditioned s.questionable 0)

@@ -1,49 +1,94 @@
 -- Runs: lists of events from the opening state, and what none of them can do.
-use Rattle.std.specs.Prelude.{◌≡◌, ◌≢◌, ℕ, Bool, true, false, List, [], ◌∷◌, None}
-use Rattle.std.specs.List.{AllByRecursion}
+use Rattle.std.specs.Prelude.{◌≡◌, ◌≢◌, ℕ, Bool, true, false, List, [], ◌∷◌, ◌++◌, Option, Some, None, ◌⊎◌, decimal}
 use Rattle.sw_base.specs.Layout.{Channel}
 use Rattle.sw_base.specs.declared.error.ScpiError.{ScpiError}
 use Rattle.sw_base.specs.declared.error.ScpiError.TheVariants.{HardwareError, OutOfMemory}
+use Rattle.sw_base.specs.declared.reading.Reading.{Reading}
 use Rattle.sw_card.specs.Account.{Account, closed_at}
-use Rattle.sw_cage.specs.Accounts.{is_closed}
-use Rattle.sw_cage.specs.Change.{is_in}
-use Rattle.sw_lex.specs.declared.command.Command.TheVariants as Command
+use Rattle.sw_trigger.specs.Counts.{bound_of}
+use Rattle.sw_cage.specs.Accounts.{Accounts, is_closed}
+use Rattle.sw_cage.specs.Cage.{ScanSeen}
+use Rattle.sw_cage.specs.Change.{is_in, any_failed}
+use Rattle.sw_lex.specs.declared.command.Command.{Command}
+use Rattle.sw_lex.specs.declared.command.Command.TheVariants as command
 use Rattle.sw_core.specs.declared.ask.Sid.{Sid}
 use Rattle.sw_core.specs.declared.ask.SessionAsk.TheVariants as Ask
 use Rattle.sw_core.specs.declared.ask.SessionAnswer.TheVariants.{Done, Refused}
 use Rattle.sw_status.specs.StatusModel.{queued}
 use Rattle.sw_core.specs.Event.{ended, erred}
-use Rattle.sw_cage.specs.Good.{IsGood}
-use Rattle.sw_core.specs.Panel.{Panel, opening_at, is_running, IsSafe}
-use Rattle.sw_core.specs.View.{AskView, AskSession, AskEject, AnswerView, SaysSession, SaysEjected, SaysFailed}
+use Rattle.sw_core.specs.Good.{IsGoodPanel}
+use Rattle.sw_core.specs.Panel.{Panel, opening_at, is_running}
+use Rattle.sw_core.specs.View.{AskView, AskSession, AskEject, AskFinished, AnswerView, SaysSession, SaysEjected}
+use Rattle.sw_core.specs.View.{SaysFailed, failed_in, IsOwnAccount, with_meter}
 use Rattle.sw_core.specs.Seats.{FindsKey}
 use Rattle.sw_core.specs.Step.{Step}
 
--- one event: what was asked, whether a card failed in it, what was answered, and the state after it
+-- one event: what was asked, what was answered, and the state after it
 pub record Event : Type 0 where
   pub ask : AskView
-  pub failed : Bool
   pub answer : AnswerView
   pub panel : Panel
+
+-- the event is a step from p, in which a card failed exactly where a count of failures tells so
+pub record IsNext (p : Panel) (e : Event) : Type 0 where
+  pub own : IsOwnAccount e.ask
+  pub step : Step p e.ask (failed_in e.ask e.answer p.cage.cards e.panel.cage.cards) e.answer e.panel
 
 -- each event is a step from the state before it
 abbrev pub IsRun : Panel → List Event → Type 0
 IsRun p [] = Unit {0}
-IsRun p (e ∷ es) = Step p e.ask e.failed e.answer e.panel × IsRun e.panel es
+IsRun p (e ∷ events) = IsNext p e × IsRun e.panel events
 
--- What is so at the end of each event of a run: no absent channel is closed and no two closed channels clash; and where a
--- scan runs it has done a prefix of its agenda, which is sound for the cage's cards and what it found closed, with as many
--- readings as that prefix reads, and the meter out exactly at a reading.
-pub record IsGoodPanel (p : Panel) : Type 0 where
-  pub safe : IsSafe p
-  pub good : IsGood p.cage
+-- this is so of each event and the state before it
+abbrev pub AtEach : (Panel → Event → Type 0) → Panel → List Event → Type 0
+AtEach Is p [] = Unit {0}
+AtEach Is p (e ∷ events) = Is p e × AtEach Is e.panel events
+
+-- DIAGnostic:SCAN:BOUNd? is answered by the bound of the scan that runs
+abbrev pub TellsBound : Event → Type 0
+TellsBound e = (sid : Sid) (available : Bool) (text : List ℕ) (at : ScanSeen)
+    → e.ask ≡ AskSession (Ask.Unit sid command.BoundQuery available) → e.answer ≡ SaysSession (Done (Some text)) None
+    → e.panel.cage.scan ≡ Some at → text ≡ decimal (bound_of at.setup)
+
+-- a card's failure is answered
+abbrev pub tells_failure : AnswerView → Bool
+tells_failure SaysFailed = true
+tells_failure (SaysSession (Refused HardwareError) work) = true
+tells_failure answer = false
+
+-- a count of failures changed: of the meter that came back, since before it measured, or of a card that stayed
+abbrev pub HasFailed : AskView → Accounts → Accounts → Type 0
+HasFailed (AskFinished done) old new =
+    (done.meter.failures ≢ done.before) ⊎ (any_failed (with_meter old done) new ≡ true)
+HasFailed ask old new = any_failed old new ≡ true
+
+-- the meter that came back measured this last, by its own account
+abbrev pub IsLastOf : AskView → Reading → Type 0
+IsLastOf (AskFinished done) r = done.meter.last ≡ Some r
+IsLastOf ask r = ⊥
+
+-- the readings stay, are dropped, or one more is behind them, which is the returned meter's own
+abbrev pub AddsOwn : AskView → List Reading → List Reading → Type 0
+AddsOwn ask old new = (new ≡ old) ⊎ ((new ≡ []) ⊎ ((r : Reading) × IsLastOf ask r × (new ≡ old ++ r ∷ [])))
+
+-- what is so of each event
+pub record IsGoodEvent (p : Panel) (e : Event) : Type 0 where
+  -- it leaves the mainframe good
+  pub panel : IsGoodPanel e.panel
+  -- the bound that is told is that of the scan that runs
+  pub bound : TellsBound e
+  -- no failure is told where none was counted
+  pub failure : tells_failure e.answer ≡ true → HasFailed e.ask p.cage.cards e.panel.cage.cards
+  -- no reading is made up
+  pub readings : AddsOwn e.ask p.cage.readings e.panel.cage.readings
 
 -- in every run, whatever the numbers of events and scans begin with
 abbrev pub EveryRunIsGood : Type 0
-EveryRunIsGood = (numbered scanned : ℕ) (events : List Event) → IsRun (opening_at numbered scanned) events → AllByRecursion (λ e. IsGoodPanel e.panel) events
+EveryRunIsGood = (numbered scanned : ℕ) (events : List Event)
+    → IsRun (opening_at numbered scanned) events → AtEach IsGoodEvent (opening_at numbered scanned) events
 
--- no scan runs, every relay is open, -240 is queued behind the errors before it, and QUEStionable tells of a card's failure
-pub record IsAlarmed (p q : Panel) : Type 0 where
+-- no scan runs, every relay is open, -240 is queued behind the errors before it, and QUEStionable tells of a failure
+pub record IsAfterCardFault (p q : Panel) : Type 0 where
   pub none : (c : Channel) → is_closed q.cage.cards c ≡ false
   pub idle : q.cage.scan ≡ None
   pub told : q.status.errors ≡ queued p.status.errors HardwareError
@@ -54,23 +99,37 @@ pub record IsAtRest (q : Panel) : Type 0 where
   pub none : (c : Channel) → is_closed q.cage.cards c ≡ false
   pub idle : q.cage.scan ≡ None
 
+-- a unit of a session's message that is done, and answers nothing
+abbrev pub IsDoneFor : Panel → Command → Bool → Bool → Panel → Type 0
+IsDoneFor p unit available failed q = (sid : Sid)
+    × Step p (AskSession (Ask.Unit sid unit available)) failed (SaysSession (Done None) None) q
+
 -- ROUTe:CLOSe and ROUTe:OPEN in the words of who sends them, and what leaves the cage
 pub record RelaysObey : Type 0 where
   -- after ROUTe:CLOSe that is done every channel of its list is closed
-  pub closes : (p q : Panel) (sid : Sid) (chans : List Channel) (answered failed : Bool) → Step p (AskSession (Ask.Unit sid (Command.Close chans) answered)) failed (SaysSession (Done None) None) q → (c : Channel) → is_in chans c ≡ true → is_closed q.cage.cards c ≡ true
+  pub closes : (p q : Panel) (chans : List Channel) (available failed : Bool)
+      → IsDoneFor p (command.Close chans) available failed q → (c : Channel) → is_in chans c ≡ true
+      → is_closed q.cage.cards c ≡ true
   -- after ROUTe:OPEN that is done every channel of its list is open
-  pub opens : (p q : Panel) (sid : Sid) (chans : List Channel) (answered failed : Bool) → Step p (AskSession (Ask.Unit sid (Command.Open chans) answered)) failed (SaysSession (Done None) None) q → (c : Channel) → is_in chans c ≡ true → is_closed q.cage.cards c ≡ false
+  pub opens : (p q : Panel) (chans : List Channel) (available failed : Bool)
+      → IsDoneFor p (command.Open chans) available failed q → (c : Channel) → is_in chans c ≡ true
+      → is_closed q.cage.cards c ≡ false
   -- a refusal for any other cause than a card's failure queues its error, ends its event, and does nothing else
-  pub refused : (p q : Panel) (ask : AskView) (failed : Bool) (e : ScpiError) → e ≢ HardwareError → Step p ask failed (SaysSession (Refused e) None) q → q ≡ ended (erred p e)
-  -- after a card's failure every relay is open, -240 is queued, and QUEStionable condition bit 9 is set
-  pub failed : (p q : Panel) (ask : AskView) (failed : Bool) → Step p ask failed (SaysSession (Refused HardwareError) None) q → IsAlarmed p q
+  pub refused : (p q : Panel) (ask : AskView) (failed : Bool) (e : ScpiError) → e ≢ HardwareError
+      → Step p ask failed (SaysSession (Refused e) None) q → q ≡ ended (erred p e)
+  -- After a card's failure, told to a session or to none, every relay is open, -240 is queued, and QUEStionable
+  -- condition bit 9 is set. It is told only where a card failed.
+  pub failed : (p q : Panel) (ask : AskView) (failed : Bool) (answer : AnswerView) → tells_failure answer ≡ true
+      → Step p ask failed answer q → (failed ≡ true) × IsAfterCardFault p q
   -- after ABORt and *RST no scan runs and every relay is open
-  pub aborted : (p q : Panel) (sid : Sid) (answered failed : Bool) → Step p (AskSession (Ask.Unit sid Command.Abort answered)) failed (SaysSession (Done None) None) q → IsAtRest q
-  pub reset : (p q : Panel) (sid : Sid) (answered failed : Bool) → Step p (AskSession (Ask.Unit sid Command.Reset answered)) failed (SaysSession (Done None) None) q → IsAtRest q
+  pub aborted : (p q : Panel) (available failed : Bool) → IsDoneFor p command.Abort available failed q → IsAtRest q
+  pub reset : (p q : Panel) (available failed : Bool) → IsDoneFor p command.Reset available failed q → IsAtRest q
   -- after a card is ejected while a scan runs too
-  pub stopped : (p q : Panel) (slot : ℕ) (failed : Bool) (card : Account) → is_running p ≡ true → Step p (AskEject slot) failed (SaysEjected card) q → IsAtRest q
+  pub stopped : (p q : Panel) (slot : ℕ) (failed : Bool) (card : Account) → is_running p ≡ true
+      → Step p (AskEject slot) failed (SaysEjected card) q → IsAtRest q
   -- an ejected card has no relay closed
-  pub ejected : (p q : Panel) (slot : ℕ) (failed : Bool) (card : Account) → Step p (AskEject slot) failed (SaysEjected card) q → (k : ℕ) → closed_at card.closed k ≡ false
+  pub ejected : (p q : Panel) (slot : ℕ) (failed : Bool) (card : Account)
+      → Step p (AskEject slot) failed (SaysEjected card) q → (k : ℕ) → closed_at card.closed k ≡ false
 
 -- an answer that tells of no want of memory and of no card's failure
 abbrev pub IsPlain : AnswerView → Type 0
@@ -85,5 +144,6 @@ KeepsKey p ask answer = Unit {0}
 
 -- Where memory suffices and no card fails, an ask has one answer and leaves one state.
 abbrev pub StepIsDetermined : Type 0
-StepIsDetermined = (p q q' : Panel) (ask : AskView) (f f' : Bool) (a a' : AnswerView) → Step p ask f a q → Step p ask f' a' q' → IsPlain a → IsPlain a'
+StepIsDetermined = (p q q' : Panel) (ask : AskView) (f f' : Bool) (a a' : AnswerView)
+    → Step p ask f a q → Step p ask f' a' q' → IsPlain a → IsPlain a'
     → KeepsKey p ask a → KeepsKey p ask a' → (a ≡ a') × (q ≡ q')

@@ -1,4 +1,5 @@
--- What a session asks of its seat and of the locks, and what it is answered (IVI-6.1 HiSLIP; what a clear drops is own).
+-- What a session asks of its seat and of the locks, and what it is answered (IVI-6.1 HiSLIP; what a clear drops is
+-- own).
 use Rattle.std.specs.Prelude.{◌≡◌, ℕ, ◌⊎◌, Bool, true, false, not, List, Option, None, Some, is_some}
 use Rattle.sw_base.specs.Layout.{slot_at}
 use Rattle.sw_hislip.specs.LockTable.{LockTable, Replies, MayLackMemory, holders, freed, released, left}
@@ -26,7 +27,7 @@ asker_of (Ask.Cleared sid) = Some sid
 asker_of (Ask.Lock sid key) = Some sid
 asker_of (Ask.Release sid) = Some sid
 asker_of (Ask.LockInfo sid) = Some sid
-asker_of (Ask.Unit sid command answered) = Some sid
+asker_of (Ask.Unit sid command available) = Some sid
 asker_of (Ask.Fault sid e) = Some sid
 asker_of (Ask.Bus sid) = Some sid
 asker_of (Ask.Snapshot sid) = Some sid
@@ -34,7 +35,7 @@ asker_of (Ask.Start sid plan) = Some sid
 
 -- what waits for the locks of other sessions: what drives the instrument
 abbrev pub is_shut_out : SessionAsk → Bool
-is_shut_out (Ask.Unit sid command answered) = true
+is_shut_out (Ask.Unit sid command available) = true
 is_shut_out (Ask.Bus sid) = true
 is_shut_out (Ask.Snapshot sid) = true
 is_shut_out (Ask.Start sid plan) = true
@@ -93,7 +94,8 @@ Locks l number key code m =
 -- an ask for a lock: it is held where the lock is not to be had now
 abbrev pub StepLock : SessionsSeen → Sid → List ℕ → SessionAnswer → SessionsSeen → Type 0
 StepLock s sid key (Lock code) t = Locks s.locks sid.number key code t.locks × (t.seats ≡ s.seats)
-StepLock s sid key (Hold back) t = Replies s.locks sid.number key Reply.NotNow t.locks × (back ≡ Ask.Lock sid key) × (t ≡ s)
+StepLock s sid key (Hold back) t =
+    Replies s.locks sid.number key Reply.NotNow t.locks × (back ≡ Ask.Lock sid key) × (t ≡ s)
 StepLock s sid key answer t = ⊥
 
 -- The answer tells of no want of memory: a lock is no error while its key is due and may find none.
@@ -106,11 +108,16 @@ abbrev pub StepSeat : SessionsSeen → SessionAsk → SessionAnswer → Sessions
 StepSeat s (Ask.Leave sid) (Done None) t = t ≡ record (with_seat s sid.number None) { locks = left s.locks sid.number }
 StepSeat s (Ask.Attached sid) (Done None) t = ((seat_of s sid.number).attached ≡ true) × (t ≡ s)
 StepSeat s (Ask.Attached sid) Missed t = ((seat_of s sid.number).attached ≡ false) × (t ≡ s)
-StepSeat s (Ask.Size sid n) (Done None) t = t ≡ with_seat s sid.number (Some (record (seat_of s sid.number) { size = n }))
+StepSeat s (Ask.Size sid n) (Done None) t =
+    t ≡ with_seat s sid.number (Some (record (seat_of s sid.number) { size = n }))
 StepSeat s (Ask.MaxSize sid) (Max n) t = (n ≡ (seat_of s sid.number).size) × (t ≡ s)
-StepSeat s (Ask.Clear sid) (Done None) t = t ≡ with_seat s sid.number (Some (record (seat_of s sid.number) { clearing = true }))
-StepSeat s (Ask.Cleared sid) (Done None) t = t ≡ with_seat s sid.number (Some (record (seat_of s sid.number) { clearing = false }))
+StepSeat s (Ask.Clear sid) (Done None) t =
+    t ≡ with_seat s sid.number (Some (record (seat_of s sid.number) { clearing = true }))
+StepSeat s (Ask.Cleared sid) (Done None) t =
+    t ≡ with_seat s sid.number (Some (record (seat_of s sid.number) { clearing = false }))
 StepSeat s (Ask.Lock sid key) answer t = StepLock s sid key answer t
-StepSeat s (Ask.Release sid) (Lock code) t = (code ≡ released_code (freed s.locks sid.number)) × (t ≡ record s { locks = released s.locks sid.number })
-StepSeat s (Ask.LockInfo sid) (Info exclusive n) t = (exclusive ≡ is_some s.locks.exclusive) × (n ≡ holders s.locks 16) × (t ≡ s)
+StepSeat s (Ask.Release sid) (Lock code) t =
+    (code ≡ released_code (freed s.locks sid.number)) × (t ≡ record s { locks = released s.locks sid.number })
+StepSeat s (Ask.LockInfo sid) (Info exclusive n) t =
+    (exclusive ≡ is_some s.locks.exclusive) × (n ≡ holders s.locks 16) × (t ≡ s)
 StepSeat s ask answer t = ⊥

@@ -1,11 +1,13 @@
 -- What one ask may be answered, and what state it leaves: one line for each legal pair.
-use Rattle.std.specs.Prelude.{◌≡◌, ◌≢◌, ℕ, ◌-◌, ◌≤◌, ◌<◌, ◌==◌, ◌&&◌, not, Bool, true, false, List, [], ◌∷◌, length, Option, None, Some, slice_set, map, decimal, is_some, MatchBool, ◌⊎◌, if◌then◌else◌}
+use Rattle.std.specs.Prelude.{◌≡◌, ◌≢◌, ℕ, ◌-◌, ◌≤◌, ◌<◌, ◌==◌, ◌&&◌, not, Bool, true, false, List, [], ◌∷◌, length}
+use Rattle.std.specs.Prelude.{Option, None, Some, slice_set, map, decimal, is_some, MatchBool, ◌⊎◌, if◌then◌else◌}
 use Rattle.std.specs.List.{join_with_byte}
 use Rattle.sw_base.specs.Layout.{Channel, slot_at}
 use Rattle.sw_base.specs.Reading.{reading_text}
 use Rattle.sw_base.specs.declared.reading.Reading.{Reading}
 use Rattle.sw_base.specs.declared.error.ScpiError.{ScpiError}
-use Rattle.sw_base.specs.declared.error.ScpiError.TheVariants.{UndefinedHeader, TriggerIgnored, InitIgnored, HardwareMissing}
+use Rattle.sw_base.specs.declared.error.ScpiError.TheVariants.{UndefinedHeader, TriggerIgnored, InitIgnored}
+use Rattle.sw_base.specs.declared.error.ScpiError.TheVariants.{HardwareMissing}
 use Rattle.sw_base.specs.declared.error.ScpiError.TheVariants.{SettingsConflict, DataCorruptOrStale, SystemError}
 use Rattle.sw_base.specs.declared.error.ScpiError.TheVariants.{HardwareError, OutOfMemory}
 use Rattle.sw_lex.specs.declared.command.Command.{Command}
@@ -23,34 +25,41 @@ use Rattle.sw_cage.specs.Cage.{CageSeen, cage_layout, safe_state}
 use Rattle.sw_cage.specs.Takes.{Takes, TakesReturn}
 use Rattle.sw_cage.specs.Outcome.{Advances, AdvancesPast, Counts, begun, with_back}
 use Rattle.sw_cage.specs.Work.{FinishedSeen}
-use Rattle.sw_cage.specs.TakenSeen.{TakenSeen, SaysIgnored, SaysPause, SaysJob, SaysFault}
+use Rattle.sw_cage.specs.TakenSeen.{TakenSeen, SaysIgnored, SaysPause, SaysJob, SaysFault, tells_fault}
 use Rattle.sw_cage.specs.declared.taken.Happening.{Happening}
 use Rattle.sw_cage.specs.declared.taken.Happening.TheVariants.{Bus, External, Elapsed}
 use Rattle.sw_core.specs.declared.ask.SessionAsk.{SessionAsk}
 use Rattle.sw_core.specs.declared.ask.SessionAsk.TheVariants as Ask
 use Rattle.sw_core.specs.declared.ask.SessionAnswer.{SessionAnswer}
 use Rattle.sw_core.specs.declared.ask.SessionAnswer.TheVariants as Answer
-use Rattle.sw_core.specs.declared.ask.SessionAnswer.TheVariants.{Joined, Full, Stranger, Broken, Done, Refused, Hold, Worn}
-use Rattle.sw_core.specs.Action.{Effect, TellsNumber, TellsText, TellsReadings, ReadsOut, SetsStatus, SetsUp, Closes, Opens, TellsRelays, Leaves}
-use Rattle.sw_core.specs.Action.{Resets, Offers, Refuses, IsOfMacros, Initiates, Action, AtOnce, BetweenScans, AfterScan, action_of, reset}
+use Rattle.sw_core.specs.declared.ask.SessionAnswer.TheVariants.{Joined, Full, Stranger, Broken, Done, Refused, Hold}
+use Rattle.sw_core.specs.declared.ask.SessionAnswer.TheVariants.{Worn}
+use Rattle.sw_core.specs.Action.{Effect, TellsNumber, TellsText, TellsReadings, ReadsOut, SetsStatus, SetsUp, Closes}
+use Rattle.sw_core.specs.Action.{Opens, TellsRelays, Leaves}
+use Rattle.sw_core.specs.Action.{Resets, Offers, Refuses, IsOfMacros, Initiates, Action, AtOnce, BetweenScans}
+use Rattle.sw_core.specs.Action.{AfterScan, action_of, reset}
 use Rattle.sw_core.specs.Answers.{flag_of, as_asked}
 use Rattle.sw_core.specs.declared.ask.Sid.{Sid}
 use Rattle.sw_hislip.specs.LockTable.{admits}
 use Rattle.sw_core.specs.Sessions.{SessionsSeen, IsJoined, IsLeastFree, is_clearing, fresh, with_seat}
 use Rattle.sw_core.specs.Seats.{asker_of, is_dropped, is_shut_out, StepSeat, LacksSecond, Attaches}
-use Rattle.sw_core.specs.Panel.{Panel, with_rack, is_running}
-use Rattle.sw_core.specs.Registers.{alarmed, calmed}
+use Rattle.sw_core.specs.Panel.{Panel, with_cards, is_running}
+use Rattle.sw_core.specs.Registers.{card_fault_reported, card_fault_cleared}
 use Rattle.sw_core.specs.Event.{concluded, last_number, next_number}
-use Rattle.sw_core.specs.View.{WorkView, Measures, Pauses, AskView, AskSession, AskInstall, AskEject, AskExternal, AskElapsed, AskFinished, AnswerView, SaysSession, SaysInstalled, SaysNotInstalled, SaysEjected, SaysNotEjected, SaysTaken, SaysMissed, SaysFailed, SaysBack, SaysWorn}
+use Rattle.sw_core.specs.View.{WorkView, Measures, Pauses, AskView, AskSession, AskInstall, AskEject, AskExternal}
+use Rattle.sw_core.specs.View.{AskElapsed, AskFinished, AnswerView, SaysSession, SaysInstalled, SaysNotInstalled}
+use Rattle.sw_core.specs.View.{SaysEjected, SaysNotEjected, SaysTaken, SaysMissed, SaysFailed, SaysBack, SaysWorn}
 
 -- the same cards but for their counts of failures, and every relay open
-pub record IsFallen (old new : Accounts) : Type 0 where
+pub record IsFailSafe (old new : Accounts) : Type 0 where
   pub cards : map identity new ≡ map identity old
   pub none : (c : Channel) → is_closed new c ≡ false
 
 -- A card failed: every relay is open, and QUEStionable tells of it (own).
-abbrev pub Falls : Panel → Panel → Type 0
-Falls p q = IsFallen p.cage.cards q.cage.cards × (q ≡ record (with_rack p q.cage.cards) { status = alarmed p.status })
+abbrev pub FailsSafe : Panel → Panel → Type 0
+FailsSafe p q =
+    IsFailSafe p.cage.cards q.cage.cards
+    × (q ≡ record (with_cards p q.cage.cards) { status = card_fault_reported p.status })
 
 -- the listed channels may be closed: the cage has them, and at the end no two closed ones clash
 abbrev pub MayClose : Panel → List Channel → Type 0
@@ -62,22 +71,29 @@ has_all p chans = all_present (layout_of p.cage.cards) chans
 
 -- ROUTe:CLOSe of these channels (SCPI-1999, 18.1)
 abbrev pub StepClose : Panel → List Channel → Bool → SessionAnswer → Panel → Type 0
-StepClose p chans f (Done None) q = (f ≡ false) × MayClose p chans × Sets p.cage.cards chans true q.cage.cards × (q ≡ with_rack p q.cage.cards)
-StepClose p chans f (Refused HardwareMissing) q = (f ≡ false) × RefusesClose (layout_of p.cage.cards) (is_closed p.cage.cards) chans Absent × (q ≡ p)
-StepClose p chans f (Refused SettingsConflict) q = (f ≡ false) × RefusesClose (layout_of p.cage.cards) (is_closed p.cage.cards) chans Clash × (q ≡ p)
-StepClose p chans f (Refused HardwareError) q = (f ≡ true) × MayClose p chans × Falls p q
+StepClose p chans f (Done None) q =
+    (f ≡ false) × MayClose p chans × Sets p.cage.cards chans true q.cage.cards × (q ≡ with_cards p q.cage.cards)
+StepClose p chans f (Refused HardwareMissing) q =
+    (f ≡ false) × RefusesClose (layout_of p.cage.cards) (is_closed p.cage.cards) chans Absent × (q ≡ p)
+StepClose p chans f (Refused SettingsConflict) q =
+    (f ≡ false) × RefusesClose (layout_of p.cage.cards) (is_closed p.cage.cards) chans Clash × (q ≡ p)
+StepClose p chans f (Refused HardwareError) q = (f ≡ true) × MayClose p chans × FailsSafe p q
 StepClose p chans f answer q = ⊥
 
 -- ROUTe:OPEN of these channels (SCPI-1999, 18.3)
 abbrev pub StepOpen : Panel → List Channel → Bool → SessionAnswer → Panel → Type 0
-StepOpen p chans f (Done None) q = (f ≡ false) × (has_all p chans ≡ true) × Sets p.cage.cards chans false q.cage.cards × (q ≡ with_rack p q.cage.cards)
+StepOpen p chans f (Done None) q =
+    (f ≡ false) × (has_all p chans ≡ true) × Sets p.cage.cards chans false q.cage.cards
+    × (q ≡ with_cards p q.cage.cards)
 StepOpen p chans f (Refused HardwareMissing) q = (f ≡ false) × (has_all p chans ≡ false) × (q ≡ p)
-StepOpen p chans f (Refused HardwareError) q = (f ≡ true) × (has_all p chans ≡ true) × Falls p q
+StepOpen p chans f (Refused HardwareError) q = (f ≡ true) × (has_all p chans ≡ true) × FailsSafe p q
 StepOpen p chans f answer q = ⊥
 
 -- ROUTe:CLOSe? of these channels, for each whether it is closed, or ROUTe:OPEN?, whether it is open, joined by commas
 abbrev pub StepFlags : Panel → Bool → List Channel → Bool → SessionAnswer → Panel → Type 0
-StepFlags p closed chans f (Done (Some text)) q = (f ≡ false) × (has_all p chans ≡ true) × (text ≡ join_with_byte 44 (map (λ c. flag_of (as_asked closed (is_closed p.cage.cards c))) chans)) × (q ≡ p)
+StepFlags p closed chans f (Done (Some text)) q =
+    (f ≡ false) × (has_all p chans ≡ true)
+    × (text ≡ join_with_byte 44 (map (λ c. flag_of (as_asked closed (is_closed p.cage.cards c))) chans)) × (q ≡ p)
 StepFlags p closed chans f (Refused HardwareMissing) q = (f ≡ false) × (has_all p chans ≡ false) × (q ≡ p)
 StepFlags p closed chans f (Refused OutOfMemory) q = (f ≡ false) × (has_all p chans ≡ true) × (q ≡ p)
 StepFlags p closed chans f answer q = ⊥
@@ -117,19 +133,17 @@ work_of (SaysPause ticket micros) = Some (Pauses ticket micros)
 work_of (SaysJob job) = Some (Measures job)
 work_of told = None
 
--- a card failed on the way
-abbrev pub is_fault : TakenSeen → Bool
-is_fault SaysFault = true
-is_fault told = false
-
 -- the cage went on, and QUEStionable tells of a card that failed on the way
-abbrev pub Tolls : Panel → CageSeen → TakenSeen → Bool → Panel → Type 0
-Tolls p cage told f q = (f ≡ is_fault told) × (q ≡ record p { cage = cage; status = if is_fault told then alarmed p.status else p.status })
+abbrev pub ReportsCardFault : Panel → CageSeen → TakenSeen → Bool → Panel → Type 0
+ReportsCardFault p cage told f q =
+    (f ≡ tells_fault told)
+    × (q ≡ record p { cage = cage; status = if tells_fault told then card_fault_reported p.status else p.status })
 
 -- a happening is offered to the scan (SCPI-1999, 24)
 abbrev pub Happens : Panel → Happening → Bool → TakenSeen → Panel → Type 0
 Happens p happening f SaysIgnored q = (f ≡ false) × (Takes p.cage happening → ⊥) × (q ≡ p)
-Happens p happening f told q = Takes p.cage happening × AdvancesPast p.cage told q.cage × Tolls p q.cage told f q
+Happens p happening f told q =
+    Takes p.cage happening × AdvancesPast p.cage told q.cage × ReportsCardFault p q.cage told f q
 
 -- what a session is answered by what the cage told; what no scan takes is refused by this error
 abbrev pub session_told : ScpiError → TakenSeen → SessionAnswer
@@ -138,7 +152,8 @@ session_told error SaysFault = Refused HardwareError
 session_told error told = Done None
 
 -- a session's happening
-pub record StepHappens (p : Panel) (happening : Happening) (error : ScpiError) (f : Bool) (answer : SessionAnswer) (work : Option WorkView) (q : Panel) : Type 0 where
+pub record StepHappens (p : Panel) (happening : Happening) (error : ScpiError) (f : Bool) (answer : SessionAnswer)
+    (work : Option WorkView) (q : Panel) : Type 0 where
   pub told : TakenSeen
   pub happens : Happens p happening f told q
   pub answer_is : answer ≡ session_told error told
@@ -178,7 +193,8 @@ StepHeld p ask f answer work q = ⊥
 abbrev pub StepAction : Action → Panel → SessionAsk → Bool → SessionAnswer → Option WorkView → Panel → Type 0
 StepAction (AtOnce effect) p ask f answer work q = StepEffect effect p f answer work q
 StepAction (BetweenScans effect) p ask f answer work q =
-    MatchBool (is_running p) (StepRefused p SettingsConflict f answer q × (work ≡ None)) (StepEffect effect p f answer work q)
+    MatchBool (is_running p) (StepRefused p SettingsConflict f answer q × (work ≡ None))
+    (StepEffect effect p f answer work q)
 StepAction (AfterScan effect) p ask f answer work q =
     MatchBool (is_running p) (StepHeld p ask f answer work q) (StepEffect effect p f answer work q)
 
@@ -186,7 +202,8 @@ StepAction (AfterScan effect) p ask f answer work q =
 abbrev pub RefusesScan : Panel → ScpiError → Type 0
 RefusesScan p InitIgnored = is_running p ≡ true
 RefusesScan p SettingsConflict = (is_running p ≡ false) × (is_some (slot_at p.cage.out p.settings.meter) ≡ true)
-RefusesScan p SystemError = (is_running p ≡ false) × (is_some (slot_at p.cage.out p.settings.meter) ≡ false) × (p.cage.number ≡ last_number)
+RefusesScan p SystemError =
+    (is_running p ≡ false) × (is_some (slot_at p.cage.out p.settings.meter) ≡ false) × (p.cage.number ≡ last_number)
 RefusesScan p error = ⊥
 
 -- a scan may begin: none runs, its meter is in, and it can be numbered
@@ -206,17 +223,22 @@ StepSnapshot p f (Refused OutOfMemory) q = (f ≡ false) × MayScan p × (q ≡ 
 StepSnapshot p f (Refused e) q = (f ≡ false) × RefusesScan p e × (q ≡ p)
 StepSnapshot p f answer q = ⊥
 
--- The scan of a plan, which passed the check, began: the cage went from before the first item of its agenda. No card's failure is told of any more,
--- unless one came on the way.
+-- The scan of a plan, which passed the check, began: the cage went from before the first item of its agenda. No card's
+-- failure is told of any more, unless one came on the way.
 abbrev pub Starts : Panel → Snapshot → Bool → TakenSeen → Panel → Type 0
-Starts p plan f told q = (f ≡ is_fault told) × (plan ≡ snapshot_of p) × IsReady plan × Advances (begun p.cage) p.settings 0 told q.cage
-    × (q ≡ record p { cage = q.cage; status = if is_fault told then alarmed p.status else calmed p.status })
+Starts p plan f told q =
+    (f ≡ tells_fault told) × (plan ≡ snapshot_of p) × IsReady plan × Advances (begun p.cage) p.settings 0 told q.cage
+    × (q ≡ record p {
+      cage = q.cage;
+      status = if tells_fault told then card_fault_reported p.status else card_fault_cleared p.status;
+    })
 
 abbrev pub started_answer : TakenSeen → SessionAnswer
 started_answer SaysFault = Refused HardwareError
 started_answer told = Done None
 
-pub record IsStarted (p : Panel) (plan : Snapshot) (f : Bool) (answer : SessionAnswer) (work : Option WorkView) (q : Panel) : Type 0 where
+pub record IsStarted (p : Panel) (plan : Snapshot) (f : Bool) (answer : SessionAnswer) (work : Option WorkView)
+    (q : Panel) : Type 0 where
   pub may : MayScan p
   pub told : TakenSeen
   pub starts : Starts p plan f told q
@@ -228,7 +250,8 @@ abbrev pub StepStart : Panel → Snapshot → Bool → SessionAnswer → Option 
 StepStart p plan f (Done None) work q = IsStarted p plan f (Done None) work q
 StepStart p plan f (Refused HardwareError) work q = IsStarted p plan f (Refused HardwareError) work q
 StepStart p plan f (Refused OutOfMemory) None q = (f ≡ false) × MayScan p × (plan ≡ snapshot_of p) × (q ≡ p)
-StepStart p plan f (Refused SettingsConflict) None q = (f ≡ false) × (RefusesScan p SettingsConflict ⊎ (MayScan p × (plan ≢ snapshot_of p))) × (q ≡ p)
+StepStart p plan f (Refused SettingsConflict) None q =
+    (f ≡ false) × (RefusesScan p SettingsConflict ⊎ (MayScan p × (plan ≢ snapshot_of p))) × (q ≡ p)
 StepStart p plan f (Refused e) None q = (f ≡ false) × RefusesScan p e × (q ≡ p)
 StepStart p plan f answer work q = ⊥
 
@@ -244,8 +267,8 @@ pub record IsServed (p : Panel) (ask : SessionAsk) (f : Bool) (answer : SessionA
 -- what a joined session asks that may be done now
 abbrev pub StepJoined : Panel → SessionAsk → Bool → SessionAnswer → Option WorkView → Panel → Type 0
 StepJoined p (Ask.Fault sid e) f (Done None) None q = (f ≡ false) × (q ≡ record p { status = pushed p.status e })
-StepJoined p (Ask.Unit sid command answered) f answer work q =
-    StepAction (action_of answered command) p (Ask.Unit sid command answered) f answer work q
+StepJoined p (Ask.Unit sid command available) f answer work q =
+    StepAction (action_of available command) p (Ask.Unit sid command available) f answer work q
 StepJoined p (Ask.Bus sid) f answer work q = StepHappens p Bus TriggerIgnored f answer work q
 StepJoined p (Ask.Snapshot sid) f answer None q = StepSnapshot p f answer q
 StepJoined p (Ask.Start sid plan) f answer work q = StepStart p plan f answer work q
@@ -269,13 +292,16 @@ shuts_out p sid ask = not (admits p.sessions.locks sid.number) && is_shut_out as
 
 -- a new session gets the least free number, and the number of events that there are once it has joined
 abbrev pub StepJoin : Panel → Bool → SessionAnswer → Option WorkView → Panel → Type 0
-StepJoin p f (Joined sid) None q = (f ≡ false) × IsLeastFree p.sessions sid.number × (sid.joined ≡ next_number p.events) × (q ≡ record p { sessions = with_seat p.sessions sid.number (Some (fresh (next_number p.events))) })
+StepJoin p f (Joined sid) None q =
+    (f ≡ false) × IsLeastFree p.sessions sid.number × (sid.joined ≡ next_number p.events)
+    × (q ≡ record p { sessions = with_seat p.sessions sid.number (Some (fresh (next_number p.events))) })
 StepJoin p f Full None q = (f ≡ false) × ((k : ℕ) → 1 ≤ k → k ≤ 16 → slot_at p.sessions.seats k ≢ None) × (q ≡ p)
 StepJoin p f answer work q = ⊥
 
 -- a second channel for the session with this number
 abbrev pub StepAttach : Panel → ℕ → Bool → SessionAnswer → Option WorkView → Panel → Type 0
-StepAttach p number f (Joined sid) None q = (f ≡ false) × Attaches p.sessions number sid q.sessions × (q ≡ record p { sessions = q.sessions })
+StepAttach p number f (Joined sid) None q =
+    (f ≡ false) × Attaches p.sessions number sid q.sessions × (q ≡ record p { sessions = q.sessions })
 StepAttach p number f Stranger None q = (f ≡ false) × (LacksSecond p.sessions number → ⊥) × (q ≡ p)
 StepAttach p number f answer work q = ⊥
 
@@ -289,7 +315,8 @@ StepNew p ask f answer work q = ⊥
 abbrev pub StepSession : Option Sid → Panel → SessionAsk → Bool → SessionAnswer → Option WorkView → Panel → Type 0
 StepSession None p ask f answer work q = StepNew p ask f answer work q
 StepSession (Some sid) p ask f Stranger None q = (f ≡ false) × (IsJoined p.sessions sid → ⊥) × (q ≡ p)
-StepSession (Some sid) p ask f answer work q = IsJoined p.sessions sid × StepAdmitted (drops p sid ask) (shuts_out p sid ask) p ask f answer work q
+StepSession (Some sid) p ask f answer work q =
+    IsJoined p.sessions sid × StepAdmitted (drops p sid ask) (shuts_out p sid ask) p ask f answer work q
 
 -- what is answered to no session by what the cage told
 abbrev pub outside_told : TakenSeen → AnswerView
@@ -307,11 +334,14 @@ pub record StepOutside (p : Panel) (happening : Happening) (f : Bool) (answer : 
 abbrev pub IsOut : Panel → FinishedSeen → Type 0
 IsOut p done = slot_at p.cage.out done.slot ≡ Some done.ticket
 
--- The scan takes a meter's return: its reading is added and the scan goes on. A failure, of the meter or of a card on the
--- way, ends the scan. The late return of a scan that ended puts its meter back, whatever came of it.
+-- The scan takes a meter's return: its reading is added and the scan goes on. A failure, of the meter or of a card on
+-- the way, ends the scan. The late return of a scan that ended puts its meter back, whatever came of it.
 abbrev pub Returns : Panel → FinishedSeen → Bool → TakenSeen → Panel → Type 0
-Returns p done f SaysIgnored q = (f ≡ false) × (TakesReturn p.cage done.slot done.ticket → ⊥) × (q ≡ record p { cage = with_back p.cage done })
-Returns p done f told q = TakesReturn p.cage done.slot done.ticket × Counts (with_back p.cage done) done.outcome told q.cage × Tolls p q.cage told f q
+Returns p done f SaysIgnored q =
+    (f ≡ false) × (TakesReturn p.cage done.slot done.ticket → ⊥) × (q ≡ record p { cage = with_back p.cage done })
+Returns p done f told q =
+    TakesReturn p.cage done.slot done.ticket × Counts (with_back p.cage done) done.outcome told q.cage
+    × ReportsCardFault p q.cage told f q
 
 -- a meter returns that was out under its ticket
 pub record IsReturned (p : Panel) (done : FinishedSeen) (f : Bool) (answer : AnswerView) (q : Panel) : Type 0 where
@@ -327,9 +357,14 @@ StepFinished p done f answer q = IsReturned p done f answer q
 -- What an ask does and is answered, before its event ends.
 abbrev pub Acts : Panel → AskView → Bool → AnswerView → Panel → Type 0
 Acts p (AskSession ask) f (SaysSession answer work) q = StepSession (asker_of ask) p ask f answer work q
-Acts p (AskInstall slot card) f SaysInstalled q = (f ≡ false) × (is_running p ≡ false) × (slot_at p.cage.out slot ≡ None) × CanInstall p.cage.cards slot card × (q ≡ with_rack p (slice_set p.cage.cards (slot - 1) (Some card)))
-Acts p (AskInstall slot card) f (SaysNotInstalled refusal) q = (f ≡ false) × RefusesInstall p.cage slot card refusal × (q ≡ p)
-Acts p (AskEject slot) f (SaysEjected card) q = (f ≡ false) × (slot_at p.cage.out slot ≡ None) × (slot_at (all_open p.cage.cards) slot ≡ Some card) × (q ≡ record p { cage = without_card (stopped p.cage) slot; status = calmed p.status })
+Acts p (AskInstall slot card) f SaysInstalled q =
+    (f ≡ false) × (is_running p ≡ false) × (slot_at p.cage.out slot ≡ None) × CanInstall p.cage.cards slot card
+    × (q ≡ with_cards p (slice_set p.cage.cards (slot - 1) (Some card)))
+Acts p (AskInstall slot card) f (SaysNotInstalled refusal) q =
+    (f ≡ false) × RefusesInstall p.cage slot card refusal × (q ≡ p)
+Acts p (AskEject slot) f (SaysEjected card) q =
+    (f ≡ false) × (slot_at p.cage.out slot ≡ None) × (slot_at (all_open p.cage.cards) slot ≡ Some card)
+    × (q ≡ record p { cage = without_card (stopped p.cage) slot; status = card_fault_cleared p.status })
 Acts p (AskEject slot) f (SaysNotEjected refusal) q = (f ≡ false) × RefusesEject p.cage slot refusal × (q ≡ p)
 Acts p AskExternal f answer q = StepOutside p External f answer q
 Acts p (AskElapsed ticket) f answer q = StepOutside p (Elapsed ticket) f answer q
@@ -338,7 +373,7 @@ Acts p ask f answer q = ⊥
 
 -- what still acts when no more events can be numbered: what makes a scan idle, or brings a meter back
 abbrev pub acts_unnumbered : AskView → Bool
-acts_unnumbered (AskSession (Ask.Unit sid Command.Abort answered)) = true
+acts_unnumbered (AskSession (Ask.Unit sid Command.Abort available)) = true
 acts_unnumbered (AskEject slot) = true
 acts_unnumbered (AskFinished done) = true
 acts_unnumbered ask = false
@@ -364,4 +399,6 @@ pub record IsUnnumbered (p : Panel) (ask : AskView) (f : Bool) (answer : AnswerV
 
 -- From p, in a call in which a card failed or none did, the mainframe may give this answer and go on to q.
 abbrev pub Step : Panel → AskView → Bool → AnswerView → Panel → Type 0
-Step p ask f answer q = MatchBool ((p.events == last_number) && not (acts_unnumbered ask)) (IsUnnumbered p ask f answer q) (IsEvent p ask f answer q)
+Step p ask f answer q =
+    MatchBool ((p.events == last_number) && not (acts_unnumbered ask)) (IsUnnumbered p ask f answer q)
+    (IsEvent p ask f answer q)

@@ -1,9 +1,9 @@
 -- What is asked and answered as plain data: a card stands in it by its account.
-use Rattle.std.specs.Prelude.{◌≡◌, ℕ, Bool, true, false, Option, None, Some}
-use Rattle.sw_card.specs.Account.{Account}
+use Rattle.std.specs.Prelude.{◌≡◌, ℕ, ◌-◌, Bool, true, false, ◌||◌, is_err, Option, None, Some, slice_set}
+use Rattle.sw_card.specs.Account.{Account, of_meter}
 use Rattle.sw_cage.specs.Accounts.{Accounts}
 use Rattle.sw_cage.specs.Change.{any_failed}
-use Rattle.sw_cage.specs.Work.{JobSeen, FinishedSeen}
+use Rattle.sw_cage.specs.Work.{JobSeen, FinishedSeen, IsTold}
 use Rattle.sw_cage.specs.declared.job.Ticket.{Ticket}
 use Rattle.sw_cage.specs.declared.refusal.InstallRefusal.{InstallRefusal}
 use Rattle.sw_cage.specs.declared.refusal.EjectRefusal.{EjectRefusal}
@@ -70,8 +70,19 @@ HandsBack (Ask.Finished done) (Answer.Back back) = back ≡ done
 HandsBack ask (Answer.Worn back) = back ≡ ask
 HandsBack ask answer = Unit {0}
 
--- A card failed in the call: its count of failures changed, or a meter came back with a failure that its scan took.
+-- the cards with the meter back in its slot
+abbrev pub with_meter : Accounts → FinishedSeen → Accounts
+with_meter cards done = slice_set cards (done.slot - 1) (Some (of_meter done.meter))
+
+-- A card failed in the call: a card that stayed in its slot counts other failures than before; or the scan took the
+-- return of a meter that had measured in vain.
 abbrev pub failed_in : AskView → AnswerView → Accounts → Accounts → Bool
-failed_in (AskFinished done) SaysFailed old new = true
-failed_in (AskFinished done) answer old new = false
+failed_in (AskFinished done) SaysBack old new = false
+failed_in (AskFinished done) SaysMissed old new = false
+failed_in (AskFinished done) answer old new = is_err done.outcome || any_failed (with_meter old done) new
 failed_in ask answer old new = any_failed old new
+
+-- a meter that comes back tells what stands in its own account; nothing else that is asked tells of one
+abbrev pub IsOwnAccount : AskView → Type 0
+IsOwnAccount (AskFinished done) = IsTold done
+IsOwnAccount ask = Unit {0}

@@ -70,8 +70,8 @@ pub enum SessionAnswer {
     Missed,
     /// The size that was noted last, in bytes.
     Max(u64),
-    /// What became of a lock, by the code of HiSLIP's response (IVI-6.1 HiSLIP, lock transaction): 1 where it was granted
-    /// or the exclusive one freed, 2 where the shared one was freed, 3 for an error or where none was held.
+    /// What became of a lock, by the code of HiSLIP's response (IVI-6.1 HiSLIP, lock transaction): 1 where it was
+    /// granted or the exclusive one freed, 2 where the shared one was freed, 3 for an error or where none was held.
     Lock(u8),
     /// Whether the exclusive lock is held, and how many sessions hold a lock.
     Info(bool, u8),

@@ -17,24 +17,25 @@ use sw_card::{Meter, Relay};
 use sw_lex::Command;
 
 impl<R: Relay, M: Meter> Core<R, M> {
-    /// Carries a command out, or refuses or holds it while a scan runs; `answered` says whether its message has answered
-    /// before. A command that has no row here doesn't compile.
+    /// Carries a command out, or refuses or holds it while a scan runs; `available` says whether its message has
+    /// answered before, so that a message is available. A command that has no row here doesn't compile.
     #[tactic(auto, using(crate::proofs::Calls::failed_same))]
     pub(crate) fn command(
         &mut self,
         alloc: Global,
         sid: Sid,
         command: Command,
-        answered: bool,
+        available: bool,
     ) -> (SessionAnswer, Option<Work<M>>)
-        ensures { StepAction (action_of answered command) self.old (SessionAsk.Unit sid command answered) (any_failed self.old.cage.cards self.new.cage.cards) result.0 (work_view result.1) self.new }
+        ensures { StepAction (action_of available command) self.old (SessionAsk.Unit sid command available)
+            (any_failed self.old.cage.cards self.new.cage.cards) result.0 (work_view result.1) self.new }
     {
         let running = self.cage.is_running();
         match command {
             Command::OperationCompleteQuery if running => {
-                (held(sid, Command::OperationCompleteQuery, answered), None)
+                (held(sid, Command::OperationCompleteQuery, available), None)
             }
-            Command::Wait if running => (held(sid, Command::Wait, answered), None),
+            Command::Wait if running => (held(sid, Command::Wait, available), None),
             Command::Close(_)
             | Command::Open(_)
             | Command::OpenAll
@@ -61,7 +62,7 @@ impl<R: Relay, M: Meter> Core<R, M> {
             Command::ServiceEnableQuery => (self.number(alloc, u64::from(self.status.sre())), None),
             Command::StatusByteQuery => {
                 (
-                    self.number(alloc, u64::from(self.status.byte(answered))),
+                    self.number(alloc, u64::from(self.status.byte(available))),
                     None,
                 )
             }
@@ -180,10 +181,10 @@ fn undefined() -> SessionAnswer
 }
 
 /// What a command is answered that is to be asked again.
-fn held(sid: Sid, command: Command, answered: bool) -> SessionAnswer
-    ensures { result ≡ SessionAnswer.Hold (SessionAsk.Unit sid command answered) }
+fn held(sid: Sid, command: Command, available: bool) -> SessionAnswer
+    ensures { result ≡ SessionAnswer.Hold (SessionAsk.Unit sid command available) }
 {
-    SessionAnswer::Hold(SessionAsk::Unit(sid, command, answered))
+    SessionAnswer::Hold(SessionAsk::Unit(sid, command, available))
 }
 
 /// What a setting's command is answered.

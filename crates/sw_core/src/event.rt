@@ -60,16 +60,16 @@ impl<R: Relay, M: Meter> Core<R, M> {
         self.count_event();
     }
 
-    /// `*OPC` is done where no scan runs, OPERation tells what the scan awaits, a service request arises or not, and the
-    /// event is counted.
+    /// `*OPC` is done where no scan runs, OPERation tells what the scan awaits, a service request arises or not, and
+    /// the event is counted.
     fn count_event(&mut self)
         ensures { self.new ≡ ended self.old }
     {
         let running = self.cage.is_running();
-        if self.pending && !running {
+        if self.opc_waits && !running {
             self.status.operation_complete();
         }
-        self.pending = self.pending && running;
+        self.opc_waits = self.opc_waits && running;
         let bits = awaited_bits(self.cage.awaited());
         self.status.set_condition(StatusGroup::Operation, bits);
         self.status.end_event();

@@ -2,8 +2,8 @@
 //!
 //! The crate's contract to the layers above: `Core::apply` answers and goes on as the relation `Step` of
 //! `specs/Step.antt` says, with one line for each legal pair of ask and answer. Over every run of such steps no absent
-//! channel is closed and no two closed channels clash, and a scan does a prefix of its plan's agenda and ends; the laws in
-//! `laws.rt` say so, and what closing, opening, refusing, failing and ejecting come to.
+//! channel is closed and no two closed channels clash, and a scan does a prefix of its plan's agenda and ends; the laws
+//! in `laws.rt` say so, and what closing, opening, refusing, failing and ejecting come to.
 //!
 //! Not promised: that memory is there, and what a relay really does, which is its card's own word.
 #![tactic(auto)]
@@ -21,5 +21,7 @@ mod sessions;
 mod text;
 
 pub use ask::{Answer, Ask, SessionAnswer, SessionAsk, Sid, Work};
-pub use laws::{every_run_is_good, every_scan_ends, relays_obey, step_is_determined};
+pub use laws::{
+    every_run_is_good, every_scan_ends, mainframe_stays_good, relays_obey, step_is_determined,
+};
 pub use machine::Core;

@@ -4,14 +4,15 @@ ghost use Rattle.std.specs.Prelude.{◌≡◌, Bool, IfOk, None, Some};
 ghost use Rattle.sw_cage.specs.Change.{any_failed};
 ghost use Rattle.sw_status.specs.StatusModel.{summary_of};
 ghost use Rattle.sw_core.specs.Sessions.{IsJoined};
-ghost use Rattle.sw_core.specs.View.{ask_view, answer_view, work_view, failed_in, HandsBack, AskInstall, AskEject};
+ghost use Rattle.sw_core.specs.View.{ask_view, answer_view, work_view, failed_in, HandsBack, IsOwnAccount};
+ghost use Rattle.sw_core.specs.View.{AskInstall, AskEject};
 ghost use Rattle.sw_core.specs.Panel.{Panel, opening, opening_at};
 ghost use Rattle.sw_core.specs.Seats.{asker_of};
 ghost use Rattle.sw_core.specs.Step.{Step, Acts, StepSession, StepNew, StepJoin, StepAttach, StepJoined};
 
 use crate::ask::{Answer, Ask, SessionAnswer, SessionAsk, Sid, Work};
 use crate::asks::{acts_unnumbered, asker, unnumbered};
-use crate::registers::calm;
+use crate::registers::clear_card_fault;
 use crate::sessions::Sessions;
 use std::alloc::{AllocError, Global};
 use std::marker::Model;
@@ -30,7 +31,7 @@ pub struct Core<R: Relay, M: Meter> {
     pub(crate) status: Status,
     pub(crate) settings: Settings,
     /// Whether `*OPC` waits for the end of the scan.
-    pub(crate) pending: bool,
+    pub(crate) opc_waits: bool,
     /// How many events there were.
     pub(crate) events: u64,
 }
@@ -38,7 +39,14 @@ pub struct Core<R: Relay, M: Meter> {
 impl<R: Relay, M: Meter> Model for Core<R, M> {
     ghost Value = { Panel };
 
-    ghost view = { λ c. record { cage = c.cage; sessions = c.sessions; status = c.status; settings = c.settings; pending = c.pending; events = c.events } };
+    ghost view = { λ c. record {
+      cage = c.cage;
+      sessions = c.sessions;
+      status = c.status;
+      settings = c.settings;
+      opc_waits = c.opc_waits;
+      events = c.events;
+    } };
 }
 
 impl<R: Relay, M: Meter> Core<R, M> {
@@ -58,7 +66,7 @@ impl<R: Relay, M: Meter> Core<R, M> {
             sessions: Sessions::new(),
             status: Status::new(alloc)?,
             settings: Settings::new(alloc),
-            pending: false,
+            opc_waits: false,
             events,
         })
     }
@@ -70,7 +78,8 @@ impl<R: Relay, M: Meter> Core<R, M> {
         self.events
     }
 
-    /// The status byte without bits 4 and 6, and the number of service requests so far: what is published of the status.
+    /// The status byte without bits 4 and 6, and the number of service requests so far: what is published of the
+    /// status.
     pub fn pair(&self) -> (u8, u64)
         ensures byte { result.0 ≡ summary_of self.now.status }
         ensures requests { result.1 ≡ self.now.status.requests }
@@ -80,12 +89,16 @@ impl<R: Relay, M: Meter> Core<R, M> {
 
     /// Does what is asked: one event.
     ///
-    /// A refusal queues its error. Only queries, snapshots and the start of a scan take memory; where there is none, they
-    /// are refused by -225 and change nothing. When 2^64 - 1 events were numbered, an ask is handed back, but for an
-    /// abort, an eject and the return of a meter, which still act.
-    #[tactic(auto, using(crate::proofs::Numbered::worn_step, crate::proofs::Numbered::numbered_step))]
+    /// A refusal queues its error. Only queries, snapshots and the start of a scan take memory; where there is none,
+    /// they are refused by -225 and change nothing. When 2^64 - 1 events were numbered, an ask is handed back, but for
+    /// an abort, an eject and the return of a meter, which still act. A meter that returns tells what its own account
+    /// does.
+    #[tactic(auto, using(crate::proofs::Numbered::worn_step, crate::proofs::Numbered::numbered_step, crate::proofs::Numbered::own_worn))]
     pub fn apply(&mut self, alloc: Global, ask: Ask<R, M>) -> Answer<R, M>
-        ensures step { Step self.old (ask_view ask) (failed_in (ask_view ask) (answer_view result) self.old.cage.cards self.new.cage.cards) (answer_view result) self.new }
+        ensures step { Step self.old (ask_view ask)
+            (failed_in (ask_view ask) (answer_view result) self.old.cage.cards self.new.cage.cards)
+            (answer_view result) self.new }
+        ensures own { IsOwnAccount (ask_view ask) }
         ensures back { HandsBack ask result }
     {
         if self.events == u64::MAX && !acts_unnumbered(&ask) {
@@ -98,7 +111,10 @@ impl<R: Relay, M: Meter> Core<R, M> {
 
     /// Does what is asked, and leaves the end of the event to the caller.
     fn act(&mut self, alloc: Global, ask: Ask<R, M>) -> Answer<R, M>
-        ensures acts { Acts self.old (ask_view ask) (failed_in (ask_view ask) (answer_view result) self.old.cage.cards self.new.cage.cards) (answer_view result) self.new }
+        ensures acts { Acts self.old (ask_view ask)
+            (failed_in (ask_view ask) (answer_view result) self.old.cage.cards self.new.cage.cards)
+            (answer_view result) self.new }
+        ensures own { IsOwnAccount (ask_view ask) }
         ensures back { HandsBack ask result }
     {
         match ask {
@@ -116,7 +132,8 @@ impl<R: Relay, M: Meter> Core<R, M> {
 
     #[tactic(auto, using(crate::proofs::Calls::failed_same))]
     fn install(&mut self, slot: u8, card: Card<R, M>) -> Answer<R, M>
-        ensures acts { Acts self.old (AskInstall slot card.1) (any_failed self.old.cage.cards self.new.cage.cards) (answer_view result) self.new }
+        ensures acts { Acts self.old (AskInstall slot card.1) (any_failed self.old.cage.cards self.new.cage.cards)
+            (answer_view result) self.new }
         ensures back { HandsBack (Ask.Install slot card) result }
     {
         match self.cage.install(slot, card) {
@@ -127,11 +144,12 @@ impl<R: Relay, M: Meter> Core<R, M> {
 
     #[tactic(auto, using(crate::proofs::Calls::failed_same))]
     fn eject(&mut self, slot: u8) -> Answer<R, M>
-        ensures { Acts self.old (AskEject slot) (any_failed self.old.cage.cards self.new.cage.cards) (answer_view result) self.new }
+        ensures { Acts self.old (AskEject slot) (any_failed self.old.cage.cards self.new.cage.cards)
+            (answer_view result) self.new }
     {
         match self.cage.eject(slot) {
             Ok(card) => {
-                calm(&mut self.status);
+                clear_card_fault(&mut self.status);
                 Answer::Ejected(card)
             }
             Err(refusal) => Answer::NotEjected(refusal),
@@ -140,7 +158,8 @@ impl<R: Relay, M: Meter> Core<R, M> {
 
     #[tactic(auto, using(crate::proofs::Calls::failed_same))]
     fn session(&mut self, alloc: Global, ask: SessionAsk) -> (SessionAnswer, Option<Work<M>>)
-        ensures { StepSession (asker_of ask) self.old ask (any_failed self.old.cage.cards self.new.cage.cards) result.0 (work_view result.1) self.new }
+        ensures { StepSession (asker_of ask) self.old ask (any_failed self.old.cage.cards self.new.cage.cards) result.0
+            (work_view result.1) self.new }
     {
         let Some(sid) = asker(&ask) else {
             return (self.newcomer(ask), None);
@@ -200,14 +219,17 @@ impl<R: Relay, M: Meter> Core<R, M> {
     ) -> (SessionAnswer, Option<Work<M>>)
         requires asker { asker_of ask ≡ Some sid }
         requires joined { IsJoined self.old.sessions sid }
-        ensures { StepJoined self.old ask (any_failed self.old.cage.cards self.new.cage.cards) result.0 (work_view result.1) self.new }
+        ensures { StepJoined self.old ask (any_failed self.old.cage.cards self.new.cage.cards) result.0
+            (work_view result.1) self.new }
     {
         match ask {
             SessionAsk::Fault(_, error) => {
                 self.status.push_error(error);
                 (SessionAnswer::Done(None), None)
             }
-            SessionAsk::Unit(sid, command, answered) => self.command(alloc, sid, command, answered),
+            SessionAsk::Unit(sid, command, available) => self.command(
+                alloc, sid, command, available,
+            ),
             SessionAsk::Bus(_) => self.offer(Happening::Bus, ScpiError::TriggerIgnored),
             SessionAsk::Snapshot(_) => (self.snapshot(alloc), None),
             SessionAsk::Start(_, plan) => self.start(alloc, plan),

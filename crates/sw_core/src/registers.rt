@@ -8,7 +8,7 @@ ghost use Rattle.sw_core.specs.Action.{with_source};
 ghost use Rattle.sw_base.specs.Reading.{fixed};
 ghost use Rattle.sw_trigger.specs.Settings.{layer_of};
 ghost use Rattle.sw_core.specs.Answers.{oldest_entry, all_entries, source_word};
-ghost use Rattle.sw_core.specs.Registers.{alarmed, calmed};
+ghost use Rattle.sw_core.specs.Registers.{card_fault_reported, card_fault_cleared};
 ghost use Rattle.sw_core.specs.Step.{StepText, StepReadings, StepDone};
 
 use crate::ask::SessionAnswer;
@@ -24,27 +24,27 @@ use sw_status::Status;
 const CARD_FAILED: u16 = 1 << 9;
 
 /// Tells QUEStionable that a card failed.
-pub fn alarm(status: &mut Status)
-    ensures { status.new ≡ alarmed status.old }
+pub fn report_card_fault(status: &mut Status)
+    ensures { status.new ≡ card_fault_reported status.old }
 {
     status.set_condition(StatusGroup::Questionable, CARD_FAILED);
 }
 
 /// Tells QUEStionable that no failure stands any more.
-pub fn calm(status: &mut Status)
-    ensures { status.new ≡ calmed status.old }
+pub fn clear_card_fault(status: &mut Status)
+    ensures { status.new ≡ card_fault_cleared status.old }
 {
     status.set_condition(StatusGroup::Questionable, 0);
 }
 
 /// Tells QUEStionable whether a card failed.
-pub fn tell_failure(status: &mut Status, failed: bool)
-    ensures { status.new ≡ (if failed then alarmed status.old else calmed status.old) }
+pub fn set_card_fault(status: &mut Status, failed: bool)
+    ensures { status.new ≡ (if failed then card_fault_reported status.old else card_fault_cleared status.old) }
 {
     if failed {
-        alarm(status);
+        report_card_fault(status);
     } else {
-        calm(status);
+        clear_card_fault(status);
     }
 }
 
@@ -68,21 +68,24 @@ impl<R: Relay, M: Meter> Core<R, M> {
 
     /// Where a layer's wait takes its trigger from.
     pub(crate) fn source_query(&self, alloc: Global, layer: LayerName) -> SessionAnswer
-        ensures { StepText self.now (source_word (layer_of self.now.settings layer).source) self.now.status Bool.false result self.now }
+        ensures { StepText self.now (source_word (layer_of self.now.settings layer).source) self.now.status Bool.false
+            result self.now }
     {
         told(source_word(alloc, self.settings.layer(layer).source))
     }
 
     /// How long a layer's wait pauses.
     pub(crate) fn delay_query(&self, alloc: Global, layer: LayerName) -> SessionAnswer
-        ensures { StepText self.now (fixed 6 (layer_of self.now.settings layer).delay_us) self.now.status Bool.false result self.now }
+        ensures { StepText self.now (fixed 6 (layer_of self.now.settings layer).delay_us) self.now.status Bool.false
+            result self.now }
     {
         told(seconds(alloc, self.settings.layer(layer).delay_us))
     }
 
     /// Reads the event status register out.
     pub(crate) fn event_query(&mut self, alloc: Global) -> SessionAnswer
-        ensures { StepText self.old (decimal self.old.status.esr) (record self.old.status { esr = 0 }) Bool.false result self.new }
+        ensures { StepText self.old (decimal self.old.status.esr) (record self.old.status { esr = 0 }) Bool.false result
+            self.new }
     {
         match whole(alloc, u64::from(self.status.esr())) {
             Ok(text) => {
@@ -95,7 +98,9 @@ impl<R: Relay, M: Meter> Core<R, M> {
 
     /// Reads a group's event register out.
     pub(crate) fn group_event_query(&mut self, alloc: Global, group: StatusGroup) -> SessionAnswer
-        ensures { StepText self.old (decimal (group_of self.old.status group).event) (with_group self.old.status group (event_taken (group_of self.old.status group))) Bool.false result self.new }
+        ensures { StepText self.old (decimal (group_of self.old.status group).event)
+            (with_group self.old.status group (event_taken (group_of self.old.status group))) Bool.false result
+            self.new }
     {
         match whole(alloc, u64::from(self.status.group(group).event())) {
             Ok(text) => {
@@ -108,7 +113,8 @@ impl<R: Relay, M: Meter> Core<R, M> {
 
     /// Takes the oldest error out of the queue.
     pub(crate) fn next_error(&mut self, alloc: Global) -> SessionAnswer
-        ensures { StepText self.old (oldest_entry self.old.status.errors) (popped self.old.status) Bool.false result self.new }
+        ensures { StepText self.old (oldest_entry self.old.status.errors) (popped self.old.status) Bool.false result
+            self.new }
     {
         match oldest_entry(alloc, self.status.all_errors()) {
             Ok(text) => {
@@ -121,7 +127,8 @@ impl<R: Relay, M: Meter> Core<R, M> {
 
     /// Takes all errors out of the queue.
     pub(crate) fn all_errors(&mut self, alloc: Global) -> SessionAnswer
-        ensures { StepText self.old (all_entries self.old.status.errors) (record self.old.status { errors = [] }) Bool.false result self.new }
+        ensures { StepText self.old (all_entries self.old.status.errors) (record self.old.status { errors = [] })
+            Bool.false result self.new }
     {
         match all_entries(alloc, self.status.all_errors()) {
             Ok(text) => {
@@ -148,24 +155,26 @@ impl<R: Relay, M: Meter> Core<R, M> {
 
     /// Clears the error queue and the event registers, and drops a pending `*OPC` (IEEE 488.2, 10.3).
     pub(crate) fn clear_status(&mut self) -> SessionAnswer
-        ensures { StepDone (record self.old { status = cleared self.old.status; pending = Bool.false }) Bool.false result self.new }
+        ensures { StepDone (record self.old { status = cleared self.old.status; opc_waits = Bool.false }) Bool.false
+            result self.new }
     {
         self.status.clear();
-        self.pending = false;
+        self.opc_waits = false;
         SessionAnswer::Done(None)
     }
 
     /// Lets the end of the scan set its event bit; the end of this event, where no scan runs (IEEE 488.2, 10.18).
     pub(crate) fn complete_operation(&mut self) -> SessionAnswer
-        ensures { StepDone (record self.old { pending = Bool.true }) Bool.false result self.new }
+        ensures { StepDone (record self.old { opc_waits = Bool.true }) Bool.false result self.new }
     {
-        self.pending = true;
+        self.opc_waits = true;
         SessionAnswer::Done(None)
     }
 
     /// Sets where a layer's wait takes its trigger from.
     pub(crate) fn set_source(&mut self, layer: LayerName, source: Source) -> SessionAnswer
-        ensures { StepDone (record self.old { settings = with_source layer source self.old.settings }) Bool.false result self.new }
+        ensures { StepDone (record self.old { settings = with_source layer source self.old.settings }) Bool.false result
+            self.new }
     {
         self.settings.set_source(layer, source);
         SessionAnswer::Done(None)

@@ -6,12 +6,12 @@ ghost use Rattle.sw_cage.specs.Accounts.{all_open};
 ghost use Rattle.sw_cage.specs.Channels.{closed_list};
 ghost use Rattle.sw_channel.specs.Printing.{printed};
 ghost use Rattle.sw_core.specs.Action.{aborted, reset};
-ghost use Rattle.sw_core.specs.Panel.{with_rack};
+ghost use Rattle.sw_core.specs.Panel.{with_cards};
 ghost use Rattle.sw_core.specs.Step.{StepText, StepDone, StepClose, StepOpen, StepFlags};
 
 use crate::ask::SessionAnswer;
 use crate::machine::Core;
-use crate::registers::{alarm, calm};
+use crate::registers::{clear_card_fault, report_card_fault};
 use crate::text::flags;
 use std::alloc::Global;
 use sw_base::{Chan, ScpiError, Sequence};
@@ -33,7 +33,7 @@ impl<R: Relay, M: Meter> Core<R, M> {
                 Ok(()) => SessionAnswer::Done(None),
                 Err(_) => {
                     self.cage.open_all();
-                    alarm(&mut self.status);
+                    report_card_fault(&mut self.status);
                     SessionAnswer::Refused(ScpiError::HardwareError)
                 }
             },
@@ -53,7 +53,7 @@ impl<R: Relay, M: Meter> Core<R, M> {
             Ok(()) => SessionAnswer::Done(None),
             Err(_) => {
                 self.cage.open_all();
-                alarm(&mut self.status);
+                report_card_fault(&mut self.status);
                 SessionAnswer::Refused(ScpiError::HardwareError)
             }
         }
@@ -63,7 +63,8 @@ impl<R: Relay, M: Meter> Core<R, M> {
     #[tactic(auto, using(crate::proofs::Calls::failed_open))]
     pub(crate) fn open_everything(&mut self) -> SessionAnswer
         requires idle { self.old.cage.scan ≡ None }
-        ensures { StepDone (with_rack self.old (all_open self.old.cage.cards)) (any_failed self.old.cage.cards self.new.cage.cards) result self.new }
+        ensures { StepDone (with_cards self.old (all_open self.old.cage.cards))
+            (any_failed self.old.cage.cards self.new.cage.cards) result self.new }
     {
         self.cage.open_all();
         SessionAnswer::Done(None)
@@ -86,9 +87,9 @@ impl<R: Relay, M: Meter> Core<R, M> {
     {
         self.cage.abort();
         self.cage.reset_readings();
-        calm(&mut self.status);
+        clear_card_fault(&mut self.status);
         self.settings.reset();
-        self.pending = false;
+        self.opc_waits = false;
         SessionAnswer::Done(None)
     }
 
@@ -107,7 +108,8 @@ impl<R: Relay, M: Meter> Core<R, M> {
 
     /// The list of the closed channels.
     pub(crate) fn close_state(&self, alloc: Global) -> SessionAnswer
-        ensures { StepText self.now (printed (closed_list self.now.cage.cards)) self.now.status Bool.false result self.now }
+        ensures { StepText self.now (printed (closed_list self.now.cage.cards)) self.now.status Bool.false result
+            self.now }
     {
         match self.cage.closed_chans(alloc) {
             Ok(closed) => match print_list(alloc, &closed) {

@@ -2,15 +2,17 @@
 
 ghost use Rattle.std.specs.Prelude.{◌≡◌, Bool, IfOk, IfSome, IfNone, None, Some, false, ◌↔◌, IsTrue};
 ghost use Rattle.sw_cage.specs.Change.{any_failed};
-ghost use Rattle.sw_cage.specs.TakenSeen.{taken_seen};
+ghost use Rattle.sw_cage.specs.TakenSeen.{taken_seen, tells_fault};
 ghost use Rattle.sw_verify.specs.Check.{IsReady};
-ghost use Rattle.sw_core.specs.View.{work_view, answer_view, failed_in, AskFinished, HandsBack};
+ghost use Rattle.sw_core.specs.View.{work_view, answer_view, failed_in, AskFinished, HandsBack, IsOwnAccount};
 ghost use Rattle.sw_core.specs.declared.ask.Ask.TheVariants as Ask;
-ghost use Rattle.sw_core.specs.Step.{Happens, StepHappens, StepOutside, StepFinished, StepSnapshot, StepStart, RefusesScan, MayScan, session_told, outside_told, started_answer, work_of, is_fault, snapshot_of};
+ghost use Rattle.sw_core.specs.Step.{Happens, StepHappens, StepOutside, StepFinished, StepSnapshot, StepStart};
+ghost use Rattle.sw_core.specs.Step.{RefusesScan, MayScan, session_told, outside_told, started_answer, work_of};
+ghost use Rattle.sw_core.specs.Step.{snapshot_of};
 
 use crate::ask::{Answer, SessionAnswer, Work};
 use crate::machine::Core;
-use crate::registers::{alarm, tell_failure};
+use crate::registers::{report_card_fault, set_card_fault};
 use std::alloc::{AllocError, Global};
 use sw_base::{ScpiError, Sequence};
 use sw_cage::{Finished, Happening, Taken};
@@ -61,8 +63,8 @@ fn started_answer<M: Meter>(told: &Taken<M>) -> SessionAnswer
 }
 
 /// Whether a card failed on the way.
-fn is_fault<M: Meter>(told: &Taken<M>) -> bool
-    ensures { result ≡ is_fault (taken_seen told.now) }
+fn tells_fault<M: Meter>(told: &Taken<M>) -> bool
+    ensures { result ≡ tells_fault (taken_seen told.now) }
 {
     match told {
         Taken::Fault => true,
@@ -73,11 +75,12 @@ fn is_fault<M: Meter>(told: &Taken<M>) -> bool
 impl<R: Relay, M: Meter> Core<R, M> {
     /// Offers a happening to the scan.
     fn happens(&mut self, happening: Happening) -> Taken<M>
-        ensures { Happens self.old happening (any_failed self.old.cage.cards self.new.cage.cards) (taken_seen result) self.new }
+        ensures { Happens self.old happening (any_failed self.old.cage.cards self.new.cage.cards) (taken_seen result)
+            self.new }
     {
         let told = self.cage.take(happening);
-        if is_fault(&told) {
-            alarm(&mut self.status);
+        if tells_fault(&told) {
+            report_card_fault(&mut self.status);
         }
         told
     }
@@ -88,7 +91,8 @@ impl<R: Relay, M: Meter> Core<R, M> {
         happening: Happening,
         error: ScpiError,
     ) -> (SessionAnswer, Option<Work<M>>)
-        ensures { StepHappens self.old happening error (any_failed self.old.cage.cards self.new.cage.cards) result.0 (work_view result.1) self.new }
+        ensures { StepHappens self.old happening error (any_failed self.old.cage.cards self.new.cage.cards) result.0
+            (work_view result.1) self.new }
     {
         let told = self.happens(happening);
         let answer = session_told(&told, error);
@@ -97,7 +101,8 @@ impl<R: Relay, M: Meter> Core<R, M> {
 
     /// Offers a happening that is no session's to the scan.
     pub(crate) fn outside(&mut self, happening: Happening) -> Answer<R, M>
-        ensures { StepOutside self.old happening (any_failed self.old.cage.cards self.new.cage.cards) (answer_view result) self.new }
+        ensures { StepOutside self.old happening (any_failed self.old.cage.cards self.new.cage.cards)
+            (answer_view result) self.new }
     {
         let told = self.happens(happening);
         outside_told(told)
@@ -105,16 +110,19 @@ impl<R: Relay, M: Meter> Core<R, M> {
 
     /// Takes a meter back, and its reading where the scan awaits it.
     pub(crate) fn finished(&mut self, done: Finished<M>) -> Answer<R, M>
-        ensures finished { StepFinished self.old done.1 (failed_in (AskFinished done.1) (answer_view result) self.old.cage.cards self.new.cage.cards) (answer_view result) self.new }
+        ensures finished { StepFinished self.old done.1
+            (failed_in (AskFinished done.1) (answer_view result) self.old.cage.cards self.new.cage.cards)
+            (answer_view result) self.new }
+        ensures own { IsOwnAccount (AskFinished done.1) }
         ensures back { HandsBack (Ask.Finished done) result }
     {
         match self.cage.finish(done) {
             Err(done) => Answer::Back(done),
-            Ok(told) => {
-                if is_fault(&told) {
-                    alarm(&mut self.status);
+            Ok(taken) => {
+                if tells_fault(&taken) {
+                    report_card_fault(&mut self.status);
                 }
-                outside_told(told)
+                outside_told(taken)
             }
         }
     }
@@ -162,7 +170,8 @@ impl<R: Relay, M: Meter> Core<R, M> {
     /// Begins the scan of a plan, where what it was made of is so now.
     #[tactic(auto, using(crate::proofs::Happened::refused_start))]
     pub(crate) fn start(&mut self, alloc: Global, plan: Plan) -> (SessionAnswer, Option<Work<M>>)
-        ensures { StepStart self.old plan (any_failed self.old.cage.cards self.new.cage.cards) result.0 (work_view result.1) self.new }
+        ensures { StepStart self.old plan (any_failed self.old.cage.cards self.new.cage.cards) result.0
+            (work_view result.1) self.new }
     {
         if let Some(error) = self.refuses_scan() {
             return (SessionAnswer::Refused(error), None);
@@ -186,12 +195,13 @@ impl<R: Relay, M: Meter> Core<R, M> {
         requires may { MayScan self.old }
         requires same { plan ≡ snapshot_of self.old }
         requires ready { IsReady plan }
-        ensures { StepStart self.old plan (any_failed self.old.cage.cards self.new.cage.cards) result.0 (work_view result.1) self.new }
+        ensures { StepStart self.old plan (any_failed self.old.cage.cards self.new.cage.cards) result.0
+            (work_view result.1) self.new }
     {
         match self.cage.start(alloc, plan) {
             Err(_) => (SessionAnswer::Refused(ScpiError::OutOfMemory), None),
             Ok(told) => {
-                tell_failure(&mut self.status, is_fault(&told));
+                set_card_fault(&mut self.status, tells_fault(&told));
                 let answer = started_answer(&told);
                 (answer, work_of(told))
             }

@@ -1,11 +1,14 @@
 //! Which sessions are joined, and which locks they hold.
 
-ghost use Rattle.std.specs.Prelude.{◌≡◌, ◌≢◌, ◌≤◌, ◌-◌, ◌↔◌, ◌&&◌, ℕ, true, false, not, IsTrue, IfSome, IfNone, OnSome, None, Some, slice_set, replicate};
+ghost use Rattle.std.specs.Prelude.{◌≡◌, ◌≢◌, ◌≤◌, ◌-◌, ◌↔◌, ◌&&◌, ℕ, true, false, not, IsTrue, IfSome, IfNone, OnSome};
+ghost use Rattle.std.specs.Prelude.{None, Some, slice_set, replicate};
 ghost use Rattle.sw_base.specs.Layout.{slot_at};
 ghost use Rattle.sw_hislip.specs.LockTable.{admits};
-ghost use Rattle.sw_core.specs.Sessions.{nobody, fresh, IsJoined, IsLeastFree, is_clearing, with_seat, seat_of, joined_in};
+ghost use Rattle.sw_core.specs.Sessions.{nobody, fresh, IsJoined, IsLeastFree, is_clearing, with_seat, seat_of};
+ghost use Rattle.sw_core.specs.Sessions.{joined_in};
 ghost use Rattle.sw_core.specs.declared.ask.SessionAnswer.TheVariants.{Done};
-ghost use Rattle.sw_core.specs.Seats.{Attaches, LacksSecond, StepSeat, StepLock, released_code, asker_of, is_seats, is_dropped, is_shut_out};
+ghost use Rattle.sw_core.specs.Seats.{Attaches, LacksSecond, StepSeat, StepLock, released_code, asker_of, is_seats};
+ghost use Rattle.sw_core.specs.Seats.{is_dropped, is_shut_out};
 
 use crate::ask::{SessionAnswer, SessionAsk, Sid};
 use crate::asks::{is_dropped, is_shut_out};

@@ -4,7 +4,8 @@ ghost use Rattle.std.specs.Prelude.{◌≡◌, ◌<◌, ◌∷◌, [], ◌++◌,
 ghost use Rattle.std.specs.List.{join_with_byte};
 ghost use Rattle.sw_base.specs.Reading.{fixed, reading_text};
 ghost use Rattle.sw_cage.specs.Accounts.{is_closed};
-ghost use Rattle.sw_core.specs.Answers.{identity, version, flag_of, as_asked, entry, entry_of, no_error, oldest_entry, all_entries, source_word, IsRow, IsOpen, Tells};
+ghost use Rattle.sw_core.specs.Answers.{identity, version, flag_of, as_asked, entry, entry_of, no_error, oldest_entry};
+ghost use Rattle.sw_core.specs.Answers.{all_entries, source_word, IsRow, IsOpen, Tells};
 
 use crate::ask::SessionAnswer;
 use std::alloc::{AllocError, Global};
@@ -60,14 +61,16 @@ pub fn source_word(alloc: Global, source: Source) -> Result<Sequence<u8>, AllocE
     Ok(Sequence::new(Vec::from_slice(alloc, word)?))
 }
 
-/// For each channel `1` or `0`, joined by commas: whether it is closed, or, where `closed` is false, whether it is open.
+/// For each channel `1` or `0`, joined by commas: whether it is closed, or, where `closed` is false, whether it is
+/// open.
 pub fn flags<R: Relay, M: Meter>(
     alloc: Global,
     cage: &Cage<R, M>,
     closed: bool,
     chans: &[Chan],
 ) -> Result<Sequence<u8>, AllocError>
-    ensures { IfOk result (λ text. text ≡ join_with_byte 44 (map (λ c. flag_of (as_asked closed (is_closed cage.now.cards c))) chans.now)) }
+    ensures { IfOk result
+        (λ text. text ≡ join_with_byte 44 (map (λ c. flag_of (as_asked closed (is_closed cage.now.cards c))) chans.now)) }
 {
     let mut text = Vec::with_capacity(alloc, chans.len())?;
     for chan in chans {

@@ -1,0 +1,248 @@
+-- What each command does leaves the mainframe fine.
+use Rattle.std.proofs.Common.{◌≡◌, ◌≢◌, ℕ, ◌-◌, ◌≤◌, ◌<◌, ◌==◌, ◌&&◌, not, Bool, true, false, List, [], ◌∷◌, length, Option, None, Some, slice_set, refl, sym, ◌∙◌, ap, subst, arith, is_some, zero, suc, nat_lt, slice_index_or, map}
+use Rattle.std.specs.Prelude.{if◌then◌else◌, decimal, MatchBool}
+use Rattle.std.specs.List.{AllByRecursion, join_with_byte}
+use Rattle.sw_base.specs.Reading.{reading_text}
+use Rattle.std.proofs.lemmas.List.{length-map}
+use Rattle.sw_base.specs.Layout.{Channel, slot_at}
+use Rattle.sw_base.specs.declared.reading.Reading.{Reading}
+use Rattle.sw_base.specs.declared.terms.LayerName.{LayerName}
+use Rattle.sw_base.specs.declared.terms.LayerName.TheVariants.{Arm1, Arm2, Trigger}
+use Rattle.sw_base.specs.declared.error.ScpiError.{ScpiError}
+use Rattle.sw_base.specs.declared.error.ScpiError.TheVariants.{UndefinedHeader, TriggerIgnored, ArmIgnored, DataOutOfRange, TooMuchData, DataCorruptOrStale, HardwareMissing, SettingsConflict, HardwareError, OutOfMemory}
+use Rattle.sw_card.specs.Account.{Account, closed_at}
+use Rattle.sw_lex.specs.declared.command.Command.{Command}
+use Rattle.sw_trigger.specs.declared.layer.Layer.{Layer}
+use Rattle.sw_trigger.specs.Settings.{Setup, IsInRange, IsLayer, layer_of, with_layer, most_of, at_reset}
+use Rattle.sw_verify.specs.declared.snapshot.Snapshot.{Snapshot}
+use Rattle.sw_status.specs.StatusModel.{StatusSeen, IsStatus, group_of, with_group}
+use Rattle.sw_cage.specs.Accounts.{Accounts, layout_of, is_closed, option_closed, all_open, option_rest}
+use Rattle.sw_cage.specs.Change.{Sets}
+use Rattle.sw_cage.specs.Close.{CanClose}
+use Rattle.sw_cage.specs.Cage.{CageSeen, ScanSeen, safe_state}
+use Rattle.sw_cage.specs.Good.{IsRunning}
+use Rattle.sw_cage.specs.Install.{CanInstall, stopped, without_card}
+use Rattle.sw_cage.specs.Outcome.{with_back}
+use Rattle.sw_cage.specs.Work.{FinishedSeen}
+use Rattle.sw_cage.specs.TakenSeen.{TakenSeen, SaysIgnored, SaysWaits, SaysPause, SaysJob, SaysEnded, SaysFault}
+use Rattle.sw_cage.specs.declared.taken.Happening.{Happening}
+use Rattle.sw_cage.specs.declared.taken.Happening.TheVariants.{Bus, External, Elapsed}
+use Rattle.sw_cage.proofs.SlotChangeLemmas.{some_slot, is_none, all_open_closed, exclusive_none, exclusive_quiet, none_slot}
+use Rattle.sw_cage.proofs.ChannelCallLemmas.{identities_all_open, identities_rest}
+use Rattle.sw_cage.proofs.KeptLemmas.{held_set}
+use Rattle.sw_cage.proofs.ExclusionLemmas.{exclusive_closing, exclusive_opening}
+use Rattle.sw_core.specs.declared.ask.Sid.{Sid}
+use Rattle.sw_core.specs.declared.ask.SessionAsk.{SessionAsk}
+use Rattle.sw_core.specs.declared.ask.SessionAsk.TheVariants as Ask
+use Rattle.sw_core.specs.declared.ask.SessionAnswer.{SessionAnswer}
+use Rattle.sw_core.specs.declared.ask.SessionAnswer.TheVariants as answers
+use Rattle.sw_core.specs.declared.ask.SessionAnswer.TheVariants.{Joined, Full, Stranger, Broken, Done, Refused, Hold, Worn}
+use Rattle.sw_core.specs.Panel.{Panel, opening_at, with_cards, is_running}
+use Rattle.sw_core.specs.Action.{Effect, TellsNumber, TellsText, TellsReadings, ReadsOut, SetsStatus, SetsUp, Closes, Opens, TellsRelays, Leaves}
+use Rattle.sw_core.specs.Action.{Resets, reset, Offers, Refuses, IsOfMacros, Initiates, Action, AtOnce, BetweenScans, AfterScan, action_of}
+use Rattle.sw_core.specs.Event.{concluded, session_concluded, last_number}
+use Rattle.sw_core.specs.View.{WorkView, AskView, AskSession, AskInstall, AskEject, AskExternal, AskElapsed, AskFinished, AnswerView, SaysSession, SaysInstalled, SaysNotInstalled, SaysEjected, SaysNotEjected, SaysTaken, SaysMissed, SaysFailed, SaysBack, SaysWorn}
+use Rattle.sw_core.specs.Seats.{asker_of}
+use Rattle.sw_core.specs.Step.{FailsSafe, StepClose, StepOpen, StepFlags, StepText, StepDone, StepSetting, StepRefused, StepReadings, StepAlone, StepEffect, StepHeld, StepAction}
+use Rattle.sw_core.specs.Step.{Happens, MayScan, StepSnapshot, Starts, StepStart, StepJoin, StepAttach, StepNew, IsServed, StepJoined, StepAdmitted, drops, shuts_out, StepSession, StepOutside, IsOut, Returns, StepFinished, Acts, acts_unnumbered, IsEvent, IsUnnumbered, Step}
+use Rattle.std.specs.Prelude.{replicate}
+use Rattle.sw_cage.specs.declared.job.Ticket.{Ticket}
+use Rattle.sw_core.specs.Good.{OptionFew}
+use Rattle.sw_core.proofs.Kept.{IsKept, few_set, kept_rack, kept_over, kept_past, kept_late, kept_counted, kept_begun}
+use Rattle.std.specs.Prelude.{IfSome}
+use Rattle.sw_base.specs.declared.terms.StatusGroup.{StatusGroup}
+use Rattle.sw_base.specs.declared.terms.StatusGroup.TheVariants.{Operation, Questionable}
+use Rattle.sw_status.specs.Registers.{GroupSeen, IsGroup}
+use Rattle.sw_status.specs.Laws.{KeepsBit15Clear}
+use Rattle.sw_status.proofs.Limits.{group-kept, status-kept, status-start}
+use Rattle.sw_core.specs.Registers.{card_fault_reported, card_fault_cleared}
+
+-- what stays so of the mainframe, between its events too
+pub record IsFine (p : Panel) : Type 0 where
+  pub cage : IsKept p.cage
+  pub range : IsInRange p.settings
+  pub settings : IfSome p.cage.scan (λ at. at.setup ≡ p.settings)
+  pub status : IsStatus p.status
+
+-- what IsFine says of the settings
+abbrev pub GoesBy : Option ScanSeen → Setup → Type 0
+GoesBy scan s = IfSome scan (λ at. at.setup ≡ s)
+
+pub by_none : (scan : Option ScanSeen) (s : Setup) → scan ≡ None → GoesBy scan s
+by_none scan s e = subst (λ (o : Option ScanSeen). GoesBy o s) (sym e) tt
+
+pub fine_as : (p q : Panel) → q.cage ≡ p.cage → q.settings ≡ p.settings → IsStatus q.status → IsFine p → IsFine q
+fine_as p q c s u k = record {
+  cage = subst (λ (x : CageSeen). IsKept x) (sym c) k.cage;
+  range = subst (λ (x : Setup). IsInRange x) (sym s) k.range;
+  settings = subst (λ (x : CageSeen). GoesBy x.scan q.settings) (sym c) (subst (λ (x : Setup). GoesBy p.cage.scan x) (sym s) k.settings);
+  status = u;
+}
+
+pub fine_is : (p q : Panel) → q ≡ p → IsFine p → IsFine q
+fine_is p q e k = subst (λ (x : Panel). IsFine x) (sym e) k
+
+pub none_of : (p : Panel) → is_running p ≡ false → p.cage.scan ≡ None
+none_of p e = is_none p.cage.scan e
+
+-- ---- settings
+
+layer_range : (s : Setup) (l : LayerName) → IsInRange s → IsLayer (most_of l) (layer_of s l)
+layer_range s Arm1 r = r.arm1
+layer_range s Arm2 r = r.arm2
+layer_range s Trigger r = r.trigger
+
+range_layer : (s : Setup) (l : LayerName) (layer : Layer) → IsInRange s → IsLayer (most_of l) layer → IsInRange (with_layer s l layer)
+range_layer s Arm1 layer r h = record { arm1 = h; arm2 = r.arm2; trigger = r.trigger; list = r.list; meter = r.meter; points = r.points }
+range_layer s Arm2 layer r h = record { arm1 = r.arm1; arm2 = h; trigger = r.trigger; list = r.list; meter = r.meter; points = r.points }
+range_layer s Trigger layer r h = record { arm1 = r.arm1; arm2 = r.arm2; trigger = h; list = r.list; meter = r.meter; points = r.points }
+
+pub reset_range : IsInRange at_reset
+reset_range = record {
+  arm1 = record { count = (omega arith, omega arith); delay = omega arith };
+  arm2 = record { count = (omega arith, omega arith); delay = omega arith };
+  trigger = record { count = (omega arith, omega arith); delay = omega arith };
+  list = omega arith;
+  meter = (omega arith, omega arith);
+  points = (omega arith, omega arith);
+}
+
+-- ---- status
+
+group_fine : (s : StatusSeen) (which : StatusGroup) → IsStatus s → IsGroup (group_of s which)
+group_fine s Operation u = u.operation
+group_fine s Questionable u = u.questionable
+
+-- a group of the status is told something
+grouped : (s : StatusSeen) (which : StatusGroup) (g : GroupSeen) → IsStatus s → IsGroup g → IsStatus (with_group s which g)
+grouped s which g u h = (status-kept s u).group which g h
+
+pub told_group : (s : StatusSeen) (which : StatusGroup) → IsStatus s → KeepsBit15Clear (group_of s which)
+told_group s which u = group-kept (group_of s which) (group_fine s which u)
+
+pub reported_status : (s : StatusSeen) → IsStatus s → IsStatus (card_fault_reported s)
+reported_status s u = grouped s Questionable _ u ((told_group s Questionable u).conditioned 512)
+
+pub cleared_status : (s : StatusSeen) → IsStatus s → IsStatus (card_fault_cleared s)
+cleared_status s u = grouped s Questionable _ u ((told_group s Questionable u).conditioned 0)
+
+-- ---- the cage while no scan runs
+
+pub fallen_all : (c : CageSeen) → IsKept c → IsKept (safe_state c)
+fallen_all c k = kept_over c (all_open c.cards) k (identities_all_open c.cards) (all_open_closed c.cards)
+
+-- readings don't matter where no scan runs
+pub dropped : (c : CageSeen) → IsKept c → c.scan ≡ None → IsKept (record c { readings = [] })
+dropped c k e = record {
+  good = record {
+    held = record { slots = k.good.held.slots; outs = k.good.held.outs; empty = k.good.held.empty; past = k.good.held.past };
+    running = subst (λ (o : Option ScanSeen). IsRunning (record c { readings = [] }) o) (sym e) tt;
+  };
+  safe = k.safe;
+  few = k.few;
+}
+
+-- ---- effects
+
+out_of_range : DataOutOfRange ≢ HardwareError
+out_of_range e = absurd (cc (e))
+
+too_much : TooMuchData ≢ HardwareError
+too_much e = absurd (cc (e))
+
+not_triggered : TriggerIgnored ≢ HardwareError
+not_triggered e = absurd (cc (e))
+
+not_armed : ArmIgnored ≢ HardwareError
+not_armed e = absurd (cc (e))
+
+conflict : SettingsConflict ≢ HardwareError
+conflict e = absurd (cc (e))
+
+-- what an effect leaves fine, and is refused by no card's failure of its own
+abbrev pub IsHarmless : Panel → Effect → Type 0
+IsHarmless p (TellsNumber number) = Unit {0}
+IsHarmless p (TellsText text) = Unit {0}
+IsHarmless p TellsReadings = Unit {0}
+IsHarmless p (ReadsOut text after) = IsStatus p.status → IsStatus (after p.status)
+IsHarmless p (SetsStatus after) = IsStatus p.status → IsStatus (after p.status)
+IsHarmless p (SetsUp Fits error after) = (Fits → IsInRange p.settings → IsInRange (after p.settings)) × (error ≢ HardwareError) × (is_running p ≡ false)
+IsHarmless p (Closes chans) = is_running p ≡ false
+IsHarmless p (Opens chans) = is_running p ≡ false
+IsHarmless p (TellsRelays closed chans) = Unit {0}
+IsHarmless p (Leaves after) = IsFine p → IsFine (after p)
+IsHarmless p Resets = Unit {0}
+IsHarmless p (Offers happening error) = error ≢ HardwareError
+IsHarmless p (Refuses error) = error ≢ HardwareError
+IsHarmless p IsOfMacros = Unit {0}
+IsHarmless p Initiates = Unit {0}
+
+abbrev pub IsHarmlessAction : Panel → Action → Type 0
+IsHarmlessAction p (AtOnce effect) = IsHarmless p effect
+IsHarmlessAction p (BetweenScans effect) = is_running p ≡ false → IsHarmless p effect
+IsHarmlessAction p (AfterScan effect) = IsHarmless p effect
+
+pub harmless : (p : Panel) (available : Bool) (command : Command) → IsHarmlessAction p (action_of available command)
+harmless p available Command.Identify = tt
+harmless p available Command.Reset = tt
+harmless p available Command.ClearStatus = λ k. record { cage = k.cage; range = k.range; settings = k.settings; status = (status-kept p.status k.status).clear }
+harmless p available (Command.EventEnable bits) = λ u. (status-kept p.status u).event_enable bits
+harmless p available Command.EventEnableQuery = tt
+harmless p available Command.EventQuery = λ u. (status-kept p.status u).event_status 0
+harmless p available (Command.ServiceEnable bits) = λ u. (status-kept p.status u).service_enable bits
+harmless p available Command.ServiceEnableQuery = tt
+harmless p available Command.StatusByteQuery = tt
+harmless p available Command.OperationComplete = λ k. record { cage = k.cage; range = k.range; settings = k.settings; status = k.status }
+harmless p available Command.OperationCompleteQuery = tt
+harmless p available Command.Wait = λ k. k
+harmless p available Command.SelfTestQuery = tt
+harmless p available Command.Trigger = not_triggered
+harmless p available (Command.DefineMacro label body) = tt
+harmless p available (Command.MacroQuery label) = tt
+harmless p available Command.MacroLabelsQuery = tt
+harmless p available (Command.RemoveMacro label) = tt
+harmless p available Command.PurgeMacros = tt
+harmless p available (Command.EnableMacros on) = tt
+harmless p available Command.EnableMacrosQuery = tt
+harmless p available Command.Abort = λ k. record { cage = fallen_all p.cage k.cage; range = k.range; settings = tt; status = k.status }
+harmless p available Command.Initiate = tt
+harmless p available (Command.InitiateContinuous true) = conflict
+harmless p available (Command.InitiateContinuous false) = λ k. k
+harmless p available Command.InitiateContinuousQuery = tt
+harmless p available (Command.Count layer n) = λ idle. (λ fits r. range_layer p.settings layer _ r (record { count = fits; delay = (layer_range p.settings layer r).delay }), out_of_range, idle)
+harmless p available (Command.CountQuery layer) = tt
+harmless p available (Command.SetSource layer source) = λ idle k. record { cage = k.cage; range = range_layer p.settings layer _ k.range (record { count = (layer_range p.settings layer k.range).count; delay = (layer_range p.settings layer k.range).delay }); settings = by_none p.cage.scan _ (none_of p idle); status = k.status }
+harmless p available (Command.SourceQuery layer) = tt
+harmless p available (Command.Delay layer micros) = λ idle. (λ fits r. range_layer p.settings layer _ r (record { count = (layer_range p.settings layer r).count; delay = fits }), out_of_range, idle)
+harmless p available (Command.DelayQuery layer) = tt
+harmless p available (Command.Signal Trigger) = not_triggered
+harmless p available (Command.Signal Arm1) = not_armed
+harmless p available (Command.Signal Arm2) = not_armed
+harmless p available (Command.Close chans) = λ idle. idle
+harmless p available (Command.CloseQuery chans) = tt
+harmless p available Command.CloseState = tt
+harmless p available (Command.Open chans) = λ idle. idle
+harmless p available (Command.OpenQuery chans) = tt
+harmless p available Command.OpenAll = λ idle k. record { cage = kept_rack p.cage (all_open p.cage.cards) k.cage (none_of p idle) (identities_all_open p.cage.cards) (exclusive_none _ _ (all_open_closed p.cage.cards)); range = k.range; settings = k.settings; status = k.status }
+harmless p available (Command.Scan chans) = λ idle. (λ fits r. record { arm1 = r.arm1; arm2 = r.arm2; trigger = r.trigger; list = fits; meter = r.meter; points = r.points }, too_much, idle)
+harmless p available Command.ScanQuery = tt
+harmless p available (Command.ScanMeter slot) = λ idle. (λ fits r. record { arm1 = r.arm1; arm2 = r.arm2; trigger = r.trigger; list = r.list; meter = fits; points = r.points }, out_of_range, idle)
+harmless p available Command.ScanMeterQuery = tt
+harmless p available (Command.GroupEventQuery group) = λ u. grouped p.status group _ u (told_group p.status group u).taken
+harmless p available (Command.GroupConditionQuery group) = tt
+harmless p available (Command.GroupEnable group bits) = λ u. grouped p.status group _ u ((told_group p.status group u).enable bits)
+harmless p available (Command.GroupEnableQuery group) = tt
+harmless p available (Command.PositiveTransition group bits) = λ u. grouped p.status group _ u ((told_group p.status group u).ptr bits)
+harmless p available (Command.PositiveTransitionQuery group) = tt
+harmless p available (Command.NegativeTransition group bits) = λ u. grouped p.status group _ u ((told_group p.status group u).ntr bits)
+harmless p available (Command.NegativeTransitionQuery group) = tt
+harmless p available Command.Preset = λ u. (status-kept p.status u).reset
+harmless p available Command.NextErrorQuery = λ u. (status-kept p.status u).read
+harmless p available Command.AllErrorsQuery = λ u. (status-kept p.status u).emptied
+harmless p available Command.ErrorCountQuery = tt
+harmless p available Command.VersionQuery = tt
+harmless p available (Command.Points n) = λ idle. (λ fits r. record { arm1 = r.arm1; arm2 = r.arm2; trigger = r.trigger; list = r.list; meter = r.meter; points = fits }, out_of_range, idle)
+harmless p available Command.PointsQuery = tt
+harmless p available Command.ActualPointsQuery = tt
+harmless p available Command.BoundQuery = tt
+harmless p available Command.Fetch = tt

@@ -1,0 +1,5 @@
+use Rattle.sw_core.proofs.EveryRun.{stays_good}
+use Rattle.sw_core.proofs.laws.mainframe_stays_good.Goals as goal
+
+pub returns : goal.returns
+returns c = stays_good
