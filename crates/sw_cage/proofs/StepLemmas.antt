@@ -1,5 +1,6 @@
 -- Single steps of a scan's code.
-use Rattle.std.proofs.Common.{◌≡◌, ℕ, zero, suc, ◌+◌, ◌-◌, ◌<◌, ◌≤◌, ◌≢◌, Bool, true, false, cond, eqb, List, [], ◌∷◌, length, replicate, Option, Some, None, slice_set, refl, sym, ap, ◌∙◌, subst, arith, get_or, ◌⊎◌, inl, inr}
+use Rattle.std.proofs.Common.{◌≡◌, ℕ, zero, suc, ◌+◌, ◌-◌, ◌<◌, ◌≤◌, ◌≢◌, Bool, true, false, cond, eqb, List, [], ◌∷◌, length, replicate, Option}
+use Rattle.std.proofs.Common.{Some, None, slice_set, refl, sym, ap, ◌∙◌, subst, arith, get_or, ◌⊎◌, inl, inr}
 use mathlib.Core.Path.{fun_ext}
 use Rattle.std.specs.List.{slice_get, AllByRecursion}
 use Rattle.std.proofs.lemmas.Bool.Decides.{nat_tests}
@@ -75,7 +76,8 @@ module _ (code : List Step) (at : Place) where
   pub does_halt : (items : List Item) → slice_get code at.step ≡ Some step.Halt → Does code at items → items ≡ []
   does_halt items e d = let h = (does_at items (Some step.Halt) e d).1 in cc
 
-  act_item : (x : Item) (n : ℕ) → act (Some (step_of x)) (exec code n) at.step (counters_of at.counters) ≡ passing x (exec code n (at.step + 1) (counters_of at.counters))
+  act_item : (x : Item) (n : ℕ)
+      → act (Some (step_of x)) (exec code n) at.step (counters_of at.counters) ≡ passing x (exec code n (at.step + 1) (counters_of at.counters))
   act_item (Awaits (Wait name)) n = refl
   act_item (Awaits (Pause micros)) n = refl
   act_item (Awaits Read) n = refl
@@ -194,7 +196,8 @@ module _ (code : List Step) (at : Place) where
   tail_is : (x : Awaited) (what : Awaited) (items rest : List Item) → (Awaits what ∷ items) ≡ (Awaits x ∷ rest) → rest ≡ items
   tail_is x what items rest e = cc
 
-  pub does_past : IsResting (slice_get code at.step) → (what : Awaited) (items : List Item) → Does code at (Awaits what ∷ items) → Does code (place (at.step + 1) at.counters) items
+  pub does_past : IsResting (slice_get code at.step) → (what : Awaited) (items : List Item) → Does code at (Awaits what ∷ items)
+      → Does code (place (at.step + 1) at.counters) items
   does_past r what items d = go (slice_get code at.step) refl r where
     gone : (x : Awaited) → slice_get code at.step ≡ Some (step_of (Awaits x)) → Does code (place (at.step + 1) at.counters) items
     gone x e =

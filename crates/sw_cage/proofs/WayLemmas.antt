@@ -44,7 +44,8 @@ opener (Some step.Halt) c e = absurd (cc)
 
 module _ (code : List Step) (at : Place) (items : List Item) (d : Does code at items) where
   -- it closes a channel
-  pub way_closes : (c : Channel) (after : Place) → closed_by (slice_get code at.step) ≡ Some c → AreVisits items → GoesTo code (place (at.step + 1) at.counters) after
+  pub way_closes : (c : Channel) (after : Place) → closed_by (slice_get code at.step) ≡ Some c → AreVisits items
+      → GoesTo code (place (at.step + 1) at.counters) after
       → IsNear code 0 after.step → LeadsOn code items (way None (Some c) after)
   way_closes c after e v goes near =
       let p = does_item code at (Close c) items (closer (slice_get code at.step) c e) d in

@@ -1,6 +1,7 @@
 //! The steps of a scan's code, from one that awaits to the next.
 
-ghost use Rattle.std.specs.Prelude.{◌≡◌, ℕ, suc, ◌+◌, ◌^◌, ◌<◌, ◌≤◌, List, ◌∷◌, None, length, slice_set, slice_index_or, ◌-◌, IfSome, IfNone};
+ghost use Rattle.std.specs.Prelude.{◌≡◌, ℕ, suc, ◌+◌, ◌-◌, ◌^◌, ◌<◌, ◌≤◌, List, ◌∷◌, None, length, slice_set};
+ghost use Rattle.std.specs.Prelude.{slice_index_or, IfSome, IfNone};
 ghost use Rattle.std.specs.List.{slice_get, AllByRecursion};
 ghost use Rattle.sw_trigger.specs.Agenda.{Item, Awaits};
 ghost use Rattle.sw_trigger.specs.declared.layer.Awaited.{Awaited as Await};

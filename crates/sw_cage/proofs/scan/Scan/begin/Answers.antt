@@ -23,7 +23,8 @@ pub invariant_of-scan : goal.invariant_of-scan
 invariant_of-scan c =
     let s = c.args.settings in
     let same : c.steps.result.now ≡ (compiled s).steps = c.steps.ensures.steps ∙ ap (λ (p : Program). p.steps) c.requires.code in
-    let unfolds : Unfolds c.steps.result.now (agenda s) = subst (λ (l : List Step). Unfolds l (agenda s)) (sym same) (compiled_unfolds s c.requires.listed c.requires.range) in
+    let unfolds : Unfolds c.steps.result.now (agenda s) =
+    subst (λ (l : List Step). Unfolds l (agenda s)) (sym same) (compiled_unfolds s c.requires.listed c.requires.range) in
     let way = c.first-way.result in
     let l = stands c.steps.result.now (agenda s) way (c.first-way.ensures (agenda s) unfolds (visits-agenda s c.requires.listed)) in
     let e : c.count-index.result ≡ 0 + length (moves_of way.moves) = omega (arith, c.count-index.ensures.count) in
@@ -40,7 +41,8 @@ pub returns-clause-scan : goal.returns-clause-scan
 returns-clause-scan c =
     let s = c.args.settings in
     let same : c.steps.result.now ≡ (compiled s).steps = c.steps.ensures.steps ∙ ap (λ (p : Program). p.steps) c.requires.code in
-    let unfolds : Unfolds c.steps.result.now (agenda s) = subst (λ (l : List Step). Unfolds l (agenda s)) (sym same) (compiled_unfolds s c.requires.listed c.requires.range) in
+    let unfolds : Unfolds c.steps.result.now (agenda s) =
+    subst (λ (l : List Step). Unfolds l (agenda s)) (sym same) (compiled_unfolds s c.requires.listed c.requires.range) in
     let way = c.first-way.result in
     let l = stands c.steps.result.now (agenda s) way (c.first-way.ensures (agenda s) unfolds (visits-agenda s c.requires.listed)) in
     let e : c.count-index.result ≡ 0 + length (moves_of way.moves) = omega (arith, c.count-index.ensures.count) in
@@ -50,7 +52,8 @@ pub returns-clause-moves : goal.returns-clause-moves
 returns-clause-moves c =
     let s = c.args.settings in
     let same : c.steps.result.now ≡ (compiled s).steps = c.steps.ensures.steps ∙ ap (λ (p : Program). p.steps) c.requires.code in
-    let unfolds : Unfolds c.steps.result.now (agenda s) = subst (λ (l : List Step). Unfolds l (agenda s)) (sym same) (compiled_unfolds s c.requires.listed c.requires.range) in
+    let unfolds : Unfolds c.steps.result.now (agenda s) =
+    subst (λ (l : List Step). Unfolds l (agenda s)) (sym same) (compiled_unfolds s c.requires.listed c.requires.range) in
     let way = c.first-way.result in
     let l = stands c.steps.result.now (agenda s) way (c.first-way.ensures (agenda s) unfolds (visits-agenda s c.requires.listed)) in
     way_is s 0 way.moves l.rest l.lead l.split
