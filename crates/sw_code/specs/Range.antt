@@ -2,6 +2,7 @@
 use Rattle.std.specs.Prelude.{ℕ, ◌≤◌, List, length}
 use Rattle.std.specs.List.{AllByRecursion}
 use Rattle.sw_base.specs.Layout.{Channel}
+use Rattle.sw_base.specs.Limits.{most_slots, most_channels, most_trigger_count, longest_delay}
 use Rattle.sw_code.specs.declared.code.Step.{Step}
 use Rattle.sw_code.specs.declared.code.Step.TheVariants as step
 
@@ -12,18 +13,18 @@ pub record Program : Type 0 where
 
 -- the numbers of a step are in range; a channel keeps its own
 abbrev pub IsStep : Step → Type 0
-IsStep (step.Set k n) = (k ≤ 2) × (1 ≤ n) × (n ≤ 100000)
+IsStep (step.Set k n) = (k ≤ 2) × (1 ≤ n) × (n ≤ most_trigger_count)
 IsStep (step.Wait name) = Unit {0}
-IsStep (step.Pause micros) = (1 ≤ micros) × (micros ≤ 3600000000)
+IsStep (step.Pause micros) = (1 ≤ micros) × (micros ≤ longest_delay)
 IsStep (step.Close c) = Unit {0}
 IsStep step.Read = Unit {0}
 IsStep (step.Open c) = Unit {0}
 IsStep (step.Loop k to) = (k ≤ 2) × (to ≤ 8191)
 IsStep step.Halt = Unit {0}
 
--- a channel's slot is 1 to 8, its number 1 to 99
+-- a channel's slot and its number are in range
 abbrev pub IsChannel : Channel → Type 0
-IsChannel c = (1 ≤ c.0) × (c.0 ≤ 8) × (1 ≤ c.1) × (c.1 ≤ 99)
+IsChannel c = (1 ≤ c.0) × (c.0 ≤ most_slots) × (1 ≤ c.1) × (c.1 ≤ most_channels)
 
 -- the step's channel, if it has one, is in range
 abbrev pub HasChannel : Step → Type 0
@@ -32,6 +33,6 @@ HasChannel (step.Open c) = IsChannel c
 HasChannel _ = Unit {0}
 
 pub record IsInRange (p : Program) : Type 0 where
-  pub meter : (1 ≤ p.meter) × (p.meter ≤ 8)
+  pub meter : (1 ≤ p.meter) × (p.meter ≤ most_slots)
   pub length : length p.steps ≤ 8192
   pub steps : AllByRecursion IsStep p.steps

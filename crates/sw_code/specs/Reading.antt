@@ -3,6 +3,7 @@ use Rattle.std.specs.Prelude.{ℕ, ◌+◌, Bool, ◌==◌, ◌&&◌, nat_lt, na
 use Rattle.std.specs.List.{list_all, slice_split}
 use Rattle.std.specs.Str.{bytes_eq}
 use Rattle.sw_base.specs.Layout.{Channel}
+use Rattle.sw_base.specs.Limits.{most_slots, most_channels, most_trigger_count, longest_delay}
 use Rattle.sw_base.specs.Text.{is_digit}
 use Rattle.sw_base.specs.Number.{value_of}
 use Rattle.sw_base.specs.declared.terms.LayerName.{LayerName}
@@ -32,7 +33,7 @@ number_in low high part =
 
 -- `s!c`
 abbrev pub channel_in : List (List ℕ) → Result Channel ListFault
-channel_in (s ∷ c ∷ []) = then_read (number_in 1 8 s) (λ slot. then_read (number_in 1 99 c) (λ ch. Ok (slot, ch)))
+channel_in (s ∷ c ∷ []) = then_read (number_in 1 most_slots s) (λ slot. then_read (number_in 1 most_channels c) (λ ch. Ok (slot, ch)))
 channel_in _ = Err BadNumber
 
 abbrev pub layer_in : List ℕ → Result LayerName ListFault
@@ -48,14 +49,14 @@ plain_step word =
 abbrev pub step_with : List ℕ → List ℕ → Result Step ListFault
 step_with word a =
     if bytes_eq word (codes "wait") then then_read (layer_in a) (λ name. Ok (step.Wait name))
-    else (if bytes_eq word (codes "pause") then then_read (number_in 1 3600000000 a) (λ micros. Ok (step.Pause micros))
+    else (if bytes_eq word (codes "pause") then then_read (number_in 1 longest_delay a) (λ micros. Ok (step.Pause micros))
     else (if bytes_eq word (codes "close") then then_read (channel_in (parts_at 33 a)) (λ c. Ok (step.Close c))
     else (if bytes_eq word (codes "open") then then_read (channel_in (parts_at 33 a)) (λ c. Ok (step.Open c))
     else Err BadStep)))
 
 abbrev pub step_with_two : List ℕ → List ℕ → List ℕ → Result Step ListFault
 step_with_two word a b =
-    if bytes_eq word (codes "set") then then_read (number_in 0 2 a) (λ k. then_read (number_in 1 100000 b) (λ n. Ok (step.Set k n)))
+    if bytes_eq word (codes "set") then then_read (number_in 0 2 a) (λ k. then_read (number_in 1 most_trigger_count b) (λ n. Ok (step.Set k n)))
     else (if bytes_eq word (codes "loop") then then_read (number_in 0 2 a) (λ k. then_read (number_in 0 8191 b) (λ to. Ok (step.Loop k to)))
     else Err BadStep)
 
@@ -69,7 +70,7 @@ step_in (word ∷ a ∷ b ∷ c ∷ more) = Err BadStep
 
 -- the slot of the meter, by the parts of the second line
 abbrev pub meter_in : List (List ℕ) → Result ℕ ListFault
-meter_in (word ∷ s ∷ []) = if bytes_eq word (codes "meter") then number_in 1 8 s else Err BadStep
+meter_in (word ∷ s ∷ []) = if bytes_eq word (codes "meter") then number_in 1 most_slots s else Err BadStep
 meter_in _ = Err BadStep
 
 -- steps that came before

@@ -2,6 +2,7 @@
 
 ghost use Rattle.std.specs.Prelude.{◌≡◌, ◌≤◌, length, List};
 ghost use Rattle.std.specs.List.{AllByRecursion};
+ghost use Rattle.sw_base.specs.Limits.{most_slots};
 ghost use Rattle.sw_code.specs.Range.{IsStep, IsInRange};
 ghost use Rattle.sw_code.specs.Code.{Unfolds};
 ghost use Rattle.sw_trigger.specs.Agenda.{Item};
@@ -55,7 +56,7 @@ impl Model for Code {
 impl Code {
     /// The code of these steps.
     pub fn new(meter: u8, steps: Vec<Step>) -> Code
-        requires meter { (1 ≤ meter) × (meter ≤ 8) }
+        requires meter { (1 ≤ meter) × (meter ≤ most_slots) }
         requires length { length steps.items ≤ 8192 }
         requires steps { AllByRecursion IsStep steps.items }
         ensures { result ≡ record { meter = meter; steps = steps.items } }

@@ -10,7 +10,7 @@ use crate::code::{Code, Step};
 use crate::fault::{ListError, ListFault};
 use crate::parts::{channel, first_part, is_word, number};
 use std::alloc::Global;
-use sw_base::LayerName;
+use sw_base::{LONGEST_DELAY, LayerName};
 
 /// The last line on which a step may stand: 8,192 of them after the two first lines.
 const LAST_LINE: u32 = 8194;
@@ -163,7 +163,7 @@ fn step_with(word: &[u8], part: &[u8]) -> Result<Step, ListFault>
         return Ok(Step::Wait(layer(part)?));
     }
     if is_word(word, b"pause") {
-        return Ok(Step::Pause(number(part, 1, 3_600_000_000)?));
+        return Ok(Step::Pause(number(part, 1, LONGEST_DELAY)?));
     }
     if is_word(word, b"close") {
         return Ok(Step::Close(channel(part)?));

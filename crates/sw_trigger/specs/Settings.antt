@@ -2,6 +2,8 @@
 -- the room for readings.
 use Rattle.std.specs.Prelude.{ℕ, ◌≤◌, List, [], length}
 use Rattle.sw_base.specs.Layout.{Channel}
+pub use Rattle.sw_base.specs.Limits.{longest_delay}
+use Rattle.sw_base.specs.Limits.{most_slots, most_entries, most_points, most_arm_count, most_trigger_count}
 use Rattle.sw_base.specs.declared.terms.Source.TheVariants.{Immediate}
 use Rattle.sw_base.specs.declared.terms.LayerName.{LayerName}
 use Rattle.sw_base.specs.declared.terms.LayerName.TheVariants.{Arm1, Arm2, Trigger}
@@ -29,25 +31,21 @@ with_layer s Trigger layer = record s { trigger = layer }
 
 -- the greatest count of a layer
 abbrev pub most_of : LayerName → ℕ
-most_of Arm1 = 1000
-most_of Arm2 = 1000
-most_of Trigger = 100000
-
--- the longest delay, an hour in microseconds
-abbrev pub longest_delay : ℕ
-longest_delay = 3600000000
+most_of Arm1 = most_arm_count
+most_of Arm2 = most_arm_count
+most_of Trigger = most_trigger_count
 
 pub record IsLayer (most : ℕ) (layer : Layer) : Type 0 where
   pub count : (1 ≤ layer.count) × (layer.count ≤ most)
   pub delay : layer.delay_us ≤ longest_delay
 
 pub record IsInRange (s : Setup) : Type 0 where
-  pub arm1 : IsLayer 1000 s.arm1
-  pub arm2 : IsLayer 1000 s.arm2
-  pub trigger : IsLayer 100000 s.trigger
-  pub list : length s.list ≤ 512
-  pub meter : (1 ≤ s.meter) × (s.meter ≤ 8)
-  pub points : (1 ≤ s.points) × (s.points ≤ 100000)
+  pub arm1 : IsLayer most_arm_count s.arm1
+  pub arm2 : IsLayer most_arm_count s.arm2
+  pub trigger : IsLayer most_trigger_count s.trigger
+  pub list : length s.list ≤ most_entries
+  pub meter : (1 ≤ s.meter) × (s.meter ≤ most_slots)
+  pub points : (1 ≤ s.points) × (s.points ≤ most_points)
 
 -- a layer at *RST: once, at once
 abbrev pub plain_layer : Layer

@@ -2,16 +2,17 @@
 
 ghost use Rattle.std.specs.Prelude.{◌≡◌, ◌%◌, ◌<◌, ◌≤◌, ◌↔◌, [], length, IsOk, IsTrue, IfOk, IfErr, OnOk, OnErr};
 ghost use Rattle.sw_base.specs.declared.error.ScpiError.TheVariants.{DataOutOfRange, TooMuchData};
-ghost use Rattle.sw_trigger.specs.Settings.{IsInRange, IsLayer, layer_of, with_layer, most_of, longest_delay, at_reset};
+ghost use Rattle.sw_base.specs.Limits.{most_slots, most_entries, most_points, longest_delay};
+ghost use Rattle.sw_trigger.specs.Settings.{IsInRange, IsLayer, layer_of, with_layer, most_of, at_reset};
 ghost use Rattle.sw_trigger.specs.Agenda.{channel_at, used_of};
 
 use crate::layer::Layer;
 use std::alloc::{AllocError, Global};
 use std::marker::Model;
-use sw_base::{Chan, LayerName, ScpiError, Source};
-
-/// The longest delay of a layer, an hour in microseconds.
-const LONGEST_DELAY: u64 = 3_600_000_000;
+use sw_base::{
+    ARM_COUNT, Chan, LIST_ENTRIES, LONGEST_DELAY, LayerName, POINTS, SLOTS, ScpiError, Source,
+    TRIGGER_COUNT,
+};
 
 /// What a scan does: three layers, a list of channels, the slot of its meter and its room for readings.
 ///
@@ -106,12 +107,12 @@ impl Settings {
 
     /// Sets the list of channels, which need not exist; -223 for more than 512, which keeps the old list.
     pub fn set_list(&mut self, list: Vec<Chan>) -> Result<(), ScpiError>
-        ensures taken { IsOk result ↔ (length list.items ≤ 512) }
+        ensures taken { IsOk result ↔ (length list.items ≤ most_entries) }
         ensures set { OnOk result (self.new ≡ record self.old { list = list.items }) }
         ensures kept { OnErr result (self.new ≡ self.old) }
         ensures error { IfErr result (λ e. e ≡ TooMuchData) }
     {
-        if list.len() > 512 {
+        if list.len() > LIST_ENTRIES {
             return Err(ScpiError::TooMuchData);
         }
         self.list = list;
@@ -120,12 +121,12 @@ impl Settings {
 
     /// Sets the slot of the meter; -222 outside 1 to 8.
     pub fn set_meter(&mut self, slot: u8) -> Result<(), ScpiError>
-        ensures taken { IsOk result ↔ (1 ≤ slot) × (slot ≤ 8) }
+        ensures taken { IsOk result ↔ (1 ≤ slot) × (slot ≤ most_slots) }
         ensures set { OnOk result (self.new ≡ record self.old { meter = slot }) }
         ensures kept { OnErr result (self.new ≡ self.old) }
         ensures error { IfErr result (λ e. e ≡ DataOutOfRange) }
     {
-        if slot < 1 || slot > 8 {
+        if slot < 1 || slot > SLOTS {
             return Err(ScpiError::DataOutOfRange);
         }
         self.meter = slot;
@@ -134,12 +135,12 @@ impl Settings {
 
     /// Sets the room for readings; -222 outside 1 to 100,000.
     pub fn set_points(&mut self, points: u32) -> Result<(), ScpiError>
-        ensures taken { IsOk result ↔ (1 ≤ points) × (points ≤ 100000) }
+        ensures taken { IsOk result ↔ (1 ≤ points) × (points ≤ most_points) }
         ensures set { OnOk result (self.new ≡ record self.old { points = points }) }
         ensures kept { OnErr result (self.new ≡ self.old) }
         ensures error { IfErr result (λ e. e ≡ DataOutOfRange) }
     {
-        if points < 1 || points > 100_000 {
+        if points < 1 || points > POINTS {
             return Err(ScpiError::DataOutOfRange);
         }
         self.points = points;
@@ -253,7 +254,7 @@ fn most(name: LayerName) -> u32
     ensures { result ≡ most_of name }
 {
     match name {
-        LayerName::Arm1 | LayerName::Arm2 => 1000,
-        LayerName::Trigger => 100_000,
+        LayerName::Arm1 | LayerName::Arm2 => ARM_COUNT,
+        LayerName::Trigger => TRIGGER_COUNT,
     }
 }

@@ -20,7 +20,7 @@ use Rattle.sw_verify.specs.declared.nest.Frame.{Frame}
 use Rattle.sw_verify.specs.Channels.{Channels, none, with_channel, without}
 use Rattle.sw_verify.specs.Sound.{AllRight, effect, CanClose, IsSound}
 use Rattle.sw_verify.specs.Nest.{in_use, at_loop, fault_in, StepsRight}
-use Rattle.sw_verify.proofs.Round.{effect-append, round-awaits, round-passes, round-arm2_turn, round-arm1_turn, round-agenda, sound_exactly}
+use Rattle.sw_verify.proofs.Round.{effect-append, round-passes, round-arm2_turn, round-arm1_turn, round-agenda, sound_exactly}
 
 fault_item : (x : Item) (steps : List Step) (pc : ℕ) (fs : List Frame) → fault_in (step_of x ∷ steps) pc fs ≡ fault_in steps (pc + 1) fs
 fault_item (Awaits (Wait name)) steps pc fs = refl

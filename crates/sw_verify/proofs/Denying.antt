@@ -1,13 +1,11 @@
 -- What settings that pass the check compile to is refused for want of memory alone.
-use Rattle.std.proofs.Common.{◌≡◌, ℕ, ◌<◌, ◌≤◌, true, false, List, [], Option, Some, None, Result, Ok, Err, IfErr, IsErr, IsErrAnd, sym, ap, ◌∙◌, subst, arith, ◌⊎◌, inl, inr, ⊎_elim}
+use Rattle.std.proofs.Common.{◌≡◌, ℕ, ◌<◌, ◌≤◌, true, false, List, [], Some, None, Result, Ok, Err, IfErr, IsErr, IsErrAnd, sym, ap, ◌∙◌, subst, arith, ⊎_elim}
 use Rattle.std.proofs.lemmas.Bool.{both_ways}
 use Rattle.sw_base.specs.Layout.{Layout, has_meter}
 use Rattle.sw_trigger.specs.Agenda.{Item, agenda}
 use Rattle.sw_trigger.specs.Counts.{reads}
-use Rattle.sw_code.specs.declared.code.Step.{Step}
 use Rattle.sw_code.specs.Range.{Program, IsInRange}
 use Rattle.sw_code.specs.Code.{Unfolds}
-use Rattle.sw_code.specs.Compiled.{compiled}
 use Rattle.sw_code.proofs.Compiled.{compiled_unfolds}
 use Rattle.sw_code.proofs.Unfolding.{unfolds_once}
 use Rattle.sw_verify.specs.declared.refusal.Refusal.{Refusal}

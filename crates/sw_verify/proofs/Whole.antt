@@ -17,7 +17,6 @@ use Rattle.sw_base.specs.Layout.{Channel, Layout}
 use Rattle.sw_trigger.specs.Counts.{awaiting, reads}
 use Rattle.sw_base.specs.Layout.{has_meter}
 use Rattle.sw_code.specs.Range.{Program, IsStep, IsInRange}
-use Rattle.sw_verify.specs.Channels.{is_among}
 use Rattle.sw_verify.specs.Judged.{HasCounts, IsVerified}
 use Rattle.sw_verify.specs.Sound.{AllRight, effect, IsSound}
 use Rattle.sw_code.specs.Tree.{Tree, Nil, Then, Times, step_of, size, flatten, meaning, IsNested}

@@ -1,11 +1,13 @@
 -- What rows of flags tell of the closed channels.
-use Rattle.std.specs.Prelude.{◌≡◌, ℕ, ◌/◌, ◌%◌, ◌<◌, Bool, true, false, ◌||◌, ◌&&◌, ◌==◌, not, List, [], ◌∷◌, length, slice_index_or}
+use Rattle.std.specs.Prelude.{◌≡◌, ℕ, ◌/◌, ◌%◌, ◌<◌, Bool, true, false, ◌||◌, ◌&&◌, ◌==◌, not}
+use Rattle.std.specs.Prelude.{List, [], ◌∷◌, length, slice_index_or}
 use Rattle.sw_base.specs.Layout.{Channel, Layout, group_of, IsClash}
 use Rattle.sw_verify.specs.declared.ledger.Ledger.{Ledger}
 use Rattle.sw_verify.specs.Channels.{Channels}
 use Rattle.sw_verify.specs.Marks.{place, IsChannel}
 
--- Of the closed channels b, those that the code closed are m, and the row has m's flags; the others were closed at the start.
+-- Of the closed channels b, those that the code closed are m, and the row has m's flags; the others were closed at the
+-- start.
 pub record Tells (start b m : Channels) (row : List Bool) : Type 0 where
   pub split : (x : Channel) → (b x ≡ (start x || m x)) × (m x ≡ true → start x ≡ false)
   pub range : (x : Channel) → m x ≡ true → IsChannel x
@@ -15,8 +17,12 @@ pub record Tells (start b m : Channels) (row : List Bool) : Type 0 where
 -- a group's flag is set exactly where a closed channel is of it
 pub record GroupsTell (layout : Layout) (b : Channels) (row : List Bool) : Type 0 where
   pub size : length row ≡ 256
-  pub set : (x : Channel) → b x ≡ true → 0 < group_of layout x → group_of layout x < 256 → slice_index_or row (group_of layout x) false ≡ true
-  pub found : (g : ℕ) → 0 < g → g < 256 → slice_index_or row g false ≡ true → (x : Channel) × (b x ≡ true) × (group_of layout x ≡ g)
+  pub set :
+      (x : Channel) → b x ≡ true → 0 < group_of layout x → group_of layout x < 256
+      → slice_index_or row (group_of layout x) false ≡ true
+  pub found :
+      (g : ℕ) → 0 < g → g < 256 → slice_index_or row g false ≡ true
+      → (x : Channel) × (b x ≡ true) × (group_of layout x ≡ g)
 
 -- the ledger of the closed channels b; no closed channel clashes with one that the code closed
 pub record Shows (layout : Layout) (start b m : Channels) (l : Ledger) : Type 0 where
@@ -29,7 +35,8 @@ pub record Shows (layout : Layout) (start b m : Channels) (l : Ledger) : Type 0 
 -- the channel at this place is closed, or its group, which is not 0, is taken
 abbrev pub is_taken : Ledger → ℕ → ℕ → Bool
 is_taken l at group =
-    slice_index_or l.found at false || (slice_index_or l.mine at false || (not (group == 0) && slice_index_or l.groups group false))
+    slice_index_or l.found at false
+    || (slice_index_or l.mine at false || (not (group == 0) && slice_index_or l.groups group false))
 
 -- the rows of the channels that the code had closed where the open loops began
 abbrev pub AreSaved : Channels → List (Channels × Channels) → List (List Bool) → Type 0

@@ -1,5 +1,6 @@
 -- What the verifier looks at, each step once.
-use Rattle.std.specs.Prelude.{◌≡◌, ℕ, ◌+◌, ◌*◌, ◌<◌, ◌≤◌, ◌==◌, Bool, true, false, not, List, [], ◌∷◌, Option, Some, None, if◌then◌else◌}
+use Rattle.std.specs.Prelude.{◌≡◌, ℕ, ◌+◌, ◌*◌, ◌<◌, ◌≤◌, ◌==◌, Bool, true, false, not, List, [], ◌∷◌}
+use Rattle.std.specs.Prelude.{Option, Some, None, if◌then◌else◌}
 use Rattle.std.specs.List.{list_any}
 use Rattle.sw_base.specs.Layout.{Layout}
 use Rattle.sw_code.specs.declared.code.Step.{Step}
@@ -23,12 +24,15 @@ at_halt (o ∷ steps) fs = Some BadNesting
 
 abbrev pub at_loop : ℕ → ℕ → List Frame → (List Frame → Option Refusal) → Option Refusal
 at_loop k to [] go = Some BadNesting
-at_loop k to (f ∷ fs) go = if not (k == f.counter) then Some BadNesting else (if not (to == f.start) then Some BadJump else go fs)
+at_loop k to (f ∷ fs) go =
+    if not (k == f.counter) then Some BadNesting else (if not (to == f.start) then Some BadJump else go fs)
 
 -- the first fault of the steps from this number on, with these loops open, the innermost first
 abbrev pub fault_in : List Step → ℕ → List Frame → Option Refusal
 fault_in [] pc fs = Some BadNesting
-fault_in (step.Set k n ∷ steps) pc fs = if in_use fs k then Some BadNesting else fault_in steps (pc + 1) (record { counter = k; count = n; start = pc + 1 } ∷ fs)
+fault_in (step.Set k n ∷ steps) pc fs =
+    if in_use fs k then Some BadNesting
+    else fault_in steps (pc + 1) (record { counter = k; count = n; start = pc + 1 } ∷ fs)
 fault_in (step.Wait name ∷ steps) pc fs = fault_in steps (pc + 1) fs
 fault_in (step.Pause micros ∷ steps) pc fs = fault_in steps (pc + 1) fs
 fault_in (step.Close c ∷ steps) pc fs = fault_in steps (pc + 1) fs
@@ -50,7 +54,8 @@ AreCounted (step.Loop k to ∷ steps) = AreCounted steps
 AreCounted (step.Halt ∷ steps) = AreCounted steps
 
 -- the closed sets where the open loops began
-abbrev pub LoopIsRound : Channels → Channels → List (Channels × Channels) → (List (Channels × Channels) → Type 0) → Type 0
+abbrev pub LoopIsRound :
+    Channels → Channels → List (Channels × Channels) → (List (Channels × Channels) → Type 0) → Type 0
 LoopIsRound b m [] go = ⊥
 LoopIsRound b m (s ∷ ss) go = (b ≡ s.0) × (m ≡ s.1) × go ss
 
@@ -60,7 +65,8 @@ StepsRight layout [] b m ss = Unit {0}
 StepsRight layout (step.Set k n ∷ steps) b m ss = StepsRight layout steps b m ((b, m) ∷ ss)
 StepsRight layout (step.Wait name ∷ steps) b m ss = StepsRight layout steps b m ss
 StepsRight layout (step.Pause micros ∷ steps) b m ss = StepsRight layout steps b m ss
-StepsRight layout (step.Close c ∷ steps) b m ss = CanClose layout b c × StepsRight layout steps (with_channel c b) (with_channel c m) ss
+StepsRight layout (step.Close c ∷ steps) b m ss =
+    CanClose layout b c × StepsRight layout steps (with_channel c b) (with_channel c m) ss
 StepsRight layout (step.Read ∷ steps) b m ss = StepsRight layout steps b m ss
 StepsRight layout (step.Open c ∷ steps) b m ss = (m c ≡ true) × StepsRight layout steps (without c b) (without c m) ss
 StepsRight layout (step.Loop k to ∷ steps) b m ss = LoopIsRound b m ss (StepsRight layout steps b m)
@@ -102,7 +108,8 @@ abbrev pub limited_loop : List ℕ → (ℕ → List ℕ → Type 0) → Type 0
 limited_loop [] go = ⊥
 limited_loop (g ∷ gs) go = Limited g × go g gs
 
--- each step is done at most 10^15 times, f times the one that comes next, and as often as these what follows the ends of the loops
+-- Each step is done at most 10^15 times. The next one is done f times, and what follows the ends of the open loops as
+-- often as gs says
 abbrev pub AreLimited : List Step → ℕ → List ℕ → Type 0
 AreLimited [] f gs = Unit {0}
 AreLimited (step.Set k n ∷ steps) f gs = Limited (f * n) × AreLimited steps (f * n) (f ∷ gs)

@@ -18,7 +18,8 @@ AllRight layout closed mine [] = Unit {0}
 AllRight layout closed mine (Awaits what ∷ items) = AllRight layout closed mine items
 AllRight layout closed mine (Close c ∷ items) =
     CanClose layout closed c × AllRight layout (with_channel c closed) (with_channel c mine) items
-AllRight layout closed mine (Open c ∷ items) = (mine c ≡ true) × AllRight layout (without c closed) (without c mine) items
+AllRight layout closed mine (Open c ∷ items) =
+    (mine c ≡ true) × AllRight layout (without c closed) (without c mine) items
 
 -- the closed set after the items
 abbrev pub effect : Channels → List Item → Channels

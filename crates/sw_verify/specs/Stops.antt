@@ -12,10 +12,12 @@ use Rattle.sw_verify.specs.Check.{IsBlocked}
 -- the channel is absent; or it is there, and is closed or of a closed channel's group
 abbrev pub IsBarred : Layout → Channels → Channel → Refusal → Type 0
 IsBarred layout b c r =
-    ((is_present layout c ≡ false) × (r ≡ NoChannel)) ⊎ ((is_present layout c ≡ true) × IsBlocked layout b c × (r ≡ GroupClash))
+    ((is_present layout c ≡ false) × (r ≡ NoChannel))
+    ⊎ ((is_present layout c ≡ true) × IsBlocked layout b c × (r ≡ GroupClash))
 
 -- a loop's body ends with another closed set than it began with, or it does not and what follows stops
-abbrev pub LoopStops : Channels → Channels → List (Channels × Channels) → Refusal → (List (Channels × Channels) → Type 0) → Type 0
+abbrev pub LoopStops :
+    Channels → Channels → List (Channels × Channels) → Refusal → (List (Channels × Channels) → Type 0) → Type 0
 LoopStops b m [] r go = r ≡ LeftClosed
 LoopStops b m (s ∷ ss) r go = (((b ≡ s.0) × (m ≡ s.1) → ⊥) × (r ≡ LeftClosed)) ⊎ ((b ≡ s.0) × (m ≡ s.1) × go ss)
 

@@ -1,7 +1,8 @@
 //! Which cards stand in the slots of the cage.
 
 ghost use Rattle.std.specs.Prelude.{◌≡◌, ◌↔◌, ℕ, List, Some, None, IsTrue, IfSome, IfNone};
-ghost use Rattle.sw_base.specs.Layout.{relays, meter, bay_has, bay_group, bay_is_meter, slot_at, is_present, group_of, has_meter};
+ghost use Rattle.sw_base.specs.Layout.{relays, meter, bay_has, bay_group, bay_is_meter, slot_at};
+ghost use Rattle.sw_base.specs.Layout.{is_present, group_of, has_meter};
 
 use std::marker::Model;
 use sw_base::Chan;

@@ -23,7 +23,8 @@ pub fn look(
     closed: &[Chan],
     steps: &[Step],
 ) -> Result<Option<Refusal>, AllocError>
-    ensures right { IfOk result (λ wrong. IfNone wrong (StepsRight layout.now steps.now (is_among closed.now) none [])) }
+    ensures right { IfOk result (λ wrong. IfNone wrong (
+        StepsRight layout.now steps.now (is_among closed.now) none [])) }
     ensures stops { IfOk result (λ wrong. IfSome wrong (λ r.
         StopsBy layout.now r steps.now (is_among closed.now) none [])) }
 {

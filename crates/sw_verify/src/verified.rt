@@ -72,8 +72,8 @@ impl Verified {
     }
 }
 
-/// The code with its counts, where it may be done with these cards, while these channels are closed and there is room for
-/// so many readings; else the first refusal that applies.
+/// The code with its counts, where it may be done with these cards, while these channels are closed and there is room
+/// for so many readings; else the first refusal that applies.
 ///
 /// It visits each step once, however often the loops make it.
 pub fn verify(

@@ -1,4 +1,4 @@
-use Rattle.std.proofs.Common.{◌≡◌, true, ap, sym, ◌∙◌, List, Bool}
+use Rattle.std.proofs.Common.{ap, sym, ◌∙◌, List, Bool}
 use Rattle.std.specs.Cmp.Lexicographic.{pointwise}
 use mathlib.Core.Bool.{beq}
 use Rattle.sw_verify.proofs.Rows.{same_rows, row_self}

@@ -1,6 +1,5 @@
 use Rattle.std.proofs.Common.{◌≡◌, ◌≤◌, ◌<◌, [], List, refl, ap, sym, ◌∙◌, subst, arith, inl, inr}
 use Rattle.sw_code.specs.declared.code.Step.{Step}
-use Rattle.sw_verify.specs.declared.refusal.Refusal.{Refusal}
 use Rattle.sw_verify.specs.declared.refusal.Refusal.TheVariants.{NoMemory}
 use Rattle.sw_verify.specs.Channels.{is_among}
 use Rattle.sw_verify.specs.Nest.{AreLimited, tally, every, is_read}

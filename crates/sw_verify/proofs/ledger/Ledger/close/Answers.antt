@@ -1,8 +1,8 @@
-use Rattle.std.proofs.Common.{◌≡◌, ◌<◌, true, false, ap, sym, ◌∙◌, arith, inl, inr}
+use Rattle.std.proofs.Common.{◌≡◌, ◌<◌, true, false, ap, sym, ◌∙◌, arith}
 use Rattle.sw_base.specs.Layout.{is_present, group_of}
 use Rattle.sw_verify.specs.Marks.{place}
 use Rattle.sw_verify.specs.Ledger.{is_taken}
-use Rattle.sw_verify.proofs.Ledgers.{free_can, taken_blocked, shows_with}
+use Rattle.sw_verify.proofs.Ledgers.{free_can, shows_with}
 use Rattle.sw_verify.proofs.ledger.Ledger.close.Goals as goal
 
 pub returns-clause-closed : goal.returns-clause-closed
