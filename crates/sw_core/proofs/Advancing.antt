@@ -231,7 +231,7 @@ completes p from q at x e same count u g =
     let i = at.index + 1 in
     let nil = place_nil s i g.runs.arrives.0 in
     let moved : is_closed q.cards ≡ effect (is_closed from.cards) (moves_from s i) = ap (λ (b : Occupancy). is_closed b.cards) g.runs.arrives.1
-        ∙ fun_ext g.runs.moved.closed in
+    ∙ fun_ext g.runs.moved.closed in
     let rest : effect (is_closed from.cards) (moves_from s i) ≡ effect (is_closed from.cards) (drop i (agenda s)) =
     ap (λ (l : List Item). effect (effect (is_closed from.cards) (moves_from s i)) l) (sym nil) ∙ effect_next (is_closed from.cards) s i in
     let passed : length from.readings ≡ reads (take i (agenda s)) = omega (arith, count, u.readings, reads_past s at.index x e) in
@@ -254,7 +254,7 @@ faults p from q at x e count u g = record {
 ends_goes : (off : Bool) (p from q : CageSeen) (at : ScanSeen) (x : Awaited) (told : TakenSeen) → awaits at ≡ Some x → SameClosed p from
     → length from.readings ≡ length p.readings + is_reading x
     → (told ≡ SaysFault → off ≡ true) → IsUnderway p at → Advances from at.setup (at.index + 1) told q → q.scan ≡ None → Completed p at 1 q
-        ⊎ ((off ≡ true) × Stopped at q)
+    ⊎ ((off ≡ true) × Stopped at q)
 ends_goes off p from q at x SaysIgnored e same count fault u g over = absurd g.runs.arrives
 ends_goes off p from q at x SaysWaits e same count fault u g over = absurd (some_is q _ g.runs.arrives.2 over)
 ends_goes off p from q at x (SaysPause t m) e same count fault u g over = absurd (some_is q _ g.runs.arrives.3 over)
@@ -318,7 +318,7 @@ own_reading done r e own = subst (λ (o : Result Reading CardFault). IfOk o (λ 
 -- a meter's return that the scan takes
 move_counted : (a : AnswerView) (p q : Panel) (done : FinishedSeen) (told : TakenSeen) (scan : Option ScanSeen) (outcome : Result Reading CardFault)
     → (told ≡ SaysFault → breaks_off (AskFinished done) a ≡ true) → done.outcome ≡ outcome → p.cage.scan ≡ scan
-        → TakesReturnThere p.cage.number scan done.slot done.ticket
+    → TakesReturnThere p.cage.number scan done.slot done.ticket
     → SameClosed p.cage (with_back p.cage done) → Counts (with_back p.cage done) outcome told q.cage → Moves (AskFinished done) a p 1 q
 move_counted a p q done told None outcome fault oc is h same g = absurd h
 move_counted a p q done told (Some at) (Ok r) fault oc is h same g =

@@ -59,11 +59,11 @@ bound_either true p sid available f text q h = absurd h.worn
 bound_either false p sid available f text q h =
     let ask = Ask.Unit sid command.BoundQuery available in
     bound_admitted (drops p sid ask) (shuts_out p sid ask) p sid available f text h.done h.acts.1
-        ∙ ap (λ (s : Setup). decimal (bound_of s)) (sym (ap (λ (x : Panel). x.settings) h.after))
+    ∙ ap (λ (s : Setup). decimal (bound_of s)) (sym (ap (λ (x : Panel). x.settings) h.after))
 
 bound_step : (p q : Panel) (ask : AskView) (f : Bool) (answer : AnswerView) (sid : Sid) (available : Bool) (text : List ℕ)
     → ask ≡ AskSession (Ask.Unit sid command.BoundQuery available) → answer ≡ SaysSession (Done (Some text)) None → Step p ask f answer q
-        → text ≡ decimal (bound_of q.settings)
+    → text ≡ decimal (bound_of q.settings)
 bound_step p q ask f answer sid available text e r h =
     let there = AskSession (Ask.Unit sid command.BoundQuery available) in
     bound_either ((p.events == last_number) && not (acts_unnumbered there)) p sid available f text q

@@ -44,8 +44,8 @@ meter_once m m' e =
     let failures = ap (λ (a : Account). a.failures) e in
     let last = some_eq m.last m'.last (ap (λ (a : Account). a.last) e) in
     ap (λ (x : ℕ). let r : MeterAccount = record { serial = x; failures = m.failures; last = m.last } in r) serial
-        ∙ ap (λ (x : ℕ). let r : MeterAccount = record { serial = m'.serial; failures = x; last = m.last } in r) failures
-        ∙ ap (λ (x : Option Reading). let r : MeterAccount = record { serial = m'.serial; failures = m'.failures; last = x } in r) last
+    ∙ ap (λ (x : ℕ). let r : MeterAccount = record { serial = m'.serial; failures = x; last = m.last } in r) failures
+    ∙ ap (λ (x : Option Reading). let r : MeterAccount = record { serial = m'.serial; failures = m'.failures; last = x } in r) last
 
 sent_once : (old : Occupancy) (slot : ℕ) (ticket : Ticket) (j j' : JobSeen) (new new' : Occupancy) → IsSent old slot ticket j new
     → IsSent old slot ticket j' new' → (j ≡ j') × (new ≡ new')
@@ -117,7 +117,7 @@ reported : (p q q' : Panel) (told told' : TakenSeen) (cleared : StatusSeen) → 
     → q' ≡ record p { cage = q'.cage; status = if tells_fault told' then card_fault_reported p.status else cleared } → q ≡ q'
 reported p q q' told told' cleared t c e f =
     e ∙ ap (λ (x : CageSeen). told_cage p x (if tells_fault told then card_fault_reported p.status else cleared)) c
-        ∙ ap (λ (x : TakenSeen). told_cage p q'.cage (if tells_fault x then card_fault_reported p.status else cleared)) t ∙ sym f
+    ∙ ap (λ (x : TakenSeen). told_cage p q'.cage (if tells_fault x then card_fault_reported p.status else cleared)) t ∙ sym f
 
 abbrev pub IsIgnored : Panel → Happening → TakenSeen → Panel → Type 0
 IsIgnored p happening told q = (told ≡ SaysIgnored) × (Takes p.cage happening → ⊥) × (q ≡ p)

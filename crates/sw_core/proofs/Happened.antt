@@ -35,7 +35,7 @@ pub happened : (p : Panel) (h : Happening) (told : TakenSeen) (cage : CageSeen) 
     → ((Takes p.cage h → ⊥) → (told ≡ SaysIgnored) × (cage ≡ p.cage)) → (Takes p.cage h → AdvancesPast p.cage told cage)
     → ((told ≡ SaysIgnored → ⊥) → Takes p.cage h)
     → s ≡ (if tells_fault told then card_fault_reported p.status else p.status)
-        → Happens p h (any_failed p.cage.cards cage.cards) told (record p { cage = cage; status = s })
+    → Happens p h (any_failed p.cage.cards cage.cards) told (record p { cage = cage; status = s })
 happened p h SaysIgnored cage s ignored taken takes e =
     let none : Takes p.cage h → ⊥ = λ t. never_ignored p.cage cage p.cage.scan (taken t) in
     let same : cage ≡ p.cage = (ignored none).1 in
@@ -78,7 +78,7 @@ returned p done SaysFault cage s ignored taken takes e =
 -- and what is answered
 pub return_answered : (p : Panel) (done : FinishedSeen) (told : TakenSeen) (cage : CageSeen) (s : StatusSeen) (answer : AnswerView) → IsOut p done
     → Returns p done (failed_in (AskFinished done) (outside_told told) p.cage.cards cage.cards) told (record p { cage = cage; status = s })
-        → answer ≡ outside_told told
+    → answer ≡ outside_told told
     → StepFinished p done (failed_in (AskFinished done) answer p.cage.cards cage.cards) answer (record p { cage = cage; status = s })
 return_answered p done told cage s answer out h e =
     subst (λ (a : AnswerView). StepFinished p done (failed_in (AskFinished done) a p.cage.cards cage.cards) a (record p { cage = cage; status = s })) (sym e) (by_told told h)

@@ -75,7 +75,7 @@ move_told ask p happening error f a w q quiet h =
 
 move_effect : (ask : SessionAsk) (d : Effect) (p : Panel) (f : Bool) (a : SessionAnswer) (w : Option WorkView) (q : Panel)
     → IsStillEffect (breaks_off (AskSession ask) (SaysSession (Done None) None)) p d → StepEffect d p f a w q
-        → Moves (AskSession ask) (SaysSession a w) p (took_effect d a) q
+    → Moves (AskSession ask) (SaysSession a w) p (took_effect d a) q
 move_effect ask (Offers happening error) p f a w q n h = move_told ask p happening error f a w q n h
 move_effect ask d p f a w q n h =
     subst (λ (v : Option WorkView). Moves (AskSession ask) (SaysSession a v) p (took_effect d a) q) (sym h.1) (move_still (AskSession ask) (SaysSession a None) p q (still_alone ask d p f a q n h.0))
@@ -113,7 +113,7 @@ move_waiting false d p ask f a w q n h = move_effect ask d p f a w q n h
 
 move_action : (x : Action) (p : Panel) (ask : SessionAsk) (f : Bool) (a : SessionAnswer) (w : Option WorkView) (q : Panel)
     → IsStillAction (breaks_off (AskSession ask) (SaysSession (Done None) None)) p x → StepAction x p ask f a w q
-        → Moves (AskSession ask) (SaysSession a w) p (took_command x a) q
+    → Moves (AskSession ask) (SaysSession a w) p (took_command x a) q
 move_action (AtOnce d) p ask f a w q n h = move_effect ask d p f a w q n h
 move_action (BetweenScans d) p ask f a w q n h = move_barred ask (is_running p) d p f a w q n h
 move_action (AfterScan d) p ask f a w q n h = move_waiting (is_running p) d p ask f a w q n h

@@ -129,7 +129,7 @@ stopped_rest p q slot f card run h =
     let e = event_of p (AskEject slot) f (SaysEjected card) q (λ w. w) h in
     let fell : stopped p.cage ≡ safe_state p.cage = ap (λ (b : Bool). if b then safe_state p.cage else p.cage) run in
     let cage : q.cage ≡ without_card (safe_state p.cage) slot = ap (λ (x : Panel). x.cage) e.after ∙ ap (λ (x : Panel). x.cage) e.acts.3
-        ∙ ap (λ (x : CageSeen). without_card x slot) fell in
+    ∙ ap (λ (x : CageSeen). without_card x slot) fell in
     let r : (0 < slot) × (slot ≤ length p.cage.cards) = rest_slot p.cage.cards slot card e.acts.2 in
     record {
       none = λ c. ap (λ (x : CageSeen). is_closed x.cards c) cage

@@ -115,7 +115,7 @@ begun_by p q plan f told k e h =
           let r = leaves_goes (occupancy_of (begun p.cage)) (occupancy_of q.cage) (p.cage.number + 1) p.settings 0 told q.cage.scan at h.3.runs is in
           let all : effect (is_closed p.cage.cards) (agenda p.settings) ≡ is_among plan.closed =
           ap (λ (b : Channels). effect b (agenda p.settings)) found ∙ ap (λ (s : Setup). effect (is_among plan.closed) (agenda s)) (sym settings)
-              ∙ fun_ext h.2.sound.back in
+          ∙ fun_ext h.2.sound.back in
           (r.0 ∙ sym settings, r.1 ∙ all);
     }
 
@@ -206,7 +206,7 @@ follows plan start end b h (Some at) e r =
     let left = drop at.index (agenda at.setup) in
     let found : r.way.found ≡ leaves end.cage.cards at =
     sym (fun_ext r.way.sound.back) ∙ ap (effect r.way.found) (sym (take-append-drop at.index (agenda at.setup))) ∙ effect-append r.way.found done left
-        ∙ ap (λ (m : Channels). effect m left) (sym r.way.so_far) in
+    ∙ ap (λ (m : Channels). effect m left) (sym r.way.so_far) in
     let whole : r.way.found ≡ is_among plan.closed = found ∙ old.3 ∙ first.1 in
     let now : is_closed end.cage.cards ≡ effect (is_among plan.closed) (take at.index (agenda plan.settings)) =
     r.way.so_far ∙ ap (λ (m : Channels). effect m done) whole ∙ ap (λ (s : Setup). effect (is_among plan.closed) (take at.index (agenda s))) same in
@@ -238,7 +238,7 @@ over_by : (plan : Snapshot) (p q : Panel) (taken : ℕ) (e : Event) (at : ScanSe
     → Completed p.cage at (took e.ask e.answer) q.cage ⊎ ((breaks_off e.ask e.answer ≡ true) × Stopped at q.cage) → IsOver plan taken e
 over_by plan p q taken e at s u is h =
     let all : (n : ℕ)
-        → reads (take n (agenda at.setup)) ≤ plan.settings.points = λ (n : ℕ). subst (λ (x : Setup). reads (take n (agenda at.setup)) ≤ x.points) s.settings (omega (arith, u.way.sound.fits, reads_part at.setup n)) in
+    → reads (take n (agenda at.setup)) ≤ plan.settings.points = λ (n : ℕ). subst (λ (x : Setup). reads (take n (agenda at.setup)) ≤ x.points) s.settings (omega (arith, u.way.sound.fits, reads_part at.setup n)) in
     subst (λ (x : Panel). IsComplete plan (taken + took e.ask e.answer) x ⊎ ((breaks_off e.ask e.answer ≡ true) × IsBrokenOff plan x)) (sym is) (by_end all h)
   where
     by_end : ((n : ℕ) → reads (take n (agenda at.setup)) ≤ plan.settings.points) → Completed p.cage at (took e.ask e.answer) q.cage
