@@ -1,64 +1,41 @@
 -- Every happening that a scan takes leaves it one less to await, and the same closed at its end.
-use Rattle.std.proofs.Common.{◌≡◌, ℕ, suc, ◌+◌, ◌≤◌, ◌<◌, ◌==◌, ◌&&◌, not, Bool, true, false, List, [], ◌∷◌, ◌++◌, length, take, drop, Option, None, Some, is_some, Result, Ok, Err, ◌⊎◌, inl, inr, refl, ap, sym, subst, ◌∙◌, arith, map}
-use Rattle.std.specs.Prelude.{if◌then◌else◌, decimal, MatchBool, IfSome}
+use Rattle.std.proofs.Common.{◌≡◌, ℕ, suc, ◌+◌, ◌≤◌, ◌<◌, Bool, true, false, List, [], ◌∷◌, length, take, drop, Option, None, Some}
+use Rattle.std.proofs.Common.{is_some, Result, Ok, Err, ◌⊎◌, inl, inr, refl, ap, sym, subst, ◌∙◌, arith}
 use Rattle.std.proofs.lemmas.List.{take-append-drop}
-use Rattle.std.specs.List.{join_with_byte}
-use Rattle.sw_base.specs.Reading.{reading_text}
 use mathlib.Core.Path.{fun_ext}
 use Rattle.sw_base.specs.Layout.{Channel, slot_at}
 use Rattle.sw_base.specs.declared.reading.Reading.{Reading}
-use Rattle.sw_base.specs.declared.error.ScpiError.{ScpiError}
-use Rattle.sw_base.specs.declared.error.ScpiError.TheVariants.{UndefinedHeader, DataCorruptOrStale, OutOfMemory, TriggerIgnored, HardwareMissing, SettingsConflict, HardwareError}
-use Rattle.sw_base.specs.declared.terms.LayerName.TheVariants as layer_name
 use Rattle.sw_card.specs.declared.board.CardFault.{CardFault}
-use Rattle.sw_lex.specs.declared.command.Command.{Command}
 use Rattle.sw_trigger.specs.declared.layer.Awaited.{Awaited}
 use Rattle.sw_trigger.specs.declared.layer.Awaited.TheVariants.{Read}
 use Rattle.sw_trigger.specs.Settings.{Setup}
 use Rattle.sw_trigger.specs.Agenda.{Item, Awaits, Close, Open, agenda}
-use Rattle.sw_trigger.specs.Counts.{awaiting, bound_of, reads}
-use Rattle.sw_status.specs.StatusModel.{StatusSeen}
-use Rattle.sw_verify.specs.declared.snapshot.Snapshot.{Snapshot}
-use Rattle.sw_verify.specs.Channels.{Channels, is_among}
+use Rattle.sw_trigger.specs.Counts.{awaiting, reads}
 use Rattle.sw_verify.specs.Sound.{effect}
-use Rattle.sw_verify.proofs.Round.{effect-append}
 use Rattle.sw_cage.specs.Accounts.{is_closed}
-use Rattle.sw_cage.specs.Channels.{closed_list}
-use Rattle.sw_cage.specs.Cage.{ScanSeen, CageSeen, safe_state, ticket_of}
-use Rattle.sw_cage.specs.Install.{stopped}
-use Rattle.sw_cage.specs.Good.{IsRunning, IsHeld, MeterStands}
+use Rattle.sw_cage.specs.Cage.{ScanSeen, CageSeen, ticket_of}
+use Rattle.sw_cage.specs.Good.{IsHeld}
 use Rattle.sw_cage.specs.Advance.{leading_moves, first_awaited, moves_from, next_place, awaits}
 use Rattle.sw_cage.specs.Takes.{TakesIf, TakesThere, TakesReturnThere}
 use Rattle.sw_cage.specs.Work.{FinishedSeen}
 use Rattle.sw_cage.specs.TakenSeen.{TakenSeen, SaysIgnored, SaysWaits, SaysPause, SaysJob, SaysEnded, SaysFault}
 use Rattle.sw_cage.specs.declared.job.Ticket.{Ticket}
 use Rattle.sw_cage.specs.declared.taken.Happening.{Happening}
-use Rattle.sw_cage.specs.declared.taken.Happening.TheVariants.{Bus, External, Elapsed}
-use Rattle.sw_cage.specs.Outcome.{Occupancy, occupancy_of, Arrives, AdvancesOrFails, Advances, AdvancesPastFrom, Counts, begun, with_back, with_reading}
-use Rattle.sw_core.specs.declared.ask.Sid.{Sid}
-use Rattle.sw_core.specs.declared.ask.SessionAsk.{SessionAsk}
-use Rattle.sw_core.specs.declared.ask.SessionAsk.TheVariants as Ask
-use Rattle.sw_core.specs.declared.ask.SessionAnswer.{SessionAnswer}
-use Rattle.sw_core.specs.declared.ask.SessionAnswer.TheVariants as answers
-use Rattle.sw_core.specs.declared.ask.SessionAnswer.TheVariants.{Joined, Full, Stranger, Broken, Done, Refused, Hold, Worn}
-use Rattle.sw_core.specs.Panel.{Panel, opening_at, is_running}
-use Rattle.sw_core.specs.Step.{StepClose, StepOpen, StepFlags, StepText, StepDone, StepSetting, StepRefused, StepReadings, StepAlone, StepEffect, StepHeld, StepAction, Happens, session_told, StepHappens, StepSnapshot, Starts, StepStart, started_answer, IsServed, StepJoined, StepAdmitted, drops, shuts_out, StepJoin, StepAttach, StepSession, outside_told, StepOutside, Returns, StepFinished, Acts, acts_unnumbered, IsWorn, IsEvent, IsUnnumbered, Step}
-use Rattle.sw_cage.proofs.SlotChangeLemmas.{some_slot, is_none}
+use Rattle.sw_cage.specs.Outcome.{Occupancy, occupancy_of, Arrives, AdvancesOrFails, Advances, AdvancesPastFrom, Counts, with_back, with_reading}
+use Rattle.sw_core.specs.Panel.{Panel}
+use Rattle.sw_core.specs.Step.{Happens}
+use Rattle.sw_core.specs.Step.{Returns}
+use Rattle.sw_cage.proofs.SlotChangeLemmas.{some_slot}
 use Rattle.sw_cage.proofs.AdvanceLemmas.{closed_back}
-use Rattle.sw_cage.proofs.ClosedMemberLemmas.{among_closed}
-use Rattle.sw_core.proofs.Course.{drop_past, leaves, leaves_goes, Holds, SameClosed, same_rack, holds_same, holds_none, holds_goes, holds_on}
-use Rattle.sw_core.specs.View.{WorkView, AskView, AskSession, AskInstall, AskEject, AskExternal, AskElapsed, AskFinished, AnswerView, SaysSession, SaysInstalled, SaysNotInstalled, SaysEjected, SaysNotEjected, SaysTaken, SaysMissed, SaysFailed, SaysBack, SaysWorn}
+use Rattle.sw_core.proofs.Course.{drop_past, leaves, Holds, SameClosed, holds_same, holds_none, holds_goes}
+use Rattle.sw_core.specs.View.{AskView, AskFinished, AnswerView}
 use Rattle.std.proofs.lemmas.List.{length-append}
 use Rattle.std.specs.Prelude.{IfOk}
 use Rattle.sw_core.specs.Ends.{left_at, left_of, left_in}
 use Rattle.sw_trigger.specs.declared.layer.Awaited.TheVariants.{Wait, Pause}
-use Rattle.std.proofs.lemmas.List.{append-nil}
-use Rattle.std.specs.Prelude.{◌||◌}
 use Rattle.sw_trigger.specs.Counts.{is_reading}
 use Rattle.sw_trigger.proofs.Awaiting.{reads-append}
-use Rattle.sw_cage.specs.Outcome.{Moved, readings_with}
 use Rattle.sw_cage.specs.Good.{IsUnderway}
-use Rattle.sw_cage.specs.Accounts.{Accounts, all_open}
 use Rattle.sw_cage.proofs.SlotChangeLemmas.{all_open_closed}
 use Rattle.sw_cage.proofs.UnderwayLemmas.{reads_way, reads_past}
 use Rattle.sw_core.specs.View.{IsOwnAccount}
@@ -91,19 +68,24 @@ lead_ends (Open c ∷ l) e = lead_ends l e
 
 -- one awaited item is passed
 pub left_past : (at : ScanSeen) (x : Awaited) → awaits at ≡ Some x → left_at at ≡ suc (length (awaiting (drop (at.index + 1) (agenda at.setup))))
-left_past at x e = awaited_first (drop at.index (agenda at.setup)) x e ∙ ap (λ (l : List Item). suc (length (awaiting l))) (sym (drop_past at.index 1 (agenda at.setup)))
+left_past at x e =
+    awaited_first (drop at.index (agenda at.setup)) x e ∙ ap (λ (l : List Item). suc (length (awaiting l))) (sym (drop_past at.index 1 (agenda at.setup)))
 
 -- and the next is come to
 pub left_next : (s : Setup) (i : ℕ) → left_at (next_place s i) ≡ length (awaiting (drop i (agenda s)))
-left_next s i = ap (λ (l : List Item). length (awaiting l)) (drop_past i (length (moves_from s i)) (agenda s)) ∙ ap (λ (l : List Awaited). length l) (lead_awaits (drop i (agenda s)))
+left_next s i =
+    ap (λ (l : List Item). length (awaiting l)) (drop_past i (length (moves_from s i)) (agenda s))
+    ∙ ap (λ (l : List Awaited). length l) (lead_awaits (drop i (agenda s)))
 
 left_none : (s : Setup) (i : ℕ) → awaits (next_place s i) ≡ None → length (awaiting (drop i (agenda s))) ≡ 0
-left_none s i e = ap (λ (l : List Awaited). length l) (lead_ends (drop i (agenda s)) (ap first_awaited (sym (drop_past i (length (moves_from s i)) (agenda s))) ∙ e))
+left_none s i e =
+    ap (λ (l : List Awaited). length l) (lead_ends (drop i (agenda s)) (ap first_awaited (sym (drop_past i (length (moves_from s i)) (agenda s))) ∙ e))
 
 -- ---- scans
 
 -- where a scan is that came to the next awaited item from item i on
-pub left_arrives : (old new : Occupancy) (number : ℕ) (s : Setup) (i : ℕ) (told : TakenSeen) (scan : Option ScanSeen) → Arrives old number (next_place s i) told new scan → left_of scan ≡ length (awaiting (drop i (agenda s)))
+pub left_arrives : (old new : Occupancy) (number : ℕ) (s : Setup) (i : ℕ) (told : TakenSeen) (scan : Option ScanSeen)
+    → Arrives old number (next_place s i) told new scan → left_of scan ≡ length (awaiting (drop i (agenda s)))
 left_arrives old new number s i SaysWaits scan h = ap left_of h.2 ∙ left_next s i
 left_arrives old new number s i (SaysPause ticket micros) scan h = ap left_of h.3 ∙ left_next s i
 left_arrives old new number s i (SaysJob job) scan h = ap left_of h.2 ∙ left_next s i
@@ -114,11 +96,13 @@ left_arrives old new number s i told scan h = absurd h
 abbrev IsLeft : Option ScanSeen → ℕ → Type 0
 IsLeft scan n = (left_of scan ≡ n) ⊎ (scan ≡ None)
 
-left_runs : (old new : Occupancy) (number : ℕ) (s : Setup) (i : ℕ) (told : TakenSeen) (scan : Option ScanSeen) → AdvancesOrFails old number (moves_from s i) (next_place s i) told new scan → IsLeft scan (length (awaiting (drop i (agenda s))))
+left_runs : (old new : Occupancy) (number : ℕ) (s : Setup) (i : ℕ) (told : TakenSeen) (scan : Option ScanSeen)
+    → AdvancesOrFails old number (moves_from s i) (next_place s i) told new scan → IsLeft scan (length (awaiting (drop i (agenda s))))
 left_runs old new number s i SaysFault scan h = inr h.over
 left_runs old new number s i SaysIgnored scan h = inl (left_arrives (record old { cards = h.cards }) new number s i SaysIgnored scan h.arrives)
 left_runs old new number s i SaysWaits scan h = inl (left_arrives (record old { cards = h.cards }) new number s i SaysWaits scan h.arrives)
-left_runs old new number s i (SaysPause ticket micros) scan h = inl (left_arrives (record old { cards = h.cards }) new number s i (SaysPause ticket micros) scan h.arrives)
+left_runs old new number s i (SaysPause ticket micros) scan h =
+    inl (left_arrives (record old { cards = h.cards }) new number s i (SaysPause ticket micros) scan h.arrives)
 left_runs old new number s i (SaysJob job) scan h = inl (left_arrives (record old { cards = h.cards }) new number s i (SaysJob job) scan h.arrives)
 left_runs old new number s i SaysEnded scan h = inl (left_arrives (record old { cards = h.cards }) new number s i SaysEnded scan h.arrives)
 
@@ -130,7 +114,8 @@ pub record Nears (p : Panel) (taken : ℕ) (q : Panel) : Type 0 where
   pub holds : Holds p.cage q.cage
 
 near_same : (p q : Panel) → q.cage.scan ≡ p.cage.scan → SameClosed p.cage q.cage → Nears p 0 q
-near_same p q e r = record { most = omega arith; left = inl (omega (arith, (let n : left_in q ≡ left_in p = ap left_of e in n))); idle = λ i. e ∙ i; holds = holds_same p.cage q.cage e r }
+near_same p q e r =
+    record { most = omega arith; left = inl (omega (arith, (let n : left_in q ≡ left_in p = ap left_of e in n))); idle = λ i. e ∙ i; holds = holds_same p.cage q.cage e r }
 
 pub near_is : (p q : Panel) → q ≡ p → Nears p 0 q
 near_is p q e = near_same p q (ap (λ (x : Panel). x.cage.scan) e) (λ c. ap (λ (x : Panel). is_closed x.cage.cards c) e)
@@ -138,8 +123,10 @@ near_is p q e = near_same p q (ap (λ (x : Panel). x.cage.scan) e) (λ c. ap (λ
 pub near_none : (p q : Panel) → q.cage.scan ≡ None → Nears p 0 q
 near_none p q e = record { most = omega arith; left = inr e; idle = λ i. e; holds = holds_none p.cage q.cage e }
 
-near_goes : (p q : Panel) (from : CageSeen) (at : ScanSeen) (x : Awaited) (told : TakenSeen) → p.cage.scan ≡ Some at → awaits at ≡ Some x → SameClosed p.cage from → Advances from at.setup (at.index + 1) told q.cage → Nears p 1 q
-near_goes p q from at x told is e same g = by_left (length (awaiting (drop (at.index + 1) (agenda at.setup)))) (ap left_of is ∙ left_past at x e) (left_runs (occupancy_of from) (occupancy_of q.cage) from.number at.setup (at.index + 1) told q.cage.scan g.runs)
+near_goes : (p q : Panel) (from : CageSeen) (at : ScanSeen) (x : Awaited) (told : TakenSeen) → p.cage.scan ≡ Some at → awaits at ≡ Some x
+    → SameClosed p.cage from → Advances from at.setup (at.index + 1) told q.cage → Nears p 1 q
+near_goes p q from at x told is e same g =
+    by_left (length (awaiting (drop (at.index + 1) (agenda at.setup)))) (ap left_of is ∙ left_past at x e) (left_runs (occupancy_of from) (occupancy_of q.cage) from.number at.setup (at.index + 1) told q.cage.scan g.runs)
   where
     by_left : (n : ℕ) → left_in p ≡ suc n → IsLeft q.cage.scan n → Nears p 1 q
     by_left n l (inl m) = record { most = omega (arith, l); left = inl (omega (arith, l, m)); idle = λ i. absurd (let r = sym is ∙ i in cc (r)); holds = holds_goes p.cage q.cage from at x told is e same g }
@@ -192,7 +179,8 @@ pub record Moves (ask : AskView) (answer : AnswerView) (p : Panel) (taken : ℕ)
 still_runs : (p q : CageSeen) (at : ScanSeen) → p.scan ≡ Some at → q.scan ≡ p.scan → q.scan ≡ None → ⊥
 still_runs p q at is e over = let n = sym is ∙ sym e ∙ over in cc (n)
 
-pub move_same : (ask : AskView) (a : AnswerView) (p q : Panel) → q.cage.scan ≡ p.cage.scan → SameClosed p.cage q.cage → q.cage.readings ≡ p.cage.readings → Moves ask a p 0 q
+pub move_same : (ask : AskView) (a : AnswerView) (p q : Panel) → q.cage.scan ≡ p.cage.scan → SameClosed p.cage q.cage → q.cage.readings ≡ p.cage.readings
+    → Moves ask a p 0 q
 move_same ask a p q e c r = record {
   near = near_same p q e c;
   ends = λ at is u over. absurd (still_runs p.cage q.cage at is e over);
@@ -200,7 +188,8 @@ move_same ask a p q e c r = record {
 }
 
 pub move_is : (ask : AskView) (a : AnswerView) (p q : Panel) → q ≡ p → Moves ask a p 0 q
-move_is ask a p q e = move_same ask a p q (ap (λ (x : Panel). x.cage.scan) e) (λ c. ap (λ (x : Panel). is_closed x.cage.cards c) e) (ap (λ (x : Panel). x.cage.readings) e)
+move_is ask a p q e =
+    move_same ask a p q (ap (λ (x : Panel). x.cage.scan) e) (λ c. ap (λ (x : Panel). is_closed x.cage.cards c) e) (ap (λ (x : Panel). x.cage.readings) e)
 
 -- no scan ran, and none does
 abbrev pub IsIdle : CageSeen → CageSeen → Type 0
@@ -217,7 +206,8 @@ move_idle ask a p q i = record {
   adds = λ own. inl i.2;
 }
 
-stopped_by : (at : ScanSeen) (p q : CageSeen) → IsUnderway p at → ((c : Channel) → is_closed q.cards c ≡ false) → (q.readings ≡ p.readings) ⊎ (q.readings ≡ []) → Stopped at q
+stopped_by : (at : ScanSeen) (p q : CageSeen) → IsUnderway p at → ((c : Channel) → is_closed q.cards c ≡ false) → (q.readings ≡ p.readings) ⊎ (q.readings ≡ [])
+    → Stopped at q
 stopped_by at p q u none (inl e) = record { none = none; items = at.index; readings = ap (λ (l : List Reading). length l) e ∙ u.readings }
 stopped_by at p q u none (inr e) = record { none = none; items = 0; readings = ap (λ (l : List Reading). length l) e }
 
@@ -233,13 +223,15 @@ move_cut ask a p q h = record {
 some_is : (q : CageSeen) (at : ScanSeen) → q.scan ≡ Some at → q.scan ≡ None → ⊥
 some_is q at e over = let n = sym e ∙ over in cc (n)
 
-completes : (p from q : CageSeen) (at : ScanSeen) (x : Awaited) → awaits at ≡ Some x → SameClosed p from → length from.readings ≡ length p.readings + is_reading x → IsUnderway p at
+completes : (p from q : CageSeen) (at : ScanSeen) (x : Awaited) → awaits at ≡ Some x → SameClosed p from
+    → length from.readings ≡ length p.readings + is_reading x → IsUnderway p at
     → Advances from at.setup (at.index + 1) SaysEnded q → Completed p at 1 q
 completes p from q at x e same count u g =
     let s = at.setup in
     let i = at.index + 1 in
     let nil = place_nil s i g.runs.arrives.0 in
-    let moved : is_closed q.cards ≡ effect (is_closed from.cards) (moves_from s i) = ap (λ (b : Occupancy). is_closed b.cards) g.runs.arrives.1 ∙ fun_ext g.runs.moved.closed in
+    let moved : is_closed q.cards ≡ effect (is_closed from.cards) (moves_from s i) = ap (λ (b : Occupancy). is_closed b.cards) g.runs.arrives.1
+    ∙ fun_ext g.runs.moved.closed in
     let rest : effect (is_closed from.cards) (moves_from s i) ≡ effect (is_closed from.cards) (drop i (agenda s)) =
     ap (λ (l : List Item). effect (effect (is_closed from.cards) (moves_from s i)) l) (sym nil) ∙ effect_next (is_closed from.cards) s i in
     let passed : length from.readings ≡ reads (take i (agenda s)) = omega (arith, count, u.readings, reads_past s at.index x e) in
@@ -259,8 +251,10 @@ faults p from q at x e count u g = record {
   readings = ap (λ (l : List Reading). length l) g.readings ∙ omega (arith, count, u.readings, reads_past at.setup at.index x e);
 }
 
-ends_goes : (off : Bool) (p from q : CageSeen) (at : ScanSeen) (x : Awaited) (told : TakenSeen) → awaits at ≡ Some x → SameClosed p from → length from.readings ≡ length p.readings + is_reading x
-    → (told ≡ SaysFault → off ≡ true) → IsUnderway p at → Advances from at.setup (at.index + 1) told q → q.scan ≡ None → Completed p at 1 q ⊎ ((off ≡ true) × Stopped at q)
+ends_goes : (off : Bool) (p from q : CageSeen) (at : ScanSeen) (x : Awaited) (told : TakenSeen) → awaits at ≡ Some x → SameClosed p from
+    → length from.readings ≡ length p.readings + is_reading x
+    → (told ≡ SaysFault → off ≡ true) → IsUnderway p at → Advances from at.setup (at.index + 1) told q → q.scan ≡ None → Completed p at 1 q
+    ⊎ ((off ≡ true) × Stopped at q)
 ends_goes off p from q at x SaysIgnored e same count fault u g over = absurd g.runs.arrives
 ends_goes off p from q at x SaysWaits e same count fault u g over = absurd (some_is q _ g.runs.arrives.2 over)
 ends_goes off p from q at x (SaysPause t m) e same count fault u g over = absurd (some_is q _ g.runs.arrives.3 over)
@@ -278,7 +272,8 @@ pub record Takes1 (ask : AskView) (answer : AnswerView) (p : CageSeen) (from : C
 same_scan : (p : CageSeen) (at at' : ScanSeen) → p.scan ≡ Some at → p.scan ≡ Some at' → at ≡ at'
 same_scan p at at' e f = let h = sym e ∙ f in cc (h)
 
-pub move_goes : (ask : AskView) (a : AnswerView) (p q : Panel) (from : CageSeen) (at : ScanSeen) (x : Awaited) (told : TakenSeen) → p.cage.scan ≡ Some at → awaits at ≡ Some x
+pub move_goes : (ask : AskView) (a : AnswerView) (p q : Panel) (from : CageSeen) (at : ScanSeen) (x : Awaited) (told : TakenSeen) → p.cage.scan ≡ Some at
+    → awaits at ≡ Some x
     → Takes1 ask a p.cage from x told → Advances from at.setup (at.index + 1) told q.cage → Moves ask a p 1 q
 move_goes ask a p q from at x told is e t g = record {
   near = near_goes p q from at x told is e t.same g;
@@ -287,13 +282,15 @@ move_goes ask a p q from at x told is e t g = record {
   adds = λ own. subst (λ (l : List Reading). AddsOwn ask p.cage.readings l) (sym g.readings) (t.own own);
 }
 
-takes_some : (s : Setup) (present : Ticket) (o : Option Awaited) (happening : Happening) → TakesIf s present o happening → (x : Awaited) × (o ≡ Some x) × (is_reading x ≡ 0)
+takes_some : (s : Setup) (present : Ticket) (o : Option Awaited) (happening : Happening) → TakesIf s present o happening → (x : Awaited) × (o ≡ Some x)
+    × (is_reading x ≡ 0)
 takes_some s present None happening h = absurd h
 takes_some s present (Some (Wait name)) happening h = (Wait name, refl, refl)
 takes_some s present (Some (Pause micros)) happening h = (Pause micros, refl, refl)
 takes_some s present (Some Read) happening h = absurd h
 
-move_past : (ask : AskView) (a : AnswerView) (p q : Panel) (happening : Happening) (told : TakenSeen) (scan : Option ScanSeen) → (told ≡ SaysFault → breaks_off ask a ≡ true)
+move_past : (ask : AskView) (a : AnswerView) (p q : Panel) (happening : Happening) (told : TakenSeen) (scan : Option ScanSeen)
+    → (told ≡ SaysFault → breaks_off ask a ≡ true)
     → p.cage.scan ≡ scan → TakesThere p.cage.number scan happening → AdvancesPastFrom p.cage scan told q.cage → Moves ask a p 1 q
 move_past ask a p q happening told None fault is h g = absurd h
 move_past ask a p q happening told (Some at) fault is h g =
@@ -304,7 +301,8 @@ abbrev pub of_taken : TakenSeen → ℕ
 of_taken SaysIgnored = 0
 of_taken told = 1
 
-pub move_happens : (ask : AskView) (a : AnswerView) (p : Panel) (happening : Happening) (f : Bool) (told : TakenSeen) (q : Panel) → (told ≡ SaysFault → breaks_off ask a ≡ true)
+pub move_happens : (ask : AskView) (a : AnswerView) (p : Panel) (happening : Happening) (f : Bool) (told : TakenSeen) (q : Panel)
+    → (told ≡ SaysFault → breaks_off ask a ≡ true)
     → Happens p happening f told q → Moves ask a p (of_taken told) q
 move_happens ask a p happening f SaysIgnored q fault h = move_is ask a p q h.2
 move_happens ask a p happening f SaysWaits q fault h = move_past ask a p q happening SaysWaits p.cage.scan fault refl h.0 h.1
@@ -319,7 +317,8 @@ own_reading done r e own = subst (λ (o : Result Reading CardFault). IfOk o (λ 
 
 -- a meter's return that the scan takes
 move_counted : (a : AnswerView) (p q : Panel) (done : FinishedSeen) (told : TakenSeen) (scan : Option ScanSeen) (outcome : Result Reading CardFault)
-    → (told ≡ SaysFault → breaks_off (AskFinished done) a ≡ true) → done.outcome ≡ outcome → p.cage.scan ≡ scan → TakesReturnThere p.cage.number scan done.slot done.ticket
+    → (told ≡ SaysFault → breaks_off (AskFinished done) a ≡ true) → done.outcome ≡ outcome → p.cage.scan ≡ scan
+    → TakesReturnThere p.cage.number scan done.slot done.ticket
     → SameClosed p.cage (with_back p.cage done) → Counts (with_back p.cage done) outcome told q.cage → Moves (AskFinished done) a p 1 q
 move_counted a p q done told None outcome fault oc is h same g = absurd h
 move_counted a p q done told (Some at) (Ok r) fault oc is h same g =
@@ -347,7 +346,8 @@ same_back c done k e =
     let b : (0 < done.slot) × (done.slot ≤ length c.out) = some_slot c.out done.slot out in
     closed_back c.cards done.slot done.meter (omega (arith, b.0)) (omega (arith, b.1, k.outs, k.slots)) (k.empty done.slot out)
 
-pub move_returns : (a : AnswerView) (p : Panel) (done : FinishedSeen) (f : Bool) (told : TakenSeen) (q : Panel) → (told ≡ SaysFault → breaks_off (AskFinished done) a ≡ true)
+pub move_returns : (a : AnswerView) (p : Panel) (done : FinishedSeen) (f : Bool) (told : TakenSeen) (q : Panel)
+    → (told ≡ SaysFault → breaks_off (AskFinished done) a ≡ true)
     → SameClosed p.cage (with_back p.cage done) → Returns p done f told q → Moves (AskFinished done) a p (of_taken told) q
 move_returns a p done f SaysIgnored q fault same h =
     move_same (AskFinished done) a p q (ap (λ (x : Panel). x.cage.scan) h.2) (λ c. ap (λ (x : Panel). is_closed x.cage.cards c) h.2 ∙ same c) (ap (λ (x : Panel). x.cage.readings) h.2)

@@ -11,11 +11,12 @@ use Rattle.sw_core.specs.declared.ask.Sid.{Sid}
 use Rattle.sw_core.specs.declared.ask.SessionAsk.{SessionAsk}
 use Rattle.sw_core.specs.declared.ask.SessionAsk.TheVariants as Ask
 use Rattle.sw_core.specs.declared.ask.SessionAnswer.{SessionAnswer}
-use Rattle.sw_core.specs.declared.ask.SessionAnswer.TheVariants.{Joined, Full, Stranger, Broken, Done, Missed, Max, Lock, Info, Snapshot, Refused, Hold, Worn}
+use Rattle.sw_core.specs.declared.ask.SessionAnswer.TheVariants.{Stranger, Done, Refused}
 use Rattle.sw_core.specs.Panel.{Panel, is_running}
 use Rattle.sw_core.specs.Sessions.{IsJoined}
 use Rattle.sw_core.specs.View.{WorkView}
-use Rattle.sw_core.specs.Step.{StepRefused, StepReadings, StepAlone, StepEffect, StepHeld, StepAction, session_told, StepJoined, StepAdmitted, StepSession, drops, shuts_out}
+use Rattle.sw_core.specs.Step.{StepRefused, StepReadings, StepAlone, StepEffect, StepHeld, StepAction, session_told, StepJoined, StepAdmitted, StepSession}
+use Rattle.sw_core.specs.Step.{drops, shuts_out}
 
 -- done, or refused
 abbrev pub IsAnswered : SessionAnswer → Type 0
@@ -75,7 +76,8 @@ barred_answered false e p f a w q h = effect_answered e p f a w q h
 
 -- ---- a joined session is no stranger
 
-known_waiting : (b : Bool) (e : Effect) (p : Panel) (ask : SessionAsk) (f : Bool) (q : Panel) → MatchBool b (StepHeld p ask f Stranger None q) (StepEffect e p f Stranger None q) → ⊥
+known_waiting : (b : Bool) (e : Effect) (p : Panel) (ask : SessionAsk) (f : Bool) (q : Panel)
+    → MatchBool b (StepHeld p ask f Stranger None q) (StepEffect e p f Stranger None q) → ⊥
 known_waiting true e p ask f q h = h
 known_waiting false e p ask f q h = effect_answered e p f Stranger None q h
 

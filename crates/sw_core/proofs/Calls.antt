@@ -1,5 +1,6 @@
 -- What a call on the cage does to the counts of failures, and to the cards.
-use Rattle.std.proofs.Common.{◌≡◌, ℕ, zero, suc, ◌-◌, ◌<◌, ◌||◌, Bool, true, false, List, [], ◌∷◌, Option, None, Some, slice_set, slice_index_or, refl, sym, ◌∙◌, ap, map, is_some, inl, inr, ◌⊎◌}
+use Rattle.std.proofs.Common.{◌≡◌, ℕ, zero, suc, ◌-◌, ◌<◌, ◌||◌, Bool, true, false, List, [], ◌∷◌, Option, None, Some, slice_set, slice_index_or, refl, sym}
+use Rattle.std.proofs.Common.{◌∙◌, ap, map, is_some, inl, inr, ◌⊎◌}
 use Rattle.sw_base.specs.Layout.{Channel, slot_at}
 use Rattle.sw_card.specs.Account.{Account}
 use Rattle.sw_cage.specs.Accounts.{Accounts, all_open, is_closed}
@@ -62,6 +63,7 @@ fallen_cage old mid new r e =
 
 pub failed_ejected : (p : CageSeen) (slot : ℕ) → any_failed p.cards (without_card (stopped p) slot).cards ≡ false
 failed_ejected p slot = elim (cases_some p.scan) [
-  | inl e ↦ ap (λ (b : Bool). any_failed p.cards (without_card (if b then safe_state p else p) slot).cards) e ∙ sym (failed_rest_old p.cards (slice_set (all_open p.cards) (slot - 1) None)) ∙ failed_go (all_open p.cards) (slot - 1)
+  | inl e ↦ ap (λ (b : Bool). any_failed p.cards (without_card (if b then safe_state p else p) slot).cards) e
+      ∙ sym (failed_rest_old p.cards (slice_set (all_open p.cards) (slot - 1) None)) ∙ failed_go (all_open p.cards) (slot - 1)
   | inr e ↦ ap (λ (b : Bool). any_failed p.cards (without_card (if b then safe_state p else p) slot).cards) e ∙ failed_go p.cards (slot - 1)
 ]

@@ -47,8 +47,10 @@ effect_first b (Awaits w ∷ l) x e = refl
 effect_first b (Close c ∷ l) x e = absurd (cc (e))
 effect_first b (Open c ∷ l) x e = absurd (cc (e))
 
-pub effect_next : (b : Channels) (s : Setup) (i : ℕ) → effect (effect b (moves_from s i)) (drop (i + length (moves_from s i)) (agenda s)) ≡ effect b (drop i (agenda s))
-effect_next b s i = ap (λ (l : List Item). effect (effect b (moves_from s i)) l) (drop_past i (length (moves_from s i)) (agenda s)) ∙ effect_lead b (drop i (agenda s))
+pub effect_next : (b : Channels) (s : Setup) (i : ℕ)
+    → effect (effect b (moves_from s i)) (drop (i + length (moves_from s i)) (agenda s)) ≡ effect b (drop i (agenda s))
+effect_next b s i =
+    ap (λ (l : List Item). effect (effect b (moves_from s i)) l) (drop_past i (length (moves_from s i)) (agenda s)) ∙ effect_lead b (drop i (agenda s))
 
 -- ---- moves
 
@@ -56,7 +58,8 @@ effect_next b s i = ap (λ (l : List Item). effect (effect b (moves_from s i)) l
 abbrev IsCome : Accounts → Channels → Setup → ℕ → ScanSeen → Type 0
 IsCome rack b s i at = (at.setup ≡ s) × (leaves rack at ≡ effect b (drop i (agenda s)))
 
-come : (old mid new : Accounts) (s : Setup) (i : ℕ) (scan : Option ScanSeen) (at : ScanSeen) → Moved old (moves_from s i) mid → is_closed new ≡ is_closed mid → scan ≡ Some (next_place s i) → scan ≡ Some at → IsCome new (is_closed old) s i at
+come : (old mid new : Accounts) (s : Setup) (i : ℕ) (scan : Option ScanSeen) (at : ScanSeen) → Moved old (moves_from s i) mid → is_closed new ≡ is_closed mid
+    → scan ≡ Some (next_place s i) → scan ≡ Some at → IsCome new (is_closed old) s i at
 come old mid new s i scan at m e f g =
     let there : next_place s i ≡ at = let h = sym f ∙ g in cc (h) in
     let here : IsCome new (is_closed old) s i (next_place s i) = (refl, ap (λ (b : Channels). effect b (drop (i + length (moves_from s i)) (agenda s))) (e ∙ fun_ext m.closed) ∙ effect_next (is_closed old) s i) in
@@ -66,18 +69,23 @@ bay_closed : (old new : Occupancy) → new ≡ old → is_closed new.cards ≡ i
 bay_closed old new e = ap (λ (b : Occupancy). is_closed b.cards) e
 
 -- a meter that leaves closes and opens nothing
-sent_closed : (old : Occupancy) (slot : ℕ) (ticket : Ticket) (job : JobSeen) (new : Occupancy) → IsSent old slot ticket job new → is_closed new.cards ≡ is_closed old.cards
+sent_closed : (old : Occupancy) (slot : ℕ) (ticket : Ticket) (job : JobSeen) (new : Occupancy) → IsSent old slot ticket job new
+    → is_closed new.cards ≡ is_closed old.cards
 sent_closed old slot ticket job new h =
     let b : (0 < slot) × (slot ≤ length old.cards) = some_slot old.cards slot (ap (λ o. is_some o) h.meter) in
     ap (λ (x : Occupancy). is_closed x.cards) h.after ∙ fun_ext (closed_sent old.cards slot job.meter (omega (arith, b.0)) b.1 h.meter)
 
 -- where a scan comes to it leaves closed what it would have before
-pub leaves_goes : (old new : Occupancy) (number : ℕ) (s : Setup) (i : ℕ) (told : TakenSeen) (scan : Option ScanSeen) (at : ScanSeen) → AdvancesOrFails old number (moves_from s i) (next_place s i) told new scan → scan ≡ Some at → IsCome new.cards (is_closed old.cards) s i at
+pub leaves_goes : (old new : Occupancy) (number : ℕ) (s : Setup) (i : ℕ) (told : TakenSeen) (scan : Option ScanSeen) (at : ScanSeen)
+    → AdvancesOrFails old number (moves_from s i) (next_place s i) told new scan → scan ≡ Some at → IsCome new.cards (is_closed old.cards) s i at
 leaves_goes old new number s i SaysFault scan at h e = absurd (let n = sym h.over ∙ e in cc (n))
 leaves_goes old new number s i SaysIgnored scan at h e = absurd h.arrives
-leaves_goes old new number s i SaysWaits scan at h e = come old.cards h.cards new.cards s i scan at h.moved (bay_closed (record old { cards = h.cards }) new h.arrives.1) h.arrives.2 e
-leaves_goes old new number s i (SaysPause ticket micros) scan at h e = come old.cards h.cards new.cards s i scan at h.moved (bay_closed (record old { cards = h.cards }) new h.arrives.2) h.arrives.3 e
-leaves_goes old new number s i (SaysJob job) scan at h e = come old.cards h.cards new.cards s i scan at h.moved (sent_closed (record old { cards = h.cards }) _ _ job new h.arrives.1) h.arrives.2 e
+leaves_goes old new number s i SaysWaits scan at h e =
+    come old.cards h.cards new.cards s i scan at h.moved (bay_closed (record old { cards = h.cards }) new h.arrives.1) h.arrives.2 e
+leaves_goes old new number s i (SaysPause ticket micros) scan at h e =
+    come old.cards h.cards new.cards s i scan at h.moved (bay_closed (record old { cards = h.cards }) new h.arrives.2) h.arrives.3 e
+leaves_goes old new number s i (SaysJob job) scan at h e =
+    come old.cards h.cards new.cards s i scan at h.moved (sent_closed (record old { cards = h.cards }) _ _ job new h.arrives.1) h.arrives.2 e
 leaves_goes old new number s i SaysEnded scan at h e = absurd (let n = sym h.arrives.2 ∙ e in cc (n))
 
 -- ---- one cage and a later one
@@ -99,13 +107,15 @@ pub holds_none : (p q : CageSeen) → q.scan ≡ None → Holds p q
 holds_none p q e at i = absurd (let n = sym e ∙ i in cc (n))
 
 -- past what it awaits a scan would leave the same closed
-pub past_closed : (p from : CageSeen) (at : ScanSeen) (x : Awaited) → awaits at ≡ Some x → SameClosed p from → effect (is_closed from.cards) (drop (at.index + 1) (agenda at.setup)) ≡ leaves p.cards at
+pub past_closed : (p from : CageSeen) (at : ScanSeen) (x : Awaited) → awaits at ≡ Some x → SameClosed p from
+    → effect (is_closed from.cards) (drop (at.index + 1) (agenda at.setup)) ≡ leaves p.cards at
 past_closed p from at x e same =
     ap (λ (b : Channels). effect b (drop (at.index + 1) (agenda at.setup))) (fun_ext same)
     ∙ ap (λ (l : List Item). effect (is_closed p.cards) l) (drop_past at.index 1 (agenda at.setup))
     ∙ effect_first (is_closed p.cards) (drop at.index (agenda at.setup)) x e
 
-pub holds_goes : (p q from : CageSeen) (at : ScanSeen) (x : Awaited) (told : TakenSeen) → p.scan ≡ Some at → awaits at ≡ Some x → SameClosed p from → Advances from at.setup (at.index + 1) told q → Holds p q
+pub holds_goes : (p q from : CageSeen) (at : ScanSeen) (x : Awaited) (told : TakenSeen) → p.scan ≡ Some at → awaits at ≡ Some x → SameClosed p from
+    → Advances from at.setup (at.index + 1) told q → Holds p q
 holds_goes p q from at x told is e same g new i =
     let r = leaves_goes (occupancy_of from) (occupancy_of q) from.number at.setup (at.index + 1) told q.scan new g.runs i in
     (at, is, r.0, r.1 ∙ past_closed p from at x e same)

@@ -11,7 +11,8 @@ use Rattle.sw_core.specs.declared.ask.SessionAnswer.TheVariants.{Worn}
 use Rattle.sw_core.specs.Seats.{asker_of}
 use Rattle.sw_core.specs.Panel.{Panel}
 use Rattle.sw_core.specs.Event.{concluded, last_number}
-use Rattle.sw_core.specs.View.{WorkView, AskView, AskSession, AskInstall, AskEject, AskExternal, AskElapsed, AskFinished, AnswerView, SaysSession, SaysInstalled, SaysNotInstalled, SaysEjected, SaysNotEjected, SaysFailed, SaysBack, SaysWorn}
+use Rattle.sw_core.specs.View.{WorkView, AskView, AskSession, AskInstall, AskEject, AskExternal, AskElapsed, AskFinished, AnswerView, SaysSession}
+use Rattle.sw_core.specs.View.{SaysInstalled, SaysNotInstalled, SaysEjected, SaysNotEjected, SaysFailed, SaysBack, SaysWorn}
 use Rattle.sw_core.specs.Step.{outside_told, StepOutside, IsOut, IsReturned, StepFinished, Acts, acts_unnumbered, IsWorn, IsEvent, IsUnnumbered, Step}
 use Rattle.sw_core.specs.Run.{IsPlain, KeepsKey}
 use Rattle.sw_core.proofs.Going.{happens_once, returns_once}
@@ -25,7 +26,8 @@ outside_whole a told n e f =
     let g : a ≡ SaysFailed = e ∙ ap (λ (x : TakenSeen). outside_told x) f in
     subst (λ (x : AnswerView). IsPlain x) g n
 
-outside_once : (p : Panel) (happening : Happening) (f f' : Bool) (a a' : AnswerView) (q q' : Panel) → IsPlain a → IsPlain a' → StepOutside p happening f a q → StepOutside p happening f' a' q' → IsOnce a a' q q'
+outside_once : (p : Panel) (happening : Happening) (f f' : Bool) (a a' : AnswerView) (q q' : Panel) → IsPlain a → IsPlain a' → StepOutside p happening f a q
+    → StepOutside p happening f' a' q' → IsOnce a a' q q'
 outside_once p happening f f' a a' q q' n m h k =
     let r = happens_once p q q' happening f f' h.told k.told h.happens k.happens (outside_whole a h.told n h.answer_is) (outside_whole a' k.told m k.answer_is) in
     (h.answer_is ∙ ap (λ (x : TakenSeen). outside_told x) r.0 ∙ sym k.answer_is, r.1)
@@ -33,11 +35,13 @@ outside_once p happening f f' a a' q q' n m h k =
 abbrev pub IsBack : Panel → FinishedSeen → AnswerView → Panel → Type 0
 IsBack p done a q = (IsOut p done → ⊥) × (a ≡ SaysBack) × (q ≡ p)
 
-finished_as : (p : Panel) (done : FinishedSeen) (f : Bool) (a : AnswerView) (q : Panel) → StepFinished p done f a q → IsBack p done a q ⊎ IsReturned p done f a q
+finished_as : (p : Panel) (done : FinishedSeen) (f : Bool) (a : AnswerView) (q : Panel) → StepFinished p done f a q → IsBack p done a q
+    ⊎ IsReturned p done f a q
 finished_as p done f SaysBack q h = inl (h.1, refl, h.2)
 finished_as p done f a q h = inr h
 
-finished_once : (p : Panel) (done : FinishedSeen) (f f' : Bool) (a a' : AnswerView) (q q' : Panel) → IsPlain a → IsPlain a' → StepFinished p done f a q → StepFinished p done f' a' q' → IsOnce a a' q q'
+finished_once : (p : Panel) (done : FinishedSeen) (f f' : Bool) (a a' : AnswerView) (q q' : Panel) → IsPlain a → IsPlain a' → StepFinished p done f a q
+    → StepFinished p done f' a' q' → IsOnce a a' q q'
 finished_once p done f f' a a' q q' n m h k = elim (finished_as p done f a q h) [
   | inl x ↦ elim (finished_as p done f' a' q' k) [ inl y ↦ (x.1 ∙ sym y.1, both p q q' x.2 y.2) | inr y ↦ absurd (x.0 y.out) ]
   | inr x ↦ elim (finished_as p done f' a' q' k) [
@@ -46,26 +50,30 @@ finished_once p done f f' a a' q q' n m h k = elim (finished_as p done f a q h) 
   ]
 ]
 
-acts_once : (p q q' : Panel) (ask : AskView) (f f' : Bool) (a a' : AnswerView) → Acts p ask f a q → Acts p ask f' a' q' → IsPlain a → IsPlain a' → KeepsKey p ask a → KeepsKey p ask a' → (a ≡ a') × (q ≡ q')
+acts_once : (p q q' : Panel) (ask : AskView) (f f' : Bool) (a a' : AnswerView) → Acts p ask f a q → Acts p ask f' a' q' → IsPlain a → IsPlain a'
+    → KeepsKey p ask a → KeepsKey p ask a' → (a ≡ a') × (q ≡ q')
 acts_once p q q' (AskSession ask) f f' (SaysSession a w) (SaysSession a' w') h k n m kx ky =
     let r = session_once (asker_of ask) p ask f f' a a' w w' q q' (plain_any a w None n) (plain_any a' w' None m) kx ky h k in
     (ap (λ (x : SessionAnswer). SaysSession x w) r.0 ∙ ap (λ (x : Option WorkView). SaysSession a' x) r.1, r.2)
 acts_once p q q' (AskInstall slot card) f f' SaysInstalled SaysInstalled h k n m kx ky = (refl, h.4 ∙ sym k.4)
 acts_once p q q' (AskInstall slot card) f f' SaysInstalled (SaysNotInstalled r) h k n m kx ky = absurd (install_apart p slot card r h.1 h.2 h.3 k.1)
 acts_once p q q' (AskInstall slot card) f f' (SaysNotInstalled r) SaysInstalled h k n m kx ky = absurd (install_apart p slot card r k.1 k.2 k.3 h.1)
-acts_once p q q' (AskInstall slot card) f f' (SaysNotInstalled r) (SaysNotInstalled r') h k n m kx ky = (ap SaysNotInstalled (install_once p slot card r r' h.1 k.1), both p q q' h.2 k.2)
+acts_once p q q' (AskInstall slot card) f f' (SaysNotInstalled r) (SaysNotInstalled r') h k n m kx ky =
+    (ap SaysNotInstalled (install_once p slot card r r' h.1 k.1), both p q q' h.2 k.2)
 acts_once p q q' (AskEject slot) f f' (SaysEjected c) (SaysEjected c') h k n m kx ky =
     let e : Some c ≡ Some c' = sym h.2 ∙ k.2 in
     (let d : c ≡ c' = cc in ap SaysEjected d, h.3 ∙ sym k.3)
 acts_once p q q' (AskEject slot) f f' (SaysEjected c) (SaysNotEjected r) h k n m kx ky = absurd (eject_apart p slot c r h.1 h.2 k.1)
 acts_once p q q' (AskEject slot) f f' (SaysNotEjected r) (SaysEjected c) h k n m kx ky = absurd (eject_apart p slot c r k.1 k.2 h.1)
-acts_once p q q' (AskEject slot) f f' (SaysNotEjected r) (SaysNotEjected r') h k n m kx ky = (ap SaysNotEjected (eject_once p slot r r' h.1 k.1), both p q q' h.2 k.2)
+acts_once p q q' (AskEject slot) f f' (SaysNotEjected r) (SaysNotEjected r') h k n m kx ky =
+    (ap SaysNotEjected (eject_once p slot r r' h.1 k.1), both p q q' h.2 k.2)
 acts_once p q q' AskExternal f f' a a' h k n m kx ky = outside_once p External f f' a a' q q' n m h k
 acts_once p q q' (AskElapsed ticket) f f' a a' h k n m kx ky = outside_once p (Elapsed ticket) f f' a a' q q' n m h k
 acts_once p q q' (AskFinished done) f f' a a' h k n m kx ky = finished_once p done f f' a a' q q' n m h k
 acts_once p q q' ask f f' a a' h k n m kx ky = absurd (assumption (h, k))
 
-event_once : (p q q' : Panel) (ask : AskView) (f f' : Bool) (a a' : AnswerView) → IsEvent p ask f a q → IsEvent p ask f' a' q' → IsPlain a → IsPlain a' → KeepsKey p ask a → KeepsKey p ask a' → (a ≡ a') × (q ≡ q')
+event_once : (p q q' : Panel) (ask : AskView) (f f' : Bool) (a a' : AnswerView) → IsEvent p ask f a q → IsEvent p ask f' a' q' → IsPlain a → IsPlain a'
+    → KeepsKey p ask a → KeepsKey p ask a' → (a ≡ a') × (q ≡ q')
 event_once p q q' ask f f' a a' h k n m kx ky =
     let r = acts_once p h.done k.done ask f f' a a' h.acts k.acts n m kx ky in
     (r.0, h.after ∙ ap (λ (x : Panel). concluded a x) r.1 ∙ ap (λ (b : AnswerView). concluded b k.done) r.0 ∙ sym k.after)
@@ -79,9 +87,11 @@ worn_once (AskElapsed ticket) SaysWorn SaysWorn h k = refl
 worn_once (AskFinished done) SaysWorn SaysWorn h k = refl
 worn_once ask a a' h k = absurd (assumption (h, k))
 
-either_once : (b : Bool) (p q q' : Panel) (ask : AskView) (f f' : Bool) (a a' : AnswerView) → MatchBool b (IsUnnumbered p ask f a q) (IsEvent p ask f a q) → MatchBool b (IsUnnumbered p ask f' a' q') (IsEvent p ask f' a' q') → IsPlain a → IsPlain a' → KeepsKey p ask a → KeepsKey p ask a' → (a ≡ a') × (q ≡ q')
+either_once : (b : Bool) (p q q' : Panel) (ask : AskView) (f f' : Bool) (a a' : AnswerView) → MatchBool b (IsUnnumbered p ask f a q) (IsEvent p ask f a q)
+    → MatchBool b (IsUnnumbered p ask f' a' q') (IsEvent p ask f' a' q') → IsPlain a → IsPlain a' → KeepsKey p ask a → KeepsKey p ask a' → (a ≡ a') × (q ≡ q')
 either_once true p q q' ask f f' a a' h k n m kx ky = (worn_once ask a a' h.worn k.worn, both p q q' h.same k.same)
 either_once false p q q' ask f f' a a' h k n m kx ky = event_once p q q' ask f f' a a' h k n m kx ky
 
-pub step_once : (p q q' : Panel) (ask : AskView) (f f' : Bool) (a a' : AnswerView) → Step p ask f a q → Step p ask f' a' q' → IsPlain a → IsPlain a' → KeepsKey p ask a → KeepsKey p ask a' → (a ≡ a') × (q ≡ q')
+pub step_once : (p q q' : Panel) (ask : AskView) (f f' : Bool) (a a' : AnswerView) → Step p ask f a q → Step p ask f' a' q' → IsPlain a → IsPlain a'
+    → KeepsKey p ask a → KeepsKey p ask a' → (a ≡ a') × (q ≡ q')
 step_once p q q' ask f f' a a' h k n m kx ky = either_once ((p.events == last_number) && not (acts_unnumbered ask)) p q q' ask f f' a a' h k n m kx ky

@@ -1,5 +1,6 @@
 -- A good mainframe stays good, and so is each event of a run.
-use Rattle.std.proofs.Common.{◌≡◌, ◌≢◌, ℕ, ◌==◌, ◌&&◌, ◌||◌, not, Bool, true, false, List, [], ◌∷◌, Option, None, Some, Result, Ok, Err, is_err, refl, sym, ◌∙◌, ap, subst, inl, inr, ◌⊎◌, arith}
+use Rattle.std.proofs.Common.{◌≡◌, ◌≢◌, ℕ, ◌==◌, ◌&&◌, ◌||◌, not, Bool, true, false, List, [], ◌∷◌, Option, None, Some, Result, Ok, Err, is_err, refl, sym, ◌∙◌}
+use Rattle.std.proofs.Common.{ap, subst, inl, inr, ◌⊎◌}
 use Rattle.std.specs.Prelude.{MatchBool, decimal, OnErr, IfSome}
 use Rattle.sw_base.specs.declared.reading.Reading.{Reading}
 use Rattle.sw_card.specs.declared.board.CardFault.{CardFault}
@@ -7,19 +8,17 @@ use Rattle.sw_lex.specs.declared.command.Command.TheVariants as command
 use Rattle.sw_trigger.specs.Settings.{Setup}
 use Rattle.sw_trigger.specs.Counts.{bound_of}
 use Rattle.sw_cage.specs.Accounts.{Accounts}
-use Rattle.sw_cage.specs.Cage.{ScanSeen, CageSeen}
+use Rattle.sw_cage.specs.Cage.{ScanSeen}
 use Rattle.sw_cage.specs.Change.{any_failed}
 use Rattle.sw_cage.specs.Work.{FinishedSeen}
 use Rattle.sw_core.specs.declared.ask.Sid.{Sid}
-use Rattle.sw_core.specs.declared.ask.SessionAsk.{SessionAsk}
 use Rattle.sw_core.specs.declared.ask.SessionAsk.TheVariants as Ask
-use Rattle.sw_core.specs.declared.ask.SessionAnswer.TheVariants.{Done, Refused}
-use Rattle.sw_core.specs.Panel.{Panel, opening_at, is_running}
-use Rattle.sw_core.specs.View.{AskView, AskSession, AskInstall, AskEject, AskExternal, AskElapsed, AskFinished, AnswerView, SaysSession, SaysInstalled, SaysNotInstalled}
-use Rattle.sw_core.specs.View.{SaysEjected, SaysNotEjected, SaysTaken, SaysMissed, SaysFailed, SaysBack, SaysWorn, failed_in, IsOwnAccount, with_meter}
-use Rattle.sw_core.specs.Action.{action_of}
-use Rattle.sw_core.specs.Event.{concluded, last_number}
-use Rattle.sw_core.specs.Step.{Step, StepAdmitted, StepJoined, IsEvent, IsUnnumbered, IsWorn, acts_unnumbered, drops, shuts_out}
+use Rattle.sw_core.specs.declared.ask.SessionAnswer.TheVariants.{Done}
+use Rattle.sw_core.specs.Panel.{Panel, opening_at}
+use Rattle.sw_core.specs.View.{AskView, AskSession, AskInstall, AskEject, AskExternal, AskElapsed, AskFinished, AnswerView, SaysSession}
+use Rattle.sw_core.specs.View.{SaysFailed, failed_in, IsOwnAccount, with_meter}
+use Rattle.sw_core.specs.Event.{last_number}
+use Rattle.sw_core.specs.Step.{Step, StepAdmitted, IsEvent, IsUnnumbered, acts_unnumbered, drops, shuts_out}
 use Rattle.sw_core.specs.Good.{IsGoodPanel, StaysGood}
 use Rattle.sw_core.specs.Run.{Event, IsNext, IsRun, AtEach, TellsBound, tells_failure, HasFailed, AddsOwn, IsGoodEvent, EveryRunIsGood}
 use Rattle.sw_core.specs.Ends.{begins}
@@ -59,10 +58,12 @@ bound_either : (b : Bool) (p : Panel) (sid : Sid) (available f : Bool) (text : L
 bound_either true p sid available f text q h = absurd h.worn
 bound_either false p sid available f text q h =
     let ask = Ask.Unit sid command.BoundQuery available in
-    bound_admitted (drops p sid ask) (shuts_out p sid ask) p sid available f text h.done h.acts.1 ∙ ap (λ (s : Setup). decimal (bound_of s)) (sym (ap (λ (x : Panel). x.settings) h.after))
+    bound_admitted (drops p sid ask) (shuts_out p sid ask) p sid available f text h.done h.acts.1
+    ∙ ap (λ (s : Setup). decimal (bound_of s)) (sym (ap (λ (x : Panel). x.settings) h.after))
 
 bound_step : (p q : Panel) (ask : AskView) (f : Bool) (answer : AnswerView) (sid : Sid) (available : Bool) (text : List ℕ)
-    → ask ≡ AskSession (Ask.Unit sid command.BoundQuery available) → answer ≡ SaysSession (Done (Some text)) None → Step p ask f answer q → text ≡ decimal (bound_of q.settings)
+    → ask ≡ AskSession (Ask.Unit sid command.BoundQuery available) → answer ≡ SaysSession (Done (Some text)) None → Step p ask f answer q
+    → text ≡ decimal (bound_of q.settings)
 bound_step p q ask f answer sid available text e r h =
     let there = AskSession (Ask.Unit sid command.BoundQuery available) in
     bound_either ((p.events == last_number) && not (acts_unnumbered there)) p sid available f text q
@@ -89,7 +90,8 @@ failed_finished done SaysFailed old new own t h = or_counted done done.outcome (
 failed_finished done (SaysSession a w) old new own t h = or_counted done done.outcome (any_failed (with_meter old done) new) own.counted h
 failed_finished done a old new own t h = absurd (cc (t))
 
-has_failed : (ask : AskView) (a : AnswerView) (old new : Accounts) → IsOwnAccount ask → tells_failure a ≡ true → failed_in ask a old new ≡ true → HasFailed ask old new
+has_failed : (ask : AskView) (a : AnswerView) (old new : Accounts) → IsOwnAccount ask → tells_failure a ≡ true → failed_in ask a old new ≡ true
+    → HasFailed ask old new
 has_failed (AskFinished done) a old new own t h = failed_finished done a old new own t h
 has_failed (AskSession ask) a old new own t h = h
 has_failed (AskInstall slot card) a old new own t h = h
@@ -104,7 +106,8 @@ begins_plan : (ask : AskView) (a : AnswerView) → begins ask a ≡ true → (si
 begins_plan (AskSession (Ask.Start sid plan)) a h = (sid, plan, refl)
 begins_plan ask a h = absurd (cc (h))
 
-adds_own : (p q : Panel) (ask : AskView) (f : Bool) (a : AnswerView) → IsFine p → IsOwnAccount ask → Step p ask f a q → AddsOwn ask p.cage.readings q.cage.readings
+adds_own : (p q : Panel) (ask : AskView) (f : Bool) (a : AnswerView) → IsFine p → IsOwnAccount ask → Step p ask f a q
+    → AddsOwn ask p.cage.readings q.cage.readings
 adds_own p q ask f a k own h = by_begins (begins ask a) refl
   where
     by_begins : (b : Bool) → begins ask a ≡ b → AddsOwn ask p.cage.readings q.cage.readings

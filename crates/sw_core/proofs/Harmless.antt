@@ -1,60 +1,29 @@
 -- What each command does leaves the mainframe fine.
-use Rattle.std.proofs.Common.{◌≡◌, ◌≢◌, ℕ, ◌-◌, ◌≤◌, ◌<◌, ◌==◌, ◌&&◌, not, Bool, true, false, List, [], ◌∷◌, length, Option, None, Some, slice_set, refl, sym, ◌∙◌, ap, subst, arith, is_some, zero, suc, nat_lt, slice_index_or, map}
-use Rattle.std.specs.Prelude.{if◌then◌else◌, decimal, MatchBool}
-use Rattle.std.specs.List.{AllByRecursion, join_with_byte}
-use Rattle.sw_base.specs.Reading.{reading_text}
-use Rattle.std.proofs.lemmas.List.{length-map}
-use Rattle.sw_base.specs.Layout.{Channel, slot_at}
-use Rattle.sw_base.specs.declared.reading.Reading.{Reading}
+use Rattle.std.proofs.Common.{◌≡◌, ◌≢◌, Bool, true, false, [], Option, None, sym}
+use Rattle.std.proofs.Common.{subst, arith}
 use Rattle.sw_base.specs.declared.terms.LayerName.{LayerName}
 use Rattle.sw_base.specs.declared.terms.LayerName.TheVariants.{Arm1, Arm2, Trigger}
-use Rattle.sw_base.specs.declared.error.ScpiError.{ScpiError}
-use Rattle.sw_base.specs.declared.error.ScpiError.TheVariants.{UndefinedHeader, TriggerIgnored, ArmIgnored, DataOutOfRange, TooMuchData, DataCorruptOrStale, HardwareMissing, SettingsConflict, HardwareError, OutOfMemory}
-use Rattle.sw_card.specs.Account.{Account, closed_at}
+use Rattle.sw_base.specs.declared.error.ScpiError.TheVariants.{TriggerIgnored, ArmIgnored, DataOutOfRange, TooMuchData}
+use Rattle.sw_base.specs.declared.error.ScpiError.TheVariants.{SettingsConflict, HardwareError}
 use Rattle.sw_lex.specs.declared.command.Command.{Command}
 use Rattle.sw_trigger.specs.declared.layer.Layer.{Layer}
 use Rattle.sw_trigger.specs.Settings.{Setup, IsInRange, IsLayer, layer_of, with_layer, most_of, at_reset}
-use Rattle.sw_verify.specs.declared.snapshot.Snapshot.{Snapshot}
 use Rattle.sw_status.specs.StatusModel.{StatusSeen, IsStatus, group_of, with_group}
-use Rattle.sw_cage.specs.Accounts.{Accounts, layout_of, is_closed, option_closed, all_open, option_rest}
-use Rattle.sw_cage.specs.Change.{Sets}
-use Rattle.sw_cage.specs.Close.{CanClose}
+use Rattle.sw_cage.specs.Accounts.{all_open}
 use Rattle.sw_cage.specs.Cage.{CageSeen, ScanSeen, safe_state}
 use Rattle.sw_cage.specs.Good.{IsRunning}
-use Rattle.sw_cage.specs.Install.{CanInstall, stopped, without_card}
-use Rattle.sw_cage.specs.Outcome.{with_back}
-use Rattle.sw_cage.specs.Work.{FinishedSeen}
-use Rattle.sw_cage.specs.TakenSeen.{TakenSeen, SaysIgnored, SaysWaits, SaysPause, SaysJob, SaysEnded, SaysFault}
-use Rattle.sw_cage.specs.declared.taken.Happening.{Happening}
-use Rattle.sw_cage.specs.declared.taken.Happening.TheVariants.{Bus, External, Elapsed}
-use Rattle.sw_cage.proofs.SlotChangeLemmas.{some_slot, is_none, all_open_closed, exclusive_none, exclusive_quiet, none_slot}
-use Rattle.sw_cage.proofs.ChannelCallLemmas.{identities_all_open, identities_rest}
-use Rattle.sw_cage.proofs.KeptLemmas.{held_set}
-use Rattle.sw_cage.proofs.ExclusionLemmas.{exclusive_closing, exclusive_opening}
-use Rattle.sw_core.specs.declared.ask.Sid.{Sid}
-use Rattle.sw_core.specs.declared.ask.SessionAsk.{SessionAsk}
-use Rattle.sw_core.specs.declared.ask.SessionAsk.TheVariants as Ask
-use Rattle.sw_core.specs.declared.ask.SessionAnswer.{SessionAnswer}
-use Rattle.sw_core.specs.declared.ask.SessionAnswer.TheVariants as answers
-use Rattle.sw_core.specs.declared.ask.SessionAnswer.TheVariants.{Joined, Full, Stranger, Broken, Done, Refused, Hold, Worn}
-use Rattle.sw_core.specs.Panel.{Panel, opening_at, with_cards, is_running}
+use Rattle.sw_cage.proofs.SlotChangeLemmas.{is_none, all_open_closed, exclusive_none}
+use Rattle.sw_cage.proofs.ChannelCallLemmas.{identities_all_open}
+use Rattle.sw_core.specs.Panel.{Panel, is_running}
 use Rattle.sw_core.specs.Action.{Effect, TellsNumber, TellsText, TellsReadings, ReadsOut, SetsStatus, SetsUp, Closes, Opens, TellsRelays, Leaves}
-use Rattle.sw_core.specs.Action.{Resets, reset, Offers, Refuses, IsOfMacros, Initiates, Action, AtOnce, BetweenScans, AfterScan, action_of}
-use Rattle.sw_core.specs.Event.{concluded, session_concluded, last_number}
-use Rattle.sw_core.specs.View.{WorkView, AskView, AskSession, AskInstall, AskEject, AskExternal, AskElapsed, AskFinished, AnswerView, SaysSession, SaysInstalled, SaysNotInstalled, SaysEjected, SaysNotEjected, SaysTaken, SaysMissed, SaysFailed, SaysBack, SaysWorn}
-use Rattle.sw_core.specs.Seats.{asker_of}
-use Rattle.sw_core.specs.Step.{FailsSafe, StepClose, StepOpen, StepFlags, StepText, StepDone, StepSetting, StepRefused, StepReadings, StepAlone, StepEffect, StepHeld, StepAction}
-use Rattle.sw_core.specs.Step.{Happens, MayScan, StepSnapshot, Starts, StepStart, StepJoin, StepAttach, StepNew, IsServed, StepJoined, StepAdmitted, drops, shuts_out, StepSession, StepOutside, IsOut, Returns, StepFinished, Acts, acts_unnumbered, IsEvent, IsUnnumbered, Step}
-use Rattle.std.specs.Prelude.{replicate}
-use Rattle.sw_cage.specs.declared.job.Ticket.{Ticket}
-use Rattle.sw_core.specs.Good.{OptionFew}
-use Rattle.sw_core.proofs.Kept.{IsKept, few_set, kept_rack, kept_over, kept_past, kept_late, kept_counted, kept_begun}
+use Rattle.sw_core.specs.Action.{Resets, Offers, Refuses, IsOfMacros, Initiates, Action, AtOnce, BetweenScans, AfterScan, action_of}
+use Rattle.sw_core.proofs.Kept.{IsKept, kept_rack, kept_over}
 use Rattle.std.specs.Prelude.{IfSome}
 use Rattle.sw_base.specs.declared.terms.StatusGroup.{StatusGroup}
 use Rattle.sw_base.specs.declared.terms.StatusGroup.TheVariants.{Operation, Questionable}
 use Rattle.sw_status.specs.Registers.{GroupSeen, IsGroup}
 use Rattle.sw_status.specs.Laws.{KeepsBit15Clear}
-use Rattle.sw_status.proofs.Limits.{group-kept, status-kept, status-start}
+use Rattle.sw_status.proofs.Limits.{group-kept, status-kept}
 use Rattle.sw_core.specs.Registers.{card_fault_reported, card_fault_cleared}
 
 -- what stays so of the mainframe, between its events too
@@ -209,11 +178,14 @@ harmless p available Command.Initiate = tt
 harmless p available (Command.InitiateContinuous true) = conflict
 harmless p available (Command.InitiateContinuous false) = λ k. k
 harmless p available Command.InitiateContinuousQuery = tt
-harmless p available (Command.Count layer n) = λ idle. (λ fits r. range_layer p.settings layer _ r (record { count = fits; delay = (layer_range p.settings layer r).delay }), out_of_range, idle)
+harmless p available (Command.Count layer n) =
+    λ idle. (λ fits r. range_layer p.settings layer _ r (record { count = fits; delay = (layer_range p.settings layer r).delay }), out_of_range, idle)
 harmless p available (Command.CountQuery layer) = tt
-harmless p available (Command.SetSource layer source) = λ idle k. record { cage = k.cage; range = range_layer p.settings layer _ k.range (record { count = (layer_range p.settings layer k.range).count; delay = (layer_range p.settings layer k.range).delay }); settings = by_none p.cage.scan _ (none_of p idle); status = k.status }
+harmless p available (Command.SetSource layer source) =
+    λ idle k. record { cage = k.cage; range = range_layer p.settings layer _ k.range (record { count = (layer_range p.settings layer k.range).count; delay = (layer_range p.settings layer k.range).delay }); settings = by_none p.cage.scan _ (none_of p idle); status = k.status }
 harmless p available (Command.SourceQuery layer) = tt
-harmless p available (Command.Delay layer micros) = λ idle. (λ fits r. range_layer p.settings layer _ r (record { count = (layer_range p.settings layer r).count; delay = fits }), out_of_range, idle)
+harmless p available (Command.Delay layer micros) =
+    λ idle. (λ fits r. range_layer p.settings layer _ r (record { count = (layer_range p.settings layer r).count; delay = fits }), out_of_range, idle)
 harmless p available (Command.DelayQuery layer) = tt
 harmless p available (Command.Signal Trigger) = not_triggered
 harmless p available (Command.Signal Arm1) = not_armed
@@ -223,10 +195,13 @@ harmless p available (Command.CloseQuery chans) = tt
 harmless p available Command.CloseState = tt
 harmless p available (Command.Open chans) = λ idle. idle
 harmless p available (Command.OpenQuery chans) = tt
-harmless p available Command.OpenAll = λ idle k. record { cage = kept_rack p.cage (all_open p.cage.cards) k.cage (none_of p idle) (identities_all_open p.cage.cards) (exclusive_none _ _ (all_open_closed p.cage.cards)); range = k.range; settings = k.settings; status = k.status }
-harmless p available (Command.Scan chans) = λ idle. (λ fits r. record { arm1 = r.arm1; arm2 = r.arm2; trigger = r.trigger; list = fits; meter = r.meter; points = r.points }, too_much, idle)
+harmless p available Command.OpenAll =
+    λ idle k. record { cage = kept_rack p.cage (all_open p.cage.cards) k.cage (none_of p idle) (identities_all_open p.cage.cards) (exclusive_none _ _ (all_open_closed p.cage.cards)); range = k.range; settings = k.settings; status = k.status }
+harmless p available (Command.Scan chans) =
+    λ idle. (λ fits r. record { arm1 = r.arm1; arm2 = r.arm2; trigger = r.trigger; list = fits; meter = r.meter; points = r.points }, too_much, idle)
 harmless p available Command.ScanQuery = tt
-harmless p available (Command.ScanMeter slot) = λ idle. (λ fits r. record { arm1 = r.arm1; arm2 = r.arm2; trigger = r.trigger; list = r.list; meter = fits; points = r.points }, out_of_range, idle)
+harmless p available (Command.ScanMeter slot) =
+    λ idle. (λ fits r. record { arm1 = r.arm1; arm2 = r.arm2; trigger = r.trigger; list = r.list; meter = fits; points = r.points }, out_of_range, idle)
 harmless p available Command.ScanMeterQuery = tt
 harmless p available (Command.GroupEventQuery group) = λ u. grouped p.status group _ u (told_group p.status group u).taken
 harmless p available (Command.GroupConditionQuery group) = tt
@@ -241,7 +216,8 @@ harmless p available Command.NextErrorQuery = λ u. (status-kept p.status u).rea
 harmless p available Command.AllErrorsQuery = λ u. (status-kept p.status u).emptied
 harmless p available Command.ErrorCountQuery = tt
 harmless p available Command.VersionQuery = tt
-harmless p available (Command.Points n) = λ idle. (λ fits r. record { arm1 = r.arm1; arm2 = r.arm2; trigger = r.trigger; list = r.list; meter = r.meter; points = fits }, out_of_range, idle)
+harmless p available (Command.Points n) =
+    λ idle. (λ fits r. record { arm1 = r.arm1; arm2 = r.arm2; trigger = r.trigger; list = r.list; meter = r.meter; points = fits }, out_of_range, idle)
 harmless p available Command.PointsQuery = tt
 harmless p available Command.ActualPointsQuery = tt
 harmless p available Command.BoundQuery = tt

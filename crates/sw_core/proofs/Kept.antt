@@ -1,5 +1,6 @@
 -- What stays so of the cage, whatever its scan does.
-use Rattle.std.proofs.Common.{◌≡◌, ℕ, ◌+◌, ◌-◌, ◌<◌, ◌≤◌, true, false, List, [], ◌∷◌, ◌++◌, length, take, drop, map, Option, None, Some, Result, Ok, Err, slice_set, refl, sym, ◌∙◌, ap, subst, arith, is_some, inl, inr, ◌⊎◌}
+use Rattle.std.proofs.Common.{◌≡◌, ℕ, ◌+◌, ◌-◌, ◌<◌, ◌≤◌, true, false, List, [], ◌∷◌, ◌++◌, length, take, drop, map, Option, None, Some, Result, Ok, Err}
+use Rattle.std.proofs.Common.{slice_set, refl, sym, ◌∙◌, ap, subst, arith, is_some, inl, inr, ◌⊎◌}
 use Rattle.sw_base.specs.Layout.{Channel, Layout, slot_at, bay_has, IsClash, IsExclusive}
 use Rattle.sw_base.specs.declared.reading.Reading.{Reading}
 use Rattle.sw_card.specs.declared.board.CardFault.{CardFault}
@@ -61,7 +62,8 @@ option_few (Some a) (Some b) e h =
     λ (m : is_meter b ≡ false). subst (λ (g : List ℕ). length g ≤ 99) (sym groups) (h (ap (λ l. is_some l) (sym last) ∙ m))
 
 few_plates : (old new : Accounts) → map identity new ≡ map identity old → IsFew old → IsFew new
-few_plates old new e h s = option_few (slot_at old s) (slot_at new s) (sym (slot_map identity new s refl) ∙ ap (λ (r : List (Option Account)). slot_at r s) e ∙ slot_map identity old s refl) (h s)
+few_plates old new e h s =
+    option_few (slot_at old s) (slot_at new s) (sym (slot_map identity new s refl) ∙ ap (λ (r : List (Option Account)). slot_at r s) e ∙ slot_map identity old s refl) (h s)
 
 pub few_set : (rack : Accounts) (s : ℕ) (v : Option Account) → 0 < s → s ≤ length rack → OptionFew v → IsFew rack → IsFew (slice_set rack (s - 1) v)
 few_set rack s v p b h few t = elim (slot_cases rack s t v p b) [
@@ -70,14 +72,16 @@ few_set rack s v p b h few t = elim (slot_cases rack s t v p b) [
 ]
 
 -- the cards change while no scan runs, or it ends with that
-pub kept_rack : (c : CageSeen) (rack : Accounts) → IsKept c → c.scan ≡ None → map identity rack ≡ map identity c.cards → IsExclusive (layout_of rack) (is_closed rack) → IsKept (record c { cards = rack })
+pub kept_rack : (c : CageSeen) (rack : Accounts) → IsKept c → c.scan ≡ None → map identity rack ≡ map identity c.cards
+    → IsExclusive (layout_of rack) (is_closed rack) → IsKept (record c { cards = rack })
 kept_rack c rack k idle plates safe = record {
   good = record { held = held_stays c rack c.scan k.good.held (stays_identities c.cards rack plates); running = subst (λ (o : Option ScanSeen). IsRunning (record c { cards = rack }) o) (sym idle) tt };
   safe = safe;
   few = few_plates c.cards rack plates k.few;
 }
 
-pub kept_over : (c : CageSeen) (rack : Accounts) → IsKept c → map identity rack ≡ map identity c.cards → ((x : Channel) → is_closed rack x ≡ false) → IsKept (record c { cards = rack; scan = None })
+pub kept_over : (c : CageSeen) (rack : Accounts) → IsKept c → map identity rack ≡ map identity c.cards → ((x : Channel) → is_closed rack x ≡ false)
+    → IsKept (record c { cards = rack; scan = None })
 kept_over c rack k plates bare = record {
   good = record { held = held_stays c rack None k.good.held (stays_identities c.cards rack plates); running = tt };
   safe = exclusive_none (layout_of rack) (is_closed rack) bare;
@@ -93,13 +97,16 @@ module _ (bays : Layout) (out : List (Option Ticket)) (h : length out ≡ length
   exclusive_out : IsExclusive bays b → IsExclusive (layout_with bays out) b
   exclusive_out e = record { present = λ x c. present_with bays out h x ∙ e.present x c; apart = λ x y c d k. e.apart x y c d (clash_in x y k) }
 
-exclusive_in : (bays : Layout) (out : List (Option Ticket)) (h : length out ≡ length bays) (b : Channels) → IsExclusive (layout_with bays out) b → IsExclusive bays b
-exclusive_in bays out h b e = record { present = λ x c. sym (present_with bays out h x) ∙ e.present x c; apart = λ x y c d k. e.apart x y c d (clash_with bays out h x y k) }
+exclusive_in : (bays : Layout) (out : List (Option Ticket)) (h : length out ≡ length bays) (b : Channels) → IsExclusive (layout_with bays out) b
+    → IsExclusive bays b
+exclusive_in bays out h b e =
+    record { present = λ x c. sym (present_with bays out h x) ∙ e.present x c; apart = λ x y c d k. e.apart x y c d (clash_with bays out h x y k) }
 
 exclusive_same : (layout : Layout) (b b' : Channels) → ((x : Channel) → b' x ≡ b x) → IsExclusive layout b → IsExclusive layout b'
 exclusive_same layout b b' s e = record { present = λ x c. e.present x (sym (s x) ∙ c); apart = λ x y c d k. e.apart x y (sym (s x) ∙ c) (sym (s y) ∙ d) k }
 
-exclusive_moved : (c : CageSeen) (s : Setup) (i : ℕ) (rack : Accounts) → IsHeld c → CanGo c s i → IsExclusive (layout_of c.cards) (is_closed c.cards) → Moved c.cards (moves_from s i) rack → IsExclusive (layout_of rack) (is_closed rack)
+exclusive_moved : (c : CageSeen) (s : Setup) (i : ℕ) (rack : Accounts) → IsHeld c → CanGo c s i → IsExclusive (layout_of c.cards) (is_closed c.cards)
+    → Moved c.cards (moves_from s i) rack → IsExclusive (layout_of rack) (is_closed rack)
 exclusive_moved c s i rack held go e m =
     let right : AllRight (cage_layout c) (is_closed c.cards) (effect none (take i (agenda s))) (drop i (agenda s)) = right_here (cage_layout c) (is_closed c.cards) s i go.way in
     let start : IsExclusive (cage_layout c) (is_closed c.cards) = exclusive_out (layout_of c.cards) c.out (lengths c held) (is_closed c.cards) e in
@@ -115,7 +122,9 @@ pub record CanSet (c : CageSeen) (s : Setup) (i : ℕ) : Type 0 where
   pub safe : IsExclusive (layout_of c.cards) (is_closed c.cards)
   pub few : IsFew c.cards
 
-safe_lands : (c q : CageSeen) (s : Setup) (i : ℕ) (told : TakenSeen) → CanSet c s i → (l : Reaches (occupancy_of c) c.number (moves_from s i) (next_place s i) told (occupancy_of q) q.scan) → (q.cards ≡ l.cards) ⊎ (q.cards ≡ slice_set l.cards (s.meter - 1) None) → IsExclusive (layout_of q.cards) (is_closed q.cards) × IsFew q.cards
+safe_lands : (c q : CageSeen) (s : Setup) (i : ℕ) (told : TakenSeen) → CanSet c s i
+    → (l : Reaches (occupancy_of c) c.number (moves_from s i) (next_place s i) told (occupancy_of q) q.scan) → (q.cards ≡ l.cards)
+    ⊎ (q.cards ≡ slice_set l.cards (s.meter - 1) None) → IsExclusive (layout_of q.cards) (is_closed q.cards) × IsFew q.cards
 safe_lands c q s i told k l spot =
     let safe : IsExclusive (layout_of l.cards) (is_closed l.cards) = exclusive_moved c s i l.cards k.held k.go k.safe l.moved in
     let plates = identities_rest c.cards l.cards l.moved.rest in
@@ -132,13 +141,15 @@ safe_lands c q s i told k l spot =
 bay_rack : (b d : Occupancy) → b ≡ d → b.cards ≡ d.cards
 bay_rack b d e = ap (λ (x : Occupancy). x.cards) e
 
-safe_goes : (c q : CageSeen) (s : Setup) (i : ℕ) (told : TakenSeen) → CanSet c s i → Advances c s i told q → IsExclusive (layout_of q.cards) (is_closed q.cards) × IsFew q.cards
+safe_goes : (c q : CageSeen) (s : Setup) (i : ℕ) (told : TakenSeen) → CanSet c s i → Advances c s i told q → IsExclusive (layout_of q.cards) (is_closed q.cards)
+    × IsFew q.cards
 safe_goes c q s i SaysIgnored k h = absurd h.runs.arrives
 safe_goes c q s i SaysWaits k h = safe_lands c q s i SaysWaits k h.runs (inl (bay_rack (occupancy_of q) _ h.runs.arrives.1))
 safe_goes c q s i (SaysPause t u) k h = safe_lands c q s i (SaysPause t u) k h.runs (inl (bay_rack (occupancy_of q) _ h.runs.arrives.2))
 safe_goes c q s i (SaysJob job) k h = safe_lands c q s i (SaysJob job) k h.runs (inr (bay_rack (occupancy_of q) _ h.runs.arrives.1.after))
 safe_goes c q s i SaysEnded k h = safe_lands c q s i SaysEnded k h.runs (inl (bay_rack (occupancy_of q) _ h.runs.arrives.1))
-safe_goes c q s i SaysFault k h = (exclusive_none (layout_of q.cards) (is_closed q.cards) h.runs.fallen.none, few_plates c.cards q.cards h.runs.fallen.cards k.few)
+safe_goes c q s i SaysFault k h =
+    (exclusive_none (layout_of q.cards) (is_closed q.cards) h.runs.fallen.none, few_plates c.cards q.cards h.runs.fallen.cards k.few)
 
 pub kept_goes : (c q : CageSeen) (s : Setup) (i : ℕ) (told : TakenSeen) → CanSet c s i → Advances c s i told q → IsKept q
 kept_goes c q s i told k h = let r = safe_goes c q s i told k h in record { good = good_goes c q s i told k.held k.go h; safe = r.0; few = r.1 }
@@ -155,7 +166,8 @@ other_if at (Some Read) t h e k = absurd k
 has_room : (c : CageSeen) (at : ScanSeen) → IsGood c → c.scan ≡ Some at → HasKept c (reads (agenda at.setup))
 has_room c at g e = record { good = g; room = subst (λ (o : Option ScanSeen). HasRoom o (reads (agenda at.setup))) (sym e) (omega arith) }
 
-kept_past_at : (c q : CageSeen) (scan : Option ScanSeen) (h : Happening) (told : TakenSeen) → IsKept c → c.scan ≡ scan → Takes (record c { scan = scan }) h → AdvancesPastFrom c scan told q → IsKept q
+kept_past_at : (c q : CageSeen) (scan : Option ScanSeen) (h : Happening) (told : TakenSeen) → IsKept c → c.scan ≡ scan → Takes (record c { scan = scan }) h
+    → AdvancesPastFrom c scan told q → IsKept q
 kept_past_at c q None h told k e t g = absurd g
 kept_past_at c q (Some at) h told k e t g =
     let go = go_other c at (reads (agenda at.setup)) (has_room c at k.good e) e (other_if at (awaits at) (ticket_of c.number at) h refl t) in
@@ -167,10 +179,13 @@ kept_past c q h told k t g = kept_past_at c q c.scan h told k refl t g
 -- ---- meters that return
 
 back_few : (c : CageSeen) (done : FinishedSeen) → IsKept c → (1 ≤ done.slot) × (done.slot ≤ 8) → IsFew (with_back c done).cards
-back_few c done k b = few_set c.cards done.slot (Some (of_meter done.meter)) (omega (arith, b.0)) (omega (arith, b.1, k.good.held.slots)) (λ m. absurd (cc (m))) k.few
+back_few c done k b =
+    few_set c.cards done.slot (Some (of_meter done.meter)) (omega (arith, b.0)) (omega (arith, b.1, k.good.held.slots)) (λ m. absurd (cc (m))) k.few
 
-back_safe : (c : CageSeen) (done : FinishedSeen) → IsKept c → (1 ≤ done.slot) × (done.slot ≤ 8) → IsExclusive (layout_of (with_back c done).cards) (is_closed (with_back c done).cards)
-back_safe c done k b = exclusive_quiet c.cards done.slot (Some (of_meter done.meter)) (omega (arith, b.0)) (omega (arith, b.1, k.good.held.slots)) (λ n. meter_open done.meter n) k.safe
+back_safe : (c : CageSeen) (done : FinishedSeen) → IsKept c → (1 ≤ done.slot) × (done.slot ≤ 8)
+    → IsExclusive (layout_of (with_back c done).cards) (is_closed (with_back c done).cards)
+back_safe c done k b =
+    exclusive_quiet c.cards done.slot (Some (of_meter done.meter)) (omega (arith, b.0)) (omega (arith, b.1, k.good.held.slots)) (λ n. meter_open done.meter n) k.safe
 
 slot_of : (c : CageSeen) (done : FinishedSeen) → IsKept c → slot_at c.out done.slot ≡ Some done.ticket → (1 ≤ done.slot) × (done.slot ≤ 8)
 slot_of c done k e = out_slot c c done.slot done.slot done.ticket k.good.held refl refl e
@@ -182,14 +197,17 @@ room_any c g = room_some c c.scan g refl
     room_some c None g e = (0, record { good = g; room = subst (λ (o : Option ScanSeen). HasRoom o 0) (sym e) tt })
     room_some c (Some at) g e = (reads (agenda at.setup), has_room c at g e)
 
-pub kept_late : (c : CageSeen) (done : FinishedSeen) → IsKept c → slot_at c.out done.slot ≡ Some done.ticket → (TakesReturn c done.slot done.ticket → ⊥) → IsKept (with_back c done)
+pub kept_late : (c : CageSeen) (done : FinishedSeen) → IsKept c → slot_at c.out done.slot ≡ Some done.ticket → (TakesReturn c done.slot done.ticket → ⊥)
+    → IsKept (with_back c done)
 kept_late c done k e late =
     let room = room_any c k.good in
     let b = slot_of c done k e in
     let back = kept_back c done.slot done.ticket done.meter _ _ room.0 room.1 e late refl refl in
     record { good = back.good; safe = back_safe c done k b; few = back_few c done k b }
 
-kept_counted_at : (c q : CageSeen) (scan : Option ScanSeen) (done : FinishedSeen) (outcome : Result Reading CardFault) (told : TakenSeen) → IsKept c → c.scan ≡ scan → slot_at c.out done.slot ≡ Some done.ticket → TakesReturnThere c.number scan done.slot done.ticket → Counts (record (with_back c done) { scan = scan }) outcome told q → IsKept q
+kept_counted_at : (c q : CageSeen) (scan : Option ScanSeen) (done : FinishedSeen) (outcome : Result Reading CardFault) (told : TakenSeen) → IsKept c
+    → c.scan ≡ scan → slot_at c.out done.slot ≡ Some done.ticket → TakesReturnThere c.number scan done.slot done.ticket
+    → Counts (record (with_back c done) { scan = scan }) outcome told q → IsKept q
 kept_counted_at c q None done outcome told k e out t h = absurd t
 kept_counted_at c q (Some at) done (Ok r) told k e out t h =
     let b = slot_of c done k out in
@@ -205,14 +223,16 @@ kept_counted_at c q (Some at) done (Err f) told k e out t h =
       few = few_plates (with_back c done).cards (all_open (with_back c done).cards) (identities_all_open (with_back c done).cards) (back_few c done k b);
     })
 
-pub kept_counted : (c q : CageSeen) (done : FinishedSeen) (told : TakenSeen) → IsKept c → slot_at c.out done.slot ≡ Some done.ticket → TakesReturn c done.slot done.ticket → Counts (with_back c done) done.outcome told q → IsKept q
+pub kept_counted : (c q : CageSeen) (done : FinishedSeen) (told : TakenSeen) → IsKept c → slot_at c.out done.slot ≡ Some done.ticket
+    → TakesReturn c done.slot done.ticket → Counts (with_back c done) done.outcome told q → IsKept q
 kept_counted c q done told k out t h = kept_counted_at c q c.scan done done.outcome told k refl out t h
 
 -- ---- a scan begins
 
 few_bounds : (o : Option Account) (ch : ℕ) → OptionFew o → bay_has (slot_contents o) ch ≡ true → (1 ≤ ch) × (ch ≤ 99)
 few_bounds None ch r h = absurd (cc)
-few_bounds (Some a) ch r h = let b : (0 < ch) × ((is_meter a ≡ false) × (ch ≤ length a.groups)) = has_bounds a ch h in let f : length a.groups ≤ 99 = r b.1.0 in (omega (arith, b.0), omega (arith, b.1.1, f))
+few_bounds (Some a) ch r h = let b : (0 < ch)
+    × ((is_meter a ≡ false) × (ch ≤ length a.groups)) = has_bounds a ch h in let f : length a.groups ≤ 99 = r b.1.0 in (omega (arith, b.0), omega (arith, b.1.1, f))
 
 pub inside : (c : CageSeen) → IsKept c → (x : Channel) → is_closed c.cards x ≡ true → (1 ≤ x.0) × (x.0 ≤ 8) × (1 ≤ x.1) × (x.1 ≤ 99)
 inside c k x h =
@@ -221,7 +241,8 @@ inside c k x h =
     let ch : (1 ≤ x.1) × (x.1 ≤ 99) = few_bounds (slot_at c.cards x.0) x.1 (k.few x.0) (sym (present_at c.cards x) ∙ present) in
     (omega (arith, slot.0), omega (arith, slot.1, k.good.held.slots), ch.0, ch.1)
 
-pub kept_begun : (c q : CageSeen) (s : Setup) (plan : Snapshot) (told : TakenSeen) → IsKept c → slot_at c.out s.meter ≡ None → IsInRange s → IsReady plan → plan ≡ record { settings = s; layout = cage_layout c; closed = closed_list c.cards } → Advances (begun c) s 0 told q → IsKept q
+pub kept_begun : (c q : CageSeen) (s : Setup) (plan : Snapshot) (told : TakenSeen) → IsKept c → slot_at c.out s.meter ≡ None → IsInRange s → IsReady plan
+    → plan ≡ record { settings = s; layout = cage_layout c; closed = closed_list c.cards } → Advances (begun c) s 0 told q → IsKept q
 kept_begun c q s plan told k home range ready is h =
     let sure : IsReady (record { settings = s; layout = cage_layout c; closed = closed_list c.cards }) = subst (λ (x : Snapshot). IsReady x) is ready in
     let x = begins c s (cage_layout c) (closed_list c.cards) (c.number + 1) [] k.good.held sure.listed range home sure.measured sure.sound refl refl (inside c k) refl refl in

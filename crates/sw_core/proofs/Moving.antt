@@ -1,58 +1,41 @@
 -- What each ask does to a scan that runs, to what is closed then, and to the readings.
-use Rattle.std.proofs.Common.{◌≡◌, ℕ, suc, ◌+◌, ◌≤◌, ◌<◌, ◌==◌, ◌&&◌, not, Bool, true, false, List, [], ◌∷◌, ◌++◌, length, take, drop, Option, None, Some, is_some, Result, Ok, Err, ◌⊎◌, inl, inr, refl, ap, sym, subst, ◌∙◌, arith, map}
-use Rattle.std.specs.Prelude.{if◌then◌else◌, decimal, MatchBool, IfSome}
-use Rattle.std.proofs.lemmas.List.{take-append-drop}
-use Rattle.std.specs.List.{join_with_byte}
-use Rattle.sw_base.specs.Reading.{reading_text}
-use mathlib.Core.Path.{fun_ext}
+use Rattle.std.proofs.Common.{◌≡◌, ℕ, ◌+◌, ◌≤◌, ◌<◌, ◌==◌, ◌&&◌, not, Bool, true, false, length, Option, None, Some}
+use Rattle.std.proofs.Common.{is_some, inl, inr, refl, ap, sym, subst, ◌∙◌}
+use Rattle.std.specs.Prelude.{if◌then◌else◌, MatchBool}
 use Rattle.sw_base.specs.Layout.{Channel, slot_at}
-use Rattle.sw_base.specs.declared.reading.Reading.{Reading}
 use Rattle.sw_base.specs.declared.error.ScpiError.{ScpiError}
-use Rattle.sw_base.specs.declared.error.ScpiError.TheVariants.{UndefinedHeader, DataCorruptOrStale, OutOfMemory, TriggerIgnored, HardwareMissing, SettingsConflict, HardwareError}
-use Rattle.sw_base.specs.declared.terms.LayerName.TheVariants as layer_name
-use Rattle.sw_card.specs.declared.board.CardFault.{CardFault}
-use Rattle.sw_lex.specs.declared.command.Command.{Command}
-use Rattle.sw_trigger.specs.declared.layer.Awaited.{Awaited}
-use Rattle.sw_trigger.specs.declared.layer.Awaited.TheVariants.{Read}
-use Rattle.sw_trigger.specs.Settings.{Setup}
-use Rattle.sw_trigger.specs.Agenda.{Item, Awaits, Close, Open, agenda}
-use Rattle.sw_trigger.specs.Counts.{awaiting, bound_of, reads}
-use Rattle.sw_status.specs.StatusModel.{StatusSeen}
+use Rattle.sw_base.specs.declared.error.ScpiError.TheVariants.{OutOfMemory, TriggerIgnored}
+use Rattle.sw_base.specs.declared.error.ScpiError.TheVariants.{SettingsConflict, HardwareError}
 use Rattle.sw_verify.specs.declared.snapshot.Snapshot.{Snapshot}
-use Rattle.sw_verify.specs.Channels.{Channels, is_among}
-use Rattle.sw_verify.specs.Sound.{effect}
-use Rattle.sw_verify.proofs.Round.{effect-append}
 use Rattle.sw_cage.specs.Accounts.{is_closed}
-use Rattle.sw_cage.specs.Channels.{closed_list}
-use Rattle.sw_cage.specs.Cage.{ScanSeen, CageSeen, safe_state, ticket_of}
+use Rattle.sw_cage.specs.Cage.{ScanSeen, CageSeen, safe_state}
 use Rattle.sw_cage.specs.Install.{stopped}
-use Rattle.sw_cage.specs.Good.{IsRunning, IsHeld, MeterStands}
-use Rattle.sw_cage.specs.Advance.{leading_moves, first_awaited, moves_from, next_place, awaits}
-use Rattle.sw_cage.specs.Takes.{TakesIf, TakesThere, TakesReturnThere}
+use Rattle.sw_cage.specs.Good.{IsHeld}
+use Rattle.sw_cage.specs.Advance.{moves_from, next_place}
 use Rattle.sw_cage.specs.Work.{FinishedSeen}
 use Rattle.sw_cage.specs.TakenSeen.{TakenSeen, SaysIgnored, SaysWaits, SaysPause, SaysJob, SaysEnded, SaysFault}
-use Rattle.sw_cage.specs.declared.job.Ticket.{Ticket}
 use Rattle.sw_cage.specs.declared.taken.Happening.{Happening}
 use Rattle.sw_cage.specs.declared.taken.Happening.TheVariants.{Bus, External, Elapsed}
-use Rattle.sw_cage.specs.Outcome.{Occupancy, occupancy_of, Arrives, AdvancesOrFails, Advances, AdvancesPastFrom, Counts, begun, with_back, with_reading}
+use Rattle.sw_cage.specs.Outcome.{occupancy_of, AdvancesOrFails, Advances, begun}
 use Rattle.sw_core.specs.declared.ask.Sid.{Sid}
 use Rattle.sw_core.specs.declared.ask.SessionAsk.{SessionAsk}
 use Rattle.sw_core.specs.declared.ask.SessionAsk.TheVariants as Ask
 use Rattle.sw_core.specs.declared.ask.SessionAnswer.{SessionAnswer}
 use Rattle.sw_core.specs.declared.ask.SessionAnswer.TheVariants as answers
 use Rattle.sw_core.specs.declared.ask.SessionAnswer.TheVariants.{Joined, Full, Stranger, Broken, Done, Refused, Hold, Worn}
-use Rattle.sw_core.specs.Panel.{Panel, opening_at, is_running}
-use Rattle.sw_core.specs.Action.{Effect, TellsNumber, TellsText, TellsReadings, ReadsOut, SetsStatus, SetsUp, Closes, Opens, TellsRelays, Leaves}
-use Rattle.sw_core.specs.Action.{Resets, reset, Offers, Refuses, IsOfMacros, Initiates, Action, AtOnce, BetweenScans, AfterScan, action_of}
+use Rattle.sw_core.specs.Panel.{Panel, is_running}
+use Rattle.sw_core.specs.Action.{Effect}
+use Rattle.sw_core.specs.Action.{Offers, Action, AtOnce, BetweenScans, AfterScan, action_of}
 use Rattle.sw_core.specs.Event.{concluded, session_concluded, last_number}
 use Rattle.sw_core.specs.Seats.{asker_of}
-use Rattle.sw_core.specs.Step.{StepClose, StepOpen, StepFlags, StepText, StepDone, StepSetting, StepRefused, StepReadings, StepAlone, StepEffect, StepHeld, StepAction, Happens, session_told, StepHappens, StepSnapshot, Starts, StepStart, started_answer, IsServed, StepJoined, StepAdmitted, drops, shuts_out, StepJoin, StepAttach, StepSession, outside_told, StepOutside, Returns, StepFinished, Acts, acts_unnumbered, IsWorn, IsEvent, IsUnnumbered, Step}
+use Rattle.sw_core.specs.Step.{StepRefused, StepEffect, StepHeld}
+use Rattle.sw_core.specs.Step.{StepAction, session_told, StepHappens, StepSnapshot, StepStart, started_answer, IsServed, StepJoined}
+use Rattle.sw_core.specs.Step.{StepAdmitted, drops, shuts_out, StepJoin, StepAttach, StepSession, outside_told, StepOutside, StepFinished, Acts}
+use Rattle.sw_core.specs.Step.{acts_unnumbered, IsWorn, IsEvent, IsUnnumbered, Step}
 use Rattle.sw_core.specs.Ends.{left_of, went_on, was_taken, took_effect, took_command, took, begins, breaks_off}
-use Rattle.sw_cage.proofs.SlotChangeLemmas.{some_slot, is_none}
-use Rattle.sw_cage.proofs.AdvanceLemmas.{closed_back}
-use Rattle.sw_cage.proofs.ClosedMemberLemmas.{among_closed}
-use Rattle.sw_core.specs.View.{WorkView, AskView, AskSession, AskInstall, AskEject, AskExternal, AskElapsed, AskFinished, AnswerView, SaysSession, SaysInstalled, SaysNotInstalled, SaysEjected, SaysNotEjected, SaysTaken, SaysMissed, SaysFailed, SaysBack, SaysWorn}
-use Rattle.std.specs.Prelude.{◌||◌}
+use Rattle.sw_cage.proofs.SlotChangeLemmas.{is_none}
+use Rattle.sw_core.specs.View.{WorkView, AskView, AskSession, AskInstall, AskEject, AskExternal, AskElapsed, AskFinished, AnswerView, SaysSession}
+use Rattle.sw_core.specs.View.{SaysInstalled, SaysNotInstalled, SaysEjected, SaysNotEjected, SaysTaken, SaysMissed, SaysFailed, SaysBack, SaysWorn}
 use Rattle.std.proofs.lemmas.List.{length-map}
 use Rattle.sw_card.specs.Account.{Account}
 use Rattle.sw_cage.specs.Accounts.{all_open, option_rest}
@@ -62,9 +45,10 @@ use Rattle.sw_core.specs.Run.{AddsOwn}
 use Rattle.sw_core.proofs.Harmless.{none_of}
 use Rattle.sw_core.proofs.Safety.{rest_slot}
 use Rattle.sw_core.proofs.Obeyed.{bare_slot}
-use Rattle.sw_core.proofs.Course.{Holds, same_rack}
-use Rattle.sw_core.proofs.Advancing.{Nears, near_none, Ends, Moves, move_same, move_is, IsIdle, IsCut, move_idle, move_cut, of_taken, move_happens, move_returns, same_back}
-use Rattle.sw_core.proofs.Still.{IsStill, move_still, still_as, IsStillEffect, IsStillAction, still_command, still_refused, still_alone}
+use Rattle.sw_core.proofs.Course.{Holds}
+use Rattle.sw_core.proofs.Advancing.{near_none, Ends, Moves, move_is, move_idle, move_cut, of_taken, move_happens}
+use Rattle.sw_core.proofs.Advancing.{move_returns, same_back}
+use Rattle.sw_core.proofs.Still.{IsStill, move_still, still_as, IsStillEffect, IsStillAction, still_command, still_alone}
 
 -- ---- sessions
 
@@ -76,18 +60,22 @@ went_told error (SaysJob job) q = refl
 went_told error SaysEnded q = refl
 went_told error SaysFault q = refl
 
-refused_off : (ask : SessionAsk) (error : ScpiError) (told : TakenSeen) (a : SessionAnswer) (w : Option WorkView) → a ≡ session_told error told → told ≡ SaysFault
+refused_off : (ask : SessionAsk) (error : ScpiError) (told : TakenSeen) (a : SessionAnswer) (w : Option WorkView) → a ≡ session_told error told
+    → told ≡ SaysFault
     → breaks_off (AskSession ask) (SaysSession a w) ≡ true
-refused_off ask error told a w is e = ap (λ (x : SessionAnswer). breaks_off (AskSession ask) (SaysSession x w)) (is ∙ ap (λ (t : TakenSeen). session_told error t) e)
+refused_off ask error told a w is e =
+    ap (λ (x : SessionAnswer). breaks_off (AskSession ask) (SaysSession x w)) (is ∙ ap (λ (t : TakenSeen). session_told error t) e)
 
-move_told : (ask : SessionAsk) (p : Panel) (happening : Happening) (error : ScpiError) (f : Bool) (a : SessionAnswer) (w : Option WorkView) (q : Panel) → went_on (Refused error) ≡ 0
+move_told : (ask : SessionAsk) (p : Panel) (happening : Happening) (error : ScpiError) (f : Bool) (a : SessionAnswer) (w : Option WorkView) (q : Panel)
+    → went_on (Refused error) ≡ 0
     → StepHappens p happening error f a w q → Moves (AskSession ask) (SaysSession a w) p (went_on a) q
 move_told ask p happening error f a w q quiet h =
     subst (λ (n : ℕ). Moves (AskSession ask) (SaysSession a w) p n q) (sym (ap went_on h.answer_is ∙ went_told error h.told quiet))
     (move_happens (AskSession ask) (SaysSession a w) p happening f h.told q (refused_off ask error h.told a w h.answer_is) h.happens)
 
 move_effect : (ask : SessionAsk) (d : Effect) (p : Panel) (f : Bool) (a : SessionAnswer) (w : Option WorkView) (q : Panel)
-    → IsStillEffect (breaks_off (AskSession ask) (SaysSession (Done None) None)) p d → StepEffect d p f a w q → Moves (AskSession ask) (SaysSession a w) p (took_effect d a) q
+    → IsStillEffect (breaks_off (AskSession ask) (SaysSession (Done None) None)) p d → StepEffect d p f a w q
+    → Moves (AskSession ask) (SaysSession a w) p (took_effect d a) q
 move_effect ask (Offers happening error) p f a w q n h = move_told ask p happening error f a w q n h
 move_effect ask d p f a w q n h =
     subst (λ (v : Option WorkView). Moves (AskSession ask) (SaysSession a v) p (took_effect d a) q) (sym h.1) (move_still (AskSession ask) (SaysSession a None) p q (still_alone ask d p f a q n h.0))
@@ -97,10 +85,12 @@ untaken : (d : Effect) (a : SessionAnswer) → went_on a ≡ 0 → took_effect d
 untaken (Offers happening error) a e = e
 untaken d a e = refl
 
-move_untaken : (ask : AskView) (x : AnswerView) (d : Effect) (p : Panel) (a : SessionAnswer) (q : Panel) → went_on a ≡ 0 → q ≡ p → Moves ask x p (took_effect d a) q
+move_untaken : (ask : AskView) (x : AnswerView) (d : Effect) (p : Panel) (a : SessionAnswer) (q : Panel) → went_on a ≡ 0 → q ≡ p
+    → Moves ask x p (took_effect d a) q
 move_untaken ask x d p a q e s = subst (λ (k : ℕ). Moves ask x p k q) (sym (untaken d a e)) (move_is ask x p q s)
 
-move_refused : (ask : AskView) (x : AnswerView) (d : Effect) (p : Panel) (f : Bool) (a : SessionAnswer) (q : Panel) → StepRefused p SettingsConflict f a q → Moves ask x p (took_effect d a) q
+move_refused : (ask : AskView) (x : AnswerView) (d : Effect) (p : Panel) (f : Bool) (a : SessionAnswer) (q : Panel) → StepRefused p SettingsConflict f a q
+    → Moves ask x p (took_effect d a) q
 move_refused ask x d p f (Refused e) q h = move_untaken ask x d p (Refused e) q (ap (λ (y : ScpiError). went_on (Refused y)) h.1) h.2
 move_refused ask x d p f a q h = absurd h
 
@@ -122,7 +112,8 @@ move_waiting true d p ask f a w q n h = move_held (AskSession ask) (SaysSession 
 move_waiting false d p ask f a w q n h = move_effect ask d p f a w q n h
 
 move_action : (x : Action) (p : Panel) (ask : SessionAsk) (f : Bool) (a : SessionAnswer) (w : Option WorkView) (q : Panel)
-    → IsStillAction (breaks_off (AskSession ask) (SaysSession (Done None) None)) p x → StepAction x p ask f a w q → Moves (AskSession ask) (SaysSession a w) p (took_command x a) q
+    → IsStillAction (breaks_off (AskSession ask) (SaysSession (Done None) None)) p x → StepAction x p ask f a w q
+    → Moves (AskSession ask) (SaysSession a w) p (took_command x a) q
 move_action (AtOnce d) p ask f a w q n h = move_effect ask d p f a w q n h
 move_action (BetweenScans d) p ask f a w q n h = move_barred ask (is_running p) d p f a w q n h
 move_action (AfterScan d) p ask f a w q n h = move_waiting (is_running p) d p ask f a w q n h
@@ -156,13 +147,18 @@ move_start ask x p sid plan f (Refused SettingsConflict) None q n h = move_is as
 move_start ask x p sid plan f (Refused e) None q n h = move_is ask x p q h.2
 move_start ask x p sid plan f a w q n h = absurd h
 
-move_served : (kind : AskView) (x : AnswerView) (p : Panel) (ask : SessionAsk) (f : Bool) (a : SessionAnswer) (q : Panel) → IsServed p ask f a q → Moves kind x p 0 q
+move_served : (kind : AskView) (x : AnswerView) (p : Panel) (ask : SessionAsk) (f : Bool) (a : SessionAnswer) (q : Panel) → IsServed p ask f a q
+    → Moves kind x p 0 q
 move_served kind x p ask f a q h = move_still kind x p q (inl (ap (λ (y : Panel). y.cage) h.after))
 
-move_joined : (p : Panel) (ask : SessionAsk) (f : Bool) (a : SessionAnswer) (w : Option WorkView) (q : Panel) → begins (AskSession ask) (SaysSession a w) ≡ false → StepJoined p ask f a w q → Moves (AskSession ask) (SaysSession a w) p (took (AskSession ask) (SaysSession a w)) q
-move_joined p (Ask.Fault sid e) f (Done None) None q n h = move_still (AskSession (Ask.Fault sid e)) (SaysSession (Done None) None) p q (inl (ap (λ (x : Panel). x.cage) h.1))
+move_joined : (p : Panel) (ask : SessionAsk) (f : Bool) (a : SessionAnswer) (w : Option WorkView) (q : Panel)
+    → begins (AskSession ask) (SaysSession a w) ≡ false → StepJoined p ask f a w q
+    → Moves (AskSession ask) (SaysSession a w) p (took (AskSession ask) (SaysSession a w)) q
+move_joined p (Ask.Fault sid e) f (Done None) None q n h =
+    move_still (AskSession (Ask.Fault sid e)) (SaysSession (Done None) None) p q (inl (ap (λ (x : Panel). x.cage) h.1))
 move_joined p (Ask.Fault sid e) f a None q n h = move_served (AskSession (Ask.Fault sid e)) (SaysSession a None) p (Ask.Fault sid e) f a q h
-move_joined p (Ask.Unit sid command available) f a w q n h = move_action (action_of available command) p (Ask.Unit sid command available) f a w q (still_command sid p available command) h
+move_joined p (Ask.Unit sid command available) f a w q n h =
+    move_action (action_of available command) p (Ask.Unit sid command available) f a w q (still_command sid p available command) h
 move_joined p (Ask.Bus sid) f a w q n h = move_told (Ask.Bus sid) p Bus TriggerIgnored f a w q refl h
 move_joined p (Ask.Snapshot sid) f a None q n h = move_still (AskSession (Ask.Snapshot sid)) (SaysSession a None) p q (still_snapshot p f a q h)
 move_joined p (Ask.Start sid plan) f a w q n h = move_start (AskSession (Ask.Start sid plan)) (SaysSession a w) p sid plan f a w q n h
@@ -184,7 +180,8 @@ still_join p f (Joined sid) None q h = inl (ap (λ (x : Panel). x.cage) h.3)
 still_join p f Full None q h = still_as p q h.2
 still_join p f a w q h = absurd h
 
-still_attach : {off : Bool} (p : Panel) (number : ℕ) (f : Bool) (a : SessionAnswer) (w : Option WorkView) (q : Panel) → StepAttach p number f a w q → IsStill off p q
+still_attach : {off : Bool} (p : Panel) (number : ℕ) (f : Bool) (a : SessionAnswer) (w : Option WorkView) (q : Panel) → StepAttach p number f a w q
+    → IsStill off p q
 still_attach p number f (Joined sid) None q h = inl (ap (λ (x : Panel). x.cage) h.2)
 still_attach p number f Stranger None q h = still_as p q h.2
 still_attach p number f a w q h = absurd h
@@ -195,21 +192,29 @@ took_none (Ask.Unit sid command available) a w n = untaken_command (action_of av
 took_none (Ask.Bus sid) a w n = n
 took_none ask a w n = refl
 
-move_silent : (p : Panel) (ask : SessionAsk) (a : SessionAnswer) (w : Option WorkView) (q : Panel) → went_on a ≡ 0 → q ≡ p → Moves (AskSession ask) (SaysSession a w) p (took (AskSession ask) (SaysSession a w)) q
-move_silent p ask a w q n e = subst (λ (k : ℕ). Moves (AskSession ask) (SaysSession a w) p k q) (sym (took_none ask a w n)) (move_is (AskSession ask) (SaysSession a w) p q e)
+move_silent : (p : Panel) (ask : SessionAsk) (a : SessionAnswer) (w : Option WorkView) (q : Panel) → went_on a ≡ 0 → q ≡ p
+    → Moves (AskSession ask) (SaysSession a w) p (took (AskSession ask) (SaysSession a w)) q
+move_silent p ask a w q n e =
+    subst (λ (k : ℕ). Moves (AskSession ask) (SaysSession a w) p k q) (sym (took_none ask a w n)) (move_is (AskSession ask) (SaysSession a w) p q e)
 
-move_admitted : (b o : Bool) (p : Panel) (ask : SessionAsk) (f : Bool) (a : SessionAnswer) (w : Option WorkView) (q : Panel) → begins (AskSession ask) (SaysSession a w) ≡ false → StepAdmitted b o p ask f a w q → Moves (AskSession ask) (SaysSession a w) p (took (AskSession ask) (SaysSession a w)) q
+move_admitted : (b o : Bool) (p : Panel) (ask : SessionAsk) (f : Bool) (a : SessionAnswer) (w : Option WorkView) (q : Panel)
+    → begins (AskSession ask) (SaysSession a w) ≡ false → StepAdmitted b o p ask f a w q
+    → Moves (AskSession ask) (SaysSession a w) p (took (AskSession ask) (SaysSession a w)) q
 move_admitted true o p ask f Broken None q n h = move_silent p ask Broken None q refl h.1
 move_admitted true o p ask f a w q n h = absurd h
 move_admitted false true p ask f (Hold back) None q n h = move_silent p ask (Hold back) None q refl h.2
 move_admitted false true p ask f a w q n h = absurd h
 move_admitted false false p ask f a w q n h = move_joined p ask f a w q n h
 
-move_known : (sid : Sid) (p : Panel) (ask : SessionAsk) (f : Bool) (a : SessionAnswer) (w : Option WorkView) (q : Panel) → begins (AskSession ask) (SaysSession a w) ≡ false → StepSession (Some sid) p ask f a w q → Moves (AskSession ask) (SaysSession a w) p (took (AskSession ask) (SaysSession a w)) q
+move_known : (sid : Sid) (p : Panel) (ask : SessionAsk) (f : Bool) (a : SessionAnswer) (w : Option WorkView) (q : Panel)
+    → begins (AskSession ask) (SaysSession a w) ≡ false → StepSession (Some sid) p ask f a w q
+    → Moves (AskSession ask) (SaysSession a w) p (took (AskSession ask) (SaysSession a w)) q
 move_known sid p ask f Stranger None q n h = move_silent p ask Stranger None q refl h.2
 move_known sid p ask f a w q n h = move_admitted (drops p sid ask) (shuts_out p sid ask) p ask f a w q n h.1
 
-move_session : (p : Panel) (ask : SessionAsk) (f : Bool) (a : SessionAnswer) (w : Option WorkView) (q : Panel) → begins (AskSession ask) (SaysSession a w) ≡ false → StepSession (asker_of ask) p ask f a w q → Moves (AskSession ask) (SaysSession a w) p (took (AskSession ask) (SaysSession a w)) q
+move_session : (p : Panel) (ask : SessionAsk) (f : Bool) (a : SessionAnswer) (w : Option WorkView) (q : Panel)
+    → begins (AskSession ask) (SaysSession a w) ≡ false → StepSession (asker_of ask) p ask f a w q
+    → Moves (AskSession ask) (SaysSession a w) p (took (AskSession ask) (SaysSession a w)) q
 move_session p Ask.Join f a w q n h = move_still (AskSession Ask.Join) (SaysSession a w) p q (still_join p f a w q h)
 move_session p (Ask.Attach number) f a w q n h = move_still (AskSession (Ask.Attach number)) (SaysSession a w) p q (still_attach p number f a w q h)
 move_session p (Ask.Attached sid) f answer w q n h = move_known sid p (Ask.Attached sid) f answer w q n h
@@ -240,11 +245,13 @@ was_told SaysFault = refl
 fault_off : (ask : AskView) (a : AnswerView) (told : TakenSeen) → a ≡ outside_told told → told ≡ SaysFault → breaks_off ask a ≡ true
 fault_off ask a told is e = ap (λ (x : AnswerView). breaks_off ask x) (is ∙ ap (λ (t : TakenSeen). outside_told t) e)
 
-move_outside : (ask : AskView) (p : Panel) (happening : Happening) (f : Bool) (a : AnswerView) (q : Panel) → StepOutside p happening f a q → Moves ask a p (was_taken a) q
+move_outside : (ask : AskView) (p : Panel) (happening : Happening) (f : Bool) (a : AnswerView) (q : Panel) → StepOutside p happening f a q
+    → Moves ask a p (was_taken a) q
 move_outside ask p happening f a q h =
     subst (λ (n : ℕ). Moves ask a p n q) (sym (ap was_taken h.answer_is ∙ was_told h.told)) (move_happens ask a p happening f h.told q (fault_off ask a h.told h.answer_is) h.happens)
 
-move_finished : (p : Panel) (done : FinishedSeen) (f : Bool) (a : AnswerView) (q : Panel) → IsHeld p.cage → StepFinished p done f a q → Moves (AskFinished done) a p (was_taken a) q
+move_finished : (p : Panel) (done : FinishedSeen) (f : Bool) (a : AnswerView) (q : Panel) → IsHeld p.cage → StepFinished p done f a q
+    → Moves (AskFinished done) a p (was_taken a) q
 move_finished p done f SaysBack q k h = move_is (AskFinished done) SaysBack p q h.2
 move_finished p done f a q k h =
     subst (λ (n : ℕ). Moves (AskFinished done) a p n q) (sym (ap was_taken h.answer_is ∙ was_told h.told))
@@ -258,7 +265,8 @@ stopped_none c = by_scan (is_some c.scan) refl
     by_scan false e = is_none c.scan e
 
 -- an eject stops what runs
-ejected_bare : (p q : Panel) (slot : ℕ) (card : Account) → slot_at (all_open p.cage.cards) slot ≡ Some card → is_running p ≡ true → q.cage ≡ without_card (stopped p.cage) slot
+ejected_bare : (p q : Panel) (slot : ℕ) (card : Account) → slot_at (all_open p.cage.cards) slot ≡ Some card → is_running p ≡ true
+    → q.cage ≡ without_card (stopped p.cage) slot
     → (c : Channel) → is_closed q.cage.cards c ≡ false
 ejected_bare p q slot card e run is c =
     let fell : stopped p.cage ≡ safe_state p.cage = ap (λ (b : Bool). if b then safe_state p.cage else p.cage) run in
@@ -273,7 +281,8 @@ stopped_readings c = by_scan (is_some c.scan)
     by_scan true = refl
     by_scan false = refl
 
-move_ejected : (p q : Panel) (slot : ℕ) (card : Account) → slot_at (all_open p.cage.cards) slot ≡ Some card → q.cage ≡ without_card (stopped p.cage) slot → Moves (AskEject slot) (SaysEjected card) p 0 q
+move_ejected : (p q : Panel) (slot : ℕ) (card : Account) → slot_at (all_open p.cage.cards) slot ≡ Some card → q.cage ≡ without_card (stopped p.cage) slot
+    → Moves (AskEject slot) (SaysEjected card) p 0 q
 move_ejected p q slot card e is = by_run (is_running p) refl
   where
     over : q.cage.scan ≡ None
@@ -286,7 +295,8 @@ move_ejected p q slot card e is = by_run (is_running p) refl
     by_run true r = move_cut (AskEject slot) (SaysEjected card) p q (refl, over, ejected_bare p q slot card e r is, inl same)
     by_run false r = move_idle (AskEject slot) (SaysEjected card) p q (none_of p r, over, same)
 
-move_acts : (p : Panel) (ask : AskView) (f : Bool) (a : AnswerView) (q : Panel) → IsHeld p.cage → begins ask a ≡ false → Acts p ask f a q → Moves ask a p (took ask a) q
+move_acts : (p : Panel) (ask : AskView) (f : Bool) (a : AnswerView) (q : Panel) → IsHeld p.cage → begins ask a ≡ false → Acts p ask f a q
+    → Moves ask a p (took ask a) q
 move_acts p (AskSession ask) f (SaysSession a w) q k n h = move_session p ask f a w q n h
 move_acts p (AskInstall slot card) f SaysInstalled q k n h =
     move_idle (AskInstall slot card) SaysInstalled p q (none_of p h.1, ap (λ (x : Panel). x.cage.scan) h.4 ∙ none_of p h.1, ap (λ (x : Panel). x.cage.readings) h.4)
@@ -340,8 +350,10 @@ move_as ask a p q r n e h =
       adds = λ own. subst (λ (c : CageSeen). AddsOwn ask p.cage.readings c.readings) (sym e) (h.adds own);
     }
 
-move_event : (p : Panel) (ask : AskView) (f : Bool) (a : AnswerView) (q : Panel) → IsHeld p.cage → begins ask a ≡ false → IsEvent p ask f a q → Moves ask a p (took ask a) q
-move_event p ask f a q k n h = move_as ask a p h.done q (took ask a) (ap (λ (x : Panel). x.cage) h.after ∙ concluded_scan a h.done) (move_acts p ask f a h.done k n h.acts)
+move_event : (p : Panel) (ask : AskView) (f : Bool) (a : AnswerView) (q : Panel) → IsHeld p.cage → begins ask a ≡ false → IsEvent p ask f a q
+    → Moves ask a p (took ask a) q
+move_event p ask f a q k n h =
+    move_as ask a p h.done q (took ask a) (ap (λ (x : Panel). x.cage) h.after ∙ concluded_scan a h.done) (move_acts p ask f a h.done k n h.acts)
 
 -- what is handed back is not taken
 took_worn : (ask : AskView) (a : AnswerView) → IsWorn ask a → took ask a ≡ 0
@@ -368,9 +380,11 @@ took_worn (AskElapsed ticket) SaysWorn h = refl
 took_worn (AskFinished done) SaysWorn h = refl
 took_worn ask a h = absurd h
 
-move_either : (b : Bool) (p : Panel) (ask : AskView) (f : Bool) (a : AnswerView) (q : Panel) → IsHeld p.cage → begins ask a ≡ false → MatchBool b (IsUnnumbered p ask f a q) (IsEvent p ask f a q) → Moves ask a p (took ask a) q
+move_either : (b : Bool) (p : Panel) (ask : AskView) (f : Bool) (a : AnswerView) (q : Panel) → IsHeld p.cage → begins ask a ≡ false
+    → MatchBool b (IsUnnumbered p ask f a q) (IsEvent p ask f a q) → Moves ask a p (took ask a) q
 move_either true p ask f a q k n h = subst (λ (k : ℕ). Moves ask a p k q) (sym (took_worn ask a h.worn)) (move_is ask a p q h.same)
 move_either false p ask f a q k n h = move_event p ask f a q k n h
 
-pub move_step : (p : Panel) (ask : AskView) (f : Bool) (a : AnswerView) (q : Panel) → IsHeld p.cage → begins ask a ≡ false → Step p ask f a q → Moves ask a p (took ask a) q
+pub move_step : (p : Panel) (ask : AskView) (f : Bool) (a : AnswerView) (q : Panel) → IsHeld p.cage → begins ask a ≡ false → Step p ask f a q
+    → Moves ask a p (took ask a) q
 move_step p ask f a q k n h = move_either ((p.events == last_number) && not (acts_unnumbered ask)) p ask f a q k n h

@@ -1,10 +1,12 @@
 -- What commands come to, in the words of who sends them.
-use Rattle.std.proofs.Common.{Result, Ok, Err, ◌≡◌, ◌≢◌, ℕ, ◌-◌, ◌<◌, ◌≤◌, ◌==◌, ◌&&◌, not, Bool, true, false, List, length, Option, None, Some, slice_set, refl, sym, ◌∙◌, ap, subst, inl, inr, [], ◌∷◌, map}
+use Rattle.std.proofs.Common.{Result, Ok, Err, ◌≡◌, ◌≢◌, ℕ, ◌-◌, ◌<◌, ◌≤◌, ◌==◌, ◌&&◌, not, Bool, true, false, List, length, Option, None, Some, slice_set}
+use Rattle.std.proofs.Common.{refl, sym, ◌∙◌, ap, subst, inl, inr, [], ◌∷◌, map}
 use Rattle.std.specs.Prelude.{if◌then◌else◌, decimal, MatchBool}
 use Rattle.std.proofs.lemmas.List.{length-map}
 use Rattle.sw_base.specs.Layout.{Channel}
 use Rattle.sw_base.specs.declared.error.ScpiError.{ScpiError}
-use Rattle.sw_base.specs.declared.error.ScpiError.TheVariants.{UndefinedHeader, DataCorruptOrStale, TriggerIgnored, HardwareMissing, SettingsConflict, HardwareError, OutOfMemory}
+use Rattle.sw_base.specs.declared.error.ScpiError.TheVariants.{UndefinedHeader, DataCorruptOrStale, TriggerIgnored, HardwareMissing, SettingsConflict}
+use Rattle.sw_base.specs.declared.error.ScpiError.TheVariants.{HardwareError, OutOfMemory}
 use Rattle.std.specs.List.{join_with_byte}
 use Rattle.sw_base.specs.Reading.{reading_text}
 use Rattle.sw_base.specs.declared.reading.Reading.{Reading}
@@ -34,16 +36,19 @@ use Rattle.sw_core.specs.Action.{Effect, TellsNumber, TellsText, TellsReadings, 
 use Rattle.sw_core.specs.Action.{Resets, Offers, Refuses, IsOfMacros, Initiates, Action, AtOnce, BetweenScans, AfterScan, action_of}
 use Rattle.sw_core.specs.Registers.{card_fault_reported}
 use Rattle.sw_core.specs.Event.{ended, erred, last_number}
-use Rattle.sw_core.specs.View.{WorkView, AskView, AskSession, AskInstall, AskEject, AskExternal, AskElapsed, AskFinished, AnswerView, SaysSession, SaysEjected, SaysFailed}
+use Rattle.sw_core.specs.View.{WorkView, AskView, AskSession, AskInstall, AskEject, AskExternal, AskElapsed, AskFinished, AnswerView, SaysSession, SaysEjected}
+use Rattle.sw_core.specs.View.{SaysFailed}
 use Rattle.sw_core.specs.Seats.{asker_of}
 use Rattle.sw_core.specs.Step.{FailsSafe, StepClose, StepOpen, StepFlags, StepText, StepRefused, StepReadings, StepAlone, StepEffect, StepHeld, StepAction}
-use Rattle.sw_core.specs.Step.{StepOutside, Returns, Happens, session_told, StepSnapshot, StepStart, started_answer, Starts, outside_told, StepJoined, StepAdmitted, StepNew, drops, shuts_out, StepSession, Acts, acts_unnumbered, IsWorn, IsEvent, IsUnnumbered, Step}
+use Rattle.sw_core.specs.Step.{StepOutside, Returns, Happens, session_told, StepSnapshot, StepStart, started_answer, Starts, outside_told, StepJoined}
+use Rattle.sw_core.specs.Step.{StepAdmitted, StepNew, drops, shuts_out, StepSession, Acts, acts_unnumbered, IsWorn, IsEvent, IsUnnumbered, Step}
 use Rattle.sw_core.specs.Run.{IsAfterCardFault, IsAtRest, IsDoneFor, tells_failure}
 use Rattle.sw_core.proofs.Harmless.{IsHarmless, IsHarmlessAction, harmless}
 use Rattle.sw_core.proofs.Safety.{rest_closed, rest_slot}
 
 -- an answer that hands nothing back is an event's
-event_if : (b : Bool) (p : Panel) (ask : AskView) (f : Bool) (a : AnswerView) (q : Panel) → (IsWorn ask a → ⊥) → MatchBool b (IsUnnumbered p ask f a q) (IsEvent p ask f a q) → IsEvent p ask f a q
+event_if : (b : Bool) (p : Panel) (ask : AskView) (f : Bool) (a : AnswerView) (q : Panel) → (IsWorn ask a → ⊥)
+    → MatchBool b (IsUnnumbered p ask f a q) (IsEvent p ask f a q) → IsEvent p ask f a q
 event_if true p ask f a q n h = absurd (n h.worn)
 event_if false p ask f a q n h = h
 
@@ -51,7 +56,8 @@ event_of : (p : Panel) (ask : AskView) (f : Bool) (a : AnswerView) (q : Panel) �
 event_of p ask f a q n h = event_if ((p.events == last_number) && not (acts_unnumbered ask)) p ask f a q n h
 
 -- what is done was neither dropped nor held
-not_kept_out : (b o : Bool) (p : Panel) (ask : SessionAsk) (f : Bool) (t : _) (w : Option WorkView) (q : Panel) → StepAdmitted b o p ask f (Done t) w q → StepJoined p ask f (Done t) w q
+not_kept_out : (b o : Bool) (p : Panel) (ask : SessionAsk) (f : Bool) (t : _) (w : Option WorkView) (q : Panel) → StepAdmitted b o p ask f (Done t) w q
+    → StepJoined p ask f (Done t) w q
 not_kept_out true o p ask f t w q h = absurd h
 not_kept_out false true p ask f t w q h = absurd h
 not_kept_out false false p ask f t w q h = h
@@ -68,7 +74,8 @@ done_of : (p : Panel) (sid : Sid) (command : Command) (available f : Bool) (q : 
 done_of p sid command available f q e =
     not_kept_out (drops p sid (Ask.Unit sid command available)) (shuts_out p sid (Ask.Unit sid command available)) p (Ask.Unit sid command available) f None None e.done e.acts.1
 
-pub closes : (p q : Panel) (chans : List Channel) (available failed : Bool) → IsDoneFor p (Command.Close chans) available failed q → (c : Channel) → is_in chans c ≡ true
+pub closes : (p q : Panel) (chans : List Channel) (available failed : Bool) → IsDoneFor p (Command.Close chans) available failed q → (c : Channel)
+    → is_in chans c ≡ true
     → is_closed q.cage.cards c ≡ true
 closes p q chans available failed s c i =
     let sid = s.0 in
@@ -77,7 +84,8 @@ closes p q chans available failed s c i =
     let d = (not_barred (is_running p) p (Closes chans) failed None None e.done (done_of p sid (Command.Close chans) available failed q e)).0 in
     ap (λ (x : Panel). is_closed x.cage.cards c) e.after ∙ d.2.closed c ∙ ap (λ (b : Bool). if b then true else is_closed p.cage.cards c) i
 
-pub opens : (p q : Panel) (chans : List Channel) (available failed : Bool) → IsDoneFor p (Command.Open chans) available failed q → (c : Channel) → is_in chans c ≡ true
+pub opens : (p q : Panel) (chans : List Channel) (available failed : Bool) → IsDoneFor p (Command.Open chans) available failed q → (c : Channel)
+    → is_in chans c ≡ true
     → is_closed q.cage.cards c ≡ false
 opens p q chans available failed s c i =
     let sid = s.0 in
@@ -104,23 +112,28 @@ reset p q available failed s =
     let cage = ap (λ (x : Panel). x.cage) e.after ∙ ap (λ (x : Panel). x.cage) d.1 in
     record { none = λ c. ap (λ (x : CageSeen). is_closed x.cards c) cage ∙ all_open_closed p.cage.cards c; idle = ap (λ (x : CageSeen). x.scan) cage }
 
-pub ejected : (p q : Panel) (slot : ℕ) (failed : Bool) (card : Account) → Step p (AskEject slot) failed (SaysEjected card) q → (k : ℕ) → closed_at card.closed k ≡ false
+pub ejected : (p q : Panel) (slot : ℕ) (failed : Bool) (card : Account) → Step p (AskEject slot) failed (SaysEjected card) q → (k : ℕ)
+    → closed_at card.closed k ≡ false
 ejected p q slot f card h k = rest_closed p.cage.cards slot card (event_of p (AskEject slot) f (SaysEjected card) q (λ w. w) h).acts.2 k
 
-pub bare_slot : (rack : Accounts) (slot : ℕ) (c : Channel) → 0 < slot → slot ≤ length rack → ((x : Channel) → is_closed rack x ≡ false) → is_closed (slice_set rack (slot - 1) None) c ≡ false
+pub bare_slot : (rack : Accounts) (slot : ℕ) (c : Channel) → 0 < slot → slot ≤ length rack → ((x : Channel) → is_closed rack x ≡ false)
+    → is_closed (slice_set rack (slot - 1) None) c ≡ false
 bare_slot rack slot c a b bare = elim (slot_cases rack slot c.0 None a b) [
   | inl e ↦ ap (λ o. option_closed o c.1) e.1
   | inr e ↦ ap (λ o. option_closed o c.1) e.1 ∙ bare c
 ]
 
-pub stopped_rest : (p q : Panel) (slot : ℕ) (failed : Bool) (card : Account) → is_running p ≡ true → Step p (AskEject slot) failed (SaysEjected card) q → IsAtRest q
+pub stopped_rest : (p q : Panel) (slot : ℕ) (failed : Bool) (card : Account) → is_running p ≡ true → Step p (AskEject slot) failed (SaysEjected card) q
+    → IsAtRest q
 stopped_rest p q slot f card run h =
     let e = event_of p (AskEject slot) f (SaysEjected card) q (λ w. w) h in
     let fell : stopped p.cage ≡ safe_state p.cage = ap (λ (b : Bool). if b then safe_state p.cage else p.cage) run in
-    let cage : q.cage ≡ without_card (safe_state p.cage) slot = ap (λ (x : Panel). x.cage) e.after ∙ ap (λ (x : Panel). x.cage) e.acts.3 ∙ ap (λ (x : CageSeen). without_card x slot) fell in
+    let cage : q.cage ≡ without_card (safe_state p.cage) slot = ap (λ (x : Panel). x.cage) e.after ∙ ap (λ (x : Panel). x.cage) e.acts.3
+    ∙ ap (λ (x : CageSeen). without_card x slot) fell in
     let r : (0 < slot) × (slot ≤ length p.cage.cards) = rest_slot p.cage.cards slot card e.acts.2 in
     record {
-      none = λ c. ap (λ (x : CageSeen). is_closed x.cards c) cage ∙ bare_slot (all_open p.cage.cards) slot c r.0 (subst (λ n. slot ≤ n) (sym (length-map p.cage.cards option_rest)) r.1) (all_open_closed p.cage.cards);
+      none = λ c. ap (λ (x : CageSeen). is_closed x.cards c) cage
+          ∙ bare_slot (all_open p.cage.cards) slot c r.0 (subst (λ n. slot ≤ n) (sym (length-map p.cage.cards option_rest)) r.1) (all_open_closed p.cage.cards);
       idle = ap (λ (x : CageSeen). x.scan) cage;
     }
 
@@ -178,7 +191,8 @@ alone_quiet IsOfMacros p f e q h n = h.2
 alone_quiet Initiates p f e q h n = h.2
 alone_quiet (Offers happening error) p f e q h n = absurd h
 
-told_quiet : (p : Panel) (happening : Happening) (error : ScpiError) (f : Bool) (e : ScpiError) (told : TakenSeen) (q : Panel) → Refused e ≡ session_told error told → Happens p happening f told q → IsQuiet p e q
+told_quiet : (p : Panel) (happening : Happening) (error : ScpiError) (f : Bool) (e : ScpiError) (told : TakenSeen) (q : Panel)
+    → Refused e ≡ session_told error told → Happens p happening f told q → IsQuiet p e q
 told_quiet p happening error f e SaysIgnored q a h n = h.2
 told_quiet p happening error f e SaysFault q a h n = absurd (n (cc (a)))
 told_quiet p happening error f e SaysWaits q a h n = absurd (cc (a))
@@ -200,7 +214,8 @@ held_quiet : (b : Bool) (d : Effect) (p : Panel) (ask : SessionAsk) (f : Bool) (
 held_quiet true d p ask f e w q h n = absurd h
 held_quiet false d p ask f e w q h n = effect_quiet d p f e w q h n
 
-action_quiet : (x : Action) (p : Panel) (ask : SessionAsk) (f : Bool) (e : ScpiError) (w : Option WorkView) (q : Panel) → StepAction x p ask f (Refused e) w q → IsQuiet p e q
+action_quiet : (x : Action) (p : Panel) (ask : SessionAsk) (f : Bool) (e : ScpiError) (w : Option WorkView) (q : Panel) → StepAction x p ask f (Refused e) w q
+    → IsQuiet p e q
 action_quiet (AtOnce d) p ask f e w q h n = effect_quiet d p f e w q h n
 action_quiet (BetweenScans d) p ask f e w q h n = barred_quiet (is_running p) d p f e w q h n
 action_quiet (AfterScan d) p ask f e w q h n = held_quiet (is_running p) d p ask f e w q h n
@@ -233,7 +248,8 @@ joined_quiet p (Ask.LockInfo sid) f e q h n = absurd h.served
 joined_quiet p (Ask.Attach number) f e q h n = absurd h.served
 joined_quiet p Ask.Join f e q h n = absurd h.served
 
-admitted_quiet : (b o : Bool) (p : Panel) (ask : SessionAsk) (f : Bool) (e : ScpiError) (q : Panel) → StepAdmitted b o p ask f (Refused e) None q → IsQuiet p e q
+admitted_quiet : (b o : Bool) (p : Panel) (ask : SessionAsk) (f : Bool) (e : ScpiError) (q : Panel) → StepAdmitted b o p ask f (Refused e) None q
+    → IsQuiet p e q
 admitted_quiet true o p ask f e q h n = absurd h
 admitted_quiet false true p ask f e q h n = absurd h
 admitted_quiet false false p ask f e q h n = joined_quiet p ask f e q h n
@@ -243,7 +259,8 @@ new_quiet p Ask.Join f e q h n = absurd h
 new_quiet p (Ask.Attach number) f e q h n = absurd h
 new_quiet p ask f e q h n = absurd h
 
-session_quiet : (o : Option Sid) (p : Panel) (ask : SessionAsk) (f : Bool) (e : ScpiError) (q : Panel) → StepSession o p ask f (Refused e) None q → IsQuiet p e q
+session_quiet : (o : Option Sid) (p : Panel) (ask : SessionAsk) (f : Bool) (e : ScpiError) (q : Panel) → StepSession o p ask f (Refused e) None q
+    → IsQuiet p e q
 session_quiet None p ask f e q h n = new_quiet p ask f e q h n
 session_quiet (Some sid) p ask f e q h n = admitted_quiet (drops p sid ask) (shuts_out p sid ask) p ask f e q h.1 n
 
@@ -262,7 +279,8 @@ unworn AskExternal e w = w
 unworn (AskElapsed ticket) e w = w
 unworn (AskFinished done) e w = w
 
-pub refused : (p q : Panel) (ask : AskView) (failed : Bool) (e : ScpiError) → e ≢ HardwareError → Step p ask failed (SaysSession (Refused e) None) q → q ≡ ended (erred p e)
+pub refused : (p q : Panel) (ask : AskView) (failed : Bool) (e : ScpiError) → e ≢ HardwareError → Step p ask failed (SaysSession (Refused e) None) q
+    → q ≡ ended (erred p e)
 refused p q ask failed e n h =
     let x = event_of p ask failed _ q (unworn ask e) h in
     x.after ∙ ap (λ (y : Panel). ended (erred y e)) (acts_quiet p ask failed e x.done x.acts n)
@@ -277,7 +295,8 @@ pub record IsDown (p : Panel) (f : Bool) (q : Panel) : Type 0 where
   pub status : q.status ≡ card_fault_reported p.status
 
 falls_down : (p : Panel) (f : Bool) (q : Panel) → f ≡ true → is_running p ≡ false → FailsSafe p q → IsDown p f q
-falls_down p f q t idle s = record { failed = t; none = s.0.none; idle = ap (λ (x : Panel). x.cage.scan) s.1 ∙ is_none p.cage.scan idle; status = ap (λ (x : Panel). x.status) s.1 }
+falls_down p f q t idle s =
+    record { failed = t; none = s.0.none; idle = ap (λ (x : Panel). x.cage.scan) s.1 ∙ is_none p.cage.scan idle; status = ap (λ (x : Panel). x.status) s.1 }
 
 readings_down : (l : List Reading) (p : Panel) (f : Bool) (q : Panel) → StepReadings l p f (Refused HardwareError) q → IsDown p f q
 readings_down [] p f q h = absurd (let x : HardwareError ≡ DataCorruptOrStale = h.1 in cc (x))
@@ -307,7 +326,8 @@ past_down : (c q : CageSeen) (scan : Option ScanSeen) → AdvancesPastFrom c sca
 past_down c q None h = absurd h
 past_down c q (Some at) h = (h.runs.fallen.none, h.runs.over)
 
-told_down : (p : Panel) (happening : Happening) (error : ScpiError) (f : Bool) (told : TakenSeen) (q : Panel) → error ≢ HardwareError → Refused HardwareError ≡ session_told error told → Happens p happening f told q → IsDown p f q
+told_down : (p : Panel) (happening : Happening) (error : ScpiError) (f : Bool) (told : TakenSeen) (q : Panel) → error ≢ HardwareError
+    → Refused HardwareError ≡ session_told error told → Happens p happening f told q → IsDown p f q
 told_down p happening error f SaysFault q n a h = let r = past_down p.cage q.cage p.cage.scan h.1 in record { failed = h.2.0; none = r.0; idle = r.1; status = ap (λ (x : Panel). x.status) h.2.1 }
 told_down p happening error f SaysIgnored q n a h = absurd (n (let x : HardwareError ≡ error = cc (a) in sym x))
 told_down p happening error f SaysWaits q n a h = absurd (cc (a))
@@ -318,7 +338,8 @@ told_down p happening error f SaysEnded q n a h = absurd (cc (a))
 trigger_plain : TriggerIgnored ≢ HardwareError
 trigger_plain e = absurd (cc (e))
 
-effect_down : (d : Effect) (p : Panel) (f : Bool) (w : Option WorkView) (q : Panel) → IsHarmless p d → StepEffect d p f (Refused HardwareError) w q → IsDown p f q
+effect_down : (d : Effect) (p : Panel) (f : Bool) (w : Option WorkView) (q : Panel) → IsHarmless p d → StepEffect d p f (Refused HardwareError) w q
+    → IsDown p f q
 effect_down (Offers happening error) p f w q n h = told_down p happening error f h.told q n h.answer_is h.happens
 effect_down d p f w q n h = alone_down d p f q n h.0
 
@@ -332,12 +353,14 @@ held_down : (b : Bool) (d : Effect) (p : Panel) (ask : SessionAsk) (f : Bool) (w
 held_down true d p ask f w q n h = absurd h
 held_down false d p ask f w q n h = effect_down d p f w q n h
 
-action_down : (x : Action) (p : Panel) (ask : SessionAsk) (f : Bool) (w : Option WorkView) (q : Panel) → IsHarmlessAction p x → StepAction x p ask f (Refused HardwareError) w q → IsDown p f q
+action_down : (x : Action) (p : Panel) (ask : SessionAsk) (f : Bool) (w : Option WorkView) (q : Panel) → IsHarmlessAction p x
+    → StepAction x p ask f (Refused HardwareError) w q → IsDown p f q
 action_down (AtOnce d) p ask f w q n h = effect_down d p f w q n h
 action_down (BetweenScans d) p ask f w q n h = barred_down (is_running p) d p f w q n h
 action_down (AfterScan d) p ask f w q n h = held_down (is_running p) d p ask f w q n h
 
-start_down : (p : Panel) (plan : Snapshot) (f : Bool) (told : TakenSeen) (w : Option WorkView) (q : Panel) → Refused HardwareError ≡ started_answer told → Starts p plan f told q → IsDown p f q
+start_down : (p : Panel) (plan : Snapshot) (f : Bool) (told : TakenSeen) (w : Option WorkView) (q : Panel) → Refused HardwareError ≡ started_answer told
+    → Starts p plan f told q → IsDown p f q
 start_down p plan f SaysFault w q a h = record { failed = h.0; none = h.3.runs.fallen.none; idle = h.3.runs.over; status = ap (λ (x : Panel). x.status) h.4 }
 start_down p plan f SaysIgnored w q a h = absurd (cc (a))
 start_down p plan f SaysWaits w q a h = absurd (cc (a))
@@ -346,7 +369,8 @@ start_down p plan f (SaysJob j) w q a h = absurd (cc (a))
 start_down p plan f SaysEnded w q a h = absurd (cc (a))
 
 joined_down : (p : Panel) (ask : SessionAsk) (f : Bool) (w : Option WorkView) (q : Panel) → StepJoined p ask f (Refused HardwareError) w q → IsDown p f q
-joined_down p (Ask.Unit sid command available) f w q h = action_down (action_of available command) p (Ask.Unit sid command available) f w q (harmless p available command) h
+joined_down p (Ask.Unit sid command available) f w q h =
+    action_down (action_of available command) p (Ask.Unit sid command available) f w q (harmless p available command) h
 joined_down p (Ask.Bus sid) f w q h = told_down p Bus TriggerIgnored f h.told q trigger_plain h.answer_is h.happens
 joined_down p (Ask.Snapshot sid) f None q h = absurd h.1
 joined_down p (Ask.Start sid plan) f w q h = start_down p plan f h.told w q h.answer_is h.starts
@@ -364,7 +388,8 @@ joined_down p (Ask.Attach number) f None q h = absurd h.served
 joined_down p Ask.Join f None q h = absurd h.served
 joined_down p ask f w q h = absurd h
 
-admitted_down : (b o : Bool) (p : Panel) (ask : SessionAsk) (f : Bool) (w : Option WorkView) (q : Panel) → StepAdmitted b o p ask f (Refused HardwareError) w q → IsDown p f q
+admitted_down : (b o : Bool) (p : Panel) (ask : SessionAsk) (f : Bool) (w : Option WorkView) (q : Panel) → StepAdmitted b o p ask f (Refused HardwareError) w q
+    → IsDown p f q
 admitted_down true o p ask f w q h = absurd h
 admitted_down false true p ask f w q h = absurd h
 admitted_down false false p ask f w q h = joined_down p ask f w q h
@@ -374,7 +399,8 @@ new_down p Ask.Join f w q h = absurd h
 new_down p (Ask.Attach number) f w q h = absurd h
 new_down p ask f w q h = absurd h
 
-session_down : (o : Option Sid) (p : Panel) (ask : SessionAsk) (f : Bool) (w : Option WorkView) (q : Panel) → StepSession o p ask f (Refused HardwareError) w q → IsDown p f q
+session_down : (o : Option Sid) (p : Panel) (ask : SessionAsk) (f : Bool) (w : Option WorkView) (q : Panel) → StepSession o p ask f (Refused HardwareError) w q
+    → IsDown p f q
 session_down None p ask f w q h = new_down p ask f w q h
 session_down (Some sid) p ask f w q h = admitted_down (drops p sid ask) (shuts_out p sid ask) p ask f w q h.1
 
@@ -388,9 +414,11 @@ happens_down : (p : Panel) (happening : Happening) (f : Bool) (q : Panel) → Ha
 happens_down p happening f q h = let r = past_down p.cage q.cage p.cage.scan h.1 in record { failed = h.2.0; none = r.0; idle = r.1; status = ap (λ (x : Panel). x.status) h.2.1 }
 
 outside_down : (p : Panel) (happening : Happening) (f : Bool) (q : Panel) → StepOutside p happening f SaysFailed q → IsDown p f q
-outside_down p happening f q h = happens_down p happening f q (subst (λ (t : TakenSeen). Happens p happening f t q) (outside_fault h.told h.answer_is) h.happens)
+outside_down p happening f q h =
+    happens_down p happening f q (subst (λ (t : TakenSeen). Happens p happening f t q) (outside_fault h.told h.answer_is) h.happens)
 
-counts_down : (c q : CageSeen) (outcome : Result Reading CardFault) → Counts c outcome SaysFault q → ((x : Channel) → is_closed q.cards x ≡ false) × (q.scan ≡ None)
+counts_down : (c q : CageSeen) (outcome : Result Reading CardFault) → Counts c outcome SaysFault q → ((x : Channel) → is_closed q.cards x ≡ false)
+    × (q.scan ≡ None)
 counts_down c q (Ok r) g = past_down (with_reading c r) q c.scan g
 counts_down c q (Err e) g = (λ x. ap (λ (y : CageSeen). is_closed y.cards x) g.1 ∙ all_open_closed c.cards x, ap (λ (y : CageSeen). y.scan) g.1)
 
@@ -439,7 +467,8 @@ down_after p done q f d after = (
   },
 )
 
-pub failed : (p q : Panel) (ask : AskView) (failed : Bool) (answer : AnswerView) → tells_failure answer ≡ true → Step p ask failed answer q → (failed ≡ true) × IsAfterCardFault p q
+pub failed : (p q : Panel) (ask : AskView) (failed : Bool) (answer : AnswerView) → tells_failure answer ≡ true → Step p ask failed answer q → (failed ≡ true)
+    × IsAfterCardFault p q
 failed p q ask f SaysFailed t h = let x = event_of p ask f SaysFailed q (worn_failed ask) h in down_after p x.done q f (fails_down p ask f x.done x.acts) x.after
 failed p q ask f (SaysSession (Refused HardwareError) w) t h =
     let x = event_of p ask f (SaysSession (Refused HardwareError) w) q (worn_failure ask w) h in

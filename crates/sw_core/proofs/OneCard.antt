@@ -34,15 +34,19 @@ bad_can rack slot card can bad = elim bad [
   ]
 ]
 
-pub install_apart : (p : Panel) (slot : ℕ) (card : Account) (r : InstallRefusal) → is_running p ≡ false → slot_at p.cage.out slot ≡ None → CanInstall p.cage.cards slot card → RefusesInstall p.cage slot card r → ⊥
+pub install_apart : (p : Panel) (slot : ℕ) (card : Account) (r : InstallRefusal) → is_running p ≡ false → slot_at p.cage.out slot ≡ None
+    → CanInstall p.cage.cards slot card → RefusesInstall p.cage slot card r → ⊥
 install_apart p slot card Busy idle home can bad = true_false _ bad idle
-install_apart p slot card Occupied idle home can bad = elim bad.1 [ inl o ↦ some_none (slot_at p.cage.out slot) o home | inr o ↦ some_none (slot_at p.cage.cards slot) o can.empty ]
+install_apart p slot card Occupied idle home can bad =
+    elim bad.1 [ inl o ↦ some_none (slot_at p.cage.out slot) o home | inr o ↦ some_none (slot_at p.cage.cards slot) o can.empty ]
 install_apart p slot card BadLayout idle home can bad = bad_can p.cage.cards slot card can bad.3
 
-pub taken_free : (p : Panel) (slot : ℕ) → slot_at p.cage.out slot ≡ None → slot_at p.cage.cards slot ≡ None → (is_some (slot_at p.cage.out slot) ≡ true) ⊎ (is_some (slot_at p.cage.cards slot) ≡ true) → ⊥
+pub taken_free : (p : Panel) (slot : ℕ) → slot_at p.cage.out slot ≡ None → slot_at p.cage.cards slot ≡ None → (is_some (slot_at p.cage.out slot) ≡ true)
+    ⊎ (is_some (slot_at p.cage.cards slot) ≡ true) → ⊥
 taken_free p slot a b o = elim o [ inl x ↦ some_none (slot_at p.cage.out slot) x a | inr x ↦ some_none (slot_at p.cage.cards slot) x b ]
 
-pub install_once : (p : Panel) (slot : ℕ) (card : Account) (r r' : InstallRefusal) → RefusesInstall p.cage slot card r → RefusesInstall p.cage slot card r' → r ≡ r'
+pub install_once : (p : Panel) (slot : ℕ) (card : Account) (r r' : InstallRefusal) → RefusesInstall p.cage slot card r → RefusesInstall p.cage slot card r'
+    → r ≡ r'
 install_once p slot card Busy Busy h k = refl
 install_once p slot card Occupied Occupied h k = refl
 install_once p slot card BadLayout BadLayout h k = refl
@@ -62,6 +66,7 @@ eject_once p slot Out Vacant h k = absurd (some_none (slot_at p.cage.out slot) h
 pub rest_none : (rack : Accounts) (slot : ℕ) (card : Account) → slot_at (all_open rack) slot ≡ Some card → slot_at rack slot ≡ None → ⊥
 rest_none rack slot card e f = let k : option_rest (slot_at rack slot) ≡ option_rest None = ap option_rest f in absurd (let g : None ≡ Some card = sym k ∙ sym (slot_rest rack slot) ∙ e in cc)
 
-pub eject_apart : (p : Panel) (slot : ℕ) (card : Account) (r : EjectRefusal) → slot_at p.cage.out slot ≡ None → slot_at (all_open p.cage.cards) slot ≡ Some card → RefusesEject p.cage slot r → ⊥
+pub eject_apart : (p : Panel) (slot : ℕ) (card : Account) (r : EjectRefusal) → slot_at p.cage.out slot ≡ None → slot_at (all_open p.cage.cards) slot ≡ Some card
+    → RefusesEject p.cage slot r → ⊥
 eject_apart p slot card Vacant home e h = rest_none p.cage.cards slot card e h.1
 eject_apart p slot card Out home e h = some_none (slot_at p.cage.out slot) h home

@@ -3,7 +3,8 @@ use Rattle.std.proofs.Common.{◌≡◌, ℕ, Bool, true, false, List, None, Som
 use Rattle.std.specs.Prelude.{decimal}
 use Rattle.sw_base.specs.Layout.{Channel}
 use Rattle.sw_base.specs.declared.error.ScpiError.{ScpiError}
-use Rattle.sw_base.specs.declared.error.ScpiError.TheVariants.{UndefinedHeader, DataCorruptOrStale, HardwareMissing, SettingsConflict, HardwareError, OutOfMemory}
+use Rattle.sw_base.specs.declared.error.ScpiError.TheVariants.{UndefinedHeader, DataCorruptOrStale, HardwareMissing, SettingsConflict, HardwareError}
+use Rattle.sw_base.specs.declared.error.ScpiError.TheVariants.{OutOfMemory}
 use Rattle.std.specs.List.{join_with_byte}
 use Rattle.sw_base.specs.Reading.{reading_text}
 use Rattle.sw_base.specs.declared.reading.Reading.{Reading}
@@ -33,10 +34,12 @@ same_text t t' x e f = ap (λ (y : List ℕ). Done (Some y)) (e ∙ sym f)
 pub true_false : (b : Bool) → b ≡ true → b ≡ false → ⊥
 true_false b e f = absurd (let k : true ≡ false = sym e ∙ f in cc)
 
-pub set_once : (p q q' : Panel) (chans : List Channel) (on : Bool) → Sets p.cage.cards chans on q.cage.cards → Sets p.cage.cards chans on q'.cage.cards → q ≡ with_cards p q.cage.cards → q' ≡ with_cards p q'.cage.cards → q ≡ q'
+pub set_once : (p q q' : Panel) (chans : List Channel) (on : Bool) → Sets p.cage.cards chans on q.cage.cards → Sets p.cage.cards chans on q'.cage.cards
+    → q ≡ with_cards p q.cage.cards → q' ≡ with_cards p q'.cage.cards → q ≡ q'
 set_once p q q' chans on s t e f = e ∙ ap (λ (r : Accounts). with_cards p r) (sets_once p.cage.cards q.cage.cards q'.cage.cards chans on s t) ∙ sym f
 
-pub close_once : (p : Panel) (chans : List Channel) (f f' : Bool) (a a' : SessionAnswer) (q q' : Panel) → IsPlain (SaysSession a None) → IsPlain (SaysSession a' None) → StepClose p chans f a q → StepClose p chans f' a' q' → IsOnce a a' q q'
+pub close_once : (p : Panel) (chans : List Channel) (f f' : Bool) (a a' : SessionAnswer) (q q' : Panel) → IsPlain (SaysSession a None)
+    → IsPlain (SaysSession a' None) → StepClose p chans f a q → StepClose p chans f' a' q' → IsOnce a a' q q'
 close_once p chans f f' (Done None) (Done None) q q' n m h k = (refl, set_once p q q' chans true h.2 k.2 h.3 k.3)
 close_once p chans f f' (Done None) (Refused HardwareMissing) q q' n m h k = absurd (true_false _ h.1.present k.1)
 close_once p chans f f' (Done None) (Refused SettingsConflict) q q' n m h k = absurd (h.1.apart k.1.1)
@@ -50,7 +53,8 @@ close_once p chans f f' (Refused HardwareError) a' q q' n m h k = absurd (n.1 re
 close_once p chans f f' a (Refused HardwareError) q q' n m h k = absurd (m.1 refl)
 close_once p chans f f' a a' q q' n m h k = absurd (assumption (h, k))
 
-pub open_once : (p : Panel) (chans : List Channel) (f f' : Bool) (a a' : SessionAnswer) (q q' : Panel) → IsPlain (SaysSession a None) → IsPlain (SaysSession a' None) → StepOpen p chans f a q → StepOpen p chans f' a' q' → IsOnce a a' q q'
+pub open_once : (p : Panel) (chans : List Channel) (f f' : Bool) (a a' : SessionAnswer) (q q' : Panel) → IsPlain (SaysSession a None)
+    → IsPlain (SaysSession a' None) → StepOpen p chans f a q → StepOpen p chans f' a' q' → IsOnce a a' q q'
 open_once p chans f f' (Done None) (Done None) q q' n m h k = (refl, set_once p q q' chans false h.2 k.2 h.3 k.3)
 open_once p chans f f' (Done None) (Refused HardwareMissing) q q' n m h k = absurd (true_false _ h.1 k.1)
 open_once p chans f f' (Refused HardwareMissing) (Done None) q q' n m h k = absurd (true_false _ k.1 h.1)
@@ -59,7 +63,8 @@ open_once p chans f f' (Refused HardwareError) a' q q' n m h k = absurd (n.1 ref
 open_once p chans f f' a (Refused HardwareError) q q' n m h k = absurd (m.1 refl)
 open_once p chans f f' a a' q q' n m h k = absurd (assumption (h, k))
 
-pub flags_once : (p : Panel) (closed : Bool) (chans : List Channel) (f f' : Bool) (a a' : SessionAnswer) (q q' : Panel) → IsPlain (SaysSession a None) → IsPlain (SaysSession a' None) → StepFlags p closed chans f a q → StepFlags p closed chans f' a' q' → IsOnce a a' q q'
+pub flags_once : (p : Panel) (closed : Bool) (chans : List Channel) (f f' : Bool) (a a' : SessionAnswer) (q q' : Panel) → IsPlain (SaysSession a None)
+    → IsPlain (SaysSession a' None) → StepFlags p closed chans f a q → StepFlags p closed chans f' a' q' → IsOnce a a' q q'
 flags_once p closed chans f f' (Done (Some t)) (Done (Some t')) q q' n m h k = (same_text t t' _ h.2 k.2, both p q q' h.3 k.3)
 flags_once p closed chans f f' (Done (Some t)) (Refused HardwareMissing) q q' n m h k = absurd (true_false _ h.1 k.1)
 flags_once p closed chans f f' (Refused HardwareMissing) (Done (Some t)) q q' n m h k = absurd (true_false _ k.1 h.1)
@@ -68,7 +73,8 @@ flags_once p closed chans f f' (Refused OutOfMemory) a' q q' n m h k = absurd (n
 flags_once p closed chans f f' a (Refused OutOfMemory) q q' n m h k = absurd (m.0 refl)
 flags_once p closed chans f f' a a' q q' n m h k = absurd (assumption (h, k))
 
-pub text_once : (p : Panel) (text : List ℕ) (s : StatusSeen) (f f' : Bool) (a a' : SessionAnswer) (q q' : Panel) → IsPlain (SaysSession a None) → IsPlain (SaysSession a' None) → StepText p text s f a q → StepText p text s f' a' q' → IsOnce a a' q q'
+pub text_once : (p : Panel) (text : List ℕ) (s : StatusSeen) (f f' : Bool) (a a' : SessionAnswer) (q q' : Panel) → IsPlain (SaysSession a None)
+    → IsPlain (SaysSession a' None) → StepText p text s f a q → StepText p text s f' a' q' → IsOnce a a' q q'
 text_once p text s f f' (Done (Some t)) (Done (Some t')) q q' n m h k = (same_text t t' _ h.1 k.1, h.2 ∙ sym k.2)
 text_once p text s f f' (Refused OutOfMemory) a' q q' n m h k = absurd (n.0 refl)
 text_once p text s f f' a (Refused OutOfMemory) q q' n m h k = absurd (m.0 refl)
@@ -78,14 +84,16 @@ pub done_once : (after : Panel) (f f' : Bool) (a a' : SessionAnswer) (q q' : Pan
 done_once after f f' (Done None) (Done None) q q' h k = (refl, both after q q' h.1 k.1)
 done_once after f f' a a' q q' h k = absurd (assumption (h, k))
 
-pub setting_once : (p : Panel) (Fits : Type 0) (error : ScpiError) (setup : Setup) (f f' : Bool) (a a' : SessionAnswer) (q q' : Panel) → StepSetting p Fits error setup f a q → StepSetting p Fits error setup f' a' q' → IsOnce a a' q q'
+pub setting_once : (p : Panel) (Fits : Type 0) (error : ScpiError) (setup : Setup) (f f' : Bool) (a a' : SessionAnswer) (q q' : Panel)
+    → StepSetting p Fits error setup f a q → StepSetting p Fits error setup f' a' q' → IsOnce a a' q q'
 setting_once p Fits error setup f f' (Done None) (Done None) q q' h k = (refl, h.2 ∙ sym k.2)
 setting_once p Fits error setup f f' (Done None) (Refused e) q q' h k = absurd (k.1 h.1)
 setting_once p Fits error setup f f' (Refused e) (Done None) q q' h k = absurd (h.1 k.1)
 setting_once p Fits error setup f f' (Refused e) (Refused e') q q' h k = (ap Refused (h.2 ∙ sym k.2), both p q q' h.3 k.3)
 setting_once p Fits error setup f f' a a' q q' h k = absurd (assumption (h, k))
 
-pub refused_once : (p : Panel) (error : ScpiError) (f f' : Bool) (a a' : SessionAnswer) (q q' : Panel) → StepRefused p error f a q → StepRefused p error f' a' q' → IsOnce a a' q q'
+pub refused_once : (p : Panel) (error : ScpiError) (f f' : Bool) (a a' : SessionAnswer) (q q' : Panel) → StepRefused p error f a q
+    → StepRefused p error f' a' q' → IsOnce a a' q q'
 refused_once p error f f' (Refused e) (Refused e') q q' h k = (ap Refused (h.1 ∙ sym k.1), both p q q' h.2 k.2)
 refused_once p error f f' a a' q q' h k = absurd (assumption (h, k))
 

@@ -34,7 +34,9 @@ unbroken error a told n e f =
     let plain : IsPlain (SaysSession (Refused HardwareError) None) = subst (λ (x : SessionAnswer). IsPlain (SaysSession x None)) g n in
     plain.1 refl
 
-pub happening_once : (p : Panel) (happening : Happening) (error : ScpiError) (f f' : Bool) (a a' : SessionAnswer) (w w' : Option WorkView) (q q' : Panel) → IsPlain (SaysSession a None) → IsPlain (SaysSession a' None) → StepHappens p happening error f a w q → StepHappens p happening error f' a' w' q' → IsAlike a a' w w' q q'
+pub happening_once : (p : Panel) (happening : Happening) (error : ScpiError) (f f' : Bool) (a a' : SessionAnswer) (w w' : Option WorkView) (q q' : Panel)
+    → IsPlain (SaysSession a None) → IsPlain (SaysSession a' None) → StepHappens p happening error f a w q → StepHappens p happening error f' a' w' q'
+    → IsAlike a a' w w' q q'
 happening_once p happening error f f' a a' w w' q q' n m h k =
     let r = happens_once p q q' happening f f' h.told k.told h.happens k.happens (unbroken error a h.told n h.answer_is) (unbroken error a' k.told m k.answer_is) in
     (h.answer_is ∙ ap (λ (x : TakenSeen). session_told error x) r.0 ∙ sym k.answer_is, h.work_is ∙ ap (λ (x : TakenSeen). work_of x) r.0 ∙ sym k.work_is, r.1)
@@ -104,7 +106,8 @@ snapshot_as p f (Refused OutOfMemory) q n h = absurd (n.0 refl)
 snapshot_as p f (Refused e) q n h = inr (e, h.1, refl, h.2)
 snapshot_as p f a q n h = absurd h
 
-pub snapshot_once : (p : Panel) (f f' : Bool) (a a' : SessionAnswer) (q q' : Panel) → IsPlain (SaysSession a None) → IsPlain (SaysSession a' None) → StepSnapshot p f a q → StepSnapshot p f' a' q' → IsOnce a a' q q'
+pub snapshot_once : (p : Panel) (f f' : Bool) (a a' : SessionAnswer) (q q' : Panel) → IsPlain (SaysSession a None) → IsPlain (SaysSession a' None)
+    → StepSnapshot p f a q → StepSnapshot p f' a' q' → IsOnce a a' q q'
 snapshot_once p f f' a a' q q' n m h k = elim (snapshot_as p f a q n h) [
   | inl x ↦ elim (snapshot_as p f' a' q' m k) [ inl y ↦ (x.1 ∙ sym y.1, both p q q' x.2 y.2) | inr y ↦ absurd (may_apart p y.0 x.0 y.1) ]
   | inr x ↦ elim (snapshot_as p f' a' q' m k) [
@@ -123,26 +126,31 @@ IsStale p plan a w q = MayScan p × (plan ≢ snapshot_of p) × (a ≡ Refused S
 abbrev pub IsBarred : Panel → SessionAnswer → Option WorkView → Panel → Type 0
 IsBarred p a w q = (e : ScpiError) × RefusesScan p e × (a ≡ Refused e) × (w ≡ None) × (q ≡ p)
 
-pub start_as : (p : Panel) (plan : Snapshot) (f : Bool) (a : SessionAnswer) (w : Option WorkView) (q : Panel) → IsPlain (SaysSession a None) → StepStart p plan f a w q → IsBegun p plan a w q ⊎ (IsStale p plan a w q ⊎ IsBarred p a w q)
+pub start_as : (p : Panel) (plan : Snapshot) (f : Bool) (a : SessionAnswer) (w : Option WorkView) (q : Panel) → IsPlain (SaysSession a None)
+    → StepStart p plan f a w q → IsBegun p plan a w q ⊎ (IsStale p plan a w q ⊎ IsBarred p a w q)
 start_as p plan f (Done None) w q n h = inl (f, h)
 start_as p plan f (Refused HardwareError) w q n h = absurd (n.1 refl)
 start_as p plan f (Refused OutOfMemory) None q n h = absurd (n.0 refl)
-start_as p plan f (Refused SettingsConflict) None q n h = elim h.1 [ inl r ↦ inr (inr (SettingsConflict, r, refl, refl, h.2)) | inr r ↦ inr (inl (r.0, r.1, refl, refl, h.2)) ]
+start_as p plan f (Refused SettingsConflict) None q n h =
+    elim h.1 [ inl r ↦ inr (inr (SettingsConflict, r, refl, refl, h.2)) | inr r ↦ inr (inl (r.0, r.1, refl, refl, h.2)) ]
 start_as p plan f (Refused e) None q n h = inr (inr (e, h.1, refl, refl, h.2))
 start_as p plan f a w q n h = absurd h
 
-pub begun_whole : (p : Panel) (plan : Snapshot) (a : SessionAnswer) (w : Option WorkView) (q : Panel) → IsPlain (SaysSession a None) → (b : IsBegun p plan a w q) → b.1.told ≢ SaysFault
+pub begun_whole : (p : Panel) (plan : Snapshot) (a : SessionAnswer) (w : Option WorkView) (q : Panel) → IsPlain (SaysSession a None)
+    → (b : IsBegun p plan a w q) → b.1.told ≢ SaysFault
 begun_whole p plan a w q n b e =
     let g : a ≡ Refused HardwareError = b.1.answer_is ∙ ap (λ (x : TakenSeen). started_answer x) e in
     let plain : IsPlain (SaysSession (Refused HardwareError) None) = subst (λ (x : SessionAnswer). IsPlain (SaysSession x None)) g n in
     plain.1 refl
 
-pub begun_once : (p : Panel) (plan : Snapshot) (a a' : SessionAnswer) (w w' : Option WorkView) (q q' : Panel) → IsPlain (SaysSession a None) → IsPlain (SaysSession a' None) → IsBegun p plan a w q → IsBegun p plan a' w' q' → IsAlike a a' w w' q q'
+pub begun_once : (p : Panel) (plan : Snapshot) (a a' : SessionAnswer) (w w' : Option WorkView) (q q' : Panel) → IsPlain (SaysSession a None)
+    → IsPlain (SaysSession a' None) → IsBegun p plan a w q → IsBegun p plan a' w' q' → IsAlike a a' w w' q q'
 begun_once p plan a a' w w' q q' n m x y =
     let r = starts_once p q q' plan x.0 y.0 x.1.told y.1.told x.1.starts y.1.starts (begun_whole p plan a w q n x) (begun_whole p plan a' w' q' m y) in
     (x.1.answer_is ∙ ap (λ (z : TakenSeen). started_answer z) r.0 ∙ sym y.1.answer_is, x.1.work_is ∙ ap (λ (z : TakenSeen). work_of z) r.0 ∙ sym y.1.work_is, r.1)
 
-pub start_once : (p : Panel) (plan : Snapshot) (f f' : Bool) (a a' : SessionAnswer) (w w' : Option WorkView) (q q' : Panel) → IsPlain (SaysSession a None) → IsPlain (SaysSession a' None) → StepStart p plan f a w q → StepStart p plan f' a' w' q' → IsAlike a a' w w' q q'
+pub start_once : (p : Panel) (plan : Snapshot) (f f' : Bool) (a a' : SessionAnswer) (w w' : Option WorkView) (q q' : Panel) → IsPlain (SaysSession a None)
+    → IsPlain (SaysSession a' None) → StepStart p plan f a w q → StepStart p plan f' a' w' q' → IsAlike a a' w w' q q'
 start_once p plan f f' a a' w w' q q' n m h k = elim (start_as p plan f a w q n h) [
   | inl x ↦ elim (start_as p plan f' a' w' q' m k) [
     | inl y ↦ begun_once p plan a a' w w' q q' n m x y

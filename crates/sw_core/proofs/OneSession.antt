@@ -3,13 +3,12 @@ use Rattle.std.proofs.Common.{◌≡◌, ℕ, Bool, true, false, Option, None, S
 use Rattle.std.proofs.lemmas.Bool.{cases_lt}
 use Rattle.sw_base.specs.declared.error.ScpiError.{ScpiError}
 use Rattle.sw_base.specs.declared.error.ScpiError.TheVariants.{TriggerIgnored}
-use Rattle.sw_verify.specs.declared.snapshot.Snapshot.{Snapshot}
 use Rattle.sw_cage.specs.declared.taken.Happening.TheVariants.{Bus}
 use Rattle.sw_core.specs.declared.ask.Sid.{Sid}
 use Rattle.sw_core.specs.declared.ask.SessionAsk.{SessionAsk}
 use Rattle.sw_core.specs.declared.ask.SessionAsk.TheVariants as Ask
 use Rattle.sw_core.specs.declared.ask.SessionAnswer.{SessionAnswer}
-use Rattle.sw_core.specs.declared.ask.SessionAnswer.TheVariants.{Joined, Full, Stranger, Broken, Done, Lock}
+use Rattle.sw_core.specs.declared.ask.SessionAnswer.TheVariants.{Joined, Full, Stranger, Broken, Done}
 use Rattle.sw_core.specs.Sessions.{SessionsSeen, IsJoined, IsLeastFree, fresh, with_seat}
 use Rattle.sw_core.specs.Seats.{FindsKey}
 use Rattle.sw_core.proofs.Seating.{seat_once}
@@ -30,9 +29,12 @@ least_once sessions n m a b = elim (cases_lt n m) [
 ]
 
 pub sid_once : (s t : Sid) → s.number ≡ t.number → s.joined ≡ t.joined → s ≡ t
-sid_once s t e f = ap (λ (n : ℕ). let r : Sid = record { number = n; joined = s.joined } in r) e ∙ ap (λ (j : ℕ). let r : Sid = record { number = t.number; joined = j } in r) f
+sid_once s t e f =
+    ap (λ (n : ℕ). let r : Sid = record { number = n; joined = s.joined } in r) e
+    ∙ ap (λ (j : ℕ). let r : Sid = record { number = t.number; joined = j } in r) f
 
-pub join_once : (p : Panel) (f f' : Bool) (a a' : SessionAnswer) (w w' : Option WorkView) (q q' : Panel) → StepJoin p f a w q → StepJoin p f' a' w' q' → IsAlike a a' w w' q q'
+pub join_once : (p : Panel) (f f' : Bool) (a a' : SessionAnswer) (w w' : Option WorkView) (q q' : Panel) → StepJoin p f a w q → StepJoin p f' a' w' q'
+    → IsAlike a a' w w' q q'
 join_once p f f' (Joined s) (Joined t) None None q q' h k =
     let e : s.number ≡ t.number = least_once p.sessions s.number t.number h.1 k.1 in
     (ap Joined (sid_once s t e (h.2 ∙ sym k.2)), refl, h.3 ∙ ap (λ (x : ℕ). let r : Panel = record p { sessions = with_seat p.sessions x (Some (fresh (next_number p.events))) } in r) e ∙ sym k.3)
@@ -41,26 +43,32 @@ join_once p f f' Full (Joined s) None None q q' h k = absurd (h.1 s.number k.1.f
 join_once p f f' Full Full None None q q' h k = (refl, refl, both p q q' h.2 k.2)
 join_once p f f' a a' w w' q q' h k = absurd (assumption (h, k))
 
-pub served_once : (p : Panel) (ask : SessionAsk) (f f' : Bool) (a a' : SessionAnswer) (q q' : Panel) → FindsKey p.sessions ask a → FindsKey p.sessions ask a' → IsServed p ask f a q → IsServed p ask f' a' q' → IsAlike a a' None None q q'
+pub served_once : (p : Panel) (ask : SessionAsk) (f f' : Bool) (a a' : SessionAnswer) (q q' : Panel) → FindsKey p.sessions ask a → FindsKey p.sessions ask a'
+    → IsServed p ask f a q → IsServed p ask f' a' q' → IsAlike a a' None None q q'
 served_once p ask f f' a a' q q' n m h k =
     let r = seat_once p.sessions ask a a' h.sessions k.sessions n m h.served k.served in
     (r.0, refl, h.after ∙ ap (λ (x : SessionsSeen). let y : Panel = record p { sessions = x } in y) r.1 ∙ sym k.after)
 
 -- an error is queued, and nothing else is answered
-pub fault_once : (p : Panel) (sid : Sid) (e : ScpiError) (f f' : Bool) (a a' : SessionAnswer) (q q' : Panel) → StepJoined p (Ask.Fault sid e) f a None q → StepJoined p (Ask.Fault sid e) f' a' None q' → IsAlike a a' None None q q'
+pub fault_once : (p : Panel) (sid : Sid) (e : ScpiError) (f f' : Bool) (a a' : SessionAnswer) (q q' : Panel) → StepJoined p (Ask.Fault sid e) f a None q
+    → StepJoined p (Ask.Fault sid e) f' a' None q' → IsAlike a a' None None q q'
 fault_once p sid e f f' (Done None) (Done None) q q' h k = (refl, refl, h.1 ∙ sym k.1)
 fault_once p sid e f f' (Done None) a' q q' h k = absurd k.served
 fault_once p sid e f f' a a' q q' h k = absurd h.served
 
-pub fault_none : (p : Panel) (sid : Sid) (e : ScpiError) (f : Bool) (a : SessionAnswer) (w : WorkView) (q : Panel) → StepJoined p (Ask.Fault sid e) f a (Some w) q → ⊥
+pub fault_none : (p : Panel) (sid : Sid) (e : ScpiError) (f : Bool) (a : SessionAnswer) (w : WorkView) (q : Panel)
+    → StepJoined p (Ask.Fault sid e) f a (Some w) q → ⊥
 fault_none p sid e f (Done None) w q h = h
 fault_none p sid e f a w q h = h
 
-pub joined_once : (p : Panel) (ask : SessionAsk) (f f' : Bool) (a a' : SessionAnswer) (w w' : Option WorkView) (q q' : Panel) → IsPlain (SaysSession a None) → IsPlain (SaysSession a' None) → FindsKey p.sessions ask a → FindsKey p.sessions ask a' → StepJoined p ask f a w q → StepJoined p ask f' a' w' q' → IsAlike a a' w w' q q'
+pub joined_once : (p : Panel) (ask : SessionAsk) (f f' : Bool) (a a' : SessionAnswer) (w w' : Option WorkView) (q q' : Panel) → IsPlain (SaysSession a None)
+    → IsPlain (SaysSession a' None) → FindsKey p.sessions ask a → FindsKey p.sessions ask a' → StepJoined p ask f a w q → StepJoined p ask f' a' w' q'
+    → IsAlike a a' w w' q q'
 joined_once p (Ask.Fault sid e) f f' a a' None None q q' n m x y h k = fault_once p sid e f f' a a' q q' h k
 joined_once p (Ask.Fault sid e) f f' a a' (Some w) w' q q' n m x y h k = absurd (fault_none p sid e f a w q h)
 joined_once p (Ask.Fault sid e) f f' a a' None (Some w) q q' n m x y h k = absurd (fault_none p sid e f' a' w q' k)
-joined_once p (Ask.Unit sid command available) f f' a a' w w' q q' n m x y h k = action_once (action_of available command) p (Ask.Unit sid command available) f f' a a' w w' q q' n m h k
+joined_once p (Ask.Unit sid command available) f f' a a' w w' q q' n m x y h k =
+    action_once (action_of available command) p (Ask.Unit sid command available) f f' a a' w w' q q' n m h k
 joined_once p (Ask.Bus sid) f f' a a' w w' q q' n m x y h k = happening_once p Bus TriggerIgnored f f' a a' w w' q q' n m h k
 joined_once p (Ask.Snapshot sid) f f' a a' None None q q' n m x y h k = let r = snapshot_once p f f' a a' q q' n m h k in (r.0, refl, r.1)
 joined_once p (Ask.Start sid plan) f f' a a' w w' q q' n m x y h k = start_once p plan f f' a a' w w' q q' n m h k
@@ -77,13 +85,16 @@ joined_once p Ask.Join f f' a a' None None q q' n m x y h k = served_once p Ask.
 joined_once p (Ask.Attach number) f f' a a' None None q q' n m x y h k = served_once p (Ask.Attach number) f f' a a' q q' x y h k
 joined_once p ask f f' a a' w w' q q' n m x y h k = absurd (assumption (h, k))
 
-pub admitted_once : (b o : Bool) (p : Panel) (ask : SessionAsk) (f f' : Bool) (a a' : SessionAnswer) (w w' : Option WorkView) (q q' : Panel) → IsPlain (SaysSession a None) → IsPlain (SaysSession a' None) → FindsKey p.sessions ask a → FindsKey p.sessions ask a' → StepAdmitted b o p ask f a w q → StepAdmitted b o p ask f' a' w' q' → IsAlike a a' w w' q q'
+pub admitted_once : (b o : Bool) (p : Panel) (ask : SessionAsk) (f f' : Bool) (a a' : SessionAnswer) (w w' : Option WorkView) (q q' : Panel)
+    → IsPlain (SaysSession a None) → IsPlain (SaysSession a' None) → FindsKey p.sessions ask a → FindsKey p.sessions ask a' → StepAdmitted b o p ask f a w q
+    → StepAdmitted b o p ask f' a' w' q' → IsAlike a a' w w' q q'
 admitted_once true o p ask f f' Broken Broken None None q q' n m x y h k = (refl, refl, both p q q' h.1 k.1)
 admitted_once true o p ask f f' a a' w w' q q' n m x y h k = absurd (assumption (h, k))
 admitted_once false true p ask f f' a a' w w' q q' n m x y h k = held_once p ask f f' a a' w w' q q' h k
 admitted_once false false p ask f f' a a' w w' q q' n m x y h k = joined_once p ask f f' a a' w w' q q' n m x y h k
 
-pub attach_once : (p : Panel) (number : ℕ) (f f' : Bool) (a a' : SessionAnswer) (w w' : Option WorkView) (q q' : Panel) → StepAttach p number f a w q → StepAttach p number f' a' w' q' → IsAlike a a' w w' q q'
+pub attach_once : (p : Panel) (number : ℕ) (f f' : Bool) (a a' : SessionAnswer) (w w' : Option WorkView) (q q' : Panel) → StepAttach p number f a w q
+    → StepAttach p number f' a' w' q' → IsAlike a a' w w' q q'
 attach_once p number f f' (Joined s) (Joined t) None None q q' h k =
     let after : q.sessions ≡ q'.sessions = h.1.after ∙ sym k.1.after in
     (ap Joined (sid_once s t (h.1.number_is ∙ sym k.1.number_is) (h.1.joined ∙ sym k.1.joined)), refl, h.2 ∙ ap (λ (x : SessionsSeen). let r : Panel = record p { sessions = x } in r) after ∙ sym k.2)
@@ -92,7 +103,8 @@ attach_once p number f f' Stranger (Joined s) None None q q' h k = absurd (h.1 k
 attach_once p number f f' Stranger Stranger None None q q' h k = (refl, refl, both p q q' h.2 k.2)
 attach_once p number f f' a a' w w' q q' h k = absurd (assumption (h, k))
 
-pub new_once : (p : Panel) (ask : SessionAsk) (f f' : Bool) (a a' : SessionAnswer) (w w' : Option WorkView) (q q' : Panel) → StepNew p ask f a w q → StepNew p ask f' a' w' q' → IsAlike a a' w w' q q'
+pub new_once : (p : Panel) (ask : SessionAsk) (f f' : Bool) (a a' : SessionAnswer) (w w' : Option WorkView) (q q' : Panel) → StepNew p ask f a w q
+    → StepNew p ask f' a' w' q' → IsAlike a a' w w' q q'
 new_once p Ask.Join f f' a a' w w' q q' h k = join_once p f f' a a' w w' q q' h k
 new_once p (Ask.Attach number) f f' a a' w w' q q' h k = attach_once p number f f' a a' w w' q q' h k
 new_once p ask f f' a a' w w' q q' h k = absurd (assumption (h, k))
@@ -101,11 +113,15 @@ new_once p ask f f' a a' w w' q q' h k = absurd (assumption (h, k))
 abbrev pub IsStrange : Panel → Sid → SessionAnswer → Option WorkView → Panel → Type 0
 IsStrange p sid a w q = (IsJoined p.sessions sid → ⊥) × (a ≡ Stranger) × (w ≡ None) × (q ≡ p)
 
-pub session_as : (p : Panel) (sid : Sid) (ask : SessionAsk) (f : Bool) (a : SessionAnswer) (w : Option WorkView) (q : Panel) → StepSession (Some sid) p ask f a w q → IsStrange p sid a w q ⊎ (IsJoined p.sessions sid × StepAdmitted (drops p sid ask) (shuts_out p sid ask) p ask f a w q)
+pub session_as : (p : Panel) (sid : Sid) (ask : SessionAsk) (f : Bool) (a : SessionAnswer) (w : Option WorkView) (q : Panel)
+    → StepSession (Some sid) p ask f a w q → IsStrange p sid a w q
+    ⊎ (IsJoined p.sessions sid × StepAdmitted (drops p sid ask) (shuts_out p sid ask) p ask f a w q)
 session_as p sid ask f Stranger None q h = inl (h.1, refl, refl, h.2)
 session_as p sid ask f a w q h = inr h
 
-pub session_once : (o : Option Sid) (p : Panel) (ask : SessionAsk) (f f' : Bool) (a a' : SessionAnswer) (w w' : Option WorkView) (q q' : Panel) → IsPlain (SaysSession a None) → IsPlain (SaysSession a' None) → FindsKey p.sessions ask a → FindsKey p.sessions ask a' → StepSession o p ask f a w q → StepSession o p ask f' a' w' q' → IsAlike a a' w w' q q'
+pub session_once : (o : Option Sid) (p : Panel) (ask : SessionAsk) (f f' : Bool) (a a' : SessionAnswer) (w w' : Option WorkView) (q q' : Panel)
+    → IsPlain (SaysSession a None) → IsPlain (SaysSession a' None) → FindsKey p.sessions ask a → FindsKey p.sessions ask a' → StepSession o p ask f a w q
+    → StepSession o p ask f' a' w' q' → IsAlike a a' w w' q q'
 session_once None p ask f f' a a' w w' q q' n m kx ky h k = new_once p ask f f' a a' w w' q q' h k
 session_once (Some sid) p ask f f' a a' w w' q q' n m kx ky h k = elim (session_as p sid ask f a w q h) [
   | inl x ↦ elim (session_as p sid ask f' a' w' q' k) [ inl y ↦ (x.1 ∙ sym y.1, x.2 ∙ sym y.2, both p q q' x.3 y.3) | inr y ↦ absurd (x.0 y.0) ]

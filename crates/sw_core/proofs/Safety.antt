@@ -1,19 +1,17 @@
 -- No step takes the mainframe from a fine state to another: by cases on the step.
-use Rattle.std.proofs.Common.{◌≡◌, ◌≢◌, ℕ, ◌-◌, ◌≤◌, ◌<◌, ◌==◌, ◌&&◌, not, Bool, true, false, List, [], ◌∷◌, length, Option, None, Some, slice_set, refl, sym, ◌∙◌, ap, subst, arith, is_some, zero, suc, nat_lt, slice_index_or, map}
+use Rattle.std.proofs.Common.{◌≡◌, ℕ, ◌-◌, ◌≤◌, ◌<◌, ◌==◌, ◌&&◌, not, Bool, true, false, List, [], ◌∷◌, length, Option, None, Some, slice_set, refl, sym}
+use Rattle.std.proofs.Common.{◌∙◌, ap, subst, arith, is_some, zero, suc, nat_lt, slice_index_or, map}
 use Rattle.std.specs.Prelude.{if◌then◌else◌, decimal, MatchBool}
-use Rattle.std.specs.List.{AllByRecursion, join_with_byte}
+use Rattle.std.specs.List.{join_with_byte}
 use Rattle.sw_base.specs.Reading.{reading_text}
 use Rattle.std.proofs.lemmas.List.{length-map}
 use Rattle.sw_base.specs.Layout.{Channel, slot_at}
 use Rattle.sw_base.specs.declared.reading.Reading.{Reading}
-use Rattle.sw_base.specs.declared.terms.LayerName.{LayerName}
-use Rattle.sw_base.specs.declared.terms.LayerName.TheVariants.{Arm1, Arm2, Trigger}
 use Rattle.sw_base.specs.declared.error.ScpiError.{ScpiError}
-use Rattle.sw_base.specs.declared.error.ScpiError.TheVariants.{UndefinedHeader, TriggerIgnored, ArmIgnored, DataOutOfRange, TooMuchData, DataCorruptOrStale, HardwareMissing, SettingsConflict, HardwareError, OutOfMemory}
+use Rattle.sw_base.specs.declared.error.ScpiError.TheVariants.{UndefinedHeader, DataCorruptOrStale}
+use Rattle.sw_base.specs.declared.error.ScpiError.TheVariants.{HardwareMissing, SettingsConflict, HardwareError, OutOfMemory}
 use Rattle.sw_card.specs.Account.{Account, closed_at}
-use Rattle.sw_lex.specs.declared.command.Command.{Command}
-use Rattle.sw_trigger.specs.declared.layer.Layer.{Layer}
-use Rattle.sw_trigger.specs.Settings.{Setup, IsInRange, IsLayer, layer_of, with_layer, most_of, at_reset}
+use Rattle.sw_trigger.specs.Settings.{Setup, IsInRange}
 use Rattle.sw_verify.specs.declared.snapshot.Snapshot.{Snapshot}
 use Rattle.sw_status.specs.StatusModel.{StatusSeen, IsStatus, pushed}
 use Rattle.sw_cage.specs.Accounts.{Accounts, layout_of, is_closed, option_closed, all_open, option_rest}
@@ -28,7 +26,7 @@ use Rattle.sw_cage.specs.TakenSeen.{TakenSeen, SaysIgnored, SaysWaits, SaysPause
 use Rattle.sw_cage.specs.declared.taken.Happening.{Happening}
 use Rattle.sw_cage.specs.declared.taken.Happening.TheVariants.{Bus, External, Elapsed}
 use Rattle.sw_cage.proofs.SlotChangeLemmas.{some_slot, is_none, all_open_closed, exclusive_none, exclusive_quiet, none_slot}
-use Rattle.sw_cage.proofs.ChannelCallLemmas.{identities_all_open, identities_rest}
+use Rattle.sw_cage.proofs.ChannelCallLemmas.{identities_rest}
 use Rattle.sw_cage.proofs.KeptLemmas.{held_set}
 use Rattle.sw_cage.proofs.ExclusionLemmas.{exclusive_closing, exclusive_opening}
 use Rattle.sw_core.specs.declared.ask.Sid.{Sid}
@@ -41,15 +39,17 @@ use Rattle.sw_core.specs.Panel.{Panel, opening_at, with_cards, is_running}
 use Rattle.sw_core.specs.Action.{Effect, TellsNumber, TellsText, TellsReadings, ReadsOut, SetsStatus, SetsUp, Closes, Opens, TellsRelays, Leaves}
 use Rattle.sw_core.specs.Action.{Resets, reset, Offers, Refuses, IsOfMacros, Initiates, Action, AtOnce, BetweenScans, AfterScan, action_of}
 use Rattle.sw_core.specs.Event.{concluded, session_concluded, last_number}
-use Rattle.sw_core.specs.View.{WorkView, AskView, AskSession, AskInstall, AskEject, AskExternal, AskElapsed, AskFinished, AnswerView, SaysSession, SaysInstalled, SaysNotInstalled, SaysEjected, SaysNotEjected, SaysTaken, SaysMissed, SaysFailed, SaysBack, SaysWorn}
+use Rattle.sw_core.specs.View.{WorkView, AskView, AskSession, AskInstall, AskEject, AskExternal, AskElapsed, AskFinished, AnswerView, SaysSession}
+use Rattle.sw_core.specs.View.{SaysInstalled, SaysNotInstalled, SaysEjected, SaysNotEjected, SaysTaken, SaysMissed, SaysFailed, SaysBack, SaysWorn}
 use Rattle.sw_core.specs.Seats.{asker_of}
-use Rattle.sw_core.specs.Step.{FailsSafe, StepClose, StepOpen, StepFlags, StepText, StepDone, StepSetting, StepRefused, StepReadings, StepAlone, StepEffect, StepHeld, StepAction}
-use Rattle.sw_core.specs.Step.{Happens, MayScan, StepSnapshot, Starts, StepStart, StepJoin, StepAttach, StepNew, IsServed, StepJoined, StepAdmitted, drops, shuts_out, StepSession, StepOutside, IsOut, Returns, StepFinished, Acts, acts_unnumbered, IsEvent, IsUnnumbered, Step}
+use Rattle.sw_core.specs.Step.{FailsSafe, StepClose, StepOpen, StepFlags, StepText, StepDone, StepSetting, StepRefused, StepReadings, StepAlone, StepEffect}
+use Rattle.sw_core.specs.Step.{StepHeld, StepAction}
+use Rattle.sw_core.specs.Step.{Happens, MayScan, StepSnapshot, Starts, StepStart, StepJoin, StepAttach, StepNew, IsServed, StepJoined, StepAdmitted, drops}
+use Rattle.sw_core.specs.Step.{shuts_out, StepSession, StepOutside, IsOut, Returns, StepFinished, Acts, acts_unnumbered, IsEvent, IsUnnumbered, Step}
 use Rattle.std.specs.Prelude.{replicate}
 use Rattle.sw_cage.specs.declared.job.Ticket.{Ticket}
 use Rattle.sw_core.specs.Good.{OptionFew}
-use Rattle.sw_core.proofs.Kept.{IsKept, few_set, kept_rack, kept_over, kept_past, kept_late, kept_counted, kept_begun}
-use Rattle.std.specs.Prelude.{IfSome}
+use Rattle.sw_core.proofs.Kept.{IsKept, few_set, kept_rack, kept_past, kept_late, kept_counted, kept_begun}
 use Rattle.std.proofs.Common.{Result, Ok, Err, ◌+◌}
 use Rattle.sw_card.specs.declared.board.CardFault.{CardFault}
 use Rattle.sw_base.specs.declared.terms.StatusGroup.TheVariants.{Operation}
@@ -61,15 +61,18 @@ use Rattle.sw_status.proofs.Limits.{status-kept, status-start}
 use Rattle.sw_core.specs.Registers.{card_fault_reported, card_fault_cleared}
 use Rattle.sw_core.specs.Sessions.{with_seat, fresh}
 use Rattle.sw_core.specs.Event.{ended, erred, completed, with_operation, awaited_bits, next_number}
-use Rattle.sw_core.proofs.Harmless.{IsFine, GoesBy, by_none, fine_as, fine_is, none_of, reset_range, told_group, reported_status, cleared_status, fallen_all, dropped, IsHarmless, IsHarmlessAction, harmless}
+use Rattle.sw_core.proofs.Harmless.{IsFine, GoesBy, by_none, fine_is, none_of, reset_range, told_group, reported_status, cleared_status, fallen_all}
+use Rattle.sw_core.proofs.Harmless.{dropped, IsHarmless, IsHarmlessAction, harmless}
 
 -- ---- commands
 
-closing_fine : (p q : Panel) (chans : List Channel) → IsFine p → is_running p ≡ false → CanClose (layout_of p.cage.cards) (is_closed p.cage.cards) chans → Sets p.cage.cards chans true q.cage.cards → q ≡ with_cards p q.cage.cards → IsFine q
+closing_fine : (p q : Panel) (chans : List Channel) → IsFine p → is_running p ≡ false → CanClose (layout_of p.cage.cards) (is_closed p.cage.cards) chans
+    → Sets p.cage.cards chans true q.cage.cards → q ≡ with_cards p q.cage.cards → IsFine q
 closing_fine p q chans k idle may s e =
     fine_is (with_cards p q.cage.cards) q e (record { cage = kept_rack p.cage q.cage.cards k.cage (none_of p idle) (identities_rest p.cage.cards q.cage.cards s.rest) (exclusive_closing p.cage.cards q.cage.cards chans k.cage.safe may s); range = k.range; settings = k.settings; status = k.status })
 
-opening_fine : (p q : Panel) (chans : List Channel) → IsFine p → is_running p ≡ false → Sets p.cage.cards chans false q.cage.cards → q ≡ with_cards p q.cage.cards → IsFine q
+opening_fine : (p q : Panel) (chans : List Channel) → IsFine p → is_running p ≡ false → Sets p.cage.cards chans false q.cage.cards
+    → q ≡ with_cards p q.cage.cards → IsFine q
 opening_fine p q chans k idle s e =
     fine_is (with_cards p q.cage.cards) q e (record { cage = kept_rack p.cage q.cage.cards k.cage (none_of p idle) (identities_rest p.cage.cards q.cage.cards s.rest) (exclusive_opening p.cage.cards q.cage.cards chans k.cage.safe s); range = k.range; settings = k.settings; status = k.status })
 
@@ -78,7 +81,8 @@ falling_fine p q k idle f =
     let next : Panel = record (with_cards p q.cage.cards) { status = card_fault_reported p.status } in
     fine_is next q f.1 (record { cage = kept_rack p.cage q.cage.cards k.cage (none_of p idle) f.0.cards (exclusive_none _ _ f.0.none); range = k.range; settings = k.settings; status = reported_status p.status k.status })
 
-close_fine : (p : Panel) (chans : List Channel) (f : Bool) (a : SessionAnswer) (q : Panel) → IsFine p → is_running p ≡ false → StepClose p chans f a q → IsFine q
+close_fine : (p : Panel) (chans : List Channel) (f : Bool) (a : SessionAnswer) (q : Panel) → IsFine p → is_running p ≡ false → StepClose p chans f a q
+    → IsFine q
 close_fine p chans f (Done None) q k i h = closing_fine p q chans k i h.1 h.2 h.3
 close_fine p chans f (Refused HardwareMissing) q k i h = fine_is p q h.2 k
 close_fine p chans f (Refused SettingsConflict) q k i h = fine_is p q h.2 k
@@ -91,14 +95,17 @@ open_fine p chans f (Refused HardwareMissing) q k i h = fine_is p q h.2 k
 open_fine p chans f (Refused HardwareError) q k i h = falling_fine p q k i h.2
 open_fine p chans f a q k i h = absurd h
 
-flags_fine : (p : Panel) (closed : Bool) (chans : List Channel) (f : Bool) (a : SessionAnswer) (q : Panel) → IsFine p → StepFlags p closed chans f a q → IsFine q
+flags_fine : (p : Panel) (closed : Bool) (chans : List Channel) (f : Bool) (a : SessionAnswer) (q : Panel) → IsFine p → StepFlags p closed chans f a q
+    → IsFine q
 flags_fine p closed chans f (Done (Some text)) q k h = fine_is p q h.3 k
 flags_fine p closed chans f (Refused HardwareMissing) q k h = fine_is p q h.2 k
 flags_fine p closed chans f (Refused OutOfMemory) q k h = fine_is p q h.2 k
 flags_fine p closed chans f a q k h = absurd h
 
-text_fine : (p : Panel) (text : List ℕ) (status : StatusSeen) (f : Bool) (a : SessionAnswer) (q : Panel) → IsFine p → IsStatus status → StepText p text status f a q → IsFine q
-text_fine p text status f (Done (Some t)) q k u h = fine_is (record p { status = status }) q h.2 (record { cage = k.cage; range = k.range; settings = k.settings; status = u })
+text_fine : (p : Panel) (text : List ℕ) (status : StatusSeen) (f : Bool) (a : SessionAnswer) (q : Panel) → IsFine p → IsStatus status
+    → StepText p text status f a q → IsFine q
+text_fine p text status f (Done (Some t)) q k u h =
+    fine_is (record p { status = status }) q h.2 (record { cage = k.cage; range = k.range; settings = k.settings; status = u })
 text_fine p text status f (Refused OutOfMemory) q k u h = fine_is p q h.1 k
 text_fine p text status f a q k u h = absurd h
 
@@ -106,8 +113,10 @@ done_fine : (after : Panel) (f : Bool) (a : SessionAnswer) (q : Panel) → IsFin
 done_fine after f (Done None) q k h = fine_is after q h.1 k
 done_fine after f a q k h = absurd h
 
-setting_fine : (p : Panel) (Fits : Type 0) (error : ScpiError) (setup : Setup) (f : Bool) (a : SessionAnswer) (q : Panel) → IsFine p → is_running p ≡ false → (Fits → IsInRange p.settings → IsInRange setup) → StepSetting p Fits error setup f a q → IsFine q
-setting_fine p Fits error setup f (Done None) q k i r h = fine_is (record p { settings = setup }) q h.2 (record { cage = k.cage; range = r h.1 k.range; settings = by_none p.cage.scan setup (none_of p i); status = k.status })
+setting_fine : (p : Panel) (Fits : Type 0) (error : ScpiError) (setup : Setup) (f : Bool) (a : SessionAnswer) (q : Panel) → IsFine p → is_running p ≡ false
+    → (Fits → IsInRange p.settings → IsInRange setup) → StepSetting p Fits error setup f a q → IsFine q
+setting_fine p Fits error setup f (Done None) q k i r h =
+    fine_is (record p { settings = setup }) q h.2 (record { cage = k.cage; range = r h.1 k.range; settings = by_none p.cage.scan setup (none_of p i); status = k.status })
 setting_fine p Fits error setup f (Refused e) q k i r h = fine_is p q h.3 k
 setting_fine p Fits error setup f a q k i r h = absurd h
 
@@ -124,12 +133,14 @@ alone_fine (TellsNumber number) p f a q k n h = text_fine p (decimal (number p))
 alone_fine (TellsText text) p f a q k n h = text_fine p (text p) p.status f a q k k.status h
 alone_fine TellsReadings p f a q k n h = readings_fine p.cage.readings p f a q k h
 alone_fine (ReadsOut text after) p f a q k n h = text_fine p (text p.status) (after p.status) f a q k (n k.status) h
-alone_fine (SetsStatus after) p f a q k n h = done_fine (record p { status = after p.status }) f a q (record { cage = k.cage; range = k.range; settings = k.settings; status = n k.status }) h
+alone_fine (SetsStatus after) p f a q k n h =
+    done_fine (record p { status = after p.status }) f a q (record { cage = k.cage; range = k.range; settings = k.settings; status = n k.status }) h
 alone_fine (SetsUp Fits error after) p f a q k n h = setting_fine p Fits error (after p.settings) f a q k n.2 n.0 h
 alone_fine (Closes chans) p f a q k n h = close_fine p chans f a q k n h
 alone_fine (Opens chans) p f a q k n h = open_fine p chans f a q k n h
 alone_fine (TellsRelays closed chans) p f a q k n h = flags_fine p closed chans f a q k h
-alone_fine Resets p f a q k n h = done_fine (reset p) f a q (record { cage = dropped (safe_state p.cage) (fallen_all p.cage k.cage) refl; range = reset_range; settings = tt; status = cleared_status p.status k.status }) h
+alone_fine Resets p f a q k n h =
+    done_fine (reset p) f a q (record { cage = dropped (safe_state p.cage) (fallen_all p.cage k.cage) refl; range = reset_range; settings = tt; status = cleared_status p.status k.status }) h
 alone_fine (Leaves after) p f a q k n h = done_fine (after p) f a q (n k) h
 alone_fine (Refuses error) p f a q k n h = refused_fine p error f a q k h
 alone_fine IsOfMacros p f a q k n h = refused_fine p UndefinedHeader f a q k h
@@ -172,19 +183,30 @@ reported_fine p q told k c g e =
 
 happens_fine : (p : Panel) (happening : Happening) (f : Bool) (told : TakenSeen) (q : Panel) → IsFine p → Happens p happening f told q → IsFine q
 happens_fine p happening f SaysIgnored q k h = fine_is p q h.2 k
-happens_fine p happening f SaysWaits q k h = reported_fine p q SaysWaits k (kept_past p.cage q.cage happening SaysWaits k.cage h.0 h.1) (by_past p.cage q.cage p.cage.scan p.settings SaysWaits k.settings h.1) h.2.1
-happens_fine p happening f (SaysPause t u) q k h = reported_fine p q (SaysPause t u) k (kept_past p.cage q.cage happening (SaysPause t u) k.cage h.0 h.1) (by_past p.cage q.cage p.cage.scan p.settings (SaysPause t u) k.settings h.1) h.2.1
-happens_fine p happening f (SaysJob job) q k h = reported_fine p q (SaysJob job) k (kept_past p.cage q.cage happening (SaysJob job) k.cage h.0 h.1) (by_past p.cage q.cage p.cage.scan p.settings (SaysJob job) k.settings h.1) h.2.1
-happens_fine p happening f SaysEnded q k h = reported_fine p q SaysEnded k (kept_past p.cage q.cage happening SaysEnded k.cage h.0 h.1) (by_past p.cage q.cage p.cage.scan p.settings SaysEnded k.settings h.1) h.2.1
-happens_fine p happening f SaysFault q k h = reported_fine p q SaysFault k (kept_past p.cage q.cage happening SaysFault k.cage h.0 h.1) (by_past p.cage q.cage p.cage.scan p.settings SaysFault k.settings h.1) h.2.1
+happens_fine p happening f SaysWaits q k h =
+    reported_fine p q SaysWaits k (kept_past p.cage q.cage happening SaysWaits k.cage h.0 h.1) (by_past p.cage q.cage p.cage.scan p.settings SaysWaits k.settings h.1) h.2.1
+happens_fine p happening f (SaysPause t u) q k h =
+    reported_fine p q (SaysPause t u) k (kept_past p.cage q.cage happening (SaysPause t u) k.cage h.0 h.1) (by_past p.cage q.cage p.cage.scan p.settings (SaysPause t u) k.settings h.1) h.2.1
+happens_fine p happening f (SaysJob job) q k h =
+    reported_fine p q (SaysJob job) k (kept_past p.cage q.cage happening (SaysJob job) k.cage h.0 h.1) (by_past p.cage q.cage p.cage.scan p.settings (SaysJob job) k.settings h.1) h.2.1
+happens_fine p happening f SaysEnded q k h =
+    reported_fine p q SaysEnded k (kept_past p.cage q.cage happening SaysEnded k.cage h.0 h.1) (by_past p.cage q.cage p.cage.scan p.settings SaysEnded k.settings h.1) h.2.1
+happens_fine p happening f SaysFault q k h =
+    reported_fine p q SaysFault k (kept_past p.cage q.cage happening SaysFault k.cage h.0 h.1) (by_past p.cage q.cage p.cage.scan p.settings SaysFault k.settings h.1) h.2.1
 
 returns_fine : (p : Panel) (done : FinishedSeen) (f : Bool) (told : TakenSeen) (q : Panel) → IsFine p → IsOut p done → Returns p done f told q → IsFine q
-returns_fine p done f SaysIgnored q k out h = fine_is (record p { cage = with_back p.cage done }) q h.2 (record { cage = kept_late p.cage done k.cage out h.1; range = k.range; settings = k.settings; status = k.status })
-returns_fine p done f SaysWaits q k out h = reported_fine p q SaysWaits k (kept_counted p.cage q.cage done SaysWaits k.cage out h.0 h.1) (by_counts (with_back p.cage done) q.cage done.outcome p.settings SaysWaits k.settings h.1) h.2.1
-returns_fine p done f (SaysPause t u) q k out h = reported_fine p q (SaysPause t u) k (kept_counted p.cage q.cage done (SaysPause t u) k.cage out h.0 h.1) (by_counts (with_back p.cage done) q.cage done.outcome p.settings (SaysPause t u) k.settings h.1) h.2.1
-returns_fine p done f (SaysJob job) q k out h = reported_fine p q (SaysJob job) k (kept_counted p.cage q.cage done (SaysJob job) k.cage out h.0 h.1) (by_counts (with_back p.cage done) q.cage done.outcome p.settings (SaysJob job) k.settings h.1) h.2.1
-returns_fine p done f SaysEnded q k out h = reported_fine p q SaysEnded k (kept_counted p.cage q.cage done SaysEnded k.cage out h.0 h.1) (by_counts (with_back p.cage done) q.cage done.outcome p.settings SaysEnded k.settings h.1) h.2.1
-returns_fine p done f SaysFault q k out h = reported_fine p q SaysFault k (kept_counted p.cage q.cage done SaysFault k.cage out h.0 h.1) (by_counts (with_back p.cage done) q.cage done.outcome p.settings SaysFault k.settings h.1) h.2.1
+returns_fine p done f SaysIgnored q k out h =
+    fine_is (record p { cage = with_back p.cage done }) q h.2 (record { cage = kept_late p.cage done k.cage out h.1; range = k.range; settings = k.settings; status = k.status })
+returns_fine p done f SaysWaits q k out h =
+    reported_fine p q SaysWaits k (kept_counted p.cage q.cage done SaysWaits k.cage out h.0 h.1) (by_counts (with_back p.cage done) q.cage done.outcome p.settings SaysWaits k.settings h.1) h.2.1
+returns_fine p done f (SaysPause t u) q k out h =
+    reported_fine p q (SaysPause t u) k (kept_counted p.cage q.cage done (SaysPause t u) k.cage out h.0 h.1) (by_counts (with_back p.cage done) q.cage done.outcome p.settings (SaysPause t u) k.settings h.1) h.2.1
+returns_fine p done f (SaysJob job) q k out h =
+    reported_fine p q (SaysJob job) k (kept_counted p.cage q.cage done (SaysJob job) k.cage out h.0 h.1) (by_counts (with_back p.cage done) q.cage done.outcome p.settings (SaysJob job) k.settings h.1) h.2.1
+returns_fine p done f SaysEnded q k out h =
+    reported_fine p q SaysEnded k (kept_counted p.cage q.cage done SaysEnded k.cage out h.0 h.1) (by_counts (with_back p.cage done) q.cage done.outcome p.settings SaysEnded k.settings h.1) h.2.1
+returns_fine p done f SaysFault q k out h =
+    reported_fine p q SaysFault k (kept_counted p.cage q.cage done SaysFault k.cage out h.0 h.1) (by_counts (with_back p.cage done) q.cage done.outcome p.settings SaysFault k.settings h.1) h.2.1
 
 starts_fine : (p : Panel) (plan : Snapshot) (f : Bool) (told : TakenSeen) (q : Panel) → IsFine p → MayScan p → Starts p plan f told q → IsFine q
 starts_fine p plan f told q k may h =
@@ -194,7 +216,8 @@ starts_fine p plan f told q k may h =
     let c : IsKept q.cage = kept_begun p.cage q.cage p.settings plan told k.cage (is_none (slot_at p.cage.out p.settings.meter) may.home) k.range h.2 h.1 h.3 in
     fine_is next q h.4 (record { cage = c; range = k.range; settings = by_goes (begun p.cage) q.cage p.settings 0 told h.3; status = u })
 
-effect_fine : (d : Effect) (p : Panel) (f : Bool) (a : SessionAnswer) (w : Option WorkView) (q : Panel) → IsFine p → IsHarmless p d → StepEffect d p f a w q → IsFine q
+effect_fine : (d : Effect) (p : Panel) (f : Bool) (a : SessionAnswer) (w : Option WorkView) (q : Panel) → IsFine p → IsHarmless p d → StepEffect d p f a w q
+    → IsFine q
 effect_fine (Offers happening error) p f a w q k n h = happens_fine p happening f h.told q k h.happens
 effect_fine d p f a w q k n h = alone_fine d p f a q k n h.0
 
@@ -207,12 +230,14 @@ barred_fine : (b : Bool) (d : Effect) (p : Panel) (f : Bool) (a : SessionAnswer)
 barred_fine true d p f a w q k n h = refused_fine p SettingsConflict f a q k h.0
 barred_fine false d p f a w q k n h = effect_fine d p f a w q k (n refl) h
 
-waiting_fine : (b : Bool) (d : Effect) (p : Panel) (ask : SessionAsk) (f : Bool) (a : SessionAnswer) (w : Option WorkView) (q : Panel) → IsFine p → IsHarmless p d
+waiting_fine : (b : Bool) (d : Effect) (p : Panel) (ask : SessionAsk) (f : Bool) (a : SessionAnswer) (w : Option WorkView) (q : Panel) → IsFine p
+    → IsHarmless p d
     → MatchBool b (StepHeld p ask f a w q) (StepEffect d p f a w q) → IsFine q
 waiting_fine true d p ask f a w q k n h = held_fine p ask f a w q k h
 waiting_fine false d p ask f a w q k n h = effect_fine d p f a w q k n h
 
-action_fine : (x : Action) (p : Panel) (ask : SessionAsk) (f : Bool) (a : SessionAnswer) (w : Option WorkView) (q : Panel) → IsFine p → IsHarmlessAction p x → StepAction x p ask f a w q → IsFine q
+action_fine : (x : Action) (p : Panel) (ask : SessionAsk) (f : Bool) (a : SessionAnswer) (w : Option WorkView) (q : Panel) → IsFine p → IsHarmlessAction p x
+    → StepAction x p ask f a w q → IsFine q
 action_fine (AtOnce d) p ask f a w q k n h = effect_fine d p f a w q k n h
 action_fine (BetweenScans d) p ask f a w q k n h = barred_fine (is_running p) d p f a w q k n h
 action_fine (AfterScan d) p ask f a w q k n h = waiting_fine (is_running p) d p ask f a w q k n h
@@ -232,12 +257,15 @@ start_fine p plan f (Refused e) None q k h = fine_is p q h.2 k
 start_fine p plan f a w q k h = absurd h
 
 served_fine : (p : Panel) (ask : SessionAsk) (f : Bool) (a : SessionAnswer) (q : Panel) → IsFine p → IsServed p ask f a q → IsFine q
-served_fine p ask f a q k h = fine_is (record p { sessions = h.sessions }) q h.after (record { cage = k.cage; range = k.range; settings = k.settings; status = k.status })
+served_fine p ask f a q k h =
+    fine_is (record p { sessions = h.sessions }) q h.after (record { cage = k.cage; range = k.range; settings = k.settings; status = k.status })
 
 joined_fine : (p : Panel) (ask : SessionAsk) (f : Bool) (a : SessionAnswer) (w : Option WorkView) (q : Panel) → IsFine p → StepJoined p ask f a w q → IsFine q
-joined_fine p (Ask.Fault sid e) f (Done None) None q k h = fine_is (record p { status = pushed p.status e }) q h.1 (record { cage = k.cage; range = k.range; settings = k.settings; status = (status-kept p.status k.status).error e })
+joined_fine p (Ask.Fault sid e) f (Done None) None q k h =
+    fine_is (record p { status = pushed p.status e }) q h.1 (record { cage = k.cage; range = k.range; settings = k.settings; status = (status-kept p.status k.status).error e })
 joined_fine p (Ask.Fault sid e) f a None q k h = served_fine p (Ask.Fault sid e) f a q k h
-joined_fine p (Ask.Unit sid command available) f a w q k h = action_fine (action_of available command) p (Ask.Unit sid command available) f a w q k (harmless p available command) h
+joined_fine p (Ask.Unit sid command available) f a w q k h =
+    action_fine (action_of available command) p (Ask.Unit sid command available) f a w q k (harmless p available command) h
 joined_fine p (Ask.Bus sid) f a w q k h = happens_fine p Bus f h.told q k h.happens
 joined_fine p (Ask.Snapshot sid) f a None q k h = snapshot_fine p f a q k h
 joined_fine p (Ask.Start sid plan) f a w q k h = start_fine p plan f a w q k h
@@ -254,19 +282,22 @@ joined_fine p Ask.Join f answer None q k h = served_fine p Ask.Join f answer q k
 joined_fine p (Ask.Attach n) f answer None q k h = served_fine p (Ask.Attach n) f answer q k h
 joined_fine p ask f a w q k h = absurd h
 
-admitted_fine : (b o : Bool) (p : Panel) (ask : SessionAsk) (f : Bool) (a : SessionAnswer) (w : Option WorkView) (q : Panel) → IsFine p → StepAdmitted b o p ask f a w q → IsFine q
+admitted_fine : (b o : Bool) (p : Panel) (ask : SessionAsk) (f : Bool) (a : SessionAnswer) (w : Option WorkView) (q : Panel) → IsFine p
+    → StepAdmitted b o p ask f a w q → IsFine q
 admitted_fine true o p ask f Broken None q k h = fine_is p q h.1 k
 admitted_fine true o p ask f a w q k h = absurd h
 admitted_fine false true p ask f a w q k h = held_fine p ask f a w q k h
 admitted_fine false false p ask f a w q k h = joined_fine p ask f a w q k h
 
 join_fine : (p : Panel) (f : Bool) (a : SessionAnswer) (w : Option WorkView) (q : Panel) → IsFine p → StepJoin p f a w q → IsFine q
-join_fine p f (Joined sid) None q k h = fine_is (record p { sessions = with_seat p.sessions sid.number (Some (fresh (next_number p.events))) }) q h.3 (record { cage = k.cage; range = k.range; settings = k.settings; status = k.status })
+join_fine p f (Joined sid) None q k h =
+    fine_is (record p { sessions = with_seat p.sessions sid.number (Some (fresh (next_number p.events))) }) q h.3 (record { cage = k.cage; range = k.range; settings = k.settings; status = k.status })
 join_fine p f Full None q k h = fine_is p q h.2 k
 join_fine p f a w q k h = absurd h
 
 attach_fine : (p : Panel) (n : ℕ) (f : Bool) (a : SessionAnswer) (w : Option WorkView) (q : Panel) → IsFine p → StepAttach p n f a w q → IsFine q
-attach_fine p n f (Joined sid) None q k h = fine_is (record p { sessions = q.sessions }) q h.2 (record { cage = k.cage; range = k.range; settings = k.settings; status = k.status })
+attach_fine p n f (Joined sid) None q k h =
+    fine_is (record p { sessions = q.sessions }) q h.2 (record { cage = k.cage; range = k.range; settings = k.settings; status = k.status })
 attach_fine p n f Stranger None q k h = fine_is p q h.2 k
 attach_fine p n f a w q k h = absurd h
 
@@ -275,14 +306,16 @@ new_fine p Ask.Join f a w q k h = join_fine p f a w q k h
 new_fine p (Ask.Attach n) f a w q k h = attach_fine p n f a w q k h
 new_fine p ask f a w q k h = absurd h
 
-session_fine : (o : Option Sid) (p : Panel) (ask : SessionAsk) (f : Bool) (a : SessionAnswer) (w : Option WorkView) (q : Panel) → IsFine p → StepSession o p ask f a w q → IsFine q
+session_fine : (o : Option Sid) (p : Panel) (ask : SessionAsk) (f : Bool) (a : SessionAnswer) (w : Option WorkView) (q : Panel) → IsFine p
+    → StepSession o p ask f a w q → IsFine q
 session_fine None p ask f a w q k h = new_fine p ask f a w q k h
 session_fine (Some sid) p ask f Stranger None q k h = fine_is p q h.2 k
 session_fine (Some sid) p ask f a w q k h = admitted_fine (drops p sid ask) (shuts_out p sid ask) p ask f a w q k h.1
 
 -- ---- cards
 
-slot_fine : (c : CageSeen) (s : ℕ) (v : Option Account) → IsKept c → c.scan ≡ None → slot_at c.out s ≡ None → 1 ≤ s → s ≤ 8 → ((n : ℕ) → option_closed v n ≡ false) → OptionFew v → IsKept (record c { cards = slice_set c.cards (s - 1) v })
+slot_fine : (c : CageSeen) (s : ℕ) (v : Option Account) → IsKept c → c.scan ≡ None → slot_at c.out s ≡ None → 1 ≤ s → s ≤ 8
+    → ((n : ℕ) → option_closed v n ≡ false) → OptionFew v → IsKept (record c { cards = slice_set c.cards (s - 1) v })
 slot_fine c s v k idle home a b quiet few = record {
   good = record { held = held_set c s v c.scan k.good.held home a b; running = subst (λ (o : Option ScanSeen). IsRunning (record c { cards = slice_set c.cards (s - 1) v }) o) (sym idle) tt };
   safe = exclusive_quiet c.cards s v (omega (arith, a)) (omega (arith, b, k.good.held.slots)) quiet k.safe;
@@ -376,7 +409,8 @@ concluded_fine SaysWorn p k = k
 event_fine : (p : Panel) (ask : AskView) (f : Bool) (a : AnswerView) (q : Panel) → IsFine p → IsEvent p ask f a q → IsFine q
 event_fine p ask f a q k h = fine_is (concluded a h.done) q h.after (concluded_fine a h.done (acts_fine p ask f a h.done k h.acts))
 
-either_fine : (b : Bool) (p : Panel) (ask : AskView) (f : Bool) (a : AnswerView) (q : Panel) → IsFine p → MatchBool b (IsUnnumbered p ask f a q) (IsEvent p ask f a q) → IsFine q
+either_fine : (b : Bool) (p : Panel) (ask : AskView) (f : Bool) (a : AnswerView) (q : Panel) → IsFine p
+    → MatchBool b (IsUnnumbered p ask f a q) (IsEvent p ask f a q) → IsFine q
 either_fine true p ask f a q k h = fine_is p q h.same k
 either_fine false p ask f a q k h = event_fine p ask f a q k h
 

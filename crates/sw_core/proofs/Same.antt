@@ -33,7 +33,9 @@ same_states (x ∷ xs) (y ∷ ys) e h =
 same_card : (a b : Account) → at_rest a ≡ at_rest b → ((k : ℕ) → closed_at a.closed k ≡ closed_at b.closed k) → a ≡ b
 same_card a b e h =
     let states : a.closed ≡ b.closed = same_states a.closed b.closed (ap (λ (x : Account). x.closed) e) h in
-    let back : (x y : Account) → x ≡ y → (c d : List Bool) → c ≡ d → ◌≡◌ {A = Account} (record x { closed = c }) (record y { closed = d }) = λ x y p c d q. ap (λ (z : Account). let r : Account = record z { closed = c } in r) p ∙ ap (λ (s : List Bool). let r : Account = record y { closed = s } in r) q in
+    let back : (x y : Account) → x ≡ y → (c d : List Bool) → c ≡ d
+    → ◌≡◌ {A = Account} (record x { closed = c }) (record y { closed = d }) = λ x y p c d q. ap (λ (z : Account). let r : Account = record z { closed = c } in r) p
+    ∙ ap (λ (s : List Bool). let r : Account = record y { closed = s } in r) q in
     back (at_rest a) (at_rest b) e a.closed b.closed states
 
 same_option : (o n : Option Account) → option_rest o ≡ option_rest n → ((k : ℕ) → option_closed o k ≡ option_closed n k) → o ≡ n
@@ -42,7 +44,8 @@ same_option None (Some b) e h = absurd (cc (e))
 same_option (Some a) None e h = absurd (cc (e))
 same_option (Some a) (Some b) e h = let k : at_rest a ≡ at_rest b = cc in ap Some (same_card a b k h)
 
-slots_first : (o n : Option Account) (r s : Accounts) → ((c : Channel) → is_closed (o ∷ r) c ≡ is_closed (n ∷ s) c) → (k : ℕ) → option_closed o k ≡ option_closed n k
+slots_first : (o n : Option Account) (r s : Accounts) → ((c : Channel) → is_closed (o ∷ r) c ≡ is_closed (n ∷ s) c) → (k : ℕ)
+    → option_closed o k ≡ option_closed n k
 slots_first o n r s h k = h (1, k)
 
 slot_next : (o : Option Account) (r : Accounts) (t : ℕ) → slot_at (o ∷ r) (suc (suc t)) ≡ slot_at r (suc t)
@@ -51,7 +54,8 @@ slot_next o r t =
     let b : suc t - 1 ≡ t = omega arith in
     rw (lt-ltb 0 (suc (suc t)) (omega arith), lt-ltb 0 (suc t) (omega arith), a, b) refl
 
-slots_rest : (o n : Option Account) (r s : Accounts) → ((c : Channel) → is_closed (o ∷ r) c ≡ is_closed (n ∷ s) c) → (c : Channel) → is_closed r c ≡ is_closed s c
+slots_rest : (o n : Option Account) (r s : Accounts) → ((c : Channel) → is_closed (o ∷ r) c ≡ is_closed (n ∷ s) c) → (c : Channel)
+    → is_closed r c ≡ is_closed s c
 slots_rest o n r s h (zero, k) = refl
 slots_rest o n r s h (suc t, k) =
     ap (λ x. option_closed x k) (sym (slot_next o r t)) ∙ h (suc (suc t), k) ∙ ap (λ x. option_closed x k) (slot_next n s t)

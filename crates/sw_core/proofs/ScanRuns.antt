@@ -1,57 +1,37 @@
 -- Each scan of a run does what its plan says, and ends.
-use Rattle.std.proofs.Common.{◌≡◌, ℕ, suc, ◌+◌, ◌≤◌, ◌<◌, ◌==◌, ◌&&◌, not, Bool, true, false, List, [], ◌∷◌, ◌++◌, length, take, drop, Option, None, Some, is_some, Result, Ok, Err, ◌⊎◌, inl, inr, refl, ap, sym, subst, ◌∙◌, arith, map}
-use Rattle.std.specs.Prelude.{if◌then◌else◌, decimal, MatchBool, IfSome}
+use Rattle.std.proofs.Common.{◌≡◌, ℕ, suc, ◌+◌, ◌≤◌, ◌<◌, ◌==◌, ◌&&◌, not, Bool, true, false, List, [], ◌∷◌, ◌++◌, length, take, drop, Option, None, Some}
+use Rattle.std.proofs.Common.{is_some, ◌⊎◌, inl, inr, refl, ap, sym, subst, ◌∙◌, arith}
+use Rattle.std.specs.Prelude.{MatchBool, IfSome}
 use Rattle.std.proofs.lemmas.List.{take-append-drop}
-use Rattle.std.specs.List.{join_with_byte}
-use Rattle.sw_base.specs.Reading.{reading_text}
 use mathlib.Core.Path.{fun_ext}
-use Rattle.sw_base.specs.Layout.{Channel, slot_at}
-use Rattle.sw_base.specs.declared.reading.Reading.{Reading}
-use Rattle.sw_base.specs.declared.error.ScpiError.{ScpiError}
-use Rattle.sw_base.specs.declared.error.ScpiError.TheVariants.{UndefinedHeader, DataCorruptOrStale, OutOfMemory, TriggerIgnored, HardwareMissing, SettingsConflict, HardwareError}
-use Rattle.sw_base.specs.declared.terms.LayerName.TheVariants as layer_name
-use Rattle.sw_card.specs.declared.board.CardFault.{CardFault}
-use Rattle.sw_lex.specs.declared.command.Command.{Command}
 use Rattle.sw_trigger.specs.declared.layer.Awaited.{Awaited}
-use Rattle.sw_trigger.specs.declared.layer.Awaited.TheVariants.{Read}
 use Rattle.sw_trigger.specs.Settings.{Setup}
-use Rattle.sw_trigger.specs.Agenda.{Item, Awaits, Close, Open, agenda}
+use Rattle.sw_trigger.specs.Agenda.{agenda}
 use Rattle.sw_trigger.specs.Counts.{awaiting, bound_of, reads}
-use Rattle.sw_status.specs.StatusModel.{StatusSeen}
 use Rattle.sw_verify.specs.declared.snapshot.Snapshot.{Snapshot}
 use Rattle.sw_verify.specs.Channels.{Channels, is_among}
 use Rattle.sw_verify.specs.Sound.{effect}
 use Rattle.sw_verify.proofs.Round.{effect-append}
 use Rattle.sw_cage.specs.Accounts.{is_closed}
 use Rattle.sw_cage.specs.Channels.{closed_list}
-use Rattle.sw_cage.specs.Cage.{ScanSeen, CageSeen, safe_state, ticket_of}
-use Rattle.sw_cage.specs.Install.{stopped}
-use Rattle.sw_cage.specs.Good.{IsRunning, IsHeld, MeterStands}
-use Rattle.sw_cage.specs.Advance.{leading_moves, first_awaited, moves_from, next_place, awaits}
-use Rattle.sw_cage.specs.Takes.{TakesIf, TakesThere, TakesReturnThere}
-use Rattle.sw_cage.specs.Work.{FinishedSeen}
+use Rattle.sw_cage.specs.Cage.{ScanSeen, CageSeen}
+use Rattle.sw_cage.specs.Good.{IsRunning, MeterStands}
+use Rattle.sw_cage.specs.Advance.{moves_from, next_place, awaits}
 use Rattle.sw_cage.specs.TakenSeen.{TakenSeen, SaysIgnored, SaysWaits, SaysPause, SaysJob, SaysEnded, SaysFault}
 use Rattle.sw_cage.specs.declared.job.Ticket.{Ticket}
-use Rattle.sw_cage.specs.declared.taken.Happening.{Happening}
-use Rattle.sw_cage.specs.declared.taken.Happening.TheVariants.{Bus, External, Elapsed}
-use Rattle.sw_cage.specs.Outcome.{Occupancy, occupancy_of, Arrives, AdvancesOrFails, Advances, AdvancesPastFrom, Counts, begun, with_back, with_reading}
+use Rattle.sw_cage.specs.Outcome.{Occupancy, occupancy_of, AdvancesOrFails, begun}
 use Rattle.sw_core.specs.declared.ask.Sid.{Sid}
-use Rattle.sw_core.specs.declared.ask.SessionAsk.{SessionAsk}
 use Rattle.sw_core.specs.declared.ask.SessionAsk.TheVariants as Ask
 use Rattle.sw_core.specs.declared.ask.SessionAnswer.{SessionAnswer}
-use Rattle.sw_core.specs.declared.ask.SessionAnswer.TheVariants as answers
-use Rattle.sw_core.specs.declared.ask.SessionAnswer.TheVariants.{Joined, Full, Stranger, Broken, Done, Refused, Hold, Worn}
+use Rattle.sw_core.specs.declared.ask.SessionAnswer.TheVariants.{Stranger, Broken, Done, Hold, Worn}
 use Rattle.sw_core.specs.Panel.{Panel, opening_at, is_running}
-use Rattle.sw_core.specs.Action.{Effect, TellsNumber, TellsText, TellsReadings, ReadsOut, SetsStatus, SetsUp, Closes, Opens, TellsRelays, Leaves}
-use Rattle.sw_core.specs.Action.{Resets, reset, Offers, Refuses, IsOfMacros, Initiates, Action, AtOnce, BetweenScans, AfterScan, action_of}
-use Rattle.sw_core.specs.Event.{concluded, session_concluded, last_number}
-use Rattle.sw_core.specs.Seats.{asker_of}
-use Rattle.sw_core.specs.Step.{StepClose, StepOpen, StepFlags, StepText, StepDone, StepSetting, StepRefused, StepReadings, StepAlone, StepEffect, StepHeld, StepAction, Happens, session_told, StepHappens, StepSnapshot, Starts, StepStart, started_answer, IsServed, StepJoined, StepAdmitted, drops, shuts_out, StepJoin, StepAttach, StepSession, outside_told, StepOutside, Returns, StepFinished, Acts, acts_unnumbered, IsWorn, IsEvent, IsUnnumbered, Step}
-use Rattle.sw_cage.proofs.SlotChangeLemmas.{some_slot, is_none}
-use Rattle.sw_cage.proofs.AdvanceLemmas.{closed_back}
+use Rattle.sw_core.specs.Event.{last_number}
+use Rattle.sw_core.specs.Step.{Starts, StepStart, started_answer}
+use Rattle.sw_core.specs.Step.{StepAdmitted, drops, shuts_out, StepSession, Acts}
+use Rattle.sw_core.specs.Step.{acts_unnumbered, IsWorn, IsEvent, IsUnnumbered, Step}
 use Rattle.sw_cage.proofs.ClosedMemberLemmas.{among_closed}
-use Rattle.sw_core.specs.View.{WorkView, AskView, AskSession, AskInstall, AskEject, AskExternal, AskElapsed, AskFinished, AnswerView, SaysSession, SaysInstalled, SaysNotInstalled, SaysEjected, SaysNotEjected, SaysTaken, SaysMissed, SaysFailed, SaysBack, SaysWorn}
-use Rattle.std.proofs.Common.{zero, ◌*◌}
+use Rattle.sw_core.specs.View.{WorkView, AskView, AskSession, AnswerView, SaysSession}
+use Rattle.std.proofs.Common.{◌*◌}
 use Rattle.std.proofs.Math.Nat.{mul-pos}
 use Rattle.sw_trigger.specs.Settings.{IsInRange}
 use Rattle.sw_trigger.specs.Counts.{in_pass, in_arm2, in_arm1}
@@ -59,12 +39,13 @@ use Rattle.sw_trigger.proofs.Awaiting.{some_pass, length-in_arm2, length-in_arm1
 use Rattle.sw_cage.specs.Good.{IsUnderway}
 use Rattle.sw_core.specs.View.{failed_in}
 use Rattle.sw_core.specs.Run.{Event, IsNext, IsRun}
-use Rattle.sw_core.specs.Ends.{left_at, left_of, left_in, took, taken_in, begins, BeginsNone, last_of, IsFollowing, breaks_off, IsComplete, IsBrokenOff, IsOver, IsEnding, Begins, EveryScanEnds}
-use Rattle.sw_core.proofs.Kept.{IsKept, inside}
+use Rattle.sw_core.specs.Ends.{left_at, left_of, left_in, took, taken_in, begins, BeginsNone, last_of, IsFollowing, breaks_off, IsComplete, IsBrokenOff, IsOver}
+use Rattle.sw_core.specs.Ends.{IsEnding, Begins, EveryScanEnds}
+use Rattle.sw_core.proofs.Kept.{inside}
 use Rattle.sw_core.proofs.Harmless.{IsFine, none_of}
 use Rattle.sw_core.proofs.Safety.{step_fine, opening_fine_at}
 use Rattle.sw_core.proofs.Course.{leaves, leaves_goes, Holds, holds_none, holds_on}
-use Rattle.sw_core.proofs.Advancing.{left_past, left_arrives, Nears, near_is, Completed, Stopped, Moves}
+use Rattle.sw_core.proofs.Advancing.{left_past, left_arrives, Nears, near_is, Completed, Stopped}
 use Rattle.sw_core.proofs.Moving.{concluded_scan, move_step}
 
 -- ---- runs
@@ -89,11 +70,13 @@ near_run p (e ∷ events) k r n =
 -- ---- a scan begins
 
 -- a scan that begins awaits all of its agenda
-left_started : (old new : Occupancy) (number : ℕ) (s : Setup) (i : ℕ) (told : TakenSeen) (scan : Option ScanSeen) → started_answer told ≡ Done None → AdvancesOrFails old number (moves_from s i) (next_place s i) told new scan → left_of scan ≡ length (awaiting (drop i (agenda s)))
+left_started : (old new : Occupancy) (number : ℕ) (s : Setup) (i : ℕ) (told : TakenSeen) (scan : Option ScanSeen) → started_answer told ≡ Done None
+    → AdvancesOrFails old number (moves_from s i) (next_place s i) told new scan → left_of scan ≡ length (awaiting (drop i (agenda s)))
 left_started old new number s i SaysFault scan e h = absurd (cc (e))
 left_started old new number s i SaysIgnored scan e h = left_arrives (record old { cards = h.cards }) new number s i SaysIgnored scan h.arrives
 left_started old new number s i SaysWaits scan e h = left_arrives (record old { cards = h.cards }) new number s i SaysWaits scan h.arrives
-left_started old new number s i (SaysPause ticket micros) scan e h = left_arrives (record old { cards = h.cards }) new number s i (SaysPause ticket micros) scan h.arrives
+left_started old new number s i (SaysPause ticket micros) scan e h =
+    left_arrives (record old { cards = h.cards }) new number s i (SaysPause ticket micros) scan h.arrives
 left_started old new number s i (SaysJob job) scan e h = left_arrives (record old { cards = h.cards }) new number s i (SaysJob job) scan h.arrives
 left_started old new number s i SaysEnded scan e h = left_arrives (record old { cards = h.cards }) new number s i SaysEnded scan h.arrives
 
@@ -117,39 +100,46 @@ some_bound s listed r =
     let all : 0 < s.arm1.count * length (in_arm1 s) = mul-pos c1 arm1 in
     omega (arith, length-awaiting s listed, all)
 
-begun_by : (p q : Panel) (plan : Snapshot) (f : Bool) (told : TakenSeen) → IsFine p → started_answer told ≡ Done None → Starts p plan f told q → Begun plan q.cage
+begun_by : (p q : Panel) (plan : Snapshot) (f : Bool) (told : TakenSeen) → IsFine p → started_answer told ≡ Done None → Starts p plan f told q
+    → Begun plan q.cage
 begun_by p q plan f told k e h =
     let settings : plan.settings ≡ p.settings = ap (λ (s : Snapshot). s.settings) h.1 in
     let listed : plan.closed ≡ closed_list p.cage.cards = ap (λ (s : Snapshot). s.closed) h.1 in
     let found : is_closed p.cage.cards ≡ is_among plan.closed = sym (fun_ext (among_closed p.cage.cards (inside p.cage k.cage))) ∙ ap is_among (sym listed) in
     record {
-      left = left_started (occupancy_of (begun p.cage)) (occupancy_of q.cage) (p.cage.number + 1) p.settings 0 told q.cage.scan e h.3.runs ∙ ap bound_of (sym settings);
+      left = left_started (occupancy_of (begun p.cage)) (occupancy_of q.cage) (p.cage.number + 1) p.settings 0 told q.cage.scan e h.3.runs
+          ∙ ap bound_of (sym settings);
       some = some_bound plan.settings h.2.listed (subst (λ (s : Setup). IsInRange s) (sym settings) k.range);
       none = h.3.readings;
       held = λ at is.
           let r = leaves_goes (occupancy_of (begun p.cage)) (occupancy_of q.cage) (p.cage.number + 1) p.settings 0 told q.cage.scan at h.3.runs is in
           let all : effect (is_closed p.cage.cards) (agenda p.settings) ≡ is_among plan.closed =
-          ap (λ (b : Channels). effect b (agenda p.settings)) found ∙ ap (λ (s : Setup). effect (is_among plan.closed) (agenda s)) (sym settings) ∙ fun_ext h.2.sound.back in
+          ap (λ (b : Channels). effect b (agenda p.settings)) found ∙ ap (λ (s : Setup). effect (is_among plan.closed) (agenda s)) (sym settings)
+          ∙ fun_ext h.2.sound.back in
           (r.0 ∙ sym settings, r.1 ∙ all);
     }
 
-begun_start : (p q : Panel) (sid : Sid) (plan : Snapshot) (f : Bool) (a : SessionAnswer) (w : Option WorkView) → IsFine p → begins (AskSession (Ask.Start sid plan)) (SaysSession a w) ≡ true → StepStart p plan f a w q → Begun plan q.cage
+begun_start : (p q : Panel) (sid : Sid) (plan : Snapshot) (f : Bool) (a : SessionAnswer) (w : Option WorkView) → IsFine p
+    → begins (AskSession (Ask.Start sid plan)) (SaysSession a w) ≡ true → StepStart p plan f a w q → Begun plan q.cage
 begun_start p q sid plan f (Done None) w k n h = begun_by p q plan f h.told k (sym h.answer_is) h.starts
 begun_start p q sid plan f (Done (Some text)) w k n h = absurd h
 begun_start p q sid plan f a w k n h = absurd (cc (n))
 
-begun_admitted : (b o : Bool) (p q : Panel) (sid : Sid) (plan : Snapshot) (f : Bool) (a : SessionAnswer) (w : Option WorkView) → IsFine p → begins (AskSession (Ask.Start sid plan)) (SaysSession a w) ≡ true → StepAdmitted b o p (Ask.Start sid plan) f a w q → Begun plan q.cage
+begun_admitted : (b o : Bool) (p q : Panel) (sid : Sid) (plan : Snapshot) (f : Bool) (a : SessionAnswer) (w : Option WorkView) → IsFine p
+    → begins (AskSession (Ask.Start sid plan)) (SaysSession a w) ≡ true → StepAdmitted b o p (Ask.Start sid plan) f a w q → Begun plan q.cage
 begun_admitted true o p q sid plan f Broken None k n h = absurd (cc (n))
 begun_admitted true o p q sid plan f a w k n h = absurd h
 begun_admitted false true p q sid plan f (Hold back) None k n h = absurd (cc (n))
 begun_admitted false true p q sid plan f a w k n h = absurd h
 begun_admitted false false p q sid plan f a w k n h = begun_start p q sid plan f a w k n h
 
-begun_session : (p q : Panel) (sid : Sid) (plan : Snapshot) (f : Bool) (a : SessionAnswer) (w : Option WorkView) → IsFine p → begins (AskSession (Ask.Start sid plan)) (SaysSession a w) ≡ true → StepSession (Some sid) p (Ask.Start sid plan) f a w q → Begun plan q.cage
+begun_session : (p q : Panel) (sid : Sid) (plan : Snapshot) (f : Bool) (a : SessionAnswer) (w : Option WorkView) → IsFine p
+    → begins (AskSession (Ask.Start sid plan)) (SaysSession a w) ≡ true → StepSession (Some sid) p (Ask.Start sid plan) f a w q → Begun plan q.cage
 begun_session p q sid plan f Stranger w k n h = absurd (cc (n))
 begun_session p q sid plan f a w k n h = begun_admitted (drops p sid (Ask.Start sid plan)) (shuts_out p sid (Ask.Start sid plan)) p q sid plan f a w k n h.1
 
-begun_acts : (p q : Panel) (sid : Sid) (plan : Snapshot) (f : Bool) (a : AnswerView) → IsFine p → begins (AskSession (Ask.Start sid plan)) a ≡ true → Acts p (AskSession (Ask.Start sid plan)) f a q → Begun plan q.cage
+begun_acts : (p q : Panel) (sid : Sid) (plan : Snapshot) (f : Bool) (a : AnswerView) → IsFine p → begins (AskSession (Ask.Start sid plan)) a ≡ true
+    → Acts p (AskSession (Ask.Start sid plan)) f a q → Begun plan q.cage
 begun_acts p q sid plan f (SaysSession a w) k n h = begun_session p q sid plan f a w k n h
 begun_acts p q sid plan f a k n h = absurd (cc (n))
 
@@ -157,11 +147,14 @@ begun_worn : (sid : Sid) (plan : Snapshot) (a : AnswerView) → begins (AskSessi
 begun_worn sid plan (SaysSession (Worn back) None) n h = cc (n)
 begun_worn sid plan a n h = h
 
-begun_either : (b : Bool) (p q : Panel) (sid : Sid) (plan : Snapshot) (f : Bool) (a : AnswerView) → IsFine p → begins (AskSession (Ask.Start sid plan)) a ≡ true → MatchBool b (IsUnnumbered p (AskSession (Ask.Start sid plan)) f a q) (IsEvent p (AskSession (Ask.Start sid plan)) f a q) → Begun plan q.cage
+begun_either : (b : Bool) (p q : Panel) (sid : Sid) (plan : Snapshot) (f : Bool) (a : AnswerView) → IsFine p → begins (AskSession (Ask.Start sid plan)) a ≡ true
+    → MatchBool b (IsUnnumbered p (AskSession (Ask.Start sid plan)) f a q) (IsEvent p (AskSession (Ask.Start sid plan)) f a q) → Begun plan q.cage
 begun_either true p q sid plan f a k n h = absurd (begun_worn sid plan a n h.worn)
-begun_either false p q sid plan f a k n h = subst (λ (c : CageSeen). Begun plan c) (sym (ap (λ (x : Panel). x.cage) h.after ∙ concluded_scan a h.done)) (begun_acts p h.done sid plan f a k n h.acts)
+begun_either false p q sid plan f a k n h =
+    subst (λ (c : CageSeen). Begun plan c) (sym (ap (λ (x : Panel). x.cage) h.after ∙ concluded_scan a h.done)) (begun_acts p h.done sid plan f a k n h.acts)
 
-pub begun_step : (p q : Panel) (sid : Sid) (plan : Snapshot) (f : Bool) (a : AnswerView) → IsFine p → begins (AskSession (Ask.Start sid plan)) a ≡ true → Step p (AskSession (Ask.Start sid plan)) f a q → Begun plan q.cage
+pub begun_step : (p q : Panel) (sid : Sid) (plan : Snapshot) (f : Bool) (a : AnswerView) → IsFine p → begins (AskSession (Ask.Start sid plan)) a ≡ true
+    → Step p (AskSession (Ask.Start sid plan)) f a q → Begun plan q.cage
 begun_step p q sid plan f a k n h = begun_either ((p.events == last_number) && not (acts_unnumbered (AskSession (Ask.Start sid plan)))) p q sid plan f a k n h
 
 -- ---- where it ends
@@ -202,7 +195,8 @@ cut_none [] e n = (tt, n.0)
 cut_none (b ∷ before) e n = let c = cut_none before e n.1 in ((n.0, c.0), c.1)
 
 -- a scan that would leave closed what its plan found has done the front of its agenda from there
-follows : (plan : Snapshot) (start end : Panel) → Begun plan start.cage → Holds start.cage end.cage → (scan : Option ScanSeen) → end.cage.scan ≡ scan → IsRunning end.cage scan → IfSome scan (λ at. IsFollowing plan end at)
+follows : (plan : Snapshot) (start end : Panel) → Begun plan start.cage → Holds start.cage end.cage → (scan : Option ScanSeen) → end.cage.scan ≡ scan
+    → IsRunning end.cage scan → IfSome scan (λ at. IsFollowing plan end at)
 follows plan start end b h None e r = tt
 follows plan start end b h (Some at) e r =
     let old = h at e in
@@ -211,7 +205,8 @@ follows plan start end b h (Some at) e r =
     let done = take at.index (agenda at.setup) in
     let left = drop at.index (agenda at.setup) in
     let found : r.way.found ≡ leaves end.cage.cards at =
-    sym (fun_ext r.way.sound.back) ∙ ap (effect r.way.found) (sym (take-append-drop at.index (agenda at.setup))) ∙ effect-append r.way.found done left ∙ ap (λ (m : Channels). effect m left) (sym r.way.so_far) in
+    sym (fun_ext r.way.sound.back) ∙ ap (effect r.way.found) (sym (take-append-drop at.index (agenda at.setup))) ∙ effect-append r.way.found done left
+    ∙ ap (λ (m : Channels). effect m left) (sym r.way.so_far) in
     let whole : r.way.found ≡ is_among plan.closed = found ∙ old.3 ∙ first.1 in
     let now : is_closed end.cage.cards ≡ effect (is_among plan.closed) (take at.index (agenda plan.settings)) =
     r.way.so_far ∙ ap (λ (m : Channels). effect m done) whole ∙ ap (λ (s : Setup). effect (is_among plan.closed) (take at.index (agenda s))) same in
@@ -226,7 +221,8 @@ pub record Stands (plan : Snapshot) (p : Panel) (taken : ℕ) (at : ScanSeen) : 
   pub leaves_it : leaves p.cage.cards at ≡ is_among plan.closed
   pub taken_left : taken + left_at at ≡ bound_of plan.settings
 
-stands : (plan : Snapshot) (start p : Panel) (taken : ℕ) (at : ScanSeen) → Begun plan start.cage → Nears start taken p → p.cage.scan ≡ Some at → Stands plan p taken at
+stands : (plan : Snapshot) (start p : Panel) (taken : ℕ) (at : ScanSeen) → Begun plan start.cage → Nears start taken p → p.cage.scan ≡ Some at
+    → Stands plan p taken at
 stands plan start p taken at b h e =
     let old = h.holds at e in
     let first = b.held old.0 old.1 in
@@ -241,10 +237,12 @@ stands plan start p taken at b h e =
 over_by : (plan : Snapshot) (p q : Panel) (taken : ℕ) (e : Event) (at : ScanSeen) → Stands plan p taken at → IsUnderway p.cage at → e.panel ≡ q
     → Completed p.cage at (took e.ask e.answer) q.cage ⊎ ((breaks_off e.ask e.answer ≡ true) × Stopped at q.cage) → IsOver plan taken e
 over_by plan p q taken e at s u is h =
-    let all : (n : ℕ) → reads (take n (agenda at.setup)) ≤ plan.settings.points = λ (n : ℕ). subst (λ (x : Setup). reads (take n (agenda at.setup)) ≤ x.points) s.settings (omega (arith, u.way.sound.fits, reads_part at.setup n)) in
+    let all : (n : ℕ)
+    → reads (take n (agenda at.setup)) ≤ plan.settings.points = λ (n : ℕ). subst (λ (x : Setup). reads (take n (agenda at.setup)) ≤ x.points) s.settings (omega (arith, u.way.sound.fits, reads_part at.setup n)) in
     subst (λ (x : Panel). IsComplete plan (taken + took e.ask e.answer) x ⊎ ((breaks_off e.ask e.answer ≡ true) × IsBrokenOff plan x)) (sym is) (by_end all h)
   where
-    by_end : ((n : ℕ) → reads (take n (agenda at.setup)) ≤ plan.settings.points) → Completed p.cage at (took e.ask e.answer) q.cage ⊎ ((breaks_off e.ask e.answer ≡ true) × Stopped at q.cage)
+    by_end : ((n : ℕ) → reads (take n (agenda at.setup)) ≤ plan.settings.points) → Completed p.cage at (took e.ask e.answer) q.cage
+        ⊎ ((breaks_off e.ask e.answer ≡ true) × Stopped at q.cage)
         → IsComplete plan (taken + took e.ask e.answer) q ⊎ ((breaks_off e.ask e.answer ≡ true) × IsBrokenOff plan q)
     by_end all (inl h) = inl (record {
       closed = λ c. ap (λ (m : Channels). m c) (h.closed ∙ s.leaves_it);
@@ -276,7 +274,8 @@ begun_in p start plan k r b =
     begun_step p start.panel b.sid plan f start.answer k (subst (λ (x : AskView). begins x start.answer ≡ true) b.ask b.done)
     (subst (λ (x : AskView). Step p x f start.answer start.panel) b.ask r.step)
 
-along : (plan : Snapshot) (start : Panel) (after : List Event) → IsFine start → Begun plan start.cage → BeginsNone after → IsRun start after → IsEnding plan start after
+along : (plan : Snapshot) (start : Panel) (after : List Event) → IsFine start → Begun plan start.cage → BeginsNone after → IsRun start after
+    → IsEnding plan start after
 along plan start after fine b none run =
     let h = near_run start after fine run none in
     let good = (fine_last start after fine run).cage.good.running in
@@ -288,7 +287,8 @@ along plan start after fine b none run =
       over = λ t. elim h.left [ inl l ↦ over_at end.cage end.cage.scan good (omega (arith, l, b.left, t)) | inr i ↦ i ];
     }
 
-ends : (plan : Snapshot) (start : Panel) (between : List Event) (e : Event) → IsFine start → Begun plan start.cage → BeginsNone (between ++ e ∷ []) → IsRun start (between ++ e ∷ [])
+ends : (plan : Snapshot) (start : Panel) (between : List Event) (e : Event) → IsFine start → Begun plan start.cage → BeginsNone (between ++ e ∷ [])
+    → IsRun start (between ++ e ∷ [])
     → is_running (last_of start between) ≡ true → is_running e.panel ≡ false → IsOver plan (taken_in between) e
 ends plan start between e fine b none run runs idle =
     let n = cut_none between e none in

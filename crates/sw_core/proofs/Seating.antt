@@ -1,5 +1,5 @@
 -- What a session asks of its seat or of the locks has one answer where memory suffices.
-use Rattle.std.proofs.Common.{◌≡◌, ◌≢◌, ◌≤◌, ℕ, Bool, true, false, List, length, Option, None, Some, is_some, refl, sym, ◌∙◌, ap, arith, inl, inr}
+use Rattle.std.proofs.Common.{◌≡◌, ◌≤◌, ℕ, Bool, true, false, List, length, Option, None, Some, is_some, refl, sym, ◌∙◌, ap, arith, inl, inr}
 use Rattle.sw_base.specs.Layout.{slot_at}
 use Rattle.sw_cage.proofs.SlotChangeLemmas.{some_slot}
 use Rattle.sw_hislip.specs.LockTable.{LockTable, Replies, MayLackMemory, is_wrong, grants}
@@ -37,7 +37,9 @@ true_false : (b : Bool) → b ≡ true → b ≡ false → ⊥
 true_false b t f = cc (t, f)
 
 same_sessions : (s t : SessionsSeen) → s.seats ≡ t.seats → s.locks ≡ t.locks → s ≡ t
-same_sessions s t a b = ap (λ (x : List (Option _)). let r : SessionsSeen = record { seats = x; locks = s.locks } in r) a ∙ ap (λ (x : LockTable). let r : SessionsSeen = record { seats = t.seats; locks = x } in r) b
+same_sessions s t a b =
+    ap (λ (x : List (Option _)). let r : SessionsSeen = record { seats = x; locks = s.locks } in r) a
+    ∙ ap (λ (x : LockTable). let r : SessionsSeen = record { seats = t.seats; locks = x } in r) b
 
 -- it is no want of memory
 abbrev IsKept : LockTable → ℕ → List ℕ → ℕ → Type 0
@@ -59,7 +61,8 @@ granted_apart l number key code m m' n (inl a) b = true_false (grants l number k
 granted_apart l number key code m m' n (inr (inl a)) b = true_false (is_wrong l number key) a.1.0 b.0
 granted_apart l number key code m m' n (inr (inr a)) b = n a.0 a.1
 
-lock_once : (s : SessionsSeen) (sid : Sid) (key : List ℕ) (a a' : SessionAnswer) (t t' : SessionsSeen) → FindsKey s (Ask.Lock sid key) a → FindsKey s (Ask.Lock sid key) a' → StepLock s sid key a t → StepLock s sid key a' t' → (a ≡ a') × (t ≡ t')
+lock_once : (s : SessionsSeen) (sid : Sid) (key : List ℕ) (a a' : SessionAnswer) (t t' : SessionsSeen) → FindsKey s (Ask.Lock sid key) a
+    → FindsKey s (Ask.Lock sid key) a' → StepLock s sid key a t → StepLock s sid key a' t' → (a ≡ a') × (t ≡ t')
 lock_once s sid key (Lock code) (Lock code') t t' n m h k =
     let r = grants_once s.locks sid.number key code code' t.locks t'.locks n m h.0 k.0 in
     (ap Lock r.0, same_sessions t t' (h.1 ∙ sym k.1) r.1)
@@ -68,7 +71,8 @@ lock_once s sid key (Hold back) (Lock code) t t' n m h k = absurd (granted_apart
 lock_once s sid key (Hold back) (Hold back') t t' n m h k = (ap Hold (h.1 ∙ sym k.1), h.2 ∙ sym k.2)
 lock_once s sid key a a' t t' n m h k = absurd (assumption (h, k))
 
-pub seat_once : (s : SessionsSeen) (ask : SessionAsk) (a a' : SessionAnswer) (t t' : SessionsSeen) → FindsKey s ask a → FindsKey s ask a' → StepSeat s ask a t → StepSeat s ask a' t' → (a ≡ a') × (t ≡ t')
+pub seat_once : (s : SessionsSeen) (ask : SessionAsk) (a a' : SessionAnswer) (t t' : SessionsSeen) → FindsKey s ask a → FindsKey s ask a' → StepSeat s ask a t
+    → StepSeat s ask a' t' → (a ≡ a') × (t ≡ t')
 seat_once s (Ask.Leave sid) (Done None) (Done None) t t' n m h k = (refl, h ∙ sym k)
 seat_once s (Ask.Attached sid) (Done None) (Done None) t t' n m h k = (refl, h.1 ∙ sym k.1)
 seat_once s (Ask.Attached sid) Missed Missed t t' n m h k = (refl, h.1 ∙ sym k.1)

@@ -1,7 +1,7 @@
 -- OPERation's condition tells what the scan awaits, at the end of each event.
-use Rattle.std.proofs.Common.{◌≡◌, ◌==◌, ◌&&◌, not, Bool, true, false, Option, None, Some, refl, sym, ap, subst, arith}
+use Rattle.std.proofs.Common.{◌≡◌, ◌==◌, ◌&&◌, not, Bool, true, false, Option, None, Some, refl, sym, subst}
 use Rattle.std.specs.Prelude.{MatchBool}
-use Rattle.sw_base.specs.declared.error.ScpiError.TheVariants.{TriggerIgnored, SettingsConflict, HardwareError, OutOfMemory}
+use Rattle.sw_base.specs.declared.error.ScpiError.TheVariants.{TriggerIgnored, HardwareError}
 use Rattle.sw_base.specs.declared.terms.LayerName.TheVariants.{Arm1, Arm2, Trigger}
 use Rattle.sw_trigger.specs.declared.layer.Awaited.{Awaited}
 use Rattle.sw_trigger.specs.declared.layer.Awaited.TheVariants.{Wait, Pause, Read}
@@ -18,10 +18,11 @@ use Rattle.sw_core.specs.declared.ask.SessionAnswer.TheVariants.{Joined, Full, S
 use Rattle.sw_core.specs.Panel.{Panel, is_running}
 use Rattle.sw_core.specs.Action.{Effect, Action, AtOnce, BetweenScans, AfterScan, action_of}
 use Rattle.sw_core.specs.Event.{awaited_bits, ended, erred, concluded, session_concluded, last_number}
-use Rattle.sw_core.specs.View.{WorkView, AskView, AskSession, AskInstall, AskEject, AskExternal, AskElapsed, AskFinished, AnswerView, SaysSession, SaysInstalled}
+use Rattle.sw_core.specs.View.{WorkView, AskView, AskSession, AskExternal, AskElapsed, AskFinished, AnswerView, SaysSession}
+use Rattle.sw_core.specs.View.{SaysInstalled}
 use Rattle.sw_core.specs.View.{SaysNotInstalled, SaysEjected, SaysNotEjected, SaysTaken, SaysMissed, SaysFailed, SaysBack, SaysWorn}
 use Rattle.sw_core.specs.Seats.{asker_of}
-use Rattle.sw_core.specs.Step.{StepRefused, StepEffect, StepHeld, StepAction, StepSnapshot, StepStart, IsServed, StepJoined, StepAdmitted, drops, shuts_out}
+use Rattle.sw_core.specs.Step.{StepEffect, StepHeld, StepAction, StepSnapshot, StepStart, IsServed, StepJoined, StepAdmitted, drops, shuts_out}
 use Rattle.sw_core.specs.Step.{StepJoin, StepAttach, StepNew, StepSession, outside_told, Acts, acts_unnumbered, IsEvent, IsUnnumbered, Step}
 use Rattle.sw_core.proofs.Answered.{IsAnswered, effect_answered, barred_answered, happening_answered}
 
@@ -58,11 +59,13 @@ silent_apart (Done text) k n = n
 silent_apart (Refused e) k n = n
 silent_apart a k n = absurd k
 
-held_telling : (p : Panel) (ask : SessionAsk) (f : Bool) (a : SessionAnswer) (w : Option WorkView) (q : Panel) → IsTelling p → StepHeld p ask f a w q → IsTelling q
+held_telling : (p : Panel) (ask : SessionAsk) (f : Bool) (a : SessionAnswer) (w : Option WorkView) (q : Panel) → IsTelling p → StepHeld p ask f a w q
+    → IsTelling q
 held_telling p ask f (Hold back) None q k h = telling_as p q h.2 k
 held_telling p ask f a w q k h = absurd h
 
-waiting_telling : (b : Bool) (e : Effect) (p : Panel) (ask : SessionAsk) (f : Bool) (a : SessionAnswer) (w : Option WorkView) (q : Panel) → IsSilent a → IsTelling p
+waiting_telling : (b : Bool) (e : Effect) (p : Panel) (ask : SessionAsk) (f : Bool) (a : SessionAnswer) (w : Option WorkView) (q : Panel) → IsSilent a
+    → IsTelling p
     → MatchBool b (StepHeld p ask f a w q) (StepEffect e p f a w q) → IsTelling q
 waiting_telling true e p ask f a w q n k h = held_telling p ask f a w q k h
 waiting_telling false e p ask f a w q n k h = absurd (silent_apart a (effect_answered e p f a w q h) n)
@@ -90,7 +93,8 @@ start_silent p plan f a w q n h = absurd n
 served_telling : (p : Panel) (ask : SessionAsk) (f : Bool) (a : SessionAnswer) (q : Panel) → IsTelling p → IsServed p ask f a q → IsTelling q
 served_telling p ask f a q k h = telling_as (record p { sessions = h.sessions }) q h.after k
 
-joined_telling : (p : Panel) (ask : SessionAsk) (f : Bool) (a : SessionAnswer) (w : Option WorkView) (q : Panel) → IsSilent a → IsTelling p → StepJoined p ask f a w q → IsTelling q
+joined_telling : (p : Panel) (ask : SessionAsk) (f : Bool) (a : SessionAnswer) (w : Option WorkView) (q : Panel) → IsSilent a → IsTelling p
+    → StepJoined p ask f a w q → IsTelling q
 joined_telling p (Ask.Fault sid e) f (Done text) w q n k h = absurd n
 joined_telling p (Ask.Fault sid e) f a None q n k h = served_telling p (Ask.Fault sid e) f a q k h
 joined_telling p (Ask.Unit sid command available) f a w q n k h = action_telling (action_of available command) p (Ask.Unit sid command available) f a w q n k h
@@ -122,12 +126,14 @@ join_silent p f (Joined sid) w q n h = n
 join_silent p f Full w q n h = n
 join_silent p f a w q n h = h
 
-attach_telling : (p : Panel) (number : _) (f : Bool) (a : SessionAnswer) (w : Option WorkView) (q : Panel) → IsSilent a → IsTelling p → StepAttach p number f a w q → IsTelling q
+attach_telling : (p : Panel) (number : _) (f : Bool) (a : SessionAnswer) (w : Option WorkView) (q : Panel) → IsSilent a → IsTelling p
+    → StepAttach p number f a w q → IsTelling q
 attach_telling p number f (Joined sid) w q n k h = absurd n
 attach_telling p number f Stranger None q n k h = telling_as p q h.2 k
 attach_telling p number f a w q n k h = absurd h
 
-new_telling : (p : Panel) (ask : SessionAsk) (f : Bool) (a : SessionAnswer) (w : Option WorkView) (q : Panel) → IsSilent a → IsTelling p → StepNew p ask f a w q → IsTelling q
+new_telling : (p : Panel) (ask : SessionAsk) (f : Bool) (a : SessionAnswer) (w : Option WorkView) (q : Panel) → IsSilent a → IsTelling p → StepNew p ask f a w q
+    → IsTelling q
 new_telling p Ask.Join f a w q n k h = absurd (join_silent p f a w q n h)
 new_telling p (Ask.Attach number) f a w q n k h = attach_telling p number f a w q n k h
 new_telling p ask f a w q n k h = absurd h
@@ -194,7 +200,8 @@ acts_settled p ask f SaysMissed q k h = ended_telling q
 acts_settled p ask f SaysFailed q k h = ended_telling (erred q HardwareError)
 acts_settled p ask f a q k h = absurd h
 
-either_settled : (b : Bool) (p : Panel) (ask : AskView) (f : Bool) (a : AnswerView) (q : Panel) → IsTelling p → MatchBool b (IsUnnumbered p ask f a q) (IsEvent p ask f a q) → IsTelling q
+either_settled : (b : Bool) (p : Panel) (ask : AskView) (f : Bool) (a : AnswerView) (q : Panel) → IsTelling p
+    → MatchBool b (IsUnnumbered p ask f a q) (IsEvent p ask f a q) → IsTelling q
 either_settled true p ask f a q k h = telling_as p q h.same k
 either_settled false p ask f a q k h = telling_as (concluded a h.done) q h.after (acts_settled p ask f a h.done k h.acts)
 

@@ -1,69 +1,35 @@
 -- What a command does to a scan that runs: nothing, or it stops it.
-use Rattle.std.proofs.Common.{◌≡◌, ℕ, suc, ◌+◌, ◌≤◌, ◌<◌, ◌==◌, ◌&&◌, not, Bool, true, false, List, [], ◌∷◌, ◌++◌, length, take, drop, Option, None, Some, is_some, Result, Ok, Err, ◌⊎◌, inl, inr, refl, ap, sym, subst, ◌∙◌, arith, map}
-use Rattle.std.specs.Prelude.{if◌then◌else◌, decimal, MatchBool, IfSome}
-use Rattle.std.proofs.lemmas.List.{take-append-drop}
+use Rattle.std.proofs.Common.{◌≡◌, ℕ, Bool, true, false, List, [], ◌∷◌, None, Some}
+use Rattle.std.proofs.Common.{◌⊎◌, inl, inr, refl, ap, sym, subst, ◌∙◌, map}
+use Rattle.std.specs.Prelude.{decimal}
 use Rattle.std.specs.List.{join_with_byte}
 use Rattle.sw_base.specs.Reading.{reading_text}
-use mathlib.Core.Path.{fun_ext}
-use Rattle.sw_base.specs.Layout.{Channel, slot_at}
+use Rattle.sw_base.specs.Layout.{Channel}
 use Rattle.sw_base.specs.declared.reading.Reading.{Reading}
 use Rattle.sw_base.specs.declared.error.ScpiError.{ScpiError}
-use Rattle.sw_base.specs.declared.error.ScpiError.TheVariants.{UndefinedHeader, DataCorruptOrStale, OutOfMemory, TriggerIgnored, HardwareMissing, SettingsConflict, HardwareError}
+use Rattle.sw_base.specs.declared.error.ScpiError.TheVariants.{UndefinedHeader, DataCorruptOrStale, OutOfMemory, HardwareMissing}
+use Rattle.sw_base.specs.declared.error.ScpiError.TheVariants.{SettingsConflict, HardwareError}
 use Rattle.sw_base.specs.declared.terms.LayerName.TheVariants as layer_name
-use Rattle.sw_card.specs.declared.board.CardFault.{CardFault}
 use Rattle.sw_lex.specs.declared.command.Command.{Command}
-use Rattle.sw_trigger.specs.declared.layer.Awaited.{Awaited}
-use Rattle.sw_trigger.specs.declared.layer.Awaited.TheVariants.{Read}
 use Rattle.sw_trigger.specs.Settings.{Setup}
-use Rattle.sw_trigger.specs.Agenda.{Item, Awaits, Close, Open, agenda}
-use Rattle.sw_trigger.specs.Counts.{awaiting, bound_of, reads}
 use Rattle.sw_status.specs.StatusModel.{StatusSeen}
-use Rattle.sw_verify.specs.declared.snapshot.Snapshot.{Snapshot}
-use Rattle.sw_verify.specs.Channels.{Channels, is_among}
 use Rattle.sw_verify.specs.Sound.{effect}
-use Rattle.sw_verify.proofs.Round.{effect-append}
-use Rattle.sw_cage.specs.Accounts.{is_closed}
-use Rattle.sw_cage.specs.Channels.{closed_list}
-use Rattle.sw_cage.specs.Cage.{ScanSeen, CageSeen, safe_state, ticket_of}
-use Rattle.sw_cage.specs.Install.{stopped}
-use Rattle.sw_cage.specs.Good.{IsRunning, IsHeld, MeterStands}
-use Rattle.sw_cage.specs.Advance.{leading_moves, first_awaited, moves_from, next_place, awaits}
-use Rattle.sw_cage.specs.Takes.{TakesIf, TakesThere, TakesReturnThere}
-use Rattle.sw_cage.specs.Work.{FinishedSeen}
-use Rattle.sw_cage.specs.TakenSeen.{TakenSeen, SaysIgnored, SaysWaits, SaysPause, SaysJob, SaysEnded, SaysFault}
-use Rattle.sw_cage.specs.declared.job.Ticket.{Ticket}
-use Rattle.sw_cage.specs.declared.taken.Happening.{Happening}
-use Rattle.sw_cage.specs.declared.taken.Happening.TheVariants.{Bus, External, Elapsed}
-use Rattle.sw_cage.specs.Outcome.{Occupancy, occupancy_of, Arrives, AdvancesOrFails, Advances, AdvancesPastFrom, Counts, begun, with_back, with_reading}
+use Rattle.sw_cage.specs.Cage.{CageSeen}
 use Rattle.sw_core.specs.declared.ask.Sid.{Sid}
 use Rattle.sw_core.specs.declared.ask.SessionAsk.{SessionAsk}
 use Rattle.sw_core.specs.declared.ask.SessionAsk.TheVariants as Ask
 use Rattle.sw_core.specs.declared.ask.SessionAnswer.{SessionAnswer}
-use Rattle.sw_core.specs.declared.ask.SessionAnswer.TheVariants as answers
-use Rattle.sw_core.specs.declared.ask.SessionAnswer.TheVariants.{Joined, Full, Stranger, Broken, Done, Refused, Hold, Worn}
-use Rattle.sw_core.specs.Panel.{Panel, opening_at, is_running}
+use Rattle.sw_core.specs.declared.ask.SessionAnswer.TheVariants.{Done, Refused}
+use Rattle.sw_core.specs.Panel.{Panel, is_running}
 use Rattle.sw_core.specs.Action.{Effect, TellsNumber, TellsText, TellsReadings, ReadsOut, SetsStatus, SetsUp, Closes, Opens, TellsRelays, Leaves}
 use Rattle.sw_core.specs.Action.{Resets, reset, Offers, Refuses, IsOfMacros, Initiates, Action, AtOnce, BetweenScans, AfterScan, action_of}
-use Rattle.sw_core.specs.Event.{concluded, session_concluded, last_number}
-use Rattle.sw_core.specs.Seats.{asker_of}
-use Rattle.sw_core.specs.Step.{StepClose, StepOpen, StepFlags, StepText, StepDone, StepSetting, StepRefused, StepReadings, StepAlone, StepEffect, StepHeld, StepAction, Happens, session_told, StepHappens, StepSnapshot, Starts, StepStart, started_answer, IsServed, StepJoined, StepAdmitted, drops, shuts_out, StepJoin, StepAttach, StepSession, outside_told, StepOutside, Returns, StepFinished, Acts, acts_unnumbered, IsWorn, IsEvent, IsUnnumbered, Step}
-use Rattle.sw_core.specs.Ends.{left_of, went_on, was_taken, took_effect, took_command, took, begins, breaks_off}
-use Rattle.sw_cage.proofs.SlotChangeLemmas.{some_slot, is_none}
-use Rattle.sw_cage.proofs.AdvanceLemmas.{closed_back}
-use Rattle.sw_cage.proofs.ClosedMemberLemmas.{among_closed}
-use Rattle.sw_core.specs.View.{WorkView, AskView, AskSession, AskInstall, AskEject, AskExternal, AskElapsed, AskFinished, AnswerView, SaysSession, SaysInstalled, SaysNotInstalled, SaysEjected, SaysNotEjected, SaysTaken, SaysMissed, SaysFailed, SaysBack, SaysWorn}
-use Rattle.std.specs.Prelude.{◌||◌}
-use Rattle.std.proofs.lemmas.List.{length-map}
-use Rattle.sw_card.specs.Account.{Account}
-use Rattle.sw_cage.specs.Accounts.{all_open, option_rest}
-use Rattle.sw_cage.specs.Install.{without_card}
+use Rattle.sw_core.specs.Step.{StepClose, StepOpen, StepFlags, StepText, StepDone, StepSetting, StepRefused, StepReadings, StepAlone}
+use Rattle.sw_core.specs.Ends.{went_on, breaks_off}
+use Rattle.sw_core.specs.View.{AskView, AskSession, AnswerView, SaysSession}
 use Rattle.sw_cage.proofs.SlotChangeLemmas.{all_open_closed}
-use Rattle.sw_core.specs.Run.{AddsOwn}
 use Rattle.sw_core.proofs.Harmless.{none_of}
-use Rattle.sw_core.proofs.Safety.{rest_slot}
-use Rattle.sw_core.proofs.Obeyed.{bare_slot}
-use Rattle.sw_core.proofs.Course.{Holds, same_rack}
-use Rattle.sw_core.proofs.Advancing.{Nears, near_none, Ends, Moves, move_same, move_is, IsIdle, IsCut, move_idle, move_cut, of_taken, move_happens, move_returns, same_back}
+use Rattle.sw_core.proofs.Course.{same_rack}
+use Rattle.sw_core.proofs.Advancing.{Moves, move_same, IsIdle, IsCut, move_idle, move_cut}
 
 -- ---- commands
 
@@ -72,7 +38,8 @@ abbrev pub IsStill : Bool → Panel → Panel → Type 0
 IsStill off p q = (q.cage ≡ p.cage) ⊎ (IsIdle p.cage q.cage ⊎ IsCut off p.cage q.cage)
 
 pub move_still : (ask : AskView) (a : AnswerView) (p q : Panel) → IsStill (breaks_off ask a) p q → Moves ask a p 0 q
-move_still ask a p q (inl e) = move_same ask a p q (ap (λ (x : CageSeen). x.scan) e) (same_rack p.cage q.cage (ap (λ (x : CageSeen). x.cards) e)) (ap (λ (x : CageSeen). x.readings) e)
+move_still ask a p q (inl e) =
+    move_same ask a p q (ap (λ (x : CageSeen). x.scan) e) (same_rack p.cage q.cage (ap (λ (x : CageSeen). x.cards) e)) (ap (λ (x : CageSeen). x.readings) e)
 move_still ask a p q (inr (inl e)) = move_idle ask a p q e
 move_still ask a p q (inr (inr e)) = move_cut ask a p q e
 
@@ -110,7 +77,8 @@ IsStillAction off p (AfterScan effect) = IsStillEffect off p effect
 abbrev pub off_done : Sid → Bool → Command → Bool
 off_done sid available command = breaks_off (AskSession (Ask.Unit sid command available)) (SaysSession (Done None) None)
 
-pub still_command : (sid : Sid) (p : Panel) (available : Bool) (command : Command) → IsStillAction (off_done sid available command) p (action_of available command)
+pub still_command : (sid : Sid) (p : Panel) (available : Bool) (command : Command)
+    → IsStillAction (off_done sid available command) p (action_of available command)
 still_command sid p available Command.Identify = tt
 still_command sid p available Command.Reset = refl
 still_command sid p available Command.ClearStatus = inl refl
@@ -175,35 +143,41 @@ still_command sid p available Command.ActualPointsQuery = tt
 still_command sid p available Command.BoundQuery = tt
 still_command sid p available Command.Fetch = tt
 
-still_close : {off : Bool} (p : Panel) (chans : List Channel) (f : Bool) (a : SessionAnswer) (q : Panel) → p.cage.scan ≡ None → StepClose p chans f a q → IsStill off p q
+still_close : {off : Bool} (p : Panel) (chans : List Channel) (f : Bool) (a : SessionAnswer) (q : Panel) → p.cage.scan ≡ None → StepClose p chans f a q
+    → IsStill off p q
 still_close p chans f (Done None) q i h = still_idle p q i (ap (λ (x : Panel). x.cage.scan) h.3) (ap (λ (x : Panel). x.cage.readings) h.3)
 still_close p chans f (Refused HardwareMissing) q i h = still_as p q h.2
 still_close p chans f (Refused SettingsConflict) q i h = still_as p q h.2
 still_close p chans f (Refused HardwareError) q i h = still_idle p q i (ap (λ (x : Panel). x.cage.scan) h.2.1) (ap (λ (x : Panel). x.cage.readings) h.2.1)
 still_close p chans f a q i h = absurd h
 
-still_open : {off : Bool} (p : Panel) (chans : List Channel) (f : Bool) (a : SessionAnswer) (q : Panel) → p.cage.scan ≡ None → StepOpen p chans f a q → IsStill off p q
+still_open : {off : Bool} (p : Panel) (chans : List Channel) (f : Bool) (a : SessionAnswer) (q : Panel) → p.cage.scan ≡ None → StepOpen p chans f a q
+    → IsStill off p q
 still_open p chans f (Done None) q i h = still_idle p q i (ap (λ (x : Panel). x.cage.scan) h.3) (ap (λ (x : Panel). x.cage.readings) h.3)
 still_open p chans f (Refused HardwareMissing) q i h = still_as p q h.2
 still_open p chans f (Refused HardwareError) q i h = still_idle p q i (ap (λ (x : Panel). x.cage.scan) h.2.1) (ap (λ (x : Panel). x.cage.readings) h.2.1)
 still_open p chans f a q i h = absurd h
 
-still_flags : {off : Bool} (p : Panel) (closed : Bool) (chans : List Channel) (f : Bool) (a : SessionAnswer) (q : Panel) → StepFlags p closed chans f a q → IsStill off p q
+still_flags : {off : Bool} (p : Panel) (closed : Bool) (chans : List Channel) (f : Bool) (a : SessionAnswer) (q : Panel) → StepFlags p closed chans f a q
+    → IsStill off p q
 still_flags p closed chans f (Done (Some text)) q h = still_as p q h.3
 still_flags p closed chans f (Refused HardwareMissing) q h = still_as p q h.2
 still_flags p closed chans f (Refused OutOfMemory) q h = still_as p q h.2
 still_flags p closed chans f a q h = absurd h
 
-still_text : {off : Bool} (p : Panel) (text : List ℕ) (status : StatusSeen) (f : Bool) (a : SessionAnswer) (q : Panel) → StepText p text status f a q → IsStill off p q
+still_text : {off : Bool} (p : Panel) (text : List ℕ) (status : StatusSeen) (f : Bool) (a : SessionAnswer) (q : Panel) → StepText p text status f a q
+    → IsStill off p q
 still_text p text status f (Done (Some t)) q h = inl (ap (λ (x : Panel). x.cage) h.2)
 still_text p text status f (Refused OutOfMemory) q h = still_as p q h.1
 still_text p text status f a q h = absurd h
 
-still_done : {off : Bool} (p after : Panel) (f : Bool) (a : SessionAnswer) (q : Panel) → (a ≡ Done None → IsStill off p after) → StepDone after f a q → IsStill off p q
+still_done : {off : Bool} (p after : Panel) (f : Bool) (a : SessionAnswer) (q : Panel) → (a ≡ Done None → IsStill off p after) → StepDone after f a q
+    → IsStill off p q
 still_done {off} p after f (Done None) q s h = subst (λ (x : Panel). IsStill off p x) (sym h.1) (s refl)
 still_done p after f a q s h = absurd h
 
-still_setting : {off : Bool} (p : Panel) (Fits : Type 0) (error : ScpiError) (setup : Setup) (f : Bool) (a : SessionAnswer) (q : Panel) → StepSetting p Fits error setup f a q → IsStill off p q
+still_setting : {off : Bool} (p : Panel) (Fits : Type 0) (error : ScpiError) (setup : Setup) (f : Bool) (a : SessionAnswer) (q : Panel)
+    → StepSetting p Fits error setup f a q → IsStill off p q
 still_setting p Fits error setup f (Done None) q h = inl (ap (λ (x : Panel). x.cage) h.2)
 still_setting p Fits error setup f (Refused e) q h = still_as p q h.3
 still_setting p Fits error setup f a q h = absurd h
@@ -216,10 +190,12 @@ still_readings : {off : Bool} (l : List Reading) (p : Panel) (f : Bool) (a : Ses
 still_readings [] p f a q h = still_refused p DataCorruptOrStale f a q h
 still_readings (r ∷ rs) p f a q h = still_text p (join_with_byte 44 (map reading_text (r ∷ rs))) p.status f a q h
 
-off_as : (ask : SessionAsk) (a : SessionAnswer) → a ≡ Done None → breaks_off (AskSession ask) (SaysSession (Done None) None) ≡ breaks_off (AskSession ask) (SaysSession a None)
+off_as : (ask : SessionAsk) (a : SessionAnswer) → a ≡ Done None
+    → breaks_off (AskSession ask) (SaysSession (Done None) None) ≡ breaks_off (AskSession ask) (SaysSession a None)
 off_as ask a e = ap (λ (x : SessionAnswer). breaks_off (AskSession ask) (SaysSession x None)) (sym e)
 
-pub still_alone : (ask : SessionAsk) (d : Effect) (p : Panel) (f : Bool) (a : SessionAnswer) (q : Panel) → IsStillEffect (breaks_off (AskSession ask) (SaysSession (Done None) None)) p d
+pub still_alone : (ask : SessionAsk) (d : Effect) (p : Panel) (f : Bool) (a : SessionAnswer) (q : Panel)
+    → IsStillEffect (breaks_off (AskSession ask) (SaysSession (Done None) None)) p d
     → StepAlone d p f a q → IsStill (breaks_off (AskSession ask) (SaysSession a None)) p q
 still_alone ask (TellsNumber number) p f a q n h = still_text p (decimal (number p)) p.status f a q h
 still_alone ask (TellsText text) p f a q n h = still_text p (text p) p.status f a q h

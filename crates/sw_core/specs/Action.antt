@@ -1,5 +1,5 @@
 -- What each command comes to: one row for each.
-use Rattle.std.specs.Prelude.{◌≡◌, ℕ, ◌≤◌, Bool, true, false, List, [], length, decimal}
+use Rattle.std.specs.Prelude.{ℕ, ◌≤◌, Bool, true, false, List, [], length, decimal}
 use Rattle.sw_base.specs.Layout.{Channel}
 use Rattle.sw_base.specs.Reading.{fixed}
 use Rattle.sw_base.specs.declared.error.ScpiError.{ScpiError}

@@ -1,5 +1,5 @@
 -- What one ask may be answered, and what state it leaves: one line for each legal pair.
-use Rattle.std.specs.Prelude.{◌≡◌, ◌≢◌, ℕ, ◌-◌, ◌≤◌, ◌<◌, ◌==◌, ◌&&◌, not, Bool, true, false, List, [], ◌∷◌, length}
+use Rattle.std.specs.Prelude.{◌≡◌, ◌≢◌, ℕ, ◌-◌, ◌≤◌, ◌<◌, ◌==◌, ◌&&◌, not, Bool, true, false, List, [], ◌∷◌}
 use Rattle.std.specs.Prelude.{Option, None, Some, slice_set, map, decimal, is_some, MatchBool, ◌⊎◌, if◌then◌else◌}
 use Rattle.std.specs.List.{join_with_byte}
 use Rattle.sw_base.specs.Layout.{Channel, slot_at}
@@ -21,7 +21,7 @@ use Rattle.sw_cage.specs.Channels.{closed_list}
 use Rattle.sw_cage.specs.Close.{CanClose, RefusesClose, all_present}
 use Rattle.sw_cage.specs.declared.refusal.CloseRefusal.TheVariants.{Absent, Clash}
 use Rattle.sw_cage.specs.Install.{CanInstall, RefusesInstall, RefusesEject, stopped, without_card}
-use Rattle.sw_cage.specs.Cage.{CageSeen, cage_layout, safe_state}
+use Rattle.sw_cage.specs.Cage.{CageSeen, cage_layout}
 use Rattle.sw_cage.specs.Takes.{Takes, TakesReturn}
 use Rattle.sw_cage.specs.Outcome.{Advances, AdvancesPast, Counts, begun, with_back}
 use Rattle.sw_cage.specs.Work.{FinishedSeen}

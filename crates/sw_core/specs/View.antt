@@ -1,5 +1,5 @@
 -- What is asked and answered as plain data: a card stands in it by its account.
-use Rattle.std.specs.Prelude.{◌≡◌, ℕ, ◌-◌, Bool, true, false, ◌||◌, is_err, Option, None, Some, slice_set}
+use Rattle.std.specs.Prelude.{◌≡◌, ℕ, ◌-◌, Bool, false, ◌||◌, is_err, Option, None, Some, slice_set}
 use Rattle.sw_card.specs.Account.{Account, of_meter}
 use Rattle.sw_cage.specs.Accounts.{Accounts}
 use Rattle.sw_cage.specs.Change.{any_failed}

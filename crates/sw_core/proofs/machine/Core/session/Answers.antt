@@ -1,4 +1,4 @@
-use Rattle.std.proofs.Common.{◌≡◌, ◌&&◌, not, Option, Some, sym, ◌∙◌, subst, ap}
+use Rattle.std.proofs.Common.{◌≡◌, ◌&&◌, not, Option, sym, ◌∙◌, subst, ap}
 use Rattle.sw_hislip.specs.LockTable.{admits}
 use Rattle.sw_cage.specs.Change.{any_failed}
 use Rattle.sw_core.specs.declared.ask.Sid.{Sid}
@@ -18,6 +18,7 @@ returns g c =
     let sessions : c.self.inside.sessions ≡ p.sessions = ap (λ (x : Panel). x.sessions) c.self.view_is in
     let joined : IsJoined p.sessions sid = subst (λ (s : SessionsSeen). IsJoined s sid) sessions (c.has.ensures.0 c.if-not-has.false) in
     let heard = ap (λ (s : SessionsSeen). is_clearing s sid.number && is_dropped c.args.ask) (sym sessions) ∙ sym c.drops.ensures ∙ c.if-drops.false in
-    let let_in = ap (λ (s : SessionsSeen). not (admits s.locks sid.number) && is_shut_out c.args.ask) (sym sessions) ∙ sym c.shuts_out.ensures ∙ c.if-shuts_out.false in
+    let let_in = ap (λ (s : SessionsSeen). not (admits s.locks sid.number) && is_shut_out c.args.ask) (sym sessions) ∙ sym c.shuts_out.ensures
+    ∙ c.if-shuts_out.false in
     subst (λ (o : Option Sid). StepSession o p c.args.ask f c.joined.result.0 (work_view c.joined.result.1) c.joined.new.self) (sym c.in-Some.is ∙ c.asker.ensures)
     (admitted p sid c.args.ask f c.joined.result.0 (work_view c.joined.result.1) c.joined.new.self joined heard let_in c.joined.ensures)

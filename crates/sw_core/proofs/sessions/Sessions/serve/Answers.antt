@@ -4,7 +4,9 @@ use Rattle.sw_core.proofs.Seating.{seated_number}
 use Rattle.sw_core.proofs.sessions.Sessions.serve.Goals as goal
 
 pub leave-requires : goal.leave-requires
-leave-requires c = seated_number c.args.self.now c.args.sid (sym (ap (λ (s : SessionsSeen). length s.seats) c.self.view_is) ∙ c.self.invariant) c.requires.joined
+leave-requires c =
+    seated_number c.args.self.now c.args.sid (sym (ap (λ (s : SessionsSeen). length s.seats) c.self.view_is) ∙ c.self.invariant) c.requires.joined
 
 pub release-requires : goal.release-requires
-release-requires c = seated_number c.args.self.now c.args.sid (sym (ap (λ (s : SessionsSeen). length s.seats) c.self.view_is) ∙ c.self.invariant) c.requires.joined
+release-requires c =
+    seated_number c.args.self.now c.args.sid (sym (ap (λ (s : SessionsSeen). length s.seats) c.self.view_is) ∙ c.self.invariant) c.requires.joined
