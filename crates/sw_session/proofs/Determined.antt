@@ -233,9 +233,9 @@ reports-ample sid told t r f m p is = no-loss sid t r f m (subst (λ (x : Told).
 abbrev Onward : {T : Type 0} → T → T → Begun → Begun → Type 0
 Onward b b' x x' = x.answer ≡ x'.answer → x.macros ≡ x'.macros → Rests b b' x.rest x'.rest
 
-obeys-same : {T : Type 0} (b b' : T) (sid : Sid) (answered : Bool) (command : Command) (macros : Table) (t t' : List Entry) (x x' : Begun)
+executes-same : {T : Type 0} (b b' : T) (sid : Sid) (answered : Bool) (command : Command) (macros : Table) (t t' : List Entry) (x x' : Begun)
     → BeginsBy IsOfMacros sid answered command macros t x → BeginsBy IsOfMacros sid answered command macros t' x' → Onward b b' x x' → Rests b b' t t'
-obeys-same b b' sid answered command macros t t' x x' (told, acts, p) (told', acts', q) next = λ y z.
+executes-same b b' sid answered command macros t t' x x' (told, acts, p) (told', acts', q) next = λ y z.
     let one = acts-same command macros told told' x.macros x'.macros acts acts' (reports-ample sid told t x.rest x.answer y p) (reports-ample sid told' t' x'.rest x'.answer z q) in
     reports-same b b' sid told t t' x.rest x'.rest x.answer x'.answer p (subst (λ (k : Told). Reports sid k t' x'.answer x'.rest) (sym one.0) q) (λ same. next same one.1) y z
 
@@ -246,7 +246,7 @@ asks-same b b' sid ask macros t t' x x' p q next =
 
 by-same : {T : Type 0} (b b' : T) (effect : Effect) (sid : Sid) (answered : Bool) (command : Command) (macros : Table) (t t' : List Entry) (x x' : Begun)
     → BeginsBy effect sid answered command macros t x → BeginsBy effect sid answered command macros t' x' → Onward b b' x x' → Rests b b' t t'
-by-same b b' IsOfMacros sid answered command macros t t' x x' p q next = obeys-same b b' sid answered command macros t t' x x' p q next
+by-same b b' IsOfMacros sid answered command macros t t' x x' p q next = executes-same b b' sid answered command macros t t' x x' p q next
 by-same b b' Initiates sid answered command macros t t' x x' p q next =
     starts-same b b' sid t t' x.rest x'.rest x.answer x'.answer p.0 q.0 (λ same. next same (p.1 ∙ sym q.1))
 by-same b b' Resets sid answered command macros t t' x x' p q next =
@@ -288,20 +288,32 @@ concludes-same b b' sid answers (Refused e) t t' r r' after after' told told' p 
 concludes-same b b' sid answers (Hold h) t t' r r' after after' told told' p q next = plain-same b b' t t' r r' Ends after after' answers told told' p q next
 concludes-same b b' sid answers (Worn h) t t' r r' after after' told told' p q next = plain-same b b' t t' r r' Ends after after' answers told told' p q next
 
-standing-same : (s s' : Standing) → s.macros ≡ s'.macros → s.answers ≡ s'.answers → s ≡ s'
-standing-same s s' m a = ap (λ (x : Table). standing x s.answers) m ∙ ap (λ (x : List (List ℕ)). standing s'.macros x) a
+-- where two sessions stand alike, but for what is left of their traces
+abbrev Alike : Standing → Standing → Type 0
+Alike s s' = (s.path ≡ s'.path) × (s.macros ≡ s'.macros) × (s.answers ≡ s'.answers)
 
-serves-same : {T : Type 0} (b b' : T) (sid : Sid) (command : Result Command ScpiError) (s : Standing) (t t' r r' : List Entry) (after after' : After) (told told' : Standing) → Serves sid command s t after told r → Serves sid command s t' after' told' r'
-    → (after ≡ after' → told ≡ told' → Rests b b' r r') → Rests b b' t t'
-serves-same b b' sid command s t t' r r' after after' told told' (f, mid, p, k) (f', mid', p', k') next =
-    begins-same b b' sid (has_answers s.answers) command s.macros t t' (begun f told.macros mid) (begun f' told'.macros mid') p p'
-    (λ same macros. concludes-same b b' sid s.answers f mid mid' r r' after after' told.answers told'.answers k (subst (λ (x : SessionAnswer). Concludes sid s.answers x mid' after' told'.answers r') (sym same) k')
-    (λ go answers. next go (standing-same told told' macros answers)))
+-- what comes of two parts that end alike
+abbrev Ensues : {T : Type 0} → T → T → After → After → Standing → Standing → Type 0
+Ensues b b' after after' told told' = after ≡ after' → Alike told told' → Rests b b' told.trace told'.trace
+
+serves-same : {T : Type 0} (b b' : T) (sid : Sid) (command : Result Command ScpiError) (s s' : Standing) (after after' : After) (told told' : Standing) → Alike s s'
+    → Serves sid command s after told → Serves sid command s' after' told' → Ensues b b' after after' told told' → Rests b b' s.trace s'.trace
+serves-same b b' sid command s s' after after' told told' (paths, tables, texts) (f, mid, p, k, is) (f', mid', p', k', is') next =
+    let begins : Begins sid (has_answers s.answers) command s.macros s'.trace (begun f' told'.macros mid') =
+        subst (λ (x : List (List ℕ)). Begins sid (has_answers x) command s.macros s'.trace (begun f' told'.macros mid')) (sym texts)
+        (subst (λ (x : Table). Begins sid (has_answers s'.answers) command x s'.trace (begun f' told'.macros mid')) (sym tables) p') in
+    let concludes : Concludes sid s.answers f' mid' after' told'.answers told'.trace =
+        subst (λ (x : List (List ℕ)). Concludes sid x f' mid' after' told'.answers told'.trace) (sym texts) k' in
+    begins-same b b' sid (has_answers s.answers) command s.macros s.trace s'.trace (begun f told.macros mid) (begun f' told'.macros mid') p begins
+    (λ same macros. concludes-same b b' sid s.answers f mid mid' told.trace told'.trace after after' told.answers told'.answers k
+    (subst (λ (x : SessionAnswer). Concludes sid s.answers x mid' after' told'.answers told'.trace) (sym same) concludes)
+    (λ go answers. next go (is ∙ paths ∙ sym is', macros, answers)))
 
 -- the command of a unit that was served is no want of memory
-serves-ample : (sid : Sid) (command : Result Command ScpiError) (s : Standing) (t r : List Entry) (after : After) (told : Standing) → AllAmple t → Serves sid command s t after told r → command ≡ Err OutOfMemory → ⊥
-serves-ample sid command s t r after told m (f, mid, p, k) is =
-    no-loss sid t mid f m (subst (λ (c : Result Command ScpiError). Begins sid (has_answers s.answers) c s.macros t (begun f told.macros mid)) is p).0
+serves-ample : (sid : Sid) (command : Result Command ScpiError) (s : Standing) (after : After) (told : Standing) → AllAmple s.trace → Serves sid command s after told
+    → command ≡ Err OutOfMemory → ⊥
+serves-ample sid command s after told m (f, mid, p, k, stays) is =
+    no-loss sid s.trace mid f m (subst (λ (c : Result Command ScpiError). Begins sid (has_answers s.answers) c s.macros s.trace (begun f told.macros mid)) is p).0
 
 -- ---- the units
 
@@ -317,72 +329,69 @@ pub record ReadsOnce : Type 0 where
 
 -- one unit, talked over in this way, leaves no choice
 abbrev SameWay : {T : Type 0} → T → T → Way → Type 0
-SameWay b b' way = (u : UnitView) (path : Nodes) (s : Standing) (t t' r r' : List Entry) (after after' : After) (onward onward' : Nodes) (told told' : Standing) → way u path s t after onward told r → way u path s t' after' onward' told' r'
-    → (after ≡ after' → onward ≡ onward' → told ≡ told' → Rests b b' r r') → Rests b b' t t'
+SameWay b b' way = (u : UnitView) (s s' : Standing) (after after' : After) (told told' : Standing) → Alike s s' → way u s after told → way u s' after' told'
+    → Ensues b b' after after' told told' → Rests b b' s.trace s'.trace
 
 -- what comes of units that don't go on
-ends-same : {T : Type 0} (b b' : T) (t t' r r' : List Entry) (step after after' : After) (path onward onward' : Nodes) (s told told' : Standing) → (after ≡ step) × (onward ≡ path) × (told ≡ s) × (r ≡ t) → (after' ≡ step) × (onward' ≡ path) × (told' ≡ s) × (r' ≡ t')
-    → (after ≡ after' → onward ≡ onward' → told ≡ told' → Rests b b' r r') → Rests b b' t t'
-ends-same b b' t t' r r' step after after' path onward onward' s told told' (go, way, is, left) (go', way', is', left') next =
-    rw (← left, ← left') (next (go ∙ sym go') (way ∙ sym way') (is ∙ sym is'))
+stays-same : {T : Type 0} (b b' : T) (step after after' : After) (s s' told told' : Standing) → Alike s s' → (after ≡ step) × (told ≡ s) → (after' ≡ step) × (told' ≡ s')
+    → Ensues b b' after after' told told' → Rests b b' s.trace s'.trace
+stays-same b b' step after after' s s' told told' alike (go, is) (go', is') next =
+    subst (λ (x : Standing). Alike x s' → Rests b b' x.trace s'.trace) is
+    (subst (λ (x : Standing). Alike told x → Rests b b' told.trace x.trace) is' (next (go ∙ sym go'))) alike
 
-proceeds-same : {T : Type 0} (b b' : T) (on on' : Nodes → Standing → List Entry → Type 0) (step : After) (path : Nodes) (s : Standing) (mid mid' r r' : List Entry) (after after' : After) (onward onward' : Nodes) (told told' : Standing) → Proceeds on step path s mid after onward told r → Proceeds on' step path s mid' after' onward' told' r'
-    → (after ≡ after' → onward ≡ onward' → told ≡ told' → Rests b b' r r') → (on path s mid → on' path s mid' → Rests b b' mid mid') → Rests b b' mid mid'
-proceeds-same b b' on on' Goes path s mid mid' r r' after after' onward onward' told told' p q next more = more p q
-proceeds-same b b' on on' Drops path s mid mid' r r' after after' onward onward' told told' p q next more = ends-same b b' mid mid' r r' Drops after after' path onward onward' s told told' p q next
-proceeds-same b b' on on' Ends path s mid mid' r r' after after' onward onward' told told' p q next more = ends-same b b' mid mid' r r' Ends after after' path onward onward' s told told' p q next
+proceeds-same : {T : Type 0} (b b' : T) (on on' : Standing → Type 0) (step : After) (s s' : Standing) (after after' : After) (told told' : Standing) → Alike s s'
+    → Proceeds on step s after told → Proceeds on' step s' after' told' → Ensues b b' after after' told told' → (on s → on' s' → Rests b b' s.trace s'.trace)
+    → Rests b b' s.trace s'.trace
+proceeds-same b b' on on' Goes s s' after after' told told' alike p q next more = more p q
+proceeds-same b b' on on' Drops s s' after after' told told' alike p q next more = stays-same b b' Drops after after' s s' told told' alike p q next
+proceeds-same b b' on on' Ends s s' after after' told told' alike p q next more = stays-same b b' Ends after after' s s' told told' alike p q next
 
--- the text breaks off
-refused-same : {T : Type 0} (b b' : T) (sid : Sid) (e e' : ScpiError) (path : Nodes) (s : Standing) (t t' r r' : List Entry) (after after' : After) (onward onward' : Nodes) (told told' : Standing) → e ≡ e' → Serves sid (Err e) s t after told r × (onward ≡ path) → Serves sid (Err e') s t' after' told' r' × (onward' ≡ path)
-    → (after ≡ after' → onward ≡ onward' → told ≡ told' → Rests b b' r r') → Rests b b' t t'
-refused-same b b' sid e e' path s t t' r r' after after' onward onward' told told' same (p, way) (q, way') next =
-    serves-same b b' sid (Err e) s t t' r r' after after' told told' p (subst (λ (x : ScpiError). Serves sid (Err x) s t' after' told' r') (sym same) q) (λ go is. next go (way ∙ sym way') is)
-
-talks-same : {T : Type 0} (b b' : T) (way : Way) → ReadsOnce → SameWay b b' way → (sid : Sid) (text : List ℕ) (us us' : List UnitView) (end end' : Ending) (path : Nodes) (s : Standing) (t t' r r' : List Entry) (after after' : After) (onward onward' : Nodes) (told told' : Standing)
-    → IsScript text us end → IsScript text us' end' → Talks way sid us end path s t after onward told r → Talks way sid us' end' path s t' after' onward' told' r'
-    → (after ≡ after' → onward ≡ onward' → told ≡ told' → Rests b b' r r') → Rests b b' t t'
-talks-same b b' way reads same sid text [] us' Unread end' path s t t' r r' after after' onward onward' told told' i i' p q next = absurd p
-talks-same b b' way reads same sid text [] [] Complete Unread path s t t' r r' after after' onward onward' told told' i i' p q next = absurd q
-talks-same b b' way reads same sid text [] [] Complete Complete path s t t' r r' after after' onward onward' told told' i i' p q next = ends-same b b' t t' r r' Goes after after' path onward onward' s told told' p q next
-talks-same b b' way reads same sid text [] [] Complete (Refuses e) path s t t' r r' after after' onward onward' told told' i i' p q next = absurd (reads.blank_or_error text e i i')
-talks-same b b' way reads same sid text [] (u' ∷ us') Complete end' path s t t' r r' after after' onward onward' told told' i i' p q next = absurd (reads.unit_or_blank text i'.0 u' i'.1 i)
-talks-same b b' way reads same sid text [] [] (Refuses e) Unread path s t t' r r' after after' onward onward' told told' i i' p q next = absurd q
-talks-same b b' way reads same sid text [] [] (Refuses e) Complete path s t t' r r' after after' onward onward' told told' i i' p q next = absurd (reads.blank_or_error text e i' i)
-talks-same b b' way reads same sid text [] [] (Refuses e) (Refuses e') path s t t' r r' after after' onward onward' told told' i i' p q next =
-    refused-same b b' sid e e' path s t t' r r' after after' onward onward' told told' (reads.error text e e' i i') p q next
-talks-same b b' way reads same sid text [] (u' ∷ us') (Refuses e) end' path s t t' r r' after after' onward onward' told told' i i' p q next = absurd (reads.unit_or_error text i'.0 u' e i'.1 i)
-talks-same b b' way reads same sid text (u ∷ us) [] end Unread path s t t' r r' after after' onward onward' told told' i i' p q next = absurd q
-talks-same b b' way reads same sid text (u ∷ us) [] end Complete path s t t' r r' after after' onward onward' told told' i i' p q next = absurd (reads.unit_or_blank text i.0 u i.1 i')
-talks-same b b' way reads same sid text (u ∷ us) [] end (Refuses e) path s t t' r r' after after' onward onward' told told' i i' p q next = absurd (reads.unit_or_error text i.0 u e i.1 i')
-talks-same b b' way reads same sid text (u ∷ us) (u' ∷ us') end end' path s t t' r r' after after' onward onward' told told' (rest, is, i) (rest', is', i') (step, below, so_far, mid, w, on) (step', below', so_far', mid', w', on') next =
+talks-same : {T : Type 0} (b b' : T) (way : Way) → ReadsOnce → SameWay b b' way → (sid : Sid) (text : List ℕ) (us us' : List UnitView) (end end' : Ending) (s s' : Standing)
+    (after after' : After) (told told' : Standing) → Alike s s' → IsScript text us end → IsScript text us' end' → Talks way sid us end s after told
+    → Talks way sid us' end' s' after' told' → Ensues b b' after after' told told' → Rests b b' s.trace s'.trace
+talks-same b b' way reads same sid text [] us' Unread end' s s' after after' told told' alike i i' p q next = absurd p
+talks-same b b' way reads same sid text [] [] Complete Unread s s' after after' told told' alike i i' p q next = absurd q
+talks-same b b' way reads same sid text [] [] Complete Complete s s' after after' told told' alike i i' p q next = stays-same b b' Goes after after' s s' told told' alike p q next
+talks-same b b' way reads same sid text [] [] Complete (Refuses e) s s' after after' told told' alike i i' p q next = absurd (reads.blank_or_error text e i i')
+talks-same b b' way reads same sid text [] (u' ∷ us') Complete end' s s' after after' told told' alike i i' p q next = absurd (reads.unit_or_blank text i'.0 u' i'.1 i)
+talks-same b b' way reads same sid text [] [] (Refuses e) Unread s s' after after' told told' alike i i' p q next = absurd q
+talks-same b b' way reads same sid text [] [] (Refuses e) Complete s s' after after' told told' alike i i' p q next = absurd (reads.blank_or_error text e i' i)
+talks-same b b' way reads same sid text [] [] (Refuses e) (Refuses e') s s' after after' told told' alike i i' p q next =
+    serves-same b b' sid (Err e) s s' after after' told told' alike p (subst (λ (x : ScpiError). Serves sid (Err x) s' after' told') (sym (reads.error text e e' i i')) q) next
+talks-same b b' way reads same sid text [] (u' ∷ us') (Refuses e) end' s s' after after' told told' alike i i' p q next = absurd (reads.unit_or_error text i'.0 u' e i'.1 i)
+talks-same b b' way reads same sid text (u ∷ us) [] end Unread s s' after after' told told' alike i i' p q next = absurd q
+talks-same b b' way reads same sid text (u ∷ us) [] end Complete s s' after after' told told' alike i i' p q next = absurd (reads.unit_or_blank text i.0 u i.1 i')
+talks-same b b' way reads same sid text (u ∷ us) [] end (Refuses e) s s' after after' told told' alike i i' p q next = absurd (reads.unit_or_error text i.0 u e i.1 i')
+talks-same b b' way reads same sid text (u ∷ us) (u' ∷ us') end end' s s' after after' told told' alike (rest, is, i) (rest', is', i') (step, mid, w, on) (step', mid', w', on') next =
     let one = reads.unit text rest rest' u u' is is' in
-    let again : way u path s t' step' below' so_far' mid' = subst (λ (x : UnitView). way x path s t' step' below' so_far' mid') (sym one.0) w' in
+    let again : way u s' step' mid' = subst (λ (x : UnitView). way x s' step' mid') (sym one.0) w' in
     let script : IsScript rest us' end' = subst (λ (x : List ℕ). IsScript x us' end') (sym one.1) i' in
-    let On : Nodes → Standing → List Entry → Type 0 = λ p a x. Talks way sid us' end' p a x after' onward' told' r' in
-    same u path s t t' mid mid' step step' below below' so_far so_far' w again
-    (λ same_step same_path same_told.
-    let on1 : Proceeds On step below' so_far' mid' after' onward' told' r' = subst (λ (x : After). Proceeds On x below' so_far' mid' after' onward' told' r') (sym same_step) on' in
-    let on2 : Proceeds On step below so_far' mid' after' onward' told' r' = subst (λ (x : Nodes). Proceeds On step x so_far' mid' after' onward' told' r') (sym same_path) on1 in
-    let on3 : Proceeds On step below so_far mid' after' onward' told' r' = subst (λ (x : Standing). Proceeds On step below x mid' after' onward' told' r') (sym same_told) on2 in
-    proceeds-same b b' (λ p a x. Talks way sid us end p a x after onward told r) On step below so_far mid mid' r r' after after' onward onward' told told' on on3 next
-    (λ k k'. talks-same b b' way reads same sid rest us us' end end' below so_far mid mid' r r' after after' onward onward' told told' i script k k' next))
+    same u s s' step step' mid mid' alike w again
+    (λ same_step same_place.
+    let on-alike : Proceeds (λ x. Talks way sid us' end' x after' told') step mid' after' told' =
+        subst (λ (x : After). Proceeds (λ y. Talks way sid us' end' y after' told') x mid' after' told') (sym same_step) on' in
+    proceeds-same b b' (λ x. Talks way sid us end x after told) (λ x. Talks way sid us' end' x after' told') step mid mid' after after' told told' same_place on on-alike next
+    (λ k k'. talks-same b b' way reads same sid rest us us' end end' mid mid' after after' told told' same_place i script k k' next))
 
 itself-same : {T : Type 0} (b b' : T) → ReadsOnce → (sid : Sid) → SameWay b b' (Itself sid)
-itself-same b b' reads sid u path s t t' r r' after after' onward onward' told told' (c, res, srv) (c', res', srv') next = λ m n.
-    let one = reads.command u path c c' onward onward' res res' (serves-ample sid c s t r after told m srv) (serves-ample sid c' s t' r' after' told' n srv') in
-    serves-same b b' sid c s t t' r r' after after' told told' srv (subst (λ (x : Result Command ScpiError). Serves sid x s t' after' told' r') (sym one.0) srv') (λ go is. next go one.1 is) m n
+itself-same b b' reads sid u s s' after after' told told' alike (c, path, res, serves) (c', path', res', serves') next = λ m n.
+    let again : Resolves u s.path c' path' = subst (λ (x : Nodes). Resolves u x c' path') (sym alike.0) res' in
+    let one = reads.command u s.path c c' path path' res again (serves-ample sid c (record s { path = path }) after told m serves)
+        (serves-ample sid c' (record s' { path = path' }) after' told' n serves') in
+    serves-same b b' sid c (record s { path = path }) (record s' { path = path' }) after after' told told' (one.1, alike.1, alike.2) serves
+    (subst (λ (x : Result Command ScpiError). Serves sid x (record s' { path = path' }) after' told') (sym one.0) serves') next m n
 
-unfolds-same : {T : Type 0} (b b' : T) → ReadsOnce → (sid : Sid) (x : Result (List ℕ) ScpiError) (path : Nodes) (s : Standing) (t t' r r' : List Entry) (after after' : After) (onward onward' : Nodes) (told told' : Standing)
-    → Unfolds sid x path s t after onward told r → Unfolds sid x path s t' after' onward' told' r' → (after ≡ after' → onward ≡ onward' → told ≡ told' → Rests b b' r r') → Rests b b' t t'
-unfolds-same b b' reads sid (Ok text) path s t t' r r' after after' onward onward' told told' (us, end, i, p) (us', end', i', q) next =
-    talks-same b b' (Itself sid) reads (itself-same b b' reads sid) sid text us us' end end' path s t t' r r' after after' onward onward' told told' i i' p q next
-unfolds-same b b' reads sid (Err e) path s t t' r r' after after' onward onward' told told' p q next =
-    refused-same b b' sid e e path s t t' r r' after after' onward onward' told told' refl p q next
+unfolds-same : {T : Type 0} (b b' : T) → ReadsOnce → (sid : Sid) (x : Result (List ℕ) ScpiError) (s s' : Standing) (after after' : After) (told told' : Standing) → Alike s s'
+    → Unfolds sid x s after told → Unfolds sid x s' after' told' → Ensues b b' after after' told told' → Rests b b' s.trace s'.trace
+unfolds-same b b' reads sid (Ok text) s s' after after' told told' alike (us, end, i, p) (us', end', i', q) next =
+    talks-same b b' (Itself sid) reads (itself-same b b' reads sid) sid text us us' end end' s s' after after' told told' alike i i' p q next
+unfolds-same b b' reads sid (Err e) s s' after after' told told' alike p q next = serves-same b b' sid (Err e) s s' after after' told told' alike p q next
 
 -- an expansion that stood in a unit's place is no want of memory
-unfolds-ample : (sid : Sid) (x : Result (List ℕ) ScpiError) (path : Nodes) (s : Standing) (t r : List Entry) (after : After) (onward : Nodes) (told : Standing) → AllAmple t → Unfolds sid x path s t after onward told r → x ≡ Err OutOfMemory → ⊥
-unfolds-ample sid x path s t r after onward told m p is =
-    serves-ample sid (Err OutOfMemory) s t r after told m (subst (λ (y : Result (List ℕ) ScpiError). Unfolds sid y path s t after onward told r) is p).0 refl
+unfolds-ample : (sid : Sid) (x : Result (List ℕ) ScpiError) (s : Standing) (after : After) (told : Standing) → AllAmple s.trace → Unfolds sid x s after told
+    → x ≡ Err OutOfMemory → ⊥
+unfolds-ample sid x s after told m p is =
+    serves-ample sid (Err OutOfMemory) s after told m (subst (λ (y : Result (List ℕ) ScpiError). Unfolds sid y s after told) is p) refl
 
 expansion-same : ReadsOnce → (macros : Table) (u : UnitView) (x x' : Result (List ℕ) ScpiError) → calls macros u ≡ true → IsExpansion macros u x → IsExpansion macros u x' → (x ≡ Err OutOfMemory → ⊥) → (x' ≡ Err OutOfMemory → ⊥) → x ≡ x'
 expansion-same reads macros u x x' does e e' some some' = elim e [
@@ -398,14 +407,18 @@ either-so true P Q P' Q' p p' one other = one refl p p'
 either-so false P Q P' Q' p p' one other = other p p'
 
 expanded-same : {T : Type 0} (b b' : T) → ReadsOnce → (sid : Sid) → SameWay b b' (Expanded sid)
-expanded-same b b' reads sid u path s t t' r r' after after' onward onward' told told' p q next =
+expanded-same b b' reads sid u s s' after after' told told' alike p q next =
+    let again : MatchBool (calls s.macros u) ((x : Result (List ℕ) ScpiError) × IsExpansion s.macros u x × Unfolds sid x s' after' told') (Itself sid u s' after' told') =
+        subst (λ (t : Table). MatchBool (calls t u) ((x : Result (List ℕ) ScpiError) × IsExpansion t u x × Unfolds sid x s' after' told') (Itself sid u s' after' told'))
+        (sym alike.1) q in
     either-so (calls s.macros u)
-    ((x : Result (List ℕ) ScpiError) × IsExpansion s.macros u x × Unfolds sid x path s t after onward told r) (Itself sid u path s t after onward told r)
-    ((x : Result (List ℕ) ScpiError) × IsExpansion s.macros u x × Unfolds sid x path s t' after' onward' told' r') (Itself sid u path s t' after' onward' told' r') p q
+    ((x : Result (List ℕ) ScpiError) × IsExpansion s.macros u x × Unfolds sid x s after told) (Itself sid u s after told)
+    ((x : Result (List ℕ) ScpiError) × IsExpansion s.macros u x × Unfolds sid x s' after' told') (Itself sid u s' after' told') p again
     (λ does k k' m n.
-    let one = expansion-same reads s.macros u k.0 k'.0 does k.1 k'.1 (unfolds-ample sid k.0 path s t r after onward told m k.2) (unfolds-ample sid k'.0 path s t' r' after' onward' told' n k'.2) in
-    unfolds-same b b' reads sid k.0 path s t t' r r' after after' onward onward' told told' k.2 (subst (λ (x : Result (List ℕ) ScpiError). Unfolds sid x path s t' after' onward' told' r') (sym one) k'.2) next m n)
-    (λ k k'. itself-same b b' reads sid u path s t t' r r' after after' onward onward' told told' k k' next)
+    let one = expansion-same reads s.macros u k.0 k'.0 does k.1 k'.1 (unfolds-ample sid k.0 s after told m k.2) (unfolds-ample sid k'.0 s' after' told' n k'.2) in
+    unfolds-same b b' reads sid k.0 s s' after after' told told' alike k.2
+    (subst (λ (x : Result (List ℕ) ScpiError). Unfolds sid x s' after' told') (sym one) k'.2) next m n)
+    (λ k k'. itself-same b b' reads sid u s s' after after' told told' alike k k' next)
 
 -- nothing is left, and the same is left
 nothing-left : {T : Type 0} (b b' : T) → b ≡ b' → Rests b b' [] []
@@ -420,7 +433,7 @@ talk-determined reads sid macros text t t' bytes bytes' kept kept' p q =
     let b' = left bytes' kept' in
     either-way (nat_lt longest (length text)) (Overruns sid t bytes × (kept ≡ macros)) (TalksUnits sid macros text t bytes kept) (Overruns sid t' bytes' × (kept' ≡ macros)) (TalksUnits sid macros text t' bytes' kept') p q
     (λ o o'. queues-same b b' sid InputBufferOverrun t t' [] [] o.0.0 o'.0.0 o.0.1 o'.0.1 (λ same. nothing-left b b' (left-same bytes bytes' kept kept' (o.0.2 ∙ sym o'.0.2) (o.1 ∙ sym o'.1))))
-    (λ k k'. talks-same b b' (Expanded sid) reads (expanded-same b b' reads sid) sid text k.units k'.units k.ending k'.ending [] (standing macros []) t t' [] [] k.after k'.after k.path k'.path (standing kept k.answers) (standing kept' k'.answers) k.script k'.script k.talks k'.talks
-    (λ same_after same_path same_told. nothing-left b b' (left-same bytes bytes' kept kept'
-    (k.writes ∙ ap (λ (x : After). written x k.answers) same_after ∙ ap (λ (x : Standing). written k'.after x.answers) same_told ∙ sym k'.writes)
-    (ap (λ (x : Standing). x.macros) same_told))))
+    (λ k k'. talks-same b b' (Expanded sid) reads (expanded-same b b' reads sid) sid text k.units k'.units k.ending k'.ending (standing [] macros [] t) (standing [] macros [] t')
+    k.after k'.after (standing k.path kept k.answers []) (standing k'.path kept' k'.answers []) (refl, refl, refl) k.script k'.script k.talks k'.talks
+    (λ same_after same. nothing-left b b' (left-same bytes bytes' kept kept'
+    (k.writes ∙ ap (λ (x : After). written x k.answers) same_after ∙ ap (λ (x : List (List ℕ)). written k'.after x) same.2 ∙ sym k'.writes) same.1)))

@@ -20,7 +20,7 @@ use Rattle.sw_session.specs.declared.talker.After.{After}
 use Rattle.sw_session.specs.declared.talker.After.TheVariants.{Goes, Drops, Ends}
 use Rattle.sw_session.specs.Trace.{Entry, Asked, Waited, Led}
 use Rattle.sw_session.specs.Script.{Ending, Complete, Refuses, Unread, IsScript}
-use Rattle.sw_session.specs.Talk.{Queues, Settles, Begins, begun, Concludes, Serves, Standing, standing, Proceeds, Way, Talks, Itself, Unfolds, IsExpansion, Expanded, TalksUnits, TalksMessage, Talked, Overruns, has_answers, line_of, written, longest, turns}
+use Rattle.sw_session.specs.Talk.{Queues, Settles, Begins, begun, Concludes, Serves, Standing, standing, Proceeds, Way, Talks, Itself, Unfolds, IsExpansion, Expanded, TalksUnits, TalksMessage, Talked, Overruns, Spot, stands_at, OnLine, TalksLine, has_answers, line_of, written, longest, turns}
 use Rattle.sw_session.proofs.Led.{led-none, led-so, led-more, led-then}
 
 -- an ask that was held turn times is asked, or given up
@@ -83,12 +83,14 @@ settle-told passes d0 d1 d2 sid turn ask asked final lt same differ led p =
     (λ t rest so. so final rest (awaits-open sid turn ask (Asked asked final ∷ rest) final rest lt (settles-told sid turn ask asked final rest same differ)))
 
 -- a unit that was begun is concluded
-pub serve-unit : {D : Type 0} (passes : D → Entry → D → Type 0) (d0 d1 d2 : D) (sid : Sid) (command : Result Command ScpiError) (answered : Bool) (macros macros' : Table) (answers : List (List ℕ)) (answer : SessionAnswer) (after : After) (answers' : List (List ℕ))
-    → answered ≡ has_answers answers → Led passes d0 d1 (λ t rest. Begins sid answered command macros t (begun answer macros' rest)) → Led passes d1 d2 (λ t rest. Concludes sid answers answer t after answers' rest)
-    → Led passes d0 d2 (λ t rest. Serves sid command (standing macros answers) t after (standing macros' answers') rest)
-serve-unit passes d0 d1 d2 sid command answered macros macros' answers answer after answers' told p q =
-    led-then passes d0 d1 d2 (λ t rest. Begins sid answered command macros t (begun answer macros' rest)) (λ t rest. Concludes sid answers answer t after answers' rest) (λ t rest. Serves sid command (standing macros answers) t after (standing macros' answers') rest) p q
-    (λ t mid rest b k. (answer, mid, subst (λ (w : Bool). Begins sid w command macros t (begun answer macros' mid)) told b, k))
+pub serve-unit : {D : Type 0} (passes : D → Entry → D → Type 0) (d0 d1 d2 : D) (sid : Sid) (command : Result Command ScpiError) (answered : Bool) (path : Nodes)
+    (macros macros' : Table) (answers : List (List ℕ)) (answer : SessionAnswer) (after : After) (answers' : List (List ℕ)) → answered ≡ has_answers answers
+    → Led passes d0 d1 (λ t rest. Begins sid answered command macros t (begun answer macros' rest)) → Led passes d1 d2 (λ t rest. Concludes sid answers answer t after answers' rest)
+    → Led passes d0 d2 (λ t rest. Serves sid command (standing path macros answers t) after (standing path macros' answers' rest))
+serve-unit passes d0 d1 d2 sid command answered path macros macros' answers answer after answers' told p q =
+    led-then passes d0 d1 d2 (λ t rest. Begins sid answered command macros t (begun answer macros' rest)) (λ t rest. Concludes sid answers answer t after answers' rest)
+    (λ t rest. Serves sid command (standing path macros answers t) after (standing path macros' answers' rest)) p q
+    (λ t mid rest b k. (answer, mid, subst (λ (w : Bool). Begins sid w command macros t (begun answer macros' mid)) told b, k, refl))
 
 -- a script of what is left, after these units, is one of the whole text
 abbrev pub ScriptsBy : List ℕ → List UnitView → List ℕ → Type 0
@@ -98,65 +100,82 @@ pub scripts-more : (text left rest : List ℕ) (front : List UnitView) (u : Unit
 scripts-more text left rest front u is so us ending s =
     subst (λ (l : List UnitView). IsScript text l ending) (sym (append_assoc front (u ∷ []) us)) (so (u ∷ us) ending (rest, is, s))
 
--- what is talked from the rest on, from this path and standing, is talked from the trace on, after these units
-abbrev pub TalksBy : Way → Sid → List UnitView → Nodes → Standing → Nodes → Standing → List Entry → List Entry → Type 0
-TalksBy way sid front start s path told trace mid =
-    (us : List UnitView) (ending : Ending) (after : After) (path' : Nodes) (s' : Standing) (rest : List Entry) → Talks way sid us ending path told mid after path' s' rest → Talks way sid (front ++ us) ending start s trace after path' s' rest
+-- what is talked from this standing on is talked from the first one on, after these units
+abbrev pub TalksBy : Way → Sid → List UnitView → Standing → Standing → Type 0
+TalksBy way sid front s told =
+    (us : List UnitView) (ending : Ending) (after : After) (s' : Standing) → Talks way sid us ending told after s' → Talks way sid (front ++ us) ending s after s'
 
-stops : (on : Nodes → Standing → List Entry → Type 0) (after : After) (onward : Nodes) (told : Standing) (rest : List Entry) → (after ≡ Goes → ⊥) → Proceeds on after onward told rest after onward told rest
-stops on Goes onward told rest differs = absurd (differs refl)
-stops on Drops onward told rest differs = (refl, refl, refl, refl)
-stops on Ends onward told rest differs = (refl, refl, refl, refl)
+stops : (on : Standing → Type 0) (after : After) (told : Standing) → (after ≡ Goes → ⊥) → Proceeds on after told after told
+stops on Goes told differs = absurd (differs refl)
+stops on Drops told differs = (refl, refl)
+stops on Ends told differs = (refl, refl)
 
 module _ {D : Type 0} (passes : D → Entry → D → Type 0) (way : Way) (sid : Sid) where
   -- nothing was talked yet
-  pub talk-starts : (d : D) (start : Nodes) (s : Standing) → Led passes d d (TalksBy way sid [] start s start s)
-  talk-starts d start s = led-none passes d (TalksBy way sid [] start s start s) (λ rest us ending after path' s' rest' w. w)
+  pub talk-starts : (d : D) (s : List Entry → Standing) → Led passes d d (λ t rest. TalksBy way sid [] (s t) (s rest))
+  talk-starts d s = led-none passes d (λ t rest. TalksBy way sid [] (s t) (s rest)) (λ rest us ending after s' w. w)
 
   -- a unit was talked over, and the talk goes on
-  pub talk-goes : (d0 d1 d2 : D) (front : List UnitView) (u : UnitView) (start path path' : Nodes) (s told told' : Standing)
-      → Led passes d0 d1 (TalksBy way sid front start s path told) → Led passes d1 d2 (λ t rest. way u path told t Goes path' told' rest) → Led passes d0 d2 (TalksBy way sid (front ++ u ∷ []) start s path' told')
-  talk-goes d0 d1 d2 front u start path path' s told told' p q =
-      led-then passes d0 d1 d2 (TalksBy way sid front start s path told) (λ t rest. way u path told t Goes path' told' rest) (TalksBy way sid (front ++ u ∷ []) start s path' told') p q
-      (λ t mid rest so w us ending after last s' rest' k. subst (λ (l : List UnitView). Talks way sid l ending start s t after last s' rest') (sym (append_assoc front (u ∷ []) us))
-      (so (u ∷ us) ending after last s' rest' (Goes, path', told', rest, w, k)))
+  pub talk-goes : (d0 d1 d2 : D) (front : List UnitView) (u : UnitView) (s told told' : List Entry → Standing) → Led passes d0 d1 (λ t rest. TalksBy way sid front (s t) (told rest))
+      → Led passes d1 d2 (λ t rest. way u (told t) Goes (told' rest)) → Led passes d0 d2 (λ t rest. TalksBy way sid (front ++ u ∷ []) (s t) (told' rest))
+  talk-goes d0 d1 d2 front u s told told' p q =
+      led-then passes d0 d1 d2 (λ t rest. TalksBy way sid front (s t) (told rest)) (λ t rest. way u (told t) Goes (told' rest))
+      (λ t rest. TalksBy way sid (front ++ u ∷ []) (s t) (told' rest)) p q
+      (λ t mid rest so w us ending after s' k. subst (λ (l : List UnitView). Talks way sid l ending (s t) after s') (sym (append_assoc front (u ∷ []) us))
+      (so (u ∷ us) ending after s' (Goes, told' rest, w, k)))
 
   -- the talk stops after a unit
-  pub talk-stops : (d0 d1 d2 : D) (front : List UnitView) (u : UnitView) (start path path' : Nodes) (s told told' : Standing) (after : After) → (after ≡ Goes → ⊥)
-      → Led passes d0 d1 (TalksBy way sid front start s path told) → Led passes d1 d2 (λ t rest. way u path told t after path' told' rest) → Led passes d0 d2 (λ t rest. Talks way sid (front ++ u ∷ []) Unread start s t after path' told' rest)
-  talk-stops d0 d1 d2 front u start path path' s told told' after differs p q =
-      led-then passes d0 d1 d2 (TalksBy way sid front start s path told) (λ t rest. way u path told t after path' told' rest) (λ t rest. Talks way sid (front ++ u ∷ []) Unread start s t after path' told' rest) p q
-      (λ t mid rest so w. so (u ∷ []) Unread after path' told' rest (after, path', told', rest, w, stops (λ p so_far t'. Talks way sid [] Unread p so_far t' after path' told' rest) after path' told' rest differs))
+  pub talk-stops : (d0 d1 d2 : D) (front : List UnitView) (u : UnitView) (s told told' : List Entry → Standing) (after : After) → (after ≡ Goes → ⊥)
+      → Led passes d0 d1 (λ t rest. TalksBy way sid front (s t) (told rest)) → Led passes d1 d2 (λ t rest. way u (told t) after (told' rest))
+      → Led passes d0 d2 (λ t rest. Talks way sid (front ++ u ∷ []) Unread (s t) after (told' rest))
+  talk-stops d0 d1 d2 front u s told told' after differs p q =
+      led-then passes d0 d1 d2 (λ t rest. TalksBy way sid front (s t) (told rest)) (λ t rest. way u (told t) after (told' rest))
+      (λ t rest. Talks way sid (front ++ u ∷ []) Unread (s t) after (told' rest)) p q
+      (λ t mid rest so w. so (u ∷ []) Unread after (told' rest)
+      (after, told' rest, w, stops (λ so_far. Talks way sid [] Unread so_far after (told' rest)) after (told' rest) differs))
 
   -- the text breaks off
-  pub talk-refused : (d0 d1 d2 : D) (front : List UnitView) (e : ScpiError) (start path : Nodes) (s told told' : Standing) (after : After)
-      → Led passes d0 d1 (TalksBy way sid front start s path told) → Led passes d1 d2 (λ t rest. Serves sid (Err e) told t after told' rest) → Led passes d0 d2 (λ t rest. Talks way sid (front ++ []) (Refuses e) start s t after path told' rest)
-  talk-refused d0 d1 d2 front e start path s told told' after p q =
-      led-then passes d0 d1 d2 (TalksBy way sid front start s path told) (λ t rest. Serves sid (Err e) told t after told' rest) (λ t rest. Talks way sid (front ++ []) (Refuses e) start s t after path told' rest) p q
-      (λ t mid rest so k. so [] (Refuses e) after path told' rest (k, refl))
+  pub talk-refused : (d0 d1 d2 : D) (front : List UnitView) (e : ScpiError) (s told told' : List Entry → Standing) (after : After)
+      → Led passes d0 d1 (λ t rest. TalksBy way sid front (s t) (told rest)) → Led passes d1 d2 (λ t rest. Serves sid (Err e) (told t) after (told' rest))
+      → Led passes d0 d2 (λ t rest. Talks way sid (front ++ []) (Refuses e) (s t) after (told' rest))
+  talk-refused d0 d1 d2 front e s told told' after p q =
+      led-then passes d0 d1 d2 (λ t rest. TalksBy way sid front (s t) (told rest)) (λ t rest. Serves sid (Err e) (told t) after (told' rest))
+      (λ t rest. Talks way sid (front ++ []) (Refuses e) (s t) after (told' rest)) p q (λ t mid rest so k. so [] (Refuses e) after (told' rest) k)
 
   -- the text is over
-  pub talk-complete : (d0 d1 : D) (front : List UnitView) (start path : Nodes) (s told : Standing) → Led passes d0 d1 (TalksBy way sid front start s path told) → Led passes d0 d1 (λ t rest. Talks way sid (front ++ []) Complete start s t Goes path told rest)
-  talk-complete d0 d1 front start path s told p =
-      led-so passes d0 d1 (TalksBy way sid front start s path told) (λ t rest. Talks way sid (front ++ []) Complete start s t Goes path told rest) p
-      (λ t rest so. so [] Complete Goes path told rest (refl, refl, refl, refl))
+  pub talk-complete : (d0 d1 : D) (front : List UnitView) (s told : List Entry → Standing) → Led passes d0 d1 (λ t rest. TalksBy way sid front (s t) (told rest))
+      → Led passes d0 d1 (λ t rest. Talks way sid (front ++ []) Complete (s t) Goes (told rest))
+  talk-complete d0 d1 front s told p =
+      led-so passes d0 d1 (λ t rest. TalksBy way sid front (s t) (told rest)) (λ t rest. Talks way sid (front ++ []) Complete (s t) Goes (told rest)) p
+      (λ t rest so. so [] Complete Goes (told rest) (refl, refl))
 
--- a unit's command or refusal is served
-pub itself-served : {D : Type 0} (passes : D → Entry → D → Type 0) (d0 d1 : D) (sid : Sid) (u : UnitView) (command : Result Command ScpiError) (path path' : Nodes) (s s' : Standing) (after : After) → Resolves u path command path'
-    → Led passes d0 d1 (λ t rest. Serves sid command s t after s' rest) → Led passes d0 d1 (λ t rest. Itself sid u path s t after path' s' rest)
-itself-served passes d0 d1 sid u command path path' s s' after r p =
-    led-so passes d0 d1 (λ t rest. Serves sid command s t after s' rest) (λ t rest. Itself sid u path s t after path' s' rest) p (λ t rest k. (command, r, k))
+-- what goes from line to line is also this
+on-line-so : {D : Type 0} (passes : D → Entry → D → Type 0) (a b : Spot D) (P Q : Standing → Standing → Type 0) → OnLine passes a b P
+    → ((answers answers' : List (List ℕ)) (t rest : List Entry) → P (stands_at a answers t) (stands_at b answers' rest) → Q (stands_at a answers t) (stands_at b answers' rest)) → OnLine passes a b Q
+on-line-so passes a b P Q on so = λ answers written.
+    let s = on answers written in
+    (s.0, s.1, led-so passes a.desk b.desk (λ t rest. P (stands_at a answers t) (stands_at b s.0 rest)) (λ t rest. Q (stands_at a answers t) (stands_at b s.0 rest)) s.2
+    (λ t rest k. so answers s.0 t rest k))
 
-expands : (b : Bool) (sid : Sid) (u : UnitView) (path path' : Nodes) (s s' : Standing) (after : After) (t rest : List Entry) → calls s.macros u ≡ b
-    → MatchBool b ((r : Result (List ℕ) ScpiError) × IsExpansion s.macros u r × Unfolds sid r path s t after path' s' rest) (Itself sid u path s t after path' s' rest) → Expanded sid u path s t after path' s' rest
-expands b sid u path path' s s' after t rest is m =
-    subst (λ (x : Bool). MatchBool x ((r : Result (List ℕ) ScpiError) × IsExpansion s.macros u r × Unfolds sid r path s t after path' s' rest) (Itself sid u path s t after path' s' rest)) (sym is) m
+-- a unit's command or refusal is served below the path that it leaves
+pub itself-served : {D : Type 0} (passes : D → Entry → D → Type 0) (a b : Spot D) (sid : Sid) (u : UnitView) (command : Result Command ScpiError) (after : After)
+    → Resolves u a.path command b.path → OnLine passes (record a { path = b.path }) b (λ s s'. Serves sid command s after s') → OnLine passes a b (λ s s'. Itself sid u s after s')
+itself-served passes a b sid u command after r on = λ answers written.
+    let s = on answers written in
+    (s.0, s.1, led-so passes a.desk b.desk (λ t rest. Serves sid command (stands_at (record a { path = b.path }) answers t) after (stands_at b s.0 rest))
+    (λ t rest. Itself sid u (stands_at a answers t) after (stands_at b s.0 rest)) s.2 (λ t rest k. (command, b.path, r, k)))
+
+expands : (c : Bool) (sid : Sid) (u : UnitView) (s s' : Standing) (after : After) → calls s.macros u ≡ c
+    → MatchBool c ((r : Result (List ℕ) ScpiError) × IsExpansion s.macros u r × Unfolds sid r s after s') (Itself sid u s after s') → Expanded sid u s after s'
+expands c sid u s s' after is m =
+    subst (λ (x : Bool). MatchBool x ((r : Result (List ℕ) ScpiError) × IsExpansion s.macros u r × Unfolds sid r s after s') (Itself sid u s after s')) (sym is) m
 
 -- a unit that calls no macro is itself
-pub expanded-itself : {D : Type 0} (passes : D → Entry → D → Type 0) (d0 d1 : D) (sid : Sid) (u : UnitView) (path path' : Nodes) (s s' : Standing) (after : After) → calls s.macros u ≡ false
-    → Led passes d0 d1 (λ t rest. Itself sid u path s t after path' s' rest) → Led passes d0 d1 (λ t rest. Expanded sid u path s t after path' s' rest)
-expanded-itself passes d0 d1 sid u path path' s s' after is p =
-    led-so passes d0 d1 (λ t rest. Itself sid u path s t after path' s' rest) (λ t rest. Expanded sid u path s t after path' s' rest) p (λ t rest k. expands false sid u path path' s s' after t rest is k)
+pub expanded-itself : {D : Type 0} (passes : D → Entry → D → Type 0) (a b : Spot D) (sid : Sid) (u : UnitView) (after : After) → calls a.macros u ≡ false
+    → OnLine passes a b (λ s s'. Itself sid u s after s') → OnLine passes a b (λ s s'. Expanded sid u s after s')
+expanded-itself passes a b sid u after is on =
+    on-line-so passes a b (λ s s'. Itself sid u s after s') (λ s s'. Expanded sid u s after s') on
+    (λ answers answers' t rest k. expands false sid u (stands_at a answers t) (stands_at b answers' rest) after is k)
 
 -- the fault of an expansion, or want of memory
 pub fault-expands : (t : Table) (u : UnitView) (written : List ℕ) (e : ScpiError) → (e ≡ OutOfMemory) ⊎ Expands t u written (Err e) → IsExpansion t u (Err e)
@@ -164,21 +183,26 @@ fault-expands t u written e (inl lost) = inr (ap (λ (x : ScpiError). Err x) los
 fault-expands t u written e (inr so) = inl (written, so)
 
 -- the units of an expansion stand in a unit's place
-pub expanded-units : {D : Type 0} (passes : D → Entry → D → Type 0) (d0 d1 : D) (sid : Sid) (u : UnitView) (text : List ℕ) (units : List UnitView) (ending : Ending) (path path' : Nodes) (s s' : Standing) (after : After) → calls s.macros u ≡ true → IsExpansion s.macros u (Ok text) → IsScript text units ending
-    → Led passes d0 d1 (λ t rest. Talks (Itself sid) sid units ending path s t after path' s' rest) → Led passes d0 d1 (λ t rest. Expanded sid u path s t after path' s' rest)
-expanded-units passes d0 d1 sid u text units ending path path' s s' after is x script p =
-    led-so passes d0 d1 (λ t rest. Talks (Itself sid) sid units ending path s t after path' s' rest) (λ t rest. Expanded sid u path s t after path' s' rest) p
-    (λ t rest k. expands true sid u path path' s s' after t rest is (Ok text, x, (units, ending, script, k)))
+pub expanded-units : {D : Type 0} (passes : D → Entry → D → Type 0) (a b : Spot D) (sid : Sid) (u : UnitView) (text : List ℕ) (after : After) → calls a.macros u ≡ true
+    → IsExpansion a.macros u (Ok text) → TalksLine (Itself sid) passes sid text a after b → OnLine passes a b (λ s s'. Expanded sid u s after s')
+expanded-units passes a b sid u text after is x talks = λ answers written.
+    let s = talks answers written in
+    (s.2, s.4, led-so passes a.desk b.desk (λ t rest. Talks (Itself sid) sid s.0 s.1 (stands_at a answers t) after (stands_at b s.2 rest))
+    (λ t rest. Expanded sid u (stands_at a answers t) after (stands_at b s.2 rest)) s.5
+    (λ t rest k. expands true sid u (stands_at a answers t) (stands_at b s.2 rest) after is (Ok text, x, (s.0, s.1, s.3, k))))
 
 -- the fault of an expansion is queued
-pub expanded-fault : {D : Type 0} (passes : D → Entry → D → Type 0) (d0 d1 : D) (sid : Sid) (u : UnitView) (e : ScpiError) (path : Nodes) (s s' : Standing) (after : After) → calls s.macros u ≡ true → IsExpansion s.macros u (Err e)
-    → Led passes d0 d1 (λ t rest. Serves sid (Err e) s t after s' rest) → Led passes d0 d1 (λ t rest. Expanded sid u path s t after path s' rest)
-expanded-fault passes d0 d1 sid u e path s s' after is x p =
-    led-so passes d0 d1 (λ t rest. Serves sid (Err e) s t after s' rest) (λ t rest. Expanded sid u path s t after path s' rest) p (λ t rest k. expands true sid u path path s s' after t rest is (Err e, x, (k, refl)))
+pub expanded-fault : {D : Type 0} (passes : D → Entry → D → Type 0) (a b : Spot D) (sid : Sid) (u : UnitView) (e : ScpiError) (after : After) → calls a.macros u ≡ true
+    → IsExpansion a.macros u (Err e) → OnLine passes a b (λ s s'. Serves sid (Err e) s after s') → OnLine passes a b (λ s s'. Expanded sid u s after s')
+expanded-fault passes a b sid u e after is x on =
+    on-line-so passes a b (λ s s'. Serves sid (Err e) s after s') (λ s s'. Expanded sid u s after s') on
+    (λ answers answers' t rest k. expands true sid u (stands_at a answers t) (stands_at b answers' rest) after is (Err e, x, k))
 
 -- a message that isn't too long, over a trace after which nothing is left
-pub talked-units : {D : Type 0} (passes : D → Entry → D → Type 0) (old new : D) (sid : Sid) (macros macros' : Table) (message text bytes : List ℕ) (units : List UnitView) (ending : Ending) (after : After) (path : Nodes) (answers : List (List ℕ)) → text ≡ strip_last 10 message → length text ≤ longest
-    → IsScript text units ending → bytes ≡ written after answers → Led passes old new (λ t rest. Talks (Expanded sid) sid units ending [] (standing macros []) t after path (standing macros' answers) rest) → Talked passes old new sid macros message bytes macros'
+pub talked-units : {D : Type 0} (passes : D → Entry → D → Type 0) (old new : D) (sid : Sid) (macros macros' : Table) (message text bytes : List ℕ) (units : List UnitView)
+    (ending : Ending) (after : After) (path : Nodes) (answers : List (List ℕ)) → text ≡ strip_last 10 message → length text ≤ longest → IsScript text units ending
+    → bytes ≡ written after answers → Led passes old new (λ t rest. Talks (Expanded sid) sid units ending (standing [] macros [] t) after (standing path macros' answers rest))
+    → Talked passes old new sid macros message bytes macros'
 talked-units passes old new sid macros macros' message text bytes units ending after path answers is few script writes led =
     let short : nat_lt longest (length text) ≡ false = grind (arith, nat_tests) in
     let talk : TalksUnits sid macros text led.trace bytes macros' = record {
@@ -188,10 +212,11 @@ talked-units passes old new sid macros macros' message text bytes units ending a
       after = after;
       path = path;
       answers = answers;
-      talks = subst (λ (t : List Entry). Talks (Expanded sid) sid units ending [] (standing macros []) t after path (standing macros' answers) []) (append-nil led.trace) (led.admits []);
+      talks = subst (λ (t : List Entry). Talks (Expanded sid) sid units ending (standing [] macros [] t) after (standing path macros' answers [])) (append-nil led.trace) (led.admits []);
       writes = writes;
     } in
-    let all : TalksMessage sid macros text led.trace bytes macros' = subst (λ (b : Bool). MatchBool b (Overruns sid led.trace bytes × (macros' ≡ macros)) (TalksUnits sid macros text led.trace bytes macros')) (sym short) talk in
+    let all : TalksMessage sid macros text led.trace bytes macros' =
+        subst (λ (b : Bool). MatchBool b (Overruns sid led.trace bytes × (macros' ≡ macros)) (TalksUnits sid macros text led.trace bytes macros')) (sym short) talk in
     record {
       trace = led.trace;
       leads = led.leads;

@@ -58,12 +58,16 @@ abbrev pub Queues : Sid → ScpiError → List Entry → SessionAnswer → List 
 Queues sid e (Asked a r ∷ trace) final rest = (a ≡ Ask.Fault sid e) × (final ≡ queued e r) × (rest ≡ trace)
 Queues sid e trace final rest = ⊥
 
--- An ask that was held turn times is asked. Held, it is asked again after a wait without a limit, and given up after Over
--- or at the last turn.
+-- An ask that was held turn times is asked. Held, it is asked again after a wait without a limit, and given up after
+-- Over or at the last turn.
 abbrev pub Settles : Sid → ℕ → SessionAsk → List Entry → SessionAnswer → List Entry → Type 0
-Settles sid turn ask (Asked a (Hold b) ∷ Waited None Over ∷ trace) final rest = (a ≡ ask) × Queues sid SettingsConflict trace final rest
+Settles sid turn ask (Asked a (Hold b) ∷ Waited None Over ∷ trace) final rest =
+    (a ≡ ask) × Queues sid SettingsConflict trace final rest
 Settles sid turn ask (Asked a (Hold b) ∷ Waited None (Again left) ∷ trace) final rest =
-    (a ≡ ask) × MatchBool (turn + 1 == turns) (Queues sid SettingsConflict trace final rest) (Settles sid (turn + 1) ask trace final rest)
+    (a ≡ ask)
+    × MatchBool (turn + 1 == turns)
+    (Queues sid SettingsConflict trace final rest)
+    (Settles sid (turn + 1) ask trace final rest)
 Settles sid turn ask (Asked a (Hold b) ∷ trace) final rest = ⊥
 Settles sid turn ask (Asked a r ∷ trace) final rest = (a ≡ ask) × (final ≡ r) × (rest ≡ trace)
 Settles sid turn ask trace final rest = ⊥
@@ -79,7 +83,8 @@ Plans sid told trace final rest = (final ≡ told) × (rest ≡ trace)
 -- INITiate (SCPI-1999, 24): what a scan would begin from is asked, and its plan is made outside the mainframe (own)
 abbrev pub StartsScan : Sid → List Entry → SessionAnswer → List Entry → Type 0
 StartsScan sid trace final rest =
-    (told : SessionAnswer) × (mid : List Entry) × Settles sid 0 (Ask.Snapshot sid) trace told mid × Plans sid told mid final rest
+    (told : SessionAnswer) × (mid : List Entry)
+    × Settles sid 0 (Ask.Snapshot sid) trace told mid × Plans sid told mid final rest
 
 abbrev pub is_done : SessionAnswer → Bool
 is_done (Done text) = true
@@ -111,7 +116,8 @@ effect_of (AfterScan effect) = effect
 -- A command by what it does: a macro command changes the macros and asks nothing else, INITiate starts a scan, and any
 -- other is asked.
 abbrev pub BeginsBy : Effect → Sid → Bool → Command → Table → List Entry → Begun → Type 0
-BeginsBy IsOfMacros sid answered command t trace b = (told : Told) × Acts command t told b.macros × Reports sid told trace b.answer b.rest
+BeginsBy IsOfMacros sid answered command t trace b =
+    (told : Told) × Acts command t told b.macros × Reports sid told trace b.answer b.rest
 BeginsBy Initiates sid answered command t trace b = StartsScan sid trace b.answer b.rest × (b.macros ≡ t)
 BeginsBy Resets sid answered command t trace b =
     Settles sid 0 (Ask.Unit sid command answered) trace b.answer b.rest × (b.macros ≡ table_reset b.answer t)
@@ -120,7 +126,8 @@ BeginsBy effect sid answered command t trace b =
 
 -- a command is begun, with these macros, whether the message has answered before or not; an error is queued
 abbrev pub Begins : Sid → Bool → Result Command ScpiError → Table → List Entry → Begun → Type 0
-Begins sid answered (Ok command) t trace b = BeginsBy (effect_of (action_of answered command)) sid answered command t trace b
+Begins sid answered (Ok command) t trace b =
+    BeginsBy (effect_of (action_of answered command)) sid answered command t trace b
 Begins sid answered (Err e) t trace b = Queues sid e trace b.answer b.rest × (b.macros ≡ t)
 
 -- whether the message goes on after an answer
@@ -132,56 +139,64 @@ after_of answer = Ends
 -- A text joins the answers so far, or there was no memory for it and that error is queued.
 abbrev pub Concludes : Sid → List (List ℕ) → SessionAnswer → List Entry → After → List (List ℕ) → List Entry → Type 0
 Concludes sid answers (Done (Some text)) trace after answers' rest =
-    ((after ≡ Goes) × (answers' ≡ answers ++ text ∷ []) × (rest ≡ trace)) ⊎ ((final : SessionAnswer) × Queues sid OutOfMemory trace final rest × (after ≡ after_of final) × (answers' ≡ answers))
-Concludes sid answers answer trace after answers' rest = (after ≡ after_of answer) × (answers' ≡ answers) × (rest ≡ trace)
+    ((after ≡ Goes) × (answers' ≡ answers ++ text ∷ []) × (rest ≡ trace))
+    ⊎ ((final : SessionAnswer)
+    × Queues sid OutOfMemory trace final rest × (after ≡ after_of final) × (answers' ≡ answers))
+Concludes sid answers answer trace after answers' rest =
+    (after ≡ after_of answer) × (answers' ≡ answers) × (rest ≡ trace)
 
--- what a session has in the midst of a message: its macros, and the answers so far
+-- where a session stands in the midst of a message: the path below which the next header is looked up, its macros, the
+-- answers so far, and what is left of the trace
 pub record Standing : Type 0 where
+  pub path : Nodes
   pub macros : Table
   pub answers : List (List ℕ)
+  pub trace : List Entry
 
-abbrev pub standing : Table → List (List ℕ) → Standing
-standing t answers = record { macros = t; answers = answers }
+abbrev pub standing : Nodes → Table → List (List ℕ) → List Entry → Standing
+standing path macros answers trace = record { path = path; macros = macros; answers = answers; trace = trace }
 
--- one unit that is this command or error, from where the session stands to where it stands then
-abbrev pub Serves : Sid → Result Command ScpiError → Standing → List Entry → After → Standing → List Entry → Type 0
-Serves sid command s trace after s' rest =
+-- one unit that is this command or error, from where the session stands to where it stands then; the path stays
+abbrev pub Serves : Sid → Result Command ScpiError → Standing → After → Standing → Type 0
+Serves sid command s after s' =
     (final : SessionAnswer) × (mid : List Entry)
-    × Begins sid (has_answers s.answers) command s.macros trace (begun final s'.macros mid)
-    × Concludes sid s.answers final mid after s'.answers rest
+    × Begins sid (has_answers s.answers) command s.macros s.trace (begun final s'.macros mid)
+    × Concludes sid s.answers final mid after s'.answers s'.trace × (s'.path ≡ s.path)
 
--- How the units go on after one of them, below the path that it leaves: with the next, or not at all; then what comes of
--- it is what came of all.
-abbrev pub Proceeds : (Nodes → Standing → List Entry → Type 0) → After → Nodes → Standing → List Entry → After → Nodes → Standing → List Entry → Type 0
-Proceeds on Goes onward told mid after path' s' rest = on onward told mid
-Proceeds on Drops onward told mid after path' s' rest = (after ≡ Drops) × (path' ≡ onward) × (s' ≡ told) × (rest ≡ mid)
-Proceeds on Ends onward told mid after path' s' rest = (after ≡ Ends) × (path' ≡ onward) × (s' ≡ told) × (rest ≡ mid)
+-- How the units go on after one of them, from where the session stands then: with the next, or not at all; then what
+-- comes of it is what came of all.
+abbrev pub Proceeds : (Standing → Type 0) → After → Standing → After → Standing → Type 0
+Proceeds on Goes told after s' = on told
+Proceeds on Drops told after s' = (after ≡ Drops) × (s' ≡ told)
+Proceeds on Ends told after s' = (after ≡ Ends) × (s' ≡ told)
 
--- how one unit is talked over, from a path and a standing to those after it
+-- how one unit is talked over, from where the session stands to where it stands then
 abbrev pub Way : Type 1
-Way = UnitView → Nodes → Standing → List Entry → After → Nodes → Standing → List Entry → Type 0
+Way = UnitView → Standing → After → Standing → Type 0
 
--- The talk about these units, each in this way, from this path and standing. Where the text breaks off at a byte that fits
--- no form, that error is queued. Nobody stops reading while the message goes on.
-abbrev pub Talks : Way → Sid → List UnitView → Ending → Nodes → Standing → List Entry → After → Nodes → Standing → List Entry → Type 0
-Talks way sid [] Complete path s trace after path' s' rest = (after ≡ Goes) × (path' ≡ path) × (s' ≡ s) × (rest ≡ trace)
-Talks way sid [] (Refuses e) path s trace after path' s' rest = Serves sid (Err e) s trace after s' rest × (path' ≡ path)
-Talks way sid [] Unread path s trace after path' s' rest = ⊥
-Talks way sid (u ∷ us) ending path s trace after path' s' rest =
-    (step : After) × (onward : Nodes) × (told : Standing) × (mid : List Entry)
-    × way u path s trace step onward told mid
-    × Proceeds (λ p so_far t. Talks way sid us ending p so_far t after path' s' rest) step onward told mid after path' s' rest
+-- The talk about these units, each in this way, from this standing. Where the text breaks off at a byte that fits no
+-- form, that error is queued. Nobody stops reading while the message goes on.
+abbrev pub Talks : Way → Sid → List UnitView → Ending → Standing → After → Standing → Type 0
+Talks way sid [] Complete s after s' = (after ≡ Goes) × (s' ≡ s)
+Talks way sid [] (Refuses e) s after s' = Serves sid (Err e) s after s'
+Talks way sid [] Unread s after s' = ⊥
+Talks way sid (u ∷ us) ending s after s' =
+    (step : After) × (told : Standing)
+    × way u s step told × Proceeds (λ so_far. Talks way sid us ending so_far after s') step told after s'
 
--- a unit is itself: its command or its refusal is served
+-- a unit is itself: its command or its refusal is served, below the path that it leaves
 abbrev pub Itself : Sid → Way
-Itself sid u path s trace after path' s' rest = (command : Result Command ScpiError) × Resolves u path command path' × Serves sid command s trace after s' rest
+Itself sid u s after s' =
+    (command : Result Command ScpiError) × (path : Nodes)
+    × Resolves u s.path command path × Serves sid command (record s { path = path }) after s'
 
--- An expansion stands in a unit's place: its text is read by itself, and each of its units is itself. A fault is queued,
--- and leaves the path.
-abbrev pub Unfolds : Sid → Result (List ℕ) ScpiError → Nodes → Standing → List Entry → After → Nodes → Standing → List Entry → Type 0
-Unfolds sid (Ok text) path s trace after path' s' rest =
-    (units : List UnitView) × (ending : Ending) × IsScript text units ending × Talks (Itself sid) sid units ending path s trace after path' s' rest
-Unfolds sid (Err e) path s trace after path' s' rest = Serves sid (Err e) s trace after s' rest × (path' ≡ path)
+-- An expansion stands in a unit's place: its text is read by itself, and each of its units is itself. A fault is
+-- queued.
+abbrev pub Unfolds : Sid → Result (List ℕ) ScpiError → Standing → After → Standing → Type 0
+Unfolds sid (Ok text) s after s' =
+    (units : List UnitView) × (ending : Ending)
+    × IsScript text units ending × Talks (Itself sid) sid units ending s after s'
+Unfolds sid (Err e) s after s' = Serves sid (Err e) s after s'
 
 -- what a unit that calls a macro is replaced by, or the first fault; or there is no memory for it. How such a unit is
 -- written doesn't matter to that.
@@ -190,8 +205,10 @@ IsExpansion t u r = ((written : List ℕ) × Expands t u written r) ⊎ (r ≡ E
 
 -- a unit of a message: its expansion where it calls a macro, else itself (IEEE 488.2, 10.7)
 abbrev pub Expanded : Sid → Way
-Expanded sid u path s trace after path' s' rest =
-    MatchBool (calls s.macros u) ((r : Result (List ℕ) ScpiError) × IsExpansion s.macros u r × Unfolds sid r path s trace after path' s' rest) (Itself sid u path s trace after path' s' rest)
+Expanded sid u s after s' =
+    MatchBool (calls s.macros u)
+    ((r : Result (List ℕ) ScpiError) × IsExpansion s.macros u r × Unfolds sid r s after s')
+    (Itself sid u s after s')
 
 -- what is written in the end
 abbrev pub written : After → List (List ℕ) → List ℕ
@@ -208,45 +225,81 @@ abbrev pub Overruns : Sid → List Entry → List ℕ → Type 0
 Overruns sid trace bytes = (final : SessionAnswer) × Queues sid InputBufferOverrun trace final [] × (bytes ≡ [])
 
 -- the talk about the units of a message from the root, with nothing asked besides
-pub record TalksUnits (sid : Sid) (macros : Table) (text : List ℕ) (trace : List Entry) (bytes : List ℕ) (macros' : Table) : Type 0 where
+pub record TalksUnits (sid : Sid) (macros : Table) (text : List ℕ) (trace : List Entry) (bytes : List ℕ)
+    (macros' : Table) : Type 0 where
   pub units : List UnitView
   pub ending : Ending
   pub script : IsScript text units ending
   pub after : After
   pub path : Nodes
   pub answers : List (List ℕ)
-  pub talks : Talks (Expanded sid) sid units ending [] (standing macros []) trace after path (standing macros' answers) []
+  pub talks :
+      Talks (Expanded sid) sid units ending (standing [] macros [] trace) after (standing path macros' answers [])
   pub writes : bytes ≡ written after answers
 
 -- the talk about a message without its line feed, from these macros to those after it
 abbrev pub TalksMessage : Sid → Table → List ℕ → List Entry → List ℕ → Table → Type 0
 TalksMessage sid macros text trace bytes macros' =
-    MatchBool (nat_lt longest (length text)) (Overruns sid trace bytes × (macros' ≡ macros)) (TalksUnits sid macros text trace bytes macros')
+    MatchBool (nat_lt longest (length text))
+    (Overruns sid trace bytes × (macros' ≡ macros))
+    (TalksUnits sid macros text trace bytes macros')
 
--- A message of a session with these macros is talked over with a desk that goes from old to new, these bytes are written,
--- and the session has those macros then. One line feed at the message's end is dropped.
-pub record Talked {D : Type 0} (passes : D → Entry → D → Type 0) (old new : D) (sid : Sid) (macros : Table) (message bytes : List ℕ) (macros' : Table) : Type 0 where
+-- A message of a session with these macros is talked over with a desk that goes from old to new, these bytes are
+-- written, and the session has those macros then. One line feed at the message's end is dropped.
+pub record Talked {D : Type 0} (passes : D → Entry → D → Type 0) (old new : D) (sid : Sid) (macros : Table)
+    (message bytes : List ℕ) (macros' : Table) : Type 0 where
   pub trace : List Entry
   pub leads : Leads passes old trace new
   pub talks : TalksMessage sid macros (strip_last 10 message) trace bytes macros'
 
 -- The clauses of the talker's parts.
 
--- a part goes from macros and answers that are written to macros and answers that are written
-abbrev pub OnLine : {D : Type 0} → (D → Entry → D → Type 0) → D → D → Table → List ℕ → Table → List ℕ → (Standing → Standing → List Entry → List Entry → Type 0) → Type 0
-OnLine passes old new t out t' out' part =
-    (answers : List (List ℕ)) → out ≡ line_of answers → (answers' : List (List ℕ)) × (out' ≡ line_of answers') × Led passes old new (part (standing t answers) (standing t' answers'))
+-- where a talker stands: its desk, the path, its macros, and the line that is written so far
+pub record Spot (D : Type 0) : Type 0 where
+  pub desk : D
+  pub path : Nodes
+  pub macros : Table
+  pub line : List ℕ
+
+abbrev pub spot : {D : Type 0} → D → Nodes → Table → List ℕ → Spot D
+spot desk path macros line = record { desk = desk; path = path; macros = macros; line = line }
+
+-- where the session stands at a spot with these answers and this trace
+abbrev pub stands_at : {D : Type 0} → Spot D → List (List ℕ) → List Entry → Standing
+stands_at p answers trace = standing p.path p.macros answers trace
+
+-- a part goes from answers that are written to answers that are written
+abbrev pub OnLine : {D : Type 0} → (D → Entry → D → Type 0) → Spot D → Spot D → (Standing → Standing → Type 0)
+    → Type 0
+OnLine passes a b part =
+    (answers : List (List ℕ)) → a.line ≡ line_of answers
+    → (answers' : List (List ℕ)) × (b.line ≡ line_of answers')
+    × Led passes a.desk b.desk (λ trace rest. part (stands_at a answers trace) (stands_at b answers' rest))
 
 -- the units of a text are talked over in this way
-abbrev pub TalksLine : {D : Type 0} → Way → (D → Entry → D → Type 0) → D → D → Sid → List ℕ → Nodes → Table → List ℕ → After → Nodes → Table → List ℕ → Type 0
-TalksLine way passes old new sid text path t out after path' t' out' =
-    (answers : List (List ℕ)) → out ≡ line_of answers → (units : List UnitView) × (ending : Ending) × (answers' : List (List ℕ)) × IsScript text units ending × (out' ≡ line_of answers')
-    × Led passes old new (λ trace rest. Talks way sid units ending path (standing t answers) trace after path' (standing t' answers') rest)
+abbrev pub TalksLine : {D : Type 0} → Way → (D → Entry → D → Type 0) → Sid → List ℕ → Spot D → After → Spot D → Type 0
+TalksLine way passes sid text a after b =
+    (answers : List (List ℕ)) → a.line ≡ line_of answers
+    → (units : List UnitView) × (ending : Ending) × (answers' : List (List ℕ))
+    × IsScript text units ending × (b.line ≡ line_of answers')
+    × Led passes a.desk b.desk
+    (λ trace rest. Talks way sid units ending (stands_at a answers trace) after (stands_at b answers' rest))
+
+-- a desk, and the line that is written so far
+pub record Written (D : Type 0) : Type 0 where
+  pub desk : D
+  pub line : List ℕ
+
+abbrev pub written_at : {D : Type 0} → D → List ℕ → Written D
+written_at desk line = record { desk = desk; line = line }
 
 -- an answer is taken
-abbrev pub ConcludesLine : {D : Type 0} → (D → Entry → D → Type 0) → D → D → Sid → SessionAnswer → List ℕ → After → List ℕ → Type 0
-ConcludesLine passes old new sid answer out after out' =
-    (answers : List (List ℕ)) → out ≡ line_of answers → (answers' : List (List ℕ)) × (out' ≡ line_of answers') × Led passes old new (λ t rest. Concludes sid answers answer t after answers' rest)
+abbrev pub ConcludesLine : {D : Type 0} → (D → Entry → D → Type 0) → Sid → SessionAnswer → Written D → After
+    → Written D → Type 0
+ConcludesLine passes sid answer a after b =
+    (answers : List (List ℕ)) → a.line ≡ line_of answers
+    → (answers' : List (List ℕ)) × (b.line ≡ line_of answers')
+    × Led passes a.desk b.desk (λ trace rest. Concludes sid answers answer trace after answers' rest)
 
 -- a text joins the answers that are written
 abbrev pub JoinsLine : List ℕ → List ℕ → List ℕ → Type 0

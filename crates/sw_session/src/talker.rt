@@ -3,9 +3,10 @@
 ghost use Rattle.std.specs.Prelude.{◌≡◌, []};
 ghost use Rattle.std.specs.Io.BufRead.{strip_last};
 ghost use Rattle.sw_lex.specs.Unit.{unit_of};
-ghost use Rattle.sw_lex.specs.Meaning.{path_of};
+ghost use Rattle.sw_lex.specs.Meaning.{Nodes, path_of};
 ghost use Rattle.sw_macro.specs.Table.{no_macros};
-ghost use Rattle.sw_session.specs.Talk.{Talked, TalksLine, OnLine, Itself, Expanded, Serves, ConcludesLine, after_of, is_command_error, TellsAnswered};
+ghost use Rattle.sw_session.specs.Talk.{Talked, TalksLine, OnLine, Itself, Expanded, Serves, ConcludesLine, spot};
+ghost use Rattle.sw_session.specs.Talk.{written_at, after_of, is_command_error, TellsAnswered};
 
 use crate::asking::{begin, queue};
 use crate::desk::Desk;
@@ -50,7 +51,8 @@ impl Talker {
     /// is joined no more, or that nothing more can be numbered, nothing is written. An answer or an expansion that finds
     /// no memory is dropped, with error -225.
     pub fn message<D: Desk>(&mut self, text: &[u8], desk: &mut D) -> Vec<u8>
-        ensures talked { Talked D.passes desk.old desk.new self.old.sid self.old.macros text.now result.items self.new.macros }
+        ensures talked { Talked D.passes desk.old desk.new self.old.sid self.old.macros
+            text.now result.items self.new.macros }
         ensures same { self.new.sid ≡ self.old.sid }
     {
         let text = without_line_feed(text);
@@ -74,7 +76,9 @@ impl Talker {
         path: &mut Path,
         out: &mut Vec<u8>,
     ) -> After
-        ensures talks { TalksLine (Expanded self.old.sid) D.passes desk.old desk.new self.old.sid text.now (path_of path.old) self.old.macros out.old.items result (path_of path.new) self.new.macros out.new.items }
+        ensures talks { TalksLine (Expanded self.old.sid) D.passes self.old.sid text.now
+            (spot desk.old (path_of path.old) self.old.macros out.old.items)
+            result (spot desk.new (path_of path.new) self.new.macros out.new.items) }
         ensures same { self.new.sid ≡ self.old.sid }
     {
         let mut left = text;
@@ -101,7 +105,10 @@ impl Talker {
         path: &mut Path,
         out: &mut Vec<u8>,
     ) -> After
-        ensures unit { OnLine D.passes desk.old desk.new self.old.macros out.old.items self.new.macros out.new.items (λ s s' t rest. Expanded self.old.sid (unit_of unit.now) (path_of path.old) s t result (path_of path.new) s' rest) }
+        ensures unit { OnLine D.passes
+            (spot desk.old (path_of path.old) self.old.macros out.old.items)
+            (spot desk.new (path_of path.new) self.new.macros out.new.items)
+            (λ s s'. Expanded self.old.sid (unit_of unit.now) s result s') }
         ensures same { self.new.sid ≡ self.old.sid }
     {
         if !self.macros.calls(unit) {
@@ -121,7 +128,9 @@ impl Talker {
         path: &mut Path,
         out: &mut Vec<u8>,
     ) -> After
-        ensures talks { TalksLine (Itself self.old.sid) D.passes desk.old desk.new self.old.sid text.now (path_of path.old) self.old.macros out.old.items result (path_of path.new) self.new.macros out.new.items }
+        ensures talks { TalksLine (Itself self.old.sid) D.passes self.old.sid text.now
+            (spot desk.old (path_of path.old) self.old.macros out.old.items)
+            result (spot desk.new (path_of path.new) self.new.macros out.new.items) }
         ensures same { self.new.sid ≡ self.old.sid }
     {
         let mut left = text;
@@ -148,7 +157,10 @@ impl Talker {
         path: &mut Path,
         out: &mut Vec<u8>,
     ) -> After
-        ensures unit { OnLine D.passes desk.old desk.new self.old.macros out.old.items self.new.macros out.new.items (λ s s' t rest. Itself self.old.sid (unit_of unit.now) (path_of path.old) s t result (path_of path.new) s' rest) }
+        ensures unit { OnLine D.passes
+            (spot desk.old (path_of path.old) self.old.macros out.old.items)
+            (spot desk.new (path_of path.new) self.new.macros out.new.items)
+            (λ s s'. Itself self.old.sid (unit_of unit.now) s result s') }
         ensures same { self.new.sid ≡ self.old.sid }
     {
         let below = replace(path, Path::root());
@@ -164,7 +176,10 @@ impl Talker {
         command: Result<Command, ScpiError>,
         out: &mut Vec<u8>,
     ) -> After
-        ensures serves { OnLine D.passes desk.old desk.new self.old.macros out.old.items self.new.macros out.new.items (λ s s' t rest. Serves self.old.sid command s t result s' rest) }
+        ensures serves { (path : Nodes) → OnLine D.passes
+            (spot desk.old path self.old.macros out.old.items)
+            (spot desk.new path self.new.macros out.new.items)
+            (λ s s'. Serves self.old.sid command s result s') }
         ensures same { self.new.sid ≡ self.old.sid }
     {
         let answered = has_answers(out);
@@ -210,7 +225,8 @@ fn has_answers(out: &[u8]) -> bool
 
 /// Adds a unit's answer to those that are written. Where there is no memory for it, it is dropped and that error queued.
 fn conclude<D: Desk>(desk: &mut D, sid: Sid, answer: &SessionAnswer, out: &mut Vec<u8>) -> After
-    ensures { ConcludesLine D.passes desk.old desk.new sid answer.now out.old.items result out.new.items }
+    ensures { ConcludesLine D.passes sid answer.now
+        (written_at desk.old out.old.items) result (written_at desk.new out.new.items) }
 {
     match answer {
         SessionAnswer::Done(Some(text)) => match join(out, text.as_slice()) {
