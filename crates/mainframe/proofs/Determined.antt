@@ -30,17 +30,22 @@ install_acts p slot card f SaysInstalled q s = tt
 install_acts p slot card f (SaysNotInstalled r) q s = tt
 install_acts p slot card f a q s = absurd s
 
-install_either : (b : Bool) (p : Panel) (slot : ℕ) (card : Account) (f : Bool) (a : AnswerView) (q : Panel) → MatchBool b (IsUnnumbered p (AskInstall slot card) f a q) (IsEvent p (AskInstall slot card) f a q) → IsPlain a
+install_either : (b : Bool) (p : Panel) (slot : ℕ) (card : Account) (f : Bool) (a : AnswerView) (q : Panel)
+    → MatchBool b (IsUnnumbered p (AskInstall slot card) f a q) (IsEvent p (AskInstall slot card) f a q) → IsPlain a
 install_either true p slot card f a q s = install_worn slot card a s.worn
 install_either false p slot card f a q s = install_acts p slot card f a s.done s.acts
 
 install_plain : (p : Panel) (slot : ℕ) (card : Account) (f : Bool) (a : AnswerView) (q : Panel) → Step p (AskInstall slot card) f a q → IsPlain a
 install_plain p slot card f a q s = install_either ((p.events == last_number) && not (acts_unnumbered (AskInstall slot card))) p slot card f a q s
 
-install_once : StepIsDetermined → (p q q' : Panel) (slot : ℕ) (card : Account) → Stepped p (AskInstall slot card) q → Stepped p (AskInstall slot card) q' → q ≡ q'
-install_once law p q q' slot card s t = (law p q q' (AskInstall slot card) s.failed t.failed s.answer t.answer s.step t.step (install_plain p slot card s.failed s.answer q s.step) (install_plain p slot card t.failed t.answer q' t.step) tt tt).1
+install_once : StepIsDetermined → (p q q' : Panel) (slot : ℕ) (card : Account) → Stepped p (AskInstall slot card) q → Stepped p (AskInstall slot card) q'
+    → q ≡ q'
+install_once law p q q' slot card s t =
+    (law p q q' (AskInstall slot card) s.failed t.failed s.answer t.answer s.step t.step (install_plain p slot card s.failed s.answer q s.step)
+    (install_plain p slot card t.failed t.answer q' t.step) tt tt).1
 
-offers_once : StepIsDetermined → (cards : Fitted) (p p' q q' : Panel) → p ≡ p' → AsksInTurn p (AskInstall 1 cards.first ∷ AskInstall 2 cards.second ∷ AskInstall 3 cards.third ∷ AskInstall 4 cards.fourth ∷ []) q
+offers_once : StepIsDetermined → (cards : Fitted) (p p' q q' : Panel) → p ≡ p'
+    → AsksInTurn p (AskInstall 1 cards.first ∷ AskInstall 2 cards.second ∷ AskInstall 3 cards.third ∷ AskInstall 4 cards.fourth ∷ []) q
     → AsksInTurn p' (AskInstall 1 cards.first ∷ AskInstall 2 cards.second ∷ AskInstall 3 cards.third ∷ AskInstall 4 cards.fourth ∷ []) q' → q ≡ q'
 offers_once law cards p p' q q' e (a, s, (b, t, (c, u, (d, v, is)))) (a', s', (b', t', (c', u', (d', v', is')))) =
     let one : a ≡ a' = install_once law p' a a' 1 cards.first (subst (λ (x : Panel). Stepped x (AskInstall 1 cards.first) a) e s) s' in
@@ -51,7 +56,8 @@ offers_once law cards p p' q q' e (a, s, (b, t, (c, u, (d, v, is)))) (a', s', (b
 
 joined_once : StepIsDetermined → (sid sid' : Sid) (q q' : Panel) → Joins sid q → Joins sid' q' → (sid ≡ sid') × (q ≡ q')
 joined_once law sid sid' q q' j k =
-    let r = law opening q q' (AskSession Ask.Join) j.failed k.failed (SaysSession (Joined sid) None) (SaysSession (Joined sid') None) j.step k.step tt tt tt tt in
+    let r = law opening q q' (AskSession Ask.Join) j.failed k.failed (SaysSession (Joined sid) None) (SaysSession (Joined sid') None) j.step k.step tt tt
+        tt tt in
     let e : SaysSession (Joined sid) None ≡ SaysSession (Joined sid') None = r.0 in
     (let s : sid ≡ sid' = cc in s, r.1)
 
@@ -64,11 +70,14 @@ state_same : (s s' : State) → s.desk ≡ s'.desk → s.macros ≡ s'.macros �
 state_same s s' d m = ap (λ (x : DeskSeen). state x s.macros) d ∙ ap (λ (x : Table). state s'.desk x) m
 
 -- one line
-line_same : CoreTalkIsDetermined → CoreRestIsDetermined → (sid : Sid) (s e e' : State) (line told told' : List ℕ) (l : Line sid s line told e) (l' : Line sid s line told' e') → IsPlainLine l → IsPlainLine l'
-    → outcomes_of (carried_in l.talked) ≡ outcomes_of (carried_in l'.talked) → outcomes_of (carried_at_rest l.rests) ≡ outcomes_of (carried_at_rest l'.rests) → (told ≡ told') × (e ≡ e')
+line_same : CoreTalkIsDetermined → CoreRestIsDetermined
+    → (sid : Sid) (s e e' : State) (line told told' : List ℕ) (l : Line sid s line told e) (l' : Line sid s line told' e') → IsPlainLine l → IsPlainLine l'
+    → outcomes_of (carried_in l.talked) ≡ outcomes_of (carried_in l'.talked) → outcomes_of (carried_at_rest l.rests) ≡ outcomes_of (carried_at_rest l'.rests)
+        → (told ≡ told') × (e ≡ e')
 line_same talk rest sid s e e' line told told' l l' a a' in_talk at_rest =
     let t = talk sid s.desk l.spoken l'.spoken s.macros e.macros e'.macros line told told' l.talked l'.talked a.ample a'.ample a.talk a'.talk in_talk in
-    let After : DeskSeen → Type 0 = λ d. (r : Rests d true e.desk) → AllSmooth (waits_of r) (carried_at_rest r) → outcomes_of (carried_at_rest r) ≡ outcomes_of (carried_at_rest l'.rests) → e.desk ≡ e'.desk in
+    let After : DeskSeen → Type 0 = λ d. (r : Rests d true e.desk) → AllSmooth (waits_of r) (carried_at_rest r)
+        → outcomes_of (carried_at_rest r) ≡ outcomes_of (carried_at_rest l'.rests) → e.desk ≡ e'.desk in
     let there : After l'.spoken = λ r smooth same. rest l'.spoken e.desk e'.desk r l'.rests smooth a'.rest same in
     let here : After l.spoken = subst After (sym t.3) there in
     (t.1, state_same e e' (here l.rests a.rest at_rest) t.2)
@@ -83,7 +92,9 @@ second_of a b a' b' c c' same = cc (same)
 others_of : {T : Type 0} (a b a' b' : T) (c c' : List T) → a ∷ b ∷ c ≡ a' ∷ b' ∷ c' → c ≡ c'
 others_of a b a' b' c c' same = cc (same)
 
-run_same : CoreTalkIsDetermined → CoreRestIsDetermined → (sid : Sid) (d : State) (lines : List (List ℕ)) (bytes bytes' : List ℕ) (e e' : State) (r : Run sid d lines bytes e) (r' : Run sid d lines bytes' e') → IsPlainRun sid d lines bytes e r → IsPlainRun sid d lines bytes' e' r'
+run_same : CoreTalkIsDetermined → CoreRestIsDetermined
+    → (sid : Sid) (d : State) (lines : List (List ℕ)) (bytes bytes' : List ℕ) (e e' : State) (r : Run sid d lines bytes e) (r' : Run sid d lines bytes' e')
+    → IsPlainRun sid d lines bytes e r → IsPlainRun sid d lines bytes' e' r'
     → measured_in sid d lines bytes e r ≡ measured_in sid d lines bytes' e' r' → bytes ≡ bytes'
 run_same talk rest sid d [] bytes bytes' e e' r r' a a' same = r.0 ∙ sym r'.0
 run_same talk rest sid d (l ∷ ls) bytes bytes' e e' r r' a a' same =
@@ -91,7 +102,8 @@ run_same talk rest sid d (l ∷ ls) bytes bytes' e e' r r' a a' same =
     let at_rest : outcomes_of (carried_at_rest r.3.rests) ≡ outcomes_of (carried_at_rest r'.3.rests) = second_of _ _ _ _ _ _ same in
     let left : measured_in sid r.1 ls r.2 e r.4 ≡ measured_in sid r'.1 ls r'.2 e' r'.4 = others_of _ _ _ _ _ _ same in
     let t = line_same talk rest sid d r.1 r'.1 l r.0 r'.0 r.3 r'.3 a.0 a'.0 in_talk at_rest in
-    let Onward : State → Type 0 = λ m. (x : Run sid m ls r.2 e) → IsPlainRun sid m ls r.2 e x → measured_in sid m ls r.2 e x ≡ measured_in sid r'.1 ls r'.2 e' r'.4 → r.2 ≡ r'.2 in
+    let Onward : State → Type 0 = λ m. (x : Run sid m ls r.2 e) → IsPlainRun sid m ls r.2 e x
+        → measured_in sid m ls r.2 e x ≡ measured_in sid r'.1 ls r'.2 e' r'.4 → r.2 ≡ r'.2 in
     let there : Onward r'.1 = λ x y same. run_same talk rest sid r'.1 ls r.2 r'.2 e e' x r'.4 y a'.1 same in
     let more : r.2 ≡ r'.2 = subst Onward (sym t.1) there r.4 a.1 left in
     r.5 ∙ ap (λ (b : List ℕ). b ++ r.2) t.0 ∙ ap (λ (m : List ℕ). r'.0 ++ m) more ∙ sym r'.5
@@ -99,13 +111,16 @@ run_same talk rest sid d (l ∷ ls) bytes bytes' e e' r r' a a' same =
 all_lines : (input : List ℕ) (done : List (List ℕ)) → lines_of input ≡ done ++ lines_of [] → done ≡ lines_of input
 all_lines input done e = sym (append-nil done) ∙ sym e
 
-pub run_once : StepIsDetermined → CoreTalkIsDetermined → CoreRestIsDetermined → (cards : Fitted) (sid sid' : Sid) (start start' : Panel) (input bytes bytes' : List ℕ) → IsSetUp cards sid start → IsSetUp cards sid' start' → (r : RunsTo sid (begins_over start) input [] bytes) (r' : RunsTo sid' (begins_over start') input [] bytes')
+pub run_once : StepIsDetermined → CoreTalkIsDetermined → CoreRestIsDetermined
+    → (cards : Fitted) (sid sid' : Sid) (start start' : Panel) (input bytes bytes' : List ℕ) → IsSetUp cards sid start → IsSetUp cards sid' start'
+    → (r : RunsTo sid (begins_over start) input [] bytes) (r' : RunsTo sid' (begins_over start') input [] bytes')
     → IsPlainRun sid (begins_over start) r.done bytes r.after r.run → IsPlainRun sid' (begins_over start') r'.done bytes' r'.after r'.run
     → measured_in sid (begins_over start) r.done bytes r.after r.run ≡ measured_in sid' (begins_over start') r'.done bytes' r'.after r'.run → bytes ≡ bytes'
 run_once step talk rest cards sid sid' start start' input bytes bytes' s s' r r' a a' same =
     let u = set_up_once step cards sid sid' start start' s s' in
     let lines : r.done ≡ r'.done = all_lines input r.done r.lines ∙ sym (all_lines input r'.done r'.lines) in
-    let Same : Sid → Panel → List (List ℕ) → Type 0 = λ i p ls. (x : Run i (begins_over p) ls bytes r.after) → IsPlainRun i (begins_over p) ls bytes r.after x → measured_in i (begins_over p) ls bytes r.after x ≡ measured_in sid' (begins_over start') r'.done bytes' r'.after r'.run → bytes ≡ bytes' in
+    let Same : Sid → Panel → List (List ℕ) → Type 0 = λ i p ls. (x : Run i (begins_over p) ls bytes r.after) → IsPlainRun i (begins_over p) ls bytes r.after x
+        → measured_in i (begins_over p) ls bytes r.after x ≡ measured_in sid' (begins_over start') r'.done bytes' r'.after r'.run → bytes ≡ bytes' in
     let last : Same sid' start' r'.done = λ x y z. run_same talk rest sid' (begins_over start') r'.done bytes bytes' r.after r'.after x r'.run y a' z in
     let by_lines : Same sid' start' r.done = subst (λ (ls : List (List ℕ)). Same sid' start' ls) (sym lines) last in
     let by_start : Same sid' start r.done = subst (λ (p : Panel). Same sid' p r.done) (sym u.1) by_lines in

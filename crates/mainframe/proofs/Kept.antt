@@ -1,5 +1,7 @@
 -- A line that is kept in part.
-use Rattle.std.proofs.Common.{◌≡◌, ◌≢◌, ℕ, zero, suc, ◌+◌, ◌-◌, ◌≤◌, ◌<◌, min, Bool, true, false, cond, leb, MatchBool, ◌⊎◌, inl, inr, List, [], ◌∷◌, ◌++◌, All, length, take, Option, Some, None, IfSome, Result, Ok, Err, OnErr, refl, ap, sym, subst, ◌∙◌, arith, append-nil, take_all, length-take, zero-le}
+use Rattle.std.proofs.Common.{◌≡◌, ◌≢◌, ℕ, zero, suc, ◌+◌, ◌-◌, ◌≤◌, ◌<◌, min, Bool, true, false, cond, leb, MatchBool, ◌⊎◌, inl, inr, List, [], ◌∷◌, ◌++◌, All}
+use Rattle.std.proofs.Common.{length, take, Option, Some, None, IfSome, Result, Ok, Err, OnErr, refl, ap, sym, subst, ◌∙◌, arith, append-nil, take_all}
+use Rattle.std.proofs.Common.{length-take, zero-le}
 use Rattle.std.specs.Io.KnownBytes.{Keeps, Consumes, IsAtEnd}
 use Rattle.std.specs.Io.BufRead.{take_through, DropsThrough, strip_last, ends_with_byte}
 use Rattle.std.proofs.lemmas.Bool.{lt-ltb}
@@ -26,7 +28,8 @@ take-both (suc k) (suc end) n (x ∷ xs) is =
     ap (λ m. take m (x ∷ xs)) next ∙ ap (λ l. x ∷ l) (take-both k end (min end k) xs refl)
 
 -- what is kept with as much more as there is room for
-pub kept-fits : (k : ℕ) (kept shown : List ℕ) (end n : ℕ) → length kept ≤ k → n ≡ min end (k - length kept) → kept ++ take n shown ≡ take k (kept ++ take end shown)
+pub kept-fits : (k : ℕ) (kept shown : List ℕ) (end n : ℕ) → length kept ≤ k → n ≡ min end (k - length kept) → kept
+    ++ take n shown ≡ take k (kept ++ take end shown)
 kept-fits k [] shown end n room is = take-both k end n shown (omega arith)
 kept-fits zero (x ∷ xs) shown end n room is = absurd (omega arith)
 kept-fits (suc k) (x ∷ xs) shown end n room is = ap (λ l. x ∷ l) (kept-fits k xs shown end n (omega arith) (omega arith))
@@ -41,7 +44,8 @@ pub no_feeds : All (λ (x : ℕ). x ≢ 10) []
 no_feeds = λ k d l e. absurd (omega arith)
 
 -- nothing is taken
-pub takes-none : (old new : Option (List ℕ)) (kept kept' : List ℕ) (result : Result Bool RunFault) → Keeps old new → kept' ≡ kept → length kept ≤ most_kept → result ≢ Ok true → TakesPart old new kept kept' result
+pub takes-none : (old new : Option (List ℕ)) (kept kept' : List ℕ) (result : Result Bool RunFault) → Keeps old new → kept' ≡ kept → length kept ≤ most_kept
+    → result ≢ Ok true → TakesPart old new kept kept' result
 takes-none old new kept kept' result keeps same room other = record {
   part = [];
   consumed = Consumes-kept old old new [] (Consumes-nil old) keeps;
@@ -65,12 +69,16 @@ reading-room old new kept (done, used, is, feeds) = omega (arith, ap length is, 
 more-kept : (done part kept kept' : List ℕ) → kept ≡ take most_kept done → kept' ≡ take most_kept (kept ++ part) → kept' ≡ take most_kept (done ++ part)
 more-kept done part kept kept' is keeps = keeps ∙ ap (λ l. take most_kept (l ++ part)) is ∙ take-kept most_kept done part
 
-pub reading-more : (old mid new : Option (List ℕ)) (kept kept' : List ℕ) (result : Result Bool RunFault) → Reading old mid kept → TakesPart mid new kept kept' result → result ≢ Ok true → Reading old new kept'
+pub reading-more : (old mid new : Option (List ℕ)) (kept kept' : List ℕ) (result : Result Bool RunFault) → Reading old mid kept
+    → TakesPart mid new kept kept' result → result ≢ Ok true → Reading old new kept'
 reading-more old mid new kept kept' result (done, used, is, feeds) p more =
-    (done ++ p.part, Consumes-trans old mid new done p.part used p.consumed, more-kept done p.part kept kept' is p.keeps, All-append (λ x. x ≢ 10) done p.part feeds (p.goes_on more))
+    (done ++ p.part, Consumes-trans old mid new done p.part used p.consumed, more-kept done p.part kept kept' is p.keeps,
+        All-append (λ x. x ≢ 10) done p.part feeds (p.goes_on more))
 
-pub reading-cut : (old mid new : Option (List ℕ)) (kept kept' : List ℕ) (result : Result Bool RunFault) → Reading old mid kept → TakesPart mid new kept kept' result → CutsLine old new
-reading-cut old mid new kept kept' result (done, used, is, feeds) p = (done ++ p.part, Consumes-trans old mid new done p.part used p.consumed, StopsAt-append done p.part 10 feeds p.stops)
+pub reading-cut : (old mid new : Option (List ℕ)) (kept kept' : List ℕ) (result : Result Bool RunFault) → Reading old mid kept
+    → TakesPart mid new kept kept' result → CutsLine old new
+reading-cut old mid new kept kept' result (done, used, is, feeds) p =
+    (done ++ p.part, Consumes-trans old mid new done p.part used p.consumed, StopsAt-append done p.part 10 feeds p.stops)
 
 pub reading-stopped : (old new : Option (List ℕ)) (kept : List ℕ) → Reading old new kept → CutsLine old new
 reading-stopped old new kept (done, used, is, feeds) = (done, used, StopsAt-of_All done 10 feeds)
@@ -80,11 +88,13 @@ pub at-err : {T P : Type 0} (result : Result T RunFault) → P → OnErr result 
 at-err (Ok x) p = tt
 at-err (Err e) p = p
 
-kept-if : (old : Option (List ℕ)) (line kept : List ℕ) → kept ≡ take most_kept line → IfSome old (λ xs. line ≡ take_through 10 xs) → IfSome old (λ xs. kept ≡ take most_kept (take_through 10 xs))
+kept-if : (old : Option (List ℕ)) (line kept : List ℕ) → kept ≡ take most_kept line → IfSome old (λ xs. line ≡ take_through 10 xs)
+    → IfSome old (λ xs. kept ≡ take most_kept (take_through 10 xs))
 kept-if None line kept is h = tt
 kept-if (Some xs) line kept is h = is ∙ ap (take most_kept) h
 
-pub reading-whole : (old mid new : Option (List ℕ)) (kept kept' : List ℕ) (result : Result Bool RunFault) → Reading old mid kept → TakesPart mid new kept kept' result → result ≡ Ok true
+pub reading-whole : (old mid new : Option (List ℕ)) (kept kept' : List ℕ) (result : Result Bool RunFault) → Reading old mid kept
+    → TakesPart mid new kept kept' result → result ≡ Ok true
     → IfSome old (λ xs. kept' ≡ take most_kept (take_through 10 xs)) × DropsThrough old new 10
 reading-whole old mid new kept kept' result (done, used, is, feeds) p e =
     let through = Consumes_through 10 old mid new done p.part used feeds p.consumed p.stops (p.ends e) (p.at_end e) in
@@ -97,23 +107,28 @@ strip-long text long = at (ends_with_byte 10 text)
     at true = omega (arith, length-take (length text - 1) text)
     at false = omega arith
 
-long-alike : (sid : Sid) (macros macros' : Table) (trace : List Entry) (bytes text text' : List ℕ) → longest < length text → longest < length text' → TalksMessage sid macros text trace bytes macros' → TalksMessage sid macros text' trace bytes macros'
+long-alike : (sid : Sid) (macros macros' : Table) (trace : List Entry) (bytes text text' : List ℕ) → longest < length text → longest < length text'
+    → TalksMessage sid macros text trace bytes macros' → TalksMessage sid macros text' trace bytes macros'
 long-alike sid macros macros' trace bytes text text' long long' t =
     let Dropped : Type 0 = Overruns sid trace bytes × (macros' ≡ macros) in
     subst (λ (b : Bool). MatchBool b Dropped (TalksUnits sid macros text' trace bytes macros')) (sym (lt-ltb longest (length text') long'))
     (subst (λ (b : Bool). MatchBool b Dropped (TalksUnits sid macros text trace bytes macros')) (lt-ltb longest (length text) long) t)
 
 -- what is kept of a line is answered as the line is
-pub talks-whole : (sid : Sid) (macros macros' : Table) (trace : List Entry) (bytes line : List ℕ) → TalksMessage sid macros (strip_last 10 (take most_kept line)) trace bytes macros' → TalksMessage sid macros (strip_last 10 line) trace bytes macros'
+pub talks-whole : (sid : Sid) (macros macros' : Table) (trace : List Entry) (bytes line : List ℕ)
+    → TalksMessage sid macros (strip_last 10 (take most_kept line)) trace bytes macros' → TalksMessage sid macros (strip_last 10 line) trace bytes macros'
 talks-whole sid macros macros' trace bytes line t = at (leb_tells (length line) most_kept)
   where
-    at : ((leb (length line) most_kept ≡ true) × (length line ≤ most_kept)) ⊎ ((leb (length line) most_kept ≡ false) × (most_kept < length line)) → TalksMessage sid macros (strip_last 10 line) trace bytes macros'
+    at : ((leb (length line) most_kept ≡ true) × (length line ≤ most_kept)) ⊎ ((leb (length line) most_kept ≡ false) × (most_kept < length line))
+        → TalksMessage sid macros (strip_last 10 line) trace bytes macros'
     at (inl (e, short)) = subst (λ (l : List ℕ). TalksMessage sid macros (strip_last 10 l) trace bytes macros') (take_all most_kept line short) t
     at (inr (e, long)) = long-alike sid macros macros' trace bytes (strip_last 10 (take most_kept line)) (strip_last 10 line)
         (strip-long (take most_kept line) (omega (arith, length-take most_kept line))) (strip-long line (omega arith)) t
 
-pub talked-whole : (p q : DeskSeen) (sid : Sid) (macros macros' : Table) (line bytes : List ℕ) → Talked CorePasses p q sid macros (take most_kept line) bytes macros' → Talked CorePasses p q sid macros line bytes macros'
-talked-whole p q sid macros macros' line bytes t = record { trace = t.trace; leads = t.leads; talks = talks-whole sid macros macros' t.trace bytes line t.talks }
+pub talked-whole : (p q : DeskSeen) (sid : Sid) (macros macros' : Table) (line bytes : List ℕ)
+    → Talked CorePasses p q sid macros (take most_kept line) bytes macros' → Talked CorePasses p q sid macros line bytes macros'
+talked-whole p q sid macros macros' line bytes t = record { trace = t.trace; leads = t.leads;
+    talks = talks-whole sid macros macros' t.trace bytes line t.talks }
 
 -- nothing is kept at the end of the input alone
 pub kept-none : (old : Option (List ℕ)) (kept : List ℕ) → IfSome old (λ xs. kept ≡ take most_kept (take_through 10 xs)) → length kept ≡ 0 → IsAtEnd old

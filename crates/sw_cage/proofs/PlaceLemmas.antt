@@ -42,7 +42,8 @@ some_awaited (Awaits what ∷ l) h = (what, refl, refl)
 some_awaited (Close c ∷ l) h = absurd (h refl)
 some_awaited (Open c ∷ l) h = absurd (h refl)
 
-module _ (code : List Step) (at : Place) (s : Setup) (i : ℕ) (does : Does code at (drop i (agenda s))) (awaited : first_awaited (drop i (agenda s)) ≡ None → ⊥) where
+module _ (code : List Step) (at : Place) (s : Setup) (i : ℕ) (does : Does code at (drop i (agenda s))) (awaited : first_awaited (drop i (agenda s)) ≡ None
+    → ⊥) where
   abbrev pub what_there : Awaited
   what_there = (some_awaited (drop i (agenda s)) awaited).0
 
@@ -87,7 +88,8 @@ stands code items way l = record {
 }
 
 -- past what is awaited
-pub leads_on : (code : List Step) (at : Place) (s : Setup) (i : ℕ) (does : Does code at (drop i (agenda s))) (awaited : first_awaited (drop i (agenda s)) ≡ None → ⊥)
+pub leads_on : (code : List Step) (at : Place) (s : Setup) (i : ℕ) (does : Does code at (drop i (agenda s))) (awaited : first_awaited (drop i (agenda s))
+    ≡ None → ⊥)
     → 0 < length s.list → (way : Way) → ((what : Awaited) (items : List Item) → Does code at (Awaits what ∷ items) → AreVisitsOn items → LeadsOn code items way)
     → Stands code (drop (i + 1) (agenda s)) way
 leads_on code at s i does awaited listed way leads =

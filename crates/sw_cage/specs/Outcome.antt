@@ -62,7 +62,8 @@ Arrives old number at SaysEnded new scan = (awaits at ≡ None) × (new ≡ old)
 Arrives old number at SaysFault new scan = ⊥
 
 -- after the moves the scan has come to this place
-pub record Reaches (old : Occupancy) (number : ℕ) (moves : List Item) (at : ScanSeen) (told : TakenSeen) (new : Occupancy)
+pub record Reaches (old : Occupancy) (number : ℕ) (moves : List Item) (at : ScanSeen) (told : TakenSeen)
+    (new : Occupancy)
     (scan : Option ScanSeen) : Type 0 where
   pub cards : Accounts
   pub moved : Moved old.cards moves cards

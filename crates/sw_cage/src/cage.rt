@@ -166,7 +166,8 @@ impl<R: Relay, M: Meter> Cage<R, M> {
         requires apart { (c : Channel) → is_closed self.old.cards c ≡ true
             → IsClash (layout_of self.old.cards) chan c → ⊥ }
         ensures ok { OnOk result (Sets self.old.cards (chan ∷ []) true self.new.cards) }
-        ensures err { OnErr result (IsChannelFault self.old.cards chan (with_chan self.old.cards chan true) self.new.cards) }
+        ensures err { OnErr result (IsChannelFault self.old.cards chan (with_chan self.old.cards chan true)
+            self.new.cards) }
         ensures disturbed { OnErr result (IsDisturbed self.old.cards (chan ∷ []) self.new.cards) }
         ensures rest { self.new ≡ with_cards self.old self.new.cards }
     {

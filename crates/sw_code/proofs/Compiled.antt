@@ -1,5 +1,6 @@
 -- What settings compile to unfolds to their agenda.
-use Rattle.std.proofs.Common.{◌≡◌, ℕ, zero, suc, ◌+◌, ◌-◌, ◌*◌, ◌/◌, ◌%◌, ◌<◌, ◌≤◌, Bool, true, false, ◌||◌, cond, eqb, List, [], ◌∷◌, ◌++◌, length, map, get_or, refl, sym, ap, ◌∙◌, subst, ⊎_elim, arith, append_assoc, append-nil, length-append}
+use Rattle.std.proofs.Common.{◌≡◌, ℕ, zero, suc, ◌+◌, ◌-◌, ◌*◌, ◌/◌, ◌%◌, ◌<◌, ◌≤◌, Bool, true, false, ◌||◌, cond, eqb, List, [], ◌∷◌, ◌++◌, length, map}
+use Rattle.std.proofs.Common.{get_or, refl, sym, ap, ◌∙◌, subst, ⊎_elim, arith, append_assoc, append-nil, length-append}
 use Rattle.std.proofs.lemmas.Bool.Decides.{nat_tests}
 use Rattle.std.proofs.lemmas.List.{length-map, map-append}
 use Rattle.std.proofs.lemmas.Nat.{div-add-mod'}
@@ -71,7 +72,9 @@ meaning-passes s = at (s.trigger.count / length s.list) (s.trigger.count % lengt
   left : (r : ℕ) → meaning (line (passes s 0 r) Nil) ≡ passes s 0 r
   left r = meaning-line (passes s 0 r) Nil ∙ append-nil (passes s 0 r)
 
-  at : (q r : ℕ) → q * length s.list + r ≡ s.trigger.count → meaning (cond (eqb q 0) (line (passes s 0 r) Nil) (Times 2 q (line (passes s 0 (length s.list)) Nil) (line (passes s 0 r) Nil))) ≡ passes s 0 s.trigger.count
+  at : (q r : ℕ) → q * length s.list + r ≡ s.trigger.count
+      → meaning (cond (eqb q 0) (line (passes s 0 r) Nil) (Times 2 q (line (passes s 0 (length s.list)) Nil) (line (passes s 0 r) Nil)))
+      ≡ passes s 0 s.trigger.count
   at zero r e = left r ∙ sym (rounds s 0 r) ∙ ap (passes s 0) e
   at (suc q) r e =
       let f : eqb (suc q) 0 ≡ false = grind (arith, nat_tests) in
@@ -84,19 +87,24 @@ pub meaning-tree : (s : Setup) → 0 < length s.list → meaning (tree_of s) ≡
 meaning-tree s h =
     let arm2 : meaning (line (map Awaits (head_of Arm2 s.arm2)) (passes_tree s)) ≡ arm2_turn s =
     meaning-line (map Awaits (head_of Arm2 s.arm2)) (passes_tree s) ∙ ap (λ (l : List Item). map Awaits (head_of Arm2 s.arm2) ++ l) (meaning-passes s) in
-    let arm1 : meaning (line (map Awaits (head_of Arm1 s.arm1)) (Times 1 s.arm2.count (line (map Awaits (head_of Arm2 s.arm2)) (passes_tree s)) Nil)) ≡ arm1_turn s =
+    let arm1 : meaning (line (map Awaits (head_of Arm1 s.arm1)) (Times 1 s.arm2.count (line (map Awaits (head_of Arm2 s.arm2)) (passes_tree s)) Nil))
+        ≡ arm1_turn s =
     meaning-line (map Awaits (head_of Arm1 s.arm1)) (Times 1 s.arm2.count (line (map Awaits (head_of Arm2 s.arm2)) (passes_tree s)) Nil)
-    ∙ ap (λ (l : List Item). map Awaits (head_of Arm1 s.arm1) ++ l) (append-nil (repeated s.arm2.count (meaning (line (map Awaits (head_of Arm2 s.arm2)) (passes_tree s)))) ∙ ap (repeated s.arm2.count) arm2) in
-    append-nil (repeated s.arm1.count (meaning (line (map Awaits (head_of Arm1 s.arm1)) (Times 1 s.arm2.count (line (map Awaits (head_of Arm2 s.arm2)) (passes_tree s)) Nil))))
+    ∙ ap (λ (l : List Item). map Awaits (head_of Arm1 s.arm1)
+        ++ l) (append-nil (repeated s.arm2.count (meaning (line (map Awaits (head_of Arm2 s.arm2)) (passes_tree s)))) ∙ ap (repeated s.arm2.count) arm2) in
+    append-nil (repeated s.arm1.count
+        (meaning (line (map Awaits (head_of Arm1 s.arm1)) (Times 1 s.arm2.count (line (map Awaits (head_of Arm2 s.arm2)) (passes_tree s)) Nil))))
     ∙ ap (repeated s.arm1.count) arm1 ∙ sym (agenda_is s h)
 
 nested-passes : (s : Setup) (used : ℕ → Bool) → used 2 ≡ false → IsNested used (passes_tree s)
 nested-passes s used free = at (s.trigger.count / length s.list) where
-  at : (q : ℕ) → IsNested used (cond (eqb q 0) (line (passes s 0 (s.trigger.count % length s.list)) Nil) (Times 2 q (line (passes s 0 (length s.list)) Nil) (line (passes s 0 (s.trigger.count % length s.list)) Nil)))
+  at : (q : ℕ) → IsNested used (cond (eqb q 0) (line (passes s 0 (s.trigger.count % length s.list)) Nil)
+      (Times 2 q (line (passes s 0 (length s.list)) Nil) (line (passes s 0 (s.trigger.count % length s.list)) Nil)))
   at zero = nested-line used (passes s 0 (s.trigger.count % length s.list)) Nil tt
   at (suc q) =
       let f : eqb (suc q) 0 ≡ false = grind (arith, nat_tests) in
-      subst (λ (b : Bool). IsNested used (cond b (line (passes s 0 (s.trigger.count % length s.list)) Nil) (Times 2 (suc q) (line (passes s 0 (length s.list)) Nil) (line (passes s 0 (s.trigger.count % length s.list)) Nil)))) (sym f) (
+      subst (λ (b : Bool). IsNested used (cond b (line (passes s 0 (s.trigger.count % length s.list)) Nil)
+          (Times 2 (suc q) (line (passes s 0 (length s.list)) Nil) (line (passes s 0 (s.trigger.count % length s.list)) Nil)))) (sym f) (
         omega arith,
         free,
         nested-line (λ j. eqb j 2 || used j) (passes s 0 (length s.list)) Nil tt,
@@ -110,18 +118,22 @@ nested-tree s i = (
   nested-line (λ j. eqb j 0 || false) (map Awaits (head_of Arm1 s.arm1)) (Times 1 s.arm2.count (line (map Awaits (head_of Arm2 s.arm2)) (passes_tree s)) Nil) (
     i.arm2.count.0,
     refl,
-    nested-line (λ j. eqb j 1 || (eqb j 0 || false)) (map Awaits (head_of Arm2 s.arm2)) (passes_tree s) (nested-passes s (λ j. eqb j 1 || (eqb j 0 || false)) refl),
+    nested-line (λ j. eqb j 1 || (eqb j 0 || false)) (map Awaits (head_of Arm2 s.arm2)) (passes_tree s) (nested-passes s (λ j. eqb j 1
+        || (eqb j 0 || false)) refl),
     tt,
   ),
   tt,
 )
 
 pub compiled_unfolds : (s : Setup) → 0 < length s.list → IsInRange s → Unfolds (flatten (tree_of s) 0 ++ step.Halt ∷ []) (agenda s)
-compiled_unfolds s h i = subst (λ (l : List Item). Unfolds (flatten (tree_of s) 0 ++ step.Halt ∷ []) l) (meaning-tree s h) (unfolds (tree_of s) (nested-tree s i))
+compiled_unfolds s h i = subst (λ (l : List Item). Unfolds (flatten (tree_of s) 0
+    ++ step.Halt ∷ []) l) (meaning-tree s h) (unfolds (tree_of s) (nested-tree s i))
 
 -- the pieces as the program writes them
-pub compiled_is : (s : Setup) (h1 h2 ps : List Step) (place2 place3 : ℕ) → h1 ≡ steps_of (map Awaits (head_of Arm1 s.arm1)) → h2 ≡ steps_of (map Awaits (head_of Arm2 s.arm2)) → place2 ≡ 2 + length h1 → place3 ≡ place2 + length h2 → ps ≡ flatten (passes_tree s) place3 →
-    (step.Set 0 s.arm1.count ∷ (h1 ++ (step.Set 1 s.arm2.count ∷ (h2 ++ (ps ++ (step.Loop 1 place2 ∷ step.Loop 0 1 ∷ step.Halt ∷ [])))))) ≡ flatten (tree_of s) 0 ++ step.Halt ∷ []
+pub compiled_is : (s : Setup) (h1 h2 ps : List Step) (place2 place3 : ℕ) → h1 ≡ steps_of (map Awaits (head_of Arm1 s.arm1))
+    → h2 ≡ steps_of (map Awaits (head_of Arm2 s.arm2)) → place2 ≡ 2 + length h1 → place3 ≡ place2 + length h2 → ps ≡ flatten (passes_tree s) place3 →
+    (step.Set 0 s.arm1.count ∷ (h1 ++ (step.Set 1 s.arm2.count ∷ (h2 ++ (ps ++ (step.Loop 1 place2 ∷ step.Loop 0 1 ∷ step.Halt ∷ []))))))
+        ≡ flatten (tree_of s) 0 ++ step.Halt ∷ []
 compiled_is s h1 h2 ps place2 place3 e1 e2 p2 p3 e =
     let i1 = map Awaits (head_of Arm1 s.arm1) in
     let i2 = map Awaits (head_of Arm2 s.arm2) in
@@ -135,23 +147,29 @@ compiled_is s h1 h2 ps place2 place3 e1 e2 p2 p3 e =
     ap (λ (n : ℕ). step.Set 1 s.arm2.count ∷ (flatten (line i2 (passes_tree s)) n ++ step.Loop 1 n ∷ [])) q
     ∙ ap (λ (l : List Step). step.Set 1 s.arm2.count ∷ (l ++ step.Loop 1 place2 ∷ [])) body in
     let all : flatten (line i1 inner) 1 ≡ h1 ++ (step.Set 1 s.arm2.count ∷ ((h2 ++ ps) ++ step.Loop 1 place2 ∷ [])) =
-    flatten-line i1 inner 1 ∙ ap (λ (l : List Step). steps_of i1 ++ l) loop ∙ ap (λ (l : List Step). l ++ (step.Set 1 s.arm2.count ∷ ((h2 ++ ps) ++ step.Loop 1 place2 ∷ []))) (sym e1) in
+    flatten-line i1 inner 1 ∙ ap (λ (l : List Step). steps_of i1 ++ l) loop
+        ∙ ap (λ (l : List Step). l ++ (step.Set 1 s.arm2.count ∷ ((h2 ++ ps) ++ step.Loop 1 place2 ∷ []))) (sym e1) in
     sym (ap (λ (l : List Step). step.Set 0 s.arm1.count ∷ ((l ++ step.Loop 0 1 ∷ []) ++ step.Halt ∷ [])) all ∙ simp append_assoc)
 
 -- the passes as the program writes them, with a loop and without
-pub looped_is : (s : Setup) (place : ℕ) (body rest : List Step) → 0 < s.trigger.count / length s.list → body ≡ steps_of (passes s 0 (length s.list)) → rest ≡ steps_of (passes s 0 (s.trigger.count % length s.list)) → step.Set 2 (s.trigger.count / length s.list) ∷ (body ++ (step.Loop 2 (place + 1) ∷ rest)) ≡ flatten (passes_tree s) place
+pub looped_is : (s : Setup) (place : ℕ) (body rest : List Step) → 0 < s.trigger.count / length s.list → body ≡ steps_of (passes s 0 (length s.list))
+    → rest ≡ steps_of (passes s 0 (s.trigger.count % length s.list))
+    → step.Set 2 (s.trigger.count / length s.list) ∷ (body ++ (step.Loop 2 (place + 1) ∷ rest)) ≡ flatten (passes_tree s) place
 looped_is s place body rest h e f =
     let n = length s.list in
     let q = s.trigger.count / n in
     let t : eqb q 0 ≡ false = grind (arith, nat_tests) in
     let tail = line (passes s 0 (s.trigger.count % n)) Nil in
-    let end : (p : ℕ) → flatten tail p ≡ rest = λ p. flatten-line (passes s 0 (s.trigger.count % n)) Nil p ∙ append-nil (steps_of (passes s 0 (s.trigger.count % n))) ∙ sym f in
-    let inside : flatten (line (passes s 0 n) Nil) (place + 1) ≡ body = flatten-line (passes s 0 n) Nil (place + 1) ∙ append-nil (steps_of (passes s 0 n)) ∙ sym e in
+    let end : (p : ℕ) → flatten tail p ≡ rest = λ p. flatten-line (passes s 0 (s.trigger.count % n)) Nil p
+        ∙ append-nil (steps_of (passes s 0 (s.trigger.count % n))) ∙ sym f in
+    let inside : flatten (line (passes s 0 n) Nil) (place + 1) ≡ body = flatten-line (passes s 0 n) Nil (place + 1) ∙ append-nil (steps_of (passes s 0 n))
+        ∙ sym e in
     sym (ap (λ b. flatten (cond b tail (Times 2 q (line (passes s 0 n) Nil) tail)) place) t
     ∙ ap (λ (l : List Step). step.Set 2 q ∷ (l ++ (step.Loop 2 (place + 1) ∷ flatten tail (place + 2 + size (line (passes s 0 n) Nil))))) inside
     ∙ ap (λ (l : List Step). step.Set 2 q ∷ (body ++ (step.Loop 2 (place + 1) ∷ l))) (end (place + 2 + size (line (passes s 0 n) Nil))))
 
-pub plain_is : (s : Setup) (place : ℕ) (rest : List Step) → s.trigger.count / length s.list ≡ 0 → rest ≡ steps_of (passes s 0 (s.trigger.count % length s.list)) → rest ≡ flatten (passes_tree s) place
+pub plain_is : (s : Setup) (place : ℕ) (rest : List Step) → s.trigger.count / length s.list ≡ 0 → rest ≡ steps_of (passes s 0 (s.trigger.count % length s.list))
+    → rest ≡ flatten (passes_tree s) place
 plain_is s place rest h f =
     let n = length s.list in
     let q = s.trigger.count / n in
@@ -172,7 +190,8 @@ pub four_more : (code x y z w a b d e : List Step) → x ≡ code ++ a → y ≡
 four_more code x y z w a b d e p q r s =
     s ∙ ap (λ (l : List Step). l ++ e) (r ∙ ap (λ (l : List Step). l ++ d) (q ∙ ap (λ (l : List Step). l ++ b) p)) ∙ simp append_assoc
 
-pub eight_more : (x0 x1 x2 x3 x4 x5 x6 x7 x8 a1 a2 a3 a4 a5 a6 a7 a8 : List Step) → x0 ≡ [] → x1 ≡ x0 ++ a1 → x2 ≡ x1 ++ a2 → x3 ≡ x2 ++ a3 → x4 ≡ x3 ++ a4 → x5 ≡ x4 ++ a5 → x6 ≡ x5 ++ a6 → x7 ≡ x6 ++ a7 → x8 ≡ x7 ++ a8 → x8 ≡ a1 ++ (a2 ++ (a3 ++ (a4 ++ (a5 ++ (a6 ++ (a7 ++ a8))))))
+pub eight_more : (x0 x1 x2 x3 x4 x5 x6 x7 x8 a1 a2 a3 a4 a5 a6 a7 a8 : List Step) → x0 ≡ [] → x1 ≡ x0 ++ a1 → x2 ≡ x1 ++ a2 → x3 ≡ x2 ++ a3 → x4 ≡ x3 ++ a4
+    → x5 ≡ x4 ++ a5 → x6 ≡ x5 ++ a6 → x7 ≡ x6 ++ a7 → x8 ≡ x7 ++ a8 → x8 ≡ a1 ++ (a2 ++ (a3 ++ (a4 ++ (a5 ++ (a6 ++ (a7 ++ a8))))))
 eight_more x0 x1 x2 x3 x4 x5 x6 x7 x8 a1 a2 a3 a4 a5 a6 a7 a8 e0 e1 e2 e3 e4 e5 e6 e7 e8 =
     let f : x4 ≡ [] ++ (a1 ++ (a2 ++ (a3 ++ a4))) = four_more [] x1 x2 x3 x4 a1 a2 a3 a4 (e1 ∙ ap (λ (l : List Step). l ++ a1) e0) e2 e3 e4 in
     four_more x4 x5 x6 x7 x8 a5 a6 a7 a8 e5 e6 e7 e8

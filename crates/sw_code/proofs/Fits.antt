@@ -1,5 +1,6 @@
 -- The code of settings is in range.
-use Rattle.std.proofs.Common.{◌≡◌, ℕ, zero, suc, ◌+◌, ◌*◌, ◌/◌, ◌%◌, ◌<◌, ◌≤◌, Bool, true, false, cond, eqb, List, [], ◌∷◌, ◌++◌, length, map, refl, sym, ap, ◌∙◌, subst, arith, length-append}
+use Rattle.std.proofs.Common.{◌≡◌, ℕ, zero, suc, ◌+◌, ◌*◌, ◌/◌, ◌%◌, ◌<◌, ◌≤◌, Bool, true, false, cond, eqb, List, [], ◌∷◌, ◌++◌, length, map, refl, sym, ap}
+use Rattle.std.proofs.Common.{◌∙◌, subst, arith, length-append}
 use Rattle.std.specs.List.{AllByRecursion}
 use Rattle.std.proofs.lemmas.Bool.Decides.{nat_tests}
 use Rattle.std.proofs.lemmas.List.{length-map}
@@ -95,7 +96,8 @@ module _ (s : Setup) (h : s.trigger.delay_us ≤ 3600000000) where
   length-passes : (k n : ℕ) → length (passes s k n) ≤ n * 5
   length-passes k zero = omega arith
   length-passes k (suc n) =
-      omega (arith, length-append (pass_of s k) (passes s (suc k) n), length-append (map Awaits (head_of Trigger s.trigger)) (visit (channel_at s.list k)), length-head Trigger s.trigger h, length-passes (suc k) n, suc-mul n 5)
+      omega (arith, length-append (pass_of s k) (passes s (suc k) n), length-append (map Awaits (head_of Trigger s.trigger)) (visit (channel_at s.list k)),
+          length-head Trigger s.trigger h, length-passes (suc k) n, suc-mul n 5)
 
   fit-some : (n : ℕ) → IsFit (line (passes s 0 n) Nil) × (size (line (passes s 0 n) Nil) ≤ n * 5)
   fit-some n = (fit-line (passes s 0 n) Nil (fits-passes 0 n) tt, omega (arith, size-line (passes s 0 n) Nil, length-passes 0 n))
@@ -107,7 +109,9 @@ module _ (s : Setup) (h : s.trigger.delay_us ≤ 3600000000) where
       left : ℕ
       left = s.trigger.count % length s.list
 
-      at : (q : ℕ) → q ≤ s.trigger.count → IsFit (cond (eqb q 0) (line (passes s 0 left) Nil) (Times 2 q (line (passes s 0 (length s.list)) Nil) (line (passes s 0 left) Nil))) × (size (cond (eqb q 0) (line (passes s 0 left) Nil) (Times 2 q (line (passes s 0 (length s.list)) Nil) (line (passes s 0 left) Nil))) ≤ 5122)
+      at : (q : ℕ) → q ≤ s.trigger.count
+          → IsFit (cond (eqb q 0) (line (passes s 0 left) Nil) (Times 2 q (line (passes s 0 (length s.list)) Nil) (line (passes s 0 left) Nil)))
+          × (size (cond (eqb q 0) (line (passes s 0 left) Nil) (Times 2 q (line (passes s 0 (length s.list)) Nil) (line (passes s 0 left) Nil))) ≤ 5122)
       at zero below =
           let r = fit-some left in
           let small : left < length s.list = mod_below s.trigger.count (length s.list) some in
@@ -137,7 +141,8 @@ fit-tree s some i =
     let c2 : s.arm2.count ≤ 100000 = omega (arith, i.arm2.count.1) in
     let z : 0 ≤ 2 = omega arith in
     let o : 1 ≤ 2 = omega arith in (
-      ((z, i.arm1.count.0, c1), fit-line i1 loop2 (fits-head Arm1 s.arm1 i.arm1.delay) (((o, i.arm2.count.0, c2), fit-line i2 (passes_tree s) (fits-head Arm2 s.arm2 i.arm2.delay) inner.0, tt)), tt),
+      ((z, i.arm1.count.0, c1), fit-line i1 loop2 (fits-head Arm1 s.arm1 i.arm1.delay) (((o, i.arm2.count.0, c2),
+          fit-line i2 (passes_tree s) (fits-head Arm2 s.arm2 i.arm2.delay) inner.0, tt)), tt),
       omega (arith, size-line i1 loop2, size-line i2 (passes_tree s), inner.1, length-head Arm1 s.arm1 i.arm1.delay, length-head Arm2 s.arm2 i.arm2.delay),
     )
 

@@ -1,5 +1,6 @@
 -- Lines and parts of a listing.
-use Rattle.std.proofs.Common.{◌≡◌, ℕ, zero, suc, ◌+◌, ◌-◌, ◌*◌, ◌<◌, ◌≤◌, ◌^◌, Bool, true, false, not, cond, eqb, List, [], ◌∷◌, ◌++◌, length, get_or, take, drop, drop-cons, add-one, refl, sym, ap, ◌∙◌, subst, arith, append_assoc, length-append}
+use Rattle.std.proofs.Common.{◌≡◌, ℕ, zero, suc, ◌+◌, ◌-◌, ◌*◌, ◌<◌, ◌≤◌, ◌^◌, Bool, true, false, not, cond, eqb, List, [], ◌∷◌, ◌++◌, length, get_or, take}
+use Rattle.std.proofs.Common.{drop, drop-cons, add-one, refl, sym, ap, ◌∙◌, subst, arith, append_assoc, length-append}
 use Rattle.std.specs.Prelude.{Option, Some, None, IfSome, IfNone, Ok, Err, codes, Result, ◌==◌, ◌&&◌, nat_lt, nat_le, if◌then◌else◌}
 use Rattle.std.specs.List.{All, AllByRecursion, slice_split}
 use Rattle.std.specs.Str.{bytes_eq}
@@ -15,7 +16,8 @@ use Rattle.sw_code.specs.declared.fault.ListFault.TheVariants.{BadStep, BadNumbe
 use Rattle.sw_code.specs.declared.fault.ListError.{ListError}
 use Rattle.sw_code.specs.Range.{Program, IsStep, HasChannel}
 use Rattle.sw_code.specs.Listing.{line_of, lines_of, parts_of}
-use Rattle.sw_code.specs.Reading.{parts_at, then_read, channel_in, step_in, meter_in, on_line, numbered_step, steps_in, after_steps, code_after_version, code_of_lines}
+use Rattle.sw_code.specs.Reading.{parts_at, then_read, channel_in, step_in, meter_in, on_line, numbered_step, steps_in, after_steps, code_after_version}
+use Rattle.sw_code.specs.Reading.{code_of_lines}
 
 -- more parts or lines than there should be, or some that follow
 pub channel_more : (s c : List ℕ) (more : List (List ℕ)) → 0 < length more → channel_in (s ∷ c ∷ more) ≡ Err BadNumber
@@ -30,15 +32,20 @@ pub step_more : (w a b : List ℕ) (more : List (List ℕ)) → 0 < length more 
 step_more w a b [] h = absurd (omega arith)
 step_more w a b (x ∷ more) h = refl
 
-pub version_some : (text : List ℕ) (more : List (List ℕ)) → 0 < length more → code_of_lines (text ∷ more) ≡ (if bytes_eq text (codes "scan 1") then code_after_version more else Err (record { line = 1; kind = BadStep }))
+pub version_some : (text : List ℕ) (more : List (List ℕ)) → 0 < length more
+    → code_of_lines (text ∷ more) ≡ (if bytes_eq text (codes "scan 1") then code_after_version more else Err (record { line = 1; kind = BadStep }))
 version_some text [] h = absurd (omega arith)
 version_some text (x ∷ more) h = refl
 
-pub second_some : (text : List ℕ) (more : List (List ℕ)) → 0 < length more → code_after_version (text ∷ more) ≡ then_read (on_line 2 (meter_in (parts_at 32 text))) (λ (meter : ℕ). then_read (steps_in 3 more) (λ (steps : List Step). Ok (record { meter = meter; steps = steps })))
+pub second_some : (text : List ℕ) (more : List (List ℕ)) → 0 < length more
+    → code_after_version (text ∷ more) ≡ then_read (on_line 2 (meter_in (parts_at 32 text))) (λ (meter : ℕ).
+    then_read (steps_in 3 more) (λ (steps : List Step). Ok (record { meter = meter; steps = steps })))
 second_some text [] h = absurd (omega arith)
 second_some text (x ∷ more) h = refl
 
-pub steps_some : (line : ℕ) (text : List ℕ) (more : List (List ℕ)) → 0 < length more → steps_in line (text ∷ more) ≡ then_read (on_line line (numbered_step line text)) (λ (s : Step). then_read (steps_in (line + 1) more) (λ (steps : List Step). Ok (s ∷ steps)))
+pub steps_some : (line : ℕ) (text : List ℕ) (more : List (List ℕ)) → 0 < length more
+    → steps_in line (text ∷ more) ≡ then_read (on_line line (numbered_step line text)) (λ (s : Step).
+    then_read (steps_in (line + 1) more) (λ (steps : List Step). Ok (s ∷ steps)))
 steps_some line text [] h = absurd (omega arith)
 steps_some line text (x ∷ more) h = refl
 
@@ -76,16 +83,19 @@ pub only_of : (mark : ℕ) (a : List ℕ) → Lacks mark a → parts_at mark a �
 only_of mark a h = slice_split_none (λ (x : ℕ). x == mark) a (lacks_all mark a h)
 
 -- steps that are printed one by one
-pub one_more : (out out1 out2 line whole : List ℕ) (steps : List Step) (i : ℕ) (s : Step) → i < length steps → s ≡ get_or steps i s → out1 ≡ out ++ line → line ++ 10 ∷ [] ≡ line_of (parts_of s) → out2 ≡ out1 ++ 10 ∷ [] → out ++ lines_of (drop i steps) ≡ whole → out2 ++ lines_of (drop (i + 1) steps) ≡ whole
+pub one_more : (out out1 out2 line whole : List ℕ) (steps : List Step) (i : ℕ) (s : Step) → i < length steps → s ≡ get_or steps i s → out1 ≡ out ++ line → line
+    ++ 10 ∷ [] ≡ line_of (parts_of s) → out2 ≡ out1 ++ 10 ∷ [] → out ++ lines_of (drop i steps) ≡ whole → out2 ++ lines_of (drop (i + 1) steps) ≡ whole
 one_more out out1 out2 line whole steps i s lt is e l f h =
     let d : drop i steps ≡ s ∷ drop (suc i) steps = drop-cons steps i s lt ∙ ap (λ (x : Step). x ∷ drop (suc i) steps) (sym is) in
     let g = rw d at h in
-    let two : out2 ≡ out ++ line_of (parts_of s) = f ∙ ap (λ (x : List ℕ). x ++ 10 ∷ []) e ∙ append_assoc out line (10 ∷ []) ∙ ap (λ (x : List ℕ). out ++ x) l in
+    let two : out2 ≡ out ++ line_of (parts_of s) = f ∙ ap (λ (x : List ℕ). x ++ 10 ∷ []) e ∙ append_assoc out line (10 ∷ [])
+        ∙ ap (λ (x : List ℕ). out ++ x) l in
     let n : i + 1 ≡ suc i = omega arith in
     ap (λ (x : List ℕ). x ++ lines_of (drop (i + 1) steps)) two ∙ ap (λ (j : ℕ). (out ++ line_of (parts_of s)) ++ lines_of (drop j steps)) n
     ∙ append_assoc out (line_of (parts_of s)) (lines_of (drop (suc i) steps)) ∙ g
 
-pub channels_more : (steps : List Step) (i : ℕ) (s : Step) → i < length steps → s ≡ get_or steps i s → All HasChannel (take i steps) → HasChannel s → All HasChannel (take (i + 1) steps)
+pub channels_more : (steps : List Step) (i : ℕ) (s : Step) → i < length steps → s ≡ get_or steps i s → All HasChannel (take i steps) → HasChannel s
+    → All HasChannel (take (i + 1) steps)
 channels_more steps i s lt is a r = All-more HasChannel steps i s lt a (subst HasChannel is r)
 
 pub lines_done : (out whole : List ℕ) (steps : List Step) (i : ℕ) → length steps ≤ i → out ++ lines_of (drop i steps) ≡ whole → out ≡ whole
@@ -99,6 +109,7 @@ pub steps_push : (steps : List Step) (s : Step) → AllByRecursion IsStep steps 
 steps_push [] s a b = (b, tt)
 steps_push (x ∷ steps) s a b = (a.0, steps_push steps s a.1 b)
 
-pub after_one : (before : List Step) (s : Step) (r : Result (List Step) ListError) → after_steps before (then_read r (λ (steps : List Step). Ok (s ∷ steps))) ≡ after_steps (before ++ s ∷ []) r
+pub after_one : (before : List Step) (s : Step) (r : Result (List Step) ListError)
+    → after_steps before (then_read r (λ (steps : List Step). Ok (s ∷ steps))) ≡ after_steps (before ++ s ∷ []) r
 after_one before s (Ok steps) = ap Ok (sym (append_assoc before (s ∷ []) steps))
 after_one before s (Err e) = refl

@@ -1,5 +1,6 @@
 -- Code with its loops seen as such comes from item to item in few steps.
-use Rattle.std.proofs.Common.{◌≡◌, ℕ, zero, suc, ◌+◌, ◌-◌, ◌*◌, ◌/◌, ◌%◌, ◌<◌, ◌≤◌, Bool, true, false, cond, eqb, List, [], ◌∷◌, ◌++◌, length, map, Option, Some, None, refl, sym, ap, ◌∙◌, subst, arith, length-append}
+use Rattle.std.proofs.Common.{◌≡◌, ℕ, zero, suc, ◌+◌, ◌-◌, ◌*◌, ◌/◌, ◌%◌, ◌<◌, ◌≤◌, Bool, true, false, cond, eqb, List, [], ◌∷◌, ◌++◌, length, map, Option}
+use Rattle.std.proofs.Common.{Some, None, refl, sym, ap, ◌∙◌, subst, arith, length-append}
 use Rattle.std.specs.List.{slice_get}
 use Rattle.std.proofs.lemmas.Bool.Decides.{nat_tests}
 use Rattle.std.proofs.lemmas.Nat.{div-add-mod'}
@@ -86,7 +87,8 @@ module _ (code : List Step) where
   near_item (Then x rest) d pc w i h = item_near x d pc h.0
   near_item (Times k n body rest) zero pc w i h = absurd w
   near_item (Times k n body rest) (suc d) pc w i h =
-      set_near k n d pc h.0 (near_item body d (pc + 1) w.1 i (has_front code (pc + 1) (flatten body (pc + 1)) (step.Loop k (pc + 1) ∷ flatten rest (pc + 2 + size body)) h.1))
+      set_near k n d pc h.0 (near_item body d (pc + 1) w.1 i (has_front code (pc + 1) (flatten body (pc + 1))
+          (step.Loop k (pc + 1) ∷ flatten rest (pc + 2 + size body)) h.1))
 
   -- into a tree, or past an empty one
   near_from : (t : Tree) (d e pc : ℕ) → IsWithin d t → d ≤ e → HasAt code pc (flatten t pc) → IsNear code e (pc + size t) → IsNear code e pc
@@ -106,7 +108,8 @@ module _ (code : List Step) where
       let e : pc + length (i ∷ a) ≡ pc + 1 + length a = omega arith in
       (f.0, all-append m (pc + 1) a b f.1 (subst (λ (p : ℕ). AllNear m p b) e g))
 
-  all_near : (t : Tree) (d e m pc : ℕ) → IsWithin d t → d ≤ e → e + d ≤ m → HasAt code pc (flatten t pc) → IsNear code e (pc + size t) → AllNear m pc (flatten t pc)
+  all_near : (t : Tree) (d e m pc : ℕ) → IsWithin d t → d ≤ e → e + d ≤ m → HasAt code pc (flatten t pc) → IsNear code e (pc + size t)
+      → AllNear m pc (flatten t pc)
   all_near Nil d e m pc w le most h far = tt
   all_near (Then x rest) d e m pc w le most h far =
       let q : pc + (1 + size rest) ≡ pc + 1 + size rest = omega arith in
@@ -122,7 +125,8 @@ module _ (code : List Step) where
       let in_rest = subst (λ (p : ℕ). HasAt code p (flatten rest (pc + 2 + size body))) after tail.1 in
       let end : pc + (2 + size body + size rest) ≡ pc + 2 + size body + size rest = omega arith in
       let far : IsNear code e (pc + 2 + size body + size rest) = subst (λ (p : ℕ). IsNear code e p) end far in
-      let out : IsNear code e (pc + 1 + size body + 1) = subst (λ (p : ℕ). IsNear code e p) (sym after) (near_from rest (suc d) e (pc + 2 + size body) w.2 le in_rest far) in
+      let out : IsNear code e (pc + 1 + size body + 1) =
+          subst (λ (p : ℕ). IsNear code e p) (sym after) (near_from rest (suc d) e (pc + 2 + size body) w.2 le in_rest far) in
       let back : IsNear code e (pc + 1) = near_more d e (pc + 1) (omega arith) (near_item body d (pc + 1) w.1 w.0 in_body) in
       let loop : IsNear code (suc e) (pc + 1 + size body) = loop_near k (pc + 1) e (pc + 1 + size body) tail.0 out back in
       let inside : AllNear m (pc + 1) (flatten body (pc + 1)) = all_near body d (suc e) m (pc + 1) w.1 (omega arith) (omega arith) in_body loop in
@@ -153,7 +157,8 @@ paced t d w =
     let far : IsNear code d (0 + size t) = halt_near code d (0 + size t) halt in
     let le : d ≤ d = omega arith in
     let most : d + d ≤ d + d = omega arith in
-    let all : AllNear code (d + d) 0 code = all-append code (d + d) 0 (flatten t 0) (step.Halt ∷ []) (all_near code t d d (d + d) 0 w le most front far) (tt, tt) in
+    let all : AllNear code (d + d) 0 code = all-append code (d + d) 0 (flatten t 0) (step.Halt ∷ []) (all_near code t d d (d + d) 0 w le most front far) (tt,
+        tt) in
     record {
       start = near_more code d (d + d) 0 (omega arith) (near_from code t d d 0 w le front far);
       after = λ pc i h.
@@ -180,7 +185,8 @@ passes_some s (suc n) h =
 
 passes_within : (s : Setup) → 0 < length s.list → 0 < s.trigger.count → HasItem (passes_tree s) × IsWithin 1 (passes_tree s)
 passes_within s some count = at (s.trigger.count / length s.list) (s.trigger.count % length s.list) (div-add-mod' s.trigger.count (length s.list)) where
-  at : (q r : ℕ) → q * length s.list + r ≡ s.trigger.count → HasItem (cond (eqb q 0) (line (passes s 0 r) Nil) (Times 2 q (line (passes s 0 (length s.list)) Nil) (line (passes s 0 r) Nil)))
+  at : (q r : ℕ) → q * length s.list + r ≡ s.trigger.count
+      → HasItem (cond (eqb q 0) (line (passes s 0 r) Nil) (Times 2 q (line (passes s 0 (length s.list)) Nil) (line (passes s 0 r) Nil)))
       × IsWithin 1 (cond (eqb q 0) (line (passes s 0 r) Nil) (Times 2 q (line (passes s 0 (length s.list)) Nil) (line (passes s 0 r) Nil)))
   at zero r e = (item-some (passes s 0 r) Nil (passes_some s r (omega arith)), within-line 1 (passes s 0 r) Nil tt)
   at (suc q) r e =

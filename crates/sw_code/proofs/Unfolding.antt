@@ -1,5 +1,6 @@
 -- What a run of nested code passes.
-use Rattle.std.proofs.Common.{◌≡◌, ℕ, zero, suc, ◌+◌, ◌-◌, ◌<◌, ◌≤◌, Bool, true, false, ◌||◌, cond, eqb, List, [], ◌∷◌, ◌++◌, length, Option, Some, None, refl, sym, ap, ◌∙◌, subst, arith, append_assoc, append-nil, length-append}
+use Rattle.std.proofs.Common.{◌≡◌, ℕ, zero, suc, ◌+◌, ◌-◌, ◌<◌, ◌≤◌, Bool, true, false, ◌||◌, cond, eqb, List, [], ◌∷◌, ◌++◌, length, Option, Some, None, refl}
+use Rattle.std.proofs.Common.{sym, ap, ◌∙◌, subst, arith, append_assoc, append-nil, length-append}
 use Rattle.std.specs.Prelude.{option_map}
 use Rattle.std.specs.List.{slice_get}
 use Rattle.std.proofs.Math.Seq.{get_or-append_seam}
@@ -41,7 +42,8 @@ pub length-flatten : (t : Tree) (pc : ℕ) → length (flatten t pc) ≡ size t
 length-flatten Nil pc = refl
 length-flatten (Then x rest) pc = omega (arith, length-flatten rest (pc + 1))
 length-flatten (Times k n body rest) pc =
-    omega (arith, length-append (flatten body (pc + 1)) (step.Loop k (pc + 1) ∷ flatten rest (pc + 2 + size body)), length-flatten body (pc + 1), length-flatten rest (pc + 2 + size body))
+    omega (arith, length-append (flatten body (pc + 1)) (step.Loop k (pc + 1) ∷ flatten rest (pc + 2 + size body)), length-flatten body (pc + 1),
+        length-flatten rest (pc + 2 + size body))
 
 -- from one state a run passes these items and comes to another
 pub record Passes (code : List Step) (pc : ℕ) (cs : Counters) (xs : List Item) (pc' : ℕ) (cs' : Counters) : Type 0 where
@@ -74,7 +76,8 @@ module _ (code : List Step) where
   nowhere : (pc : ℕ) (cs : Counters) → Passes code pc cs [] pc cs
   nowhere pc cs = record { by = λ k rest h. (k, h) }
 
-  then_passes : (p0 p1 p2 : ℕ) (c0 c1 c2 : Counters) (xs ys : List Item) → Passes code p0 c0 xs p1 c1 → Passes code p1 c1 ys p2 c2 → Passes code p0 c0 (xs ++ ys) p2 c2
+  then_passes : (p0 p1 p2 : ℕ) (c0 c1 c2 : Counters) (xs ys : List Item) → Passes code p0 c0 xs p1 c1 → Passes code p1 c1 ys p2 c2
+      → Passes code p0 c0 (xs ++ ys) p2 c2
   then_passes p0 p1 p2 c0 c1 c2 xs ys a b = record {
     by = λ k rest h.
         let v = b.by k rest h in
@@ -111,11 +114,14 @@ module _ (code : List Step) where
     by = λ j rest e.
         let t : eqb (cs k - 1) 0 ≡ false = grind (arith, nat_tests) in
         let v : cs k - 1 ≡ suc m = omega arith in
-        (suc j, one pc cs (step.Loop k to) h j ∙ ap (λ b. cond b (exec code j (pc + 1) (put k 0 cs)) (exec code j to (put k (cs k - 1) cs))) t ∙ ap (λ w. exec code j to (put k w cs)) v ∙ e);
+        (suc j, one pc cs (step.Loop k to) h j ∙ ap (λ b. cond b (exec code j (pc + 1) (put k 0 cs)) (exec code j to (put k (cs k - 1) cs))) t
+            ∙ ap (λ w. exec code j to (put k w cs)) v ∙ e);
   }
 
   -- a loop's turns, given what one turn of its body does
-  turns : (used : ℕ → Bool) (k b e : ℕ) (xs : List Item) → used k ≡ false → slice_get code e ≡ Some (step.Loop k b) → ((cs : Counters) → (cs' : Counters) × Keeps (λ j. eqb j k || used j) cs cs' × Passes code b cs xs e cs') → (m : ℕ) (cs : Counters) → cs k ≡ suc m → (cs' : Counters) × Keeps used cs cs' × Passes code b cs (repeated (suc m) xs) (e + 1) cs'
+  turns : (used : ℕ → Bool) (k b e : ℕ) (xs : List Item) → used k ≡ false → slice_get code e ≡ Some (step.Loop k b)
+      → ((cs : Counters) → (cs' : Counters) × Keeps (λ j. eqb j k || used j) cs cs' × Passes code b cs xs e cs') → (m : ℕ) (cs : Counters) → cs k ≡ suc m
+      → (cs' : Counters) × Keeps used cs cs' × Passes code b cs (repeated (suc m) xs) (e + 1) cs'
   turns used k b e xs free at body zero cs h =
       let r = body cs in
       let v : r.0 k ≡ 1 = r.1 k (in_use_self k used) ∙ h in (
@@ -134,7 +140,8 @@ module _ (code : List Step) where
       )
 
   -- nested code passes what it means, and keeps the counters of the loops round it
-  pub passes_meaning : (t : Tree) (used : ℕ → Bool) (pc : ℕ) (cs : Counters) → IsNested used t → HasAt code pc (flatten t pc) → (cs' : Counters) × Keeps used cs cs' × Passes code pc cs (meaning t) (pc + size t) cs'
+  pub passes_meaning : (t : Tree) (used : ℕ → Bool) (pc : ℕ) (cs : Counters) → IsNested used t → HasAt code pc (flatten t pc) → (cs' : Counters)
+      × Keeps used cs cs' × Passes code pc cs (meaning t) (pc + size t) cs'
   passes_meaning Nil used pc cs w h =
       let e : pc ≡ pc + 0 = omega arith in
       (cs, λ j u. refl, subst (λ (p : ℕ). Passes code pc cs [] p cs) e (nowhere pc cs))
@@ -167,7 +174,8 @@ module _ (code : List Step) where
         λ j u. r.1 j u ∙ loop.1 j u ∙ put_other j k n cs used u w.1,
         subst (λ (p : ℕ). Passes code pc cs (repeated n (meaning body) ++ meaning rest) p r.0) end
             (then_passes pc (pc + 1) (pc + 2 + size body + size rest) cs start r.0 [] (repeated n (meaning body) ++ meaning rest) (set_passes pc k n cs h.0)
-            (then_passes (pc + 1) (pc + 2 + size body) (pc + 2 + size body + size rest) start loop.0 r.0 (repeated n (meaning body)) (meaning rest) turned r.2)),
+            (then_passes (pc + 1) (pc + 2 + size body) (pc + 2 + size body + size rest) start loop.0 r.0 (repeated n (meaning body)) (meaning rest) turned
+                r.2)),
       )
 
 -- nested code and halt unfold to what they mean
@@ -187,7 +195,8 @@ passing_some : (x : Item) (o p : Option (List Item)) (l : List Item) → passing
 passing_some x None p l h f = absurd (cc h)
 passing_some x (Some m) p l h f = ap (passing x) (f m refl) ∙ h
 
-act_more : (o : Option Step) (f g : Next) (pc : ℕ) (cs : Counters) (l : List Item) → ((p : ℕ) (c : Counters) (m : List Item) → f p c ≡ Some m → g p c ≡ Some m) → act o f pc cs ≡ Some l → act o g pc cs ≡ Some l
+act_more : (o : Option Step) (f g : Next) (pc : ℕ) (cs : Counters) (l : List Item) → ((p : ℕ) (c : Counters) (m : List Item) → f p c ≡ Some m → g p c ≡ Some m)
+    → act o f pc cs ≡ Some l → act o g pc cs ≡ Some l
 act_more None f g pc cs l up h = h
 act_more (Some (step.Set k n)) f g pc cs l up h = up (pc + 1) (put k n cs) l h
 act_more (Some (step.Wait name)) f g pc cs l up h = passing_some (Awaits (Wait name)) (f (pc + 1) cs) (g (pc + 1) cs) l h (λ m e. up (pc + 1) cs m e)
@@ -195,7 +204,9 @@ act_more (Some (step.Pause micros)) f g pc cs l up h = passing_some (Awaits (Pau
 act_more (Some (step.Close c)) f g pc cs l up h = passing_some (Close c) (f (pc + 1) cs) (g (pc + 1) cs) l h (λ m e. up (pc + 1) cs m e)
 act_more (Some step.Read) f g pc cs l up h = passing_some (Awaits Read) (f (pc + 1) cs) (g (pc + 1) cs) l h (λ m e. up (pc + 1) cs m e)
 act_more (Some (step.Open c)) f g pc cs l up h = passing_some (Open c) (f (pc + 1) cs) (g (pc + 1) cs) l h (λ m e. up (pc + 1) cs m e)
-act_more (Some (step.Loop k to)) f g pc cs l up h = either (eqb (cs k - 1) 0) (f (pc + 1) (put k 0 cs)) (f to (put k (cs k - 1) cs)) (g (pc + 1) (put k 0 cs)) (g to (put k (cs k - 1) cs)) (up (pc + 1) (put k 0 cs) l) (up to (put k (cs k - 1) cs) l) h where
+act_more (Some (step.Loop k to)) f g pc cs l up h =
+    either (eqb (cs k - 1) 0) (f (pc + 1) (put k 0 cs)) (f to (put k (cs k - 1) cs)) (g (pc + 1) (put k 0 cs)) (g to (put k (cs k - 1) cs))
+    (up (pc + 1) (put k 0 cs) l) (up to (put k (cs k - 1) cs) l) h where
   either : (b : Bool) (x y u v : Option (List Item)) → (x ≡ Some l → u ≡ Some l) → (y ≡ Some l → v ≡ Some l) → cond b x y ≡ Some l → cond b u v ≡ Some l
   either true x y u v p q e = p e
   either false x y u v p q e = q e

@@ -1,5 +1,6 @@
 -- What a code does, step by step.
-use Rattle.std.specs.Prelude.{◌≡◌, ℕ, zero, suc, ◌+◌, ◌-◌, ◌==◌, List, [], ◌∷◌, Option, Some, None, option_map, if◌then◌else◌}
+use Rattle.std.specs.Prelude.{◌≡◌, ℕ, zero, suc, ◌+◌, ◌-◌, ◌==◌, List, [], ◌∷◌, Option, Some, None, option_map}
+use Rattle.std.specs.Prelude.{if◌then◌else◌}
 use Rattle.std.specs.List.{slice_get}
 use Rattle.sw_trigger.specs.declared.layer.Awaited.TheVariants.{Wait, Pause, Read}
 use Rattle.sw_code.specs.declared.code.Step.{Step}
@@ -28,7 +29,8 @@ act (Some (step.Pause micros)) next pc cs = passing (Awaits (Pause micros)) (nex
 act (Some (step.Close c)) next pc cs = passing (Close c) (next (pc + 1) cs)
 act (Some step.Read) next pc cs = passing (Awaits Read) (next (pc + 1) cs)
 act (Some (step.Open c)) next pc cs = passing (Open c) (next (pc + 1) cs)
-act (Some (step.Loop k to)) next pc cs = if cs k - 1 == 0 then next (pc + 1) (put k 0 cs) else next to (put k (cs k - 1) cs)
+act (Some (step.Loop k to)) next pc cs =
+    if cs k - 1 == 0 then next (pc + 1) (put k 0 cs) else next to (put k (cs k - 1) cs)
 act (Some step.Halt) next pc cs = Some []
 
 -- the items that a run passes, if it halts within so many steps

@@ -37,4 +37,5 @@ lines_of (s ∷ steps) = line_of (parts_of s) ++ lines_of steps
 
 -- the version, the slot of the meter, and the steps
 abbrev pub listing_of : Program → List ℕ
-listing_of p = line_of (codes "scan" ∷ codes "1" ∷ []) ++ (line_of (codes "meter" ∷ decimal p.meter ∷ []) ++ lines_of p.steps)
+listing_of p = line_of (codes "scan" ∷ codes "1" ∷ [])
+    ++ (line_of (codes "meter" ∷ decimal p.meter ∷ []) ++ lines_of p.steps)

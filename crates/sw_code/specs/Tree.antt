@@ -28,7 +28,8 @@ size (Times k n body rest) = 2 + size body + size rest
 abbrev pub flatten : Tree → ℕ → List Step
 flatten Nil pc = []
 flatten (Then x rest) pc = step_of x ∷ flatten rest (pc + 1)
-flatten (Times k n body rest) pc = step.Set k n ∷ (flatten body (pc + 1) ++ (step.Loop k (pc + 1) ∷ flatten rest (pc + 2 + size body)))
+flatten (Times k n body rest) pc = step.Set k n ∷ (flatten body (pc + 1)
+    ++ (step.Loop k (pc + 1) ∷ flatten rest (pc + 2 + size body)))
 
 abbrev pub meaning : Tree → List Item
 meaning Nil = []
@@ -39,4 +40,5 @@ meaning (Times k n body rest) = repeated n (meaning body) ++ meaning rest
 abbrev pub IsNested : (ℕ → Bool) → Tree → Type 0
 IsNested used Nil = Unit {0}
 IsNested used (Then x rest) = IsNested used rest
-IsNested used (Times k n body rest) = (0 < n) × (used k ≡ false) × IsNested (λ j. (j == k) || used j) body × IsNested used rest
+IsNested used (Times k n body rest) = (0 < n) × (used k ≡ false) × IsNested (λ j. (j == k) || used j) body
+    × IsNested used rest

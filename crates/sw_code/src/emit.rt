@@ -52,7 +52,8 @@ fn all_steps(alloc: Global, settings: &Settings) -> Result<Vec<Step>, AllocError
 fn put_rounds(steps: &mut Vec<Step>, settings: &Settings) -> Result<(), AllocError>
     requires listed { 0 < length settings.now.list }
     requires short { length steps.old.items < 100 }
-    ensures { OnOk result (steps.new.items ≡ steps.old.items ++ flatten (passes_tree settings.now) (length steps.old.items)) }
+    ensures { OnOk result (steps.new.items ≡ steps.old.items
+        ++ flatten (passes_tree settings.now) (length steps.old.items)) }
 {
     let count = settings.layer(LayerName::Trigger).count;
     let entries = settings.list().len() as u32;

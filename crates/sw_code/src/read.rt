@@ -4,7 +4,8 @@ ghost use Rattle.std.specs.Prelude.{◌≡◌, ◌≤◌, ◌⊎◌, length, Ok,
 ghost use Rattle.std.specs.List.{AllByRecursion};
 ghost use Rattle.sw_code.specs.declared.fault.ListFault.TheVariants.{NoMemory};
 ghost use Rattle.sw_code.specs.Range.{IsStep};
-ghost use Rattle.sw_code.specs.Reading.{parts_at, step_in, plain_step, step_with, step_with_two, layer_in, meter_in, on_line, numbered_step, steps_in, code_in};
+ghost use Rattle.sw_code.specs.Reading.{parts_at, step_in, plain_step, step_with, step_with_two, layer_in, meter_in};
+ghost use Rattle.sw_code.specs.Reading.{on_line, numbered_step, steps_in, code_in};
 
 use crate::code::{Code, Step};
 use crate::fault::{ListError, ListFault};

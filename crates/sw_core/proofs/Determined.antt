@@ -29,7 +29,8 @@ outside_whole a told n e f =
 outside_once : (p : Panel) (happening : Happening) (f f' : Bool) (a a' : AnswerView) (q q' : Panel) → IsPlain a → IsPlain a' → StepOutside p happening f a q
     → StepOutside p happening f' a' q' → IsOnce a a' q q'
 outside_once p happening f f' a a' q q' n m h k =
-    let r = happens_once p q q' happening f f' h.told k.told h.happens k.happens (outside_whole a h.told n h.answer_is) (outside_whole a' k.told m k.answer_is) in
+    let r = happens_once p q q' happening f f' h.told k.told h.happens k.happens (outside_whole a h.told n h.answer_is)
+        (outside_whole a' k.told m k.answer_is) in
     (h.answer_is ∙ ap (λ (x : TakenSeen). outside_told x) r.0 ∙ sym k.answer_is, r.1)
 
 abbrev pub IsBack : Panel → FinishedSeen → AnswerView → Panel → Type 0
@@ -46,7 +47,8 @@ finished_once p done f f' a a' q q' n m h k = elim (finished_as p done f a q h) 
   | inl x ↦ elim (finished_as p done f' a' q' k) [ inl y ↦ (x.1 ∙ sym y.1, both p q q' x.2 y.2) | inr y ↦ absurd (x.0 y.out) ]
   | inr x ↦ elim (finished_as p done f' a' q' k) [
     | inl y ↦ absurd (y.0 x.out)
-    | inr y ↦ (let r = returns_once p q q' done f f' x.told y.told x.returns y.returns (outside_whole a x.told n x.answer_is) (outside_whole a' y.told m y.answer_is) in (x.answer_is ∙ ap (λ (z : TakenSeen). outside_told z) r.0 ∙ sym y.answer_is, r.1))
+    | inr y ↦ (let r = returns_once p q q' done f f' x.told y.told x.returns y.returns (outside_whole a x.told n x.answer_is)
+        (outside_whole a' y.told m y.answer_is) in (x.answer_is ∙ ap (λ (z : TakenSeen). outside_told z) r.0 ∙ sym y.answer_is, r.1))
   ]
 ]
 

@@ -65,7 +65,8 @@ arrives_once old number at SaysWaits SaysWaits new new' scan scan' h k = (refl, 
 arrives_once old number at (SaysPause t u) (SaysPause t' u') new new' scan scan' h k =
     let e : Some (Pause u) ≡ Some (Pause u') = sym h.0 ∙ k.0 in
     (pause_once t t' u u' (h.1 ∙ sym k.1) (let x : u ≡ u' = cc (e) in x), h.2 ∙ sym k.2, h.3 ∙ sym k.3)
-arrives_once old number at (SaysJob j) (SaysJob j') new new' scan scan' h k = let s = sent_once old at.setup.meter (ticket_of number at) j j' new new' h.1 k.1 in (ap SaysJob s.0, s.1, h.2 ∙ sym k.2)
+arrives_once old number at (SaysJob j) (SaysJob j') new new' scan scan' h k = let s =
+    sent_once old at.setup.meter (ticket_of number at) j j' new new' h.1 k.1 in (ap SaysJob s.0, s.1, h.2 ∙ sym k.2)
 arrives_once old number at SaysEnded SaysEnded new new' scan scan' h k = (refl, h.1 ∙ sym k.1, h.2 ∙ sym k.2)
 arrives_once old number at SaysWaits (SaysPause t' u') new new' scan scan' h k = absurd (let e = sym h.0.1 ∙ k.0 in cc (e))
 arrives_once old number at SaysWaits (SaysJob j') new new' scan scan' h k = absurd (let e = sym h.0.1 ∙ k.0 in cc (e))
@@ -85,7 +86,8 @@ lands_once : (old : Occupancy) (number : ℕ) (moves : List Item) (at : ScanSeen
     → Reaches old number moves at told new scan → Reaches old number moves at told' new' scan' → IsSameGoing told told' new new' scan scan'
 lands_once old number moves at told told' new new' scan scan' h k =
     let racks : h.cards ≡ k.cards = moved_once old.cards h.cards k.cards moves h.moved k.moved in
-    arrives_once (record old { cards = k.cards }) number at told told' new new' scan scan' (subst (λ (r : Accounts). let b : Occupancy = record old { cards = r } in Arrives b number at told new scan) racks h.arrives) k.arrives
+    arrives_once (record old { cards = k.cards }) number at told told' new new' scan scan' (subst (λ (r : Accounts).
+        let b : Occupancy = record old { cards = r } in Arrives b number at told new scan) racks h.arrives) k.arrives
 
 -- no card failed, so that the scan has come somewhere
 lands : (old : Occupancy) (number : ℕ) (moves : List Item) (at : ScanSeen) (told : TakenSeen) (new : Occupancy) (scan : Option ScanSeen) → told ≢ SaysFault
@@ -100,7 +102,8 @@ lands old number moves at SaysEnded new scan n h = h
 pub goes_once : (p q q' : CageSeen) (s : Setup) (i : ℕ) (told told' : TakenSeen) → Advances p s i told q → Advances p s i told' q' → told ≢ SaysFault
     → told' ≢ SaysFault → (told ≡ told') × (q ≡ q')
 goes_once p q q' s i told told' h k n m =
-    let r = lands_once (occupancy_of p) p.number (moves_from s i) (next_place s i) told told' (occupancy_of q) (occupancy_of q') q.scan q'.scan (lands _ _ _ _ told _ _ n h.runs) (lands _ _ _ _ told' _ _ m k.runs) in
+    let r = lands_once (occupancy_of p) p.number (moves_from s i) (next_place s i) told told' (occupancy_of q) (occupancy_of q') q.scan q'.scan
+        (lands _ _ _ _ told _ _ n h.runs) (lands _ _ _ _ told' _ _ m k.runs) in
     (r.0, same_cage q q' r.1 (h.number ∙ sym k.number) r.2 (h.readings ∙ sym k.readings))
 
 past_once : (p q q' : CageSeen) (scan : Option ScanSeen) (told told' : TakenSeen) → AdvancesPastFrom p scan told q → AdvancesPastFrom p scan told' q'
@@ -174,7 +177,8 @@ returns_once p q q' done f f' told told' h k n m = elim (returns_as p done f tol
   | inl a ↦ elim (returns_as p done f' told' q' k) [ inl b ↦ (a.0 ∙ sym b.0, a.2 ∙ sym b.2) | inr b ↦ absurd (a.1 b.0) ]
   | inr a ↦ elim (returns_as p done f' told' q' k) [
     | inl b ↦ absurd (b.1 a.0)
-    | inr b ↦ (let r = counts_once (with_back p.cage done) q.cage q'.cage done.outcome told told' a.1 b.1 n m in (r.0, reported p q q' told told' p.status r.0 r.1 a.2 b.2))
+    | inr b ↦ (let r = counts_once (with_back p.cage done) q.cage q'.cage done.outcome told told' a.1 b.1 n m in
+        (r.0, reported p q q' told told' p.status r.0 r.1 a.2 b.2))
   ]
 ]
 

@@ -69,10 +69,12 @@ not_barred true p effect f t w q h = absurd h.0
 not_barred false p effect f t w q h = h
 
 -- what a joined session is answered that its command is done
-done_of : (p : Panel) (sid : Sid) (command : Command) (available f : Bool) (q : Panel) (e : IsEvent p (AskSession (Ask.Unit sid command available)) f (SaysSession (Done None) None) q)
+done_of : (p : Panel) (sid : Sid) (command : Command) (available f : Bool) (q : Panel)
+    (e : IsEvent p (AskSession (Ask.Unit sid command available)) f (SaysSession (Done None) None) q)
     → StepAction (action_of available command) p (Ask.Unit sid command available) f (Done None) None e.done
 done_of p sid command available f q e =
-    not_kept_out (drops p sid (Ask.Unit sid command available)) (shuts_out p sid (Ask.Unit sid command available)) p (Ask.Unit sid command available) f None None e.done e.acts.1
+    not_kept_out (drops p sid (Ask.Unit sid command available)) (shuts_out p sid (Ask.Unit sid command available)) p (Ask.Unit sid command available) f None
+        None e.done e.acts.1
 
 pub closes : (p q : Panel) (chans : List Channel) (available failed : Bool) → IsDoneFor p (Command.Close chans) available failed q → (c : Channel)
     → is_in chans c ≡ true
@@ -328,7 +330,8 @@ past_down c q (Some at) h = (h.runs.fallen.none, h.runs.over)
 
 told_down : (p : Panel) (happening : Happening) (error : ScpiError) (f : Bool) (told : TakenSeen) (q : Panel) → error ≢ HardwareError
     → Refused HardwareError ≡ session_told error told → Happens p happening f told q → IsDown p f q
-told_down p happening error f SaysFault q n a h = let r = past_down p.cage q.cage p.cage.scan h.1 in record { failed = h.2.0; none = r.0; idle = r.1; status = ap (λ (x : Panel). x.status) h.2.1 }
+told_down p happening error f SaysFault q n a h = let r = past_down p.cage q.cage p.cage.scan h.1 in
+    record { failed = h.2.0; none = r.0; idle = r.1; status = ap (λ (x : Panel). x.status) h.2.1 }
 told_down p happening error f SaysIgnored q n a h = absurd (n (let x : HardwareError ≡ error = cc (a) in sym x))
 told_down p happening error f SaysWaits q n a h = absurd (cc (a))
 told_down p happening error f (SaysPause t u) q n a h = absurd (cc (a))
@@ -411,7 +414,8 @@ outside_fault SaysFault e = refl
 outside_fault told e = absurd (cc (e))
 
 happens_down : (p : Panel) (happening : Happening) (f : Bool) (q : Panel) → Happens p happening f SaysFault q → IsDown p f q
-happens_down p happening f q h = let r = past_down p.cage q.cage p.cage.scan h.1 in record { failed = h.2.0; none = r.0; idle = r.1; status = ap (λ (x : Panel). x.status) h.2.1 }
+happens_down p happening f q h = let r = past_down p.cage q.cage p.cage.scan h.1 in
+    record { failed = h.2.0; none = r.0; idle = r.1; status = ap (λ (x : Panel). x.status) h.2.1 }
 
 outside_down : (p : Panel) (happening : Happening) (f : Bool) (q : Panel) → StepOutside p happening f SaysFailed q → IsDown p f q
 outside_down p happening f q h =
@@ -469,7 +473,8 @@ down_after p done q f d after = (
 
 pub failed : (p q : Panel) (ask : AskView) (failed : Bool) (answer : AnswerView) → tells_failure answer ≡ true → Step p ask failed answer q → (failed ≡ true)
     × IsAfterCardFault p q
-failed p q ask f SaysFailed t h = let x = event_of p ask f SaysFailed q (worn_failed ask) h in down_after p x.done q f (fails_down p ask f x.done x.acts) x.after
+failed p q ask f SaysFailed t h = let x = event_of p ask f SaysFailed q (worn_failed ask) h in
+    down_after p x.done q f (fails_down p ask f x.done x.acts) x.after
 failed p q ask f (SaysSession (Refused HardwareError) w) t h =
     let x = event_of p ask f (SaysSession (Refused HardwareError) w) q (worn_failure ask w) h in
     down_after p x.done q f (acts_down p ask f w x.done x.acts) x.after

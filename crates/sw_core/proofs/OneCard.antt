@@ -64,7 +64,8 @@ eject_once p slot Vacant Out h k = absurd (some_none (slot_at p.cage.out slot) k
 eject_once p slot Out Vacant h k = absurd (some_none (slot_at p.cage.out slot) h k.0)
 
 pub rest_none : (rack : Accounts) (slot : ℕ) (card : Account) → slot_at (all_open rack) slot ≡ Some card → slot_at rack slot ≡ None → ⊥
-rest_none rack slot card e f = let k : option_rest (slot_at rack slot) ≡ option_rest None = ap option_rest f in absurd (let g : None ≡ Some card = sym k ∙ sym (slot_rest rack slot) ∙ e in cc)
+rest_none rack slot card e f = let k : option_rest (slot_at rack slot) ≡ option_rest None = ap option_rest f in
+    absurd (let g : None ≡ Some card = sym k ∙ sym (slot_rest rack slot) ∙ e in cc)
 
 pub eject_apart : (p : Panel) (slot : ℕ) (card : Account) (r : EjectRefusal) → slot_at p.cage.out slot ≡ None → slot_at (all_open p.cage.cards) slot ≡ Some card
     → RefusesEject p.cage slot r → ⊥

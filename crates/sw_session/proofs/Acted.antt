@@ -6,7 +6,8 @@ use Rattle.std.proofs.lemmas.Bool.{and_parts}
 use Rattle.sw_base.specs.declared.error.ScpiError.{ScpiError}
 use Rattle.sw_base.specs.declared.error.ScpiError.TheVariants.{OutOfMemory}
 use Rattle.sw_lex.specs.declared.command.Command.{Command}
-use Rattle.sw_lex.specs.declared.command.Command.TheVariants.{DefineMacro, MacroQuery, MacroLabelsQuery, RemoveMacro, PurgeMacros, EnableMacros, EnableMacrosQuery}
+use Rattle.sw_lex.specs.declared.command.Command.TheVariants.{DefineMacro, MacroQuery, MacroLabelsQuery, RemoveMacro, PurgeMacros, EnableMacros}
+use Rattle.sw_lex.specs.declared.command.Command.TheVariants.{EnableMacrosQuery}
 use Rattle.sw_lex.specs.Unit.{UnitView}
 use Rattle.sw_macro.specs.Table.{Macro, Table, labels, refusal_to_define, refusal_to_find, RefusedBy}
 use Rattle.sw_macro.specs.Filling.{put_in}
@@ -30,11 +31,13 @@ tells-same text (Ok x) (Ok x') p q m n = ap (λ (y : Option (List ℕ)). Ok y) (
 tells-same text (Ok x) (Err e) p q m n = absurd (n (ap (λ (y : ScpiError). Err y) q))
 tells-same text (Err e) told' p q m n = absurd (m (ap (λ (y : ScpiError). Err y) p))
 
-defines-same : (label body : List ℕ) (t t1 t2 : Table) (told told' : Told) → Defines label body t told t1 → Defines label body t told' t2 → IsAmple told → IsAmple told' → (told ≡ told') × (t1 ≡ t2)
+defines-same : (label body : List ℕ) (t t1 t2 : Table) (told told' : Told) → Defines label body t told t1 → Defines label body t told' t2 → IsAmple told
+    → IsAmple told' → (told ≡ told') × (t1 ≡ t2)
 defines-same label body t t1 t2 (Ok x) (Ok x') p q m n = (ap (λ (y : Option (List ℕ)). Ok y) (p.1 ∙ sym q.1), p.2 ∙ sym q.2)
 defines-same label body t t1 t2 (Ok x) (Err e) p q m n = absurd (lost (refusal_to_define t label body) e p.0 q.0 n)
 defines-same label body t t1 t2 (Err e) (Ok x) p q m n = absurd (lost (refusal_to_define t label body) e q.0 p.0 m)
-defines-same label body t t1 t2 (Err e) (Err e') p q m n = (ap (λ (y : ScpiError). Err y) (refused-once (refusal_to_define t label body) e e' p.0 q.0), p.1 ∙ sym q.1)
+defines-same label body t t1 t2 (Err e) (Err e') p q m n = (ap (λ (y : ScpiError). Err y) (refused-once (refusal_to_define t label body) e e' p.0 q.0), p.1
+    ∙ sym q.1)
 
 removes-same : (label : List ℕ) (t t1 t2 : Table) (told told' : Told) → Removes label t told t1 → Removes label t told' t2 → (told ≡ told') × (t1 ≡ t2)
 removes-same label t t1 t2 (Ok x) (Ok x') p q = (ap (λ (y : Option (List ℕ)). Ok y) (p.1 ∙ sym q.1), p.2 ∙ sym q.2)
@@ -54,7 +57,8 @@ body-same label t (Ok x) (Err e) p q m n = absurd (lost (refusal_to_find t label
 body-same label t (Err e) (Ok x) p q m n = absurd (lost (refusal_to_find t label) e q.1 p m)
 body-same label t (Err e) (Err e') p q m n = ap (λ (y : ScpiError). Err y) (refused-once (refusal_to_find t label) e e' p q)
 
-pub acts-same : (command : Command) (t : Table) (told told' : Told) (t1 t2 : Table) → Acts command t told t1 → Acts command t told' t2 → IsAmple told → IsAmple told' → (told ≡ told') × (t1 ≡ t2)
+pub acts-same : (command : Command) (t : Table) (told told' : Told) (t1 t2 : Table) → Acts command t told t1 → Acts command t told' t2 → IsAmple told
+    → IsAmple told' → (told ≡ told') × (t1 ≡ t2)
 acts-same (DefineMacro label body) t told told' t1 t2 p q m n = defines-same label body t t1 t2 told told' p q m n
 acts-same (MacroQuery label) t told told' t1 t2 p q m n = (body-same label t told told' p.0 q.0 m n, p.1 ∙ sym q.1)
 acts-same MacroLabelsQuery t told told' t1 t2 p q m n = (tells-same (labels_text (labels t.macros)) told told' p.0 q.0 m n, p.1 ∙ sym q.1)
@@ -86,11 +90,13 @@ opened-some t u does is =
     let both = and_parts t.on (is_some (called t.macros u)) does in
     opened-so t.on (opened t.macros [] u 0) both.0 (opening-some u (called t.macros u) both.1) is
 
-replaces-so : (ms : List Macro) (o : Result (Option Macro) ScpiError) (written other : List ℕ) (r : Result (List ℕ) ScpiError) → (o ≡ Ok None → ⊥) → Replaces ms o written r → Replaces ms o other r
+replaces-so : (ms : List Macro) (o : Result (Option Macro) ScpiError) (written other : List ℕ) (r : Result (List ℕ) ScpiError) → (o ≡ Ok None → ⊥)
+    → Replaces ms o written r → Replaces ms o other r
 replaces-so ms (Err e) written other r some p = p
 replaces-so ms (Ok None) written other r some p = absurd (some refl)
 replaces-so ms (Ok (Some m)) written other r some p = p
 
 -- it gives the same, however it is written
-pub written_so : (t : Table) (u : UnitView) (written other : List ℕ) (r : Result (List ℕ) ScpiError) → calls t u ≡ true → Expands t u written r → Expands t u other r
+pub written_so : (t : Table) (u : UnitView) (written other : List ℕ) (r : Result (List ℕ) ScpiError) → calls t u ≡ true → Expands t u written r
+    → Expands t u other r
 written_so t u written other r does p = replaces-so t.macros (opened_in t u) written other r (opened-some t u does) p

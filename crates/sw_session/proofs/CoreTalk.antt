@@ -20,14 +20,16 @@ use Rattle.sw_session.specs.declared.desk.Wake.TheVariants.{Again, Over}
 use Rattle.sw_session.specs.Trace.{Entry, Asked, Waited, Polled, Noted, Leads}
 use Rattle.sw_session.specs.Available.{with_note}
 use Rattle.sw_session.specs.CoreDesk.{DeskSeen, Carried, Tells, Keeps, Answers, Works, PassesBy, CorePasses, brought, view_of}
-use Rattle.sw_session.specs.Law.{SameCall, SameTalk, TellsPlainly, KeepsKeys, IsSmooth, AllSmooth, carried_of, measured, outcomes_in, outcomes_of, waits_of, Left, left, TalkIsDetermined, CoreTalkIsDetermined, CoreRestIsDetermined}
+use Rattle.sw_session.specs.Law.{SameCall, SameTalk, TellsPlainly, KeepsKeys, IsSmooth, AllSmooth, carried_of, measured, outcomes_in, outcomes_of, waits_of}
+use Rattle.sw_session.specs.Law.{Left, left, TalkIsDetermined, CoreTalkIsDetermined, CoreRestIsDetermined}
 
 -- what is kept, where nothing is carried out at once
 kept-same : (d : DeskSeen) (brings : Option WorkView) (q q' : DeskSeen) → Keeps [] d brings q → Keeps [] d brings q' → q ≡ q'
 kept-same d None q q' k k' = k ∙ sym k'
 kept-same d (Some piece) q q' k k' = k ∙ sym k'
 
-keeps-same : (d d' : DeskSeen) (brings brings' : Option WorkView) (q q' : DeskSeen) → d ≡ d' → brings ≡ brings' → Keeps [] d brings q → Keeps [] d' brings' q' → q ≡ q'
+keeps-same : (d d' : DeskSeen) (brings brings' : Option WorkView) (q q' : DeskSeen) → d ≡ d' → brings ≡ brings' → Keeps [] d brings q → Keeps [] d' brings' q'
+    → q ≡ q'
 keeps-same d d' brings brings' q q' desks works k k' =
     kept-same d brings q q' k (subst (λ (x : DeskSeen). Keeps [] x brings q') (sym desks) (subst (λ (x : Option WorkView). Keeps [] d' x q') (sym works) k'))
 
@@ -52,14 +54,19 @@ measured-same a b b' (Err e) m m' = m ∙ sym m'
 abbrev finished : ℕ → Ticket → MeterAccount → ℕ → Result Reading CardFault → FinishedSeen
 finished slot ticket meter before outcome = record { slot = slot; ticket = ticket; meter = meter; before = before; outcome = outcome }
 
-parts-same : (s s' : ℕ) (t t' : Ticket) (m m' : MeterAccount) (b b' : ℕ) (o o' : Result Reading CardFault) → s ≡ s' → t ≡ t' → m ≡ m' → b ≡ b' → o ≡ o' → finished s t m b o ≡ finished s' t' m' b' o'
+parts-same : (s s' : ℕ) (t t' : Ticket) (m m' : MeterAccount) (b b' : ℕ) (o o' : Result Reading CardFault) → s ≡ s' → t ≡ t' → m ≡ m' → b ≡ b' → o ≡ o'
+    → finished s t m b o ≡ finished s' t' m' b' o'
 parts-same s s' t t' m m' b b' o o' e1 e2 e3 e4 e5 =
-    ap (λ x. finished x t m b o) e1 ∙ ap (λ x. finished s' x m b o) e2 ∙ ap (λ x. finished s' t' x b o) e3 ∙ ap (λ x. finished s' t' m' x o) e4 ∙ ap (λ x. finished s' t' m' b' x) e5
+    ap (λ x. finished x t m b o) e1 ∙ ap (λ x. finished s' x m b o) e2 ∙ ap (λ x. finished s' t' x b o) e3 ∙ ap (λ x. finished s' t' m' x o) e4
+        ∙ ap (λ x. finished s' t' m' b' x) e5
 
 done-same : (job : JobSeen) (d d' : FinishedSeen) → IsDone job d → IsDone job d' → d.outcome ≡ d'.outcome → d ≡ d'
 done-same job d d' i i' same =
-    let meters : d.meter ≡ d'.meter = measured-same job.meter d.meter d'.meter d.outcome i.measured (subst (λ (o : Result Reading CardFault). IsMeasured job.meter o d'.meter) (sym same) i'.measured) in
-    parts-same d.slot d'.slot d.ticket d'.ticket d.meter d'.meter d.before d'.before d.outcome d'.outcome (i.slot ∙ sym i'.slot) (i.ticket ∙ sym i'.ticket) meters (i.before ∙ sym i'.before) same
+    let meters : d.meter ≡ d'.meter =
+        measured-same job.meter d.meter d'.meter d.outcome i.measured (subst (λ (o : Result Reading CardFault).
+        IsMeasured job.meter o d'.meter) (sym same) i'.measured) in
+    parts-same d.slot d'.slot d.ticket d'.ticket d.meter d'.meter d.before d'.before d.outcome d'.outcome (i.slot ∙ sym i'.slot) (i.ticket
+        ∙ sym i'.ticket) meters (i.before ∙ sym i'.before) same
 
 head-same : (o o' : Result Reading CardFault) (os os' : List (Result Reading CardFault)) → o ∷ os ≡ o' ∷ os' → o ≡ o'
 head-same o o' os os' is = cc (is)
@@ -68,7 +75,8 @@ tail-same : (o o' : Result Reading CardFault) (os os' : List (Result Reading Car
 tail-same o o' os os' is = cc (is)
 
 -- what is told of one piece
-told-same : (piece : WorkView) (a a' : AskView) (os os' : List (Result Reading CardFault)) → Tells piece a → Tells piece a' → measured a ++ os ≡ measured a' ++ os' → (a ≡ a') × (os ≡ os')
+told-same : (piece : WorkView) (a a' : AskView) (os os' : List (Result Reading CardFault)) → Tells piece a → Tells piece a' → measured a ++ os ≡ measured a'
+    ++ os' → (a ≡ a') × (os ≡ os')
 told-same (Pauses ticket micros) a a' os os' is is' same =
     let both : a ≡ a' = is ∙ sym is' in
     (both, (subst (λ (x : AskView). measured x ++ os ≡ os') is (subst (λ (x : AskView). measured a ++ os ≡ measured x ++ os') is' same)))
@@ -79,13 +87,15 @@ told-same (Measures job) a a' os os' (done, ran, is) (done', ran', is') same =
     (is ∙ ap AskFinished one ∙ sym is', tail-same done.outcome done'.outcome os os' all)
 
 -- an ask
-asked-same : StepIsDetermined → (d d' : DeskSeen) (ask ask' : SessionAsk) (r r' : SessionAnswer) (q q' : DeskSeen) → d ≡ d' → ask ≡ ask' → TellsPlainly r → TellsPlainly r' → KeepsKeys ask r → KeepsKeys ask' r' → Answers [] d ask r q → Answers [] d' ask' r' q' → (r ≡ r') × (q ≡ q')
+asked-same : StepIsDetermined → (d d' : DeskSeen) (ask ask' : SessionAsk) (r r' : SessionAnswer) (q q' : DeskSeen) → d ≡ d' → ask ≡ ask' → TellsPlainly r
+    → TellsPlainly r' → KeepsKeys ask r → KeepsKeys ask' r' → Answers [] d ask r q → Answers [] d' ask' r' q' → (r ≡ r') × (q ≡ q')
 asked-same once d d' ask ask' r r' q q' desks asks plain plain' keys keys' a a' =
     let key = subst (λ (x : SessionAsk). KeepsKey d.panel (AskSession x) (SaysSession r' a'.brings)) (sym asks) (keys' d.panel a'.brings) in
     let here : Step d.panel (AskSession ask) a'.failed (SaysSession r' a'.brings) a'.after =
     subst (λ (x : SessionAsk). Step d.panel (AskSession x) a'.failed (SaysSession r' a'.brings) a'.after) (sym asks)
     (subst (λ (x : DeskSeen). Step x.panel (AskSession ask') a'.failed (SaysSession r' a'.brings) a'.after) (sym desks) a'.step) in
-    let one = once d.panel a.after a'.after (AskSession ask) a.failed a'.failed (SaysSession r a.brings) (SaysSession r' a'.brings) a.step here (plain a.brings) (plain' a'.brings) (keys d.panel a.brings) key in (
+    let one = once d.panel a.after a'.after (AskSession ask) a.failed a'.failed (SaysSession r a.brings) (SaysSession r' a'.brings) a.step here (plain a.brings)
+        (plain' a'.brings) (keys d.panel a.brings) key in (
       same-answer r r' a.brings a'.brings one.0,
       keeps-same (record d { panel = a.after }) (record d' { panel = a'.after }) a.brings a'.brings q q' (panels-same d d' a.after a'.after desks one.1)
           (same-work r r' a.brings a'.brings one.0) a.keeps a'.keeps,
@@ -103,23 +113,30 @@ told-keeps (Pauses ticket micros) p ask a is = subst (λ (x : AskView). KeepsKey
 told-keeps (Measures job) p ask a (done, ran, is) = subst (λ (x : AskView). KeepsKey p x a) (sym is) tt
 
 -- a wait in which one piece is carried out
-worked-same : StepIsDetermined → (d d' q q' : DeskSeen) (c c' : Carried) (os os' : List (Result Reading CardFault)) → d ≡ d' → IsPlain c.answer → IsPlain c'.answer → measured c.ask ++ os ≡ measured c'.ask ++ os' → Works c [] d q → Works c' [] d' q' → (q ≡ q') × (os ≡ os')
+worked-same : StepIsDetermined → (d d' q q' : DeskSeen) (c c' : Carried) (os os' : List (Result Reading CardFault)) → d ≡ d' → IsPlain c.answer
+    → IsPlain c'.answer → measured c.ask ++ os ≡ measured c'.ask ++ os' → Works c [] d q → Works c' [] d' q' → (q ≡ q') × (os ≡ os')
 worked-same once d d' q q' c c' os os' desks plain plain' outcomes w w' =
     let queues : w.piece ∷ w.others ≡ w'.piece ∷ w'.others = sym w.oldest ∙ ap (λ (x : DeskSeen). x.work) desks ∙ w'.oldest in
-    let tells : Tells w.piece c'.ask = subst (λ (x : WorkView). Tells x c'.ask) (sym (first-piece w.piece w'.piece w.others w'.others queues)) w'.carries.tells in
+    let tells : Tells w.piece c'.ask =
+        subst (λ (x : WorkView). Tells x c'.ask) (sym (first-piece w.piece w'.piece w.others w'.others queues)) w'.carries.tells in
     let told = told-same w.piece c.ask c'.ask os os' w.carries.tells tells outcomes in
     let here : Step d.panel c.ask c'.failed c'.answer c'.after =
-    subst (λ (x : AskView). Step d.panel x c'.failed c'.answer c'.after) (sym told.0) (subst (λ (x : DeskSeen). Step x.panel c'.ask c'.failed c'.answer c'.after) (sym desks) w'.carries.step) in
-    let one = once d.panel c.after c'.after c.ask c.failed c'.failed c.answer c'.answer w.carries.step here plain plain' (told-keeps w.piece d.panel c.ask c.answer w.carries.tells) (told-keeps w.piece d.panel c.ask c'.answer w.carries.tells) in (
+    subst (λ (x : AskView). Step d.panel x c'.failed c'.answer c'.after) (sym told.0) (subst (λ (x : DeskSeen).
+        Step x.panel c'.ask c'.failed c'.answer c'.after) (sym desks) w'.carries.step) in
+    let one = once d.panel c.after c'.after c.ask c.failed c'.failed c.answer c'.answer w.carries.step here plain plain'
+        (told-keeps w.piece d.panel c.ask c.answer w.carries.tells) (told-keeps w.piece d.panel c.ask c'.answer w.carries.tells) in (
       keeps-same (record d { panel = c.after; work = w.others }) (record d' { panel = c'.after; work = w'.others }) (brought c.answer) (brought c'.answer) q q'
-          (works-same (record d { panel = c.after }) (record d' { panel = c'.after }) w.others w'.others (panels-same d d' c.after c'.after desks one.1) (other-pieces w.piece w'.piece w.others w'.others queues))
+          (works-same (record d { panel = c.after }) (record d' { panel =
+              c'.after }) w.others w'.others (panels-same d d' c.after c'.after desks one.1) (other-pieces w.piece w'.piece w.others w'.others queues))
           (ap brought one.0) w.keeps w'.keeps,
       told.1,
     )
 
 -- a wait
-waited-same : StepIsDetermined → (d d' q q' : DeskSeen) (limit limit' : Option ℕ) (w w' : Wake) (cs cs' : List Carried) (os os' : List (Result Reading CardFault)) → d ≡ d' → limit ≡ limit' → IsSmooth (Waited limit w) cs
-    → IsSmooth (Waited limit' w') cs' → outcomes_in cs ++ os ≡ outcomes_in cs' ++ os' → PassesBy cs d (Waited limit w) q → PassesBy cs' d' (Waited limit' w') q' → (w ≡ w') × (q ≡ q') × (os ≡ os')
+waited-same : StepIsDetermined → (d d' q q' : DeskSeen) (limit limit' : Option ℕ) (w w' : Wake) (cs cs' : List Carried)
+    (os os' : List (Result Reading CardFault)) → d ≡ d' → limit ≡ limit' → IsSmooth (Waited limit w) cs
+    → IsSmooth (Waited limit' w') cs' → outcomes_in cs ++ os ≡ outcomes_in cs' ++ os' → PassesBy cs d (Waited limit w) q → PassesBy cs' d' (Waited limit' w') q'
+        → (w ≡ w') × (q ≡ q') × (os ≡ os')
 waited-same once d d' q q' limit limit' (Again left) w' [] cs' os os' desks limits m n outcomes p p' = absurd p
 waited-same once d d' q q' limit limit' (Again left) w' (a ∷ b ∷ cs) cs' os os' desks limits m n outcomes p p' = absurd (omega arith)
 waited-same once d d' q q' limit limit' (Again left) (Again left') (c ∷ []) [] os os' desks limits m n outcomes p p' = absurd p'
@@ -139,7 +156,8 @@ waited-same once d d' q q' limit limit' Over Over [] [] os os' desks limits m n 
 waited-same once d d' q q' limit limit' Over Over [] (c' ∷ cs') os os' desks limits m n outcomes p p' = absurd p'
 
 -- a look at a session's status
-polled-same : (d d' q q' : DeskSeen) (sid sid' : Sid) (v v' : View) (cs cs' : List Carried) (os os' : List (Result Reading CardFault)) → d ≡ d' → sid ≡ sid' → outcomes_in cs ++ os ≡ outcomes_in cs' ++ os'
+polled-same : (d d' q q' : DeskSeen) (sid sid' : Sid) (v v' : View) (cs cs' : List Carried) (os os' : List (Result Reading CardFault)) → d ≡ d' → sid ≡ sid'
+    → outcomes_in cs ++ os ≡ outcomes_in cs' ++ os'
     → PassesBy cs d (Polled sid v) q → PassesBy cs' d' (Polled sid' v') q' → (v ≡ v') × (q ≡ q') × (os ≡ os')
 polled-same d d' q q' sid sid' v v' [] [] os os' desks sids outcomes p p' = (
   p.0 ∙ ap (λ (x : DeskSeen). view_of x sid) desks ∙ ap (λ (x : Sid). view_of d' x) sids ∙ sym p'.0,
@@ -150,10 +168,12 @@ polled-same d d' q q' sid sid' v v' (c ∷ cs) cs' os os' desks sids outcomes p 
 polled-same d d' q q' sid sid' v v' [] (c' ∷ cs') os os' desks sids outcomes p p' = absurd p'
 
 -- a note
-noted-same : (d d' q q' : DeskSeen) (sid sid' : Sid) (m m' : Bool) (cs cs' : List Carried) (os os' : List (Result Reading CardFault)) → d ≡ d' → sid ≡ sid' → m ≡ m' → outcomes_in cs ++ os ≡ outcomes_in cs' ++ os'
+noted-same : (d d' q q' : DeskSeen) (sid sid' : Sid) (m m' : Bool) (cs cs' : List Carried) (os os' : List (Result Reading CardFault)) → d ≡ d' → sid ≡ sid'
+    → m ≡ m' → outcomes_in cs ++ os ≡ outcomes_in cs' ++ os'
     → PassesBy cs d (Noted sid m) q → PassesBy cs' d' (Noted sid' m') q' → (q ≡ q') × (os ≡ os')
 noted-same d d' q q' sid sid' m m' [] [] os os' desks sids notes outcomes p p' = (
-  p ∙ ap (λ (x : DeskSeen). record x { available = with_note x.available sid m }) desks ∙ ap (λ (x : Sid). record d' { available = with_note d'.available x m }) sids
+  p ∙ ap (λ (x : DeskSeen). record x { available = with_note x.available sid m }) desks
+      ∙ ap (λ (x : Sid). record d' { available = with_note d'.available x m }) sids
       ∙ ap (λ (x : Bool). record d' { available = with_note d'.available sid' x }) notes ∙ sym p',
   outcomes,
 )
@@ -164,13 +184,16 @@ noted-same d d' q q' sid sid' m m' [] (c' ∷ cs') os os' desks sids notes outco
 abbrev SameAfter : Entry → Entry → DeskSeen → DeskSeen → List (Result Reading CardFault) → List (Result Reading CardFault) → Type 0 → Type 0
 SameAfter e e' q q' os os' follows = (e ≡ e') × (q ≡ q') × (os ≡ os') × follows
 
-passed-same : StepIsDetermined → (d d' q q' : DeskSeen) (e e' : Entry) (cs cs' : List Carried) (os os' : List (Result Reading CardFault)) (follows : Type 0) → d ≡ d' → IsSmooth e cs → IsSmooth e' cs'
+passed-same : StepIsDetermined → (d d' q q' : DeskSeen) (e e' : Entry) (cs cs' : List Carried) (os os' : List (Result Reading CardFault)) (follows : Type 0)
+    → d ≡ d' → IsSmooth e cs → IsSmooth e' cs'
     → outcomes_in cs ++ os ≡ outcomes_in cs' ++ os' → PassesBy cs d e q → PassesBy cs' d' e' q' → SameCall e e' follows → SameAfter e e' q q' os os' follows
 passed-same once d d' q q' (Asked a r) (Asked a' r') cs cs' os os' follows desks m n outcomes p p' (asks, on) =
     let none : cs ≡ [] = m.1 in
     let none' : cs' ≡ [] = n.1 in
-    let one = asked-same once d d' a a' r r' q q' desks asks m.0 n.0 m.2 n.2 (subst (λ (x : List Carried). Answers x d a r q) none p) (subst (λ (x : List Carried). Answers x d' a' r' q') none' p') in
-    let left : os ≡ os' = subst (λ (x : List Carried). outcomes_in x ++ os ≡ os') none (subst (λ (x : List Carried). outcomes_in cs ++ os ≡ outcomes_in x ++ os') none' outcomes) in
+    let one = asked-same once d d' a a' r r' q q' desks asks m.0 n.0 m.2 n.2 (subst (λ (x : List Carried).
+        Answers x d a r q) none p) (subst (λ (x : List Carried). Answers x d' a' r' q') none' p') in
+    let left : os ≡ os' = subst (λ (x : List Carried). outcomes_in x
+        ++ os ≡ os') none (subst (λ (x : List Carried). outcomes_in cs ++ os ≡ outcomes_in x ++ os') none' outcomes) in
     (cc (asks, one.0), one.1, left, on one.0)
 passed-same once d d' q q' (Waited l w) (Waited l' w') cs cs' os os' follows desks m n outcomes p p' (limits, on) =
     let one = waited-same once d d' q q' l l' w w' cs cs' os os' desks limits m n outcomes p p' in
@@ -183,27 +206,32 @@ passed-same once d d' q q' (Noted sid b) (Noted sid' b') cs cs' os os' follows d
     (cc (sids, notes), one.0, one.1, on)
 passed-same once d d' q q' e e' cs cs' os os' follows desks m n outcomes p p' same = absurd same
 
-same-run : StepIsDetermined → {T : Type 0} (d d' q q' : DeskSeen) (b b' : T) (t t' : List Entry) (l : Leads CorePasses d t q) (l' : Leads CorePasses d' t' q') → d ≡ d' → AllSmooth t (carried_of d t q l) → AllSmooth t' (carried_of d' t' q' l')
+same-run : StepIsDetermined → {T : Type 0} (d d' q q' : DeskSeen) (b b' : T) (t t' : List Entry) (l : Leads CorePasses d t q) (l' : Leads CorePasses d' t' q')
+    → d ≡ d' → AllSmooth t (carried_of d t q l) → AllSmooth t' (carried_of d' t' q' l')
     → outcomes_of (carried_of d t q l) ≡ outcomes_of (carried_of d' t' q' l') → SameTalk b b' t t' → (t ≡ t') × (b ≡ b') × (q ≡ q')
 same-run once d d' q q' b b' [] [] l l' desks m n outcomes s = (refl, s, l ∙ desks ∙ sym l')
 same-run once d d' q q' b b' [] (e ∷ t') l l' desks m n outcomes s = absurd s
 same-run once d d' q q' b b' (e ∷ t) [] l l' desks m n outcomes s = absurd s
 same-run once d d' q q' b b' (e ∷ t) (e' ∷ t') (mid, (cs, p), l) (mid', (cs', p'), l') desks m n outcomes s =
-    let one = passed-same once d d' mid mid' e e' cs cs' (outcomes_of (carried_of mid t q l)) (outcomes_of (carried_of mid' t' q' l')) (SameTalk b b' t t') desks m.0 n.0 outcomes p p' s in
+    let one = passed-same once d d' mid mid' e e' cs cs' (outcomes_of (carried_of mid t q l)) (outcomes_of (carried_of mid' t' q' l')) (SameTalk b b' t t')
+        desks m.0 n.0 outcomes p p' s in
     let rest = same-run once mid mid' q q' b b' t t' l l' one.1 m.1 n.1 one.2 one.3 in
     (cc (one.0, rest.0), rest.1, rest.2)
 
 pub core-talk-determined : StepIsDetermined → TalkIsDetermined → CoreTalkIsDetermined
 core-talk-determined once talk sid d e e' macros kept kept' message bytes bytes' t t' ample ample' smooth smooth' outcomes =
-    let one = same-run once d d e e' (left bytes kept) (left bytes' kept') t.trace t'.trace t.leads t'.leads refl smooth smooth' outcomes (talk sid macros (strip_last 10 message) t.trace t'.trace bytes bytes' kept kept' t.talks t'.talks ample ample') in
+    let one = same-run once d d e e' (left bytes kept) (left bytes' kept') t.trace t'.trace t.leads t'.leads refl smooth smooth' outcomes
+        (talk sid macros (strip_last 10 message) t.trace t'.trace bytes bytes' kept kept' t.talks t'.talks ample ample') in
     (one.0, ap (λ (x : Left). x.bytes) one.1, ap (λ (x : Left). x.macros) one.1, one.2)
 
 -- two rests wait alike until one is over
-rests-alike : (n m : ℕ) → SameTalk {T = ℕ} 0 0 (replicate n (Waited None (Again None)) ++ Waited None Over ∷ []) (replicate m (Waited None (Again None)) ++ Waited None Over ∷ [])
+rests-alike : (n m : ℕ) → SameTalk {T = ℕ} 0 0 (replicate n (Waited None (Again None)) ++ Waited None Over ∷ []) (replicate m (Waited None (Again None))
+    ++ Waited None Over ∷ [])
 rests-alike zero zero = (refl, λ e. refl)
 rests-alike zero (suc m) = (refl, λ e. absurd (cc (e)))
 rests-alike (suc n) zero = (refl, λ e. absurd (cc (e)))
 rests-alike (suc n) (suc m) = (refl, λ e. rests-alike n m)
 
 pub core-rest-determined : StepIsDetermined → CoreRestIsDetermined
-core-rest-determined once d e e' r r' smooth smooth' outcomes = (same-run once d d e e' 0 0 (waits_of r) (waits_of r') r.leads r'.leads refl smooth smooth' outcomes (rests-alike r.waits r'.waits)).2
+core-rest-determined once d e e' r r' smooth smooth' outcomes =
+    (same-run once d d e e' 0 0 (waits_of r) (waits_of r') r.leads r'.leads refl smooth smooth' outcomes (rests-alike r.waits r'.waits)).2

@@ -1,5 +1,6 @@
 -- A talk leaves no choice, where a text is read in one way.
-use Rattle.std.proofs.Common.{◌≡◌, ℕ, ◌+◌, Bool, true, false, MatchBool, List, [], ◌∷◌, ◌++◌, inl, inr, length, Option, Some, None, Result, Ok, Err, refl, ap, sym, ◌∙◌, subst}
+use Rattle.std.proofs.Common.{◌≡◌, ℕ, ◌+◌, Bool, true, false, MatchBool, List, [], ◌∷◌, ◌++◌, inl, inr, length, Option, Some, None, Result, Ok, Err, refl, ap}
+use Rattle.std.proofs.Common.{sym, ◌∙◌, subst}
 use Rattle.std.specs.Prelude.{◌==◌, nat_lt, slice_index_or, ◌-◌, ◌<◌, ◌⊎◌}
 use Rattle.std.proofs.Common.{⊎_elim}
 use Rattle.std.proofs.lemmas.Bool.{cases_order}
@@ -10,7 +11,8 @@ use Rattle.sw_lex.specs.Unit.{UnitView, IsUnit, IsRefused, IsBlank}
 use Rattle.sw_lex.specs.Meaning.{Nodes, Resolves}
 use Rattle.sw_verify.specs.declared.snapshot.Snapshot.{Snapshot as Taken}
 use Rattle.sw_verify.specs.declared.refusal.Refusal.{Refusal}
-use Rattle.sw_verify.specs.declared.refusal.Refusal.TheVariants.{EmptyList, NoChannel, NoMeter, GroupClash, TooManyReadings, BadNesting, BadJump, LeftClosed, NotClosed, NoMemory}
+use Rattle.sw_verify.specs.declared.refusal.Refusal.TheVariants.{EmptyList, NoChannel, NoMeter, GroupClash, TooManyReadings, BadNesting, BadJump, LeftClosed}
+use Rattle.sw_verify.specs.declared.refusal.Refusal.TheVariants.{NotClosed, NoMemory}
 use Rattle.sw_verify.specs.Check.{IsReady, IsFirst, IsRefused, number_of, error_of}
 use Rattle.sw_macro.specs.Table.{Table}
 use Rattle.sw_macro.specs.Expansion.{calls, Expands}
@@ -27,7 +29,9 @@ use Rattle.sw_session.specs.declared.talker.After.TheVariants.{Goes, Drops, Ends
 use Rattle.sw_session.specs.Trace.{Entry, Asked, Waited}
 use Rattle.sw_session.specs.Script.{Ending, Complete, Refuses, Unread, IsScript}
 use Rattle.sw_session.specs.Macros.{Told}
-use Rattle.sw_session.specs.Talk.{Queues, Settles, Begins, BeginsBy, Begun, begun, effect_of, Reports, StartsScan, Plans, table_reset, Concludes, Serves, Standing, standing, Proceeds, Way, Talks, Itself, Unfolds, IsExpansion, Expanded, TalksUnits, Overruns, queued, after_of, has_answers, written, longest, turns}
+use Rattle.sw_session.specs.Talk.{Queues, Settles, Begins, BeginsBy, Begun, begun, effect_of, Reports, StartsScan, Plans, table_reset, Concludes, Serves}
+use Rattle.sw_session.specs.Talk.{Standing, standing, Proceeds, Way, Talks, Itself, Unfolds, IsExpansion, Expanded, TalksUnits, Overruns, queued, after_of}
+use Rattle.sw_session.specs.Talk.{has_answers, written, longest, turns}
 use Rattle.sw_session.specs.Law.{IsAmple, AllAmple, SameTalk, left, TalkIsDetermined}
 use Rattle.sw_session.proofs.Acted.{acts-same, written_so}
 
@@ -35,7 +39,8 @@ use Rattle.sw_session.proofs.Acted.{acts-same, written_so}
 abbrev Rests : {T : Type 0} → T → T → List Entry → List Entry → Type 0
 Rests b b' r r' = AllAmple r → AllAmple r' → SameTalk b b' r r'
 
-queues-same : {T : Type 0} (b b' : T) (sid : Sid) (e : ScpiError) (t t' r r' : List Entry) (f f' : SessionAnswer) → Queues sid e t f r → Queues sid e t' f' r' → (f ≡ f' → Rests b b' r r') → Rests b b' t t'
+queues-same : {T : Type 0} (b b' : T) (sid : Sid) (e : ScpiError) (t t' r r' : List Entry) (f f' : SessionAnswer) → Queues sid e t f r → Queues sid e t' f' r'
+    → (f ≡ f' → Rests b b' r r') → Rests b b' t t'
 queues-same b b' sid e (Asked a x ∷ t) (Asked a' x' ∷ t') r r' f f' (is, fin, left) (is', fin', left') next m n =
     (is ∙ sym is', λ same. rw (← left, ← left') (next (fin ∙ ap (queued e) same ∙ sym fin') (rw left m.1) (rw left' n.1)))
 queues-same b b' sid e (Asked a x ∷ t) [] r r' f f' p q next m n = absurd q
@@ -67,7 +72,8 @@ settles-asks sid turn ask a (Refused e) f t r p = p.0
 settles-asks sid turn ask a (Worn h) f t r p = p.0
 settles-asks sid turn ask a (Snapshot s) f t r p = p.0
 
-settles-final : (sid : Sid) (turn : ℕ) (ask a : SessionAsk) (x f : SessionAnswer) (t r : List Entry) → ((h : SessionAsk) → x ≡ Hold h → ⊥) → Settles sid turn ask (Asked a x ∷ t) f r → (f ≡ x) × (r ≡ t)
+settles-final : (sid : Sid) (turn : ℕ) (ask a : SessionAsk) (x f : SessionAnswer) (t r : List Entry) → ((h : SessionAsk) → x ≡ Hold h → ⊥)
+    → Settles sid turn ask (Asked a x ∷ t) f r → (f ≡ x) × (r ≡ t)
 settles-final sid turn ask a (Hold h) f t r differs p = absurd (differs h refl)
 settles-final sid turn ask a (Joined s) f t r differs p = (p.1, p.2)
 settles-final sid turn ask a Full f t r differs p = (p.1, p.2)
@@ -83,7 +89,8 @@ settles-final sid turn ask a (Worn h) f t r differs p = (p.1, p.2)
 settles-final sid turn ask a (Snapshot s) f t r differs p = (p.1, p.2)
 
 -- an answer that is no hold
-told-same : {T : Type 0} (b b' : T) (sid : Sid) (turn : ℕ) (ask a : SessionAsk) (x : SessionAnswer) (t t' r r' : List Entry) (f f' : SessionAnswer) → ((h : SessionAsk) → x ≡ Hold h → ⊥) → Settles sid turn ask (Asked a x ∷ t) f r → Settles sid turn ask t' f' r'
+told-same : {T : Type 0} (b b' : T) (sid : Sid) (turn : ℕ) (ask a : SessionAsk) (x : SessionAnswer) (t t' r r' : List Entry) (f f' : SessionAnswer)
+    → ((h : SessionAsk) → x ≡ Hold h → ⊥) → Settles sid turn ask (Asked a x ∷ t) f r → Settles sid turn ask t' f' r'
     → (f ≡ f' → Rests b b' r r') → Rests b b' (Asked a x ∷ t) t'
 told-same b b' sid turn ask a x t (Asked a' x' ∷ t') r r' f f' differs p q next m n =
     let s = settles-final sid turn ask a x f t r differs p in (
@@ -100,7 +107,8 @@ abbrev Waits : Sid → ℕ → SessionAsk → Wake → List Entry → SessionAns
 Waits sid turn ask Over t f r = Queues sid SettingsConflict t f r
 Waits sid turn ask (Again left) t f r = MatchBool (turn + 1 == turns) (Queues sid SettingsConflict t f r) (Settles sid (turn + 1) ask t f r)
 
-settles-waits : (sid : Sid) (turn : ℕ) (ask a h : SessionAsk) (limit : Option ℕ) (w : Wake) (f : SessionAnswer) (t r : List Entry) → Settles sid turn ask (Asked a (Hold h) ∷ Waited limit w ∷ t) f r
+settles-waits : (sid : Sid) (turn : ℕ) (ask a h : SessionAsk) (limit : Option ℕ) (w : Wake) (f : SessionAnswer) (t r : List Entry)
+    → Settles sid turn ask (Asked a (Hold h) ∷ Waited limit w ∷ t) f r
     → (limit ≡ None) × Waits sid turn ask w t f r
 settles-waits sid turn ask a h None Over f t r p = (refl, p.1)
 settles-waits sid turn ask a h None (Again left) f t r p = (refl, p.1)
@@ -127,34 +135,48 @@ either-way : (c : Bool) (P Q P' Q' : Type 0) {G : Type 0} → MatchBool c P Q �
 either-way true P Q P' Q' p p' one other = one p p'
 either-way false P Q P' Q' p p' one other = other p p'
 
-settles-same : {T : Type 0} (b b' : T) (sid : Sid) (turn : ℕ) (ask : SessionAsk) (t t' r r' : List Entry) (f f' : SessionAnswer) → Settles sid turn ask t f r → Settles sid turn ask t' f' r' → (f ≡ f' → Rests b b' r r') → Rests b b' t t'
+settles-same : {T : Type 0} (b b' : T) (sid : Sid) (turn : ℕ) (ask : SessionAsk) (t t' r r' : List Entry) (f f' : SessionAnswer) → Settles sid turn ask t f r
+    → Settles sid turn ask t' f' r' → (f ≡ f' → Rests b b' r r') → Rests b b' t t'
 settles-same b b' sid turn ask (Asked a (Hold h) ∷ Waited None Over ∷ t) t' r r' f f' p q next =
     hold-same b b' sid turn ask a h Over t t' r' f' p.0 (λ u s. queues-same b b' sid SettingsConflict t u r r' f f' p.1 s next) q
 settles-same b b' sid turn ask (Asked a (Hold h) ∷ Waited None (Again left) ∷ t) t' r r' f f' p q next =
     hold-same b b' sid turn ask a h (Again left) t t' r' f' p.0
-    (λ u s. either-way (turn + 1 == turns) (Queues sid SettingsConflict t f r) (Settles sid (turn + 1) ask t f r) (Queues sid SettingsConflict u f' r') (Settles sid (turn + 1) ask u f' r') p.1 s
+    (λ u s. either-way (turn + 1 == turns) (Queues sid SettingsConflict t f r) (Settles sid (turn + 1) ask t f r) (Queues sid SettingsConflict u f' r')
+        (Settles sid (turn + 1) ask u f' r') p.1 s
     (λ k k'. queues-same b b' sid SettingsConflict t u r r' f f' k k' next)
     (λ k k'. settles-same b b' sid (turn + 1) ask t u r r' f f' k k' next)) q
 settles-same b b' sid turn ask (Asked a (Hold h) ∷ []) t' r r' f f' p q next = absurd p
 settles-same b b' sid turn ask (Asked a (Hold h) ∷ entry ∷ t) t' r r' f f' p q next = absurd p
-settles-same b b' sid turn ask (Asked a (Joined s) ∷ t) t' r r' f f' p q next = told-same b b' sid turn ask a (Joined s) t t' r r' f f' (λ h is. absurd (cc (is))) p q next
+settles-same b b' sid turn ask (Asked a (Joined s) ∷ t) t' r r' f f' p q next =
+    told-same b b' sid turn ask a (Joined s) t t' r r' f f' (λ h is. absurd (cc (is))) p q next
 settles-same b b' sid turn ask (Asked a Full ∷ t) t' r r' f f' p q next = told-same b b' sid turn ask a Full t t' r r' f f' (λ h is. absurd (cc (is))) p q next
-settles-same b b' sid turn ask (Asked a Missed ∷ t) t' r r' f f' p q next = told-same b b' sid turn ask a Missed t t' r r' f f' (λ h is. absurd (cc (is))) p q next
-settles-same b b' sid turn ask (Asked a (Max size) ∷ t) t' r r' f f' p q next = told-same b b' sid turn ask a (Max size) t t' r r' f f' (λ h is. absurd (cc (is))) p q next
-settles-same b b' sid turn ask (Asked a (Lock code) ∷ t) t' r r' f f' p q next = told-same b b' sid turn ask a (Lock code) t t' r r' f f' (λ h is. absurd (cc (is))) p q next
-settles-same b b' sid turn ask (Asked a (Info exclusive holders) ∷ t) t' r r' f f' p q next = told-same b b' sid turn ask a (Info exclusive holders) t t' r r' f f' (λ h is. absurd (cc (is))) p q next
-settles-same b b' sid turn ask (Asked a Stranger ∷ t) t' r r' f f' p q next = told-same b b' sid turn ask a Stranger t t' r r' f f' (λ h is. absurd (cc (is))) p q next
-settles-same b b' sid turn ask (Asked a Broken ∷ t) t' r r' f f' p q next = told-same b b' sid turn ask a Broken t t' r r' f f' (λ h is. absurd (cc (is))) p q next
-settles-same b b' sid turn ask (Asked a (Done text) ∷ t) t' r r' f f' p q next = told-same b b' sid turn ask a (Done text) t t' r r' f f' (λ h is. absurd (cc (is))) p q next
-settles-same b b' sid turn ask (Asked a (Refused e) ∷ t) t' r r' f f' p q next = told-same b b' sid turn ask a (Refused e) t t' r r' f f' (λ h is. absurd (cc (is))) p q next
-settles-same b b' sid turn ask (Asked a (Worn h) ∷ t) t' r r' f f' p q next = told-same b b' sid turn ask a (Worn h) t t' r r' f f' (λ h is. absurd (cc (is))) p q next
-settles-same b b' sid turn ask (Asked a (Snapshot s) ∷ t) t' r r' f f' p q next = told-same b b' sid turn ask a (Snapshot s) t t' r r' f f' (λ h is. absurd (cc (is))) p q next
+settles-same b b' sid turn ask (Asked a Missed ∷ t) t' r r' f f' p q next =
+    told-same b b' sid turn ask a Missed t t' r r' f f' (λ h is. absurd (cc (is))) p q next
+settles-same b b' sid turn ask (Asked a (Max size) ∷ t) t' r r' f f' p q next =
+    told-same b b' sid turn ask a (Max size) t t' r r' f f' (λ h is. absurd (cc (is))) p q next
+settles-same b b' sid turn ask (Asked a (Lock code) ∷ t) t' r r' f f' p q next =
+    told-same b b' sid turn ask a (Lock code) t t' r r' f f' (λ h is. absurd (cc (is))) p q next
+settles-same b b' sid turn ask (Asked a (Info exclusive holders) ∷ t) t' r r' f f' p q next =
+    told-same b b' sid turn ask a (Info exclusive holders) t t' r r' f f' (λ h is. absurd (cc (is))) p q next
+settles-same b b' sid turn ask (Asked a Stranger ∷ t) t' r r' f f' p q next =
+    told-same b b' sid turn ask a Stranger t t' r r' f f' (λ h is. absurd (cc (is))) p q next
+settles-same b b' sid turn ask (Asked a Broken ∷ t) t' r r' f f' p q next =
+    told-same b b' sid turn ask a Broken t t' r r' f f' (λ h is. absurd (cc (is))) p q next
+settles-same b b' sid turn ask (Asked a (Done text) ∷ t) t' r r' f f' p q next =
+    told-same b b' sid turn ask a (Done text) t t' r r' f f' (λ h is. absurd (cc (is))) p q next
+settles-same b b' sid turn ask (Asked a (Refused e) ∷ t) t' r r' f f' p q next =
+    told-same b b' sid turn ask a (Refused e) t t' r r' f f' (λ h is. absurd (cc (is))) p q next
+settles-same b b' sid turn ask (Asked a (Worn h) ∷ t) t' r r' f f' p q next =
+    told-same b b' sid turn ask a (Worn h) t t' r r' f f' (λ h is. absurd (cc (is))) p q next
+settles-same b b' sid turn ask (Asked a (Snapshot s) ∷ t) t' r r' f f' p q next =
+    told-same b b' sid turn ask a (Snapshot s) t t' r r' f f' (λ h is. absurd (cc (is))) p q next
 settles-same b b' sid turn ask [] t' r r' f f' p q next = absurd p
 settles-same b b' sid turn ask (entry ∷ t) t' r r' f f' p q next = absurd p
 
 -- a refusal by its number
 abbrev refusal_at : ℕ → Refusal
-refusal_at n = slice_index_or (EmptyList ∷ NoChannel ∷ NoMeter ∷ GroupClash ∷ TooManyReadings ∷ BadNesting ∷ BadJump ∷ LeftClosed ∷ NotClosed ∷ []) (n - 1) NoMemory
+refusal_at n = slice_index_or (EmptyList ∷ NoChannel ∷ NoMeter ∷ GroupClash ∷ TooManyReadings ∷ BadNesting ∷ BadJump ∷ LeftClosed ∷ NotClosed ∷ []) (n - 1)
+    NoMemory
 
 at-number : (r : Refusal) → refusal_at (number_of r) ≡ r
 at-number EmptyList = refl
@@ -173,11 +195,13 @@ first-one : (s : Taken) (r r' : Refusal) → IsFirst r s → IsFirst r' s → r 
 first-one s r r' f f' =
     ⊎_elim (λ (e : number_of r ≡ number_of r'). sym (at-number r) ∙ ap refusal_at e ∙ at-number r')
     (λ (o : (number_of r < number_of r') ⊎ (number_of r' < number_of r)).
-    ⊎_elim (λ (l : number_of r < number_of r'). absurd (f'.none_before r l f.applies)) (λ (l : number_of r' < number_of r). absurd (f.none_before r' l f'.applies)) o)
+    ⊎_elim (λ (l : number_of r < number_of r'). absurd (f'.none_before r l f.applies)) (λ (l : number_of r' < number_of r).
+        absurd (f.none_before r' l f'.applies)) o)
     (cases_order (number_of r) (number_of r'))
 
 -- an answer that stands
-stands-same : {T : Type 0} (b b' : T) (x : SessionAnswer) (t t' r r' : List Entry) (f f' : SessionAnswer) → (f ≡ x) × (r ≡ t) → (f' ≡ x) × (r' ≡ t') → (f ≡ f' → Rests b b' r r') → Rests b b' t t'
+stands-same : {T : Type 0} (b b' : T) (x : SessionAnswer) (t t' r r' : List Entry) (f f' : SessionAnswer) → (f ≡ x) × (r ≡ t) → (f' ≡ x) × (r' ≡ t')
+    → (f ≡ f' → Rests b b' r r') → Rests b b' t t'
 stands-same b b' x t t' r r' f f' (fin, left) (fin', left') next = rw (← left, ← left') (next (fin ∙ sym fin'))
 
 -- the first refusal, where no error is queued for want of memory
@@ -188,7 +212,8 @@ refused-first sid s r t rest f m x q = elim x [
   | inr y ↦ absurd (no-loss sid t rest f m (subst (λ (k : Refusal). Queues sid (error_of k) t f rest) y.1 q))
 ]
 
-plans-same : {T : Type 0} (b b' : T) (sid : Sid) (told : SessionAnswer) (t t' r r' : List Entry) (f f' : SessionAnswer) → Plans sid told t f r → Plans sid told t' f' r' → (f ≡ f' → Rests b b' r r') → Rests b b' t t'
+plans-same : {T : Type 0} (b b' : T) (sid : Sid) (told : SessionAnswer) (t t' r r' : List Entry) (f f' : SessionAnswer) → Plans sid told t f r
+    → Plans sid told t' f' r' → (f ≡ f' → Rests b b' r r') → Rests b b' t t'
 plans-same b b' sid (Snapshot s) t t' r r' f f' p q next = λ m n. elim p [
   | inl k ↦ elim q [
     | inl k' ↦ settles-same b b' sid 0 (Ask.Start sid s) t t' r r' f f' k.1 k'.1 next m n
@@ -216,12 +241,14 @@ plans-same b b' sid (Refused e) t t' r r' f f' p q next = stands-same b b' (Refu
 plans-same b b' sid (Hold h) t t' r r' f f' p q next = stands-same b b' (Hold h) t t' r r' f f' p q next
 plans-same b b' sid (Worn h) t t' r r' f f' p q next = stands-same b b' (Worn h) t t' r r' f f' p q next
 
-starts-same : {T : Type 0} (b b' : T) (sid : Sid) (t t' r r' : List Entry) (f f' : SessionAnswer) → StartsScan sid t f r → StartsScan sid t' f' r' → (f ≡ f' → Rests b b' r r') → Rests b b' t t'
+starts-same : {T : Type 0} (b b' : T) (sid : Sid) (t t' r r' : List Entry) (f f' : SessionAnswer) → StartsScan sid t f r → StartsScan sid t' f' r'
+    → (f ≡ f' → Rests b b' r r') → Rests b b' t t'
 starts-same b b' sid t t' r r' f f' (told, mid, p, k) (told', mid', p', k') next =
     settles-same b b' sid 0 (Ask.Snapshot sid) t t' mid mid' told told' p p'
     (λ same. plans-same b b' sid told mid mid' r r' f f' k (subst (λ (x : SessionAnswer). Plans sid x mid' f' r') (sym same) k') next)
 
-reports-same : {T : Type 0} (b b' : T) (sid : Sid) (told : Told) (t t' r r' : List Entry) (f f' : SessionAnswer) → Reports sid told t f r → Reports sid told t' f' r' → (f ≡ f' → Rests b b' r r') → Rests b b' t t'
+reports-same : {T : Type 0} (b b' : T) (sid : Sid) (told : Told) (t t' r r' : List Entry) (f f' : SessionAnswer) → Reports sid told t f r
+    → Reports sid told t' f' r' → (f ≡ f' → Rests b b' r r') → Rests b b' t t'
 reports-same b b' sid (Ok text) t t' r r' f f' p q next = stands-same b b' (Done text) t t' r r' f f' p q next
 reports-same b b' sid (Err e) t t' r r' f f' p q next = queues-same b b' sid e t t' r r' f f' p q next
 
@@ -236,11 +263,14 @@ Onward b b' x x' = x.answer ≡ x'.answer → x.macros ≡ x'.macros → Rests b
 executes-same : {T : Type 0} (b b' : T) (sid : Sid) (answered : Bool) (command : Command) (macros : Table) (t t' : List Entry) (x x' : Begun)
     → BeginsBy IsOfMacros sid answered command macros t x → BeginsBy IsOfMacros sid answered command macros t' x' → Onward b b' x x' → Rests b b' t t'
 executes-same b b' sid answered command macros t t' x x' (told, acts, p) (told', acts', q) next = λ y z.
-    let one = acts-same command macros told told' x.macros x'.macros acts acts' (reports-ample sid told t x.rest x.answer y p) (reports-ample sid told' t' x'.rest x'.answer z q) in
-    reports-same b b' sid told t t' x.rest x'.rest x.answer x'.answer p (subst (λ (k : Told). Reports sid k t' x'.answer x'.rest) (sym one.0) q) (λ same. next same one.1) y z
+    let one = acts-same command macros told told' x.macros x'.macros acts acts' (reports-ample sid told t x.rest x.answer y p)
+        (reports-ample sid told' t' x'.rest x'.answer z q) in
+    reports-same b b' sid told t t' x.rest x'.rest x.answer x'.answer p (subst (λ (k : Told). Reports sid k t' x'.answer x'.rest) (sym one.0) q) (λ same.
+        next same one.1) y z
 
 asks-same : {T : Type 0} (b b' : T) (sid : Sid) (ask : SessionAsk) (macros : Table) (t t' : List Entry) (x x' : Begun)
-    → Settles sid 0 ask t x.answer x.rest × (x.macros ≡ macros) → Settles sid 0 ask t' x'.answer x'.rest × (x'.macros ≡ macros) → Onward b b' x x' → Rests b b' t t'
+    → Settles sid 0 ask t x.answer x.rest × (x.macros ≡ macros) → Settles sid 0 ask t' x'.answer x'.rest × (x'.macros ≡ macros) → Onward b b' x x'
+        → Rests b b' t t'
 asks-same b b' sid ask macros t t' x x' p q next =
     settles-same b b' sid 0 ask t t' x.rest x'.rest x.answer x'.answer p.0 q.0 (λ same. next same (p.1 ∙ sym q.1))
 
@@ -256,16 +286,20 @@ by-same b b' effect sid answered command macros t t' x x' p q next = asks-same b
 
 begins-same : {T : Type 0} (b b' : T) (sid : Sid) (answered : Bool) (command : Result Command ScpiError) (macros : Table) (t t' : List Entry) (x x' : Begun)
     → Begins sid answered command macros t x → Begins sid answered command macros t' x' → Onward b b' x x' → Rests b b' t t'
-begins-same b b' sid answered (Ok command) macros t t' x x' p q next = by-same b b' (effect_of (action_of answered command)) sid answered command macros t t' x x' p q next
-begins-same b b' sid answered (Err e) macros t t' x x' (p, is) (q, is') next = queues-same b b' sid e t t' x.rest x'.rest x.answer x'.answer p q (λ same. next same (is ∙ sym is'))
+begins-same b b' sid answered (Ok command) macros t t' x x' p q next =
+    by-same b b' (effect_of (action_of answered command)) sid answered command macros t t' x x' p q next
+begins-same b b' sid answered (Err e) macros t t' x x' (p, is) (q, is') next =
+    queues-same b b' sid e t t' x.rest x'.rest x.answer x'.answer p q (λ same. next same (is ∙ sym is'))
 
 -- what comes of an answer that is no text
-plain-same : {T : Type 0} (b b' : T) (t t' r r' : List Entry) (s after after' : After) (answers told told' : List (List ℕ)) → (after ≡ s) × (told ≡ answers) × (r ≡ t) → (after' ≡ s) × (told' ≡ answers) × (r' ≡ t')
+plain-same : {T : Type 0} (b b' : T) (t t' r r' : List Entry) (s after after' : After) (answers told told' : List (List ℕ)) → (after ≡ s) × (told ≡ answers)
+    × (r ≡ t) → (after' ≡ s) × (told' ≡ answers) × (r' ≡ t')
     → (after ≡ after' → told ≡ told' → Rests b b' r r') → Rests b b' t t'
 plain-same b b' t t' r r' s after after' answers told told' (go, is, left) (go', is', left') next =
     rw (← left, ← left') (next (go ∙ sym go') (is ∙ sym is'))
 
-concludes-same : {T : Type 0} (b b' : T) (sid : Sid) (answers : List (List ℕ)) (f : SessionAnswer) (t t' r r' : List Entry) (after after' : After) (told told' : List (List ℕ)) → Concludes sid answers f t after told r → Concludes sid answers f t' after' told' r'
+concludes-same : {T : Type 0} (b b' : T) (sid : Sid) (answers : List (List ℕ)) (f : SessionAnswer) (t t' r r' : List Entry) (after after' : After)
+    (told told' : List (List ℕ)) → Concludes sid answers f t after told r → Concludes sid answers f t' after' told' r'
     → (after ≡ after' → told ≡ told' → Rests b b' r r') → Rests b b' t t'
 concludes-same b b' sid answers (Done (Some text)) t t' r r' after after' told told' p q next = λ m n. elim p [
   | inl k ↦ elim q [
@@ -276,15 +310,18 @@ concludes-same b b' sid answers (Done (Some text)) t t' r r' after after' told t
 ]
 concludes-same b b' sid answers (Done None) t t' r r' after after' told told' p q next = plain-same b b' t t' r r' Goes after after' answers told told' p q next
 concludes-same b b' sid answers (Joined s) t t' r r' after after' told told' p q next = plain-same b b' t t' r r' Ends after after' answers told told' p q next
-concludes-same b b' sid answers (Snapshot s) t t' r r' after after' told told' p q next = plain-same b b' t t' r r' Ends after after' answers told told' p q next
+concludes-same b b' sid answers (Snapshot s) t t' r r' after after' told told' p q next =
+    plain-same b b' t t' r r' Ends after after' answers told told' p q next
 concludes-same b b' sid answers Full t t' r r' after after' told told' p q next = plain-same b b' t t' r r' Ends after after' answers told told' p q next
 concludes-same b b' sid answers Missed t t' r r' after after' told told' p q next = plain-same b b' t t' r r' Ends after after' answers told told' p q next
 concludes-same b b' sid answers (Max size) t t' r r' after after' told told' p q next = plain-same b b' t t' r r' Ends after after' answers told told' p q next
 concludes-same b b' sid answers (Lock code) t t' r r' after after' told told' p q next = plain-same b b' t t' r r' Ends after after' answers told told' p q next
-concludes-same b b' sid answers (Info exclusive holders) t t' r r' after after' told told' p q next = plain-same b b' t t' r r' Ends after after' answers told told' p q next
+concludes-same b b' sid answers (Info exclusive holders) t t' r r' after after' told told' p q next =
+    plain-same b b' t t' r r' Ends after after' answers told told' p q next
 concludes-same b b' sid answers Stranger t t' r r' after after' told told' p q next = plain-same b b' t t' r r' Ends after after' answers told told' p q next
 concludes-same b b' sid answers Broken t t' r r' after after' told told' p q next = plain-same b b' t t' r r' Ends after after' answers told told' p q next
-concludes-same b b' sid answers (Refused e) t t' r r' after after' told told' p q next = plain-same b b' t t' r r' (after_of (Refused e)) after after' answers told told' p q next
+concludes-same b b' sid answers (Refused e) t t' r r' after after' told told' p q next =
+    plain-same b b' t t' r r' (after_of (Refused e)) after after' answers told told' p q next
 concludes-same b b' sid answers (Hold h) t t' r r' after after' told told' p q next = plain-same b b' t t' r r' Ends after after' answers told told' p q next
 concludes-same b b' sid answers (Worn h) t t' r r' after after' told told' p q next = plain-same b b' t t' r r' Ends after after' answers told told' p q next
 
@@ -296,7 +333,8 @@ Alike s s' = (s.path ≡ s'.path) × (s.macros ≡ s'.macros) × (s.answers ≡ 
 abbrev Ensues : {T : Type 0} → T → T → After → After → Standing → Standing → Type 0
 Ensues b b' after after' told told' = after ≡ after' → Alike told told' → Rests b b' told.trace told'.trace
 
-serves-same : {T : Type 0} (b b' : T) (sid : Sid) (command : Result Command ScpiError) (s s' : Standing) (after after' : After) (told told' : Standing) → Alike s s'
+serves-same : {T : Type 0} (b b' : T) (sid : Sid) (command : Result Command ScpiError) (s s' : Standing) (after after' : After) (told told' : Standing)
+    → Alike s s'
     → Serves sid command s after told → Serves sid command s' after' told' → Ensues b b' after after' told told' → Rests b b' s.trace s'.trace
 serves-same b b' sid command s s' after after' told told' (paths, tables, texts) (f, mid, p, k, is) (f', mid', p', k', is') next =
     let begins : Begins sid (has_answers s.answers) command s.macros s'.trace (begun f' told'.macros mid') =
@@ -310,10 +348,12 @@ serves-same b b' sid command s s' after after' told told' (paths, tables, texts)
     (λ go answers. next go (is ∙ paths ∙ sym is', macros, answers)))
 
 -- the command of a unit that was served is no want of memory
-serves-ample : (sid : Sid) (command : Result Command ScpiError) (s : Standing) (after : After) (told : Standing) → AllAmple s.trace → Serves sid command s after told
+serves-ample : (sid : Sid) (command : Result Command ScpiError) (s : Standing) (after : After) (told : Standing) → AllAmple s.trace
+    → Serves sid command s after told
     → command ≡ Err OutOfMemory → ⊥
 serves-ample sid command s after told m (f, mid, p, k, stays) is =
-    no-loss sid s.trace mid f m (subst (λ (c : Result Command ScpiError). Begins sid (has_answers s.answers) c s.macros s.trace (begun f told.macros mid)) is p).0
+    no-loss sid s.trace mid f m (subst (λ (c : Result Command ScpiError).
+        Begins sid (has_answers s.answers) c s.macros s.trace (begun f told.macros mid)) is p).0
 
 -- ---- the units
 
@@ -324,7 +364,8 @@ pub record ReadsOnce : Type 0 where
   pub unit_or_blank : (text rest : List ℕ) (u : UnitView) → IsUnit text u rest → IsBlank text → ⊥
   pub unit_or_error : (text rest : List ℕ) (u : UnitView) (e : ScpiError) → IsUnit text u rest → IsRefused text e → ⊥
   pub blank_or_error : (text : List ℕ) (e : ScpiError) → IsBlank text → IsRefused text e → ⊥
-  pub command : (u : UnitView) (path : Nodes) (c c' : Result Command ScpiError) (p p' : Nodes) → Resolves u path c p → Resolves u path c' p' → (c ≡ Err OutOfMemory → ⊥) → (c' ≡ Err OutOfMemory → ⊥) → (c ≡ c') × (p ≡ p')
+  pub command : (u : UnitView) (path : Nodes) (c c' : Result Command ScpiError) (p p' : Nodes) → Resolves u path c p → Resolves u path c' p'
+      → (c ≡ Err OutOfMemory → ⊥) → (c' ≡ Err OutOfMemory → ⊥) → (c ≡ c') × (p ≡ p')
   pub expansion : (t : Table) (u : UnitView) (written : List ℕ) (r r' : Result (List ℕ) ScpiError) → Expands t u written r → Expands t u written r' → r ≡ r'
 
 -- one unit, talked over in this way, leaves no choice
@@ -333,36 +374,46 @@ SameWay b b' way = (u : UnitView) (s s' : Standing) (after after' : After) (told
     → Ensues b b' after after' told told' → Rests b b' s.trace s'.trace
 
 -- what comes of units that don't go on
-stays-same : {T : Type 0} (b b' : T) (step after after' : After) (s s' told told' : Standing) → Alike s s' → (after ≡ step) × (told ≡ s) → (after' ≡ step) × (told' ≡ s')
+stays-same : {T : Type 0} (b b' : T) (step after after' : After) (s s' told told' : Standing) → Alike s s' → (after ≡ step) × (told ≡ s) → (after' ≡ step)
+    × (told' ≡ s')
     → Ensues b b' after after' told told' → Rests b b' s.trace s'.trace
 stays-same b b' step after after' s s' told told' alike (go, is) (go', is') next =
     subst (λ (x : Standing). Alike x s' → Rests b b' x.trace s'.trace) is
     (subst (λ (x : Standing). Alike told x → Rests b b' told.trace x.trace) is' (next (go ∙ sym go'))) alike
 
-proceeds-same : {T : Type 0} (b b' : T) (on on' : Standing → Type 0) (step : After) (s s' : Standing) (after after' : After) (told told' : Standing) → Alike s s'
+proceeds-same : {T : Type 0} (b b' : T) (on on' : Standing → Type 0) (step : After) (s s' : Standing) (after after' : After) (told told' : Standing)
+    → Alike s s'
     → Proceeds on step s after told → Proceeds on' step s' after' told' → Ensues b b' after after' told told' → (on s → on' s' → Rests b b' s.trace s'.trace)
     → Rests b b' s.trace s'.trace
 proceeds-same b b' on on' Goes s s' after after' told told' alike p q next more = more p q
 proceeds-same b b' on on' Drops s s' after after' told told' alike p q next more = stays-same b b' Drops after after' s s' told told' alike p q next
 proceeds-same b b' on on' Ends s s' after after' told told' alike p q next more = stays-same b b' Ends after after' s s' told told' alike p q next
 
-talks-same : {T : Type 0} (b b' : T) (way : Way) → ReadsOnce → SameWay b b' way → (sid : Sid) (text : List ℕ) (us us' : List UnitView) (end end' : Ending) (s s' : Standing)
+talks-same : {T : Type 0} (b b' : T) (way : Way) → ReadsOnce → SameWay b b' way
+    → (sid : Sid) (text : List ℕ) (us us' : List UnitView) (end end' : Ending) (s s' : Standing)
     (after after' : After) (told told' : Standing) → Alike s s' → IsScript text us end → IsScript text us' end' → Talks way sid us end s after told
     → Talks way sid us' end' s' after' told' → Ensues b b' after after' told told' → Rests b b' s.trace s'.trace
 talks-same b b' way reads same sid text [] us' Unread end' s s' after after' told told' alike i i' p q next = absurd p
 talks-same b b' way reads same sid text [] [] Complete Unread s s' after after' told told' alike i i' p q next = absurd q
-talks-same b b' way reads same sid text [] [] Complete Complete s s' after after' told told' alike i i' p q next = stays-same b b' Goes after after' s s' told told' alike p q next
+talks-same b b' way reads same sid text [] [] Complete Complete s s' after after' told told' alike i i' p q next =
+    stays-same b b' Goes after after' s s' told told' alike p q next
 talks-same b b' way reads same sid text [] [] Complete (Refuses e) s s' after after' told told' alike i i' p q next = absurd (reads.blank_or_error text e i i')
-talks-same b b' way reads same sid text [] (u' ∷ us') Complete end' s s' after after' told told' alike i i' p q next = absurd (reads.unit_or_blank text i'.0 u' i'.1 i)
+talks-same b b' way reads same sid text [] (u' ∷ us') Complete end' s s' after after' told told' alike i i' p q next =
+    absurd (reads.unit_or_blank text i'.0 u' i'.1 i)
 talks-same b b' way reads same sid text [] [] (Refuses e) Unread s s' after after' told told' alike i i' p q next = absurd q
 talks-same b b' way reads same sid text [] [] (Refuses e) Complete s s' after after' told told' alike i i' p q next = absurd (reads.blank_or_error text e i' i)
 talks-same b b' way reads same sid text [] [] (Refuses e) (Refuses e') s s' after after' told told' alike i i' p q next =
-    serves-same b b' sid (Err e) s s' after after' told told' alike p (subst (λ (x : ScpiError). Serves sid (Err x) s' after' told') (sym (reads.error text e e' i i')) q) next
-talks-same b b' way reads same sid text [] (u' ∷ us') (Refuses e) end' s s' after after' told told' alike i i' p q next = absurd (reads.unit_or_error text i'.0 u' e i'.1 i)
+    serves-same b b' sid (Err e) s s' after after' told told' alike p (subst (λ (x : ScpiError).
+        Serves sid (Err x) s' after' told') (sym (reads.error text e e' i i')) q) next
+talks-same b b' way reads same sid text [] (u' ∷ us') (Refuses e) end' s s' after after' told told' alike i i' p q next =
+    absurd (reads.unit_or_error text i'.0 u' e i'.1 i)
 talks-same b b' way reads same sid text (u ∷ us) [] end Unread s s' after after' told told' alike i i' p q next = absurd q
-talks-same b b' way reads same sid text (u ∷ us) [] end Complete s s' after after' told told' alike i i' p q next = absurd (reads.unit_or_blank text i.0 u i.1 i')
-talks-same b b' way reads same sid text (u ∷ us) [] end (Refuses e) s s' after after' told told' alike i i' p q next = absurd (reads.unit_or_error text i.0 u e i.1 i')
-talks-same b b' way reads same sid text (u ∷ us) (u' ∷ us') end end' s s' after after' told told' alike (rest, is, i) (rest', is', i') (step, mid, w, on) (step', mid', w', on') next =
+talks-same b b' way reads same sid text (u ∷ us) [] end Complete s s' after after' told told' alike i i' p q next =
+    absurd (reads.unit_or_blank text i.0 u i.1 i')
+talks-same b b' way reads same sid text (u ∷ us) [] end (Refuses e) s s' after after' told told' alike i i' p q next =
+    absurd (reads.unit_or_error text i.0 u e i.1 i')
+talks-same b b' way reads same sid text (u ∷ us) (u' ∷ us') end end' s s' after after' told told' alike (rest, is, i) (rest', is', i') (step, mid, w,
+    on) (step', mid', w', on') next =
     let one = reads.unit text rest rest' u u' is is' in
     let again : way u s' step' mid' = subst (λ (x : UnitView). way x s' step' mid') (sym one.0) w' in
     let script : IsScript rest us' end' = subst (λ (x : List ℕ). IsScript x us' end') (sym one.1) i' in
@@ -370,7 +421,8 @@ talks-same b b' way reads same sid text (u ∷ us) (u' ∷ us') end end' s s' af
     (λ same_step same_place.
     let on-alike : Proceeds (λ x. Talks way sid us' end' x after' told') step mid' after' told' =
         subst (λ (x : After). Proceeds (λ y. Talks way sid us' end' y after' told') x mid' after' told') (sym same_step) on' in
-    proceeds-same b b' (λ x. Talks way sid us end x after told) (λ x. Talks way sid us' end' x after' told') step mid mid' after after' told told' same_place on on-alike next
+    proceeds-same b b' (λ x. Talks way sid us end x after told) (λ x.
+        Talks way sid us' end' x after' told') step mid mid' after after' told told' same_place on on-alike next
     (λ k k'. talks-same b b' way reads same sid rest us us' end end' mid mid' after after' told told' same_place i script k k' next))
 
 itself-same : {T : Type 0} (b b' : T) → ReadsOnce → (sid : Sid) → SameWay b b' (Itself sid)
@@ -381,7 +433,8 @@ itself-same b b' reads sid u s s' after after' told told' alike (c, path, res, s
     serves-same b b' sid c (record s { path = path }) (record s' { path = path' }) after after' told told' (one.1, alike.1, alike.2) serves
     (subst (λ (x : Result Command ScpiError). Serves sid x (record s' { path = path' }) after' told') (sym one.0) serves') next m n
 
-unfolds-same : {T : Type 0} (b b' : T) → ReadsOnce → (sid : Sid) (x : Result (List ℕ) ScpiError) (s s' : Standing) (after after' : After) (told told' : Standing) → Alike s s'
+unfolds-same : {T : Type 0} (b b' : T) → ReadsOnce
+    → (sid : Sid) (x : Result (List ℕ) ScpiError) (s s' : Standing) (after after' : After) (told told' : Standing) → Alike s s'
     → Unfolds sid x s after told → Unfolds sid x s' after' told' → Ensues b b' after after' told told' → Rests b b' s.trace s'.trace
 unfolds-same b b' reads sid (Ok text) s s' after after' told told' alike (us, end, i, p) (us', end', i', q) next =
     talks-same b b' (Itself sid) reads (itself-same b b' reads sid) sid text us us' end end' s s' after after' told told' alike i i' p q next
@@ -393,7 +446,8 @@ unfolds-ample : (sid : Sid) (x : Result (List ℕ) ScpiError) (s : Standing) (af
 unfolds-ample sid x s after told m p is =
     serves-ample sid (Err OutOfMemory) s after told m (subst (λ (y : Result (List ℕ) ScpiError). Unfolds sid y s after told) is p) refl
 
-expansion-same : ReadsOnce → (macros : Table) (u : UnitView) (x x' : Result (List ℕ) ScpiError) → calls macros u ≡ true → IsExpansion macros u x → IsExpansion macros u x' → (x ≡ Err OutOfMemory → ⊥) → (x' ≡ Err OutOfMemory → ⊥) → x ≡ x'
+expansion-same : ReadsOnce → (macros : Table) (u : UnitView) (x x' : Result (List ℕ) ScpiError) → calls macros u ≡ true → IsExpansion macros u x
+    → IsExpansion macros u x' → (x ≡ Err OutOfMemory → ⊥) → (x' ≡ Err OutOfMemory → ⊥) → x ≡ x'
 expansion-same reads macros u x x' does e e' some some' = elim e [
   | inl w ↦ elim e' [
     | inl w' ↦ reads.expansion macros u w.0 x x' w.1 (written_so macros u w'.0 w.0 x' does w'.1)
@@ -408,14 +462,17 @@ either-so false P Q P' Q' p p' one other = other p p'
 
 expanded-same : {T : Type 0} (b b' : T) → ReadsOnce → (sid : Sid) → SameWay b b' (Expanded sid)
 expanded-same b b' reads sid u s s' after after' told told' alike p q next =
-    let again : MatchBool (calls s.macros u) ((x : Result (List ℕ) ScpiError) × IsExpansion s.macros u x × Unfolds sid x s' after' told') (Itself sid u s' after' told') =
-        subst (λ (t : Table). MatchBool (calls t u) ((x : Result (List ℕ) ScpiError) × IsExpansion t u x × Unfolds sid x s' after' told') (Itself sid u s' after' told'))
+    let again : MatchBool (calls s.macros u) ((x : Result (List ℕ) ScpiError) × IsExpansion s.macros u x
+        × Unfolds sid x s' after' told') (Itself sid u s' after' told') =
+        subst (λ (t : Table). MatchBool (calls t u) ((x : Result (List ℕ) ScpiError) × IsExpansion t u x
+            × Unfolds sid x s' after' told') (Itself sid u s' after' told'))
         (sym alike.1) q in
     either-so (calls s.macros u)
     ((x : Result (List ℕ) ScpiError) × IsExpansion s.macros u x × Unfolds sid x s after told) (Itself sid u s after told)
     ((x : Result (List ℕ) ScpiError) × IsExpansion s.macros u x × Unfolds sid x s' after' told') (Itself sid u s' after' told') p again
     (λ does k k' m n.
-    let one = expansion-same reads s.macros u k.0 k'.0 does k.1 k'.1 (unfolds-ample sid k.0 s after told m k.2) (unfolds-ample sid k'.0 s' after' told' n k'.2) in
+    let one = expansion-same reads s.macros u k.0 k'.0 does k.1 k'.1 (unfolds-ample sid k.0 s after told m k.2)
+        (unfolds-ample sid k'.0 s' after' told' n k'.2) in
     unfolds-same b b' reads sid k.0 s s' after after' told told' alike k.2
     (subst (λ (x : Result (List ℕ) ScpiError). Unfolds sid x s' after' told') (sym one) k'.2) next m n)
     (λ k k'. itself-same b b' reads sid u s s' after after' told told' alike k k' next)
@@ -431,9 +488,12 @@ pub talk-determined : ReadsOnce → TalkIsDetermined
 talk-determined reads sid macros text t t' bytes bytes' kept kept' p q =
     let b = left bytes kept in
     let b' = left bytes' kept' in
-    either-way (nat_lt longest (length text)) (Overruns sid t bytes × (kept ≡ macros)) (TalksUnits sid macros text t bytes kept) (Overruns sid t' bytes' × (kept' ≡ macros)) (TalksUnits sid macros text t' bytes' kept') p q
-    (λ o o'. queues-same b b' sid InputBufferOverrun t t' [] [] o.0.0 o'.0.0 o.0.1 o'.0.1 (λ same. nothing-left b b' (left-same bytes bytes' kept kept' (o.0.2 ∙ sym o'.0.2) (o.1 ∙ sym o'.1))))
-    (λ k k'. talks-same b b' (Expanded sid) reads (expanded-same b b' reads sid) sid text k.units k'.units k.ending k'.ending (standing [] macros [] t) (standing [] macros [] t')
+    either-way (nat_lt longest (length text)) (Overruns sid t bytes × (kept ≡ macros)) (TalksUnits sid macros text t bytes kept) (Overruns sid t' bytes'
+        × (kept' ≡ macros)) (TalksUnits sid macros text t' bytes' kept') p q
+    (λ o o'. queues-same b b' sid InputBufferOverrun t t' [] [] o.0.0 o'.0.0 o.0.1 o'.0.1 (λ same.
+        nothing-left b b' (left-same bytes bytes' kept kept' (o.0.2 ∙ sym o'.0.2) (o.1 ∙ sym o'.1))))
+    (λ k k'. talks-same b b' (Expanded sid) reads (expanded-same b b' reads sid) sid text k.units k'.units k.ending k'.ending (standing [] macros [] t)
+        (standing [] macros [] t')
     k.after k'.after (standing k.path kept k.answers []) (standing k'.path kept' k'.answers []) (refl, refl, refl) k.script k'.script k.talks k'.talks
     (λ same_after same. nothing-left b b' (left-same bytes bytes' kept kept'
     (k.writes ∙ ap (λ (x : After). written x k.answers) same_after ∙ ap (λ (x : List (List ℕ)). written k'.after x) same.2 ∙ sym k'.writes) same.1)))

@@ -17,7 +17,8 @@ use Rattle.sw_core.specs.declared.ask.Sid.{Sid}
 use Rattle.sw_session.specs.Trace.{HandsBack}
 use Rattle.sw_session.proofs.Nearer.{numbered}
 
-held-back : (p : Panel) (ask : SessionAsk) (f : Bool) (back : SessionAsk) (work : Option WorkView) (q : Panel) → StepHeld p ask f (Hold back) work q → back ≡ ask
+held-back : (p : Panel) (ask : SessionAsk) (f : Bool) (back : SessionAsk) (work : Option WorkView) (q : Panel) → StepHeld p ask f (Hold back) work q
+    → back ≡ ask
 held-back p ask f back None q s = s.1
 held-back p ask f back (Some work) q s = absurd s
 
@@ -26,7 +27,8 @@ waiting-hold : (b : Bool) (effect : Effect) (p : Panel) (ask : SessionAsk) (f : 
 waiting-hold true effect p ask f back work q s = held-back p ask f back work q s
 waiting-hold false effect p ask f back work q s = absurd (effect_answered effect p f (Hold back) work q s)
 
-hold-action : (action : Action) (p : Panel) (ask : SessionAsk) (f : Bool) (back : SessionAsk) (work : Option WorkView) (q : Panel) → StepAction action p ask f (Hold back) work q → back ≡ ask
+hold-action : (action : Action) (p : Panel) (ask : SessionAsk) (f : Bool) (back : SessionAsk) (work : Option WorkView) (q : Panel)
+    → StepAction action p ask f (Hold back) work q → back ≡ ask
 hold-action (AtOnce effect) p ask f back work q s = absurd (effect_answered effect p f (Hold back) work q s)
 hold-action (BetweenScans effect) p ask f back work q s = absurd (barred_answered (is_running p) effect p f (Hold back) work q s)
 hold-action (AfterScan effect) p ask f back work q s = waiting-hold (is_running p) effect p ask f back work q s
@@ -36,12 +38,14 @@ waiting-worn : (b : Bool) (effect : Effect) (p : Panel) (ask : SessionAsk) (f : 
 waiting-worn true effect p ask f back work q s = s
 waiting-worn false effect p ask f back work q s = effect_answered effect p f (Worn back) work q s
 
-worn-action : (action : Action) (p : Panel) (ask : SessionAsk) (f : Bool) (back : SessionAsk) (work : Option WorkView) (q : Panel) → StepAction action p ask f (Worn back) work q → ⊥
+worn-action : (action : Action) (p : Panel) (ask : SessionAsk) (f : Bool) (back : SessionAsk) (work : Option WorkView) (q : Panel)
+    → StepAction action p ask f (Worn back) work q → ⊥
 worn-action (AtOnce effect) p ask f back work q s = effect_answered effect p f (Worn back) work q s
 worn-action (BetweenScans effect) p ask f back work q s = barred_answered (is_running p) effect p f (Worn back) work q s
 worn-action (AfterScan effect) p ask f back work q s = waiting-worn (is_running p) effect p ask f back work q s
 
-held-served : (p : Panel) (ask : SessionAsk) (f : Bool) (back : SessionAsk) (work : Option WorkView) (q : Panel) → StepJoined p ask f (Hold back) work q → back ≡ ask
+held-served : (p : Panel) (ask : SessionAsk) (f : Bool) (back : SessionAsk) (work : Option WorkView) (q : Panel) → StepJoined p ask f (Hold back) work q
+    → back ≡ ask
 held-served p (Ask.Unit sid command answered) f back work q s = hold-action (action_of answered command) p (Ask.Unit sid command answered) f back work q s
 held-served p (Ask.Fault sid e) f back None q s = absurd s.served
 held-served p (Ask.Fault sid e) f back (Some work) q s = absurd s
@@ -72,18 +76,21 @@ held-served p (Ask.Attach number) f back (Some work) q s = absurd s
 held-served p Ask.Join f back None q s = absurd s.served
 held-served p Ask.Join f back (Some work) q s = absurd s
 
-held-admitted : (b o : Bool) (p : Panel) (ask : SessionAsk) (f : Bool) (back : SessionAsk) (work : Option WorkView) (q : Panel) → StepAdmitted b o p ask f (Hold back) work q → back ≡ ask
+held-admitted : (b o : Bool) (p : Panel) (ask : SessionAsk) (f : Bool) (back : SessionAsk) (work : Option WorkView) (q : Panel)
+    → StepAdmitted b o p ask f (Hold back) work q → back ≡ ask
 held-admitted true o p ask f back work q s = absurd s
 held-admitted false true p ask f back work q s = held-back p ask f back work q s
 held-admitted false false p ask f back work q s = held-served p ask f back work q s
 
-held-of : (o : Option Sid) (p : Panel) (ask : SessionAsk) (f : Bool) (back : SessionAsk) (work : Option WorkView) (q : Panel) → StepSession o p ask f (Hold back) work q → back ≡ ask
+held-of : (o : Option Sid) (p : Panel) (ask : SessionAsk) (f : Bool) (back : SessionAsk) (work : Option WorkView) (q : Panel)
+    → StepSession o p ask f (Hold back) work q → back ≡ ask
 held-of None p Ask.Join f back work q s = absurd s
 held-of None p (Ask.Attach number) f back work q s = absurd s
 held-of None p ask f back work q s = absurd s
 held-of (Some sid) p ask f back work q s = held-admitted (drops p sid ask) (shuts_out p sid ask) p ask f back work q s.1
 
-held : (p : Panel) (ask : SessionAsk) (f : Bool) (back : SessionAsk) (work : Option WorkView) (q : Panel) → StepSession (asker_of ask) p ask f (Hold back) work q → back ≡ ask
+held : (p : Panel) (ask : SessionAsk) (f : Bool) (back : SessionAsk) (work : Option WorkView) (q : Panel)
+    → StepSession (asker_of ask) p ask f (Hold back) work q → back ≡ ask
 held p ask f back work q s = held-of (asker_of ask) p ask f back work q s
 
 unworn-served : (p : Panel) (ask : SessionAsk) (f : Bool) (back : SessionAsk) (work : Option WorkView) (q : Panel) → StepJoined p ask f (Worn back) work q → ⊥
@@ -117,25 +124,30 @@ unworn-served p (Ask.Attach number) f back (Some work) q s = s
 unworn-served p Ask.Join f back None q s = s.served
 unworn-served p Ask.Join f back (Some work) q s = s
 
-unworn-admitted : (b o : Bool) (p : Panel) (ask : SessionAsk) (f : Bool) (back : SessionAsk) (work : Option WorkView) (q : Panel) → StepAdmitted b o p ask f (Worn back) work q → ⊥
+unworn-admitted : (b o : Bool) (p : Panel) (ask : SessionAsk) (f : Bool) (back : SessionAsk) (work : Option WorkView) (q : Panel)
+    → StepAdmitted b o p ask f (Worn back) work q → ⊥
 unworn-admitted true o p ask f back work q s = s
 unworn-admitted false true p ask f back work q s = s
 unworn-admitted false false p ask f back work q s = unworn-served p ask f back work q s
 
-unworn-of : (o : Option Sid) (p : Panel) (ask : SessionAsk) (f : Bool) (back : SessionAsk) (work : Option WorkView) (q : Panel) → StepSession o p ask f (Worn back) work q → ⊥
+unworn-of : (o : Option Sid) (p : Panel) (ask : SessionAsk) (f : Bool) (back : SessionAsk) (work : Option WorkView) (q : Panel)
+    → StepSession o p ask f (Worn back) work q → ⊥
 unworn-of None p Ask.Join f back work q s = s
 unworn-of None p (Ask.Attach number) f back work q s = s
 unworn-of None p ask f back work q s = s
 unworn-of (Some sid) p ask f back work q s = unworn-admitted (drops p sid ask) (shuts_out p sid ask) p ask f back work q s.1
 
-unworn : (p : Panel) (ask : SessionAsk) (f : Bool) (back : SessionAsk) (work : Option WorkView) (q : Panel) → StepSession (asker_of ask) p ask f (Worn back) work q → ⊥
+unworn : (p : Panel) (ask : SessionAsk) (f : Bool) (back : SessionAsk) (work : Option WorkView) (q : Panel)
+    → StepSession (asker_of ask) p ask f (Worn back) work q → ⊥
 unworn p ask f back work q s = unworn-of (asker_of ask) p ask f back work q s
 
-worn : (p : Panel) (ask : SessionAsk) (f : Bool) (back : SessionAsk) (work : Option WorkView) (q : Panel) → IsUnnumbered p (AskSession ask) f (SaysSession (Worn back) work) q → back ≡ ask
+worn : (p : Panel) (ask : SessionAsk) (f : Bool) (back : SessionAsk) (work : Option WorkView) (q : Panel)
+    → IsUnnumbered p (AskSession ask) f (SaysSession (Worn back) work) q → back ≡ ask
 worn p ask f back None q u = u.worn
 worn p ask f back (Some work) q u = absurd u.worn
 
-pub handed-back : (p : Panel) (ask : SessionAsk) (f : Bool) (answer : SessionAnswer) (work : Option WorkView) (q : Panel) → Step p (AskSession ask) f (SaysSession answer work) q → HandsBack ask answer
+pub handed-back : (p : Panel) (ask : SessionAsk) (f : Bool) (answer : SessionAnswer) (work : Option WorkView) (q : Panel)
+    → Step p (AskSession ask) f (SaysSession answer work) q → HandsBack ask answer
 handed-back p ask f (Hold back) work q s =
     numbered ((p.events == last_number) && not (acts_unnumbered (AskSession ask))) s
     (λ (u : IsUnnumbered p (AskSession ask) f (SaysSession (Hold back) work) q). absurd u.worn)

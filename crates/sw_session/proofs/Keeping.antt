@@ -14,7 +14,8 @@ use Rattle.sw_session.specs.declared.desk.View.{View}
 use Rattle.sw_session.specs.declared.desk.Wake.TheVariants.{Again, Over}
 use Rattle.sw_session.specs.Trace.{Entry, Asked, Waited, Polled, Noted, Leads, LeavesOf}
 use Rattle.sw_session.specs.Available.{Notes, with_note}
-use Rattle.sw_session.specs.CoreDesk.{DeskSeen, Carried, CarriesOut, Tells, Keeps, IsKept, IsCarried, PassesBy, CorePasses, Rests, most_waits, brought, piece_seen, view_of}
+use Rattle.sw_session.specs.CoreDesk.{DeskSeen, Carried, CarriesOut, Tells, Keeps, IsKept, IsCarried, PassesBy, CorePasses, Rests, most_waits, brought}
+use Rattle.sw_session.specs.CoreDesk.{piece_seen, view_of}
 use Rattle.sw_session.proofs.Led.{leads-append}
 use Rattle.sw_session.proofs.Nearer.{left, nearer}
 
@@ -42,7 +43,8 @@ with-panel old new work available =
 
 -- what is told of a piece, and answered
 pub carried : (old new : DeskSeen) (piece : WorkView) (ask : AskView) (failed : Bool) (answer : AnswerView) (brings : Option WorkView) → Tells piece ask
-    → Step old.panel ask failed answer new.panel → brings ≡ brought answer → new.work ≡ old.work → new.available ≡ old.available → IsCarried old piece brings new
+    → Step old.panel ask failed answer new.panel → brings ≡ brought answer → new.work ≡ old.work → new.available ≡ old.available
+        → IsCarried old piece brings new
 carried old new piece ask failed answer brings tells step is work available = record {
   c = record { ask = ask; failed = failed; answer = answer; after = new.panel };
   carries = record { tells = tells; step = step };
@@ -61,7 +63,8 @@ pub keeps-none : {M : _} (start : DeskSeen) (brings : Option WorkView) (d : Desk
     → (all : List Carried) × Keeps all start brings d
 keeps-none {M} start brings d w by is = by [] d (subst (λ (x : Option (Work M)). Keeps [] d (work_view x) d) (sym is) refl)
 
-pub keeps-last : {M : _} (start : DeskSeen) (brings : Option WorkView) (d new : DeskSeen) (w : Option (Work M)) (piece : Work M) → KeepsBy start brings d (work_view w)
+pub keeps-last : {M : _} (start : DeskSeen) (brings : Option WorkView) (d new : DeskSeen) (w : Option (Work M)) (piece : Work M)
+    → KeepsBy start brings d (work_view w)
     → w ≡ Some piece → new ≡ record d { work = d.work ++ piece_seen piece ∷ [] } → (all : List Carried) × Keeps all start brings new
 keeps-last {M} start brings d new w piece by is put =
     let last : Keeps [] d (Some (piece_seen piece)) new = put in
@@ -71,11 +74,13 @@ pub keeps-on : {M : _} (start : DeskSeen) (brings : Option WorkView) (d new : De
     → KeepsBy start brings d (work_view w) → w ≡ Some piece → IsCarried d (piece_seen piece) brings' new → KeepsBy start brings new brings'
 keeps-on {M} start brings d new w piece brings' by is k = λ more end keeps.
     let on : Keeps more (record d { panel = k.c.after }) (brought k.c.answer) end =
-    subst (λ (x : Option WorkView). Keeps more (record d { panel = k.c.after }) x end) k.brings_is (subst (λ (x : DeskSeen). Keeps more x brings' end) k.leaves keeps) in
+    subst (λ (x : Option WorkView). Keeps more (record d { panel = k.c.after }) x end) k.brings_is (subst (λ (x : DeskSeen).
+        Keeps more x brings' end) k.leaves keeps) in
     let all : Keeps (k.c ∷ more) d (Some (piece_seen piece)) end = (k.carries, on) in
     by (k.c ∷ more) end (subst (λ (x : Option WorkView). Keeps (k.c ∷ more) d x end) (sym (ap work_view is ∙ seen-some piece)) all)
 
-pub same-carried : {M : _} (d d' new : DeskSeen) (piece piece' : Work M) (brings : Option WorkView) → d' ≡ d → piece' ≡ piece → IsCarried d' (piece_seen piece') brings new
+pub same-carried : {M : _} (d d' new : DeskSeen) (piece piece' : Work M) (brings : Option WorkView) → d' ≡ d → piece' ≡ piece
+    → IsCarried d' (piece_seen piece') brings new
     → IsCarried d (piece_seen piece) brings new
 same-carried {M} d d' new piece piece' brings desk is k =
     subst (λ (x : DeskSeen). IsCarried x (piece_seen piece) brings new) desk (subst (λ (w : Work M). IsCarried d' (piece_seen w) brings new) is k)
@@ -92,14 +97,17 @@ weight-less d new piece (Some work) k =
     let here : left new.panel < left d.panel = subst (λ (x : DeskSeen). left x.panel < left d.panel) (sym k.leaves) near in
     omega arith
 
-pub weight-falls : {M : _} (d new : DeskSeen) (w : Option (Work M)) (piece : Work M) (brings : Option WorkView) → w ≡ Some piece → IsCarried d (piece_seen piece) brings new
+pub weight-falls : {M : _} (d new : DeskSeen) (w : Option (Work M)) (piece : Work M) (brings : Option WorkView) → w ≡ Some piece
+    → IsCarried d (piece_seen piece) brings new
     → weight brings new.panel < weight (work_view w) d.panel
 weight-falls d new w piece brings is k =
-    subst (λ (x : Option WorkView). weight brings new.panel < weight x d.panel) (sym (ap work_view is ∙ seen-some piece)) (weight-less d new (piece_seen piece) brings k)
+    subst (λ (x : Option WorkView). weight brings new.panel < weight x d.panel) (sym (ap work_view is
+        ∙ seen-some piece)) (weight-less d new (piece_seen piece) brings k)
 
 -- an ask
 pub passes-ask : (old mid new : DeskSeen) (ask : SessionAsk) (failed : Bool) (answer : SessionAnswer) (brings : Option WorkView)
-    → Step old.panel (AskSession ask) failed (SaysSession answer brings) mid.panel → mid.work ≡ old.work → mid.available ≡ old.available → IsKept mid brings new → CorePasses old (Asked ask answer) new
+    → Step old.panel (AskSession ask) failed (SaysSession answer brings) mid.panel → mid.work ≡ old.work → mid.available ≡ old.available → IsKept mid brings new
+        → CorePasses old (Asked ask answer) new
 passes-ask old mid new ask failed answer brings step work available kept = (
   kept.carried,
   record {
@@ -112,11 +120,13 @@ passes-ask old mid new ask failed answer brings step work available kept = (
 )
 
 -- a wait
-pub passes-wait : (old mid next new : DeskSeen) (piece : WorkView) (brings : Option WorkView) (limit : Option ℕ) → old ≡ record mid { work = piece ∷ mid.work } → IsCarried mid piece brings next
+pub passes-wait : (old mid next new : DeskSeen) (piece : WorkView) (brings : Option WorkView) (limit : Option ℕ) → old ≡ record mid { work = piece ∷ mid.work }
+    → IsCarried mid piece brings next
     → IsKept next brings new → CorePasses old (Waited limit (Again limit)) new
 passes-wait old mid next new piece brings limit is k kept =
     let on : Keeps kept.carried (record mid { panel = k.c.after }) (brought k.c.answer) new =
-    subst (λ (x : Option WorkView). Keeps kept.carried (record mid { panel = k.c.after }) x new) k.brings_is (subst (λ (x : DeskSeen). Keeps kept.carried x brings new) k.leaves kept.keeps) in (
+    subst (λ (x : Option WorkView). Keeps kept.carried (record mid { panel = k.c.after }) x new) k.brings_is (subst (λ (x : DeskSeen).
+        Keeps kept.carried x brings new) k.leaves kept.keeps) in (
       k.c ∷ kept.carried,
       (
         refl,
@@ -143,7 +153,8 @@ pub passes-poll : (old new : DeskSeen) (sid : Sid) (view : View) → view ≡ vi
 passes-poll old new sid view is same = ([], (is, same))
 
 -- a note
-pub passes-note : (old new : DeskSeen) (sid : Sid) (mav : Bool) → new ≡ record old { available = with_note old.available sid mav } → CorePasses old (Noted sid mav) new
+pub passes-note : (old new : DeskSeen) (sid : Sid) (mav : Bool) → new ≡ record old { available = with_note old.available sid mav }
+    → CorePasses old (Noted sid mav) new
 passes-note old new sid mav is = ([], is)
 
 -- nothing of a wait's limit is spent

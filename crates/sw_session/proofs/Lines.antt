@@ -4,7 +4,8 @@ use Rattle.std.proofs.lemmas.Grind.{common_steps}
 use Rattle.sw_session.specs.Talk.{line_of, JoinsLine}
 
 -- a line of answers ends with its line feed, and one more answer goes before it
-line-front : (a : List ℕ) (answers : List (List ℕ)) → (front : List ℕ) × (line_of (a ∷ answers) ≡ front ++ 10 ∷ []) × ((t : List ℕ) → line_of ((a ∷ answers) ++ t ∷ []) ≡ front ++ 59 ∷ (t ++ 10 ∷ []))
+line-front : (a : List ℕ) (answers : List (List ℕ)) → (front : List ℕ) × (line_of (a ∷ answers) ≡ front ++ 10 ∷ [])
+    × ((t : List ℕ) → line_of ((a ∷ answers) ++ t ∷ []) ≡ front ++ 59 ∷ (t ++ 10 ∷ []))
 line-front a [] = (a, refl, λ t. refl)
 line-front a (b ∷ answers) =
     let r = line-front b answers in (

@@ -1,6 +1,7 @@
 -- A scan's end comes nearer with each piece of work.
 use Rattle.std.specs.Prelude.{◌==◌, ◌&&◌, not}
-use Rattle.std.proofs.Common.{◌≡◌, ℕ, zero, suc, ◌+◌, ◌-◌, ◌<◌, Bool, true, false, MatchBool, List, [], ◌∷◌, length, drop, Option, Some, None, Result, Ok, Err, sym, ap, ◌∙◌, subst, arith}
+use Rattle.std.proofs.Common.{◌≡◌, ℕ, zero, suc, ◌+◌, ◌-◌, ◌<◌, Bool, true, false, MatchBool, List, [], ◌∷◌, length, drop, Option, Some, None, Result, Ok, Err}
+use Rattle.std.proofs.Common.{sym, ap, ◌∙◌, subst, arith}
 use Rattle.sw_base.specs.declared.reading.Reading.{Reading}
 use Rattle.sw_card.specs.declared.board.CardFault.{CardFault}
 use Rattle.sw_trigger.specs.declared.layer.Awaited.{Awaited}
@@ -16,7 +17,8 @@ use Rattle.sw_cage.specs.declared.taken.Happening.{Happening}
 use Rattle.sw_cage.specs.declared.taken.Happening.TheVariants.{Elapsed}
 use Rattle.sw_cage.specs.TakenSeen.{TakenSeen, SaysIgnored, SaysWaits, SaysPause, SaysJob, SaysEnded, SaysFault}
 use Rattle.sw_core.specs.Panel.{Panel}
-use Rattle.sw_core.specs.View.{WorkView, Measures, Pauses, AskView, AskElapsed, AskFinished, AnswerView, SaysSession, SaysInstalled, SaysNotInstalled, SaysEjected, SaysNotEjected, SaysTaken, SaysMissed, SaysFailed, SaysBack, SaysWorn}
+use Rattle.sw_core.specs.View.{WorkView, Measures, Pauses, AskView, AskElapsed, AskFinished, AnswerView, SaysSession, SaysInstalled, SaysNotInstalled}
+use Rattle.sw_core.specs.View.{SaysEjected, SaysNotEjected, SaysTaken, SaysMissed, SaysFailed, SaysBack, SaysWorn}
 use Rattle.sw_core.specs.Step.{Step, Happens, Returns, outside_told, IsUnnumbered, IsEvent, acts_unnumbered, work_of}
 use Rattle.sw_core.specs.Event.{last_number}
 use Rattle.sw_session.specs.CoreDesk.{Carried, Tells, CarriesOut, brought}
@@ -36,12 +38,14 @@ within [] (suc i) what h = absurd (cc h)
 within (x ∷ items) zero what h = omega arith
 within (x ∷ items) (suc i) what h = let r = within items i what h in omega arith
 
-lands : (s : Setup) (i : ℕ) (what : Awaited) (scan : Option ScanSeen) → awaits (next_place s (i + 1)) ≡ Some what → scan ≡ Some (next_place s (i + 1)) → items_left scan < length (agenda s) - i
+lands : (s : Setup) (i : ℕ) (what : Awaited) (scan : Option ScanSeen) → awaits (next_place s (i + 1)) ≡ Some what → scan ≡ Some (next_place s (i + 1))
+    → items_left scan < length (agenda s) - i
 lands s i what scan awaited is =
     let w : i + 1 + length (moves_from s (i + 1)) < length (agenda s) = within (agenda s) (i + 1 + length (moves_from s (i + 1))) what awaited in
     subst (λ (x : Option ScanSeen). items_left x < length (agenda s) - i) (sym is) (omega arith)
 
-goes : (p q : CageSeen) (s : Setup) (i : ℕ) (told : TakenSeen) (work : WorkView) → Advances p s (i + 1) told q → work_of told ≡ Some work → items_left q.scan < length (agenda s) - i
+goes : (p q : CageSeen) (s : Setup) (i : ℕ) (told : TakenSeen) (work : WorkView) → Advances p s (i + 1) told q → work_of told ≡ Some work
+    → items_left q.scan < length (agenda s) - i
 goes p q s i SaysIgnored work g is = absurd (cc is)
 goes p q s i SaysWaits work g is = absurd (cc is)
 goes p q s i (SaysPause ticket micros) work g is = let a = g.runs.arrives in lands s i (Pause micros) q.scan a.0 a.3
@@ -49,7 +53,8 @@ goes p q s i (SaysJob job) work g is = let a = g.runs.arrives in lands s i Read 
 goes p q s i SaysEnded work g is = absurd (cc is)
 goes p q s i SaysFault work g is = absurd (cc is)
 
-past : (p q : CageSeen) (scan : Option ScanSeen) (told : TakenSeen) (work : WorkView) → AdvancesPastFrom p scan told q → work_of told ≡ Some work → items_left q.scan < items_left scan
+past : (p q : CageSeen) (scan : Option ScanSeen) (told : TakenSeen) (work : WorkView) → AdvancesPastFrom p scan told q → work_of told ≡ Some work
+    → items_left q.scan < items_left scan
 past p q None told work g is = absurd g
 past p q (Some at) told work g is = goes p q at.setup at.index told work g is
 
@@ -61,11 +66,13 @@ happened p q (SaysJob job) f work h k is = past p.cage q.cage p.cage.scan (SaysJ
 happened p q SaysEnded f work h k is = absurd (cc is)
 happened p q SaysFault f work h k is = absurd (cc is)
 
-counted : (c q : CageSeen) (outcome : Result Reading CardFault) (told : TakenSeen) (work : WorkView) → Counts c outcome told q → work_of told ≡ Some work → items_left q.scan < items_left c.scan
+counted : (c q : CageSeen) (outcome : Result Reading CardFault) (told : TakenSeen) (work : WorkView) → Counts c outcome told q → work_of told ≡ Some work
+    → items_left q.scan < items_left c.scan
 counted c q (Ok r) told work k is = past (with_reading c r) q c.scan told work k is
 counted c q (Err e) told work k is = let none : None ≡ Some work = ap work_of (sym k.0) ∙ is in absurd (cc none)
 
-returned : (p q : Panel) (done : FinishedSeen) (f : Bool) (told : TakenSeen) (work : WorkView) → Returns p done f told q → work_of told ≡ Some work → left q < left p
+returned : (p q : Panel) (done : FinishedSeen) (f : Bool) (told : TakenSeen) (work : WorkView) → Returns p done f told q → work_of told ≡ Some work
+    → left q < left p
 returned p q done f SaysIgnored work k is = absurd (cc is)
 returned p q done f SaysWaits work k is = absurd (cc is)
 returned p q done f (SaysPause ticket micros) work k is = counted (with_back p.cage done) q.cage done.outcome (SaysPause ticket micros) work k.1 is
@@ -113,7 +120,8 @@ finished p q done f work s =
     let near : left e.done < left p = returned p e.done done f e.acts.told work e.acts.returns (outside e.acts.told work e.acts.answer_is) in
     subst (λ (x : Panel). left x < left p) (sym e.after) near)
 
-told : (p : Panel) (piece : WorkView) (ask : AskView) (f : Bool) (work : WorkView) (q : Panel) → Tells piece ask → Step p ask f (SaysTaken (Some work)) q → left q < left p
+told : (p : Panel) (piece : WorkView) (ask : AskView) (f : Bool) (work : WorkView) (q : Panel) → Tells piece ask → Step p ask f (SaysTaken (Some work)) q
+    → left q < left p
 told p (Pauses ticket micros) ask f work q tells s = elapsed p q ticket f work (subst (λ (x : AskView). Step p x f (SaysTaken (Some work)) q) tells s)
 told p (Measures job) ask f work q (done, ran, tells) s = finished p q done f work (subst (λ (x : AskView). Step p x f (SaysTaken (Some work)) q) tells s)
 

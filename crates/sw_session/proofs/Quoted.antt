@@ -15,12 +15,15 @@ row-some q [] = omega arith
 row-some q (r ∷ ls) = omega arith
 
 -- a label where none stands yet
-pub quoted-first : (text label : List ℕ) (before : List (List ℕ)) → length text ≡ 0 → text ≡ row_of before → ((text ++ 34 ∷ []) ++ label) ++ 34 ∷ [] ≡ row_of (before ++ label ∷ [])
+pub quoted-first : (text label : List ℕ) (before : List (List ℕ)) → length text ≡ 0 → text ≡ row_of before → ((text ++ 34 ∷ []) ++ label)
+    ++ 34 ∷ [] ≡ row_of (before ++ label ∷ [])
 quoted-first text label [] none is = ap (λ (t : List ℕ). ((t ++ 34 ∷ []) ++ label) ++ 34 ∷ []) is
-quoted-first text label (q ∷ ls) none is = let k : 0 < length (row_of (q ∷ ls)) = row-some q ls in let j : length text ≡ length (row_of (q ∷ ls)) = ap (λ (t : List ℕ). length t) is in absurd (omega arith)
+quoted-first text label (q ∷ ls) none is = let k : 0 < length (row_of (q ∷ ls)) = row-some q ls in let j : length text ≡ length (row_of (q ∷ ls)) =
+    ap (λ (t : List ℕ). length t) is in absurd (omega arith)
 
 -- a label behind a comma
-pub quoted-next : (text label : List ℕ) (before : List (List ℕ)) → 0 < length text → text ≡ row_of before → (((text ++ 44 ∷ []) ++ 34 ∷ []) ++ label) ++ 34 ∷ [] ≡ row_of (before ++ label ∷ [])
+pub quoted-next : (text label : List ℕ) (before : List (List ℕ)) → 0 < length text → text ≡ row_of before → (((text ++ 44 ∷ []) ++ 34 ∷ []) ++ label)
+    ++ 34 ∷ [] ≡ row_of (before ++ label ∷ [])
 quoted-next text label [] some is = let j : length text ≡ 0 = ap (λ (t : List ℕ). length t) is in absurd (omega arith)
 quoted-next text label (q ∷ ls) some is =
     let flat : (((text ++ 44 ∷ []) ++ 34 ∷ []) ++ label) ++ 34 ∷ [] ≡ text ++ 44 ∷ quoted label = simp append_assoc in
@@ -28,17 +31,20 @@ quoted-next text label (q ∷ ls) some is =
 
 -- the labels up to this one
 pub labels-more : (ls : List (List ℕ)) (i : ℕ) (label : List ℕ) → slice_get ls i ≡ Some label → take (i + 1) ls ≡ take i ls ++ label ∷ []
-labels-more ls i label is = take_more ls i label (slice_get_within ls i label is) ∙ ap (λ (l : List ℕ). take i ls ++ l ∷ []) (get_or_from_slice_get ls i label label is)
+labels-more ls i label is = take_more ls i label (slice_get_within ls i label is)
+    ∙ ap (λ (l : List ℕ). take i ls ++ l ∷ []) (get_or_from_slice_get ls i label label is)
 
 -- there is a label of each number
-pub label-there : {L : Type 0} (seen : L → List ℕ) (o : Option L) (ls : List (List ℕ)) (i : ℕ) → option_map seen o ≡ slice_get ls i → i < length ls → ((l : L) → o ≡ Some l → ⊥) → ⊥
+pub label-there : {L : Type 0} (seen : L → List ℕ) (o : Option L) (ls : List (List ℕ)) (i : ℕ) → option_map seen o ≡ slice_get ls i → i < length ls
+    → ((l : L) → o ≡ Some l → ⊥) → ⊥
 label-there seen (Some l) ls i is within none = none l refl
 label-there seen None ls i is within none = let both : None ≡ Some (get_or ls i []) = is ∙ slice_get-get_or ls i [] within in absurd (cc (both))
 
 -- all labels
 pub labels-none : (text : List ℕ) (ls : List (List ℕ)) → text ≡ row_of ls → length text ≡ 0 → text ++ 34 ∷ 34 ∷ [] ≡ labels_text ls
 labels-none text [] is none = ap (λ (t : List ℕ). t ++ 34 ∷ 34 ∷ []) is
-labels-none text (q ∷ ls) is none = let k : 0 < length (row_of (q ∷ ls)) = row-some q ls in let j : length text ≡ length (row_of (q ∷ ls)) = ap (λ (t : List ℕ). length t) is in absurd (omega arith)
+labels-none text (q ∷ ls) is none = let k : 0 < length (row_of (q ∷ ls)) = row-some q ls in let j : length text ≡ length (row_of (q ∷ ls)) =
+    ap (λ (t : List ℕ). length t) is in absurd (omega arith)
 
 pub labels-some : (text : List ℕ) (ls : List (List ℕ)) → text ≡ row_of ls → 0 < length text → text ≡ labels_text ls
 labels-some text [] is some = let j : length text ≡ 0 = ap (λ (t : List ℕ). length t) is in absurd (omega arith)

@@ -1,5 +1,6 @@
 -- The talk as far as it has come.
-use Rattle.std.proofs.Common.{◌≡◌, ℕ, ◌+◌, ◌<◌, Bool, true, false, MatchBool, List, [], ◌∷◌, ◌++◌, length, ◌≤◌, Option, None, Result, Ok, Err, inl, inr, ap, refl, sym, subst, append_assoc, arith}
+use Rattle.std.proofs.Common.{◌≡◌, ℕ, ◌+◌, ◌<◌, Bool, true, false, MatchBool, List, [], ◌∷◌, ◌++◌, length, ◌≤◌, Option, None, Result, Ok, Err, inl, inr, ap}
+use Rattle.std.proofs.Common.{refl, sym, subst, append_assoc, arith}
 use Rattle.std.specs.Prelude.{◌==◌, nat_lt, ◌⊎◌}
 use Rattle.std.specs.Io.BufRead.{strip_last}
 use Rattle.std.proofs.lemmas.List.{append-nil}
@@ -20,7 +21,9 @@ use Rattle.sw_session.specs.declared.talker.After.{After}
 use Rattle.sw_session.specs.declared.talker.After.TheVariants.{Goes, Drops, Ends}
 use Rattle.sw_session.specs.Trace.{Entry, Asked, Waited, Led}
 use Rattle.sw_session.specs.Script.{Ending, Complete, Refuses, Unread, IsScript}
-use Rattle.sw_session.specs.Talk.{Queues, Settles, Begins, begun, Concludes, Serves, Standing, standing, Proceeds, Way, Talks, Itself, Unfolds, IsExpansion, Expanded, TalksUnits, TalksMessage, Talked, Overruns, Spot, stands_at, OnLine, TalksLine, has_answers, line_of, written, longest, turns}
+use Rattle.sw_session.specs.Talk.{Queues, Settles, Begins, begun, Concludes, Serves, Standing, standing, Proceeds, Way, Talks, Itself, Unfolds, IsExpansion}
+use Rattle.sw_session.specs.Talk.{Expanded, TalksUnits, TalksMessage, Talked, Overruns, Spot, stands_at, OnLine, TalksLine, has_answers, line_of, written}
+use Rattle.sw_session.specs.Talk.{longest, turns}
 use Rattle.sw_session.proofs.Led.{led-none, led-so, led-more, led-then}
 
 -- an ask that was held turn times is asked, or given up
@@ -31,37 +34,48 @@ Awaits sid turn ask trace final rest = MatchBool (turn == turns) (Queues sid Set
 abbrev pub SettlesBy : Sid → ℕ → SessionAsk → List Entry → List Entry → Type 0
 SettlesBy sid turn ask trace mid = (final : SessionAnswer) (rest : List Entry) → Awaits sid turn ask mid final rest → Settles sid 0 ask trace final rest
 
-awaits-open : (sid : Sid) (turn : ℕ) (ask : SessionAsk) (t : List Entry) (final : SessionAnswer) (rest : List Entry) → turn < turns → Settles sid turn ask t final rest → Awaits sid turn ask t final rest
+awaits-open : (sid : Sid) (turn : ℕ) (ask : SessionAsk) (t : List Entry) (final : SessionAnswer) (rest : List Entry) → turn < turns
+    → Settles sid turn ask t final rest → Awaits sid turn ask t final rest
 awaits-open sid turn ask t final rest lt s =
     let differs : (turn == turns) ≡ false = grind (arith, nat_tests) in
     subst (λ (b : Bool). MatchBool b (Queues sid SettingsConflict t final rest) (Settles sid turn ask t final rest)) (sym differs) s
 
-awaits-last : (sid : Sid) (turn : ℕ) (ask : SessionAsk) (t : List Entry) (final : SessionAnswer) (rest : List Entry) → turn ≡ turns → Queues sid SettingsConflict t final rest → Awaits sid turn ask t final rest
+awaits-last : (sid : Sid) (turn : ℕ) (ask : SessionAsk) (t : List Entry) (final : SessionAnswer) (rest : List Entry) → turn ≡ turns
+    → Queues sid SettingsConflict t final rest → Awaits sid turn ask t final rest
 awaits-last sid turn ask t final rest is s =
     let same : (turn == turns) ≡ true = grind (arith, nat_tests) in
     subst (λ (b : Bool). MatchBool b (Queues sid SettingsConflict t final rest) (Settles sid turn ask t final rest)) (sym same) s
 
-pub settle-again : {D : Type 0} (passes : D → Entry → D → Type 0) (d0 d1 d2 d3 : D) (sid : Sid) (turn : ℕ) (ask asked held : SessionAsk) (left : Option ℕ) → turn < turns → asked ≡ ask → Led passes d0 d1 (SettlesBy sid turn ask)
+pub settle-again : {D : Type 0} (passes : D → Entry → D → Type 0) (d0 d1 d2 d3 : D) (sid : Sid) (turn : ℕ) (ask asked held : SessionAsk) (left : Option ℕ)
+    → turn < turns → asked ≡ ask → Led passes d0 d1 (SettlesBy sid turn ask)
     → passes d1 (Asked asked (Hold held)) d2 → passes d2 (Waited None (Again left)) d3 → Led passes d0 d3 (SettlesBy sid (turn + 1) ask)
 settle-again passes d0 d1 d2 d3 sid turn ask asked held left lt same led p q =
-    led-more passes d0 d1 d3 (SettlesBy sid turn ask) (SettlesBy sid (turn + 1) ask) (Asked asked (Hold held) ∷ Waited None (Again left) ∷ []) led (d2, p, (d3, q, refl))
+    led-more passes d0 d1 d3 (SettlesBy sid turn ask) (SettlesBy sid (turn + 1) ask) (Asked asked (Hold held) ∷ Waited None (Again left) ∷ []) led (d2, p,
+        (d3, q, refl))
     (λ t rest so final rest' w. so final rest' (awaits-open sid turn ask (Asked asked (Hold held) ∷ Waited None (Again left) ∷ rest) final rest' lt (same, w)))
 
-pub settle-over : {D : Type 0} (passes : D → Entry → D → Type 0) (d0 d1 d2 d3 d4 : D) (sid : Sid) (turn : ℕ) (ask asked held : SessionAsk) (final : SessionAnswer) → turn < turns → asked ≡ ask → Led passes d0 d1 (SettlesBy sid turn ask)
-    → passes d1 (Asked asked (Hold held)) d2 → passes d2 (Waited None Over) d3 → Led passes d3 d4 (λ t rest. Queues sid SettingsConflict t final rest) → Led passes d0 d4 (λ t rest. Settles sid 0 ask t final rest)
+pub settle-over : {D : Type 0} (passes : D → Entry → D
+    → Type 0) (d0 d1 d2 d3 d4 : D) (sid : Sid) (turn : ℕ) (ask asked held : SessionAsk) (final : SessionAnswer) → turn < turns → asked ≡ ask
+    → Led passes d0 d1 (SettlesBy sid turn ask)
+    → passes d1 (Asked asked (Hold held)) d2 → passes d2 (Waited None Over) d3 → Led passes d3 d4 (λ t rest. Queues sid SettingsConflict t final rest)
+        → Led passes d0 d4 (λ t rest. Settles sid 0 ask t final rest)
 settle-over passes d0 d1 d2 d3 d4 sid turn ask asked held final lt same led p q last =
     let P : List Entry → List Entry → Type 0 = λ t mid. (rest : List Entry) → Queues sid SettingsConflict mid final rest → Settles sid 0 ask t final rest in
-    let held' : Led passes d0 d3 P = led-more passes d0 d1 d3 (SettlesBy sid turn ask) P (Asked asked (Hold held) ∷ Waited None Over ∷ []) led (d2, p, (d3, q, refl))
+    let held' : Led passes d0 d3 P = led-more passes d0 d1 d3 (SettlesBy sid turn ask) P (Asked asked (Hold held) ∷ Waited None Over ∷ []) led (d2, p,
+        (d3, q, refl))
     (λ t mid so rest w. so final rest (awaits-open sid turn ask (Asked asked (Hold held) ∷ Waited None Over ∷ mid) final rest lt (same, w))) in
-    led-then passes d0 d3 d4 P (λ t rest. Queues sid SettingsConflict t final rest) (λ t rest. Settles sid 0 ask t final rest) held' last (λ t u rest so w. so rest w)
+    led-then passes d0 d3 d4 P (λ t rest. Queues sid SettingsConflict t final rest) (λ t rest. Settles sid 0 ask t final rest) held' last (λ t u rest so w.
+        so rest w)
 
-pub settle-end : {D : Type 0} (passes : D → Entry → D → Type 0) (d0 d1 d2 : D) (sid : Sid) (turn : ℕ) (ask : SessionAsk) (final : SessionAnswer) → turn ≡ turns → Led passes d0 d1 (SettlesBy sid turn ask)
+pub settle-end : {D : Type 0} (passes : D → Entry → D → Type 0) (d0 d1 d2 : D) (sid : Sid) (turn : ℕ) (ask : SessionAsk) (final : SessionAnswer) → turn ≡ turns
+    → Led passes d0 d1 (SettlesBy sid turn ask)
     → Led passes d1 d2 (λ t rest. Queues sid SettingsConflict t final rest) → Led passes d0 d2 (λ t rest. Settles sid 0 ask t final rest)
 settle-end passes d0 d1 d2 sid turn ask final is led last =
     led-then passes d0 d1 d2 (SettlesBy sid turn ask) (λ t rest. Queues sid SettingsConflict t final rest) (λ t rest. Settles sid 0 ask t final rest) led last
     (λ t u rest so w. so final rest (awaits-last sid turn ask u final rest is w))
 
-settles-told : (sid : Sid) (turn : ℕ) (ask asked : SessionAsk) (final : SessionAnswer) (rest : List Entry) → asked ≡ ask → ((held : SessionAsk) → final ≡ Hold held → ⊥) → Settles sid turn ask (Asked asked final ∷ rest) final rest
+settles-told : (sid : Sid) (turn : ℕ) (ask asked : SessionAsk) (final : SessionAnswer) (rest : List Entry) → asked ≡ ask
+    → ((held : SessionAsk) → final ≡ Hold held → ⊥) → Settles sid turn ask (Asked asked final ∷ rest) final rest
 settles-told sid turn ask asked (Hold held) rest same differ = absurd (differ held refl)
 settles-told sid turn ask asked (Joined s) rest same differ = (same, refl, refl)
 settles-told sid turn ask asked Full rest same differ = (same, refl, refl)
@@ -76,7 +90,8 @@ settles-told sid turn ask asked (Refused e) rest same differ = (same, refl, refl
 settles-told sid turn ask asked (Worn back) rest same differ = (same, refl, refl)
 settles-told sid turn ask asked (Snapshot s) rest same differ = (same, refl, refl)
 
-pub settle-told : {D : Type 0} (passes : D → Entry → D → Type 0) (d0 d1 d2 : D) (sid : Sid) (turn : ℕ) (ask asked : SessionAsk) (final : SessionAnswer) → turn < turns → asked ≡ ask → ((held : SessionAsk) → final ≡ Hold held → ⊥) → Led passes d0 d1 (SettlesBy sid turn ask)
+pub settle-told : {D : Type 0} (passes : D → Entry → D → Type 0) (d0 d1 d2 : D) (sid : Sid) (turn : ℕ) (ask asked : SessionAsk) (final : SessionAnswer)
+    → turn < turns → asked ≡ ask → ((held : SessionAsk) → final ≡ Hold held → ⊥) → Led passes d0 d1 (SettlesBy sid turn ask)
     → passes d1 (Asked asked final) d2 → Led passes d0 d2 (λ t rest. Settles sid 0 ask t final rest)
 settle-told passes d0 d1 d2 sid turn ask asked final lt same differ led p =
     led-more passes d0 d1 d2 (SettlesBy sid turn ask) (λ t rest. Settles sid 0 ask t final rest) (Asked asked final ∷ []) led (d2, p, refl)
@@ -85,10 +100,12 @@ settle-told passes d0 d1 d2 sid turn ask asked final lt same differ led p =
 -- a unit that was begun is concluded
 pub serve-unit : {D : Type 0} (passes : D → Entry → D → Type 0) (d0 d1 d2 : D) (sid : Sid) (command : Result Command ScpiError) (answered : Bool) (path : Nodes)
     (macros macros' : Table) (answers : List (List ℕ)) (answer : SessionAnswer) (after : After) (answers' : List (List ℕ)) → answered ≡ has_answers answers
-    → Led passes d0 d1 (λ t rest. Begins sid answered command macros t (begun answer macros' rest)) → Led passes d1 d2 (λ t rest. Concludes sid answers answer t after answers' rest)
+    → Led passes d0 d1 (λ t rest. Begins sid answered command macros t (begun answer macros' rest))
+        → Led passes d1 d2 (λ t rest. Concludes sid answers answer t after answers' rest)
     → Led passes d0 d2 (λ t rest. Serves sid command (standing path macros answers t) after (standing path macros' answers' rest))
 serve-unit passes d0 d1 d2 sid command answered path macros macros' answers answer after answers' told p q =
-    led-then passes d0 d1 d2 (λ t rest. Begins sid answered command macros t (begun answer macros' rest)) (λ t rest. Concludes sid answers answer t after answers' rest)
+    led-then passes d0 d1 d2 (λ t rest. Begins sid answered command macros t (begun answer macros' rest)) (λ t rest.
+        Concludes sid answers answer t after answers' rest)
     (λ t rest. Serves sid command (standing path macros answers t) after (standing path macros' answers' rest)) p q
     (λ t mid rest b k. (answer, mid, subst (λ (w : Bool). Begins sid w command macros t (begun answer macros' mid)) told b, k, refl))
 
@@ -96,14 +113,16 @@ serve-unit passes d0 d1 d2 sid command answered path macros macros' answers answ
 abbrev pub ScriptsBy : List ℕ → List UnitView → List ℕ → Type 0
 ScriptsBy text front left = (us : List UnitView) (ending : Ending) → IsScript left us ending → IsScript text (front ++ us) ending
 
-pub scripts-more : (text left rest : List ℕ) (front : List UnitView) (u : UnitView) → IsUnit left u rest → ScriptsBy text front left → ScriptsBy text (front ++ u ∷ []) rest
+pub scripts-more : (text left rest : List ℕ) (front : List UnitView) (u : UnitView) → IsUnit left u rest → ScriptsBy text front left
+    → ScriptsBy text (front ++ u ∷ []) rest
 scripts-more text left rest front u is so us ending s =
     subst (λ (l : List UnitView). IsScript text l ending) (sym (append_assoc front (u ∷ []) us)) (so (u ∷ us) ending (rest, is, s))
 
 -- what is talked from this standing on is talked from the first one on, after these units
 abbrev pub TalksBy : Way → Sid → List UnitView → Standing → Standing → Type 0
 TalksBy way sid front s told =
-    (us : List UnitView) (ending : Ending) (after : After) (s' : Standing) → Talks way sid us ending told after s' → Talks way sid (front ++ us) ending s after s'
+    (us : List UnitView) (ending : Ending) (after : After) (s' : Standing) → Talks way sid us ending told after s'
+        → Talks way sid (front ++ us) ending s after s'
 
 stops : (on : Standing → Type 0) (after : After) (told : Standing) → (after ≡ Goes → ⊥) → Proceeds on after told after told
 stops on Goes told differs = absurd (differs refl)
@@ -116,7 +135,8 @@ module _ {D : Type 0} (passes : D → Entry → D → Type 0) (way : Way) (sid :
   talk-starts d s = led-none passes d (λ t rest. TalksBy way sid [] (s t) (s rest)) (λ rest us ending after s' w. w)
 
   -- a unit was talked over, and the talk goes on
-  pub talk-goes : (d0 d1 d2 : D) (front : List UnitView) (u : UnitView) (s told told' : List Entry → Standing) → Led passes d0 d1 (λ t rest. TalksBy way sid front (s t) (told rest))
+  pub talk-goes : (d0 d1 d2 : D) (front : List UnitView) (u : UnitView) (s told told' : List Entry → Standing)
+      → Led passes d0 d1 (λ t rest. TalksBy way sid front (s t) (told rest))
       → Led passes d1 d2 (λ t rest. way u (told t) Goes (told' rest)) → Led passes d0 d2 (λ t rest. TalksBy way sid (front ++ u ∷ []) (s t) (told' rest))
   talk-goes d0 d1 d2 front u s told told' p q =
       led-then passes d0 d1 d2 (λ t rest. TalksBy way sid front (s t) (told rest)) (λ t rest. way u (told t) Goes (told' rest))
@@ -143,7 +163,8 @@ module _ {D : Type 0} (passes : D → Entry → D → Type 0) (way : Way) (sid :
       (λ t rest. Talks way sid (front ++ []) (Refuses e) (s t) after (told' rest)) p q (λ t mid rest so k. so [] (Refuses e) after (told' rest) k)
 
   -- the text is over
-  pub talk-complete : (d0 d1 : D) (front : List UnitView) (s told : List Entry → Standing) → Led passes d0 d1 (λ t rest. TalksBy way sid front (s t) (told rest))
+  pub talk-complete : (d0 d1 : D) (front : List UnitView) (s told : List Entry → Standing)
+      → Led passes d0 d1 (λ t rest. TalksBy way sid front (s t) (told rest))
       → Led passes d0 d1 (λ t rest. Talks way sid (front ++ []) Complete (s t) Goes (told rest))
   talk-complete d0 d1 front s told p =
       led-so passes d0 d1 (λ t rest. TalksBy way sid front (s t) (told rest)) (λ t rest. Talks way sid (front ++ []) Complete (s t) Goes (told rest)) p
@@ -151,15 +172,19 @@ module _ {D : Type 0} (passes : D → Entry → D → Type 0) (way : Way) (sid :
 
 -- what goes from line to line is also this
 on-line-so : {D : Type 0} (passes : D → Entry → D → Type 0) (a b : Spot D) (P Q : Standing → Standing → Type 0) → OnLine passes a b P
-    → ((answers answers' : List (List ℕ)) (t rest : List Entry) → P (stands_at a answers t) (stands_at b answers' rest) → Q (stands_at a answers t) (stands_at b answers' rest)) → OnLine passes a b Q
+    → ((answers answers' : List (List ℕ)) (t rest : List Entry) → P (stands_at a answers t) (stands_at b answers' rest)
+        → Q (stands_at a answers t) (stands_at b answers' rest)) → OnLine passes a b Q
 on-line-so passes a b P Q on so = λ answers written.
     let s = on answers written in
-    (s.0, s.1, led-so passes a.desk b.desk (λ t rest. P (stands_at a answers t) (stands_at b s.0 rest)) (λ t rest. Q (stands_at a answers t) (stands_at b s.0 rest)) s.2
+    (s.0, s.1, led-so passes a.desk b.desk (λ t rest. P (stands_at a answers t) (stands_at b s.0 rest)) (λ t rest.
+        Q (stands_at a answers t) (stands_at b s.0 rest)) s.2
     (λ t rest k. so answers s.0 t rest k))
 
 -- a unit's command or refusal is served below the path that it leaves
-pub itself-served : {D : Type 0} (passes : D → Entry → D → Type 0) (a b : Spot D) (sid : Sid) (u : UnitView) (command : Result Command ScpiError) (after : After)
-    → Resolves u a.path command b.path → OnLine passes (record a { path = b.path }) b (λ s s'. Serves sid command s after s') → OnLine passes a b (λ s s'. Itself sid u s after s')
+pub itself-served : {D : Type 0} (passes : D → Entry → D
+    → Type 0) (a b : Spot D) (sid : Sid) (u : UnitView) (command : Result Command ScpiError) (after : After)
+    → Resolves u a.path command b.path → OnLine passes (record a { path = b.path }) b (λ s s'. Serves sid command s after s')
+        → OnLine passes a b (λ s s'. Itself sid u s after s')
 itself-served passes a b sid u command after r on = λ answers written.
     let s = on answers written in
     (s.0, s.1, led-so passes a.desk b.desk (λ t rest. Serves sid command (stands_at (record a { path = b.path }) answers t) after (stands_at b s.0 rest))
@@ -168,7 +193,8 @@ itself-served passes a b sid u command after r on = λ answers written.
 expands : (c : Bool) (sid : Sid) (u : UnitView) (s s' : Standing) (after : After) → calls s.macros u ≡ c
     → MatchBool c ((r : Result (List ℕ) ScpiError) × IsExpansion s.macros u r × Unfolds sid r s after s') (Itself sid u s after s') → Expanded sid u s after s'
 expands c sid u s s' after is m =
-    subst (λ (x : Bool). MatchBool x ((r : Result (List ℕ) ScpiError) × IsExpansion s.macros u r × Unfolds sid r s after s') (Itself sid u s after s')) (sym is) m
+    subst (λ (x : Bool). MatchBool x ((r : Result (List ℕ) ScpiError) × IsExpansion s.macros u r
+        × Unfolds sid r s after s') (Itself sid u s after s')) (sym is) m
 
 -- a unit that calls no macro is itself
 pub expanded-itself : {D : Type 0} (passes : D → Entry → D → Type 0) (a b : Spot D) (sid : Sid) (u : UnitView) (after : After) → calls a.macros u ≡ false
@@ -183,7 +209,8 @@ fault-expands t u written e (inl lost) = inr (ap (λ (x : ScpiError). Err x) los
 fault-expands t u written e (inr so) = inl (written, so)
 
 -- the units of an expansion stand in a unit's place
-pub expanded-units : {D : Type 0} (passes : D → Entry → D → Type 0) (a b : Spot D) (sid : Sid) (u : UnitView) (text : List ℕ) (after : After) → calls a.macros u ≡ true
+pub expanded-units : {D : Type 0} (passes : D → Entry → D → Type 0) (a b : Spot D) (sid : Sid) (u : UnitView) (text : List ℕ) (after : After)
+    → calls a.macros u ≡ true
     → IsExpansion a.macros u (Ok text) → TalksLine (Itself sid) passes sid text a after b → OnLine passes a b (λ s s'. Expanded sid u s after s')
 expanded-units passes a b sid u text after is x talks = λ answers written.
     let s = talks answers written in
@@ -192,16 +219,20 @@ expanded-units passes a b sid u text after is x talks = λ answers written.
     (λ t rest k. expands true sid u (stands_at a answers t) (stands_at b s.2 rest) after is (Ok text, x, (s.0, s.1, s.3, k))))
 
 -- the fault of an expansion is queued
-pub expanded-fault : {D : Type 0} (passes : D → Entry → D → Type 0) (a b : Spot D) (sid : Sid) (u : UnitView) (e : ScpiError) (after : After) → calls a.macros u ≡ true
+pub expanded-fault : {D : Type 0} (passes : D → Entry → D → Type 0) (a b : Spot D) (sid : Sid) (u : UnitView) (e : ScpiError) (after : After)
+    → calls a.macros u ≡ true
     → IsExpansion a.macros u (Err e) → OnLine passes a b (λ s s'. Serves sid (Err e) s after s') → OnLine passes a b (λ s s'. Expanded sid u s after s')
 expanded-fault passes a b sid u e after is x on =
     on-line-so passes a b (λ s s'. Serves sid (Err e) s after s') (λ s s'. Expanded sid u s after s') on
     (λ answers answers' t rest k. expands true sid u (stands_at a answers t) (stands_at b answers' rest) after is (Err e, x, k))
 
 -- a message that isn't too long, over a trace after which nothing is left
-pub talked-units : {D : Type 0} (passes : D → Entry → D → Type 0) (old new : D) (sid : Sid) (macros macros' : Table) (message text bytes : List ℕ) (units : List UnitView)
-    (ending : Ending) (after : After) (path : Nodes) (answers : List (List ℕ)) → text ≡ strip_last 10 message → length text ≤ longest → IsScript text units ending
-    → bytes ≡ written after answers → Led passes old new (λ t rest. Talks (Expanded sid) sid units ending (standing [] macros [] t) after (standing path macros' answers rest))
+pub talked-units : {D : Type 0} (passes : D → Entry → D
+    → Type 0) (old new : D) (sid : Sid) (macros macros' : Table) (message text bytes : List ℕ) (units : List UnitView)
+    (ending : Ending) (after : After) (path : Nodes) (answers : List (List ℕ)) → text ≡ strip_last 10 message → length text ≤ longest
+        → IsScript text units ending
+    → bytes ≡ written after answers
+        → Led passes old new (λ t rest. Talks (Expanded sid) sid units ending (standing [] macros [] t) after (standing path macros' answers rest))
     → Talked passes old new sid macros message bytes macros'
 talked-units passes old new sid macros macros' message text bytes units ending after path answers is few script writes led =
     let short : nat_lt longest (length text) ≡ false = grind (arith, nat_tests) in
@@ -212,11 +243,13 @@ talked-units passes old new sid macros macros' message text bytes units ending a
       after = after;
       path = path;
       answers = answers;
-      talks = subst (λ (t : List Entry). Talks (Expanded sid) sid units ending (standing [] macros [] t) after (standing path macros' answers [])) (append-nil led.trace) (led.admits []);
+      talks = subst (λ (t : List Entry).
+          Talks (Expanded sid) sid units ending (standing [] macros [] t) after (standing path macros' answers [])) (append-nil led.trace) (led.admits []);
       writes = writes;
     } in
     let all : TalksMessage sid macros text led.trace bytes macros' =
-        subst (λ (b : Bool). MatchBool b (Overruns sid led.trace bytes × (macros' ≡ macros)) (TalksUnits sid macros text led.trace bytes macros')) (sym short) talk in
+        subst (λ (b : Bool). MatchBool b (Overruns sid led.trace bytes
+            × (macros' ≡ macros)) (TalksUnits sid macros text led.trace bytes macros')) (sym short) talk in
     record {
       trace = led.trace;
       leads = led.leads;
@@ -224,12 +257,18 @@ talked-units passes old new sid macros macros' message text bytes units ending a
     }
 
 -- a message that is too long
-pub talked-overrun : {D : Type 0} (passes : D → Entry → D → Type 0) (old new : D) (sid : Sid) (macros macros' : Table) (message text bytes : List ℕ) (final : SessionAnswer) → text ≡ strip_last 10 message → longest < length text
-    → bytes ≡ [] → macros' ≡ macros → Led passes old new (λ t rest. Queues sid InputBufferOverrun t final rest) → Talked passes old new sid macros message bytes macros'
+pub talked-overrun : {D : Type 0} (passes : D → Entry → D
+    → Type 0) (old new : D) (sid : Sid) (macros macros' : Table) (message text bytes : List ℕ) (final : SessionAnswer) → text ≡ strip_last 10 message
+    → longest < length text
+    → bytes ≡ [] → macros' ≡ macros → Led passes old new (λ t rest. Queues sid InputBufferOverrun t final rest)
+        → Talked passes old new sid macros message bytes macros'
 talked-overrun passes old new sid macros macros' message text bytes final is much writes kept led =
     let long : nat_lt longest (length text) ≡ true = grind (arith, nat_tests) in
-    let over : Overruns sid led.trace bytes = (final, subst (λ (t : List Entry). Queues sid InputBufferOverrun t final []) (append-nil led.trace) (led.admits []), writes) in
-    let all : TalksMessage sid macros text led.trace bytes macros' = subst (λ (b : Bool). MatchBool b (Overruns sid led.trace bytes × (macros' ≡ macros)) (TalksUnits sid macros text led.trace bytes macros')) (sym long) (over, kept) in
+    let over : Overruns sid led.trace bytes =
+        (final, subst (λ (t : List Entry). Queues sid InputBufferOverrun t final []) (append-nil led.trace) (led.admits []), writes) in
+    let all : TalksMessage sid macros text led.trace bytes macros' =
+        subst (λ (b : Bool). MatchBool b (Overruns sid led.trace bytes
+        × (macros' ≡ macros)) (TalksUnits sid macros text led.trace bytes macros')) (sym long) (over, kept) in
     record {
       trace = led.trace;
       leads = led.leads;

@@ -1,10 +1,11 @@
 -- For which sessions a message is available (IEEE 488.2, 11.2.1.2), as they noted it.
-use Rattle.std.specs.Prelude.{ℕ, ◌-◌, ◌==◌, ◌&&◌, Bool, true, false, nat_le, List, Option, Some, None, replicate, slice_set, if◌then◌else◌}
+use Rattle.std.specs.Prelude.{ℕ, ◌-◌, ◌==◌, ◌&&◌, Bool, true, false, nat_le, List, Option, Some, None, replicate}
+use Rattle.std.specs.Prelude.{slice_set, if◌then◌else◌}
 use Rattle.sw_base.specs.Layout.{slot_at}
 use Rattle.sw_core.specs.declared.ask.Sid.{Sid}
 
--- For each of the sixteen session numbers, from 1 on: the session of that number for which a message is available, by the
--- number of events after its Join.
+-- For each of the sixteen session numbers, from 1 on: the session of that number for which a message is available, by
+-- the number of events after its Join.
 abbrev pub Notes : Type 0
 Notes = List (Option ℕ)
 

@@ -7,7 +7,8 @@ use Rattle.sw_core.specs.declared.ask.SessionAsk.{SessionAsk}
 use Rattle.sw_core.specs.declared.ask.SessionAnswer.{SessionAnswer}
 use Rattle.sw_core.specs.declared.ask.Work.{Work}
 use Rattle.sw_core.specs.Panel.{Panel}
-use Rattle.sw_core.specs.View.{WorkView, Measures, Pauses, AskView, AskSession, AskElapsed, AskFinished, AnswerView, SaysSession, SaysTaken}
+use Rattle.sw_core.specs.View.{WorkView, Measures, Pauses, AskView, AskSession, AskElapsed, AskFinished, AnswerView}
+use Rattle.sw_core.specs.View.{SaysSession, SaysTaken}
 use Rattle.sw_core.specs.Step.{Step}
 use Rattle.sw_session.specs.declared.desk.View.{View}
 use Rattle.sw_session.specs.declared.desk.Wake.TheVariants.{Again, Over}
@@ -29,8 +30,8 @@ abbrev pub piece_seen : {M : _} → Work M → WorkView
 piece_seen (Work.Measure job) = Measures job.1
 piece_seen (Work.Pause ticket micros) = Pauses ticket micros
 
--- a piece that was carried out: what the mainframe was told, whether a card failed in that call, what it answered, and its
--- state after that
+-- a piece that was carried out: what the mainframe was told, whether a card failed in that call, what it answered, and
+-- its state after that
 pub record Carried : Type 0 where
   pub ask : AskView
   pub failed : Bool
@@ -52,8 +53,8 @@ pub record CarriesOut (old : Panel) (piece : WorkView) (c : Carried) : Type 0 wh
   pub tells : Tells piece c.ask
   pub step : Step old c.ask c.failed c.answer c.after
 
--- Work that came with an answer is kept behind the rest. Pieces for which a growth was refused are carried out at once, as
--- is what comes of that.
+-- Work that came with an answer is kept behind the rest. Pieces for which a growth was refused are carried out at once,
+-- as is what comes of that.
 abbrev pub Keeps : List Carried → DeskSeen → Option WorkView → DeskSeen → Type 0
 Keeps [] d None new = new ≡ d
 Keeps [] d (Some piece) new = new ≡ record d { work = d.work ++ piece ∷ [] }
@@ -73,7 +74,8 @@ pub record IsCarried (old : DeskSeen) (piece : WorkView) (brings : Option WorkVi
   pub leaves : new ≡ record old { panel = c.after }
 
 -- an ask is one step of the mainframe, and its work is kept
-pub record Answers (carried : List Carried) (old : DeskSeen) (ask : SessionAsk) (answer : SessionAnswer) (new : DeskSeen) : Type 0 where
+pub record Answers (carried : List Carried) (old : DeskSeen) (ask : SessionAsk) (answer : SessionAnswer)
+    (new : DeskSeen) : Type 0 where
   pub failed : Bool
   pub brings : Option WorkView
   pub after : Panel
@@ -96,8 +98,8 @@ view_of d sid = record {
   mav = is_available d.available sid;
 }
 
--- What is carried out in one call: at an ask nothing and at a wait one piece, where no growth is refused. A wait takes no
--- time, and is over where nothing is outstanding.
+-- What is carried out in one call: at an ask nothing and at a wait one piece, where no growth is refused. A wait takes
+-- no time, and is over where nothing is outstanding.
 abbrev pub PassesBy : List Carried → DeskSeen → Entry → DeskSeen → Type 0
 PassesBy carried old (Asked ask answer) new = Answers carried old ask answer new
 PassesBy (c ∷ carried) old (Waited limit (Again left)) new = (left ≡ limit) × Works c carried old new

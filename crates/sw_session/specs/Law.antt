@@ -33,8 +33,8 @@ SameCall (Polled sid v) (Polled sid' v') follows = (sid ≡ sid') × (v ≡ v' �
 SameCall (Noted sid mav) (Noted sid' mav') follows = (sid ≡ sid') × (mav ≡ mav') × follows
 SameCall entry entry' follows = ⊥
 
--- Two talks ask, wait, look and note the same, until the desk answers differently. Where it never does, they end together
--- and leave the same.
+-- Two talks ask, wait, look and note the same, until the desk answers differently. Where it never does, they end
+-- together and leave the same.
 abbrev pub SameTalk : {T : Type 0} → T → T → List Entry → List Entry → Type 0
 SameTalk end end' [] [] = end ≡ end'
 SameTalk end end' (entry ∷ trace) (entry' ∷ trace') = SameCall entry entry' (SameTalk end end' trace trace')
@@ -48,10 +48,12 @@ pub record Left : Type 0 where
 abbrev pub left : List ℕ → Table → Left
 left bytes macros = record { bytes = bytes; macros = macros }
 
--- The message, the macros and what the desk answers determine what is asked, what is written and the macros after it, where
--- no growth was refused.
+-- The message, the macros and what the desk answers determine what is asked, what is written and the macros after it,
+-- where no growth was refused.
 abbrev pub TalkIsDetermined : Type 0
-TalkIsDetermined = (sid : Sid) (macros : Table) (text : List ℕ) (trace trace' : List Entry) (bytes bytes' : List ℕ) (kept kept' : Table) → TalksMessage sid macros text trace bytes kept → TalksMessage sid macros text trace' bytes' kept' → AllAmple trace → AllAmple trace'
+TalkIsDetermined = (sid : Sid) (macros : Table) (text : List ℕ) (trace trace' : List Entry) (bytes bytes' : List ℕ)
+    (kept kept' : Table) → TalksMessage sid macros text trace bytes kept
+    → TalksMessage sid macros text trace' bytes' kept' → AllAmple trace → AllAmple trace'
     → SameTalk (left bytes kept) (left bytes' kept') trace trace'
 
 -- the mainframe tells of no want of memory and of no card's failure
@@ -74,7 +76,8 @@ AllSmooth (e ∷ trace) [] = ⊥
 AllSmooth (e ∷ trace) (c ∷ carried) = IsSmooth e c × AllSmooth trace carried
 
 -- the pieces that were carried out, call by call
-abbrev pub carried_of : (old : DeskSeen) (trace : List Entry) (new : DeskSeen) → Leads CorePasses old trace new → List (List Carried)
+abbrev pub carried_of : (old : DeskSeen) (trace : List Entry) (new : DeskSeen) → Leads CorePasses old trace new
+    → List (List Carried)
 carried_of old [] new l = []
 carried_of old (e ∷ trace) new (mid, passes, l) = passes.0 ∷ carried_of mid trace new l
 
@@ -93,14 +96,19 @@ outcomes_of [] = []
 outcomes_of (c ∷ carried) = outcomes_in c ++ outcomes_of carried
 
 -- the pieces that were carried out in a talk
-abbrev pub carried_in : {old new : DeskSeen} {sid : Sid} {macros macros' : Table} {message bytes : List ℕ} → Talked CorePasses old new sid macros message bytes macros' → List (List Carried)
+abbrev pub carried_in : {old new : DeskSeen} {sid : Sid} {macros macros' : Table} {message bytes : List ℕ}
+    → Talked CorePasses old new sid macros message bytes macros' → List (List Carried)
 carried_in {old} {new} t = carried_of old t.trace new t.leads
 
 -- Over a mainframe the message, the macros and the outcomes of the measurements that are carried out determine what is
 -- asked, answered and written, the desk that is left and the macros, where no growth was refused and no card failed.
 abbrev pub CoreTalkIsDetermined : Type 0
-CoreTalkIsDetermined = (sid : Sid) (d e e' : DeskSeen) (macros kept kept' : Table) (message bytes bytes' : List ℕ) (t : Talked CorePasses d e sid macros message bytes kept) (t' : Talked CorePasses d e' sid macros message bytes' kept') → AllAmple t.trace → AllAmple t'.trace
-    → AllSmooth t.trace (carried_in t) → AllSmooth t'.trace (carried_in t') → outcomes_of (carried_in t) ≡ outcomes_of (carried_in t') → (t.trace ≡ t'.trace) × (bytes ≡ bytes') × (kept ≡ kept') × (e ≡ e')
+CoreTalkIsDetermined = (sid : Sid) (d e e' : DeskSeen) (macros kept kept' : Table) (message bytes bytes' : List ℕ)
+    (t : Talked CorePasses d e sid macros message bytes kept)
+    (t' : Talked CorePasses d e' sid macros message bytes' kept') → AllAmple t.trace → AllAmple t'.trace
+    → AllSmooth t.trace (carried_in t) → AllSmooth t'.trace (carried_in t')
+        → outcomes_of (carried_in t) ≡ outcomes_of (carried_in t') → (t.trace ≡ t'.trace) × (bytes ≡ bytes')
+        × (kept ≡ kept') × (e ≡ e')
 
 -- the calls of a rest that succeeds, and the pieces that were carried out in them
 abbrev pub waits_of : {old new : DeskSeen} → Rests old true new → List Entry
@@ -111,4 +119,6 @@ carried_at_rest {old} {new} r = carried_of old (waits_of r) new r.leads
 
 -- A rest that succeeds leaves one desk for what is measured, where no growth was refused and no card failed.
 abbrev pub CoreRestIsDetermined : Type 0
-CoreRestIsDetermined = (d e e' : DeskSeen) (r : Rests d true e) (r' : Rests d true e') → AllSmooth (waits_of r) (carried_at_rest r) → AllSmooth (waits_of r') (carried_at_rest r') → outcomes_of (carried_at_rest r) ≡ outcomes_of (carried_at_rest r') → e ≡ e'
+CoreRestIsDetermined = (d e e' : DeskSeen) (r : Rests d true e) (r' : Rests d true e')
+    → AllSmooth (waits_of r) (carried_at_rest r) → AllSmooth (waits_of r') (carried_at_rest r')
+    → outcomes_of (carried_at_rest r) ≡ outcomes_of (carried_at_rest r') → e ≡ e'

@@ -1,13 +1,16 @@
 -- The macro commands: what each does to a session's macros, and what it answers (IEEE 488.2, 10.7 to 10.9, 10.13, 10.16
 -- and 10.22; 8.7.9 for the block).
-use Rattle.std.specs.Prelude.{◌≡◌, ℕ, ◌+◌, List, [], ◌∷◌, ◌++◌, length, map, decimal, Option, Some, None, Result, Ok, Err}
+use Rattle.std.specs.Prelude.{◌≡◌, ℕ, ◌+◌, List, [], ◌∷◌, ◌++◌, length, map, decimal, Option, Some, None, Result, Ok}
+use Rattle.std.specs.Prelude.{Err}
 use Rattle.std.specs.List.{join_with_byte}
 use Rattle.sw_base.specs.declared.error.ScpiError.{ScpiError}
 use Rattle.sw_base.specs.declared.error.ScpiError.TheVariants.{OutOfMemory}
 use Rattle.sw_lex.specs.declared.command.Command.{Command}
-use Rattle.sw_lex.specs.declared.command.Command.TheVariants.{DefineMacro, MacroQuery, MacroLabelsQuery, RemoveMacro, PurgeMacros, EnableMacros, EnableMacrosQuery}
+use Rattle.sw_lex.specs.declared.command.Command.TheVariants.{DefineMacro, MacroQuery, MacroLabelsQuery, RemoveMacro}
+use Rattle.sw_lex.specs.declared.command.Command.TheVariants.{PurgeMacros, EnableMacros, EnableMacrosQuery}
 use Rattle.sw_macro.specs.Label.{in_capitals}
-use Rattle.sw_macro.specs.Table.{Table, labels, body_of, with_macro, without_macro, refusal_to_define, refusal_to_find, RefusedBy}
+use Rattle.sw_macro.specs.Table.{Table, labels, body_of, with_macro, without_macro, refusal_to_define, refusal_to_find}
+use Rattle.sw_macro.specs.Table.{RefusedBy}
 use Rattle.sw_core.specs.Answers.{flag_of}
 
 -- what a command comes to: its answer, if it has one, or its refusal
@@ -42,7 +45,8 @@ Tells text (Err e) = e ≡ OutOfMemory
 
 -- *DMC: the macro is defined; or its first refusal, or want of memory, and the macros stay
 abbrev pub Defines : List ℕ → List ℕ → Table → Told → Table → Type 0
-Defines label body t (Ok text) t' = (refusal_to_define t label body ≡ None) × (text ≡ None) × (t' ≡ with_macro t label body)
+Defines label body t (Ok text) t' = (refusal_to_define t label body ≡ None) × (text ≡ None)
+    × (t' ≡ with_macro t label body)
 Defines label body t (Err e) t' = RefusedBy (refusal_to_define t label body) e × (t' ≡ t)
 
 -- *RMC: the macro is removed; or its refusal, and the macros stay
@@ -52,7 +56,8 @@ Removes label t (Err e) t' = (refusal_to_find t label ≡ Some e) × (t' ≡ t)
 
 -- *GMC?: the macro's body as a block; or its refusal, or want of memory
 abbrev pub TellsBody : List ℕ → Table → Told → Type 0
-TellsBody label t (Ok text) = (body : List ℕ) × (refusal_to_find t label ≡ None) × (body_of (in_capitals label) t.macros ≡ Some body) × (text ≡ Some (block_of body))
+TellsBody label t (Ok text) = (body : List ℕ) × (refusal_to_find t label ≡ None)
+    × (body_of (in_capitals label) t.macros ≡ Some body) × (text ≡ Some (block_of body))
 TellsBody label t (Err e) = RefusedBy (refusal_to_find t label) e
 
 -- What a macro command does to the macros, and what it comes to.

@@ -1,5 +1,6 @@
 -- What is asked after each answer, and what is written (IEEE 488.2, 6.3, 8.4 and 10.7; SCPI-1999, 21.8).
-use Rattle.std.specs.Prelude.{◌≡◌, ℕ, ◌+◌, ◌^◌, ◌⊎◌, ◌==◌, Bool, true, false, nat_lt, nat_le, ◌&&◌, MatchBool, List, [], ◌∷◌, ◌++◌, Some, None, Result, Ok, Err, length, if◌then◌else◌}
+use Rattle.std.specs.Prelude.{◌≡◌, ℕ, ◌+◌, ◌^◌, ◌⊎◌, ◌==◌, Bool, true, false, nat_lt, nat_le, ◌&&◌, MatchBool, List, []}
+use Rattle.std.specs.Prelude.{◌∷◌, ◌++◌, Some, None, Result, Ok, Err, length, if◌then◌else◌}
 use Rattle.sw_base.specs.declared.error.ScpiError.{ScpiError}
 use Rattle.sw_base.specs.declared.error.ScpiError.TheVariants.{SettingsConflict, OutOfMemory, InputBufferOverrun}
 use Rattle.sw_base.specs.Errors.{number_of}
@@ -11,7 +12,8 @@ use Rattle.sw_macro.specs.Table.{Table}
 use Rattle.sw_macro.specs.Expansion.{calls, Expands}
 use Rattle.sw_verify.specs.declared.refusal.Refusal.{Refusal}
 use Rattle.sw_verify.specs.Check.{IsReady, IsRefused, error_of}
-use Rattle.sw_core.specs.Action.{Effect, IsOfMacros, Initiates, Resets, Action, AtOnce, BetweenScans, AfterScan, action_of}
+use Rattle.sw_core.specs.Action.{Effect, IsOfMacros, Initiates, Resets, Action, AtOnce, BetweenScans, AfterScan}
+use Rattle.sw_core.specs.Action.{action_of}
 use Rattle.sw_core.specs.declared.ask.Sid.{Sid}
 use Rattle.sw_core.specs.declared.ask.SessionAsk.{SessionAsk}
 use Rattle.sw_core.specs.declared.ask.SessionAsk.TheVariants as Ask
@@ -72,8 +74,8 @@ Settles sid turn ask (Asked a (Hold b) ∷ trace) final rest = ⊥
 Settles sid turn ask (Asked a r ∷ trace) final rest = (a ≡ ask) × (final ≡ r) × (rest ≡ trace)
 Settles sid turn ask trace final rest = ⊥
 
--- What comes of a snapshot: the scan of one that is ready is asked to start, else the first refusal is queued; where there
--- is no memory for the plan of one that is ready, -225 is. Any other answer is the unit's.
+-- What comes of a snapshot: the scan of one that is ready is asked to start, else the first refusal is queued; where
+-- there is no memory for the plan of one that is ready, -225 is. Any other answer is the unit's.
 abbrev pub Plans : Sid → SessionAnswer → List Entry → SessionAnswer → List Entry → Type 0
 Plans sid (Answer.Snapshot s) trace final rest =
     (IsReady s × Settles sid 0 (Ask.Start sid s) trace final rest)

@@ -9,7 +9,8 @@ use Rattle.sw_session.specs.declared.desk.Wake.{Wake}
 use Rattle.sw_session.specs.declared.desk.Wake.TheVariants.{Again, Over}
 
 -- One call of a desk: what it was asked and answered; for how many milliseconds at most a wait was to last, and how it
--- ended; which session was looked at, and what was seen; or of which session it was noted whether a message is available.
+-- ended; which session was looked at, and what was seen; or of which session it was noted whether a message is
+-- available.
 pub data Entry : Type 0 where
   Asked : SessionAsk → SessionAnswer → Entry
   Waited : Option ℕ → Wake → Entry
@@ -35,7 +36,8 @@ LeavesOf (Some limit) (Again (Some left)) = left ≤ limit
 LeavesOf limit wake = ⊥
 
 -- The desk goes from old to new by a trace that P admits: P takes a trace, and what is left of it after this part.
-pub record Led {D : Type 0} (passes : D → Entry → D → Type 0) (old new : D) (P : List Entry → List Entry → Type 0) : Type 0 where
+pub record Led {D : Type 0} (passes : D → Entry → D → Type 0) (old new : D) (P : List Entry → List Entry
+    → Type 0) : Type 0 where
   pub trace : List Entry
   pub leads : Leads passes old trace new
   pub admits : (rest : List Entry) → P (trace ++ rest) rest

@@ -2,7 +2,8 @@
 
 ghost use Rattle.std.specs.Prelude.{◌≡◌, Ok};
 ghost use Rattle.sw_session.specs.Trace.{Led};
-ghost use Rattle.sw_session.specs.Talk.{Queues, Settles, Begins, begun, Reports, StartsScan, Plans, table_reset, is_done, queued};
+ghost use Rattle.sw_session.specs.Talk.{Queues, Settles, Begins, begun, Reports, StartsScan, Plans, table_reset};
+ghost use Rattle.sw_session.specs.Talk.{is_done, queued};
 
 use crate::desk::{Desk, Wake};
 use crate::macros::{Outcome, define, remove, tell_body, tell_enabled, tell_labels};
@@ -26,7 +27,8 @@ pub fn begin<D: Desk>(
     command: Result<Command, ScpiError>,
     answered: bool,
 ) -> SessionAnswer
-    ensures { Led D.passes desk.old desk.new (λ t rest. Begins sid answered command macros.old t (begun result macros.new rest)) }
+    ensures { Led D.passes desk.old desk.new (λ t rest.
+        Begins sid answered command macros.old t (begun result macros.new rest)) }
 {
     match command {
         Ok(command) => carry_out(desk, sid, alloc, macros, command, answered),
@@ -43,7 +45,8 @@ fn carry_out<D: Desk>(
     command: Command,
     answered: bool,
 ) -> SessionAnswer
-    ensures { Led D.passes desk.old desk.new (λ t rest. Begins sid answered (Ok command) macros.old t (begun result macros.new rest)) }
+    ensures { Led D.passes desk.old desk.new (λ t rest.
+        Begins sid answered (Ok command) macros.old t (begun result macros.new rest)) }
 {
     match command {
         Command::DefineMacro(label, body) => {
@@ -92,7 +95,8 @@ fn report<D: Desk>(desk: &mut D, sid: Sid, outcome: Outcome) -> SessionAnswer
 
 /// Asks for a reset; one that is done switches macros off.
 fn reset<D: Desk>(desk: &mut D, sid: Sid, macros: &mut Macros, answered: bool) -> SessionAnswer
-    ensures asked { Led D.passes desk.old desk.new (λ t rest. Settles sid 0 (SessionAsk.Unit sid Command.Reset answered) t result rest) }
+    ensures asked { Led D.passes desk.old desk.new (λ t rest.
+        Settles sid 0 (SessionAsk.Unit sid Command.Reset answered) t result rest) }
     ensures switched { macros.new ≡ table_reset result macros.old }
 {
     let answer = settle(desk, sid, SessionAsk::Unit(sid, Command::Reset, answered));

@@ -6,8 +6,8 @@ ghost use Rattle.sw_session.specs.Available.{no_notes, is_available, with_note};
 use std::marker::Model;
 use sw_core::Sid;
 
-/// What was noted of each of the sixteen session numbers: the session of that number for which a message is available, by
-/// the number of events after its Join.
+/// What was noted of each of the sixteen session numbers: the session of that number for which a message is available,
+/// by the number of events after its Join.
 #[derive(Drop)]
 pub struct Available {
     notes: [Option<u64>; 16],

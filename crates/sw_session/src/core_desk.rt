@@ -13,8 +13,8 @@ use std::marker::Model;
 use sw_card::{Meter, Relay};
 use sw_core::{Answer, Ask, Core, SessionAnswer, SessionAsk, Sid, Work};
 
-/// A desk over a mainframe of its own, on one thread. Contracts see the mainframe's panel, the work that is outstanding,
-/// the oldest first, and for which sessions a message is available.
+/// A desk over a mainframe of its own, on one thread. Contracts see the mainframe's panel, the work that is
+/// outstanding, the oldest first, and for which sessions a message is available.
 ///
 /// A wait carries out the oldest piece, and is over where there is none. Nothing takes time, so that all
 /// of its limit is left. A piece for which there is no memory is carried out at once.

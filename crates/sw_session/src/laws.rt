@@ -6,8 +6,8 @@ use sw_core::step_is_determined;
 use sw_lex::{one_meaning, one_reading};
 use sw_macro::one_expansion;
 
-/// A law: what a session asks and writes, and its macros after that, are determined by its message, its macros and by what
-/// it is answered, where no growth is refused.
+/// A law: what a session asks and writes, and its macros after that, are determined by its message, its macros and by
+/// what it is answered, where no growth is refused.
 pub fn talk_is_determined()
     ensures { TalkIsDetermined }
 {
@@ -16,8 +16,8 @@ pub fn talk_is_determined()
     one_expansion();
 }
 
-/// A law: over a mainframe the message, the macros and what is measured determine what is written, the macros after it and
-/// the desk that is left, where no growth is refused and no card fails.
+/// A law: over a mainframe the message, the macros and what is measured determine what is written, the macros after it
+/// and the desk that is left, where no growth is refused and no card fails.
 pub fn core_talk_is_determined()
     ensures { CoreTalkIsDetermined }
 {
@@ -25,8 +25,8 @@ pub fn core_talk_is_determined()
     talk_is_determined();
 }
 
-/// A law: over a mainframe what is measured determines the desk that a rest leaves, where no growth is refused and no card
-/// fails.
+/// A law: over a mainframe what is measured determines the desk that a rest leaves, where no growth is refused and no
+/// card fails.
 pub fn core_rest_is_determined()
     ensures { CoreRestIsDetermined }
 {

@@ -83,7 +83,8 @@ fn labels_text(alloc: Global, macros: &Macros) -> Result<Sequence<u8>, AllocErro
 
 /// Adds a label in double quotes, behind a comma where labels stand before it.
 fn add_label(text: &mut Vec<u8>, label: &[u8]) -> Result<(), AllocError>
-    ensures { OnOk result ((before : List (List ℕ)) → text.old.items ≡ row_of before → text.new.items ≡ row_of (before ++ label.now ∷ [])) }
+    ensures { OnOk result ((before : List (List ℕ)) → text.old.items ≡ row_of before
+        → text.new.items ≡ row_of (before ++ label.now ∷ [])) }
 {
     if !text.is_empty() {
         text.push(b',')?;

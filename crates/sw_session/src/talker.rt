@@ -47,9 +47,9 @@ impl Talker {
     ///
     /// One line feed at the message's end is dropped. A message of more than 65,536 bytes is dropped whole, with error
     /// -363. A unit that calls a macro is replaced by its expansion, whose units are final. An error from -100 to -199
-    /// drops the rest of the message, any other its unit alone. Where the desk answers that the session is being cleared,
-    /// is joined no more, or that nothing more can be numbered, nothing is written. An answer or an expansion that finds
-    /// no memory is dropped, with error -225.
+    /// drops the rest of the message, any other its unit alone. Where the desk answers that the session is being
+    /// cleared, is joined no more, or that nothing more can be numbered, nothing is written. An answer or an expansion
+    /// that finds no memory is dropped, with error -225.
     pub fn message<D: Desk>(&mut self, text: &[u8], desk: &mut D) -> Vec<u8>
         ensures talked { Talked D.passes desk.old desk.new self.old.sid self.old.macros
             text.now result.items self.new.macros }
@@ -223,7 +223,8 @@ fn has_answers(out: &[u8]) -> bool
     !out.is_empty()
 }
 
-/// Adds a unit's answer to those that are written. Where there is no memory for it, it is dropped and that error queued.
+/// Adds a unit's answer to those that are written. Where there is no memory for it, it is dropped and that error
+/// queued.
 fn conclude<D: Desk>(desk: &mut D, sid: Sid, answer: &SessionAnswer, out: &mut Vec<u8>) -> After
     ensures { ConcludesLine D.passes sid answer.now
         (written_at desk.old out.old.items) result (written_at desk.new out.new.items) }

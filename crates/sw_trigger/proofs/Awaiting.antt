@@ -1,5 +1,6 @@
 -- The awaiting items of an agenda.
-use Rattle.std.proofs.Common.{◌≡◌, ℕ, zero, suc, ◌+◌, ◌-◌, ◌*◌, ◌%◌, ◌<◌, ◌≤◌, List, [], ◌∷◌, ◌++◌, length, map, Bool, true, false, Some, cond, eqb, refl, sym, ap, ◌∙◌, arith, length-append}
+use Rattle.std.proofs.Common.{◌≡◌, ℕ, zero, suc, ◌+◌, ◌-◌, ◌*◌, ◌%◌, ◌<◌, ◌≤◌, List, [], ◌∷◌, ◌++◌, length, map, Bool, true, false, Some, cond, eqb, refl, sym}
+use Rattle.std.proofs.Common.{ap, ◌∙◌, arith, length-append}
 use Rattle.std.specs.List.{slice_get}
 use Rattle.std.proofs.Math.Nat.{suc-mul}
 use Rattle.std.proofs.lemmas.Bool.Decides.{nat_tests}
@@ -13,7 +14,8 @@ use Rattle.sw_base.specs.declared.terms.Source.TheVariants.{Immediate, Bus, Exte
 use Rattle.sw_trigger.specs.declared.layer.Awaited.{Awaited}
 use Rattle.sw_trigger.specs.declared.layer.Awaited.TheVariants.{Pause, Read}
 use Rattle.sw_trigger.specs.Settings.{Setup}
-use Rattle.sw_trigger.specs.Agenda.{Item, Awaits, Close, Open, repeated, head_of, passes, pass_of, visit, channel_at, arm1_turn, arm2_turn, agenda, wait_of, pause_of}
+use Rattle.sw_trigger.specs.Agenda.{Item, Awaits, Close, Open, repeated, head_of, passes, pass_of, visit, channel_at, arm1_turn, arm2_turn, agenda, wait_of}
+use Rattle.sw_trigger.specs.Agenda.{pause_of}
 use Rattle.sw_trigger.specs.Counts.{awaiting, reads, in_pass, in_arm2, in_arm1}
 use Rattle.sw_trigger.proofs.Repeats.{length-repeated, get-repeated, get-append_left, get-append_right}
 
@@ -42,7 +44,8 @@ awaiting-passes s k (suc n) =
     ∙ ap (λ l. in_pass s ++ l) (awaiting-passes s (suc k) n)
 
 pub awaiting-arm2_turn : (s : Setup) → awaiting (arm2_turn s) ≡ in_arm2 s
-awaiting-arm2_turn s = awaiting-after_head (head_of Arm2 s.arm2) (passes s 0 s.trigger.count) ∙ ap (λ l. head_of Arm2 s.arm2 ++ l) (awaiting-passes s 0 s.trigger.count)
+awaiting-arm2_turn s = awaiting-after_head (head_of Arm2 s.arm2) (passes s 0 s.trigger.count)
+    ∙ ap (λ l. head_of Arm2 s.arm2 ++ l) (awaiting-passes s 0 s.trigger.count)
 
 pub awaiting-arm1_turn : (s : Setup) → awaiting (arm1_turn s) ≡ in_arm1 s
 awaiting-arm1_turn s =
@@ -60,10 +63,12 @@ pub length-in_pass : (s : Setup) → length (in_pass s) ≡ length (head_of Trig
 length-in_pass s = length-append (head_of Trigger s.trigger) (Read ∷ [])
 
 pub length-in_arm2 : (s : Setup) → length (in_arm2 s) ≡ length (head_of Arm2 s.arm2) + s.trigger.count * length (in_pass s)
-length-in_arm2 s = length-append (head_of Arm2 s.arm2) (repeated s.trigger.count (in_pass s)) ∙ ap (λ n. length (head_of Arm2 s.arm2) + n) (length-repeated s.trigger.count (in_pass s))
+length-in_arm2 s = length-append (head_of Arm2 s.arm2) (repeated s.trigger.count (in_pass s))
+    ∙ ap (λ n. length (head_of Arm2 s.arm2) + n) (length-repeated s.trigger.count (in_pass s))
 
 pub length-in_arm1 : (s : Setup) → length (in_arm1 s) ≡ length (head_of Arm1 s.arm1) + s.arm2.count * length (in_arm2 s)
-length-in_arm1 s = length-append (head_of Arm1 s.arm1) (repeated s.arm2.count (in_arm2 s)) ∙ ap (λ n. length (head_of Arm1 s.arm1) + n) (length-repeated s.arm2.count (in_arm2 s))
+length-in_arm1 s = length-append (head_of Arm1 s.arm1) (repeated s.arm2.count (in_arm2 s))
+    ∙ ap (λ n. length (head_of Arm1 s.arm1) + n) (length-repeated s.arm2.count (in_arm2 s))
 
 pub length-awaiting : (s : Setup) → 0 < length s.list → length (awaiting (agenda s)) ≡ s.arm1.count * length (in_arm1 s)
 length-awaiting s h = ap length (awaiting-agenda s h) ∙ length-repeated s.arm1.count (in_arm1 s)
@@ -100,10 +105,12 @@ reads-head name l =
 pub reads-passes : (s : Setup) (k n : ℕ) → reads (passes s k n) ≡ n
 reads-passes s k zero = refl
 reads-passes s k (suc n) =
-    omega (arith, reads-append (pass_of s k) (passes s (suc k) n), reads-append (map Awaits (head_of Trigger s.trigger)) (visit (channel_at s.list k)), reads-head Trigger s.trigger, reads-passes s (suc k) n)
+    omega (arith, reads-append (pass_of s k) (passes s (suc k) n), reads-append (map Awaits (head_of Trigger s.trigger)) (visit (channel_at s.list k)),
+        reads-head Trigger s.trigger, reads-passes s (suc k) n)
 
 pub reads-arm2_turn : (s : Setup) → reads (arm2_turn s) ≡ s.trigger.count
-reads-arm2_turn s = omega (arith, reads-append (map Awaits (head_of Arm2 s.arm2)) (passes s 0 s.trigger.count), reads-head Arm2 s.arm2, reads-passes s 0 s.trigger.count)
+reads-arm2_turn s = omega (arith, reads-append (map Awaits (head_of Arm2 s.arm2)) (passes s 0 s.trigger.count), reads-head Arm2 s.arm2,
+    reads-passes s 0 s.trigger.count)
 
 pub reads-arm1_turn : (s : Setup) → reads (arm1_turn s) ≡ s.arm2.count * s.trigger.count
 reads-arm1_turn s =
@@ -114,13 +121,15 @@ pub reads-agenda : (s : Setup) → 0 < length s.list → reads (agenda s) ≡ s.
 reads-agenda s h = ap reads (agenda_is s h) ∙ reads-repeated s.arm1.count (arm1_turn s) ∙ ap (λ n. s.arm1.count * n) (reads-arm1_turn s)
 
 -- what the program multiplies
-pub readings_is : (s : Setup) (c1 c2 c3 : ℕ) → 0 < length s.list → c1 ≡ s.arm1.count → c2 ≡ s.arm2.count → c3 ≡ s.trigger.count → c1 * (c2 * c3) ≡ reads (agenda s)
+pub readings_is : (s : Setup) (c1 c2 c3 : ℕ) → 0 < length s.list → c1 ≡ s.arm1.count → c2 ≡ s.arm2.count → c3 ≡ s.trigger.count
+    → c1 * (c2 * c3) ≡ reads (agenda s)
 readings_is s c1 c2 c3 h k1 k2 k3 = let e = reads-agenda s h in cc
 
 pub bound_is : (s : Setup) (c1 l1 : ℕ) → 0 < length s.list → c1 ≡ s.arm1.count → l1 ≡ length (in_arm1 s) → c1 * l1 ≡ length (awaiting (agenda s))
 bound_is s c1 l1 h k e = let a = length-awaiting s h in cc
 
-pub arm2_is : (s : Setup) (h2 c3 l3 : ℕ) → h2 ≡ length (head_of Arm2 s.arm2) → c3 ≡ s.trigger.count → l3 ≡ length (in_pass s) → h2 + c3 * l3 ≡ length (in_arm2 s)
+pub arm2_is : (s : Setup) (h2 c3 l3 : ℕ) → h2 ≡ length (head_of Arm2 s.arm2) → c3 ≡ s.trigger.count → l3 ≡ length (in_pass s)
+    → h2 + c3 * l3 ≡ length (in_arm2 s)
 arm2_is s h2 c3 l3 e k f = let a = length-in_arm2 s in cc
 
 pub arm1_is : (s : Setup) (h1 c2 l2 : ℕ) → h1 ≡ length (head_of Arm1 s.arm1) → c2 ≡ s.arm2.count → l2 ≡ length (in_arm2 s) → h1 + c2 * l2 ≡ length (in_arm1 s)
@@ -170,7 +179,8 @@ module _ (s : Setup) (n : ℕ) (within : n < length (awaiting (agenda s))) where
       ∙ get-append_right (head_of Arm1 s.arm1) (repeated s.arm2.count (in_arm2 s)) place1 j (omega arith)
       ∙ get-repeated s.arm2.count (in_arm2 s) j (omega (arith, length-in_arm1 s))
 
-  pub at_arm2_head : length (head_of Arm1 s.arm1) ≤ place1 → place2 < length (head_of Arm2 s.arm2) → slice_get (awaiting (agenda s)) n ≡ slice_get (head_of Arm2 s.arm2) place2
+  pub at_arm2_head : length (head_of Arm1 s.arm1) ≤ place1 → place2 < length (head_of Arm2 s.arm2)
+      → slice_get (awaiting (agenda s)) n ≡ slice_get (head_of Arm2 s.arm2) place2
   at_arm2_head h k = at_arm2 h ∙ get-append_left (head_of Arm2 s.arm2) (repeated s.trigger.count (in_pass s)) place2 k
 
   at_pass : length (head_of Arm1 s.arm1) ≤ place1 → length (head_of Arm2 s.arm2) ≤ place2 → slice_get (awaiting (agenda s)) n ≡ slice_get (in_pass s) place3
@@ -178,16 +188,19 @@ module _ (s : Setup) (n : ℕ) (within : n < length (awaiting (agenda s))) where
       let j = place2 - length (head_of Arm2 s.arm2) in
       let some1 : 0 < length (in_arm1 s) = pos_factor n s.arm1.count (length (in_arm1 s)) (omega (arith, length-awaiting s listed)) in
       let lt1 : place1 < length (in_arm1 s) = mod_below n (length (in_arm1 s)) some1 in
-      let some2 : 0 < length (in_arm2 s) = pos_factor (place1 - length (head_of Arm1 s.arm1)) s.arm2.count (length (in_arm2 s)) (omega (arith, length-in_arm1 s)) in
+      let some2 : 0 < length (in_arm2 s) =
+          pos_factor (place1 - length (head_of Arm1 s.arm1)) s.arm2.count (length (in_arm2 s)) (omega (arith, length-in_arm1 s)) in
       let lt2 : place2 < length (in_arm2 s) = mod_below (place1 - length (head_of Arm1 s.arm1)) (length (in_arm2 s)) some2 in
       at_arm2 h
       ∙ get-append_right (head_of Arm2 s.arm2) (repeated s.trigger.count (in_pass s)) place2 j (omega arith)
       ∙ get-repeated s.trigger.count (in_pass s) j (omega (arith, length-in_arm2 s))
 
-  pub at_pass_head : length (head_of Arm1 s.arm1) ≤ place1 → length (head_of Arm2 s.arm2) ≤ place2 → place3 < length (head_of Trigger s.trigger) → slice_get (awaiting (agenda s)) n ≡ slice_get (head_of Trigger s.trigger) place3
+  pub at_pass_head : length (head_of Arm1 s.arm1) ≤ place1 → length (head_of Arm2 s.arm2) ≤ place2 → place3 < length (head_of Trigger s.trigger)
+      → slice_get (awaiting (agenda s)) n ≡ slice_get (head_of Trigger s.trigger) place3
   at_pass_head h k m = at_pass h k ∙ get-append_left (head_of Trigger s.trigger) (Read ∷ []) place3 m
 
-  pub at_read : length (head_of Arm1 s.arm1) ≤ place1 → length (head_of Arm2 s.arm2) ≤ place2 → length (head_of Trigger s.trigger) ≤ place3 → slice_get (awaiting (agenda s)) n ≡ Some Read
+  pub at_read : length (head_of Arm1 s.arm1) ≤ place1 → length (head_of Arm2 s.arm2) ≤ place2 → length (head_of Trigger s.trigger) ≤ place3
+      → slice_get (awaiting (agenda s)) n ≡ Some Read
   at_read h k m =
       let lt : place3 < length (in_pass s) = mod_below (place2 - length (head_of Arm2 s.arm2)) (length (in_pass s)) (omega (arith, length-in_pass s)) in
       at_pass h k ∙ get-append_right (head_of Trigger s.trigger) (Read ∷ []) place3 0 (omega (arith, length-in_pass s))
@@ -207,7 +220,8 @@ pub some_arm1 : (s : Setup) (n : ℕ) → n < length (awaiting (agenda s)) → 0
 some_arm1 s n w = let l = listed_from_within s n w in pos_factor n s.arm1.count (length (in_arm1 s)) (omega (arith, length-awaiting s l))
 
 -- the item at a place, by the lengths that the program has
-module _ (s : Setup) (n h1 l1 h2 l2 l3 : ℕ) (within : n < length (awaiting (agenda s))) (e1 : h1 ≡ length (head_of Arm1 s.arm1)) (k1 : l1 ≡ length (in_arm1 s)) (e2 : h2 ≡ length (head_of Arm2 s.arm2)) (k2 : l2 ≡ length (in_arm2 s)) (k3 : l3 ≡ length (in_pass s)) where
+module _ (s : Setup) (n h1 l1 h2 l2 l3 : ℕ) (within : n < length (awaiting (agenda s))) (e1 : h1 ≡ length (head_of Arm1 s.arm1)) (k1 : l1
+    ≡ length (in_arm1 s)) (e2 : h2 ≡ length (head_of Arm2 s.arm2)) (k2 : l2 ≡ length (in_arm2 s)) (k3 : l3 ≡ length (in_pass s)) where
   p1 : n % l1 ≡ place1 s n within
   p1 = cc
 
@@ -229,8 +243,10 @@ module _ (s : Setup) (n h1 l1 h2 l2 l3 : ℕ) (within : n < length (awaiting (ag
   pub found_arm2 : h1 ≤ n % l1 → (n % l1 - h1) % l2 < h2 → slice_get (awaiting (agenda s)) n ≡ slice_get (head_of Arm2 s.arm2) ((n % l1 - h1) % l2)
   found_arm2 h k = at_arm2_head s n within (omega (arith, p1)) (omega (arith, p2)) ∙ ap (slice_get (head_of Arm2 s.arm2)) (sym p2)
 
-  pub found_pass : h1 ≤ n % l1 → h2 ≤ (n % l1 - h1) % l2 → ((n % l1 - h1) % l2 - h2) % l3 + 1 < l3 → slice_get (awaiting (agenda s)) n ≡ slice_get (head_of Trigger s.trigger) (((n % l1 - h1) % l2 - h2) % l3)
-  found_pass h k m = at_pass_head s n within (omega (arith, p1)) (omega (arith, p2)) (omega (arith, p3, length-in_pass s)) ∙ ap (slice_get (head_of Trigger s.trigger)) (sym p3)
+  pub found_pass : h1 ≤ n % l1 → h2 ≤ (n % l1 - h1) % l2 → ((n % l1 - h1) % l2 - h2) % l3 + 1 < l3
+      → slice_get (awaiting (agenda s)) n ≡ slice_get (head_of Trigger s.trigger) (((n % l1 - h1) % l2 - h2) % l3)
+  found_pass h k m = at_pass_head s n within (omega (arith, p1)) (omega (arith, p2)) (omega (arith, p3, length-in_pass s))
+      ∙ ap (slice_get (head_of Trigger s.trigger)) (sym p3)
 
   pub found_read : h1 ≤ n % l1 → h2 ≤ (n % l1 - h1) % l2 → l3 ≤ ((n % l1 - h1) % l2 - h2) % l3 + 1 → slice_get (awaiting (agenda s)) n ≡ Some Read
   found_read h k m = at_read s n within (omega (arith, p1)) (omega (arith, p2)) (omega (arith, p3, length-in_pass s))

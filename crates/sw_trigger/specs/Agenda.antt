@@ -1,6 +1,7 @@
--- What a scan does, as one list: the ARM-TRIGger model (SCPI-1999, chapter 24) with two ARM layers round the TRIGger layer;
--- the order of the layers is this instrument's own.
-use Rattle.std.specs.Prelude.{ℕ, zero, suc, ◌%◌, ◌==◌, List, [], ◌∷◌, ◌++◌, length, map, take, slice_index_or, if◌then◌else◌}
+-- What a scan does, as one list: the ARM-TRIGger model (SCPI-1999, chapter 24) with two ARM layers round the TRIGger
+-- layer; the order of the layers is this instrument's own.
+use Rattle.std.specs.Prelude.{ℕ, zero, suc, ◌%◌, ◌==◌, List, [], ◌∷◌, ◌++◌, length, map, take, slice_index_or}
+use Rattle.std.specs.Prelude.{if◌then◌else◌}
 use Rattle.sw_base.specs.Layout.{Channel}
 use Rattle.sw_base.specs.declared.terms.Source.{Source}
 use Rattle.sw_base.specs.declared.terms.Source.TheVariants.{Immediate, Bus, External, Hold}

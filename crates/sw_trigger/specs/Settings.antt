@@ -1,5 +1,5 @@
--- The settings of a scan: the layers of the ARM-TRIGger model (SCPI-1999, chapter 24), the scan list, the meter's slot and
--- the room for readings.
+-- The settings of a scan: the layers of the ARM-TRIGger model (SCPI-1999, chapter 24), the scan list, the meter's slot
+-- and the room for readings.
 use Rattle.std.specs.Prelude.{ℕ, ◌≤◌, List, [], length}
 use Rattle.sw_base.specs.Layout.{Channel}
 pub use Rattle.sw_base.specs.Limits.{longest_delay}

@@ -70,7 +70,8 @@ impl Settings {
     /// Sets a layer's count; -222 outside its range.
     pub fn set_count(&mut self, name: LayerName, count: u32) -> Result<(), ScpiError>
         ensures taken { IsOk result ↔ (1 ≤ count) × (count ≤ most_of name) }
-        ensures set { OnOk result (self.new ≡ with_layer self.old name (record (layer_of self.old name) { count = count })) }
+        ensures set { OnOk result (self.new
+            ≡ with_layer self.old name (record (layer_of self.old name) { count = count })) }
         ensures kept { OnErr result (self.new ≡ self.old) }
         ensures error { IfErr result (λ e. e ≡ DataOutOfRange) }
     {
@@ -93,7 +94,8 @@ impl Settings {
     /// Sets a layer's delay, in microseconds; -222 above an hour.
     pub fn set_delay(&mut self, name: LayerName, delay_us: u64) -> Result<(), ScpiError>
         ensures taken { IsOk result ↔ (delay_us ≤ longest_delay) }
-        ensures set { OnOk result (self.new ≡ with_layer self.old name (record (layer_of self.old name) { delay_us = delay_us })) }
+        ensures set { OnOk result (self.new
+            ≡ with_layer self.old name (record (layer_of self.old name) { delay_us = delay_us })) }
         ensures kept { OnErr result (self.new ≡ self.old) }
         ensures error { IfErr result (λ e. e ≡ DataOutOfRange) }
     {

@@ -1,7 +1,9 @@
 -- What the tests of the check tell.
-use Rattle.std.proofs.Common.{◌≡◌, ℕ, zero, suc, ◌%◌, ◌<◌, ◌≤◌, Bool, true, false, ◌&&◌, not, List, [], ◌∷◌, length, take, get_or, eqb, refl, sym, ap, ◌∙◌, subst, ⊎_elim, inl, inr, arith}
+use Rattle.std.proofs.Common.{◌≡◌, ℕ, zero, suc, ◌%◌, ◌<◌, ◌≤◌, Bool, true, false, ◌&&◌, not, List, [], ◌∷◌, length, take, get_or, eqb, refl, sym, ap, ◌∙◌}
+use Rattle.std.proofs.Common.{subst, ⊎_elim, inl, inr, arith}
 use Rattle.std.specs.List.{list_all, list_any, Any}
-use Rattle.std.proofs.lemmas.Bool.{cases_Bool, and_parts, and_cases, and_from, or_cases, or_left, or_right, eqb-false, eq-eqb, eqb-true, ne_eqb, not-true, not-false, not_from_false, both_ways, false_from_ne_true, true_from_ne_false}
+use Rattle.std.proofs.lemmas.Bool.{cases_Bool, and_parts, and_cases, and_from, or_cases, or_left, or_right, eqb-false, eq-eqb, eqb-true, ne_eqb, not-true}
+use Rattle.std.proofs.lemmas.Bool.{not-false, not_from_false, both_ways, false_from_ne_true, true_from_ne_false}
 use Rattle.std.proofs.Math.Nat.{mod-eq_of_lt, mod-lt, mod-le}
 use Rattle.sw_base.specs.Layout.{Channel, Layout, is_present, group_of, IsClash}
 use Rattle.sw_trigger.specs.Settings.{Setup, IsInRange}
@@ -20,11 +22,13 @@ all_at p (x ∷ xs) zero d h j k l = absurd (omega arith)
 all_at p (x ∷ xs) (suc n) d h zero k l = (and_parts (p x) (list_all p (take n xs)) h).0
 all_at p (x ∷ xs) (suc n) d h (suc j) k l = all_at p xs n d (and_parts (p x) (list_all p (take n xs)) h).1 j (omega arith) (omega arith)
 
-all_from : {X : Type 0} (p : X → Bool) (xs : List X) (n : ℕ) (d : X) → ((j : ℕ) → j < n → j < length xs → p (get_or xs j d) ≡ true) → list_all p (take n xs) ≡ true
+all_from : {X : Type 0} (p : X → Bool) (xs : List X) (n : ℕ) (d : X) → ((j : ℕ) → j < n → j < length xs → p (get_or xs j d) ≡ true)
+    → list_all p (take n xs) ≡ true
 all_from p [] zero d h = refl
 all_from p [] (suc n) d h = refl
 all_from p (x ∷ xs) zero d h = refl
-all_from p (x ∷ xs) (suc n) d h = and_from (p x) (list_all p (take n xs)) (h 0 (omega arith) (omega arith)) (all_from p xs n d (λ j k l. h (suc j) (omega arith) (omega arith)))
+all_from p (x ∷ xs) (suc n) d h =
+    and_from (p x) (list_all p (take n xs)) (h 0 (omega arith) (omega arith)) (all_from p xs n d (λ j k l. h (suc j) (omega arith) (omega arith)))
 
 -- an entry that fails the test is there exactly where the list's test fails
 pub any_fails : {X : Type 0} (p : X → Bool) (P : X → Type 0) → ((x : X) → p x ≡ false → P x) → (xs : List X) → list_all p xs ≡ false → Any P xs
@@ -76,7 +80,8 @@ module _ (layout : Layout) (closed : List Channel) (c : Channel) where
       (λ (w : (x : Channel) × (is_among closed x ≡ true) × IsClash layout c x).
       let k = w.2 in
       let here = any_among (in_group layout (group_of layout c)) closed w.0 w.1 (eq-eqb (group_of layout w.0) (group_of layout c) (sym k.same)) in
-      both_ways in_its_group (not-true in_its_group p.1) (and_from (not (eqb (group_of layout c) 0)) (list_any (in_group layout (group_of layout c)) closed) (not_from_false (eqb (group_of layout c) 0) (ne_eqb (group_of layout c) 0 k.grouped)) here))
+      both_ways in_its_group (not-true in_its_group p.1) (and_from (not (eqb (group_of layout c) 0)) (list_any (in_group layout (group_of layout c)) closed)
+          (not_from_false (eqb (group_of layout c) 0) (ne_eqb (group_of layout c) 0 k.grouped)) here))
       b
 
   pub not_free_blocked : is_free layout closed c ≡ false → IsBlocked layout (is_among closed) c
@@ -91,7 +96,8 @@ module _ (layout : Layout) (closed : List Channel) (c : Channel) where
       inr (
         r.0,
         r.1,
-        record { other = λ d. both_ways (is_among closed c) o (subst (λ (y : Channel). is_among closed y ≡ true) (sym d) r.1); grouped = eqb-false (group_of layout c) 0 (not-true (eqb (group_of layout c) 0) p.0); same = sym same },
+        record { other = λ d. both_ways (is_among closed c) o (subst (λ (y : Channel). is_among closed y ≡ true) (sym d) r.1);
+            grouped = eqb-false (group_of layout c) 0 (not-true (eqb (group_of layout c) 0) p.0); same = sym same },
       ))
       (and_cases (not (is_among closed c)) (not in_its_group) f))
       (cases_Bool (is_among closed c))
@@ -112,12 +118,14 @@ module _ (layout : Layout) (closed : List Channel) (c : Channel) where
       (not_free_blocked f))
 
 module _ (layout : Layout) (closed : List Channel) (s : Setup) (listed : 0 < length s.list) (range : IsInRange s) where
-  pub sound_from_tests : list_all (is_present layout) (used_of s) ≡ true → list_all (is_free layout closed) (used_of s) ≡ true → reads (agenda s) ≤ s.points → IsSound layout (is_among closed) s.points (agenda s)
+  pub sound_from_tests : list_all (is_present layout) (used_of s) ≡ true → list_all (is_free layout closed) (used_of s) ≡ true → reads (agenda s) ≤ s.points
+      → IsSound layout (is_among closed) s.points (agenda s)
   sound_from_tests t f r =
       (sound_exactly layout (is_among closed) s s.points listed range).1
       (λ j h. can_close layout closed (channel_at s.list j) (used_at (is_present layout) s listed t j h) (used_at (is_free layout closed) s listed f j h), r)
 
-  pub tests_from_sound : IsSound layout (is_among closed) s.points (agenda s) → (list_all (is_present layout) (used_of s) ≡ true) × (list_all (is_free layout closed) (used_of s) ≡ true)
+  pub tests_from_sound : IsSound layout (is_among closed) s.points (agenda s) → (list_all (is_present layout) (used_of s) ≡ true)
+      × (list_all (is_free layout closed) (used_of s) ≡ true)
   tests_from_sound w =
       let a = ((sound_exactly layout (is_among closed) s s.points listed range).0 w).0 in (
         used_from (is_present layout) s (λ j h. (a j h).present),

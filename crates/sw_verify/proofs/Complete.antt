@@ -1,5 +1,6 @@
 -- What settings compile to passes the verifier's looks, where their agenda is sound.
-use Rattle.std.proofs.Common.{◌≡◌, ℕ, zero, suc, ◌+◌, ◌*◌, ◌/◌, ◌%◌, ◌<◌, ◌≤◌, Bool, true, false, not, cond, eqb, List, [], ◌∷◌, ◌++◌, length, map, Option, Some, None, refl, sym, ap, ◌∙◌, subst, arith, append_assoc, append-nil}
+use Rattle.std.proofs.Common.{◌≡◌, ℕ, zero, suc, ◌+◌, ◌*◌, ◌/◌, ◌%◌, ◌<◌, ◌≤◌, Bool, true, false, not, cond, eqb, List, [], ◌∷◌, ◌++◌, length, map, Option}
+use Rattle.std.proofs.Common.{Some, None, refl, sym, ap, ◌∙◌, subst, arith, append_assoc, append-nil}
 use Rattle.std.proofs.lemmas.Bool.Decides.{nat_tests}
 use Rattle.std.proofs.lemmas.Nat.{div-add-mod'}
 use Rattle.std.proofs.Math.Nat.{suc-mul}
@@ -38,7 +39,8 @@ loop_ends k to f fs go p q =
     let b : not (eqb to f.start) ≡ false = ap (λ n. not (eqb to n)) q ∙ ap not (same_self to) in
     ap (λ v. cond v (Some BadNesting) (cond (not (eqb to f.start)) (Some BadJump) (go fs))) a ∙ ap (λ v. cond v (Some BadJump) (go fs)) b
 
-fault_tree : (t : Tree) (pc : ℕ) (tail : List Step) (fs : List Frame) → IsNested (in_use fs) t → fault_in (flatten t pc ++ tail) pc fs ≡ fault_in tail (pc + size t) fs
+fault_tree : (t : Tree) (pc : ℕ) (tail : List Step) (fs : List Frame) → IsNested (in_use fs) t
+    → fault_in (flatten t pc ++ tail) pc fs ≡ fault_in tail (pc + size t) fs
 fault_tree Nil pc tail fs w = let e : pc ≡ pc + 0 = omega arith in ap (λ (n : ℕ). fault_in tail n fs) e
 fault_tree (Then x rest) pc tail fs w =
     let e : pc + 1 + size rest ≡ pc + (1 + size rest) = omega arith in
@@ -73,7 +75,8 @@ module _ (layout : Layout) where
   right_front b m (Close c ∷ xs) ys h = let r = right_front (with_channel c b) (with_channel c m) xs ys h.1 in ((h.0, r.0), r.1)
   right_front b m (Open c ∷ xs) ys h = let r = right_front (without c b) (without c m) xs ys h.1 in ((h.0, r.0), r.1)
 
-  item_steps : (x : Item) (steps : List Step) (b m : Channels) (ss : List (Channels × Channels)) → AllRight layout b m (x ∷ []) → StepsRight layout steps (effect b (x ∷ [])) (effect m (x ∷ [])) ss → StepsRight layout (step_of x ∷ steps) b m ss
+  item_steps : (x : Item) (steps : List Step) (b m : Channels) (ss : List (Channels × Channels)) → AllRight layout b m (x ∷ [])
+      → StepsRight layout steps (effect b (x ∷ [])) (effect m (x ∷ [])) ss → StepsRight layout (step_of x ∷ steps) b m ss
   item_steps (Awaits (Wait name)) steps b m ss p h = h
   item_steps (Awaits (Pause micros)) steps b m ss p h = h
   item_steps (Awaits Read) steps b m ss p h = h
@@ -89,7 +92,8 @@ module _ (layout : Layout) where
   first_turn b m xs (suc n) p h = (right_front b m xs (repeated n xs) h).0
 
   -- what is right over the whole run is right at each step
-  pub steps_tree : (t : Tree) (pc : ℕ) (tail : List Step) (b m : Channels) (ss : List (Channels × Channels)) → IsLevel b m t → AllRight layout b m (meaning t) → StepsRight layout tail (effect b (meaning t)) (effect m (meaning t)) ss → StepsRight layout (flatten t pc ++ tail) b m ss
+  pub steps_tree : (t : Tree) (pc : ℕ) (tail : List Step) (b m : Channels) (ss : List (Channels × Channels)) → IsLevel b m t → AllRight layout b m (meaning t)
+      → StepsRight layout tail (effect b (meaning t)) (effect m (meaning t)) ss → StepsRight layout (flatten t pc ++ tail) b m ss
   steps_tree Nil pc tail b m ss v h r = r
   steps_tree (Then x rest) pc tail b m ss v h r =
       let a = right_front b m (x ∷ []) (meaning rest) h in
@@ -108,12 +112,15 @@ module _ (layout : Layout) where
       let all_b : effect b (repeated n xs ++ ys) ≡ effect b ys = effect-append b (repeated n xs) ys ∙ ap (λ (c : Channels). effect c ys) eb in
       let all_m : effect m (repeated n xs ++ ys) ≡ effect m ys = effect-append m (repeated n xs) ys ∙ ap (λ (c : Channels). effect c ys) em in
       let tail_right : StepsRight layout tail (effect b ys) (effect m ys) ss =
-            subst (λ (c : Channels). StepsRight layout tail c (effect m ys) ss) all_b (subst (λ (c : Channels). StepsRight layout tail (effect b (repeated n xs ++ ys)) c ss) all_m r) in
+            subst (λ (c : Channels). StepsRight layout tail c (effect m ys) ss) all_b (subst (λ (c : Channels).
+                StepsRight layout tail (effect b (repeated n xs ++ ys)) c ss) all_m r) in
       let rest_steps = steps_tree rest (pc + 2 + size body) tail b m ss v.4 rest_right tail_right in
       let after : StepsRight layout (more ++ tail) (effect b xs) (effect m xs) ss =
-            subst (λ (c : Channels). StepsRight layout (more ++ tail) c (effect m xs) ss) (sym v.2) (subst (λ (c : Channels). StepsRight layout (more ++ tail) b c ss) (sym v.3) rest_steps) in
+            subst (λ (c : Channels). StepsRight layout (more ++ tail) c (effect m xs) ss) (sym v.2) (subst (λ (c : Channels). StepsRight layout (more
+                ++ tail) b c ss) (sym v.3) rest_steps) in
       let body_steps = steps_tree body (pc + 1) (step.Loop k (pc + 1) ∷ (more ++ tail)) b m ((b, m) ∷ ss) v.1 (first_turn b m xs n v.0 a.0) (v.2, v.3, after) in
-      subst (λ (l : List Step). StepsRight layout l b m ((b, m) ∷ ss)) (sym (append_assoc (flatten body (pc + 1)) (step.Loop k (pc + 1) ∷ more) tail)) body_steps
+      subst (λ (l : List Step). StepsRight layout l b m ((b,
+          m) ∷ ss)) (sym (append_assoc (flatten body (pc + 1)) (step.Loop k (pc + 1) ∷ more) tail)) body_steps
 
   -- items in a row have no loop
   level-line : (b m : Channels) (xs : List Item) → IsLevel b m (line xs Nil)
@@ -128,7 +135,8 @@ module _ (layout : Layout) where
   can_from_none : (b : Channels) (c : Channel) → CanClose layout b c → CanClose layout none c
   can_from_none b c k = record { present = k.present; was_open = refl; apart = λ x h. absurd (cc h) }
 
-module _ (layout : Layout) (b : Channels) (s : Setup) (range : IsInRange s) (can : (j : ℕ) → j < s.trigger.count → CanClose layout b (channel_at s.list j)) where
+module _ (layout : Layout) (b : Channels) (s : Setup) (range : IsInRange s) (can : (j : ℕ) → j < s.trigger.count
+    → CanClose layout b (channel_at s.list j)) where
   free : (j : ℕ) → j < s.trigger.count → CanClose layout none (channel_at s.list j)
   free j h = can_from_none layout b (channel_at s.list j) (can j h)
 
@@ -137,7 +145,8 @@ module _ (layout : Layout) (b : Channels) (s : Setup) (range : IsInRange s) (can
     left : ℕ
     left = s.trigger.count % length s.list
 
-    at : (q : ℕ) → q * length s.list + left ≡ s.trigger.count → IsLevel layout b none (cond (eqb q 0) (line (passes s 0 left) Nil) (Times 2 q (line (passes s 0 (length s.list)) Nil) (line (passes s 0 left) Nil)))
+    at : (q : ℕ) → q * length s.list + left ≡ s.trigger.count
+        → IsLevel layout b none (cond (eqb q 0) (line (passes s 0 left) Nil) (Times 2 q (line (passes s 0 (length s.list)) Nil) (line (passes s 0 left) Nil)))
     at zero e = level-line layout b none (passes s 0 left)
     at (suc q) e =
         let n = length s.list in
@@ -158,7 +167,8 @@ module _ (layout : Layout) (b : Channels) (s : Setup) (range : IsInRange s) (can
       let heads2 = head_of Arm2 s.arm2 in
       let body2 = line (map Awaits heads2) (passes_tree s) in
       let body1 = line (map Awaits heads1) (Times 1 s.arm2.count body2 Nil) in
-      let m2 : meaning body2 ≡ arm2_turn s = meaning-line (map Awaits heads2) (passes_tree s) ∙ ap (λ (l : List Item). map Awaits heads2 ++ l) (meaning-passes s) in
+      let m2 : meaning body2 ≡ arm2_turn s = meaning-line (map Awaits heads2) (passes_tree s)
+          ∙ ap (λ (l : List Item). map Awaits heads2 ++ l) (meaning-passes s) in
       let m1 : meaning body1 ≡ arm1_turn s =
       meaning-line (map Awaits heads1) (Times 1 s.arm2.count body2 Nil)
       ∙ ap (λ (l : List Item). map Awaits heads1 ++ l) (append-nil (repeated s.arm2.count (meaning body2)) ∙ ap (repeated s.arm2.count) m2) in
@@ -167,7 +177,8 @@ module _ (layout : Layout) (b : Channels) (s : Setup) (range : IsInRange s) (can
       let b1 : effect b (meaning body1) ≡ b = ap (effect b) m1 ∙ (round-arm1_turn layout b s).keeps (λ u j h g. can j (omega arith)) in
       let n1 : effect none (meaning body1) ≡ none = ap (effect none) m1 ∙ (round-arm1_turn layout none s).keeps (λ u j h g. free j (omega arith)) in
       (range.arm1.count.0,
-      level-awaits layout b none heads1 (Times 1 s.arm2.count body2 Nil) (range.arm2.count.0, level-awaits layout b none heads2 (passes_tree s) level-passes, b2, n2, tt),
+      level-awaits layout b none heads1 (Times 1 s.arm2.count body2 Nil) (range.arm2.count.0, level-awaits layout b none heads2 (passes_tree s) level-passes,
+          b2, n2, tt),
       b1,
       n1,
       tt)
@@ -176,7 +187,8 @@ module _ (layout : Layout) (b : Channels) (s : Setup) (range : IsInRange s) (can
 pub compiled_nested : (s : Setup) → IsInRange s → fault_in (compiled s).steps 0 [] ≡ None
 compiled_nested s range = no_fault (tree_of s) (nested-tree s range)
 
-pub compiled_right : (layout : Layout) (b : Channels) (s : Setup) (room : ℕ) → 0 < length s.list → IsInRange s → IsSound layout b room (agenda s) → StepsRight layout (compiled s).steps b none []
+pub compiled_right : (layout : Layout) (b : Channels) (s : Setup) (room : ℕ) → 0 < length s.list → IsInRange s → IsSound layout b room (agenda s)
+    → StepsRight layout (compiled s).steps b none []
 compiled_right layout b s room listed range sound =
     let can = ((sound_exactly layout b s room listed range).0 sound).0 in
     let is = meaning-tree s listed in
@@ -185,4 +197,5 @@ compiled_right layout b s room listed range sound =
     steps_tree layout (tree_of s) 0 (step.Halt ∷ []) b none [] (level-tree layout b s range can) right n1
   where
     clear : effect none (agenda s) ≡ none
-    clear = (round-agenda layout none s listed range).keeps (λ j h g. can_from_none layout b (channel_at s.list j) (((sound_exactly layout b s room listed range).0 sound).0 j (omega arith)))
+    clear = (round-agenda layout none s listed range).keeps (λ j h g.
+        can_from_none layout b (channel_at s.list j) (((sound_exactly layout b s room listed range).0 sound).0 j (omega arith)))

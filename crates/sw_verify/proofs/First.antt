@@ -6,7 +6,8 @@ use Rattle.sw_base.specs.Layout.{Channel, is_present, has_meter}
 use Rattle.sw_trigger.specs.Agenda.{used_of}
 use Rattle.sw_trigger.specs.Counts.{readings_of}
 use Rattle.sw_verify.specs.declared.refusal.Refusal.{Refusal}
-use Rattle.sw_verify.specs.declared.refusal.Refusal.TheVariants.{EmptyList, NoChannel, NoMeter, GroupClash, TooManyReadings, BadNesting, BadJump, LeftClosed, NotClosed, NoMemory}
+use Rattle.sw_verify.specs.declared.refusal.Refusal.TheVariants.{EmptyList, NoChannel, NoMeter, GroupClash, TooManyReadings, BadNesting, BadJump, LeftClosed}
+use Rattle.sw_verify.specs.declared.refusal.Refusal.TheVariants.{NotClosed, NoMemory}
 use Rattle.sw_verify.specs.declared.snapshot.Snapshot.{Snapshot}
 use Rattle.sw_verify.specs.Channels.{is_among}
 use Rattle.sw_verify.specs.Marks.{is_free}
@@ -14,7 +15,9 @@ use Rattle.sw_verify.specs.Check.{Faulty, number_of, IsFirst, IsBlocked}
 use Rattle.sw_verify.proofs.Checked.{any_fails, none_fails, free_blocked, not_free_blocked}
 
 -- none before r, one by one
-none_before : (p : Snapshot) (r : Refusal) → (1 < number_of r → Faulty EmptyList p → ⊥) → (2 < number_of r → Faulty NoChannel p → ⊥) → (3 < number_of r → Faulty NoMeter p → ⊥) → (4 < number_of r → Faulty GroupClash p → ⊥) → (5 < number_of r → Faulty TooManyReadings p → ⊥) → (q : Refusal) → number_of q < number_of r → Faulty q p → ⊥
+none_before : (p : Snapshot) (r : Refusal) → (1 < number_of r → Faulty EmptyList p → ⊥) → (2 < number_of r → Faulty NoChannel p → ⊥)
+    → (3 < number_of r → Faulty NoMeter p → ⊥) → (4 < number_of r → Faulty GroupClash p → ⊥) → (5 < number_of r → Faulty TooManyReadings p → ⊥) → (q : Refusal)
+    → number_of q < number_of r → Faulty q p → ⊥
 none_before p r a b c d e EmptyList l f = a l f
 none_before p r a b c d e NoChannel l f = b l f
 none_before p r a b c d e NoMeter l f = c l f
@@ -51,23 +54,28 @@ module _ (p : Snapshot) where
   pub first_absent : 0 < length p.settings.list → present ≡ false → IsFirst NoChannel p
   first_absent h t = record {
     applies = any_fails (is_present p.layout) (λ c. is_present p.layout c ≡ false) (λ x a. a) (used_of p.settings) t;
-    none_before = none_before p NoChannel (λ l f. not_empty p.settings.list h f) (λ l f. omega arith) (λ l f. omega arith) (λ l f. omega arith) (λ l f. omega arith);
+    none_before = none_before p NoChannel (λ l f. not_empty p.settings.list h f) (λ l f. omega arith) (λ l f. omega arith) (λ l f. omega arith) (λ l f.
+        omega arith);
   }
 
   pub first_unmeasured : 0 < length p.settings.list → present ≡ true → has_meter p.layout p.settings.meter ≡ false → IsFirst NoMeter p
   first_unmeasured h t m = record {
     applies = m;
-    none_before = none_before p NoMeter (λ l f. not_empty p.settings.list h f) (λ l f. none_absent t f) (λ l f. omega arith) (λ l f. omega arith) (λ l f. omega arith);
+    none_before = none_before p NoMeter (λ l f. not_empty p.settings.list h f) (λ l f. none_absent t f) (λ l f. omega arith) (λ l f. omega arith) (λ l f.
+        omega arith);
   }
 
   pub first_blocked : 0 < length p.settings.list → present ≡ true → has_meter p.layout p.settings.meter ≡ true → free ≡ false → IsFirst GroupClash p
   first_blocked h t m f = record {
     applies = any_fails (is_free p.layout p.closed) (IsBlocked p.layout (is_among p.closed)) (not_free_blocked p.layout p.closed) (used_of p.settings) f;
-    none_before = none_before p GroupClash (λ l f. not_empty p.settings.list h f) (λ l f. none_absent t f) (λ l f. both_ways (has_meter p.layout p.settings.meter) f m) (λ l f. omega arith) (λ l f. omega arith);
+    none_before = none_before p GroupClash (λ l f. not_empty p.settings.list h f) (λ l f. none_absent t f) (λ l f.
+        both_ways (has_meter p.layout p.settings.meter) f m) (λ l f. omega arith) (λ l f. omega arith);
   }
 
-  pub first_too_many : 0 < length p.settings.list → present ≡ true → has_meter p.layout p.settings.meter ≡ true → free ≡ true → p.settings.points < readings_of p.settings → IsFirst TooManyReadings p
+  pub first_too_many : 0 < length p.settings.list → present ≡ true → has_meter p.layout p.settings.meter ≡ true → free ≡ true
+      → p.settings.points < readings_of p.settings → IsFirst TooManyReadings p
   first_too_many h t m f r = record {
     applies = r;
-    none_before = none_before p TooManyReadings (λ l f. not_empty p.settings.list h f) (λ l f. none_absent t f) (λ l f. both_ways (has_meter p.layout p.settings.meter) f m) (λ l b. none_blocked f b) (λ l f. omega arith);
+    none_before = none_before p TooManyReadings (λ l f. not_empty p.settings.list h f) (λ l f. none_absent t f) (λ l f.
+        both_ways (has_meter p.layout p.settings.meter) f m) (λ l b. none_blocked f b) (λ l f. omega arith);
   }

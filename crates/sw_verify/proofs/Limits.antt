@@ -56,7 +56,8 @@ module _ (fs : List Frame) (n start : ℕ) where
       a ∙ ap (λ (r : ℕ). x * (y * r)) (sym (free_room (in_use fs 2) free))
   taken (suc (suc (suc k))) h free = absurd (omega arith)
 
-  within_more : (k f : ℕ) → k ≤ 2 → n ≤ 100000 → in_use fs k ≡ false → f * room fs ≤ 1000000000000000 → f * n * room (record { counter = k; count = n; start = start } ∷ fs) ≤ 1000000000000000
+  within_more : (k f : ℕ) → k ≤ 2 → n ≤ 100000 → in_use fs k ≡ false → f * room fs ≤ 1000000000000000
+      → f * n * room (record { counter = k; count = n; start = start } ∷ fs) ≤ 1000000000000000
   within_more k f h most free w =
       let r = room (record { counter = k; count = n; start = start } ∷ fs) in
       let a : n * r ≤ 100000 * r = mul-le-mul_right r most in
@@ -70,7 +71,9 @@ chosen : {A : Type 0} (b : Bool) (x : A) (r : Option A) → cond b (Some x) r �
 chosen true x r h = absurd (cc h)
 chosen false x r h = (refl, h)
 
-limited_end : (k to pc : ℕ) (steps : List Step) (fs : List Frame) (gs : List ℕ) → at_loop k to fs (fault_in steps (pc + 1)) ≡ None → AreWithin fs gs → ((es : List Frame) (g : ℕ) (hs : List ℕ) → fault_in steps (pc + 1) es ≡ None → g * room es ≤ 1000000000000000 → AreWithin es hs → AreLimited steps g hs) → AreLimited (step.Loop k to ∷ steps) 0 gs
+limited_end : (k to pc : ℕ) (steps : List Step) (fs : List Frame) (gs : List ℕ) → at_loop k to fs (fault_in steps (pc + 1)) ≡ None → AreWithin fs gs
+    → ((es : List Frame) (g : ℕ) (hs : List ℕ) → fault_in steps (pc + 1) es ≡ None → g * room es ≤ 1000000000000000 → AreWithin es hs → AreLimited steps g hs)
+    → AreLimited (step.Loop k to ∷ steps) 0 gs
 limited_end k to pc steps [] gs h w up = absurd (cc h)
 limited_end k to pc steps (f ∷ fs) [] h w up = absurd w
 limited_end k to pc steps (f ∷ fs) (g ∷ gs) h w up =
@@ -79,7 +82,8 @@ limited_end k to pc steps (f ∷ fs) (g ∷ gs) h w up =
     (limited_by g (room fs) (some_left fs) w.0, up fs g gs b.1 w.0 w.1)
 
 -- where no fault is found each step is done at most 10^15 times
-limited : (steps : List Step) (pc : ℕ) (fs : List Frame) (f : ℕ) (gs : List ℕ) → AllByRecursion IsStep steps → fault_in steps pc fs ≡ None → f * room fs ≤ 1000000000000000 → AreWithin fs gs → AreLimited steps f gs
+limited : (steps : List Step) (pc : ℕ) (fs : List Frame) (f : ℕ) (gs : List ℕ) → AllByRecursion IsStep steps → fault_in steps pc fs ≡ None
+    → f * room fs ≤ 1000000000000000 → AreWithin fs gs → AreLimited steps f gs
 limited [] pc fs f gs i h w a = tt
 limited (step.Set k n ∷ steps) pc fs f gs i h w a =
     let frame : Frame = record { counter = k; count = n; start = pc + 1 } in

@@ -1,5 +1,6 @@
 -- The verifier's look, step by step.
-use Rattle.std.proofs.Common.{◌≡◌, ℕ, ◌+◌, ◌<◌, Bool, true, false, List, [], ◌∷◌, drop, length, get_or, replicate, remove, refl, sym, ap, ◌∙◌, subst, arith, inl, inr, ⊎_elim}
+use Rattle.std.proofs.Common.{◌≡◌, ℕ, ◌+◌, ◌<◌, Bool, true, false, List, [], ◌∷◌, drop, length, get_or, replicate, remove, refl, sym, ap, ◌∙◌, subst, arith}
+use Rattle.std.proofs.Common.{inl, inr, ⊎_elim}
 use Rattle.std.proofs.lemmas.List.{drop_more, drop_all}
 use Rattle.std.proofs.lemmas.Bool.{both_ways}
 use Rattle.sw_base.specs.Layout.{Channel, Layout, is_present, IsClash}
@@ -27,30 +28,37 @@ pub record Progress (layout : Layout) (closed : List Channel) (steps : List Step
   pub right : StepsRight layout (drop i steps) b m ss → StepsRight layout steps (is_among closed) none []
   pub stops : (r : Refusal) → StopsBy layout r (drop i steps) b m ss → StopsBy layout r steps (is_among closed) none []
 
-pub at_start : (layout : Layout) (closed : List Channel) (steps : List Step) (ledger : Ledger) → Shows layout (is_among closed) (is_among closed) none ledger → Progress layout closed steps 0 ledger []
+pub at_start : (layout : Layout) (closed : List Channel) (steps : List Step) (ledger : Ledger) → Shows layout (is_among closed) (is_among closed) none ledger
+    → Progress layout closed steps 0 ledger []
 at_start layout closed steps ledger s = record { b = is_among closed; m = none; ss = []; shows = s; saved = tt; right = λ h. h; stops = λ r h. h }
 
 pub next_step : (steps : List Step) (i : ℕ) (o d : Step) → i < length steps → get_or steps i d ≡ o → drop i steps ≡ o ∷ drop (i + 1) steps
 next_step steps i o d h e = drop_more steps i d h ∙ ap (λ (x : Step). x ∷ drop (i + 1) steps) e
 
-module _ (layout : Layout) (closed : List Channel) (steps : List Step) (i : ℕ) (ledger : Ledger) (rows : List (List Bool)) (p : Progress layout closed steps i ledger rows) where
+module _ (layout : Layout) (closed : List Channel) (steps : List Step) (i : ℕ) (ledger : Ledger) (rows : List (List Bool))
+    (p : Progress layout closed steps i ledger rows) where
   -- what the step and the steps behind it tell
-  right_by : (o : Step) → drop i steps ≡ o ∷ drop (i + 1) steps → StepsRight layout (o ∷ drop (i + 1) steps) p.b p.m p.ss → StepsRight layout steps (is_among closed) none []
+  right_by : (o : Step) → drop i steps ≡ o ∷ drop (i + 1) steps → StepsRight layout (o ∷ drop (i + 1) steps) p.b p.m p.ss
+      → StepsRight layout steps (is_among closed) none []
   right_by o e h = p.right (subst (λ (l : List Step). StepsRight layout l p.b p.m p.ss) (sym e) h)
 
-  stops_by : (o : Step) → drop i steps ≡ o ∷ drop (i + 1) steps → (r : Refusal) → StopsBy layout r (o ∷ drop (i + 1) steps) p.b p.m p.ss → StopsBy layout r steps (is_among closed) none []
+  stops_by : (o : Step) → drop i steps ≡ o ∷ drop (i + 1) steps → (r : Refusal) → StopsBy layout r (o ∷ drop (i + 1) steps) p.b p.m p.ss
+      → StopsBy layout r steps (is_among closed) none []
   stops_by o e r h = p.stops r (subst (λ (l : List Step). StopsBy layout r l p.b p.m p.ss) (sym e) h)
 
   pub after_wait : (name : LayerName) → drop i steps ≡ step.Wait name ∷ drop (i + 1) steps → Progress layout closed steps (i + 1) ledger rows
-  after_wait name e = record { b = p.b; m = p.m; ss = p.ss; shows = p.shows; saved = p.saved; right = right_by (step.Wait name) e; stops = stops_by (step.Wait name) e }
+  after_wait name e = record { b = p.b; m = p.m; ss = p.ss; shows = p.shows; saved = p.saved; right = right_by (step.Wait name) e;
+      stops = stops_by (step.Wait name) e }
 
   pub after_pause : (micros : ℕ) → drop i steps ≡ step.Pause micros ∷ drop (i + 1) steps → Progress layout closed steps (i + 1) ledger rows
-  after_pause micros e = record { b = p.b; m = p.m; ss = p.ss; shows = p.shows; saved = p.saved; right = right_by (step.Pause micros) e; stops = stops_by (step.Pause micros) e }
+  after_pause micros e = record { b = p.b; m = p.m; ss = p.ss; shows = p.shows; saved = p.saved; right = right_by (step.Pause micros) e;
+      stops = stops_by (step.Pause micros) e }
 
   pub after_read : drop i steps ≡ step.Read ∷ drop (i + 1) steps → Progress layout closed steps (i + 1) ledger rows
   after_read e = record { b = p.b; m = p.m; ss = p.ss; shows = p.shows; saved = p.saved; right = right_by step.Read e; stops = stops_by step.Read e }
 
-  pub after_set : (k n : ℕ) (row : List Bool) → row ≡ ledger.mine → drop i steps ≡ step.Set k n ∷ drop (i + 1) steps → Progress layout closed steps (i + 1) ledger (row ∷ rows)
+  pub after_set : (k n : ℕ) (row : List Bool) → row ≡ ledger.mine → drop i steps ≡ step.Set k n ∷ drop (i + 1) steps
+      → Progress layout closed steps (i + 1) ledger (row ∷ rows)
   after_set k n row same e = record {
     b = p.b;
     m = p.m;
@@ -61,39 +69,54 @@ module _ (layout : Layout) (closed : List Channel) (steps : List Step) (i : ℕ)
     stops = stops_by (step.Set k n) e;
   }
 
-  pub after_close : (c : Channel) (after : Ledger) → drop i steps ≡ step.Close c ∷ drop (i + 1) steps → ((start b m : Channels) → Shows layout start b m ledger → CanClose layout b c × Shows layout start (with_channel c b) (with_channel c m) after) → Progress layout closed steps (i + 1) after rows
+  pub after_close : (c : Channel) (after : Ledger) → drop i steps ≡ step.Close c ∷ drop (i + 1) steps
+      → ((start b m : Channels) → Shows layout start b m ledger → CanClose layout b c × Shows layout start (with_channel c b) (with_channel c m) after)
+      → Progress layout closed steps (i + 1) after rows
   after_close c after e closes =
       let w = closes (is_among closed) p.b p.m p.shows in
-      record { b = with_channel c p.b; m = with_channel c p.m; ss = p.ss; shows = w.1; saved = p.saved; right = λ h. right_by (step.Close c) e (w.0, h); stops = λ r h. stops_by (step.Close c) e r (inr (w.0, h)) }
+      record { b = with_channel c p.b; m = with_channel c p.m; ss = p.ss; shows = w.1; saved = p.saved; right = λ h. right_by (step.Close c) e (w.0, h);
+          stops = λ r h. stops_by (step.Close c) e r (inr (w.0, h)) }
 
-  pub close_stops : (c : Channel) (r : Refusal) → drop i steps ≡ step.Close c ∷ drop (i + 1) steps → ((start b m : Channels) → Shows layout start b m ledger → IsBarred layout b c r) → StopsBy layout r steps (is_among closed) none []
+  pub close_stops : (c : Channel) (r : Refusal) → drop i steps ≡ step.Close c ∷ drop (i + 1) steps
+      → ((start b m : Channels) → Shows layout start b m ledger → IsBarred layout b c r) → StopsBy layout r steps (is_among closed) none []
   close_stops c r e barred = stops_by (step.Close c) e r (inl (barred (is_among closed) p.b p.m p.shows))
 
-  pub after_open : (c : Channel) (after : Ledger) → drop i steps ≡ step.Open c ∷ drop (i + 1) steps → ((start b m : Channels) → Shows layout start b m ledger → (m c ≡ true) × Shows layout start (without c b) (without c m) after) → Progress layout closed steps (i + 1) after rows
+  pub after_open : (c : Channel) (after : Ledger) → drop i steps ≡ step.Open c ∷ drop (i + 1) steps
+      → ((start b m : Channels) → Shows layout start b m ledger → (m c ≡ true) × Shows layout start (without c b) (without c m) after)
+      → Progress layout closed steps (i + 1) after rows
   after_open c after e opens =
       let w = opens (is_among closed) p.b p.m p.shows in
-      record { b = without c p.b; m = without c p.m; ss = p.ss; shows = w.1; saved = p.saved; right = λ h. right_by (step.Open c) e (w.0, h); stops = λ r h. stops_by (step.Open c) e r (inr (w.0, h)) }
+      record { b = without c p.b; m = without c p.m; ss = p.ss; shows = w.1; saved = p.saved; right = λ h. right_by (step.Open c) e (w.0, h);
+          stops = λ r h. stops_by (step.Open c) e r (inr (w.0, h)) }
 
-  pub open_stops : (c : Channel) (r : Refusal) → drop i steps ≡ step.Open c ∷ drop (i + 1) steps → (r ≡ NotClosed) × ((start b m : Channels) → Shows layout start b m ledger → m c ≡ false) → StopsBy layout r steps (is_among closed) none []
+  pub open_stops : (c : Channel) (r : Refusal) → drop i steps ≡ step.Open c ∷ drop (i + 1) steps → (r ≡ NotClosed)
+      × ((start b m : Channels) → Shows layout start b m ledger → m c ≡ false) → StopsBy layout r steps (is_among closed) none []
   open_stops c r e w = stops_by (step.Open c) e r (inl (w.1 (is_among closed) p.b p.m p.shows, w.0))
 
   -- the end of a loop with no loop open
   pub loop_alone : (k to : ℕ) → drop i steps ≡ step.Loop k to ∷ drop (i + 1) steps → rows ≡ [] → StopsBy layout LeftClosed steps (is_among closed) none []
   loop_alone k to e empty = stops_by (step.Loop k to) e LeftClosed (at p.ss (subst (AreSaved (is_among closed) p.ss) empty p.saved)) where
-    at : (ss : List (Channels × Channels)) → AreSaved (is_among closed) ss [] → LoopStops p.b p.m ss LeftClosed (StopsBy layout LeftClosed (drop (i + 1) steps) p.b p.m)
+    at : (ss : List (Channels × Channels)) → AreSaved (is_among closed) ss []
+        → LoopStops p.b p.m ss LeftClosed (StopsBy layout LeftClosed (drop (i + 1) steps) p.b p.m)
     at [] h = refl
     at (s ∷ ss) h = absurd h
 
-  pub loop_stops : (k to : ℕ) (row : List Bool) (rest : List (List Bool)) → drop i steps ≡ step.Loop k to ∷ drop (i + 1) steps → rows ≡ row ∷ rest → (ledger.mine ≡ row → ⊥) → StopsBy layout LeftClosed steps (is_among closed) none []
+  pub loop_stops : (k to : ℕ) (row : List Bool) (rest : List (List Bool)) → drop i steps ≡ step.Loop k to ∷ drop (i + 1) steps → rows ≡ row ∷ rest
+      → (ledger.mine ≡ row → ⊥) → StopsBy layout LeftClosed steps (is_among closed) none []
   loop_stops k to row rest e is differ = stops_by (step.Loop k to) e LeftClosed (at p.ss (subst (AreSaved (is_among closed) p.ss) is p.saved)) where
-    at : (ss : List (Channels × Channels)) → AreSaved (is_among closed) ss (row ∷ rest) → LoopStops p.b p.m ss LeftClosed (StopsBy layout LeftClosed (drop (i + 1) steps) p.b p.m)
+    at : (ss : List (Channels × Channels)) → AreSaved (is_among closed) ss (row ∷ rest)
+        → LoopStops p.b p.m ss LeftClosed (StopsBy layout LeftClosed (drop (i + 1) steps) p.b p.m)
     at [] h = absurd h
     at (s ∷ ss) h = inl (λ w. differ (one_row (is_among closed) p.b s.0 p.m s.1 ledger.mine row p.shows.mine h.0 w.1), refl)
 
-  pub after_loop : (k to : ℕ) (row : List Bool) (rest : List (List Bool)) → drop i steps ≡ step.Loop k to ∷ drop (i + 1) steps → rows ≡ row ∷ rest → ledger.mine ≡ row → Progress layout closed steps (i + 1) ledger rest
+  pub after_loop : (k to : ℕ) (row : List Bool) (rest : List (List Bool)) → drop i steps ≡ step.Loop k to ∷ drop (i + 1) steps → rows ≡ row ∷ rest
+      → ledger.mine ≡ row → Progress layout closed steps (i + 1) ledger rest
   after_loop k to row rest e is same =
       at p.ss (subst (AreSaved (is_among closed) p.ss) is p.saved) (right_by (step.Loop k to) e) (stops_by (step.Loop k to) e) where
-        at : (ss : List (Channels × Channels)) → AreSaved (is_among closed) ss (row ∷ rest) → (LoopIsRound p.b p.m ss (StepsRight layout (drop (i + 1) steps) p.b p.m) → StepsRight layout steps (is_among closed) none []) → ((r : Refusal) → LoopStops p.b p.m ss r (StopsBy layout r (drop (i + 1) steps) p.b p.m) → StopsBy layout r steps (is_among closed) none []) → Progress layout closed steps (i + 1) ledger rest
+        at : (ss : List (Channels × Channels)) → AreSaved (is_among closed) ss (row ∷ rest)
+            → (LoopIsRound p.b p.m ss (StepsRight layout (drop (i + 1) steps) p.b p.m) → StepsRight layout steps (is_among closed) none [])
+            → ((r : Refusal) → LoopStops p.b p.m ss r (StopsBy layout r (drop (i + 1) steps) p.b p.m) → StopsBy layout r steps (is_among closed) none [])
+            → Progress layout closed steps (i + 1) ledger rest
         at [] h f g = absurd h
         at (s ∷ ss) h f g =
             let w = row_tells_one (is_among closed) p.b s.0 p.m s.1 ledger.mine row p.shows.mine h.0 same in
@@ -101,11 +124,14 @@ module _ (layout : Layout) (closed : List Channel) (steps : List Step) (i : ℕ)
 
   pub halt_right : drop i steps ≡ step.Halt ∷ drop (i + 1) steps → ledger.mine ≡ replicate 900 false → StepsRight layout steps (is_among closed) none []
   halt_right e clear =
-      right_by step.Halt e (row_tells_one (is_among closed) p.b (is_among closed) p.m none ledger.mine (replicate 900 false) p.shows.mine (tells_none (is_among closed)) clear).1
+      right_by step.Halt e (row_tells_one (is_among closed) p.b (is_among closed) p.m none ledger.mine (replicate 900 false) p.shows.mine
+          (tells_none (is_among closed)) clear).1
 
-  pub halt_stops : drop i steps ≡ step.Halt ∷ drop (i + 1) steps → (ledger.mine ≡ replicate 900 false → ⊥) → StopsBy layout LeftClosed steps (is_among closed) none []
+  pub halt_stops : drop i steps ≡ step.Halt ∷ drop (i + 1) steps → (ledger.mine ≡ replicate 900 false → ⊥)
+      → StopsBy layout LeftClosed steps (is_among closed) none []
   halt_stops e left =
-      stops_by step.Halt e LeftClosed (λ w. left (one_row (is_among closed) p.b (is_among closed) p.m none ledger.mine (replicate 900 false) p.shows.mine (tells_none (is_among closed)) w), refl)
+      stops_by step.Halt e LeftClosed (λ w.
+          left (one_row (is_among closed) p.b (is_among closed) p.m none ledger.mine (replicate 900 false) p.shows.mine (tells_none (is_among closed)) w), refl)
 
   pub end_right : i ≡ length steps → StepsRight layout steps (is_among closed) none []
   end_right e = p.right (subst (λ (l : List Step). StepsRight layout l p.b p.m p.ss) (sym none_left) tt) where
@@ -122,14 +148,16 @@ barred_not layout b c r can barred =
     barred
 
 -- steps that are right are not refused
-pub right_not_stopped : (layout : Layout) (r : Refusal) (steps : List Step) (b m : Channels) (ss : List (Channels × Channels)) → StepsRight layout steps b m ss → StopsBy layout r steps b m ss → ⊥
+pub right_not_stopped : (layout : Layout) (r : Refusal) (steps : List Step) (b m : Channels) (ss : List (Channels × Channels)) → StepsRight layout steps b m ss
+    → StopsBy layout r steps b m ss → ⊥
 right_not_stopped layout r [] b m ss h s = s
 right_not_stopped layout r (step.Set k n ∷ steps) b m ss h s = right_not_stopped layout r steps b m ((b, m) ∷ ss) h s
 right_not_stopped layout r (step.Wait name ∷ steps) b m ss h s = right_not_stopped layout r steps b m ss h s
 right_not_stopped layout r (step.Pause micros ∷ steps) b m ss h s = right_not_stopped layout r steps b m ss h s
 right_not_stopped layout r (step.Close c ∷ steps) b m ss h s =
     ⊎_elim (λ (x : IsBarred layout b c r). barred_not layout b c r h.0 x)
-    (λ (x : CanClose layout b c × StopsBy layout r steps (with_channel c b) (with_channel c m) ss). right_not_stopped layout r steps (with_channel c b) (with_channel c m) ss h.1 x.1) s
+    (λ (x : CanClose layout b c × StopsBy layout r steps (with_channel c b) (with_channel c m) ss).
+        right_not_stopped layout r steps (with_channel c b) (with_channel c m) ss h.1 x.1) s
 right_not_stopped layout r (step.Read ∷ steps) b m ss h s = right_not_stopped layout r steps b m ss h s
 right_not_stopped layout r (step.Open c ∷ steps) b m ss h s =
     ⊎_elim (λ (x : (m c ≡ false) × (r ≡ NotClosed)). both_ways (m c) x.0 h.0)
@@ -145,6 +173,7 @@ pub popped : (rows rest : List (List Bool)) (row : List Bool) → 0 < length row
 popped [] rest row h e f = absurd (omega arith)
 popped (r ∷ rows) rest row h e f = ap (λ (x : List Bool). x ∷ rows) (sym e) ∙ ap (λ (l : List (List Bool)). row ∷ l) (sym f)
 
-pub moved : (layout : Layout) (closed : List Channel) (steps : List Step) (i : ℕ) (ledger ledger' : Ledger) (rows rows' : List (List Bool)) → ledger' ≡ ledger → rows' ≡ rows → Progress layout closed steps i ledger rows → Progress layout closed steps i ledger' rows'
+pub moved : (layout : Layout) (closed : List Channel) (steps : List Step) (i : ℕ) (ledger ledger' : Ledger) (rows rows' : List (List Bool)) → ledger' ≡ ledger
+    → rows' ≡ rows → Progress layout closed steps i ledger rows → Progress layout closed steps i ledger' rows'
 moved layout closed steps i ledger ledger' rows rows' e f p =
     subst (λ (l : Ledger). Progress layout closed steps i l rows') (sym e) (subst (λ (r : List (List Bool)). Progress layout closed steps i ledger r) (sym f) p)

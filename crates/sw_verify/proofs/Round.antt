@@ -1,5 +1,6 @@
 -- Items that leave the closed set as they found it.
-use Rattle.std.proofs.Common.{◌≡◌, ℕ, zero, suc, ◌+◌, ◌<◌, ◌≤◌, Bool, true, false, ◌&&◌, ◌||◌, not, List, [], ◌∷◌, ◌++◌, length, map, take, refl, sym, ap, ◌∙◌, subst, ⊎_elim, inl, inr, arith, append_assoc, append-nil, ◌↔◌, ◌⊎◌}
+use Rattle.std.proofs.Common.{◌≡◌, ℕ, zero, suc, ◌+◌, ◌<◌, ◌≤◌, Bool, true, false, ◌&&◌, ◌||◌, not, List, [], ◌∷◌, ◌++◌, length, map, take, refl, sym, ap, ◌∙◌}
+use Rattle.std.proofs.Common.{subst, ⊎_elim, inl, inr, arith, append_assoc, append-nil, ◌↔◌, ◌⊎◌}
 use mathlib.Core.Path.{fun_ext}
 use Rattle.std.proofs.lemmas.Bool.{cases_eq}
 use Rattle.sw_base.specs.Layout.{Channel, Layout}
@@ -69,16 +70,21 @@ moments_visit b c h (suc (suc (suc (suc i)))) = same_is_near b (without c (with_
 
 module _ (layout : Layout) (b : Channels) where
   pub round-none : IsRound layout b (Unit {0}) []
-  round-none = record { needs = λ rest h. (tt, h); may = λ rest p h. h; keeps = λ p. refl; moments = λ p i. same_is_near b (effect b (take i [])) (moments_awaits b [] i) }
+  round-none = record { needs = λ rest h. (tt, h); may = λ rest p h. h; keeps = λ p. refl;
+      moments = λ p i. same_is_near b (effect b (take i [])) (moments_awaits b [] i) }
 
   pub round-awaits : (ws : List Awaited) → IsRound layout b (Unit {0}) (map Awaits ws)
   round-awaits [] = round-none
-  round-awaits (w ∷ ws) = let r = round-awaits ws in record { needs = λ rest h. r.needs rest h; may = λ rest p h. r.may rest p h; keeps = λ p. r.keeps p; moments = λ p i. same_is_near b (effect b (take i (map Awaits (w ∷ ws)))) (moments_awaits b (w ∷ ws) i) }
+  round-awaits (w ∷ ws) = let r = round-awaits ws in record { needs = λ rest h. r.needs rest h; may = λ rest p h. r.may rest p h; keeps = λ p. r.keeps p;
+      moments = λ p i. same_is_near b (effect b (take i (map Awaits (w ∷ ws)))) (moments_awaits b (w ∷ ws) i) }
 
   pub round-visit : (c : Channel) → IsRound layout b (CanClose layout b c) (visit c)
   round-visit c = record {
-    needs = λ rest h. (h.0, subst (λ (m : Channels). AllRight layout m none rest) (undone c b h.0.was_open) (subst (λ (m : Channels). AllRight layout (without c (with_channel c b)) m rest) (undone c none refl) h.1.1));
-    may = λ rest p h. (p, (simp same_channel_self refl, subst (λ (m : Channels). AllRight layout (without c (with_channel c b)) m rest) (sym (undone c none refl)) (subst (λ (m : Channels). AllRight layout m none rest) (sym (undone c b p.was_open)) h)));
+    needs = λ rest h. (h.0, subst (λ (m : Channels). AllRight layout m none rest) (undone c b h.0.was_open) (subst (λ (m : Channels).
+        AllRight layout (without c (with_channel c b)) m rest) (undone c none refl) h.1.1));
+    may = λ rest p h. (p, (simp same_channel_self refl,
+        subst (λ (m : Channels). AllRight layout (without c (with_channel c b)) m rest) (sym (undone c none refl)) (subst (λ (m : Channels).
+        AllRight layout m none rest) (sym (undone c b p.was_open)) h)));
     keeps = λ p. undone c b p.was_open;
     moments = λ p i. moments_visit b c p.was_open i;
   }
@@ -123,7 +129,8 @@ module _ (layout : Layout) (b : Channels) where
   pub round-pass : (s : Setup) (k : ℕ) → IsRound layout b (CanClose layout b (channel_at s.list k)) (pass_of s k)
   round-pass s k =
       round-like (pass_of s k) (λ (w : Unit {0} × CanClose layout b (channel_at s.list k)). w.1) (λ (h : CanClose layout b (channel_at s.list k)). (tt, h))
-      (round-append (map Awaits (head_of Trigger s.trigger)) (visit (channel_at s.list k)) (round-awaits (head_of Trigger s.trigger)) (round-visit (channel_at s.list k)))
+      (round-append (map Awaits (head_of Trigger s.trigger)) (visit (channel_at s.list k)) (round-awaits (head_of Trigger s.trigger))
+          (round-visit (channel_at s.list k)))
 
   pub round-passes : (s : Setup) (k n : ℕ) → IsRound layout b (CanPass s k n) (passes s k n)
   round-passes s k zero = round-like [] (λ (u : Unit {0}). λ j h g. absurd (omega arith)) (λ (f : CanPass s k 0). tt) round-none
@@ -145,7 +152,8 @@ module _ (layout : Layout) (b : Channels) where
       let turns = repeated s.arm2.count (arm2_turn s) in
       let Turns : Type 0 = 0 < s.arm2.count → CanPass s 0 s.trigger.count in
       round-like (arm1_turn s) (λ (w : Unit {0} × Turns). w.1) (λ (h : Turns). (tt, h))
-      (round-append (map Awaits (head_of Arm1 s.arm1)) turns (round-awaits (head_of Arm1 s.arm1)) (round-repeated s.arm2.count (arm2_turn s) (round-arm2_turn s)))
+      (round-append (map Awaits (head_of Arm1 s.arm1)) turns (round-awaits (head_of Arm1 s.arm1))
+          (round-repeated s.arm2.count (arm2_turn s) (round-arm2_turn s)))
 
   pub round-turns : (s : Setup) → 0 < length s.list → IsRound layout b (0 < s.arm1.count → 0 < s.arm2.count → CanPass s 0 s.trigger.count) (agenda s)
   round-turns s h =
@@ -160,11 +168,13 @@ module _ (layout : Layout) (b : Channels) where
       (round-turns s h)
 
   -- the whole agenda is sound exactly where each entry that is used can be closed, and the readings have room
-  pub sound_exactly : (s : Setup) (room : ℕ) → 0 < length s.list → IsInRange s → IsSound layout b room (agenda s) ↔ ((j : ℕ) → j < s.trigger.count → CanClose layout b (channel_at s.list j)) × (reads (agenda s) ≤ room)
+  pub sound_exactly : (s : Setup) (room : ℕ) → 0 < length s.list → IsInRange s → IsSound layout b room (agenda s)
+      ↔ ((j : ℕ) → j < s.trigger.count → CanClose layout b (channel_at s.list j)) × (reads (agenda s) ≤ room)
   sound_exactly s room h i =
       let r = round-agenda s h i in
       let e = append-nil (agenda s) in (
-        λ (w : IsSound layout b room (agenda s)). let p = (r.needs [] (subst (λ (l : List Item). AllRight layout b none l) (sym e) w.right)).0 in (λ j k. p j (omega arith) (omega arith), w.fits),
+        λ (w : IsSound layout b room (agenda s)). let p = (r.needs [] (subst (λ (l : List Item). AllRight layout b none l) (sym e) w.right)).0 in
+            (λ j k. p j (omega arith) (omega arith), w.fits),
         λ (w : ((j : ℕ) → j < s.trigger.count → CanClose layout b (channel_at s.list j)) × (reads (agenda s) ≤ room)).
             let p : CanPass s 0 s.trigger.count = λ j k l. w.0 j (omega arith) in
             record {

@@ -26,7 +26,8 @@ exclusive_with layout b c can e = record {
       (λ (g : b y ≡ true). can.apart y g (subst (λ (z : Channel). IsClash layout z y) (sym cx) k))
       (or_cases (same_channel c y) (b y) g))
       (λ (h : b x ≡ true).
-      ⊎_elim (λ (t : same_channel c y ≡ true). can.apart x h (clash_back layout x c (subst (λ (z : Channel). IsClash layout x z) (sym (same_channel_is c y t)) k)))
+      ⊎_elim (λ (t : same_channel c y ≡ true).
+          can.apart x h (clash_back layout x c (subst (λ (z : Channel). IsClash layout x z) (sym (same_channel_is c y t)) k)))
       (λ (g : b y ≡ true). e.apart x y h g k)
       (or_cases (same_channel c y) (b y) g))
       (or_cases (same_channel c x) (b x) h);
@@ -38,12 +39,15 @@ exclusive_without layout b c e = record {
   apart = λ x y h g k. e.apart x y (and_parts (not (same_channel c x)) (b x) h).1 (and_parts (not (same_channel c y)) (b y) g).1 k;
 }
 
-pub exclusive_throughout : (layout : Layout) (b mine : Channels) (items : List Item) → AllRight layout b mine items → IsExclusive layout b → (i : ℕ) → IsExclusive layout (effect b (take i items))
+pub exclusive_throughout : (layout : Layout) (b mine : Channels) (items : List Item) → AllRight layout b mine items → IsExclusive layout b → (i : ℕ)
+    → IsExclusive layout (effect b (take i items))
 exclusive_throughout layout b mine items h e zero = e
 exclusive_throughout layout b mine [] h e (suc i) = e
 exclusive_throughout layout b mine (Awaits w ∷ items) h e (suc i) = exclusive_throughout layout b mine items h e i
-exclusive_throughout layout b mine (Close c ∷ items) h e (suc i) = exclusive_throughout layout (with_channel c b) (with_channel c mine) items h.1 (exclusive_with layout b c h.0 e) i
-exclusive_throughout layout b mine (Open c ∷ items) h e (suc i) = exclusive_throughout layout (without c b) (without c mine) items h.1 (exclusive_without layout b c e) i
+exclusive_throughout layout b mine (Close c ∷ items) h e (suc i) =
+    exclusive_throughout layout (with_channel c b) (with_channel c mine) items h.1 (exclusive_with layout b c h.0 e) i
+exclusive_throughout layout b mine (Open c ∷ items) h e (suc i) =
+    exclusive_throughout layout (without c b) (without c mine) items h.1 (exclusive_without layout b c e) i
 
 pub reads_so_far : (items : List Item) (i : ℕ) → reads (take i items) ≤ reads items
 reads_so_far items zero = omega arith
@@ -53,7 +57,8 @@ reads_so_far (Close c ∷ items) (suc i) = reads_so_far items i
 reads_so_far (Open c ∷ items) (suc i) = reads_so_far items i
 
 -- a sound agenda closes one channel at a time
-pub one_at_a_time : (layout : Layout) (b : Channels) (room : ℕ) (s : Setup) → 0 < length s.list → IsSound layout b room (agenda s) → (i : ℕ) → AtMostOneMore b (effect b (take i (agenda s)))
+pub one_at_a_time : (layout : Layout) (b : Channels) (room : ℕ) (s : Setup) → 0 < length s.list → IsSound layout b room (agenda s) → (i : ℕ)
+    → AtMostOneMore b (effect b (take i (agenda s)))
 one_at_a_time layout b room s listed w =
     let r = round-turns layout b s listed in
     r.moments (r.needs [] (subst (λ (l : List Item). AllRight layout b none l) (sym (append-nil (agenda s))) w.right)).0

@@ -1,5 +1,6 @@
 -- What the verifier's look at each step tells of the whole run.
-use Rattle.std.proofs.Common.{◌≡◌, ℕ, zero, suc, ◌+◌, ◌*◌, ◌<◌, ◌≤◌, Bool, true, false, ◌||◌, ◌&&◌, not, cond, eqb, List, [], ◌∷◌, ◌++◌, length, Option, Some, None, refl, sym, ap, ◌∙◌, subst, arith, append_assoc, add_assoc}
+use Rattle.std.proofs.Common.{◌≡◌, ℕ, zero, suc, ◌+◌, ◌*◌, ◌<◌, ◌≤◌, Bool, true, false, ◌||◌, ◌&&◌, not, cond, eqb, List, [], ◌∷◌, ◌++◌, length, Option, Some}
+use Rattle.std.proofs.Common.{None, refl, sym, ap, ◌∙◌, subst, arith, append_assoc, add_assoc}
 use Rattle.std.proofs.lemmas.Bool.Decides.{nat_tests}
 use Rattle.std.specs.Option.{IfSome}
 use Rattle.std.specs.List.{AllByRecursion}
@@ -27,7 +28,8 @@ use Rattle.sw_verify.proofs.Round.{effect-append, same_channel_is}
 -- The steps are a tree's, then the end of the innermost open loop, a tree's again, and so on to halt.
 abbrev IsJoin : List Step → ℕ → List Frame → Type 0
 IsJoin steps pc [] = (t : Tree) × IsNested (in_use []) t × (steps ≡ flatten t pc ++ step.Halt ∷ [])
-IsJoin steps pc (f ∷ fs) = (t : Tree) × (rest : List Step) × IsNested (in_use (f ∷ fs)) t × (steps ≡ flatten t pc ++ (step.Loop f.counter f.start ∷ rest)) × IsJoin rest (pc + size t + 1) fs
+IsJoin steps pc (f ∷ fs) = (t : Tree) × (rest : List Step) × IsNested (in_use (f ∷ fs)) t × (steps ≡ flatten t pc ++ (step.Loop f.counter f.start ∷ rest))
+    × IsJoin rest (pc + size t + 1) fs
 
 -- one more item in front
 join_item : (x : Item) (steps : List Step) (pc : ℕ) (fs : List Frame) → IsJoin steps (pc + 1) fs → IsJoin (step_of x ∷ steps) pc fs
@@ -37,7 +39,8 @@ join_item x steps pc (f ∷ fs) j =
     (Then x j.0, j.1, j.2, ap (λ (l : List Step). step_of x ∷ l) j.3, subst (λ (n : ℕ). IsJoin j.1 n fs) e j.4)
 
 -- a loop in front
-join_set : (k n : ℕ) (steps : List Step) (pc : ℕ) (fs : List Frame) → 0 < n → in_use fs k ≡ false → IsJoin steps (pc + 1) (record { counter = k; count = n; start = pc + 1 } ∷ fs) → IsJoin (step.Set k n ∷ steps) pc fs
+join_set : (k n : ℕ) (steps : List Step) (pc : ℕ) (fs : List Frame) → 0 < n → in_use fs k ≡ false
+    → IsJoin steps (pc + 1) (record { counter = k; count = n; start = pc + 1 } ∷ fs) → IsJoin (step.Set k n ∷ steps) pc fs
 join_set k n steps pc [] p free j =
     let i = j.4 in
     let e : pc + 1 + size j.0 + 1 ≡ pc + 2 + size j.0 = omega arith in (
@@ -55,7 +58,8 @@ join_set k n steps pc (f ∷ fs) p free j =
       i.1,
       (p, free, j.2, i.2),
       ap (λ (l : List Step). step.Set k n ∷ l)
-          (j.3 ∙ ap (λ (l : List Step). flatten j.0 (pc + 1) ++ (step.Loop k (pc + 1) ∷ l)) (i.3 ∙ ap (λ (m : ℕ). flatten i.0 m ++ (step.Loop f.counter f.start ∷ i.1)) e)
+          (j.3 ∙ ap (λ (l : List Step). flatten j.0 (pc + 1) ++ (step.Loop k (pc + 1) ∷ l)) (i.3
+              ∙ ap (λ (m : ℕ). flatten i.0 m ++ (step.Loop f.counter f.start ∷ i.1)) e)
           ∙ sym (append_assoc (flatten j.0 (pc + 1)) (step.Loop k (pc + 1) ∷ flatten i.0 (pc + 2 + size j.0)) (step.Loop f.counter f.start ∷ i.1))),
       subst (λ (m : ℕ). IsJoin i.1 m fs) g i.4,
     )
@@ -71,7 +75,8 @@ not_false_is false h = absurd (cc h)
 same_number : (a b : ℕ) → eqb a b ≡ true → a ≡ b
 same_number a b h = grind (arith, nat_tests)
 
-join_loop : (k to : ℕ) (steps : List Step) (pc : ℕ) (fs : List Frame) → at_loop k to fs (fault_in steps (pc + 1)) ≡ None → ((gs : List Frame) → fault_in steps (pc + 1) gs ≡ None → IsJoin steps (pc + 1) gs) → IsJoin (step.Loop k to ∷ steps) pc fs
+join_loop : (k to : ℕ) (steps : List Step) (pc : ℕ) (fs : List Frame) → at_loop k to fs (fault_in steps (pc + 1)) ≡ None
+    → ((gs : List Frame) → fault_in steps (pc + 1) gs ≡ None → IsJoin steps (pc + 1) gs) → IsJoin (step.Loop k to ∷ steps) pc fs
 join_loop k to steps pc [] h up = absurd (cc h)
 join_loop k to steps pc (f ∷ fs) h up =
     let a = chosen (not (eqb k f.counter)) BadNesting (cond (not (eqb to f.start)) (Some BadJump) (fault_in steps (pc + 1) fs)) h in
@@ -117,7 +122,8 @@ module _ (layout : Layout) where
       (subst (λ (c : Channels). AllRight layout c (effect m xs) (repeated n xs)) (sym e)
       (subst (λ (c : Channels). AllRight layout b c (repeated n xs)) (sym f) (right-repeated b m xs n p e f)))
 
-  step_right : (x : Item) (steps : List Step) (b m : Channels) (ss : List (Channels × Channels)) → StepsRight layout (step_of x ∷ steps) b m ss → AllRight layout b m (x ∷ []) × StepsRight layout steps (effect b (x ∷ [])) (effect m (x ∷ [])) ss
+  step_right : (x : Item) (steps : List Step) (b m : Channels) (ss : List (Channels × Channels)) → StepsRight layout (step_of x ∷ steps) b m ss
+      → AllRight layout b m (x ∷ []) × StepsRight layout steps (effect b (x ∷ [])) (effect m (x ∷ [])) ss
   step_right (Awaits (Wait name)) steps b m ss h = (tt, h)
   step_right (Awaits (Pause micros)) steps b m ss h = (tt, h)
   step_right (Awaits Read) steps b m ss h = (tt, h)
@@ -125,14 +131,16 @@ module _ (layout : Layout) where
   step_right (Open c) steps b m ss h = ((h.0, tt), h.1)
 
   -- steps that are right when each is looked at once are right over the whole run
-  right_tree : (t : Tree) (pc : ℕ) (tail : List Step) (b m : Channels) (ss : List (Channels × Channels)) → StepsRight layout (flatten t pc ++ tail) b m ss → AllRight layout b m (meaning t) × StepsRight layout tail (effect b (meaning t)) (effect m (meaning t)) ss
+  right_tree : (t : Tree) (pc : ℕ) (tail : List Step) (b m : Channels) (ss : List (Channels × Channels)) → StepsRight layout (flatten t pc ++ tail) b m ss
+      → AllRight layout b m (meaning t) × StepsRight layout tail (effect b (meaning t)) (effect m (meaning t)) ss
   right_tree Nil pc tail b m ss h = (tt, h)
   right_tree (Then x rest) pc tail b m ss h =
       let a = step_right x (flatten rest (pc + 1) ++ tail) b m ss h in
       let r = right_tree rest (pc + 1) tail (effect b (x ∷ [])) (effect m (x ∷ [])) ss a.1 in (
         right-append b m (x ∷ []) (meaning rest) a.0 r.0,
         subst (λ (c : Channels). StepsRight layout tail c (effect m (x ∷ meaning rest)) ss) (sym (effect-append b (x ∷ []) (meaning rest)))
-            (subst (λ (c : Channels). StepsRight layout tail (effect (effect b (x ∷ [])) (meaning rest)) c ss) (sym (effect-append m (x ∷ []) (meaning rest))) r.1),
+            (subst (λ (c : Channels). StepsRight layout tail (effect (effect b (x ∷ [])) (meaning rest)) c ss)
+                (sym (effect-append m (x ∷ []) (meaning rest))) r.1),
       )
   right_tree (Times k n body rest) pc tail b m ss h =
       let more = flatten rest (pc + 2 + size body) in
@@ -142,14 +150,18 @@ module _ (layout : Layout) where
       let e : effect b xs ≡ b = a.1.0 in
       let f : effect m xs ≡ m = a.1.1 in
       let go : StepsRight layout (more ++ tail) b m ss =
-      subst (λ (c : Channels). StepsRight layout (more ++ tail) c m ss) e (subst (λ (c : Channels). StepsRight layout (more ++ tail) (effect b xs) c ss) f a.1.2) in
+      subst (λ (c : Channels). StepsRight layout (more ++ tail) c m ss) e (subst (λ (c : Channels). StepsRight layout (more
+          ++ tail) (effect b xs) c ss) f a.1.2) in
       let r = right_tree rest (pc + 2 + size body) tail b m ss go in
       let eb : effect b (repeated n xs) ≡ b = effect-repeated b xs n e in
       let em : effect m (repeated n xs) ≡ m = effect-repeated m xs n f in
-      let all_b : effect b (repeated n xs ++ meaning rest) ≡ effect b (meaning rest) = effect-append b (repeated n xs) (meaning rest) ∙ ap (λ (c : Channels). effect c (meaning rest)) eb in
-      let all_m : effect m (repeated n xs ++ meaning rest) ≡ effect m (meaning rest) = effect-append m (repeated n xs) (meaning rest) ∙ ap (λ (c : Channels). effect c (meaning rest)) em in (
+      let all_b : effect b (repeated n xs ++ meaning rest) ≡ effect b (meaning rest) = effect-append b (repeated n xs) (meaning rest)
+          ∙ ap (λ (c : Channels). effect c (meaning rest)) eb in
+      let all_m : effect m (repeated n xs ++ meaning rest) ≡ effect m (meaning rest) = effect-append m (repeated n xs) (meaning rest)
+          ∙ ap (λ (c : Channels). effect c (meaning rest)) em in (
         right-append b m (repeated n xs) (meaning rest) (right-repeated b m xs n a.0 e f)
-            (subst (λ (c : Channels). AllRight layout c (effect m (repeated n xs)) (meaning rest)) (sym eb) (subst (λ (c : Channels). AllRight layout b c (meaning rest)) (sym em) r.0)),
+            (subst (λ (c : Channels). AllRight layout c (effect m (repeated n xs)) (meaning rest)) (sym eb) (subst (λ (c : Channels).
+                AllRight layout b c (meaning rest)) (sym em) r.0)),
         subst (λ (c : Channels). StepsRight layout tail c (effect m (repeated n xs ++ meaning rest)) ss) (sym all_b)
             (subst (λ (c : Channels). StepsRight layout tail (effect b (meaning rest)) c ss) (sym all_m) r.1),
       )
@@ -164,7 +176,8 @@ weigh p (Open c ∷ items) = weigh p items
 weigh-append : (p : Awaited → Bool) (xs ys : List Item) → weigh p (xs ++ ys) ≡ weigh p xs + weigh p ys
 weigh-append p [] ys = omega arith
 weigh-append p (Awaits x ∷ xs) ys = at (p x) (weigh-append p xs ys) where
-  at : (b : Bool) → weigh p (xs ++ ys) ≡ weigh p xs + weigh p ys → cond b (suc (weigh p (xs ++ ys))) (weigh p (xs ++ ys)) ≡ cond b (suc (weigh p xs)) (weigh p xs) + weigh p ys
+  at : (b : Bool) → weigh p (xs ++ ys) ≡ weigh p xs + weigh p ys
+      → cond b (suc (weigh p (xs ++ ys))) (weigh p (xs ++ ys)) ≡ cond b (suc (weigh p xs)) (weigh p xs) + weigh p ys
   at true e = omega (arith, e)
   at false e = e
 weigh-append p (Close c ∷ xs) ys = weigh-append p xs ys
@@ -207,7 +220,8 @@ module _ (p : Awaited → Bool) where
       tally_one x (flatten rest (pc + 1) ++ tail) f gs
       ∙ ap (λ (n : ℕ). f * weigh p (x ∷ []) + n) (tally_tree rest (pc + 1) tail f gs)
       ∙ sym (add_assoc (f * weigh p (x ∷ [])) (f * weigh p (meaning rest)) (tally p tail f gs))
-      ∙ ap (λ (n : ℕ). n + tally p tail f gs) (sym (mul-add f (weigh p (x ∷ [])) (weigh p (meaning rest))) ∙ ap (λ (n : ℕ). f * n) (sym (weigh-append p (x ∷ []) (meaning rest))))
+      ∙ ap (λ (n : ℕ). n + tally p tail f gs) (sym (mul-add f (weigh p (x ∷ [])) (weigh p (meaning rest)))
+          ∙ ap (λ (n : ℕ). f * n) (sym (weigh-append p (x ∷ []) (meaning rest))))
   tally_tree (Times k n body rest) pc tail f gs =
       let more = flatten rest (pc + 2 + size body) in
       ap (λ (l : List Step). tally p l (f * n) (f ∷ gs)) (append_assoc (flatten body (pc + 1)) (step.Loop k (pc + 1) ∷ more) tail)
@@ -291,7 +305,9 @@ counted (step.Loop k to ∷ steps) h = counted steps h.1
 counted (step.Halt ∷ steps) h = counted steps h.1
 
 -- steps that pass the looks have an unfolding, which is sound, with the tallied counts
-pub verified : (layout : Layout) (b : Channels) (code : List Step) (room : ℕ) → AreCounted code → fault_in code 0 [] ≡ None → StepsRight layout code b none [] → tally is_read code 1 [] ≤ room → (items : List Item) × Unfolds code items × IsSound layout b room items × (tally is_read code 1 [] ≡ reads items) × (tally every code 1 [] ≡ length (awaiting items))
+pub verified : (layout : Layout) (b : Channels) (code : List Step) (room : ℕ) → AreCounted code → fault_in code 0 [] ≡ None → StepsRight layout code b none []
+    → tally is_read code 1 [] ≤ room → (items : List Item) × Unfolds code items × IsSound layout b room items × (tally is_read code 1 [] ≡ reads items)
+    × (tally every code 1 [] ≡ length (awaiting items))
 verified layout b code room w h s k =
     let j = joined code 0 [] w h in
     let t = j.0 in
@@ -309,13 +325,17 @@ verified layout b code room w h s k =
     )
 
 -- what the looks and counts of a code say
-pub judged : (layout : Layout) (b : Channels) (code : Program) (room bound readings : ℕ) → IsInRange code → fault_in code.steps 0 [] ≡ None → StepsRight layout code.steps b none [] → has_meter layout code.meter ≡ true → bound ≡ tally every code.steps 1 [] → readings ≡ tally is_read code.steps 1 [] → readings ≤ room → IsVerified layout b room code (record { code = code; bound = bound; readings = readings })
+pub judged : (layout : Layout) (b : Channels) (code : Program) (room bound readings : ℕ) → IsInRange code → fault_in code.steps 0 [] ≡ None
+    → StepsRight layout code.steps b none [] → has_meter layout code.meter ≡ true → bound ≡ tally every code.steps 1 []
+    → readings ≡ tally is_read code.steps 1 [] → readings ≤ room → IsVerified layout b room code (record { code = code; bound = bound; readings = readings })
 judged layout b code room bound readings i nested right meter m n most =
     let few : tally is_read code.steps 1 [] ≤ room = subst (λ (x : ℕ). x ≤ room) n most in
     let all = verified layout b code.steps room (counted code.steps i.steps) nested right few in
     record { same = refl; measured = meter; items = all.0; unfolds = all.1; sound = all.2; bound = m ∙ all.4; readings = n ∙ all.3 }
 
-pub has_counts : (layout : Layout) (closed : Channels) (room : ℕ) (code : Program) (bound readings : ℕ) → IsVerified layout closed room code (record { code = code; bound = bound; readings = readings }) → HasCounts (record { code = code; bound = bound; readings = readings })
+pub has_counts : (layout : Layout) (closed : Channels) (room : ℕ) (code : Program) (bound readings : ℕ)
+    → IsVerified layout closed room code (record { code = code; bound = bound; readings = readings })
+    → HasCounts (record { code = code; bound = bound; readings = readings })
 has_counts layout closed room code bound readings v = record { items = v.items; unfolds = v.unfolds; bound = v.bound; readings = v.readings }
 
 pub some_value : {T : Type 0} (o : Option T) (x : T) (P : T → Type 0) → o ≡ Some x → IfSome o P → P x

@@ -6,7 +6,8 @@ use Rattle.sw_base.specs.declared.error.ScpiError.TheVariants.{SettingsConflict,
 use Rattle.sw_trigger.specs.Agenda.{agenda, used_of}
 use Rattle.sw_trigger.specs.Counts.{readings_of}
 use Rattle.sw_verify.specs.declared.refusal.Refusal.{Refusal}
-use Rattle.sw_verify.specs.declared.refusal.Refusal.TheVariants.{EmptyList, NoChannel, NoMeter, GroupClash, TooManyReadings}
+use Rattle.sw_verify.specs.declared.refusal.Refusal.TheVariants.{EmptyList, NoChannel, NoMeter, GroupClash}
+use Rattle.sw_verify.specs.declared.refusal.Refusal.TheVariants.{TooManyReadings}
 use Rattle.sw_verify.specs.declared.refusal.Refusal.TheVariants.{BadNesting, BadJump, LeftClosed, NotClosed, NoMemory}
 use Rattle.sw_verify.specs.declared.snapshot.Snapshot.{Snapshot}
 use Rattle.sw_verify.specs.Channels.{Channels, is_among}

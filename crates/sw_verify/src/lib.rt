@@ -1,9 +1,10 @@
 //! Whether a scan may begin: its settings against the cards in the cage and the channels that are closed.
 //!
 //! The crate's contract: `check` says yes exactly where the agenda of the settings is sound, that is, where each
-//! channel that the scan closes is there and open at that moment and shares a nonzero group with no closed channel of any slot,
-//! where it opens no channel but its own, makes no more readings than there is room for and leaves closed what it found
-//! closed. Else it gives the first refusal that applies. What follows for a scan that passes is in `laws`.
+//! channel that the scan closes is there and open at that moment and shares a nonzero group with no closed channel of
+//! any slot, where it opens no channel but its own, makes no more readings than there is room for and leaves closed
+//! what it found closed. Else it gives the first refusal that applies. What follows for a scan that passes is in
+//! `laws`.
 //!
 //! `verify` judges scan code: what it accepts unfolds to items that are sound here, with the counts that it
 //! tells; else it gives the first refusal that applies. It visits each step once.

@@ -32,7 +32,8 @@ pub(crate) fn go_on<R: Relay, M: Meter>(
     requires slot_in { (1 ≤ scan.setup.meter) × (scan.setup.meter ≤ most_slots) }
     requires meter { has_meter (layout_of slots.old) scan.setup.meter ≡ true }
     requires may { MayMove (layout_of slots.old) (is_closed slots.old) moves.to_open moves.to_close }
-    ensures { AdvancesOrFails (record { cards = slots.old; out = out.old }) number (moves_of moves) scan (taken_seen result.1)
+    ensures { AdvancesOrFails (record { cards = slots.old; out = out.old }) number (moves_of moves) scan
+        (taken_seen result.1)
         (record { cards = slots.new; out = out.new }) result.0 }
 {
     match make_moves(slots, moves) {

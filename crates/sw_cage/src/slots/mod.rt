@@ -193,7 +193,8 @@ impl<R: Relay, M: Meter> Slots<R, M> {
     fn claim_slot(&self, slot: u8, claims: &mut Claims) -> bool
         requires slot_in { (1 ≤ slot) × (slot ≤ most_slots) }
         requires held { IndexesClaims (layout_of self.now) (ClosedBefore self.now slot 0) claims.old }
-        ensures claimed { result ≡ true → IndexesClaims (layout_of self.now) (ClosedBefore self.now (slot + 1) 0) claims.new }
+        ensures claimed { result ≡ true
+            → IndexesClaims (layout_of self.now) (ClosedBefore self.now (slot + 1) 0) claims.new }
         ensures clash { result ≡ false → HasClash (layout_of self.now) (is_closed self.now) }
     {
         let Some(card) = &self.slots[slot as usize - 1] else {
@@ -213,7 +214,8 @@ impl<R: Relay, M: Meter> Slots<R, M> {
     /// Lets each closed channel claim its group, unless two of one group are closed.
     fn claim_closed(&self, claims: &mut Claims) -> bool
         requires { IndexesClaims (layout_of self.now) (ClosedBefore self.now 1 0) claims.old }
-        ensures claimed { result ≡ true → IndexesClaims (layout_of self.now) (λ c. is_closed self.now c ≡ true) claims.new }
+        ensures claimed { result ≡ true
+            → IndexesClaims (layout_of self.now) (λ c. is_closed self.now c ≡ true) claims.new }
         ensures clash { result ≡ false → HasClash (layout_of self.now) (is_closed self.now) }
     {
         // Reading a field tells the proof what holds of every `Slots`.

@@ -4,7 +4,8 @@ ghost use Rattle.std.specs.Prelude.{◌≡◌, ℕ, ◌≤◌, length, true, fal
 ghost use Rattle.sw_base.specs.Limits.{most_channels};
 ghost use Rattle.sw_base.specs.Layout.{bay_has, bay_group, bay_is_meter};
 ghost use Rattle.sw_card.specs.Account.{closed_at, is_meter, of_meter};
-ghost use Rattle.sw_cage.specs.Accounts.{accounts_of, option_account, slot_contents, option_closed, option_set, option_rest};
+ghost use Rattle.sw_cage.specs.Accounts.{accounts_of, option_account, slot_contents, option_closed, option_set};
+ghost use Rattle.sw_cage.specs.Accounts.{option_rest};
 ghost use Rattle.sw_cage.specs.Accounts.{all_open, IsSlotFault};
 ghost use Rattle.sw_cage.specs.Install.{IsUnfit};
 

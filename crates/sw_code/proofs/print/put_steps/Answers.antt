@@ -4,7 +4,8 @@ use Rattle.sw_code.proofs.print.put_steps.Goals as goal
 
 pub loop-step-preserved : goal.loop-step-preserved
 loop-step-preserved c = record {
-  printed = one_more _ _ _ _ _ _ _ _ c.loop-step-test.true c.step-item.is c.in_ok-put_step.ensures.printed refl c.in_ok-push.ensures.items c.loop-step.invariant.printed;
+  printed = one_more _ _ _ _ _ _ _ _ c.loop-step-test.true c.step-item.is c.in_ok-put_step.ensures.printed refl c.in_ok-push.ensures.items
+      c.loop-step.invariant.printed;
   channels = channels_more _ _ _ c.loop-step-test.true c.step-item.is c.loop-step.invariant.channels c.in_ok-put_step.ensures.channel;
 }
 

@@ -16,7 +16,8 @@ lines-preserved c =
     let more = parts_at 10 c.in-Some.others.now in
     let s = c.in_ok-step-in-Some.step in
     let pushed = c.in-Ok.ensures.items in
-    let go : Result Step ListError → Result (List Step) ListError = λ r. after_steps before (then_read r (λ (x : Step). then_read (steps_in (line + 1) more) (λ (steps : List Step). Ok (x ∷ steps)))) in
+    let go : Result Step ListError → Result (List Step) ListError =
+        λ r. after_steps before (then_read r (λ (x : Step). then_read (steps_in (line + 1) more) (λ (steps : List Step). Ok (x ∷ steps)))) in
     record {
       same =
           c.lines.invariant.same

@@ -7,7 +7,8 @@ use Rattle.sw_session.proofs.talker.Talker.message.Goals as goal
 
 pub returns-then-text-gt-LONGEST-clause-talked : goal.returns-then-text-gt-LONGEST-clause-talked
 returns-then-text-gt-LONGEST-clause-talked g c =
-    talked-overrun g.D.Desk.passes _ _ _ c.args.self.now.macros c.args.self.now.macros _ _ _ _ c.without_line_feed-text.ensures c.if-text-gt-LONGEST.true c.new.ensures.items
+    talked-overrun g.D.Desk.passes _ _ _ c.args.self.now.macros c.args.self.now.macros _ _ _ _ c.without_line_feed-text.ensures c.if-text-gt-LONGEST.true
+        c.new.ensures.items
     refl c.queue.ensures
 
 pub returns-in-Ends-clause-talked : goal.returns-in-Ends-clause-talked

@@ -51,9 +51,11 @@ units-preserved g c = record {
       let done : Led g.D.Desk.passes c.units.desk c.unit.new.desk (λ t rest. Itself c.args.self.now.sid u
           (standing (path_of c.units.path) c.units.self.macros inv.1 t) Goes (standing (path_of c.unit.new.path) c.unit.new.self.macros s.0 rest)) =
           subst (λ (i : Sid). Led g.D.Desk.passes c.units.desk c.unit.new.desk (λ t rest. Itself i u
-          (standing (path_of c.units.path) c.units.self.macros inv.1 t) Goes (standing (path_of c.unit.new.path) c.unit.new.self.macros s.0 rest))) c.units.invariant.sid s.2 in
+          (standing (path_of c.units.path) c.units.self.macros inv.1 t) Goes (standing (path_of c.unit.new.path) c.unit.new.self.macros s.0 rest)))
+              c.units.invariant.sid s.2 in
       (inv.0 ++ u ∷ [], s.0, scripts-more _ _ _ inv.0 u is inv.2, s.1,
-      talk-goes g.D.Desk.passes (Itself c.args.self.now.sid) c.args.self.now.sid _ _ _ inv.0 u (standing (path_of c.args.path.now) c.args.self.now.macros answers)
+      talk-goes g.D.Desk.passes (Itself c.args.self.now.sid) c.args.self.now.sid _ _ _ inv.0 u
+          (standing (path_of c.args.path.now) c.args.self.now.macros answers)
       (standing (path_of c.units.path) c.units.self.macros inv.1) (standing (path_of c.unit.new.path) c.unit.new.self.macros s.0) inv.4 done);
 }
 
@@ -69,5 +71,7 @@ returns-in_default-clause-talks g c = λ answers written.
         (standing (path_of c.units.path) c.units.self.macros inv.1 t) c.unit.result (standing (path_of c.unit.new.path) c.unit.new.self.macros s.0 rest)))
         c.units.invariant.sid s.2 in
     (inv.0 ++ u ∷ [], Unread, s.0, inv.2 (u ∷ []) Unread (_, is, tt), s.1,
-    talk-stops g.D.Desk.passes (Itself c.args.self.now.sid) c.args.self.now.sid _ _ _ inv.0 u (standing (path_of c.args.path.now) c.args.self.now.macros answers)
-    (standing (path_of c.units.path) c.units.self.macros inv.1) (standing (path_of c.unit.new.path) c.unit.new.self.macros s.0) c.unit.result c.in_default.not-Goes inv.4 done)
+    talk-stops g.D.Desk.passes (Itself c.args.self.now.sid) c.args.self.now.sid _ _ _ inv.0 u
+        (standing (path_of c.args.path.now) c.args.self.now.macros answers)
+    (standing (path_of c.units.path) c.units.self.macros inv.1) (standing (path_of c.unit.new.path) c.unit.new.self.macros s.0) c.unit.result
+        c.in_default.not-Goes inv.4 done)

@@ -12,6 +12,8 @@ returns c =
     let arm2 = layer_same c.ne-else-ne.result a.arm2 b.arm2 c.ne-else-ne.ensures c.if-ne-2.false in
     let trigger = layer_same c.ne-else-ne-2.result a.trigger b.trigger c.ne-else-ne-2.ensures c.if-ne-3.false in
     let list = channels_decide c.as_slice.result.now c.as_slice-2.result.now c.eq.result c.eq.ensures in (
-      λ t. sym c.self.view_is ∙ same_setup a b arm1 arm2 trigger (sym c.as_slice.ensures.value ∙ list.0 (cc) ∙ c.as_slice-2.ensures.value) c.if-self-other.false c.if-self-other-2.false ∙ c.other.view_is,
-      λ e. let same : a.list ≡ b.list = ap (λ (v : Setup). v.list) (c.self.view_is ∙ e ∙ sym c.other.view_is) in list.1 (c.as_slice.ensures.value ∙ same ∙ sym c.as_slice-2.ensures.value),
+      λ t. sym c.self.view_is ∙ same_setup a b arm1 arm2 trigger (sym c.as_slice.ensures.value ∙ list.0 (cc)
+          ∙ c.as_slice-2.ensures.value) c.if-self-other.false c.if-self-other-2.false ∙ c.other.view_is,
+      λ e. let same : a.list ≡ b.list = ap (λ (v : Setup). v.list) (c.self.view_is ∙ e ∙ sym c.other.view_is) in
+          list.1 (c.as_slice.ensures.value ∙ same ∙ sym c.as_slice-2.ensures.value),
     )
