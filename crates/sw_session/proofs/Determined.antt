@@ -13,7 +13,7 @@ use Rattle.sw_verify.specs.declared.snapshot.Snapshot.{Snapshot as Taken}
 use Rattle.sw_verify.specs.declared.refusal.Refusal.{Refusal}
 use Rattle.sw_verify.specs.declared.refusal.Refusal.TheVariants.{EmptyList, NoChannel, NoMeter, GroupClash, TooManyReadings, BadNesting, BadJump, LeftClosed}
 use Rattle.sw_verify.specs.declared.refusal.Refusal.TheVariants.{NotClosed, NoMemory}
-use Rattle.sw_verify.specs.Check.{IsReady, IsFirst, IsRefused, number_of, error_of}
+use Rattle.sw_verify.specs.Check.{IsReady, IsFirst, IsRefused as IsUnplanned, number_of, error_of}
 use Rattle.sw_macro.specs.Table.{Table}
 use Rattle.sw_macro.specs.Expansion.{calls, Expands}
 use Rattle.sw_core.specs.Action.{Effect, IsOfMacros, Initiates, Resets, action_of}
@@ -205,7 +205,7 @@ stands-same : {T : Type 0} (b b' : T) (x : SessionAnswer) (t t' r r' : List Entr
 stands-same b b' x t t' r r' f f' (fin, left) (fin', left') next = rw (← left, ← left') (next (fin ∙ sym fin'))
 
 -- the first refusal, where no error is queued for want of memory
-refused-first : (sid : Sid) (s : Taken) (r : Refusal) (t rest : List Entry) (f : SessionAnswer) → AllAmple t → IsRefused r s
+refused-first : (sid : Sid) (s : Taken) (r : Refusal) (t rest : List Entry) (f : SessionAnswer) → AllAmple t → IsUnplanned r s
     → Queues sid (error_of r) t f rest → (IsReady s → ⊥) × IsFirst r s
 refused-first sid s r t rest f m x q = elim x [
   | inl y ↦ y
