@@ -57,7 +57,7 @@ offers_once law cards p p' q q' e (a, s, (b, t, (c, u, (d, v, is)))) (a', s', (b
 joined_once : StepIsDetermined → (sid sid' : Sid) (q q' : Panel) → Joins sid q → Joins sid' q' → (sid ≡ sid') × (q ≡ q')
 joined_once law sid sid' q q' j k =
     let r = law opening q q' (AskSession Ask.Join) j.failed k.failed (SaysSession (Joined sid) None) (SaysSession (Joined sid') None) j.step k.step tt tt
-        tt tt in
+    tt tt in
     let e : SaysSession (Joined sid) None ≡ SaysSession (Joined sid') None = r.0 in
     (let s : sid ≡ sid' = cc in s, r.1)
 
@@ -73,11 +73,11 @@ state_same s s' d m = ap (λ (x : DeskSeen). state x s.macros) d ∙ ap (λ (x :
 line_same : CoreTalkIsDetermined → CoreRestIsDetermined
     → (sid : Sid) (s e e' : State) (line told told' : List ℕ) (l : Line sid s line told e) (l' : Line sid s line told' e') → IsPlainLine l → IsPlainLine l'
     → outcomes_of (carried_in l.talked) ≡ outcomes_of (carried_in l'.talked) → outcomes_of (carried_at_rest l.rests) ≡ outcomes_of (carried_at_rest l'.rests)
-        → (told ≡ told') × (e ≡ e')
+    → (told ≡ told') × (e ≡ e')
 line_same talk rest sid s e e' line told told' l l' a a' in_talk at_rest =
     let t = talk sid s.desk l.spoken l'.spoken s.macros e.macros e'.macros line told told' l.talked l'.talked a.ample a'.ample a.talk a'.talk in_talk in
     let After : DeskSeen → Type 0 = λ d. (r : Rests d true e.desk) → AllSmooth (waits_of r) (carried_at_rest r)
-        → outcomes_of (carried_at_rest r) ≡ outcomes_of (carried_at_rest l'.rests) → e.desk ≡ e'.desk in
+    → outcomes_of (carried_at_rest r) ≡ outcomes_of (carried_at_rest l'.rests) → e.desk ≡ e'.desk in
     let there : After l'.spoken = λ r smooth same. rest l'.spoken e.desk e'.desk r l'.rests smooth a'.rest same in
     let here : After l.spoken = subst After (sym t.3) there in
     (t.1, state_same e e' (here l.rests a.rest at_rest) t.2)
@@ -103,7 +103,7 @@ run_same talk rest sid d (l ∷ ls) bytes bytes' e e' r r' a a' same =
     let left : measured_in sid r.1 ls r.2 e r.4 ≡ measured_in sid r'.1 ls r'.2 e' r'.4 = others_of _ _ _ _ _ _ same in
     let t = line_same talk rest sid d r.1 r'.1 l r.0 r'.0 r.3 r'.3 a.0 a'.0 in_talk at_rest in
     let Onward : State → Type 0 = λ m. (x : Run sid m ls r.2 e) → IsPlainRun sid m ls r.2 e x
-        → measured_in sid m ls r.2 e x ≡ measured_in sid r'.1 ls r'.2 e' r'.4 → r.2 ≡ r'.2 in
+    → measured_in sid m ls r.2 e x ≡ measured_in sid r'.1 ls r'.2 e' r'.4 → r.2 ≡ r'.2 in
     let there : Onward r'.1 = λ x y same. run_same talk rest sid r'.1 ls r.2 r'.2 e e' x r'.4 y a'.1 same in
     let more : r.2 ≡ r'.2 = subst Onward (sym t.1) there r.4 a.1 left in
     r.5 ∙ ap (λ (b : List ℕ). b ++ r.2) t.0 ∙ ap (λ (m : List ℕ). r'.0 ++ m) more ∙ sym r'.5
@@ -120,7 +120,7 @@ run_once step talk rest cards sid sid' start start' input bytes bytes' s s' r r'
     let u = set_up_once step cards sid sid' start start' s s' in
     let lines : r.done ≡ r'.done = all_lines input r.done r.lines ∙ sym (all_lines input r'.done r'.lines) in
     let Same : Sid → Panel → List (List ℕ) → Type 0 = λ i p ls. (x : Run i (begins_over p) ls bytes r.after) → IsPlainRun i (begins_over p) ls bytes r.after x
-        → measured_in i (begins_over p) ls bytes r.after x ≡ measured_in sid' (begins_over start') r'.done bytes' r'.after r'.run → bytes ≡ bytes' in
+    → measured_in i (begins_over p) ls bytes r.after x ≡ measured_in sid' (begins_over start') r'.done bytes' r'.after r'.run → bytes ≡ bytes' in
     let last : Same sid' start' r'.done = λ x y z. run_same talk rest sid' (begins_over start') r'.done bytes bytes' r.after r'.after x r'.run y a' z in
     let by_lines : Same sid' start' r.done = subst (λ (ls : List (List ℕ)). Same sid' start' ls) (sym lines) last in
     let by_start : Same sid' start r.done = subst (λ (p : Panel). Same sid' p r.done) (sym u.1) by_lines in

@@ -71,9 +71,12 @@ more-kept done part kept kept' is keeps = keeps ∙ ap (λ l. take most_kept (l 
 
 pub reading-more : (old mid new : Option (List ℕ)) (kept kept' : List ℕ) (result : Result Bool RunFault) → Reading old mid kept
     → TakesPart mid new kept kept' result → result ≢ Ok true → Reading old new kept'
-reading-more old mid new kept kept' result (done, used, is, feeds) p more =
-    (done ++ p.part, Consumes-trans old mid new done p.part used p.consumed, more-kept done p.part kept kept' is p.keeps,
-        All-append (λ x. x ≢ 10) done p.part feeds (p.goes_on more))
+reading-more old mid new kept kept' result (done, used, is, feeds) p more = (
+  done ++ p.part,
+  Consumes-trans old mid new done p.part used p.consumed,
+  more-kept done p.part kept kept' is p.keeps,
+  All-append (λ x. x ≢ 10) done p.part feeds (p.goes_on more),
+)
 
 pub reading-cut : (old mid new : Option (List ℕ)) (kept kept' : List ℕ) (result : Result Bool RunFault) → Reading old mid kept
     → TakesPart mid new kept kept' result → CutsLine old new
@@ -127,8 +130,11 @@ talks-whole sid macros macros' trace bytes line t = at (leb_tells (length line) 
 
 pub talked-whole : (p q : DeskSeen) (sid : Sid) (macros macros' : Table) (line bytes : List ℕ)
     → Talked CorePasses p q sid macros (take most_kept line) bytes macros' → Talked CorePasses p q sid macros line bytes macros'
-talked-whole p q sid macros macros' line bytes t = record { trace = t.trace; leads = t.leads;
-    talks = talks-whole sid macros macros' t.trace bytes line t.talks }
+talked-whole p q sid macros macros' line bytes t = record {
+  trace = t.trace;
+  leads = t.leads;
+  talks = talks-whole sid macros macros' t.trace bytes line t.talks;
+}
 
 -- nothing is kept at the end of the input alone
 pub kept-none : (old : Option (List ℕ)) (kept : List ℕ) → IfSome old (λ xs. kept ≡ take most_kept (take_through 10 xs)) → length kept ≡ 0 → IsAtEnd old

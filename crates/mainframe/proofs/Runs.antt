@@ -201,7 +201,7 @@ progress-stuck sid start (Some input) (Some xs) r2 c0 c p (done, bytes, left, is
 -- what the loop over the lines comes to, from a mainframe that was set up
 runs_set_up : (cards : Fitted) (sid : Sid) (start : Panel) (result : Result (Unit {0}) RunFault) (r0 left old new : Option (List ℕ)) → IsSetUp cards sid start
     → OnOk result (IfSome r0 (λ input. AnsweredFrom sid (begins_over start) input [] old new)) → OnOk result (IfSome r0 (λ _. IsAtEnd left))
-        → IfErr result (λ fault. IfSome r0 (λ input. EndsFrom sid (begins_over start) fault input left old new))
+    → IfErr result (λ fault. IfSome r0 (λ input. EndsFrom sid (begins_over start) fault input left old new))
     → IfSome r0 (λ input. Runs cards result input left old new)
 runs_set_up cards sid start result None left old new s ok all err = tt
 runs_set_up cards sid start (Ok done) (Some input) left old new s ok all err =
@@ -221,7 +221,7 @@ IfErr_map (Err e) f h = f e h
 pub runs_begun : (first second third fourth f s t m : Account) → f ≡ first → s ≡ second → t ≡ third → m ≡ fourth → (sid : Sid) (core : Panel) (desk : DeskSeen)
     → desk ≡ desk_over core → (result : Result (Unit {0}) RunFault) (r0 left old new : Option (List ℕ)) → IsSetUp (fitted f s t m) sid core
     → OnOk result (IfSome r0 (λ input. AnsweredFrom sid (state desk no_macros) input [] old new)) → OnOk result (IfSome r0 (λ _. IsAtEnd left))
-        → IfErr result (λ fault. IfSome r0 (λ input. EndsFrom sid (state desk no_macros) fault input left old new))
+    → IfErr result (λ fault. IfSome r0 (λ input. EndsFrom sid (state desk no_macros) fault input left old new))
     → IfSome r0 (λ input. Runs (fitted first second third fourth) result input left old new)
 runs_begun first second third fourth f s t m a b c d sid core desk is result r0 left old new up ok all err =
     let one : IsSetUp (fitted first s t m) sid core = subst (λ (x : Account). IsSetUp (fitted x s t m) sid core) a up in
@@ -229,5 +229,5 @@ runs_begun first second third fourth f s t m a b c d sid core desk is result r0 
     let three : IsSetUp (fitted first second third m) sid core = subst (λ (x : Account). IsSetUp (fitted first second x m) sid core) c two in
     let four : IsSetUp (fitted first second third fourth) sid core = subst (λ (x : Account). IsSetUp (fitted first second third x) sid core) d three in
     runs_set_up (fitted first second third fourth) sid core result r0 left old new four (OnOk_map result (λ h.
-        subst (λ (d : DeskSeen). IfSome r0 (λ input. AnsweredFrom sid (state d no_macros) input [] old new)) is h) ok) all (IfErr_map result (λ fault h.
-        subst (λ (d : DeskSeen). IfSome r0 (λ input. EndsFrom sid (state d no_macros) fault input left old new)) is h) err)
+    subst (λ (d : DeskSeen). IfSome r0 (λ input. AnsweredFrom sid (state d no_macros) input [] old new)) is h) ok) all (IfErr_map result (λ fault h.
+    subst (λ (d : DeskSeen). IfSome r0 (λ input. EndsFrom sid (state d no_macros) fault input left old new)) is h) err)

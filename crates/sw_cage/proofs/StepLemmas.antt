@@ -111,7 +111,7 @@ module _ (code : List Step) (at : Place) where
         steps = r.0;
         run = ap (exec code r.0 to) (sym (put_is at.counters k left h))
             ∙ ap (λ (b : Bool). cond b (exec code r.0 (at.step + 1) (put k 0 (counters_of at.counters)))
-                (exec code r.0 to (put k left (counters_of at.counters)))) (sym t)
+            (exec code r.0 to (put k left (counters_of at.counters)))) (sym t)
             ∙ r.1;
       }
 
@@ -125,7 +125,7 @@ module _ (code : List Step) (at : Place) where
         steps = r.0;
         run = ap (exec code r.0 (at.step + 1)) (sym (put_is at.counters k 0 h))
             ∙ ap (λ (b : Bool). cond b (exec code r.0 (at.step + 1) (put k 0 (counters_of at.counters)))
-                (exec code r.0 to (put k left (counters_of at.counters)))) (sym t)
+            (exec code r.0 to (put k left (counters_of at.counters)))) (sym t)
             ∙ r.1;
       }
 

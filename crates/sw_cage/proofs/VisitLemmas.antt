@@ -40,7 +40,7 @@ visits-agenda s h =
     let turn2 : AreVisits (arm2_turn s) = visits-append (map Awaits (head_of Arm2 s.arm2)) (passes s 0 s.trigger.count) (visits-awaits (head_of Arm2 s.arm2))
     (visits-passes s 0 s.trigger.count) in
     let turn1 : AreVisits (arm1_turn s) =
-        visits-append (map Awaits (head_of Arm1 s.arm1)) (repeated s.arm2.count (arm2_turn s)) (visits-awaits (head_of Arm1 s.arm1))
+    visits-append (map Awaits (head_of Arm1 s.arm1)) (repeated s.arm2.count (arm2_turn s)) (visits-awaits (head_of Arm1 s.arm1))
     (visits-repeated s.arm2.count (arm2_turn s) turn2) in
     subst AreVisits (sym (agenda_is s h)) (visits-repeated s.arm1.count (arm1_turn s) turn1)
 

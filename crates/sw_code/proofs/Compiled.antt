@@ -88,12 +88,12 @@ meaning-tree s h =
     let arm2 : meaning (line (map Awaits (head_of Arm2 s.arm2)) (passes_tree s)) ≡ arm2_turn s =
     meaning-line (map Awaits (head_of Arm2 s.arm2)) (passes_tree s) ∙ ap (λ (l : List Item). map Awaits (head_of Arm2 s.arm2) ++ l) (meaning-passes s) in
     let arm1 : meaning (line (map Awaits (head_of Arm1 s.arm1)) (Times 1 s.arm2.count (line (map Awaits (head_of Arm2 s.arm2)) (passes_tree s)) Nil))
-        ≡ arm1_turn s =
+    ≡ arm1_turn s =
     meaning-line (map Awaits (head_of Arm1 s.arm1)) (Times 1 s.arm2.count (line (map Awaits (head_of Arm2 s.arm2)) (passes_tree s)) Nil)
     ∙ ap (λ (l : List Item). map Awaits (head_of Arm1 s.arm1)
-        ++ l) (append-nil (repeated s.arm2.count (meaning (line (map Awaits (head_of Arm2 s.arm2)) (passes_tree s)))) ∙ ap (repeated s.arm2.count) arm2) in
+    ++ l) (append-nil (repeated s.arm2.count (meaning (line (map Awaits (head_of Arm2 s.arm2)) (passes_tree s)))) ∙ ap (repeated s.arm2.count) arm2) in
     append-nil (repeated s.arm1.count
-        (meaning (line (map Awaits (head_of Arm1 s.arm1)) (Times 1 s.arm2.count (line (map Awaits (head_of Arm2 s.arm2)) (passes_tree s)) Nil))))
+    (meaning (line (map Awaits (head_of Arm1 s.arm1)) (Times 1 s.arm2.count (line (map Awaits (head_of Arm2 s.arm2)) (passes_tree s)) Nil))))
     ∙ ap (repeated s.arm1.count) arm1 ∙ sym (agenda_is s h)
 
 nested-passes : (s : Setup) (used : ℕ → Bool) → used 2 ≡ false → IsNested used (passes_tree s)
@@ -104,7 +104,7 @@ nested-passes s used free = at (s.trigger.count / length s.list) where
   at (suc q) =
       let f : eqb (suc q) 0 ≡ false = grind (arith, nat_tests) in
       subst (λ (b : Bool). IsNested used (cond b (line (passes s 0 (s.trigger.count % length s.list)) Nil)
-          (Times 2 (suc q) (line (passes s 0 (length s.list)) Nil) (line (passes s 0 (s.trigger.count % length s.list)) Nil)))) (sym f) (
+      (Times 2 (suc q) (line (passes s 0 (length s.list)) Nil) (line (passes s 0 (s.trigger.count % length s.list)) Nil)))) (sym f) (
         omega arith,
         free,
         nested-line (λ j. eqb j 2 || used j) (passes s 0 (length s.list)) Nil tt,
@@ -133,7 +133,7 @@ compiled_unfolds s h i = subst (λ (l : List Item). Unfolds (flatten (tree_of s)
 pub compiled_is : (s : Setup) (h1 h2 ps : List Step) (place2 place3 : ℕ) → h1 ≡ steps_of (map Awaits (head_of Arm1 s.arm1))
     → h2 ≡ steps_of (map Awaits (head_of Arm2 s.arm2)) → place2 ≡ 2 + length h1 → place3 ≡ place2 + length h2 → ps ≡ flatten (passes_tree s) place3 →
     (step.Set 0 s.arm1.count ∷ (h1 ++ (step.Set 1 s.arm2.count ∷ (h2 ++ (ps ++ (step.Loop 1 place2 ∷ step.Loop 0 1 ∷ step.Halt ∷ []))))))
-        ≡ flatten (tree_of s) 0 ++ step.Halt ∷ []
+    ≡ flatten (tree_of s) 0 ++ step.Halt ∷ []
 compiled_is s h1 h2 ps place2 place3 e1 e2 p2 p3 e =
     let i1 = map Awaits (head_of Arm1 s.arm1) in
     let i2 = map Awaits (head_of Arm2 s.arm2) in
@@ -148,7 +148,7 @@ compiled_is s h1 h2 ps place2 place3 e1 e2 p2 p3 e =
     ∙ ap (λ (l : List Step). step.Set 1 s.arm2.count ∷ (l ++ step.Loop 1 place2 ∷ [])) body in
     let all : flatten (line i1 inner) 1 ≡ h1 ++ (step.Set 1 s.arm2.count ∷ ((h2 ++ ps) ++ step.Loop 1 place2 ∷ [])) =
     flatten-line i1 inner 1 ∙ ap (λ (l : List Step). steps_of i1 ++ l) loop
-        ∙ ap (λ (l : List Step). l ++ (step.Set 1 s.arm2.count ∷ ((h2 ++ ps) ++ step.Loop 1 place2 ∷ []))) (sym e1) in
+    ∙ ap (λ (l : List Step). l ++ (step.Set 1 s.arm2.count ∷ ((h2 ++ ps) ++ step.Loop 1 place2 ∷ []))) (sym e1) in
     sym (ap (λ (l : List Step). step.Set 0 s.arm1.count ∷ ((l ++ step.Loop 0 1 ∷ []) ++ step.Halt ∷ [])) all ∙ simp append_assoc)
 
 -- the passes as the program writes them, with a loop and without
@@ -161,9 +161,9 @@ looped_is s place body rest h e f =
     let t : eqb q 0 ≡ false = grind (arith, nat_tests) in
     let tail = line (passes s 0 (s.trigger.count % n)) Nil in
     let end : (p : ℕ) → flatten tail p ≡ rest = λ p. flatten-line (passes s 0 (s.trigger.count % n)) Nil p
-        ∙ append-nil (steps_of (passes s 0 (s.trigger.count % n))) ∙ sym f in
+    ∙ append-nil (steps_of (passes s 0 (s.trigger.count % n))) ∙ sym f in
     let inside : flatten (line (passes s 0 n) Nil) (place + 1) ≡ body = flatten-line (passes s 0 n) Nil (place + 1) ∙ append-nil (steps_of (passes s 0 n))
-        ∙ sym e in
+    ∙ sym e in
     sym (ap (λ b. flatten (cond b tail (Times 2 q (line (passes s 0 n) Nil) tail)) place) t
     ∙ ap (λ (l : List Step). step.Set 2 q ∷ (l ++ (step.Loop 2 (place + 1) ∷ flatten tail (place + 2 + size (line (passes s 0 n) Nil))))) inside
     ∙ ap (λ (l : List Step). step.Set 2 q ∷ (body ++ (step.Loop 2 (place + 1) ∷ l))) (end (place + 2 + size (line (passes s 0 n) Nil))))

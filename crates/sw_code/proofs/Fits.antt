@@ -96,8 +96,14 @@ module _ (s : Setup) (h : s.trigger.delay_us ≤ 3600000000) where
   length-passes : (k n : ℕ) → length (passes s k n) ≤ n * 5
   length-passes k zero = omega arith
   length-passes k (suc n) =
-      omega (arith, length-append (pass_of s k) (passes s (suc k) n), length-append (map Awaits (head_of Trigger s.trigger)) (visit (channel_at s.list k)),
-          length-head Trigger s.trigger h, length-passes (suc k) n, suc-mul n 5)
+      omega (
+        arith,
+        length-append (pass_of s k) (passes s (suc k) n),
+        length-append (map Awaits (head_of Trigger s.trigger)) (visit (channel_at s.list k)),
+        length-head Trigger s.trigger h,
+        length-passes (suc k) n,
+        suc-mul n 5,
+      )
 
   fit-some : (n : ℕ) → IsFit (line (passes s 0 n) Nil) × (size (line (passes s 0 n) Nil) ≤ n * 5)
   fit-some n = (fit-line (passes s 0 n) Nil (fits-passes 0 n) tt, omega (arith, size-line (passes s 0 n) Nil, length-passes 0 n))
@@ -141,8 +147,15 @@ fit-tree s some i =
     let c2 : s.arm2.count ≤ 100000 = omega (arith, i.arm2.count.1) in
     let z : 0 ≤ 2 = omega arith in
     let o : 1 ≤ 2 = omega arith in (
-      ((z, i.arm1.count.0, c1), fit-line i1 loop2 (fits-head Arm1 s.arm1 i.arm1.delay) (((o, i.arm2.count.0, c2),
-          fit-line i2 (passes_tree s) (fits-head Arm2 s.arm2 i.arm2.delay) inner.0, tt)), tt),
+      (
+        (z, i.arm1.count.0, c1),
+        fit-line i1 loop2 (fits-head Arm1 s.arm1 i.arm1.delay) ((
+          (o, i.arm2.count.0, c2),
+          fit-line i2 (passes_tree s) (fits-head Arm2 s.arm2 i.arm2.delay) inner.0,
+          tt,
+        )),
+        tt,
+      ),
       omega (arith, size-line i1 loop2, size-line i2 (passes_tree s), inner.1, length-head Arm1 s.arm1 i.arm1.delay, length-head Arm2 s.arm2 i.arm2.delay),
     )
 

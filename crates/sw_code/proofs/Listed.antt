@@ -89,7 +89,7 @@ one_more out out1 out2 line whole steps i s lt is e l f h =
     let d : drop i steps ≡ s ∷ drop (suc i) steps = drop-cons steps i s lt ∙ ap (λ (x : Step). x ∷ drop (suc i) steps) (sym is) in
     let g = rw d at h in
     let two : out2 ≡ out ++ line_of (parts_of s) = f ∙ ap (λ (x : List ℕ). x ++ 10 ∷ []) e ∙ append_assoc out line (10 ∷ [])
-        ∙ ap (λ (x : List ℕ). out ++ x) l in
+    ∙ ap (λ (x : List ℕ). out ++ x) l in
     let n : i + 1 ≡ suc i = omega arith in
     ap (λ (x : List ℕ). x ++ lines_of (drop (i + 1) steps)) two ∙ ap (λ (j : ℕ). (out ++ line_of (parts_of s)) ++ lines_of (drop j steps)) n
     ∙ append_assoc out (line_of (parts_of s)) (lines_of (drop (suc i) steps)) ∙ g

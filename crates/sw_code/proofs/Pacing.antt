@@ -88,7 +88,7 @@ module _ (code : List Step) where
   near_item (Times k n body rest) zero pc w i h = absurd w
   near_item (Times k n body rest) (suc d) pc w i h =
       set_near k n d pc h.0 (near_item body d (pc + 1) w.1 i (has_front code (pc + 1) (flatten body (pc + 1))
-          (step.Loop k (pc + 1) ∷ flatten rest (pc + 2 + size body)) h.1))
+      (step.Loop k (pc + 1) ∷ flatten rest (pc + 2 + size body)) h.1))
 
   -- into a tree, or past an empty one
   near_from : (t : Tree) (d e pc : ℕ) → IsWithin d t → d ≤ e → HasAt code pc (flatten t pc) → IsNear code e (pc + size t) → IsNear code e pc
@@ -126,7 +126,7 @@ module _ (code : List Step) where
       let end : pc + (2 + size body + size rest) ≡ pc + 2 + size body + size rest = omega arith in
       let far : IsNear code e (pc + 2 + size body + size rest) = subst (λ (p : ℕ). IsNear code e p) end far in
       let out : IsNear code e (pc + 1 + size body + 1) =
-          subst (λ (p : ℕ). IsNear code e p) (sym after) (near_from rest (suc d) e (pc + 2 + size body) w.2 le in_rest far) in
+      subst (λ (p : ℕ). IsNear code e p) (sym after) (near_from rest (suc d) e (pc + 2 + size body) w.2 le in_rest far) in
       let back : IsNear code e (pc + 1) = near_more d e (pc + 1) (omega arith) (near_item body d (pc + 1) w.1 w.0 in_body) in
       let loop : IsNear code (suc e) (pc + 1 + size body) = loop_near k (pc + 1) e (pc + 1 + size body) tail.0 out back in
       let inside : AllNear m (pc + 1) (flatten body (pc + 1)) = all_near body d (suc e) m (pc + 1) w.1 (omega arith) (omega arith) in_body loop in
@@ -157,8 +157,10 @@ paced t d w =
     let far : IsNear code d (0 + size t) = halt_near code d (0 + size t) halt in
     let le : d ≤ d = omega arith in
     let most : d + d ≤ d + d = omega arith in
-    let all : AllNear code (d + d) 0 code = all-append code (d + d) 0 (flatten t 0) (step.Halt ∷ []) (all_near code t d d (d + d) 0 w le most front far) (tt,
-        tt) in
+    let all : AllNear code (d + d) 0 code = all-append code (d + d) 0 (flatten t 0) (step.Halt ∷ []) (all_near code t d d (d + d) 0 w le most front far) (
+      tt,
+      tt,
+    ) in
     record {
       start = near_more code d (d + d) 0 (omega arith) (near_from code t d d 0 w le front far);
       after = λ pc i h.

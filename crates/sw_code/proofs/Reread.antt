@@ -38,7 +38,7 @@ number_good low high part n h e l k =
     let a : low ≤ v = omega arith in
     let b : v ≤ high = omega arith in
     ap Ok e ∙ sym (ap (λ (t : Bool).
-        cond t (Ok v) (Err BadNumber)) (all_three (is_numeral part) (nat_le low v) (nat_le v high) h (le-leb low v a) (le-leb v high b)))
+    cond t (Ok v) (Err BadNumber)) (all_three (is_numeral part) (nat_le low v) (nat_le v high) h (le-leb low v a) (le-leb v high b)))
 
 and_first : (a b : Bool) → (a && b) ≡ true → a ≡ true
 and_first true b h = refl
@@ -94,16 +94,16 @@ number_printed low high n l h small =
     let few : length (decimal n) ≤ 20 = length-decimal-le 20 n (lit< tt) (omega arith) k in
     let s : nat_lt 0 (length (decimal n)) ≡ true = grind (arith, nat_tests) in
     sym (number_good low high (decimal n) n (all_three (nat_lt 0 (length (decimal n))) (nat_le (length (decimal n)) 20) (list_all is_digit (decimal n)) s
-        (le-leb (length (decimal n)) 20 few) (digits_test (decimal n) d.0)) (sym d.1) l h)
+    (le-leb (length (decimal n)) 20 few) (digits_test (decimal n) d.0)) (sym d.1) l h)
 
 channel_printed : (c : Channel) → IsChannel c → channel_in (parts_at 33 (channel_text c)) ≡ Ok c
 channel_printed c r =
     let slot : c.0 ≤ 3600000000 = omega (arith, r.1) in
     let ch : c.1 ≤ 3600000000 = omega (arith, r.3) in
     ap channel_in (first_of 33 (decimal c.0) (decimal c.1) (digits_lack 33 refl c.0 slot)
-        ∙ ap (λ (l : List (List ℕ)). decimal c.0 ∷ l) (only_of 33 (decimal c.1) (digits_lack 33 refl c.1 ch)))
+    ∙ ap (λ (l : List (List ℕ)). decimal c.0 ∷ l) (only_of 33 (decimal c.1) (digits_lack 33 refl c.1 ch)))
     ∙ ap (λ (x : Result ℕ ListFault).
-        then_read x (λ (s : ℕ). then_read (number_in 1 99 (decimal c.1)) (λ (h : ℕ). Ok (s, h)))) (number_printed 1 8 c.0 r.0 r.1 slot)
+    then_read x (λ (s : ℕ). then_read (number_in 1 99 (decimal c.1)) (λ (h : ℕ). Ok (s, h)))) (number_printed 1 8 c.0 r.0 r.1 slot)
     ∙ ap (λ (x : Result ℕ ListFault). then_read x (λ (h : ℕ). Ok (c.0, h))) (number_printed 1 99 c.1 r.2 r.3 ch)
 
 channel_lacks : (mark : ℕ) → is_digit mark ≡ false → not (33 == mark) ≡ true → (c : Channel) → IsChannel c → Lacks mark (channel_text c)
@@ -133,7 +133,7 @@ step_printed (step.Set k n) i h =
     let q : n ≤ 3600000000 = omega (arith, i.2) in
     ap step_in (three_parts (codes "set") (decimal k) (decimal n) (refl, (refl, (refl, tt))) (digits_lack 32 refl k p) (digits_lack 32 refl n q))
     ∙ ap (λ (x : Result ℕ ListFault).
-        then_read x (λ (m : ℕ). then_read (number_in 1 100000 (decimal n)) (λ (j : ℕ). Ok (step.Set m j)))) (number_printed 0 2 k (omega arith) i.0 p)
+    then_read x (λ (m : ℕ). then_read (number_in 1 100000 (decimal n)) (λ (j : ℕ). Ok (step.Set m j)))) (number_printed 0 2 k (omega arith) i.0 p)
     ∙ ap (λ (x : Result ℕ ListFault). then_read x (λ (j : ℕ). Ok (step.Set k j))) (number_printed 1 100000 n i.1 i.2 q)
 step_printed (step.Wait Arm1) i h = refl
 step_printed (step.Wait Arm2) i h = refl
@@ -153,7 +153,7 @@ step_printed (step.Loop k to) i h =
     let q : to ≤ 3600000000 = omega (arith, i.1) in
     ap step_in (three_parts (codes "loop") (decimal k) (decimal to) (refl, (refl, (refl, (refl, tt)))) (digits_lack 32 refl k p) (digits_lack 32 refl to q))
     ∙ ap (λ (x : Result ℕ ListFault).
-        then_read x (λ (m : ℕ). then_read (number_in 0 8191 (decimal to)) (λ (j : ℕ). Ok (step.Loop m j)))) (number_printed 0 2 k (omega arith) i.0 p)
+    then_read x (λ (m : ℕ). then_read (number_in 0 8191 (decimal to)) (λ (j : ℕ). Ok (step.Loop m j)))) (number_printed 0 2 k (omega arith) i.0 p)
     ∙ ap (λ (x : Result ℕ ListFault). then_read x (λ (j : ℕ). Ok (step.Loop k j))) (number_printed 0 8191 to (omega arith) i.1 q)
 step_printed step.Halt i h = refl
 
@@ -161,8 +161,10 @@ line_lacks : (s : Step) → IsStep s → HasChannel s → Lacks 10 (join_with_by
 line_lacks (step.Set k n) i h =
     let p : k ≤ 3600000000 = omega (arith, i.0) in
     let q : n ≤ 3600000000 = omega (arith, i.2) in
-    join_lacks (codes "set") (decimal k ++ 32 ∷ decimal n) (refl,
-        (refl, (refl, tt))) (join_lacks (decimal k) (decimal n) (digits_lack 10 refl k p) (digits_lack 10 refl n q))
+    join_lacks (codes "set") (decimal k ++ 32 ∷ decimal n) (
+      refl,
+      (refl, (refl, tt)),
+    ) (join_lacks (decimal k) (decimal n) (digits_lack 10 refl k p) (digits_lack 10 refl n q))
 line_lacks (step.Wait name) i h = join_lacks (codes "wait") (layer_word name) (refl, (refl, (refl, (refl, tt)))) (layer_lacks 10 refl name)
 line_lacks (step.Pause micros) i h = join_lacks (codes "pause") (decimal micros) (refl, (refl, (refl, (refl, (refl, tt))))) (digits_lack 10 refl micros i.1)
 line_lacks (step.Close c) i h = join_lacks (codes "close") (channel_text c) (refl, (refl, (refl, (refl, (refl, tt))))) (channel_lacks 10 refl refl c h)
@@ -171,8 +173,10 @@ line_lacks (step.Open c) i h = join_lacks (codes "open") (channel_text c) (refl,
 line_lacks (step.Loop k to) i h =
     let p : k ≤ 3600000000 = omega (arith, i.0) in
     let q : to ≤ 3600000000 = omega (arith, i.1) in
-    join_lacks (codes "loop") (decimal k ++ 32 ∷ decimal to) (refl,
-        (refl, (refl, (refl, tt)))) (join_lacks (decimal k) (decimal to) (digits_lack 10 refl k p) (digits_lack 10 refl to q))
+    join_lacks (codes "loop") (decimal k ++ 32 ∷ decimal to) (
+      refl,
+      (refl, (refl, (refl, tt))),
+    ) (join_lacks (decimal k) (decimal to) (digits_lack 10 refl k p) (digits_lack 10 refl to q))
 line_lacks step.Halt i h = (refl, (refl, (refl, (refl, tt))))
 
 -- the first line of a text
@@ -195,7 +199,7 @@ steps_printed (s ∷ steps) line i h l =
     ap (steps_in line) (line_first text (lines_of steps) (line_lacks s i.0 h.0))
     ∙ steps_some line text more (some_parts 10 (lines_of steps))
     ∙ ap (λ (r : Result Step ListFault). then_read (on_line line r) (λ (x : Step).
-        then_read (steps_in (line + 1) more) (λ (l : List Step). Ok (x ∷ l)))) (numbered_printed line s i.0 h.0 here)
+    then_read (steps_in (line + 1) more) (λ (l : List Step). Ok (x ∷ l)))) (numbered_printed line s i.0 h.0 here)
     ∙ ap (λ (r : Result (List Step) ListError). then_read r (λ (l : List Step). Ok (s ∷ l))) (steps_printed steps (line + 1) i.1 h.1 (omega arith))
 
 pub listing_printed : (p : Program) → IsInRange p → AllByRecursion HasChannel p.steps → code_in (listing_of p) ≡ Ok p
@@ -205,8 +209,10 @@ listing_printed p i h =
     let rest = line_of (codes "meter" ∷ decimal p.meter ∷ []) ++ lines_of p.steps in
     let lines = parts_at 10 (lines_of p.steps) in
     let first_lacks : Lacks 10 (codes "scan 1") = (refl, (refl, (refl, (refl, (refl, (refl, tt)))))) in
-    let second_lacks : Lacks 10 second = join_lacks (codes "meter") (decimal p.meter) (refl,
-        (refl, (refl, (refl, (refl, tt))))) (digits_lack 10 refl p.meter m) in
+    let second_lacks : Lacks 10 second = join_lacks (codes "meter") (decimal p.meter) (
+      refl,
+      (refl, (refl, (refl, (refl, tt)))),
+    ) (digits_lack 10 refl p.meter m) in
     let meter : meter_in (parts_at 32 second) ≡ Ok p.meter =
     ap meter_in (two_parts (codes "meter") (decimal p.meter) (refl, (refl, (refl, (refl, (refl, tt))))) (digits_lack 32 refl p.meter m))
     ∙ number_printed 1 8 p.meter i.meter.0 i.meter.1 m in
@@ -216,5 +222,5 @@ listing_printed p i h =
     ∙ ap code_after_version (line_first second (lines_of p.steps) second_lacks)
     ∙ second_some second lines (some_parts 10 (lines_of p.steps))
     ∙ ap (λ (r : Result ℕ ListFault). then_read (on_line 2 r) (λ (x : ℕ).
-        then_read (steps_in 3 lines) (λ (l : List Step). Ok (record { meter = x; steps = l })))) meter
+    then_read (steps_in 3 lines) (λ (l : List Step). Ok (record { meter = x; steps = l })))) meter
     ∙ ap (λ (r : Result (List Step) ListError). then_read r (λ (l : List Step). Ok (record { meter = p.meter; steps = l }))) steps

@@ -42,8 +42,12 @@ pub length-flatten : (t : Tree) (pc : ℕ) → length (flatten t pc) ≡ size t
 length-flatten Nil pc = refl
 length-flatten (Then x rest) pc = omega (arith, length-flatten rest (pc + 1))
 length-flatten (Times k n body rest) pc =
-    omega (arith, length-append (flatten body (pc + 1)) (step.Loop k (pc + 1) ∷ flatten rest (pc + 2 + size body)), length-flatten body (pc + 1),
-        length-flatten rest (pc + 2 + size body))
+    omega (
+      arith,
+      length-append (flatten body (pc + 1)) (step.Loop k (pc + 1) ∷ flatten rest (pc + 2 + size body)),
+      length-flatten body (pc + 1),
+      length-flatten rest (pc + 2 + size body),
+    )
 
 -- from one state a run passes these items and comes to another
 pub record Passes (code : List Step) (pc : ℕ) (cs : Counters) (xs : List Item) (pc' : ℕ) (cs' : Counters) : Type 0 where
@@ -113,9 +117,11 @@ module _ (code : List Step) where
   turn_back pc k to m cs h g = record {
     by = λ j rest e.
         let t : eqb (cs k - 1) 0 ≡ false = grind (arith, nat_tests) in
-        let v : cs k - 1 ≡ suc m = omega arith in
-        (suc j, one pc cs (step.Loop k to) h j ∙ ap (λ b. cond b (exec code j (pc + 1) (put k 0 cs)) (exec code j to (put k (cs k - 1) cs))) t
-            ∙ ap (λ w. exec code j to (put k w cs)) v ∙ e);
+        let v : cs k - 1 ≡ suc m = omega arith in (
+          suc j,
+          one pc cs (step.Loop k to) h j ∙ ap (λ b. cond b (exec code j (pc + 1) (put k 0 cs)) (exec code j to (put k (cs k - 1) cs))) t
+              ∙ ap (λ w. exec code j to (put k w cs)) v ∙ e,
+        );
   }
 
   -- a loop's turns, given what one turn of its body does
@@ -175,7 +181,7 @@ module _ (code : List Step) where
         subst (λ (p : ℕ). Passes code pc cs (repeated n (meaning body) ++ meaning rest) p r.0) end
             (then_passes pc (pc + 1) (pc + 2 + size body + size rest) cs start r.0 [] (repeated n (meaning body) ++ meaning rest) (set_passes pc k n cs h.0)
             (then_passes (pc + 1) (pc + 2 + size body) (pc + 2 + size body + size rest) start loop.0 r.0 (repeated n (meaning body)) (meaning rest) turned
-                r.2)),
+            r.2)),
       )
 
 -- nested code and halt unfold to what they mean
@@ -207,9 +213,9 @@ act_more (Some (step.Open c)) f g pc cs l up h = passing_some (Open c) (f (pc + 
 act_more (Some (step.Loop k to)) f g pc cs l up h =
     either (eqb (cs k - 1) 0) (f (pc + 1) (put k 0 cs)) (f to (put k (cs k - 1) cs)) (g (pc + 1) (put k 0 cs)) (g to (put k (cs k - 1) cs))
     (up (pc + 1) (put k 0 cs) l) (up to (put k (cs k - 1) cs) l) h where
-  either : (b : Bool) (x y u v : Option (List Item)) → (x ≡ Some l → u ≡ Some l) → (y ≡ Some l → v ≡ Some l) → cond b x y ≡ Some l → cond b u v ≡ Some l
-  either true x y u v p q e = p e
-  either false x y u v p q e = q e
+      either : (b : Bool) (x y u v : Option (List Item)) → (x ≡ Some l → u ≡ Some l) → (y ≡ Some l → v ≡ Some l) → cond b x y ≡ Some l → cond b u v ≡ Some l
+      either true x y u v p q e = p e
+      either false x y u v p q e = q e
 act_more (Some step.Halt) f g pc cs l up h = h
 
 exec_more : (code : List Step) (n : ℕ) (pc : ℕ) (cs : Counters) (l : List Item) → exec code n pc cs ≡ Some l → exec code (suc n) pc cs ≡ Some l

@@ -31,7 +31,7 @@ is_numeral part = nat_lt 0 (length part) && nat_le (length part) 20 && list_all 
 abbrev pub number_in : ℕ → ℕ → List ℕ → Result ℕ ListFault
 number_in low high part =
     if is_numeral part && nat_le low (value_of part)
-        && nat_le (value_of part) high then Ok (value_of part) else Err BadNumber
+    && nat_le (value_of part) high then Ok (value_of part) else Err BadNumber
 
 -- `s!c`
 abbrev pub channel_in : List (List ℕ) → Result Channel ListFault
@@ -43,19 +43,19 @@ abbrev pub layer_in : List ℕ → Result LayerName ListFault
 layer_in word =
     if bytes_eq word (codes "arm1") then Ok Arm1
     else (if bytes_eq word (codes "arm2") then Ok Arm2 else
-        (if bytes_eq word (codes "trig") then Ok Trigger else Err BadStep))
+    (if bytes_eq word (codes "trig") then Ok Trigger else Err BadStep))
 
 -- the step of a word alone, of a word and one part, and of a word and two
 abbrev pub plain_step : List ℕ → Result Step ListFault
 plain_step word =
     if bytes_eq word (codes "read") then Ok step.Read else
-        (if bytes_eq word (codes "halt") then Ok step.Halt else Err BadStep)
+    (if bytes_eq word (codes "halt") then Ok step.Halt else Err BadStep)
 
 abbrev pub step_with : List ℕ → List ℕ → Result Step ListFault
 step_with word a =
     if bytes_eq word (codes "wait") then then_read (layer_in a) (λ name. Ok (step.Wait name))
     else (if bytes_eq word (codes "pause") then then_read (number_in 1 longest_delay a) (λ micros.
-        Ok (step.Pause micros))
+    Ok (step.Pause micros))
     else (if bytes_eq word (codes "close") then then_read (channel_in (parts_at 33 a)) (λ c. Ok (step.Close c))
     else (if bytes_eq word (codes "open") then then_read (channel_in (parts_at 33 a)) (λ c. Ok (step.Open c))
     else Err BadStep)))
@@ -63,9 +63,9 @@ step_with word a =
 abbrev pub step_with_two : List ℕ → List ℕ → List ℕ → Result Step ListFault
 step_with_two word a b =
     if bytes_eq word (codes "set") then then_read (number_in 0 2 a) (λ k.
-        then_read (number_in 1 most_trigger_count b) (λ n. Ok (step.Set k n)))
+    then_read (number_in 1 most_trigger_count b) (λ n. Ok (step.Set k n)))
     else (if bytes_eq word (codes "loop") then then_read (number_in 0 2 a) (λ k.
-        then_read (number_in 0 8191 b) (λ to. Ok (step.Loop k to)))
+    then_read (number_in 0 8191 b) (λ to. Ok (step.Loop k to)))
     else Err BadStep)
 
 -- the step of a line's parts
@@ -102,7 +102,7 @@ steps_in line [] = Ok []
 steps_in line (last ∷ []) = if length last == 0 then Ok [] else Err (record { line = line; kind = BadStep })
 steps_in line (text ∷ next ∷ more) =
     then_read (on_line line (numbered_step line text)) (λ s.
-        then_read (steps_in (line + 1) (next ∷ more)) (λ steps. Ok (s ∷ steps)))
+    then_read (steps_in (line + 1) (next ∷ more)) (λ steps. Ok (s ∷ steps)))
 
 abbrev pub code_after_version : List (List ℕ) → Result Program ListError
 code_after_version (text ∷ next ∷ more) =
@@ -112,8 +112,10 @@ code_after_version _ = Err (record { line = 2; kind = BadStep })
 
 abbrev pub code_of_lines : List (List ℕ) → Result Program ListError
 code_of_lines (text ∷ next ∷ more) =
-    if bytes_eq text (codes "scan 1") then code_after_version (next ∷ more) else Err (record { line = 1;
-        kind = BadStep })
+    if bytes_eq text (codes "scan 1") then code_after_version (next ∷ more) else Err (record {
+      line = 1;
+      kind = BadStep;
+    })
 code_of_lines _ = Err (record { line = 1; kind = BadStep })
 
 -- the code that a text lists, or its first fault

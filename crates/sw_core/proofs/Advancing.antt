@@ -115,8 +115,12 @@ pub record Nears (p : Panel) (taken : ℕ) (q : Panel) : Type 0 where
 
 near_same : (p q : Panel) → q.cage.scan ≡ p.cage.scan → SameClosed p.cage q.cage → Nears p 0 q
 near_same p q e r =
-    record { most = omega arith; left = inl (omega (arith, (let n : left_in q ≡ left_in p = ap left_of e in n))); idle = λ i. e ∙ i;
-        holds = holds_same p.cage q.cage e r }
+    record {
+      most = omega arith;
+      left = inl (omega (arith, (let n : left_in q ≡ left_in p = ap left_of e in n)));
+      idle = λ i. e ∙ i;
+      holds = holds_same p.cage q.cage e r;
+    }
 
 pub near_is : (p q : Panel) → q ≡ p → Nears p 0 q
 near_is p q e = near_same p q (ap (λ (x : Panel). x.cage.scan) e) (λ c. ap (λ (x : Panel). is_closed x.cage.cards c) e)
@@ -128,11 +132,15 @@ near_goes : (p q : Panel) (from : CageSeen) (at : ScanSeen) (x : Awaited) (told 
     → SameClosed p.cage from → Advances from at.setup (at.index + 1) told q.cage → Nears p 1 q
 near_goes p q from at x told is e same g =
     by_left (length (awaiting (drop (at.index + 1) (agenda at.setup)))) (ap left_of is
-        ∙ left_past at x e) (left_runs (occupancy_of from) (occupancy_of q.cage) from.number at.setup (at.index + 1) told q.cage.scan g.runs)
+    ∙ left_past at x e) (left_runs (occupancy_of from) (occupancy_of q.cage) from.number at.setup (at.index + 1) told q.cage.scan g.runs)
   where
     by_left : (n : ℕ) → left_in p ≡ suc n → IsLeft q.cage.scan n → Nears p 1 q
-    by_left n l (inl m) = record { most = omega (arith, l); left = inl (omega (arith, l, m)); idle = λ i. absurd (let r = sym is ∙ i in cc (r));
-        holds = holds_goes p.cage q.cage from at x told is e same g }
+    by_left n l (inl m) = record {
+      most = omega (arith, l);
+      left = inl (omega (arith, l, m));
+      idle = λ i. absurd (let r = sym is ∙ i in cc (r));
+      holds = holds_goes p.cage q.cage from at x told is e same g;
+    }
     by_left n l (inr m) = record { most = omega (arith, l); left = inr m; idle = λ i. m; holds = holds_none p.cage q.cage m }
 
 -- nothing stands behind the closings and openings that lead to no awaited item
@@ -283,7 +291,7 @@ move_goes ask a p q from at x told is e t g = record {
   ends = λ at' is' u over. subst (λ (y : ScanSeen). Completed p.cage y 1 q.cage
       ⊎ ((breaks_off ask a ≡ true) × Stopped y q.cage)) (same_scan p.cage at at' is is')
       (ends_goes (breaks_off ask a) p.cage from q.cage at x told e t.same t.count t.fault (subst (λ (y : ScanSeen).
-          IsUnderway p.cage y) (sym (same_scan p.cage at at' is is')) u) g over);
+      IsUnderway p.cage y) (sym (same_scan p.cage at at' is is')) u) g over);
   adds = λ own. subst (λ (l : List Reading). AddsOwn ask p.cage.readings l) (sym g.readings) (t.own own);
 }
 
@@ -356,7 +364,7 @@ pub move_returns : (a : AnswerView) (p : Panel) (done : FinishedSeen) (f : Bool)
     → SameClosed p.cage (with_back p.cage done) → Returns p done f told q → Moves (AskFinished done) a p (of_taken told) q
 move_returns a p done f SaysIgnored q fault same h =
     move_same (AskFinished done) a p q (ap (λ (x : Panel). x.cage.scan) h.2) (λ c. ap (λ (x : Panel). is_closed x.cage.cards c) h.2
-        ∙ same c) (ap (λ (x : Panel). x.cage.readings) h.2)
+    ∙ same c) (ap (λ (x : Panel). x.cage.readings) h.2)
 move_returns a p done f SaysWaits q fault same h = move_counted a p q done SaysWaits p.cage.scan done.outcome fault refl refl h.0 same h.1
 move_returns a p done f (SaysPause t u) q fault same h = move_counted a p q done (SaysPause t u) p.cage.scan done.outcome fault refl refl h.0 same h.1
 move_returns a p done f (SaysJob job) q fault same h = move_counted a p q done (SaysJob job) p.cage.scan done.outcome fault refl refl h.0 same h.1

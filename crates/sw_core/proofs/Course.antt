@@ -63,7 +63,7 @@ come : (old mid new : Accounts) (s : Setup) (i : ℕ) (scan : Option ScanSeen) (
 come old mid new s i scan at m e f g =
     let there : next_place s i ≡ at = let h = sym f ∙ g in cc (h) in
     let here : IsCome new (is_closed old) s i (next_place s i) =
-        (refl, ap (λ (b : Channels). effect b (drop (i + length (moves_from s i)) (agenda s))) (e ∙ fun_ext m.closed) ∙ effect_next (is_closed old) s i) in
+    (refl, ap (λ (b : Channels). effect b (drop (i + length (moves_from s i)) (agenda s))) (e ∙ fun_ext m.closed) ∙ effect_next (is_closed old) s i) in
     subst (λ (x : ScanSeen). IsCome new (is_closed old) s i x) there here
 
 bay_closed : (old new : Occupancy) → new ≡ old → is_closed new.cards ≡ is_closed old.cards

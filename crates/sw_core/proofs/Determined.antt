@@ -30,7 +30,7 @@ outside_once : (p : Panel) (happening : Happening) (f f' : Bool) (a a' : AnswerV
     → StepOutside p happening f' a' q' → IsOnce a a' q q'
 outside_once p happening f f' a a' q q' n m h k =
     let r = happens_once p q q' happening f f' h.told k.told h.happens k.happens (outside_whole a h.told n h.answer_is)
-        (outside_whole a' k.told m k.answer_is) in
+    (outside_whole a' k.told m k.answer_is) in
     (h.answer_is ∙ ap (λ (x : TakenSeen). outside_told x) r.0 ∙ sym k.answer_is, r.1)
 
 abbrev pub IsBack : Panel → FinishedSeen → AnswerView → Panel → Type 0

@@ -87,7 +87,7 @@ lands_once : (old : Occupancy) (number : ℕ) (moves : List Item) (at : ScanSeen
 lands_once old number moves at told told' new new' scan scan' h k =
     let racks : h.cards ≡ k.cards = moved_once old.cards h.cards k.cards moves h.moved k.moved in
     arrives_once (record old { cards = k.cards }) number at told told' new new' scan scan' (subst (λ (r : Accounts).
-        let b : Occupancy = record old { cards = r } in Arrives b number at told new scan) racks h.arrives) k.arrives
+    let b : Occupancy = record old { cards = r } in Arrives b number at told new scan) racks h.arrives) k.arrives
 
 -- no card failed, so that the scan has come somewhere
 lands : (old : Occupancy) (number : ℕ) (moves : List Item) (at : ScanSeen) (told : TakenSeen) (new : Occupancy) (scan : Option ScanSeen) → told ≢ SaysFault
@@ -103,7 +103,7 @@ pub goes_once : (p q q' : CageSeen) (s : Setup) (i : ℕ) (told told' : TakenSee
     → told' ≢ SaysFault → (told ≡ told') × (q ≡ q')
 goes_once p q q' s i told told' h k n m =
     let r = lands_once (occupancy_of p) p.number (moves_from s i) (next_place s i) told told' (occupancy_of q) (occupancy_of q') q.scan q'.scan
-        (lands _ _ _ _ told _ _ n h.runs) (lands _ _ _ _ told' _ _ m k.runs) in
+    (lands _ _ _ _ told _ _ n h.runs) (lands _ _ _ _ told' _ _ m k.runs) in
     (r.0, same_cage q q' r.1 (h.number ∙ sym k.number) r.2 (h.readings ∙ sym k.readings))
 
 past_once : (p q q' : CageSeen) (scan : Option ScanSeen) (told told' : TakenSeen) → AdvancesPastFrom p scan told q → AdvancesPastFrom p scan told' q'

@@ -38,9 +38,12 @@ pub happened : (p : Panel) (h : Happening) (told : TakenSeen) (cage : CageSeen) 
     → Happens p h (any_failed p.cage.cards cage.cards) told (record p { cage = cage; status = s })
 happened p h SaysIgnored cage s ignored taken takes e =
     let none : Takes p.cage h → ⊥ = λ t. never_ignored p.cage cage p.cage.scan (taken t) in
-    let same : cage ≡ p.cage = (ignored none).1 in
-    (ap (λ (c : CageSeen). any_failed p.cage.cards c.cards) same ∙ failed_same p.cage.cards, none, ap (λ (x : StatusSeen). told_panel p cage x) e
-        ∙ ap (λ (c : CageSeen). told_panel p c p.status) same)
+    let same : cage ≡ p.cage = (ignored none).1 in (
+      ap (λ (c : CageSeen). any_failed p.cage.cards c.cards) same ∙ failed_same p.cage.cards,
+      none,
+      ap (λ (x : StatusSeen). told_panel p cage x) e
+          ∙ ap (λ (c : CageSeen). told_panel p c p.status) same,
+    )
 happened p h SaysWaits cage s ignored taken takes e = let t : Takes p.cage h = takes (λ (x : SaysWaits ≡ SaysIgnored). absurd (cc (x))) in
     (t, taken t, (failed_past p.cage cage SaysWaits (taken t), ap (λ (x : StatusSeen). told_panel p cage x) e))
 happened p h (SaysPause ticket micros) cage s ignored taken takes e = let t : Takes p.cage h =
@@ -70,9 +73,14 @@ returned p done SaysWaits cage s ignored taken takes e =
     let t : TakesReturn p.cage done.slot done.ticket = takes (λ (x : SaysWaits ≡ SaysIgnored). absurd (cc (x))) in
     (t, taken t, (sym (failed_counts (with_back p.cage done) cage done.outcome SaysWaits (taken t)), ap (λ (x : StatusSeen). told_panel p cage x) e))
 returned p done (SaysPause ticket micros) cage s ignored taken takes e =
-    let t : TakesReturn p.cage done.slot done.ticket = takes (λ (x : SaysPause ticket micros ≡ SaysIgnored). absurd (cc (x))) in
-    (t, taken t, (sym (failed_counts (with_back p.cage done) cage done.outcome (SaysPause ticket micros) (taken t)),
-        ap (λ (x : StatusSeen). told_panel p cage x) e))
+    let t : TakesReturn p.cage done.slot done.ticket = takes (λ (x : SaysPause ticket micros ≡ SaysIgnored). absurd (cc (x))) in (
+      t,
+      taken t,
+      (
+        sym (failed_counts (with_back p.cage done) cage done.outcome (SaysPause ticket micros) (taken t)),
+        ap (λ (x : StatusSeen). told_panel p cage x) e,
+      ),
+    )
 returned p done (SaysJob job) cage s ignored taken takes e =
     let t : TakesReturn p.cage done.slot done.ticket = takes (λ (x : SaysJob job ≡ SaysIgnored). absurd (cc (x))) in
     (t, taken t, (sym (failed_counts (with_back p.cage done) cage done.outcome (SaysJob job) (taken t)), ap (λ (x : StatusSeen). told_panel p cage x) e))
@@ -89,13 +97,17 @@ pub return_answered : (p : Panel) (done : FinishedSeen) (told : TakenSeen) (cage
     → answer ≡ outside_told told
     → StepFinished p done (failed_in (AskFinished done) answer p.cage.cards cage.cards) answer (record p { cage = cage; status = s })
 return_answered p done told cage s answer out h e =
-    subst (λ (a : AnswerView). StepFinished p done (failed_in (AskFinished done) a p.cage.cards cage.cards) a (record p { cage = cage;
-        status = s })) (sym e) (by_told told h)
+    subst (λ (a : AnswerView). StepFinished p done (failed_in (AskFinished done) a p.cage.cards cage.cards) a (record p {
+      cage = cage;
+      status = s;
+    })) (sym e) (by_told told h)
   where
     by_told : (told : TakenSeen)
         → Returns p done (failed_in (AskFinished done) (outside_told told) p.cage.cards cage.cards) told (record p { cage = cage; status = s })
-        → StepFinished p done (failed_in (AskFinished done) (outside_told told) p.cage.cards cage.cards) (outside_told told) (record p { cage = cage;
-            status = s })
+        → StepFinished p done (failed_in (AskFinished done) (outside_told told) p.cage.cards cage.cards) (outside_told told) (record p {
+          cage = cage;
+          status = s;
+        })
     by_told SaysIgnored h = record { out = out; told = SaysIgnored; returns = h; answer_is = refl }
     by_told SaysWaits h = record { out = out; told = SaysWaits; returns = h; answer_is = refl }
     by_told (SaysPause ticket micros) h = record { out = out; told = SaysPause ticket micros; returns = h; answer_is = refl }
@@ -109,20 +121,75 @@ pub started : (p : Panel) (plan : Snapshot) (told : TakenSeen) (cage : CageSeen)
     → StepStart p plan (any_failed p.cage.cards cage.cards) (started_answer told) (work_of told) (record p { cage = cage; status = s })
 started p plan SaysIgnored cage s may same ready goes e = absurd goes.runs.arrives
 started p plan SaysWaits cage s may same ready goes e =
-    record { may = may; told = SaysWaits; starts = (failed_goes (begun p.cage) cage p.settings 0 (SaysWaits) goes, same, ready, goes,
-        ap (λ (x : StatusSeen). told_panel p cage x) e); answer_is = refl; work_is = refl }
+    record {
+      may = may;
+      told = SaysWaits;
+      starts = (
+        failed_goes (begun p.cage) cage p.settings 0 (SaysWaits) goes,
+        same,
+        ready,
+        goes,
+        ap (λ (x : StatusSeen). told_panel p cage x) e,
+      );
+      answer_is = refl;
+      work_is = refl;
+    }
 started p plan (SaysPause ticket micros) cage s may same ready goes e =
-    record { may = may; told = SaysPause ticket micros; starts = (failed_goes (begun p.cage) cage p.settings 0 (SaysPause ticket micros) goes, same, ready,
-        goes, ap (λ (x : StatusSeen). told_panel p cage x) e); answer_is = refl; work_is = refl }
+    record {
+      may = may;
+      told = SaysPause ticket micros;
+      starts = (
+        failed_goes (begun p.cage) cage p.settings 0 (SaysPause ticket micros) goes,
+        same,
+        ready,
+        goes,
+        ap (λ (x : StatusSeen). told_panel p cage x) e,
+      );
+      answer_is = refl;
+      work_is = refl;
+    }
 started p plan (SaysJob job) cage s may same ready goes e =
-    record { may = may; told = SaysJob job; starts = (failed_goes (begun p.cage) cage p.settings 0 (SaysJob job) goes, same, ready, goes,
-        ap (λ (x : StatusSeen). told_panel p cage x) e); answer_is = refl; work_is = refl }
+    record {
+      may = may;
+      told = SaysJob job;
+      starts = (
+        failed_goes (begun p.cage) cage p.settings 0 (SaysJob job) goes,
+        same,
+        ready,
+        goes,
+        ap (λ (x : StatusSeen). told_panel p cage x) e,
+      );
+      answer_is = refl;
+      work_is = refl;
+    }
 started p plan SaysEnded cage s may same ready goes e =
-    record { may = may; told = SaysEnded; starts = (failed_goes (begun p.cage) cage p.settings 0 (SaysEnded) goes, same, ready, goes,
-        ap (λ (x : StatusSeen). told_panel p cage x) e); answer_is = refl; work_is = refl }
+    record {
+      may = may;
+      told = SaysEnded;
+      starts = (
+        failed_goes (begun p.cage) cage p.settings 0 (SaysEnded) goes,
+        same,
+        ready,
+        goes,
+        ap (λ (x : StatusSeen). told_panel p cage x) e,
+      );
+      answer_is = refl;
+      work_is = refl;
+    }
 started p plan SaysFault cage s may same ready goes e =
-    record { may = may; told = SaysFault; starts = (failed_goes (begun p.cage) cage p.settings 0 (SaysFault) goes, same, ready, goes,
-        ap (λ (x : StatusSeen). told_panel p cage x) e); answer_is = refl; work_is = refl }
+    record {
+      may = may;
+      told = SaysFault;
+      starts = (
+        failed_goes (begun p.cage) cage p.settings 0 (SaysFault) goes,
+        same,
+        ready,
+        goes,
+        ap (λ (x : StatusSeen). told_panel p cage x) e,
+      );
+      answer_is = refl;
+      work_is = refl;
+    }
 
 -- no scan began: for want of memory, for what is so of the cage, or for a plan of another state
 pub unbegun : (p : Panel) (plan : Snapshot) (cage : CageSeen) → cage ≡ p.cage → MayScan p → plan ≡ snapshot_of p

@@ -182,9 +182,15 @@ harmless p available (Command.Count layer n) =
     λ idle. (λ fits r. range_layer p.settings layer _ r (record { count = fits; delay = (layer_range p.settings layer r).delay }), out_of_range, idle)
 harmless p available (Command.CountQuery layer) = tt
 harmless p available (Command.SetSource layer source) =
-    λ idle k. record { cage = k.cage;
-        range = range_layer p.settings layer _ k.range (record { count = (layer_range p.settings layer k.range).count;
-        delay = (layer_range p.settings layer k.range).delay }); settings = by_none p.cage.scan _ (none_of p idle); status = k.status }
+    λ idle k. record {
+      cage = k.cage;
+      range = range_layer p.settings layer _ k.range (record {
+        count = (layer_range p.settings layer k.range).count;
+        delay = (layer_range p.settings layer k.range).delay;
+      });
+      settings = by_none p.cage.scan _ (none_of p idle);
+      status = k.status;
+    }
 harmless p available (Command.SourceQuery layer) = tt
 harmless p available (Command.Delay layer micros) =
     λ idle. (λ fits r. range_layer p.settings layer _ r (record { count = (layer_range p.settings layer r).count; delay = fits }), out_of_range, idle)
@@ -198,8 +204,13 @@ harmless p available Command.CloseState = tt
 harmless p available (Command.Open chans) = λ idle. idle
 harmless p available (Command.OpenQuery chans) = tt
 harmless p available Command.OpenAll =
-    λ idle k. record { cage = kept_rack p.cage (all_open p.cage.cards) k.cage (none_of p idle) (identities_all_open p.cage.cards)
-        (exclusive_none _ _ (all_open_closed p.cage.cards)); range = k.range; settings = k.settings; status = k.status }
+    λ idle k. record {
+      cage = kept_rack p.cage (all_open p.cage.cards) k.cage (none_of p idle) (identities_all_open p.cage.cards)
+          (exclusive_none _ _ (all_open_closed p.cage.cards));
+      range = k.range;
+      settings = k.settings;
+      status = k.status;
+    }
 harmless p available (Command.Scan chans) =
     λ idle. (λ fits r. record { arm1 = r.arm1; arm2 = r.arm2; trigger = r.trigger; list = fits; meter = r.meter; points = r.points }, too_much, idle)
 harmless p available Command.ScanQuery = tt

@@ -64,7 +64,7 @@ option_few (Some a) (Some b) e h =
 few_plates : (old new : Accounts) → map identity new ≡ map identity old → IsFew old → IsFew new
 few_plates old new e h s =
     option_few (slot_at old s) (slot_at new s) (sym (slot_map identity new s refl) ∙ ap (λ (r : List (Option Account)). slot_at r s) e
-        ∙ slot_map identity old s refl) (h s)
+    ∙ slot_map identity old s refl) (h s)
 
 pub few_set : (rack : Accounts) (s : ℕ) (v : Option Account) → 0 < s → s ≤ length rack → OptionFew v → IsFew rack → IsFew (slice_set rack (s - 1) v)
 few_set rack s v p b h few t = elim (slot_cases rack s t v p b) [
@@ -76,8 +76,10 @@ few_set rack s v p b h few t = elim (slot_cases rack s t v p b) [
 pub kept_rack : (c : CageSeen) (rack : Accounts) → IsKept c → c.scan ≡ None → map identity rack ≡ map identity c.cards
     → IsExclusive (layout_of rack) (is_closed rack) → IsKept (record c { cards = rack })
 kept_rack c rack k idle plates safe = record {
-  good = record { held = held_stays c rack c.scan k.good.held (stays_identities c.cards rack plates);
-      running = subst (λ (o : Option ScanSeen). IsRunning (record c { cards = rack }) o) (sym idle) tt };
+  good = record {
+    held = held_stays c rack c.scan k.good.held (stays_identities c.cards rack plates);
+    running = subst (λ (o : Option ScanSeen). IsRunning (record c { cards = rack }) o) (sym idle) tt;
+  };
   safe = safe;
   few = few_plates c.cards rack plates k.few;
 }
@@ -94,8 +96,12 @@ kept_over c rack k plates bare = record {
 
 module _ (bays : Layout) (out : List (Option Ticket)) (h : length out ≡ length bays) (b : Channels) where
   clash_in : (x y : Channel) → IsClash (layout_with bays out) x y → IsClash bays x y
-  clash_in x y k = record { other = k.other; grouped = λ e. k.grouped (group_with bays out h x ∙ e); same = sym (group_with bays out h x) ∙ k.same
-      ∙ group_with bays out h y }
+  clash_in x y k = record {
+    other = k.other;
+    grouped = λ e. k.grouped (group_with bays out h x ∙ e);
+    same = sym (group_with bays out h x) ∙ k.same
+        ∙ group_with bays out h y;
+  }
 
   exclusive_out : IsExclusive bays b → IsExclusive (layout_with bays out) b
   exclusive_out e = record { present = λ x c. present_with bays out h x ∙ e.present x c; apart = λ x y c d k. e.apart x y c d (clash_in x y k) }
@@ -112,15 +118,15 @@ exclusive_moved : (c : CageSeen) (s : Setup) (i : ℕ) (rack : Accounts) → IsH
     → Moved c.cards (moves_from s i) rack → IsExclusive (layout_of rack) (is_closed rack)
 exclusive_moved c s i rack held go e m =
     let right : AllRight (cage_layout c) (is_closed c.cards) (effect none (take i (agenda s))) (drop i (agenda s)) =
-        right_here (cage_layout c) (is_closed c.cards) s i go.way in
+    right_here (cage_layout c) (is_closed c.cards) s i go.way in
     let start : IsExclusive (cage_layout c) (is_closed c.cards) = exclusive_out (layout_of c.cards) c.out (lengths c held) (is_closed c.cards) e in
     let along = exclusive_throughout (cage_layout c) (is_closed c.cards) (effect none (take i (agenda s))) (drop i (agenda s)) right start
-        (length (moves_from s i)) in
+    (length (moves_from s i)) in
     let there : IsExclusive (cage_layout c) (effect (is_closed c.cards) (moves_from s i)) =
-        subst (λ (l : List Item). IsExclusive (cage_layout c) (effect (is_closed c.cards) l)) (leading_front (drop i (agenda s))) along in
+    subst (λ (l : List Item). IsExclusive (cage_layout c) (effect (is_closed c.cards) l)) (leading_front (drop i (agenda s))) along in
     let here : IsExclusive (layout_of c.cards) (is_closed rack) =
-        exclusive_same (layout_of c.cards) (effect (is_closed c.cards) (moves_from s i)) (is_closed rack) m.closed
-        (exclusive_in (layout_of c.cards) c.out (lengths c held) (effect (is_closed c.cards) (moves_from s i)) there) in
+    exclusive_same (layout_of c.cards) (effect (is_closed c.cards) (moves_from s i)) (is_closed rack) m.closed
+    (exclusive_in (layout_of c.cards) c.out (lengths c held) (effect (is_closed c.cards) (moves_from s i)) there) in
     subst (λ (l : Layout). IsExclusive l (is_closed rack)) (sym (moved_layout c.cards rack (moves_from s i) m)) here
 
 -- what a scan begins or goes on from
@@ -141,10 +147,15 @@ safe_lands c q s i told k l spot =
     elim spot [
       | inl e ↦ (subst (λ (r : Accounts). IsExclusive (layout_of r) (is_closed r)) (sym e) safe, subst (λ (r : Accounts). IsFew r) (sym e) few)
       | inr e ↦ (
-        subst (λ (r : Accounts). IsExclusive (layout_of r) (is_closed r)) (sym e) (exclusive_quiet l.cards s.meter None (omega (arith,
-            k.go.range.meter.0)) (omega (arith, k.go.range.meter.1, size)) (λ n. refl) safe),
-        subst (λ (r : Accounts). IsFew r) (sym e) (few_set l.cards s.meter None (omega (arith, k.go.range.meter.0)) (omega (arith, k.go.range.meter.1,
-            size)) tt few),
+        subst (λ (r : Accounts). IsExclusive (layout_of r) (is_closed r)) (sym e) (exclusive_quiet l.cards s.meter None (omega (
+          arith,
+          k.go.range.meter.0,
+        )) (omega (arith, k.go.range.meter.1, size)) (λ n. refl) safe),
+        subst (λ (r : Accounts). IsFew r) (sym e) (few_set l.cards s.meter None (omega (arith, k.go.range.meter.0)) (omega (
+          arith,
+          k.go.range.meter.1,
+          size,
+        )) tt few),
       )
     ]
 
@@ -196,7 +207,7 @@ back_safe : (c : CageSeen) (done : FinishedSeen) → IsKept c → (1 ≤ done.sl
     → IsExclusive (layout_of (with_back c done).cards) (is_closed (with_back c done).cards)
 back_safe c done k b =
     exclusive_quiet c.cards done.slot (Some (of_meter done.meter)) (omega (arith, b.0)) (omega (arith, b.1, k.good.held.slots)) (λ n.
-        meter_open done.meter n) k.safe
+    meter_open done.meter n) k.safe
 
 slot_of : (c : CageSeen) (done : FinishedSeen) → IsKept c → slot_at c.out done.slot ≡ Some done.ticket → (1 ≤ done.slot) × (done.slot ≤ 8)
 slot_of c done k e = out_slot c c done.slot done.slot done.ticket k.good.held refl refl e
@@ -223,8 +234,12 @@ kept_counted_at c q None done outcome told k e out t h = absurd t
 kept_counted_at c q (Some at) done (Ok r) told k e out t h =
     let b = slot_of c done k out in
     let x = counted c at done.slot done.ticket done.meter r _ _ _ (reads (agenda at.setup)) (has_room c at k.good e) e t out refl refl refl in
-    kept_goes (record (with_back c done) { readings = c.readings ++ r ∷ []; scan = c.scan }) q at.setup (at.index + 1) told (record { held = x.held; go = x.go;
-        safe = back_safe c done k b; few = back_few c done k b }) (record { runs = h.runs; number = h.number; readings = h.readings })
+    kept_goes (record (with_back c done) { readings = c.readings ++ r ∷ []; scan = c.scan }) q at.setup (at.index + 1) told (record {
+      held = x.held;
+      go = x.go;
+      safe = back_safe c done k b;
+      few = back_few c done k b;
+    }) (record { runs = h.runs; number = h.number; readings = h.readings })
 kept_counted_at c q (Some at) done (Err f) told k e out t h =
     let b = slot_of c done k out in
     let room = room_any c k.good in
@@ -246,7 +261,7 @@ few_bounds : (o : Option Account) (ch : ℕ) → OptionFew o → bay_has (slot_c
 few_bounds None ch r h = absurd (cc)
 few_bounds (Some a) ch r h = let b : (0 < ch)
     × ((is_meter a ≡ false) × (ch ≤ length a.groups)) = has_bounds a ch h in let f : length a.groups ≤ 99 = r b.1.0 in
-        (omega (arith, b.0), omega (arith, b.1.1, f))
+    (omega (arith, b.0), omega (arith, b.1.1, f))
 
 pub inside : (c : CageSeen) → IsKept c → (x : Channel) → is_closed c.cards x ≡ true → (1 ≤ x.0) × (x.0 ≤ 8) × (1 ≤ x.1) × (x.1 ≤ 99)
 inside c k x h =
@@ -260,5 +275,5 @@ pub kept_begun : (c q : CageSeen) (s : Setup) (plan : Snapshot) (told : TakenSee
 kept_begun c q s plan told k home range ready is h =
     let sure : IsReady (record { settings = s; layout = cage_layout c; closed = closed_list c.cards }) = subst (λ (x : Snapshot). IsReady x) is ready in
     let x = begins c s (cage_layout c) (closed_list c.cards) (c.number + 1) [] k.good.held sure.listed range home sure.measured sure.sound refl refl
-        (inside c k) refl refl in
+    (inside c k) refl refl in
     kept_goes (begun c) q s 0 told (record { held = x.held; go = x.go; safe = k.safe; few = k.few }) h

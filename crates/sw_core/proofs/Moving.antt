@@ -79,8 +79,8 @@ move_effect : (ask : SessionAsk) (d : Effect) (p : Panel) (f : Bool) (a : Sessio
 move_effect ask (Offers happening error) p f a w q n h = move_told ask p happening error f a w q n h
 move_effect ask d p f a w q n h =
     subst (λ (v : Option WorkView).
-        Moves (AskSession ask) (SaysSession a v) p (took_effect d a) q) (sym h.1)
-        (move_still (AskSession ask) (SaysSession a None) p q (still_alone ask d p f a q n h.0))
+    Moves (AskSession ask) (SaysSession a v) p (took_effect d a) q) (sym h.1)
+    (move_still (AskSession ask) (SaysSession a None) p q (still_alone ask d p f a q n h.0))
 
 -- what is refused or held is not taken
 untaken : (d : Effect) (a : SessionAnswer) → went_on a ≡ 0 → took_effect d a ≡ 0
@@ -142,9 +142,9 @@ move_start : (ask : AskView) (x : AnswerView) (p : Panel) (sid : Sid) (plan : Sn
 move_start ask x p sid plan f (Done None) w q n h = absurd (cc (n))
 move_start ask x p sid plan f (Refused HardwareError) w q n h =
     let g : Advances (begun p.cage) p.settings 0 SaysFault q.cage =
-        subst (λ (t : TakenSeen). Advances (begun p.cage) p.settings 0 t q.cage) (fault_told h.told h.answer_is) h.starts.3 in
+    subst (λ (t : TakenSeen). Advances (begun p.cage) p.settings 0 t q.cage) (fault_told h.told h.answer_is) h.starts.3 in
     let r : AdvancesOrFails (occupancy_of (begun p.cage)) (p.cage.number + 1) (moves_from p.settings 0) (next_place p.settings 0) SaysFault
-        (occupancy_of q.cage) q.cage.scan = g.runs in
+    (occupancy_of q.cage) q.cage.scan = g.runs in
     record { near = near_none p q r.over; ends = λ at is u over. absurd (let e = sym is ∙ none_of p h.may.idle in cc (e)); adds = λ own. inr (inl g.readings) }
 move_start ask x p sid plan f (Refused OutOfMemory) None q n h = move_is ask x p q h.3
 move_start ask x p sid plan f (Refused SettingsConflict) None q n h = move_is ask x p q h.2
@@ -253,7 +253,7 @@ move_outside : (ask : AskView) (p : Panel) (happening : Happening) (f : Bool) (a
     → Moves ask a p (was_taken a) q
 move_outside ask p happening f a q h =
     subst (λ (n : ℕ). Moves ask a p n q) (sym (ap was_taken h.answer_is
-        ∙ was_told h.told)) (move_happens ask a p happening f h.told q (fault_off ask a h.told h.answer_is) h.happens)
+    ∙ was_told h.told)) (move_happens ask a p happening f h.told q (fault_off ask a h.told h.answer_is) h.happens)
 
 move_finished : (p : Panel) (done : FinishedSeen) (f : Bool) (a : AnswerView) (q : Panel) → IsHeld p.cage → StepFinished p done f a q
     → Moves (AskFinished done) a p (was_taken a) q
@@ -304,8 +304,11 @@ move_acts : (p : Panel) (ask : AskView) (f : Bool) (a : AnswerView) (q : Panel) 
     → Moves ask a p (took ask a) q
 move_acts p (AskSession ask) f (SaysSession a w) q k n h = move_session p ask f a w q n h
 move_acts p (AskInstall slot card) f SaysInstalled q k n h =
-    move_idle (AskInstall slot card) SaysInstalled p q (none_of p h.1, ap (λ (x : Panel). x.cage.scan) h.4 ∙ none_of p h.1,
-        ap (λ (x : Panel). x.cage.readings) h.4)
+    move_idle (AskInstall slot card) SaysInstalled p q (
+      none_of p h.1,
+      ap (λ (x : Panel). x.cage.scan) h.4 ∙ none_of p h.1,
+      ap (λ (x : Panel). x.cage.readings) h.4,
+    )
 move_acts p (AskInstall slot card) f (SaysNotInstalled refusal) q k n h = move_is (AskInstall slot card) (SaysNotInstalled refusal) p q h.2
 move_acts p (AskEject slot) f (SaysEjected card) q k n h = move_ejected p q slot card h.2 (ap (λ (x : Panel). x.cage) h.3)
 move_acts p (AskEject slot) f (SaysNotEjected refusal) q k n h = move_is (AskEject slot) (SaysNotEjected refusal) p q h.2

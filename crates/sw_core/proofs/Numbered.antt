@@ -30,7 +30,7 @@ worn_step p ask answer e n w =
     let f = failed_in ask answer p.cage.cards p.cage.cards in
     let yes : IsUnnumbered p ask f answer p = record { worn = w; unfailed = unfailed_worn p ask answer n; same = refl } in
     subst (λ (a : Bool). MatchBool (a && not (acts_unnumbered ask)) (IsUnnumbered p ask f answer p) (IsEvent p ask f answer p)) (sym e) (subst (λ (b : Bool).
-        MatchBool (true && not b) (IsUnnumbered p ask f answer p) (IsEvent p ask f answer p)) (sym n) yes)
+    MatchBool (true && not b) (IsUnnumbered p ask f answer p) (IsEvent p ask f answer p)) (sym n) yes)
 
 pub numbered_step : (p q done : Panel) (ask : AskView) (f : Bool) (answer : AnswerView) → ((p.events == last_number) && not (acts_unnumbered ask)) ≡ false
     → Acts p ask f answer done → q ≡ concluded answer done → Step p ask f answer q

@@ -74,7 +74,7 @@ done_of : (p : Panel) (sid : Sid) (command : Command) (available f : Bool) (q : 
     → StepAction (action_of available command) p (Ask.Unit sid command available) f (Done None) None e.done
 done_of p sid command available f q e =
     not_kept_out (drops p sid (Ask.Unit sid command available)) (shuts_out p sid (Ask.Unit sid command available)) p (Ask.Unit sid command available) f None
-        None e.done e.acts.1
+    None e.done e.acts.1
 
 pub closes : (p q : Panel) (chans : List Channel) (available failed : Bool) → IsDoneFor p (Command.Close chans) available failed q → (c : Channel)
     → is_in chans c ≡ true

@@ -39,7 +39,7 @@ pub happening_once : (p : Panel) (happening : Happening) (error : ScpiError) (f 
     → IsAlike a a' w w' q q'
 happening_once p happening error f f' a a' w w' q q' n m h k =
     let r = happens_once p q q' happening f f' h.told k.told h.happens k.happens (unbroken error a h.told n h.answer_is)
-        (unbroken error a' k.told m k.answer_is) in
+    (unbroken error a' k.told m k.answer_is) in
     (h.answer_is ∙ ap (λ (x : TakenSeen). session_told error x) r.0 ∙ sym k.answer_is, h.work_is ∙ ap (λ (x : TakenSeen). work_of x) r.0 ∙ sym k.work_is, r.1)
 
 pub effect_once : (e : Effect) (p : Panel) (f f' : Bool) (a a' : SessionAnswer) (w w' : Option WorkView) (q q' : Panel)
@@ -147,9 +147,12 @@ begun_whole p plan a w q n b e =
 pub begun_once : (p : Panel) (plan : Snapshot) (a a' : SessionAnswer) (w w' : Option WorkView) (q q' : Panel) → IsPlain (SaysSession a None)
     → IsPlain (SaysSession a' None) → IsBegun p plan a w q → IsBegun p plan a' w' q' → IsAlike a a' w w' q q'
 begun_once p plan a a' w w' q q' n m x y =
-    let r = starts_once p q q' plan x.0 y.0 x.1.told y.1.told x.1.starts y.1.starts (begun_whole p plan a w q n x) (begun_whole p plan a' w' q' m y) in
-    (x.1.answer_is ∙ ap (λ (z : TakenSeen). started_answer z) r.0 ∙ sym y.1.answer_is, x.1.work_is ∙ ap (λ (z : TakenSeen). work_of z) r.0
-        ∙ sym y.1.work_is, r.1)
+    let r = starts_once p q q' plan x.0 y.0 x.1.told y.1.told x.1.starts y.1.starts (begun_whole p plan a w q n x) (begun_whole p plan a' w' q' m y) in (
+      x.1.answer_is ∙ ap (λ (z : TakenSeen). started_answer z) r.0 ∙ sym y.1.answer_is,
+      x.1.work_is ∙ ap (λ (z : TakenSeen). work_of z) r.0
+          ∙ sym y.1.work_is,
+      r.1,
+    )
 
 pub start_once : (p : Panel) (plan : Snapshot) (f f' : Bool) (a a' : SessionAnswer) (w w' : Option WorkView) (q q' : Panel) → IsPlain (SaysSession a None)
     → IsPlain (SaysSession a' None) → StepStart p plan f a w q → StepStart p plan f' a' w' q' → IsAlike a a' w w' q q'
@@ -165,8 +168,11 @@ start_once p plan f f' a a' w w' q q' n m h k = elim (start_as p plan f a w q n 
     ]
     | inr x ↦ elim (start_as p plan f' a' w' q' m k) [
       | inl y ↦ absurd (may_apart p x.0 y.1.may x.1)
-      | inr t ↦ elim t [ inl y ↦ absurd (may_apart p x.0 y.0 x.1) | inr y ↦
-          (x.2 ∙ ap Refused (refusal_once p x.0 y.0 x.1 y.1) ∙ sym y.2, x.3 ∙ sym y.3, both p q q' x.4 y.4) ]
+      | inr t ↦ elim t [
+        | inl y ↦ absurd (may_apart p x.0 y.0 x.1)
+        | inr y ↦
+            (x.2 ∙ ap Refused (refusal_once p x.0 y.0 x.1 y.1) ∙ sym y.2, x.3 ∙ sym y.3, both p q q' x.4 y.4)
+      ]
     ]
   ]
 ]

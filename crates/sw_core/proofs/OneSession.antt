@@ -36,9 +36,12 @@ sid_once s t e f =
 pub join_once : (p : Panel) (f f' : Bool) (a a' : SessionAnswer) (w w' : Option WorkView) (q q' : Panel) → StepJoin p f a w q → StepJoin p f' a' w' q'
     → IsAlike a a' w w' q q'
 join_once p f f' (Joined s) (Joined t) None None q q' h k =
-    let e : s.number ≡ t.number = least_once p.sessions s.number t.number h.1 k.1 in
-    (ap Joined (sid_once s t e (h.2 ∙ sym k.2)), refl, h.3
-        ∙ ap (λ (x : ℕ). let r : Panel = record p { sessions = with_seat p.sessions x (Some (fresh (next_number p.events))) } in r) e ∙ sym k.3)
+    let e : s.number ≡ t.number = least_once p.sessions s.number t.number h.1 k.1 in (
+      ap Joined (sid_once s t e (h.2 ∙ sym k.2)),
+      refl,
+      h.3
+          ∙ ap (λ (x : ℕ). let r : Panel = record p { sessions = with_seat p.sessions x (Some (fresh (next_number p.events))) } in r) e ∙ sym k.3,
+    )
 join_once p f f' (Joined s) Full None None q q' h k = absurd (k.1 s.number h.1.first h.1.last h.1.free)
 join_once p f f' Full (Joined s) None None q q' h k = absurd (h.1 s.number k.1.first k.1.last k.1.free)
 join_once p f f' Full Full None None q q' h k = (refl, refl, both p q q' h.2 k.2)
@@ -97,9 +100,12 @@ admitted_once false false p ask f f' a a' w w' q q' n m x y h k = joined_once p 
 pub attach_once : (p : Panel) (number : ℕ) (f f' : Bool) (a a' : SessionAnswer) (w w' : Option WorkView) (q q' : Panel) → StepAttach p number f a w q
     → StepAttach p number f' a' w' q' → IsAlike a a' w w' q q'
 attach_once p number f f' (Joined s) (Joined t) None None q q' h k =
-    let after : q.sessions ≡ q'.sessions = h.1.after ∙ sym k.1.after in
-    (ap Joined (sid_once s t (h.1.number_is ∙ sym k.1.number_is) (h.1.joined ∙ sym k.1.joined)), refl, h.2
-        ∙ ap (λ (x : SessionsSeen). let r : Panel = record p { sessions = x } in r) after ∙ sym k.2)
+    let after : q.sessions ≡ q'.sessions = h.1.after ∙ sym k.1.after in (
+      ap Joined (sid_once s t (h.1.number_is ∙ sym k.1.number_is) (h.1.joined ∙ sym k.1.joined)),
+      refl,
+      h.2
+          ∙ ap (λ (x : SessionsSeen). let r : Panel = record p { sessions = x } in r) after ∙ sym k.2,
+    )
 attach_once p number f f' (Joined s) Stranger None None q q' h k = absurd (k.1 h.1.lacks)
 attach_once p number f f' Stranger (Joined s) None None q q' h k = absurd (h.1 k.1.lacks)
 attach_once p number f f' Stranger Stranger None None q q' h k = (refl, refl, both p q q' h.2 k.2)
@@ -127,6 +133,9 @@ pub session_once : (o : Option Sid) (p : Panel) (ask : SessionAsk) (f f' : Bool)
 session_once None p ask f f' a a' w w' q q' n m kx ky h k = new_once p ask f f' a a' w w' q q' h k
 session_once (Some sid) p ask f f' a a' w w' q q' n m kx ky h k = elim (session_as p sid ask f a w q h) [
   | inl x ↦ elim (session_as p sid ask f' a' w' q' k) [ inl y ↦ (x.1 ∙ sym y.1, x.2 ∙ sym y.2, both p q q' x.3 y.3) | inr y ↦ absurd (x.0 y.0) ]
-  | inr x ↦ elim (session_as p sid ask f' a' w' q' k) [ inl y ↦ absurd (y.0 x.0) | inr y ↦
-      admitted_once (drops p sid ask) (shuts_out p sid ask) p ask f f' a a' w w' q q' n m kx ky x.1 y.1 ]
+  | inr x ↦ elim (session_as p sid ask f' a' w' q' k) [
+    | inl y ↦ absurd (y.0 x.0)
+    | inr y ↦
+        admitted_once (drops p sid ask) (shuts_out p sid ask) p ask f f' a a' w w' q q' n m kx ky x.1 y.1
+  ]
 ]

@@ -29,7 +29,7 @@ pub open-first : (text : List ℕ) (ps : List (List ℕ)) → length text ≡ 0 
 open-first [] [] e r p h = record { joined = refl; some = (h, tt) }
 open-first [] (q ∷ ps) e r p h =
     absurd (let k : 0 < length (join_with_byte 44 (q ∷ ps)) = join-some q ps r.some.0 in
-        let j : 0 ≡ length (join_with_byte 44 (q ∷ ps)) = ap (λ (t : List ℕ). length t) r.joined in omega arith)
+    let j : 0 ≡ length (join_with_byte 44 (q ∷ ps)) = ap (λ (t : List ℕ). length t) r.joined in omega arith)
 open-first (x ∷ text) ps e r p h = absurd (omega arith)
 
 -- a comma was put behind what stands there

@@ -69,22 +69,36 @@ use Rattle.sw_core.proofs.Harmless.{dropped, IsHarmless, IsHarmlessAction, harml
 closing_fine : (p q : Panel) (chans : List Channel) → IsFine p → is_running p ≡ false → CanClose (layout_of p.cage.cards) (is_closed p.cage.cards) chans
     → Sets p.cage.cards chans true q.cage.cards → q ≡ with_cards p q.cage.cards → IsFine q
 closing_fine p q chans k idle may s e =
-    fine_is (with_cards p q.cage.cards) q e (record { cage =
-        kept_rack p.cage q.cage.cards k.cage (none_of p idle) (identities_rest p.cage.cards q.cage.cards s.rest)
-        (exclusive_closing p.cage.cards q.cage.cards chans k.cage.safe may s); range = k.range; settings = k.settings; status = k.status })
+    fine_is (with_cards p q.cage.cards) q e (record {
+      cage =
+          kept_rack p.cage q.cage.cards k.cage (none_of p idle) (identities_rest p.cage.cards q.cage.cards s.rest)
+          (exclusive_closing p.cage.cards q.cage.cards chans k.cage.safe may s);
+      range = k.range;
+      settings = k.settings;
+      status = k.status;
+    })
 
 opening_fine : (p q : Panel) (chans : List Channel) → IsFine p → is_running p ≡ false → Sets p.cage.cards chans false q.cage.cards
     → q ≡ with_cards p q.cage.cards → IsFine q
 opening_fine p q chans k idle s e =
-    fine_is (with_cards p q.cage.cards) q e (record { cage =
-        kept_rack p.cage q.cage.cards k.cage (none_of p idle) (identities_rest p.cage.cards q.cage.cards s.rest)
-        (exclusive_opening p.cage.cards q.cage.cards chans k.cage.safe s); range = k.range; settings = k.settings; status = k.status })
+    fine_is (with_cards p q.cage.cards) q e (record {
+      cage =
+          kept_rack p.cage q.cage.cards k.cage (none_of p idle) (identities_rest p.cage.cards q.cage.cards s.rest)
+          (exclusive_opening p.cage.cards q.cage.cards chans k.cage.safe s);
+      range = k.range;
+      settings = k.settings;
+      status = k.status;
+    })
 
 falling_fine : (p q : Panel) → IsFine p → is_running p ≡ false → FailsSafe p q → IsFine q
 falling_fine p q k idle f =
     let next : Panel = record (with_cards p q.cage.cards) { status = card_fault_reported p.status } in
-    fine_is next q f.1 (record { cage = kept_rack p.cage q.cage.cards k.cage (none_of p idle) f.0.cards (exclusive_none _ _ f.0.none); range = k.range;
-        settings = k.settings; status = reported_status p.status k.status })
+    fine_is next q f.1 (record {
+      cage = kept_rack p.cage q.cage.cards k.cage (none_of p idle) f.0.cards (exclusive_none _ _ f.0.none);
+      range = k.range;
+      settings = k.settings;
+      status = reported_status p.status k.status;
+    })
 
 close_fine : (p : Panel) (chans : List Channel) (f : Bool) (a : SessionAnswer) (q : Panel) → IsFine p → is_running p ≡ false → StepClose p chans f a q
     → IsFine q
@@ -121,8 +135,12 @@ done_fine after f a q k h = absurd h
 setting_fine : (p : Panel) (Fits : Type 0) (error : ScpiError) (setup : Setup) (f : Bool) (a : SessionAnswer) (q : Panel) → IsFine p → is_running p ≡ false
     → (Fits → IsInRange p.settings → IsInRange setup) → StepSetting p Fits error setup f a q → IsFine q
 setting_fine p Fits error setup f (Done None) q k i r h =
-    fine_is (record p { settings = setup }) q h.2 (record { cage = k.cage; range = r h.1 k.range; settings = by_none p.cage.scan setup (none_of p i);
-        status = k.status })
+    fine_is (record p { settings = setup }) q h.2 (record {
+      cage = k.cage;
+      range = r h.1 k.range;
+      settings = by_none p.cage.scan setup (none_of p i);
+      status = k.status;
+    })
 setting_fine p Fits error setup f (Refused e) q k i r h = fine_is p q h.3 k
 setting_fine p Fits error setup f a q k i r h = absurd h
 
@@ -146,8 +164,12 @@ alone_fine (Closes chans) p f a q k n h = close_fine p chans f a q k n h
 alone_fine (Opens chans) p f a q k n h = open_fine p chans f a q k n h
 alone_fine (TellsRelays closed chans) p f a q k n h = flags_fine p closed chans f a q k h
 alone_fine Resets p f a q k n h =
-    done_fine (reset p) f a q (record { cage = dropped (safe_state p.cage) (fallen_all p.cage k.cage) refl; range = reset_range; settings = tt;
-        status = cleared_status p.status k.status }) h
+    done_fine (reset p) f a q (record {
+      cage = dropped (safe_state p.cage) (fallen_all p.cage k.cage) refl;
+      range = reset_range;
+      settings = tt;
+      status = cleared_status p.status k.status;
+    }) h
 alone_fine (Leaves after) p f a q k n h = done_fine (after p) f a q (n k) h
 alone_fine (Refuses error) p f a q k n h = refused_fine p error f a q k h
 alone_fine IsOfMacros p f a q k n h = refused_fine p UndefinedHeader f a q k h
@@ -192,39 +214,43 @@ happens_fine : (p : Panel) (happening : Happening) (f : Bool) (told : TakenSeen)
 happens_fine p happening f SaysIgnored q k h = fine_is p q h.2 k
 happens_fine p happening f SaysWaits q k h =
     reported_fine p q SaysWaits k (kept_past p.cage q.cage happening SaysWaits k.cage h.0 h.1)
-        (by_past p.cage q.cage p.cage.scan p.settings SaysWaits k.settings h.1) h.2.1
+    (by_past p.cage q.cage p.cage.scan p.settings SaysWaits k.settings h.1) h.2.1
 happens_fine p happening f (SaysPause t u) q k h =
     reported_fine p q (SaysPause t u) k (kept_past p.cage q.cage happening (SaysPause t u) k.cage h.0 h.1)
-        (by_past p.cage q.cage p.cage.scan p.settings (SaysPause t u) k.settings h.1) h.2.1
+    (by_past p.cage q.cage p.cage.scan p.settings (SaysPause t u) k.settings h.1) h.2.1
 happens_fine p happening f (SaysJob job) q k h =
     reported_fine p q (SaysJob job) k (kept_past p.cage q.cage happening (SaysJob job) k.cage h.0 h.1)
-        (by_past p.cage q.cage p.cage.scan p.settings (SaysJob job) k.settings h.1) h.2.1
+    (by_past p.cage q.cage p.cage.scan p.settings (SaysJob job) k.settings h.1) h.2.1
 happens_fine p happening f SaysEnded q k h =
     reported_fine p q SaysEnded k (kept_past p.cage q.cage happening SaysEnded k.cage h.0 h.1)
-        (by_past p.cage q.cage p.cage.scan p.settings SaysEnded k.settings h.1) h.2.1
+    (by_past p.cage q.cage p.cage.scan p.settings SaysEnded k.settings h.1) h.2.1
 happens_fine p happening f SaysFault q k h =
     reported_fine p q SaysFault k (kept_past p.cage q.cage happening SaysFault k.cage h.0 h.1)
-        (by_past p.cage q.cage p.cage.scan p.settings SaysFault k.settings h.1) h.2.1
+    (by_past p.cage q.cage p.cage.scan p.settings SaysFault k.settings h.1) h.2.1
 
 returns_fine : (p : Panel) (done : FinishedSeen) (f : Bool) (told : TakenSeen) (q : Panel) → IsFine p → IsOut p done → Returns p done f told q → IsFine q
 returns_fine p done f SaysIgnored q k out h =
-    fine_is (record p { cage = with_back p.cage done }) q h.2 (record { cage = kept_late p.cage done k.cage out h.1; range = k.range; settings = k.settings;
-        status = k.status })
+    fine_is (record p { cage = with_back p.cage done }) q h.2 (record {
+      cage = kept_late p.cage done k.cage out h.1;
+      range = k.range;
+      settings = k.settings;
+      status = k.status;
+    })
 returns_fine p done f SaysWaits q k out h =
     reported_fine p q SaysWaits k (kept_counted p.cage q.cage done SaysWaits k.cage out h.0 h.1)
-        (by_counts (with_back p.cage done) q.cage done.outcome p.settings SaysWaits k.settings h.1) h.2.1
+    (by_counts (with_back p.cage done) q.cage done.outcome p.settings SaysWaits k.settings h.1) h.2.1
 returns_fine p done f (SaysPause t u) q k out h =
     reported_fine p q (SaysPause t u) k (kept_counted p.cage q.cage done (SaysPause t u) k.cage out h.0 h.1)
-        (by_counts (with_back p.cage done) q.cage done.outcome p.settings (SaysPause t u) k.settings h.1) h.2.1
+    (by_counts (with_back p.cage done) q.cage done.outcome p.settings (SaysPause t u) k.settings h.1) h.2.1
 returns_fine p done f (SaysJob job) q k out h =
     reported_fine p q (SaysJob job) k (kept_counted p.cage q.cage done (SaysJob job) k.cage out h.0 h.1)
-        (by_counts (with_back p.cage done) q.cage done.outcome p.settings (SaysJob job) k.settings h.1) h.2.1
+    (by_counts (with_back p.cage done) q.cage done.outcome p.settings (SaysJob job) k.settings h.1) h.2.1
 returns_fine p done f SaysEnded q k out h =
     reported_fine p q SaysEnded k (kept_counted p.cage q.cage done SaysEnded k.cage out h.0 h.1)
-        (by_counts (with_back p.cage done) q.cage done.outcome p.settings SaysEnded k.settings h.1) h.2.1
+    (by_counts (with_back p.cage done) q.cage done.outcome p.settings SaysEnded k.settings h.1) h.2.1
 returns_fine p done f SaysFault q k out h =
     reported_fine p q SaysFault k (kept_counted p.cage q.cage done SaysFault k.cage out h.0 h.1)
-        (by_counts (with_back p.cage done) q.cage done.outcome p.settings SaysFault k.settings h.1) h.2.1
+    (by_counts (with_back p.cage done) q.cage done.outcome p.settings SaysFault k.settings h.1) h.2.1
 
 starts_fine : (p : Panel) (plan : Snapshot) (f : Bool) (told : TakenSeen) (q : Panel) → IsFine p → MayScan p → Starts p plan f told q → IsFine q
 starts_fine p plan f told q k may h =
@@ -280,8 +306,12 @@ served_fine p ask f a q k h =
 
 joined_fine : (p : Panel) (ask : SessionAsk) (f : Bool) (a : SessionAnswer) (w : Option WorkView) (q : Panel) → IsFine p → StepJoined p ask f a w q → IsFine q
 joined_fine p (Ask.Fault sid e) f (Done None) None q k h =
-    fine_is (record p { status = pushed p.status e }) q h.1 (record { cage = k.cage; range = k.range; settings = k.settings;
-        status = (status-kept p.status k.status).error e })
+    fine_is (record p { status = pushed p.status e }) q h.1 (record {
+      cage = k.cage;
+      range = k.range;
+      settings = k.settings;
+      status = (status-kept p.status k.status).error e;
+    })
 joined_fine p (Ask.Fault sid e) f a None q k h = served_fine p (Ask.Fault sid e) f a q k h
 joined_fine p (Ask.Unit sid command available) f a w q k h =
     action_fine (action_of available command) p (Ask.Unit sid command available) f a w q k (harmless p available command) h
@@ -310,8 +340,12 @@ admitted_fine false false p ask f a w q k h = joined_fine p ask f a w q k h
 
 join_fine : (p : Panel) (f : Bool) (a : SessionAnswer) (w : Option WorkView) (q : Panel) → IsFine p → StepJoin p f a w q → IsFine q
 join_fine p f (Joined sid) None q k h =
-    fine_is (record p { sessions = with_seat p.sessions sid.number (Some (fresh (next_number p.events))) }) q h.3 (record { cage = k.cage; range = k.range;
-        settings = k.settings; status = k.status })
+    fine_is (record p { sessions = with_seat p.sessions sid.number (Some (fresh (next_number p.events))) }) q h.3 (record {
+      cage = k.cage;
+      range = k.range;
+      settings = k.settings;
+      status = k.status;
+    })
 join_fine p f Full None q k h = fine_is p q h.2 k
 join_fine p f a w q k h = absurd h
 
@@ -337,8 +371,10 @@ session_fine (Some sid) p ask f a w q k h = admitted_fine (drops p sid ask) (shu
 slot_fine : (c : CageSeen) (s : ℕ) (v : Option Account) → IsKept c → c.scan ≡ None → slot_at c.out s ≡ None → 1 ≤ s → s ≤ 8
     → ((n : ℕ) → option_closed v n ≡ false) → OptionFew v → IsKept (record c { cards = slice_set c.cards (s - 1) v })
 slot_fine c s v k idle home a b quiet few = record {
-  good = record { held = held_set c s v c.scan k.good.held home a b;
-      running = subst (λ (o : Option ScanSeen). IsRunning (record c { cards = slice_set c.cards (s - 1) v }) o) (sym idle) tt };
+  good = record {
+    held = held_set c s v c.scan k.good.held home a b;
+    running = subst (λ (o : Option ScanSeen). IsRunning (record c { cards = slice_set c.cards (s - 1) v }) o) (sym idle) tt;
+  };
   safe = exclusive_quiet c.cards s v (omega (arith, a)) (omega (arith, b, k.good.held.slots)) quiet k.safe;
   few = few_set c.cards s v (omega (arith, a)) (omega (arith, b, k.good.held.slots)) few k.few;
 }
@@ -375,18 +411,26 @@ finished_fine p done f a q k h = returns_fine p done f h.told q k h.out h.return
 acts_fine : (p : Panel) (ask : AskView) (f : Bool) (a : AnswerView) (q : Panel) → IsFine p → Acts p ask f a q → IsFine q
 acts_fine p (AskSession ask) f (SaysSession a w) q k h = session_fine (asker_of ask) p ask f a w q k h
 acts_fine p (AskInstall slot card) f SaysInstalled q k h =
-    fine_is (with_cards p (slice_set p.cage.cards (slot - 1) (Some card))) q h.4 (record { cage =
-        slot_fine p.cage slot (Some card) k.cage (none_of p h.1) h.2 h.3.first h.3.last h.3.«open» (few_card p.cage.cards slot card h.3); range = k.range;
-        settings = k.settings; status = k.status })
+    fine_is (with_cards p (slice_set p.cage.cards (slot - 1) (Some card))) q h.4 (record {
+      cage =
+          slot_fine p.cage slot (Some card) k.cage (none_of p h.1) h.2 h.3.first h.3.last h.3.«open» (few_card p.cage.cards slot card h.3);
+      range = k.range;
+      settings = k.settings;
+      status = k.status;
+    })
 acts_fine p (AskInstall slot card) f (SaysNotInstalled refusal) q k h = fine_is p q h.2 k
 acts_fine p (AskEject slot) f (SaysEjected card) q k h =
     let r : (0 < slot) × (slot ≤ length p.cage.cards) = rest_slot p.cage.cards slot card h.2 in
     let s = stopped_fine p.cage k.cage in
     let home : slot_at (stopped p.cage).out slot ≡ None = subst (λ (o : _). slot_at o slot ≡ None) (sym s.2) h.1 in
     let c : IsKept (without_card (stopped p.cage) slot) =
-        slot_fine (stopped p.cage) slot None s.0 s.1 home (omega (arith, r.0)) (omega (arith, r.1, k.cage.good.held.slots)) (λ n. refl) tt in
-    fine_is (record p { cage = without_card (stopped p.cage) slot; status = card_fault_cleared p.status }) q h.3 (record { cage = c; range = k.range;
-        settings = by_none (stopped p.cage).scan p.settings s.1; status = cleared_status p.status k.status })
+    slot_fine (stopped p.cage) slot None s.0 s.1 home (omega (arith, r.0)) (omega (arith, r.1, k.cage.good.held.slots)) (λ n. refl) tt in
+    fine_is (record p { cage = without_card (stopped p.cage) slot; status = card_fault_cleared p.status }) q h.3 (record {
+      cage = c;
+      range = k.range;
+      settings = by_none (stopped p.cage).scan p.settings s.1;
+      status = cleared_status p.status k.status;
+    })
 acts_fine p (AskEject slot) f (SaysNotEjected refusal) q k h = fine_is p q h.2 k
 acts_fine p AskExternal f a q k h = outside_fine p External f a q k h
 acts_fine p (AskElapsed ticket) f a q k h = outside_fine p (Elapsed ticket) f a q k h
@@ -399,7 +443,7 @@ ended_fine p k =
     let done : StatusSeen = completed p.status (p.opc_waits && not (is_running p)) in
     let u : IsStatus done = (status-kept p.status k.status).event_status _ in
     let o : IsStatus (with_operation done (awaited_bits (awaited_now p.cage.scan))) =
-        (status-kept done u).group Operation _ ((told_group done Operation u).conditioned _) in
+    (status-kept done u).group Operation _ ((told_group done Operation u).conditioned _) in
     record { cage = k.cage; range = k.range; settings = k.settings; status = (status-kept _ o).ended }
 
 pub erred_fine : (p : Panel) (e : ScpiError) → IsFine p → IsFine (erred p e)

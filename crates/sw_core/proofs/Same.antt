@@ -35,7 +35,7 @@ same_card a b e h =
     let states : a.closed ≡ b.closed = same_states a.closed b.closed (ap (λ (x : Account). x.closed) e) h in
     let back : (x y : Account) → x ≡ y → (c d : List Bool) → c ≡ d
     → ◌≡◌ {A = Account} (record x { closed = c }) (record y { closed = d }) =
-        λ x y p c d q. ap (λ (z : Account). let r : Account = record z { closed = c } in r) p
+    λ x y p c d q. ap (λ (z : Account). let r : Account = record z { closed = c } in r) p
     ∙ ap (λ (s : List Bool). let r : Account = record y { closed = s } in r) q in
     back (at_rest a) (at_rest b) e a.closed b.closed states
 

@@ -54,8 +54,12 @@ near_on : (p m q : Panel) (a b : ℕ) → Nears p a m → Nears m b q → Nears 
 near_on p m q a b h k = by_first h.left k.left
   where
     by_first : (a + left_in m ≡ left_in p) ⊎ (m.cage.scan ≡ None) → (b + left_in q ≡ left_in m) ⊎ (q.cage.scan ≡ None) → Nears p (a + b) q
-    by_first (inl l) (inl r) = record { most = omega (arith, l, k.most); left = inl (omega (arith, l, r)); idle = λ i. k.idle (h.idle i);
-        holds = holds_on p.cage m.cage q.cage h.holds k.holds }
+    by_first (inl l) (inl r) = record {
+      most = omega (arith, l, k.most);
+      left = inl (omega (arith, l, r));
+      idle = λ i. k.idle (h.idle i);
+      holds = holds_on p.cage m.cage q.cage h.holds k.holds;
+    }
     by_first (inl l) (inr r) = record { most = omega (arith, l, k.most); left = inr r; idle = λ i. r; holds = holds_none p.cage q.cage r }
     by_first (inr i) r =
         let none : left_in m ≡ 0 = ap left_of i in
@@ -67,7 +71,7 @@ near_run p (e ∷ events) k r n =
     let f = failed_in e.ask e.answer p.cage.cards e.panel.cage.cards in
     let on : IsFine e.panel = step_fine p e.ask f e.answer e.panel k r.0.step in
     near_on p e.panel (last_of e.panel events) (took e.ask e.answer) (taken_in events) (move_step p e.ask f e.answer e.panel k.cage.good.held n.0 r.0.step).near
-        (near_run e.panel events on r.1 n.1)
+    (near_run e.panel events on r.1 n.1)
 
 -- ---- a scan begins
 
@@ -241,7 +245,7 @@ over_by : (plan : Snapshot) (p q : Panel) (taken : ℕ) (e : Event) (at : ScanSe
 over_by plan p q taken e at s u is h =
     let all : (n : ℕ)
     → reads (take n (agenda at.setup)) ≤ plan.settings.points =
-        λ (n : ℕ). subst (λ (x : Setup). reads (take n (agenda at.setup)) ≤ x.points) s.settings (omega (arith, u.way.sound.fits, reads_part at.setup n)) in
+    λ (n : ℕ). subst (λ (x : Setup). reads (take n (agenda at.setup)) ≤ x.points) s.settings (omega (arith, u.way.sound.fits, reads_part at.setup n)) in
     subst (λ (x : Panel). IsComplete plan (taken + took e.ask e.answer) x ⊎ ((breaks_off e.ask e.answer ≡ true) × IsBrokenOff plan x)) (sym is) (by_end all h)
   where
     by_end : ((n : ℕ) → reads (take n (agenda at.setup)) ≤ plan.settings.points) → Completed p.cage at (took e.ask e.answer) q.cage

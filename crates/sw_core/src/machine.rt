@@ -93,8 +93,7 @@ impl<R: Relay, M: Meter> Core<R, M> {
     /// they are refused by -225 and change nothing. When 2^64 - 1 events were numbered, an ask is handed back, but for
     /// an abort, an eject and the return of a meter, which still act. A meter that returns tells what its own account
     /// does.
-    #[tactic(auto, using(crate::proofs::Numbered::worn_step, crate::proofs::Numbered::numbered_step,
-        crate::proofs::Numbered::own_worn))]
+    #[tactic(auto, using(crate::proofs::Numbered::worn_step, crate::proofs::Numbered::numbered_step, crate::proofs::Numbered::own_worn))]
     pub fn apply(&mut self, alloc: Global, ask: Ask<R, M>) -> Answer<R, M>
         ensures step { Step self.old (ask_view ask)
             (failed_in (ask_view ask) (answer_view result) self.old.cage.cards self.new.cage.cards)

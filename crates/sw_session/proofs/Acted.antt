@@ -36,8 +36,11 @@ defines-same : (label body : List ℕ) (t t1 t2 : Table) (told told' : Told) →
 defines-same label body t t1 t2 (Ok x) (Ok x') p q m n = (ap (λ (y : Option (List ℕ)). Ok y) (p.1 ∙ sym q.1), p.2 ∙ sym q.2)
 defines-same label body t t1 t2 (Ok x) (Err e) p q m n = absurd (lost (refusal_to_define t label body) e p.0 q.0 n)
 defines-same label body t t1 t2 (Err e) (Ok x) p q m n = absurd (lost (refusal_to_define t label body) e q.0 p.0 m)
-defines-same label body t t1 t2 (Err e) (Err e') p q m n = (ap (λ (y : ScpiError). Err y) (refused-once (refusal_to_define t label body) e e' p.0 q.0), p.1
-    ∙ sym q.1)
+defines-same label body t t1 t2 (Err e) (Err e') p q m n = (
+  ap (λ (y : ScpiError). Err y) (refused-once (refusal_to_define t label body) e e' p.0 q.0),
+  p.1
+      ∙ sym q.1,
+)
 
 removes-same : (label : List ℕ) (t t1 t2 : Table) (told told' : Told) → Removes label t told t1 → Removes label t told' t2 → (told ≡ told') × (t1 ≡ t2)
 removes-same label t t1 t2 (Ok x) (Ok x') p q = (ap (λ (y : Option (List ℕ)). Ok y) (p.1 ∙ sym q.1), p.2 ∙ sym q.2)

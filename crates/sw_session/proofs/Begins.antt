@@ -22,14 +22,14 @@ module _ {D : Type 0} (passes : D → Entry → D → Type 0) (sid : Sid) where
       → Led passes d0 d2 (λ t rest. StartsScan sid t final rest)
   initiate-planned d0 d1 d2 told final p q =
       led-then passes d0 d1 d2 (λ t rest. Settles sid 0 (Ask.Snapshot sid) t told rest) (λ t rest. Plans sid told t final rest) (λ t rest.
-          StartsScan sid t final rest) p q
+      StartsScan sid t final rest) p q
       (λ t mid rest s k. (told, mid, s, k))
 
   -- a command that is the mainframe's is asked
   asked : (command : Command) (answered : Bool) (macros : Table) (t : List Entry) (final : SessionAnswer) (rest : List Entry)
       → ((label body : List ℕ) → command ≡ DefineMacro label body → ⊥) → ((label : List ℕ) → command ≡ MacroQuery label → ⊥) → (command ≡ MacroLabelsQuery → ⊥)
       → ((label : List ℕ) → command ≡ RemoveMacro label → ⊥) → (command ≡ PurgeMacros → ⊥) → ((on : Bool) → command ≡ EnableMacros on → ⊥)
-          → (command ≡ EnableMacrosQuery → ⊥)
+      → (command ≡ EnableMacrosQuery → ⊥)
       → (command ≡ Initiate → ⊥) → (command ≡ Reset → ⊥) → Settles sid 0 (Ask.Unit sid command answered) t final rest
       → Begins sid answered (Ok command) macros t (begun final macros rest)
   asked (DefineMacro label body) answered macros t final rest n1 n2 n3 n4 n5 n6 n7 n8 n9 s = absurd (n1 label body refl)
@@ -51,19 +51,19 @@ module _ {D : Type 0} (passes : D → Entry → D → Type 0) (sid : Sid) where
   pub begins-asked : (d0 d1 : D) (command : Command) (answered : Bool) (final : SessionAnswer) (macros : Table)
       → ((label body : List ℕ) → command ≡ DefineMacro label body → ⊥) → ((label : List ℕ) → command ≡ MacroQuery label → ⊥) → (command ≡ MacroLabelsQuery → ⊥)
       → ((label : List ℕ) → command ≡ RemoveMacro label → ⊥) → (command ≡ PurgeMacros → ⊥) → ((on : Bool) → command ≡ EnableMacros on → ⊥)
-          → (command ≡ EnableMacrosQuery → ⊥)
+      → (command ≡ EnableMacrosQuery → ⊥)
       → (command ≡ Initiate → ⊥) → (command ≡ Reset → ⊥) → Led passes d0 d1 (λ t rest. Settles sid 0 (Ask.Unit sid command answered) t final rest)
       → Led passes d0 d1 (λ t rest. Begins sid answered (Ok command) macros t (begun final macros rest))
   begins-asked d0 d1 command answered final macros n1 n2 n3 n4 n5 n6 n7 n8 n9 p =
       led-so passes d0 d1 (λ t rest. Settles sid 0 (Ask.Unit sid command answered) t final rest) (λ t rest.
-          Begins sid answered (Ok command) macros t (begun final macros rest)) p
+      Begins sid answered (Ok command) macros t (begun final macros rest)) p
       (λ t rest s. asked command answered macros t final rest n1 n2 n3 n4 n5 n6 n7 n8 n9 s)
 
   -- a macro command was carried out
   pub begins-reported : (d0 d1 : D) (command : Command) (answered : Bool) (told : Told) (final : SessionAnswer) (macros macros' : Table)
       → effect_of (action_of answered command) ≡ IsOfMacros → Acts command macros told macros'
       → Led passes d0 d1 (λ t rest. Reports sid told t final rest)
-          → Led passes d0 d1 (λ t rest. Begins sid answered (Ok command) macros t (begun final macros' rest))
+      → Led passes d0 d1 (λ t rest. Begins sid answered (Ok command) macros t (begun final macros' rest))
   begins-reported d0 d1 command answered told final macros macros' is acts p =
       led-so passes d0 d1 (λ t rest. Reports sid told t final rest) (λ t rest. Begins sid answered (Ok command) macros t (begun final macros' rest)) p
       (λ t rest k. subst (λ (e : Effect). BeginsBy e sid answered command macros t (begun final macros' rest)) (sym is) (told, acts, k))
@@ -87,10 +87,10 @@ module _ {D : Type 0} (passes : D → Entry → D → Type 0) (sid : Sid) where
   -- a reset was asked
   pub begins-reset : (d0 d1 : D) (answered : Bool) (final : SessionAnswer) (macros macros' : Table) → macros' ≡ table_reset final macros
       → Led passes d0 d1 (λ t rest. Settles sid 0 (Ask.Unit sid Reset answered) t final rest)
-          → Led passes d0 d1 (λ t rest. Begins sid answered (Ok Reset) macros t (begun final macros' rest))
+      → Led passes d0 d1 (λ t rest. Begins sid answered (Ok Reset) macros t (begun final macros' rest))
   begins-reset d0 d1 answered final macros macros' is p =
       led-so passes d0 d1 (λ t rest. Settles sid 0 (Ask.Unit sid Reset answered) t final rest) (λ t rest.
-          Begins sid answered (Ok Reset) macros t (begun final macros' rest)) p (λ t rest k. (k, is))
+      Begins sid answered (Ok Reset) macros t (begun final macros' rest)) p (λ t rest k. (k, is))
 
   -- an error was queued
   pub begins-queued : (d0 d1 : D) (e : ScpiError) (answered : Bool) (final : SessionAnswer) (macros macros' : Table) → macros' ≡ macros
@@ -98,4 +98,4 @@ module _ {D : Type 0} (passes : D → Entry → D → Type 0) (sid : Sid) where
       → Led passes d0 d1 (λ t rest. Begins sid answered (Err e) macros t (begun final macros' rest))
   begins-queued d0 d1 e answered final macros macros' is p =
       led-so passes d0 d1 (λ t rest. Queues sid e t final rest) (λ t rest. Begins sid answered (Err e) macros t (begun final macros' rest)) p (λ t rest k.
-          (k, is))
+      (k, is))

@@ -58,15 +58,15 @@ parts-same : (s s' : ℕ) (t t' : Ticket) (m m' : MeterAccount) (b b' : ℕ) (o 
     → finished s t m b o ≡ finished s' t' m' b' o'
 parts-same s s' t t' m m' b b' o o' e1 e2 e3 e4 e5 =
     ap (λ x. finished x t m b o) e1 ∙ ap (λ x. finished s' x m b o) e2 ∙ ap (λ x. finished s' t' x b o) e3 ∙ ap (λ x. finished s' t' m' x o) e4
-        ∙ ap (λ x. finished s' t' m' b' x) e5
+    ∙ ap (λ x. finished s' t' m' b' x) e5
 
 done-same : (job : JobSeen) (d d' : FinishedSeen) → IsDone job d → IsDone job d' → d.outcome ≡ d'.outcome → d ≡ d'
 done-same job d d' i i' same =
     let meters : d.meter ≡ d'.meter =
-        measured-same job.meter d.meter d'.meter d.outcome i.measured (subst (λ (o : Result Reading CardFault).
-        IsMeasured job.meter o d'.meter) (sym same) i'.measured) in
+    measured-same job.meter d.meter d'.meter d.outcome i.measured (subst (λ (o : Result Reading CardFault).
+    IsMeasured job.meter o d'.meter) (sym same) i'.measured) in
     parts-same d.slot d'.slot d.ticket d'.ticket d.meter d'.meter d.before d'.before d.outcome d'.outcome (i.slot ∙ sym i'.slot) (i.ticket
-        ∙ sym i'.ticket) meters (i.before ∙ sym i'.before) same
+    ∙ sym i'.ticket) meters (i.before ∙ sym i'.before) same
 
 head-same : (o o' : Result Reading CardFault) (os os' : List (Result Reading CardFault)) → o ∷ os ≡ o' ∷ os' → o ≡ o'
 head-same o o' os os' is = cc (is)
@@ -95,7 +95,7 @@ asked-same once d d' ask ask' r r' q q' desks asks plain plain' keys keys' a a' 
     subst (λ (x : SessionAsk). Step d.panel (AskSession x) a'.failed (SaysSession r' a'.brings) a'.after) (sym asks)
     (subst (λ (x : DeskSeen). Step x.panel (AskSession ask') a'.failed (SaysSession r' a'.brings) a'.after) (sym desks) a'.step) in
     let one = once d.panel a.after a'.after (AskSession ask) a.failed a'.failed (SaysSession r a.brings) (SaysSession r' a'.brings) a.step here (plain a.brings)
-        (plain' a'.brings) (keys d.panel a.brings) key in (
+    (plain' a'.brings) (keys d.panel a.brings) key in (
       same-answer r r' a.brings a'.brings one.0,
       keeps-same (record d { panel = a.after }) (record d' { panel = a'.after }) a.brings a'.brings q q' (panels-same d d' a.after a'.after desks one.1)
           (same-work r r' a.brings a'.brings one.0) a.keeps a'.keeps,
@@ -118,16 +118,18 @@ worked-same : StepIsDetermined → (d d' q q' : DeskSeen) (c c' : Carried) (os o
 worked-same once d d' q q' c c' os os' desks plain plain' outcomes w w' =
     let queues : w.piece ∷ w.others ≡ w'.piece ∷ w'.others = sym w.oldest ∙ ap (λ (x : DeskSeen). x.work) desks ∙ w'.oldest in
     let tells : Tells w.piece c'.ask =
-        subst (λ (x : WorkView). Tells x c'.ask) (sym (first-piece w.piece w'.piece w.others w'.others queues)) w'.carries.tells in
+    subst (λ (x : WorkView). Tells x c'.ask) (sym (first-piece w.piece w'.piece w.others w'.others queues)) w'.carries.tells in
     let told = told-same w.piece c.ask c'.ask os os' w.carries.tells tells outcomes in
     let here : Step d.panel c.ask c'.failed c'.answer c'.after =
     subst (λ (x : AskView). Step d.panel x c'.failed c'.answer c'.after) (sym told.0) (subst (λ (x : DeskSeen).
-        Step x.panel c'.ask c'.failed c'.answer c'.after) (sym desks) w'.carries.step) in
+    Step x.panel c'.ask c'.failed c'.answer c'.after) (sym desks) w'.carries.step) in
     let one = once d.panel c.after c'.after c.ask c.failed c'.failed c.answer c'.answer w.carries.step here plain plain'
-        (told-keeps w.piece d.panel c.ask c.answer w.carries.tells) (told-keeps w.piece d.panel c.ask c'.answer w.carries.tells) in (
+    (told-keeps w.piece d.panel c.ask c.answer w.carries.tells) (told-keeps w.piece d.panel c.ask c'.answer w.carries.tells) in (
       keeps-same (record d { panel = c.after; work = w.others }) (record d' { panel = c'.after; work = w'.others }) (brought c.answer) (brought c'.answer) q q'
-          (works-same (record d { panel = c.after }) (record d' { panel =
-              c'.after }) w.others w'.others (panels-same d d' c.after c'.after desks one.1) (other-pieces w.piece w'.piece w.others w'.others queues))
+          (works-same (record d { panel = c.after }) (record d' {
+            panel =
+                c'.after;
+          }) w.others w'.others (panels-same d d' c.after c'.after desks one.1) (other-pieces w.piece w'.piece w.others w'.others queues))
           (ap brought one.0) w.keeps w'.keeps,
       told.1,
     )
@@ -136,7 +138,7 @@ worked-same once d d' q q' c c' os os' desks plain plain' outcomes w w' =
 waited-same : StepIsDetermined → (d d' q q' : DeskSeen) (limit limit' : Option ℕ) (w w' : Wake) (cs cs' : List Carried)
     (os os' : List (Result Reading CardFault)) → d ≡ d' → limit ≡ limit' → IsSmooth (Waited limit w) cs
     → IsSmooth (Waited limit' w') cs' → outcomes_in cs ++ os ≡ outcomes_in cs' ++ os' → PassesBy cs d (Waited limit w) q → PassesBy cs' d' (Waited limit' w') q'
-        → (w ≡ w') × (q ≡ q') × (os ≡ os')
+    → (w ≡ w') × (q ≡ q') × (os ≡ os')
 waited-same once d d' q q' limit limit' (Again left) w' [] cs' os os' desks limits m n outcomes p p' = absurd p
 waited-same once d d' q q' limit limit' (Again left) w' (a ∷ b ∷ cs) cs' os os' desks limits m n outcomes p p' = absurd (omega arith)
 waited-same once d d' q q' limit limit' (Again left) (Again left') (c ∷ []) [] os os' desks limits m n outcomes p p' = absurd p'
@@ -191,9 +193,9 @@ passed-same once d d' q q' (Asked a r) (Asked a' r') cs cs' os os' follows desks
     let none : cs ≡ [] = m.1 in
     let none' : cs' ≡ [] = n.1 in
     let one = asked-same once d d' a a' r r' q q' desks asks m.0 n.0 m.2 n.2 (subst (λ (x : List Carried).
-        Answers x d a r q) none p) (subst (λ (x : List Carried). Answers x d' a' r' q') none' p') in
+    Answers x d a r q) none p) (subst (λ (x : List Carried). Answers x d' a' r' q') none' p') in
     let left : os ≡ os' = subst (λ (x : List Carried). outcomes_in x
-        ++ os ≡ os') none (subst (λ (x : List Carried). outcomes_in cs ++ os ≡ outcomes_in x ++ os') none' outcomes) in
+    ++ os ≡ os') none (subst (λ (x : List Carried). outcomes_in cs ++ os ≡ outcomes_in x ++ os') none' outcomes) in
     (cc (asks, one.0), one.1, left, on one.0)
 passed-same once d d' q q' (Waited l w) (Waited l' w') cs cs' os os' follows desks m n outcomes p p' (limits, on) =
     let one = waited-same once d d' q q' l l' w w' cs cs' os os' desks limits m n outcomes p p' in
@@ -214,14 +216,14 @@ same-run once d d' q q' b b' [] (e ∷ t') l l' desks m n outcomes s = absurd s
 same-run once d d' q q' b b' (e ∷ t) [] l l' desks m n outcomes s = absurd s
 same-run once d d' q q' b b' (e ∷ t) (e' ∷ t') (mid, (cs, p), l) (mid', (cs', p'), l') desks m n outcomes s =
     let one = passed-same once d d' mid mid' e e' cs cs' (outcomes_of (carried_of mid t q l)) (outcomes_of (carried_of mid' t' q' l')) (SameTalk b b' t t')
-        desks m.0 n.0 outcomes p p' s in
+    desks m.0 n.0 outcomes p p' s in
     let rest = same-run once mid mid' q q' b b' t t' l l' one.1 m.1 n.1 one.2 one.3 in
     (cc (one.0, rest.0), rest.1, rest.2)
 
 pub core-talk-determined : StepIsDetermined → TalkIsDetermined → CoreTalkIsDetermined
 core-talk-determined once talk sid d e e' macros kept kept' message bytes bytes' t t' ample ample' smooth smooth' outcomes =
     let one = same-run once d d e e' (left bytes kept) (left bytes' kept') t.trace t'.trace t.leads t'.leads refl smooth smooth' outcomes
-        (talk sid macros (strip_last 10 message) t.trace t'.trace bytes bytes' kept kept' t.talks t'.talks ample ample') in
+    (talk sid macros (strip_last 10 message) t.trace t'.trace bytes bytes' kept kept' t.talks t'.talks ample ample') in
     (one.0, ap (λ (x : Left). x.bytes) one.1, ap (λ (x : Left). x.macros) one.1, one.2)
 
 -- two rests wait alike until one is over

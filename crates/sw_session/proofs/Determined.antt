@@ -142,7 +142,7 @@ settles-same b b' sid turn ask (Asked a (Hold h) ∷ Waited None Over ∷ t) t' 
 settles-same b b' sid turn ask (Asked a (Hold h) ∷ Waited None (Again left) ∷ t) t' r r' f f' p q next =
     hold-same b b' sid turn ask a h (Again left) t t' r' f' p.0
     (λ u s. either-way (turn + 1 == turns) (Queues sid SettingsConflict t f r) (Settles sid (turn + 1) ask t f r) (Queues sid SettingsConflict u f' r')
-        (Settles sid (turn + 1) ask u f' r') p.1 s
+    (Settles sid (turn + 1) ask u f' r') p.1 s
     (λ k k'. queues-same b b' sid SettingsConflict t u r r' f f' k k' next)
     (λ k k'. settles-same b b' sid (turn + 1) ask t u r r' f f' k k' next)) q
 settles-same b b' sid turn ask (Asked a (Hold h) ∷ []) t' r r' f f' p q next = absurd p
@@ -196,7 +196,7 @@ first-one s r r' f f' =
     ⊎_elim (λ (e : number_of r ≡ number_of r'). sym (at-number r) ∙ ap refusal_at e ∙ at-number r')
     (λ (o : (number_of r < number_of r') ⊎ (number_of r' < number_of r)).
     ⊎_elim (λ (l : number_of r < number_of r'). absurd (f'.none_before r l f.applies)) (λ (l : number_of r' < number_of r).
-        absurd (f.none_before r' l f'.applies)) o)
+    absurd (f.none_before r' l f'.applies)) o)
     (cases_order (number_of r) (number_of r'))
 
 -- an answer that stands
@@ -264,13 +264,13 @@ executes-same : {T : Type 0} (b b' : T) (sid : Sid) (answered : Bool) (command :
     → BeginsBy IsOfMacros sid answered command macros t x → BeginsBy IsOfMacros sid answered command macros t' x' → Onward b b' x x' → Rests b b' t t'
 executes-same b b' sid answered command macros t t' x x' (told, acts, p) (told', acts', q) next = λ y z.
     let one = acts-same command macros told told' x.macros x'.macros acts acts' (reports-ample sid told t x.rest x.answer y p)
-        (reports-ample sid told' t' x'.rest x'.answer z q) in
+    (reports-ample sid told' t' x'.rest x'.answer z q) in
     reports-same b b' sid told t t' x.rest x'.rest x.answer x'.answer p (subst (λ (k : Told). Reports sid k t' x'.answer x'.rest) (sym one.0) q) (λ same.
-        next same one.1) y z
+    next same one.1) y z
 
 asks-same : {T : Type 0} (b b' : T) (sid : Sid) (ask : SessionAsk) (macros : Table) (t t' : List Entry) (x x' : Begun)
     → Settles sid 0 ask t x.answer x.rest × (x.macros ≡ macros) → Settles sid 0 ask t' x'.answer x'.rest × (x'.macros ≡ macros) → Onward b b' x x'
-        → Rests b b' t t'
+    → Rests b b' t t'
 asks-same b b' sid ask macros t t' x x' p q next =
     settles-same b b' sid 0 ask t t' x.rest x'.rest x.answer x'.answer p.0 q.0 (λ same. next same (p.1 ∙ sym q.1))
 
@@ -338,10 +338,10 @@ serves-same : {T : Type 0} (b b' : T) (sid : Sid) (command : Result Command Scpi
     → Serves sid command s after told → Serves sid command s' after' told' → Ensues b b' after after' told told' → Rests b b' s.trace s'.trace
 serves-same b b' sid command s s' after after' told told' (paths, tables, texts) (f, mid, p, k, is) (f', mid', p', k', is') next =
     let begins : Begins sid (has_answers s.answers) command s.macros s'.trace (begun f' told'.macros mid') =
-        subst (λ (x : List (List ℕ)). Begins sid (has_answers x) command s.macros s'.trace (begun f' told'.macros mid')) (sym texts)
-        (subst (λ (x : Table). Begins sid (has_answers s'.answers) command x s'.trace (begun f' told'.macros mid')) (sym tables) p') in
+    subst (λ (x : List (List ℕ)). Begins sid (has_answers x) command s.macros s'.trace (begun f' told'.macros mid')) (sym texts)
+    (subst (λ (x : Table). Begins sid (has_answers s'.answers) command x s'.trace (begun f' told'.macros mid')) (sym tables) p') in
     let concludes : Concludes sid s.answers f' mid' after' told'.answers told'.trace =
-        subst (λ (x : List (List ℕ)). Concludes sid x f' mid' after' told'.answers told'.trace) (sym texts) k' in
+    subst (λ (x : List (List ℕ)). Concludes sid x f' mid' after' told'.answers told'.trace) (sym texts) k' in
     begins-same b b' sid (has_answers s.answers) command s.macros s.trace s'.trace (begun f told.macros mid) (begun f' told'.macros mid') p begins
     (λ same macros. concludes-same b b' sid s.answers f mid mid' told.trace told'.trace after after' told.answers told'.answers k
     (subst (λ (x : SessionAnswer). Concludes sid s.answers x mid' after' told'.answers told'.trace) (sym same) concludes)
@@ -353,7 +353,7 @@ serves-ample : (sid : Sid) (command : Result Command ScpiError) (s : Standing) (
     → command ≡ Err OutOfMemory → ⊥
 serves-ample sid command s after told m (f, mid, p, k, stays) is =
     no-loss sid s.trace mid f m (subst (λ (c : Result Command ScpiError).
-        Begins sid (has_answers s.answers) c s.macros s.trace (begun f told.macros mid)) is p).0
+    Begins sid (has_answers s.answers) c s.macros s.trace (begun f told.macros mid)) is p).0
 
 -- ---- the units
 
@@ -404,7 +404,7 @@ talks-same b b' way reads same sid text [] [] (Refuses e) Unread s s' after afte
 talks-same b b' way reads same sid text [] [] (Refuses e) Complete s s' after after' told told' alike i i' p q next = absurd (reads.blank_or_error text e i' i)
 talks-same b b' way reads same sid text [] [] (Refuses e) (Refuses e') s s' after after' told told' alike i i' p q next =
     serves-same b b' sid (Err e) s s' after after' told told' alike p (subst (λ (x : ScpiError).
-        Serves sid (Err x) s' after' told') (sym (reads.error text e e' i i')) q) next
+    Serves sid (Err x) s' after' told') (sym (reads.error text e e' i i')) q) next
 talks-same b b' way reads same sid text [] (u' ∷ us') (Refuses e) end' s s' after after' told told' alike i i' p q next =
     absurd (reads.unit_or_error text i'.0 u' e i'.1 i)
 talks-same b b' way reads same sid text (u ∷ us) [] end Unread s s' after after' told told' alike i i' p q next = absurd q
@@ -412,24 +412,28 @@ talks-same b b' way reads same sid text (u ∷ us) [] end Complete s s' after af
     absurd (reads.unit_or_blank text i.0 u i.1 i')
 talks-same b b' way reads same sid text (u ∷ us) [] end (Refuses e) s s' after after' told told' alike i i' p q next =
     absurd (reads.unit_or_error text i.0 u e i.1 i')
-talks-same b b' way reads same sid text (u ∷ us) (u' ∷ us') end end' s s' after after' told told' alike (rest, is, i) (rest', is', i') (step, mid, w,
-    on) (step', mid', w', on') next =
+talks-same b b' way reads same sid text (u ∷ us) (u' ∷ us') end end' s s' after after' told told' alike (rest, is, i) (rest', is', i') (
+  step,
+  mid,
+  w,
+  on,
+) (step', mid', w', on') next =
     let one = reads.unit text rest rest' u u' is is' in
     let again : way u s' step' mid' = subst (λ (x : UnitView). way x s' step' mid') (sym one.0) w' in
     let script : IsScript rest us' end' = subst (λ (x : List ℕ). IsScript x us' end') (sym one.1) i' in
     same u s s' step step' mid mid' alike w again
     (λ same_step same_place.
     let on-alike : Proceeds (λ x. Talks way sid us' end' x after' told') step mid' after' told' =
-        subst (λ (x : After). Proceeds (λ y. Talks way sid us' end' y after' told') x mid' after' told') (sym same_step) on' in
+    subst (λ (x : After). Proceeds (λ y. Talks way sid us' end' y after' told') x mid' after' told') (sym same_step) on' in
     proceeds-same b b' (λ x. Talks way sid us end x after told) (λ x.
-        Talks way sid us' end' x after' told') step mid mid' after after' told told' same_place on on-alike next
+    Talks way sid us' end' x after' told') step mid mid' after after' told told' same_place on on-alike next
     (λ k k'. talks-same b b' way reads same sid rest us us' end end' mid mid' after after' told told' same_place i script k k' next))
 
 itself-same : {T : Type 0} (b b' : T) → ReadsOnce → (sid : Sid) → SameWay b b' (Itself sid)
 itself-same b b' reads sid u s s' after after' told told' alike (c, path, res, serves) (c', path', res', serves') next = λ m n.
     let again : Resolves u s.path c' path' = subst (λ (x : Nodes). Resolves u x c' path') (sym alike.0) res' in
     let one = reads.command u s.path c c' path path' res again (serves-ample sid c (record s { path = path }) after told m serves)
-        (serves-ample sid c' (record s' { path = path' }) after' told' n serves') in
+    (serves-ample sid c' (record s' { path = path' }) after' told' n serves') in
     serves-same b b' sid c (record s { path = path }) (record s' { path = path' }) after after' told told' (one.1, alike.1, alike.2) serves
     (subst (λ (x : Result Command ScpiError). Serves sid x (record s' { path = path' }) after' told') (sym one.0) serves') next m n
 
@@ -463,16 +467,16 @@ either-so false P Q P' Q' p p' one other = other p p'
 expanded-same : {T : Type 0} (b b' : T) → ReadsOnce → (sid : Sid) → SameWay b b' (Expanded sid)
 expanded-same b b' reads sid u s s' after after' told told' alike p q next =
     let again : MatchBool (calls s.macros u) ((x : Result (List ℕ) ScpiError) × IsExpansion s.macros u x
-        × Unfolds sid x s' after' told') (Itself sid u s' after' told') =
-        subst (λ (t : Table). MatchBool (calls t u) ((x : Result (List ℕ) ScpiError) × IsExpansion t u x
-            × Unfolds sid x s' after' told') (Itself sid u s' after' told'))
-        (sym alike.1) q in
+    × Unfolds sid x s' after' told') (Itself sid u s' after' told') =
+    subst (λ (t : Table). MatchBool (calls t u) ((x : Result (List ℕ) ScpiError) × IsExpansion t u x
+    × Unfolds sid x s' after' told') (Itself sid u s' after' told'))
+    (sym alike.1) q in
     either-so (calls s.macros u)
     ((x : Result (List ℕ) ScpiError) × IsExpansion s.macros u x × Unfolds sid x s after told) (Itself sid u s after told)
     ((x : Result (List ℕ) ScpiError) × IsExpansion s.macros u x × Unfolds sid x s' after' told') (Itself sid u s' after' told') p again
     (λ does k k' m n.
     let one = expansion-same reads s.macros u k.0 k'.0 does k.1 k'.1 (unfolds-ample sid k.0 s after told m k.2)
-        (unfolds-ample sid k'.0 s' after' told' n k'.2) in
+    (unfolds-ample sid k'.0 s' after' told' n k'.2) in
     unfolds-same b b' reads sid k.0 s s' after after' told told' alike k.2
     (subst (λ (x : Result (List ℕ) ScpiError). Unfolds sid x s' after' told') (sym one) k'.2) next m n)
     (λ k k'. itself-same b b' reads sid u s s' after after' told told' alike k k' next)
@@ -489,11 +493,11 @@ talk-determined reads sid macros text t t' bytes bytes' kept kept' p q =
     let b = left bytes kept in
     let b' = left bytes' kept' in
     either-way (nat_lt longest (length text)) (Overruns sid t bytes × (kept ≡ macros)) (TalksUnits sid macros text t bytes kept) (Overruns sid t' bytes'
-        × (kept' ≡ macros)) (TalksUnits sid macros text t' bytes' kept') p q
+    × (kept' ≡ macros)) (TalksUnits sid macros text t' bytes' kept') p q
     (λ o o'. queues-same b b' sid InputBufferOverrun t t' [] [] o.0.0 o'.0.0 o.0.1 o'.0.1 (λ same.
-        nothing-left b b' (left-same bytes bytes' kept kept' (o.0.2 ∙ sym o'.0.2) (o.1 ∙ sym o'.1))))
+    nothing-left b b' (left-same bytes bytes' kept kept' (o.0.2 ∙ sym o'.0.2) (o.1 ∙ sym o'.1))))
     (λ k k'. talks-same b b' (Expanded sid) reads (expanded-same b b' reads sid) sid text k.units k'.units k.ending k'.ending (standing [] macros [] t)
-        (standing [] macros [] t')
+    (standing [] macros [] t')
     k.after k'.after (standing k.path kept k.answers []) (standing k'.path kept' k'.answers []) (refl, refl, refl) k.script k'.script k.talks k'.talks
     (λ same_after same. nothing-left b b' (left-same bytes bytes' kept kept'
     (k.writes ∙ ap (λ (x : After). written x k.answers) same_after ∙ ap (λ (x : List (List ℕ)). written k'.after x) same.2 ∙ sym k'.writes) same.1)))

@@ -44,7 +44,7 @@ with-panel old new work available =
 -- what is told of a piece, and answered
 pub carried : (old new : DeskSeen) (piece : WorkView) (ask : AskView) (failed : Bool) (answer : AnswerView) (brings : Option WorkView) → Tells piece ask
     → Step old.panel ask failed answer new.panel → brings ≡ brought answer → new.work ≡ old.work → new.available ≡ old.available
-        → IsCarried old piece brings new
+    → IsCarried old piece brings new
 carried old new piece ask failed answer brings tells step is work available = record {
   c = record { ask = ask; failed = failed; answer = answer; after = new.panel };
   carries = record { tells = tells; step = step };
@@ -75,7 +75,7 @@ pub keeps-on : {M : _} (start : DeskSeen) (brings : Option WorkView) (d new : De
 keeps-on {M} start brings d new w piece brings' by is k = λ more end keeps.
     let on : Keeps more (record d { panel = k.c.after }) (brought k.c.answer) end =
     subst (λ (x : Option WorkView). Keeps more (record d { panel = k.c.after }) x end) k.brings_is (subst (λ (x : DeskSeen).
-        Keeps more x brings' end) k.leaves keeps) in
+    Keeps more x brings' end) k.leaves keeps) in
     let all : Keeps (k.c ∷ more) d (Some (piece_seen piece)) end = (k.carries, on) in
     by (k.c ∷ more) end (subst (λ (x : Option WorkView). Keeps (k.c ∷ more) d x end) (sym (ap work_view is ∙ seen-some piece)) all)
 
@@ -102,12 +102,12 @@ pub weight-falls : {M : _} (d new : DeskSeen) (w : Option (Work M)) (piece : Wor
     → weight brings new.panel < weight (work_view w) d.panel
 weight-falls d new w piece brings is k =
     subst (λ (x : Option WorkView). weight brings new.panel < weight x d.panel) (sym (ap work_view is
-        ∙ seen-some piece)) (weight-less d new (piece_seen piece) brings k)
+    ∙ seen-some piece)) (weight-less d new (piece_seen piece) brings k)
 
 -- an ask
 pub passes-ask : (old mid new : DeskSeen) (ask : SessionAsk) (failed : Bool) (answer : SessionAnswer) (brings : Option WorkView)
     → Step old.panel (AskSession ask) failed (SaysSession answer brings) mid.panel → mid.work ≡ old.work → mid.available ≡ old.available → IsKept mid brings new
-        → CorePasses old (Asked ask answer) new
+    → CorePasses old (Asked ask answer) new
 passes-ask old mid new ask failed answer brings step work available kept = (
   kept.carried,
   record {
@@ -126,7 +126,7 @@ pub passes-wait : (old mid next new : DeskSeen) (piece : WorkView) (brings : Opt
 passes-wait old mid next new piece brings limit is k kept =
     let on : Keeps kept.carried (record mid { panel = k.c.after }) (brought k.c.answer) new =
     subst (λ (x : Option WorkView). Keeps kept.carried (record mid { panel = k.c.after }) x new) k.brings_is (subst (λ (x : DeskSeen).
-        Keeps kept.carried x brings new) k.leaves kept.keeps) in (
+    Keeps kept.carried x brings new) k.leaves kept.keeps) in (
       k.c ∷ kept.carried,
       (
         refl,

@@ -50,22 +50,28 @@ pub settle-again : {D : Type 0} (passes : D → Entry → D → Type 0) (d0 d1 d
     → turn < turns → asked ≡ ask → Led passes d0 d1 (SettlesBy sid turn ask)
     → passes d1 (Asked asked (Hold held)) d2 → passes d2 (Waited None (Again left)) d3 → Led passes d0 d3 (SettlesBy sid (turn + 1) ask)
 settle-again passes d0 d1 d2 d3 sid turn ask asked held left lt same led p q =
-    led-more passes d0 d1 d3 (SettlesBy sid turn ask) (SettlesBy sid (turn + 1) ask) (Asked asked (Hold held) ∷ Waited None (Again left) ∷ []) led (d2, p,
-        (d3, q, refl))
+    led-more passes d0 d1 d3 (SettlesBy sid turn ask) (SettlesBy sid (turn + 1) ask) (Asked asked (Hold held) ∷ Waited None (Again left) ∷ []) led (
+      d2,
+      p,
+      (d3, q, refl),
+    )
     (λ t rest so final rest' w. so final rest' (awaits-open sid turn ask (Asked asked (Hold held) ∷ Waited None (Again left) ∷ rest) final rest' lt (same, w)))
 
 pub settle-over : {D : Type 0} (passes : D → Entry → D
     → Type 0) (d0 d1 d2 d3 d4 : D) (sid : Sid) (turn : ℕ) (ask asked held : SessionAsk) (final : SessionAnswer) → turn < turns → asked ≡ ask
     → Led passes d0 d1 (SettlesBy sid turn ask)
     → passes d1 (Asked asked (Hold held)) d2 → passes d2 (Waited None Over) d3 → Led passes d3 d4 (λ t rest. Queues sid SettingsConflict t final rest)
-        → Led passes d0 d4 (λ t rest. Settles sid 0 ask t final rest)
+    → Led passes d0 d4 (λ t rest. Settles sid 0 ask t final rest)
 settle-over passes d0 d1 d2 d3 d4 sid turn ask asked held final lt same led p q last =
     let P : List Entry → List Entry → Type 0 = λ t mid. (rest : List Entry) → Queues sid SettingsConflict mid final rest → Settles sid 0 ask t final rest in
-    let held' : Led passes d0 d3 P = led-more passes d0 d1 d3 (SettlesBy sid turn ask) P (Asked asked (Hold held) ∷ Waited None Over ∷ []) led (d2, p,
-        (d3, q, refl))
+    let held' : Led passes d0 d3 P = led-more passes d0 d1 d3 (SettlesBy sid turn ask) P (Asked asked (Hold held) ∷ Waited None Over ∷ []) led (
+      d2,
+      p,
+      (d3, q, refl),
+    )
     (λ t mid so rest w. so final rest (awaits-open sid turn ask (Asked asked (Hold held) ∷ Waited None Over ∷ mid) final rest lt (same, w))) in
     led-then passes d0 d3 d4 P (λ t rest. Queues sid SettingsConflict t final rest) (λ t rest. Settles sid 0 ask t final rest) held' last (λ t u rest so w.
-        so rest w)
+    so rest w)
 
 pub settle-end : {D : Type 0} (passes : D → Entry → D → Type 0) (d0 d1 d2 : D) (sid : Sid) (turn : ℕ) (ask : SessionAsk) (final : SessionAnswer) → turn ≡ turns
     → Led passes d0 d1 (SettlesBy sid turn ask)
@@ -101,11 +107,11 @@ settle-told passes d0 d1 d2 sid turn ask asked final lt same differ led p =
 pub serve-unit : {D : Type 0} (passes : D → Entry → D → Type 0) (d0 d1 d2 : D) (sid : Sid) (command : Result Command ScpiError) (answered : Bool) (path : Nodes)
     (macros macros' : Table) (answers : List (List ℕ)) (answer : SessionAnswer) (after : After) (answers' : List (List ℕ)) → answered ≡ has_answers answers
     → Led passes d0 d1 (λ t rest. Begins sid answered command macros t (begun answer macros' rest))
-        → Led passes d1 d2 (λ t rest. Concludes sid answers answer t after answers' rest)
+    → Led passes d1 d2 (λ t rest. Concludes sid answers answer t after answers' rest)
     → Led passes d0 d2 (λ t rest. Serves sid command (standing path macros answers t) after (standing path macros' answers' rest))
 serve-unit passes d0 d1 d2 sid command answered path macros macros' answers answer after answers' told p q =
     led-then passes d0 d1 d2 (λ t rest. Begins sid answered command macros t (begun answer macros' rest)) (λ t rest.
-        Concludes sid answers answer t after answers' rest)
+    Concludes sid answers answer t after answers' rest)
     (λ t rest. Serves sid command (standing path macros answers t) after (standing path macros' answers' rest)) p q
     (λ t mid rest b k. (answer, mid, subst (λ (w : Bool). Begins sid w command macros t (begun answer macros' mid)) told b, k, refl))
 
@@ -122,7 +128,7 @@ scripts-more text left rest front u is so us ending s =
 abbrev pub TalksBy : Way → Sid → List UnitView → Standing → Standing → Type 0
 TalksBy way sid front s told =
     (us : List UnitView) (ending : Ending) (after : After) (s' : Standing) → Talks way sid us ending told after s'
-        → Talks way sid (front ++ us) ending s after s'
+    → Talks way sid (front ++ us) ending s after s'
 
 stops : (on : Standing → Type 0) (after : After) (told : Standing) → (after ≡ Goes → ⊥) → Proceeds on after told after told
 stops on Goes told differs = absurd (differs refl)
@@ -173,28 +179,34 @@ module _ {D : Type 0} (passes : D → Entry → D → Type 0) (way : Way) (sid :
 -- what goes from line to line is also this
 on-line-so : {D : Type 0} (passes : D → Entry → D → Type 0) (a b : Spot D) (P Q : Standing → Standing → Type 0) → OnLine passes a b P
     → ((answers answers' : List (List ℕ)) (t rest : List Entry) → P (stands_at a answers t) (stands_at b answers' rest)
-        → Q (stands_at a answers t) (stands_at b answers' rest)) → OnLine passes a b Q
+    → Q (stands_at a answers t) (stands_at b answers' rest)) → OnLine passes a b Q
 on-line-so passes a b P Q on so = λ answers written.
-    let s = on answers written in
-    (s.0, s.1, led-so passes a.desk b.desk (λ t rest. P (stands_at a answers t) (stands_at b s.0 rest)) (λ t rest.
-        Q (stands_at a answers t) (stands_at b s.0 rest)) s.2
-    (λ t rest k. so answers s.0 t rest k))
+    let s = on answers written in (
+      s.0,
+      s.1,
+      led-so passes a.desk b.desk (λ t rest. P (stands_at a answers t) (stands_at b s.0 rest)) (λ t rest.
+          Q (stands_at a answers t) (stands_at b s.0 rest)) s.2
+          (λ t rest k. so answers s.0 t rest k),
+    )
 
 -- a unit's command or refusal is served below the path that it leaves
 pub itself-served : {D : Type 0} (passes : D → Entry → D
     → Type 0) (a b : Spot D) (sid : Sid) (u : UnitView) (command : Result Command ScpiError) (after : After)
     → Resolves u a.path command b.path → OnLine passes (record a { path = b.path }) b (λ s s'. Serves sid command s after s')
-        → OnLine passes a b (λ s s'. Itself sid u s after s')
+    → OnLine passes a b (λ s s'. Itself sid u s after s')
 itself-served passes a b sid u command after r on = λ answers written.
-    let s = on answers written in
-    (s.0, s.1, led-so passes a.desk b.desk (λ t rest. Serves sid command (stands_at (record a { path = b.path }) answers t) after (stands_at b s.0 rest))
-    (λ t rest. Itself sid u (stands_at a answers t) after (stands_at b s.0 rest)) s.2 (λ t rest k. (command, b.path, r, k)))
+    let s = on answers written in (
+      s.0,
+      s.1,
+      led-so passes a.desk b.desk (λ t rest. Serves sid command (stands_at (record a { path = b.path }) answers t) after (stands_at b s.0 rest))
+          (λ t rest. Itself sid u (stands_at a answers t) after (stands_at b s.0 rest)) s.2 (λ t rest k. (command, b.path, r, k)),
+    )
 
 expands : (c : Bool) (sid : Sid) (u : UnitView) (s s' : Standing) (after : After) → calls s.macros u ≡ c
     → MatchBool c ((r : Result (List ℕ) ScpiError) × IsExpansion s.macros u r × Unfolds sid r s after s') (Itself sid u s after s') → Expanded sid u s after s'
 expands c sid u s s' after is m =
     subst (λ (x : Bool). MatchBool x ((r : Result (List ℕ) ScpiError) × IsExpansion s.macros u r
-        × Unfolds sid r s after s') (Itself sid u s after s')) (sym is) m
+    × Unfolds sid r s after s') (Itself sid u s after s')) (sym is) m
 
 -- a unit that calls no macro is itself
 pub expanded-itself : {D : Type 0} (passes : D → Entry → D → Type 0) (a b : Spot D) (sid : Sid) (u : UnitView) (after : After) → calls a.macros u ≡ false
@@ -213,10 +225,13 @@ pub expanded-units : {D : Type 0} (passes : D → Entry → D → Type 0) (a b :
     → calls a.macros u ≡ true
     → IsExpansion a.macros u (Ok text) → TalksLine (Itself sid) passes sid text a after b → OnLine passes a b (λ s s'. Expanded sid u s after s')
 expanded-units passes a b sid u text after is x talks = λ answers written.
-    let s = talks answers written in
-    (s.2, s.4, led-so passes a.desk b.desk (λ t rest. Talks (Itself sid) sid s.0 s.1 (stands_at a answers t) after (stands_at b s.2 rest))
-    (λ t rest. Expanded sid u (stands_at a answers t) after (stands_at b s.2 rest)) s.5
-    (λ t rest k. expands true sid u (stands_at a answers t) (stands_at b s.2 rest) after is (Ok text, x, (s.0, s.1, s.3, k))))
+    let s = talks answers written in (
+      s.2,
+      s.4,
+      led-so passes a.desk b.desk (λ t rest. Talks (Itself sid) sid s.0 s.1 (stands_at a answers t) after (stands_at b s.2 rest))
+          (λ t rest. Expanded sid u (stands_at a answers t) after (stands_at b s.2 rest)) s.5
+          (λ t rest k. expands true sid u (stands_at a answers t) (stands_at b s.2 rest) after is (Ok text, x, (s.0, s.1, s.3, k))),
+    )
 
 -- the fault of an expansion is queued
 pub expanded-fault : {D : Type 0} (passes : D → Entry → D → Type 0) (a b : Spot D) (sid : Sid) (u : UnitView) (e : ScpiError) (after : After)
@@ -230,9 +245,9 @@ expanded-fault passes a b sid u e after is x on =
 pub talked-units : {D : Type 0} (passes : D → Entry → D
     → Type 0) (old new : D) (sid : Sid) (macros macros' : Table) (message text bytes : List ℕ) (units : List UnitView)
     (ending : Ending) (after : After) (path : Nodes) (answers : List (List ℕ)) → text ≡ strip_last 10 message → length text ≤ longest
-        → IsScript text units ending
+    → IsScript text units ending
     → bytes ≡ written after answers
-        → Led passes old new (λ t rest. Talks (Expanded sid) sid units ending (standing [] macros [] t) after (standing path macros' answers rest))
+    → Led passes old new (λ t rest. Talks (Expanded sid) sid units ending (standing [] macros [] t) after (standing path macros' answers rest))
     → Talked passes old new sid macros message bytes macros'
 talked-units passes old new sid macros macros' message text bytes units ending after path answers is few script writes led =
     let short : nat_lt longest (length text) ≡ false = grind (arith, nat_tests) in
@@ -248,8 +263,8 @@ talked-units passes old new sid macros macros' message text bytes units ending a
       writes = writes;
     } in
     let all : TalksMessage sid macros text led.trace bytes macros' =
-        subst (λ (b : Bool). MatchBool b (Overruns sid led.trace bytes
-            × (macros' ≡ macros)) (TalksUnits sid macros text led.trace bytes macros')) (sym short) talk in
+    subst (λ (b : Bool). MatchBool b (Overruns sid led.trace bytes
+    × (macros' ≡ macros)) (TalksUnits sid macros text led.trace bytes macros')) (sym short) talk in
     record {
       trace = led.trace;
       leads = led.leads;
@@ -261,14 +276,14 @@ pub talked-overrun : {D : Type 0} (passes : D → Entry → D
     → Type 0) (old new : D) (sid : Sid) (macros macros' : Table) (message text bytes : List ℕ) (final : SessionAnswer) → text ≡ strip_last 10 message
     → longest < length text
     → bytes ≡ [] → macros' ≡ macros → Led passes old new (λ t rest. Queues sid InputBufferOverrun t final rest)
-        → Talked passes old new sid macros message bytes macros'
+    → Talked passes old new sid macros message bytes macros'
 talked-overrun passes old new sid macros macros' message text bytes final is much writes kept led =
     let long : nat_lt longest (length text) ≡ true = grind (arith, nat_tests) in
     let over : Overruns sid led.trace bytes =
-        (final, subst (λ (t : List Entry). Queues sid InputBufferOverrun t final []) (append-nil led.trace) (led.admits []), writes) in
+    (final, subst (λ (t : List Entry). Queues sid InputBufferOverrun t final []) (append-nil led.trace) (led.admits []), writes) in
     let all : TalksMessage sid macros text led.trace bytes macros' =
-        subst (λ (b : Bool). MatchBool b (Overruns sid led.trace bytes
-        × (macros' ≡ macros)) (TalksUnits sid macros text led.trace bytes macros')) (sym long) (over, kept) in
+    subst (λ (b : Bool). MatchBool b (Overruns sid led.trace bytes
+    × (macros' ≡ macros)) (TalksUnits sid macros text led.trace bytes macros')) (sym long) (over, kept) in
     record {
       trace = led.trace;
       leads = led.leads;

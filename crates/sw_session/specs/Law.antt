@@ -107,8 +107,8 @@ CoreTalkIsDetermined = (sid : Sid) (d e e' : DeskSeen) (macros kept kept' : Tabl
     (t : Talked CorePasses d e sid macros message bytes kept)
     (t' : Talked CorePasses d e' sid macros message bytes' kept') → AllAmple t.trace → AllAmple t'.trace
     → AllSmooth t.trace (carried_in t) → AllSmooth t'.trace (carried_in t')
-        → outcomes_of (carried_in t) ≡ outcomes_of (carried_in t') → (t.trace ≡ t'.trace) × (bytes ≡ bytes')
-        × (kept ≡ kept') × (e ≡ e')
+    → outcomes_of (carried_in t) ≡ outcomes_of (carried_in t') → (t.trace ≡ t'.trace) × (bytes ≡ bytes')
+    × (kept ≡ kept') × (e ≡ e')
 
 -- the calls of a rest that succeeds, and the pieces that were carried out in them
 abbrev pub waits_of : {old new : DeskSeen} → Rests old true new → List Entry

@@ -105,12 +105,21 @@ reads-head name l =
 pub reads-passes : (s : Setup) (k n : ℕ) → reads (passes s k n) ≡ n
 reads-passes s k zero = refl
 reads-passes s k (suc n) =
-    omega (arith, reads-append (pass_of s k) (passes s (suc k) n), reads-append (map Awaits (head_of Trigger s.trigger)) (visit (channel_at s.list k)),
-        reads-head Trigger s.trigger, reads-passes s (suc k) n)
+    omega (
+      arith,
+      reads-append (pass_of s k) (passes s (suc k) n),
+      reads-append (map Awaits (head_of Trigger s.trigger)) (visit (channel_at s.list k)),
+      reads-head Trigger s.trigger,
+      reads-passes s (suc k) n,
+    )
 
 pub reads-arm2_turn : (s : Setup) → reads (arm2_turn s) ≡ s.trigger.count
-reads-arm2_turn s = omega (arith, reads-append (map Awaits (head_of Arm2 s.arm2)) (passes s 0 s.trigger.count), reads-head Arm2 s.arm2,
-    reads-passes s 0 s.trigger.count)
+reads-arm2_turn s = omega (
+  arith,
+  reads-append (map Awaits (head_of Arm2 s.arm2)) (passes s 0 s.trigger.count),
+  reads-head Arm2 s.arm2,
+  reads-passes s 0 s.trigger.count,
+)
 
 pub reads-arm1_turn : (s : Setup) → reads (arm1_turn s) ≡ s.arm2.count * s.trigger.count
 reads-arm1_turn s =
@@ -189,7 +198,7 @@ module _ (s : Setup) (n : ℕ) (within : n < length (awaiting (agenda s))) where
       let some1 : 0 < length (in_arm1 s) = pos_factor n s.arm1.count (length (in_arm1 s)) (omega (arith, length-awaiting s listed)) in
       let lt1 : place1 < length (in_arm1 s) = mod_below n (length (in_arm1 s)) some1 in
       let some2 : 0 < length (in_arm2 s) =
-          pos_factor (place1 - length (head_of Arm1 s.arm1)) s.arm2.count (length (in_arm2 s)) (omega (arith, length-in_arm1 s)) in
+      pos_factor (place1 - length (head_of Arm1 s.arm1)) s.arm2.count (length (in_arm2 s)) (omega (arith, length-in_arm1 s)) in
       let lt2 : place2 < length (in_arm2 s) = mod_below (place1 - length (head_of Arm1 s.arm1)) (length (in_arm2 s)) some2 in
       at_arm2 h
       ∙ get-append_right (head_of Arm2 s.arm2) (repeated s.trigger.count (in_pass s)) place2 j (omega arith)

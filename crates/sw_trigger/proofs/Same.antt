@@ -36,7 +36,7 @@ all_three false b c h = cc
 pub layer_same : (r : Bool) (a b : Layer) → r ≡ not (eqb a.count b.count && (same_source a.source b.source && eqb a.delay_us b.delay_us)) → r ≡ false → a ≡ b
 layer_same r a b e f =
     let t = all_three (eqb a.count b.count) (same_source a.source b.source) (eqb a.delay_us b.delay_us) (not_other (eqb a.count b.count
-        && (same_source a.source b.source && eqb a.delay_us b.delay_us)) (sym e ∙ f)) in
+    && (same_source a.source b.source && eqb a.delay_us b.delay_us)) (sym e ∙ f)) in
     same_layer a b ((Decides-eqb a.count b.count).0 t.0, (source_decides a.source b.source).0 t.1, (Decides-eqb a.delay_us b.delay_us).0 t.2)
 
 abbrev same_channel : Channel → Channel → Bool
@@ -45,9 +45,11 @@ same_channel a b = eqb a.0 b.0 && eqb a.1 b.1
 pub channel_decides : (a b : Channel) → Decides (same_channel a b) (a ≡ b)
 channel_decides a b =
     Decides-like (same_channel a b) (λ (e : (a.0 ≡ b.0) × (a.1 ≡ b.1)). ap (λ (n : ℕ). let c : Channel = (n, a.1) in c) e.0
-        ∙ ap (λ (n : ℕ). let c : Channel = (b.0, n) in c) e.1)
-    (λ (e : a ≡ b). (ap (λ (c : Channel). c.0) e,
-        ap (λ (c : Channel). c.1) e)) (Decides-and (eqb a.0 b.0) (eqb a.1 b.1) (Decides-eqb a.0 b.0) (Decides-eqb a.1 b.1))
+    ∙ ap (λ (n : ℕ). let c : Channel = (b.0, n) in c) e.1)
+    (λ (e : a ≡ b). (
+      ap (λ (c : Channel). c.0) e,
+      ap (λ (c : Channel). c.1) e,
+    )) (Decides-and (eqb a.0 b.0) (eqb a.1 b.1) (Decides-eqb a.0 b.0) (Decides-eqb a.1 b.1))
 
 pub channels_decide : (xs ys : List Channel) (r : Bool) → r ≡ pointwise same_channel xs ys → Decides r (xs ≡ ys)
 channels_decide = slice_eq-Decides channel_decides

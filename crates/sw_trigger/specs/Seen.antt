@@ -3,8 +3,14 @@ use Rattle.sw_trigger.specs.Settings.{Setup, IsInRange}
 use Rattle.sw_trigger.specs.declared.settings.Settings.TheInside.{Inside}
 
 abbrev pub setup_of : Inside → Setup
-setup_of s = record { arm1 = s.arm1; arm2 = s.arm2; trigger = s.trigger; list = s.list.items; meter = s.meter;
-    points = s.points }
+setup_of s = record {
+  arm1 = s.arm1;
+  arm2 = s.arm2;
+  trigger = s.trigger;
+  list = s.list.items;
+  meter = s.meter;
+  points = s.points;
+}
 
 abbrev pub HoldsRange : Inside → Type 0
 HoldsRange s = IsInRange (setup_of s)

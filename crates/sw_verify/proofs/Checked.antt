@@ -81,7 +81,7 @@ module _ (layout : Layout) (closed : List Channel) (c : Channel) where
       let k = w.2 in
       let here = any_among (in_group layout (group_of layout c)) closed w.0 w.1 (eq-eqb (group_of layout w.0) (group_of layout c) (sym k.same)) in
       both_ways in_its_group (not-true in_its_group p.1) (and_from (not (eqb (group_of layout c) 0)) (list_any (in_group layout (group_of layout c)) closed)
-          (not_from_false (eqb (group_of layout c) 0) (ne_eqb (group_of layout c) 0 k.grouped)) here))
+      (not_from_false (eqb (group_of layout c) 0) (ne_eqb (group_of layout c) 0 k.grouped)) here))
       b
 
   pub not_free_blocked : is_free layout closed c ≡ false → IsBlocked layout (is_among closed) c
@@ -96,8 +96,11 @@ module _ (layout : Layout) (closed : List Channel) (c : Channel) where
       inr (
         r.0,
         r.1,
-        record { other = λ d. both_ways (is_among closed c) o (subst (λ (y : Channel). is_among closed y ≡ true) (sym d) r.1);
-            grouped = eqb-false (group_of layout c) 0 (not-true (eqb (group_of layout c) 0) p.0); same = sym same },
+        record {
+          other = λ d. both_ways (is_among closed c) o (subst (λ (y : Channel). is_among closed y ≡ true) (sym d) r.1);
+          grouped = eqb-false (group_of layout c) 0 (not-true (eqb (group_of layout c) 0) p.0);
+          same = sym same;
+        },
       ))
       (and_cases (not (is_among closed c)) (not in_its_group) f))
       (cases_Bool (is_among closed c))

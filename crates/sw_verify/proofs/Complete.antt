@@ -98,7 +98,7 @@ module _ (layout : Layout) where
   steps_tree (Then x rest) pc tail b m ss v h r =
       let a = right_front b m (x ∷ []) (meaning rest) h in
       let r' = subst (λ (c : Channels). StepsRight layout tail c (effect (effect m (x ∷ [])) (meaning rest)) ss) (effect-append b (x ∷ []) (meaning rest))
-            (subst (λ (c : Channels). StepsRight layout tail (effect b (x ∷ meaning rest)) c ss) (effect-append m (x ∷ []) (meaning rest)) r) in
+      (subst (λ (c : Channels). StepsRight layout tail (effect b (x ∷ meaning rest)) c ss) (effect-append m (x ∷ []) (meaning rest)) r) in
       item_steps x (flatten rest (pc + 1) ++ tail) b m ss a.0 (steps_tree rest (pc + 1) tail (effect b (x ∷ [])) (effect m (x ∷ [])) ss v a.1 r')
   steps_tree (Times k n body rest) pc tail b m ss v h r =
       let xs = meaning body in
@@ -108,19 +108,21 @@ module _ (layout : Layout) where
       let eb : effect b (repeated n xs) ≡ b = effect-turns b xs n v.2 in
       let em : effect m (repeated n xs) ≡ m = effect-turns m xs n v.3 in
       let rest_right : AllRight layout b m ys =
-            subst (λ (c : Channels). AllRight layout c m ys) eb (subst (λ (c : Channels). AllRight layout (effect b (repeated n xs)) c ys) em a.1) in
+      subst (λ (c : Channels). AllRight layout c m ys) eb (subst (λ (c : Channels). AllRight layout (effect b (repeated n xs)) c ys) em a.1) in
       let all_b : effect b (repeated n xs ++ ys) ≡ effect b ys = effect-append b (repeated n xs) ys ∙ ap (λ (c : Channels). effect c ys) eb in
       let all_m : effect m (repeated n xs ++ ys) ≡ effect m ys = effect-append m (repeated n xs) ys ∙ ap (λ (c : Channels). effect c ys) em in
       let tail_right : StepsRight layout tail (effect b ys) (effect m ys) ss =
-            subst (λ (c : Channels). StepsRight layout tail c (effect m ys) ss) all_b (subst (λ (c : Channels).
-                StepsRight layout tail (effect b (repeated n xs ++ ys)) c ss) all_m r) in
+      subst (λ (c : Channels). StepsRight layout tail c (effect m ys) ss) all_b (subst (λ (c : Channels).
+      StepsRight layout tail (effect b (repeated n xs ++ ys)) c ss) all_m r) in
       let rest_steps = steps_tree rest (pc + 2 + size body) tail b m ss v.4 rest_right tail_right in
       let after : StepsRight layout (more ++ tail) (effect b xs) (effect m xs) ss =
-            subst (λ (c : Channels). StepsRight layout (more ++ tail) c (effect m xs) ss) (sym v.2) (subst (λ (c : Channels). StepsRight layout (more
-                ++ tail) b c ss) (sym v.3) rest_steps) in
+      subst (λ (c : Channels). StepsRight layout (more ++ tail) c (effect m xs) ss) (sym v.2) (subst (λ (c : Channels). StepsRight layout (more
+      ++ tail) b c ss) (sym v.3) rest_steps) in
       let body_steps = steps_tree body (pc + 1) (step.Loop k (pc + 1) ∷ (more ++ tail)) b m ((b, m) ∷ ss) v.1 (first_turn b m xs n v.0 a.0) (v.2, v.3, after) in
-      subst (λ (l : List Step). StepsRight layout l b m ((b,
-          m) ∷ ss)) (sym (append_assoc (flatten body (pc + 1)) (step.Loop k (pc + 1) ∷ more) tail)) body_steps
+      subst (λ (l : List Step). StepsRight layout l b m ((
+        b,
+        m,
+      ) ∷ ss)) (sym (append_assoc (flatten body (pc + 1)) (step.Loop k (pc + 1) ∷ more) tail)) body_steps
 
   -- items in a row have no loop
   level-line : (b m : Channels) (xs : List Item) → IsLevel b m (line xs Nil)
@@ -168,20 +170,26 @@ module _ (layout : Layout) (b : Channels) (s : Setup) (range : IsInRange s) (can
       let body2 = line (map Awaits heads2) (passes_tree s) in
       let body1 = line (map Awaits heads1) (Times 1 s.arm2.count body2 Nil) in
       let m2 : meaning body2 ≡ arm2_turn s = meaning-line (map Awaits heads2) (passes_tree s)
-          ∙ ap (λ (l : List Item). map Awaits heads2 ++ l) (meaning-passes s) in
+      ∙ ap (λ (l : List Item). map Awaits heads2 ++ l) (meaning-passes s) in
       let m1 : meaning body1 ≡ arm1_turn s =
       meaning-line (map Awaits heads1) (Times 1 s.arm2.count body2 Nil)
       ∙ ap (λ (l : List Item). map Awaits heads1 ++ l) (append-nil (repeated s.arm2.count (meaning body2)) ∙ ap (repeated s.arm2.count) m2) in
       let b2 : effect b (meaning body2) ≡ b = ap (effect b) m2 ∙ (round-arm2_turn layout b s).keeps (λ j h g. can j (omega arith)) in
       let n2 : effect none (meaning body2) ≡ none = ap (effect none) m2 ∙ (round-arm2_turn layout none s).keeps (λ j h g. free j (omega arith)) in
       let b1 : effect b (meaning body1) ≡ b = ap (effect b) m1 ∙ (round-arm1_turn layout b s).keeps (λ u j h g. can j (omega arith)) in
-      let n1 : effect none (meaning body1) ≡ none = ap (effect none) m1 ∙ (round-arm1_turn layout none s).keeps (λ u j h g. free j (omega arith)) in
-      (range.arm1.count.0,
-      level-awaits layout b none heads1 (Times 1 s.arm2.count body2 Nil) (range.arm2.count.0, level-awaits layout b none heads2 (passes_tree s) level-passes,
-          b2, n2, tt),
-      b1,
-      n1,
-      tt)
+      let n1 : effect none (meaning body1) ≡ none = ap (effect none) m1 ∙ (round-arm1_turn layout none s).keeps (λ u j h g. free j (omega arith)) in (
+        range.arm1.count.0,
+        level-awaits layout b none heads1 (Times 1 s.arm2.count body2 Nil) (
+          range.arm2.count.0,
+          level-awaits layout b none heads2 (passes_tree s) level-passes,
+          b2,
+          n2,
+          tt,
+        ),
+        b1,
+        n1,
+        tt,
+      )
 
 -- the code of settings whose agenda is sound has no fault, and each of its steps is right
 pub compiled_nested : (s : Setup) → IsInRange s → fault_in (compiled s).steps 0 [] ≡ None

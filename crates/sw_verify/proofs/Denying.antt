@@ -30,13 +30,13 @@ only_memory layout b room code r denied p =
     let o = planned_in_order layout b room code p in
     ⊎_elim (λ (h : fault_in code.steps 0 [] ≡ Some r). let e : Some r ≡ None = sym h ∙ o.nested in absurd (cc e))
     (λ rest. ⊎_elim (λ (h : (fault_in code.steps 0 [] ≡ None) × StopsBy layout r code.steps b none []).
-        absurd (right_not_stopped layout r code.steps b none [] o.right h.1))
+    absurd (right_not_stopped layout r code.steps b none [] o.right h.1))
     (λ rest. ⊎_elim (λ (h : IsInOrder layout b code × (has_meter layout code.meter ≡ false) × (r ≡ NoMeter)).
     absurd (both_ways (has_meter layout code.meter) h.1 (ap (λ (c : Program). has_meter layout c.meter) p.is_compiled ∙ p.measured)))
     (λ rest. ⊎_elim (λ (h : IsInOrder layout b code × (has_meter layout code.meter ≡ true) × Overflows room code × (r ≡ TooManyReadings)).
     let w = h.2 in
     let u : Unfolds code.steps (agenda p.settings) =
-        subst (λ (c : Program). Unfolds c.steps (agenda p.settings)) (sym p.is_compiled) (compiled_unfolds p.settings p.listed p.range) in
+    subst (λ (c : Program). Unfolds c.steps (agenda p.settings)) (sym p.is_compiled) (compiled_unfolds p.settings p.listed p.range) in
     let same : w.0 ≡ agenda p.settings = unfolds_once code.steps w.0 (agenda p.settings) w.1 u in
     let fits = p.sound.fits in
     let most : reads w.0 ≤ room = subst (λ (l : List Item). reads l ≤ room) (sym same) fits in

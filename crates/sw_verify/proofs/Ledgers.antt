@@ -94,9 +94,9 @@ module _ (start b m : Channels) (row : List Bool) (t : Tells start b m row) (c :
         ⊎_elim (λ (e : j ≡ place c).
         subst (λ (k : ℕ). slice_index_or (slice_set row (place c) true) k false ≡ (same_channel c (k / 100, k % 100) || m (k / 100, k % 100))) (sym e)
         (get_or-set_same row (place c) true false (let s : length row ≡ 900 = t.size in omega (arith, s, (placed c i).0))
-            ∙ sym (or_true (same_channel c (place c / 100, place c % 100)) (m (place c / 100, place c % 100)) self_place)))
+        ∙ sym (or_true (same_channel c (place c / 100, place c % 100)) (m (place c / 100, place c % 100)) self_place)))
         (λ (n : j ≡ place c → ⊥). get_or-set_other row (place c) j true false n ∙ t.flags j h
-            ∙ sym (or_false (same_channel c (j / 100, j % 100)) (m (j / 100, j % 100)) (other_place c j n)))
+        ∙ sym (or_false (same_channel c (j / 100, j % 100)) (m (j / 100, j % 100)) (other_place c j n)))
         (cases_eq j (place c));
   }
 
@@ -113,9 +113,9 @@ module _ (start b m : Channels) (row : List Bool) (t : Tells start b m row) (c :
         ⊎_elim (λ (e : j ≡ place c).
         subst (λ (k : ℕ). slice_index_or (slice_set row (place c) false) k false ≡ (not (same_channel c (k / 100, k % 100)) && m (k / 100, k % 100))) (sym e)
         (get_or-set_same row (place c) false false (let s : length row ≡ 900 = t.size in omega (arith, s, (placed c i).0))
-            ∙ sym (and_not_true (same_channel c (place c / 100, place c % 100)) (m (place c / 100, place c % 100)) self_place)))
+        ∙ sym (and_not_true (same_channel c (place c / 100, place c % 100)) (m (place c / 100, place c % 100)) self_place)))
         (λ (n : j ≡ place c → ⊥). get_or-set_other row (place c) j false false n ∙ t.flags j h
-            ∙ sym (and_not_false (same_channel c (j / 100, j % 100)) (m (j / 100, j % 100)) (other_place c j n)))
+        ∙ sym (and_not_false (same_channel c (j / 100, j % 100)) (m (j / 100, j % 100)) (other_place c j n)))
         (cases_eq j (place c));
   }
 
@@ -128,11 +128,11 @@ module _ (layout : Layout) (b : Channels) (row : List Bool) (t : GroupsTell layo
     size = length-set row (group_of layout c) true ∙ t.size;
     set = λ x h some below.
         ⊎_elim (λ (e : group_of layout x ≡ group_of layout c).
-            subst (λ (g : ℕ). slice_index_or (slice_set row (group_of layout c) true) g false
-            ≡ true) (sym e) (get_or-set_same row (group_of layout c) true false (let s : length row ≡ 256 = t.size in omega (arith, s, small))))
+        subst (λ (g : ℕ). slice_index_or (slice_set row (group_of layout c) true) g false
+        ≡ true) (sym e) (get_or-set_same row (group_of layout c) true false (let s : length row ≡ 256 = t.size in omega (arith, s, small))))
         (λ (n : group_of layout x ≡ group_of layout c → ⊥). get_or-set_other row (group_of layout c) (group_of layout x) true false n
         ∙ ⊎_elim (λ (e : same_channel c x ≡ true). absurd (n (ap (group_of layout) (sym (same_channel_is c x e))))) (λ (e : b x ≡ true).
-            t.set x e some below) (or_cases (same_channel c x) (b x) h))
+        t.set x e some below) (or_cases (same_channel c x) (b x) h))
         (cases_eq (group_of layout x) (group_of layout c));
     found = λ g some below h.
         ⊎_elim (λ (e : g ≡ group_of layout c). (c, or_left (same_channel c c) (b c) (same_channel_self c), sym e))
@@ -156,14 +156,14 @@ module _ (layout : Layout) (b : Channels) (row : List Bool) (t : GroupsTell layo
     found = λ g some below h.
         ⊎_elim (λ (e : g ≡ group_of layout c).
         let off : slice_index_or (slice_set row (group_of layout c) false) (group_of layout c) false ≡ false =
-            get_or-set_same row (group_of layout c) false false (let s : length row ≡ 256 = t.size in omega (arith, s, small)) in
+        get_or-set_same row (group_of layout c) false false (let s : length row ≡ 256 = t.size in omega (arith, s, small)) in
         let on : slice_index_or (slice_set row (group_of layout c) false) (group_of layout c) false ≡ true =
-            subst (λ (k : ℕ). slice_index_or (slice_set row (group_of layout c) false) k false ≡ true) e h in
+        subst (λ (k : ℕ). slice_index_or (slice_set row (group_of layout c) false) k false ≡ true) e h in
         absurd (both_ways (slice_index_or (slice_set row (group_of layout c) false) (group_of layout c) false) off on))
         (λ (n : g ≡ group_of layout c → ⊥).
         let r = t.found g some below (sym (get_or-set_other row (group_of layout c) g false false n) ∙ h) in
         let apart' : same_channel c r.0 ≡ false =
-            false_from_ne_true (same_channel c r.0) (λ d. n (sym r.2 ∙ ap (group_of layout) (sym (same_channel_is c r.0 d)))) in
+        false_from_ne_true (same_channel c r.0) (λ d. n (sym r.2 ∙ ap (group_of layout) (sym (same_channel_is c r.0 d)))) in
         (r.0, and_not_false (same_channel c r.0) (b r.0) apart' ∙ r.1, r.2))
         (cases_eq g (group_of layout c));
   }
@@ -190,16 +190,16 @@ pub row_tells_one : (start b b' m m' : Channels) (row row' : List Bool) → Tell
 row_tells_one start b b' m m' row row' t t' e =
     let n : m ≡ m' = fun_ext (λ x. same_bools (m x) (m' x)
     (λ h. let i = t.range x h in sym (tells_at start b' m' row' t' x i) ∙ ap (λ (r : List Bool). slice_index_or r (place x) false) (sym e)
-        ∙ tells_at start b m row t x i ∙ h)
+    ∙ tells_at start b m row t x i ∙ h)
     (λ h. let i = t'.range x h in sym (tells_at start b m row t x i) ∙ ap (λ (r : List Bool). slice_index_or r (place x) false) e
-        ∙ tells_at start b' m' row' t' x i ∙ h)) in
+    ∙ tells_at start b' m' row' t' x i ∙ h)) in
     (fun_ext (λ x. (t.split x).0 ∙ ap (λ (k : Channels). start x || k x) n ∙ sym (t'.split x).0), n)
 
 pub one_row : (start b b' m m' : Channels) (row row' : List Bool) → Tells start b m row → Tells start b' m' row' → m ≡ m' → row ≡ row'
 one_row start b b' m m' row row' t t' e =
     ext_get_or false row row' (t.size ∙ sym t'.size)
     (λ j h. let below : j < 900 = let s : length row ≡ 900 = t.size in omega arith in t.flags j below ∙ ap (λ (k : Channels). k (j / 100, j % 100)) e
-        ∙ sym (t'.flags j below))
+    ∙ sym (t'.flags j below))
 
 module _ (layout : Layout) (start b m : Channels) (l : Ledger) (s : Shows layout start b m l) (c : Channel) (i : IsChannel c)
     (below : group_of layout c < 256) where
@@ -224,7 +224,7 @@ module _ (layout : Layout) (start b m : Channels) (l : Ledger) (s : Shows layout
   pub free_can : is_present layout c ≡ true → is_taken l (place c) (group_of layout c) ≡ false → CanClose layout b c
   free_can there free =
       let p = or_both (slice_index_or l.found (place c) false) (slice_index_or l.mine (place c) false) (not (eqb (group_of layout c) 0)
-          && slice_index_or l.groups (group_of layout c) false) free in
+      && slice_index_or l.groups (group_of layout c) false) free in
       record {
         present = there;
         was_open = closed_is ∙ p.0;
@@ -232,11 +232,11 @@ module _ (layout : Layout) (start b m : Channels) (l : Ledger) (s : Shows layout
             let some : 0 < group_of layout c = let g = k.grouped in grind arith in
             let on : slice_index_or l.groups (group_of layout c) false ≡ true =
             subst (λ (g : ℕ). slice_index_or l.groups g false
-                ≡ true) (sym k.same) (s.groups.set x h (subst (λ (g : ℕ). 0 < g) k.same some) (subst (λ (g : ℕ). g < 256) k.same below)) in
+            ≡ true) (sym k.same) (s.groups.set x h (subst (λ (g : ℕ). 0 < g) k.same some) (subst (λ (g : ℕ). g < 256) k.same below)) in
             let named : not (eqb (group_of layout c) 0) ≡ true = grind (arith, nat_tests) in
             both_ways (not (eqb (group_of layout c) 0)
-                && slice_index_or l.groups (group_of layout c) false) p.1
-                (and_both (not (eqb (group_of layout c) 0)) (slice_index_or l.groups (group_of layout c) false) named on);
+            && slice_index_or l.groups (group_of layout c) false) p.1
+            (and_both (not (eqb (group_of layout c) 0)) (slice_index_or l.groups (group_of layout c) false) named on);
       }
 
   pub taken_blocked : is_taken l (place c) (group_of layout c) ≡ true → IsBlocked layout b c
@@ -249,24 +249,40 @@ module _ (layout : Layout) (start b m : Channels) (l : Ledger) (s : Shows layout
       let r = s.groups.found (group_of layout c) some below p.1 in
       ⊎_elim (λ (e : same_channel c r.0 ≡ true). inl (ap b (same_channel_is c r.0 e) ∙ r.1))
       (λ (e : same_channel c r.0 ≡ false).
-      inr (r.0, r.1, record { other = λ d. both_ways (same_channel c r.0) e (ap (same_channel c) (sym d) ∙ same_channel_self c); grouped = grouped;
-          same = sym r.2 }))
+      inr (
+        r.0,
+        r.1,
+        record {
+          other = λ d. both_ways (same_channel c r.0) e (ap (same_channel c) (sym d) ∙ same_channel_self c);
+          grouped = grouped;
+          same = sym r.2;
+        },
+      ))
       (cases_Bool' (same_channel c r.0)))
       (or_either (slice_index_or l.found (place c) false) (slice_index_or l.mine (place c) false) (not (eqb (group_of layout c) 0)
-          && slice_index_or l.groups (group_of layout c) false) taken)
+      && slice_index_or l.groups (group_of layout c) false) taken)
     where
       cases_Bool' : (v : Bool) → (v ≡ true) ⊎ (v ≡ false)
       cases_Bool' true = inl refl
       cases_Bool' false = inr refl
 
   pub shows_with : CanClose layout b c → (at g : ℕ) → at ≡ place c → g ≡ group_of layout c
-      → Shows layout start (with_channel c b) (with_channel c m) (record { found = l.found; mine = slice_set l.mine at true;
-      groups = slice_set l.groups g true })
+      → Shows layout start (with_channel c b) (with_channel c m) (record {
+        found = l.found;
+        mine = slice_set l.mine at true;
+        groups = slice_set l.groups g true;
+      })
   shows_with can at g e f =
-      subst (λ (a : ℕ). Shows layout start (with_channel c b) (with_channel c m) (record { found = l.found; mine = slice_set l.mine a true;
-          groups = slice_set l.groups g true })) (sym e)
-      (subst (λ (a : ℕ). Shows layout start (with_channel c b) (with_channel c m) (record { found = l.found; mine = slice_set l.mine (place c) true;
-          groups = slice_set l.groups a true })) (sym f)
+      subst (λ (a : ℕ). Shows layout start (with_channel c b) (with_channel c m) (record {
+        found = l.found;
+        mine = slice_set l.mine a true;
+        groups = slice_set l.groups g true;
+      })) (sym e)
+      (subst (λ (a : ℕ). Shows layout start (with_channel c b) (with_channel c m) (record {
+        found = l.found;
+        mine = slice_set l.mine (place c) true;
+        groups = slice_set l.groups a true;
+      })) (sym f)
       (record {
         mine = tells_with start b m l.mine s.mine c i can.was_open;
         found_size = s.found_size;
@@ -277,7 +293,7 @@ module _ (layout : Layout) (start b m : Channels) (l : Ledger) (s : Shows layout
             let cx = same_channel_is c x d in
             let u = subst (λ (z : Channel). IsClash layout z y) (sym cx) w in
             ⊎_elim (λ (d' : same_channel c y ≡ true). u.other (same_channel_is c y d')) (λ (o : b y ≡ true).
-                can.apart y o u) (or_cases (same_channel c y) (b y) k))
+            can.apart y o u) (or_cases (same_channel c y) (b y) k))
             (λ (o : m x ≡ true).
             ⊎_elim (λ (d' : same_channel c y ≡ true).
             let u = clash_back layout x c (subst (λ (z : Channel). IsClash layout x z) (sym (same_channel_is c y d')) w) in
@@ -293,10 +309,16 @@ module _ (layout : Layout) (start b m : Channels) (l : Ledger) (s : Shows layout
   pub shows_without : m c ≡ true → (at g : ℕ) → at ≡ place c → g ≡ group_of layout c
       → Shows layout start (without c b) (without c m) (record { found = l.found; mine = slice_set l.mine at false; groups = slice_set l.groups g false })
   shows_without own at g e f =
-      subst (λ (a : ℕ). Shows layout start (without c b) (without c m) (record { found = l.found; mine = slice_set l.mine a false;
-          groups = slice_set l.groups g false })) (sym e)
-      (subst (λ (a : ℕ). Shows layout start (without c b) (without c m) (record { found = l.found; mine = slice_set l.mine (place c) false;
-          groups = slice_set l.groups a false })) (sym f)
+      subst (λ (a : ℕ). Shows layout start (without c b) (without c m) (record {
+        found = l.found;
+        mine = slice_set l.mine a false;
+        groups = slice_set l.groups g false;
+      })) (sym e)
+      (subst (λ (a : ℕ). Shows layout start (without c b) (without c m) (record {
+        found = l.found;
+        mine = slice_set l.mine (place c) false;
+        groups = slice_set l.groups a false;
+      })) (sym f)
       (record {
         mine = tells_without start b m l.mine s.mine c i own;
         found_size = s.found_size;

@@ -47,12 +47,26 @@ module _ (layout : Layout) (closed : List Channel) (steps : List Step) (i : ℕ)
   stops_by o e r h = p.stops r (subst (λ (l : List Step). StopsBy layout r l p.b p.m p.ss) (sym e) h)
 
   pub after_wait : (name : LayerName) → drop i steps ≡ step.Wait name ∷ drop (i + 1) steps → Progress layout closed steps (i + 1) ledger rows
-  after_wait name e = record { b = p.b; m = p.m; ss = p.ss; shows = p.shows; saved = p.saved; right = right_by (step.Wait name) e;
-      stops = stops_by (step.Wait name) e }
+  after_wait name e = record {
+    b = p.b;
+    m = p.m;
+    ss = p.ss;
+    shows = p.shows;
+    saved = p.saved;
+    right = right_by (step.Wait name) e;
+    stops = stops_by (step.Wait name) e;
+  }
 
   pub after_pause : (micros : ℕ) → drop i steps ≡ step.Pause micros ∷ drop (i + 1) steps → Progress layout closed steps (i + 1) ledger rows
-  after_pause micros e = record { b = p.b; m = p.m; ss = p.ss; shows = p.shows; saved = p.saved; right = right_by (step.Pause micros) e;
-      stops = stops_by (step.Pause micros) e }
+  after_pause micros e = record {
+    b = p.b;
+    m = p.m;
+    ss = p.ss;
+    shows = p.shows;
+    saved = p.saved;
+    right = right_by (step.Pause micros) e;
+    stops = stops_by (step.Pause micros) e;
+  }
 
   pub after_read : drop i steps ≡ step.Read ∷ drop (i + 1) steps → Progress layout closed steps (i + 1) ledger rows
   after_read e = record { b = p.b; m = p.m; ss = p.ss; shows = p.shows; saved = p.saved; right = right_by step.Read e; stops = stops_by step.Read e }
@@ -74,8 +88,15 @@ module _ (layout : Layout) (closed : List Channel) (steps : List Step) (i : ℕ)
       → Progress layout closed steps (i + 1) after rows
   after_close c after e closes =
       let w = closes (is_among closed) p.b p.m p.shows in
-      record { b = with_channel c p.b; m = with_channel c p.m; ss = p.ss; shows = w.1; saved = p.saved; right = λ h. right_by (step.Close c) e (w.0, h);
-          stops = λ r h. stops_by (step.Close c) e r (inr (w.0, h)) }
+      record {
+        b = with_channel c p.b;
+        m = with_channel c p.m;
+        ss = p.ss;
+        shows = w.1;
+        saved = p.saved;
+        right = λ h. right_by (step.Close c) e (w.0, h);
+        stops = λ r h. stops_by (step.Close c) e r (inr (w.0, h));
+      }
 
   pub close_stops : (c : Channel) (r : Refusal) → drop i steps ≡ step.Close c ∷ drop (i + 1) steps
       → ((start b m : Channels) → Shows layout start b m ledger → IsBarred layout b c r) → StopsBy layout r steps (is_among closed) none []
@@ -86,8 +107,15 @@ module _ (layout : Layout) (closed : List Channel) (steps : List Step) (i : ℕ)
       → Progress layout closed steps (i + 1) after rows
   after_open c after e opens =
       let w = opens (is_among closed) p.b p.m p.shows in
-      record { b = without c p.b; m = without c p.m; ss = p.ss; shows = w.1; saved = p.saved; right = λ h. right_by (step.Open c) e (w.0, h);
-          stops = λ r h. stops_by (step.Open c) e r (inr (w.0, h)) }
+      record {
+        b = without c p.b;
+        m = without c p.m;
+        ss = p.ss;
+        shows = w.1;
+        saved = p.saved;
+        right = λ h. right_by (step.Open c) e (w.0, h);
+        stops = λ r h. stops_by (step.Open c) e r (inr (w.0, h));
+      }
 
   pub open_stops : (c : Channel) (r : Refusal) → drop i steps ≡ step.Open c ∷ drop (i + 1) steps → (r ≡ NotClosed)
       × ((start b m : Channels) → Shows layout start b m ledger → m c ≡ false) → StopsBy layout r steps (is_among closed) none []
@@ -125,13 +153,16 @@ module _ (layout : Layout) (closed : List Channel) (steps : List Step) (i : ℕ)
   pub halt_right : drop i steps ≡ step.Halt ∷ drop (i + 1) steps → ledger.mine ≡ replicate 900 false → StepsRight layout steps (is_among closed) none []
   halt_right e clear =
       right_by step.Halt e (row_tells_one (is_among closed) p.b (is_among closed) p.m none ledger.mine (replicate 900 false) p.shows.mine
-          (tells_none (is_among closed)) clear).1
+      (tells_none (is_among closed)) clear).1
 
   pub halt_stops : drop i steps ≡ step.Halt ∷ drop (i + 1) steps → (ledger.mine ≡ replicate 900 false → ⊥)
       → StopsBy layout LeftClosed steps (is_among closed) none []
   halt_stops e left =
-      stops_by step.Halt e LeftClosed (λ w.
-          left (one_row (is_among closed) p.b (is_among closed) p.m none ledger.mine (replicate 900 false) p.shows.mine (tells_none (is_among closed)) w), refl)
+      stops_by step.Halt e LeftClosed (
+        λ w.
+            left (one_row (is_among closed) p.b (is_among closed) p.m none ledger.mine (replicate 900 false) p.shows.mine (tells_none (is_among closed)) w),
+        refl,
+      )
 
   pub end_right : i ≡ length steps → StepsRight layout steps (is_among closed) none []
   end_right e = p.right (subst (λ (l : List Step). StepsRight layout l p.b p.m p.ss) (sym none_left) tt) where
@@ -157,7 +188,7 @@ right_not_stopped layout r (step.Pause micros ∷ steps) b m ss h s = right_not_
 right_not_stopped layout r (step.Close c ∷ steps) b m ss h s =
     ⊎_elim (λ (x : IsBarred layout b c r). barred_not layout b c r h.0 x)
     (λ (x : CanClose layout b c × StopsBy layout r steps (with_channel c b) (with_channel c m) ss).
-        right_not_stopped layout r steps (with_channel c b) (with_channel c m) ss h.1 x.1) s
+    right_not_stopped layout r steps (with_channel c b) (with_channel c m) ss h.1 x.1) s
 right_not_stopped layout r (step.Read ∷ steps) b m ss h s = right_not_stopped layout r steps b m ss h s
 right_not_stopped layout r (step.Open c ∷ steps) b m ss h s =
     ⊎_elim (λ (x : (m c ≡ false) × (r ≡ NotClosed)). both_ways (m c) x.0 h.0)

@@ -70,21 +70,37 @@ moments_visit b c h (suc (suc (suc (suc i)))) = same_is_near b (without c (with_
 
 module _ (layout : Layout) (b : Channels) where
   pub round-none : IsRound layout b (Unit {0}) []
-  round-none = record { needs = λ rest h. (tt, h); may = λ rest p h. h; keeps = λ p. refl;
-      moments = λ p i. same_is_near b (effect b (take i [])) (moments_awaits b [] i) }
+  round-none = record {
+    needs = λ rest h. (tt, h);
+    may = λ rest p h. h;
+    keeps = λ p. refl;
+    moments = λ p i. same_is_near b (effect b (take i [])) (moments_awaits b [] i);
+  }
 
   pub round-awaits : (ws : List Awaited) → IsRound layout b (Unit {0}) (map Awaits ws)
   round-awaits [] = round-none
-  round-awaits (w ∷ ws) = let r = round-awaits ws in record { needs = λ rest h. r.needs rest h; may = λ rest p h. r.may rest p h; keeps = λ p. r.keeps p;
-      moments = λ p i. same_is_near b (effect b (take i (map Awaits (w ∷ ws)))) (moments_awaits b (w ∷ ws) i) }
+  round-awaits (w ∷ ws) = let r = round-awaits ws in record {
+    needs = λ rest h. r.needs rest h;
+    may = λ rest p h. r.may rest p h;
+    keeps = λ p. r.keeps p;
+    moments = λ p i. same_is_near b (effect b (take i (map Awaits (w ∷ ws)))) (moments_awaits b (w ∷ ws) i);
+  }
 
   pub round-visit : (c : Channel) → IsRound layout b (CanClose layout b c) (visit c)
   round-visit c = record {
-    needs = λ rest h. (h.0, subst (λ (m : Channels). AllRight layout m none rest) (undone c b h.0.was_open) (subst (λ (m : Channels).
-        AllRight layout (without c (with_channel c b)) m rest) (undone c none refl) h.1.1));
-    may = λ rest p h. (p, (simp same_channel_self refl,
+    needs = λ rest h. (
+      h.0,
+      subst (λ (m : Channels). AllRight layout m none rest) (undone c b h.0.was_open) (subst (λ (m : Channels).
+          AllRight layout (without c (with_channel c b)) m rest) (undone c none refl) h.1.1),
+    );
+    may = λ rest p h. (
+      p,
+      (
+        simp same_channel_self refl,
         subst (λ (m : Channels). AllRight layout (without c (with_channel c b)) m rest) (sym (undone c none refl)) (subst (λ (m : Channels).
-        AllRight layout m none rest) (sym (undone c b p.was_open)) h)));
+            AllRight layout m none rest) (sym (undone c b p.was_open)) h),
+      ),
+    );
     keeps = λ p. undone c b p.was_open;
     moments = λ p i. moments_visit b c p.was_open i;
   }
@@ -130,7 +146,7 @@ module _ (layout : Layout) (b : Channels) where
   round-pass s k =
       round-like (pass_of s k) (λ (w : Unit {0} × CanClose layout b (channel_at s.list k)). w.1) (λ (h : CanClose layout b (channel_at s.list k)). (tt, h))
       (round-append (map Awaits (head_of Trigger s.trigger)) (visit (channel_at s.list k)) (round-awaits (head_of Trigger s.trigger))
-          (round-visit (channel_at s.list k)))
+      (round-visit (channel_at s.list k)))
 
   pub round-passes : (s : Setup) (k n : ℕ) → IsRound layout b (CanPass s k n) (passes s k n)
   round-passes s k zero = round-like [] (λ (u : Unit {0}). λ j h g. absurd (omega arith)) (λ (f : CanPass s k 0). tt) round-none
@@ -153,7 +169,7 @@ module _ (layout : Layout) (b : Channels) where
       let Turns : Type 0 = 0 < s.arm2.count → CanPass s 0 s.trigger.count in
       round-like (arm1_turn s) (λ (w : Unit {0} × Turns). w.1) (λ (h : Turns). (tt, h))
       (round-append (map Awaits (head_of Arm1 s.arm1)) turns (round-awaits (head_of Arm1 s.arm1))
-          (round-repeated s.arm2.count (arm2_turn s) (round-arm2_turn s)))
+      (round-repeated s.arm2.count (arm2_turn s) (round-arm2_turn s)))
 
   pub round-turns : (s : Setup) → 0 < length s.list → IsRound layout b (0 < s.arm1.count → 0 < s.arm2.count → CanPass s 0 s.trigger.count) (agenda s)
   round-turns s h =

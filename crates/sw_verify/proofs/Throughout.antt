@@ -27,7 +27,7 @@ exclusive_with layout b c can e = record {
       (or_cases (same_channel c y) (b y) g))
       (λ (h : b x ≡ true).
       ⊎_elim (λ (t : same_channel c y ≡ true).
-          can.apart x h (clash_back layout x c (subst (λ (z : Channel). IsClash layout x z) (sym (same_channel_is c y t)) k)))
+      can.apart x h (clash_back layout x c (subst (λ (z : Channel). IsClash layout x z) (sym (same_channel_is c y t)) k)))
       (λ (g : b y ≡ true). e.apart x y h g k)
       (or_cases (same_channel c y) (b y) g))
       (or_cases (same_channel c x) (b x) h);

@@ -59,7 +59,7 @@ join_set k n steps pc (f ∷ fs) p free j =
       (p, free, j.2, i.2),
       ap (λ (l : List Step). step.Set k n ∷ l)
           (j.3 ∙ ap (λ (l : List Step). flatten j.0 (pc + 1) ++ (step.Loop k (pc + 1) ∷ l)) (i.3
-              ∙ ap (λ (m : ℕ). flatten i.0 m ++ (step.Loop f.counter f.start ∷ i.1)) e)
+          ∙ ap (λ (m : ℕ). flatten i.0 m ++ (step.Loop f.counter f.start ∷ i.1)) e)
           ∙ sym (append_assoc (flatten j.0 (pc + 1)) (step.Loop k (pc + 1) ∷ flatten i.0 (pc + 2 + size j.0)) (step.Loop f.counter f.start ∷ i.1))),
       subst (λ (m : ℕ). IsJoin i.1 m fs) g i.4,
     )
@@ -140,7 +140,7 @@ module _ (layout : Layout) where
         right-append b m (x ∷ []) (meaning rest) a.0 r.0,
         subst (λ (c : Channels). StepsRight layout tail c (effect m (x ∷ meaning rest)) ss) (sym (effect-append b (x ∷ []) (meaning rest)))
             (subst (λ (c : Channels). StepsRight layout tail (effect (effect b (x ∷ [])) (meaning rest)) c ss)
-                (sym (effect-append m (x ∷ []) (meaning rest))) r.1),
+            (sym (effect-append m (x ∷ []) (meaning rest))) r.1),
       )
   right_tree (Times k n body rest) pc tail b m ss h =
       let more = flatten rest (pc + 2 + size body) in
@@ -151,17 +151,17 @@ module _ (layout : Layout) where
       let f : effect m xs ≡ m = a.1.1 in
       let go : StepsRight layout (more ++ tail) b m ss =
       subst (λ (c : Channels). StepsRight layout (more ++ tail) c m ss) e (subst (λ (c : Channels). StepsRight layout (more
-          ++ tail) (effect b xs) c ss) f a.1.2) in
+      ++ tail) (effect b xs) c ss) f a.1.2) in
       let r = right_tree rest (pc + 2 + size body) tail b m ss go in
       let eb : effect b (repeated n xs) ≡ b = effect-repeated b xs n e in
       let em : effect m (repeated n xs) ≡ m = effect-repeated m xs n f in
       let all_b : effect b (repeated n xs ++ meaning rest) ≡ effect b (meaning rest) = effect-append b (repeated n xs) (meaning rest)
-          ∙ ap (λ (c : Channels). effect c (meaning rest)) eb in
+      ∙ ap (λ (c : Channels). effect c (meaning rest)) eb in
       let all_m : effect m (repeated n xs ++ meaning rest) ≡ effect m (meaning rest) = effect-append m (repeated n xs) (meaning rest)
-          ∙ ap (λ (c : Channels). effect c (meaning rest)) em in (
+      ∙ ap (λ (c : Channels). effect c (meaning rest)) em in (
         right-append b m (repeated n xs) (meaning rest) (right-repeated b m xs n a.0 e f)
             (subst (λ (c : Channels). AllRight layout c (effect m (repeated n xs)) (meaning rest)) (sym eb) (subst (λ (c : Channels).
-                AllRight layout b c (meaning rest)) (sym em) r.0)),
+            AllRight layout b c (meaning rest)) (sym em) r.0)),
         subst (λ (c : Channels). StepsRight layout tail c (effect m (repeated n xs ++ meaning rest)) ss) (sym all_b)
             (subst (λ (c : Channels). StepsRight layout tail (effect b (meaning rest)) c ss) (sym all_m) r.1),
       )
@@ -221,7 +221,7 @@ module _ (p : Awaited → Bool) where
       ∙ ap (λ (n : ℕ). f * weigh p (x ∷ []) + n) (tally_tree rest (pc + 1) tail f gs)
       ∙ sym (add_assoc (f * weigh p (x ∷ [])) (f * weigh p (meaning rest)) (tally p tail f gs))
       ∙ ap (λ (n : ℕ). n + tally p tail f gs) (sym (mul-add f (weigh p (x ∷ [])) (weigh p (meaning rest)))
-          ∙ ap (λ (n : ℕ). f * n) (sym (weigh-append p (x ∷ []) (meaning rest))))
+      ∙ ap (λ (n : ℕ). f * n) (sym (weigh-append p (x ∷ []) (meaning rest))))
   tally_tree (Times k n body rest) pc tail f gs =
       let more = flatten rest (pc + 2 + size body) in
       ap (λ (l : List Step). tally p l (f * n) (f ∷ gs)) (append_assoc (flatten body (pc + 1)) (step.Loop k (pc + 1) ∷ more) tail)

@@ -13,8 +13,8 @@ ghost use Rattle.sw_cage.specs.Outcome.{Moved, IsSent, Arrives, AdvancesOrFails}
 
 use crate::job::{Job, Ticket};
 use crate::scan::Scan;
-use crate::scan::tickets::Tickets;
 use crate::scan::steps::Moves;
+use crate::scan::tickets::Tickets;
 use crate::slots::Slots;
 use crate::taken::Taken;
 use sw_base::Chan;

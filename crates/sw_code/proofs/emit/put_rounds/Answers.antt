@@ -37,7 +37,7 @@ returns c =
     let rest_is : rest ≡ steps_of (passes s 0 (s.trigger.count % length s.list)) = cc in
     let looped = looped_is s (length code) body rest some body_is rest_is in
     let same : step.Set 2 (k / n) ∷ (body ++ (step.Loop 2 (c.len.result + 1) ∷ rest))
-        ≡ step.Set 2 (s.trigger.count / length s.list) ∷ (body ++ (step.Loop 2 (length code + 1) ∷ rest)) = cc in
+    ≡ step.Set 2 (s.trigger.count / length s.list) ∷ (body ++ (step.Loop 2 (length code + 1) ∷ rest)) = cc in
     on_ok_weaker c.put_passes-3.result
     (λ e. four_more code c.push.new.self.items c.put_passes-2.new.steps.items c.push-2.new.self.items c.put_passes-3.new.steps.items
     (step.Set 2 (k / n) ∷ []) body (step.Loop 2 (c.len.result + 1) ∷ []) rest

@@ -32,7 +32,7 @@ loop-d-preserved c =
     let same : y ≡ x - 48 = cc in
     let d : is_digit x ≡ true = All-from_recursion (λ (b : ℕ). is_digit b ≡ true) c.args.digits.now c.requires.digits c.loop-d.d-index 0 c.loop-d-test.true in
     let e : drop c.loop-d.d-index c.args.digits.now ≡ x ∷ drop (suc c.loop-d.d-index) c.args.digits.now =
-        drop-cons c.args.digits.now c.loop-d.d-index 0 c.loop-d-test.true in
+    drop-cons c.args.digits.now c.loop-d.d-index 0 c.loop-d-test.true in
     let r = rw e at c.loop-d.invariant.rest in
     let turn : 10 * c.loop-d.n + y ≡ c.loop-d.n * 10 + (x - 48) = omega arith in
     let j : c.loop-d.d-index + 1 ≡ suc c.loop-d.d-index = omega arith in

@@ -17,7 +17,7 @@ lines-preserved c =
     let s = c.in_ok-step-in-Some.step in
     let pushed = c.in-Ok.ensures.items in
     let go : Result Step ListError → Result (List Step) ListError =
-        λ r. after_steps before (then_read r (λ (x : Step). then_read (steps_in (line + 1) more) (λ (steps : List Step). Ok (x ∷ steps)))) in
+    λ r. after_steps before (then_read r (λ (x : Step). then_read (steps_in (line + 1) more) (λ (steps : List Step). Ok (x ∷ steps)))) in
     record {
       same =
           c.lines.invariant.same

@@ -9,7 +9,7 @@ returns c = λ before is.
     let label = c.args.label.now in
     let begun = c.if-not-is_empty.text.items in
     let whole : c.push-3.new.self.items ≡ ((begun ++ 34 ∷ []) ++ label) ++ 34 ∷ [] = c.in_ok-push-3.ensures.items
-        ∙ ap (λ (t : List ℕ). t ++ 34 ∷ []) (c.in_ok-extend_from_slice.ensures.items ∙ ap (λ (t : List ℕ). t ++ label) c.in_ok-push-2.ensures.items) in
+    ∙ ap (λ (t : List ℕ). t ++ 34 ∷ []) (c.in_ok-extend_from_slice.ensures.items ∙ ap (λ (t : List ℕ). t ++ label) c.in_ok-push-2.ensures.items) in
     elim c.if-not-is_empty.branch [
       | then-not-is_empty+in_ok-push w ↦
           let some : 0 < length c.args.text.now.items = grind (arith, common_steps) in

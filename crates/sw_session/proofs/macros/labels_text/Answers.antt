@@ -16,6 +16,6 @@ loop-i-preserved c =
       | in-Some+in_ok-add_label w ↦
           let found : slice_get ls c.loop-i.i ≡ Some w.in-Some.label.now = sym c.label.ensures ∙ ap (option_map (λ (l : Bor (List ℕ)). l.now)) w.in-Some.is in
           ap (λ (v : Vec ℕ Global). v.items) w.text-is ∙ w.in_ok-add_label.ensures (take c.loop-i.i ls) c.loop-i.invariant
-              ∙ ap row_of (sym (labels-more ls c.loop-i.i w.in-Some.label.now found))
+          ∙ ap row_of (sym (labels-more ls c.loop-i.i w.in-Some.label.now found))
       | in_default w ↦ absurd (label-there (λ (l : Bor (List ℕ)). l.now) c.label.result ls c.loop-i.i c.label.ensures within w.in_default.not-Some)
     ]

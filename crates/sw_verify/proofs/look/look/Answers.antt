@@ -15,7 +15,7 @@ returns-in-Err-clause-stops c =
     let i = c.loop-i.i in
     let e = next_step steps i (step.Close c.in-Close.c) _ c.loop-i-test.true c.in-Close.is in
     close_stops c.args.layout.now c.args.closed.now steps i c.loop-i.ledger c.loop-i.saved.items c.loop-i.invariant c.in-Close.c c.in-Err.wrong e
-        c.in-Err.ensures.barred
+    c.in-Err.ensures.barred
 
 pub returns-in-Err-open-clause-stops : goal.returns-in-Err-open-clause-stops
 returns-in-Err-open-clause-stops c =
@@ -23,7 +23,7 @@ returns-in-Err-open-clause-stops c =
     let i = c.loop-i.i in
     let e = next_step steps i (step.Open c.in-Open.c) _ c.loop-i-test.true c.in-Open.is in
     open_stops c.args.layout.now c.args.closed.now steps i c.loop-i.ledger c.loop-i.saved.items c.loop-i.invariant c.in-Open.c c.in-Err-open.wrong e
-        c.in-Err-open.ensures.refused
+    c.in-Err-open.ensures.refused
 
 pub returns-then-not-is_same-clause-stops : goal.returns-then-not-is_same-clause-stops
 returns-then-not-is_same-clause-stops c =
@@ -33,7 +33,7 @@ returns-then-not-is_same-clause-stops c =
     let e = next_step steps i (step.Loop c.in-Loop.field-0 c.in-Loop.field-1) _ c.loop-i-test.true c.in-Loop.is in
     let some = listed_from_test c.is_empty.result _ (length rows) c.is_empty.ensures c.if-is_empty.false (sym c.loop-i.saved.ok.0) in
     loop_stops c.args.layout.now c.args.closed.now steps i c.loop-i.ledger rows c.loop-i.invariant c.in-Loop.field-0 c.in-Loop.field-1 c.remove-before.result
-        c.remove-before.new.self.items e
+    c.remove-before.new.self.items e
     (popped rows c.remove-before.new.self.items c.remove-before.result some c.remove-before.ensures.value c.remove-before.ensures.items)
     (λ e. both_ways c.is_same.result c.if-not-is_same.true (c.is_same.ensures.1 e))
 
@@ -43,7 +43,7 @@ returns-then-is_same-clause-right c =
     let i = c.loop-i.i in
     let e = next_step steps i step.Halt _ c.loop-i-test.true c.in-Halt.is in
     halt_right c.args.layout.now c.args.closed.now steps i c.loop-i.ledger c.loop-i.saved.items c.loop-i.invariant e
-        (c.is_same-in-Halt.ensures.0 c.if-is_same.true)
+    (c.is_same-in-Halt.ensures.0 c.if-is_same.true)
 
 pub returns-in-Halt-clause-stops : goal.returns-in-Halt-clause-stops
 returns-in-Halt-clause-stops c =
@@ -51,7 +51,7 @@ returns-in-Halt-clause-stops c =
     let i = c.loop-i.i in
     let e = next_step steps i step.Halt _ c.loop-i-test.true c.in-Halt.is in
     halt_stops c.args.layout.now c.args.closed.now steps i c.loop-i.ledger c.loop-i.saved.items c.loop-i.invariant e (λ d.
-        both_ways c.is_same-in-Halt.result c.if-is_same.false (c.is_same-in-Halt.ensures.1 d))
+    both_ways c.is_same-in-Halt.result c.if-is_same.false (c.is_same-in-Halt.ensures.1 d))
 
 pub loop-i-preserved : goal.loop-i-preserved
 loop-i-preserved c =
@@ -68,25 +68,25 @@ loop-i-preserved c =
       | in-Set+in_ok-insert-in-Set w ↦ moved layout closed steps (i + 1) ledger now (ledger.mine ∷ rows) left w.ledger-is (ap (λ v. v.items) w.saved-is
           ∙ w.in_ok-insert-in-Set.ensures.items)
           (after_set layout closed steps i ledger rows p w.in-Set.field-0 w.in-Set.field-1 ledger.mine refl
-              (next_step steps i (step.Set w.in-Set.field-0 w.in-Set.field-1) _ c.loop-i-test.true w.in-Set.is))
+          (next_step steps i (step.Set w.in-Set.field-0 w.in-Set.field-1) _ c.loop-i-test.true w.in-Set.is))
       | in-Loop+else-is_empty+else-not-is_same w ↦
           let some = listed_from_test w.is_empty.result _ (length rows) w.is_empty.ensures w.if-is_empty.false (sym c.loop-i.saved.ok.0) in
           moved layout closed steps (i + 1) ledger now w.remove-before.new.self.items left w.ledger-is (ap (λ v. v.items) w.saved-is)
           (after_loop layout closed steps i ledger rows p w.in-Loop.field-0 w.in-Loop.field-1 w.remove-before.result w.remove-before.new.self.items
-              (next_step steps i (step.Loop w.in-Loop.field-0 w.in-Loop.field-1) _ c.loop-i-test.true w.in-Loop.is)
+          (next_step steps i (step.Loop w.in-Loop.field-0 w.in-Loop.field-1) _ c.loop-i-test.true w.in-Loop.is)
           (popped rows w.remove-before.new.self.items w.remove-before.result some w.remove-before.ensures.value w.remove-before.ensures.items)
           (w.is_same.ensures.0 w.if-not-is_same.false))
       | in-Close+in_default w ↦ moved layout closed steps (i + 1) w.close.new.self now rows left w.ledger-is (ap (λ v. v.items) w.saved-is)
           (after_close layout closed steps i ledger rows p w.in-Close.c w.close.new.self
-              (next_step steps i (step.Close w.in-Close.c) _ c.loop-i-test.true w.in-Close.is) w.in_default.ensures.closed)
+          (next_step steps i (step.Close w.in-Close.c) _ c.loop-i-test.true w.in-Close.is) w.in_default.ensures.closed)
       | in-Open+in_default-open w ↦ moved layout closed steps (i + 1) w.open.new.self now rows left w.ledger-is (ap (λ v. v.items) w.saved-is)
           (after_open layout closed steps i ledger rows p w.in-Open.c w.open.new.self
-              (next_step steps i (step.Open w.in-Open.c) _ c.loop-i-test.true w.in-Open.is) w.in_default-open.ensures.opened)
+          (next_step steps i (step.Open w.in-Open.c) _ c.loop-i-test.true w.in-Open.is) w.in_default-open.ensures.opened)
       | in-Wait w ↦ moved layout closed steps (i + 1) ledger now rows left w.ledger-is (ap (λ v. v.items) w.saved-is)
           (⊎_elim (λ (x : (name : LayerName) × (get_or steps i _ ≡ step.Wait name)).
-              after_wait layout closed steps i ledger rows p x.0 (next_step steps i (step.Wait x.0) _ c.loop-i-test.true x.1))
+          after_wait layout closed steps i ledger rows p x.0 (next_step steps i (step.Wait x.0) _ c.loop-i-test.true x.1))
           (λ o. ⊎_elim (λ (x : (micros : ℕ) × (get_or steps i _ ≡ step.Pause micros)).
-              after_pause layout closed steps i ledger rows p x.0 (next_step steps i (step.Pause x.0) _ c.loop-i-test.true x.1))
+          after_pause layout closed steps i ledger rows p x.0 (next_step steps i (step.Pause x.0) _ c.loop-i-test.true x.1))
           (λ (x : get_or steps i _ ≡ step.Read). after_read layout closed steps i ledger rows p (next_step steps i step.Read _ c.loop-i-test.true x)) o)
           w.in-Wait.is)
     ]

@@ -14,17 +14,19 @@ pub returns-then-not-are_present-clause-ok : goal.returns-then-not-are_present-c
 returns-then-not-are_present-clause-ok c =
     let p = c.args.snapshot.now in
     let judged : c.are_present.result ≡ list_all (is_present p.layout) (used_of p.settings) = c.are_present.ensures
-        ∙ ap (list_all (is_present p.layout)) c.used-used.ensures in
-    let absent : list_all (is_present p.layout) (used_of p.settings) ≡ false = sym judged ∙ c.if-not-are_present.true in
-    (λ h. absurd (false≢true h), λ w.
-        absurd (both_ways (list_all (is_present p.layout) (used_of p.settings)) absent
-        (tests_from_sound p.layout p.closed p.settings w.listed c.list.ensures.range w.sound).0))
+    ∙ ap (list_all (is_present p.layout)) c.used-used.ensures in
+    let absent : list_all (is_present p.layout) (used_of p.settings) ≡ false = sym judged ∙ c.if-not-are_present.true in (
+      λ h. absurd (false≢true h),
+      λ w.
+          absurd (both_ways (list_all (is_present p.layout) (used_of p.settings)) absent
+          (tests_from_sound p.layout p.closed p.settings w.listed c.list.ensures.range w.sound).0),
+    )
 
 pub returns-then-not-are_present-clause-first : goal.returns-then-not-are_present-clause-first
 returns-then-not-are_present-clause-first c =
     let p = c.args.snapshot.now in
     let judged : c.are_present.result ≡ list_all (is_present p.layout) (used_of p.settings) = c.are_present.ensures
-        ∙ ap (list_all (is_present p.layout)) c.used-used.ensures in
+    ∙ ap (list_all (is_present p.layout)) c.used-used.ensures in
     let listed = listed_from_test c.is_empty.result _ (length p.settings.list) c.is_empty.ensures c.if-is_empty.false (sym (ap length c.list.ensures.list)) in
     first_absent p listed (sym judged ∙ c.if-not-are_present.true)
 
@@ -32,48 +34,51 @@ pub returns-then-not-are_free-clause-ok : goal.returns-then-not-are_free-clause-
 returns-then-not-are_free-clause-ok c =
     let p = c.args.snapshot.now in
     let clear : c.are_free.result ≡ list_all (is_free p.layout p.closed) (used_of p.settings) = c.are_free.ensures
-        ∙ ap (λ l. list_all (is_free p.layout l) c.used-used.result.now) c.as_slice.ensures ∙ ap (list_all (is_free p.layout p.closed)) c.used-used.ensures in
-    let blocked : list_all (is_free p.layout p.closed) (used_of p.settings) ≡ false = sym clear ∙ c.if-not-are_free.true in
-    (λ h. absurd (false≢true h), λ w.
-        absurd (both_ways (list_all (is_free p.layout p.closed) (used_of p.settings)) blocked
-        (tests_from_sound p.layout p.closed p.settings w.listed c.list.ensures.range w.sound).1))
+    ∙ ap (λ l. list_all (is_free p.layout l) c.used-used.result.now) c.as_slice.ensures ∙ ap (list_all (is_free p.layout p.closed)) c.used-used.ensures in
+    let blocked : list_all (is_free p.layout p.closed) (used_of p.settings) ≡ false = sym clear ∙ c.if-not-are_free.true in (
+      λ h. absurd (false≢true h),
+      λ w.
+          absurd (both_ways (list_all (is_free p.layout p.closed) (used_of p.settings)) blocked
+          (tests_from_sound p.layout p.closed p.settings w.listed c.list.ensures.range w.sound).1),
+    )
 
 pub returns-then-not-are_free-clause-first : goal.returns-then-not-are_free-clause-first
 returns-then-not-are_free-clause-first c =
     let p = c.args.snapshot.now in
     let judged : c.are_present.result ≡ list_all (is_present p.layout) (used_of p.settings) = c.are_present.ensures
-        ∙ ap (list_all (is_present p.layout)) c.used-used.ensures in
+    ∙ ap (list_all (is_present p.layout)) c.used-used.ensures in
     let clear : c.are_free.result ≡ list_all (is_free p.layout p.closed) (used_of p.settings) = c.are_free.ensures
-        ∙ ap (λ l. list_all (is_free p.layout l) c.used-used.result.now) c.as_slice.ensures ∙ ap (list_all (is_free p.layout p.closed)) c.used-used.ensures in
+    ∙ ap (λ l. list_all (is_free p.layout l) c.used-used.result.now) c.as_slice.ensures ∙ ap (list_all (is_free p.layout p.closed)) c.used-used.ensures in
     let listed = listed_from_test c.is_empty.result _ (length p.settings.list) c.is_empty.ensures c.if-is_empty.false (sym (ap length c.list.ensures.list)) in
     let measured : has_meter p.layout p.settings.meter ≡ true = ap (has_meter p.layout) (sym c.meter.ensures) ∙ sym c.has_meter.ensures
-        ∙ c.if-not-has_meter.false in
+    ∙ c.if-not-has_meter.false in
     first_blocked p listed (sym judged ∙ c.if-not-are_present.false) measured (sym clear ∙ c.if-not-are_free.true)
 
 pub returns-then-from-readings-clause-first : goal.returns-then-from-readings-clause-first
 returns-then-from-readings-clause-first c =
     let p = c.args.snapshot.now in
     let judged : c.are_present.result ≡ list_all (is_present p.layout) (used_of p.settings) = c.are_present.ensures
-        ∙ ap (list_all (is_present p.layout)) c.used-used.ensures in
+    ∙ ap (list_all (is_present p.layout)) c.used-used.ensures in
     let clear : c.are_free.result ≡ list_all (is_free p.layout p.closed) (used_of p.settings) = c.are_free.ensures
-        ∙ ap (λ l. list_all (is_free p.layout l) c.used-used.result.now) c.as_slice.ensures ∙ ap (list_all (is_free p.layout p.closed)) c.used-used.ensures in
+    ∙ ap (λ l. list_all (is_free p.layout l) c.used-used.result.now) c.as_slice.ensures ∙ ap (list_all (is_free p.layout p.closed)) c.used-used.ensures in
     let listed = listed_from_test c.is_empty.result _ (length p.settings.list) c.is_empty.ensures c.if-is_empty.false (sym (ap length c.list.ensures.list)) in
     let measured : has_meter p.layout p.settings.meter ≡ true = ap (has_meter p.layout) (sym c.meter.ensures) ∙ sym c.has_meter.ensures
-        ∙ c.if-not-has_meter.false in
+    ∙ c.if-not-has_meter.false in
     first_too_many p listed (sym judged ∙ c.if-not-are_present.false) measured (sym clear ∙ c.if-not-are_free.false) (omega arith)
 
 pub returns-clause-ok : goal.returns-clause-ok
 returns-clause-ok c =
     let p = c.args.snapshot.now in
     let judged : c.are_present.result ≡ list_all (is_present p.layout) (used_of p.settings) = c.are_present.ensures
-        ∙ ap (list_all (is_present p.layout)) c.used-used.ensures in
+    ∙ ap (list_all (is_present p.layout)) c.used-used.ensures in
     let clear : c.are_free.result ≡ list_all (is_free p.layout p.closed) (used_of p.settings) = c.are_free.ensures
-        ∙ ap (λ l. list_all (is_free p.layout l) c.used-used.result.now) c.as_slice.ensures ∙ ap (list_all (is_free p.layout p.closed)) c.used-used.ensures in
+    ∙ ap (λ l. list_all (is_free p.layout l) c.used-used.result.now) c.as_slice.ensures ∙ ap (list_all (is_free p.layout p.closed)) c.used-used.ensures in
     let listed = listed_from_test c.is_empty.result _ (length p.settings.list) c.is_empty.ensures c.if-is_empty.false (sym (ap length c.list.ensures.list)) in
     let present : list_all (is_present p.layout) (used_of p.settings) ≡ true = sym judged ∙ c.if-not-are_present.false in
     let free : list_all (is_free p.layout p.closed) (used_of p.settings) ≡ true = sym clear ∙ c.if-not-are_free.false in
     let measured : has_meter p.layout p.settings.meter ≡ true = ap (has_meter p.layout) (sym c.meter.ensures) ∙ sym c.has_meter.ensures
-        ∙ c.if-not-has_meter.false in
-    let fits : readings_of p.settings ≤ p.settings.points = omega arith in
-    (λ h. record { listed = listed; measured = measured; sound = sound_from_tests p.layout p.closed p.settings listed c.list.ensures.range present free fits },
-        λ w. refl)
+    ∙ c.if-not-has_meter.false in
+    let fits : readings_of p.settings ≤ p.settings.points = omega arith in (
+      λ h. record { listed = listed; measured = measured; sound = sound_from_tests p.layout p.closed p.settings listed c.list.ensures.range present free fits },
+      λ w. refl,
+    )

@@ -33,7 +33,7 @@ returns-clause-part g c =
     let filled = subst (FillKeeps _ (g.Rd.Read.remaining rested) (g.Rd.BufRead.consumable_len rested)) c.in-Ok.is c.fill_buf.follows.holds-at-none in
     let same : c.if-end-eq0.self ≡ rested = search rules in
     let drops = subst (λ r. DropsConsumable (g.Rd.Read.remaining r) (g.Rd.Read.remaining c.consume.new.self) (g.Rd.BufRead.consumable_len r) end.result) same
-        c.consume.ensures.bytes in
+    c.consume.ensures.bytes in
     let moved = Consumes_shown _ _ _ _ c.in-Ok.available.now end.result end.ensures.bound c.in-Ok.ensures.front c.in-Ok.ensures.end filled.0 filled.1 drops in
     record {
       part = take end.result c.in-Ok.available.now;
@@ -54,6 +54,6 @@ returns-clause-part g c =
         | then-end-eq0 w ↦ absurd (more (ap Ok (search rules)))
         | else-end-eq0 w ↦ subst (λ k. All (λ x. x ≢ 10) (take k c.in-Ok.available.now)) (omega (arith, w.if-end-eq0.false))
             (All-more (λ x. x ≢ 10) _ (end.result - 1) 0 (omega (arith, w.if-end-eq0.false, end.ensures.bound)) end.ensures.before (λ e.
-                more (ap Ok (w.is_done-is ∙ eq-eqb _ _ e))))
+            more (ap Ok (w.is_done-is ∙ eq-eqb _ _ e))))
       ];
     }

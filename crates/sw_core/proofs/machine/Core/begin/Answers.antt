@@ -12,20 +12,35 @@ use Rattle.sw_core.proofs.machine.Core.begin.Goals as goal
 
 pub returns-in-Err : goal.returns-in-Err
 returns-in-Err g c =
-    let p : Panel = record { cage = c.self.inside.cage; sessions = c.self.inside.sessions; status = c.self.inside.status; settings = c.self.inside.settings;
-        opc_waits = c.self.inside.opc_waits; events = c.self.inside.events } in
+    let p : Panel = record {
+      cage = c.self.inside.cage;
+      sessions = c.self.inside.sessions;
+      status = c.self.inside.status;
+      settings = c.self.inside.settings;
+      opc_waits = c.self.inside.opc_waits;
+      events = c.self.inside.events;
+    } in
     rw (← c.self.view_is) (unbegun p c.args.plan c.start.new.self c.in-Err.ensures.err (subst (λ (x : Panel).
-        MayScan x) (sym c.self.view_is) c.requires.may) (subst (λ (x : Panel). c.args.plan ≡ snapshot_of x) (sym c.self.view_is) c.requires.same))
+    MayScan x) (sym c.self.view_is) c.requires.may) (subst (λ (x : Panel). c.args.plan ≡ snapshot_of x) (sym c.self.view_is) c.requires.same))
 
 pub returns-in-Ok : goal.returns-in-Ok
 returns-in-Ok g c =
-    let p : Panel = record { cage = c.self.inside.cage; sessions = c.self.inside.sessions; status = c.self.inside.status; settings = c.self.inside.settings;
-        opc_waits = c.self.inside.opc_waits; events = c.self.inside.events } in
+    let p : Panel = record {
+      cage = c.self.inside.cage;
+      sessions = c.self.inside.sessions;
+      status = c.self.inside.status;
+      settings = c.self.inside.settings;
+      opc_waits = c.self.inside.opc_waits;
+      events = c.self.inside.events;
+    } in
     let same : c.args.plan ≡ snapshot_of p = subst (λ (x : Panel). c.args.plan ≡ snapshot_of x) (sym c.self.view_is) c.requires.same in
     let goes : Advances (begun p.cage) p.settings 0 (taken_seen c.in-Ok.told) c.start.new.self =
-        subst (λ (x : Setup). Advances (begun p.cage) x 0 (taken_seen c.in-Ok.told) c.start.new.self) (ap (λ (x : Snapshot).
-        x.settings) same) c.in-Ok.ensures.ok in
+    subst (λ (x : Setup). Advances (begun p.cage) x 0 (taken_seen c.in-Ok.told) c.start.new.self) (ap (λ (x : Snapshot).
+    x.settings) same) c.in-Ok.ensures.ok in
     let status = c.set_card_fault.ensures ∙ ap (λ (b : Bool). if b then card_fault_reported p.status else card_fault_cleared p.status) c.tells_fault.ensures in
-    rw (← c.self.view_is, c.started_answer-answer.ensures,
-        c.work_of.ensures) (started p c.args.plan (taken_seen c.in-Ok.told) c.start.new.self c.set_card_fault.new.status (subst (λ (x : Panel).
-        MayScan x) (sym c.self.view_is) c.requires.may) same c.requires.ready goes status)
+    rw (
+      ← c.self.view_is,
+      c.started_answer-answer.ensures,
+      c.work_of.ensures,
+    ) (started p c.args.plan (taken_seen c.in-Ok.told) c.start.new.self c.set_card_fault.new.status (subst (λ (x : Panel).
+    MayScan x) (sym c.self.view_is) c.requires.may) same c.requires.ready goes status)

@@ -10,10 +10,22 @@ use Rattle.sw_core.proofs.machine.Core.eject.Goals as goal
 
 pub returns-in-Ok : goal.returns-in-Ok
 returns-in-Ok g c =
-    let cage = ap (λ (s : CageSeen). let p : Panel = record { cage = s; sessions = c.self.inside.sessions; status = card_fault_cleared c.self.inside.status;
-        settings = c.self.inside.settings; opc_waits = c.self.inside.opc_waits; events = c.self.inside.events } in p) c.in-Ok.ensures.taken in
-    let told = ap (λ (s : StatusSeen). let p : Panel = record { cage = c.eject.new.self; sessions = c.self.inside.sessions; status = s;
-        settings = c.self.inside.settings; opc_waits = c.self.inside.opc_waits; events = c.self.inside.events } in p) c.clear_card_fault.ensures in
+    let cage = ap (λ (s : CageSeen). let p : Panel = record {
+      cage = s;
+      sessions = c.self.inside.sessions;
+      status = card_fault_cleared c.self.inside.status;
+      settings = c.self.inside.settings;
+      opc_waits = c.self.inside.opc_waits;
+      events = c.self.inside.events;
+    } in p) c.in-Ok.ensures.taken in
+    let told = ap (λ (s : StatusSeen). let p : Panel = record {
+      cage = c.eject.new.self;
+      sessions = c.self.inside.sessions;
+      status = s;
+      settings = c.self.inside.settings;
+      opc_waits = c.self.inside.opc_waits;
+      events = c.self.inside.events;
+    } in p) c.clear_card_fault.ensures in
     rw (← c.self.view_is) (
       ap (λ (s : CageSeen). any_failed c.self.inside.cage.cards s.cards) c.in-Ok.ensures.taken ∙ failed_ejected c.self.inside.cage c.args.slot,
       c.in-Ok.ensures.home,

@@ -8,17 +8,29 @@ use Rattle.sw_core.proofs.machine.Core.happens.Goals as goal
 
 pub returns-else-tells_fault : goal.returns-else-tells_fault
 returns-else-tells_fault g c =
-    let p : Panel = record { cage = c.self.inside.cage; sessions = c.self.inside.sessions; status = c.self.inside.status; settings = c.self.inside.settings;
-        opc_waits = c.self.inside.opc_waits; events = c.self.inside.events } in
+    let p : Panel = record {
+      cage = c.self.inside.cage;
+      sessions = c.self.inside.sessions;
+      status = c.self.inside.status;
+      settings = c.self.inside.settings;
+      opc_waits = c.self.inside.opc_waits;
+      events = c.self.inside.events;
+    } in
     let whole = sym (ap (λ (b : Bool). if b then card_fault_reported p.status else p.status) (sym c.tells_fault.ensures ∙ c.if-tells_fault.false)) in
     rw (← c.self.view_is) (happened p c.args.happening (taken_seen c.take-told.result) c.take-told.new.self p.status c.take-told.ensures.ignored
-        c.take-told.ensures.taken c.take-told.ensures.takes whole)
+    c.take-told.ensures.taken c.take-told.ensures.takes whole)
 
 pub returns-then-tells_fault : goal.returns-then-tells_fault
 returns-then-tells_fault g c =
-    let p : Panel = record { cage = c.self.inside.cage; sessions = c.self.inside.sessions; status = c.self.inside.status; settings = c.self.inside.settings;
-        opc_waits = c.self.inside.opc_waits; events = c.self.inside.events } in
+    let p : Panel = record {
+      cage = c.self.inside.cage;
+      sessions = c.self.inside.sessions;
+      status = c.self.inside.status;
+      settings = c.self.inside.settings;
+      opc_waits = c.self.inside.opc_waits;
+      events = c.self.inside.events;
+    } in
     let whole = c.report_card_fault.ensures
     ∙ sym (ap (λ (b : Bool). if b then card_fault_reported p.status else p.status) (sym c.tells_fault.ensures ∙ c.if-tells_fault.true)) in
     rw (← c.self.view_is) (happened p c.args.happening (taken_seen c.take-told.result) c.take-told.new.self c.report_card_fault.new.status
-        c.take-told.ensures.ignored c.take-told.ensures.taken c.take-told.ensures.takes whole)
+    c.take-told.ensures.ignored c.take-told.ensures.taken c.take-told.ensures.takes whole)

@@ -13,6 +13,12 @@ returns-in-Ok-clause-acts g c =
       ap (λ s. is_some s) c.in-Ok.ensures.free.0,
       c.in-Ok.ensures.free.1,
       c.in-Ok.ensures.accepted,
-      ap (λ (s : CageSeen). let p : Panel = record { cage = s; sessions = c.self.inside.sessions; status = c.self.inside.status;
-          settings = c.self.inside.settings; opc_waits = c.self.inside.opc_waits; events = c.self.inside.events } in p) c.in-Ok.ensures.ok,
+      ap (λ (s : CageSeen). let p : Panel = record {
+        cage = s;
+        sessions = c.self.inside.sessions;
+        status = c.self.inside.status;
+        settings = c.self.inside.settings;
+        opc_waits = c.self.inside.opc_waits;
+        events = c.self.inside.events;
+      } in p) c.in-Ok.ensures.ok,
     )

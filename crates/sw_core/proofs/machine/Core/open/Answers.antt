@@ -8,17 +8,35 @@ use Rattle.sw_core.proofs.machine.Core.open.Goals as goal
 
 pub returns-in-Ok : goal.returns-in-Ok
 returns-in-Ok g c =
-    let cage = ap (λ (s : CageSeen). let p : Panel = record { cage = s; sessions = c.self.inside.sessions; status = c.self.inside.status;
-        settings = c.self.inside.settings; opc_waits = c.self.inside.opc_waits; events = c.self.inside.events } in p) c.open_listed.ensures.rest in
+    let cage = ap (λ (s : CageSeen). let p : Panel = record {
+      cage = s;
+      sessions = c.self.inside.sessions;
+      status = c.self.inside.status;
+      settings = c.self.inside.settings;
+      opc_waits = c.self.inside.opc_waits;
+      events = c.self.inside.events;
+    } in p) c.open_listed.ensures.rest in
     rw (← c.self.view_is) (failed_sets _ _ _ _ c.in-Ok.ensures.ok, sym c.all_present.ensures ∙ c.if-not-all_present.false, c.in-Ok.ensures.ok, cage)
 
 pub returns-in-Err : goal.returns-in-Err
 returns-in-Err g c =
     let f = fallen c.self.inside.cage.cards c.open_listed.new.self.cards c.open_all.new.self.cards c.args.chans.now c.in-Err.ensures.err (ap (λ (s : CageSeen).
-        s.cards) c.open_all.ensures) in
-    let told = ap (λ (s : StatusSeen). let p : Panel = record { cage = c.open_all.new.self; sessions = c.self.inside.sessions; status = s;
-        settings = c.self.inside.settings; opc_waits = c.self.inside.opc_waits; events = c.self.inside.events } in p) c.report_card_fault.ensures in
-    let cage = ap (λ (s : CageSeen). let p : Panel = record { cage = s; sessions = c.self.inside.sessions; status = card_fault_reported c.self.inside.status;
-        settings = c.self.inside.settings; opc_waits = c.self.inside.opc_waits; events = c.self.inside.events } in
-        p) (fallen_cage c.self.inside.cage c.open_listed.new.self c.open_all.new.self c.open_listed.ensures.rest c.open_all.ensures) in
+    s.cards) c.open_all.ensures) in
+    let told = ap (λ (s : StatusSeen). let p : Panel = record {
+      cage = c.open_all.new.self;
+      sessions = c.self.inside.sessions;
+      status = s;
+      settings = c.self.inside.settings;
+      opc_waits = c.self.inside.opc_waits;
+      events = c.self.inside.events;
+    } in p) c.report_card_fault.ensures in
+    let cage = ap (λ (s : CageSeen). let p : Panel = record {
+      cage = s;
+      sessions = c.self.inside.sessions;
+      status = card_fault_reported c.self.inside.status;
+      settings = c.self.inside.settings;
+      opc_waits = c.self.inside.opc_waits;
+      events = c.self.inside.events;
+    } in
+    p) (fallen_cage c.self.inside.cage c.open_listed.new.self c.open_all.new.self c.open_listed.ensures.rest c.open_all.ensures) in
     rw (← c.self.view_is) (f.0, sym c.all_present.ensures ∙ c.if-not-all_present.false, (f.1, told ∙ cage))

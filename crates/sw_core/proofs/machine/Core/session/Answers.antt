@@ -21,5 +21,5 @@ returns g c =
     let let_in = ap (λ (s : SessionsSeen). not (admits s.locks sid.number) && is_shut_out c.args.ask) (sym sessions) ∙ sym c.shuts_out.ensures
     ∙ c.if-shuts_out.false in
     subst (λ (o : Option Sid). StepSession o p c.args.ask f c.joined.result.0 (work_view c.joined.result.1) c.joined.new.self) (sym c.in-Some.is
-        ∙ c.asker.ensures)
+    ∙ c.asker.ensures)
     (admitted p sid c.args.ask f c.joined.result.0 (work_view c.joined.result.1) c.joined.new.self joined heard let_in c.joined.ensures)

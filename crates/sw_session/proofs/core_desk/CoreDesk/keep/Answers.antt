@@ -17,7 +17,7 @@ returns-in-Ok g c =
 pub pieces-smaller : goal.pieces-smaller
 pieces-smaller g c =
     weight-falls c.pieces.self _ c.pieces.work c.in-Some.piece _ c.in-Some.is
-        (same-carried _ _ _ _ _ _ c.in-Err.ensures.err c.in-Err.ensures.back c.carry-work.ensures)
+    (same-carried _ _ _ _ _ _ c.in-Err.ensures.err c.in-Err.ensures.back c.carry-work.ensures)
 
 pub pieces-preserved : goal.pieces-preserved
 pieces-preserved g c =

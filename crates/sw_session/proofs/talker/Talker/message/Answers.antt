@@ -8,16 +8,16 @@ use Rattle.sw_session.proofs.talker.Talker.message.Goals as goal
 pub returns-then-text-gt-LONGEST-clause-talked : goal.returns-then-text-gt-LONGEST-clause-talked
 returns-then-text-gt-LONGEST-clause-talked g c =
     talked-overrun g.D.Desk.passes _ _ _ c.args.self.now.macros c.args.self.now.macros _ _ _ _ c.without_line_feed-text.ensures c.if-text-gt-LONGEST.true
-        c.new.ensures.items
+    c.new.ensures.items
     refl c.queue.ensures
 
 pub returns-in-Ends-clause-talked : goal.returns-in-Ends-clause-talked
 returns-in-Ends-clause-talked g c =
     let s = c.talk.ensures.talks [] c.new-out.ensures.items in
     let led : Led g.D.Desk.passes c.args.desk.now c.talk.new.desk (λ t rest. Talks (Expanded c.args.self.now.sid) c.args.self.now.sid s.0 s.1
-        (standing [] c.args.self.now.macros [] t) c.talk.result (standing (path_of c.talk.new.path) c.talk.new.self.macros s.2 rest)) =
-        subst (λ (p : Nodes). Led g.D.Desk.passes c.args.desk.now c.talk.new.desk (λ t rest. Talks (Expanded c.args.self.now.sid) c.args.self.now.sid s.0 s.1
-        (standing p c.args.self.now.macros [] t) c.talk.result (standing (path_of c.talk.new.path) c.talk.new.self.macros s.2 rest))) c.root-path.ensures s.5 in
+    (standing [] c.args.self.now.macros [] t) c.talk.result (standing (path_of c.talk.new.path) c.talk.new.self.macros s.2 rest)) =
+    subst (λ (p : Nodes). Led g.D.Desk.passes c.args.desk.now c.talk.new.desk (λ t rest. Talks (Expanded c.args.self.now.sid) c.args.self.now.sid s.0 s.1
+    (standing p c.args.self.now.macros [] t) c.talk.result (standing (path_of c.talk.new.path) c.talk.new.self.macros s.2 rest))) c.root-path.ensures s.5 in
     talked-units g.D.Desk.passes _ _ _ c.args.self.now.macros c.talk.new.self.macros _ _ _ s.0 s.1 c.talk.result (path_of c.talk.new.path) s.2
     c.without_line_feed-text.ensures c.if-text-gt-LONGEST.false s.3 (written-ends _ s.2 _ c.in-Ends.is c.new-in-Ends.ensures.items) led
 
@@ -25,8 +25,8 @@ pub returns-in_default-clause-talked : goal.returns-in_default-clause-talked
 returns-in_default-clause-talked g c =
     let s = c.talk.ensures.talks [] c.new-out.ensures.items in
     let led : Led g.D.Desk.passes c.args.desk.now c.talk.new.desk (λ t rest. Talks (Expanded c.args.self.now.sid) c.args.self.now.sid s.0 s.1
-        (standing [] c.args.self.now.macros [] t) c.talk.result (standing (path_of c.talk.new.path) c.talk.new.self.macros s.2 rest)) =
-        subst (λ (p : Nodes). Led g.D.Desk.passes c.args.desk.now c.talk.new.desk (λ t rest. Talks (Expanded c.args.self.now.sid) c.args.self.now.sid s.0 s.1
-        (standing p c.args.self.now.macros [] t) c.talk.result (standing (path_of c.talk.new.path) c.talk.new.self.macros s.2 rest))) c.root-path.ensures s.5 in
+    (standing [] c.args.self.now.macros [] t) c.talk.result (standing (path_of c.talk.new.path) c.talk.new.self.macros s.2 rest)) =
+    subst (λ (p : Nodes). Led g.D.Desk.passes c.args.desk.now c.talk.new.desk (λ t rest. Talks (Expanded c.args.self.now.sid) c.args.self.now.sid s.0 s.1
+    (standing p c.args.self.now.macros [] t) c.talk.result (standing (path_of c.talk.new.path) c.talk.new.self.macros s.2 rest))) c.root-path.ensures s.5 in
     talked-units g.D.Desk.passes _ _ _ c.args.self.now.macros c.talk.new.self.macros _ _ _ s.0 s.1 c.talk.result (path_of c.talk.new.path) s.2
     c.without_line_feed-text.ensures c.if-text-gt-LONGEST.false s.3 (written-line _ s.2 _ c.in_default.not-Ends s.4) led

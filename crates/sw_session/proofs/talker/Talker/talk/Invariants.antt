@@ -12,7 +12,7 @@ invariant-units g l = record {
   so_far : (answers : List (List ℕ)) → l.fn.out.items ≡ line_of answers → (front : List UnitView) × (told : List (List ℕ)) × ScriptsBy l.text front l.left
       × (l.out.items ≡ line_of told)
       × Led g.D.Desk.passes l.fn.desk l.desk (λ t rest. TalksBy (Expanded l.fn.self.sid) l.fn.self.sid front
-          (standing (path_of l.fn.path) l.fn.self.macros answers t) (standing (path_of l.path) l.self.macros told rest));
+      (standing (path_of l.fn.path) l.fn.self.macros answers t) (standing (path_of l.path) l.self.macros told rest));
 }
 
 abbrev pub decreases-units : goal.decreases-units

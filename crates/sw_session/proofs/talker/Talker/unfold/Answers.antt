@@ -14,17 +14,27 @@ units-init g c =
     let all : ScriptsBy c.args.text.now [] c.args.text.now = λ us ending s. s in
     record {
       sid = refl;
-      so_far = λ answers written.
-          ([], answers, all, written, talk-starts g.D.Desk.passes (Itself c.args.self.now.sid) c.args.self.now.sid c.args.desk.now
-          (standing (path_of c.args.path.now) c.args.self.now.macros answers));
+      so_far = λ answers written. (
+        [],
+        answers,
+        all,
+        written,
+        talk-starts g.D.Desk.passes (Itself c.args.self.now.sid) c.args.self.now.sid c.args.desk.now
+            (standing (path_of c.args.path.now) c.args.self.now.macros answers),
+      );
     }
 
 pub returns-in-Ok-None-clause-talks : goal.returns-in-Ok-None-clause-talks
 returns-in-Ok-None-clause-talks g c = λ answers written.
-    let inv = c.units.invariant.so_far answers written in
-    (inv.0 ++ [], Complete, inv.1, inv.2 [] Complete (rw c.in-Ok-None.field-0-is at c.in-Ok-None.ensures.none), inv.3,
-    talk-complete g.D.Desk.passes (Itself c.args.self.now.sid) c.args.self.now.sid _ _ inv.0 (standing (path_of c.args.path.now) c.args.self.now.macros answers)
-    (standing (path_of c.units.path) c.units.self.macros inv.1) inv.4)
+    let inv = c.units.invariant.so_far answers written in (
+      inv.0 ++ [],
+      Complete,
+      inv.1,
+      inv.2 [] Complete (rw c.in-Ok-None.field-0-is at c.in-Ok-None.ensures.none),
+      inv.3,
+      talk-complete g.D.Desk.passes (Itself c.args.self.now.sid) c.args.self.now.sid _ _ inv.0 (standing (path_of c.args.path.now) c.args.self.now.macros answers)
+          (standing (path_of c.units.path) c.units.self.macros inv.1) inv.4,
+    )
 
 pub returns-in-Err-clause-talks : goal.returns-in-Err-clause-talks
 returns-in-Err-clause-talks g c = λ answers written.
@@ -32,13 +42,18 @@ returns-in-Err-clause-talks g c = λ answers written.
     let path = path_of c.units.path in
     let s = c.serve.ensures.serves path inv.1 inv.3 in
     let served : Led g.D.Desk.passes c.units.desk c.serve.new.desk (λ t rest. Serves c.args.self.now.sid (Err c.in-Err.error)
-        (standing path c.units.self.macros inv.1 t) c.serve.result (standing path c.serve.new.self.macros s.0 rest)) =
-        subst (λ (i : Sid). Led g.D.Desk.passes c.units.desk c.serve.new.desk (λ t rest. Serves i (Err c.in-Err.error)
-        (standing path c.units.self.macros inv.1 t) c.serve.result (standing path c.serve.new.self.macros s.0 rest))) c.units.invariant.sid s.2 in
-    (inv.0 ++ [], Refuses c.in-Err.error, s.0, inv.2 [] (Refuses c.in-Err.error) c.in-Err.ensures.refused, s.1,
-    talk-refused g.D.Desk.passes (Itself c.args.self.now.sid) c.args.self.now.sid _ _ _ inv.0 c.in-Err.error
-    (standing (path_of c.args.path.now) c.args.self.now.macros answers) (standing path c.units.self.macros inv.1) (standing path c.serve.new.self.macros s.0)
-    c.serve.result inv.4 served)
+    (standing path c.units.self.macros inv.1 t) c.serve.result (standing path c.serve.new.self.macros s.0 rest)) =
+    subst (λ (i : Sid). Led g.D.Desk.passes c.units.desk c.serve.new.desk (λ t rest. Serves i (Err c.in-Err.error)
+    (standing path c.units.self.macros inv.1 t) c.serve.result (standing path c.serve.new.self.macros s.0 rest))) c.units.invariant.sid s.2 in (
+      inv.0 ++ [],
+      Refuses c.in-Err.error,
+      s.0,
+      inv.2 [] (Refuses c.in-Err.error) c.in-Err.ensures.refused,
+      s.1,
+      talk-refused g.D.Desk.passes (Itself c.args.self.now.sid) c.args.self.now.sid _ _ _ inv.0 c.in-Err.error
+          (standing (path_of c.args.path.now) c.args.self.now.macros answers) (standing path c.units.self.macros inv.1) (standing path c.serve.new.self.macros s.0)
+          c.serve.result inv.4 served,
+    )
 
 pub units-preserved : goal.units-preserved
 units-preserved g c = record {
@@ -49,14 +64,18 @@ units-preserved g c = record {
       let s = c.in-Goes.ensures.unit inv.1 inv.3 in
       let is : IsUnit c.units.left.now u c.in-Ok-Some.rest.now = rw c.in-Ok-Some.field-0-is at c.in-Ok-Some.ensures.unit in
       let done : Led g.D.Desk.passes c.units.desk c.unit.new.desk (λ t rest. Itself c.args.self.now.sid u
-          (standing (path_of c.units.path) c.units.self.macros inv.1 t) Goes (standing (path_of c.unit.new.path) c.unit.new.self.macros s.0 rest)) =
-          subst (λ (i : Sid). Led g.D.Desk.passes c.units.desk c.unit.new.desk (λ t rest. Itself i u
-          (standing (path_of c.units.path) c.units.self.macros inv.1 t) Goes (standing (path_of c.unit.new.path) c.unit.new.self.macros s.0 rest)))
-              c.units.invariant.sid s.2 in
-      (inv.0 ++ u ∷ [], s.0, scripts-more _ _ _ inv.0 u is inv.2, s.1,
-      talk-goes g.D.Desk.passes (Itself c.args.self.now.sid) c.args.self.now.sid _ _ _ inv.0 u
-          (standing (path_of c.args.path.now) c.args.self.now.macros answers)
-      (standing (path_of c.units.path) c.units.self.macros inv.1) (standing (path_of c.unit.new.path) c.unit.new.self.macros s.0) inv.4 done);
+      (standing (path_of c.units.path) c.units.self.macros inv.1 t) Goes (standing (path_of c.unit.new.path) c.unit.new.self.macros s.0 rest)) =
+      subst (λ (i : Sid). Led g.D.Desk.passes c.units.desk c.unit.new.desk (λ t rest. Itself i u
+      (standing (path_of c.units.path) c.units.self.macros inv.1 t) Goes (standing (path_of c.unit.new.path) c.unit.new.self.macros s.0 rest)))
+      c.units.invariant.sid s.2 in (
+        inv.0 ++ u ∷ [],
+        s.0,
+        scripts-more _ _ _ inv.0 u is inv.2,
+        s.1,
+        talk-goes g.D.Desk.passes (Itself c.args.self.now.sid) c.args.self.now.sid _ _ _ inv.0 u
+            (standing (path_of c.args.path.now) c.args.self.now.macros answers)
+            (standing (path_of c.units.path) c.units.self.macros inv.1) (standing (path_of c.unit.new.path) c.unit.new.self.macros s.0) inv.4 done,
+      );
 }
 
 pub returns-in_default-clause-talks : goal.returns-in_default-clause-talks
@@ -66,12 +85,17 @@ returns-in_default-clause-talks g c = λ answers written.
     let s = c.unit.ensures.unit inv.1 inv.3 in
     let is : IsUnit c.units.left.now u c.in-Ok-Some.rest.now = rw c.in-Ok-Some.field-0-is at c.in-Ok-Some.ensures.unit in
     let done : Led g.D.Desk.passes c.units.desk c.unit.new.desk (λ t rest. Itself c.args.self.now.sid u
-        (standing (path_of c.units.path) c.units.self.macros inv.1 t) c.unit.result (standing (path_of c.unit.new.path) c.unit.new.self.macros s.0 rest)) =
-        subst (λ (i : Sid). Led g.D.Desk.passes c.units.desk c.unit.new.desk (λ t rest. Itself i u
-        (standing (path_of c.units.path) c.units.self.macros inv.1 t) c.unit.result (standing (path_of c.unit.new.path) c.unit.new.self.macros s.0 rest)))
-        c.units.invariant.sid s.2 in
-    (inv.0 ++ u ∷ [], Unread, s.0, inv.2 (u ∷ []) Unread (_, is, tt), s.1,
-    talk-stops g.D.Desk.passes (Itself c.args.self.now.sid) c.args.self.now.sid _ _ _ inv.0 u
-        (standing (path_of c.args.path.now) c.args.self.now.macros answers)
-    (standing (path_of c.units.path) c.units.self.macros inv.1) (standing (path_of c.unit.new.path) c.unit.new.self.macros s.0) c.unit.result
-        c.in_default.not-Goes inv.4 done)
+    (standing (path_of c.units.path) c.units.self.macros inv.1 t) c.unit.result (standing (path_of c.unit.new.path) c.unit.new.self.macros s.0 rest)) =
+    subst (λ (i : Sid). Led g.D.Desk.passes c.units.desk c.unit.new.desk (λ t rest. Itself i u
+    (standing (path_of c.units.path) c.units.self.macros inv.1 t) c.unit.result (standing (path_of c.unit.new.path) c.unit.new.self.macros s.0 rest)))
+    c.units.invariant.sid s.2 in (
+      inv.0 ++ u ∷ [],
+      Unread,
+      s.0,
+      inv.2 (u ∷ []) Unread (_, is, tt),
+      s.1,
+      talk-stops g.D.Desk.passes (Itself c.args.self.now.sid) c.args.self.now.sid _ _ _ inv.0 u
+          (standing (path_of c.args.path.now) c.args.self.now.macros answers)
+          (standing (path_of c.units.path) c.units.self.macros inv.1) (standing (path_of c.unit.new.path) c.unit.new.self.macros s.0) c.unit.result
+          c.in_default.not-Goes inv.4 done,
+    )

@@ -11,7 +11,7 @@ returns-clause-unit g c =
     let command = c.resolve-resolved.result.command in
     let onward = path_of c.resolve-resolved.result.path in
     let resolves : Resolves u (path_of c.args.path.now) command onward =
-        subst (λ (p : _). Resolves u (path_of p) command onward) c.replace-below.ensures.value c.resolve-resolved.ensures in
+    subst (λ (p : _). Resolves u (path_of p) command onward) c.replace-below.ensures.value c.resolve-resolved.ensures in
     itself-served g.D.Desk.passes (spot c.args.desk.now (path_of c.args.path.now) c.args.self.now.macros c.args.out.now.items)
     (spot c.serve.new.desk onward c.serve.new.self.macros c.serve.new.out.items) c.args.self.now.sid u command c.serve.result resolves
-        (c.serve.ensures.serves onward)
+    (c.serve.ensures.serves onward)

@@ -14,5 +14,5 @@ returns-clause-arm1 c =
     let s = c.args.self.now in
     let pass : c.head_len-pass.result + 1 ≡ length (in_pass s) = cc (length-in_pass s) in
     let arm2 : c.head_len-arm2_head.result + c.from.result * (c.head_len-pass.result + 1) ≡ length (in_arm2 s) =
-        arm2_is s c.head_len-arm2_head.result c.from.result (c.head_len-pass.result + 1) (cc) (cc) pass in
+    arm2_is s c.head_len-arm2_head.result c.from.result (c.head_len-pass.result + 1) (cc) (cc) pass in
     arm1_is s c.head_len-arm1_head.result c.from-2.result (c.head_len-arm2_head.result + c.from.result * (c.head_len-pass.result + 1)) (cc) (cc) arm2

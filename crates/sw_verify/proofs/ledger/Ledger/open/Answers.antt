@@ -11,6 +11,8 @@ returns-clause-opened c = λ start b m s.
     let below : group_of layout c.args.c < 256 = omega (arith, c.group.ensures) in
     let own : m c.args.c ≡ true =
     sym (tells_at start b m l.mine s.mine c.args.c c.place-at.ensures.channel) ∙ ap (λ a. slice_index_or l.mine a false) (sym c.place-at.ensures.place)
-        ∙ c.if-not-self-at.false in
-    (own, shows_without layout start b m l s c.args.c c.place-at.ensures.channel below own c.place-at.result c.from.result c.place-at.ensures.place
-        (c.from.ensures ∙ c.group.ensures))
+    ∙ c.if-not-self-at.false in (
+      own,
+      shows_without layout start b m l s c.args.c c.place-at.ensures.channel below own c.place-at.result c.from.result c.place-at.ensures.place
+          (c.from.ensures ∙ c.group.ensures),
+    )
