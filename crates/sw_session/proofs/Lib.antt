@@ -9,3 +9,5 @@ pub mod HandedBack
 pub mod Acted
 pub mod Determined
 pub mod CoreTalk
+pub mod Cuts
+pub mod SubAddress

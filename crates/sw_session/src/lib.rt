@@ -16,6 +16,7 @@
 mod asking;
 mod core_desk;
 mod desk;
+mod engine;
 mod laws;
 mod line;
 mod macros;

@@ -1,0 +1,6 @@
+//! HiSLIP.
+
+mod answers;
+mod initialization;
+mod refusals;
+mod responses;
