@@ -7,12 +7,12 @@ use Rattle.std.specs.Io.BufRead.{take_through, drop_through, DropsThrough}
 use Rattle.sw_core.specs.declared.ask.Sid.{Sid}
 use Rattle.sw_core.specs.Panel.{Panel}
 use Rattle.sw_macro.specs.Table.{Table, no_macros}
-use Rattle.sw_session.specs.CoreDesk.{DeskSeen, CorePasses, Rests}
+use Rattle.sw_session.specs.CoreDesk.{desk_over, DeskSeen, CorePasses, Rests}
 use Rattle.sw_session.specs.Talk.{Talked}
 use Rattle.mainframe.specs.Lines.{lines_of, WritesPart}
 use Rattle.sw_card.specs.Account.{Account}
 use Rattle.mainframe.specs.Cards.{Fitted, fitted}
-use Rattle.mainframe.specs.Run.{State, state, desk_over, begins_over, IsSetUp, Line, Run, Runs, AnsweredFrom, PartFrom, CutFrom, EndsFrom}
+use Rattle.mainframe.specs.Run.{State, state, begins_over, IsSetUp, Line, Run, Runs, AnsweredFrom, PartFrom, CutFrom, EndsFrom}
 use Rattle.mainframe.specs.declared.fault.RunFault.{RunFault}
 use Rattle.mainframe.specs.declared.fault.RunFault.TheVariants.{Input, Output, Memory}
 use Rattle.mainframe.proofs.Known.{appends-more}
@@ -200,13 +200,12 @@ IfErr_map (Ok t) f h = tt
 IfErr_map (Err e) f h = f e h
 
 -- and from the desk over it, with the cards by what their makers say of them
-pub runs_begun : (first second third fourth f s t m : Account) → f ≡ first → s ≡ second → t ≡ third → m ≡ fourth → (sid : Sid) (core : Panel) (desk : DeskSeen) → desk.panel ≡ core → desk.work ≡ [] → (result : Result (Unit {0}) RunFault) (r0 left old new : Option (List ℕ)) → IsSetUp (fitted f s t m) sid core
+pub runs_begun : (first second third fourth f s t m : Account) → f ≡ first → s ≡ second → t ≡ third → m ≡ fourth → (sid : Sid) (core : Panel) (desk : DeskSeen) → desk ≡ desk_over core → (result : Result (Unit {0}) RunFault) (r0 left old new : Option (List ℕ)) → IsSetUp (fitted f s t m) sid core
     → OnOk result (IfSome r0 (λ input. AnsweredFrom sid (state desk no_macros) input [] old new)) → OnOk result (IfSome r0 (λ _. IsAtEnd left)) → IfErr result (λ fault. IfSome r0 (λ input. EndsFrom sid (state desk no_macros) fault input left old new))
     → IfSome r0 (λ input. Runs (fitted first second third fourth) result input left old new)
-runs_begun first second third fourth f s t m a b c d sid core desk e w result r0 left old new up ok all err =
+runs_begun first second third fourth f s t m a b c d sid core desk is result r0 left old new up ok all err =
     let one : IsSetUp (fitted first s t m) sid core = subst (λ (x : Account). IsSetUp (fitted x s t m) sid core) a up in
     let two : IsSetUp (fitted first second t m) sid core = subst (λ (x : Account). IsSetUp (fitted first x t m) sid core) b one in
     let three : IsSetUp (fitted first second third m) sid core = subst (λ (x : Account). IsSetUp (fitted first second x m) sid core) c two in
     let four : IsSetUp (fitted first second third fourth) sid core = subst (λ (x : Account). IsSetUp (fitted first second third x) sid core) d three in
-    let is : desk ≡ desk_over core = ap (λ (p : Panel). let d : DeskSeen = record { panel = p; work = desk.work } in d) e ∙ ap (λ (l : _). let d : DeskSeen = record { panel = core; work = l } in d) w in
     runs_set_up (fitted first second third fourth) sid core result r0 left old new four (OnOk_map result (λ h. subst (λ (d : DeskSeen). IfSome r0 (λ input. AnsweredFrom sid (state d no_macros) input [] old new)) is h) ok) all (IfErr_map result (λ fault h. subst (λ (d : DeskSeen). IfSome r0 (λ input. EndsFrom sid (state d no_macros) fault input left old new)) is h) err)

@@ -9,7 +9,7 @@ use Rattle.sw_core.specs.Panel.{Panel, opening}
 use Rattle.sw_core.specs.View.{AskView, AskSession, AskInstall, AnswerView, SaysSession}
 use Rattle.sw_core.specs.Step.{Step}
 use Rattle.sw_macro.specs.Table.{Table, no_macros}
-use Rattle.sw_session.specs.CoreDesk.{DeskSeen, CorePasses, Rests}
+use Rattle.sw_session.specs.CoreDesk.{DeskSeen, CorePasses, Rests, desk_over}
 use Rattle.sw_session.specs.Talk.{Talked}
 use Rattle.mainframe.specs.declared.fault.RunFault.{RunFault}
 use Rattle.mainframe.specs.declared.fault.RunFault.TheVariants.{Input, Output, Memory}
@@ -23,10 +23,6 @@ pub record State : Type 0 where
 
 abbrev pub state : DeskSeen → Table → State
 state desk macros = record { desk = desk; macros = macros }
-
--- a desk over this mainframe, with nothing outstanding
-abbrev pub desk_over : Panel → DeskSeen
-desk_over p = record { panel = p; work = [] }
 
 -- a run begins over this mainframe with nothing outstanding, no macro, and macros off
 abbrev pub begins_over : Panel → State

@@ -1,5 +1,5 @@
 -- A talk over a mainframe leaves no choice but what is measured, where memory suffices and no card fails.
-use Rattle.std.proofs.Common.{◌≡◌, ℕ, zero, suc, List, [], ◌∷◌, ◌++◌, replicate, Option, Some, None, Result, Ok, Err, refl, ap, sym, ◌∙◌, subst, arith}
+use Rattle.std.proofs.Common.{◌≡◌, ℕ, zero, suc, Bool, List, [], ◌∷◌, ◌++◌, replicate, Option, Some, None, Result, Ok, Err, refl, ap, sym, ◌∙◌, subst, arith}
 use Rattle.std.specs.Io.BufRead.{strip_last}
 use Rattle.std.proofs.lemmas.List.{append_assoc}
 use Rattle.sw_base.specs.declared.reading.Reading.{Reading}
@@ -7,27 +7,36 @@ use Rattle.sw_card.specs.declared.board.CardFault.{CardFault}
 use Rattle.sw_card.specs.Account.{MeterAccount, IsMeasured}
 use Rattle.sw_cage.specs.Work.{JobSeen, FinishedSeen, IsDone}
 use Rattle.sw_cage.specs.declared.job.Ticket.{Ticket}
+use Rattle.sw_core.specs.declared.ask.Sid.{Sid}
 use Rattle.sw_core.specs.declared.ask.SessionAsk.{SessionAsk}
 use Rattle.sw_core.specs.declared.ask.SessionAnswer.{SessionAnswer}
 use Rattle.sw_core.specs.Panel.{Panel}
 use Rattle.sw_core.specs.Run.{StepIsDetermined, IsPlain, KeepsKey}
 use Rattle.sw_core.specs.Step.{Step}
 use Rattle.sw_core.specs.View.{WorkView, Measures, Pauses, AskView, AskSession, AskFinished, AnswerView, SaysSession}
+use Rattle.sw_session.specs.declared.desk.View.{View}
 use Rattle.sw_session.specs.declared.desk.Wake.{Wake}
 use Rattle.sw_session.specs.declared.desk.Wake.TheVariants.{Again, Over}
-use Rattle.sw_session.specs.Trace.{Entry, Asked, Waited, Leads}
-use Rattle.sw_session.specs.CoreDesk.{DeskSeen, Carried, Tells, Keeps, Answers, Works, PassesBy, CorePasses, brought}
-use Rattle.sw_session.specs.Law.{SameTalk, TellsPlainly, KeepsKeys, IsSmooth, AllSmooth, carried_of, measured, outcomes_in, outcomes_of, waits_of, Left, left, TalkIsDetermined, CoreTalkIsDetermined, CoreRestIsDetermined}
+use Rattle.sw_session.specs.Trace.{Entry, Asked, Waited, Polled, Noted, Leads}
+use Rattle.sw_session.specs.Available.{with_note}
+use Rattle.sw_session.specs.CoreDesk.{DeskSeen, Carried, Tells, Keeps, Answers, Works, PassesBy, CorePasses, brought, view_of}
+use Rattle.sw_session.specs.Law.{SameCall, SameTalk, TellsPlainly, KeepsKeys, IsSmooth, AllSmooth, carried_of, measured, outcomes_in, outcomes_of, waits_of, Left, left, TalkIsDetermined, CoreTalkIsDetermined, CoreRestIsDetermined}
 
 -- what is kept, where nothing is carried out at once
-kept-same : (p : Panel) (brings : Option WorkView) (work : List WorkView) (q q' : DeskSeen) → Keeps [] p brings work q → Keeps [] p brings work q' → q ≡ q'
-kept-same p None work q q' k k' = k ∙ sym k'
-kept-same p (Some piece) work q q' k k' = k ∙ sym k'
+kept-same : (d : DeskSeen) (brings : Option WorkView) (q q' : DeskSeen) → Keeps [] d brings q → Keeps [] d brings q' → q ≡ q'
+kept-same d None q q' k k' = k ∙ sym k'
+kept-same d (Some piece) q q' k k' = k ∙ sym k'
 
-keeps-same : (p p' : Panel) (brings brings' : Option WorkView) (work work' : List WorkView) (q q' : DeskSeen) → p ≡ p' → brings ≡ brings' → work ≡ work' → Keeps [] p brings work q → Keeps [] p' brings' work' q' → q ≡ q'
-keeps-same p p' brings brings' work work' q q' panels works queues k k' =
-    kept-same p brings work q q' k
-    (subst (λ (x : Panel). Keeps [] x brings work q') (sym panels) (subst (λ (x : Option WorkView). Keeps [] p' x work q') (sym works) (subst (λ (x : List WorkView). Keeps [] p' brings' x q') (sym queues) k')))
+keeps-same : (d d' : DeskSeen) (brings brings' : Option WorkView) (q q' : DeskSeen) → d ≡ d' → brings ≡ brings' → Keeps [] d brings q → Keeps [] d' brings' q' → q ≡ q'
+keeps-same d d' brings brings' q q' desks works k k' =
+    kept-same d brings q q' k (subst (λ (x : DeskSeen). Keeps [] x brings q') (sym desks) (subst (λ (x : Option WorkView). Keeps [] d' x q') (sym works) k'))
+
+-- a desk with another mainframe, and with other work
+panels-same : (d d' : DeskSeen) (p p' : Panel) → d ≡ d' → p ≡ p' → record d { panel = p } ≡ record d' { panel = p' }
+panels-same d d' p p' desks panels = ap (λ (x : DeskSeen). record x { panel = p }) desks ∙ ap (λ (x : Panel). record d' { panel = x }) panels
+
+works-same : (d d' : DeskSeen) (work work' : List WorkView) → d ≡ d' → work ≡ work' → record d { work = work } ≡ record d' { work = work' }
+works-same d d' work work' desks works = ap (λ (x : DeskSeen). record x { work = work }) desks ∙ ap (λ (x : List WorkView). record d' { work = x }) works
 
 same-answer : (r s : SessionAnswer) (v w : Option WorkView) → SaysSession r v ≡ SaysSession s w → r ≡ s
 same-answer r s v w is = cc (is)
@@ -78,7 +87,8 @@ asked-same once d d' ask ask' r r' q q' desks asks plain plain' keys keys' a a' 
     (subst (λ (x : DeskSeen). Step x.panel (AskSession ask') a'.failed (SaysSession r' a'.brings) a'.after) (sym desks) a'.step) in
     let one = once d.panel a.after a'.after (AskSession ask) a.failed a'.failed (SaysSession r a.brings) (SaysSession r' a'.brings) a.step here (plain a.brings) (plain' a'.brings) (keys d.panel a.brings) key in (
       same-answer r r' a.brings a'.brings one.0,
-      keeps-same a.after a'.after a.brings a'.brings d.work d'.work q q' one.1 (same-work r r' a.brings a'.brings one.0) (ap (λ (x : DeskSeen). x.work) desks) a.keeps a'.keeps,
+      keeps-same (record d { panel = a.after }) (record d' { panel = a'.after }) a.brings a'.brings q q' (panels-same d d' a.after a'.after desks one.1)
+          (same-work r r' a.brings a'.brings one.0) a.keeps a'.keeps,
     )
 
 first-piece : (x y : WorkView) (xs ys : List WorkView) → x ∷ xs ≡ y ∷ ys → x ≡ y
@@ -101,51 +111,86 @@ worked-same once d d' q q' c c' os os' desks plain plain' outcomes w w' =
     let here : Step d.panel c.ask c'.failed c'.answer c'.after =
     subst (λ (x : AskView). Step d.panel x c'.failed c'.answer c'.after) (sym told.0) (subst (λ (x : DeskSeen). Step x.panel c'.ask c'.failed c'.answer c'.after) (sym desks) w'.carries.step) in
     let one = once d.panel c.after c'.after c.ask c.failed c'.failed c.answer c'.answer w.carries.step here plain plain' (told-keeps w.piece d.panel c.ask c.answer w.carries.tells) (told-keeps w.piece d.panel c.ask c'.answer w.carries.tells) in (
-      keeps-same c.after c'.after (brought c.answer) (brought c'.answer) w.others w'.others q q' one.1 (ap brought one.0) (other-pieces w.piece w'.piece w.others w'.others queues) w.keeps w'.keeps,
+      keeps-same (record d { panel = c.after; work = w.others }) (record d' { panel = c'.after; work = w'.others }) (brought c.answer) (brought c'.answer) q q'
+          (works-same (record d { panel = c.after }) (record d' { panel = c'.after }) w.others w'.others (panels-same d d' c.after c'.after desks one.1) (other-pieces w.piece w'.piece w.others w'.others queues))
+          (ap brought one.0) w.keeps w'.keeps,
       told.1,
     )
 
 -- a wait
-waited-same : StepIsDetermined → (d d' q q' : DeskSeen) (w w' : Wake) (cs cs' : List Carried) (os os' : List (Result Reading CardFault)) → d ≡ d' → IsSmooth (Waited w) cs → IsSmooth (Waited w') cs' → outcomes_in cs ++ os ≡ outcomes_in cs' ++ os'
-    → PassesBy cs d (Waited w) q → PassesBy cs' d' (Waited w') q' → (w ≡ w') × (q ≡ q') × (os ≡ os')
-waited-same once d d' q q' Again w' [] cs' os os' desks m n outcomes p p' = absurd p
-waited-same once d d' q q' Again w' (a ∷ b ∷ cs) cs' os os' desks m n outcomes p p' = absurd (omega arith)
-waited-same once d d' q q' Again Again (c ∷ []) [] os os' desks m n outcomes p p' = absurd p'
-waited-same once d d' q q' Again Again (c ∷ []) (a ∷ b ∷ cs') os os' desks m n outcomes p p' = absurd (omega arith)
-waited-same once d d' q q' Again Again (c ∷ []) (c' ∷ []) os os' desks m n outcomes p p' =
+waited-same : StepIsDetermined → (d d' q q' : DeskSeen) (limit limit' : Option ℕ) (w w' : Wake) (cs cs' : List Carried) (os os' : List (Result Reading CardFault)) → d ≡ d' → limit ≡ limit' → IsSmooth (Waited limit w) cs
+    → IsSmooth (Waited limit' w') cs' → outcomes_in cs ++ os ≡ outcomes_in cs' ++ os' → PassesBy cs d (Waited limit w) q → PassesBy cs' d' (Waited limit' w') q' → (w ≡ w') × (q ≡ q') × (os ≡ os')
+waited-same once d d' q q' limit limit' (Again left) w' [] cs' os os' desks limits m n outcomes p p' = absurd p
+waited-same once d d' q q' limit limit' (Again left) w' (a ∷ b ∷ cs) cs' os os' desks limits m n outcomes p p' = absurd (omega arith)
+waited-same once d d' q q' limit limit' (Again left) (Again left') (c ∷ []) [] os os' desks limits m n outcomes p p' = absurd p'
+waited-same once d d' q q' limit limit' (Again left) (Again left') (c ∷ []) (a ∷ b ∷ cs') os os' desks limits m n outcomes p p' = absurd (omega arith)
+waited-same once d d' q q' limit limit' (Again left) (Again left') (c ∷ []) (c' ∷ []) os os' desks limits m n outcomes p p' =
     let joined : measured c.ask ++ os ≡ measured c'.ask ++ os' = sym (append_assoc (measured c.ask) [] os) ∙ outcomes ∙ append_assoc (measured c'.ask) [] os' in
-    let one = worked-same once d d' q q' c c' os os' desks m.0.0 n.0.0 joined p p' in
-    (refl, one.0, one.1)
-waited-same once d d' q q' Again Over (c ∷ []) [] os os' desks m n outcomes p p' =
-    let none : p.piece ∷ p.others ≡ [] = sym p.oldest ∙ ap (λ (x : DeskSeen). x.work) desks ∙ p'.0 in absurd (cc none)
-waited-same once d d' q q' Again Over (c ∷ []) (c' ∷ cs') os os' desks m n outcomes p p' = absurd p'
-waited-same once d d' q q' Over w' (c ∷ cs) cs' os os' desks m n outcomes p p' = absurd p
-waited-same once d d' q q' Over Again [] [] os os' desks m n outcomes p p' = absurd p'
-waited-same once d d' q q' Over Again [] (c' ∷ cs') os os' desks m n outcomes p p' =
-    let none : p'.piece ∷ p'.others ≡ [] = sym p'.oldest ∙ ap (λ (x : DeskSeen). x.work) (sym desks) ∙ p.0 in absurd (cc none)
-waited-same once d d' q q' Over Over [] [] os os' desks m n outcomes p p' = (refl, p.1 ∙ desks ∙ sym p'.1, outcomes)
-waited-same once d d' q q' Over Over [] (c' ∷ cs') os os' desks m n outcomes p p' = absurd p'
+    let one = worked-same once d d' q q' c c' os os' desks m.0.0 n.0.0 joined p.1 p'.1 in
+    (ap (λ (x : Option ℕ). Again x) (p.0 ∙ limits ∙ sym p'.0), one.0, one.1)
+waited-same once d d' q q' limit limit' (Again left) Over (c ∷ []) [] os os' desks limits m n outcomes p p' =
+    let none : p.1.piece ∷ p.1.others ≡ [] = sym p.1.oldest ∙ ap (λ (x : DeskSeen). x.work) desks ∙ p'.0 in absurd (cc none)
+waited-same once d d' q q' limit limit' (Again left) Over (c ∷ []) (c' ∷ cs') os os' desks limits m n outcomes p p' = absurd p'
+waited-same once d d' q q' limit limit' Over w' (c ∷ cs) cs' os os' desks limits m n outcomes p p' = absurd p
+waited-same once d d' q q' limit limit' Over (Again left) [] [] os os' desks limits m n outcomes p p' = absurd p'
+waited-same once d d' q q' limit limit' Over (Again left) [] (c' ∷ cs') os os' desks limits m n outcomes p p' =
+    let none : p'.1.piece ∷ p'.1.others ≡ [] = sym p'.1.oldest ∙ ap (λ (x : DeskSeen). x.work) (sym desks) ∙ p.0 in absurd (cc none)
+waited-same once d d' q q' limit limit' Over Over [] [] os os' desks limits m n outcomes p p' = (refl, p.1 ∙ desks ∙ sym p'.1, outcomes)
+waited-same once d d' q q' limit limit' Over Over [] (c' ∷ cs') os os' desks limits m n outcomes p p' = absurd p'
+
+-- a look at a session's status
+polled-same : (d d' q q' : DeskSeen) (sid sid' : Sid) (v v' : View) (cs cs' : List Carried) (os os' : List (Result Reading CardFault)) → d ≡ d' → sid ≡ sid' → outcomes_in cs ++ os ≡ outcomes_in cs' ++ os'
+    → PassesBy cs d (Polled sid v) q → PassesBy cs' d' (Polled sid' v') q' → (v ≡ v') × (q ≡ q') × (os ≡ os')
+polled-same d d' q q' sid sid' v v' [] [] os os' desks sids outcomes p p' = (
+  p.0 ∙ ap (λ (x : DeskSeen). view_of x sid) desks ∙ ap (λ (x : Sid). view_of d' x) sids ∙ sym p'.0,
+  p.1 ∙ desks ∙ sym p'.1,
+  outcomes,
+)
+polled-same d d' q q' sid sid' v v' (c ∷ cs) cs' os os' desks sids outcomes p p' = absurd p
+polled-same d d' q q' sid sid' v v' [] (c' ∷ cs') os os' desks sids outcomes p p' = absurd p'
+
+-- a note
+noted-same : (d d' q q' : DeskSeen) (sid sid' : Sid) (m m' : Bool) (cs cs' : List Carried) (os os' : List (Result Reading CardFault)) → d ≡ d' → sid ≡ sid' → m ≡ m' → outcomes_in cs ++ os ≡ outcomes_in cs' ++ os'
+    → PassesBy cs d (Noted sid m) q → PassesBy cs' d' (Noted sid' m') q' → (q ≡ q') × (os ≡ os')
+noted-same d d' q q' sid sid' m m' [] [] os os' desks sids notes outcomes p p' = (
+  p ∙ ap (λ (x : DeskSeen). record x { available = with_note x.available sid m }) desks ∙ ap (λ (x : Sid). record d' { available = with_note d'.available x m }) sids
+      ∙ ap (λ (x : Bool). record d' { available = with_note d'.available sid' x }) notes ∙ sym p',
+  outcomes,
+)
+noted-same d d' q q' sid sid' m m' (c ∷ cs) cs' os os' desks sids notes outcomes p p' = absurd p
+noted-same d d' q q' sid sid' m m' [] (c' ∷ cs') os os' desks sids notes outcomes p p' = absurd p'
+
+-- one call: it comes to the same, and what follows it does
+abbrev SameAfter : Entry → Entry → DeskSeen → DeskSeen → List (Result Reading CardFault) → List (Result Reading CardFault) → Type 0 → Type 0
+SameAfter e e' q q' os os' follows = (e ≡ e') × (q ≡ q') × (os ≡ os') × follows
+
+passed-same : StepIsDetermined → (d d' q q' : DeskSeen) (e e' : Entry) (cs cs' : List Carried) (os os' : List (Result Reading CardFault)) (follows : Type 0) → d ≡ d' → IsSmooth e cs → IsSmooth e' cs'
+    → outcomes_in cs ++ os ≡ outcomes_in cs' ++ os' → PassesBy cs d e q → PassesBy cs' d' e' q' → SameCall e e' follows → SameAfter e e' q q' os os' follows
+passed-same once d d' q q' (Asked a r) (Asked a' r') cs cs' os os' follows desks m n outcomes p p' (asks, on) =
+    let none : cs ≡ [] = m.1 in
+    let none' : cs' ≡ [] = n.1 in
+    let one = asked-same once d d' a a' r r' q q' desks asks m.0 n.0 m.2 n.2 (subst (λ (x : List Carried). Answers x d a r q) none p) (subst (λ (x : List Carried). Answers x d' a' r' q') none' p') in
+    let left : os ≡ os' = subst (λ (x : List Carried). outcomes_in x ++ os ≡ os') none (subst (λ (x : List Carried). outcomes_in cs ++ os ≡ outcomes_in x ++ os') none' outcomes) in
+    (cc (asks, one.0), one.1, left, on one.0)
+passed-same once d d' q q' (Waited l w) (Waited l' w') cs cs' os os' follows desks m n outcomes p p' (limits, on) =
+    let one = waited-same once d d' q q' l l' w w' cs cs' os os' desks limits m n outcomes p p' in
+    (cc (limits, one.0), one.1, one.2, on one.0)
+passed-same once d d' q q' (Polled sid v) (Polled sid' v') cs cs' os os' follows desks m n outcomes p p' (sids, on) =
+    let one = polled-same d d' q q' sid sid' v v' cs cs' os os' desks sids outcomes p p' in
+    (cc (sids, one.0), one.1, one.2, on one.0)
+passed-same once d d' q q' (Noted sid b) (Noted sid' b') cs cs' os os' follows desks m n outcomes p p' (sids, notes, on) =
+    let one = noted-same d d' q q' sid sid' b b' cs cs' os os' desks sids notes outcomes p p' in
+    (cc (sids, notes), one.0, one.1, on)
+passed-same once d d' q q' e e' cs cs' os os' follows desks m n outcomes p p' same = absurd same
 
 same-run : StepIsDetermined → {T : Type 0} (d d' q q' : DeskSeen) (b b' : T) (t t' : List Entry) (l : Leads CorePasses d t q) (l' : Leads CorePasses d' t' q') → d ≡ d' → AllSmooth t (carried_of d t q l) → AllSmooth t' (carried_of d' t' q' l')
     → outcomes_of (carried_of d t q l) ≡ outcomes_of (carried_of d' t' q' l') → SameTalk b b' t t' → (t ≡ t') × (b ≡ b') × (q ≡ q')
 same-run once d d' q q' b b' [] [] l l' desks m n outcomes s = (refl, s, l ∙ desks ∙ sym l')
 same-run once d d' q q' b b' [] (e ∷ t') l l' desks m n outcomes s = absurd s
-same-run once d d' q q' b b' (Asked a r ∷ t) [] l l' desks m n outcomes s = absurd s
-same-run once d d' q q' b b' (Asked a r ∷ t) (Waited w ∷ t') l l' desks m n outcomes s = absurd s
-same-run once d d' q q' b b' (Waited w ∷ t) [] l l' desks m n outcomes s = absurd s
-same-run once d d' q q' b b' (Waited w ∷ t) (Asked a r ∷ t') l l' desks m n outcomes s = absurd s
-same-run once d d' q q' b b' (Asked a r ∷ t) (Asked a' r' ∷ t') (mid, (cs, p), l) (mid', (cs', p'), l') desks m n outcomes (asks, on) =
-    let none : cs ≡ [] = m.0.1 in
-    let none' : cs' ≡ [] = n.0.1 in
-    let one = asked-same once d d' a a' r r' mid mid' desks asks m.0.0 n.0.0 m.0.2 n.0.2 (subst (λ (x : List Carried). Answers x d a r mid) none p) (subst (λ (x : List Carried). Answers x d' a' r' mid') none' p') in
-    let left : outcomes_of (carried_of mid t q l) ≡ outcomes_of (carried_of mid' t' q' l') =
-    subst (λ (x : List Carried). outcomes_in x ++ outcomes_of (carried_of mid t q l) ≡ outcomes_of (carried_of mid' t' q' l')) none
-    (subst (λ (x : List Carried). outcomes_in cs ++ outcomes_of (carried_of mid t q l) ≡ outcomes_in x ++ outcomes_of (carried_of mid' t' q' l')) none' outcomes) in
-    let rest = same-run once mid mid' q q' b b' t t' l l' one.1 m.1 n.1 left (on one.0) in
-    (cc (asks, one.0, rest.0), rest.1, rest.2)
-same-run once d d' q q' b b' (Waited w ∷ t) (Waited w' ∷ t') (mid, (cs, p), l) (mid', (cs', p'), l') desks m n outcomes on =
-    let one = waited-same once d d' mid mid' w w' cs cs' (outcomes_of (carried_of mid t q l)) (outcomes_of (carried_of mid' t' q' l')) desks m.0 n.0 outcomes p p' in
-    let rest = same-run once mid mid' q q' b b' t t' l l' one.1 m.1 n.1 one.2 (on one.0) in
+same-run once d d' q q' b b' (e ∷ t) [] l l' desks m n outcomes s = absurd s
+same-run once d d' q q' b b' (e ∷ t) (e' ∷ t') (mid, (cs, p), l) (mid', (cs', p'), l') desks m n outcomes s =
+    let one = passed-same once d d' mid mid' e e' cs cs' (outcomes_of (carried_of mid t q l)) (outcomes_of (carried_of mid' t' q' l')) (SameTalk b b' t t') desks m.0 n.0 outcomes p p' s in
+    let rest = same-run once mid mid' q q' b b' t t' l l' one.1 m.1 n.1 one.2 one.3 in
     (cc (one.0, rest.0), rest.1, rest.2)
 
 pub core-talk-determined : StepIsDetermined → TalkIsDetermined → CoreTalkIsDetermined
@@ -154,11 +199,11 @@ core-talk-determined once talk sid d e e' macros kept kept' message bytes bytes'
     (one.0, ap (λ (x : Left). x.bytes) one.1, ap (λ (x : Left). x.macros) one.1, one.2)
 
 -- two rests wait alike until one is over
-rests-alike : (n m : ℕ) → SameTalk {T = ℕ} 0 0 (replicate n (Waited Again) ++ Waited Over ∷ []) (replicate m (Waited Again) ++ Waited Over ∷ [])
-rests-alike zero zero = λ e. refl
-rests-alike zero (suc m) = λ e. absurd (cc (e))
-rests-alike (suc n) zero = λ e. absurd (cc (e))
-rests-alike (suc n) (suc m) = λ e. rests-alike n m
+rests-alike : (n m : ℕ) → SameTalk {T = ℕ} 0 0 (replicate n (Waited None (Again None)) ++ Waited None Over ∷ []) (replicate m (Waited None (Again None)) ++ Waited None Over ∷ [])
+rests-alike zero zero = (refl, λ e. refl)
+rests-alike zero (suc m) = (refl, λ e. absurd (cc (e)))
+rests-alike (suc n) zero = (refl, λ e. absurd (cc (e)))
+rests-alike (suc n) (suc m) = (refl, λ e. rests-alike n m)
 
 pub core-rest-determined : StepIsDetermined → CoreRestIsDetermined
 core-rest-determined once d e e' r r' smooth smooth' outcomes = (same-run once d d e e' 0 0 (waits_of r) (waits_of r') r.leads r'.leads refl smooth smooth' outcomes (rests-alike r.waits r'.waits)).2

@@ -1,5 +1,5 @@
 -- A talk leaves no choice, where a text is read in one way.
-use Rattle.std.proofs.Common.{◌≡◌, ℕ, ◌+◌, Bool, true, false, MatchBool, List, [], ◌∷◌, ◌++◌, inl, inr, length, Some, None, Result, Ok, Err, refl, ap, sym, ◌∙◌, subst}
+use Rattle.std.proofs.Common.{◌≡◌, ℕ, ◌+◌, Bool, true, false, MatchBool, List, [], ◌∷◌, ◌++◌, inl, inr, length, Option, Some, None, Result, Ok, Err, refl, ap, sym, ◌∙◌, subst}
 use Rattle.std.specs.Prelude.{◌==◌, nat_lt, slice_index_or, ◌-◌, ◌<◌, ◌⊎◌}
 use Rattle.std.proofs.Common.{⊎_elim}
 use Rattle.std.proofs.lemmas.Bool.{cases_order}
@@ -36,24 +36,24 @@ abbrev Rests : {T : Type 0} → T → T → List Entry → List Entry → Type 0
 Rests b b' r r' = AllAmple r → AllAmple r' → SameTalk b b' r r'
 
 queues-same : {T : Type 0} (b b' : T) (sid : Sid) (e : ScpiError) (t t' r r' : List Entry) (f f' : SessionAnswer) → Queues sid e t f r → Queues sid e t' f' r' → (f ≡ f' → Rests b b' r r') → Rests b b' t t'
-queues-same b b' sid e [] t' r r' f f' p q next m n = absurd p
-queues-same b b' sid e (Waited w ∷ t) t' r r' f f' p q next m n = absurd p
-queues-same b b' sid e (Asked a x ∷ t) [] r r' f f' p q next m n = absurd q
-queues-same b b' sid e (Asked a x ∷ t) (Waited w ∷ t') r r' f f' p q next m n = absurd q
 queues-same b b' sid e (Asked a x ∷ t) (Asked a' x' ∷ t') r r' f f' (is, fin, left) (is', fin', left') next m n =
     (is ∙ sym is', λ same. rw (← left, ← left') (next (fin ∙ ap (queued e) same ∙ sym fin') (rw left m.1) (rw left' n.1)))
+queues-same b b' sid e (Asked a x ∷ t) [] r r' f f' p q next m n = absurd q
+queues-same b b' sid e (Asked a x ∷ t) (entry ∷ t') r r' f f' p q next m n = absurd q
+queues-same b b' sid e [] t' r r' f f' p q next m n = absurd p
+queues-same b b' sid e (entry ∷ t) t' r r' f f' p q next m n = absurd p
 
 -- no error is queued for want of memory
 no-loss : (sid : Sid) (t r : List Entry) (f : SessionAnswer) → AllAmple t → Queues sid OutOfMemory t f r → ⊥
-no-loss sid [] r f m q = q
-no-loss sid (Waited w ∷ t) r f m q = q
 no-loss sid (Asked a x ∷ t) r f m (is, _, _) = (subst (λ (k : SessionAsk). IsAmple (Asked k x)) is m.0) refl
+no-loss sid [] r f m q = q
+no-loss sid (entry ∷ t) r f m q = q
 
 settles-asks : (sid : Sid) (turn : ℕ) (ask a : SessionAsk) (x f : SessionAnswer) (t r : List Entry) → Settles sid turn ask (Asked a x ∷ t) f r → a ≡ ask
+settles-asks sid turn ask a (Hold h) f (Waited None Over ∷ t) r p = p.0
+settles-asks sid turn ask a (Hold h) f (Waited None (Again left) ∷ t) r p = p.0
 settles-asks sid turn ask a (Hold h) f [] r p = absurd p
-settles-asks sid turn ask a (Hold h) f (Asked c y ∷ t) r p = absurd p
-settles-asks sid turn ask a (Hold h) f (Waited Over ∷ t) r p = p.0
-settles-asks sid turn ask a (Hold h) f (Waited Again ∷ t) r p = p.0
+settles-asks sid turn ask a (Hold h) f (entry ∷ t) r p = absurd p
 settles-asks sid turn ask a (Joined s) f t r p = p.0
 settles-asks sid turn ask a Full f t r p = p.0
 settles-asks sid turn ask a Missed f t r p = p.0
@@ -85,8 +85,6 @@ settles-final sid turn ask a (Snapshot s) f t r differs p = (p.1, p.2)
 -- an answer that is no hold
 told-same : {T : Type 0} (b b' : T) (sid : Sid) (turn : ℕ) (ask a : SessionAsk) (x : SessionAnswer) (t t' r r' : List Entry) (f f' : SessionAnswer) → ((h : SessionAsk) → x ≡ Hold h → ⊥) → Settles sid turn ask (Asked a x ∷ t) f r → Settles sid turn ask t' f' r'
     → (f ≡ f' → Rests b b' r r') → Rests b b' (Asked a x ∷ t) t'
-told-same b b' sid turn ask a x t [] r r' f f' differs p q next m n = absurd q
-told-same b b' sid turn ask a x t (Waited w ∷ t') r r' f f' differs p q next m n = absurd q
 told-same b b' sid turn ask a x t (Asked a' x' ∷ t') r r' f f' differs p q next m n =
     let s = settles-final sid turn ask a x f t r differs p in (
       settles-asks sid turn ask a x f t r p ∙ sym (settles-asks sid turn ask a' x' f' t' r' q),
@@ -94,47 +92,51 @@ told-same b b' sid turn ask a x t (Asked a' x' ∷ t') r r' f f' differs p q nex
           let s' = settles-final sid turn ask a' x' f' t' r' (λ h is. differs h (same ∙ is)) q in
           rw (← s.1, ← s'.1) (next (s.0 ∙ same ∙ sym s'.0) (rw s.1 m.1) (rw s'.1 n.1)),
     )
+told-same b b' sid turn ask a x t [] r r' f f' differs p q next m n = absurd q
+told-same b b' sid turn ask a x t (entry ∷ t') r r' f f' differs p q next m n = absurd q
 
 -- what follows a wait
 abbrev Waits : Sid → ℕ → SessionAsk → Wake → List Entry → SessionAnswer → List Entry → Type 0
 Waits sid turn ask Over t f r = Queues sid SettingsConflict t f r
-Waits sid turn ask Again t f r = MatchBool (turn + 1 == turns) (Queues sid SettingsConflict t f r) (Settles sid (turn + 1) ask t f r)
+Waits sid turn ask (Again left) t f r = MatchBool (turn + 1 == turns) (Queues sid SettingsConflict t f r) (Settles sid (turn + 1) ask t f r)
 
-settles-waits : (sid : Sid) (turn : ℕ) (ask a h : SessionAsk) (w : Wake) (f : SessionAnswer) (t r : List Entry) → Settles sid turn ask (Asked a (Hold h) ∷ Waited w ∷ t) f r → Waits sid turn ask w t f r
-settles-waits sid turn ask a h Over f t r p = p.1
-settles-waits sid turn ask a h Again f t r p = p.1
+settles-waits : (sid : Sid) (turn : ℕ) (ask a h : SessionAsk) (limit : Option ℕ) (w : Wake) (f : SessionAnswer) (t r : List Entry) → Settles sid turn ask (Asked a (Hold h) ∷ Waited limit w ∷ t) f r
+    → (limit ≡ None) × Waits sid turn ask w t f r
+settles-waits sid turn ask a h None Over f t r p = (refl, p.1)
+settles-waits sid turn ask a h None (Again left) f t r p = (refl, p.1)
+settles-waits sid turn ask a h (Some limit) w f t r p = absurd p
 
 -- an answer that is a hold
-hold-same : {T : Type 0} (b b' : T) (sid : Sid) (turn : ℕ) (ask a h : SessionAsk) (w : Wake) (t t' r' : List Entry) (f' : SessionAnswer) → a ≡ ask → ((u : List Entry) → Waits sid turn ask w u f' r' → Rests b b' t u) → Settles sid turn ask t' f' r'
-    → Rests b b' (Asked a (Hold h) ∷ Waited w ∷ t) t'
-hold-same b b' sid turn ask a h w t [] r' f' is on q m n = absurd q
-hold-same b b' sid turn ask a h w t (Waited v ∷ t') r' f' is on q m n = absurd q
+hold-same : {T : Type 0} (b b' : T) (sid : Sid) (turn : ℕ) (ask a h : SessionAsk) (w : Wake) (t t' r' : List Entry) (f' : SessionAnswer) → a ≡ ask
+    → ((u : List Entry) → Waits sid turn ask w u f' r' → Rests b b' t u) → Settles sid turn ask t' f' r' → Rests b b' (Asked a (Hold h) ∷ Waited None w ∷ t) t'
 hold-same b b' sid turn ask a h w t (Asked a' x ∷ t') r' f' is on q m n = (
   is ∙ sym (settles-asks sid turn ask a' x f' t' r' q),
   λ same. waits t' (subst (λ (y : SessionAnswer). Settles sid turn ask (Asked a' y ∷ t') f' r') (sym same) q) n.1,
 )
   where
-    waits : (u : List Entry) → Settles sid turn ask (Asked a' (Hold h) ∷ u) f' r' → AllAmple u → SameTalk b b' (Waited w ∷ t) u
+    waits : (u : List Entry) → Settles sid turn ask (Asked a' (Hold h) ∷ u) f' r' → AllAmple u → SameTalk b b' (Waited None w ∷ t) u
+    waits (Waited limit v ∷ u) s k =
+        let so = settles-waits sid turn ask a' h limit v f' u r' s in
+        (sym so.0, λ same. on u (subst (λ (z : Wake). Waits sid turn ask z u f' r') (sym same) so.1) m.1.1 k.1)
     waits [] s k = absurd s
-    waits (Asked c y ∷ u) s k = absurd s
-    waits (Waited v ∷ u) s k = λ same. on u (subst (λ (z : Wake). Waits sid turn ask z u f' r') (sym same) (settles-waits sid turn ask a' h v f' u r' s)) m.1.1 k.1
+    waits (entry ∷ u) s k = absurd s
+hold-same b b' sid turn ask a h w t [] r' f' is on q m n = absurd q
+hold-same b b' sid turn ask a h w t (entry ∷ t') r' f' is on q m n = absurd q
 
 either-way : (c : Bool) (P Q P' Q' : Type 0) {G : Type 0} → MatchBool c P Q → MatchBool c P' Q' → (P → P' → G) → (Q → Q' → G) → G
 either-way true P Q P' Q' p p' one other = one p p'
 either-way false P Q P' Q' p p' one other = other p p'
 
 settles-same : {T : Type 0} (b b' : T) (sid : Sid) (turn : ℕ) (ask : SessionAsk) (t t' r r' : List Entry) (f f' : SessionAnswer) → Settles sid turn ask t f r → Settles sid turn ask t' f' r' → (f ≡ f' → Rests b b' r r') → Rests b b' t t'
-settles-same b b' sid turn ask [] t' r r' f f' p q next = absurd p
-settles-same b b' sid turn ask (Waited w ∷ t) t' r r' f f' p q next = absurd p
-settles-same b b' sid turn ask (Asked a (Hold h) ∷ []) t' r r' f f' p q next = absurd p
-settles-same b b' sid turn ask (Asked a (Hold h) ∷ Asked c y ∷ t) t' r r' f f' p q next = absurd p
-settles-same b b' sid turn ask (Asked a (Hold h) ∷ Waited Over ∷ t) t' r r' f f' p q next =
+settles-same b b' sid turn ask (Asked a (Hold h) ∷ Waited None Over ∷ t) t' r r' f f' p q next =
     hold-same b b' sid turn ask a h Over t t' r' f' p.0 (λ u s. queues-same b b' sid SettingsConflict t u r r' f f' p.1 s next) q
-settles-same b b' sid turn ask (Asked a (Hold h) ∷ Waited Again ∷ t) t' r r' f f' p q next =
-    hold-same b b' sid turn ask a h Again t t' r' f' p.0
+settles-same b b' sid turn ask (Asked a (Hold h) ∷ Waited None (Again left) ∷ t) t' r r' f f' p q next =
+    hold-same b b' sid turn ask a h (Again left) t t' r' f' p.0
     (λ u s. either-way (turn + 1 == turns) (Queues sid SettingsConflict t f r) (Settles sid (turn + 1) ask t f r) (Queues sid SettingsConflict u f' r') (Settles sid (turn + 1) ask u f' r') p.1 s
     (λ k k'. queues-same b b' sid SettingsConflict t u r r' f f' k k' next)
     (λ k k'. settles-same b b' sid (turn + 1) ask t u r r' f f' k k' next)) q
+settles-same b b' sid turn ask (Asked a (Hold h) ∷ []) t' r r' f f' p q next = absurd p
+settles-same b b' sid turn ask (Asked a (Hold h) ∷ entry ∷ t) t' r r' f f' p q next = absurd p
 settles-same b b' sid turn ask (Asked a (Joined s) ∷ t) t' r r' f f' p q next = told-same b b' sid turn ask a (Joined s) t t' r r' f f' (λ h is. absurd (cc (is))) p q next
 settles-same b b' sid turn ask (Asked a Full ∷ t) t' r r' f f' p q next = told-same b b' sid turn ask a Full t t' r r' f f' (λ h is. absurd (cc (is))) p q next
 settles-same b b' sid turn ask (Asked a Missed ∷ t) t' r r' f f' p q next = told-same b b' sid turn ask a Missed t t' r r' f f' (λ h is. absurd (cc (is))) p q next
@@ -147,6 +149,8 @@ settles-same b b' sid turn ask (Asked a (Done text) ∷ t) t' r r' f f' p q next
 settles-same b b' sid turn ask (Asked a (Refused e) ∷ t) t' r r' f f' p q next = told-same b b' sid turn ask a (Refused e) t t' r r' f f' (λ h is. absurd (cc (is))) p q next
 settles-same b b' sid turn ask (Asked a (Worn h) ∷ t) t' r r' f f' p q next = told-same b b' sid turn ask a (Worn h) t t' r r' f f' (λ h is. absurd (cc (is))) p q next
 settles-same b b' sid turn ask (Asked a (Snapshot s) ∷ t) t' r r' f f' p q next = told-same b b' sid turn ask a (Snapshot s) t t' r r' f f' (λ h is. absurd (cc (is))) p q next
+settles-same b b' sid turn ask [] t' r r' f f' p q next = absurd p
+settles-same b b' sid turn ask (entry ∷ t) t' r r' f f' p q next = absurd p
 
 -- a refusal by its number
 abbrev refusal_at : ℕ → Refusal

@@ -1,5 +1,5 @@
 -- The talk as far as it has come.
-use Rattle.std.proofs.Common.{◌≡◌, ℕ, ◌+◌, ◌<◌, Bool, true, false, MatchBool, List, [], ◌∷◌, ◌++◌, length, ◌≤◌, Result, Ok, Err, inl, inr, ap, refl, sym, subst, append_assoc, arith}
+use Rattle.std.proofs.Common.{◌≡◌, ℕ, ◌+◌, ◌<◌, Bool, true, false, MatchBool, List, [], ◌∷◌, ◌++◌, length, ◌≤◌, Option, None, Result, Ok, Err, inl, inr, ap, refl, sym, subst, append_assoc, arith}
 use Rattle.std.specs.Prelude.{◌==◌, nat_lt, ◌⊎◌}
 use Rattle.std.specs.Io.BufRead.{strip_last}
 use Rattle.std.proofs.lemmas.List.{append-nil}
@@ -41,18 +41,18 @@ awaits-last sid turn ask t final rest is s =
     let same : (turn == turns) ≡ true = grind (arith, nat_tests) in
     subst (λ (b : Bool). MatchBool b (Queues sid SettingsConflict t final rest) (Settles sid turn ask t final rest)) (sym same) s
 
-pub settle-again : {D : Type 0} (passes : D → Entry → D → Type 0) (d0 d1 d2 d3 : D) (sid : Sid) (turn : ℕ) (ask asked held : SessionAsk) → turn < turns → asked ≡ ask → Led passes d0 d1 (SettlesBy sid turn ask)
-    → passes d1 (Asked asked (Hold held)) d2 → passes d2 (Waited Again) d3 → Led passes d0 d3 (SettlesBy sid (turn + 1) ask)
-settle-again passes d0 d1 d2 d3 sid turn ask asked held lt same led p q =
-    led-more passes d0 d1 d3 (SettlesBy sid turn ask) (SettlesBy sid (turn + 1) ask) (Asked asked (Hold held) ∷ Waited Again ∷ []) led (d2, p, (d3, q, refl))
-    (λ t rest so final rest' w. so final rest' (awaits-open sid turn ask (Asked asked (Hold held) ∷ Waited Again ∷ rest) final rest' lt (same, w)))
+pub settle-again : {D : Type 0} (passes : D → Entry → D → Type 0) (d0 d1 d2 d3 : D) (sid : Sid) (turn : ℕ) (ask asked held : SessionAsk) (left : Option ℕ) → turn < turns → asked ≡ ask → Led passes d0 d1 (SettlesBy sid turn ask)
+    → passes d1 (Asked asked (Hold held)) d2 → passes d2 (Waited None (Again left)) d3 → Led passes d0 d3 (SettlesBy sid (turn + 1) ask)
+settle-again passes d0 d1 d2 d3 sid turn ask asked held left lt same led p q =
+    led-more passes d0 d1 d3 (SettlesBy sid turn ask) (SettlesBy sid (turn + 1) ask) (Asked asked (Hold held) ∷ Waited None (Again left) ∷ []) led (d2, p, (d3, q, refl))
+    (λ t rest so final rest' w. so final rest' (awaits-open sid turn ask (Asked asked (Hold held) ∷ Waited None (Again left) ∷ rest) final rest' lt (same, w)))
 
 pub settle-over : {D : Type 0} (passes : D → Entry → D → Type 0) (d0 d1 d2 d3 d4 : D) (sid : Sid) (turn : ℕ) (ask asked held : SessionAsk) (final : SessionAnswer) → turn < turns → asked ≡ ask → Led passes d0 d1 (SettlesBy sid turn ask)
-    → passes d1 (Asked asked (Hold held)) d2 → passes d2 (Waited Over) d3 → Led passes d3 d4 (λ t rest. Queues sid SettingsConflict t final rest) → Led passes d0 d4 (λ t rest. Settles sid 0 ask t final rest)
+    → passes d1 (Asked asked (Hold held)) d2 → passes d2 (Waited None Over) d3 → Led passes d3 d4 (λ t rest. Queues sid SettingsConflict t final rest) → Led passes d0 d4 (λ t rest. Settles sid 0 ask t final rest)
 settle-over passes d0 d1 d2 d3 d4 sid turn ask asked held final lt same led p q last =
     let P : List Entry → List Entry → Type 0 = λ t mid. (rest : List Entry) → Queues sid SettingsConflict mid final rest → Settles sid 0 ask t final rest in
-    let held' : Led passes d0 d3 P = led-more passes d0 d1 d3 (SettlesBy sid turn ask) P (Asked asked (Hold held) ∷ Waited Over ∷ []) led (d2, p, (d3, q, refl))
-    (λ t mid so rest w. so final rest (awaits-open sid turn ask (Asked asked (Hold held) ∷ Waited Over ∷ mid) final rest lt (same, w))) in
+    let held' : Led passes d0 d3 P = led-more passes d0 d1 d3 (SettlesBy sid turn ask) P (Asked asked (Hold held) ∷ Waited None Over ∷ []) led (d2, p, (d3, q, refl))
+    (λ t mid so rest w. so final rest (awaits-open sid turn ask (Asked asked (Hold held) ∷ Waited None Over ∷ mid) final rest lt (same, w))) in
     led-then passes d0 d3 d4 P (λ t rest. Queues sid SettingsConflict t final rest) (λ t rest. Settles sid 0 ask t final rest) held' last (λ t u rest so w. so rest w)
 
 pub settle-end : {D : Type 0} (passes : D → Entry → D → Type 0) (d0 d1 d2 : D) (sid : Sid) (turn : ℕ) (ask : SessionAsk) (final : SessionAnswer) → turn ≡ turns → Led passes d0 d1 (SettlesBy sid turn ask)

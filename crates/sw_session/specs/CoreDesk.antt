@@ -1,19 +1,28 @@
 -- A desk over a mainframe of its own.
 use Rattle.std.specs.Prelude.{◌≡◌, ℕ, ◌-◌, ◌^◌, Bool, true, false, List, [], ◌∷◌, ◌++◌, replicate, Option, None, Some}
+use Rattle.sw_status.specs.StatusModel.{summary_of}
 use Rattle.sw_cage.specs.Work.{FinishedSeen, IsDone}
+use Rattle.sw_core.specs.declared.ask.Sid.{Sid}
 use Rattle.sw_core.specs.declared.ask.SessionAsk.{SessionAsk}
 use Rattle.sw_core.specs.declared.ask.SessionAnswer.{SessionAnswer}
 use Rattle.sw_core.specs.declared.ask.Work.{Work}
 use Rattle.sw_core.specs.Panel.{Panel}
 use Rattle.sw_core.specs.View.{WorkView, Measures, Pauses, AskView, AskSession, AskElapsed, AskFinished, AnswerView, SaysSession, SaysTaken}
 use Rattle.sw_core.specs.Step.{Step}
+use Rattle.sw_session.specs.declared.desk.View.{View}
 use Rattle.sw_session.specs.declared.desk.Wake.TheVariants.{Again, Over}
-use Rattle.sw_session.specs.Trace.{Entry, Asked, Waited, Leads}
+use Rattle.sw_session.specs.Trace.{Entry, Asked, Waited, Polled, Noted, Leads}
+use Rattle.sw_session.specs.Available.{Notes, no_notes, is_available, with_note}
 
--- the mainframe's panel, and the work that is outstanding, the oldest first
+-- the mainframe's panel, the work that is outstanding, the oldest first, and for which sessions a message is available
 pub record DeskSeen : Type 0 where
   pub panel : Panel
   pub work : List WorkView
+  pub available : Notes
+
+-- a desk over this mainframe, with nothing outstanding and no message available
+abbrev pub desk_over : Panel → DeskSeen
+desk_over p = record { panel = p; work = []; available = no_notes }
 
 -- a piece of work as plain data
 abbrev pub piece_seen : {M : _} → Work M → WorkView
@@ -45,23 +54,23 @@ pub record CarriesOut (old : Panel) (piece : WorkView) (c : Carried) : Type 0 wh
 
 -- Work that came with an answer is kept behind the rest. Pieces for which a growth was refused are carried out at once, as
 -- is what comes of that.
-abbrev pub Keeps : List Carried → Panel → Option WorkView → List WorkView → DeskSeen → Type 0
-Keeps [] p None work new = new ≡ record { panel = p; work = work }
-Keeps [] p (Some piece) work new = new ≡ record { panel = p; work = work ++ piece ∷ [] }
-Keeps (c ∷ carried) p None work new = ⊥
-Keeps (c ∷ carried) p (Some piece) work new = CarriesOut p piece c × Keeps carried c.after (brought c.answer) work new
+abbrev pub Keeps : List Carried → DeskSeen → Option WorkView → DeskSeen → Type 0
+Keeps [] d None new = new ≡ d
+Keeps [] d (Some piece) new = new ≡ record d { work = d.work ++ piece ∷ [] }
+Keeps (c ∷ carried) d None new = ⊥
+Keeps (c ∷ carried) d (Some piece) new =
+    CarriesOut d.panel piece c × Keeps carried (record d { panel = c.after }) (brought c.answer) new
 
 -- The clauses of the desk's parts: work is kept, and a piece is carried out and brings this.
 pub record IsKept (old : DeskSeen) (brings : Option WorkView) (new : DeskSeen) : Type 0 where
   pub carried : List Carried
-  pub keeps : Keeps carried old.panel brings old.work new
+  pub keeps : Keeps carried old brings new
 
 pub record IsCarried (old : DeskSeen) (piece : WorkView) (brings : Option WorkView) (new : DeskSeen) : Type 0 where
   pub c : Carried
   pub carries : CarriesOut old.panel piece c
   pub brings_is : brings ≡ brought c.answer
-  pub panel_is : new.panel ≡ c.after
-  pub work_is : new.work ≡ old.work
+  pub leaves : new ≡ record old { panel = c.after }
 
 -- an ask is one step of the mainframe, and its work is kept
 pub record Answers (carried : List Carried) (old : DeskSeen) (ask : SessionAsk) (answer : SessionAnswer) (new : DeskSeen) : Type 0 where
@@ -69,7 +78,7 @@ pub record Answers (carried : List Carried) (old : DeskSeen) (ask : SessionAsk) 
   pub brings : Option WorkView
   pub after : Panel
   pub step : Step old.panel (AskSession ask) failed (SaysSession answer brings) after
-  pub keeps : Keeps carried after brings old.work new
+  pub keeps : Keeps carried (record old { panel = after }) brings new
 
 -- the oldest piece is carried out, and what comes of it is kept
 pub record Works (c : Carried) (carried : List Carried) (old new : DeskSeen) : Type 0 where
@@ -77,31 +86,40 @@ pub record Works (c : Carried) (carried : List Carried) (old new : DeskSeen) : T
   pub others : List WorkView
   pub oldest : old.work ≡ piece ∷ others
   pub carries : CarriesOut old.panel piece c
-  pub keeps : Keeps carried c.after (brought c.answer) others new
+  pub keeps : Keeps carried (record old { panel = c.after; work = others }) (brought c.answer) new
 
--- What is carried out in one call: at an ask nothing and at a wait one piece, where no growth is refused. A wait is over
--- where nothing is outstanding.
+-- what a session sees of its status
+abbrev pub view_of : DeskSeen → Sid → View
+view_of d sid = record {
+  byte = summary_of d.panel.status;
+  requests = d.panel.status.requests;
+  mav = is_available d.available sid;
+}
+
+-- What is carried out in one call: at an ask nothing and at a wait one piece, where no growth is refused. A wait takes no
+-- time, and is over where nothing is outstanding.
 abbrev pub PassesBy : List Carried → DeskSeen → Entry → DeskSeen → Type 0
 PassesBy carried old (Asked ask answer) new = Answers carried old ask answer new
-PassesBy [] old (Waited Again) new = ⊥
-PassesBy (c ∷ carried) old (Waited Again) new = Works c carried old new
-PassesBy [] old (Waited Over) new = (old.work ≡ []) × (new ≡ old)
-PassesBy (c ∷ carried) old (Waited Over) new = ⊥
+PassesBy (c ∷ carried) old (Waited limit (Again left)) new = (left ≡ limit) × Works c carried old new
+PassesBy [] old (Waited limit Over) new = (old.work ≡ []) × (new ≡ old)
+PassesBy [] old (Polled sid view) new = (view ≡ view_of old sid) × (new ≡ old)
+PassesBy [] old (Noted sid mav) new = new ≡ record old { available = with_note old.available sid mav }
+PassesBy carried old entry new = ⊥
 
 abbrev pub CorePasses : DeskSeen → Entry → DeskSeen → Type 0
 CorePasses old entry new = (carried : List Carried) × PassesBy carried old entry new
 
 -- what a rest that succeeds ends with
 abbrev pub last_wait : Bool → List Entry
-last_wait true = Waited Over ∷ []
+last_wait true = Waited None Over ∷ []
 last_wait false = []
 
 -- how often a rest waits at most
 abbrev pub most_waits : ℕ
 most_waits = 2 ^ 64 - 1
 
--- The desk waits until nothing is outstanding, or so many times in vain.
+-- The desk waits without a limit until nothing is outstanding, or so many times in vain.
 pub record Rests (old : DeskSeen) (rested : Bool) (new : DeskSeen) : Type 0 where
   pub waits : ℕ
-  pub leads : Leads CorePasses old (replicate waits (Waited Again) ++ last_wait rested) new
+  pub leads : Leads CorePasses old (replicate waits (Waited None (Again None)) ++ last_wait rested) new
   pub in_vain : rested ≡ false → waits ≡ most_waits

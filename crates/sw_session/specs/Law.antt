@@ -1,5 +1,5 @@
 -- A talk leaves no choice.
-use Rattle.std.specs.Prelude.{◌≡◌, ◌≢◌, ℕ, ◌≤◌, List, [], ◌∷◌, ◌++◌, length, replicate, true, Option, Result}
+use Rattle.std.specs.Prelude.{◌≡◌, ◌≢◌, ℕ, ◌≤◌, List, [], ◌∷◌, ◌++◌, length, replicate, true, Option, None, Result}
 use Rattle.std.specs.List.{AllByRecursion}
 use Rattle.sw_base.specs.declared.error.ScpiError.TheVariants.{OutOfMemory}
 use Rattle.sw_core.specs.declared.ask.Sid.{Sid}
@@ -14,7 +14,7 @@ use Rattle.sw_core.specs.View.{WorkView, AskView, AskSession, AskFinished, SaysS
 use Rattle.sw_macro.specs.Table.{Table}
 use Rattle.sw_session.specs.CoreDesk.{DeskSeen, Carried, CorePasses, Rests, last_wait}
 use Rattle.sw_session.specs.declared.desk.Wake.TheVariants.{Again}
-use Rattle.sw_session.specs.Trace.{Entry, Asked, Waited, Leads}
+use Rattle.sw_session.specs.Trace.{Entry, Asked, Waited, Polled, Noted, Leads}
 use Rattle.sw_session.specs.Talk.{Talked, TalksMessage}
 
 -- the talker had memory: it queued no error for want of it
@@ -25,12 +25,19 @@ IsAmple entry = Unit {0}
 abbrev pub AllAmple : List Entry → Type 0
 AllAmple trace = AllByRecursion IsAmple trace
 
--- Two talks ask the same and wait at the same places, until the desk answers differently. Where it never does, they end
--- together and leave the same.
+-- The same call is made of the desk; where it answers the same, this follows.
+abbrev pub SameCall : Entry → Entry → Type 0 → Type 0
+SameCall (Asked a r) (Asked a' r') follows = (a ≡ a') × (r ≡ r' → follows)
+SameCall (Waited limit w) (Waited limit' w') follows = (limit ≡ limit') × (w ≡ w' → follows)
+SameCall (Polled sid v) (Polled sid' v') follows = (sid ≡ sid') × (v ≡ v' → follows)
+SameCall (Noted sid mav) (Noted sid' mav') follows = (sid ≡ sid') × (mav ≡ mav') × follows
+SameCall entry entry' follows = ⊥
+
+-- Two talks ask, wait, look and note the same, until the desk answers differently. Where it never does, they end together
+-- and leave the same.
 abbrev pub SameTalk : {T : Type 0} → T → T → List Entry → List Entry → Type 0
 SameTalk end end' [] [] = end ≡ end'
-SameTalk end end' (Asked a r ∷ trace) (Asked a' r' ∷ trace') = (a ≡ a') × (r ≡ r' → SameTalk end end' trace trace')
-SameTalk end end' (Waited w ∷ trace) (Waited w' ∷ trace') = w ≡ w' → SameTalk end end' trace trace'
+SameTalk end end' (entry ∷ trace) (entry' ∷ trace') = SameCall entry entry' (SameTalk end end' trace trace')
 SameTalk end end' trace trace' = ⊥
 
 -- what a talk leaves: what is written, and the session's macros
@@ -58,7 +65,7 @@ KeepsKeys ask answer = (p : Panel) (work : Option WorkView) → KeepsKey p (AskS
 -- no growth was refused and no card failed in a call of the desk, in which these pieces were carried out
 abbrev pub IsSmooth : Entry → List Carried → Type 0
 IsSmooth (Asked ask answer) carried = TellsPlainly answer × (carried ≡ []) × KeepsKeys ask answer
-IsSmooth (Waited wake) carried = AllByRecursion (λ c. IsPlain c.answer) carried × (length carried ≤ 1)
+IsSmooth entry carried = AllByRecursion (λ c. IsPlain c.answer) carried × (length carried ≤ 1)
 
 -- nor in any of these calls
 abbrev pub AllSmooth : List Entry → List (List Carried) → Type 0
@@ -97,7 +104,7 @@ CoreTalkIsDetermined = (sid : Sid) (d e e' : DeskSeen) (macros kept kept' : Tabl
 
 -- the calls of a rest that succeeds, and the pieces that were carried out in them
 abbrev pub waits_of : {old new : DeskSeen} → Rests old true new → List Entry
-waits_of r = replicate r.waits (Waited Again) ++ last_wait true
+waits_of r = replicate r.waits (Waited None (Again None)) ++ last_wait true
 
 abbrev pub carried_at_rest : {old new : DeskSeen} → Rests old true new → List (List Carried)
 carried_at_rest {old} {new} r = carried_of old (waits_of r) new r.leads

@@ -1,6 +1,6 @@
 -- The macro commands: what each does to a session's macros, and what it answers (IEEE 488.2, 10.7 to 10.9, 10.13, 10.16
 -- and 10.22; 8.7.9 for the block).
-use Rattle.std.specs.Prelude.{◌≡◌, ℕ, ◌+◌, Bool, true, false, List, [], ◌∷◌, ◌++◌, length, map, decimal, Option, Some, None, Result, Ok, Err}
+use Rattle.std.specs.Prelude.{◌≡◌, ℕ, ◌+◌, List, [], ◌∷◌, ◌++◌, length, map, decimal, Option, Some, None, Result, Ok, Err}
 use Rattle.std.specs.List.{join_with_byte}
 use Rattle.sw_base.specs.declared.error.ScpiError.{ScpiError}
 use Rattle.sw_base.specs.declared.error.ScpiError.TheVariants.{OutOfMemory}

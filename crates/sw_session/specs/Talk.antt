@@ -1,5 +1,5 @@
 -- What is asked after each answer, and what is written (IEEE 488.2, 6.3, 8.4 and 10.7; SCPI-1999, 21.8).
-use Rattle.std.specs.Prelude.{◌≡◌, ℕ, ◌+◌, ◌^◌, ◌⊎◌, ◌==◌, Bool, true, false, nat_lt, nat_le, ◌&&◌, MatchBool, List, [], ◌∷◌, ◌++◌, Some, Result, Ok, Err, length, if◌then◌else◌}
+use Rattle.std.specs.Prelude.{◌≡◌, ℕ, ◌+◌, ◌^◌, ◌⊎◌, ◌==◌, Bool, true, false, nat_lt, nat_le, ◌&&◌, MatchBool, List, [], ◌∷◌, ◌++◌, Some, None, Result, Ok, Err, length, if◌then◌else◌}
 use Rattle.sw_base.specs.declared.error.ScpiError.{ScpiError}
 use Rattle.sw_base.specs.declared.error.ScpiError.TheVariants.{SettingsConflict, OutOfMemory, InputBufferOverrun}
 use Rattle.sw_base.specs.Errors.{number_of}
@@ -58,10 +58,11 @@ abbrev pub Queues : Sid → ScpiError → List Entry → SessionAnswer → List 
 Queues sid e (Asked a r ∷ trace) final rest = (a ≡ Ask.Fault sid e) × (final ≡ queued e r) × (rest ≡ trace)
 Queues sid e trace final rest = ⊥
 
--- An ask that was held turn times is asked. Held, it is asked again after a wait, and given up after Over or at the last turn.
+-- An ask that was held turn times is asked. Held, it is asked again after a wait without a limit, and given up after Over
+-- or at the last turn.
 abbrev pub Settles : Sid → ℕ → SessionAsk → List Entry → SessionAnswer → List Entry → Type 0
-Settles sid turn ask (Asked a (Hold b) ∷ Waited Over ∷ trace) final rest = (a ≡ ask) × Queues sid SettingsConflict trace final rest
-Settles sid turn ask (Asked a (Hold b) ∷ Waited Again ∷ trace) final rest =
+Settles sid turn ask (Asked a (Hold b) ∷ Waited None Over ∷ trace) final rest = (a ≡ ask) × Queues sid SettingsConflict trace final rest
+Settles sid turn ask (Asked a (Hold b) ∷ Waited None (Again left) ∷ trace) final rest =
     (a ≡ ask) × MatchBool (turn + 1 == turns) (Queues sid SettingsConflict trace final rest) (Settles sid (turn + 1) ask trace final rest)
 Settles sid turn ask (Asked a (Hold b) ∷ trace) final rest = ⊥
 Settles sid turn ask (Asked a r ∷ trace) final rest = (a ≡ ask) × (final ≡ r) × (rest ≡ trace)

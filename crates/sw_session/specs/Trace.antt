@@ -1,14 +1,20 @@
 -- What passes between a session and its desk.
-use Rattle.std.specs.Prelude.{◌≡◌, List, [], ◌∷◌, ◌++◌}
+use Rattle.std.specs.Prelude.{◌≡◌, ◌≤◌, ℕ, Bool, List, [], ◌∷◌, ◌++◌, Option, Some, None}
+use Rattle.sw_core.specs.declared.ask.Sid.{Sid}
 use Rattle.sw_core.specs.declared.ask.SessionAsk.{SessionAsk}
 use Rattle.sw_core.specs.declared.ask.SessionAnswer.{SessionAnswer}
 use Rattle.sw_core.specs.declared.ask.SessionAnswer.TheVariants.{Hold, Worn}
+use Rattle.sw_session.specs.declared.desk.View.{View}
 use Rattle.sw_session.specs.declared.desk.Wake.{Wake}
+use Rattle.sw_session.specs.declared.desk.Wake.TheVariants.{Again, Over}
 
--- one call of a desk: what it was asked and answered, or how a wait ended
+-- One call of a desk: what it was asked and answered; for how many milliseconds at most a wait was to last, and how it
+-- ended; which session was looked at, and what was seen; or of which session it was noted whether a message is available.
 pub data Entry : Type 0 where
   Asked : SessionAsk → SessionAnswer → Entry
-  Waited : Wake → Entry
+  Waited : Option ℕ → Wake → Entry
+  Polled : Sid → View → Entry
+  Noted : Sid → Bool → Entry
 
 -- the desk goes from old to new by these entries, each as passes allows
 abbrev pub Leads : {D : Type 0} → (D → Entry → D → Type 0) → D → List Entry → D → Type 0
@@ -20,6 +26,13 @@ abbrev pub HandsBack : SessionAsk → SessionAnswer → Type 0
 HandsBack ask (Hold back) = back ≡ ask
 HandsBack ask (Worn back) = back ≡ ask
 HandsBack ask answer = Unit {0}
+
+-- what is left of a wait's limit is never more than the limit, and none where there was none
+abbrev pub LeavesOf : Option ℕ → Wake → Type 0
+LeavesOf limit Over = Unit {0}
+LeavesOf None (Again None) = Unit {0}
+LeavesOf (Some limit) (Again (Some left)) = left ≤ limit
+LeavesOf limit wake = ⊥
 
 -- The desk goes from old to new by a trace that P admits: P takes a trace, and what is left of it after this part.
 pub record Led {D : Type 0} (passes : D → Entry → D → Type 0) (old new : D) (P : List Entry → List Entry → Type 0) : Type 0 where

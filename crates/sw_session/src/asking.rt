@@ -136,8 +136,8 @@ fn settle<D: Desk>(desk: &mut D, sid: Sid, ask: SessionAsk) -> SessionAnswer
     let mut ask = ask;
     for _turn in 0..TURNS {
         match desk.ask(ask) {
-            SessionAnswer::Hold(held) => match desk.wait() {
-                Wake::Again => ask = held,
+            SessionAnswer::Hold(held) => match desk.wait(None) {
+                Wake::Again(_) => ask = held,
                 Wake::Over => return queue(desk, sid, ScpiError::SettingsConflict),
             },
             answer => return answer,

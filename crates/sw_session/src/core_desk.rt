@@ -3,25 +3,27 @@
 ghost use Rattle.std.specs.Prelude.{◌≡◌, Bool, true, [], ◌∷◌, ◌++◌, OnOk, OnErr, IfErr, IfSome, IfNone};
 ghost use Rattle.sw_core.specs.View.{ask_view, answer_view, work_view};
 ghost use Rattle.sw_core.specs.Step.{Step};
-ghost use Rattle.sw_session.specs.CoreDesk.{IsKept, IsCarried, Tells, Rests, piece_seen};
+ghost use Rattle.sw_session.specs.CoreDesk.{IsKept, IsCarried, Tells, Rests, desk_over, piece_seen};
 
-use crate::desk::{Desk, Wake};
+use crate::available::Available;
+use crate::desk::{Desk, View, Wake};
 use std::alloc::Global;
 use std::collections::VecDeque;
 use std::marker::Model;
 use sw_card::{Meter, Relay};
-use sw_core::{Answer, Ask, Core, SessionAnswer, SessionAsk, Work};
+use sw_core::{Answer, Ask, Core, SessionAnswer, SessionAsk, Sid, Work};
 
-/// A desk over a mainframe of its own, on one thread. Contracts see the mainframe's panel, and the work that is
-/// outstanding, the oldest first.
+/// A desk over a mainframe of its own, on one thread. Contracts see the mainframe's panel, the work that is outstanding,
+/// the oldest first, and for which sessions a message is available.
 ///
-/// A wait carries out the oldest piece, and is over where there is none. Pauses take no time. A piece for which there is
-/// no memory is carried out at once.
+/// A wait carries out the oldest piece, and is over where there is none. Nothing takes time, so that all
+/// of its limit is left. A piece for which there is no memory is carried out at once.
 #[derive(Drop)]
 pub struct CoreDesk<R: Relay, M: Meter> {
     alloc: Global,
     core: Core<R, M>,
     work: VecDeque<Work<M>>,
+    available: Available,
 }
 
 impl<R: Relay, M: Meter> Model for CoreDesk<R, M> {
@@ -30,19 +32,19 @@ impl<R: Relay, M: Meter> Model for CoreDesk<R, M> {
 
     ghost Value = { DeskSeen };
 
-    ghost view = { λ d. record { panel = d.core; work = map piece_seen d.work.items } };
+    ghost view = { λ d. record { panel = d.core; work = map piece_seen d.work.items; available = d.available } };
 }
 
 impl<R: Relay, M: Meter> CoreDesk<R, M> {
-    /// A desk over this mainframe, with no work.
+    /// A desk over this mainframe, with no work, and no message available.
     pub fn new(alloc: Global, core: Core<R, M>) -> Self
-        ensures panel { result.panel ≡ core }
-        ensures work { result.work ≡ [] }
+        ensures { result ≡ desk_over core }
     {
         CoreDesk {
             alloc,
             core,
             work: VecDeque::new(alloc),
+            available: Available::new(),
         }
     }
 
@@ -52,8 +54,8 @@ impl<R: Relay, M: Meter> CoreDesk<R, M> {
         ensures rested { result ≡ true → self.new.work ≡ [] }
     {
         for _turn in 0..u64::MAX {
-            match self.wait() {
-                Wake::Again => {}
+            match self.wait(None) {
+                Wake::Again(_) => {}
                 Wake::Over => return true,
             }
         }
@@ -78,7 +80,7 @@ impl<R: Relay, M: Meter> CoreDesk<R, M> {
 
     /// Puts a piece behind the rest, or hands it back where there is no memory for it.
     fn put(&mut self, piece: Work<M>) -> Result<(), Work<M>>
-        ensures ok { OnOk result (self.new ≡ record { panel = self.old.panel; work = self.old.work ++ piece_seen piece ∷ [] }) }
+        ensures ok { OnOk result (self.new ≡ record self.old { work = self.old.work ++ piece_seen piece ∷ [] }) }
         ensures err { OnErr result (self.new ≡ self.old) }
         ensures back { IfErr result (λ back. back ≡ piece) }
     {
@@ -90,7 +92,7 @@ impl<R: Relay, M: Meter> CoreDesk<R, M> {
 
     /// Takes the oldest piece off.
     fn take(&mut self) -> Option<Work<M>>
-        ensures some { IfSome result (λ piece. self.old ≡ record { panel = self.new.panel; work = piece_seen piece ∷ self.new.work }) }
+        ensures some { IfSome result (λ piece. self.old ≡ record self.new { work = piece_seen piece ∷ self.new.work }) }
         ensures none { IfNone result (self.old.work ≡ []) }
         ensures same { IfNone result (self.new ≡ self.old) }
     {
@@ -112,6 +114,7 @@ impl<R: Relay, M: Meter> CoreDesk<R, M> {
     fn tell(&mut self, ask: Ask<R, M>) -> Answer<R, M>
         ensures step { (failed : Bool) × Step self.old.panel (ask_view ask) failed (answer_view result) self.new.panel }
         ensures work { self.new.work ≡ self.old.work }
+        ensures available { self.new.available ≡ self.old.available }
     {
         self.core.apply(self.alloc, ask)
     }
@@ -142,14 +145,27 @@ impl<R: Relay, M: Meter> Desk for CoreDesk<R, M> {
         }
     }
 
-    fn wait(&mut self) -> Wake {
+    fn wait(&mut self, limit_ms: Option<u32>) -> Wake {
         match self.take() {
             Some(piece) => {
                 let work = self.carry(piece);
                 self.keep(work);
-                Wake::Again
+                Wake::Again(limit_ms)
             }
             None => Wake::Over,
         }
+    }
+
+    fn poll(&mut self, sid: Sid) -> View {
+        let (byte, requests) = self.core.pair();
+        View {
+            byte,
+            requests,
+            mav: self.available.has(sid),
+        }
+    }
+
+    fn note(&mut self, sid: Sid, mav: bool) {
+        self.available.note(sid, mav);
     }
 }

@@ -1,19 +1,30 @@
 //! What takes a session's asks.
 
-use sw_core::{SessionAnswer, SessionAsk};
+use sw_core::{SessionAnswer, SessionAsk, Sid};
 
 /// What a wait ends with.
 #[derive(Clone, Copy, Debug, PartialEq, Eq)]
 pub enum Wake {
-    /// Something may have changed: what was held is asked again.
-    Again,
-    /// Nothing will change: what was held is given up.
+    /// Something may have changed: what was held is asked again. So many milliseconds of the wait's limit are left.
+    Again(Option<u32>),
+    /// Nothing will change, or the time is up: what was held is given up.
     Over,
+}
+
+/// What a session sees of its status.
+#[derive(Clone, Copy, Debug, PartialEq, Eq)]
+pub struct View {
+    /// The status byte without bits 4 and 6.
+    pub byte: u8,
+    /// How many service requests there were.
+    pub requests: u64,
+    /// Whether it was noted last that a message is available for the session.
+    pub mav: bool,
 }
 
 /// What takes a session's asks.
 pub trait Desk {
-    ghost use Rattle.sw_session.specs.Trace.{Entry, Asked, Waited, HandsBack};
+    ghost use Rattle.sw_session.specs.Trace.{Entry, Asked, Waited, Polled, Noted, HandsBack, LeavesOf};
 
     /// The desk may go from one state to another by this entry.
     ghost passes: { Self → Entry → Self → Type 0 };
@@ -23,7 +34,16 @@ pub trait Desk {
         ensures passes { passes self.old (Asked ask result) self.new }
         ensures back { HandsBack ask result };
 
-    /// Waits until an ask that was held may be asked again.
-    fn wait(&mut self) -> Wake
-        ensures { passes self.old (Waited result) self.new };
+    /// Waits until an ask that was held may be asked again, for so many milliseconds at most where there is a limit.
+    fn wait(&mut self, limit_ms: Option<u32>) -> Wake
+        ensures passes { passes self.old (Waited limit_ms result) self.new }
+        ensures left { LeavesOf limit_ms result };
+
+    /// Looks at a session's status.
+    fn poll(&mut self, sid: Sid) -> View
+        ensures { passes self.old (Polled sid result) self.new };
+
+    /// Notes whether a message is available for a session.
+    fn note(&mut self, sid: Sid, mav: bool)
+        ensures { passes self.old (Noted sid mav) self.new };
 }

@@ -14,6 +14,7 @@
 #![tactic(auto)]
 
 mod asking;
+mod available;
 mod core_desk;
 mod desk;
 mod engine;
@@ -23,6 +24,6 @@ mod macros;
 mod talker;
 
 pub use core_desk::CoreDesk;
-pub use desk::{Desk, Wake};
+pub use desk::{Desk, View, Wake};
 pub use laws::{core_rest_is_determined, core_talk_is_determined, talk_is_determined};
 pub use talker::Talker;

@@ -5,7 +5,7 @@ use std::test::Fail;
 use sw_base::{Chan, ScpiError, Sequence};
 use sw_core::{SessionAnswer, SessionAsk, Sid};
 use sw_lex::Command;
-use sw_session::{Desk, Talker, Wake};
+use sw_session::{Desk, Talker, View, Wake};
 use sw_trigger::Settings;
 use sw_verify::{Layout, Slot, Snapshot};
 
@@ -83,13 +83,23 @@ impl Desk for Canned {
         }
     }
 
-    fn wait(&mut self) -> Wake {
+    fn wait(&mut self, limit_ms: Option<u32>) -> Wake {
         if self.waits == 0 {
             return Wake::Over;
         }
         self.waits -= 1;
-        Wake::Again
+        Wake::Again(limit_ms)
     }
+
+    fn poll(&mut self, _sid: Sid) -> View {
+        View {
+            byte: 0,
+            requests: 0,
+            mav: false,
+        }
+    }
+
+    fn note(&mut self, _sid: Sid, _mav: bool) {}
 }
 
 fn talker(alloc: Global) -> Talker {

@@ -1,4 +1,4 @@
-use Rattle.std.proofs.Common.{◌≡◌, None, Ok, refl, sym, ap, subst}
+use Rattle.std.proofs.Common.{None, Ok, refl, sym, ap, subst}
 use Rattle.sw_lex.specs.declared.command.Command.{Command}
 use Rattle.sw_core.specs.Action.{action_of}
 use Rattle.sw_session.specs.Macros.{Acts}
