@@ -11,3 +11,6 @@ pub mod Determined
 pub mod CoreTalk
 pub mod Cuts
 pub mod SubAddress
+pub mod EngineAsks
+pub mod LockWaits
+pub mod AsyncRows
