@@ -1,11 +1,14 @@
 //! Messages over a desk that answers as it is told.
 
+use crate::asks::{install, joined};
 use std::alloc::Global;
 use std::test::Fail;
 use sw_base::{Chan, ScpiError, Sequence};
-use sw_core::{SessionAnswer, SessionAsk, Sid};
+use sw_card::Card;
+use sw_core::{Core, SessionAnswer, SessionAsk, Sid};
+use sw_kinds::{Mux, SimDriver, SimSource, Volt};
 use sw_lex::Command;
-use sw_session::{Desk, Talker, View, Wake};
+use sw_session::{CoreDesk, Desk, Talker, View, Wake};
 use sw_trigger::Settings;
 use sw_verify::{Layout, Slot, Snapshot};
 
@@ -17,6 +20,8 @@ struct Canned {
     held: u32,
     /// How many waits are still followed by another.
     waits: u32,
+    /// Whether a wait had a limit.
+    limited: bool,
     /// The numbers of the errors that were queued.
     faults: Vec<i16>,
     /// Whether the last unit was told that its message had answered before.
@@ -33,6 +38,7 @@ impl Canned {
             alloc,
             held,
             waits,
+            limited: false,
             faults: Vec::new(alloc),
             answered: false,
             snapshot: None,
@@ -84,6 +90,7 @@ impl Desk for Canned {
     }
 
     fn wait(&mut self, limit_ms: Option<u32>) -> Wake {
+        self.limited = self.limited || limit_ms.is_some();
         if self.waits == 0 {
             return Wake::Over;
         }
@@ -148,6 +155,7 @@ fn asks_again_until_waiting_is_over(rt: HostRuntime) -> Result<(), Fail> {
     let line = talker(rt.alloc()).message(b"*IDN?;*IDN?", &mut desk);
     assert_eq!(rt; line.as_slice(), b"OPENBENCH,SWM8,0,1.0\n".as_slice());
     assert_eq!(rt; desk.faults.as_slice(), [-221].as_slice());
+    assert!(rt; !desk.limited);
     Ok(())
 }
 
@@ -236,5 +244,62 @@ fn a_label_of_one_session_is_none_of_another(rt: HostRuntime) -> Result<(), Fail
     let line = talker(rt.alloc()).message(b"*EMC?;*LMC?;*EMC 1;A", &mut desk);
     assert_eq!(rt; line.as_slice(), b"0;\"\"\n".as_slice());
     assert_eq!(rt; desk.faults.as_slice(), [-113].as_slice());
+    Ok(())
+}
+
+/// A desk over four channels in slot 1 and a meter in slot 4, and a session.
+fn bench(alloc: Global) -> Result<(CoreDesk<Mux<SimDriver>, Volt<SimSource>>, Sid), Fail> {
+    let mut core = Core::new(alloc)?;
+    let mux = Mux::new(1, 4, 1, SimDriver::new());
+    install(alloc, &mut core, 1, Card::relays(mux))?;
+    let volt = Volt::new(4, SimSource::new(1, 1));
+    install(alloc, &mut core, 4, Card::meter(volt))?;
+    let sid = joined(alloc, &mut core)?;
+    Ok((CoreDesk::new(alloc, core), sid))
+}
+
+#[test]
+fn all_of_a_limit_is_left_until_nothing_is_outstanding(rt: HostRuntime) -> Result<(), Fail> {
+    let (mut desk, sid) = bench(rt.alloc())?;
+    let message = b"ROUT:SCAN (@1!1);:TRIG:DEL 1;:INIT";
+    let line = Talker::new(rt.alloc(), sid).message(message, &mut desk);
+    let pause = desk.wait(Some(500));
+    let measurement = desk.wait(None);
+    let over = desk.wait(Some(500));
+    drop(desk);
+    assert!(rt; line.is_empty());
+    assert_eq!(rt; pause, Wake::Again(Some(500)));
+    assert_eq!(rt; measurement, Wake::Again(None));
+    assert_eq!(rt; over, Wake::Over);
+    Ok(())
+}
+
+#[test]
+fn a_desk_tells_the_status_and_what_a_session_noted(rt: HostRuntime) -> Result<(), Fail> {
+    let (mut desk, sid) = bench(rt.alloc())?;
+    let later = Sid {
+        number: sid.number,
+        joined: sid.joined.saturating_add(1),
+    };
+    let line = Talker::new(rt.alloc(), sid).message(b"*SRE 4;FOO", &mut desk);
+    let before = desk.poll(sid);
+    desk.note(sid, true);
+    desk.note(later, false);
+    let noted = desk.poll(sid);
+    let other = desk.poll(later);
+    desk.note(sid, false);
+    let after = desk.poll(sid);
+    drop(desk);
+    assert!(rt; line.is_empty());
+    let (byte, requests) = (4, 1);
+    let silent = View {
+        byte,
+        requests,
+        mav: false,
+    };
+    assert_eq!(rt; before, silent);
+    assert!(rt; noted.mav);
+    assert_eq!(rt; other, silent);
+    assert_eq!(rt; after, silent);
     Ok(())
 }
