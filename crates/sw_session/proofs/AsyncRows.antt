@@ -1,12 +1,15 @@
 -- Rows of the asynchronous channel.
-use Rattle.std.proofs.Common.{◌≡◌, ℕ, max, nat_lt, [], ◌∷◌, ◌++◌, refl}
+use Rattle.std.proofs.Common.{◌≡◌, ℕ, max, nat_lt, [], ◌∷◌, ◌++◌, None, refl}
 use Rattle.sw_hislip.specs.declared.kind.Kind.TheVariants as Kind
+use Rattle.sw_core.specs.declared.ask.Sid.{Sid}
+use Rattle.sw_core.specs.declared.ask.SessionAnswer.{SessionAnswer}
+use Rattle.sw_core.specs.declared.ask.SessionAnswer.TheVariants.{Joined, Full, Stranger, Broken, Done, Missed, Max, Lock, Info, Snapshot, Refused, Hold, Worn}
 use Rattle.sw_session.specs.declared.desk.View.{View}
 use Rattle.sw_session.specs.declared.engine.step.Step.{Step}
 use Rattle.sw_session.specs.Trace.{Entry, Polled, Leads}
 use Rattle.sw_session.specs.EngineMessages.{plain, status_byte}
-use Rattle.sw_session.specs.EngineStep.{LedBy}
-use Rattle.sw_session.specs.EngineAsync.{AsyncStanding, TellsStatus, delivered, replies}
+use Rattle.sw_session.specs.EngineStep.{LedBy, over}
+use Rattle.sw_session.specs.EngineAsync.{AsyncStanding, TellsStatus, AttachesBy, delivered, replies}
 use Rattle.sw_session.proofs.Led.{leads-append}
 
 -- the status is told
@@ -19,3 +22,19 @@ status-told passes old mid new s s' control view step l p told counted = record 
   leads = leads-append passes old mid new (delivered s.sid control) (Polled s.sid view ∷ []) l (new, p, refl);
   admits = record { view = view; asks = refl; tells = told; counts = counted };
 }
+
+-- any other answer than a session, or that there is none, ends the channel
+pub attaches-told : (answer : SessionAnswer) → ((sid : Sid) → answer ≡ Joined sid → ⊥) → (answer ≡ Stranger → ⊥) → AttachesBy answer [] over None
+attaches-told (Joined sid) joined stranger = absurd (joined sid refl)
+attaches-told Stranger joined stranger = absurd (stranger refl)
+attaches-told Full joined stranger = ((refl, refl), refl)
+attaches-told Missed joined stranger = ((refl, refl), refl)
+attaches-told (Max size) joined stranger = ((refl, refl), refl)
+attaches-told (Lock code) joined stranger = ((refl, refl), refl)
+attaches-told (Info exclusive holders) joined stranger = ((refl, refl), refl)
+attaches-told Broken joined stranger = ((refl, refl), refl)
+attaches-told (Done text) joined stranger = ((refl, refl), refl)
+attaches-told (Refused e) joined stranger = ((refl, refl), refl)
+attaches-told (Hold back) joined stranger = ((refl, refl), refl)
+attaches-told (Worn back) joined stranger = ((refl, refl), refl)
+attaches-told (Snapshot s) joined stranger = ((refl, refl), refl)

@@ -4,10 +4,6 @@ use Rattle.sw_session.specs.Trace.{Entry, Leads}
 use Rattle.sw_session.specs.EngineStep.{LedBy}
 use Rattle.sw_session.proofs.Led.{leads-append}
 
--- nothing passes
-pub by-nothing : {D : Type 0} (passes : D → Entry → D → Type 0) (d : D) (P : List Entry → Type 0) → P [] → LedBy passes d d P
-by-nothing passes d P h = record { asked = []; leads = refl; admits = h }
-
 -- one call
 pub by-one : {D : Type 0} (passes : D → Entry → D → Type 0) (old new : D) (P : List Entry → Type 0) (e : Entry) → passes old e new → P (e ∷ []) → LedBy passes old new P
 by-one passes old new P e p h = record { asked = e ∷ []; leads = (new, p, refl); admits = h }

@@ -14,3 +14,4 @@ pub mod SubAddress
 pub mod EngineAsks
 pub mod LockWaits
 pub mod AsyncRows
+pub mod SyncRows

@@ -1,6 +1,6 @@
 -- The asynchronous channel: what is asked and said to each message (IVI-6.1 HiSLIP; what is said to be own is this
 -- instrument's choice).
-use Rattle.std.specs.Prelude.{◌≡◌, ℕ, ◌+◌, ◌==◌, max, nat_lt, nat_le, ◌&&◌, Bool, true, false, MatchBool, List, [], ◌∷◌, ◌++◌, Option, None, Some, if◌then◌else◌}
+use Rattle.std.specs.Prelude.{◌≡◌, ℕ, ◌+◌, ◌==◌, max, nat_lt, nat_le, Bool, true, false, MatchBool, List, [], ◌∷◌, ◌++◌, Option, None, Some, Result, Ok, Err, if◌then◌else◌}
 use Rattle.sw_hislip.specs.declared.kind.Kind.{Kind}
 use Rattle.sw_hislip.specs.declared.message.Message.{Message}
 use Rattle.sw_core.specs.declared.ask.Sid.{Sid}
@@ -16,10 +16,11 @@ use Rattle.sw_session.specs.declared.engine.refusals.FatalCode.TheVariants.{Inva
 use Rattle.sw_session.specs.declared.engine.requests.AsyncRequest.{AsyncRequest}
 use Rattle.sw_session.specs.declared.engine.requests.AsyncRequest.TheVariants as Request
 use Rattle.sw_session.specs.declared.engine.step.Channel.TheVariants.{Asynchronous}
+use Rattle.sw_session.specs.declared.engine.step.Reply.{Reply}
 use Rattle.sw_session.specs.declared.engine.step.Step.{Step}
 use Rattle.sw_session.specs.EngineKinds.{async_request}
 use Rattle.sw_session.specs.EngineMessages.{plain, error_of, second_welcome, size_told, size_response, tells_delivery, status_byte, lock_info}
-use Rattle.sw_session.specs.EngineStep.{goes, over, says, fails, Unasked, OnDone}
+use Rattle.sw_session.specs.EngineStep.{goes, over, reply_step, says, fails, Unasked, OnDone}
 use Rattle.sw_session.specs.Talk.{turns}
 use Rattle.sw_session.specs.Trace.{Entry, Asked, Waited, Polled, Noted}
 
@@ -60,10 +61,22 @@ abbrev pub is_second : Kind → Bool
 is_second Kind.AsyncInitialize = true
 is_second kind = false
 
--- the first message has to be an AsyncInitialize; a number above 255 is no session's
-abbrev pub OpensAsync : Message → List Entry → Step → Option AsyncStanding → Type 0
-OpensAsync m asked step s' =
-    MatchBool (is_second m.kind && nat_le m.parameter 255) (Attaches m.parameter asked step s') (Misbegins asked step s')
+-- a number above 255 is no session's
+abbrev pub AttachesNumber : ℕ → List Entry → Step → Option AsyncStanding → Type 0
+AttachesNumber parameter asked step s' = MatchBool (nat_le parameter 255) (Attaches parameter asked step s') (Misbegins asked step s')
+
+-- the first message has to be an AsyncInitialize
+abbrev pub OpensAsync : Kind → ℕ → List Entry → Step → Option AsyncStanding → Type 0
+OpensAsync kind parameter asked step s' = MatchBool (is_second kind) (AttachesNumber parameter asked step s') (Misbegins asked step s')
+
+-- what the code comes to: the second channel of a session, or a reply without one
+abbrev pub opened_step : Result AsyncStanding Reply → Step
+opened_step (Ok s) = replies second_welcome
+opened_step (Err reply) = reply_step Asynchronous reply
+
+abbrev pub opened_session : Result AsyncStanding Reply → Option AsyncStanding
+opened_session (Ok s) = Some s
+opened_session (Err reply) = None
 
 -- ---- locks
 

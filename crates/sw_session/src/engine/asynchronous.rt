@@ -4,7 +4,7 @@ ghost use Rattle.std.specs.Prelude.{◌≡◌, ◌≢◌, IfOk, OnErr};
 ghost use Rattle.sw_session.specs.Trace.{Leads};
 ghost use Rattle.sw_session.specs.EngineStep.{LedBy, OnDone, reply_step, on_done};
 ghost use Rattle.sw_session.specs.EngineMessages.{size_told, size_response, plain};
-ghost use Rattle.sw_session.specs.EngineAsync.{TakesAsync, delivered, RepliesAsync, TellsStatus, notice_of, noticed, control_reply};
+ghost use Rattle.sw_session.specs.EngineAsync.{OpensAsync, AttachesNumber, is_second, Attaches, opened_step, opened_session, TakesAsync, delivered, RepliesAsync, TellsStatus, notice_of, noticed, control_reply};
 ghost use Rattle.sw_session.specs.declared.engine.step.Channel.TheVariants.{Asynchronous};
 ghost use Rattle.sw_core.specs.declared.ask.SessionAsk.TheVariants as Ask;
 
@@ -38,6 +38,47 @@ impl Model for AsyncSession {
 }
 
 impl AsyncSession {
+    /// Begins the channel by its first message; else gives what is said.
+    pub fn open<D: Desk>(kind: Kind, parameter: u32, desk: &mut D) -> Result<AsyncSession, Reply>
+        ensures { LedBy D.passes desk.old desk.new (λ asked. OpensAsync kind parameter asked (opened_step result) (opened_session result)) }
+    {
+        if is_second(kind) {
+            return AsyncSession::attach_number(parameter, desk);
+        }
+        Err(Reply::Fails(FatalCode::InvalidInitialization))
+    }
+
+    /// Asks to be the second channel of the session with the number in a parameter; else gives what is said.
+    fn attach_number<D: Desk>(parameter: u32, desk: &mut D) -> Result<AsyncSession, Reply>
+        ensures { LedBy D.passes desk.old desk.new (λ asked. AttachesNumber parameter asked (opened_step result) (opened_session result)) }
+    {
+        if parameter <= 255 {
+            return AsyncSession::attach(parameter as u8, desk);
+        }
+        Err(Reply::Fails(FatalCode::InvalidInitialization))
+    }
+
+    /// Asks to be the second channel of the session with this number; else gives what is said.
+    fn attach<D: Desk>(number: u8, desk: &mut D) -> Result<AsyncSession, Reply>
+        ensures { LedBy D.passes desk.old desk.new (λ asked. Attaches number asked (opened_step result) (opened_session result)) }
+    {
+        match desk.ask(SessionAsk::Attach(number)) {
+            SessionAnswer::Joined(sid) => {
+                let requests = desk.poll(sid).requests;
+                Ok(AsyncSession {
+                    sid,
+                    told: requests,
+                    polled: requests,
+                })
+            }
+            SessionAnswer::Stranger => Err(Reply::Fails(FatalCode::InvalidInitialization)),
+            answer => {
+                drop(answer);
+                Err(Reply::Leaves)
+            }
+        }
+    }
+
     /// Serves a message after the first. Want of memory is met before anything is asked, and changes nothing.
     pub fn take<D: Desk>(
         &mut self,
@@ -99,6 +140,13 @@ impl AsyncSession {
         let byte = status_byte(view.byte, view.mav, true);
         Some(plain(alloc, Kind::AsyncServiceRequest, byte, 0))
     }
+}
+
+/// Whether a message of this kind begins the asynchronous channel.
+fn is_second(kind: Kind) -> bool
+    ensures { result ≡ is_second kind }
+{
+    matches!(kind, Kind::AsyncInitialize)
 }
 
 /// Notes that no message is available where a control code tells that the client has taken the last answer whole.
