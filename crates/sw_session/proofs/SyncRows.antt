@@ -1,16 +1,19 @@
 -- Rows of the synchronous channel.
-use Rattle.std.proofs.Common.{◌≡◌, ℕ, Bool, true, false, MatchBool, List, [], ◌∷◌, ◌++◌, Option, None, Some, refl, sym, ap, subst, ◌∙◌}
-use Rattle.sw_base.specs.declared.error.ScpiError.TheVariants.{QueryInterrupted}
+use Rattle.std.proofs.Common.{◌≡◌, ℕ, Bool, true, false, MatchBool, List, [], ◌∷◌, ◌++◌, Option, None, Some, refl, sym, ap, subst, ◌∙◌, append-nil}
+use Rattle.sw_base.specs.declared.error.ScpiError.TheVariants.{QueryInterrupted, GetNotAllowed}
 use Rattle.sw_core.specs.declared.ask.Sid.{Sid}
 use Rattle.sw_core.specs.declared.ask.SessionAsk.TheVariants as Ask
 use Rattle.sw_core.specs.declared.ask.SessionAnswer.{SessionAnswer}
 use Rattle.sw_session.specs.declared.desk.View.{View}
 use Rattle.sw_session.specs.declared.engine.step.Reply.{Reply}
 use Rattle.sw_session.specs.declared.engine.step.Step.{Step}
+use Rattle.sw_hislip.specs.declared.kind.Kind.TheVariants as Kind
+use Rattle.sw_session.specs.Talk.{Settles, Queues, is_done}
+use Rattle.sw_session.proofs.EngineAsks.{by-one, by-two}
 use Rattle.sw_session.specs.Trace.{Entry, Asked, Polled, Noted, Led}
-use Rattle.sw_session.specs.EngineMessages.{tells_delivery}
-use Rattle.sw_session.specs.EngineStep.{goes}
-use Rattle.sw_session.specs.EngineSync.{Attends, attended, gate_step, Delivers, Interrupts, LooksForAnswer, interrupted}
+use Rattle.sw_session.specs.EngineMessages.{plain, tells_delivery}
+use Rattle.sw_session.specs.EngineStep.{LedBy, Unasked, goes, over}
+use Rattle.sw_session.specs.EngineSync.{Attends, attended, gate_step, Delivers, Interrupts, LooksForAnswer, interrupted, GivesTrigger, Completes, responds}
 use Rattle.sw_session.proofs.Led.{led-none, led-one, led-then}
 
 -- the second channel was seen to stand
@@ -56,3 +59,32 @@ interrupts-told passes old mid new sid id answer step p q told = record {
   leads = (mid, p, (new, q, refl));
   admits = λ rest. (refl, refl, refl, told, refl);
 }
+
+-- a trigger within a program message, and one without
+pub trigger-within : {D : Type 0} (passes : D → Entry → D → Type 0) (old new : D) (sid : Sid) (within : Bool) (final : SessionAnswer) → within ≡ true → Led passes old new (λ t rest. Queues sid GetNotAllowed t final rest) → LedBy passes old new (λ asked. GivesTrigger within sid asked final)
+trigger-within passes old new sid within final is led = record {
+  asked = led.trace;
+  leads = led.leads;
+  admits = subst (λ (b : Bool). GivesTrigger b sid led.trace final) (sym is) (subst (λ (t : List Entry). Queues sid GetNotAllowed t final []) (append-nil led.trace) (led.admits []));
+}
+
+pub trigger-alone : {D : Type 0} (passes : D → Entry → D → Type 0) (old new : D) (sid : Sid) (within : Bool) (final : SessionAnswer) → within ≡ false → Led passes old new (λ t rest. Settles sid 0 (Ask.Bus sid) t final rest) → LedBy passes old new (λ asked. GivesTrigger within sid asked final)
+trigger-alone passes old new sid within final is led = record {
+  asked = led.trace;
+  leads = led.leads;
+  admits = subst (λ (b : Bool). GivesTrigger b sid led.trace final) (sym is) (subst (λ (t : List Entry). Settles sid 0 (Ask.Bus sid) t final []) (append-nil led.trace) (led.admits []));
+}
+
+-- a clear is complete
+pub completes-done : {D : Type 0} (passes : D → Entry → D → Type 0) (old mid new : D) (sid : Sid) (answer : SessionAnswer) (step : Step) → is_done answer ≡ true → passes old (Asked (Ask.Cleared sid) answer) mid → passes mid (Noted sid false) new
+    → step ≡ responds (plain Kind.DeviceClearAcknowledge 0 0) → LedBy passes old new (λ asked. Completes sid asked step)
+completes-done passes old mid new sid answer step is p q told =
+    by-two passes old mid new (λ asked. Completes sid asked step) (Asked (Ask.Cleared sid) answer) (Noted sid false) p q
+    (refl, subst (λ (b : Bool). MatchBool b ((Noted sid false ∷ [] ≡ Noted sid false ∷ []) × (step ≡ responds (plain Kind.DeviceClearAcknowledge 0 0))) (Unasked over (Noted sid false ∷ []) step)) (sym is) (refl, told))
+
+-- or is not
+pub completes-not : {D : Type 0} (passes : D → Entry → D → Type 0) (old new : D) (sid : Sid) (answer : SessionAnswer) → is_done answer ≡ false → passes old (Asked (Ask.Cleared sid) answer) new → LedBy passes old new (λ asked. Completes sid asked over)
+completes-not passes old new sid answer is p =
+    let none : List Entry = [] in
+    by-one passes old new (λ asked. Completes sid asked over) (Asked (Ask.Cleared sid) answer) p
+    (refl, subst (λ (b : Bool). MatchBool b ((none ≡ Noted sid false ∷ []) × (over ≡ responds (plain Kind.DeviceClearAcknowledge 0 0))) (Unasked over none over)) (sym is) (refl, refl))

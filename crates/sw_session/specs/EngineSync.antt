@@ -183,20 +183,29 @@ abbrev pub Finishes : SyncStanding → ℕ → Option (List ℕ) → List Entry 
 Finishes s id None asked step s' = Unasked (goes []) asked step × (s' ≡ record s { front = Front.Nothing })
 Finishes s id (Some text) asked step s' = Converses s id text asked step s'.macros × (s' ≡ record s { macros = s'.macros; front = Front.Nothing })
 
--- Trigger: a bus trigger; within a program message an error, and what came of that is dropped
-abbrev pub TriggersBy : Front → Sid → List Entry → SessionAnswer → Type 0
-TriggersBy Front.Nothing sid asked final = Settles sid 0 (Ask.Bus sid) asked final []
-TriggersBy front sid asked final = Queues sid GetNotAllowed asked final []
+-- some part of a program message has come
+abbrev pub is_within : Front → Bool
+is_within Front.Nothing = false
+is_within front = true
 
-abbrev pub Triggers : SyncStanding → List Entry → Step → SyncStanding → Type 0
-Triggers s asked step s' =
-    (final : SessionAnswer) × TriggersBy s.front s.sid asked final × (step ≡ (if is_gone final then over else goes [])) × (s' ≡ record s { front = Front.Nothing })
+-- within a program message a trigger is an error, else it is a bus trigger
+abbrev pub GivesTrigger : Bool → Sid → List Entry → SessionAnswer → Type 0
+GivesTrigger true sid asked final = Queues sid GetNotAllowed asked final []
+GivesTrigger false sid asked final = Settles sid 0 (Ask.Bus sid) asked final []
+
+-- what a trigger comes to
+abbrev pub trigger_step : SessionAnswer → Step
+trigger_step final = if is_gone final then over else goes []
+
+-- Trigger: what came of a program message is dropped
+abbrev pub Triggers : Bool → Sid → List Entry → Step → Type 0
+Triggers within sid asked step = (final : SessionAnswer) × GivesTrigger within sid asked final × (step ≡ trigger_step final)
 
 -- what each of these messages does once that was done
 abbrev pub Programs : SyncRequest → SyncStanding → Message → List Entry → Step → SyncStanding → Type 0
 Programs Request.Part s m asked step s' = Unasked (goes []) asked step × (s' ≡ record s { front = with_part s.front m.payload })
 Programs Request.End s m asked step s' = Finishes s m.parameter (whole s.front m.payload) asked step s'
-Programs Request.Trigger s m asked step s' = Triggers s asked step s'
+Programs Request.Trigger s m asked step s' = Triggers (is_within s.front) s.sid asked step × (s' ≡ record s { front = Front.Nothing })
 Programs request s m asked step s' = ⊥
 
 -- a part of a row, and what follows it unless it ends the channel; what both say is said
@@ -216,16 +225,20 @@ ServesProgram request s m asked step s' =
 
 -- ---- all messages after the first
 
--- DeviceClearComplete: the session is heard again; no answer is available, and what came of a program message is dropped
-abbrev pub Completes : SyncStanding → List Entry → Step → SyncStanding → Type 0
-Completes s (Asked a answer ∷ asked) step s' =
-    (a ≡ Ask.Cleared s.sid) × MatchBool (is_done answer)
-    ((asked ≡ Noted s.sid false ∷ []) × (step ≡ responds (plain Kind.DeviceClearAcknowledge 0 0)) × (s' ≡ record s { front = Front.Nothing }))
-    (Unasked over asked step × (s' ≡ s))
-Completes s asked step s' = ⊥
+-- DeviceClearComplete: the session is heard again, and no answer is available
+abbrev pub Completes : Sid → List Entry → Step → Type 0
+Completes sid (Asked a answer ∷ asked) step =
+    (a ≡ Ask.Cleared sid) × MatchBool (is_done answer)
+    ((asked ≡ Noted sid false ∷ []) × (step ≡ responds (plain Kind.DeviceClearAcknowledge 0 0)))
+    (Unasked over asked step)
+Completes sid asked step = ⊥
+
+-- then what came of a program message is dropped
+abbrev pub completed : SyncStanding → Step → SyncStanding
+completed s step = if step.ends then s else record s { front = Front.Nothing }
 
 abbrev pub TakesSyncBy : SyncRequest → SyncStanding → Message → List Entry → Step → SyncStanding → Type 0
-TakesSyncBy Request.ClearComplete s m asked step s' = Completes s asked step s'
+TakesSyncBy Request.ClearComplete s m asked step s' = Completes s.sid asked step × (s' ≡ completed s step)
 TakesSyncBy Request.Leave s m asked step s' = Unasked over asked step × (s' ≡ s)
 TakesSyncBy Request.Nothing s m asked step s' = Unasked (goes []) asked step × (s' ≡ s)
 TakesSyncBy Request.Initialize s m asked step s' = Unasked (fails Synchronous InvalidInitialization) asked step × (s' ≡ s)

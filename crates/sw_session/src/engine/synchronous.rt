@@ -3,13 +3,17 @@
 ghost use Rattle.std.specs.Prelude.{◌≡◌, ℕ};
 ghost use Rattle.sw_session.specs.Trace.{Led};
 ghost use Rattle.sw_session.specs.EngineStep.{LedBy, is_gone, reply_step};
-ghost use Rattle.sw_session.specs.EngineSync.{OpensSync, JoinsAt, is_first, Joins, joins_step, joins_session, opened_step, opened_session, Attends, attended, gate_step, Delivers, Interrupts, delivery_step, interrupted};
+ghost use Rattle.sw_session.specs.EngineSync.{OpensSync, JoinsAt, is_first, Joins, joins_step, joins_session, opened_step, opened_session, Attends, attended, gate_step, Delivers, Interrupts, delivery_step, interrupted, Triggers, GivesTrigger, trigger_step, Completes};
+ghost use Rattle.sw_session.specs.Talk.{is_done};
+ghost use Rattle.sw_session.specs.declared.engine.step.Channel.TheVariants.{Synchronous};
 
+use crate::asking::{queue, settle};
 use crate::desk::Desk;
 use crate::engine::initialization::is_sub_address;
 use crate::engine::refusals::FatalCode;
-use crate::engine::responses::tells_delivery;
+use crate::engine::responses::{plain, tells_delivery};
 use crate::engine::step::Reply;
+use std::alloc::Global;
 use sw_base::ScpiError;
 use sw_core::{SessionAnswer, SessionAsk, Sid};
 use sw_hislip::{Kind, Message};
@@ -126,6 +130,55 @@ fn interrupt<D: Desk>(sid: Sid, desk: &mut D) -> Delivery
     } else {
         Delivery::Interrupted
     }
+}
+
+/// Gives a trigger; within a program message that is an error.
+pub fn trigger<D: Desk>(sid: Sid, within: bool, desk: &mut D) -> Reply
+    ensures { LedBy D.passes desk.old desk.new (λ asked. Triggers within sid asked (reply_step Synchronous result)) }
+{
+    let answer = give_trigger(sid, within, desk);
+    trigger_reply(answer)
+}
+
+/// Asks for a bus trigger, or queues the error.
+fn give_trigger<D: Desk>(sid: Sid, within: bool, desk: &mut D) -> SessionAnswer
+    ensures { LedBy D.passes desk.old desk.new (λ asked. GivesTrigger within sid asked result) }
+{
+    if within {
+        return queue(desk, sid, ScpiError::GetNotAllowed);
+    }
+    settle(desk, sid, SessionAsk::Bus(sid))
+}
+
+/// What a trigger comes to: nothing is said.
+fn trigger_reply(answer: SessionAnswer) -> Reply
+    ensures { reply_step Synchronous result ≡ trigger_step answer }
+{
+    if is_gone(answer) {
+        return Reply::Leaves;
+    }
+    Reply::Silence
+}
+
+/// Answers a DeviceClearComplete.
+pub fn complete<D: Desk>(alloc: Global, sid: Sid, desk: &mut D) -> Reply
+    ensures { LedBy D.passes desk.old desk.new (λ asked. Completes sid asked (reply_step Synchronous result)) }
+{
+    let answer = desk.ask(SessionAsk::Cleared(sid));
+    if is_done(answer) {
+        desk.note(sid, false);
+        return Reply::Says(plain(alloc, Kind::DeviceClearAcknowledge, 0, 0));
+    }
+    Reply::Leaves
+}
+
+/// Whether what was asked is done.
+fn is_done(answer: SessionAnswer) -> bool
+    ensures { result ≡ is_done answer }
+{
+    let done = matches!(&answer, SessionAnswer::Done(_));
+    drop(answer);
+    done
 }
 
 /// Whether the session is none any more, or nothing more can be numbered.
