@@ -2,17 +2,21 @@
 
 ghost use Rattle.std.specs.Prelude.{ℕ, Bool};
 
+use crate::cage_calls::{
+    begin, close, ejected, fill, give_back, has, has_all, has_closed, install, is_closed,
+    is_ignored, is_over, job_of, lists_closed, refused_card, refused_eject, refuses, settings_of,
+};
 use std::alloc::{AllocError, Global};
 use std::process::Abort;
 use std::sync::Arc;
 use std::sync::atomic::{AtomicU64, Ordering};
 use std::test::Fail;
-use sw_base::{Chan, LayerName, Sequence, Source};
+use sw_base::{Chan, LayerName, Source};
 use sw_cage::{Cage, CloseRefusal, EjectRefusal, Happening, InstallRefusal, Job, Taken, Ticket};
 use sw_card::{Card, CardFault, Meter, Relay};
 use sw_kinds::{Driver, Mux, SimDriver, SimSource, Volt};
 use sw_trigger::Settings;
-use sw_verify::{Plan, Snapshot};
+use sw_verify::Layout;
 
 /// What the drivers of several cards did, in order: by threes of decimal digits the slot, the channel, and 1 for on.
 type Record = Arc<AtomicU64, Global>;
@@ -55,131 +59,21 @@ fn voltmeter() -> Volt<SimSource> {
     Volt::new(4, SimSource::new(1, 1))
 }
 
-/// Puts a card into the slot.
-fn install<R: Relay, M: Meter>(
+/// Takes so many readings, which end the scan.
+fn read_all<R: Relay, M: Meter>(
     cage: &mut Cage<R, M>,
-    slot: u8,
-    card: Card<R, M>,
+    first: Taken<M>,
+    count: u32,
 ) -> Result<(), Fail> {
-    match cage.install(slot, card) {
-        Ok(()) => Ok(()),
-        Err(refused) => {
-            drop(refused);
-            Err("a card was refused")?
-        }
+    let mut taken = first;
+    for _ in 0..count {
+        let job = job_of(taken)?;
+        taken = give_back(cage, job)?;
     }
-}
-
-/// Offers a card to the slot that does not take it, and gives it back.
-fn refused_card<R: Relay, M: Meter>(
-    cage: &mut Cage<R, M>,
-    slot: u8,
-    card: Card<R, M>,
-) -> Result<(InstallRefusal, Card<R, M>), Fail> {
-    match cage.install(slot, card) {
-        Ok(()) => Err("a card was not refused")?,
-        Err(refused) => Ok(refused),
+    if !is_over(taken) {
+        Err("the scan did not end")?;
     }
-}
-
-/// Takes the slot's card out.
-fn ejected<R: Relay, M: Meter>(cage: &mut Cage<R, M>, slot: u8) -> Result<Card<R, M>, Fail> {
-    match cage.eject(slot) {
-        Ok(card) => Ok(card),
-        Err(_) => Err("no card came out")?,
-    }
-}
-
-/// Why no card comes out of the slot, if none does.
-fn refused_eject<R: Relay, M: Meter>(cage: &mut Cage<R, M>, slot: u8) -> Option<EjectRefusal> {
-    match cage.eject(slot) {
-        Ok(card) => {
-            drop(card);
-            None
-        }
-        Err(refusal) => Some(refusal),
-    }
-}
-
-/// Relay cards in slots 1 to 3 and a meter in slot 4.
-fn fill<R: Relay, M: Meter>(cage: &mut Cage<R, M>, cards: (R, R, R), meter: M) -> Result<(), Fail> {
-    let (first, second, third) = cards;
-    install(cage, 1, Card::relays(first))?;
-    install(cage, 2, Card::relays(second))?;
-    install(cage, 3, Card::relays(third))?;
-    install(cage, 4, Card::meter(meter))
-}
-
-/// Closes the channels, which may be closed together.
-fn close<R: Relay, M: Meter>(cage: &mut Cage<R, M>, chans: &[Chan]) -> bool {
-    if cage.is_running() || cage.judge(chans).is_err() {
-        return false;
-    }
-    cage.close_listed(chans).is_ok()
-}
-
-/// Begins a scan of these settings.
-fn begin<R: Relay, M: Meter>(
-    alloc: Global,
-    cage: &mut Cage<R, M>,
-    settings: Settings,
-) -> Result<Taken<M>, Fail> {
-    if cage.is_running() || cage.number() == u64::MAX || cage.has_out(settings.meter()) {
-        return Err("the cage is not ready")?;
-    }
-    let layout = cage.layout(alloc)?;
-    let closed = Sequence::new(cage.closed_chans(alloc)?);
-    let snapshot = Snapshot {
-        settings,
-        layout,
-        closed,
-    };
-    let Ok(plan) = Plan::make(snapshot) else {
-        return Err("the plan was refused")?;
-    };
-    Ok(cage.start(alloc, plan)?)
-}
-
-/// The settings of a scan of these channels with so many readings.
-fn settings_of(alloc: Global, chans: &[Chan], count: u32) -> Result<Settings, Fail> {
-    let mut settings = Settings::new(alloc);
-    settings.set_list(chans.to_vec(alloc)?)?;
-    settings.set_count(LayerName::Trigger, count)?;
-    Ok(settings)
-}
-
-/// Gives the meter that has measured back to the cage.
-fn give_back<R: Relay, M: Meter>(cage: &mut Cage<R, M>, job: Job<M>) -> Result<Taken<M>, Fail> {
-    match cage.finish(job.run()) {
-        Ok(taken) => Ok(taken),
-        Err(back) => {
-            drop(back);
-            Err("the meter was handed back")?
-        }
-    }
-}
-
-/// The measurement that the scan awaits.
-fn job_of<M: Meter>(taken: Taken<M>) -> Result<Job<M>, Fail> {
-    match taken {
-        Taken::Job(job) => Ok(job),
-        other => {
-            drop(other);
-            Err("no reading is awaited")?
-        }
-    }
-}
-
-fn is_over<M: Meter>(taken: Taken<M>) -> bool {
-    let over = matches!(&taken, Taken::Ended);
-    drop(taken);
-    over
-}
-
-fn is_ignored<M: Meter>(taken: Taken<M>) -> bool {
-    let ignored = matches!(&taken, Taken::Ignored);
-    drop(taken);
-    ignored
+    Ok(())
 }
 
 /// What the drivers did in a scan of these channels with so many readings.
@@ -192,14 +86,8 @@ fn scanned<R: Relay, M: Meter>(
 ) -> Result<u64, Fail> {
     record.store(0, Ordering::SeqCst);
     let settings = settings_of(alloc, chans, count)?;
-    let mut taken = begin(alloc, cage, settings)?;
-    for _ in 0..count {
-        let job = job_of(taken)?;
-        taken = give_back(cage, job)?;
-    }
-    if !is_over(taken) {
-        Err("the scan did not end")?;
-    }
+    let taken = begin(alloc, cage, settings)?;
+    read_all(cage, taken, count)?;
     Ok(record.load(Ordering::SeqCst))
 }
 
@@ -229,6 +117,23 @@ fn order<R: Relay, M: Meter>(
     Ok(())
 }
 
+/// A cage at rest, for as long as it scans.
+fn order_in<R: Relay, M: Meter>(
+    rt: &impl Abort,
+    alloc: Global,
+    cards: (R, R, R),
+    meter: M,
+    record: &Record,
+) -> Result<(), Fail> {
+    let mut cage = Cage::new(alloc)?;
+    let result = match fill(&mut cage, cards, meter) {
+        Ok(()) => order(rt, alloc, &mut cage, record),
+        Err(fail) => Err(fail),
+    };
+    drop(cage);
+    result
+}
+
 /// A channel opens before the next one closes; the list begins anew after its end.
 #[test]
 fn opens_before_it_closes(rt: HostRuntime) -> Result<(), Fail> {
@@ -237,9 +142,7 @@ fn opens_before_it_closes(rt: HostRuntime) -> Result<(), Fail> {
     let first = recording(1, 1, &record)?;
     let second = recording(2, 0, &record)?;
     let third = recording(3, 1, &record)?;
-    let mut cage = Cage::new(alloc)?;
-    fill(&mut cage, (first, second, third), voltmeter())?;
-    order(&rt, alloc, &mut cage, &record)
+    order_in(&rt, alloc, (first, second, third), voltmeter(), &record)
 }
 
 /// Channels of several cards are judged together, closed, told and opened.
@@ -250,15 +153,54 @@ fn together<R: Relay, M: Meter>(
 ) -> Result<(), Fail> {
     let pair = [Chan::new(1, 1), Chan::new(2, 1)];
     let one_group = [Chan::new(1, 1), Chan::new(3, 1)];
-    assert_eq!(rt; cage.judge(&one_group), Err(CloseRefusal::Clash));
-    assert_eq!(rt; cage.judge(&[Chan::new(5, 1)]), Err(CloseRefusal::Absent));
-    assert_eq!(rt; cage.judge(&[Chan::new(4, 1)]), Err(CloseRefusal::Absent));
-    assert!(rt; cage.all_present(&pair) && !cage.is_present(Chan::new(1, 5)));
+    assert!(rt; refuses(cage, &one_group, CloseRefusal::Clash));
+    assert!(rt; refuses(cage, &[Chan::new(5, 1)], CloseRefusal::Absent));
+    assert!(rt; refuses(cage, &[Chan::new(4, 1)], CloseRefusal::Absent));
+    assert!(rt; has_all(cage, &pair) && !has(cage, Chan::new(1, 5)));
     assert!(rt; close(cage, &pair));
-    assert_eq!(rt; cage.judge(&[Chan::new(3, 1)]), Err(CloseRefusal::Clash));
-    let closed = cage.closed_chans(alloc)?;
-    assert_eq!(rt; closed.as_slice(), &pair[..]);
-    assert!(rt; cage.has_closed(&pair) && !cage.has_closed(&pair[..1]));
+    assert!(rt; refuses(cage, &[Chan::new(3, 1)], CloseRefusal::Clash));
+    assert!(rt; lists_closed(alloc, cage, &pair)?);
+    assert!(rt; has_closed(cage, &pair) && !has_closed(cage, &pair[..1]));
+    Ok(())
+}
+
+/// Whether every relay of the card of that serial number is open.
+fn is_safe<R: Relay, M: Meter>(card: &Card<R, M>, serial: u32) -> bool {
+    card.serial() == serial && !card.any_closed()
+}
+
+/// Takes the card out of slot 1, with its relays open; slot 2 stays as it was.
+fn take_out<R: Relay, M: Meter>(
+    rt: &impl Abort,
+    cage: &mut Cage<R, M>,
+) -> Result<Card<R, M>, Fail> {
+    let card = ejected(cage, 1)?;
+    assert!(rt; is_safe(&card, 1) && is_closed(cage, Chan::new(2, 1)));
+    assert!(rt; refused_eject(cage, 1) == Some(EjectRefusal::Vacant));
+    Ok(card)
+}
+
+/// A slot that has a card takes no other one.
+fn stay_occupied<R: Relay, M: Meter>(
+    rt: &impl Abort,
+    cage: &mut Cage<R, M>,
+    card: Card<R, M>,
+) -> Result<Card<R, M>, Fail> {
+    let (refusal, card) = refused_card(cage, 2, card)?;
+    assert!(rt; refusal == InstallRefusal::Occupied && card.serial() == 1);
+    Ok(card)
+}
+
+/// No slot takes a card with a closed channel, which it keeps closed.
+fn stay_out<R: Relay, M: Meter>(
+    rt: &impl Abort,
+    cage: &mut Cage<R, M>,
+    closed: R,
+) -> Result<(), Fail> {
+    let (refusal, card) = refused_card(cage, 5, Card::relays(closed))?;
+    let is_back = card.serial() == 7 && card.is_closed(1);
+    drop(card);
+    assert!(rt; refusal == InstallRefusal::BadLayout && is_back);
     Ok(())
 }
 
@@ -268,18 +210,26 @@ fn exchange<R: Relay, M: Meter>(
     cage: &mut Cage<R, M>,
     closed: R,
 ) -> Result<(), Fail> {
-    let card = ejected(cage, 1)?;
-    assert!(rt; card.serial() == 1 && !card.any_closed() && cage.is_closed(Chan::new(2, 1)));
-    assert_eq!(rt; refused_eject(cage, 1), Some(EjectRefusal::Vacant));
-    let (refusal, card) = refused_card(cage, 2, card)?;
-    assert_eq!(rt; (refusal, card.serial()), (InstallRefusal::Occupied, 1));
-    install(cage, 1, card)?;
-    let (refusal, card) = refused_card(cage, 5, Card::relays(closed))?;
-    assert_eq!(rt; (refusal, card.serial()), (InstallRefusal::BadLayout, 7));
-    assert!(rt; card.is_closed(1));
-    Ok(())
+    stay_out(rt, cage, closed)?;
+    let card = take_out(rt, cage)?;
+    let card = stay_occupied(rt, cage, card)?;
+    install(cage, 1, card)
 }
 
+fn use_and_exchange<R: Relay, M: Meter>(
+    rt: &impl Abort,
+    alloc: Global,
+    cage: &mut Cage<R, M>,
+    cards: (R, R, R),
+    closed: R,
+    meter: M,
+) -> Result<(), Fail> {
+    fill(cage, cards, meter)?;
+    together(rt, alloc, cage)?;
+    exchange(rt, cage, closed)
+}
+
+/// A cage at rest, for as long as its cards come and go.
 fn come_and_go<R: Relay, M: Meter>(
     rt: &impl Abort,
     alloc: Global,
@@ -288,9 +238,9 @@ fn come_and_go<R: Relay, M: Meter>(
     meter: M,
 ) -> Result<(), Fail> {
     let mut cage = Cage::new(alloc)?;
-    fill(&mut cage, cards, meter)?;
-    together(rt, alloc, &mut cage)?;
-    exchange(rt, &mut cage, closed)
+    let result = use_and_exchange(rt, alloc, &mut cage, cards, closed, meter);
+    drop(cage);
+    result
 }
 
 fn boxed_relays(
@@ -318,25 +268,38 @@ fn cards_come_and_go(rt: HostRuntime) -> Result<(), Fail> {
     come_and_go(&rt, alloc, (first, second, third), closed, meter)
 }
 
-/// While a scan runs no card comes in, and no meter leaves that measures; a relay card leaves and ends the scan.
-fn leave<R: Relay, M: Meter>(
+/// Begins a scan of 1!1 with 2!1 closed, and gives its measurement.
+fn measuring<R: Relay, M: Meter>(
     rt: &impl Abort,
     alloc: Global,
     cage: &mut Cage<R, M>,
-    other: R,
 ) -> Result<Job<M>, Fail> {
     assert!(rt; close(cage, &[Chan::new(2, 1)]));
     let settings = settings_of(alloc, &[Chan::new(1, 1)], 1)?;
     let taken = begin(alloc, cage, settings)?;
-    assert!(rt; cage.is_closed(Chan::new(1, 1)) && cage.has_out(4));
-    assert_eq!(rt; refused_eject(cage, 4), Some(EjectRefusal::Out));
-    assert_eq!(rt; refused_eject(cage, 5), Some(EjectRefusal::Vacant));
-    let (refusal, other) = refused_card(cage, 2, Card::relays(other))?;
-    assert_eq!(rt; (refusal, other.serial()), (InstallRefusal::Busy, 7));
-    let card = ejected(cage, 1)?;
-    assert!(rt; !card.any_closed() && !cage.is_closed(Chan::new(2, 1)));
-    assert!(rt; !cage.is_running());
+    assert!(rt; is_closed(cage, Chan::new(1, 1)) && cage.has_out(4));
     job_of(taken)
+}
+
+/// While a scan runs no card comes in, and no meter leaves that measures.
+fn stay<R: Relay, M: Meter>(rt: &impl Abort, cage: &mut Cage<R, M>, other: R) -> Result<(), Fail> {
+    assert!(rt; refused_eject(cage, 4) == Some(EjectRefusal::Out));
+    assert!(rt; refused_eject(cage, 5) == Some(EjectRefusal::Vacant));
+    let (refusal, other) = refused_card(cage, 2, Card::relays(other))?;
+    let serial = other.serial();
+    drop(other);
+    assert!(rt; refusal == InstallRefusal::Busy && serial == 7);
+    Ok(())
+}
+
+/// A relay card leaves and ends the scan, with every relay open.
+fn leave<R: Relay, M: Meter>(rt: &impl Abort, cage: &mut Cage<R, M>) -> Result<(), Fail> {
+    let card = ejected(cage, 1)?;
+    let is_safe = is_safe(&card, 1);
+    drop(card);
+    assert!(rt; is_safe && !is_closed(cage, Chan::new(2, 1)));
+    assert!(rt; !cage.is_running());
+    Ok(())
 }
 
 /// The meter of a scan that is over returns: it is put back, adds no reading, and can leave.
@@ -349,10 +312,28 @@ fn return_late<R: Relay, M: Meter>(
     assert!(rt; is_ignored(taken));
     assert!(rt; !cage.has_out(4) && cage.readings().is_empty());
     let meter = ejected(cage, 4)?;
-    assert_eq!(rt; meter.serial(), 4);
+    let serial = meter.serial();
+    drop(meter);
+    assert_eq!(rt; serial, 4);
     Ok(())
 }
 
+fn use_and_pull<R: Relay, M: Meter>(
+    rt: &impl Abort,
+    alloc: Global,
+    cage: &mut Cage<R, M>,
+    cards: (R, R, R),
+    other: R,
+    meter: M,
+) -> Result<(), Fail> {
+    fill(cage, cards, meter)?;
+    let job = measuring(rt, alloc, cage)?;
+    stay(rt, cage, other)?;
+    leave(rt, cage)?;
+    return_late(rt, cage, job)
+}
+
+/// A cage at rest, for as long as its cards are pulled.
 fn pull<R: Relay, M: Meter>(
     rt: &impl Abort,
     alloc: Global,
@@ -361,9 +342,9 @@ fn pull<R: Relay, M: Meter>(
     meter: M,
 ) -> Result<(), Fail> {
     let mut cage = Cage::new(alloc)?;
-    fill(&mut cage, cards, meter)?;
-    let job = leave(rt, alloc, &mut cage, other)?;
-    return_late(rt, &mut cage, job)
+    let result = use_and_pull(rt, alloc, &mut cage, cards, other, meter);
+    drop(cage);
+    result
 }
 
 #[test]
@@ -392,29 +373,78 @@ fn triggered<R: Relay, M: Meter>(cage: &mut Cage<R, M>) -> Result<(Ticket, u64),
     }
 }
 
+/// The settings of one reading of 1!1 by the bus, behind half a second.
+fn paused(alloc: Global) -> Result<Settings, Fail> {
+    let mut settings = settings_of(alloc, &[Chan::new(1, 1)], 1)?;
+    settings.set_source(LayerName::Arm1, Source::Bus);
+    settings.set_delay(LayerName::Trigger, 500_000)?;
+    Ok(settings)
+}
+
+/// The measurement behind the bus trigger and the pause, which each of them alone ends.
+fn triggered_alone<R: Relay, M: Meter>(
+    rt: &impl Abort,
+    cage: &mut Cage<R, M>,
+) -> Result<Job<M>, Fail> {
+    assert!(rt; ignores(cage, Happening::External));
+    assert!(rt; ignores(cage, Happening::Signal(LayerName::Arm2)));
+    let (ticket, micros) = triggered(cage)?;
+    assert!(rt; ticket == Ticket { scan: 1, index: 1 } && micros == 500_000);
+    assert!(rt; ignores(cage, Happening::Elapsed(Ticket { scan: 0, index: 1 })));
+    job_of(cage.take(Happening::Elapsed(ticket)))
+}
+
+/// While it measures, the cage awaits that and has the layout of before; then its scan is over.
+fn read_alone<R: Relay, M: Meter>(
+    rt: &impl Abort,
+    cage: &mut Cage<R, M>,
+    layout: &Layout,
+    job: Job<M>,
+) -> Result<(), Fail> {
+    assert!(rt; cage.awaited().is_some() && cage.has_layout(layout));
+    assert!(rt; has_closed(cage, &[Chan::new(1, 1)]));
+    let taken = give_back(cage, job)?;
+    assert!(rt; is_over(taken) && has_closed(cage, &[]));
+    assert_eq!(rt; cage.readings().len(), 1);
+    Ok(())
+}
+
 /// A scan that awaits the bus, then a pause, then its meter goes on by each of these alone.
 fn awaited_alone<R: Relay, M: Meter>(
     rt: &impl Abort,
     alloc: Global,
     cage: &mut Cage<R, M>,
 ) -> Result<(), Fail> {
+    let settings = paused(alloc)?;
     let layout = cage.layout(alloc)?;
-    let mut settings = settings_of(alloc, &[Chan::new(1, 1)], 1)?;
-    settings.set_source(LayerName::Arm1, Source::Bus);
-    settings.set_delay(LayerName::Trigger, 500_000)?;
     drop(begin(alloc, cage, settings)?);
-    assert!(rt; ignores(cage, Happening::External));
-    assert!(rt; ignores(cage, Happening::Signal(LayerName::Arm2)));
-    let (ticket, micros) = triggered(cage)?;
-    assert_eq!(rt; (ticket, micros), (Ticket { scan: 1, index: 1 }, 500_000));
-    assert!(rt; ignores(cage, Happening::Elapsed(Ticket { scan: 0, index: 1 })));
-    let job = job_of(cage.take(Happening::Elapsed(ticket)))?;
-    assert!(rt; cage.awaited().is_some() && cage.has_layout(&layout));
-    assert!(rt; cage.has_closed(&[Chan::new(1, 1)]));
-    let taken = give_back(cage, job)?;
-    assert!(rt; is_over(taken) && cage.has_closed(&[]));
-    assert_eq!(rt; cage.readings().len(), 1);
-    Ok(())
+    let job = triggered_alone(rt, cage)?;
+    read_alone(rt, cage, &layout, job)
+}
+
+fn use_alone<R: Relay, M: Meter>(
+    rt: &impl Abort,
+    alloc: Global,
+    cage: &mut Cage<R, M>,
+    card: R,
+    meter: M,
+) -> Result<(), Fail> {
+    install(cage, 1, Card::relays(card))?;
+    install(cage, 4, Card::meter(meter))?;
+    awaited_alone(rt, alloc, cage)
+}
+
+/// A cage at rest, for as long as its scan goes on.
+fn use_alone_in<R: Relay, M: Meter>(
+    rt: &impl Abort,
+    alloc: Global,
+    card: R,
+    meter: M,
+) -> Result<(), Fail> {
+    let mut cage = Cage::new(alloc)?;
+    let result = use_alone(rt, alloc, &mut cage, card, meter);
+    drop(cage);
+    result
 }
 
 #[test]
@@ -422,8 +452,5 @@ fn takes_what_is_awaited(rt: HostRuntime) -> Result<(), Fail> {
     let alloc = rt.alloc();
     let record = Arc::new(alloc, AtomicU64::new(0))?;
     let card = recording(1, 1, &record)?;
-    let mut cage = Cage::new(alloc)?;
-    install(&mut cage, 1, Card::relays(card))?;
-    install(&mut cage, 4, Card::meter(voltmeter()))?;
-    awaited_alone(&rt, alloc, &mut cage)
+    use_alone_in(&rt, alloc, card, voltmeter())
 }

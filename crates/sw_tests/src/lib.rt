@@ -9,6 +9,8 @@ mod base;
 #[cfg(test)]
 mod cage;
 #[cfg(test)]
+mod cage_calls;
+#[cfg(test)]
 mod cages;
 #[cfg(test)]
 mod card;

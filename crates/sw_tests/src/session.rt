@@ -1,6 +1,7 @@
 //! Messages over a desk that answers as it is told.
 
 use std::alloc::Global;
+use std::process::Abort;
 use std::test::Fail;
 use sw_base::{Chan, ScpiError, Sequence};
 use sw_core::{SessionAnswer, SessionAsk, Sid};
@@ -42,14 +43,18 @@ impl Canned {
 
     fn unit(&mut self, command: Command, answered: bool) -> Result<Sequence<u8>, ScpiError> {
         self.answered = answered;
-        match command {
-            Command::Identify => {
-                let text = Vec::from_slice(self.alloc, b"OPENBENCH,SWM8,0,1.0")?;
-                Ok(Sequence::new(text))
-            }
-            _ => Err(ScpiError::HardwareMissing),
+        let is_known = asks_identity(&command);
+        drop(command);
+        if !is_known {
+            return Err(ScpiError::HardwareMissing);
         }
+        let text = Vec::from_slice(self.alloc, b"OPENBENCH,SWM8,0,1.0")?;
+        Ok(Sequence::new(text))
     }
+}
+
+fn asks_identity(command: &Command) -> bool {
+    matches!(command, Command::Identify)
 }
 
 impl Desk for Canned {
@@ -75,11 +80,15 @@ impl Desk for Canned {
                 Some(snapshot) => SessionAnswer::Snapshot(snapshot),
                 None => SessionAnswer::Refused(ScpiError::InitIgnored),
             },
-            SessionAsk::Start(_, _) => {
+            SessionAsk::Start(_, plan) => {
+                drop(plan);
                 self.started = self.started.saturating_add(1);
                 SessionAnswer::Done(None)
             }
-            _ => SessionAnswer::Stranger,
+            other => {
+                drop(other);
+                SessionAnswer::Stranger
+            }
         }
     }
 
@@ -102,58 +111,93 @@ fn talker(alloc: Global) -> Talker {
     )
 }
 
+/// Whether a session answers this to a message.
+fn tells(session: &mut Talker, desk: &mut Canned, message: &[u8], wanted: &[u8]) -> bool {
+    let line = session.message(message, desk);
+    line.as_slice() == wanted
+}
+
+/// Whether a new session answers this to a message.
+fn answers(alloc: Global, desk: &mut Canned, message: &[u8], wanted: &[u8]) -> bool {
+    let mut session = talker(alloc);
+    let is_so = tells(&mut session, desk, message, wanted);
+    drop(session);
+    is_so
+}
+
+/// Whether these are the numbers of the errors that were queued.
+fn has_faults(desk: &Canned, wanted: &[i16]) -> bool {
+    desk.faults.as_slice() == wanted
+}
+
+const IDENTITY: &[u8] = b"OPENBENCH,SWM8,0,1.0\n";
+
 #[test]
-fn joins_answers(rt: HostRuntime) -> Result<(), Fail> {
+fn joins_answers(rt: HostRuntime) {
     let mut desk = Canned::new(rt.alloc(), 0, 0);
-    let line = talker(rt.alloc()).message(b"*IDN?;;*IDN?\n", &mut desk);
-    assert_eq!(rt;
-        line.as_slice(),
-        b"OPENBENCH,SWM8,0,1.0;OPENBENCH,SWM8,0,1.0\n".as_slice()
+    assert!(rt;
+        answers(
+            rt.alloc(),
+            &mut desk,
+            b"*IDN?;;*IDN?\n",
+            b"OPENBENCH,SWM8,0,1.0;OPENBENCH,SWM8,0,1.0\n"
+        )
     );
     assert!(rt; desk.answered);
-    Ok(())
+    drop(desk);
 }
 
 #[test]
-fn drops_rest_after_unknown_header(rt: HostRuntime) -> Result<(), Fail> {
+fn drops_rest_after_unknown_header(rt: HostRuntime) {
     let mut desk = Canned::new(rt.alloc(), 0, 0);
-    let line = talker(rt.alloc()).message(b"*IDN?;FOO;*IDN?", &mut desk);
-    assert_eq!(rt; line.as_slice(), b"OPENBENCH,SWM8,0,1.0\n".as_slice());
-    assert_eq!(rt; desk.faults.as_slice(), [-113].as_slice());
-    Ok(())
+    assert!(rt; answers(rt.alloc(), &mut desk, b"*IDN?;FOO;*IDN?", IDENTITY));
+    assert!(rt; has_faults(&desk, &[-113]));
+    drop(desk);
 }
 
 #[test]
-fn goes_on_after_missing_hardware(rt: HostRuntime) -> Result<(), Fail> {
+fn goes_on_after_missing_hardware(rt: HostRuntime) {
     let mut desk = Canned::new(rt.alloc(), 0, 0);
-    let line = talker(rt.alloc()).message(b"ROUT:CLOS (@5!1);*IDN?", &mut desk);
-    assert_eq!(rt; line.as_slice(), b"OPENBENCH,SWM8,0,1.0\n".as_slice());
+    assert!(rt; answers(rt.alloc(), &mut desk, b"ROUT:CLOS (@5!1);*IDN?", IDENTITY));
     assert!(rt; !desk.answered);
-    Ok(())
+    drop(desk);
 }
 
 #[test]
-fn asks_again_until_waiting_is_over(rt: HostRuntime) -> Result<(), Fail> {
+fn asks_again_until_waiting_is_over(rt: HostRuntime) {
     let mut desk = Canned::new(rt.alloc(), 3, 2);
-    let line = talker(rt.alloc()).message(b"*IDN?;*IDN?", &mut desk);
-    assert_eq!(rt; line.as_slice(), b"OPENBENCH,SWM8,0,1.0\n".as_slice());
-    assert_eq!(rt; desk.faults.as_slice(), [-221].as_slice());
+    assert!(rt; answers(rt.alloc(), &mut desk, b"*IDN?;*IDN?", IDENTITY));
+    assert!(rt; has_faults(&desk, &[-221]));
+    drop(desk);
+}
+
+/// Blanks, and this behind them.
+fn long_message(alloc: Global, end: &[u8]) -> Result<Vec<u8>, Fail> {
+    let mut text = Vec::new(alloc);
+    text.resize(65_530, b' ')?;
+    text.extend_from_slice(end)?;
+    Ok(text)
+}
+
+/// Whether a new session answers this to a message of 65,530 blanks and the given end.
+fn answers_long(alloc: Global, desk: &mut Canned, end: &[u8], wanted: &[u8]) -> Result<bool, Fail> {
+    let text = long_message(alloc, end)?;
+    Ok(answers(alloc, desk, text.as_slice(), wanted))
+}
+
+fn take_65536(rt: &impl Abort, alloc: Global, desk: &mut Canned) -> Result<(), Fail> {
+    assert!(rt; answers_long(alloc, desk, b"*IDN?;\n", IDENTITY)?);
+    assert!(rt; answers_long(alloc, desk, b"*IDN?;\n\n", b"")?);
+    assert!(rt; has_faults(desk, &[-363]));
     Ok(())
 }
 
 #[test]
 fn takes_65536_bytes(rt: HostRuntime) -> Result<(), Fail> {
     let mut desk = Canned::new(rt.alloc(), 0, 0);
-    let mut text = Vec::new(rt.alloc());
-    text.resize(65_530, b' ')?;
-    text.extend_from_slice(b"*IDN?;\n")?;
-    let line = talker(rt.alloc()).message(&text, &mut desk);
-    assert_eq!(rt; line.as_slice(), b"OPENBENCH,SWM8,0,1.0\n".as_slice());
-    text.push(b'\n')?;
-    let line = talker(rt.alloc()).message(&text, &mut desk);
-    assert!(rt; line.is_empty());
-    assert_eq!(rt; desk.faults.as_slice(), [-363].as_slice());
-    Ok(())
+    let result = take_65536(&rt, rt.alloc(), &mut desk);
+    drop(desk);
+    result
 }
 
 /// A cage of four channels in slot 1 and a meter in slot 4, where these channels are to be scanned.
@@ -172,59 +216,77 @@ fn snapshot(alloc: Global, list: &[Chan]) -> Result<Snapshot, Fail> {
     })
 }
 
+/// The desk's next scan would begin from these channels.
+fn offer(alloc: Global, desk: &mut Canned, list: &[Chan]) -> Result<(), Fail> {
+    let snapshot = snapshot(alloc, list)?;
+    let before = desk.snapshot.replace(snapshot);
+    drop(before);
+    Ok(())
+}
+
 #[test]
 fn starts_the_scan_of_a_snapshot(rt: HostRuntime) -> Result<(), Fail> {
     let mut desk = Canned::new(rt.alloc(), 0, 0);
-    desk.snapshot = Some(snapshot(rt.alloc(), &[Chan::new(1, 1)])?);
-    let line = talker(rt.alloc()).message(b"INIT;*IDN?", &mut desk);
-    assert_eq!(rt; line.as_slice(), b"OPENBENCH,SWM8,0,1.0\n".as_slice());
+    let offered = offer(rt.alloc(), &mut desk, &[Chan::new(1, 1)]);
+    assert!(rt; answers(rt.alloc(), &mut desk, b"INIT;*IDN?", IDENTITY));
     assert_eq!(rt; desk.started, 1);
     assert!(rt; desk.faults.is_empty());
+    drop(desk);
+    offered
+}
+
+/// A scan of no channel, and one of a channel that the cage lacks.
+fn begin_nothing(rt: &impl Abort, alloc: Global, desk: &mut Canned) -> Result<(), Fail> {
+    offer(alloc, desk, &[])?;
+    assert!(rt; answers(alloc, desk, b"INIT", b""));
+    offer(alloc, desk, &[Chan::new(5, 1)])?;
+    assert!(rt; answers(alloc, desk, b"INIT;*IDN?", IDENTITY));
+    assert!(rt; has_faults(desk, &[-221, -241]));
+    assert_eq!(rt; desk.started, 0);
     Ok(())
 }
 
 #[test]
 fn queues_why_a_scan_may_not_begin(rt: HostRuntime) -> Result<(), Fail> {
     let mut desk = Canned::new(rt.alloc(), 0, 0);
-    desk.snapshot = Some(snapshot(rt.alloc(), &[])?);
-    let _ = talker(rt.alloc()).message(b"INIT", &mut desk);
-    desk.snapshot = Some(snapshot(rt.alloc(), &[Chan::new(5, 1)])?);
-    let line = talker(rt.alloc()).message(b"INIT;*IDN?", &mut desk);
-    assert_eq!(rt; line.as_slice(), b"OPENBENCH,SWM8,0,1.0\n".as_slice());
-    assert_eq!(rt; desk.faults.as_slice(), [-221, -241].as_slice());
-    assert_eq!(rt; desk.started, 0);
-    Ok(())
+    let result = begin_nothing(&rt, rt.alloc(), &mut desk);
+    drop(desk);
+    result
 }
 
 #[test]
-fn starts_nothing_where_the_snapshot_is_refused(rt: HostRuntime) -> Result<(), Fail> {
+fn starts_nothing_where_the_snapshot_is_refused(rt: HostRuntime) {
     let mut desk = Canned::new(rt.alloc(), 0, 0);
-    let line = talker(rt.alloc()).message(b"INIT;*IDN?", &mut desk);
-    assert_eq!(rt; line.as_slice(), b"OPENBENCH,SWM8,0,1.0\n".as_slice());
+    assert!(rt; answers(rt.alloc(), &mut desk, b"INIT;*IDN?", IDENTITY));
     assert_eq!(rt; desk.started, 0);
     assert!(rt; desk.faults.is_empty());
-    Ok(())
+    drop(desk);
 }
 
 #[test]
-fn a_refused_reset_leaves_macros_on(rt: HostRuntime) -> Result<(), Fail> {
+fn a_refused_reset_leaves_macros_on(rt: HostRuntime) {
     let mut desk = Canned::new(rt.alloc(), 0, 0);
     let mut session = talker(rt.alloc());
-    let line = session.message(b"*DMC 'A',#15*IDN?;*EMC 1;*RST;A;*EMC?", &mut desk);
-    assert_eq!(rt; line.as_slice(), b"OPENBENCH,SWM8,0,1.0;1\n".as_slice());
+    assert!(rt;
+        tells(
+            &mut session,
+            &mut desk,
+            b"*DMC 'A',#15*IDN?;*EMC 1;*RST;A;*EMC?",
+            b"OPENBENCH,SWM8,0,1.0;1\n"
+        )
+    );
     assert!(rt; desk.faults.is_empty());
-    let line = session.message(b"*RMC 'B';A 1,2\n", &mut desk);
-    assert_eq!(rt; line.as_slice(), b"OPENBENCH,SWM8,0,1.0\n".as_slice());
-    assert_eq!(rt; desk.faults.as_slice(), [-278].as_slice());
-    Ok(())
+    assert!(rt; tells(&mut session, &mut desk, b"*RMC 'B';A 1,2\n", IDENTITY));
+    assert!(rt; has_faults(&desk, &[-278]));
+    drop(session);
+    drop(desk);
 }
 
 #[test]
-fn a_label_of_one_session_is_none_of_another(rt: HostRuntime) -> Result<(), Fail> {
+fn a_label_of_one_session_is_none_of_another(rt: HostRuntime) {
     let mut desk = Canned::new(rt.alloc(), 0, 0);
-    let _ = talker(rt.alloc()).message(b"*DMC 'A',#15*IDN?", &mut desk);
-    let line = talker(rt.alloc()).message(b"*EMC?;*LMC?;*EMC 1;A", &mut desk);
-    assert_eq!(rt; line.as_slice(), b"0;\"\"\n".as_slice());
-    assert_eq!(rt; desk.faults.as_slice(), [-113].as_slice());
-    Ok(())
+    assert!(rt; answers(rt.alloc(), &mut desk, b"*DMC 'A',#15*IDN?", b""));
+    assert!(rt; answers(rt.alloc(), &mut desk, b"*EMC?;*LMC?;*EMC 1;A", b"0;\"\"\n"));
+    assert!(rt; has_faults(&desk, &[-113]));
+    drop(desk);
 }
