@@ -7,7 +7,7 @@ use sw_base::{Chan, LayerName, Sequence};
 use sw_cage::{Cage, CloseRefusal, EjectRefusal, InstallRefusal, Job, Taken};
 use sw_card::{Card, Meter, Relay};
 use sw_trigger::Settings;
-use sw_verify::{Plan, Snapshot};
+use sw_verify::{BoxedSnapshot, Plan, Snapshot};
 
 /// Puts a card into the slot.
 pub fn install<R: Relay, M: Meter>(
@@ -92,7 +92,7 @@ pub fn begin<R: Relay, M: Meter>(
         layout,
         closed,
     };
-    let Ok(plan) = Plan::make(alloc, snapshot) else {
+    let Ok(plan) = Plan::make(alloc, BoxedSnapshot::new(alloc, snapshot)?) else {
         return Err("the plan was refused")?;
     };
     Ok(cage.start(alloc, plan)?)

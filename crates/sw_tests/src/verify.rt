@@ -4,7 +4,7 @@ use std::alloc::Global;
 use std::test::Fail;
 use sw_base::{Chan, LayerName, ScpiError, Sequence};
 use sw_trigger::Settings;
-use sw_verify::{Layout, Plan, Refusal, Slot, Snapshot, check, laws};
+use sw_verify::{BoxedSnapshot, Layout, Plan, Refusal, Slot, Snapshot, check, laws};
 
 /// Twenty channels of group 1 in slot 1, sixteen of none in slot 2, ten of group 1 in slot 3, and a meter in slot 4.
 fn cage(alloc: Global) -> Result<Layout, Fail> {
@@ -96,16 +96,14 @@ fn readings_fit_the_points(rt: HostRuntime) -> Result<(), Fail> {
 
 #[test]
 fn plan_keeps_its_snapshot(rt: HostRuntime) -> Result<(), Fail> {
-    let plan = Plan::make(
-        rt.alloc(),
-        snapshot(rt.alloc(), &[Chan::new(1, 1)], &[Chan::new(2, 16)])?,
-    )?;
+    let scan = snapshot(rt.alloc(), &[Chan::new(1, 1)], &[Chan::new(2, 16)])?;
+    let plan = Plan::make(rt.alloc(), BoxedSnapshot::new(rt.alloc(), scan)?)?;
     assert_eq!(rt; plan.code().meter(), 4);
     assert_eq!(rt; plan.code().steps().len(), 10);
     laws::ends_as_it_began(plan.snapshot());
     laws::closes_one_at_a_time(plan.snapshot());
     laws::stays_within_its_points(plan.snapshot());
-    let layout = plan.into_snapshot().layout;
+    let layout = plan.into_parts().0.layout;
     assert_eq!(rt; layout.group(Chan::new(3, 10)), 1);
     assert_eq!(rt; layout.group(Chan::new(3, 11)), 0);
     assert_eq!(rt; layout.has_channel(Chan::new(2, 16)), true);
