@@ -112,7 +112,7 @@ fn looped(
     };
     if inner != counter {
         return format!(in alloc;
-            "line {line}: the innermost open loop is that of counter {inner}, not of {counter}"
+            "line {line}: the innermost open loop is that of counter {inner}, not of counter {counter}"
         ).map(Some);
     }
     if start != to {
