@@ -6,6 +6,8 @@
 #[cfg(test)]
 mod asks;
 #[cfg(test)]
+mod boxes;
+#[cfg(test)]
 mod cage;
 #[cfg(test)]
 mod cage_calls;
