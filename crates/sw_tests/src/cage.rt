@@ -414,3 +414,50 @@ fn takes_what_is_awaited(rt: HostRuntime) -> Result<(), Fail> {
     assert!(rt; takes_alone_at_rest(rt.alloc(), card, meter));
     Ok(())
 }
+
+/// Whether these channels, which are closed, are opened.
+fn opens<R: Relay, M: Meter>(cage: &mut Cage<R, M>, chans: &[Chan]) -> bool {
+    has_closed(cage, chans)
+        && !cage.is_running()
+        && cage.open_listed(chans).is_ok()
+        && has_closed(cage, &[])
+}
+
+/// Whether a scan ends at once, with nothing closed and no reading kept.
+fn aborts<R: Relay, M: Meter>(cage: &mut Cage<R, M>) -> bool {
+    cage.abort();
+    if cage.is_running() {
+        return false;
+    }
+    cage.reset_readings();
+    cage.readings().is_empty() && has_closed(cage, &[])
+}
+
+/// Whether a channel is closed and opened, and a scan begun under that number and ended.
+fn begins_under<R: Relay, M: Meter>(alloc: Global, cage: &mut Cage<R, M>, number: u64) -> bool {
+    close(cage, &[Chan::new(1, 1)])
+        && opens(cage, &[Chan::new(1, 1)])
+        && begins_paused(alloc, cage)
+        && cage.number() == number
+        && aborts(cage)
+}
+
+/// Whether a cage of these cards that had eight scans begins its ninth.
+fn begins_ninth<R: Relay, M: Meter>(alloc: Global, card: R, meter: M) -> bool {
+    let Ok(mut cage) = Cage::with_number(alloc, 8) else {
+        return false;
+    };
+    let has_card = install(&mut cage, 1, Card::relays(card));
+    let has_meter = install(&mut cage, 4, Card::meter(meter));
+    let is_so = begins_under(alloc, &mut cage, 9);
+    drop(cage);
+    is_so && has_card && has_meter
+}
+
+#[test]
+fn numbers_go_on(rt: HostRuntime) -> Result<(), Fail> {
+    let card = mux(rt.alloc(), 1, 1)?;
+    let meter = voltmeter(rt.alloc())?;
+    assert!(rt; begins_ninth(rt.alloc(), card, meter));
+    Ok(())
+}
