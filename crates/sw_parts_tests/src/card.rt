@@ -1,16 +1,19 @@
 //! Cards of either kind, driven through their boxes.
 
-use std::process::Abort;
 use std::test::Fail;
 use sw_base::Reading;
-use sw_card::{Card, Mask, Meter, Relay};
+use sw_card::{Card, Mask, Meter, MeterCard, Relay, RelayCard};
 use sw_kinds::{Mux, SimDriver, SimSource, Volt};
 
-/// A card of one channel in group 7, which is open.
-fn look<R: Relay, M: Meter>(rt: &impl Abort, card: &Card<R, M>) {
-    assert!(rt; !card.is_meter());
-    assert!(rt; card.serial() == 5 && card.failures() == 0 && card.channels() == 1);
-    assert!(rt; card.group(1) == 7 && card.group(2) == 0 && !card.is_closed(1));
+/// Whether the card is one of one channel in group 7, which is open.
+fn is_new<R: Relay, M: Meter>(card: &Card<R, M>) -> bool {
+    !card.is_meter()
+        && card.serial() == 5
+        && card.failures() == 0
+        && card.channels() == 1
+        && card.group(1) == 7
+        && card.group(2) == 0
+        && !card.is_closed(1)
 }
 
 /// Closes its channel, where it has one that is open.
@@ -30,51 +33,70 @@ fn open<R: Relay, M: Meter>(card: &mut Card<R, M>) -> bool {
     !card.any_closed() && card.closed_mask().is_empty()
 }
 
-/// The serial number of the relays, which the card is.
-fn relays_serial<R: Relay, M: Meter>(card: Card<R, M>) -> Result<u32, Fail> {
-    let Ok(relays) = card.into_relay() else {
-        return Err("not a relay card")?;
-    };
-    if !relays.closed_mask().is_empty() {
-        return Err("a relay is closed")?;
-    }
-    let relay = relays.into_relay();
-    let serial = relay.serial();
+/// Whether what is left of a relay card are relays of that serial number.
+fn is_made_of<R: Relay>(card: RelayCard<R>, serial: u32) -> bool {
+    let is_open = card.closed_mask().is_empty();
+    let relay = card.into_relay();
+    let is_so = relay.serial() == serial;
     drop(relay);
-    Ok(serial)
+    is_open && is_so
 }
 
-/// Uses a relay card of one channel in group 7.
-fn use_relays<R: Relay, M: Meter>(rt: &impl Abort, relay: R) -> Result<u32, Fail> {
+/// Whether the card is one of open relays of serial number 5.
+fn has_relays<R: Relay, M: Meter>(card: Card<R, M>) -> bool {
+    match card.into_relay() {
+        Ok(relays) => is_made_of(relays, 5),
+        Err(other) => {
+            drop(other);
+            false
+        }
+    }
+}
+
+/// Whether a relay card of one channel in group 7 can be used.
+fn uses_relays<R: Relay, M: Meter>(relay: R) -> bool {
     let mut card: Card<R, M> = Card::relays(relay);
-    look(rt, &card);
-    assert!(rt; close(&mut card) && is_all_closed(&card));
-    assert!(rt; open(&mut card));
-    relays_serial(card)
+    let is_used = is_new(&card) && close(&mut card) && is_all_closed(&card) && open(&mut card);
+    has_relays(card) && is_used
 }
 
-/// Uses a meter that has not measured.
-fn use_meter<R: Relay, M: Meter>(rt: &impl Abort, meter: M) -> Result<Option<Reading>, Fail> {
-    let card: Card<R, M> = Card::meter(meter);
-    assert!(rt; card.is_meter() && card.closed_mask().is_empty());
-    let Ok(mut meter) = card.into_meter() else {
-        return Err("not a meter")?;
-    };
-    assert!(rt; meter.serial() == 6 && meter.failures() == 0 && meter.last() == None);
-    assert!(rt; meter.measure() == Ok(Reading::Volts(2)));
-    let meter = meter.into_meter();
-    let last = meter.last();
+/// Whether a meter that has not measured gives two nanovolts.
+fn measures<M: Meter>(meter: &mut MeterCard<M>) -> bool {
+    meter.serial() == 6
+        && meter.failures() == 0
+        && meter.last() == None
+        && meter.measure() == Ok(Reading::Volts(2))
+}
+
+/// Whether what is left of a meter card is a meter that has measured two nanovolts.
+fn has_measured<M: Meter>(card: MeterCard<M>) -> bool {
+    let meter = card.into_meter();
+    let is_so = meter.last() == Some(Reading::Volts(2));
     drop(meter);
-    Ok(last)
+    is_so
 }
 
-/// Uses a relay card and a meter.
-fn drive<R: Relay, M: Meter>(rt: &impl Abort, relay: R, meter: M) -> Result<(), Fail> {
-    let serial = use_relays::<R, M>(rt, relay)?;
-    assert_eq!(rt; serial, 5);
-    let last = use_meter::<R, M>(rt, meter)?;
-    assert!(rt; last == Some(Reading::Volts(2)));
-    Ok(())
+/// Whether a meter that has not measured can be used.
+fn uses_meter<R: Relay, M: Meter>(meter: M) -> bool {
+    let card: Card<R, M> = Card::meter(meter);
+    let is_meter = card.is_meter() && card.closed_mask().is_empty();
+    match card.into_meter() {
+        Ok(card) => {
+            let mut card = card;
+            let is_used = measures(&mut card);
+            has_measured(card) && is_used && is_meter
+        }
+        Err(other) => {
+            drop(other);
+            false
+        }
+    }
+}
+
+/// Whether a relay card and a meter can be used.
+fn uses_both<R: Relay, M: Meter>(relay: R, meter: M) -> bool {
+    let uses_relays = uses_relays::<R, M>(relay);
+    uses_meter::<R, M>(meter) && uses_relays
 }
 
 #[test]
@@ -83,7 +105,8 @@ fn cards_through_their_boxes(rt: HostRuntime) -> Result<(), Fail> {
     let relay: Box<dyn Relay + Send> = Box::new(rt.alloc(), relay)?;
     let meter = Volt::new(6, SimSource::new(2, 0));
     let meter: Box<dyn Meter + Send> = Box::new(rt.alloc(), meter)?;
-    drive(&rt, relay, meter)
+    assert!(rt; uses_both(relay, meter));
+    Ok(())
 }
 
 /// Whether the set has this channel and no lower one.

@@ -1,7 +1,6 @@
 //! Messages as the bytes that clients and instruments exchange, and locks in the order in which sessions ask for them.
 
 use std::alloc::Global;
-use std::process::Abort;
 use sw_base::Sequence;
 use sw_hislip::{Decoder, Kind, LockReply, Locks, Message, Released, WireFault, encode};
 
@@ -135,18 +134,31 @@ fn responses_are_written(rt: HostRuntime) {
     );
 }
 
+/// Whether a header is read at its last byte and not before.
+fn reads_at_once(alloc: Global, decoder: &mut Decoder) -> bool {
+    feeds(decoder, &TRIGGER[..15])
+        && waits(alloc, decoder)
+        && feeds(decoder, &TRIGGER[15..])
+        && reads(alloc, decoder, &TRIGGER)
+}
+
+/// Whether another prologue is refused at the header's last byte and not before, and so is all that follows.
+fn refuses_prologue(alloc: Global, decoder: &mut Decoder) -> bool {
+    feeds(decoder, b"HT345678901234")
+        && waits(alloc, decoder)
+        && feeds(decoder, b"56")
+        && fails(alloc, decoder, WireFault::BadPrologue)
+        && feeds(decoder, &TRIGGER)
+        && fails(alloc, decoder, WireFault::BadPrologue)
+}
+
 #[test]
 fn header_is_judged_at_its_sixteenth_byte(rt: HostRuntime) {
-    let alloc = rt.alloc();
-    let mut decoder = Decoder::new(alloc);
-    assert!(rt; feeds(&mut decoder, &TRIGGER[..15]) && waits(alloc, &mut decoder));
-    assert!(rt; feeds(&mut decoder, &TRIGGER[15..]) && reads(alloc, &mut decoder, &TRIGGER));
-    assert!(rt; feeds(&mut decoder, b"HT345678901234") && waits(alloc, &mut decoder));
-    assert!(rt; feeds(&mut decoder, b"56") && fails(alloc, &mut decoder, WireFault::BadPrologue));
-    assert!(rt;
-        feeds(&mut decoder, &TRIGGER) && fails(alloc, &mut decoder, WireFault::BadPrologue)
-    );
+    let mut decoder = Decoder::new(rt.alloc());
+    let is_read = reads_at_once(rt.alloc(), &mut decoder);
+    let is_refused = refuses_prologue(rt.alloc(), &mut decoder);
     drop(decoder);
+    assert!(rt; is_read && is_refused);
 }
 
 /// Whether 65,536 bytes are taken without a message.
@@ -159,17 +171,23 @@ fn skips_65536(alloc: Global, decoder: &mut Decoder) -> bool {
     true
 }
 
+/// Whether a message of 65,537 bytes is refused and passed over.
+fn skips(alloc: Global, decoder: &mut Decoder) -> bool {
+    feeds(decoder, &TOO_LARGE)
+        && fails(alloc, decoder, WireFault::TooLarge(Kind::DataEnd))
+        && skips_65536(alloc, decoder)
+        && decoder.room() == 0
+        && feeds(decoder, b"H")
+        && feeds(decoder, &TRIGGER)
+        && reads(alloc, decoder, &TRIGGER)
+}
+
 #[test]
 fn large_payload_is_skipped(rt: HostRuntime) {
-    let alloc = rt.alloc();
-    let mut decoder = Decoder::new(alloc);
-    let fault = WireFault::TooLarge(Kind::DataEnd);
-    assert!(rt; feeds(&mut decoder, &TOO_LARGE) && fails(alloc, &mut decoder, fault));
-    assert!(rt; skips_65536(alloc, &mut decoder));
-    assert_eq!(rt; decoder.room(), 0);
-    assert!(rt; feeds(&mut decoder, b"H") && feeds(&mut decoder, &TRIGGER));
-    assert!(rt; reads(alloc, &mut decoder, &TRIGGER));
+    let mut decoder = Decoder::new(rt.alloc());
+    let is_skipped = skips(rt.alloc(), &mut decoder);
     drop(decoder);
+    assert!(rt; is_skipped);
 }
 
 /// Whether a session that asks for a lock with this key is answered so.
@@ -187,29 +205,29 @@ fn tells(locks: &Locks, is_exclusive: bool, holders: u8) -> bool {
     locks.info() == (is_exclusive, holders)
 }
 
-/// Session 1 takes both kinds of lock, and session 2 none.
-fn take_both(rt: &impl Abort, alloc: Global, locks: &mut Locks) {
-    assert!(rt; answers(alloc, locks, 1, b"", LockReply::Granted));
-    assert!(rt; answers(alloc, locks, 2, b"k", LockReply::NotNow));
-    assert!(rt; tells(locks, true, 1));
-    assert!(rt; answers(alloc, locks, 1, b"k", LockReply::Granted));
+/// Whether session 1 gets both kinds of lock, and session 2 none.
+fn takes_both(alloc: Global, locks: &mut Locks) -> bool {
+    answers(alloc, locks, 1, b"", LockReply::Granted)
+        && answers(alloc, locks, 2, b"k", LockReply::NotNow)
+        && tells(locks, true, 1)
+        && answers(alloc, locks, 1, b"k", LockReply::Granted)
 }
 
-/// Session 1 releases both, and takes one anew.
-fn release_both(rt: &impl Abort, alloc: Global, locks: &mut Locks) {
-    assert!(rt; releases(locks, 1, Released::Exclusive));
-    assert!(rt; releases(locks, 1, Released::Shared));
-    assert!(rt; releases(locks, 1, Released::Nothing));
-    assert!(rt; answers(alloc, locks, 1, b"", LockReply::Granted));
-    assert!(rt; answers(alloc, locks, 1, b"", LockReply::Wrong));
+/// Whether session 1 releases both, and gets one anew.
+fn releases_both(alloc: Global, locks: &mut Locks) -> bool {
+    releases(locks, 1, Released::Exclusive)
+        && releases(locks, 1, Released::Shared)
+        && releases(locks, 1, Released::Nothing)
+        && answers(alloc, locks, 1, b"", LockReply::Granted)
+        && answers(alloc, locks, 1, b"", LockReply::Wrong)
 }
 
 #[test]
 fn locks_go_by_their_rules(rt: HostRuntime) {
     let mut locks = Locks::new();
-    take_both(&rt, rt.alloc(), &mut locks);
-    release_both(&rt, rt.alloc(), &mut locks);
+    let is_so = takes_both(rt.alloc(), &mut locks) && releases_both(rt.alloc(), &mut locks);
     drop(locks);
+    assert!(rt; is_so);
 }
 
 /// Whether a session that asks with this many bytes `k` is answered so.
@@ -224,20 +242,28 @@ fn answers_long(
     length <= 257 && answers(alloc, locks, sid, &key[..length], wanted)
 }
 
-/// Sessions 1 and 16 share a lock until one leaves; session 2 is kept out.
-fn share(rt: &impl Abort, alloc: Global, locks: &mut Locks) {
-    assert!(rt; answers_long(alloc, locks, 1, 257, LockReply::Wrong));
-    assert!(rt; answers_long(alloc, locks, 1, 256, LockReply::Granted));
-    assert!(rt; answers(alloc, locks, 16, b"k", LockReply::NotNow));
-    assert!(rt; answers_long(alloc, locks, 16, 256, LockReply::Granted));
-    assert!(rt; tells(locks, false, 2) && locks.admits(16) && !locks.admits(2));
+/// Whether this is told of the locks once session 16 has left.
+fn tells_without_16(locks: &mut Locks, is_exclusive: bool, holders: u8) -> bool {
     locks.leave(16);
-    assert!(rt; tells(locks, false, 1));
+    tells(locks, is_exclusive, holders)
+}
+
+/// Whether sessions 1 and 16 share a lock until one leaves, and session 2 is kept out.
+fn shares(alloc: Global, locks: &mut Locks) -> bool {
+    answers_long(alloc, locks, 1, 257, LockReply::Wrong)
+        && answers_long(alloc, locks, 1, 256, LockReply::Granted)
+        && answers(alloc, locks, 16, b"k", LockReply::NotNow)
+        && answers_long(alloc, locks, 16, 256, LockReply::Granted)
+        && tells(locks, false, 2)
+        && locks.admits(16)
+        && !locks.admits(2)
+        && tells_without_16(locks, false, 1)
 }
 
 #[test]
 fn shared_locks_have_one_key(rt: HostRuntime) {
     let mut locks = Locks::new();
-    share(&rt, rt.alloc(), &mut locks);
+    let is_so = shares(rt.alloc(), &mut locks);
     drop(locks);
+    assert!(rt; is_so);
 }

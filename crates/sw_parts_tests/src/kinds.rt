@@ -3,7 +3,6 @@
 ghost use Rattle.std.specs.Prelude.{ℕ, Bool};
 
 use std::alloc::{AllocError, Global};
-use std::process::Abort;
 use std::sync::Arc;
 use std::sync::atomic::{AtomicU64, Ordering};
 use std::test::Fail;
@@ -50,11 +49,15 @@ fn drives(record: &Record, channel: u64) -> bool {
     record.load(Ordering::SeqCst) == channel
 }
 
-/// What a card of three open channels tells of itself.
-fn look<R: Relay>(rt: &impl Abort, card: &R, group: u8) {
-    assert!(rt; card.serial() == 7 && card.failures() == 0 && card.channels() == 3);
-    assert!(rt; card.group(0) == 0 && card.group(3) == group && card.group(4) == 0);
-    assert!(rt; !card.is_closed(2));
+/// Whether a card is one of three open channels of that group.
+fn is_new<R: Relay>(card: &R, group: u8) -> bool {
+    card.serial() == 7
+        && card.failures() == 0
+        && card.channels() == 3
+        && card.group(0) == 0
+        && card.group(3) == group
+        && card.group(4) == 0
+        && !card.is_closed(2)
 }
 
 /// Closes the channel, which is open.
@@ -71,23 +74,30 @@ fn open<R: Relay>(card: &mut R, ch: u8) -> bool {
     card.is_closed(ch) && card.open(ch).is_ok() && !card.is_closed(ch)
 }
 
-/// Opens and closes relays of a card of three, and leaves one closed.
-fn exercise<R: Relay>(rt: &impl Abort, card: &mut R, record: &Record) {
-    assert!(rt; close(card, 2) && drives(record, 2));
-    assert!(rt; open(card, 2) && drives(record, 0));
-    assert!(rt; close(card, 3));
+/// Whether the channel is open once every one is.
+fn opens_all<R: Relay>(card: &mut R, ch: u8) -> bool {
     card.open_all();
-    assert!(rt; drives(record, 0) && !card.is_closed(3));
-    assert!(rt; close(card, 3) && drives(record, 3));
+    !card.is_closed(ch)
+}
+
+/// Opens and closes relays of a card of three, and leaves one closed.
+fn exercises<R: Relay>(card: &mut R, record: &Record) -> bool {
+    close(card, 2)
+        && drives(record, 2)
+        && open(card, 2)
+        && drives(record, 0)
+        && close(card, 3)
+        && opens_all(card, 3)
+        && drives(record, 0)
+        && close(card, 3)
+        && drives(record, 3)
 }
 
 /// Uses a card of three relays, and drops it with one closed: its driver is cut then.
-fn use_relays<R: Relay>(rt: &impl Abort, mut card: R, group: u8, record: &Record) {
-    assert!(rt; drives(record, 0));
-    look(rt, &card, group);
-    exercise(rt, &mut card, record);
+fn uses_relays<R: Relay>(mut card: R, group: u8, record: &Record) -> bool {
+    let is_used = drives(record, 0) && is_new(&card, group) && exercises(&mut card, record);
     drop(card);
-    assert!(rt; drives(record, 0));
+    is_used && drives(record, 0)
 }
 
 fn mux(record: &Record) -> Result<Mux<Recorder>, AllocError> {
@@ -101,94 +111,140 @@ fn matrix(record: &Record) -> Result<Matrix<Recorder>, AllocError> {
 #[test]
 fn dropped_multiplexer_leaves_its_driver_cut(rt: HostRuntime) -> Result<(), Fail> {
     let record = Arc::new(rt.alloc(), AtomicU64::new(9))?;
-    use_relays(&rt, mux(&record)?, 5, &record);
     let boxed: Box<dyn Relay + Send> = Box::new(rt.alloc(), mux(&record)?)?;
-    use_relays(&rt, boxed, 5, &record);
+    assert!(rt; uses_relays(boxed, 5, &record));
+    assert!(rt; uses_relays(mux(&record)?, 5, &record));
     Ok(())
 }
 
 #[test]
 fn dropped_matrix_leaves_its_driver_cut(rt: HostRuntime) -> Result<(), Fail> {
     let record = Arc::new(rt.alloc(), AtomicU64::new(9))?;
-    use_relays(&rt, matrix(&record)?, 0, &record);
     let boxed: Box<dyn Relay + Send> = Box::new(rt.alloc(), matrix(&record)?)?;
-    use_relays(&rt, boxed, 0, &record);
+    assert!(rt; uses_relays(boxed, 0, &record));
+    assert!(rt; uses_relays(matrix(&record)?, 0, &record));
     Ok(())
 }
 
-/// The second closing fails, and closes all the same.
-fn blow<R: Relay>(rt: &impl Abort, card: &mut R, record: &Record) {
-    assert!(rt; close(card, 1) && open(card, 1));
-    assert!(rt; !card.is_closed(2) && card.channels() == 20);
-    assert!(rt; card.close(2) == Err(CardFault));
-    assert!(rt; card.is_closed(2) && drives(record, 2));
-    assert_eq!(rt; card.failures(), 1);
-    card.open_all();
-    assert!(rt; !card.is_closed(2) && drives(record, 0));
-    assert!(rt; close(card, 2));
+/// Whether the closing of an open channel fails, and closes it.
+fn fails_closing<R: Relay>(card: &mut R, ch: u8) -> bool {
+    ch >= 1
+        && ch <= card.channels()
+        && !card.is_closed(ch)
+        && card.close(ch) == Err(CardFault)
+        && card.is_closed(ch)
+}
+
+/// Whether the second closing fails, and closes all the same.
+fn blows<R: Relay>(card: &mut R, record: &Record) -> bool {
+    close(card, 1)
+        && open(card, 1)
+        && card.channels() == 20
+        && fails_closing(card, 2)
+        && drives(record, 2)
+        && card.failures() == 1
+        && opens_all(card, 2)
+        && drives(record, 0)
+        && close(card, 2)
 }
 
 #[test]
 fn second_closing_fails_and_closes(rt: HostRuntime) -> Result<(), Fail> {
     let record = Arc::new(rt.alloc(), AtomicU64::new(9))?;
     let mut mux = Mux::new(7, 20, 1, Fuse::new(recording(&record)?, Some(2)));
-    blow(&rt, &mut mux, &record);
+    let is_blown = blows(&mut mux, &record);
     drop(mux);
+    assert!(rt; is_blown);
     Ok(())
 }
 
-/// The second opening fails, and leaves its channel closed.
-fn stick<R: Relay>(rt: &impl Abort, card: &mut R, record: &Record) {
-    assert!(rt; close(card, 1) && open(card, 1));
-    assert!(rt; close(card, 2) && drives(record, 2));
-    assert!(rt; card.is_closed(2));
-    assert!(rt; card.open(2) == Err(CardFault));
-    assert!(rt; card.failures() == 1 && drives(record, 2));
-    assert!(rt; open(card, 2) && drives(record, 0));
+/// Whether the opening of a closed channel fails, and leaves it closed.
+fn fails_opening<R: Relay>(card: &mut R, ch: u8) -> bool {
+    card.is_closed(ch) && card.open(ch) == Err(CardFault) && card.is_closed(ch)
+}
+
+/// Whether the second opening fails, and leaves its channel closed.
+fn sticks<R: Relay>(card: &mut R, record: &Record) -> bool {
+    close(card, 1)
+        && open(card, 1)
+        && close(card, 2)
+        && fails_opening(card, 2)
+        && drives(record, 2)
+        && card.failures() == 1
+        && open(card, 2)
+        && drives(record, 0)
 }
 
 #[test]
 fn second_opening_fails(rt: HostRuntime) -> Result<(), Fail> {
     let record = Arc::new(rt.alloc(), AtomicU64::new(9))?;
     let mut mux = Mux::new(7, 20, 1, OpenFuse::new(recording(&record)?, Some(2)));
-    stick(&rt, &mut mux, &record);
+    let is_stuck = sticks(&mut mux, &record);
     drop(mux);
+    assert!(rt; is_stuck);
     Ok(())
 }
 
-fn measures<M: Meter>(rt: &impl Abort, mut meter: M) {
-    assert!(rt; meter.serial() == 8 && meter.failures() == 0 && meter.last() == None);
-    assert!(rt; meter.measure() == Ok(Reading::Volts(1_000_000_000)));
-    assert!(rt; meter.measure() == Ok(Reading::Volts(1_000_000_001)));
-    assert!(rt; meter.last() == Some(Reading::Volts(1_000_000_001)));
-    drop(meter);
+/// Whether a measurement gives this.
+fn gives<M: Meter>(meter: &mut M, wanted: Result<Reading, CardFault>) -> bool {
+    meter.measure() == wanted
 }
 
-/// The second reading fails, and the third is what it would have been.
-fn miss<M: Meter>(rt: &impl Abort, meter: &mut M) {
-    assert!(rt; meter.measure() == Ok(Reading::Volts(5)));
-    assert!(rt; meter.measure() == Err(CardFault));
-    assert!(rt; meter.failures() == 1 && meter.last() == Some(Reading::Volts(5)));
-    assert!(rt; meter.measure() == Ok(Reading::Volts(6)));
+/// Whether this many measurements failed, and the last reading was this.
+fn has<M: Meter>(meter: &M, failures: u64, last: Option<Reading>) -> bool {
+    meter.failures() == failures && meter.last() == last
+}
+
+/// Whether a meter gives a volt, then a nanovolt more.
+fn measures<M: Meter>(mut meter: M) -> bool {
+    let is_so = meter.serial() == 8
+        && has(&meter, 0, None)
+        && gives(&mut meter, Ok(Reading::Volts(1_000_000_000)))
+        && gives(&mut meter, Ok(Reading::Volts(1_000_000_001)))
+        && has(&meter, 0, Some(Reading::Volts(1_000_000_001)));
+    drop(meter);
+    is_so
+}
+
+/// Whether the second reading fails, and the third is what it would have been.
+fn misses<M: Meter>(meter: &mut M) -> bool {
+    gives(meter, Ok(Reading::Volts(5)))
+        && gives(meter, Err(CardFault))
+        && has(meter, 1, Some(Reading::Volts(5)))
+        && gives(meter, Ok(Reading::Volts(6)))
 }
 
 #[test]
 fn second_reading_fails(rt: HostRuntime) {
     let mut meter = Volt::new(8, SourceFuse::new(SimSource::new(5, 1), Some(2)));
-    miss(&rt, &mut meter);
+    let is_missed = misses(&mut meter);
     drop(meter);
+    assert!(rt; is_missed);
 }
 
 #[test]
 fn voltmeter_counts_nanovolts(rt: HostRuntime) -> Result<(), Fail> {
-    measures(&rt, Volt::new(8, SimSource::new(1_000_000_000, 1)));
-    let meter = Volt::new(8, SimSource::new(1_000_000_000, 1));
-    let meter: Box<dyn Meter + Send> = Box::new(rt.alloc(), meter)?;
-    measures(&rt, meter);
-    let mut source = SimSource::new(i64::MIN + 1, -1);
-    assert!(rt; source.sample() == Ok(Reading::Volts(i64::MIN + 1)));
-    assert!(rt; source.sample() == Ok(Reading::Volts(i64::MIN)));
-    assert!(rt; source.sample() == Ok(Reading::Overload));
-    assert!(rt; source.sample() == Ok(Reading::Overload));
+    let meter: Box<dyn Meter + Send> = Box::new(
+        rt.alloc(),
+        Volt::new(8, SimSource::new(1_000_000_000, 1)),
+    )?;
+    assert!(rt; measures(meter));
+    assert!(rt; measures(Volt::new(8, SimSource::new(1_000_000_000, 1))));
     Ok(())
+}
+
+/// Whether a source gives this next.
+fn samples<S: Source>(source: &mut S, wanted: Reading) -> bool {
+    source.sample() == Ok(wanted)
+}
+
+#[test]
+fn overload_stays(rt: HostRuntime) {
+    let mut source = SimSource::new(i64::MIN + 1, -1);
+    let is_so = samples(&mut source, Reading::Volts(i64::MIN + 1))
+        && samples(&mut source, Reading::Volts(i64::MIN))
+        && samples(&mut source, Reading::Overload)
+        && samples(&mut source, Reading::Overload);
+    drop(source);
+    assert!(rt; is_so);
 }
