@@ -1,8 +1,8 @@
 //! A mainframe that the tests ask one thing at a time.
 //!
-//! These promise nothing, and most answer yes or no: what a mainframe promises, and each way out that a `?` is, would be
-//! carried on in the proof of every test. An answer or a `Core` is let go by a call of `drop`: where a scope ends, its
-//! drop would be written out for each of its variants.
+//! These promise nothing, and most answer yes or no: what a mainframe promises, and each way out that a `?` is, would
+//! be carried on in the proof of every test. An answer or a `Core` is let go by a call of `drop`: where a scope ends,
+//! its drop would be written out for each of its variants.
 
 use std::alloc::Global;
 use sw_base::ScpiError;
