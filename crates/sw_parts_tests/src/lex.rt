@@ -3,28 +3,40 @@
 use std::alloc::Global;
 use std::test::Fail;
 use sw_base::{Chan, LayerName, ScpiError, Source, StatusGroup};
-use sw_lex::{Command, Element, Path, next_unit, resolve};
+use sw_lex::{Command, Element, Path, RawUnit, next_unit, resolve};
+
+/// What the first unit of a text gives below this path.
+fn read_at(alloc: Global, text: &[u8], path: Path) -> Result<Command, ScpiError> {
+    match next_unit(text)? {
+        Some((unit, _)) => resolve(alloc, &unit, path).command,
+        None => Err(ScpiError::SystemError),
+    }
+}
 
 /// What the first unit of a message gives.
 fn first(alloc: Global, message: &[u8]) -> Result<Command, ScpiError> {
+    read_at(alloc, message, Path::root())
+}
+
+/// The path that a unit leaves.
+fn path_behind(alloc: Global, unit: &RawUnit<'_>) -> Path {
+    let resolved = resolve(alloc, unit, Path::root());
+    drop(resolved.command);
+    resolved.path
+}
+
+/// The path that the first unit of a message leaves, and what stands behind it.
+fn path_and_rest(alloc: Global, message: &[u8]) -> Result<(Path, &[u8]), ScpiError> {
     match next_unit(message)? {
-        Some((unit, _)) => resolve(alloc, &unit, Path::root()).command,
+        Some((unit, rest)) => Ok((path_behind(alloc, &unit), rest)),
         None => Err(ScpiError::SystemError),
     }
 }
 
 /// What the second unit of a message gives, after a first that is a unit.
 fn second(alloc: Global, message: &[u8]) -> Result<Command, ScpiError> {
-    match next_unit(message)? {
-        Some((unit, rest)) => {
-            let path = resolve(alloc, &unit, Path::root()).path;
-            match next_unit(rest)? {
-                Some((unit, _)) => resolve(alloc, &unit, path).command,
-                None => Err(ScpiError::SystemError),
-            }
-        }
-        None => Err(ScpiError::SystemError),
-    }
+    let (path, rest) = path_and_rest(alloc, message)?;
+    read_at(alloc, rest, path)
 }
 
 /// A command's name, and its channels.
@@ -39,16 +51,61 @@ fn parts(command: &Command) -> (&str, &[Chan]) {
     }
 }
 
+/// Whether what was read is the command of this name, with these channels.
+fn is_command(read: &Result<Command, ScpiError>, name: &str, list: &[Chan]) -> bool {
+    match read {
+        Ok(command) => parts(command) == (name, list),
+        Err(_) => false,
+    }
+}
+
+/// Whether the first unit of a message is the command of this name, with these channels.
+fn reads_first(alloc: Global, message: &[u8], name: &str, list: &[Chan]) -> bool {
+    let read = first(alloc, message);
+    let is_so = is_command(&read, name, list);
+    drop(read);
+    is_so
+}
+
+/// Whether the second unit of a message is the command of this name, with these channels.
+fn reads_second(alloc: Global, message: &[u8], name: &str, list: &[Chan]) -> bool {
+    let read = second(alloc, message);
+    let is_so = is_command(&read, name, list);
+    drop(read);
+    is_so
+}
+
+/// Whether what was read is refused by this error.
+fn is_refused(read: &Result<Command, ScpiError>, error: ScpiError) -> bool {
+    match read {
+        Ok(_) => false,
+        Err(why) => *why == error,
+    }
+}
+
+/// Whether the first unit of a message is refused by this error.
+fn refuses_first(alloc: Global, message: &[u8], error: ScpiError) -> bool {
+    let read = first(alloc, message);
+    let is_so = is_refused(&read, error);
+    drop(read);
+    is_so
+}
+
+/// Whether the second unit of a message is refused by this error.
+fn refuses_second(alloc: Global, message: &[u8], error: ScpiError) -> bool {
+    let read = second(alloc, message);
+    let is_so = is_refused(&read, error);
+    drop(read);
+    is_so
+}
+
 #[test]
-fn reads_commands(rt: HostRuntime) -> Result<(), Fail> {
-    let close = first(rt.alloc(), b"rout:close (@2!3,2!1,202)")?;
+fn reads_commands(rt: HostRuntime) {
+    let alloc = rt.alloc();
     let list = [Chan::new(2, 3), Chan::new(2, 1), Chan::new(2, 2)];
-    assert_eq!(rt; parts(&close), ("close", list.as_slice()));
-    let state = first(rt.alloc(), b":ROUTE:CLOSE:STATE?")?;
-    assert_eq!(rt; parts(&state).0, "state?");
-    let identify = second(rt.alloc(), b"FOO;*IDN?")?;
-    assert_eq!(rt; parts(&identify).0, "identify");
-    Ok(())
+    assert!(rt; reads_first(alloc, b"rout:close (@2!3,2!1,202)", "close", &list));
+    assert!(rt; reads_first(alloc, b":ROUTE:CLOSE:STATE?", "state?", &[]));
+    assert!(rt; reads_second(alloc, b"FOO;*IDN?", "identify", &[]));
 }
 
 #[test]
@@ -73,37 +130,25 @@ fn reads_elements(rt: HostRuntime) -> Result<(), Fail> {
 }
 
 #[test]
-fn keeps_paths(rt: HostRuntime) -> Result<(), Fail> {
-    let asked = second(rt.alloc(), b"ROUT:CLOS (@1!3);CLOS? (@1!3,104)")?;
+fn keeps_paths(rt: HostRuntime) {
+    let alloc = rt.alloc();
     let list = [Chan::new(1, 3), Chan::new(1, 4)];
-    assert_eq!(rt; parts(&asked), ("close?", list.as_slice()));
-    let state = second(rt.alloc(), b" ROUT:OPEN (@1!3) ; ;CLOS:STAT?")?;
-    assert_eq!(rt; parts(&state).0, "state?");
-    let below = second(rt.alloc(), b"ROUT:CLOS:STAT?;STAT?")?;
-    assert_eq!(rt; parts(&below).0, "state?");
-    let root = second(rt.alloc(), b"ROUT:OPEN (@1!1);:CLOS:STAT?").err();
-    assert_eq!(rt; root, Some(ScpiError::UndefinedHeader));
-    Ok(())
+    assert!(rt; reads_second(alloc, b"ROUT:CLOS (@1!3);CLOS? (@1!3,104)", "close?", &list));
+    assert!(rt; reads_second(alloc, b" ROUT:OPEN (@1!3) ; ;CLOS:STAT?", "state?", &[]));
+    assert!(rt; reads_second(alloc, b"ROUT:CLOS:STAT?;STAT?", "state?", &[]));
+    assert!(rt;
+        refuses_second(
+            alloc,
+            b"ROUT:OPEN (@1!1);:CLOS:STAT?",
+            ScpiError::UndefinedHeader
+        )
+    );
 }
 
 /// The path that the only unit of a message leaves. The message is gone then.
 fn path_left(alloc: Global, message: Vec<u8>) -> Result<Path, ScpiError> {
-    match next_unit(message.as_slice())? {
-        Some((unit, _)) => Ok(resolve(alloc, &unit, Path::root()).path),
-        None => Err(ScpiError::SystemError),
-    }
-}
-
-#[test]
-fn outlives_messages(rt: HostRuntime) -> Result<(), Fail> {
-    let message = b"status:questionable:ptransition 3".to_vec(rt.alloc())?;
-    let path = path_left(rt.alloc(), message)?;
-    let Some((unit, _)) = next_unit(b"NTR 2")? else {
-        return Err(ScpiError::SystemError.into());
-    };
-    let command = resolve(rt.alloc(), &unit, path).command?;
-    assert_eq!(rt; numbers(&command), (2, 2));
-    Ok(())
+    let (path, _) = path_and_rest(alloc, message.as_slice())?;
+    Ok(path)
 }
 
 /// A command's number, and its layer or group where it has one.
@@ -133,8 +178,37 @@ fn layer_number(layer: LayerName) -> u8 {
     }
 }
 
+/// The numbers of what was read.
+fn numbers_of(read: &Result<Command, ScpiError>) -> Result<(u64, u8), ScpiError> {
+    match read {
+        Ok(command) => Ok(numbers(command)),
+        Err(error) => Err(*error),
+    }
+}
+
+/// The numbers of the first unit of a text, below this path.
+fn numbers_at(alloc: Global, text: &[u8], path: Path) -> Result<(u64, u8), ScpiError> {
+    let read = read_at(alloc, text, path);
+    let numbers = numbers_of(&read);
+    drop(read);
+    numbers
+}
+
+/// Whether these are the numbers of the first unit of a message.
+fn has_numbers(alloc: Global, message: &[u8], wanted: (u64, u8)) -> bool {
+    numbers_at(alloc, message, Path::root()) == Ok(wanted)
+}
+
 #[test]
-fn reads_numbers(rt: HostRuntime) -> Result<(), Fail> {
+fn outlives_messages(rt: HostRuntime) -> Result<(), Fail> {
+    let message = b"status:questionable:ptransition 3".to_vec(rt.alloc())?;
+    let path = path_left(rt.alloc(), message)?;
+    assert!(rt; numbers_at(rt.alloc(), b"NTR 2", path)? == (2, 2));
+    Ok(())
+}
+
+#[test]
+fn reads_numbers(rt: HostRuntime) {
     let cases = [
         (b"*ESE 2.5".as_slice(), (3, 0)),
         (b"*SRE -0.4".as_slice(), (0, 0)),
@@ -158,9 +232,8 @@ fn reads_numbers(rt: HostRuntime) -> Result<(), Fail> {
         (b"*EMC 0.4".as_slice(), (0, 0)),
     ];
     for (message, wanted) in cases {
-        assert_eq!(rt; numbers(&first(rt.alloc(), message)?), wanted);
+        assert!(rt; has_numbers(rt.alloc(), message, wanted));
     }
-    Ok(())
 }
 
 /// The label of a command about a macro.
@@ -181,16 +254,36 @@ fn body(command: &Command) -> &[u8] {
     }
 }
 
+/// Whether what was read is about the macro of this label, with this body.
+fn is_macro(read: &Result<Command, ScpiError>, wanted: &[u8], content: &[u8]) -> bool {
+    match read {
+        Ok(command) => label(command) == wanted && body(command) == content,
+        Err(_) => false,
+    }
+}
+
+/// Whether a message is about the macro of this label, with this body.
+fn reads_macro(alloc: Global, message: &[u8], wanted: &[u8], content: &[u8]) -> bool {
+    let read = first(alloc, message);
+    let is_so = is_macro(&read, wanted, content);
+    drop(read);
+    is_so
+}
+
 #[test]
-fn reads_macros(rt: HostRuntime) -> Result<(), Fail> {
-    let define = first(rt.alloc(), b"*DMC \"A\",#15*IDN?")?;
-    assert!(rt; label(&define) == b"A".as_slice());
-    assert!(rt; body(&define) == b"*IDN?".as_slice());
-    let query = first(rt.alloc(), b"*GMC? \"a\"\"b'\"")?;
-    assert!(rt; label(&query) == b"a\"b'".as_slice());
-    let remove = first(rt.alloc(), b"*RMC 'c'")?;
-    assert!(rt; label(&remove) == b"c".as_slice());
-    Ok(())
+fn reads_macros(rt: HostRuntime) {
+    let alloc = rt.alloc();
+    assert!(rt; reads_macro(alloc, b"*DMC \"A\",#15*IDN?", b"A", b"*IDN?"));
+    assert!(rt; reads_macro(alloc, b"*GMC? \"a\"\"b'\"", b"a\"b'", b""));
+    assert!(rt; reads_macro(alloc, b"*RMC 'c'", b"c", b""));
+}
+
+/// Whether a text is refused by this error before a unit is read.
+fn refuses_unit(text: &[u8], error: ScpiError) -> bool {
+    match next_unit(text) {
+        Ok(_) => false,
+        Err(why) => why == error,
+    }
 }
 
 #[test]
@@ -233,14 +326,14 @@ fn refuses_units(rt: HostRuntime) -> Result<(), Fail> {
         ),
     ];
     for (message, error) in cases {
-        assert_eq!(rt; next_unit(message).err(), Some(error));
+        assert!(rt; refuses_unit(message, error));
     }
     assert!(rt; next_unit(b" ; ;").is_ok());
     Ok(())
 }
 
 #[test]
-fn refuses_commands(rt: HostRuntime) -> Result<(), Fail> {
+fn refuses_commands(rt: HostRuntime) {
     let cases = [
         (b"*IDN".as_slice(), ScpiError::UndefinedHeader),
         (b"ROUTE:CLO (@1!1)".as_slice(), ScpiError::UndefinedHeader),
@@ -311,7 +404,6 @@ fn refuses_commands(rt: HostRuntime) -> Result<(), Fail> {
         (b"INIT:CONT \"ON\"".as_slice(), ScpiError::DataTypeError),
     ];
     for (message, error) in cases {
-        assert_eq!(rt; first(rt.alloc(), message).err(), Some(error));
+        assert!(rt; refuses_first(rt.alloc(), message, error));
     }
-    Ok(())
 }

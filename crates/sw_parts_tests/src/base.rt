@@ -25,27 +25,34 @@ const TABLE: &[u8] = b"\
 
 /// The whole number, or the number of the error; and whether it is a number.
 fn answer(text: &[u8]) -> (i64, bool) {
-    let read = match Nrf::read(text) {
-        Ok((number, _)) => number.whole(i64::MIN, i64::MAX),
-        Err(error) => Err(error),
-    };
-    match read {
+    match whole(text, i64::MIN, i64::MAX) {
         Ok(value) => (value, true),
         Err(error) => (i64::from(error.code()), false),
     }
+}
+
+/// Whether an entry's text is read as what stands behind it.
+fn is_read(entry: &[u8]) -> bool {
+    let (value, read) = answer(text_of(entry));
+    match wanted(entry, read) {
+        Some(text) => prints_signed(value, text),
+        None => false,
+    }
+}
+
+/// The first entry of a row of entries, and those behind it.
+fn first_entry(row: &[u8]) -> Option<(&[u8], &[u8])> {
+    cut(row, b'|')
 }
 
 #[test]
 fn numbers_of_the_table(rt: HostRuntime) {
     let mut rest = TABLE;
     for _ in 0..84 {
-        let Some((entry, more)) = cut(rest, b'|') else {
+        let Some((entry, more)) = first_entry(rest) else {
             break;
         };
-        let (value, read) = answer(text_of(entry));
-        let mut buffer = [0; 32];
-        let length = print_signed(value, &mut buffer);
-        assert_eq!(rt; Some(&buffer[..length]), wanted(entry, read));
+        assert!(rt; is_read(entry));
         rest = more;
     }
     assert!(rt; rest.is_empty());
@@ -73,54 +80,55 @@ fn micros(text: &[u8], unit: Unit) -> Result<u64, ScpiError> {
     Nrf::read(text)?.0.micros(unit)
 }
 
+fn is_whole(text: &[u8], low: i64, high: i64, wanted: Result<i64, ScpiError>) -> bool {
+    whole(text, low, high) == wanted
+}
+
+fn is_time(text: &[u8], unit: Unit, wanted: Result<u64, ScpiError>) -> bool {
+    micros(text, unit) == wanted
+}
+
+const OUT_OF_RANGE: ScpiError = ScpiError::DataOutOfRange;
+
 #[test]
 fn ranges(rt: HostRuntime) {
-    assert_eq!(rt; whole(b"2.5", 0, 255), Ok(3));
-    assert_eq!(rt; whole(b"-0.4", 0, 255), Ok(0));
-    assert_eq!(rt; whole(b"-0.5", 0, 255), Err(ScpiError::DataOutOfRange));
-    assert_eq!(rt; whole(b"255.49", 0, 255), Ok(255));
-    assert_eq!(rt; whole(b"255.5", 0, 255), Err(ScpiError::DataOutOfRange));
-    assert_eq!(rt; whole(b"100000", 1, 100_000), Ok(100_000));
-    assert_eq!(rt;
-        whole(b"100001", 1, 100_000),
-        Err(ScpiError::DataOutOfRange)
-    );
-    assert_eq!(rt; whole(b"0", 1, 100_000), Err(ScpiError::DataOutOfRange));
-    assert_eq!(rt;
-        whole(b"1E99999", 1, 100_000),
-        Err(ScpiError::ExponentTooLarge)
-    );
+    assert!(rt; is_whole(b"2.5", 0, 255, Ok(3)));
+    assert!(rt; is_whole(b"-0.4", 0, 255, Ok(0)));
+    assert!(rt; is_whole(b"-0.5", 0, 255, Err(OUT_OF_RANGE)));
+    assert!(rt; is_whole(b"255.49", 0, 255, Ok(255)));
+    assert!(rt; is_whole(b"255.5", 0, 255, Err(OUT_OF_RANGE)));
+    assert!(rt; is_whole(b"100000", 1, 100_000, Ok(100_000)));
+    assert!(rt; is_whole(b"100001", 1, 100_000, Err(OUT_OF_RANGE)));
+    assert!(rt; is_whole(b"0", 1, 100_000, Err(OUT_OF_RANGE)));
+    assert!(rt; is_whole(b"1E99999", 1, 100_000, Err(ScpiError::ExponentTooLarge)));
 }
 
 #[test]
 fn times(rt: HostRuntime) {
-    assert_eq!(rt; micros(b"1.0000005", Unit::S), Ok(1_000_001));
-    assert_eq!(rt; micros(b"500 MS", Unit::Ms), Ok(500_000));
-    assert_eq!(rt; micros(b"2.5US", Unit::Us), Ok(3));
-    assert_eq!(rt; micros(b"3600", Unit::S), Ok(3_600_000_000));
-    assert_eq!(rt; micros(b"-4E-7", Unit::S), Ok(0));
-    assert_eq!(rt; micros(b"-5E-7", Unit::S), Err(ScpiError::DataOutOfRange));
-    assert_eq!(rt; micros(b"18446744073709.5516154", Unit::S), Ok(u64::MAX));
-    assert_eq!(rt;
-        micros(b"18446744073709.5516155", Unit::S),
-        Err(ScpiError::DataOutOfRange)
-    );
-    assert_eq!(rt; micros(b"1E32000", Unit::S), Err(ScpiError::DataOutOfRange));
+    assert!(rt; is_time(b"1.0000005", Unit::S, Ok(1_000_001)));
+    assert!(rt; is_time(b"500 MS", Unit::Ms, Ok(500_000)));
+    assert!(rt; is_time(b"2.5US", Unit::Us, Ok(3)));
+    assert!(rt; is_time(b"3600", Unit::S, Ok(3_600_000_000)));
+    assert!(rt; is_time(b"-4E-7", Unit::S, Ok(0)));
+    assert!(rt; is_time(b"-5E-7", Unit::S, Err(OUT_OF_RANGE)));
+    assert!(rt; is_time(b"18446744073709.5516154", Unit::S, Ok(u64::MAX)));
+    assert!(rt; is_time(b"18446744073709.5516155", Unit::S, Err(OUT_OF_RANGE)));
+    assert!(rt; is_time(b"1E32000", Unit::S, Err(OUT_OF_RANGE)));
 }
 
 #[test]
 fn digits_that_count(rt: HostRuntime) {
     let nines = [b'9'; 256];
-    assert_eq!(rt; whole(&nines[..255], 0, 9), Err(ScpiError::DataOutOfRange));
-    assert_eq!(rt; whole(&nines, 0, 9), Err(ScpiError::TooManyDigits));
+    assert!(rt; is_whole(&nines[..255], 0, 9, Err(OUT_OF_RANGE)));
+    assert!(rt; is_whole(&nines, 0, 9, Err(ScpiError::TooManyDigits)));
     let mut long = [b'0'; 300];
-    assert_eq!(rt; whole(&long, 0, 9), Ok(0));
+    assert!(rt; is_whole(&long, 0, 9, Ok(0)));
     long[299] = b'7';
-    assert_eq!(rt; whole(&long, 0, 9), Ok(7));
+    assert!(rt; is_whole(&long, 0, 9, Ok(7)));
     long[1] = b'.';
-    assert_eq!(rt; whole(&long, 0, 9), Ok(0));
+    assert!(rt; is_whole(&long, 0, 9, Ok(0)));
     long[44] = b'1';
-    assert_eq!(rt; whole(&long, 0, 9), Err(ScpiError::TooManyDigits));
+    assert!(rt; is_whole(&long, 0, 9, Err(ScpiError::TooManyDigits)));
 }
 
 /// How much of the text stands behind its number.
@@ -158,15 +166,28 @@ fn readings(rt: HostRuntime) {
     shows(&rt, Reading::Overload, b"9.9E+37");
 }
 
+fn prints_number(value: u64, wanted: &[u8]) -> bool {
+    let mut buffer = [b'x'; 32];
+    let length = print_number(value, &mut buffer);
+    &buffer[..length] == wanted
+}
+
+fn prints_signed(value: i64, wanted: &[u8]) -> bool {
+    let mut buffer = [b'x'; 32];
+    let length = print_signed(value, &mut buffer);
+    &buffer[..length] == wanted
+}
+
+fn prints_micros(value: u64, wanted: &[u8]) -> bool {
+    let mut buffer = [b'x'; 32];
+    let length = print_micros(value, &mut buffer);
+    &buffer[..length] == wanted
+}
+
 #[test]
 fn printed_numbers(rt: HostRuntime) {
-    let mut buffer = [b'x'; 32];
-    let length = print_number(u64::MAX, &mut buffer);
-    assert_eq!(rt; &buffer[..length], b"18446744073709551615".as_slice());
-    let length = print_signed(i64::MIN, &mut buffer);
-    assert_eq!(rt; &buffer[..length], b"-9223372036854775808".as_slice());
-    let length = print_micros(500_000, &mut buffer);
-    assert_eq!(rt; &buffer[..length], b"0.500000".as_slice());
-    let length = print_micros(1_000_001, &mut buffer);
-    assert_eq!(rt; &buffer[..length], b"1.000001".as_slice());
+    assert!(rt; prints_number(u64::MAX, b"18446744073709551615"));
+    assert!(rt; prints_signed(i64::MIN, b"-9223372036854775808"));
+    assert!(rt; prints_micros(500_000, b"0.500000"));
+    assert!(rt; prints_micros(1_000_001, b"1.000001"));
 }
