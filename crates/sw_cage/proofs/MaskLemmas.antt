@@ -1,11 +1,11 @@
 -- Lemmas on the mask that is kept of a slot: read from its card, after one channel was set, and with none closed.
-use Rattle.std.proofs.Common.{◌≡◌, ◌≢◌, ℕ, zero, suc, ◌+◌, ◌≤◌, ◌<◌, Bool, true, false, List, length, take, get_or, Option, None, Some, inl, inr, refl, sym}
-use Rattle.std.proofs.Common.{◌∙◌, ap, subst, arith}
+use Rattle.std.proofs.Common.{◌≡◌, ◌≢◌, ℕ, zero, suc, ◌≤◌, Bool, true, false, List, length, take, Option, None, Some, inl, inr, refl, sym}
+use Rattle.std.proofs.Common.{◌∙◌, ap, arith}
 use Rattle.std.proofs.lemmas.List.{get_or-take}
 use Rattle.std.proofs.lemmas.Grind.{common_steps}
 use Rattle.std.proofs.lemmas.Bool.{cases_eq, cases_lt}
-use Rattle.sw_base.specs.Limits.{most_slots, most_channels}
-use Rattle.sw_base.specs.Layout.{bay_has, slot_at}
+use Rattle.sw_base.specs.Limits.{most_channels}
+use Rattle.sw_base.specs.Layout.{bay_has}
 use Rattle.sw_card.specs.Account.{Account, closed_at, set_closed, with_set}
 use Rattle.sw_card.specs.Mask.{in_mask, IsMaskOf}
 use Rattle.sw_card.proofs.Rows.{closed_past, none_is_closed}

@@ -185,6 +185,19 @@ ejected_card items value s x card same safe some is e =
     let b : (0 < s) × (s ≤ length (accounts_of items)) = some_slot (accounts_of items) s (ap (λ (r : Accounts). is_some (slot_at r s)) same ∙ some) in
     ap option_rest (read items value s x same safe.size b.0 (omega (arith, b.1, safe.size)) is) ∙ sym e
 
+some_rested : (o : Option Account) → is_some o ≡ true → option_rest o ≡ None → ⊥
+some_rested None some e = cc
+some_rested (Some a) some e = cc
+
+-- from a slot with a card a card comes out
+pub ejected_some : {C : Type 0} (items : List (Option (C × Account))) (value : Accounts) (s : ℕ) (x result : Option (C × Account)) → accounts_of items ≡ value
+    → AreSafe (accounts_of items) → is_some (slot_at value s) ≡ true → x ≡ slice_index_or items (s - 1) x
+    → option_account result ≡ option_rest (option_account x) → result ≡ None → ⊥
+ejected_some items value s x result same safe some is e none =
+    let b : (0 < s) × (s ≤ length (accounts_of items)) = some_slot (accounts_of items) s (ap (λ (r : Accounts). is_some (slot_at r s)) same ∙ some) in
+    some_rested (slot_at value s) some
+    (ap option_rest (read items value s x same safe.size b.0 (omega (arith, b.1, safe.size)) is) ∙ sym e ∙ ap option_account none)
+
 rested_open : (o : Option Account) (card : Account) → Some card ≡ option_rest o → (ch : ℕ) → closed_at card.closed ch ≡ false
 rested_open None card e ch = cc
 rested_open (Some a) card e ch = let k : card ≡ at_rest a = cc in ap (λ (x : Account). closed_at x.closed ch) k ∙ none_is_closed a.closed ch

@@ -137,9 +137,10 @@ pub(super) fn open_in<R: Relay, M: Meter>(
 pub(super) fn rest_in<R: Relay, M: Meter>(slot: &mut Place<R, M>)
     ensures { option_account slot.new ≡ option_rest (option_account slot.old) }
 {
-    if let Some(card) = &mut slot.card {
-        card.open_all();
-    }
+    let Some(card) = &mut slot.card else {
+        return;
+    };
+    card.open_all();
     slot.closed = Mask::new();
 }
 
@@ -149,6 +150,7 @@ pub(super) fn take_rested<R: Relay, M: Meter>(slot: &mut Place<R, M>) -> Option<
     ensures empty { slot.new ≡ None }
 {
     rest_in(slot);
+    slot.closed = Mask::new();
     slot.card.take()
 }
 

@@ -1,4 +1,4 @@
-use Rattle.std.proofs.Common.{◌+◌, sym, ◌∙◌, ap, subst, arith, true, false}
+use Rattle.std.proofs.Common.{◌+◌, sym, ◌∙◌, ap, subst, arith}
 use Rattle.sw_base.specs.Layout.{group_of}
 use Rattle.sw_cage.specs.Accounts.{AreSafe, layout_of, is_closed}
 use Rattle.sw_cage.specs.Claims.{IndexesClaims, ClosedBefore}

@@ -1,4 +1,4 @@
-use Rattle.std.proofs.Common.{◌≡◌, ℕ, ◌+◌, sym, ◌∙◌, ap, arith, true, false, ◌++◌}
+use Rattle.std.proofs.Common.{◌≡◌, ℕ, sym, ◌∙◌, ap, arith, ◌++◌}
 use Rattle.std.specs.List.{filter}
 use Rattle.sw_base.specs.Limits.{most_channels}
 use Rattle.sw_cage.specs.Accounts.{is_closed}
