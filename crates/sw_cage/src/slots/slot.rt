@@ -80,10 +80,7 @@ pub(super) fn is_fit<R: Relay, M: Meter>(card: &Card<R, M>) -> bool
 }
 
 /// Closes a channel of the card in the slot.
-pub(super) fn close_in<R: Relay, M: Meter>(
-    slot: &mut Place<R, M>,
-    ch: u8,
-) -> Result<(), CardFault>
+pub(super) fn close_in<R: Relay, M: Meter>(slot: &mut Place<R, M>, ch: u8) -> Result<(), CardFault>
     requires few { ch ≤ most_channels }
     requires formed { OptionWellFormed (option_account slot.old) }
     requires present { bay_has (slot_contents (option_account slot.old)) ch ≡ true }
@@ -108,10 +105,7 @@ pub(super) fn close_in<R: Relay, M: Meter>(
 }
 
 /// Opens a channel of the card in the slot.
-pub(super) fn open_in<R: Relay, M: Meter>(
-    slot: &mut Place<R, M>,
-    ch: u8,
-) -> Result<(), CardFault>
+pub(super) fn open_in<R: Relay, M: Meter>(slot: &mut Place<R, M>, ch: u8) -> Result<(), CardFault>
     requires range { (1 ≤ ch) × (ch ≤ most_channels) }
     requires closed { option_closed (option_account slot.old) ch ≡ true }
     ensures ok { OnOk result (option_account slot.new ≡ option_set (option_account slot.old) ch false) }
