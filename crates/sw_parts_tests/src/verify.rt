@@ -171,7 +171,7 @@ fn plan_keeps_its_snapshot(rt: HostRuntime) -> Result<(), Fail> {
     assert_eq!(rt; plan.code().meter(), 4);
     assert_eq!(rt; plan.code().steps().len(), 10);
     obey(&plan);
-    let kept = plan.into_snapshot();
+    let kept = plan.into_parts().0;
     tell(&rt, &kept.layout);
     drop(kept);
     Ok(())
