@@ -16,8 +16,9 @@ pub fn talk_is_determined()
     one_expansion();
 }
 
-/// A law: over a mainframe the message, the macros and what is measured determine what is written, the macros after it
-/// and the desk that is left, where no growth is refused and no card fails.
+/// A law: over a mainframe the message, the macros, what is measured and what comes of the cards determine what is
+/// written, the macros after it and the desk that is left, where no growth is refused. What comes of the cards: in which
+/// calls one fails, and how often each has failed after such a call.
 pub fn core_talk_is_determined()
     ensures { CoreTalkIsDetermined }
 {
@@ -25,8 +26,8 @@ pub fn core_talk_is_determined()
     talk_is_determined();
 }
 
-/// A law: over a mainframe what is measured determines the desk that a rest leaves, where no growth is refused and no
-/// card fails.
+/// A law: over a mainframe what is measured and what comes of the cards determine the desk that a rest leaves, where no
+/// growth is refused.
 pub fn core_rest_is_determined()
     ensures { CoreRestIsDetermined }
 {
