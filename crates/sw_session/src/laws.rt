@@ -1,6 +1,7 @@
 //! What follows from the contract of a talk.
 
 ghost use Rattle.sw_session.specs.Law.{TalkIsDetermined, CoreTalkIsDetermined, CoreRestIsDetermined};
+ghost use Rattle.sw_session.specs.Order.{WorkIsDoneInOrder};
 
 use sw_core::step_is_determined;
 use sw_lex::{one_meaning, one_reading};
@@ -33,3 +34,10 @@ pub fn core_rest_is_determined()
 {
     step_is_determined();
 }
+
+/// A law: a `CoreDesk` carries its work out in the order in which it came, oldest first, also where a growth was
+/// refused: in each call, what was outstanding before it and then what came in it is, piece by piece, what was carried
+/// out in it and then what is outstanding after it.
+pub fn work_is_done_in_order()
+    ensures { WorkIsDoneInOrder }
+{}
