@@ -14,7 +14,8 @@ use Rattle.sw_base.specs.declared.reading.Reading.{Reading}
 use Rattle.sw_card.specs.declared.board.CardFault.{CardFault}
 use Rattle.sw_macro.specs.Table.{Table}
 use Rattle.sw_session.specs.CoreDesk.{DeskSeen, Rests}
-use Rattle.sw_session.specs.Law.{AllSmooth, waits_of, carried_in, carried_at_rest, outcomes_in_talk, outcomes_at_rest, CoreTalkIsDetermined, CoreRestIsDetermined}
+use Rattle.sw_session.specs.Law.{AllSmooth, waits_of, carried_in, carried_at_rest, outcomes_in_talk, outcomes_at_rest}
+use Rattle.sw_session.specs.Law.{CoreTalkIsDetermined, CoreRestIsDetermined}
 use Rattle.sw_card.specs.Account.{Account}
 use Rattle.mainframe.specs.Lines.{lines_of}
 use Rattle.mainframe.specs.Cards.{Fitted}
@@ -55,7 +56,8 @@ install_unfailed p slot card f a q s = install_whole ((p.events == last_number) 
 
 -- nor in a join
 join_whole : (b : Bool) (p : Panel) (sid : Sid) (f : Bool) (q : Panel)
-    → MatchBool b (IsUnnumbered p (AskSession Ask.Join) f (SaysSession (Joined sid) None) q) (IsEvent p (AskSession Ask.Join) f (SaysSession (Joined sid) None) q)
+    → MatchBool b (IsUnnumbered p (AskSession Ask.Join) f (SaysSession (Joined sid) None) q)
+    (IsEvent p (AskSession Ask.Join) f (SaysSession (Joined sid) None) q)
     → f ≡ false
 join_whole true p sid f q s = s.unfailed
 join_whole false p sid f q s = s.acts.0
@@ -148,7 +150,8 @@ pub run_once : StepIsDetermined → CoreTalkIsDetermined → CoreRestIsDetermine
     → (cards : Fitted) (sid sid' : Sid) (start start' : Panel) (input bytes bytes' : List ℕ) → IsSetUp cards sid start → IsSetUp cards sid' start'
     → (r : RunsTo sid (begins_over start) input [] bytes) (r' : RunsTo sid' (begins_over start') input [] bytes')
     → IsPlainRun sid (begins_over start) r.done bytes r.after r.run → IsPlainRun sid' (begins_over start') r'.done bytes' r'.after r'.run
-    → outcomes_in_run sid (begins_over start) r.done bytes r.after r.run ≡ outcomes_in_run sid' (begins_over start') r'.done bytes' r'.after r'.run → bytes ≡ bytes'
+    → outcomes_in_run sid (begins_over start) r.done bytes r.after r.run ≡ outcomes_in_run sid' (begins_over start') r'.done bytes' r'.after r'.run
+    → bytes ≡ bytes'
 run_once step talk rest cards sid sid' start start' input bytes bytes' s s' r r' a a' same =
     let u = set_up_once step cards sid sid' start start' s s' in
     let lines : r.done ≡ r'.done = all_lines input r.done r.lines ∙ sym (all_lines input r'.done r'.lines) in

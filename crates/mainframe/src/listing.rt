@@ -1,6 +1,7 @@
 //! Checking a listing: whether the program's cards may do the scan that it lists.
 
-ghost use Rattle.std.specs.Prelude.{◌≡◌, ◌≢◌, true, false, if◌then◌else◌, IfOk, IfErr, IfSome, OnOk, string_bytes, Ok, Err};
+ghost use Rattle.std.specs.Prelude.{◌≡◌, ◌≢◌, true, false, if◌then◌else◌, IfOk, IfErr, IfSome, OnOk, Ok, Err};
+ghost use Rattle.std.specs.Prelude.{string_bytes};
 ghost use Rattle.std.specs.Io.KnownBytes.{IsAtEnd, Keeps};
 ghost use Rattle.sw_base.specs.Limits.{most_points};
 ghost use Rattle.sw_code.specs.Reading.{code_in};

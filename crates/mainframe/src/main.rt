@@ -2,9 +2,9 @@
 //!
 //! `mainframe run [--fuse K]` answers each line of standard input on standard output. The crate's contract is that of
 //! `run::run_lines`: what is written is what the definition of a talk says of what was read, by the step relation of
-//! the core from its opening state. `mainframe check` says of a listing whether the program's cards may do its scan; its
-//! contract is that of `listing::check_listing`. Nothing is promised of what a terminal carries, nor of the texts of
-//! `clap`.
+//! the core from its opening state. `mainframe check` says of a listing whether the program's cards may do its scan;
+//! its contract is that of `listing::check_listing`. Nothing is promised of what a terminal carries, nor of the texts
+//! of `clap`.
 #![tactic(auto)]
 
 mod cards;

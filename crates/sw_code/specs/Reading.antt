@@ -1,5 +1,6 @@
 -- Which code a listing writes, or its first fault by line (own).
-use Rattle.std.specs.Prelude.{ℕ, ◌+◌, ◌-◌, Bool, ◌==◌, ◌&&◌, nat_lt, nat_le, List, [], ◌∷◌, ◌++◌, length, Result, Ok, Err}
+use Rattle.std.specs.Prelude.{ℕ, ◌+◌, ◌-◌, Bool, ◌==◌, ◌&&◌, nat_lt, nat_le, List, [], ◌∷◌, ◌++◌, length}
+use Rattle.std.specs.Prelude.{Result, Ok, Err}
 use Rattle.std.specs.Prelude.{codes, if◌then◌else◌}
 use Rattle.std.specs.List.{list_all, slice_split}
 use Rattle.std.specs.Str.{bytes_eq}
@@ -93,7 +94,8 @@ on_line line (Err kind) = Err (record { line = line; kind = kind })
 
 -- the step on a line; there is room for as many steps after the first two lines
 abbrev pub numbered_step : ℕ → List ℕ → Result Step ListFault
-numbered_step line text = then_read (step_in (parts_at 32 text)) (λ s. if nat_lt (2 + most_steps) line then Err TooLong else Ok s)
+numbered_step line text = then_read (step_in (parts_at 32 text))
+    (λ s. if nat_lt (2 + most_steps) line then Err TooLong else Ok s)
 
 -- The steps of the lines from that number on. What stands behind the last line feed is the last of the texts; it is a
 -- line without its line feed, unless it is empty.

@@ -123,7 +123,8 @@ abbrev IsToldFall : Panel → SessionAnswer → Option WorkView → Panel → Ty
 IsToldFall base a w q = (a ≡ Refused HardwareError) × (w ≡ None) × Falls base q
 
 -- what a happening that is offered tells
-told_happens : (p : Panel) (happening : Happening) (told : TakenSeen) (q : Panel) → Happens p happening true told q → (told ≡ SaysFault) × Falls (cut p p.cage) q
+told_happens : (p : Panel) (happening : Happening) (told : TakenSeen) (q : Panel) → Happens p happening true told q
+    → (told ≡ SaysFault) × Falls (cut p p.cage) q
 told_happens p happening SaysIgnored q h = true_is_false h.0
 told_happens p happening SaysWaits q h = true_is_false h.2.0
 told_happens p happening (SaysPause t u) q h = true_is_false h.2.0

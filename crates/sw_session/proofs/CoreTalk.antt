@@ -90,7 +90,8 @@ told-same (Pauses ticket micros) a a' os os' is is' same =
 told-same (Measures job) a a' os os' (done, ran, is) (done', ran', is') same =
     let all : Measured done.outcome ∷ os ≡ Measured done'.outcome ∷ os' =
     subst (λ (x : AskView). measured x ++ os ≡ Measured done'.outcome ∷ os') is (subst (λ (x : AskView). measured a ++ os ≡ measured x ++ os') is' same) in
-    let one = done-same job done done' ran ran' (made-same done.outcome done'.outcome (head-same (Measured done.outcome) (Measured done'.outcome) os os' all)) in
+    let one = done-same job done done' ran ran'
+    (made-same done.outcome done'.outcome (head-same (Measured done.outcome) (Measured done'.outcome) os os' all)) in
     (is ∙ ap AskFinished one ∙ sym is', tail-same (Measured done.outcome) (Measured done'.outcome) os os' all)
 
 -- an ask
@@ -102,7 +103,8 @@ asked-same once d d' ask ask' r r' q q' desks asks plain plain' keys keys' a a' 
     let here : Step d.panel (AskSession ask) a'.failed (SaysSession r' a'.brings) a'.after =
     subst (λ (x : SessionAsk). Step d.panel (AskSession x) a'.failed (SaysSession r' a'.brings) a'.after) (sym asks)
     (subst (λ (x : DeskSeen). Step x.panel (AskSession ask') a'.failed (SaysSession r' a'.brings) a'.after) (sym desks) a'.step) in
-    let one = once d.panel a.after a'.after (AskSession ask) a.failed a'.failed (SaysSession r a.brings) (SaysSession r' a'.brings) a.step here tolls (plain a.brings)
+    let one = once d.panel a.after a'.after (AskSession ask) a.failed a'.failed (SaysSession r a.brings) (SaysSession r' a'.brings)
+    a.step here tolls (plain a.brings)
     (plain' a'.brings) (keys d.panel a.brings) key in (
       same-answer r r' a.brings a'.brings one.0,
       keeps-same (record d { panel = a.after }) (record d' { panel = a'.after }) a.brings a'.brings q q' (panels-same d d' a.after a'.after desks one.1)

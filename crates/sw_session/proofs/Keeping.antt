@@ -14,7 +14,8 @@ use Rattle.sw_session.specs.declared.desk.View.{View}
 use Rattle.sw_session.specs.declared.desk.Wake.TheVariants.{Again, Over}
 use Rattle.sw_session.specs.Trace.{Entry, Asked, Waited, Polled, Noted, Leads, LeavesOf}
 use Rattle.sw_session.specs.Available.{Notes, with_note}
-use Rattle.sw_session.specs.CoreDesk.{DeskSeen, Carried, CarriesOut, CarriesOldest, Tells, Keeps, IsKept, IsCarried, PassesBy, CorePasses, Rests, most_waits, brought}
+use Rattle.sw_session.specs.CoreDesk.{DeskSeen, Carried, CarriesOut, CarriesOldest, Tells, Keeps, IsKept}
+use Rattle.sw_session.specs.CoreDesk.{IsCarried, PassesBy, CorePasses, Rests, most_waits, brought}
 use Rattle.sw_session.specs.CoreDesk.{piece_seen, view_of}
 use Rattle.sw_session.proofs.Led.{leads-append}
 use Rattle.sw_session.proofs.Nearer.{left, nearer}

@@ -18,8 +18,8 @@ pub fn talk_is_determined()
 }
 
 /// A law: over a mainframe the message, the macros, what is measured and what comes of the cards determine what is
-/// written, the macros after it and the desk that is left, where no growth is refused. What comes of the cards: in which
-/// calls one fails, and how often each has failed after such a call.
+/// written, the macros after it and the desk that is left, where no growth is refused. What comes of the cards: in
+/// which calls one fails, and how often each has failed after such a call.
 pub fn core_talk_is_determined()
     ensures { CoreTalkIsDetermined }
 {

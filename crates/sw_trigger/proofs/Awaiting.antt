@@ -43,7 +43,8 @@ awaiting-passes s k (suc n) =
     ∙ ap (λ l. l ++ awaiting (passes s (suc k) n)) (awaiting-after_head (head_of Trigger s.trigger) (visit (channel_at s.list k)))
     ∙ ap (λ l. in_pass s ++ l) (awaiting-passes s (suc k) n)
 
-awaiting-arm_turns : (name : LayerName) (l : Layer) (inside : List Item) → awaiting (arm_turns name l inside) ≡ repeated l.count (head_of name l ++ awaiting inside)
+awaiting-arm_turns : (name : LayerName) (l : Layer) (inside : List Item)
+    → awaiting (arm_turns name l inside) ≡ repeated l.count (head_of name l ++ awaiting inside)
 awaiting-arm_turns name l inside =
     awaiting-repeated l.count (arm_turn name l inside) ∙ ap (repeated l.count) (awaiting-after_head (head_of name l) inside)
 

@@ -160,7 +160,8 @@ module _ (layout : Layout) (b : Channels) where
       (λ (f : CanPass s k (suc n)). (f k (omega arith) (omega arith), λ j h g. f j (omega arith) (omega arith)))
       (round-append (pass_of s k) (passes s (suc k) n) (round-pass s k) (round-passes s (suc k) n))
 
-  pub round-arm_turn : (name : LayerName) (l : Layer) (inside : List Item) {P : Type 0} → IsRound layout b P inside → IsRound layout b P (arm_turn name l inside)
+  pub round-arm_turn : (name : LayerName) (l : Layer) (inside : List Item) {P : Type 0}
+      → IsRound layout b P inside → IsRound layout b P (arm_turn name l inside)
   round-arm_turn name l inside {P = P} r =
       round-like (arm_turn name l inside) (λ (w : Unit {0} × P). w.1) (λ (h : P). (tt, h))
       (round-append (map Awaits (head_of name l)) inside (round-awaits (head_of name l)) r)
