@@ -1,5 +1,6 @@
 -- How events are counted, each once, in shares that together are their number.
-use Rattle.std.specs.Prelude.{◌==◌, ◌&&◌, ℕ, Bool, true, false, not, List, if◌then◌else◌}
+use Rattle.std.specs.Prelude.{◌==◌, ◌&&◌, ℕ, Bool, true, false, not, List, [], ◌∷◌, ◌++◌}
+use Rattle.circular_buffer.specs.Buffer.{keep_last}
 use Rattle.sw_core.specs.declared.ask.SessionAnswer.{SessionAnswer}
 use Rattle.sw_core.specs.declared.ask.SessionAnswer.TheVariants.{Stranger, Broken, Hold, Worn}
 use Rattle.sw_core.specs.Panel.{Panel}
@@ -36,6 +37,11 @@ all_parts = 8589934593
 -- how many events are told of
 abbrev pub most_notes : ℕ
 most_notes = 64
+
+-- the notes after an event that is numbered, or after what is not
+abbrev pub noted : Bool → List Note → Note → List Note
+noted true notes note = keep_last most_notes (notes ++ note ∷ [])
+noted false notes note = notes
 
 -- what is behind the lock: the mainframe's panel, how many desks there are, and the last events, the oldest first
 pub record Locked : Type 0 where

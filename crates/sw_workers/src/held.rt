@@ -1,9 +1,11 @@
 //! What stands behind the lock: the mainframe, how its events are counted, and the notes of the last ones.
 
 ghost use Rattle.std.specs.Prelude.{◌≡◌, ◌+◌, ℕ, [], IfOk, IfSome, IfNone};
+ghost use Rattle.sw_status.specs.StatusModel.{summary_of};
 ghost use Rattle.sw_core.specs.View.{ask_view, answer_view, failed_in, HandsBack};
 ghost use Rattle.sw_core.specs.Step.{Step};
-ghost use Rattle.sw_workers.specs.Shares.{all_parts, is_counted, one_if};
+ghost use Rattle.sw_workers.specs.Kinds.{kind_of};
+ghost use Rattle.sw_workers.specs.Shares.{all_parts, is_counted, one_if, noted};
 
 use crate::note::{Note, kind};
 use circular_buffer::HeapCircularBuffer;
@@ -42,6 +44,9 @@ pub struct Held<H: House, R: Relay, M: Meter> {
     /// How many desks there are.
     given: u64,
     notes: HeapCircularBuffer<Note>,
+    /// Changes with each event, and where the end begins.
+    turn: u64,
+    closing: bool,
 }
 
 impl<H: House, R: Relay, M: Meter> Model for Held<H, R, M> {
@@ -84,6 +89,8 @@ impl<H: House, R: Relay, M: Meter> Held<H, R, M> {
             spare: Some(spare),
             given: 0,
             notes,
+            turn: 0,
+            closing: false,
         })
     }
 
@@ -126,6 +133,32 @@ impl<H: House, R: Relay, M: Meter> Held<H, R, M> {
         self.core.events()
     }
 
+    /// What changes with each event. Where no event can be numbered any more, it changes with each ask.
+    pub fn turn(&self) -> u64 {
+        self.turn
+    }
+
+    /// Nobody has to wait any more.
+    pub fn close(&mut self)
+        ensures { self.new ≡ self.old }
+    {
+        self.closing = true;
+        self.turn = self.turn.wrapping_add(1);
+    }
+
+    /// Whether the end has begun.
+    pub fn is_closing(&self) -> bool {
+        self.closing
+    }
+
+    /// The status byte without bits 4 and 6, and the number of service requests so far.
+    pub fn pair(&self) -> (u8, u64)
+        ensures byte { result.0 ≡ summary_of self.now.panel.status }
+        ensures requests { result.1 ≡ self.now.panel.status.requests }
+    {
+        self.core.pair()
+    }
+
     /// Asks the mainframe. An event that is numbered counts in the desk's share, once, and is noted.
     #[tactic(auto, using(crate::proofs::Counted::step_counted))]
     pub fn ask(&mut self, part: &mut DeskPart<H>, ask: Ask<R, M>) -> Answer<R, M>
@@ -136,14 +169,20 @@ impl<H: House, R: Relay, M: Meter> Held<H, R, M> {
         ensures share { part.new.share.amount
             ≡ part.old.share.amount + one_if (is_counted self.old.panel.events (answer_view result)) }
         ensures given { self.new.given ≡ self.old.given }
+        ensures notes { self.new.notes ≡ noted (is_counted self.old.panel.events (answer_view result)) self.old.notes
+            (record { number = self.old.panel.events + 1; ask = kind_of ask }) }
     {
         let before = self.core.events();
+        if before == u64::MAX {
+            self.turn = self.turn.wrapping_add(1);
+        }
         let kind = kind(&ask);
         let answer = self.core.apply(self.alloc, ask);
         let number = self.core.events();
         if number == before {
             return answer;
         }
+        self.turn = self.turn.wrapping_add(1);
         self.events.add(&mut part.share, 1);
         let _ = self.notes.push_back(Note { number, ask: kind });
         answer
