@@ -9,3 +9,4 @@ pub mod HandedBack
 pub mod Acted
 pub mod Determined
 pub mod CoreTalk
+mod Order
