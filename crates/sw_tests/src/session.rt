@@ -11,7 +11,7 @@ use sw_kinds::{Mux, SimDriver, SimSource, Volt};
 use sw_lex::Command;
 use sw_session::{CoreDesk, Desk, Talker, View, Wake};
 use sw_trigger::Settings;
-use sw_verify::{Layout, Slot, Snapshot};
+use sw_verify::{BoxedSnapshot, Layout, Slot, Snapshot};
 
 /// A desk that identifies itself, finds no hardware for anything else, and holds the first units.
 #[derive(Drop)]
@@ -28,7 +28,7 @@ struct Canned {
     /// Whether the last unit was told that its message had answered before.
     answered: bool,
     /// What the next scan would begin from; where there is nothing, a snapshot is refused.
-    snapshot: Option<Snapshot>,
+    snapshot: Option<BoxedSnapshot>,
     /// How many scans were started.
     started: u32,
 }
@@ -219,7 +219,7 @@ fn takes_65536_bytes(rt: HostRuntime) -> Result<(), Fail> {
 }
 
 /// A cage of four channels in slot 1 and a meter in slot 4, where these channels are to be scanned.
-fn snapshot(alloc: Global, list: &[Chan]) -> Result<Snapshot, Fail> {
+fn snapshot(alloc: Global, list: &[Chan]) -> Result<BoxedSnapshot, Fail> {
     let mut settings = Settings::new(alloc);
     settings.set_list(list.to_vec(alloc)?)?;
     let mut slots = Vec::new(alloc);
@@ -227,11 +227,12 @@ fn snapshot(alloc: Global, list: &[Chan]) -> Result<Snapshot, Fail> {
     slots.push(Slot::empty())?;
     slots.push(Slot::empty())?;
     slots.push(Slot::meter())?;
-    Ok(Snapshot {
+    let snapshot = Snapshot {
         settings,
         layout: Layout::new(slots),
         closed: Sequence::new(Vec::new(alloc)),
-    })
+    };
+    Ok(BoxedSnapshot::new(alloc, snapshot)?)
 }
 
 /// The desk's next scan would begin from these channels.
