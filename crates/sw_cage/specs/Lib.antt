@@ -1,5 +1,4 @@
 pub mod Accounts
-pub mod Masks
 pub mod Change
 pub mod Install
 pub mod Close
