@@ -193,7 +193,7 @@ GivesTrigger false sid asked final = Settles sid 0 (Ask.Bus sid) asked final []
 
 -- what a trigger comes to
 abbrev pub trigger_step : SessionAnswer → Step
-trigger_step final = if is_gone final then over else goes []
+trigger_step final = record { out = []; ends = is_gone final }
 
 -- Trigger: what came of a program message is dropped
 abbrev pub Triggers : Bool → Sid → List Entry → Step → Type 0
@@ -246,14 +246,18 @@ Completes sid asked step = ⊥
 abbrev pub completed : SyncStanding → Step → SyncStanding
 completed s step = if step.ends then s else record s { front = Front.Nothing }
 
+-- what the messages that are no part of a program say
+abbrev pub RepliesSync : SyncRequest → SyncStanding → List Entry → Step → SyncStanding → Type 0
+RepliesSync Request.ClearComplete s asked step s' = Completes s.sid asked step × (s' ≡ completed s step)
+RepliesSync Request.Leave s asked step s' = Unasked over asked step × (s' ≡ s)
+RepliesSync Request.Nothing s asked step s' = Unasked (goes []) asked step × (s' ≡ s)
+RepliesSync Request.Initialize s asked step s' = Unasked (fails Synchronous InvalidInitialization) asked step × (s' ≡ s)
+RepliesSync Request.Vendor s asked step s' = Unasked (responds (error_of UnrecognizedVendor)) asked step × (s' ≡ s)
+RepliesSync Request.Misplaced s asked step s' = Unasked (responds (error_of UnrecognizedType)) asked step × (s' ≡ s)
+RepliesSync request s asked step s' = ⊥
+
 abbrev pub TakesSyncBy : SyncRequest → SyncStanding → Message → List Entry → Step → SyncStanding → Type 0
-TakesSyncBy Request.ClearComplete s m asked step s' = Completes s.sid asked step × (s' ≡ completed s step)
-TakesSyncBy Request.Leave s m asked step s' = Unasked over asked step × (s' ≡ s)
-TakesSyncBy Request.Nothing s m asked step s' = Unasked (goes []) asked step × (s' ≡ s)
-TakesSyncBy Request.Initialize s m asked step s' = Unasked (fails Synchronous InvalidInitialization) asked step × (s' ≡ s)
-TakesSyncBy Request.Vendor s m asked step s' = Unasked (responds (error_of UnrecognizedVendor)) asked step × (s' ≡ s)
-TakesSyncBy Request.Misplaced s m asked step s' = Unasked (responds (error_of UnrecognizedType)) asked step × (s' ≡ s)
-TakesSyncBy request s m asked step s' = ServesProgram request s m asked step s'
+TakesSyncBy request s m asked step s' = MatchBool (is_program request) (ServesProgram request s m asked step s') (RepliesSync request s asked step s')
 
 -- one message of the synchronous channel
 abbrev pub TakesSync : SyncStanding → Message → List Entry → Step → SyncStanding → Type 0

@@ -1,7 +1,7 @@
 //! The front of a program message.
 
 ghost use Rattle.std.specs.Prelude.{◌≡◌, IfOk};
-ghost use Rattle.sw_session.specs.EngineSync.{with_part, whole, skipped};
+ghost use Rattle.sw_session.specs.EngineSync.{with_part, whole, skipped, is_within};
 
 use crate::engine::requests::SyncRequest;
 use std::alloc::AllocError;
@@ -61,4 +61,11 @@ pub fn skipped(request: SyncRequest, front: Front) -> Front
         }
         _ => front,
     }
+}
+
+/// Whether some part of a program message has come.
+pub fn is_within(front: &Front) -> bool
+    ensures { result ≡ is_within front.now }
+{
+    !matches!(front, Front::Nothing)
 }

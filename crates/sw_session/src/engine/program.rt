@@ -2,8 +2,8 @@
 
 ghost use Rattle.std.specs.Prelude.{◌≡◌, ◌≤◌, ◌++◌, List, [], map, true, false, IfOk, OnErr, vec_capacity};
 ghost use Rattle.sw_session.specs.EngineSync as EngineSync;
-ghost use Rattle.sw_session.specs.EngineStep.{LedBy, on, goes, reply_step};
-ghost use Rattle.sw_session.specs.EngineSync.{newly_joined, TakesSync, TakesSyncBy, ServesProgram, Attended, Programs};
+ghost use Rattle.sw_session.specs.EngineStep.{LedBy, on, goes, joined, reply_step};
+ghost use Rattle.sw_session.specs.EngineSync.{newly_joined, TakesSync, RepliesSync, Completes, completed, ServesProgram, Attended, Programs};
 ghost use Rattle.sw_session.specs.EngineSync.{Finishes, Converses, Answers, CutsTo, said_of, skipped, SaysMore, is_program};
 ghost use Rattle.sw_session.specs.EngineKinds.{sync_request};
 ghost use Rattle.sw_session.specs.Engine.{Falters};
@@ -11,9 +11,9 @@ ghost use Rattle.sw_session.specs.declared.engine.step.Channel.TheVariants.{Sync
 
 use crate::desk::Desk;
 use crate::engine::answers::{cut, room_of};
-use crate::engine::front::{Front, skipped, whole, with_part};
+use crate::engine::front::{Front, is_within, skipped, whole, with_part};
 use crate::engine::refusals::{ErrorCode, FatalCode, error};
-use crate::engine::requests::{SyncRequest, sync_request};
+use crate::engine::requests::{SyncRequest, is_program, sync_request};
 use crate::engine::responses::plain;
 use crate::engine::step::{Channel, Reply, Sent, Step, step_of};
 use crate::engine::synchronous::{Delivery, attend, complete, deliver, trigger};
@@ -87,42 +87,42 @@ impl SyncSession {
         ensures same { self.new.sid ≡ self.old.sid }
     {
         let room = Vec::with_capacity(alloc, 2)?;
-        match sync_request(message.kind) {
-            request @ (SyncRequest::Part | SyncRequest::End | SyncRequest::Trigger) => {
-                self.program(alloc, request, message, room, desk)
-            }
-            request => {
-                drop(message);
-                let reply = self.reply(alloc, request, desk);
-                Ok(step_of(alloc, Channel::Synchronous, room, reply))
-            }
+        let request = sync_request(message.kind);
+        if is_program(request) {
+            return self.program(alloc, request, message, room, desk);
         }
+        drop(message);
+        let reply = self.reply(alloc, request, desk);
+        Ok(step_of(alloc, Channel::Synchronous, room, reply))
     }
 
     /// The reply to a message that is no part of a program.
     fn reply<D: Desk>(&mut self, alloc: Global, request: SyncRequest, desk: &mut D) -> Reply
-        ensures ok { (m : Message) → (is_program request ≡ false) → LedBy D.passes desk.old desk.new (λ asked.
-            TakesSyncBy request self.old m asked (reply_step Synchronous result) self.new) }
+        requires { is_program request ≡ false }
+        ensures replies { LedBy D.passes desk.old desk.new (λ asked.
+            RepliesSync request self.old asked (reply_step Synchronous result) self.new) }
         ensures same { self.new.sid ≡ self.old.sid }
     {
         match request {
             SyncRequest::ClearComplete => self.complete(alloc, desk),
+            SyncRequest::Leave => Reply::Leaves,
             SyncRequest::Nothing => Reply::Silence,
             SyncRequest::Initialize => Reply::Fails(FatalCode::InvalidInitialization),
             SyncRequest::Vendor => Reply::Says(error(alloc, ErrorCode::UnrecognizedVendor)),
             SyncRequest::Misplaced => Reply::Says(error(alloc, ErrorCode::UnrecognizedType)),
-            _ => Reply::Leaves,
+            SyncRequest::Part | SyncRequest::End | SyncRequest::Trigger => unreachable!(),
         }
     }
 
     /// Answers a DeviceClearComplete; what came of a program message is dropped.
     fn complete<D: Desk>(&mut self, alloc: Global, desk: &mut D) -> Reply
-        ensures ok { (m : Message) → LedBy D.passes desk.old desk.new (λ asked.
-            TakesSyncBy SyncRequest.ClearComplete self.old m asked (reply_step Synchronous result) self.new) }
+        ensures asked { LedBy D.passes desk.old desk.new (λ asked.
+            Completes self.old.sid asked (reply_step Synchronous result)) }
+        ensures state { self.new ≡ completed self.old (reply_step Synchronous result) }
         ensures same { self.new.sid ≡ self.old.sid }
     {
         let reply = complete(alloc, self.sid, desk);
-        if matches!(&reply, Reply::Says(_)) {
+        if !ends(&reply) {
             self.front = Front::Nothing;
         }
         reply
@@ -206,7 +206,7 @@ impl SyncSession {
 
     /// Keeps a part of a program message.
     fn keep(&mut self, part: Sequence<u8>, said: Vec<Sent>) -> Result<Step, AllocError>
-        ensures kept { IfOk result (λ step. (step ≡ goes said.items)
+        ensures kept { IfOk result (λ step. (step ≡ joined (goes said.items) (goes []))
             × (self.new ≡ record self.old { front = EngineSync.with_part self.old.front part })) }
         ensures same { self.new.sid ≡ self.old.sid }
     {
@@ -221,7 +221,7 @@ impl SyncSession {
             SaysMore said.items result (λ own. Programs SyncRequest.Trigger self.old m asked own self.new)) }
         ensures same { self.new.sid ≡ self.old.sid }
     {
-        let within = !matches!(&self.front, Front::Nothing);
+        let within = is_within(&self.front);
         let ends = trigger(self.sid, within, desk);
         self.front = Front::Nothing;
         told(said, ends)
@@ -269,9 +269,16 @@ impl SyncSession {
     }
 }
 
-/// What is said, and whether the channel ends.
+/// Whether the channel ends with a reply.
+fn ends(reply: &Reply) -> bool
+    ensures { result ≡ (reply_step Synchronous reply.now).ends }
+{
+    matches!(reply, Reply::Fails(_) | Reply::Leaves)
+}
+
+/// What was said before, with nothing more; whether the channel ends.
 fn told(said: Vec<Sent>, ends: bool) -> Step
-    ensures { result ≡ record { out = said.items; ends = ends } }
+    ensures { result ≡ joined (goes said.items) (record { out = []; ends = ends }) }
 {
     Step {
         out: Sequence::new(said),
@@ -334,6 +341,13 @@ fn say_parts(
         return Ok(said);
     }
     let parts = cut(alloc, id, room_of(size), bytes)?;
+    say_all(parts, said)
+}
+
+/// What was said before, and these messages.
+fn say_all(parts: Vec<Message>, said: Vec<Sent>) -> Result<Vec<Sent>, AllocError>
+    ensures { IfOk result (λ all. all.items ≡ said.items ++ map (on Synchronous) parts.items) }
+{
     let mut said = said;
     for message in parts {
         let channel = Channel::Synchronous;

@@ -2,6 +2,7 @@
 
 ghost use Rattle.std.specs.Prelude.{◌≡◌};
 ghost use Rattle.sw_session.specs.EngineKinds.{sync_request, async_request};
+ghost use Rattle.sw_session.specs.EngineSync.{is_program};
 
 use sw_hislip::Kind;
 
@@ -89,4 +90,14 @@ pub fn async_request(kind: Kind) -> AsyncRequest
         Kind::Vendor(_) => AsyncRequest::Vendor,
         _ => AsyncRequest::Misplaced,
     }
+}
+
+/// Whether this is asked by a message of a program.
+pub fn is_program(request: SyncRequest) -> bool
+    ensures { result ≡ is_program request }
+{
+    matches!(
+        request,
+        SyncRequest::Part | SyncRequest::End | SyncRequest::Trigger
+    )
 }

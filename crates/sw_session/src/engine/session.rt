@@ -1,7 +1,9 @@
 //! One channel of a session.
 
-ghost use Rattle.std.specs.Prelude.{◌≡◌, true, false, IfOk, OnErr, OnOk};
-ghost use Rattle.sw_session.specs.Engine.{fresh, Takes, session_of, Falters, too_large, skips, notice_from, noticed_from};
+ghost use Rattle.std.specs.Prelude.{◌≡◌, ◌≤◌, [], true, false, IfOk, OnErr, OnOk, vec_capacity};
+ghost use Rattle.sw_session.specs.Engine.{fresh, Takes, session_of, Falters, too_large, skips, notice_from, noticed_from, opened_sync, opened_async};
+ghost use Rattle.sw_session.specs.EngineSync as EngineSync;
+ghost use Rattle.sw_session.specs.EngineAsync as EngineAsync;
 ghost use Rattle.sw_session.specs.EngineStep.{LedBy};
 
 use crate::desk::{Desk, View};
@@ -9,11 +11,10 @@ use crate::engine::asynchronous::AsyncSession;
 use crate::engine::initialization::{second_welcome, welcome};
 use crate::engine::program::SyncSession;
 use crate::engine::refusals::{ErrorCode, error};
-use crate::engine::step::{Channel, Reply, Step, step_of};
+use crate::engine::step::{Channel, Reply, Sent, Step, step_of};
 use crate::engine::synchronous;
 use std::alloc::{AllocError, Global};
 use std::marker::Model;
-use std::mem::replace;
 use sw_core::Sid;
 use sw_hislip::{Kind, Message};
 
@@ -126,58 +127,109 @@ impl State {
         ensures session { OnErr result (session_of self.new ≡ session_of self.old) }
     {
         match self {
-            State::Unopened(Channel::Synchronous) => self.join(alloc, message, desk),
-            State::Unopened(Channel::Asynchronous) => self.attach(alloc, message, desk),
+            State::Unopened(channel) => {
+                let opened = open(alloc, *channel, message, desk)?;
+                *self = opened.state;
+                Ok(opened.step)
+            }
             State::Synchronized(session) => session.take(alloc, message, desk),
             State::Attached(session) => session.take(alloc, message, desk),
         }
     }
+}
 
-    /// Begins the synchronous channel.
-    fn join<D: Desk>(
-        &mut self,
-        alloc: Global,
-        message: Message,
-        desk: &mut D,
-    ) -> Result<Step, AllocError>
-        requires { self.old ≡ State.Unopened Channel.Synchronous }
-        ensures ok { IfOk result (λ step. LedBy D.passes desk.old desk.new (λ asked.
-            Takes self.old message asked step self.new)) }
-        ensures unasked { OnErr result (desk.new ≡ desk.old) }
-        ensures same { OnErr result (self.new ≡ self.old) }
-    {
-        let room = Vec::with_capacity(alloc, 1)?;
-        let reply = match synchronous::open(&message, desk) {
-            Ok(sid) => {
-                *self = State::Synchronized(SyncSession::new(alloc, sid));
-                Reply::Says(welcome(alloc, message.parameter, sid.number))
-            }
-            Err(reply) => reply,
-        };
-        Ok(step_of(alloc, Channel::Synchronous, room, reply))
+/// What is said to the first message, and how the channel stands then.
+#[derive(Drop)]
+struct Opened {
+    step: Step,
+    state: State,
+}
+
+/// Serves the first message of a channel.
+fn open<D: Desk>(
+    alloc: Global,
+    channel: Channel,
+    message: Message,
+    desk: &mut D,
+) -> Result<Opened, AllocError>
+    ensures ok { IfOk result (λ opened. LedBy D.passes desk.old desk.new (λ asked.
+        Takes (State.Unopened channel) message asked opened.step opened.state)) }
+    ensures unasked { OnErr result (desk.new ≡ desk.old) }
+{
+    let room = Vec::with_capacity(alloc, 1)?;
+    match channel {
+        Channel::Synchronous => Ok(join(alloc, room, message, desk)),
+        Channel::Asynchronous => Ok(attach(alloc, room, message, desk)),
     }
+}
 
-    /// Begins the asynchronous channel.
-    fn attach<D: Desk>(
-        &mut self,
-        alloc: Global,
-        message: Message,
-        desk: &mut D,
-    ) -> Result<Step, AllocError>
-        requires { self.old ≡ State.Unopened Channel.Asynchronous }
-        ensures ok { IfOk result (λ step. LedBy D.passes desk.old desk.new (λ asked.
-            Takes self.old message asked step self.new)) }
-        ensures unasked { OnErr result (desk.new ≡ desk.old) }
-        ensures same { OnErr result (self.new ≡ self.old) }
-    {
-        let room = Vec::with_capacity(alloc, 1)?;
-        let reply = match AsyncSession::open(message.kind, message.parameter, desk) {
-            Ok(session) => {
-                *self = State::Attached(session);
-                Reply::Says(second_welcome(alloc))
-            }
-            Err(reply) => reply,
-        };
-        Ok(step_of(alloc, Channel::Asynchronous, room, reply))
+/// Begins the synchronous channel.
+fn join<D: Desk>(alloc: Global, room: Vec<Sent>, message: Message, desk: &mut D) -> Opened
+    requires empty { room.items ≡ [] }
+    requires room { 1 ≤ vec_capacity room }
+    ensures { LedBy D.passes desk.old desk.new (λ asked.
+        Takes (State.Unopened Channel.Synchronous) message asked result.step result.state) }
+{
+    let parameter = message.parameter;
+    let session = synchronous::open(&message, desk);
+    joined(alloc, room, parameter, session)
+}
+
+/// How the synchronous channel stands once a session was asked for.
+fn joined(alloc: Global, room: Vec<Sent>, parameter: u32, session: Result<Sid, Reply>) -> Opened
+    requires empty { room.items ≡ [] }
+    requires room { 1 ≤ vec_capacity room }
+    ensures step { result.step ≡ EngineSync.opened_step parameter session }
+    ensures state { result.state ≡ opened_sync (EngineSync.opened_session session) }
+{
+    match session {
+        Ok(sid) => Opened {
+            step: step_of(
+                alloc,
+                Channel::Synchronous,
+                room,
+                Reply::Says(welcome(alloc, parameter, sid.number)),
+            ),
+            state: State::Synchronized(SyncSession::new(alloc, sid)),
+        },
+        Err(reply) => Opened {
+            step: step_of(alloc, Channel::Synchronous, room, reply),
+            state: State::Unopened(Channel::Synchronous),
+        },
+    }
+}
+
+/// Begins the asynchronous channel.
+fn attach<D: Desk>(alloc: Global, room: Vec<Sent>, message: Message, desk: &mut D) -> Opened
+    requires empty { room.items ≡ [] }
+    requires room { 1 ≤ vec_capacity room }
+    ensures { LedBy D.passes desk.old desk.new (λ asked.
+        Takes (State.Unopened Channel.Asynchronous) message asked result.step result.state) }
+{
+    let session = AsyncSession::open(message.kind, message.parameter, desk);
+    attached(alloc, room, session)
+}
+
+/// How the asynchronous channel stands once it was asked for.
+fn attached(alloc: Global, room: Vec<Sent>, session: Result<AsyncSession, Reply>) -> Opened
+    requires empty { room.items ≡ [] }
+    requires room { 1 ≤ vec_capacity room }
+    ensures step { result.step ≡ EngineAsync.opened_step session }
+    ensures state { result.state ≡ opened_async (EngineAsync.opened_session session) }
+{
+    match session {
+        Ok(session) => Opened {
+            step: step_of(
+                alloc,
+                Channel::Asynchronous,
+                room,
+                Reply::Says(second_welcome(alloc)),
+            ),
+            state: State::Attached(session),
+        },
+        Err(reply) => Opened {
+            step: step_of(alloc, Channel::Asynchronous, room, reply),
+            state: State::Unopened(Channel::Asynchronous),
+        },
     }
 }
