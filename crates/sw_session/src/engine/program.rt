@@ -3,7 +3,7 @@
 ghost use Rattle.std.specs.Prelude.{◌≡◌, ◌≤◌, ◌++◌, List, [], map, true, false, IfOk, OnErr, vec_capacity};
 ghost use Rattle.sw_session.specs.EngineSync as EngineSync;
 ghost use Rattle.sw_session.specs.EngineStep.{LedBy, on, goes, joined, reply_step};
-ghost use Rattle.sw_session.specs.EngineSync.{newly_joined, TakesSync, RepliesSync, Completes, completed, ServesProgram, Attended, Programs};
+ghost use Rattle.sw_session.specs.EngineSync.{newly_joined, TakesSync, RepliesSync, Completes, completed, Triggers, is_within, ServesProgram, Attended, Programs};
 ghost use Rattle.sw_session.specs.EngineSync.{Finishes, Converses, Answers, CutsTo, said_of, skipped, SaysMore, is_program};
 ghost use Rattle.sw_session.specs.EngineKinds.{sync_request};
 ghost use Rattle.sw_session.specs.Engine.{Falters};
@@ -197,10 +197,16 @@ impl SyncSession {
         match request {
             SyncRequest::Part => self.keep(message.payload, said),
             SyncRequest::End => self.finish(alloc, message.parameter, message.payload, said, desk),
-            _ => {
+            SyncRequest::Trigger => {
                 drop(message);
                 Ok(self.trigger(said, desk))
             }
+            SyncRequest::ClearComplete
+            | SyncRequest::Leave
+            | SyncRequest::Nothing
+            | SyncRequest::Initialize
+            | SyncRequest::Vendor
+            | SyncRequest::Misplaced => unreachable!(),
         }
     }
 
@@ -217,8 +223,9 @@ impl SyncSession {
 
     /// Gives a trigger, and drops what came of a program message.
     fn trigger<D: Desk>(&mut self, said: Vec<Sent>, desk: &mut D) -> Step
-        ensures ok { (m : Message) → LedBy D.passes desk.old desk.new (λ asked.
-            SaysMore said.items result (λ own. Programs SyncRequest.Trigger self.old m asked own self.new)) }
+        ensures ok { LedBy D.passes desk.old desk.new (λ asked.
+            SaysMore said.items result (λ own. Triggers (is_within self.old.front) self.old.sid asked own)) }
+        ensures state { self.new ≡ record self.old { front = Front.Nothing } }
         ensures same { self.new.sid ≡ self.old.sid }
     {
         let within = is_within(&self.front);
