@@ -15,3 +15,4 @@ pub mod EngineAsks
 pub mod LockWaits
 pub mod AsyncRows
 pub mod SyncRows
+pub mod SyncAnswers
