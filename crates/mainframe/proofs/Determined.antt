@@ -8,17 +8,19 @@ use Rattle.sw_core.specs.Panel.{Panel, opening}
 use Rattle.sw_core.specs.View.{AskSession, AskInstall, AnswerView, SaysSession, SaysInstalled, SaysNotInstalled, SaysWorn}
 use Rattle.sw_core.specs.Event.{last_number}
 use Rattle.sw_core.specs.Step.{Acts, acts_unnumbered, IsWorn, IsEvent, IsUnnumbered, Step}
-use Rattle.sw_core.specs.Run.{IsPlain, StepIsDetermined}
+use Rattle.sw_cage.specs.Accounts.{Accounts}
+use Rattle.sw_core.specs.Run.{IsPlain, toll, StepIsDetermined}
 use Rattle.sw_base.specs.declared.reading.Reading.{Reading}
 use Rattle.sw_card.specs.declared.board.CardFault.{CardFault}
 use Rattle.sw_macro.specs.Table.{Table}
 use Rattle.sw_session.specs.CoreDesk.{DeskSeen, Rests}
-use Rattle.sw_session.specs.Law.{AllSmooth, waits_of, carried_in, carried_at_rest, outcomes_of, CoreTalkIsDetermined, CoreRestIsDetermined}
+use Rattle.sw_session.specs.Law.{AllSmooth, waits_of, carried_in, carried_at_rest, outcomes_in_talk, outcomes_at_rest}
+use Rattle.sw_session.specs.Law.{CoreTalkIsDetermined, CoreRestIsDetermined}
 use Rattle.sw_card.specs.Account.{Account}
 use Rattle.mainframe.specs.Lines.{lines_of}
 use Rattle.mainframe.specs.Cards.{Fitted}
 use Rattle.mainframe.specs.Run.{State, state, begins_over, Stepped, AsksInTurn, Joins, IsSetUp, Line, Run, RunsTo}
-use Rattle.mainframe.specs.Law.{IsPlainLine, IsPlainRun, measured_in}
+use Rattle.mainframe.specs.Law.{IsPlainLine, IsPlainRun, outcomes_in_run}
 
 -- an offer of a card is answered plainly
 install_worn : (slot : ℕ) (card : Account) (a : AnswerView) → IsWorn (AskInstall slot card) a → IsPlain a
@@ -38,10 +40,41 @@ install_either false p slot card f a q s = install_acts p slot card f a s.done s
 install_plain : (p : Panel) (slot : ℕ) (card : Account) (f : Bool) (a : AnswerView) (q : Panel) → Step p (AskInstall slot card) f a q → IsPlain a
 install_plain p slot card f a q s = install_either ((p.events == last_number) && not (acts_unnumbered (AskInstall slot card))) p slot card f a q s
 
+-- and no card fails in it
+install_done : (p : Panel) (slot : ℕ) (card : Account) (f : Bool) (a : AnswerView) (q : Panel) → Acts p (AskInstall slot card) f a q → f ≡ false
+install_done p slot card f SaysInstalled q s = s.0
+install_done p slot card f (SaysNotInstalled r) q s = s.0
+install_done p slot card f a q s = absurd s
+
+install_whole : (b : Bool) (p : Panel) (slot : ℕ) (card : Account) (f : Bool) (a : AnswerView) (q : Panel)
+    → MatchBool b (IsUnnumbered p (AskInstall slot card) f a q) (IsEvent p (AskInstall slot card) f a q) → f ≡ false
+install_whole true p slot card f a q s = s.unfailed
+install_whole false p slot card f a q s = install_done p slot card f a s.done s.acts
+
+install_unfailed : (p : Panel) (slot : ℕ) (card : Account) (f : Bool) (a : AnswerView) (q : Panel) → Step p (AskInstall slot card) f a q → f ≡ false
+install_unfailed p slot card f a q s = install_whole ((p.events == last_number) && not (acts_unnumbered (AskInstall slot card))) p slot card f a q s
+
+-- nor in a join
+join_whole : (b : Bool) (p : Panel) (sid : Sid) (f : Bool) (q : Panel)
+    → MatchBool b (IsUnnumbered p (AskSession Ask.Join) f (SaysSession (Joined sid) None) q)
+    (IsEvent p (AskSession Ask.Join) f (SaysSession (Joined sid) None) q)
+    → f ≡ false
+join_whole true p sid f q s = s.unfailed
+join_whole false p sid f q s = s.acts.0
+
+join_unfailed : (p : Panel) (sid : Sid) (f : Bool) (q : Panel) → Step p (AskSession Ask.Join) f (SaysSession (Joined sid) None) q → f ≡ false
+join_unfailed p sid f q s = join_whole ((p.events == last_number) && not (acts_unnumbered (AskSession Ask.Join))) p sid f q s
+
+-- where none fails, nothing comes of the cards
+no_toll : (f f' : Bool) (r r' : Accounts) → f ≡ false → f' ≡ false → toll f r ≡ toll f' r'
+no_toll f f' r r' e e' = ap (λ (x : Bool). toll x r) e ∙ sym (ap (λ (x : Bool). toll x r') e')
+
 install_once : StepIsDetermined → (p q q' : Panel) (slot : ℕ) (card : Account) → Stepped p (AskInstall slot card) q → Stepped p (AskInstall slot card) q'
     → q ≡ q'
 install_once law p q q' slot card s t =
-    (law p q q' (AskInstall slot card) s.failed t.failed s.answer t.answer s.step t.step (install_plain p slot card s.failed s.answer q s.step)
+    let tolls = no_toll s.failed t.failed q.cage.cards q'.cage.cards (install_unfailed p slot card s.failed s.answer q s.step)
+    (install_unfailed p slot card t.failed t.answer q' t.step) in
+    (law p q q' (AskInstall slot card) s.failed t.failed s.answer t.answer s.step t.step tolls (install_plain p slot card s.failed s.answer q s.step)
     (install_plain p slot card t.failed t.answer q' t.step) tt tt).1
 
 offers_once : StepIsDetermined → (cards : Fitted) (p p' q q' : Panel) → p ≡ p'
@@ -56,8 +89,10 @@ offers_once law cards p p' q q' e (a, s, (b, t, (c, u, (d, v, is)))) (a', s', (b
 
 joined_once : StepIsDetermined → (sid sid' : Sid) (q q' : Panel) → Joins sid q → Joins sid' q' → (sid ≡ sid') × (q ≡ q')
 joined_once law sid sid' q q' j k =
-    let r = law opening q q' (AskSession Ask.Join) j.failed k.failed (SaysSession (Joined sid) None) (SaysSession (Joined sid') None) j.step k.step tt tt
-    tt tt in
+    let tolls = no_toll j.failed k.failed q.cage.cards q'.cage.cards (join_unfailed opening sid j.failed q j.step)
+    (join_unfailed opening sid' k.failed q' k.step) in
+    let r = law opening q q' (AskSession Ask.Join) j.failed k.failed (SaysSession (Joined sid) None) (SaysSession (Joined sid') None) j.step k.step tolls tt
+    tt tt tt in
     let e : SaysSession (Joined sid) None ≡ SaysSession (Joined sid') None = r.0 in
     (let s : sid ≡ sid' = cc in s, r.1)
 
@@ -72,12 +107,12 @@ state_same s s' d m = ap (λ (x : DeskSeen). state x s.macros) d ∙ ap (λ (x :
 -- one line
 line_same : CoreTalkIsDetermined → CoreRestIsDetermined
     → (sid : Sid) (s e e' : State) (line told told' : List ℕ) (l : Line sid s line told e) (l' : Line sid s line told' e') → IsPlainLine l → IsPlainLine l'
-    → outcomes_of (carried_in l.talked) ≡ outcomes_of (carried_in l'.talked) → outcomes_of (carried_at_rest l.rests) ≡ outcomes_of (carried_at_rest l'.rests)
+    → outcomes_in_talk l.talked ≡ outcomes_in_talk l'.talked → outcomes_at_rest l.rests ≡ outcomes_at_rest l'.rests
     → (told ≡ told') × (e ≡ e')
 line_same talk rest sid s e e' line told told' l l' a a' in_talk at_rest =
     let t = talk sid s.desk l.spoken l'.spoken s.macros e.macros e'.macros line told told' l.talked l'.talked a.ample a'.ample a.talk a'.talk in_talk in
     let After : DeskSeen → Type 0 = λ d. (r : Rests d true e.desk) → AllSmooth (waits_of r) (carried_at_rest r)
-    → outcomes_of (carried_at_rest r) ≡ outcomes_of (carried_at_rest l'.rests) → e.desk ≡ e'.desk in
+    → outcomes_at_rest r ≡ outcomes_at_rest l'.rests → e.desk ≡ e'.desk in
     let there : After l'.spoken = λ r smooth same. rest l'.spoken e.desk e'.desk r l'.rests smooth a'.rest same in
     let here : After l.spoken = subst After (sym t.3) there in
     (t.1, state_same e e' (here l.rests a.rest at_rest) t.2)
@@ -95,15 +130,15 @@ others_of a b a' b' c c' same = cc (same)
 run_same : CoreTalkIsDetermined → CoreRestIsDetermined
     → (sid : Sid) (d : State) (lines : List (List ℕ)) (bytes bytes' : List ℕ) (e e' : State) (r : Run sid d lines bytes e) (r' : Run sid d lines bytes' e')
     → IsPlainRun sid d lines bytes e r → IsPlainRun sid d lines bytes' e' r'
-    → measured_in sid d lines bytes e r ≡ measured_in sid d lines bytes' e' r' → bytes ≡ bytes'
+    → outcomes_in_run sid d lines bytes e r ≡ outcomes_in_run sid d lines bytes' e' r' → bytes ≡ bytes'
 run_same talk rest sid d [] bytes bytes' e e' r r' a a' same = r.0 ∙ sym r'.0
 run_same talk rest sid d (l ∷ ls) bytes bytes' e e' r r' a a' same =
-    let in_talk : outcomes_of (carried_in r.3.talked) ≡ outcomes_of (carried_in r'.3.talked) = first_of _ _ _ _ _ _ same in
-    let at_rest : outcomes_of (carried_at_rest r.3.rests) ≡ outcomes_of (carried_at_rest r'.3.rests) = second_of _ _ _ _ _ _ same in
-    let left : measured_in sid r.1 ls r.2 e r.4 ≡ measured_in sid r'.1 ls r'.2 e' r'.4 = others_of _ _ _ _ _ _ same in
+    let in_talk : outcomes_in_talk r.3.talked ≡ outcomes_in_talk r'.3.talked = first_of _ _ _ _ _ _ same in
+    let at_rest : outcomes_at_rest r.3.rests ≡ outcomes_at_rest r'.3.rests = second_of _ _ _ _ _ _ same in
+    let left : outcomes_in_run sid r.1 ls r.2 e r.4 ≡ outcomes_in_run sid r'.1 ls r'.2 e' r'.4 = others_of _ _ _ _ _ _ same in
     let t = line_same talk rest sid d r.1 r'.1 l r.0 r'.0 r.3 r'.3 a.0 a'.0 in_talk at_rest in
     let Onward : State → Type 0 = λ m. (x : Run sid m ls r.2 e) → IsPlainRun sid m ls r.2 e x
-    → measured_in sid m ls r.2 e x ≡ measured_in sid r'.1 ls r'.2 e' r'.4 → r.2 ≡ r'.2 in
+    → outcomes_in_run sid m ls r.2 e x ≡ outcomes_in_run sid r'.1 ls r'.2 e' r'.4 → r.2 ≡ r'.2 in
     let there : Onward r'.1 = λ x y same. run_same talk rest sid r'.1 ls r.2 r'.2 e e' x r'.4 y a'.1 same in
     let more : r.2 ≡ r'.2 = subst Onward (sym t.1) there r.4 a.1 left in
     r.5 ∙ ap (λ (b : List ℕ). b ++ r.2) t.0 ∙ ap (λ (m : List ℕ). r'.0 ++ m) more ∙ sym r'.5
@@ -115,12 +150,13 @@ pub run_once : StepIsDetermined → CoreTalkIsDetermined → CoreRestIsDetermine
     → (cards : Fitted) (sid sid' : Sid) (start start' : Panel) (input bytes bytes' : List ℕ) → IsSetUp cards sid start → IsSetUp cards sid' start'
     → (r : RunsTo sid (begins_over start) input [] bytes) (r' : RunsTo sid' (begins_over start') input [] bytes')
     → IsPlainRun sid (begins_over start) r.done bytes r.after r.run → IsPlainRun sid' (begins_over start') r'.done bytes' r'.after r'.run
-    → measured_in sid (begins_over start) r.done bytes r.after r.run ≡ measured_in sid' (begins_over start') r'.done bytes' r'.after r'.run → bytes ≡ bytes'
+    → outcomes_in_run sid (begins_over start) r.done bytes r.after r.run ≡ outcomes_in_run sid' (begins_over start') r'.done bytes' r'.after r'.run
+    → bytes ≡ bytes'
 run_once step talk rest cards sid sid' start start' input bytes bytes' s s' r r' a a' same =
     let u = set_up_once step cards sid sid' start start' s s' in
     let lines : r.done ≡ r'.done = all_lines input r.done r.lines ∙ sym (all_lines input r'.done r'.lines) in
     let Same : Sid → Panel → List (List ℕ) → Type 0 = λ i p ls. (x : Run i (begins_over p) ls bytes r.after) → IsPlainRun i (begins_over p) ls bytes r.after x
-    → measured_in i (begins_over p) ls bytes r.after x ≡ measured_in sid' (begins_over start') r'.done bytes' r'.after r'.run → bytes ≡ bytes' in
+    → outcomes_in_run i (begins_over p) ls bytes r.after x ≡ outcomes_in_run sid' (begins_over start') r'.done bytes' r'.after r'.run → bytes ≡ bytes' in
     let last : Same sid' start' r'.done = λ x y z. run_same talk rest sid' (begins_over start') r'.done bytes bytes' r.after r'.after x r'.run y a' z in
     let by_lines : Same sid' start' r.done = subst (λ (ls : List (List ℕ)). Same sid' start' ls) (sym lines) last in
     let by_start : Same sid' start r.done = subst (λ (p : Panel). Same sid' p r.done) (sym u.1) by_lines in

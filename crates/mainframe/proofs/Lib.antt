@@ -4,3 +4,4 @@ mod Kept
 mod TurnLemmas
 mod Runs
 mod Determined
+mod Listings

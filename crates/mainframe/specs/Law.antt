@@ -1,14 +1,13 @@
--- A run leaves no choice but what is measured.
-use Rattle.std.specs.Prelude.{◌≡◌, ℕ, List, [], ◌∷◌, Result}
-use Rattle.sw_base.specs.declared.reading.Reading.{Reading}
-use Rattle.sw_card.specs.declared.board.CardFault.{CardFault}
+-- A run leaves no choice but what is measured and which calls of cards fail.
+use Rattle.std.specs.Prelude.{◌≡◌, ℕ, List, [], ◌∷◌}
 use Rattle.sw_core.specs.declared.ask.Sid.{Sid}
 use Rattle.sw_core.specs.Panel.{Panel}
-use Rattle.sw_session.specs.Law.{AllAmple, AllSmooth, carried_in, waits_of, carried_at_rest, outcomes_of}
+use Rattle.sw_session.specs.Law.{AllAmple, AllSmooth, carried_in, waits_of, carried_at_rest}
+use Rattle.sw_session.specs.Law.{Outcome, outcomes_in_talk, outcomes_at_rest}
 use Rattle.mainframe.specs.Cards.{Fitted}
 use Rattle.mainframe.specs.Run.{State, begins_over, IsSetUp, Line, Run, RunsTo}
 
--- no growth was refused in the talk about one line and in the rest after it, and no card failed
+-- no growth was refused in the talk about one line and in the rest after it
 pub record IsPlainLine {sid : Sid} {old new : State} {line told : List ℕ}
     (l : Line sid old line told new) : Type 0 where
   pub ample : AllAmple l.talked.trace
@@ -21,22 +20,23 @@ abbrev pub IsPlainRun : (sid : Sid) (s : State) (lines : List (List ℕ)) (bytes
 IsPlainRun sid s [] bytes s' run = Unit {0}
 IsPlainRun sid s (l ∷ ls) bytes s' run = IsPlainLine run.3 × IsPlainRun sid run.1 ls run.2 s' run.4
 
--- what was measured: for each line in the talk about it, and in the rest after it
-abbrev pub measured_in : (sid : Sid) (s : State) (lines : List (List ℕ)) (bytes : List ℕ) (s' : State)
-    → Run sid s lines bytes s' → List (List (Result Reading CardFault))
-measured_in sid s [] bytes s' run = []
-measured_in sid s (l ∷ ls) bytes s' run =
-    outcomes_of (carried_in run.3.talked) ∷ outcomes_of (carried_at_rest run.3.rests)
-    ∷ measured_in sid run.1 ls run.2 s' run.4
+-- the outcomes of measurements and of calls of cards: for each line in the talk about it, and in the rest after it
+abbrev pub outcomes_in_run : (sid : Sid) (s : State) (lines : List (List ℕ)) (bytes : List ℕ) (s' : State)
+    → Run sid s lines bytes s' → List (List Outcome)
+outcomes_in_run sid s [] bytes s' run = []
+outcomes_in_run sid s (l ∷ ls) bytes s' run =
+    outcomes_in_talk run.3.talked ∷ outcomes_at_rest run.3.rests
+    ∷ outcomes_in_run sid run.1 ls run.2 s' run.4
 
--- Where no growth is refused and no card fails, what is written is determined by the cards, by what is read and by what
--- is measured.
+-- Where no growth is refused, what is written is determined by the cards, by what is read, by what is measured, and by
+-- which calls of cards fail: for each call of the mainframe whether a card failed in it, and if so, how often each card
+-- has failed after it.
 abbrev pub RunIsDetermined : Type 0
 RunIsDetermined = (cards : Fitted) (sid sid' : Sid) (start start' : Panel) (input bytes bytes' : List ℕ)
     → IsSetUp cards sid start → IsSetUp cards sid' start'
     → (r : RunsTo sid (begins_over start) input [] bytes) (r' : RunsTo sid' (begins_over start') input [] bytes')
     → IsPlainRun sid (begins_over start) r.done bytes r.after r.run
     → IsPlainRun sid' (begins_over start') r'.done bytes' r'.after r'.run
-    → measured_in sid (begins_over start) r.done bytes r.after r.run
-    ≡ measured_in sid' (begins_over start') r'.done bytes' r'.after r'.run
+    → outcomes_in_run sid (begins_over start) r.done bytes r.after r.run
+    ≡ outcomes_in_run sid' (begins_over start') r'.done bytes' r'.after r'.run
     → bytes ≡ bytes'

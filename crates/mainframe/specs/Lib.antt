@@ -5,3 +5,4 @@ pub mod Run
 pub mod Turns
 pub mod Statuses
 pub mod Law
+pub mod Listings

@@ -7,11 +7,27 @@ use clap::error::ErrorKind;
 use clap::{Arg, ArgMatches, Command, Error};
 use std::alloc::{AllocError, Global};
 
+/// What a listing is, for the help of `check`.
+const LISTING: &str =
+    "A listing is scan code as text: the line `scan 1`, the line `meter S` with the slot of its \
+    meter, and one step a line, the first of number 0:\n\n  \
+    set K N         counter K, 0 to 2, becomes N, 1 to 100000\n  \
+    wait LAYER      await arm1, arm2 or trig\n  \
+    pause U         await the end of U microseconds\n  \
+    close S!C       close channel C of slot S\n  \
+    read            take a reading of the meter\n  \
+    open S!C        open channel C of slot S\n  \
+    loop K T        counter K goes down by one; where it isn't 0, go to step T\n  \
+    halt            the end\n\n\
+    The answer is `ok bound B readings R`, `refused N Name` or `line L: Name`; why, on standard error.";
+
 /// What a command line asks for.
 #[derive(Clone, Copy, Debug, PartialEq, Eq, Drop)]
 pub enum Order {
     /// To answer standard input. The closing of slot 1 that has this number, from 1, fails.
     Run(Option<u32>),
+    /// To check a listing on standard input.
+    Check,
 }
 
 /// What these words ask for, of which the first is the program's name. Else what `clap` says of them: of a mistake, of
@@ -31,20 +47,24 @@ fn command_line<'a>(alloc: Global) -> Result<Command<'a>, AllocError> {
     let run = Command::new(alloc, "run")
         .about("Answer each line of standard input on standard output")
         .arg(fuse)?;
+    let check = Command::new(alloc, "check")
+        .about("Check a listing of scan code on standard input")
+        .after_help(LISTING);
     Command::new(alloc, "mainframe")
         .about("A SCPI switch mainframe of simulated cards")
         .version("1.0")
         .subcommand_required(true)
-        .subcommand(run)
+        .subcommand(run)?
+        .subcommand(check)
 }
 
 /// What the words that were understood ask for.
 fn order_of(matches: &ArgMatches) -> Order {
-    let fuse = match matches.subcommand() {
-        Some((_, run)) => run.get_one::<u32>("fuse"),
-        None => None,
-    };
-    Order::Run(fuse)
+    match matches.subcommand() {
+        Some(("check", _)) => Order::Check,
+        Some((_, run)) => Order::Run(run.get_one::<u32>("fuse")),
+        None => Order::Run(None),
+    }
 }
 
 /// The exit status where nothing is run: 0 where the help or the version was asked for, 1 where there was no memory to

@@ -5,8 +5,9 @@ ghost use Rattle.mainframe.specs.Law.{RunIsDetermined};
 use sw_core::step_is_determined;
 use sw_session::{core_rest_is_determined, core_talk_is_determined};
 
-/// A law: where no growth is refused and no card fails, what is written is determined by the cards, by what is
-/// read and by what is measured.
+/// A law: where no growth is refused, what is written is determined by the cards, by what is read, by what is measured,
+/// and by which calls of cards fail: for each call of the mainframe whether a card failed in it, and if so, how often
+/// each card has failed after it.
 pub fn run_is_determined()
     ensures { RunIsDetermined }
 {

@@ -2,13 +2,17 @@
 //!
 //! `mainframe run [--fuse K]` answers each line of standard input on standard output. The crate's contract is that of
 //! `run::run_lines`: what is written is what the definition of a talk says of what was read, by the step relation of
-//! the core from its opening state. Nothing is promised of what a terminal carries, nor of the texts of `clap`.
+//! the core from its opening state. `mainframe check` says of a listing whether the program's cards may do its scan;
+//! its contract is that of `listing::check_listing`. Nothing is promised of what a terminal carries, nor of the texts
+//! of `clap`.
 #![tactic(auto)]
 
 mod cards;
 mod command_line;
+mod explanation;
 mod fault;
 mod laws;
+mod listing;
 mod reading;
 mod run;
 #[cfg(test)]
@@ -19,6 +23,7 @@ use clap::Error;
 use clap::error::ErrorKind;
 use command_line::{Order, parse_words, unrun_status};
 use fault::RunFault;
+use listing::{check_listing, checked_status};
 use run::run_lines;
 use std::alloc::AllocError;
 use std::io;
@@ -35,6 +40,7 @@ fn main(rt: HostRuntime) -> ExitCode {
     };
     match parse_words(rt.alloc(), words.as_slice()) {
         Ok(Order::Run(fuse)) => answer_input(&rt, fuse),
+        Ok(Order::Check) => check_input(&rt),
         Err(error) => unrun(&rt, &error),
     }
 }
@@ -49,6 +55,19 @@ fn answer_input(rt: &HostRuntime, fuse: Option<u32>) -> ExitCode {
         Ok(()) => ExitCode::SUCCESS,
         Err(fault) => stopped(rt, fault),
     }
+}
+
+/// Says of the listing on standard input whether it may be done, and on standard error why not.
+fn check_input(rt: &HostRuntime) -> ExitCode {
+    let mut writer = io::writer(rt);
+    let checked = match check_listing(rt.alloc(), &mut rt.reader(), &mut writer) {
+        Ok(checked) => checked,
+        Err(fault) => return stopped(rt, fault),
+    };
+    if let Some(remark) = &checked.remark {
+        let _ = eprintln!(rt; "{remark}");
+    }
+    ExitCode::from(checked_status(checked.accepted))
 }
 
 /// One line on standard error, and the fault's status.

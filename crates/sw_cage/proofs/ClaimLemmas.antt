@@ -238,14 +238,3 @@ before_clash rack index slot ch group h closed g n c e found =
     let k : (ClosedBefore rack slot ch found.0) × IsClash (layout_of rack) found.0 (slot, ch) =
     claim_clash (layout_of rack) (ClosedBefore rack slot ch) index group (slot, ch) h g n found.0 found.1.0 (λ k. found.1.1 (k ∙ sym e)) in
     record { one = found.0; other = (slot, ch); one_closed = k.0.0; other_closed = closed; clash = k.1 }
-
--- a clash among the closed channels stays one with more
-pub more_clash : (layout : Layout) (closed : Channel → Bool) (chans : List Channel) → HasClash layout closed → HasClash layout (closed_with closed chans)
-more_clash layout closed chans k = record {
-  one = k.one;
-  other = k.other;
-  one_closed = or_right (is_in chans k.one) (closed k.one) k.one_closed;
-  other_closed =
-      or_right (is_in chans k.other) (closed k.other) k.other_closed;
-  clash = k.clash;
-}

@@ -7,12 +7,11 @@ use Rattle.std.proofs.lemmas.List.Elements.{filter-append}
 use Rattle.std.proofs.lemmas.Grind.{common_steps}
 use Rattle.std.proofs.lemmas.Bool.{cases_lt}
 use Rattle.sw_base.specs.Limits.{most_channels}
-use Rattle.sw_base.specs.Layout.{Channel, slot_at, bay_has, bay_group, group_at, group_of}
+use Rattle.sw_base.specs.Layout.{Channel, slot_at, bay_has}
 use Rattle.sw_card.specs.Account.{Account, is_meter}
-use Rattle.sw_card.proofs.Rows.{closed_past}
-use Rattle.sw_cage.specs.Accounts.{Accounts, card_contents, slot_contents, layout_of, option_closed, is_closed, OptionWellFormed, AreSafe}
+use Rattle.sw_cage.specs.Accounts.{Accounts, card_contents, slot_contents, is_closed, OptionWellFormed, AreSafe}
 use Rattle.sw_cage.specs.Channels.{row, rows}
-use Rattle.sw_cage.proofs.SlotChangeLemmas.{present_at, group_in_slot}
+use Rattle.sw_cage.proofs.SlotChangeLemmas.{present_at}
 
 -- closed channels
 
@@ -27,24 +26,6 @@ row_bounds (Some a) ch r h = let b : (0 < ch) × ((is_meter a ≡ false) × (ch 
 -- a closed channel's number
 pub closed_number : (rack : Accounts) (c : Channel) → AreSafe rack → is_closed rack c ≡ true → (1 ≤ c.1) × (c.1 ≤ most_channels)
 closed_number rack c safe h = row_bounds (slot_at rack c.0) c.1 (safe.rows c.0) (sym (present_at rack c) ∙ safe.exclusive.present c h)
-
-present_group : (a : Account) (ch : ℕ) → bay_has (Some (card_contents a)) ch ≡ true → bay_group (Some (card_contents a)) ch ≡ group_at a.groups ch
-present_group a ch h = grind (arith, common_steps)
-
--- the group that the card tells of a closed channel
-pub closed_group : (rack : Accounts) (c : Channel) (a : Account) → AreSafe rack → slot_at rack c.0 ≡ Some a → is_closed rack c ≡ true
-    → group_of (layout_of rack) c ≡ group_at a.groups c.1
-closed_group rack c a safe at h =
-    let has : bay_has (Some (card_contents a)) c.1 ≡ true = ap (λ o. bay_has (slot_contents o) c.1) (sym at) ∙ sym (present_at rack c) ∙ safe.exclusive.present
-    c h in
-    group_in_slot rack c ∙ ap (λ o. bay_group (slot_contents o) c.1) at ∙ present_group a c.1 has
-
--- in a slot nothing is closed past the last channel
-pub closed_beyond : (rack : Accounts) (slot : ℕ) (a : Account) (k : ℕ) → slot_at rack slot ≡ Some a → length a.closed < k → is_closed rack (slot, k) ≡ false
-closed_beyond rack slot a k at h = ap (λ o. option_closed o k) at ∙ closed_past a.closed k h
-
-pub closed_nowhere : (rack : Accounts) (slot k : ℕ) → slot_at rack slot ≡ None → is_closed rack (slot, k) ≡ false
-closed_nowhere rack slot k at = ap (λ o. option_closed o k) at
 
 -- rows
 
@@ -80,14 +61,6 @@ row_past closed slot m (suc n) h past = elim (cases_lt n m) [
       closed slot m n g past
 ]
 
--- the channels up to the card's last are all that may be closed
-pub row_whole : (closed : Channel → Bool) (slot n : ℕ) → ((k : ℕ) → n < k → closed (slot, k) ≡ false) → ((k : ℕ) → most_channels < k → closed (slot, k) ≡ false)
-    → filter closed (row slot n) ≡ filter closed (row slot most_channels)
-row_whole closed slot n past far = elim (cases_lt n most_channels) [
-  | inl l ↦ sym (row_past closed slot n most_channels (omega arith) past)
-  | inr g ↦ row_past closed slot most_channels n g far
-]
-
 is_false : (b : Bool) → (b ≡ true → ⊥) → b ≡ false
 is_false true h = absurd (h refl)
 is_false false h = refl
@@ -95,13 +68,6 @@ is_false false h = refl
 pub closed_far : (rack : Accounts) (slot k : ℕ) → AreSafe rack → most_channels < k → is_closed rack (slot, k) ≡ false
 closed_far rack slot k safe h = is_false (is_closed rack (slot, k))
     (λ e. let b : (1 ≤ k) × (k ≤ most_channels) = closed_number rack (slot, k) safe e in absurd (omega (arith, b.1)))
-
-row_nowhere : (closed : Channel → Bool) (slot n : ℕ) → ((k : ℕ) → closed (slot, k) ≡ false) → filter closed (row slot n) ≡ []
-unfolding row
-row_nowhere closed slot n none = row_past closed slot 0 n (omega arith) (λ k h. none k)
-
-pub row_empty : (rack : Accounts) (slot n : ℕ) → slot_at rack slot ≡ None → filter (is_closed rack) (row slot n) ≡ []
-row_empty rack slot n at = row_nowhere (is_closed rack) slot n (λ k. closed_nowhere rack slot k at)
 
 pub row_start : (closed : Channel → Bool) (slot : ℕ) → filter closed (row slot 0) ≡ []
 unfolding row
@@ -131,9 +97,3 @@ pub push_rows : (now new : List Channel) (closed : Channel → Bool) (slot : ℕ
 push_rows now new closed slot kept e = e ∙ ap (λ l. l ++ filter closed (row (slot + 1) most_channels)) kept ∙ sym
     (filter-append closed (rows slot) (row (slot + 1) most_channels)) ∙
     ap (filter closed) (sym (rows_more slot))
-
--- the card's channels are all that may be closed in its slot
-pub card_row : (rack : Accounts) (slot n : ℕ) (a : Account) → AreSafe rack → slot_at rack slot ≡ Some a → length a.closed ≤ n
-    → filter (is_closed rack) (row slot n) ≡ filter (is_closed rack) (row slot most_channels)
-card_row rack slot n a safe at h = row_whole (is_closed rack) slot n (λ k l. closed_beyond rack slot a k at (omega (arith, h, l)))
-    (λ k l. closed_far rack slot k safe l)

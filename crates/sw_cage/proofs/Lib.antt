@@ -5,6 +5,7 @@ mod ComparedListLemmas
 pub mod ClaimLemmas
 pub mod ExclusionLemmas
 mod OneSlotLemmas
+pub mod MaskLemmas
 pub mod StepLemmas
 pub mod VisitLemmas
 pub mod WayLemmas

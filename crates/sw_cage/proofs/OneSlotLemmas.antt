@@ -41,15 +41,6 @@ pub written : {C : Type 0} (items : List (Option (C × Account))) (value : Accou
     → accounts_of (slice_set items i v) ≡ slice_set value i (option_account v)
 written items value i v same = map-set option_account items i v ∙ ap (λ (r : Accounts). slice_set r i (option_account v)) same
 
-pub read_some : {C : Type 0} (items : List (Option (C × Account))) (value : Accounts) (s : ℕ) (x : Option (C × Account)) (card : C × Account)
-    → accounts_of items ≡ value → length (accounts_of items) ≡ most_slots → 0 < s → s ≤ most_slots → x ≡ slice_index_or items (s - 1) x → x ≡ Some card
-    → slot_at value s ≡ Some card.1
-read_some items value s x card same size p h e is = read items value s x same size p h e ∙ ap option_account is
-
-pub read_none : {C : Type 0} (items : List (Option (C × Account))) (value : Accounts) (s : ℕ) (x : Option (C × Account)) → accounts_of items ≡ value
-    → length (accounts_of items) ≡ most_slots → 0 < s → s ≤ most_slots → x ≡ slice_index_or items (s - 1) x → x ≡ None → slot_at value s ≡ None
-read_none items value s x same size p h e is = read items value s x same size p h e ∙ ap option_account is
-
 pub closed_by : (value : Accounts) (s ch : ℕ) (a : Account) (b : Bool) → slot_at value s ≡ Some a → closed_at a.closed ch ≡ b → is_closed value (s, ch) ≡ b
 closed_by value s ch a b at e = ap (λ o. option_closed o ch) at ∙ e
 
@@ -184,6 +175,19 @@ pub ejected_card : {C : Type 0} (items : List (Option (C × Account))) (value : 
 ejected_card items value s x card same safe some is e =
     let b : (0 < s) × (s ≤ length (accounts_of items)) = some_slot (accounts_of items) s (ap (λ (r : Accounts). is_some (slot_at r s)) same ∙ some) in
     ap option_rest (read items value s x same safe.size b.0 (omega (arith, b.1, safe.size)) is) ∙ sym e
+
+some_rested : (o : Option Account) → is_some o ≡ true → option_rest o ≡ None → ⊥
+some_rested None some e = cc
+some_rested (Some a) some e = cc
+
+-- from a slot with a card a card comes out
+pub ejected_some : {C : Type 0} (items : List (Option (C × Account))) (value : Accounts) (s : ℕ) (x result : Option (C × Account)) → accounts_of items ≡ value
+    → AreSafe (accounts_of items) → is_some (slot_at value s) ≡ true → x ≡ slice_index_or items (s - 1) x
+    → option_account result ≡ option_rest (option_account x) → result ≡ None → ⊥
+ejected_some items value s x result same safe some is e none =
+    let b : (0 < s) × (s ≤ length (accounts_of items)) = some_slot (accounts_of items) s (ap (λ (r : Accounts). is_some (slot_at r s)) same ∙ some) in
+    some_rested (slot_at value s) some
+    (ap option_rest (read items value s x same safe.size b.0 (omega (arith, b.1, safe.size)) is) ∙ sym e ∙ ap option_account none)
 
 rested_open : (o : Option Account) (card : Account) → Some card ≡ option_rest o → (ch : ℕ) → closed_at card.closed ch ≡ false
 rested_open None card e ch = cc

@@ -14,7 +14,7 @@ use Rattle.sw_trigger.specs.declared.layer.Layer.{Layer}
 use Rattle.sw_trigger.specs.declared.layer.Awaited.{Awaited}
 use Rattle.sw_trigger.specs.declared.layer.Awaited.TheVariants.{Pause}
 use Rattle.sw_trigger.specs.Settings.{Setup, IsInRange}
-use Rattle.sw_trigger.specs.Agenda.{Item, Awaits, Close, Open, repeated, wait_of, pause_of, head_of, channel_at, visit, pass_of, passes, arm1_turn, arm2_turn}
+use Rattle.sw_trigger.specs.Agenda.{Item, Awaits, Close, Open, repeated, wait_of, pause_of, head_of, channel_at, visit, pass_of, passes, arm_turn, arm_turns}
 use Rattle.sw_trigger.specs.Agenda.{agenda}
 use Rattle.sw_trigger.proofs.Repeats.{length-repeated}
 use Rattle.sw_trigger.proofs.Awaiting.{agenda_is}
@@ -129,21 +129,23 @@ length-passes s k (suc n) =
       suc-mul n 5,
     )
 
+length-arm_turns : (name : LayerName) (l : Layer) (inside : List Item) (most : ℕ) → l.count ≤ 1000 → length inside ≤ most
+    → length (arm_turns name l inside) ≤ 1000 * (2 + most)
+length-arm_turns name l inside most few short =
+    let turn : length (arm_turn name l inside) ≤ 2 + most =
+    omega (arith, length-append (map Awaits (head_of name l)) inside, length-head name l) in
+    omega (
+      arith,
+      length-repeated l.count (arm_turn name l inside),
+      mul-le l.count (length (arm_turn name l inside)) 1000 (2 + most) few turn,
+    )
+
 pub length-agenda : (s : Setup) → 0 < length s.list → IsInRange s → length (agenda s) + 3 < 2 ^ 64
 length-agenda s h i =
+    let all = passes s 0 s.trigger.count in
     let a3 : s.trigger.count * 5 ≤ 100000 * 5 = mul-le s.trigger.count 5 100000 5 i.trigger.count.1 (omega arith) in
-    let a2 : length (arm2_turn s) ≤ 500002 = omega (
-      arith,
-      length-append (map Awaits (head_of Arm2 s.arm2)) (passes s 0 s.trigger.count),
-      length-head Arm2 s.arm2,
-      length-passes s 0 s.trigger.count,
-    ) in
-    let b2 : s.arm2.count * length (arm2_turn s) ≤ 1000 * 500002 = mul-le s.arm2.count (length (arm2_turn s)) 1000 500002 i.arm2.count.1 a2 in
-    let a1 : length (arm1_turn s) ≤ 500002002 = omega (
-      arith,
-      length-append (map Awaits (head_of Arm1 s.arm1)) (repeated s.arm2.count (arm2_turn s)),
-      length-head Arm1 s.arm1,
-      length-repeated s.arm2.count (arm2_turn s),
-    ) in
-    let b1 : s.arm1.count * length (arm1_turn s) ≤ 1000 * 500002002 = mul-le s.arm1.count (length (arm1_turn s)) 1000 500002002 i.arm1.count.1 a1 in
-    omega (arith, ap length (agenda_is s h), length-repeated s.arm1.count (arm1_turn s))
+    let a2 : length (arm_turns Arm2 s.arm2 all) ≤ 1000 * 500002 =
+    length-arm_turns Arm2 s.arm2 all 500000 i.arm2.count.1 (omega (arith, length-passes s 0 s.trigger.count)) in
+    let a1 : length (arm_turns Arm1 s.arm1 (arm_turns Arm2 s.arm2 all)) ≤ 1000 * 500002002 =
+    length-arm_turns Arm1 s.arm1 (arm_turns Arm2 s.arm2 all) 500002000 i.arm1.count.1 (omega (arith, a2)) in
+    omega (arith, ap length (agenda_is s h), a1)

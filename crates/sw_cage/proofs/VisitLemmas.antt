@@ -1,9 +1,11 @@
 -- An agenda opens what it closed after one reading.
 use Rattle.std.proofs.Common.{◌≡◌, ℕ, zero, suc, ◌+◌, ◌<◌, List, [], ◌∷◌, ◌++◌, length, drop, map, Some, sym, subst, arith}
+use Rattle.sw_base.specs.declared.terms.LayerName.{LayerName}
 use Rattle.sw_base.specs.declared.terms.LayerName.TheVariants.{Arm1, Arm2, Trigger}
 use Rattle.sw_trigger.specs.declared.layer.Awaited.{Awaited}
+use Rattle.sw_trigger.specs.declared.layer.Layer.{Layer}
 use Rattle.sw_trigger.specs.Settings.{Setup}
-use Rattle.sw_trigger.specs.Agenda.{Item, Awaits, Close, Open, repeated, head_of, channel_at, visit, pass_of, passes, arm1_turn, arm2_turn, agenda}
+use Rattle.sw_trigger.specs.Agenda.{Item, Awaits, Close, Open, repeated, head_of, channel_at, visit, pass_of, passes, arm_turn, arm_turns, agenda}
 use Rattle.sw_trigger.proofs.Awaiting.{agenda_is}
 use Rattle.sw_cage.specs.Advance.{first_awaited}
 use Rattle.sw_cage.specs.Steps.{AreVisits, AreVisitsOn}
@@ -35,14 +37,15 @@ visits-passes s k (suc n) =
     (visits-append (map Awaits (head_of Trigger s.trigger)) (visit (channel_at s.list k)) (visits-awaits (head_of Trigger s.trigger)) tt)
     (visits-passes s (suc k) n)
 
+visits-arm_turns : (name : LayerName) (l : Layer) (inside : List Item) → AreVisits inside → AreVisits (arm_turns name l inside)
+visits-arm_turns name l inside f =
+    visits-repeated l.count (arm_turn name l inside) (visits-append (map Awaits (head_of name l)) inside (visits-awaits (head_of name l)) f)
+
 pub visits-agenda : (s : Setup) → 0 < length s.list → AreVisits (agenda s)
 visits-agenda s h =
-    let turn2 : AreVisits (arm2_turn s) = visits-append (map Awaits (head_of Arm2 s.arm2)) (passes s 0 s.trigger.count) (visits-awaits (head_of Arm2 s.arm2))
-    (visits-passes s 0 s.trigger.count) in
-    let turn1 : AreVisits (arm1_turn s) =
-    visits-append (map Awaits (head_of Arm1 s.arm1)) (repeated s.arm2.count (arm2_turn s)) (visits-awaits (head_of Arm1 s.arm1))
-    (visits-repeated s.arm2.count (arm2_turn s) turn2) in
-    subst AreVisits (sym (agenda_is s h)) (visits-repeated s.arm1.count (arm1_turn s) turn1)
+    subst AreVisits (sym (agenda_is s h))
+    (visits-arm_turns Arm1 s.arm1 (arm_turns Arm2 s.arm2 (passes s 0 s.trigger.count))
+    (visits-arm_turns Arm2 s.arm2 (passes s 0 s.trigger.count) (visits-passes s 0 s.trigger.count)))
 
 pub visits_on : (l : List Item) → AreVisits l → AreVisitsOn l
 visits_on [] f = tt

@@ -5,15 +5,17 @@ use Rattle.std.proofs.lemmas.Bool.Decides.{nat_tests}
 use Rattle.std.proofs.lemmas.List.{length-map, map-append}
 use Rattle.std.proofs.lemmas.Nat.{div-add-mod'}
 use Rattle.std.proofs.Math.Nat.{add-mul-mod_self_right, suc-mul}
+use Rattle.sw_base.specs.declared.terms.LayerName.{LayerName}
 use Rattle.sw_base.specs.declared.terms.LayerName.TheVariants.{Arm1, Arm2, Trigger}
 use Rattle.sw_base.specs.Layout.{Channel}
 use Rattle.sw_code.specs.declared.code.Step.{Step}
 use Rattle.sw_code.specs.declared.code.Step.TheVariants as step
+use Rattle.sw_trigger.specs.declared.layer.Layer.{Layer}
 use Rattle.sw_trigger.specs.Settings.{Setup, IsInRange}
-use Rattle.sw_trigger.specs.Agenda.{Item, Awaits, Close, Open, repeated, head_of, channel_at, pass_of, passes, visit, arm1_turn, arm2_turn, agenda}
+use Rattle.sw_trigger.specs.Agenda.{Item, Awaits, Close, Open, repeated, head_of, channel_at, pass_of, passes, visit, arm_turns, agenda}
 use Rattle.sw_code.specs.Code.{Unfolds}
 use Rattle.sw_code.specs.Tree.{Tree, Nil, Then, Times, step_of, size, flatten, meaning, IsNested}
-use Rattle.sw_code.specs.Compiled.{line, steps_of, passes_tree, tree_of}
+use Rattle.sw_code.specs.Compiled.{line, steps_of, passes_tree, arm_tree, tree_of}
 use Rattle.sw_trigger.proofs.Awaiting.{agenda_is}
 use Rattle.sw_code.proofs.Unfolding.{unfolds}
 
@@ -83,18 +85,16 @@ meaning-passes s = at (s.trigger.count / length s.list) (s.trigger.count % lengt
       ∙ ap (λ (l : List Item). repeated (suc q) (passes s 0 (length s.list)) ++ l) (left r)
       ∙ sym (rounds s (suc q) r) ∙ ap (passes s 0) e
 
+pub meaning-arm : (counter : ℕ) (name : LayerName) (l : Layer) (inside : Tree) → meaning (arm_tree counter name l inside) ≡ arm_turns name l (meaning inside)
+meaning-arm counter name l inside =
+    append-nil (repeated l.count (meaning (line (map Awaits (head_of name l)) inside)))
+    ∙ ap (repeated l.count) (meaning-line (map Awaits (head_of name l)) inside)
+
 pub meaning-tree : (s : Setup) → 0 < length s.list → meaning (tree_of s) ≡ agenda s
 meaning-tree s h =
-    let arm2 : meaning (line (map Awaits (head_of Arm2 s.arm2)) (passes_tree s)) ≡ arm2_turn s =
-    meaning-line (map Awaits (head_of Arm2 s.arm2)) (passes_tree s) ∙ ap (λ (l : List Item). map Awaits (head_of Arm2 s.arm2) ++ l) (meaning-passes s) in
-    let arm1 : meaning (line (map Awaits (head_of Arm1 s.arm1)) (Times 1 s.arm2.count (line (map Awaits (head_of Arm2 s.arm2)) (passes_tree s)) Nil))
-    ≡ arm1_turn s =
-    meaning-line (map Awaits (head_of Arm1 s.arm1)) (Times 1 s.arm2.count (line (map Awaits (head_of Arm2 s.arm2)) (passes_tree s)) Nil)
-    ∙ ap (λ (l : List Item). map Awaits (head_of Arm1 s.arm1)
-    ++ l) (append-nil (repeated s.arm2.count (meaning (line (map Awaits (head_of Arm2 s.arm2)) (passes_tree s)))) ∙ ap (repeated s.arm2.count) arm2) in
-    append-nil (repeated s.arm1.count
-    (meaning (line (map Awaits (head_of Arm1 s.arm1)) (Times 1 s.arm2.count (line (map Awaits (head_of Arm2 s.arm2)) (passes_tree s)) Nil))))
-    ∙ ap (repeated s.arm1.count) arm1 ∙ sym (agenda_is s h)
+    meaning-arm 0 Arm1 s.arm1 (arm_tree 1 Arm2 s.arm2 (passes_tree s))
+    ∙ ap (arm_turns Arm1 s.arm1) (meaning-arm 1 Arm2 s.arm2 (passes_tree s) ∙ ap (arm_turns Arm2 s.arm2) (meaning-passes s))
+    ∙ sym (agenda_is s h)
 
 nested-passes : (s : Setup) (used : ℕ → Bool) → used 2 ≡ false → IsNested used (passes_tree s)
 nested-passes s used free = at (s.trigger.count / length s.list) where
@@ -111,19 +111,15 @@ nested-passes s used free = at (s.trigger.count / length s.list) where
         nested-line used (passes s 0 (s.trigger.count % length s.list)) Nil tt,
       )
 
+nested-arm : (used : ℕ → Bool) (counter : ℕ) (name : LayerName) (l : Layer) (inside : Tree) → 0 < l.count → used counter ≡ false
+    → IsNested (λ j. eqb j counter || used j) inside → IsNested used (arm_tree counter name l inside)
+nested-arm used counter name l inside some free h =
+    (some, free, nested-line (λ j. eqb j counter || used j) (map Awaits (head_of name l)) inside h, tt)
+
 pub nested-tree : (s : Setup) → IsInRange s → IsNested (λ k. false) (tree_of s)
-nested-tree s i = (
-  i.arm1.count.0,
-  refl,
-  nested-line (λ j. eqb j 0 || false) (map Awaits (head_of Arm1 s.arm1)) (Times 1 s.arm2.count (line (map Awaits (head_of Arm2 s.arm2)) (passes_tree s)) Nil) (
-    i.arm2.count.0,
-    refl,
-    nested-line (λ j. eqb j 1 || (eqb j 0 || false)) (map Awaits (head_of Arm2 s.arm2)) (passes_tree s) (nested-passes s (λ j. eqb j 1
-        || (eqb j 0 || false)) refl),
-    tt,
-  ),
-  tt,
-)
+nested-tree s i =
+    nested-arm (λ k. false) 0 Arm1 s.arm1 (arm_tree 1 Arm2 s.arm2 (passes_tree s)) i.arm1.count.0 refl
+    (nested-arm (λ j. eqb j 0 || false) 1 Arm2 s.arm2 (passes_tree s) i.arm2.count.0 refl (nested-passes s (λ j. eqb j 1 || (eqb j 0 || false)) refl))
 
 pub compiled_unfolds : (s : Setup) → 0 < length s.list → IsInRange s → Unfolds (flatten (tree_of s) 0 ++ step.Halt ∷ []) (agenda s)
 compiled_unfolds s h i = subst (λ (l : List Item). Unfolds (flatten (tree_of s) 0

@@ -16,7 +16,8 @@ use Rattle.sw_trigger.specs.Settings.{Setup, IsInRange}
 use Rattle.sw_trigger.specs.Agenda.{Item, Awaits, Close, Open, head_of, wait_of, pause_of, channel_at, visit, pass_of, passes}
 use Rattle.sw_code.specs.declared.code.Step.{Step}
 use Rattle.sw_code.specs.declared.code.Step.TheVariants as step
-use Rattle.sw_code.specs.Range.{IsStep, IsInRange as IsCode}
+use Rattle.sw_base.specs.Limits.{most_entries, most_trigger_count}
+use Rattle.sw_code.specs.Range.{most_steps, IsStep, IsInRange as IsCode}
 use Rattle.sw_code.specs.Tree.{Tree, Nil, Then, Times, step_of, size, flatten}
 use Rattle.sw_code.specs.Compiled.{line, passes_tree, tree_of, compiled}
 use Rattle.sw_code.proofs.Unfolding.{length-flatten}
@@ -38,11 +39,11 @@ fits-append : (xs ys : List Item) → Fits xs → Fits ys → Fits (xs ++ ys)
 fits-append [] ys a b = b
 fits-append (x ∷ xs) ys a b = (a.0, fits-append xs ys a.1 b)
 
-fit_steps : (t : Tree) (pc : ℕ) → IsFit t → pc + size t ≤ 8191 → AllByRecursion IsStep (flatten t pc)
+fit_steps : (t : Tree) (pc : ℕ) → IsFit t → pc + size t < most_steps → AllByRecursion IsStep (flatten t pc)
 fit_steps Nil pc f h = tt
 fit_steps (Then x rest) pc f h = (f.0, fit_steps rest (pc + 1) f.1 (omega arith))
 fit_steps (Times k n body rest) pc f h =
-    let target : pc + 1 ≤ 8191 = omega arith in (
+    let target : pc + 1 < most_steps = omega arith in (
       f.0,
       steps-append (flatten body (pc + 1)) (step.Loop k (pc + 1) ∷ flatten rest (pc + 2 + size body))
           (fit_steps body (pc + 1) f.1 (omega arith))
@@ -108,7 +109,7 @@ module _ (s : Setup) (h : s.trigger.delay_us ≤ 3600000000) where
   fit-some : (n : ℕ) → IsFit (line (passes s 0 n) Nil) × (size (line (passes s 0 n) Nil) ≤ n * 5)
   fit-some n = (fit-line (passes s 0 n) Nil (fits-passes 0 n) tt, omega (arith, size-line (passes s 0 n) Nil, length-passes 0 n))
 
-  fit-rounds : 0 < length s.list → length s.list ≤ 512 → s.trigger.count ≤ 100000 → IsFit (passes_tree s) × (size (passes_tree s) ≤ 5122)
+  fit-rounds : 0 < length s.list → length s.list ≤ most_entries → s.trigger.count ≤ most_trigger_count → IsFit (passes_tree s) × (size (passes_tree s) ≤ 5122)
   fit-rounds some most count =
       at (s.trigger.count / length s.list) (div-le_self s.trigger.count (length s.list))
     where

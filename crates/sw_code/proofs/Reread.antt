@@ -20,7 +20,8 @@ use Rattle.sw_code.specs.declared.code.Step.TheVariants as step
 use Rattle.sw_code.specs.declared.fault.ListFault.{ListFault}
 use Rattle.sw_code.specs.declared.fault.ListFault.TheVariants.{BadStep, BadNumber, TooLong}
 use Rattle.sw_code.specs.declared.fault.ListError.{ListError}
-use Rattle.sw_code.specs.Range.{Program, IsStep, IsChannel, HasChannel, IsInRange}
+use Rattle.sw_code.specs.Range.{Program, most_steps, IsStep, IsChannel, HasChannel, IsInRange}
+use Rattle.sw_base.specs.Limits.{most_slots, most_channels}
 use Rattle.sw_code.specs.Listing.{layer_word, channel_text, line_of, lines_of, parts_of, listing_of}
 use Rattle.sw_code.specs.Reading.{parts_at, then_read, is_numeral, number_in, channel_in, layer_in, step_in, meter_in, on_line, numbered_step, steps_in}
 use Rattle.sw_code.specs.Reading.{code_after_version, code_of_lines, code_in}
@@ -103,8 +104,8 @@ channel_printed c r =
     ap channel_in (first_of 33 (decimal c.0) (decimal c.1) (digits_lack 33 refl c.0 slot)
     ∙ ap (λ (l : List (List ℕ)). decimal c.0 ∷ l) (only_of 33 (decimal c.1) (digits_lack 33 refl c.1 ch)))
     ∙ ap (λ (x : Result ℕ ListFault).
-    then_read x (λ (s : ℕ). then_read (number_in 1 99 (decimal c.1)) (λ (h : ℕ). Ok (s, h)))) (number_printed 1 8 c.0 r.0 r.1 slot)
-    ∙ ap (λ (x : Result ℕ ListFault). then_read x (λ (h : ℕ). Ok (c.0, h))) (number_printed 1 99 c.1 r.2 r.3 ch)
+    then_read x (λ (s : ℕ). then_read (number_in 1 most_channels (decimal c.1)) (λ (h : ℕ). Ok (s, h)))) (number_printed 1 most_slots c.0 r.0 r.1 slot)
+    ∙ ap (λ (x : Result ℕ ListFault). then_read x (λ (h : ℕ). Ok (c.0, h))) (number_printed 1 most_channels c.1 r.2 r.3 ch)
 
 channel_lacks : (mark : ℕ) → is_digit mark ≡ false → not (33 == mark) ≡ true → (c : Channel) → IsChannel c → Lacks mark (channel_text c)
 channel_lacks mark h k c r =
@@ -153,8 +154,8 @@ step_printed (step.Loop k to) i h =
     let q : to ≤ 3600000000 = omega (arith, i.1) in
     ap step_in (three_parts (codes "loop") (decimal k) (decimal to) (refl, (refl, (refl, (refl, tt)))) (digits_lack 32 refl k p) (digits_lack 32 refl to q))
     ∙ ap (λ (x : Result ℕ ListFault).
-    then_read x (λ (m : ℕ). then_read (number_in 0 8191 (decimal to)) (λ (j : ℕ). Ok (step.Loop m j)))) (number_printed 0 2 k (omega arith) i.0 p)
-    ∙ ap (λ (x : Result ℕ ListFault). then_read x (λ (j : ℕ). Ok (step.Loop k j))) (number_printed 0 8191 to (omega arith) i.1 q)
+    then_read x (λ (m : ℕ). then_read (number_in 0 (most_steps - 1) (decimal to)) (λ (j : ℕ). Ok (step.Loop m j)))) (number_printed 0 2 k (omega arith) i.0 p)
+    ∙ ap (λ (x : Result ℕ ListFault). then_read x (λ (j : ℕ). Ok (step.Loop k j))) (number_printed 0 (most_steps - 1) to (omega arith) (omega (arith, i.1)) q)
 step_printed step.Halt i h = refl
 
 line_lacks : (s : Step) → IsStep s → HasChannel s → Lacks 10 (join_with_byte 32 (parts_of s))
@@ -183,10 +184,10 @@ line_lacks step.Halt i h = (refl, (refl, (refl, (refl, tt))))
 line_first : (line rest : List ℕ) → Lacks 10 line → parts_at 10 ((line ++ 10 ∷ []) ++ rest) ≡ line ∷ parts_at 10 rest
 line_first line rest h = ap (parts_at 10) (append_assoc line (10 ∷ []) rest) ∙ first_of 10 line rest h
 
-numbered_printed : (line : ℕ) (s : Step) → IsStep s → HasChannel s → line ≤ 8194 → numbered_step line (join_with_byte 32 (parts_of s)) ≡ Ok s
+numbered_printed : (line : ℕ) (s : Step) → IsStep s → HasChannel s → line ≤ 2 + most_steps → numbered_step line (join_with_byte 32 (parts_of s)) ≡ Ok s
 numbered_printed line s i h l =
-    let t : nat_lt 8194 line ≡ false = grind (arith, nat_tests) in
-    ap (λ (x : Result Step ListFault). then_read x (λ (y : Step). cond (nat_lt 8194 line) (Err TooLong) (Ok y))) (step_printed s i h)
+    let t : nat_lt (2 + most_steps) line ≡ false = grind (arith, nat_tests) in
+    ap (λ (x : Result Step ListFault). then_read x (λ (y : Step). cond (nat_lt (2 + most_steps) line) (Err TooLong) (Ok y))) (step_printed s i h)
     ∙ ap (λ (b : Bool). cond b (Err TooLong) (Ok s)) t
 
 steps_printed : (steps : List Step) (line : ℕ) → AllByRecursion IsStep steps → AllByRecursion HasChannel steps → line + length steps ≤ 8195
@@ -195,7 +196,7 @@ steps_printed [] line i h l = refl
 steps_printed (s ∷ steps) line i h l =
     let text = join_with_byte 32 (parts_of s) in
     let more = parts_at 10 (lines_of steps) in
-    let here : line ≤ 8194 = omega arith in
+    let here : line ≤ 2 + most_steps = omega arith in
     ap (steps_in line) (line_first text (lines_of steps) (line_lacks s i.0 h.0))
     ∙ steps_some line text more (some_parts 10 (lines_of steps))
     ∙ ap (λ (r : Result Step ListFault). then_read (on_line line r) (λ (x : Step).
@@ -215,7 +216,7 @@ listing_printed p i h =
     ) (digits_lack 10 refl p.meter m) in
     let meter : meter_in (parts_at 32 second) ≡ Ok p.meter =
     ap meter_in (two_parts (codes "meter") (decimal p.meter) (refl, (refl, (refl, (refl, (refl, tt))))) (digits_lack 32 refl p.meter m))
-    ∙ number_printed 1 8 p.meter i.meter.0 i.meter.1 m in
+    ∙ number_printed 1 most_slots p.meter i.meter.0 i.meter.1 m in
     let steps : steps_in 3 lines ≡ Ok p.steps = steps_printed p.steps 3 i.steps h (omega (arith, i.length)) in
     ap code_of_lines (line_first (codes "scan 1") rest first_lacks)
     ∙ version_some (codes "scan 1") (parts_at 10 rest) (some_parts 10 rest)

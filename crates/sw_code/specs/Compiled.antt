@@ -1,9 +1,11 @@
 -- What settings compile to.
 use Rattle.std.specs.Prelude.{ℕ, zero, suc, ◌+◌, ◌/◌, ◌%◌, ◌==◌, List, [], ◌∷◌, ◌++◌, length, map, if◌then◌else◌}
+use Rattle.sw_base.specs.declared.terms.LayerName.{LayerName}
 use Rattle.sw_base.specs.declared.terms.LayerName.TheVariants.{Arm1, Arm2, Trigger}
 use Rattle.sw_code.specs.declared.code.Step.{Step}
 use Rattle.sw_code.specs.declared.code.Step.TheVariants as step
 use Rattle.sw_code.specs.Range.{Program}
+use Rattle.sw_trigger.specs.declared.layer.Layer.{Layer}
 use Rattle.sw_trigger.specs.Settings.{Setup}
 use Rattle.sw_trigger.specs.Agenda.{Item, Awaits, head_of, passes}
 use Rattle.sw_code.specs.Tree.{Tree, Nil, Then, Times, step_of, flatten}
@@ -16,7 +18,7 @@ line (x ∷ items) rest = Then x (line items rest)
 abbrev pub steps_of : List Item → List Step
 steps_of items = map step_of items
 
--- the passes of one turn of ARM2: whole rounds of the list as a loop, and the passes left over
+-- the passes of one turn of the inmost ARM layer: whole rounds of the list as a loop, and the passes left over
 abbrev pub passes_tree : Setup → Tree
 passes_tree s =
     let count = s.trigger.count in
@@ -24,10 +26,12 @@ passes_tree s =
     if count / n == 0 then line (passes s 0 (count % n)) Nil
     else Times 2 (count / n) (line (passes s 0 n) Nil) (line (passes s 0 (count % n)) Nil)
 
+-- the turns of an ARM layer, as a loop that counts with this counter
+abbrev pub arm_tree : ℕ → LayerName → Layer → Tree → Tree
+arm_tree counter name layer inside = Times counter layer.count (line (map Awaits (head_of name layer)) inside) Nil
+
 abbrev pub tree_of : Setup → Tree
-tree_of s =
-    Times 0 s.arm1.count (line (map Awaits (head_of Arm1 s.arm1))
-    (Times 1 s.arm2.count (line (map Awaits (head_of Arm2 s.arm2)) (passes_tree s)) Nil)) Nil
+tree_of s = arm_tree 0 Arm1 s.arm1 (arm_tree 1 Arm2 s.arm2 (passes_tree s))
 
 -- the code of settings
 abbrev pub compiled : Setup → Program

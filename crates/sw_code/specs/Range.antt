@@ -1,5 +1,5 @@
 -- Scan code: its steps and their ranges.
-use Rattle.std.specs.Prelude.{ℕ, ◌≤◌, List, length}
+use Rattle.std.specs.Prelude.{ℕ, ◌<◌, ◌≤◌, List, length}
 use Rattle.std.specs.List.{AllByRecursion}
 use Rattle.sw_base.specs.Layout.{Channel}
 use Rattle.sw_base.specs.Limits.{most_slots, most_channels, most_trigger_count, longest_delay}
@@ -11,6 +11,10 @@ pub record Program : Type 0 where
   pub meter : ℕ
   pub steps : List Step
 
+-- steps of a code, numbered from 0
+abbrev pub most_steps : ℕ
+most_steps = 8192
+
 -- the numbers of a step are in range; a channel keeps its own
 abbrev pub IsStep : Step → Type 0
 IsStep (step.Set k n) = (k ≤ 2) × (1 ≤ n) × (n ≤ most_trigger_count)
@@ -19,7 +23,7 @@ IsStep (step.Pause micros) = (1 ≤ micros) × (micros ≤ longest_delay)
 IsStep (step.Close c) = Unit {0}
 IsStep step.Read = Unit {0}
 IsStep (step.Open c) = Unit {0}
-IsStep (step.Loop k to) = (k ≤ 2) × (to ≤ 8191)
+IsStep (step.Loop k to) = (k ≤ 2) × (to < most_steps)
 IsStep step.Halt = Unit {0}
 
 -- a channel's slot and its number are in range
@@ -34,5 +38,5 @@ HasChannel _ = Unit {0}
 
 pub record IsInRange (p : Program) : Type 0 where
   pub meter : (1 ≤ p.meter) × (p.meter ≤ most_slots)
-  pub length : length p.steps ≤ 8192
+  pub length : length p.steps ≤ most_steps
   pub steps : AllByRecursion IsStep p.steps

@@ -1,5 +1,6 @@
 -- Which code a listing writes, or its first fault by line (own).
-use Rattle.std.specs.Prelude.{ℕ, ◌+◌, Bool, ◌==◌, ◌&&◌, nat_lt, nat_le, List, [], ◌∷◌, ◌++◌, length, Result, Ok, Err}
+use Rattle.std.specs.Prelude.{ℕ, ◌+◌, ◌-◌, Bool, ◌==◌, ◌&&◌, nat_lt, nat_le, List, [], ◌∷◌, ◌++◌, length}
+use Rattle.std.specs.Prelude.{Result, Ok, Err}
 use Rattle.std.specs.Prelude.{codes, if◌then◌else◌}
 use Rattle.std.specs.List.{list_all, slice_split}
 use Rattle.std.specs.Str.{bytes_eq}
@@ -14,7 +15,7 @@ use Rattle.sw_code.specs.declared.code.Step.TheVariants as step
 use Rattle.sw_code.specs.declared.fault.ListFault.{ListFault}
 use Rattle.sw_code.specs.declared.fault.ListFault.TheVariants.{BadStep, BadNumber, TooLong, NoMemory}
 use Rattle.sw_code.specs.declared.fault.ListError.{ListError}
-use Rattle.sw_code.specs.Range.{Program}
+use Rattle.sw_code.specs.Range.{Program, most_steps}
 
 -- what stands between the marks, which are one fewer
 abbrev pub parts_at : ℕ → List ℕ → List (List ℕ)
@@ -65,7 +66,7 @@ step_with_two word a b =
     if bytes_eq word (codes "set") then then_read (number_in 0 2 a) (λ k.
     then_read (number_in 1 most_trigger_count b) (λ n. Ok (step.Set k n)))
     else (if bytes_eq word (codes "loop") then then_read (number_in 0 2 a) (λ k.
-    then_read (number_in 0 8191 b) (λ to. Ok (step.Loop k to)))
+    then_read (number_in 0 (most_steps - 1) b) (λ to. Ok (step.Loop k to)))
     else Err BadStep)
 
 -- the step of a line's parts
@@ -91,9 +92,10 @@ abbrev pub on_line : {A : Type 0} → ℕ → Result A ListFault → Result A Li
 on_line line (Ok x) = Ok x
 on_line line (Err kind) = Err (record { line = line; kind = kind })
 
--- the step on a line; there is room for one on each line up to 8,194
+-- the step on a line; there is room for as many steps after the first two lines
 abbrev pub numbered_step : ℕ → List ℕ → Result Step ListFault
-numbered_step line text = then_read (step_in (parts_at 32 text)) (λ s. if nat_lt 8194 line then Err TooLong else Ok s)
+numbered_step line text = then_read (step_in (parts_at 32 text))
+    (λ s. if nat_lt (2 + most_steps) line then Err TooLong else Ok s)
 
 -- The steps of the lines from that number on. What stands behind the last line feed is the last of the texts; it is a
 -- line without its line feed, unless it is empty.

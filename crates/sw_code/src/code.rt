@@ -3,13 +3,16 @@
 ghost use Rattle.std.specs.Prelude.{◌≡◌, ◌≤◌, length, List};
 ghost use Rattle.std.specs.List.{AllByRecursion};
 ghost use Rattle.sw_base.specs.Limits.{most_slots};
-ghost use Rattle.sw_code.specs.Range.{IsStep, IsInRange};
+ghost use Rattle.sw_code.specs.Range.{IsStep, IsInRange, most_steps};
 ghost use Rattle.sw_code.specs.Code.{Unfolds};
 ghost use Rattle.sw_trigger.specs.Agenda.{Item};
 ghost use Rattle.sw_code.specs.declared.code.Step.{Step};
 
 use std::marker::Model;
 use sw_base::{Chan, LayerName};
+
+/// How many steps a code has at most. They are numbered from 0.
+pub const STEPS: u16 = 8_192;
 
 /// One step of a code.
 #[derive(Clone, Copy, Debug, PartialEq, Eq)]
@@ -26,13 +29,13 @@ pub enum Step {
     Read,
     /// The channel is opened.
     Open(Chan),
-    /// The counter goes down by one, and where it isn't 0 then, the step of that number is next, 0 to 8,191.
+    /// The counter goes down by one, and where it isn't 0 then, the step of that number is next, below `STEPS`.
     Loop(u8, u16),
     /// The end.
     Halt,
 }
 
-/// A code: the slot of its meter, 1 to 8, and at most 8,192 steps, which are numbered from 0.
+/// A code: the slot of its meter, 1 to `SLOTS`, and at most `STEPS` steps, which are numbered from 0.
 ///
 /// Contracts see a plain record.
 #[derive(Debug, Drop)]
@@ -57,7 +60,7 @@ impl Code {
     /// The code of these steps.
     pub fn new(meter: u8, steps: Vec<Step>) -> Code
         requires meter { (1 ≤ meter) × (meter ≤ most_slots) }
-        requires length { length steps.items ≤ 8192 }
+        requires length { length steps.items ≤ most_steps }
         requires steps { AllByRecursion IsStep steps.items }
         ensures { result ≡ record { meter = meter; steps = steps.items } }
     {

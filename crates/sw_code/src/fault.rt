@@ -8,7 +8,7 @@ pub enum ListFault {
     BadStep,
     /// A part that is no number or out of its range.
     BadNumber,
-    /// A step past 8,192 of them.
+    /// A step past `STEPS` of them.
     TooLong,
     /// Memory ran out.
     NoMemory,

@@ -13,7 +13,7 @@ mod parts;
 mod print;
 mod read;
 
-pub use code::{Code, Step, one_unfolding};
+pub use code::{Code, STEPS, Step, one_unfolding};
 pub use emit::compile;
 pub use fault::{ListError, ListFault};
 pub use print::print_listing;

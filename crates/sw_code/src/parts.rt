@@ -8,7 +8,7 @@ ghost use Rattle.sw_base.specs.Number.{value_of};
 ghost use Rattle.sw_code.specs.Reading.{parts_at, is_numeral, number_in, channel_in};
 
 use crate::fault::ListFault;
-use sw_base::{Chan, cut, is_digit};
+use sw_base::{CHANNELS, Chan, SLOTS, cut, is_digit};
 
 /// What stands before the first mark, and what follows it; none where there is no mark.
 pub fn first_part(bytes: &[u8], mark: u8) -> Option<(&[u8], &[u8])>
@@ -66,8 +66,8 @@ pub fn channel(part: &[u8]) -> Result<Chan, ListFault>
     if first_part(ch, b'!').is_some() {
         return Err(ListFault::BadNumber);
     }
-    let slot = number(slot, 1, 8)?;
-    let ch = number(ch, 1, 99)?;
+    let slot = number(slot, 1, u64::from(SLOTS))?;
+    let ch = number(ch, 1, u64::from(CHANNELS))?;
     Ok(Chan::new(slot as u8, ch as u8))
 }
 

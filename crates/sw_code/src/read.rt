@@ -1,20 +1,21 @@
 //! Reading a listing.
 
-ghost use Rattle.std.specs.Prelude.{◌≡◌, ◌≤◌, ◌⊎◌, length, Ok, Err, IfOk, IfErr};
+ghost use Rattle.std.specs.Prelude.{◌≡◌, ◌+◌, ◌≤◌, ◌⊎◌, length, Ok, Err, IfOk, IfErr};
 ghost use Rattle.std.specs.List.{AllByRecursion};
+ghost use Rattle.sw_base.specs.Limits.{most_slots};
 ghost use Rattle.sw_code.specs.declared.fault.ListFault.TheVariants.{NoMemory};
-ghost use Rattle.sw_code.specs.Range.{IsStep};
+ghost use Rattle.sw_code.specs.Range.{IsStep, most_steps};
 ghost use Rattle.sw_code.specs.Reading.{parts_at, step_in, plain_step, step_with, step_with_two, layer_in, meter_in};
 ghost use Rattle.sw_code.specs.Reading.{on_line, numbered_step, steps_in, code_in};
 
-use crate::code::{Code, Step};
+use crate::code::{Code, STEPS, Step};
 use crate::fault::{ListError, ListFault};
 use crate::parts::{channel, first_part, is_word, number};
 use std::alloc::Global;
-use sw_base::{LONGEST_DELAY, LayerName};
+use sw_base::{LONGEST_DELAY, LayerName, SLOTS, TRIGGER_COUNT};
 
-/// The last line on which a step may stand: 8,192 of them after the two first lines.
-const LAST_LINE: u32 = 8194;
+/// The last line on which a step may stand: the two first lines hold none.
+const LAST_LINE: u32 = 2 + STEPS as u32;
 
 /// The code that a text lists, or the first fault by line; `NoMemory` where a step found no room.
 #[tactic(auto, using(crate::proofs::Listed::version_some, crate::proofs::Listed::second_some))]
@@ -52,7 +53,7 @@ pub fn read_listing(alloc: Global, text: &[u8]) -> Result<Code, ListError>
 #[tactic(auto, using(crate::proofs::Listed::meter_more))]
 fn read_meter(line: &[u8]) -> Result<u8, ListFault>
     ensures meter { result ≡ meter_in (parts_at 32 line.now) }
-    ensures range { IfOk result (λ slot. (1 ≤ slot) × (slot ≤ 8)) }
+    ensures range { IfOk result (λ slot. (1 ≤ slot) × (slot ≤ most_slots)) }
 {
     let Some((word, slot)) = first_part(line, b' ') else {
         return Err(ListFault::BadStep);
@@ -60,14 +61,14 @@ fn read_meter(line: &[u8]) -> Result<u8, ListFault>
     if first_part(slot, b' ').is_some() || !is_word(word, b"meter") {
         return Err(ListFault::BadStep);
     }
-    let slot = number(slot, 1, 8)?;
+    let slot = number(slot, 1, u64::from(SLOTS))?;
     Ok(slot as u8)
 }
 
 /// The steps of the lines from the third on.
 fn read_steps(alloc: Global, text: &[u8]) -> Result<Vec<Step>, ListError>
     ensures steps { IfOk result (λ v. steps_in 3 (parts_at 10 text.now) ≡ Ok v.items) }
-    ensures room { IfOk result (λ v. length v.items ≤ 8192) }
+    ensures room { IfOk result (λ v. length v.items ≤ most_steps) }
     ensures range { IfOk result (λ v. AllByRecursion IsStep v.items) }
     ensures fault { IfErr result (λ e. (e.kind ≡ NoMemory) ⊎ (steps_in 3 (parts_at 10 text.now) ≡ Err e)) }
 {
@@ -109,7 +110,7 @@ fn read_steps(alloc: Global, text: &[u8]) -> Result<Vec<Step>, ListError>
 fn numbered_step(line: u32, text: &[u8]) -> Result<Step, ListError>
     ensures step { result ≡ on_line line (numbered_step line text.now) }
     ensures range { IfOk result IsStep }
-    ensures room { IfOk result (λ s. line ≤ 8194) }
+    ensures room { IfOk result (λ s. line ≤ 2 + most_steps) }
 {
     match read_step(text) {
         Err(kind) => Err(ListError { line, kind }),
@@ -182,12 +183,12 @@ fn step_with_two(word: &[u8], first: &[u8], second: &[u8]) -> Result<Step, ListF
 {
     if is_word(word, b"set") {
         let counter = number(first, 0, 2)?;
-        let count = number(second, 1, 100_000)?;
+        let count = number(second, 1, u64::from(TRIGGER_COUNT))?;
         return Ok(Step::Set(counter as u8, count as u32));
     }
     if is_word(word, b"loop") {
         let counter = number(first, 0, 2)?;
-        let target = number(second, 0, 8191)?;
+        let target = number(second, 0, u64::from(STEPS) - 1)?;
         return Ok(Step::Loop(counter as u8, target as u16));
     }
     Err(ListFault::BadStep)

@@ -1,5 +1,5 @@
--- Where memory suffices and no card fails, a step leaves no choice.
-use Rattle.std.proofs.Common.{◌≡◌, ◌≢◌, ◌==◌, ◌&&◌, not, Bool, true, false, Option, None, Some, refl, sym, ◌∙◌, ap, subst, inl, inr, ◌⊎◌}
+-- Where memory suffices, a step leaves no choice but what comes of the cards.
+use Rattle.std.proofs.Common.{◌≡◌, ◌≢◌, ◌==◌, ◌&&◌, not, Bool, true, false, Option, None, Some, refl, sym, ◌∙◌, ap, subst, inl, inr, ◌⊎◌, map}
 use Rattle.std.specs.Prelude.{MatchBool}
 use Rattle.sw_cage.specs.Work.{FinishedSeen}
 use Rattle.sw_cage.specs.TakenSeen.{TakenSeen, SaysFault}
@@ -14,19 +14,23 @@ use Rattle.sw_core.specs.Event.{concluded, last_number}
 use Rattle.sw_core.specs.View.{WorkView, AskView, AskSession, AskInstall, AskEject, AskExternal, AskElapsed, AskFinished, AnswerView, SaysSession}
 use Rattle.sw_core.specs.View.{SaysInstalled, SaysNotInstalled, SaysEjected, SaysNotEjected, SaysFailed, SaysBack, SaysWorn}
 use Rattle.sw_core.specs.Step.{outside_told, StepOutside, IsOut, IsReturned, StepFinished, Acts, acts_unnumbered, IsWorn, IsEvent, IsUnnumbered, Step}
-use Rattle.sw_core.specs.Run.{IsPlain, KeepsKey}
+use Rattle.sw_core.specs.Run.{IsPlain, KeepsKey, tells_failure, failures_in, toll}
+use Rattle.sw_base.specs.declared.error.ScpiError.{ScpiError}
+use Rattle.sw_core.specs.declared.ask.SessionAnswer.TheVariants.{Refused}
+use Rattle.sw_core.proofs.Fallen.{step_fell}
+use Rattle.sw_core.proofs.Obeyed.{failed}
 use Rattle.sw_core.proofs.Going.{happens_once, returns_once}
-use Rattle.sw_core.proofs.OneCommand.{IsOnce, both}
+use Rattle.sw_core.proofs.OneCommand.{IsOnce, IsWhole, both}
 use Rattle.sw_core.proofs.OneScan.{plain_any}
 use Rattle.sw_core.proofs.OneSession.{session_once}
 use Rattle.sw_core.proofs.OneCard.{install_apart, install_once, eject_once, eject_apart}
 
-outside_whole : (a : AnswerView) (told : TakenSeen) → IsPlain a → a ≡ outside_told told → told ≢ SaysFault
+outside_whole : (a : AnswerView) (told : TakenSeen) → IsWhole a → a ≡ outside_told told → told ≢ SaysFault
 outside_whole a told n e f =
     let g : a ≡ SaysFailed = e ∙ ap (λ (x : TakenSeen). outside_told x) f in
-    subst (λ (x : AnswerView). IsPlain x) g n
+    subst (λ (x : AnswerView). IsWhole x) g n
 
-outside_once : (p : Panel) (happening : Happening) (f f' : Bool) (a a' : AnswerView) (q q' : Panel) → IsPlain a → IsPlain a' → StepOutside p happening f a q
+outside_once : (p : Panel) (happening : Happening) (f f' : Bool) (a a' : AnswerView) (q q' : Panel) → IsWhole a → IsWhole a' → StepOutside p happening f a q
     → StepOutside p happening f' a' q' → IsOnce a a' q q'
 outside_once p happening f f' a a' q q' n m h k =
     let r = happens_once p q q' happening f f' h.told k.told h.happens k.happens (outside_whole a h.told n h.answer_is)
@@ -41,7 +45,7 @@ finished_as : (p : Panel) (done : FinishedSeen) (f : Bool) (a : AnswerView) (q :
 finished_as p done f SaysBack q h = inl (h.1, refl, h.2)
 finished_as p done f a q h = inr h
 
-finished_once : (p : Panel) (done : FinishedSeen) (f f' : Bool) (a a' : AnswerView) (q q' : Panel) → IsPlain a → IsPlain a' → StepFinished p done f a q
+finished_once : (p : Panel) (done : FinishedSeen) (f f' : Bool) (a a' : AnswerView) (q q' : Panel) → IsWhole a → IsWhole a' → StepFinished p done f a q
     → StepFinished p done f' a' q' → IsOnce a a' q q'
 finished_once p done f f' a a' q q' n m h k = elim (finished_as p done f a q h) [
   | inl x ↦ elim (finished_as p done f' a' q' k) [ inl y ↦ (x.1 ∙ sym y.1, both p q q' x.2 y.2) | inr y ↦ absurd (x.0 y.out) ]
@@ -52,7 +56,7 @@ finished_once p done f f' a a' q q' n m h k = elim (finished_as p done f a q h) 
   ]
 ]
 
-acts_once : (p q q' : Panel) (ask : AskView) (f f' : Bool) (a a' : AnswerView) → Acts p ask f a q → Acts p ask f' a' q' → IsPlain a → IsPlain a'
+acts_once : (p q q' : Panel) (ask : AskView) (f f' : Bool) (a a' : AnswerView) → Acts p ask f a q → Acts p ask f' a' q' → IsWhole a → IsWhole a'
     → KeepsKey p ask a → KeepsKey p ask a' → (a ≡ a') × (q ≡ q')
 acts_once p q q' (AskSession ask) f f' (SaysSession a w) (SaysSession a' w') h k n m kx ky =
     let r = session_once (asker_of ask) p ask f f' a a' w w' q q' (plain_any a w None n) (plain_any a' w' None m) kx ky h k in
@@ -74,7 +78,7 @@ acts_once p q q' (AskElapsed ticket) f f' a a' h k n m kx ky = outside_once p (E
 acts_once p q q' (AskFinished done) f f' a a' h k n m kx ky = finished_once p done f f' a a' q q' n m h k
 acts_once p q q' ask f f' a a' h k n m kx ky = absurd (assumption (h, k))
 
-event_once : (p q q' : Panel) (ask : AskView) (f f' : Bool) (a a' : AnswerView) → IsEvent p ask f a q → IsEvent p ask f' a' q' → IsPlain a → IsPlain a'
+event_once : (p q q' : Panel) (ask : AskView) (f f' : Bool) (a a' : AnswerView) → IsEvent p ask f a q → IsEvent p ask f' a' q' → IsWhole a → IsWhole a'
     → KeepsKey p ask a → KeepsKey p ask a' → (a ≡ a') × (q ≡ q')
 event_once p q q' ask f f' a a' h k n m kx ky =
     let r = acts_once p h.done k.done ask f f' a a' h.acts k.acts n m kx ky in
@@ -90,10 +94,31 @@ worn_once (AskFinished done) SaysWorn SaysWorn h k = refl
 worn_once ask a a' h k = absurd (assumption (h, k))
 
 either_once : (b : Bool) (p q q' : Panel) (ask : AskView) (f f' : Bool) (a a' : AnswerView) → MatchBool b (IsUnnumbered p ask f a q) (IsEvent p ask f a q)
-    → MatchBool b (IsUnnumbered p ask f' a' q') (IsEvent p ask f' a' q') → IsPlain a → IsPlain a' → KeepsKey p ask a → KeepsKey p ask a' → (a ≡ a') × (q ≡ q')
+    → MatchBool b (IsUnnumbered p ask f' a' q') (IsEvent p ask f' a' q') → IsWhole a → IsWhole a' → KeepsKey p ask a → KeepsKey p ask a' → (a ≡ a') × (q ≡ q')
 either_once true p q q' ask f f' a a' h k n m kx ky = (worn_once ask a a' h.worn k.worn, both p q q' h.same k.same)
 either_once false p q q' ask f f' a a' h k n m kx ky = event_once p q q' ask f f' a a' h k n m kx ky
 
-pub step_once : (p q q' : Panel) (ask : AskView) (f f' : Bool) (a a' : AnswerView) → Step p ask f a q → Step p ask f' a' q' → IsPlain a → IsPlain a'
+step_whole : (p q q' : Panel) (ask : AskView) (f f' : Bool) (a a' : AnswerView) → Step p ask f a q → Step p ask f' a' q' → IsWhole a → IsWhole a'
     → KeepsKey p ask a → KeepsKey p ask a' → (a ≡ a') × (q ≡ q')
-step_once p q q' ask f f' a a' h k n m kx ky = either_once ((p.events == last_number) && not (acts_unnumbered ask)) p q q' ask f f' a a' h k n m kx ky
+step_whole p q q' ask f f' a a' h k n m kx ky = either_once ((p.events == last_number) && not (acts_unnumbered ask)) p q q' ask f f' a a' h k n m kx ky
+
+-- where no card failed, none is told of
+whole : (a : AnswerView) → IsPlain a → (tells_failure a ≡ true → ⊥) → IsWhole a
+whole (SaysSession (Refused e) w) n never = (n, λ is. never (ap (λ (x : ScpiError). tells_failure (SaysSession (Refused x) w)) is))
+whole SaysFailed n never = absurd (never refl)
+whole a n never = tt
+
+false_is_true : false ≡ true → ⊥
+false_is_true e = absurd (cc e)
+
+unfailed : (p q : Panel) (ask : AskView) (a : AnswerView) → Step p ask false a q → tells_failure a ≡ true → ⊥
+unfailed p q ask a h is = false_is_true (failed p q ask false a is h).0
+
+pub step_once : (p q q' : Panel) (ask : AskView) (f f' : Bool) (a a' : AnswerView) → Step p ask f a q → Step p ask f' a' q'
+    → toll f q.cage.cards ≡ toll f' q'.cage.cards → IsPlain a → IsPlain a' → KeepsKey p ask a → KeepsKey p ask a' → (a ≡ a') × (q ≡ q')
+step_once p q q' ask false false a a' h k same n m kx ky =
+    step_whole p q q' ask false false a a' h k (whole a n (unfailed p q ask a h)) (whole a' m (unfailed p q' ask a' k)) kx ky
+step_once p q q' ask true true a a' h k same n m kx ky =
+    let counts : map failures_in q.cage.cards ≡ map failures_in q'.cage.cards = cc in step_fell p q q' ask a a' h k counts
+step_once p q q' ask false true a a' h k same n m kx ky = absurd (cc same)
+step_once p q q' ask true false a a' h k same n m kx ky = absurd (cc same)

@@ -10,6 +10,7 @@ mod OneCommand
 mod OneScan
 mod OneSession
 mod OneCard
+mod Fallen
 mod Determined
 mod Kept
 mod Harmless

@@ -1,5 +1,5 @@
 -- A command that is carried out has one answer, where memory suffices and no card fails.
-use Rattle.std.proofs.Common.{◌≡◌, ℕ, Bool, true, false, List, None, Some, refl, sym, ◌∙◌, ap, [], ◌∷◌, map}
+use Rattle.std.proofs.Common.{◌≡◌, ◌≢◌, ℕ, Bool, true, false, List, None, Some, refl, sym, ◌∙◌, ap, [], ◌∷◌, map}
 use Rattle.std.specs.Prelude.{decimal}
 use Rattle.sw_base.specs.Layout.{Channel}
 use Rattle.sw_base.specs.declared.error.ScpiError.{ScpiError}
@@ -17,10 +17,15 @@ use Rattle.sw_core.specs.declared.ask.SessionAnswer.TheVariants.{Done, Refused}
 use Rattle.sw_core.specs.Panel.{Panel, with_cards}
 use Rattle.sw_core.specs.Action.{Effect, TellsNumber, TellsText, TellsReadings, ReadsOut, SetsStatus, SetsUp, Closes, Opens, TellsRelays, Leaves}
 use Rattle.sw_core.specs.Action.{Resets, reset, Offers, Refuses, IsOfMacros, Initiates}
-use Rattle.sw_core.specs.View.{SaysSession}
+use Rattle.sw_core.specs.View.{AnswerView, SaysSession, SaysFailed}
 use Rattle.sw_core.specs.Step.{StepClose, StepOpen, StepFlags, StepText, StepDone, StepSetting, StepRefused, StepReadings, StepAlone}
-use Rattle.sw_core.specs.Run.{IsPlain}
 use Rattle.sw_core.proofs.Same.{sets_once}
+
+-- an answer that tells of no want of memory and of no card's failure
+abbrev pub IsWhole : AnswerView → Type 0
+IsWhole (SaysSession (Refused e) work) = (e ≢ OutOfMemory) × (e ≢ HardwareError)
+IsWhole SaysFailed = ⊥
+IsWhole answer = Unit {0}
 
 abbrev pub IsOnce : {A : Type 0} → A → A → Panel → Panel → Type 0
 IsOnce a a' q q' = (a ≡ a') × (q ≡ q')
@@ -38,8 +43,8 @@ pub set_once : (p q q' : Panel) (chans : List Channel) (on : Bool) → Sets p.ca
     → q ≡ with_cards p q.cage.cards → q' ≡ with_cards p q'.cage.cards → q ≡ q'
 set_once p q q' chans on s t e f = e ∙ ap (λ (r : Accounts). with_cards p r) (sets_once p.cage.cards q.cage.cards q'.cage.cards chans on s t) ∙ sym f
 
-pub close_once : (p : Panel) (chans : List Channel) (f f' : Bool) (a a' : SessionAnswer) (q q' : Panel) → IsPlain (SaysSession a None)
-    → IsPlain (SaysSession a' None) → StepClose p chans f a q → StepClose p chans f' a' q' → IsOnce a a' q q'
+pub close_once : (p : Panel) (chans : List Channel) (f f' : Bool) (a a' : SessionAnswer) (q q' : Panel) → IsWhole (SaysSession a None)
+    → IsWhole (SaysSession a' None) → StepClose p chans f a q → StepClose p chans f' a' q' → IsOnce a a' q q'
 close_once p chans f f' (Done None) (Done None) q q' n m h k = (refl, set_once p q q' chans true h.2 k.2 h.3 k.3)
 close_once p chans f f' (Done None) (Refused HardwareMissing) q q' n m h k = absurd (true_false _ h.1.present k.1)
 close_once p chans f f' (Done None) (Refused SettingsConflict) q q' n m h k = absurd (h.1.apart k.1.1)
@@ -53,8 +58,8 @@ close_once p chans f f' (Refused HardwareError) a' q q' n m h k = absurd (n.1 re
 close_once p chans f f' a (Refused HardwareError) q q' n m h k = absurd (m.1 refl)
 close_once p chans f f' a a' q q' n m h k = absurd (assumption (h, k))
 
-pub open_once : (p : Panel) (chans : List Channel) (f f' : Bool) (a a' : SessionAnswer) (q q' : Panel) → IsPlain (SaysSession a None)
-    → IsPlain (SaysSession a' None) → StepOpen p chans f a q → StepOpen p chans f' a' q' → IsOnce a a' q q'
+pub open_once : (p : Panel) (chans : List Channel) (f f' : Bool) (a a' : SessionAnswer) (q q' : Panel) → IsWhole (SaysSession a None)
+    → IsWhole (SaysSession a' None) → StepOpen p chans f a q → StepOpen p chans f' a' q' → IsOnce a a' q q'
 open_once p chans f f' (Done None) (Done None) q q' n m h k = (refl, set_once p q q' chans false h.2 k.2 h.3 k.3)
 open_once p chans f f' (Done None) (Refused HardwareMissing) q q' n m h k = absurd (true_false _ h.1 k.1)
 open_once p chans f f' (Refused HardwareMissing) (Done None) q q' n m h k = absurd (true_false _ k.1 h.1)
@@ -63,8 +68,8 @@ open_once p chans f f' (Refused HardwareError) a' q q' n m h k = absurd (n.1 ref
 open_once p chans f f' a (Refused HardwareError) q q' n m h k = absurd (m.1 refl)
 open_once p chans f f' a a' q q' n m h k = absurd (assumption (h, k))
 
-pub flags_once : (p : Panel) (closed : Bool) (chans : List Channel) (f f' : Bool) (a a' : SessionAnswer) (q q' : Panel) → IsPlain (SaysSession a None)
-    → IsPlain (SaysSession a' None) → StepFlags p closed chans f a q → StepFlags p closed chans f' a' q' → IsOnce a a' q q'
+pub flags_once : (p : Panel) (closed : Bool) (chans : List Channel) (f f' : Bool) (a a' : SessionAnswer) (q q' : Panel) → IsWhole (SaysSession a None)
+    → IsWhole (SaysSession a' None) → StepFlags p closed chans f a q → StepFlags p closed chans f' a' q' → IsOnce a a' q q'
 flags_once p closed chans f f' (Done (Some t)) (Done (Some t')) q q' n m h k = (same_text t t' _ h.2 k.2, both p q q' h.3 k.3)
 flags_once p closed chans f f' (Done (Some t)) (Refused HardwareMissing) q q' n m h k = absurd (true_false _ h.1 k.1)
 flags_once p closed chans f f' (Refused HardwareMissing) (Done (Some t)) q q' n m h k = absurd (true_false _ k.1 h.1)
@@ -73,8 +78,8 @@ flags_once p closed chans f f' (Refused OutOfMemory) a' q q' n m h k = absurd (n
 flags_once p closed chans f f' a (Refused OutOfMemory) q q' n m h k = absurd (m.0 refl)
 flags_once p closed chans f f' a a' q q' n m h k = absurd (assumption (h, k))
 
-pub text_once : (p : Panel) (text : List ℕ) (s : StatusSeen) (f f' : Bool) (a a' : SessionAnswer) (q q' : Panel) → IsPlain (SaysSession a None)
-    → IsPlain (SaysSession a' None) → StepText p text s f a q → StepText p text s f' a' q' → IsOnce a a' q q'
+pub text_once : (p : Panel) (text : List ℕ) (s : StatusSeen) (f f' : Bool) (a a' : SessionAnswer) (q q' : Panel) → IsWhole (SaysSession a None)
+    → IsWhole (SaysSession a' None) → StepText p text s f a q → StepText p text s f' a' q' → IsOnce a a' q q'
 text_once p text s f f' (Done (Some t)) (Done (Some t')) q q' n m h k = (same_text t t' _ h.1 k.1, h.2 ∙ sym k.2)
 text_once p text s f f' (Refused OutOfMemory) a' q q' n m h k = absurd (n.0 refl)
 text_once p text s f f' a (Refused OutOfMemory) q q' n m h k = absurd (m.0 refl)
@@ -98,12 +103,12 @@ refused_once p error f f' (Refused e) (Refused e') q q' h k = (ap Refused (h.1 �
 refused_once p error f f' a a' q q' h k = absurd (assumption (h, k))
 
 pub readings_once : (l : List Reading) (p : Panel) (f f' : Bool) (a a' : SessionAnswer) (q q' : Panel)
-    → IsPlain (SaysSession a None) → IsPlain (SaysSession a' None) → StepReadings l p f a q → StepReadings l p f' a' q' → IsOnce a a' q q'
+    → IsWhole (SaysSession a None) → IsWhole (SaysSession a' None) → StepReadings l p f a q → StepReadings l p f' a' q' → IsOnce a a' q q'
 readings_once [] p f f' a a' q q' n m h k = refused_once p DataCorruptOrStale f f' a a' q q' h k
 readings_once (r ∷ rs) p f f' a a' q q' n m h k = text_once p (join_with_byte 44 (map reading_text (r ∷ rs))) p.status f f' a a' q q' n m h k
 
 pub alone_once : (e : Effect) (p : Panel) (f f' : Bool) (a a' : SessionAnswer) (q q' : Panel)
-    → IsPlain (SaysSession a None) → IsPlain (SaysSession a' None) → StepAlone e p f a q → StepAlone e p f' a' q' → IsOnce a a' q q'
+    → IsWhole (SaysSession a None) → IsWhole (SaysSession a' None) → StepAlone e p f a q → StepAlone e p f' a' q' → IsOnce a a' q q'
 alone_once (TellsNumber number) p f f' a a' q q' n m h k = text_once p (decimal (number p)) p.status f f' a a' q q' n m h k
 alone_once (TellsText text) p f f' a a' q q' n m h k = text_once p (text p) p.status f f' a a' q q' n m h k
 alone_once TellsReadings p f f' a a' q q' n m h k = readings_once p.cage.readings p f f' a a' q q' n m h k

@@ -16,26 +16,25 @@ use Rattle.sw_core.specs.Action.{Offers, Action, AtOnce, BetweenScans, AfterScan
 use Rattle.sw_core.specs.View.{WorkView, SaysSession}
 use Rattle.sw_core.specs.Step.{StepRefused, StepEffect, StepHeld, StepAction}
 use Rattle.sw_core.specs.Step.{session_told, work_of, started_answer, StepHappens, RefusesScan, MayScan, snapshot_of, StepSnapshot, IsStarted, StepStart}
-use Rattle.sw_core.specs.Run.{IsPlain}
 use Rattle.sw_core.proofs.Going.{happens_once, starts_once}
-use Rattle.sw_core.proofs.OneCommand.{IsOnce, both, true_false, refused_once, alone_once}
+use Rattle.sw_core.proofs.OneCommand.{IsWhole, IsOnce, both, true_false, refused_once, alone_once}
 
 abbrev pub IsAlike : SessionAnswer → SessionAnswer → Option WorkView → Option WorkView → Panel → Panel → Type 0
 IsAlike a a' w w' q q' = (a ≡ a') × (w ≡ w') × (q ≡ q')
 
-pub plain_any : (a : SessionAnswer) (w w' : Option WorkView) → IsPlain (SaysSession a w) → IsPlain (SaysSession a w')
+pub plain_any : (a : SessionAnswer) (w w' : Option WorkView) → IsWhole (SaysSession a w) → IsWhole (SaysSession a w')
 plain_any (Refused e) w w' h = h
 plain_any a w w' h = tt
 
 -- a plain answer tells of no card's failure
-pub unbroken : (error : ScpiError) (a : SessionAnswer) (told : TakenSeen) → IsPlain (SaysSession a None) → a ≡ session_told error told → told ≢ SaysFault
+pub unbroken : (error : ScpiError) (a : SessionAnswer) (told : TakenSeen) → IsWhole (SaysSession a None) → a ≡ session_told error told → told ≢ SaysFault
 unbroken error a told n e f =
     let g : a ≡ Refused HardwareError = e ∙ ap (λ (x : TakenSeen). session_told error x) f in
-    let plain : IsPlain (SaysSession (Refused HardwareError) None) = subst (λ (x : SessionAnswer). IsPlain (SaysSession x None)) g n in
+    let plain : IsWhole (SaysSession (Refused HardwareError) None) = subst (λ (x : SessionAnswer). IsWhole (SaysSession x None)) g n in
     plain.1 refl
 
 pub happening_once : (p : Panel) (happening : Happening) (error : ScpiError) (f f' : Bool) (a a' : SessionAnswer) (w w' : Option WorkView) (q q' : Panel)
-    → IsPlain (SaysSession a None) → IsPlain (SaysSession a' None) → StepHappens p happening error f a w q → StepHappens p happening error f' a' w' q'
+    → IsWhole (SaysSession a None) → IsWhole (SaysSession a' None) → StepHappens p happening error f a w q → StepHappens p happening error f' a' w' q'
     → IsAlike a a' w w' q q'
 happening_once p happening error f f' a a' w w' q q' n m h k =
     let r = happens_once p q q' happening f f' h.told k.told h.happens k.happens (unbroken error a h.told n h.answer_is)
@@ -43,7 +42,7 @@ happening_once p happening error f f' a a' w w' q q' n m h k =
     (h.answer_is ∙ ap (λ (x : TakenSeen). session_told error x) r.0 ∙ sym k.answer_is, h.work_is ∙ ap (λ (x : TakenSeen). work_of x) r.0 ∙ sym k.work_is, r.1)
 
 pub effect_once : (e : Effect) (p : Panel) (f f' : Bool) (a a' : SessionAnswer) (w w' : Option WorkView) (q q' : Panel)
-    → IsPlain (SaysSession a None) → IsPlain (SaysSession a' None) → StepEffect e p f a w q → StepEffect e p f' a' w' q' → IsAlike a a' w w' q q'
+    → IsWhole (SaysSession a None) → IsWhole (SaysSession a' None) → StepEffect e p f a w q → StepEffect e p f' a' w' q' → IsAlike a a' w w' q q'
 effect_once (Offers happening error) p f f' a a' w w' q q' n m h k = happening_once p happening error f f' a a' w w' q q' n m h k
 effect_once e p f f' a a' w w' q q' n m h k =
     let r = alone_once e p f f' a a' q q' n m h.0 k.0 in
@@ -62,7 +61,7 @@ either_alike true A B A' B' a a' w w' q q' x y h k = x h k
 either_alike false A B A' B' a a' w w' q q' x y h k = y h k
 
 pub action_once : (x : Action) (p : Panel) (ask : SessionAsk) (f f' : Bool) (a a' : SessionAnswer) (w w' : Option WorkView) (q q' : Panel)
-    → IsPlain (SaysSession a None) → IsPlain (SaysSession a' None) → StepAction x p ask f a w q → StepAction x p ask f' a' w' q' → IsAlike a a' w w' q q'
+    → IsWhole (SaysSession a None) → IsWhole (SaysSession a' None) → StepAction x p ask f a w q → StepAction x p ask f' a' w' q' → IsAlike a a' w w' q q'
 action_once (AtOnce e) p ask f f' a a' w w' q q' n m h k = effect_once e p f f' a a' w w' q q' n m h k
 action_once (BetweenScans e) p ask f f' a a' w w' q q' n m h k =
     either_alike (is_running p) (λ a w q. StepRefused p SettingsConflict f a q × (w ≡ None)) (λ a w q. StepEffect e p f a w q)
@@ -101,13 +100,13 @@ IsGiven p a q = MayScan p × (a ≡ answers.Snapshot (snapshot_of p)) × (q ≡ 
 abbrev pub IsDenied : Panel → SessionAnswer → Panel → Type 0
 IsDenied p a q = (e : ScpiError) × RefusesScan p e × (a ≡ Refused e) × (q ≡ p)
 
-pub snapshot_as : (p : Panel) (f : Bool) (a : SessionAnswer) (q : Panel) → IsPlain (SaysSession a None) → StepSnapshot p f a q → IsGiven p a q ⊎ IsDenied p a q
+pub snapshot_as : (p : Panel) (f : Bool) (a : SessionAnswer) (q : Panel) → IsWhole (SaysSession a None) → StepSnapshot p f a q → IsGiven p a q ⊎ IsDenied p a q
 snapshot_as p f (answers.Snapshot s) q n h = inl (h.1, ap answers.Snapshot h.2, h.3)
 snapshot_as p f (Refused OutOfMemory) q n h = absurd (n.0 refl)
 snapshot_as p f (Refused e) q n h = inr (e, h.1, refl, h.2)
 snapshot_as p f a q n h = absurd h
 
-pub snapshot_once : (p : Panel) (f f' : Bool) (a a' : SessionAnswer) (q q' : Panel) → IsPlain (SaysSession a None) → IsPlain (SaysSession a' None)
+pub snapshot_once : (p : Panel) (f f' : Bool) (a a' : SessionAnswer) (q q' : Panel) → IsWhole (SaysSession a None) → IsWhole (SaysSession a' None)
     → StepSnapshot p f a q → StepSnapshot p f' a' q' → IsOnce a a' q q'
 snapshot_once p f f' a a' q q' n m h k = elim (snapshot_as p f a q n h) [
   | inl x ↦ elim (snapshot_as p f' a' q' m k) [ inl y ↦ (x.1 ∙ sym y.1, both p q q' x.2 y.2) | inr y ↦ absurd (may_apart p y.0 x.0 y.1) ]
@@ -127,7 +126,7 @@ IsStale p plan a w q = MayScan p × (plan ≢ snapshot_of p) × (a ≡ Refused S
 abbrev pub IsBarred : Panel → SessionAnswer → Option WorkView → Panel → Type 0
 IsBarred p a w q = (e : ScpiError) × RefusesScan p e × (a ≡ Refused e) × (w ≡ None) × (q ≡ p)
 
-pub start_as : (p : Panel) (plan : Snapshot) (f : Bool) (a : SessionAnswer) (w : Option WorkView) (q : Panel) → IsPlain (SaysSession a None)
+pub start_as : (p : Panel) (plan : Snapshot) (f : Bool) (a : SessionAnswer) (w : Option WorkView) (q : Panel) → IsWhole (SaysSession a None)
     → StepStart p plan f a w q → IsBegun p plan a w q ⊎ (IsStale p plan a w q ⊎ IsBarred p a w q)
 start_as p plan f (Done None) w q n h = inl (f, h)
 start_as p plan f (Refused HardwareError) w q n h = absurd (n.1 refl)
@@ -137,15 +136,15 @@ start_as p plan f (Refused SettingsConflict) None q n h =
 start_as p plan f (Refused e) None q n h = inr (inr (e, h.1, refl, refl, h.2))
 start_as p plan f a w q n h = absurd h
 
-pub begun_whole : (p : Panel) (plan : Snapshot) (a : SessionAnswer) (w : Option WorkView) (q : Panel) → IsPlain (SaysSession a None)
+pub begun_whole : (p : Panel) (plan : Snapshot) (a : SessionAnswer) (w : Option WorkView) (q : Panel) → IsWhole (SaysSession a None)
     → (b : IsBegun p plan a w q) → b.1.told ≢ SaysFault
 begun_whole p plan a w q n b e =
     let g : a ≡ Refused HardwareError = b.1.answer_is ∙ ap (λ (x : TakenSeen). started_answer x) e in
-    let plain : IsPlain (SaysSession (Refused HardwareError) None) = subst (λ (x : SessionAnswer). IsPlain (SaysSession x None)) g n in
+    let plain : IsWhole (SaysSession (Refused HardwareError) None) = subst (λ (x : SessionAnswer). IsWhole (SaysSession x None)) g n in
     plain.1 refl
 
-pub begun_once : (p : Panel) (plan : Snapshot) (a a' : SessionAnswer) (w w' : Option WorkView) (q q' : Panel) → IsPlain (SaysSession a None)
-    → IsPlain (SaysSession a' None) → IsBegun p plan a w q → IsBegun p plan a' w' q' → IsAlike a a' w w' q q'
+pub begun_once : (p : Panel) (plan : Snapshot) (a a' : SessionAnswer) (w w' : Option WorkView) (q q' : Panel) → IsWhole (SaysSession a None)
+    → IsWhole (SaysSession a' None) → IsBegun p plan a w q → IsBegun p plan a' w' q' → IsAlike a a' w w' q q'
 begun_once p plan a a' w w' q q' n m x y =
     let r = starts_once p q q' plan x.0 y.0 x.1.told y.1.told x.1.starts y.1.starts (begun_whole p plan a w q n x) (begun_whole p plan a' w' q' m y) in (
       x.1.answer_is ∙ ap (λ (z : TakenSeen). started_answer z) r.0 ∙ sym y.1.answer_is,
@@ -154,8 +153,8 @@ begun_once p plan a a' w w' q q' n m x y =
       r.1,
     )
 
-pub start_once : (p : Panel) (plan : Snapshot) (f f' : Bool) (a a' : SessionAnswer) (w w' : Option WorkView) (q q' : Panel) → IsPlain (SaysSession a None)
-    → IsPlain (SaysSession a' None) → StepStart p plan f a w q → StepStart p plan f' a' w' q' → IsAlike a a' w w' q q'
+pub start_once : (p : Panel) (plan : Snapshot) (f f' : Bool) (a a' : SessionAnswer) (w w' : Option WorkView) (q q' : Panel) → IsWhole (SaysSession a None)
+    → IsWhole (SaysSession a' None) → StepStart p plan f a w q → StepStart p plan f' a' w' q' → IsAlike a a' w w' q q'
 start_once p plan f f' a a' w w' q q' n m h k = elim (start_as p plan f a w q n h) [
   | inl x ↦ elim (start_as p plan f' a' w' q' m k) [
     | inl y ↦ begun_once p plan a a' w w' q q' n m x y

@@ -18,8 +18,7 @@ use Rattle.sw_core.specs.Event.{next_number}
 use Rattle.sw_core.specs.View.{WorkView, SaysSession}
 use Rattle.sw_core.specs.Step.{StepAdmitted, StepAttach, StepNew, IsServed, drops, shuts_out}
 use Rattle.sw_core.specs.Step.{StepJoin, StepJoined, StepSession}
-use Rattle.sw_core.specs.Run.{IsPlain}
-use Rattle.sw_core.proofs.OneCommand.{both}
+use Rattle.sw_core.proofs.OneCommand.{IsWhole, both}
 use Rattle.sw_core.proofs.OneScan.{IsAlike, happening_once, held_once, action_once, snapshot_once, start_once}
 
 pub least_once : (sessions : SessionsSeen) (n m : ℕ) → IsLeastFree sessions n → IsLeastFree sessions m → n ≡ m
@@ -65,8 +64,8 @@ pub fault_none : (p : Panel) (sid : Sid) (e : ScpiError) (f : Bool) (a : Session
 fault_none p sid e f (Done None) w q h = h
 fault_none p sid e f a w q h = h
 
-pub joined_once : (p : Panel) (ask : SessionAsk) (f f' : Bool) (a a' : SessionAnswer) (w w' : Option WorkView) (q q' : Panel) → IsPlain (SaysSession a None)
-    → IsPlain (SaysSession a' None) → FindsKey p.sessions ask a → FindsKey p.sessions ask a' → StepJoined p ask f a w q → StepJoined p ask f' a' w' q'
+pub joined_once : (p : Panel) (ask : SessionAsk) (f f' : Bool) (a a' : SessionAnswer) (w w' : Option WorkView) (q q' : Panel) → IsWhole (SaysSession a None)
+    → IsWhole (SaysSession a' None) → FindsKey p.sessions ask a → FindsKey p.sessions ask a' → StepJoined p ask f a w q → StepJoined p ask f' a' w' q'
     → IsAlike a a' w w' q q'
 joined_once p (Ask.Fault sid e) f f' a a' None None q q' n m x y h k = fault_once p sid e f f' a a' q q' h k
 joined_once p (Ask.Fault sid e) f f' a a' (Some w) w' q q' n m x y h k = absurd (fault_none p sid e f a w q h)
@@ -90,7 +89,7 @@ joined_once p (Ask.Attach number) f f' a a' None None q q' n m x y h k = served_
 joined_once p ask f f' a a' w w' q q' n m x y h k = absurd (assumption (h, k))
 
 pub admitted_once : (b o : Bool) (p : Panel) (ask : SessionAsk) (f f' : Bool) (a a' : SessionAnswer) (w w' : Option WorkView) (q q' : Panel)
-    → IsPlain (SaysSession a None) → IsPlain (SaysSession a' None) → FindsKey p.sessions ask a → FindsKey p.sessions ask a' → StepAdmitted b o p ask f a w q
+    → IsWhole (SaysSession a None) → IsWhole (SaysSession a' None) → FindsKey p.sessions ask a → FindsKey p.sessions ask a' → StepAdmitted b o p ask f a w q
     → StepAdmitted b o p ask f' a' w' q' → IsAlike a a' w w' q q'
 admitted_once true o p ask f f' Broken Broken None None q q' n m x y h k = (refl, refl, both p q q' h.1 k.1)
 admitted_once true o p ask f f' a a' w w' q q' n m x y h k = absurd (assumption (h, k))
@@ -128,7 +127,7 @@ session_as p sid ask f Stranger None q h = inl (h.1, refl, refl, h.2)
 session_as p sid ask f a w q h = inr h
 
 pub session_once : (o : Option Sid) (p : Panel) (ask : SessionAsk) (f f' : Bool) (a a' : SessionAnswer) (w w' : Option WorkView) (q q' : Panel)
-    → IsPlain (SaysSession a None) → IsPlain (SaysSession a' None) → FindsKey p.sessions ask a → FindsKey p.sessions ask a' → StepSession o p ask f a w q
+    → IsWhole (SaysSession a None) → IsWhole (SaysSession a' None) → FindsKey p.sessions ask a → FindsKey p.sessions ask a' → StepSession o p ask f a w q
     → StepSession o p ask f' a' w' q' → IsAlike a a' w w' q q'
 session_once None p ask f f' a a' w w' q q' n m kx ky h k = new_once p ask f f' a a' w w' q q' h k
 session_once (Some sid) p ask f f' a a' w w' q q' n m kx ky h k = elim (session_as p sid ask f a w q h) [

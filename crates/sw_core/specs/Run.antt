@@ -1,5 +1,6 @@
 -- Runs: lists of events from the opening state, and what none of them can do.
 use Rattle.std.specs.Prelude.{◌≡◌, ◌≢◌, ℕ, Bool, true, false, List, [], ◌∷◌, ◌++◌, Some, None, ◌⊎◌, decimal}
+use Rattle.std.specs.Prelude.{Option, map}
 use Rattle.sw_base.specs.Layout.{Channel}
 use Rattle.sw_base.specs.declared.error.ScpiError.{ScpiError}
 use Rattle.sw_base.specs.declared.error.ScpiError.TheVariants.{HardwareError, OutOfMemory}
@@ -131,10 +132,9 @@ pub record RelaysObey : Type 0 where
   pub ejected : (p q : Panel) (slot : ℕ) (failed : Bool) (card : Account)
       → Step p (AskEject slot) failed (SaysEjected card) q → (k : ℕ) → closed_at card.closed k ≡ false
 
--- an answer that tells of no want of memory and of no card's failure
+-- an answer that tells of no want of memory
 abbrev pub IsPlain : AnswerView → Type 0
-IsPlain (SaysSession (Refused e) work) = (e ≢ OutOfMemory) × (e ≢ HardwareError)
-IsPlain SaysFailed = ⊥
+IsPlain (SaysSession (Refused e) work) = e ≢ OutOfMemory
 IsPlain answer = Unit {0}
 
 -- nor of a key of a lock that found no memory
@@ -142,8 +142,22 @@ abbrev pub KeepsKey : Panel → AskView → AnswerView → Type 0
 KeepsKey p (AskSession ask) (SaysSession answer work) = FindsKey p.sessions ask answer
 KeepsKey p ask answer = Unit {0}
 
--- Where memory suffices and no card fails, an ask has one answer and leaves one state.
+-- how often a slot's card has failed
+abbrev pub failures_in : Option Account → Option ℕ
+failures_in None = None
+failures_in (Some card) = Some card.failures
+
+-- What came of the cards in a call: nothing where none failed; else how often each has failed, after the call.
+abbrev pub Toll : Type 0
+Toll = Option (List (Option ℕ))
+
+abbrev pub toll : Bool → Accounts → Toll
+toll false cards = None
+toll true cards = Some (map failures_in cards)
+
+-- Where memory suffices, an ask has one answer and leaves one state for what comes of the cards: whether one failed in
+-- the call, and if so, how often each has failed after it.
 abbrev pub StepIsDetermined : Type 0
 StepIsDetermined = (p q q' : Panel) (ask : AskView) (f f' : Bool) (a a' : AnswerView)
-    → Step p ask f a q → Step p ask f' a' q' → IsPlain a → IsPlain a'
+    → Step p ask f a q → Step p ask f' a' q' → toll f q.cage.cards ≡ toll f' q'.cage.cards → IsPlain a → IsPlain a'
     → KeepsKey p ask a → KeepsKey p ask a' → (a ≡ a') × (q ≡ q')

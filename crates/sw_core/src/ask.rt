@@ -4,7 +4,7 @@ use sw_base::{ScpiError, Sequence};
 use sw_cage::{EjectRefusal, Finished, InstallRefusal, Job, Ticket};
 use sw_card::{Card, Meter, Relay};
 use sw_lex::Command;
-use sw_verify::{Plan, Snapshot};
+use sw_verify::{BoxedSnapshot, Plan};
 
 /// A session: its number, 1 to 16, and the number of events after its Join, which tells it from an earlier session
 /// of that number.
@@ -76,7 +76,7 @@ pub enum SessionAnswer {
     /// Whether the exclusive lock is held, and how many sessions hold a lock.
     Info(bool, u8),
     /// What a scan would begin from.
-    Snapshot(Snapshot),
+    Snapshot(BoxedSnapshot),
     /// It was refused, for this error.
     Refused(ScpiError),
     /// It can't be done yet: it is to be asked again after a wait.

@@ -24,7 +24,8 @@ pub fn relays_obey()
     ensures { RelaysObey }
 {}
 
-/// Where memory suffices and no card fails, an ask has one answer and leaves one state.
+/// Where memory suffices, an ask has one answer and leaves one state for what comes of the cards: whether one failed in
+/// the call, and if so, how often each has failed after it.
 pub fn step_is_determined()
     ensures { StepIsDetermined }
 {}

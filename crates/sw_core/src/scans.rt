@@ -17,7 +17,7 @@ use std::alloc::{AllocError, Global};
 use sw_base::{ScpiError, Sequence};
 use sw_cage::{Finished, Happening, Taken};
 use sw_card::{Meter, Relay};
-use sw_verify::{Plan, Snapshot};
+use sw_verify::{BoxedSnapshot, Plan, Snapshot};
 
 /// The work that a scan awaits once it has come to this.
 fn work_of<M: Meter>(told: Taken<M>) -> Option<Work<M>>
@@ -157,14 +157,15 @@ impl<R: Relay, M: Meter> Core<R, M> {
         }
     }
 
-    fn take_snapshot(&self, alloc: Global) -> Result<Snapshot, AllocError>
+    fn take_snapshot(&self, alloc: Global) -> Result<BoxedSnapshot, AllocError>
         ensures { IfOk result (λ s. s ≡ snapshot_of self.now) }
     {
-        Ok(Snapshot {
+        let snapshot = Snapshot {
             settings: self.settings.try_copy(alloc)?,
             layout: self.cage.layout(alloc)?,
             closed: Sequence::new(self.cage.closed_chans(alloc)?),
-        })
+        };
+        BoxedSnapshot::new(alloc, snapshot)
     }
 
     /// Begins the scan of a plan, where what it was made of is so now.

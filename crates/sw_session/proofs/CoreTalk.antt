@@ -1,4 +1,4 @@
--- A talk over a mainframe leaves no choice but what is measured, where memory suffices and no card fails.
+-- A talk over a mainframe leaves no choice but what is measured and what comes of the cards, where memory suffices.
 use Rattle.std.proofs.Common.{◌≡◌, ℕ, zero, suc, Bool, List, [], ◌∷◌, ◌++◌, replicate, Option, Some, None, Result, Ok, Err, refl, ap, sym, ◌∙◌, subst, arith}
 use Rattle.std.specs.Io.BufRead.{strip_last}
 use Rattle.std.proofs.lemmas.List.{append_assoc}
@@ -11,7 +11,7 @@ use Rattle.sw_core.specs.declared.ask.Sid.{Sid}
 use Rattle.sw_core.specs.declared.ask.SessionAsk.{SessionAsk}
 use Rattle.sw_core.specs.declared.ask.SessionAnswer.{SessionAnswer}
 use Rattle.sw_core.specs.Panel.{Panel}
-use Rattle.sw_core.specs.Run.{StepIsDetermined, IsPlain, KeepsKey}
+use Rattle.sw_core.specs.Run.{StepIsDetermined, IsPlain, KeepsKey, Toll, toll}
 use Rattle.sw_core.specs.Step.{Step}
 use Rattle.sw_core.specs.View.{WorkView, Measures, Pauses, AskView, AskSession, AskFinished, AnswerView, SaysSession}
 use Rattle.sw_session.specs.declared.desk.View.{View}
@@ -20,7 +20,8 @@ use Rattle.sw_session.specs.declared.desk.Wake.TheVariants.{Again, Over}
 use Rattle.sw_session.specs.Trace.{Entry, Asked, Waited, Polled, Noted, Leads}
 use Rattle.sw_session.specs.Available.{with_note}
 use Rattle.sw_session.specs.CoreDesk.{DeskSeen, Carried, Tells, Keeps, Answers, Works, PassesBy, CorePasses, brought, view_of}
-use Rattle.sw_session.specs.Law.{SameCall, SameTalk, TellsPlainly, KeepsKeys, IsSmooth, AllSmooth, carried_of, measured, outcomes_in, outcomes_of, waits_of}
+use Rattle.sw_session.specs.Law.{SameCall, SameTalk, TellsPlainly, KeepsKeys, IsSmooth, AllSmooth, carried_of, waits_of}
+use Rattle.sw_session.specs.Law.{Outcome, Measured, Cards, measured, outcomes_in, outcomes_by, outcomes_of}
 use Rattle.sw_session.specs.Law.{Left, left, TalkIsDetermined, CoreTalkIsDetermined, CoreRestIsDetermined}
 
 -- what is kept, where nothing is carried out at once
@@ -68,33 +69,42 @@ done-same job d d' i i' same =
     parts-same d.slot d'.slot d.ticket d'.ticket d.meter d'.meter d.before d'.before d.outcome d'.outcome (i.slot ∙ sym i'.slot) (i.ticket
     ∙ sym i'.ticket) meters (i.before ∙ sym i'.before) same
 
-head-same : (o o' : Result Reading CardFault) (os os' : List (Result Reading CardFault)) → o ∷ os ≡ o' ∷ os' → o ≡ o'
+head-same : (o o' : Outcome) (os os' : List Outcome) → o ∷ os ≡ o' ∷ os' → o ≡ o'
 head-same o o' os os' is = cc (is)
 
-tail-same : (o o' : Result Reading CardFault) (os os' : List (Result Reading CardFault)) → o ∷ os ≡ o' ∷ os' → os ≡ os'
+tail-same : (o o' : Outcome) (os os' : List Outcome) → o ∷ os ≡ o' ∷ os' → os ≡ os'
 tail-same o o' os os' is = cc (is)
 
+made-same : (o o' : Result Reading CardFault) → Measured o ≡ Measured o' → o ≡ o'
+made-same o o' is = cc (is)
+
+toll-same : (t t' : Toll) → Cards t ≡ Cards t' → t ≡ t'
+toll-same t t' is = cc (is)
+
 -- what is told of one piece
-told-same : (piece : WorkView) (a a' : AskView) (os os' : List (Result Reading CardFault)) → Tells piece a → Tells piece a' → measured a ++ os ≡ measured a'
+told-same : (piece : WorkView) (a a' : AskView) (os os' : List Outcome) → Tells piece a → Tells piece a' → measured a ++ os ≡ measured a'
     ++ os' → (a ≡ a') × (os ≡ os')
 told-same (Pauses ticket micros) a a' os os' is is' same =
     let both : a ≡ a' = is ∙ sym is' in
     (both, (subst (λ (x : AskView). measured x ++ os ≡ os') is (subst (λ (x : AskView). measured a ++ os ≡ measured x ++ os') is' same)))
 told-same (Measures job) a a' os os' (done, ran, is) (done', ran', is') same =
-    let all : done.outcome ∷ os ≡ done'.outcome ∷ os' =
-    subst (λ (x : AskView). measured x ++ os ≡ done'.outcome ∷ os') is (subst (λ (x : AskView). measured a ++ os ≡ measured x ++ os') is' same) in
-    let one = done-same job done done' ran ran' (head-same done.outcome done'.outcome os os' all) in
-    (is ∙ ap AskFinished one ∙ sym is', tail-same done.outcome done'.outcome os os' all)
+    let all : Measured done.outcome ∷ os ≡ Measured done'.outcome ∷ os' =
+    subst (λ (x : AskView). measured x ++ os ≡ Measured done'.outcome ∷ os') is (subst (λ (x : AskView). measured a ++ os ≡ measured x ++ os') is' same) in
+    let one = done-same job done done' ran ran'
+    (made-same done.outcome done'.outcome (head-same (Measured done.outcome) (Measured done'.outcome) os os' all)) in
+    (is ∙ ap AskFinished one ∙ sym is', tail-same (Measured done.outcome) (Measured done'.outcome) os os' all)
 
 -- an ask
 asked-same : StepIsDetermined → (d d' : DeskSeen) (ask ask' : SessionAsk) (r r' : SessionAnswer) (q q' : DeskSeen) → d ≡ d' → ask ≡ ask' → TellsPlainly r
-    → TellsPlainly r' → KeepsKeys ask r → KeepsKeys ask' r' → Answers [] d ask r q → Answers [] d' ask' r' q' → (r ≡ r') × (q ≡ q')
-asked-same once d d' ask ask' r r' q q' desks asks plain plain' keys keys' a a' =
+    → TellsPlainly r' → KeepsKeys ask r → KeepsKeys ask' r' → (a : Answers [] d ask r q) → (a' : Answers [] d' ask' r' q')
+    → toll a.failed a.after.cage.cards ≡ toll a'.failed a'.after.cage.cards → (r ≡ r') × (q ≡ q')
+asked-same once d d' ask ask' r r' q q' desks asks plain plain' keys keys' a a' tolls =
     let key = subst (λ (x : SessionAsk). KeepsKey d.panel (AskSession x) (SaysSession r' a'.brings)) (sym asks) (keys' d.panel a'.brings) in
     let here : Step d.panel (AskSession ask) a'.failed (SaysSession r' a'.brings) a'.after =
     subst (λ (x : SessionAsk). Step d.panel (AskSession x) a'.failed (SaysSession r' a'.brings) a'.after) (sym asks)
     (subst (λ (x : DeskSeen). Step x.panel (AskSession ask') a'.failed (SaysSession r' a'.brings) a'.after) (sym desks) a'.step) in
-    let one = once d.panel a.after a'.after (AskSession ask) a.failed a'.failed (SaysSession r a.brings) (SaysSession r' a'.brings) a.step here (plain a.brings)
+    let one = once d.panel a.after a'.after (AskSession ask) a.failed a'.failed (SaysSession r a.brings) (SaysSession r' a'.brings)
+    a.step here tolls (plain a.brings)
     (plain' a'.brings) (keys d.panel a.brings) key in (
       same-answer r r' a.brings a'.brings one.0,
       keeps-same (record d { panel = a.after }) (record d' { panel = a'.after }) a.brings a'.brings q q' (panels-same d d' a.after a'.after desks one.1)
@@ -113,17 +123,21 @@ told-keeps (Pauses ticket micros) p ask a is = subst (λ (x : AskView). KeepsKey
 told-keeps (Measures job) p ask a (done, ran, is) = subst (λ (x : AskView). KeepsKey p x a) (sym is) tt
 
 -- a wait in which one piece is carried out
-worked-same : StepIsDetermined → (d d' q q' : DeskSeen) (c c' : Carried) (os os' : List (Result Reading CardFault)) → d ≡ d' → IsPlain c.answer
-    → IsPlain c'.answer → measured c.ask ++ os ≡ measured c'.ask ++ os' → Works c [] d q → Works c' [] d' q' → (q ≡ q') × (os ≡ os')
+worked-same : StepIsDetermined → (d d' q q' : DeskSeen) (c c' : Carried) (os os' : List Outcome) → d ≡ d' → IsPlain c.answer
+    → IsPlain c'.answer → measured c.ask ++ Cards (toll c.failed c.after.cage.cards) ∷ os ≡ measured c'.ask ++ Cards (toll c'.failed c'.after.cage.cards) ∷ os'
+    → Works c [] d q → Works c' [] d' q' → (q ≡ q') × (os ≡ os')
 worked-same once d d' q q' c c' os os' desks plain plain' outcomes w w' =
     let queues : w.piece ∷ w.others ≡ w'.piece ∷ w'.others = sym w.oldest ∙ ap (λ (x : DeskSeen). x.work) desks ∙ w'.oldest in
     let tells : Tells w.piece c'.ask =
     subst (λ (x : WorkView). Tells x c'.ask) (sym (first-piece w.piece w'.piece w.others w'.others queues)) w'.carries.tells in
-    let told = told-same w.piece c.ask c'.ask os os' w.carries.tells tells outcomes in
+    let cost = Cards (toll c.failed c.after.cage.cards) in
+    let cost' = Cards (toll c'.failed c'.after.cage.cards) in
+    let told = told-same w.piece c.ask c'.ask (cost ∷ os) (cost' ∷ os') w.carries.tells tells outcomes in
+    let tolls = toll-same (toll c.failed c.after.cage.cards) (toll c'.failed c'.after.cage.cards) (head-same cost cost' os os' told.1) in
     let here : Step d.panel c.ask c'.failed c'.answer c'.after =
     subst (λ (x : AskView). Step d.panel x c'.failed c'.answer c'.after) (sym told.0) (subst (λ (x : DeskSeen).
     Step x.panel c'.ask c'.failed c'.answer c'.after) (sym desks) w'.carries.step) in
-    let one = once d.panel c.after c'.after c.ask c.failed c'.failed c.answer c'.answer w.carries.step here plain plain'
+    let one = once d.panel c.after c'.after c.ask c.failed c'.failed c.answer c'.answer w.carries.step here tolls plain plain'
     (told-keeps w.piece d.panel c.ask c.answer w.carries.tells) (told-keeps w.piece d.panel c.ask c'.answer w.carries.tells) in (
       keeps-same (record d { panel = c.after; work = w.others }) (record d' { panel = c'.after; work = w'.others }) (brought c.answer) (brought c'.answer) q q'
           (works-same (record d { panel = c.after }) (record d' {
@@ -131,12 +145,12 @@ worked-same once d d' q q' c c' os os' desks plain plain' outcomes w w' =
                 c'.after;
           }) w.others w'.others (panels-same d d' c.after c'.after desks one.1) (other-pieces w.piece w'.piece w.others w'.others queues))
           (ap brought one.0) w.keeps w'.keeps,
-      told.1,
+      tail-same cost cost' os os' told.1,
     )
 
 -- a wait
 waited-same : StepIsDetermined → (d d' q q' : DeskSeen) (limit limit' : Option ℕ) (w w' : Wake) (cs cs' : List Carried)
-    (os os' : List (Result Reading CardFault)) → d ≡ d' → limit ≡ limit' → IsSmooth (Waited limit w) cs
+    (os os' : List Outcome) → d ≡ d' → limit ≡ limit' → IsSmooth (Waited limit w) cs
     → IsSmooth (Waited limit' w') cs' → outcomes_in cs ++ os ≡ outcomes_in cs' ++ os' → PassesBy cs d (Waited limit w) q → PassesBy cs' d' (Waited limit' w') q'
     → (w ≡ w') × (q ≡ q') × (os ≡ os')
 waited-same once d d' q q' limit limit' (Again left) w' [] cs' os os' desks limits m n outcomes p p' = absurd p
@@ -144,7 +158,10 @@ waited-same once d d' q q' limit limit' (Again left) w' (a ∷ b ∷ cs) cs' os 
 waited-same once d d' q q' limit limit' (Again left) (Again left') (c ∷ []) [] os os' desks limits m n outcomes p p' = absurd p'
 waited-same once d d' q q' limit limit' (Again left) (Again left') (c ∷ []) (a ∷ b ∷ cs') os os' desks limits m n outcomes p p' = absurd (omega arith)
 waited-same once d d' q q' limit limit' (Again left) (Again left') (c ∷ []) (c' ∷ []) os os' desks limits m n outcomes p p' =
-    let joined : measured c.ask ++ os ≡ measured c'.ask ++ os' = sym (append_assoc (measured c.ask) [] os) ∙ outcomes ∙ append_assoc (measured c'.ask) [] os' in
+    let cost = Cards (toll c.failed c.after.cage.cards) in
+    let cost' = Cards (toll c'.failed c'.after.cage.cards) in
+    let joined : measured c.ask ++ cost ∷ os ≡ measured c'.ask ++ cost' ∷ os' =
+    sym (append_assoc (measured c.ask) (cost ∷ []) os) ∙ outcomes ∙ append_assoc (measured c'.ask) (cost' ∷ []) os' in
     let one = worked-same once d d' q q' c c' os os' desks m.0.0 n.0.0 joined p.1 p'.1 in
     (ap (λ (x : Option ℕ). Again x) (p.0 ∙ limits ∙ sym p'.0), one.0, one.1)
 waited-same once d d' q q' limit limit' (Again left) Over (c ∷ []) [] os os' desks limits m n outcomes p p' =
@@ -158,7 +175,7 @@ waited-same once d d' q q' limit limit' Over Over [] [] os os' desks limits m n 
 waited-same once d d' q q' limit limit' Over Over [] (c' ∷ cs') os os' desks limits m n outcomes p p' = absurd p'
 
 -- a look at a session's status
-polled-same : (d d' q q' : DeskSeen) (sid sid' : Sid) (v v' : View) (cs cs' : List Carried) (os os' : List (Result Reading CardFault)) → d ≡ d' → sid ≡ sid'
+polled-same : (d d' q q' : DeskSeen) (sid sid' : Sid) (v v' : View) (cs cs' : List Carried) (os os' : List Outcome) → d ≡ d' → sid ≡ sid'
     → outcomes_in cs ++ os ≡ outcomes_in cs' ++ os'
     → PassesBy cs d (Polled sid v) q → PassesBy cs' d' (Polled sid' v') q' → (v ≡ v') × (q ≡ q') × (os ≡ os')
 polled-same d d' q q' sid sid' v v' [] [] os os' desks sids outcomes p p' = (
@@ -170,7 +187,7 @@ polled-same d d' q q' sid sid' v v' (c ∷ cs) cs' os os' desks sids outcomes p 
 polled-same d d' q q' sid sid' v v' [] (c' ∷ cs') os os' desks sids outcomes p p' = absurd p'
 
 -- a note
-noted-same : (d d' q q' : DeskSeen) (sid sid' : Sid) (m m' : Bool) (cs cs' : List Carried) (os os' : List (Result Reading CardFault)) → d ≡ d' → sid ≡ sid'
+noted-same : (d d' q q' : DeskSeen) (sid sid' : Sid) (m m' : Bool) (cs cs' : List Carried) (os os' : List Outcome) → d ≡ d' → sid ≡ sid'
     → m ≡ m' → outcomes_in cs ++ os ≡ outcomes_in cs' ++ os'
     → PassesBy cs d (Noted sid m) q → PassesBy cs' d' (Noted sid' m') q' → (q ≡ q') × (os ≡ os')
 noted-same d d' q q' sid sid' m m' [] [] os os' desks sids notes outcomes p p' = (
@@ -183,40 +200,43 @@ noted-same d d' q q' sid sid' m m' (c ∷ cs) cs' os os' desks sids notes outcom
 noted-same d d' q q' sid sid' m m' [] (c' ∷ cs') os os' desks sids notes outcomes p p' = absurd p'
 
 -- one call: it comes to the same, and what follows it does
-abbrev SameAfter : Entry → Entry → DeskSeen → DeskSeen → List (Result Reading CardFault) → List (Result Reading CardFault) → Type 0 → Type 0
+abbrev SameAfter : Entry → Entry → DeskSeen → DeskSeen → List Outcome → List Outcome → Type 0 → Type 0
 SameAfter e e' q q' os os' follows = (e ≡ e') × (q ≡ q') × (os ≡ os') × follows
 
-passed-same : StepIsDetermined → (d d' q q' : DeskSeen) (e e' : Entry) (cs cs' : List Carried) (os os' : List (Result Reading CardFault)) (follows : Type 0)
+passed-same : StepIsDetermined → (d d' q q' : DeskSeen) (e e' : Entry) (cs cs' : List Carried) (os os' : List Outcome) (follows : Type 0)
     → d ≡ d' → IsSmooth e cs → IsSmooth e' cs'
-    → outcomes_in cs ++ os ≡ outcomes_in cs' ++ os' → PassesBy cs d e q → PassesBy cs' d' e' q' → SameCall e e' follows → SameAfter e e' q q' os os' follows
-passed-same once d d' q q' (Asked a r) (Asked a' r') cs cs' os os' follows desks m n outcomes p p' (asks, on) =
-    let none : cs ≡ [] = m.1 in
-    let none' : cs' ≡ [] = n.1 in
-    let one = asked-same once d d' a a' r r' q q' desks asks m.0 n.0 m.2 n.2 (subst (λ (x : List Carried).
-    Answers x d a r q) none p) (subst (λ (x : List Carried). Answers x d' a' r' q') none' p') in
-    let left : os ≡ os' = subst (λ (x : List Carried). outcomes_in x
-    ++ os ≡ os') none (subst (λ (x : List Carried). outcomes_in cs ++ os ≡ outcomes_in x ++ os') none' outcomes) in
-    (cc (asks, one.0), one.1, left, on one.0)
-passed-same once d d' q q' (Waited l w) (Waited l' w') cs cs' os os' follows desks m n outcomes p p' (limits, on) =
+    → (p : PassesBy cs d e q) → (p' : PassesBy cs' d' e' q') → outcomes_by cs d e q p ++ os ≡ outcomes_by cs' d' e' q' p' ++ os' → SameCall e e' follows
+    → SameAfter e e' q q' os os' follows
+passed-same once d d' q q' (Asked a r) (Asked a' r') [] [] os os' follows desks m n p p' outcomes (asks, on) =
+    let cost = Cards (toll p.failed p.after.cage.cards) in
+    let cost' = Cards (toll p'.failed p'.after.cage.cards) in
+    let tolls = toll-same (toll p.failed p.after.cage.cards) (toll p'.failed p'.after.cage.cards) (head-same cost cost' os os' outcomes) in
+    let one = asked-same once d d' a a' r r' q q' desks asks m.0 n.0 m.2 n.2 p p' tolls in
+    (cc (asks, one.0), one.1, tail-same cost cost' os os' outcomes, on one.0)
+passed-same once d d' q q' (Asked a r) (Asked a' r') (c ∷ cs) cs' os os' follows desks m n p p' outcomes (asks, on) =
+    let some : c ∷ cs ≡ [] = m.1 in absurd (cc some)
+passed-same once d d' q q' (Asked a r) (Asked a' r') [] (c' ∷ cs') os os' follows desks m n p p' outcomes (asks, on) =
+    let some : c' ∷ cs' ≡ [] = n.1 in absurd (cc some)
+passed-same once d d' q q' (Waited l w) (Waited l' w') cs cs' os os' follows desks m n p p' outcomes (limits, on) =
     let one = waited-same once d d' q q' l l' w w' cs cs' os os' desks limits m n outcomes p p' in
     (cc (limits, one.0), one.1, one.2, on one.0)
-passed-same once d d' q q' (Polled sid v) (Polled sid' v') cs cs' os os' follows desks m n outcomes p p' (sids, on) =
+passed-same once d d' q q' (Polled sid v) (Polled sid' v') cs cs' os os' follows desks m n p p' outcomes (sids, on) =
     let one = polled-same d d' q q' sid sid' v v' cs cs' os os' desks sids outcomes p p' in
     (cc (sids, one.0), one.1, one.2, on one.0)
-passed-same once d d' q q' (Noted sid b) (Noted sid' b') cs cs' os os' follows desks m n outcomes p p' (sids, notes, on) =
+passed-same once d d' q q' (Noted sid b) (Noted sid' b') cs cs' os os' follows desks m n p p' outcomes (sids, notes, on) =
     let one = noted-same d d' q q' sid sid' b b' cs cs' os os' desks sids notes outcomes p p' in
     (cc (sids, notes), one.0, one.1, on)
-passed-same once d d' q q' e e' cs cs' os os' follows desks m n outcomes p p' same = absurd same
+passed-same once d d' q q' e e' cs cs' os os' follows desks m n p p' outcomes same = absurd same
 
 same-run : StepIsDetermined → {T : Type 0} (d d' q q' : DeskSeen) (b b' : T) (t t' : List Entry) (l : Leads CorePasses d t q) (l' : Leads CorePasses d' t' q')
     → d ≡ d' → AllSmooth t (carried_of d t q l) → AllSmooth t' (carried_of d' t' q' l')
-    → outcomes_of (carried_of d t q l) ≡ outcomes_of (carried_of d' t' q' l') → SameTalk b b' t t' → (t ≡ t') × (b ≡ b') × (q ≡ q')
+    → outcomes_of d t q l ≡ outcomes_of d' t' q' l' → SameTalk b b' t t' → (t ≡ t') × (b ≡ b') × (q ≡ q')
 same-run once d d' q q' b b' [] [] l l' desks m n outcomes s = (refl, s, l ∙ desks ∙ sym l')
 same-run once d d' q q' b b' [] (e ∷ t') l l' desks m n outcomes s = absurd s
 same-run once d d' q q' b b' (e ∷ t) [] l l' desks m n outcomes s = absurd s
 same-run once d d' q q' b b' (e ∷ t) (e' ∷ t') (mid, (cs, p), l) (mid', (cs', p'), l') desks m n outcomes s =
-    let one = passed-same once d d' mid mid' e e' cs cs' (outcomes_of (carried_of mid t q l)) (outcomes_of (carried_of mid' t' q' l')) (SameTalk b b' t t')
-    desks m.0 n.0 outcomes p p' s in
+    let one = passed-same once d d' mid mid' e e' cs cs' (outcomes_of mid t q l) (outcomes_of mid' t' q' l') (SameTalk b b' t t')
+    desks m.0 n.0 p p' outcomes s in
     let rest = same-run once mid mid' q q' b b' t t' l l' one.1 m.1 n.1 one.2 one.3 in
     (cc (one.0, rest.0), rest.1, rest.2)
 

@@ -1,7 +1,7 @@
 -- Work that is kept or carried out.
 use Rattle.std.proofs.Common.{◌≡◌, ℕ, suc, ◌+◌, ◌<◌, Bool, true, false, List, [], ◌∷◌, ◌++◌, Option, Some, None, refl, sym, ap, ◌∙◌, subst, arith}
-use Rattle.std.specs.Prelude.{replicate}
-use Rattle.std.proofs.lemmas.List.{append-nil, replicate_more}
+use Rattle.std.specs.Prelude.{replicate, IfSome, map}
+use Rattle.std.proofs.lemmas.List.{append-nil, map-append, replicate_more}
 use Rattle.sw_core.specs.declared.ask.Sid.{Sid}
 use Rattle.sw_core.specs.declared.ask.SessionAsk.{SessionAsk}
 use Rattle.sw_core.specs.declared.ask.SessionAnswer.{SessionAnswer}
@@ -14,7 +14,8 @@ use Rattle.sw_session.specs.declared.desk.View.{View}
 use Rattle.sw_session.specs.declared.desk.Wake.TheVariants.{Again, Over}
 use Rattle.sw_session.specs.Trace.{Entry, Asked, Waited, Polled, Noted, Leads, LeavesOf}
 use Rattle.sw_session.specs.Available.{Notes, with_note}
-use Rattle.sw_session.specs.CoreDesk.{DeskSeen, Carried, CarriesOut, Tells, Keeps, IsKept, IsCarried, PassesBy, CorePasses, Rests, most_waits, brought}
+use Rattle.sw_session.specs.CoreDesk.{DeskSeen, Carried, CarriesOut, CarriesOldest, Tells, Keeps, IsKept}
+use Rattle.sw_session.specs.CoreDesk.{IsCarried, PassesBy, CorePasses, Rests, most_waits, brought}
 use Rattle.sw_session.specs.CoreDesk.{piece_seen, view_of}
 use Rattle.sw_session.proofs.Led.{leads-append}
 use Rattle.sw_session.proofs.Nearer.{left, nearer}
@@ -22,6 +23,12 @@ use Rattle.sw_session.proofs.Nearer.{left, nearer}
 pub seen-some : {M : _} (piece : Work M) → work_view (Some piece) ≡ Some (piece_seen piece)
 seen-some (Work.Measure job) = refl
 seen-some (Work.Pause ticket micros) = refl
+
+-- the pieces of a queue of which the oldest came off, as plain data
+pub seen-first : {M : _} (items left : List (Work M)) (piece : Work M) (r : Option (Work M)) → IfSome r (λ oldest. items ++ piece ∷ [] ≡ oldest ∷ left)
+    → IfSome r (λ oldest. map piece_seen items ++ piece_seen piece ∷ [] ≡ piece_seen oldest ∷ map piece_seen left)
+seen-first items left piece None h = tt
+seen-first items left piece (Some oldest) h = sym (map-append piece_seen items (piece ∷ [])) ∙ ap (λ x. map piece_seen x) h
 
 -- nothing is brought
 pub seen-none : {R M : _} (a : Answer R M) → ((work : Option (Work M)) → a ≡ Answer.Taken work → ⊥) → None ≡ brought (answer_view a)
@@ -70,20 +77,21 @@ keeps-last {M} start brings d new w piece by is put =
     let last : Keeps [] d (Some (piece_seen piece)) new = put in
     by [] new (subst (λ (x : Option WorkView). Keeps [] d x new) (sym (ap work_view is ∙ seen-some piece)) last)
 
-pub keeps-on : {M : _} (start : DeskSeen) (brings : Option WorkView) (d new : DeskSeen) (w : Option (Work M)) (piece : Work M) (brings' : Option WorkView)
-    → KeepsBy start brings d (work_view w) → w ≡ Some piece → IsCarried d (piece_seen piece) brings' new → KeepsBy start brings new brings'
-keeps-on {M} start brings d new w piece brings' by is k = λ more end keeps.
-    let on : Keeps more (record d { panel = k.c.after }) (brought k.c.answer) end =
-    subst (λ (x : Option WorkView). Keeps more (record d { panel = k.c.after }) x end) k.brings_is (subst (λ (x : DeskSeen).
-    Keeps more x brings' end) k.leaves keeps) in
-    let all : Keeps (k.c ∷ more) d (Some (piece_seen piece)) end = (k.carries, on) in
+pub keeps-on : {M : _} (start : DeskSeen) (brings : Option WorkView) (d mid new : DeskSeen) (w : Option (Work M)) (piece oldest : Work M)
+    (brings' : Option WorkView) → KeepsBy start brings d (work_view w) → w ≡ Some piece → d.work ++ piece_seen piece ∷ [] ≡ piece_seen oldest ∷ mid.work
+    → mid ≡ record d { work = mid.work } → IsCarried mid (piece_seen oldest) brings' new → KeepsBy start brings new brings'
+keeps-on {M} start brings d mid new w piece oldest brings' by is first same k = λ more end keeps.
+    let on : Keeps more new (brought k.c.answer) end = subst (λ (x : Option WorkView). Keeps more new x end) k.brings_is keeps in
+    let carries : CarriesOut d.panel (piece_seen oldest) k.c = subst (λ (x : DeskSeen). CarriesOut x.panel (piece_seen oldest) k.c) same k.carries in
+    let off : CarriesOldest d (d.work ++ piece_seen piece ∷ []) k.c new = record {
+      piece = piece_seen oldest;
+      others = mid.work;
+      oldest = first;
+      carries = carries;
+      leaves = k.leaves ∙ ap (λ (x : DeskSeen). let r : DeskSeen = record x { panel = k.c.after } in r) same;
+    } in
+    let all : Keeps (k.c ∷ more) d (Some (piece_seen piece)) end = (new, off, on) in
     by (k.c ∷ more) end (subst (λ (x : Option WorkView). Keeps (k.c ∷ more) d x end) (sym (ap work_view is ∙ seen-some piece)) all)
-
-pub same-carried : {M : _} (d d' new : DeskSeen) (piece piece' : Work M) (brings : Option WorkView) → d' ≡ d → piece' ≡ piece
-    → IsCarried d' (piece_seen piece') brings new
-    → IsCarried d (piece_seen piece) brings new
-same-carried {M} d d' new piece piece' brings desk is k =
-    subst (λ (x : DeskSeen). IsCarried x (piece_seen piece) brings new) desk (subst (λ (w : Work M). IsCarried d' (piece_seen w) brings new) is k)
 
 -- how many pieces may still be brought
 abbrev pub weight : Option WorkView → Panel → ℕ
@@ -97,12 +105,13 @@ weight-less d new piece (Some work) k =
     let here : left new.panel < left d.panel = subst (λ (x : DeskSeen). left x.panel < left d.panel) (sym k.leaves) near in
     omega arith
 
-pub weight-falls : {M : _} (d new : DeskSeen) (w : Option (Work M)) (piece : Work M) (brings : Option WorkView) → w ≡ Some piece
-    → IsCarried d (piece_seen piece) brings new
+pub weight-falls : {M : _} (d mid new : DeskSeen) (w : Option (Work M)) (piece oldest : Work M) (brings : Option WorkView) → w ≡ Some piece
+    → mid ≡ record d { work = mid.work } → IsCarried mid (piece_seen oldest) brings new
     → weight brings new.panel < weight (work_view w) d.panel
-weight-falls d new w piece brings is k =
-    subst (λ (x : Option WorkView). weight brings new.panel < weight x d.panel) (sym (ap work_view is
-    ∙ seen-some piece)) (weight-less d new (piece_seen piece) brings k)
+weight-falls d mid new w piece oldest brings is same k =
+    let panels : mid.panel ≡ d.panel = ap (λ (x : DeskSeen). x.panel) same in
+    subst (λ (x : Option WorkView). weight brings new.panel < weight x d.panel) (sym (ap work_view is ∙ seen-some piece))
+    (subst (λ (x : Panel). weight brings new.panel < suc (left x)) panels (weight-less mid new (piece_seen oldest) brings k))
 
 -- an ask
 pub passes-ask : (old mid new : DeskSeen) (ask : SessionAsk) (failed : Bool) (answer : SessionAnswer) (brings : Option WorkView)

@@ -16,3 +16,4 @@ pub mod LockWaits
 pub mod AsyncRows
 pub mod SyncRows
 pub mod SyncAnswers
+mod Order

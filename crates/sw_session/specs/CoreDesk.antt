@@ -53,14 +53,22 @@ pub record CarriesOut (old : Panel) (piece : WorkView) (c : Carried) : Type 0 wh
   pub tells : Tells piece c.ask
   pub step : Step old c.ask c.failed c.answer c.after
 
--- Work that came with an answer is kept behind the rest. Pieces for which a growth was refused are carried out at once,
--- as is what comes of that.
+-- The oldest of this work is carried out, and the rest stays in its order.
+pub record CarriesOldest (old : DeskSeen) (work : List WorkView) (c : Carried) (new : DeskSeen) : Type 0 where
+  pub piece : WorkView
+  pub others : List WorkView
+  pub oldest : work ≡ piece ∷ others
+  pub carries : CarriesOut old.panel piece c
+  pub leaves : new ≡ record old { panel = c.after; work = others }
+
+-- Work that came with an answer is kept behind the rest. Where a growth for it was refused, the oldest piece of all is
+-- carried out at once in its place, and what comes of that is kept in turn.
 abbrev pub Keeps : List Carried → DeskSeen → Option WorkView → DeskSeen → Type 0
 Keeps [] d None new = new ≡ d
 Keeps [] d (Some piece) new = new ≡ record d { work = d.work ++ piece ∷ [] }
 Keeps (c ∷ carried) d None new = ⊥
 Keeps (c ∷ carried) d (Some piece) new =
-    CarriesOut d.panel piece c × Keeps carried (record d { panel = c.after }) (brought c.answer) new
+    (mid : DeskSeen) × CarriesOldest d (d.work ++ piece ∷ []) c mid × Keeps carried mid (brought c.answer) new
 
 -- The clauses of the desk's parts: work is kept, and a piece is carried out and brings this.
 pub record IsKept (old : DeskSeen) (brings : Option WorkView) (new : DeskSeen) : Type 0 where

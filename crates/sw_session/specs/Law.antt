@@ -9,10 +9,10 @@ use Rattle.sw_base.specs.declared.reading.Reading.{Reading}
 use Rattle.sw_card.specs.declared.board.CardFault.{CardFault}
 use Rattle.sw_core.specs.declared.ask.SessionAnswer.{SessionAnswer}
 use Rattle.sw_core.specs.Panel.{Panel}
-use Rattle.sw_core.specs.Run.{IsPlain, KeepsKey}
+use Rattle.sw_core.specs.Run.{IsPlain, KeepsKey, Toll, toll}
 use Rattle.sw_core.specs.View.{WorkView, AskView, AskSession, AskFinished, SaysSession}
 use Rattle.sw_macro.specs.Table.{Table}
-use Rattle.sw_session.specs.CoreDesk.{DeskSeen, Carried, CorePasses, Rests, last_wait}
+use Rattle.sw_session.specs.CoreDesk.{DeskSeen, Carried, PassesBy, CorePasses, Rests, last_wait}
 use Rattle.sw_session.specs.declared.desk.Wake.TheVariants.{Again}
 use Rattle.sw_session.specs.Trace.{Entry, Asked, Waited, Polled, Noted, Leads}
 use Rattle.sw_session.specs.Talk.{Talked, TalksMessage}
@@ -56,7 +56,7 @@ TalkIsDetermined = (sid : Sid) (macros : Table) (text : List ℕ) (trace trace' 
     → TalksMessage sid macros text trace' bytes' kept' → AllAmple trace → AllAmple trace'
     → SameTalk (left bytes kept) (left bytes' kept') trace trace'
 
--- the mainframe tells of no want of memory and of no card's failure
+-- the mainframe tells of no want of memory
 abbrev pub TellsPlainly : SessionAnswer → Type 0
 TellsPlainly answer = (work : Option WorkView) → IsPlain (SaysSession answer work)
 
@@ -64,7 +64,7 @@ TellsPlainly answer = (work : Option WorkView) → IsPlain (SaysSession answer w
 abbrev pub KeepsKeys : SessionAsk → SessionAnswer → Type 0
 KeepsKeys ask answer = (p : Panel) (work : Option WorkView) → KeepsKey p (AskSession ask) (SaysSession answer work)
 
--- no growth was refused and no card failed in a call of the desk, in which these pieces were carried out
+-- no growth was refused in a call of the desk, in which these pieces were carried out
 abbrev pub IsSmooth : Entry → List Carried → Type 0
 IsSmooth (Asked ask answer) carried = TellsPlainly answer × (carried ≡ []) × KeepsKeys ask answer
 IsSmooth entry carried = AllByRecursion (λ c. IsPlain c.answer) carried × (length carried ≤ 1)
@@ -81,44 +81,67 @@ abbrev pub carried_of : (old : DeskSeen) (trace : List Entry) (new : DeskSeen) �
 carried_of old [] new l = []
 carried_of old (e ∷ trace) new (mid, passes, l) = passes.0 ∷ carried_of mid trace new l
 
+-- What is up to the world: what a measurement came to, and what came of the cards in a call of the mainframe.
+pub data Outcome : Type 0 where
+  Measured : (outcome : Result Reading CardFault) → Outcome
+  Cards : (toll : Toll) → Outcome
+
 -- what was measured, if it is a measurement that is told
-abbrev pub measured : AskView → List (Result Reading CardFault)
-measured (AskFinished done) = done.outcome ∷ []
+abbrev pub measured : AskView → List Outcome
+measured (AskFinished done) = Measured done.outcome ∷ []
 measured ask = []
 
--- what was measured, in order
-abbrev pub outcomes_in : List Carried → List (Result Reading CardFault)
+-- the outcomes of these pieces, in order
+abbrev pub outcomes_in : List Carried → List Outcome
 outcomes_in [] = []
-outcomes_in (c ∷ carried) = measured c.ask ++ outcomes_in carried
+outcomes_in (c ∷ carried) = measured c.ask ++ Cards (toll c.failed c.after.cage.cards) ∷ outcomes_in carried
 
-abbrev pub outcomes_of : List (List Carried) → List (Result Reading CardFault)
-outcomes_of [] = []
-outcomes_of (c ∷ carried) = outcomes_in c ++ outcomes_of carried
+-- the outcomes of a call of the desk: of the ask itself, and of the pieces that were carried out
+abbrev pub outcomes_by : (carried : List Carried) (old : DeskSeen) (entry : Entry) (new : DeskSeen)
+    → PassesBy carried old entry new → List Outcome
+outcomes_by carried old (Asked ask answer) new passes =
+    Cards (toll passes.failed passes.after.cage.cards) ∷ outcomes_in carried
+outcomes_by carried old entry new passes = outcomes_in carried
 
--- the pieces that were carried out in a talk
+-- the outcomes of all these calls
+abbrev pub outcomes_of : (old : DeskSeen) (trace : List Entry) (new : DeskSeen) → Leads CorePasses old trace new
+    → List Outcome
+outcomes_of old [] new l = []
+outcomes_of old (e ∷ trace) new (mid, passes, l) =
+    outcomes_by passes.0 old e mid passes.1 ++ outcomes_of mid trace new l
+
+-- the pieces that were carried out in a talk, and its outcomes
 abbrev pub carried_in : {old new : DeskSeen} {sid : Sid} {macros macros' : Table} {message bytes : List ℕ}
     → Talked CorePasses old new sid macros message bytes macros' → List (List Carried)
 carried_in {old} {new} t = carried_of old t.trace new t.leads
 
--- Over a mainframe the message, the macros and the outcomes of the measurements that are carried out determine what is
--- asked, answered and written, the desk that is left and the macros, where no growth was refused and no card failed.
+abbrev pub outcomes_in_talk : {old new : DeskSeen} {sid : Sid} {macros macros' : Table} {message bytes : List ℕ}
+    → Talked CorePasses old new sid macros message bytes macros' → List Outcome
+outcomes_in_talk {old} {new} t = outcomes_of old t.trace new t.leads
+
+-- Over a mainframe the message, the macros, the outcomes of the measurements that are carried out and what came of the
+-- cards determine what is asked, answered and written, the desk that is left and the macros, where no growth was
+-- refused.
 abbrev pub CoreTalkIsDetermined : Type 0
 CoreTalkIsDetermined = (sid : Sid) (d e e' : DeskSeen) (macros kept kept' : Table) (message bytes bytes' : List ℕ)
     (t : Talked CorePasses d e sid macros message bytes kept)
     (t' : Talked CorePasses d e' sid macros message bytes' kept') → AllAmple t.trace → AllAmple t'.trace
     → AllSmooth t.trace (carried_in t) → AllSmooth t'.trace (carried_in t')
-    → outcomes_of (carried_in t) ≡ outcomes_of (carried_in t') → (t.trace ≡ t'.trace) × (bytes ≡ bytes')
+    → outcomes_in_talk t ≡ outcomes_in_talk t' → (t.trace ≡ t'.trace) × (bytes ≡ bytes')
     × (kept ≡ kept') × (e ≡ e')
 
--- the calls of a rest that succeeds, and the pieces that were carried out in them
+-- the calls of a rest that succeeds, the pieces that were carried out in them, and their outcomes
 abbrev pub waits_of : {old new : DeskSeen} → Rests old true new → List Entry
 waits_of r = replicate r.waits (Waited None (Again None)) ++ last_wait true
 
 abbrev pub carried_at_rest : {old new : DeskSeen} → Rests old true new → List (List Carried)
 carried_at_rest {old} {new} r = carried_of old (waits_of r) new r.leads
 
--- A rest that succeeds leaves one desk for what is measured, where no growth was refused and no card failed.
+abbrev pub outcomes_at_rest : {old new : DeskSeen} → Rests old true new → List Outcome
+outcomes_at_rest {old} {new} r = outcomes_of old (waits_of r) new r.leads
+
+-- A rest that succeeds leaves one desk for what is measured and what came of the cards, where no growth was refused.
 abbrev pub CoreRestIsDetermined : Type 0
 CoreRestIsDetermined = (d e e' : DeskSeen) (r : Rests d true e) (r' : Rests d true e')
     → AllSmooth (waits_of r) (carried_at_rest r) → AllSmooth (waits_of r') (carried_at_rest r')
-    → outcomes_of (carried_at_rest r) ≡ outcomes_of (carried_at_rest r') → e ≡ e'
+    → outcomes_at_rest r ≡ outcomes_at_rest r' → e ≡ e'

@@ -1,6 +1,7 @@
 //! A desk over a mainframe of its own.
 
-ghost use Rattle.std.specs.Prelude.{◌≡◌, Bool, true, [], ◌∷◌, ◌++◌, OnOk, OnErr, IfErr, IfSome, IfNone};
+ghost use Rattle.std.specs.Prelude.{◌≡◌, ◌≤◌, Bool, true, [], ◌∷◌, ◌++◌, IfSome, IfNone};
+ghost use Rattle.std.specs.VecDeque.{deque_len, deque_capacity};
 ghost use Rattle.sw_core.specs.View.{ask_view, answer_view, work_view};
 ghost use Rattle.sw_core.specs.Step.{Step};
 ghost use Rattle.sw_session.specs.CoreDesk.{IsKept, IsCarried, Tells, Rests, desk_over, piece_seen};
@@ -17,7 +18,7 @@ use sw_core::{Answer, Ask, Core, SessionAnswer, SessionAsk, Sid, Work};
 /// outstanding, the oldest first, and for which sessions a message is available.
 ///
 /// A wait carries out the oldest piece, and is over where there is none. Nothing takes time, so that all
-/// of its limit is left. A piece for which there is no memory is carried out at once.
+/// of its limit is left. Where there is no memory for a piece, the oldest of all is carried out at once.
 #[derive(Drop)]
 pub struct CoreDesk<R: Relay, M: Meter> {
     alloc: Global,
@@ -62,7 +63,8 @@ impl<R: Relay, M: Meter> CoreDesk<R, M> {
         false
     }
 
-    /// Keeps work for a wait. Where there is no memory for that, it is carried out at once, and so is what comes of it.
+    /// Keeps work for a wait. Where there is no memory for that, the oldest piece of all is carried out at once in its
+    /// place, and what comes of that is kept in turn.
     fn keep(&mut self, work: Option<Work<M>>)
         ensures { IsKept self.old (work_view work) self.new }
     {
@@ -72,22 +74,20 @@ impl<R: Relay, M: Meter> CoreDesk<R, M> {
                 return;
             };
             match self.put(piece) {
-                Ok(()) => return,
-                Err(piece) => work = self.carry(piece),
+                None => return,
+                Some(oldest) => work = self.carry(oldest),
             }
         }
     }
 
-    /// Puts a piece behind the rest, or hands it back where there is no memory for it.
-    fn put(&mut self, piece: Work<M>) -> Result<(), Work<M>>
-        ensures ok { OnOk result (self.new ≡ record self.old { work = self.old.work ++ piece_seen piece ∷ [] }) }
-        ensures err { OnErr result (self.new ≡ self.old) }
-        ensures back { IfErr result (λ back. back ≡ piece) }
+    /// Puts a piece behind the rest. Where there is no memory for it, the oldest of all comes off and gives it room.
+    fn put(&mut self, piece: Work<M>) -> Option<Work<M>>
+        ensures none { IfNone result (self.new ≡ record self.old { work = self.old.work ++ piece_seen piece ∷ [] }) }
+        ensures some { IfSome result (λ oldest.
+            self.old.work ++ piece_seen piece ∷ [] ≡ piece_seen oldest ∷ self.new.work) }
+        ensures same { IfSome result (λ _. self.new ≡ record self.old { work = self.new.work }) }
     {
-        match self.work.push_back(piece) {
-            Ok(()) => Ok(()),
-            Err(refused) => Err(refused.value),
-        }
+        put_behind(&mut self.work, piece)
     }
 
     /// Takes the oldest piece off.
@@ -118,6 +118,23 @@ impl<R: Relay, M: Meter> CoreDesk<R, M> {
     {
         self.core.apply(self.alloc, ask)
     }
+}
+
+/// Puts a piece behind the rest. Only where that would take more memory and there is none, the oldest of all comes off
+/// and gives it room.
+fn put_behind<M: Meter>(queue: &mut VecDeque<Work<M>>, piece: Work<M>) -> Option<Work<M>>
+    ensures none { IfNone result (queue.new.items ≡ queue.old.items ++ piece ∷ []) }
+    ensures some { IfSome result (λ oldest. queue.old.items ++ piece ∷ [] ≡ oldest ∷ queue.new.items) }
+    ensures full { IfSome result (λ _. deque_capacity queue.old ≤ deque_len queue.old) }
+{
+    let Err(refused) = queue.push_back(piece) else {
+        return None;
+    };
+    let Some(oldest) = queue.pop_front() else {
+        return Some(refused.value);
+    };
+    queue.push_back(refused.value).unwrap();
+    Some(oldest)
 }
 
 /// Carries a piece out, and gives what is to be told of it.

@@ -1,6 +1,7 @@
 //! What follows from the contract of a talk.
 
 ghost use Rattle.sw_session.specs.Law.{TalkIsDetermined, CoreTalkIsDetermined, CoreRestIsDetermined};
+ghost use Rattle.sw_session.specs.Order.{WorkIsDoneInOrder};
 
 use sw_core::step_is_determined;
 use sw_lex::{one_meaning, one_reading};
@@ -16,8 +17,9 @@ pub fn talk_is_determined()
     one_expansion();
 }
 
-/// A law: over a mainframe the message, the macros and what is measured determine what is written, the macros after it
-/// and the desk that is left, where no growth is refused and no card fails.
+/// A law: over a mainframe the message, the macros, what is measured and what comes of the cards determine what is
+/// written, the macros after it and the desk that is left, where no growth is refused. What comes of the cards: in
+/// which calls one fails, and how often each has failed after such a call.
 pub fn core_talk_is_determined()
     ensures { CoreTalkIsDetermined }
 {
@@ -25,10 +27,17 @@ pub fn core_talk_is_determined()
     talk_is_determined();
 }
 
-/// A law: over a mainframe what is measured determines the desk that a rest leaves, where no growth is refused and no
-/// card fails.
+/// A law: over a mainframe what is measured and what comes of the cards determine the desk that a rest leaves, where no
+/// growth is refused.
 pub fn core_rest_is_determined()
     ensures { CoreRestIsDetermined }
 {
     step_is_determined();
 }
+
+/// A law: a `CoreDesk` carries its work out in the order in which it came, oldest first, also where a growth was
+/// refused: in each call, what was outstanding before it and then what came in it is, piece by piece, what was carried
+/// out in it and then what is outstanding after it.
+pub fn work_is_done_in_order()
+    ensures { WorkIsDoneInOrder }
+{}

@@ -7,8 +7,9 @@
 //! talker keeps its session's macros (IEEE 488.2, 10.7): a unit that calls one is replaced by its expansion, and the
 //! macro commands change them and ask nothing. The contract is one relation, `Talked`: what is asked next after each
 //! answer, what is written, and the macros after it. The laws: the message, the macros and the desk's answers leave no
-//! choice (`talk_is_determined`), over a mainframe the message, the macros and what is measured leave none
-//! (`core_talk_is_determined`, `core_rest_is_determined`), where no growth was refused and no card failed.
+//! choice (`talk_is_determined`), over a mainframe the message, the macros, what is measured and which calls of cards
+//! fail leave none (`core_talk_is_determined`, `core_rest_is_determined`), where no growth was refused. A desk's work
+//! is carried out in the order in which it came (`work_is_done_in_order`).
 //!
 //! Not promised: that a desk ever answers anything but a hold, and that memory is there.
 #![tactic(auto)]
@@ -26,5 +27,7 @@ mod talker;
 pub use core_desk::CoreDesk;
 pub use desk::{Desk, View, Wake};
 pub use engine::{Channel, Engine, Sent, Step};
-pub use laws::{core_rest_is_determined, core_talk_is_determined, talk_is_determined};
+pub use laws::{
+    core_rest_is_determined, core_talk_is_determined, talk_is_determined, work_is_done_in_order,
+};
 pub use talker::Talker;

@@ -1,21 +1,17 @@
 //! A mainframe that the tests ask one thing at a time.
 //!
-//! An answer or a `Core` is let go by a call of `drop`: where a scope ends, its drop would be written out for each of its
-//! variants, in the proof of every test.
+//! These promise nothing, and most answer yes or no: what a mainframe promises, and each way out that a `?` is, would
+//! be carried on in the proof of every test. An answer or a `Core` is let go by a call of `drop`: where a scope ends,
+//! its drop would be written out for each of its variants.
 
 use std::alloc::Global;
-use std::process::Abort;
-use std::test::Fail;
-use sw_base::{ScpiError, Sequence};
+use sw_base::ScpiError;
 use sw_cage::{EjectRefusal, InstallRefusal, Job, Ticket};
 use sw_card::{Card, Meter, Relay};
 use sw_core::{Answer, Ask, Core, SessionAnswer, SessionAsk, Sid, Work};
 use sw_lex::{Command, Path, next_unit, resolve};
 
-/// What was expected of a session was answered to a card.
-const NOT_A_SESSION: &str = "a session's ask was answered as a card's";
-
-/// Asks the core. It promises nothing, so that a test is checked without all that `apply` promises.
+/// Asks the core.
 fn ask<R: Relay, M: Meter>(alloc: Global, core: &mut Core<R, M>, ask: Ask<R, M>) -> Answer<R, M> {
     core.apply(alloc, ask)
 }
@@ -25,69 +21,75 @@ pub fn answer_of<R: Relay, M: Meter>(
     alloc: Global,
     core: &mut Core<R, M>,
     asked: SessionAsk,
-) -> Result<SessionAnswer, Fail> {
+) -> Option<SessionAnswer> {
     match ask(alloc, core, Ask::Session(asked)) {
         Answer::Session(answer, work) => {
             drop(work);
-            Ok(answer)
+            Some(answer)
         }
         other => {
             drop(other);
-            Err(NOT_A_SESSION)?
+            None
         }
     }
 }
 
-/// The work that a scan awaits once a session has asked this.
+/// The work that comes of what a session asks.
 pub fn work_of<R: Relay, M: Meter>(
     alloc: Global,
     core: &mut Core<R, M>,
     asked: SessionAsk,
-) -> Result<Option<Work<M>>, Fail> {
+) -> Option<Work<M>> {
     match ask(alloc, core, Ask::Session(asked)) {
         Answer::Session(answer, work) => {
             drop(answer);
-            Ok(work)
+            work
         }
         other => {
             drop(other);
-            Err(NOT_A_SESSION)?
+            None
         }
     }
 }
+
+/// A piece of work that is done was told to no scan.
+#[derive(Clone, Copy)]
+pub struct NotTaken;
 
 /// Tells the scan of a piece of work that is done, and gives the next one.
 pub fn take<R: Relay, M: Meter>(
     alloc: Global,
     core: &mut Core<R, M>,
     happening: Ask<R, M>,
-) -> Result<Option<Work<M>>, Fail> {
+) -> Result<Option<Work<M>>, NotTaken> {
     match ask(alloc, core, happening) {
         Answer::Taken(next) => Ok(next),
         other => {
             drop(other);
-            Err("a piece of work was not taken")?
+            Err(NotTaken)
         }
     }
 }
 
 /// What a Join is answered.
-pub fn join<R: Relay, M: Meter>(
-    alloc: Global,
-    core: &mut Core<R, M>,
-) -> Result<SessionAnswer, Fail> {
+pub fn join<R: Relay, M: Meter>(alloc: Global, core: &mut Core<R, M>) -> Option<SessionAnswer> {
     answer_of(alloc, core, SessionAsk::Join)
 }
 
-/// Joins as a session.
-pub fn joined<R: Relay, M: Meter>(alloc: Global, core: &mut Core<R, M>) -> Result<Sid, Fail> {
-    match join(alloc, core)? {
-        SessionAnswer::Joined(sid) => Ok(sid),
-        other => {
-            drop(other);
-            Err("nobody joined")?
-        }
+/// The session that an answer tells of.
+fn session_of(answer: &Option<SessionAnswer>) -> Option<Sid> {
+    match answer {
+        Some(SessionAnswer::Joined(sid)) => Some(*sid),
+        _ => None,
     }
+}
+
+/// Joins as a session.
+pub fn joined<R: Relay, M: Meter>(alloc: Global, core: &mut Core<R, M>) -> Option<Sid> {
+    let answer = join(alloc, core);
+    let sid = session_of(&answer);
+    drop(answer);
+    sid
 }
 
 /// Whether the card is in its slot.
@@ -95,20 +97,17 @@ fn is_installed<R: Relay, M: Meter>(answer: &Answer<R, M>) -> bool {
     matches!(answer, Answer::Installed)
 }
 
-/// Puts a card into the slot.
+/// Whether a card comes into the slot.
 pub fn install<R: Relay, M: Meter>(
     alloc: Global,
     core: &mut Core<R, M>,
     slot: u8,
     card: Card<R, M>,
-) -> Result<(), Fail> {
+) -> bool {
     let answer = ask(alloc, core, Ask::Install(slot, card));
     let is_installed = is_installed(&answer);
     drop(answer);
-    if !is_installed {
-        Err("a card was refused")?;
-    }
-    Ok(())
+    is_installed
 }
 
 /// Puts these cards into slots 1 to 3 and the meter into slot 4, and joins as a session.
@@ -117,13 +116,16 @@ pub fn fit<R: Relay, M: Meter>(
     core: &mut Core<R, M>,
     cards: (R, R, R),
     meter: M,
-) -> Result<Sid, Fail> {
+) -> Option<Sid> {
     let (first, second, third) = cards;
-    install(alloc, core, 1, Card::relays(first))?;
-    install(alloc, core, 2, Card::relays(second))?;
-    install(alloc, core, 3, Card::relays(third))?;
-    install(alloc, core, 4, Card::meter(meter))?;
-    joined(alloc, core)
+    let has_first = install(alloc, core, 1, Card::relays(first));
+    let has_second = install(alloc, core, 2, Card::relays(second));
+    let has_third = install(alloc, core, 3, Card::relays(third));
+    let has_meter = install(alloc, core, 4, Card::meter(meter));
+    if has_first && has_second && has_third && has_meter {
+        return joined(alloc, core);
+    }
+    None
 }
 
 /// Offers a card to the slot that does not take it, and gives it back.
@@ -132,12 +134,12 @@ pub fn refused_card<R: Relay, M: Meter>(
     core: &mut Core<R, M>,
     slot: u8,
     card: Card<R, M>,
-) -> Result<(InstallRefusal, Card<R, M>), Fail> {
+) -> Option<(InstallRefusal, Card<R, M>)> {
     match ask(alloc, core, Ask::Install(slot, card)) {
-        Answer::NotInstalled(refusal, card) => Ok((refusal, card)),
+        Answer::NotInstalled(refusal, card) => Some((refusal, card)),
         other => {
             drop(other);
-            Err("a card was not refused")?
+            None
         }
     }
 }
@@ -147,34 +149,35 @@ pub fn eject<R: Relay, M: Meter>(
     alloc: Global,
     core: &mut Core<R, M>,
     slot: u8,
-) -> Result<Card<R, M>, Fail> {
+) -> Option<Card<R, M>> {
     match ask(alloc, core, Ask::Eject(slot)) {
-        Answer::Ejected(card) => Ok(card),
+        Answer::Ejected(card) => Some(card),
         other => {
             drop(other);
-            Err("no card came out")?
+            None
         }
     }
 }
 
-/// Why no card came out, if none did.
-fn why_not_ejected<R: Relay, M: Meter>(answer: &Answer<R, M>) -> Option<EjectRefusal> {
+/// Whether no card came out, for that.
+fn is_not_ejected<R: Relay, M: Meter>(answer: &Answer<R, M>, why: EjectRefusal) -> bool {
     match answer {
-        Answer::NotEjected(refusal) => Some(*refusal),
-        _ => None,
+        Answer::NotEjected(refusal) => *refusal == why,
+        _ => false,
     }
 }
 
-/// Why no card comes out of the slot, if none does.
-pub fn refused_eject<R: Relay, M: Meter>(
+/// Whether no card comes out of the slot, for that.
+pub fn refuses_eject<R: Relay, M: Meter>(
     alloc: Global,
     core: &mut Core<R, M>,
     slot: u8,
-) -> Option<EjectRefusal> {
+    why: EjectRefusal,
+) -> bool {
     let answer = ask(alloc, core, Ask::Eject(slot));
-    let refusal = why_not_ejected(&answer);
+    let is_refused = is_not_ejected(&answer, why);
     drop(answer);
-    refusal
+    is_refused
 }
 
 /// Whether no scan takes it.
@@ -218,69 +221,68 @@ pub fn snapshot<R: Relay, M: Meter>(
     alloc: Global,
     core: &mut Core<R, M>,
     sid: Sid,
-) -> Result<SessionAnswer, Fail> {
+) -> Option<SessionAnswer> {
     answer_of(alloc, core, SessionAsk::Snapshot(sid))
 }
 
-/// Whether it is done, with no text.
-fn is_done(answer: &SessionAnswer) -> bool {
-    matches!(answer, SessionAnswer::Done(None))
+/// Whether the answer is that of a command that is done, with no text.
+fn is_done(answer: &Option<SessionAnswer>) -> bool {
+    matches!(answer, Some(SessionAnswer::Done(None)))
 }
 
-/// Whether it is done, with a text.
-fn is_told(answer: &SessionAnswer) -> bool {
-    matches!(answer, SessionAnswer::Done(Some(_)))
-}
-
-/// Whether no more events can be numbered.
-fn is_worn(answer: &SessionAnswer) -> bool {
-    matches!(answer, SessionAnswer::Worn(_))
-}
-
-/// Whether it is refused by this error.
-fn is_refused(answer: &SessionAnswer, error: ScpiError) -> bool {
+/// Whether the answer is this text.
+fn is_text(answer: &Option<SessionAnswer>, text: &[u8]) -> bool {
     match answer {
-        SessionAnswer::Refused(why) => *why == error,
+        Some(SessionAnswer::Done(Some(told))) => told.as_slice() == text,
         _ => false,
     }
 }
 
-/// Whether the answer is that of a command that is done, with no text.
-fn was_done(answer: SessionAnswer) -> bool {
-    let is_done = is_done(&answer);
-    drop(answer);
-    is_done
-}
-
-/// Whether the answer is a text.
-fn was_told(answer: SessionAnswer) -> bool {
-    let is_told = is_told(&answer);
-    drop(answer);
-    is_told
+/// Whether the answer is to be asked for again.
+fn is_held(answer: &Option<SessionAnswer>) -> bool {
+    matches!(answer, Some(SessionAnswer::Hold(_)))
 }
 
 /// Whether the answer is that no more events can be numbered.
-pub fn was_worn(answer: SessionAnswer) -> bool {
+fn is_worn(answer: &Option<SessionAnswer>) -> bool {
+    matches!(answer, Some(SessionAnswer::Worn(_)))
+}
+
+/// Whether the answer is a refusal by this error.
+fn is_refused(answer: &Option<SessionAnswer>, error: ScpiError) -> bool {
+    match answer {
+        Some(SessionAnswer::Refused(why)) => *why == error,
+        _ => false,
+    }
+}
+
+/// Whether the answer, which is let go, is that no more events can be numbered.
+pub fn was_worn(answer: Option<SessionAnswer>) -> bool {
     let is_worn = is_worn(&answer);
     drop(answer);
     is_worn
 }
 
-/// Whether the answer is a refusal by this error.
-pub fn was_refused(answer: SessionAnswer, error: ScpiError) -> bool {
+/// Whether the answer, which is let go, is a refusal by this error.
+pub fn was_refused(answer: Option<SessionAnswer>, error: ScpiError) -> bool {
     let is_refused = is_refused(&answer, error);
     drop(answer);
     is_refused
 }
 
-/// The command of a message of one unit.
-fn command_of(alloc: Global, text: &[u8]) -> Result<Command, Fail> {
-    let Ok(Some((unit, _))) = next_unit(text) else {
-        return Err("no unit was sent")?;
-    };
-    match resolve(alloc, &unit, Path::root()).command {
-        Ok(command) => Ok(command),
-        Err(_) => Err("no command was sent")?,
+/// What a text's first unit asks for.
+fn read(alloc: Global, text: &[u8]) -> Result<Command, ScpiError> {
+    match next_unit(text)? {
+        Some((unit, _)) => resolve(alloc, &unit, Path::root()).command,
+        None => Err(ScpiError::SystemError),
+    }
+}
+
+/// What a session asks that sends one unit.
+fn sent(alloc: Global, sid: Sid, text: &[u8]) -> Option<SessionAsk> {
+    match read(alloc, text) {
+        Ok(command) => Some(SessionAsk::Unit(sid, command, false)),
+        Err(_) => None,
     }
 }
 
@@ -290,9 +292,11 @@ pub fn unit<R: Relay, M: Meter>(
     core: &mut Core<R, M>,
     sid: Sid,
     text: &[u8],
-) -> Result<SessionAnswer, Fail> {
-    let command = command_of(alloc, text)?;
-    answer_of(alloc, core, SessionAsk::Unit(sid, command, false))
+) -> Option<SessionAnswer> {
+    match sent(alloc, sid, text) {
+        Some(asked) => answer_of(alloc, core, asked),
+        None => None,
+    }
 }
 
 /// Sends one unit, and gives the work that comes of it.
@@ -301,30 +305,11 @@ pub fn send<R: Relay, M: Meter>(
     core: &mut Core<R, M>,
     sid: Sid,
     text: &[u8],
-) -> Result<Option<Work<M>>, Fail> {
-    let command = command_of(alloc, text)?;
-    work_of(alloc, core, SessionAsk::Unit(sid, command, false))
-}
-
-/// Sends one unit, of which no work comes.
-pub fn tell<R: Relay, M: Meter>(
-    alloc: Global,
-    core: &mut Core<R, M>,
-    sid: Sid,
-    text: &[u8],
-) -> Result<(), Fail> {
-    let answer = unit(alloc, core, sid, text)?;
-    drop(answer);
-    Ok(())
-}
-
-/// Whether no scan runs.
-pub fn is_idle<R: Relay, M: Meter>(
-    alloc: Global,
-    core: &mut Core<R, M>,
-    sid: Sid,
-) -> Result<bool, Fail> {
-    Ok(was_told(unit(alloc, core, sid, b"*OPC?")?))
+) -> Option<Work<M>> {
+    match sent(alloc, sid, text) {
+        Some(asked) => work_of(alloc, core, asked),
+        None => None,
+    }
 }
 
 /// Whether the unit is done, with no text.
@@ -333,8 +318,25 @@ pub fn does<R: Relay, M: Meter>(
     core: &mut Core<R, M>,
     sid: Sid,
     text: &[u8],
-) -> Result<bool, Fail> {
-    Ok(was_done(unit(alloc, core, sid, text)?))
+) -> bool {
+    let answer = unit(alloc, core, sid, text);
+    let is_done = is_done(&answer);
+    drop(answer);
+    is_done
+}
+
+/// Whether the unit is answered by this text.
+pub fn tells<R: Relay, M: Meter>(
+    alloc: Global,
+    core: &mut Core<R, M>,
+    sid: Sid,
+    text: &[u8],
+    wanted: &[u8],
+) -> bool {
+    let answer = unit(alloc, core, sid, text);
+    let is_text = is_text(&answer, wanted);
+    drop(answer);
+    is_text
 }
 
 /// Whether the unit is refused by this error.
@@ -344,30 +346,29 @@ pub fn refuses<R: Relay, M: Meter>(
     sid: Sid,
     text: &[u8],
     error: ScpiError,
-) -> Result<bool, Fail> {
-    Ok(was_refused(unit(alloc, core, sid, text)?, error))
+) -> bool {
+    was_refused(unit(alloc, core, sid, text), error)
 }
 
-/// The text of an answer.
-fn text_of(answer: SessionAnswer) -> Result<Sequence<u8>, Fail> {
-    match answer {
-        SessionAnswer::Done(Some(told)) => Ok(told),
-        other => {
-            drop(other);
-            Err("no text was told")?
-        }
-    }
+/// Whether no scan runs.
+pub fn is_idle<R: Relay, M: Meter>(alloc: Global, core: &mut Core<R, M>, sid: Sid) -> bool {
+    tells(alloc, core, sid, b"*OPC?", b"1")
 }
 
-/// Compares the list of the closed channels.
-pub fn check_closed<R: Relay, M: Meter>(
-    rt: &impl Abort,
+/// Whether a scan runs.
+pub fn is_running<R: Relay, M: Meter>(alloc: Global, core: &mut Core<R, M>, sid: Sid) -> bool {
+    let answer = unit(alloc, core, sid, b"*OPC?");
+    let is_held = is_held(&answer);
+    drop(answer);
+    is_held
+}
+
+/// Whether this is told of the closed channels.
+pub fn has_closed<R: Relay, M: Meter>(
     alloc: Global,
     core: &mut Core<R, M>,
     sid: Sid,
-    text: &[u8],
-) -> Result<(), Fail> {
-    let told = text_of(unit(alloc, core, sid, b"ROUT:CLOS:STAT?")?)?;
-    assert_eq!(rt; told.as_slice(), text);
-    Ok(())
+    wanted: &[u8],
+) -> bool {
+    tells(alloc, core, sid, b"ROUT:CLOS:STAT?", wanted)
 }

@@ -2,19 +2,19 @@
 
 ghost use Rattle.std.specs.Prelude.{ℕ, Bool};
 
+use crate::boxes::{Relays, closed, mux, voltmeter};
 use crate::cage_calls::{
     begin, close, ejected, fill, give_back, has, has_all, has_closed, install, is_closed,
-    is_ignored, is_over, job_of, lists_closed, refused_card, refused_eject, refuses, settings_of,
+    is_ignored, is_over, job_of, lists_closed, refused_card, refuses, refuses_eject, settings_of,
 };
 use std::alloc::{AllocError, Global};
-use std::process::Abort;
 use std::sync::Arc;
 use std::sync::atomic::{AtomicU64, Ordering};
 use std::test::Fail;
-use sw_base::{Chan, LayerName, Source};
+use sw_base::{Chan, LayerName, ScpiError, Source};
 use sw_cage::{Cage, CloseRefusal, EjectRefusal, Happening, InstallRefusal, Job, Taken, Ticket};
 use sw_card::{Card, CardFault, Meter, Relay};
-use sw_kinds::{Driver, Mux, SimDriver, SimSource, Volt};
+use sw_kinds::{Driver, Mux, SimDriver};
 use sw_trigger::Settings;
 use sw_verify::Layout;
 
@@ -55,113 +55,106 @@ fn recording(slot: u8, group: u8, record: &Record) -> Result<Mux<Recorder>, Allo
     Ok(Mux::new(u32::from(slot), 2, group, driver))
 }
 
-fn voltmeter() -> Volt<SimSource> {
-    Volt::new(4, SimSource::new(1, 1))
-}
-
-/// Takes so many readings, which end the scan.
-fn read_all<R: Relay, M: Meter>(
+/// Whether so many readings end the scan.
+fn ends_after<R: Relay, M: Meter>(
     cage: &mut Cage<R, M>,
-    first: Taken<M>,
+    first: Option<Taken<M>>,
     count: u32,
-) -> Result<(), Fail> {
+) -> bool {
     let mut taken = first;
     for _ in 0..count {
-        let job = job_of(taken)?;
-        taken = give_back(cage, job)?;
+        let Some(job) = job_of(taken) else {
+            return false;
+        };
+        taken = give_back(cage, job);
     }
-    if !is_over(taken) {
-        Err("the scan did not end")?;
-    }
-    Ok(())
+    is_over(taken)
 }
 
-/// What the drivers did in a scan of these channels with so many readings.
-fn scanned<R: Relay, M: Meter>(
+/// Whether a scan of these channels with so many readings drives them in this order.
+fn drives<R: Relay, M: Meter>(
     alloc: Global,
     cage: &mut Cage<R, M>,
     record: &Record,
     chans: &[Chan],
     count: u32,
-) -> Result<u64, Fail> {
+    wanted: u64,
+) -> bool {
     record.store(0, Ordering::SeqCst);
-    let settings = settings_of(alloc, chans, count)?;
-    let taken = begin(alloc, cage, settings)?;
-    read_all(cage, taken, count)?;
-    Ok(record.load(Ordering::SeqCst))
+    match settings_of(alloc, chans, count) {
+        Ok(settings) => {
+            let taken = begin(alloc, cage, settings);
+            ends_after(cage, taken, count) && record.load(Ordering::SeqCst) == wanted
+        }
+        Err(_) => false,
+    }
 }
 
-/// Scans channels of two cards, of one card of no group, and of one group.
-fn order<R: Relay, M: Meter>(
-    rt: &impl Abort,
-    alloc: Global,
-    cage: &mut Cage<R, M>,
-    record: &Record,
-) -> Result<(), Fail> {
+/// Whether channels of two cards, of one card of no group, and of one group are driven one after another.
+fn keeps_order<R: Relay, M: Meter>(alloc: Global, cage: &mut Cage<R, M>, record: &Record) -> bool {
     let two_cards = [Chan::new(1, 1), Chan::new(3, 1)];
-    assert_eq!(rt;
-        scanned(alloc, cage, record, &two_cards, 2)?,
-        111_110_311_310
-    );
     let one_card = [Chan::new(2, 1), Chan::new(2, 2)];
-    assert_eq!(rt;
-        scanned(alloc, cage, record, &one_card, 2)?,
-        211_210_221_220
-    );
     let one_group = [Chan::new(1, 1), Chan::new(1, 2)];
-    assert_eq!(rt;
-        scanned(alloc, cage, record, &one_group, 3)?,
-        111_110_121_120_111_110
-    );
-    assert_eq!(rt; cage.readings().len(), 3);
-    Ok(())
+    drives(alloc, cage, record, &two_cards, 2, 111_110_311_310)
+        && drives(alloc, cage, record, &one_card, 2, 211_210_221_220)
+        && drives(alloc, cage, record, &one_group, 3, 111_110_121_120_111_110)
+        && cage.readings().len() == 3
 }
 
-/// A cage at rest, for as long as it scans.
-fn order_in<R: Relay, M: Meter>(
-    rt: &impl Abort,
+/// The same over a cage that is at rest.
+fn keeps_order_at_rest<R: Relay, M: Meter>(
     alloc: Global,
     cards: (R, R, R),
     meter: M,
     record: &Record,
-) -> Result<(), Fail> {
-    let mut cage = Cage::new(alloc)?;
-    let result = match fill(&mut cage, cards, meter) {
-        Ok(()) => order(rt, alloc, &mut cage, record),
-        Err(fail) => Err(fail),
+) -> bool {
+    let Ok(mut cage) = Cage::new(alloc) else {
+        return false;
     };
+    let is_filled = fill(&mut cage, cards, meter);
+    let is_so = is_filled && keeps_order(alloc, &mut cage, record);
     drop(cage);
-    result
+    is_so
+}
+
+/// Two cards of group 1 and between them one of no group, which write into the record.
+fn recorded(alloc: Global, record: &Record) -> Result<(Relays, Relays, Relays), AllocError> {
+    let first: Relays = Box::new(alloc, recording(1, 1, record)?)?;
+    let second: Relays = Box::new(alloc, recording(2, 0, record)?)?;
+    let third: Relays = Box::new(alloc, recording(3, 1, record)?)?;
+    Ok((first, second, third))
 }
 
 /// A channel opens before the next one closes; the list begins anew after its end.
 #[test]
 fn opens_before_it_closes(rt: HostRuntime) -> Result<(), Fail> {
-    let alloc = rt.alloc();
-    let record = Arc::new(alloc, AtomicU64::new(0))?;
-    let first = recording(1, 1, &record)?;
-    let second = recording(2, 0, &record)?;
-    let third = recording(3, 1, &record)?;
-    order_in(&rt, alloc, (first, second, third), voltmeter(), &record)
+    let record = Arc::new(rt.alloc(), AtomicU64::new(0))?;
+    let cards = recorded(rt.alloc(), &record)?;
+    let meter = voltmeter(rt.alloc())?;
+    assert!(rt; keeps_order_at_rest(rt.alloc(), cards, meter, &record));
+    Ok(())
 }
 
-/// Channels of several cards are judged together, closed, told and opened.
-fn together<R: Relay, M: Meter>(
-    rt: &impl Abort,
-    alloc: Global,
-    cage: &mut Cage<R, M>,
-) -> Result<(), Fail> {
+/// Whether channels of several cards are judged together, before any is closed.
+fn judges_together<R: Relay, M: Meter>(cage: &Cage<R, M>) -> bool {
+    refuses(
+        cage,
+        &[Chan::new(1, 1), Chan::new(3, 1)],
+        CloseRefusal::Clash,
+    ) && refuses(cage, &[Chan::new(5, 1)], CloseRefusal::Absent)
+        && refuses(cage, &[Chan::new(4, 1)], CloseRefusal::Absent)
+}
+
+/// Whether channels of two cards are closed together, and told.
+fn closes_together<R: Relay, M: Meter>(alloc: Global, cage: &mut Cage<R, M>) -> bool {
     let pair = [Chan::new(1, 1), Chan::new(2, 1)];
-    let one_group = [Chan::new(1, 1), Chan::new(3, 1)];
-    assert!(rt; refuses(cage, &one_group, CloseRefusal::Clash));
-    assert!(rt; refuses(cage, &[Chan::new(5, 1)], CloseRefusal::Absent));
-    assert!(rt; refuses(cage, &[Chan::new(4, 1)], CloseRefusal::Absent));
-    assert!(rt; has_all(cage, &pair) && !has(cage, Chan::new(1, 5)));
-    assert!(rt; close(cage, &pair));
-    assert!(rt; refuses(cage, &[Chan::new(3, 1)], CloseRefusal::Clash));
-    assert!(rt; lists_closed(alloc, cage, &pair)?);
-    assert!(rt; has_closed(cage, &pair) && !has_closed(cage, &pair[..1]));
-    Ok(())
+    has_all(cage, &pair)
+        && !has(cage, Chan::new(1, 5))
+        && close(cage, &pair)
+        && refuses(cage, &[Chan::new(3, 1)], CloseRefusal::Clash)
+        && lists_closed(alloc, cage, &pair)
+        && has_closed(cage, &pair)
+        && !has_closed(cage, &pair[..1])
 }
 
 /// Whether every relay of the card of that serial number is open.
@@ -169,288 +162,302 @@ fn is_safe<R: Relay, M: Meter>(card: &Card<R, M>, serial: u32) -> bool {
     card.serial() == serial && !card.any_closed()
 }
 
-/// Takes the card out of slot 1, with its relays open; slot 2 stays as it was.
-fn take_out<R: Relay, M: Meter>(
-    rt: &impl Abort,
-    cage: &mut Cage<R, M>,
-) -> Result<Card<R, M>, Fail> {
-    let card = ejected(cage, 1)?;
-    assert!(rt; is_safe(&card, 1) && is_closed(cage, Chan::new(2, 1)));
-    assert!(rt; refused_eject(cage, 1) == Some(EjectRefusal::Vacant));
-    Ok(card)
+/// Whether a card with a closed channel is not taken, and is handed back with it closed.
+fn hands_closed_back<R: Relay, M: Meter>(cage: &mut Cage<R, M>, closed: R) -> bool {
+    match refused_card(cage, 5, Card::relays(closed)) {
+        Some((refusal, card)) => {
+            let is_back = card.serial() == 7 && card.is_closed(1);
+            drop(card);
+            is_back && refusal == InstallRefusal::BadLayout
+        }
+        None => false,
+    }
 }
 
-/// A slot that has a card takes no other one.
-fn stay_occupied<R: Relay, M: Meter>(
-    rt: &impl Abort,
-    cage: &mut Cage<R, M>,
-    card: Card<R, M>,
-) -> Result<Card<R, M>, Fail> {
-    let (refusal, card) = refused_card(cage, 2, card)?;
-    assert!(rt; refusal == InstallRefusal::Occupied && card.serial() == 1);
-    Ok(card)
+/// Whether the card of slot 1 is not taken by slot 2, which has one, and then by slot 1.
+fn comes_back<R: Relay, M: Meter>(cage: &mut Cage<R, M>, card: Card<R, M>) -> bool {
+    match refused_card(cage, 2, card) {
+        Some((refusal, card)) => {
+            let is_back = refusal == InstallRefusal::Occupied && card.serial() == 1;
+            install(cage, 1, card) && is_back
+        }
+        None => false,
+    }
 }
 
-/// No slot takes a card with a closed channel, which it keeps closed.
-fn stay_out<R: Relay, M: Meter>(
-    rt: &impl Abort,
-    cage: &mut Cage<R, M>,
-    closed: R,
-) -> Result<(), Fail> {
-    let (refusal, card) = refused_card(cage, 5, Card::relays(closed))?;
-    let is_back = card.serial() == 7 && card.is_closed(1);
-    drop(card);
-    assert!(rt; refusal == InstallRefusal::BadLayout && is_back);
-    Ok(())
+/// Whether the card of slot 1 leaves with its relays open, while slot 2 stays as it was, and comes back.
+fn goes_and_comes<R: Relay, M: Meter>(cage: &mut Cage<R, M>) -> bool {
+    match ejected(cage, 1) {
+        Some(card) => {
+            let is_safe = is_safe(&card, 1) && is_closed(cage, Chan::new(2, 1));
+            let is_vacant = refuses_eject(cage, 1, EjectRefusal::Vacant);
+            comes_back(cage, card) && is_safe && is_vacant
+        }
+        None => false,
+    }
 }
 
-/// A card leaves with its relays open, and the others stay as they were; a refused card is handed back.
-fn exchange<R: Relay, M: Meter>(
-    rt: &impl Abort,
-    cage: &mut Cage<R, M>,
-    closed: R,
-) -> Result<(), Fail> {
-    stay_out(rt, cage, closed)?;
-    let card = take_out(rt, cage)?;
-    let card = stay_occupied(rt, cage, card)?;
-    install(cage, 1, card)
+/// Whether cards that come into a cage are used, leave it and come back.
+fn exchanges<R: Relay, M: Meter>(alloc: Global, cage: &mut Cage<R, M>, closed: R) -> bool {
+    hands_closed_back(cage, closed)
+        && judges_together(cage)
+        && closes_together(alloc, cage)
+        && goes_and_comes(cage)
 }
 
-fn use_and_exchange<R: Relay, M: Meter>(
-    rt: &impl Abort,
-    alloc: Global,
-    cage: &mut Cage<R, M>,
-    cards: (R, R, R),
-    closed: R,
-    meter: M,
-) -> Result<(), Fail> {
-    fill(cage, cards, meter)?;
-    together(rt, alloc, cage)?;
-    exchange(rt, cage, closed)
-}
-
-/// A cage at rest, for as long as its cards come and go.
-fn come_and_go<R: Relay, M: Meter>(
-    rt: &impl Abort,
+/// The same over a cage that is at rest.
+fn exchanges_at_rest<R: Relay, M: Meter>(
     alloc: Global,
     cards: (R, R, R),
     closed: R,
     meter: M,
-) -> Result<(), Fail> {
-    let mut cage = Cage::new(alloc)?;
-    let result = use_and_exchange(rt, alloc, &mut cage, cards, closed, meter);
+) -> bool {
+    let Ok(mut cage) = Cage::new(alloc) else {
+        return false;
+    };
+    let is_filled = fill(&mut cage, cards, meter);
+    let is_so = exchanges(alloc, &mut cage, closed);
     drop(cage);
-    result
-}
-
-fn boxed_relays(
-    alloc: Global,
-    serial: u32,
-    group: u8,
-) -> Result<Box<dyn Relay + Send>, AllocError> {
-    Ok(Box::new(alloc, Mux::new(serial, 4, group, SimDriver::new()))?)
-}
-
-fn boxed_meter(alloc: Global) -> Result<Box<dyn Meter + Send>, AllocError> {
-    Ok(Box::new(alloc, voltmeter())?)
+    is_so && is_filled
 }
 
 #[test]
 fn cards_come_and_go(rt: HostRuntime) -> Result<(), Fail> {
-    let alloc = rt.alloc();
-    let first = boxed_relays(alloc, 1, 1)?;
-    let second = boxed_relays(alloc, 2, 0)?;
-    let third = boxed_relays(alloc, 3, 1)?;
-    let mut card = Mux::new(7, 4, 1, SimDriver::new());
-    assert!(rt; card.close(1).is_ok());
-    let closed: Box<dyn Relay + Send> = Box::new(alloc, card)?;
-    let meter = boxed_meter(alloc)?;
-    come_and_go(&rt, alloc, (first, second, third), closed, meter)
-}
-
-/// Begins a scan of 1!1 with 2!1 closed, and gives its measurement.
-fn measuring<R: Relay, M: Meter>(
-    rt: &impl Abort,
-    alloc: Global,
-    cage: &mut Cage<R, M>,
-) -> Result<Job<M>, Fail> {
-    assert!(rt; close(cage, &[Chan::new(2, 1)]));
-    let settings = settings_of(alloc, &[Chan::new(1, 1)], 1)?;
-    let taken = begin(alloc, cage, settings)?;
-    assert!(rt; is_closed(cage, Chan::new(1, 1)) && cage.has_out(4));
-    job_of(taken)
-}
-
-/// While a scan runs no card comes in, and no meter leaves that measures.
-fn stay<R: Relay, M: Meter>(rt: &impl Abort, cage: &mut Cage<R, M>, other: R) -> Result<(), Fail> {
-    assert!(rt; refused_eject(cage, 4) == Some(EjectRefusal::Out));
-    assert!(rt; refused_eject(cage, 5) == Some(EjectRefusal::Vacant));
-    let (refusal, other) = refused_card(cage, 2, Card::relays(other))?;
-    let serial = other.serial();
-    drop(other);
-    assert!(rt; refusal == InstallRefusal::Busy && serial == 7);
+    let cards = (
+        mux(rt.alloc(), 1, 1)?,
+        mux(rt.alloc(), 2, 0)?,
+        mux(rt.alloc(), 3, 1)?,
+    );
+    let closed = closed(rt.alloc())?;
+    let meter = voltmeter(rt.alloc())?;
+    assert!(rt; exchanges_at_rest(rt.alloc(), cards, closed, meter));
     Ok(())
 }
 
-/// A relay card leaves and ends the scan, with every relay open.
-fn leave<R: Relay, M: Meter>(rt: &impl Abort, cage: &mut Cage<R, M>) -> Result<(), Fail> {
-    let card = ejected(cage, 1)?;
-    let is_safe = is_safe(&card, 1);
-    drop(card);
-    assert!(rt; is_safe && !is_closed(cage, Chan::new(2, 1)));
-    assert!(rt; !cage.is_running());
-    Ok(())
+/// Begins a scan of one reading of 1!1, and gives its measurement.
+fn measuring_first<R: Relay, M: Meter>(alloc: Global, cage: &mut Cage<R, M>) -> Option<Job<M>> {
+    match settings_of(alloc, &[Chan::new(1, 1)], 1) {
+        Ok(settings) => job_of(begin(alloc, cage, settings)),
+        Err(_) => None,
+    }
 }
 
-/// The meter of a scan that is over returns: it is put back, adds no reading, and can leave.
-fn return_late<R: Relay, M: Meter>(
-    rt: &impl Abort,
-    cage: &mut Cage<R, M>,
-    job: Job<M>,
-) -> Result<(), Fail> {
-    let taken = give_back(cage, job)?;
-    assert!(rt; is_ignored(taken));
-    assert!(rt; !cage.has_out(4) && cage.readings().is_empty());
-    let meter = ejected(cage, 4)?;
-    let serial = meter.serial();
-    drop(meter);
-    assert_eq!(rt; serial, 4);
-    Ok(())
+/// Whether no card comes in while a scan runs, and no meter leaves that measures.
+fn keeps_its_cards<R: Relay, M: Meter>(cage: &mut Cage<R, M>, other: R) -> bool {
+    match refused_card(cage, 2, Card::relays(other)) {
+        Some((refusal, other)) => {
+            let is_back = refusal == InstallRefusal::Busy && other.serial() == 7;
+            drop(other);
+            is_back
+                && refuses_eject(cage, 4, EjectRefusal::Out)
+                && refuses_eject(cage, 5, EjectRefusal::Vacant)
+        }
+        None => false,
+    }
 }
 
-fn use_and_pull<R: Relay, M: Meter>(
-    rt: &impl Abort,
-    alloc: Global,
-    cage: &mut Cage<R, M>,
-    cards: (R, R, R),
-    other: R,
-    meter: M,
-) -> Result<(), Fail> {
-    fill(cage, cards, meter)?;
-    let job = measuring(rt, alloc, cage)?;
-    stay(rt, cage, other)?;
-    leave(rt, cage)?;
-    return_late(rt, cage, job)
+/// Whether the card of that serial number comes out of the slot, with no relay closed.
+fn comes_out_safe<R: Relay, M: Meter>(cage: &mut Cage<R, M>, slot: u8, serial: u32) -> bool {
+    match ejected(cage, slot) {
+        Some(card) => {
+            let is_safe = is_safe(&card, serial);
+            drop(card);
+            is_safe
+        }
+        None => false,
+    }
 }
 
-/// A cage at rest, for as long as its cards are pulled.
-fn pull<R: Relay, M: Meter>(
-    rt: &impl Abort,
-    alloc: Global,
-    cards: (R, R, R),
-    other: R,
-    meter: M,
-) -> Result<(), Fail> {
-    let mut cage = Cage::new(alloc)?;
-    let result = use_and_pull(rt, alloc, &mut cage, cards, other, meter);
+/// Whether a relay card leaves and ends the scan, with every relay open.
+fn leaves<R: Relay, M: Meter>(cage: &mut Cage<R, M>) -> bool {
+    comes_out_safe(cage, 1, 1) && !is_closed(cage, Chan::new(2, 1)) && !cage.is_running()
+}
+
+/// Whether the meter of a scan that is over is put back, adds no reading, and can leave.
+fn returns_late<R: Relay, M: Meter>(cage: &mut Cage<R, M>, job: Job<M>) -> bool {
+    is_ignored(give_back(cage, job))
+        && !cage.has_out(4)
+        && cage.readings().is_empty()
+        && comes_out_safe(cage, 4, 4)
+}
+
+/// Whether cards leave a running scan of 1!1 with 2!1 closed, and its meter when it is back.
+fn pulls<R: Relay, M: Meter>(alloc: Global, cage: &mut Cage<R, M>, other: R) -> bool {
+    let is_closed = close(cage, &[Chan::new(2, 1)]);
+    match measuring_first(alloc, cage) {
+        Some(job) => {
+            let is_out = has_closed(cage, &[Chan::new(1, 1), Chan::new(2, 1)]) && cage.has_out(4);
+            let is_left = keeps_its_cards(cage, other) && leaves(cage);
+            returns_late(cage, job) && is_closed && is_out && is_left
+        }
+        None => false,
+    }
+}
+
+/// The same over a cage that is at rest.
+fn pulls_at_rest<R: Relay, M: Meter>(alloc: Global, cards: (R, R, R), other: R, meter: M) -> bool {
+    let Ok(mut cage) = Cage::new(alloc) else {
+        return false;
+    };
+    let is_filled = fill(&mut cage, cards, meter);
+    let is_so = pulls(alloc, &mut cage, other);
     drop(cage);
-    result
+    is_so && is_filled
 }
 
 #[test]
 fn cards_leave_a_running_scan(rt: HostRuntime) -> Result<(), Fail> {
-    let alloc = rt.alloc();
-    let first = boxed_relays(alloc, 1, 1)?;
-    let second = boxed_relays(alloc, 2, 0)?;
-    let third = boxed_relays(alloc, 3, 1)?;
-    let other = boxed_relays(alloc, 7, 1)?;
-    let meter = boxed_meter(alloc)?;
-    pull(&rt, alloc, (first, second, third), other, meter)
+    let cards = (
+        mux(rt.alloc(), 1, 1)?,
+        mux(rt.alloc(), 2, 0)?,
+        mux(rt.alloc(), 3, 1)?,
+    );
+    let other = mux(rt.alloc(), 7, 1)?;
+    let meter = voltmeter(rt.alloc())?;
+    assert!(rt; pulls_at_rest(rt.alloc(), cards, other, meter));
+    Ok(())
 }
 
 fn ignores<R: Relay, M: Meter>(cage: &mut Cage<R, M>, happening: Happening) -> bool {
-    is_ignored(cage.take(happening))
+    is_ignored(Some(cage.take(happening)))
 }
 
 /// The pause that the scan goes on to by a bus trigger.
-fn triggered<R: Relay, M: Meter>(cage: &mut Cage<R, M>) -> Result<(Ticket, u64), Fail> {
+fn triggered<R: Relay, M: Meter>(cage: &mut Cage<R, M>) -> Option<(Ticket, u64)> {
     match cage.take(Happening::Bus) {
-        Taken::Pause(ticket, micros) => Ok((ticket, micros)),
+        Taken::Pause(ticket, micros) => Some((ticket, micros)),
         other => {
             drop(other);
-            Err("no pause is awaited")?
+            None
         }
     }
 }
 
-/// The settings of one reading of 1!1 by the bus, behind half a second.
-fn paused(alloc: Global) -> Result<Settings, Fail> {
-    let mut settings = settings_of(alloc, &[Chan::new(1, 1)], 1)?;
-    settings.set_source(LayerName::Arm1, Source::Bus);
-    settings.set_delay(LayerName::Trigger, 500_000)?;
-    Ok(settings)
+/// Whether the scan goes on by the bus alone to this pause.
+fn pauses<R: Relay, M: Meter>(cage: &mut Cage<R, M>, wanted: (Ticket, u64)) -> bool {
+    ignores(cage, Happening::External)
+        && ignores(cage, Happening::Signal(LayerName::Arm2))
+        && triggered(cage) == Some(wanted)
 }
 
-/// The measurement behind the bus trigger and the pause, which each of them alone ends.
-fn triggered_alone<R: Relay, M: Meter>(
-    rt: &impl Abort,
-    cage: &mut Cage<R, M>,
-) -> Result<Job<M>, Fail> {
-    assert!(rt; ignores(cage, Happening::External));
-    assert!(rt; ignores(cage, Happening::Signal(LayerName::Arm2)));
-    let (ticket, micros) = triggered(cage)?;
-    assert!(rt; ticket == Ticket { scan: 1, index: 1 } && micros == 500_000);
-    assert!(rt; ignores(cage, Happening::Elapsed(Ticket { scan: 0, index: 1 })));
-    job_of(cage.take(Happening::Elapsed(ticket)))
-}
-
-/// While it measures, the cage awaits that and has the layout of before; then its scan is over.
-fn read_alone<R: Relay, M: Meter>(
-    rt: &impl Abort,
+/// Whether, while it measures, the cage awaits that and has the layout of before, and then its scan is over.
+fn ends_by_its_meter<R: Relay, M: Meter>(
     cage: &mut Cage<R, M>,
     layout: &Layout,
     job: Job<M>,
-) -> Result<(), Fail> {
-    assert!(rt; cage.awaited().is_some() && cage.has_layout(layout));
-    assert!(rt; has_closed(cage, &[Chan::new(1, 1)]));
-    let taken = give_back(cage, job)?;
-    assert!(rt; is_over(taken) && has_closed(cage, &[]));
-    assert_eq!(rt; cage.readings().len(), 1);
-    Ok(())
+) -> bool {
+    let is_awaited = cage.awaited().is_some() && cage.has_layout(layout);
+    let is_closed = has_closed(cage, &[Chan::new(1, 1)]);
+    is_over(give_back(cage, job))
+        && is_awaited
+        && is_closed
+        && has_closed(cage, &[])
+        && cage.readings().len() == 1
 }
 
-/// A scan that awaits the bus, then a pause, then its meter goes on by each of these alone.
-fn awaited_alone<R: Relay, M: Meter>(
-    rt: &impl Abort,
-    alloc: Global,
-    cage: &mut Cage<R, M>,
-) -> Result<(), Fail> {
-    let settings = paused(alloc)?;
-    let layout = cage.layout(alloc)?;
-    drop(begin(alloc, cage, settings)?);
-    let job = triggered_alone(rt, cage)?;
-    read_alone(rt, cage, &layout, job)
+/// Whether a scan that awaits the bus, then a pause, then its meter goes on by each of these alone.
+fn goes_on_alone<R: Relay, M: Meter>(cage: &mut Cage<R, M>, layout: &Layout) -> bool {
+    let ticket = Ticket { scan: 1, index: 1 };
+    let is_paused = pauses(cage, (ticket, 500_000))
+        && ignores(cage, Happening::Elapsed(Ticket { scan: 0, index: 1 }));
+    match job_of(Some(cage.take(Happening::Elapsed(ticket)))) {
+        Some(job) => ends_by_its_meter(cage, layout, job) && is_paused,
+        None => false,
+    }
 }
 
-fn use_alone<R: Relay, M: Meter>(
-    rt: &impl Abort,
-    alloc: Global,
-    cage: &mut Cage<R, M>,
-    card: R,
-    meter: M,
-) -> Result<(), Fail> {
-    install(cage, 1, Card::relays(card))?;
-    install(cage, 4, Card::meter(meter))?;
-    awaited_alone(rt, alloc, cage)
+/// One reading by the bus, behind half a second.
+fn set_pause(settings: &mut Settings) -> Result<(), ScpiError> {
+    settings.set_source(LayerName::Arm1, Source::Bus);
+    settings.set_delay(LayerName::Trigger, 500_000)
 }
 
-/// A cage at rest, for as long as its scan goes on.
-fn use_alone_in<R: Relay, M: Meter>(
-    rt: &impl Abort,
-    alloc: Global,
-    card: R,
-    meter: M,
-) -> Result<(), Fail> {
-    let mut cage = Cage::new(alloc)?;
-    let result = use_alone(rt, alloc, &mut cage, card, meter);
+/// Begins a scan of 1!1 that awaits the bus.
+fn begins_paused<R: Relay, M: Meter>(alloc: Global, cage: &mut Cage<R, M>) -> bool {
+    let Ok(mut settings) = settings_of(alloc, &[Chan::new(1, 1)], 1) else {
+        return false;
+    };
+    let is_set = set_pause(&mut settings).is_ok();
+    let taken = begin(alloc, cage, settings);
+    let is_waiting = matches!(&taken, Some(Taken::Waits));
+    drop(taken);
+    is_set && is_waiting
+}
+
+fn takes_alone<R: Relay, M: Meter>(alloc: Global, cage: &mut Cage<R, M>) -> bool {
+    match cage.layout(alloc) {
+        Ok(layout) => {
+            let is_so = begins_paused(alloc, cage) && goes_on_alone(cage, &layout);
+            drop(layout);
+            is_so
+        }
+        Err(_) => false,
+    }
+}
+
+/// The same over a cage that is at rest.
+fn takes_alone_at_rest<R: Relay, M: Meter>(alloc: Global, card: R, meter: M) -> bool {
+    let Ok(mut cage) = Cage::new(alloc) else {
+        return false;
+    };
+    let has_card = install(&mut cage, 1, Card::relays(card));
+    let has_meter = install(&mut cage, 4, Card::meter(meter));
+    let is_so = takes_alone(alloc, &mut cage);
     drop(cage);
-    result
+    is_so && has_card && has_meter
 }
 
 #[test]
 fn takes_what_is_awaited(rt: HostRuntime) -> Result<(), Fail> {
-    let alloc = rt.alloc();
-    let record = Arc::new(alloc, AtomicU64::new(0))?;
-    let card = recording(1, 1, &record)?;
-    use_alone_in(&rt, alloc, card, voltmeter())
+    let card = mux(rt.alloc(), 1, 1)?;
+    let meter = voltmeter(rt.alloc())?;
+    assert!(rt; takes_alone_at_rest(rt.alloc(), card, meter));
+    Ok(())
+}
+
+/// Whether these channels, which are closed, are opened.
+fn opens<R: Relay, M: Meter>(cage: &mut Cage<R, M>, chans: &[Chan]) -> bool {
+    has_closed(cage, chans)
+        && !cage.is_running()
+        && cage.open_listed(chans).is_ok()
+        && has_closed(cage, &[])
+}
+
+/// Whether a scan ends at once, with nothing closed and no reading kept.
+fn aborts<R: Relay, M: Meter>(cage: &mut Cage<R, M>) -> bool {
+    cage.abort();
+    if cage.is_running() {
+        return false;
+    }
+    cage.reset_readings();
+    cage.readings().is_empty() && has_closed(cage, &[])
+}
+
+/// Whether a channel is closed and opened, and a scan begun under that number and ended.
+fn begins_under<R: Relay, M: Meter>(alloc: Global, cage: &mut Cage<R, M>, number: u64) -> bool {
+    close(cage, &[Chan::new(1, 1)])
+        && opens(cage, &[Chan::new(1, 1)])
+        && begins_paused(alloc, cage)
+        && cage.number() == number
+        && aborts(cage)
+}
+
+/// Whether a cage of these cards that had eight scans begins its ninth.
+fn begins_ninth<R: Relay, M: Meter>(alloc: Global, card: R, meter: M) -> bool {
+    let Ok(mut cage) = Cage::with_number(alloc, 8) else {
+        return false;
+    };
+    let has_card = install(&mut cage, 1, Card::relays(card));
+    let has_meter = install(&mut cage, 4, Card::meter(meter));
+    let is_so = begins_under(alloc, &mut cage, 9);
+    drop(cage);
+    is_so && has_card && has_meter
+}
+
+#[test]
+fn numbers_go_on(rt: HostRuntime) -> Result<(), Fail> {
+    let card = mux(rt.alloc(), 1, 1)?;
+    let meter = voltmeter(rt.alloc())?;
+    assert!(rt; begins_ninth(rt.alloc(), card, meter));
+    Ok(())
 }

@@ -1,25 +1,20 @@
-//! A cage that the tests use by one call at a time. These promise nothing, so that a test is checked without all that
-//! the cage promises.
+//! A cage that the tests use by one call at a time. These promise nothing, and most answer yes or no, so that a test is
+//! checked without all that the cage promises.
 
-use std::alloc::{AllocError, Global};
-use std::test::Fail;
-use sw_base::{Chan, LayerName, Sequence};
+use std::alloc::Global;
+use sw_base::{Chan, LayerName, ScpiError, Sequence};
 use sw_cage::{Cage, CloseRefusal, EjectRefusal, InstallRefusal, Job, Taken};
 use sw_card::{Card, Meter, Relay};
 use sw_trigger::Settings;
-use sw_verify::{Plan, Snapshot};
+use sw_verify::{BoxedSnapshot, Plan, Snapshot};
 
-/// Puts a card into the slot.
-pub fn install<R: Relay, M: Meter>(
-    cage: &mut Cage<R, M>,
-    slot: u8,
-    card: Card<R, M>,
-) -> Result<(), Fail> {
+/// Whether a card comes into the slot.
+pub fn install<R: Relay, M: Meter>(cage: &mut Cage<R, M>, slot: u8, card: Card<R, M>) -> bool {
     match cage.install(slot, card) {
-        Ok(()) => Ok(()),
+        Ok(()) => true,
         Err(refused) => {
             drop(refused);
-            Err("a card was refused")?
+            false
         }
     }
 }
@@ -29,43 +24,44 @@ pub fn refused_card<R: Relay, M: Meter>(
     cage: &mut Cage<R, M>,
     slot: u8,
     card: Card<R, M>,
-) -> Result<(InstallRefusal, Card<R, M>), Fail> {
+) -> Option<(InstallRefusal, Card<R, M>)> {
     match cage.install(slot, card) {
-        Ok(()) => Err("a card was not refused")?,
-        Err(refused) => Ok(refused),
+        Ok(()) => None,
+        Err(refused) => Some(refused),
     }
 }
 
 /// Takes the slot's card out.
-pub fn ejected<R: Relay, M: Meter>(cage: &mut Cage<R, M>, slot: u8) -> Result<Card<R, M>, Fail> {
+pub fn ejected<R: Relay, M: Meter>(cage: &mut Cage<R, M>, slot: u8) -> Option<Card<R, M>> {
     match cage.eject(slot) {
-        Ok(card) => Ok(card),
-        Err(_) => Err("no card came out")?,
+        Ok(card) => Some(card),
+        Err(_) => None,
     }
 }
 
-/// Why no card comes out of the slot, if none does.
-pub fn refused_eject<R: Relay, M: Meter>(cage: &mut Cage<R, M>, slot: u8) -> Option<EjectRefusal> {
+/// Whether no card comes out of the slot, for that.
+pub fn refuses_eject<R: Relay, M: Meter>(
+    cage: &mut Cage<R, M>,
+    slot: u8,
+    why: EjectRefusal,
+) -> bool {
     match cage.eject(slot) {
         Ok(card) => {
             drop(card);
-            None
+            false
         }
-        Err(refusal) => Some(refusal),
+        Err(refusal) => refusal == why,
     }
 }
 
-/// Relay cards in slots 1 to 3 and a meter in slot 4.
-pub fn fill<R: Relay, M: Meter>(
-    cage: &mut Cage<R, M>,
-    cards: (R, R, R),
-    meter: M,
-) -> Result<(), Fail> {
+/// Whether relay cards come into slots 1 to 3 and a meter into slot 4.
+pub fn fill<R: Relay, M: Meter>(cage: &mut Cage<R, M>, cards: (R, R, R), meter: M) -> bool {
     let (first, second, third) = cards;
-    install(cage, 1, Card::relays(first))?;
-    install(cage, 2, Card::relays(second))?;
-    install(cage, 3, Card::relays(third))?;
-    install(cage, 4, Card::meter(meter))
+    let has_first = install(cage, 1, Card::relays(first));
+    let has_second = install(cage, 2, Card::relays(second));
+    let has_third = install(cage, 3, Card::relays(third));
+    let has_meter = install(cage, 4, Card::meter(meter));
+    has_first && has_second && has_third && has_meter
 }
 
 /// Closes the channels, which may be closed together.
@@ -81,61 +77,86 @@ pub fn begin<R: Relay, M: Meter>(
     alloc: Global,
     cage: &mut Cage<R, M>,
     settings: Settings,
-) -> Result<Taken<M>, Fail> {
+) -> Option<Taken<M>> {
     if cage.is_running() || cage.number() == u64::MAX || cage.has_out(settings.meter()) {
-        return Err("the cage is not ready")?;
+        return None;
     }
-    let layout = cage.layout(alloc)?;
-    let closed = Sequence::new(cage.closed_chans(alloc)?);
+    let Ok(layout) = cage.layout(alloc) else {
+        return None;
+    };
+    let Ok(closed) = cage.closed_chans(alloc) else {
+        return None;
+    };
     let snapshot = Snapshot {
         settings,
         layout,
-        closed,
+        closed: Sequence::new(closed),
     };
-    let Ok(plan) = Plan::make(alloc, snapshot) else {
-        return Err("the plan was refused")?;
+    let Ok(boxed) = BoxedSnapshot::new(alloc, snapshot) else {
+        return None;
     };
-    Ok(cage.start(alloc, plan)?)
+    let Ok(plan) = Plan::make(alloc, boxed) else {
+        return None;
+    };
+    match cage.start(alloc, plan) {
+        Ok(taken) => Some(taken),
+        Err(_) => None,
+    }
 }
 
 /// The settings of a scan of these channels with so many readings.
-pub fn settings_of(alloc: Global, chans: &[Chan], count: u32) -> Result<Settings, Fail> {
+pub fn settings_of(alloc: Global, chans: &[Chan], count: u32) -> Result<Settings, ScpiError> {
     let mut settings = Settings::new(alloc);
+    let set = set(alloc, &mut settings, chans, count);
+    match set {
+        Ok(()) => Ok(settings),
+        Err(error) => {
+            drop(settings);
+            Err(error)
+        }
+    }
+}
+
+fn set(
+    alloc: Global,
+    settings: &mut Settings,
+    chans: &[Chan],
+    count: u32,
+) -> Result<(), ScpiError> {
     settings.set_list(chans.to_vec(alloc)?)?;
-    settings.set_count(LayerName::Trigger, count)?;
-    Ok(settings)
+    settings.set_count(LayerName::Trigger, count)
 }
 
 /// Gives the meter that has measured back to the cage.
-pub fn give_back<R: Relay, M: Meter>(cage: &mut Cage<R, M>, job: Job<M>) -> Result<Taken<M>, Fail> {
+pub fn give_back<R: Relay, M: Meter>(cage: &mut Cage<R, M>, job: Job<M>) -> Option<Taken<M>> {
     match cage.finish(job.run()) {
-        Ok(taken) => Ok(taken),
+        Ok(taken) => Some(taken),
         Err(back) => {
             drop(back);
-            Err("the meter was handed back")?
+            None
         }
     }
 }
 
 /// The measurement that the scan awaits.
-pub fn job_of<M: Meter>(taken: Taken<M>) -> Result<Job<M>, Fail> {
+pub fn job_of<M: Meter>(taken: Option<Taken<M>>) -> Option<Job<M>> {
     match taken {
-        Taken::Job(job) => Ok(job),
+        Some(Taken::Job(job)) => Some(job),
         other => {
             drop(other);
-            Err("no reading is awaited")?
+            None
         }
     }
 }
 
-pub fn is_over<M: Meter>(taken: Taken<M>) -> bool {
-    let over = matches!(&taken, Taken::Ended);
+pub fn is_over<M: Meter>(taken: Option<Taken<M>>) -> bool {
+    let over = matches!(&taken, Some(Taken::Ended));
     drop(taken);
     over
 }
 
-pub fn is_ignored<M: Meter>(taken: Taken<M>) -> bool {
-    let ignored = matches!(&taken, Taken::Ignored);
+pub fn is_ignored<M: Meter>(taken: Option<Taken<M>>) -> bool {
+    let ignored = matches!(&taken, Some(Taken::Ignored));
     drop(taken);
     ignored
 }
@@ -162,11 +183,9 @@ pub fn is_closed<R: Relay, M: Meter>(cage: &Cage<R, M>, chan: Chan) -> bool {
 }
 
 /// Whether these are listed as the closed channels.
-pub fn lists_closed<R: Relay, M: Meter>(
-    alloc: Global,
-    cage: &Cage<R, M>,
-    chans: &[Chan],
-) -> Result<bool, AllocError> {
-    let closed = cage.closed_chans(alloc)?;
-    Ok(closed.as_slice() == chans)
+pub fn lists_closed<R: Relay, M: Meter>(alloc: Global, cage: &Cage<R, M>, chans: &[Chan]) -> bool {
+    match cage.closed_chans(alloc) {
+        Ok(closed) => closed.as_slice() == chans,
+        Err(_) => false,
+    }
 }

@@ -2,9 +2,9 @@
 
 ghost use Rattle.std.specs.Prelude.{ℕ, Bool};
 
-use crate::asks::{check_closed, does, eject, fit, install, refused_card, refused_eject, refuses};
+use crate::asks::{does, eject, fit, has_closed, install, refused_card, refuses, refuses_eject};
+use crate::boxes::{Relays, closed, three, voltmeter};
 use std::alloc::{AllocError, Global};
-use std::process::Abort;
 use std::sync::Arc;
 use std::sync::atomic::{AtomicU64, Ordering};
 use std::test::Fail;
@@ -12,7 +12,7 @@ use sw_base::ScpiError;
 use sw_cage::{EjectRefusal, InstallRefusal};
 use sw_card::{Card, CardFault, Meter, Relay};
 use sw_core::{Core, Sid};
-use sw_kinds::{Driver, Fuse, Matrix, Mux, SimDriver, SimSource, Volt};
+use sw_kinds::{Driver, Fuse, Matrix, Mux, SimDriver};
 
 /// How often a driver was asked to drive a channel, and how often its supply was cut.
 #[derive(Drop)]
@@ -68,166 +68,160 @@ fn calls(record: &Record) -> (u64, u64) {
     )
 }
 
-/// Takes the card of slot 1 out while 1!1 and 2!1 are closed.
-fn take_out<R: Relay, M: Meter>(
-    rt: &impl Abort,
-    alloc: Global,
-    core: &mut Core<R, M>,
-    sid: Sid,
-) -> Result<Card<R, M>, Fail> {
-    assert!(rt; does(alloc, core, sid, b"ROUT:CLOS (@1!1,2!1)")?);
-    check_closed(rt, alloc, core, sid, b"(@1!1,2!1)")?;
-    let card = eject(alloc, core, 1)?;
-    assert!(rt; card.serial() == 1 && !card.any_closed());
-    Ok(card)
+/// Whether a card with a closed channel is not taken, and is handed back with it closed.
+fn hands_closed_back<R: Relay, M: Meter>(alloc: Global, core: &mut Core<R, M>, closed: R) -> bool {
+    match refused_card(alloc, core, 5, Card::relays(closed)) {
+        Some((refusal, card)) => {
+            let is_back = card.serial() == 7 && card.is_closed(1);
+            drop(card);
+            is_back && refusal == InstallRefusal::BadLayout
+        }
+        None => false,
+    }
 }
 
-/// Slot 1 is empty, and 2!1 stayed closed.
-fn stay_empty<R: Relay, M: Meter>(
-    rt: &impl Abort,
-    alloc: Global,
-    core: &mut Core<R, M>,
-    sid: Sid,
-) -> Result<(), Fail> {
-    check_closed(rt, alloc, core, sid, b"(@2!1)")?;
-    assert_eq!(rt; refused_eject(alloc, core, 1), Some(EjectRefusal::Vacant));
-    Ok(())
+/// Whether the card of slot 1 is not taken by slot 2, which has one, and then by slot 1.
+fn comes_back<R: Relay, M: Meter>(alloc: Global, core: &mut Core<R, M>, card: Card<R, M>) -> bool {
+    match refused_card(alloc, core, 2, card) {
+        Some((refusal, card)) => {
+            let is_back = refusal == InstallRefusal::Occupied && card.serial() == 1;
+            install(alloc, core, 1, card) && is_back
+        }
+        None => false,
+    }
 }
 
-/// A slot that has a card takes no other one.
-fn stay_occupied<R: Relay, M: Meter>(
-    rt: &impl Abort,
-    alloc: Global,
-    core: &mut Core<R, M>,
-    card: Card<R, M>,
-) -> Result<Card<R, M>, Fail> {
-    let (refusal, card) = refused_card(alloc, core, 2, card)?;
-    assert_eq!(rt; (refusal, card.serial()), (InstallRefusal::Occupied, 1));
-    Ok(card)
+/// Whether slot 1 is empty, and 2!1 stayed closed.
+fn is_vacant<R: Relay, M: Meter>(alloc: Global, core: &mut Core<R, M>, sid: Sid) -> bool {
+    has_closed(alloc, core, sid, b"(@2!1)") && refuses_eject(alloc, core, 1, EjectRefusal::Vacant)
 }
 
-/// No slot takes a card with a closed channel, which it keeps closed.
-fn stay_out<R: Relay, M: Meter>(
-    rt: &impl Abort,
-    alloc: Global,
-    core: &mut Core<R, M>,
-    closed: R,
-) -> Result<(), Fail> {
-    let (refusal, card) = refused_card(alloc, core, 5, Card::relays(closed))?;
-    let serial = card.serial();
-    let is_closed = card.is_closed(1);
-    drop(card);
-    assert_eq!(rt; (refusal, serial), (InstallRefusal::BadLayout, 7));
-    assert!(rt; is_closed);
-    Ok(())
+/// Whether the card of slot 1 leaves with its relays open, and comes back.
+fn goes_and_comes<R: Relay, M: Meter>(alloc: Global, core: &mut Core<R, M>, sid: Sid) -> bool {
+    match eject(alloc, core, 1) {
+        Some(card) => {
+            let is_safe = card.serial() == 1 && !card.any_closed();
+            let is_vacant = is_vacant(alloc, core, sid);
+            comes_back(alloc, core, card) && is_safe && is_vacant
+        }
+        None => false,
+    }
 }
 
-/// Offers the card of slot 1 and one with a closed channel where they don't fit, and puts the card back.
-fn exchange<R: Relay, M: Meter>(
-    rt: &impl Abort,
+/// Offers a card with a closed channel, takes the card of slot 1 out while 1!1 and 2!1 are closed, and puts it back.
+fn exchanges<R: Relay, M: Meter>(
     alloc: Global,
     core: &mut Core<R, M>,
     cards: (R, R, R),
     closed: R,
     meter: M,
-) -> Result<(), Fail> {
-    let sid = fit(alloc, core, cards, meter)?;
-    stay_out(rt, alloc, core, closed)?;
-    let card = take_out(rt, alloc, core, sid)?;
-    let card = stay_occupied(rt, alloc, core, card)?;
-    stay_empty(rt, alloc, core, sid)?;
-    install(alloc, core, 1, card)?;
-    check_closed(rt, alloc, core, sid, b"(@2!1)")
+) -> bool {
+    let Some(sid) = fit(alloc, core, cards, meter) else {
+        return false;
+    };
+    hands_closed_back(alloc, core, closed)
+        && does(alloc, core, sid, b"ROUT:CLOS (@1!1,2!1)")
+        && has_closed(alloc, core, sid, b"(@1!1,2!1)")
+        && goes_and_comes(alloc, core, sid)
+        && has_closed(alloc, core, sid, b"(@2!1)")
 }
 
-/// A core at rest, for as long as its cards are exchanged.
-fn exchange_in<R: Relay, M: Meter>(
-    rt: &impl Abort,
+/// The same over a core that is at rest.
+fn exchanges_at_rest<R: Relay, M: Meter>(
     alloc: Global,
     cards: (R, R, R),
     closed: R,
     meter: M,
-) -> Result<(), Fail> {
-    let mut core = Core::new(alloc)?;
-    let result = exchange(rt, alloc, &mut core, cards, closed, meter);
+) -> bool {
+    let Ok(mut core) = Core::new(alloc) else {
+        return false;
+    };
+    let is_so = exchanges(alloc, &mut core, cards, closed, meter);
     drop(core);
-    result
+    is_so
 }
 
 #[test]
 fn cards_come_and_go(rt: HostRuntime) -> Result<(), Fail> {
-    let alloc = rt.alloc();
-    let first: Box<dyn Relay + Send> = Box::new(alloc, Mux::new(1, 20, 1, SimDriver::new()))?;
-    let second: Box<dyn Relay + Send> = Box::new(alloc, Matrix::new(2, 16, SimDriver::new()))?;
-    let third: Box<dyn Relay + Send> = Box::new(alloc, Mux::new(3, 10, 1, SimDriver::new()))?;
-    let mut mux = Mux::new(7, 4, 1, SimDriver::new());
-    assert!(rt; mux.close(1).is_ok());
-    let closed: Box<dyn Relay + Send> = Box::new(alloc, mux)?;
-    let meter: Box<dyn Meter + Send> = Box::new(alloc, Volt::new(4, SimSource::new(1, 1)))?;
-    exchange_in(&rt, alloc, (first, second, third), closed, meter)
+    let cards = three(rt.alloc())?;
+    let closed = closed(rt.alloc())?;
+    let meter = voltmeter(rt.alloc())?;
+    assert!(rt; exchanges_at_rest(rt.alloc(), cards, closed, meter));
+    Ok(())
+}
+
+/// Whether the first two cards were asked to drive one channel each, and the third none.
+fn were_driven(records: &[Record; 3]) -> bool {
+    calls(&records[0]).0 == 1 && calls(&records[1]).0 == 1 && calls(&records[2]).0 == 0
+}
+
+/// Whether the first card was asked to drive one channel, and every card was cut once.
+fn were_cut(records: &[Record; 3]) -> bool {
+    calls(&records[0]) == (1, 1) && calls(&records[1]) == (0, 1) && calls(&records[2]) == (0, 1)
 }
 
 /// Closes 1!1 and 2!1, and fails at the closing of 1!2: then every card is called once, the third one too, which
 /// has nothing closed.
-fn blow<R: Relay, M: Meter>(
-    rt: &impl Abort,
+fn blows<R: Relay, M: Meter>(
     alloc: Global,
     core: &mut Core<R, M>,
     cards: (R, R, R),
     meter: M,
     records: &[Record; 3],
-) -> Result<(), Fail> {
-    let sid = fit(alloc, core, cards, meter)?;
-    assert!(rt; does(alloc, core, sid, b"ROUT:CLOS (@1!1,2!1)")?);
-    let [one, two, three] = records;
-    assert_eq!(rt; (calls(one).0, calls(two).0, calls(three).0), (1, 1, 0));
-    assert!(rt;
-        refuses(
+) -> bool {
+    let Some(sid) = fit(alloc, core, cards, meter) else {
+        return false;
+    };
+    does(alloc, core, sid, b"ROUT:CLOS (@1!1,2!1)")
+        && were_driven(records)
+        && refuses(
             alloc,
             core,
             sid,
             b"ROUT:CLOS (@1!2)",
-            ScpiError::HardwareError
-        )?
-    );
-    assert_eq!(rt; calls(one), (1, 1));
-    assert_eq!(rt; calls(two), (0, 1));
-    assert_eq!(rt; calls(three), (0, 1));
-    check_closed(rt, alloc, core, sid, b"(@)")
+            ScpiError::HardwareError,
+        )
+        && were_cut(records)
+        && has_closed(alloc, core, sid, b"(@)")
 }
 
-/// A core at rest, for as long as its fuse lasts.
-fn blow_in<R: Relay, M: Meter>(
-    rt: &impl Abort,
+/// The same over a core that is at rest.
+fn blows_at_rest<R: Relay, M: Meter>(
     alloc: Global,
     cards: (R, R, R),
     meter: M,
     records: &[Record; 3],
-) -> Result<(), Fail> {
-    let mut core = Core::new(alloc)?;
-    let result = blow(rt, alloc, &mut core, cards, meter, records);
+) -> bool {
+    let Ok(mut core) = Core::new(alloc) else {
+        return false;
+    };
+    let is_so = blows(alloc, &mut core, cards, meter, records);
     drop(core);
-    result
+    is_so
+}
+
+fn records(alloc: Global) -> Result<[Record; 3], AllocError> {
+    Ok([
+        empty_record(alloc)?,
+        empty_record(alloc)?,
+        empty_record(alloc)?,
+    ])
+}
+
+/// A matrix of 20 channels whose second closing fails, a matrix and a multiplexer, which all tell these records.
+fn recorded(alloc: Global, records: &[Record; 3]) -> Result<(Relays, Relays, Relays), AllocError> {
+    let fuse = Fuse::new(recording(&records[0])?, Some(2));
+    let first: Relays = Box::new(alloc, Matrix::new(1, 20, fuse))?;
+    let second: Relays = Box::new(alloc, Matrix::new(2, 16, recording(&records[1])?))?;
+    let third: Relays = Box::new(alloc, Mux::new(3, 10, 1, recording(&records[2])?))?;
+    Ok((first, second, third))
 }
 
 #[test]
 fn a_failure_opens_every_card(rt: HostRuntime) -> Result<(), Fail> {
-    let alloc = rt.alloc();
-    let records = [
-        empty_record(alloc)?,
-        empty_record(alloc)?,
-        empty_record(alloc)?,
-    ];
-    let fuse = Fuse::new(recording(&records[0])?, Some(2));
-    let first: Box<dyn Relay + Send> = Box::new(alloc, Matrix::new(1, 20, fuse))?;
-    let second: Box<dyn Relay + Send> = Box::new(
-        alloc,
-        Matrix::new(2, 16, recording(&records[1])?),
-    )?;
-    let third: Box<dyn Relay + Send> = Box::new(
-        alloc,
-        Mux::new(3, 10, 1, recording(&records[2])?),
-    )?;
-    let meter: Box<dyn Meter + Send> = Box::new(alloc, Volt::new(4, SimSource::new(1, 1)))?;
-    blow_in(&rt, alloc, (first, second, third), meter, &records)
+    let records = records(rt.alloc())?;
+    let cards = recorded(rt.alloc(), &records)?;
+    let meter = voltmeter(rt.alloc())?;
+    assert!(rt; blows_at_rest(rt.alloc(), cards, meter, &records));
+    Ok(())
 }

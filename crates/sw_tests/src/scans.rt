@@ -1,66 +1,53 @@
 //! Scans over a core of boxed cards: what they take, what they miss, and what ends them.
 
 use crate::asks::{
-    answer_of, check_closed, does, eject, fit, install, is_idle, join, joined, misses_end,
-    misses_external, misses_return, refused_card, refused_eject, refuses, send, snapshot, take,
-    tell, unit, was_refused, was_worn, work_of,
+    NotTaken, answer_of, does, eject, fit, has_closed, is_idle, is_running, join, joined,
+    misses_end, misses_external, misses_return, refused_card, refuses, refuses_eject, send,
+    snapshot, take, unit, was_refused, was_worn, work_of,
 };
+use crate::boxes::{Relays, Voltmeter, mux, three, voltmeter};
 use std::alloc::Global;
-use std::process::Abort;
 use std::test::Fail;
 use sw_base::ScpiError;
 use sw_cage::{EjectRefusal, InstallRefusal, Job, Ticket};
 use sw_card::{Card, Meter, Relay};
 use sw_core::{Ask, Core, SessionAnswer, SessionAsk, Sid, Work};
-use sw_kinds::{Matrix, Mux, SimDriver, SimSource, Volt};
 use sw_verify::Plan;
 
-/// The plan of a scan of what is set.
-fn made_plan<R: Relay, M: Meter>(
-    alloc: Global,
-    core: &mut Core<R, M>,
-    sid: Sid,
-) -> Result<Plan, Fail> {
-    let answer = snapshot(alloc, core, sid)?;
-    planned(alloc, answer)
-}
-
 /// The plan of the scan that may begin.
-fn planned(alloc: Global, answer: SessionAnswer) -> Result<Plan, Fail> {
+fn planned(alloc: Global, answer: Option<SessionAnswer>) -> Option<Plan> {
     match answer {
-        SessionAnswer::Snapshot(snapshot) => match Plan::make(alloc, snapshot) {
-            Ok(plan) => Ok(plan),
-            Err(_) => Err("the scan is not sound")?,
+        Some(SessionAnswer::Snapshot(snapshot)) => match Plan::make(alloc, snapshot) {
+            Ok(plan) => Some(plan),
+            Err(_) => None,
         },
         other => {
             drop(other);
-            Err("no scan may begin")?
+            None
         }
     }
 }
 
-/// Begins a scan of what is set, and gives the work that it awaits.
-fn initiate<R: Relay, M: Meter>(
-    alloc: Global,
-    core: &mut Core<R, M>,
-    sid: Sid,
-) -> Result<Option<Work<M>>, Fail> {
-    let plan = made_plan(alloc, core, sid)?;
-    work_of(alloc, core, SessionAsk::Start(sid, plan))
+/// The plan of a scan of what is set.
+fn made_plan<R: Relay, M: Meter>(alloc: Global, core: &mut Core<R, M>, sid: Sid) -> Option<Plan> {
+    let answer = snapshot(alloc, core, sid);
+    planned(alloc, answer)
 }
 
-/// Begins a scan of what is set, of which no work comes.
-fn begin<R: Relay, M: Meter>(
-    rt: &impl Abort,
-    alloc: Global,
-    core: &mut Core<R, M>,
-    sid: Sid,
-) -> Result<(), Fail> {
-    let work = initiate(alloc, core, sid)?;
+/// Begins a scan of what is set, and gives the work that it awaits.
+fn initiate<R: Relay, M: Meter>(alloc: Global, core: &mut Core<R, M>, sid: Sid) -> Option<Work<M>> {
+    match made_plan(alloc, core, sid) {
+        Some(plan) => work_of(alloc, core, SessionAsk::Start(sid, plan)),
+        None => None,
+    }
+}
+
+/// Whether a scan of what is set runs, once begun, and awaits no work.
+fn begins<R: Relay, M: Meter>(alloc: Global, core: &mut Core<R, M>, sid: Sid) -> bool {
+    let work = initiate(alloc, core, sid);
     let is_none = work.is_none();
     drop(work);
-    assert!(rt; is_none);
-    Ok(())
+    is_none && is_running(alloc, core, sid)
 }
 
 /// What a piece of work, once done, asks.
@@ -76,7 +63,7 @@ fn carry_out<R: Relay, M: Meter>(
     alloc: Global,
     core: &mut Core<R, M>,
     work: Option<Work<M>>,
-) -> Result<u8, Fail> {
+) -> Result<u8, NotTaken> {
     let mut next = work;
     for pieces in 0..100u8 {
         let Some(work) = next else {
@@ -84,192 +71,207 @@ fn carry_out<R: Relay, M: Meter>(
         };
         next = take(alloc, core, done(work))?;
     }
-    Err("the work never ends")?
+    drop(next);
+    Err(NotTaken)
 }
 
-/// Two rounds of ARM by the bus, with three delayed readings each.
-fn set_rounds<R: Relay, M: Meter>(
-    alloc: Global,
-    core: &mut Core<R, M>,
-    sid: Sid,
-) -> Result<(), Fail> {
-    tell(alloc, core, sid, b"ROUT:SCAN (@1!1)")?;
-    tell(alloc, core, sid, b"ARM:COUN 2")?;
-    tell(alloc, core, sid, b"ARM:SOUR BUS")?;
-    tell(alloc, core, sid, b"TRIG:COUN 3")?;
-    tell(alloc, core, sid, b"TRIG:DEL 0.5")
-}
-
-/// What ARM's wait does not take, and what is refused once it is over: gives the work that awaits.
-fn miss<R: Relay, M: Meter>(
-    rt: &impl Abort,
-    alloc: Global,
-    core: &mut Core<R, M>,
-    sid: Sid,
-) -> Result<Option<Work<M>>, Fail> {
-    assert!(rt; misses_external(alloc, core));
-    assert!(rt; misses_end(alloc, core, Ticket { scan: 1, index: 0 }));
-    let work = send(alloc, core, sid, b"*TRG")?;
-    assert!(rt; refuses(alloc, core, sid, b"*TRG", ScpiError::TriggerIgnored)?);
-    Ok(work)
-}
-
-/// The six pieces of work of a round.
-fn round<R: Relay, M: Meter>(
-    rt: &impl Abort,
+/// Whether the work is a round, of six pieces.
+fn is_round<R: Relay, M: Meter>(
     alloc: Global,
     core: &mut Core<R, M>,
     work: Option<Work<M>>,
-) -> Result<(), Fail> {
-    assert_eq!(rt; carry_out(alloc, core, work)?, 6);
-    Ok(())
+) -> bool {
+    matches!(carry_out(alloc, core, work), Ok(6))
 }
 
-fn rounds<R: Relay, M: Meter>(
-    rt: &impl Abort,
+/// Sets two rounds of ARM by the bus, with three delayed readings each.
+fn sets_rounds<R: Relay, M: Meter>(alloc: Global, core: &mut Core<R, M>, sid: Sid) -> bool {
+    does(alloc, core, sid, b"ROUT:SCAN (@1!1)")
+        && does(alloc, core, sid, b"ARM:COUN 2")
+        && does(alloc, core, sid, b"ARM:SOUR BUS")
+        && does(alloc, core, sid, b"TRIG:COUN 3")
+        && does(alloc, core, sid, b"TRIG:DEL 0.5")
+}
+
+/// Whether the bus begins a round, and no second one while its work awaits.
+fn begins_round<R: Relay, M: Meter>(alloc: Global, core: &mut Core<R, M>, sid: Sid) -> bool {
+    let work = send(alloc, core, sid, b"*TRG");
+    let is_refused = refuses(alloc, core, sid, b"*TRG", ScpiError::TriggerIgnored);
+    is_round(alloc, core, work) && is_refused
+}
+
+/// Whether ARM's wait takes neither an external trigger nor a pause that is none of its scan's.
+fn awaits_bus<R: Relay, M: Meter>(alloc: Global, core: &mut Core<R, M>) -> bool {
+    misses_external(alloc, core) && misses_end(alloc, core, Ticket { scan: 1, index: 0 })
+}
+
+/// Whether the scan goes on for two rounds and no more.
+fn goes_two_rounds<R: Relay, M: Meter>(alloc: Global, core: &mut Core<R, M>, sid: Sid) -> bool {
+    begins(alloc, core, sid)
+        && awaits_bus(alloc, core)
+        && begins_round(alloc, core, sid)
+        && is_running(alloc, core, sid)
+        && begins_round(alloc, core, sid)
+        && is_idle(alloc, core, sid)
+}
+
+/// Whether fourteen happenings end such a scan over these cards.
+fn ends_after_rounds<R: Relay, M: Meter>(
     alloc: Global,
     core: &mut Core<R, M>,
     cards: (R, R, R),
     meter: M,
-) -> Result<(), Fail> {
-    let sid = fit(alloc, core, cards, meter)?;
-    set_rounds(alloc, core, sid)?;
-    begin(rt, alloc, core, sid)?;
-    let work = miss(rt, alloc, core, sid)?;
-    round(rt, alloc, core, work)?;
-    assert!(rt; !is_idle(alloc, core, sid)?);
-    let work = send(alloc, core, sid, b"*TRG")?;
-    round(rt, alloc, core, work)?;
-    assert!(rt; is_idle(alloc, core, sid)?);
-    Ok(())
+) -> bool {
+    match fit(alloc, core, cards, meter) {
+        Some(sid) => sets_rounds(alloc, core, sid) && goes_two_rounds(alloc, core, sid),
+        None => false,
+    }
 }
 
-/// A core at rest, for as long as the rounds go on.
-fn rounds_over<R: Relay, M: Meter>(
-    rt: &impl Abort,
+/// The same over a core that is at rest.
+fn ends_after_rounds_at_rest<R: Relay, M: Meter>(
     alloc: Global,
     cards: (R, R, R),
     meter: M,
-) -> Result<(), Fail> {
-    let mut core = Core::new(alloc)?;
-    let result = rounds(rt, alloc, &mut core, cards, meter);
+) -> bool {
+    let Ok(mut core) = Core::new(alloc) else {
+        return false;
+    };
+    let is_so = ends_after_rounds(alloc, &mut core, cards, meter);
     drop(core);
-    result
+    is_so
 }
 
 #[test]
 fn fourteen_happenings_end_the_scan(rt: HostRuntime) -> Result<(), Fail> {
-    let alloc = rt.alloc();
-    let first: Box<dyn Relay + Send> = Box::new(alloc, Mux::new(1, 20, 1, SimDriver::new()))?;
-    let second: Box<dyn Relay + Send> = Box::new(alloc, Matrix::new(2, 16, SimDriver::new()))?;
-    let third: Box<dyn Relay + Send> = Box::new(alloc, Mux::new(3, 10, 1, SimDriver::new()))?;
-    let meter: Box<dyn Meter + Send> = Box::new(alloc, Volt::new(4, SimSource::new(1, 1)))?;
-    rounds_over(&rt, alloc, (first, second, third), meter)
-}
-
-/// No card comes into a cage while a scan runs, and no meter leaves while it measures.
-fn stay<R: Relay, M: Meter>(
-    rt: &impl Abort,
-    alloc: Global,
-    core: &mut Core<R, M>,
-    other: R,
-) -> Result<(), Fail> {
-    assert_eq!(rt; refused_eject(alloc, core, 4), Some(EjectRefusal::Out));
-    assert_eq!(rt; refused_eject(alloc, core, 5), Some(EjectRefusal::Vacant));
-    let (refusal, back) = refused_card(alloc, core, 2, Card::relays(other))?;
-    let serial = back.serial();
-    drop(back);
-    assert_eq!(rt; (refusal, serial), (InstallRefusal::Busy, 7));
+    let cards = three(rt.alloc())?;
+    let meter = voltmeter(rt.alloc())?;
+    assert!(rt; ends_after_rounds_at_rest(rt.alloc(), cards, meter));
     Ok(())
 }
 
-/// The card of slot 1 leaves a running scan: every relay is open then, and no scan runs.
-fn leave<R: Relay, M: Meter>(
-    rt: &impl Abort,
+/// Whether a running scan keeps its meter out, and slot 2 takes no other card, which is handed back.
+fn keeps_its_cards<R: Relay, M: Meter>(alloc: Global, core: &mut Core<R, M>, other: R) -> bool {
+    match refused_card(alloc, core, 2, Card::relays(other)) {
+        Some((refusal, back)) => {
+            let is_back = refusal == InstallRefusal::Busy && back.serial() == 7;
+            drop(back);
+            is_back
+                && refuses_eject(alloc, core, 4, EjectRefusal::Out)
+                && refuses_eject(alloc, core, 5, EjectRefusal::Vacant)
+        }
+        None => false,
+    }
+}
+
+/// Whether the card of that serial number comes out of the slot, with no relay closed.
+fn comes_out_safe<R: Relay, M: Meter>(
     alloc: Global,
     core: &mut Core<R, M>,
-    sid: Sid,
-) -> Result<(), Fail> {
-    let card = eject(alloc, core, 1)?;
-    let is_safe = card.serial() == 1 && !card.any_closed();
-    drop(card);
-    assert!(rt; is_safe);
-    check_closed(rt, alloc, core, sid, b"(@)")?;
-    assert!(rt; is_idle(alloc, core, sid)?);
-    Ok(())
+    slot: u8,
+    serial: u32,
+) -> bool {
+    match eject(alloc, core, slot) {
+        Some(card) => {
+            let is_safe = card.serial() == serial && !card.any_closed();
+            drop(card);
+            is_safe
+        }
+        None => false,
+    }
+}
+
+/// Whether the card of slot 1 leaves a running scan: every relay is open then, and no scan runs.
+fn leaves<R: Relay, M: Meter>(alloc: Global, core: &mut Core<R, M>, sid: Sid) -> bool {
+    comes_out_safe(alloc, core, 1, 1)
+        && has_closed(alloc, core, sid, b"(@)")
+        && is_idle(alloc, core, sid)
 }
 
 /// Begins a scan of 1!1 while 2!1 is closed, and gives its first measurement.
-fn measuring<R: Relay, M: Meter>(
-    alloc: Global,
-    core: &mut Core<R, M>,
-    sid: Sid,
-) -> Result<Job<M>, Fail> {
-    tell(alloc, core, sid, b"ROUT:SCAN (@1!1)")?;
-    tell(alloc, core, sid, b"ROUT:CLOS (@2!1)")?;
-    match initiate(alloc, core, sid)? {
-        Some(Work::Measure(job)) => Ok(job),
+fn measuring<R: Relay, M: Meter>(alloc: Global, core: &mut Core<R, M>, sid: Sid) -> Option<Job<M>> {
+    if !does(alloc, core, sid, b"ROUT:SCAN (@1!1)")
+        || !does(alloc, core, sid, b"ROUT:CLOS (@2!1)")
+    {
+        return None;
+    }
+    match initiate(alloc, core, sid) {
+        Some(Work::Measure(job)) => Some(job),
         other => {
             drop(other);
-            Err("no reading is awaited")?
+            None
         }
     }
 }
 
-/// The meter returns to the cage whose scan is over, and can be taken out then.
-fn bring_back<R: Relay, M: Meter>(
-    rt: &impl Abort,
+/// Whether cards leave the scan of this measurement, which ends it, and its meter when it is back.
+fn is_pulled<R: Relay, M: Meter>(
     alloc: Global,
     core: &mut Core<R, M>,
+    sid: Sid,
+    other: R,
     job: Job<M>,
-) -> Result<(), Fail> {
-    assert!(rt; misses_return(alloc, core, job));
-    let meter = eject(alloc, core, 4)?;
-    let serial = meter.serial();
-    drop(meter);
-    assert_eq!(rt; serial, 4);
-    Ok(())
+) -> bool {
+    let is_kept = keeps_its_cards(alloc, core, other);
+    let is_left = leaves(alloc, core, sid);
+    let is_missed = misses_return(alloc, core, job);
+    is_kept && is_left && is_missed && comes_out_safe(alloc, core, 4, 4)
 }
 
-/// Takes cards out of a running scan, which ends it, and its meter when it is back.
-fn pull<R: Relay, M: Meter>(
-    rt: &impl Abort,
+fn pulls<R: Relay, M: Meter>(
     alloc: Global,
     core: &mut Core<R, M>,
     cards: (R, R, R),
     other: R,
     meter: M,
-) -> Result<(), Fail> {
-    let sid = fit(alloc, core, cards, meter)?;
-    let job = measuring(alloc, core, sid)?;
-    stay(rt, alloc, core, other)?;
-    leave(rt, alloc, core, sid)?;
-    bring_back(rt, alloc, core, job)
+) -> bool {
+    let Some(sid) = fit(alloc, core, cards, meter) else {
+        return false;
+    };
+    match measuring(alloc, core, sid) {
+        Some(job) => is_pulled(alloc, core, sid, other, job),
+        None => false,
+    }
 }
 
-/// A core at rest, for as long as its cards are pulled.
-fn pull_from<R: Relay, M: Meter>(
-    rt: &impl Abort,
-    alloc: Global,
-    cards: (R, R, R),
-    other: R,
-    meter: M,
-) -> Result<(), Fail> {
-    let mut core = Core::new(alloc)?;
-    let result = pull(rt, alloc, &mut core, cards, other, meter);
+/// The same over a core that is at rest.
+fn pulls_at_rest<R: Relay, M: Meter>(alloc: Global, cards: (R, R, R), other: R, meter: M) -> bool {
+    let Ok(mut core) = Core::new(alloc) else {
+        return false;
+    };
+    let is_so = pulls(alloc, &mut core, cards, other, meter);
     drop(core);
-    result
+    is_so
 }
 
 #[test]
 fn cards_leave_a_running_scan(rt: HostRuntime) -> Result<(), Fail> {
-    let alloc = rt.alloc();
-    let first: Box<dyn Relay + Send> = Box::new(alloc, Mux::new(1, 20, 1, SimDriver::new()))?;
-    let second: Box<dyn Relay + Send> = Box::new(alloc, Matrix::new(2, 16, SimDriver::new()))?;
-    let third: Box<dyn Relay + Send> = Box::new(alloc, Mux::new(3, 10, 1, SimDriver::new()))?;
-    let other: Box<dyn Relay + Send> = Box::new(alloc, Mux::new(7, 4, 1, SimDriver::new()))?;
-    let meter: Box<dyn Meter + Send> = Box::new(alloc, Volt::new(4, SimSource::new(1, 1)))?;
-    pull_from(&rt, alloc, (first, second, third), other, meter)
+    let cards = three(rt.alloc())?;
+    let other = mux(rt.alloc(), 7, 1)?;
+    let meter = voltmeter(rt.alloc())?;
+    assert!(rt; pulls_at_rest(rt.alloc(), cards, other, meter));
+    Ok(())
+}
+
+/// What the plan that could begin is answered once this was sent.
+fn answer_after<R: Relay, M: Meter>(
+    alloc: Global,
+    core: &mut Core<R, M>,
+    sid: Sid,
+    text: &[u8],
+) -> Option<SessionAnswer> {
+    match made_plan(alloc, core, sid) {
+        Some(plan) => {
+            let is_done = does(alloc, core, sid, text);
+            let answer = answer_of(alloc, core, SessionAsk::Start(sid, plan));
+            if !is_done {
+                drop(answer);
+                return None;
+            }
+            answer
+        }
+        None => None,
+    }
 }
 
 /// Whether the plan that could begin is refused as a conflict once this was sent.
@@ -278,110 +280,122 @@ fn is_outdated_by<R: Relay, M: Meter>(
     core: &mut Core<R, M>,
     sid: Sid,
     text: &[u8],
-) -> Result<bool, Fail> {
-    let plan = made_plan(alloc, core, sid)?;
-    tell(alloc, core, sid, text)?;
-    let answer = answer_of(alloc, core, SessionAsk::Start(sid, plan))?;
-    Ok(was_refused(answer, ScpiError::SettingsConflict))
+) -> bool {
+    was_refused(
+        answer_after(alloc, core, sid, text),
+        ScpiError::SettingsConflict,
+    )
 }
 
-/// A plan begins no scan once its settings or the closed channels have changed.
-fn outdate<R: Relay, M: Meter>(
-    rt: &impl Abort,
+/// Whether the plan that could begin does so once this was sent.
+fn is_kept_by<R: Relay, M: Meter>(
+    alloc: Global,
+    core: &mut Core<R, M>,
+    sid: Sid,
+    text: &[u8],
+) -> bool {
+    let answer = answer_after(alloc, core, sid, text);
+    let is_done = matches!(&answer, Some(SessionAnswer::Done(None)));
+    drop(answer);
+    is_done
+}
+
+/// Whether a plan begins no scan once its settings or the closed channels have changed.
+fn outdates<R: Relay, M: Meter>(
     alloc: Global,
     core: &mut Core<R, M>,
     cards: (R, R, R),
     meter: M,
-) -> Result<(), Fail> {
-    let sid = fit(alloc, core, cards, meter)?;
-    tell(alloc, core, sid, b"ROUT:SCAN (@1!1)")?;
-    assert!(rt; is_outdated_by(alloc, core, sid, b"TRIG:COUN 2")?);
-    assert!(rt; is_outdated_by(alloc, core, sid, b"ROUT:CLOS (@2!1)")?);
-    assert!(rt; !is_outdated_by(alloc, core, sid, b"*CLS")?);
-    Ok(())
+) -> bool {
+    match fit(alloc, core, cards, meter) {
+        Some(sid) => {
+            does(alloc, core, sid, b"ROUT:SCAN (@1!1)")
+                && is_outdated_by(alloc, core, sid, b"TRIG:COUN 2")
+                && is_outdated_by(alloc, core, sid, b"ROUT:CLOS (@2!1)")
+                && is_kept_by(alloc, core, sid, b"*CLS")
+        }
+        None => false,
+    }
 }
 
-/// A core at rest, for as long as plans are outdated.
-fn outdate_over<R: Relay, M: Meter>(
-    rt: &impl Abort,
-    alloc: Global,
-    cards: (R, R, R),
-    meter: M,
-) -> Result<(), Fail> {
-    let mut core = Core::new(alloc)?;
-    let result = outdate(rt, alloc, &mut core, cards, meter);
+/// The same over a core that is at rest.
+fn outdates_at_rest<R: Relay, M: Meter>(alloc: Global, cards: (R, R, R), meter: M) -> bool {
+    let Ok(mut core) = Core::new(alloc) else {
+        return false;
+    };
+    let is_so = outdates(alloc, &mut core, cards, meter);
     drop(core);
-    result
+    is_so
 }
 
 #[test]
 fn stale_plans_begin_nothing(rt: HostRuntime) -> Result<(), Fail> {
-    let alloc = rt.alloc();
-    let first: Box<dyn Relay + Send> = Box::new(alloc, Mux::new(1, 20, 1, SimDriver::new()))?;
-    let second: Box<dyn Relay + Send> = Box::new(alloc, Matrix::new(2, 16, SimDriver::new()))?;
-    let third: Box<dyn Relay + Send> = Box::new(alloc, Mux::new(3, 10, 1, SimDriver::new()))?;
-    let meter: Box<dyn Meter + Send> = Box::new(alloc, Volt::new(4, SimSource::new(1, 1)))?;
-    outdate_over(&rt, alloc, (first, second, third), meter)
-}
-
-/// A Join that would have the last number is handed back.
-fn join_worn<R: Relay, M: Meter>(rt: &impl Abort, alloc: Global) -> Result<(), Fail> {
-    let mut core: Core<R, M> = Core::with_counts(alloc, u64::MAX, 0)?;
-    let answer = join(alloc, &mut core);
-    drop(core);
-    assert!(rt; was_worn(answer?));
+    let cards = three(rt.alloc())?;
+    let meter = voltmeter(rt.alloc())?;
+    assert!(rt; outdates_at_rest(rt.alloc(), cards, meter));
     Ok(())
 }
 
-/// Once all events are numbered, an ask is handed back, but a scan can still be aborted.
-fn wear_out<R: Relay, M: Meter>(
-    rt: &impl Abort,
-    alloc: Global,
-    core: &mut Core<R, M>,
-) -> Result<(), Fail> {
-    let sid = joined(alloc, core)?;
-    let answer = unit(alloc, core, sid, b"*IDN?")?;
-    assert!(rt; was_worn(answer));
-    assert!(rt; does(alloc, core, sid, b"ABOR")?);
-    assert_eq!(rt; core.events(), u64::MAX);
-    Ok(())
+/// Whether a Join is handed back where it would have the last number.
+fn join_is_worn<R: Relay, M: Meter>(alloc: Global) -> bool {
+    let Ok(core) = Core::with_counts(alloc, u64::MAX, 0) else {
+        return false;
+    };
+    let mut core: Core<R, M> = core;
+    let is_worn = was_worn(join(alloc, &mut core));
+    drop(core);
+    is_worn
 }
 
-/// A core whose next event is its last, for as long as it is worn out.
-fn wear_out_over<R: Relay, M: Meter>(rt: &impl Abort, alloc: Global) -> Result<(), Fail> {
-    let mut core: Core<R, M> = Core::with_counts(alloc, u64::MAX - 1, 0)?;
-    let result = wear_out(rt, alloc, &mut core);
+/// Whether an ask is handed back once all events are numbered, while a scan can still be aborted.
+fn wears_out<R: Relay, M: Meter>(alloc: Global, core: &mut Core<R, M>) -> bool {
+    match joined(alloc, core) {
+        Some(sid) => {
+            was_worn(unit(alloc, core, sid, b"*IDN?"))
+                && does(alloc, core, sid, b"ABOR")
+                && core.events() == u64::MAX
+        }
+        None => false,
+    }
+}
+
+/// The same over a core whose next event is its last.
+fn last_event_wears_out<R: Relay, M: Meter>(alloc: Global) -> bool {
+    let Ok(core) = Core::with_counts(alloc, u64::MAX - 1, 0) else {
+        return false;
+    };
+    let mut core: Core<R, M> = core;
+    let is_so = wears_out(alloc, &mut core);
     drop(core);
-    result
+    is_so
 }
 
 #[test]
-fn events_are_worn_out(rt: HostRuntime) -> Result<(), Fail> {
-    join_worn::<Box<dyn Relay + Send>, Box<dyn Meter + Send>>(&rt, rt.alloc())?;
-    wear_out_over::<Box<dyn Relay + Send>, Box<dyn Meter + Send>>(&rt, rt.alloc())
+fn events_are_worn_out(rt: HostRuntime) {
+    assert!(rt; join_is_worn::<Relays, Voltmeter>(rt.alloc()));
+    assert!(rt; last_event_wears_out::<Relays, Voltmeter>(rt.alloc()));
 }
 
-/// Once all scans are numbered, none begins.
-fn exhaust<R: Relay, M: Meter>(
-    rt: &impl Abort,
-    alloc: Global,
-    core: &mut Core<R, M>,
-) -> Result<(), Fail> {
-    let sid = joined(alloc, core)?;
-    let answer = snapshot(alloc, core, sid)?;
-    assert!(rt; was_refused(answer, ScpiError::SystemError));
-    Ok(())
+/// Whether no scan begins over a core.
+fn begins_none<R: Relay, M: Meter>(alloc: Global, core: &mut Core<R, M>) -> bool {
+    match joined(alloc, core) {
+        Some(sid) => was_refused(snapshot(alloc, core, sid), ScpiError::SystemError),
+        None => false,
+    }
 }
 
-/// A core whose scans are all numbered, for as long as it is asked for one more.
-fn exhaust_over<R: Relay, M: Meter>(rt: &impl Abort, alloc: Global) -> Result<(), Fail> {
-    let mut core: Core<R, M> = Core::with_counts(alloc, 0, u64::MAX)?;
-    let result = exhaust(rt, alloc, &mut core);
+/// Whether no scan begins once all are numbered.
+fn is_exhausted<R: Relay, M: Meter>(alloc: Global) -> bool {
+    let Ok(core) = Core::with_counts(alloc, 0, u64::MAX) else {
+        return false;
+    };
+    let mut core: Core<R, M> = core;
+    let is_so = begins_none(alloc, &mut core);
     drop(core);
-    result
+    is_so
 }
 
 #[test]
-fn scans_are_worn_out(rt: HostRuntime) -> Result<(), Fail> {
-    exhaust_over::<Box<dyn Relay + Send>, Box<dyn Meter + Send>>(&rt, rt.alloc())
+fn scans_are_worn_out(rt: HostRuntime) {
+    assert!(rt; is_exhausted::<Relays, Voltmeter>(rt.alloc()));
 }

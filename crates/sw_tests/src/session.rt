@@ -309,59 +309,96 @@ fn a_label_of_one_session_is_none_of_another(rt: HostRuntime) {
     drop(desk);
 }
 
-/// A desk over four channels in slot 1 and a meter in slot 4, and a session.
-fn bench(alloc: Global) -> Result<(CoreDesk<Mux<SimDriver>, Volt<SimSource>>, Sid), Fail> {
-    let mut core = Core::new(alloc)?;
+type Bench = CoreDesk<Mux<SimDriver>, Volt<SimSource>>;
+
+/// Puts four channels into slot 1 and a meter into slot 4, and joins as a session.
+fn fit_bench(alloc: Global, core: &mut Core<Mux<SimDriver>, Volt<SimSource>>) -> Option<Sid> {
     let mux = Mux::new(1, 4, 1, SimDriver::new());
-    install(alloc, &mut core, 1, Card::relays(mux))?;
+    let has_mux = install(alloc, core, 1, Card::relays(mux));
     let volt = Volt::new(4, SimSource::new(1, 1));
-    install(alloc, &mut core, 4, Card::meter(volt))?;
-    let sid = joined(alloc, &mut core)?;
-    Ok((CoreDesk::new(alloc, core), sid))
+    let has_meter = install(alloc, core, 4, Card::meter(volt));
+    if has_mux && has_meter {
+        return joined(alloc, core);
+    }
+    None
+}
+
+/// A desk over such a mainframe, and a session.
+fn bench(alloc: Global) -> Option<(Bench, Sid)> {
+    let Ok(mut core) = Core::new(alloc) else {
+        return None;
+    };
+    match fit_bench(alloc, &mut core) {
+        Some(sid) => Some((CoreDesk::new(alloc, core), sid)),
+        None => {
+            drop(core);
+            None
+        }
+    }
+}
+
+/// Whether nothing is answered to a message.
+fn is_silent<D: Desk>(alloc: Global, desk: &mut D, sid: Sid, message: &[u8]) -> bool {
+    let mut session = Talker::new(alloc, sid);
+    let line = session.message(message, desk);
+    drop(session);
+    line.is_empty()
+}
+
+/// Whether a wait with this limit comes to that.
+fn waits<D: Desk>(desk: &mut D, limit_ms: Option<u32>, wanted: Wake) -> bool {
+    desk.wait(limit_ms) == wanted
+}
+
+/// Waits for a pause and a measurement, and once more.
+fn wait_out<D: Desk>(rt: &impl Abort, alloc: Global, desk: &mut D, sid: Sid) {
+    assert!(rt; is_silent(alloc, desk, sid, b"ROUT:SCAN (@1!1);:TRIG:DEL 1;:INIT"));
+    assert!(rt; waits(desk, Some(500), Wake::Again(Some(500))));
+    assert!(rt; waits(desk, None, Wake::Again(None)));
+    assert!(rt; waits(desk, Some(500), Wake::Over));
 }
 
 #[test]
 fn all_of_a_limit_is_left_until_nothing_is_outstanding(rt: HostRuntime) -> Result<(), Fail> {
-    let (mut desk, sid) = bench(rt.alloc())?;
-    let message = b"ROUT:SCAN (@1!1);:TRIG:DEL 1;:INIT";
-    let line = Talker::new(rt.alloc(), sid).message(message, &mut desk);
-    let pause = desk.wait(Some(500));
-    let measurement = desk.wait(None);
-    let over = desk.wait(Some(500));
+    let Some((mut desk, sid)) = bench(rt.alloc()) else {
+        return Err("no session was joined")?;
+    };
+    wait_out(&rt, rt.alloc(), &mut desk, sid);
     drop(desk);
-    assert!(rt; line.is_empty());
-    assert_eq!(rt; pause, Wake::Again(Some(500)));
-    assert_eq!(rt; measurement, Wake::Again(None));
-    assert_eq!(rt; over, Wake::Over);
     Ok(())
 }
 
-#[test]
-fn a_desk_tells_the_status_and_what_a_session_noted(rt: HostRuntime) -> Result<(), Fail> {
-    let (mut desk, sid) = bench(rt.alloc())?;
+/// Whether the desk shows this session error and service request, and whether a message is available for it.
+fn shows<D: Desk>(desk: &mut D, sid: Sid, mav: bool) -> bool {
+    let view = View {
+        byte: 4,
+        requests: 1,
+        mav,
+    };
+    desk.poll(sid) == view
+}
+
+/// Notes of a session, and of a later one of its number, after an error that asks for service.
+fn note<D: Desk>(rt: &impl Abort, alloc: Global, desk: &mut D, sid: Sid) {
     let later = Sid {
         number: sid.number,
         joined: sid.joined.saturating_add(1),
     };
-    let line = Talker::new(rt.alloc(), sid).message(b"*SRE 4;FOO", &mut desk);
-    let before = desk.poll(sid);
+    assert!(rt; is_silent(alloc, desk, sid, b"*SRE 4;FOO"));
+    assert!(rt; shows(desk, sid, false));
     desk.note(sid, true);
     desk.note(later, false);
-    let noted = desk.poll(sid);
-    let other = desk.poll(later);
+    assert!(rt; shows(desk, sid, true) && shows(desk, later, false));
     desk.note(sid, false);
-    let after = desk.poll(sid);
-    drop(desk);
-    assert!(rt; line.is_empty());
-    let (byte, requests) = (4, 1);
-    let silent = View {
-        byte,
-        requests,
-        mav: false,
+    assert!(rt; shows(desk, sid, false));
+}
+
+#[test]
+fn a_desk_tells_the_status_and_what_a_session_noted(rt: HostRuntime) -> Result<(), Fail> {
+    let Some((mut desk, sid)) = bench(rt.alloc()) else {
+        return Err("no session was joined")?;
     };
-    assert_eq!(rt; before, silent);
-    assert!(rt; noted.mav);
-    assert_eq!(rt; other, silent);
-    assert_eq!(rt; after, silent);
+    note(&rt, rt.alloc(), &mut desk, sid);
+    drop(desk);
     Ok(())
 }

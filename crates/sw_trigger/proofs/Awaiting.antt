@@ -14,9 +14,9 @@ use Rattle.sw_base.specs.declared.terms.Source.TheVariants.{Immediate, Bus, Exte
 use Rattle.sw_trigger.specs.declared.layer.Awaited.{Awaited}
 use Rattle.sw_trigger.specs.declared.layer.Awaited.TheVariants.{Pause, Read}
 use Rattle.sw_trigger.specs.Settings.{Setup}
-use Rattle.sw_trigger.specs.Agenda.{Item, Awaits, Close, Open, repeated, head_of, passes, pass_of, visit, channel_at, arm1_turn, arm2_turn, agenda, wait_of}
+use Rattle.sw_trigger.specs.Agenda.{Item, Awaits, Close, Open, repeated, head_of, passes, pass_of, visit, channel_at, arm_turn, arm_turns, agenda, wait_of}
 use Rattle.sw_trigger.specs.Agenda.{pause_of}
-use Rattle.sw_trigger.specs.Counts.{awaiting, reads, in_pass, in_arm2, in_arm1}
+use Rattle.sw_trigger.specs.Counts.{awaiting, reads, in_turn, in_pass, in_arm2, in_arm1}
 use Rattle.sw_trigger.proofs.Repeats.{length-repeated, get-repeated, get-append_left, get-append_right}
 
 pub awaiting-append : (xs ys : List Item) → awaiting (xs ++ ys) ≡ awaiting xs ++ awaiting ys
@@ -43,32 +43,35 @@ awaiting-passes s k (suc n) =
     ∙ ap (λ l. l ++ awaiting (passes s (suc k) n)) (awaiting-after_head (head_of Trigger s.trigger) (visit (channel_at s.list k)))
     ∙ ap (λ l. in_pass s ++ l) (awaiting-passes s (suc k) n)
 
-pub awaiting-arm2_turn : (s : Setup) → awaiting (arm2_turn s) ≡ in_arm2 s
-awaiting-arm2_turn s = awaiting-after_head (head_of Arm2 s.arm2) (passes s 0 s.trigger.count)
-    ∙ ap (λ l. head_of Arm2 s.arm2 ++ l) (awaiting-passes s 0 s.trigger.count)
-
-pub awaiting-arm1_turn : (s : Setup) → awaiting (arm1_turn s) ≡ in_arm1 s
-awaiting-arm1_turn s =
-    awaiting-after_head (head_of Arm1 s.arm1) (repeated s.arm2.count (arm2_turn s))
-    ∙ ap (λ l. head_of Arm1 s.arm1 ++ l) (awaiting-repeated s.arm2.count (arm2_turn s) ∙ ap (repeated s.arm2.count) (awaiting-arm2_turn s))
+awaiting-arm_turns : (name : LayerName) (l : Layer) (inside : List Item)
+    → awaiting (arm_turns name l inside) ≡ repeated l.count (head_of name l ++ awaiting inside)
+awaiting-arm_turns name l inside =
+    awaiting-repeated l.count (arm_turn name l inside) ∙ ap (repeated l.count) (awaiting-after_head (head_of name l) inside)
 
 -- an agenda that isn't empty
-pub agenda_is : (s : Setup) → 0 < length s.list → agenda s ≡ repeated s.arm1.count (arm1_turn s)
+pub agenda_is : (s : Setup) → 0 < length s.list → agenda s ≡ arm_turns Arm1 s.arm1 (arm_turns Arm2 s.arm2 (passes s 0 s.trigger.count))
 agenda_is s h = grind arith
 
 pub awaiting-agenda : (s : Setup) → 0 < length s.list → awaiting (agenda s) ≡ repeated s.arm1.count (in_arm1 s)
-awaiting-agenda s h = ap awaiting (agenda_is s h) ∙ awaiting-repeated s.arm1.count (arm1_turn s) ∙ ap (repeated s.arm1.count) (awaiting-arm1_turn s)
+awaiting-agenda s h =
+    ap awaiting (agenda_is s h)
+    ∙ awaiting-arm_turns Arm1 s.arm1 (arm_turns Arm2 s.arm2 (passes s 0 s.trigger.count))
+    ∙ ap (λ l. repeated s.arm1.count (head_of Arm1 s.arm1 ++ l)) (awaiting-arm_turns Arm2 s.arm2 (passes s 0 s.trigger.count)
+    ∙ ap (λ l. repeated s.arm2.count (head_of Arm2 s.arm2 ++ l)) (awaiting-passes s 0 s.trigger.count))
 
 pub length-in_pass : (s : Setup) → length (in_pass s) ≡ length (head_of Trigger s.trigger) + 1
 length-in_pass s = length-append (head_of Trigger s.trigger) (Read ∷ [])
 
+length-in_turn : (name : LayerName) (l : Layer) (times : ℕ) (inside : List Awaited)
+    → length (in_turn name l times inside) ≡ length (head_of name l) + times * length inside
+length-in_turn name l times inside =
+    length-append (head_of name l) (repeated times inside) ∙ ap (λ n. length (head_of name l) + n) (length-repeated times inside)
+
 pub length-in_arm2 : (s : Setup) → length (in_arm2 s) ≡ length (head_of Arm2 s.arm2) + s.trigger.count * length (in_pass s)
-length-in_arm2 s = length-append (head_of Arm2 s.arm2) (repeated s.trigger.count (in_pass s))
-    ∙ ap (λ n. length (head_of Arm2 s.arm2) + n) (length-repeated s.trigger.count (in_pass s))
+length-in_arm2 s = length-in_turn Arm2 s.arm2 s.trigger.count (in_pass s)
 
 pub length-in_arm1 : (s : Setup) → length (in_arm1 s) ≡ length (head_of Arm1 s.arm1) + s.arm2.count * length (in_arm2 s)
-length-in_arm1 s = length-append (head_of Arm1 s.arm1) (repeated s.arm2.count (in_arm2 s))
-    ∙ ap (λ n. length (head_of Arm1 s.arm1) + n) (length-repeated s.arm2.count (in_arm2 s))
+length-in_arm1 s = length-in_turn Arm1 s.arm1 s.arm2.count (in_arm2 s)
 
 pub length-awaiting : (s : Setup) → 0 < length s.list → length (awaiting (agenda s)) ≡ s.arm1.count * length (in_arm1 s)
 length-awaiting s h = ap length (awaiting-agenda s h) ∙ length-repeated s.arm1.count (in_arm1 s)
@@ -113,21 +116,17 @@ reads-passes s k (suc n) =
       reads-passes s (suc k) n,
     )
 
-pub reads-arm2_turn : (s : Setup) → reads (arm2_turn s) ≡ s.trigger.count
-reads-arm2_turn s = omega (
-  arith,
-  reads-append (map Awaits (head_of Arm2 s.arm2)) (passes s 0 s.trigger.count),
-  reads-head Arm2 s.arm2,
-  reads-passes s 0 s.trigger.count,
-)
-
-pub reads-arm1_turn : (s : Setup) → reads (arm1_turn s) ≡ s.arm2.count * s.trigger.count
-reads-arm1_turn s =
-    omega (arith, reads-append (map Awaits (head_of Arm1 s.arm1)) (repeated s.arm2.count (arm2_turn s)), reads-head Arm1 s.arm1)
-    ∙ reads-repeated s.arm2.count (arm2_turn s) ∙ ap (λ n. s.arm2.count * n) (reads-arm2_turn s)
+reads-arm_turns : (name : LayerName) (l : Layer) (inside : List Item) → reads (arm_turns name l inside) ≡ l.count * reads inside
+reads-arm_turns name l inside =
+    let turn : reads (arm_turn name l inside) ≡ reads inside = omega (arith, reads-append (map Awaits (head_of name l)) inside, reads-head name l) in
+    reads-repeated l.count (arm_turn name l inside) ∙ ap (λ n. l.count * n) turn
 
 pub reads-agenda : (s : Setup) → 0 < length s.list → reads (agenda s) ≡ s.arm1.count * (s.arm2.count * s.trigger.count)
-reads-agenda s h = ap reads (agenda_is s h) ∙ reads-repeated s.arm1.count (arm1_turn s) ∙ ap (λ n. s.arm1.count * n) (reads-arm1_turn s)
+reads-agenda s h =
+    ap reads (agenda_is s h)
+    ∙ reads-arm_turns Arm1 s.arm1 (arm_turns Arm2 s.arm2 (passes s 0 s.trigger.count))
+    ∙ ap (λ n. s.arm1.count * n) (reads-arm_turns Arm2 s.arm2 (passes s 0 s.trigger.count)
+    ∙ ap (λ n. s.arm2.count * n) (reads-passes s 0 s.trigger.count))
 
 -- what the program multiplies
 pub readings_is : (s : Setup) (c1 c2 c3 : ℕ) → 0 < length s.list → c1 ≡ s.arm1.count → c2 ≡ s.arm2.count → c3 ≡ s.trigger.count
@@ -154,7 +153,7 @@ some_left zero n xs h = absurd (omega (arith, h))
 some_left (suc m) n xs h = omega arith
 
 pub listed_from_within : (s : Setup) (n : ℕ) → n < length (awaiting (agenda s)) → 0 < length s.list
-listed_from_within s n h = some_left (length s.list) n (repeated s.arm1.count (arm1_turn s)) h
+listed_from_within s n h = some_left (length s.list) n (arm_turns Arm1 s.arm1 (arm_turns Arm2 s.arm2 (passes s 0 s.trigger.count))) h
 
 pub listed_from_test : (b : Bool) (m n : ℕ) → b ≡ eqb m 0 → b ≡ false → n ≡ m → 0 < n
 listed_from_test b m n e f g = grind (arith, nat_tests)

@@ -55,17 +55,19 @@ abbrev pub passes : Setup → ℕ → ℕ → List Item
 passes s k zero = []
 passes s k (suc n) = pass_of s k ++ passes s (suc k) n
 
--- one turn of ARM layer 2: all passes, from the list's first entry on
-abbrev pub arm2_turn : Setup → List Item
-arm2_turn s = map Awaits (head_of Arm2 s.arm2) ++ passes s 0 s.trigger.count
+-- one turn of an ARM layer: what it awaits, then all that the layers inside it do
+abbrev pub arm_turn : LayerName → Layer → List Item → List Item
+arm_turn name layer inside = map Awaits (head_of name layer) ++ inside
 
--- one turn of ARM layer 1
-abbrev pub arm1_turn : Setup → List Item
-arm1_turn s = map Awaits (head_of Arm1 s.arm1) ++ repeated s.arm2.count (arm2_turn s)
+-- all turns of an ARM layer
+abbrev pub arm_turns : LayerName → Layer → List Item → List Item
+arm_turns name layer inside = repeated layer.count (arm_turn name layer inside)
 
--- all that a scan does, in order; nothing where nothing is listed
+-- all that a scan does, in order; nothing where nothing is listed. Each turn of the inmost ARM layer makes all passes,
+-- from the list's first entry on.
 abbrev pub agenda : Setup → List Item
-agenda s = if length s.list == 0 then [] else repeated s.arm1.count (arm1_turn s)
+agenda s = if length s.list == 0 then []
+    else arm_turns Arm1 s.arm1 (arm_turns Arm2 s.arm2 (passes s 0 s.trigger.count))
 
 -- the entries that the agenda uses
 abbrev pub used_of : Setup → List Channel

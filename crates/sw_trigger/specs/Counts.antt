@@ -1,6 +1,8 @@
 -- How many things a scan awaits, and how many of them are readings.
 use Rattle.std.specs.Prelude.{ℕ, ◌+◌, List, [], ◌∷◌, ◌++◌, length}
+use Rattle.sw_base.specs.declared.terms.LayerName.{LayerName}
 use Rattle.sw_base.specs.declared.terms.LayerName.TheVariants.{Arm1, Arm2, Trigger}
+use Rattle.sw_trigger.specs.declared.layer.Layer.{Layer}
 use Rattle.sw_trigger.specs.declared.layer.Awaited.{Awaited}
 use Rattle.sw_trigger.specs.declared.layer.Awaited.TheVariants.{Wait, Pause, Read}
 use Rattle.sw_trigger.specs.Settings.{Setup}
@@ -32,12 +34,16 @@ bound_of s = length (awaiting (agenda s))
 abbrev pub readings_of : Setup → ℕ
 readings_of s = reads (agenda s)
 
+-- what one turn of a layer awaits: its own, then what is inside it, so many times
+abbrev pub in_turn : LayerName → Layer → ℕ → List Awaited → List Awaited
+in_turn name layer times inside = head_of name layer ++ repeated times inside
+
 -- what one pass awaits, and one turn of each ARM layer
 abbrev pub in_pass : Setup → List Awaited
 in_pass s = head_of Trigger s.trigger ++ Read ∷ []
 
 abbrev pub in_arm2 : Setup → List Awaited
-in_arm2 s = head_of Arm2 s.arm2 ++ repeated s.trigger.count (in_pass s)
+in_arm2 s = in_turn Arm2 s.arm2 s.trigger.count (in_pass s)
 
 abbrev pub in_arm1 : Setup → List Awaited
-in_arm1 s = head_of Arm1 s.arm1 ++ repeated s.arm2.count (in_arm2 s)
+in_arm1 s = in_turn Arm1 s.arm1 s.arm2.count (in_arm2 s)

@@ -17,7 +17,7 @@ use sw_base::{
 /// What a scan does: three layers, a list of channels, the slot of its meter and its room for readings.
 ///
 /// Contracts see a plain record. Counts are 1 to 1,000 for an ARM layer and 1 to 100,000 for TRIGger, delays at most an
-/// hour, the meter's slot 1 to 8, the points 1 to 100,000, and the list has at most 512 entries.
+/// hour, the meter's slot 1 to `SLOTS`, the points 1 to 100,000, and the list has at most `LIST_ENTRIES` entries.
 #[derive(Debug, Drop)]
 pub struct Settings {
     arm1: Layer,
@@ -107,7 +107,7 @@ impl Settings {
         Ok(())
     }
 
-    /// Sets the list of channels, which need not exist; -223 for more than 512, which keeps the old list.
+    /// Sets the list of channels, which need not exist; -223 for more than `LIST_ENTRIES`, which keeps the old list.
     pub fn set_list(&mut self, list: Vec<Chan>) -> Result<(), ScpiError>
         ensures taken { IsOk result ↔ (length list.items ≤ most_entries) }
         ensures set { OnOk result (self.new ≡ record self.old { list = list.items }) }
@@ -121,7 +121,7 @@ impl Settings {
         Ok(())
     }
 
-    /// Sets the slot of the meter; -222 outside 1 to 8.
+    /// Sets the slot of the meter; -222 outside 1 to `SLOTS`.
     pub fn set_meter(&mut self, slot: u8) -> Result<(), ScpiError>
         ensures taken { IsOk result ↔ (1 ≤ slot) × (slot ≤ most_slots) }
         ensures set { OnOk result (self.new ≡ record self.old { meter = slot }) }

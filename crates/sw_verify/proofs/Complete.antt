@@ -5,23 +5,25 @@ use Rattle.std.proofs.lemmas.Bool.Decides.{nat_tests}
 use Rattle.std.proofs.lemmas.Nat.{div-add-mod'}
 use Rattle.std.proofs.Math.Nat.{suc-mul}
 use Rattle.sw_base.specs.Layout.{Channel, Layout}
+use Rattle.sw_base.specs.declared.terms.LayerName.{LayerName}
 use Rattle.sw_base.specs.declared.terms.LayerName.TheVariants.{Arm1, Arm2}
 use Rattle.sw_trigger.specs.declared.layer.Awaited.{Awaited}
+use Rattle.sw_trigger.specs.declared.layer.Layer.{Layer}
 use Rattle.sw_trigger.specs.declared.layer.Awaited.TheVariants.{Wait, Pause, Read}
 use Rattle.sw_trigger.specs.Settings.{Setup, IsInRange}
-use Rattle.sw_trigger.specs.Agenda.{Item, Awaits, Close, Open, repeated, head_of, channel_at, passes, arm1_turn, arm2_turn, agenda}
+use Rattle.sw_trigger.specs.Agenda.{Item, Awaits, Close, Open, repeated, head_of, channel_at, passes, arm_turn, arm_turns, agenda}
 use Rattle.sw_code.specs.declared.code.Step.{Step}
 use Rattle.sw_code.specs.declared.code.Step.TheVariants as step
 use Rattle.sw_code.specs.Tree.{Tree, Nil, Then, Times, step_of, size, flatten, meaning, IsNested}
-use Rattle.sw_code.specs.Compiled.{line, passes_tree, tree_of, compiled}
-use Rattle.sw_code.proofs.Compiled.{meaning-line, meaning-passes, meaning-tree, nested-tree}
+use Rattle.sw_code.specs.Compiled.{line, passes_tree, arm_tree, tree_of, compiled}
+use Rattle.sw_code.proofs.Compiled.{meaning-line, meaning-arm, meaning-passes, meaning-tree, nested-tree}
 use Rattle.sw_verify.specs.declared.refusal.Refusal.{Refusal}
 use Rattle.sw_verify.specs.declared.refusal.Refusal.TheVariants.{BadNesting, BadJump}
 use Rattle.sw_verify.specs.declared.nest.Frame.{Frame}
 use Rattle.sw_verify.specs.Channels.{Channels, none, with_channel, without}
 use Rattle.sw_verify.specs.Sound.{AllRight, effect, CanClose, IsSound}
 use Rattle.sw_verify.specs.Nest.{in_use, at_loop, fault_in, StepsRight}
-use Rattle.sw_verify.proofs.Round.{effect-append, round-passes, round-arm2_turn, round-arm1_turn, round-agenda, sound_exactly}
+use Rattle.sw_verify.proofs.Round.{effect-append, round-passes, round-arm_turn, round-arm_turns, round-agenda, sound_exactly}
 
 fault_item : (x : Item) (steps : List Step) (pc : ℕ) (fs : List Frame) → fault_in (step_of x ∷ steps) pc fs ≡ fault_in steps (pc + 1) fs
 fault_item (Awaits (Wait name)) steps pc fs = refl
@@ -133,6 +135,12 @@ module _ (layout : Layout) where
   level-awaits b m [] rest h = h
   level-awaits b m (w ∷ ws) rest h = level-awaits b m ws rest h
 
+  level-arm : (b m : Channels) (counter : ℕ) (name : LayerName) (l : Layer) (inside : Tree) → 0 < l.count → IsLevel b m inside
+      → effect b (arm_turn name l (meaning inside)) ≡ b → effect m (arm_turn name l (meaning inside)) ≡ m → IsLevel b m (arm_tree counter name l inside)
+  level-arm b m counter name l inside some level eb em =
+      let turn = meaning-line (map Awaits (head_of name l)) inside in
+      (some, level-awaits b m (head_of name l) inside level, ap (effect b) turn ∙ eb, ap (effect m) turn ∙ em, tt)
+
   -- what can be closed can be closed where nothing is
   can_from_none : (b : Channels) (c : Channel) → CanClose layout b c → CanClose layout none c
   can_from_none b c k = record { present = k.present; was_open = refl; apart = λ x h. absurd (cc h) }
@@ -165,31 +173,27 @@ module _ (layout : Layout) (b : Channels) (s : Setup) (range : IsInRange s) (can
 
   level-tree : IsLevel layout b none (tree_of s)
   level-tree =
-      let heads1 = head_of Arm1 s.arm1 in
-      let heads2 = head_of Arm2 s.arm2 in
-      let body2 = line (map Awaits heads2) (passes_tree s) in
-      let body1 = line (map Awaits heads1) (Times 1 s.arm2.count body2 Nil) in
-      let m2 : meaning body2 ≡ arm2_turn s = meaning-line (map Awaits heads2) (passes_tree s)
-      ∙ ap (λ (l : List Item). map Awaits heads2 ++ l) (meaning-passes s) in
-      let m1 : meaning body1 ≡ arm1_turn s =
-      meaning-line (map Awaits heads1) (Times 1 s.arm2.count body2 Nil)
-      ∙ ap (λ (l : List Item). map Awaits heads1 ++ l) (append-nil (repeated s.arm2.count (meaning body2)) ∙ ap (repeated s.arm2.count) m2) in
-      let b2 : effect b (meaning body2) ≡ b = ap (effect b) m2 ∙ (round-arm2_turn layout b s).keeps (λ j h g. can j (omega arith)) in
-      let n2 : effect none (meaning body2) ≡ none = ap (effect none) m2 ∙ (round-arm2_turn layout none s).keeps (λ j h g. free j (omega arith)) in
-      let b1 : effect b (meaning body1) ≡ b = ap (effect b) m1 ∙ (round-arm1_turn layout b s).keeps (λ u j h g. can j (omega arith)) in
-      let n1 : effect none (meaning body1) ≡ none = ap (effect none) m1 ∙ (round-arm1_turn layout none s).keeps (λ u j h g. free j (omega arith)) in (
-        range.arm1.count.0,
-        level-awaits layout b none heads1 (Times 1 s.arm2.count body2 Nil) (
-          range.arm2.count.0,
-          level-awaits layout b none heads2 (passes_tree s) level-passes,
-          b2,
-          n2,
-          tt,
-        ),
-        b1,
-        n1,
-        tt,
-      )
+      let all = passes s 0 s.trigger.count in
+      let turns = arm_turns Arm2 s.arm2 all in
+      let arm2 = arm_tree 1 Arm2 s.arm2 (passes_tree s) in
+      let m2 : meaning (passes_tree s) ≡ all = meaning-passes s in
+      let m1 : meaning arm2 ≡ turns = meaning-arm 1 Arm2 s.arm2 (passes_tree s) ∙ ap (arm_turns Arm2 s.arm2) m2 in
+      let b2 : effect b (arm_turn Arm2 s.arm2 (meaning (passes_tree s))) ≡ b =
+      ap (λ (l : List Item). effect b (arm_turn Arm2 s.arm2 l)) m2
+      ∙ (round-arm_turn layout b Arm2 s.arm2 all (round-passes layout b s 0 s.trigger.count)).keeps (λ j h g. can j (omega arith)) in
+      let n2 : effect none (arm_turn Arm2 s.arm2 (meaning (passes_tree s))) ≡ none =
+      ap (λ (l : List Item). effect none (arm_turn Arm2 s.arm2 l)) m2
+      ∙ (round-arm_turn layout none Arm2 s.arm2 all (round-passes layout none s 0 s.trigger.count)).keeps (λ j h g. free j (omega arith)) in
+      let b1 : effect b (arm_turn Arm1 s.arm1 (meaning arm2)) ≡ b =
+      ap (λ (l : List Item). effect b (arm_turn Arm1 s.arm1 l)) m1
+      ∙ (round-arm_turn layout b Arm1 s.arm1 turns (round-arm_turns layout b Arm2 s.arm2 all (round-passes layout b s 0 s.trigger.count))).keeps
+      (λ u j h g. can j (omega arith)) in
+      let n1 : effect none (arm_turn Arm1 s.arm1 (meaning arm2)) ≡ none =
+      ap (λ (l : List Item). effect none (arm_turn Arm1 s.arm1 l)) m1
+      ∙ (round-arm_turn layout none Arm1 s.arm1 turns (round-arm_turns layout none Arm2 s.arm2 all (round-passes layout none s 0 s.trigger.count))).keeps
+      (λ u j h g. free j (omega arith)) in
+      level-arm layout b none 0 Arm1 s.arm1 arm2 range.arm1.count.0
+      (level-arm layout b none 1 Arm2 s.arm2 (passes_tree s) range.arm2.count.0 level-passes b2 n2) b1 n1
 
 -- the code of settings whose agenda is sound has no fault, and each of its steps is right
 pub compiled_nested : (s : Setup) → IsInRange s → fault_in (compiled s).steps 0 [] ≡ None

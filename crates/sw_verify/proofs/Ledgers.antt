@@ -8,10 +8,11 @@ use Rattle.std.proofs.lemmas.Bool.Decides.{nat_tests}
 use Rattle.std.proofs.lemmas.Bool.{cases_eq}
 use Rattle.std.proofs.lemmas.List.{get_or-set_same, get_or-set_other, length-set, ext_get_or, get_or-replicate, length-replicate}
 use Rattle.sw_base.specs.Layout.{Channel, Layout, is_present, group_of, IsClash}
+use Rattle.sw_code.specs.Range.{IsChannel}
 use Rattle.sw_verify.specs.declared.ledger.Ledger.{Ledger}
 use Rattle.sw_verify.specs.Channels.{Channels, none, is_among, same_channel, with_channel, without}
 use Rattle.sw_verify.specs.Check.{IsBlocked}
-use Rattle.sw_verify.specs.Marks.{place, IsChannel, ChannelMarks, GroupMarks, in_group}
+use Rattle.sw_verify.specs.Marks.{place, ChannelMarks, GroupMarks, in_group}
 use Rattle.sw_verify.specs.Sound.{CanClose}
 use Rattle.sw_verify.specs.Ledger.{Tells, GroupsTell, Shows, is_taken}
 use Rattle.sw_verify.proofs.Round.{same_channel_is, same_channel_self}
@@ -21,9 +22,7 @@ use Rattle.sw_verify.proofs.Checked.{any_among, among_any}
 -- a channel's place tells it
 placed : (c : Channel) → IsChannel c → (place c < 900) × (place c / 100 ≡ c.0) × (place c % 100 ≡ c.1)
 placed c i =
-    let a = i.slot in
-    let b = i.ch in
-    (omega (arith, a, b), omega (arith, a, b), omega (arith, a, b))
+    (omega (arith, i.1, i.3), omega (arith, i.1, i.3), omega (arith, i.1, i.3))
 
 pub tells_at : (start b m : Channels) (row : List Bool) → Tells start b m row → (c : Channel) → IsChannel c → slice_index_or row (place c) false ≡ m c
 tells_at start b m row t c i =

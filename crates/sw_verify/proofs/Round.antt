@@ -5,9 +5,11 @@ use mathlib.Core.Path.{fun_ext}
 use Rattle.std.proofs.lemmas.Bool.{cases_eq}
 use Rattle.sw_base.specs.Layout.{Channel, Layout}
 use Rattle.sw_trigger.specs.declared.layer.Awaited.{Awaited}
+use Rattle.sw_trigger.specs.declared.layer.Layer.{Layer}
+use Rattle.sw_base.specs.declared.terms.LayerName.{LayerName}
 use Rattle.sw_base.specs.declared.terms.LayerName.TheVariants.{Arm1, Arm2, Trigger}
 use Rattle.sw_trigger.specs.Settings.{Setup, IsInRange}
-use Rattle.sw_trigger.specs.Agenda.{Item, Awaits, Close, Open, repeated, visit, head_of, channel_at, pass_of, passes, arm1_turn, arm2_turn, agenda}
+use Rattle.sw_trigger.specs.Agenda.{Item, Awaits, Close, Open, repeated, visit, head_of, channel_at, pass_of, passes, arm_turn, arm_turns, agenda}
 use Rattle.sw_trigger.specs.Counts.{reads}
 use Rattle.sw_trigger.proofs.Awaiting.{agenda_is}
 use Rattle.sw_trigger.proofs.Same.{channel_decides}
@@ -158,23 +160,21 @@ module _ (layout : Layout) (b : Channels) where
       (λ (f : CanPass s k (suc n)). (f k (omega arith) (omega arith), λ j h g. f j (omega arith) (omega arith)))
       (round-append (pass_of s k) (passes s (suc k) n) (round-pass s k) (round-passes s (suc k) n))
 
-  pub round-arm2_turn : (s : Setup) → IsRound layout b (CanPass s 0 s.trigger.count) (arm2_turn s)
-  round-arm2_turn s =
-      round-like (arm2_turn s) (λ (w : Unit {0} × CanPass s 0 s.trigger.count). w.1) (λ (h : CanPass s 0 s.trigger.count). (tt, h))
-      (round-append (map Awaits (head_of Arm2 s.arm2)) (passes s 0 s.trigger.count) (round-awaits (head_of Arm2 s.arm2)) (round-passes s 0 s.trigger.count))
+  pub round-arm_turn : (name : LayerName) (l : Layer) (inside : List Item) {P : Type 0}
+      → IsRound layout b P inside → IsRound layout b P (arm_turn name l inside)
+  round-arm_turn name l inside {P = P} r =
+      round-like (arm_turn name l inside) (λ (w : Unit {0} × P). w.1) (λ (h : P). (tt, h))
+      (round-append (map Awaits (head_of name l)) inside (round-awaits (head_of name l)) r)
 
-  pub round-arm1_turn : (s : Setup) → IsRound layout b (0 < s.arm2.count → CanPass s 0 s.trigger.count) (arm1_turn s)
-  round-arm1_turn s =
-      let turns = repeated s.arm2.count (arm2_turn s) in
-      let Turns : Type 0 = 0 < s.arm2.count → CanPass s 0 s.trigger.count in
-      round-like (arm1_turn s) (λ (w : Unit {0} × Turns). w.1) (λ (h : Turns). (tt, h))
-      (round-append (map Awaits (head_of Arm1 s.arm1)) turns (round-awaits (head_of Arm1 s.arm1))
-      (round-repeated s.arm2.count (arm2_turn s) (round-arm2_turn s)))
+  pub round-arm_turns : (name : LayerName) (l : Layer) (inside : List Item) {P : Type 0} → IsRound layout b P inside
+      → IsRound layout b (0 < l.count → P) (arm_turns name l inside)
+  round-arm_turns name l inside r = round-repeated l.count (arm_turn name l inside) (round-arm_turn name l inside r)
 
   pub round-turns : (s : Setup) → 0 < length s.list → IsRound layout b (0 < s.arm1.count → 0 < s.arm2.count → CanPass s 0 s.trigger.count) (agenda s)
   round-turns s h =
       subst (λ (l : List Item). IsRound layout b (0 < s.arm1.count → 0 < s.arm2.count → CanPass s 0 s.trigger.count) l) (sym (agenda_is s h))
-      (round-repeated s.arm1.count (arm1_turn s) (round-arm1_turn s))
+      (round-arm_turns Arm1 s.arm1 (arm_turns Arm2 s.arm2 (passes s 0 s.trigger.count))
+      (round-arm_turns Arm2 s.arm2 (passes s 0 s.trigger.count) (round-passes s 0 s.trigger.count)))
 
   pub round-agenda : (s : Setup) → 0 < length s.list → IsInRange s → IsRound layout b (CanPass s 0 s.trigger.count) (agenda s)
   round-agenda s h i =

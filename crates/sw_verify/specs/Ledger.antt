@@ -2,9 +2,10 @@
 use Rattle.std.specs.Prelude.{◌≡◌, ℕ, ◌/◌, ◌%◌, ◌<◌, Bool, true, false, ◌||◌, ◌&&◌, ◌==◌, not}
 use Rattle.std.specs.Prelude.{List, [], ◌∷◌, length, slice_index_or}
 use Rattle.sw_base.specs.Layout.{Channel, Layout, group_of, IsClash}
+use Rattle.sw_code.specs.Range.{IsChannel}
 use Rattle.sw_verify.specs.declared.ledger.Ledger.{Ledger}
 use Rattle.sw_verify.specs.Channels.{Channels}
-use Rattle.sw_verify.specs.Marks.{place, IsChannel}
+use Rattle.sw_verify.specs.Marks.{place}
 
 -- Of the closed channels b, those that the code closed are m, and the row has m's flags; the others were closed at the
 -- start.

@@ -1,16 +1,12 @@
 -- Rows of flags that tell at once which channels of a list are there, and which groups.
-use Rattle.std.specs.Prelude.{◌≡◌, ℕ, ◌+◌, ◌*◌, ◌<◌, ◌≤◌, Bool, false, ◌==◌, ◌&&◌, not, List, slice_index_or}
+use Rattle.std.specs.Prelude.{◌≡◌, ℕ, ◌+◌, ◌*◌, ◌<◌, Bool, false, ◌==◌, ◌&&◌, not, List, slice_index_or}
 use Rattle.std.specs.List.{list_any}
 use Rattle.sw_base.specs.Layout.{Channel, Layout, group_of}
-use Rattle.sw_base.specs.Limits.{most_slots, most_channels}
+use Rattle.sw_code.specs.Range.{IsChannel}
 use Rattle.sw_verify.specs.Channels.{same_channel, is_among}
 
 abbrev pub place : Channel → ℕ
 place c = c.0 * 100 + c.1
-
-pub record IsChannel (c : Channel) : Type 0 where
-  pub slot : (1 ≤ c.0) × (c.0 ≤ most_slots)
-  pub ch : (1 ≤ c.1) × (c.1 ≤ most_channels)
 
 -- the flag of each key says whether a channel of the list passes the key's test
 abbrev pub Marks : {K : Type 0} → (K → ℕ) → (K → Type 0) → (K → Channel → Bool) → List Channel → List Bool → Type 0

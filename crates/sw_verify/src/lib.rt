@@ -32,5 +32,5 @@ pub use layout::{Layout, Slot};
 pub use plan::Plan;
 pub use ready::check;
 pub use refusal::Refusal;
-pub use snapshot::Snapshot;
+pub use snapshot::{BoxedSnapshot, Snapshot};
 pub use verified::{Verified, verify};

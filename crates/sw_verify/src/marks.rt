@@ -2,12 +2,13 @@
 
 ghost use Rattle.std.specs.Prelude.{◌≡◌, length};
 ghost use Rattle.std.specs.List.{list_all};
-ghost use Rattle.sw_verify.specs.Marks.{place, IsChannel, ChannelMarks, GroupMarks, is_free};
+ghost use Rattle.sw_code.specs.Range.{IsChannel};
+ghost use Rattle.sw_verify.specs.Marks.{place, ChannelMarks, GroupMarks, is_free};
 
 use crate::layout::Layout;
 use sw_base::Chan;
 
-/// A place for each channel: its slot, up to 8, times 100 and its number, up to 99.
+/// A place for each channel: its slot times 100 and its number.
 pub const PLACES: usize = 900;
 
 /// Whether each of the channels is open, and has no closed channel in its nonzero group.

@@ -1,6 +1,7 @@
 //! Whether the loops of a code are nested.
 
 ghost use Rattle.std.specs.Prelude.{◌≡◌, ◌≤◌, [], length, IfOk};
+ghost use Rattle.sw_code.specs.Range.{most_steps};
 ghost use Rattle.sw_verify.specs.Nest.{fault_in, in_use};
 
 use crate::refusal::Refusal;
@@ -17,7 +18,7 @@ pub struct Frame {
 
 /// The first fault in the nesting of the loops, if there is one: BadNesting or BadJump.
 pub fn nesting(alloc: Global, steps: &[Step]) -> Result<Option<Refusal>, AllocError>
-    requires { length steps.now ≤ 8192 }
+    requires { length steps.now ≤ most_steps }
     ensures { IfOk result (λ fault. fault ≡ fault_in steps.now 0 []) }
 {
     let mut frames = Vec::new(alloc);

@@ -9,7 +9,7 @@ ghost use Rattle.sw_verify.specs.Check.{IsReady, IsRefused};
 
 use crate::ready::check;
 use crate::refusal::Refusal;
-use crate::snapshot::Snapshot;
+use crate::snapshot::{BoxedSnapshot, Snapshot};
 use crate::verified::verify;
 use std::alloc::Global;
 use std::marker::Model;
@@ -20,7 +20,7 @@ use sw_code::{Code, compile};
 /// Contracts see the snapshot, which the code follows from.
 #[derive(Debug, Drop)]
 pub struct Plan {
-    snapshot: Snapshot,
+    snapshot: BoxedSnapshot,
     code: Code,
 }
 
@@ -39,13 +39,13 @@ impl Model for Plan {
 impl Plan {
     /// The plan of a snapshot that passes the check, by code that was verified; else the first refusal that applies, or
     /// `NoMemory`.
-    pub fn make(alloc: Global, snapshot: Snapshot) -> Result<Plan, Refusal>
+    pub fn make(alloc: Global, snapshot: BoxedSnapshot) -> Result<Plan, Refusal>
         ensures ready { IfOk result (λ p. IsReady snapshot) }
         ensures plan { IfOk result (λ p. p ≡ snapshot) }
         ensures refused { IfErr result (λ r. IsRefused r snapshot) }
     {
-        check(&snapshot)?;
-        match verified_code(alloc, &snapshot) {
+        check(snapshot.get())?;
+        match verified_code(alloc, snapshot.get()) {
             Ok(code) => Ok(Plan { snapshot, code }),
             Err(refusal) => {
                 drop(snapshot);
@@ -59,7 +59,7 @@ impl Plan {
         ensures snapshot { result.now ≡ self.now }
         ensures ready { IsReady self.now }
     {
-        &self.snapshot
+        self.snapshot.get()
     }
 
     /// The code of the scan.
@@ -71,15 +71,6 @@ impl Plan {
         &self.code
     }
 
-    /// What the scan begins from, as a value.
-    pub fn into_snapshot(self) -> Snapshot
-        ensures snapshot { result ≡ self }
-        ensures ready { IsReady self }
-    {
-        let Plan { snapshot, .. } = self;
-        snapshot
-    }
-
     /// What the scan begins from, and its code.
     pub fn into_parts(self) -> (Snapshot, Code)
         ensures snapshot { result.0 ≡ self }
@@ -88,7 +79,7 @@ impl Plan {
         ensures ready { IsReady self }
     {
         let Plan { snapshot, code } = self;
-        (snapshot, code)
+        (snapshot.into_inner(), code)
     }
 }
 

@@ -1,6 +1,7 @@
 //! How many things a code awaits over its whole run, by one visit of each step.
 
 ghost use Rattle.std.specs.Prelude.{◌≡◌, ◌≤◌, [], length, IfOk};
+ghost use Rattle.sw_code.specs.Range.{most_steps};
 ghost use Rattle.sw_verify.specs.Nest.{AreLimited, tally, every, is_read};
 
 use std::alloc::{AllocError, Global};
@@ -15,7 +16,7 @@ pub struct Counts {
 
 /// The counts of a code whose loops are nested. Each step is done at most 10^15 times, so 128 bits hold them.
 pub fn tally(alloc: Global, steps: &[Step]) -> Result<Counts, AllocError>
-    requires length { length steps.now ≤ 8192 }
+    requires length { length steps.now ≤ most_steps }
     requires limited { AreLimited steps.now 1 [] }
     ensures bound { IfOk result (λ x. x.bound ≡ tally every steps.now 1 []) }
     ensures readings { IfOk result (λ x. x.readings ≡ tally is_read steps.now 1 []) }

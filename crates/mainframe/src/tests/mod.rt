@@ -2,6 +2,7 @@
 
 mod command_line;
 mod doors;
+mod listing;
 mod rows;
 
 use crate::run::run_lines;

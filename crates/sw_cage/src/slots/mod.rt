@@ -19,6 +19,7 @@ mod claims;
 mod slot;
 
 use self::claims::Claims;
+use self::slot::Place;
 use crate::refusal::{CloseRefusal, EjectRefusal, InstallRefusal};
 use std::alloc::{AllocError, Global};
 use std::marker::Model;
@@ -32,7 +33,7 @@ pub(crate) const PLACES: usize = SLOTS as usize;
 /// All slots, and the cards in them.
 #[derive(Drop)]
 pub(crate) struct Slots<R: Relay, M: Meter> {
-    slots: Vec<Option<Card<R, M>>>,
+    slots: Vec<Place<R, M>>,
 }
 
 impl<R: Relay, M: Meter> Model for Slots<R, M> {
@@ -50,7 +51,7 @@ impl<R: Relay, M: Meter> Slots<R, M> {
     {
         let mut slots = Vec::with_capacity(alloc, PLACES)?;
         for _ in 0..PLACES {
-            slots.push(None)?;
+            slots.push(Place::empty())?;
         }
         Ok(Slots { slots })
     }
@@ -59,7 +60,7 @@ impl<R: Relay, M: Meter> Slots<R, M> {
     pub(crate) fn has_card(&self, slot: u8) -> bool
         ensures { result ≡ is_some (slot_at self.now slot) }
     {
-        slot >= 1 && slot <= SLOTS && self.slots[slot as usize - 1].is_some()
+        slot >= 1 && slot <= SLOTS && self.slots[slot as usize - 1].card.is_some()
     }
 
     /// Puts a card into an empty slot.
@@ -83,7 +84,7 @@ impl<R: Relay, M: Meter> Slots<R, M> {
         if !slot::is_fit(&card) {
             return Err((InstallRefusal::BadLayout, card));
         }
-        self.slots[slot as usize - 1] = Some(card);
+        self.slots[slot as usize - 1] = Place::with(card);
         Ok(())
     }
 
@@ -197,13 +198,12 @@ impl<R: Relay, M: Meter> Slots<R, M> {
             → IndexesClaims (layout_of self.now) (ClosedBefore self.now (slot + 1) 0) claims.new }
         ensures clash { result ≡ false → HasClash (layout_of self.now) (is_closed self.now) }
     {
-        let Some(card) = &self.slots[slot as usize - 1] else {
-            return true;
-        };
-        for before in 0..card.channels() {
-            let ch = before + 1;
-            if card.is_closed(ch) {
-                if !claims.claim(card.group(ch), Chan::new(slot, ch)) {
+        // Reading a field tells the proof what holds of every `Slots`.
+        let _ = &self.slots;
+        for before in 0..CHANNELS {
+            let chan = Chan::new(slot, before + 1);
+            if self.is_closed(chan) {
+                if !claims.claim(self.group(chan), chan) {
                     return false;
                 }
             }
@@ -268,14 +268,10 @@ impl<R: Relay, M: Meter> Slots<R, M> {
         ensures { OnOk result (chans.new.items
             ≡ chans.old.items ++ filter (is_closed self.now) (row slot most_channels)) }
     {
-        let Some(card) = &self.slots[slot as usize - 1] else {
-            return Ok(());
-        };
-        let channels = card.channels();
-        for before in 0..channels {
-            let ch = before + 1;
-            if card.is_closed(ch) {
-                chans.push(Chan::new(slot, ch))?;
+        for before in 0..CHANNELS {
+            let chan = Chan::new(slot, before + 1);
+            if self.is_closed(chan) {
+                chans.push(chan)?;
             }
         }
         Ok(())
@@ -343,7 +339,7 @@ impl<R: Relay, M: Meter> Slots<R, M> {
         requires { (1 ≤ slot) × (slot ≤ most_slots) }
         ensures { self.new ≡ slice_set self.old (slot - 1) (Some (of_meter meter.1)) }
     {
-        self.slots[slot as usize - 1] = Some(Card::of_meter(meter));
+        self.slots[slot as usize - 1] = Place::with(Card::of_meter(meter));
     }
 
     /// What the slot holds, as a layout tells it.

@@ -5,6 +5,6 @@ use Rattle.sw_verify.proofs.marks.channel_marks.Goals as goal
 
 pub loop-c-init : goal.loop-c-init
 loop-c-init c = record {
-  marked = λ k w. let below : place k < 900 = omega (arith, w.slot, w.ch) in get_or-replicate 900 (place k) false false below;
+  marked = λ k w. let below : place k < 900 = omega (arith, w.1, w.3) in get_or-replicate 900 (place k) false false below;
   size = length-replicate 900 false;
 }

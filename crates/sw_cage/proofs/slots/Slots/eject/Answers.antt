@@ -1,5 +1,5 @@
-use Rattle.std.proofs.Common.{rules}
-use Rattle.sw_cage.proofs.OneSlotLemmas.{safe_ejected, ejected_card, ejected_open, emptied}
+use Rattle.std.proofs.Common.{sym, ◌∙◌, rules}
+use Rattle.sw_cage.proofs.OneSlotLemmas.{safe_ejected, ejected_card, ejected_open, ejected_some, emptied}
 use Rattle.sw_cage.proofs.slots.Slots.eject.Goals as goal
 
 pub invariant_of-self : goal.invariant_of-self
@@ -15,3 +15,7 @@ returns-clause-taken g c = emptied c.self.inside.slots.items c.args.self.now _ c
 
 pub returns-clause-open : goal.returns-clause-open
 returns-clause-open g c ch = ejected_open c.index_mut.result.now c.in-Some.card.1 c.in-Some.ensures.card ch
+
+pub unreachable-requires : goal.unreachable-requires
+unreachable-requires g c = ejected_some c.self.inside.slots.items c.args.self.now c.args.slot c.index_mut.result.now c.take_rested.result c.self.view_is
+    c.self.invariant (sym c.has_card.ensures ∙ c.if-not-has_card.false) c.index_mut.ensures.value c.take_rested.ensures.card c.in-None.is

@@ -1,4 +1,5 @@
-use Rattle.std.proofs.Common.{arith, Some, sym, ◌∙◌, inl, inr, rules}
+use Rattle.std.proofs.Common.{◌-◌, arith, Some, slice_set, sym, ◌∙◌, ap, subst, inl, inr, rules}
+use Rattle.sw_cage.specs.Accounts.{AreSafe, accounts_of}
 use Rattle.sw_cage.proofs.SlotChangeLemmas.{is_none}
 use Rattle.sw_cage.proofs.OneSlotLemmas.{safe_installed, written}
 use Rattle.sw_cage.proofs.slots.Slots.install.Goals as goal
@@ -10,11 +11,13 @@ returns-then-slot-lt1-clause-refused g c = (
 )
 
 pub invariant_of-self : goal.invariant_of-self
-invariant_of-self g c = safe_installed c.self.inside.slots.items c.args.slot c.args.card c.self.invariant (omega arith) (omega arith)
-    (c.is_fit.ensures.open (search rules)) c.is_fit.ensures.states (c.is_fit.ensures.few (search rules))
+invariant_of-self g c = subst (λ v. AreSafe (accounts_of (slice_set c.self.inside.slots.items (c.args.slot - 1) v))) (sym c.with.ensures)
+    (safe_installed c.self.inside.slots.items c.args.slot c.args.card c.self.invariant (omega arith) (omega arith)
+    (c.is_fit.ensures.open (search rules)) c.is_fit.ensures.states (c.is_fit.ensures.few (search rules)))
 
 pub returns-clause-ok : goal.returns-clause-ok
-returns-clause-ok g c = written c.self.inside.slots.items c.args.self.now _ (Some c.args.card) c.self.view_is
+returns-clause-ok g c = ap (λ v. accounts_of (slice_set c.self.inside.slots.items (c.args.slot - 1) v)) c.with.ensures
+    ∙ written c.self.inside.slots.items c.args.self.now _ (Some c.args.card) c.self.view_is
 
 pub returns-clause-accepted : goal.returns-clause-accepted
 returns-clause-accepted g c = record {

@@ -1,0 +1,214 @@
+//! Checking a listing: whether the program's cards may do the scan that it lists.
+
+ghost use Rattle.std.specs.Prelude.{◌≡◌, ◌≢◌, true, false, if◌then◌else◌, IfOk, IfErr, IfSome, OnOk, Ok, Err};
+ghost use Rattle.std.specs.Prelude.{string_bytes};
+ghost use Rattle.std.specs.Io.KnownBytes.{IsAtEnd, Keeps};
+ghost use Rattle.sw_base.specs.Limits.{most_points};
+ghost use Rattle.sw_code.specs.Reading.{code_in};
+ghost use Rattle.sw_verify.specs.Channels.{is_among};
+ghost use Rattle.sw_verify.specs.Judged.{IsVerified};
+ghost use Rattle.mainframe.specs.Listings.{program_layout, fault_name, refusal_name, Says, IsChecked, IsPartlyChecked};
+ghost use Rattle.mainframe.specs.Listings.{accepted_line, refused_line, faulty_line};
+
+use crate::explanation::{explain, explain_fault};
+use crate::fault::RunFault;
+use crate::writing::write_bytes;
+use std::alloc::{AllocError, Global};
+use std::io::{ErrorKind, Read, Write};
+use sw_base::POINTS;
+use sw_code::{Code, ListError, ListFault, read_listing};
+use sw_verify::{Layout, Refusal, Slot, verify};
+
+/// What was said of a listing.
+#[derive(Debug, Drop)]
+pub struct Checked {
+    /// Whether the program's cards may do its scan.
+    pub accepted: bool,
+    /// Why not, in plain words, where there was memory for them.
+    pub remark: Option<String>,
+}
+
+/// What is to be said of a listing.
+#[derive(Drop)]
+struct Judgement {
+    line: String,
+    checked: Checked,
+}
+
+/// Reads a listing to its end and writes what the verifier says of it, against the program's cards with nothing closed
+/// and room for 100,000 readings: `ok bound B readings R`, `refused N Name` or `line L: Name`, and a line feed.
+///
+/// At a fault of the reader, or where memory runs out, nothing is written; at a fault of the writer a front part is.
+pub fn check_listing<Rd: Read, W: Write>(
+    alloc: Global,
+    reader: &mut Rd,
+    writer: &mut W,
+) -> Result<Checked, RunFault>
+    ensures ok { IfOk result (λ checked. IfSome (Rd.remaining reader.old) (λ text.
+        IsChecked checked.accepted text (W.contents writer.old) (W.contents writer.new))) }
+    ensures all { OnOk result (IsAtEnd (Rd.remaining reader.new)) }
+    ensures unwritten { IfErr result (λ fault. fault ≢ RunFault.Output
+        → Keeps (W.contents writer.old) (W.contents writer.new)) }
+    ensures partly { result ≡ Err RunFault.Output → IfSome (Rd.remaining reader.old) (λ text.
+        IsPartlyChecked text (W.contents writer.old) (W.contents writer.new)) }
+{
+    let text = read_all(alloc, reader)?;
+    let judgement = judge(alloc, &text)?;
+    write_bytes(writer, judgement.line.as_bytes())?;
+    Ok(judgement.checked)
+}
+
+/// The exit status where a listing was checked: 0, or 3 where it is refused.
+pub fn checked_status(accepted: bool) -> u8
+    ensures { result ≡ (if accepted then 0 else 3) }
+{
+    if accepted { 0 } else { 3 }
+}
+
+/// The bytes up to the reader's end.
+fn read_all<Rd: Read>(alloc: Global, reader: &mut Rd) -> Result<Vec<u8>, RunFault>
+    ensures text { IfOk result (λ read. IfSome (Rd.remaining reader.old) (λ text. read.items ≡ text)) }
+    ensures all { OnOk result (IsAtEnd (Rd.remaining reader.new)) }
+    ensures fault { IfErr result (λ fault. fault ≢ RunFault.Output) }
+{
+    let mut text = Vec::new(alloc);
+    match reader.read_to_end(&mut text) {
+        Ok(_) => Ok(text),
+        Err(e) => match e.kind() {
+            ErrorKind::OutOfMemory => Err(RunFault::Memory),
+            _ => Err(RunFault::Input),
+        },
+    }
+}
+
+/// What is to be said of a text.
+fn judge(alloc: Global, text: &[u8]) -> Result<Judgement, RunFault>
+    ensures says { IfOk result (λ j. Says j.checked.accepted text.now (string_bytes j.line)) }
+    ensures memory { IfErr result (λ fault. fault ≡ RunFault.Memory) }
+{
+    match read_listing(alloc, text) {
+        Ok(code) => judge_code(alloc, text, code),
+        Err(error) => match error.kind {
+            ListFault::NoMemory => Err(RunFault::Memory),
+            _ => faulty(alloc, text, error),
+        },
+    }
+}
+
+/// What is to be said of a text that lists no code.
+fn faulty(alloc: Global, text: &[u8], error: ListError) -> Result<Judgement, RunFault>
+    requires listed { code_in text.now ≡ Err error }
+    ensures says { IfOk result (λ j. Says j.checked.accepted text.now (string_bytes j.line)) }
+    ensures memory { IfErr result (λ fault. fault ≡ RunFault.Memory) }
+{
+    let Ok(line) = faulty_line(alloc, error) else {
+        return Err(RunFault::Memory);
+    };
+    Ok(turned_down(line, explain_fault(alloc, error)))
+}
+
+/// What is to be said of a text that lists this code.
+fn judge_code(alloc: Global, text: &[u8], code: Code) -> Result<Judgement, RunFault>
+    requires listed { code_in text.now ≡ Ok code }
+    ensures says { IfOk result (λ j. Says j.checked.accepted text.now (string_bytes j.line)) }
+    ensures memory { IfErr result (λ fault. fault ≡ RunFault.Memory) }
+{
+    let Ok(layout) = program_layout(alloc) else {
+        return Err(RunFault::Memory);
+    };
+    match verify(alloc, code, &layout, &[], POINTS) {
+        Ok(verified) => accepted(alloc, verified.bound(), verified.readings()),
+        Err(Refusal::NoMemory) => Err(RunFault::Memory),
+        Err(refusal) => {
+            let Ok(line) = refused_line(alloc, refusal) else {
+                return Err(RunFault::Memory);
+            };
+            Ok(turned_down(line, explain(alloc, text, &layout, refusal)))
+        }
+    }
+}
+
+/// That it is not accepted, with this line and remark.
+fn turned_down(line: String, remark: Option<String>) -> Judgement
+    ensures line { string_bytes result.line ≡ string_bytes line }
+    ensures accepted { result.checked.accepted ≡ false }
+{
+    let checked = Checked {
+        accepted: false,
+        remark,
+    };
+    Judgement { line, checked }
+}
+
+/// What is to be said of a code with these counts.
+fn accepted(alloc: Global, bound: u128, readings: u128) -> Result<Judgement, RunFault>
+    ensures line { IfOk result (λ j. string_bytes j.line ≡ accepted_line bound readings) }
+    ensures accepted { IfOk result (λ j. j.checked.accepted ≡ true) }
+    ensures memory { IfErr result (λ fault. fault ≡ RunFault.Memory) }
+{
+    let Ok(line) = format!(in alloc; "ok bound {bound} readings {readings}\n") else {
+        return Err(RunFault::Memory);
+    };
+    let checked = Checked {
+        accepted: true,
+        remark: None,
+    };
+    Ok(Judgement { line, checked })
+}
+
+fn refused_line(alloc: Global, refusal: Refusal) -> Result<String, AllocError>
+    ensures { IfOk result (λ line. string_bytes line ≡ refused_line refusal) }
+{
+    let number = refusal.number();
+    let name = refusal_name(refusal);
+    format!(in alloc; "refused {number} {name}\n")
+}
+
+fn faulty_line(alloc: Global, error: ListError) -> Result<String, AllocError>
+    ensures { IfOk result (λ line. string_bytes line ≡ faulty_line error) }
+{
+    let line = error.line;
+    let name = fault_name(error.kind);
+    format!(in alloc; "line {line}: {name}\n")
+}
+
+/// The program's cards, in slots 1 to 4.
+#[tactic(auto, unfolding(crate::specs::Cards::first_card, crate::specs::Cards::second_card, crate::specs::Cards::third_card, crate::specs::Cards::meter_card))]
+fn program_layout(alloc: Global) -> Result<Layout, AllocError>
+    ensures { IfOk result (λ layout. layout ≡ program_layout) }
+{
+    let mut slots = Vec::new(alloc);
+    slots.push(Slot::relays(Vec::from_elem(alloc, 1, 20)?))?;
+    slots.push(Slot::relays(Vec::from_elem(alloc, 0, 16)?))?;
+    slots.push(Slot::relays(Vec::from_elem(alloc, 1, 10)?))?;
+    slots.push(Slot::meter())?;
+    Ok(Layout::new(slots))
+}
+
+fn fault_name(fault: ListFault) -> &'static str
+    ensures { result.now ≡ fault_name fault }
+{
+    match fault {
+        ListFault::BadStep => "BadStep",
+        ListFault::BadNumber => "BadNumber",
+        ListFault::TooLong => "TooLong",
+        ListFault::NoMemory => "NoMemory",
+    }
+}
+
+fn refusal_name(refusal: Refusal) -> &'static str
+    ensures { result.now ≡ refusal_name refusal }
+{
+    match refusal {
+        Refusal::EmptyList => "EmptyList",
+        Refusal::NoChannel => "NoChannel",
+        Refusal::NoMeter => "NoMeter",
+        Refusal::GroupClash => "GroupClash",
+        Refusal::TooManyReadings => "TooManyReadings",
+        Refusal::BadNesting => "BadNesting",
+        Refusal::BadJump => "BadJump",
+        Refusal::LeftClosed => "LeftClosed",
+        Refusal::NotClosed => "NotClosed",
+        Refusal::NoMemory => "NoMemory",
+    }
+}

@@ -1,0 +1,17 @@
+-- The mask that is kept of a slot, read from its card.
+use Rattle.std.proofs.Common.{◌≡◌, ℕ, zero, suc, ◌≤◌, Bool, false, List, take, Some, refl}
+use Rattle.std.proofs.Common.{◌∙◌, arith}
+use Rattle.std.proofs.lemmas.List.{get_or-take}
+use Rattle.std.proofs.lemmas.Grind.{common_steps}
+use Rattle.sw_base.specs.Limits.{most_channels}
+use Rattle.sw_card.specs.Account.{Account, closed_at}
+use Rattle.sw_card.specs.Mask.{IsMaskOf}
+use Rattle.sw_cage.specs.Masks.{IsSlotMask}
+
+take_closed : (closed : List Bool) (n ch : ℕ) → ch ≤ n → closed_at (take n closed) ch ≡ closed_at closed ch
+take_closed closed n zero few = refl
+take_closed closed n (suc j) few = let e = get_or-take n closed j false (omega (arith, few)) in grind (arith, common_steps, e)
+
+-- read from the card
+pub mask_read : (a : Account) (mask : ℕ) → IsMaskOf mask (take most_channels a.closed) → IsSlotMask mask (Some a)
+mask_read a mask h = λ ch few. h ch ∙ take_closed a.closed most_channels ch few

@@ -1,0 +1,28 @@
+//! Tests of the libraries below the cage, by their public calls: what no contract says, the worked examples, and each
+//! public call once with ample memory. They stand here so that no crate is proved a second time for its tests.
+#![tactic(auto)]
+
+#[cfg(test)]
+mod base;
+#[cfg(test)]
+mod card;
+#[cfg(test)]
+mod channel;
+#[cfg(test)]
+mod code;
+#[cfg(test)]
+mod hislip;
+#[cfg(test)]
+mod kinds;
+#[cfg(test)]
+mod lex;
+#[cfg(test)]
+mod macros;
+#[cfg(test)]
+mod status;
+#[cfg(test)]
+mod trigger;
+#[cfg(test)]
+mod verified;
+#[cfg(test)]
+mod verify;

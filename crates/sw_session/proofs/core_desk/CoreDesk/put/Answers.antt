@@ -1,0 +1,5 @@
+use Rattle.sw_session.proofs.Keeping.{seen-first}
+use Rattle.sw_session.proofs.core_desk.CoreDesk.put.Goals as goal
+
+pub returns-clause-some : goal.returns-clause-some
+returns-clause-some g c = rw (← c.self.view_is) (seen-first _ _ c.args.piece c.put_behind.result c.put_behind.ensures.some)

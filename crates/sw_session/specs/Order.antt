@@ -1,0 +1,46 @@
+-- The order of a desk's work.
+use Rattle.std.specs.Prelude.{◌≡◌, List, [], ◌∷◌, ◌++◌, Option, None, Some}
+use Rattle.sw_core.specs.View.{WorkView}
+use Rattle.sw_session.specs.declared.desk.Wake.TheVariants.{Again}
+use Rattle.sw_session.specs.Trace.{Entry, Asked, Waited}
+use Rattle.sw_session.specs.CoreDesk.{DeskSeen, Carried, Keeps, PassesBy, CorePasses, brought}
+
+-- the piece that there is, if any
+abbrev pub pieces_of : Option WorkView → List WorkView
+pieces_of None = []
+pieces_of (Some piece) = piece ∷ []
+
+-- the work that came of pieces that were carried out
+abbrev pub brought_by : List Carried → List WorkView
+brought_by [] = []
+brought_by (c ∷ carried) = pieces_of (brought c.answer) ++ brought_by carried
+
+-- the work that came in one call: of an ask, and of the pieces that were carried out
+abbrev pub came_in : (carried : List Carried) (old : DeskSeen) (entry : Entry) (new : DeskSeen)
+    → PassesBy carried old entry new → List WorkView
+came_in carried old (Asked ask answer) new passes = pieces_of passes.brings ++ brought_by carried
+came_in carried old entry new passes = brought_by carried
+
+-- the pieces that were carried out at once, where work was to be kept
+abbrev pub done_at_once : (carried : List Carried) (old : DeskSeen) (brings : Option WorkView) (new : DeskSeen)
+    → Keeps carried old brings new → List WorkView
+done_at_once [] old brings new keeps = []
+done_at_once (c ∷ carried) old None new keeps = []
+done_at_once (c ∷ carried) old (Some piece) new (mid, off, keeps) =
+    off.piece ∷ done_at_once carried mid (brought c.answer) new keeps
+
+-- the pieces that were carried out in one call
+abbrev pub done_in : (carried : List Carried) (old : DeskSeen) (entry : Entry) (new : DeskSeen)
+    → PassesBy carried old entry new → List WorkView
+done_in carried old (Asked ask answer) new passes =
+    done_at_once carried (record old { panel = passes.after }) passes.brings new passes.keeps
+done_in (c ∷ carried) old (Waited limit (Again left)) new (is, works) =
+    works.piece
+    ∷ done_at_once carried (record old { panel = c.after; work = works.others }) (brought c.answer) new works.keeps
+done_in carried old entry new passes = []
+
+-- In each call of a desk, what was outstanding before it and then what came in it is, piece by piece, what was carried
+-- out in it and then what is outstanding after it.
+abbrev pub WorkIsDoneInOrder : Type 0
+WorkIsDoneInOrder = (old new : DeskSeen) (entry : Entry) (passes : CorePasses old entry new)
+    → old.work ++ came_in passes.0 old entry new passes.1 ≡ done_in passes.0 old entry new passes.1 ++ new.work

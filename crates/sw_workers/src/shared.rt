@@ -1,0 +1,115 @@
+//! The mainframe behind one lock, and what wakes those who wait for it.
+
+ghost use Rattle.std.specs.Prelude.{◌≡◌, IfSome};
+ghost use Rattle.sw_core.specs.View.{ask_view, answer_view};
+ghost use Rattle.sw_session.specs.CoreDesk.{piece_seen};
+ghost use Rattle.sw_workers.specs.Shares.{all_parts};
+ghost use Rattle.sw_workers.specs.Work.{AsksOnce};
+
+use crate::gate::Gate;
+use crate::held::{DeskPart, Held, House};
+use crate::posts::{Posted, Posts, work_posts};
+use std::alloc::{AllocError, Global};
+use std::sync::ledger::Blank;
+use std::sync::{Condvar, Mutex, Wait};
+use sw_card::{Meter, Relay};
+use sw_core::{Answer, Ask, Core, Work};
+
+/// The parts of a ledger.
+const PARTS: u64 = (1 << 33) + 1;
+
+/// A mainframe with a ledger that has no name yet.
+pub struct Opening<R: Relay, M: Meter> {
+    /// The mainframe.
+    pub core: Core<R, M>,
+    /// Its ledger.
+    pub blank: Blank,
+    pub ghost whole: { blank.parts ≡ all_parts },
+}
+
+impl<R: Relay, M: Meter> Opening<R, M> {
+    /// A mainframe with a new ledger.
+    pub fn new(core: Core<R, M>) -> Self
+        ensures { result.core ≡ core }
+    {
+        let blank = Blank::new(PARTS);
+        Opening { core, blank }
+    }
+}
+
+/// What all threads share.
+#[derive(Drop)]
+pub struct Shared<H: House, R: Relay, M: Meter, G: Gate + Drop> {
+    held: Mutex<Held<H, R, M>>,
+    /// Something happened, so that what was held may be asked again.
+    happened: Condvar,
+    posts: Mutex<Option<Posts<M>>>,
+    gate: G,
+}
+
+impl<H: House, R: Relay, M: Meter, G: Gate + Drop> Shared<H, R, M, G> {
+    /// The mainframe behind its lock, and where its work is to be received.
+    pub fn new(
+        alloc: Global,
+        opening: Opening<R, M>,
+        gate: G,
+    ) -> Result<(Self, Posted<M>), AllocError>
+        requires start { opening.core.events ≡ H.start }
+        requires ledger { (opening.blank.name ≡ H.name) × (opening.blank.parts ≡ H.parts) }
+    {
+        let Opening { core, blank } = opening;
+        let (events, spare) = blank.open::<H>();
+        let held = Held::new(alloc, core, events, spare)?;
+        let (posts, posted) = work_posts(alloc)?;
+        let shared = Shared {
+            held: Mutex::new(held),
+            happened: Condvar::new(),
+            posts: Mutex::new(Some(posts)),
+            gate,
+        };
+        Ok((shared, posted))
+    }
+
+    /// What a thread passes before it goes on.
+    pub fn gate(&self) -> &G {
+        &self.gate
+    }
+
+    /// A part for one more desk, or none where there are 2^33 desks, or the end has begun.
+    pub fn part<W: Wait>(&self, rt: &W) -> Option<DeskPart<H>>
+        ensures { IfSome result (λ part. part.share.amount ≡ 0) }
+    {
+        self.held.lock(rt).new_part()
+    }
+
+    /// Asks under the lock, and wakes those who may go on. It gives the turn after that too.
+    pub fn act<W: Wait>(
+        &self,
+        rt: &W,
+        part: &mut DeskPart<H>,
+        ask: Ask<R, M>,
+    ) -> (Answer<R, M>, u64)
+        ensures { AsksOnce (ask_view ask) (answer_view result.0) part.old.share.amount part.new.share.amount }
+    {
+        let mut guard = self.held.lock(rt);
+        let before = guard.turn();
+        let answer = guard.ask(part, ask);
+        let turn = guard.turn();
+        drop(guard);
+        if turn != before {
+            self.happened.notify_all();
+        }
+        (answer, turn)
+    }
+
+    /// Sends a piece of work to its worker, or hands it back.
+    pub fn send<W: Wait>(&self, rt: &W, piece: Work<M>) -> Option<Work<M>>
+        ensures { IfSome result (λ back. piece_seen back ≡ piece_seen piece) }
+    {
+        let guard = self.posts.lock(rt);
+        let Some(posts) = &*guard else {
+            return Some(piece);
+        };
+        posts.send(rt, piece)
+    }
+}
