@@ -16,4 +16,6 @@ pub mod LockWaits
 pub mod AsyncRows
 pub mod SyncRows
 pub mod SyncAnswers
+pub mod SyncTalks
+pub mod EngineTakes
 mod Order

@@ -145,12 +145,16 @@ impl SyncSession {
         ensures err { OnErr result (LedBy D.passes desk.old desk.new (λ asked. Falters false asked)) }
         ensures same { self.new.sid ≡ self.old.sid }
     {
-        if let Some(reply) = attend(self.sid, self.attached, desk) {
-            drop(message);
-            return Ok(step_of(alloc, Channel::Synchronous, room, reply));
+        match attend(self.sid, self.attached, desk) {
+            Some(reply) => {
+                drop(message);
+                Ok(step_of(alloc, Channel::Synchronous, room, reply))
+            }
+            None => {
+                self.attached = true;
+                self.hear(alloc, request, message, room, desk)
+            }
         }
-        self.attached = true;
-        self.hear(alloc, request, message, room, desk)
     }
 
     /// Looks at the last answer, and serves a message of a program.
@@ -170,13 +174,16 @@ impl SyncSession {
         ensures err { OnErr result (LedBy D.passes desk.old desk.new (λ asked. Falters false asked)) }
         ensures same { self.new.sid ≡ self.old.sid }
     {
-        let delivery = deliver(self.sid, message.control, desk);
-        if delivery == Delivery::Gone {
-            drop(message);
-            return Ok(step_of(alloc, Channel::Synchronous, room, Reply::Leaves));
+        match deliver(self.sid, message.control, desk) {
+            Delivery::Gone => {
+                drop(message);
+                Ok(step_of(alloc, Channel::Synchronous, room, Reply::Leaves))
+            }
+            delivery => {
+                let said = interruption(alloc, room, message.parameter, delivery);
+                self.serve(alloc, request, message, said, desk)
+            }
         }
-        let said = interruption(alloc, room, message.parameter, delivery);
-        self.serve(alloc, request, message, said, desk)
     }
 
     /// Serves a message of a program; this was said before.

@@ -1,6 +1,6 @@
 //! Parts of the synchronous channel of a session.
 
-ghost use Rattle.std.specs.Prelude.{◌≡◌, ℕ, []};
+ghost use Rattle.std.specs.Prelude.{◌≡◌, ℕ, true, [], IfSome};
 ghost use Rattle.sw_session.specs.Trace.{Led};
 ghost use Rattle.sw_session.specs.EngineStep.{LedBy, is_gone, reply_step};
 ghost use Rattle.sw_session.specs.EngineSync.{OpensSync, JoinsAt, is_first, Joins, joins_step, joins_session, opened_step, opened_session, Attends, attended, gate_step, Delivers, Interrupts, delivery_step, interrupted, Triggers, GivesTrigger, Completes};
@@ -79,9 +79,10 @@ fn joined(answer: SessionAnswer) -> Result<Sid, Reply>
 }
 
 /// Asks whether the session's second channel stands, unless it was seen to. Gives what is said where a message can't be
-/// served.
+/// served; the channel ends with it.
 pub fn attend<D: Desk>(sid: Sid, attached: bool, desk: &mut D) -> Option<Reply>
-    ensures { Led D.passes desk.old desk.new (λ t rest. Attends attached sid t (gate_step result) rest) }
+    ensures led { Led D.passes desk.old desk.new (λ t rest. Attends attached sid t (gate_step result) rest) }
+    ensures ends { IfSome result (λ reply. (reply_step Synchronous reply).ends ≡ true) }
 {
     if attached {
         return None;
@@ -92,7 +93,8 @@ pub fn attend<D: Desk>(sid: Sid, attached: bool, desk: &mut D) -> Option<Reply>
 
 /// What is said where the second channel doesn't stand.
 fn attended(answer: SessionAnswer) -> Option<Reply>
-    ensures { gate_step result ≡ attended answer }
+    ensures step { gate_step result ≡ attended answer }
+    ensures ends { IfSome result (λ reply. (reply_step Synchronous reply).ends ≡ true) }
 {
     let gate = match &answer {
         SessionAnswer::Done(_) => None,
