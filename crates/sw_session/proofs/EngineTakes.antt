@@ -50,8 +50,8 @@ stays-async state s t (Err e) is same =
 
 -- whether memory ran out
 pub heard-well : {X E : Type 0} (r : Result X E) (spent spent' : Bool) → spent ≡ false → spent' ≡ is_err r → OnOk r ((spent ≡ false) × (spent' ≡ false))
-heard-well (Ok x) spent spent' no same = (no, same)
-heard-well (Err e) spent spent' no same = tt
+heard-well (Ok x) spent spent' before same = (before, same)
+heard-well (Err e) spent spent' before same = tt
 
 pub spent-since : {X E : Type 0} (r : Result X E) (spent' : Bool) → spent' ≡ is_err r → OnErr r (spent' ≡ true)
 spent-since (Ok x) spent' same = tt
@@ -59,9 +59,9 @@ spent-since (Err e) spent' same = same
 
 pub falters-at : {D : Type 0} (passes : D → Entry → D → Type 0) (old new : D) (spent : Bool) {X E : Type 0} (r : Result X E) → spent ≡ false → OnErr r (LedBy passes old new (λ asked. Falters false asked))
     → OnErr r (LedBy passes old new (λ asked. Falters spent asked))
-falters-at passes old new spent r no h = subst (λ (b : Bool). OnErr r (LedBy passes old new (λ asked. Falters b asked))) (sym no) h
+falters-at passes old new spent r before h = subst (λ (b : Bool). OnErr r (LedBy passes old new (λ asked. Falters b asked))) (sym before) h
 
 pub falters-again : {D : Type 0} (passes : D → Entry → D → Type 0) (d : D) (spent : Bool) → spent ≡ true → LedBy passes d d (λ asked. Falters spent asked)
-falters-again passes d spent yes =
+falters-again passes d spent before =
     let none : List Entry = [] in
-    record { asked = none; leads = refl; admits = subst (λ (b : Bool). Falters b none) (sym yes) refl }
+    record { asked = none; leads = refl; admits = subst (λ (b : Bool). Falters b none) (sym before) refl }

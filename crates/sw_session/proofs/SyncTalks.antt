@@ -63,9 +63,12 @@ finishes-some passes old new s mid s' said id text all (Ok step) is between beca
   admits =
       let own : Step = h.admits.0 in
       let c : Converses (record s { front = Front.Nothing }) id text h.asked own s'.macros = subst (λ (t : SyncStanding). Converses t id text h.asked own s'.macros) between h.admits.1 in
-      let put : SyncStanding → SyncStanding = λ t. record t { macros = s'.macros } in
-      (own, subst (λ (o : Option (List ℕ)). Finishes s id o h.asked own s') (sym is)
-      (record { talk = c.talk; told = c.told; asks = c.asks; bytes = c.bytes; talks = c.talks; answers = c.answers }, became ∙ ap put between), h.admits.2);
+      let put : SyncStanding → SyncStanding = λ t. record t { macros = s'.macros } in (
+        own,
+        subst (λ (o : Option (List ℕ)). Finishes s id o h.asked own s') (sym is)
+            (record { talk = c.talk; told = c.told; asks = c.asks; bytes = c.bytes; talks = c.talks; answers = c.answers }, became ∙ ap put between),
+        h.admits.2,
+      );
 }
 finishes-some passes old new s mid s' said id text all (Err e) is between became h = tt
 
@@ -127,7 +130,7 @@ pub hears-on : {D : Type 0} (passes : D → Entry → D → Type 0) (old mid new
 hears-on passes old mid new request s s' m delivery said (Ok step) not led is h =
     let first : Step = goes said in
     let l : Led passes old mid (λ t rest. Delivers s.sid m.control m.parameter t first rest) =
-        subst (λ (f : Step). Led passes old mid (λ t rest. Delivers s.sid m.control m.parameter t f rest)) (subst (λ (o : List Sent). delivery_step m.parameter delivery ≡ goes o) (sym is) (went-on m.parameter delivery not)) (led m.parameter) in
+    subst (λ (f : Step). Led passes old mid (λ t rest. Delivers s.sid m.control m.parameter t f rest)) (subst (λ (o : List Sent). delivery_step m.parameter delivery ≡ goes o) (sym is) (went-on m.parameter delivery not)) (led m.parameter) in
     record {
       asked = l.trace ++ h.asked;
       leads = leads-append passes old mid new l.trace h.asked l.leads h.leads;

@@ -12,7 +12,7 @@ returns-in-Some-clause-ok g c =
     let all : Front → Option (List ℕ) = λ f. whole f c.args.part in
     subst (λ (t : SyncStanding). IfOk c.converse.result (λ step. LedBy g.D.Desk.passes c.args.desk.now c.converse.new.desk (λ asked. SaysMore c.args.said.items step (λ own. Finishes t c.args.id (whole t.front c.args.part) asked own c.converse.new.self)))) c.self.view_is
     (finishes-some g.D.Desk.passes _ _ (put c.self.inside.front) (put c.replace-front.new.dest) c.converse.new.self c.args.said.items c.args.id c.in-Some.text (all c.self.inside.front) c.converse.result
-    (sym (c.in_ok-whole.ensures ∙ ap all c.replace-front.ensures.value) ∙ c.in-Some.is) (ap put c.replace-front.ensures.after) c.converse.ensures.kept
+    (sym (c.in_ok-text.ensures ∙ ap all c.replace-front.ensures.value) ∙ c.in-Some.is) (ap put c.replace-front.ensures.after) c.converse.ensures.kept
     (subst (λ (b : List ℕ). IfOk c.converse.result (λ step. LedBy g.D.Desk.passes c.args.desk.now c.converse.new.desk (λ asked. SaysMore c.args.said.items step (λ own. Converses (put c.replace-front.new.dest) c.args.id b asked own c.converse.new.self.macros)))) c.as_slice.ensures c.converse.ensures.ok))
 
 pub returns-in-Some-clause-same : goal.returns-in-Some-clause-same
@@ -26,7 +26,7 @@ returns-in-None-clause-ok g c =
     let all : Front → Option (List ℕ) = λ f. whole f c.args.part in
     subst (λ (t : SyncStanding). LedBy g.D.Desk.passes c.args.desk.now c.args.desk.now (λ asked. SaysMore c.args.said.items c.told.result (λ own. Finishes t c.args.id (whole t.front c.args.part) asked own (put c.replace-front.new.dest)))) c.self.view_is
     (finishes-none g.D.Desk.passes c.args.desk.now (put c.self.inside.front) (put c.replace-front.new.dest) c.args.said.items c.args.id (all c.self.inside.front) c.told.result
-    (sym (c.in_ok-whole.ensures ∙ ap all c.replace-front.ensures.value) ∙ c.in-None.is) (ap put c.replace-front.ensures.after) c.told.ensures)
+    (sym (c.in_ok-text.ensures ∙ ap all c.replace-front.ensures.value) ∙ c.in-None.is) (ap put c.replace-front.ensures.after) c.told.ensures)
 
-pub returns-in_err-whole-clause-err : goal.returns-in_err-whole-clause-err
-returns-in_err-whole-clause-err g c = falters-none g.D.Desk.passes c.args.desk.now _
+pub returns-in_err-text-clause-err : goal.returns-in_err-text-clause-err
+returns-in_err-text-clause-err g c = falters-none g.D.Desk.passes c.args.desk.now _

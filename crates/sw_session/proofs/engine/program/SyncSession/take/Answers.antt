@@ -11,4 +11,4 @@ returns-then-is_program-clause-ok g c =
 
 pub returns-clause-ok : goal.returns-clause-ok
 returns-clause-ok g c =
-    takes-reply g.D.Desk.passes _ _ c.args.self.now _ c.args.message c.sync_request-request.result c.step_of.result _ c.sync_request-request.ensures (sym c.is_program.ensures ∙ c.if-is_program.false) c.reply.ensures.replies c.step_of.ensures
+    takes-reply g.D.Desk.passes _ _ c.args.self.now _ c.args.message c.sync_request-request.result c.step_of.result _ c.sync_request-request.ensures (sym c.is_program.ensures ∙ c.if-is_program.false) c.reply-reply.ensures.replies c.step_of.ensures

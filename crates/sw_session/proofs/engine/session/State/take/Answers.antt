@@ -1,4 +1,3 @@
-use Rattle.std.proofs.Common.{sym, subst}
 use Rattle.sw_session.proofs.EngineTakes.{falters-same, falters-unasked, takes-sync, takes-async, stays-sync, stays-async}
 use Rattle.sw_session.proofs.engine.session.State.take.Goals as goal
 
@@ -9,7 +8,7 @@ pub returns-in-Synchronized-clause-ok : goal.returns-in-Synchronized-clause-ok
 returns-in-Synchronized-clause-ok g c = takes-sync g.D.Desk.passes _ _ c.args.self.now _ _ c.args.message c.take.result c.in-Synchronized.is c.take.ensures.ok
 
 pub returns-in-Synchronized-clause-session : goal.returns-in-Synchronized-clause-session
-returns-in-Synchronized-clause-session g c = stays-sync c.args.self.now _ _ c.take.result c.in-Synchronized.is c.take.ensures.same
+returns-in-Synchronized-clause-session g c = stays-sync c.args.self.now _ c.take.new.self c.take.result c.in-Synchronized.is c.take.ensures.same
 
 pub returns-in-Attached-clause-ok : goal.returns-in-Attached-clause-ok
 returns-in-Attached-clause-ok g c = takes-async g.D.Desk.passes _ _ c.args.self.now _ _ c.args.message c.take-in-Attached.result c.in-Attached.is c.take-in-Attached.ensures.ok
