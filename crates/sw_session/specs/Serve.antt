@@ -1,6 +1,6 @@
 -- What a server of one channel asks and writes for what it reads. An engine is asked act by act; one list has each act
 -- with what was asked and said for it.
-use Rattle.std.specs.Prelude.{◌≡◌, ℕ, ◌+◌, ◌<◌, ◌≤◌, ◌⊎◌, Bool, true, false, List, [], ◌∷◌, ◌++◌, length, map, Option, None, Some, Result, Ok, Err, if◌then◌else◌}
+use Rattle.std.specs.Prelude.{◌≡◌, ◌≢◌, ℕ, ◌+◌, ◌<◌, ◌≤◌, ◌⊎◌, Bool, true, false, List, [], ◌∷◌, ◌++◌, length, map, Option, None, Some, Result, Ok, Err, if◌then◌else◌}
 use Rattle.std.specs.List.{flat_map, list_any}
 use Rattle.std.specs.Io.KnownBytes.{Appends, Consumes, IsAtEnd}
 use Rattle.sw_hislip.specs.declared.fault.WireFault.TheVariants.{TooLarge, BadPrologue}
@@ -179,6 +179,11 @@ GoesThrough v passes own a b acts after =
 abbrev pub Hears : {E D : Type 0} → Voice E → (D → Entry → D → Type 0) → Channel → Act → Point E D → Point E D → Result After ServeFault → Type 0
 Hears v passes own act a b (Ok after) = GoesThrough v passes own a b (act ∷ []) after
 Hears v passes own act a b (Err fault) = Breaks v passes own a b act fault
+
+-- only a wrong prologue ends a channel as malformed, and it always does
+abbrev pub Judges : Bool → After → Type 0
+Judges true after = after ≡ Malformed
+Judges false after = after ≢ Malformed
 
 -- some acts
 abbrev pub HearsEach : {E D : Type 0} → Voice E → (D → Entry → D → Type 0) → Channel → List Act → Point E D → Point E D → Result After ServeFault → Type 0

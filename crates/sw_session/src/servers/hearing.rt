@@ -1,8 +1,8 @@
 //! Acts of an engine, and what is said to them.
 
-ghost use Rattle.std.specs.Prelude.{[], ◌∷◌};
+ghost use Rattle.std.specs.Prelude.{IfOk};
 ghost use Rattle.sw_session.specs.Trace.{Leads};
-ghost use Rattle.sw_session.specs.Serve.{Hears, HearsEach, acts_for, notes_of, point};
+ghost use Rattle.sw_session.specs.Serve.{Hears, HearsEach, Judges, acts_for, is_refused, notes_of, point};
 
 use crate::desk::Desk;
 use crate::engine::{Channel, Sent};
@@ -34,7 +34,8 @@ fn hear<E: Speaker, W: Write, S: Write, D: Desk>(
     side: &mut S,
     desk: &mut D,
 ) -> Result<After, ServeFault>
-    ensures { Hears E.voice D.passes own act (point engine.old desk.old (W.contents writer.old) (S.contents side.old)) (point engine.new desk.new (W.contents writer.new) (S.contents side.new)) result }
+    ensures heard { Hears E.voice D.passes own act (point engine.old desk.old (W.contents writer.old) (S.contents side.old)) (point engine.new desk.new (W.contents writer.new) (S.contents side.new)) result }
+    ensures judged { IfOk result (λ after. Judges (is_refused act) after) }
 {
     let refused = is_refused(&act);
     let Ok(step) = engine.hear(alloc, act, desk) else {
@@ -59,7 +60,8 @@ pub fn attend<E: Speaker, W: Write, S: Write, D: Desk>(
     side: &mut S,
     desk: &mut D,
 ) -> Result<After, ServeFault>
-    ensures { HearsEach E.voice D.passes own (acts_for input) (point engine.old desk.old (W.contents writer.old) (S.contents side.old)) (point engine.new desk.new (W.contents writer.new) (S.contents side.new)) result }
+    ensures heard { HearsEach E.voice D.passes own (acts_for input) (point engine.old desk.old (W.contents writer.old) (S.contents side.old)) (point engine.new desk.new (W.contents writer.new) (S.contents side.new)) result }
+    ensures judged { IfOk result (λ after. Judges (is_refused input) after) }
 {
     let message = match input {
         Act::Takes(message) => message,

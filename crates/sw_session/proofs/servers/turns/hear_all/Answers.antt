@@ -1,0 +1,12 @@
+use Rattle.std.proofs.Common.{rules, Ok, Err}
+use Rattle.sw_session.specs.declared.servers.act.After.TheVariants.{Goes, Ends, Fatal, Malformed}
+use Rattle.sw_session.proofs.ServeWays.{next-is, each-is, hearing-start, hearing-on, all-heard, all-ended, all-stopped, all-starved, takes-bytes}
+use Rattle.sw_session.proofs.servers.turns.hear_all.Goals as goal
+
+pub loop-input-init : goal.loop-input-init
+loop-input-init g c = hearing-start g.E.Speaker.voice g.D.Desk.passes _ _ _
+
+pub loop-input-preserved : goal.loop-input-preserved
+loop-input-preserved g c =
+    hearing-on g.E.Speaker.voice g.D.Desk.passes _ _ _ _ _ _ _ c.in-Ok-Some.input c.loop-input.invariant (next-is _ _ c.next_input.result c.in-Ok-Some.input (search rules) c.next_input.ensures)
+    (each-is g.E.Speaker.voice g.D.Desk.passes _ _ _ _ c.attend.result (Ok Goes) (search rules) c.attend.ensures.heard)
