@@ -9,3 +9,9 @@ pub mod HandedBack
 pub mod Acted
 pub mod Determined
 pub mod CoreTalk
+pub mod Cuts
+pub mod SubAddress
+pub mod EngineAsks
+pub mod LockWaits
+pub mod AsyncRows
+pub mod SyncRows

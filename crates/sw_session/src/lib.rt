@@ -17,6 +17,7 @@ mod asking;
 mod available;
 mod core_desk;
 mod desk;
+mod engine;
 mod laws;
 mod line;
 mod macros;
@@ -24,5 +25,6 @@ mod talker;
 
 pub use core_desk::CoreDesk;
 pub use desk::{Desk, View, Wake};
+pub use engine::{Channel, Engine, Sent, Step};
 pub use laws::{core_rest_is_determined, core_talk_is_determined, talk_is_determined};
 pub use talker::Talker;
