@@ -15,3 +15,7 @@ pub mod EngineAsks
 pub mod LockWaits
 pub mod AsyncRows
 pub mod SyncRows
+pub mod ServeKnown
+pub mod ServeParts
+pub mod ServeWays
+pub mod ServeTurns

@@ -157,13 +157,18 @@ pub hears-ok : {E D : Type 0} (v : Voice E) (passes : D → Entry → D → Type
     → Appends w w' (flat_map (wire_on own) step.out) → Appends y y' (flat_map (wire_off own) step.out)
     → Hears v passes own act (point s d w y) (point s' d' w' y') (Ok after)
 hears-ok v passes own s s' d e d' w w' y y' act step noted after led n notes a main side =
-    let x : Exchange = record { act = act; asked = led.asked; step = step; noted = noted } in
-    (x ∷ [], [], refl, λ g. refl, record {
-      speaks = speaks-one v s s' x after led.admits n a;
-      asks = subst (λ (l : List Entry). Leads passes d l d') (sym (append-nil (led.asked ++ noted))) (onward passes d e d' led.asked noted led.leads notes);
-      main = one-out (wire_on own) w w' x main;
-      side = one-out (wire_off own) y y' x side;
-    })
+    let x : Exchange = record { act = act; asked = led.asked; step = step; noted = noted } in (
+      x ∷ [],
+      [],
+      refl,
+      λ g. refl,
+      record {
+        speaks = speaks-one v s s' x after led.admits n a;
+        asks = subst (λ (l : List Entry). Leads passes d l d') (sym (append-nil (led.asked ++ noted))) (onward passes d e d' led.asked noted led.leads notes);
+        main = one-out (wire_on own) w w' x main;
+        side = one-out (wire_off own) y y' x side;
+      },
+    )
 
 cut-off : {E D : Type 0} (v : Voice E) (passes : D → Entry → D → Type 0) (own : Channel) (s s' : E) (d d' : D) (w w' y y' : Option (List ℕ)) (act : Act) (step : Step)
     → LedBy passes d d' (λ asked. v.speaks s act asked step s') → WritesPart w w' (flat_map (wire_on own) step.out) → WritesPart y y' (flat_map (wire_off own) step.out)

@@ -35,18 +35,39 @@ pub turn-err : {E D : Type 0} (v : Voice E) (passes : D → Entry → D → Type
     → Waits p.bytes → Listens input left p p' (Err fault) → TakesTurn v passes own p p' a a input left (Err fault)
 turn-err v passes own p p' a input left fault waits (same, inl r) =
     subst (λ (f : ServeFault). TakesTurn v passes own p p' a a input left (Err f)) (sym r.0)
-    (record { read = []; lost = []; reads = r.1; loses = refl; inputs = []; tells = subst (λ (q : Pending). Tells p q [] []) (sym same) (tells-nothing p);
-      ends = ((goes-nowhere v passes own a, subst (λ (q : Pending). Waits q.bytes) (sym same) waits), λ e. absurd (cc (e))) })
+    (record {
+      read = [];
+      lost = [];
+      reads = r.1;
+      loses = refl;
+      inputs = [];
+      tells = subst (λ (q : Pending). Tells p q [] []) (sym same) (tells-nothing p);
+      ends = ((goes-nowhere v passes own a, subst (λ (q : Pending). Waits q.bytes) (sym same) waits), λ e. absurd (cc (e)));
+    })
 turn-err v passes own p p' a input left fault waits (same, inr r) =
     subst (λ (f : ServeFault). TakesTurn v passes own p p' a a input left (Err f)) (sym r.0)
-    (record { read = []; lost = r.1.0; reads = r.1.1; loses = tt; inputs = []; tells = subst (λ (q : Pending). Tells p q [] []) (sym same) (tells-nothing p);
-      ends = (inr (goes-nowhere v passes own a), λ e. absurd (cc (e))) })
+    (record {
+      read = [];
+      lost = r.1.0;
+      reads = r.1.1;
+      loses = tt;
+      inputs = [];
+      tells = subst (λ (q : Pending). Tells p q [] []) (sym same) (tells-nothing p);
+      ends = (inr (goes-nowhere v passes own a), λ e. absurd (cc (e)));
+    })
 
 pub turn-end : {E D : Type 0} (v : Voice E) (passes : D → Entry → D → Type 0) (own : Channel) (p p' : Pending) (a : Point E D) (input left : Option (List ℕ))
     → Waits p.bytes → Listens input left p p' (Ok Came.End) → TakesTurn v passes own p p' a a input left (Ok Over)
 turn-end v passes own p p' a input left waits (reads, end, same) =
-    record { read = []; lost = []; reads = reads; loses = refl; inputs = []; tells = subst (λ (q : Pending). Tells p q [] []) (sym same) (tells-nothing p);
-      ends = inl (goes-nowhere v passes own a, subst (λ (q : Pending). Waits q.bytes) (sym same) waits, end) }
+    record {
+      read = [];
+      lost = [];
+      reads = reads;
+      loses = refl;
+      inputs = [];
+      tells = subst (λ (q : Pending). Tells p q [] []) (sym same) (tells-nothing p);
+      ends = inl (goes-nowhere v passes own a, subst (λ (q : Pending). Waits q.bytes) (sym same) waits, end);
+    }
 
 -- how a turn ends in which so many bytes were read, and these inputs gone through
 record Turned {E D : Type 0} (v : Voice E) (passes : D → Entry → D → Type 0) (own : Channel) (p p' : Pending) (a b : Point E D) (input left : Option (List ℕ)) (result : Result Next ServeFault) : Type 0 where
@@ -105,11 +126,21 @@ pub turn-paused : {E D : Type 0} (v : Voice E) (passes : D → Entry → D → T
     → Waits p.bytes → Listens input left p p' (Ok Came.Paused) → HearsEach v passes own (Notices ∷ []) a b r → ((after : After) → r ≡ Ok after → Judges false after)
     → TakesTurn v passes own p p' a b input left (conclude r)
 turn-paused v passes own p p' a b input left (Ok after) waits l h judged =
-    turned v passes own p p' a b input left (conclude (Ok after)) (record { read = []; inputs = Notices ∷ []; reads = l.0; tells = subst (λ (q : Pending). Tells p q [] (Notices ∷ [])) (sym l.1) (tells-paused p);
-      ends = ends-by v passes own p' a b (Notices ∷ []) 1 left after (omega (arith)) h (paused-stands p' after (subst (λ (q : Pending). Waits q.bytes) (sym l.1) waits) (judged after refl)) })
+    turned v passes own p p' a b input left (conclude (Ok after)) (record {
+      read = [];
+      inputs = Notices ∷ [];
+      reads = l.0;
+      tells = subst (λ (q : Pending). Tells p q [] (Notices ∷ [])) (sym l.1) (tells-paused p);
+      ends = ends-by v passes own p' a b (Notices ∷ []) 1 left after (omega (arith)) h (paused-stands p' after (subst (λ (q : Pending). Waits q.bytes) (sym l.1) waits) (judged after refl));
+    })
 turn-paused v passes own p p' a b input left (Err fault) waits l h judged =
-    turned v passes own p p' a b input left (Err fault) (record { read = []; inputs = Notices ∷ []; reads = l.0; tells = subst (λ (q : Pending). Tells p q [] (Notices ∷ [])) (sym l.1) (tells-paused p);
-      ends = stops-by v passes own p' a b (Notices ∷ []) 1 left fault h })
+    turned v passes own p p' a b input left (Err fault) (record {
+      read = [];
+      inputs = Notices ∷ [];
+      reads = l.0;
+      tells = subst (λ (q : Pending). Tells p q [] (Notices ∷ [])) (sym l.1) (tells-paused p);
+      ends = stops-by v passes own p' a b (Notices ∷ []) 1 left fault h;
+    })
 
 tells-read : (p p' q : Pending) (piece : List ℕ) (inputs : List Act) → p' ≡ fed p piece → Tells p' q [] inputs → Tells p q piece inputs
 tells-read p p' q piece inputs e t = subst (λ (l : List ℕ). Tells p q l inputs) (append-nil piece) (tells-then p p' q piece [] [] inputs (tells-fed p p' piece e) t)
@@ -117,14 +148,24 @@ tells-read p p' q piece inputs e t = subst (λ (l : List ℕ). Tells p q l input
 pub turn-bytes : {E D : Type 0} (v : Voice E) (passes : D → Entry → D → Type 0) (own : Channel) (p p' q : Pending) (a b : Point E D) (input left : Option (List ℕ)) (r : Result After ServeFault)
     → Listens input left p p' (Ok Came.Bytes) → HearsAll v passes own p' q a b r → TakesTurn v passes own p q a b input left (conclude r)
 turn-bytes v passes own p p' q a b input left (Ok after) (piece, some, reads, e) h =
-    turned v passes own p q a b input left (conclude (Ok after)) (record { read = piece; inputs = h.inputs; reads = reads; tells = tells-read p p' q piece h.inputs e h.tells;
-      ends = ends-by v passes own q a b (flat_map acts_for h.inputs) (length piece + pauses h.inputs) left after (omega (arith, some)) h.spoken.0 h.spoken.1 })
+    turned v passes own p q a b input left (conclude (Ok after)) (record {
+      read = piece;
+      inputs = h.inputs;
+      reads = reads;
+      tells = tells-read p p' q piece h.inputs e h.tells;
+      ends = ends-by v passes own q a b (flat_map acts_for h.inputs) (length piece + pauses h.inputs) left after (omega (arith, some)) h.spoken.0 h.spoken.1;
+    })
 turn-bytes v passes own p p' q a b input left (Err fault) (piece, some, reads, e) h =
-    turned v passes own p q a b input left (Err fault) (record { read = piece; inputs = h.inputs; reads = reads; tells = tells-read p p' q piece h.inputs e h.tells;
+    turned v passes own p q a b input left (Err fault) (record {
+      read = piece;
+      inputs = h.inputs;
+      reads = reads;
+      tells = tells-read p p' q piece h.inputs e h.tells;
       ends = elim h.spoken [
         | inl t ↦ stops-by v passes own q a b (flat_map acts_for h.inputs) (length piece + pauses h.inputs) left fault t
         | inr t ↦ starves-by v passes own q a b (flat_map acts_for h.inputs) (length piece + pauses h.inputs) left fault t.0 t.1
-      ] })
+      ];
+    })
 
 -- ---- turns, one after another
 

@@ -21,10 +21,12 @@ mod engine;
 mod laws;
 mod line;
 mod macros;
+mod servers;
 mod talker;
 
 pub use core_desk::CoreDesk;
 pub use desk::{Desk, View, Wake};
 pub use engine::{Channel, Engine, Sent, Step};
 pub use laws::{core_rest_is_determined, core_talk_is_determined, talk_is_determined};
+pub use servers::{Act, ServeFault, Speaker, Unwritten, serve_for, write_all};
 pub use talker::Talker;

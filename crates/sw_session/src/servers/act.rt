@@ -66,14 +66,16 @@ pub fn is_refused(act: &Act) -> bool
 fn has_fatal(said: &[Sent]) -> bool
     ensures { result ≡ list_any (λ (s : Sent). is_fatal s.message.kind) said.now }
 {
-    said.iter().any(|sent| matches!(sent.message.kind, Kind::FatalError))
+    said.iter()
+        .any(|sent| matches!(sent.message.kind, Kind::FatalError))
 }
 
 /// Whether any of the messages is the last part of an answer.
 pub fn has_last_part(said: &[Sent]) -> bool
     ensures { result ≡ list_any (λ (s : Sent). is_last_part s.message.kind) said.now }
 {
-    said.iter().any(|sent| matches!(sent.message.kind, Kind::DataEnd))
+    said.iter()
+        .any(|sent| matches!(sent.message.kind, Kind::DataEnd))
 }
 
 /// How the channel goes on after a step.

@@ -125,15 +125,7 @@ fn take_turn<E: Speaker, R: Read, W: Write, S: Write, D: Desk>(
     match listen(reader, decoder) {
         Err(fault) => Err(fault),
         Ok(Came::End) => Ok(Next::Over),
-        Ok(Came::Paused) => conclude(attend(
-            alloc,
-            own,
-            Act::Notices,
-            engine,
-            writer,
-            side,
-            desk,
-        )),
+        Ok(Came::Paused) => conclude(attend(alloc, own, Act::Notices, engine, writer, side, desk)),
         Ok(Came::Bytes) => conclude(hear_all(alloc, own, decoder, engine, writer, side, desk)),
     }
 }
@@ -155,16 +147,7 @@ fn run<E: Speaker, R: Read, W: Write, S: Write, D: Desk>(
     nothing_whole_is_left();
     let mut decoder = Decoder::new(alloc);
     for _turn in 0..turns {
-        match take_turn(
-            alloc,
-            own,
-            reader,
-            &mut decoder,
-            engine,
-            writer,
-            side,
-            desk,
-        ) {
+        match take_turn(alloc, own, reader, &mut decoder, engine, writer, side, desk) {
             Ok(Next::On) => {}
             Ok(Next::Over) => return Ok(()),
             Err(fault) => return Err(fault),
