@@ -159,6 +159,13 @@ impl<H: House, R: Relay, M: Meter> Held<H, R, M> {
         self.core.pair()
     }
 
+    /// The notes of the last 64 events, the oldest first.
+    pub fn recent(&self) -> Result<Vec<Note>, AllocError>
+        ensures { IfOk result (λ notes. notes.items ≡ self.now.notes) }
+    {
+        self.notes.to_vec(self.alloc)
+    }
+
     /// Asks the mainframe. An event that is numbered counts in the desk's share, once, and is noted.
     #[tactic(auto, using(crate::proofs::Counted::step_counted))]
     pub fn ask(&mut self, part: &mut DeskPart<H>, ask: Ask<R, M>) -> Answer<R, M>
