@@ -13,7 +13,8 @@ use std::sync::{Arc, Wait};
 use std::thread;
 use std::time::{Clock, Duration};
 use sw_card::{Meter, Relay};
-use sw_core::{Answer, Ask, Work};
+use sw_core::{Answer, Ask, SessionAnswer, SessionAsk, Sid, Work};
+use sw_session::{Desk, View, Wake};
 
 /// The desk of a session or of a worker, which one thread has.
 #[derive(Drop)]
@@ -101,5 +102,37 @@ impl<H: House, R: Relay, M: Meter, G: Gate + Drop, W: Wait + Clock + Copy + Drop
                 Ask::Elapsed(ticket)
             }
         }
+    }
+}
+
+impl<H: House, R: Relay, M: Meter, G: Gate + Drop, W: Wait + Clock + Copy + Drop> Desk
+    for SharedDesk<H, R, M, G, W> {
+    ghost use Rattle.sw_workers.specs.Work.{DeskPasses};
+
+    ghost passes = { λ before entry after. DeskPasses before.part.share.amount entry after.part.share.amount };
+
+    fn ask(&mut self, ask: SessionAsk) -> SessionAnswer {
+        self.shared.gate().pass(&self.rt, Point::Ask);
+        let (answer, turn) = self.shared.act(&self.rt, &mut self.part, Ask::Session(ask));
+        self.seen = turn;
+        match answer {
+            Answer::Session(answer, work) => {
+                self.carry(work);
+                answer
+            }
+            _ => unreachable!(),
+        }
+    }
+
+    fn wait(&mut self, limit_ms: Option<u32>) -> Wake {
+        self.shared.wait(&self.rt, self.seen, limit_ms)
+    }
+
+    fn poll(&mut self, sid: Sid) -> View {
+        self.shared.poll(&self.rt, sid)
+    }
+
+    fn note(&mut self, sid: Sid, mav: bool) {
+        self.shared.note(&self.rt, sid, mav);
     }
 }
