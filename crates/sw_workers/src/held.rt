@@ -128,6 +128,7 @@ impl<H: House, R: Relay, M: Meter> Held<H, R, M> {
         requires { all.old.parts ≡ all_parts }
         ensures same { self.new ≡ self.old }
         ensures number { (result ≡ self.old.panel.events) × (result ≡ H.start + all.old.amount) }
+        ensures share { (all.new.parts ≡ all.old.parts) × (all.new.amount ≡ all.old.amount) }
     {
         self.events.audit(all);
         self.core.events()

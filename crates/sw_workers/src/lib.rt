@@ -6,22 +6,27 @@
 //! is the opening one and the sum of all shares (`Held::number`).
 //!
 //! A `SharedDesk` is the desk of one thread. Its share counts the event of each ask, and those of the work that it
-//! carried out because it couldn't be sent.
+//! carried out because it couldn't be sent. Workers give their desks back when they end, and `close_down`, which is
+//! handed every desk, tells the number of events and gives the cards with nothing closed.
 //!
 //! Nothing is promised of when a thread goes on, nor that one does, nor of what a status read finds.
 #![tactic(auto)]
 
 mod available;
+mod closing;
 mod desk;
 mod gate;
 mod held;
 mod note;
 mod posts;
 mod shared;
+mod workers;
 
+pub use closing::{Closed, close_down};
 pub use desk::SharedDesk;
 pub use gate::{Gate, Open, Point};
 pub use held::{DeskPart, Held, House};
 pub use note::{AskKind, Note};
 pub use posts::{Pause, Posted};
 pub use shared::{Opening, Shared};
+pub use workers::{run_card_worker, run_timer_worker};

@@ -1,6 +1,6 @@
 //! The mainframe behind one lock, and what wakes those who wait for it.
 
-ghost use Rattle.std.specs.Prelude.{◌≡◌, ◌≤◌, IfSome};
+ghost use Rattle.std.specs.Prelude.{◌≡◌, ◌≤◌, ◌+◌, IfSome};
 ghost use Rattle.sw_core.specs.View.{ask_view, answer_view};
 ghost use Rattle.sw_session.specs.CoreDesk.{piece_seen};
 ghost use Rattle.sw_session.specs.Trace.{LeavesOf};
@@ -13,7 +13,7 @@ use crate::held::{DeskPart, Held, House};
 use crate::note::Note;
 use crate::posts::{Posted, Posts, work_posts};
 use std::alloc::{AllocError, Global};
-use std::sync::ledger::Blank;
+use std::sync::ledger::{Blank, Share};
 use std::sync::{Condvar, Mutex, Wait};
 use std::time::{Clock, Duration, Instant};
 use sw_card::{Meter, Relay};
@@ -170,6 +170,30 @@ impl<H: House, R: Relay, M: Meter, G: Gate + Drop> Shared<H, R, M, G> {
     /// The notes of the last 64 events, the oldest first.
     pub fn recent<W: Wait>(&self, rt: &W) -> Result<Vec<Note>, AllocError> {
         self.held.lock(rt).recent()
+    }
+
+    /// Nobody has to wait any more, and no work is sent any more: workers end once they have taken what was.
+    pub fn end_work<W: Wait>(&self, rt: &W) {
+        self.held.lock(rt).close();
+        self.happened.notify_all();
+        let ended = self.posts.lock(rt).take();
+        drop(ended);
+    }
+
+    /// The share that no desk has, once, where there are so many desks.
+    pub fn take_spare<W: Wait>(&self, rt: &W, desks: u64) -> Option<Share<H>>
+        ensures { IfSome result (λ spare. (spare.parts + desks ≡ all_parts) × (spare.amount ≡ 0)) }
+    {
+        self.held.lock(rt).take_spare(desks)
+    }
+
+    /// The number of events, to whom has every part: the opening one and all that was counted.
+    pub fn number<W: Wait>(&self, rt: &W, all: &mut Share<H>) -> u64
+        requires { all.old.parts ≡ all_parts }
+        ensures number { result ≡ H.start + all.old.amount }
+        ensures share { (all.new.parts ≡ all.old.parts) × (all.new.amount ≡ all.old.amount) }
+    {
+        self.held.lock(rt).number(all)
     }
 }
 
