@@ -15,11 +15,12 @@ use Rattle.sw_card.specs.declared.board.CardFault.{CardFault}
 use Rattle.sw_macro.specs.Table.{Table}
 use Rattle.sw_session.specs.CoreDesk.{DeskSeen, Rests}
 use Rattle.sw_session.specs.Law.{AllSmooth, waits_of, carried_in, carried_at_rest, outcomes_in_talk, outcomes_at_rest}
+use Rattle.sw_session.specs.Talk.{state}
 use Rattle.sw_session.specs.Law.{CoreTalkIsDetermined, CoreRestIsDetermined}
 use Rattle.sw_card.specs.Account.{Account}
 use Rattle.mainframe.specs.Lines.{lines_of}
 use Rattle.mainframe.specs.Cards.{Fitted}
-use Rattle.mainframe.specs.Run.{State, state, begins_over, Stepped, AsksInTurn, Joins, IsSetUp, Line, Run, RunsTo}
+use Rattle.mainframe.specs.Run.{State, begins_over, Stepped, AsksInTurn, Joins, IsSetUp, Line, Run, RunsTo}
 use Rattle.mainframe.specs.Law.{IsPlainLine, IsPlainRun, outcomes_in_run}
 
 -- an offer of a card is answered plainly
@@ -110,7 +111,7 @@ line_same : CoreTalkIsDetermined → CoreRestIsDetermined
     → outcomes_in_talk l.talked ≡ outcomes_in_talk l'.talked → outcomes_at_rest l.rests ≡ outcomes_at_rest l'.rests
     → (told ≡ told') × (e ≡ e')
 line_same talk rest sid s e e' line told told' l l' a a' in_talk at_rest =
-    let t = talk sid s.desk l.spoken l'.spoken s.macros e.macros e'.macros line told told' l.talked l'.talked a.ample a'.ample a.talk a'.talk in_talk in
+    let t = talk sid s (state l.spoken e.macros) (state l'.spoken e'.macros) line told told' l.talked l'.talked a.ample a'.ample a.talk a'.talk in_talk in
     let After : DeskSeen → Type 0 = λ d. (r : Rests d true e.desk) → AllSmooth (waits_of r) (carried_at_rest r)
     → outcomes_at_rest r ≡ outcomes_at_rest l'.rests → e.desk ≡ e'.desk in
     let there : After l'.spoken = λ r smooth same. rest l'.spoken e.desk e'.desk r l'.rests smooth a'.rest same in

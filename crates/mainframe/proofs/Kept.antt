@@ -11,10 +11,11 @@ use Rattle.std.proofs.KnownBytes.{Consumes-nil, Consumes-kept, Consumes-trans}
 use Rattle.std.proofs.BufReadLemmas.{Consumes_through, take_through-nil, take_through_nonempty}
 use Rattle.std.proofs.Transfers.{StopsAt-of_All, StopsAt-append}
 use Rattle.sw_core.specs.declared.ask.Sid.{Sid}
+use Rattle.sw_base.specs.Limits.{most_bytes}
 use Rattle.sw_macro.specs.Table.{Table}
-use Rattle.sw_session.specs.CoreDesk.{DeskSeen, CorePasses}
+use Rattle.sw_session.specs.CoreDesk.{CorePasses}
 use Rattle.sw_session.specs.Trace.{Entry}
-use Rattle.sw_session.specs.Talk.{Talked, TalksMessage, TalksUnits, Overruns, longest}
+use Rattle.sw_session.specs.Talk.{state, Talked, TalksMessage, TalksUnits, Overruns}
 use Rattle.mainframe.specs.declared.fault.RunFault.{RunFault}
 use Rattle.mainframe.specs.Kept.{most_kept, CutsLine, TakesPart}
 use Rattle.mainframe.specs.Run.{Line, State}
@@ -103,19 +104,19 @@ reading-whole old mid new kept kept' result (done, used, is, feeds) p e =
     let through = Consumes_through 10 old mid new done p.part used feeds p.consumed p.stops (p.ends e) (p.at_end e) in
     (kept-if old (done ++ p.part) kept' (more-kept done p.part kept kept' is p.keeps) through.0, through.1)
 
-strip-long : (text : List ℕ) → longest + 1 < length text → longest < length (strip_last 10 text)
+strip-long : (text : List ℕ) → most_bytes + 1 < length text → most_bytes < length (strip_last 10 text)
 strip-long text long = at (ends_with_byte 10 text)
   where
-    at : (b : Bool) → longest < length (cond b (take (length text - 1) text) text)
+    at : (b : Bool) → most_bytes < length (cond b (take (length text - 1) text) text)
     at true = omega (arith, length-take (length text - 1) text)
     at false = omega arith
 
-long-alike : (sid : Sid) (macros macros' : Table) (trace : List Entry) (bytes text text' : List ℕ) → longest < length text → longest < length text'
+long-alike : (sid : Sid) (macros macros' : Table) (trace : List Entry) (bytes text text' : List ℕ) → most_bytes < length text → most_bytes < length text'
     → TalksMessage sid macros text trace bytes macros' → TalksMessage sid macros text' trace bytes macros'
 long-alike sid macros macros' trace bytes text text' long long' t =
     let Dropped : Type 0 = Overruns sid trace bytes × (macros' ≡ macros) in
-    subst (λ (b : Bool). MatchBool b Dropped (TalksUnits sid macros text' trace bytes macros')) (sym (lt-ltb longest (length text') long'))
-    (subst (λ (b : Bool). MatchBool b Dropped (TalksUnits sid macros text trace bytes macros')) (lt-ltb longest (length text) long) t)
+    subst (λ (b : Bool). MatchBool b Dropped (TalksUnits sid macros text' trace bytes macros')) (sym (lt-ltb most_bytes (length text') long'))
+    (subst (λ (b : Bool). MatchBool b Dropped (TalksUnits sid macros text trace bytes macros')) (lt-ltb most_bytes (length text) long) t)
 
 -- what is kept of a line is answered as the line is
 pub talks-whole : (sid : Sid) (macros macros' : Table) (trace : List Entry) (bytes line : List ℕ)
@@ -128,12 +129,12 @@ talks-whole sid macros macros' trace bytes line t = at (leb_tells (length line) 
     at (inr (e, long)) = long-alike sid macros macros' trace bytes (strip_last 10 (take most_kept line)) (strip_last 10 line)
         (strip-long (take most_kept line) (omega (arith, length-take most_kept line))) (strip-long line (omega arith)) t
 
-pub talked-whole : (p q : DeskSeen) (sid : Sid) (macros macros' : Table) (line bytes : List ℕ)
-    → Talked CorePasses p q sid macros (take most_kept line) bytes macros' → Talked CorePasses p q sid macros line bytes macros'
-talked-whole p q sid macros macros' line bytes t = record {
+pub talked-whole : (p q : State) (sid : Sid) (line bytes : List ℕ) → Talked CorePasses sid p (take most_kept line) bytes q
+    → Talked CorePasses sid p line bytes q
+talked-whole p q sid line bytes t = record {
   trace = t.trace;
   leads = t.leads;
-  talks = talks-whole sid macros macros' t.trace bytes line t.talks;
+  talks = talks-whole sid p.macros q.macros t.trace bytes line t.talks;
 }
 
 -- nothing is kept at the end of the input alone
@@ -142,7 +143,7 @@ kept-none None kept is none = tt
 kept-none (Some xs) kept is none = take_through-nil 10 xs (omega (arith, ap length is, length-take most_kept (take_through 10 xs)))
 
 pub line_whole : (p q : State) (sid : Sid) (line bytes : List ℕ) → Line sid p (take most_kept line) bytes q → Line sid p line bytes q
-line_whole p q sid line bytes t = record { spoken = t.spoken; talked = talked-whole p.desk t.spoken sid p.macros q.macros line bytes t.talked; rests = t.rests }
+line_whole p q sid line bytes t = record { spoken = t.spoken; talked = talked-whole p (state t.spoken q.macros) sid line bytes t.talked; rests = t.rests }
 
 pub kept-some : (xs kept : List ℕ) → kept ≡ take most_kept (take_through 10 xs) → 0 < length kept → 0 < length xs
 kept-some xs kept is some = take_through_nonempty 10 xs (omega (arith, ap length is, length-take most_kept (take_through 10 xs)))

@@ -9,11 +9,11 @@ use Rattle.sw_core.specs.declared.ask.Sid.{Sid}
 use Rattle.sw_core.specs.Panel.{Panel}
 use Rattle.sw_macro.specs.Table.{Table, no_macros}
 use Rattle.sw_session.specs.CoreDesk.{desk_over, DeskSeen, CorePasses, Rests}
-use Rattle.sw_session.specs.Talk.{Talked}
+use Rattle.sw_session.specs.Talk.{state, Talked}
 use Rattle.mainframe.specs.Lines.{lines_of, WritesPart}
 use Rattle.sw_card.specs.Account.{Account}
 use Rattle.mainframe.specs.Cards.{Fitted, fitted}
-use Rattle.mainframe.specs.Run.{State, state, begins_over, IsSetUp, Line, Run, Runs, AnsweredFrom, PartFrom, CutFrom, EndsFrom}
+use Rattle.mainframe.specs.Run.{State, begins_over, IsSetUp, Line, Run, Runs, AnsweredFrom, PartFrom, CutFrom, EndsFrom}
 use Rattle.mainframe.specs.declared.fault.RunFault.{RunFault}
 use Rattle.mainframe.specs.declared.fault.RunFault.TheVariants.{Input, Output, Memory}
 use Rattle.mainframe.proofs.Known.{appends-more}
@@ -24,12 +24,12 @@ use Rattle.std.specs.Prelude.{if◌then◌else◌}
 use Rattle.mainframe.proofs.Kept.{kept-some, line_whole}
 
 pub line_rested : (sid talker : Sid) (macros macros' : Table) (q spoken mid : DeskSeen) (kept line told : List ℕ) (rested : Bool) → talker ≡ sid → line ≡ kept
-    → Talked CorePasses q spoken talker macros line told macros' → Rests spoken rested mid → rested ≡ true
+    → Talked CorePasses talker (state q macros) line told (state spoken macros') → Rests spoken rested mid → rested ≡ true
     → Line sid (state q macros) kept told (state mid macros')
 line_rested sid talker macros macros' q spoken mid kept line told rested sids lines talked rests is = record {
   spoken = spoken;
-  talked = subst (λ (s : Sid). Talked CorePasses q spoken s macros kept told macros') sids (subst (λ (l : List ℕ).
-      Talked CorePasses q spoken talker macros l told macros') lines talked);
+  talked = subst (λ (s : Sid). Talked CorePasses s (state q macros) kept told (state spoken macros')) sids (subst (λ (l : List ℕ).
+      Talked CorePasses talker (state q macros) l told (state spoken macros')) lines talked);
   rests = subst (λ (b : Bool). Rests spoken b mid) is rests;
 }
 

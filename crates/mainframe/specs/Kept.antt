@@ -2,12 +2,12 @@
 use Rattle.std.specs.Prelude.{◌≡◌, ◌≢◌, ℕ, ◌+◌, Bool, true, List, ◌++◌, All, length, take, Option, Result, Ok, OnSome}
 use Rattle.std.specs.Io.{StopsAt, IsEmptyOrEndsWith}
 use Rattle.std.specs.Io.KnownBytes.{Consumes, IsAtEnd}
-use Rattle.sw_session.specs.Talk.{longest}
+use Rattle.sw_base.specs.Limits.{most_bytes}
 use Rattle.mainframe.specs.declared.fault.RunFault.{RunFault}
 
 -- how many bytes of a line are kept: the longest message, its line feed, and one byte
 abbrev pub most_kept : ℕ
-most_kept = longest + 2
+most_kept = most_bytes + 2
 
 -- bytes are gone of which no more than the last is a line feed
 abbrev pub CutsLine : Option (List ℕ) → Option (List ℕ) → Type 0

@@ -8,21 +8,18 @@ use Rattle.sw_core.specs.declared.ask.SessionAnswer.TheVariants.{Joined}
 use Rattle.sw_core.specs.Panel.{Panel, opening}
 use Rattle.sw_core.specs.View.{AskView, AskSession, AskInstall, AnswerView, SaysSession}
 use Rattle.sw_core.specs.Step.{Step}
-use Rattle.sw_macro.specs.Table.{Table, no_macros}
+use Rattle.sw_macro.specs.Table.{no_macros}
 use Rattle.sw_session.specs.CoreDesk.{DeskSeen, CorePasses, Rests, desk_over}
-use Rattle.sw_session.specs.Talk.{Talked}
+use Rattle.sw_session.specs.Talk.{state, Talked}
+use Rattle.sw_session.specs.Talk.{State as StateOver}
 use Rattle.mainframe.specs.declared.fault.RunFault.{RunFault}
 use Rattle.mainframe.specs.declared.fault.RunFault.TheVariants.{Input, Output, Memory}
 use Rattle.mainframe.specs.Cards.{Fitted}
 use Rattle.mainframe.specs.Lines.{lines_of, WritesPart}
 
--- where a run stands: its desk, and the macros of its session
-pub record State : Type 0 where
-  pub desk : DeskSeen
-  pub macros : Table
-
-abbrev pub state : DeskSeen → Table → State
-state desk macros = record { desk = desk; macros = macros }
+-- where a run stands
+abbrev pub State : Type 0
+State = StateOver DeskSeen
 
 -- a run begins over this mainframe with nothing outstanding, no macro, and macros off
 abbrev pub begins_over : Panel → State
@@ -55,7 +52,7 @@ pub record IsSetUp (cards : Fitted) (sid : Sid) (panel : Panel) : Type 0 where
 -- one line is talked over and answered by these bytes, and then all that is outstanding is carried out
 pub record Line (sid : Sid) (old : State) (line told : List ℕ) (new : State) : Type 0 where
   pub spoken : DeskSeen
-  pub talked : Talked CorePasses old.desk spoken sid old.macros line told new.macros
+  pub talked : Talked CorePasses sid old line told (state spoken new.macros)
   pub rests : Rests spoken true new.desk
 
 -- these lines, one after another, are answered by these bytes; the macros of one are those of the next

@@ -1,5 +1,5 @@
 -- When a source is asked for bytes, and what is written by then.
-use Rattle.std.specs.Prelude.{◌≡◌, ℕ, zero, suc, ◌+◌, ◌^◌, false, List, [], ◌∷◌, Option, IfSome, ◌⊎◌}
+use Rattle.std.specs.Prelude.{◌≡◌, ℕ, zero, suc, ◌+◌, false, List, [], ◌∷◌, Option, IfSome, ◌⊎◌}
 use Rattle.std.specs.Io.KnownBytes.{Appends}
 use Rattle.std.specs.Io.BufRead.{take_through, DropsThrough}
 use Rattle.sw_core.specs.declared.ask.Sid.{Sid}
@@ -28,10 +28,6 @@ pub record Stand (S W : Type 0) : Type 0 where
 
 abbrev pub stand : {S W : Type 0} → State → S → W → ℕ → Stand S W
 stand state source writer turns = record { state = state; source = source; writer = writer; turns = turns }
-
--- how often a source is asked for bytes at most
-abbrev pub most_turns : ℕ
-most_turns = 2 ^ 32
 
 -- One line is taken while the writer has the answers so far, then it is talked over, and then its answer is written.
 pub record TakesTurn {S W : Type 0} (remaining : S → Option (List ℕ)) (asked : S → W → S → Type 0)

@@ -36,7 +36,7 @@ struct Judgement {
 }
 
 /// Reads a listing to its end and writes what the verifier says of it, against the program's cards with nothing closed
-/// and room for 100,000 readings: `ok bound B readings R`, `refused N Name` or `line L: Name`, and a line feed.
+/// and room for `POINTS` readings: `ok bound B readings R`, `refused N Name` or `line L: Name`, and a line feed.
 ///
 /// At a fault of the reader, or where memory runs out, nothing is written; at a fault of the writer a front part is.
 pub fn check_listing<Rd: Read, W: Write>(

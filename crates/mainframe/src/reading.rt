@@ -7,9 +7,10 @@ ghost use Rattle.mainframe.specs.Turns.{Spends, FailsAfter};
 
 use crate::fault::RunFault;
 use std::io::{BufRead, ErrorKind};
+use sw_base::MESSAGE_BYTES;
 
 /// How many bytes of a line are kept at most: the longest message, its line feed, and one byte.
-const MOST_KEPT: usize = 65_538;
+const MOST_KEPT: usize = MESSAGE_BYTES + 2;
 
 /// What lines are read from, in sight of what was written by then.
 pub trait Source<W> {
@@ -65,8 +66,8 @@ impl<Rd: BufRead, W> Source<W> for Rd {
     }
 }
 
-/// Takes the first line with its line feed from the source, and keeps it, or its first 65,538 bytes where it is longer.
-/// Nothing is kept where the input is at its end. Each time that the source is asked for bytes spends a turn.
+/// Takes the first line with its line feed from the source, and keeps it, or its first `MOST_KEPT` bytes where it is
+/// longer. Nothing is kept where the input is at its end. Each time that the source is asked for bytes spends a turn.
 pub fn read_line<S: Source<W>, W>(
     source: &mut S,
     written: &W,

@@ -7,8 +7,9 @@ ghost use Rattle.sw_card.specs.Account.{relay_account, of_meter};
 ghost use Rattle.sw_core.specs.Panel.{opening};
 ghost use Rattle.mainframe.specs.Cards.{fitted, program_cards};
 ghost use Rattle.sw_macro.specs.Table.{no_macros};
-ghost use Rattle.mainframe.specs.Turns.{AsksInTurn, FailsAfter, IsInVain, most_turns, stand};
-ghost use Rattle.mainframe.specs.Run.{state, IsSetUp, Joins, Stepped, AnsweredFrom, EndsFrom, Runs};
+ghost use Rattle.mainframe.specs.Turns.{AsksInTurn, FailsAfter, IsInVain, stand};
+ghost use Rattle.sw_session.specs.Talk.{state, turns};
+ghost use Rattle.mainframe.specs.Run.{IsSetUp, Joins, Stepped, AnsweredFrom, EndsFrom, Runs};
 
 use crate::cards::{first_card, meter_card, second_card, third_card};
 use crate::fault::RunFault;
@@ -18,10 +19,7 @@ use std::alloc::{AllocError, Global};
 use std::io::{BufRead, Write};
 use sw_card::{Card, Meter, Relay};
 use sw_core::{Answer, Ask, Core, SessionAnswer, SessionAsk, Sid};
-use sw_session::{CoreDesk, Talker};
-
-/// How often the source is asked for bytes at most.
-const TURNS: u64 = 1 << 32;
+use sw_session::{CoreDesk, TURNS, Talker};
 
 /// Answers each line of the reader as a program message, by the program's cards: a multiplexer of 20 channels in group
 /// 1, a matrix of 16, a multiplexer of 10 in group 1 and a meter. `fuse` says which closing of slot 1 fails, from 1.
@@ -141,7 +139,7 @@ pub fn run_on<R: Relay, M: Meter, S: Source<W>, W: Write>(
         (W.contents writer.old) (W.contents writer.new))) }
     ensures turns { (left : ℕ)
         × AsksInTurn S.remaining S.asked W.contents sid
-        (stand (state desk.old no_macros) source.old writer.old most_turns) left source.new
+        (stand (state desk.old no_macros) source.old writer.old turns) left source.new
         × (result ≡ Err RunFault.Input → FailsAfter S.failed left source.new ⊎ IsInVain desk.new) }
 {
     let mut talker = Talker::new(alloc, sid);

@@ -241,9 +241,10 @@ same-run once d d' q q' b b' (e ∷ t) (e' ∷ t') (mid, (cs, p), l) (mid', (cs'
     (cc (one.0, rest.0), rest.1, rest.2)
 
 pub core-talk-determined : StepIsDetermined → TalkIsDetermined → CoreTalkIsDetermined
-core-talk-determined once talk sid d e e' macros kept kept' message bytes bytes' t t' ample ample' smooth smooth' outcomes =
-    let one = same-run once d d e e' (left bytes kept) (left bytes' kept') t.trace t'.trace t.leads t'.leads refl smooth smooth' outcomes
-    (talk sid macros (strip_last 10 message) t.trace t'.trace bytes bytes' kept kept' t.talks t'.talks ample ample') in
+core-talk-determined once talk sid old new new' message bytes bytes' t t' ample ample' smooth smooth' outcomes =
+    let one = same-run once old.desk old.desk new.desk new'.desk (left bytes new.macros) (left bytes' new'.macros) t.trace t'.trace t.leads t'.leads
+    refl smooth smooth' outcomes
+    (talk sid old.macros (strip_last 10 message) t.trace t'.trace bytes bytes' new.macros new'.macros t.talks t'.talks ample ample') in
     (one.0, ap (λ (x : Left). x.bytes) one.1, ap (λ (x : Left). x.macros) one.1, one.2)
 
 -- two rests wait alike until one is over

@@ -4,6 +4,7 @@ use Rattle.std.proofs.Common.{sym, ◌∙◌, subst}
 use Rattle.std.specs.Prelude.{◌==◌, nat_lt, slice_index_or, ◌-◌, ◌<◌, ◌⊎◌}
 use Rattle.std.proofs.Common.{⊎_elim}
 use Rattle.std.proofs.lemmas.Bool.{cases_order}
+use Rattle.sw_base.specs.Limits.{most_bytes}
 use Rattle.sw_base.specs.declared.error.ScpiError.{ScpiError}
 use Rattle.sw_base.specs.declared.error.ScpiError.TheVariants.{SettingsConflict, OutOfMemory, InputBufferOverrun}
 use Rattle.sw_lex.specs.declared.command.Command.{Command}
@@ -31,7 +32,7 @@ use Rattle.sw_session.specs.Script.{Ending, Complete, Refuses, Unread, IsScript}
 use Rattle.sw_session.specs.Macros.{Told}
 use Rattle.sw_session.specs.Talk.{Queues, Settles, Begins, BeginsBy, Begun, begun, effect_of, Reports, StartsScan, Plans, table_reset, Concludes, Serves}
 use Rattle.sw_session.specs.Talk.{Standing, standing, Proceeds, Way, Talks, Itself, Unfolds, IsExpansion, Expanded, TalksUnits, Overruns, queued, after_of}
-use Rattle.sw_session.specs.Talk.{has_answers, written, longest, turns}
+use Rattle.sw_session.specs.Talk.{has_answers, written, turns}
 use Rattle.sw_session.specs.Law.{IsAmple, AllAmple, SameTalk, left, TalkIsDetermined}
 use Rattle.sw_session.proofs.Acted.{acts-same, written_so}
 
@@ -492,7 +493,7 @@ pub talk-determined : ReadsOnce → TalkIsDetermined
 talk-determined reads sid macros text t t' bytes bytes' kept kept' p q =
     let b = left bytes kept in
     let b' = left bytes' kept' in
-    either-way (nat_lt longest (length text)) (Overruns sid t bytes × (kept ≡ macros)) (TalksUnits sid macros text t bytes kept) (Overruns sid t' bytes'
+    either-way (nat_lt most_bytes (length text)) (Overruns sid t bytes × (kept ≡ macros)) (TalksUnits sid macros text t bytes kept) (Overruns sid t' bytes'
     × (kept' ≡ macros)) (TalksUnits sid macros text t' bytes' kept') p q
     (λ o o'. queues-same b b' sid InputBufferOverrun t t' [] [] o.0.0 o'.0.0 o.0.1 o'.0.1 (λ same.
     nothing-left b b' (left-same bytes bytes' kept kept' (o.0.2 ∙ sym o'.0.2) (o.1 ∙ sym o'.1))))

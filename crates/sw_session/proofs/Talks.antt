@@ -5,6 +5,7 @@ use Rattle.std.specs.Prelude.{◌==◌, nat_lt, ◌⊎◌}
 use Rattle.std.specs.Io.BufRead.{strip_last}
 use Rattle.std.proofs.lemmas.List.{append-nil}
 use Rattle.std.proofs.lemmas.Bool.Decides.{nat_tests}
+use Rattle.sw_base.specs.Limits.{most_bytes}
 use Rattle.sw_base.specs.declared.error.ScpiError.{ScpiError}
 use Rattle.sw_base.specs.declared.error.ScpiError.TheVariants.{SettingsConflict, OutOfMemory, InputBufferOverrun}
 use Rattle.sw_lex.specs.declared.command.Command.{Command}
@@ -23,7 +24,7 @@ use Rattle.sw_session.specs.Trace.{Entry, Asked, Waited, Led}
 use Rattle.sw_session.specs.Script.{Ending, Complete, Refuses, Unread, IsScript}
 use Rattle.sw_session.specs.Talk.{Queues, Settles, Begins, begun, Concludes, Serves, Standing, standing, Proceeds, Way, Talks, Itself, Unfolds, IsExpansion}
 use Rattle.sw_session.specs.Talk.{Expanded, TalksUnits, TalksMessage, Talked, Overruns, Spot, stands_at, OnLine, TalksLine, has_answers, line_of, written}
-use Rattle.sw_session.specs.Talk.{longest, turns}
+use Rattle.sw_session.specs.Talk.{state, turns}
 use Rattle.sw_session.proofs.Led.{led-none, led-so, led-more, led-then}
 
 -- an ask that was held turn times is asked, or given up
@@ -244,13 +245,13 @@ expanded-fault passes a b sid u e after is x on =
 -- a message that isn't too long, over a trace after which nothing is left
 pub talked-units : {D : Type 0} (passes : D → Entry → D
     → Type 0) (old new : D) (sid : Sid) (macros macros' : Table) (message text bytes : List ℕ) (units : List UnitView)
-    (ending : Ending) (after : After) (path : Nodes) (answers : List (List ℕ)) → text ≡ strip_last 10 message → length text ≤ longest
+    (ending : Ending) (after : After) (path : Nodes) (answers : List (List ℕ)) → text ≡ strip_last 10 message → length text ≤ most_bytes
     → IsScript text units ending
     → bytes ≡ written after answers
     → Led passes old new (λ t rest. Talks (Expanded sid) sid units ending (standing [] macros [] t) after (standing path macros' answers rest))
-    → Talked passes old new sid macros message bytes macros'
+    → Talked passes sid (state old macros) message bytes (state new macros')
 talked-units passes old new sid macros macros' message text bytes units ending after path answers is few script writes led =
-    let short : nat_lt longest (length text) ≡ false = grind (arith, nat_tests) in
+    let short : nat_lt most_bytes (length text) ≡ false = grind (arith, nat_tests) in
     let talk : TalksUnits sid macros text led.trace bytes macros' = record {
       units = units;
       ending = ending;
@@ -274,11 +275,11 @@ talked-units passes old new sid macros macros' message text bytes units ending a
 -- a message that is too long
 pub talked-overrun : {D : Type 0} (passes : D → Entry → D
     → Type 0) (old new : D) (sid : Sid) (macros macros' : Table) (message text bytes : List ℕ) (final : SessionAnswer) → text ≡ strip_last 10 message
-    → longest < length text
+    → most_bytes < length text
     → bytes ≡ [] → macros' ≡ macros → Led passes old new (λ t rest. Queues sid InputBufferOverrun t final rest)
-    → Talked passes old new sid macros message bytes macros'
+    → Talked passes sid (state old macros) message bytes (state new macros')
 talked-overrun passes old new sid macros macros' message text bytes final is much writes kept led =
-    let long : nat_lt longest (length text) ≡ true = grind (arith, nat_tests) in
+    let long : nat_lt most_bytes (length text) ≡ true = grind (arith, nat_tests) in
     let over : Overruns sid led.trace bytes =
     (final, subst (λ (t : List Entry). Queues sid InputBufferOverrun t final []) (append-nil led.trace) (led.admits []), writes) in
     let all : TalksMessage sid macros text led.trace bytes macros' =

@@ -1,16 +1,17 @@
 -- For which sessions a message is available (IEEE 488.2, 11.2.1.2), as they noted it.
 use Rattle.std.specs.Prelude.{ℕ, ◌-◌, ◌==◌, ◌&&◌, Bool, true, false, nat_le, List, Option, Some, None, replicate}
 use Rattle.std.specs.Prelude.{slice_set, if◌then◌else◌}
+use Rattle.sw_base.specs.Limits.{most_sessions}
 use Rattle.sw_base.specs.Layout.{slot_at}
 use Rattle.sw_core.specs.declared.ask.Sid.{Sid}
 
--- For each of the sixteen session numbers, from 1 on: the session of that number for which a message is available, by
--- the number of events after its Join.
+-- For each session number, from 1 on: the session of that number for which a message is available, by the number of
+-- events after its Join.
 abbrev pub Notes : Type 0
 Notes = List (Option ℕ)
 
 abbrev pub no_notes : Notes
-no_notes = replicate 16 None
+no_notes = replicate most_sessions None
 
 -- it is that of the session that joined after so many events
 abbrev pub is_of : ℕ → Option ℕ → Bool
@@ -23,7 +24,7 @@ is_available notes sid = is_of sid.joined (slot_at notes sid.number)
 
 -- a session's number
 abbrev pub is_number : ℕ → Bool
-is_number number = nat_le 1 number && nat_le number 16
+is_number number = nat_le 1 number && nat_le number most_sessions
 
 -- That a message is available takes the place of what was noted under the number; that none is, is noted of the session
 -- itself alone.

@@ -15,7 +15,7 @@ use Rattle.sw_macro.specs.Table.{Table}
 use Rattle.sw_session.specs.CoreDesk.{DeskSeen, Carried, PassesBy, CorePasses, Rests, last_wait}
 use Rattle.sw_session.specs.declared.desk.Wake.TheVariants.{Again}
 use Rattle.sw_session.specs.Trace.{Entry, Asked, Waited, Polled, Noted, Leads}
-use Rattle.sw_session.specs.Talk.{Talked, TalksMessage}
+use Rattle.sw_session.specs.Talk.{State, Talked, TalksMessage}
 
 -- the talker had memory: it queued no error for want of it
 abbrev pub IsAmple : Entry → Type 0
@@ -111,24 +111,24 @@ outcomes_of old (e ∷ trace) new (mid, passes, l) =
     outcomes_by passes.0 old e mid passes.1 ++ outcomes_of mid trace new l
 
 -- the pieces that were carried out in a talk, and its outcomes
-abbrev pub carried_in : {old new : DeskSeen} {sid : Sid} {macros macros' : Table} {message bytes : List ℕ}
-    → Talked CorePasses old new sid macros message bytes macros' → List (List Carried)
-carried_in {old} {new} t = carried_of old t.trace new t.leads
+abbrev pub carried_in : {old new : State DeskSeen} {sid : Sid} {message bytes : List ℕ}
+    → Talked CorePasses sid old message bytes new → List (List Carried)
+carried_in {old} {new} t = carried_of old.desk t.trace new.desk t.leads
 
-abbrev pub outcomes_in_talk : {old new : DeskSeen} {sid : Sid} {macros macros' : Table} {message bytes : List ℕ}
-    → Talked CorePasses old new sid macros message bytes macros' → List Outcome
-outcomes_in_talk {old} {new} t = outcomes_of old t.trace new t.leads
+abbrev pub outcomes_in_talk : {old new : State DeskSeen} {sid : Sid} {message bytes : List ℕ}
+    → Talked CorePasses sid old message bytes new → List Outcome
+outcomes_in_talk {old} {new} t = outcomes_of old.desk t.trace new.desk t.leads
 
 -- Over a mainframe the message, the macros, the outcomes of the measurements that are carried out and what came of the
 -- cards determine what is asked, answered and written, the desk that is left and the macros, where no growth was
 -- refused.
 abbrev pub CoreTalkIsDetermined : Type 0
-CoreTalkIsDetermined = (sid : Sid) (d e e' : DeskSeen) (macros kept kept' : Table) (message bytes bytes' : List ℕ)
-    (t : Talked CorePasses d e sid macros message bytes kept)
-    (t' : Talked CorePasses d e' sid macros message bytes' kept') → AllAmple t.trace → AllAmple t'.trace
+CoreTalkIsDetermined = (sid : Sid) (old new new' : State DeskSeen) (message bytes bytes' : List ℕ)
+    (t : Talked CorePasses sid old message bytes new)
+    (t' : Talked CorePasses sid old message bytes' new') → AllAmple t.trace → AllAmple t'.trace
     → AllSmooth t.trace (carried_in t) → AllSmooth t'.trace (carried_in t')
     → outcomes_in_talk t ≡ outcomes_in_talk t' → (t.trace ≡ t'.trace) × (bytes ≡ bytes')
-    × (kept ≡ kept') × (e ≡ e')
+    × (new.macros ≡ new'.macros) × (new.desk ≡ new'.desk)
 
 -- the calls of a rest that succeeds, the pieces that were carried out in them, and their outcomes
 abbrev pub waits_of : {old new : DeskSeen} → Rests old true new → List Entry

@@ -1,6 +1,7 @@
 -- What is asked after each answer, and what is written (IEEE 488.2, 6.3, 8.4 and 10.7; SCPI-1999, 21.8).
 use Rattle.std.specs.Prelude.{◌≡◌, ℕ, ◌+◌, ◌^◌, ◌⊎◌, ◌==◌, Bool, true, false, nat_lt, nat_le, ◌&&◌, MatchBool, List, []}
 use Rattle.std.specs.Prelude.{◌∷◌, ◌++◌, Some, None, Result, Ok, Err, length, if◌then◌else◌}
+use Rattle.sw_base.specs.Limits.{most_bytes}
 use Rattle.sw_base.specs.declared.error.ScpiError.{ScpiError}
 use Rattle.sw_base.specs.declared.error.ScpiError.TheVariants.{SettingsConflict, OutOfMemory, InputBufferOverrun}
 use Rattle.sw_base.specs.Errors.{number_of}
@@ -27,7 +28,7 @@ use Rattle.sw_session.specs.Trace.{Entry, Asked, Waited, Leads, Led}
 use Rattle.sw_session.specs.Script.{Ending, Complete, Refuses, Unread, IsScript}
 use Rattle.sw_session.specs.Macros.{Told, Acts}
 
--- how often a held ask is asked
+-- turns of a loop that the world keeps going: a held ask is asked again, a source of lines is asked for bytes
 abbrev pub turns : ℕ
 turns = 2 ^ 32
 
@@ -218,10 +219,6 @@ written Goes answers = line_of answers
 written Drops answers = line_of answers
 written Ends answers = []
 
--- the longest message that is taken
-abbrev pub longest : ℕ
-longest = 65536
-
 -- a message that is too long is dropped whole
 abbrev pub Overruns : Sid → List Entry → List ℕ → Type 0
 Overruns sid trace bytes = (final : SessionAnswer) × Queues sid InputBufferOverrun trace final [] × (bytes ≡ [])
@@ -242,17 +239,25 @@ pub record TalksUnits (sid : Sid) (macros : Table) (text : List ℕ) (trace : Li
 -- the talk about a message without its line feed, from these macros to those after it
 abbrev pub TalksMessage : Sid → Table → List ℕ → List Entry → List ℕ → Table → Type 0
 TalksMessage sid macros text trace bytes macros' =
-    MatchBool (nat_lt longest (length text))
+    MatchBool (nat_lt most_bytes (length text))
     (Overruns sid trace bytes × (macros' ≡ macros))
     (TalksUnits sid macros text trace bytes macros')
 
--- A message of a session with these macros is talked over with a desk that goes from old to new, these bytes are
--- written, and the session has those macros then. One line feed at the message's end is dropped.
-pub record Talked {D : Type 0} (passes : D → Entry → D → Type 0) (old new : D) (sid : Sid) (macros : Table)
-    (message bytes : List ℕ) (macros' : Table) : Type 0 where
+-- where a session stands between two messages: its desk, and its macros
+pub record State (D : Type 0) : Type 0 where
+  pub desk : D
+  pub macros : Table
+
+abbrev pub state : {D : Type 0} → D → Table → State D
+state desk macros = record { desk = desk; macros = macros }
+
+-- A message of a session is talked over, from one state to another, and these bytes are written. One line feed at the
+-- message's end is dropped.
+pub record Talked {D : Type 0} (passes : D → Entry → D → Type 0) (sid : Sid) (old : State D)
+    (message bytes : List ℕ) (new : State D) : Type 0 where
   pub trace : List Entry
-  pub leads : Leads passes old trace new
-  pub talks : TalksMessage sid macros (strip_last 10 message) trace bytes macros'
+  pub leads : Leads passes old.desk trace new.desk
+  pub talks : TalksMessage sid old.macros (strip_last 10 message) trace bytes new.macros
 
 -- The clauses of the talker's parts.
 

@@ -14,8 +14,9 @@ use sw_lex::Command;
 use sw_macro::Macros;
 use sw_verify::Plan;
 
-/// How often a held ask is asked.
-const TURNS: u64 = 1 << 32;
+/// How many turns a loop takes at most while the world keeps it going: a held ask is asked again, a source of lines is
+/// asked for bytes.
+pub const TURNS: u64 = 1 << 32;
 
 /// Begins a unit that is this command or error: a command is carried out, an error queued. `answered` says whether the
 /// message has answered before.

@@ -23,6 +23,7 @@ mod line;
 mod macros;
 mod talker;
 
+pub use asking::TURNS;
 pub use core_desk::CoreDesk;
 pub use desk::{Desk, View, Wake};
 pub use laws::{

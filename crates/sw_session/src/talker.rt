@@ -5,21 +5,18 @@ ghost use Rattle.std.specs.Io.BufRead.{strip_last};
 ghost use Rattle.sw_lex.specs.Unit.{unit_of};
 ghost use Rattle.sw_lex.specs.Meaning.{Nodes, path_of};
 ghost use Rattle.sw_macro.specs.Table.{no_macros};
-ghost use Rattle.sw_session.specs.Talk.{Talked, TalksLine, OnLine, Itself, Expanded, Serves, ConcludesLine, spot};
-ghost use Rattle.sw_session.specs.Talk.{written_at, after_of, is_command_error, TellsAnswered};
+ghost use Rattle.sw_session.specs.Talk.{Talked, TalksLine, OnLine, Itself, Expanded, Serves, ConcludesLine};
+ghost use Rattle.sw_session.specs.Talk.{state, spot, written_at, after_of, is_command_error, TellsAnswered};
 
 use crate::asking::{begin, queue};
 use crate::desk::Desk;
 use crate::line::join;
 use std::alloc::Global;
 use std::mem::replace;
-use sw_base::ScpiError;
+use sw_base::{MESSAGE_BYTES, ScpiError};
 use sw_core::{SessionAnswer, Sid};
 use sw_lex::{Command, Path, RawUnit, next_unit, resolve};
 use sw_macro::Macros;
-
-/// The longest message that is taken, in bytes without the line feed at its end.
-const LONGEST: usize = 65_536;
 
 /// What a session keeps for its messages.
 #[derive(Drop)]
@@ -45,18 +42,18 @@ impl Talker {
     /// Talks over one program message: asks its commands, one unit after another, and gives the answers, joined by
     /// semicolons and ended by a line feed, or nothing (IEEE 488.2, 6.3 and 8.4).
     ///
-    /// One line feed at the message's end is dropped. A message of more than 65,536 bytes is dropped whole, with error
-    /// -363. A unit that calls a macro is replaced by its expansion, whose units are final. An error from -100 to -199
-    /// drops the rest of the message, any other its unit alone. Where the desk answers that the session is being
-    /// cleared, is joined no more, or that nothing more can be numbered, nothing is written. An answer or an expansion
-    /// that finds no memory is dropped, with error -225.
+    /// One line feed at the message's end is dropped. A message of more than `MESSAGE_BYTES` without it is dropped
+    /// whole, with error -363. A unit that calls a macro is replaced by its expansion, whose units are final. An error
+    /// from -100 to -199 drops the rest of the message, any other its unit alone. Where the desk answers that the
+    /// session is being cleared, is joined no more, or that nothing more can be numbered, nothing is written. An answer
+    /// or an expansion that finds no memory is dropped, with error -225.
     pub fn message<D: Desk>(&mut self, text: &[u8], desk: &mut D) -> Vec<u8>
-        ensures talked { Talked D.passes desk.old desk.new self.old.sid self.old.macros
-            text.now result.items self.new.macros }
+        ensures talked { Talked D.passes self.old.sid (state desk.old self.old.macros)
+            text.now result.items (state desk.new self.new.macros) }
         ensures same { self.new.sid ≡ self.old.sid }
     {
         let text = without_line_feed(text);
-        if text.len() > LONGEST {
+        if text.len() > MESSAGE_BYTES {
             drop(queue(desk, self.sid, ScpiError::InputBufferOverrun));
             return Vec::new(self.alloc);
         }

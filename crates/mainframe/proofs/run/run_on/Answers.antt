@@ -4,11 +4,12 @@ use Rattle.std.proofs.lemmas.Bool.{eqb-false}
 use Rattle.std.specs.Io.KnownBytes.{Appends}
 use Rattle.sw_macro.specs.Table.{Table, no_macros}
 use Rattle.sw_session.specs.CoreDesk.{Rests}
-use Rattle.mainframe.specs.Run.{EndsFrom, Line, state}
+use Rattle.sw_session.specs.Talk.{state, turns}
+use Rattle.mainframe.specs.Run.{EndsFrom, Line}
 use Rattle.mainframe.specs.declared.fault.RunFault.{RunFault}
 use Rattle.mainframe.specs.declared.fault.RunFault.TheVariants.{Input, Output}
 use Rattle.mainframe.specs.Lines.{WritesPart}
-use Rattle.mainframe.specs.Turns.{stand, most_turns}
+use Rattle.mainframe.specs.Turns.{stand}
 use Rattle.mainframe.proofs.Known.{appends-nothing}
 use Rattle.mainframe.proofs.TurnLemmas.{spends-none, takes-push, line_taken}
 use Rattle.mainframe.proofs.Runs.{Progress, progress-start, progress-end, progress-part, progress-all, progress-line, progress-cut, progress-stopped}
@@ -24,7 +25,7 @@ loop-turns-init g c = record {
       (sym c.new-talker.ensures.macros)
       (progress-start c.args.sid (state c.args.desk.now no_macros) (g.S.Source.remaining c.args.source.now) (g.W.Write.contents c.args.writer.now)
       (appends-nothing (g.W.Write.contents c.args.writer.now)));
-  in_turn = ([], ap (λ (t : Table). stand (state c.args.desk.now t) c.args.source.now c.args.writer.now most_turns) c.new-talker.ensures.macros);
+  in_turn = ([], ap (λ (t : Table). stand (state c.args.desk.now t) c.args.source.now c.args.writer.now turns) c.new-talker.ensures.macros);
 }
 
 pub returns-then-is_empty-clause-ok : goal.returns-then-is_empty-clause-ok

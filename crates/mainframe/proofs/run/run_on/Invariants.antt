@@ -1,7 +1,7 @@
 use Rattle.std.specs.Prelude.{◌≡◌, ℕ, List}
 use Rattle.sw_macro.specs.Table.{no_macros}
-use Rattle.mainframe.specs.Run.{state}
-use Rattle.mainframe.specs.Turns.{stand, most_turns, TakesTurns}
+use Rattle.sw_session.specs.Talk.{state, turns}
+use Rattle.mainframe.specs.Turns.{stand, TakesTurns}
 use Rattle.mainframe.proofs.Runs.{Progress}
 use Rattle.mainframe.proofs.run.run_on.Given as goal
 
@@ -11,7 +11,7 @@ invariant-loop-turns g l = record {
   so_far : Progress l.fn.sid (state l.fn.desk no_macros) (g.S.Source.remaining l.fn.source) (g.S.Source.remaining l.source) (g.W.Write.contents l.fn.writer)
       (g.W.Write.contents l.writer) (state l.desk l.talker.macros);
   in_turn : (lines : List (List ℕ))
-      × TakesTurns g.S.Source.remaining g.S.Source.asked g.W.Write.contents l.fn.sid (stand (state l.fn.desk no_macros) l.fn.source l.fn.writer most_turns)
+      × TakesTurns g.S.Source.remaining g.S.Source.asked g.W.Write.contents l.fn.sid (stand (state l.fn.desk no_macros) l.fn.source l.fn.writer turns)
       lines (stand (state l.desk l.talker.macros) l.source l.writer l.turns);
 }
 
