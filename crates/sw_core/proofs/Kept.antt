@@ -2,6 +2,7 @@
 use Rattle.std.proofs.Common.{◌≡◌, ℕ, ◌+◌, ◌-◌, ◌<◌, ◌≤◌, true, false, List, [], ◌∷◌, ◌++◌, length, take, drop, map, Option, None, Some, Result, Ok, Err}
 use Rattle.std.proofs.Common.{slice_set, refl, sym, ◌∙◌, ap, subst, arith, is_some, inl, inr, ◌⊎◌}
 use Rattle.sw_base.specs.Layout.{Channel, Layout, slot_at, bay_has, IsClash, IsExclusive}
+use Rattle.sw_base.specs.Limits.{most_slots, most_channels}
 use Rattle.sw_base.specs.declared.reading.Reading.{Reading}
 use Rattle.sw_card.specs.declared.board.CardFault.{CardFault}
 use Rattle.sw_card.specs.Account.{Account, of_meter, is_meter}
@@ -59,7 +60,7 @@ option_few None (Some b) e h = absurd (cc (e))
 option_few (Some a) (Some b) e h =
     let groups : b.groups ≡ a.groups = ap (λ (x : Option Account). groups_in x) e in
     let last : b.last ≡ a.last = ap (λ (x : Option Account). last_in x) e in
-    λ (m : is_meter b ≡ false). subst (λ (g : List ℕ). length g ≤ 99) (sym groups) (h (ap (λ l. is_some l) (sym last) ∙ m))
+    λ (m : is_meter b ≡ false). subst (λ (g : List ℕ). length g ≤ most_channels) (sym groups) (h (ap (λ l. is_some l) (sym last) ∙ m))
 
 few_plates : (old new : Accounts) → map identity new ≡ map identity old → IsFew old → IsFew new
 few_plates old new e h s =
@@ -143,7 +144,7 @@ safe_lands c q s i told k l spot =
     let safe : IsExclusive (layout_of l.cards) (is_closed l.cards) = exclusive_moved c s i l.cards k.held k.go k.safe l.moved in
     let plates = identities_rest c.cards l.cards l.moved.rest in
     let few : IsFew l.cards = few_plates c.cards l.cards plates k.few in
-    let size : length l.cards ≡ 8 = (stays_identities c.cards l.cards plates).size ∙ k.held.slots in
+    let size : length l.cards ≡ most_slots = (stays_identities c.cards l.cards plates).size ∙ k.held.slots in
     elim spot [
       | inl e ↦ (subst (λ (r : Accounts). IsExclusive (layout_of r) (is_closed r)) (sym e) safe, subst (λ (r : Accounts). IsFew r) (sym e) few)
       | inr e ↦ (
@@ -199,17 +200,17 @@ kept_past c q h told k t g = kept_past_at c q c.scan h told k refl t g
 
 -- ---- meters that return
 
-back_few : (c : CageSeen) (done : FinishedSeen) → IsKept c → (1 ≤ done.slot) × (done.slot ≤ 8) → IsFew (with_back c done).cards
+back_few : (c : CageSeen) (done : FinishedSeen) → IsKept c → (1 ≤ done.slot) × (done.slot ≤ most_slots) → IsFew (with_back c done).cards
 back_few c done k b =
     few_set c.cards done.slot (Some (of_meter done.meter)) (omega (arith, b.0)) (omega (arith, b.1, k.good.held.slots)) (λ m. absurd (cc (m))) k.few
 
-back_safe : (c : CageSeen) (done : FinishedSeen) → IsKept c → (1 ≤ done.slot) × (done.slot ≤ 8)
+back_safe : (c : CageSeen) (done : FinishedSeen) → IsKept c → (1 ≤ done.slot) × (done.slot ≤ most_slots)
     → IsExclusive (layout_of (with_back c done).cards) (is_closed (with_back c done).cards)
 back_safe c done k b =
     exclusive_quiet c.cards done.slot (Some (of_meter done.meter)) (omega (arith, b.0)) (omega (arith, b.1, k.good.held.slots)) (λ n.
     meter_open done.meter n) k.safe
 
-slot_of : (c : CageSeen) (done : FinishedSeen) → IsKept c → slot_at c.out done.slot ≡ Some done.ticket → (1 ≤ done.slot) × (done.slot ≤ 8)
+slot_of : (c : CageSeen) (done : FinishedSeen) → IsKept c → slot_at c.out done.slot ≡ Some done.ticket → (1 ≤ done.slot) × (done.slot ≤ most_slots)
 slot_of c done k e = out_slot c c done.slot done.slot done.ticket k.good.held refl refl e
 
 room_any : (c : CageSeen) → IsGood c → (room : ℕ) × HasKept c room
@@ -257,17 +258,17 @@ kept_counted c q done told k out t h = kept_counted_at c q c.scan done done.outc
 
 -- ---- a scan begins
 
-few_bounds : (o : Option Account) (ch : ℕ) → OptionFew o → bay_has (slot_contents o) ch ≡ true → (1 ≤ ch) × (ch ≤ 99)
+few_bounds : (o : Option Account) (ch : ℕ) → OptionFew o → bay_has (slot_contents o) ch ≡ true → (1 ≤ ch) × (ch ≤ most_channels)
 few_bounds None ch r h = absurd (cc)
 few_bounds (Some a) ch r h = let b : (0 < ch)
-    × ((is_meter a ≡ false) × (ch ≤ length a.groups)) = has_bounds a ch h in let f : length a.groups ≤ 99 = r b.1.0 in
+    × ((is_meter a ≡ false) × (ch ≤ length a.groups)) = has_bounds a ch h in let f : length a.groups ≤ most_channels = r b.1.0 in
     (omega (arith, b.0), omega (arith, b.1.1, f))
 
-pub inside : (c : CageSeen) → IsKept c → (x : Channel) → is_closed c.cards x ≡ true → (1 ≤ x.0) × (x.0 ≤ 8) × (1 ≤ x.1) × (x.1 ≤ 99)
+pub inside : (c : CageSeen) → IsKept c → (x : Channel) → is_closed c.cards x ≡ true → (1 ≤ x.0) × (x.0 ≤ most_slots) × (1 ≤ x.1) × (x.1 ≤ most_channels)
 inside c k x h =
     let present = k.safe.present x h in
     let slot : (0 < x.0) × (x.0 ≤ length c.cards) = present_slot c.cards x present in
-    let ch : (1 ≤ x.1) × (x.1 ≤ 99) = few_bounds (slot_at c.cards x.0) x.1 (k.few x.0) (sym (present_at c.cards x) ∙ present) in
+    let ch : (1 ≤ x.1) × (x.1 ≤ most_channels) = few_bounds (slot_at c.cards x.0) x.1 (k.few x.0) (sym (present_at c.cards x) ∙ present) in
     (omega (arith, slot.0), omega (arith, slot.1, k.good.held.slots), ch.0, ch.1)
 
 pub kept_begun : (c q : CageSeen) (s : Setup) (plan : Snapshot) (told : TakenSeen) → IsKept c → slot_at c.out s.meter ≡ None → IsInRange s → IsReady plan

@@ -6,6 +6,7 @@ use Rattle.std.specs.List.{join_with_byte}
 use Rattle.sw_base.specs.Reading.{reading_text}
 use Rattle.std.proofs.lemmas.List.{length-map}
 use Rattle.sw_base.specs.Layout.{Channel, slot_at}
+use Rattle.sw_base.specs.Limits.{most_slots}
 use Rattle.sw_base.specs.declared.reading.Reading.{Reading}
 use Rattle.sw_base.specs.declared.error.ScpiError.{ScpiError}
 use Rattle.sw_base.specs.declared.error.ScpiError.TheVariants.{UndefinedHeader, DataCorruptOrStale}
@@ -368,7 +369,7 @@ session_fine (Some sid) p ask f a w q k h = admitted_fine (drops p sid ask) (shu
 
 -- ---- cards
 
-slot_fine : (c : CageSeen) (s : ℕ) (v : Option Account) → IsKept c → c.scan ≡ None → slot_at c.out s ≡ None → 1 ≤ s → s ≤ 8
+slot_fine : (c : CageSeen) (s : ℕ) (v : Option Account) → IsKept c → c.scan ≡ None → slot_at c.out s ≡ None → 1 ≤ s → s ≤ most_slots
     → ((n : ℕ) → option_closed v n ≡ false) → OptionFew v → IsKept (record c { cards = slice_set c.cards (s - 1) v })
 slot_fine c s v k idle home a b quiet few = record {
   good = record {
@@ -505,11 +506,16 @@ pub opening_fine_at : (events scans : ℕ) → IsFine (opening_at events scans)
 opening_fine_at events scans = record {
   cage = record {
     good = record {
-      held = record { slots = refl; outs = refl; empty = λ s h. none_slot 8 s; past = λ s t h. absurd (let e = sym (none_slot_out 8 s) ∙ h in cc (e)) };
+      held = record {
+        slots = refl;
+        outs = refl;
+        empty = λ s h. none_slot most_slots s;
+        past = λ s t h. absurd (let e = sym (none_slot_out most_slots s) ∙ h in cc (e));
+      };
       running = tt;
     };
-    safe = exclusive_none _ _ (λ c. ap (λ o. option_closed o c.1) (none_slot 8 c.0));
-    few = λ s. subst (λ (o : Option Account). OptionFew o) (sym (none_slot 8 s)) tt;
+    safe = exclusive_none _ _ (λ c. ap (λ o. option_closed o c.1) (none_slot most_slots c.0));
+    few = λ s. subst (λ (o : Option Account). OptionFew o) (sym (none_slot most_slots s)) tt;
   };
   range = reset_range;
   settings = tt;

@@ -1,6 +1,7 @@
 -- What a session asks of its seat or of the locks has one answer where memory suffices.
 use Rattle.std.proofs.Common.{◌≡◌, ◌≤◌, ℕ, Bool, true, false, List, length, Option, None, Some, is_some, refl, sym, ◌∙◌, ap, arith, inl, inr}
 use Rattle.sw_base.specs.Layout.{slot_at}
+use Rattle.sw_base.specs.Limits.{most_sessions}
 use Rattle.sw_cage.proofs.SlotChangeLemmas.{some_slot}
 use Rattle.sw_hislip.specs.LockTable.{LockTable, Replies, MayLackMemory, is_wrong, grants}
 use Rattle.sw_hislip.specs.declared.locks.LockReply.TheVariants as Reply
@@ -18,7 +19,7 @@ some_seat : (o : Option Seat) (joined : ℕ) → joined_in o ≡ Some joined →
 some_seat None joined h = absurd (cc h)
 some_seat (Some seat) joined h = refl
 
-pub seated_number : (s : SessionsSeen) (sid : Sid) → length s.seats ≡ 16 → IsJoined s sid → (1 ≤ sid.number) × (sid.number ≤ 16)
+pub seated_number : (s : SessionsSeen) (sid : Sid) → length s.seats ≡ most_sessions → IsJoined s sid → (1 ≤ sid.number) × (sid.number ≤ most_sessions)
 seated_number s sid n h =
     let b = some_slot s.seats sid.number (some_seat (slot_at s.seats sid.number) sid.joined h) in
     (omega (arith, b.0), omega (arith, b.1, n))
@@ -28,7 +29,7 @@ lacking_seat None h = absurd (cc h)
 lacking_seat (Some seat) h = refl
 
 -- a session that lacks its second channel has one of the numbers
-pub lacking_number : (s : SessionsSeen) (number : ℕ) → length s.seats ≡ 16 → LacksSecond s number → (1 ≤ number) × (number ≤ 16)
+pub lacking_number : (s : SessionsSeen) (number : ℕ) → length s.seats ≡ most_sessions → LacksSecond s number → (1 ≤ number) × (number ≤ most_sessions)
 lacking_number s number n h =
     let b = some_slot s.seats number (lacking_seat (slot_at s.seats number) h) in
     (omega (arith, b.0), omega (arith, b.1, n))

@@ -1,6 +1,7 @@
 -- What each command comes to: one row for each.
 use Rattle.std.specs.Prelude.{ℕ, ◌≤◌, Bool, true, false, List, [], length, decimal}
 use Rattle.sw_base.specs.Layout.{Channel}
+use Rattle.sw_base.specs.Limits.{most_slots, most_entries, most_points, longest_delay}
 use Rattle.sw_base.specs.Reading.{fixed}
 use Rattle.sw_base.specs.declared.error.ScpiError.{ScpiError}
 use Rattle.sw_base.specs.declared.error.ScpiError.TheVariants.{TriggerIgnored, ArmIgnored}
@@ -10,7 +11,7 @@ use Rattle.sw_base.specs.declared.terms.LayerName.TheVariants as layer_name
 use Rattle.sw_base.specs.declared.terms.Source.{Source}
 use Rattle.sw_channel.specs.Printing.{printed}
 use Rattle.sw_lex.specs.declared.command.Command.{Command}
-use Rattle.sw_trigger.specs.Settings.{Setup, layer_of, with_layer, most_of, longest_delay, at_reset}
+use Rattle.sw_trigger.specs.Settings.{Setup, layer_of, with_layer, most_of, at_reset}
 use Rattle.sw_trigger.specs.Counts.{bound_of}
 use Rattle.sw_status.specs.Registers.{event_taken, with_enable, with_ptr, with_ntr}
 use Rattle.sw_status.specs.StatusModel.{StatusSeen, byte_of, enabled, preset, popped, cleared}
@@ -136,10 +137,10 @@ action_of available (Command.Open chans) = BetweenScans (Opens chans)
 action_of available (Command.OpenQuery chans) = AtOnce (TellsRelays false chans)
 action_of available Command.OpenAll = BetweenScans (Leaves (λ p. with_cards p (all_open p.cage.cards)))
 action_of available (Command.Scan chans) =
-    BetweenScans (SetsUp (length chans ≤ 512) TooMuchData (λ s. record s { list = chans }))
+    BetweenScans (SetsUp (length chans ≤ most_entries) TooMuchData (λ s. record s { list = chans }))
 action_of available Command.ScanQuery = AtOnce (TellsText (λ p. printed p.settings.list))
 action_of available (Command.ScanMeter slot) =
-    BetweenScans (SetsUp ((1 ≤ slot) × (slot ≤ 8)) DataOutOfRange (λ s. record s { meter = slot }))
+    BetweenScans (SetsUp ((1 ≤ slot) × (slot ≤ most_slots)) DataOutOfRange (λ s. record s { meter = slot }))
 action_of available Command.ScanMeterQuery = AtOnce (TellsNumber (λ p. p.settings.meter))
 action_of available (Command.GroupEventQuery group) =
     AtOnce (ReadsOut (λ s. decimal (group_of s group).event) (λ s. with_group s group (event_taken (group_of s group))))
@@ -161,7 +162,7 @@ action_of available Command.AllErrorsQuery =
 action_of available Command.ErrorCountQuery = AtOnce (TellsNumber (λ p. length p.status.errors))
 action_of available Command.VersionQuery = AtOnce (TellsText (λ p. version))
 action_of available (Command.Points n) =
-    BetweenScans (SetsUp ((1 ≤ n) × (n ≤ 100000)) DataOutOfRange (λ s. record s { points = n }))
+    BetweenScans (SetsUp ((1 ≤ n) × (n ≤ most_points)) DataOutOfRange (λ s. record s { points = n }))
 action_of available Command.PointsQuery = AtOnce (TellsNumber (λ p. p.settings.points))
 action_of available Command.ActualPointsQuery = AtOnce (TellsNumber (λ p. length p.cage.readings))
 action_of available Command.BoundQuery = AtOnce (TellsNumber (λ p. bound_of p.settings))

@@ -2,6 +2,7 @@
 -- own).
 use Rattle.std.specs.Prelude.{◌≡◌, ℕ, ◌⊎◌, Bool, true, false, not, List, Option, None, Some, is_some}
 use Rattle.sw_base.specs.Layout.{slot_at}
+use Rattle.sw_base.specs.Limits.{most_sessions}
 use Rattle.sw_hislip.specs.LockTable.{LockTable, Replies, MayLackMemory, holders, freed, released, left}
 use Rattle.sw_hislip.specs.declared.locks.LockReply.TheVariants as Reply
 use Rattle.sw_hislip.specs.declared.locks.Released.{Released}
@@ -119,5 +120,5 @@ StepSeat s (Ask.Lock sid key) answer t = StepLock s sid key answer t
 StepSeat s (Ask.Release sid) (Lock code) t =
     (code ≡ released_code (freed s.locks sid.number)) × (t ≡ record s { locks = released s.locks sid.number })
 StepSeat s (Ask.LockInfo sid) (Info exclusive n) t =
-    (exclusive ≡ is_some s.locks.exclusive) × (n ≡ holders s.locks 16) × (t ≡ s)
+    (exclusive ≡ is_some s.locks.exclusive) × (n ≡ holders s.locks most_sessions) × (t ≡ s)
 StepSeat s ask answer t = ⊥

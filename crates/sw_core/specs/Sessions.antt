@@ -1,21 +1,22 @@
 -- Which sessions are joined, and which locks they hold.
 use Rattle.std.specs.Prelude.{◌≡◌, ◌≢◌, ℕ, ◌-◌, ◌≤◌, ◌<◌, Bool, false, List, Option, None, Some, replicate, slice_set}
 use Rattle.sw_base.specs.Layout.{slot_at}
+use Rattle.sw_base.specs.Limits.{most_bytes, most_sessions}
 use Rattle.sw_hislip.specs.LockTable.{LockTable, no_locks}
 use Rattle.sw_core.specs.declared.ask.Sid.{Sid}
 use Rattle.sw_core.specs.declared.sessions.Seat.{Seat}
 
--- of each of the sixteen session numbers, from 1 on, the session that has it; and who holds the locks
+-- of each session number, from 1 on, the session that has it; and who holds the locks
 pub record SessionsSeen : Type 0 where
   pub seats : List (Option Seat)
   pub locks : LockTable
 
 abbrev pub nobody : SessionsSeen
-nobody = record { seats = replicate 16 None; locks = no_locks }
+nobody = record { seats = replicate most_sessions None; locks = no_locks }
 
--- a session that has joined after so many events: it takes messages of 65,536 bytes until it tells otherwise
+-- a session that has joined after so many events: until it tells otherwise it takes messages of the greatest length
 abbrev pub fresh : ℕ → Seat
-fresh events = record { joined = events; attached = false; size = 65536; clearing = false }
+fresh events = record { joined = events; attached = false; size = most_bytes; clearing = false }
 
 abbrev pub with_seat : SessionsSeen → ℕ → Option Seat → SessionsSeen
 with_seat s number seat = record s { seats = slice_set s.seats (number - 1) seat }
@@ -43,6 +44,6 @@ is_clearing s number = (seat_of s number).clearing
 -- the least number that no session has
 pub record IsLeastFree (s : SessionsSeen) (number : ℕ) : Type 0 where
   pub first : 1 ≤ number
-  pub last : number ≤ 16
+  pub last : number ≤ most_sessions
   pub free : slot_at s.seats number ≡ None
   pub below : (k : ℕ) → 1 ≤ k → k < number → slot_at s.seats k ≢ None

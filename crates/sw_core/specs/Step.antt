@@ -3,6 +3,7 @@ use Rattle.std.specs.Prelude.{◌≡◌, ◌≢◌, ℕ, ◌-◌, ◌≤◌, ◌
 use Rattle.std.specs.Prelude.{Option, None, Some, slice_set, map, decimal, is_some, MatchBool, ◌⊎◌, if◌then◌else◌}
 use Rattle.std.specs.List.{join_with_byte}
 use Rattle.sw_base.specs.Layout.{Channel, slot_at}
+use Rattle.sw_base.specs.Limits.{most_sessions}
 use Rattle.sw_base.specs.Reading.{reading_text}
 use Rattle.sw_base.specs.declared.reading.Reading.{Reading}
 use Rattle.sw_base.specs.declared.error.ScpiError.{ScpiError}
@@ -295,7 +296,8 @@ abbrev pub StepJoin : Panel → Bool → SessionAnswer → Option WorkView → P
 StepJoin p f (Joined sid) None q =
     (f ≡ false) × IsLeastFree p.sessions sid.number × (sid.joined ≡ next_number p.events)
     × (q ≡ record p { sessions = with_seat p.sessions sid.number (Some (fresh (next_number p.events))) })
-StepJoin p f Full None q = (f ≡ false) × ((k : ℕ) → 1 ≤ k → k ≤ 16 → slot_at p.sessions.seats k ≢ None) × (q ≡ p)
+StepJoin p f Full None q =
+    (f ≡ false) × ((k : ℕ) → 1 ≤ k → k ≤ most_sessions → slot_at p.sessions.seats k ≢ None) × (q ≡ p)
 StepJoin p f answer work q = ⊥
 
 -- a second channel for the session with this number

@@ -6,8 +6,8 @@ use sw_card::{Card, Meter, Relay};
 use sw_lex::Command;
 use sw_verify::{BoxedSnapshot, Plan};
 
-/// A session: its number, 1 to 16, and the number of events after its Join, which tells it from an earlier session
-/// of that number.
+/// A session: its number, 1 to `SESSIONS`, and the number of events after its Join, which tells it from an earlier
+/// session of that number.
 #[derive(Clone, Copy, Debug, PartialEq, Eq)]
 pub struct Sid {
     /// The session's number.
@@ -58,7 +58,7 @@ pub enum SessionAsk {
 pub enum SessionAnswer {
     /// It is this session now.
     Joined(Sid),
-    /// All sixteen sessions are taken.
+    /// All session numbers are taken.
     Full,
     /// No such session is joined.
     Stranger,

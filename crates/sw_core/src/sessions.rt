@@ -3,6 +3,7 @@
 ghost use Rattle.std.specs.Prelude.{◌≡◌, ◌≢◌, ◌≤◌, ◌-◌, ◌↔◌, ◌&&◌, ℕ, true, false, not, IsTrue, IfSome, IfNone, OnSome};
 ghost use Rattle.std.specs.Prelude.{None, Some, slice_set, replicate};
 ghost use Rattle.sw_base.specs.Layout.{slot_at};
+ghost use Rattle.sw_base.specs.Limits.{most_sessions};
 ghost use Rattle.sw_hislip.specs.LockTable.{admits};
 ghost use Rattle.sw_core.specs.Sessions.{nobody, fresh, IsJoined, IsLeastFree, is_clearing, with_seat, seat_of};
 ghost use Rattle.sw_core.specs.Sessions.{joined_in};
@@ -14,8 +15,11 @@ use crate::ask::{SessionAnswer, SessionAsk, Sid};
 use crate::asks::{is_dropped, is_shut_out};
 use std::alloc::Global;
 use std::marker::Model;
-use sw_base::Sequence;
+use sw_base::{SESSIONS, Sequence};
 use sw_hislip::{LONGEST_PAYLOAD, LockReply, Locks, Released};
+
+/// A seat for each session.
+const SEATS: usize = SESSIONS as usize;
 
 /// What is known of a session.
 #[derive(Clone, Copy, Debug, PartialEq, Eq)]
@@ -30,14 +34,15 @@ pub struct Seat {
     pub clearing: bool,
 }
 
-/// The sixteen session numbers, and the locks.
+/// The session numbers, and the locks.
 #[derive(Drop)]
 pub struct Sessions {
-    seats: [Option<Seat>; 16],
+    seats: [Option<Seat>; SEATS],
     locks: Locks,
 }
 
 impl Model for Sessions {
+    ghost use Rattle.sw_base.specs.Limits.{most_sessions};
     ghost use Rattle.sw_core.specs.Sessions.{SessionsSeen};
 
     ghost Value = { SessionsSeen };
@@ -46,7 +51,7 @@ impl Model for Sessions {
 
     ghost view = { λ s. record { seats = s.seats; locks = s.locks } };
 
-    ghost invariant = { λ s. length s.seats ≡ 16 };
+    ghost invariant = { λ s. length s.seats ≡ most_sessions };
 }
 
 impl Sessions {
@@ -55,7 +60,7 @@ impl Sessions {
         ensures { result ≡ nobody }
     {
         Sessions {
-            seats: [None; 16],
+            seats: [None; SEATS],
             locks: Locks::new(),
         }
     }
@@ -66,7 +71,7 @@ impl Sessions {
     {
         let seats: &[Option<Seat>] = &self.seats;
         sid.number >= 1
-            && sid.number <= 16
+            && sid.number <= SESSIONS
             && joined_in(seats[sid.number as usize - 1]) == Some(sid.joined)
     }
 
@@ -74,7 +79,7 @@ impl Sessions {
     pub fn join(&mut self, events: u64) -> Option<Sid>
         ensures free { IfSome result (λ sid. IsLeastFree self.old sid.number × (sid.joined ≡ events)) }
         ensures joined { IfSome result (λ sid. self.new ≡ with_seat self.old sid.number (Some (fresh events))) }
-        ensures full { IfNone result ((k : ℕ) → 1 ≤ k → k ≤ 16 → slot_at self.old.seats k ≢ None) }
+        ensures full { IfNone result ((k : ℕ) → 1 ≤ k → k ≤ most_sessions → slot_at self.old.seats k ≢ None) }
         ensures same { IfNone result (self.new ≡ self.old) }
     {
         let number = self.free_number()?;
@@ -100,7 +105,7 @@ impl Sessions {
         if number < 1 {
             return None;
         }
-        if number > 16 {
+        if number > SESSIONS {
             return None;
         }
         let mut seat = seats[number as usize - 1]?;
@@ -213,10 +218,10 @@ impl Sessions {
     /// The least free number.
     fn free_number(&self) -> Option<u8>
         ensures some { IfSome result (λ number. IsLeastFree self.now number) }
-        ensures none { IfNone result ((k : ℕ) → 1 ≤ k → k ≤ 16 → slot_at self.now.seats k ≢ None) }
+        ensures none { IfNone result ((k : ℕ) → 1 ≤ k → k ≤ most_sessions → slot_at self.now.seats k ≢ None) }
     {
         let seats: &[Option<Seat>] = &self.seats;
-        for before in 0..16u8 {
+        for before in 0..SESSIONS {
             if seats[before as usize].is_none() {
                 return Some(before + 1);
             }

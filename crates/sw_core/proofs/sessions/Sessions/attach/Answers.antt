@@ -8,7 +8,7 @@ returns-then-number-lt1-clause-none c h =
     let b = lacking_number c.args.self.now c.args.number (sym (ap (λ (s : SessionsSeen). length s.seats) c.self.view_is) ∙ c.self.invariant) h in
     omega (arith, b.0, c.if-number-lt1.true)
 
-pub returns-then-number-gt16-clause-none : goal.returns-then-number-gt16-clause-none
-returns-then-number-gt16-clause-none c h =
+pub returns-then-number-gt-SESSIONS-clause-none : goal.returns-then-number-gt-SESSIONS-clause-none
+returns-then-number-gt-SESSIONS-clause-none c h =
     let b = lacking_number c.args.self.now c.args.number (sym (ap (λ (s : SessionsSeen). length s.seats) c.self.view_is) ∙ c.self.invariant) h in
-    omega (arith, b.1, c.if-number-gt16.true)
+    omega (arith, b.1, c.if-number-gt-SESSIONS.true)
