@@ -9,4 +9,13 @@ pub mod HandedBack
 pub mod Acted
 pub mod Determined
 pub mod CoreTalk
+pub mod Cuts
+pub mod SubAddress
+pub mod EngineAsks
+pub mod LockWaits
+pub mod AsyncRows
+pub mod SyncRows
+pub mod SyncAnswers
+pub mod SyncTalks
+pub mod EngineTakes
 mod Order
