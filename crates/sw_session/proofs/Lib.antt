@@ -19,3 +19,7 @@ pub mod SyncAnswers
 pub mod SyncTalks
 pub mod EngineTakes
 mod Order
+pub mod ServeKnown
+pub mod ServeParts
+pub mod ServeWays
+pub mod ServeTurns
