@@ -135,7 +135,7 @@ fn plan<D: Desk>(desk: &mut D, sid: Sid, alloc: Global, told: SessionAnswer) -> 
 }
 
 /// Asks until the ask isn't held; gives it up where the waiting is over, or after `TURNS` turns.
-fn settle<D: Desk>(desk: &mut D, sid: Sid, ask: SessionAsk) -> SessionAnswer
+pub fn settle<D: Desk>(desk: &mut D, sid: Sid, ask: SessionAsk) -> SessionAnswer
     ensures { Led D.passes desk.old desk.new (λ t rest. Settles sid 0 ask t result rest) }
 {
     let mut ask = ask;

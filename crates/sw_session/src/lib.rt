@@ -18,15 +18,19 @@ mod asking;
 mod available;
 mod core_desk;
 mod desk;
+mod engine;
 mod laws;
 mod line;
 mod macros;
+mod servers;
 mod talker;
 
 pub use asking::TURNS;
 pub use core_desk::CoreDesk;
 pub use desk::{Desk, View, Wake};
+pub use engine::{Channel, Engine, Sent, Step};
 pub use laws::{
     core_rest_is_determined, core_talk_is_determined, talk_is_determined, work_is_done_in_order,
 };
+pub use servers::{Act, ServeFault, Speaker, Unwritten, serve_for, write_all};
 pub use talker::Talker;
