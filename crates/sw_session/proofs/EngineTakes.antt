@@ -30,9 +30,11 @@ takes-async passes old new state s t m (Ok step) is h =
 takes-async passes old new state s t m (Err e) is h = tt
 
 -- a message that found no memory
-pub falters-unopened : {D : Type 0} (passes : D → Entry → D → Type 0) (old new : D) (state : State) (channel : Channel) (m : Message) → state ≡ Unopened channel
-    → new ≡ old → LedBy passes old new (λ asked. FaltersAt state m asked)
-falters-unopened passes old new state channel m is same =
+pub falters-unopened : {D : Type 0} (passes : D → Entry → D → Type 0) (old new : D) (state : State) (channel : Channel) (m : Message) {X E : Type 0}
+    (r : Result X E)
+    → state ≡ Unopened channel → new ≡ old → OnErr r (LedBy passes old new (λ asked. FaltersAt state m asked))
+falters-unopened passes old new state channel m (Ok x) is same = tt
+falters-unopened passes old new state channel m (Err e) is same =
     let none : List Entry = [] in
     record { asked = none; leads = same; admits = subst (λ (q : State). FaltersAt q m none) (sym is) refl }
 

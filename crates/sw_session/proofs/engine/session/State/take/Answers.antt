@@ -3,7 +3,7 @@ use Rattle.sw_session.proofs.engine.session.State.take.Goals as goal
 
 pub returns-in_err-opened-in-Unopened-clause-err : goal.returns-in_err-opened-in-Unopened-clause-err
 returns-in_err-opened-in-Unopened-clause-err g c =
-    falters-unopened g.D.Desk.passes _ _ c.args.self.now _ c.args.message c.in-Unopened.is c.in_err-opened-in-Unopened.ensures.unasked
+    falters-unopened g.D.Desk.passes _ _ c.args.self.now _ c.args.message c.from_residual.result c.in-Unopened.is c.in_err-opened-in-Unopened.ensures.unasked
 
 pub returns-in-Synchronized-clause-ok : goal.returns-in-Synchronized-clause-ok
 returns-in-Synchronized-clause-ok g c = takes-sync g.D.Desk.passes _ _ c.args.self.now _ _ c.args.message c.take.result c.in-Synchronized.is c.take.ensures.ok
