@@ -47,6 +47,12 @@ session_of (Unopened channel) = None
 session_of (Synchronized s) = Some s.sid
 session_of (Attached s) = Some s.sid
 
+-- which connection a channel is
+abbrev pub channel_of : State → Channel
+channel_of (Unopened channel) = channel
+channel_of (Synchronized s) = Synchronous
+channel_of (Attached s) = Asynchronous
+
 -- want of memory at a message: from then on nothing is asked
 abbrev pub Falters : Bool → List Entry → Type 0
 Falters false asked = ⊤
