@@ -1,5 +1,5 @@
 -- Parts of a server's run, one after another.
-use Rattle.std.proofs.Common.{◌≡◌, ℕ, ◌+◌, ◌<◌, ◌≤◌, Bool, true, false, List, [], ◌∷◌, ◌++◌, length, map, refl, sym, ap, ap₂, ◌∙◌, append_assoc, append-nil, length-append, arith, inl, inr, subst, flat_map, Ok, Err, Some, None, Option, Result}
+use Rattle.std.proofs.Common.{◌≡◌, ℕ, zero, suc, ◌+◌, ◌<◌, ◌≤◌, Bool, true, false, List, [], ◌∷◌, ◌++◌, length, map, refl, sym, ap, ap₂, ◌∙◌, append_assoc, append-nil, length-append, arith, inl, inr, subst, flat_map, Ok, Err, Some, None, Option, Result}
 use Rattle.std.proofs.lemmas.List.Concat.{flat_map-append}
 use Rattle.std.specs.Io.KnownBytes.{Appends, Consumes, IsAtEnd}
 use Rattle.sw_hislip.specs.declared.fault.WireFault.{WireFault}
@@ -188,3 +188,29 @@ hears-err v passes own s s' d d' w w' y y' act step Fault.ReadBound led main sid
 pub hears-starved : {E D : Type 0} (v : Voice E) (passes : D → Entry → D → Type 0) (own : Channel) (s s' : E) (d d' : D) (w y : Option (List ℕ)) (act : Act)
     → LedBy passes d d' (λ asked. v.falters s act asked s') → Hears v passes own act (point s d w y) (point s' d' w y) (Err Fault.NoMemory)
 hears-starved v passes own s s' d d' w y act led = inr (record { asked = led.asked; falters = led.admits; asks = led.leads; main = refl; side = refl })
+
+-- ---- reads that a time limit ended
+
+pub pauses-then : (is js : List Act) → pauses (is ++ js) ≡ pauses is + pauses js
+pauses-then [] js = omega (arith)
+pauses-then (i ∷ is) js = let e = pauses-then is js in omega (arith, e)
+
+pub none-paused : (P : Type 0) (n : ℕ) → n ≡ 0 → 0 < n → P
+none-paused P n e h = absurd (omega (arith, e, h))
+
+some-first : (P : Type 0) (m n : ℕ) → (0 < m → P) → (0 < n → P) → 0 < m + n → P
+some-first P zero n p q h = q (omega (arith, h))
+some-first P (suc m) n p q h = p (omega arith)
+
+pub either-paused : (P : Type 0) (is js : List Act) → (0 < pauses is → P) → (0 < pauses js → P) → 0 < pauses (is ++ js) → P
+either-paused P is js p q h = some-first P (pauses is) (pauses js) p q (let e = pauses-then is js in omega (arith, e, h))
+
+-- what the wire tells is no such read
+pub found-unpaused : (p p' : Pending) (input : Act) → Finds p input p' → is_pause input ≡ 0
+found-unpaused p p' (Takes m) f = refl
+found-unpaused p p' (Skips kind) f = refl
+found-unpaused p p' Refuses f = refl
+found-unpaused p p' Notices f = absurd f
+
+pub none-more : (is : List Act) (input : Act) → pauses is ≡ 0 → is_pause input ≡ 0 → pauses (is ++ input ∷ []) ≡ 0
+none-more is input e f = let g = pauses-then is (input ∷ []) in omega (arith, e, f, g)

@@ -24,7 +24,7 @@ use Rattle.sw_session.specs.declared.servers.turns.Next.TheVariants.{On, Over}
 use Rattle.sw_session.specs.Trace.{Entry}
 use Rattle.sw_session.specs.Serve.{Voice, Exchange, Speaks, acts_for, acts_of, arrived, is_refused, after_of, pauses, is_pause, Point, point, Spoken, Stops, Breaks, GoesThrough, Judges, Hears, HearsEach, Finds, NextInput, Tells, Stands, Listens, HearsInputs, HearsAll, conclude, Loses, LosesAt, EndsWell, FailsBy, EndsTurn, TakesTurn, EndsRun, Runs}
 use Rattle.sw_session.proofs.ServeKnown.{consumes-nothing, consumes-more}
-use Rattle.sw_session.proofs.ServeParts.{tells-nothing, tells-then, tells-found, tells-paused, tells-fed, goes-nowhere, goes-then, ends-before, stops-then, stops-at}
+use Rattle.sw_session.proofs.ServeParts.{found-unpaused, none-more, tells-nothing, tells-then, tells-found, tells-paused, tells-fed, goes-nowhere, goes-then, ends-before, stops-then, stops-at}
 
 -- ---- results that are known
 
@@ -40,8 +40,8 @@ next-is p p' r input e n = subst (λ (x : Result (Option Act) ServeFault). NextI
 pub listens-is : (input left : Option (List ℕ)) (p p' : Pending) (r q : Result Came ServeFault) → r ≡ q → Listens input left p p' r → Listens input left p p' q
 listens-is input left p p' r q e l = subst (λ (x : Result Came ServeFault). Listens input left p p' x) e l
 
-pub turn-is : {E D : Type 0} (v : Voice E) (passes : D → Entry → D → Type 0) (own : Channel) (p p' : Pending) (a b : Point E D) (input left : Option (List ℕ)) (r q : Result Next ServeFault) → r ≡ q → TakesTurn v passes own p p' a b input left r → TakesTurn v passes own p p' a b input left q
-turn-is v passes own p p' a b input left r q e t = subst (λ (x : Result Next ServeFault). TakesTurn v passes own p p' a b input left x) e t
+pub turn-is : {E D : Type 0} (v : Voice E) (passes : D → Entry → D → Type 0) (own : Channel) (may_pause : Type 0) (p p' : Pending) (a b : Point E D) (input left : Option (List ℕ)) (r q : Result Next ServeFault) → r ≡ q → TakesTurn v passes own may_pause p p' a b input left r → TakesTurn v passes own may_pause p p' a b input left q
+turn-is v passes own may_pause p p' a b input left r q e t = subst (λ (x : Result Next ServeFault). TakesTurn v passes own may_pause p p' a b input left x) e t
 
 -- ---- what the wire tells
 
@@ -95,11 +95,12 @@ stands p p' Notices Malformed ended f judged = absurd f
 -- so far all that the wire told is gone through
 pub record Hearing {E D : Type 0} (v : Voice E) (passes : D → Entry → D → Type 0) (own : Channel) (p p' : Pending) (a b : Point E D) : Type 0 where
   pub inputs : List Act
+  pub unpaused : pauses inputs ≡ 0
   pub tells : Tells p p' [] inputs
   pub goes : GoesThrough v passes own a b (flat_map acts_for inputs) Goes
 
 pub hearing-start : {E D : Type 0} (v : Voice E) (passes : D → Entry → D → Type 0) (own : Channel) (p : Pending) (a : Point E D) → Hearing v passes own p p a a
-hearing-start v passes own p a = record { inputs = []; tells = tells-nothing p; goes = goes-nowhere v passes own a }
+hearing-start v passes own p a = record { inputs = []; unpaused = refl; tells = tells-nothing p; goes = goes-nowhere v passes own a }
 
 acts-more : (inputs : List Act) (input : Act) → flat_map acts_for inputs ++ acts_for input ≡ flat_map acts_for (inputs ++ input ∷ [])
 acts-more inputs input = ap (λ (l : List Act). flat_map acts_for inputs ++ l) (sym (append-nil (acts_for input))) ∙ sym (flat_map-append acts_for inputs (input ∷ []))
@@ -113,6 +114,7 @@ pub hearing-on : {E D : Type 0} (v : Voice E) (passes : D → Entry → D → Ty
     → Hearing v passes own p q a b → Finds q input q' → HearsEach v passes own (acts_for input) b c (Ok Goes) → Hearing v passes own p q' a c
 hearing-on v passes own p q q' a b c input k f h = record {
   inputs = k.inputs ++ input ∷ [];
+  unpaused = none-more k.inputs input k.unpaused (found-unpaused q q' input f);
   tells = tells-then p q q' [] [] k.inputs (input ∷ []) k.tells (tells-found q q' input f);
   goes = goes-more v passes own a b c k.inputs input Goes k.goes h;
 }
@@ -121,6 +123,7 @@ hearing-on v passes own p q q' a b c input k f h = record {
 pub all-heard : {E D : Type 0} (v : Voice E) (passes : D → Entry → D → Type 0) (own : Channel) (p q q' : Pending) (a b : Point E D) → Hearing v passes own p q a b → NextInput q q' (Ok None) → HearsAll v passes own p q' a b (Ok Goes)
 all-heard v passes own p q q' a b k (waits, same) = record {
   inputs = k.inputs;
+  unpaused = k.unpaused;
   tells = subst (λ (r : Pending). Tells p r [] k.inputs) (sym same) k.tells;
   spoken = (k.goes, subst (λ (r : Pending). Waits r.bytes) (sym same) waits);
 }
@@ -129,6 +132,7 @@ pub all-ended : {E D : Type 0} (v : Voice E) (passes : D → Entry → D → Typ
     → Hearing v passes own p q a b → Finds q input q' → HearsEach v passes own (acts_for input) b c (Ok after) → Judges (is_refused input) after → HearsAll v passes own p q' a c (Ok after)
 all-ended v passes own p q q' a b c input after ended k f h judged = record {
   inputs = k.inputs ++ input ∷ [];
+  unpaused = none-more k.inputs input k.unpaused (found-unpaused q q' input f);
   tells = tells-then p q q' [] [] k.inputs (input ∷ []) k.tells (tells-found q q' input f);
   spoken = (goes-more v passes own a b c k.inputs input after k.goes h, stands q q' input after ended f judged);
 }
@@ -137,6 +141,7 @@ pub all-stopped : {E D : Type 0} (v : Voice E) (passes : D → Entry → D → T
     → Hearing v passes own p q a b → Finds q input q' → HearsEach v passes own (acts_for input) b c (Err fault) → HearsAll v passes own p q' a c (Err fault)
 all-stopped v passes own p q q' a b c input fault k f h = record {
   inputs = k.inputs ++ input ∷ [];
+  unpaused = none-more k.inputs input k.unpaused (found-unpaused q q' input f);
   tells = tells-then p q q' [] [] k.inputs (input ∷ []) k.tells (tells-found q q' input f);
   spoken = inl (subst (λ (l : List Act). Stops v passes own a c l fault) (acts-more k.inputs input) (stops-then v passes own a b c (flat_map acts_for k.inputs) (acts_for input) fault k.goes h));
 }
@@ -144,6 +149,7 @@ all-stopped v passes own p q q' a b c input fault k f h = record {
 pub all-starved : {E D : Type 0} (v : Voice E) (passes : D → Entry → D → Type 0) (own : Channel) (p q q' : Pending) (a b : Point E D) (fault : ServeFault) → Hearing v passes own p q a b → NextInput q q' (Err fault) → HearsAll v passes own p q' a b (Err fault)
 all-starved v passes own p q q' a b fault k (e, same) = record {
   inputs = k.inputs;
+  unpaused = k.unpaused;
   tells = subst (λ (r : Pending). Tells p r [] k.inputs) (sym same) k.tells;
   spoken = inr (e, k.goes);
 }

@@ -231,6 +231,7 @@ HearsInputs v passes own inputs p a b (Err fault) =
 -- all that the wire tells is gone through, or what it tells up to an end of the channel or a fault
 pub record HearsAll {E D : Type 0} (v : Voice E) (passes : D → Entry → D → Type 0) (own : Channel) (p p' : Pending) (a b : Point E D) (result : Result After ServeFault) : Type 0 where
   pub inputs : List Act
+  pub unpaused : pauses inputs ≡ 0
   pub tells : Tells p p' [] inputs
   pub spoken : HearsInputs v passes own inputs p' a b result
 
@@ -272,13 +273,14 @@ EndsTurn v passes own a b acts p n left (Ok On) = GoesThrough v passes own a b a
 EndsTurn v passes own a b acts p n left (Ok Over) = EndsWell v passes own a b acts p left
 EndsTurn v passes own a b acts p n left (Err fault) = FailsBy v passes own a b acts p 0 n fault × (fault ≡ Fault.ReadBound → ⊥)
 
--- one read, and what is gone through for it
-pub record TakesTurn {E D : Type 0} (v : Voice E) (passes : D → Entry → D → Type 0) (own : Channel) (p p' : Pending) (a b : Point E D) (input left : Option (List ℕ)) (result : Result Next ServeFault) : Type 0 where
+-- one read, and what is gone through for it; may_pause says that a time limit can end a read
+pub record TakesTurn {E D : Type 0} (v : Voice E) (passes : D → Entry → D → Type 0) (own : Channel) (may_pause : Type 0) (p p' : Pending) (a b : Point E D) (input left : Option (List ℕ)) (result : Result Next ServeFault) : Type 0 where
   pub read : List ℕ
   pub lost : List ℕ
   pub reads : Consumes input left (read ++ lost)
   pub loses : Loses result lost
   pub inputs : List Act
+  pub paused : 0 < pauses inputs → may_pause
   pub tells : Tells p p' read inputs
   pub ends : EndsTurn v passes own a b (flat_map acts_for inputs) p' (length read + pauses inputs) left result
 
@@ -287,13 +289,15 @@ EndsRun v passes own a b acts p turns n left (Ok _) = EndsWell v passes own a b 
 EndsRun v passes own a b acts p turns n left (Err fault) = FailsBy v passes own a b acts p turns n fault
 
 -- These bytes were read, however they were cut. The messages that stand in them are what the engine is asked, as far as
--- the run came; where it waits for more, or stands at a wrong prologue, those are all messages of the stream.
-pub record Runs {E D : Type 0} (v : Voice E) (passes : D → Entry → D → Type 0) (own : Channel) (turns : ℕ) (a b : Point E D) (input left : Option (List ℕ)) (result : Result (Unit {0}) ServeFault) : Type 0 where
+-- the run came; where it waits for more, or stands at a wrong prologue, those are all messages of the stream. No time
+-- limit ended a read where none can.
+pub record Runs {E D : Type 0} (v : Voice E) (passes : D → Entry → D → Type 0) (own : Channel) (may_pause : Type 0) (turns : ℕ) (a b : Point E D) (input left : Option (List ℕ)) (result : Result (Unit {0}) ServeFault) : Type 0 where
   pub read : List ℕ
   pub lost : List ℕ
   pub reads : Consumes input left (read ++ lost)
   pub loses : Loses result lost
   pub inputs : List Act
+  pub paused : 0 < pauses inputs → may_pause
   pub pending : Pending
   pub follows : Follows read (flat_map arrived inputs) pending
   pub stream : Rests pending.bytes → IsStream read follows.messages follows.rest
@@ -305,7 +309,7 @@ Leaves passes None d d' = d' ≡ d
 Leaves passes (Some sid) d d' = (answer : SessionAnswer) × passes d (Asked (Ask.Leave sid) answer) d'
 
 -- a run, and then the session is left
-pub record Serves {E D : Type 0} (v : Voice E) (passes : D → Entry → D → Type 0) (own : Channel) (turns : ℕ) (a b : Point E D) (input left : Option (List ℕ)) (result : Result (Unit {0}) ServeFault) : Type 0 where
+pub record Serves {E D : Type 0} (v : Voice E) (passes : D → Entry → D → Type 0) (own : Channel) (may_pause : Type 0) (turns : ℕ) (a b : Point E D) (input left : Option (List ℕ)) (result : Result (Unit {0}) ServeFault) : Type 0 where
   pub desk : D
-  pub runs : Runs v passes own turns a (point b.engine desk b.main b.side) input left result
+  pub runs : Runs v passes own may_pause turns a (point b.engine desk b.main b.side) input left result
   pub leaves : Leaves passes (v.session b.engine) desk b.desk

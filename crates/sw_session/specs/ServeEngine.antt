@@ -53,6 +53,6 @@ pub engine_voice : Voice EngineStanding
 engine_voice = record { speaks = EngineSpeaks; falters = EngineFalters; session = λ e. session_of e.state }
 
 -- A server of one channel, from its first byte on: an engine on which nothing has come is served.
-pub record ServesChannel {D : Type 0} (passes : D → Entry → D → Type 0) (own : Channel) (turns : ℕ) (desk desk' : D) (input left main main' side side' : Option (List ℕ)) (result : Result (Unit {0}) ServeFault) : Type 0 where
+pub record ServesChannel {D : Type 0} (passes : D → Entry → D → Type 0) (own : Channel) (may_pause : Type 0) (turns : ℕ) (desk desk' : D) (input left main main' side side' : Option (List ℕ)) (result : Result (Unit {0}) ServeFault) : Type 0 where
   pub engine : EngineStanding
-  pub serves : Serves engine_voice passes own turns (point (fresh own) desk main side) (point engine desk' main' side') input left result
+  pub serves : Serves engine_voice passes own may_pause turns (point (fresh own) desk main side) (point engine desk' main' side') input left result

@@ -193,8 +193,9 @@ const SECOND: &[u8] = b"HS\x11\x00\x00\x00\x00\x01\x00\x00\x00\x00\x00\x00\x00\x
 /// AsyncInitializeResponse.
 const SECOND_SAID: &[u8] = b"HS\x12\x00\x00\x00SW\x00\x00\x00\x00\x00\x00\x00\x00";
 
-/// AsyncServiceRequest with bits 2 and 6.
-const REQUESTED: &[u8] = b"HS\x14\x44\x00\x00\x00\x00\x00\x00\x00\x00\x00\x00\x00\x00";
+/// The same, and AsyncServiceRequest with bits 2 and 6 of the status byte.
+const SECOND_SAID_MORE: &[u8] = b"HS\x12\x00\x00\x00SW\x00\x00\x00\x00\x00\x00\x00\x00\
+HS\x14\x44\x00\x00\x00\x00\x00\x00\x00\x00\x00\x00\x00\x00";
 
 /// FatalError 1 and 3.
 const POORLY_FORMED: &[u8] = b"HS\x02\x01\x00\x00\x00\x00\x00\x00\x00\x00\x00\x00\x00\x00";
@@ -248,12 +249,12 @@ fn serve_asynchronous<R: Read>(alloc: Global, reader: &mut R, turns: u64) -> Ser
 /// Whether a server ended so and said this on its two connections. A session that was joined has left once.
 fn is_served(
     served: Served,
-    result: Result<(), ServeFault>,
+    end: Result<(), ServeFault>,
     main: &[u8],
     side: &[u8],
     leaves: u32,
 ) -> bool {
-    let is_so = served.result == result
+    let is_so = served.result == end
         && served.main.as_slice() == main
         && served.side.as_slice() == side
         && served.leaves == leaves;
@@ -396,15 +397,7 @@ fn turns_are_bounded(rt: HostRuntime) {
 fn tells_of_requests(alloc: Global, error: ErrorKind) -> bool {
     let mut reader = Pieces::broken(SECOND, 16, error, false);
     let served = serve_asynchronous(alloc, &mut reader, 1000);
-    let is_so = served.main.len() == 32 && served.main[16..] == *REQUESTED;
-    is_so && served.main[..16] == *SECOND_SAID && is_served_by(served, Ok(()), 1)
-}
-
-/// Whether a server ended so, said nothing on the other connection, and a session left so often.
-fn is_served_by(served: Served, result: Result<(), ServeFault>, leaves: u32) -> bool {
-    let is_so = served.result == result && served.side.is_empty() && served.leaves == leaves;
-    drop(served);
-    is_so
+    is_served(served, Ok(()), SECOND_SAID_MORE, b"", 1)
 }
 
 /// Whether an interrupted read is asked again, with no look at the status.
@@ -437,13 +430,13 @@ fn a_time_limit_tells_of_requests(rt: HostRuntime) {
 }
 
 /// Whether both servers say this to such bytes, and end so.
-fn both_end(alloc: Global, bytes: &[u8], said: &[u8], result: Result<(), ServeFault>) -> bool {
+fn both_end(alloc: Global, bytes: &[u8], said: &[u8], end: Result<(), ServeFault>) -> bool {
     let mut reader = Pieces::new(bytes, 7, 7);
     let first = serve_synchronous(alloc, &mut reader, 1000);
     let mut reader = Pieces::new(bytes, 7, 7);
     let second = serve_asynchronous(alloc, &mut reader, 1000);
-    let is_first = is_served(first, result, said, b"", 0);
-    is_served(second, result, said, b"", 0) && is_first
+    let is_first = is_served(first, end, said, b"", 0);
+    is_served(second, end, said, b"", 0) && is_first
 }
 
 #[test]
