@@ -199,6 +199,7 @@ HS\x14\x44\x00\x00\x00\x00\x00\x00\x00\x00\x00\x00\x00\x00";
 
 /// FatalError 1 and 3.
 const POORLY_FORMED: &[u8] = b"HS\x02\x01\x00\x00\x00\x00\x00\x00\x00\x00\x00\x00\x00\x00";
+
 const WRONGLY_BEGUN: &[u8] = b"HS\x02\x03\x00\x00\x00\x00\x00\x00\x00\x00\x00\x00\x00\x00";
 
 /// Error 4.
@@ -343,7 +344,11 @@ fn stops_writing(alloc: Global, room: usize) -> bool {
         notes,
         leaves,
     };
-    let beside = if room < 69 { b"".as_slice() } else { SAID_BESIDE };
+    let beside = if room < 69 {
+        b"".as_slice()
+    } else {
+        SAID_BESIDE
+    };
     served.notes == noted && is_served(served, Err(ServeFault::Write), &SAID[..room], beside, 1)
 }
 
@@ -366,7 +371,13 @@ fn stops_beside(alloc: Global, room: usize) -> bool {
         notes,
         leaves,
     };
-    is_served(served, Err(ServeFault::Write), &SAID[..69], &SAID_BESIDE[..room], 1)
+    is_served(
+        served,
+        Err(ServeFault::Write),
+        &SAID[..69],
+        &SAID_BESIDE[..room],
+        1,
+    )
 }
 
 #[test]

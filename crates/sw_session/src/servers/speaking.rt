@@ -19,12 +19,7 @@ impl Speaker for Engine {
 
     ghost voice = { engine_voice };
 
-    fn hear<D: Desk>(
-        &mut self,
-        alloc: Global,
-        act: Act,
-        desk: &mut D,
-    ) -> Result<Step, AllocError> {
+    fn hear<D: Desk>(&mut self, alloc: Global, act: Act, desk: &mut D) -> Result<Step, AllocError> {
         match act {
             Act::Takes(message) => self.take(message, desk),
             Act::Skips(kind) => skip(alloc, kind, self),
