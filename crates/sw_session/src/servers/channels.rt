@@ -25,7 +25,9 @@ pub fn serve_sync_for<R: Source, W: Sink, S: Sink, D: Desk>(
     desk: &mut D,
     turns: u64,
 ) -> Result<(), ServeFault>
-    ensures serves { ServesChannel D.passes Channel.Synchronous (MayPause R.paused) turns desk.old desk.new (R.remaining reader.old) (R.remaining reader.new) (W.contents writer.old) (W.contents writer.new) (S.contents side.old) (S.contents side.new) result }
+    ensures serves { ServesChannel D.passes Channel.Synchronous (MayPause R.paused) turns desk.old desk.new
+        (R.remaining reader.old) (R.remaining reader.new)
+        (W.contents writer.old) (W.contents writer.new) (S.contents side.old) (S.contents side.new) result }
     ensures read { result ≡ Err ServeFault.Read → CameTo R.failed reader.new }
     ensures write { result ≡ Err ServeFault.Write → CameTo W.failed writer.new ⊎ CameTo S.failed side.new }
 {
@@ -45,7 +47,9 @@ pub fn serve_async_for<R: Source, W: Sink, S: Sink, D: Desk>(
     desk: &mut D,
     turns: u64,
 ) -> Result<(), ServeFault>
-    ensures serves { ServesChannel D.passes Channel.Asynchronous (MayPause R.paused) turns desk.old desk.new (R.remaining reader.old) (R.remaining reader.new) (W.contents writer.old) (W.contents writer.new) (S.contents side.old) (S.contents side.new) result }
+    ensures serves { ServesChannel D.passes Channel.Asynchronous (MayPause R.paused) turns desk.old desk.new
+        (R.remaining reader.old) (R.remaining reader.new)
+        (W.contents writer.old) (W.contents writer.new) (S.contents side.old) (S.contents side.new) result }
     ensures read { result ≡ Err ServeFault.Read → CameTo R.failed reader.new }
     ensures write { result ≡ Err ServeFault.Write → CameTo W.failed writer.new ⊎ CameTo S.failed side.new }
 {
@@ -62,7 +66,9 @@ pub fn serve_sync<R: Source, W: Sink, S: Sink, D: Desk>(
     side: &mut S,
     desk: &mut D,
 ) -> Result<(), ServeFault>
-    ensures serves { ServesChannel D.passes Channel.Synchronous (MayPause R.paused) turns desk.old desk.new (R.remaining reader.old) (R.remaining reader.new) (W.contents writer.old) (W.contents writer.new) (S.contents side.old) (S.contents side.new) result }
+    ensures serves { ServesChannel D.passes Channel.Synchronous (MayPause R.paused) turns desk.old desk.new
+        (R.remaining reader.old) (R.remaining reader.new)
+        (W.contents writer.old) (W.contents writer.new) (S.contents side.old) (S.contents side.new) result }
     ensures read { result ≡ Err ServeFault.Read → CameTo R.failed reader.new }
     ensures write { result ≡ Err ServeFault.Write → CameTo W.failed writer.new ⊎ CameTo S.failed side.new }
 {
@@ -77,7 +83,9 @@ pub fn serve_async<R: Source, W: Sink, S: Sink, D: Desk>(
     side: &mut S,
     desk: &mut D,
 ) -> Result<(), ServeFault>
-    ensures serves { ServesChannel D.passes Channel.Asynchronous (MayPause R.paused) turns desk.old desk.new (R.remaining reader.old) (R.remaining reader.new) (W.contents writer.old) (W.contents writer.new) (S.contents side.old) (S.contents side.new) result }
+    ensures serves { ServesChannel D.passes Channel.Asynchronous (MayPause R.paused) turns desk.old desk.new
+        (R.remaining reader.old) (R.remaining reader.new)
+        (W.contents writer.old) (W.contents writer.new) (S.contents side.old) (S.contents side.new) result }
     ensures read { result ≡ Err ServeFault.Read → CameTo R.failed reader.new }
     ensures write { result ≡ Err ServeFault.Write → CameTo W.failed writer.new ⊎ CameTo S.failed side.new }
 {

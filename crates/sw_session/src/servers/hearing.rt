@@ -35,7 +35,9 @@ fn hear<E: Speaker, W: Sink, S: Sink, D: Desk>(
     side: &mut S,
     desk: &mut D,
 ) -> Result<After, ServeFault>
-    ensures heard { Hears E.voice D.passes own act (point engine.old desk.old (W.contents writer.old) (S.contents side.old)) (point engine.new desk.new (W.contents writer.new) (S.contents side.new)) result }
+    ensures heard { Hears E.voice D.passes own act
+        (point engine.old desk.old (W.contents writer.old) (S.contents side.old))
+        (point engine.new desk.new (W.contents writer.new) (S.contents side.new)) result }
     ensures judged { IfOk result (λ after. Judges (is_refused act) after) }
     ensures write { result ≡ Err ServeFault.Write → CameTo W.failed writer.new ⊎ CameTo S.failed side.new }
 {
@@ -62,7 +64,9 @@ pub fn attend<E: Speaker, W: Sink, S: Sink, D: Desk>(
     side: &mut S,
     desk: &mut D,
 ) -> Result<After, ServeFault>
-    ensures heard { HearsEach E.voice D.passes own (acts_for input) (point engine.old desk.old (W.contents writer.old) (S.contents side.old)) (point engine.new desk.new (W.contents writer.new) (S.contents side.new)) result }
+    ensures heard { HearsEach E.voice D.passes own (acts_for input)
+        (point engine.old desk.old (W.contents writer.old) (S.contents side.old))
+        (point engine.new desk.new (W.contents writer.new) (S.contents side.new)) result }
     ensures judged { IfOk result (λ after. Judges (is_refused input) after) }
     ensures write { result ≡ Err ServeFault.Write → CameTo W.failed writer.new ⊎ CameTo S.failed side.new }
 {

@@ -34,7 +34,8 @@ pub enum Next {
 
 /// One read. Its bytes are fed.
 fn listen<R: Source>(reader: &mut R, decoder: &mut Decoder) -> Result<Came, ServeFault>
-    ensures listens { Listens (R.remaining reader.old) (R.remaining reader.new) decoder.old.pending decoder.new.pending result }
+    ensures listens { Listens
+        (R.remaining reader.old) (R.remaining reader.new) decoder.old.pending decoder.new.pending result }
     ensures paused { result ≡ Ok Came.Paused → CameTo R.paused reader.new }
     ensures read { result ≡ Err ServeFault.Read → CameTo R.failed reader.new }
 {
@@ -90,7 +91,9 @@ fn hear_all<E: Speaker, W: Sink, S: Sink, D: Desk>(
     side: &mut S,
     desk: &mut D,
 ) -> Result<After, ServeFault>
-    ensures heard { HearsAll E.voice D.passes own decoder.old.pending decoder.new.pending (point engine.old desk.old (W.contents writer.old) (S.contents side.old)) (point engine.new desk.new (W.contents writer.new) (S.contents side.new)) result }
+    ensures heard { HearsAll E.voice D.passes own decoder.old.pending decoder.new.pending
+        (point engine.old desk.old (W.contents writer.old) (S.contents side.old))
+        (point engine.new desk.new (W.contents writer.new) (S.contents side.new)) result }
     ensures write { result ≡ Err ServeFault.Write → CameTo W.failed writer.new ⊎ CameTo S.failed side.new }
 {
     loop {
@@ -121,7 +124,10 @@ fn take_turn<E: Speaker, R: Source, W: Sink, S: Sink, D: Desk>(
     desk: &mut D,
 ) -> Result<Next, ServeFault>
     requires { Waits decoder.old.pending.bytes }
-    ensures turn { TakesTurn E.voice D.passes own (MayPause R.paused) decoder.old.pending decoder.new.pending (point engine.old desk.old (W.contents writer.old) (S.contents side.old)) (point engine.new desk.new (W.contents writer.new) (S.contents side.new)) (R.remaining reader.old) (R.remaining reader.new) result }
+    ensures turn { TakesTurn E.voice D.passes own (MayPause R.paused) decoder.old.pending decoder.new.pending
+        (point engine.old desk.old (W.contents writer.old) (S.contents side.old))
+        (point engine.new desk.new (W.contents writer.new) (S.contents side.new))
+        (R.remaining reader.old) (R.remaining reader.new) result }
     ensures read { result ≡ Err ServeFault.Read → CameTo R.failed reader.new }
     ensures write { result ≡ Err ServeFault.Write → CameTo W.failed writer.new ⊎ CameTo S.failed side.new }
 {
@@ -144,7 +150,10 @@ fn run<E: Speaker, R: Source, W: Sink, S: Sink, D: Desk>(
     desk: &mut D,
     turns: u64,
 ) -> Result<(), ServeFault>
-    ensures runs { Runs E.voice D.passes own (MayPause R.paused) turns (point engine.old desk.old (W.contents writer.old) (S.contents side.old)) (point engine.new desk.new (W.contents writer.new) (S.contents side.new)) (R.remaining reader.old) (R.remaining reader.new) result }
+    ensures runs { Runs E.voice D.passes own (MayPause R.paused) turns
+        (point engine.old desk.old (W.contents writer.old) (S.contents side.old))
+        (point engine.new desk.new (W.contents writer.new) (S.contents side.new))
+        (R.remaining reader.old) (R.remaining reader.new) result }
     ensures read { result ≡ Err ServeFault.Read → CameTo R.failed reader.new }
     ensures write { result ≡ Err ServeFault.Write → CameTo W.failed writer.new ⊎ CameTo S.failed side.new }
 {
@@ -182,7 +191,10 @@ pub fn serve_for<E: Speaker, R: Source, W: Sink, S: Sink, D: Desk>(
     desk: &mut D,
     turns: u64,
 ) -> Result<(), ServeFault>
-    ensures serves { Serves E.voice D.passes own (MayPause R.paused) turns (point engine.old desk.old (W.contents writer.old) (S.contents side.old)) (point engine.new desk.new (W.contents writer.new) (S.contents side.new)) (R.remaining reader.old) (R.remaining reader.new) result }
+    ensures serves { Serves E.voice D.passes own (MayPause R.paused) turns
+        (point engine.old desk.old (W.contents writer.old) (S.contents side.old))
+        (point engine.new desk.new (W.contents writer.new) (S.contents side.new))
+        (R.remaining reader.old) (R.remaining reader.new) result }
     ensures read { result ≡ Err ServeFault.Read → CameTo R.failed reader.new }
     ensures write { result ≡ Err ServeFault.Write → CameTo W.failed writer.new ⊎ CameTo S.failed side.new }
 {
