@@ -18,7 +18,7 @@ use Rattle.sw_session.specs.declared.servers.turns.Came.TheVariants as Came
 use Rattle.sw_session.specs.declared.servers.turns.Next.{Next}
 use Rattle.sw_session.specs.declared.servers.turns.Next.TheVariants.{On, Over}
 use Rattle.sw_session.specs.Trace.{Entry}
-use Rattle.sw_session.specs.Serve.{Voice, acts_for, arrived, pauses, is_pause, is_refused, Point, point, Stops, GoesThrough, Judges, HearsEach, Tells, Stands, Listens, HearsAll, conclude, Loses, LosesAt, EndsWell, FailsBy, EndsTurn, TakesTurn, EndsRun, Runs}
+use Rattle.sw_session.specs.Serve.{Voice, acts_for, arrived, pauses, is_pause, is_refused, Point, point, Stops, GoesThrough, Judges, HearsEach, HoldsMessage, Tells, Stands, Listens, HearsAll, conclude, Loses, LosesAt, EndsWell, FailsBy, EndsTurn, TakesTurn, EndsRun, Runs}
 use Rattle.sw_session.proofs.ServeKnown.{consumes-nothing, consumes-more}
 use Rattle.sw_session.proofs.ServeParts.{pauses-then, none-paused, either-paused, tells-nothing, tells-then, tells-paused, tells-fed, goes-nowhere, goes-then, stops-then}
 
@@ -51,7 +51,7 @@ turn-err v passes own may_pause p p' a input left fault waits (same, inr r) =
       inputs = [];
       paused = none-paused may_pause 0 refl;
       tells = subst (λ (q : Pending). Tells p q [] []) (sym same) (tells-nothing p);
-      ends = (inr (goes-nowhere v passes own a), λ e. absurd (cc (e)));
+      ends = (inr (goes-nowhere v passes own a, inl r.1.2), λ e. absurd (cc (e)));
     })
 
 pub turn-end : {E D : Type 0} (v : Voice E) (passes : D → Entry → D → Type 0) (own : Channel) (may_pause : Type 0) (p p' : Pending) (a : Point E D) (input left : Option (List ℕ))
@@ -75,7 +75,7 @@ record Turned {E D : Type 0} (v : Voice E) (passes : D → Entry → D → Type 
   paused : 0 < pauses inputs → may_pause
   reads : Consumes input left read
   tells : Tells p p' read inputs
-  ends : EndsTurn v passes own a b (flat_map acts_for inputs) p' (length read + pauses inputs) left result
+  ends : EndsTurn v passes own a b (flat_map acts_for inputs) p' [] (length read + pauses inputs) left result
 
 loses-none : {A : Type 0} (r : Result A ServeFault) → Loses r []
 loses-none (Ok x) = refl
@@ -92,26 +92,26 @@ turned v passes own may_pause p p' a b input left result t =
     record { read = t.read; lost = []; reads = none-lost input left t.read t.reads; loses = loses-none result; inputs = t.inputs; paused = t.paused; tells = t.tells; ends = t.ends }
 
 -- how acts end a turn
-ends-by : {E D : Type 0} (v : Voice E) (passes : D → Entry → D → Type 0) (own : Channel) (p : Pending) (a b : Point E D) (acts : List Act) (n : ℕ) (left : Option (List ℕ)) (after : After)
-    → 0 < n → GoesThrough v passes own a b acts after → Stands after p → EndsTurn v passes own a b acts p n left (conclude (Ok after))
-ends-by v passes own p a b acts n left Goes some g s = (g, s, some)
-ends-by v passes own p a b acts n left Ends some g s = inr g
-ends-by v passes own p a b acts n left Fatal some g s = (g, λ e. absurd (cc (e)))
-ends-by v passes own p a b acts n left Malformed some g s = ((g, s), λ e. absurd (cc (e)))
+ends-by : {E D : Type 0} (v : Voice E) (passes : D → Entry → D → Type 0) (own : Channel) (p : Pending) (a b : Point E D) (acts : List Act) (lost : List ℕ) (n : ℕ) (left : Option (List ℕ)) (after : After)
+    → 0 < n → GoesThrough v passes own a b acts after → Stands after p → EndsTurn v passes own a b acts p lost n left (conclude (Ok after))
+ends-by v passes own p a b acts lost n left Goes some g s = (g, s, some)
+ends-by v passes own p a b acts lost n left Ends some g s = inr g
+ends-by v passes own p a b acts lost n left Fatal some g s = (g, λ e. absurd (cc (e)))
+ends-by v passes own p a b acts lost n left Malformed some g s = ((g, s), λ e. absurd (cc (e)))
 
-stops-by : {E D : Type 0} (v : Voice E) (passes : D → Entry → D → Type 0) (own : Channel) (p : Pending) (a b : Point E D) (acts : List Act) (n : ℕ) (left : Option (List ℕ)) (fault : ServeFault)
-    → Stops v passes own a b acts fault → EndsTurn v passes own a b acts p n left (Err fault)
-stops-by v passes own p a b acts n left Fault.Write t = (t, λ e. absurd (cc (e)))
-stops-by v passes own p a b acts n left Fault.NoMemory t = (inl t, λ e. absurd (cc (e)))
-stops-by v passes own p a b acts n left Fault.Read t = absurd t.breaks
-stops-by v passes own p a b acts n left Fault.Wire t = absurd t.breaks
-stops-by v passes own p a b acts n left Fault.Fatal t = absurd t.breaks
-stops-by v passes own p a b acts n left Fault.ReadBound t = absurd t.breaks
+stops-by : {E D : Type 0} (v : Voice E) (passes : D → Entry → D → Type 0) (own : Channel) (p : Pending) (a b : Point E D) (acts : List Act) (lost : List ℕ) (n : ℕ) (left : Option (List ℕ)) (fault : ServeFault)
+    → Stops v passes own a b acts fault → EndsTurn v passes own a b acts p lost n left (Err fault)
+stops-by v passes own p a b acts lost n left Fault.Write t = (t, λ e. absurd (cc (e)))
+stops-by v passes own p a b acts lost n left Fault.NoMemory t = (inl t, λ e. absurd (cc (e)))
+stops-by v passes own p a b acts lost n left Fault.Read t = absurd t.breaks
+stops-by v passes own p a b acts lost n left Fault.Wire t = absurd t.breaks
+stops-by v passes own p a b acts lost n left Fault.Fatal t = absurd t.breaks
+stops-by v passes own p a b acts lost n left Fault.ReadBound t = absurd t.breaks
 
-starves-by : {E D : Type 0} (v : Voice E) (passes : D → Entry → D → Type 0) (own : Channel) (p : Pending) (a b : Point E D) (acts : List Act) (n : ℕ) (left : Option (List ℕ)) (fault : ServeFault)
-    → fault ≡ Fault.NoMemory → GoesThrough v passes own a b acts Goes → EndsTurn v passes own a b acts p n left (Err fault)
-starves-by v passes own p a b acts n left fault e g =
-    subst (λ (f : ServeFault). EndsTurn v passes own a b acts p n left (Err f)) (sym e) (inr g, λ x. absurd (cc (x)))
+starves-by : {E D : Type 0} (v : Voice E) (passes : D → Entry → D → Type 0) (own : Channel) (p : Pending) (a b : Point E D) (acts : List Act) (lost : List ℕ) (n : ℕ) (left : Option (List ℕ)) (fault : ServeFault)
+    → fault ≡ Fault.NoMemory → GoesThrough v passes own a b acts Goes → HoldsMessage p → EndsTurn v passes own a b acts p lost n left (Err fault)
+starves-by v passes own p a b acts lost n left fault e g w =
+    subst (λ (f : ServeFault). EndsTurn v passes own a b acts p lost n left (Err f)) (sym e) (inr (g, inr w), λ x. absurd (cc (x)))
 
 paused-stands : (p : Pending) (after : After) → Waits p.bytes → Judges false after → Stands after p
 paused-stands p Goes waits j = waits
@@ -132,7 +132,7 @@ turn-paused v passes own may_pause p p' a b input left (Ok after) can waits l h 
       paused = λ h. can;
       reads = l.0;
       tells = subst (λ (q : Pending). Tells p q [] (Notices ∷ [])) (sym l.1) (tells-paused p);
-      ends = ends-by v passes own p' a b (Notices ∷ []) 1 left after (omega (arith)) h (paused-stands p' after (subst (λ (q : Pending). Waits q.bytes) (sym l.1) waits) (judged after refl));
+      ends = ends-by v passes own p' a b (Notices ∷ []) [] 1 left after (omega (arith)) h (paused-stands p' after (subst (λ (q : Pending). Waits q.bytes) (sym l.1) waits) (judged after refl));
     })
 turn-paused v passes own may_pause p p' a b input left (Err fault) can waits l h judged =
     turned v passes own may_pause p p' a b input left (Err fault) (record {
@@ -141,7 +141,7 @@ turn-paused v passes own may_pause p p' a b input left (Err fault) can waits l h
       paused = λ h. can;
       reads = l.0;
       tells = subst (λ (q : Pending). Tells p q [] (Notices ∷ [])) (sym l.1) (tells-paused p);
-      ends = stops-by v passes own p' a b (Notices ∷ []) 1 left fault h;
+      ends = stops-by v passes own p' a b (Notices ∷ []) [] 1 left fault h;
     })
 
 tells-read : (p p' q : Pending) (piece : List ℕ) (inputs : List Act) → p' ≡ fed p piece → Tells p' q [] inputs → Tells p q piece inputs
@@ -156,7 +156,7 @@ turn-bytes v passes own may_pause p p' q a b input left (Ok after) (piece, some,
       paused = none-paused may_pause (pauses h.inputs) h.unpaused;
       reads = reads;
       tells = tells-read p p' q piece h.inputs e h.tells;
-      ends = ends-by v passes own q a b (flat_map acts_for h.inputs) (length piece + pauses h.inputs) left after (omega (arith, some)) h.spoken.0 h.spoken.1;
+      ends = ends-by v passes own q a b (flat_map acts_for h.inputs) [] (length piece + pauses h.inputs) left after (omega (arith, some)) h.spoken.0 h.spoken.1;
     })
 turn-bytes v passes own may_pause p p' q a b input left (Err fault) (piece, some, reads, e) h =
     turned v passes own may_pause p q a b input left (Err fault) (record {
@@ -166,8 +166,8 @@ turn-bytes v passes own may_pause p p' q a b input left (Err fault) (piece, some
       reads = reads;
       tells = tells-read p p' q piece h.inputs e h.tells;
       ends = elim h.spoken [
-        | inl t ↦ stops-by v passes own q a b (flat_map acts_for h.inputs) (length piece + pauses h.inputs) left fault t
-        | inr t ↦ starves-by v passes own q a b (flat_map acts_for h.inputs) (length piece + pauses h.inputs) left fault t.0 t.1
+        | inl t ↦ stops-by v passes own q a b (flat_map acts_for h.inputs) [] (length piece + pauses h.inputs) left fault t
+        | inr t ↦ starves-by v passes own q a b (flat_map acts_for h.inputs) [] (length piece + pauses h.inputs) left fault t.0 t.1 t.2
       ];
     })
 
@@ -255,15 +255,15 @@ well-then : {E D : Type 0} (v : Voice E) (passes : D → Entry → D → Type 0)
 well-then v passes own a b c is js p left g (inl (h, w, e)) = inl (goes-then v passes own a b c is js Goes g h, w, e)
 well-then v passes own a b c is js p left g (inr h) = inr (goes-then v passes own a b c is js Ends g h)
 
-fails-then : {E D : Type 0} (v : Voice E) (passes : D → Entry → D → Type 0) (own : Channel) (a b c : Point E D) (is js : List Act) (p : Pending) (n turns m : ℕ) (fault : ServeFault)
-    → GoesThrough v passes own a b is Goes → FailsBy v passes own b c js p 0 n fault → (fault ≡ Fault.ReadBound → ⊥) → FailsBy v passes own a c (is ++ js) p turns m fault
-fails-then v passes own a b c is js p n turns m Fault.Read g h other = (goes-then v passes own a b c is js Goes g h.0, h.1)
-fails-then v passes own a b c is js p n turns m Fault.Write g h other = stops-then v passes own a b c is js Fault.Write g h
-fails-then v passes own a b c is js p n turns m Fault.Wire g h other = (goes-then v passes own a b c is js Malformed g h.0, h.1)
-fails-then v passes own a b c is js p n turns m Fault.Fatal g h other = goes-then v passes own a b c is js Fatal g h
-fails-then v passes own a b c is js p n turns m Fault.NoMemory g (inl h) other = inl (stops-then v passes own a b c is js Fault.NoMemory g h)
-fails-then v passes own a b c is js p n turns m Fault.NoMemory g (inr h) other = inr (goes-then v passes own a b c is js Goes g h)
-fails-then v passes own a b c is js p n turns m Fault.ReadBound g h other = absurd (other refl)
+fails-then : {E D : Type 0} (v : Voice E) (passes : D → Entry → D → Type 0) (own : Channel) (a b c : Point E D) (is js : List Act) (p : Pending) (lost : List ℕ) (n turns m : ℕ) (fault : ServeFault)
+    → GoesThrough v passes own a b is Goes → FailsBy v passes own b c js p lost 0 n fault → (fault ≡ Fault.ReadBound → ⊥) → FailsBy v passes own a c (is ++ js) p lost turns m fault
+fails-then v passes own a b c is js p lost n turns m Fault.Read g h other = (goes-then v passes own a b c is js Goes g h.0, h.1)
+fails-then v passes own a b c is js p lost n turns m Fault.Write g h other = stops-then v passes own a b c is js Fault.Write g h
+fails-then v passes own a b c is js p lost n turns m Fault.Wire g h other = (goes-then v passes own a b c is js Malformed g h.0, h.1)
+fails-then v passes own a b c is js p lost n turns m Fault.Fatal g h other = goes-then v passes own a b c is js Fatal g h
+fails-then v passes own a b c is js p lost n turns m Fault.NoMemory g (inl h) other = inl (stops-then v passes own a b c is js Fault.NoMemory g h)
+fails-then v passes own a b c is js p lost n turns m Fault.NoMemory g (inr h) other = inr (goes-then v passes own a b c is js Goes g h.0, h.1)
+fails-then v passes own a b c is js p lost n turns m Fault.ReadBound g h other = absurd (other refl)
 
 reads-then : (input mid left : Option (List ℕ)) (read more lost : List ℕ) → Consumes input mid read → Consumes mid left (more ++ lost) → Consumes input left ((read ++ more) ++ lost)
 reads-then input mid left read more lost c d = subst (λ (l : List ℕ). Consumes input left l) (sym (append_assoc read more lost)) (consumes-more input mid left read (more ++ lost) c d)
@@ -289,7 +289,7 @@ law-follows law p read inputs t = subst (λ (b : List ℕ). Follows b (flat_map 
 pub runs : {E D : Type 0} (v : Voice E) (passes : D → Entry → D → Type 0) (own : Channel) (may_pause : Type 0) (turns : ℕ) (p : Pending) (a b : Point E D) (input left : Option (List ℕ)) (result : Result (Unit {0}) ServeFault) (read lost : List ℕ) (inputs : List Act)
     → ((calls : List Call) (q : Pending) → EveryMessageComesOut calls q) → ((bytes : List ℕ) (t : List (Result Message Kind)) (q : Pending) → LeavesARest bytes t q)
     → Consumes input left (read ++ lost) → Loses result lost → (0 < pauses inputs → may_pause) → Tells nothing_fed p read inputs
-    → EndsRun v passes own a b (flat_map acts_for inputs) p turns (length read + pauses inputs) left result → Runs v passes own may_pause turns a b input left result
+    → EndsRun v passes own a b (flat_map acts_for inputs) p lost turns (length read + pauses inputs) left result → Runs v passes own may_pause turns a b input left result
 runs v passes own may_pause turns p a b input left result read lost inputs law rest reads loses paused tells ends = record {
   read = read;
   lost = lost;
@@ -317,8 +317,8 @@ pub runs-fault : {E D : Type 0} (v : Voice E) (passes : D → Entry → D → Ty
 runs-fault v passes own may_pause turns n q p a b c input mid left fault law rest g t =
     runs v passes own may_pause turns p a c input left (Err fault) (g.read ++ t.read) t.lost (g.inputs ++ t.inputs) law rest (reads-then input mid left g.read t.read t.lost g.reads t.reads) t.loses (either-paused may_pause g.inputs t.inputs g.paused t.paused)
     (tells-then nothing_fed q p g.read t.read g.inputs t.inputs g.tells t.tells)
-    (subst (λ (l : List Act). FailsBy v passes own a c l p turns (length (g.read ++ t.read) + pauses (g.inputs ++ t.inputs)) fault) (acts-then g.inputs t.inputs)
-    (fails-then v passes own a b c (flat_map acts_for g.inputs) (flat_map acts_for t.inputs) p (length t.read + pauses t.inputs) turns (length (g.read ++ t.read) + pauses (g.inputs ++ t.inputs)) fault g.goes t.ends.0 t.ends.1))
+    (subst (λ (l : List Act). FailsBy v passes own a c l p t.lost turns (length (g.read ++ t.read) + pauses (g.inputs ++ t.inputs)) fault) (acts-then g.inputs t.inputs)
+    (fails-then v passes own a b c (flat_map acts_for g.inputs) (flat_map acts_for t.inputs) p t.lost (length t.read + pauses t.inputs) turns (length (g.read ++ t.read) + pauses (g.inputs ++ t.inputs)) fault g.goes t.ends.0 t.ends.1))
 
 pub runs-bound : {E D : Type 0} (v : Voice E) (passes : D → Entry → D → Type 0) (own : Channel) (may_pause : Type 0) (turns n : ℕ) (p : Pending) (a b : Point E D) (input left : Option (List ℕ))
     → ((calls : List Call) (q : Pending) → EveryMessageComesOut calls q) → ((bytes : List ℕ) (t : List (Result Message Kind)) (q : Pending) → LeavesARest bytes t q)

@@ -22,7 +22,7 @@ use Rattle.sw_session.specs.declared.servers.turns.Came.TheVariants as Came
 use Rattle.sw_session.specs.declared.servers.turns.Next.{Next}
 use Rattle.sw_session.specs.declared.servers.turns.Next.TheVariants.{On, Over}
 use Rattle.sw_session.specs.Trace.{Entry}
-use Rattle.sw_session.specs.Serve.{Voice, Exchange, Speaks, acts_for, acts_of, arrived, is_refused, after_of, pauses, is_pause, Point, point, Spoken, Stops, Breaks, GoesThrough, Judges, Hears, HearsEach, Finds, NextInput, Tells, Stands, Listens, HearsInputs, HearsAll, conclude, Loses, LosesAt, EndsWell, FailsBy, EndsTurn, TakesTurn, EndsRun, Runs}
+use Rattle.sw_session.specs.Serve.{Voice, Exchange, Speaks, acts_for, acts_of, arrived, is_refused, after_of, pauses, is_pause, Point, point, Spoken, Stops, Breaks, GoesThrough, Judges, Hears, HearsEach, Finds, HoldsMessage, NextInput, Tells, Stands, Listens, HearsInputs, HearsAll, conclude, Loses, LosesAt, EndsWell, FailsBy, EndsTurn, TakesTurn, EndsRun, Runs}
 use Rattle.sw_session.proofs.ServeKnown.{consumes-nothing, consumes-more}
 use Rattle.sw_session.proofs.ServeParts.{found-unpaused, none-more, tells-nothing, tells-then, tells-found, tells-paused, tells-fed, goes-nowhere, goes-then, ends-before, stops-then, stops-at}
 
@@ -147,9 +147,9 @@ all-stopped v passes own p q q' a b c input fault k f h = record {
 }
 
 pub all-starved : {E D : Type 0} (v : Voice E) (passes : D → Entry → D → Type 0) (own : Channel) (p q q' : Pending) (a b : Point E D) (fault : ServeFault) → Hearing v passes own p q a b → NextInput q q' (Err fault) → HearsAll v passes own p q' a b (Err fault)
-all-starved v passes own p q q' a b fault k (e, same) = record {
+all-starved v passes own p q q' a b fault k (e, same, whole) = record {
   inputs = k.inputs;
   unpaused = k.unpaused;
   tells = subst (λ (r : Pending). Tells p r [] k.inputs) (sym same) k.tells;
-  spoken = inr (e, k.goes);
+  spoken = inr (e, k.goes, subst (λ (r : Pending). HoldsMessage r) (sym same) whole);
 }

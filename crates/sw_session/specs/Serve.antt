@@ -7,7 +7,7 @@ use Rattle.sw_hislip.specs.declared.fault.WireFault.TheVariants.{TooLarge, BadPr
 use Rattle.sw_hislip.specs.declared.kind.Kind.{Kind}
 use Rattle.sw_hislip.specs.declared.kind.Kind.TheVariants as Kind
 use Rattle.sw_hislip.specs.declared.message.Message.{Message}
-use Rattle.sw_hislip.specs.Pending.{Pending, nothing_fed, fed, Waits, GivesNext, HasWrongPrologue}
+use Rattle.sw_hislip.specs.Pending.{Pending, nothing_fed, fed, Waits, GivesNext, HasMessage, HasWrongPrologue}
 use Rattle.sw_hislip.specs.Stream.{Call, Decodes, stream_of, told, Follows, IsStream, Rests}
 use Rattle.sw_core.specs.declared.ask.Sid.{Sid}
 use Rattle.sw_core.specs.declared.ask.SessionAsk.TheVariants as Ask
@@ -201,6 +201,10 @@ abbrev pub HearsEach : {E D : Type 0} → Voice E → (D → Entry → D → Typ
 HearsEach v passes own acts a b (Ok after) = GoesThrough v passes own a b acts after
 HearsEach v passes own acts a b (Err fault) = Stops v passes own a b acts fault
 
+-- a whole message stands at the front
+abbrev pub HoldsMessage : Pending → Type 0
+HoldsMessage p = (m : Message) × (more : List ℕ) × HasMessage p.bytes m more
+
 -- what the wire tells next
 abbrev pub Finds : Pending → Act → Pending → Type 0
 Finds p (Takes m) p' = GivesNext p (Ok (Some m)) p'
@@ -208,18 +212,21 @@ Finds p (Skips kind) p' = GivesNext p (Err (TooLarge kind)) p'
 Finds p Refuses p' = GivesNext p (Err BadPrologue) p'
 Finds p Notices p' = ⊥
 
+-- where there is no memory for a message that is whole, it stays
 abbrev pub NextInput : Pending → Pending → Result (Option Act) ServeFault → Type 0
 NextInput p p' (Ok None) = Waits p.bytes × (p' ≡ p)
 NextInput p p' (Ok (Some input)) = Finds p input p'
-NextInput p p' (Err fault) = (fault ≡ Fault.NoMemory) × (p' ≡ p)
+NextInput p p' (Err fault) = (fault ≡ Fault.NoMemory) × (p' ≡ p) × HoldsMessage p
 
 -- one read: what came is fed, or lost where there is no memory for it
 abbrev pub Listens : Option (List ℕ) → Option (List ℕ) → Pending → Pending → Result Came ServeFault → Type 0
 Listens old new p p' (Ok End) = Consumes old new [] × IsAtEnd new × (p' ≡ p)
 Listens old new p p' (Ok Bytes) = (piece : List ℕ) × (0 < length piece) × Consumes old new piece × (p' ≡ fed p piece)
 Listens old new p p' (Ok Paused) = Consumes old new [] × (p' ≡ p)
-Listens old new p p' (Err e) = (p' ≡ p)
-    × (((e ≡ Fault.Read) × Consumes old new []) ⊎ ((e ≡ Fault.NoMemory) × ((lost : List ℕ) × Consumes old new lost)))
+Listens old new p p' (Err e) =
+    (p' ≡ p)
+    × (((e ≡ Fault.Read) × Consumes old new [])
+    ⊎ ((e ≡ Fault.NoMemory) × ((lost : List ℕ) × Consumes old new lost × (0 < length lost))))
 
 -- a decoder was fed these bytes, and this is what it told
 pub record Tells (p p' : Pending) (read : List ℕ) (inputs : List Act) : Type 0 where
@@ -241,7 +248,7 @@ HearsInputs v passes own inputs p a b (Ok after) = GoesThrough v passes own a b 
     × Stands after p
 HearsInputs v passes own inputs p a b (Err fault) =
     Stops v passes own a b (flat_map acts_for inputs) fault
-    ⊎ ((fault ≡ Fault.NoMemory) × GoesThrough v passes own a b (flat_map acts_for inputs) Goes)
+    ⊎ ((fault ≡ Fault.NoMemory) × GoesThrough v passes own a b (flat_map acts_for inputs) Goes × HoldsMessage p)
 
 -- all that the wire tells is gone through, or what it tells up to an end of the channel or a fault
 pub record HearsAll {E D : Type 0} (v : Voice E) (passes : D → Entry → D → Type 0) (own : Channel) (p p' : Pending)
@@ -276,25 +283,29 @@ abbrev pub EndsWell : {E D : Type 0} → Voice E → (D → Entry → D → Type
 EndsWell v passes own a b acts p left = (GoesThrough v passes own a b acts Goes × Waits p.bytes × IsAtEnd left)
     ⊎ GoesThrough v passes own a b acts Ends
 
+-- there was no memory for bytes that came, or for a whole message at the front
+abbrev pub LacksMemory : Pending → List ℕ → Type 0
+LacksMemory p lost = (0 < length lost) ⊎ HoldsMessage p
+
 -- Why a run fails: after a read fault all that was read is gone through; a wrong prologue stands in a message's place, or
 -- the engine met a fatal error; ReadBound comes after as many bytes and pauses as there are turns.
 abbrev pub FailsBy : {E D : Type 0} → Voice E → (D → Entry → D → Type 0) → Channel → Point E D → Point E D → List Act
-    → Pending → ℕ → ℕ → ServeFault → Type 0
-FailsBy v passes own a b acts p turns n Fault.Read = GoesThrough v passes own a b acts Goes × Waits p.bytes
-FailsBy v passes own a b acts p turns n Fault.Write = Stops v passes own a b acts Fault.Write
-FailsBy v passes own a b acts p turns n Fault.Wire = GoesThrough v passes own a b acts Malformed
+    → Pending → List ℕ → ℕ → ℕ → ServeFault → Type 0
+FailsBy v passes own a b acts p lost turns n Fault.Read = GoesThrough v passes own a b acts Goes × Waits p.bytes
+FailsBy v passes own a b acts p lost turns n Fault.Write = Stops v passes own a b acts Fault.Write
+FailsBy v passes own a b acts p lost turns n Fault.Wire = GoesThrough v passes own a b acts Malformed
     × HasWrongPrologue p.bytes
-FailsBy v passes own a b acts p turns n Fault.Fatal = GoesThrough v passes own a b acts Fatal
-FailsBy v passes own a b acts p turns n Fault.NoMemory = Stops v passes own a b acts Fault.NoMemory
-    ⊎ GoesThrough v passes own a b acts Goes
-FailsBy v passes own a b acts p turns n Fault.ReadBound = GoesThrough v passes own a b acts Goes × Waits p.bytes
+FailsBy v passes own a b acts p lost turns n Fault.Fatal = GoesThrough v passes own a b acts Fatal
+FailsBy v passes own a b acts p lost turns n Fault.NoMemory = Stops v passes own a b acts Fault.NoMemory
+    ⊎ (GoesThrough v passes own a b acts Goes × LacksMemory p lost)
+FailsBy v passes own a b acts p lost turns n Fault.ReadBound = GoesThrough v passes own a b acts Goes × Waits p.bytes
     × (turns ≤ n)
 
 abbrev pub EndsTurn : {E D : Type 0} → Voice E → (D → Entry → D → Type 0) → Channel → Point E D → Point E D → List Act
-    → Pending → ℕ → Option (List ℕ) → Result Next ServeFault → Type 0
-EndsTurn v passes own a b acts p n left (Ok On) = GoesThrough v passes own a b acts Goes × Waits p.bytes × (0 < n)
-EndsTurn v passes own a b acts p n left (Ok Over) = EndsWell v passes own a b acts p left
-EndsTurn v passes own a b acts p n left (Err fault) = FailsBy v passes own a b acts p 0 n fault
+    → Pending → List ℕ → ℕ → Option (List ℕ) → Result Next ServeFault → Type 0
+EndsTurn v passes own a b acts p lost n left (Ok On) = GoesThrough v passes own a b acts Goes × Waits p.bytes × (0 < n)
+EndsTurn v passes own a b acts p lost n left (Ok Over) = EndsWell v passes own a b acts p left
+EndsTurn v passes own a b acts p lost n left (Err fault) = FailsBy v passes own a b acts p lost 0 n fault
     × (fault ≡ Fault.ReadBound → ⊥)
 
 -- one read, and what is gone through for it; may_pause says that a time limit can end a read
@@ -307,12 +318,13 @@ pub record TakesTurn {E D : Type 0} (v : Voice E) (passes : D → Entry → D �
   pub inputs : List Act
   pub paused : 0 < pauses inputs → may_pause
   pub tells : Tells p p' read inputs
-  pub ends : EndsTurn v passes own a b (flat_map acts_for inputs) p' (length read + pauses inputs) left result
+  pub ends : EndsTurn v passes own a b (flat_map acts_for inputs) p' lost
+      (length read + pauses inputs) left result
 
 abbrev pub EndsRun : {E D : Type 0} → Voice E → (D → Entry → D → Type 0) → Channel → Point E D → Point E D → List Act
-    → Pending → ℕ → ℕ → Option (List ℕ) → Result (Unit {0}) ServeFault → Type 0
-EndsRun v passes own a b acts p turns n left (Ok _) = EndsWell v passes own a b acts p left
-EndsRun v passes own a b acts p turns n left (Err fault) = FailsBy v passes own a b acts p turns n fault
+    → Pending → List ℕ → ℕ → ℕ → Option (List ℕ) → Result (Unit {0}) ServeFault → Type 0
+EndsRun v passes own a b acts p lost turns n left (Ok _) = EndsWell v passes own a b acts p left
+EndsRun v passes own a b acts p lost turns n left (Err fault) = FailsBy v passes own a b acts p lost turns n fault
 
 -- These bytes were read, however they were cut. The messages that stand in them are what the engine is asked, as far as
 -- the run came; where it waits for more, or stands at a wrong prologue, those are all messages of the stream. No time
@@ -328,7 +340,8 @@ pub record Runs {E D : Type 0} (v : Voice E) (passes : D → Entry → D → Typ
   pub pending : Pending
   pub follows : Follows read (flat_map arrived inputs) pending
   pub stream : Rests pending.bytes → IsStream read follows.messages follows.rest
-  pub ends : EndsRun v passes own a b (flat_map acts_for inputs) pending turns (length read + pauses inputs) left result
+  pub ends : EndsRun v passes own a b (flat_map acts_for inputs) pending lost turns
+      (length read + pauses inputs) left result
 
 -- a session that was joined is left, and nothing else is asked
 abbrev pub Leaves : {D : Type 0} → (D → Entry → D → Type 0) → Option Sid → D → D → Type 0
