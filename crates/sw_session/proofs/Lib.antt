@@ -23,3 +23,5 @@ pub mod ServeKnown
 pub mod ServeParts
 pub mod ServeWays
 pub mod ServeTurns
+pub mod ServeSpeaks
+pub mod ServeReads
