@@ -24,4 +24,3 @@ pub mod ServeParts
 pub mod ServeWays
 pub mod ServeTurns
 pub mod ServeSpeaks
-pub mod ServeReads

@@ -52,7 +52,8 @@ EngineFalters e (Act.Takes m) asked f = Falters e.spent asked × (session_of f.s
     × (f.spent ≡ true)
 EngineFalters e act asked f = (asked ≡ []) × (f ≡ e)
 
-pub engine_voice : Voice EngineStanding
+-- the definition of a HiSLIP engine
+abbrev pub engine_voice : Voice EngineStanding
 engine_voice = record { speaks = EngineSpeaks; falters = EngineFalters; session = λ e. session_of e.state }
 
 -- A server of one channel, from its first byte on: an engine on which nothing has come is served.

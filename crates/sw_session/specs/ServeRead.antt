@@ -1,22 +1,21 @@
 -- What a server makes of its reads.
-use Rattle.std.specs.Prelude.{◌≡◌, ◌<◌, ℕ, List, Option, None, Some, Result, Ok, Err}
-use Rattle.std.specs.IoError.{error_kind}
-use Rattle.std_io.specs.declared.io.error.Error.{Error}
-use Rattle.std_io.specs.declared.io.kind.ErrorKind.{ErrorKind}
-use Rattle.std_io.specs.declared.io.kind.ErrorKind.TheVariants.{Interrupted, TimedOut, WouldBlock}
+use Rattle.std.specs.Prelude.{◌≡◌, ◌≢◌, ◌⊎◌, ℕ, Option, None, Some, Result, Ok, Err}
 use Rattle.sw_session.specs.declared.servers.source.Unread.{Unread}
 use Rattle.sw_session.specs.declared.servers.source.Unread.TheVariants.{Paused, Failed}
 
--- an interrupted read is asked again, one that a time limit ended gives nothing, and any other error is a failure
-abbrev pub read_by : ErrorKind → Option (Result ℕ Unread)
-read_by Interrupted = None
-read_by TimedOut = Some (Err Paused)
-read_by WouldBlock = Some (Err Paused)
-read_by kind = Some (Err Failed)
+-- a read that gave bytes comes to just these, and one that gave an error to none
+abbrev pub Gives : {E : Type 0} → Result ℕ E → Option (Result ℕ Unread) → Type 0
+Gives (Ok n) told = told ≡ Some (Ok n)
+Gives (Err e) (Some (Ok n)) = ⊥
+Gives (Err e) (Some (Err why)) = Unit {0}
+Gives (Err e) None = Unit {0}
 
-abbrev pub read_of : Result ℕ Error → Option (Result ℕ Unread)
-read_of (Ok n) = Some (Ok n)
-read_of (Err e) = read_by (error_kind e)
+-- What an error of this kind comes to: interrupted, the read is asked again; one of the two kinds of a time limit ended
+-- it; it failed.
+pub record ComesTo {K : Type 0} (interrupted timed_out would_block kind : K) (told : Option (Result ℕ Unread)) : Type 0 where
+  pub again : kind ≡ interrupted → told ≡ None
+  pub limit : (kind ≡ timed_out) ⊎ (kind ≡ would_block) → told ≡ Some (Err Paused)
+  pub failure : kind ≢ interrupted → kind ≢ timed_out → kind ≢ would_block → told ≡ Some (Err Failed)
 
 -- such a step has led to this state
 abbrev pub CameTo : {A : Type 0} → (A → A → Type 0) → A → Type 0
