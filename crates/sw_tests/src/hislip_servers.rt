@@ -5,7 +5,8 @@ use std::io::{self, ErrorKind, Read, Write};
 use sw_base::Sequence;
 use sw_core::{SessionAnswer, SessionAsk, Sid};
 use sw_session::{
-    Desk, ServeFault, View, Wake, serve_async, serve_async_for, serve_sync, serve_sync_for,
+    Desk, Memory, ServeFault, Source, View, Wake, serve_async, serve_async_for, serve_sync,
+    serve_sync_for,
 };
 
 /// A desk with one session, whose client takes messages of 27 bytes. It answers each command with its identity, and
@@ -215,7 +216,7 @@ struct Served {
     leaves: u32,
 }
 
-fn serve_synchronous<R: Read>(alloc: Global, reader: &mut R, turns: u64) -> Served {
+fn serve_synchronous<R: Source>(alloc: Global, reader: &mut R, turns: u64) -> Served {
     let mut main = Vec::new(alloc);
     let mut side = Vec::new(alloc);
     let mut desk = Station::new(alloc);
@@ -231,7 +232,7 @@ fn serve_synchronous<R: Read>(alloc: Global, reader: &mut R, turns: u64) -> Serv
     }
 }
 
-fn serve_asynchronous<R: Read>(alloc: Global, reader: &mut R, turns: u64) -> Served {
+fn serve_asynchronous<R: Source>(alloc: Global, reader: &mut R, turns: u64) -> Served {
     let mut main = Vec::new(alloc);
     let mut side = Vec::new(alloc);
     let mut desk = Station::new(alloc);
@@ -276,6 +277,21 @@ fn cuts_make_no_difference(rt: HostRuntime) {
         assert!(rt; is_whole_talk(rt.alloc(), cut, 512) && is_whole_talk(rt.alloc(), cut, cut));
     }
     assert!(rt; is_whole_talk(rt.alloc(), 512, 512));
+}
+
+/// Whether the talk is answered whole from memory, in so many turns.
+fn is_whole_from_memory(alloc: Global, turns: u64, end: Result<(), ServeFault>) -> bool {
+    let mut memory = Memory { left: TALK };
+    let served = serve_synchronous(alloc, &mut memory, turns);
+    memory.left.is_empty() && is_served(served, end, SAID, SAID_BESIDE, 1)
+}
+
+#[test]
+fn memory_is_read_whole(rt: HostRuntime) {
+    let bound = Err(ServeFault::ReadBound);
+    assert!(rt;
+        is_whole_from_memory(rt.alloc(), 2, Ok(())) && is_whole_from_memory(rt.alloc(), 1, bound)
+    );
 }
 
 /// How many bytes of the answer, and of what is said beside it, follow so many bytes of the talk.
