@@ -8,13 +8,11 @@ use Rattle.sw_core.specs.declared.ask.SessionAsk.TheVariants as Ask
 use Rattle.sw_core.specs.declared.ask.SessionAnswer.{SessionAnswer}
 use Rattle.sw_core.specs.declared.ask.SessionAnswer.TheVariants.{Max}
 use Rattle.sw_session.specs.declared.engine.front.Front.{Front}
-use Rattle.sw_session.specs.declared.engine.front.Front.TheVariants as Front
 use Rattle.sw_session.specs.declared.engine.requests.SyncRequest.{SyncRequest}
 use Rattle.sw_session.specs.declared.engine.requests.SyncRequest.TheVariants as Request
 use Rattle.sw_session.specs.declared.engine.step.Reply.{Reply}
 use Rattle.sw_session.specs.declared.engine.step.Step.{Step}
 use Rattle.sw_session.specs.declared.engine.synchronous.Delivery.{Delivery}
-use Rattle.sw_session.specs.declared.engine.synchronous.Delivery.TheVariants as Delivery
 use Rattle.sw_session.specs.EngineKinds.{sync_request}
 use Rattle.sw_session.specs.EngineStep.{LedBy, goes}
 use Rattle.sw_session.specs.EngineSync.{SyncStanding, IsToBeCut, LosesAnswer, FinishesShort, ProgramsShort, AttendedShort, ServesShort, FaltersSync, Attends}

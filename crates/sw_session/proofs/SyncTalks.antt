@@ -8,7 +8,6 @@ use Rattle.sw_core.specs.declared.ask.Sid.{Sid}
 use Rattle.sw_core.specs.declared.ask.SessionAsk.TheVariants as Ask
 use Rattle.sw_core.specs.declared.ask.SessionAnswer.{SessionAnswer}
 use Rattle.sw_session.specs.declared.engine.front.Front.{Front}
-use Rattle.sw_session.specs.declared.engine.front.Front.TheVariants as Front
 use Rattle.sw_session.specs.declared.engine.requests.SyncRequest.{SyncRequest}
 use Rattle.sw_session.specs.declared.engine.requests.SyncRequest.TheVariants as Request
 use Rattle.sw_session.specs.declared.engine.step.Channel.TheVariants.{Synchronous}
@@ -16,13 +15,12 @@ use Rattle.sw_session.specs.declared.engine.step.Reply.{Reply}
 use Rattle.sw_session.specs.declared.engine.step.Sent.{Sent}
 use Rattle.sw_session.specs.declared.engine.step.Step.{Step}
 use Rattle.sw_session.specs.declared.engine.synchronous.Delivery.{Delivery}
-use Rattle.sw_session.specs.declared.engine.synchronous.Delivery.TheVariants as Delivery
 use Rattle.sw_session.specs.EngineKinds.{sync_request}
 use Rattle.sw_session.specs.EngineStep.{LedBy, Unasked, goes, over, joined, reply_step}
 use Rattle.sw_session.specs.EngineSync.{SyncStanding, Answers, Converses, SaysMore, Finishes, Triggers, Programs, Attended, ServesProgram, Attends, gate_step}
 use Rattle.sw_session.specs.EngineSync.{Delivers, delivery_step, said_of, is_within, is_program, with_part, whole, RepliesSync, TakesSync}
 use Rattle.sw_session.specs.Talk.{Talked, state}
-use Rattle.sw_session.specs.Trace.{Entry, Asked, Leads, Led}
+use Rattle.sw_session.specs.Trace.{Entry, Asked, Led}
 use Rattle.sw_session.proofs.Led.{leads-append}
 
 -- a program message was talked over, the size asked, and its answer given

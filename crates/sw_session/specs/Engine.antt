@@ -1,6 +1,6 @@
 -- A channel of a session: what is asked and said to each message, from the first one on (IVI-6.1 HiSLIP, synchronized
 -- mode).
-use Rattle.std.specs.Prelude.{◌≡◌, Bool, true, false, MatchBool, List, [], Option, None, Some}
+use Rattle.std.specs.Prelude.{◌≡◌, Bool, false, MatchBool, List, [], Option, None, Some}
 use Rattle.sw_hislip.specs.declared.kind.Kind.{Kind}
 use Rattle.sw_hislip.specs.declared.message.Message.{Message}
 use Rattle.sw_core.specs.declared.ask.Sid.{Sid}

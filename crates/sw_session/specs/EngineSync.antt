@@ -5,16 +5,13 @@ use Rattle.std.specs.Prelude.{Some, Result, Ok, Err, if◌then◌else◌}
 use Rattle.std.specs.Io.BufRead.{strip_last}
 use Rattle.sw_base.specs.declared.error.ScpiError.TheVariants.{GetNotAllowed, QueryInterrupted}
 use Rattle.sw_hislip.specs.declared.kind.Kind.{Kind}
-use Rattle.sw_hislip.specs.declared.kind.Kind.TheVariants as Kind
 use Rattle.sw_hislip.specs.declared.message.Message.{Message}
 use Rattle.sw_macro.specs.Table.{Table, no_macros}
 use Rattle.sw_core.specs.declared.ask.Sid.{Sid}
 use Rattle.sw_core.specs.declared.ask.SessionAsk.TheVariants as Ask
 use Rattle.sw_core.specs.declared.ask.SessionAnswer.{SessionAnswer}
 use Rattle.sw_core.specs.declared.ask.SessionAnswer.TheVariants.{Joined, Full, Missed, Max, Done}
-use Rattle.sw_session.specs.declared.desk.View.{View}
 use Rattle.sw_session.specs.declared.engine.front.Front.{Front}
-use Rattle.sw_session.specs.declared.engine.front.Front.TheVariants as Front
 use Rattle.sw_session.specs.declared.engine.refusals.ErrorCode.TheVariants.{UnrecognizedType, UnrecognizedVendor}
 use Rattle.sw_session.specs.declared.engine.refusals.FatalCode.TheVariants.{WithoutBothChannels, InvalidInitialization}
 use Rattle.sw_session.specs.declared.engine.refusals.FatalCode.TheVariants.{TooManyClients}
@@ -24,13 +21,12 @@ use Rattle.sw_session.specs.declared.engine.step.Channel.TheVariants.{Synchronou
 use Rattle.sw_session.specs.declared.engine.step.Reply.{Reply}
 use Rattle.sw_session.specs.declared.engine.step.Sent.{Sent}
 use Rattle.sw_session.specs.declared.engine.synchronous.Delivery.{Delivery}
-use Rattle.sw_session.specs.declared.engine.synchronous.Delivery.TheVariants as Delivery
 use Rattle.sw_session.specs.declared.engine.step.Step.{Step}
 use Rattle.sw_session.specs.EngineKinds.{sync_request}
 use Rattle.sw_session.specs.EngineMessages.{plain, error_of, welcome, IsSubAddress, IsCut, room_of, tells_delivery}
 use Rattle.sw_session.specs.EngineStep.{on, goes, reply_step, over, says, fails, joined, Unasked, is_gone}
 use Rattle.sw_session.specs.Talk.{TalksMessage, Settles, Queues, is_done}
-use Rattle.sw_session.specs.Trace.{Entry, Asked, Waited, Polled, Noted}
+use Rattle.sw_session.specs.Trace.{Entry, Asked, Polled, Noted}
 
 -- whose channel it is; the session's macros; whether its second channel was seen to stand; and what has come of a
 -- program message that isn't ended

@@ -1,5 +1,4 @@
 use Rattle.sw_session.proofs.SyncAnswers.{responds-max, responds-over}
-use Rattle.sw_session.proofs.SyncShort.{to-be-cut}
 use Rattle.sw_session.proofs.engine.program.respond.Goals as goal
 
 pub returns-in_ok-said-in-Max-clause-ok : goal.returns-in_ok-said-in-Max-clause-ok

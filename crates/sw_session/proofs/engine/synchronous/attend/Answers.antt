@@ -1,8 +1,3 @@
-use Rattle.std.proofs.Common.{refl, subst, sym, Bool}
-use Rattle.sw_core.specs.declared.ask.SessionAsk.TheVariants.{Attached}
-use Rattle.sw_session.specs.EngineSync.{Attends, gate_step}
-use Rattle.sw_session.specs.Trace.{Asked, Led}
-use Rattle.sw_session.proofs.Led.{led-none, led-one}
 use Rattle.sw_session.proofs.SyncRows.{attends-seen, attends-asked}
 use Rattle.sw_session.proofs.engine.synchronous.attend.Goals as goal
 
