@@ -15,7 +15,8 @@ use Rattle.sw_session.proofs.Led.{leads-append}
 -- the status is told
 pub status-told : {D : Type 0} (passes : D → Entry → D → Type 0) (old mid new : D) (s s' : AsyncStanding) (control : ℕ) (view : View) (step : Step)
     → Leads passes old (delivered s.sid control) mid → passes mid (Polled s.sid view) new
-    → step ≡ replies (plain Kind.AsyncStatusResponse (status_byte view.byte view.mav (nat_lt s.polled view.requests)) 0) → s' ≡ record s { polled = max s.polled view.requests }
+    → step ≡ replies (plain Kind.AsyncStatusResponse (status_byte view.byte view.mav (nat_lt s.polled view.requests)) 0)
+    → s' ≡ record s { polled = max s.polled view.requests }
     → LedBy passes old new (λ asked. TellsStatus s control asked step s')
 status-told passes old mid new s s' control view step l p told counted = record {
   asked = delivered s.sid control ++ Polled s.sid view ∷ [];

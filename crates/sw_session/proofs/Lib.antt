@@ -17,6 +17,7 @@ pub mod AsyncRows
 pub mod SyncRows
 pub mod SyncAnswers
 pub mod SyncTalks
+pub mod SyncShort
 pub mod EngineTakes
 mod Order
 pub mod ServeKnown

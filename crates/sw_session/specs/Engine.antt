@@ -1,5 +1,6 @@
--- A channel of a session: what is asked and said to each message, from the first one on (IVI-6.1 HiSLIP, synchronized mode).
-use Rattle.std.specs.Prelude.{◌≡◌, ⊤, Bool, true, false, IsTrue, List, [], Option, None, Some}
+-- A channel of a session: what is asked and said to each message, from the first one on (IVI-6.1 HiSLIP, synchronized
+-- mode).
+use Rattle.std.specs.Prelude.{◌≡◌, Bool, true, false, MatchBool, List, [], Option, None, Some}
 use Rattle.sw_hislip.specs.declared.kind.Kind.{Kind}
 use Rattle.sw_hislip.specs.declared.message.Message.{Message}
 use Rattle.sw_core.specs.declared.ask.Sid.{Sid}
@@ -12,7 +13,7 @@ use Rattle.sw_session.specs.declared.engine.step.Channel.TheVariants.{Synchronou
 use Rattle.sw_session.specs.declared.engine.step.Step.{Step}
 use Rattle.sw_session.specs.EngineKinds.{sync_request}
 use Rattle.sw_session.specs.EngineMessages.{error_of}
-use Rattle.sw_session.specs.EngineSync.{SyncStanding, OpensSync, TakesSync, skipped}
+use Rattle.sw_session.specs.EngineSync.{SyncStanding, OpensSync, TakesSync, FaltersSync, skipped}
 use Rattle.sw_session.specs.EngineAsync.{AsyncStanding, OpensAsync, TakesAsync, notice_of, noticed}
 use Rattle.sw_session.specs.Trace.{Entry}
 
@@ -36,8 +37,10 @@ opened_async (Some s) = Attached s
 
 -- one message: the first one opens the channel
 abbrev pub Takes : State → Message → List Entry → Step → State → Type 0
-Takes (Unopened Synchronous) m asked step s' = (o : Option SyncStanding) × OpensSync m asked step o × (s' ≡ opened_sync o)
-Takes (Unopened Asynchronous) m asked step s' = (o : Option AsyncStanding) × OpensAsync m.kind m.parameter asked step o × (s' ≡ opened_async o)
+Takes (Unopened Synchronous) m asked step s' = (o : Option SyncStanding) × OpensSync m asked step o
+    × (s' ≡ opened_sync o)
+Takes (Unopened Asynchronous) m asked step s' = (o : Option AsyncStanding) × OpensAsync m.kind m.parameter asked step o
+    × (s' ≡ opened_async o)
 Takes (Synchronized s) m asked step s' = (t : SyncStanding) × TakesSync s m asked step t × (s' ≡ Synchronized t)
 Takes (Attached s) m asked step s' = (t : AsyncStanding) × TakesAsync s m asked step t × (s' ≡ Attached t)
 
@@ -53,10 +56,14 @@ channel_of (Unopened channel) = channel
 channel_of (Synchronized s) = Synchronous
 channel_of (Attached s) = Asynchronous
 
--- want of memory at a message: from then on nothing is asked
-abbrev pub Falters : Bool → List Entry → Type 0
-Falters false asked = ⊤
-Falters true asked = asked ≡ []
+-- a message that found no memory: on the first channel of a session it may have asked a front of its row, else nothing
+abbrev pub FaltersAt : State → Message → List Entry → Type 0
+FaltersAt (Synchronized s) m asked = FaltersSync s m asked
+FaltersAt state m asked = asked ≡ []
+
+-- from then on nothing is asked
+abbrev pub Falters : EngineStanding → Message → List Entry → Type 0
+Falters e m asked = MatchBool e.spent (asked ≡ []) (FaltersAt e.state m asked)
 
 -- a message whose payload is too long is answered so (own)
 abbrev pub too_large : Message

@@ -1,6 +1,7 @@
 -- The asynchronous channel: what is asked and said to each message (IVI-6.1 HiSLIP; what is said to be own is this
 -- instrument's choice).
-use Rattle.std.specs.Prelude.{◌≡◌, ℕ, ◌+◌, ◌==◌, max, nat_lt, nat_le, Bool, true, false, MatchBool, List, [], ◌∷◌, ◌++◌, Option, None, Some, Result, Ok, Err, if◌then◌else◌}
+use Rattle.std.specs.Prelude.{◌≡◌, ℕ, ◌+◌, ◌==◌, max, nat_lt, nat_le, Bool, true, false, MatchBool, List, [], ◌∷◌, ◌++◌}
+use Rattle.std.specs.Prelude.{Option, None, Some, Result, Ok, Err, if◌then◌else◌}
 use Rattle.sw_hislip.specs.declared.kind.Kind.{Kind}
 use Rattle.sw_hislip.specs.declared.message.Message.{Message}
 use Rattle.sw_core.specs.declared.ask.Sid.{Sid}
@@ -11,7 +12,8 @@ use Rattle.sw_core.specs.declared.ask.SessionAnswer.TheVariants as Answer
 use Rattle.sw_core.specs.declared.ask.SessionAnswer.TheVariants.{Joined, Stranger, Broken, Info, Hold}
 use Rattle.sw_session.specs.declared.desk.View.{View}
 use Rattle.sw_session.specs.declared.desk.Wake.TheVariants.{Again, Over}
-use Rattle.sw_session.specs.declared.engine.refusals.ErrorCode.TheVariants.{UnrecognizedType, UnrecognizedControl, UnrecognizedVendor}
+use Rattle.sw_session.specs.declared.engine.refusals.ErrorCode.TheVariants.{UnrecognizedType, UnrecognizedControl}
+use Rattle.sw_session.specs.declared.engine.refusals.ErrorCode.TheVariants.{UnrecognizedVendor}
 use Rattle.sw_session.specs.declared.engine.refusals.FatalCode.TheVariants.{InvalidInitialization}
 use Rattle.sw_session.specs.declared.engine.requests.AsyncRequest.{AsyncRequest}
 use Rattle.sw_session.specs.declared.engine.requests.AsyncRequest.TheVariants as Request
@@ -19,7 +21,8 @@ use Rattle.sw_session.specs.declared.engine.step.Channel.TheVariants.{Asynchrono
 use Rattle.sw_session.specs.declared.engine.step.Reply.{Reply}
 use Rattle.sw_session.specs.declared.engine.step.Step.{Step}
 use Rattle.sw_session.specs.EngineKinds.{async_request}
-use Rattle.sw_session.specs.EngineMessages.{plain, error_of, second_welcome, size_told, size_response, tells_delivery, status_byte, lock_info}
+use Rattle.sw_session.specs.EngineMessages.{plain, error_of, second_welcome, size_told, size_response, tells_delivery}
+use Rattle.sw_session.specs.EngineMessages.{status_byte, lock_info}
 use Rattle.sw_session.specs.EngineStep.{goes, over, reply_step, says, fails, Unasked, OnDone}
 use Rattle.sw_session.specs.Talk.{turns}
 use Rattle.sw_session.specs.Trace.{Entry, Asked, Waited, Polled, Noted}
@@ -42,7 +45,8 @@ replies m = says Asynchronous m
 -- what comes of an answer to Attach: the channel is the second one of that session, and requests are counted from here;
 -- a number without such a session is a fault of initialization
 abbrev pub AttachesBy : SessionAnswer → List Entry → Step → Option AsyncStanding → Type 0
-AttachesBy (Joined sid) (Polled p view ∷ []) step s' = (p ≡ sid) × (step ≡ replies second_welcome) × (s' ≡ Some (second_channel sid view.requests))
+AttachesBy (Joined sid) (Polled p view ∷ []) step s' = (p ≡ sid) × (step ≡ replies second_welcome)
+    × (s' ≡ Some (second_channel sid view.requests))
 AttachesBy (Joined sid) asked step s' = ⊥
 AttachesBy Stranger asked step s' = Unasked (fails Asynchronous InvalidInitialization) asked step × (s' ≡ None)
 AttachesBy answer asked step s' = Unasked over asked step × (s' ≡ None)
@@ -63,11 +67,13 @@ is_second kind = false
 
 -- a number above 255 is no session's
 abbrev pub AttachesNumber : ℕ → List Entry → Step → Option AsyncStanding → Type 0
-AttachesNumber parameter asked step s' = MatchBool (nat_le parameter 255) (Attaches parameter asked step s') (Misbegins asked step s')
+AttachesNumber parameter asked step s' =
+    MatchBool (nat_le parameter 255) (Attaches parameter asked step s') (Misbegins asked step s')
 
 -- the first message has to be an AsyncInitialize
 abbrev pub OpensAsync : Kind → ℕ → List Entry → Step → Option AsyncStanding → Type 0
-OpensAsync kind parameter asked step s' = MatchBool (is_second kind) (AttachesNumber parameter asked step s') (Misbegins asked step s')
+OpensAsync kind parameter asked step s' =
+    MatchBool (is_second kind) (AttachesNumber parameter asked step s') (Misbegins asked step s')
 
 -- what the code comes to: the second channel of a session, or a reply without one
 abbrev pub opened_step : Result AsyncStanding Reply → Step
@@ -91,19 +97,21 @@ lock_code (Answer.Lock code) = Some code
 lock_code Broken = Some 3
 lock_code answer = None
 
--- An ask for a lock that was held so often is asked. Held, it is asked again after a wait, and each wait gets what the last
--- one left of the limit; after Over, or at the last turn, the lock was not to be had in time, 0.
+-- An ask for a lock that was held so often is asked. Held, it is asked again after a wait, and each wait gets what the
+-- last one left of the limit; after Over, or at the last turn, the lock was not to be had in time, 0.
 abbrev pub AwaitsLock : ℕ → SessionAsk → Option ℕ → List Entry → Option ℕ → Type 0
 AwaitsLock turn ask limit (Asked a (Hold b) ∷ Waited l Over ∷ []) code = (a ≡ ask) × (l ≡ limit) × (code ≡ Some 0)
 AwaitsLock turn ask limit (Asked a (Hold b) ∷ Waited l (Again left) ∷ asked) code =
-    (a ≡ ask) × (l ≡ limit) × MatchBool (turn + 1 == turns) ((asked ≡ []) × (code ≡ Some 0)) (AwaitsLock (turn + 1) ask left asked code)
+    (a ≡ ask) × (l ≡ limit)
+    × MatchBool (turn + 1 == turns) ((asked ≡ []) × (code ≡ Some 0)) (AwaitsLock (turn + 1) ask left asked code)
 AwaitsLock turn ask limit (Asked a (Hold b) ∷ asked) code = ⊥
 AwaitsLock turn ask limit (Asked a answer ∷ []) code = (a ≡ ask) × (code ≡ lock_code answer)
 AwaitsLock turn ask limit asked code = ⊥
 
 -- control code 1: a lock by this key, exclusive for an empty one, within so many milliseconds
 abbrev pub AsksLock : Sid → List ℕ → ℕ → List Entry → Step → Type 0
-AsksLock sid key limit asked step = (code : Option ℕ) × AwaitsLock 0 (Ask.Lock sid key) (Some limit) asked code × (step ≡ lock_reply code)
+AsksLock sid key limit asked step = (code : Option ℕ) × AwaitsLock 0 (Ask.Lock sid key) (Some limit) asked code
+    × (step ≡ lock_reply code)
 
 -- control code 0: a lock is released
 abbrev pub ReleasesLock : Sid → List Entry → Step → Type 0
@@ -116,7 +124,8 @@ miscontrolled = replies (error_of UnrecognizedControl)
 
 abbrev pub Locks : Sid → Message → List Entry → Step → Type 0
 Locks sid m asked step =
-    MatchBool (m.control == 1) (AsksLock sid m.payload m.parameter asked step) (MatchBool (m.control == 0) (ReleasesLock sid asked step) (Unasked miscontrolled asked step))
+    MatchBool (m.control == 1) (AsksLock sid m.payload m.parameter asked step)
+    (MatchBool (m.control == 0) (ReleasesLock sid asked step) (Unasked miscontrolled asked step))
 
 -- who holds locks
 abbrev pub info_reply : SessionAnswer → Step
@@ -140,16 +149,20 @@ abbrev pub delivered : Sid → ℕ → List Entry
 delivered sid control = if tells_delivery control then Noted sid false ∷ [] else []
 
 -- the status byte is told, with RQS where there were more requests than were asked for
-pub record TellsStatus (s : AsyncStanding) (control : ℕ) (asked : List Entry) (step : Step) (s' : AsyncStanding) : Type 0 where
+pub record TellsStatus (s : AsyncStanding) (control : ℕ) (asked : List Entry) (step : Step)
+    (s' : AsyncStanding) : Type 0 where
   pub view : View
   pub asks : asked ≡ delivered s.sid control ++ Polled s.sid view ∷ []
-  pub tells : step ≡ replies (plain Kind.AsyncStatusResponse (status_byte view.byte view.mav (nat_lt s.polled view.requests)) 0)
+  pub tells : step ≡ replies
+      (plain Kind.AsyncStatusResponse (status_byte view.byte view.mav (nat_lt s.polled view.requests)) 0)
   pub counts : s' ≡ record s { polled = max s.polled view.requests }
 
 -- A service request is told where there were more of them than were told.
 abbrev pub notice_of : AsyncStanding → View → Option Message
 notice_of s view =
-    if nat_lt s.told view.requests then Some (plain Kind.AsyncServiceRequest (status_byte view.byte view.mav true) 0) else None
+    if nat_lt s.told view.requests
+    then Some (plain Kind.AsyncServiceRequest (status_byte view.byte view.mav true) 0)
+    else None
 
 abbrev pub noticed : AsyncStanding → View → AsyncStanding
 noticed s view = record s { told = max s.told view.requests }
@@ -158,11 +171,13 @@ noticed s view = record s { told = max s.told view.requests }
 
 -- what a message says and asks that leaves the standing as it is
 abbrev pub RepliesAsync : AsyncRequest → Sid → Message → List Entry → Step → Type 0
-RepliesAsync Request.Size sid m asked step = OnDone (Ask.Size sid (size_told m.payload)) Asynchronous size_response asked step
+RepliesAsync Request.Size sid m asked step =
+    OnDone (Ask.Size sid (size_told m.payload)) Asynchronous size_response asked step
 RepliesAsync Request.Lock sid m asked step = Locks sid m asked step
 RepliesAsync Request.LockInfo sid m asked step = TellsLocks sid asked step
 RepliesAsync Request.RemoteLocal sid m asked step = Unasked (control_reply m.control) asked step
-RepliesAsync Request.Clear sid m asked step = OnDone (Ask.Clear sid) Asynchronous (plain Kind.AsyncDeviceClearAcknowledge 0 0) asked step
+RepliesAsync Request.Clear sid m asked step =
+    OnDone (Ask.Clear sid) Asynchronous (plain Kind.AsyncDeviceClearAcknowledge 0 0) asked step
 RepliesAsync Request.Leave sid m asked step = Unasked over asked step
 RepliesAsync Request.Nothing sid m asked step = Unasked (goes []) asked step
 RepliesAsync Request.Initialize sid m asked step = Unasked (fails Asynchronous InvalidInitialization) asked step

@@ -5,8 +5,8 @@ use Rattle.sw_session.specs.declared.engine.requests.SyncRequest.TheVariants as 
 use Rattle.sw_session.specs.declared.engine.requests.AsyncRequest.{AsyncRequest}
 use Rattle.sw_session.specs.declared.engine.requests.AsyncRequest.TheVariants as Async
 
--- the synchronous channel serves these; what belongs to the other one, what only an instrument sends and what version 1.0
--- gives no meaning is misplaced
+-- the synchronous channel serves these; what belongs to the other one, what only an instrument sends and what version
+-- 1.0 gives no meaning is misplaced
 abbrev pub sync_request : Kind → SyncRequest
 sync_request Kind.Data = Sync.Part
 sync_request Kind.DataEnd = Sync.End

@@ -1,13 +1,16 @@
 -- What stands in the messages of an instrument (IVI-6.1 HiSLIP; what is said to be own is this instrument's choice).
-use Rattle.std.specs.Prelude.{◌≡◌, ℕ, ◌+◌, ◌-◌, ◌*◌, ◌/◌, ◌^◌, ◌<◌, ◌≤◌, ◌%◌, min, max, nat_eq, bit_or, Bool, List, [], ◌∷◌, ◌++◌, length, take, drop, replicate, if◌then◌else◌}
+use Rattle.std.specs.Prelude.{◌≡◌, ℕ, ◌+◌, ◌-◌, ◌*◌, ◌/◌, ◌^◌, ◌<◌, ◌≤◌, ◌%◌, min, max, nat_eq, bit_or, Bool, List, []}
+use Rattle.std.specs.Prelude.{◌∷◌, ◌++◌, length, take, drop, replicate, if◌then◌else◌}
 use Rattle.std.specs.Str.{IsAscii}
 use Rattle.std.specs.Int.{w64, to_be_bytes, from_be_bytes}
 use Rattle.sw_hislip.specs.declared.kind.Kind.{Kind}
 use Rattle.sw_hislip.specs.declared.message.Message.{Message}
 use Rattle.sw_session.specs.declared.engine.refusals.ErrorCode.{ErrorCode}
-use Rattle.sw_session.specs.declared.engine.refusals.ErrorCode.TheVariants.{UnrecognizedType, UnrecognizedControl, UnrecognizedVendor, TooLarge}
+use Rattle.sw_session.specs.declared.engine.refusals.ErrorCode.TheVariants.{UnrecognizedType, UnrecognizedControl}
+use Rattle.sw_session.specs.declared.engine.refusals.ErrorCode.TheVariants.{UnrecognizedVendor, TooLarge}
 use Rattle.sw_session.specs.declared.engine.refusals.FatalCode.{FatalCode}
-use Rattle.sw_session.specs.declared.engine.refusals.FatalCode.TheVariants.{PoorlyFormed, WithoutBothChannels, InvalidInitialization, TooManyClients}
+use Rattle.sw_session.specs.declared.engine.refusals.FatalCode.TheVariants.{PoorlyFormed, WithoutBothChannels}
+use Rattle.sw_session.specs.declared.engine.refusals.FatalCode.TheVariants.{InvalidInitialization, TooManyClients}
 
 -- a message without a payload
 abbrev pub plain : Kind → ℕ → ℕ → Message
@@ -59,13 +62,19 @@ second_welcome = plain Kind.AsyncInitializeResponse 0 0x5357
 
 -- ---- sizes
 
--- The size that a client tells: the number in the first eight bytes of the payload. Fewer bytes are a shorter number (own).
+-- The size that a client tells: the number in the first eight bytes of the payload. Fewer bytes are a shorter number
+-- (own).
 abbrev pub size_told : List ℕ → ℕ
 size_told payload = from_be_bytes w64 (replicate (8 - length payload) 0 ++ take 8 payload)
 
 -- the size that the instrument takes: 65,536 bytes of a payload
 abbrev pub size_response : Message
-size_response = record { kind = Kind.AsyncMaximumMessageSizeResponse; control = 0; parameter = 0; payload = to_be_bytes w64 65536 }
+size_response = record {
+  kind = Kind.AsyncMaximumMessageSizeResponse;
+  control = 0;
+  parameter = 0;
+  payload = to_be_bytes w64 65536;
+}
 
 -- how many bytes of an answer go into one payload for a client that takes messages of this size (own)
 abbrev pub room_of : ℕ → ℕ
@@ -75,12 +84,13 @@ room_of size = max 1 (min size 65536 - 16)
 abbrev pub part : Kind → ℕ → List ℕ → Message
 part kind id bytes = record { kind = kind; control = 0; parameter = id; payload = bytes }
 
--- An answer, cut so that each payload has this many bytes but the last, which may have fewer: all but the last go as Data,
--- the last as DataEnd.
+-- An answer, cut so that each payload has this many bytes but the last, which may have fewer: all but the last go as
+-- Data, the last as DataEnd.
 abbrev pub IsCut : ℕ → ℕ → List ℕ → List Message → Type 0
 IsCut room id bytes [] = ⊥
 IsCut room id bytes (m ∷ []) = (length bytes ≤ room) × (m ≡ part Kind.DataEnd id bytes)
-IsCut room id bytes (m ∷ n ∷ more) = (room < length bytes) × (m ≡ part Kind.Data id (take room bytes)) × IsCut room id (drop room bytes) (n ∷ more)
+IsCut room id bytes (m ∷ n ∷ more) = (room < length bytes) × (m ≡ part Kind.Data id (take room bytes))
+    × IsCut room id (drop room bytes) (n ∷ more)
 
 -- ---- delivery and status
 

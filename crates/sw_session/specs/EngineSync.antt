@@ -1,6 +1,7 @@
--- The synchronous channel: what is asked and said to each message (IVI-6.1 HiSLIP, synchronized mode; when MAV is set and
--- cleared, what interrupts and what a device clear drops is own).
-use Rattle.std.specs.Prelude.{◌≡◌, ℕ, ◌⊎◌, Bool, true, false, MatchBool, List, [], ◌∷◌, ◌++◌, map, Option, None, Some, Result, Ok, Err, if◌then◌else◌}
+-- The synchronous channel: what is asked and said to each message (IVI-6.1 HiSLIP, synchronized mode; when MAV is set
+-- and cleared, what interrupts and what a device clear drops is own).
+use Rattle.std.specs.Prelude.{◌≡◌, ◌≢◌, ℕ, ◌⊎◌, Bool, true, false, MatchBool, List, [], ◌∷◌, ◌++◌, map, Option, None}
+use Rattle.std.specs.Prelude.{Some, Result, Ok, Err, if◌then◌else◌}
 use Rattle.std.specs.Io.BufRead.{strip_last}
 use Rattle.sw_base.specs.declared.error.ScpiError.TheVariants.{GetNotAllowed, QueryInterrupted}
 use Rattle.sw_hislip.specs.declared.kind.Kind.{Kind}
@@ -15,7 +16,8 @@ use Rattle.sw_session.specs.declared.desk.View.{View}
 use Rattle.sw_session.specs.declared.engine.front.Front.{Front}
 use Rattle.sw_session.specs.declared.engine.front.Front.TheVariants as Front
 use Rattle.sw_session.specs.declared.engine.refusals.ErrorCode.TheVariants.{UnrecognizedType, UnrecognizedVendor}
-use Rattle.sw_session.specs.declared.engine.refusals.FatalCode.TheVariants.{WithoutBothChannels, InvalidInitialization, TooManyClients}
+use Rattle.sw_session.specs.declared.engine.refusals.FatalCode.TheVariants.{WithoutBothChannels, InvalidInitialization}
+use Rattle.sw_session.specs.declared.engine.refusals.FatalCode.TheVariants.{TooManyClients}
 use Rattle.sw_session.specs.declared.engine.requests.SyncRequest.{SyncRequest}
 use Rattle.sw_session.specs.declared.engine.requests.SyncRequest.TheVariants as Request
 use Rattle.sw_session.specs.declared.engine.step.Channel.TheVariants.{Synchronous, Asynchronous}
@@ -30,8 +32,8 @@ use Rattle.sw_session.specs.EngineStep.{on, goes, reply_step, over, says, fails,
 use Rattle.sw_session.specs.Talk.{TalksMessage, Settles, Queues, is_done}
 use Rattle.sw_session.specs.Trace.{Entry, Asked, Waited, Polled, Noted}
 
--- whose channel it is; the session's macros; whether its second channel was seen to stand; and what has come of a program
--- message that isn't ended
+-- whose channel it is; the session's macros; whether its second channel was seen to stand; and what has come of a
+-- program message that isn't ended
 pub record SyncStanding : Type 0 where
   pub sid : Sid
   pub macros : Table
@@ -68,7 +70,8 @@ opened_session (Err reply) = None
 
 -- Initialize: a session is asked for
 abbrev pub Joins : ℕ → List Entry → Step → Option SyncStanding → Type 0
-Joins parameter (Asked a answer ∷ []) step s' = (a ≡ Ask.Join) × (step ≡ joins_step parameter answer) × (s' ≡ joins_session answer)
+Joins parameter (Asked a answer ∷ []) step s' = (a ≡ Ask.Join) × (step ≡ joins_step parameter answer)
+    × (s' ≡ joins_session answer)
 Joins parameter asked step s' = ⊥
 
 abbrev pub is_first : Kind → Bool
@@ -85,7 +88,8 @@ JoinsAt payload parameter asked step s' =
 
 -- the first message has to be an Initialize
 abbrev pub OpensSync : Message → List Entry → Step → Option SyncStanding → Type 0
-OpensSync m asked step s' = MatchBool (is_first m.kind) (JoinsAt m.payload m.parameter asked step s') (Misbegins asked step s')
+OpensSync m asked step s' =
+    MatchBool (is_first m.kind) (JoinsAt m.payload m.parameter asked step s') (Misbegins asked step s')
 
 -- ---- before a message of a program
 
@@ -105,7 +109,8 @@ gate_step (Some reply) = reply_step Synchronous reply
 -- until the second channel was seen to stand, it is asked whether it does
 abbrev pub Attends : Bool → Sid → List Entry → Step → List Entry → Type 0
 Attends true sid asked step rest = (step ≡ goes []) × (rest ≡ asked)
-Attends false sid (Asked a answer ∷ asked) step rest = (a ≡ Ask.Attached sid) × (step ≡ attended answer) × (rest ≡ asked)
+Attends false sid (Asked a answer ∷ asked) step rest = (a ≡ Ask.Attached sid) × (step ≡ attended answer)
+    × (rest ≡ asked)
 Attends false sid asked step rest = ⊥
 
 -- the messages of an interrupt, each on its channel, with the identifier of the message that interrupts
@@ -135,13 +140,15 @@ Interrupts sid id asked step rest = ⊥
 
 -- a message that doesn't tell that the last answer was taken interrupts where one is available
 abbrev pub LooksForAnswer : Sid → ℕ → List Entry → Step → List Entry → Type 0
-LooksForAnswer sid id (Polled p view ∷ asked) step rest = (p ≡ sid) × MatchBool view.mav (Interrupts sid id asked step rest) ((step ≡ goes []) × (rest ≡ asked))
+LooksForAnswer sid id (Polled p view ∷ asked) step rest = (p ≡ sid)
+    × MatchBool view.mav (Interrupts sid id asked step rest) ((step ≡ goes []) × (rest ≡ asked))
 LooksForAnswer sid id asked step rest = ⊥
 
 -- what the control code tells of the last answer
 abbrev pub Delivers : Sid → ℕ → ℕ → List Entry → Step → List Entry → Type 0
 Delivers sid control id asked step rest =
-    MatchBool (tells_delivery control) ((asked ≡ Noted sid false ∷ rest) × (step ≡ goes [])) (LooksForAnswer sid id asked step rest)
+    MatchBool (tells_delivery control) ((asked ≡ Noted sid false ∷ rest) × (step ≡ goes []))
+    (LooksForAnswer sid id asked step rest)
 
 -- ---- program messages
 
@@ -157,18 +164,20 @@ whole Front.Nothing bytes = Some bytes
 whole (Front.Kept front) bytes = Some (front ++ bytes)
 whole Front.Lost bytes = None
 
--- An answer goes out under this identifier, cut to the size that the client told; an empty one is none. Where the session
--- is none any more, or nothing more can be numbered, the channel ends.
+-- An answer goes out under this identifier, cut to the size that the client told; an empty one is none. Where the
+-- session is none any more, or nothing more can be numbered, the channel ends.
 abbrev pub CutsTo : ℕ → ℕ → List ℕ → List Message → Type 0
 CutsTo size id [] parts = parts ≡ []
 CutsTo size id (b ∷ bytes) parts = IsCut (room_of size) id (b ∷ bytes) parts
 
 abbrev pub Answers : ℕ → List ℕ → SessionAnswer → Step → Type 0
-Answers id bytes (Max size) step = (parts : List Message) × CutsTo size id bytes parts × (step ≡ goes (map (on Synchronous) parts))
+Answers id bytes (Max size) step = (parts : List Message) × CutsTo size id bytes parts
+    × (step ≡ goes (map (on Synchronous) parts))
 Answers id bytes told step = step ≡ over
 
 -- A whole program message is talked over. Then it is asked what size the client told last, and the answer goes out.
-pub record Converses (s : SyncStanding) (id : ℕ) (text : List ℕ) (asked : List Entry) (step : Step) (macros : Table) : Type 0 where
+pub record Converses (s : SyncStanding) (id : ℕ) (text : List ℕ) (asked : List Entry) (step : Step)
+    (macros : Table) : Type 0 where
   pub talk : List Entry
   pub told : SessionAnswer
   pub asks : asked ≡ talk ++ Asked (Ask.MaxSize s.sid) told ∷ []
@@ -179,7 +188,8 @@ pub record Converses (s : SyncStanding) (id : ℕ) (text : List ℕ) (asked : Li
 -- DataEnd: the message is whole, or is dropped whole
 abbrev pub Finishes : SyncStanding → ℕ → Option (List ℕ) → List Entry → Step → SyncStanding → Type 0
 Finishes s id None asked step s' = Unasked (goes []) asked step × (s' ≡ record s { front = Front.Nothing })
-Finishes s id (Some text) asked step s' = Converses s id text asked step s'.macros × (s' ≡ record s { macros = s'.macros; front = Front.Nothing })
+Finishes s id (Some text) asked step s' = Converses s id text asked step s'.macros
+    × (s' ≡ record s { macros = s'.macros; front = Front.Nothing })
 
 -- some part of a program message has come
 abbrev pub is_within : Front → Bool
@@ -197,7 +207,8 @@ trigger_step final = record { out = []; ends = is_gone final }
 
 -- Trigger: what came of a program message is dropped
 abbrev pub Triggers : Bool → Sid → List Entry → Step → Type 0
-Triggers within sid asked step = (final : SessionAnswer) × GivesTrigger within sid asked final × (step ≡ trigger_step final)
+Triggers within sid asked step = (final : SessionAnswer) × GivesTrigger within sid asked final
+    × (step ≡ trigger_step final)
 
 -- these messages are parts of programs
 abbrev pub is_program : SyncRequest → Bool
@@ -208,9 +219,11 @@ is_program request = false
 
 -- what each of these messages does once that was done
 abbrev pub Programs : SyncRequest → SyncStanding → Message → List Entry → Step → SyncStanding → Type 0
-Programs Request.Part s m asked step s' = Unasked (goes []) asked step × (s' ≡ record s { front = with_part s.front m.payload })
+Programs Request.Part s m asked step s' = Unasked (goes []) asked step
+    × (s' ≡ record s { front = with_part s.front m.payload })
 Programs Request.End s m asked step s' = Finishes s m.parameter (whole s.front m.payload) asked step s'
-Programs Request.Trigger s m asked step s' = Triggers (is_within s.front) s.sid asked step × (s' ≡ record s { front = Front.Nothing })
+Programs Request.Trigger s m asked step s' = Triggers (is_within s.front) s.sid asked step
+    × (s' ≡ record s { front = Front.Nothing })
 Programs request s m asked step s' = ⊥
 
 -- this is said, and then more, which comes from this; the channel ends as that says
@@ -218,19 +231,62 @@ abbrev pub SaysMore : List Sent → Step → (Step → Type 0) → Type 0
 SaysMore said step P = (own : Step) × P own × (step ≡ joined (goes said) own)
 
 -- a part of a row, and what follows it unless it ends the channel; what both say is said
-abbrev pub Onward : (List Entry → Step → SyncStanding → Type 0) → Step → SyncStanding → List Entry → Step → SyncStanding → Type 0
+abbrev pub Onward : (List Entry → Step → SyncStanding → Type 0) → Step → SyncStanding → List Entry → Step → SyncStanding
+    → Type 0
 Onward next first s asked step s' =
-    MatchBool first.ends (Unasked first asked step × (s' ≡ s)) ((second : Step) × next asked second s' × (step ≡ joined first second))
+    MatchBool first.ends (Unasked first asked step × (s' ≡ s))
+    ((second : Step) × next asked second s' × (step ≡ joined first second))
 
--- Data, DataEnd and Trigger: the second channel has to stand, then the last answer is looked at, then the message is served
+-- Data, DataEnd and Trigger: the second channel has to stand, then the last answer is looked at, then the message is
+-- served
 abbrev pub Attended : SyncRequest → SyncStanding → Message → List Entry → Step → SyncStanding → Type 0
 Attended request s m asked step s' =
-    (first : Step) × (rest : List Entry) × Delivers s.sid m.control m.parameter asked first rest × Onward (λ calls said t. Programs request s m calls said t) first s rest step s'
+    (first : Step) × (rest : List Entry) × Delivers s.sid m.control m.parameter asked first rest
+    × Onward (λ calls said t. Programs request s m calls said t) first s rest step s'
 
 abbrev pub ServesProgram : SyncRequest → SyncStanding → Message → List Entry → Step → SyncStanding → Type 0
 ServesProgram request s m asked step s' =
     (first : Step) × (rest : List Entry) × Attends s.attached s.sid asked first rest
     × Onward (λ calls said t. Attended request (record s { attached = true }) m calls said t) first s rest step s'
+
+-- ---- want of memory at a message of a program
+
+-- there is an answer, and the size to which it is to be cut was told
+abbrev pub IsToBeCut : List ℕ → SessionAnswer → Type 0
+IsToBeCut bytes told = (size : ℕ) × (told ≡ Max size) × (bytes ≢ [])
+
+-- A whole program message was talked over and the size asked, and its answer found no memory.
+pub record LosesAnswer (s : SyncStanding) (text : List ℕ) (asked : List Entry) : Type 0 where
+  pub talk : List Entry
+  pub told : SessionAnswer
+  pub asks : asked ≡ talk ++ Asked (Ask.MaxSize s.sid) told ∷ []
+  pub bytes : List ℕ
+  pub macros : Table
+  pub talks : TalksMessage s.sid s.macros (strip_last 10 text) talk bytes macros
+  pub cut : IsToBeCut bytes told
+
+-- what a DataEnd asks by itself: nothing where its message found no memory
+abbrev pub FinishesShort : SyncStanding → Option (List ℕ) → List Entry → Type 0
+FinishesShort s None asked = asked ≡ []
+FinishesShort s (Some text) asked = (asked ≡ []) ⊎ LosesAnswer s text asked
+
+-- what each of these messages asks by itself
+abbrev pub ProgramsShort : SyncRequest → SyncStanding → Message → List Entry → Type 0
+ProgramsShort Request.Part s m asked = asked ≡ []
+ProgramsShort Request.End s m asked = FinishesShort s (whole s.front m.payload) asked
+ProgramsShort request s m asked = ⊥
+
+-- before that the last answer was looked at, and before that whether the second channel stands; neither ended the
+-- channel
+abbrev pub AttendedShort : SyncRequest → SyncStanding → Message → List Entry → Type 0
+AttendedShort request s m asked =
+    (first : Step) × (rest : List Entry) × Delivers s.sid m.control m.parameter asked first rest × (first.ends ≡ false)
+    × ProgramsShort request s m rest
+
+abbrev pub ServesShort : SyncRequest → SyncStanding → Message → List Entry → Type 0
+ServesShort request s m asked =
+    (first : Step) × (rest : List Entry) × Attends s.attached s.sid asked first rest × (first.ends ≡ false)
+    × AttendedShort request (record s { attached = true }) m rest
 
 -- ---- all messages after the first
 
@@ -257,11 +313,17 @@ RepliesSync Request.Misplaced s asked step s' = Unasked (responds (error_of Unre
 RepliesSync request s asked step s' = ⊥
 
 abbrev pub TakesSyncBy : SyncRequest → SyncStanding → Message → List Entry → Step → SyncStanding → Type 0
-TakesSyncBy request s m asked step s' = MatchBool (is_program request) (ServesProgram request s m asked step s') (RepliesSync request s asked step s')
+TakesSyncBy request s m asked step s' =
+    MatchBool (is_program request) (ServesProgram request s m asked step s') (RepliesSync request s asked step s')
 
 -- one message of the synchronous channel
 abbrev pub TakesSync : SyncStanding → Message → List Entry → Step → SyncStanding → Type 0
 TakesSync s m asked step s' = TakesSyncBy (sync_request m.kind) s m asked step s'
+
+-- A message that found no memory has asked a front of what its row asks: nothing, or what a message of a program asks
+-- up to where memory ran out.
+abbrev pub FaltersSync : SyncStanding → Message → List Entry → Type 0
+FaltersSync s m asked = (asked ≡ []) ⊎ ServesShort (sync_request m.kind) s m asked
 
 -- ---- messages that were skipped for their size
 

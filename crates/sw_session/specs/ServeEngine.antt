@@ -48,7 +48,7 @@ EngineSpeaks e Act.Notices asked step f = Looks e.state asked step f.state × (f
 
 -- What it may have asked where it found no memory: to a message what the engine says, and else nothing.
 abbrev pub EngineFalters : EngineStanding → Act → List Entry → EngineStanding → Type 0
-EngineFalters e (Act.Takes m) asked f = Falters e.spent asked × (session_of f.state ≡ session_of e.state)
+EngineFalters e (Act.Takes m) asked f = Falters e m asked × (session_of f.state ≡ session_of e.state)
     × (f.spent ≡ true)
 EngineFalters e act asked f = (asked ≡ []) × (f ≡ e)
 

@@ -14,6 +14,10 @@ mod cage_calls;
 #[cfg(test)]
 mod cages;
 #[cfg(test)]
+mod hislip_clients;
+#[cfg(test)]
+mod hislip_engine;
+#[cfg(test)]
 mod hislip_servers;
 #[cfg(test)]
 mod scans;

@@ -4,7 +4,9 @@ ghost use Rattle.std.specs.Prelude.{◌≡◌, ◌≢◌, IfOk, OnErr};
 ghost use Rattle.sw_session.specs.Trace.{Leads};
 ghost use Rattle.sw_session.specs.EngineStep.{LedBy, OnDone, reply_step, on_done};
 ghost use Rattle.sw_session.specs.EngineMessages.{size_told, size_response, plain};
-ghost use Rattle.sw_session.specs.EngineAsync.{OpensAsync, AttachesNumber, is_second, Attaches, opened_step, opened_session, TakesAsync, delivered, RepliesAsync, TellsStatus, notice_of, noticed, control_reply};
+ghost use Rattle.sw_session.specs.EngineAsync.{OpensAsync, AttachesNumber, is_second, Attaches, opened_step};
+ghost use Rattle.sw_session.specs.EngineAsync.{opened_session, TakesAsync, delivered, RepliesAsync, TellsStatus};
+ghost use Rattle.sw_session.specs.EngineAsync.{notice_of, noticed, control_reply};
 ghost use Rattle.sw_session.specs.declared.engine.step.Channel.TheVariants.{Asynchronous};
 ghost use Rattle.sw_core.specs.declared.ask.SessionAsk.TheVariants as Ask;
 
@@ -47,7 +49,8 @@ impl AsyncSession {
 
     /// Begins the channel by its first message; else gives what is said.
     pub fn open<D: Desk>(kind: Kind, parameter: u32, desk: &mut D) -> Result<AsyncSession, Reply>
-        ensures { LedBy D.passes desk.old desk.new (λ asked. OpensAsync kind parameter asked (opened_step result) (opened_session result)) }
+        ensures { LedBy D.passes desk.old desk.new (λ asked.
+            OpensAsync kind parameter asked (opened_step result) (opened_session result)) }
     {
         if is_second(kind) {
             return AsyncSession::attach_number(parameter, desk);
@@ -57,7 +60,8 @@ impl AsyncSession {
 
     /// Asks to be the second channel of the session with the number in a parameter; else gives what is said.
     fn attach_number<D: Desk>(parameter: u32, desk: &mut D) -> Result<AsyncSession, Reply>
-        ensures { LedBy D.passes desk.old desk.new (λ asked. AttachesNumber parameter asked (opened_step result) (opened_session result)) }
+        ensures { LedBy D.passes desk.old desk.new (λ asked.
+            AttachesNumber parameter asked (opened_step result) (opened_session result)) }
     {
         if parameter <= 255 {
             return AsyncSession::attach(parameter as u8, desk);
@@ -67,7 +71,8 @@ impl AsyncSession {
 
     /// Asks to be the second channel of the session with this number; else gives what is said.
     fn attach<D: Desk>(number: u8, desk: &mut D) -> Result<AsyncSession, Reply>
-        ensures { LedBy D.passes desk.old desk.new (λ asked. Attaches number asked (opened_step result) (opened_session result)) }
+        ensures { LedBy D.passes desk.old desk.new (λ asked.
+            Attaches number asked (opened_step result) (opened_session result)) }
     {
         match desk.ask(SessionAsk::Attach(number)) {
             SessionAnswer::Joined(sid) => {
@@ -93,7 +98,8 @@ impl AsyncSession {
         message: Message,
         desk: &mut D,
     ) -> Result<Step, AllocError>
-        ensures ok { IfOk result (λ step. LedBy D.passes desk.old desk.new (λ asked. TakesAsync self.old message asked step self.new)) }
+        ensures ok { IfOk result (λ step. LedBy D.passes desk.old desk.new (λ asked.
+            TakesAsync self.old message asked step self.new)) }
         ensures same { OnErr result (self.new ≡ self.old) }
         ensures unasked { OnErr result (desk.new ≡ desk.old) }
     {
@@ -109,7 +115,8 @@ impl AsyncSession {
         message: Message,
         desk: &mut D,
     ) -> Result<Reply, AllocError>
-        ensures ok { IfOk result (λ reply. LedBy D.passes desk.old desk.new (λ asked. TakesAsync self.old message asked (reply_step Asynchronous reply) self.new)) }
+        ensures ok { IfOk result (λ reply. LedBy D.passes desk.old desk.new (λ asked.
+            TakesAsync self.old message asked (reply_step Asynchronous reply) self.new)) }
         ensures same { OnErr result (self.new ≡ self.old) }
         ensures unasked { OnErr result (desk.new ≡ desk.old) }
     {
@@ -125,7 +132,8 @@ impl AsyncSession {
 
     /// Answers an AsyncStatusQuery.
     fn tell_status<D: Desk>(&mut self, alloc: Global, control: u8, desk: &mut D) -> Reply
-        ensures { LedBy D.passes desk.old desk.new (λ asked. TellsStatus self.old control asked (reply_step Asynchronous result) self.new) }
+        ensures { LedBy D.passes desk.old desk.new (λ asked.
+            TellsStatus self.old control asked (reply_step Asynchronous result) self.new) }
     {
         note_delivery(self.sid, control, desk);
         let view = desk.poll(self.sid);
@@ -174,7 +182,8 @@ fn reply<D: Desk>(
     desk: &mut D,
 ) -> Result<Reply, AllocError>
     requires { request ≢ AsyncRequest.Status }
-    ensures ok { IfOk result (λ reply. LedBy D.passes desk.old desk.new (λ asked. RepliesAsync request sid message asked (reply_step Asynchronous reply))) }
+    ensures ok { IfOk result (λ reply. LedBy D.passes desk.old desk.new (λ asked.
+        RepliesAsync request sid message asked (reply_step Asynchronous reply))) }
     ensures unasked { OnErr result (desk.new ≡ desk.old) }
 {
     match request {
@@ -199,7 +208,9 @@ fn note_size<D: Desk>(
     payload: &[u8],
     desk: &mut D,
 ) -> Result<Reply, AllocError>
-    ensures ok { IfOk result (λ reply. LedBy D.passes desk.old desk.new (λ asked. OnDone (Ask.Size sid (size_told payload.now)) Asynchronous size_response asked (reply_step Asynchronous reply))) }
+    ensures ok { IfOk result (λ reply. LedBy D.passes desk.old desk.new (λ asked.
+        OnDone (Ask.Size sid (size_told payload.now)) Asynchronous size_response asked
+        (reply_step Asynchronous reply))) }
     ensures unasked { OnErr result (desk.new ≡ desk.old) }
 {
     let response = size_response(alloc)?;
@@ -209,7 +220,9 @@ fn note_size<D: Desk>(
 
 /// Answers an AsyncDeviceClear.
 fn clear<D: Desk>(alloc: Global, sid: Sid, desk: &mut D) -> Reply
-    ensures { LedBy D.passes desk.old desk.new (λ asked. OnDone (Ask.Clear sid) Asynchronous (plain Kind.AsyncDeviceClearAcknowledge 0 0) asked (reply_step Asynchronous result)) }
+    ensures { LedBy D.passes desk.old desk.new (λ asked.
+        OnDone (Ask.Clear sid) Asynchronous (plain Kind.AsyncDeviceClearAcknowledge 0 0) asked
+        (reply_step Asynchronous result)) }
 {
     let response = plain(alloc, Kind::AsyncDeviceClearAcknowledge, 0, 0);
     let answer = desk.ask(SessionAsk::Clear(sid));

@@ -2,7 +2,8 @@
 
 ghost use Rattle.std.specs.Prelude.{◌≡◌, Some};
 ghost use Rattle.sw_session.specs.EngineStep.{LedBy, reply_step};
-ghost use Rattle.sw_session.specs.EngineAsync.{Locks, AsksLock, AwaitsLock, ReleasesLock, TellsLocks, lock_code, lock_reply, info_reply};
+ghost use Rattle.sw_session.specs.EngineAsync.{Locks, AsksLock, AwaitsLock, ReleasesLock, TellsLocks, lock_code};
+ghost use Rattle.sw_session.specs.EngineAsync.{lock_reply, info_reply};
 ghost use Rattle.sw_session.specs.declared.engine.step.Channel.TheVariants.{Asynchronous};
 
 use crate::desk::{Desk, Wake};
@@ -36,7 +37,8 @@ fn ask_lock<D: Desk>(
     limit_ms: u32,
     desk: &mut D,
 ) -> Reply
-    ensures { LedBy D.passes desk.old desk.new (λ asked. AsksLock sid key limit_ms asked (reply_step Asynchronous result)) }
+    ensures { LedBy D.passes desk.old desk.new (λ asked.
+        AsksLock sid key limit_ms asked (reply_step Asynchronous result)) }
 {
     let code = await_lock(sid, key, limit_ms, desk);
     lock_reply(alloc, code)
@@ -45,7 +47,8 @@ fn ask_lock<D: Desk>(
 /// Asks for a lock until it isn't held, waits for as long as the limit allows between, and gives the code of the
 /// response; none where the channel ends.
 fn await_lock<D: Desk>(sid: Sid, key: Sequence<u8>, limit_ms: u32, desk: &mut D) -> Option<u8>
-    ensures { LedBy D.passes desk.old desk.new (λ asked. AwaitsLock 0 (SessionAsk.Lock sid key) (Some limit_ms) asked result) }
+    ensures { LedBy D.passes desk.old desk.new (λ asked.
+        AwaitsLock 0 (SessionAsk.Lock sid key) (Some limit_ms) asked result) }
 {
     let mut ask = SessionAsk::Lock(sid, key);
     let mut limit = Some(limit_ms);

@@ -1,12 +1,15 @@
 //! The synchronous channel of a session, after its first message.
 
-ghost use Rattle.std.specs.Prelude.{◌≡◌, ◌≤◌, ◌++◌, List, [], map, true, false, IfOk, OnErr, vec_capacity};
+ghost use Rattle.std.specs.Prelude.{◌≡◌, ◌≢◌, ◌≤◌, ◌++◌, List, [], map, true, false, IfOk, OnErr, vec_capacity};
 ghost use Rattle.sw_session.specs.EngineSync as EngineSync;
 ghost use Rattle.sw_session.specs.EngineStep.{LedBy, on, goes, joined, reply_step};
-ghost use Rattle.sw_session.specs.EngineSync.{newly_joined, TakesSync, RepliesSync, Completes, completed, Triggers, is_within, ServesProgram, Attended, Programs};
-ghost use Rattle.sw_session.specs.EngineSync.{Finishes, Converses, Answers, CutsTo, said_of, skipped, SaysMore, is_program};
+ghost use Rattle.sw_session.specs.EngineSync.{newly_joined, TakesSync, RepliesSync, Completes, completed, Triggers};
+ghost use Rattle.sw_session.specs.EngineSync.{is_within, ServesProgram, Attended, Programs};
+ghost use Rattle.sw_session.specs.EngineSync.{Finishes, Converses, Answers, CutsTo, said_of, skipped, SaysMore};
+ghost use Rattle.sw_session.specs.EngineSync.{is_program};
 ghost use Rattle.sw_session.specs.EngineKinds.{sync_request};
-ghost use Rattle.sw_session.specs.Engine.{Falters};
+ghost use Rattle.sw_session.specs.EngineSync.{IsToBeCut, LosesAnswer, FinishesShort, ProgramsShort, AttendedShort};
+ghost use Rattle.sw_session.specs.EngineSync.{ServesShort, FaltersSync};
 ghost use Rattle.sw_session.specs.declared.engine.step.Channel.TheVariants.{Synchronous};
 
 use crate::desk::Desk;
@@ -83,7 +86,7 @@ impl SyncSession {
     ) -> Result<Step, AllocError>
         ensures ok { IfOk result (λ step. LedBy D.passes desk.old desk.new (λ asked.
             TakesSync self.old message asked step self.new)) }
-        ensures err { OnErr result (LedBy D.passes desk.old desk.new (λ asked. Falters false asked)) }
+        ensures err { OnErr result (LedBy D.passes desk.old desk.new (λ asked. FaltersSync self.old message asked)) }
         ensures same { self.new.sid ≡ self.old.sid }
     {
         let room = Vec::with_capacity(alloc, 2)?;
@@ -142,7 +145,8 @@ impl SyncSession {
         requires room { 2 ≤ vec_capacity room }
         ensures ok { IfOk result (λ step. LedBy D.passes desk.old desk.new (λ asked.
             ServesProgram request self.old message asked step self.new)) }
-        ensures err { OnErr result (LedBy D.passes desk.old desk.new (λ asked. Falters false asked)) }
+        ensures err { OnErr result (LedBy D.passes desk.old desk.new (λ asked.
+            ServesShort request self.old message asked)) }
         ensures same { self.new.sid ≡ self.old.sid }
     {
         match attend(self.sid, self.attached, desk) {
@@ -171,7 +175,8 @@ impl SyncSession {
         requires room { 2 ≤ vec_capacity room }
         ensures ok { IfOk result (λ step. LedBy D.passes desk.old desk.new (λ asked.
             Attended request self.old message asked step self.new)) }
-        ensures err { OnErr result (LedBy D.passes desk.old desk.new (λ asked. Falters false asked)) }
+        ensures err { OnErr result (LedBy D.passes desk.old desk.new (λ asked.
+            AttendedShort request self.old message asked)) }
         ensures same { self.new.sid ≡ self.old.sid }
     {
         match deliver(self.sid, message.control, desk) {
@@ -198,7 +203,8 @@ impl SyncSession {
         requires { is_program request ≡ true }
         ensures ok { IfOk result (λ step. LedBy D.passes desk.old desk.new (λ asked.
             SaysMore said.items step (λ own. Programs request self.old message asked own self.new))) }
-        ensures err { OnErr result (LedBy D.passes desk.old desk.new (λ asked. Falters false asked)) }
+        ensures err { OnErr result (LedBy D.passes desk.old desk.new (λ asked.
+            ProgramsShort request self.old message asked)) }
         ensures same { self.new.sid ≡ self.old.sid }
     {
         match request {
@@ -253,7 +259,8 @@ impl SyncSession {
         ensures ok { IfOk result (λ step. LedBy D.passes desk.old desk.new (λ asked.
             SaysMore said.items step (λ own.
             Finishes self.old id (EngineSync.whole self.old.front part) asked own self.new))) }
-        ensures err { OnErr result (LedBy D.passes desk.old desk.new (λ asked. Falters false asked)) }
+        ensures err { OnErr result (LedBy D.passes desk.old desk.new (λ asked.
+            FinishesShort self.old (EngineSync.whole self.old.front part) asked)) }
         ensures same { self.new.sid ≡ self.old.sid }
     {
         let front = replace(&mut self.front, Front::Nothing);
@@ -274,7 +281,7 @@ impl SyncSession {
     ) -> Result<Step, AllocError>
         ensures ok { IfOk result (λ step. LedBy D.passes desk.old desk.new (λ asked.
             SaysMore said.items step (λ own. Converses self.old id text.now asked own self.new.macros))) }
-        ensures err { OnErr result (LedBy D.passes desk.old desk.new (λ asked. Falters false asked)) }
+        ensures err { OnErr result (LedBy D.passes desk.old desk.new (λ asked. LosesAnswer self.old text.now asked)) }
         ensures kept { self.new ≡ record self.old { macros = self.new.macros } }
     {
         let bytes = self.talker.message(text, desk);
@@ -326,7 +333,8 @@ fn respond(
     size: SessionAnswer,
     said: Vec<Sent>,
 ) -> Result<Step, AllocError>
-    ensures { IfOk result (λ step. SaysMore said.items step (λ own. Answers id bytes.now size own)) }
+    ensures ok { IfOk result (λ step. SaysMore said.items step (λ own. Answers id bytes.now size own)) }
+    ensures err { OnErr result (IsToBeCut bytes.now size) }
 {
     match size {
         SessionAnswer::Max(size) => {
@@ -348,8 +356,9 @@ fn say_parts(
     bytes: &[u8],
     said: Vec<Sent>,
 ) -> Result<Vec<Sent>, AllocError>
-    ensures { IfOk result (λ all. (parts : List Message) × CutsTo size id bytes.now parts
+    ensures ok { IfOk result (λ all. (parts : List Message) × CutsTo size id bytes.now parts
         × (all.items ≡ said.items ++ map (on Synchronous) parts)) }
+    ensures err { OnErr result (bytes.now ≢ []) }
 {
     if bytes.is_empty() {
         return Ok(said);

@@ -1,7 +1,8 @@
 //! Responses of the instrument.
 
 ghost use Rattle.std.specs.Prelude.{◌≡◌, IfOk};
-ghost use Rattle.sw_session.specs.EngineMessages.{plain, size_told, size_response, tells_delivery, status_byte, lock_info};
+ghost use Rattle.sw_session.specs.EngineMessages.{plain, size_told, size_response, tells_delivery, status_byte};
+ghost use Rattle.sw_session.specs.EngineMessages.{lock_info};
 
 use std::alloc::{AllocError, Global};
 use sw_base::Sequence;

@@ -1,7 +1,8 @@
 //! One channel of a session.
 
 ghost use Rattle.std.specs.Prelude.{◌≡◌, ◌≤◌, [], true, false, IfOk, OnErr, OnOk, vec_capacity};
-ghost use Rattle.sw_session.specs.Engine.{fresh, Takes, session_of, channel_of, Falters, too_large, skips, notice_from, noticed_from, opened_sync, opened_async};
+ghost use Rattle.sw_session.specs.Engine.{fresh, Takes, session_of, channel_of, Falters, FaltersAt, too_large, skips, notice_from};
+ghost use Rattle.sw_session.specs.Engine.{noticed_from, opened_sync, opened_async};
 ghost use Rattle.sw_session.specs.EngineSync as EngineSync;
 ghost use Rattle.sw_session.specs.EngineAsync as EngineAsync;
 ghost use Rattle.sw_session.specs.EngineStep.{LedBy};
@@ -64,7 +65,7 @@ impl Engine {
         ensures ok { IfOk result (λ step. LedBy D.passes desk.old desk.new (λ asked.
             Takes self.old.state message asked step self.new.state)) }
         ensures heard { OnOk result ((self.old.spent ≡ false) × (self.new.spent ≡ false)) }
-        ensures err { OnErr result (LedBy D.passes desk.old desk.new (λ asked. Falters self.old.spent asked)) }
+        ensures err { OnErr result (LedBy D.passes desk.old desk.new (λ asked. Falters self.old message asked)) }
         ensures spent { OnErr result (self.new.spent ≡ true) }
         ensures session { OnErr result (session_of self.new.state ≡ session_of self.old.state) }
     {
@@ -134,7 +135,7 @@ impl State {
     ) -> Result<Step, AllocError>
         ensures ok { IfOk result (λ step. LedBy D.passes desk.old desk.new (λ asked.
             Takes self.old message asked step self.new)) }
-        ensures err { OnErr result (LedBy D.passes desk.old desk.new (λ asked. Falters false asked)) }
+        ensures err { OnErr result (LedBy D.passes desk.old desk.new (λ asked. FaltersAt self.old message asked)) }
         ensures session { OnErr result (session_of self.new ≡ session_of self.old) }
     {
         match self {

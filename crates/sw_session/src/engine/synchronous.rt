@@ -3,7 +3,10 @@
 ghost use Rattle.std.specs.Prelude.{◌≡◌, ℕ, true, [], IfSome};
 ghost use Rattle.sw_session.specs.Trace.{Led};
 ghost use Rattle.sw_session.specs.EngineStep.{LedBy, is_gone, reply_step};
-ghost use Rattle.sw_session.specs.EngineSync.{OpensSync, JoinsAt, is_first, Joins, joins_step, joins_session, opened_step, opened_session, Attends, attended, gate_step, Delivers, Interrupts, delivery_step, interrupted, Triggers, GivesTrigger, Completes};
+ghost use Rattle.sw_session.specs.EngineSync.{OpensSync, JoinsAt, is_first, Joins, joins_step, joins_session};
+ghost use Rattle.sw_session.specs.EngineSync.{opened_step, opened_session, Attends, attended, gate_step, Delivers};
+ghost use Rattle.sw_session.specs.EngineSync.{Interrupts, delivery_step, interrupted, Triggers, GivesTrigger};
+ghost use Rattle.sw_session.specs.EngineSync.{Completes};
 ghost use Rattle.sw_session.specs.Talk.{is_done};
 ghost use Rattle.sw_session.specs.declared.engine.step.Channel.TheVariants.{Synchronous};
 
@@ -31,7 +34,8 @@ pub enum Delivery {
 
 /// Begins the synchronous channel by its first message: joins a session; else gives what is said.
 pub fn open<D: Desk>(message: &Message, desk: &mut D) -> Result<Sid, Reply>
-    ensures { LedBy D.passes desk.old desk.new (λ asked. OpensSync message.now asked (opened_step message.now.parameter result) (opened_session result)) }
+    ensures { LedBy D.passes desk.old desk.new (λ asked.
+        OpensSync message.now asked (opened_step message.now.parameter result) (opened_session result)) }
 {
     if is_first(message.kind) {
         return join_at(message, desk);
@@ -41,7 +45,9 @@ pub fn open<D: Desk>(message: &Message, desk: &mut D) -> Result<Sid, Reply>
 
 /// Joins a session where the payload is a sub-address; else gives what is said.
 fn join_at<D: Desk>(message: &Message, desk: &mut D) -> Result<Sid, Reply>
-    ensures { LedBy D.passes desk.old desk.new (λ asked. JoinsAt message.now.payload message.now.parameter asked (opened_step message.now.parameter result) (opened_session result)) }
+    ensures { LedBy D.passes desk.old desk.new (λ asked.
+        JoinsAt message.now.payload message.now.parameter asked
+        (opened_step message.now.parameter result) (opened_session result)) }
 {
     if is_sub_address(message.payload.as_slice()) {
         return join(desk);
@@ -58,7 +64,8 @@ fn is_first(kind: Kind) -> bool
 
 /// Asks for a session; else gives what is said.
 fn join<D: Desk>(desk: &mut D) -> Result<Sid, Reply>
-    ensures { (parameter : ℕ) → LedBy D.passes desk.old desk.new (λ asked. Joins parameter asked (opened_step parameter result) (opened_session result)) }
+    ensures { (parameter : ℕ) → LedBy D.passes desk.old desk.new (λ asked.
+        Joins parameter asked (opened_step parameter result) (opened_session result)) }
 {
     let answer = desk.ask(SessionAsk::Join);
     joined(answer)
@@ -105,10 +112,11 @@ fn attended(answer: SessionAnswer) -> Option<Reply>
     gate
 }
 
-/// Looks at the last answer before a message with this control code is served: one that is available and wasn't taken is
-/// dropped, with error -410.
+/// Looks at the last answer before a message with this control code is served: one that is available and wasn't taken
+/// is dropped, with error -410.
 pub fn deliver<D: Desk>(sid: Sid, control: u8, desk: &mut D) -> Delivery
-    ensures { (id : ℕ) → Led D.passes desk.old desk.new (λ t rest. Delivers sid control id t (delivery_step id result) rest) }
+    ensures { (id : ℕ) → Led D.passes desk.old desk.new (λ t rest.
+        Delivers sid control id t (delivery_step id result) rest) }
 {
     if tells_delivery(control) {
         desk.note(sid, false);
@@ -136,7 +144,8 @@ fn interrupt<D: Desk>(sid: Sid, desk: &mut D) -> Delivery
 
 /// Gives a trigger; within a program message that is an error. Nothing is said; tells whether the channel ends.
 pub fn trigger<D: Desk>(sid: Sid, within: bool, desk: &mut D) -> bool
-    ensures { LedBy D.passes desk.old desk.new (λ asked. Triggers within sid asked (record { out = []; ends = result })) }
+    ensures { LedBy D.passes desk.old desk.new (λ asked.
+        Triggers within sid asked (record { out = []; ends = result })) }
 {
     let answer = give_trigger(sid, within, desk);
     is_gone(answer)

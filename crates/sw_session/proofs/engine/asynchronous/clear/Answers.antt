@@ -7,4 +7,5 @@ use Rattle.sw_session.proofs.EngineAsks.{by-one}
 use Rattle.sw_session.proofs.engine.asynchronous.clear.Goals as goal
 
 pub returns : goal.returns
-returns g c = by-one g.D.Desk.passes _ _ _ (Asked (Clear c.args.sid) c.ask-answer.result) c.ask-answer.ensures.passes (refl, c.on_done.ensures ∙ ap (λ m. on_done Asynchronous m c.ask-answer.result) c.plain-response.ensures)
+returns g c = by-one g.D.Desk.passes _ _ _ (Asked (Clear c.args.sid) c.ask-answer.result) c.ask-answer.ensures.passes
+    (refl, c.on_done.ensures ∙ ap (λ m. on_done Asynchronous m c.ask-answer.result) c.plain-response.ensures)

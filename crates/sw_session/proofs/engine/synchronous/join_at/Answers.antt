@@ -5,4 +5,6 @@ use Rattle.sw_session.proofs.engine.synchronous.join_at.Goals as goal
 
 pub returns-then-is_sub_address : goal.returns-then-is_sub_address
 returns-then-is_sub_address g c =
-    by-so g.D.Desk.passes _ _ _ _ (c.join.ensures c.args.message.now.parameter) (λ asked joins. inl (subst IsSubAddress c.as_slice.ensures (c.is_sub_address.ensures.0 c.if-is_sub_address.true), joins))
+    by-so g.D.Desk.passes _ _ _ _
+    (c.join.ensures c.args.message.now.parameter) (λ asked joins.
+    inl (subst IsSubAddress c.as_slice.ensures (c.is_sub_address.ensures.0 c.if-is_sub_address.true), joins))
