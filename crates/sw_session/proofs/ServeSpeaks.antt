@@ -22,7 +22,7 @@ takes-speaks passes d d' e f m (Ok step) h k = record { asked = h.asked; leads =
 takes-speaks passes d d' e f m (Err x) h k = tt
 
 pub takes-falters : {D X : Type 0} (passes : D → Entry → D → Type 0) (d d' : D) (e f : EngineStanding) (m : Message) (r : Result Step X)
-    → OnErr r (LedBy passes d d' (λ asked. Falters e.spent asked)) → OnErr r (f.spent ≡ true) → OnErr r (session_of f.state ≡ session_of e.state)
+    → OnErr r (LedBy passes d d' (λ asked. Falters e m asked)) → OnErr r (f.spent ≡ true) → OnErr r (session_of f.state ≡ session_of e.state)
     → OnErr r (LedBy passes d d' (λ asked. EngineFalters e (Act.Takes m) asked f))
 takes-falters passes d d' e f m (Ok step) h k s = tt
 takes-falters passes d d' e f m (Err x) h k s = record { asked = h.asked; leads = h.leads; admits = (h.admits, s, k) }
