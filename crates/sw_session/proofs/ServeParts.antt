@@ -1,12 +1,11 @@
 -- Parts of a server's run, one after another.
-use Rattle.std.proofs.Common.{◌≡◌, ℕ, zero, suc, ◌+◌, ◌<◌, ◌≤◌, Bool, true, false, List, [], ◌∷◌, ◌++◌, length, map, refl, sym, ap, ap₂, ◌∙◌, append_assoc, append-nil, length-append, arith, inl, inr, subst, flat_map, Ok, Err, Some, None, Option, Result}
+use Rattle.std.proofs.Common.{◌≡◌, ℕ, zero, suc, ◌+◌, ◌<◌, List, [], ◌∷◌, ◌++◌, refl, sym, ap, ap₂, ◌∙◌, append_assoc, append-nil, arith, inl, inr, subst, flat_map, Ok, Err, Some, None, Option, Result}
 use Rattle.std.proofs.lemmas.List.Concat.{flat_map-append}
-use Rattle.std.specs.Io.KnownBytes.{Appends, Consumes, IsAtEnd}
-use Rattle.sw_hislip.specs.declared.fault.WireFault.{WireFault}
+use Rattle.std.specs.Io.KnownBytes.{Appends}
 use Rattle.sw_hislip.specs.declared.fault.WireFault.TheVariants.{BadPrologue, TooLarge, NoMemory}
 use Rattle.sw_hislip.specs.declared.kind.Kind.{Kind}
 use Rattle.sw_hislip.specs.declared.message.Message.{Message}
-use Rattle.sw_hislip.specs.Pending.{Pending, nothing_fed, fed, Waits, GivesNext, HasWrongPrologue}
+use Rattle.sw_hislip.specs.Pending.{Pending, fed}
 use Rattle.sw_hislip.specs.Stream.{Call, feeds, answers, Decodes, stream_of, told}
 use Rattle.sw_session.specs.declared.engine.step.Channel.{Channel}
 use Rattle.sw_session.specs.declared.engine.step.Sent.{Sent}
@@ -19,8 +18,8 @@ use Rattle.sw_session.specs.declared.servers.fault.ServeFault.{ServeFault}
 use Rattle.sw_session.specs.declared.servers.fault.ServeFault.TheVariants as Fault
 use Rattle.sw_session.specs.Trace.{Entry, Leads}
 use Rattle.sw_session.specs.EngineStep.{LedBy}
-use Rattle.sw_session.specs.ServeWrite.{wire_on, wire_off, WritesPart, Wrote, Sends}
-use Rattle.sw_session.specs.Serve.{Voice, Exchange, Proceeds, Speaks, acts_for, acts_of, asks_of, said_of, arrived, is_refused, after_of, notes_of, pauses, is_pause, Point, point, Spoken, Stops, Breaks, GoesThrough, Hears, HearsEach, IsCutOff, IsStarved, Finds, Tells}
+use Rattle.sw_session.specs.ServeWrite.{wire_on, wire_off, WritesPart, Sends}
+use Rattle.sw_session.specs.Serve.{Voice, Exchange, Speaks, acts_of, asks_of, said_of, arrived, is_refused, after_of, notes_of, pauses, is_pause, Point, point, Spoken, Stops, Breaks, GoesThrough, Hears, IsCutOff, Finds, Tells}
 use Rattle.sw_session.proofs.ServeKnown.{appends-nothing, appends-more}
 
 -- ---- the engine's definition

@@ -1,5 +1,5 @@
 -- An engine as a server asks it.
-use Rattle.std.proofs.Common.{◌≡◌, true, false, List, [], ◌∷◌, Option, Some, None, Result, Ok, Err, IfOk, OnErr, OnOk, refl, sym, subst}
+use Rattle.std.proofs.Common.{◌≡◌, true, false, [], ◌∷◌, Option, Some, None, Result, Ok, Err, IfOk, OnErr, OnOk, refl, sym, subst}
 use Rattle.sw_hislip.specs.declared.kind.Kind.{Kind}
 use Rattle.sw_hislip.specs.declared.message.Message.{Message}
 use Rattle.sw_core.specs.declared.ask.Sid.{Sid}

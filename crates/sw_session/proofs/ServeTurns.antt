@@ -1,15 +1,15 @@
 -- Turns of a server, one after another.
-use Rattle.std.proofs.Common.{◌≡◌, ℕ, ◌+◌, ◌<◌, ◌≤◌, false, List, [], ◌∷◌, ◌++◌, length, refl, sym, ap, ap₂, ◌∙◌, append_assoc, append-nil, length-append, arith, inl, inr, subst, flat_map, Ok, Err, Option, Result}
-use Rattle.std.specs.Prelude.{◌⊎◌, IfOk, Bool}
+use Rattle.std.proofs.Common.{◌≡◌, ℕ, ◌+◌, ◌<◌, ◌≤◌, false, List, [], ◌∷◌, ◌++◌, length, refl, sym, ap, ◌∙◌, append_assoc, append-nil, length-append, arith, inl, inr, subst, flat_map, Ok, Err, Option, Result}
+use Rattle.std.specs.Prelude.{IfOk, Bool}
 use Rattle.std.proofs.lemmas.List.Concat.{flat_map-append}
-use Rattle.std.specs.Io.KnownBytes.{Consumes, IsAtEnd}
+use Rattle.std.specs.Io.KnownBytes.{Consumes}
 use Rattle.sw_hislip.specs.declared.kind.Kind.{Kind}
 use Rattle.sw_hislip.specs.declared.message.Message.{Message}
-use Rattle.sw_hislip.specs.Pending.{Pending, nothing_fed, fed, Waits, HasWrongPrologue}
-use Rattle.sw_hislip.specs.Stream.{Call, Follows, IsStream, Rests, EveryMessageComesOut, LeavesARest, stream_of, told}
+use Rattle.sw_hislip.specs.Pending.{Pending, nothing_fed, fed, Waits}
+use Rattle.sw_hislip.specs.Stream.{Call, Follows, EveryMessageComesOut, LeavesARest, stream_of}
 use Rattle.sw_session.specs.declared.engine.step.Channel.{Channel}
 use Rattle.sw_session.specs.declared.servers.act.Act.{Act}
-use Rattle.sw_session.specs.declared.servers.act.Act.TheVariants.{Takes, Skips, Refuses, Notices}
+use Rattle.sw_session.specs.declared.servers.act.Act.TheVariants.{Notices}
 use Rattle.sw_session.specs.declared.servers.act.After.{After}
 use Rattle.sw_session.specs.declared.servers.act.After.TheVariants.{Goes, Ends, Fatal, Malformed}
 use Rattle.sw_session.specs.declared.servers.fault.ServeFault.{ServeFault}
@@ -18,7 +18,7 @@ use Rattle.sw_session.specs.declared.servers.turns.Came.TheVariants as Came
 use Rattle.sw_session.specs.declared.servers.turns.Next.{Next}
 use Rattle.sw_session.specs.declared.servers.turns.Next.TheVariants.{On, Over}
 use Rattle.sw_session.specs.Trace.{Entry}
-use Rattle.sw_session.specs.Serve.{Voice, acts_for, arrived, pauses, is_pause, is_refused, Point, point, Stops, GoesThrough, Judges, HearsEach, HoldsMessage, Tells, Stands, Listens, HearsAll, conclude, Loses, LosesAt, EndsWell, FailsBy, EndsTurn, TakesTurn, EndsRun, Runs}
+use Rattle.sw_session.specs.Serve.{Voice, acts_for, arrived, pauses, Point, Stops, GoesThrough, Judges, HearsEach, HoldsMessage, Tells, Stands, Listens, HearsAll, conclude, Loses, EndsWell, FailsBy, EndsTurn, TakesTurn, EndsRun, Runs}
 use Rattle.sw_session.proofs.ServeKnown.{consumes-nothing, consumes-more}
 use Rattle.sw_session.proofs.ServeParts.{pauses-then, none-paused, either-paused, tells-nothing, tells-then, tells-paused, tells-fed, goes-nowhere, goes-then, stops-then}
 

@@ -1,30 +1,20 @@
 -- The ways of a turn, and turns one after another.
-use Rattle.std.proofs.Common.{◌≡◌, ℕ, ◌+◌, ◌*◌, ◌<◌, ◌≤◌, Bool, true, false, List, [], ◌∷◌, ◌++◌, length, drop, refl, sym, ap, ap₂, ◌∙◌, append_assoc, append-nil, length-append, arith, inl, inr, subst, flat_map, Ok, Err, Some, None, Option, Result}
-use Rattle.std.specs.Prelude.{◌⊎◌}
+use Rattle.std.proofs.Common.{◌≡◌, ℕ, ◌+◌, ◌<◌, List, [], ◌∷◌, ◌++◌, length, drop, refl, sym, ap, ◌∙◌, append_assoc, append-nil, length-append, arith, inl, inr, subst, flat_map, Ok, Err, Some, None, Option, Result}
 use Rattle.std.proofs.lemmas.List.{length-drop}
 use Rattle.std.proofs.lemmas.List.Concat.{flat_map-append}
-use Rattle.std.specs.Io.KnownBytes.{Appends, Consumes, IsAtEnd}
-use Rattle.sw_hislip.specs.declared.fault.WireFault.TheVariants.{BadPrologue, TooLarge, NoMemory}
-use Rattle.sw_hislip.specs.declared.kind.Kind.{Kind}
-use Rattle.sw_hislip.specs.declared.message.Message.{Message}
-use Rattle.sw_hislip.specs.Wire.{header, header_of, wire}
-use Rattle.sw_hislip.specs.Pending.{Pending, nothing_fed, fed, Waits, GivesNext, HasWrongPrologue}
-use Rattle.sw_hislip.specs.Stream.{Call, Decodes, stream_of, told, Follows, IsStream, Rests, EveryMessageComesOut, LeavesARest}
+use Rattle.sw_hislip.specs.Wire.{header, header_of}
+use Rattle.sw_hislip.specs.Pending.{Pending, Waits, HasWrongPrologue}
 use Rattle.sw_session.specs.declared.engine.step.Channel.{Channel}
 use Rattle.sw_session.specs.declared.servers.act.Act.{Act}
 use Rattle.sw_session.specs.declared.servers.act.Act.TheVariants.{Takes, Skips, Refuses, Notices}
 use Rattle.sw_session.specs.declared.servers.act.After.{After}
 use Rattle.sw_session.specs.declared.servers.act.After.TheVariants.{Goes, Ends, Fatal, Malformed}
 use Rattle.sw_session.specs.declared.servers.fault.ServeFault.{ServeFault}
-use Rattle.sw_session.specs.declared.servers.fault.ServeFault.TheVariants as Fault
 use Rattle.sw_session.specs.declared.servers.turns.Came.{Came}
-use Rattle.sw_session.specs.declared.servers.turns.Came.TheVariants as Came
 use Rattle.sw_session.specs.declared.servers.turns.Next.{Next}
-use Rattle.sw_session.specs.declared.servers.turns.Next.TheVariants.{On, Over}
 use Rattle.sw_session.specs.Trace.{Entry}
-use Rattle.sw_session.specs.Serve.{Voice, Exchange, Speaks, acts_for, acts_of, arrived, is_refused, after_of, pauses, is_pause, Point, point, Spoken, Stops, Breaks, GoesThrough, Judges, Hears, HearsEach, Finds, HoldsMessage, NextInput, Tells, Stands, Listens, HearsInputs, HearsAll, conclude, Loses, LosesAt, EndsWell, FailsBy, EndsTurn, TakesTurn, EndsRun, Runs}
-use Rattle.sw_session.proofs.ServeKnown.{consumes-nothing, consumes-more}
-use Rattle.sw_session.proofs.ServeParts.{found-unpaused, none-more, tells-nothing, tells-then, tells-found, tells-paused, tells-fed, goes-nowhere, goes-then, ends-before, stops-then, stops-at}
+use Rattle.sw_session.specs.Serve.{Voice, acts_for, is_refused, pauses, Point, Stops, GoesThrough, Judges, Hears, HearsEach, Finds, HoldsMessage, NextInput, Tells, Stands, Listens, HearsAll, TakesTurn}
+use Rattle.sw_session.proofs.ServeParts.{found-unpaused, none-more, tells-nothing, tells-then, tells-found, goes-nowhere, goes-then, ends-before, stops-then, stops-at}
 
 -- ---- results that are known
 

@@ -9,7 +9,6 @@ use Rattle.sw_session.specs.declared.engine.step.Channel.{Channel}
 use Rattle.sw_session.specs.declared.engine.step.Channel.TheVariants.{Asynchronous}
 use Rattle.sw_session.specs.declared.engine.step.Step.{Step}
 use Rattle.sw_session.specs.declared.servers.act.Act.{Act}
-use Rattle.sw_session.specs.declared.servers.act.Act.TheVariants as Act
 use Rattle.sw_session.specs.declared.servers.fault.ServeFault.{ServeFault}
 use Rattle.sw_session.specs.Trace.{Entry, Polled}
 use Rattle.sw_session.specs.EngineStep.{goes, says, fails, Unasked}

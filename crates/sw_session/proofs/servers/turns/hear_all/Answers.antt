@@ -1,6 +1,6 @@
-use Rattle.std.proofs.Common.{rules, Ok, Err}
+use Rattle.std.proofs.Common.{rules, Ok}
 use Rattle.sw_session.specs.declared.servers.act.After.TheVariants.{Goes, Ends, Fatal, Malformed}
-use Rattle.sw_session.proofs.ServeWays.{next-is, each-is, hearing-start, hearing-on, all-heard, all-ended, all-stopped, all-starved, takes-bytes}
+use Rattle.sw_session.proofs.ServeWays.{next-is, each-is, hearing-start, hearing-on, all-ended, all-stopped}
 use Rattle.sw_session.proofs.servers.turns.hear_all.Goals as goal
 
 pub loop-input-init : goal.loop-input-init

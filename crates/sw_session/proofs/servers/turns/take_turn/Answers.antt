@@ -1,4 +1,4 @@
-use Rattle.std.proofs.Common.{rules, false, Ok, Err, sym, ◌∙◌}
+use Rattle.std.proofs.Common.{rules, false, Ok, sym, ◌∙◌}
 use Rattle.sw_session.specs.declared.servers.turns.Came.TheVariants.{End, Bytes, Paused}
 use Rattle.sw_session.proofs.ServeWays.{listens-is}
 use Rattle.sw_session.proofs.ServeTurns.{judged-ok, concluded-read, concluded-write, each-unread, all-unread, listens-unwritten, turn-err, turn-end, turn-paused, turn-bytes}
