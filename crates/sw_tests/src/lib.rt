@@ -14,6 +14,10 @@ mod cage_calls;
 #[cfg(test)]
 mod cages;
 #[cfg(test)]
+mod hostile;
+#[cfg(test)]
+mod hostile_bytes;
+#[cfg(test)]
 mod scans;
 #[cfg(test)]
 mod session;
