@@ -28,5 +28,6 @@ pub use core_desk::CoreDesk;
 pub use desk::{Desk, View, Wake};
 pub use laws::{
     core_rest_is_determined, core_talk_is_determined, talk_is_determined, work_is_done_in_order,
+    work_is_kept_where_there_is_room,
 };
 pub use talker::Talker;
