@@ -1,5 +1,5 @@
 -- A run leaves no choice: line by line, from a mainframe that was set up in one way.
-use Rattle.std.proofs.Common.{◌≡◌, ℕ, Bool, true, false, MatchBool, ◌==◌, ◌&&◌, not, List, [], ◌∷◌, ◌++◌, Result, None, refl, sym, ap, subst, ◌∙◌}
+use Rattle.std.proofs.Common.{◌≡◌, ℕ, Bool, true, false, MatchBool, ◌==◌, ◌&&◌, not, List, [], ◌∷◌, ◌++◌, None, refl, sym, ap, subst, ◌∙◌}
 use Rattle.std.proofs.lemmas.List.{append-nil}
 use Rattle.sw_core.specs.declared.ask.Sid.{Sid}
 use Rattle.sw_core.specs.declared.ask.SessionAsk.TheVariants as Ask
@@ -10,11 +10,7 @@ use Rattle.sw_core.specs.Event.{last_number}
 use Rattle.sw_core.specs.Step.{Acts, acts_unnumbered, IsWorn, IsEvent, IsUnnumbered, Step}
 use Rattle.sw_cage.specs.Accounts.{Accounts}
 use Rattle.sw_core.specs.Run.{IsPlain, toll, StepIsDetermined}
-use Rattle.sw_base.specs.declared.reading.Reading.{Reading}
-use Rattle.sw_card.specs.declared.board.CardFault.{CardFault}
-use Rattle.sw_macro.specs.Table.{Table}
-use Rattle.sw_session.specs.CoreDesk.{DeskSeen, Rests}
-use Rattle.sw_session.specs.Law.{AllSmooth, waits_of, carried_in, carried_at_rest, outcomes_in_talk, outcomes_at_rest}
+use Rattle.sw_session.specs.Law.{outcomes_in_talk, outcomes_at_rest}
 use Rattle.sw_session.specs.Talk.{state}
 use Rattle.sw_session.specs.Law.{IsSameDesk, CoreTalkIsDetermined, CoreRestIsDetermined}
 use Rattle.sw_card.specs.Account.{Account}
