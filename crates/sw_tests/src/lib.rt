@@ -19,6 +19,9 @@ mod hislip_clients;
 mod hislip_engine;
 #[cfg(test)]
 mod hislip_servers;
+mod hostile;
+#[cfg(test)]
+mod hostile_bytes;
 #[cfg(test)]
 mod scans;
 #[cfg(test)]
