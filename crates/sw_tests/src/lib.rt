@@ -14,14 +14,7 @@ mod cage_calls;
 #[cfg(test)]
 mod cages;
 #[cfg(test)]
-mod hislip_clients;
-#[cfg(test)]
-mod hislip_engine;
-#[cfg(test)]
-mod hislip_servers;
 mod hostile;
-#[cfg(test)]
-mod hostile_bytes;
 #[cfg(test)]
 mod scans;
 #[cfg(test)]

@@ -1,6 +1,6 @@
 //! Worked conversations of HiSLIP clients with a mainframe, message by message.
 
-use crate::hislip_clients::{
+use crate::clients::{
     Client, FIRST, Fields, IDENTITY, TAKEN, bench, carrying, is_answer, plain, take,
 };
 use std::alloc::Global;

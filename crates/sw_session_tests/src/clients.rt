@@ -1,16 +1,28 @@
 //! HiSLIP clients that the tests play: what they send, and whether what comes back is as it should be; and a desk for
 //! them. These promise nothing, and most answer yes or no.
 
-use crate::asks::install;
 use std::alloc::{AllocError, Global};
 use sw_base::Sequence;
 use sw_card::Card;
-use sw_core::Core;
+use sw_core::{Answer, Ask, Core};
 use sw_hislip::{Kind, Message};
 use sw_kinds::{Mux, SimDriver, SimSource, Volt};
 use sw_session::{Channel, CoreDesk, Desk, Engine, Sent, Step};
 
 pub type Bench = CoreDesk<Mux<SimDriver>, Volt<SimSource>>;
+
+/// Whether a card comes into the slot.
+fn install(
+    alloc: Global,
+    core: &mut Core<Mux<SimDriver>, Volt<SimSource>>,
+    slot: u8,
+    card: Card<Mux<SimDriver>, Volt<SimSource>>,
+) -> bool {
+    let answer = core.apply(alloc, Ask::Install(slot, card));
+    let is_installed = matches!(answer, Answer::Installed);
+    drop(answer);
+    is_installed
+}
 
 /// Whether four channels come into slot 1 and a meter into slot 4.
 fn fits(alloc: Global, core: &mut Core<Mux<SimDriver>, Volt<SimSource>>) -> bool {
