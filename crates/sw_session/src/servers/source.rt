@@ -86,6 +86,7 @@ fn read_of(read: io::Result<usize>) -> Option<Result<usize, Unread>>
 }
 
 /// Bytes in memory to be read: no read fails, and no time limit ends one.
+#[derive(Drop)]
 pub struct Memory<'a> {
     pub left: &'a [u8],
 }
