@@ -122,13 +122,19 @@ pub slots_set : {C : Type 0} (items new : List (Option (C × Account))) (i : ℕ
     → new ≡ slice_set items i v → length new ≡ most_slots
 slots_set items new i v size is = ap length is ∙ length-set items i v ∙ sym (length-map items option_account) ∙ size
 
+pub ok_is : {T E X : Type 0} (r : Result T E) (t : T) → r ≡ Ok t → OnOk r X → X
+ok_is {T} {E} {X} r t e h = subst (λ (q : Result T E). OnOk q X) e h
+
+pub err_is : {T E X : Type 0} (r : Result T E) (t : E) → r ≡ Err t → OnErr r X → X
+err_is {T} {E} {X} r t e h = subst (λ (q : Result T E). OnErr q X) e h
+
 pub claimed_closing : {T E : Type 0} (old most new : Accounts) (index : Index) (group : ℕ) (c : Channel) (r : Result T E) (t : T) → AreClaimed old index
     → group ≡ group_of (layout_of old) c → group < length index
     → ((d : Channel) → is_closed old d ≡ true → IsClash (layout_of old) c d → ⊥) → AfterCall old c most true r new → r ≡ Ok t
     → AreClaimed new (slice_set index group (Some c))
 claimed_closing old most new index group c r t h g room apart a e = record {
   safe = a.safe;
-  claims = claims_closing old new index group c h.claims g room apart (subst (λ q. OnOk q (Sets old (c ∷ []) true new)) e a.ok);
+  claims = claims_closing old new index group c h.claims g room apart (ok_is r t e a.ok);
 }
 
 pub claimed_unclosed : {T E : Type 0} (old most new seen : Accounts) (index : Index) (group : ℕ) (c : Channel) (r : Result T E) (t : E) → AreClaimed old index
@@ -139,7 +145,7 @@ claimed_unclosed old most new seen index group c r t h g room apart a e s = reco
   safe = a.safe;
   claims = subst (λ (q : Accounts). IndexesClaims (layout_of new) (λ d. is_closed new d ≡ true) (map (closed_claim (is_closed q))
       (slice_set index group (Some c)))) (sym s)
-      (claims_unclosed old new index group c h.claims g room apart (subst (λ q. OnErr q (IsDisturbed old (c ∷ []) new)) e a.disturbed));
+      (claims_unclosed old new index group c h.claims g room apart (err_is r t e a.disturbed));
 }
 
 pub claimed_opening : {T E : Type 0} (old most new : Accounts) (index : Index) (group : ℕ) (c : Channel) (r : Result T E) (t : T) → AreClaimed old index
@@ -147,7 +153,7 @@ pub claimed_opening : {T E : Type 0} (old most new : Accounts) (index : Index) (
     → AreClaimed new (slice_set index group None)
 claimed_opening old most new index group c r t h g room closed a e = record {
   safe = a.safe;
-  claims = claims_opening old new index group c h.claims g room closed (subst (λ q. OnOk q (Sets old (c ∷ []) false new)) e a.ok);
+  claims = claims_opening old new index group c h.claims g room closed (ok_is r t e a.ok);
 }
 
 pub claimed_unopened : {T E : Type 0} (old most new seen : Accounts) (index : Index) (c : Channel) (r : Result T E) (t : E) → AreClaimed old index
@@ -155,7 +161,7 @@ pub claimed_unopened : {T E : Type 0} (old most new seen : Accounts) (index : In
 claimed_unopened old most new seen index c r t h closed a e s = record {
   safe = a.safe;
   claims = subst (λ (q : Accounts). IndexesClaims (layout_of new) (λ d. is_closed new d ≡ true) (map (closed_claim (is_closed q)) index)) (sym s)
-      (claims_unopened old new index c h.claims closed (subst (λ q. OnErr q (IsDisturbed old (c ∷ []) new)) e a.disturbed));
+      (claims_unopened old new index c h.claims closed (err_is r t e a.disturbed));
 }
 
 -- a meter is taken out

@@ -22,8 +22,8 @@ loop-init g c =
           c.closed-left.ensures.within c.requires.kept;
     }
 
-pub new-requires-clause-ch_in : goal.new-requires-clause-ch_in
-new-requires-clause-ch_in g c = walk_number (is_closed c.args.self.now) (c.args.before + 1) c.loop.left c.loop.counter
+pub new-chan-requires-clause-ch_in : goal.new-chan-requires-clause-ch_in
+new-chan-requires-clause-ch_in g c = walk_number (is_closed c.args.self.now) (c.args.before + 1) c.loop.left c.loop.counter
     (filter (is_closed c.args.self.now) (rows c.args.before)) (take c.loop.past c.args.chans.now) c.in-Some.ch c.loop.invariant.walked c.in-Some.ensures.here
 
 pub returns-in_default-clause-kept : goal.returns-in_default-clause-kept

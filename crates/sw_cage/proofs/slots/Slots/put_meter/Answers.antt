@@ -9,8 +9,8 @@ pub keep_closed-requires : goal.keep_closed-requires
 keep_closed-requires g c = slots_set c.self.inside.slots.items c.deref.result.now (c.args.slot - 1) c.with.result c.self.invariant.safe.size
     c.deref.ensures.value
 
-pub invariant_of-self-then-had_none : goal.invariant_of-self-then-had_none
-invariant_of-self-then-had_none g c =
+pub invariant_of-self : goal.invariant_of-self
+invariant_of-self g c =
     subst (λ v. AreClaimed (accounts_of (slice_set c.self.inside.slots.items (c.args.slot - 1) v)) c.self.inside.claims) (sym c.with.ensures)
     (claimed_put c.self.inside.slots.items c.args.slot c.closed.result c.of_meter.result c.index.result.now c.args.meter.1 c.self.inside.claims
     c.self.invariant (ap (λ p. p.1) c.of_meter.ensures) c.requires.0 c.requires.1 c.index.ensures c.closed.ensures
@@ -20,8 +20,8 @@ pub returns-then-had_none : goal.returns-then-had_none
 returns-then-had_none g c = ap (λ v. accounts_of (slice_set c.self.inside.slots.items (c.args.slot - 1) v)) c.with.ensures
     ∙ put_is c.self.inside.slots.items c.args.self.now _ c.of_meter.result c.args.meter.1 c.self.view_is (ap (λ p. p.1) c.of_meter.ensures)
 
-pub invariant_of-self : goal.invariant_of-self
-invariant_of-self g c = subst (AreClaimed _) (sym c.keep_closed.ensures)
+pub invariant_of-self-2 : goal.invariant_of-self-2
+invariant_of-self-2 g c = subst (AreClaimed _) (sym c.keep_closed.ensures)
     (subst (λ v. AreClaimed (accounts_of (slice_set c.self.inside.slots.items (c.args.slot - 1) v)) _) (sym c.with.ensures)
     (claimed_put_over c.self.inside.slots.items c.deref.result.now c.args.slot c.of_meter.result c.args.meter.1 c.self.inside.claims
     c.self.invariant (ap (λ p. p.1) c.of_meter.ensures) c.requires.0 c.requires.1
