@@ -1,6 +1,6 @@
-use Rattle.std.proofs.Common.{◌-◌, slice_set, sym, ◌∙◌, ap, subst}
-use Rattle.sw_cage.specs.Accounts.{accounts_of}
-use Rattle.sw_cage.specs.Claims.{AreClaimed}
+use Rattle.std.proofs.Common.{◌-◌, map, slice_set, sym, ◌∙◌, ap, subst}
+use Rattle.sw_cage.specs.Accounts.{accounts_of, is_closed}
+use Rattle.sw_cage.specs.Claims.{AreClaimed, closed_claim}
 use Rattle.sw_cage.proofs.OneSlotLemmas.{put_is}
 use Rattle.sw_cage.proofs.ClaimedLemmas.{slots_set, claimed_put, claimed_put_over}
 use Rattle.sw_cage.proofs.slots.Slots.put_meter.Goals as goal
@@ -22,7 +22,8 @@ returns-then-had_none g c = ap (λ v. accounts_of (slice_set c.self.inside.slots
 
 pub invariant_of-self-2 : goal.invariant_of-self-2
 invariant_of-self-2 g c = subst (AreClaimed _) (sym c.keep_closed.ensures)
-    (subst (λ v. AreClaimed (accounts_of (slice_set c.self.inside.slots.items (c.args.slot - 1) v)) _) (sym c.with.ensures)
+    (subst (λ v. AreClaimed (accounts_of (slice_set c.self.inside.slots.items (c.args.slot - 1) v))
+    (map (closed_claim (is_closed (accounts_of c.deref.result.now))) c.self.inside.claims)) (sym c.with.ensures)
     (claimed_put_over c.self.inside.slots.items c.deref.result.now c.args.slot c.of_meter.result c.args.meter.1 c.self.inside.claims
     c.self.invariant (ap (λ p. p.1) c.of_meter.ensures) c.requires.0 c.requires.1
     (c.deref.ensures.value ∙ ap (slice_set c.self.inside.slots.items (c.args.slot - 1)) c.with.ensures)))
