@@ -1,6 +1,7 @@
 //! For each group the one closed channel that it may have.
 
-ghost use Rattle.std.specs.Prelude.{◌≡◌, ◌≢◌, ℕ, ◌<◌, length, replicate, slice_set, map, Option, None, Some, true, false};
+ghost use Rattle.std.specs.Prelude.{◌≡◌, ◌≢◌, ◌<◌, length, replicate, slice_set, map, Option, None, Some, true};
+ghost use Rattle.std.specs.Prelude.{ℕ, false};
 ghost use Rattle.sw_base.specs.Limits.{most_slots};
 ghost use Rattle.sw_base.specs.Layout.{Channel};
 ghost use Rattle.sw_cage.specs.Accounts.{accounts_of, is_closed};

@@ -36,7 +36,8 @@ invariant_of-self-in-Err g c = subst (AreClaimed _)
     (claimed_seen c.self.inside.slots.items c.args.self.now c.self.inside.claims c.self.view_is c.self.invariant) c.group-group.ensures c.hold.ensures.room
     c.requires.apart (close_item c.self.inside.slots.items c.args.self.now c.args.chan c.slot.result c.ch.result c.index_mut.result.now c.close_in.new.slot
     c.close_in.result c.slot.ensures.value c.ch.ensures.value c.slot.ensures.range.0 c.slot.ensures.range.1 c.self.view_is c.self.invariant.safe
-    c.index_mut.ensures.value c.requires.present c.requires.apart c.close_in.ensures.ok c.close_in.ensures.err) c.in-Err.is (ap accounts_of c.deref.ensures.value))
+    c.index_mut.ensures.value c.requires.present c.requires.apart c.close_in.ensures.ok c.close_in.ensures.err)
+    c.in-Err.is (ap accounts_of c.deref.ensures.value))
 
 pub returns-in-Err-clause-err : goal.returns-in-Err-clause-err
 returns-in-Err-clause-err g c = err_is c.close_in.result _ c.in-Err.is
