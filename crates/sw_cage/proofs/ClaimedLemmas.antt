@@ -1,6 +1,6 @@
 -- What becomes of the claims as channels are set and cards come and go.
-use Rattle.std.proofs.Common.{◌≡◌, ◌≢◌, ℕ, ◌-◌, ◌≤◌, ◌<◌, true, false, List, [], ◌∷◌, length, map, replicate, slice_set, Option, None, Some, inl, inr, refl}
-use Rattle.std.proofs.Common.{sym, ◌∙◌, ap, subst, arith, ◌⊎◌, is_some, nat_lt, slice_index_or, Bool, Result, Ok, Err, OnOk, OnErr}
+use Rattle.std.proofs.Common.{◌≡◌, ℕ, ◌-◌, ◌≤◌, ◌<◌, true, false, List, [], ◌∷◌, length, map, replicate, slice_set, Option, None, Some, inl, inr, refl}
+use Rattle.std.proofs.Common.{sym, ◌∙◌, ap, subst, arith, ◌⊎◌, is_some, nat_lt, slice_index_or, Result, Ok, Err, OnOk, OnErr}
 use Rattle.std.proofs.lemmas.List.{length-set, length-map}
 use Rattle.sw_base.specs.Limits.{most_slots, most_channels}
 use Rattle.sw_base.specs.Layout.{Channel, Layout, slot_at, group_of, has_meter, IsClash}

@@ -1,12 +1,12 @@
 -- The mask that is kept of a slot, read from its card.
-use Rattle.std.proofs.Common.{◌≡◌, ℕ, zero, suc, ◌-◌, ◌≤◌, ◌<◌, Bool, true, false, List, length, take, Some, inl, inr, refl, sym}
+use Rattle.std.proofs.Common.{◌≡◌, ℕ, zero, suc, ◌-◌, ◌≤◌, ◌<◌, Bool, true, false, List, take, Some, inl, inr, refl, sym}
 use Rattle.std.proofs.Common.{◌∙◌, arith}
 use Rattle.std.proofs.lemmas.Bool.{cases_lt}
 use Rattle.std.proofs.lemmas.List.{get_or-take, get_or_past, length-take}
 use Rattle.std.proofs.lemmas.Grind.{common_steps}
 use Rattle.sw_base.specs.Limits.{most_channels}
 use Rattle.sw_card.specs.Account.{Account, closed_at}
-use Rattle.sw_card.specs.Mask.{in_mask, IsMaskOf}
+use Rattle.sw_card.specs.Mask.{IsMaskOf}
 use Rattle.sw_cage.specs.Masks.{IsSlotMask}
 
 take_closed : (closed : List Bool) (n ch : ℕ) → ch ≤ n → closed_at (take n closed) ch ≡ closed_at closed ch

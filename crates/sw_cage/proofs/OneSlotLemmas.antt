@@ -1,7 +1,6 @@
 -- Lemmas on a call on one slot's card, from the cards to their accounts.
 use Rattle.std.proofs.Common.{◌≡◌, ℕ, ◌+◌, ◌-◌, ◌≤◌, ◌<◌, Bool, true, false, List, [], ◌∷◌, ◌++◌, length, take, drop, Option, None, Some, slice_index_or}
 use Rattle.std.proofs.Common.{slice_set, inl, inr, refl, sym, ◌∙◌, ap, subst, arith, map, replicate, is_some, Result, Ok, Err, OnOk, OnErr, zero, suc, ◌&&◌}
-use Rattle.std.proofs.Common.{nat_lt}
 use Rattle.std.proofs.lemmas.List.{get_or_default, length-map, map-set}
 use Rattle.std.proofs.lemmas.List.Edits.{map_over_more}
 use Rattle.std.proofs.Math.ListN.{get_or-map}
@@ -9,7 +8,7 @@ use Rattle.std.proofs.Math.Seq.{take-append_seam}
 use Rattle.std.proofs.lemmas.Grind.{common_steps}
 use Rattle.sw_base.specs.Limits.{most_slots, most_channels}
 use Rattle.sw_base.specs.Layout.{Channel, Layout, slot_at, is_present, IsClash}
-use Rattle.sw_card.specs.Account.{Account, MeterAccount, of_meter, is_meter, closed_at, at_rest}
+use Rattle.sw_card.specs.Account.{Account, MeterAccount, of_meter, closed_at, at_rest}
 use Rattle.sw_card.specs.Mask.{in_mask}
 use Rattle.sw_card.proofs.Rows.{none_is_closed}
 use Rattle.sw_cage.specs.Accounts.{Accounts, option_account, accounts_of, layout_of, option_closed, is_closed, OptionWellFormed, AreSafe, option_set, with_chan}
@@ -21,7 +20,6 @@ use Rattle.sw_cage.specs.Close.{all_present, CanClose}
 use Rattle.std.specs.List.{list_all}
 use Rattle.sw_cage.proofs.SlotChangeLemmas.{slot_map, slot_set_same, present_slot, present_at, some_slot, IsSlotGrown, closed_grows, opened_grows, safe_grown}
 use Rattle.sw_cage.proofs.SlotChangeLemmas.{safe_opened}
-use Rattle.sw_cage.proofs.SlotChangeLemmas.{safe_quiet}
 use Rattle.sw_cage.proofs.ChannelCallLemmas.{sets_one, disturbed_one, option_set_rest, and_left, and_right, or_left, or_right, in_at, in_take, sets_layout}
 use Rattle.sw_cage.proofs.ChannelCallLemmas.{sets_closed}
 

@@ -1,6 +1,5 @@
-use Rattle.std.proofs.Common.{◌-◌, ◌∷◌, [], refl, sym, ◌∙◌, ap, subst, map, true, slice_set, OnOk, OnErr}
-use Rattle.sw_cage.specs.Accounts.{OptionWellFormed, accounts_of, is_closed, with_chan, IsChannelFault}
-use Rattle.sw_cage.specs.Change.{Sets, IsDisturbed}
+use Rattle.std.proofs.Common.{◌-◌, refl, sym, ◌∙◌, ap, subst, map, true}
+use Rattle.sw_cage.specs.Accounts.{OptionWellFormed, accounts_of, is_closed, with_chan}
 use Rattle.sw_cage.specs.Claims.{AreClaimed, closed_claim}
 use Rattle.sw_cage.proofs.OneSlotLemmas.{read, close_item}
 use Rattle.sw_cage.proofs.ClaimedLemmas.{ok_is, err_is, claimed_seen, slots_set, claimed_closing, claimed_unclosed}

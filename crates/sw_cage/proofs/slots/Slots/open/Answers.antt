@@ -1,6 +1,5 @@
-use Rattle.std.proofs.Common.{◌-◌, ◌∷◌, [], refl, sym, ◌∙◌, ap, subst, false, slice_set, OnOk, OnErr}
-use Rattle.sw_cage.specs.Accounts.{accounts_of, IsChannelFault}
-use Rattle.sw_cage.specs.Change.{Sets, IsDisturbed}
+use Rattle.std.proofs.Common.{◌-◌, sym, ap, subst}
+use Rattle.sw_cage.specs.Accounts.{accounts_of}
 use Rattle.sw_cage.specs.Claims.{AreClaimed}
 use Rattle.sw_cage.proofs.OneSlotLemmas.{open_item}
 use Rattle.sw_cage.proofs.ClaimedLemmas.{ok_is, err_is, claimed_seen, slots_set, claimed_opening, claimed_unopened}
