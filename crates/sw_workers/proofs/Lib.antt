@@ -1,1 +1,4 @@
 mod Counted
+mod Carries
+mod Ejected
+mod Asked
