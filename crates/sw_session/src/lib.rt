@@ -24,6 +24,7 @@ mod macros;
 mod talker;
 
 pub use asking::TURNS;
+pub use available::Available;
 pub use core_desk::CoreDesk;
 pub use desk::{Desk, View, Wake};
 pub use laws::{

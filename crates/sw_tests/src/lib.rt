@@ -14,6 +14,12 @@ mod cage_calls;
 #[cfg(test)]
 mod cages;
 #[cfg(test)]
+mod latches;
+#[cfg(test)]
 mod scans;
 #[cfg(test)]
 mod session;
+#[cfg(test)]
+mod shop;
+#[cfg(test)]
+mod threads;

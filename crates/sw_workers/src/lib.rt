@@ -12,7 +12,6 @@
 //! Nothing is promised of when a thread goes on, nor that one does, nor of what a status read finds.
 #![tactic(auto)]
 
-mod available;
 mod closing;
 mod desk;
 mod gate;

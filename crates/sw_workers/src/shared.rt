@@ -7,7 +7,6 @@ ghost use Rattle.sw_session.specs.Trace.{LeavesOf};
 ghost use Rattle.sw_workers.specs.Shares.{all_parts};
 ghost use Rattle.sw_workers.specs.Work.{AsksOnce};
 
-use crate::available::Available;
 use crate::gate::Gate;
 use crate::held::{DeskPart, Held, House};
 use crate::note::Note;
@@ -18,7 +17,7 @@ use std::sync::{Condvar, Mutex, Wait};
 use std::time::{Clock, Duration, Instant};
 use sw_card::{Meter, Relay};
 use sw_core::{Answer, Ask, Core, Sid, Work};
-use sw_session::{View, Wake};
+use sw_session::{Available, View, Wake};
 
 /// The parts of a ledger.
 const PARTS: u64 = (1 << 33) + 1;
