@@ -57,6 +57,20 @@ pub record Ends (piece : WorkView) (old : ℕ) (brings : Option WorkView) (new :
   pub tells : Tells piece ask
   pub told : Brings ask old brings new
 
+-- the mainframe was told of a piece of work
+abbrev pub IsTold : Made → Type 0
+IsTold m = (piece : WorkView) × Tells piece m.ask × IsMade m
+
+abbrev pub AreTold : List Made → Type 0
+AreTold [] = Unit {0}
+AreTold (m ∷ made) = IsTold m × AreTold made
+
+-- what a worker's share counts: the events of what it told of work, and no others
+pub record Works (old new : ℕ) : Type 0 where
+  pub made : List Made
+  pub told : AreTold made
+  pub counts : new ≡ old + events_of made
+
 -- a session's ask, and the work that it brought
 pub record Answers (ask : SessionAsk) (answer : SessionAnswer) (old new : ℕ) : Type 0 where
   pub work : Option WorkView

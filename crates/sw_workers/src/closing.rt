@@ -73,9 +73,10 @@ fn take_cards<H: House, R: Relay, M: Meter, G: Gate + Drop, W: Wait>(
 {
     let mut cards = room;
     for before in 0..SLOTS {
-        if let Some(card) = take_out(rt, shared, part, before + 1) {
-            cards.push(card).unwrap();
-        }
+        let Some(card) = take_out(rt, shared, part, before + 1) else {
+            continue;
+        };
+        cards.push(card).unwrap();
     }
     cards
 }

@@ -3,7 +3,7 @@
 ghost use Rattle.std.specs.Prelude.{◌≡◌, IfSome};
 ghost use Rattle.sw_core.specs.View.{ask_view, work_view};
 ghost use Rattle.sw_session.specs.CoreDesk.{Tells, piece_seen};
-ghost use Rattle.sw_workers.specs.Work.{Adds, Brings, Ends};
+ghost use Rattle.sw_workers.specs.Work.{Adds, Brings, Ends, Works};
 
 use crate::gate::{Gate, Point};
 use crate::held::{DeskPart, House};
@@ -47,6 +47,14 @@ impl<H: House, R: Relay, M: Meter, G: Gate + Drop, W: Wait + Clock + Copy + Drop
             rt,
             seen: 0,
         })
+    }
+
+    /// Carries a piece of work out, and sees to what that brings.
+    pub(crate) fn work_off(&mut self, piece: Work<M>)
+        ensures { Works self.old.part.share.amount self.new.part.share.amount }
+    {
+        let next = self.finish(piece);
+        self.carry(next);
     }
 
     /// Sends work, or carries it out, and so on with what that brings.

@@ -1,6 +1,7 @@
 //! The threads that carry out work.
 
 ghost use Rattle.std.specs.Prelude.{◌<◌, vec_len, IfSome};
+ghost use Rattle.sw_workers.specs.Work.{Works};
 
 use crate::desk::SharedDesk;
 use crate::gate::{Gate, Point};
@@ -19,15 +20,16 @@ use sw_core::{Ask, Work};
 pub fn run_card_worker<H: House, R: Relay, M: Meter, G: Gate + Drop, W: Wait + Clock + Copy + Drop>(
     desk: SharedDesk<H, R, M, G, W>,
     jobs: Receiver<Job<M>>,
-) -> SharedDesk<H, R, M, G, W> {
-    let mut desk = desk;
-    let rt = desk.rt;
+) -> SharedDesk<H, R, M, G, W>
+    ensures { Works desk.part.share.amount result.part.share.amount }
+{
+    let mut own = desk;
+    let rt = own.rt;
     for _ in rt.forever() {
         let Ok(job) = jobs.recv(&rt) else {
-            return desk;
+            return own;
         };
-        let next = desk.finish(Work::Measure(job));
-        desk.carry(next);
+        own.work_off(Work::Measure(job));
     }
     unreachable!()
 }
@@ -50,15 +52,17 @@ pub fn run_timer_worker<
     alloc: Global,
     desk: SharedDesk<H, R, M, G, W>,
     pauses: Receiver<Pause>,
-) -> SharedDesk<H, R, M, G, W> {
-    let mut desk = desk;
-    let rt = desk.rt;
+) -> SharedDesk<H, R, M, G, W>
+    ensures { Works desk.part.share.amount result.part.share.amount }
+{
+    let mut own = desk;
+    let rt = own.rt;
     let mut due: Vec<Due> = Vec::new(alloc);
     for _ in rt.forever() {
         match await_next(&rt, &pauses, &mut due) {
-            Next::Begins(pause) => begin_pause(&mut desk, &mut due, pause),
-            Next::Ends(ticket) => end_pause(&mut desk, ticket),
-            Next::Over => return desk,
+            Next::Begins(pause) => begin_pause(&mut own, &mut due, pause),
+            Next::Ends(ticket) => end_pause(&mut own, ticket),
+            Next::Over => return own,
         }
     }
     unreachable!()
@@ -120,15 +124,16 @@ fn begin_pause<H: House, R: Relay, M: Meter, G: Gate + Drop, W: Wait + Clock + C
     desk: &mut SharedDesk<H, R, M, G, W>,
     due: &mut Vec<Due>,
     pause: Pause,
-) {
+)
+    ensures { Works desk.old.part.share.amount desk.new.part.share.amount }
+{
     let Pause { ticket, micros } = pause;
     if let Some(at) = end_of(&desk.rt, micros) {
         if due.push(Due { at, ticket }).is_ok() {
             return;
         }
     }
-    let next = desk.finish(Work::Pause(ticket, micros));
-    desk.carry(next);
+    desk.work_off(Work::Pause(ticket, micros));
 }
 
 /// When a pause that begins now is over.
@@ -141,7 +146,9 @@ fn end_of<C: Clock>(rt: &C, micros: u64) -> Option<Instant> {
 fn end_pause<H: House, R: Relay, M: Meter, G: Gate + Drop, W: Wait + Clock + Copy + Drop>(
     desk: &mut SharedDesk<H, R, M, G, W>,
     ticket: Ticket,
-) {
+)
+    ensures { Works desk.old.part.share.amount desk.new.part.share.amount }
+{
     desk.shared.gate().pass(&desk.rt, Point::Pause);
     let next = desk.tell(Ask::Elapsed(ticket));
     desk.carry(next);
