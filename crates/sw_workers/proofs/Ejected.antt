@@ -1,6 +1,8 @@
 -- A card that came out of its slot has nothing closed.
 use Rattle.std.specs.Prelude.{◌==◌, ◌&&◌, not}
-use Rattle.std.proofs.Common.{◌≡◌, ℕ, Bool, false, Option, Some, sym, ap, ◌∙◌, subst}
+use Rattle.std.proofs.Common.{◌≡◌, ℕ, Bool, true, false, Option, Some, List, [], ◌∷◌, ◌++◌, All, IfSome, sym, ap, ◌∙◌, subst}
+use Rattle.std.specs.Prelude.{if◌then◌else◌}
+use Rattle.std.proofs.lemmas.List.Elements.{All-same, All-append, All-replicate}
 use Rattle.sw_base.specs.Layout.{slot_at}
 use Rattle.sw_card.specs.Account.{Account, closed_at}
 use Rattle.sw_cage.specs.Accounts.{Accounts, all_open, option_closed}
@@ -30,3 +32,11 @@ pub comes-open : {R M : _} (slot : ℕ) (whole : Answer R M) (card : _) (old new
     → AsksOnce (AskEject slot) (answer_view whole) old new → IsOpen card.1
 comes-open {R} {M} slot whole card old new is asks =
     told-open slot card.1 old new (subst (λ (a : Answer R M). AsksOnce (AskEject slot) (answer_view a) old new) is asks)
+
+-- what holds of each card, and of the one that is put behind them, holds of each
+pub all-put : {X : Type 0} (P : X → Type 0) (xs ys : List X) (x : X) (fits : Bool) → All P xs → P x → ys ≡ (if fits then xs ++ x ∷ [] else xs) → All P ys
+all-put P xs ys x true all one is = All-same P ys (xs ++ x ∷ []) is (All-append P xs (x ∷ []) all (All-replicate P 1 x one))
+all-put P xs ys x false all one is = All-same P ys xs is all
+
+pub of-some : {X : Type 0} (P : X → Type 0) (o : Option X) (x : X) → o ≡ Some x → IfSome o P → P x
+of-some {X} P o x is h = subst (λ (u : Option X). IfSome u P) is h
