@@ -26,6 +26,7 @@ mod servers;
 mod talker;
 
 pub use asking::TURNS;
+pub use available::Available;
 pub use core_desk::CoreDesk;
 pub use desk::{Desk, View, Wake};
 pub use engine::{Channel, Engine, Sent, Step};

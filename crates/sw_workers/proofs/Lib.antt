@@ -1,1 +1,5 @@
 mod Counted
+mod Carries
+mod Worked
+mod Ejected
+mod Asked

@@ -1,3 +1,4 @@
 pub mod Kinds
 pub mod Shares
 pub mod Work
+pub mod Closing
