@@ -24,3 +24,5 @@ pub mod ServeKnown
 pub mod ServeParts
 pub mod ServeWays
 pub mod ServeTurns
+pub mod ServeSpeaks
+pub mod ServeReads

@@ -16,9 +16,11 @@ appends-more (Some old) None c xs ys p q = absurd p
 appends-more (Some old) (Some bs) None xs ys p q = absurd q
 appends-more (Some old) (Some bs) (Some cs) xs ys p q = q ∙ ap (λ t. t ++ ys) p ∙ append_assoc old xs ys
 
-pub appends-part : (a b c : Option (List ℕ)) (bytes : List ℕ) (done n : ℕ) → done ≤ length bytes → n ≤ length bytes - done → Appends a b (take done bytes) → Appends b c (take n (take (length bytes - done) (drop done bytes))) → Appends a c (take (done + n) bytes)
+pub appends-part : (a b c : Option (List ℕ)) (bytes : List ℕ) (done n : ℕ) → done ≤ length bytes → n ≤ length bytes - done → Appends a b (take done bytes)
+    → Appends b c (take n (take (length bytes - done) (drop done bytes))) → Appends a c (take (done + n) bytes)
 appends-part a b c bytes done n le fits p q =
-    let same : take done bytes ++ take n (take (length bytes - done) (drop done bytes)) ≡ take (done + n) bytes = sym (take-add done n bytes ∙ ap (λ t. take done bytes ++ take n t) (sym (take_rest bytes done))) in
+    let same : take done bytes ++ take n (take (length bytes - done) (drop done bytes)) ≡ take (done + n) bytes = sym
+    (take-add done n bytes ∙ ap (λ t. take done bytes ++ take n t) (sym (take_rest bytes done))) in
     subst (λ (t : List ℕ). Appends a c t) same (appends-more a b c _ _ p q)
 
 pub appends-keeps : (a b c : Option (List ℕ)) (xs : List ℕ) → Appends a b xs → Keeps b c → Appends a c xs
@@ -69,18 +71,21 @@ pub record Writing {A : Type 0} (f : A → List ℕ) (all left : List A) (old ne
 pub writing-start : {A : Type 0} (f : A → List ℕ) (all : List A) (old : Option (List ℕ)) → Writing f all all old old
 writing-start f all old = record { done = []; parts = refl; writes = appends-nothing old }
 
-pub writing-on : {A : Type 0} (f : A → List ℕ) (all left rest : List A) (x : A) (old mid new : Option (List ℕ)) → left ≡ x ∷ rest → Writing f all left old mid → Appends mid new (f x) → Writing f all rest old new
+pub writing-on : {A : Type 0} (f : A → List ℕ) (all left rest : List A) (x : A) (old mid new : Option (List ℕ)) → left ≡ x ∷ rest → Writing f all left old mid
+    → Appends mid new (f x) → Writing f all rest old new
 writing-on f all left rest x old mid new e w p = record {
   done = w.done ++ f x;
   parts = w.parts ∙ ap (λ l. w.done ++ flat_map f l) e ∙ sym (append_assoc w.done (f x) (flat_map f rest));
   writes = appends-more old mid new w.done (f x) w.writes p;
 }
 
-pub writing-all : {A : Type 0} (f : A → List ℕ) (all left : List A) (old new : Option (List ℕ)) → left ≡ [] → Writing f all left old new → Appends old new (flat_map f all)
+pub writing-all : {A : Type 0} (f : A → List ℕ) (all left : List A) (old new : Option (List ℕ)) → left ≡ [] → Writing f all left old new
+    → Appends old new (flat_map f all)
 writing-all f all left old new e w =
     subst (λ (b : List ℕ). Appends old new b) (sym (w.parts ∙ ap (λ l. w.done ++ flat_map f l) e ∙ append-nil w.done)) w.writes
 
-pub writing-cut : {A : Type 0} (f : A → List ℕ) (all left rest : List A) (x : A) (old mid new : Option (List ℕ)) → left ≡ x ∷ rest → Writing f all left old mid → WritesPart mid new (f x) → WritesPart old new (flat_map f all)
+pub writing-cut : {A : Type 0} (f : A → List ℕ) (all left rest : List A) (x : A) (old mid new : Option (List ℕ)) → left ≡ x ∷ rest → Writing f all left old mid
+    → WritesPart mid new (f x) → WritesPart old new (flat_map f all)
 writing-cut f all left rest x old mid new e w p =
     subst (λ (b : List ℕ). WritesPart old new b) (sym (w.parts ∙ ap (λ l. w.done ++ flat_map f l) e))
     (part-after old mid new w.done (f x ++ flat_map f rest) w.writes (part-before mid new (f x) (flat_map f rest) p))

@@ -50,6 +50,12 @@ session_of (Unopened channel) = None
 session_of (Synchronized s) = Some s.sid
 session_of (Attached s) = Some s.sid
 
+-- which connection a channel is
+abbrev pub channel_of : State → Channel
+channel_of (Unopened channel) = channel
+channel_of (Synchronized s) = Synchronous
+channel_of (Attached s) = Asynchronous
+
 -- a message that found no memory: on the first channel of a session it may have asked a front of its row, else nothing
 abbrev pub FaltersAt : State → Message → List Entry → Type 0
 FaltersAt (Synchronized s) m asked = FaltersSync s m asked

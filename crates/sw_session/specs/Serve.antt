@@ -7,7 +7,7 @@ use Rattle.sw_hislip.specs.declared.fault.WireFault.TheVariants.{TooLarge, BadPr
 use Rattle.sw_hislip.specs.declared.kind.Kind.{Kind}
 use Rattle.sw_hislip.specs.declared.kind.Kind.TheVariants as Kind
 use Rattle.sw_hislip.specs.declared.message.Message.{Message}
-use Rattle.sw_hislip.specs.Pending.{Pending, nothing_fed, fed, Waits, GivesNext, HasWrongPrologue}
+use Rattle.sw_hislip.specs.Pending.{Pending, nothing_fed, fed, Waits, GivesNext, HasMessage, HasWrongPrologue}
 use Rattle.sw_hislip.specs.Stream.{Call, Decodes, stream_of, told, Follows, IsStream, Rests}
 use Rattle.sw_core.specs.declared.ask.Sid.{Sid}
 use Rattle.sw_core.specs.declared.ask.SessionAsk.TheVariants as Ask
@@ -88,7 +88,8 @@ is_last_part kind = false
 -- how the channel goes on: a wrong prologue ends it, as does a step that says so, with a fatal error or without
 abbrev pub after_of : Bool → Step → After
 after_of true step = Malformed
-after_of false step = if step.ends then if list_any (λ (s : Sent). is_fatal s.message.kind) step.out then Fatal else Ends else Goes
+after_of false step =
+    if step.ends then if list_any (λ (s : Sent). is_fatal s.message.kind) step.out then Fatal else Ends else Goes
 
 -- once the last part of an answer is written, it is noted that a message is available for the session
 abbrev pub notes_of : Option Sid → List Sent → List Entry
@@ -105,7 +106,8 @@ Proceeds on Malformed mid xs after s' = (xs ≡ []) × (after ≡ Malformed) × 
 abbrev pub Speaks : {E : Type 0} → Voice E → E → List Exchange → After → E → Type 0
 Speaks v s [] after s' = (after ≡ Goes) × (s' ≡ s)
 Speaks v s (x ∷ xs) after s' =
-    (step : After) × (mid : _) × v.speaks s x.act x.asked x.step mid × (x.noted ≡ notes_of (v.session mid) x.step.out) × (step ≡ after_of (is_refused x.act) x.step)
+    (step : After) × (mid : _) × v.speaks s x.act x.asked x.step mid × (x.noted ≡ notes_of (v.session mid) x.step.out)
+    × (step ≡ after_of (is_refused x.act) x.step)
     × Proceeds (Speaks v mid xs after s') step mid xs after s'
 
 abbrev pub acts_of : List Exchange → List Act
@@ -128,7 +130,8 @@ abbrev pub point : {E D : Type 0} → E → D → Option (List ℕ) → Option (
 point s d w x = record { engine = s; desk = d; main = w; side = x }
 
 -- The engine's definition of these exchanges is what was asked, and what the writers got.
-pub record Spoken {E D : Type 0} (v : Voice E) (passes : D → Entry → D → Type 0) (own : Channel) (a b : Point E D) (xs : List Exchange) (after : After) : Type 0 where
+pub record Spoken {E D : Type 0} (v : Voice E) (passes : D → Entry → D → Type 0) (own : Channel) (a b : Point E D)
+    (xs : List Exchange) (after : After) : Type 0 where
   pub speaks : Speaks v a.engine xs after b.engine
   pub asks : Leads passes a.desk (asks_of xs) b.desk
   pub main : Appends a.main b.main (flat_map (wire_on own) (said_of xs))
@@ -137,7 +140,8 @@ pub record Spoken {E D : Type 0} (v : Voice E) (passes : D → Entry → D → T
 -- ---- acts that fail
 
 -- what was said to an act was not written whole
-pub record IsCutOff {E D : Type 0} (v : Voice E) (passes : D → Entry → D → Type 0) (own : Channel) (a b : Point E D) (act : Act) : Type 0 where
+pub record IsCutOff {E D : Type 0} (v : Voice E) (passes : D → Entry → D → Type 0) (own : Channel) (a b : Point E D)
+    (act : Act) : Type 0 where
   pub asked : List Entry
   pub step : Step
   pub speaks : v.speaks a.engine act asked step b.engine
@@ -146,20 +150,23 @@ pub record IsCutOff {E D : Type 0} (v : Voice E) (passes : D → Entry → D →
   pub side : WritesPart a.side b.side (flat_map (wire_off own) step.out)
 
 -- there was no memory for an act
-pub record IsStarved {E D : Type 0} (v : Voice E) (passes : D → Entry → D → Type 0) (a b : Point E D) (act : Act) : Type 0 where
+pub record IsStarved {E D : Type 0} (v : Voice E) (passes : D → Entry → D → Type 0) (a b : Point E D)
+    (act : Act) : Type 0 where
   pub asked : List Entry
   pub falters : v.falters a.engine act asked b.engine
   pub asks : Leads passes a.desk asked b.desk
   pub main : b.main ≡ a.main
   pub side : b.side ≡ a.side
 
-abbrev pub Breaks : {E D : Type 0} → Voice E → (D → Entry → D → Type 0) → Channel → Point E D → Point E D → Act → ServeFault → Type 0
+abbrev pub Breaks : {E D : Type 0} → Voice E → (D → Entry → D → Type 0) → Channel → Point E D → Point E D → Act
+    → ServeFault → Type 0
 Breaks v passes own a b act Fault.Write = IsCutOff v passes own a b act
 Breaks v passes own a b act Fault.NoMemory = IsCutOff v passes own a b act ⊎ IsStarved v passes a b act
 Breaks v passes own a b act fault = ⊥
 
 -- these acts are gone through up to one that fails
-pub record Stops {E D : Type 0} (v : Voice E) (passes : D → Entry → D → Type 0) (own : Channel) (a b : Point E D) (acts : List Act) (fault : ServeFault) : Type 0 where
+pub record Stops {E D : Type 0} (v : Voice E) (passes : D → Entry → D → Type 0) (own : Channel) (a b : Point E D)
+    (acts : List Act) (fault : ServeFault) : Type 0 where
   pub xs : List Exchange
   pub act : Act
   pub rest : List Act
@@ -169,14 +176,17 @@ pub record Stops {E D : Type 0} (v : Voice E) (passes : D → Entry → D → Ty
   pub breaks : Breaks v passes own mid b act fault
 
 -- these acts are gone through, all of them where the channel goes on, and else up to the one that ends it
-abbrev pub GoesThrough : {E D : Type 0} → Voice E → (D → Entry → D → Type 0) → Channel → Point E D → Point E D → List Act → After → Type 0
+abbrev pub GoesThrough : {E D : Type 0} → Voice E → (D → Entry → D → Type 0) → Channel → Point E D → Point E D
+    → List Act → After → Type 0
 GoesThrough v passes own a b acts after =
-    (xs : List Exchange) × (rest : List Act) × (acts_of xs ++ rest ≡ acts) × (after ≡ Goes → rest ≡ []) × Spoken v passes own a b xs after
+    (xs : List Exchange) × (rest : List Act) × (acts_of xs ++ rest ≡ acts) × (after ≡ Goes → rest ≡ [])
+    × Spoken v passes own a b xs after
 
 -- ---- clauses of a server's parts
 
 -- one act
-abbrev pub Hears : {E D : Type 0} → Voice E → (D → Entry → D → Type 0) → Channel → Act → Point E D → Point E D → Result After ServeFault → Type 0
+abbrev pub Hears : {E D : Type 0} → Voice E → (D → Entry → D → Type 0) → Channel → Act → Point E D → Point E D
+    → Result After ServeFault → Type 0
 Hears v passes own act a b (Ok after) = GoesThrough v passes own a b (act ∷ []) after
 Hears v passes own act a b (Err fault) = Breaks v passes own a b act fault
 
@@ -186,9 +196,14 @@ Judges true after = after ≡ Malformed
 Judges false after = after ≢ Malformed
 
 -- some acts
-abbrev pub HearsEach : {E D : Type 0} → Voice E → (D → Entry → D → Type 0) → Channel → List Act → Point E D → Point E D → Result After ServeFault → Type 0
+abbrev pub HearsEach : {E D : Type 0} → Voice E → (D → Entry → D → Type 0) → Channel → List Act → Point E D → Point E D
+    → Result After ServeFault → Type 0
 HearsEach v passes own acts a b (Ok after) = GoesThrough v passes own a b acts after
 HearsEach v passes own acts a b (Err fault) = Stops v passes own a b acts fault
+
+-- a whole message stands at the front
+abbrev pub HoldsMessage : Pending → Type 0
+HoldsMessage p = (m : Message) × (more : List ℕ) × HasMessage p.bytes m more
 
 -- what the wire tells next
 abbrev pub Finds : Pending → Act → Pending → Type 0
@@ -197,17 +212,21 @@ Finds p (Skips kind) p' = GivesNext p (Err (TooLarge kind)) p'
 Finds p Refuses p' = GivesNext p (Err BadPrologue) p'
 Finds p Notices p' = ⊥
 
+-- where there is no memory for a message that is whole, it stays
 abbrev pub NextInput : Pending → Pending → Result (Option Act) ServeFault → Type 0
 NextInput p p' (Ok None) = Waits p.bytes × (p' ≡ p)
 NextInput p p' (Ok (Some input)) = Finds p input p'
-NextInput p p' (Err fault) = (fault ≡ Fault.NoMemory) × (p' ≡ p)
+NextInput p p' (Err fault) = (fault ≡ Fault.NoMemory) × (p' ≡ p) × HoldsMessage p
 
 -- one read: what came is fed, or lost where there is no memory for it
 abbrev pub Listens : Option (List ℕ) → Option (List ℕ) → Pending → Pending → Result Came ServeFault → Type 0
 Listens old new p p' (Ok End) = Consumes old new [] × IsAtEnd new × (p' ≡ p)
 Listens old new p p' (Ok Bytes) = (piece : List ℕ) × (0 < length piece) × Consumes old new piece × (p' ≡ fed p piece)
 Listens old new p p' (Ok Paused) = Consumes old new [] × (p' ≡ p)
-Listens old new p p' (Err e) = (p' ≡ p) × (((e ≡ Fault.Read) × Consumes old new []) ⊎ ((e ≡ Fault.NoMemory) × ((lost : List ℕ) × Consumes old new lost)))
+Listens old new p p' (Err e) =
+    (p' ≡ p)
+    × (((e ≡ Fault.Read) × Consumes old new [])
+    ⊎ ((e ≡ Fault.NoMemory) × ((lost : List ℕ) × Consumes old new lost × (0 < length lost))))
 
 -- a decoder was fed these bytes, and this is what it told
 pub record Tells (p p' : Pending) (read : List ℕ) (inputs : List Act) : Type 0 where
@@ -223,14 +242,19 @@ Stands Malformed p = HasWrongPrologue p.bytes
 Stands Ends p = Unit {0}
 Stands Fatal p = Unit {0}
 
-abbrev pub HearsInputs : {E D : Type 0} → Voice E → (D → Entry → D → Type 0) → Channel → List Act → Pending → Point E D → Point E D → Result After ServeFault → Type 0
-HearsInputs v passes own inputs p a b (Ok after) = GoesThrough v passes own a b (flat_map acts_for inputs) after × Stands after p
+abbrev pub HearsInputs : {E D : Type 0} → Voice E → (D → Entry → D → Type 0) → Channel → List Act → Pending → Point E D
+    → Point E D → Result After ServeFault → Type 0
+HearsInputs v passes own inputs p a b (Ok after) = GoesThrough v passes own a b (flat_map acts_for inputs) after
+    × Stands after p
 HearsInputs v passes own inputs p a b (Err fault) =
-    Stops v passes own a b (flat_map acts_for inputs) fault ⊎ ((fault ≡ Fault.NoMemory) × GoesThrough v passes own a b (flat_map acts_for inputs) Goes)
+    Stops v passes own a b (flat_map acts_for inputs) fault
+    ⊎ ((fault ≡ Fault.NoMemory) × GoesThrough v passes own a b (flat_map acts_for inputs) Goes × HoldsMessage p)
 
 -- all that the wire tells is gone through, or what it tells up to an end of the channel or a fault
-pub record HearsAll {E D : Type 0} (v : Voice E) (passes : D → Entry → D → Type 0) (own : Channel) (p p' : Pending) (a b : Point E D) (result : Result After ServeFault) : Type 0 where
+pub record HearsAll {E D : Type 0} (v : Voice E) (passes : D → Entry → D → Type 0) (own : Channel) (p p' : Pending)
+    (a b : Point E D) (result : Result After ServeFault) : Type 0 where
   pub inputs : List Act
+  pub unpaused : pauses inputs ≡ 0
   pub tells : Tells p p' [] inputs
   pub spoken : HearsInputs v passes own inputs p' a b result
 
@@ -254,50 +278,70 @@ Loses (Ok _) lost = lost ≡ []
 Loses (Err fault) lost = LosesAt fault lost
 
 -- A run ends well where all was read and gone through, or where the channel ended.
-abbrev pub EndsWell : {E D : Type 0} → Voice E → (D → Entry → D → Type 0) → Channel → Point E D → Point E D → List Act → Pending → Option (List ℕ) → Type 0
-EndsWell v passes own a b acts p left = (GoesThrough v passes own a b acts Goes × Waits p.bytes × IsAtEnd left) ⊎ GoesThrough v passes own a b acts Ends
+abbrev pub EndsWell : {E D : Type 0} → Voice E → (D → Entry → D → Type 0) → Channel → Point E D → Point E D → List Act
+    → Pending → Option (List ℕ) → Type 0
+EndsWell v passes own a b acts p left = (GoesThrough v passes own a b acts Goes × Waits p.bytes × IsAtEnd left)
+    ⊎ GoesThrough v passes own a b acts Ends
+
+-- there was no memory for bytes that came, or for a whole message at the front
+abbrev pub LacksMemory : Pending → List ℕ → Type 0
+LacksMemory p lost = (0 < length lost) ⊎ HoldsMessage p
 
 -- Why a run fails: after a read fault all that was read is gone through; a wrong prologue stands in a message's place, or
 -- the engine met a fatal error; ReadBound comes after as many bytes and pauses as there are turns.
-abbrev pub FailsBy : {E D : Type 0} → Voice E → (D → Entry → D → Type 0) → Channel → Point E D → Point E D → List Act → Pending → ℕ → ℕ → ServeFault → Type 0
-FailsBy v passes own a b acts p turns n Fault.Read = GoesThrough v passes own a b acts Goes × Waits p.bytes
-FailsBy v passes own a b acts p turns n Fault.Write = Stops v passes own a b acts Fault.Write
-FailsBy v passes own a b acts p turns n Fault.Wire = GoesThrough v passes own a b acts Malformed × HasWrongPrologue p.bytes
-FailsBy v passes own a b acts p turns n Fault.Fatal = GoesThrough v passes own a b acts Fatal
-FailsBy v passes own a b acts p turns n Fault.NoMemory = Stops v passes own a b acts Fault.NoMemory ⊎ GoesThrough v passes own a b acts Goes
-FailsBy v passes own a b acts p turns n Fault.ReadBound = GoesThrough v passes own a b acts Goes × Waits p.bytes × (turns ≤ n)
+abbrev pub FailsBy : {E D : Type 0} → Voice E → (D → Entry → D → Type 0) → Channel → Point E D → Point E D → List Act
+    → Pending → List ℕ → ℕ → ℕ → ServeFault → Type 0
+FailsBy v passes own a b acts p lost turns n Fault.Read = GoesThrough v passes own a b acts Goes × Waits p.bytes
+FailsBy v passes own a b acts p lost turns n Fault.Write = Stops v passes own a b acts Fault.Write
+FailsBy v passes own a b acts p lost turns n Fault.Wire = GoesThrough v passes own a b acts Malformed
+    × HasWrongPrologue p.bytes
+FailsBy v passes own a b acts p lost turns n Fault.Fatal = GoesThrough v passes own a b acts Fatal
+FailsBy v passes own a b acts p lost turns n Fault.NoMemory = Stops v passes own a b acts Fault.NoMemory
+    ⊎ (GoesThrough v passes own a b acts Goes × LacksMemory p lost)
+FailsBy v passes own a b acts p lost turns n Fault.ReadBound = GoesThrough v passes own a b acts Goes × Waits p.bytes
+    × (turns ≤ n)
 
-abbrev pub EndsTurn : {E D : Type 0} → Voice E → (D → Entry → D → Type 0) → Channel → Point E D → Point E D → List Act → Pending → ℕ → Option (List ℕ) → Result Next ServeFault → Type 0
-EndsTurn v passes own a b acts p n left (Ok On) = GoesThrough v passes own a b acts Goes × Waits p.bytes × (0 < n)
-EndsTurn v passes own a b acts p n left (Ok Over) = EndsWell v passes own a b acts p left
-EndsTurn v passes own a b acts p n left (Err fault) = FailsBy v passes own a b acts p 0 n fault × (fault ≡ Fault.ReadBound → ⊥)
+abbrev pub EndsTurn : {E D : Type 0} → Voice E → (D → Entry → D → Type 0) → Channel → Point E D → Point E D → List Act
+    → Pending → List ℕ → ℕ → Option (List ℕ) → Result Next ServeFault → Type 0
+EndsTurn v passes own a b acts p lost n left (Ok On) = GoesThrough v passes own a b acts Goes × Waits p.bytes × (0 < n)
+EndsTurn v passes own a b acts p lost n left (Ok Over) = EndsWell v passes own a b acts p left
+EndsTurn v passes own a b acts p lost n left (Err fault) = FailsBy v passes own a b acts p lost 0 n fault
+    × (fault ≡ Fault.ReadBound → ⊥)
 
--- one read, and what is gone through for it
-pub record TakesTurn {E D : Type 0} (v : Voice E) (passes : D → Entry → D → Type 0) (own : Channel) (p p' : Pending) (a b : Point E D) (input left : Option (List ℕ)) (result : Result Next ServeFault) : Type 0 where
+-- one read, and what is gone through for it; may_pause says that a time limit can end a read
+pub record TakesTurn {E D : Type 0} (v : Voice E) (passes : D → Entry → D → Type 0) (own : Channel) (may_pause : Type 0)
+    (p p' : Pending) (a b : Point E D) (input left : Option (List ℕ)) (result : Result Next ServeFault) : Type 0 where
   pub read : List ℕ
   pub lost : List ℕ
   pub reads : Consumes input left (read ++ lost)
   pub loses : Loses result lost
   pub inputs : List Act
+  pub paused : 0 < pauses inputs → may_pause
   pub tells : Tells p p' read inputs
-  pub ends : EndsTurn v passes own a b (flat_map acts_for inputs) p' (length read + pauses inputs) left result
+  pub ends : EndsTurn v passes own a b (flat_map acts_for inputs) p' lost
+      (length read + pauses inputs) left result
 
-abbrev pub EndsRun : {E D : Type 0} → Voice E → (D → Entry → D → Type 0) → Channel → Point E D → Point E D → List Act → Pending → ℕ → ℕ → Option (List ℕ) → Result (Unit {0}) ServeFault → Type 0
-EndsRun v passes own a b acts p turns n left (Ok _) = EndsWell v passes own a b acts p left
-EndsRun v passes own a b acts p turns n left (Err fault) = FailsBy v passes own a b acts p turns n fault
+abbrev pub EndsRun : {E D : Type 0} → Voice E → (D → Entry → D → Type 0) → Channel → Point E D → Point E D → List Act
+    → Pending → List ℕ → ℕ → ℕ → Option (List ℕ) → Result (Unit {0}) ServeFault → Type 0
+EndsRun v passes own a b acts p lost turns n left (Ok _) = EndsWell v passes own a b acts p left
+EndsRun v passes own a b acts p lost turns n left (Err fault) = FailsBy v passes own a b acts p lost turns n fault
 
 -- These bytes were read, however they were cut. The messages that stand in them are what the engine is asked, as far as
--- the run came; where it waits for more, or stands at a wrong prologue, those are all messages of the stream.
-pub record Runs {E D : Type 0} (v : Voice E) (passes : D → Entry → D → Type 0) (own : Channel) (turns : ℕ) (a b : Point E D) (input left : Option (List ℕ)) (result : Result (Unit {0}) ServeFault) : Type 0 where
+-- the run came; where it waits for more, or stands at a wrong prologue, those are all messages of the stream. No time
+-- limit ended a read where none can.
+pub record Runs {E D : Type 0} (v : Voice E) (passes : D → Entry → D → Type 0) (own : Channel) (may_pause : Type 0)
+    (turns : ℕ) (a b : Point E D) (input left : Option (List ℕ)) (result : Result (Unit {0}) ServeFault) : Type 0 where
   pub read : List ℕ
   pub lost : List ℕ
   pub reads : Consumes input left (read ++ lost)
   pub loses : Loses result lost
   pub inputs : List Act
+  pub paused : 0 < pauses inputs → may_pause
   pub pending : Pending
   pub follows : Follows read (flat_map arrived inputs) pending
   pub stream : Rests pending.bytes → IsStream read follows.messages follows.rest
-  pub ends : EndsRun v passes own a b (flat_map acts_for inputs) pending turns (length read + pauses inputs) left result
+  pub ends : EndsRun v passes own a b (flat_map acts_for inputs) pending lost turns
+      (length read + pauses inputs) left result
 
 -- a session that was joined is left, and nothing else is asked
 abbrev pub Leaves : {D : Type 0} → (D → Entry → D → Type 0) → Option Sid → D → D → Type 0
@@ -305,7 +349,8 @@ Leaves passes None d d' = d' ≡ d
 Leaves passes (Some sid) d d' = (answer : SessionAnswer) × passes d (Asked (Ask.Leave sid) answer) d'
 
 -- a run, and then the session is left
-pub record Serves {E D : Type 0} (v : Voice E) (passes : D → Entry → D → Type 0) (own : Channel) (turns : ℕ) (a b : Point E D) (input left : Option (List ℕ)) (result : Result (Unit {0}) ServeFault) : Type 0 where
+pub record Serves {E D : Type 0} (v : Voice E) (passes : D → Entry → D → Type 0) (own : Channel) (may_pause : Type 0)
+    (turns : ℕ) (a b : Point E D) (input left : Option (List ℕ)) (result : Result (Unit {0}) ServeFault) : Type 0 where
   pub desk : D
-  pub runs : Runs v passes own turns a (point b.engine desk b.main b.side) input left result
+  pub runs : Runs v passes own may_pause turns a (point b.engine desk b.main b.side) input left result
   pub leaves : Leaves passes (v.session b.engine) desk b.desk

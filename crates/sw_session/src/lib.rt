@@ -32,5 +32,8 @@ pub use engine::{Channel, Engine, Sent, Step};
 pub use laws::{
     core_rest_is_determined, core_talk_is_determined, talk_is_determined, work_is_done_in_order,
 };
-pub use servers::{Act, ServeFault, Speaker, Unwritten, serve_for, write_all};
+pub use servers::{
+    Act, Memory, ServeFault, Sink, Source, Speaker, Unread, Unwritten, serve_async,
+    serve_async_for, serve_for, serve_sync, serve_sync_for, write_all,
+};
 pub use talker::Talker;

@@ -18,6 +18,8 @@ mod hislip_clients;
 #[cfg(test)]
 mod hislip_engine;
 #[cfg(test)]
+mod hislip_servers;
+#[cfg(test)]
 mod scans;
 #[cfg(test)]
 mod session;

@@ -13,5 +13,6 @@ mod session;
 mod step;
 mod synchronous;
 
+pub use refusals::FatalCode;
 pub use session::Engine;
-pub use step::{Channel, Sent, Step};
+pub use step::{Channel, Reply, Sent, Step, step_of};

@@ -1,7 +1,7 @@
 //! One channel of a session.
 
 ghost use Rattle.std.specs.Prelude.{◌≡◌, ◌≤◌, [], true, false, IfOk, OnErr, OnOk, vec_capacity};
-ghost use Rattle.sw_session.specs.Engine.{fresh, Takes, session_of, Falters, FaltersAt, too_large, skips, notice_from};
+ghost use Rattle.sw_session.specs.Engine.{fresh, Takes, session_of, channel_of, Falters, FaltersAt, too_large, skips, notice_from};
 ghost use Rattle.sw_session.specs.Engine.{noticed_from, opened_sync, opened_async};
 ghost use Rattle.sw_session.specs.EngineSync as EngineSync;
 ghost use Rattle.sw_session.specs.EngineAsync as EngineAsync;
@@ -110,6 +110,17 @@ impl Engine {
             State::Unopened(_) => None,
             State::Synchronized(session) => Some(session.sid()),
             State::Attached(session) => Some(session.sid()),
+        }
+    }
+
+    /// Which connection the channel is.
+    pub fn channel(&self) -> Channel
+        ensures { result ≡ channel_of self.now.state }
+    {
+        match &self.state {
+            State::Unopened(channel) => *channel,
+            State::Synchronized(_) => Channel::Synchronous,
+            State::Attached(_) => Channel::Asynchronous,
         }
     }
 }

@@ -47,8 +47,10 @@ pub trait Speaker {
 
     /// Asks the desk for an act, and says what comes of it.
     fn hear<D: Desk>(&mut self, alloc: Global, act: Act, desk: &mut D) -> Result<Step, AllocError>
-        ensures ok { IfOk result (λ step. LedBy D.passes desk.old desk.new (λ asked. voice.speaks self.old act asked step self.new)) }
-        ensures err { OnErr result (LedBy D.passes desk.old desk.new (λ asked. voice.falters self.old act asked self.new)) };
+        ensures ok { IfOk result (λ step. LedBy D.passes desk.old desk.new
+            (λ asked. voice.speaks self.old act asked step self.new)) }
+        ensures err { OnErr result (LedBy D.passes desk.old desk.new
+            (λ asked. voice.falters self.old act asked self.new)) };
 
     /// The session that it has joined.
     fn session(&self) -> Option<Sid>

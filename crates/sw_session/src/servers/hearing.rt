@@ -1,7 +1,8 @@
 //! Acts of an engine, and what is said to them.
 
-ghost use Rattle.std.specs.Prelude.{IfOk};
+ghost use Rattle.std.specs.Prelude.{◌≡◌, ◌⊎◌, Err, IfOk};
 ghost use Rattle.sw_session.specs.Trace.{Leads};
+ghost use Rattle.sw_session.specs.ServeRead.{CameTo};
 ghost use Rattle.sw_session.specs.Serve.{Hears, HearsEach, Judges, acts_for, is_refused, notes_of, point};
 
 use crate::desk::Desk;
@@ -9,8 +10,8 @@ use crate::engine::{Channel, Sent};
 use crate::servers::act::{Act, After, Speaker, after_of, has_last_part, is_refused};
 use crate::servers::fault::ServeFault;
 use crate::servers::sending::send_all;
+use crate::servers::writing::Sink;
 use std::alloc::Global;
-use std::io::Write;
 use sw_core::Sid;
 
 /// Notes that a message is available where the last part of an answer was written.
@@ -25,7 +26,7 @@ fn note<D: Desk>(sid: Option<Sid>, said: &[Sent], desk: &mut D)
 }
 
 /// Asks the engine for an act, and writes what it says.
-fn hear<E: Speaker, W: Write, S: Write, D: Desk>(
+fn hear<E: Speaker, W: Sink, S: Sink, D: Desk>(
     alloc: Global,
     own: Channel,
     act: Act,
@@ -34,8 +35,11 @@ fn hear<E: Speaker, W: Write, S: Write, D: Desk>(
     side: &mut S,
     desk: &mut D,
 ) -> Result<After, ServeFault>
-    ensures heard { Hears E.voice D.passes own act (point engine.old desk.old (W.contents writer.old) (S.contents side.old)) (point engine.new desk.new (W.contents writer.new) (S.contents side.new)) result }
+    ensures heard { Hears E.voice D.passes own act
+        (point engine.old desk.old (W.contents writer.old) (S.contents side.old))
+        (point engine.new desk.new (W.contents writer.new) (S.contents side.new)) result }
     ensures judged { IfOk result (λ after. Judges (is_refused act) after) }
+    ensures write { result ≡ Err ServeFault.Write → CameTo W.failed writer.new ⊎ CameTo S.failed side.new }
 {
     let refused = is_refused(&act);
     let Ok(step) = engine.hear(alloc, act, desk) else {
@@ -51,7 +55,7 @@ fn hear<E: Speaker, W: Write, S: Write, D: Desk>(
 }
 
 /// Goes through what the wire has told: before a message is taken, service requests are told.
-pub fn attend<E: Speaker, W: Write, S: Write, D: Desk>(
+pub fn attend<E: Speaker, W: Sink, S: Sink, D: Desk>(
     alloc: Global,
     own: Channel,
     input: Act,
@@ -60,8 +64,11 @@ pub fn attend<E: Speaker, W: Write, S: Write, D: Desk>(
     side: &mut S,
     desk: &mut D,
 ) -> Result<After, ServeFault>
-    ensures heard { HearsEach E.voice D.passes own (acts_for input) (point engine.old desk.old (W.contents writer.old) (S.contents side.old)) (point engine.new desk.new (W.contents writer.new) (S.contents side.new)) result }
+    ensures heard { HearsEach E.voice D.passes own (acts_for input)
+        (point engine.old desk.old (W.contents writer.old) (S.contents side.old))
+        (point engine.new desk.new (W.contents writer.new) (S.contents side.new)) result }
     ensures judged { IfOk result (λ after. Judges (is_refused input) after) }
+    ensures write { result ≡ Err ServeFault.Write → CameTo W.failed writer.new ⊎ CameTo S.failed side.new }
 {
     let message = match input {
         Act::Takes(message) => message,

@@ -1,7 +1,8 @@
 //! One channel over a reader, two writers and a desk.
 
-ghost use Rattle.std.specs.Prelude.{◌≡◌};
+ghost use Rattle.std.specs.Prelude.{◌≡◌, ◌⊎◌, Ok, Err};
 ghost use Rattle.sw_hislip.specs.Pending.{Waits};
+ghost use Rattle.sw_session.specs.ServeRead.{CameTo, MayPause};
 ghost use Rattle.sw_session.specs.Serve.{point, Listens, conclude, NextInput, HearsAll, TakesTurn, Runs, Leaves, Serves};
 
 use crate::desk::Desk;
@@ -9,8 +10,9 @@ use crate::engine::Channel;
 use crate::servers::act::{Act, After, Speaker};
 use crate::servers::fault::ServeFault;
 use crate::servers::hearing::attend;
+use crate::servers::source::{Source, Unread};
+use crate::servers::writing::Sink;
 use std::alloc::Global;
-use std::io::{ErrorKind, Read, Write};
 use sw_core::{SessionAsk, Sid};
 use sw_hislip::{Decoder, WireFault, every_message_comes_out, nothing_whole_is_left};
 
@@ -31,11 +33,14 @@ pub enum Next {
 }
 
 /// One read. Its bytes are fed.
-fn listen<R: Read>(reader: &mut R, decoder: &mut Decoder) -> Result<Came, ServeFault>
-    ensures { Listens (R.remaining reader.old) (R.remaining reader.new) decoder.old.pending decoder.new.pending result }
+fn listen<R: Source>(reader: &mut R, decoder: &mut Decoder) -> Result<Came, ServeFault>
+    ensures listens { Listens
+        (R.remaining reader.old) (R.remaining reader.new) decoder.old.pending decoder.new.pending result }
+    ensures paused { result ≡ Ok Came.Paused → CameTo R.paused reader.new }
+    ensures read { result ≡ Err ServeFault.Read → CameTo R.failed reader.new }
 {
     let mut buffer = [0_u8; 512];
-    match reader.read(&mut buffer) {
+    match reader.receive(&mut buffer) {
         Ok(n) => {
             if n == 0 {
                 return Ok(Came::End);
@@ -45,12 +50,8 @@ fn listen<R: Read>(reader: &mut R, decoder: &mut Decoder) -> Result<Came, ServeF
                 Err(_) => Err(ServeFault::NoMemory),
             }
         }
-        Err(error) => match error.kind() {
-            ErrorKind::TimedOut => Ok(Came::Paused),
-            ErrorKind::WouldBlock => Ok(Came::Paused),
-            ErrorKind::Interrupted => Ok(Came::Paused),
-            _ => Err(ServeFault::Read),
-        },
+        Err(Unread::Paused) => Ok(Came::Paused),
+        Err(Unread::Failed) => Err(ServeFault::Read),
     }
 }
 
@@ -81,7 +82,7 @@ fn next_input(alloc: Global, decoder: &mut Decoder) -> Result<Option<Act>, Serve
 }
 
 /// Goes through all whole messages, or those up to one that ends the channel.
-fn hear_all<E: Speaker, W: Write, S: Write, D: Desk>(
+fn hear_all<E: Speaker, W: Sink, S: Sink, D: Desk>(
     alloc: Global,
     own: Channel,
     decoder: &mut Decoder,
@@ -90,7 +91,10 @@ fn hear_all<E: Speaker, W: Write, S: Write, D: Desk>(
     side: &mut S,
     desk: &mut D,
 ) -> Result<After, ServeFault>
-    ensures { HearsAll E.voice D.passes own decoder.old.pending decoder.new.pending (point engine.old desk.old (W.contents writer.old) (S.contents side.old)) (point engine.new desk.new (W.contents writer.new) (S.contents side.new)) result }
+    ensures heard { HearsAll E.voice D.passes own decoder.old.pending decoder.new.pending
+        (point engine.old desk.old (W.contents writer.old) (S.contents side.old))
+        (point engine.new desk.new (W.contents writer.new) (S.contents side.new)) result }
+    ensures write { result ≡ Err ServeFault.Write → CameTo W.failed writer.new ⊎ CameTo S.failed side.new }
 {
     loop {
         let input = match next_input(alloc, decoder) {
@@ -109,7 +113,7 @@ fn hear_all<E: Speaker, W: Write, S: Write, D: Desk>(
 }
 
 /// One read, and what is gone through for it.
-fn take_turn<E: Speaker, R: Read, W: Write, S: Write, D: Desk>(
+fn take_turn<E: Speaker, R: Source, W: Sink, S: Sink, D: Desk>(
     alloc: Global,
     own: Channel,
     reader: &mut R,
@@ -120,7 +124,12 @@ fn take_turn<E: Speaker, R: Read, W: Write, S: Write, D: Desk>(
     desk: &mut D,
 ) -> Result<Next, ServeFault>
     requires { Waits decoder.old.pending.bytes }
-    ensures { TakesTurn E.voice D.passes own decoder.old.pending decoder.new.pending (point engine.old desk.old (W.contents writer.old) (S.contents side.old)) (point engine.new desk.new (W.contents writer.new) (S.contents side.new)) (R.remaining reader.old) (R.remaining reader.new) result }
+    ensures turn { TakesTurn E.voice D.passes own (MayPause R.paused) decoder.old.pending decoder.new.pending
+        (point engine.old desk.old (W.contents writer.old) (S.contents side.old))
+        (point engine.new desk.new (W.contents writer.new) (S.contents side.new))
+        (R.remaining reader.old) (R.remaining reader.new) result }
+    ensures read { result ≡ Err ServeFault.Read → CameTo R.failed reader.new }
+    ensures write { result ≡ Err ServeFault.Write → CameTo W.failed writer.new ⊎ CameTo S.failed side.new }
 {
     match listen(reader, decoder) {
         Err(fault) => Err(fault),
@@ -131,7 +140,7 @@ fn take_turn<E: Speaker, R: Read, W: Write, S: Write, D: Desk>(
 }
 
 /// Takes so many turns at most.
-fn run<E: Speaker, R: Read, W: Write, S: Write, D: Desk>(
+fn run<E: Speaker, R: Source, W: Sink, S: Sink, D: Desk>(
     alloc: Global,
     own: Channel,
     engine: &mut E,
@@ -141,7 +150,12 @@ fn run<E: Speaker, R: Read, W: Write, S: Write, D: Desk>(
     desk: &mut D,
     turns: u64,
 ) -> Result<(), ServeFault>
-    ensures { Runs E.voice D.passes own turns (point engine.old desk.old (W.contents writer.old) (S.contents side.old)) (point engine.new desk.new (W.contents writer.new) (S.contents side.new)) (R.remaining reader.old) (R.remaining reader.new) result }
+    ensures runs { Runs E.voice D.passes own (MayPause R.paused) turns
+        (point engine.old desk.old (W.contents writer.old) (S.contents side.old))
+        (point engine.new desk.new (W.contents writer.new) (S.contents side.new))
+        (R.remaining reader.old) (R.remaining reader.new) result }
+    ensures read { result ≡ Err ServeFault.Read → CameTo R.failed reader.new }
+    ensures write { result ≡ Err ServeFault.Write → CameTo W.failed writer.new ⊎ CameTo S.failed side.new }
 {
     every_message_comes_out();
     nothing_whole_is_left();
@@ -167,7 +181,7 @@ fn leave<D: Desk>(sid: Option<Sid>, desk: &mut D)
 
 /// Serves one channel for so many turns at most, and leaves its session then. `own` says which channel it is: its
 /// messages go to the writer, those of the other one to the side writer.
-pub fn serve_for<E: Speaker, R: Read, W: Write, S: Write, D: Desk>(
+pub fn serve_for<E: Speaker, R: Source, W: Sink, S: Sink, D: Desk>(
     alloc: Global,
     own: Channel,
     engine: &mut E,
@@ -177,7 +191,12 @@ pub fn serve_for<E: Speaker, R: Read, W: Write, S: Write, D: Desk>(
     desk: &mut D,
     turns: u64,
 ) -> Result<(), ServeFault>
-    ensures { Serves E.voice D.passes own turns (point engine.old desk.old (W.contents writer.old) (S.contents side.old)) (point engine.new desk.new (W.contents writer.new) (S.contents side.new)) (R.remaining reader.old) (R.remaining reader.new) result }
+    ensures serves { Serves E.voice D.passes own (MayPause R.paused) turns
+        (point engine.old desk.old (W.contents writer.old) (S.contents side.old))
+        (point engine.new desk.new (W.contents writer.new) (S.contents side.new))
+        (R.remaining reader.old) (R.remaining reader.new) result }
+    ensures read { result ≡ Err ServeFault.Read → CameTo R.failed reader.new }
+    ensures write { result ≡ Err ServeFault.Write → CameTo W.failed writer.new ⊎ CameTo S.failed side.new }
 {
     let result = run(alloc, own, engine, reader, writer, side, desk, turns);
     leave(engine.session(), desk);

@@ -10,6 +10,34 @@ use std::io::{ErrorKind, Write};
 #[derive(Clone, Copy, Debug, PartialEq, Eq, Drop)]
 pub struct Unwritten;
 
+/// What a server writes to. Every writer is one.
+pub trait Sink {
+    ghost use Rattle.std.specs.Prelude.{ℕ, List, Option, OnErr};
+    ghost use Rattle.sw_session.specs.ServeWrite.{Wrote};
+
+    /// The bytes that it holds, where they are known.
+    ghost contents: { Self → Option (List ℕ) };
+
+    /// A write failed, between these states.
+    ghost failed: { Self → Self → Type 0 };
+
+    /// Writes all of the bytes and hands them on, or a front part of them where that fails.
+    fn deliver(&mut self, bytes: &[u8]) -> Result<(), Unwritten>
+        ensures wrote { Wrote result (contents self.old) (contents self.new) bytes.now }
+        ensures failed { OnErr result (failed self.old self.new) };
+}
+
+/// Any writer is a sink. It tells nothing of why a write fails.
+impl<W: Write> Sink for W {
+    ghost contents = { λ w. W.contents w };
+
+    ghost failed = { λ _ _. Unit {0} };
+
+    fn deliver(&mut self, bytes: &[u8]) -> Result<(), Unwritten> {
+        write_all(self, bytes)
+    }
+}
+
 /// Writes all of the bytes and hands them on, or a front part of them where that fails.
 pub fn write_all<W: Write>(writer: &mut W, bytes: &[u8]) -> Result<(), Unwritten>
     ensures { Wrote result (W.contents writer.old) (W.contents writer.new) bytes.now }

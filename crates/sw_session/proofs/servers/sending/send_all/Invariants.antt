@@ -5,8 +5,8 @@ use Rattle.sw_session.proofs.servers.sending.send_all.Given as goal
 
 abbrev pub invariant-loop-first : goal.invariant-loop-first
 invariant-loop-first g l = record {
-  main : Writing (wire_on l.own) l.out l.left (g.W.Write.contents l.fn.writer) (g.W.Write.contents l.writer);
-  side : Writing (wire_off l.own) l.out l.left (g.S.Write.contents l.fn.side) (g.S.Write.contents l.side);
+  main : Writing (wire_on l.own) l.out l.left (g.W.Sink.contents l.fn.writer) (g.W.Sink.contents l.writer);
+  side : Writing (wire_off l.own) l.out l.left (g.S.Sink.contents l.fn.side) (g.S.Sink.contents l.side);
 }
 
 abbrev pub decreases-loop-first : goal.decreases-loop-first
