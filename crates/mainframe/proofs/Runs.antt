@@ -10,7 +10,8 @@ use Rattle.sw_core.specs.Panel.{Panel}
 use Rattle.sw_macro.specs.Table.{Table, no_macros}
 use Rattle.sw_session.specs.CoreDesk.{desk_over, DeskSeen, CorePasses, Rests}
 use Rattle.sw_session.specs.Talk.{state, Talked}
-use Rattle.mainframe.specs.Lines.{lines_of, WritesPart}
+use Rattle.mainframe.specs.Lines.{lines_of}
+use Rattle.sw_session.specs.ServeWrite.{WritesPart}
 use Rattle.sw_card.specs.Account.{Account}
 use Rattle.mainframe.specs.Cards.{Fitted, fitted}
 use Rattle.mainframe.specs.Run.{State, begins_over, IsSetUp, Line, Run, Runs, AnsweredFrom, PartFrom, CutFrom, EndsFrom}

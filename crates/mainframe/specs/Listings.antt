@@ -17,7 +17,7 @@ use Rattle.sw_verify.specs.Judged.{Judged, IsVerified}
 use Rattle.sw_verify.specs.Denied.{IsDenied}
 use Rattle.sw_cage.specs.Accounts.{layout_of}
 use Rattle.mainframe.specs.Cards.{program_cards}
-use Rattle.mainframe.specs.Lines.{WritesPart}
+use Rattle.sw_session.specs.ServeWrite.{WritesPart}
 
 -- the program's cards, in slots 1 to 4
 abbrev pub program_layout : Layout
