@@ -1,3 +1,5 @@
+pub mod Board
+pub mod Entries
 pub mod Kinds
 pub mod Shares
 pub mod Work

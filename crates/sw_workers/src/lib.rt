@@ -9,14 +9,22 @@
 //! Nothing is promised of when a thread goes on, nor that one does.
 #![tactic(auto)]
 
+mod board;
+#[cfg(test)]
+mod board_tests;
 mod gate;
 mod held;
 mod note;
 mod posts;
+mod seat;
 mod shared;
+mod slots;
 
+pub use board::{BlankBoard, BoardName, StatusBoard, Telling};
 pub use gate::{Gate, Open, Point};
 pub use held::{DeskPart, Held, House};
 pub use note::{AskKind, Note};
 pub use posts::{Pause, Posted};
+pub use seat::{LockedPass, StatusSeat};
 pub use shared::{Opening, Shared};
+pub use slots::SeatSlots;
