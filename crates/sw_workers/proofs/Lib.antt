@@ -3,4 +3,6 @@ pub mod BoardSeats
 mod Counted
 pub mod Entries
 pub mod Fronts
+pub mod Histories
 pub mod PassSteps
+pub mod Unmoved

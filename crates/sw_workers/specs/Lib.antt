@@ -1,5 +1,6 @@
 pub mod Board
 pub mod Entries
+pub mod History
 pub mod Kinds
 pub mod Shares
 pub mod Work

@@ -166,6 +166,7 @@ pub fn word_of(pair: (u8, u64)) -> u64
 }
 
 /// A board that has no name yet, and the pass that publishes on it.
+#[derive(Drop)]
 pub struct BlankBoard {
     pub(crate) table: Word,
     pass: RawSeat,

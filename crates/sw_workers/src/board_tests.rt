@@ -98,3 +98,129 @@ fn a_read_waits_for_no_lock(rt: HostRuntime) -> Result<(), Fail> {
     under_the_lock::<Brand, _>(&rt, blank);
     Ok(())
 }
+
+/// Publishes so many pairs, each with one more request.
+fn publishes_on<B: BoardName, W: Wait>(
+    rt: &W,
+    board: &StatusBoard<B>,
+    lock: &Mutex<LockedPass<B>>,
+    mut desk: StatusSeat<B>,
+    most: u32,
+)
+    requires { (d : ℕ) × (desk.desk ≡ Some d) }
+{
+    for i in 0..most {
+        publishes(rt, board, lock, &mut desk, 0, i);
+        thread::yield_now();
+    }
+}
+
+/// Reads until there are so many requests. It tells whether they never went down, and how many there were.
+fn watches<B: BoardName>(
+    board: &StatusBoard<B>,
+    mut seat: StatusSeat<B>,
+    most: u64,
+) -> (bool, u64) {
+    let mut last = 0;
+    let mut rises = true;
+    for _ in 0..TURNS {
+        let (_, requests) = seat.read(board);
+        rises = rises && last <= requests;
+        last = requests;
+        if last >= most {
+            break;
+        }
+        thread::yield_now();
+    }
+    (rises, last)
+}
+
+fn while_published<B: BoardName + Send + Sync, W: Threads + Wait + Abort + Sync>(
+    rt: &W,
+    blank: BlankBoard,
+)
+    requires { (blank.table.shared.table_id ≡ B.table) × (blank.table.shared.key ≡ B.opening) }
+{
+    let (board, mut pass) = blank.open::<B>();
+    let mut desk = pass.new_desk(&board);
+    let seat = desk.split(&board);
+    let lock = Mutex::new(pass);
+    let ((), (rises, last)) = join(
+        rt,
+        || publishes_on(rt, &board, &lock, desk, 40),
+        || watches(&board, seat, 39),
+    );
+    assert!(rt; rises && last == 39);
+}
+
+#[test]
+fn requests_never_go_down(rt: HostRuntime) -> Result<(), Fail> {
+    let blank = BlankBoard::new(rt.alloc(), (0, 0))?;
+    while_published::<Brand, _>(&rt, blank);
+    Ok(())
+}
+
+/// One thread's event leaves a seat in the session's slot, and another, whose seat saw nothing of it, polls.
+fn by_its_slot<B: BoardName + Send + Sync, W: Threads + Wait + Abort + Sync>(
+    rt: &W,
+    blank: BlankBoard,
+    slots: &SeatSlots<B>,
+)
+    requires { (blank.table.shared.table_id ≡ B.table) × (blank.table.shared.key ≡ B.opening) }
+{
+    let (board, mut pass) = blank.open::<B>();
+    let mut desk = pass.new_desk(&board);
+    let seat = desk.split(&board);
+    let lock = Mutex::new(pass);
+    let left = AtomicBool::new(false);
+    let ((), pair) = join(
+        rt,
+        || leaves(rt, &board, &lock, slots, desk, &left),
+        || polls(rt, &board, slots, seat, &left),
+    );
+    assert!(rt; pair == (68, 1));
+}
+
+fn leaves<B: BoardName, W: Wait>(
+    rt: &W,
+    board: &StatusBoard<B>,
+    lock: &Mutex<LockedPass<B>>,
+    slots: &SeatSlots<B>,
+    mut desk: StatusSeat<B>,
+    left: &AtomicBool,
+)
+    requires { (d : ℕ) × (desk.desk ≡ Some d) }
+{
+    publishes(rt, board, lock, &mut desk, 68, 1);
+    slots.leave(rt, 16, desk.split(board));
+    left.store(true, Ordering::SeqCst);
+}
+
+fn polls<B: BoardName, W: Wait>(
+    rt: &W,
+    board: &StatusBoard<B>,
+    slots: &SeatSlots<B>,
+    mut seat: StatusSeat<B>,
+    left: &AtomicBool,
+) -> (u8, u64) {
+    let _ = waits_for(left);
+    slots.poll(rt, 16, board, &mut seat)
+}
+
+fn with_slots<B: BoardName + Send + Sync, W: Threads + Wait + Abort + Sync>(
+    rt: &W,
+    alloc: Global,
+    blank: BlankBoard,
+) -> Result<(), Fail>
+    requires { (blank.table.shared.table_id ≡ B.table) × (blank.table.shared.key ≡ B.opening) }
+{
+    let slots = SeatSlots::<B>::new(alloc)?;
+    by_its_slot(rt, blank, &slots);
+    Ok(())
+}
+
+#[test]
+fn a_session_polls_what_its_event_left(rt: HostRuntime) -> Result<(), Fail> {
+    let blank = BlankBoard::new(rt.alloc(), (0, 0))?;
+    with_slots::<Brand, _>(&rt, rt.alloc(), blank)
+}
