@@ -1,5 +1,5 @@
 -- Each step keeps the rule.
-use Rattle.std.proofs.Common.{◌≡◌, ◌≢◌, ◌==◌, ◌⊎◌, ℕ, zero, suc, ◌+◌, ◌<◌, ◌≤◌, Bool, true, false, List, [], ◌∷◌, ◌++◌, length, set, Option, None, Some}
+use Rattle.std.proofs.Common.{◌≡◌, ◌≢◌, ◌==◌, ◌⊎◌, ℕ, zero, suc, ◌+◌, ◌<◌, ◌≤◌, Bool, true, false, List, [], ◌∷◌, ◌++◌, length, set, Some}
 use Rattle.std.proofs.Common.{refl, ap, sym, ◌∙◌, subst, ⊎_elim, inl, inr, arith, eq-eqb, ne_eqb, lt_of_not-le}
 use Rattle.std.specs.Prelude.{slice_index, slice_set}
 use Rattle.std.specs.Option.{unwrap_or}
@@ -8,9 +8,8 @@ use mathlib.Core.Option as found
 use mathlib.Core.Option.{some-injective, some-ne-none}
 use mathlib.Core.Logic.{dite}
 use native.Mathlib.Decide.{dec_le}
-use lib.ListN.{get_elem?}
 use prog.Atomic.{either}
-use Rattle.atomic_table.specs.Table.{State, Me, Step, step, Act, keeps, Valid, stepped, carried_after, Allows, Splits, Joins}
+use Rattle.atomic_table.specs.Table.{State, Me, step, Act, keeps, Valid, stepped, carried_after, Allows, Splits, Joins}
 use Rattle.sw_workers.specs.Entries.{Entry, last_pair, made_by}
 use Rattle.sw_workers.specs.Board.{pair_in, World, Known, Said, Fits, KeptIn, Kept, Nothing, first_seat, spent, reader, told_of, after_desk, new_desk}
 use Rattle.sw_workers.specs.Board.{without_desk, of_desk, with_desk, replaced, Settles, Saw, Sees, entry_of, published, Published}
@@ -169,7 +168,7 @@ hits n old new e = ap (λ (b : Bool). either b new n) (eq-eqb n old e)
 kept_grown : (x : World) (p : ℕ × ℕ) (s : State Nothing Known) (id d old new : ℕ) (v : Known) (said : Said) → KeptIn x p s.words s.views
     → Has s.views id v → v.live ≡ true → v.publishes ≡ true → v.desk ≡ Some d → x.word ≡ old → said.pair ≡ pair_in new
     → KeptIn (grown x new (entry_of v said)) p (slice_set s.words 0 (either (slice_index s.words 0 == old) new (slice_index s.words 0)))
-        (set s.views id (published v said))
+    (set s.views id (published v said))
 kept_grown x p s id d old new v said k at live pub_ is here after =
     let f = k.fits id v at in
     let q = f.publishes pub_ in
@@ -177,7 +176,7 @@ kept_grown x p s id d old new v said k at live pub_ is here after =
     let e = entry_of v said in
     let named : e.desk ≡ d = ap (λ o. unwrap_or o 0) is in
     let others = λ (j : ℕ) (u : Known) (apart : j ≢ id) (at' : Has s.views j u).
-        others_publish x p new e id j u (ap x.seat_of named ∙ m.0) (sym q.0) apart (k.fits j u at') in record {
+    others_publish x p new e id j u (ap x.seat_of named ∙ m.0) (sym q.0) apart (k.fits j u at') in record {
       words = ap (λ (ws : List ℕ). slice_set ws 0 (either (slice_index ws 0 == old) new (slice_index ws 0))) k.words
           ∙ ap (λ (n : ℕ). n ∷ []) (hits x.word old new here);
       word = last_pair-more p x.history e ∙ after;
@@ -269,8 +268,8 @@ makes_desk p id v pub_ s kept at =
     let q = f.publishes pub_ in
     let n : ℕ = length (set s.views id (after_desk v)) in
     let other = λ (j : ℕ) (u : Known) (ne : j ≢ id) (e : Has s.views j u). fits_older x p n j u u.made
-        (λ l. let h = (k.fits j u e).publishes l in absurd (ne (h.0 ∙ sym q.0)))
-        (k.fits j u e) in
+    (λ l. let h = (k.fits j u e).publishes l in absurd (ne (h.0 ∙ sym q.0)))
+    (k.fits j u e) in
     let left = fits_older x p n id v (v.made + 1) (λ l. ap (λ (m : ℕ). m + 1) q.2) f in
     let right = fits_new x p s.words s.views id n v k f pub_ in
     let all = fits_split (more_desks x n) p s.views id (after_desk v) (new_desk v) other left right in
@@ -291,8 +290,8 @@ rides_off p id d v is s kept at =
       desk = λ c there. let h = f.desk c there in (seat_here x c d n (sym (same_some d c (sym is ∙ there))), h.1, h.2);
     } in
     let other = λ (j : ℕ) (u : Known) (ne : j ≢ id) (e : Has s.views j u). fits_given x p d n j u
-        (λ (o : x.seat_of d ≡ j). ne (sym o ∙ (f.desk d is).0))
-        (k.fits j u e) in
+    (λ (o : x.seat_of d ≡ j). ne (sym o ∙ (f.desk d is).0))
+    (k.fits j u e) in
     let all = fits_split y p s.views id (without_desk v) (of_desk v) other l r in (y, record { words = k.words; word = k.word; fresh = k.fresh; fits = all })
 
 -- ---- join
@@ -334,8 +333,8 @@ comes p id d v other w both is desk mine rest s kept at apart there =
       desk = λ c e. let h = g.desk c (sym desk ∙ e) in (seat_here x c d id (sym (same_some d c (sym is ∙ (sym desk ∙ e)))), h.1, h.2 ∙ sym mine);
     } in
     let others = λ (j : ℕ) (u : Known) (ne : j ≢ id) (ne' : j ≢ other) (e : Has s.views j u). fits_given x p d id j u
-        (λ (o : x.seat_of d ≡ j). ne' (sym o ∙ (g.desk d is).0))
-        (k.fits j u e) in
+    (λ (o : x.seat_of d ≡ j). ne' (sym o ∙ (g.desk d is).0))
+    (k.fits j u e) in
     let all = fits_join y p s.views id other both others b in (y, record { words = k.words; word = k.word; fresh = k.fresh; fits = all })
 
 pub rides_on : (p : ℕ × ℕ) (id d : ℕ) (v : Known) (other : ℕ) (w : Known) → w.desk ≡ Some d → w.live ≡ true

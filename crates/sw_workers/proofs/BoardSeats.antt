@@ -1,5 +1,5 @@
 -- What the rule says of all seats, after the views of some change.
-use Rattle.std.proofs.Common.{◌≡◌, ◌≢◌, ◌⊎◌, ℕ, zero, suc, ◌+◌, false, true, true≢false, List, [], ◌∷◌, ◌++◌, length, set, Option, None, Some}
+use Rattle.std.proofs.Common.{◌≡◌, ◌≢◌, ◌⊎◌, ℕ, zero, suc, false, true, true≢false, List, [], ◌∷◌, ◌++◌, length, set, Option, None, Some}
 use Rattle.std.proofs.Common.{refl, ap, sym, subst, ⊎_elim, inl, inr, arith}
 use mathlib.Core.Option as found
 use mathlib.Core.Option.{some-injective, some-ne-none}

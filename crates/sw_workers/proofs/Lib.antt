@@ -5,4 +5,5 @@ pub mod Entries
 pub mod Fronts
 pub mod Histories
 pub mod PassSteps
+pub mod Recordings
 pub mod Unmoved

@@ -1,5 +1,5 @@
 -- What the pass and a desk's seat know once the desk rode with the pass, had one more entry, and landed.
-use Rattle.std.proofs.Common.{◌≡◌, ◌++◌, ◌∷◌, [], List, Option, Some, ap, ◌∙◌, sym, ℕ}
+use Rattle.std.proofs.Common.{◌≡◌, ◌++◌, ◌∷◌, [], List, Some, ap, ◌∙◌, ℕ}
 use Rattle.std.specs.Option.{unwrap_or}
 use Rattle.atomic_table.specs.Table.{Me}
 use Rattle.sw_workers.specs.Entries.{Entry, made_by}

@@ -25,7 +25,8 @@ use Rattle.sw_core.specs.Panel.{Panel, is_running}
 use Rattle.sw_core.specs.Action.{Effect, TellsNumber, TellsText, TellsReadings, ReadsOut, SetsStatus, SetsUp, Closes, Opens, TellsRelays, Leaves}
 use Rattle.sw_core.specs.Action.{Resets, reset, Offers, Refuses, IsOfMacros, Initiates, Action, AtOnce, BetweenScans, AfterScan, action_of}
 use Rattle.sw_core.specs.Event.{concluded, session_concluded, last_number}
-use Rattle.sw_core.specs.Seats.{SessionsSeen, asker_of, StepSeat, StepLock}
+use Rattle.sw_core.specs.Seats.{asker_of, StepSeat, StepLock}
+use Rattle.sw_core.specs.Sessions.{SessionsSeen}
 use Rattle.sw_core.specs.Step.{StepClose, StepOpen, StepFlags, StepText, StepDone, StepSetting, StepRefused, StepReadings, StepAlone}
 use Rattle.sw_core.specs.Step.{session_told, StepHappens, StepEffect, StepHeld, StepAction, StepSnapshot, StepStart, IsServed, StepJoined, StepAdmitted}
 use Rattle.sw_core.specs.Step.{drops, shuts_out, StepJoin, StepAttach, StepNew, StepSession, outside_told, StepOutside, IsReturned, StepFinished}

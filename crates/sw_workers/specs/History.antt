@@ -56,3 +56,8 @@ pub record AsksInHistory (start : Panel) (v : Known) (ask : AskView) (answer : A
   pub legal : (p : Panel) × IsHistory start w.seen p
   pub desk : w.desk ≡ v.desk
   pub own : (d : ℕ) → w.desk ≡ Some d → made_by d w.seen ≡ w.mine
+
+-- a mainframe's panel, and the history that leads to it
+pub record InHistory : Type 0 where
+  pub panel : Panel
+  pub history : List Entry

@@ -40,7 +40,8 @@ fn publishes<B: BoardName, W: Wait>(
     requires { (d : ℕ) × (desk.old.desk ≡ Some d) }
     ensures { desk.new.desk ≡ desk.old.desk }
 {
-    lock.lock(rt).publish::<Brand>(board, desk, (byte, requests as u64));
+    lock.lock(rt)
+        .publish::<Brand>(board, desk, (byte, requests as u64));
 }
 
 /// Holds the lock until the flag is up, and tells whether it came up in time.

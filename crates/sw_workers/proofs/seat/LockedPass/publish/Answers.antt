@@ -20,7 +20,7 @@ invariant_of-self g c =
       ap (λ m. m.0.publishes) all ∙ i.4,
       ap (λ m. m.0.desk) all,
       ap (λ m. last_pair g.B.BoardName.opening m.0.seen) all
-      ∙ (last_pair-more g.B.BoardName.opening p.0.seen (entry_of v said) ∙ (c.requires.said ∙ c.word_of-word.ensures)),
+          ∙ (last_pair-more g.B.BoardName.opening p.0.seen (entry_of v said) ∙ (c.requires.said ∙ c.word_of-word.ensures)),
     )
 
 pub returns-clause-own : goal.returns-clause-own
