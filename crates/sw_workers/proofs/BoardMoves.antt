@@ -40,8 +40,8 @@ begins p word is = (made_world word, record { words = refl; word = is; fresh = �
 -- ---- read
 
 -- a word that stays
-stays : (x : World) (row : List ℕ) → row ≡ x.word ∷ [] → slice_set row 0 (slice_index row 0) ≡ x.word ∷ []
-stays x row is = ap (λ (ws : List ℕ). slice_set ws 0 (slice_index ws 0)) is
+stays : (x : World) (found_words : List ℕ) → found_words ≡ x.word ∷ [] → slice_set found_words 0 (slice_index found_words 0) ≡ x.word ∷ []
+stays x found_words is = ap (λ (ws : List ℕ). slice_set ws 0 (slice_index ws 0)) is
 
 -- the whole history is seen
 abbrev looked : World → Known → Known
@@ -54,9 +54,9 @@ fits_looked x p id v f = record {
   desk = f.desk;
 }
 
-saw : (x : World) (p : ℕ × ℕ) (row : List ℕ) (views : List Known) (id : ℕ) (v : Known) → KeptIn x p row views → Fits x p id v → v.live ≡ true
-    → Saw v (slice_index row 0) (looked x v)
-saw x p row views id v k f live =
+saw : (x : World) (p : ℕ × ℕ) (found_words : List ℕ) (views : List Known) (id : ℕ) (v : Known) → KeptIn x p found_words views → Fits x p id v → v.live ≡ true
+    → Saw v (slice_index found_words 0) (looked x v)
+saw x p found_words views id v k f live =
     let h = f.seen live in record {
       same = (refl, refl, refl, refl, refl, refl, refl);
       later = (h.1, h.2);
@@ -250,9 +250,9 @@ fits_older x p n j u made now f = record {
       let lt = h.1 in (seat_else x c x.made n (λ (same : c ≡ x.made). absurd (omega arith)) ∙ h.0, (omega arith), h.2);
 }
 
-fits_new : (x : World) (p : ℕ × ℕ) (row : List ℕ) (views : List Known) (id n : ℕ) (v : Known) → KeptIn x p row views → Fits x p id v
+fits_new : (x : World) (p : ℕ × ℕ) (found_words : List ℕ) (views : List Known) (id n : ℕ) (v : Known) → KeptIn x p found_words views → Fits x p id v
     → v.publishes ≡ true → Fits (more_desks x n) p n (new_desk v)
-fits_new x p row views id n v k f pub_ = record {
+fits_new x p found_words views id n v k f pub_ = record {
   seen = λ l. let h = f.seen l in (h.0, h.1, (x.history, refl));
   publishes = λ l. absurd (off l);
   desk = λ c is.

@@ -36,8 +36,8 @@ impl Recording for Brand {
 
 /// A mainframe and its history. Contracts see its panel, and all its events.
 ///
-/// Whenever it is seen, the history leads from the opening panel to this one, and its last pair is this panel's; and the
-/// mainframe is good.
+/// Whenever it is seen, the history leads from the opening panel to this one, and its last pair is this panel's; and
+/// the mainframe is good.
 #[derive(Drop)]
 pub struct Recorded<B: Recording, R: Relay, M: Meter> {
     core: Core<R, M>,
@@ -59,11 +59,7 @@ impl<B: Recording, R: Relay, M: Meter> Model for Recorded<B, R, M> {
 
 impl<B: Recording, R: Relay, M: Meter> Recorded<B, R, M> {
     /// A mainframe with no event yet.
-    pub fn new(
-        core: Core<R, M>,
-        pass: LockedPass<B>,
-        board: Arc<StatusBoard<B>, Global>,
-    ) -> Self
+    pub fn new(core: Core<R, M>, pass: LockedPass<B>, board: Arc<StatusBoard<B>, Global>) -> Self
         requires first { (core ≡ B.first) × (B.opening ≡ pair_of B.first) }
         requires good { IsGoodPanel core }
         requires none { pass ≡ [] }
@@ -81,15 +77,10 @@ impl<B: Recording, R: Relay, M: Meter> Recorded<B, R, M> {
         self.pass.new_desk(&self.board)
     }
 
-    /// Asks the mainframe. An event is published and stands in the history as one more entry of the desk; what is no event
-    /// changes nothing. The desk has then seen the whole history.
+    /// Asks the mainframe. An event is published and stands in the history as one more entry of the desk; what is no
+    /// event changes nothing. The desk has then seen the whole history.
     #[tactic(auto, using(crate::proofs::Recordings::good_fits))]
-    pub fn ask(
-        &mut self,
-        alloc: Global,
-        desk: &mut StatusSeat<B>,
-        ask: Ask<R, M>,
-    ) -> Answer<R, M>
+    pub fn ask(&mut self, alloc: Global, desk: &mut StatusSeat<B>, ask: Ask<R, M>) -> Answer<R, M>
         requires desk { (d : ℕ) × (desk.old.desk ≡ Some d) }
         ensures step { Step self.old.panel (ask_view ask)
             (failed_in (ask_view ask) (answer_view result) self.old.panel.cage.cards self.new.panel.cage.cards)
