@@ -75,7 +75,7 @@ pub record SawNone (es : List Entry) (v w : Known) : Type 0 where
 pub asks_nothing : (start : Panel) (es : List Entry) (p : Panel) (v : Known) (ask : AskView) (answer : AnswerView) (q : Panel) (w : Known)
     → IsHistory start es p → IsNext p (record { ask = ask; answer = answer; panel = q }) → q ≡ p → is_event answer ≡ false → SawNone es v w
     → AsksInHistory start v ask answer w
-asks_nothing start es p v ask answer q w h n e no s =
+asks_nothing start es p v ask answer q w h n e quiet s =
     let there : IsHistory start w.seen p = subst (λ (xs : List Entry). IsHistory start xs p) (sym s.seen) h in
     let replied : Replied start v ask answer w = record {
       panel = p;
@@ -84,7 +84,7 @@ asks_nothing start es p v ask answer q w h n e no s =
       later = subst (λ (xs : List Entry). IsPrefix v.seen xs) (sym s.seen) s.later;
       mine = s.mine;
     } in record {
-      told = subst (λ (b : Bool). Told b start v ask answer w) (sym no) replied;
+      told = subst (λ (b : Bool). Told b start v ask answer w) (sym quiet) replied;
       legal = (p, there);
       desk = s.desk;
       own = s.own;
