@@ -108,6 +108,6 @@ returns-clause-history g c =
       mine = t.mine.1;
       own = t.own;
     } in
-    let d = c.requires in
+    let d = c.requires.desk in
     asks_event g.B.Recording.first c.self.inside.pass c.self.inside.core c.args.desk.now said asked answered q c.tell_event.new.desk d.0 i.0 leads same d.1
     saw
