@@ -7,3 +7,7 @@ pub mod Histories
 pub mod PassSteps
 pub mod Recordings
 pub mod Unmoved
+mod Carries
+mod Worked
+mod Ejected
+mod Asked

@@ -5,3 +5,4 @@ pub mod Kinds
 pub mod Said
 pub mod Shares
 pub mod Work
+pub mod Closing

@@ -1,5 +1,0 @@
-use Rattle.sw_core.specs.View.{AskExternal, SaysMissed}
-use Rattle.sw_workers.proofs.board_tests.publishes.Given as goal
-
-abbrev pub ghosts-publish : goal.ghosts-publish
-ghosts-publish g a = record { said = record { number = 0; ask = AskExternal; answer = SaysMissed; pair = a.pair } }
