@@ -5,6 +5,7 @@
 ghost use Rattle.std.specs.Prelude.{◌≡◌};
 
 use crate::latches::{TURNS, turn};
+use crate::threads::Scene;
 use std::alloc::Global;
 use std::marker::Brand;
 use std::sync::{Arc, Wait};
@@ -48,19 +49,6 @@ fn fitted<S: Source>(alloc: Global, source: S) -> Option<Core<Mux<SimDriver>, Vo
     }
     drop(core);
     None
-}
-
-/// What is played by three desks.
-pub trait Scene<W: Threads + Wait + Clock + Copy + Drop + Send + Sync + 'static> {
-    /// Gives the desks back, where all went as it should.
-    fn play<D: Desk + Drop + Send + 'static>(
-        &self,
-        rt: W,
-        alloc: Global,
-        first: D,
-        second: D,
-        third: D,
-    ) -> Option<(D, D, D)>;
 }
 
 /// A mainframe that threads share, and its workers.
@@ -121,7 +109,7 @@ impl<
     }
 
     /// Plays a scene by three desks, and closes the mainframe down.
-    fn host<S: Scene<W>>(self, rt: W, alloc: Global, scene: &S) -> Option<Note> {
+    fn host(self, rt: W, alloc: Global, scene: &Scene<W>) -> Option<Note> {
         let first = SharedDesk::open(rt, &self.shared)?;
         let second = SharedDesk::open(rt, &self.shared)?;
         let third = SharedDesk::open(rt, &self.shared)?;
@@ -172,8 +160,7 @@ fn play_behind<
     M: Meter + Send + 'static,
     G: Gate + Drop + Send + Sync + 'static,
     W: Threads + Wait + Clock + Copy + Drop + Send + Sync + 'static,
-    S: Scene<W>,
->(rt: W, alloc: Global, opening: Opening<R, M>, gate: G, scene: &S) -> Option<Note>
+>(rt: W, alloc: Global, opening: Opening<R, M>, gate: G, scene: &Scene<W>) -> Option<Note>
     requires start { opening.core.events ≡ H.start }
     requires ledger { (opening.blank.name ≡ H.name) × (opening.blank.parts ≡ H.parts) }
 {
@@ -189,12 +176,11 @@ pub fn played<
     I: Source + Send + 'static,
     G: Gate + Drop + Send + Sync + 'static,
     W: Threads + Wait + Clock + Copy + Drop + Send + Sync + 'static,
-    S: Scene<W>,
->(rt: W, alloc: Global, source: I, gate: G, scene: &S) -> Option<Note> {
+>(rt: W, alloc: Global, source: I, gate: G, scene: &Scene<W>) -> Option<Note> {
     match fitted(alloc, source) {
         Some(core) => {
             let opening = Opening::new(core);
-            play_behind::<Brand, _, _, G, W, S>(rt, alloc, opening, gate, scene)
+            play_behind::<Brand, _, _, G, W>(rt, alloc, opening, gate, scene)
         }
         None => None,
     }

@@ -2,7 +2,7 @@
 //! session's status, and what closing it down gives.
 
 use crate::latches::{Latch, LatchedGate, LatchedSource, SharedLatch, turn};
-use crate::shop::{Scene, comes_to_tell, join, locks, played, releases, tells};
+use crate::shop::{comes_to_tell, join, locks, played, releases, tells};
 use std::alloc::Global;
 use std::sync::Wait;
 use std::test::Fail;
@@ -14,9 +14,39 @@ use sw_kinds::SimSource;
 use sw_session::{Desk, View, Wake};
 use sw_workers::{AskKind, Note, Open, Point};
 
+/// What is played by three desks.
+#[derive(Drop)]
+pub enum Scene<C: Clock + Drop> {
+    Meanwhile(Meanwhile<C>),
+    Locked(Locked<C>),
+    Looked,
+    Closes,
+    Busy,
+}
+
+impl<W: Threads + Wait + Clock + Copy + Drop + Send + Sync + 'static> Scene<W> {
+    /// Gives the desks back, where all went as it should.
+    pub fn play<D: Desk + Drop + Send + 'static>(
+        &self,
+        rt: W,
+        alloc: Global,
+        first: D,
+        second: D,
+        third: D,
+    ) -> Option<(D, D, D)> {
+        match self {
+            Scene::Meanwhile(scene) => scene.play(rt, alloc, first, second, third),
+            Scene::Locked(scene) => scene.play(rt, alloc, first, second, third),
+            Scene::Looked => looks(alloc, first, second, third),
+            Scene::Closes => closes(alloc, first, second, third),
+            Scene::Busy => asks_at_once(rt, alloc, first, second, third),
+        }
+    }
+}
+
 /// A scan begins, and what it awaits goes on only once two sessions were answered.
 #[derive(Drop)]
-struct Meanwhile<C: Clock + Drop> {
+pub struct Meanwhile<C: Clock + Drop> {
     latch: SharedLatch<C>,
     begin: &'static [u8],
 }
@@ -42,7 +72,8 @@ impl<C: Clock + Drop> Meanwhile<C> {
     }
 }
 
-impl<W: Threads + Wait + Clock + Copy + Drop + Send + Sync + 'static> Scene<W> for Meanwhile<W> {
+impl<W: Threads + Wait + Clock + Copy + Drop + Send + Sync + 'static> Meanwhile<W> {
+    /// Gives the desks back, where all went as it should.
     fn play<D: Desk + Drop + Send + 'static>(
         &self,
         rt: W,
@@ -73,10 +104,10 @@ fn sessions_are_answered_while_a_reading_is_held_at_the_gate(rt: HostRuntime) ->
         point: Point::Job,
         latch: latch.clone()?,
     };
-    let scene = Meanwhile {
+    let scene = Scene::Meanwhile(Meanwhile {
         latch,
         begin: READS,
-    };
+    });
     assert!(rt; played(rt, rt.alloc(), SimSource::new(1, 1), gate, &scene).is_some());
     Ok(())
 }
@@ -90,10 +121,10 @@ fn sessions_are_answered_while_a_reading_is_held_inside_its_source(
         source: SimSource::new(1, 1),
         latch: latch.clone()?,
     };
-    let scene = Meanwhile {
+    let scene = Scene::Meanwhile(Meanwhile {
         latch,
         begin: READS,
-    };
+    });
     assert!(rt; played(rt, rt.alloc(), source, Open, &scene).is_some());
     Ok(())
 }
@@ -105,10 +136,10 @@ fn sessions_are_answered_while_a_pause_is_held_at_the_gate(rt: HostRuntime) -> R
         point: Point::Pause,
         latch: latch.clone()?,
     };
-    let scene = Meanwhile {
+    let scene = Scene::Meanwhile(Meanwhile {
         latch,
         begin: PAUSES,
-    };
+    });
     assert!(rt; played(rt, rt.alloc(), SimSource::new(1, 1), gate, &scene).is_some());
     Ok(())
 }
@@ -125,7 +156,7 @@ fn shows<D: Desk>(desk: &mut D, sid: Sid, byte: u8, requests: u64, mav: bool) ->
 
 /// A session asks in a thread of its own while another has the lock, which closes the channel that is asked for.
 #[derive(Drop)]
-struct Locked<C: Clock + Drop> {
+pub struct Locked<C: Clock + Drop> {
     latch: SharedLatch<C>,
 }
 
@@ -165,7 +196,8 @@ impl<C: Clock + Drop> Locked<C> {
     }
 }
 
-impl<W: Threads + Wait + Clock + Copy + Drop + Send + Sync + 'static> Scene<W> for Locked<W> {
+impl<W: Threads + Wait + Clock + Copy + Drop + Send + Sync + 'static> Locked<W> {
+    /// Gives the desks back, where all went as it should.
     fn play<D: Desk + Drop + Send + 'static>(
         &self,
         rt: W,
@@ -195,39 +227,32 @@ impl<W: Threads + Wait + Clock + Copy + Drop + Send + Sync + 'static> Scene<W> f
 
 #[test]
 fn a_lock_holds_another_session(rt: HostRuntime) -> Result<(), Fail> {
-    let scene = Locked {
+    let scene = Scene::Locked(Locked {
         latch: Latch::new(rt.alloc(), rt)?,
-    };
+    });
     assert!(rt; played(rt, rt.alloc(), SimSource::new(1, 1), Open, &scene).is_some());
     Ok(())
 }
 
-/// A session asks for service, and is looked at by another desk.
-#[derive(Clone, Copy)]
-struct Looked;
-
-impl<W: Threads + Wait + Clock + Copy + Drop + Send + Sync + 'static> Scene<W> for Looked {
-    fn play<D: Desk + Drop + Send + 'static>(
-        &self,
-        _rt: W,
-        alloc: Global,
-        first: D,
-        second: D,
-        third: D,
-    ) -> Option<(D, D, D)> {
-        let mut first = first;
-        let mut second = second;
-        let sid = join(&mut first)?;
-        let is_told = tells(alloc, &mut first, sid, b"*SRE 4;FOO", b"");
-        first.note(sid, true);
-        let is_seen = shows(&mut second, sid, 4, 1, true);
-        first.note(sid, false);
-        let is_over = first.wait(Some(1)) == Wake::Over;
-        if is_told && is_seen && is_over && shows(&mut second, sid, 4, 1, false) {
-            return Some((first, second, third));
-        }
-        None
+/// A session asks for service, and is looked at by another desk. Gives the desks back, where all went as it should.
+fn looks<D: Desk + Drop + Send + 'static>(
+    alloc: Global,
+    first: D,
+    second: D,
+    third: D,
+) -> Option<(D, D, D)> {
+    let mut first = first;
+    let mut second = second;
+    let sid = join(&mut first)?;
+    let is_told = tells(alloc, &mut first, sid, b"*SRE 4;FOO", b"");
+    first.note(sid, true);
+    let is_seen = shows(&mut second, sid, 4, 1, true);
+    first.note(sid, false);
+    let is_over = first.wait(Some(1)) == Wake::Over;
+    if is_told && is_seen && is_over && shows(&mut second, sid, 4, 1, false) {
+        return Some((first, second, third));
     }
+    None
 }
 
 #[test]
@@ -236,29 +261,22 @@ fn a_session_is_looked_at_by_another_desk(rt: HostRuntime) {
         number: 5,
         ask: AskKind::Fault,
     };
-    assert!(rt; played(rt, rt.alloc(), SimSource::new(1, 1), Open, &Looked) == Some(last));
+    assert!(rt; played(rt, rt.alloc(), SimSource::new(1, 1), Open, &Scene::Looked) == Some(last));
 }
 
-/// A session closes a channel, and that is all.
-#[derive(Clone, Copy)]
-struct Closes;
-
-impl<W: Threads + Wait + Clock + Copy + Drop + Send + Sync + 'static> Scene<W> for Closes {
-    fn play<D: Desk + Drop + Send + 'static>(
-        &self,
-        _rt: W,
-        alloc: Global,
-        first: D,
-        second: D,
-        third: D,
-    ) -> Option<(D, D, D)> {
-        let mut first = first;
-        let sid = join(&mut first)?;
-        if tells(alloc, &mut first, sid, b"ROUT:CLOS (@1!1)", b"") {
-            return Some((first, second, third));
-        }
-        None
+/// A session closes a channel, and that is all. Gives the desks back, where all went as it should.
+fn closes<D: Desk + Drop + Send + 'static>(
+    alloc: Global,
+    first: D,
+    second: D,
+    third: D,
+) -> Option<(D, D, D)> {
+    let mut first = first;
+    let sid = join(&mut first)?;
+    if tells(alloc, &mut first, sid, b"ROUT:CLOS (@1!1)", b"") {
+        return Some((first, second, third));
     }
+    None
 }
 
 #[test]
@@ -267,12 +285,8 @@ fn closing_down_gives_every_card_with_nothing_closed(rt: HostRuntime) {
         number: 4,
         ask: AskKind::Unit,
     };
-    assert!(rt; played(rt, rt.alloc(), SimSource::new(1, 1), Open, &Closes) == Some(last));
+    assert!(rt; played(rt, rt.alloc(), SimSource::new(1, 1), Open, &Scene::Closes) == Some(last));
 }
-
-/// Three sessions ask, each in a thread of its own.
-#[derive(Clone, Copy)]
-struct Busy;
 
 /// Joins, closes 1!1, and asks two things a hundred times.
 fn asks_often<D: Desk>(alloc: Global, desk: D) -> (D, bool) {
@@ -294,25 +308,20 @@ fn asks_often<D: Desk>(alloc: Global, desk: D) -> (D, bool) {
     (desk, true)
 }
 
-impl<W: Threads + Wait + Clock + Copy + Drop + Send + Sync + 'static> Scene<W> for Busy {
-    fn play<D: Desk + Drop + Send + 'static>(
-        &self,
-        rt: W,
-        alloc: Global,
-        first: D,
-        second: D,
-        third: D,
-    ) -> Option<(D, D, D)> {
-        let asks_first = thread::spawn(&rt, move || asks_often(alloc, first)).ok()?;
-        let asks_second = thread::spawn(&rt, move || asks_often(alloc, second)).ok()?;
-        let (third, third_is_told) = asks_often(alloc, third);
-        let (first, first_is_told) = asks_first.join(&rt);
-        let (second, second_is_told) = asks_second.join(&rt);
-        if first_is_told && second_is_told && third_is_told {
-            return Some((first, second, third));
-        }
-        None
+/// Three sessions ask, each in a thread of its own. Gives the desks back, where all went as it should.
+fn asks_at_once<
+    W: Threads + Wait + Clock + Copy + Drop + Send + Sync + 'static,
+    D: Desk + Drop + Send + 'static,
+>(rt: W, alloc: Global, first: D, second: D, third: D) -> Option<(D, D, D)> {
+    let asks_first = thread::spawn(&rt, move || asks_often(alloc, first)).ok()?;
+    let asks_second = thread::spawn(&rt, move || asks_often(alloc, second)).ok()?;
+    let (third, third_is_told) = asks_often(alloc, third);
+    let (first, first_is_told) = asks_first.join(&rt);
+    let (second, second_is_told) = asks_second.join(&rt);
+    if first_is_told && second_is_told && third_is_told {
+        return Some((first, second, third));
     }
+    None
 }
 
 #[test]
@@ -321,5 +330,5 @@ fn every_event_of_three_threads_is_counted_once(rt: HostRuntime) {
         number: 605,
         ask: AskKind::Unit,
     };
-    assert!(rt; played(rt, rt.alloc(), SimSource::new(1, 1), Open, &Busy) == Some(last));
+    assert!(rt; played(rt, rt.alloc(), SimSource::new(1, 1), Open, &Scene::Busy) == Some(last));
 }
