@@ -33,16 +33,11 @@ impl Station {
         }
     }
 
-    fn identity(&self) -> SessionAnswer {
+    fn identity(&self) -> Option<Sequence<u8>> {
         match Vec::from_slice(self.alloc, b"OPENBENCH,SWM8,0,1.0") {
-            Ok(text) => SessionAnswer::Done(Some(Sequence::new(text))),
-            Err(_) => SessionAnswer::Stranger,
+            Ok(text) => Some(Sequence::new(text)),
+            Err(_) => None,
         }
-    }
-
-    fn leave(&mut self) -> SessionAnswer {
-        self.leaves = self.leaves.saturating_add(1);
-        SessionAnswer::Done(None)
     }
 }
 
@@ -61,10 +56,13 @@ impl Desk for Station {
                 SessionAnswer::Done(None)
             }
             SessionAsk::MaxSize(_) => SessionAnswer::Max(27),
-            SessionAsk::Leave(_) => self.leave(),
+            SessionAsk::Leave(_) => {
+                self.leaves = self.leaves.saturating_add(1);
+                SessionAnswer::Done(None)
+            }
             SessionAsk::Unit(_, command, _) => {
                 drop(command);
-                self.identity()
+                SessionAnswer::Done(self.identity())
             }
             other => {
                 drop(other);
@@ -304,6 +302,12 @@ fn said_after(read: u32) -> (usize, usize) {
     }
 }
 
+/// So many of the first bytes.
+fn front(bytes: &[u8], count: usize) -> &[u8] {
+    let (front, _) = bytes.split_at(count.min(bytes.len()));
+    front
+}
+
 /// Whether a read that fails after so many bytes leaves the answers to all before, and the session.
 fn breaks_off(alloc: Global, good: u32) -> bool {
     let mut reader = Pieces::broken(TALK, good, ErrorKind::BrokenPipe, true);
@@ -311,7 +315,13 @@ fn breaks_off(alloc: Global, good: u32) -> bool {
     let (main, side) = said_after(good);
     let leaves = if good < 23 { 0 } else { 1 };
     let fault = Err(ServeFault::Read);
-    is_served(served, fault, &SAID[..main], &SAID_BESIDE[..side], leaves)
+    is_served(
+        served,
+        fault,
+        front(SAID, main),
+        front(SAID_BESIDE, side),
+        leaves,
+    )
 }
 
 #[test]
@@ -365,7 +375,7 @@ fn stops_writing(alloc: Global, room: usize) -> bool {
     } else {
         SAID_BESIDE
     };
-    served.notes == noted && is_served(served, Err(ServeFault::Write), &SAID[..room], beside, 1)
+    served.notes == noted && is_served(served, Err(ServeFault::Write), front(SAID, room), beside, 1)
 }
 
 /// Whether a side writer that fails after so many bytes has the front of what is said beside the answer.
@@ -390,8 +400,8 @@ fn stops_beside(alloc: Global, room: usize) -> bool {
     is_served(
         served,
         Err(ServeFault::Write),
-        &SAID[..69],
-        &SAID_BESIDE[..room],
+        front(SAID, 69),
+        front(SAID_BESIDE, room),
         1,
     )
 }
@@ -411,7 +421,7 @@ fn reads_no_further(alloc: Global, turns: u64) -> bool {
     let mut reader = Pieces::new(TALK, 1, 1);
     let served = serve_synchronous(alloc, &mut reader, turns);
     let is_so = is_served(served, Err(ServeFault::ReadBound), b"", b"", 0);
-    is_so && reader.left.len() as u64 + turns == 61
+    is_so && turns.saturating_add(reader.left.len() as u64) == 61
 }
 
 #[test]
