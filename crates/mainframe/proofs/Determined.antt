@@ -1,5 +1,5 @@
 -- A run leaves no choice: line by line, from a mainframe that was set up in one way.
-use Rattle.std.proofs.Common.{◌≡◌, ℕ, Bool, true, false, MatchBool, ◌==◌, ◌&&◌, not, List, [], ◌∷◌, ◌++◌, Result, None, sym, ap, subst, ◌∙◌}
+use Rattle.std.proofs.Common.{◌≡◌, ℕ, Bool, true, false, MatchBool, ◌==◌, ◌&&◌, not, List, [], ◌∷◌, ◌++◌, None, refl, sym, ap, subst, ◌∙◌}
 use Rattle.std.proofs.lemmas.List.{append-nil}
 use Rattle.sw_core.specs.declared.ask.Sid.{Sid}
 use Rattle.sw_core.specs.declared.ask.SessionAsk.TheVariants as Ask
@@ -10,13 +10,9 @@ use Rattle.sw_core.specs.Event.{last_number}
 use Rattle.sw_core.specs.Step.{Acts, acts_unnumbered, IsWorn, IsEvent, IsUnnumbered, Step}
 use Rattle.sw_cage.specs.Accounts.{Accounts}
 use Rattle.sw_core.specs.Run.{IsPlain, toll, StepIsDetermined}
-use Rattle.sw_base.specs.declared.reading.Reading.{Reading}
-use Rattle.sw_card.specs.declared.board.CardFault.{CardFault}
-use Rattle.sw_macro.specs.Table.{Table}
-use Rattle.sw_session.specs.CoreDesk.{DeskSeen, Rests}
-use Rattle.sw_session.specs.Law.{AllSmooth, waits_of, carried_in, carried_at_rest, outcomes_in_talk, outcomes_at_rest}
+use Rattle.sw_session.specs.Law.{outcomes_in_talk, outcomes_at_rest}
 use Rattle.sw_session.specs.Talk.{state}
-use Rattle.sw_session.specs.Law.{CoreTalkIsDetermined, CoreRestIsDetermined}
+use Rattle.sw_session.specs.Law.{IsSameDesk, CoreTalkIsDetermined, CoreRestIsDetermined}
 use Rattle.sw_card.specs.Account.{Account}
 use Rattle.mainframe.specs.Lines.{lines_of}
 use Rattle.mainframe.specs.Cards.{Fitted}
@@ -102,21 +98,22 @@ set_up_once law cards sid sid' p p' s t =
     let j = joined_once law sid sid' s.begun t.begun s.joined t.joined in
     (j.0, offers_once law cards s.begun t.begun p p' j.1 s.fitted t.fitted)
 
-state_same : (s s' : State) → s.desk ≡ s'.desk → s.macros ≡ s'.macros → s ≡ s'
-state_same s s' d m = ap (λ (x : DeskSeen). state x s.macros) d ∙ ap (λ (x : Table). state s'.desk x) m
+-- two runs stand alike, whatever the room of their desks
+record AreAlike (s s' : State) : Type 0 where
+  desks : IsSameDesk s.desk s'.desk
+  macros : s.macros ≡ s'.macros
 
 -- one line
 line_same : CoreTalkIsDetermined → CoreRestIsDetermined
-    → (sid : Sid) (s e e' : State) (line told told' : List ℕ) (l : Line sid s line told e) (l' : Line sid s line told' e') → IsPlainLine l → IsPlainLine l'
+    → (sid : Sid) (s s' e e' : State) (line told told' : List ℕ) (l : Line sid s line told e) (l' : Line sid s' line told' e') → AreAlike s s'
+    → IsPlainLine l → IsPlainLine l'
     → outcomes_in_talk l.talked ≡ outcomes_in_talk l'.talked → outcomes_at_rest l.rests ≡ outcomes_at_rest l'.rests
-    → (told ≡ told') × (e ≡ e')
-line_same talk rest sid s e e' line told told' l l' a a' in_talk at_rest =
-    let t = talk sid s (state l.spoken e.macros) (state l'.spoken e'.macros) line told told' l.talked l'.talked a.ample a'.ample a.talk a'.talk in_talk in
-    let After : DeskSeen → Type 0 = λ d. (r : Rests d true e.desk) → AllSmooth (waits_of r) (carried_at_rest r)
-    → outcomes_at_rest r ≡ outcomes_at_rest l'.rests → e.desk ≡ e'.desk in
-    let there : After l'.spoken = λ r smooth same. rest l'.spoken e.desk e'.desk r l'.rests smooth a'.rest same in
-    let here : After l.spoken = subst After (sym t.3) there in
-    (t.1, state_same e e' (here l.rests a.rest at_rest) t.2)
+    → (told ≡ told') × AreAlike e e'
+line_same talk rest sid s s' e e' line told told' l l' alike a a' in_talk at_rest =
+    let t = talk sid s s' (state l.spoken e.macros) (state l'.spoken e'.macros) line told told' l.talked l'.talked alike.desks alike.macros
+    a.ample a'.ample a.talk a'.talk in_talk in
+    let after = rest l.spoken l'.spoken e.desk e'.desk l.rests l'.rests t.3 a.rest a'.rest at_rest in
+    (t.1, record { desks = after; macros = t.2 })
 
 -- what was measured for the first line, and for the others
 first_of : {T : Type 0} (a b a' b' : T) (c c' : List T) → a ∷ b ∷ c ≡ a' ∷ b' ∷ c' → a ≡ a'
@@ -129,19 +126,17 @@ others_of : {T : Type 0} (a b a' b' : T) (c c' : List T) → a ∷ b ∷ c ≡ a
 others_of a b a' b' c c' same = cc (same)
 
 run_same : CoreTalkIsDetermined → CoreRestIsDetermined
-    → (sid : Sid) (d : State) (lines : List (List ℕ)) (bytes bytes' : List ℕ) (e e' : State) (r : Run sid d lines bytes e) (r' : Run sid d lines bytes' e')
-    → IsPlainRun sid d lines bytes e r → IsPlainRun sid d lines bytes' e' r'
-    → outcomes_in_run sid d lines bytes e r ≡ outcomes_in_run sid d lines bytes' e' r' → bytes ≡ bytes'
-run_same talk rest sid d [] bytes bytes' e e' r r' a a' same = r.0 ∙ sym r'.0
-run_same talk rest sid d (l ∷ ls) bytes bytes' e e' r r' a a' same =
+    → (sid : Sid) (d d' : State) (lines : List (List ℕ)) (bytes bytes' : List ℕ) (e e' : State) (r : Run sid d lines bytes e)
+    (r' : Run sid d' lines bytes' e') → AreAlike d d'
+    → IsPlainRun sid d lines bytes e r → IsPlainRun sid d' lines bytes' e' r'
+    → outcomes_in_run sid d lines bytes e r ≡ outcomes_in_run sid d' lines bytes' e' r' → bytes ≡ bytes'
+run_same talk rest sid d d' [] bytes bytes' e e' r r' alike a a' same = r.0 ∙ sym r'.0
+run_same talk rest sid d d' (l ∷ ls) bytes bytes' e e' r r' alike a a' same =
     let in_talk : outcomes_in_talk r.3.talked ≡ outcomes_in_talk r'.3.talked = first_of _ _ _ _ _ _ same in
     let at_rest : outcomes_at_rest r.3.rests ≡ outcomes_at_rest r'.3.rests = second_of _ _ _ _ _ _ same in
     let left : outcomes_in_run sid r.1 ls r.2 e r.4 ≡ outcomes_in_run sid r'.1 ls r'.2 e' r'.4 = others_of _ _ _ _ _ _ same in
-    let t = line_same talk rest sid d r.1 r'.1 l r.0 r'.0 r.3 r'.3 a.0 a'.0 in_talk at_rest in
-    let Onward : State → Type 0 = λ m. (x : Run sid m ls r.2 e) → IsPlainRun sid m ls r.2 e x
-    → outcomes_in_run sid m ls r.2 e x ≡ outcomes_in_run sid r'.1 ls r'.2 e' r'.4 → r.2 ≡ r'.2 in
-    let there : Onward r'.1 = λ x y same. run_same talk rest sid r'.1 ls r.2 r'.2 e e' x r'.4 y a'.1 same in
-    let more : r.2 ≡ r'.2 = subst Onward (sym t.1) there r.4 a.1 left in
+    let t = line_same talk rest sid d d' r.1 r'.1 l r.0 r'.0 r.3 r'.3 alike a.0 a'.0 in_talk at_rest in
+    let more : r.2 ≡ r'.2 = run_same talk rest sid r.1 r'.1 ls r.2 r'.2 e e' r.4 r'.4 t.1 a.1 a'.1 left in
     r.5 ∙ ap (λ (b : List ℕ). b ++ r.2) t.0 ∙ ap (λ (m : List ℕ). r'.0 ++ m) more ∙ sym r'.5
 
 all_lines : (input : List ℕ) (done : List (List ℕ)) → lines_of input ≡ done ++ lines_of [] → done ≡ lines_of input
@@ -158,7 +153,8 @@ run_once step talk rest cards sid sid' start start' input bytes bytes' s s' r r'
     let lines : r.done ≡ r'.done = all_lines input r.done r.lines ∙ sym (all_lines input r'.done r'.lines) in
     let Same : Sid → Panel → List (List ℕ) → Type 0 = λ i p ls. (x : Run i (begins_over p) ls bytes r.after) → IsPlainRun i (begins_over p) ls bytes r.after x
     → outcomes_in_run i (begins_over p) ls bytes r.after x ≡ outcomes_in_run sid' (begins_over start') r'.done bytes' r'.after r'.run → bytes ≡ bytes' in
-    let last : Same sid' start' r'.done = λ x y z. run_same talk rest sid' (begins_over start') r'.done bytes bytes' r.after r'.after x r'.run y a' z in
+    let last : Same sid' start' r'.done = λ x y z. run_same talk rest sid' (begins_over start') (begins_over start') r'.done bytes bytes' r.after r'.after x r'.run
+    (record { desks = refl; macros = refl }) y a' z in
     let by_lines : Same sid' start' r.done = subst (λ (ls : List (List ℕ)). Same sid' start' ls) (sym lines) last in
     let by_start : Same sid' start r.done = subst (λ (p : Panel). Same sid' p r.done) (sym u.1) by_lines in
     let by_sid : Same sid start r.done = subst (λ (i : Sid). Same i start r.done) (sym u.0) by_start in

@@ -1,8 +1,7 @@
 -- A run, one line further.
-use Rattle.std.proofs.Common.{◌≡◌, ◌≢◌, ℕ, ◌+◌, ◌<◌, List, [], ◌∷◌, ◌++◌, length, take, Option, Some, None, IfSome, Result, Ok, Err, OnOk, IfErr, inr, All}
+use Rattle.std.proofs.Common.{◌≡◌, ◌≢◌, ℕ, ◌<◌, List, [], ◌∷◌, ◌++◌, length, take, Option, Some, None, IfSome, Result, Ok, Err, OnOk, IfErr, inr, All}
 use Rattle.std.proofs.Common.{Bool, true, false, ◌==◌, ◌-◌, zero, suc, refl, ap, sym, ◌∙◌, subst, append_assoc, arith}
 use Rattle.std.proofs.lemmas.List.{append-nil}
-use Rattle.std.proofs.Math.Seq.{take-append-add}
 use Rattle.std.specs.Io.KnownBytes.{Appends, IsAtEnd}
 use Rattle.std.specs.Io.BufRead.{take_through, drop_through, DropsThrough}
 use Rattle.sw_core.specs.declared.ask.Sid.{Sid}
@@ -10,7 +9,8 @@ use Rattle.sw_core.specs.Panel.{Panel}
 use Rattle.sw_macro.specs.Table.{Table, no_macros}
 use Rattle.sw_session.specs.CoreDesk.{desk_over, DeskSeen, CorePasses, Rests}
 use Rattle.sw_session.specs.Talk.{state, Talked}
-use Rattle.mainframe.specs.Lines.{lines_of, WritesPart}
+use Rattle.mainframe.specs.Lines.{lines_of}
+use Rattle.sw_session.specs.ServeWrite.{WritesPart}
 use Rattle.sw_card.specs.Account.{Account}
 use Rattle.mainframe.specs.Cards.{Fitted, fitted}
 use Rattle.mainframe.specs.Run.{State, begins_over, IsSetUp, Line, Run, Runs, AnsweredFrom, PartFrom, CutFrom, EndsFrom}
@@ -113,7 +113,6 @@ progress-part sid start (Some input) (Some xs) r2 c0 c1 c2 q mid kept told (done
     let items : List ℕ = take_through 10 xs in
     let next : lines_of left ≡ items ∷ lines_of (drop_through 10 xs) = ap lines_of (sym same) ∙ lines-next xs (kept-some xs kept is_kept some) in
     let whole : Line sid q items told mid = line_whole q mid sid items told (subst (λ (l : List ℕ). Line sid q l told mid) is_kept t) in
-    let part : take (length written + a.0) (written ++ told) ≡ written ++ take a.0 told = take-append-add written told a.0 in
     record {
       rest = drop_through 10 xs;
       is_left = rest;
@@ -124,7 +123,12 @@ progress-part sid start (Some input) (Some xs) r2 c0 c1 c2 q mid kept told (done
         after = mid;
         run = run-push sid start q mid done items written told run whole;
       };
-      writes = (length written + a.0, subst (λ (b : List ℕ). Appends c0 c2 b) (sym part) (appends-more c0 c1 c2 written (take a.0 told) w a.1));
+      writes = record {
+        front = written ++ a.front;
+        back = a.back;
+        parts = ap (λ (l : List ℕ). written ++ l) a.parts ∙ sym (append_assoc written a.front a.back);
+        writes = appends-more c0 c1 c2 written a.front w a.writes;
+      };
     }
 
 pub progress-all : (sid : Sid) (start : State) (r0 r r2 c0 c : Option (List ℕ)) (p : State) → Progress sid start r0 r c0 c p → IsAtEnd r → DropsThrough r r2 10

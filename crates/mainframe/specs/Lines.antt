@@ -1,6 +1,5 @@
--- Lines of a text, and what is written of an answer.
-use Rattle.std.specs.Prelude.{ℕ, ◌==◌, List, [], ◌∷◌, take, Option, if◌then◌else◌}
-use Rattle.std.specs.Io.KnownBytes.{Appends}
+-- Lines of a text.
+use Rattle.std.specs.Prelude.{ℕ, ◌==◌, List, [], ◌∷◌, if◌then◌else◌}
 
 -- a byte before some lines belongs to the first
 abbrev pub onto_line : ℕ → List (List ℕ) → List (List ℕ)
@@ -11,7 +10,3 @@ onto_line x (l ∷ ls) = (x ∷ l) ∷ ls
 abbrev pub lines_of : List ℕ → List (List ℕ)
 lines_of [] = []
 lines_of (x ∷ xs) = if x == 10 then (10 ∷ []) ∷ lines_of xs else onto_line x (lines_of xs)
-
--- a front part of the bytes is written
-abbrev pub WritesPart : Option (List ℕ) → Option (List ℕ) → List ℕ → Type 0
-WritesPart old new bytes = (n : ℕ) × Appends old new (take n bytes)

@@ -1,5 +1,5 @@
 -- What `check` writes of a listing: whether the program's cards may do its scan, with nothing closed (own).
-use Rattle.std.specs.Prelude.{◌≡◌, ℕ, Bool, true, false, List, [], ◌∷◌, ◌++◌, Option, Some, Ok, Err, ◌⊎◌}
+use Rattle.std.specs.Prelude.{◌≡◌, ◌≢◌, ℕ, Bool, true, false, List, [], ◌∷◌, ◌++◌, Option, Some, Ok, Err, ◌⊎◌}
 use Rattle.std.specs.Prelude.{codes, decimal}
 use Rattle.std.specs.Io.KnownBytes.{Appends}
 use Rattle.sw_base.specs.Layout.{Layout}
@@ -17,7 +17,7 @@ use Rattle.sw_verify.specs.Judged.{Judged, IsVerified}
 use Rattle.sw_verify.specs.Denied.{IsDenied}
 use Rattle.sw_cage.specs.Accounts.{layout_of}
 use Rattle.mainframe.specs.Cards.{program_cards}
-use Rattle.mainframe.specs.Lines.{WritesPart}
+use Rattle.sw_session.specs.ServeWrite.{WritesPart}
 
 -- the program's cards, in slots 1 to 4
 abbrev pub program_layout : Layout
@@ -60,12 +60,14 @@ pub record IsAccepted (text line : List ℕ) : Type 0 where
   pub verified : IsVerified program_layout (is_among []) most_points code judged
   pub told : line ≡ accepted_line judged.bound judged.readings
 
--- The text lists a code, and the line tells the first cause for which it is refused here.
+-- The text lists a code, and the line tells the first cause for which it is refused here. Want of memory is none: it
+-- says nothing of a listing.
 pub record IsRefused (text line : List ℕ) : Type 0 where
   pub code : Program
   pub listed : code_in text ≡ Ok code
   pub cause : Refusal
   pub denied : IsDenied program_layout (is_among []) most_points code cause
+  pub named : cause ≢ refusal.NoMemory
   pub told : line ≡ refused_line cause
 
 -- The text lists no code, and the line tells its first fault.

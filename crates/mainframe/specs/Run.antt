@@ -15,7 +15,8 @@ use Rattle.sw_session.specs.Talk.{State as StateOver}
 use Rattle.mainframe.specs.declared.fault.RunFault.{RunFault}
 use Rattle.mainframe.specs.declared.fault.RunFault.TheVariants.{Input, Output, Memory}
 use Rattle.mainframe.specs.Cards.{Fitted}
-use Rattle.mainframe.specs.Lines.{lines_of, WritesPart}
+use Rattle.mainframe.specs.Lines.{lines_of}
+use Rattle.sw_session.specs.ServeWrite.{WritesPart}
 
 -- where a run stands
 abbrev pub State : Type 0

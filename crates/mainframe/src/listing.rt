@@ -118,14 +118,28 @@ fn judge_code(alloc: Global, text: &[u8], code: Code) -> Result<Judgement, RunFa
     };
     match verify(alloc, code, &layout, &[], POINTS) {
         Ok(verified) => accepted(alloc, verified.bound(), verified.readings()),
-        Err(Refusal::NoMemory) => Err(RunFault::Memory),
-        Err(refusal) => {
-            let Ok(line) = refused_line(alloc, refusal) else {
-                return Err(RunFault::Memory);
-            };
-            Ok(turned_down(line, explain(alloc, text, &layout, refusal)))
-        }
+        Err(refusal) => match refusal {
+            Refusal::NoMemory => Err(RunFault::Memory),
+            _ => refused(alloc, text, &layout, refusal),
+        },
     }
+}
+
+/// What is to be said of a code that is refused for this cause.
+fn refused(
+    alloc: Global,
+    text: &[u8],
+    layout: &Layout,
+    refusal: Refusal,
+) -> Result<Judgement, RunFault>
+    ensures line { IfOk result (λ j. string_bytes j.line ≡ refused_line refusal) }
+    ensures accepted { IfOk result (λ j. j.checked.accepted ≡ false) }
+    ensures memory { IfErr result (λ fault. fault ≡ RunFault.Memory) }
+{
+    let Ok(line) = refused_line(alloc, refusal) else {
+        return Err(RunFault::Memory);
+    };
+    Ok(turned_down(line, explain(alloc, text, layout, refusal)))
 }
 
 /// That it is not accepted, with this line and remark.

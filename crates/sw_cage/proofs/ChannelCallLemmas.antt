@@ -64,7 +64,7 @@ same_yes c d e = ap (λ (x : Channel). same_channel x c) e ∙ (let p = self_eq 
 pub same_is : (c d : Channel) → same_channel d c ≡ true → d ≡ c
 same_is c d h = same_chan c d (eq_is d.0 c.0 (and_left (d.0 == c.0) (d.1 == c.1) h)) (eq_is d.1 c.1 (and_right (d.0 == c.0) (d.1 == c.1) h))
 
-is_false : (b : Bool) → (b ≡ true → ⊥) → b ≡ false
+pub is_false : (b : Bool) → (b ≡ true → ⊥) → b ≡ false
 is_false true h = absurd (h refl)
 is_false false h = refl
 
@@ -132,16 +132,16 @@ closed_elsewhere rack c d on h n =
       | inr m ↦ ap (λ o. option_closed o d.1) m.1
     ]
 
-if_yes : (b on old : Bool) → b ≡ true → (if b then on else old) ≡ on
+pub if_yes : (b on old : Bool) → b ≡ true → (if b then on else old) ≡ on
 if_yes b on old e = rw e refl
 
-if_no : (b on old : Bool) → b ≡ false → (if b then on else old) ≡ old
+pub if_no : (b on old : Bool) → b ≡ false → (if b then on else old) ≡ old
 if_no b on old e = rw e refl
 
 pub in_yes : (c d : Channel) → d ≡ c → is_in (c ∷ []) d ≡ true
 in_yes c d e = or_left (same_channel d c) false (same_yes c d e)
 
-in_no : (c d : Channel) → d ≢ c → is_in (c ∷ []) d ≡ false
+pub in_no : (c d : Channel) → d ≢ c → is_in (c ∷ []) d ≡ false
 in_no c d n = or_false (same_channel d c) ∙ same_no c d n
 
 pub sets_one : (rack : Accounts) (c : Channel) (on : Bool) → OptionWellFormed (slot_at rack c.0) → is_present (layout_of rack) c ≡ true

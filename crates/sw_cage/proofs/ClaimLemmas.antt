@@ -1,17 +1,14 @@
 -- Lemmas on the index of claimed groups.
 use Rattle.std.proofs.Common.{◌≡◌, ◌≢◌, ℕ, ◌+◌, ◌≤◌, ◌<◌, Bool, true, false, List, [], ◌∷◌, length, Option, None, Some, slice_index_or, slice_set, ◌⊎◌, inl}
-use Rattle.std.proofs.Common.{inr, refl, sym, ◌∙◌, ap, subst, arith, zero, suc, replicate, take}
+use Rattle.std.proofs.Common.{inr, refl, sym, ◌∙◌, ap, subst, zero, suc, replicate, take, map, if◌then◌else◌}
 use Rattle.std.proofs.lemmas.List.{get_or-set_same, get_or-set_other, take_all}
-use Rattle.std.proofs.lemmas.Bool.{cases_eq, cases_lt}
-use Rattle.sw_base.specs.Limits.{most_slots}
-use Rattle.sw_base.specs.Layout.{Channel, Layout, group_of, IsClash, slot_at}
-use Rattle.sw_card.specs.Account.{Account}
-use Rattle.sw_cage.specs.Accounts.{Accounts, layout_of, is_closed, option_closed}
+use Rattle.std.proofs.lemmas.Bool.{cases_eq}
+use Rattle.std.proofs.Math.ListN.{get_or-map}
+use Rattle.sw_base.specs.Layout.{Channel, Layout, group_of, IsClash}
 use Rattle.sw_cage.specs.Change.{is_in}
 use Rattle.sw_cage.specs.Close.{closed_with, HasClash}
-use Rattle.sw_cage.specs.Claims.{Index, claim_at, IndexesClaims, ClosedBefore}
-use Rattle.sw_cage.proofs.SlotChangeLemmas.{same_chan, closed_slot}
-use Rattle.sw_cage.proofs.ChannelCallLemmas.{in_more, in_take, in_at, in_one, in_yes, or_cases, or_left, or_right}
+use Rattle.sw_cage.specs.Claims.{Index, claim_at, IndexesClaims, closed_claim}
+use Rattle.sw_cage.proofs.ChannelCallLemmas.{chan_cases, in_more, in_take, in_at, in_one, in_yes, or_cases, or_left, or_right}
 
 pub holds_same : (layout : Layout) (P Q : Channel → Type 0) (index : Index) → ((c : Channel) → P c → Q c) → ((c : Channel) → Q c → P c)
     → IndexesClaims layout P index
@@ -34,12 +31,13 @@ holds_none layout P index n e none = record {
 }
 
 more_told : (layout : Layout) (P : Channel → Type 0) (index : Index) (group : ℕ) (c : Channel) → IndexesClaims layout P index → group ≡ group_of layout c
-    → ((other : Channel) → claim_at index group ≡ Some other → other ≡ c) → group < length index → (d : Channel) → (P d) ⊎ (d ≡ c) → group_of layout d ≢ 0
+    → (group ≢ 0 → (other : Channel) → claim_at index group ≡ Some other → other ≡ c) → group < length index → (d : Channel) → (P d) ⊎ (d ≡ c)
+    → group_of layout d ≢ 0
     → claim_at (slice_set index group (Some c)) (group_of layout d) ≡ Some d
 more_told layout P index group c h g free room d (inr e) n = ap (λ (x : Channel). claim_at (slice_set index group (Some c)) (group_of layout x)) e ∙ ap
     (claim_at (slice_set index group (Some c))) (sym g) ∙ get_or-set_same index group (Some c) None room ∙ ap (λ (x : Channel). Some x) (sym e)
 more_told layout P index group c h g free room d (inl p) n = elim (cases_eq (group_of layout d) group) [
-  | inl same ↦ let e : d ≡ c = free d (ap (claim_at index) (sym same) ∙ h.told d p n) in
+  | inl same ↦ let e : d ≡ c = free (λ z. n (same ∙ z)) d (ap (claim_at index) (sym same) ∙ h.told d p n) in
       ap (claim_at (slice_set index group (Some c))) same ∙ get_or-set_same index group (Some c) None room ∙ ap (λ (x : Channel). Some x) (sym e)
   | inr other ↦ get_or-set_other index group (group_of layout d) (Some c) None other ∙ h.told d p n
 ]
@@ -63,7 +61,7 @@ holds_more layout P index new group c h g free claimed room groupless = elim (ca
     held = λ at d e. (inl (h.held at d e).0, (h.held at d e).1);
   })
   | inr n ↦ subst (IndexesClaims layout (λ d. (P d) ⊎ (d ≡ c))) (sym (claimed n)) (record {
-    told = more_told layout P index group c h g (free n) (room n);
+    told = more_told layout P index group c h g free (room n);
     held = more_held layout P index group c h g (room n);
   })
 ]
@@ -84,101 +82,86 @@ holds_apart layout P index h one other p q clash =
     let e : Some one ≡ Some other = sym a ∙ b in
     clash.other (cc)
 
--- closed channels in their order
+-- the claims of closed channels alone
 
-zero_open : (o : Option Account) → option_closed o 0 ≡ false
-zero_open None = refl
-zero_open (Some a) = refl
+kept_at : (closed : Channel → Bool) (index : Index) (group : ℕ)
+    → claim_at (map (closed_claim closed) index) group ≡ closed_claim closed (claim_at index group)
+kept_at closed index group = get_or-map (closed_claim closed) index group None
 
-zero_slot : (rack : Accounts) (slot : ℕ) → slot ≡ 0 → (ch : ℕ) → is_closed rack (slot, ch) ≡ false
-zero_slot rack slot e ch = ap (λ s. is_closed rack (s, ch)) e
+kept_some : (closed : Channel → Bool) (c : Channel) → closed c ≡ true → closed_claim closed (Some c) ≡ Some c
+kept_some closed c h = rw h refl
 
--- the set is empty before the first slot
-pub before_none : (rack : Accounts) (c : Channel) → ClosedBefore rack 1 0 c → ⊥
-before_none rack c p = elim p.1 [
-  | inl l ↦ let e : c.0 ≡ 0 = omega arith in let f : false ≡ true = sym (zero_slot rack c.0 e c.1) ∙ p.0 in cc
-  | inr r ↦ let l : c.1 < 0 = r.1 in absurd (omega arith)
+if_some : (b : Bool) (d c : Channel) → (if b then Some d else None) ≡ Some c → (b ≡ true) × (d ≡ c)
+if_some true d c h = (refl, let k : d ≡ c = cc in k)
+if_some false d c h = absurd (cc)
+
+kept_held : (closed : Channel → Bool) (o : Option Channel) (c : Channel) → closed_claim closed o ≡ Some c → (o ≡ Some c) × (closed c ≡ true)
+kept_held closed None c h = absurd (cc)
+kept_held closed (Some d) c h = let k = if_some (closed d) d c h in (ap (λ (x : Channel). Some x) k.1, ap closed (sym k.1) ∙ k.0)
+
+-- what is closed now is of the set, and in its group
+pub index_kept : (old new : Layout) (P : Channel → Type 0) (closed : Channel → Bool) (index : Index) → ((c : Channel) → closed c ≡ true → P c)
+    → ((c : Channel) → closed c ≡ true → group_of new c ≡ group_of old c) → IndexesClaims old P index
+    → IndexesClaims new (λ c. closed c ≡ true) (map (closed_claim closed) index)
+index_kept old new P closed index within same h = record {
+  told = λ c k n. kept_at closed index (group_of new c) ∙ ap (λ g. closed_claim closed (claim_at index g)) (same c k)
+      ∙ ap (closed_claim closed) (h.told c (within c k) (λ z. n (same c k ∙ z))) ∙ kept_some closed c k;
+  held = λ group c e.
+      let k = kept_held closed (claim_at index group) c (sym (kept_at closed index group) ∙ e) in
+      (k.1, same c k.1 ∙ (h.held group c k.0).1);
+}
+
+-- the same channels are closed, and in their groups
+pub index_same : (old new : Layout) (P Q : Channel → Type 0) (index : Index) → ((c : Channel) → P c → Q c) → ((c : Channel) → Q c → P c)
+    → ((c : Channel) → P c → group_of new c ≡ group_of old c) → IndexesClaims old P index → IndexesClaims new Q index
+index_same old new P Q index to back same h = record {
+  told = λ c q n. let e = same c (back c q) in ap (claim_at index) e ∙ h.told c (back c q) (λ z. n (e ∙ z));
+  held = λ group c e. let k = h.held group c e in (to c k.0, same c k.0 ∙ k.1);
+}
+
+apart_free : (layout : Layout) (closed : Channel → Bool) (index : Index) (group : ℕ) (c : Channel)
+    → IndexesClaims layout (λ d. closed d ≡ true) index → group ≡ group_of layout c
+    → ((d : Channel) → closed d ≡ true → IsClash layout c d → ⊥) → group ≢ 0 → (other : Channel)
+    → claim_at index group ≡ Some other → other ≡ c
+apart_free layout closed index group c h g apart n other e = elim (chan_cases c other) [
+  | inl s ↦ s
+  | inr d ↦ absurd (let k = h.held group other e in
+      apart other k.0 (record { other = λ f. d (sym f); grouped = λ z. n (g ∙ z); same = sym g ∙ sym k.1 }))
 ]
 
-before_step : (rack : Accounts) (slot ch : ℕ) (c : Channel) → ClosedBefore rack slot (ch + 1) c → (ClosedBefore rack slot ch c) ⊎ (c ≡ (slot, ch))
-before_step rack slot ch c p = elim p.1 [
-  | inl l ↦ inl (p.0, inl l)
-  | inr r ↦ elim (cases_eq c.1 ch) [ inl e ↦ inr (same_chan (slot, ch) c r.0 e) | inr n ↦ inl (p.0, inr (r.0, omega (arith, r.1, n))) ]
-]
+-- a channel that clashes with none is closed too
+pub index_held : (layout : Layout) (closed : Channel → Bool) (index : Index) (group : ℕ) (c : Channel)
+    → IndexesClaims layout (λ d. closed d ≡ true) index → group ≡ group_of layout c → group < length index
+    → ((d : Channel) → closed d ≡ true → IsClash layout c d → ⊥)
+    → IndexesClaims layout (λ d. (closed d ≡ true) ⊎ (d ≡ c)) (slice_set index group (Some c))
+index_held layout closed index group c h g room apart = record {
+  told = more_told layout (λ d. closed d ≡ true) index group c h g (apart_free layout closed index group c h g apart) room;
+  held = more_held layout (λ d. closed d ≡ true) index group c h g room;
+}
 
-before_back : (rack : Accounts) (slot ch : ℕ) (c : Channel) → is_closed rack (slot, ch) ≡ true → (ClosedBefore rack slot ch c) ⊎ (c ≡ (slot, ch))
-    → ClosedBefore rack slot (ch + 1) c
-before_back rack slot ch c closed (inl p) = (p.0, elim p.1 [ inl l ↦ inl l | inr r ↦ inr (r.0, omega (arith, r.1)) ])
-before_back rack slot ch c closed (inr e) = (
-  ap (is_closed rack) e ∙ closed,
-  inr (
-    ap (λ (x : Channel). x.0) e,
-    let f : c.1 ≡ ch = ap (λ (x : Channel). x.1) e in omega arith,
-  ),
-)
-
--- a closed channel claimed its group
-pub before_closed : (rack : Accounts) (index new : Index) (slot ch group : ℕ) → IndexesClaims (layout_of rack) (ClosedBefore rack slot ch) index
-    → is_closed rack (slot, ch) ≡ true → group ≡ group_of (layout_of rack) (slot, ch)
-    → (group ≢ 0 → (other : Channel) → claim_at index group ≡ Some other → other ≡ (slot, ch)) → (group ≢ 0 → new ≡ slice_set index group (Some (slot, ch)))
-    → (group ≢ 0 → group < length index) → (group ≡ 0 → new ≡ index) → IndexesClaims (layout_of rack) (ClosedBefore rack slot (ch + 1)) new
-before_closed rack index new slot ch group h closed g free claimed room groupless =
-    holds_same (layout_of rack) (λ d. (ClosedBefore rack slot ch d) ⊎ (d ≡ (slot, ch))) (ClosedBefore rack slot (ch + 1)) new
-    (λ c p. before_back rack slot ch c closed p) (before_step rack slot ch)
-    (holds_more (layout_of rack) (ClosedBefore rack slot ch) index new group (slot, ch) h g free claimed room groupless)
-
-pub before_claimed : (rack : Accounts) (index new : Index) (slot ch group : ℕ) (c : Channel) → c ≡ (slot, ch)
-    → IndexesClaims (layout_of rack) (ClosedBefore rack slot ch) index → is_closed rack (slot, ch) ≡ true → group ≡ group_of (layout_of rack) (slot, ch)
-    → (group ≢ 0 → (other : Channel) → claim_at index group ≡ Some other → other ≡ c) → (group ≢ 0 → new ≡ slice_set index group (Some c))
-    → (group ≢ 0 → group < length index) → (group ≡ 0 → new ≡ index) → IndexesClaims (layout_of rack) (ClosedBefore rack slot (ch + 1)) new
-before_claimed rack index new slot ch group c e h closed g free claimed room groupless =
-    before_closed rack index new slot ch group h closed g (λ n other k. free n other k ∙ e)
-    (λ n. claimed n ∙ ap (λ (x : Channel). slice_set index group (Some x)) e) room groupless
-
--- an open channel changes nothing
-pub before_open : (rack : Accounts) (index : Index) (slot ch : ℕ) → IndexesClaims (layout_of rack) (ClosedBefore rack slot ch) index
-    → is_closed rack (slot, ch) ≡ false
-    → IndexesClaims (layout_of rack) (ClosedBefore rack slot (ch + 1)) index
-before_open rack index slot ch h «open» = holds_same (layout_of rack) (ClosedBefore rack slot ch) (ClosedBefore rack slot (ch + 1)) index
-    (λ c p. (p.0, elim p.1 [ inl l ↦ inl l | inr r ↦ inr (r.0, omega (arith, r.1)) ]))
-    (λ c p. elim (before_step rack slot ch c p) [ inl q ↦ q | inr e ↦ absurd (let k : true ≡ false = sym p.0 ∙ ap (is_closed rack) e ∙ «open» in cc) ])
-    h
-
-pub before_first : (rack : Accounts) (index : Index) (slot : ℕ) → IndexesClaims (layout_of rack) (ClosedBefore rack slot 0) index
-    → IndexesClaims (layout_of rack) (ClosedBefore rack slot 1) index
-before_first rack index slot h = before_open rack index slot 0 h (zero_open (slot_at rack slot))
-
--- nothing more is closed in the slot
-pub before_next : (rack : Accounts) (index : Index) (slot ch : ℕ) → IndexesClaims (layout_of rack) (ClosedBefore rack slot ch) index
-    → ((k : ℕ) → ch ≤ k → is_closed rack (slot, k) ≡ false) → IndexesClaims (layout_of rack) (ClosedBefore rack (slot + 1) 0) index
-before_next rack index slot ch h past = holds_same (layout_of rack) (ClosedBefore rack slot ch) (ClosedBefore rack (slot + 1) 0) index
-    (λ c p. (p.0, inl (elim p.1 [ inl l ↦ omega (arith, l) | inr r ↦ omega (arith, r.0) ])))
-    (λ c p. (
-      p.0,
-      elim p.1 [
-        | inl l ↦ elim (cases_eq c.0 slot) [
-          | inl e ↦ inr (
-            e,
-            elim (cases_lt c.1 ch) [
-              | inl k ↦ k
-              | inr k ↦ absurd
-                  (let f : true ≡ false = sym p.0 ∙ ap (λ s. is_closed rack (s, c.1)) e ∙ past c.1 k in cc)
-            ],
-          )
-          | inr n ↦ inl (omega (arith, l, n))
-        ]
-        | inr r ↦ absurd (let l : c.1 < 0 = r.1 in omega arith)
-      ],
-    ))
-    h
+-- a closed channel is opened
+pub index_released : (layout : Layout) (closed now : Channel → Bool) (index : Index) (group : ℕ) (c : Channel)
+    → IndexesClaims layout (λ d. closed d ≡ true) index → group ≡ group_of layout c → group < length index → closed c ≡ true
+    → ((d : Channel) → now d ≡ true → (closed d ≡ true) × (d ≢ c)) → ((d : Channel) → closed d ≡ true → d ≢ c → now d ≡ true)
+    → IndexesClaims layout (λ d. now d ≡ true) (slice_set index group None)
+index_released layout closed now index group c h g room k was back = record {
+  told = λ d l n. elim (cases_eq (group_of layout d) group) [
+    | inl same ↦ absurd (
+        let one : claim_at index group ≡ Some c = ap (claim_at index) g ∙ h.told c k (λ z. n (same ∙ g ∙ z)) in
+        let other : claim_at index group ≡ Some d = ap (claim_at index) (sym same) ∙ h.told d (was d l).0 n in
+        let e : Some d ≡ Some c = sym other ∙ one in
+        (was d l).1 (cc))
+    | inr other ↦ get_or-set_other index group (group_of layout d) None None other ∙ h.told d (was d l).0 n
+  ];
+  held = λ at d e. elim (cases_eq at group) [
+    | inl same ↦ absurd (let f : None ≡ Some d = sym (get_or-set_same index group None None room) ∙ ap (claim_at (slice_set index group None)) (sym same) ∙ e
+        in cc)
+    | inr other ↦ let l = h.held at d (sym (get_or-set_other index group at None None other) ∙ e) in
+        (back d l.0 (λ f. other (sym l.1 ∙ ap (group_of layout) f ∙ sym g)), l.1)
+  ];
+}
 
 -- closed channels and listed ones
-
--- past the last slot nothing is closed
-pub closed_all : (rack : Accounts) (index : Index) → length rack ≡ most_slots → IndexesClaims (layout_of rack) (ClosedBefore rack (most_slots + 1) 0) index
-    → IndexesClaims (layout_of rack) (λ c. is_closed rack c ≡ true) index
-closed_all rack index size h = holds_same (layout_of rack) (ClosedBefore rack (most_slots + 1) 0) (λ c. is_closed rack c ≡ true) index (λ c p. p.0)
-    (λ c p. (p, inl (let b : (0 < c.0) × (c.0 ≤ length rack) = closed_slot rack c p in omega (arith, size, b.1)))) h
 
 with_step : (closed : Channel → Bool) (chans : List Channel) (i : ℕ) (c d : Channel) → i < length chans → c ≡ slice_index_or chans i d → (x : Channel)
     → closed_with closed (take (i + 1) chans) x ≡ true → (closed_with closed (take i chans) x ≡ true) ⊎ (x ≡ c)
@@ -229,23 +212,3 @@ with_apart layout closed chans i index h kept clash =
     let holds : IndexesClaims layout (λ x. closed_with closed chans x ≡ true) index =
     subst (λ (l : List Channel). IndexesClaims layout (λ x. closed_with closed l x ≡ true) index) e kept in
     holds_apart layout (λ x. closed_with closed chans x ≡ true) index holds clash.one clash.other clash.one_closed clash.other_closed clash.clash
-
--- closed channels that clash
-pub before_clash : (rack : Accounts) (index : Index) (slot ch group : ℕ) → IndexesClaims (layout_of rack) (ClosedBefore rack slot ch) index
-    → is_closed rack (slot, ch) ≡ true → group ≡ group_of (layout_of rack) (slot, ch) → group ≢ 0 → (c : Channel) → c ≡ (slot, ch)
-    → (other : Channel) × ((claim_at index group ≡ Some other) × (other ≢ c)) → HasClash (layout_of rack) (is_closed rack)
-before_clash rack index slot ch group h closed g n c e found =
-    let k : (ClosedBefore rack slot ch found.0) × IsClash (layout_of rack) found.0 (slot, ch) =
-    claim_clash (layout_of rack) (ClosedBefore rack slot ch) index group (slot, ch) h g n found.0 found.1.0 (λ k. found.1.1 (k ∙ sym e)) in
-    record { one = found.0; other = (slot, ch); one_closed = k.0.0; other_closed = closed; clash = k.1 }
-
--- a clash among the closed channels stays one with more
-pub more_clash : (layout : Layout) (closed : Channel → Bool) (chans : List Channel) → HasClash layout closed → HasClash layout (closed_with closed chans)
-more_clash layout closed chans k = record {
-  one = k.one;
-  other = k.other;
-  one_closed = or_right (is_in chans k.one) (closed k.one) k.one_closed;
-  other_closed =
-      or_right (is_in chans k.other) (closed k.other) k.other_closed;
-  clash = k.clash;
-}

@@ -1,18 +1,18 @@
 -- Lemmas on the list of closed channels, by slot and channel.
-use Rattle.std.proofs.Common.{◌≡◌, ℕ, ◌+◌, ◌≤◌, ◌<◌, Bool, true, false, List, [], ◌∷◌, ◌++◌, length, Option, None, Some, inl, inr, refl, sym, ◌∙◌, ap, subst}
-use Rattle.std.proofs.Common.{arith, zero, suc, add-one, append_assoc}
+use Rattle.std.proofs.Common.{◌≡◌, ◌≢◌, ℕ, ◌+◌, ◌-◌, ◌≤◌, ◌<◌, Bool, true, false, List, [], ◌∷◌, ◌++◌, length, Option, None, Some, inl, inr, refl}
+use Rattle.std.proofs.Common.{sym, ◌∙◌, ap, subst, arith, zero, suc, add-one, append_assoc}
 use Rattle.std.specs.List.{filter}
 use Rattle.std.proofs.lemmas.List.{append-nil}
 use Rattle.std.proofs.lemmas.List.Elements.{filter-append}
 use Rattle.std.proofs.lemmas.Grind.{common_steps}
 use Rattle.std.proofs.lemmas.Bool.{cases_lt}
 use Rattle.sw_base.specs.Limits.{most_channels}
-use Rattle.sw_base.specs.Layout.{Channel, slot_at, bay_has, bay_group, group_at, group_of}
+use Rattle.sw_base.specs.Layout.{Channel, slot_at, bay_has}
 use Rattle.sw_card.specs.Account.{Account, is_meter}
-use Rattle.sw_card.proofs.Rows.{closed_past}
-use Rattle.sw_cage.specs.Accounts.{Accounts, card_contents, slot_contents, layout_of, option_closed, is_closed, OptionWellFormed, AreSafe}
+use Rattle.sw_card.specs.Mask.{in_mask}
+use Rattle.sw_cage.specs.Accounts.{Accounts, card_contents, slot_contents, is_closed, OptionWellFormed, AreSafe}
 use Rattle.sw_cage.specs.Channels.{row, rows}
-use Rattle.sw_cage.proofs.SlotChangeLemmas.{present_at, group_in_slot}
+use Rattle.sw_cage.proofs.SlotChangeLemmas.{present_at}
 
 -- closed channels
 
@@ -27,24 +27,6 @@ row_bounds (Some a) ch r h = let b : (0 < ch) × ((is_meter a ≡ false) × (ch 
 -- a closed channel's number
 pub closed_number : (rack : Accounts) (c : Channel) → AreSafe rack → is_closed rack c ≡ true → (1 ≤ c.1) × (c.1 ≤ most_channels)
 closed_number rack c safe h = row_bounds (slot_at rack c.0) c.1 (safe.rows c.0) (sym (present_at rack c) ∙ safe.exclusive.present c h)
-
-present_group : (a : Account) (ch : ℕ) → bay_has (Some (card_contents a)) ch ≡ true → bay_group (Some (card_contents a)) ch ≡ group_at a.groups ch
-present_group a ch h = grind (arith, common_steps)
-
--- the group that the card tells of a closed channel
-pub closed_group : (rack : Accounts) (c : Channel) (a : Account) → AreSafe rack → slot_at rack c.0 ≡ Some a → is_closed rack c ≡ true
-    → group_of (layout_of rack) c ≡ group_at a.groups c.1
-closed_group rack c a safe at h =
-    let has : bay_has (Some (card_contents a)) c.1 ≡ true = ap (λ o. bay_has (slot_contents o) c.1) (sym at) ∙ sym (present_at rack c) ∙ safe.exclusive.present
-    c h in
-    group_in_slot rack c ∙ ap (λ o. bay_group (slot_contents o) c.1) at ∙ present_group a c.1 has
-
--- in a slot nothing is closed past the last channel
-pub closed_beyond : (rack : Accounts) (slot : ℕ) (a : Account) (k : ℕ) → slot_at rack slot ≡ Some a → length a.closed < k → is_closed rack (slot, k) ≡ false
-closed_beyond rack slot a k at h = ap (λ o. option_closed o k) at ∙ closed_past a.closed k h
-
-pub closed_nowhere : (rack : Accounts) (slot k : ℕ) → slot_at rack slot ≡ None → is_closed rack (slot, k) ≡ false
-closed_nowhere rack slot k at = ap (λ o. option_closed o k) at
 
 -- rows
 
@@ -71,37 +53,15 @@ pub row_open : (closed : Channel → Bool) (slot ch : ℕ) → closed (slot, ch 
 row_open closed slot ch h = ap (filter closed) (row_more slot ch) ∙ filter-append closed (row slot ch) ((slot, ch + 1) ∷ []) ∙ ap
     (λ l. filter closed (row slot ch) ++ l) (filter_none closed (slot, ch + 1) h) ∙ append-nil (filter closed (row slot ch))
 
-pub row_past : (closed : Channel → Bool) (slot m n : ℕ) → m ≤ n → ((k : ℕ) → m < k → closed (slot, k) ≡ false)
+-- between the two nothing is closed
+row_past : (closed : Channel → Bool) (slot m n : ℕ) → m ≤ n → ((k : ℕ) → m < k → k ≤ n → closed (slot, k) ≡ false)
     → filter closed (row slot n) ≡ filter closed (row slot m)
 row_past closed slot m zero h past = let e : m ≡ 0 = omega arith in ap (λ j. filter closed (row slot j)) (sym e)
 row_past closed slot m (suc n) h past = elim (cases_lt n m) [
   | inl l ↦ let e : m ≡ suc n = omega arith in ap (λ j. filter closed (row slot j)) (sym e)
-  | inr g ↦ subst (λ j. filter closed (row slot j) ≡ filter closed (row slot n)) (add-one n) (row_open closed slot n (past (n + 1) (omega arith))) ∙ row_past
-      closed slot m n g past
+  | inr g ↦ subst (λ j. filter closed (row slot j) ≡ filter closed (row slot n)) (add-one n) (row_open closed slot n (past (n + 1) (omega arith) (omega arith)))
+      ∙ row_past closed slot m n g (λ k a b. past k a (omega (arith, b)))
 ]
-
--- the channels up to the card's last are all that may be closed
-pub row_whole : (closed : Channel → Bool) (slot n : ℕ) → ((k : ℕ) → n < k → closed (slot, k) ≡ false) → ((k : ℕ) → most_channels < k → closed (slot, k) ≡ false)
-    → filter closed (row slot n) ≡ filter closed (row slot most_channels)
-row_whole closed slot n past far = elim (cases_lt n most_channels) [
-  | inl l ↦ sym (row_past closed slot n most_channels (omega arith) past)
-  | inr g ↦ row_past closed slot most_channels n g far
-]
-
-is_false : (b : Bool) → (b ≡ true → ⊥) → b ≡ false
-is_false true h = absurd (h refl)
-is_false false h = refl
-
-pub closed_far : (rack : Accounts) (slot k : ℕ) → AreSafe rack → most_channels < k → is_closed rack (slot, k) ≡ false
-closed_far rack slot k safe h = is_false (is_closed rack (slot, k))
-    (λ e. let b : (1 ≤ k) × (k ≤ most_channels) = closed_number rack (slot, k) safe e in absurd (omega (arith, b.1)))
-
-row_nowhere : (closed : Channel → Bool) (slot n : ℕ) → ((k : ℕ) → closed (slot, k) ≡ false) → filter closed (row slot n) ≡ []
-unfolding row
-row_nowhere closed slot n none = row_past closed slot 0 n (omega arith) (λ k h. none k)
-
-pub row_empty : (rack : Accounts) (slot n : ℕ) → slot_at rack slot ≡ None → filter (is_closed rack) (row slot n) ≡ []
-row_empty rack slot n at = row_nowhere (is_closed rack) slot n (λ k. closed_nowhere rack slot k at)
 
 pub row_start : (closed : Channel → Bool) (slot : ℕ) → filter closed (row slot 0) ≡ []
 unfolding row
@@ -111,19 +71,87 @@ pub rows_start : (closed : Channel → Bool) → filter closed (rows 0) ≡ []
 unfolding rows
 rows_start closed = refl
 
--- one more closed channel is appended
-pub push_row : (first now new : List Channel) (closed : Channel → Bool) (slot ch : ℕ) (c : Channel) → now ≡ first ++ filter closed (row slot ch)
-    → new ≡ now ++ c ∷ [] → c ≡ (slot, ch + 1) → closed (slot, ch + 1) ≡ true → new ≡ first ++ filter closed (row slot (ch + 1))
-push_row first now new closed slot ch c kept e is h =
-    e ∙ ap (λ l. l ++ c ∷ []) kept ∙ append_assoc first (filter closed (row slot ch)) (c ∷ [])
-    ∙ ap (λ (x : Channel). first ++ (filter closed (row slot ch) ++ x ∷ [])) is ∙ ap (λ l. first ++ l) (sym (row_closed closed slot ch h))
+-- The closed channels of a slot up to one of them are in the list, and those past it are left in the mask.
+pub record Walked (closed : Channel → Bool) (slot left count : ℕ) (first now : List Channel) : Type 0 where
+  pub past : ℕ
+  pub far : count ≤ past
+  pub few : past ≤ most_channels
+  pub later : (k : ℕ) → in_mask left k ≡ true → past < k
+  pub within : (k : ℕ) → in_mask left k ≡ true → k ≤ most_channels
+  pub kept : (k : ℕ) → past < k → k ≤ most_channels → in_mask left k ≡ closed (slot, k)
+  pub told : now ≡ first ++ filter closed (row slot past)
 
-pub skip_row : (first now : List Channel) (closed : Channel → Bool) (slot ch : ℕ) → now ≡ first ++ filter closed (row slot ch) → closed (slot, ch + 1) ≡ false
-    → now ≡ first ++ filter closed (row slot (ch + 1))
-skip_row first now closed slot ch kept h = kept ∙ ap (λ l. first ++ l) (sym (row_open closed slot ch h))
+not_zero : (mask k : ℕ) → in_mask mask k ≡ true → 0 < k
+not_zero mask zero h = absurd (cc)
+not_zero mask (suc k) h = omega arith
 
-pub add_nothing : (first more : List Channel) → more ≡ [] → first ≡ first ++ more
-add_nothing first more e = sym (ap (λ l. first ++ l) e ∙ append-nil first)
+pub walk_first : (closed : Channel → Bool) (slot mask : ℕ) (first now : List Channel) → ((k : ℕ) → k ≤ most_channels → in_mask mask k ≡ closed (slot, k))
+    → ((k : ℕ) → in_mask mask k ≡ true → k ≤ most_channels) → now ≡ first → Walked closed slot mask 0 first now
+walk_first closed slot mask first now same within e = record {
+  past = 0;
+  far = omega arith;
+  few = omega arith;
+  later = not_zero mask;
+  within = within;
+  kept = λ k a b. same k b;
+  told = e ∙ sym (ap (λ l. first ++ l) (row_start closed slot) ∙ append-nil first);
+}
+
+-- the lowest one that is left is a channel
+pub walk_number : (closed : Channel → Bool) (slot left count : ℕ) (first now : List Channel) (ch : ℕ) → Walked closed slot left count first now
+    → in_mask left ch ≡ true → (1 ≤ ch) × (ch ≤ most_channels)
+walk_number closed slot left count first now ch w here = (omega (arith, not_zero left ch here), w.within ch here)
+
+-- and closed
+pub walk_closed : (closed : Channel → Bool) (slot left count : ℕ) (first now : List Channel) (ch : ℕ) → Walked closed slot left count first now
+    → in_mask left ch ≡ true → closed (slot, ch) ≡ true
+walk_closed closed slot left count first now ch w here = sym (w.kept ch (w.later ch here) (w.within ch here)) ∙ here
+
+-- between it and the one before nothing is closed
+pub walk_before : (closed : Channel → Bool) (slot left count : ℕ) (first now : List Channel) (ch : ℕ) → Walked closed slot left count first now
+    → in_mask left ch ≡ true → ((k : ℕ) → k < ch → in_mask left k ≡ false) → now ≡ first ++ filter closed (row slot (ch - 1))
+walk_before closed slot left count first now ch w here lowest =
+    let l : w.past < ch = w.later ch here in
+    let n : ch ≤ most_channels = w.within ch here in
+    w.told ∙ ap (λ r. first ++ r) (sym (row_past closed slot w.past (ch - 1) (omega (arith, l))
+    (λ k a b. sym (w.kept k a (omega (arith, b, n))) ∙ lowest k (omega (arith, l, b)))))
+
+pub walk_next : (closed : Channel → Bool) (slot left next count : ℕ) (first now new : List Channel) (ch : ℕ) (c : Channel)
+    → Walked closed slot left count first now → in_mask left ch ≡ true → ((k : ℕ) → k < ch → in_mask left k ≡ false)
+    → in_mask next ch ≡ false → ((k : ℕ) → k ≢ ch → in_mask next k ≡ in_mask left k) → c ≡ (slot, ch) → new ≡ now ++ c ∷ []
+    → Walked closed slot next (count + 1) first new
+walk_next closed slot left next count first now new ch c w here lowest gone others is e =
+    let l : w.past < ch = w.later ch here in
+    let s : ch - 1 + 1 ≡ ch = omega (arith, l) in
+    let other : (k : ℕ) → in_mask next k ≡ true → k ≢ ch = λ k h f. (let z : true ≡ false = sym h ∙ ap (in_mask next) f ∙ gone in cc) in
+    let was : (k : ℕ) → in_mask next k ≡ true → in_mask left k ≡ true = λ k h. sym (others k (other k h)) ∙ h in
+    record {
+      past = ch;
+      far = omega (arith, w.far, l);
+      few = w.within ch here;
+      later = λ k h. elim (cases_lt k ch) [
+        | inl m ↦ absurd (let z : true ≡ false = sym (was k h) ∙ lowest k m in cc)
+        | inr m ↦ (let n : k ≢ ch = other k h in omega (arith, m, n))
+      ];
+      within = λ k h. w.within k (was k h);
+      kept = λ k a b. others k (λ f. omega (arith, a, f)) ∙ w.kept k (omega (arith, a, l)) b;
+      told = e ∙ ap (λ (x : Channel). now ++ x ∷ []) is ∙ ap (λ r. r ++ (slot, ch) ∷ []) (walk_before closed slot left count first now ch w here lowest)
+          ∙ append_assoc first (filter closed (row slot (ch - 1))) ((slot, ch) ∷ [])
+          ∙ ap (λ r. first ++ r) (sym (subst (λ j. filter closed (row slot j) ≡ filter closed (row slot (ch - 1)) ++ (slot, j) ∷ []) s
+          (row_closed closed slot (ch - 1) (ap (λ j. closed (slot, j)) s ∙ walk_closed closed slot left count first now ch w here))));
+    }
+
+-- nothing is left
+pub walk_end : (closed : Channel → Bool) (slot left count : ℕ) (first now : List Channel) → Walked closed slot left count first now
+    → ((k : ℕ) → in_mask left k ≡ false) → now ≡ first ++ filter closed (row slot most_channels)
+walk_end closed slot left count first now w none =
+    w.told ∙ ap (λ r. first ++ r) (sym (row_past closed slot w.past most_channels w.few (λ k a b. sym (w.kept k a b) ∙ none k)))
+
+pub walk_full : (closed : Channel → Bool) (slot left count : ℕ) (first now : List Channel) → Walked closed slot left count first now
+    → most_channels ≤ count → now ≡ first ++ filter closed (row slot most_channels)
+walk_full closed slot left count first now w full =
+    let e : w.past ≡ most_channels = omega (arith, w.far, w.few, full) in
+    w.told ∙ ap (λ j. first ++ filter closed (row slot j)) e
 
 pub push_rows : (now new : List Channel) (closed : Channel → Bool) (slot : ℕ) → now ≡ filter closed (rows slot)
     → new ≡ now ++ filter closed (row (slot + 1) most_channels)
@@ -131,9 +159,3 @@ pub push_rows : (now new : List Channel) (closed : Channel → Bool) (slot : ℕ
 push_rows now new closed slot kept e = e ∙ ap (λ l. l ++ filter closed (row (slot + 1) most_channels)) kept ∙ sym
     (filter-append closed (rows slot) (row (slot + 1) most_channels)) ∙
     ap (filter closed) (sym (rows_more slot))
-
--- the card's channels are all that may be closed in its slot
-pub card_row : (rack : Accounts) (slot n : ℕ) (a : Account) → AreSafe rack → slot_at rack slot ≡ Some a → length a.closed ≤ n
-    → filter (is_closed rack) (row slot n) ≡ filter (is_closed rack) (row slot most_channels)
-card_row rack slot n a safe at h = row_whole (is_closed rack) slot n (λ k l. closed_beyond rack slot a k at (omega (arith, h, l)))
-    (λ k l. closed_far rack slot k safe l)

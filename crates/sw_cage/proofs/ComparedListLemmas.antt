@@ -1,6 +1,6 @@
 -- Lemmas on a list that is compared with the closed channels, by slot and channel.
-use Rattle.std.proofs.Common.{◌≡◌, ℕ, ◌+◌, ◌≤◌, ◌<◌, Bool, true, false, List, [], ◌∷◌, ◌++◌, length, take, not, ◌&&◌, eqb, slice_index_or, inl, inr, refl, sym}
-use Rattle.std.proofs.Common.{◌∙◌, ap, subst, arith, zero, suc, add-one, append_assoc}
+use Rattle.std.proofs.Common.{◌≡◌, ℕ, ◌+◌, ◌-◌, ◌≤◌, ◌<◌, Bool, true, false, List, [], ◌∷◌, ◌++◌, length, take, not, ◌&&◌, eqb, slice_index_or, inl, inr}
+use Rattle.std.proofs.Common.{refl, sym, ◌∙◌, ap, subst, arith, zero, suc, add-one, append_assoc}
 use Rattle.std.specs.List.{filter}
 use Rattle.std.proofs.lemmas.List.{append-nil, length-append, length-take-le}
 use Rattle.std.proofs.lemmas.List.Elements.{filter-append}
@@ -8,9 +8,10 @@ use Rattle.std.proofs.lemmas.Bool.{cases_lt}
 use Rattle.std.proofs.Math.Seq.{get_or-append_seam}
 use Rattle.sw_base.specs.Limits.{most_slots, most_channels}
 use Rattle.sw_base.specs.Layout.{Channel}
+use Rattle.sw_card.specs.Mask.{in_mask}
 use Rattle.sw_trigger.proofs.Same.{channel_decides}
 use Rattle.sw_cage.specs.Channels.{row, rows}
-use Rattle.sw_cage.proofs.ClosedListLemmas.{row_more, rows_more}
+use Rattle.sw_cage.proofs.ClosedListLemmas.{row_more, rows_more, Walked, walk_number, walk_before, walk_closed}
 
 -- a list that grows begins with what it was
 grown : (f g : ℕ → List Channel) → ((n : ℕ) → f (n + 1) ≡ f n ++ g n) → (m n : ℕ) → m ≤ n → (X : List Channel) × (f n ≡ f m ++ X)
@@ -42,7 +43,7 @@ filter_first : (closed : Channel → Bool) (c : Channel) (l : List Channel) → 
 filter_first closed c l h = rw h refl
 
 -- the list of the closed channels has this one where those before it end
-pub next_is : (closed : Channel → Bool) (slot ch past : ℕ) (chans : List Channel) (d : Channel) → slot < most_slots → ch < most_channels → past ≤ length chans
+next_is : (closed : Channel → Bool) (slot ch past : ℕ) (chans : List Channel) (d : Channel) → slot < most_slots → ch < most_channels → past ≤ length chans
     → take past chans ≡ filter closed (rows slot) ++ filter closed (row (slot + 1) ch) → closed (slot + 1, ch + 1) ≡ true
     → chans ≡ filter closed (rows most_slots)
     → (past < length chans) × (slice_index_or chans past d ≡ (slot + 1, ch + 1))
@@ -59,6 +60,19 @@ next_is closed slot ch past chans d h k within kept on is =
       ap (λ l. slice_index_or l past d) e ∙ ap (λ (j : ℕ). slice_index_or (take past chans ++ (slot + 1, ch + 1) ∷ filter closed w.0) j d)
           (sym n) ∙ get_or-append_seam (take past chans) (slot + 1, ch + 1) (filter closed w.0) d,
     )
+
+-- the lowest one that is left is next in the list
+pub next_walked : (closed : Channel → Bool) (slot left count past : ℕ) (chans : List Channel) (ch : ℕ) (d : Channel) → slot < most_slots → past ≤ length chans
+    → Walked closed (slot + 1) left count (filter closed (rows slot)) (take past chans) → in_mask left ch ≡ true
+    → ((k : ℕ) → k < ch → in_mask left k ≡ false) → chans ≡ filter closed (rows most_slots)
+    → (past < length chans) × (slice_index_or chans past d ≡ (slot + 1, ch))
+next_walked closed slot left count past chans ch d h within w here lowest is =
+    let n = walk_number closed (slot + 1) left count (filter closed (rows slot)) (take past chans) ch w here in
+    let s : ch - 1 + 1 ≡ ch = omega (arith, n.0) in
+    subst (λ (j : ℕ). (past < length chans) × (slice_index_or chans past d ≡ (slot + 1, j))) s
+    (next_is closed slot (ch - 1) past chans d h (omega (arith, n.0, n.1)) within
+    (walk_before closed (slot + 1) left count (filter closed (rows slot)) (take past chans) ch w here lowest)
+    (ap (λ (j : ℕ). closed (slot + 1, j)) s ∙ walk_closed closed (slot + 1) left count (filter closed (rows slot)) (take past chans) ch w here) is)
 
 -- what `a != b` tells of channels
 pub unequal : (r : Bool) (a b : Channel) → r ≡ not (eqb a.0 b.0 && eqb a.1 b.1) → r ≡ true → a ≡ b → ⊥

@@ -5,6 +5,8 @@ mod ComparedListLemmas
 pub mod ClaimLemmas
 pub mod ExclusionLemmas
 mod OneSlotLemmas
+mod ClaimedLemmas
+pub mod MaskLemmas
 pub mod StepLemmas
 pub mod VisitLemmas
 pub mod WayLemmas

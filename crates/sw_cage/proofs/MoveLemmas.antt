@@ -67,7 +67,7 @@ may_close_there old mid o k may m =
     subst (λ (l : Layout). MayCloseNext l (is_closed mid) k) (sym (moved_layout old mid (opens_of o) m))
     (subst (λ (b : Channels). MayCloseNext (layout_of old) b k) (sym (fun_ext m.closed)) may.closes)
 
-not_meter : (b : Option Bay) (ch : ℕ) → bay_has b ch ≡ true → bay_is_meter b ≡ false
+pub not_meter : (b : Option Bay) (ch : ℕ) → bay_has b ch ≡ true → bay_is_meter b ≡ false
 not_meter None ch h = refl
 not_meter (Some meter) ch h = absurd (cc)
 not_meter (Some (relays groups)) ch h = refl

@@ -1,7 +1,6 @@
 -- Lemmas on a call on one slot's card, from the cards to their accounts.
 use Rattle.std.proofs.Common.{◌≡◌, ℕ, ◌+◌, ◌-◌, ◌≤◌, ◌<◌, Bool, true, false, List, [], ◌∷◌, ◌++◌, length, take, drop, Option, None, Some, slice_index_or}
 use Rattle.std.proofs.Common.{slice_set, inl, inr, refl, sym, ◌∙◌, ap, subst, arith, map, replicate, is_some, Result, Ok, Err, OnOk, OnErr, zero, suc, ◌&&◌}
-use Rattle.std.proofs.Common.{nat_lt}
 use Rattle.std.proofs.lemmas.List.{get_or_default, length-map, map-set}
 use Rattle.std.proofs.lemmas.List.Edits.{map_over_more}
 use Rattle.std.proofs.Math.ListN.{get_or-map}
@@ -9,17 +8,18 @@ use Rattle.std.proofs.Math.Seq.{take-append_seam}
 use Rattle.std.proofs.lemmas.Grind.{common_steps}
 use Rattle.sw_base.specs.Limits.{most_slots, most_channels}
 use Rattle.sw_base.specs.Layout.{Channel, Layout, slot_at, is_present, IsClash}
-use Rattle.sw_card.specs.Account.{Account, MeterAccount, of_meter, is_meter, closed_at, at_rest}
+use Rattle.sw_card.specs.Account.{Account, MeterAccount, of_meter, closed_at, at_rest}
+use Rattle.sw_card.specs.Mask.{in_mask}
 use Rattle.sw_card.proofs.Rows.{none_is_closed}
 use Rattle.sw_cage.specs.Accounts.{Accounts, option_account, accounts_of, layout_of, option_closed, is_closed, OptionWellFormed, AreSafe, option_set, with_chan}
 use Rattle.sw_cage.specs.Accounts.{option_rest}
 use Rattle.sw_cage.specs.Accounts.{all_open, IsSlotFault, IsChannelFault}
+use Rattle.sw_cage.specs.Masks.{IsSlotMask}
 use Rattle.sw_cage.specs.Change.{is_in, Sets, IsDisturbed}
 use Rattle.sw_cage.specs.Close.{all_present, CanClose}
 use Rattle.std.specs.List.{list_all}
 use Rattle.sw_cage.proofs.SlotChangeLemmas.{slot_map, slot_set_same, present_slot, present_at, some_slot, IsSlotGrown, closed_grows, opened_grows, safe_grown}
 use Rattle.sw_cage.proofs.SlotChangeLemmas.{safe_opened}
-use Rattle.sw_cage.proofs.SlotChangeLemmas.{safe_quiet}
 use Rattle.sw_cage.proofs.ChannelCallLemmas.{sets_one, disturbed_one, option_set_rest, and_left, and_right, or_left, or_right, in_at, in_take, sets_layout}
 use Rattle.sw_cage.proofs.ChannelCallLemmas.{sets_closed}
 
@@ -41,17 +41,11 @@ pub written : {C : Type 0} (items : List (Option (C × Account))) (value : Accou
     → accounts_of (slice_set items i v) ≡ slice_set value i (option_account v)
 written items value i v same = map-set option_account items i v ∙ ap (λ (r : Accounts). slice_set r i (option_account v)) same
 
-pub read_some : {C : Type 0} (items : List (Option (C × Account))) (value : Accounts) (s : ℕ) (x : Option (C × Account)) (card : C × Account)
-    → accounts_of items ≡ value → length (accounts_of items) ≡ most_slots → 0 < s → s ≤ most_slots → x ≡ slice_index_or items (s - 1) x → x ≡ Some card
-    → slot_at value s ≡ Some card.1
-read_some items value s x card same size p h e is = read items value s x same size p h e ∙ ap option_account is
-
-pub read_none : {C : Type 0} (items : List (Option (C × Account))) (value : Accounts) (s : ℕ) (x : Option (C × Account)) → accounts_of items ≡ value
-    → length (accounts_of items) ≡ most_slots → 0 < s → s ≤ most_slots → x ≡ slice_index_or items (s - 1) x → x ≡ None → slot_at value s ≡ None
-read_none items value s x same size p h e is = read items value s x same size p h e ∙ ap option_account is
-
-pub closed_by : (value : Accounts) (s ch : ℕ) (a : Account) (b : Bool) → slot_at value s ≡ Some a → closed_at a.closed ch ≡ b → is_closed value (s, ch) ≡ b
-closed_by value s ch a b at e = ap (λ o. option_closed o ch) at ∙ e
+-- what the slot's mask tells is so of the cage
+pub slot_mask : {C : Type 0} (items : List (Option (C × Account))) (value : Accounts) (s mask : ℕ) (x : Option (C × Account)) → accounts_of items ≡ value
+    → length (accounts_of items) ≡ most_slots → 0 < s → s ≤ most_slots → x ≡ slice_index_or items (s - 1) x → IsSlotMask mask (option_account x)
+    → (k : ℕ) → k ≤ most_channels → in_mask mask k ≡ is_closed value (s, k)
+slot_mask items value s mask x same size p h e m k few = m.closed k few ∙ ap (λ o. option_closed o k) (sym (read items value s x same size p h e))
 
 -- what a call of close or open on one channel did, with the cage still safe
 pub record AfterCall {T E : Type 0} (value : Accounts) (c : Channel) (most : Accounts) (on : Bool) (r : Result T E) (new : Accounts) : Type 0 where
@@ -142,40 +136,13 @@ open_item items value c s ch x v r se che p h same safe is closed ok err =
 
 -- installing and ejecting
 
-pub safe_installed : {C : Type 0} (items : List (Option (C × Account))) (s : ℕ) (card : C × Account) → AreSafe (accounts_of items) → 1 ≤ s → s ≤ most_slots
-    → ((ch : ℕ) → closed_at card.1.closed ch ≡ false) → length card.1.closed ≡ length card.1.groups
-    → (is_meter card.1 ≡ false → (1 ≤ length card.1.groups) × (length card.1.groups ≤ most_channels))
-    → AreSafe (accounts_of (slice_set items (s - 1) (Some card)))
-safe_installed items s card safe p h quiet states few =
-    let b : s ≤ length (accounts_of items) = omega (arith, safe.size, h) in
-    subst AreSafe (sym (written items (accounts_of items) (s - 1) (Some card) refl))
-    (safe_quiet (accounts_of items) s (Some card.1) p b quiet (record { states = states; few = λ m. (few m).1 }) safe)
-
-none_closed_in : (b : Bool) → (b && false) ≡ false
+pub none_closed_in : (b : Bool) → (b && false) ≡ false
 none_closed_in true = refl
 none_closed_in false = refl
-
--- a meter is put into a slot
-pub safe_put : {C : Type 0} (items : List (Option (C × Account))) (s : ℕ) (card : C × Account) (m : MeterAccount) → AreSafe (accounts_of items)
-    → card.1 ≡ of_meter m
-    → 1 ≤ s → s ≤ most_slots → AreSafe (accounts_of (slice_set items (s - 1) (Some card)))
-safe_put items s card m safe e p h =
-    let b : s ≤ length (accounts_of items) = omega (arith, safe.size, h) in
-    subst AreSafe (sym (written items (accounts_of items) (s - 1) (Some card) refl ∙ ap (λ (a : Account). slice_set (accounts_of items) (s - 1) (Some a)) e))
-    (safe_quiet (accounts_of items) s (Some (of_meter m)) p b (λ k. none_closed_in (nat_lt 0 k)) (record { states = refl; few = λ k. absurd (cc) }) safe)
 
 pub put_is : {C : Type 0} (items : List (Option (C × Account))) (value : Accounts) (i : ℕ) (card : C × Account) (m : MeterAccount) → accounts_of items ≡ value
     → card.1 ≡ of_meter m → accounts_of (slice_set items i (Some card)) ≡ slice_set value i (Some (of_meter m))
 put_is items value i card m same e = written items value i (Some card) same ∙ ap (λ (a : Account). slice_set value i (Some a)) e
-
-pub safe_ejected : {C : Type 0} (items : List (Option (C × Account))) (value : Accounts) (s : ℕ) (v : Option (C × Account)) → accounts_of items ≡ value
-    → v ≡ None
-    → is_some (slot_at value s) ≡ true → AreSafe (accounts_of items) → AreSafe (accounts_of (slice_set items (s - 1) v))
-safe_ejected items value s v same none some safe =
-    let b : (0 < s) × (s ≤ length (accounts_of items)) = some_slot (accounts_of items) s (ap (λ (r : Accounts). is_some (slot_at r s)) same ∙ some) in
-    subst AreSafe (sym (written items (accounts_of items) (s - 1) v refl))
-    (subst (λ (o : Option Account). AreSafe (slice_set (accounts_of items) (s - 1) o)) (sym (ap option_account none))
-    (safe_quiet (accounts_of items) s None b.0 b.1 (λ k. refl) tt safe))
 
 pub ejected_card : {C : Type 0} (items : List (Option (C × Account))) (value : Accounts) (s : ℕ) (x : Option (C × Account)) (card : Account)
     → accounts_of items ≡ value
@@ -184,6 +151,19 @@ pub ejected_card : {C : Type 0} (items : List (Option (C × Account))) (value : 
 ejected_card items value s x card same safe some is e =
     let b : (0 < s) × (s ≤ length (accounts_of items)) = some_slot (accounts_of items) s (ap (λ (r : Accounts). is_some (slot_at r s)) same ∙ some) in
     ap option_rest (read items value s x same safe.size b.0 (omega (arith, b.1, safe.size)) is) ∙ sym e
+
+some_rested : (o : Option Account) → is_some o ≡ true → option_rest o ≡ None → ⊥
+some_rested None some e = cc
+some_rested (Some a) some e = cc
+
+-- from a slot with a card a card comes out
+pub ejected_some : {C : Type 0} (items : List (Option (C × Account))) (value : Accounts) (s : ℕ) (x result : Option (C × Account)) → accounts_of items ≡ value
+    → AreSafe (accounts_of items) → is_some (slot_at value s) ≡ true → x ≡ slice_index_or items (s - 1) x
+    → option_account result ≡ option_rest (option_account x) → result ≡ None → ⊥
+ejected_some items value s x result same safe some is e none =
+    let b : (0 < s) × (s ≤ length (accounts_of items)) = some_slot (accounts_of items) s (ap (λ (r : Accounts). is_some (slot_at r s)) same ∙ some) in
+    some_rested (slot_at value s) some
+    (ap option_rest (read items value s x same safe.size b.0 (omega (arith, b.1, safe.size)) is) ∙ sym e ∙ ap option_account none)
 
 rested_open : (o : Option Account) (card : Account) → Some card ≡ option_rest o → (ch : ℕ) → closed_at card.closed ch ≡ false
 rested_open None card e ch = cc

@@ -14,7 +14,7 @@ use Rattle.sw_trigger.specs.declared.layer.Layer.{Layer}
 use Rattle.sw_trigger.specs.declared.layer.Awaited.{Awaited}
 use Rattle.sw_trigger.specs.declared.layer.Awaited.TheVariants.{Pause}
 use Rattle.sw_trigger.specs.Settings.{Setup, IsInRange}
-use Rattle.sw_trigger.specs.Agenda.{Item, Awaits, Close, Open, repeated, wait_of, pause_of, head_of, channel_at, visit, pass_of, passes, arm_turn, arm_turns}
+use Rattle.sw_trigger.specs.Agenda.{Item, Awaits, Close, Open, wait_of, pause_of, head_of, channel_at, visit, pass_of, passes, arm_turn, arm_turns}
 use Rattle.sw_trigger.specs.Agenda.{agenda}
 use Rattle.sw_trigger.proofs.Repeats.{length-repeated}
 use Rattle.sw_trigger.proofs.Awaiting.{agenda_is}

@@ -252,20 +252,32 @@ quiet_other rack s v p h quiet d k = elim (slot_cases rack s d.0 v p h) [
   | inr n ↦ n.1
 ]
 
+pub quiet_was : (rack : Accounts) (s : ℕ) (v : Option Account) → 0 < s → s ≤ length rack → ((k : ℕ) → option_closed v k ≡ false) → (d : Channel)
+    → is_closed (slice_set rack (s - 1) v) d ≡ true → is_closed rack d ≡ true
+quiet_was rack s v p h quiet d k = ap (λ o. option_closed o d.1) (sym (quiet_other rack s v p h quiet d k)) ∙ k
+
+pub quiet_group : (rack : Accounts) (s : ℕ) (v : Option Account) → 0 < s → s ≤ length rack → ((k : ℕ) → option_closed v k ≡ false) → (d : Channel)
+    → is_closed (slice_set rack (s - 1) v) d ≡ true → group_of (layout_of (slice_set rack (s - 1) v)) d ≡ group_of (layout_of rack) d
+quiet_group rack s v p h quiet d k = group_in_slot (slice_set rack (s - 1) v) d
+    ∙ ap (λ o. bay_group (slot_contents o) d.1) (quiet_other rack s v p h quiet d k) ∙ sym (group_in_slot rack d)
+
+-- where nothing was closed in the slot either
+pub quiet_still : (rack : Accounts) (s : ℕ) (v : Option Account) → 0 < s → s ≤ length rack → ((k : ℕ) → option_closed (slot_at rack s) k ≡ false)
+    → (d : Channel) → is_closed rack d ≡ true → is_closed (slice_set rack (s - 1) v) d ≡ true
+quiet_still rack s v p h quiet d k = elim (slot_cases rack s d.0 v p h) [
+  | inl e ↦ absurd (let f : option_closed (slot_at rack s) d.1 ≡ true = ap (λ t. option_closed (slot_at rack t) d.1) (sym e.0) ∙ k in let n = quiet d.1 in cc)
+  | inr n ↦ ap (λ o. option_closed o d.1) n.1 ∙ k
+]
+
 -- whatever comes into a slot or leaves it with nothing closed keeps the cage exclusive
 pub exclusive_quiet : (rack : Accounts) (s : ℕ) (v : Option Account) → 0 < s → s ≤ length rack → ((k : ℕ) → option_closed v k ≡ false)
     → IsExclusive (layout_of rack) (is_closed rack) → IsExclusive (layout_of (slice_set rack (s - 1) v)) (is_closed (slice_set rack (s - 1) v))
 exclusive_quiet rack s v p h quiet safe =
-    let same : (d : Channel) → is_closed (slice_set rack (s - 1) v) d ≡ true → slot_at (slice_set rack (s - 1) v) d.0 ≡ slot_at rack d.0 =
-    quiet_other rack s v p h quiet in
-    let was : (d : Channel) → is_closed (slice_set rack (s - 1) v) d ≡ true → is_closed rack d ≡ true =
-    λ d k. ap (λ o. option_closed o d.1) (sym (same d k)) ∙ k in
+    let was = quiet_was rack s v p h quiet in
+    let group = quiet_group rack s v p h quiet in
     let has : (d : Channel) → is_closed (slice_set rack (s - 1) v) d ≡ true
     → is_present (layout_of (slice_set rack (s - 1) v)) d ≡ is_present (layout_of rack) d =
-    λ d k. present_at (slice_set rack (s - 1) v) d ∙ ap (λ o. bay_has (slot_contents o) d.1) (same d k) ∙ sym (present_at rack d) in
-    let group : (d : Channel) → is_closed (slice_set rack (s - 1) v) d ≡ true
-    → group_of (layout_of (slice_set rack (s - 1) v)) d ≡ group_of (layout_of rack) d =
-    λ d k. group_in_slot (slice_set rack (s - 1) v) d ∙ ap (λ o. bay_group (slot_contents o) d.1) (same d k) ∙ sym (group_in_slot rack d) in
+    λ d k. present_at (slice_set rack (s - 1) v) d ∙ ap (λ o. bay_has (slot_contents o) d.1) (quiet_other rack s v p h quiet d k) ∙ sym (present_at rack d) in
     record {
       present = λ d k. has d k ∙ safe.present d (was d k);
       apart = λ a b ka kb clash. safe.apart a b (was a ka) (was b kb)

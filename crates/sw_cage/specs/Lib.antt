@@ -1,4 +1,5 @@
 pub mod Accounts
+pub mod Masks
 pub mod Change
 pub mod Install
 pub mod Close

@@ -1,6 +1,6 @@
 -- What settings compile to unfolds to their agenda.
-use Rattle.std.proofs.Common.{◌≡◌, ℕ, zero, suc, ◌+◌, ◌-◌, ◌*◌, ◌/◌, ◌%◌, ◌<◌, ◌≤◌, Bool, true, false, ◌||◌, cond, eqb, List, [], ◌∷◌, ◌++◌, length, map}
-use Rattle.std.proofs.Common.{get_or, refl, sym, ap, ◌∙◌, subst, ⊎_elim, arith, append_assoc, append-nil, length-append}
+use Rattle.std.proofs.Common.{◌≡◌, ℕ, zero, suc, ◌+◌, ◌*◌, ◌/◌, ◌%◌, ◌<◌, Bool, true, false, ◌||◌, cond, eqb, List, [], ◌∷◌, ◌++◌, length, map}
+use Rattle.std.proofs.Common.{get_or, refl, sym, ap, ◌∙◌, subst, arith, append_assoc, append-nil}
 use Rattle.std.proofs.lemmas.Bool.Decides.{nat_tests}
 use Rattle.std.proofs.lemmas.List.{length-map, map-append}
 use Rattle.std.proofs.lemmas.Nat.{div-add-mod'}
@@ -12,9 +12,9 @@ use Rattle.sw_code.specs.declared.code.Step.{Step}
 use Rattle.sw_code.specs.declared.code.Step.TheVariants as step
 use Rattle.sw_trigger.specs.declared.layer.Layer.{Layer}
 use Rattle.sw_trigger.specs.Settings.{Setup, IsInRange}
-use Rattle.sw_trigger.specs.Agenda.{Item, Awaits, Close, Open, repeated, head_of, channel_at, pass_of, passes, visit, arm_turns, agenda}
+use Rattle.sw_trigger.specs.Agenda.{Item, Awaits, repeated, head_of, channel_at, pass_of, passes, visit, arm_turns, agenda}
 use Rattle.sw_code.specs.Code.{Unfolds}
-use Rattle.sw_code.specs.Tree.{Tree, Nil, Then, Times, step_of, size, flatten, meaning, IsNested}
+use Rattle.sw_code.specs.Tree.{Tree, Nil, Times, step_of, size, flatten, meaning, IsNested}
 use Rattle.sw_code.specs.Compiled.{line, steps_of, passes_tree, arm_tree, tree_of}
 use Rattle.sw_trigger.proofs.Awaiting.{agenda_is}
 use Rattle.sw_code.proofs.Unfolding.{unfolds}
@@ -186,14 +186,8 @@ pub four_more : (code x y z w a b d e : List Step) → x ≡ code ++ a → y ≡
 four_more code x y z w a b d e p q r s =
     s ∙ ap (λ (l : List Step). l ++ e) (r ∙ ap (λ (l : List Step). l ++ d) (q ∙ ap (λ (l : List Step). l ++ b) p)) ∙ simp append_assoc
 
-pub eight_more : (x0 x1 x2 x3 x4 x5 x6 x7 x8 a1 a2 a3 a4 a5 a6 a7 a8 : List Step) → x0 ≡ [] → x1 ≡ x0 ++ a1 → x2 ≡ x1 ++ a2 → x3 ≡ x2 ++ a3 → x4 ≡ x3 ++ a4
-    → x5 ≡ x4 ++ a5 → x6 ≡ x5 ++ a6 → x7 ≡ x6 ++ a7 → x8 ≡ x7 ++ a8 → x8 ≡ a1 ++ (a2 ++ (a3 ++ (a4 ++ (a5 ++ (a6 ++ (a7 ++ a8))))))
-eight_more x0 x1 x2 x3 x4 x5 x6 x7 x8 a1 a2 a3 a4 a5 a6 a7 a8 e0 e1 e2 e3 e4 e5 e6 e7 e8 =
-    let f : x4 ≡ [] ++ (a1 ++ (a2 ++ (a3 ++ a4))) = four_more [] x1 x2 x3 x4 a1 a2 a3 a4 (e1 ∙ ap (λ (l : List Step). l ++ a1) e0) e2 e3 e4 in
-    four_more x4 x5 x6 x7 x8 a5 a6 a7 a8 e5 e6 e7 e8
-    ∙ ap (λ (l : List Step). l ++ (a5 ++ (a6 ++ (a7 ++ a8)))) f ∙ simp append_assoc
-
--- where the code stands after the first three pieces
-pub third_place : (x0 x1 x2 x3 h : List Step) (i j : Step) → x0 ≡ [] → x1 ≡ x0 ++ i ∷ [] → x2 ≡ x1 ++ h → x3 ≡ x2 ++ j ∷ [] → length x3 ≡ 2 + length h
-third_place x0 x1 x2 x3 h i j e0 e1 e2 e3 =
-    omega (arith, ap length e0, ap length e1, ap length e2, ap length e3, length-append x0 (i ∷ []), length-append x1 h, length-append x2 (j ∷ []))
+pub six_more : (x0 x1 x2 x3 x4 x5 x6 a1 a2 a3 a4 a5 a6 : List Step) → x0 ≡ [] → x1 ≡ x0 ++ a1 → x2 ≡ x1 ++ a2 → x3 ≡ x2 ++ a3 → x4 ≡ x3 ++ a4
+    → x5 ≡ x4 ++ a5 → x6 ≡ x5 ++ a6 → x6 ≡ a1 ++ (a2 ++ (a3 ++ (a4 ++ (a5 ++ a6))))
+six_more x0 x1 x2 x3 x4 x5 x6 a1 a2 a3 a4 a5 a6 e0 e1 e2 e3 e4 e5 e6 =
+    e6 ∙ ap (λ (l : List Step). l ++ a6) (four_more x1 x2 x3 x4 x5 a2 a3 a4 a5 e2 e3 e4 e5)
+    ∙ ap (λ (l : List Step). (l ++ (a2 ++ (a3 ++ (a4 ++ a5)))) ++ a6) (e1 ∙ ap (λ (l : List Step). l ++ a1) e0) ∙ simp append_assoc

@@ -1,20 +1,19 @@
 -- Lines and parts of a listing.
-use Rattle.std.proofs.Common.{◌≡◌, ℕ, zero, suc, ◌+◌, ◌-◌, ◌*◌, ◌<◌, ◌≤◌, ◌^◌, Bool, true, false, not, cond, eqb, List, [], ◌∷◌, ◌++◌, length, get_or, take}
-use Rattle.std.proofs.Common.{drop, drop-cons, add-one, refl, sym, ap, ◌∙◌, subst, arith, append_assoc, length-append}
-use Rattle.std.specs.Prelude.{Option, Some, None, IfSome, IfNone, Ok, Err, codes, Result, ◌==◌, ◌&&◌, nat_lt, nat_le, if◌then◌else◌}
-use Rattle.std.specs.List.{All, AllByRecursion, slice_split}
+use Rattle.std.proofs.Common.{◌≡◌, ℕ, suc, ◌+◌, ◌<◌, ◌≤◌, Bool, true, false, not, List, [], ◌∷◌, ◌++◌, length, get_or, take}
+use Rattle.std.proofs.Common.{drop, drop-cons, refl, sym, ap, ◌∙◌, subst, arith, append_assoc}
+use Rattle.std.specs.Prelude.{Option, Some, None, IfSome, IfNone, Ok, Err, codes, Result, ◌==◌, if◌then◌else◌}
+use Rattle.std.specs.List.{All, AllByRecursion}
 use Rattle.std.specs.Str.{bytes_eq}
 use Rattle.std.proofs.Math.ListN.{drop_of_length-le}
 use Rattle.std.proofs.lemmas.List.{append-nil, take_all}
 use Rattle.std.proofs.lemmas.List.Elements.{All-more, All-from_recursion, recursion_from_All}
 use Rattle.std.proofs.lemmas.List.Splits.{slice_split_at, slice_split_none, length-slice_split}
 use Rattle.std.proofs.lemmas.Bool.Decides.{nat_tests}
-use Rattle.sw_base.specs.Text.{AllPass, Lacks, is_digit}
+use Rattle.sw_base.specs.Text.{Lacks}
 use Rattle.sw_code.specs.declared.code.Step.{Step}
-use Rattle.sw_code.specs.declared.fault.ListFault.{ListFault}
-use Rattle.sw_code.specs.declared.fault.ListFault.TheVariants.{BadStep, BadNumber, TooLong, NoMemory}
+use Rattle.sw_code.specs.declared.fault.ListFault.TheVariants.{BadStep, BadNumber}
 use Rattle.sw_code.specs.declared.fault.ListError.{ListError}
-use Rattle.sw_code.specs.Range.{Program, IsStep, HasChannel}
+use Rattle.sw_code.specs.Range.{IsStep, HasChannel}
 use Rattle.sw_code.specs.Listing.{line_of, lines_of, parts_of}
 use Rattle.sw_code.specs.Reading.{parts_at, then_read, channel_in, step_in, meter_in, on_line, numbered_step, steps_in, after_steps, code_after_version}
 use Rattle.sw_code.specs.Reading.{code_of_lines}

@@ -1,9 +1,8 @@
 -- What is printed reads as the same code.
-use Rattle.std.proofs.Common.{◌≡◌, ℕ, zero, suc, ◌+◌, ◌-◌, ◌*◌, ◌/◌, ◌%◌, ◌<◌, ◌≤◌, ◌^◌, Bool, true, false, not, cond, eqb, List, [], ◌∷◌, ◌++◌, length, refl}
-use Rattle.std.proofs.Common.{sym, ap, ◌∙◌, subst, arith, lit<, append_assoc, length-append}
+use Rattle.std.proofs.Common.{◌≡◌, ℕ, ◌+◌, ◌-◌, ◌/◌, ◌%◌, ◌<◌, ◌≤◌, ◌^◌, Bool, true, false, not, cond, List, [], ◌∷◌, ◌++◌, length, refl}
+use Rattle.std.proofs.Common.{sym, ap, ◌∙◌, arith, lit<, append_assoc}
 use Rattle.std.specs.Prelude.{Ok, Err, Result, codes, decimal, ◌==◌, ◌&&◌, nat_lt, nat_le}
 use Rattle.std.specs.List.{AllByRecursion, list_all, join_with_byte}
-use Rattle.std.specs.Str.{bytes_eq}
 use Rattle.std.proofs.lemmas.Bool.{le-leb}
 use Rattle.std.proofs.lemmas.Bool.Decides.{nat_tests}
 use Rattle.std.proofs.lemmas.Fmt.{decimal_by_steps, decimal_nonempty, length-decimal-le}
@@ -18,12 +17,12 @@ use Rattle.sw_base.proofs.Values.{value_after-append}
 use Rattle.sw_code.specs.declared.code.Step.{Step}
 use Rattle.sw_code.specs.declared.code.Step.TheVariants as step
 use Rattle.sw_code.specs.declared.fault.ListFault.{ListFault}
-use Rattle.sw_code.specs.declared.fault.ListFault.TheVariants.{BadStep, BadNumber, TooLong}
+use Rattle.sw_code.specs.declared.fault.ListFault.TheVariants.{BadNumber, TooLong}
 use Rattle.sw_code.specs.declared.fault.ListError.{ListError}
 use Rattle.sw_code.specs.Range.{Program, most_steps, IsStep, IsChannel, HasChannel, IsInRange}
 use Rattle.sw_base.specs.Limits.{most_slots, most_channels}
 use Rattle.sw_code.specs.Listing.{layer_word, channel_text, line_of, lines_of, parts_of, listing_of}
-use Rattle.sw_code.specs.Reading.{parts_at, then_read, is_numeral, number_in, channel_in, layer_in, step_in, meter_in, on_line, numbered_step, steps_in}
+use Rattle.sw_code.specs.Reading.{parts_at, then_read, is_numeral, number_in, channel_in, step_in, meter_in, on_line, numbered_step, steps_in}
 use Rattle.sw_code.specs.Reading.{code_after_version, code_of_lines, code_in}
 use Rattle.sw_code.proofs.Listed.{first_of, only_of, some_parts, version_some, second_some, steps_some}
 

@@ -1,7 +1,7 @@
 -- What settings compile to.
-use Rattle.std.specs.Prelude.{ℕ, zero, suc, ◌+◌, ◌/◌, ◌%◌, ◌==◌, List, [], ◌∷◌, ◌++◌, length, map, if◌then◌else◌}
+use Rattle.std.specs.Prelude.{ℕ, ◌/◌, ◌%◌, ◌==◌, List, [], ◌∷◌, ◌++◌, length, map, if◌then◌else◌}
 use Rattle.sw_base.specs.declared.terms.LayerName.{LayerName}
-use Rattle.sw_base.specs.declared.terms.LayerName.TheVariants.{Arm1, Arm2, Trigger}
+use Rattle.sw_base.specs.declared.terms.LayerName.TheVariants.{Arm1, Arm2}
 use Rattle.sw_code.specs.declared.code.Step.{Step}
 use Rattle.sw_code.specs.declared.code.Step.TheVariants as step
 use Rattle.sw_code.specs.Range.{Program}

@@ -1,5 +1,5 @@
 -- Code with its loops seen as such.
-use Rattle.std.specs.Prelude.{◌≡◌, ℕ, zero, suc, ◌+◌, ◌<◌, ◌==◌, Bool, false, ◌||◌, List, [], ◌∷◌, ◌++◌}
+use Rattle.std.specs.Prelude.{◌≡◌, ℕ, ◌+◌, ◌<◌, ◌==◌, Bool, false, ◌||◌, List, [], ◌∷◌, ◌++◌}
 use Rattle.sw_trigger.specs.declared.layer.Awaited.TheVariants.{Wait, Pause, Read}
 use Rattle.sw_code.specs.declared.code.Step.{Step}
 use Rattle.sw_code.specs.declared.code.Step.TheVariants as step

@@ -3,6 +3,9 @@
 ghost use Rattle.std.specs.Prelude.{◌≡◌, ◌+◌, ◌<◌, ◌≤◌, [], ◌∷◌, ◌++◌, length, map, IfOk, IfErr, OnOk};
 ghost use Rattle.sw_base.specs.declared.error.ScpiError.TheVariants.{OutOfMemory};
 ghost use Rattle.sw_trigger.specs.Agenda.{agenda, head_of, pass_of, passes, Awaits};
+ghost use Rattle.sw_trigger.specs.Settings.{layer_of};
+ghost use Rattle.sw_trigger.specs.Settings as settled;
+ghost use Rattle.sw_code.specs.declared.code.Step.TheVariants as step;
 ghost use Rattle.sw_code.specs.Code.{Unfolds};
 ghost use Rattle.sw_code.specs.Range.{IsInRange};
 ghost use Rattle.sw_code.specs.Tree.{flatten};
@@ -33,22 +36,39 @@ fn all_steps(alloc: Global, settings: &Settings) -> Result<Vec<Step>, AllocError
     ensures range { IfOk result (λ steps. IsInRange (compiled settings.now)) }
     ensures unfolds { IfOk result (λ steps. Unfolds (compiled settings.now).steps (agenda settings.now)) }
 {
-    let arm1 = settings.layer(LayerName::Arm1);
-    let arm2 = settings.layer(LayerName::Arm2);
     let mut steps = Vec::new(alloc);
-    steps.push(Step::Set(0, arm1.count))?;
-    put_head(&mut steps, LayerName::Arm1, arm1)?;
-    steps.push(Step::Set(1, arm2.count))?;
-    let start = steps.len() as u16;
-    put_head(&mut steps, LayerName::Arm2, arm2)?;
+    let arm1 = begin_turns(&mut steps, 0, LayerName::Arm1, settings)?;
+    let arm2 = begin_turns(&mut steps, 1, LayerName::Arm2, settings)?;
     put_rounds(&mut steps, settings)?;
-    steps.push(Step::Loop(1, start))?;
-    steps.push(Step::Loop(0, 1))?;
+    steps.push(Step::Loop(1, arm2))?;
+    steps.push(Step::Loop(0, arm1))?;
     steps.push(Step::Halt)?;
     Ok(steps)
 }
 
-/// Adds the passes of one turn of ARM layer 2: whole rounds of the list as a loop, then those left over.
+/// Begins the turns of an ARM layer, as a loop that counts with this counter, by what each turn awaits before it goes
+/// on inwards. Answers the number of the step with which a turn begins.
+fn begin_turns(
+    steps: &mut Vec<Step>,
+    counter: u8,
+    name: LayerName,
+    settings: &Settings,
+) -> Result<u16, AllocError>
+    requires short { length steps.old.items < 100 }
+    ensures steps { OnOk result (steps.new.items ≡ steps.old.items ++ (step.Set counter (layer_of settings.now name).count
+        ∷ steps_of (map Awaits (head_of name (layer_of settings.now name))))) }
+    ensures place { IfOk result (λ start. start ≡ length steps.old.items + 1) }
+    ensures short { OnOk result (length steps.new.items ≤ length steps.old.items + 3) }
+    ensures range { settled.IsInRange settings.now }
+{
+    let layer = settings.layer(name);
+    steps.push(Step::Set(counter, layer.count))?;
+    let start = steps.len() as u16;
+    put_head(steps, name, layer)?;
+    Ok(start)
+}
+
+/// Adds the passes of one turn of the inmost ARM layer: whole rounds of the list as a loop, then those left over.
 fn put_rounds(steps: &mut Vec<Step>, settings: &Settings) -> Result<(), AllocError>
     requires listed { 0 < length settings.now.list }
     requires short { length steps.old.items < 100 }

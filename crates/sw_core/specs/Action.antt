@@ -87,6 +87,12 @@ with_source layer source s = with_layer s layer (record (layer_of s layer) { sou
 abbrev pub with_delay : LayerName → ℕ → Setup → Setup
 with_delay layer micros s = with_layer s layer (record (layer_of s layer) { delay_us = micros })
 
+-- whether a command is offered to the scan (SCPI-1999, 24; IEEE 488.2, 10.37)
+abbrev pub is_offered : Command → Bool
+is_offered Command.Trigger = true
+is_offered (Command.Signal layer) = true
+is_offered command = false
+
 -- What a command comes to, where its message has answered before or not, which is when a message is available
 -- (SCPI-1999, 3, 18, 20, 21.8 and 24; IEEE 488.2, 10 and 11.2).
 abbrev pub action_of : Bool → Command → Action

@@ -67,6 +67,7 @@ pub fn acts_unnumbered<R: Relay, M: Meter>(ask: &Ask<R, M>) -> bool
 }
 
 /// Hands an ask back that can't be numbered.
+#[inline(never)]
 pub fn unnumbered<R: Relay, M: Meter>(ask: Ask<R, M>) -> Answer<R, M>
     requires { acts_unnumbered (ask_view ask) ≡ false }
     ensures worn { IsWorn (ask_view ask) (answer_view result) }

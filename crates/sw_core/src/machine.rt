@@ -131,6 +131,7 @@ impl<R: Relay, M: Meter> Core<R, M> {
     }
 
     #[tactic(auto, using(crate::proofs::Calls::failed_same))]
+    #[inline(never)]
     fn install(&mut self, slot: u8, card: Card<R, M>) -> Answer<R, M>
         ensures acts { Acts self.old (AskInstall slot card.1) (any_failed self.old.cage.cards self.new.cage.cards)
             (answer_view result) self.new }
@@ -143,6 +144,7 @@ impl<R: Relay, M: Meter> Core<R, M> {
     }
 
     #[tactic(auto, using(crate::proofs::Calls::failed_same))]
+    #[inline(never)]
     fn eject(&mut self, slot: u8) -> Answer<R, M>
         ensures { Acts self.old (AskEject slot) (any_failed self.old.cage.cards self.new.cage.cards)
             (answer_view result) self.new }
@@ -177,6 +179,7 @@ impl<R: Relay, M: Meter> Core<R, M> {
     }
 
     /// Does what none of the sessions asks.
+    #[inline(never)]
     fn newcomer(&mut self, ask: SessionAsk) -> SessionAnswer
         requires { asker_of ask ≡ None }
         ensures { StepNew self.old ask (any_failed self.old.cage.cards self.new.cage.cards) result None self.new }
@@ -227,9 +230,7 @@ impl<R: Relay, M: Meter> Core<R, M> {
                 self.status.push_error(error);
                 (SessionAnswer::Done(None), None)
             }
-            SessionAsk::Unit(sid, command, available) => self.command(
-                alloc, sid, command, available,
-            ),
+            SessionAsk::Unit(sid, command, available) => self.unit(alloc, sid, command, available),
             SessionAsk::Bus(_) => self.offer(Happening::Bus, ScpiError::TriggerIgnored),
             SessionAsk::Snapshot(_) => (self.snapshot(alloc), None),
             SessionAsk::Start(_, plan) => self.start(alloc, plan),

@@ -57,6 +57,7 @@ impl<R: Relay, M: Meter> Core<R, M> {
     }
 
     /// The channels of the scan.
+    #[inline(never)]
     pub(crate) fn scan_query(&self, alloc: Global) -> SessionAnswer
         ensures { StepText self.now (printed self.now.settings.list) self.now.status Bool.false result self.now }
     {
@@ -67,6 +68,7 @@ impl<R: Relay, M: Meter> Core<R, M> {
     }
 
     /// Where a layer's wait takes its trigger from.
+    #[inline(never)]
     pub(crate) fn source_query(&self, alloc: Global, layer: LayerName) -> SessionAnswer
         ensures { StepText self.now (source_word (layer_of self.now.settings layer).source) self.now.status Bool.false
             result self.now }
@@ -75,6 +77,7 @@ impl<R: Relay, M: Meter> Core<R, M> {
     }
 
     /// How long a layer's wait pauses.
+    #[inline(never)]
     pub(crate) fn delay_query(&self, alloc: Global, layer: LayerName) -> SessionAnswer
         ensures { StepText self.now (fixed 6 (layer_of self.now.settings layer).delay_us) self.now.status Bool.false
             result self.now }
@@ -83,6 +86,7 @@ impl<R: Relay, M: Meter> Core<R, M> {
     }
 
     /// Reads the event status register out.
+    #[inline(never)]
     pub(crate) fn event_query(&mut self, alloc: Global) -> SessionAnswer
         ensures { StepText self.old (decimal self.old.status.esr) (record self.old.status { esr = 0 }) Bool.false result
             self.new }
@@ -97,6 +101,7 @@ impl<R: Relay, M: Meter> Core<R, M> {
     }
 
     /// Reads a group's event register out.
+    #[inline(never)]
     pub(crate) fn group_event_query(&mut self, alloc: Global, group: StatusGroup) -> SessionAnswer
         ensures { StepText self.old (decimal (group_of self.old.status group).event)
             (with_group self.old.status group (event_taken (group_of self.old.status group))) Bool.false result
@@ -112,6 +117,7 @@ impl<R: Relay, M: Meter> Core<R, M> {
     }
 
     /// Takes the oldest error out of the queue.
+    #[inline(never)]
     pub(crate) fn next_error(&mut self, alloc: Global) -> SessionAnswer
         ensures { StepText self.old (oldest_entry self.old.status.errors) (popped self.old.status) Bool.false result
             self.new }
@@ -126,6 +132,7 @@ impl<R: Relay, M: Meter> Core<R, M> {
     }
 
     /// Takes all errors out of the queue.
+    #[inline(never)]
     pub(crate) fn all_errors(&mut self, alloc: Global) -> SessionAnswer
         ensures { StepText self.old (all_entries self.old.status.errors) (record self.old.status { errors = [] })
             Bool.false result self.new }
@@ -140,6 +147,7 @@ impl<R: Relay, M: Meter> Core<R, M> {
     }
 
     /// The readings of the last scan.
+    #[inline(never)]
     pub(crate) fn fetch(&self, alloc: Global) -> SessionAnswer
         ensures { StepReadings self.now.cage.readings self.now Bool.false result self.now }
     {

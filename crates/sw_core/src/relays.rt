@@ -22,6 +22,7 @@ use sw_channel::print_list;
 impl<R: Relay, M: Meter> Core<R, M> {
     /// Judges the whole list, and then closes one channel after another.
     #[tactic(auto, using(crate::proofs::Calls::failed_same))]
+    #[inline(never)]
     pub(crate) fn close(&mut self, chans: &[Chan]) -> SessionAnswer
         requires idle { self.old.cage.scan ≡ None }
         ensures { StepClose self.old chans.now (any_failed self.old.cage.cards self.new.cage.cards) result self.new }
@@ -42,6 +43,7 @@ impl<R: Relay, M: Meter> Core<R, M> {
 
     /// Opens one channel after another.
     #[tactic(auto, using(crate::proofs::Calls::failed_same))]
+    #[inline(never)]
     pub(crate) fn open(&mut self, chans: &[Chan]) -> SessionAnswer
         requires idle { self.old.cage.scan ≡ None }
         ensures { StepOpen self.old chans.now (any_failed self.old.cage.cards self.new.cage.cards) result self.new }
@@ -61,6 +63,7 @@ impl<R: Relay, M: Meter> Core<R, M> {
 
     /// Opens every relay.
     #[tactic(auto, using(crate::proofs::Calls::failed_open))]
+    #[inline(never)]
     pub(crate) fn open_everything(&mut self) -> SessionAnswer
         requires idle { self.old.cage.scan ≡ None }
         ensures { StepDone (with_cards self.old (all_open self.old.cage.cards))
@@ -72,6 +75,7 @@ impl<R: Relay, M: Meter> Core<R, M> {
 
     /// Ends the scan, and opens every relay (SCPI-1999, 3).
     #[tactic(auto, using(crate::proofs::Calls::failed_open))]
+    #[inline(never)]
     pub(crate) fn abort(&mut self) -> SessionAnswer
         ensures { StepDone (aborted self.old) (any_failed self.old.cage.cards self.new.cage.cards) result self.new }
     {
@@ -82,6 +86,7 @@ impl<R: Relay, M: Meter> Core<R, M> {
     /// Ends the scan, opens every relay, drops the readings and a pending `*OPC`, and sets the settings to their reset
     /// values (IEEE 488.2, 10.32).
     #[tactic(auto, using(crate::proofs::Calls::failed_open))]
+    #[inline(never)]
     pub(crate) fn reset(&mut self) -> SessionAnswer
         ensures { StepDone (reset self.old) (any_failed self.old.cage.cards self.new.cage.cards) result self.new }
     {
@@ -94,6 +99,7 @@ impl<R: Relay, M: Meter> Core<R, M> {
     }
 
     /// For each channel whether it is closed, or, where `closed` is false, whether it is open.
+    #[inline(never)]
     pub(crate) fn flags(&self, alloc: Global, closed: bool, chans: &[Chan]) -> SessionAnswer
         ensures { StepFlags self.now closed chans.now Bool.false result self.now }
     {
@@ -107,6 +113,7 @@ impl<R: Relay, M: Meter> Core<R, M> {
     }
 
     /// The list of the closed channels.
+    #[inline(never)]
     pub(crate) fn close_state(&self, alloc: Global) -> SessionAnswer
         ensures { StepText self.now (printed (closed_list self.now.cage.cards)) self.now.status Bool.false result
             self.now }

@@ -86,6 +86,7 @@ impl<R: Relay, M: Meter> Core<R, M> {
     }
 
     /// Offers a session's happening to the scan; where it isn't taken it is refused by this error.
+    #[inline(never)]
     pub(crate) fn offer(
         &mut self,
         happening: Happening,
@@ -100,6 +101,7 @@ impl<R: Relay, M: Meter> Core<R, M> {
     }
 
     /// Offers a happening that is no session's to the scan.
+    #[inline(never)]
     pub(crate) fn outside(&mut self, happening: Happening) -> Answer<R, M>
         ensures { StepOutside self.old happening (any_failed self.old.cage.cards self.new.cage.cards)
             (answer_view result) self.new }
@@ -109,6 +111,7 @@ impl<R: Relay, M: Meter> Core<R, M> {
     }
 
     /// Takes a meter back, and its reading where the scan awaits it.
+    #[inline(never)]
     pub(crate) fn finished(&mut self, done: Finished<M>) -> Answer<R, M>
         ensures finished { StepFinished self.old done.1
             (failed_in (AskFinished done.1) (answer_view result) self.old.cage.cards self.new.cage.cards)
@@ -145,6 +148,7 @@ impl<R: Relay, M: Meter> Core<R, M> {
     }
 
     /// What a scan would begin from.
+    #[inline(never)]
     pub(crate) fn snapshot(&self, alloc: Global) -> SessionAnswer
         ensures { StepSnapshot self.now Bool.false result self.now }
     {
@@ -170,6 +174,7 @@ impl<R: Relay, M: Meter> Core<R, M> {
 
     /// Begins the scan of a plan, where what it was made of is so now.
     #[tactic(auto, using(crate::proofs::Happened::refused_start))]
+    #[inline(never)]
     pub(crate) fn start(&mut self, alloc: Global, plan: Plan) -> (SessionAnswer, Option<Work<M>>)
         ensures { StepStart self.old plan (any_failed self.old.cage.cards self.new.cage.cards) result.0
             (work_view result.1) self.new }

@@ -137,6 +137,7 @@ impl Sessions {
     }
 
     /// Does what a session asks of its seat or of the locks.
+    #[inline(never)]
     pub fn serve(&mut self, alloc: Global, sid: Sid, ask: SessionAsk) -> SessionAnswer
         requires asker { asker_of ask ≡ Some sid }
         requires joined { IsJoined self.old sid }

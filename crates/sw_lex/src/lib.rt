@@ -26,7 +26,7 @@ mod values;
 pub use command::Command;
 pub use elements::Kind;
 pub use headers::one_command;
-pub use meaning::{Resolved, every_spelling, one_meaning, resolve};
+pub use meaning::{every_spelling, one_meaning, resolve};
 pub use paths::Path;
 pub use runs::gaps;
 pub use table::Key;

@@ -28,13 +28,6 @@ use std::alloc::Global;
 use sw_base::{Chan, LayerName, Nrf, ScpiError, Sequence};
 use sw_channel::read_list;
 
-/// What a unit gives: its command or its first refusal, and the path of the next unit.
-#[derive(Drop)]
-pub struct Resolved {
-    pub command: Result<Command, ScpiError>,
-    pub path: Path,
-}
-
 /// The command, where there are no data.
 fn no_data(command: Command, elements: &[Element<'_>]) -> Result<Command, ScpiError>
     ensures { WithNone command (data_of elements.now) result }
@@ -46,6 +39,7 @@ fn no_data(command: Command, elements: &[Element<'_>]) -> Result<Command, ScpiEr
 }
 
 /// The channels of the one element, which is a channel list.
+#[inline(never)]
 fn one_list(alloc: Global, elements: &[Element<'_>]) -> Result<Sequence<Chan>, ScpiError>
     ensures { WithList (data_of elements.now) result }
 {
@@ -74,6 +68,7 @@ fn one_number<'a>(elements: &[Element<'a>]) -> Result<(Nrf<'a>, &'a [u8]), ScpiE
 }
 
 /// The command of one whole number.
+#[inline(never)]
 fn of_whole(ask: Whole, number: u8, elements: &[Element<'_>]) -> Result<Command, ScpiError>
     ensures { OfNumber (whole_of ask number) (data_of elements.now) result }
 {
@@ -84,6 +79,7 @@ fn of_whole(ask: Whole, number: u8, elements: &[Element<'_>]) -> Result<Command,
 }
 
 /// A layer's delay.
+#[inline(never)]
 fn of_delay(layer: LayerName, elements: &[Element<'_>]) -> Result<Command, ScpiError>
     ensures { OfNumber (delay_of layer) (data_of elements.now) result }
 {
@@ -94,6 +90,7 @@ fn of_delay(layer: LayerName, elements: &[Element<'_>]) -> Result<Command, ScpiE
 }
 
 /// `*EMC`
+#[inline(never)]
 fn of_macros(elements: &[Element<'_>]) -> Result<Command, ScpiError>
     ensures { OfNumber macros_of (data_of elements.now) result }
 {
@@ -104,6 +101,7 @@ fn of_macros(elements: &[Element<'_>]) -> Result<Command, ScpiError>
 }
 
 /// A layer's source.
+#[inline(never)]
 fn of_source(layer: LayerName, elements: &[Element<'_>]) -> Result<Command, ScpiError>
     ensures { OfWord (source_meant layer) (data_of elements.now) result }
 {
@@ -129,6 +127,7 @@ fn of_number(text: &[u8]) -> Result<Command, ScpiError>
 }
 
 /// `INITiate:CONTinuous`
+#[inline(never)]
 fn of_switch(elements: &[Element<'_>]) -> Result<Command, ScpiError>
     ensures { OfSwitch (data_of elements.now) result }
 {
@@ -144,6 +143,7 @@ fn of_switch(elements: &[Element<'_>]) -> Result<Command, ScpiError>
 }
 
 /// The content of the one element, which is a string.
+#[inline(never)]
 fn one_string(alloc: Global, elements: &[Element<'_>]) -> Result<Sequence<u8>, ScpiError>
     ensures { WithString (data_of elements.now) result }
 {
@@ -171,6 +171,7 @@ fn define(alloc: Global, label: &[u8], text: &[u8]) -> Result<Command, ScpiError
 }
 
 /// `*DMC`
+#[inline(never)]
 fn of_macro(alloc: Global, elements: &[Element<'_>]) -> Result<Command, ScpiError>
     ensures { OfMacro (data_of elements.now) result }
 {
@@ -215,6 +216,7 @@ fn decode(
 }
 
 /// The refusal of a header that is none of the table.
+#[inline(never)]
 fn refusal(nodes: &[&[u8]], query: bool) -> ScpiError
     requires { length nodes.now ≤ 4 }
     ensures { IsRefusal (map (λ w. w.now) nodes.now) query result }
@@ -226,33 +228,30 @@ fn refusal(nodes: &[&[u8]], query: bool) -> ScpiError
     }
 }
 
-/// The command that a unit below a path asks for, or its first refusal, and the path of the next unit.
+/// The command that a unit below a path asks for, or its first refusal. The path is then that of the next unit.
 ///
 /// The refusals, in this order: `UndefinedHeader`; `HeaderSuffixOutOfRange`; `MissingParameter`; `ParameterNotAllowed`;
 /// `DataTypeError`; of a number `InvalidCharacterInNumber`, `TooManyDigits`, `ExponentTooLarge`, `SuffixNotAllowed` or
 /// `InvalidSuffix`, and `DataOutOfRange`; of a word `InvalidCharacterData` where no setting has it, and
 /// `IllegalParameterValue` where another one has; those of a channel list; `OutOfMemory` where a list, a
 /// label or a body could not grow.
-pub fn resolve(alloc: Global, unit: &RawUnit<'_>, path: Path) -> Resolved
-    ensures { Resolves (unit_of unit.now) (path_of path) result.command (path_of result.path) }
+pub fn resolve(alloc: Global, unit: &RawUnit<'_>, path: &mut Path) -> Result<Command, ScpiError>
+    ensures { Resolves (unit_of unit.now) (path_of path.old) result (path_of path.new) }
 {
-    match look_up(unit.header, &path) {
-        None => Resolved {
-            command: Err(ScpiError::UndefinedHeader),
-            path,
-        },
+    match look_up(unit.header, path) {
+        None => Err(ScpiError::UndefinedHeader),
         Some(nodes) => match find(nodes.as_slice(), unit.query) {
-            None => Resolved {
-                command: Err(refusal(nodes.as_slice(), unit.query)),
-                path,
-            },
-            Some((key, number)) => Resolved {
-                command: decode(alloc, key, number, unit.elements.as_slice()),
-                path: match unit.header {
-                    Header::Common(_) => path,
-                    Header::Path { .. } => after(nodes.as_slice()),
-                },
-            },
+            None => Err(refusal(nodes.as_slice(), unit.query)),
+            Some((key, number)) => {
+                match unit.header {
+                    Header::Common(_) => {}
+                    Header::Path { .. } => {
+                        let above = after(nodes.as_slice());
+                        *path = above;
+                    }
+                }
+                decode(alloc, key, number, unit.elements.as_slice())
+            }
         },
     }
 }

@@ -7,8 +7,9 @@ use sw_lex::{Command, Element, Path, RawUnit, next_unit, resolve};
 
 /// What the first unit of a text gives below this path.
 fn read_at(alloc: Global, text: &[u8], path: Path) -> Result<Command, ScpiError> {
+    let mut path = path;
     match next_unit(text)? {
-        Some((unit, _)) => resolve(alloc, &unit, path).command,
+        Some((unit, _)) => resolve(alloc, &unit, &mut path),
         None => Err(ScpiError::SystemError),
     }
 }
@@ -20,9 +21,9 @@ fn first(alloc: Global, message: &[u8]) -> Result<Command, ScpiError> {
 
 /// The path that a unit leaves.
 fn path_behind(alloc: Global, unit: &RawUnit<'_>) -> Path {
-    let resolved = resolve(alloc, unit, Path::root());
-    drop(resolved.command);
-    resolved.path
+    let mut path = Path::root();
+    drop(resolve(alloc, unit, &mut path));
+    path
 }
 
 /// The path that the first unit of a message leaves, and what stands behind it.

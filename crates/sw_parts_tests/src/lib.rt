@@ -13,6 +13,8 @@ mod code;
 #[cfg(test)]
 mod hislip;
 #[cfg(test)]
+mod hostile_bytes;
+#[cfg(test)]
 mod kinds;
 #[cfg(test)]
 mod lex;

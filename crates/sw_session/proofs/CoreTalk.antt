@@ -14,32 +14,39 @@ use Rattle.sw_core.specs.Panel.{Panel}
 use Rattle.sw_core.specs.Run.{StepIsDetermined, IsPlain, KeepsKey, Toll, toll}
 use Rattle.sw_core.specs.Step.{Step}
 use Rattle.sw_core.specs.View.{WorkView, Measures, Pauses, AskView, AskSession, AskFinished, AnswerView, SaysSession}
+use Rattle.sw_macro.specs.Table.{Table}
 use Rattle.sw_session.specs.declared.desk.View.{View}
 use Rattle.sw_session.specs.declared.desk.Wake.{Wake}
 use Rattle.sw_session.specs.declared.desk.Wake.TheVariants.{Again, Over}
 use Rattle.sw_session.specs.Trace.{Entry, Asked, Waited, Polled, Noted, Leads}
 use Rattle.sw_session.specs.Available.{with_note}
-use Rattle.sw_session.specs.CoreDesk.{DeskSeen, Carried, Tells, Keeps, Answers, Works, PassesBy, CorePasses, brought, view_of}
+use Rattle.sw_session.specs.CoreDesk.{DeskSeen, but_room, Carried, Tells, Keeps, Answers, Works, PassesBy, CorePasses, brought, view_of}
 use Rattle.sw_session.specs.Law.{SameCall, SameTalk, TellsPlainly, KeepsKeys, IsSmooth, AllSmooth, carried_of, waits_of}
 use Rattle.sw_session.specs.Law.{Outcome, Measured, Cards, measured, outcomes_in, outcomes_by, outcomes_of}
-use Rattle.sw_session.specs.Law.{Left, left, TalkIsDetermined, CoreTalkIsDetermined, CoreRestIsDetermined}
+use Rattle.sw_session.specs.Talk.{TalksMessage}
+use Rattle.sw_session.specs.Law.{IsSameDesk, Left, left, TalkIsDetermined, CoreTalkIsDetermined, CoreRestIsDetermined}
 
 -- what is kept, where nothing is carried out at once
-kept-same : (d : DeskSeen) (brings : Option WorkView) (q q' : DeskSeen) → Keeps [] d brings q → Keeps [] d brings q' → q ≡ q'
-kept-same d None q q' k k' = k ∙ sym k'
-kept-same d (Some piece) q q' k k' = k ∙ sym k'
+kept-same : (d d' : DeskSeen) (brings : Option WorkView) (q q' : DeskSeen) → IsSameDesk d d' → Keeps [] d brings q → Keeps [] d' brings q' → IsSameDesk q q'
+kept-same d d' None q q' desks k k' = ap but_room k ∙ desks ∙ sym (ap but_room k')
+kept-same d d' (Some piece) q q' desks k k' =
+    ap but_room k.leaves ∙ ap (λ (x : DeskSeen). let r : DeskSeen = record x { work = x.work ++ piece ∷ [] } in r) desks ∙ sym (ap but_room k'.leaves)
 
-keeps-same : (d d' : DeskSeen) (brings brings' : Option WorkView) (q q' : DeskSeen) → d ≡ d' → brings ≡ brings' → Keeps [] d brings q → Keeps [] d' brings' q'
-    → q ≡ q'
+keeps-same : (d d' : DeskSeen) (brings brings' : Option WorkView) (q q' : DeskSeen) → IsSameDesk d d' → brings ≡ brings' → Keeps [] d brings q
+    → Keeps [] d' brings' q' → IsSameDesk q q'
 keeps-same d d' brings brings' q q' desks works k k' =
-    kept-same d brings q q' k (subst (λ (x : DeskSeen). Keeps [] x brings q') (sym desks) (subst (λ (x : Option WorkView). Keeps [] d' x q') (sym works) k'))
+    kept-same d d' brings q q' desks k (subst (λ (x : Option WorkView). Keeps [] d' x q') (sym works) k')
 
 -- a desk with another mainframe, and with other work
-panels-same : (d d' : DeskSeen) (p p' : Panel) → d ≡ d' → p ≡ p' → record d { panel = p } ≡ record d' { panel = p' }
-panels-same d d' p p' desks panels = ap (λ (x : DeskSeen). record x { panel = p }) desks ∙ ap (λ (x : Panel). record d' { panel = x }) panels
+panels-same : (d d' : DeskSeen) (p p' : Panel) → IsSameDesk d d' → p ≡ p' → IsSameDesk (record d { panel = p }) (record d' { panel = p' })
+panels-same d d' p p' desks panels =
+    ap (λ (x : DeskSeen). let r : DeskSeen = record x { panel = p } in r) desks
+    ∙ ap (λ (x : Panel). let r : DeskSeen = record d' { panel = x; room = 0 } in r) panels
 
-works-same : (d d' : DeskSeen) (work work' : List WorkView) → d ≡ d' → work ≡ work' → record d { work = work } ≡ record d' { work = work' }
-works-same d d' work work' desks works = ap (λ (x : DeskSeen). record x { work = work }) desks ∙ ap (λ (x : List WorkView). record d' { work = x }) works
+works-same : (d d' : DeskSeen) (work work' : List WorkView) → IsSameDesk d d' → work ≡ work' → IsSameDesk (record d { work = work }) (record d' { work = work' })
+works-same d d' work work' desks works =
+    ap (λ (x : DeskSeen). let r : DeskSeen = record x { work = work } in r) desks
+    ∙ ap (λ (x : List WorkView). let r : DeskSeen = record d' { work = x; room = 0 } in r) works
 
 same-answer : (r s : SessionAnswer) (v w : Option WorkView) → SaysSession r v ≡ SaysSession s w → r ≡ s
 same-answer r s v w is = cc (is)
@@ -95,9 +102,9 @@ told-same (Measures job) a a' os os' (done, ran, is) (done', ran', is') same =
     (is ∙ ap AskFinished one ∙ sym is', tail-same (Measured done.outcome) (Measured done'.outcome) os os' all)
 
 -- an ask
-asked-same : StepIsDetermined → (d d' : DeskSeen) (ask ask' : SessionAsk) (r r' : SessionAnswer) (q q' : DeskSeen) → d ≡ d' → ask ≡ ask' → TellsPlainly r
+asked-same : StepIsDetermined → (d d' : DeskSeen) (ask ask' : SessionAsk) (r r' : SessionAnswer) (q q' : DeskSeen) → IsSameDesk d d' → ask ≡ ask' → TellsPlainly r
     → TellsPlainly r' → KeepsKeys ask r → KeepsKeys ask' r' → (a : Answers [] d ask r q) → (a' : Answers [] d' ask' r' q')
-    → toll a.failed a.after.cage.cards ≡ toll a'.failed a'.after.cage.cards → (r ≡ r') × (q ≡ q')
+    → toll a.failed a.after.cage.cards ≡ toll a'.failed a'.after.cage.cards → (r ≡ r') × IsSameDesk q q'
 asked-same once d d' ask ask' r r' q q' desks asks plain plain' keys keys' a a' tolls =
     let key = subst (λ (x : SessionAsk). KeepsKey d.panel (AskSession x) (SaysSession r' a'.brings)) (sym asks) (keys' d.panel a'.brings) in
     let here : Step d.panel (AskSession ask) a'.failed (SaysSession r' a'.brings) a'.after =
@@ -123,9 +130,9 @@ told-keeps (Pauses ticket micros) p ask a is = subst (λ (x : AskView). KeepsKey
 told-keeps (Measures job) p ask a (done, ran, is) = subst (λ (x : AskView). KeepsKey p x a) (sym is) tt
 
 -- a wait in which one piece is carried out
-worked-same : StepIsDetermined → (d d' q q' : DeskSeen) (c c' : Carried) (os os' : List Outcome) → d ≡ d' → IsPlain c.answer
+worked-same : StepIsDetermined → (d d' q q' : DeskSeen) (c c' : Carried) (os os' : List Outcome) → IsSameDesk d d' → IsPlain c.answer
     → IsPlain c'.answer → measured c.ask ++ Cards (toll c.failed c.after.cage.cards) ∷ os ≡ measured c'.ask ++ Cards (toll c'.failed c'.after.cage.cards) ∷ os'
-    → Works c [] d q → Works c' [] d' q' → (q ≡ q') × (os ≡ os')
+    → Works c [] d q → Works c' [] d' q' → IsSameDesk q q' × (os ≡ os')
 worked-same once d d' q q' c c' os os' desks plain plain' outcomes w w' =
     let queues : w.piece ∷ w.others ≡ w'.piece ∷ w'.others = sym w.oldest ∙ ap (λ (x : DeskSeen). x.work) desks ∙ w'.oldest in
     let tells : Tells w.piece c'.ask =
@@ -150,9 +157,9 @@ worked-same once d d' q q' c c' os os' desks plain plain' outcomes w w' =
 
 -- a wait
 waited-same : StepIsDetermined → (d d' q q' : DeskSeen) (limit limit' : Option ℕ) (w w' : Wake) (cs cs' : List Carried)
-    (os os' : List Outcome) → d ≡ d' → limit ≡ limit' → IsSmooth (Waited limit w) cs
+    (os os' : List Outcome) → IsSameDesk d d' → limit ≡ limit' → IsSmooth (Waited limit w) cs
     → IsSmooth (Waited limit' w') cs' → outcomes_in cs ++ os ≡ outcomes_in cs' ++ os' → PassesBy cs d (Waited limit w) q → PassesBy cs' d' (Waited limit' w') q'
-    → (w ≡ w') × (q ≡ q') × (os ≡ os')
+    → (w ≡ w') × IsSameDesk q q' × (os ≡ os')
 waited-same once d d' q q' limit limit' (Again left) w' [] cs' os os' desks limits m n outcomes p p' = absurd p
 waited-same once d d' q q' limit limit' (Again left) w' (a ∷ b ∷ cs) cs' os os' desks limits m n outcomes p p' = absurd (omega arith)
 waited-same once d d' q q' limit limit' (Again left) (Again left') (c ∷ []) [] os os' desks limits m n outcomes p p' = absurd p'
@@ -171,29 +178,30 @@ waited-same once d d' q q' limit limit' Over w' (c ∷ cs) cs' os os' desks limi
 waited-same once d d' q q' limit limit' Over (Again left) [] [] os os' desks limits m n outcomes p p' = absurd p'
 waited-same once d d' q q' limit limit' Over (Again left) [] (c' ∷ cs') os os' desks limits m n outcomes p p' =
     let none : p'.1.piece ∷ p'.1.others ≡ [] = sym p'.1.oldest ∙ ap (λ (x : DeskSeen). x.work) (sym desks) ∙ p.0 in absurd (cc none)
-waited-same once d d' q q' limit limit' Over Over [] [] os os' desks limits m n outcomes p p' = (refl, p.1 ∙ desks ∙ sym p'.1, outcomes)
+waited-same once d d' q q' limit limit' Over Over [] [] os os' desks limits m n outcomes p p' =
+    (refl, ap but_room p.1 ∙ desks ∙ sym (ap but_room p'.1), outcomes)
 waited-same once d d' q q' limit limit' Over Over [] (c' ∷ cs') os os' desks limits m n outcomes p p' = absurd p'
 
 -- a look at a session's status
-polled-same : (d d' q q' : DeskSeen) (sid sid' : Sid) (v v' : View) (cs cs' : List Carried) (os os' : List Outcome) → d ≡ d' → sid ≡ sid'
+polled-same : (d d' q q' : DeskSeen) (sid sid' : Sid) (v v' : View) (cs cs' : List Carried) (os os' : List Outcome) → IsSameDesk d d' → sid ≡ sid'
     → outcomes_in cs ++ os ≡ outcomes_in cs' ++ os'
-    → PassesBy cs d (Polled sid v) q → PassesBy cs' d' (Polled sid' v') q' → (v ≡ v') × (q ≡ q') × (os ≡ os')
+    → PassesBy cs d (Polled sid v) q → PassesBy cs' d' (Polled sid' v') q' → (v ≡ v') × IsSameDesk q q' × (os ≡ os')
 polled-same d d' q q' sid sid' v v' [] [] os os' desks sids outcomes p p' = (
   p.0 ∙ ap (λ (x : DeskSeen). view_of x sid) desks ∙ ap (λ (x : Sid). view_of d' x) sids ∙ sym p'.0,
-  p.1 ∙ desks ∙ sym p'.1,
+  ap but_room p.1 ∙ desks ∙ sym (ap but_room p'.1),
   outcomes,
 )
 polled-same d d' q q' sid sid' v v' (c ∷ cs) cs' os os' desks sids outcomes p p' = absurd p
 polled-same d d' q q' sid sid' v v' [] (c' ∷ cs') os os' desks sids outcomes p p' = absurd p'
 
 -- a note
-noted-same : (d d' q q' : DeskSeen) (sid sid' : Sid) (m m' : Bool) (cs cs' : List Carried) (os os' : List Outcome) → d ≡ d' → sid ≡ sid'
+noted-same : (d d' q q' : DeskSeen) (sid sid' : Sid) (m m' : Bool) (cs cs' : List Carried) (os os' : List Outcome) → IsSameDesk d d' → sid ≡ sid'
     → m ≡ m' → outcomes_in cs ++ os ≡ outcomes_in cs' ++ os'
-    → PassesBy cs d (Noted sid m) q → PassesBy cs' d' (Noted sid' m') q' → (q ≡ q') × (os ≡ os')
+    → PassesBy cs d (Noted sid m) q → PassesBy cs' d' (Noted sid' m') q' → IsSameDesk q q' × (os ≡ os')
 noted-same d d' q q' sid sid' m m' [] [] os os' desks sids notes outcomes p p' = (
-  p ∙ ap (λ (x : DeskSeen). record x { available = with_note x.available sid m }) desks
-      ∙ ap (λ (x : Sid). record d' { available = with_note d'.available x m }) sids
-      ∙ ap (λ (x : Bool). record d' { available = with_note d'.available sid' x }) notes ∙ sym p',
+  ap but_room p ∙ ap (λ (x : DeskSeen). let r : DeskSeen = record x { available = with_note x.available sid m } in r) desks
+      ∙ ap (λ (x : Sid). let r : DeskSeen = record d' { available = with_note d'.available x m; room = 0 } in r) sids
+      ∙ ap (λ (x : Bool). let r : DeskSeen = record d' { available = with_note d'.available sid' x; room = 0 } in r) notes ∙ sym (ap but_room p'),
   outcomes,
 )
 noted-same d d' q q' sid sid' m m' (c ∷ cs) cs' os os' desks sids notes outcomes p p' = absurd p
@@ -201,10 +209,10 @@ noted-same d d' q q' sid sid' m m' [] (c' ∷ cs') os os' desks sids notes outco
 
 -- one call: it comes to the same, and what follows it does
 abbrev SameAfter : Entry → Entry → DeskSeen → DeskSeen → List Outcome → List Outcome → Type 0 → Type 0
-SameAfter e e' q q' os os' follows = (e ≡ e') × (q ≡ q') × (os ≡ os') × follows
+SameAfter e e' q q' os os' follows = (e ≡ e') × IsSameDesk q q' × (os ≡ os') × follows
 
 passed-same : StepIsDetermined → (d d' q q' : DeskSeen) (e e' : Entry) (cs cs' : List Carried) (os os' : List Outcome) (follows : Type 0)
-    → d ≡ d' → IsSmooth e cs → IsSmooth e' cs'
+    → IsSameDesk d d' → IsSmooth e cs → IsSmooth e' cs'
     → (p : PassesBy cs d e q) → (p' : PassesBy cs' d' e' q') → outcomes_by cs d e q p ++ os ≡ outcomes_by cs' d' e' q' p' ++ os' → SameCall e e' follows
     → SameAfter e e' q q' os os' follows
 passed-same once d d' q q' (Asked a r) (Asked a' r') [] [] os os' follows desks m n p p' outcomes (asks, on) =
@@ -229,9 +237,9 @@ passed-same once d d' q q' (Noted sid b) (Noted sid' b') cs cs' os os' follows d
 passed-same once d d' q q' e e' cs cs' os os' follows desks m n p p' outcomes same = absurd same
 
 same-run : StepIsDetermined → {T : Type 0} (d d' q q' : DeskSeen) (b b' : T) (t t' : List Entry) (l : Leads CorePasses d t q) (l' : Leads CorePasses d' t' q')
-    → d ≡ d' → AllSmooth t (carried_of d t q l) → AllSmooth t' (carried_of d' t' q' l')
-    → outcomes_of d t q l ≡ outcomes_of d' t' q' l' → SameTalk b b' t t' → (t ≡ t') × (b ≡ b') × (q ≡ q')
-same-run once d d' q q' b b' [] [] l l' desks m n outcomes s = (refl, s, l ∙ desks ∙ sym l')
+    → IsSameDesk d d' → AllSmooth t (carried_of d t q l) → AllSmooth t' (carried_of d' t' q' l')
+    → outcomes_of d t q l ≡ outcomes_of d' t' q' l' → SameTalk b b' t t' → (t ≡ t') × (b ≡ b') × IsSameDesk q q'
+same-run once d d' q q' b b' [] [] l l' desks m n outcomes s = (refl, s, ap but_room l ∙ desks ∙ sym (ap but_room l'))
 same-run once d d' q q' b b' [] (e ∷ t') l l' desks m n outcomes s = absurd s
 same-run once d d' q q' b b' (e ∷ t) [] l l' desks m n outcomes s = absurd s
 same-run once d d' q q' b b' (e ∷ t) (e' ∷ t') (mid, (cs, p), l) (mid', (cs', p'), l') desks m n outcomes s =
@@ -241,10 +249,11 @@ same-run once d d' q q' b b' (e ∷ t) (e' ∷ t') (mid, (cs, p), l) (mid', (cs'
     (cc (one.0, rest.0), rest.1, rest.2)
 
 pub core-talk-determined : StepIsDetermined → TalkIsDetermined → CoreTalkIsDetermined
-core-talk-determined once talk sid old new new' message bytes bytes' t t' ample ample' smooth smooth' outcomes =
-    let one = same-run once old.desk old.desk new.desk new'.desk (left bytes new.macros) (left bytes' new'.macros) t.trace t'.trace t.leads t'.leads
-    refl smooth smooth' outcomes
-    (talk sid old.macros (strip_last 10 message) t.trace t'.trace bytes bytes' new.macros new'.macros t.talks t'.talks ample ample') in
+core-talk-determined once talk sid old old' new new' message bytes bytes' t t' desks macros ample ample' smooth smooth' outcomes =
+    let talks = subst (λ (m : Table). TalksMessage sid m (strip_last 10 message) t'.trace bytes' new'.macros) (sym macros) t'.talks in
+    let one = same-run once old.desk old'.desk new.desk new'.desk (left bytes new.macros) (left bytes' new'.macros) t.trace t'.trace t.leads t'.leads
+    desks smooth smooth' outcomes
+    (talk sid old.macros (strip_last 10 message) t.trace t'.trace bytes bytes' new.macros new'.macros t.talks talks ample ample') in
     (one.0, ap (λ (x : Left). x.bytes) one.1, ap (λ (x : Left). x.macros) one.1, one.2)
 
 -- two rests wait alike until one is over
@@ -256,5 +265,5 @@ rests-alike (suc n) zero = (refl, λ e. absurd (cc (e)))
 rests-alike (suc n) (suc m) = (refl, λ e. rests-alike n m)
 
 pub core-rest-determined : StepIsDetermined → CoreRestIsDetermined
-core-rest-determined once d e e' r r' smooth smooth' outcomes =
-    (same-run once d d e e' 0 0 (waits_of r) (waits_of r') r.leads r'.leads refl smooth smooth' outcomes (rests-alike r.waits r'.waits)).2
+core-rest-determined once d d' e e' r r' desks smooth smooth' outcomes =
+    (same-run once d d' e e' 0 0 (waits_of r) (waits_of r') r.leads r'.leads desks smooth smooth' outcomes (rests-alike r.waits r'.waits)).2

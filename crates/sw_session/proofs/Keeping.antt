@@ -1,5 +1,5 @@
 -- Work that is kept or carried out.
-use Rattle.std.proofs.Common.{◌≡◌, ℕ, suc, ◌+◌, ◌<◌, Bool, true, false, List, [], ◌∷◌, ◌++◌, Option, Some, None, refl, sym, ap, ◌∙◌, subst, arith}
+use Rattle.std.proofs.Common.{◌≡◌, ℕ, suc, ◌+◌, ◌<◌, ◌≤◌, Bool, true, false, List, [], ◌∷◌, ◌++◌, Option, Some, None, refl, sym, ap, ◌∙◌, subst, arith}
 use Rattle.std.specs.Prelude.{replicate, IfSome, map}
 use Rattle.std.proofs.lemmas.List.{append-nil, map-append, replicate_more}
 use Rattle.sw_core.specs.declared.ask.Sid.{Sid}
@@ -14,7 +14,7 @@ use Rattle.sw_session.specs.declared.desk.View.{View}
 use Rattle.sw_session.specs.declared.desk.Wake.TheVariants.{Again, Over}
 use Rattle.sw_session.specs.Trace.{Entry, Asked, Waited, Polled, Noted, Leads, LeavesOf}
 use Rattle.sw_session.specs.Available.{Notes, with_note}
-use Rattle.sw_session.specs.CoreDesk.{DeskSeen, Carried, CarriesOut, CarriesOldest, Tells, Keeps, IsKept}
+use Rattle.sw_session.specs.CoreDesk.{DeskSeen, IsFull, Carried, CarriesOut, CarriesOldest, Tells, Keeps, IsKept}
 use Rattle.sw_session.specs.CoreDesk.{IsCarried, PassesBy, CorePasses, Rests, most_waits, brought}
 use Rattle.sw_session.specs.CoreDesk.{piece_seen, view_of}
 use Rattle.sw_session.proofs.Led.{leads-append}
@@ -44,19 +44,20 @@ seen-none (Answer.Back done) differs = refl
 seen-none (Answer.Worn ask) differs = refl
 
 -- a desk of which nothing but its mainframe changed
-with-panel : (old new : DeskSeen) → new.work ≡ old.work → new.available ≡ old.available → new ≡ record old { panel = new.panel }
-with-panel old new work available =
-    ap (λ (x : List WorkView). record new { work = x }) work ∙ ap (λ (x : Notes). record old { panel = new.panel; available = x }) available
+with-panel : (old new : DeskSeen) → new.work ≡ old.work → new.room ≡ old.room → new.available ≡ old.available → new ≡ record old { panel = new.panel }
+with-panel old new work room available =
+    ap (λ (x : List WorkView). record new { work = x }) work ∙ ap (λ (x : ℕ). record new { work = old.work; room = x }) room
+    ∙ ap (λ (x : Notes). record old { panel = new.panel; available = x }) available
 
 -- what is told of a piece, and answered
 pub carried : (old new : DeskSeen) (piece : WorkView) (ask : AskView) (failed : Bool) (answer : AnswerView) (brings : Option WorkView) → Tells piece ask
-    → Step old.panel ask failed answer new.panel → brings ≡ brought answer → new.work ≡ old.work → new.available ≡ old.available
-    → IsCarried old piece brings new
-carried old new piece ask failed answer brings tells step is work available = record {
+    → Step old.panel ask failed answer new.panel → brings ≡ brought answer → new.work ≡ old.work → new.room ≡ old.room
+    → new.available ≡ old.available → IsCarried old piece brings new
+carried old new piece ask failed answer brings tells step is work room available = record {
   c = record { ask = ask; failed = failed; answer = answer; after = new.panel };
   carries = record { tells = tells; step = step };
   brings_is = is;
-  leaves = with-panel old new work available;
+  leaves = with-panel old new work room available;
 }
 
 -- what is kept from here on is kept from the start
@@ -72,23 +73,29 @@ keeps-none {M} start brings d w by is = by [] d (subst (λ (x : Option (Work M))
 
 pub keeps-last : {M : _} (start : DeskSeen) (brings : Option WorkView) (d new : DeskSeen) (w : Option (Work M)) (piece : Work M)
     → KeepsBy start brings d (work_view w)
-    → w ≡ Some piece → new ≡ record d { work = d.work ++ piece_seen piece ∷ [] } → (all : List Carried) × Keeps all start brings new
-keeps-last {M} start brings d new w piece by is put =
-    let last : Keeps [] d (Some (piece_seen piece)) new = put in
+    → w ≡ Some piece → new ≡ record d { work = d.work ++ piece_seen piece ∷ []; room = new.room } → d.room ≤ new.room
+    → (all : List Carried) × Keeps all start brings new
+keeps-last {M} start brings d new w piece by is put roomy =
+    let last : Keeps [] d (Some (piece_seen piece)) new = record { roomy = roomy; leaves = put } in
     by [] new (subst (λ (x : Option WorkView). Keeps [] d x new) (sym (ap work_view is ∙ seen-some piece)) last)
 
 pub keeps-on : {M : _} (start : DeskSeen) (brings : Option WorkView) (d mid new : DeskSeen) (w : Option (Work M)) (piece oldest : Work M)
     (brings' : Option WorkView) → KeepsBy start brings d (work_view w) → w ≡ Some piece → d.work ++ piece_seen piece ∷ [] ≡ piece_seen oldest ∷ mid.work
-    → mid ≡ record d { work = mid.work } → IsCarried mid (piece_seen oldest) brings' new → KeepsBy start brings new brings'
-keeps-on {M} start brings d mid new w piece oldest brings' by is first same k = λ more end keeps.
+    → mid ≡ record d { work = mid.work; room = mid.room } → IsFull d → d.room ≤ mid.room
+    → IsCarried mid (piece_seen oldest) brings' new → KeepsBy start brings new brings'
+keeps-on {M} start brings d mid new w piece oldest brings' by is first same full roomy k = λ more end keeps.
     let on : Keeps more new (brought k.c.answer) end = subst (λ (x : Option WorkView). Keeps more new x end) k.brings_is keeps in
     let carries : CarriesOut d.panel (piece_seen oldest) k.c = subst (λ (x : DeskSeen). CarriesOut x.panel (piece_seen oldest) k.c) same k.carries in
+    let room : new.room ≡ mid.room = ap (λ (x : DeskSeen). x.room) k.leaves in
     let off : CarriesOldest d (d.work ++ piece_seen piece ∷ []) k.c new = record {
+      full = full;
       piece = piece_seen oldest;
       others = mid.work;
       oldest = first;
       carries = carries;
-      leaves = k.leaves ∙ ap (λ (x : DeskSeen). let r : DeskSeen = record x { panel = k.c.after } in r) same;
+      roomy = subst (λ (n : ℕ). d.room ≤ n) (sym room) roomy;
+      leaves = k.leaves ∙ ap (λ (x : DeskSeen). let r : DeskSeen = record x { panel = k.c.after } in r) same
+          ∙ ap (λ (n : ℕ). let r : DeskSeen = record d { panel = k.c.after; work = mid.work; room = n } in r) (sym room);
     } in
     let all : Keeps (k.c ∷ more) d (Some (piece_seen piece)) end = (new, off, on) in
     by (k.c ∷ more) end (subst (λ (x : Option WorkView). Keeps (k.c ∷ more) d x end) (sym (ap work_view is ∙ seen-some piece)) all)
@@ -106,7 +113,7 @@ weight-less d new piece (Some work) k =
     omega arith
 
 pub weight-falls : {M : _} (d mid new : DeskSeen) (w : Option (Work M)) (piece oldest : Work M) (brings : Option WorkView) → w ≡ Some piece
-    → mid ≡ record d { work = mid.work } → IsCarried mid (piece_seen oldest) brings new
+    → mid ≡ record d { work = mid.work; room = mid.room } → IsCarried mid (piece_seen oldest) brings new
     → weight brings new.panel < weight (work_view w) d.panel
 weight-falls d mid new w piece oldest brings is same k =
     let panels : mid.panel ≡ d.panel = ap (λ (x : DeskSeen). x.panel) same in
@@ -115,16 +122,17 @@ weight-falls d mid new w piece oldest brings is same k =
 
 -- an ask
 pub passes-ask : (old mid new : DeskSeen) (ask : SessionAsk) (failed : Bool) (answer : SessionAnswer) (brings : Option WorkView)
-    → Step old.panel (AskSession ask) failed (SaysSession answer brings) mid.panel → mid.work ≡ old.work → mid.available ≡ old.available → IsKept mid brings new
+    → Step old.panel (AskSession ask) failed (SaysSession answer brings) mid.panel → mid.work ≡ old.work → mid.room ≡ old.room → mid.available ≡ old.available
+    → IsKept mid brings new
     → CorePasses old (Asked ask answer) new
-passes-ask old mid new ask failed answer brings step work available kept = (
+passes-ask old mid new ask failed answer brings step work room available kept = (
   kept.carried,
   record {
     failed = failed;
     brings = brings;
     after = mid.panel;
     step = step;
-    keeps = subst (λ (d : DeskSeen). Keeps kept.carried d brings new) (with-panel old mid work available) kept.keeps;
+    keeps = subst (λ (d : DeskSeen). Keeps kept.carried d brings new) (with-panel old mid work room available) kept.keeps;
   },
 )
 

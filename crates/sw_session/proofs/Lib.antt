@@ -9,4 +9,19 @@ pub mod HandedBack
 pub mod Acted
 pub mod Determined
 pub mod CoreTalk
+pub mod Cuts
+pub mod SubAddress
+pub mod EngineAsks
+pub mod LockWaits
+pub mod AsyncRows
+pub mod SyncRows
+pub mod SyncAnswers
+pub mod SyncTalks
+pub mod SyncShort
+pub mod EngineTakes
 mod Order
+pub mod ServeKnown
+pub mod ServeParts
+pub mod ServeWays
+pub mod ServeTurns
+pub mod ServeSpeaks

@@ -1,5 +1,6 @@
 -- A desk over a mainframe of its own.
-use Rattle.std.specs.Prelude.{◌≡◌, ℕ, ◌-◌, ◌^◌, Bool, true, false, List, [], ◌∷◌, ◌++◌, replicate, Option, None, Some}
+use Rattle.std.specs.Prelude.{◌≡◌, ℕ, ◌-◌, ◌^◌, ◌≤◌, Bool, true, false, List, [], ◌∷◌, ◌++◌, length, replicate}
+use Rattle.std.specs.Prelude.{Option, None, Some}
 use Rattle.sw_status.specs.StatusModel.{summary_of}
 use Rattle.sw_cage.specs.Work.{FinishedSeen, IsDone}
 use Rattle.sw_core.specs.declared.ask.Sid.{Sid}
@@ -15,15 +16,25 @@ use Rattle.sw_session.specs.declared.desk.Wake.TheVariants.{Again, Over}
 use Rattle.sw_session.specs.Trace.{Entry, Asked, Waited, Polled, Noted, Leads}
 use Rattle.sw_session.specs.Available.{Notes, no_notes, is_available, with_note}
 
--- the mainframe's panel, the work that is outstanding, the oldest first, and for which sessions a message is available
+-- the mainframe's panel, the work that is outstanding, the oldest first, for how many pieces of it there is room before
+-- that has to grow, and for which sessions a message is available
 pub record DeskSeen : Type 0 where
   pub panel : Panel
   pub work : List WorkView
+  pub room : ℕ
   pub available : Notes
 
--- a desk over this mainframe, with nothing outstanding and no message available
+-- a desk over this mainframe, with nothing outstanding, no room yet, and no message available
 abbrev pub desk_over : Panel → DeskSeen
-desk_over p = record { panel = p; work = []; available = no_notes }
+desk_over p = record { panel = p; work = []; room = 0; available = no_notes }
+
+-- a desk but for how much room it has
+abbrev pub but_room : DeskSeen → DeskSeen
+but_room d = record d { room = 0 }
+
+-- the next piece needs a growth
+abbrev pub IsFull : DeskSeen → Type 0
+IsFull d = d.room ≤ length d.work
 
 -- a piece of work as plain data
 abbrev pub piece_seen : {M : _} → Work M → WorkView
@@ -53,19 +64,26 @@ pub record CarriesOut (old : Panel) (piece : WorkView) (c : Carried) : Type 0 wh
   pub tells : Tells piece c.ask
   pub step : Step old c.ask c.failed c.answer c.after
 
--- The oldest of this work is carried out, and the rest stays in its order.
+-- The piece is put behind the rest, for which the room may grow.
+pub record PutsBehind (old : DeskSeen) (piece : WorkView) (new : DeskSeen) : Type 0 where
+  pub roomy : old.room ≤ new.room
+  pub leaves : new ≡ record old { work = old.work ++ piece ∷ []; room = new.room }
+
+-- There is no room for the last piece of this work: the oldest is carried out, and the rest stays in its order.
 pub record CarriesOldest (old : DeskSeen) (work : List WorkView) (c : Carried) (new : DeskSeen) : Type 0 where
+  pub full : IsFull old
   pub piece : WorkView
   pub others : List WorkView
   pub oldest : work ≡ piece ∷ others
   pub carries : CarriesOut old.panel piece c
-  pub leaves : new ≡ record old { panel = c.after; work = others }
+  pub roomy : old.room ≤ new.room
+  pub leaves : new ≡ record old { panel = c.after; work = others; room = new.room }
 
 -- Work that came with an answer is kept behind the rest. Where a growth for it was refused, the oldest piece of all is
 -- carried out at once in its place, and what comes of that is kept in turn.
 abbrev pub Keeps : List Carried → DeskSeen → Option WorkView → DeskSeen → Type 0
 Keeps [] d None new = new ≡ d
-Keeps [] d (Some piece) new = new ≡ record d { work = d.work ++ piece ∷ [] }
+Keeps [] d (Some piece) new = PutsBehind d piece new
 Keeps (c ∷ carried) d None new = ⊥
 Keeps (c ∷ carried) d (Some piece) new =
     (mid : DeskSeen) × CarriesOldest d (d.work ++ piece ∷ []) c mid × Keeps carried mid (brought c.answer) new

@@ -12,7 +12,7 @@ use Rattle.sw_core.specs.Panel.{Panel}
 use Rattle.sw_core.specs.Run.{IsPlain, KeepsKey, Toll, toll}
 use Rattle.sw_core.specs.View.{WorkView, AskView, AskSession, AskFinished, SaysSession}
 use Rattle.sw_macro.specs.Table.{Table}
-use Rattle.sw_session.specs.CoreDesk.{DeskSeen, Carried, PassesBy, CorePasses, Rests, last_wait}
+use Rattle.sw_session.specs.CoreDesk.{DeskSeen, but_room, Carried, PassesBy, CorePasses, Rests, last_wait}
 use Rattle.sw_session.specs.declared.desk.Wake.TheVariants.{Again}
 use Rattle.sw_session.specs.Trace.{Entry, Asked, Waited, Polled, Noted, Leads}
 use Rattle.sw_session.specs.Talk.{State, Talked, TalksMessage}
@@ -119,16 +119,20 @@ abbrev pub outcomes_in_talk : {old new : State DeskSeen} {sid : Sid} {message by
     → Talked CorePasses sid old message bytes new → List Outcome
 outcomes_in_talk {old} {new} t = outcomes_of old.desk t.trace new.desk t.leads
 
+-- two desks differ in their room alone
+abbrev pub IsSameDesk : DeskSeen → DeskSeen → Type 0
+IsSameDesk d d' = but_room d ≡ but_room d'
+
 -- Over a mainframe the message, the macros, the outcomes of the measurements that are carried out and what came of the
--- cards determine what is asked, answered and written, the desk that is left and the macros, where no growth was
--- refused.
+-- cards determine what is asked, answered and written, the desk that is left, whatever its room, and the macros, where
+-- no growth was refused.
 abbrev pub CoreTalkIsDetermined : Type 0
-CoreTalkIsDetermined = (sid : Sid) (old new new' : State DeskSeen) (message bytes bytes' : List ℕ)
-    (t : Talked CorePasses sid old message bytes new)
-    (t' : Talked CorePasses sid old message bytes' new') → AllAmple t.trace → AllAmple t'.trace
+CoreTalkIsDetermined = (sid : Sid) (old old' new new' : State DeskSeen) (message bytes bytes' : List ℕ)
+    (t : Talked CorePasses sid old message bytes new) (t' : Talked CorePasses sid old' message bytes' new')
+    → IsSameDesk old.desk old'.desk → old.macros ≡ old'.macros → AllAmple t.trace → AllAmple t'.trace
     → AllSmooth t.trace (carried_in t) → AllSmooth t'.trace (carried_in t')
     → outcomes_in_talk t ≡ outcomes_in_talk t' → (t.trace ≡ t'.trace) × (bytes ≡ bytes')
-    × (new.macros ≡ new'.macros) × (new.desk ≡ new'.desk)
+    × (new.macros ≡ new'.macros) × IsSameDesk new.desk new'.desk
 
 -- the calls of a rest that succeeds, the pieces that were carried out in them, and their outcomes
 abbrev pub waits_of : {old new : DeskSeen} → Rests old true new → List Entry
@@ -140,8 +144,9 @@ carried_at_rest {old} {new} r = carried_of old (waits_of r) new r.leads
 abbrev pub outcomes_at_rest : {old new : DeskSeen} → Rests old true new → List Outcome
 outcomes_at_rest {old} {new} r = outcomes_of old (waits_of r) new r.leads
 
--- A rest that succeeds leaves one desk for what is measured and what came of the cards, where no growth was refused.
+-- A rest that succeeds leaves one desk, whatever its room, for what is measured and what came of the cards, where no
+-- growth was refused.
 abbrev pub CoreRestIsDetermined : Type 0
-CoreRestIsDetermined = (d e e' : DeskSeen) (r : Rests d true e) (r' : Rests d true e')
+CoreRestIsDetermined = (d d' e e' : DeskSeen) (r : Rests d true e) (r' : Rests d' true e') → IsSameDesk d d'
     → AllSmooth (waits_of r) (carried_at_rest r) → AllSmooth (waits_of r') (carried_at_rest r')
-    → outcomes_at_rest r ≡ outcomes_at_rest r' → e ≡ e'
+    → outcomes_at_rest r ≡ outcomes_at_rest r' → IsSameDesk e e'

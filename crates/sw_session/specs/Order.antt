@@ -1,5 +1,5 @@
--- The order of a desk's work.
-use Rattle.std.specs.Prelude.{◌≡◌, List, [], ◌∷◌, ◌++◌, Option, None, Some}
+-- The order of a desk's work, and when it is kept.
+use Rattle.std.specs.Prelude.{◌≡◌, ◌<◌, ◌≤◌, List, [], ◌∷◌, ◌++◌, length, Option, None, Some}
 use Rattle.sw_core.specs.View.{WorkView}
 use Rattle.sw_session.specs.declared.desk.Wake.TheVariants.{Again}
 use Rattle.sw_session.specs.Trace.{Entry, Asked, Waited}
@@ -29,14 +29,21 @@ done_at_once (c ∷ carried) old None new keeps = []
 done_at_once (c ∷ carried) old (Some piece) new (mid, off, keeps) =
     off.piece ∷ done_at_once carried mid (brought c.answer) new keeps
 
--- the pieces that were carried out in one call
+-- the pieces that were carried out at once in one call
+abbrev pub at_once_in : (carried : List Carried) (old : DeskSeen) (entry : Entry) (new : DeskSeen)
+    → PassesBy carried old entry new → List WorkView
+at_once_in carried old (Asked ask answer) new passes =
+    done_at_once carried (record old { panel = passes.after }) passes.brings new passes.keeps
+at_once_in (c ∷ carried) old (Waited limit (Again left)) new (is, works) =
+    done_at_once carried (record old { panel = c.after; work = works.others }) (brought c.answer) new works.keeps
+at_once_in carried old entry new passes = []
+
+-- the pieces that were carried out in one call: the oldest in a wait, and these
 abbrev pub done_in : (carried : List Carried) (old : DeskSeen) (entry : Entry) (new : DeskSeen)
     → PassesBy carried old entry new → List WorkView
-done_in carried old (Asked ask answer) new passes =
-    done_at_once carried (record old { panel = passes.after }) passes.brings new passes.keeps
+done_in carried old (Asked ask answer) new passes = at_once_in carried old (Asked ask answer) new passes
 done_in (c ∷ carried) old (Waited limit (Again left)) new (is, works) =
-    works.piece
-    ∷ done_at_once carried (record old { panel = c.after; work = works.others }) (brought c.answer) new works.keeps
+    works.piece ∷ at_once_in (c ∷ carried) old (Waited limit (Again left)) new (is, works)
 done_in carried old entry new passes = []
 
 -- In each call of a desk, what was outstanding before it and then what came in it is, piece by piece, what was carried
@@ -44,3 +51,13 @@ done_in carried old entry new passes = []
 abbrev pub WorkIsDoneInOrder : Type 0
 WorkIsDoneInOrder = (old new : DeskSeen) (entry : Entry) (passes : CorePasses old entry new)
     → old.work ++ came_in passes.0 old entry new passes.1 ≡ done_in passes.0 old entry new passes.1 ++ new.work
+
+-- there is room for a piece that comes in such a call, of which a wait takes one off first
+abbrev pub HasRoom : Entry → DeskSeen → Type 0
+HasRoom (Waited limit wake) d = length d.work ≤ d.room
+HasRoom entry d = length d.work < d.room
+
+-- In a call of a desk that has room, nothing is carried out at once.
+abbrev pub WorkIsKeptWhereThereIsRoom : Type 0
+WorkIsKeptWhereThereIsRoom = (old new : DeskSeen) (entry : Entry) (passes : CorePasses old entry new)
+    → HasRoom entry old → at_once_in passes.0 old entry new passes.1 ≡ []

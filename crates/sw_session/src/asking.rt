@@ -85,6 +85,7 @@ fn carry_out<D: Desk>(
 }
 
 /// Answers what a macro command came to, and queues its refusal.
+#[inline(never)]
 fn report<D: Desk>(desk: &mut D, sid: Sid, outcome: Outcome) -> SessionAnswer
     ensures { Led D.passes desk.old desk.new (λ t rest. Reports sid outcome t result rest) }
 {
@@ -95,6 +96,7 @@ fn report<D: Desk>(desk: &mut D, sid: Sid, outcome: Outcome) -> SessionAnswer
 }
 
 /// Asks for a reset; one that is done switches macros off.
+#[inline(never)]
 fn reset<D: Desk>(desk: &mut D, sid: Sid, macros: &mut Macros, answered: bool) -> SessionAnswer
     ensures asked { Led D.passes desk.old desk.new (λ t rest.
         Settles sid 0 (SessionAsk.Unit sid Command.Reset answered) t result rest) }
@@ -114,6 +116,7 @@ fn is_done(answer: &SessionAnswer) -> bool
 }
 
 /// Asks what a scan would begin from, and plans it.
+#[inline(never)]
 fn initiate<D: Desk>(desk: &mut D, sid: Sid, alloc: Global) -> SessionAnswer
     ensures { Led D.passes desk.old desk.new (λ t rest. StartsScan sid t result rest) }
 {
@@ -135,7 +138,7 @@ fn plan<D: Desk>(desk: &mut D, sid: Sid, alloc: Global, told: SessionAnswer) -> 
 }
 
 /// Asks until the ask isn't held; gives it up where the waiting is over, or after `TURNS` turns.
-fn settle<D: Desk>(desk: &mut D, sid: Sid, ask: SessionAsk) -> SessionAnswer
+pub fn settle<D: Desk>(desk: &mut D, sid: Sid, ask: SessionAsk) -> SessionAnswer
     ensures { Led D.passes desk.old desk.new (λ t rest. Settles sid 0 ask t result rest) }
 {
     let mut ask = ask;
@@ -152,6 +155,7 @@ fn settle<D: Desk>(desk: &mut D, sid: Sid, ask: SessionAsk) -> SessionAnswer
 }
 
 /// Queues an error, and answers as a refusal by it.
+#[inline(never)]
 pub fn queue<D: Desk>(desk: &mut D, sid: Sid, error: ScpiError) -> SessionAnswer
     ensures { Led D.passes desk.old desk.new (λ t rest. Queues sid error t result rest) }
 {

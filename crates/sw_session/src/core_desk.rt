@@ -4,7 +4,7 @@ ghost use Rattle.std.specs.Prelude.{◌≡◌, ◌≤◌, Bool, true, [], ◌∷
 ghost use Rattle.std.specs.VecDeque.{deque_len, deque_capacity};
 ghost use Rattle.sw_core.specs.View.{ask_view, answer_view, work_view};
 ghost use Rattle.sw_core.specs.Step.{Step};
-ghost use Rattle.sw_session.specs.CoreDesk.{IsKept, IsCarried, Tells, Rests, desk_over, piece_seen};
+ghost use Rattle.sw_session.specs.CoreDesk.{IsKept, IsCarried, IsFull, Tells, Rests, desk_over, piece_seen};
 
 use crate::available::Available;
 use crate::desk::{Desk, View, Wake};
@@ -15,7 +15,7 @@ use sw_card::{Meter, Relay};
 use sw_core::{Answer, Ask, Core, SessionAnswer, SessionAsk, Sid, Work};
 
 /// A desk over a mainframe of its own, on one thread. Contracts see the mainframe's panel, the work that is
-/// outstanding, the oldest first, and for which sessions a message is available.
+/// outstanding, the oldest first, for how much of it there is room, and for which sessions a message is available.
 ///
 /// A wait carries out the oldest piece, and is over where there is none. Nothing takes time, so that all
 /// of its limit is left. Where there is no memory for a piece, the oldest of all is carried out at once.
@@ -29,22 +29,28 @@ pub struct CoreDesk<R: Relay, M: Meter> {
 
 impl<R: Relay, M: Meter> Model for CoreDesk<R, M> {
     ghost use Rattle.std.specs.Prelude.{map};
+    ghost use Rattle.std.specs.VecDeque.{deque_capacity};
     ghost use Rattle.sw_session.specs.CoreDesk.{DeskSeen, piece_seen};
 
     ghost Value = { DeskSeen };
 
-    ghost view = { λ d. record { panel = d.core; work = map piece_seen d.work.items; available = d.available } };
+    ghost view = { λ d. record {
+      panel = d.core;
+      work = map piece_seen d.work.items;
+      room = deque_capacity d.work;
+      available = d.available;
+    } };
 }
 
 impl<R: Relay, M: Meter> CoreDesk<R, M> {
-    /// A desk over this mainframe, with no work, and no message available.
+    /// A desk over this mainframe, with no work, no room for any yet, and no message available.
     pub fn new(alloc: Global, core: Core<R, M>) -> Self
         ensures { result ≡ desk_over core }
     {
         CoreDesk {
             alloc,
             core,
-            work: VecDeque::new(alloc),
+            work: VecDeque::with_capacity(alloc, 0).unwrap(),
             available: Available::new(),
         }
     }
@@ -82,10 +88,16 @@ impl<R: Relay, M: Meter> CoreDesk<R, M> {
 
     /// Puts a piece behind the rest. Where there is no memory for it, the oldest of all comes off and gives it room.
     fn put(&mut self, piece: Work<M>) -> Option<Work<M>>
-        ensures none { IfNone result (self.new ≡ record self.old { work = self.old.work ++ piece_seen piece ∷ [] }) }
+        ensures none { IfNone result (self.new ≡ record self.old {
+          work = self.old.work ++ piece_seen piece ∷ [];
+          room = self.new.room;
+        }) }
         ensures some { IfSome result (λ oldest.
             self.old.work ++ piece_seen piece ∷ [] ≡ piece_seen oldest ∷ self.new.work) }
-        ensures same { IfSome result (λ _. self.new ≡ record self.old { work = self.new.work }) }
+        ensures same { IfSome result (λ _.
+            self.new ≡ record self.old { work = self.new.work; room = self.new.room }) }
+        ensures full { IfSome result (λ _. IsFull self.old) }
+        ensures roomy { self.old.room ≤ self.new.room }
     {
         put_behind(&mut self.work, piece)
     }
@@ -114,6 +126,7 @@ impl<R: Relay, M: Meter> CoreDesk<R, M> {
     fn tell(&mut self, ask: Ask<R, M>) -> Answer<R, M>
         ensures step { (failed : Bool) × Step self.old.panel (ask_view ask) failed (answer_view result) self.new.panel }
         ensures work { self.new.work ≡ self.old.work }
+        ensures room { self.new.room ≡ self.old.room }
         ensures available { self.new.available ≡ self.old.available }
     {
         self.core.apply(self.alloc, ask)
@@ -126,6 +139,7 @@ fn put_behind<M: Meter>(queue: &mut VecDeque<Work<M>>, piece: Work<M>) -> Option
     ensures none { IfNone result (queue.new.items ≡ queue.old.items ++ piece ∷ []) }
     ensures some { IfSome result (λ oldest. queue.old.items ++ piece ∷ [] ≡ oldest ∷ queue.new.items) }
     ensures full { IfSome result (λ _. deque_capacity queue.old ≤ deque_len queue.old) }
+    ensures roomy { deque_capacity queue.old ≤ deque_capacity queue.new }
 {
     let Err(refused) = queue.push_back(piece) else {
         return None;

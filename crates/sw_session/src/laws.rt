@@ -1,7 +1,7 @@
 //! What follows from the contract of a talk.
 
 ghost use Rattle.sw_session.specs.Law.{TalkIsDetermined, CoreTalkIsDetermined, CoreRestIsDetermined};
-ghost use Rattle.sw_session.specs.Order.{WorkIsDoneInOrder};
+ghost use Rattle.sw_session.specs.Order.{WorkIsDoneInOrder, WorkIsKeptWhereThereIsRoom};
 
 use sw_core::step_is_determined;
 use sw_lex::{one_meaning, one_reading};
@@ -18,7 +18,7 @@ pub fn talk_is_determined()
 }
 
 /// A law: over a mainframe the message, the macros, what is measured and what comes of the cards determine what is
-/// written, the macros after it and the desk that is left, where no growth is refused. What comes of the cards: in
+/// written, the macros after it and the desk that is left but for its room, where no growth is refused. What comes of the cards: in
 /// which calls one fails, and how often each has failed after such a call.
 pub fn core_talk_is_determined()
     ensures { CoreTalkIsDetermined }
@@ -27,8 +27,8 @@ pub fn core_talk_is_determined()
     talk_is_determined();
 }
 
-/// A law: over a mainframe what is measured and what comes of the cards determine the desk that a rest leaves, where no
-/// growth is refused.
+/// A law: over a mainframe what is measured and what comes of the cards determine the desk that a rest leaves but for
+/// its room, where no growth is refused.
 pub fn core_rest_is_determined()
     ensures { CoreRestIsDetermined }
 {
@@ -40,4 +40,11 @@ pub fn core_rest_is_determined()
 /// out in it and then what is outstanding after it.
 pub fn work_is_done_in_order()
     ensures { WorkIsDoneInOrder }
+{}
+
+/// A law: a `CoreDesk` carries a piece of work out at once only where keeping it would take more memory: no ask does so
+/// while there is room for one piece more, and no wait, which takes a piece off first, while no more is outstanding than
+/// there is room for.
+pub fn work_is_kept_where_there_is_room()
+    ensures { WorkIsKeptWhereThereIsRoom }
 {}

@@ -1,4 +1,4 @@
-//! Sessions over any desk: the talk about a program message.
+//! Sessions over any desk: the talk about a program message, and HiSLIP's channels.
 //!
 //! A `Desk` takes what a session asks and answers it; its trait says by one relation how the desk may go from state to
 //! state. `CoreDesk` is a desk over a mainframe of its own: it keeps the work that a scan brings, and a wait carries
@@ -11,6 +11,10 @@
 //! fail leave none (`core_talk_is_determined`, `core_rest_is_determined`), where no growth was refused. A desk's work
 //! is carried out in the order in which it came (`work_is_done_in_order`).
 //!
+//! `Engine` is one of the two channels of a HiSLIP session (IVI-6.1), and its contract what is asked and said to each
+//! message (`Takes`). `serve_sync` and `serve_async` serve a channel over any reader, two writers and any desk: what is
+//! written is what the engine says to the messages that stand in what was read, however it was cut (`ServesChannel`).
+//!
 //! Not promised: that a desk ever answers anything but a hold, and that memory is there.
 #![tactic(auto)]
 
@@ -18,15 +22,24 @@ mod asking;
 mod available;
 mod core_desk;
 mod desk;
+mod engine;
 mod laws;
 mod line;
 mod macros;
+mod servers;
 mod talker;
 
 pub use asking::TURNS;
+pub use available::Available;
 pub use core_desk::CoreDesk;
 pub use desk::{Desk, View, Wake};
+pub use engine::{Channel, Engine, Sent, Step};
 pub use laws::{
     core_rest_is_determined, core_talk_is_determined, talk_is_determined, work_is_done_in_order,
+    work_is_kept_where_there_is_room,
+};
+pub use servers::{
+    Act, Memory, ServeFault, Sink, Source, Speaker, Unread, Unwritten, serve_async,
+    serve_async_for, serve_for, serve_sync, serve_sync_for, write_all,
 };
 pub use talker::Talker;

@@ -12,7 +12,6 @@ use crate::asking::{begin, queue};
 use crate::desk::Desk;
 use crate::line::join;
 use std::alloc::Global;
-use std::mem::replace;
 use sw_base::{MESSAGE_BYTES, ScpiError};
 use sw_core::{SessionAnswer, Sid};
 use sw_lex::{Command, Path, RawUnit, next_unit, resolve};
@@ -118,6 +117,7 @@ impl Talker {
     }
 
     /// Talks over the units of an expansion, below this path: each of them is itself.
+    #[inline(never)]
     fn unfold<D: Desk>(
         &mut self,
         desk: &mut D,
@@ -160,10 +160,8 @@ impl Talker {
             (λ s s'. Itself self.old.sid (unit_of unit.now) s result s') }
         ensures same { self.new.sid ≡ self.old.sid }
     {
-        let below = replace(path, Path::root());
-        let resolved = resolve(self.alloc, unit, below);
-        *path = resolved.path;
-        self.serve(desk, resolved.command, out)
+        let command = resolve(self.alloc, unit, path);
+        self.serve(desk, command, out)
     }
 
     /// Serves one unit that is this command or error, and adds its answer to those that are written.

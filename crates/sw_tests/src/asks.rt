@@ -273,7 +273,7 @@ pub fn was_refused(answer: Option<SessionAnswer>, error: ScpiError) -> bool {
 /// What a text's first unit asks for.
 fn read(alloc: Global, text: &[u8]) -> Result<Command, ScpiError> {
     match next_unit(text)? {
-        Some((unit, _)) => resolve(alloc, &unit, Path::root()).command,
+        Some((unit, _)) => resolve(alloc, &unit, &mut Path::root()),
         None => Err(ScpiError::SystemError),
     }
 }

@@ -2,7 +2,9 @@
 
 ghost use Rattle.std.specs.Prelude.{ℕ, Bool};
 
-use crate::asks::{does, eject, fit, has_closed, install, refused_card, refuses, refuses_eject};
+use crate::asks::{
+    does, eject, fit, has_closed, install, joined, refused_card, refuses, refuses_eject, tells,
+};
 use crate::boxes::{Relays, closed, three, voltmeter};
 use std::alloc::{AllocError, Global};
 use std::sync::Arc;
@@ -223,5 +225,36 @@ fn a_failure_opens_every_card(rt: HostRuntime) -> Result<(), Fail> {
     let cards = recorded(rt.alloc(), &records)?;
     let meter = voltmeter(rt.alloc())?;
     assert!(rt; blows_at_rest(rt.alloc(), cards, meter, &records));
+    Ok(())
+}
+
+/// Whether a card of 99 channels in slot 8 closes each of them, and then opens the last one.
+fn closes_each<R: Relay, M: Meter>(alloc: Global, core: &mut Core<R, M>, wide: R) -> bool {
+    let Some(sid) = joined(alloc, core) else {
+        return false;
+    };
+    install(alloc, core, 8, Card::relays(wide))
+        && does(alloc, core, sid, b"ROUT:CLOS (@8!1:8!99)")
+        && tells(alloc, core, sid, b"ROUT:CLOS? (@8!99,8!1)", b"1,1")
+        && does(alloc, core, sid, b"ROUT:OPEN (@8!99)")
+        && tells(alloc, core, sid, b"ROUT:CLOS? (@8!99,8!1)", b"0,1")
+}
+
+/// The same over a mainframe that has no card, and then takes a meter.
+fn closes_each_at_rest<R: Relay, M: Meter>(alloc: Global, wide: R, meter: M) -> bool {
+    let Ok(mut core) = Core::new(alloc) else {
+        return false;
+    };
+    let is_so = closes_each(alloc, &mut core, wide)
+        && install(alloc, &mut core, 4, Card::meter(meter));
+    drop(core);
+    is_so
+}
+
+#[test]
+fn a_card_of_99_channels(rt: HostRuntime) -> Result<(), Fail> {
+    let wide: Relays = Box::new(rt.alloc(), Matrix::new(8, 99, SimDriver::new()))?;
+    let meter = voltmeter(rt.alloc())?;
+    assert!(rt; closes_each_at_rest(rt.alloc(), wide, meter));
     Ok(())
 }

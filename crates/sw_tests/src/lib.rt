@@ -14,6 +14,8 @@ mod cage_calls;
 #[cfg(test)]
 mod cages;
 #[cfg(test)]
+mod hostile;
+#[cfg(test)]
 mod scans;
 #[cfg(test)]
 mod session;

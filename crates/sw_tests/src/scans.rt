@@ -35,7 +35,11 @@ fn made_plan<R: Relay, M: Meter>(alloc: Global, core: &mut Core<R, M>, sid: Sid)
 }
 
 /// Begins a scan of what is set, and gives the work that it awaits.
-fn initiate<R: Relay, M: Meter>(alloc: Global, core: &mut Core<R, M>, sid: Sid) -> Option<Work<M>> {
+pub fn initiate<R: Relay, M: Meter>(
+    alloc: Global,
+    core: &mut Core<R, M>,
+    sid: Sid,
+) -> Option<Work<M>> {
     match made_plan(alloc, core, sid) {
         Some(plan) => work_of(alloc, core, SessionAsk::Start(sid, plan)),
         None => None,
@@ -51,7 +55,7 @@ fn begins<R: Relay, M: Meter>(alloc: Global, core: &mut Core<R, M>, sid: Sid) ->
 }
 
 /// What a piece of work, once done, asks.
-fn done<R: Relay, M: Meter>(work: Work<M>) -> Ask<R, M> {
+pub fn done<R: Relay, M: Meter>(work: Work<M>) -> Ask<R, M> {
     match work {
         Work::Measure(job) => Ask::Finished(job.run()),
         Work::Pause(ticket, _) => Ask::Elapsed(ticket),
@@ -59,7 +63,7 @@ fn done<R: Relay, M: Meter>(work: Work<M>) -> Ask<R, M> {
 }
 
 /// Carries out the work and what comes of it, and counts the pieces.
-fn carry_out<R: Relay, M: Meter>(
+pub fn carry_out<R: Relay, M: Meter>(
     alloc: Global,
     core: &mut Core<R, M>,
     work: Option<Work<M>>,
@@ -85,7 +89,7 @@ fn is_round<R: Relay, M: Meter>(
 }
 
 /// Sets two rounds of ARM by the bus, with three delayed readings each.
-fn sets_rounds<R: Relay, M: Meter>(alloc: Global, core: &mut Core<R, M>, sid: Sid) -> bool {
+pub fn sets_rounds<R: Relay, M: Meter>(alloc: Global, core: &mut Core<R, M>, sid: Sid) -> bool {
     does(alloc, core, sid, b"ROUT:SCAN (@1!1)")
         && does(alloc, core, sid, b"ARM:COUN 2")
         && does(alloc, core, sid, b"ARM:SOUR BUS")
@@ -165,7 +169,7 @@ fn keeps_its_cards<R: Relay, M: Meter>(alloc: Global, core: &mut Core<R, M>, oth
 }
 
 /// Whether the card of that serial number comes out of the slot, with no relay closed.
-fn comes_out_safe<R: Relay, M: Meter>(
+pub fn comes_out_safe<R: Relay, M: Meter>(
     alloc: Global,
     core: &mut Core<R, M>,
     slot: u8,

@@ -1,1 +1,13 @@
+pub mod BoardMoves
+pub mod BoardSeats
 mod Counted
+pub mod Entries
+pub mod Fronts
+pub mod Histories
+pub mod PassSteps
+pub mod Recordings
+pub mod Unmoved
+mod Carries
+mod Worked
+mod Ejected
+mod Asked

@@ -128,6 +128,7 @@ impl<H: House, R: Relay, M: Meter> Held<H, R, M> {
         requires { all.old.parts ≡ all_parts }
         ensures same { self.new ≡ self.old }
         ensures number { (result ≡ self.old.panel.events) × (result ≡ H.start + all.old.amount) }
+        ensures share { (all.new.parts ≡ all.old.parts) × (all.new.amount ≡ all.old.amount) }
     {
         self.events.audit(all);
         self.core.events()
@@ -157,6 +158,13 @@ impl<H: House, R: Relay, M: Meter> Held<H, R, M> {
         ensures requests { result.1 ≡ self.now.panel.status.requests }
     {
         self.core.pair()
+    }
+
+    /// The notes of the last 64 events, the oldest first.
+    pub fn recent(&self) -> Result<Vec<Note>, AllocError>
+        ensures { IfOk result (λ notes. notes.items ≡ self.now.notes) }
+    {
+        self.notes.to_vec(self.alloc)
     }
 
     /// Asks the mainframe. An event that is numbered counts in the desk's share, once, and is noted.

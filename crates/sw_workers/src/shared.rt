@@ -1,19 +1,23 @@
 //! The mainframe behind one lock, and what wakes those who wait for it.
 
-ghost use Rattle.std.specs.Prelude.{◌≡◌, IfSome};
+ghost use Rattle.std.specs.Prelude.{◌≡◌, ◌≤◌, ◌+◌, IfSome};
 ghost use Rattle.sw_core.specs.View.{ask_view, answer_view};
 ghost use Rattle.sw_session.specs.CoreDesk.{piece_seen};
+ghost use Rattle.sw_session.specs.Trace.{LeavesOf};
 ghost use Rattle.sw_workers.specs.Shares.{all_parts};
 ghost use Rattle.sw_workers.specs.Work.{AsksOnce};
 
 use crate::gate::Gate;
 use crate::held::{DeskPart, Held, House};
+use crate::note::Note;
 use crate::posts::{Posted, Posts, work_posts};
 use std::alloc::{AllocError, Global};
-use std::sync::ledger::Blank;
+use std::sync::ledger::{Blank, Share};
 use std::sync::{Condvar, Mutex, Wait};
+use std::time::{Clock, Duration, Instant};
 use sw_card::{Meter, Relay};
-use sw_core::{Answer, Ask, Core, Work};
+use sw_core::{Answer, Ask, Core, Sid, Work};
+use sw_session::{Available, View, Wake};
 
 /// The parts of a ledger.
 const PARTS: u64 = (1 << 33) + 1;
@@ -44,6 +48,7 @@ pub struct Shared<H: House, R: Relay, M: Meter, G: Gate + Drop> {
     /// Something happened, so that what was held may be asked again.
     happened: Condvar,
     posts: Mutex<Option<Posts<M>>>,
+    available: Mutex<Available>,
     gate: G,
 }
 
@@ -65,6 +70,7 @@ impl<H: House, R: Relay, M: Meter, G: Gate + Drop> Shared<H, R, M, G> {
             held: Mutex::new(held),
             happened: Condvar::new(),
             posts: Mutex::new(Some(posts)),
+            available: Mutex::new(Available::new()),
             gate,
         };
         Ok((shared, posted))
@@ -111,5 +117,97 @@ impl<H: House, R: Relay, M: Meter, G: Gate + Drop> Shared<H, R, M, G> {
             return Some(piece);
         };
         posts.send(rt, piece)
+    }
+
+    /// Waits until the mainframe's turn is another than this, for so many milliseconds at most where there is a limit.
+    /// It is over where the time is up, or the end has begun.
+    pub fn wait<W: Wait + Clock>(&self, rt: &W, seen: u64, limit_ms: Option<u32>) -> Wake
+        ensures { LeavesOf limit_ms result }
+    {
+        let guard = self.held.lock(rt);
+        let Some(limit) = limit_ms else {
+            let guard = self.happened.wait_while(
+                rt,
+                guard,
+                |held| held.turn() == seen && !held.is_closing(),
+            );
+            if guard.is_closing() {
+                return Wake::Over;
+            }
+            return Wake::Again(None);
+        };
+        let start = Instant::now(rt).ok();
+        let (guard, timed) = self.happened.wait_timeout_while(
+            rt,
+            guard,
+            Duration::from_millis(limit as u64),
+            |held| held.turn() == seen && !held.is_closing(),
+        );
+        if timed.timed_out() || guard.is_closing() {
+            return Wake::Over;
+        }
+        drop(guard);
+        Wake::Again(Some(left_of(rt, start, limit)))
+    }
+
+    /// Looks at a session's status.
+    pub fn poll<W: Wait>(&self, rt: &W, sid: Sid) -> View {
+        let (byte, requests) = self.held.lock(rt).pair();
+        let mav = self.available.lock(rt).has(sid);
+        View {
+            byte,
+            requests,
+            mav,
+        }
+    }
+
+    /// Notes whether a message is available for a session.
+    pub fn note<W: Wait>(&self, rt: &W, sid: Sid, mav: bool) {
+        self.available.lock(rt).note(sid, mav);
+    }
+
+    /// The notes of the last 64 events, the oldest first.
+    pub fn recent<W: Wait>(&self, rt: &W) -> Result<Vec<Note>, AllocError> {
+        self.held.lock(rt).recent()
+    }
+
+    /// Nobody has to wait any more, and no work is sent any more: workers end once they have taken what was.
+    pub fn end_work<W: Wait>(&self, rt: &W) {
+        self.held.lock(rt).close();
+        self.happened.notify_all();
+        let ended = self.posts.lock(rt).take();
+        drop(ended);
+    }
+
+    /// The share that no desk has, once, where there are so many desks.
+    pub fn take_spare<W: Wait>(&self, rt: &W, desks: u64) -> Option<Share<H>>
+        ensures { IfSome result (λ spare. (spare.parts + desks ≡ all_parts) × (spare.amount ≡ 0)) }
+    {
+        self.held.lock(rt).take_spare(desks)
+    }
+
+    /// The number of events, to whom has every part: the opening one and all that was counted.
+    pub fn number<W: Wait>(&self, rt: &W, all: &mut Share<H>) -> u64
+        requires { all.old.parts ≡ all_parts }
+        ensures number { result ≡ H.start + all.old.amount }
+        ensures share { (all.new.parts ≡ all.old.parts) × (all.new.amount ≡ all.old.amount) }
+    {
+        self.held.lock(rt).number(all)
+    }
+}
+
+/// What is left of a limit, in milliseconds; none where the clock can't be read.
+fn left_of<C: Clock>(rt: &C, start: Option<Instant>, limit: u32) -> u32
+    ensures { result ≤ limit }
+{
+    let Some(start) = start else {
+        return 0;
+    };
+    let Ok(spent) = start.elapsed(rt) else {
+        return 0;
+    };
+    match u32::try_from(spent.as_millis()) {
+        Ok(spent) => limit.saturating_sub(spent),
+        Err(_) => 0,
     }
 }

@@ -1,18 +1,23 @@
-//! For each group the one channel that claims it.
+//! For each group the one closed channel that it may have.
 
-ghost use Rattle.std.specs.Prelude.{◌≡◌, ◌≢◌, ℕ, ◌<◌, length, replicate, slice_set, Option, None, Some, true, false};
+ghost use Rattle.std.specs.Prelude.{◌≡◌, ◌≢◌, ◌<◌, length, replicate, slice_set, map, Option, None, Some, true};
+ghost use Rattle.std.specs.Prelude.{ℕ, false};
+ghost use Rattle.sw_base.specs.Limits.{most_slots};
 ghost use Rattle.sw_base.specs.Layout.{Channel};
-ghost use Rattle.sw_cage.specs.Claims.{Index, claim_at};
+ghost use Rattle.sw_cage.specs.Accounts.{accounts_of, is_closed};
+ghost use Rattle.sw_cage.specs.Claims.{Index, claim_at, closed_claim};
 
+use crate::slots::slot::{Place, closed_in};
 use std::marker::Model;
 use sw_base::Chan;
+use sw_card::{Meter, Relay};
 
 /// As many as a card can tell apart: a group is one byte.
 const GROUPS: usize = 256;
 
-/// By group the channel that claims it, if any. A channel of no group claims none.
-#[derive(Drop)]
-pub(crate) struct Claims {
+/// By group the channel that claims it, if any. What group 0 has is never asked: a channel of it is of no group.
+#[derive(Clone, Copy, Drop)]
+pub(super) struct Claims {
     by_group: [Option<Chan>; GROUPS],
 }
 
@@ -22,10 +27,12 @@ impl Model for Claims {
     ghost view = { λ c. c.by_group };
 
     ghost invariant = { λ c. length c.by_group ≡ 256 };
+
+    ghost inverse = { λ index. record { by_group = index } };
 }
 
 impl Claims {
-    pub(crate) fn new() -> Self
+    pub(super) fn new() -> Self
         ensures { result ≡ replicate 256 None }
     {
         Claims {
@@ -33,8 +40,24 @@ impl Claims {
         }
     }
 
+    /// Lets the channel have the group, whichever had it.
+    pub(super) fn hold(&mut self, group: u8, chan: Chan)
+        ensures held { self.new ≡ slice_set self.old group (Some chan) }
+        ensures room { group < length self.old }
+    {
+        self.by_group[group as usize] = Some(chan);
+    }
+
+    /// Lets no channel have the group.
+    pub(super) fn release(&mut self, group: u8)
+        ensures released { self.new ≡ slice_set self.old group None }
+        ensures room { group < length self.old }
+    {
+        self.by_group[group as usize] = None;
+    }
+
     /// Lets the channel claim its group, unless another channel has it.
-    pub(crate) fn claim(&mut self, group: u8, chan: Chan) -> bool
+    pub(super) fn claim(&mut self, group: u8, chan: Chan) -> bool
         ensures free { result ≡ true → group ≢ 0 → (other : Channel)
             → claim_at self.old group ≡ Some other → other ≡ chan }
         ensures claimed { result ≡ true → group ≢ 0 → self.new ≡ slice_set self.old group (Some chan) }
@@ -53,5 +76,33 @@ impl Claims {
         }
         self.by_group[group as usize] = Some(chan);
         true
+    }
+
+    /// Drops the claims of the channels that are not closed.
+    pub(super) fn keep_closed<R: Relay, M: Meter>(&mut self, slots: &[Place<R, M>])
+        requires { length slots.now ≡ most_slots }
+        ensures { self.new ≡ map (closed_claim (is_closed (accounts_of slots.now))) self.old }
+    {
+        keep_closed_in(&mut self.by_group, slots);
+    }
+}
+
+fn keep_closed_in<R: Relay, M: Meter>(claims: &mut [Option<Chan>], slots: &[Place<R, M>])
+    requires { length slots.now ≡ most_slots }
+    ensures { claims.new ≡ map (closed_claim (is_closed (accounts_of slots.now))) claims.old }
+{
+    for claim in claims {
+        *claim = if_closed(*claim, slots);
+    }
+}
+
+/// The claim, where it is of a closed channel.
+fn if_closed<R: Relay, M: Meter>(claim: Option<Chan>, slots: &[Place<R, M>]) -> Option<Chan>
+    requires { length slots.now ≡ most_slots }
+    ensures { result ≡ closed_claim (is_closed (accounts_of slots.now)) claim }
+{
+    match claim {
+        Some(chan) if closed_in(slots, chan) => Some(chan),
+        _ => None,
     }
 }

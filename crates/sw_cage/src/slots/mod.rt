@@ -12,13 +12,14 @@ ghost use Rattle.sw_cage.specs.Accounts.{all_open, IsChannelFault};
 ghost use Rattle.sw_cage.specs.Change.{Sets, IsDisturbed};
 ghost use Rattle.sw_cage.specs.Install.{CanInstall, SlotsRefuseInstall, SlotsRefuseEject};
 ghost use Rattle.sw_cage.specs.Close.{closed_with, HasClash, all_present, CanClose, RefusesClose};
-ghost use Rattle.sw_cage.specs.Claims.{IndexesClaims, ClosedBefore};
+ghost use Rattle.sw_cage.specs.Claims.{IndexesClaims, AreClaimed};
 ghost use Rattle.sw_cage.specs.Channels.{row, rows, closed_list};
 
 mod claims;
 mod slot;
 
 use self::claims::Claims;
+use self::slot::Place;
 use crate::refusal::{CloseRefusal, EjectRefusal, InstallRefusal};
 use std::alloc::{AllocError, Global};
 use std::marker::Model;
@@ -29,10 +30,11 @@ use sw_verify::Slot;
 /// How many slots there are.
 pub(crate) const PLACES: usize = SLOTS as usize;
 
-/// All slots, and the cards in them.
+/// All slots, the cards in them, and by group the closed channel that it has.
 #[derive(Drop)]
 pub(crate) struct Slots<R: Relay, M: Meter> {
-    slots: Vec<Option<Card<R, M>>>,
+    slots: Vec<Place<R, M>>,
+    claims: Claims,
 }
 
 impl<R: Relay, M: Meter> Model for Slots<R, M> {
@@ -40,7 +42,7 @@ impl<R: Relay, M: Meter> Model for Slots<R, M> {
 
     ghost view = { λ c. accounts_of c.slots.items };
 
-    ghost invariant = { λ c. AreSafe (accounts_of c.slots.items) };
+    ghost invariant = { λ c. AreClaimed (accounts_of c.slots.items) c.claims };
 }
 
 impl<R: Relay, M: Meter> Slots<R, M> {
@@ -50,16 +52,19 @@ impl<R: Relay, M: Meter> Slots<R, M> {
     {
         let mut slots = Vec::with_capacity(alloc, PLACES)?;
         for _ in 0..PLACES {
-            slots.push(None)?;
+            slots.push(Place::empty())?;
         }
-        Ok(Slots { slots })
+        Ok(Slots {
+            slots,
+            claims: Claims::new(),
+        })
     }
 
     /// Whether the slot is one of the cage's and has a card.
     pub(crate) fn has_card(&self, slot: u8) -> bool
         ensures { result ≡ is_some (slot_at self.now slot) }
     {
-        slot >= 1 && slot <= SLOTS && self.slots[slot as usize - 1].is_some()
+        slot >= 1 && slot <= SLOTS && self.slots[slot as usize - 1].card.is_some()
     }
 
     /// Puts a card into an empty slot.
@@ -83,7 +88,7 @@ impl<R: Relay, M: Meter> Slots<R, M> {
         if !slot::is_fit(&card) {
             return Err((InstallRefusal::BadLayout, card));
         }
-        self.slots[slot as usize - 1] = Some(card);
+        self.slots[slot as usize - 1] = Place::with(card);
         Ok(())
     }
 
@@ -99,7 +104,10 @@ impl<R: Relay, M: Meter> Slots<R, M> {
             return Err(EjectRefusal::Vacant);
         }
         match slot::take_rested(&mut self.slots[slot as usize - 1]) {
-            Some(card) => Ok(card),
+            Some(card) => {
+                self.claims.keep_closed(&self.slots);
+                Ok(card)
+            }
             None => unreachable!(),
         }
     }
@@ -113,7 +121,15 @@ impl<R: Relay, M: Meter> Slots<R, M> {
         ensures err { OnErr result (IsChannelFault self.old chan (with_chan self.old chan true) self.new) }
         ensures disturbed { OnErr result (IsDisturbed self.old (chan ∷ []) self.new) }
     {
-        slot::close_in(&mut self.slots[chan.slot() as usize - 1], chan.ch())
+        let group = self.group(chan);
+        self.claims.hold(group, chan);
+        match slot::close_in(&mut self.slots[chan.slot() as usize - 1], chan.ch()) {
+            Ok(()) => return Ok(()),
+            Err(fault) => {
+                self.claims.keep_closed(&self.slots);
+                return Err(fault);
+            }
+        }
     }
 
     /// Opens one channel.
@@ -123,14 +139,25 @@ impl<R: Relay, M: Meter> Slots<R, M> {
         ensures err { OnErr result (IsChannelFault self.old chan self.old self.new) }
         ensures disturbed { OnErr result (IsDisturbed self.old (chan ∷ []) self.new) }
     {
-        slot::open_in(&mut self.slots[chan.slot() as usize - 1], chan.ch())
+        let group = self.group(chan);
+        match slot::open_in(&mut self.slots[chan.slot() as usize - 1], chan.ch()) {
+            Ok(()) => {
+                self.claims.release(group);
+                return Ok(());
+            }
+            Err(fault) => {
+                self.claims.keep_closed(&self.slots);
+                return Err(fault);
+            }
+        }
     }
 
     /// Opens every relay of every card.
     pub(crate) fn open_all(&mut self)
         ensures { self.new ≡ all_open self.old }
     {
-        slot::rest_all(&mut self.slots)
+        slot::rest_all(&mut self.slots);
+        self.claims = Claims::new();
     }
 
     /// Whether the cage has the channel.
@@ -144,7 +171,7 @@ impl<R: Relay, M: Meter> Slots<R, M> {
     pub(crate) fn is_closed(&self, chan: Chan) -> bool
         ensures { result ≡ is_closed self.now chan }
     {
-        slot::closed_in(&self.slots[chan.slot() as usize - 1], chan.ch())
+        slot::closed_in(&self.slots, chan)
     }
 
     /// The group of a channel that the cage has.
@@ -189,45 +216,6 @@ impl<R: Relay, M: Meter> Slots<R, M> {
         Ok(())
     }
 
-    /// Lets each closed channel of the slot claim its group, unless two of one group are closed.
-    fn claim_slot(&self, slot: u8, claims: &mut Claims) -> bool
-        requires slot_in { (1 ≤ slot) × (slot ≤ most_slots) }
-        requires held { IndexesClaims (layout_of self.now) (ClosedBefore self.now slot 0) claims.old }
-        ensures claimed { result ≡ true
-            → IndexesClaims (layout_of self.now) (ClosedBefore self.now (slot + 1) 0) claims.new }
-        ensures clash { result ≡ false → HasClash (layout_of self.now) (is_closed self.now) }
-    {
-        let Some(card) = &self.slots[slot as usize - 1] else {
-            return true;
-        };
-        for before in 0..card.channels() {
-            let ch = before + 1;
-            if card.is_closed(ch) {
-                if !claims.claim(card.group(ch), Chan::new(slot, ch)) {
-                    return false;
-                }
-            }
-        }
-        true
-    }
-
-    /// Lets each closed channel claim its group, unless two of one group are closed.
-    fn claim_closed(&self, claims: &mut Claims) -> bool
-        requires { IndexesClaims (layout_of self.now) (ClosedBefore self.now 1 0) claims.old }
-        ensures claimed { result ≡ true
-            → IndexesClaims (layout_of self.now) (λ c. is_closed self.now c ≡ true) claims.new }
-        ensures clash { result ≡ false → HasClash (layout_of self.now) (is_closed self.now) }
-    {
-        // Reading a field tells the proof what holds of every `Slots`.
-        let _ = &self.slots;
-        for before in 0..SLOTS {
-            if !self.claim_slot(before + 1, claims) {
-                return false;
-            }
-        }
-        true
-    }
-
     /// Lets each channel of the list claim its group, unless another channel has it.
     fn claim_listed(&self, chans: &[Chan], claims: &mut Claims) -> bool
         requires present { all_present (layout_of self.now) chans.now ≡ true }
@@ -252,10 +240,7 @@ impl<R: Relay, M: Meter> Slots<R, M> {
         if !self.all_present(chans) {
             return Err(CloseRefusal::Absent);
         }
-        let mut claims = Claims::new();
-        if !self.claim_closed(&mut claims) {
-            return Err(CloseRefusal::Clash);
-        }
+        let mut claims = self.claims;
         if !self.claim_listed(chans, &mut claims) {
             return Err(CloseRefusal::Clash);
         }
@@ -268,15 +253,13 @@ impl<R: Relay, M: Meter> Slots<R, M> {
         ensures { OnOk result (chans.new.items
             ≡ chans.old.items ++ filter (is_closed self.now) (row slot most_channels)) }
     {
-        let Some(card) = &self.slots[slot as usize - 1] else {
-            return Ok(());
-        };
-        let channels = card.channels();
-        for before in 0..channels {
-            let ch = before + 1;
-            if card.is_closed(ch) {
-                chans.push(Chan::new(slot, ch))?;
-            }
+        let mut left = self.slots[slot as usize - 1].closed();
+        for _ in 0..CHANNELS {
+            let Some(ch) = left.lowest() else {
+                return Ok(());
+            };
+            chans.push(Chan::new(slot, ch))?;
+            left.remove(ch);
         }
         Ok(())
     }
@@ -302,14 +285,17 @@ impl<R: Relay, M: Meter> Slots<R, M> {
         ensures other { IfNone result (chans.now ≡ closed_list self.now → ⊥) }
     {
         let mut past = at;
-        for below in 0..CHANNELS {
-            let chan = Chan::new(before + 1, below + 1);
-            if self.is_closed(chan) {
-                if past >= chans.len() || chans[past] != chan {
-                    return None;
-                }
-                past += 1;
+        let mut left = self.slots[before as usize].closed();
+        for _ in 0..CHANNELS {
+            let Some(ch) = left.lowest() else {
+                return Some(past);
+            };
+            let chan = Chan::new(before + 1, ch);
+            if past >= chans.len() || chans[past] != chan {
+                return None;
             }
+            past += 1;
+            left.remove(ch);
         }
         Some(past)
     }
@@ -343,7 +329,12 @@ impl<R: Relay, M: Meter> Slots<R, M> {
         requires { (1 ≤ slot) × (slot ≤ most_slots) }
         ensures { self.new ≡ slice_set self.old (slot - 1) (Some (of_meter meter.1)) }
     {
-        self.slots[slot as usize - 1] = Some(Card::of_meter(meter));
+        let had_none = self.slots[slot as usize - 1].closed().is_empty();
+        self.slots[slot as usize - 1] = Place::with(Card::of_meter(meter));
+        if had_none {
+            return;
+        }
+        self.claims.keep_closed(&self.slots);
     }
 
     /// What the slot holds, as a layout tells it.

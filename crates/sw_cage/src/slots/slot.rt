@@ -1,18 +1,70 @@
 //! What is done with one slot and its card.
 
 ghost use Rattle.std.specs.Prelude.{◌≡◌, ℕ, ◌≤◌, length, true, false, None, Some, OnOk, OnErr, IfOk, ◌↔◌, IsTrue};
-ghost use Rattle.sw_base.specs.Limits.{most_channels};
+ghost use Rattle.sw_base.specs.Limits.{most_slots, most_channels};
 ghost use Rattle.sw_base.specs.Layout.{bay_has, bay_group, bay_is_meter};
 ghost use Rattle.sw_card.specs.Account.{closed_at, is_meter, of_meter};
 ghost use Rattle.sw_cage.specs.Accounts.{accounts_of, option_account, slot_contents, option_closed, option_set};
-ghost use Rattle.sw_cage.specs.Accounts.{option_rest};
-ghost use Rattle.sw_cage.specs.Accounts.{all_open, IsSlotFault};
+ghost use Rattle.sw_cage.specs.Accounts.{option_rest, OptionWellFormed};
+ghost use Rattle.sw_cage.specs.Accounts.{all_open, is_closed, IsSlotFault};
 ghost use Rattle.sw_cage.specs.Install.{IsUnfit};
+ghost use Rattle.sw_cage.specs.Masks.{IsSlotMask};
 
 use std::alloc::{AllocError, Global};
-use sw_base::CHANNELS;
-use sw_card::{Card, CardFault, Meter, MeterCard, Relay};
+use std::marker::Model;
+use sw_base::{CHANNELS, Chan};
+use sw_card::{Card, CardFault, Mask, Meter, MeterCard, Relay};
 use sw_verify::Slot;
+
+/// A slot: its card, if it has one, and which of the card's channels are closed. Contracts see the card.
+#[derive(Drop)]
+pub(super) struct Place<R: Relay, M: Meter> {
+    pub(super) card: Option<Card<R, M>>,
+    closed: Mask,
+}
+
+impl<R: Relay, M: Meter> Model for Place<R, M> {
+    ghost use Rattle.std.specs.Prelude.{◌⊎◌, Option};
+    ghost use Rattle.sw_card.specs.Account.{Account};
+    ghost use Rattle.sw_cage.specs.Accounts.{option_account};
+    ghost use Rattle.sw_cage.specs.Masks.{IsSlotMask};
+
+    ghost Value = { Option ((R ⊎ M) × Account) };
+
+    ghost view = { λ p. p.card };
+
+    ghost invariant = { λ p. IsSlotMask p.closed (option_account p.card) };
+}
+
+impl<R: Relay, M: Meter> Place<R, M> {
+    /// A slot without a card.
+    pub(super) fn empty() -> Self
+        ensures { result ≡ None }
+    {
+        Place {
+            card: None,
+            closed: Mask::new(),
+        }
+    }
+
+    /// A slot with this card.
+    pub(super) fn with(card: Card<R, M>) -> Self
+        ensures { result ≡ Some card }
+    {
+        let closed = card.closed_mask();
+        Place {
+            card: Some(card),
+            closed,
+        }
+    }
+
+    /// The closed channels.
+    pub(super) fn closed(&self) -> Mask
+        ensures { IsSlotMask result (option_account self.now) }
+    {
+        self.closed
+    }
+}
 
 /// Whether the card may be installed: a meter, or 1 to [`CHANNELS`] channels, all of them open.
 pub(super) fn is_fit<R: Relay, M: Meter>(card: &Card<R, M>) -> bool
@@ -36,58 +88,76 @@ pub(super) fn is_fit<R: Relay, M: Meter>(card: &Card<R, M>) -> bool
 }
 
 /// Closes a channel of the card in the slot.
-pub(super) fn close_in<R: Relay, M: Meter>(
-    slot: &mut Option<Card<R, M>>,
-    ch: u8,
-) -> Result<(), CardFault>
+pub(super) fn close_in<R: Relay, M: Meter>(slot: &mut Place<R, M>, ch: u8) -> Result<(), CardFault>
+    requires few { ch ≤ most_channels }
+    requires formed { OptionWellFormed (option_account slot.old) }
     requires present { bay_has (slot_contents (option_account slot.old)) ch ≡ true }
     requires open { option_closed (option_account slot.old) ch ≡ false }
     ensures ok { OnOk result (option_account slot.new ≡ option_set (option_account slot.old) ch true) }
     ensures err { OnErr result (IsSlotFault (option_account slot.old) (option_set (option_account slot.old) ch true)
         (option_account slot.new)) }
 {
-    match slot {
-        Some(card) => card.close(ch),
-        None => unreachable!(),
+    let Some(card) = &mut slot.card else {
+        unreachable!();
+    };
+    match card.close(ch) {
+        Ok(()) => {
+            slot.closed.insert(ch);
+            Ok(())
+        }
+        Err(fault) => {
+            slot.closed = card.closed_mask();
+            Err(fault)
+        }
     }
 }
 
 /// Opens a channel of the card in the slot.
-pub(super) fn open_in<R: Relay, M: Meter>(
-    slot: &mut Option<Card<R, M>>,
-    ch: u8,
-) -> Result<(), CardFault>
-    requires { option_closed (option_account slot.old) ch ≡ true }
+pub(super) fn open_in<R: Relay, M: Meter>(slot: &mut Place<R, M>, ch: u8) -> Result<(), CardFault>
+    requires range { (1 ≤ ch) × (ch ≤ most_channels) }
+    requires closed { option_closed (option_account slot.old) ch ≡ true }
     ensures ok { OnOk result (option_account slot.new ≡ option_set (option_account slot.old) ch false) }
     ensures err { OnErr result
         (IsSlotFault (option_account slot.old) (option_account slot.old) (option_account slot.new)) }
 {
-    match slot {
-        Some(card) => card.open(ch),
-        None => unreachable!(),
+    let Some(card) = &mut slot.card else {
+        unreachable!();
+    };
+    match card.open(ch) {
+        Ok(()) => {
+            slot.closed.remove(ch);
+            Ok(())
+        }
+        Err(fault) => {
+            slot.closed = card.closed_mask();
+            Err(fault)
+        }
     }
 }
 
 /// Opens every channel of the card in the slot.
-pub(super) fn rest_in<R: Relay, M: Meter>(slot: &mut Option<Card<R, M>>)
+pub(super) fn rest_in<R: Relay, M: Meter>(slot: &mut Place<R, M>)
     ensures { option_account slot.new ≡ option_rest (option_account slot.old) }
 {
-    if let Some(card) = slot {
-        card.open_all();
-    }
+    let Some(card) = &mut slot.card else {
+        return;
+    };
+    card.open_all();
+    slot.closed = Mask::new();
 }
 
 /// Takes the card out of the slot with every channel open.
-pub(super) fn take_rested<R: Relay, M: Meter>(slot: &mut Option<Card<R, M>>) -> Option<Card<R, M>>
+pub(super) fn take_rested<R: Relay, M: Meter>(slot: &mut Place<R, M>) -> Option<Card<R, M>>
     ensures card { option_account result ≡ option_rest (option_account slot.old) }
     ensures empty { slot.new ≡ None }
 {
     rest_in(slot);
-    slot.take()
+    slot.closed = Mask::new();
+    slot.card.take()
 }
 
 /// Opens every channel of the cards in the slots.
-pub(super) fn rest_all<R: Relay, M: Meter>(slots: &mut [Option<Card<R, M>>])
+pub(super) fn rest_all<R: Relay, M: Meter>(slots: &mut [Place<R, M>])
     ensures { accounts_of slots.new ≡ all_open (accounts_of slots.old) }
 {
     for slot in slots {
@@ -96,43 +166,43 @@ pub(super) fn rest_all<R: Relay, M: Meter>(slots: &mut [Option<Card<R, M>>])
 }
 
 /// Whether the card in the slot has the channel.
-pub(super) fn present_in<R: Relay, M: Meter>(slot: &Option<Card<R, M>>, ch: u8) -> bool
+pub(super) fn present_in<R: Relay, M: Meter>(slot: &Place<R, M>, ch: u8) -> bool
     ensures { result ≡ bay_has (slot_contents (option_account slot.now)) ch }
 {
-    match slot {
+    match &slot.card {
         Some(card) => !card.is_meter() && ch >= 1 && ch <= card.channels(),
         None => false,
     }
 }
 
-/// Whether the channel of the card in the slot is closed.
-pub(super) fn closed_in<R: Relay, M: Meter>(slot: &Option<Card<R, M>>, ch: u8) -> bool
-    ensures { result ≡ option_closed (option_account slot.now) ch }
+/// Whether the channel is closed.
+pub(super) fn closed_in<R: Relay, M: Meter>(slots: &[Place<R, M>], chan: Chan) -> bool
+    requires { length slots.now ≡ most_slots }
+    ensures { result ≡ is_closed (accounts_of slots.now) chan }
 {
-    match slot {
-        Some(card) => card.is_closed(ch),
-        None => false,
-    }
+    let slot = &slots[chan.slot() as usize - 1];
+    slot.closed.has(chan.ch())
 }
 
 /// The group of the channel of the card in the slot, which the card has.
-pub(super) fn group_in<R: Relay, M: Meter>(slot: &Option<Card<R, M>>, ch: u8) -> u8
+pub(super) fn group_in<R: Relay, M: Meter>(slot: &Place<R, M>, ch: u8) -> u8
     requires { bay_has (slot_contents (option_account slot.now)) ch ≡ true }
     ensures { result ≡ bay_group (slot_contents (option_account slot.now)) ch }
 {
-    match slot {
+    match &slot.card {
         Some(card) => card.group(ch),
         None => unreachable!(),
     }
 }
 
 /// Takes the meter out of the slot.
-pub(super) fn take_meter<R: Relay, M: Meter>(slot: &mut Option<Card<R, M>>) -> MeterCard<M>
+pub(super) fn take_meter<R: Relay, M: Meter>(slot: &mut Place<R, M>) -> MeterCard<M>
     requires { bay_is_meter (slot_contents (option_account slot.old)) ≡ true }
     ensures meter { option_account slot.old ≡ Some (of_meter result.1) }
     ensures empty { slot.new ≡ None }
 {
-    match slot.take() {
+    slot.closed = Mask::new();
+    match slot.card.take() {
         Some(card) => match card.into_meter() {
             Ok(meter) => meter,
             Err(_) => unreachable!(),
@@ -156,11 +226,11 @@ fn groups<R: Relay, M: Meter>(alloc: Global, card: &Card<R, M>) -> Result<Vec<u8
 /// What the slot holds, as a layout tells it.
 pub(super) fn contents_in<R: Relay, M: Meter>(
     alloc: Global,
-    slot: &Option<Card<R, M>>,
+    slot: &Place<R, M>,
 ) -> Result<Slot, AllocError>
     ensures { IfOk result (λ contents. contents ≡ slot_contents (option_account slot.now)) }
 {
-    let Some(card) = slot else {
+    let Some(card) = &slot.card else {
         return Ok(Slot::empty());
     };
     if card.is_meter() {
@@ -186,10 +256,10 @@ fn has_groups<R: Relay, M: Meter>(card: &Card<R, M>, groups: &[u8]) -> bool
 }
 
 /// Whether the slot holds what the layout's slot tells.
-pub(super) fn is_as_in<R: Relay, M: Meter>(slot: &Option<Card<R, M>>, contents: &Slot) -> bool
+pub(super) fn is_as_in<R: Relay, M: Meter>(slot: &Place<R, M>, contents: &Slot) -> bool
     ensures { IsTrue result ↔ (contents.now ≡ slot_contents (option_account slot.now)) }
 {
-    let Some(card) = slot else {
+    let Some(card) = &slot.card else {
         return !contents.is_meter() && contents.groups().is_none();
     };
     if card.is_meter() {

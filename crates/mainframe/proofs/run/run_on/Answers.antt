@@ -8,7 +8,7 @@ use Rattle.sw_session.specs.Talk.{state, turns}
 use Rattle.mainframe.specs.Run.{EndsFrom, Line}
 use Rattle.mainframe.specs.declared.fault.RunFault.{RunFault}
 use Rattle.mainframe.specs.declared.fault.RunFault.TheVariants.{Input, Output}
-use Rattle.mainframe.specs.Lines.{WritesPart}
+use Rattle.sw_session.specs.ServeWrite.{WritesPart}
 use Rattle.mainframe.specs.Turns.{stand}
 use Rattle.mainframe.proofs.Known.{appends-nothing}
 use Rattle.mainframe.proofs.TurnLemmas.{spends-none, takes-push, line_taken}

@@ -1,4 +1,4 @@
-use Rattle.std.proofs.Common.{◌≡◌, ◌++◌, List, ap, sym, ◌∙◌, append_assoc}
+use Rattle.std.proofs.Common.{◌++◌, List, ap, sym, ◌∙◌, append_assoc}
 use Rattle.sw_trigger.specs.Agenda.{passes, pass_of}
 use Rattle.sw_code.specs.Compiled.{steps_of}
 use Rattle.sw_code.specs.declared.code.Step.{Step}

@@ -1,8 +1,7 @@
-use Rattle.std.proofs.Common.{◌≡◌, ◌<◌, ◌+◌, ◌/◌, ◌%◌, ◌++◌, ◌∷◌, [], ℕ, List, length, ap, sym, ◌∙◌, append_assoc, arith, rules}
+use Rattle.std.proofs.Common.{◌≡◌, ◌<◌, ◌+◌, ◌/◌, ◌%◌, ◌++◌, ◌∷◌, [], List, length, ap, ◌∙◌, arith}
 use Rattle.std.proofs.lemmas.Result.{on_ok_weaker}
-use Rattle.sw_trigger.specs.Agenda.{passes, pass_of}
-use Rattle.sw_code.specs.Compiled.{steps_of, passes_tree}
-use Rattle.sw_code.specs.Tree.{flatten}
+use Rattle.sw_trigger.specs.Agenda.{passes}
+use Rattle.sw_code.specs.Compiled.{steps_of}
 use Rattle.sw_trigger.specs.declared.layer.Layer.{Layer}
 use Rattle.sw_code.specs.declared.code.Step.{Step}
 use Rattle.sw_code.specs.declared.code.Step.TheVariants as step

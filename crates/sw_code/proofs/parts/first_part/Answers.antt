@@ -1,4 +1,4 @@
-use Rattle.std.proofs.Common.{◌≡◌, ◌∷◌, ap, ◌∙◌}
+use Rattle.std.proofs.Common.{ap, ◌∙◌}
 use Rattle.sw_code.specs.Reading.{parts_at}
 use Rattle.sw_code.proofs.Listed.{first_of, only_of, some_parts, some_weaker, none_weaker}
 use Rattle.sw_code.proofs.parts.first_part.Goals as goal

@@ -1,4 +1,4 @@
-use Rattle.std.proofs.Common.{◌≡◌, ap, ◌∙◌}
+use Rattle.std.proofs.Common.{ap, ◌∙◌}
 use Rattle.sw_code.specs.Reading.{code_in}
 use Rattle.sw_code.proofs.Reread.{listing_printed}
 use Rattle.sw_code.proofs.print.print_listing.Goals as goal

@@ -1,6 +1,10 @@
-use Rattle.std.proofs.Common.{arith, Some, sym, ◌∙◌, inl, inr, rules}
+use Rattle.std.proofs.Common.{◌-◌, arith, Some, slice_set, is_some, sym, ◌∙◌, ap, subst, inl, inr, rules}
+use Rattle.sw_base.specs.Layout.{slot_at}
+use Rattle.sw_cage.specs.Accounts.{accounts_of, option_closed}
+use Rattle.sw_cage.specs.Claims.{AreClaimed}
 use Rattle.sw_cage.proofs.SlotChangeLemmas.{is_none}
-use Rattle.sw_cage.proofs.OneSlotLemmas.{safe_installed, written}
+use Rattle.sw_cage.proofs.OneSlotLemmas.{written}
+use Rattle.sw_cage.proofs.ClaimedLemmas.{claimed_quiet}
 use Rattle.sw_cage.proofs.slots.Slots.install.Goals as goal
 
 pub returns-then-slot-lt1-clause-refused : goal.returns-then-slot-lt1-clause-refused
@@ -10,11 +14,16 @@ returns-then-slot-lt1-clause-refused g c = (
 )
 
 pub invariant_of-self : goal.invariant_of-self
-invariant_of-self g c = safe_installed c.self.inside.slots.items c.args.slot c.args.card c.self.invariant (omega arith) (omega arith)
-    (c.is_fit.ensures.open (search rules)) c.is_fit.ensures.states (c.is_fit.ensures.few (search rules))
+invariant_of-self g c =
+    subst (λ v. AreClaimed (accounts_of (slice_set c.self.inside.slots.items (c.args.slot - 1) v)) c.self.inside.claims) (sym c.with.ensures)
+    (claimed_quiet c.self.inside.slots.items c.args.slot (Some c.args.card) c.self.inside.claims c.self.invariant (omega arith) (omega arith)
+    (c.is_fit.ensures.open (search rules))
+    (record { states = c.is_fit.ensures.states; few = λ m. (c.is_fit.ensures.few (search rules) m).1 })
+    (λ k. ap (λ o. option_closed o k) (is_none _ (ap (λ r. is_some (slot_at r c.args.slot)) c.self.view_is ∙ sym c.has_card.ensures ∙ c.if-has_card.false))))
 
 pub returns-clause-ok : goal.returns-clause-ok
-returns-clause-ok g c = written c.self.inside.slots.items c.args.self.now _ (Some c.args.card) c.self.view_is
+returns-clause-ok g c = ap (λ v. accounts_of (slice_set c.self.inside.slots.items (c.args.slot - 1) v)) c.with.ensures
+    ∙ written c.self.inside.slots.items c.args.self.now _ (Some c.args.card) c.self.view_is
 
 pub returns-clause-accepted : goal.returns-clause-accepted
 returns-clause-accepted g c = record {

@@ -11,7 +11,8 @@ returns-in_default g c =
 
 pub returns-in-None : goal.returns-in-None
 returns-in-None g c =
-    let k = keeps-last _ _ c.pieces.self _ c.pieces.work c.in-Some.piece c.pieces.invariant c.in-Some.is c.in-None.ensures.none in
+    let k = keeps-last _ _ c.pieces.self _ c.pieces.work c.in-Some.piece c.pieces.invariant c.in-Some.is c.in-None.ensures.none
+    c.in-None.ensures.roomy in
     record { carried = k.0; keeps = k.1 }
 
 pub pieces-smaller : goal.pieces-smaller
@@ -21,4 +22,4 @@ pieces-smaller g c =
 pub pieces-preserved : goal.pieces-preserved
 pieces-preserved g c =
     keeps-on _ _ c.pieces.self _ _ c.pieces.work c.in-Some.piece _ _ c.pieces.invariant c.in-Some.is c.in-Some-put.ensures.some c.in-Some-put.ensures.same
-    c.carry-work.ensures
+    c.in-Some-put.ensures.full c.in-Some-put.ensures.roomy c.carry-work.ensures

@@ -1,0 +1,84 @@
+-- A channel of a session: what is asked and said to each message, from the first one on (IVI-6.1 HiSLIP, synchronized
+-- mode).
+use Rattle.std.specs.Prelude.{◌≡◌, Bool, false, MatchBool, List, [], Option, None, Some}
+use Rattle.sw_hislip.specs.declared.kind.Kind.{Kind}
+use Rattle.sw_hislip.specs.declared.message.Message.{Message}
+use Rattle.sw_core.specs.declared.ask.Sid.{Sid}
+use Rattle.sw_session.specs.declared.desk.View.{View}
+use Rattle.sw_session.specs.declared.engine.refusals.ErrorCode.TheVariants.{TooLarge}
+use Rattle.sw_session.specs.declared.engine.session.State.{State}
+use Rattle.sw_session.specs.declared.engine.session.State.TheVariants.{Unopened, Synchronized, Attached}
+use Rattle.sw_session.specs.declared.engine.step.Channel.{Channel}
+use Rattle.sw_session.specs.declared.engine.step.Channel.TheVariants.{Synchronous, Asynchronous}
+use Rattle.sw_session.specs.declared.engine.step.Step.{Step}
+use Rattle.sw_session.specs.EngineKinds.{sync_request}
+use Rattle.sw_session.specs.EngineMessages.{error_of}
+use Rattle.sw_session.specs.EngineSync.{SyncStanding, OpensSync, TakesSync, FaltersSync, skipped}
+use Rattle.sw_session.specs.EngineAsync.{AsyncStanding, OpensAsync, TakesAsync, notice_of, noticed}
+use Rattle.sw_session.specs.Trace.{Entry}
+
+-- how a channel stands, and whether memory ran out at a message of it
+pub record EngineStanding : Type 0 where
+  pub state : State
+  pub spent : Bool
+
+-- no message has come on this channel
+abbrev pub fresh : Channel → EngineStanding
+fresh channel = record { state = Unopened channel; spent = false }
+
+-- how a channel stands after its first message
+abbrev pub opened_sync : Option SyncStanding → State
+opened_sync None = Unopened Synchronous
+opened_sync (Some s) = Synchronized s
+
+abbrev pub opened_async : Option AsyncStanding → State
+opened_async None = Unopened Asynchronous
+opened_async (Some s) = Attached s
+
+-- one message: the first one opens the channel
+abbrev pub Takes : State → Message → List Entry → Step → State → Type 0
+Takes (Unopened Synchronous) m asked step s' = (o : Option SyncStanding) × OpensSync m asked step o
+    × (s' ≡ opened_sync o)
+Takes (Unopened Asynchronous) m asked step s' = (o : Option AsyncStanding) × OpensAsync m.kind m.parameter asked step o
+    × (s' ≡ opened_async o)
+Takes (Synchronized s) m asked step s' = (t : SyncStanding) × TakesSync s m asked step t × (s' ≡ Synchronized t)
+Takes (Attached s) m asked step s' = (t : AsyncStanding) × TakesAsync s m asked step t × (s' ≡ Attached t)
+
+-- the session of a channel
+abbrev pub session_of : State → Option Sid
+session_of (Unopened channel) = None
+session_of (Synchronized s) = Some s.sid
+session_of (Attached s) = Some s.sid
+
+-- which connection a channel is
+abbrev pub channel_of : State → Channel
+channel_of (Unopened channel) = channel
+channel_of (Synchronized s) = Synchronous
+channel_of (Attached s) = Asynchronous
+
+-- a message that found no memory: on the first channel of a session it may have asked a front of its row, else nothing
+abbrev pub FaltersAt : State → Message → List Entry → Type 0
+FaltersAt (Synchronized s) m asked = FaltersSync s m asked
+FaltersAt state m asked = asked ≡ []
+
+-- from then on nothing is asked
+abbrev pub Falters : EngineStanding → Message → List Entry → Type 0
+Falters e m asked = MatchBool e.spent (asked ≡ []) (FaltersAt e.state m asked)
+
+-- a message whose payload is too long is answered so (own)
+abbrev pub too_large : Message
+too_large = error_of TooLarge
+
+-- a skipped part of a program message drops it whole; any other skipped message does nothing else
+abbrev pub skips : Kind → State → State
+skips kind (Synchronized s) = Synchronized (record s { front = skipped (sync_request kind) s.front })
+skips kind s = s
+
+-- service requests are told on the second channel
+abbrev pub notice_from : State → View → Option Message
+notice_from (Attached s) view = notice_of s view
+notice_from s view = None
+
+abbrev pub noticed_from : State → View → State
+noticed_from (Attached s) view = Attached (noticed s view)
+noticed_from s view = s

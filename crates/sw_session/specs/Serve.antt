@@ -1,0 +1,355 @@
+-- What a server of one channel asks and writes for what it reads. An engine is asked act by act; one list has each act
+-- with what was asked and said for it.
+use Rattle.std.specs.Prelude.{◌≡◌, ◌≢◌, ℕ, ◌+◌, ◌<◌, ◌≤◌, ◌⊎◌, Bool, true, false, List, [], ◌∷◌, ◌++◌, length, map, Option, None, Some, Result, Ok, Err, if◌then◌else◌}
+use Rattle.std.specs.List.{flat_map, list_any}
+use Rattle.std.specs.Io.KnownBytes.{Appends, Consumes, IsAtEnd}
+use Rattle.sw_hislip.specs.declared.fault.WireFault.TheVariants.{TooLarge, BadPrologue}
+use Rattle.sw_hislip.specs.declared.kind.Kind.{Kind}
+use Rattle.sw_hislip.specs.declared.message.Message.{Message}
+use Rattle.sw_hislip.specs.Pending.{Pending, fed, Waits, GivesNext, HasMessage, HasWrongPrologue}
+use Rattle.sw_hislip.specs.Stream.{Call, Decodes, stream_of, told, Follows, IsStream, Rests}
+use Rattle.sw_core.specs.declared.ask.Sid.{Sid}
+use Rattle.sw_core.specs.declared.ask.SessionAsk.TheVariants as Ask
+use Rattle.sw_core.specs.declared.ask.SessionAnswer.{SessionAnswer}
+use Rattle.sw_session.specs.declared.engine.step.Channel.{Channel}
+use Rattle.sw_session.specs.declared.engine.step.Sent.{Sent}
+use Rattle.sw_session.specs.declared.engine.step.Step.{Step}
+use Rattle.sw_session.specs.declared.servers.act.Act.{Act}
+use Rattle.sw_session.specs.declared.servers.act.Act.TheVariants.{Takes, Skips, Refuses, Notices}
+use Rattle.sw_session.specs.declared.servers.act.After.{After}
+use Rattle.sw_session.specs.declared.servers.act.After.TheVariants.{Goes, Ends, Fatal, Malformed}
+use Rattle.sw_session.specs.declared.servers.fault.ServeFault.{ServeFault}
+use Rattle.sw_session.specs.declared.servers.fault.ServeFault.TheVariants as Fault
+use Rattle.sw_session.specs.declared.servers.turns.Came.{Came}
+use Rattle.sw_session.specs.declared.servers.turns.Came.TheVariants.{End, Bytes, Paused}
+use Rattle.sw_session.specs.declared.servers.turns.Next.{Next}
+use Rattle.sw_session.specs.declared.servers.turns.Next.TheVariants.{On, Over}
+use Rattle.sw_session.specs.Trace.{Entry, Asked, Noted, Leads}
+use Rattle.sw_session.specs.ServeWrite.{wire_on, wire_off, WritesPart}
+
+-- An engine's definition: what it asks and says to an act, and where it stands then; what it may have asked, and where it
+-- may stand, where it found no memory; and which session it has joined.
+pub record Voice (E : Type 0) : Type 1 where
+  pub speaks : E → Act → List Entry → Step → E → Type 0
+  pub falters : E → Act → List Entry → E → Type 0
+  pub session : E → Option Sid
+
+-- ---- acts
+
+-- what a server does for what it reads: before each message is taken it looks for service requests
+abbrev pub acts_for : Act → List Act
+acts_for (Takes m) = Notices ∷ Takes m ∷ []
+acts_for (Skips kind) = Skips kind ∷ []
+acts_for Refuses = Refuses ∷ []
+acts_for Notices = Notices ∷ []
+
+-- what the wire has told: a message, or the kind of one that is too large; nothing at a read that a time limit ended
+abbrev pub arrived : Act → List (Result Message Kind)
+arrived (Takes m) = Ok m ∷ []
+arrived (Skips kind) = Err kind ∷ []
+arrived Refuses = []
+arrived Notices = []
+
+abbrev pub is_pause : Act → ℕ
+is_pause Notices = 1
+is_pause (Takes m) = 0
+is_pause (Skips kind) = 0
+is_pause Refuses = 0
+
+-- how many reads a time limit ended
+abbrev pub pauses : List Act → ℕ
+pauses [] = 0
+pauses (i ∷ inputs) = is_pause i + pauses inputs
+
+-- ---- exchanges
+
+-- an act, what was asked for it, what was said, and what was asked once that was written
+pub record Exchange : Type 0 where
+  pub act : Act
+  pub asked : List Entry
+  pub step : Step
+  pub noted : List Entry
+
+abbrev pub is_refused : Act → Bool
+is_refused Refuses = true
+is_refused (Takes m) = false
+is_refused (Skips kind) = false
+is_refused Notices = false
+
+abbrev pub is_fatal : Kind → Bool
+is_fatal Kind.FatalError = true
+is_fatal kind = false
+
+abbrev pub is_last_part : Kind → Bool
+is_last_part Kind.DataEnd = true
+is_last_part kind = false
+
+-- how the channel goes on: a wrong prologue ends it, as does a step that says so, with a fatal error or without
+abbrev pub after_of : Bool → Step → After
+after_of true step = Malformed
+after_of false step =
+    if step.ends then if list_any (λ (s : Sent). is_fatal s.message.kind) step.out then Fatal else Ends else Goes
+
+-- once the last part of an answer is written, it is noted that a message is available for the session
+abbrev pub notes_of : Option Sid → List Sent → List Entry
+notes_of None said = []
+notes_of (Some sid) said = if list_any (λ (s : Sent). is_last_part s.message.kind) said then Noted sid true ∷ [] else []
+
+abbrev pub Proceeds : {E : Type 0} → Type 0 → After → E → List Exchange → After → E → Type 0
+Proceeds on Goes mid xs after s' = on
+Proceeds on Ends mid xs after s' = (xs ≡ []) × (after ≡ Ends) × (s' ≡ mid)
+Proceeds on Fatal mid xs after s' = (xs ≡ []) × (after ≡ Fatal) × (s' ≡ mid)
+Proceeds on Malformed mid xs after s' = (xs ≡ []) × (after ≡ Malformed) × (s' ≡ mid)
+
+-- an engine goes through these exchanges, of which only the last may end the channel
+abbrev pub Speaks : {E : Type 0} → Voice E → E → List Exchange → After → E → Type 0
+Speaks v s [] after s' = (after ≡ Goes) × (s' ≡ s)
+Speaks v s (x ∷ xs) after s' =
+    (step : After) × (mid : _) × v.speaks s x.act x.asked x.step mid × (x.noted ≡ notes_of (v.session mid) x.step.out)
+    × (step ≡ after_of (is_refused x.act) x.step)
+    × Proceeds (Speaks v mid xs after s') step mid xs after s'
+
+abbrev pub acts_of : List Exchange → List Act
+acts_of xs = map (λ (x : Exchange). x.act) xs
+
+abbrev pub asks_of : List Exchange → List Entry
+asks_of xs = flat_map (λ (x : Exchange). x.asked ++ x.noted) xs
+
+abbrev pub said_of : List Exchange → List Sent
+said_of xs = flat_map (λ (x : Exchange). x.step.out) xs
+
+-- where a server stands: its engine, its desk, and what its two writers hold
+pub record Point (E D : Type 0) : Type 0 where
+  pub engine : E
+  pub desk : D
+  pub main : Option (List ℕ)
+  pub side : Option (List ℕ)
+
+abbrev pub point : {E D : Type 0} → E → D → Option (List ℕ) → Option (List ℕ) → Point E D
+point s d w x = record { engine = s; desk = d; main = w; side = x }
+
+-- The engine's definition of these exchanges is what was asked, and what the writers got.
+pub record Spoken {E D : Type 0} (v : Voice E) (passes : D → Entry → D → Type 0) (own : Channel) (a b : Point E D)
+    (xs : List Exchange) (after : After) : Type 0 where
+  pub speaks : Speaks v a.engine xs after b.engine
+  pub asks : Leads passes a.desk (asks_of xs) b.desk
+  pub main : Appends a.main b.main (flat_map (wire_on own) (said_of xs))
+  pub side : Appends a.side b.side (flat_map (wire_off own) (said_of xs))
+
+-- ---- acts that fail
+
+-- what was said to an act was not written whole
+pub record IsCutOff {E D : Type 0} (v : Voice E) (passes : D → Entry → D → Type 0) (own : Channel) (a b : Point E D)
+    (act : Act) : Type 0 where
+  pub asked : List Entry
+  pub step : Step
+  pub speaks : v.speaks a.engine act asked step b.engine
+  pub asks : Leads passes a.desk asked b.desk
+  pub main : WritesPart a.main b.main (flat_map (wire_on own) step.out)
+  pub side : WritesPart a.side b.side (flat_map (wire_off own) step.out)
+
+-- there was no memory for an act
+pub record IsStarved {E D : Type 0} (v : Voice E) (passes : D → Entry → D → Type 0) (a b : Point E D)
+    (act : Act) : Type 0 where
+  pub asked : List Entry
+  pub falters : v.falters a.engine act asked b.engine
+  pub asks : Leads passes a.desk asked b.desk
+  pub main : b.main ≡ a.main
+  pub side : b.side ≡ a.side
+
+abbrev pub Breaks : {E D : Type 0} → Voice E → (D → Entry → D → Type 0) → Channel → Point E D → Point E D → Act
+    → ServeFault → Type 0
+Breaks v passes own a b act Fault.Write = IsCutOff v passes own a b act
+Breaks v passes own a b act Fault.NoMemory = IsCutOff v passes own a b act ⊎ IsStarved v passes a b act
+Breaks v passes own a b act fault = ⊥
+
+-- these acts are gone through up to one that fails
+pub record Stops {E D : Type 0} (v : Voice E) (passes : D → Entry → D → Type 0) (own : Channel) (a b : Point E D)
+    (acts : List Act) (fault : ServeFault) : Type 0 where
+  pub xs : List Exchange
+  pub act : Act
+  pub rest : List Act
+  pub mid : Point E D
+  pub acts_are : acts_of xs ++ act ∷ rest ≡ acts
+  pub spoken : Spoken v passes own a mid xs Goes
+  pub breaks : Breaks v passes own mid b act fault
+
+-- these acts are gone through, all of them where the channel goes on, and else up to the one that ends it
+abbrev pub GoesThrough : {E D : Type 0} → Voice E → (D → Entry → D → Type 0) → Channel → Point E D → Point E D
+    → List Act → After → Type 0
+GoesThrough v passes own a b acts after =
+    (xs : List Exchange) × (rest : List Act) × (acts_of xs ++ rest ≡ acts) × (after ≡ Goes → rest ≡ [])
+    × Spoken v passes own a b xs after
+
+-- ---- clauses of a server's parts
+
+-- one act
+abbrev pub Hears : {E D : Type 0} → Voice E → (D → Entry → D → Type 0) → Channel → Act → Point E D → Point E D
+    → Result After ServeFault → Type 0
+Hears v passes own act a b (Ok after) = GoesThrough v passes own a b (act ∷ []) after
+Hears v passes own act a b (Err fault) = Breaks v passes own a b act fault
+
+-- only a wrong prologue ends a channel as malformed, and it always does
+abbrev pub Judges : Bool → After → Type 0
+Judges true after = after ≡ Malformed
+Judges false after = after ≢ Malformed
+
+-- some acts
+abbrev pub HearsEach : {E D : Type 0} → Voice E → (D → Entry → D → Type 0) → Channel → List Act → Point E D → Point E D
+    → Result After ServeFault → Type 0
+HearsEach v passes own acts a b (Ok after) = GoesThrough v passes own a b acts after
+HearsEach v passes own acts a b (Err fault) = Stops v passes own a b acts fault
+
+-- a whole message stands at the front
+abbrev pub HoldsMessage : Pending → Type 0
+HoldsMessage p = (m : Message) × (more : List ℕ) × HasMessage p.bytes m more
+
+-- what the wire tells next
+abbrev pub Finds : Pending → Act → Pending → Type 0
+Finds p (Takes m) p' = GivesNext p (Ok (Some m)) p'
+Finds p (Skips kind) p' = GivesNext p (Err (TooLarge kind)) p'
+Finds p Refuses p' = GivesNext p (Err BadPrologue) p'
+Finds p Notices p' = ⊥
+
+-- where there is no memory for a message that is whole, it stays
+abbrev pub NextInput : Pending → Pending → Result (Option Act) ServeFault → Type 0
+NextInput p p' (Ok None) = Waits p.bytes × (p' ≡ p)
+NextInput p p' (Ok (Some input)) = Finds p input p'
+NextInput p p' (Err fault) = (fault ≡ Fault.NoMemory) × (p' ≡ p) × HoldsMessage p
+
+-- one read: what came is fed, or lost where there is no memory for it
+abbrev pub Listens : Option (List ℕ) → Option (List ℕ) → Pending → Pending → Result Came ServeFault → Type 0
+Listens old new p p' (Ok End) = Consumes old new [] × IsAtEnd new × (p' ≡ p)
+Listens old new p p' (Ok Bytes) = (piece : List ℕ) × (0 < length piece) × Consumes old new piece × (p' ≡ fed p piece)
+Listens old new p p' (Ok Paused) = Consumes old new [] × (p' ≡ p)
+Listens old new p p' (Err e) =
+    (p' ≡ p)
+    × (((e ≡ Fault.Read) × Consumes old new [])
+    ⊎ ((e ≡ Fault.NoMemory) × ((lost : List ℕ) × Consumes old new lost × (0 < length lost))))
+
+-- a decoder was fed these bytes, and this is what it told
+pub record Tells (p p' : Pending) (read : List ℕ) (inputs : List Act) : Type 0 where
+  pub calls : List Call
+  pub decodes : Decodes p calls p'
+  pub stream : stream_of calls ≡ read
+  pub told : told calls ≡ flat_map arrived inputs
+
+-- what is pending where a channel goes on, or met a wrong prologue
+abbrev pub Stands : After → Pending → Type 0
+Stands Goes p = Waits p.bytes
+Stands Malformed p = HasWrongPrologue p.bytes
+Stands Ends p = Unit {0}
+Stands Fatal p = Unit {0}
+
+abbrev pub HearsInputs : {E D : Type 0} → Voice E → (D → Entry → D → Type 0) → Channel → List Act → Pending → Point E D
+    → Point E D → Result After ServeFault → Type 0
+HearsInputs v passes own inputs p a b (Ok after) = GoesThrough v passes own a b (flat_map acts_for inputs) after
+    × Stands after p
+HearsInputs v passes own inputs p a b (Err fault) =
+    Stops v passes own a b (flat_map acts_for inputs) fault
+    ⊎ ((fault ≡ Fault.NoMemory) × GoesThrough v passes own a b (flat_map acts_for inputs) Goes × HoldsMessage p)
+
+-- all that the wire tells is gone through, or what it tells up to an end of the channel or a fault
+pub record HearsAll {E D : Type 0} (v : Voice E) (passes : D → Entry → D → Type 0) (own : Channel) (p p' : Pending)
+    (a b : Point E D) (result : Result After ServeFault) : Type 0 where
+  pub inputs : List Act
+  pub unpaused : pauses inputs ≡ 0
+  pub tells : Tells p p' [] inputs
+  pub spoken : HearsInputs v passes own inputs p' a b result
+
+-- how a channel's state ends a turn
+abbrev pub conclude : Result After ServeFault → Result Next ServeFault
+conclude (Ok Goes) = Ok On
+conclude (Ok Ends) = Ok Over
+conclude (Ok Fatal) = Err Fault.Fatal
+conclude (Ok Malformed) = Err Fault.Wire
+conclude (Err fault) = Err fault
+
+-- ---- a turn, and a run
+
+-- nothing is lost, unless there was no memory
+abbrev pub LosesAt : ServeFault → List ℕ → Type 0
+LosesAt Fault.NoMemory lost = Unit {0}
+LosesAt fault lost = lost ≡ []
+
+abbrev pub Loses : {A : Type 0} → Result A ServeFault → List ℕ → Type 0
+Loses (Ok _) lost = lost ≡ []
+Loses (Err fault) lost = LosesAt fault lost
+
+-- A run ends well where all was read and gone through, or where the channel ended.
+abbrev pub EndsWell : {E D : Type 0} → Voice E → (D → Entry → D → Type 0) → Channel → Point E D → Point E D → List Act
+    → Pending → Option (List ℕ) → Type 0
+EndsWell v passes own a b acts p left = (GoesThrough v passes own a b acts Goes × Waits p.bytes × IsAtEnd left)
+    ⊎ GoesThrough v passes own a b acts Ends
+
+-- there was no memory for bytes that came, or for a whole message at the front
+abbrev pub LacksMemory : Pending → List ℕ → Type 0
+LacksMemory p lost = (0 < length lost) ⊎ HoldsMessage p
+
+-- Why a run fails: after a read fault all that was read is gone through; a wrong prologue stands in a message's place, or
+-- the engine met a fatal error; ReadBound comes after as many bytes and pauses as there are turns.
+abbrev pub FailsBy : {E D : Type 0} → Voice E → (D → Entry → D → Type 0) → Channel → Point E D → Point E D → List Act
+    → Pending → List ℕ → ℕ → ℕ → ServeFault → Type 0
+FailsBy v passes own a b acts p lost turns n Fault.Read = GoesThrough v passes own a b acts Goes × Waits p.bytes
+FailsBy v passes own a b acts p lost turns n Fault.Write = Stops v passes own a b acts Fault.Write
+FailsBy v passes own a b acts p lost turns n Fault.Wire = GoesThrough v passes own a b acts Malformed
+    × HasWrongPrologue p.bytes
+FailsBy v passes own a b acts p lost turns n Fault.Fatal = GoesThrough v passes own a b acts Fatal
+FailsBy v passes own a b acts p lost turns n Fault.NoMemory = Stops v passes own a b acts Fault.NoMemory
+    ⊎ (GoesThrough v passes own a b acts Goes × LacksMemory p lost)
+FailsBy v passes own a b acts p lost turns n Fault.ReadBound = GoesThrough v passes own a b acts Goes × Waits p.bytes
+    × (turns ≤ n)
+
+abbrev pub EndsTurn : {E D : Type 0} → Voice E → (D → Entry → D → Type 0) → Channel → Point E D → Point E D → List Act
+    → Pending → List ℕ → ℕ → Option (List ℕ) → Result Next ServeFault → Type 0
+EndsTurn v passes own a b acts p lost n left (Ok On) = GoesThrough v passes own a b acts Goes × Waits p.bytes × (0 < n)
+EndsTurn v passes own a b acts p lost n left (Ok Over) = EndsWell v passes own a b acts p left
+EndsTurn v passes own a b acts p lost n left (Err fault) = FailsBy v passes own a b acts p lost 0 n fault
+    × (fault ≡ Fault.ReadBound → ⊥)
+
+-- one read, and what is gone through for it; may_pause says that a time limit can end a read
+pub record TakesTurn {E D : Type 0} (v : Voice E) (passes : D → Entry → D → Type 0) (own : Channel) (may_pause : Type 0)
+    (p p' : Pending) (a b : Point E D) (input left : Option (List ℕ)) (result : Result Next ServeFault) : Type 0 where
+  pub read : List ℕ
+  pub lost : List ℕ
+  pub reads : Consumes input left (read ++ lost)
+  pub loses : Loses result lost
+  pub inputs : List Act
+  pub paused : 0 < pauses inputs → may_pause
+  pub tells : Tells p p' read inputs
+  pub ends : EndsTurn v passes own a b (flat_map acts_for inputs) p' lost
+      (length read + pauses inputs) left result
+
+abbrev pub EndsRun : {E D : Type 0} → Voice E → (D → Entry → D → Type 0) → Channel → Point E D → Point E D → List Act
+    → Pending → List ℕ → ℕ → ℕ → Option (List ℕ) → Result (Unit {0}) ServeFault → Type 0
+EndsRun v passes own a b acts p lost turns n left (Ok _) = EndsWell v passes own a b acts p left
+EndsRun v passes own a b acts p lost turns n left (Err fault) = FailsBy v passes own a b acts p lost turns n fault
+
+-- These bytes were read, however they were cut. The messages that stand in them are what the engine is asked, as far as
+-- the run came; where it waits for more, or stands at a wrong prologue, those are all messages of the stream. No time
+-- limit ended a read where none can.
+pub record Runs {E D : Type 0} (v : Voice E) (passes : D → Entry → D → Type 0) (own : Channel) (may_pause : Type 0)
+    (turns : ℕ) (a b : Point E D) (input left : Option (List ℕ)) (result : Result (Unit {0}) ServeFault) : Type 0 where
+  pub read : List ℕ
+  pub lost : List ℕ
+  pub reads : Consumes input left (read ++ lost)
+  pub loses : Loses result lost
+  pub inputs : List Act
+  pub paused : 0 < pauses inputs → may_pause
+  pub pending : Pending
+  pub follows : Follows read (flat_map arrived inputs) pending
+  pub stream : Rests pending.bytes → IsStream read follows.messages follows.rest
+  pub ends : EndsRun v passes own a b (flat_map acts_for inputs) pending lost turns
+      (length read + pauses inputs) left result
+
+-- a session that was joined is left, and nothing else is asked
+abbrev pub Leaves : {D : Type 0} → (D → Entry → D → Type 0) → Option Sid → D → D → Type 0
+Leaves passes None d d' = d' ≡ d
+Leaves passes (Some sid) d d' = (answer : SessionAnswer) × passes d (Asked (Ask.Leave sid) answer) d'
+
+-- a run, and then the session is left
+pub record Serves {E D : Type 0} (v : Voice E) (passes : D → Entry → D → Type 0) (own : Channel) (may_pause : Type 0)
+    (turns : ℕ) (a b : Point E D) (input left : Option (List ℕ)) (result : Result (Unit {0}) ServeFault) : Type 0 where
+  pub desk : D
+  pub runs : Runs v passes own may_pause turns a (point b.engine desk b.main b.side) input left result
+  pub leaves : Leaves passes (v.session b.engine) desk b.desk

@@ -1,0 +1,64 @@
+-- A HiSLIP engine as a server asks it (IVI-6.1 HiSLIP; what is said to be own is this instrument's choice).
+use Rattle.std.specs.Prelude.{◌≡◌, ℕ, true, false, List, [], ◌∷◌, Option, None, Some, Result}
+use Rattle.sw_hislip.specs.declared.message.Message.{Message}
+use Rattle.sw_core.specs.declared.ask.Sid.{Sid}
+use Rattle.sw_session.specs.declared.engine.refusals.FatalCode.TheVariants.{PoorlyFormed}
+use Rattle.sw_session.specs.declared.engine.session.State.{State}
+use Rattle.sw_session.specs.declared.engine.session.State.TheVariants.{Attached}
+use Rattle.sw_session.specs.declared.engine.step.Channel.{Channel}
+use Rattle.sw_session.specs.declared.engine.step.Channel.TheVariants.{Asynchronous}
+use Rattle.sw_session.specs.declared.engine.step.Step.{Step}
+use Rattle.sw_session.specs.declared.servers.act.Act.{Act}
+use Rattle.sw_session.specs.declared.servers.fault.ServeFault.{ServeFault}
+use Rattle.sw_session.specs.Trace.{Entry, Polled}
+use Rattle.sw_session.specs.EngineStep.{goes, says, fails, Unasked}
+use Rattle.sw_session.specs.Engine.{EngineStanding, fresh, Takes, Falters, session_of, channel_of, too_large, skips, notice_from, noticed_from}
+use Rattle.sw_session.specs.Serve.{Voice, Serves, point}
+
+-- a service request that is told, if any
+abbrev pub told_step : Option Message → Step
+told_step None = goes []
+told_step (Some m) = says Asynchronous m
+
+-- the session whose second channel it is
+abbrev pub second_session_of : State → Option Sid
+second_session_of (Attached s) = Some s.sid
+second_session_of s = None
+
+-- The second channel of a session looks at its status, and tells of service requests that were not told yet. Any other
+-- channel asks and says nothing.
+abbrev pub LooksFor : Option Sid → State → List Entry → Step → State → Type 0
+LooksFor (Some sid) s (Polled p view ∷ []) step t = (p ≡ sid) × (step ≡ told_step (notice_from s view))
+    × (t ≡ noticed_from s view)
+LooksFor (Some sid) s asked step t = ⊥
+LooksFor None s asked step t = Unasked (goes []) asked step × (t ≡ s)
+
+abbrev pub Looks : State → List Entry → Step → State → Type 0
+Looks s asked step t = LooksFor (second_session_of s) s asked step t
+
+-- What an engine asks and says to an act: to a message what its channel's definition says, to one that was skipped
+-- Error 4 (own), to a header that doesn't begin with `HS` FatalError 1, and service requests are told.
+abbrev pub EngineSpeaks : EngineStanding → Act → List Entry → Step → EngineStanding → Type 0
+EngineSpeaks e (Act.Takes m) asked step f = Takes e.state m asked step f.state × (e.spent ≡ false) × (f.spent ≡ false)
+EngineSpeaks e (Act.Skips kind) asked step f = Unasked (says (channel_of e.state) too_large) asked step
+    × (f ≡ record e { state = skips kind e.state })
+EngineSpeaks e Act.Refuses asked step f = Unasked (fails (channel_of e.state) PoorlyFormed) asked step × (f ≡ e)
+EngineSpeaks e Act.Notices asked step f = Looks e.state asked step f.state × (f.spent ≡ e.spent)
+
+-- What it may have asked where it found no memory: to a message what the engine says, and else nothing.
+abbrev pub EngineFalters : EngineStanding → Act → List Entry → EngineStanding → Type 0
+EngineFalters e (Act.Takes m) asked f = Falters e m asked × (session_of f.state ≡ session_of e.state)
+    × (f.spent ≡ true)
+EngineFalters e act asked f = (asked ≡ []) × (f ≡ e)
+
+-- the definition of a HiSLIP engine
+abbrev pub engine_voice : Voice EngineStanding
+engine_voice = record { speaks = EngineSpeaks; falters = EngineFalters; session = λ e. session_of e.state }
+
+-- A server of one channel, from its first byte on: an engine on which nothing has come is served.
+pub record ServesChannel {D : Type 0} (passes : D → Entry → D → Type 0) (own : Channel) (may_pause : Type 0) (turns : ℕ)
+    (desk desk' : D) (input left main main' side side' : Option (List ℕ))
+    (result : Result (Unit {0}) ServeFault) : Type 0 where
+  pub engine : EngineStanding
+  pub serves : Serves engine_voice passes own may_pause turns (point (fresh own) desk main side)
+      (point engine desk' main' side') input left result

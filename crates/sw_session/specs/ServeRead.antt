@@ -1,0 +1,26 @@
+-- What a server makes of its reads.
+use Rattle.std.specs.Prelude.{◌≡◌, ◌≢◌, ◌⊎◌, ℕ, Option, None, Some, Result, Ok, Err}
+use Rattle.sw_session.specs.declared.servers.source.Unread.{Unread}
+use Rattle.sw_session.specs.declared.servers.source.Unread.TheVariants.{Paused, Failed}
+
+-- a read that gave bytes comes to just these, and one that gave an error to none
+abbrev pub Gives : {E : Type 0} → Result ℕ E → Option (Result ℕ Unread) → Type 0
+Gives (Ok n) told = told ≡ Some (Ok n)
+Gives (Err e) (Some (Ok n)) = ⊥
+Gives (Err e) (Some (Err why)) = Unit {0}
+Gives (Err e) None = Unit {0}
+
+-- What an error of this kind comes to: interrupted, the read is asked again; one of the two kinds of a time limit ended
+-- it; it failed.
+pub record ComesTo {K : Type 0} (interrupted timed_out would_block kind : K) (told : Option (Result ℕ Unread)) : Type 0 where
+  pub again : kind ≡ interrupted → told ≡ None
+  pub limit : (kind ≡ timed_out) ⊎ (kind ≡ would_block) → told ≡ Some (Err Paused)
+  pub failure : kind ≢ interrupted → kind ≢ timed_out → kind ≢ would_block → told ≡ Some (Err Failed)
+
+-- such a step has led to this state
+abbrev pub CameTo : {A : Type 0} → (A → A → Type 0) → A → Type 0
+CameTo step new = (old : _) × step old new
+
+-- a time limit can end a read
+abbrev pub MayPause : {A : Type 0} → (A → A → Type 0) → Type 0
+MayPause paused = (new : _) × CameTo paused new

@@ -1,0 +1,71 @@
+//! The front of a program message.
+
+ghost use Rattle.std.specs.Prelude.{◌≡◌, IfOk};
+ghost use Rattle.sw_session.specs.EngineSync.{with_part, whole, skipped, is_within};
+
+use crate::engine::requests::SyncRequest;
+use std::alloc::AllocError;
+use sw_base::Sequence;
+
+/// What has come of a program message that isn't ended.
+#[derive(Debug, Drop)]
+pub enum Front {
+    /// No part of it.
+    Nothing,
+    /// Parts with these bytes.
+    Kept(Sequence<u8>),
+    /// A part that was too large: the whole message is dropped.
+    Lost,
+}
+
+/// The front with one more part. Want of memory loses the whole message.
+pub fn with_part(front: Front, part: Sequence<u8>) -> Result<Front, AllocError>
+    ensures { IfOk result (λ after. after ≡ with_part front part) }
+{
+    match front {
+        Front::Nothing => Ok(Front::Kept(part)),
+        Front::Kept(front) => {
+            let mut bytes = front.into_vec();
+            bytes.extend_from_slice(part.as_slice())?;
+            Ok(Front::Kept(Sequence::new(bytes)))
+        }
+        Front::Lost => {
+            drop(part);
+            Ok(Front::Lost)
+        }
+    }
+}
+
+/// The whole message with its last part; none where a part of it was skipped.
+pub fn whole(front: Front, part: Sequence<u8>) -> Result<Option<Sequence<u8>>, AllocError>
+    ensures { IfOk result (λ text. text ≡ whole front part) }
+{
+    match with_part(front, part)? {
+        Front::Kept(text) => Ok(Some(text)),
+        _ => Ok(None),
+    }
+}
+
+/// The front once a message that asks for this was skipped for its size.
+pub fn skipped(request: SyncRequest, front: Front) -> Front
+    ensures { result ≡ skipped request front }
+{
+    match request {
+        SyncRequest::Part => {
+            drop(front);
+            Front::Lost
+        }
+        SyncRequest::End => {
+            drop(front);
+            Front::Nothing
+        }
+        _ => front,
+    }
+}
+
+/// Whether some part of a program message has come.
+pub fn is_within(front: &Front) -> bool
+    ensures { result ≡ is_within front.now }
+{
+    !matches!(front, Front::Nothing)
+}

@@ -1,0 +1,380 @@
+//! The synchronous channel of a session, after its first message.
+
+ghost use Rattle.std.specs.Prelude.{◌≡◌, ◌≢◌, ◌≤◌, ◌++◌, List, [], map, true, false, IfOk, OnErr, vec_capacity};
+ghost use Rattle.sw_session.specs.EngineSync as EngineSync;
+ghost use Rattle.sw_session.specs.EngineStep.{LedBy, on, goes, joined, reply_step};
+ghost use Rattle.sw_session.specs.EngineSync.{newly_joined, TakesSync, RepliesSync, Completes, completed, Triggers};
+ghost use Rattle.sw_session.specs.EngineSync.{is_within, ServesProgram, Attended, Programs};
+ghost use Rattle.sw_session.specs.EngineSync.{Finishes, Converses, Answers, CutsTo, said_of, skipped, SaysMore};
+ghost use Rattle.sw_session.specs.EngineSync.{is_program};
+ghost use Rattle.sw_session.specs.EngineKinds.{sync_request};
+ghost use Rattle.sw_session.specs.EngineSync.{IsToBeCut, LosesAnswer, FinishesShort, ProgramsShort, AttendedShort};
+ghost use Rattle.sw_session.specs.EngineSync.{ServesShort, FaltersSync};
+ghost use Rattle.sw_session.specs.declared.engine.step.Channel.TheVariants.{Synchronous};
+
+use crate::desk::Desk;
+use crate::engine::answers::{cut, room_of};
+use crate::engine::front::{Front, is_within, skipped, whole, with_part};
+use crate::engine::refusals::{ErrorCode, FatalCode, error};
+use crate::engine::requests::{SyncRequest, is_program, sync_request};
+use crate::engine::responses::plain;
+use crate::engine::step::{Channel, Reply, Sent, Step, step_of};
+use crate::engine::synchronous::{Delivery, attend, complete, deliver, trigger};
+use crate::talker::Talker;
+use std::alloc::{AllocError, Global};
+use std::marker::Model;
+use std::mem::replace;
+use sw_base::Sequence;
+use sw_core::{SessionAnswer, SessionAsk, Sid};
+use sw_hislip::{Kind, Message};
+
+/// The synchronous channel of a session. Contracts see a `SyncStanding`.
+#[derive(Drop)]
+pub struct SyncSession {
+    sid: Sid,
+    talker: Talker,
+    /// Whether the second channel was seen to stand.
+    attached: bool,
+    front: Front,
+}
+
+impl Model for SyncSession {
+    ghost use Rattle.std.specs.Prelude.{◌≡◌};
+    ghost use Rattle.sw_session.specs.EngineSync.{SyncStanding};
+
+    ghost Value = { SyncStanding };
+
+    ghost view = { λ s. record { sid = s.sid; macros = s.talker.macros; attached = s.attached; front = s.front } };
+
+    ghost invariant = { λ s. s.talker.sid ≡ s.sid };
+}
+
+impl SyncSession {
+    /// The session that was just joined.
+    pub fn new(alloc: Global, sid: Sid) -> Self
+        ensures { result ≡ newly_joined sid }
+    {
+        SyncSession {
+            sid,
+            talker: Talker::new(alloc, sid),
+            attached: false,
+            front: Front::Nothing,
+        }
+    }
+
+    /// Whose channel it is.
+    pub fn sid(&self) -> Sid
+        ensures { result ≡ self.now.sid }
+    {
+        self.sid
+    }
+
+    /// Drops what belongs to a message of this kind that was skipped for its size.
+    pub fn skip(&mut self, kind: Kind)
+        ensures { self.new ≡ record self.old { front = skipped (sync_request kind) self.old.front } }
+    {
+        let front = replace(&mut self.front, Front::Nothing);
+        self.front = skipped(sync_request(kind), front);
+    }
+
+    /// Serves a message after the first.
+    pub fn take<D: Desk>(
+        &mut self,
+        alloc: Global,
+        message: Message,
+        desk: &mut D,
+    ) -> Result<Step, AllocError>
+        ensures ok { IfOk result (λ step. LedBy D.passes desk.old desk.new (λ asked.
+            TakesSync self.old message asked step self.new)) }
+        ensures err { OnErr result (LedBy D.passes desk.old desk.new (λ asked. FaltersSync self.old message asked)) }
+        ensures same { self.new.sid ≡ self.old.sid }
+    {
+        let room = Vec::with_capacity(alloc, 2)?;
+        let request = sync_request(message.kind);
+        if is_program(request) {
+            return self.program(alloc, request, message, room, desk);
+        }
+        drop(message);
+        let reply = self.reply(alloc, request, desk);
+        Ok(step_of(alloc, Channel::Synchronous, room, reply))
+    }
+
+    /// The reply to a message that is no part of a program.
+    fn reply<D: Desk>(&mut self, alloc: Global, request: SyncRequest, desk: &mut D) -> Reply
+        requires { is_program request ≡ false }
+        ensures replies { LedBy D.passes desk.old desk.new (λ asked.
+            RepliesSync request self.old asked (reply_step Synchronous result) self.new) }
+        ensures same { self.new.sid ≡ self.old.sid }
+    {
+        match request {
+            SyncRequest::ClearComplete => self.complete(alloc, desk),
+            SyncRequest::Leave => Reply::Leaves,
+            SyncRequest::Nothing => Reply::Silence,
+            SyncRequest::Initialize => Reply::Fails(FatalCode::InvalidInitialization),
+            SyncRequest::Vendor => Reply::Says(error(alloc, ErrorCode::UnrecognizedVendor)),
+            SyncRequest::Misplaced => Reply::Says(error(alloc, ErrorCode::UnrecognizedType)),
+            SyncRequest::Part | SyncRequest::End | SyncRequest::Trigger => unreachable!(),
+        }
+    }
+
+    /// Answers a DeviceClearComplete; what came of a program message is dropped.
+    fn complete<D: Desk>(&mut self, alloc: Global, desk: &mut D) -> Reply
+        ensures asked { LedBy D.passes desk.old desk.new (λ asked.
+            Completes self.old.sid asked (reply_step Synchronous result)) }
+        ensures state { self.new ≡ completed self.old (reply_step Synchronous result) }
+        ensures same { self.new.sid ≡ self.old.sid }
+    {
+        let reply = complete(alloc, self.sid, desk);
+        if !ends(&reply) {
+            self.front = Front::Nothing;
+        }
+        reply
+    }
+
+    /// Serves a message of a program once the second channel stands.
+    fn program<D: Desk>(
+        &mut self,
+        alloc: Global,
+        request: SyncRequest,
+        message: Message,
+        room: Vec<Sent>,
+        desk: &mut D,
+    ) -> Result<Step, AllocError>
+        requires program { is_program request ≡ true }
+        requires empty { room.items ≡ [] }
+        requires room { 2 ≤ vec_capacity room }
+        ensures ok { IfOk result (λ step. LedBy D.passes desk.old desk.new (λ asked.
+            ServesProgram request self.old message asked step self.new)) }
+        ensures err { OnErr result (LedBy D.passes desk.old desk.new (λ asked.
+            ServesShort request self.old message asked)) }
+        ensures same { self.new.sid ≡ self.old.sid }
+    {
+        match attend(self.sid, self.attached, desk) {
+            Some(reply) => {
+                drop(message);
+                Ok(step_of(alloc, Channel::Synchronous, room, reply))
+            }
+            None => {
+                self.attached = true;
+                self.hear(alloc, request, message, room, desk)
+            }
+        }
+    }
+
+    /// Looks at the last answer, and serves a message of a program.
+    fn hear<D: Desk>(
+        &mut self,
+        alloc: Global,
+        request: SyncRequest,
+        message: Message,
+        room: Vec<Sent>,
+        desk: &mut D,
+    ) -> Result<Step, AllocError>
+        requires program { is_program request ≡ true }
+        requires empty { room.items ≡ [] }
+        requires room { 2 ≤ vec_capacity room }
+        ensures ok { IfOk result (λ step. LedBy D.passes desk.old desk.new (λ asked.
+            Attended request self.old message asked step self.new)) }
+        ensures err { OnErr result (LedBy D.passes desk.old desk.new (λ asked.
+            AttendedShort request self.old message asked)) }
+        ensures same { self.new.sid ≡ self.old.sid }
+    {
+        match deliver(self.sid, message.control, desk) {
+            Delivery::Gone => {
+                drop(message);
+                Ok(step_of(alloc, Channel::Synchronous, room, Reply::Leaves))
+            }
+            delivery => {
+                let said = interruption(alloc, room, message.parameter, delivery);
+                self.serve(alloc, request, message, said, desk)
+            }
+        }
+    }
+
+    /// Serves a message of a program; this was said before.
+    fn serve<D: Desk>(
+        &mut self,
+        alloc: Global,
+        request: SyncRequest,
+        message: Message,
+        said: Vec<Sent>,
+        desk: &mut D,
+    ) -> Result<Step, AllocError>
+        requires { is_program request ≡ true }
+        ensures ok { IfOk result (λ step. LedBy D.passes desk.old desk.new (λ asked.
+            SaysMore said.items step (λ own. Programs request self.old message asked own self.new))) }
+        ensures err { OnErr result (LedBy D.passes desk.old desk.new (λ asked.
+            ProgramsShort request self.old message asked)) }
+        ensures same { self.new.sid ≡ self.old.sid }
+    {
+        match request {
+            SyncRequest::Part => self.keep(message.payload, said),
+            SyncRequest::End => self.finish(alloc, message.parameter, message.payload, said, desk),
+            SyncRequest::Trigger => {
+                drop(message);
+                Ok(self.trigger(said, desk))
+            }
+            SyncRequest::ClearComplete
+            | SyncRequest::Leave
+            | SyncRequest::Nothing
+            | SyncRequest::Initialize
+            | SyncRequest::Vendor
+            | SyncRequest::Misplaced => unreachable!(),
+        }
+    }
+
+    /// Keeps a part of a program message.
+    fn keep(&mut self, part: Sequence<u8>, said: Vec<Sent>) -> Result<Step, AllocError>
+        ensures kept { IfOk result (λ step. (step ≡ joined (goes said.items) (goes []))
+            × (self.new ≡ record self.old { front = EngineSync.with_part self.old.front part })) }
+        ensures same { self.new.sid ≡ self.old.sid }
+    {
+        let front = replace(&mut self.front, Front::Nothing);
+        self.front = with_part(front, part)?;
+        Ok(told(said, false))
+    }
+
+    /// Gives a trigger, and drops what came of a program message.
+    fn trigger<D: Desk>(&mut self, said: Vec<Sent>, desk: &mut D) -> Step
+        ensures ok { LedBy D.passes desk.old desk.new (λ asked.
+            SaysMore said.items result (λ own. Triggers (is_within self.old.front) self.old.sid asked own)) }
+        ensures state { self.new ≡ record self.old { front = Front.Nothing } }
+        ensures same { self.new.sid ≡ self.old.sid }
+    {
+        let within = is_within(&self.front);
+        let ends = trigger(self.sid, within, desk);
+        self.front = Front::Nothing;
+        told(said, ends)
+    }
+
+    /// Ends a program message with its last part.
+    fn finish<D: Desk>(
+        &mut self,
+        alloc: Global,
+        id: u32,
+        part: Sequence<u8>,
+        said: Vec<Sent>,
+        desk: &mut D,
+    ) -> Result<Step, AllocError>
+        ensures ok { IfOk result (λ step. LedBy D.passes desk.old desk.new (λ asked.
+            SaysMore said.items step (λ own.
+            Finishes self.old id (EngineSync.whole self.old.front part) asked own self.new))) }
+        ensures err { OnErr result (LedBy D.passes desk.old desk.new (λ asked.
+            FinishesShort self.old (EngineSync.whole self.old.front part) asked)) }
+        ensures same { self.new.sid ≡ self.old.sid }
+    {
+        let front = replace(&mut self.front, Front::Nothing);
+        match whole(front, part)? {
+            Some(text) => self.converse(alloc, id, text.as_slice(), said, desk),
+            None => Ok(told(said, false)),
+        }
+    }
+
+    /// Talks over a program message, and cuts its answer to the client's size.
+    fn converse<D: Desk>(
+        &mut self,
+        alloc: Global,
+        id: u32,
+        text: &[u8],
+        said: Vec<Sent>,
+        desk: &mut D,
+    ) -> Result<Step, AllocError>
+        ensures ok { IfOk result (λ step. LedBy D.passes desk.old desk.new (λ asked.
+            SaysMore said.items step (λ own. Converses self.old id text.now asked own self.new.macros))) }
+        ensures err { OnErr result (LedBy D.passes desk.old desk.new (λ asked. LosesAnswer self.old text.now asked)) }
+        ensures kept { self.new ≡ record self.old { macros = self.new.macros } }
+    {
+        let bytes = self.talker.message(text, desk);
+        let answer = desk.ask(SessionAsk::MaxSize(self.sid));
+        respond(alloc, id, &bytes, answer, said)
+    }
+}
+
+/// Whether the channel ends with a reply.
+fn ends(reply: &Reply) -> bool
+    ensures { result ≡ (reply_step Synchronous reply.now).ends }
+{
+    matches!(reply, Reply::Fails(_) | Reply::Leaves)
+}
+
+/// What was said before, with nothing more; whether the channel ends.
+fn told(said: Vec<Sent>, ends: bool) -> Step
+    ensures { result ≡ joined (goes said.items) (record { out = []; ends = ends }) }
+{
+    Step {
+        out: Sequence::new(said),
+        ends,
+    }
+}
+
+/// The messages of an interrupt, where there was one.
+fn interruption(alloc: Global, room: Vec<Sent>, id: u32, delivery: Delivery) -> Vec<Sent>
+    requires empty { room.items ≡ [] }
+    requires room { 2 ≤ vec_capacity room }
+    ensures { result.items ≡ said_of id delivery }
+{
+    let mut said = room;
+    if delivery == Delivery::Interrupted {
+        let message = plain(alloc, Kind::AsyncInterrupted, 0, id);
+        let channel = Channel::Asynchronous;
+        said.push(Sent { channel, message }).unwrap();
+        let message = plain(alloc, Kind::Interrupted, 0, id);
+        let channel = Channel::Synchronous;
+        said.push(Sent { channel, message }).unwrap();
+    }
+    said
+}
+
+/// An answer, cut to the size that was told; where none was, the channel ends. This was said before.
+fn respond(
+    alloc: Global,
+    id: u32,
+    bytes: &[u8],
+    size: SessionAnswer,
+    said: Vec<Sent>,
+) -> Result<Step, AllocError>
+    ensures ok { IfOk result (λ step. SaysMore said.items step (λ own. Answers id bytes.now size own)) }
+    ensures err { OnErr result (IsToBeCut bytes.now size) }
+{
+    match size {
+        SessionAnswer::Max(size) => {
+            let said = say_parts(alloc, id, size, bytes, said)?;
+            Ok(told(said, false))
+        }
+        answer => {
+            drop(answer);
+            Ok(told(said, true))
+        }
+    }
+}
+
+/// What was said before, and an answer cut to this size; an empty one is none.
+fn say_parts(
+    alloc: Global,
+    id: u32,
+    size: u64,
+    bytes: &[u8],
+    said: Vec<Sent>,
+) -> Result<Vec<Sent>, AllocError>
+    ensures ok { IfOk result (λ all. (parts : List Message) × CutsTo size id bytes.now parts
+        × (all.items ≡ said.items ++ map (on Synchronous) parts)) }
+    ensures err { OnErr result (bytes.now ≢ []) }
+{
+    if bytes.is_empty() {
+        return Ok(said);
+    }
+    let parts = cut(alloc, id, room_of(size), bytes)?;
+    say_all(parts, said)
+}
+
+/// What was said before, and these messages.
+fn say_all(parts: Vec<Message>, said: Vec<Sent>) -> Result<Vec<Sent>, AllocError>
+    ensures { IfOk result (λ all. all.items ≡ said.items ++ map (on Synchronous) parts.items) }
+{
+    let mut said = said;
+    for message in parts {
+        let channel = Channel::Synchronous;
+        said.push(Sent { channel, message })?;
+    }
+    Ok(said)
+}

@@ -1,0 +1,99 @@
+//! What a server asks an engine for.
+
+ghost use Rattle.std.specs.Prelude.{◌≡◌};
+ghost use Rattle.std.specs.List.{list_any};
+ghost use Rattle.sw_session.specs.Serve.{Judges, after_of, is_refused, is_fatal, is_last_part};
+ghost use Rattle.sw_session.specs.declared.engine.step.Sent.{Sent};
+
+use crate::desk::Desk;
+use crate::engine::{Sent, Step};
+use std::alloc::{AllocError, Global};
+use sw_core::Sid;
+use sw_hislip::{Kind, Message};
+
+/// What an engine is asked for.
+#[derive(Debug, Drop)]
+pub enum Act {
+    /// To serve a message.
+    Takes(Message),
+    /// To answer a message of this kind, which was too large.
+    Skips(Kind),
+    /// To answer a header that doesn't begin with `HS`.
+    Refuses,
+    /// To tell of service requests: before each message, and where a time limit ended a read.
+    Notices,
+}
+
+/// How a channel goes on.
+#[derive(Clone, Copy, Debug, PartialEq, Eq)]
+pub enum After {
+    Goes,
+    /// It is over.
+    Ends,
+    /// A fatal error was sent.
+    Fatal,
+    /// A fatal error was sent, of a wrong prologue.
+    Malformed,
+}
+
+/// One channel of a session, as a server asks it.
+pub trait Speaker {
+    ghost use Rattle.std.specs.Prelude.{◌≡◌, IfOk, OnErr};
+    ghost use Rattle.sw_session.specs.EngineStep.{LedBy};
+    ghost use Rattle.sw_session.specs.Serve.{Voice};
+
+    /// What it asks and says, and which session it has joined.
+    ghost voice: { Voice Self };
+
+    /// Asks the desk for an act, and says what comes of it.
+    fn hear<D: Desk>(&mut self, alloc: Global, act: Act, desk: &mut D) -> Result<Step, AllocError>
+        ensures ok { IfOk result (λ step. LedBy D.passes desk.old desk.new
+            (λ asked. voice.speaks self.old act asked step self.new)) }
+        ensures err { OnErr result (LedBy D.passes desk.old desk.new
+            (λ asked. voice.falters self.old act asked self.new)) };
+
+    /// The session that it has joined.
+    fn session(&self) -> Option<Sid>
+        ensures { result ≡ voice.session self.now };
+}
+
+/// Whether the wire was refused.
+pub fn is_refused(act: &Act) -> bool
+    ensures { result ≡ is_refused act.now }
+{
+    matches!(act, Act::Refuses)
+}
+
+/// Whether any of the messages ends the session.
+fn has_fatal(said: &[Sent]) -> bool
+    ensures { result ≡ list_any (λ (s : Sent). is_fatal s.message.kind) said.now }
+{
+    said.iter()
+        .any(|sent| matches!(sent.message.kind, Kind::FatalError))
+}
+
+/// Whether any of the messages is the last part of an answer.
+pub fn has_last_part(said: &[Sent]) -> bool
+    ensures { result ≡ list_any (λ (s : Sent). is_last_part s.message.kind) said.now }
+{
+    said.iter()
+        .any(|sent| matches!(sent.message.kind, Kind::DataEnd))
+}
+
+/// How the channel goes on after a step.
+pub fn after_of(is_refused: bool, step: &Step) -> After
+    ensures after { result ≡ after_of is_refused step.now }
+    ensures judged { Judges is_refused result }
+{
+    if is_refused {
+        return After::Malformed;
+    }
+    if !step.ends {
+        return After::Goes;
+    }
+    if has_fatal(step.out.as_slice()) {
+        After::Fatal
+    } else {
+        After::Ends
+    }
+}

@@ -1,0 +1,88 @@
+//! Acts of an engine, and what is said to them.
+
+ghost use Rattle.std.specs.Prelude.{◌≡◌, ◌⊎◌, Err, IfOk};
+ghost use Rattle.sw_session.specs.Trace.{Leads};
+ghost use Rattle.sw_session.specs.ServeRead.{CameTo};
+ghost use Rattle.sw_session.specs.Serve.{Hears, HearsEach, Judges, acts_for, is_refused, notes_of, point};
+
+use crate::desk::Desk;
+use crate::engine::{Channel, Sent};
+use crate::servers::act::{Act, After, Speaker, after_of, has_last_part, is_refused};
+use crate::servers::fault::ServeFault;
+use crate::servers::sending::send_all;
+use crate::servers::writing::Sink;
+use std::alloc::Global;
+use sw_core::Sid;
+
+/// Notes that a message is available where the last part of an answer was written.
+fn note<D: Desk>(sid: Option<Sid>, said: &[Sent], desk: &mut D)
+    ensures { Leads D.passes desk.old (notes_of sid said.now) desk.new }
+{
+    if let Some(sid) = sid {
+        if has_last_part(said) {
+            desk.note(sid, true);
+        }
+    }
+}
+
+/// Asks the engine for an act, and writes what it says.
+fn hear<E: Speaker, W: Sink, S: Sink, D: Desk>(
+    alloc: Global,
+    own: Channel,
+    act: Act,
+    engine: &mut E,
+    writer: &mut W,
+    side: &mut S,
+    desk: &mut D,
+) -> Result<After, ServeFault>
+    ensures heard { Hears E.voice D.passes own act
+        (point engine.old desk.old (W.contents writer.old) (S.contents side.old))
+        (point engine.new desk.new (W.contents writer.new) (S.contents side.new)) result }
+    ensures judged { IfOk result (λ after. Judges (is_refused act) after) }
+    ensures write { result ≡ Err ServeFault.Write → CameTo W.failed writer.new ⊎ CameTo S.failed side.new }
+{
+    let refused = is_refused(&act);
+    let Ok(step) = engine.hear(alloc, act, desk) else {
+        return Err(ServeFault::NoMemory);
+    };
+    match send_all(alloc, own, step.out.as_slice(), writer, side) {
+        Ok(()) => {
+            note(engine.session(), step.out.as_slice(), desk);
+            Ok(after_of(refused, &step))
+        }
+        Err(fault) => Err(fault),
+    }
+}
+
+/// Goes through what the wire has told: before a message is taken, service requests are told.
+pub fn attend<E: Speaker, W: Sink, S: Sink, D: Desk>(
+    alloc: Global,
+    own: Channel,
+    input: Act,
+    engine: &mut E,
+    writer: &mut W,
+    side: &mut S,
+    desk: &mut D,
+) -> Result<After, ServeFault>
+    ensures heard { HearsEach E.voice D.passes own (acts_for input)
+        (point engine.old desk.old (W.contents writer.old) (S.contents side.old))
+        (point engine.new desk.new (W.contents writer.new) (S.contents side.new)) result }
+    ensures judged { IfOk result (λ after. Judges (is_refused input) after) }
+    ensures write { result ≡ Err ServeFault.Write → CameTo W.failed writer.new ⊎ CameTo S.failed side.new }
+{
+    let message = match input {
+        Act::Takes(message) => message,
+        Act::Skips(kind) => {
+            return hear(alloc, own, Act::Skips(kind), engine, writer, side, desk);
+        }
+        Act::Refuses => return hear(alloc, own, Act::Refuses, engine, writer, side, desk),
+        Act::Notices => return hear(alloc, own, Act::Notices, engine, writer, side, desk),
+    };
+    match hear(alloc, own, Act::Notices, engine, writer, side, desk) {
+        Ok(After::Goes) => hear(alloc, own, Act::Takes(message), engine, writer, side, desk),
+        Ok(After::Ends) => Ok(After::Ends),
+        Ok(After::Fatal) => Ok(After::Fatal),
+        Ok(After::Malformed) => Ok(After::Malformed),
+        Err(fault) => Err(fault),
+    }
+}

@@ -1,0 +1,93 @@
+//! An engine as a server asks it.
+
+ghost use Rattle.std.specs.Prelude.{◌≡◌, IfOk, OnErr};
+ghost use Rattle.sw_session.specs.EngineStep.{LedBy, says, fails, reply_step};
+ghost use Rattle.sw_session.specs.Engine.{channel_of, too_large, skips};
+ghost use Rattle.sw_session.specs.ServeEngine.{Looks, second_session_of, told_step};
+ghost use Rattle.sw_session.specs.declared.engine.refusals.FatalCode.TheVariants.{PoorlyFormed};
+
+use crate::desk::Desk;
+use crate::engine::{Channel, Engine, FatalCode, Reply, Step, step_of};
+use crate::servers::act::{Act, Speaker};
+use std::alloc::{AllocError, Global};
+use sw_base::Sequence;
+use sw_core::Sid;
+use sw_hislip::{Kind, Message};
+
+impl Speaker for Engine {
+    ghost use Rattle.sw_session.specs.ServeEngine.{engine_voice};
+
+    ghost voice = { engine_voice };
+
+    fn hear<D: Desk>(&mut self, alloc: Global, act: Act, desk: &mut D) -> Result<Step, AllocError> {
+        match act {
+            Act::Takes(message) => self.take(message, desk),
+            Act::Skips(kind) => skip(alloc, kind, self),
+            Act::Refuses => refuse(alloc, self),
+            Act::Notices => look(alloc, self, desk),
+        }
+    }
+
+    fn session(&self) -> Option<Sid> {
+        Engine::session(self)
+    }
+}
+
+/// Answers a message of this kind, which was too large.
+fn skip(alloc: Global, kind: Kind, engine: &mut Engine) -> Result<Step, AllocError>
+    ensures says { IfOk result (λ step. step ≡ says (channel_of engine.old.state) too_large) }
+    ensures skips { IfOk result (λ _. engine.new ≡ record engine.old { state = skips kind engine.old.state }) }
+    ensures same { OnErr result (engine.new ≡ engine.old) }
+{
+    let room = Vec::with_capacity(alloc, 1)?;
+    let channel = engine.channel();
+    Ok(step_of(alloc, channel, room, Reply::Says(engine.skip(kind))))
+}
+
+/// Answers a header that doesn't begin with `HS`.
+fn refuse(alloc: Global, engine: &Engine) -> Result<Step, AllocError>
+    ensures { IfOk result (λ step. step ≡ fails (channel_of engine.now.state) PoorlyFormed) }
+{
+    let room = Vec::with_capacity(alloc, 1)?;
+    let reply = Reply::Fails(FatalCode::PoorlyFormed);
+    Ok(step_of(alloc, engine.channel(), room, reply))
+}
+
+/// The session whose second channel this is.
+fn second_session(engine: &Engine) -> Option<Sid>
+    ensures { result ≡ second_session_of engine.now.state }
+{
+    match engine.channel() {
+        Channel::Synchronous => None,
+        Channel::Asynchronous => engine.session(),
+    }
+}
+
+/// What is said of service requests.
+fn told(notice: Option<Message>) -> Reply
+    ensures { reply_step Channel.Asynchronous result ≡ told_step notice }
+{
+    match notice {
+        Some(message) => Reply::Says(message),
+        None => Reply::Silence,
+    }
+}
+
+/// Tells of service requests that were not told yet: on the second channel of a session alone.
+fn look<D: Desk>(alloc: Global, engine: &mut Engine, desk: &mut D) -> Result<Step, AllocError>
+    ensures ok { IfOk result (λ step. LedBy D.passes desk.old desk.new (λ asked.
+        Looks engine.old.state asked step engine.new.state)) }
+    ensures spent { engine.new.spent ≡ engine.old.spent }
+    ensures same { OnErr result (engine.new ≡ engine.old) }
+    ensures unasked { OnErr result (desk.new ≡ desk.old) }
+{
+    let Some(sid) = second_session(engine) else {
+        return Ok(Step {
+            out: Sequence::new(Vec::new(alloc)),
+            ends: false,
+        });
+    };
+    let room = Vec::with_capacity(alloc, 1)?;
+    let notice = engine.notice(desk.poll(sid));
+    Ok(step_of(alloc, Channel::Asynchronous, room, told(notice)))
+}

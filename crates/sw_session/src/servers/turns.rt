@@ -1,0 +1,204 @@
+//! One channel over a reader, two writers and a desk.
+
+ghost use Rattle.std.specs.Prelude.{◌≡◌, ◌⊎◌, Ok, Err};
+ghost use Rattle.sw_hislip.specs.Pending.{Waits};
+ghost use Rattle.sw_session.specs.ServeRead.{CameTo, MayPause};
+ghost use Rattle.sw_session.specs.Serve.{point, Listens, conclude, NextInput, HearsAll, TakesTurn, Runs, Leaves, Serves};
+
+use crate::desk::Desk;
+use crate::engine::Channel;
+use crate::servers::act::{Act, After, Speaker};
+use crate::servers::fault::ServeFault;
+use crate::servers::hearing::attend;
+use crate::servers::source::{Source, Unread};
+use crate::servers::writing::Sink;
+use std::alloc::Global;
+use sw_core::{SessionAsk, Sid};
+use sw_hislip::{Decoder, WireFault, every_message_comes_out, nothing_whole_is_left};
+
+/// What a read gave.
+#[derive(Clone, Copy, Debug, PartialEq, Eq)]
+pub enum Came {
+    End,
+    Bytes,
+    /// Nothing: a time limit ended it.
+    Paused,
+}
+
+/// Whether another turn follows.
+#[derive(Clone, Copy, Debug, PartialEq, Eq)]
+pub enum Next {
+    On,
+    Over,
+}
+
+/// One read. Its bytes are fed.
+fn listen<R: Source>(reader: &mut R, decoder: &mut Decoder) -> Result<Came, ServeFault>
+    ensures listens { Listens
+        (R.remaining reader.old) (R.remaining reader.new) decoder.old.pending decoder.new.pending result }
+    ensures paused { result ≡ Ok Came.Paused → CameTo R.paused reader.new }
+    ensures read { result ≡ Err ServeFault.Read → CameTo R.failed reader.new }
+{
+    let mut buffer = [0_u8; 512];
+    match reader.receive(&mut buffer) {
+        Ok(n) => {
+            if n == 0 {
+                return Ok(Came::End);
+            }
+            match decoder.feed(&buffer[..n]) {
+                Ok(()) => Ok(Came::Bytes),
+                Err(_) => Err(ServeFault::NoMemory),
+            }
+        }
+        Err(Unread::Paused) => Ok(Came::Paused),
+        Err(Unread::Failed) => Err(ServeFault::Read),
+    }
+}
+
+/// How a turn ends.
+fn conclude(heard: Result<After, ServeFault>) -> Result<Next, ServeFault>
+    ensures { result ≡ conclude heard }
+{
+    match heard {
+        Ok(After::Goes) => Ok(Next::On),
+        Ok(After::Ends) => Ok(Next::Over),
+        Ok(After::Fatal) => Err(ServeFault::Fatal),
+        Ok(After::Malformed) => Err(ServeFault::Wire),
+        Err(fault) => Err(fault),
+    }
+}
+
+/// What the wire tells next; none where no message is whole.
+fn next_input(alloc: Global, decoder: &mut Decoder) -> Result<Option<Act>, ServeFault>
+    ensures { NextInput decoder.old.pending decoder.new.pending result }
+{
+    match decoder.next(alloc) {
+        Ok(None) => Ok(None),
+        Ok(Some(message)) => Ok(Some(Act::Takes(message))),
+        Err(WireFault::TooLarge(kind)) => Ok(Some(Act::Skips(kind))),
+        Err(WireFault::BadPrologue) => Ok(Some(Act::Refuses)),
+        Err(WireFault::NoMemory) => Err(ServeFault::NoMemory),
+    }
+}
+
+/// Goes through all whole messages, or those up to one that ends the channel.
+fn hear_all<E: Speaker, W: Sink, S: Sink, D: Desk>(
+    alloc: Global,
+    own: Channel,
+    decoder: &mut Decoder,
+    engine: &mut E,
+    writer: &mut W,
+    side: &mut S,
+    desk: &mut D,
+) -> Result<After, ServeFault>
+    ensures heard { HearsAll E.voice D.passes own decoder.old.pending decoder.new.pending
+        (point engine.old desk.old (W.contents writer.old) (S.contents side.old))
+        (point engine.new desk.new (W.contents writer.new) (S.contents side.new)) result }
+    ensures write { result ≡ Err ServeFault.Write → CameTo W.failed writer.new ⊎ CameTo S.failed side.new }
+{
+    loop {
+        let input = match next_input(alloc, decoder) {
+            Ok(Some(input)) => input,
+            Ok(None) => return Ok(After::Goes),
+            Err(fault) => return Err(fault),
+        };
+        match attend(alloc, own, input, engine, writer, side, desk) {
+            Ok(After::Goes) => {}
+            Ok(After::Ends) => return Ok(After::Ends),
+            Ok(After::Fatal) => return Ok(After::Fatal),
+            Ok(After::Malformed) => return Ok(After::Malformed),
+            Err(fault) => return Err(fault),
+        }
+    }
+}
+
+/// One read, and what is gone through for it.
+fn take_turn<E: Speaker, R: Source, W: Sink, S: Sink, D: Desk>(
+    alloc: Global,
+    own: Channel,
+    reader: &mut R,
+    decoder: &mut Decoder,
+    engine: &mut E,
+    writer: &mut W,
+    side: &mut S,
+    desk: &mut D,
+) -> Result<Next, ServeFault>
+    requires { Waits decoder.old.pending.bytes }
+    ensures turn { TakesTurn E.voice D.passes own (MayPause R.paused) decoder.old.pending decoder.new.pending
+        (point engine.old desk.old (W.contents writer.old) (S.contents side.old))
+        (point engine.new desk.new (W.contents writer.new) (S.contents side.new))
+        (R.remaining reader.old) (R.remaining reader.new) result }
+    ensures read { result ≡ Err ServeFault.Read → CameTo R.failed reader.new }
+    ensures write { result ≡ Err ServeFault.Write → CameTo W.failed writer.new ⊎ CameTo S.failed side.new }
+{
+    match listen(reader, decoder) {
+        Err(fault) => Err(fault),
+        Ok(Came::End) => Ok(Next::Over),
+        Ok(Came::Paused) => conclude(attend(alloc, own, Act::Notices, engine, writer, side, desk)),
+        Ok(Came::Bytes) => conclude(hear_all(alloc, own, decoder, engine, writer, side, desk)),
+    }
+}
+
+/// Takes so many turns at most.
+fn run<E: Speaker, R: Source, W: Sink, S: Sink, D: Desk>(
+    alloc: Global,
+    own: Channel,
+    engine: &mut E,
+    reader: &mut R,
+    writer: &mut W,
+    side: &mut S,
+    desk: &mut D,
+    turns: u64,
+) -> Result<(), ServeFault>
+    ensures runs { Runs E.voice D.passes own (MayPause R.paused) turns
+        (point engine.old desk.old (W.contents writer.old) (S.contents side.old))
+        (point engine.new desk.new (W.contents writer.new) (S.contents side.new))
+        (R.remaining reader.old) (R.remaining reader.new) result }
+    ensures read { result ≡ Err ServeFault.Read → CameTo R.failed reader.new }
+    ensures write { result ≡ Err ServeFault.Write → CameTo W.failed writer.new ⊎ CameTo S.failed side.new }
+{
+    every_message_comes_out();
+    nothing_whole_is_left();
+    let mut decoder = Decoder::new(alloc);
+    for _turn in 0..turns {
+        match take_turn(alloc, own, reader, &mut decoder, engine, writer, side, desk) {
+            Ok(Next::On) => {}
+            Ok(Next::Over) => return Ok(()),
+            Err(fault) => return Err(fault),
+        }
+    }
+    Err(ServeFault::ReadBound)
+}
+
+/// Leaves the session that was joined.
+fn leave<D: Desk>(sid: Option<Sid>, desk: &mut D)
+    ensures { Leaves D.passes sid desk.old desk.new }
+{
+    if let Some(sid) = sid {
+        drop(desk.ask(SessionAsk::Leave(sid)));
+    }
+}
+
+/// Serves one channel for so many turns at most, and leaves its session then. `own` says which channel it is: its
+/// messages go to the writer, those of the other one to the side writer.
+pub fn serve_for<E: Speaker, R: Source, W: Sink, S: Sink, D: Desk>(
+    alloc: Global,
+    own: Channel,
+    engine: &mut E,
+    reader: &mut R,
+    writer: &mut W,
+    side: &mut S,
+    desk: &mut D,
+    turns: u64,
+) -> Result<(), ServeFault>
+    ensures serves { Serves E.voice D.passes own (MayPause R.paused) turns
+        (point engine.old desk.old (W.contents writer.old) (S.contents side.old))
+        (point engine.new desk.new (W.contents writer.new) (S.contents side.new))
+        (R.remaining reader.old) (R.remaining reader.new) result }
+    ensures read { result ≡ Err ServeFault.Read → CameTo R.failed reader.new }
+    ensures write { result ≡ Err ServeFault.Write → CameTo W.failed writer.new ⊎ CameTo S.failed side.new }
+{
+    let result = run(alloc, own, engine, reader, writer, side, desk, turns);
+    leave(engine.session(), desk);
+    result
+}

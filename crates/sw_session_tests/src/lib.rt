@@ -1,0 +1,10 @@
+//! Tests of HiSLIP's engine and of its servers, by their public calls: the worked conversations, streams that are cut
+//! anywhere, and connections that fail. They stand here so that no crate is proved a second time for its tests.
+#![tactic(auto)]
+
+#[cfg(test)]
+mod clients;
+#[cfg(test)]
+mod engine;
+#[cfg(test)]
+mod servers;

@@ -1,0 +1,18 @@
+use Rattle.std.proofs.Common.{ap, subst, ◌∙◌}
+use Rattle.sw_core.specs.View.{WorkView, work_view}
+use Rattle.sw_session.specs.CoreDesk.{piece_seen}
+use Rattle.sw_session.proofs.Keeping.{seen-some}
+use Rattle.sw_workers.specs.Work.{Ends}
+use Rattle.sw_workers.proofs.Carries.{carries-start, carries-done, carries-more}
+use Rattle.sw_workers.proofs.desk.SharedDesk.carry.Goals as goal
+
+pub returns-in_default : goal.returns-in_default
+returns-in_default g c = carries-done _ _ _ _ c.loop.invariant
+
+pub returns-in_default-send : goal.returns-in_default-send
+returns-in_default-send g c = carries-done _ _ _ _ c.loop.invariant
+
+pub loop-preserved : goal.loop-preserved
+loop-preserved g c =
+    carries-more _ _ _ (piece_seen c.in-Some-left.piece) _ _ _ c.loop.invariant (ap work_view c.in-Some-left.is ∙ seen-some c.in-Some-left.piece)
+    (subst (λ (w : WorkView). Ends w c.loop.self.part.share.amount (work_view c.finish-left.result) c.finish-left.new.self.part.share.amount) c.in-Some-send.ensures c.finish-left.ensures)

@@ -1,0 +1,7 @@
+use Rattle.std.proofs.Common.{refl}
+use Rattle.sw_core.specs.View.{Pauses}
+use Rattle.sw_workers.proofs.Worked.{works-more, works-told, works-adds}
+use Rattle.sw_workers.proofs.workers.end_pause.Goals as goal
+
+pub returns : goal.returns
+returns g c = works-more _ _ _ (works-told (Pauses c.args.ticket 0) _ _ _ _ refl c.tell-next.ensures) (works-adds _ _ _ c.carry.ensures)

@@ -1,0 +1,5 @@
+use Rattle.sw_workers.specs.Work.{Works}
+use Rattle.sw_workers.proofs.workers.run_timer_worker.Given as goal
+
+abbrev pub invariant-loop : goal.invariant-loop
+invariant-loop g l = Works l.fn.desk.part.share.amount l.own.part.share.amount

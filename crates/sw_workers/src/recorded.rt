@@ -1,0 +1,129 @@
+//! A mainframe whose events stand, one after another, in the history that the status board tells the end of.
+
+ghost use Rattle.std.specs.Prelude.{◌≡◌, ◌<◌, ◌^◌, ℕ, [], ◌∷◌, ◌++◌, Some};
+ghost use mathlib.Core.List.{IsPrefix};
+ghost use Rattle.sw_status.specs.StatusModel.{summary_of};
+ghost use Rattle.sw_core.specs.Good.{IsGoodPanel, StaysGood};
+ghost use Rattle.sw_core.specs.Panel.{Panel};
+ghost use Rattle.sw_core.specs.Step.{Step};
+ghost use Rattle.sw_core.specs.View.{ask_view, answer_view, failed_in, HandsBack, IsOwnAccount};
+ghost use Rattle.sw_workers.specs.Board.{entry_of};
+ghost use Rattle.sw_workers.specs.Entries.{made_by};
+ghost use Rattle.sw_workers.specs.History.{pair_of, IsHistory, AsksInHistory};
+ghost use Rattle.sw_workers.specs.Said.{said_of};
+ghost use Rattle.sw_workers.specs.Shares.{is_event};
+
+use crate::board::{BoardName, StatusBoard};
+use crate::seat::{LockedPass, StatusSeat};
+use crate::telling::{Happened, is_event, tell_event};
+use std::alloc::Global;
+use std::marker::{Brand, Model};
+use std::snapshot::Snapshot;
+use std::sync::Arc;
+use sw_card::{Meter, Relay};
+use sw_core::{Answer, Ask, Core, mainframe_stays_good};
+
+/// Which mainframe it is: its board, and the panel that it opened with.
+pub trait Recording: BoardName {
+    ghost first: { Panel };
+}
+
+impl Recording for Brand {
+    ghost use Rattle.sw_core.specs.Panel.{opening};
+
+    ghost first = { opening };
+}
+
+/// A mainframe and its history. Contracts see its panel, and all its events.
+///
+/// Whenever it is seen, the history leads from the opening panel to this one, and its last pair is this panel's; and
+/// the mainframe is good.
+#[derive(Drop)]
+pub struct Recorded<B: Recording, R: Relay, M: Meter> {
+    core: Core<R, M>,
+    pass: LockedPass<B>,
+    board: Arc<StatusBoard<B>, Global>,
+}
+
+impl<B: Recording, R: Relay, M: Meter> Model for Recorded<B, R, M> {
+    ghost use Rattle.std.specs.Prelude.{◌≡◌};
+    ghost use Rattle.sw_core.specs.Good.{IsGoodPanel};
+    ghost use Rattle.sw_workers.specs.History.{InHistory, IsHistory, pair_of};
+
+    ghost Value = { InHistory };
+
+    ghost view = { λ r. record { panel = r.core; history = r.pass } };
+
+    ghost invariant = { λ r. IsHistory B.first r.pass r.core × IsGoodPanel r.core × (B.opening ≡ pair_of B.first) };
+}
+
+impl<B: Recording, R: Relay, M: Meter> Recorded<B, R, M> {
+    /// A mainframe with no event yet.
+    pub fn new(core: Core<R, M>, pass: LockedPass<B>, board: Arc<StatusBoard<B>, Global>) -> Self
+        requires first { (core ≡ B.first) × (B.opening ≡ pair_of B.first) }
+        requires good { IsGoodPanel core }
+        requires none { pass ≡ [] }
+        ensures { result ≡ record { panel = core; history = [] } }
+    {
+        Recorded { core, pass, board }
+    }
+
+    /// A seat of a new desk, which has seen the whole history and has no entry in it.
+    pub fn new_desk(&mut self) -> StatusSeat<B>
+        ensures same { self.new ≡ self.old }
+        ensures desk { (d : ℕ) × (result.desk ≡ Some d) }
+        ensures seen { (result.seen ≡ self.old.history) × (result.mine ≡ []) }
+    {
+        self.pass.new_desk(&self.board)
+    }
+
+    /// Asks the mainframe. An event is published and stands in the history as one more entry of the desk; what is no
+    /// event changes nothing. The desk has then seen the whole history.
+    #[tactic(auto, using(crate::proofs::Recordings::good_fits))]
+    pub fn ask(&mut self, alloc: Global, desk: &mut StatusSeat<B>, ask: Ask<R, M>) -> Answer<R, M>
+        requires desk { (d : ℕ) × (desk.old.desk ≡ Some d) }
+        ensures step { Step self.old.panel (ask_view ask)
+            (failed_in (ask_view ask) (answer_view result) self.old.panel.cage.cards self.new.panel.cage.cards)
+            (answer_view result) self.new.panel }
+        ensures own { IsOwnAccount (ask_view ask) }
+        ensures back { HandsBack ask result }
+        ensures history { AsksInHistory B.first desk.old (ask_view ask) (answer_view result) desk.new }
+        ensures seen { IsPrefix desk.old.seen self.old.history × (desk.new.seen ≡ self.new.history) }
+    {
+        mainframe_stays_good();
+        let Recorded { core, pass, board } = self;
+        let asked = Snapshot::of(&ask);
+        let answer = core.apply(alloc, ask);
+        if !is_event(&answer) {
+            pass.tell(board, desk);
+            return answer;
+        }
+        let event = Happened {
+            number: core.events(),
+            ask: asked,
+            answer: Snapshot::of(&answer),
+            pair: core.pair(),
+        };
+        tell_event(pass, board, desk, &event);
+        answer
+    }
+
+    /// The number of events.
+    pub fn events(&self) -> u64
+        ensures { result ≡ self.now.panel.events }
+    {
+        self.core.events()
+    }
+
+    /// The mainframe, of which nobody asks any more.
+    pub fn into_core(self) -> Core<R, M>
+        ensures { result ≡ self.panel }
+    {
+        let Recorded {
+            core,
+            pass: _,
+            board: _,
+        } = self;
+        core
+    }
+}

@@ -1,0 +1,225 @@
+//! The status board over threads.
+
+ghost use Rattle.std.specs.Prelude.{◌≡◌, ◌<◌, ◌^◌, ℕ, Some};
+ghost use Rattle.sw_workers.specs.Board.{pair_in};
+
+use std::alloc::Global;
+use std::marker::Brand;
+use std::process::Abort;
+use std::sync::atomic::{AtomicBool, Ordering};
+use std::sync::{Mutex, Wait};
+use std::test::*;
+use std::thread;
+use std::thread::{Threads, join};
+use sw_workers::{BlankBoard, BoardName, LockedPass, SeatSlots, StatusBoard, StatusSeat};
+
+/// How often a thread looks whether another has come so far.
+const TURNS: u32 = 100_000;
+
+fn waits_for(flag: &AtomicBool) -> bool {
+    for _ in 0..TURNS {
+        if flag.load(Ordering::SeqCst) {
+            return true;
+        }
+        thread::yield_now();
+    }
+    false
+}
+
+/// Publishes a pair under the lock, as an event of a desk.
+fn publishes<B: BoardName, W: Wait>(
+    rt: &W,
+    board: &StatusBoard<B>,
+    lock: &Mutex<LockedPass<B>>,
+    desk: &mut StatusSeat<B>,
+    byte: u8,
+    requests: u32,
+)
+    requires { (d : ℕ) × (desk.old.desk ≡ Some d) }
+    ensures { desk.new.desk ≡ desk.old.desk }
+{
+    lock.lock(rt)
+        .publish::<Brand>(board, desk, (byte, requests as u64));
+}
+
+/// Holds the lock until the flag is up, and tells whether it came up in time.
+fn holds<B: BoardName, W: Wait>(
+    rt: &W,
+    lock: &Mutex<LockedPass<B>>,
+    held: &AtomicBool,
+    read: &AtomicBool,
+) -> bool {
+    let guard = lock.lock(rt);
+    held.store(true, Ordering::SeqCst);
+    let in_time = waits_for(read);
+    drop(guard);
+    in_time
+}
+
+/// Reads once the lock is held.
+fn reads<B: BoardName>(
+    board: &StatusBoard<B>,
+    mut seat: StatusSeat<B>,
+    held: &AtomicBool,
+    read: &AtomicBool,
+) -> (u8, u64) {
+    let _ = waits_for(held);
+    let pair = seat.read(board);
+    read.store(true, Ordering::SeqCst);
+    pair
+}
+
+/// The board's name is chosen where a test begins.
+fn under_the_lock<B: BoardName + Send + Sync, W: Threads + Wait + Abort + Sync>(
+    rt: &W,
+    blank: BlankBoard,
+)
+    requires { (blank.table.shared.table_id ≡ B.table) × (blank.table.shared.key ≡ B.opening) }
+{
+    let (board, mut pass) = blank.open::<B>();
+    let mut desk = pass.new_desk(&board);
+    let lock = Mutex::new(pass);
+    publishes(rt, &board, &lock, &mut desk, 4, 1);
+    let seat = desk.split(&board);
+    let held = AtomicBool::new(false);
+    let read = AtomicBool::new(false);
+    let (in_time, pair) = join(
+        rt,
+        || holds(rt, &lock, &held, &read),
+        || reads(&board, seat, &held, &read),
+    );
+    assert!(rt; in_time && pair == (4, 1));
+}
+
+#[test]
+fn a_read_waits_for_no_lock(rt: HostRuntime) -> Result<(), Fail> {
+    let blank = BlankBoard::new(rt.alloc(), (0, 0))?;
+    under_the_lock::<Brand, _>(&rt, blank);
+    Ok(())
+}
+
+/// Publishes so many pairs, each with one more request.
+fn publishes_on<B: BoardName, W: Wait>(
+    rt: &W,
+    board: &StatusBoard<B>,
+    lock: &Mutex<LockedPass<B>>,
+    mut desk: StatusSeat<B>,
+    most: u32,
+)
+    requires { (d : ℕ) × (desk.desk ≡ Some d) }
+{
+    for i in 0..most {
+        publishes(rt, board, lock, &mut desk, 0, i);
+        thread::yield_now();
+    }
+}
+
+/// Reads until there are so many requests. It tells whether they never went down, and how many there were.
+fn watches<B: BoardName>(
+    board: &StatusBoard<B>,
+    mut seat: StatusSeat<B>,
+    most: u64,
+) -> (bool, u64) {
+    let mut last = 0;
+    let mut rises = true;
+    for _ in 0..TURNS {
+        let (_, requests) = seat.read(board);
+        rises = rises && last <= requests;
+        last = requests;
+        if last >= most {
+            break;
+        }
+        thread::yield_now();
+    }
+    (rises, last)
+}
+
+fn while_published<B: BoardName + Send + Sync, W: Threads + Wait + Abort + Sync>(
+    rt: &W,
+    blank: BlankBoard,
+)
+    requires { (blank.table.shared.table_id ≡ B.table) × (blank.table.shared.key ≡ B.opening) }
+{
+    let (board, mut pass) = blank.open::<B>();
+    let mut desk = pass.new_desk(&board);
+    let seat = desk.split(&board);
+    let lock = Mutex::new(pass);
+    let ((), (rises, last)) = join(
+        rt,
+        || publishes_on(rt, &board, &lock, desk, 40),
+        || watches(&board, seat, 39),
+    );
+    assert!(rt; rises && last == 39);
+}
+
+#[test]
+fn requests_never_go_down(rt: HostRuntime) -> Result<(), Fail> {
+    let blank = BlankBoard::new(rt.alloc(), (0, 0))?;
+    while_published::<Brand, _>(&rt, blank);
+    Ok(())
+}
+
+/// One thread's event leaves a seat in the session's slot, and another, whose seat saw nothing of it, polls.
+fn by_its_slot<B: BoardName + Send + Sync, W: Threads + Wait + Abort + Sync>(
+    rt: &W,
+    blank: BlankBoard,
+    slots: &SeatSlots<B>,
+)
+    requires { (blank.table.shared.table_id ≡ B.table) × (blank.table.shared.key ≡ B.opening) }
+{
+    let (board, mut pass) = blank.open::<B>();
+    let mut desk = pass.new_desk(&board);
+    let seat = desk.split(&board);
+    let lock = Mutex::new(pass);
+    let left = AtomicBool::new(false);
+    let ((), pair) = join(
+        rt,
+        || leaves(rt, &board, &lock, slots, desk, &left),
+        || polls(rt, &board, slots, seat, &left),
+    );
+    assert!(rt; pair == (68, 1));
+}
+
+fn leaves<B: BoardName, W: Wait>(
+    rt: &W,
+    board: &StatusBoard<B>,
+    lock: &Mutex<LockedPass<B>>,
+    slots: &SeatSlots<B>,
+    mut desk: StatusSeat<B>,
+    left: &AtomicBool,
+)
+    requires { (d : ℕ) × (desk.desk ≡ Some d) }
+{
+    publishes(rt, board, lock, &mut desk, 68, 1);
+    slots.leave(rt, 16, desk.split(board));
+    left.store(true, Ordering::SeqCst);
+}
+
+fn polls<B: BoardName, W: Wait>(
+    rt: &W,
+    board: &StatusBoard<B>,
+    slots: &SeatSlots<B>,
+    mut seat: StatusSeat<B>,
+    left: &AtomicBool,
+) -> (u8, u64) {
+    let _ = waits_for(left);
+    slots.poll(rt, 16, board, &mut seat)
+}
+
+fn with_slots<B: BoardName + Send + Sync, W: Threads + Wait + Abort + Sync>(
+    rt: &W,
+    alloc: Global,
+    blank: BlankBoard,
+) -> Result<(), Fail>
+    requires { (blank.table.shared.table_id ≡ B.table) × (blank.table.shared.key ≡ B.opening) }
+{
+    let slots = SeatSlots::<B>::new(alloc)?;
+    by_its_slot(rt, blank, &slots);
+    Ok(())
+}
+
+#[test]
+fn a_session_polls_what_its_event_left(rt: HostRuntime) -> Result<(), Fail> {
+    let blank = BlankBoard::new(rt.alloc(), (0, 0))?;
+    with_slots::<Brand, _>(&rt, rt.alloc(), blank)
+}

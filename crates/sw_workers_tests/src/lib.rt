@@ -1,0 +1,13 @@
+//! Tests of the mainframe behind its lock, over threads: desks, workers, gates, closing down
+//! and the status board, by their public calls.
+//! They stand here so that no crate is proved a second time for its tests.
+#![tactic(auto)]
+
+#[cfg(test)]
+mod board;
+#[cfg(test)]
+mod latches;
+#[cfg(test)]
+mod shop;
+#[cfg(test)]
+mod threads;

@@ -1,0 +1,247 @@
+//! A mainframe that its workers and the desks of sessions share.
+//!
+//! These promise nothing, and most answer yes or no.
+
+ghost use Rattle.std.specs.Prelude.{◌≡◌};
+
+use crate::latches::{TURNS, turn};
+use crate::threads::Scene;
+use std::alloc::Global;
+use std::marker::Brand;
+use std::sync::{Arc, Wait};
+use std::thread;
+use std::thread::{JoinHandle, Threads};
+use std::time::Clock;
+use sw_base::Sequence;
+use sw_card::{Card, Meter, Relay};
+use sw_core::{Answer, Ask, Core, SessionAnswer, SessionAsk, Sid};
+use sw_kinds::{Mux, SimDriver, Source, Volt};
+use sw_session::{Desk, Talker};
+use sw_workers::{
+    Closed, Gate, House, Note, Opening, Posted, Shared, SharedDesk, close_down, run_card_worker,
+    run_timer_worker,
+};
+
+/// Whether a card comes into the slot.
+fn install<R: Relay, M: Meter>(
+    alloc: Global,
+    core: &mut Core<R, M>,
+    slot: u8,
+    card: Card<R, M>,
+) -> bool {
+    let answer = core.apply(alloc, Ask::Install(slot, card));
+    let is_installed = matches!(answer, Answer::Installed);
+    drop(answer);
+    is_installed
+}
+
+/// A mainframe with four channels of one group in slot 1 and a meter in slot 4.
+fn fitted<S: Source>(alloc: Global, source: S) -> Option<Core<Mux<SimDriver>, Volt<S>>> {
+    let Ok(mut core) = Core::new(alloc) else {
+        return None;
+    };
+    let mux = Mux::new(1, 4, 1, SimDriver::new());
+    let has_mux = install(alloc, &mut core, 1, Card::relays(mux));
+    let volt = Volt::new(4, source);
+    let has_volt = install(alloc, &mut core, 4, Card::meter(volt));
+    if has_mux && has_volt {
+        return Some(core);
+    }
+    drop(core);
+    None
+}
+
+/// A mainframe that threads share, and its workers.
+#[derive(Drop)]
+struct Shop<
+    H: House + Send + Sync + 'static,
+    R: Relay + Send + 'static,
+    M: Meter + Send + 'static,
+    G: Gate + Drop + Send + Sync + 'static,
+    W: Threads + Wait + Clock + Copy + Drop + Send + Sync + 'static,
+> {
+    shared: Arc<Shared<H, R, M, G>, Global>,
+    card_worker: JoinHandle<SharedDesk<H, R, M, G, W>>,
+    timer_worker: JoinHandle<SharedDesk<H, R, M, G, W>>,
+}
+
+impl<
+    H: House + Send + Sync + 'static,
+    R: Relay + Send + 'static,
+    M: Meter + Send + 'static,
+    G: Gate + Drop + Send + Sync + 'static,
+    W: Threads + Wait + Clock + Copy + Drop + Send + Sync + 'static,
+> Shop<H, R, M, G, W> {
+    /// Puts a mainframe behind its lock, with its workers.
+    fn open(rt: W, alloc: Global, opening: Opening<R, M>, gate: G) -> Option<Self>
+        requires start { opening.core.events ≡ H.start }
+        requires ledger { (opening.blank.name ≡ H.name) × (opening.blank.parts ≡ H.parts) }
+    {
+        let Ok((shared, posted)) = Shared::<H, R, M, G>::new(alloc, opening, gate) else {
+            return None;
+        };
+        let Ok(shared) = Arc::new(alloc, shared) else {
+            return None;
+        };
+        Shop::staff(rt, alloc, shared, posted)
+    }
+
+    /// Starts the workers.
+    fn staff(
+        rt: W,
+        alloc: Global,
+        shared: Arc<Shared<H, R, M, G>, Global>,
+        posted: Posted<M>,
+    ) -> Option<Self> {
+        let Posted { jobs, pauses } = posted;
+        let for_jobs = SharedDesk::open(rt, &shared)?;
+        let for_pauses = SharedDesk::open(rt, &shared)?;
+        let card_worker = thread::spawn(&rt, move || run_card_worker(for_jobs, jobs)).ok()?;
+        let timer_worker = thread::spawn(
+            &rt,
+            move || run_timer_worker(alloc, for_pauses, pauses),
+        ).ok()?;
+        Some(Shop {
+            shared,
+            card_worker,
+            timer_worker,
+        })
+    }
+
+    /// Plays a scene by three desks, and closes the mainframe down.
+    fn host(self, rt: W, alloc: Global, scene: &Scene<W>) -> Option<Note> {
+        let first = SharedDesk::open(rt, &self.shared)?;
+        let second = SharedDesk::open(rt, &self.shared)?;
+        let third = SharedDesk::open(rt, &self.shared)?;
+        let (first, second, third) = scene.play(rt, alloc, first, second, third)?;
+        let mut desks = Vec::new(alloc);
+        desks.push(first).ok()?;
+        desks.push(second).ok()?;
+        desks.push(third).ok()?;
+        self.close(rt, alloc, desks)
+    }
+
+    /// Closes the mainframe down, and gives its last note where that is the number of events and its cards come out by
+    /// slot, with nothing closed.
+    fn close(self, rt: W, alloc: Global, sessions: Vec<SharedDesk<H, R, M, G, W>>) -> Option<Note> {
+        let Shop {
+            shared,
+            card_worker,
+            timer_worker,
+        } = self;
+        let mut desks = sessions;
+        shared.end_work(&rt);
+        desks.push(card_worker.join(&rt)).ok()?;
+        desks.push(timer_worker.join(&rt)).ok()?;
+        let notes = shared.recent(&rt).ok()?;
+        let last = notes.as_slice().last()?;
+        let closed = close_down(&rt, alloc, shared, desks).ok()?;
+        if are_at_rest(&closed) && closed.events == last.number {
+            return Some(*last);
+        }
+        None
+    }
+}
+
+/// Whether these are the cards of slots 1 and 4, with nothing closed.
+fn are_at_rest<R: Relay, M: Meter>(closed: &Closed<R, M>) -> bool {
+    let cards = &closed.cards;
+    cards.len() == 2
+        && cards[0].serial() == 1
+        && cards[1].serial() == 4
+        && !cards[0].any_closed()
+        && !cards[1].any_closed()
+}
+
+/// Plays a scene over a mainframe that is put behind its lock.
+fn play_behind<
+    H: House + Send + Sync + 'static,
+    R: Relay + Send + 'static,
+    M: Meter + Send + 'static,
+    G: Gate + Drop + Send + Sync + 'static,
+    W: Threads + Wait + Clock + Copy + Drop + Send + Sync + 'static,
+>(rt: W, alloc: Global, opening: Opening<R, M>, gate: G, scene: &Scene<W>) -> Option<Note>
+    requires start { opening.core.events ≡ H.start }
+    requires ledger { (opening.blank.name ≡ H.name) × (opening.blank.parts ≡ H.parts) }
+{
+    match Shop::<H, R, M, G, W>::open(rt, alloc, opening, gate) {
+        Some(shop) => shop.host(rt, alloc, scene),
+        None => None,
+    }
+}
+
+/// Plays a scene over a new mainframe whose meter has this source, closes it down, and gives its last note where all
+/// went as it should.
+pub fn played<
+    I: Source + Send + 'static,
+    G: Gate + Drop + Send + Sync + 'static,
+    W: Threads + Wait + Clock + Copy + Drop + Send + Sync + 'static,
+>(rt: W, alloc: Global, source: I, gate: G, scene: &Scene<W>) -> Option<Note> {
+    match fitted(alloc, source) {
+        Some(core) => {
+            let opening = Opening::new(core);
+            play_behind::<Brand, _, _, G, W>(rt, alloc, opening, gate, scene)
+        }
+        None => None,
+    }
+}
+
+/// Joins as a session.
+pub fn join<D: Desk>(desk: &mut D) -> Option<Sid> {
+    match desk.ask(SessionAsk::Join) {
+        SessionAnswer::Joined(sid) => Some(sid),
+        other => {
+            drop(other);
+            None
+        }
+    }
+}
+
+/// Whether a session is answered that by a message.
+pub fn tells<D: Desk>(
+    alloc: Global,
+    desk: &mut D,
+    sid: Sid,
+    message: &[u8],
+    wanted: &[u8],
+) -> bool {
+    let mut talker = Talker::new(alloc, sid);
+    let line = talker.message(message, desk);
+    drop(talker);
+    line.as_slice() == wanted
+}
+
+/// Whether a session is answered that by a message in the end, within so many turns.
+pub fn comes_to_tell<D: Desk, C: Clock>(
+    alloc: Global,
+    clock: &C,
+    desk: &mut D,
+    sid: Sid,
+    message: &[u8],
+    wanted: &[u8],
+) -> bool {
+    for _ in 0..TURNS {
+        if tells(alloc, desk, sid, message, wanted) {
+            return true;
+        }
+        turn(clock);
+    }
+    false
+}
+
+/// Whether the session is granted the exclusive lock.
+pub fn locks<D: Desk>(alloc: Global, desk: &mut D, sid: Sid) -> bool {
+    is_lock(desk.ask(SessionAsk::Lock(sid, Sequence::new(Vec::new(alloc)))))
+}
+
+/// Whether the session frees the exclusive lock.
+pub fn releases<D: Desk>(desk: &mut D, sid: Sid) -> bool {
+    is_lock(desk.ask(SessionAsk::Release(sid)))
+}
+
+/// Whether the answer, which is let go, is that an exclusive lock was granted or freed.
+fn is_lock(answer: SessionAnswer) -> bool {
+    let is_so = matches!(answer, SessionAnswer::Lock(1));
+    drop(answer);
+    is_so
+}
