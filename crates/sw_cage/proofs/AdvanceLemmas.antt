@@ -1,8 +1,9 @@
 -- What is so of a cage stays so where its scan goes on.
-use Rattle.std.proofs.Common.{◌≡◌, ℕ, ◌+◌, ◌-◌, ◌<◌, ◌≤◌, ◌&&◌, nat_lt, Bool, true, false, List, length, take, Option, Some, None, slice_set, refl, sym, ap}
+use Rattle.std.proofs.Common.{◌≡◌, ℕ, ◌+◌, ◌-◌, ◌<◌, ◌≤◌, nat_lt, true, false, List, length, take, Option, Some, None, slice_set, refl, sym, ap}
 use Rattle.std.proofs.Common.{◌∙◌, subst, arith, is_some, inl, inr}
 use Rattle.sw_base.specs.Limits.{most_slots}
 use mathlib.Core.Path.{fun_ext}
+use Rattle.std.proofs.lemmas.Bool.{and_right}
 use Rattle.std.proofs.lemmas.List.{length-set}
 use Rattle.sw_base.specs.Layout.{Channel, Layout, slot_at, has_meter, bay_is_meter}
 use Rattle.sw_base.specs.declared.reading.Reading.{Reading}
@@ -55,12 +56,8 @@ meter_with : (bays : Layout) (out : List (Option Ticket)) (s : ℕ) → length o
     → has_meter (layout_with bays out) s ≡ true
 meter_with bays out s h e m = ap bay_is_meter (slot_with bays out s h ∙ ap (or_meter (slot_at bays s)) e ∙ or_in (slot_at bays s)) ∙ m
 
-and_false : (b : Bool) → (b && false) ≡ false
-and_false true = refl
-and_false false = refl
-
 pub meter_open : (m : MeterAccount) (ch : ℕ) → option_closed (Some (of_meter m)) ch ≡ false
-meter_open m ch = and_false (nat_lt 0 ch)
+meter_open m ch = and_right (nat_lt 0 ch) false refl
 
 -- a meter leaves its slot, or comes into it: nothing opens or closes
 pub closed_sent : (rack : Accounts) (s : ℕ) (m : MeterAccount) → 1 ≤ s → s ≤ length rack → slot_at rack s ≡ Some (of_meter m) → (c : Channel)

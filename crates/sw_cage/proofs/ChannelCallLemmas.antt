@@ -1,56 +1,22 @@
 -- Lemmas on what a call on channels does to the cage.
-use Rattle.std.proofs.Common.{◌≡◌, ◌≢◌, ℕ, ◌+◌, ◌-◌, ◌%◌, ◌^◌, ◌≤◌, ◌<◌, ◌==◌, ◌||◌, ◌&&◌, not, Bool, true, false, List, [], ◌∷◌, ◌++◌, length, take, drop}
+use Rattle.std.proofs.Common.{◌≡◌, ◌≢◌, ℕ, ◌+◌, ◌-◌, ◌%◌, ◌^◌, ◌≤◌, ◌<◌, ◌==◌, ◌||◌, not, Bool, true, false, List, [], ◌∷◌, ◌++◌, length, take, drop}
 use Rattle.std.proofs.Common.{Option, None, Some, slice_index_or, slice_set, ◌⊎◌, inl, inr, refl, sym, ◌∙◌, ap, arith, map, suc, zero, if◌then◌else◌}
 use Rattle.std.specs.List.{list_any}
 use Rattle.std.proofs.lemmas.List.{get_or-set_same, get_or-set_other, take_more, take-append-drop}
 use Rattle.std.proofs.lemmas.List.Folds.{list_any-append, list_any_at}
 use Rattle.std.proofs.lemmas.Grind.{common_steps}
-use Rattle.std.proofs.lemmas.Bool.{cases_eq}
+use Rattle.std.proofs.Math.Bool.{or-false}
+use Rattle.std.proofs.lemmas.Bool.{cases_eq, or_left, false_from_ne_true}
 use Rattle.sw_base.specs.Layout.{Channel, slot_at, bay_has, is_present}
 use Rattle.sw_card.specs.Account.{Account, closed_at, set_closed, none_closed, IsWithin, at_rest, IsFault}
+use Rattle.sw_verify.specs.Channels.{same_channel, is_among}
+use Rattle.sw_verify.proofs.Round.{same_channel_is, same_channel_self}
 use Rattle.sw_cage.specs.Accounts.{Accounts, card_contents, slot_contents, layout_of, option_closed, is_closed, OptionWellFormed, option_set, with_chan}
-use Rattle.sw_cage.specs.Accounts.{option_rest, all_open}
-use Rattle.sw_cage.specs.Accounts.{IsSlotFault}
-use Rattle.sw_cage.specs.Change.{same_channel, is_in, Sets, option_failed, any_failed, identity, IsDisturbed}
+use Rattle.sw_cage.specs.Accounts.{option_rest, all_open, IsSlotFault}
+use Rattle.sw_cage.specs.Change.{Sets, option_failed, any_failed, identity, IsDisturbed}
 use Rattle.sw_cage.proofs.SlotChangeLemmas.{slot_set_same, slot_cases, slot_get, map_slot, present_slot, present_at, same_chan, IsSlotGrown, layout_all_open}
 
 -- channels
-
-self_eq : (n : ℕ) → (n == n) ≡ true
-self_eq n = grind (arith, common_steps)
-
-ne_eq : (m n : ℕ) → m ≢ n → (m == n) ≡ false
-ne_eq m n h = grind (arith, common_steps)
-
-eq_is : (m n : ℕ) → (m == n) ≡ true → m ≡ n
-eq_is m n h = grind (arith, common_steps)
-
-pub and_left : (a b : Bool) → (a && b) ≡ true → a ≡ true
-and_left true b h = refl
-and_left false b h = h
-
-pub and_right : (a b : Bool) → (a && b) ≡ true → b ≡ true
-and_right true b h = h
-and_right false b h = cc
-
-and_false : (a : Bool) → (a && false) ≡ false
-and_false true = refl
-and_false false = refl
-
-pub or_false : (a : Bool) → (a || false) ≡ a
-or_false true = refl
-or_false false = refl
-
-pub or_cases : (a b : Bool) → (a || b) ≡ true → (a ≡ true) ⊎ (b ≡ true)
-or_cases true b h = inl refl
-or_cases false b h = inr h
-
-pub or_left : (a b : Bool) → a ≡ true → (a || b) ≡ true
-or_left a b h = rw h refl
-
-pub or_right : (a b : Bool) → b ≡ true → (a || b) ≡ true
-or_right true b h = refl
-or_right false b h = h
 
 pub chan_cases : (c d : Channel) → (d ≡ c) ⊎ (d ≢ c)
 chan_cases c d = elim (cases_eq d.0 c.0) [
@@ -58,31 +24,24 @@ chan_cases c d = elim (cases_eq d.0 c.0) [
   | inr n ↦ inr (λ k. n (ap (λ (x : Channel). x.0) k))
 ]
 
-pub same_yes : (c d : Channel) → d ≡ c → same_channel d c ≡ true
-same_yes c d e = ap (λ (x : Channel). same_channel x c) e ∙ (let p = self_eq c.0 in let q = self_eq c.1 in cc)
+same_yes : (c d : Channel) → d ≡ c → same_channel d c ≡ true
+same_yes c d e = ap (λ (x : Channel). same_channel x c) e ∙ same_channel_self c
 
-pub same_is : (c d : Channel) → same_channel d c ≡ true → d ≡ c
-same_is c d h = same_chan c d (eq_is d.0 c.0 (and_left (d.0 == c.0) (d.1 == c.1) h)) (eq_is d.1 c.1 (and_right (d.0 == c.0) (d.1 == c.1) h))
+same_no : (c d : Channel) → d ≢ c → same_channel d c ≡ false
+same_no c d n = false_from_ne_true (same_channel d c) (λ h. n (same_channel_is d c h))
 
-pub is_false : (b : Bool) → (b ≡ true → ⊥) → b ≡ false
-is_false true h = absurd (h refl)
-is_false false h = refl
+pub in_one : (c d : Channel) → is_among (c ∷ []) d ≡ true → d ≡ c
+in_one c d h = same_channel_is d c (sym (or-false (same_channel d c)) ∙ h)
 
-pub same_no : (c d : Channel) → d ≢ c → same_channel d c ≡ false
-same_no c d n = is_false (same_channel d c) (λ h. n (same_is c d h))
-
-pub in_one : (c d : Channel) → is_in (c ∷ []) d ≡ true → d ≡ c
-in_one c d h = same_is c d (sym (or_false (same_channel d c)) ∙ h)
-
-pub in_take : (chans : List Channel) (i : ℕ) (c : Channel) → is_in (take i chans) c ≡ true → is_in chans c ≡ true
+pub in_take : (chans : List Channel) (i : ℕ) (c : Channel) → is_among (take i chans) c ≡ true → is_among chans c ≡ true
 in_take chans i c h = ap (list_any (same_channel c)) (sym (take-append-drop i chans)) ∙ list_any-append (same_channel c) (take i chans) (drop i chans) ∙ or_left
-    (is_in (take i chans) c) (is_in (drop i chans) c) h
+    (is_among (take i chans) c) (is_among (drop i chans) c) h
 
-pub in_at : (chans : List Channel) (i : ℕ) (c d : Channel) → i < length chans → c ≡ slice_index_or chans i d → is_in chans c ≡ true
+pub in_at : (chans : List Channel) (i : ℕ) (c d : Channel) → i < length chans → c ≡ slice_index_or chans i d → is_among chans c ≡ true
 in_at chans i c d h e = list_any_at (same_channel c) chans i d h (same_yes (slice_index_or chans i d) c e)
 
 pub in_more : (chans : List Channel) (i : ℕ) (c d : Channel) → i < length chans → c ≡ slice_index_or chans i d → (x : Channel)
-    → is_in (take (i + 1) chans) x ≡ (is_in (take i chans) x || is_in (c ∷ []) x)
+    → is_among (take (i + 1) chans) x ≡ (is_among (take i chans) x || is_among (c ∷ []) x)
 in_more chans i c d h e x = ap (list_any (same_channel x)) (take_more chans i d h ∙ ap (λ y. take i chans ++ y ∷ []) (sym e)) ∙ list_any-append (same_channel x)
     (take i chans) (c ∷ [])
 
@@ -138,19 +97,19 @@ if_yes b on old e = rw e refl
 pub if_no : (b on old : Bool) → b ≡ false → (if b then on else old) ≡ old
 if_no b on old e = rw e refl
 
-pub in_yes : (c d : Channel) → d ≡ c → is_in (c ∷ []) d ≡ true
+pub in_yes : (c d : Channel) → d ≡ c → is_among (c ∷ []) d ≡ true
 in_yes c d e = or_left (same_channel d c) false (same_yes c d e)
 
-pub in_no : (c d : Channel) → d ≢ c → is_in (c ∷ []) d ≡ false
-in_no c d n = or_false (same_channel d c) ∙ same_no c d n
+pub in_no : (c d : Channel) → d ≢ c → is_among (c ∷ []) d ≡ false
+in_no c d n = or-false (same_channel d c) ∙ same_no c d n
 
 pub sets_one : (rack : Accounts) (c : Channel) (on : Bool) → OptionWellFormed (slot_at rack c.0) → is_present (layout_of rack) c ≡ true
     → Sets rack (c ∷ []) on (with_chan rack c on)
 sets_one rack c on r h = let b : (0 < c.0) × (c.0 ≤ length rack) = present_slot rack c h in record {
   rest = map_slot option_rest rack c.0 (option_set (slot_at rack c.0) c.1 on) b.0 (option_set_rest (slot_at rack c.0) c.1 on);
   closed = λ d. elim (chan_cases c d) [
-    | inl e ↦ closed_there rack c d on r h e ∙ sym (if_yes (is_in (c ∷ []) d) on (is_closed rack d) (in_yes c d e))
-    | inr n ↦ closed_elsewhere rack c d on h n ∙ sym (if_no (is_in (c ∷ []) d) on (is_closed rack d) (in_no c d n))
+    | inl e ↦ closed_there rack c d on r h e ∙ sym (if_yes (is_among (c ∷ []) d) on (is_closed rack d) (in_yes c d e))
+    | inr n ↦ closed_elsewhere rack c d on h n ∙ sym (if_no (is_among (c ∷ []) d) on (is_closed rack d) (in_no c d n))
   ];
 }
 
@@ -169,7 +128,7 @@ pub sets_more : (rack now new : Accounts) (chans : List Channel) (i : ℕ) (c d 
     → Sets rack (take i chans) on now → Sets now (c ∷ []) on new → Sets rack (take (i + 1) chans) on new
 sets_more rack now new chans i c d on h e before step = record {
   rest = step.rest ∙ before.rest;
-  closed = λ x. if_more (is_in (take i chans) x) (is_in (c ∷ []) x) on (is_closed rack x) (is_closed now x) (is_closed new x) (step.closed x) (before.closed x)
+  closed = λ x. if_more (is_among (take i chans) x) (is_among (c ∷ []) x) on (is_closed rack x) (is_closed now x) (is_closed new x) (step.closed x) (before.closed x)
       ∙ ap (λ b. if b then on else is_closed rack x) (sym (in_more chans i c d h e x));
 }
 
@@ -178,8 +137,8 @@ pub sets_same : (rack : Accounts) (c : Channel) (on : Bool) → is_closed rack c
 sets_same rack c on h = record {
   rest = refl;
   closed = λ d. elim (chan_cases c d) [
-    | inl e ↦ ap (is_closed rack) e ∙ h ∙ sym (if_yes (is_in (c ∷ []) d) on (is_closed rack d) (in_yes c d e))
-    | inr n ↦ sym (if_no (is_in (c ∷ []) d) on (is_closed rack d) (in_no c d n))
+    | inl e ↦ ap (is_closed rack) e ∙ h ∙ sym (if_yes (is_among (c ∷ []) d) on (is_closed rack d) (in_yes c d e))
+    | inr n ↦ sym (if_no (is_among (c ∷ []) d) on (is_closed rack d) (in_no c d n))
   ];
 }
 
@@ -194,8 +153,8 @@ if_cases true on r m e h = inr refl
 if_cases false on r m e h = inl (sym e ∙ h)
 
 pub sets_closed : (old new : Accounts) (chans : List Channel) (on : Bool) → Sets old chans on new → (c : Channel) → is_closed new c ≡ true
-    → (is_closed old c ≡ true) ⊎ (is_in chans c ≡ true)
-sets_closed old new chans on s c h = if_cases (is_in chans c) on (is_closed old c) (is_closed new c) (s.closed c) h
+    → (is_closed old c ≡ true) ⊎ (is_among chans c ≡ true)
+sets_closed old new chans on s c h = if_cases (is_among chans c) on (is_closed old c) (is_closed new c) (s.closed c) h
 
 -- failures
 
@@ -217,7 +176,7 @@ failed_same (o ∷ rack) = ap (λ b. b || any_failed rack rack) (option_unfailed
 pub failed_set : (rack : Accounts) (i : ℕ) (v : Option Account) → i < length rack
     → any_failed rack (slice_set rack i v) ≡ option_failed (slice_index_or rack i None) v
 failed_set [] i v h = absurd (omega arith)
-failed_set (o ∷ rack) zero v h = ap (λ b. option_failed o v || b) (failed_same rack) ∙ or_false (option_failed o v)
+failed_set (o ∷ rack) zero v h = ap (λ b. option_failed o v || b) (failed_same rack) ∙ or-false (option_failed o v)
 failed_set (o ∷ rack) (suc i) v h = ap (λ b. b || any_failed rack (slice_set rack i v)) (option_unfailed o) ∙ failed_set rack i v (omega arith)
 
 pub rest_old : (o n : Option Account) → option_failed (option_rest o) n ≡ option_failed o n
@@ -320,6 +279,6 @@ disturbed_more rack now new chans i c d on h e before fault = record {
   failed = sym (failed_from rack now new before.rest) ∙ fault.failed;
   within = λ x k. elim (fault.within x k) [
     | inl o ↦ elim (sets_closed rack now (take i chans) on before x o) [ inl r ↦ inl r | inr t ↦ inr (in_take chans i x t) ]
-    | inr s ↦ inr (ap (is_in chans) (in_one c x s) ∙ in_at chans i c d h e)
+    | inr s ↦ inr (ap (is_among chans) (in_one c x s) ∙ in_at chans i c d h e)
   ];
 }

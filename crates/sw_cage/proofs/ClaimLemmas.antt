@@ -2,13 +2,13 @@
 use Rattle.std.proofs.Common.{◌≡◌, ◌≢◌, ℕ, ◌+◌, ◌≤◌, ◌<◌, Bool, true, false, List, [], ◌∷◌, length, Option, None, Some, slice_index_or, slice_set, ◌⊎◌, inl}
 use Rattle.std.proofs.Common.{inr, refl, sym, ◌∙◌, ap, subst, zero, suc, replicate, take, map, if◌then◌else◌}
 use Rattle.std.proofs.lemmas.List.{get_or-set_same, get_or-set_other, take_all}
-use Rattle.std.proofs.lemmas.Bool.{cases_eq}
+use Rattle.std.proofs.lemmas.Bool.{cases_eq, or_cases, or_left, or_right}
 use Rattle.std.proofs.Math.ListN.{get_or-map}
 use Rattle.sw_base.specs.Layout.{Channel, Layout, group_of, IsClash}
-use Rattle.sw_cage.specs.Change.{is_in}
+use Rattle.sw_verify.specs.Channels.{is_among}
 use Rattle.sw_cage.specs.Close.{closed_with, HasClash}
 use Rattle.sw_cage.specs.Claims.{Index, claim_at, IndexesClaims, closed_claim}
-use Rattle.sw_cage.proofs.ChannelCallLemmas.{chan_cases, in_more, in_take, in_at, in_one, in_yes, or_cases, or_left, or_right}
+use Rattle.sw_cage.proofs.ChannelCallLemmas.{chan_cases, in_more, in_take, in_at, in_one, in_yes}
 
 pub holds_same : (layout : Layout) (P Q : Channel → Type 0) (index : Index) → ((c : Channel) → P c → Q c) → ((c : Channel) → Q c → P c)
     → IndexesClaims layout P index
@@ -165,20 +165,20 @@ index_released layout closed now index group c h g room k was back = record {
 
 with_step : (closed : Channel → Bool) (chans : List Channel) (i : ℕ) (c d : Channel) → i < length chans → c ≡ slice_index_or chans i d → (x : Channel)
     → closed_with closed (take (i + 1) chans) x ≡ true → (closed_with closed (take i chans) x ≡ true) ⊎ (x ≡ c)
-with_step closed chans i c d h e x p = elim (or_cases (is_in (take (i + 1) chans) x) (closed x) p) [
-  | inl a ↦ elim (or_cases (is_in (take i chans) x) (is_in (c ∷ []) x) (sym (in_more chans i c d h e x) ∙ a))
-      [ inl b ↦ inl (or_left (is_in (take i chans) x) (closed x) b) | inr b ↦ inr (in_one c x b) ]
-  | inr a ↦ inl (or_right (is_in (take i chans) x) (closed x) a)
+with_step closed chans i c d h e x p = elim (or_cases (is_among (take (i + 1) chans) x) (closed x) p) [
+  | inl a ↦ elim (or_cases (is_among (take i chans) x) (is_among (c ∷ []) x) (sym (in_more chans i c d h e x) ∙ a))
+      [ inl b ↦ inl (or_left (is_among (take i chans) x) (closed x) b) | inr b ↦ inr (in_one c x b) ]
+  | inr a ↦ inl (or_right (is_among (take i chans) x) (closed x) a)
 ]
 
 with_back : (closed : Channel → Bool) (chans : List Channel) (i : ℕ) (c d : Channel) → i < length chans → c ≡ slice_index_or chans i d → (x : Channel)
     → (closed_with closed (take i chans) x ≡ true) ⊎ (x ≡ c) → closed_with closed (take (i + 1) chans) x ≡ true
-with_back closed chans i c d h e x (inl p) = elim (or_cases (is_in (take i chans) x) (closed x) p) [
-  | inl a ↦ or_left (is_in (take (i + 1) chans) x) (closed x) (in_more chans i c d h e x ∙ or_left (is_in (take i chans) x) (is_in (c ∷ []) x) a)
-  | inr a ↦ or_right (is_in (take (i + 1) chans) x) (closed x) a
+with_back closed chans i c d h e x (inl p) = elim (or_cases (is_among (take i chans) x) (closed x) p) [
+  | inl a ↦ or_left (is_among (take (i + 1) chans) x) (closed x) (in_more chans i c d h e x ∙ or_left (is_among (take i chans) x) (is_among (c ∷ []) x) a)
+  | inr a ↦ or_right (is_among (take (i + 1) chans) x) (closed x) a
 ]
-with_back closed chans i c d h e x (inr p) = or_left (is_in (take (i + 1) chans) x) (closed x)
-    (in_more chans i c d h e x ∙ or_right (is_in (take i chans) x) (is_in (c ∷ []) x) (in_yes c x p))
+with_back closed chans i c d h e x (inr p) = or_left (is_among (take (i + 1) chans) x) (closed x)
+    (in_more chans i c d h e x ∙ or_right (is_among (take i chans) x) (is_among (c ∷ []) x) (in_yes c x p))
 
 pub with_more : (layout : Layout) (closed : Channel → Bool) (chans : List Channel) (i : ℕ) (c d : Channel) (index new : Index) (group : ℕ) → i < length chans
     → c ≡ slice_index_or chans i d → IndexesClaims layout (λ x. closed_with closed (take i chans) x ≡ true) index → group ≡ group_of layout c
@@ -199,9 +199,9 @@ with_clash layout closed chans i c d index group h e kept g n found =
     record {
       one = found.0;
       other = c;
-      one_closed = elim (or_cases (is_in (take i chans) found.0) (closed found.0) k.0)
-          [ inl a ↦ or_left (is_in chans found.0) (closed found.0) (in_take chans i found.0 a) | inr a ↦ or_right (is_in chans found.0) (closed found.0) a ];
-      other_closed = or_left (is_in chans c) (closed c) (in_at chans i c d h e);
+      one_closed = elim (or_cases (is_among (take i chans) found.0) (closed found.0) k.0)
+          [ inl a ↦ or_left (is_among chans found.0) (closed found.0) (in_take chans i found.0 a) | inr a ↦ or_right (is_among chans found.0) (closed found.0) a ];
+      other_closed = or_left (is_among chans c) (closed c) (in_at chans i c d h e);
       clash = k.1;
     }
 

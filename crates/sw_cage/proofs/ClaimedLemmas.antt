@@ -1,18 +1,20 @@
 -- What becomes of the claims as channels are set and cards come and go.
 use Rattle.std.proofs.Common.{◌≡◌, ℕ, ◌-◌, ◌≤◌, ◌<◌, true, false, List, [], ◌∷◌, length, map, replicate, slice_set, Option, None, Some, inl, inr, refl}
 use Rattle.std.proofs.Common.{sym, ◌∙◌, ap, subst, arith, ◌⊎◌, is_some, nat_lt, slice_index_or, Result, Ok, Err, OnOk, OnErr}
+use Rattle.std.proofs.lemmas.Bool.{false_from_ne_true}
 use Rattle.std.proofs.lemmas.List.{length-set, length-map}
 use Rattle.sw_base.specs.Limits.{most_slots, most_channels}
 use Rattle.sw_base.specs.Layout.{Channel, Layout, slot_at, group_of, has_meter, IsClash}
 use Rattle.sw_card.specs.Account.{Account, MeterAccount, of_meter, closed_at}
 use Rattle.sw_card.specs.Mask.{in_mask}
+use Rattle.sw_verify.specs.Channels.{is_among}
 use Rattle.sw_cage.specs.Accounts.{Accounts, accounts_of, option_account, layout_of, option_closed, is_closed, IsWellFormed, OptionWellFormed}
 use Rattle.sw_cage.specs.Accounts.{AreSafe, all_open}
 use Rattle.sw_cage.specs.Masks.{IsSlotMask}
-use Rattle.sw_cage.specs.Change.{is_in, Sets, IsDisturbed}
+use Rattle.sw_cage.specs.Change.{Sets, IsDisturbed}
 use Rattle.sw_cage.specs.Claims.{Index, IndexesClaims, closed_claim, AreClaimed}
 use Rattle.sw_cage.proofs.SlotChangeLemmas.{all_open_closed, safe_all_open, safe_empty, none_slot, safe_quiet, quiet_was, quiet_group, quiet_still, some_slot}
-use Rattle.sw_cage.proofs.ChannelCallLemmas.{is_false, chan_cases, in_one, in_yes, in_no, if_yes, if_no, sets_layout, sets_closed, plates_layout}
+use Rattle.sw_cage.proofs.ChannelCallLemmas.{chan_cases, in_one, in_yes, in_no, if_yes, if_no, sets_layout, sets_closed, plates_layout}
 use Rattle.sw_cage.proofs.OneSlotLemmas.{written, slot_mask, none_closed_in, AfterCall}
 use Rattle.sw_cage.proofs.ClosedListLemmas.{closed_number}
 use Rattle.sw_cage.proofs.MoveLemmas.{not_meter}
@@ -42,8 +44,8 @@ pub claims_closing : (old new : Accounts) (index : Index) (group : ℕ) (c : Cha
 claims_closing old new index group c h g room apart sets = index_same (layout_of old) (layout_of new) (λ d. (is_closed old d ≡ true) ⊎ (d ≡ c))
     (λ d. is_closed new d ≡ true) (slice_set index group (Some c))
     (λ d p. elim (chan_cases c d) [
-      | inl e ↦ sets.closed d ∙ if_yes (is_in (c ∷ []) d) true (is_closed old d) (in_yes c d e)
-      | inr n ↦ sets.closed d ∙ if_no (is_in (c ∷ []) d) true (is_closed old d) (in_no c d n) ∙ elim p [ inl o ↦ o | inr e ↦ absurd (n e) ]
+      | inl e ↦ sets.closed d ∙ if_yes (is_among (c ∷ []) d) true (is_closed old d) (in_yes c d e)
+      | inr n ↦ sets.closed d ∙ if_no (is_among (c ∷ []) d) true (is_closed old d) (in_no c d n) ∙ elim p [ inl o ↦ o | inr e ↦ absurd (n e) ]
     ])
     (λ d k. elim (sets_closed old new (c ∷ []) true sets d k) [ inl o ↦ inl o | inr i ↦ inr (in_one c d i) ])
     (λ d p. ap (λ (l : Layout). group_of l d) (sets_layout old new (c ∷ []) true sets))
@@ -67,10 +69,10 @@ claims_opening old new index group c h g room closed sets =
     subst (λ (l : Layout). IndexesClaims l (λ d. is_closed new d ≡ true) (slice_set index group None)) (sym (sets_layout old new (c ∷ []) false sets))
     (index_released (layout_of old) (is_closed old) (is_closed new) index group c h g room closed
     (λ d k. elim (chan_cases c d) [
-      | inl e ↦ absurd (let f : is_closed new d ≡ false = sets.closed d ∙ if_yes (is_in (c ∷ []) d) false (is_closed old d) (in_yes c d e) in cc)
-      | inr n ↦ (sym (sets.closed d ∙ if_no (is_in (c ∷ []) d) false (is_closed old d) (in_no c d n)) ∙ k, n)
+      | inl e ↦ absurd (let f : is_closed new d ≡ false = sets.closed d ∙ if_yes (is_among (c ∷ []) d) false (is_closed old d) (in_yes c d e) in cc)
+      | inr n ↦ (sym (sets.closed d ∙ if_no (is_among (c ∷ []) d) false (is_closed old d) (in_no c d n)) ∙ k, n)
     ])
-    (λ d k n. sets.closed d ∙ if_no (is_in (c ∷ []) d) false (is_closed old d) (in_no c d n) ∙ k))
+    (λ d k n. sets.closed d ∙ if_no (is_among (c ∷ []) d) false (is_closed old d) (in_no c d n) ∙ k))
 
 pub claims_unopened : (old new : Accounts) (index : Index) (c : Channel) → IndexesClaims (layout_of old) (λ d. is_closed old d ≡ true) index
     → is_closed old c ≡ true → IsDisturbed old (c ∷ []) new
@@ -167,7 +169,7 @@ claimed_unopened old most new seen index c r t h closed a e s = record {
 -- a meter is taken out
 
 meter_unclosed : (rack : Accounts) → AreSafe rack → (s : ℕ) → has_meter (layout_of rack) s ≡ true → (k : ℕ) → option_closed (slot_at rack s) k ≡ false
-meter_unclosed rack safe s m k = is_false (option_closed (slot_at rack s) k)
+meter_unclosed rack safe s m k = false_from_ne_true (option_closed (slot_at rack s) k)
     (λ h. let n : has_meter (layout_of rack) s ≡ false = not_meter (slot_at (layout_of rack) s) k (safe.exclusive.present (s, k) h) in cc)
 
 pub claimed_taken : {C : Type 0} (items : List (Option (C × Account))) (value : Accounts) (s : ℕ) (v : Option (C × Account)) (index : Index)
@@ -198,7 +200,7 @@ put_row card m e = subst IsWellFormed (sym e) (record { states = refl; few = λ 
 -- the slot's mask is empty
 unclosed_slot : (rack : Accounts) (s mask : ℕ) → AreSafe rack → ((k : ℕ) → k ≤ most_channels → in_mask mask k ≡ is_closed rack (s, k))
     → ((k : ℕ) → in_mask mask k ≡ false) → (k : ℕ) → option_closed (slot_at rack s) k ≡ false
-unclosed_slot rack s mask safe same none k = is_false (option_closed (slot_at rack s) k)
+unclosed_slot rack s mask safe same none k = false_from_ne_true (option_closed (slot_at rack s) k)
     (λ h. let b = closed_number rack (s, k) safe h in let e : is_closed rack (s, k) ≡ false = sym (same k b.1) ∙ none k in cc)
 
 pub claimed_put : {C : Type 0} (items : List (Option (C × Account))) (s mask : ℕ) (card : C × Account) (was : Option (C × Account)) (m : MeterAccount)

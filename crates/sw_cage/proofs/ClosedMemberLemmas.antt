@@ -3,14 +3,13 @@ use Rattle.std.proofs.Common.{◌≡◌, ◌≢◌, ℕ, zero, suc, ◌≤◌, �
 use Rattle.std.proofs.Common.{if◌then◌else◌}
 use Rattle.std.specs.List.{filter, list_any}
 use Rattle.std.proofs.lemmas.List.Folds.{list_any-append}
-use Rattle.std.proofs.lemmas.Bool.{cases_eq}
+use Rattle.std.proofs.lemmas.Bool.{cases_eq, or_left, or_right}
 use Rattle.sw_base.specs.Limits.{most_slots, most_channels}
 use Rattle.sw_base.specs.Layout.{Channel}
 use Rattle.sw_verify.specs.Channels.{same_channel, is_among}
 use Rattle.sw_verify.proofs.Round.{same_channel_is, same_channel_self}
 use Rattle.sw_cage.specs.Accounts.{Accounts, is_closed}
 use Rattle.sw_cage.specs.Channels.{row, rows, closed_list}
-use Rattle.sw_cage.proofs.ChannelCallLemmas.{or_left, or_right}
 
 -- one that passes and is in the list, and no other
 kept_at : (t v w : Bool) (keep : Bool) → (t ≡ true → v ≡ keep) → (if keep then t || (w && v) else w && v) ≡ ((t || w) && v)

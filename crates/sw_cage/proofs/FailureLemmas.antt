@@ -2,6 +2,7 @@
 use Rattle.std.proofs.Common.{◌≡◌, ℕ, zero, suc, ◌-◌, ◌||◌, nat_lt, Bool, true, false, [], ◌∷◌, Option, None, Some, slice_index_or, slice_set, refl, sym}
 use Rattle.std.proofs.Common.{ap, ◌∙◌}
 use Rattle.std.proofs.Common.{if◌then◌else◌, Result, Ok, Err, is_err, List}
+use Rattle.std.proofs.lemmas.Bool.{or_left, or_right}
 use Rattle.sw_base.specs.Layout.{slot_at}
 use Rattle.sw_card.specs.Account.{Account}
 use Rattle.sw_cage.specs.Accounts.{Accounts, all_open}
@@ -14,7 +15,7 @@ use Rattle.sw_card.specs.declared.board.CardFault.{CardFault}
 use Rattle.sw_trigger.specs.Settings.{Setup}
 use Rattle.sw_trigger.specs.Agenda.{Item}
 use Rattle.sw_cage.specs.Advance.{moves_from, next_place}
-use Rattle.sw_cage.proofs.ChannelCallLemmas.{or_left, or_right, sets_unfailed}
+use Rattle.sw_cage.proofs.ChannelCallLemmas.{sets_unfailed}
 
 never_out : (o : Option Account) → option_failed o None ≡ false
 never_out None = refl

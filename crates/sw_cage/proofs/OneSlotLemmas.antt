@@ -6,22 +6,22 @@ use Rattle.std.proofs.lemmas.List.Edits.{map_over_more}
 use Rattle.std.proofs.Math.ListN.{get_or-map}
 use Rattle.std.proofs.Math.Seq.{take-append_seam}
 use Rattle.std.proofs.lemmas.Grind.{common_steps}
+use Rattle.std.proofs.lemmas.Bool.{and_parts, or_left, or_right}
+use Rattle.std.specs.List.{list_all}
 use Rattle.sw_base.specs.Limits.{most_slots, most_channels}
 use Rattle.sw_base.specs.Layout.{Channel, Layout, slot_at, is_present, IsClash}
 use Rattle.sw_card.specs.Account.{Account, MeterAccount, of_meter, closed_at, at_rest}
 use Rattle.sw_card.specs.Mask.{in_mask}
 use Rattle.sw_card.proofs.Rows.{none_is_closed}
+use Rattle.sw_verify.specs.Channels.{is_among}
 use Rattle.sw_cage.specs.Accounts.{Accounts, option_account, accounts_of, layout_of, option_closed, is_closed, OptionWellFormed, AreSafe, option_set, with_chan}
-use Rattle.sw_cage.specs.Accounts.{option_rest}
-use Rattle.sw_cage.specs.Accounts.{all_open, IsSlotFault, IsChannelFault}
+use Rattle.sw_cage.specs.Accounts.{option_rest, all_open, IsSlotFault, IsChannelFault}
 use Rattle.sw_cage.specs.Masks.{IsSlotMask}
-use Rattle.sw_cage.specs.Change.{is_in, Sets, IsDisturbed}
+use Rattle.sw_cage.specs.Change.{Sets, IsDisturbed}
 use Rattle.sw_cage.specs.Close.{all_present, CanClose}
-use Rattle.std.specs.List.{list_all}
 use Rattle.sw_cage.proofs.SlotChangeLemmas.{slot_map, slot_set_same, present_slot, present_at, some_slot, IsSlotGrown, closed_grows, opened_grows, safe_grown}
 use Rattle.sw_cage.proofs.SlotChangeLemmas.{safe_opened}
-use Rattle.sw_cage.proofs.ChannelCallLemmas.{sets_one, disturbed_one, option_set_rest, and_left, and_right, or_left, or_right, in_at, in_take, sets_layout}
-use Rattle.sw_cage.proofs.ChannelCallLemmas.{sets_closed}
+use Rattle.sw_cage.proofs.ChannelCallLemmas.{sets_one, disturbed_one, option_set_rest, in_at, in_take, sets_layout, sets_closed}
 
 -- cards read and written
 
@@ -210,8 +210,8 @@ on_err (Err e) x = x
 
 all_at : (p : Channel → Bool) (chans : List Channel) (i : ℕ) (d : Channel) → i < length chans → list_all p chans ≡ true → p (slice_index_or chans i d) ≡ true
 all_at p [] i d h e = absurd (omega arith)
-all_at p (x ∷ chans) zero d h e = and_left (p x) (list_all p chans) e
-all_at p (x ∷ chans) (suc i) d h e = all_at p chans i d (omega arith) (and_right (p x) (list_all p chans) e)
+all_at p (x ∷ chans) zero d h e = (and_parts (p x) (list_all p chans) e).0
+all_at p (x ∷ chans) (suc i) d h e = all_at p chans i d (omega arith) (and_parts (p x) (list_all p chans) e).1
 
 pub present_item : (layout : Layout) (chans : List Channel) (i : ℕ) (c d : Channel) → i < length chans → c ≡ slice_index_or chans i d
     → all_present layout chans ≡ true → is_present layout c ≡ true
@@ -228,8 +228,8 @@ pub next_apart : (rack now : Accounts) (chans : List Channel) (i : ℕ) (c : Cha
 next_apart rack now chans i c h e can sets d k clash = can.apart (record {
   one = c;
   other = d;
-  one_closed = or_left (is_in chans c) (is_closed rack c) (in_at chans i c c h e);
+  one_closed = or_left (is_among chans c) (is_closed rack c) (in_at chans i c c h e);
   other_closed = elim (sets_closed rack now (take i chans) true sets d k)
-      [ inl o ↦ or_right (is_in chans d) (is_closed rack d) o | inr t ↦ or_left (is_in chans d) (is_closed rack d) (in_take chans i d t) ];
+      [ inl o ↦ or_right (is_among chans d) (is_closed rack d) o | inr t ↦ or_left (is_among chans d) (is_closed rack d) (in_take chans i d t) ];
   clash = subst (λ l. IsClash l c d) (sets_layout rack now (take i chans) true sets) clash;
 })

@@ -1,21 +1,15 @@
 -- What a call on a list of channels does to the cage.
-use Rattle.std.specs.Prelude.{◌≡◌, ℕ, ◌==◌, Bool, true, false, not, ◌&&◌, ◌||◌, List, [], ◌∷◌, map, Option, None, Some}
+use Rattle.std.specs.Prelude.{◌≡◌, ℕ, ◌==◌, Bool, true, false, not, ◌||◌, List, [], ◌∷◌, map, Option, None, Some}
 use Rattle.std.specs.Prelude.{if◌then◌else◌, ◌⊎◌}
-use Rattle.std.specs.List.{list_any}
 use Rattle.sw_base.specs.Layout.{Channel, slot_at, has_meter}
 use Rattle.sw_card.specs.Account.{Account, none_closed}
+use Rattle.sw_verify.specs.Channels.{is_among}
 use Rattle.sw_cage.specs.Accounts.{Accounts, layout_of, is_closed, all_open}
-
-abbrev pub same_channel : Channel → Channel → Bool
-same_channel a b = (a.0 == b.0) && (a.1 == b.1)
-
-abbrev pub is_in : List Channel → Channel → Bool
-is_in chans c = list_any (same_channel c) chans
 
 -- The channels of the list are closed, or open, and all else is as it was.
 pub record Sets (old : Accounts) (chans : List Channel) (on : Bool) (new : Accounts) : Type 0 where
   pub rest : all_open new ≡ all_open old
-  pub closed : (c : Channel) → is_closed new c ≡ (if is_in chans c then on else is_closed old c)
+  pub closed : (c : Channel) → is_closed new c ≡ (if is_among chans c then on else is_closed old c)
 
 -- whether a card that stayed in its slot counts other failures than before
 abbrev pub option_failed : Option Account → Option Account → Bool
@@ -44,4 +38,4 @@ identity (Some a) = Some (record a { failures = 0; closed = none_closed a.closed
 pub record IsDisturbed (old : Accounts) (chans : List Channel) (new : Accounts) : Type 0 where
   pub cards : map identity new ≡ map identity old
   pub failed : any_failed old new ≡ true
-  pub within : (c : Channel) → is_closed new c ≡ true → (is_closed old c ≡ true) ⊎ (is_in chans c ≡ true)
+  pub within : (c : Channel) → is_closed new c ≡ true → (is_closed old c ≡ true) ⊎ (is_among chans c ≡ true)

@@ -2,13 +2,13 @@
 use Rattle.std.specs.Prelude.{◌≡◌, Bool, true, false, ◌||◌, List}
 use Rattle.std.specs.List.{list_all}
 use Rattle.sw_base.specs.Layout.{Channel, Layout, is_present, IsClash}
-use Rattle.sw_cage.specs.Change.{is_in}
+use Rattle.sw_verify.specs.Channels.{is_among}
 use Rattle.sw_cage.specs.declared.refusal.CloseRefusal.{CloseRefusal}
 use Rattle.sw_cage.specs.declared.refusal.CloseRefusal.TheVariants.{Absent, Clash}
 
 -- what is closed once the listed channels are closed too
 abbrev pub closed_with : (Channel → Bool) → List Channel → Channel → Bool
-closed_with closed chans c = is_in chans c || closed c
+closed_with closed chans c = is_among chans c || closed c
 
 -- two of the closed channels clash
 pub record HasClash (layout : Layout) (closed : Channel → Bool) : Type 0 where

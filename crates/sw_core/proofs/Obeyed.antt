@@ -14,8 +14,8 @@ use Rattle.sw_card.specs.Account.{Account, closed_at}
 use Rattle.sw_lex.specs.declared.command.Command.{Command}
 use Rattle.sw_verify.specs.declared.snapshot.Snapshot.{Snapshot}
 use Rattle.sw_status.specs.StatusModel.{StatusSeen, queued}
+use Rattle.sw_verify.specs.Channels.{is_among}
 use Rattle.sw_cage.specs.Accounts.{Accounts, is_closed, option_closed, all_open, option_rest}
-use Rattle.sw_cage.specs.Change.{is_in}
 use Rattle.sw_cage.specs.Cage.{CageSeen, ScanSeen, safe_state}
 use Rattle.sw_cage.specs.Install.{stopped, without_card}
 use Rattle.sw_cage.specs.Outcome.{AdvancesPastFrom, Counts, with_back, with_reading}
@@ -77,7 +77,7 @@ done_of p sid command available f q e =
     None e.done e.acts.1
 
 pub closes : (p q : Panel) (chans : List Channel) (available failed : Bool) → IsDoneFor p (Command.Close chans) available failed q → (c : Channel)
-    → is_in chans c ≡ true
+    → is_among chans c ≡ true
     → is_closed q.cage.cards c ≡ true
 closes p q chans available failed s c i =
     let sid = s.0 in
@@ -87,7 +87,7 @@ closes p q chans available failed s c i =
     ap (λ (x : Panel). is_closed x.cage.cards c) e.after ∙ d.2.closed c ∙ ap (λ (b : Bool). if b then true else is_closed p.cage.cards c) i
 
 pub opens : (p q : Panel) (chans : List Channel) (available failed : Bool) → IsDoneFor p (Command.Open chans) available failed q → (c : Channel)
-    → is_in chans c ≡ true
+    → is_among chans c ≡ true
     → is_closed q.cage.cards c ≡ false
 opens p q chans available failed s c i =
     let sid = s.0 in

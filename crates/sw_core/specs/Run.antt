@@ -7,9 +7,10 @@ use Rattle.sw_base.specs.declared.error.ScpiError.TheVariants.{HardwareError, Ou
 use Rattle.sw_base.specs.declared.reading.Reading.{Reading}
 use Rattle.sw_card.specs.Account.{Account, closed_at}
 use Rattle.sw_trigger.specs.Counts.{bound_of}
+use Rattle.sw_verify.specs.Channels.{is_among}
 use Rattle.sw_cage.specs.Accounts.{Accounts, is_closed}
 use Rattle.sw_cage.specs.Cage.{ScanSeen}
-use Rattle.sw_cage.specs.Change.{is_in, any_failed}
+use Rattle.sw_cage.specs.Change.{any_failed}
 use Rattle.sw_lex.specs.declared.command.Command.{Command}
 use Rattle.sw_lex.specs.declared.command.Command.TheVariants as command
 use Rattle.sw_core.specs.declared.ask.Sid.{Sid}
@@ -109,11 +110,11 @@ IsDoneFor p unit available failed q = (sid : Sid)
 pub record RelaysObey : Type 0 where
   -- after ROUTe:CLOSe that is done every channel of its list is closed
   pub closes : (p q : Panel) (chans : List Channel) (available failed : Bool)
-      → IsDoneFor p (command.Close chans) available failed q → (c : Channel) → is_in chans c ≡ true
+      → IsDoneFor p (command.Close chans) available failed q → (c : Channel) → is_among chans c ≡ true
       → is_closed q.cage.cards c ≡ true
   -- after ROUTe:OPEN that is done every channel of its list is open
   pub opens : (p q : Panel) (chans : List Channel) (available failed : Bool)
-      → IsDoneFor p (command.Open chans) available failed q → (c : Channel) → is_in chans c ≡ true
+      → IsDoneFor p (command.Open chans) available failed q → (c : Channel) → is_among chans c ≡ true
       → is_closed q.cage.cards c ≡ false
   -- a refusal for any other cause than a card's failure queues its error, ends its event, and does nothing else
   pub refused : (p q : Panel) (ask : AskView) (failed : Bool) (e : ScpiError) → e ≢ HardwareError
