@@ -5,7 +5,6 @@ use Rattle.std.specs.List.{list_any}
 use Rattle.std.proofs.lemmas.List.{get_or-set_same, get_or-set_other, take_more, take-append-drop}
 use Rattle.std.proofs.lemmas.List.Folds.{list_any-append, list_any_at}
 use Rattle.std.proofs.lemmas.Grind.{common_steps}
-use Rattle.std.proofs.Math.Bool.{or-false}
 use Rattle.std.proofs.lemmas.Bool.{cases_eq, or_left, false_from_ne_true}
 use Rattle.sw_base.specs.Layout.{Channel, slot_at, bay_has, is_present}
 use Rattle.sw_card.specs.Account.{Account, closed_at, set_closed, none_closed, IsWithin, at_rest, IsFault}
@@ -17,6 +16,10 @@ use Rattle.sw_cage.specs.Change.{Sets, option_failed, any_failed, identity, IsDi
 use Rattle.sw_cage.proofs.SlotChangeLemmas.{slot_set_same, slot_cases, slot_get, map_slot, present_slot, present_at, same_chan, IsSlotGrown, layout_all_open}
 
 -- channels
+
+pub or_false : (a : Bool) → (a || false) ≡ a
+or_false true = refl
+or_false false = refl
 
 pub chan_cases : (c d : Channel) → (d ≡ c) ⊎ (d ≢ c)
 chan_cases c d = elim (cases_eq d.0 c.0) [
@@ -31,7 +34,7 @@ same_no : (c d : Channel) → d ≢ c → same_channel d c ≡ false
 same_no c d n = false_from_ne_true (same_channel d c) (λ h. n (same_channel_is d c h))
 
 pub in_one : (c d : Channel) → is_among (c ∷ []) d ≡ true → d ≡ c
-in_one c d h = same_channel_is d c (sym (or-false (same_channel d c)) ∙ h)
+in_one c d h = same_channel_is d c (sym (or_false (same_channel d c)) ∙ h)
 
 pub in_take : (chans : List Channel) (i : ℕ) (c : Channel) → is_among (take i chans) c ≡ true → is_among chans c ≡ true
 in_take chans i c h = ap (list_any (same_channel c)) (sym (take-append-drop i chans)) ∙ list_any-append (same_channel c) (take i chans) (drop i chans) ∙ or_left
@@ -101,7 +104,7 @@ pub in_yes : (c d : Channel) → d ≡ c → is_among (c ∷ []) d ≡ true
 in_yes c d e = or_left (same_channel d c) false (same_yes c d e)
 
 pub in_no : (c d : Channel) → d ≢ c → is_among (c ∷ []) d ≡ false
-in_no c d n = or-false (same_channel d c) ∙ same_no c d n
+in_no c d n = or_false (same_channel d c) ∙ same_no c d n
 
 pub sets_one : (rack : Accounts) (c : Channel) (on : Bool) → OptionWellFormed (slot_at rack c.0) → is_present (layout_of rack) c ≡ true
     → Sets rack (c ∷ []) on (with_chan rack c on)
@@ -128,7 +131,8 @@ pub sets_more : (rack now new : Accounts) (chans : List Channel) (i : ℕ) (c d 
     → Sets rack (take i chans) on now → Sets now (c ∷ []) on new → Sets rack (take (i + 1) chans) on new
 sets_more rack now new chans i c d on h e before step = record {
   rest = step.rest ∙ before.rest;
-  closed = λ x. if_more (is_among (take i chans) x) (is_among (c ∷ []) x) on (is_closed rack x) (is_closed now x) (is_closed new x) (step.closed x) (before.closed x)
+  closed = λ x. if_more (is_among (take i chans) x) (is_among (c ∷ []) x) on (is_closed rack x) (is_closed now x) (is_closed new x) (step.closed x)
+      (before.closed x)
       ∙ ap (λ b. if b then on else is_closed rack x) (sym (in_more chans i c d h e x));
 }
 
@@ -176,7 +180,7 @@ failed_same (o ∷ rack) = ap (λ b. b || any_failed rack rack) (option_unfailed
 pub failed_set : (rack : Accounts) (i : ℕ) (v : Option Account) → i < length rack
     → any_failed rack (slice_set rack i v) ≡ option_failed (slice_index_or rack i None) v
 failed_set [] i v h = absurd (omega arith)
-failed_set (o ∷ rack) zero v h = ap (λ b. option_failed o v || b) (failed_same rack) ∙ or-false (option_failed o v)
+failed_set (o ∷ rack) zero v h = ap (λ b. option_failed o v || b) (failed_same rack) ∙ or_false (option_failed o v)
 failed_set (o ∷ rack) (suc i) v h = ap (λ b. b || any_failed rack (slice_set rack i v)) (option_unfailed o) ∙ failed_set rack i v (omega arith)
 
 pub rest_old : (o n : Option Account) → option_failed (option_rest o) n ≡ option_failed o n

@@ -199,8 +199,10 @@ with_clash layout closed chans i c d index group h e kept g n found =
     record {
       one = found.0;
       other = c;
-      one_closed = elim (or_cases (is_among (take i chans) found.0) (closed found.0) k.0)
-          [ inl a ↦ or_left (is_among chans found.0) (closed found.0) (in_take chans i found.0 a) | inr a ↦ or_right (is_among chans found.0) (closed found.0) a ];
+      one_closed = elim (or_cases (is_among (take i chans) found.0) (closed found.0) k.0) [
+        | inl a ↦ or_left (is_among chans found.0) (closed found.0) (in_take chans i found.0 a)
+        | inr a ↦ or_right (is_among chans found.0) (closed found.0) a
+      ];
       other_closed = or_left (is_among chans c) (closed c) (in_at chans i c d h e);
       clash = k.1;
     }

@@ -2,7 +2,6 @@
 use Rattle.std.proofs.Common.{◌≡◌, ℕ, ◌==◌, ◌||◌, ◌&&◌, not, Bool, true, false, List, [], ◌∷◌, ◌++◌, Option, None, Some, refl, sym, ◌∙◌, ap, subst, arith}
 use Rattle.std.proofs.Common.{if◌then◌else◌, Result, Ok, Err, OnErr}
 use mathlib.Core.Path.{fun_ext}
-use Rattle.std.proofs.Math.Bool.{or-false}
 use Rattle.std.proofs.lemmas.Grind.{common_steps}
 use Rattle.sw_base.specs.Layout.{Channel, Bay, relays, meter, Layout, slot_at, bay_has, bay_is_meter, is_present, has_meter}
 use Rattle.sw_trigger.specs.Agenda.{Item, Close, Open}
@@ -17,7 +16,7 @@ use Rattle.sw_cage.specs.Cage.{ScanSeen}
 use Rattle.sw_cage.specs.TakenSeen.{TakenSeen, SaysIgnored, SaysWaits, SaysPause, SaysJob, SaysEnded, SaysFault}
 use Rattle.sw_cage.specs.Outcome.{Moved, IsSafeAfterFault, Occupancy, Reaches, AdvancesOrFails}
 use Rattle.sw_cage.proofs.SlotChangeLemmas.{slot_rest, all_open_closed}
-use Rattle.sw_cage.proofs.ChannelCallLemmas.{layout_rest, identities_rest, identities_all_open, rest_old, rest_new, fault_failed}
+use Rattle.sw_cage.proofs.ChannelCallLemmas.{or_false, layout_rest, identities_rest, identities_all_open, rest_old, rest_new, fault_failed}
 
 swap_eq : (m n : ℕ) → (m == n) ≡ (n == m)
 swap_eq m n = grind (arith, common_steps)
@@ -26,7 +25,7 @@ same_swap : (a b : Channel) → same_channel a b ≡ same_channel b a
 same_swap a b = let p = swap_eq a.0 b.0 in let q = swap_eq a.1 b.1 in cc
 
 in_one_is : (c x : Channel) → is_among (c ∷ []) x ≡ same_channel c x
-in_one_is c x = or-false (same_channel x c) ∙ same_swap x c
+in_one_is c x = or_false (same_channel x c) ∙ same_swap x c
 
 if_without : (t b : Bool) → (if t then false else b) ≡ (not t && b)
 if_without true b = refl
