@@ -18,8 +18,8 @@ pub fn talk_is_determined()
 }
 
 /// A law: over a mainframe the message, the macros, what is measured and what comes of the cards determine what is
-/// written, the macros after it and the desk that is left but for its room, where no growth is refused. What comes of the cards: in
-/// which calls one fails, and how often each has failed after such a call.
+/// written, the macros after it and the desk that is left but for its room, where no growth is refused. What comes of
+/// the cards: in which calls one fails, and how often each has failed after such a call.
 pub fn core_talk_is_determined()
     ensures { CoreTalkIsDetermined }
 {
@@ -43,8 +43,8 @@ pub fn work_is_done_in_order()
 {}
 
 /// A law: a `CoreDesk` carries a piece of work out at once only where keeping it would take more memory: no ask does so
-/// while there is room for one piece more, and no wait, which takes a piece off first, while no more is outstanding than
-/// there is room for.
+/// while there is room for one piece more, and no wait, which takes a piece off first, while no more is outstanding
+/// than there is room for.
 pub fn work_is_kept_where_there_is_room()
     ensures { WorkIsKeptWhereThereIsRoom }
 {}

@@ -1,9 +1,7 @@
 //! The servers of a session's two channels.
 
-ghost use Rattle.std.specs.Prelude.{◌≡◌, ◌⊎◌, Err};
 ghost use Rattle.sw_session.specs.Talk.{turns};
-ghost use Rattle.sw_session.specs.ServeRead.{CameTo, MayPause};
-ghost use Rattle.sw_session.specs.ServeEngine.{ServesChannel};
+ghost use Rattle.sw_session.specs.ServeConnection.{ServesConnection};
 
 use crate::asking::TURNS;
 use crate::desk::Desk;
@@ -25,11 +23,8 @@ pub fn serve_sync_for<R: Source, W: Sink, S: Sink, D: Desk>(
     desk: &mut D,
     turns: u64,
 ) -> Result<(), ServeFault>
-    ensures serves { ServesChannel D.passes Channel.Synchronous (MayPause R.paused) turns desk.old desk.new
-        (R.remaining reader.old) (R.remaining reader.new)
-        (W.contents writer.old) (W.contents writer.new) (S.contents side.old) (S.contents side.new) result }
-    ensures read { result ≡ Err ServeFault.Read → CameTo R.failed reader.new }
-    ensures write { result ≡ Err ServeFault.Write → CameTo W.failed writer.new ⊎ CameTo S.failed side.new }
+    ensures { ServesConnection Channel.Synchronous turns D.passes R.Source W.Sink S.Sink
+        desk.old desk.new reader.old reader.new writer.old writer.new side.old side.new result }
 {
     let own = Channel::Synchronous;
     let mut engine = Engine::new(alloc, own);
@@ -47,11 +42,8 @@ pub fn serve_async_for<R: Source, W: Sink, S: Sink, D: Desk>(
     desk: &mut D,
     turns: u64,
 ) -> Result<(), ServeFault>
-    ensures serves { ServesChannel D.passes Channel.Asynchronous (MayPause R.paused) turns desk.old desk.new
-        (R.remaining reader.old) (R.remaining reader.new)
-        (W.contents writer.old) (W.contents writer.new) (S.contents side.old) (S.contents side.new) result }
-    ensures read { result ≡ Err ServeFault.Read → CameTo R.failed reader.new }
-    ensures write { result ≡ Err ServeFault.Write → CameTo W.failed writer.new ⊎ CameTo S.failed side.new }
+    ensures { ServesConnection Channel.Asynchronous turns D.passes R.Source W.Sink S.Sink
+        desk.old desk.new reader.old reader.new writer.old writer.new side.old side.new result }
 {
     let own = Channel::Asynchronous;
     let mut engine = Engine::new(alloc, own);
@@ -66,11 +58,8 @@ pub fn serve_sync<R: Source, W: Sink, S: Sink, D: Desk>(
     side: &mut S,
     desk: &mut D,
 ) -> Result<(), ServeFault>
-    ensures serves { ServesChannel D.passes Channel.Synchronous (MayPause R.paused) turns desk.old desk.new
-        (R.remaining reader.old) (R.remaining reader.new)
-        (W.contents writer.old) (W.contents writer.new) (S.contents side.old) (S.contents side.new) result }
-    ensures read { result ≡ Err ServeFault.Read → CameTo R.failed reader.new }
-    ensures write { result ≡ Err ServeFault.Write → CameTo W.failed writer.new ⊎ CameTo S.failed side.new }
+    ensures { ServesConnection Channel.Synchronous turns D.passes R.Source W.Sink S.Sink
+        desk.old desk.new reader.old reader.new writer.old writer.new side.old side.new result }
 {
     serve_sync_for(alloc, reader, writer, side, desk, TURNS)
 }
@@ -83,11 +72,8 @@ pub fn serve_async<R: Source, W: Sink, S: Sink, D: Desk>(
     side: &mut S,
     desk: &mut D,
 ) -> Result<(), ServeFault>
-    ensures serves { ServesChannel D.passes Channel.Asynchronous (MayPause R.paused) turns desk.old desk.new
-        (R.remaining reader.old) (R.remaining reader.new)
-        (W.contents writer.old) (W.contents writer.new) (S.contents side.old) (S.contents side.new) result }
-    ensures read { result ≡ Err ServeFault.Read → CameTo R.failed reader.new }
-    ensures write { result ≡ Err ServeFault.Write → CameTo W.failed writer.new ⊎ CameTo S.failed side.new }
+    ensures { ServesConnection Channel.Asynchronous turns D.passes R.Source W.Sink S.Sink
+        desk.old desk.new reader.old reader.new writer.old writer.new side.old side.new result }
 {
     serve_async_for(alloc, reader, writer, side, desk, TURNS)
 }

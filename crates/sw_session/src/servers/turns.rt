@@ -3,7 +3,8 @@
 ghost use Rattle.std.specs.Prelude.{◌≡◌, ◌⊎◌, Ok, Err};
 ghost use Rattle.sw_hislip.specs.Pending.{Waits};
 ghost use Rattle.sw_session.specs.ServeRead.{CameTo, MayPause};
-ghost use Rattle.sw_session.specs.Serve.{point, Listens, conclude, NextInput, HearsAll, TakesTurn, Runs, Leaves, Serves};
+ghost use Rattle.sw_session.specs.Serve.{point, Listens, conclude, NextInput, HearsAll, TakesTurn};
+ghost use Rattle.sw_session.specs.Serve.{Runs, Leaves, Serves};
 
 use crate::desk::Desk;
 use crate::engine::Channel;
