@@ -1,5 +1,6 @@
 -- Parts of a server's run, one after another.
-use Rattle.std.proofs.Common.{◌≡◌, ℕ, zero, suc, ◌+◌, ◌<◌, List, [], ◌∷◌, ◌++◌, refl, sym, ap, ap₂, ◌∙◌, append_assoc, append-nil, arith, inl, inr, subst, flat_map, Ok, Err, Some, None, Option, Result}
+use Rattle.std.proofs.Common.{◌≡◌, ℕ, zero, suc, ◌+◌, ◌<◌, List, [], ◌∷◌, ◌++◌, refl, sym, ap, ap₂, ◌∙◌, append_assoc, append-nil, arith, inl, inr, subst}
+use Rattle.std.proofs.Common.{flat_map, Ok, Err, Some, None, Option, Result}
 use Rattle.std.proofs.lemmas.List.Concat.{flat_map-append}
 use Rattle.std.specs.Io.KnownBytes.{Appends}
 use Rattle.sw_hislip.specs.declared.fault.WireFault.TheVariants.{BadPrologue, TooLarge, NoMemory}
@@ -19,7 +20,8 @@ use Rattle.sw_session.specs.declared.servers.fault.ServeFault.TheVariants as Fau
 use Rattle.sw_session.specs.Trace.{Entry, Leads}
 use Rattle.sw_session.specs.EngineStep.{LedBy}
 use Rattle.sw_session.specs.ServeWrite.{wire_on, wire_off, WritesPart, Sends}
-use Rattle.sw_session.specs.Serve.{Voice, Exchange, Speaks, acts_of, asks_of, said_of, arrived, is_refused, after_of, notes_of, pauses, is_pause, Point, point, Spoken, Stops, Breaks, GoesThrough, Hears, IsCutOff, Finds, Tells}
+use Rattle.sw_session.specs.Serve.{Voice, Exchange, Speaks, acts_of, asks_of, said_of, arrived, is_refused, after_of, notes_of, pauses, is_pause, Point, point}
+use Rattle.sw_session.specs.Serve.{Spoken, Stops, Breaks, GoesThrough, Hears, IsCutOff, Finds, Tells}
 use Rattle.sw_session.proofs.ServeKnown.{appends-nothing, appends-more}
 
 -- ---- the engine's definition

@@ -1,5 +1,6 @@
 -- Turns of a server, one after another.
-use Rattle.std.proofs.Common.{◌≡◌, ℕ, ◌+◌, ◌<◌, ◌≤◌, false, List, [], ◌∷◌, ◌++◌, length, refl, sym, ap, ◌∙◌, append_assoc, append-nil, length-append, arith, inl, inr, subst, flat_map, Ok, Err, Option, Result}
+use Rattle.std.proofs.Common.{◌≡◌, ℕ, ◌+◌, ◌<◌, ◌≤◌, false, List, [], ◌∷◌, ◌++◌, length, refl, sym, ap, ◌∙◌, append_assoc, append-nil, length-append, arith}
+use Rattle.std.proofs.Common.{inl, inr, subst, flat_map, Ok, Err, Option, Result}
 use Rattle.std.specs.Prelude.{IfOk, Bool}
 use Rattle.std.proofs.lemmas.List.Concat.{flat_map-append}
 use Rattle.std.specs.Io.KnownBytes.{Consumes}
@@ -18,9 +19,11 @@ use Rattle.sw_session.specs.declared.servers.turns.Came.TheVariants as Came
 use Rattle.sw_session.specs.declared.servers.turns.Next.{Next}
 use Rattle.sw_session.specs.declared.servers.turns.Next.TheVariants.{On, Over}
 use Rattle.sw_session.specs.Trace.{Entry}
-use Rattle.sw_session.specs.Serve.{Voice, acts_for, arrived, pauses, Point, Stops, GoesThrough, Judges, HearsEach, HoldsMessage, Tells, Stands, Listens, HearsAll, conclude, Loses, EndsWell, FailsBy, EndsTurn, TakesTurn, EndsRun, Runs}
+use Rattle.sw_session.specs.Serve.{Voice, acts_for, arrived, pauses, Point, Stops, GoesThrough, Judges, HearsEach, HoldsMessage, Tells, Stands, Listens}
+use Rattle.sw_session.specs.Serve.{HearsAll, conclude, Loses, EndsWell, FailsBy, EndsTurn, TakesTurn, EndsRun, Runs}
 use Rattle.sw_session.proofs.ServeKnown.{consumes-nothing, consumes-more}
-use Rattle.sw_session.proofs.ServeParts.{pauses-then, none-paused, either-paused, tells-nothing, tells-then, tells-paused, tells-fed, goes-nowhere, goes-then, stops-then}
+use Rattle.sw_session.proofs.ServeParts.{pauses-then, none-paused, either-paused, tells-nothing, tells-then, tells-paused, tells-fed, goes-nowhere, goes-then}
+use Rattle.sw_session.proofs.ServeParts.{stops-then}
 
 none-lost : (input left : Option (List ℕ)) (piece : List ℕ) → Consumes input left piece → Consumes input left (piece ++ [])
 none-lost input left piece c = subst (λ (l : List ℕ). Consumes input left l) (sym (append-nil piece)) c

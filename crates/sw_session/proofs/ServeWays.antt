@@ -1,5 +1,6 @@
 -- The ways of a turn, and turns one after another.
-use Rattle.std.proofs.Common.{◌≡◌, ℕ, ◌+◌, ◌<◌, List, [], ◌∷◌, ◌++◌, length, drop, refl, sym, ap, ◌∙◌, append_assoc, append-nil, length-append, arith, inl, inr, subst, flat_map, Ok, Err, Some, None, Option, Result}
+use Rattle.std.proofs.Common.{◌≡◌, ℕ, ◌+◌, ◌<◌, List, [], ◌∷◌, ◌++◌, length, drop, refl, sym, ap, ◌∙◌, append_assoc, append-nil, length-append, arith, inl, inr}
+use Rattle.std.proofs.Common.{subst, flat_map, Ok, Err, Some, None, Option, Result}
 use Rattle.std.proofs.lemmas.List.{length-drop}
 use Rattle.std.proofs.lemmas.List.Concat.{flat_map-append}
 use Rattle.sw_hislip.specs.Wire.{header, header_of}
@@ -13,8 +14,10 @@ use Rattle.sw_session.specs.declared.servers.fault.ServeFault.{ServeFault}
 use Rattle.sw_session.specs.declared.servers.turns.Came.{Came}
 use Rattle.sw_session.specs.declared.servers.turns.Next.{Next}
 use Rattle.sw_session.specs.Trace.{Entry}
-use Rattle.sw_session.specs.Serve.{Voice, acts_for, is_refused, pauses, Point, Stops, GoesThrough, Judges, Hears, HearsEach, Finds, HoldsMessage, NextInput, Tells, Stands, Listens, HearsAll, TakesTurn}
-use Rattle.sw_session.proofs.ServeParts.{found-unpaused, none-more, tells-nothing, tells-then, tells-found, goes-nowhere, goes-then, ends-before, stops-then, stops-at}
+use Rattle.sw_session.specs.Serve.{Voice, acts_for, is_refused, pauses, Point, Stops, GoesThrough, Judges, Hears, HearsEach, Finds, HoldsMessage, NextInput}
+use Rattle.sw_session.specs.Serve.{Tells, Stands, Listens, HearsAll, TakesTurn}
+use Rattle.sw_session.proofs.ServeParts.{found-unpaused, none-more, tells-nothing, tells-then, tells-found, goes-nowhere, goes-then, ends-before, stops-then}
+use Rattle.sw_session.proofs.ServeParts.{stops-at}
 
 -- ---- results that are known
 

@@ -1,6 +1,7 @@
 -- What a server of one channel asks and writes for what it reads. An engine is asked act by act; one list has each act
 -- with what was asked and said for it.
-use Rattle.std.specs.Prelude.{◌≡◌, ◌≢◌, ℕ, ◌+◌, ◌<◌, ◌≤◌, ◌⊎◌, Bool, true, false, List, [], ◌∷◌, ◌++◌, length, map, Option, None, Some, Result, Ok, Err, if◌then◌else◌}
+use Rattle.std.specs.Prelude.{◌≡◌, ◌≢◌, ℕ, ◌+◌, ◌<◌, ◌≤◌, ◌⊎◌, Bool, true, false, List, [], ◌∷◌, ◌++◌, length, map}
+use Rattle.std.specs.Prelude.{Option, None, Some, Result, Ok, Err, if◌then◌else◌}
 use Rattle.std.specs.List.{flat_map, list_any}
 use Rattle.std.specs.Io.KnownBytes.{Appends, Consumes, IsAtEnd}
 use Rattle.sw_hislip.specs.declared.fault.WireFault.TheVariants.{TooLarge, BadPrologue}
@@ -27,8 +28,8 @@ use Rattle.sw_session.specs.declared.servers.turns.Next.TheVariants.{On, Over}
 use Rattle.sw_session.specs.Trace.{Entry, Asked, Noted, Leads}
 use Rattle.sw_session.specs.ServeWrite.{wire_on, wire_off, WritesPart}
 
--- An engine's definition: what it asks and says to an act, and where it stands then; what it may have asked, and where it
--- may stand, where it found no memory; and which session it has joined.
+-- An engine's definition: what it asks and says to an act, and where it stands then; what it may have asked, and where
+-- it may stand, where it found no memory; and which session it has joined.
 pub record Voice (E : Type 0) : Type 1 where
   pub speaks : E → Act → List Entry → Step → E → Type 0
   pub falters : E → Act → List Entry → E → Type 0
@@ -286,8 +287,8 @@ EndsWell v passes own a b acts p left = (GoesThrough v passes own a b acts Goes 
 abbrev pub LacksMemory : Pending → List ℕ → Type 0
 LacksMemory p lost = (0 < length lost) ⊎ HoldsMessage p
 
--- Why a run fails: after a read fault all that was read is gone through; a wrong prologue stands in a message's place, or
--- the engine met a fatal error; ReadBound comes after as many bytes and pauses as there are turns.
+-- Why a run fails: after a read fault all that was read is gone through; a wrong prologue stands in a message's place,
+-- or the engine met a fatal error; ReadBound comes after as many bytes and pauses as there are turns.
 abbrev pub FailsBy : {E D : Type 0} → Voice E → (D → Entry → D → Type 0) → Channel → Point E D → Point E D → List Act
     → Pending → List ℕ → ℕ → ℕ → ServeFault → Type 0
 FailsBy v passes own a b acts p lost turns n Fault.Read = GoesThrough v passes own a b acts Goes × Waits p.bytes

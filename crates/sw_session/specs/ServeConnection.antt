@@ -9,8 +9,8 @@ use Rattle.sw_session.specs.Trace.{Entry}
 use Rattle.sw_session.specs.ServeRead.{CameTo, MayPause}
 use Rattle.sw_session.specs.ServeEngine.{ServesChannel}
 
--- The channel is served, of the bytes that the reader has left and those that the writers hold. A fault of reading comes
--- where a read failed, and one of writing where a write failed.
+-- The channel is served, with the bytes that the reader has left and those that the writers hold. A fault of reading
+-- comes where a read failed, and one of writing where a write failed.
 pub record ServesConnection {D R W S : Type 0} (own : Channel) (turns : ℕ) (passes : D → Entry → D → Type 0)
     (reads : Source.Ghosts R) (writes : Sink.Ghosts W) (writes_aside : Sink.Ghosts S)
     (desk desk' : D) (reader reader' : R) (writer writer' : W) (side side' : S)

@@ -12,7 +12,8 @@ use Rattle.sw_session.specs.declared.servers.act.Act.{Act}
 use Rattle.sw_session.specs.declared.servers.fault.ServeFault.{ServeFault}
 use Rattle.sw_session.specs.Trace.{Entry, Polled}
 use Rattle.sw_session.specs.EngineStep.{goes, says, fails, Unasked}
-use Rattle.sw_session.specs.Engine.{EngineStanding, fresh, Takes, Falters, session_of, channel_of, too_large, skips, notice_from, noticed_from}
+use Rattle.sw_session.specs.Engine.{EngineStanding, fresh, Takes, Falters, session_of, channel_of, too_large, skips}
+use Rattle.sw_session.specs.Engine.{notice_from, noticed_from}
 use Rattle.sw_session.specs.Serve.{Voice, Serves, point}
 
 -- a service request that is told, if any

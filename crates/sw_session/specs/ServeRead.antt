@@ -12,7 +12,8 @@ Gives (Err e) None = Unit {0}
 
 -- What an error of this kind comes to: interrupted, the read is asked again; one of the two kinds of a time limit ended
 -- it; it failed.
-pub record ComesTo {K : Type 0} (interrupted timed_out would_block kind : K) (told : Option (Result ℕ Unread)) : Type 0 where
+pub record ComesTo {K : Type 0} (interrupted timed_out would_block kind : K)
+    (told : Option (Result ℕ Unread)) : Type 0 where
   pub again : kind ≡ interrupted → told ≡ None
   pub limit : (kind ≡ timed_out) ⊎ (kind ≡ would_block) → told ≡ Some (Err Paused)
   pub failure : kind ≢ interrupted → kind ≢ timed_out → kind ≢ would_block → told ≡ Some (Err Failed)

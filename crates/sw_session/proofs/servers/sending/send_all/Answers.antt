@@ -3,10 +3,12 @@ use Rattle.sw_session.proofs.ServeKnown.{writing-on, writing-cut}
 use Rattle.sw_session.proofs.servers.sending.send_all.Goals as goal
 
 pub returns-in-Err-clause-main : goal.returns-in-Err-clause-main
-returns-in-Err-clause-main g c = writing-cut (wire_on c.args.own) c.args.out.now _ _ _ _ _ _ c.in-Some.ensures.cases.0 c.loop-first.invariant.main c.in-Err.ensures.main
+returns-in-Err-clause-main g c =
+    writing-cut (wire_on c.args.own) c.args.out.now _ _ _ _ _ _ c.in-Some.ensures.cases.0 c.loop-first.invariant.main c.in-Err.ensures.main
 
 pub returns-in-Err-clause-side : goal.returns-in-Err-clause-side
-returns-in-Err-clause-side g c = writing-cut (wire_off c.args.own) c.args.out.now _ _ _ _ _ _ c.in-Some.ensures.cases.0 c.loop-first.invariant.side c.in-Err.ensures.side
+returns-in-Err-clause-side g c =
+    writing-cut (wire_off c.args.own) c.args.out.now _ _ _ _ _ _ c.in-Some.ensures.cases.0 c.loop-first.invariant.side c.in-Err.ensures.side
 
 pub loop-first-preserved : goal.loop-first-preserved
 loop-first-preserved g c = record {

@@ -9,7 +9,8 @@ loop-turn-init g c = going-start g.E.Speaker.voice g.D.Desk.passes _ _ _ _ _ c.n
 
 pub loop-turn-preserved : goal.loop-turn-preserved
 loop-turn-preserved g c =
-    going-on g.E.Speaker.voice g.D.Desk.passes _ _ _ _ _ _ _ _ _ _ _ _ c.loop-turn.invariant (turn-is g.E.Speaker.voice g.D.Desk.passes _ _ _ _ _ _ _ _ c.take_turn.result (Ok On) (search rules) c.take_turn.ensures.turn)
+    going-on g.E.Speaker.voice g.D.Desk.passes _ _ _ _ _ _ _ _ _ _ _ _ c.loop-turn.invariant
+    (turn-is g.E.Speaker.voice g.D.Desk.passes _ _ _ _ _ _ _ _ c.take_turn.result (Ok On) (search rules) c.take_turn.ensures.turn)
 
 pub returns-in-Ok-Over-clause-runs : goal.returns-in-Ok-Over-clause-runs
 returns-in-Ok-Over-clause-runs g c =
@@ -17,7 +18,11 @@ returns-in-Ok-Over-clause-runs g c =
     (turn-is g.E.Speaker.voice g.D.Desk.passes _ _ _ _ _ _ _ _ c.take_turn.result (Ok Over) (search rules) c.take_turn.ensures.turn)
 
 pub returns-in-Err-clause-runs : goal.returns-in-Err-clause-runs
-returns-in-Err-clause-runs g c = runs-fault g.E.Speaker.voice g.D.Desk.passes _ _ _ _ _ _ _ _ _ _ _ _ c.in-Err.fault c.every_message_comes_out.ensures c.nothing_whole_is_left.ensures c.loop-turn.invariant c.in-Err.ensures.turn
+returns-in-Err-clause-runs g c =
+    runs-fault g.E.Speaker.voice g.D.Desk.passes _ _ _ _ _ _ _ _ _ _ _ _ c.in-Err.fault c.every_message_comes_out.ensures c.nothing_whole_is_left.ensures
+    c.loop-turn.invariant c.in-Err.ensures.turn
 
 pub returns-clause-runs : goal.returns-clause-runs
-returns-clause-runs g c = runs-bound g.E.Speaker.voice g.D.Desk.passes _ _ _ _ _ _ _ _ _ c.every_message_comes_out.ensures c.nothing_whole_is_left.ensures c.loop-turn.invariant (search rules)
+returns-clause-runs g c =
+    runs-bound g.E.Speaker.voice g.D.Desk.passes _ _ _ _ _ _ _ _ _ c.every_message_comes_out.ensures c.nothing_whole_is_left.ensures c.loop-turn.invariant
+    (search rules)
