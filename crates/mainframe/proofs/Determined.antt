@@ -153,8 +153,8 @@ run_once step talk rest cards sid sid' start start' input bytes bytes' s s' r r'
     let lines : r.done ≡ r'.done = all_lines input r.done r.lines ∙ sym (all_lines input r'.done r'.lines) in
     let Same : Sid → Panel → List (List ℕ) → Type 0 = λ i p ls. (x : Run i (begins_over p) ls bytes r.after) → IsPlainRun i (begins_over p) ls bytes r.after x
     → outcomes_in_run i (begins_over p) ls bytes r.after x ≡ outcomes_in_run sid' (begins_over start') r'.done bytes' r'.after r'.run → bytes ≡ bytes' in
-    let last : Same sid' start' r'.done = λ x y z. run_same talk rest sid' (begins_over start') (begins_over start') r'.done bytes bytes' r.after r'.after x r'.run
-    (record { desks = refl; macros = refl }) y a' z in
+    let last : Same sid' start' r'.done = λ x y z. run_same talk rest sid' (begins_over start') (begins_over start') r'.done bytes bytes' r.after r'.after x
+    r'.run (record { desks = refl; macros = refl }) y a' z in
     let by_lines : Same sid' start' r.done = subst (λ (ls : List (List ℕ)). Same sid' start' ls) (sym lines) last in
     let by_start : Same sid' start r.done = subst (λ (p : Panel). Same sid' p r.done) (sym u.1) by_lines in
     let by_sid : Same sid start r.done = subst (λ (i : Sid). Same i start r.done) (sym u.0) by_start in

@@ -32,7 +32,13 @@ events-snoc (x ∷ made) m = omega (arith, events-snoc made m)
 pub carries-more : (work left next : Option WorkView) (piece : WorkView) (old mid new : ℕ) → CarriesOn work left old mid → left ≡ Some piece
     → Ends piece mid next new → CarriesOn work next old new
 carries-more work left next piece old mid new h is ends =
-    let m : Made = record { before = ends.told.asks.before; ask = ends.ask; failed = ends.told.asks.failed; answer = ends.told.answer; after = ends.told.asks.after } in record {
+    let m : Made = record {
+      before = ends.told.asks.before;
+      ask = ends.ask;
+      failed = ends.told.asks.failed;
+      answer = ends.told.answer;
+      after = ends.told.asks.after;
+    } in record {
       made = h.made ++ m ∷ [];
       on = λ more c. subst (λ (u : List Made). Carries work u) (sym (append_assoc h.made (m ∷ []) more))
           (h.on (m ∷ more) (subst (λ (o : Option WorkView). Carries o (m ∷ more)) (sym is)

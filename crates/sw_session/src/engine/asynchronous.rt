@@ -1,4 +1,4 @@
-//! The asynchronous channel of a session.
+//! The asynchronous channel of a session: its first message, the messages after it, and service requests.
 
 ghost use Rattle.std.specs.Prelude.{◌≡◌, ◌≢◌, IfOk, OnErr};
 ghost use Rattle.sw_session.specs.Trace.{Leads};
@@ -16,6 +16,7 @@ use crate::engine::refusals::{ErrorCode, FatalCode, error};
 use crate::engine::requests::{AsyncRequest, async_request};
 use crate::engine::responses::{plain, size_response, size_told, status_byte, tells_delivery};
 use crate::engine::step::{Channel, Reply, Step, step_of};
+use crate::engine::synchronous::is_done;
 use std::alloc::{AllocError, Global};
 use std::marker::Model;
 use sw_core::{SessionAnswer, SessionAsk, Sid};
@@ -233,9 +234,7 @@ fn clear<D: Desk>(alloc: Global, sid: Sid, desk: &mut D) -> Reply
 fn on_done(answer: SessionAnswer, response: Message) -> Reply
     ensures { reply_step Asynchronous result ≡ on_done Asynchronous response answer }
 {
-    let done = matches!(&answer, SessionAnswer::Done(_));
-    drop(answer);
-    if done {
+    if is_done(answer) {
         Reply::Says(response)
     } else {
         Reply::Leaves

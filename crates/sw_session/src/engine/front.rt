@@ -1,4 +1,4 @@
-//! The front of a program message.
+//! The parts of a program message that came so far.
 
 ghost use Rattle.std.specs.Prelude.{◌≡◌, IfOk};
 ghost use Rattle.sw_session.specs.EngineSync.{with_part, whole, skipped, is_within};

@@ -1,4 +1,4 @@
-//! The synchronous channel of a session, after its first message.
+//! The synchronous channel of a session after its first message: program messages in parts, and their answers.
 
 ghost use Rattle.std.specs.Prelude.{◌≡◌, ◌≢◌, ◌≤◌, ◌++◌, List, [], map, true, false, IfOk, OnErr, vec_capacity};
 ghost use Rattle.sw_session.specs.EngineSync as EngineSync;

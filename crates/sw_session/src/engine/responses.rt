@@ -1,4 +1,4 @@
-//! Responses of the instrument.
+//! Responses to the client: messages that only tell something.
 
 ghost use Rattle.std.specs.Prelude.{◌≡◌, IfOk};
 ghost use Rattle.sw_session.specs.EngineMessages.{plain, size_told, size_response, tells_delivery, status_byte};

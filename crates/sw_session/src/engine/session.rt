@@ -1,4 +1,4 @@
-//! One channel of a session.
+//! The engine of one channel: which channel of which session it is, from the first message on.
 
 ghost use Rattle.std.specs.Prelude.{◌≡◌, ◌≤◌, [], true, false, IfOk, OnErr, OnOk, vec_capacity};
 ghost use Rattle.sw_session.specs.Engine.{fresh, Takes, session_of, Falters, FaltersAt, too_large, skips, notice_from};

@@ -1,4 +1,4 @@
-//! What an engine says.
+//! What an engine says to one message, and on which connection.
 
 ghost use Rattle.std.specs.Prelude.{◌≡◌, ◌≤◌, [], vec_capacity};
 ghost use Rattle.sw_session.specs.EngineStep.{reply_step};

@@ -1,4 +1,5 @@
-//! Parts of the synchronous channel of a session.
+//! What the synchronous channel asks of a desk beside program messages: its session, whether the second channel stands,
+//! what became of the last answer, a trigger, the end of a device clear.
 
 ghost use Rattle.std.specs.Prelude.{◌≡◌, ℕ, true, [], IfSome};
 ghost use Rattle.sw_session.specs.Trace.{Led};
@@ -174,7 +175,7 @@ pub fn complete<D: Desk>(alloc: Global, sid: Sid, desk: &mut D) -> Reply
 }
 
 /// Whether what was asked is done.
-fn is_done(answer: SessionAnswer) -> bool
+pub fn is_done(answer: SessionAnswer) -> bool
     ensures { result ≡ is_done answer }
 {
     let done = matches!(&answer, SessionAnswer::Done(_));
