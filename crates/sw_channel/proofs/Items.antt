@@ -113,7 +113,7 @@ pub items_stop : (text left right : List ℕ) → Lacks 44 left → text ≡ lef
     → ((is : List Item) × IsItems text is) → ⊥
 items_stop text left right h e none x = let r = items_cut text left right h e x.0 x.1 in none r.0 r.3
 
-one_items : (text : List ℕ) (is js : List Item) → IsItems text is → IsItems text js → is ≡ js
+pub one_items : (text : List ℕ) (is js : List Item) → IsItems text is → IsItems text js → is ≡ js
 one_items text [] js p q = absurd p
 one_items text (i ∷ []) js p q =
     let r = items_last text (item_lacks text i p) js q in

@@ -14,7 +14,9 @@ use Rattle.sw_base.specs.declared.error.ScpiError.TheVariants.{InvalidExpression
 use Rattle.sw_channel.specs.Grammar.{Item, IsItems, IsList}
 use Rattle.sw_channel.specs.Meaning.{channels_of, channels_between, count_between, towards, Mean, Spells, judged, judged_with}
 use Rattle.sw_channel.specs.Reading.{IsNoList, IsRefusedList, Reads}
-use Rattle.sw_channel.specs.Seen.{LeadsTo, counted, Judges}
+use Rattle.sw_channel.specs.Seen.{channels_in, MeansRun, LeadsTo, Gathers}
+use Rattle.sw_channel.specs.declared.run.Run.{Run}
+use Rattle.sw_channel.specs.declared.collect.Found.{Found}
 use Rattle.sw_channel.proofs.Items.{one_list, list_body}
 
 abbrev done : List Channel → Result (List Channel) ScpiError
@@ -159,63 +161,57 @@ malformed_by view (Err e) text h k =
       | inr m ↦ absurd (let z : InvalidExpression ≡ OutOfMemory = sym n ∙ m.0 in cc)
     ]
 
--- ---- judging without keeping the channels
-
-pub leads_none : (n : ℕ) (i : Item) (is : List Item) (all : Result (List Channel) ScpiError) → channels_of i ≡ None → LeadsTo (Ok n) (i ∷ is) all
-    → all ≡ Err DataOutOfRange
-leads_none n i is all e h = let k = rw e at h.2 in sym k
+-- ---- judging one item after another
 
 pub length-between : (slot first last : ℕ) → length (channels_between slot first last) ≡ count_between first last
 length-between slot first last = length-map-range_with_len (λ k. (slot, towards first last k)) 0 (count_between first last)
 
-pub leads_fits : (n : ℕ) (i : Item) (is : List Item) (all : Result (List Channel) ScpiError) (slot first last more : ℕ)
-    → channels_of i ≡ Some (channels_between slot first last) → more ≡ count_between first last → n ≤ 512 - more → more ≤ 99 → LeadsTo (Ok n) (i ∷ is) all
-    → LeadsTo (Ok (n + more)) is all
-leads_fits n i is all slot first last more e m h k x =
-    let room : nat_le (length x.0 + length (channels_between slot first last)) 512 ≡ true =
-    le-leb _ _ (omega (arith, h, k, m, x.1, length-between slot first last)) in
-    let y = rw (e, room) at x.2 in
-    (x.0 ++ channels_between slot first last, omega (arith, length-append x.0 (channels_between slot first last), length-between slot first last, m, x.1), y)
+pub leads_none : (f : Found) (i : Item) (is : List Item) (all : Result (List Channel) ScpiError) → MeansRun i None → LeadsTo (Ok f) (i ∷ is) all
+    → all ≡ Err DataOutOfRange
+leads_none f i is all e h = let k = rw e at h.3 in sym k
 
-pub leads_full : (n : ℕ) (i : Item) (is : List Item) (all : Result (List Channel) ScpiError) (slot first last more : ℕ)
-    → channels_of i ≡ Some (channels_between slot first last) → more ≡ count_between first last → 512 - more < n → LeadsTo (Ok n) (i ∷ is) all
+pub leads_fits : (f g : Found) (i : Item) (is : List Item) (all : Result (List Channel) ScpiError) (run : Run) (more : ℕ)
+    → MeansRun i (Some run) → more ≡ count_between run.first.1 run.last.1 → f.count ≤ 512 - more → more ≤ 99 → g.count ≡ f.count + more
+    → ((front : List Channel) → IfOk f.chans (λ v. v.items ≡ front) → IfOk g.chans (λ v. v.items ≡ front ++ channels_in run))
+    → LeadsTo (Ok f) (i ∷ is) all → LeadsTo (Ok g) is all
+leads_fits f g i is all run more e m h k n c x =
+    let l = length-between run.first.0 run.first.1 run.last.1 in
+    let room : nat_le (length x.0 + length (channels_in run)) 512 ≡ true = le-leb _ _ (omega (arith, h, k, m, x.1, l)) in
+    let y = rw (e, room) at x.3 in
+    (x.0 ++ channels_in run, omega (arith, length-append x.0 (channels_in run), l, m, n, x.1), c x.0 x.2, y)
+
+pub leads_full : (f : Found) (i : Item) (is : List Item) (all : Result (List Channel) ScpiError) (run : Run) (more : ℕ)
+    → MeansRun i (Some run) → more ≡ count_between run.first.1 run.last.1 → 512 - more < f.count → LeadsTo (Ok f) (i ∷ is) all
     → all ≡ Err TooMuchData
-leads_full n i is all slot first last more e m h x =
-    let full : nat_le (length x.0 + length (channels_between slot first last)) 512 ≡ false =
-    lt-leb _ _ (omega (arith, h, m, x.1, length-between slot first last)) in
-    let y = rw (e, full) at x.2 in sym y
+leads_full f i is all run more e m h x =
+    let l = length-between run.first.0 run.first.1 run.last.1 in
+    let full : nat_le (length x.0 + length (channels_in run)) 512 ≡ false = lt-leb _ _ (omega (arith, h, m, x.1, l)) in
+    let y = rw (e, full) at x.3 in sym y
 
-pub leads_done : (r : Result ℕ ScpiError) (all : Result (List Channel) ScpiError) → LeadsTo r [] all → r ≡ counted all
-leads_done (Ok n) all h = rw (← h.2) (ap Ok (sym h.1))
-leads_done (Err e) all h = rw h refl
-
-counted_ok : (all : Result (List Channel) ScpiError) (n : ℕ) → Ok n ≡ counted all → (cs : List Channel) × (all ≡ Ok cs)
-counted_ok (Ok cs) n e = (cs, refl)
-counted_ok (Err d) n e = absurd cc
-
-counted_err : (all : Result (List Channel) ScpiError) (e : ScpiError) → Err e ≡ counted all → all ≡ Err e
-counted_err (Ok cs) e k = absurd cc
-counted_err (Err d) e k = let z : d ≡ e = cc in ap Err z
-
-pub items_judged : (body : List ℕ) (n : ℕ) → Judges body (Ok n) → (is : List Item) × (cs : List Channel) × IsItems body is × (judged [] is ≡ Ok cs)
-items_judged body n h =
-    elim h [
-      | inl x ↦ absurd (let z = x.1 in cc)
-      | inr x ↦ let y = counted_ok (judged [] x.0) n x.2 in (x.0, y.0, x.1, y.1)
-    ]
-
-pub items_refused : (text body : List ℕ) (e : ScpiError) → text ≡ 40 ∷ 64 ∷ (body ++ 41 ∷ []) → Judges body (Err e) → IsRefusedList text e
-items_refused text body e t h =
-    elim h [
-      | inl x ↦ inl (λ is l. x.0 is (list_body body text is t l), let z = x.1 in cc)
-      | inr x ↦ inr (x.0, (body, x.1, t), counted_err (judged [] x.0) e x.2)
-    ]
-
-pub items_spelled : (text body : List ℕ) (is : List Item) (cs : List Channel) → text ≡ 40 ∷ 64 ∷ (body ++ 41 ∷ []) → IsItems body is → judged [] is ≡ Ok cs
+items_spelled : (text body : List ℕ) (is : List Item) (cs : List Channel) → text ≡ 40 ∷ 64 ∷ (body ++ 41 ∷ []) → IsItems body is → judged [] is ≡ Ok cs
     → Spells text cs × (length cs ≤ 512)
 items_spelled text body is cs t h e =
     let j = judged_ok [] cs is e (lit≤ tt) in
     ((is, (body, h, t), subst (λ (ds : List Channel). Mean is ds) (sym j.1) j.2), j.3)
+
+due_read : (text body : List ℕ) (is : List Item) (r : Result (List Channel) ScpiError) → text ≡ 40 ∷ 64 ∷ (body ++ 41 ∷ []) → IsItems body is → r ≡ judged [] is
+    → Reads text r
+due_read text body is (Ok cs) t h e = items_spelled text body is cs t h (sym e)
+due_read text body is (Err d) t h e = inl (inr (is, (body, h, t), sym e))
+
+-- what stands between the brackets is read as the list is
+pub items_read : (text body : List ℕ) (r : Result (List Channel) ScpiError) → text ≡ 40 ∷ 64 ∷ (body ++ 41 ∷ []) → Gathers body r
+    → Reads text r
+items_read text body r t h =
+    elim h [
+      | inl x ↦ rw x.1 (inl (inl (λ is l. x.0 is (list_body body text is t l), refl)))
+      | inr x ↦ elim x.2 [
+        | inl y ↦ due_read text body x.0 r t x.1 y
+        | inr y ↦
+            let s = items_spelled text body x.0 y.1.0 t x.1 y.1.1 in
+            rw y.0 (inr (refl, (y.1.0, s.0, s.1)))
+      ]
+    ]
 
 -- ---- the channels of a range, one after another
 

@@ -1,4 +1,5 @@
 pub mod Marks
 pub mod Items
+pub mod Parts
 pub mod Judging
 pub mod Printed

@@ -1,49 +1,80 @@
 -- What was read of a text, without where it lies in memory.
-use Rattle.std.specs.Prelude.{◌≡◌, ℕ, List, length, Result, Ok, Err, ◌⊎◌, []}
-use Rattle.std.specs.Result.{result_map_both}
+use Rattle.std.specs.Prelude.{◌≡◌, ℕ, ◌<◌, Bool, true, ◌==◌, ◌||◌, List, [], ◌++◌, ◌∷◌, length, Option, Result, Ok, Err, ◌⊎◌, IfOk}
+use Rattle.std.specs.Option.{option_map}
 use Rattle.sw_base.specs.Layout.{Channel}
-use Rattle.sw_base.specs.Text.{AllPass, is_digit}
-use Rattle.sw_channel.specs.Grammar.{WrittenChannel, plain, pair, Item, one, range, IsItems}
+use Rattle.sw_base.specs.Text.{is_digit, Spans}
 use Rattle.sw_base.specs.declared.error.ScpiError.{ScpiError}
-use Rattle.sw_base.specs.declared.error.ScpiError.TheVariants.{InvalidExpression}
-use Rattle.sw_channel.specs.Meaning.{channels_between, judged}
-use Rattle.sw_channel.specs.declared.written.Place.{Place}
-use Rattle.sw_channel.specs.declared.written.Place.TheVariants as places
-use Rattle.sw_channel.specs.declared.written.Entry.{Entry}
-use Rattle.sw_channel.specs.declared.written.Entry.TheVariants as entries
+use Rattle.sw_base.specs.declared.error.ScpiError.TheVariants.{InvalidExpression, OutOfMemory}
+use Rattle.sw_channel.specs.Grammar.{WrittenChannel, Item, IsItems}
+use Rattle.sw_channel.specs.Meaning.{short_number, channel_of, channels_of, channels_between, judged}
 use Rattle.sw_channel.specs.declared.run.Run.{Run}
+use Rattle.sw_channel.specs.declared.collect.Found.{Found}
 
-abbrev pub place_seen : Place → WrittenChannel
-place_seen (places.Plain n) = plain n.now
-place_seen (places.Pair s c) = pair s.now c.now
+-- ---- parts at the front of a text
 
-abbrev pub entry_seen : Entry → Item
-entry_seen (entries.One p) = one (place_seen p)
-entry_seen (entries.Range p q) = range (place_seen p) (place_seen q)
+-- the marks that may follow an item, a channel and a number
+abbrev pub ends_item : ℕ → Bool
+ends_item b = b == 44
 
--- the numbers of a channel are digits
-abbrev pub AreDigits : WrittenChannel → Type 0
-AreDigits (plain n) = AllPass is_digit n
-AreDigits (pair s c) = AllPass is_digit s × AllPass is_digit c
+abbrev pub ends_channel : ℕ → Bool
+ends_channel b = b == 58 || ends_item b
 
-abbrev pub AreAllDigits : Item → Type 0
-AreAllDigits (one w) = AreDigits w
-AreAllDigits (range v w) = AreDigits v × AreDigits w
+abbrev pub ends_number : ℕ → Bool
+ends_number b = b == 33 || ends_channel b
+
+-- nothing is there, or a byte that passes the test
+abbrev pub EndsBy : (ℕ → Bool) → List ℕ → Type 0
+EndsBy test [] = Unit {0}
+EndsBy test (b ∷ bytes) = test b ≡ true
+
+-- a part at the front of a text, what it means, and what follows it; a part that stands there up to an end is this one
+pub record Leads {W M : Type 0} (Part : List ℕ → W → Type 0) (ends : ℕ → Bool) (Means : W → M → Type 0)
+    (text : List ℕ) (meant : M) (rest : List ℕ) : Type 0 where
+  pub front : List ℕ
+  pub written : W
+  pub part : Part front written
+  pub means : Means written meant
+  pub whole : text ≡ front ++ rest
+  pub only : (other tail : List ℕ) (w : W) → Part other w → EndsBy ends tail → text ≡ other ++ tail → tail ≡ rest
+
+-- no part stands there up to an end
+abbrev pub LeadsNone : {W : Type 0} → (List ℕ → W → Type 0) → (ℕ → Bool) → List ℕ → Type 0
+LeadsNone {W} Part ends text =
+    (other tail : List ℕ) (w : W) → Part other w → EndsBy ends tail → text ≡ other ++ tail → ⊥
+
+-- ---- what they mean
+
+abbrev pub MeansNumber : List ℕ → Option ℕ → Type 0
+MeansNumber digits number = number ≡ short_number digits
+
+-- digits at the front, their number, and what follows them
+abbrev pub LeadsDigits : List ℕ → Option ℕ → List ℕ → Type 0
+LeadsDigits text number rest = (digits : List ℕ) × Spans is_digit text digits rest × (0 < length digits)
+    × MeansNumber digits number
+
+abbrev pub MeansChannel : WrittenChannel → Option Channel → Type 0
+MeansChannel written chan = chan ≡ channel_of written
 
 -- the channels of a run
 abbrev pub channels_in : Run → List Channel
 channels_in run = channels_between run.first.0 run.first.1 run.last.1
 
--- What is found of the first items, the number of their channels or a refusal, and what is left of them lead to this.
-abbrev pub LeadsTo : Result ℕ ScpiError → List Item → Result (List Channel) ScpiError → Type 0
-LeadsTo (Ok n) items all = (front : List Channel) × (length front ≡ n) × (judged front items ≡ all)
+abbrev pub MeansRun : Item → Option Run → Type 0
+MeansRun item run = channels_of item ≡ option_map channels_in run
+
+-- ---- lists
+
+-- What is found of the first items, their channels or a refusal, and what is left of them lead to this.
+abbrev pub LeadsTo : Result Found ScpiError → List Item → Result (List Channel) ScpiError → Type 0
+LeadsTo (Ok found) items all = (front : List Channel) × (length front ≡ found.count)
+    × IfOk found.chans (λ v. v.items ≡ front) × (judged front items ≡ all)
 LeadsTo (Err e) items all = all ≡ Err e
 
--- a list of channels, seen as how many they are
-abbrev pub counted : Result (List Channel) ScpiError → Result ℕ ScpiError
-counted r = result_map_both length (λ e. e) r
+-- the answer that is due, or want of memory where channels are due
+abbrev pub Answers : Result (List Channel) ScpiError → Result (List Channel) ScpiError → Type 0
+Answers due r = (r ≡ due) ⊎ ((r ≡ Err OutOfMemory) × ((cs : List Channel) × (due ≡ Ok cs)))
 
--- the number of channels that the items name or their first refusal, or -171 where the text is no items
-abbrev pub Judges : List ℕ → Result ℕ ScpiError → Type 0
-Judges text r = (((is : List Item) → IsItems text is → ⊥) × (r ≡ Err InvalidExpression))
-    ⊎ ((is : List Item) × IsItems text is × (r ≡ counted (judged [] is)))
+-- the channels that the items name or their first refusal, or -171 where the text is no items
+abbrev pub Gathers : List ℕ → Result (List Channel) ScpiError → Type 0
+Gathers text r = (((is : List Item) → IsItems text is → ⊥) × (r ≡ Err InvalidExpression))
+    ⊎ ((is : List Item) × IsItems text is × Answers (judged [] is) r)

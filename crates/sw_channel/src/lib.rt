@@ -13,7 +13,6 @@ mod parse;
 mod print;
 mod read;
 mod run;
-mod written;
 
 pub use print::print_list;
 pub use read::{one_reading, read_list};

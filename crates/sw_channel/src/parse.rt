@@ -1,67 +1,134 @@
-//! From bytes to what is written: numbers, channels, items, and the body of a list.
+//! From bytes to what the parts of a list mean, each read at the front of a text: numbers, channels and items.
 
-ghost use Rattle.std.specs.Prelude.{◌≡◌, ◌↔◌, ◌∷◌, ◌++◌, List, [], ℕ, IfSome, IfNone, IsTrue};
-ghost use Rattle.sw_channel.specs.Grammar.{WrittenChannel, Item, IsPadded, IsChannel, IsItem, IsItems};
-ghost use Rattle.sw_channel.specs.Seen.{place_seen, entry_seen};
+ghost use Rattle.std.specs.Prelude.{◌≡◌, ◌∷◌, ◌++◌, List, [], ℕ, IfSome, IfNone};
+ghost use Rattle.sw_base.specs.Text.{is_digit, StartsOff};
+ghost use Rattle.sw_channel.specs.Grammar.{WrittenChannel, plain, pair, one, range, IsPadded, IsChannel, IsItem};
+ghost use Rattle.sw_channel.specs.Meaning.{channel_at};
+ghost use Rattle.sw_channel.specs.Seen.{ends_number, ends_channel, ends_item, Leads, LeadsNone, LeadsDigits};
+ghost use Rattle.sw_channel.specs.Seen.{MeansNumber, MeansChannel, MeansRun};
 
-use crate::written::{Entry, Place};
-use sw_base::{blanks, cut, digits};
+use crate::run::Run;
+use sw_base::{CHANNELS, Chan, SLOTS, blanks, eat, is_digit};
 
-/// The digits of a number with white space round it.
-fn read_number(text: &[u8]) -> Option<&[u8]>
-    ensures found { IfSome result (λ d. IsPadded text.now d.now) }
-    ensures none { IfNone result ((d : List ℕ) → IsPadded text.now d → ⊥) }
+/// The digits that a number may have.
+const MOST_DIGITS: usize = 9;
+
+/// The number of the digits at the front, none of more than nine, and what follows them; or there is no digit.
+fn read_digits(text: &[u8]) -> Option<(Option<u32>, &[u8])>
+    ensures found { IfSome result (λ x. LeadsDigits text.now x.0 x.1.now) }
+    ensures none { IfNone result (StartsOff is_digit text.now) }
 {
-    let (_, rest) = blanks(text);
-    let (found, rest) = digits(rest);
+    let mut n = 0;
+    let mut value = 0;
+    while n < text.len() && is_digit(text[n]) {
+        if n < MOST_DIGITS {
+            value = 10 * value + u32::from(text[n] - b'0');
+        }
+        n += 1;
+    }
+    let (_, rest) = text.split_at(n);
+    if n == 0 {
+        None
+    } else if n > MOST_DIGITS {
+        Some((None, rest))
+    } else {
+        Some((Some(value), rest))
+    }
+}
+
+/// The number at the front with the white space round it, none of more than nine digits, and what follows it.
+fn read_number(text: &[u8]) -> Option<(Option<u32>, &[u8])>
+    ensures found { IfSome result (λ x. Leads IsPadded ends_number MeansNumber text.now x.0 x.1.now) }
+    ensures none { IfNone result (LeadsNone IsPadded ends_number text.now) }
+{
+    let (_, text) = blanks(text);
+    let (value, rest) = read_digits(text)?;
     let (_, rest) = blanks(rest);
-    if found.is_empty() {
-        return None;
-    }
-    if !rest.is_empty() {
-        return None;
-    }
-    Some(found)
+    Some((value, rest))
 }
 
-/// A channel.
-fn read_place(text: &[u8]) -> Option<Place<'_>>
-    ensures found { IfSome result (λ p. IsChannel text.now (place_seen p)) }
-    ensures none { IfNone result ((w : WrittenChannel) → IsChannel text.now w → ⊥) }
+/// The channel of these two numbers, where they are in range.
+fn channel_at(slot: u32, ch: u32) -> Option<Chan>
+    ensures { result ≡ channel_at slot ch }
 {
-    match cut(text, b'!') {
-        None => match read_number(text) {
-            None => None,
-            Some(n) => Some(Place::Plain(n)),
-        },
-        Some((left, right)) => match read_number(left) {
-            None => None,
-            Some(s) => match read_number(right) {
-                None => None,
-                Some(c) => Some(Place::Pair(s, c)),
-            },
-        },
+    if 1 <= slot && slot <= u32::from(SLOTS) && 1 <= ch && ch <= u32::from(CHANNELS) {
+        Some(Chan::new(slot as u8, ch as u8))
+    } else {
+        None
     }
 }
 
-/// An item of a list.
-pub fn read_entry(text: &[u8]) -> Option<Entry<'_>>
-    ensures found { IfSome result (λ e. IsItem text.now (entry_seen e)) }
-    ensures none { IfNone result ((i : Item) → IsItem text.now i → ⊥) }
+/// The channel of a plain number.
+fn plain_channel(number: Option<u32>) -> Option<Chan>
+    ensures { (digits : List ℕ) → MeansNumber digits number → MeansChannel (plain digits) result }
 {
-    match cut(text, b':') {
-        None => match read_place(text) {
-            None => None,
-            Some(p) => Some(Entry::One(p)),
-        },
-        Some((left, right)) => match read_place(left) {
-            None => None,
-            Some(p) => match read_place(right) {
-                None => None,
-                Some(q) => Some(Entry::Range(p, q)),
-            },
-        },
+    let n = number?;
+    channel_at(n / 100, n % 100)
+}
+
+/// The channel of a slot and a number on its card.
+fn paired_channel(slot: Option<u32>, ch: Option<u32>) -> Option<Chan>
+    ensures { (s c : List ℕ) → MeansNumber s slot → MeansNumber c ch → MeansChannel (pair s c) result }
+{
+    channel_at(slot?, ch?)
+}
+
+/// What the channel at the front means, and what follows it.
+fn read_channel(text: &[u8]) -> Option<(Option<Chan>, &[u8])>
+    ensures found { IfSome result (λ x. Leads IsChannel ends_channel MeansChannel text.now x.0 x.1.now) }
+    ensures none { IfNone result (LeadsNone IsChannel ends_channel text.now) }
+{
+    let Some((first, rest)) = read_number(text) else {
+        return None;
+    };
+    let Some(more) = eat(rest, b'!') else {
+        return Some((plain_channel(first), rest));
+    };
+    let Some((second, others)) = read_number(more) else {
+        return None;
+    };
+    Some((paired_channel(first, second), others))
+}
+
+/// The run of one channel.
+fn single_run(chan: Option<Chan>) -> Option<Run>
+    ensures { (w : WrittenChannel) → MeansChannel w chan → MeansRun (one w) result }
+{
+    let chan = chan?;
+    Some(Run {
+        first: chan,
+        last: chan,
+    })
+}
+
+/// The run from a channel to another one of its slot.
+fn range_run(first: Option<Chan>, last: Option<Chan>) -> Option<Run>
+    ensures { (v w : WrittenChannel) → MeansChannel v first → MeansChannel w last → MeansRun (range v w) result }
+{
+    let first = first?;
+    let last = last?;
+    if first.slot() == last.slot() {
+        Some(Run { first, last })
+    } else {
+        None
     }
+}
+
+/// What the item at the front names, and what follows it.
+pub fn read_item(text: &[u8]) -> Option<(Option<Run>, &[u8])>
+    ensures found { IfSome result (λ x. Leads IsItem ends_item MeansRun text.now x.0 x.1.now) }
+    ensures none { IfNone result (LeadsNone IsItem ends_item text.now) }
+{
+    let Some((first, rest)) = read_channel(text) else {
+        return None;
+    };
+    let Some(more) = eat(rest, b':') else {
+        return Some((single_run(first), rest));
+    };
+    let Some((last, others)) = read_channel(more) else {
+        return None;
+    };
+    Some((range_run(first, last), others))
 }
 
 /// What stands between the brackets of a list.

@@ -11,7 +11,7 @@ ghost use Rattle.sw_channel.specs.Grammar.{Item, IsList};
 ghost use Rattle.sw_channel.specs.Meaning.{Spells, judged};
 ghost use Rattle.sw_channel.specs.Reading.{Reads, IsRefusedList, IsNoList};
 
-use crate::collect::{collect, judge};
+use crate::collect::collect;
 use crate::parse::body_of;
 use std::alloc::Global;
 use sw_base::{Chan, ScpiError};
@@ -52,10 +52,7 @@ fn read(alloc: Global, text: &[u8]) -> Result<Vec<Chan>, ScpiError>
 {
     match body_of(text) {
         None => Err(ScpiError::InvalidExpression),
-        Some(body) => match judge(body) {
-            Err(e) => Err(e),
-            Ok(count) => Ok(collect(alloc, body, count)?),
-        },
+        Some(body) => collect(alloc, body),
     }
 }
 

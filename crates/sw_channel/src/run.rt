@@ -11,7 +11,6 @@ use sw_base::Chan;
 pub struct Run {
     pub first: Chan,
     pub last: Chan,
-    ghost one_slot: { last.0 ≡ first.0 },
 }
 
 impl Run {

@@ -1,34 +1,53 @@
-use Rattle.std.proofs.Common.{◌∙◌, List, [], ap, sym}
+use Rattle.std.proofs.Common.{◌≡◌, ◌∙◌, ◌++◌, List, [], ◌∷◌, ℕ, ap, refl, sym, inl, inr, subst}
 use Rattle.sw_channel.specs.Grammar.{Item}
 use Rattle.sw_channel.specs.Meaning.{judged}
-use Rattle.sw_channel.proofs.Items.{items_cut, items_last}
-use Rattle.sw_channel.proofs.Judging.{ok_item, ok_last}
+use Rattle.sw_channel.specs.Seen.{LeadsTo}
+use Rattle.sw_channel.proofs.Items.{items_join, one_items}
+use Rattle.sw_channel.proofs.Parts.{first_of, last_item, next_items, no_next, none_left, some_left}
 use Rattle.sw_channel.proofs.collect.collect.Goals as goal
 
-pub push_item-requires : goal.push_item-requires
-push_item-requires c =
-    let all = c.list.invariant c.requires.0 c.requires.1 c.requires.2 c.requires.3 in
-    let r = items_last _ c.in-None.ensures.none all.0 all.1 in
-    let n = ok_item _ _ r.0 [] (ap (λ (is : List Item). judged c.list.chans.items is) (sym r.1) ∙ all.2) in
-    (r.0, n.0, r.2, n.1)
-
-pub push_item-requires-in-Some : goal.push_item-requires-in-Some
-push_item-requires-in-Some c =
-    let all = c.list.invariant c.requires.0 c.requires.1 c.requires.2 c.requires.3 in
-    let r = items_cut _ _ _ c.in-Some.ensures.found.0 c.in-Some.ensures.found.1 all.0 all.1 in
-    let n = ok_item _ _ r.0 r.1 (ap (λ (is : List Item). judged c.list.chans.items is) (sym r.2) ∙ all.2) in
-    (r.0, n.0, r.3, n.1)
-
 pub returns-in-None : goal.returns-in-None
-returns-in-None c is cs h e =
-    let all = c.list.invariant is cs h e in
-    let r = items_last _ c.in-None.ensures.none all.0 all.1 in
-    let n = ok_item _ _ r.0 [] (ap (λ (is : List Item). judged c.list.chans.items is) (sym r.1) ∙ all.2) in
-    c.in_ok-push_item-in-None.ensures r.0 n.0 r.2 n.1 ∙ ok_last _ _ n.3
+returns-in-None c =
+    inl (
+      λ is h.
+          let all = c.list.invariant.onward is h in
+          let f = first_of _ all.0 all.1 in
+          c.in-None.ensures.none f.front f.tail f.item f.part f.ends f.whole,
+      refl,
+    )
+
+pub returns-then-is_empty : goal.returns-then-is_empty
+returns-then-is_empty c =
+    let l = c.in-Some.ensures.found in
+    let last = last_item _ _ _ l (none_left _ (sym c.is_empty.ensures ∙ c.if-is_empty.true)) in
+    let whole = c.list.invariant.back (l.written ∷ []) last in
+    let all = c.list.invariant.onward whole.0 whole.1 in
+    let e : all.0 ≡ l.written ∷ [] = one_items _ all.0 (l.written ∷ []) all.1 last in
+    let t = c.with_item-found.ensures.leads l.written [] (judged [] whole.0) l.means
+    (subst (λ (js : List Item). LeadsTo c.list.found js (judged [] whole.0)) e all.2) in
+    inr (whole.0, whole.1, c.all_of.ensures (judged [] whole.0) t)
+
+pub returns-in-None-eat : goal.returns-in-None-eat
+returns-in-None-eat c =
+    inl (
+      λ is h.
+          let all = c.list.invariant.onward is h in
+          no_next _ _ _ c.in-Some.ensures.found (some_left _ (sym c.is_empty.ensures ∙ c.if-is_empty.false)) c.in-None-eat.ensures.none all.0 all.1,
+      refl,
+    )
 
 pub list-preserved : goal.list-preserved
-list-preserved c is cs h e =
-    let all = c.list.invariant is cs h e in
-    let r = items_cut _ _ _ c.in-Some.ensures.found.0 c.in-Some.ensures.found.1 all.0 all.1 in
-    let n = ok_item _ _ r.0 r.1 (ap (λ (is : List Item). judged c.list.chans.items is) (sym r.2) ∙ all.2) in
-    (r.1, r.4, rw (c.in_ok-push_item-in-Some.ensures r.0 n.0 r.3 n.1) n.3)
+list-preserved c =
+    let l = c.in-Some.ensures.found in
+    record {
+      onward = λ is h.
+          let all = c.list.invariant.onward is h in
+          let r = next_items _ _ _ _ l c.in-Some-eat.ensures.found all.0 all.1 in (
+            r.0,
+            r.2,
+            c.with_item-found.ensures.leads l.written r.0 (judged [] is) l.means
+                (subst (λ (js : List Item). LeadsTo c.list.found js (judged [] is)) r.1 all.2),
+          );
+      back = λ js h. c.list.invariant.back (l.written ∷ js) (items_join _ l.front _ l.written js (l.whole ∙ ap (λ (t : List ℕ). l.front ++ t) c.in-Some-eat.ensures.found) l.part h);
+      within = λ f e. rw e at c.with_item-found.ensures.within;
+    }

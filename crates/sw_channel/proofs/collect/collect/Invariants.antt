@@ -1,13 +1,16 @@
-use Rattle.std.proofs.Common.{length, List, [], ◌≡◌}
-use Rattle.std.specs.Prelude.{Ok}
-use Rattle.sw_base.specs.Layout.{Channel}
+use Rattle.std.proofs.Common.{length, List, [], ◌≤◌}
+use Rattle.std.specs.Result.{ForOk}
 use Rattle.sw_channel.specs.Grammar.{Item, IsItems}
 use Rattle.sw_channel.specs.Meaning.{judged}
+use Rattle.sw_channel.specs.Seen.{LeadsTo}
 use Rattle.sw_channel.proofs.collect.collect.Given as goal
 
 abbrev pub invariant-list : goal.invariant-list
-invariant-list l = (is : List Item) (cs : List Channel) → IsItems l.text is → judged [] is ≡ Ok cs → (js : List Item) × IsItems l.rest js
-    × (judged l.chans.items js ≡ Ok cs)
+invariant-list l = record {
+  onward : (is : List Item) → IsItems l.text is → (js : List Item) × IsItems l.rest js × LeadsTo l.found js (judged [] is);
+  back : (js : List Item) → IsItems l.rest js → (is : List Item) × IsItems l.text is;
+  within : ForOk l.found (λ f. f.count ≤ 512);
+}
 
 abbrev pub decreases-list : goal.decreases-list
 decreases-list l = length l.rest

@@ -1,15 +1,10 @@
-use Rattle.std.proofs.Common.{arith, ap}
-use Rattle.std.specs.Prelude.{List, ℕ, length}
-use Rattle.std.proofs.lemmas.Grind.{common_steps}
-use Rattle.sw_channel.proofs.Marks.{number_found}
+use Rattle.sw_channel.proofs.Parts.{number_leads, number_none}
 use Rattle.sw_channel.proofs.parse.read_number.Goals as goal
 
-pub returns-then-is_empty-clause-none : goal.returns-then-is_empty-clause-none
-returns-then-is_empty-clause-none c d n =
-    let r = number_found _ _ _ _ _ _ _ d c.blanks.ensures c.digits.ensures c.blanks-2.ensures n in
-    grind (arith, common_steps, n.some, ap (λ (l : List ℕ). length l) r.0)
+pub returns-in_err-value-clause-none : goal.returns-in_err-value-clause-none
+returns-in_err-value-clause-none c = rw c.from_residual.ensures (number_none _ _ _ c.blanks.ensures c.in_err-value.ensures.none)
 
-pub returns-then-not-is_empty-clause-none : goal.returns-then-not-is_empty-clause-none
-returns-then-not-is_empty-clause-none c d n =
-    let r = number_found _ _ _ _ _ _ _ d c.blanks.ensures c.digits.ensures c.blanks-2.ensures n in
-    grind (arith, common_steps, ap (λ (l : List ℕ). length l) r.1)
+pub returns-clause-found : goal.returns-clause-found
+returns-clause-found c =
+    let d = c.in_ok-value.ensures.found in
+    number_leads _ _ _ d.0 _ _ _ _ c.blanks.ensures d.1 c.blanks-2.ensures d.2 d.3
