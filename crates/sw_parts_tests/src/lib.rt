@@ -15,6 +15,8 @@ mod hislip;
 #[cfg(test)]
 mod hostile_bytes;
 #[cfg(test)]
+mod hostile_listings;
+#[cfg(test)]
 mod kinds;
 #[cfg(test)]
 mod lex;

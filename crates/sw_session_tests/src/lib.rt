@@ -7,4 +7,12 @@ mod clients;
 #[cfg(test)]
 mod engine;
 #[cfg(test)]
+mod hostile;
+#[cfg(test)]
+mod hostile_first;
+#[cfg(test)]
+mod hostile_second;
+#[cfg(test)]
+mod hostile_sessions;
+#[cfg(test)]
 mod servers;
