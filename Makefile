@@ -4,10 +4,12 @@
 # make wrong: tries every wrong body, whatever is recorded of it.
 # make check CRATE=sw_lex: proves one crate.
 # make bench: times the program on each workload; NAME=lists: on one.
+# make bench-serve: times sessions over the network, against a bare echo in the same run.
+# make soak:  sixteen sessions at work for some rounds, with a watcher, and hostile streams; ROUNDS=100: so many rounds.
 RT ?= rt
 export RT
 
-.PHONY: try run test wrong check talks bench
+.PHONY: try run test wrong check talks bench bench-serve soak
 
 try:
 	@cd crates/mainframe && $(RT) try -- run
@@ -29,3 +31,11 @@ talks:
 
 bench:
 	@bench/run $(NAME)
+
+bench-serve:
+	@bench/serve crates/mainframe/out/mainframe
+	@bench/status crates/mainframe/out/mainframe
+
+soak:
+	@bench/soak crates/mainframe/out/mainframe $(ROUNDS)
+	@bench/hostile crates/mainframe/out/mainframe

@@ -1,0 +1,143 @@
+"""`mainframe serve` as a process on a free port, and sessions of it, for the scripts of this folder."""
+import pathlib
+import socket
+import struct
+import subprocess
+import sys
+import threading
+import time
+
+sys.dont_write_bytecode = True
+sys.path.insert(0, str(pathlib.Path(__file__).resolve().parent.parent / "examples"))
+from hislip_client import Session, receive, send
+
+SESSIONS = 16
+PATIENCE = 60  # seconds after which something is stuck
+DEVICE_CLEAR_COMPLETE, DEVICE_CLEAR_ACKNOWLEDGE = 8, 9
+ASYNC_LOCK, ASYNC_DEVICE_CLEAR, ASYNC_DEVICE_CLEAR_ACKNOWLEDGE = 4, 19, 23
+ASYNC_SERVICE_REQUEST = 20
+IDENTITY = "OPENBENCH,SWM8,0,1.0"
+
+
+class Failure(Exception):
+    """What went wrong."""
+
+
+def same(what, got, wanted):
+    if got != wanted:
+        raise Failure(f"{what}: {got!r} in place of {wanted!r}")
+
+
+def wait_until(what, holds):
+    """Looks again and again whether something holds."""
+    end = time.monotonic() + PATIENCE
+    while not holds():
+        if time.monotonic() > end:
+            raise Failure(f"{what} does not come about")
+        time.sleep(0.05)
+
+
+class Served:
+    """The program, which serves on `port` until the block ends."""
+
+    def __init__(self, program):
+        with socket.create_server(("127.0.0.1", 0)) as free:
+            self.port = free.getsockname()[1]
+        words = [program, "serve", "--port", str(self.port)]
+        self.process = subprocess.Popen(words, stdin=subprocess.DEVNULL, stderr=subprocess.PIPE, text=True)
+        self.remarks = [self.process.stderr.readline()]
+        if not self.remarks[0].endswith(f":{self.port}\n"):
+            self.process.kill()
+            raise Failure(f"the program says {self.remarks[0]!r} in place of its address")
+        self.reader = threading.Thread(target=lambda: self.remarks.extend(self.process.stderr), daemon=True)
+        self.reader.start()
+
+    def __enter__(self):
+        return self
+
+    def __exit__(self, *_):
+        self.process.kill()
+        self.process.wait()
+        self.reader.join()
+
+    def check_alive(self):
+        if self.process.poll() is not None:
+            raise Failure(f"the program ended with status {self.process.returncode}: {''.join(self.remarks[1:])!r}")
+
+    def entry(self, name):
+        """A number of /proc/PID/status."""
+        self.check_alive()
+        for line in pathlib.Path(f"/proc/{self.process.pid}/status").read_text().splitlines():
+            if line.startswith(f"{name}:"):
+                return int(line.split()[1])
+        raise Failure(f"there is no {name}")
+
+    def threads(self):
+        return self.entry("Threads")
+
+    def resident(self):
+        """Memory in kB."""
+        return self.entry("VmRSS")
+
+    def connect(self):
+        return socket.create_connection(("127.0.0.1", self.port), PATIENCE)
+
+    def join(self, kind=None):
+        """A session, which may have to wait until one that was broken off has left."""
+        joined = []
+
+        def tries():
+            try:
+                joined.append((kind or Client)(self.port, seconds=PATIENCE))
+            except ConnectionError as refusal:
+                if "FatalError 4" not in str(refusal):
+                    raise
+            return joined
+
+        wait_until("a free session", tries)
+        return joined[0]
+
+    def check_sessions(self, others=0):
+        """All sessions but these others can be joined and answer."""
+        clients = [self.join() for _ in range(SESSIONS - others)]
+        for client in clients:
+            same("identity", client.query("*IDN?"), IDENTITY)
+        for client in clients:
+            client.close()
+
+
+class Client(Session):
+    """A session that also locks, clears and breaks off."""
+
+    def event(self, wanted):
+        """The control code of the next message of this kind on the second connection, past service requests."""
+        kind, control, _, _ = receive(self.events)
+        while kind == ASYNC_SERVICE_REQUEST:
+            self.requests.append(control)
+            kind, control, _, _ = receive(self.events)
+        same("kind", kind, wanted)
+        return control
+
+    def lock(self, milliseconds, key=b""):
+        send(self.events, ASYNC_LOCK, 1, milliseconds, key)
+        return self.event(ASYNC_LOCK + 1)
+
+    def release(self):
+        send(self.events, ASYNC_LOCK)
+        return self.event(ASYNC_LOCK + 1)
+
+    def clear(self):
+        """Clears the device, and drops what was still on its way."""
+        send(self.events, ASYNC_DEVICE_CLEAR)
+        self.event(ASYNC_DEVICE_CLEAR_ACKNOWLEDGE)
+        send(self.commands, DEVICE_CLEAR_COMPLETE)
+        while receive(self.commands)[0] != DEVICE_CLEAR_ACKNOWLEDGE:
+            pass
+        self.has_answer = 0
+
+    def break_off(self, start=b""):
+        """Sends the start of a message, and resets both connections."""
+        self.commands.sendall(start)
+        for wire in (self.commands, self.events):
+            wire.setsockopt(socket.SOL_SOCKET, socket.SO_LINGER, struct.pack("ii", 1, 0))
+        self.close()
