@@ -20,13 +20,14 @@ use Rattle.sw_session.specs.declared.servers.fault.ServeFault.TheVariants as Fau
 use Rattle.sw_session.specs.Trace.{Entry, Leads}
 use Rattle.sw_session.specs.EngineStep.{LedBy}
 use Rattle.sw_session.specs.ServeWrite.{wire_on, wire_off, WritesPart, Sends}
-use Rattle.sw_session.specs.Serve.{Voice, Exchange, Speaks, acts_of, asks_of, said_of, arrived, is_refused, after_of, notes_of, pauses, is_pause, Point, point}
+use Rattle.sw_session.specs.Serve.{Protocol, Exchange, Speaks, acts_of, asks_of, said_of, arrived, is_refused, after_of, notes_of, pauses, is_pause, Point}
+use Rattle.sw_session.specs.Serve.{point}
 use Rattle.sw_session.specs.Serve.{Spoken, Stops, Breaks, GoesThrough, Hears, IsCutOff, Finds, Tells}
 use Rattle.sw_session.proofs.ServeKnown.{appends-nothing, appends-more}
 
 -- ---- the engine's definition
 
-pub speaks-then : {E : Type 0} (v : Voice E) (s mid s' : E) (xs ys : List Exchange) (after : After) → Speaks v s xs Goes mid → Speaks v mid ys after s'
+pub speaks-then : {E : Type 0} (v : Protocol E) (s mid s' : E) (xs ys : List Exchange) (after : After) → Speaks v s xs Goes mid → Speaks v mid ys after s'
     → Speaks v s (xs ++ ys) after s'
 speaks-then v s mid s' [] ys after p q = subst (λ t. Speaks v t ys after s') p.1 q
 speaks-then v s mid s' (x ∷ xs) ys after (Goes, m, row, n, a, p) q = (Goes, m, row, n, a, speaks-then v m mid s' xs ys after p q)
@@ -34,7 +35,7 @@ speaks-then v s mid s' (x ∷ xs) ys after (Ends, m, row, n, a, p) q = absurd (c
 speaks-then v s mid s' (x ∷ xs) ys after (Fatal, m, row, n, a, p) q = absurd (cc (p.1))
 speaks-then v s mid s' (x ∷ xs) ys after (Malformed, m, row, n, a, p) q = absurd (cc (p.1))
 
-pub speaks-one : {E : Type 0} (v : Voice E) (s s' : E) (x : Exchange) (after : After) → v.speaks s x.act x.asked x.step s'
+pub speaks-one : {E : Type 0} (v : Protocol E) (s s' : E) (x : Exchange) (after : After) → v.speaks s x.act x.asked x.step s'
     → x.noted ≡ notes_of (v.session s') x.step.out → after ≡ after_of (is_refused x.act) x.step → Speaks v s (x ∷ []) after s'
 speaks-one v s s' x Goes row n a = (Goes, s', row, n, a, (refl, refl))
 speaks-one v s s' x Ends row n a = (Ends, s', row, n, a, (refl, refl, refl))
@@ -94,7 +95,7 @@ tells-fed p p' piece e = record { calls = feeds piece ∷ []; decodes = e; strea
 
 -- ---- exchanges
 
-pub spoken-none : {E D : Type 0} (v : Voice E) (passes : D → Entry → D → Type 0) (own : Channel) (a : Point E D) → Spoken v passes own a a [] Goes
+pub spoken-none : {E D : Type 0} (v : Protocol E) (passes : D → Entry → D → Type 0) (own : Channel) (a : Point E D) → Spoken v passes own a a [] Goes
 spoken-none v passes own a = record { speaks = (refl, refl); asks = refl; main = appends-nothing a.main; side = appends-nothing a.side }
 
 said-then : (f : Sent → List ℕ) (a b c : Option (List ℕ)) (xs ys : List Exchange) → Appends a b (flat_map f (said_of xs))
@@ -104,7 +105,7 @@ said-then f a b c xs ys p q =
     sym (ap (flat_map f) (flat_map-append (λ (x : Exchange). x.step.out) xs ys) ∙ flat_map-append f (said_of xs) (said_of ys)) in
     subst (λ (l : List ℕ). Appends a c l) same (appends-more a b c (flat_map f (said_of xs)) (flat_map f (said_of ys)) p q)
 
-pub spoken-then : {E D : Type 0} (v : Voice E) (passes : D → Entry → D → Type 0) (own : Channel) (a b c : Point E D) (xs ys : List Exchange) (after : After)
+pub spoken-then : {E D : Type 0} (v : Protocol E) (passes : D → Entry → D → Type 0) (own : Channel) (a b c : Point E D) (xs ys : List Exchange) (after : After)
     → Spoken v passes own a b xs Goes → Spoken v passes own b c ys after → Spoken v passes own a c (xs ++ ys) after
 spoken-then v passes own a b c xs ys after p q = record {
   speaks = speaks-then v a.engine b.engine c.engine xs ys after p.speaks q.speaks;
@@ -118,14 +119,14 @@ acts-append : (xs ys : List Exchange) → acts_of (xs ++ ys) ≡ acts_of xs ++ a
 acts-append [] ys = refl
 acts-append (x ∷ xs) ys = ap (λ (l : List Act). x.act ∷ l) (acts-append xs ys)
 
-pub goes-nowhere : {E D : Type 0} (v : Voice E) (passes : D → Entry → D → Type 0) (own : Channel) (a : Point E D) → GoesThrough v passes own a a [] Goes
+pub goes-nowhere : {E D : Type 0} (v : Protocol E) (passes : D → Entry → D → Type 0) (own : Channel) (a : Point E D) → GoesThrough v passes own a a [] Goes
 goes-nowhere v passes own a = ([], [], refl, λ g. refl, spoken-none v passes own a)
 
 -- all of the acts
 all-acts : (done rest acts : List Act) → rest ≡ [] → done ++ rest ≡ acts → done ≡ acts
 all-acts done rest acts n e = sym (append-nil done) ∙ sym (ap (λ (l : List Act). done ++ l) n) ∙ e
 
-pub goes-then : {E D : Type 0} (v : Voice E) (passes : D → Entry → D → Type 0) (own : Channel) (a b c : Point E D) (is js : List Act) (after : After)
+pub goes-then : {E D : Type 0} (v : Protocol E) (passes : D → Entry → D → Type 0) (own : Channel) (a b c : Point E D) (is js : List Act) (after : After)
     → GoesThrough v passes own a b is Goes → GoesThrough v passes own b c js after → GoesThrough v passes own a c (is ++ js) after
 goes-then v passes own a b c is js after (xs, r, e, n, p) (ys, t, f, m, q) = (
   xs ++ ys,
@@ -137,13 +138,13 @@ goes-then v passes own a b c is js after (xs, r, e, n, p) (ys, t, f, m, q) = (
 )
 
 -- a channel that ended comes to no more acts
-pub ends-before : {E D : Type 0} (v : Voice E) (passes : D → Entry → D → Type 0) (own : Channel) (a b : Point E D) (is js : List Act) (after : After)
+pub ends-before : {E D : Type 0} (v : Protocol E) (passes : D → Entry → D → Type 0) (own : Channel) (a b : Point E D) (is js : List Act) (after : After)
     → (after ≡ Goes → ⊥)
     → GoesThrough v passes own a b is after → GoesThrough v passes own a b (is ++ js) after
 ends-before v passes own a b is js after ended (xs, r, e, n, p) =
     (xs, r ++ js, sym (append_assoc (acts_of xs) r js) ∙ ap (λ (l : List Act). l ++ js) e, λ g. absurd (ended g), p)
 
-pub stops-then : {E D : Type 0} (v : Voice E) (passes : D → Entry → D → Type 0) (own : Channel) (a b c : Point E D) (is js : List Act) (fault : ServeFault)
+pub stops-then : {E D : Type 0} (v : Protocol E) (passes : D → Entry → D → Type 0) (own : Channel) (a b c : Point E D) (is js : List Act) (fault : ServeFault)
     → GoesThrough v passes own a b is Goes → Stops v passes own b c js fault → Stops v passes own a c (is ++ js) fault
 stops-then v passes own a b c is js fault (xs, r, e, n, p) t = record {
   xs = xs ++ t.xs;
@@ -157,7 +158,7 @@ stops-then v passes own a b c is js fault (xs, r, e, n, p) t = record {
 }
 
 -- an act that fails, with others that are not come to
-pub stops-at : {E D : Type 0} (v : Voice E) (passes : D → Entry → D → Type 0) (own : Channel) (a b : Point E D) (act : Act) (rest : List Act)
+pub stops-at : {E D : Type 0} (v : Protocol E) (passes : D → Entry → D → Type 0) (own : Channel) (a b : Point E D) (act : Act) (rest : List Act)
     (fault : ServeFault)
     → Breaks v passes own a b act fault → Stops v passes own a b (act ∷ rest) fault
 stops-at v passes own a b act rest fault k = record
@@ -168,8 +169,8 @@ stops-at v passes own a b act rest fault k = record
 one-out : (f : Sent → List ℕ) (a b : Option (List ℕ)) (x : Exchange) → Appends a b (flat_map f x.step.out) → Appends a b (flat_map f (said_of (x ∷ [])))
 one-out f a b x p = subst (λ (l : List Sent). Appends a b (flat_map f l)) (sym (append-nil x.step.out)) p
 
-pub hears-ok : {E D : Type 0} (v : Voice E) (passes : D → Entry → D → Type 0) (own : Channel) (s s' : E) (d e d' : D) (w w' y y' : Option (List ℕ)) (act : Act)
-    (step : Step) (noted : List Entry) (after : After)
+pub hears-ok : {E D : Type 0} (v : Protocol E) (passes : D → Entry → D → Type 0) (own : Channel) (s s' : E) (d e d' : D) (w w' y y' : Option (List ℕ))
+    (act : Act) (step : Step) (noted : List Entry) (after : After)
     → LedBy passes d e (λ asked. v.speaks s act asked step s') → noted ≡ notes_of (v.session s') step.out → Leads passes e noted d'
     → after ≡ after_of (is_refused act) step
     → Appends w w' (flat_map (wire_on own) step.out) → Appends y y' (flat_map (wire_off own) step.out)
@@ -188,7 +189,7 @@ hears-ok v passes own s s' d e d' w w' y y' act step noted after led n notes a m
       },
     )
 
-cut-off : {E D : Type 0} (v : Voice E) (passes : D → Entry → D → Type 0) (own : Channel) (s s' : E) (d d' : D) (w w' y y' : Option (List ℕ)) (act : Act)
+cut-off : {E D : Type 0} (v : Protocol E) (passes : D → Entry → D → Type 0) (own : Channel) (s s' : E) (d d' : D) (w w' y y' : Option (List ℕ)) (act : Act)
     (step : Step)
     → LedBy passes d d' (λ asked. v.speaks s act asked step s') → WritesPart w w' (flat_map (wire_on own) step.out)
     → WritesPart y y' (flat_map (wire_off own) step.out)
@@ -196,8 +197,8 @@ cut-off : {E D : Type 0} (v : Voice E) (passes : D → Entry → D → Type 0) (
 cut-off v passes own s s' d d' w w' y y' act step led main side = record
     { asked = led.asked; step = step; speaks = led.admits; asks = led.leads; main = main; side = side }
 
-pub hears-err : {E D : Type 0} (v : Voice E) (passes : D → Entry → D → Type 0) (own : Channel) (s s' : E) (d d' : D) (w w' y y' : Option (List ℕ)) (act : Act)
-    (step : Step) (fault : ServeFault)
+pub hears-err : {E D : Type 0} (v : Protocol E) (passes : D → Entry → D → Type 0) (own : Channel) (s s' : E) (d d' : D) (w w' y y' : Option (List ℕ))
+    (act : Act) (step : Step) (fault : ServeFault)
     → LedBy passes d d' (λ asked. v.speaks s act asked step s') → WritesPart w w' (flat_map (wire_on own) step.out)
     → WritesPart y y' (flat_map (wire_off own) step.out) → Sends (Err fault)
     → Hears v passes own act (point s d w y) (point s' d' w' y') (Err fault)
@@ -208,7 +209,7 @@ hears-err v passes own s s' d d' w w' y y' act step Fault.Wire led main side f =
 hears-err v passes own s s' d d' w w' y y' act step Fault.Fatal led main side f = absurd f
 hears-err v passes own s s' d d' w w' y y' act step Fault.ReadBound led main side f = absurd f
 
-pub hears-starved : {E D : Type 0} (v : Voice E) (passes : D → Entry → D → Type 0) (own : Channel) (s s' : E) (d d' : D) (w y : Option (List ℕ)) (act : Act)
+pub hears-starved : {E D : Type 0} (v : Protocol E) (passes : D → Entry → D → Type 0) (own : Channel) (s s' : E) (d d' : D) (w y : Option (List ℕ)) (act : Act)
     → LedBy passes d d' (λ asked. v.falters s act asked s') → Hears v passes own act (point s d w y) (point s' d' w y) (Err Fault.NoMemory)
 hears-starved v passes own s s' d d' w y act led = inr (record { asked = led.asked; falters = led.admits; asks = led.leads; main = refl; side = refl })
 

@@ -19,7 +19,7 @@ use Rattle.sw_session.specs.declared.servers.turns.Came.TheVariants as Came
 use Rattle.sw_session.specs.declared.servers.turns.Next.{Next}
 use Rattle.sw_session.specs.declared.servers.turns.Next.TheVariants.{On, Over}
 use Rattle.sw_session.specs.Trace.{Entry}
-use Rattle.sw_session.specs.Serve.{Voice, acts_for, arrived, pauses, Point, Stops, GoesThrough, Judges, HearsEach, HoldsMessage, Tells, Stands, Listens}
+use Rattle.sw_session.specs.Serve.{Protocol, acts_for, arrived, pauses, Point, Stops, GoesThrough, Judges, HearsEach, HoldsMessage, Tells, Stands, Listens}
 use Rattle.sw_session.specs.Serve.{HearsAll, conclude, Loses, EndsWell, FailsBy, EndsTurn, TakesTurn, EndsRun, Runs}
 use Rattle.sw_session.proofs.ServeKnown.{consumes-nothing, consumes-more}
 use Rattle.sw_session.proofs.ServeParts.{pauses-then, none-paused, either-paused, tells-nothing, tells-then, tells-paused, tells-fed, goes-nowhere, goes-then}
@@ -30,7 +30,7 @@ none-lost input left piece c = subst (λ (l : List ℕ). Consumes input left l) 
 
 -- ---- one turn
 
-pub turn-err : {E D : Type 0} (v : Voice E) (passes : D → Entry → D → Type 0) (own : Channel) (may_pause : Type 0) (p p' : Pending) (a : Point E D)
+pub turn-err : {E D : Type 0} (v : Protocol E) (passes : D → Entry → D → Type 0) (own : Channel) (may_pause : Type 0) (p p' : Pending) (a : Point E D)
     (input left : Option (List ℕ)) (fault : ServeFault)
     → Waits p.bytes → Listens input left p p' (Err fault) → TakesTurn v passes own may_pause p p' a a input left (Err fault)
 turn-err v passes own may_pause p p' a input left fault waits (same, inl r) =
@@ -58,7 +58,7 @@ turn-err v passes own may_pause p p' a input left fault waits (same, inr r) =
       ends = (inr (goes-nowhere v passes own a, inl r.1.2), λ e. absurd (cc (e)));
     })
 
-pub turn-end : {E D : Type 0} (v : Voice E) (passes : D → Entry → D → Type 0) (own : Channel) (may_pause : Type 0) (p p' : Pending) (a : Point E D)
+pub turn-end : {E D : Type 0} (v : Protocol E) (passes : D → Entry → D → Type 0) (own : Channel) (may_pause : Type 0) (p p' : Pending) (a : Point E D)
     (input left : Option (List ℕ))
     → Waits p.bytes → Listens input left p p' (Ok Came.End) → TakesTurn v passes own may_pause p p' a a input left (Ok Over)
 turn-end v passes own may_pause p p' a input left waits (reads, end, same) =
@@ -74,7 +74,7 @@ turn-end v passes own may_pause p p' a input left waits (reads, end, same) =
     }
 
 -- how a turn ends in which so many bytes were read, and these inputs gone through
-record Turned {E D : Type 0} (v : Voice E) (passes : D → Entry → D → Type 0) (own : Channel) (may_pause : Type 0) (p p' : Pending) (a b : Point E D)
+record Turned {E D : Type 0} (v : Protocol E) (passes : D → Entry → D → Type 0) (own : Channel) (may_pause : Type 0) (p p' : Pending) (a b : Point E D)
     (input left : Option (List ℕ)) (result : Result Next ServeFault) : Type 0 where
   read : List ℕ
   inputs : List Act
@@ -92,7 +92,7 @@ loses-none (Err Fault.Fatal) = refl
 loses-none (Err Fault.NoMemory) = tt
 loses-none (Err Fault.ReadBound) = refl
 
-turned : {E D : Type 0} (v : Voice E) (passes : D → Entry → D → Type 0) (own : Channel) (may_pause : Type 0) (p p' : Pending) (a b : Point E D)
+turned : {E D : Type 0} (v : Protocol E) (passes : D → Entry → D → Type 0) (own : Channel) (may_pause : Type 0) (p p' : Pending) (a b : Point E D)
     (input left : Option (List ℕ)) (result : Result Next ServeFault)
     → Turned v passes own may_pause p p' a b input left result → TakesTurn v passes own may_pause p p' a b input left result
 turned v passes own may_pause p p' a b input left result t =
@@ -109,7 +109,7 @@ turned v passes own may_pause p p' a b input left result t =
     }
 
 -- how acts end a turn
-ends-by : {E D : Type 0} (v : Voice E) (passes : D → Entry → D → Type 0) (own : Channel) (p : Pending) (a b : Point E D) (acts : List Act) (lost : List ℕ)
+ends-by : {E D : Type 0} (v : Protocol E) (passes : D → Entry → D → Type 0) (own : Channel) (p : Pending) (a b : Point E D) (acts : List Act) (lost : List ℕ)
     (n : ℕ) (left : Option (List ℕ)) (after : After)
     → 0 < n → GoesThrough v passes own a b acts after → Stands after p → EndsTurn v passes own a b acts p lost n left (conclude (Ok after))
 ends-by v passes own p a b acts lost n left Goes some g s = (g, s, some)
@@ -117,7 +117,7 @@ ends-by v passes own p a b acts lost n left Ends some g s = inr g
 ends-by v passes own p a b acts lost n left Fatal some g s = (g, λ e. absurd (cc (e)))
 ends-by v passes own p a b acts lost n left Malformed some g s = ((g, s), λ e. absurd (cc (e)))
 
-stops-by : {E D : Type 0} (v : Voice E) (passes : D → Entry → D → Type 0) (own : Channel) (p : Pending) (a b : Point E D) (acts : List Act) (lost : List ℕ)
+stops-by : {E D : Type 0} (v : Protocol E) (passes : D → Entry → D → Type 0) (own : Channel) (p : Pending) (a b : Point E D) (acts : List Act) (lost : List ℕ)
     (n : ℕ) (left : Option (List ℕ)) (fault : ServeFault)
     → Stops v passes own a b acts fault → EndsTurn v passes own a b acts p lost n left (Err fault)
 stops-by v passes own p a b acts lost n left Fault.Write t = (t, λ e. absurd (cc (e)))
@@ -127,7 +127,7 @@ stops-by v passes own p a b acts lost n left Fault.Wire t = absurd t.breaks
 stops-by v passes own p a b acts lost n left Fault.Fatal t = absurd t.breaks
 stops-by v passes own p a b acts lost n left Fault.ReadBound t = absurd t.breaks
 
-starves-by : {E D : Type 0} (v : Voice E) (passes : D → Entry → D → Type 0) (own : Channel) (p : Pending) (a b : Point E D) (acts : List Act) (lost : List ℕ)
+starves-by : {E D : Type 0} (v : Protocol E) (passes : D → Entry → D → Type 0) (own : Channel) (p : Pending) (a b : Point E D) (acts : List Act) (lost : List ℕ)
     (n : ℕ) (left : Option (List ℕ)) (fault : ServeFault)
     → fault ≡ Fault.NoMemory → GoesThrough v passes own a b acts Goes → HoldsMessage p → EndsTurn v passes own a b acts p lost n left (Err fault)
 starves-by v passes own p a b acts lost n left fault e g w =
@@ -142,7 +142,7 @@ paused-stands p Malformed waits j = absurd (j refl)
 pub judged-ok : (b : Bool) (r : Result After ServeFault) → IfOk r (λ after. Judges b after) → (after : After) → r ≡ Ok after → Judges b after
 judged-ok b r j after e = subst (λ (q : Result After ServeFault). IfOk q (λ x. Judges b x)) e j
 
-pub turn-paused : {E D : Type 0} (v : Voice E) (passes : D → Entry → D → Type 0) (own : Channel) (may_pause : Type 0) (p p' : Pending) (a b : Point E D)
+pub turn-paused : {E D : Type 0} (v : Protocol E) (passes : D → Entry → D → Type 0) (own : Channel) (may_pause : Type 0) (p p' : Pending) (a b : Point E D)
     (input left : Option (List ℕ)) (r : Result After ServeFault)
     → may_pause → Waits p.bytes → Listens input left p p' (Ok Came.Paused) → HearsEach v passes own (Notices ∷ []) a b r
     → ((after : After) → r ≡ Ok after → Judges false after)
@@ -171,7 +171,7 @@ tells-read : (p p' q : Pending) (piece : List ℕ) (inputs : List Act) → p' �
 tells-read p p' q piece inputs e t = subst (λ (l : List ℕ). Tells p q l inputs) (append-nil piece)
     (tells-then p p' q piece [] [] inputs (tells-fed p p' piece e) t)
 
-pub turn-bytes : {E D : Type 0} (v : Voice E) (passes : D → Entry → D → Type 0) (own : Channel) (may_pause : Type 0) (p p' q : Pending) (a b : Point E D)
+pub turn-bytes : {E D : Type 0} (v : Protocol E) (passes : D → Entry → D → Type 0) (own : Channel) (may_pause : Type 0) (p p' q : Pending) (a b : Point E D)
     (input left : Option (List ℕ)) (r : Result After ServeFault)
     → Listens input left p p' (Ok Came.Bytes) → HearsAll v passes own p' q a b r → TakesTurn v passes own may_pause p q a b input left (conclude r)
 turn-bytes v passes own may_pause p p' q a b input left (Ok after) (piece, some, reads, e) h =
@@ -222,7 +222,7 @@ concluded-write (Err Fault.Fatal) e = absurd (cc (e))
 concluded-write (Err Fault.NoMemory) e = absurd (cc (e))
 concluded-write (Err Fault.ReadBound) e = absurd (cc (e))
 
-pub each-unread : {E D : Type 0} (v : Voice E) (passes : D → Entry → D → Type 0) (own : Channel) (acts : List Act) (a b : Point E D)
+pub each-unread : {E D : Type 0} (v : Protocol E) (passes : D → Entry → D → Type 0) (own : Channel) (acts : List Act) (a b : Point E D)
     (r : Result After ServeFault) → HearsEach v passes own acts a b r → r ≡ Err Fault.Read → ⊥
 each-unread v passes own acts a b (Ok after) h e = absurd (cc (e))
 each-unread v passes own acts a b (Err Fault.Read) h e = h.breaks
@@ -232,8 +232,8 @@ each-unread v passes own acts a b (Err Fault.Fatal) h e = absurd (cc (e))
 each-unread v passes own acts a b (Err Fault.NoMemory) h e = absurd (cc (e))
 each-unread v passes own acts a b (Err Fault.ReadBound) h e = absurd (cc (e))
 
-pub all-unread : {E D : Type 0} (v : Voice E) (passes : D → Entry → D → Type 0) (own : Channel) (p p' : Pending) (a b : Point E D) (r : Result After ServeFault)
-    → HearsAll v passes own p p' a b r → r ≡ Err Fault.Read → ⊥
+pub all-unread : {E D : Type 0} (v : Protocol E) (passes : D → Entry → D → Type 0) (own : Channel) (p p' : Pending) (a b : Point E D)
+    (r : Result After ServeFault) → HearsAll v passes own p p' a b r → r ≡ Err Fault.Read → ⊥
 all-unread v passes own p p' a b (Ok after) h e = absurd (cc (e))
 all-unread v passes own p p' a b (Err Fault.Read) h e = elim h.spoken [
   | inl t ↦ t.breaks
@@ -255,7 +255,7 @@ acts-then : (is js : List Act) → flat_map acts_for is ++ flat_map acts_for js 
 acts-then is js = sym (flat_map-append acts_for is js)
 
 -- so many turns are over, and the run goes on
-pub record Going {E D : Type 0} (v : Voice E) (passes : D → Entry → D → Type 0) (own : Channel) (may_pause : Type 0) (p p' : Pending) (a b : Point E D)
+pub record Going {E D : Type 0} (v : Protocol E) (passes : D → Entry → D → Type 0) (own : Channel) (may_pause : Type 0) (p p' : Pending) (a b : Point E D)
     (input left : Option (List ℕ)) (n : ℕ) : Type 0 where
   pub read : List ℕ
   pub reads : Consumes input left read
@@ -266,7 +266,7 @@ pub record Going {E D : Type 0} (v : Voice E) (passes : D → Entry → D → Ty
   pub waits : Waits p'.bytes
   pub turned : n ≤ length read + pauses inputs
 
-pub going-start : {E D : Type 0} (v : Voice E) (passes : D → Entry → D → Type 0) (own : Channel) (may_pause : Type 0) (p : Pending) (a : Point E D)
+pub going-start : {E D : Type 0} (v : Protocol E) (passes : D → Entry → D → Type 0) (own : Channel) (may_pause : Type 0) (p : Pending) (a : Point E D)
     (input : Option (List ℕ)) → p ≡ nothing_fed → Going v passes own may_pause nothing_fed p a a input input 0
 going-start v passes own may_pause p a input e = record {
   read = [];
@@ -279,14 +279,14 @@ going-start v passes own may_pause p a input e = record {
   turned = omega (arith);
 }
 
-well-then : {E D : Type 0} (v : Voice E) (passes : D → Entry → D → Type 0) (own : Channel) (a b c : Point E D) (is js : List Act) (p : Pending)
+well-then : {E D : Type 0} (v : Protocol E) (passes : D → Entry → D → Type 0) (own : Channel) (a b c : Point E D) (is js : List Act) (p : Pending)
     (left : Option (List ℕ))
     → GoesThrough v passes own a b is Goes → EndsWell v passes own b c js p left → EndsWell v passes own a c (is ++ js) p left
 well-then v passes own a b c is js p left g (inl (h, w, e)) = inl (goes-then v passes own a b c is js Goes g h, w, e)
 well-then v passes own a b c is js p left g (inr h) = inr (goes-then v passes own a b c is js Ends g h)
 
-fails-then : {E D : Type 0} (v : Voice E) (passes : D → Entry → D → Type 0) (own : Channel) (a b c : Point E D) (is js : List Act) (p : Pending) (lost : List ℕ)
-    (n turns m : ℕ) (fault : ServeFault)
+fails-then : {E D : Type 0} (v : Protocol E) (passes : D → Entry → D → Type 0) (own : Channel) (a b c : Point E D) (is js : List Act) (p : Pending)
+    (lost : List ℕ) (n turns m : ℕ) (fault : ServeFault)
     → GoesThrough v passes own a b is Goes → FailsBy v passes own b c js p lost 0 n fault → (fault ≡ Fault.ReadBound → ⊥)
     → FailsBy v passes own a c (is ++ js) p lost turns m fault
 fails-then v passes own a b c is js p lost n turns m Fault.Read g h other = (goes-then v passes own a b c is js Goes g h.0, h.1)
@@ -302,7 +302,7 @@ reads-then : (input mid left : Option (List ℕ)) (read more lost : List ℕ) �
 reads-then input mid left read more lost c d = subst (λ (l : List ℕ). Consumes input left l) (sym (append_assoc read more lost))
     (consumes-more input mid left read (more ++ lost) c d)
 
-pub going-on : {E D : Type 0} (v : Voice E) (passes : D → Entry → D → Type 0) (own : Channel) (may_pause : Type 0) (p q r : Pending) (a b c : Point E D)
+pub going-on : {E D : Type 0} (v : Protocol E) (passes : D → Entry → D → Type 0) (own : Channel) (may_pause : Type 0) (p q r : Pending) (a b c : Point E D)
     (input mid left : Option (List ℕ)) (n : ℕ)
     → Going v passes own may_pause p q a b input mid n → TakesTurn v passes own may_pause q r b c mid left (Ok On)
     → Going v passes own may_pause p r a c input left (n + 1)
@@ -326,7 +326,7 @@ law-follows : ((calls : List Call) (p : Pending) → EveryMessageComesOut calls 
 law-follows law p read inputs t = subst (λ (b : List ℕ). Follows b (flat_map arrived inputs) p) t.stream
     (subst (λ (l : List (Result Message Kind)). Follows (stream_of t.calls) l p) t.told (law t.calls p t.decodes))
 
-pub runs : {E D : Type 0} (v : Voice E) (passes : D → Entry → D → Type 0) (own : Channel) (may_pause : Type 0) (turns : ℕ) (p : Pending) (a b : Point E D)
+pub runs : {E D : Type 0} (v : Protocol E) (passes : D → Entry → D → Type 0) (own : Channel) (may_pause : Type 0) (turns : ℕ) (p : Pending) (a b : Point E D)
     (input left : Option (List ℕ)) (result : Result (Unit {0}) ServeFault) (read lost : List ℕ) (inputs : List Act)
     → ((calls : List Call) (q : Pending) → EveryMessageComesOut calls q)
     → ((bytes : List ℕ) (t : List (Result Message Kind)) (q : Pending) → LeavesARest bytes t q)
@@ -346,7 +346,7 @@ runs v passes own may_pause turns p a b input left result read lost inputs law r
   ends = ends;
 }
 
-pub runs-over : {E D : Type 0} (v : Voice E) (passes : D → Entry → D → Type 0) (own : Channel) (may_pause : Type 0) (turns n : ℕ) (q p : Pending)
+pub runs-over : {E D : Type 0} (v : Protocol E) (passes : D → Entry → D → Type 0) (own : Channel) (may_pause : Type 0) (turns n : ℕ) (q p : Pending)
     (a b c : Point E D) (input mid left : Option (List ℕ))
     → ((calls : List Call) (q : Pending) → EveryMessageComesOut calls q)
     → ((bytes : List ℕ) (t : List (Result Message Kind)) (q : Pending) → LeavesARest bytes t q)
@@ -359,7 +359,7 @@ runs-over v passes own may_pause turns n q p a b c input mid left law rest g t =
     (subst (λ (l : List Act). EndsWell v passes own a c l p left) (acts-then g.inputs t.inputs)
     (well-then v passes own a b c (flat_map acts_for g.inputs) (flat_map acts_for t.inputs) p left g.goes t.ends))
 
-pub runs-fault : {E D : Type 0} (v : Voice E) (passes : D → Entry → D → Type 0) (own : Channel) (may_pause : Type 0) (turns n : ℕ) (q p : Pending)
+pub runs-fault : {E D : Type 0} (v : Protocol E) (passes : D → Entry → D → Type 0) (own : Channel) (may_pause : Type 0) (turns n : ℕ) (q p : Pending)
     (a b c : Point E D) (input mid left : Option (List ℕ)) (fault : ServeFault)
     → ((calls : List Call) (q : Pending) → EveryMessageComesOut calls q)
     → ((bytes : List ℕ) (t : List (Result Message Kind)) (q : Pending) → LeavesARest bytes t q)
@@ -374,7 +374,7 @@ runs-fault v passes own may_pause turns n q p a b c input mid left fault law res
     (fails-then v passes own a b c (flat_map acts_for g.inputs) (flat_map acts_for t.inputs) p t.lost (length t.read + pauses t.inputs) turns
     (length (g.read ++ t.read) + pauses (g.inputs ++ t.inputs)) fault g.goes t.ends.0 t.ends.1))
 
-pub runs-bound : {E D : Type 0} (v : Voice E) (passes : D → Entry → D → Type 0) (own : Channel) (may_pause : Type 0) (turns n : ℕ) (p : Pending)
+pub runs-bound : {E D : Type 0} (v : Protocol E) (passes : D → Entry → D → Type 0) (own : Channel) (may_pause : Type 0) (turns n : ℕ) (p : Pending)
     (a b : Point E D) (input left : Option (List ℕ))
     → ((calls : List Call) (q : Pending) → EveryMessageComesOut calls q)
     → ((bytes : List ℕ) (t : List (Result Message Kind)) (q : Pending) → LeavesARest bytes t q)

@@ -30,7 +30,7 @@ use Rattle.sw_session.specs.ServeWrite.{wire_on, wire_off, WritesPart}
 
 -- An engine's definition: what it asks and says to an act, and where it stands then; what it may have asked, and where
 -- it may stand, where it found no memory; and which session it has joined.
-pub record Voice (E : Type 0) : Type 1 where
+pub record Protocol (E : Type 0) : Type 1 where
   pub speaks : E → Act → List Entry → Step → E → Type 0
   pub falters : E → Act → List Entry → E → Type 0
   pub session : E → Option Sid
@@ -103,7 +103,7 @@ Proceeds on Fatal mid xs after s' = (xs ≡ []) × (after ≡ Fatal) × (s' ≡ 
 Proceeds on Malformed mid xs after s' = (xs ≡ []) × (after ≡ Malformed) × (s' ≡ mid)
 
 -- an engine goes through these exchanges, of which only the last may end the channel
-abbrev pub Speaks : {E : Type 0} → Voice E → E → List Exchange → After → E → Type 0
+abbrev pub Speaks : {E : Type 0} → Protocol E → E → List Exchange → After → E → Type 0
 Speaks v s [] after s' = (after ≡ Goes) × (s' ≡ s)
 Speaks v s (x ∷ xs) after s' =
     (step : After) × (mid : _) × v.speaks s x.act x.asked x.step mid × (x.noted ≡ notes_of (v.session mid) x.step.out)
@@ -130,7 +130,7 @@ abbrev pub point : {E D : Type 0} → E → D → Option (List ℕ) → Option (
 point s d w x = record { engine = s; desk = d; main = w; side = x }
 
 -- The engine's definition of these exchanges is what was asked, and what the writers got.
-pub record Spoken {E D : Type 0} (v : Voice E) (passes : D → Entry → D → Type 0) (own : Channel) (a b : Point E D)
+pub record Spoken {E D : Type 0} (v : Protocol E) (passes : D → Entry → D → Type 0) (own : Channel) (a b : Point E D)
     (xs : List Exchange) (after : After) : Type 0 where
   pub speaks : Speaks v a.engine xs after b.engine
   pub asks : Leads passes a.desk (asks_of xs) b.desk
@@ -140,7 +140,7 @@ pub record Spoken {E D : Type 0} (v : Voice E) (passes : D → Entry → D → T
 -- ---- acts that fail
 
 -- what was said to an act was not written whole
-pub record IsCutOff {E D : Type 0} (v : Voice E) (passes : D → Entry → D → Type 0) (own : Channel) (a b : Point E D)
+pub record IsCutOff {E D : Type 0} (v : Protocol E) (passes : D → Entry → D → Type 0) (own : Channel) (a b : Point E D)
     (act : Act) : Type 0 where
   pub asked : List Entry
   pub step : Step
@@ -150,7 +150,7 @@ pub record IsCutOff {E D : Type 0} (v : Voice E) (passes : D → Entry → D →
   pub side : WritesPart a.side b.side (flat_map (wire_off own) step.out)
 
 -- there was no memory for an act
-pub record IsStarved {E D : Type 0} (v : Voice E) (passes : D → Entry → D → Type 0) (a b : Point E D)
+pub record IsStarved {E D : Type 0} (v : Protocol E) (passes : D → Entry → D → Type 0) (a b : Point E D)
     (act : Act) : Type 0 where
   pub asked : List Entry
   pub falters : v.falters a.engine act asked b.engine
@@ -158,14 +158,14 @@ pub record IsStarved {E D : Type 0} (v : Voice E) (passes : D → Entry → D �
   pub main : b.main ≡ a.main
   pub side : b.side ≡ a.side
 
-abbrev pub Breaks : {E D : Type 0} → Voice E → (D → Entry → D → Type 0) → Channel → Point E D → Point E D → Act
+abbrev pub Breaks : {E D : Type 0} → Protocol E → (D → Entry → D → Type 0) → Channel → Point E D → Point E D → Act
     → ServeFault → Type 0
 Breaks v passes own a b act Fault.Write = IsCutOff v passes own a b act
 Breaks v passes own a b act Fault.NoMemory = IsCutOff v passes own a b act ⊎ IsStarved v passes a b act
 Breaks v passes own a b act fault = ⊥
 
 -- these acts are gone through up to one that fails
-pub record Stops {E D : Type 0} (v : Voice E) (passes : D → Entry → D → Type 0) (own : Channel) (a b : Point E D)
+pub record Stops {E D : Type 0} (v : Protocol E) (passes : D → Entry → D → Type 0) (own : Channel) (a b : Point E D)
     (acts : List Act) (fault : ServeFault) : Type 0 where
   pub xs : List Exchange
   pub act : Act
@@ -176,7 +176,7 @@ pub record Stops {E D : Type 0} (v : Voice E) (passes : D → Entry → D → Ty
   pub breaks : Breaks v passes own mid b act fault
 
 -- these acts are gone through, all of them where the channel goes on, and else up to the one that ends it
-abbrev pub GoesThrough : {E D : Type 0} → Voice E → (D → Entry → D → Type 0) → Channel → Point E D → Point E D
+abbrev pub GoesThrough : {E D : Type 0} → Protocol E → (D → Entry → D → Type 0) → Channel → Point E D → Point E D
     → List Act → After → Type 0
 GoesThrough v passes own a b acts after =
     (xs : List Exchange) × (rest : List Act) × (acts_of xs ++ rest ≡ acts) × (after ≡ Goes → rest ≡ [])
@@ -185,7 +185,7 @@ GoesThrough v passes own a b acts after =
 -- ---- clauses of a server's parts
 
 -- one act
-abbrev pub Hears : {E D : Type 0} → Voice E → (D → Entry → D → Type 0) → Channel → Act → Point E D → Point E D
+abbrev pub Hears : {E D : Type 0} → Protocol E → (D → Entry → D → Type 0) → Channel → Act → Point E D → Point E D
     → Result After ServeFault → Type 0
 Hears v passes own act a b (Ok after) = GoesThrough v passes own a b (act ∷ []) after
 Hears v passes own act a b (Err fault) = Breaks v passes own a b act fault
@@ -196,8 +196,8 @@ Judges true after = after ≡ Malformed
 Judges false after = after ≢ Malformed
 
 -- some acts
-abbrev pub HearsEach : {E D : Type 0} → Voice E → (D → Entry → D → Type 0) → Channel → List Act → Point E D → Point E D
-    → Result After ServeFault → Type 0
+abbrev pub HearsEach : {E D : Type 0} → Protocol E → (D → Entry → D → Type 0) → Channel → List Act → Point E D
+    → Point E D → Result After ServeFault → Type 0
 HearsEach v passes own acts a b (Ok after) = GoesThrough v passes own a b acts after
 HearsEach v passes own acts a b (Err fault) = Stops v passes own a b acts fault
 
@@ -242,8 +242,8 @@ Stands Malformed p = HasWrongPrologue p.bytes
 Stands Ends p = Unit {0}
 Stands Fatal p = Unit {0}
 
-abbrev pub HearsInputs : {E D : Type 0} → Voice E → (D → Entry → D → Type 0) → Channel → List Act → Pending → Point E D
-    → Point E D → Result After ServeFault → Type 0
+abbrev pub HearsInputs : {E D : Type 0} → Protocol E → (D → Entry → D → Type 0) → Channel → List Act → Pending
+    → Point E D → Point E D → Result After ServeFault → Type 0
 HearsInputs v passes own inputs p a b (Ok after) = GoesThrough v passes own a b (flat_map acts_for inputs) after
     × Stands after p
 HearsInputs v passes own inputs p a b (Err fault) =
@@ -251,7 +251,7 @@ HearsInputs v passes own inputs p a b (Err fault) =
     ⊎ ((fault ≡ Fault.NoMemory) × GoesThrough v passes own a b (flat_map acts_for inputs) Goes × HoldsMessage p)
 
 -- all that the wire tells is gone through, or what it tells up to an end of the channel or a fault
-pub record HearsAll {E D : Type 0} (v : Voice E) (passes : D → Entry → D → Type 0) (own : Channel) (p p' : Pending)
+pub record HearsAll {E D : Type 0} (v : Protocol E) (passes : D → Entry → D → Type 0) (own : Channel) (p p' : Pending)
     (a b : Point E D) (result : Result After ServeFault) : Type 0 where
   pub inputs : List Act
   pub unpaused : pauses inputs ≡ 0
@@ -278,8 +278,8 @@ Loses (Ok _) lost = lost ≡ []
 Loses (Err fault) lost = LosesAt fault lost
 
 -- A run ends well where all was read and gone through, or where the channel ended.
-abbrev pub EndsWell : {E D : Type 0} → Voice E → (D → Entry → D → Type 0) → Channel → Point E D → Point E D → List Act
-    → Pending → Option (List ℕ) → Type 0
+abbrev pub EndsWell : {E D : Type 0} → Protocol E → (D → Entry → D → Type 0) → Channel → Point E D → Point E D
+    → List Act → Pending → Option (List ℕ) → Type 0
 EndsWell v passes own a b acts p left = (GoesThrough v passes own a b acts Goes × Waits p.bytes × IsAtEnd left)
     ⊎ GoesThrough v passes own a b acts Ends
 
@@ -289,7 +289,7 @@ LacksMemory p lost = (0 < length lost) ⊎ HoldsMessage p
 
 -- Why a run fails: after a read fault all that was read is gone through; a wrong prologue stands in a message's place,
 -- or the engine met a fatal error; ReadBound comes after as many bytes and pauses as there are turns.
-abbrev pub FailsBy : {E D : Type 0} → Voice E → (D → Entry → D → Type 0) → Channel → Point E D → Point E D → List Act
+abbrev pub FailsBy : {E D : Type 0} → Protocol E → (D → Entry → D → Type 0) → Channel → Point E D → Point E D → List Act
     → Pending → List ℕ → ℕ → ℕ → ServeFault → Type 0
 FailsBy v passes own a b acts p lost turns n Fault.Read = GoesThrough v passes own a b acts Goes × Waits p.bytes
 FailsBy v passes own a b acts p lost turns n Fault.Write = Stops v passes own a b acts Fault.Write
@@ -301,15 +301,16 @@ FailsBy v passes own a b acts p lost turns n Fault.NoMemory = Stops v passes own
 FailsBy v passes own a b acts p lost turns n Fault.ReadBound = GoesThrough v passes own a b acts Goes × Waits p.bytes
     × (turns ≤ n)
 
-abbrev pub EndsTurn : {E D : Type 0} → Voice E → (D → Entry → D → Type 0) → Channel → Point E D → Point E D → List Act
-    → Pending → List ℕ → ℕ → Option (List ℕ) → Result Next ServeFault → Type 0
+abbrev pub EndsTurn : {E D : Type 0} → Protocol E → (D → Entry → D → Type 0) → Channel → Point E D → Point E D
+    → List Act → Pending → List ℕ → ℕ → Option (List ℕ) → Result Next ServeFault → Type 0
 EndsTurn v passes own a b acts p lost n left (Ok On) = GoesThrough v passes own a b acts Goes × Waits p.bytes × (0 < n)
 EndsTurn v passes own a b acts p lost n left (Ok Over) = EndsWell v passes own a b acts p left
 EndsTurn v passes own a b acts p lost n left (Err fault) = FailsBy v passes own a b acts p lost 0 n fault
     × (fault ≡ Fault.ReadBound → ⊥)
 
 -- one read, and what is gone through for it; may_pause says that a time limit can end a read
-pub record TakesTurn {E D : Type 0} (v : Voice E) (passes : D → Entry → D → Type 0) (own : Channel) (may_pause : Type 0)
+pub record TakesTurn {E D : Type 0} (v : Protocol E) (passes : D → Entry → D → Type 0) (own : Channel)
+    (may_pause : Type 0)
     (p p' : Pending) (a b : Point E D) (input left : Option (List ℕ)) (result : Result Next ServeFault) : Type 0 where
   pub read : List ℕ
   pub lost : List ℕ
@@ -321,7 +322,7 @@ pub record TakesTurn {E D : Type 0} (v : Voice E) (passes : D → Entry → D �
   pub ends : EndsTurn v passes own a b (flat_map acts_for inputs) p' lost
       (length read + pauses inputs) left result
 
-abbrev pub EndsRun : {E D : Type 0} → Voice E → (D → Entry → D → Type 0) → Channel → Point E D → Point E D → List Act
+abbrev pub EndsRun : {E D : Type 0} → Protocol E → (D → Entry → D → Type 0) → Channel → Point E D → Point E D → List Act
     → Pending → List ℕ → ℕ → ℕ → Option (List ℕ) → Result (Unit {0}) ServeFault → Type 0
 EndsRun v passes own a b acts p lost turns n left (Ok _) = EndsWell v passes own a b acts p left
 EndsRun v passes own a b acts p lost turns n left (Err fault) = FailsBy v passes own a b acts p lost turns n fault
@@ -329,7 +330,7 @@ EndsRun v passes own a b acts p lost turns n left (Err fault) = FailsBy v passes
 -- These bytes were read, however they were cut. The messages that stand in them are what the engine is asked, as far as
 -- the run came; where it waits for more, or stands at a wrong prologue, those are all messages of the stream. No time
 -- limit ended a read where none can.
-pub record Runs {E D : Type 0} (v : Voice E) (passes : D → Entry → D → Type 0) (own : Channel) (may_pause : Type 0)
+pub record Runs {E D : Type 0} (v : Protocol E) (passes : D → Entry → D → Type 0) (own : Channel) (may_pause : Type 0)
     (turns : ℕ) (a b : Point E D) (input left : Option (List ℕ)) (result : Result (Unit {0}) ServeFault) : Type 0 where
   pub read : List ℕ
   pub lost : List ℕ
@@ -349,7 +350,7 @@ Leaves passes None d d' = d' ≡ d
 Leaves passes (Some sid) d d' = (answer : SessionAnswer) × passes d (Asked (Ask.Leave sid) answer) d'
 
 -- a run, and then the session is left
-pub record Serves {E D : Type 0} (v : Voice E) (passes : D → Entry → D → Type 0) (own : Channel) (may_pause : Type 0)
+pub record Serves {E D : Type 0} (v : Protocol E) (passes : D → Entry → D → Type 0) (own : Channel) (may_pause : Type 0)
     (turns : ℕ) (a b : Point E D) (input left : Option (List ℕ)) (result : Result (Unit {0}) ServeFault) : Type 0 where
   pub desk : D
   pub runs : Runs v passes own may_pause turns a (point b.engine desk b.main b.side) input left result

@@ -14,7 +14,7 @@ use Rattle.sw_session.specs.Trace.{Entry, Polled}
 use Rattle.sw_session.specs.EngineStep.{goes, says, fails, Unasked}
 use Rattle.sw_session.specs.Engine.{EngineStanding, fresh, Takes, Falters, session_of, channel_of, too_large, skips}
 use Rattle.sw_session.specs.Engine.{notice_from, noticed_from}
-use Rattle.sw_session.specs.Serve.{Voice, Serves, point}
+use Rattle.sw_session.specs.Serve.{Protocol, Serves, point}
 
 -- a service request that is told, if any
 abbrev pub told_step : Option Message → Step
@@ -53,13 +53,13 @@ EngineFalters e (Act.Takes m) asked f = Falters e m asked × (session_of f.state
 EngineFalters e act asked f = (asked ≡ []) × (f ≡ e)
 
 -- the definition of a HiSLIP engine
-abbrev pub engine_voice : Voice EngineStanding
-engine_voice = record { speaks = EngineSpeaks; falters = EngineFalters; session = λ e. session_of e.state }
+abbrev pub engine_protocol : Protocol EngineStanding
+engine_protocol = record { speaks = EngineSpeaks; falters = EngineFalters; session = λ e. session_of e.state }
 
 -- A server of one channel, from its first byte on: an engine on which nothing has come is served.
 pub record ServesChannel {D : Type 0} (passes : D → Entry → D → Type 0) (own : Channel) (may_pause : Type 0) (turns : ℕ)
     (desk desk' : D) (input left main main' side side' : Option (List ℕ))
     (result : Result (Unit {0}) ServeFault) : Type 0 where
   pub engine : EngineStanding
-  pub serves : Serves engine_voice passes own may_pause turns (point (fresh own) desk main side)
+  pub serves : Serves engine_protocol passes own may_pause turns (point (fresh own) desk main side)
       (point engine desk' main' side') input left result

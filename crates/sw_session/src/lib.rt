@@ -39,7 +39,7 @@ pub use laws::{
     work_is_kept_where_there_is_room,
 };
 pub use servers::{
-    Act, Memory, ServeFault, Sink, Source, Speaker, Unread, Unwritten, serve_async,
+    Act, Handler, Memory, ServeFault, Sink, Source, Unread, Unwritten, serve_async,
     serve_async_for, serve_for, serve_sync, serve_sync_for, write_all,
 };
 pub use talker::Talker;

@@ -37,24 +37,24 @@ pub enum After {
 }
 
 /// One channel of a session, as a server asks it.
-pub trait Speaker {
+pub trait Handler {
     ghost use Rattle.std.specs.Prelude.{◌≡◌, IfOk, OnErr};
     ghost use Rattle.sw_session.specs.EngineStep.{LedBy};
-    ghost use Rattle.sw_session.specs.Serve.{Voice};
+    ghost use Rattle.sw_session.specs.Serve.{Protocol};
 
     /// What it asks and says, and which session it has joined.
-    ghost voice: { Voice Self };
+    ghost protocol: { Protocol Self };
 
     /// Asks the desk for an act, and says what comes of it.
-    fn hear<D: Desk>(&mut self, alloc: Global, act: Act, desk: &mut D) -> Result<Step, AllocError>
+    fn handle<D: Desk>(&mut self, alloc: Global, act: Act, desk: &mut D) -> Result<Step, AllocError>
         ensures ok { IfOk result (λ step. LedBy D.passes desk.old desk.new
-            (λ asked. voice.speaks self.old act asked step self.new)) }
+            (λ asked. protocol.speaks self.old act asked step self.new)) }
         ensures err { OnErr result (LedBy D.passes desk.old desk.new
-            (λ asked. voice.falters self.old act asked self.new)) };
+            (λ asked. protocol.falters self.old act asked self.new)) };
 
     /// The session that it has joined.
     fn session(&self) -> Option<Sid>
-        ensures { result ≡ voice.session self.now };
+        ensures { result ≡ protocol.session self.now };
 }
 
 /// Whether the wire was refused.

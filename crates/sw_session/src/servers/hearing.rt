@@ -7,7 +7,7 @@ ghost use Rattle.sw_session.specs.Serve.{Hears, HearsEach, Judges, acts_for, is_
 
 use crate::desk::Desk;
 use crate::engine::{Channel, Sent};
-use crate::servers::act::{Act, After, Speaker, after_of, has_last_part, is_refused};
+use crate::servers::act::{Act, After, Handler, after_of, has_last_part, is_refused};
 use crate::servers::fault::ServeFault;
 use crate::servers::sending::send_all;
 use crate::servers::writing::Sink;
@@ -26,7 +26,7 @@ fn note<D: Desk>(sid: Option<Sid>, said: &[Sent], desk: &mut D)
 }
 
 /// Asks the engine for an act, and writes what it says.
-fn hear<E: Speaker, W: Sink, S: Sink, D: Desk>(
+fn hear<E: Handler, W: Sink, S: Sink, D: Desk>(
     alloc: Global,
     own: Channel,
     act: Act,
@@ -35,14 +35,14 @@ fn hear<E: Speaker, W: Sink, S: Sink, D: Desk>(
     side: &mut S,
     desk: &mut D,
 ) -> Result<After, ServeFault>
-    ensures heard { Hears E.voice D.passes own act
+    ensures heard { Hears E.protocol D.passes own act
         (point engine.old desk.old (W.contents writer.old) (S.contents side.old))
         (point engine.new desk.new (W.contents writer.new) (S.contents side.new)) result }
     ensures judged { IfOk result (λ after. Judges (is_refused act) after) }
     ensures write { result ≡ Err ServeFault.Write → CameTo W.failed writer.new ⊎ CameTo S.failed side.new }
 {
     let refused = is_refused(&act);
-    let Ok(step) = engine.hear(alloc, act, desk) else {
+    let Ok(step) = engine.handle(alloc, act, desk) else {
         return Err(ServeFault::NoMemory);
     };
     match send_all(alloc, own, step.out.as_slice(), writer, side) {
@@ -55,7 +55,7 @@ fn hear<E: Speaker, W: Sink, S: Sink, D: Desk>(
 }
 
 /// Goes through what the wire has told: before a message is taken, service requests are told.
-pub fn attend<E: Speaker, W: Sink, S: Sink, D: Desk>(
+pub fn attend<E: Handler, W: Sink, S: Sink, D: Desk>(
     alloc: Global,
     own: Channel,
     input: Act,
@@ -64,7 +64,7 @@ pub fn attend<E: Speaker, W: Sink, S: Sink, D: Desk>(
     side: &mut S,
     desk: &mut D,
 ) -> Result<After, ServeFault>
-    ensures heard { HearsEach E.voice D.passes own (acts_for input)
+    ensures heard { HearsEach E.protocol D.passes own (acts_for input)
         (point engine.old desk.old (W.contents writer.old) (S.contents side.old))
         (point engine.new desk.new (W.contents writer.new) (S.contents side.new)) result }
     ensures judged { IfOk result (λ after. Judges (is_refused input) after) }

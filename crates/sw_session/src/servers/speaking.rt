@@ -8,18 +8,23 @@ ghost use Rattle.sw_session.specs.declared.engine.refusals.FatalCode.TheVariants
 
 use crate::desk::Desk;
 use crate::engine::{Channel, Engine, FatalCode, Reply, Step, step_of};
-use crate::servers::act::{Act, Speaker};
+use crate::servers::act::{Act, Handler};
 use std::alloc::{AllocError, Global};
 use sw_base::Sequence;
 use sw_core::Sid;
 use sw_hislip::{Kind, Message};
 
-impl Speaker for Engine {
-    ghost use Rattle.sw_session.specs.ServeEngine.{engine_voice};
+impl Handler for Engine {
+    ghost use Rattle.sw_session.specs.ServeEngine.{engine_protocol};
 
-    ghost voice = { engine_voice };
+    ghost protocol = { engine_protocol };
 
-    fn hear<D: Desk>(&mut self, alloc: Global, act: Act, desk: &mut D) -> Result<Step, AllocError> {
+    fn handle<D: Desk>(
+        &mut self,
+        alloc: Global,
+        act: Act,
+        desk: &mut D,
+    ) -> Result<Step, AllocError> {
         match act {
             Act::Takes(message) => self.take(message, desk),
             Act::Skips(kind) => skip(alloc, kind, self),

@@ -8,7 +8,7 @@ ghost use Rattle.sw_session.specs.Serve.{Runs, Leaves, Serves};
 
 use crate::desk::Desk;
 use crate::engine::Channel;
-use crate::servers::act::{Act, After, Speaker};
+use crate::servers::act::{Act, After, Handler};
 use crate::servers::fault::ServeFault;
 use crate::servers::hearing::attend;
 use crate::servers::source::{Source, Unread};
@@ -83,7 +83,7 @@ fn next_input(alloc: Global, decoder: &mut Decoder) -> Result<Option<Act>, Serve
 }
 
 /// Goes through all whole messages, or those up to one that ends the channel.
-fn hear_all<E: Speaker, W: Sink, S: Sink, D: Desk>(
+fn hear_all<E: Handler, W: Sink, S: Sink, D: Desk>(
     alloc: Global,
     own: Channel,
     decoder: &mut Decoder,
@@ -92,7 +92,7 @@ fn hear_all<E: Speaker, W: Sink, S: Sink, D: Desk>(
     side: &mut S,
     desk: &mut D,
 ) -> Result<After, ServeFault>
-    ensures heard { HearsAll E.voice D.passes own decoder.old.pending decoder.new.pending
+    ensures heard { HearsAll E.protocol D.passes own decoder.old.pending decoder.new.pending
         (point engine.old desk.old (W.contents writer.old) (S.contents side.old))
         (point engine.new desk.new (W.contents writer.new) (S.contents side.new)) result }
     ensures write { result ≡ Err ServeFault.Write → CameTo W.failed writer.new ⊎ CameTo S.failed side.new }
@@ -114,7 +114,7 @@ fn hear_all<E: Speaker, W: Sink, S: Sink, D: Desk>(
 }
 
 /// One read, and what is gone through for it.
-fn take_turn<E: Speaker, R: Source, W: Sink, S: Sink, D: Desk>(
+fn take_turn<E: Handler, R: Source, W: Sink, S: Sink, D: Desk>(
     alloc: Global,
     own: Channel,
     reader: &mut R,
@@ -125,7 +125,7 @@ fn take_turn<E: Speaker, R: Source, W: Sink, S: Sink, D: Desk>(
     desk: &mut D,
 ) -> Result<Next, ServeFault>
     requires { Waits decoder.old.pending.bytes }
-    ensures turn { TakesTurn E.voice D.passes own (MayPause R.paused) decoder.old.pending decoder.new.pending
+    ensures turn { TakesTurn E.protocol D.passes own (MayPause R.paused) decoder.old.pending decoder.new.pending
         (point engine.old desk.old (W.contents writer.old) (S.contents side.old))
         (point engine.new desk.new (W.contents writer.new) (S.contents side.new))
         (R.remaining reader.old) (R.remaining reader.new) result }
@@ -141,7 +141,7 @@ fn take_turn<E: Speaker, R: Source, W: Sink, S: Sink, D: Desk>(
 }
 
 /// Takes so many turns at most.
-fn run<E: Speaker, R: Source, W: Sink, S: Sink, D: Desk>(
+fn run<E: Handler, R: Source, W: Sink, S: Sink, D: Desk>(
     alloc: Global,
     own: Channel,
     engine: &mut E,
@@ -151,7 +151,7 @@ fn run<E: Speaker, R: Source, W: Sink, S: Sink, D: Desk>(
     desk: &mut D,
     turns: u64,
 ) -> Result<(), ServeFault>
-    ensures runs { Runs E.voice D.passes own (MayPause R.paused) turns
+    ensures runs { Runs E.protocol D.passes own (MayPause R.paused) turns
         (point engine.old desk.old (W.contents writer.old) (S.contents side.old))
         (point engine.new desk.new (W.contents writer.new) (S.contents side.new))
         (R.remaining reader.old) (R.remaining reader.new) result }
@@ -182,7 +182,7 @@ fn leave<D: Desk>(sid: Option<Sid>, desk: &mut D)
 
 /// Serves one channel for so many turns at most, and leaves its session then. `own` says which channel it is: its
 /// messages go to the writer, those of the other one to the side writer.
-pub fn serve_for<E: Speaker, R: Source, W: Sink, S: Sink, D: Desk>(
+pub fn serve_for<E: Handler, R: Source, W: Sink, S: Sink, D: Desk>(
     alloc: Global,
     own: Channel,
     engine: &mut E,
@@ -192,7 +192,7 @@ pub fn serve_for<E: Speaker, R: Source, W: Sink, S: Sink, D: Desk>(
     desk: &mut D,
     turns: u64,
 ) -> Result<(), ServeFault>
-    ensures serves { Serves E.voice D.passes own (MayPause R.paused) turns
+    ensures serves { Serves E.protocol D.passes own (MayPause R.paused) turns
         (point engine.old desk.old (W.contents writer.old) (S.contents side.old))
         (point engine.new desk.new (W.contents writer.new) (S.contents side.new))
         (R.remaining reader.old) (R.remaining reader.new) result }

@@ -6,6 +6,6 @@ use Rattle.sw_session.proofs.servers.turns.run.Given as goal
 
 abbrev pub invariant-loop-turn : goal.invariant-loop-turn
 invariant-loop-turn g l =
-    Going g.E.Speaker.voice g.D.Desk.passes l.fn.own (MayPause g.R.Source.paused) nothing_fed l.decoder.pending
+    Going g.E.Handler.protocol g.D.Desk.passes l.fn.own (MayPause g.R.Source.paused) nothing_fed l.decoder.pending
     (point l.fn.engine l.fn.desk (g.W.Sink.contents l.fn.writer) (g.S.Sink.contents l.fn.side))
     (point l.engine l.desk (g.W.Sink.contents l.writer) (g.S.Sink.contents l.side)) (g.R.Source.remaining l.fn.reader) (g.R.Source.remaining l.reader) l._turn

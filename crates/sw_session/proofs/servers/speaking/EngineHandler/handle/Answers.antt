@@ -1,6 +1,6 @@
 use Rattle.sw_session.proofs.ServeSpeaks.{takes-speaks, takes-falters, skips-speaks, skips-falters, refuses-speaks, refuses-falters, looks-speaks}
 use Rattle.sw_session.proofs.ServeSpeaks.{looks-falters}
-use Rattle.sw_session.proofs.servers.speaking.EngineSpeaker.hear.Goals as goal
+use Rattle.sw_session.proofs.servers.speaking.EngineHandler.handle.Goals as goal
 
 pub returns-in-Takes-clause-ok : goal.returns-in-Takes-clause-ok
 returns-in-Takes-clause-ok g c =
