@@ -1,5 +1,6 @@
 -- What was read of a text, without where it lies in memory.
-use Rattle.std.specs.Prelude.{◌≡◌, ℕ, ◌<◌, Bool, true, ◌==◌, ◌||◌, List, [], ◌++◌, ◌∷◌, length, Option, Result, Ok, Err, ◌⊎◌, IfOk}
+use Rattle.std.specs.Prelude.{◌≡◌, ℕ, ◌<◌, Bool, true, ◌==◌, ◌||◌, List, [], ◌++◌, ◌∷◌, length, Option, Result, Ok}
+use Rattle.std.specs.Prelude.{Err, ◌⊎◌, IfOk}
 use Rattle.std.specs.Option.{option_map}
 use Rattle.sw_base.specs.Layout.{Channel}
 use Rattle.sw_base.specs.Text.{is_digit, Spans}

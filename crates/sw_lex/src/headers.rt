@@ -1,6 +1,6 @@
 //! From the nodes of a header to its command.
 
-ghost use Rattle.std.specs.Prelude.{◌≡◌, ℕ, Bool, List, [], ◌∷◌, ◌++◌, map, IfSome, IfNone, IsTrue, ◌↔◌};
+ghost use Rattle.std.specs.Prelude.{◌≡◌, ℕ, Bool, false, ◌==◌, List, [], ◌∷◌, ◌++◌, map, IfSome, IfNone, IsTrue, ◌↔◌};
 ghost use Rattle.std.specs.Char.{to_ascii_uppercase};
 ghost use Rattle.sw_lex.specs.Found.{IsFound, IsForm, IsNumbered, Fits};
 ghost use Rattle.sw_lex.specs.Table.{entries};
@@ -10,6 +10,13 @@ ghost use Rattle.sw_lex.specs.declared.table.Key.{Key};
 
 use crate::rows::{Group, Row, Step, groups};
 use crate::table::Key;
+
+/// Whether two bytes are one but for the case of a letter.
+fn is_alike(byte: u8, next: u8) -> bool
+    ensures { result ≡ (to_ascii_uppercase byte == to_ascii_uppercase next) }
+{
+    byte == next || byte.to_ascii_uppercase() == next.to_ascii_uppercase()
+}
 
 /// Whether the rest of a word is the rest of the long form of a mnemonic, or of the short form, where only capitals of
 /// the mnemonic have been passed.
@@ -24,7 +31,7 @@ fn is_rest(word: &[u8], form: &[u8], capitals: bool) -> bool
         [byte, word @ ..] => match form {
             [] => false,
             [next, form @ ..] => {
-                if byte.to_ascii_uppercase() == next.to_ascii_uppercase() {
+                if is_alike(*byte, *next) {
                     is_rest(word, form, capitals && !next.is_ascii_lowercase())
                 } else {
                     false
@@ -41,6 +48,19 @@ pub fn is_form(word: &[u8], form: &[u8]) -> bool
     ensures named { result ≡ is_named form.now (map to_ascii_uppercase word.now) }
 {
     is_rest(word, form, true)
+}
+
+/// Whether a word may be one of the two forms, by the first letter of both.
+fn may_be_form(word: &[u8], form: &[u8]) -> bool
+    ensures { result ≡ false → IsForm form.now (map to_ascii_uppercase word.now) → ⊥ }
+{
+    match word {
+        [] => true,
+        [byte, ..] => match form {
+            [] => false,
+            [next, ..] => is_alike(*byte, *next),
+        },
+    }
 }
 
 /// Whether a word is one of the two forms and then the digit.
@@ -103,6 +123,23 @@ fn spelled(steps: &[Step], words: &[&[u8]]) -> Option<u8>
     }
 }
 
+/// Whether the words may be a spelling of the nodes, by the first letter of both.
+fn may_fit(steps: &[Step], words: &[&[u8]]) -> bool
+    ensures { result ≡ false → (k : ℕ)
+        → Fits (nodes_at steps.now) (map (λ w. map to_ascii_uppercase w.now) words.now) k → ⊥ }
+{
+    match steps {
+        [] => words.is_empty(),
+        [step, ..] => match *step {
+            Step::Must(form) => match words {
+                [] => false,
+                [word, ..] => may_be_form(word, form),
+            },
+            Step::May(_) | Step::Numbered(_) => true,
+        },
+    }
+}
+
 /// What the first row asks for that these words spell below its first node, and the number in them.
 fn below(rows: &[Row], words: &[&[u8]], query: bool) -> Option<(Key, u8)>
     ensures some { IfSome result (λ x. MatchesRow rows.now
@@ -111,7 +148,7 @@ fn below(rows: &[Row], words: &[&[u8]], query: bool) -> Option<(Key, u8)>
         → MatchesRow rows.now (map (λ w. map to_ascii_uppercase w.now) words.now) query key k → ⊥) }
 {
     for row in rows {
-        if row.is_query() == query {
+        if row.is_query() == query && may_fit(row.steps(), words) {
             if let Some(number) = spelled(row.steps(), words) {
                 return Some((row.key(), number));
             }
@@ -128,7 +165,7 @@ fn matching(groups: &[Group], word: &[u8], words: &[&[u8]], query: bool) -> Opti
         (map (λ w. map to_ascii_uppercase w.now) words.now) query key k → ⊥) }
 {
     for group in groups {
-        if is_form(word, group.first) {
+        if may_be_form(word, group.first) && is_form(word, group.first) {
             if let Some(found) = below(group.rows, words, query) {
                 return Some(found);
             }

@@ -48,6 +48,8 @@ list-preserved c =
             c.with_item-found.ensures.leads l.written r.0 (judged [] is) l.means
                 (subst (λ (js : List Item). LeadsTo c.list.found js (judged [] is)) r.1 all.2),
           );
-      back = λ js h. c.list.invariant.back (l.written ∷ js) (items_join _ l.front _ l.written js (l.whole ∙ ap (λ (t : List ℕ). l.front ++ t) c.in-Some-eat.ensures.found) l.part h);
+      back = λ js h.
+          let w = l.whole ∙ ap (λ (t : List ℕ). l.front ++ t) c.in-Some-eat.ensures.found in
+          c.list.invariant.back (l.written ∷ js) (items_join _ l.front _ l.written js w l.part h);
       within = λ f e. rw e at c.with_item-found.ensures.within;
     }

@@ -4,7 +4,8 @@ use Rattle.sw_channel.proofs.collect.with_item.Goals as goal
 
 pub returns-then-found-more-clause-leads : goal.returns-then-found-more-clause-leads
 returns-then-found-more-clause-leads c i is all m h =
-    leads_full c.in_ok-found.found i is all c.in-Some.run' c.from-more.result (rw c.in-Some.is at m) (c.from-more.ensures ∙ c.count.ensures.value) c.if-found-more.true
+    leads_full c.in_ok-found.found i is all c.in-Some.run' c.from-more.result (rw c.in-Some.is at m)
+    (c.from-more.ensures ∙ c.count.ensures.value) c.if-found-more.true
     (rw c.in_ok-found.was at h)
 
 pub returns-else-found-more-clause-leads : goal.returns-else-found-more-clause-leads
