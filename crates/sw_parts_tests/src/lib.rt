@@ -17,6 +17,8 @@ mod hostile_bytes;
 #[cfg(test)]
 mod hostile_listings;
 #[cfg(test)]
+mod hostile_memory;
+#[cfg(test)]
 mod kinds;
 #[cfg(test)]
 mod lex;

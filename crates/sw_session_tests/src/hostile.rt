@@ -222,7 +222,7 @@ pub fn sent_by(alloc: Global, rows: &[Row<'_>]) -> Option<Vec<u8>> {
 }
 
 /// What is said once so many bytes have come.
-fn said_after(alloc: Global, rows: &[Row<'_>], read: usize) -> Vec<u8> {
+pub fn said_after(alloc: Global, rows: &[Row<'_>], read: usize) -> Vec<u8> {
     let mut out = Vec::new(alloc);
     let mut left = read;
     for row in rows {
@@ -250,9 +250,9 @@ fn is_over(rows: &[Row<'_>], read: usize) -> bool {
 /// How a server ended, what it had written by then, and how often its session left.
 #[derive(Drop)]
 pub struct Served {
-    result: Result<(), ServeFault>,
-    main: Vec<u8>,
-    side: Vec<u8>,
+    pub result: Result<(), ServeFault>,
+    pub main: Vec<u8>,
+    pub side: Vec<u8>,
     pub leaves: u32,
 }
 

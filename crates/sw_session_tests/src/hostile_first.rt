@@ -331,3 +331,18 @@ fn leaves(alloc: Global) -> bool {
 fn a_fatal_error_of_a_client_ends_its_session(rt: HostRuntime) {
     assert!(rt; leaves(rt.alloc()));
 }
+
+/// Whether it is seen that something else is said, that a session leaves at another place, and that the end is another.
+fn sees_differences(alloc: Global) -> bool {
+    let rows = [begins(), asks(b"*IDN?", IDENTITY)];
+    let others = [begins(), asks(b"*IDN?", b"OPENBENCH,SWM8,0,1.1\n")];
+    holds_within(alloc, &rows)
+        && !holds_within(alloc, &others)
+        && !holds(alloc, first(BEGUN + 1, &rows, Ok(())))
+        && !ends_by(alloc, &rows, ServeFault::Fatal)
+}
+
+#[test]
+fn differences_are_seen(rt: HostRuntime) {
+    assert!(rt; sees_differences(rt.alloc()));
+}

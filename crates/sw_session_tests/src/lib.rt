@@ -9,7 +9,11 @@ mod engine;
 #[cfg(test)]
 mod hostile;
 #[cfg(test)]
+mod hostile_faults;
+#[cfg(test)]
 mod hostile_first;
+#[cfg(test)]
+mod hostile_memory;
 #[cfg(test)]
 mod hostile_second;
 #[cfg(test)]
