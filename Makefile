@@ -9,7 +9,7 @@
 RT ?= rt
 export RT
 
-.PHONY: try run test wrong check talks bench bench-serve soak
+.PHONY: try run test wrong check talks bench
 
 try:
 	@cd crates/mainframe && $(RT) try -- run
@@ -31,6 +31,8 @@ talks:
 
 bench:
 	@bench/run $(NAME)
+
+.PHONY: bench-serve soak
 
 bench-serve:
 	@bench/serve crates/mainframe/out/mainframe

@@ -318,7 +318,8 @@ fn open_watched_echoes(port: u16, busy: u32) -> Result<Vec<Line>> {
 
 fn race_identities(program: &str, seconds: f64) -> Result<()> {
     println!("round trips of *IDN? (22 bytes, answered by 37), the better of {TRIALS} for each, in turn");
-    println!("sessions   echo/s  serve/s  ratio | echo us: median    99th | serve us: median    99th | us of processor: echo serve");
+    let latencies = "echo us: median    99th | serve us: median    99th";
+    println!("sessions   echo/s  serve/s  ratio | {latencies} | processor us: echo serve");
     for count in [1, 4, SESSIONS] {
         let (echo, served) = (Server::echo()?, Server::program(program)?);
         let mut echoes = (0..count).map(|_| open_echo(echo.port, &Turn::identity())).collect::<Result<Vec<_>>>()?;
@@ -327,7 +328,7 @@ fn race_identities(program: &str, seconds: f64) -> Result<()> {
         let (bare, own) = contest.hold(&mut echoes, &mut lines)?;
         drop(kept);
         println!(
-            "{count:8} {:8.0} {:8.0} {:6.2} | {:15.1} {:7.1} | {:16.1} {:7.1} | {:21.2} {:5.2}",
+            "{count:8} {:8.0} {:8.0} {:6.2} | {:15.1} {:7.1} | {:16.1} {:7.1} | {:18.2} {:5.2}",
             bare.rate, own.rate, own.rate / bare.rate, bare.quantile(0.5), bare.quantile(0.99), own.quantile(0.5),
             own.quantile(0.99), bare.processor, own.processor
         );
@@ -385,7 +386,10 @@ fn main() -> Result<()> {
     let seconds = words.get(2).map_or(Ok(1.0), |word| word.parse())?;
     match (words.first().map(String::as_str), words.get(1)) {
         (Some("echo"), None) => echo(),
-        (Some("serve"), Some(program)) => race_identities(program, seconds).and_then(|()| race_status(program, seconds)),
+        (Some("serve"), Some(program)) => {
+            race_identities(program, seconds)?;
+            race_status(program, seconds)
+        }
         (Some("status"), Some(program)) => compare_status(program, seconds),
         _ => Err("load serve|status PROGRAM [SECONDS]".into()),
     }

@@ -97,6 +97,11 @@ class Served:
         wait_until("a free session", tries)
         return joined[0]
 
+    def check_free(self, others=0):
+        """All sessions but these others can be joined."""
+        for client in [self.join() for _ in range(SESSIONS - others)]:
+            client.close()
+
     def check_sessions(self, others=0):
         """All sessions but these others can be joined and answer."""
         clients = [self.join() for _ in range(SESSIONS - others)]
@@ -137,7 +142,8 @@ class Client(Session):
 
     def break_off(self, start=b""):
         """Sends the start of a message, and resets both connections."""
-        self.commands.sendall(start)
+        if start:
+            self.commands.sendall(start)
         for wire in (self.commands, self.events):
             wire.setsockopt(socket.SOL_SOCKET, socket.SO_LINGER, struct.pack("ii", 1, 0))
         self.close()
