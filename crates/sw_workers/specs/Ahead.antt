@@ -1,9 +1,12 @@
--- What a source whose first bytes were read ahead has left.
-use Rattle.std.specs.Prelude.{◌≡◌, ℕ, List, length, drop, Option}
-use Rattle.std.specs.Io.Cursor.{cursor_position, cursor_inner}
+-- A source whose first bytes were read ahead.
+use Rattle.std.specs.Prelude.{ℕ, List, Option}
 use Rattle.std.specs.Io.KnownBytes.{prepend_known}
-use Rattle.sw_workers.specs.declared.ahead.ReadAhead.{ReadAhead}
+
+-- the bytes that come again, and the reader
+pub record Ahead (R : Type 0) : Type 0 where
+  pub bytes : List ℕ
+  pub reader : R
 
 -- the bytes that come again, and then what the reader has
-abbrev pub left_ahead : {R : Type 0} → (R → Option (List ℕ)) → ReadAhead R → Option (List ℕ)
-left_ahead remaining s = prepend_known (drop (cursor_position s.header) (cursor_inner s.header).items) (remaining s.reader)
+abbrev pub left_ahead : {R : Type 0} → (R → Option (List ℕ)) → Ahead R → Option (List ℕ)
+left_ahead remaining s = prepend_known s.bytes (remaining s.reader)

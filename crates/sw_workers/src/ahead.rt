@@ -1,13 +1,13 @@
 //! A source whose first bytes were read ahead.
 
-ghost use Rattle.std.specs.Prelude.{◌≡◌, ◌≤◌, ◌<◌, ◌⊎◌, true, [], ◌++◌, length, take, drop, vec_capacity, OnOk, OnErr};
+ghost use Rattle.std.specs.Prelude.{◌≡◌, ◌≤◌, ◌<◌, ◌⊎◌, true, nat_lt, [], ◌++◌, length, take, drop, vec_capacity, OnOk, OnErr};
 ghost use Rattle.std.specs.Io.Cursor.{cursor_position, cursor_inner};
-ghost use Rattle.std.specs.Io.KnownBytes.{Consumes, IsAtEnd, prepend_known};
+ghost use Rattle.std.specs.Io.KnownBytes.{Consumes, IsAtEnd};
 ghost use Rattle.sw_session.specs.ServeRead.{CameTo};
-ghost use Rattle.sw_workers.specs.Ahead.{left_ahead};
 ghost use Rattle.sw_workers.specs.Connected.{Happened, channel_of};
 
 use std::io::{Cursor, Read};
+use std::marker::Model;
 use std::sync::Wait;
 use sw_hislip::Kind;
 use sw_session::{Channel, Source, Unread};
@@ -58,20 +58,32 @@ pub fn channel_of(bytes: &[u8]) -> Channel
 }
 
 /// A source whose first bytes were read ahead, and come again. Where a read after them had failed, so does the one that
-/// follows them.
+/// follows them. Contracts see the bytes that come again, and the reader.
 #[derive(Drop)]
 pub struct ReadAhead<R: Source + Drop> {
     header: Cursor<Vec<u8>>,
     failed: bool,
     reader: R,
-    ghost kept: { failed ≡ true → Happened R.failed },
+}
+
+impl<R: Source + Drop> Model for ReadAhead<R> {
+    ghost use Rattle.std.specs.Prelude.{◌≡◌, true, drop};
+    ghost use Rattle.std.specs.Io.Cursor.{cursor_position, cursor_inner};
+    ghost use Rattle.sw_workers.specs.Ahead.{Ahead};
+    ghost use Rattle.sw_workers.specs.Connected.{Happened};
+
+    ghost Value = { Ahead R };
+
+    ghost view = { λ s. record { bytes = drop (cursor_position s.header) (cursor_inner s.header).items; reader = s.reader } };
+
+    ghost invariant = { λ s. s.failed ≡ true → Happened R.failed };
 }
 
 impl<R: Source + Drop> ReadAhead<R> {
     /// These bytes come again, and then what the reader has.
     pub fn new(header: Vec<u8>, failed: bool, reader: R) -> Self
         requires { failed ≡ true → Happened R.failed }
-        ensures { left_ahead R.remaining result ≡ prepend_known header.items (R.remaining reader) }
+        ensures { result ≡ record { bytes = header.items; reader = reader } }
     {
         ReadAhead {
             header: Cursor::new(header),
@@ -93,7 +105,7 @@ impl<R: Source + Drop> Source for ReadAhead<R> {
     ghost failed = { λ _ _. Happened R.failed };
 
     fn receive(&mut self, buffer: &mut [u8]) -> Result<usize, Unread> {
-        if self.header.position() < self.header.get_ref().len() as u64 {
+        if has_left(&self.header) {
             return Ok(give(&mut self.header, buffer));
         }
         if self.failed {
@@ -101,6 +113,13 @@ impl<R: Source + Drop> Source for ReadAhead<R> {
         }
         self.reader.receive(buffer)
     }
+}
+
+/// Whether any byte is left.
+fn has_left(header: &Cursor<Vec<u8>>) -> bool
+    ensures { result ≡ nat_lt 0 (length (drop (cursor_position header.now) (cursor_inner header.now).items)) }
+{
+    header.position() < header.get_ref().len() as u64
 }
 
 /// Gives as many of the bytes as there is room for.
