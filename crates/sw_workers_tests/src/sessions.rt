@@ -12,8 +12,7 @@ use std::thread::{JoinHandle, Threads};
 use std::time::Clock;
 use sw_card::{Meter, Relay};
 use sw_kinds::SimSource;
-use sw_workers::{Ended, Gate, House, Opening, Open, SharedDesk, Wired, run_session};
-
+use sw_workers::{Ended, Gate, House, Open, Opening, SharedDesk, Wired, run_session};
 
 /// A client: the ends of its two connections.
 #[derive(Drop)]
@@ -127,8 +126,7 @@ const LOCK_INFO: &[u8] = b"HS\x18\x00\x00\x00\x00\x00\x00\x00\x00\x00\x00\x00\x0
 const UNLOCKED: &[u8] = b"HS\x19\x00\x00\x00\x00\x00\x00\x00\x00\x00\x00\x00\x00\x00";
 
 /// A message that asks for service by an error, and AsyncServiceRequest with the status byte then.
-const SERVICE: &[u8] =
-    b"HS\x07\x00\xff\xff\xff\x00\x00\x00\x00\x00\x00\x00\x00\x0b*SRE 4;FOO\n";
+const SERVICE: &[u8] = b"HS\x07\x00\xff\xff\xff\x00\x00\x00\x00\x00\x00\x00\x00\x0b*SRE 4;FOO\n";
 
 const SERVICE_REQUEST: &[u8] = b"HS\x14\x44\x00\x00\x00\x00\x00\x00\x00\x00\x00\x00\x00\x00";
 
@@ -214,20 +212,14 @@ fn leaves_aside<W: Wait + Clock + Copy + Drop>(one: &Client<W>, other: &Client<W
     let is_next = is_left
         && one.first.ends()
         && other.begins(1)
-        && other.second.tells(STATUS, &status(0))
+        && other.second.tells(STATUS, &status(4))
         && other.second.is_silent();
     one.second.goes_on();
     is_next && one.second.is_silent() && other.second.is_silent()
 }
 
 /// Serves a connection, and gives the desk back.
-fn serve<
-    H: House,
-    R: Relay,
-    M: Meter,
-    G: Gate + Drop,
-    W: Wait + Clock + Copy + Drop,
->(
+fn serve<H: House, R: Relay, M: Meter, G: Gate + Drop, W: Wait + Clock + Copy + Drop>(
     alloc: Global,
     desk: SharedDesk<H, R, M, G, W>,
     connection: Wired<Incoming<W>, Outgoing<W>, Outgoing<W>>,
@@ -255,7 +247,12 @@ impl<
     W: Threads + Wait + Clock + Copy + Drop + Send + Sync + 'static,
 > Shop<H, R, M, G, W> {
     /// Serves the other end in a thread of its own.
-    fn connect(&self, rt: W, alloc: Global, end: &End<W>) -> Option<JoinHandle<SharedDesk<H, R, M, G, W>>> {
+    fn connect(
+        &self,
+        rt: W,
+        alloc: Global,
+        end: &End<W>,
+    ) -> Option<JoinHandle<SharedDesk<H, R, M, G, W>>> {
         let desk = SharedDesk::open(rt, &self.shared)?;
         let (connection, wire) = end.served()?;
         thread::spawn(&rt, move || serve(alloc, desk, connection, wire)).ok()

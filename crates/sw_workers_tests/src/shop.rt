@@ -123,7 +123,12 @@ impl<
 
     /// Closes the mainframe down, and gives its last note where that is the number of events and its cards come out by
     /// slot, with nothing closed.
-    pub fn close(self, rt: W, alloc: Global, sessions: Vec<SharedDesk<H, R, M, G, W>>) -> Option<Note> {
+    pub fn close(
+        self,
+        rt: W,
+        alloc: Global,
+        sessions: Vec<SharedDesk<H, R, M, G, W>>,
+    ) -> Option<Note> {
         let Shop {
             shared,
             card_worker,
