@@ -14,6 +14,7 @@ use Rattle.sw_core.specs.View.{AskEject, SaysEjected, answer_view}
 use Rattle.sw_core.specs.Step.{Step, IsUnnumbered, IsEvent, acts_unnumbered}
 use Rattle.sw_session.proofs.Nearer.{numbered}
 use Rattle.sw_workers.specs.Closing.{IsOpen}
+use Rattle.sw_workers.specs.Held.{AtDesk}
 use Rattle.sw_workers.specs.Work.{AsksOnce}
 
 at-rest : (rack : Accounts) (slot : ℕ) (card : Account) → slot_at (all_open rack) slot ≡ Some card → IsOpen card
@@ -25,13 +26,13 @@ ejected p slot f card q s =
     (λ (u : IsUnnumbered p (AskEject slot) f (SaysEjected card) q). absurd u.worn)
     (λ (e : IsEvent p (AskEject slot) f (SaysEjected card) q). at-rest p.cage.cards slot card e.acts.2)
 
-told-open : (slot : ℕ) (card : Account) (old new : ℕ) → AsksOnce (AskEject slot) (SaysEjected card) old new → IsOpen card
-told-open slot card old new a = ejected a.before slot a.failed card a.after a.step
+told-open : (start : Panel) (slot : ℕ) (card : Account) (old new : AtDesk) → AsksOnce start (AskEject slot) (SaysEjected card) old new → IsOpen card
+told-open start slot card old new a = ejected a.before slot a.failed card a.after a.step
 
-pub comes-open : {R M : _} (slot : ℕ) (whole : Answer R M) (card : _) (old new : ℕ) → whole ≡ Answer.Ejected card
-    → AsksOnce (AskEject slot) (answer_view whole) old new → IsOpen card.1
-comes-open {R} {M} slot whole card old new is asks =
-    told-open slot card.1 old new (subst (λ (a : Answer R M). AsksOnce (AskEject slot) (answer_view a) old new) is asks)
+pub comes-open : {R M : _} (start : Panel) (slot : ℕ) (whole : Answer R M) (card : _) (old new : AtDesk) → whole ≡ Answer.Ejected card
+    → AsksOnce start (AskEject slot) (answer_view whole) old new → IsOpen card.1
+comes-open {R} {M} start slot whole card old new is asks =
+    told-open start slot card.1 old new (subst (λ (a : Answer R M). AsksOnce start (AskEject slot) (answer_view a) old new) is asks)
 
 -- what holds of each card, and of the one that is put behind them, holds of each
 pub all-put : {X : Type 0} (P : X → Type 0) (xs ys : List X) (x : X) (fits : Bool) → All P xs → P x → ys ≡ (if fits then xs ++ x ∷ [] else xs) → All P ys

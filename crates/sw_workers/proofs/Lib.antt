@@ -8,6 +8,8 @@ pub mod PassSteps
 pub mod Recordings
 pub mod Unmoved
 mod Carries
+mod AtDesks
+mod Notes
 mod Worked
 mod Ejected
 mod Asked

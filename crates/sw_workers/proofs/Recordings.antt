@@ -9,17 +9,13 @@ use Rattle.sw_core.specs.Run.{IsNext}
 use Rattle.sw_core.specs.View.{AskView, AnswerView}
 use Rattle.sw_workers.specs.Board.{Known, Said, entry_of}
 use Rattle.sw_workers.specs.Entries.{Entry, made_by}
-use Rattle.sw_workers.specs.History.{pair_of, IsEntry, IsHistory, Entered, Replied, Told, AsksInHistory}
+use Rattle.sw_workers.specs.History.{IsEntry, IsHistory, said_at, Entered, Replied, Told, AsksInHistory}
 use Rattle.sw_workers.specs.Shares.{is_event}
 use Rattle.sw_workers.proofs.Histories.{history_more}
 
 -- a good mainframe's service requests fit into the word
 pub good_fits : (q : Panel) (n : ℕ) → IsGoodPanel q → n ≡ q.status.requests → n < 2 ^ 56
 good_fits q n g e = subst (λ (m : ℕ). m < 2 ^ 56) (sym e) g.status.requests
-
--- what is said of an event after which the panel is q
-abbrev pub said_at : Panel → AskView → AnswerView → Said
-said_at q ask answer = record { number = q.events; ask = ask; answer = answer; pair = pair_of q }
 
 -- the event leads from p to q
 pub record Leads (p : Panel) (ask : AskView) (answer : AnswerView) (q : Panel) : Type 0 where

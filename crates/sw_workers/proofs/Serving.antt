@@ -7,7 +7,7 @@ use Rattle.sw_session.specs.declared.servers.fault.ServeFault.{ServeFault}
 use Rattle.sw_session.specs.declared.servers.fault.ServeFault.TheVariants.{Read, Write}
 use Rattle.sw_session.specs.Trace.{Entry}
 use Rattle.sw_session.specs.ServeEngine.{ServesChannel}
-use Rattle.sw_workers.specs.Connected.{channel_of, ServesConnection}
+use Rattle.sw_workers.specs.Connected.{channel_of, ServesFromHeader}
 
 -- the same run, of an input that it consumed as well
 pub serves-as : {D : Type 0} (passes : D → Entry → D → Type 0) (own : Channel) (may may' : Type 0) (turns : ℕ) (desk desk' : D)
@@ -54,7 +54,7 @@ pub connects : {D : Type 0} (passes : D → Entry → D → Type 0) (may unread 
     → (length header ≡ 16) ⊎ IsAtEnd rest ⊎ unread → again ≡ prepend_known header rest
     → ((side : Option (List ℕ)) × (side' : Option (List ℕ)) × ServesChannel passes own may turns desk desk' again left main main' side side' result)
     → (result ≡ Err Read → unread) → (result ≡ Err Write → unwritten ⊎ (own ≡ Synchronous))
-    → ServesConnection desk desk' passes may unread unwritten turns input left main main' result
+    → ServesFromHeader desk desk' passes may unread unwritten turns input left main main' result
 connects passes may unread unwritten turns desk desk' input rest again left main main' result header own is begins whole same serves read write = record {
   header = header;
   rest = rest;

@@ -24,7 +24,7 @@ channel_of bytes = Synchronous
 -- A connection is served from its first byte on, as the channel that its first header tells. The header is whole, unless
 -- the input ended or failed in it. A run that ends by a read fault has a read that failed; one that ends by a write fault
 -- a write that failed, or else it is of the first channel, where there was no memory for what is left to the second one.
-pub record ServesConnection {D : Type 0} (desk desk' : D) (passes : D → Entry → D → Type 0)
+pub record ServesFromHeader {D : Type 0} (desk desk' : D) (passes : D → Entry → D → Type 0)
     (may_pause unread unwritten : Type 0) (turns : ℕ) (input left main main' : Option (List ℕ))
     (result : Result (Unit {0}) ServeFault) : Type 0 where
   pub header : List ℕ
@@ -42,4 +42,4 @@ abbrev pub RunsSession : {D : Type 0} → D → D → (D → Entry → D → Typ
     → Option (List ℕ) → Option (List ℕ) → Option (List ℕ) → Option (List ℕ) → Result (Unit {0}) ServeFault → Type 0
 RunsSession desk desk' passes may_pause unread unwritten turns input left main main' result =
     ((result ≡ Err NoMemory) × (desk' ≡ desk) × (left ≡ input) × (main' ≡ main))
-    ⊎ ServesConnection desk desk' passes may_pause unread unwritten turns input left main main' result
+    ⊎ ServesFromHeader desk desk' passes may_pause unread unwritten turns input left main main' result

@@ -6,7 +6,7 @@ use Rattle.sw_status.specs.StatusModel.{summary_of}
 use Rattle.sw_core.specs.Panel.{Panel}
 use Rattle.sw_core.specs.View.{AskView, AnswerView}
 use Rattle.sw_core.specs.Run.{IsNext}
-use Rattle.sw_workers.specs.Board.{Known}
+use Rattle.sw_workers.specs.Board.{Known, Said}
 use Rattle.sw_workers.specs.Entries.{Entry, made_by}
 use Rattle.sw_workers.specs.Shares.{is_event}
 
@@ -25,6 +25,15 @@ pub record IsEntry (p : Panel) (e : Entry) (q : Panel) : Type 0 where
 abbrev pub IsHistory : Panel → List Entry → Panel → Type 0
 IsHistory p [] q = p ≡ q
 IsHistory p (e ∷ entries) q = (next : Panel) × IsEntry p e next × IsHistory next entries q
+
+-- what is said of an event after which the panel is this
+abbrev pub said_at : Panel → AskView → AnswerView → Said
+said_at p ask answer = record { number = p.events; ask = ask; answer = answer; pair = pair_of p }
+
+-- the history after an event, or after what is none
+abbrev pub grown : Bool → List Entry → Entry → List Entry
+grown true entries e = entries ++ e ∷ []
+grown false entries e = entries
 
 -- The ask stands with its answer in one new entry of the desk, which has seen the history up to it.
 pub record Entered (v : Known) (ask : AskView) (answer : AnswerView) (w : Known) : Type 0 where

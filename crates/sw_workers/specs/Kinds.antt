@@ -1,7 +1,7 @@
 -- What an ask is called.
 use Rattle.sw_core.specs.declared.ask.SessionAsk.{SessionAsk}
 use Rattle.sw_core.specs.declared.ask.SessionAsk.TheVariants as Session
-use Rattle.sw_core.specs.declared.ask.Ask.{Ask}
+use Rattle.sw_core.specs.View.{AskView, AskSession, AskInstall, AskEject, AskExternal, AskElapsed, AskFinished}
 use Rattle.sw_workers.specs.declared.note.AskKind.{AskKind}
 use Rattle.sw_workers.specs.declared.note.AskKind.TheVariants as Kind
 
@@ -23,10 +23,10 @@ session_kind (Session.Bus sid) = Kind.Bus
 session_kind (Session.Snapshot sid) = Kind.Snapshot
 session_kind (Session.Start sid plan) = Kind.Start
 
-abbrev pub kind_of : {R M : _} → Ask R M → AskKind
-kind_of (Ask.Session ask) = session_kind ask
-kind_of (Ask.Install slot card) = Kind.Install
-kind_of (Ask.Eject slot) = Kind.Eject
-kind_of Ask.External = Kind.External
-kind_of (Ask.Elapsed ticket) = Kind.Elapsed
-kind_of (Ask.Finished done) = Kind.Finished
+abbrev pub kind_of : AskView → AskKind
+kind_of (AskSession ask) = session_kind ask
+kind_of (AskInstall slot card) = Kind.Install
+kind_of (AskEject slot) = Kind.Eject
+kind_of AskExternal = Kind.External
+kind_of (AskElapsed ticket) = Kind.Elapsed
+kind_of (AskFinished done) = Kind.Finished

@@ -1,5 +1,6 @@
 pub mod Board
 pub mod Entries
+pub mod Held
 pub mod History
 pub mod Kinds
 pub mod Said

@@ -1,12 +1,9 @@
 -- How events are counted, each once, in shares that together are their number.
-use Rattle.std.specs.Prelude.{◌==◌, ◌&&◌, ℕ, Bool, true, false, not, List, [], ◌∷◌, ◌++◌}
-use Rattle.circular_buffer.specs.Buffer.{keep_last}
+use Rattle.std.specs.Prelude.{◌==◌, ◌&&◌, ℕ, Bool, true, false, not}
 use Rattle.sw_core.specs.declared.ask.SessionAnswer.{SessionAnswer}
 use Rattle.sw_core.specs.declared.ask.SessionAnswer.TheVariants.{Stranger, Broken, Hold, Worn}
-use Rattle.sw_core.specs.Panel.{Panel}
 use Rattle.sw_core.specs.Event.{last_number}
 use Rattle.sw_core.specs.View.{AnswerView, SaysSession, SaysBack, SaysWorn}
-use Rattle.sw_workers.specs.declared.note.Note.{Note}
 
 -- What is asked of no joined session, dropped, held or handed back is no event.
 abbrev pub is_session_event : SessionAnswer → Bool
@@ -33,18 +30,3 @@ one_if false = 0
 -- the parts of the ledger: one for each of at most 2^33 desks, and one that is left over
 abbrev pub all_parts : ℕ
 all_parts = 8589934593
-
--- how many events are told of
-abbrev pub most_notes : ℕ
-most_notes = 64
-
--- the notes after an event that is numbered, or after what is not
-abbrev pub noted : Bool → List Note → Note → List Note
-noted true notes note = keep_last most_notes (notes ++ note ∷ [])
-noted false notes note = notes
-
--- what is behind the lock: the mainframe's panel, how many desks there are, and the last events, the oldest first
-pub record Locked : Type 0 where
-  pub panel : Panel
-  pub given : ℕ
-  pub notes : List Note

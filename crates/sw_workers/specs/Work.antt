@@ -1,86 +1,114 @@
 -- What a desk asks, and the work that it carries out.
 use Rattle.std.specs.Prelude.{◌≡◌, ◌+◌, ℕ, Bool, List, [], ◌∷◌, Option, None, Some}
+use mathlib.Core.List.{IsPrefix}
 use Rattle.sw_core.specs.declared.ask.SessionAsk.{SessionAsk}
 use Rattle.sw_core.specs.declared.ask.SessionAnswer.{SessionAnswer}
 use Rattle.sw_core.specs.Panel.{Panel}
 use Rattle.sw_core.specs.View.{WorkView, AskView, AskSession, AnswerView, SaysSession}
 use Rattle.sw_core.specs.Step.{Step}
+use Rattle.sw_session.specs.declared.desk.View.{View}
 use Rattle.sw_session.specs.Trace.{Entry, Asked, Waited, Polled, Noted}
 use Rattle.sw_session.specs.CoreDesk.{Tells, brought}
+use Rattle.sw_workers.specs.Board.{Known}
+use Rattle.sw_workers.specs.Entries.{last_pair, made_by}
+use Rattle.sw_workers.specs.Held.{AtDesk}
+use Rattle.sw_workers.specs.History.{pair_of, AsksInHistory}
 use Rattle.sw_workers.specs.Shares.{is_counted, one_if}
 
--- what the mainframe was asked by a desk, at the panel that was behind the lock then
+-- what the mainframe was asked by a desk, at the panel that was behind the lock then, and what the desk's seat knew
+-- before and after
 pub record Made : Type 0 where
   pub before : Panel
   pub ask : AskView
   pub failed : Bool
   pub answer : AnswerView
   pub after : Panel
+  pub knew : Known
+  pub knows : Known
 
-abbrev pub IsMade : Made → Type 0
-IsMade m = Step m.before m.ask m.failed m.answer m.after
+-- it is a step of a mainframe that opened so, and stands in its history
+abbrev pub IsMade : Panel → Made → Type 0
+IsMade start m = Step m.before m.ask m.failed m.answer m.after × AsksInHistory start m.knew m.ask m.answer m.knows
 
 -- the events among them that are numbered
 abbrev pub events_of : List Made → ℕ
 events_of [] = 0
 events_of (m ∷ made) = one_if (is_counted m.before.events m.answer) + events_of made
 
--- the mainframe was asked once, and a share counts that
-pub record AsksOnce (ask : AskView) (answer : AnswerView) (old new : ℕ) : Type 0 where
+-- what the seat knows goes on from one to the next
+abbrev pub Learns : Known → List Made → Known → Type 0
+Learns v [] w = w ≡ v
+Learns v (m ∷ made) w = (m.knew ≡ v) × Learns m.knows made w
+
+-- the mainframe was asked once, a share counts that, and the desk's seat knows it
+pub record AsksOnce (start : Panel) (ask : AskView) (answer : AnswerView) (old new : AtDesk) : Type 0 where
   pub before : Panel
   pub failed : Bool
   pub after : Panel
   pub step : Step before ask failed answer after
-  pub counts : new ≡ old + one_if (is_counted before.events answer)
+  pub counts : new.amount ≡ old.amount + one_if (is_counted before.events answer)
+  pub history : AsksInHistory start old.seat ask answer new.seat
 
 -- The work was sent, or there was none; or it was carried out, and so on with what that brought.
-abbrev pub Carries : Option WorkView → List Made → Type 0
-Carries work [] = Unit {0}
-Carries None (m ∷ made) = ⊥
-Carries (Some piece) (m ∷ made) = Tells piece m.ask × IsMade m × Carries (brought m.answer) made
+abbrev pub Carries : Panel → Option WorkView → List Made → Type 0
+Carries start work [] = Unit {0}
+Carries start None (m ∷ made) = ⊥
+Carries start (Some piece) (m ∷ made) = Tells piece m.ask × IsMade start m × Carries start (brought m.answer) made
 
--- what a share counts where the work is sent or carried out
-pub record Adds (work : Option WorkView) (old new : ℕ) : Type 0 where
+-- what a desk counts and knows where the work is sent or carried out
+pub record Adds (start : Panel) (work : Option WorkView) (old new : AtDesk) : Type 0 where
   pub made : List Made
-  pub carries : Carries work made
-  pub counts : new ≡ old + events_of made
+  pub carries : Carries start work made
+  pub counts : new.amount ≡ old.amount + events_of made
+  pub learns : Learns old.seat made new.seat
 
 -- the mainframe was told this, which brought this work
-pub record Brings (ask : AskView) (old : ℕ) (brings : Option WorkView) (new : ℕ) : Type 0 where
+pub record Brings (start : Panel) (ask : AskView) (old : AtDesk) (brings : Option WorkView) (new : AtDesk)
+    : Type 0 where
   pub answer : AnswerView
-  pub asks : AsksOnce ask answer old new
+  pub asks : AsksOnce start ask answer old new
   pub brings_is : brings ≡ brought answer
 
 -- one piece was carried out and the mainframe told, which brought this
-pub record Ends (piece : WorkView) (old : ℕ) (brings : Option WorkView) (new : ℕ) : Type 0 where
+pub record Ends (start : Panel) (piece : WorkView) (old : AtDesk) (brings : Option WorkView) (new : AtDesk)
+    : Type 0 where
   pub ask : AskView
   pub tells : Tells piece ask
-  pub told : Brings ask old brings new
+  pub told : Brings start ask old brings new
 
 -- the mainframe was told of a piece of work
-abbrev pub IsTold : Made → Type 0
-IsTold m = (piece : WorkView) × Tells piece m.ask × IsMade m
+abbrev pub IsTold : Panel → Made → Type 0
+IsTold start m = (piece : WorkView) × Tells piece m.ask × IsMade start m
 
-abbrev pub AreTold : List Made → Type 0
-AreTold [] = Unit {0}
-AreTold (m ∷ made) = IsTold m × AreTold made
+abbrev pub AreTold : Panel → List Made → Type 0
+AreTold start [] = Unit {0}
+AreTold start (m ∷ made) = IsTold start m × AreTold start made
 
--- what a worker's share counts: the events of what it told of work, and no others
-pub record Works (old new : ℕ) : Type 0 where
+-- what a worker's desk counts and knows: the events of what it told of work, and no others
+pub record Works (start : Panel) (old new : AtDesk) : Type 0 where
   pub made : List Made
-  pub told : AreTold made
-  pub counts : new ≡ old + events_of made
+  pub told : AreTold start made
+  pub counts : new.amount ≡ old.amount + events_of made
+  pub learns : Learns old.seat made new.seat
 
 -- a session's ask, and the work that it brought
-pub record Answers (ask : SessionAsk) (answer : SessionAnswer) (old new : ℕ) : Type 0 where
+pub record Answers (start : Panel) (ask : SessionAsk) (answer : SessionAnswer) (old new : AtDesk) : Type 0 where
   pub work : Option WorkView
-  pub mid : ℕ
-  pub asks : AsksOnce (AskSession ask) (SaysSession answer work) old mid
-  pub adds : Adds work mid new
+  pub mid : AtDesk
+  pub asks : AsksOnce start (AskSession ask) (SaysSession answer work) old mid
+  pub adds : Adds start work mid new
 
--- How a desk's share goes on. Only an ask counts events.
-abbrev pub DeskPasses : ℕ → Entry → ℕ → Type 0
-DeskPasses old (Asked ask answer) new = Answers ask answer old new
-DeskPasses old (Waited limit wake) new = new ≡ old
-DeskPasses old (Polled sid view) new = new ≡ old
-DeskPasses old (Noted sid mav) new = new ≡ old
+-- The status that is read is the pair of the history at a place not before any that the desk's seat had seen.
+pub record ReadsStatus (start : Panel) (view : View) (old new : AtDesk) : Type 0 where
+  pub later : IsPrefix old.seat.seen new.seat.seen
+  pub pair : (view.byte, view.requests) ≡ last_pair (pair_of start) new.seat.seen
+  pub own : (d : ℕ) → old.seat.desk ≡ Some d → made_by d new.seat.seen ≡ old.seat.mine
+  pub desk : (new.seat.desk ≡ old.seat.desk) × (new.seat.mine ≡ old.seat.mine)
+  pub amount : new.amount ≡ old.amount
+
+-- How a desk of a mainframe that opened so goes on. Only an ask counts events.
+abbrev pub DeskPasses : Panel → AtDesk → Entry → AtDesk → Type 0
+DeskPasses start old (Asked ask answer) new = Answers start ask answer old new
+DeskPasses start old (Waited limit wake) new = new ≡ old
+DeskPasses start old (Polled sid view) new = ReadsStatus start view old new
+DeskPasses start old (Noted sid mav) new = new ≡ old

@@ -41,7 +41,7 @@ pub fn close_down<H: House, R: Relay, M: Meter, G: Gate + Drop, W: Wait + Clock 
     ),
 >
     ensures events { IfOk result (λ closed.
-        closed.events ≡ H.start + sum_by (λ desk. desk.part.share.amount) desks.items) }
+        closed.events ≡ H.first.events + sum_by (λ desk. desk.part.amount) desks.items) }
     ensures open { IfOk result (λ closed. All (λ card. IsOpen card.1) closed.cards.items) }
     ensures back { IfErr result (λ back. back.1.items ≡ desks.items) }
 {
@@ -53,9 +53,7 @@ pub fn close_down<H: House, R: Relay, M: Meter, G: Gate + Drop, W: Wait + Clock 
     };
     let mut all = gather(spare, desks);
     let events = shared.number(rt, &mut all);
-    let mut part = DeskPart {
-        share: all.split_off(1, 0),
-    };
+    let mut part = shared.last_part(rt, all.split_off(1, 0));
     let cards = take_cards(rt, &*shared, &mut part, room);
     Ok(Closed { events, cards })
 }
@@ -103,13 +101,12 @@ fn gather<H: House, R: Relay, M: Meter, G: Gate + Drop, W: Wait + Clock + Copy +
     mut desks: Vec<SharedDesk<H, R, M, G, W>>,
 ) -> Share<H>
     ensures parts { result.parts ≡ spare.parts + vec_len desks }
-    ensures amount { result.amount ≡ spare.amount + sum_by (λ desk. desk.part.share.amount) desks.items }
+    ensures amount { result.amount ≡ spare.amount + sum_by (λ desk. desk.part.amount) desks.items }
 {
     let mut all = spare;
     while let Some(desk) = desks.pop() {
         let SharedDesk { part, .. } = desk;
-        let DeskPart { share } = part;
-        all.merge(share);
+        all.merge(part.into_share());
     }
     all
 }

@@ -1,9 +1,9 @@
 //! The desk of one thread.
 
-ghost use Rattle.std.specs.Prelude.{◌≡◌, IfSome};
-ghost use Rattle.sw_core.specs.View.{ask_view, work_view};
+ghost use Rattle.std.specs.Prelude.{◌≡◌, [], IfSome};
+ghost use Rattle.sw_core.specs.View.{ask_view, answer_view, work_view};
 ghost use Rattle.sw_session.specs.CoreDesk.{Tells, piece_seen};
-ghost use Rattle.sw_workers.specs.Work.{Adds, Brings, Ends, Works};
+ghost use Rattle.sw_workers.specs.Work.{Adds, AsksOnce, Brings, Ends, Works};
 
 use crate::gate::{Gate, Point};
 use crate::held::{DeskPart, House};
@@ -27,6 +27,16 @@ pub struct SharedDesk<H: House, R: Relay, M: Meter, G: Gate + Drop, W: Wait + Cl
     pub(crate) place: Arc<Place, Global>,
     /// The mainframe's turn after the last ask.
     seen: u64,
+    /// The number of the session whose synchronous channel this is.
+    number: Option<u8>,
+}
+
+/// The number of the session that was joined.
+fn number_of<R: Relay, M: Meter>(answer: &Answer<R, M>) -> Option<u8> {
+    match answer {
+        Answer::Session(SessionAnswer::Joined(sid), _) => Some(sid.number),
+        _ => None,
+    }
 }
 
 impl<H: House, R: Relay, M: Meter, G: Gate + Drop, W: Wait + Clock + Copy + Drop> SharedDesk<
@@ -38,7 +48,7 @@ impl<H: House, R: Relay, M: Meter, G: Gate + Drop, W: Wait + Clock + Copy + Drop
 > {
     /// One more desk, or none where there are 2^33, the end has begun, or no memory is to be had.
     pub fn open(rt: W, shared: &Arc<Shared<H, R, M, G>, Global>) -> Option<Self>
-        ensures { IfSome result (λ desk. desk.part.share.amount ≡ 0) }
+        ensures { IfSome result (λ desk. (desk.part.amount ≡ 0) × (desk.part.seat.mine ≡ [])) }
     {
         let Ok(shared) = Arc::try_clone(shared) else {
             return None;
@@ -51,12 +61,13 @@ impl<H: House, R: Relay, M: Meter, G: Gate + Drop, W: Wait + Clock + Copy + Drop
             rt,
             place,
             seen: 0,
+            number: None,
         })
     }
 
     /// Carries a piece of work out, and sees to what that brings.
     pub(crate) fn work_off(&mut self, piece: Work<M>)
-        ensures { Works self.old.part.share.amount self.new.part.share.amount }
+        ensures { Works H.first self.old.part self.new.part }
     {
         let next = self.finish(piece);
         self.carry(next);
@@ -64,7 +75,7 @@ impl<H: House, R: Relay, M: Meter, G: Gate + Drop, W: Wait + Clock + Copy + Drop
 
     /// Sends work, or carries it out, and so on with what that brings.
     pub(crate) fn carry(&mut self, work: Option<Work<M>>)
-        ensures { Adds (work_view work) self.old.part.share.amount self.new.part.share.amount }
+        ensures { Adds H.first (work_view work) self.old.part self.new.part }
     {
         let rt = self.rt;
         let mut left = work;
@@ -82,7 +93,7 @@ impl<H: House, R: Relay, M: Meter, G: Gate + Drop, W: Wait + Clock + Copy + Drop
 
     /// Carries a piece of work out, and tells the mainframe, which gives what comes next.
     pub(crate) fn finish(&mut self, piece: Work<M>) -> Option<Work<M>>
-        ensures { Ends (piece_seen piece) self.old.part.share.amount (work_view result) self.new.part.share.amount }
+        ensures { Ends H.first (piece_seen piece) self.old.part (work_view result) self.new.part }
     {
         let ask = self.carried_out(piece);
         self.tell(ask)
@@ -90,14 +101,29 @@ impl<H: House, R: Relay, M: Meter, G: Gate + Drop, W: Wait + Clock + Copy + Drop
 
     /// Tells the mainframe, which gives what comes next.
     pub(crate) fn tell(&mut self, ask: Ask<R, M>) -> Option<Work<M>>
-        ensures { Brings (ask_view ask) self.old.part.share.amount (work_view result) self.new.part.share.amount }
+        ensures { Brings H.first (ask_view ask) self.old.part (work_view result) self.new.part }
     {
-        let (answer, turn) = self.shared.act(&self.rt, &mut self.part, ask);
-        self.seen = turn;
-        match answer {
+        match self.act(ask) {
             Answer::Taken(work) => work,
             _ => None,
         }
+    }
+
+    /// Asks the mainframe. The desk of a session's synchronous channel, which is the one that joined, leaves in the
+    /// session's slot what it has then seen.
+    fn act(&mut self, ask: Ask<R, M>) -> Answer<R, M>
+        ensures { AsksOnce H.first (ask_view ask) (answer_view result) self.old.part self.new.part }
+    {
+        let joins = matches!(&ask, Ask::Session(SessionAsk::Join));
+        let (answer, turn) = self.shared.act(&self.rt, &mut self.part, ask);
+        self.seen = turn;
+        if joins {
+            self.number = number_of(&answer);
+        }
+        if let Some(number) = self.number {
+            self.shared.leave(&self.rt, number, &mut self.part);
+        }
+        answer
     }
 
     /// Carries a piece of work out, and gives what is to be told of it. It holds no lock.
@@ -122,13 +148,11 @@ impl<H: House, R: Relay, M: Meter, G: Gate + Drop, W: Wait + Clock + Copy + Drop
     for SharedDesk<H, R, M, G, W> {
     ghost use Rattle.sw_workers.specs.Work.{DeskPasses};
 
-    ghost passes = { λ before entry after. DeskPasses before.part.share.amount entry after.part.share.amount };
+    ghost passes = { λ before entry after. DeskPasses H.first before.part entry after.part };
 
     fn ask(&mut self, ask: SessionAsk) -> SessionAnswer {
         self.shared.gate().pass(&self.rt, Point::Ask);
-        let (answer, turn) = self.shared.act(&self.rt, &mut self.part, Ask::Session(ask));
-        self.seen = turn;
-        match answer {
+        match self.act(Ask::Session(ask)) {
             Answer::Session(answer, work) => {
                 self.place.learn(&self.rt, &answer);
                 self.carry(work);
@@ -143,7 +167,7 @@ impl<H: House, R: Relay, M: Meter, G: Gate + Drop, W: Wait + Clock + Copy + Drop
     }
 
     fn poll(&mut self, sid: Sid) -> View {
-        self.shared.poll(&self.rt, sid)
+        self.shared.poll(&self.rt, &mut self.part, sid)
     }
 
     fn note(&mut self, sid: Sid, mav: bool) {

@@ -1,28 +1,35 @@
-//! What stands behind the lock: the mainframe, how its events are counted, and the notes of the last ones.
+//! What stands behind the lock: the mainframe and its history, how its events are counted, and the notes of the last
+//! ones.
 
-ghost use Rattle.std.specs.Prelude.{◌≡◌, ◌+◌, ℕ, [], IfOk, IfSome, IfNone};
-ghost use Rattle.sw_status.specs.StatusModel.{summary_of};
+ghost use Rattle.std.specs.Prelude.{◌≡◌, ◌+◌, ℕ, [], IfOk, IfSome, IfNone, Some};
+ghost use mathlib.Core.List.{IsPrefix};
 ghost use Rattle.sw_core.specs.View.{ask_view, answer_view, failed_in, HandsBack};
 ghost use Rattle.sw_core.specs.Step.{Step};
+ghost use Rattle.sw_workers.specs.Board.{entry_of, reader};
+ghost use Rattle.sw_workers.specs.Entries.{last_pair, made_by};
+ghost use Rattle.sw_workers.specs.Held.{notes_of, noted};
+ghost use Rattle.sw_workers.specs.History.{pair_of, said_at, grown, AsksInHistory};
 ghost use Rattle.sw_workers.specs.Kinds.{kind_of};
-ghost use Rattle.sw_workers.specs.Shares.{all_parts, is_counted, one_if, noted};
+ghost use Rattle.sw_workers.specs.Shares.{all_parts, is_counted, is_event, one_if};
 
+use crate::board::StatusBoard;
 use crate::note::{Note, kind};
+use crate::recorded::{Recorded, Recording};
+use crate::seat::StatusSeat;
+use crate::slots::SeatSlots;
+use crate::telling::is_event;
 use circular_buffer::HeapCircularBuffer;
 use std::alloc::{AllocError, Global};
 use std::marker::{Brand, Model};
+use std::sync::Wait;
 use std::sync::ledger::{Book, Ledger, Share};
 use sw_card::{Meter, Relay};
-use sw_core::{Answer, Ask, Core};
+use sw_core::{Answer, Ask};
 
-/// Which mainframe it is: its ledger, and the number of events that it opened with.
-pub trait House: Ledger {
-    ghost start: { ℕ };
-}
+/// Which mainframe it is: its ledger, its board, and the panel that it opened with.
+pub trait House: Ledger + Recording {}
 
-impl House for Brand {
-    ghost start = { 0 };
-}
+impl House for Brand {}
 
 /// The most desks.
 const MOST_DESKS: u64 = 1 << 33;
@@ -30,56 +37,107 @@ const MOST_DESKS: u64 = 1 << 33;
 /// How many events are told of.
 const MOST_NOTES: usize = 64;
 
-/// What stands behind the lock. Contracts see the mainframe's panel, how many desks there are, and the notes of the
-/// last 64 events, the oldest first.
+/// What stands behind the lock. Contracts see the mainframe's panel, how many desks there are, and all events.
 ///
-/// Whenever it is seen, the number of events is the opening one and the sum of all shares.
+/// Whenever it is seen, the number of events is the opening one and the sum of all shares, and the notes are those of
+/// the last 64 entries of the history.
 #[derive(Drop)]
 pub struct Held<H: House, R: Relay, M: Meter> {
     alloc: Global,
-    core: Core<R, M>,
+    core: Recorded<H, R, M>,
     events: Book<H>,
     /// The share that no desk has, until the end.
     spare: Option<Share<H>>,
     /// How many desks there are.
     given: u64,
     notes: HeapCircularBuffer<Note>,
-    /// Changes with each event, and where the end begins.
+    /// Changes where something happened that may admit what was held, and where the end begins.
     turn: u64,
     closing: bool,
 }
 
 impl<H: House, R: Relay, M: Meter> Model for Held<H, R, M> {
     ghost use Rattle.std.specs.Prelude.{◌≡◌, ◌+◌, IfSome};
-    ghost use Rattle.sw_workers.specs.Shares.{Locked, all_parts, most_notes};
+    ghost use Rattle.sw_workers.specs.Held.{Locked, most_notes, notes_of};
+    ghost use Rattle.sw_workers.specs.History.{pair_of};
+    ghost use Rattle.sw_workers.specs.Shares.{all_parts};
 
     ghost Value = { Locked };
 
-    ghost view = { λ h. record { panel = h.core; given = h.given; notes = h.notes.items } };
+    ghost view = { λ h. record { panel = h.core.panel; given = h.given; history = h.core.history } };
 
-    ghost invariant = { λ h. (h.core.events ≡ H.start + h.events.total) × (H.parts ≡ all_parts)
-        × IfSome h.spare (λ s. (s.parts + h.given ≡ all_parts) × (s.amount ≡ 0)) × (h.notes.capacity ≡ most_notes) };
+    ghost invariant = { λ h. (h.core.panel.events ≡ H.first.events + h.events.total) × (H.parts ≡ all_parts)
+        × IfSome h.spare (λ s. (s.parts + h.given ≡ all_parts) × (s.amount ≡ 0)) × (h.notes.capacity ≡ most_notes)
+        × (h.notes.items ≡ notes_of h.core.history) × (H.opening ≡ pair_of H.first) };
 }
 
-/// What a desk has: its share of the number of events.
+/// What a desk has: one part of the ledger, with how many events are this desk's, and the desk's seat at the board.
 #[derive(Drop)]
 pub struct DeskPart<H: House> {
-    /// One part of the ledger, and how many events are this desk's.
-    pub share: Share<H>,
-    pub ghost one: { share.parts ≡ 1 },
+    share: Share<H>,
+    seat: StatusSeat<H>,
+}
+
+impl<H: House> Model for DeskPart<H> {
+    ghost use Rattle.std.specs.Prelude.{◌≡◌, true};
+    ghost use Rattle.sw_workers.specs.Held.{AtDesk, is_desk};
+    ghost use Rattle.sw_workers.specs.History.{pair_of};
+
+    ghost Value = { AtDesk };
+
+    ghost view = { λ p. record { amount = p.share.amount; seat = p.seat } };
+
+    ghost invariant = { λ p. (p.share.parts ≡ 1) × (is_desk p.seat.desk ≡ true) × (H.opening ≡ pair_of H.first) };
+}
+
+impl<H: House> DeskPart<H> {
+    /// A seat of no desk that has seen the same as this desk's.
+    pub fn reader(&mut self, board: &StatusBoard<H>) -> StatusSeat<H>
+        ensures same { self.new ≡ self.old }
+        ensures new { result ≡ reader self.old.seat }
+    {
+        self.seat.split(board)
+    }
+
+    /// Reads the board: not earlier than any that this desk had seen, nor than what the session with this number had
+    /// seen at its last event. It takes the lock of that session's slot alone.
+    pub fn poll<W: Wait>(
+        &mut self,
+        rt: &W,
+        number: u8,
+        board: &StatusBoard<H>,
+        slots: &SeatSlots<H>,
+    ) -> (u8, u64)
+        ensures later { IsPrefix self.old.seat.seen self.new.seat.seen }
+        ensures pair { result ≡ last_pair (pair_of H.first) self.new.seat.seen }
+        ensures own { (d : ℕ) → self.old.seat.desk ≡ Some d → made_by d self.new.seat.seen ≡ self.old.seat.mine }
+        ensures desk { (self.new.seat.desk ≡ self.old.seat.desk) × (self.new.seat.mine ≡ self.old.seat.mine) }
+        ensures amount { self.new.amount ≡ self.old.amount }
+    {
+        slots.poll(rt, number, board, &mut self.seat)
+    }
+
+    /// Its share, where nobody asks by it any more.
+    pub fn into_share(self) -> Share<H>
+        ensures { (result.parts ≡ 1) × (result.amount ≡ self.amount) }
+    {
+        let DeskPart { share, seat: _ } = self;
+        share
+    }
 }
 
 impl<H: House, R: Relay, M: Meter> Held<H, R, M> {
-    /// A mainframe with no desk and no note yet.
+    /// A mainframe with no desk and no event yet.
     pub fn new(
         alloc: Global,
-        core: Core<R, M>,
+        core: Recorded<H, R, M>,
         events: Book<H>,
         spare: Share<H>,
     ) -> Result<Self, AllocError>
-        requires start { (core.events ≡ H.start) × (events.total ≡ 0) }
+        requires start { (core.panel.events ≡ H.first.events) × (core.history ≡ []) × (events.total ≡ 0) }
+        requires pair { H.opening ≡ pair_of H.first }
         requires parts { (spare.parts ≡ all_parts) × (spare.amount ≡ 0) × (H.parts ≡ all_parts) }
-        ensures { IfOk result (λ held. held ≡ record { panel = core; given = 0; notes = [] }) }
+        ensures { IfOk result (λ held. held ≡ record { panel = core.panel; given = 0; history = [] }) }
     {
         let notes = HeapCircularBuffer::with_capacity(alloc, MOST_NOTES)?;
         Ok(Held {
@@ -94,11 +152,12 @@ impl<H: House, R: Relay, M: Meter> Held<H, R, M> {
         })
     }
 
-    /// A part for one more desk, or none where there are 2^33 desks, or the end has begun.
+    /// A part for one more desk, which has seen the whole history and has no entry in it; or none where there are 2^33
+    /// desks, or the end has begun.
     pub fn new_part(&mut self) -> Option<DeskPart<H>>
-        ensures panel { self.new.panel ≡ self.old.panel }
-        ensures notes { self.new.notes ≡ self.old.notes }
-        ensures some { IfSome result (λ p. (p.share.amount ≡ 0) × (self.new.given ≡ self.old.given + 1)) }
+        ensures panel { (self.new.panel ≡ self.old.panel) × (self.new.history ≡ self.old.history) }
+        ensures some { IfSome result (λ p. (p.amount ≡ 0) × (self.new.given ≡ self.old.given + 1)) }
+        ensures seat { IfSome result (λ p. (p.seat.seen ≡ self.old.history) × (p.seat.mine ≡ [])) }
         ensures none { IfNone result (self.new.given ≡ self.old.given) }
     {
         if self.given >= MOST_DESKS {
@@ -109,7 +168,23 @@ impl<H: House, R: Relay, M: Meter> Held<H, R, M> {
         };
         let share = spare.split_off(1, 0);
         self.given += 1;
-        Some(DeskPart { share })
+        Some(DeskPart {
+            share,
+            seat: self.core.new_desk(),
+        })
+    }
+
+    /// A desk with a part that no desk has any more. It has seen the whole history and has no entry in it.
+    pub fn last_part(&mut self, share: Share<H>) -> DeskPart<H>
+        requires { share.parts ≡ 1 }
+        ensures same { self.new ≡ self.old }
+        ensures part { result.amount ≡ share.amount }
+        ensures seat { (result.seat.seen ≡ self.old.history) × (result.seat.mine ≡ []) }
+    {
+        DeskPart {
+            share,
+            seat: self.core.new_desk(),
+        }
     }
 
     /// The share that no desk has, once, where there are so many desks.
@@ -127,16 +202,25 @@ impl<H: House, R: Relay, M: Meter> Held<H, R, M> {
     pub fn number(&mut self, all: &mut Share<H>) -> u64
         requires { all.old.parts ≡ all_parts }
         ensures same { self.new ≡ self.old }
-        ensures number { (result ≡ self.old.panel.events) × (result ≡ H.start + all.old.amount) }
+        ensures number { (result ≡ self.old.panel.events) × (result ≡ H.first.events + all.old.amount) }
         ensures share { (all.new.parts ≡ all.old.parts) × (all.new.amount ≡ all.old.amount) }
     {
         self.events.audit(all);
         self.core.events()
     }
 
-    /// What changes with each event. Where no event can be numbered any more, it changes with each ask.
+    /// What changes where something happened that may admit what was held.
     pub fn turn(&self) -> u64 {
         self.turn
+    }
+
+    /// Notes whether what happened may admit what was held. Where no event can be numbered any more, nothing is held.
+    pub fn take_turn(&mut self, may_admit: bool)
+        ensures { self.new ≡ self.old }
+    {
+        if may_admit || self.core.events() == u64::MAX {
+            self.turn = self.turn.wrapping_add(1);
+        }
     }
 
     /// Nobody has to wait any more.
@@ -152,47 +236,43 @@ impl<H: House, R: Relay, M: Meter> Held<H, R, M> {
         self.closing
     }
 
-    /// The status byte without bits 4 and 6, and the number of service requests so far.
-    pub fn pair(&self) -> (u8, u64)
-        ensures byte { result.0 ≡ summary_of self.now.panel.status }
-        ensures requests { result.1 ≡ self.now.panel.status.requests }
-    {
-        self.core.pair()
-    }
-
     /// The notes of the last 64 events, the oldest first.
     pub fn recent(&self) -> Result<Vec<Note>, AllocError>
-        ensures { IfOk result (λ notes. notes.items ≡ self.now.notes) }
+        ensures { IfOk result (λ notes. notes.items ≡ notes_of self.now.history) }
     {
         self.notes.to_vec(self.alloc)
     }
 
-    /// Asks the mainframe. An event that is numbered counts in the desk's share, once, and is noted.
+    /// Asks the mainframe. An event is published, stands in the history as one more entry of the desk, and is noted; if
+    /// it is numbered it counts in the desk's share, once. The desk's seat has then seen the whole history.
     #[tactic(auto, using(crate::proofs::Counted::step_counted))]
     pub fn ask(&mut self, part: &mut DeskPart<H>, ask: Ask<R, M>) -> Answer<R, M>
         ensures step { Step self.old.panel (ask_view ask)
             (failed_in (ask_view ask) (answer_view result) self.old.panel.cage.cards self.new.panel.cage.cards)
             (answer_view result) self.new.panel }
         ensures back { HandsBack ask result }
-        ensures share { part.new.share.amount
-            ≡ part.old.share.amount + one_if (is_counted self.old.panel.events (answer_view result)) }
+        ensures asked { AsksInHistory H.first part.old.seat (ask_view ask) (answer_view result) part.new.seat }
+        ensures seen { IsPrefix part.old.seat.seen self.old.history × (part.new.seat.seen ≡ self.new.history) }
+        ensures history { self.new.history ≡ grown (is_event (answer_view result)) self.old.history
+            (entry_of part.old.seat (said_at self.new.panel (ask_view ask) (answer_view result))) }
+        ensures share { part.new.amount
+            ≡ part.old.amount + one_if (is_counted self.old.panel.events (answer_view result)) }
         ensures given { self.new.given ≡ self.old.given }
-        ensures notes { self.new.notes ≡ noted (is_counted self.old.panel.events (answer_view result)) self.old.notes
-            (record { number = self.old.panel.events + 1; ask = kind_of ask }) }
+        ensures notes { notes_of self.new.history ≡ noted (is_event (answer_view result)) (notes_of self.old.history)
+            (record { number = self.new.panel.events; ask = kind_of (ask_view ask) }) }
     {
         let before = self.core.events();
-        if before == u64::MAX {
-            self.turn = self.turn.wrapping_add(1);
-        }
         let kind = kind(&ask);
-        let answer = self.core.apply(self.alloc, ask);
+        let answer = self.core.ask(self.alloc, &mut part.seat, ask);
+        if !is_event(&answer) {
+            return answer;
+        }
         let number = self.core.events();
+        let _ = self.notes.push_back(Note { number, ask: kind });
         if number == before {
             return answer;
         }
-        self.turn = self.turn.wrapping_add(1);
         self.events.add(&mut part.share, 1);
-        let _ = self.notes.push_back(Note { number, ask: kind });
         answer
     }
 }

@@ -1,19 +1,23 @@
 //! The mainframe behind one lock, and the threads that share it. No program uses it yet.
 //!
-//! What stands behind the lock is `Held`: the mainframe, how its events are counted, and the notes of the last 64. The
-//! crate's contract is that of `Held::ask`: the core's answer and panel exactly, by `Step`; one more in the desk's
-//! share where that was an event that has a number, else none; and its note. Whenever it is seen, the number of events
-//! is the opening one and the sum of all shares (`Held::number`).
+//! What stands behind the lock is `Held`: the mainframe, the history of its events, how they are counted, and the
+//! notes of the last 64. The crate's contract is that of `Held::ask`: the core's answer and panel exactly, by `Step`;
+//! one more entry of the desk in the history where that was an event (`AsksInHistory`), else none; one more in its
+//! share where the event has a number; and its note. The history leads from the opening panel to the present one,
+//! event by event. Whenever it is seen, the number of events is the opening one and the sum of all shares
+//! (`Held::number`).
 //!
-//! A `SharedDesk` is the desk of one thread. Its share counts the event of each ask, and those of the work that it
-//! carried out because it couldn't be sent. Workers give their desks back when they end, and `close_down`, which is
-//! handed every desk, tells the number of events and gives the cards with nothing closed.
+//! The status board is one word that tells the pair at the end of that history: status byte and number of service
+//! requests. A `StatusSeat` reads it without a lock (`StatusSeat::read`), and has seen a beginning of the history.
 //!
-//! Beside them stands the status board, which is not joined to them yet: one word, from which a `StatusSeat` reads the
-//! status byte and the number of service requests without a lock (`StatusSeat::read`), and `Recorded`, a mainframe whose
-//! events stand one after another in the history that the board tells the end of (`Recorded::ask`).
+//! A `SharedDesk` is the desk of one thread. What it knows goes on by `DeskPasses`: each ask stands with its answer
+//! in one history of all desks, which has the desk's own events, each once, in their order, and no others of it; a
+//! status that it reads, for which it takes no lock of the mainframe, is that at some place of the history, not
+//! before any that it had seen. Its share counts the event of each ask, and those of the work that it carried out
+//! because it couldn't be sent. Workers give their desks back when they end, and `close_down`, which is handed every
+//! desk, tells the number of events and gives the cards with nothing closed.
 //!
-//! Nothing is promised of when a thread goes on, nor that one does, nor of what a status read finds.
+//! Nothing is promised of when a thread goes on, nor that one does, nor of how late a status is that is read.
 #![tactic(auto)]
 
 mod ahead;
@@ -32,6 +36,7 @@ mod shared;
 mod sides;
 mod slots;
 mod telling;
+mod waking;
 mod workers;
 
 pub use ahead::ReadAhead;

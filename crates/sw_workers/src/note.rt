@@ -1,6 +1,7 @@
 //! Notes of events.
 
 ghost use Rattle.std.specs.Prelude.{◌≡◌};
+ghost use Rattle.sw_core.specs.View.{ask_view};
 ghost use Rattle.sw_workers.specs.Kinds.{session_kind, kind_of};
 
 use sw_card::{Meter, Relay};
@@ -88,7 +89,7 @@ fn session_kind(ask: &SessionAsk) -> AskKind
 
 /// What an ask is called.
 pub fn kind<R: Relay, M: Meter>(ask: &Ask<R, M>) -> AskKind
-    ensures { result ≡ kind_of ask.now }
+    ensures { result ≡ kind_of (ask_view ask.now) }
 {
     match ask {
         Ask::Session(ask) => session_kind(ask),

@@ -9,7 +9,7 @@ ghost use Rattle.sw_core.specs.Step.{Step};
 ghost use Rattle.sw_core.specs.View.{ask_view, answer_view, failed_in, HandsBack, IsOwnAccount};
 ghost use Rattle.sw_workers.specs.Board.{entry_of};
 ghost use Rattle.sw_workers.specs.Entries.{made_by};
-ghost use Rattle.sw_workers.specs.History.{pair_of, IsHistory, AsksInHistory};
+ghost use Rattle.sw_workers.specs.History.{pair_of, said_at, grown, IsHistory, AsksInHistory};
 ghost use Rattle.sw_workers.specs.Said.{said_of};
 ghost use Rattle.sw_workers.specs.Shares.{is_event};
 
@@ -89,6 +89,8 @@ impl<B: Recording, R: Relay, M: Meter> Recorded<B, R, M> {
         ensures back { HandsBack ask result }
         ensures history { AsksInHistory B.first desk.old (ask_view ask) (answer_view result) desk.new }
         ensures seen { IsPrefix desk.old.seen self.old.history × (desk.new.seen ≡ self.new.history) }
+        ensures grown { self.new.history ≡ grown (is_event (answer_view result)) self.old.history
+            (entry_of desk.old (said_at self.new.panel (ask_view ask) (answer_view result))) }
     {
         mainframe_stays_good();
         let Recorded { core, pass, board } = self;

@@ -5,7 +5,7 @@ ghost use Rattle.sw_session.specs.Talk.{turns};
 ghost use Rattle.sw_session.specs.ServeRead.{MayPause};
 ghost use Rattle.sw_session.specs.ServeEngine.{ServesChannel};
 ghost use Rattle.sw_workers.specs.Ahead.{left_ahead};
-ghost use Rattle.sw_workers.specs.Connected.{Happened, ServesConnection, RunsSession};
+ghost use Rattle.sw_workers.specs.Connected.{Happened, ServesFromHeader, RunsSession};
 ghost use Rattle.sw_workers.specs.Work.{DeskPasses};
 
 use crate::ahead::{HEADER, ReadAhead, channel_of, read_header};
@@ -118,7 +118,7 @@ pub fn run_session_for<
     turns: u64,
 ) -> Ended<SharedDesk<H, R, M, G, W>, C::In, C::Out>
     ensures { RunsSession desk result.desk
-        (λ before entry after. DeskPasses before.part.share.amount entry after.part.share.amount)
+        (λ before entry after. DeskPasses H.first before.part entry after.part)
         (MayPause C.In.paused) (Happened C.In.failed ⊎ Happened C.Aside.failed) (Happened C.Out.failed) turns
         (C.input connection) (left_ahead C.In.remaining result.reader)
         (C.output connection) (C.Out.contents result.writer) result.result }
@@ -154,7 +154,7 @@ pub fn run_session<
     alloc: Global,
 ) -> Ended<SharedDesk<H, R, M, G, W>, C::In, C::Out>
     ensures { RunsSession desk result.desk
-        (λ before entry after. DeskPasses before.part.share.amount entry after.part.share.amount)
+        (λ before entry after. DeskPasses H.first before.part entry after.part)
         (MayPause C.In.paused) (Happened C.In.failed ⊎ Happened C.Aside.failed) (Happened C.Out.failed) turns
         (C.input connection) (left_ahead C.In.remaining result.reader)
         (C.output connection) (C.Out.contents result.writer) result.result }
@@ -201,7 +201,7 @@ fn serve_parts<C: Connection, D: Desk + Drop, W: Wait + Copy + Drop>(
     turns: u64,
 ) -> Ended<D, C::In, C::Out>
     requires { (header.items ≡ []) × (16 ≤ vec_capacity header) }
-    ensures { ServesConnection desk result.desk D.passes (MayPause C.In.paused)
+    ensures { ServesFromHeader desk result.desk D.passes (MayPause C.In.paused)
         (Happened C.In.failed ⊎ Happened C.Aside.failed) (Happened C.Out.failed) turns
         (C.In.remaining wire.reader) (left_ahead C.In.remaining result.reader)
         (C.Out.contents wire.writer) (C.Out.contents result.writer) result.result }

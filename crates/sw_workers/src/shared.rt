@@ -1,17 +1,23 @@
 //! The mainframe behind one lock, and what wakes those who wait for it.
 
-ghost use Rattle.std.specs.Prelude.{◌≡◌, ◌≤◌, ◌+◌, IfSome};
+ghost use Rattle.std.specs.Prelude.{◌≡◌, ◌≤◌, ◌+◌, [], IfOk, IfSome};
+ghost use Rattle.sw_core.specs.Good.{IsGoodPanel};
 ghost use Rattle.sw_core.specs.View.{ask_view, answer_view};
 ghost use Rattle.sw_session.specs.CoreDesk.{piece_seen};
 ghost use Rattle.sw_session.specs.Trace.{LeavesOf};
+ghost use Rattle.sw_workers.specs.History.{pair_of};
 ghost use Rattle.sw_workers.specs.Shares.{all_parts};
-ghost use Rattle.sw_workers.specs.Work.{AsksOnce};
+ghost use Rattle.sw_workers.specs.Work.{AsksOnce, ReadsStatus};
 
+use crate::board::{BlankBoard, StatusBoard};
 use crate::gate::Gate;
 use crate::held::{DeskPart, Held, House};
 use crate::note::Note;
 use crate::posts::{Posted, Posts, work_posts};
+use crate::recorded::Recorded;
 use crate::sides::{Place, Sides};
+use crate::slots::SeatSlots;
+use crate::waking::{is_over, may_admit};
 use std::alloc::{AllocError, Global};
 use std::sync::ledger::{Blank, Share};
 use std::sync::{Arc, Condvar, Mutex, Wait};
@@ -23,22 +29,28 @@ use sw_session::{Available, View, Wake};
 /// The parts of a ledger.
 const PARTS: u64 = (1 << 33) + 1;
 
-/// A mainframe with a ledger that has no name yet.
+/// A mainframe with a ledger and a board that have no name yet.
 pub struct Opening<R: Relay, M: Meter> {
     /// The mainframe.
     pub core: Core<R, M>,
     /// Its ledger.
     pub blank: Blank,
+    /// Its status board, which tells its pair.
+    pub board: BlankBoard,
     pub ghost whole: { blank.parts ≡ all_parts },
+    pub ghost pair: { board.table.shared.key ≡ pair_of core },
 }
 
 impl<R: Relay, M: Meter> Opening<R, M> {
-    /// A mainframe with a new ledger.
-    pub fn new(core: Core<R, M>) -> Self
-        ensures { result.core ≡ core }
+    /// A mainframe with a new ledger and a new board.
+    #[tactic(auto, using(crate::proofs::Recordings::good_fits))]
+    pub fn new(alloc: Global, core: Core<R, M>) -> Result<Self, AllocError>
+        requires { IsGoodPanel core }
+        ensures { IfOk result (λ opening. opening.core ≡ core) }
     {
+        let board = BlankBoard::new(alloc, core.pair())?;
         let blank = Blank::new(PARTS);
-        Opening { core, blank }
+        Ok(Opening { core, blank, board })
     }
 }
 
@@ -48,6 +60,8 @@ pub struct Shared<H: House, R: Relay, M: Meter, G: Gate + Drop> {
     held: Mutex<Held<H, R, M>>,
     /// Something happened, so that what was held may be asked again.
     happened: Condvar,
+    board: Arc<StatusBoard<H>, Global>,
+    slots: SeatSlots<H>,
     posts: Mutex<Option<Posts<M>>>,
     available: Mutex<Available>,
     sides: Arc<Sides, Global>,
@@ -61,17 +75,25 @@ impl<H: House, R: Relay, M: Meter, G: Gate + Drop> Shared<H, R, M, G> {
         opening: Opening<R, M>,
         gate: G,
     ) -> Result<(Self, Posted<M>), AllocError>
-        requires start { opening.core.events ≡ H.start }
+        requires first { opening.core ≡ H.first }
+        requires good { IsGoodPanel opening.core }
         requires ledger { (opening.blank.name ≡ H.name) × (opening.blank.parts ≡ H.parts) }
+        requires board { (opening.board.table.shared.table_id ≡ H.table)
+            × (opening.board.table.shared.key ≡ H.opening) }
     {
-        let Opening { core, blank } = opening;
+        let Opening { core, blank, board } = opening;
         let (events, spare) = blank.open::<H>();
-        let held = Held::new(alloc, core, events, spare)?;
+        let (board, pass) = board.open::<H>();
+        let board = Arc::new(alloc, board)?;
+        let recorded = Recorded::new(core, pass, Arc::try_clone(&board)?);
+        let held = Held::new(alloc, recorded, events, spare)?;
         let (posts, posted) = work_posts(alloc)?;
         let sides = Arc::new(alloc, Sides::new(alloc)?)?;
         let shared = Shared {
             held: Mutex::new(held),
             happened: Condvar::new(),
+            board,
+            slots: SeatSlots::new(alloc)?,
             posts: Mutex::new(Some(posts)),
             available: Mutex::new(Available::new()),
             sides,
@@ -94,23 +116,33 @@ impl<H: House, R: Relay, M: Meter, G: Gate + Drop> Shared<H, R, M, G> {
 
     /// A part for one more desk, or none where there are 2^33 desks, or the end has begun.
     pub fn part<W: Wait>(&self, rt: &W) -> Option<DeskPart<H>>
-        ensures { IfSome result (λ part. part.share.amount ≡ 0) }
+        ensures { IfSome result (λ part. (part.amount ≡ 0) × (part.seat.mine ≡ [])) }
     {
         self.held.lock(rt).new_part()
     }
 
-    /// Asks under the lock, and wakes those who may go on. It gives the turn after that too.
+    /// A desk with a part that no desk has any more.
+    pub fn last_part<W: Wait>(&self, rt: &W, share: Share<H>) -> DeskPart<H>
+        requires { share.parts ≡ 1 }
+        ensures { (result.amount ≡ share.amount) × (result.seat.mine ≡ []) }
+    {
+        self.held.lock(rt).last_part(share)
+    }
+
+    /// Asks under the lock, and wakes those who wait where they may go on. It gives the turn after that too.
     pub fn act<W: Wait>(
         &self,
         rt: &W,
         part: &mut DeskPart<H>,
         ask: Ask<R, M>,
     ) -> (Answer<R, M>, u64)
-        ensures { AsksOnce (ask_view ask) (answer_view result.0) part.old.share.amount part.new.share.amount }
+        ensures { AsksOnce H.first (ask_view ask) (answer_view result.0) part.old part.new }
     {
+        let may_admit = may_admit(&ask);
         let mut guard = self.held.lock(rt);
         let before = guard.turn();
         let answer = guard.ask(part, ask);
+        guard.take_turn(may_admit && is_over(&answer));
         let turn = guard.turn();
         drop(guard);
         if turn != before {
@@ -161,9 +193,18 @@ impl<H: House, R: Relay, M: Meter, G: Gate + Drop> Shared<H, R, M, G> {
         Wake::Again(Some(left_of(rt, start, limit)))
     }
 
-    /// Looks at a session's status.
-    pub fn poll<W: Wait>(&self, rt: &W, sid: Sid) -> View {
-        let (byte, requests) = self.held.lock(rt).pair();
+    /// Leaves in a session's slot what the desk of its synchronous channel has seen.
+    pub fn leave<W: Wait>(&self, rt: &W, number: u8, part: &mut DeskPart<H>)
+        ensures { part.new ≡ part.old }
+    {
+        self.slots.leave(rt, number, part.reader(&self.board));
+    }
+
+    /// Looks at a session's status. It doesn't wait for the mainframe.
+    pub fn poll<W: Wait>(&self, rt: &W, part: &mut DeskPart<H>, sid: Sid) -> View
+        ensures { ReadsStatus H.first result part.old part.new }
+    {
+        let (byte, requests) = part.poll(rt, sid.number, &self.board, &self.slots);
         let mav = self.available.lock(rt).has(sid);
         View {
             byte,
@@ -200,7 +241,7 @@ impl<H: House, R: Relay, M: Meter, G: Gate + Drop> Shared<H, R, M, G> {
     /// The number of events, to whom has every part: the opening one and all that was counted.
     pub fn number<W: Wait>(&self, rt: &W, all: &mut Share<H>) -> u64
         requires { all.old.parts ≡ all_parts }
-        ensures number { result ≡ H.start + all.old.amount }
+        ensures number { result ≡ H.first.events + all.old.amount }
         ensures share { (all.new.parts ≡ all.old.parts) × (all.new.amount ≡ all.old.amount) }
     {
         self.held.lock(rt).number(all)

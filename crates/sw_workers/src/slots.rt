@@ -1,17 +1,16 @@
 //! For each session a seat that has seen what its last event left, under a lock of the session alone.
 
-ghost use Rattle.std.specs.Prelude.{◌≡◌, ◌<◌, vec_len};
+ghost use Rattle.std.specs.Prelude.{◌≡◌, ◌<◌, ℕ, Some, vec_len};
 ghost use mathlib.Core.List.{IsPrefix};
-ghost use Rattle.sw_workers.specs.Entries.{last_pair};
+ghost use Rattle.sw_base.specs.Limits.{most_sessions};
+ghost use Rattle.sw_workers.specs.Entries.{last_pair, made_by};
 
 use crate::board::{BoardName, StatusBoard};
 use crate::seat::StatusSeat;
 use crossbeam_utils::CachePadded;
 use std::alloc::{AllocError, Global};
 use std::sync::{Mutex, Wait};
-
-/// The most sessions.
-const SESSIONS: u8 = 16;
+use sw_base::SESSIONS;
 
 /// A session's slot.
 type Slot<B> = CachePadded<Mutex<Option<StatusSeat<B>>>>;
@@ -20,7 +19,7 @@ type Slot<B> = CachePadded<Mutex<Option<StatusSeat<B>>>>;
 #[derive(Drop)]
 pub struct SeatSlots<B: BoardName> {
     rows: Vec<Slot<B>>,
-    pub ghost sixteen: { vec_len rows ≡ 16 },
+    pub ghost each: { vec_len rows ≡ most_sessions },
 }
 
 impl<B: BoardName> SeatSlots<B> {
@@ -71,6 +70,7 @@ impl<B: BoardName> SeatSlots<B> {
         ensures later { IsPrefix seat.old.seen seat.new.seen }
         ensures pair { result ≡ last_pair B.opening seat.new.seen }
         ensures desk { (seat.new.desk ≡ seat.old.desk) × (seat.new.mine ≡ seat.old.mine) }
+        ensures own { (d : ℕ) → seat.old.desk ≡ Some d → made_by d seat.new.seen ≡ seat.old.mine }
     {
         if let Some(left) = self.look(rt, number, board) {
             seat.join(board, left);

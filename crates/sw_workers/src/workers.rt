@@ -21,7 +21,7 @@ pub fn run_card_worker<H: House, R: Relay, M: Meter, G: Gate + Drop, W: Wait + C
     desk: SharedDesk<H, R, M, G, W>,
     jobs: Receiver<Job<M>>,
 ) -> SharedDesk<H, R, M, G, W>
-    ensures { Works desk.part.share.amount result.part.share.amount }
+    ensures { Works H.first desk.part result.part }
 {
     let mut own = desk;
     let rt = own.rt;
@@ -53,7 +53,7 @@ pub fn run_timer_worker<
     desk: SharedDesk<H, R, M, G, W>,
     pauses: Receiver<Pause>,
 ) -> SharedDesk<H, R, M, G, W>
-    ensures { Works desk.part.share.amount result.part.share.amount }
+    ensures { Works H.first desk.part result.part }
 {
     let mut own = desk;
     let rt = own.rt;
@@ -125,7 +125,7 @@ fn begin_pause<H: House, R: Relay, M: Meter, G: Gate + Drop, W: Wait + Clock + C
     due: &mut Vec<Due>,
     pause: Pause,
 )
-    ensures { Works desk.old.part.share.amount desk.new.part.share.amount }
+    ensures { Works H.first desk.old.part desk.new.part }
 {
     let Pause { ticket, micros } = pause;
     if let Some(at) = end_of(&desk.rt, micros) {
@@ -147,7 +147,7 @@ fn end_pause<H: House, R: Relay, M: Meter, G: Gate + Drop, W: Wait + Clock + Cop
     desk: &mut SharedDesk<H, R, M, G, W>,
     ticket: Ticket,
 )
-    ensures { Works desk.old.part.share.amount desk.new.part.share.amount }
+    ensures { Works H.first desk.old.part desk.new.part }
 {
     desk.shared.gate().pass(&desk.rt, Point::Pause);
     let next = desk.tell(Ask::Elapsed(ticket));

@@ -7,7 +7,7 @@ use std::thread;
 use std::time::{Clock, Duration};
 use sw_base::Reading;
 use sw_card::CardFault;
-use sw_kinds::{SimSource, Source};
+use sw_kinds::{Driver, SimSource, Source};
 use sw_workers::{Gate, Point};
 
 /// The most turns for which one thread waits for another.
@@ -88,6 +88,26 @@ impl<C: Clock + Drop> Gate for LatchedGate<C> {
         if point == self.point {
             self.latch.hold();
         }
+    }
+}
+
+/// A driver that holds before it drives a coil.
+#[derive(Drop)]
+pub struct LatchedDriver<D: Driver, C: Clock + Drop> {
+    pub driver: D,
+    pub latch: SharedLatch<C>,
+}
+
+impl<D: Driver, C: Clock + Drop> Driver for LatchedDriver<D, C> {
+    ghost driven = { λ d. D.driven d.driver };
+
+    fn drive(&mut self, ch: u8, on: bool) -> Result<(), CardFault> {
+        self.latch.hold();
+        self.driver.drive(ch, on)
+    }
+
+    fn cut(&mut self) {
+        self.driver.cut();
     }
 }
 

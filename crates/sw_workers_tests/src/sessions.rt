@@ -1,6 +1,7 @@
 //! HiSLIP sessions over connections in memory, each served by a thread of its own.
 
 ghost use Rattle.std.specs.Prelude.{◌≡◌};
+ghost use Rattle.sw_core.specs.Good.{IsGoodPanel};
 
 use crate::shop::{Shop, fitted};
 use crate::wires::{End, Incoming, Outgoing, SharedWire};
@@ -11,7 +12,7 @@ use std::thread;
 use std::thread::{JoinHandle, Threads};
 use std::time::Clock;
 use sw_card::{Meter, Relay};
-use sw_kinds::SimSource;
+use sw_kinds::{SimDriver, SimSource};
 use sw_workers::{Ended, Gate, House, Open, Opening, SharedDesk, Wired, run_session};
 
 /// A client: the ends of its two connections.
@@ -302,8 +303,9 @@ fn play_behind<
     G: Gate + Drop + Send + Sync + 'static,
     W: Threads + Wait + Clock + Copy + Drop + Send + Sync + 'static,
 >(rt: W, alloc: Global, opening: Opening<R, M>, gate: G, play: Play) -> bool
-    requires start { opening.core.events ≡ H.start }
+    requires first { (opening.core ≡ H.first) × IsGoodPanel opening.core }
     requires ledger { (opening.blank.name ≡ H.name) × (opening.blank.parts ≡ H.parts) }
+    requires board { (opening.board.table.shared.table_id ≡ H.table) × (opening.board.table.shared.key ≡ H.opening) }
 {
     let Some(shop) = Shop::<H, R, M, G, W>::open(rt, alloc, opening, gate) else {
         return false;
@@ -320,12 +322,12 @@ pub fn plays<W: Threads + Wait + Clock + Copy + Drop + Send + Sync + 'static>(
     alloc: Global,
     play: Play,
 ) -> bool {
-    match fitted(alloc, SimSource::new(1, 1)) {
-        Some(core) => {
-            let opening = Opening::new(core);
-            play_behind::<Brand, _, _, Open, W>(rt, alloc, opening, Open, play)
-        }
-        None => false,
+    let Some(core) = fitted(alloc, SimDriver::new(), SimSource::new(1, 1)) else {
+        return false;
+    };
+    match Opening::new(alloc, core) {
+        Ok(opening) => play_behind::<Brand, _, _, Open, W>(rt, alloc, opening, Open, play),
+        Err(_) => false,
     }
 }
 

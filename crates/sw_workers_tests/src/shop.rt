@@ -2,7 +2,8 @@
 //!
 //! These promise nothing, and most answer yes or no.
 
-ghost use Rattle.std.specs.Prelude.{◌≡◌};
+ghost use Rattle.std.specs.Prelude.{◌≡◌, IfSome};
+ghost use Rattle.sw_core.specs.Good.{IsGoodPanel};
 
 use crate::latches::{TURNS, turn};
 use crate::threads::Scene;
@@ -14,21 +15,25 @@ use std::thread::{JoinHandle, Threads};
 use std::time::Clock;
 use sw_base::Sequence;
 use sw_card::{Card, Meter, Relay};
-use sw_core::{Answer, Ask, Core, SessionAnswer, SessionAsk, Sid};
-use sw_kinds::{Mux, SimDriver, Source, Volt};
+use sw_core::{Answer, Ask, Core, SessionAnswer, SessionAsk, Sid, mainframe_stays_good};
+use sw_kinds::{Driver, Mux, SimDriver, Source, Volt};
 use sw_session::{Desk, Talker};
 use sw_workers::{
     Closed, Gate, House, Note, Opening, Posted, Shared, SharedDesk, close_down, run_card_worker,
     run_timer_worker,
 };
 
-/// Whether a card comes into the slot.
+/// Whether a card comes into the slot. The mainframe stays good.
 fn install<R: Relay, M: Meter>(
     alloc: Global,
     core: &mut Core<R, M>,
     slot: u8,
     card: Card<R, M>,
-) -> bool {
+) -> bool
+    requires { IsGoodPanel core.old }
+    ensures { IsGoodPanel core.new }
+{
+    mainframe_stays_good();
     let answer = core.apply(alloc, Ask::Install(slot, card));
     let is_installed = matches!(answer, Answer::Installed);
     drop(answer);
@@ -36,11 +41,18 @@ fn install<R: Relay, M: Meter>(
 }
 
 /// A mainframe with four channels of one group in slot 1 and a meter in slot 4.
-pub fn fitted<S: Source>(alloc: Global, source: S) -> Option<Core<Mux<SimDriver>, Volt<S>>> {
+pub fn fitted<D: Driver, S: Source>(
+    alloc: Global,
+    driver: D,
+    source: S,
+) -> Option<Core<Mux<D>, Volt<S>>>
+    ensures { IfSome result (λ core. IsGoodPanel core) }
+{
+    mainframe_stays_good();
     let Ok(mut core) = Core::new(alloc) else {
         return None;
     };
-    let mux = Mux::new(1, 4, 1, SimDriver::new());
+    let mux = Mux::new(1, 4, 1, driver);
     let has_mux = install(alloc, &mut core, 1, Card::relays(mux));
     let volt = Volt::new(4, source);
     let has_volt = install(alloc, &mut core, 4, Card::meter(volt));
@@ -74,8 +86,10 @@ impl<
 > Shop<H, R, M, G, W> {
     /// Puts a mainframe behind its lock, with its workers.
     pub fn open(rt: W, alloc: Global, opening: Opening<R, M>, gate: G) -> Option<Self>
-        requires start { opening.core.events ≡ H.start }
+        requires first { (opening.core ≡ H.first) × IsGoodPanel opening.core }
         requires ledger { (opening.blank.name ≡ H.name) × (opening.blank.parts ≡ H.parts) }
+        requires board { (opening.board.table.shared.table_id ≡ H.table)
+            × (opening.board.table.shared.key ≡ H.opening) }
     {
         let Ok((shared, posted)) = Shared::<H, R, M, G>::new(alloc, opening, gate) else {
             return None;
@@ -166,8 +180,9 @@ fn play_behind<
     G: Gate + Drop + Send + Sync + 'static,
     W: Threads + Wait + Clock + Copy + Drop + Send + Sync + 'static,
 >(rt: W, alloc: Global, opening: Opening<R, M>, gate: G, scene: &Scene<W>) -> Option<Note>
-    requires start { opening.core.events ≡ H.start }
+    requires first { (opening.core ≡ H.first) × IsGoodPanel opening.core }
     requires ledger { (opening.blank.name ≡ H.name) × (opening.blank.parts ≡ H.parts) }
+    requires board { (opening.board.table.shared.table_id ≡ H.table) × (opening.board.table.shared.key ≡ H.opening) }
 {
     match Shop::<H, R, M, G, W>::open(rt, alloc, opening, gate) {
         Some(shop) => shop.host(rt, alloc, scene),
@@ -182,12 +197,20 @@ pub fn played<
     G: Gate + Drop + Send + Sync + 'static,
     W: Threads + Wait + Clock + Copy + Drop + Send + Sync + 'static,
 >(rt: W, alloc: Global, source: I, gate: G, scene: &Scene<W>) -> Option<Note> {
-    match fitted(alloc, source) {
-        Some(core) => {
-            let opening = Opening::new(core);
-            play_behind::<Brand, _, _, G, W>(rt, alloc, opening, gate, scene)
-        }
-        None => None,
+    played_by(rt, alloc, SimDriver::new(), source, gate, scene)
+}
+
+/// The same of one whose relay card has this driver.
+pub fn played_by<
+    D: Driver + Send + 'static,
+    I: Source + Send + 'static,
+    G: Gate + Drop + Send + Sync + 'static,
+    W: Threads + Wait + Clock + Copy + Drop + Send + Sync + 'static,
+>(rt: W, alloc: Global, driver: D, source: I, gate: G, scene: &Scene<W>) -> Option<Note> {
+    let core = fitted(alloc, driver, source)?;
+    match Opening::new(alloc, core) {
+        Ok(opening) => play_behind::<Brand, _, _, G, W>(rt, alloc, opening, gate, scene),
+        Err(_) => None,
     }
 }
 

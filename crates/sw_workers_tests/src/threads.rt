@@ -1,8 +1,8 @@
 //! A mainframe that several threads share: what is asked while a worker is held, what a lock holds, what is seen of a
 //! session's status, and what closing it down gives.
 
-use crate::latches::{Latch, LatchedGate, LatchedSource, SharedLatch, turn};
-use crate::shop::{comes_to_tell, join, locks, played, releases, tells};
+use crate::latches::{Latch, LatchedDriver, LatchedGate, LatchedSource, SharedLatch, turn};
+use crate::shop::{comes_to_tell, join, locks, played, played_by, releases, tells};
 use std::alloc::Global;
 use std::sync::Wait;
 use std::test::Fail;
@@ -10,7 +10,7 @@ use std::thread;
 use std::thread::Threads;
 use std::time::Clock;
 use sw_core::Sid;
-use sw_kinds::SimSource;
+use sw_kinds::{SimDriver, SimSource};
 use sw_session::{Desk, View, Wake};
 use sw_workers::{AskKind, Note, Open, Point};
 
@@ -19,9 +19,11 @@ use sw_workers::{AskKind, Note, Open, Point};
 pub enum Scene<C: Clock + Drop> {
     Meanwhile(Meanwhile<C>),
     Locked(Locked<C>),
+    Busy(Busy<C>),
+    Awaited(Awaited<C>),
     Looked,
     Closes,
-    Busy,
+    AtOnce,
 }
 
 impl<W: Threads + Wait + Clock + Copy + Drop + Send + Sync + 'static> Scene<W> {
@@ -39,7 +41,9 @@ impl<W: Threads + Wait + Clock + Copy + Drop + Send + Sync + 'static> Scene<W> {
             Scene::Locked(scene) => scene.play(rt, alloc, first, second, third),
             Scene::Looked => looks(alloc, first, second, third),
             Scene::Closes => closes(alloc, first, second, third),
-            Scene::Busy => asks_at_once(rt, alloc, first, second, third),
+            Scene::AtOnce => asks_at_once(rt, alloc, first, second, third),
+            Scene::Busy(scene) => scene.play(rt, alloc, first, second, third),
+            Scene::Awaited(scene) => scene.play(rt, alloc, first, second, third),
         }
     }
 }
@@ -330,5 +334,141 @@ fn every_event_of_three_threads_is_counted_once(rt: HostRuntime) {
         number: 605,
         ask: AskKind::Unit,
     };
-    assert!(rt; played(rt, rt.alloc(), SimSource::new(1, 1), Open, &Scene::Busy) == Some(last));
+    assert!(rt; played(rt, rt.alloc(), SimSource::new(1, 1), Open, &Scene::AtOnce) == Some(last));
+}
+
+/// A session closes a channel, in a thread of its own, and its card holds while the mainframe is locked.
+#[derive(Drop)]
+pub struct Busy<C: Clock + Drop> {
+    latch: SharedLatch<C>,
+}
+
+/// Closes 1!1, and gives the desk back with whether it did.
+fn closes_one<D: Desk>(alloc: Global, desk: D, sid: Sid) -> (D, bool) {
+    let mut desk = desk;
+    let is_done = tells(alloc, &mut desk, sid, b"ROUT:CLOS (@1!1)", b"");
+    (desk, is_done)
+}
+
+impl<W: Threads + Wait + Clock + Copy + Drop + Send + Sync + 'static> Busy<W> {
+    /// Gives the desks back, where another desk sees the session's status before the card goes on.
+    fn play<D: Desk + Drop + Send + 'static>(
+        &self,
+        rt: W,
+        alloc: Global,
+        first: D,
+        second: D,
+        third: D,
+    ) -> Option<(D, D, D)> {
+        let mut first = first;
+        let mut third = third;
+        let sid = join(&mut first)?;
+        if !tells(alloc, &mut first, sid, b"*SRE 4;FOO", b"") {
+            return None;
+        }
+        let closing = thread::spawn(&rt, move || closes_one(alloc, first, sid)).ok()?;
+        let is_seen = self.latch.is_reached()
+            && shows(&mut third, sid, 4, 1, false)
+            && self.latch.opens();
+        let (first, is_done) = closing.join(&rt);
+        if is_seen && is_done {
+            return Some((first, second, third));
+        }
+        None
+    }
+}
+
+#[test]
+fn a_status_is_seen_while_the_mainframe_is_locked(rt: HostRuntime) -> Result<(), Fail> {
+    let latch = Latch::new(rt.alloc(), rt)?;
+    let driver = LatchedDriver {
+        driver: SimDriver::new(),
+        latch: latch.clone()?,
+    };
+    let scene = Scene::Busy(Busy { latch });
+    let source = SimSource::new(1, 1);
+    assert!(rt; played_by(rt, rt.alloc(), driver, source, Open, &scene).is_some());
+    Ok(())
+}
+
+/// A session waits in a thread of its own for the end of a scan, which another brings about.
+#[derive(Drop)]
+pub struct Awaited<C: Clock + Drop> {
+    latch: SharedLatch<C>,
+    end: &'static [u8],
+}
+
+/// Asks for the end of the scan, and gives the desk back with whether it came.
+fn awaits_end<D: Desk, C: Clock + Drop>(
+    alloc: Global,
+    desk: D,
+    sid: Sid,
+    latch: SharedLatch<C>,
+) -> (D, bool) {
+    let mut desk = desk;
+    latch.reach();
+    let is_told = tells(alloc, &mut desk, sid, b"*OPC?", b"1\n");
+    (desk, is_told)
+}
+
+const TRIGGERED: &[u8] = b"ROUT:SCAN (@1!1);:TRIG:SOUR BUS;:INIT";
+
+impl<W: Threads + Wait + Clock + Copy + Drop + Send + Sync + 'static> Awaited<W> {
+    /// Gives the desks back, where the session went on.
+    fn play<D: Desk + Drop + Send + 'static>(
+        &self,
+        rt: W,
+        alloc: Global,
+        first: D,
+        second: D,
+        third: D,
+    ) -> Option<(D, D, D)> {
+        let mut first = first;
+        let mut second = second;
+        let one = join(&mut first)?;
+        let other = join(&mut second)?;
+        if !tells(alloc, &mut first, one, TRIGGERED, b"") {
+            return None;
+        }
+        let latch = self.latch.clone().ok()?;
+        let waiting = thread::spawn(&rt, move || awaits_end(alloc, second, other, latch)).ok()?;
+        let is_ended = self.latch.is_reached()
+            && pauses(&rt)
+            && tells(alloc, &mut first, one, self.end, b"");
+        let (second, is_told) = waiting.join(&rt);
+        if is_ended && is_told {
+            return Some((first, second, third));
+        }
+        None
+    }
+}
+
+/// Lets other threads go on for a while.
+fn pauses<C: Clock>(clock: &C) -> bool {
+    for _ in 0..100 {
+        turn(clock);
+    }
+    true
+}
+
+#[test]
+fn who_waits_for_a_scan_goes_on_when_it_is_aborted(rt: HostRuntime) -> Result<(), Fail> {
+    let latch = Latch::new(rt.alloc(), rt)?;
+    let scene = Scene::Awaited(Awaited {
+        latch,
+        end: b"ABOR",
+    });
+    assert!(rt; played(rt, rt.alloc(), SimSource::new(1, 1), Open, &scene).is_some());
+    Ok(())
+}
+
+#[test]
+fn who_waits_for_a_scan_goes_on_when_it_has_its_readings(rt: HostRuntime) -> Result<(), Fail> {
+    let latch = Latch::new(rt.alloc(), rt)?;
+    let scene = Scene::Awaited(Awaited {
+        latch,
+        end: b"*TRG",
+    });
+    assert!(rt; played(rt, rt.alloc(), SimSource::new(1, 1), Open, &scene).is_some());
+    Ok(())
 }

@@ -2,4 +2,4 @@ use Rattle.sw_workers.specs.Work.{Works}
 use Rattle.sw_workers.proofs.workers.run_timer_worker.Given as goal
 
 abbrev pub invariant-loop : goal.invariant-loop
-invariant-loop g l = Works l.fn.desk.part.share.amount l.own.part.share.amount
+invariant-loop g l = Works g.H.Recording.first l.fn.desk.part l.own.part

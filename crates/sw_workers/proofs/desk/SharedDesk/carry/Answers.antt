@@ -7,12 +7,15 @@ use Rattle.sw_workers.proofs.Carries.{carries-start, carries-done, carries-more}
 use Rattle.sw_workers.proofs.desk.SharedDesk.carry.Goals as goal
 
 pub returns-in_default : goal.returns-in_default
-returns-in_default g c = carries-done _ _ _ _ c.loop.invariant
+returns-in_default g c = carries-done _ _ _ _ _ c.loop.invariant
 
 pub returns-in_default-send : goal.returns-in_default-send
-returns-in_default-send g c = carries-done _ _ _ _ c.loop.invariant
+returns-in_default-send g c = carries-done _ _ _ _ _ c.loop.invariant
 
 pub loop-preserved : goal.loop-preserved
 loop-preserved g c =
-    carries-more _ _ _ (piece_seen c.in-Some-left.piece) _ _ _ c.loop.invariant (ap work_view c.in-Some-left.is ∙ seen-some c.in-Some-left.piece)
-    (subst (λ (w : WorkView). Ends w c.loop.self.part.share.amount (work_view c.finish-left.result) c.finish-left.new.self.part.share.amount) c.in-Some-send.ensures c.finish-left.ensures)
+    carries-more _ _ _ _ (piece_seen c.in-Some-left.piece) _ _ _ c.loop.invariant (ap work_view c.in-Some-left.is ∙ seen-some c.in-Some-left.piece)
+    (subst
+    (λ (w : WorkView). Ends g.H.Recording.first w c.loop.self.part (work_view c.finish-left.result) c.finish-left.new.self.part)
+    c.in-Some-send.ensures
+    c.finish-left.ensures)

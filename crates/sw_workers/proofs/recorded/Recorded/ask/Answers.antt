@@ -5,9 +5,9 @@ use Rattle.sw_core.specs.Run.{IsNext}
 use Rattle.sw_core.specs.View.{ask_view, answer_view}
 use Rattle.sw_workers.specs.Board.{Said}
 use Rattle.sw_workers.specs.Entries.{Entry}
-use Rattle.sw_workers.specs.History.{IsHistory}
+use Rattle.sw_workers.specs.History.{IsHistory, said_at}
 use Rattle.sw_workers.specs.Shares.{is_event}
-use Rattle.sw_workers.proofs.Recordings.{said_at, Leads, history_event, SawEvent, asks_event, SawNone, asks_nothing}
+use Rattle.sw_workers.proofs.Recordings.{Leads, history_event, SawEvent, asks_event, SawNone, asks_nothing}
 use Rattle.sw_workers.proofs.Unmoved.{step_unmoved}
 use Rattle.sw_workers.proofs.recorded.Recorded.ask.Goals as goal
 

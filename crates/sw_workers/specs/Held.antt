@@ -1,0 +1,40 @@
+-- What is behind the lock, and what a desk has of it.
+use Rattle.std.specs.Prelude.{ℕ, Bool, true, false, List, [], ◌∷◌, ◌++◌, map, Option, None, Some}
+use Rattle.circular_buffer.specs.Buffer.{keep_last}
+use Rattle.sw_core.specs.Panel.{Panel}
+use Rattle.sw_workers.specs.declared.note.Note.{Note}
+use Rattle.sw_workers.specs.Board.{Known}
+use Rattle.sw_workers.specs.Entries.{Entry}
+use Rattle.sw_workers.specs.Kinds.{kind_of}
+
+-- what is behind the lock: the mainframe's panel, how many desks there are, and all events
+pub record Locked : Type 0 where
+  pub panel : Panel
+  pub given : ℕ
+  pub history : List Entry
+
+-- how many events are told of
+abbrev pub most_notes : ℕ
+most_notes = 64
+
+-- the note of an event, and the notes of the last ones, the oldest first
+abbrev pub note_of : Entry → Note
+note_of e = record { number = e.number; ask = kind_of e.ask }
+
+abbrev pub notes_of : List Entry → List Note
+notes_of entries = keep_last most_notes (map note_of entries)
+
+-- the notes after an event, or after what is none
+abbrev pub noted : Bool → List Note → Note → List Note
+noted true notes note = keep_last most_notes (notes ++ note ∷ [])
+noted false notes note = notes
+
+-- it is a desk's
+abbrev pub is_desk : Option ℕ → Bool
+is_desk None = false
+is_desk (Some desk) = true
+
+-- what a desk's share counts, and what its seat knows
+pub record AtDesk : Type 0 where
+  pub amount : ℕ
+  pub seat : Known
