@@ -1,10 +1,10 @@
-//! Why a run stops before its input ends.
+//! Why the program stops before its end.
 
 ghost use Rattle.std.specs.Prelude.{◌≡◌};
 
 use thiserror::Error;
 
-/// Why a run stops. Its text is the line on standard error.
+/// Why the program stops. Its text is the line on standard error.
 #[derive(Clone, Copy, Debug, PartialEq, Eq, Drop, Error)]
 pub enum RunFault {
     /// A read failed, or the reader was asked for bytes 2^32 times.
@@ -13,6 +13,9 @@ pub enum RunFault {
     /// A write failed, or took nothing.
     #[error("mainframe: output failed")]
     Output,
+    /// The port can't be listened on.
+    #[error("mainframe: cannot listen")]
+    Listen,
     /// There was no memory for the words of the command line, the cage or a line.
     #[error("mainframe: out of memory")]
     Memory,

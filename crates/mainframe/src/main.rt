@@ -7,14 +7,20 @@
 //! of `clap`.
 #![tactic(auto)]
 
+mod arrivals;
 mod cards;
 mod command_line;
+mod crew;
 mod explanation;
 mod fault;
 mod laws;
 mod listing;
+mod lobby;
 mod reading;
 mod run;
+mod serving;
+mod stub;
+mod tcp;
 #[cfg(test)]
 mod tests;
 mod writing;
@@ -25,10 +31,15 @@ use command_line::{Order, parse_words, unrun_status};
 use fault::RunFault;
 use listing::{check_listing, checked_status};
 use run::run_lines;
-use std::alloc::AllocError;
+use serving::serve_on;
+use std::alloc::{AllocError, Global};
 use std::io;
 use std::io::BufReader;
+use std::net::{Ipv4Addr, Net, TcpListener, TcpStream};
 use std::process::ExitCode;
+use std::sync::Wait;
+use std::thread::Threads;
+use std::time::Clock;
 
 fn main(rt: HostRuntime) -> ExitCode {
     let Ok(words) = std::env::args(&rt) else {
@@ -41,6 +52,7 @@ fn main(rt: HostRuntime) -> ExitCode {
     match parse_words(rt.alloc(), words.as_slice()) {
         Ok(Order::Run(fuse)) => answer_input(&rt, fuse),
         Ok(Order::Check) => check_input(&rt),
+        Ok(Order::Serve(port)) => serve_port(rt, rt.alloc(), port),
         Err(error) => unrun(&rt, &error),
     }
 }
@@ -68,6 +80,29 @@ fn check_input(rt: &HostRuntime) -> ExitCode {
         let _ = eprintln!(rt; "{remark}");
     }
     ExitCode::from(checked_status(checked.accepted))
+}
+
+/// Serves connections on a port of this machine, and says when it listens.
+fn serve_port<
+    W: Threads
+        + Wait
+        + Clock
+        + Eprint
+        + Net<Listener = TcpListener, Stream = TcpStream>
+        + Copy
+        + Drop
+        + Send
+        + Sync
+        + 'static,
+>(rt: W, alloc: Global, port: u16) -> ExitCode {
+    let Ok(listener) = TcpListener::bind(&rt, (Ipv4Addr::LOCALHOST, port)) else {
+        return stopped(&rt, RunFault::Listen);
+    };
+    let _ = eprintln!(rt; "mainframe: listening on 127.0.0.1:{port}");
+    match serve_on(rt, alloc, &listener, u32::MAX) {
+        Ok(()) => ExitCode::SUCCESS,
+        Err(fault) => stopped(&rt, fault),
+    }
 }
 
 /// One line on standard error, and the fault's status.
