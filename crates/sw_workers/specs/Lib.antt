@@ -6,3 +6,5 @@ pub mod Said
 pub mod Shares
 pub mod Work
 pub mod Closing
+pub mod Connected
+pub mod Sides

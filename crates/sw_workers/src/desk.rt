@@ -8,6 +8,7 @@ ghost use Rattle.sw_workers.specs.Work.{Adds, Brings, Ends, Works};
 use crate::gate::{Gate, Point};
 use crate::held::{DeskPart, House};
 use crate::shared::Shared;
+use crate::sides::Place;
 use std::alloc::Global;
 use std::sync::{Arc, Wait};
 use std::thread;
@@ -22,6 +23,8 @@ pub struct SharedDesk<H: House, R: Relay, M: Meter, G: Gate + Drop, W: Wait + Cl
     pub(crate) part: DeskPart<H>,
     pub(crate) shared: Arc<Shared<H, R, M, G>, Global>,
     pub(crate) rt: W,
+    /// Where the threads of its session leave bytes to each other.
+    pub(crate) place: Arc<Place, Global>,
     /// The mainframe's turn after the last ask.
     seen: u64,
 }
@@ -40,11 +43,13 @@ impl<H: House, R: Relay, M: Meter, G: Gate + Drop, W: Wait + Clock + Copy + Drop
         let Ok(shared) = Arc::try_clone(shared) else {
             return None;
         };
+        let place = shared.place()?;
         let part = shared.part(&rt)?;
         Some(SharedDesk {
             part,
             shared,
             rt,
+            place,
             seen: 0,
         })
     }
@@ -125,6 +130,7 @@ impl<H: House, R: Relay, M: Meter, G: Gate + Drop, W: Wait + Clock + Copy + Drop
         self.seen = turn;
         match answer {
             Answer::Session(answer, work) => {
+                self.place.learn(&self.rt, &answer);
                 self.carry(work);
                 answer
             }

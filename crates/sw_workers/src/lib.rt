@@ -16,8 +16,10 @@
 //! Nothing is promised of when a thread goes on, nor that one does, nor of what a status read finds.
 #![tactic(auto)]
 
+mod ahead;
 mod board;
 mod closing;
+mod connection;
 mod desk;
 mod gate;
 mod held;
@@ -25,13 +27,17 @@ mod note;
 mod posts;
 mod recorded;
 mod seat;
+mod session;
 mod shared;
+mod sides;
 mod slots;
 mod telling;
 mod workers;
 
+pub use ahead::ReadAhead;
 pub use board::{BlankBoard, BoardName, StatusBoard, Telling};
 pub use closing::{Closed, close_down};
+pub use connection::{Connection, Tcp, Wired};
 pub use desk::SharedDesk;
 pub use gate::{Gate, Open, Point};
 pub use held::{DeskPart, Held, House};
@@ -39,6 +45,7 @@ pub use note::{AskKind, Note};
 pub use posts::{Pause, Posted};
 pub use recorded::{Recorded, Recording};
 pub use seat::{LockedPass, StatusSeat};
+pub use session::{Ended, run_session, run_session_for};
 pub use shared::{Opening, Shared};
 pub use slots::SeatSlots;
 pub use telling::{Happened, is_event, tell_event};

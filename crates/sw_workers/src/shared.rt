@@ -11,9 +11,10 @@ use crate::gate::Gate;
 use crate::held::{DeskPart, Held, House};
 use crate::note::Note;
 use crate::posts::{Posted, Posts, work_posts};
+use crate::sides::{Place, Sides};
 use std::alloc::{AllocError, Global};
 use std::sync::ledger::{Blank, Share};
-use std::sync::{Condvar, Mutex, Wait};
+use std::sync::{Arc, Condvar, Mutex, Wait};
 use std::time::{Clock, Duration, Instant};
 use sw_card::{Meter, Relay};
 use sw_core::{Answer, Ask, Core, Sid, Work};
@@ -49,6 +50,7 @@ pub struct Shared<H: House, R: Relay, M: Meter, G: Gate + Drop> {
     happened: Condvar,
     posts: Mutex<Option<Posts<M>>>,
     available: Mutex<Available>,
+    sides: Arc<Sides, Global>,
     gate: G,
 }
 
@@ -66,11 +68,13 @@ impl<H: House, R: Relay, M: Meter, G: Gate + Drop> Shared<H, R, M, G> {
         let (events, spare) = blank.open::<H>();
         let held = Held::new(alloc, core, events, spare)?;
         let (posts, posted) = work_posts(alloc)?;
+        let sides = Arc::new(alloc, Sides::new(alloc)?)?;
         let shared = Shared {
             held: Mutex::new(held),
             happened: Condvar::new(),
             posts: Mutex::new(Some(posts)),
             available: Mutex::new(Available::new()),
+            sides,
             gate,
         };
         Ok((shared, posted))
@@ -79,6 +83,13 @@ impl<H: House, R: Relay, M: Meter, G: Gate + Drop> Shared<H, R, M, G> {
     /// What a thread passes before it goes on.
     pub fn gate(&self) -> &G {
         &self.gate
+    }
+
+    /// Where one more desk notes its session, or none where no memory is to be had.
+    pub fn place(&self) -> Option<Arc<Place, Global>> {
+        let alloc = self.sides.alloc();
+        let sides = Arc::try_clone(&self.sides).ok()?;
+        Arc::new(alloc, Place::new(sides)).ok()
     }
 
     /// A part for one more desk, or none where there are 2^33 desks, or the end has begun.
