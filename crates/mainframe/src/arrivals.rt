@@ -2,12 +2,10 @@
 
 ghost use Rattle.std.specs.Prelude.{◌≡◌};
 
-use crate::stub::Connection;
-use crate::tcp::Tcp;
-use std::alloc::Global;
 use std::net::TcpListener;
 use std::thread;
 use std::time::{Clock, Duration};
+use sw_workers::{Connection, Tcp};
 
 /// Connections, one after the other.
 pub trait Arrivals {
@@ -31,19 +29,17 @@ const REST_MS: u64 = 10;
 #[derive(Drop)]
 pub struct Port<'a, W: Clock + Copy + Drop> {
     rt: W,
-    alloc: Global,
     listener: &'a TcpListener,
     taken: u32,
 }
 
 impl<'a, W: Clock + Copy + Drop> Port<'a, W> {
     /// None came yet.
-    pub fn new(rt: W, alloc: Global, listener: &'a TcpListener) -> Self
+    pub fn new(rt: W, listener: &'a TcpListener) -> Self
         ensures { result.taken ≡ 0 }
     {
         Port {
             rt,
-            alloc,
             listener,
             taken: 0,
         }
@@ -61,6 +57,6 @@ impl<'a, W: Clock + Copy + Drop> Arrivals for Port<'a, W> {
             thread::sleep(&self.rt, Duration::from_millis(REST_MS));
             return None;
         };
-        Tcp::new(self.alloc, stream).ok()
+        Tcp::new(stream).ok()
     }
 }

@@ -23,8 +23,8 @@ const LISTING: &str =
 
 /// What is served, for the help of `serve`.
 const SERVED: &str =
-    "Sixteen sessions share the cards of `run`. A client opens two connections, as IVI-6.1 says; \
-    `TCPIP::127.0.0.1::hislip0::INSTR` is the resource name at port 4880. The line \
+    "Sixteen sessions share the cards of `run`. A client opens two connections for each, as IVI-6.1 \
+    tells; its resource name at port 4880 is TCPIP::127.0.0.1::hislip0::INSTR.\n\n\
     `mainframe: listening on 127.0.0.1:P` on standard error says that connections are taken.";
 
 /// The port of HiSLIP.

@@ -1,4 +1,4 @@
-//! Why the program stops before its end.
+//! Why the program stops.
 
 ghost use Rattle.std.specs.Prelude.{◌≡◌};
 
@@ -13,15 +13,29 @@ pub enum RunFault {
     /// A write failed, or took nothing.
     #[error("mainframe: output failed")]
     Output,
-    /// The port can't be listened on.
-    #[error("mainframe: cannot listen")]
-    Listen,
     /// There was no memory for the words of the command line, the cage or a line.
     #[error("mainframe: out of memory")]
     Memory,
 }
 
 impl RunFault {
+    /// The program's exit status after it.
+    pub fn status(self) -> u8
+        ensures { result ≡ 1 }
+    {
+        1
+    }
+}
+
+/// Why nothing is served. Its text is the line on standard error.
+#[derive(Clone, Copy, Debug, PartialEq, Eq, Drop, Error)]
+pub enum ListenFault {
+    /// The port can't be listened on.
+    #[error("mainframe: cannot listen")]
+    Port,
+}
+
+impl ListenFault {
     /// The program's exit status after it.
     pub fn status(self) -> u8
         ensures { result ≡ 1 }

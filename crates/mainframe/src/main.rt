@@ -19,8 +19,6 @@ mod lobby;
 mod reading;
 mod run;
 mod serving;
-mod stub;
-mod tcp;
 #[cfg(test)]
 mod tests;
 mod writing;
@@ -28,7 +26,7 @@ mod writing;
 use clap::Error;
 use clap::error::ErrorKind;
 use command_line::{Order, parse_words, unrun_status};
-use fault::RunFault;
+use fault::{ListenFault, RunFault};
 use listing::{check_listing, checked_status};
 use run::run_lines;
 use serving::serve_on;
@@ -96,7 +94,7 @@ fn serve_port<
         + 'static,
 >(rt: W, alloc: Global, port: u16) -> ExitCode {
     let Ok(listener) = TcpListener::bind(&rt, (Ipv4Addr::LOCALHOST, port)) else {
-        return stopped(&rt, RunFault::Listen);
+        return unheard(&rt, ListenFault::Port);
     };
     let _ = eprintln!(rt; "mainframe: listening on 127.0.0.1:{port}");
     match serve_on(rt, alloc, &listener, u32::MAX) {
@@ -107,6 +105,12 @@ fn serve_port<
 
 /// One line on standard error, and the fault's status.
 fn stopped(rt: &impl Eprint, fault: RunFault) -> ExitCode {
+    let _ = eprintln!(rt; "{fault}");
+    ExitCode::from(fault.status())
+}
+
+/// One line on standard error where nothing is served, and the fault's status.
+fn unheard(rt: &impl Eprint, fault: ListenFault) -> ExitCode {
     let _ = eprintln!(rt; "{fault}");
     ExitCode::from(fault.status())
 }

@@ -1,6 +1,6 @@
 //! Connections, each served by a thread of its own.
 
-ghost use Rattle.std.specs.Prelude.{◌≡◌, ◌≤◌, ◌+◌, ◌<◌, ◌^◌, ◌×◌, All, IfErr, IfOk};
+ghost use Rattle.std.specs.Prelude.{◌≡◌, ◌≤◌, ◌+◌, ◌<◌, ◌^◌, All, IfErr, IfOk};
 ghost use Rattle.sw_core.specs.View.{ask_view};
 ghost use Rattle.mainframe.specs.Cards.{fitted};
 ghost use Rattle.mainframe.specs.Run.{Stepped};
@@ -12,7 +12,6 @@ use crate::cards::{first_card, meter_card, second_card, third_card};
 use crate::crew::Crew;
 use crate::fault::RunFault;
 use crate::lobby::Lobby;
-use crate::stub::{Connection, Ended, run_session};
 use crossbeam_channel::Receiver;
 use std::alloc::{AllocError, Global};
 use std::marker::Brand;
@@ -24,8 +23,8 @@ use sw_cage::Job;
 use sw_card::{Card, Meter, Relay};
 use sw_core::{Ask, Core};
 use sw_workers::{
-    Closed, Gate, House, Open, Opening, Pause, Posted, Shared, SharedDesk, close_down,
-    run_card_worker, run_timer_worker,
+    Closed, Connection, Ended, Gate, House, Open, Opening, Pause, Posted, Shared, SharedDesk,
+    close_down, run_card_worker, run_session, run_timer_worker,
 };
 
 /// Takes so many connections, one after the other, each served by a thread of its own over the program's cards, and
@@ -54,7 +53,7 @@ pub fn serve_on<W: Threads + Wait + Clock + Copy + Drop + Send + Sync + 'static>
         return Err(RunFault::Memory);
     };
     let meter: Box<dyn Meter + Send> = boxed;
-    let mut port = Port::new(rt, alloc, listener);
+    let mut port = Port::new(rt, listener);
     serve_cards(rt, alloc, &mut port, limit, first, second, third, meter)
 }
 
@@ -250,7 +249,12 @@ fn attend<
     connection: C,
 ) -> Left<H, R, M, G, W> {
     let desk = lobby.desk()?;
-    let Ended { desk, .. } = run_session(connection, desk, alloc);
+    let Ended {
+        desk,
+        reader: _,
+        writer: _,
+        result: _,
+    } = run_session(connection, desk, alloc);
     Some(desk)
 }
 
