@@ -1,5 +1,6 @@
 # make try:   answers the terminal's lines in about a minute, by a program that nothing has proved.
 # make run:   the same by the proved program; the first time it proves it.
+# make serve: serves HiSLIP clients on port 4880 of this machine by the proved program; PORT=5025: on that one.
 # make test:  the whole gate.
 # make wrong: tries every wrong body, whatever is recorded of it.
 # make check CRATE=sw_lex: proves one crate.
@@ -7,13 +8,16 @@
 RT ?= rt
 export RT
 
-.PHONY: try run test wrong check talks bench
+.PHONY: try run serve test wrong check talks bench
 
 try:
 	@cd crates/mainframe && $(RT) try -- run
 
 run:
 	@cd crates/mainframe && $(RT) run -- run
+
+serve:
+	@cd crates/mainframe && $(RT) run -- --version && exec out/mainframe serve --port $(or $(PORT),4880)
 
 test:
 	@./gate
