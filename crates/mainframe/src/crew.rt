@@ -38,13 +38,6 @@ impl<T: Send + Drop + 'static> Crew<T> {
         })
     }
 
-    /// How many threads were not joined yet.
-    pub fn len(&self) -> usize
-        ensures { result ≡ vec_len self.now.members }
-    {
-        self.members.len()
-    }
-
     /// Starts a thread for this work. It does not where there is no memory, or no thread is to be had.
     pub fn start<
         W: Threads + Wait + Copy + Drop + Send + 'static,

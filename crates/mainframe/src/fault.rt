@@ -4,6 +4,9 @@ ghost use Rattle.std.specs.Prelude.{◌≡◌};
 
 use thiserror::Error;
 
+/// The exit status of a program that a fault stops.
+const STATUS: u8 = 1;
+
 /// Why the program stops. Its text is the line on standard error.
 #[derive(Clone, Copy, Debug, PartialEq, Eq, Drop, Error)]
 pub enum RunFault {
@@ -23,7 +26,7 @@ impl RunFault {
     pub fn status(self) -> u8
         ensures { result ≡ 1 }
     {
-        1
+        STATUS
     }
 }
 
@@ -40,6 +43,6 @@ impl ListenFault {
     pub fn status(self) -> u8
         ensures { result ≡ 1 }
     {
-        1
+        STATUS
     }
 }

@@ -1,10 +1,11 @@
-//! `mainframe`: a SCPI switch mainframe of simulated cards, driven by lines of text.
+//! `mainframe`: a SCPI switch mainframe of simulated cards, driven by lines of text or over a network.
 //!
 //! `mainframe run [--fuse K]` answers each line of standard input on standard output. The crate's contract is that of
 //! `run::run_lines`: what is written is what the definition of a talk says of what was read, by the step relation of
 //! the core from its opening state. `mainframe check` says of a listing whether the program's cards may do its scan;
-//! its contract is that of `listing::check_listing`. Nothing is promised of what a terminal carries, nor of the texts
-//! of `clap`.
+//! its contract is that of `listing::check_listing`. `mainframe serve [--port P]` serves sessions over TCP, and its
+//! contract is that of `serving::serve_over`: how many connections it takes, and that it ends with every card open.
+//! Nothing is promised of what a terminal or a network carries, nor of the texts of `clap`.
 #![tactic(auto)]
 
 mod arrivals;

@@ -1,6 +1,6 @@
 //! Connections, each served by a thread of its own.
 
-ghost use Rattle.std.specs.Prelude.{◌≡◌, ◌≤◌, ◌+◌, ◌<◌, ◌^◌, All, IfErr, IfOk};
+ghost use Rattle.std.specs.Prelude.{◌≡◌, ◌≤◌, ◌+◌, ◌<◌, ◌^◌, All, IfErr, IfOk, OnOk};
 ghost use Rattle.sw_core.specs.View.{ask_view};
 ghost use Rattle.mainframe.specs.Cards.{fitted};
 ghost use Rattle.mainframe.specs.Run.{Stepped};
@@ -74,7 +74,8 @@ fn serve_cards<
     meter: M,
 ) -> Result<(), RunFault>
     requires { A.taken arrivals.old + limit < 2 ^ 32 }
-    ensures { IfErr result (λ fault. fault ≡ RunFault.Memory) }
+    ensures memory { IfErr result (λ fault. fault ≡ RunFault.Memory) }
+    ensures taken { OnOk result (A.taken arrivals.new ≡ A.taken arrivals.old + limit) }
 {
     let first = Card::relays(first);
     let second = Card::relays(second);
@@ -138,7 +139,7 @@ pub fn serve_over<
     requires room { A.taken arrivals.old + limit < 2 ^ 32 }
     ensures events { IfOk result (λ closed. H.start ≤ closed.events) }
     ensures open { IfOk result (λ closed. All (λ card. IsOpen card.1) closed.cards.items) }
-    ensures taken { IfOk result (λ _. A.taken arrivals.new ≡ A.taken arrivals.old + limit) }
+    ensures taken { OnOk result (A.taken arrivals.new ≡ A.taken arrivals.old + limit) }
 {
     let (shared, posted) = Shared::<H, R, M, G>::new(alloc, opening, gate)?;
     let shared = Arc::new(alloc, shared)?;
@@ -243,11 +244,7 @@ fn attend<
     G: Gate + Drop,
     W: Wait + Clock + Copy + Drop,
     C: Connection + Drop,
->(
-    alloc: Global,
-    lobby: Arc<Lobby<H, R, M, G, W>, Global>,
-    connection: C,
-) -> Left<H, R, M, G, W> {
+>(alloc: Global, lobby: Arc<Lobby<H, R, M, G, W>, Global>, connection: C) -> Left<H, R, M, G, W> {
     let desk = lobby.desk()?;
     let Ended {
         desk,
@@ -265,11 +262,7 @@ fn join_ended<
     M: Meter + Send + 'static,
     G: Gate + Drop + Send + Sync + 'static,
     W: Threads + Wait + Clock + Copy + Drop + Send + Sync + 'static,
->(
-    rt: &W,
-    lobby: &Lobby<H, R, M, G, W>,
-    crew: &mut Crew<Left<H, R, M, G, W>>,
-) {
+>(rt: &W, lobby: &Lobby<H, R, M, G, W>, crew: &mut Crew<Left<H, R, M, G, W>>) {
     while let Some(left) = crew.join_ended(rt) {
         if let Some(desk) = left {
             lobby.give_back(desk);
@@ -284,11 +277,7 @@ fn join_all<
     M: Meter + Send + 'static,
     G: Gate + Drop + Send + Sync + 'static,
     W: Threads + Wait + Clock + Copy + Drop + Send + Sync + 'static,
->(
-    rt: &W,
-    lobby: &Lobby<H, R, M, G, W>,
-    mut crew: Crew<Left<H, R, M, G, W>>,
-) {
+>(rt: &W, lobby: &Lobby<H, R, M, G, W>, mut crew: Crew<Left<H, R, M, G, W>>) {
     while let Some(left) = crew.join_any(rt) {
         if let Some(desk) = left {
             lobby.give_back(desk);

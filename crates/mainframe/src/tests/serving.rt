@@ -8,31 +8,37 @@ use std::thread::join;
 
 /// Initialize with the sub-address `hislip0`, and the answer to whom becomes session 1.
 const INITIALIZE: &[u8] = b"HS\x00\x00\x01\x00XX\x00\x00\x00\x00\x00\x00\x00\x07hislip0";
+
 const INITIALIZED: &[u8] = b"HS\x01\x00\x01\x00\x00\x01\x00\x00\x00\x00\x00\x00\x00\x00";
 
 /// AsyncInitialize of session 1, and its answer.
 const JOIN: &[u8] = b"HS\x11\x00\x00\x00\x00\x01\x00\x00\x00\x00\x00\x00\x00\x00";
+
 const JOINED: &[u8] = b"HS\x12\x00\x00\x00SW\x00\x00\x00\x00\x00\x00\x00\x00";
 
 /// `*IDN?`, and its answer.
 const ASKED: &[u8] = b"HS\x07\x00\xff\xff\xff\x00\x00\x00\x00\x00\x00\x00\x00\x06*IDN?\n";
+
 const TOLD: &[u8] =
     b"HS\x07\x00\xff\xff\xff\x00\x00\x00\x00\x00\x00\x00\x00\x15OPENBENCH,SWM8,0,1.0\n";
 
 /// AsyncMaximumMessageSize of 32, and its answer.
 const SMALL: &[u8] =
     b"HS\x0f\x00\x00\x00\x00\x00\x00\x00\x00\x00\x00\x00\x00\x08\x00\x00\x00\x00\x00\x00\x00\x20";
+
 const LARGEST: &[u8] =
     b"HS\x10\x00\x00\x00\x00\x00\x00\x00\x00\x00\x00\x00\x00\x08\x00\x00\x00\x00\x00\x01\x00\x00";
 
 /// `*IDN?` from whom has read the answer before, and its answer in two parts.
 const ASKED_AGAIN: &[u8] = b"HS\x07\x01\xff\xff\xff\x02\x00\x00\x00\x00\x00\x00\x00\x06*IDN?\n";
+
 const TOLD_IN_PARTS: &[u8] =
     b"HS\x06\x00\xff\xff\xff\x02\x00\x00\x00\x00\x00\x00\x00\x10OPENBENCH,SWM8,0\
     HS\x07\x00\xff\xff\xff\x02\x00\x00\x00\x00\x00\x00\x00\x05,1.0\n";
 
 /// AsyncStatusQuery, and its answer while a message is available.
 const STATUS: &[u8] = b"HS\x15\x00\x00\x00\x00\x00\x00\x00\x00\x00\x00\x00\x00\x00";
+
 const AVAILABLE: &[u8] = b"HS\x16\x10\x00\x00\x00\x00\x00\x00\x00\x00\x00\x00\x00\x00";
 
 /// How often the status is asked for.
@@ -45,7 +51,7 @@ fn answers(stream: &mut TcpStream, asked: &[u8], told: &[u8]) -> bool {
         return false;
     }
     let came = &mut came[..told.len()];
-    stream.write_all(asked).is_ok() && stream.read_exact(came).is_ok() && came == told
+    stream.write_all(asked).is_ok() && stream.read_exact(came).is_ok() && &*came == told
 }
 
 /// Whether the status tells in the end that a message is available: it does once the answer's end was written, which
