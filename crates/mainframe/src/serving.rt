@@ -229,9 +229,27 @@ fn serve_each<
         let Some(connection) = arrival else {
             continue;
         };
-        let Ok(theirs) = Arc::try_clone(lobby) else {
-            continue;
-        };
+        welcome(rt, alloc, lobby, sessions, number, connection);
+    }
+}
+
+/// Starts a thread for a connection. Where there is no memory or no thread to be had, the connection is closed.
+fn welcome<
+    H: House + Send + Sync + 'static,
+    R: Relay + Send + 'static,
+    M: Meter + Send + 'static,
+    G: Gate + Drop + Send + Sync + 'static,
+    W: Threads + Wait + Clock + Copy + Drop + Send + Sync + 'static,
+    C: Connection + Send + Drop + 'static,
+>(
+    rt: W,
+    alloc: Global,
+    lobby: &Arc<Lobby<H, R, M, G, W>, Global>,
+    sessions: &mut Crew<Left<H, R, M, G, W>>,
+    number: u32,
+    connection: C,
+) {
+    if let Ok(theirs) = Arc::try_clone(lobby) {
         sessions.start(rt, number, move || attend(alloc, theirs, connection));
     }
 }
