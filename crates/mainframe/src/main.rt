@@ -8,7 +8,6 @@
 //! Nothing is promised of what a terminal or a network carries, nor of the texts of `clap`.
 #![tactic(auto)]
 
-mod arrivals;
 mod cards;
 mod command_line;
 mod crew;
@@ -17,6 +16,7 @@ mod fault;
 mod laws;
 mod listing;
 mod lobby;
+mod port;
 mod reading;
 mod run;
 mod serving;

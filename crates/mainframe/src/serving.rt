@@ -7,11 +7,11 @@ ghost use Rattle.mainframe.specs.Run.{Stepped};
 ghost use Rattle.mainframe.specs.Serving.{IsFitted};
 ghost use Rattle.sw_workers.specs.Closing.{IsOpen};
 
-use crate::arrivals::{Arrivals, Port};
 use crate::cards::{first_card, meter_card, second_card, third_card};
 use crate::crew::Crew;
 use crate::fault::RunFault;
 use crate::lobby::Lobby;
+use crate::port::Port;
 use crossbeam_channel::Receiver;
 use std::alloc::{AllocError, Global};
 use std::marker::Brand;
@@ -23,8 +23,8 @@ use sw_cage::Job;
 use sw_card::{Card, Meter, Relay};
 use sw_core::{Ask, Core};
 use sw_workers::{
-    Closed, Connection, Ended, Gate, House, Open, Opening, Pause, Posted, Shared, SharedDesk,
-    close_down, run_card_worker, run_session, run_timer_worker,
+    Closed, Ended, Gate, House, Open, Opening, Pause, Posted, Shared, SharedDesk, Tcp, close_down,
+    run_card_worker, run_session, run_timer_worker,
 };
 
 /// Takes so many connections, one after the other, each served by a thread of its own over the program's cards, and
@@ -57,25 +57,24 @@ pub fn serve_on<W: Threads + Wait + Clock + Copy + Drop + Send + Sync + 'static>
     serve_cards(rt, alloc, &mut port, limit, first, second, third, meter)
 }
 
-/// The same over connections of any kind, by these cards in slots 1 to 4.
+/// The same by these cards in slots 1 to 4.
 fn serve_cards<
     R: Relay + Send + 'static,
     M: Meter + Send + 'static,
-    A: Arrivals,
     W: Threads + Wait + Clock + Copy + Drop + Send + Sync + 'static,
 >(
     rt: W,
     alloc: Global,
-    arrivals: &mut A,
+    port: &mut Port<'_, W>,
     limit: u32,
     first: R,
     second: R,
     third: R,
     meter: M,
 ) -> Result<(), RunFault>
-    requires { A.taken arrivals.old + limit < 2 ^ 32 }
+    requires { port.old.taken + limit < 2 ^ 32 }
     ensures memory { IfErr result (λ fault. fault ≡ RunFault.Memory) }
-    ensures taken { OnOk result (A.taken arrivals.new ≡ A.taken arrivals.old + limit) }
+    ensures taken { OnOk result (port.new.taken ≡ port.old.taken + limit) }
 {
     let first = Card::relays(first);
     let second = Card::relays(second);
@@ -84,7 +83,7 @@ fn serve_cards<
         return Err(RunFault::Memory);
     };
     let opening = Opening::new(core);
-    match serve_over::<Brand, R, M, Open, A, W>(rt, alloc, arrivals, limit, opening, Open) {
+    match serve_over::<Brand, R, M, Open, W>(rt, alloc, port, limit, opening, Open) {
         Ok(closed) => {
             drop(closed);
             Ok(())
@@ -124,22 +123,21 @@ pub fn serve_over<
     R: Relay + Send + 'static,
     M: Meter + Send + 'static,
     G: Gate + Drop + Send + Sync + 'static,
-    A: Arrivals,
     W: Threads + Wait + Clock + Copy + Drop + Send + Sync + 'static,
 >(
     rt: W,
     alloc: Global,
-    arrivals: &mut A,
+    port: &mut Port<'_, W>,
     limit: u32,
     opening: Opening<R, M>,
     gate: G,
 ) -> Result<Closed<R, M>, AllocError>
     requires start { opening.core.events ≡ H.start }
     requires ledger { (opening.blank.name ≡ H.name) × (opening.blank.parts ≡ H.parts) }
-    requires room { A.taken arrivals.old + limit < 2 ^ 32 }
+    requires room { port.old.taken + limit < 2 ^ 32 }
     ensures events { IfOk result (λ closed. H.start ≤ closed.events) }
     ensures open { IfOk result (λ closed. All (λ card. IsOpen card.1) closed.cards.items) }
-    ensures taken { OnOk result (A.taken arrivals.new ≡ A.taken arrivals.old + limit) }
+    ensures taken { OnOk result (port.new.taken ≡ port.old.taken + limit) }
 {
     let (shared, posted) = Shared::<H, R, M, G>::new(alloc, opening, gate)?;
     let shared = Arc::new(alloc, shared)?;
@@ -148,7 +146,7 @@ pub fn serve_over<
     let mut workers = Crew::new(alloc)?;
     let mut sessions = Crew::new(alloc)?;
     start_workers(rt, alloc, &lobby, &mut workers, posted);
-    serve_each(rt, alloc, &lobby, &mut sessions, arrivals, limit);
+    serve_each(rt, alloc, &lobby, &mut sessions, port, limit);
     join_all(&rt, &lobby, sessions);
     lobby.end_work();
     join_all(&rt, &lobby, workers);
@@ -210,21 +208,20 @@ fn serve_each<
     R: Relay + Send + 'static,
     M: Meter + Send + 'static,
     G: Gate + Drop + Send + Sync + 'static,
-    A: Arrivals,
     W: Threads + Wait + Clock + Copy + Drop + Send + Sync + 'static,
 >(
     rt: W,
     alloc: Global,
     lobby: &Arc<Lobby<H, R, M, G, W>, Global>,
     sessions: &mut Crew<Left<H, R, M, G, W>>,
-    arrivals: &mut A,
+    port: &mut Port<'_, W>,
     limit: u32,
 )
-    requires { A.taken arrivals.old + limit < 2 ^ 32 }
-    ensures { A.taken arrivals.new ≡ A.taken arrivals.old + limit }
+    requires { port.old.taken + limit < 2 ^ 32 }
+    ensures { port.new.taken ≡ port.old.taken + limit }
 {
     for number in 0..limit {
-        let arrival = arrivals.next();
+        let arrival = port.accept();
         join_ended(&rt, &**lobby, sessions);
         let Some(connection) = arrival else {
             continue;
@@ -240,14 +237,13 @@ fn welcome<
     M: Meter + Send + 'static,
     G: Gate + Drop + Send + Sync + 'static,
     W: Threads + Wait + Clock + Copy + Drop + Send + Sync + 'static,
-    C: Connection + Send + Drop + 'static,
 >(
     rt: W,
     alloc: Global,
     lobby: &Arc<Lobby<H, R, M, G, W>, Global>,
     sessions: &mut Crew<Left<H, R, M, G, W>>,
     number: u32,
-    connection: C,
+    connection: Tcp,
 ) {
     if let Ok(theirs) = Arc::try_clone(lobby) {
         sessions.start(rt, number, move || attend(alloc, theirs, connection));
@@ -255,14 +251,11 @@ fn welcome<
 }
 
 /// What the thread of a connection does.
-fn attend<
-    H: House,
-    R: Relay,
-    M: Meter,
-    G: Gate + Drop,
-    W: Wait + Clock + Copy + Drop,
-    C: Connection + Drop,
->(alloc: Global, lobby: Arc<Lobby<H, R, M, G, W>, Global>, connection: C) -> Left<H, R, M, G, W> {
+fn attend<H: House, R: Relay, M: Meter, G: Gate + Drop, W: Wait + Clock + Copy + Drop>(
+    alloc: Global,
+    lobby: Arc<Lobby<H, R, M, G, W>, Global>,
+    connection: Tcp,
+) -> Left<H, R, M, G, W> {
     let desk = lobby.desk()?;
     let Ended {
         desk,
