@@ -11,3 +11,4 @@ mod Carries
 mod Worked
 mod Ejected
 mod Asked
+mod Serving

@@ -1,6 +1,5 @@
 -- What one thread of a session leaves to the other.
-use Rattle.std.specs.Prelude.{◌≡◌, ◌==◌, ℕ, Bool, true, false, List, [], ◌++◌, Option, None, Some, if◌then◌else◌}
-use Rattle.std.specs.Nat.{nat_lt}
+use Rattle.std.specs.Prelude.{◌==◌, ℕ, nat_lt, Bool, true, false, List, [], ◌++◌, Option, None, Some, if◌then◌else◌}
 
 -- the session that a slot is given to, by the number of events after its Join, and what waits for it
 pub record InSlot : Type 0 where

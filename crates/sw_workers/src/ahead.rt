@@ -1,74 +1,51 @@
 //! A source whose first bytes were read ahead.
 
+ghost use Rattle.std.specs.Prelude.{◌≡◌, ◌≤◌, ◌<◌, ◌⊎◌, true, nat_lt, [], ◌++◌, length, take, drop, vec_capacity, OnOk, OnErr};
+ghost use Rattle.std.specs.Io.Cursor.{cursor_position, cursor_inner};
+ghost use Rattle.std.specs.Io.KnownBytes.{Consumes, IsAtEnd};
+ghost use Rattle.sw_session.specs.ServeRead.{CameTo};
+ghost use Rattle.sw_workers.specs.Connected.{Happened, channel_of};
+
+use std::io::{Cursor, Read};
+use std::marker::Model;
 use std::sync::Wait;
 use sw_hislip::Kind;
 use sw_session::{Channel, Source, Unread};
 
 /// The bytes of a header.
-const HEADER: usize = 16;
+pub const HEADER: usize = 16;
 
-/// The first bytes of a connection, up to those of a header, which are to be read again.
-#[derive(Drop)]
-pub struct FirstBytes {
-    bytes: [u8; HEADER],
-    /// Those before it were read again.
-    start: usize,
-    end: usize,
-    /// A read after them failed.
-    pub failed: bool,
-}
-
-impl FirstBytes {
-    /// Reads until a header is whole, or the input ends or fails. A read that a time limit ended is asked again.
-    pub fn read<R: Source, W: Wait>(rt: &W, reader: &mut R) -> Self {
-        let mut first = FirstBytes::none();
-        for _ in rt.forever() {
-            if first.end >= HEADER {
-                return first;
-            }
-            match reader.receive(&mut first.bytes[first.end..]) {
-                Ok(0) => return first,
-                Ok(n) => first.end += n,
-                Err(Unread::Paused) => {}
-                Err(Unread::Failed) => {
-                    first.failed = true;
-                    return first;
-                }
-            }
+/// Reads until a header is whole, or the input ends or fails. A read that a time limit ended is asked again.
+pub fn read_header<R: Source, W: Wait>(
+    rt: &W,
+    reader: &mut R,
+    header: &mut Vec<u8>,
+) -> Result<(), Unread>
+    requires { (header.old.items ≡ []) × (16 ≤ vec_capacity header.old) }
+    ensures bytes { Consumes (R.remaining reader.old) (R.remaining reader.new) header.new.items }
+    ensures whole { OnOk result ((length header.new.items ≡ 16) ⊎ IsAtEnd (R.remaining reader.new)) }
+    ensures failed { OnErr result (CameTo R.failed reader.new) }
+{
+    for _ in rt.forever() {
+        if header.len() >= HEADER {
+            return Ok(());
         }
-        unreachable!()
-    }
-
-    /// None.
-    pub fn none() -> Self {
-        FirstBytes {
-            bytes: [0; HEADER],
-            start: 0,
-            end: 0,
-            failed: false,
+        let mut bytes = [0_u8; HEADER];
+        let room = HEADER - header.len();
+        match reader.receive(&mut bytes[..room]) {
+            Ok(0) => return Ok(()),
+            Ok(n) => header.extend_from_slice(&bytes[..n]).unwrap(),
+            Err(Unread::Paused) => {}
+            Err(Unread::Failed) => return Err(Unread::Failed),
         }
     }
-
-    fn left(&self) -> &[u8] {
-        &self.bytes[self.start..self.end]
-    }
-
-    /// Which channel begins so.
-    pub fn channel(&self) -> Channel {
-        channel_of(self.left())
-    }
-
-    /// Puts as many as there is room for into the front of the buffer.
-    fn give(&mut self, buffer: &mut [u8]) -> usize {
-        let n = buffer.len().min(self.end - self.start);
-        buffer[..n].copy_from_slice(&self.bytes[self.start..self.start + n]);
-        self.start += n;
-        n
-    }
+    unreachable!()
 }
 
 /// Which channel begins so: the second one with the header of AsyncInitialize, any other is the first one.
-fn channel_of(bytes: &[u8]) -> Channel {
+pub fn channel_of(bytes: &[u8]) -> Channel
+    ensures { result ≡ channel_of bytes.now }
+{
     if bytes.len() >= 3
         && bytes[0] == b'H'
         && bytes[1] == b'S'
@@ -80,29 +57,81 @@ fn channel_of(bytes: &[u8]) -> Channel {
     }
 }
 
-/// A source whose first bytes were read ahead, and come again.
+/// A source whose first bytes were read ahead, and come again. Where a read after them had failed, so does the one that
+/// follows them. Contracts see the bytes that come again, and the reader.
 #[derive(Drop)]
 pub struct ReadAhead<R: Source + Drop> {
-    pub(crate) first: FirstBytes,
-    pub(crate) reader: R,
+    header: Cursor<Vec<u8>>,
+    failed: bool,
+    reader: R,
+}
+
+impl<R: Source + Drop> Model for ReadAhead<R> {
+    ghost use Rattle.std.specs.Prelude.{◌≡◌, true, drop};
+    ghost use Rattle.std.specs.Io.Cursor.{cursor_position, cursor_inner};
+    ghost use Rattle.sw_workers.specs.Ahead.{Ahead};
+    ghost use Rattle.sw_workers.specs.Connected.{Happened};
+
+    ghost Value = { Ahead R };
+
+    ghost view = { λ s. record { bytes = drop (cursor_position s.header) (cursor_inner s.header).items; reader = s.reader } };
+
+    ghost invariant = { λ s. s.failed ≡ true → Happened R.failed };
+}
+
+impl<R: Source + Drop> ReadAhead<R> {
+    /// These bytes come again, and then what the reader has.
+    pub fn new(header: Vec<u8>, failed: bool, reader: R) -> Self
+        requires { failed ≡ true → Happened R.failed }
+        ensures { result ≡ record { bytes = header.items; reader = reader } }
+    {
+        ReadAhead {
+            header: Cursor::new(header),
+            failed,
+            reader,
+        }
+    }
 }
 
 impl<R: Source + Drop> Source for ReadAhead<R> {
-    ghost use Rattle.std.specs.Io.KnownBytes.{prepend_known};
+    ghost use Rattle.sw_session.specs.ServeRead.{MayPause};
+    ghost use Rattle.sw_workers.specs.Ahead.{left_ahead};
+    ghost use Rattle.sw_workers.specs.Connected.{Happened};
 
-    ghost remaining = { λ s. prepend_known s.first s.reader };
+    ghost remaining = { λ s. left_ahead R.remaining s };
 
-    ghost paused = { λ _ _. Unit {0} };
+    ghost paused = { λ _ _. MayPause R.paused };
 
-    ghost failed = { λ _ _. Unit {0} };
+    ghost failed = { λ _ _. Happened R.failed };
 
     fn receive(&mut self, buffer: &mut [u8]) -> Result<usize, Unread> {
-        if self.first.start < self.first.end {
-            return Ok(self.first.give(buffer));
+        if has_left(&self.header) {
+            return Ok(give(&mut self.header, buffer));
         }
-        if self.first.failed {
+        if self.failed {
             return Err(Unread::Failed);
         }
         self.reader.receive(buffer)
+    }
+}
+
+/// Whether any byte is left.
+fn has_left(header: &Cursor<Vec<u8>>) -> bool
+    ensures { result ≡ nat_lt 0 (length (drop (cursor_position header.now) (cursor_inner header.now).items)) }
+{
+    header.position() < header.get_ref().len() as u64
+}
+
+/// Gives as many of the bytes as there is room for.
+fn give(header: &mut Cursor<Vec<u8>>, buffer: &mut [u8]) -> usize
+    ensures bound { result ≤ length buffer.new }
+    ensures bytes { drop (cursor_position header.old) (cursor_inner header.old).items
+        ≡ take result buffer.new ++ drop (cursor_position header.new) (cursor_inner header.new).items }
+    ensures some { 0 < length (drop (cursor_position header.old) (cursor_inner header.old).items) → 0 < length buffer.new
+        → 0 < result }
+{
+    match header.read(buffer) {
+        Ok(n) => n,
+        Err(_) => unreachable!(),
     }
 }

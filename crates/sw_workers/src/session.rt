@@ -1,6 +1,14 @@
 //! A session's connections, each served by the desk of one thread.
 
-use crate::ahead::{FirstBytes, ReadAhead};
+ghost use Rattle.std.specs.Prelude.{◌≡◌, ◌⊎◌, ◌≤◌, ℕ, List, [], Option, Err, vec_capacity};
+ghost use Rattle.sw_session.specs.Talk.{turns};
+ghost use Rattle.sw_session.specs.ServeRead.{MayPause};
+ghost use Rattle.sw_session.specs.ServeEngine.{ServesChannel};
+ghost use Rattle.sw_workers.specs.Ahead.{left_ahead};
+ghost use Rattle.sw_workers.specs.Connected.{Happened, ServesConnection, RunsSession};
+ghost use Rattle.sw_workers.specs.Work.{DeskPasses};
+
+use crate::ahead::{HEADER, ReadAhead, channel_of, read_header};
 use crate::connection::Connection;
 use crate::desk::SharedDesk;
 use crate::gate::Gate;
@@ -51,22 +59,19 @@ impl<W: Wait + Drop> Sink for SideWriter<W> {
     }
 }
 
-/// The side writer of a second channel, which says nothing on the first one: it takes no byte.
+/// The side writer of a second channel, which says nothing on the first one.
 #[derive(Clone, Copy, Debug, Drop)]
 struct Nowhere;
 
 impl Sink for Nowhere {
-    ghost use Rattle.std.specs.Prelude.{Some, []};
+    ghost use Rattle.std.specs.Prelude.{None};
 
-    ghost contents = { λ _. Some [] };
+    ghost contents = { λ _. None };
 
-    ghost failed = { λ _ _. Unit {0} };
+    ghost failed = { λ _ _. ⊥ };
 
-    fn deliver(&mut self, bytes: &[u8]) -> Result<(), Unwritten> {
-        if bytes.is_empty() {
-            return Ok(());
-        }
-        Err(Unwritten)
+    fn deliver(&mut self, _bytes: &[u8]) -> Result<(), Unwritten> {
+        Ok(())
     }
 }
 
@@ -98,7 +103,7 @@ impl<R: Source + Drop, A: Sink + Drop, W: Wait + Drop> Source for Forwarding<R, 
     }
 }
 
-/// Serves a connection as the channel that its first message tells, for so many reads after that at most.
+/// Serves a connection as the channel that its first header tells, for so many reads after that at most.
 pub fn run_session_for<
     H: House,
     R: Relay,
@@ -111,22 +116,28 @@ pub fn run_session_for<
     desk: SharedDesk<H, R, M, G, W>,
     alloc: Global,
     turns: u64,
-) -> Ended<SharedDesk<H, R, M, G, W>, C::In, C::Out> {
+) -> Ended<SharedDesk<H, R, M, G, W>, C::In, C::Out>
+    ensures { RunsSession desk result.desk
+        (λ before entry after. DeskPasses before.part.share.amount entry after.part.share.amount)
+        (MayPause C.In.paused) (Happened C.In.failed ⊎ Happened C.Aside.failed) (Happened C.Out.failed) turns
+        (C.input connection) (left_ahead C.In.remaining result.reader)
+        (C.output connection) (C.Out.contents result.writer) result.result }
+{
     let (reader, writer, aside) = connection.into_parts();
     let rt = desk.rt;
     let Ok(place) = Arc::try_clone(&desk.place) else {
-        return Ended {
-            desk,
-            reader: ReadAhead {
-                first: FirstBytes::none(),
-                reader,
-            },
-            writer,
-            result: Err(ServeFault::NoMemory),
-        };
+        return unbegun(alloc, reader, writer, desk);
+    };
+    let Ok(header) = Vec::with_capacity(alloc, HEADER) else {
+        return unbegun(alloc, reader, writer, desk);
     };
     place.clear(&rt);
-    serve_parts::<C, _, W>(rt, alloc, reader, writer, aside, desk, place, turns)
+    let wire = Parts {
+        reader,
+        writer,
+        aside,
+    };
+    serve_parts::<C, _, W>(rt, alloc, header, wire, desk, place, turns)
 }
 
 /// `run_session_for` with 2^32 reads.
@@ -141,33 +152,78 @@ pub fn run_session<
     connection: C,
     desk: SharedDesk<H, R, M, G, W>,
     alloc: Global,
-) -> Ended<SharedDesk<H, R, M, G, W>, C::In, C::Out> {
+) -> Ended<SharedDesk<H, R, M, G, W>, C::In, C::Out>
+    ensures { RunsSession desk result.desk
+        (λ before entry after. DeskPasses before.part.share.amount entry after.part.share.amount)
+        (MayPause C.In.paused) (Happened C.In.failed ⊎ Happened C.Aside.failed) (Happened C.Out.failed) turns
+        (C.input connection) (left_ahead C.In.remaining result.reader)
+        (C.output connection) (C.Out.contents result.writer) result.result }
+{
     run_session_for(connection, desk, alloc, TURNS)
 }
 
-/// Reads the first message's header, and serves the channel that it tells.
+/// What is left where there was no memory to begin.
+fn unbegun<R: Source + Drop, O: Drop, D: Drop>(
+    alloc: Global,
+    reader: R,
+    writer: O,
+    desk: D,
+) -> Ended<D, R, O>
+    ensures desk { result.desk ≡ desk }
+    ensures reader { left_ahead R.remaining result.reader ≡ R.remaining reader }
+    ensures writer { result.writer ≡ writer }
+    ensures result { result.result ≡ Err ServeFault.NoMemory }
+{
+    Ended {
+        desk,
+        reader: ReadAhead::new(Vec::new(alloc), false, reader),
+        writer,
+        result: Err(ServeFault::NoMemory),
+    }
+}
+
+/// The parts of a connection.
+#[derive(Drop)]
+struct Parts<I: Drop, O: Drop, A: Drop> {
+    reader: I,
+    writer: O,
+    aside: A,
+}
+
+/// Reads the first header, and serves the channel that it tells.
 fn serve_parts<C: Connection, D: Desk + Drop, W: Wait + Copy + Drop>(
     rt: W,
     alloc: Global,
-    mut reader: C::In,
-    writer: C::Out,
-    aside: C::Aside,
+    header: Vec<u8>,
+    wire: Parts<C::In, C::Out, C::Aside>,
     desk: D,
     place: Arc<Place, Global>,
     turns: u64,
-) -> Ended<D, C::In, C::Out> {
-    let mut first = FirstBytes::read(&rt, &mut reader);
-    match first.channel() {
+) -> Ended<D, C::In, C::Out>
+    requires { (header.items ≡ []) × (16 ≤ vec_capacity header) }
+    ensures { ServesConnection desk result.desk D.passes (MayPause C.In.paused)
+        (Happened C.In.failed ⊎ Happened C.Aside.failed) (Happened C.Out.failed) turns
+        (C.In.remaining wire.reader) (left_ahead C.In.remaining result.reader)
+        (C.Out.contents wire.writer) (C.Out.contents result.writer) result.result }
+{
+    let Parts {
+        mut reader,
+        writer,
+        aside,
+    } = wire;
+    let mut header = header;
+    let mut failed = read_header(&rt, &mut reader, &mut header).is_err();
+    match channel_of(header.as_slice()) {
         Channel::Synchronous => {
-            let reader = ReadAhead { first, reader };
+            let reader = ReadAhead::new(header, failed, reader);
             serve_first(rt, alloc, reader, writer, desk, place, turns)
         }
         Channel::Asynchronous => {
             if C::set_limit(&mut reader, LIMIT_MS).is_err() {
-                first.failed = true;
+                failed = true;
             }
             let source = Forwarding {
-                reader: ReadAhead { first, reader },
+                reader: ReadAhead::new(header, failed, reader),
                 aside,
                 place,
                 rt,
@@ -186,19 +242,18 @@ fn serve_first<R: Source + Drop, O: Sink + Drop, D: Desk + Drop, W: Wait + Drop>
     desk: D,
     place: Arc<Place, Global>,
     turns: u64,
-) -> Ended<D, R, O> {
+) -> Ended<D, R, O>
+    ensures serves { (side : Option (List ℕ)) × (side' : Option (List ℕ))
+        × ServesChannel D.passes Channel.Synchronous (MayPause R.paused) turns desk result.desk
+        (left_ahead R.remaining reader) (left_ahead R.remaining result.reader)
+        (O.contents writer) (O.contents result.writer) side side' result.result }
+    ensures read { result.result ≡ Err ServeFault.Read → Happened R.failed }
+{
     let mut reader = reader;
     let mut writer = writer;
     let mut desk = desk;
     let mut side = SideWriter { place, rt };
-    let result = serve_sync_for(
-        alloc,
-        &mut reader,
-        &mut writer,
-        &mut side,
-        &mut desk,
-        turns,
-    );
+    let result = serve_sync_for(alloc, &mut reader, &mut writer, &mut side, &mut desk, turns);
     Ended {
         desk,
         reader,
@@ -214,19 +269,19 @@ fn serve_second<R: Source + Drop, O: Sink + Drop, A: Sink + Drop, D: Desk + Drop
     writer: O,
     desk: D,
     turns: u64,
-) -> Ended<D, R, O> {
+) -> Ended<D, R, O>
+    ensures serves { (side : Option (List ℕ)) × (side' : Option (List ℕ))
+        × ServesChannel D.passes Channel.Asynchronous (MayPause R.paused) turns desk result.desk
+        (left_ahead R.remaining source.reader) (left_ahead R.remaining result.reader)
+        (O.contents writer) (O.contents result.writer) side side' result.result }
+    ensures read { result.result ≡ Err ServeFault.Read → Happened R.failed ⊎ Happened A.failed }
+    ensures write { result.result ≡ Err ServeFault.Write → Happened O.failed }
+{
     let mut source = source;
     let mut writer = writer;
     let mut desk = desk;
     let mut side = Nowhere;
-    let result = serve_async_for(
-        alloc,
-        &mut source,
-        &mut writer,
-        &mut side,
-        &mut desk,
-        turns,
-    );
+    let result = serve_async_for(alloc, &mut source, &mut writer, &mut side, &mut desk, turns);
     let Forwarding {
         reader,
         aside: _,

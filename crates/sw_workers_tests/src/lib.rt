@@ -8,6 +8,10 @@ mod board;
 #[cfg(test)]
 mod latches;
 #[cfg(test)]
+mod sessions;
+#[cfg(test)]
 mod shop;
 #[cfg(test)]
 mod threads;
+#[cfg(test)]
+mod wires;

@@ -36,7 +36,7 @@ fn install<R: Relay, M: Meter>(
 }
 
 /// A mainframe with four channels of one group in slot 1 and a meter in slot 4.
-fn fitted<S: Source>(alloc: Global, source: S) -> Option<Core<Mux<SimDriver>, Volt<S>>> {
+pub fn fitted<S: Source>(alloc: Global, source: S) -> Option<Core<Mux<SimDriver>, Volt<S>>> {
     let Ok(mut core) = Core::new(alloc) else {
         return None;
     };
@@ -53,14 +53,14 @@ fn fitted<S: Source>(alloc: Global, source: S) -> Option<Core<Mux<SimDriver>, Vo
 
 /// A mainframe that threads share, and its workers.
 #[derive(Drop)]
-struct Shop<
+pub struct Shop<
     H: House + Send + Sync + 'static,
     R: Relay + Send + 'static,
     M: Meter + Send + 'static,
     G: Gate + Drop + Send + Sync + 'static,
     W: Threads + Wait + Clock + Copy + Drop + Send + Sync + 'static,
 > {
-    shared: Arc<Shared<H, R, M, G>, Global>,
+    pub shared: Arc<Shared<H, R, M, G>, Global>,
     card_worker: JoinHandle<SharedDesk<H, R, M, G, W>>,
     timer_worker: JoinHandle<SharedDesk<H, R, M, G, W>>,
 }
@@ -73,7 +73,7 @@ impl<
     W: Threads + Wait + Clock + Copy + Drop + Send + Sync + 'static,
 > Shop<H, R, M, G, W> {
     /// Puts a mainframe behind its lock, with its workers.
-    fn open(rt: W, alloc: Global, opening: Opening<R, M>, gate: G) -> Option<Self>
+    pub fn open(rt: W, alloc: Global, opening: Opening<R, M>, gate: G) -> Option<Self>
         requires start { opening.core.events ≡ H.start }
         requires ledger { (opening.blank.name ≡ H.name) × (opening.blank.parts ≡ H.parts) }
     {
@@ -123,7 +123,12 @@ impl<
 
     /// Closes the mainframe down, and gives its last note where that is the number of events and its cards come out by
     /// slot, with nothing closed.
-    fn close(self, rt: W, alloc: Global, sessions: Vec<SharedDesk<H, R, M, G, W>>) -> Option<Note> {
+    pub fn close(
+        self,
+        rt: W,
+        alloc: Global,
+        sessions: Vec<SharedDesk<H, R, M, G, W>>,
+    ) -> Option<Note> {
         let Shop {
             shared,
             card_worker,

@@ -1,0 +1,69 @@
+-- A channel's server over a source that gives again what was read ahead.
+use Rattle.std.proofs.Common.{◌≡◌, ◌⊎◌, inl, inr, ℕ, List, ◌++◌, length, Option, None, Some, Result, Ok, Err, OnOk, OnErr, ◌∙◌, subst}
+use Rattle.std.specs.Io.KnownBytes.{Consumes, IsAtEnd, prepend_known}
+use Rattle.sw_session.specs.declared.engine.step.Channel.{Channel}
+use Rattle.sw_session.specs.declared.engine.step.Channel.TheVariants.{Synchronous}
+use Rattle.sw_session.specs.declared.servers.fault.ServeFault.{ServeFault}
+use Rattle.sw_session.specs.declared.servers.fault.ServeFault.TheVariants.{Read, Write}
+use Rattle.sw_session.specs.Trace.{Entry}
+use Rattle.sw_session.specs.ServeEngine.{ServesChannel}
+use Rattle.sw_workers.specs.Connected.{channel_of, ServesConnection}
+
+-- the same run, of an input that it consumed as well
+pub serves-as : {D : Type 0} (passes : D → Entry → D → Type 0) (own : Channel) (may may' : Type 0) (turns : ℕ) (desk desk' : D)
+    (input input' left main main' side side' : Option (List ℕ)) (result : Result (Unit {0}) ServeFault) → (may → may')
+    → ((bs : List ℕ) → Consumes input left bs → Consumes input' left bs) → ServesChannel passes own may turns desk desk' input left main main' side side' result
+    → ServesChannel passes own may' turns desk desk' input' left main main' side side' result
+serves-as passes own may may' turns desk desk' input input' left main main' side side' result f h s =
+    let r = s.serves.runs in record {
+      engine = s.engine;
+      serves = record {
+        desk = s.serves.desk;
+        runs = record {
+          read = r.read;
+          lost = r.lost;
+          reads = h (r.read ++ r.lost) r.reads;
+          loses = r.loses;
+          inputs = r.inputs;
+          paused = λ p. f (r.paused p);
+          pending = r.pending;
+          follows = r.follows;
+          stream = r.stream;
+          ends = r.ends;
+        };
+        leaves = s.serves.leaves;
+      };
+    }
+
+-- what was read ahead and comes again is consumed once
+consumed-again : (input rest left : Option (List ℕ)) (header bs : List ℕ) → Consumes input rest header → Consumes (prepend_known header rest) left bs
+    → Consumes input left bs
+consumed-again None rest left header bs p q = tt
+consumed-again (Some xs) None left header bs p q = absurd p
+consumed-again (Some xs) (Some ys) None header bs p q = absurd q
+consumed-again (Some xs) (Some ys) (Some zs) header bs p q = p ∙ q
+
+-- a header is whole, or the input ended or failed in it
+pub whole-or : {A E : Type 0} (P Q F U : Type 0) (result : Result A E) → (F → U) → OnOk result (P ⊎ Q) → OnErr result F → P ⊎ Q ⊎ U
+whole-or P Q F U (Ok x) f (inl p) e = inl p
+whole-or P Q F U (Ok x) f (inr q) e = inr (inl q)
+whole-or P Q F U (Err x) f o e = inr (inr (f e))
+
+pub connects : {D : Type 0} (passes : D → Entry → D → Type 0) (may unread unwritten : Type 0) (turns : ℕ) (desk desk' : D) (input rest again left main main' : Option (List ℕ))
+    (result : Result (Unit {0}) ServeFault) (header : List ℕ) (own : Channel) → own ≡ channel_of header → Consumes input rest header
+    → (length header ≡ 16) ⊎ IsAtEnd rest ⊎ unread → again ≡ prepend_known header rest
+    → ((side : Option (List ℕ)) × (side' : Option (List ℕ)) × ServesChannel passes own may turns desk desk' again left main main' side side' result)
+    → (result ≡ Err Read → unread) → (result ≡ Err Write → unwritten ⊎ (own ≡ Synchronous))
+    → ServesConnection desk desk' passes may unread unwritten turns input left main main' result
+connects passes may unread unwritten turns desk desk' input rest again left main main' result header own is begins whole same serves read write = record {
+  header = header;
+  rest = rest;
+  begins = begins;
+  whole = whole;
+  side = serves.0;
+  side' = serves.1;
+  serves = subst (λ (channel : Channel). ServesChannel passes channel may turns desk desk' input left main main' serves.0 serves.1 result) is
+      (serves-as passes own may may turns desk desk' again input left main main' serves.0 serves.1 result (λ m. m) (λ bs q. consumed-again input rest left header bs begins (subst (λ (a : Option (List ℕ)). Consumes a left bs) same q)) serves.2);
+  read = read;
+  write = subst (λ (channel : Channel). result ≡ Err Write → unwritten ⊎ (channel ≡ Synchronous)) is write;
+}

@@ -1,0 +1,365 @@
+//! HiSLIP sessions over connections in memory, each served by a thread of its own.
+
+ghost use Rattle.std.specs.Prelude.{◌≡◌};
+
+use crate::shop::{Shop, fitted};
+use crate::wires::{End, Incoming, Outgoing, SharedWire};
+use std::alloc::Global;
+use std::marker::Brand;
+use std::sync::Wait;
+use std::thread;
+use std::thread::{JoinHandle, Threads};
+use std::time::Clock;
+use sw_card::{Meter, Relay};
+use sw_kinds::SimSource;
+use sw_workers::{Ended, Gate, House, Open, Opening, SharedDesk, Wired, run_session};
+
+/// A client: the ends of its two connections.
+#[derive(Drop)]
+pub struct Client<W: Wait + Clock + Copy + Drop> {
+    first: End<W>,
+    second: End<W>,
+}
+
+/// Initialize for `hislip0`.
+const INITIALIZE: &[u8] = b"HS\x00\x00\x01\x00XX\x00\x00\x00\x00\x00\x00\x00\x07hislip0";
+
+/// AsyncInitializeResponse.
+const ATTACHED: &[u8] = b"HS\x12\x00\x00\x00SW\x00\x00\x00\x00\x00\x00\x00\x00";
+
+/// The query `*IDN?`, after an answer that was not told to be taken; and its answer.
+const IDENTITY: &[u8] = b"HS\x07\x00\xff\xff\xff\x00\x00\x00\x00\x00\x00\x00\x00\x06*IDN?\n";
+
+const IDENTIFIED: &[u8] =
+    b"HS\x07\x00\xff\xff\xff\x00\x00\x00\x00\x00\x00\x00\x00\x15OPENBENCH,SWM8,0,1.0\n";
+
+/// AsyncStatusQuery, and its response with this status byte.
+const STATUS: &[u8] = b"HS\x15\x00\xff\xff\xff\x00\x00\x00\x00\x00\x00\x00\x00\x00";
+
+fn status(byte: u8) -> [u8; 16] {
+    let mut response = *b"HS\x16\x00\x00\x00\x00\x00\x00\x00\x00\x00\x00\x00\x00\x00";
+    response[3] = byte;
+    response
+}
+
+impl<W: Wait + Clock + Copy + Drop> Client<W> {
+    /// Whether both channels of a session with this number come to stand.
+    fn begins(&self, number: u8) -> bool {
+        let mut joined = *b"HS\x01\x00\x01\x00\x00\x00\x00\x00\x00\x00\x00\x00\x00\x00";
+        joined[7] = number;
+        let mut attach = *b"HS\x11\x00\x00\x00\x00\x00\x00\x00\x00\x00\x00\x00\x00\x00";
+        attach[7] = number;
+        self.first.tells(INITIALIZE, &joined) && self.second.tells(&attach, ATTACHED)
+    }
+
+    /// Sends the header of the query in pieces, and asks for the status when it was answered.
+    fn asks(&self) -> bool {
+        let (front, back) = IDENTITY.split_at(5);
+        self.begins(1)
+            && self.first.sends(front)
+            && self.first.is_silent()
+            && self.first.tells(back, IDENTIFIED)
+            && self.second.comes_to_tell(STATUS, &status(16))
+            && self.second.is_silent()
+    }
+
+    /// A query whose answer was not taken is interrupted, which is told on both connections.
+    fn is_interrupted(&self) -> bool {
+        self.begins(1)
+            && self.first.tells(IDENTITY, IDENTIFIED)
+            && self.first.tells(IDENTITY, INTERRUPTED)
+            && self.first.receives(IDENTIFIED)
+            && self.second.receives(ASYNC_INTERRUPTED)
+            && self.second.is_silent()
+    }
+
+    /// What came of a program message is dropped by a device clear.
+    fn is_cleared(&self) -> bool {
+        self.begins(1)
+            && self.first.sends(BEGUN)
+            && self.second.tells(CLEAR, CLEARING)
+            && self.first.tells(CLEAR_COMPLETE, CLEARED)
+            && self.first.tells(IDENTITY, IDENTIFIED)
+    }
+}
+
+/// Interrupted and AsyncInterrupted with the parameter of the query.
+const INTERRUPTED: &[u8] = b"HS\x0d\x00\xff\xff\xff\x00\x00\x00\x00\x00\x00\x00\x00\x00";
+
+const ASYNC_INTERRUPTED: &[u8] = b"HS\x0e\x00\xff\xff\xff\x00\x00\x00\x00\x00\x00\x00\x00\x00";
+
+/// Data with the beginning of a program message.
+const BEGUN: &[u8] = b"HS\x06\x00\xff\xff\xff\x00\x00\x00\x00\x00\x00\x00\x00\x03*ID";
+
+/// AsyncDeviceClear, AsyncDeviceClearAcknowledge, DeviceClearComplete and DeviceClearAcknowledge.
+const CLEAR: &[u8] = b"HS\x13\x00\x00\x00\x00\x00\x00\x00\x00\x00\x00\x00\x00\x00";
+
+const CLEARING: &[u8] = b"HS\x17\x00\x00\x00\x00\x00\x00\x00\x00\x00\x00\x00\x00\x00";
+
+const CLEAR_COMPLETE: &[u8] = b"HS\x08\x00\x00\x00\x00\x00\x00\x00\x00\x00\x00\x00\x00\x00";
+
+const CLEARED: &[u8] = b"HS\x09\x00\x00\x00\x00\x00\x00\x00\x00\x00\x00\x00\x00\x00";
+
+/// `ROUTe:CLOSe? (@1!1)`, and its answers 0 and 1.
+const CLOSED_QUERY: &[u8] =
+    b"HS\x07\x00\xff\xff\xff\x00\x00\x00\x00\x00\x00\x00\x00\x12ROUT:CLOS? (@1!1)\n";
+
+/// `ROUTe:CLOSe (@1!1)`, and a query for its end.
+const CLOSE: &[u8] =
+    b"HS\x07\x00\xff\xff\xff\x00\x00\x00\x00\x00\x00\x00\x00\x17ROUT:CLOS (@1!1);*OPC?\n";
+
+const ONE: &[u8] = b"HS\x07\x00\xff\xff\xff\x00\x00\x00\x00\x00\x00\x00\x00\x021\n";
+
+/// AsyncLock for the exclusive lock, within no time and within 60 seconds; its release; and the answer that it was
+/// granted or freed.
+const LOCK: &[u8] = b"HS\x04\x01\x00\x00\x00\x00\x00\x00\x00\x00\x00\x00\x00\x00";
+
+const LOCK_LATER: &[u8] = b"HS\x04\x01\x00\x00\xea\x60\x00\x00\x00\x00\x00\x00\x00\x00";
+
+const RELEASE: &[u8] = b"HS\x04\x00\x00\x00\x00\x00\x00\x00\x00\x00\x00\x00\x00\x00";
+
+const LOCKED: &[u8] = b"HS\x05\x01\x00\x00\x00\x00\x00\x00\x00\x00\x00\x00\x00\x00";
+
+/// AsyncLockInfo, and its response that no lock is held.
+const LOCK_INFO: &[u8] = b"HS\x18\x00\x00\x00\x00\x00\x00\x00\x00\x00\x00\x00\x00\x00";
+
+const UNLOCKED: &[u8] = b"HS\x19\x00\x00\x00\x00\x00\x00\x00\x00\x00\x00\x00\x00\x00";
+
+/// A message that asks for service by an error, and AsyncServiceRequest with the status byte then.
+const SERVICE: &[u8] = b"HS\x07\x00\xff\xff\xff\x00\x00\x00\x00\x00\x00\x00\x00\x0b*SRE 4;FOO\n";
+
+const SERVICE_REQUEST: &[u8] = b"HS\x14\x44\x00\x00\x00\x00\x00\x00\x00\x00\x00\x00\x00\x00";
+
+/// What two clients play.
+#[derive(Clone, Copy, Debug, PartialEq, Eq)]
+pub enum Play {
+    Asks,
+    Interrupted,
+    Cleared,
+    Locks,
+    Service,
+    Vanishes,
+    LeavesAside,
+}
+
+impl Play {
+    /// Whether all goes as it should.
+    fn goes<W: Wait + Clock + Copy + Drop>(self, one: &Client<W>, other: &Client<W>) -> bool {
+        match self {
+            Play::Asks => one.asks(),
+            Play::Interrupted => one.is_interrupted(),
+            Play::Cleared => one.is_cleared(),
+            Play::Locks => locks_out(one, other),
+            Play::Service => asks_for_service(one, other),
+            Play::Vanishes => vanishes(one, other),
+            Play::LeavesAside => leaves_aside(one, other),
+        }
+    }
+}
+
+/// A lock holds the other session's query, and its request for the lock, until it is freed.
+fn locks_out<W: Wait + Clock + Copy + Drop>(one: &Client<W>, other: &Client<W>) -> bool {
+    one.begins(1)
+        && other.begins(2)
+        && one.second.tells(LOCK, LOCKED)
+        && other.first.sends(CLOSED_QUERY)
+        && other.second.sends(LOCK_LATER)
+        && one.first.tells(CLOSE, ONE)
+        && other.first.is_silent()
+        && other.second.is_silent()
+        && one.second.tells(RELEASE, LOCKED)
+        && other.second.receives(LOCKED)
+        && other.first.receives(ONE)
+}
+
+/// A service request is told to both sessions, at a pause.
+fn asks_for_service<W: Wait + Clock + Copy + Drop>(one: &Client<W>, other: &Client<W>) -> bool {
+    one.begins(1)
+        && other.begins(2)
+        && one.first.sends(SERVICE)
+        && one.second.receives(SERVICE_REQUEST)
+        && other.second.receives(SERVICE_REQUEST)
+        && one.second.is_silent()
+}
+
+/// A client with the lock goes away within a message, and the next one has its number and nothing else of it.
+fn vanishes<W: Wait + Clock + Copy + Drop>(one: &Client<W>, other: &Client<W>) -> bool {
+    let (front, _) = IDENTITY.split_at(19);
+    let is_gone = one.begins(1)
+        && one.second.tells(LOCK, LOCKED)
+        && one.first.tells(IDENTITY, IDENTIFIED)
+        && one.first.sends(front);
+    one.first.close();
+    one.second.close();
+    is_gone
+        && one.first.ends()
+        && one.second.ends()
+        && one.first.is_silent()
+        && other.begins(1)
+        && other.second.tells(LOCK_INFO, UNLOCKED)
+        && other.second.tells(STATUS, &status(0))
+        && other.first.tells(IDENTITY, IDENTIFIED)
+}
+
+/// What is left to a second channel that doesn't come to write it never reaches the next session of the number.
+fn leaves_aside<W: Wait + Clock + Copy + Drop>(one: &Client<W>, other: &Client<W>) -> bool {
+    let is_left = one.begins(1)
+        && one.second.stops()
+        && one.first.tells(IDENTITY, IDENTIFIED)
+        && one.first.tells(IDENTITY, INTERRUPTED)
+        && one.first.receives(IDENTIFIED);
+    one.first.close();
+    let is_next = is_left
+        && one.first.ends()
+        && other.begins(1)
+        && other.second.tells(STATUS, &status(4))
+        && other.second.is_silent();
+    one.second.goes_on();
+    is_next && one.second.is_silent() && other.second.is_silent()
+}
+
+/// Serves a connection, and gives the desk back.
+fn serve<H: House, R: Relay, M: Meter, G: Gate + Drop, W: Wait + Clock + Copy + Drop>(
+    alloc: Global,
+    desk: SharedDesk<H, R, M, G, W>,
+    connection: Wired<Incoming<W>, Outgoing<W>, Outgoing<W>>,
+    wire: SharedWire,
+) -> SharedDesk<H, R, M, G, W> {
+    let ended = run_session(connection, desk, alloc);
+    wire.end();
+    let Ended {
+        desk,
+        reader,
+        writer,
+        result,
+    } = ended;
+    drop(reader);
+    drop(writer);
+    drop(result);
+    desk
+}
+
+impl<
+    H: House + Send + Sync + 'static,
+    R: Relay + Send + 'static,
+    M: Meter + Send + 'static,
+    G: Gate + Drop + Send + Sync + 'static,
+    W: Threads + Wait + Clock + Copy + Drop + Send + Sync + 'static,
+> Shop<H, R, M, G, W> {
+    /// Serves the other end in a thread of its own.
+    fn connect(
+        &self,
+        rt: W,
+        alloc: Global,
+        end: &End<W>,
+    ) -> Option<JoinHandle<SharedDesk<H, R, M, G, W>>> {
+        let desk = SharedDesk::open(rt, &self.shared)?;
+        let (connection, wire) = end.served()?;
+        thread::spawn(&rt, move || serve(alloc, desk, connection, wire)).ok()
+    }
+
+    /// Serves both connections of two clients that play, and gives the desks back where all went as it should.
+    fn serve_clients(
+        &self,
+        rt: W,
+        alloc: Global,
+        play: Play,
+    ) -> Option<Vec<SharedDesk<H, R, M, G, W>>> {
+        let one = Client {
+            first: End::new(alloc, rt).ok()?,
+            second: End::new(alloc, rt).ok()?,
+        };
+        let other = Client {
+            first: End::new(alloc, rt).ok()?,
+            second: End::new(alloc, rt).ok()?,
+        };
+        let first = self.connect(rt, alloc, &one.first)?;
+        let second = self.connect(rt, alloc, &one.second)?;
+        let third = self.connect(rt, alloc, &other.first)?;
+        let fourth = self.connect(rt, alloc, &other.second)?;
+        let goes = play.goes(&one, &other);
+        one.first.close();
+        one.second.close();
+        other.first.close();
+        other.second.close();
+        let mut desks = Vec::with_capacity(alloc, 4).ok()?;
+        desks.push(first.join(&rt)).ok()?;
+        desks.push(second.join(&rt)).ok()?;
+        desks.push(third.join(&rt)).ok()?;
+        desks.push(fourth.join(&rt)).ok()?;
+        if goes {
+            return Some(desks);
+        }
+        None
+    }
+}
+
+/// Plays over a mainframe that is put behind its lock, and closes it down. Whether all went as it should.
+fn play_behind<
+    H: House + Send + Sync + 'static,
+    R: Relay + Send + 'static,
+    M: Meter + Send + 'static,
+    G: Gate + Drop + Send + Sync + 'static,
+    W: Threads + Wait + Clock + Copy + Drop + Send + Sync + 'static,
+>(rt: W, alloc: Global, opening: Opening<R, M>, gate: G, play: Play) -> bool
+    requires start { opening.core.events ≡ H.start }
+    requires ledger { (opening.blank.name ≡ H.name) × (opening.blank.parts ≡ H.parts) }
+{
+    let Some(shop) = Shop::<H, R, M, G, W>::open(rt, alloc, opening, gate) else {
+        return false;
+    };
+    match shop.serve_clients(rt, alloc, play) {
+        Some(desks) => shop.close(rt, alloc, desks).is_some(),
+        None => false,
+    }
+}
+
+/// Plays over a new mainframe, and closes it down. Whether all went as it should.
+pub fn plays<W: Threads + Wait + Clock + Copy + Drop + Send + Sync + 'static>(
+    rt: W,
+    alloc: Global,
+    play: Play,
+) -> bool {
+    match fitted(alloc, SimSource::new(1, 1)) {
+        Some(core) => {
+            let opening = Opening::new(core);
+            play_behind::<Brand, _, _, Open, W>(rt, alloc, opening, Open, play)
+        }
+        None => false,
+    }
+}
+
+#[test]
+fn both_channels_of_a_session_are_answered(rt: HostRuntime) {
+    assert!(rt; plays(rt, rt.alloc(), Play::Asks));
+}
+
+#[test]
+fn an_interrupted_answer_is_told_on_both_connections(rt: HostRuntime) {
+    assert!(rt; plays(rt, rt.alloc(), Play::Interrupted));
+}
+
+#[test]
+fn a_device_clear_goes_over_both_connections(rt: HostRuntime) {
+    assert!(rt; plays(rt, rt.alloc(), Play::Cleared));
+}
+
+#[test]
+fn a_lock_holds_the_other_session_until_it_is_freed(rt: HostRuntime) {
+    assert!(rt; plays(rt, rt.alloc(), Play::Locks));
+}
+
+#[test]
+fn a_service_request_is_told_at_a_pause(rt: HostRuntime) {
+    assert!(rt; plays(rt, rt.alloc(), Play::Service));
+}
+
+#[test]
+fn a_client_that_vanishes_leaves_nothing_to_the_next(rt: HostRuntime) {
+    assert!(rt; plays(rt, rt.alloc(), Play::Vanishes));
+}
+
+#[test]
+fn what_was_left_aside_never_reaches_the_next_session(rt: HostRuntime) {
+    assert!(rt; plays(rt, rt.alloc(), Play::LeavesAside));
+}
