@@ -1,5 +1,7 @@
 # make try:   answers the terminal's lines in about a minute, by a program that nothing has proved.
+# make try-serve: serves HiSLIP clients for an hour in about a minute, likewise; PORT=5025: on that port.
 # make run:   the same by the proved program; the first time it proves it.
+# make serve: serves HiSLIP clients on port 4880 of this machine by the proved program; PORT=5025: on that port.
 # make test:  the whole gate.
 # make wrong: tries every wrong body, whatever is recorded of it.
 # make check CRATE=sw_lex: proves one crate.
@@ -9,13 +11,20 @@
 RT ?= rt
 export RT
 
-.PHONY: try run test wrong check talks bench
+.PHONY: try try-serve run serve test wrong check talks bench
 
 try:
 	@cd crates/mainframe && $(RT) try -- run
 
+try-serve:
+	@echo "in about a minute on 127.0.0.1:$(or $(PORT),4880), by a program that nothing has proved"
+	@cd crates/mainframe && $(RT) try --seconds 3600 -- serve --port $(or $(PORT),4880)
+
 run:
 	@cd crates/mainframe && $(RT) run -- run
+
+serve:
+	@cd crates/mainframe && $(RT) run -- --version && exec out/mainframe serve --port $(or $(PORT),4880)
 
 test:
 	@./gate

@@ -21,6 +21,15 @@ const LISTING: &str =
     halt            the end\n\n\
     The answer is `ok bound B readings R`, `refused N Name` or `line L: Name`; why, on standard error.";
 
+/// What is served, for the help of `serve`.
+const SERVED: &str =
+    "Sixteen sessions share the cards of `run`. A client opens two connections for each, as IVI-6.1 \
+    tells; its resource name at port 4880 is TCPIP::127.0.0.1::hislip0::INSTR.\n\n\
+    `mainframe: listening on 127.0.0.1:P` on standard error says that connections are taken.";
+
+/// The port of HiSLIP.
+const PORT: u16 = 4880;
+
 /// What a command line asks for.
 #[derive(Clone, Copy, Debug, PartialEq, Eq, Drop)]
 pub enum Order {
@@ -28,6 +37,8 @@ pub enum Order {
     Run(Option<u32>),
     /// To check a listing on standard input.
     Check,
+    /// To serve connections on this port of 127.0.0.1.
+    Serve(u16),
 }
 
 /// What these words ask for, of which the first is the program's name. Else what `clap` says of them: of a mistake, of
@@ -55,13 +66,29 @@ fn command_line<'a>(alloc: Global) -> Result<Command<'a>, AllocError> {
         .version("1.0")
         .subcommand_required(true)
         .subcommand(run)?
-        .subcommand(check)
+        .subcommand(check)?
+        .subcommand(serve_words(alloc)?)
+}
+
+/// The words of `serve`.
+fn serve_words<'a>(alloc: Global) -> Result<Command<'a>, AllocError> {
+    let port = Arg::new(alloc, "port")
+        .long("port")
+        .value_name("P")
+        .help("Listen on port P of 127.0.0.1, P from 1 to 65535")
+        .default_value("4880")
+        .value_parser(clap::value_parser!(u16).range(1..65_536));
+    Command::new(alloc, "serve")
+        .about("Serve HiSLIP sessions over TCP, each connection by a thread of its own")
+        .after_help(SERVED)
+        .arg(port)
 }
 
 /// What the words that were understood ask for.
 fn order_of(matches: &ArgMatches) -> Order {
     match matches.subcommand() {
         Some(("check", _)) => Order::Check,
+        Some(("serve", serve)) => Order::Serve(serve.get_one::<u16>("port").unwrap_or(PORT)),
         Some((_, run)) => Order::Run(run.get_one::<u32>("fuse")),
         None => Order::Run(None),
     }

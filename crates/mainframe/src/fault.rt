@@ -1,10 +1,13 @@
-//! Why a run stops before its input ends.
+//! Why the program stops.
 
 ghost use Rattle.std.specs.Prelude.{◌≡◌};
 
 use thiserror::Error;
 
-/// Why a run stops. Its text is the line on standard error.
+/// The exit status of a program that a fault stops.
+const STATUS: u8 = 1;
+
+/// Why the program stops. Its text is the line on standard error.
 #[derive(Clone, Copy, Debug, PartialEq, Eq, Drop, Error)]
 pub enum RunFault {
     /// A read failed, or the reader was asked for bytes 2^32 times.
@@ -23,6 +26,23 @@ impl RunFault {
     pub fn status(self) -> u8
         ensures { result ≡ 1 }
     {
-        1
+        STATUS
+    }
+}
+
+/// Why nothing is served. Its text is the line on standard error.
+#[derive(Clone, Copy, Debug, PartialEq, Eq, Drop, Error)]
+pub enum ListenFault {
+    /// The port can't be listened on.
+    #[error("mainframe: cannot listen")]
+    Port,
+}
+
+impl ListenFault {
+    /// The program's exit status after it.
+    pub fn status(self) -> u8
+        ensures { result ≡ 1 }
+    {
+        STATUS
     }
 }

@@ -1,20 +1,25 @@
-//! `mainframe`: a SCPI switch mainframe of simulated cards, driven by lines of text.
+//! `mainframe`: a SCPI switch mainframe of simulated cards, driven by lines of text or over a network.
 //!
 //! `mainframe run [--fuse K]` answers each line of standard input on standard output. The crate's contract is that of
 //! `run::run_lines`: what is written is what the definition of a talk says of what was read, by the step relation of
 //! the core from its opening state. `mainframe check` says of a listing whether the program's cards may do its scan;
-//! its contract is that of `listing::check_listing`. Nothing is promised of what a terminal carries, nor of the texts
-//! of `clap`.
+//! its contract is that of `listing::check_listing`. `mainframe serve [--port P]` serves sessions over TCP, and its
+//! contract is that of `serving::serve_over`: how many connections it takes, and that it ends with every card open.
+//! Nothing is promised of what a terminal or a network carries, nor of the texts of `clap`.
 #![tactic(auto)]
 
 mod cards;
 mod command_line;
+mod crew;
 mod explanation;
 mod fault;
 mod laws;
 mod listing;
+mod lobby;
+mod port;
 mod reading;
 mod run;
+mod serving;
 #[cfg(test)]
 mod tests;
 mod writing;
@@ -22,13 +27,18 @@ mod writing;
 use clap::Error;
 use clap::error::ErrorKind;
 use command_line::{Order, parse_words, unrun_status};
-use fault::RunFault;
+use fault::{ListenFault, RunFault};
 use listing::{check_listing, checked_status};
 use run::run_lines;
-use std::alloc::AllocError;
+use serving::serve_on;
+use std::alloc::{AllocError, Global};
 use std::io;
 use std::io::BufReader;
+use std::net::{Ipv4Addr, Net, TcpListener, TcpStream};
 use std::process::ExitCode;
+use std::sync::Wait;
+use std::thread::Threads;
+use std::time::Clock;
 
 fn main(rt: HostRuntime) -> ExitCode {
     let Ok(words) = std::env::args(&rt) else {
@@ -41,6 +51,7 @@ fn main(rt: HostRuntime) -> ExitCode {
     match parse_words(rt.alloc(), words.as_slice()) {
         Ok(Order::Run(fuse)) => answer_input(&rt, fuse),
         Ok(Order::Check) => check_input(&rt),
+        Ok(Order::Serve(port)) => serve_port(rt, rt.alloc(), port),
         Err(error) => unrun(&rt, &error),
     }
 }
@@ -70,8 +81,37 @@ fn check_input(rt: &HostRuntime) -> ExitCode {
     ExitCode::from(checked_status(checked.accepted))
 }
 
+/// Serves connections on a port of this machine, and says when it listens.
+fn serve_port<
+    W: Threads
+        + Wait
+        + Clock
+        + Eprint
+        + Net<Listener = TcpListener, Stream = TcpStream>
+        + Copy
+        + Drop
+        + Send
+        + Sync
+        + 'static,
+>(rt: W, alloc: Global, port: u16) -> ExitCode {
+    let Ok(listener) = TcpListener::bind(&rt, (Ipv4Addr::LOCALHOST, port)) else {
+        return unheard(&rt, ListenFault::Port);
+    };
+    let _ = eprintln!(rt; "mainframe: listening on 127.0.0.1:{port}");
+    match serve_on(rt, alloc, &listener, u32::MAX) {
+        Ok(()) => ExitCode::SUCCESS,
+        Err(fault) => stopped(&rt, fault),
+    }
+}
+
 /// One line on standard error, and the fault's status.
 fn stopped(rt: &impl Eprint, fault: RunFault) -> ExitCode {
+    let _ = eprintln!(rt; "{fault}");
+    ExitCode::from(fault.status())
+}
+
+/// One line on standard error where nothing is served, and the fault's status.
+fn unheard(rt: &impl Eprint, fault: ListenFault) -> ExitCode {
     let _ = eprintln!(rt; "{fault}");
     ExitCode::from(fault.status())
 }

@@ -1,7 +1,7 @@
 //! The words of the command line, the fault lines and the exit statuses.
 
 use crate::command_line::{Order, parse_words, unrun_status};
-use crate::fault::RunFault;
+use crate::fault::{ListenFault, RunFault};
 use clap::error::ErrorKind;
 use std::alloc::Global;
 use std::process::Abort;
@@ -32,6 +32,16 @@ fn a_run_with_a_fuse_and_without(rt: HostRuntime) -> Result<(), Fail> {
     Ok(())
 }
 
+#[test]
+fn a_port_and_the_usual_one(rt: HostRuntime) -> Result<(), Fail> {
+    assert_eq!(rt; asked(rt.alloc(), &["serve"])?, Ok(Order::Serve(4880)));
+    let least = asked(rt.alloc(), &["serve", "--port", "1"])?;
+    assert_eq!(rt; least, Ok(Order::Serve(1)));
+    let most = asked(rt.alloc(), &["serve", "--port", "65535"])?;
+    assert_eq!(rt; most, Ok(Order::Serve(65_535)));
+    Ok(())
+}
+
 /// These words are refused with status 2.
 fn check_refused(
     rt: &impl Abort,
@@ -53,6 +63,14 @@ fn a_fuse_out_of_range(rt: HostRuntime) -> Result<(), Fail> {
 }
 
 #[test]
+fn a_port_out_of_range(rt: HostRuntime) -> Result<(), Fail> {
+    let range = ErrorKind::ValueValidation;
+    check_refused(&rt, rt.alloc(), &["serve", "--port", "0"], range)?;
+    check_refused(&rt, rt.alloc(), &["serve", "--port", "65536"], range)?;
+    check_refused(&rt, rt.alloc(), &["serve", "--port", "hislip"], range)
+}
+
+#[test]
 fn a_subcommand_that_is_none(rt: HostRuntime) -> Result<(), Fail> {
     check_refused(&rt, rt.alloc(), &[], ErrorKind::MissingSubcommand)?;
     check_refused(&rt, rt.alloc(), &["walk"], ErrorKind::InvalidSubcommand)
@@ -71,6 +89,14 @@ fn help_and_version(rt: HostRuntime) -> Result<(), Fail> {
     assert_eq!(rt; unrun_status(ErrorKind::DisplayHelp), 0);
     assert_eq!(rt; unrun_status(ErrorKind::DisplayVersion), 0);
     assert_eq!(rt; unrun_status(ErrorKind::OutOfMemory), 1);
+    Ok(())
+}
+
+#[test]
+fn a_port_that_is_in_use(rt: HostRuntime) -> Result<(), Fail> {
+    let line = ListenFault::Port.to_string(rt.alloc())?;
+    assert_eq!(rt; line.as_str(), "mainframe: cannot listen");
+    assert_eq!(rt; ListenFault::Port.status(), 1);
     Ok(())
 }
 

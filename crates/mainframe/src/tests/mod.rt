@@ -4,6 +4,7 @@ mod command_line;
 mod doors;
 mod listing;
 mod rows;
+mod serving;
 
 use crate::run::run_lines;
 use std::alloc::Global;
