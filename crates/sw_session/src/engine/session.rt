@@ -5,7 +5,7 @@ ghost use Rattle.sw_session.specs.Engine.{fresh, Takes, session_of, Falters, Fal
 ghost use Rattle.sw_session.specs.Engine.{channel_of, noticed_from, opened_sync, opened_async};
 ghost use Rattle.sw_session.specs.EngineSync as EngineSync;
 ghost use Rattle.sw_session.specs.EngineAsync as EngineAsync;
-ghost use Rattle.sw_session.specs.EngineStep.{LedBy};
+ghost use Rattle.sw_session.specs.EngineStep.{LedBy, reply_step};
 
 use crate::desk::{Desk, View};
 use crate::engine::asynchronous::AsyncSession;
@@ -204,10 +204,7 @@ fn joined(alloc: Global, room: Vec<Sent>, parameter: u32, session: Result<Sid, R
             ),
             state: State::Synchronized(SyncSession::new(alloc, sid)),
         },
-        Err(reply) => Opened {
-            step: step_of(alloc, Channel::Synchronous, room, reply),
-            state: State::Unopened(Channel::Synchronous),
-        },
+        Err(reply) => unopened(alloc, Channel::Synchronous, room, reply),
     }
 }
 
@@ -239,9 +236,19 @@ fn attached(alloc: Global, room: Vec<Sent>, session: Result<AsyncSession, Reply>
             ),
             state: State::Attached(session),
         },
-        Err(reply) => Opened {
-            step: step_of(alloc, Channel::Asynchronous, room, reply),
-            state: State::Unopened(Channel::Asynchronous),
-        },
+        Err(reply) => unopened(alloc, Channel::Asynchronous, room, reply),
+    }
+}
+
+/// What is said where no session is begun on this channel.
+fn unopened(alloc: Global, channel: Channel, room: Vec<Sent>, reply: Reply) -> Opened
+    requires empty { room.items ≡ [] }
+    requires room { 1 ≤ vec_capacity room }
+    ensures step { result.step ≡ reply_step channel reply }
+    ensures state { result.state ≡ State.Unopened channel }
+{
+    Opened {
+        step: step_of(alloc, channel, room, reply),
+        state: State::Unopened(channel),
     }
 }
