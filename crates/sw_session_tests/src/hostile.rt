@@ -5,7 +5,7 @@ use crate::clients::bench;
 use std::alloc::Global;
 use std::io::{self, Read};
 use sw_core::{SessionAnswer, SessionAsk, Sid};
-use sw_session::{Channel, Desk, ServeFault, View, Wake, serve_async, serve_sync};
+use sw_session::{Channel, Desk, ServeFault, Sink, Source, View, Wake, serve_async, serve_sync};
 
 /// A desk that gives each session its second connection as it begins, where it is to, and counts how often one left.
 #[derive(Drop)]
@@ -256,6 +256,37 @@ pub struct Served {
     pub leaves: u32,
 }
 
+/// How a server ended, what it had written on the other connection, and how often its session left.
+#[derive(Drop)]
+pub struct Ended {
+    pub result: Result<(), ServeFault>,
+    pub side: Vec<u8>,
+    pub leaves: u32,
+}
+
+/// Serves a connection; the second one is that of a session that is joined before.
+pub fn serve_into<R: Source, W: Sink, D: Desk>(
+    alloc: Global,
+    channel: Channel,
+    reader: &mut R,
+    main: &mut W,
+    desk: &mut Watched<D>,
+) -> Ended {
+    let mut side = Vec::new(alloc);
+    let result = match channel {
+        Channel::Synchronous => serve_sync(alloc, reader, main, &mut side, desk),
+        Channel::Asynchronous => {
+            drop(desk.ask(SessionAsk::Join));
+            serve_async(alloc, reader, main, &mut side, desk)
+        }
+    };
+    Ended {
+        result,
+        side,
+        leaves: desk.leaves,
+    }
+}
+
 pub fn serve_on<D: Desk>(
     alloc: Global,
     channel: Channel,
@@ -263,19 +294,12 @@ pub fn serve_on<D: Desk>(
     desk: &mut Watched<D>,
 ) -> Served {
     let mut main = Vec::new(alloc);
-    let mut side = Vec::new(alloc);
-    let result = match channel {
-        Channel::Synchronous => serve_sync(alloc, reader, &mut main, &mut side, desk),
-        Channel::Asynchronous => {
-            drop(desk.ask(SessionAsk::Join));
-            serve_async(alloc, reader, &mut main, &mut side, desk)
-        }
-    };
+    let ended = serve_into(alloc, channel, reader, &mut main, desk);
     Served {
-        result,
+        result: ended.result,
         main,
-        side,
-        leaves: desk.leaves,
+        side: ended.side,
+        leaves: ended.leaves,
     }
 }
 

@@ -2,11 +2,12 @@
 //! once, and its lock is free for the next.
 
 use crate::clients::{Bench, Client, IDENTITY, bench};
-use crate::hostile::{Row, Served, Watched, line, plain, quiet, said_after, says, sent_by};
+use crate::hostile::{
+    Row, Served, Watched, line, plain, quiet, said_after, says, sent_by, serve_into,
+};
 use std::alloc::Global;
 use std::io::{self, ErrorKind, Read, Write};
-use sw_core::SessionAsk;
-use sw_session::{Channel, Desk, ServeFault, serve_async, serve_sync};
+use sw_session::{Channel, Desk, ServeFault};
 
 /// Gives its bytes one by one, and then fails, or ends.
 #[derive(Clone, Copy)]
@@ -90,19 +91,12 @@ fn serve_narrow<D: Desk>(
         bytes: Vec::new(alloc),
         room,
     };
-    let mut side = Vec::new(alloc);
-    let result = match channel {
-        Channel::Synchronous => serve_sync(alloc, reader, &mut main, &mut side, desk),
-        Channel::Asynchronous => {
-            drop(desk.ask(SessionAsk::Join));
-            serve_async(alloc, reader, &mut main, &mut side, desk)
-        }
-    };
+    let ended = serve_into(alloc, channel, reader, &mut main, desk);
     Served {
-        result,
+        result: ended.result,
         main: main.bytes,
-        side,
-        leaves: desk.leaves,
+        side: ended.side,
+        leaves: ended.leaves,
     }
 }
 
