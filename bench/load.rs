@@ -150,7 +150,10 @@ impl Server {
         let port = line.trim().rsplit(':').next().and_then(|port| port.parse().ok());
         match port {
             Some(port) => Ok(Server { child, port, _remarks: remarks }),
-            None => Err(format!("{program} says {line:?} in place of an address").into()),
+            None => {
+                child.kill()?;
+                Err(format!("{program} says {line:?} in place of an address").into())
+            }
         }
     }
 
