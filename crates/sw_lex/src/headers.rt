@@ -11,6 +11,9 @@ ghost use Rattle.sw_lex.specs.declared.table.Key.{Key};
 use crate::rows::{Group, Row, Step, groups};
 use crate::table::Key;
 
+/// How far a small letter is from its capital.
+const LETTER_CASE: u8 = 32;
+
 /// Whether two bytes are one but for the case of a letter.
 fn is_alike(byte: u8, next: u8) -> bool
     ensures { result ≡ (to_ascii_uppercase byte == to_ascii_uppercase next) }
@@ -58,7 +61,7 @@ fn may_be_form(word: &[u8], form: &[u8]) -> bool
         [] => true,
         [byte, ..] => match form {
             [] => false,
-            [next, ..] => is_alike(*byte, *next),
+            [next, ..] => *byte == *next || byte.abs_diff(*next) == LETTER_CASE,
         },
     }
 }
