@@ -1,6 +1,7 @@
 //! Connections, each served by a thread of its own.
 
 ghost use Rattle.std.specs.Prelude.{◌≡◌, ◌≤◌, ◌+◌, ◌<◌, ◌^◌, All, IfErr, IfOk, OnOk};
+ghost use Rattle.sw_core.specs.Good.{IsGoodPanel};
 ghost use Rattle.sw_core.specs.View.{ask_view};
 ghost use Rattle.mainframe.specs.Cards.{fitted};
 ghost use Rattle.mainframe.specs.Run.{Stepped};
@@ -21,7 +22,7 @@ use std::thread::Threads;
 use std::time::Clock;
 use sw_cage::Job;
 use sw_card::{Card, Meter, Relay};
-use sw_core::{Ask, Core};
+use sw_core::{Ask, Core, mainframe_stays_good};
 use sw_workers::{
     Closed, Ended, Gate, House, Open, Opening, Pause, Posted, Shared, SharedDesk, Tcp, close_down,
     run_card_worker, run_session, run_timer_worker,
@@ -102,8 +103,10 @@ fn fit<R: Relay, M: Meter>(
     third: Card<R, M>,
     meter: Card<R, M>,
 ) -> Result<Core<R, M>, AllocError>
-    ensures { IfOk result (λ core. IsFitted (fitted first.1 second.1 third.1 meter.1) core) }
+    ensures fitted { IfOk result (λ core. IsFitted (fitted first.1 second.1 third.1 meter.1) core) }
+    ensures good { IfOk result (λ core. IsGoodPanel core) }
 {
+    mainframe_stays_good();
     let mut core = Core::new(alloc)?;
     offer(alloc, &mut core, Ask::Install(1, first));
     offer(alloc, &mut core, Ask::Install(2, second));
@@ -114,8 +117,11 @@ fn fit<R: Relay, M: Meter>(
 
 /// Asks, whatever is answered.
 fn offer<R: Relay, M: Meter>(alloc: Global, core: &mut Core<R, M>, ask: Ask<R, M>)
-    ensures { Stepped core.old (ask_view ask) core.new }
+    requires { IsGoodPanel core.old }
+    ensures stepped { Stepped core.old (ask_view ask) core.new }
+    ensures good { IsGoodPanel core.new }
 {
+    mainframe_stays_good();
     drop(core.apply(alloc, ask));
 }
 
