@@ -9,6 +9,11 @@
 //! carried out because it couldn't be sent. Workers give their desks back when they end, and `close_down`, which is
 //! handed every desk, tells the number of events and gives the cards with nothing closed.
 //!
+//! `run_session` serves one connection of a HiSLIP session by such a desk, as the channel that its first header tells:
+//! what is asked and written for what is read is what `serve_sync` and `serve_async` promise (`RunsSession`). What the
+//! first channel's thread says on the second one waits in the session's slot, under a lock of its own, until the other
+//! thread writes it; the next session of that number never finds it (`Waiting::open`).
+//!
 //! Beside them stands the status board, which is not joined to them yet: one word, from which a `StatusSeat` reads the
 //! status byte and the number of service requests without a lock (`StatusSeat::read`), and `Recorded`, a mainframe whose
 //! events stand one after another in the history that the board tells the end of (`Recorded::ask`).
