@@ -49,8 +49,8 @@ whole-or P Q F U (Ok x) f (inl p) e = inl p
 whole-or P Q F U (Ok x) f (inr q) e = inr (inl q)
 whole-or P Q F U (Err x) f o e = inr (inr (f e))
 
-pub connects : {D : Type 0} (passes : D → Entry → D → Type 0) (may unread unwritten : Type 0) (turns : ℕ) (desk desk' : D) (input rest again left main main' : Option (List ℕ))
-    (result : Result (Unit {0}) ServeFault) (header : List ℕ) (own : Channel) → own ≡ channel_of header → Consumes input rest header
+pub connects : {D : Type 0} (passes : D → Entry → D → Type 0) (may unread unwritten : Type 0) (turns : ℕ) (desk desk' : D)
+    (input rest again left main main' : Option (List ℕ)) (result : Result (Unit {0}) ServeFault) (header : List ℕ) (own : Channel) → own ≡ channel_of header → Consumes input rest header
     → (length header ≡ 16) ⊎ IsAtEnd rest ⊎ unread → again ≡ prepend_known header rest
     → ((side : Option (List ℕ)) × (side' : Option (List ℕ)) × ServesChannel passes own may turns desk desk' again left main main' side side' result)
     → (result ≡ Err Read → unread) → (result ≡ Err Write → unwritten ⊎ (own ≡ Synchronous))
@@ -63,7 +63,8 @@ connects passes may unread unwritten turns desk desk' input rest again left main
   side = serves.0;
   side' = serves.1;
   serves = subst (λ (channel : Channel). ServesChannel passes channel may turns desk desk' input left main main' serves.0 serves.1 result) is
-      (serves-as passes own may may turns desk desk' again input left main main' serves.0 serves.1 result (λ m. m) (λ bs q. consumed-again input rest left header bs begins (subst (λ (a : Option (List ℕ)). Consumes a left bs) same q)) serves.2);
+      (serves-as passes own may may turns desk desk' again input left main main' serves.0 serves.1 result (λ m. m)
+      (λ bs q. consumed-again input rest left header bs begins (subst (λ (a : Option (List ℕ)). Consumes a left bs) same q)) serves.2);
   read = read;
   write = subst (λ (channel : Channel). result ≡ Err Write → unwritten ⊎ (channel ≡ Synchronous)) is write;
 }

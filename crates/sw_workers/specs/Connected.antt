@@ -1,5 +1,5 @@
 -- How a connection is served.
-use Rattle.std.specs.Prelude.{◌≡◌, ◌==◌, ◌&&◌, ◌⊎◌, ℕ, List, [], ◌∷◌, length, Option, Result, Err, if◌then◌else◌}
+use Rattle.std.specs.Prelude.{◌≡◌, ◌==◌, ◌&&◌, ◌⊎◌, ℕ, List, ◌∷◌, length, Option, Result, Err, if◌then◌else◌}
 use Rattle.std.specs.Io.KnownBytes.{Consumes, IsAtEnd}
 use Rattle.sw_hislip.specs.declared.kind.Kind.TheVariants.{AsyncInitialize}
 use Rattle.sw_hislip.specs.Kinds.{kind_number}
@@ -21,9 +21,10 @@ channel_of (h ∷ s ∷ kind ∷ rest) =
     if (h == 72) && (s == 83) && (kind == kind_number AsyncInitialize) then Asynchronous else Synchronous
 channel_of bytes = Synchronous
 
--- A connection is served from its first byte on, as the channel that its first header tells. The header is whole, unless
--- the input ended or failed in it. A run that ends by a read fault has a read that failed; one that ends by a write fault
--- a write that failed, or else it is of the first channel, where there was no memory for what is left to the second one.
+-- A connection is served from its first byte on, as the channel that its first header tells. The header is whole,
+-- unless the input ended or failed in it. A run that ends by a read fault has a read that failed; one that ends by a
+-- write fault a write that failed, or else it is of the first channel, where there was no memory for what is left to the
+-- second one.
 pub record ServesFromHeader {D : Type 0} (desk desk' : D) (passes : D → Entry → D → Type 0)
     (may_pause unread unwritten : Type 0) (turns : ℕ) (input left main main' : Option (List ℕ))
     (result : Result (Unit {0}) ServeFault) : Type 0 where
@@ -33,7 +34,8 @@ pub record ServesFromHeader {D : Type 0} (desk desk' : D) (passes : D → Entry 
   pub whole : (length header ≡ 16) ⊎ IsAtEnd rest ⊎ unread
   pub side : Option (List ℕ)
   pub side' : Option (List ℕ)
-  pub serves : ServesChannel passes (channel_of header) may_pause turns desk desk' input left main main' side side' result
+  pub serves : ServesChannel passes (channel_of header) may_pause turns desk desk' input left main main' side side'
+      result
   pub read : result ≡ Err Read → unread
   pub write : result ≡ Err Write → unwritten ⊎ (channel_of header ≡ Synchronous)
 

@@ -1,6 +1,7 @@
 //! A source whose first bytes were read ahead.
 
-ghost use Rattle.std.specs.Prelude.{◌≡◌, ◌≤◌, ◌<◌, ◌⊎◌, true, nat_lt, [], ◌++◌, length, take, drop, vec_capacity, OnOk, OnErr};
+ghost use Rattle.std.specs.Prelude.{◌≡◌, ◌≤◌, ◌<◌, ◌⊎◌, true, nat_lt, [], ◌++◌, length, take, drop};
+ghost use Rattle.std.specs.Prelude.{vec_capacity, OnOk, OnErr};
 ghost use Rattle.std.specs.Io.Cursor.{cursor_position, cursor_inner};
 ghost use Rattle.std.specs.Io.KnownBytes.{Consumes, IsAtEnd};
 ghost use Rattle.sw_session.specs.ServeRead.{CameTo};
@@ -74,7 +75,10 @@ impl<R: Source + Drop> Model for ReadAhead<R> {
 
     ghost Value = { Ahead R };
 
-    ghost view = { λ s. record { bytes = drop (cursor_position s.header) (cursor_inner s.header).items; reader = s.reader } };
+    ghost view = { λ s. record {
+      bytes = drop (cursor_position s.header) (cursor_inner s.header).items;
+      reader = s.reader;
+    } };
 
     ghost invariant = { λ s. s.failed ≡ true → Happened R.failed };
 }
@@ -127,8 +131,8 @@ fn give(header: &mut Cursor<Vec<u8>>, buffer: &mut [u8]) -> usize
     ensures bound { result ≤ length buffer.new }
     ensures bytes { drop (cursor_position header.old) (cursor_inner header.old).items
         ≡ take result buffer.new ++ drop (cursor_position header.new) (cursor_inner header.new).items }
-    ensures some { 0 < length (drop (cursor_position header.old) (cursor_inner header.old).items) → 0 < length buffer.new
-        → 0 < result }
+    ensures some { 0 < length (drop (cursor_position header.old) (cursor_inner header.old).items)
+        → 0 < length buffer.new → 0 < result }
 {
     match header.read(buffer) {
         Ok(n) => n,

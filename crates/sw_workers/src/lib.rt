@@ -1,4 +1,4 @@
-//! The mainframe behind one lock, and the threads that share it. No program uses it yet.
+//! The mainframe behind one lock, and the threads that share it.
 //!
 //! What stands behind the lock is `Held`: the mainframe, the history of its events, how they are counted, and the
 //! notes of the last 64. The crate's contract is that of `Held::ask`: the core's answer and panel exactly, by `Step`;
@@ -16,6 +16,11 @@
 //! before any that it had seen. Its share counts the event of each ask, and those of the work that it carried out
 //! because it couldn't be sent. Workers give their desks back when they end, and `close_down`, which is handed every
 //! desk, tells the number of events and gives the cards with nothing closed.
+//!
+//! `run_session` serves one connection of a HiSLIP session by such a desk, as the channel that its first header tells:
+//! what is asked and written for what is read is what `serve_sync` and `serve_async` promise (`RunsSession`). What the
+//! first channel's thread says on the second one waits in the session's slot, under a lock of its own, until the other
+//! thread writes it; the next session of that number never finds it (`Waiting::open`).
 //!
 //! Nothing is promised of when a thread goes on, nor that one does, nor of how late a status is that is read.
 #![tactic(auto)]

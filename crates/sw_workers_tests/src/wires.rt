@@ -3,11 +3,10 @@
 use crate::latches::{TURNS, turn};
 use std::alloc::{AllocError, Global};
 use std::collections::VecDeque;
-use std::io::{Read, Write};
+use std::io::{self, ErrorKind, Read, Write};
 use std::sync::atomic::{AtomicBool, Ordering};
 use std::sync::{Arc, Mutex, Wait};
 use std::time::Clock;
-use sw_session::{Sink, Source, Unread, Unwritten};
 use sw_workers::Wired;
 
 /// How often a read looks for bytes before its time is up.
@@ -83,26 +82,18 @@ impl<W: Wait + Clock + Copy + Drop> Incoming<W> {
     }
 }
 
-impl<W: Wait + Clock + Copy + Drop> Source for Incoming<W> {
-    ghost use Rattle.std.specs.Prelude.{None};
-
-    ghost remaining = { λ _. None };
-
-    ghost paused = { λ _ _. Unit {0} };
-
-    ghost failed = { λ _ _. Unit {0} };
-
-    fn receive(&mut self, buffer: &mut [u8]) -> Result<usize, Unread> {
+impl<W: Wait + Clock + Copy + Drop> Read for Incoming<W> {
+    fn read(&mut self, buffer: &mut [u8]) -> io::Result<usize> {
         for _ in 0..PATIENCE {
             if self.wire.is_held(&self.rt) {
-                return Err(Unread::Paused);
+                return Err(io::Error::from(ErrorKind::WouldBlock));
             }
             if let Some(n) = self.look(buffer) {
                 return Ok(n.min(buffer.len()));
             }
             turn(&self.rt);
         }
-        Err(Unread::Paused)
+        Err(io::Error::from(ErrorKind::TimedOut))
     }
 }
 
@@ -113,18 +104,14 @@ pub struct Outgoing<W: Wait + Drop> {
     rt: W,
 }
 
-impl<W: Wait + Drop> Sink for Outgoing<W> {
-    ghost use Rattle.std.specs.Prelude.{None};
+impl<W: Wait + Drop> Write for Outgoing<W> {
+    fn write(&mut self, bytes: &[u8]) -> io::Result<usize> {
+        let written = self.wire.to_client.lock(&self.rt).write(bytes)?;
+        Ok(written.min(bytes.len()))
+    }
 
-    ghost contents = { λ _. None };
-
-    ghost failed = { λ _ _. Unit {0} };
-
-    fn deliver(&mut self, bytes: &[u8]) -> Result<(), Unwritten> {
-        match self.wire.to_client.lock(&self.rt).write(bytes) {
-            Ok(_) => Ok(()),
-            Err(_) => Err(Unwritten),
-        }
+    fn flush(&mut self) -> io::Result<()> {
+        Ok(())
     }
 }
 

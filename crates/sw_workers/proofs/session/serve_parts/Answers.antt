@@ -18,4 +18,5 @@ returns-after-is_err g c =
     connects g.D.Desk.passes _ _ _ _ _ _ _ (g.C.In.Source.remaining c.set_limit.new.reader) _ _ _ _ _ c.read_header.new.header.items Asynchronous
     (sym c.in-Asynchronous.is ∙ c.channel_of.ensures ∙ ap channel_of c.as_slice.ensures.value) (rw same c.read_header.ensures.bytes)
     (whole-or _ _ _ _ c.read_header.result (λ f. inl (c.read_header.new.reader, f)) (rw same c.read_header.ensures.whole) c.read_header.ensures.failed)
-    (ap (left_ahead g.C.In.Source.remaining) c.new.ensures) c.serve_second.ensures.serves c.serve_second.ensures.read (λ e. inl (c.serve_second.ensures.write e))
+    (ap (left_ahead g.C.In.Source.remaining) c.new.ensures) c.serve_second.ensures.serves
+    c.serve_second.ensures.read (λ e. inl (c.serve_second.ensures.write e))

@@ -1,0 +1,5 @@
+use Rattle.std.proofs.Common.{inr}
+use Rattle.sw_workers.proofs.session.run_session_for.Goals as goal
+
+pub returns : goal.returns
+returns g c = inr (rw c.into_parts.ensures.input (rw c.into_parts.ensures.output c.serve_parts.ensures))
