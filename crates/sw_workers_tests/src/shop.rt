@@ -40,7 +40,8 @@ fn install<R: Relay, M: Meter>(
     is_installed
 }
 
-/// A mainframe with four channels of one group in slot 1 and a meter in slot 4.
+/// A mainframe with four channels of one group in slot 1 and a meter in slot 4. It is good.
+#[tactic(auto, using(crate::proofs::Openings::opens_good))]
 fn fitted<D: Driver, S: Source>(
     alloc: Global,
     driver: D,
