@@ -1,5 +1,5 @@
 -- What a desk has.
-use Rattle.std.proofs.Common.{◌≡◌, ℕ, Bool, true, false, Option, None, Some, refl, ap, ◌∙◌}
+use Rattle.std.proofs.Common.{◌≡◌, ℕ, true, Option, None, Some, refl, ap}
 use Rattle.sw_workers.specs.Held.{is_desk}
 
 none_is : (o : Option ℕ) → is_desk o ≡ true → (d : ℕ) × (o ≡ Some d)

@@ -1,9 +1,8 @@
 -- Work that is carried out, one piece further.
-use Rattle.std.proofs.Common.{◌≡◌, ◌+◌, ℕ, List, [], ◌∷◌, ◌++◌, Option, Some, refl, sym, ◌∙◌, subst, arith, append_assoc}
+use Rattle.std.proofs.Common.{◌≡◌, ◌+◌, List, [], ◌∷◌, ◌++◌, Option, Some, refl, sym, subst, arith, append_assoc}
 use Rattle.std.proofs.lemmas.List.{append-nil}
 use Rattle.sw_core.specs.Panel.{Panel}
 use Rattle.sw_core.specs.View.{WorkView}
-use Rattle.sw_session.specs.CoreDesk.{brought}
 use Rattle.sw_workers.specs.Board.{Known}
 use Rattle.sw_workers.specs.Held.{AtDesk}
 use Rattle.sw_workers.specs.Shares.{is_counted, one_if}

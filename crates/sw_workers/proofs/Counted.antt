@@ -1,7 +1,7 @@
 -- A step's number of events: one more for an event that is numbered.
 use Rattle.std.proofs.Common.{◌≡◌, ℕ, ◌+◌, ◌≤◌, ◌==◌, ◌&&◌, not, Bool, true, false, true≢false, List, [], ◌∷◌, Option, None, Some}
 use Rattle.std.proofs.Common.{refl, ap, sym, subst, ◌∙◌, map, arith, eq-eqb}
-use Rattle.std.specs.Prelude.{decimal, MatchBool, min}
+use Rattle.std.specs.Prelude.{decimal, MatchBool}
 use Rattle.std.specs.List.{join_with_byte}
 use Rattle.std.proofs.lemmas.Bool.Decides.{nat_tests}
 use Rattle.sw_base.specs.Reading.{reading_text}
@@ -9,7 +9,7 @@ use Rattle.sw_base.specs.Layout.{Channel}
 use Rattle.sw_base.specs.declared.reading.Reading.{Reading}
 use Rattle.sw_base.specs.declared.error.ScpiError.{ScpiError}
 use Rattle.sw_base.specs.declared.error.ScpiError.TheVariants.{UndefinedHeader, DataCorruptOrStale, OutOfMemory, HardwareMissing}
-use Rattle.sw_base.specs.declared.error.ScpiError.TheVariants.{SettingsConflict, HardwareError, TriggerIgnored}
+use Rattle.sw_base.specs.declared.error.ScpiError.TheVariants.{SettingsConflict, HardwareError}
 use Rattle.sw_base.specs.declared.terms.LayerName.TheVariants as layer_name
 use Rattle.sw_lex.specs.declared.command.Command.{Command}
 use Rattle.sw_trigger.specs.Settings.{Setup}
@@ -35,7 +35,7 @@ use Rattle.sw_core.specs.Step.{Happens, StepEffect, StepHeld, StepAction, StepSn
 use Rattle.sw_core.specs.Step.{StepJoin, StepAttach, StepNew, StepSession, Returns, StepFinished, Acts, acts_unnumbered, IsWorn, IsEvent, IsUnnumbered, Step}
 use Rattle.sw_core.specs.View.{WorkView, AskView, AskSession, AskInstall, AskEject, AskExternal, AskElapsed, AskFinished, AnswerView, SaysSession}
 use Rattle.sw_core.specs.View.{SaysInstalled, SaysNotInstalled, SaysEjected, SaysNotEjected, SaysTaken, SaysMissed, SaysFailed, SaysBack, SaysWorn}
-use Rattle.sw_workers.specs.Shares.{is_session_event, is_event, is_counted, one_if}
+use Rattle.sw_workers.specs.Shares.{is_counted, one_if}
 
 -- ---- commands
 

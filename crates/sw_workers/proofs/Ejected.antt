@@ -4,7 +4,7 @@ use Rattle.std.proofs.Common.{◌≡◌, ℕ, Bool, true, false, Option, Some, L
 use Rattle.std.specs.Prelude.{if◌then◌else◌}
 use Rattle.std.proofs.lemmas.List.Elements.{All-same, All-append, All-replicate}
 use Rattle.sw_base.specs.Layout.{slot_at}
-use Rattle.sw_card.specs.Account.{Account, closed_at}
+use Rattle.sw_card.specs.Account.{Account}
 use Rattle.sw_cage.specs.Accounts.{Accounts, all_open, option_closed}
 use Rattle.sw_cage.proofs.SlotChangeLemmas.{all_open_closed}
 use Rattle.sw_core.specs.declared.ask.Answer.{Answer}

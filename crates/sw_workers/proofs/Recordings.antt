@@ -1,15 +1,14 @@
 -- What an ask makes of the history, and what its desk is told.
-use Rattle.std.proofs.Common.{◌≡◌, ℕ, ◌<◌, ◌^◌, Bool, true, false, List, [], ◌∷◌, ◌++◌, Option, Some, refl, ap, sym, ◌∙◌, subst}
+use Rattle.std.proofs.Common.{◌≡◌, ℕ, ◌<◌, ◌^◌, Bool, true, false, List, [], ◌∷◌, ◌++◌, Some, refl, ap, sym, ◌∙◌, subst}
 use Rattle.std.specs.Option.{unwrap_or}
 use mathlib.Core.List.{IsPrefix}
-use Rattle.sw_status.specs.StatusModel.{summary_of}
 use Rattle.sw_core.specs.Panel.{Panel}
 use Rattle.sw_core.specs.Good.{IsGoodPanel}
 use Rattle.sw_core.specs.Run.{IsNext}
 use Rattle.sw_core.specs.View.{AskView, AnswerView}
 use Rattle.sw_workers.specs.Board.{Known, Said, entry_of}
 use Rattle.sw_workers.specs.Entries.{Entry, made_by}
-use Rattle.sw_workers.specs.History.{IsEntry, IsHistory, said_at, Entered, Replied, Told, AsksInHistory}
+use Rattle.sw_workers.specs.History.{IsHistory, said_at, Entered, Replied, Told, AsksInHistory}
 use Rattle.sw_workers.specs.Shares.{is_event}
 use Rattle.sw_workers.proofs.Histories.{history_more}
 

@@ -1,5 +1,5 @@
 -- A step whose answer is no event's leaves the panel as it was.
-use Rattle.std.proofs.Common.{◌≡◌, ◌==◌, ◌&&◌, not, ℕ, Bool, true, false, true≢false, List, [], ◌∷◌, Option, None, Some, refl, ap, sym, ◌∙◌, subst}
+use Rattle.std.proofs.Common.{◌≡◌, ◌==◌, ◌&&◌, not, ℕ, Bool, true, false, true≢false, List, [], ◌∷◌, Option, None, Some, refl, ap, sym, ◌∙◌}
 use Rattle.std.specs.Prelude.{MatchBool}
 use Rattle.sw_base.specs.Layout.{Channel}
 use Rattle.sw_base.specs.declared.reading.Reading.{Reading}
@@ -29,8 +29,8 @@ use Rattle.sw_core.specs.Seats.{asker_of, StepSeat, StepLock}
 use Rattle.sw_core.specs.Sessions.{SessionsSeen}
 use Rattle.sw_core.specs.Step.{StepClose, StepOpen, StepFlags, StepText, StepDone, StepSetting, StepRefused, StepReadings, StepAlone}
 use Rattle.sw_core.specs.Step.{session_told, StepHappens, StepEffect, StepHeld, StepAction, StepSnapshot, StepStart, IsServed, StepJoined, StepAdmitted}
-use Rattle.sw_core.specs.Step.{drops, shuts_out, StepJoin, StepAttach, StepNew, StepSession, outside_told, StepOutside, IsReturned, StepFinished}
-use Rattle.sw_core.specs.Step.{Acts, acts_unnumbered, IsWorn, IsUnnumbered, IsEvent, Step}
+use Rattle.sw_core.specs.Step.{drops, shuts_out, StepJoin, StepAttach, StepNew, StepSession, outside_told, StepOutside, StepFinished}
+use Rattle.sw_core.specs.Step.{Acts, acts_unnumbered, IsUnnumbered, IsEvent, Step}
 use Rattle.sw_core.specs.View.{WorkView, AskView, AskSession, AskInstall, AskEject, AskExternal, AskElapsed, AskFinished, AnswerView, SaysSession}
 use Rattle.sw_core.specs.View.{SaysInstalled, SaysNotInstalled, SaysEjected, SaysNotEjected, SaysTaken, SaysMissed, SaysFailed, SaysBack, SaysWorn}
 use Rattle.sw_workers.specs.Shares.{is_session_event, is_event}

@@ -1,6 +1,6 @@
 -- The history of a mainframe: its events, each a step of the core from what the one before it left. What an ask tells
 -- the desk that made it.
-use Rattle.std.specs.Prelude.{◌≡◌, ℕ, Bool, true, false, List, [], ◌∷◌, ◌++◌, Option, None, Some}
+use Rattle.std.specs.Prelude.{◌≡◌, ℕ, Bool, true, false, List, [], ◌∷◌, ◌++◌, Some}
 use mathlib.Core.List.{IsPrefix}
 use Rattle.sw_status.specs.StatusModel.{summary_of}
 use Rattle.sw_core.specs.Panel.{Panel}

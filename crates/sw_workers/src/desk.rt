@@ -31,6 +31,14 @@ pub struct SharedDesk<H: House, R: Relay, M: Meter, G: Gate + Drop, W: Wait + Cl
     number: Option<u8>,
 }
 
+/// Whether the ask is to begin or to end a session.
+fn changes_session<R: Relay, M: Meter>(ask: &Ask<R, M>) -> bool {
+    match ask {
+        Ask::Session(SessionAsk::Join) | Ask::Session(SessionAsk::Leave(_)) => true,
+        _ => false,
+    }
+}
+
 /// The number of the session that was joined.
 fn number_of<R: Relay, M: Meter>(answer: &Answer<R, M>) -> Option<u8> {
     match answer {
@@ -110,14 +118,14 @@ impl<H: House, R: Relay, M: Meter, G: Gate + Drop, W: Wait + Clock + Copy + Drop
     }
 
     /// Asks the mainframe. The desk of a session's synchronous channel, which is the one that joined, leaves in the
-    /// session's slot what it has then seen.
+    /// session's slot what it has then seen, until the session has left.
     fn act(&mut self, ask: Ask<R, M>) -> Answer<R, M>
         ensures { AsksOnce H.first (ask_view ask) (answer_view result) self.old.part self.new.part }
     {
-        let joins = matches!(&ask, Ask::Session(SessionAsk::Join));
+        let changes = changes_session(&ask);
         let (answer, turn) = self.shared.act(&self.rt, &mut self.part, ask);
         self.seen = turn;
-        if joins {
+        if changes {
             self.number = number_of(&answer);
         }
         if let Some(number) = self.number {

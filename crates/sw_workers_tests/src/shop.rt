@@ -4,6 +4,7 @@
 
 ghost use Rattle.std.specs.Prelude.{◌≡◌, IfSome};
 ghost use Rattle.sw_core.specs.Good.{IsGoodPanel};
+ghost use Rattle.sw_core.specs.Panel.{opening};
 
 use crate::latches::{TURNS, turn};
 use crate::threads::Scene;
@@ -40,7 +41,16 @@ fn install<R: Relay, M: Meter>(
     is_installed
 }
 
-/// A mainframe with four channels of one group in slot 1 and a meter in slot 4.
+/// A mainframe as it opens, which is good.
+fn opened<R: Relay, M: Meter>(core: Core<R, M>) -> Core<R, M>
+    requires { core ≡ opening }
+    ensures { IsGoodPanel result }
+{
+    mainframe_stays_good();
+    core
+}
+
+/// A mainframe with four channels of one group in slot 1 and a meter in slot 4. It is good.
 pub fn fitted<D: Driver, S: Source>(
     alloc: Global,
     driver: D,
@@ -48,10 +58,10 @@ pub fn fitted<D: Driver, S: Source>(
 ) -> Option<Core<Mux<D>, Volt<S>>>
     ensures { IfSome result (λ core. IsGoodPanel core) }
 {
-    mainframe_stays_good();
-    let Ok(mut core) = Core::new(alloc) else {
+    let Ok(core) = Core::new(alloc) else {
         return None;
     };
+    let mut core = opened(core);
     let mux = Mux::new(1, 4, 1, driver);
     let has_mux = install(alloc, &mut core, 1, Card::relays(mux));
     let volt = Volt::new(4, source);

@@ -3,7 +3,7 @@ use Rattle.sw_core.specs.View.{WorkView, work_view}
 use Rattle.sw_session.specs.CoreDesk.{piece_seen}
 use Rattle.sw_session.proofs.Keeping.{seen-some}
 use Rattle.sw_workers.specs.Work.{Ends}
-use Rattle.sw_workers.proofs.Carries.{carries-start, carries-done, carries-more}
+use Rattle.sw_workers.proofs.Carries.{carries-done, carries-more}
 use Rattle.sw_workers.proofs.desk.SharedDesk.carry.Goals as goal
 
 pub returns-in_default : goal.returns-in_default

@@ -1,4 +1,4 @@
-use Rattle.std.proofs.Common.{rules, ◌≡◌, Bool, true, false, List, [], ◌∷◌, ◌++◌, sym, subst, ◌∙◌}
+use Rattle.std.proofs.Common.{rules, ◌≡◌, true, false, List, sym, subst, ◌∙◌}
 use Rattle.sw_core.specs.Good.{IsGoodPanel}
 use Rattle.sw_core.specs.Panel.{Panel}
 use Rattle.sw_core.specs.Run.{IsNext}
