@@ -1,12 +1,17 @@
 //! Connections, each served by a thread of its own.
 
-ghost use Rattle.std.specs.Prelude.{◌≡◌, ◌≤◌, ◌+◌, ◌<◌, ◌^◌, All, IfErr, IfOk, OnOk};
+ghost use Rattle.std.specs.Prelude.{◌≡◌, ◌≤◌, ◌+◌, ◌<◌, ◌^◌, All, IfErr, IfOk, OnOk, IfSome, ◌⊎◌};
 ghost use Rattle.sw_core.specs.Good.{IsGoodPanel};
 ghost use Rattle.sw_core.specs.View.{ask_view};
 ghost use Rattle.mainframe.specs.Cards.{fitted};
 ghost use Rattle.mainframe.specs.Run.{Stepped};
 ghost use Rattle.mainframe.specs.Serving.{IsFitted};
+ghost use Rattle.sw_session.specs.ServeRead.{MayPause};
+ghost use Rattle.sw_session.specs.Talk.{turns};
+ghost use Rattle.sw_workers.specs.Ahead.{left_ahead};
 ghost use Rattle.sw_workers.specs.Closing.{IsOpen};
+ghost use Rattle.sw_workers.specs.Connected.{Happened, RunsSession};
+ghost use Rattle.sw_workers.specs.Work.{DeskPasses};
 
 use crate::cards::{first_card, meter_card, second_card, third_card};
 use crate::crew::Crew;
@@ -23,9 +28,10 @@ use std::time::Clock;
 use sw_cage::Job;
 use sw_card::{Card, Meter, Relay};
 use sw_core::{Ask, Core, mainframe_stays_good};
+use sw_session::Source;
 use sw_workers::{
-    Closed, Ended, Gate, House, Open, Opening, Pause, Posted, Shared, SharedDesk, Tcp, close_down,
-    run_card_worker, run_session, run_timer_worker,
+    Closed, Connection, Ended, Gate, House, Open, Opening, Pause, Posted, Shared, SharedDesk, Tcp,
+    close_down, run_card_worker, run_session, run_timer_worker,
 };
 
 /// Takes so many connections, one after the other, each served by a thread of its own over the program's cards, and
@@ -256,23 +262,53 @@ fn welcome<
     connection: Tcp,
 ) {
     if let Ok(theirs) = Arc::try_clone(lobby) {
-        sessions.start(rt, number, move || attend(alloc, theirs, connection));
+        sessions.start(
+            rt,
+            number,
+            move || desk_of(attend(alloc, theirs, connection)),
+        );
     }
 }
 
-/// What the thread of a connection does.
-fn attend<H: House, R: Relay, M: Meter, G: Gate + Drop, W: Wait + Clock + Copy + Drop>(
+/// What the thread of a connection does: by a desk from the lobby it serves the connection, from its first byte on.
+fn attend<
+    H: House,
+    R: Relay,
+    M: Meter,
+    G: Gate + Drop,
+    W: Wait + Clock + Copy + Drop,
+    C: Connection + Drop,
+>(
     alloc: Global,
     lobby: Arc<Lobby<H, R, M, G, W>, Global>,
-    connection: Tcp,
-) -> Left<H, R, M, G, W> {
+    connection: C,
+) -> Option<Ended<SharedDesk<H, R, M, G, W>, C::In, C::Out>>
+    ensures { IfSome result (λ ended. (desk : _) × RunsSession desk ended.desk
+        (λ before entry after. DeskPasses H.first before.part entry after.part)
+        (MayPause C.In.paused) (Happened C.In.failed ⊎ Happened C.Aside.failed) (Happened C.Out.failed) turns
+        (C.input connection) (left_ahead C.In.remaining ended.reader)
+        (C.output connection) (C.Out.contents ended.writer) ended.result) }
+{
     let desk = lobby.desk()?;
+    Some(run_session(connection, desk, alloc))
+}
+
+/// The desk of a connection that was served.
+fn desk_of<
+    H: House,
+    R: Relay,
+    M: Meter,
+    G: Gate + Drop,
+    W: Wait + Clock + Copy + Drop,
+    I: Source + Drop,
+    O: Drop,
+>(served: Option<Ended<SharedDesk<H, R, M, G, W>, I, O>>) -> Left<H, R, M, G, W> {
     let Ended {
         desk,
         reader: _,
         writer: _,
         result: _,
-    } = run_session(connection, desk, alloc);
+    } = served?;
     Some(desk)
 }
 
