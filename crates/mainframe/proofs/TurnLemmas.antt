@@ -1,5 +1,5 @@
 -- A source that is asked for bytes, one time further, and lines that are answered, one further.
-use Rattle.std.proofs.Common.{◌≡◌, ◌≢◌, ℕ, zero, suc, ◌+◌, List, [], ◌∷◌, ◌++◌, Option, Some, None, IfSome, take, refl, sym, ap, subst, ◌∙◌, ◌⊎◌, inl, inr, arith}
+use Rattle.std.proofs.Common.{◌≡◌, ◌≢◌, ℕ, zero, suc, ◌+◌, List, [], ◌∷◌, ◌++◌, Option, Some, None, IfSome, take, refl, sym, ap, subst, ◌∙◌, inl, inr, arith}
 use Rattle.std.proofs.Common.{append_assoc, take_all, zero-le, Result, Ok, Err, OnOk, OnErr}
 use Rattle.std.proofs.lemmas.List.{append-nil}
 use Rattle.std.specs.Io.KnownBytes.{Appends, Keeps}
@@ -8,7 +8,7 @@ use Rattle.sw_core.specs.declared.ask.Sid.{Sid}
 use Rattle.sw_session.specs.ServeWrite.{WritesPart}
 use Rattle.mainframe.specs.Kept.{most_kept}
 use Rattle.mainframe.specs.Run.{State, Line}
-use Rattle.mainframe.specs.Turns.{AsksWith, Spends, Gathers, IsUnasked, Stand, AsksNothing, AsksWritten, Reads, TakesTurn, TakesTurns}
+use Rattle.mainframe.specs.Turns.{AsksWith, Spends, Gathers, IsUnasked, Stand, Reads, TakesTurn, TakesTurns}
 use Rattle.mainframe.proofs.Kept.{line_whole}
 use Rattle.mainframe.proofs.Known.{appends-nothing, appends-more}
 

@@ -1,4 +1,4 @@
-use Rattle.std.proofs.Common.{◌≡◌, ◌++◌, ◌-◌, [], take, ap, sym, ◌∙◌, rules, arith, get_or, get_or-take, length-take-le, zero-le}
+use Rattle.std.proofs.Common.{◌≡◌, ◌++◌, ◌-◌, [], take, ap, ◌∙◌, rules, arith, get_or, get_or-take, length-take-le, zero-le}
 use Rattle.std.specs.Prelude.{slice_index}
 use Rattle.std.proofs.Transfers.{StopsAt-take}
 use Rattle.mainframe.specs.Kept.{most_kept}

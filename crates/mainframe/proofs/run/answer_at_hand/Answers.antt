@@ -1,9 +1,9 @@
-use Rattle.std.proofs.Common.{◌≡◌, ◌<◌, ◌∙◌, Bool, true, false, ℕ, List, [], ◌∷◌, ◌++◌, refl, sym, subst, inl, rules, arith}
+use Rattle.std.proofs.Common.{◌≡◌, ◌<◌, ◌∙◌, Bool, true, false, ℕ, List, [], ◌∷◌, ◌++◌, refl, subst, inl, rules, arith}
 use Rattle.sw_session.specs.CoreDesk.{Rests}
 use Rattle.sw_session.specs.ServeWrite.{WritesPart}
 use Rattle.sw_session.specs.Talk.{state}
 use Rattle.mainframe.specs.Run.{Line}
-use Rattle.mainframe.specs.Turns.{Gathers, stand, StopsAtHand}
+use Rattle.mainframe.specs.Turns.{Gathers, stand}
 use Rattle.mainframe.proofs.TurnLemmas.{unasked-none, unasked-one, unasked-two, gathers-none, takes-push, turn, keeps-same}
 use Rattle.mainframe.proofs.Runs.{shown-taken, line_rested, stops-output}
 use Rattle.mainframe.proofs.run.answer_at_hand.Goals as goal

@@ -1,4 +1,4 @@
-use Rattle.std.proofs.Common.{◌≡◌, ◌≢◌, ◌<◌, ◌∙◌, Bool, true, false, ℕ, List, [], ◌∷◌, ◌++◌, length, Err, refl, sym, ap, subst, inl, inr, rules, arith, eqb-true, vec_len}
+use Rattle.std.proofs.Common.{◌≡◌, ◌<◌, ◌∙◌, Bool, true, false, ℕ, List, [], ◌∷◌, ◌++◌, length, refl, sym, ap, subst, inl, inr, rules, arith, eqb-true, vec_len}
 use Rattle.std.proofs.lemmas.Bool.{eqb-false}
 use Rattle.sw_macro.specs.Table.{Table, no_macros}
 use Rattle.sw_session.specs.CoreDesk.{Rests}

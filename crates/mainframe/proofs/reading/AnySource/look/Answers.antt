@@ -1,4 +1,4 @@
-use Rattle.std.proofs.Common.{subst, rules, arith, length-take}
+use Rattle.std.proofs.Common.{subst, arith, length-take}
 use Rattle.std.specs.Io.BufRead.{FillKeeps}
 use Rattle.mainframe.proofs.Kept.{shown-line, room-shown}
 use Rattle.mainframe.proofs.reading.AnySource.look.Goals as goal
