@@ -3,7 +3,9 @@ use Rattle.std.proofs.Common.{◌≡◌, ◌≢◌, ℕ, zero, suc, ◌+◌, ◌
 use Rattle.std.proofs.Common.{length, take, Option, Some, None, IfSome, Result, Ok, Err, OnErr, refl, ap, sym, subst, ◌∙◌, arith, append-nil, take_all}
 use Rattle.std.proofs.Common.{length-take, zero-le}
 use Rattle.std.specs.Io.KnownBytes.{Keeps, Consumes, IsAtEnd}
-use Rattle.std.specs.Io.BufRead.{take_through, DropsThrough, strip_last, ends_with_byte}
+use Rattle.std.specs.Io.BufRead.{take_through, DropsThrough, DropsConsumable, strip_last, ends_with_byte}
+use Rattle.std.specs.Io.{StopsAt, IsEmptyOrEndsWith, StartsWith}
+use Rattle.std.proofs.Common.{drop, take-take, take-append-drop, length-take-le}
 use Rattle.std.proofs.lemmas.Bool.{lt-ltb}
 use Rattle.std.proofs.lemmas.Bool.Decides.{leb_tells}
 use Rattle.std.proofs.lemmas.List.Elements.{All-append}
@@ -17,7 +19,7 @@ use Rattle.sw_session.specs.CoreDesk.{CorePasses}
 use Rattle.sw_session.specs.Trace.{Entry}
 use Rattle.sw_session.specs.Talk.{state, Talked, TalksMessage, TalksUnits, Overruns}
 use Rattle.mainframe.specs.declared.fault.RunFault.{RunFault}
-use Rattle.mainframe.specs.Kept.{most_kept, CutsLine, TakesPart}
+use Rattle.mainframe.specs.Kept.{most_kept, CutsLine, TakesPart, KeepsFront, IsFirstLine, ShowsLine, LosesFront}
 use Rattle.mainframe.specs.Run.{Line, State}
 
 take-both : (k end n : ℕ) (xs : List ℕ) → n ≡ min end k → take n xs ≡ take k (take end xs)
@@ -144,6 +146,56 @@ kept-none (Some xs) kept is none = take_through-nil 10 xs (omega (arith, ap leng
 
 pub line_whole : (p q : State) (sid : Sid) (line bytes : List ℕ) → Line sid p (take most_kept line) bytes q → Line sid p line bytes q
 line_whole p q sid line bytes t = record { spoken = t.spoken; talked = talked-whole p (state t.spoken q.macros) sid line bytes t.talked; rests = t.rests }
+
+first-part : (xs : List ℕ) (n : ℕ) → 0 < n → n ≤ length xs → StopsAt (take n xs) 10 → IsEmptyOrEndsWith (take n xs) 10 → take n xs ≡ take_through 10 xs
+first-part xs n some within stops ends =
+    (Consumes_through 10 (Some xs) (Some xs) (Some (drop n xs)) [] (take n xs) refl no_feeds (sym (take-append-drop n xs)) stops ends (λ none.
+    absurd (omega (arith, none, some, within, length-take-le n xs within)))).0
+
+-- the first line of what is shown is that of all
+pub first-line : (xs kept : List ℕ) (n : ℕ) → 0 < n → n ≤ length xs → KeepsFront xs n kept → IsFirstLine xs n kept
+first-line xs kept n some within (stops, ends, is) =
+    let part : take n xs ≡ take_through 10 xs = first-part xs n some within stops ends in
+    (sym (length-take-le n xs within) ∙ ap length part, is ∙ ap (take most_kept) part)
+
+pub front-some : (bytes kept : List ℕ) (n : ℕ) → 0 < n → n ≤ length bytes → KeepsFront bytes n kept → kept ≢ []
+front-some bytes kept n some within (stops, ends, is) =
+    λ none. omega (arith, some, ap length is, ap length none, length-take most_kept (take n bytes), length-take-le n bytes within)
+
+same-front : (shown xs : List ℕ) (k n : ℕ) → n ≤ length (take k shown) → StartsWith xs shown → take n (take k shown) ≡ take n xs
+same-front shown xs k n within front =
+    take-take n k shown (omega (arith, length-take k shown, within)) ∙ sym (ap (take n) front)
+    ∙ take-take n (length shown) xs (omega (arith, length-take k shown, within))
+
+front-shown : (shown xs kept : List ℕ) (k n : ℕ) → 0 < n → n ≤ length (take k shown) → KeepsFront (take k shown) n kept → StartsWith xs shown
+    → IsFirstLine xs n kept
+front-shown shown xs kept k n some within keeps front =
+    first-line xs kept n some (omega (arith, within, length-take k shown, ap length front, length-take (length shown) xs))
+    (subst (λ (l : List ℕ). StopsAt l 10 × IsEmptyOrEndsWith l 10 × (kept ≡ take most_kept l)) (same-front shown xs k n within front) keeps)
+
+shown-if : (known : Option (List ℕ)) (shown kept : List ℕ) (k n : ℕ) → 0 < n → n ≤ length (take k shown) → KeepsFront (take k shown) n kept
+    → IfSome known (λ xs. StartsWith xs shown) → IfSome known (λ bytes. IsFirstLine bytes n kept)
+shown-if None shown kept k n some within keeps front = tt
+shown-if (Some xs) shown kept k n some within keeps front = front-shown shown xs kept k n some within keeps front
+
+pub shown-line : (known : Option (List ℕ)) (shown kept : List ℕ) (k n : ℕ) → 0 < n → n ≤ length (take k shown) → KeepsFront (take k shown) n kept
+    → IfSome known (λ xs. StartsWith xs shown) → ShowsLine known n kept
+shown-line known shown kept k n some within keeps front =
+    (front-some (take k shown) kept n some within keeps, shown-if known shown kept k n some within keeps front)
+
+room-within : (limit : Option ℕ) (shown n : ℕ) → n ≤ shown → IfSome limit (λ k. shown ≤ k) → IfSome limit (λ most. n ≤ most)
+room-within None shown n within room = tt
+room-within (Some k) shown n within room = omega (arith, within, room)
+
+pub room-shown : (known : Option (List ℕ)) (limit : Option ℕ) (shown n : ℕ) → n ≤ shown → IfSome known (λ _. IfSome limit (λ k. shown ≤ k))
+    → IfSome known (λ _. IfSome limit (λ most. n ≤ most))
+room-shown None limit shown n within room = tt
+room-shown (Some xs) limit shown n within room = room-within limit shown n within room
+
+pub loses : (old new : Option (List ℕ)) (limit : Option ℕ) (n : ℕ) → DropsConsumable old new limit n → IfSome limit (λ most. n ≤ most)
+    → LosesFront old new n
+loses None new limit n drops room = tt
+loses (Some xs) new limit n drops room = drops room
 
 pub kept-some : (xs kept : List ℕ) → kept ≡ take most_kept (take_through 10 xs) → 0 < length kept → 0 < length xs
 kept-some xs kept is some = take_through_nonempty 10 xs (omega (arith, ap length is, length-take most_kept (take_through 10 xs)))

@@ -1,8 +1,8 @@
 -- A run, one line further.
-use Rattle.std.proofs.Common.{◌≡◌, ◌≢◌, ℕ, ◌<◌, List, [], ◌∷◌, ◌++◌, length, take, Option, Some, None, IfSome, Result, Ok, Err, OnOk, IfErr, inr, All}
-use Rattle.std.proofs.Common.{Bool, true, false, ◌==◌, ◌-◌, zero, suc, refl, ap, sym, ◌∙◌, subst, append_assoc, arith}
+use Rattle.std.proofs.Common.{◌≡◌, ◌≢◌, ℕ, List, [], ◌∷◌, ◌++◌, length, take, Option, Some, None, IfSome, Result, Ok, Err, OnOk, IfErr, inl, inr, All}
+use Rattle.std.proofs.Common.{Bool, true, false, ◌==◌, ◌-◌, zero, suc, drop, refl, ap, sym, ◌∙◌, subst, append_assoc, arith}
 use Rattle.std.proofs.lemmas.List.{append-nil}
-use Rattle.std.specs.Io.KnownBytes.{Appends, IsAtEnd}
+use Rattle.std.specs.Io.KnownBytes.{Appends, Keeps, IsAtEnd}
 use Rattle.std.specs.Io.BufRead.{take_through, drop_through, DropsThrough}
 use Rattle.sw_core.specs.declared.ask.Sid.{Sid}
 use Rattle.sw_core.specs.Panel.{Panel}
@@ -16,12 +16,15 @@ use Rattle.mainframe.specs.Cards.{Fitted, fitted}
 use Rattle.mainframe.specs.Run.{State, begins_over, IsSetUp, Line, Run, Runs, AnsweredFrom, PartFrom, CutFrom, EndsFrom}
 use Rattle.mainframe.specs.declared.fault.RunFault.{RunFault}
 use Rattle.mainframe.specs.declared.fault.RunFault.TheVariants.{Input, Output, Memory}
-use Rattle.mainframe.proofs.Known.{appends-more}
-use Rattle.mainframe.specs.Kept.{most_kept, CutsLine}
+use Rattle.mainframe.specs.Kept.{most_kept, CutsLine, ShowsLine, LosesFront}
+use Rattle.mainframe.specs.Turns.{Gathers, Stand, TakesTurns, AsksInTurn, StopsBy, StopsAtHand, AnswersAtHand, IsUnasked, IsInVain, stand}
+use Rattle.mainframe.proofs.TurnLemmas.{gathers-none, gathers-more, gathers-written, gathers-part, reads-gathers, takes-append}
 use Rattle.mainframe.proofs.Lines.{lines_of-through}
 use Rattle.std.specs.Io.{StopsAt}
 use Rattle.std.specs.Prelude.{if◌then◌else◌}
-use Rattle.mainframe.proofs.Kept.{kept-some, line_whole}
+use Rattle.mainframe.proofs.Kept.{no_feeds}
+use Rattle.std.proofs.KnownBytes.{Consumes-nil, Consumes-kept}
+use Rattle.std.proofs.Transfers.{StopsAt-of_All}
 
 pub line_rested : (sid talker : Sid) (macros macros' : Table) (q spoken mid : DeskSeen) (kept line told : List ℕ) (rested : Bool) → talker ≡ sid → line ≡ kept
     → Talked CorePasses talker (state q macros) line told (state spoken macros') → Rests spoken rested mid → rested ≡ true
@@ -33,40 +36,78 @@ line_rested sid talker macros macros' q spoken mid kept line told rested sids li
   rests = subst (λ (b : Bool). Rests spoken b mid) is rests;
 }
 
-pub run-push : (sid : Sid) (p q mid : State) (done : List (List ℕ)) (line bytes told : List ℕ) → Run sid p done bytes q → Line sid q line told mid
-    → Run sid p (done ++ line ∷ []) (bytes ++ told) mid
-run-push sid p q mid [] line bytes told r t =
-    let t' : Line sid p line told mid = subst (λ (s : State). Line sid s line told mid) r.1 t in
-    (told, mid, [], t', (refl, refl), ap (λ b. b ++ told) r.0 ∙ sym (append-nil told))
-run-push sid p q mid (l ∷ done) line bytes told r t =
-    (r.0, r.1, r.2 ++ told, r.3, run-push sid r.1 q mid done line r.2 told r.4 t, ap (λ b. b ++ told) r.5 ∙ append_assoc r.0 r.2 told)
+lines-next : (left : List ℕ) → take_through 10 left ≢ [] → lines_of left ≡ take_through 10 left ∷ lines_of (drop_through 10 left)
+lines-next [] some = absurd (some refl)
+lines-next (x ∷ xs) some = lines_of-through x xs
 
--- the lines that were read are answered and written
-abbrev pub Progress : Sid → State → Option (List ℕ) → Option (List ℕ) → Option (List ℕ) → Option (List ℕ) → State → Type 0
-Progress sid start r0 r c0 c p = IfSome r0 (λ input. (done : List (List ℕ)) × (bytes left : List ℕ) × (r ≡ Some left) × (lines_of input ≡ done ++ lines_of left)
-    × Run sid start done bytes p × Appends c0 c bytes)
+-- the lines that were read are answered, and the answers are written but for these
+abbrev pub Progress : Sid → State → Option (List ℕ) → Option (List ℕ) → Option (List ℕ) → List ℕ → Option (List ℕ) → List ℕ → State → Type 0
+Progress sid start r0 r c0 u0 c u p = IfSome r0 (λ input. (done : List (List ℕ)) × (bytes left : List ℕ) × (r ≡ Some left)
+    × (lines_of input ≡ done ++ lines_of left) × Run sid start done bytes p × Gathers c0 (u0 ++ bytes) c u)
 
-pub progress-start : (sid : Sid) (start : State) (r c : Option (List ℕ)) → Appends c c [] → Progress sid start r r c c start
-progress-start sid start None c a = tt
-progress-start sid start (Some input) c a = ([], [], input, refl, refl, (refl, refl), a)
+progress-none : (sid : Sid) (start : State) (r c : Option (List ℕ)) (u : List ℕ) → Progress sid start r r c u c u start
+progress-none sid start None c u = tt
+progress-none sid start (Some input) c u =
+    ([], [], input, refl, refl, (refl, refl), subst (λ (l : List ℕ). Gathers c l c u) (sym (append-nil u)) (gathers-none c u))
 
-pub progress-end : (sid : Sid) (start : State) (r0 r c0 c : Option (List ℕ)) (p : State) → Progress sid start r0 r c0 c p → IsAtEnd r
-    → IfSome r0 (λ input. AnsweredFrom sid start input [] c0 c)
-progress-end sid start None r c0 c p h end = tt
-progress-end sid start (Some input) r c0 c p (done, bytes, left, is, lines, run, a) end =
+progress-line : (sid : Sid) (p q last : State) (r0 r1 r2 c0 c1 c2 : Option (List ℕ)) (line told u0 u1 u2 : List ℕ) → line ≢ []
+    → IfSome r0 (λ xs. line ≡ take_through 10 xs) → DropsThrough r0 r1 10 → Line sid p line told q → Gathers c0 (u0 ++ told) c1 u1
+    → Progress sid q r1 r2 c1 u1 c2 u2 last → Progress sid p r0 r2 c0 u0 c2 u2 last
+progress-line sid p q last None r1 r2 c0 c1 c2 line told u0 u1 u2 some takes drops one g h = tt
+progress-line sid p q last (Some xs) None r2 c0 c1 c2 line told u0 u1 u2 some takes drops one g h = absurd (cc (drops))
+progress-line sid p q last (Some xs) (Some ys) r2 c0 c1 c2 line told u0 u1 u2 some takes drops one g (done, bytes, left, at, lines, run, more) =
+    let rest : ys ≡ drop_through 10 xs = cc (drops) in
+    let next : lines_of xs ≡ take_through 10 xs ∷ lines_of (drop_through 10 xs) = lines-next xs (λ none. some (takes ∙ none)) in (
+      line ∷ done,
+      told ++ bytes,
+      left,
+      at,
+      next ∙ ap (λ (l : List ℕ). l ∷ lines_of (drop_through 10 xs)) (sym takes) ∙ ap (λ (l : List ℕ). line ∷ lines_of l) (sym rest) ∙ ap (λ ls. line ∷ ls) lines,
+      (told, q, bytes, one, run, refl),
+      subst (λ (l : List ℕ). Gathers c0 l c2 u2) (append_assoc u0 told bytes) (gathers-more c0 c1 c2 (u0 ++ told) bytes u1 u2 g more),
+    )
+
+-- so it is after lines in turn
+pub progress-turns : {S W : Type 0} (remaining : S → Option (List ℕ)) (asked : S → W → S → Type 0) (unasked : S → S → Type 0) (contents : W
+    → Option (List ℕ)) (sid : Sid) (a b : Stand S W) (lines : List (List ℕ)) → TakesTurns remaining asked unasked contents sid a lines b
+    → Progress sid a.state (remaining a.source) (remaining b.source) (contents a.writer) a.unwritten (contents b.writer) b.unwritten b.state
+progress-turns remaining asked unasked contents sid a b [] same =
+    subst (λ x. Progress sid a.state (remaining a.source) (remaining x.source) (contents a.writer) a.unwritten (contents x.writer) x.unwritten x.state) (sym same)
+    (progress-none sid a.state (remaining a.source) (contents a.writer) a.unwritten)
+progress-turns remaining asked unasked contents sid a b (line ∷ lines) (mid, t, more) =
+    progress-line sid a.state mid.state b.state (remaining a.source) (remaining mid.source) (remaining b.source) (contents a.writer) (contents mid.writer)
+    (contents b.writer) line t.told a.unwritten mid.unwritten b.unwritten t.some t.takes (subst (λ x. DropsThrough (remaining a.source) (remaining x) 10)
+    (sym t.source) t.rest) t.answered (gathers-more (contents a.writer) (contents t.read.writer) (contents mid.writer) a.unwritten t.told t.read.unwritten
+    mid.unwritten (reads-gathers asked unasked contents a t.read t.reads) t.writes)
+    (progress-turns remaining asked unasked contents sid mid b lines more)
+
+pub progress-keeps : (sid : Sid) (start : State) (r0 r r' c0 c : Option (List ℕ)) (u : List ℕ) (p : State) → Keeps r r' → Progress sid start r0 r c0 [] c u p
+    → Progress sid start r0 r' c0 [] c u p
+progress-keeps sid start None r r' c0 c u p k h = tt
+progress-keeps sid start (Some input) None r' c0 c u p k (done, bytes, left, is, lines, run, a) = absurd (cc (is))
+progress-keeps sid start (Some input) (Some xs) None c0 c u p k (done, bytes, left, is, lines, run, a) = absurd k
+progress-keeps sid start (Some input) (Some xs) (Some ys) c0 c u p k (done, bytes, left, is, lines, run, a) =
+    (done, bytes, left, ap Some k ∙ is, lines, run, a)
+
+-- all of it was read and written
+pub progress-end : (sid : Sid) (start : State) (r0 r c0 c c' : Option (List ℕ)) (u : List ℕ) (p : State) → Progress sid start r0 r c0 [] c u p
+    → Appends c c' u → IsAtEnd r → IfSome r0 (λ input. AnsweredFrom sid start input [] c0 c')
+progress-end sid start None r c0 c c' u p h w end = tt
+progress-end sid start (Some input) r c0 c c' u p (done, bytes, left, is, lines, run, a) w end =
     let none : left ≡ [] = subst IsAtEnd is end in
     record {
       bytes = bytes;
       runs = record { done = done; lines = lines ∙ ap (λ l. done ++ lines_of l) none; after = p; run = run };
-      writes = a;
+      writes = gathers-written c0 c c' bytes u a w;
     }
 
-pub progress-cut : (sid : Sid) (start : State) (r0 r r2 c0 c : Option (List ℕ)) (p : State) → Progress sid start r0 r c0 c p → CutsLine r r2
-    → IfSome r0 (λ input. CutFrom sid start input r2 c0 c)
-progress-cut sid start None r r2 c0 c p h cuts = tt
-progress-cut sid start (Some input) None r2 c0 c p (done, bytes, left, is, lines, run, a) (cut, used, stops) = absurd (cc (is))
-progress-cut sid start (Some input) (Some xs) None c0 c p (done, bytes, left, is, lines, run, a) (cut, used, stops) = absurd used
-progress-cut sid start (Some input) (Some xs) (Some ys) c0 c p (done, bytes, left, is, lines, run, a) (cut, used, stops) =
+-- a read failed after all was written
+pub progress-cut : (sid : Sid) (start : State) (r0 r r2 c0 c c' : Option (List ℕ)) (u : List ℕ) (p : State) → Progress sid start r0 r c0 [] c u p
+    → Appends c c' u → CutsLine r r2 → IfSome r0 (λ input. CutFrom sid start input r2 c0 c')
+progress-cut sid start None r r2 c0 c c' u p h w cuts = tt
+progress-cut sid start (Some input) None r2 c0 c c' u p (done, bytes, left, is, lines, run, a) w (cut, used, stops) = absurd (cc (is))
+progress-cut sid start (Some input) (Some xs) None c0 c c' u p (done, bytes, left, is, lines, run, a) w (cut, used, stops) = absurd used
+progress-cut sid start (Some input) (Some xs) (Some ys) c0 c c' u p (done, bytes, left, is, lines, run, a) w (cut, used, stops) =
     let same : xs ≡ left = cc (is) in
     record {
       cut = cut;
@@ -76,79 +117,34 @@ progress-cut sid start (Some input) (Some xs) (Some ys) c0 c p (done, bytes, lef
       answered = record {
         bytes = bytes;
         runs = record { done = done; lines = lines ∙ ap (λ l. done ++ lines_of l) (sym same ∙ used); after = p; run = run };
-        writes = a;
+        writes = gathers-written c0 c c' bytes u a w;
       };
     }
 
-lines-next : (left : List ℕ) → 0 < length left → lines_of left ≡ take_through 10 left ∷ lines_of (drop_through 10 left)
-lines-next [] some = absurd (omega arith)
-lines-next (x ∷ xs) some = lines_of-through x xs
+-- a write failed
+pub progress-part : (sid : Sid) (start : State) (r0 r r' c0 c c' : Option (List ℕ)) (u : List ℕ) (p : State) → Progress sid start r0 r c0 [] c u p
+    → Keeps r r' → WritesPart c c' u → IfSome r0 (λ input. PartFrom sid start input r' c0 c')
+progress-part sid start None r r' c0 c c' u p h k w = tt
+progress-part sid start (Some input) None r' c0 c c' u p (done, bytes, left, is, lines, run, a) k w = absurd (cc (is))
+progress-part sid start (Some input) (Some xs) None c0 c c' u p (done, bytes, left, is, lines, run, a) k w = absurd k
+progress-part sid start (Some input) (Some xs) (Some ys) c0 c c' u p (done, bytes, left, is, lines, run, a) k w = record {
+  rest = left;
+  is_left = ap Some k ∙ is;
+  bytes = bytes;
+  runs = record { done = done; lines = lines; after = p; run = run };
+  writes = gathers-part c0 c c' bytes u a w;
+}
 
-pub progress-line : (sid : Sid) (start : State) (r0 r1 r2 c0 c1 c2 : Option (List ℕ)) (q mid : State) (kept told : List ℕ) → Progress sid start r0 r1 c0 c1 q
-    → IfSome r1 (λ xs. kept ≡ take most_kept (take_through 10 xs)) → DropsThrough r1 r2 10 → 0 < length kept
-    → Line sid q kept told mid → Appends c1 c2 told → Progress sid start r0 r2 c0 c2 mid
-progress-line sid start None r1 r2 c0 c1 c2 q mid kept told h is_kept rest some t a = tt
-progress-line sid start (Some input) None r2 c0 c1 c2 q mid kept told (done, written, left, at, lines, run, w) is_kept rest some t a = absurd (cc (at))
-progress-line sid start (Some input) (Some xs) r2 c0 c1 c2 q mid kept told (done, written, left, at, lines, run, w) is_kept rest some t a =
-    let same : xs ≡ left = cc (at) in
-    let items : List ℕ = take_through 10 xs in
-    let next : lines_of left ≡ items ∷ lines_of (drop_through 10 xs) = ap lines_of (sym same) ∙ lines-next xs (kept-some xs kept is_kept some) in
-    let whole : Line sid q items told mid = line_whole q mid sid items told (subst (λ (l : List ℕ). Line sid q l told mid) is_kept t) in (
-      done ++ items ∷ [],
-      written ++ told,
-      drop_through 10 xs,
-      rest,
-      lines ∙ ap (λ ls. done ++ ls) next ∙ sym (append_assoc done (items ∷ []) (lines_of (drop_through 10 xs))),
-      run-push sid start q mid done items written told run whole,
-      appends-more c0 c1 c2 written told w a,
-    )
-
-pub progress-part : (sid : Sid) (start : State) (r0 r1 r2 c0 c1 c2 : Option (List ℕ)) (q mid : State) (kept told : List ℕ) → Progress sid start r0 r1 c0 c1 q
-    → IfSome r1 (λ xs. kept ≡ take most_kept (take_through 10 xs)) → DropsThrough r1 r2 10 → 0 < length kept
-    → Line sid q kept told mid → WritesPart c1 c2 told → IfSome r0 (λ input. PartFrom sid start input r2 c0 c2)
-progress-part sid start None r1 r2 c0 c1 c2 q mid kept told h is_kept rest some t a = tt
-progress-part sid start (Some input) None r2 c0 c1 c2 q mid kept told (done, written, left, at, lines, run, w) is_kept rest some t a = absurd (cc (at))
-progress-part sid start (Some input) (Some xs) r2 c0 c1 c2 q mid kept told (done, written, left, at, lines, run, w) is_kept rest some t a =
-    let same : xs ≡ left = cc (at) in
-    let items : List ℕ = take_through 10 xs in
-    let next : lines_of left ≡ items ∷ lines_of (drop_through 10 xs) = ap lines_of (sym same) ∙ lines-next xs (kept-some xs kept is_kept some) in
-    let whole : Line sid q items told mid = line_whole q mid sid items told (subst (λ (l : List ℕ). Line sid q l told mid) is_kept t) in
-    record {
-      rest = drop_through 10 xs;
-      is_left = rest;
-      bytes = written ++ told;
-      runs = record {
-        done = done ++ items ∷ [];
-        lines = lines ∙ ap (λ ls. done ++ ls) next ∙ sym (append_assoc done (items ∷ []) (lines_of (drop_through 10 xs)));
-        after = mid;
-        run = run-push sid start q mid done items written told run whole;
-      };
-      writes = record {
-        front = written ++ a.front;
-        back = a.back;
-        parts = ap (λ (l : List ℕ). written ++ l) a.parts ∙ sym (append_assoc written a.front a.back);
-        writes = appends-more c0 c1 c2 written a.front w a.writes;
-      };
-    }
-
-pub progress-all : (sid : Sid) (start : State) (r0 r r2 c0 c : Option (List ℕ)) (p : State) → Progress sid start r0 r c0 c p → IsAtEnd r → DropsThrough r r2 10
-    → IfSome r0 (λ _. IsAtEnd r2)
-progress-all sid start None r r2 c0 c p h end drops = tt
-progress-all sid start (Some input) None r2 c0 c p (done, bytes, left, is, lines, run, a) end drops = absurd (cc (is))
-progress-all sid start (Some input) (Some xs) r2 c0 c p h end drops =
+pub progress-all : (sid : Sid) (start : State) (r0 r r2 c0 c : Option (List ℕ)) (u : List ℕ) (p : State) → Progress sid start r0 r c0 [] c u p
+    → IsAtEnd r → DropsThrough r r2 10 → IfSome r0 (λ _. IsAtEnd r2)
+progress-all sid start None r r2 c0 c u p h end drops = tt
+progress-all sid start (Some input) None r2 c0 c u p (done, bytes, left, is, lines, run, a) end drops = absurd (cc (is))
+progress-all sid start (Some input) (Some xs) r2 c0 c u p h end drops =
     let none : r2 ≡ Some [] = drops ∙ ap (λ t. Some (drop_through 10 t)) end in subst IsAtEnd (sym none) refl
 
--- the reader has too many lines
-pub progress-stopped : (sid : Sid) (start : State) (r0 r c0 c : Option (List ℕ)) (p : State) → Progress sid start r0 r c0 c p
-    → IfSome r0 (λ input. CutFrom sid start input r c0 c)
-progress-stopped sid start None r c0 c p h = tt
-progress-stopped sid start (Some input) r c0 c p (done, bytes, left, is, lines, run, a) = record {
-  cut = [];
-  unread = left;
-  is_left = is;
-  stops = λ k d l e. absurd (omega arith);
-  answered = record { bytes = bytes; runs = record { done = done; lines = lines; after = p; run = run }; writes = a };
-}
+-- nothing more is read
+pub cuts-none : (r r' : Option (List ℕ)) → Keeps r r' → CutsLine r r'
+cuts-none r r' k = ([], Consumes-kept r r r' [] (Consumes-nil r) k, StopsAt-of_All [] 10 no_feeds)
 
 -- a fault of a read
 pub ends-cut : (sid : Sid) (start : State) (fault : RunFault) (r0 r c0 c : Option (List ℕ)) → fault ≢ Output
@@ -184,23 +180,116 @@ through_all (x ∷ xs) = through_if (x == 10) x xs (through_all xs)
     through_if true x xs e = refl
     through_if false x xs e = ap (λ l. x ∷ l) e
 
-pub progress-stuck : (sid : Sid) (start : State) (r0 r r2 c0 c : Option (List ℕ)) (p : State) → Progress sid start r0 r c0 c p → DropsThrough r r2 10
-    → IfSome r0 (λ input. CutFrom sid start input r2 c0 c)
-progress-stuck sid start None r r2 c0 c p h drops = tt
-progress-stuck sid start (Some input) None r2 c0 c p (done, bytes, left, is, lines, run, a) drops = absurd (cc (is))
-progress-stuck sid start (Some input) (Some xs) r2 c0 c p (done, bytes, left, is, lines, run, a) drops =
-    let same : xs ≡ left = cc (is) in
-    record {
-      cut = take_through 10 xs;
-      unread = drop_through 10 xs;
-      is_left = drops;
-      stops = stops_through xs;
-      answered = record {
-        bytes = bytes;
-        runs = record { done = done; lines = lines ∙ ap (λ l. done ++ lines_of l) (sym same ∙ sym (through_all xs)); after = p; run = run };
-        writes = a;
-      };
-    }
+-- a line is gone
+pub cuts-line : (r r' : Option (List ℕ)) → DropsThrough r r' 10 → CutsLine r r'
+cuts-line None r' drops = ([], tt, StopsAt-of_All [] 10 no_feeds)
+cuts-line (Some xs) None drops = absurd (cc (drops))
+cuts-line (Some xs) (Some ys) drops =
+    let rest : ys ≡ drop_through 10 xs = cc (drops) in
+    (take_through 10 xs, sym (ap (λ l. take_through 10 xs ++ l) rest ∙ through_all xs), stops_through xs)
+
+-- what was shown is taken
+drop-through : (xs : List ℕ) → drop (length (take_through 10 xs)) xs ≡ drop_through 10 xs
+drop-through [] = refl
+drop-through (x ∷ xs) = drop_if (x == 10) x xs (drop-through xs)
+  where
+    drop_if : (b : Bool) (x : ℕ) (xs : List ℕ) → drop (length (take_through 10 xs)) xs ≡ drop_through 10 xs
+        → drop (length (if b then x ∷ [] else x ∷ take_through 10 xs)) (x ∷ xs) ≡ (if b then xs else drop_through 10 xs)
+    drop_if true x xs e = refl
+    drop_if false x xs e = e
+
+pub shown-taken : (r0 r1 r2 : Option (List ℕ)) (n : ℕ) (kept : List ℕ) (Shown : Type 0) → ShowsLine r0 n kept → Keeps r0 r1 → IfSome r0 (λ _. Shown)
+    → (Shown → LosesFront r1 r2 n)
+    → IfSome r0 (λ xs. kept ≡ take most_kept (take_through 10 xs)) × DropsThrough r0 r2 10
+shown-taken None r1 r2 n kept Shown shows keeps shown loses = (tt, tt)
+shown-taken (Some xs) None r2 n kept Shown shows keeps shown loses = absurd keeps
+shown-taken (Some xs) (Some ys) r2 n kept Shown (here, whole) keeps shown loses =
+    (whole.1, loses shown ∙ ap (λ l. Some (drop n l)) keeps ∙ ap (λ m. Some (drop m xs)) whole.0 ∙ ap Some (drop-through xs))
+
+-- a fault while the lines at hand are answered
+stops-so : (sid : Sid) (start : State) (fault : RunFault) (r0 r r' c0 : Option (List ℕ)) {W : Type 0} (contents : W → Option (List ℕ)) (old new : W)
+    (bytes : List ℕ) (desk : DeskSeen) (p : State) → Progress sid start r0 r c0 [] (contents old) bytes p → Keeps r r'
+    → StopsBy contents fault old bytes new desk → IfSome r0 (λ input. EndsFrom sid start fault input r' c0 (contents new))
+stops-so sid start Input r0 r r' c0 contents old new bytes desk p h k (w, vain) =
+    progress-cut sid start r0 r r' c0 (contents old) (contents new) bytes p h w (cuts-none r r' k)
+stops-so sid start Output r0 r r' c0 contents old new bytes desk p h k w =
+    progress-part sid start r0 r r' c0 (contents old) (contents new) bytes p h k w
+stops-so sid start Memory r0 r r' c0 contents old new bytes desk p h k w = absurd w
+
+in-vain : {W : Type 0} (contents : W → Option (List ℕ)) (fault : RunFault) (old new : W) (bytes : List ℕ) (desk : DeskSeen)
+    → StopsBy contents fault old bytes new desk → fault ≡ Input → IsInVain desk
+in-vain contents Input old new bytes desk (w, vain) is = vain
+in-vain contents Output old new bytes desk w is = absurd (cc (is))
+in-vain contents Memory old new bytes desk w is = absurd w
+
+pub stops-ends : {S W : Type 0} (remaining : S → Option (List ℕ)) (asked : S → W → S → Type 0) (unasked : S → S → Type 0) (contents : W
+    → Option (List ℕ)) (sid : Sid) (start : State) (first : S) (begun : W) (turns : ℕ) (b : Stand S W) (lines : List (List ℕ)) (fault : RunFault)
+    (source : S) (writer : W) (desk : DeskSeen)
+    → TakesTurns remaining asked unasked contents sid (stand start first begun [] turns) lines b
+    → StopsAtHand remaining asked unasked contents sid b fault source writer desk
+    → IfSome (remaining first) (λ input. EndsFrom sid start fault input (remaining source) (contents begun) (contents writer))
+stops-ends remaining asked unasked contents sid start first begun turns b lines fault source writer desk t s =
+    stops-so sid start fault (remaining first) (remaining s.last.source) (remaining source) (contents begun) contents s.last.writer writer s.last.unwritten desk
+    s.last.state
+    (progress-turns remaining asked unasked contents sid (stand start first begun [] turns) s.last (lines ++ s.lines)
+    (takes-append remaining asked unasked contents sid (stand start first begun [] turns) b s.last lines s.lines t s.turns)) s.keeps s.stops
+
+pub stops-asks : {S W : Type 0} (remaining : S → Option (List ℕ)) (asked : S → W → S → Type 0) (unasked : S → S → Type 0) (contents : W
+    → Option (List ℕ)) (sid : Sid) (a b : Stand S W) (lines : List (List ℕ)) (fault : RunFault) (source : S) (writer : W) (desk : DeskSeen)
+    → TakesTurns remaining asked unasked contents sid a lines b → StopsAtHand remaining asked unasked contents sid b fault source writer desk
+    → AsksInTurn remaining asked unasked contents sid a b.turns source × (fault ≡ Input → IsInVain desk)
+stops-asks remaining asked unasked contents sid a b lines fault source writer desk t s = (
+  record {
+    lines = lines ++ s.lines;
+    last = s.last;
+    turns = takes-append remaining asked unasked contents sid a b s.last lines s.lines t s.turns;
+    read = record s.last { source = source };
+    reads = inl (record { moves = s.moves; writer = refl; unwritten = refl; turns = refl });
+    comes = refl;
+    spent = sym s.same;
+  },
+  in-vain contents fault s.last.writer writer s.last.unwritten desk s.stops,
+)
+
+-- the lines at hand are answered behind others
+pub at-hand : {S W : Type 0} (remaining : S → Option (List ℕ)) (asked : S → W → S → Type 0) (unasked : S → S → Type 0) (contents : W
+    → Option (List ℕ)) (sid talker : Sid) (a b after : Stand S W) (lines : List (List ℕ)) → talker ≡ sid
+    → TakesTurns remaining asked unasked contents sid a lines b → AnswersAtHand remaining asked unasked contents talker b after
+    → (before : S) × (more : List (List ℕ)) × TakesTurns remaining asked unasked contents sid a more (record after { source = before })
+    × IsUnasked unasked before after.source × Keeps (remaining before) (remaining after.source)
+at-hand {S = S} {W = W} remaining asked unasked contents sid talker a b after lines sids t h =
+    let own = subst (λ (s : Sid). TakesTurns remaining asked unasked contents s b h.lines h.last) sids h.turns in
+    let all = takes-append remaining asked unasked contents sid a b h.last lines h.lines t own in (
+      h.last.source,
+      lines ++ h.lines,
+      subst (λ x. TakesTurns remaining asked unasked contents sid a (lines ++ h.lines) x) (sym (ap (λ (x : Stand S W). record x { source = h.last.source }) h.same)) all,
+      h.moves,
+      h.keeps,
+    )
+
+-- a fault is told by its result
+pub same-fault : (a b : RunFault) → ◌≡◌ {A = Result (Unit {0}) RunFault} (Err a) (Err b) → a ≡ b
+same-fault a b e = cc (e)
+
+-- the fault of a write
+pub stops-output : {W : Type 0} (contents : W → Option (List ℕ)) (fault : RunFault) (old new : W) (bytes : List ℕ) (desk : DeskSeen) → fault ≡ Output
+    → WritesPart (contents old) (contents new) bytes → StopsBy contents fault old bytes new desk
+stops-output contents fault old new bytes desk is part = subst (λ (f : RunFault). StopsBy contents f old bytes new desk) (sym is) part
+
+-- a write fails behind these lines
+pub fails-write : {S W : Type 0} (remaining : S → Option (List ℕ)) (asked : S → W → S → Type 0) (unasked : S → S → Type 0) (contents : W
+    → Option (List ℕ)) (sid : Sid) (a : Stand S W) (source : S) (fault : RunFault) (writer : W) (desk : DeskSeen) → IsUnasked unasked a.source source
+    → Keeps (remaining a.source) (remaining source) → fault ≡ Output
+    → WritesPart (contents a.writer) (contents writer) a.unwritten → StopsAtHand remaining asked unasked contents sid a fault source writer desk
+fails-write remaining asked unasked contents sid a source fault writer desk moves keeps is part = record {
+  lines = [];
+  last = a;
+  turns = refl;
+  same = refl;
+  moves = moves;
+  keeps = keeps;
+  stops = stops-output contents fault a.writer writer a.unwritten desk is part;
+}
 
 -- what the loop over the lines comes to, from a mainframe that was set up
 runs_set_up : (cards : Fitted) (sid : Sid) (start : Panel) (result : Result (Unit {0}) RunFault) (r0 left old new : Option (List ℕ)) → IsSetUp cards sid start

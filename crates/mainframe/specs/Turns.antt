@@ -1,10 +1,21 @@
 -- When a source is asked for bytes, and what is written by then.
-use Rattle.std.specs.Prelude.{◌≡◌, ℕ, zero, suc, ◌+◌, false, List, [], ◌∷◌, Option, IfSome, ◌⊎◌}
-use Rattle.std.specs.Io.KnownBytes.{Appends}
+use Rattle.std.specs.Prelude.{◌≡◌, ◌≢◌, ℕ, zero, suc, ◌+◌, false, List, [], ◌∷◌, ◌++◌, Option, IfSome, ◌⊎◌}
+use Rattle.std.specs.Io.KnownBytes.{Appends, Keeps}
 use Rattle.std.specs.Io.BufRead.{take_through, DropsThrough}
 use Rattle.sw_core.specs.declared.ask.Sid.{Sid}
 use Rattle.sw_session.specs.CoreDesk.{DeskSeen, Rests}
+use Rattle.sw_session.specs.ServeWrite.{WritesPart}
+use Rattle.mainframe.specs.declared.fault.RunFault.{RunFault}
+use Rattle.mainframe.specs.declared.fault.RunFault.TheVariants.{Input, Output, Memory}
 use Rattle.mainframe.specs.Run.{State, Line}
+
+-- how many bytes of answers are kept at most before they are written
+abbrev pub most_unwritten : ℕ
+most_unwritten = 65536
+
+-- of these answers a front part is written, and the rest kept
+abbrev pub Gathers : Option (List ℕ) → List ℕ → Option (List ℕ) → List ℕ → Type 0
+Gathers old bytes new unwritten = (front : List ℕ) × (bytes ≡ front ++ unwritten) × Appends old new front
 
 -- the source is asked for bytes so often, each time while the writer is this one
 abbrev pub AsksWith : {S W : Type 0} → (S → W → S → Type 0) → S → W → ℕ → S → Type 0
@@ -15,46 +26,114 @@ AsksWith asked old w (suc n) new = (mid : _) × asked old w mid × AsksWith aske
 abbrev pub Spends : {S W : Type 0} → (S → W → S → Type 0) → S → W → ℕ → ℕ → S → Type 0
 Spends asked old w turns left new = (n : ℕ) × (turns ≡ left + n) × AsksWith asked old w n new
 
+-- the source is not asked for bytes, and moves so often
+abbrev pub MovesUnasked : {S : Type 0} → (S → S → Type 0) → S → ℕ → S → Type 0
+MovesUnasked unasked old zero new = new ≡ old
+MovesUnasked unasked old (suc n) new = (mid : _) × unasked old mid × MovesUnasked unasked mid n new
+
+abbrev pub IsUnasked : {S : Type 0} → (S → S → Type 0) → S → S → Type 0
+IsUnasked unasked old new = (n : ℕ) × MovesUnasked unasked old n new
+
 -- why a read comes to nothing: no turn is left, or a read failed
 abbrev pub FailsAfter : {S : Type 0} → (S → S → Type 0) → ℕ → S → Type 0
 FailsAfter failed left new = (left ≡ 0) ⊎ ((old : _) × failed old new)
 
--- where a run stands: its desk and macros, its source and its writer, and how often the source may still be asked
+-- where a run stands: its desk and macros, its source and its writer, what was answered and not written yet, and how
+-- often the source may still be asked
 pub record Stand (S W : Type 0) : Type 0 where
   pub state : State
   pub source : S
   pub writer : W
+  pub unwritten : List ℕ
   pub turns : ℕ
 
-abbrev pub stand : {S W : Type 0} → State → S → W → ℕ → Stand S W
-stand state source writer turns = record { state = state; source = source; writer = writer; turns = turns }
+abbrev pub stand : {S W : Type 0} → State → S → W → List ℕ → ℕ → Stand S W
+stand state source writer unwritten turns =
+    record { state = state; source = source; writer = writer; unwritten = unwritten; turns = turns }
 
--- One line is taken while the writer has the answers so far, then it is talked over, and then its answer is written.
+-- The source comes from one state to another. Either it is asked for nothing; or all answers so far are written before,
+-- and the writer has them each time that it is asked for bytes.
+pub record AsksNothing {S W : Type 0} (unasked : S → S → Type 0) (a b : Stand S W) : Type 0 where
+  pub moves : IsUnasked unasked a.source b.source
+  pub writer : b.writer ≡ a.writer
+  pub unwritten : b.unwritten ≡ a.unwritten
+  pub turns : b.turns ≡ a.turns
+
+pub record AsksWritten {S W : Type 0} (asked : S → W → S → Type 0) (unasked : S → S → Type 0)
+    (contents : W → Option (List ℕ)) (a b : Stand S W) : Type 0 where
+  pub before : S
+  pub moves : IsUnasked unasked a.source before
+  pub writes : Appends (contents a.writer) (contents b.writer) a.unwritten
+  pub unwritten : b.unwritten ≡ []
+  pub asks : Spends asked before b.writer a.turns b.turns b.source
+
+abbrev pub Reads : {S W : Type 0} → (S → W → S → Type 0) → (S → S → Type 0) → (W → Option (List ℕ))
+    → Stand S W → Stand S W → Type 0
+Reads asked unasked contents a b = AsksNothing unasked a b ⊎ AsksWritten asked unasked contents a b
+
+-- One line is read, then it is talked over, and then its answer is written or kept behind those that are not written.
 pub record TakesTurn {S W : Type 0} (remaining : S → Option (List ℕ)) (asked : S → W → S → Type 0)
-    (contents : W → Option (List ℕ)) (sid : Sid) (a : Stand S W) (line : List ℕ) (b : Stand S W) : Type 0 where
+    (unasked : S → S → Type 0) (contents : W → Option (List ℕ)) (sid : Sid)
+    (a : Stand S W) (line : List ℕ) (b : Stand S W) : Type 0 where
+  pub read : Stand S W
   pub told : List ℕ
-  pub reads : Spends asked a.source a.writer a.turns b.turns b.source
+  pub reads : Reads asked unasked contents a read
+  pub some : line ≢ []
   pub takes : IfSome (remaining a.source) (λ xs. line ≡ take_through 10 xs)
-  pub rest : DropsThrough (remaining a.source) (remaining b.source) 10
+  pub rest : DropsThrough (remaining a.source) (remaining read.source) 10
   pub answered : Line sid a.state line told b.state
-  pub writes : Appends (contents a.writer) (contents b.writer) told
+  pub writes : Gathers (contents read.writer) (read.unwritten ++ told) (contents b.writer) b.unwritten
+  pub source : b.source ≡ read.source
+  pub turns : b.turns ≡ read.turns
 
 -- these lines, one after another
-abbrev pub TakesTurns : {S W : Type 0} → (S → Option (List ℕ)) → (S → W → S → Type 0) → (W → Option (List ℕ)) → Sid
-    → Stand S W → List (List ℕ) → Stand S W → Type 0
-TakesTurns remaining asked contents sid a [] b = b ≡ a
-TakesTurns remaining asked contents sid a (line ∷ more) b =
-    (mid : _) × TakesTurn remaining asked contents sid a line mid × TakesTurns remaining asked contents sid mid more b
+abbrev pub TakesTurns : {S W : Type 0} → (S → Option (List ℕ)) → (S → W → S → Type 0) → (S → S → Type 0)
+    → (W → Option (List ℕ)) → Sid → Stand S W → List (List ℕ) → Stand S W → Type 0
+TakesTurns remaining asked unasked contents sid a [] b = b ≡ a
+TakesTurns remaining asked unasked contents sid a (line ∷ more) b = (mid : _)
+    × TakesTurn remaining asked unasked contents sid a line mid
+    × TakesTurns remaining asked unasked contents sid mid more b
 
 -- All that a run asks of its source, down to so many turns: whole lines in turn, and then what is asked while all
 -- answers to these are written, and no more than they.
 pub record AsksInTurn {S W : Type 0} (remaining : S → Option (List ℕ)) (asked : S → W → S → Type 0)
-    (contents : W → Option (List ℕ)) (sid : Sid) (a : Stand S W) (left : ℕ) (source : S) : Type 0 where
+    (unasked : S → S → Type 0) (contents : W → Option (List ℕ)) (sid : Sid)
+    (a : Stand S W) (left : ℕ) (source : S) : Type 0 where
   pub lines : List (List ℕ)
   pub last : Stand S W
-  pub turns : TakesTurns remaining asked contents sid a lines last
-  pub asks : Spends asked last.source last.writer last.turns left source
+  pub turns : TakesTurns remaining asked unasked contents sid a lines last
+  pub read : Stand S W
+  pub reads : Reads asked unasked contents last read
+  pub comes : source ≡ read.source
+  pub spent : left ≡ read.turns
 
 -- what was outstanding after a line was waited for in vain, as often as a desk waits at most
 abbrev pub IsInVain : DeskSeen → Type 0
 IsInVain desk = (spoken : DeskSeen) × Rests spoken false desk
+
+-- The lines at hand are answered.
+pub record AnswersAtHand {S W : Type 0} (remaining : S → Option (List ℕ)) (asked : S → W → S → Type 0)
+    (unasked : S → S → Type 0) (contents : W → Option (List ℕ)) (sid : Sid) (a b : Stand S W) : Type 0 where
+  pub lines : List (List ℕ)
+  pub last : Stand S W
+  pub turns : TakesTurns remaining asked unasked contents sid a lines last
+  pub moves : IsUnasked unasked last.source b.source
+  pub keeps : Keeps (remaining last.source) (remaining b.source)
+  pub same : b ≡ record last { source = b.source }
+
+-- The same up to a fault: all answers are written but for the fault of a write, and nothing behind these lines is taken.
+abbrev pub StopsBy : {W : Type 0} → (W → Option (List ℕ)) → RunFault → W → List ℕ → W → DeskSeen → Type 0
+StopsBy contents Input old bytes new desk = Appends (contents old) (contents new) bytes × IsInVain desk
+StopsBy contents Output old bytes new desk = WritesPart (contents old) (contents new) bytes
+StopsBy contents Memory old bytes new desk = ⊥
+
+pub record StopsAtHand {S W : Type 0} (remaining : S → Option (List ℕ)) (asked : S → W → S → Type 0)
+    (unasked : S → S → Type 0) (contents : W → Option (List ℕ)) (sid : Sid)
+    (a : Stand S W) (fault : RunFault) (source : S) (writer : W) (desk : DeskSeen) : Type 0 where
+  pub lines : List (List ℕ)
+  pub last : Stand S W
+  pub turns : TakesTurns remaining asked unasked contents sid a lines last
+  pub same : last.turns ≡ a.turns
+  pub moves : IsUnasked unasked last.source source
+  pub keeps : Keeps (remaining last.source) (remaining source)
+  pub stops : StopsBy contents fault last.writer last.unwritten writer desk

@@ -2,7 +2,7 @@
 
 ghost use Rattle.std.specs.Prelude.{◌≡◌, ◌≢◌, ◌<◌, ◌≤◌, ◌-◌, All, length, take, OnOk, OnErr, IfErr, IfSome};
 ghost use Rattle.std.specs.Io.BufRead.{take_through, DropsThrough};
-ghost use Rattle.mainframe.specs.Kept.{most_kept, CutsLine};
+ghost use Rattle.mainframe.specs.Kept.{most_kept, CutsLine, KeepsFront};
 ghost use Rattle.mainframe.specs.Turns.{Spends, FailsAfter};
 
 use crate::fault::RunFault;
@@ -14,8 +14,9 @@ const MOST_KEPT: usize = MESSAGE_BYTES + 2;
 
 /// What lines are read from, in sight of what was written by then.
 pub trait Source<W> {
-    ghost use Rattle.std.specs.Prelude.{◌≡◌, ◌≢◌, ◌≤◌, ℕ, List, Option, length, IfErr, Err};
-    ghost use Rattle.mainframe.specs.Kept.{most_kept, TakesPart};
+    ghost use Rattle.std.specs.Prelude.{◌≡◌, ◌≢◌, ◌≤◌, ◌<◌, ℕ, List, Option, length, IfErr, IfSome, Err};
+    ghost use Rattle.std.specs.Io.KnownBytes.{Keeps};
+    ghost use Rattle.mainframe.specs.Kept.{most_kept, TakesPart, ShowsLine, LosesFront};
 
     /// The bytes that are left to be read, where they are known.
     ghost remaining: { Self → Option (List ℕ) };
@@ -26,14 +27,39 @@ pub trait Source<W> {
     /// A read failed, between these states.
     ghost failed: { Self → Self → Type 0 };
 
-    /// Takes the bytes that are at hand, up to and including the first line feed, and keeps those that the line has
-    /// room for. Returns whether the line is complete.
-    fn read_part(&mut self, written: &W, line: &mut Vec<u8>) -> Result<bool, RunFault>
+    /// It was not asked for bytes, and went from one state to another.
+    ghost unasked: { Self → Self → Type 0 };
+
+    /// So many bytes are shown, and can be taken.
+    ghost shows: { Self → ℕ → Type 0 };
+
+    /// Asks for bytes, takes those that come, up to and including the first line feed, and keeps those that the line
+    /// has room for. Returns whether the line is complete, and tells how many bytes are at hand behind it.
+    fn read_part(
+        &mut self,
+        written: &W,
+        at_hand: &mut usize,
+        line: &mut Vec<u8>,
+    ) -> Result<bool, RunFault>
         requires { length line.old.items ≤ most_kept }
         ensures asked { asked self.old written.now self.new }
         ensures part { TakesPart (remaining self.old) (remaining self.new) line.old.items line.new.items result }
         ensures fault { IfErr result (λ fault. fault ≢ RunFault.Output) }
         ensures failed { result ≡ Err RunFault.Input → failed self.old self.new };
+
+    /// Looks at no more than so many bytes that are at hand, and keeps the first line of them, or its first
+    /// `MOST_KEPT` bytes. Returns the line's length, or 0 where no whole line is there, or no memory for it.
+    fn look(&mut self, at_hand: usize, line: &mut Vec<u8>) -> usize
+        ensures unasked { unasked self.old self.new }
+        ensures keeps { Keeps (remaining self.old) (remaining self.new) }
+        ensures line { 0 < result → ShowsLine (remaining self.old) result line.new.items }
+        ensures shown { IfSome (remaining self.old) (λ _. shows self.new result) }
+        ensures bound { result ≤ at_hand };
+
+    /// Takes so many bytes that were shown.
+    fn take(&mut self, length: usize)
+        ensures unasked { unasked self.old self.new }
+        ensures taken { shows self.old length → LosesFront (remaining self.old) (remaining self.new) length };
 }
 
 /// Any reader is a source of lines. It tells nothing of what it sees.
@@ -44,7 +70,16 @@ impl<Rd: BufRead, W> Source<W> for Rd {
 
     ghost failed = { λ _ _. Unit {0} };
 
-    fn read_part(&mut self, _written: &W, line: &mut Vec<u8>) -> Result<bool, RunFault> {
+    ghost unasked = { λ _ _. Unit {0} };
+
+    ghost shows = { λ r n. IfSome (Rd.consumable_len r) (λ most. n ≤ most) };
+
+    fn read_part(
+        &mut self,
+        _written: &W,
+        at_hand: &mut usize,
+        line: &mut Vec<u8>,
+    ) -> Result<bool, RunFault> {
         let available = match self.fill_buf() {
             Ok(available) => available,
             Err(e) => {
@@ -60,9 +95,24 @@ impl<Rd: BufRead, W> Source<W> for Rd {
         let Ok(()) = line.extend_from_slice(&available[..end.min(room)]) else {
             return Err(RunFault::Memory);
         };
+        *at_hand = available.len() - end;
         let is_done = end == 0 || available[end - 1] == b'\n';
         self.consume(end);
         Ok(is_done)
+    }
+
+    fn look(&mut self, at_hand: usize, line: &mut Vec<u8>) -> usize {
+        if at_hand == 0 {
+            return 0;
+        }
+        let Ok(available) = self.fill_buf() else {
+            return 0;
+        };
+        keep_line(&available[..available.len().min(at_hand)], line)
+    }
+
+    fn take(&mut self, length: usize) {
+        self.consume(length);
     }
 }
 
@@ -72,6 +122,7 @@ pub fn read_line<S: Source<W>, W>(
     source: &mut S,
     written: &W,
     turns: &mut u64,
+    at_hand: &mut usize,
     line: &mut Vec<u8>,
 ) -> Result<(), RunFault>
     ensures kept { OnOk result (IfSome (S.remaining source.old) (λ xs.
@@ -86,11 +137,28 @@ pub fn read_line<S: Source<W>, W>(
     line.clear();
     while *turns > 0 {
         *turns -= 1;
-        if source.read_part(written, line)? {
+        if source.read_part(written, at_hand, line)? {
             return Ok(());
         }
     }
     Err(RunFault::Input)
+}
+
+/// Keeps the first line of the bytes, or its first `MOST_KEPT` bytes. Returns the line's length, or 0 where they have no
+/// whole line, or there is no memory for it.
+fn keep_line(bytes: &[u8], line: &mut Vec<u8>) -> usize
+    ensures bound { result ≤ length bytes.now }
+    ensures line { 0 < result → KeepsFront bytes.now result line.new.items }
+{
+    let end = line_end(bytes);
+    if end == 0 || bytes[end - 1] != b'\n' {
+        return 0;
+    }
+    line.clear();
+    match line.extend_from_slice(&bytes[..end.min(MOST_KEPT)]) {
+        Ok(()) => end,
+        Err(_) => 0,
+    }
 }
 
 /// The length up to and including the first line feed, or the whole length.

@@ -7,14 +7,14 @@ ghost use Rattle.sw_card.specs.Account.{relay_account, of_meter};
 ghost use Rattle.sw_core.specs.Panel.{opening};
 ghost use Rattle.mainframe.specs.Cards.{fitted, program_cards};
 ghost use Rattle.sw_macro.specs.Table.{no_macros};
-ghost use Rattle.mainframe.specs.Turns.{AsksInTurn, FailsAfter, IsInVain, stand};
+ghost use Rattle.mainframe.specs.Turns.{AsksInTurn, AnswersAtHand, StopsAtHand, FailsAfter, IsInVain, stand};
 ghost use Rattle.sw_session.specs.Talk.{state, turns};
 ghost use Rattle.mainframe.specs.Run.{IsSetUp, Joins, Stepped, AnsweredFrom, EndsFrom, Runs};
 
 use crate::cards::{first_card, meter_card, second_card, third_card};
 use crate::fault::RunFault;
 use crate::reading::{Source, read_line};
-use crate::writing::write_bytes;
+use crate::writing::{gather, write_out};
 use std::alloc::{AllocError, Global};
 use std::io::{BufRead, Write};
 use sw_card::{Card, Meter, Relay};
@@ -138,15 +138,31 @@ pub fn run_on<R: Relay, M: Meter, S: Source<W>, W: Write>(
         (state desk.old no_macros) fault input (S.remaining source.new)
         (W.contents writer.old) (W.contents writer.new))) }
     ensures turns { (left : ℕ)
-        × AsksInTurn S.remaining S.asked W.contents sid
-        (stand (state desk.old no_macros) source.old writer.old turns) left source.new
+        × AsksInTurn S.remaining S.asked S.unasked W.contents sid
+        (stand (state desk.old no_macros) source.old writer.old [] turns) left source.new
         × (result ≡ Err RunFault.Input → FailsAfter S.failed left source.new ⊎ IsInVain desk.new) }
 {
     let mut talker = Talker::new(alloc, sid);
     let mut line = Vec::new(alloc);
+    let mut unwritten = Vec::new(alloc);
+    let mut at_hand = 0;
     let mut turns = TURNS;
     while turns > 0 {
-        if let Err(fault) = read_line(source, writer, &mut turns, &mut line) {
+        if let Err(fault) = answer_at_hand(
+            source,
+            writer,
+            desk,
+            &mut talker,
+            at_hand,
+            &mut line,
+            &mut unwritten,
+        ) {
+            return Err(fault);
+        }
+        if let Err(fault) = write_out(writer, &mut unwritten) {
+            return Err(fault);
+        }
+        if let Err(fault) = read_line(source, writer, &mut turns, &mut at_hand, &mut line) {
             return Err(fault);
         }
         if line.is_empty() {
@@ -156,9 +172,54 @@ pub fn run_on<R: Relay, M: Meter, S: Source<W>, W: Write>(
         if !desk.rest() {
             return Err(RunFault::Input);
         }
-        if let Err(fault) = write_bytes(writer, &told) {
+        if let Err(fault) = gather(writer, &mut unwritten, &told) {
             return Err(fault);
         }
     }
+    if let Err(fault) = write_out(writer, &mut unwritten) {
+        return Err(fault);
+    }
     Err(RunFault::Input)
+}
+
+/// Answers the whole lines that the source has at hand. It is asked for nothing. A line is taken once all that was
+/// outstanding after it is carried out.
+fn answer_at_hand<R: Relay, M: Meter, S: Source<W>, W: Write>(
+    source: &mut S,
+    writer: &mut W,
+    desk: &mut CoreDesk<R, M>,
+    talker: &mut Talker,
+    at_hand: usize,
+    line: &mut Vec<u8>,
+    unwritten: &mut Vec<u8>,
+) -> Result<(), RunFault>
+    ensures ok { (turns : ℕ) → OnOk result (AnswersAtHand S.remaining S.asked S.unasked W.contents talker.old.sid
+        (stand (state desk.old talker.old.macros) source.old writer.old unwritten.old.items turns)
+        (stand (state desk.new talker.new.macros) source.new writer.new unwritten.new.items turns)) }
+    ensures err { (turns : ℕ) → IfErr result (λ fault.
+        StopsAtHand S.remaining S.asked S.unasked W.contents talker.old.sid
+        (stand (state desk.old talker.old.macros) source.old writer.old unwritten.old.items turns)
+        fault source.new writer.new desk.new) }
+    ensures same { talker.new.sid ≡ talker.old.sid }
+{
+    let mut at_hand = at_hand;
+    while at_hand > 0 {
+        let length = source.look(at_hand, line);
+        if length == 0 {
+            return Ok(());
+        }
+        let told = talker.message(line, desk);
+        if !desk.rest() {
+            if let Err(fault) = write_out(writer, unwritten) {
+                return Err(fault);
+            }
+            return Err(RunFault::Input);
+        }
+        source.take(length);
+        at_hand -= length;
+        if let Err(fault) = gather(writer, unwritten, &told) {
+            return Err(fault);
+        }
+    }
+    Ok(())
 }

@@ -1,7 +1,7 @@
 //! Who asks, and what still acts when no more events can be numbered.
 
 ghost use Rattle.std.specs.Prelude.{◌≡◌, false};
-ghost use Rattle.sw_core.specs.View.{ask_view, answer_view, HandsBack};
+ghost use Rattle.sw_core.specs.View.{ask_view, answer_view, AskSession, HandsBack};
 ghost use Rattle.sw_core.specs.Seats.{asker_of, is_dropped, is_shut_out};
 ghost use Rattle.sw_core.specs.Step.{acts_unnumbered, IsWorn};
 
@@ -55,13 +55,23 @@ pub fn is_shut_out(ask: &SessionAsk) -> bool
     }
 }
 
+/// Whether a session's ask still acts when no more events can be numbered.
+pub fn session_acts_unnumbered(ask: &SessionAsk) -> bool
+    ensures { result ≡ acts_unnumbered (AskSession ask.now) }
+{
+    match ask {
+        SessionAsk::Unit(_, Command::Abort, _) => true,
+        _ => false,
+    }
+}
+
 /// Whether an ask still acts when no more events can be numbered.
 pub fn acts_unnumbered<R: Relay, M: Meter>(ask: &Ask<R, M>) -> bool
     ensures { result ≡ acts_unnumbered (ask_view ask.now) }
 {
     match ask {
-        Ask::Session(SessionAsk::Unit(_, Command::Abort, _)) | Ask::Eject(_) | Ask::Finished(_) =>
-            true,
+        Ask::Session(ask) => session_acts_unnumbered(ask),
+        Ask::Eject(_) | Ask::Finished(_) => true,
         _ => false,
     }
 }

@@ -46,7 +46,7 @@ impl<R: Relay, M: Meter> Core<R, M> {
     }
 
     /// Queues the error of a session's refusal, and ends the event.
-    fn end_session_event(&mut self, answer: &SessionAnswer)
+    pub(crate) fn end_session_event(&mut self, answer: &SessionAnswer)
         ensures { self.new ≡ session_concluded answer.now self.old }
     {
         match answer {

@@ -5,13 +5,13 @@ ghost use Rattle.sw_cage.specs.Change.{any_failed};
 ghost use Rattle.sw_status.specs.StatusModel.{summary_of};
 ghost use Rattle.sw_core.specs.Sessions.{IsJoined};
 ghost use Rattle.sw_core.specs.View.{ask_view, answer_view, work_view, failed_in, HandsBack, IsOwnAccount};
-ghost use Rattle.sw_core.specs.View.{AskInstall, AskEject};
+ghost use Rattle.sw_core.specs.View.{AskSession, AskInstall, AskEject, SaysSession};
 ghost use Rattle.sw_core.specs.Panel.{Panel, opening, opening_at};
 ghost use Rattle.sw_core.specs.Seats.{asker_of};
 ghost use Rattle.sw_core.specs.Step.{Step, Acts, StepSession, StepNew, StepJoin, StepAttach, StepJoined};
 
 use crate::ask::{Answer, Ask, SessionAnswer, SessionAsk, Sid, Work};
-use crate::asks::{acts_unnumbered, asker, unnumbered};
+use crate::asks::{acts_unnumbered, asker, session_acts_unnumbered, unnumbered};
 use crate::registers::clear_card_fault;
 use crate::sessions::Sessions;
 use std::alloc::{AllocError, Global};
@@ -107,6 +107,20 @@ impl<R: Relay, M: Meter> Core<R, M> {
         let answer = self.act(alloc, ask);
         self.end_event(&answer);
         answer
+    }
+
+    /// Does what a session asks: one event, as `apply` does it.
+    #[tactic(auto, using(crate::proofs::Numbered::worn_step, crate::proofs::Numbered::numbered_step))]
+    pub fn ask(&mut self, alloc: Global, ask: SessionAsk) -> (SessionAnswer, Option<Work<M>>)
+        ensures { Step self.old (AskSession ask) (any_failed self.old.cage.cards self.new.cage.cards)
+            (SaysSession result.0 (work_view result.1)) self.new }
+    {
+        if self.events == u64::MAX && !session_acts_unnumbered(&ask) {
+            return (SessionAnswer::Worn(ask), None);
+        }
+        let answered = self.session(alloc, ask);
+        self.end_session_event(&answered.0);
+        answered
     }
 
     /// Does what is asked, and leaves the end of the event to the caller.

@@ -2,7 +2,7 @@
 
 ghost use Rattle.std.specs.Prelude.{◌≡◌, ◌≤◌, Bool, true, [], ◌∷◌, ◌++◌, IfSome, IfNone};
 ghost use Rattle.std.specs.VecDeque.{deque_len, deque_capacity};
-ghost use Rattle.sw_core.specs.View.{ask_view, answer_view, work_view};
+ghost use Rattle.sw_core.specs.View.{ask_view, answer_view, work_view, AskSession, SaysSession};
 ghost use Rattle.sw_core.specs.Step.{Step};
 ghost use Rattle.sw_session.specs.CoreDesk.{IsKept, IsCarried, IsFull, Tells, Rests, desk_over, piece_seen};
 
@@ -122,7 +122,18 @@ impl<R: Relay, M: Meter> CoreDesk<R, M> {
         }
     }
 
-    /// Asks the mainframe.
+    /// Asks the mainframe what a session asks.
+    fn tell_asked(&mut self, ask: SessionAsk) -> (SessionAnswer, Option<Work<M>>)
+        ensures step { (failed : Bool)
+            × Step self.old.panel (AskSession ask) failed (SaysSession result.0 (work_view result.1)) self.new.panel }
+        ensures work { self.new.work ≡ self.old.work }
+        ensures room { self.new.room ≡ self.old.room }
+        ensures available { self.new.available ≡ self.old.available }
+    {
+        self.core.ask(self.alloc, ask)
+    }
+
+    /// Tells the mainframe what is no session's.
     fn tell(&mut self, ask: Ask<R, M>) -> Answer<R, M>
         ensures step { (failed : Bool) × Step self.old.panel (ask_view ask) failed (answer_view result) self.new.panel }
         ensures work { self.new.work ≡ self.old.work }
@@ -167,13 +178,9 @@ impl<R: Relay, M: Meter> Desk for CoreDesk<R, M> {
     ghost passes = { CorePasses };
 
     fn ask(&mut self, ask: SessionAsk) -> SessionAnswer {
-        match self.tell(Ask::Session(ask)) {
-            Answer::Session(answer, work) => {
-                self.keep(work);
-                answer
-            }
-            _ => unreachable!(),
-        }
+        let (answer, work) = self.tell_asked(ask);
+        self.keep(work);
+        answer
     }
 
     fn wait(&mut self, limit_ms: Option<u32>) -> Wake {

@@ -163,6 +163,32 @@ fn answers_are_handed_on_before_more_is_read(rt: HostRuntime) -> Result<(), Fail
     Ok(())
 }
 
+/// Counts how often it is written to.
+#[derive(Drop)]
+struct Counter {
+    writes: u64,
+}
+
+impl Write for Counter {
+    fn write(&mut self, buf: &[u8]) -> io::Result<usize> {
+        self.writes = self.writes.saturating_add(1);
+        Ok(buf.len())
+    }
+
+    fn flush(&mut self) -> io::Result<()> {
+        Ok(())
+    }
+}
+
+#[test]
+fn lines_at_hand_are_answered_by_one_write(rt: HostRuntime) -> Result<(), Fail> {
+    let mut reader = b"*IDN?\n*CLS\n*IDN?\n*OPC?\n".as_slice();
+    let mut writer = Counter { writes: 0 };
+    run_lines(rt.alloc(), &mut reader, &mut writer, None)?;
+    assert_eq!(rt; writer.writes, 1);
+    Ok(())
+}
+
 /// Fails by this cause.
 #[derive(Drop)]
 struct Failing {

@@ -1,18 +1,16 @@
-use Rattle.std.specs.Prelude.{◌≡◌, ℕ, List}
+use Rattle.std.specs.Prelude.{◌≡◌, ℕ, List, []}
 use Rattle.sw_macro.specs.Table.{no_macros}
 use Rattle.sw_session.specs.Talk.{state, turns}
 use Rattle.mainframe.specs.Turns.{stand, TakesTurns}
-use Rattle.mainframe.proofs.Runs.{Progress}
 use Rattle.mainframe.proofs.run.run_on.Given as goal
 
 abbrev pub invariant-loop-turns : goal.invariant-loop-turns
 invariant-loop-turns g l = record {
   sid : l.talker.sid ≡ l.fn.sid;
-  so_far : Progress l.fn.sid (state l.fn.desk no_macros) (g.S.Source.remaining l.fn.source) (g.S.Source.remaining l.source) (g.W.Write.contents l.fn.writer)
-      (g.W.Write.contents l.writer) (state l.desk l.talker.macros);
   in_turn : (lines : List (List ℕ))
-      × TakesTurns g.S.Source.remaining g.S.Source.asked g.W.Write.contents l.fn.sid (stand (state l.fn.desk no_macros) l.fn.source l.fn.writer turns)
-      lines (stand (state l.desk l.talker.macros) l.source l.writer l.turns);
+      × TakesTurns g.S.Source.remaining g.S.Source.asked g.S.Source.unasked g.W.Write.contents l.fn.sid
+      (stand (state l.fn.desk no_macros) l.fn.source l.fn.writer [] turns)
+      lines (stand (state l.desk l.talker.macros) l.source l.writer l.unwritten.items l.turns);
 }
 
 abbrev pub decreases-loop-turns : goal.decreases-loop-turns

@@ -1,0 +1,13 @@
+use Rattle.std.proofs.Common.{◌≡◌, ◌==◌, None, true, false, refl, arith}
+use Rattle.sw_core.specs.declared.ask.SessionAnswer.TheVariants.{Worn}
+use Rattle.sw_core.specs.Event.{last_number}
+use Rattle.sw_core.specs.View.{AskSession, SaysSession}
+use Rattle.sw_core.specs.Step.{acts_unnumbered}
+use Rattle.sw_core.proofs.Numbered.{worn_step}
+use Rattle.sw_core.proofs.machine.Core.ask.Goals as goal
+
+pub returns-then-not-session_acts_unnumbered : goal.returns-then-not-session_acts_unnumbered
+returns-then-not-session_acts_unnumbered g c =
+    let last : (c.args.self.now.events == last_number) ≡ true = grind arith in
+    let shut : acts_unnumbered (AskSession c.args.ask) ≡ false = grind arith in
+    worn_step c.args.self.now (AskSession c.args.ask) (SaysSession (Worn c.args.ask) None) last shut refl
