@@ -1,5 +1,6 @@
 -- Reading one line, of which no more is kept than a message may have.
-use Rattle.std.specs.Prelude.{◌≡◌, ◌≢◌, ℕ, ◌+◌, Bool, true, List, [], ◌++◌, All, length, take, drop, Option, Some, IfSome, Result, Ok, OnSome}
+use Rattle.std.specs.Prelude.{◌≡◌, ◌≢◌, ℕ, ◌+◌, Bool, true, List, [], ◌++◌, All, length, take, drop}
+use Rattle.std.specs.Prelude.{Option, Some, IfSome, Result, Ok, OnSome}
 use Rattle.std.specs.Io.{StopsAt, IsEmptyOrEndsWith}
 use Rattle.std.specs.Io.KnownBytes.{Consumes, IsAtEnd}
 use Rattle.std.specs.Io.BufRead.{take_through}

@@ -121,7 +121,8 @@ pub record AnswersAtHand {S W : Type 0} (remaining : S → Option (List ℕ)) (a
   pub keeps : Keeps (remaining last.source) (remaining b.source)
   pub same : b ≡ record last { source = b.source }
 
--- The same up to a fault: all answers are written but for the fault of a write, and nothing behind these lines is taken.
+-- The same up to a fault: all answers are written but for the fault of a write, and nothing behind these lines is
+-- taken.
 abbrev pub StopsBy : {W : Type 0} → (W → Option (List ℕ)) → RunFault → W → List ℕ → W → DeskSeen → Type 0
 StopsBy contents Input old bytes new desk = Appends (contents old) (contents new) bytes × IsInVain desk
 StopsBy contents Output old bytes new desk = WritesPart (contents old) (contents new) bytes

@@ -4,8 +4,9 @@
 //! `run::run_lines`: what is written is what the definition of a talk says of what was read, by the step relation of
 //! the core from its opening state. `mainframe check` says of a listing whether the program's cards may do its scan;
 //! its contract is that of `listing::check_listing`. `mainframe serve [--port P]` serves sessions over TCP, and its
-//! contract is that of `serving::serve_over`: how many connections it takes, and that it ends with every card open; what
-//! a connection's thread does is said by `serving::attend`.
+//! contract is that of `serving::serve_over`: how many connections it takes, and that it ends with every card open;
+//! what a connection's thread does is said by `serving::attend`.
+//!
 //! Nothing is promised of what a terminal or a network carries, nor of the texts of `clap`.
 #![tactic(auto)]
 

@@ -144,8 +144,8 @@ pub fn read_line<S: Source<W>, W>(
     Err(RunFault::Input)
 }
 
-/// Keeps the first line of the bytes, or its first `MOST_KEPT` bytes. Returns the line's length, or 0 where they have no
-/// whole line, or there is no memory for it.
+/// Keeps the first line of the bytes, or its first `MOST_KEPT` bytes. Returns the line's length, or 0 where they have
+/// no whole line, or there is no memory for it.
 fn keep_line(bytes: &[u8], line: &mut Vec<u8>) -> usize
     ensures bound { result ≤ length bytes.now }
     ensures line { 0 < result → KeepsFront bytes.now result line.new.items }

@@ -12,8 +12,8 @@ use sw_session::write_all;
 /// How many bytes of answers are kept at most before they are written.
 const MOST_UNWRITTEN: usize = 65_536;
 
-/// Keeps an answer behind those that are not written yet. Where they would be more than `MOST_UNWRITTEN` bytes, or there
-/// is no memory for that, all of them are written and handed on.
+/// Keeps an answer behind those that are not written yet. Where they would be more than `MOST_UNWRITTEN` bytes, or
+/// there is no memory for that, all of them are written and handed on.
 pub fn gather<W: Write>(
     writer: &mut W,
     unwritten: &mut Vec<u8>,

@@ -55,7 +55,8 @@ fn begin_turns(
     settings: &Settings,
 ) -> Result<u16, AllocError>
     requires short { length steps.old.items < 100 }
-    ensures steps { OnOk result (steps.new.items ≡ steps.old.items ++ (step.Set counter (layer_of settings.now name).count
+    ensures steps { OnOk result (steps.new.items ≡ steps.old.items
+        ++ (step.Set counter (layer_of settings.now name).count
         ∷ steps_of (map Awaits (head_of name (layer_of settings.now name))))) }
     ensures place { IfOk result (λ start. start ≡ length steps.old.items + 1) }
     ensures short { OnOk result (length steps.new.items ≤ length steps.old.items + 3) }

@@ -69,8 +69,8 @@ pub fn flags<R: Relay, M: Meter>(
     closed: bool,
     chans: &[Chan],
 ) -> Result<Sequence<u8>, AllocError>
-    ensures { IfOk result
-        (λ text. text ≡ join_with_byte 44 (map (λ c. flag_of (as_asked closed (is_closed cage.now.cards c))) chans.now)) }
+    ensures { IfOk result (λ text. text
+        ≡ join_with_byte 44 (map (λ c. flag_of (as_asked closed (is_closed cage.now.cards c))) chans.now)) }
 {
     let mut text = Vec::with_capacity(alloc, chans.len())?;
     for chan in chans {

@@ -23,8 +23,8 @@ channel_of bytes = Synchronous
 
 -- A connection is served from its first byte on, as the channel that its first header tells. The header is whole,
 -- unless the input ended or failed in it. A run that ends by a read fault has a read that failed; one that ends by a
--- write fault a write that failed, or else it is of the first channel, where there was no memory for what is left to the
--- second one.
+-- write fault a write that failed, or else it is of the first channel, where there was no memory for what is left to
+-- the second one.
 pub record ServesFromHeader {D : Type 0} (desk desk' : D) (passes : D → Entry → D → Type 0)
     (may_pause unread unwritten : Type 0) (turns : ℕ) (input left main main' : Option (List ℕ))
     (result : Result (Unit {0}) ServeFault) : Type 0 where
