@@ -15,9 +15,9 @@ use Rattle.sw_card.specs.Account.{Account}
 use Rattle.mainframe.specs.Cards.{Fitted, fitted}
 use Rattle.mainframe.specs.Run.{State, begins_over, IsSetUp, Line, Run, Runs, AnsweredFrom, PartFrom, CutFrom, EndsFrom}
 use Rattle.mainframe.specs.declared.fault.RunFault.{RunFault}
-use Rattle.mainframe.specs.declared.fault.RunFault.TheVariants.{Input, Output, Memory}
+use Rattle.mainframe.specs.declared.fault.RunFault.TheVariants.{Input, Output, Memory, Listen}
 use Rattle.mainframe.specs.Kept.{most_kept, CutsLine, ShowsLine, LosesFront}
-use Rattle.mainframe.specs.Turns.{Gathers, Stand, TakesTurns, AsksInTurn, StopsBy, StopsAtHand, AnswersAtHand, IsUnasked, IsInVain, stand}
+use Rattle.mainframe.specs.Turns.{Gathers, Stand, TakesTurns, AsksInTurn, StopsBy, StopsAtHand, AnswersAtHand, IsUnasked, IsInVain, IsOfReading, stand}
 use Rattle.mainframe.proofs.TurnLemmas.{gathers-none, gathers-more, gathers-written, gathers-part, reads-gathers, takes-append}
 use Rattle.mainframe.proofs.Lines.{lines_of-through}
 use Rattle.std.specs.Io.{StopsAt}
@@ -147,11 +147,12 @@ pub cuts-none : (r r' : Option (List ℕ)) → Keeps r r' → CutsLine r r'
 cuts-none r r' k = ([], Consumes-kept r r r' [] (Consumes-nil r) k, StopsAt-of_All [] 10 no_feeds)
 
 -- a fault of a read
-pub ends-cut : (sid : Sid) (start : State) (fault : RunFault) (r0 r c0 c : Option (List ℕ)) → fault ≢ Output
+pub ends-cut : (sid : Sid) (start : State) (fault : RunFault) (r0 r c0 c : Option (List ℕ)) → IsOfReading fault
     → IfSome r0 (λ input. CutFrom sid start input r c0 c) → IfSome r0 (λ input. EndsFrom sid start fault input r c0 c)
 ends-cut sid start Input r0 r c0 c read h = h
 ends-cut sid start Memory r0 r c0 c read h = h
-ends-cut sid start Output r0 r c0 c read h = absurd (read refl)
+ends-cut sid start Output r0 r c0 c read h = absurd read
+ends-cut sid start Listen r0 r c0 c read h = absurd read
 
 -- a line that was read, and after which work never ends
 stops_cons : (x : ℕ) (t : List ℕ) → x ≢ 10 → StopsAt t 10 → StopsAt (x ∷ t) 10
@@ -215,12 +216,14 @@ stops-so sid start Input r0 r r' c0 contents old new bytes desk p h k (w, vain) 
 stops-so sid start Output r0 r r' c0 contents old new bytes desk p h k w =
     progress-part sid start r0 r r' c0 (contents old) (contents new) bytes p h k w
 stops-so sid start Memory r0 r r' c0 contents old new bytes desk p h k w = absurd w
+stops-so sid start Listen r0 r r' c0 contents old new bytes desk p h k w = absurd w
 
 in-vain : {W : Type 0} (contents : W → Option (List ℕ)) (fault : RunFault) (old new : W) (bytes : List ℕ) (desk : DeskSeen)
     → StopsBy contents fault old bytes new desk → fault ≡ Input → IsInVain desk
 in-vain contents Input old new bytes desk (w, vain) is = vain
 in-vain contents Output old new bytes desk w is = absurd (cc (is))
 in-vain contents Memory old new bytes desk w is = absurd w
+in-vain contents Listen old new bytes desk w is = absurd w
 
 pub stops-ends : {S W : Type 0} (remaining : S → Option (List ℕ)) (asked : S → W → S → Type 0) (unasked : S → S → Type 0) (contents : W
     → Option (List ℕ)) (sid : Sid) (start : State) (first : S) (begun : W) (turns : ℕ) (b : Stand S W) (lines : List (List ℕ)) (fault : RunFault)

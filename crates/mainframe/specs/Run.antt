@@ -13,7 +13,7 @@ use Rattle.sw_session.specs.CoreDesk.{DeskSeen, CorePasses, Rests, desk_over}
 use Rattle.sw_session.specs.Talk.{state, Talked}
 use Rattle.sw_session.specs.Talk.{State as StateOver}
 use Rattle.mainframe.specs.declared.fault.RunFault.{RunFault}
-use Rattle.mainframe.specs.declared.fault.RunFault.TheVariants.{Input, Output, Memory}
+use Rattle.mainframe.specs.declared.fault.RunFault.TheVariants.{Input, Output, Memory, Listen}
 use Rattle.mainframe.specs.Cards.{Fitted}
 use Rattle.mainframe.specs.Lines.{lines_of}
 use Rattle.sw_session.specs.ServeWrite.{WritesPart}
@@ -97,6 +97,7 @@ abbrev pub EndsFrom : Sid → State → RunFault → List ℕ → Option (List �
 EndsFrom sid start Input input left old new = CutFrom sid start input left old new
 EndsFrom sid start Memory input left old new = CutFrom sid start input left old new
 EndsFrom sid start Output input left old new = PartFrom sid start input left old new
+EndsFrom sid start Listen input left old new = ⊥
 
 -- The whole input is answered by a mainframe of these cards.
 pub record Answered (cards : Fitted) (input : List ℕ) (old new : Option (List ℕ)) : Type 0 where

@@ -6,8 +6,15 @@ use Rattle.sw_core.specs.declared.ask.Sid.{Sid}
 use Rattle.sw_session.specs.CoreDesk.{DeskSeen, Rests}
 use Rattle.sw_session.specs.ServeWrite.{WritesPart}
 use Rattle.mainframe.specs.declared.fault.RunFault.{RunFault}
-use Rattle.mainframe.specs.declared.fault.RunFault.TheVariants.{Input, Output, Memory}
+use Rattle.mainframe.specs.declared.fault.RunFault.TheVariants.{Input, Output, Memory, Listen}
 use Rattle.mainframe.specs.Run.{State, Line}
+
+-- a read failed, or there was no memory for what was read
+abbrev pub IsOfReading : RunFault → Type 0
+IsOfReading Input = Unit {0}
+IsOfReading Memory = Unit {0}
+IsOfReading Output = ⊥
+IsOfReading Listen = ⊥
 
 -- how many bytes of answers are kept at most before they are written
 abbrev pub most_unwritten : ℕ
@@ -127,6 +134,7 @@ abbrev pub StopsBy : {W : Type 0} → (W → Option (List ℕ)) → RunFault →
 StopsBy contents Input old bytes new desk = Appends (contents old) (contents new) bytes × IsInVain desk
 StopsBy contents Output old bytes new desk = WritesPart (contents old) (contents new) bytes
 StopsBy contents Memory old bytes new desk = ⊥
+StopsBy contents Listen old bytes new desk = ⊥
 
 pub record StopsAtHand {S W : Type 0} (remaining : S → Option (List ℕ)) (asked : S → W → S → Type 0)
     (unasked : S → S → Type 0) (contents : W → Option (List ℕ)) (sid : Sid)

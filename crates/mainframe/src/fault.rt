@@ -4,9 +4,6 @@ ghost use Rattle.std.specs.Prelude.{◌≡◌};
 
 use thiserror::Error;
 
-/// The exit status of a program that a fault stops.
-const STATUS: u8 = 1;
-
 /// Why the program stops. Its text is the line on standard error.
 #[derive(Clone, Copy, Debug, PartialEq, Eq, Drop, Error)]
 pub enum RunFault {
@@ -19,6 +16,9 @@ pub enum RunFault {
     /// There was no memory for the words of the command line, the cage or a line.
     #[error("mainframe: out of memory")]
     Memory,
+    /// The port can't be listened on.
+    #[error("mainframe: cannot listen")]
+    Listen,
 }
 
 impl RunFault {
@@ -26,23 +26,6 @@ impl RunFault {
     pub fn status(self) -> u8
         ensures { result ≡ 1 }
     {
-        STATUS
-    }
-}
-
-/// Why nothing is served. Its text is the line on standard error.
-#[derive(Clone, Copy, Debug, PartialEq, Eq, Drop, Error)]
-pub enum ListenFault {
-    /// The port can't be listened on.
-    #[error("mainframe: cannot listen")]
-    Port,
-}
-
-impl ListenFault {
-    /// The program's exit status after it.
-    pub fn status(self) -> u8
-        ensures { result ≡ 1 }
-    {
-        STATUS
+        1
     }
 }

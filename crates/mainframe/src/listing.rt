@@ -1,6 +1,6 @@
 //! Checking a listing: whether the program's cards may do the scan that it lists.
 
-ghost use Rattle.std.specs.Prelude.{◌≡◌, ◌≢◌, true, false, if◌then◌else◌, IfOk, IfErr, IfSome, OnOk, Ok, Err};
+ghost use Rattle.std.specs.Prelude.{◌≡◌, ◌≢◌, ◌⊎◌, true, false, if◌then◌else◌, IfOk, IfErr, IfSome, OnOk, Ok, Err};
 ghost use Rattle.std.specs.Prelude.{string_bytes};
 ghost use Rattle.std.specs.Io.KnownBytes.{IsAtEnd, Keeps};
 ghost use Rattle.sw_base.specs.Limits.{most_points};
@@ -8,6 +8,7 @@ ghost use Rattle.sw_code.specs.Reading.{code_in};
 ghost use Rattle.sw_verify.specs.Channels.{is_among};
 ghost use Rattle.sw_verify.specs.Judged.{IsVerified};
 ghost use Rattle.mainframe.specs.Listings.{program_layout, fault_name, refusal_name, Says, IsChecked, IsPartlyChecked};
+ghost use Rattle.mainframe.specs.Turns.{IsOfReading};
 ghost use Rattle.mainframe.specs.Listings.{accepted_line, refused_line, faulty_line};
 
 use crate::explanation::{explain, explain_fault};
@@ -47,6 +48,7 @@ pub fn check_listing<Rd: Read, W: Write>(
     ensures ok { IfOk result (λ checked. IfSome (Rd.remaining reader.old) (λ text.
         IsChecked checked.accepted text (W.contents writer.old) (W.contents writer.new))) }
     ensures all { OnOk result (IsAtEnd (Rd.remaining reader.new)) }
+    ensures fault { IfErr result (λ fault. IsOfReading fault ⊎ (fault ≡ RunFault.Output)) }
     ensures unwritten { IfErr result (λ fault. fault ≢ RunFault.Output
         → Keeps (W.contents writer.old) (W.contents writer.new)) }
     ensures partly { result ≡ Err RunFault.Output → IfSome (Rd.remaining reader.old) (λ text.
@@ -69,7 +71,7 @@ pub fn checked_status(accepted: bool) -> u8
 fn read_all<Rd: Read>(alloc: Global, reader: &mut Rd) -> Result<Vec<u8>, RunFault>
     ensures text { IfOk result (λ read. IfSome (Rd.remaining reader.old) (λ text. read.items ≡ text)) }
     ensures all { OnOk result (IsAtEnd (Rd.remaining reader.new)) }
-    ensures fault { IfErr result (λ fault. fault ≢ RunFault.Output) }
+    ensures fault { IfErr result IsOfReading }
 {
     let mut text = Vec::new(alloc);
     match reader.read_to_end(&mut text) {

@@ -29,7 +29,7 @@ mod writing;
 use clap::Error;
 use clap::error::ErrorKind;
 use command_line::{Order, parse_words, unrun_status};
-use fault::{ListenFault, RunFault};
+use fault::RunFault;
 use listing::{check_listing, checked_status};
 use run::run_lines;
 use serving::serve_on;
@@ -97,7 +97,7 @@ fn serve_port<
         + 'static,
 >(rt: W, alloc: Global, port: u16) -> ExitCode {
     let Ok(listener) = TcpListener::bind(&rt, (Ipv4Addr::LOCALHOST, port)) else {
-        return unheard(&rt, ListenFault::Port);
+        return stopped(&rt, RunFault::Listen);
     };
     let _ = eprintln!(rt; "mainframe: listening on 127.0.0.1:{port}");
     match serve_on(rt, alloc, &listener, u32::MAX) {
@@ -108,12 +108,6 @@ fn serve_port<
 
 /// One line on standard error, and the fault's status.
 fn stopped(rt: &impl Eprint, fault: RunFault) -> ExitCode {
-    let _ = eprintln!(rt; "{fault}");
-    ExitCode::from(fault.status())
-}
-
-/// One line on standard error where nothing is served, and the fault's status.
-fn unheard(rt: &impl Eprint, fault: ListenFault) -> ExitCode {
     let _ = eprintln!(rt; "{fault}");
     ExitCode::from(fault.status())
 }

@@ -3,7 +3,7 @@
 ghost use Rattle.std.specs.Prelude.{◌≡◌, ◌≢◌, ◌<◌, ◌≤◌, ◌-◌, All, length, take, OnOk, OnErr, IfErr, IfSome};
 ghost use Rattle.std.specs.Io.BufRead.{take_through, DropsThrough};
 ghost use Rattle.mainframe.specs.Kept.{most_kept, CutsLine, KeepsFront};
-ghost use Rattle.mainframe.specs.Turns.{Spends, FailsAfter};
+ghost use Rattle.mainframe.specs.Turns.{Spends, FailsAfter, IsOfReading};
 
 use crate::fault::RunFault;
 use std::io::{BufRead, ErrorKind};
@@ -14,9 +14,10 @@ const MOST_KEPT: usize = MESSAGE_BYTES + 2;
 
 /// What lines are read from, in sight of what was written by then.
 pub trait Source<W> {
-    ghost use Rattle.std.specs.Prelude.{◌≡◌, ◌≢◌, ◌≤◌, ◌<◌, ℕ, List, Option, length, IfErr, IfSome, Err};
+    ghost use Rattle.std.specs.Prelude.{◌≡◌, ◌≤◌, ◌<◌, ℕ, List, Option, length, IfErr, IfSome, Err};
     ghost use Rattle.std.specs.Io.KnownBytes.{Keeps};
     ghost use Rattle.mainframe.specs.Kept.{most_kept, TakesPart, ShowsLine, LosesFront};
+    ghost use Rattle.mainframe.specs.Turns.{IsOfReading};
 
     /// The bytes that are left to be read, where they are known.
     ghost remaining: { Self → Option (List ℕ) };
@@ -44,7 +45,7 @@ pub trait Source<W> {
         requires { length line.old.items ≤ most_kept }
         ensures asked { asked self.old written.now self.new }
         ensures part { TakesPart (remaining self.old) (remaining self.new) line.old.items line.new.items result }
-        ensures fault { IfErr result (λ fault. fault ≢ RunFault.Output) }
+        ensures fault { IfErr result IsOfReading }
         ensures failed { result ≡ Err RunFault.Input → failed self.old self.new };
 
     /// Looks at no more than so many bytes that are at hand, and keeps the first line of them, or its first
@@ -131,7 +132,7 @@ pub fn read_line<S: Source<W>, W>(
     ensures cut { OnErr result (CutsLine (S.remaining source.old) (S.remaining source.new)) }
     ensures turns { Spends S.asked source.old written.now turns.old turns.new source.new }
     ensures spent { OnOk result (turns.new < turns.old) }
-    ensures fault { IfErr result (λ fault. fault ≢ RunFault.Output) }
+    ensures fault { IfErr result IsOfReading }
     ensures cause { result ≡ Err RunFault.Input → FailsAfter S.failed turns.new source.new }
 {
     line.clear();

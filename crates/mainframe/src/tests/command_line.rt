@@ -1,7 +1,7 @@
 //! The words of the command line, the fault lines and the exit statuses.
 
 use crate::command_line::{Order, parse_words, unrun_status};
-use crate::fault::{ListenFault, RunFault};
+use crate::fault::RunFault;
 use clap::error::ErrorKind;
 use std::alloc::Global;
 use std::process::Abort;
@@ -92,14 +92,6 @@ fn help_and_version(rt: HostRuntime) -> Result<(), Fail> {
     Ok(())
 }
 
-#[test]
-fn a_port_that_is_in_use(rt: HostRuntime) -> Result<(), Fail> {
-    let line = ListenFault::Port.to_string(rt.alloc())?;
-    assert_eq!(rt; line.as_str(), "mainframe: cannot listen");
-    assert_eq!(rt; ListenFault::Port.status(), 1);
-    Ok(())
-}
-
 /// The line and the status of a fault.
 fn check_fault(rt: &impl Abort, alloc: Global, fault: RunFault, text: &str) -> Result<(), Fail> {
     let line = fault.to_string(alloc)?;
@@ -122,5 +114,11 @@ fn faults_have_a_line_and_a_status(rt: HostRuntime) -> Result<(), Fail> {
         rt.alloc(),
         RunFault::Memory,
         "mainframe: out of memory",
+    )?;
+    check_fault(
+        &rt,
+        rt.alloc(),
+        RunFault::Listen,
+        "mainframe: cannot listen",
     )
 }

@@ -197,7 +197,7 @@ returns-then-not-rest-clause-err g c =
     c.answer_at_hand.new.unwritten.items (state c.answer_at_hand.new.desk c.answer_at_hand.new.talker.macros) hand.4
     (progress-turns g.S.Source.remaining g.S.Source.asked g.S.Source.unasked g.W.Write.contents c.args.sid start last hand.1 hand.2) in
     ends-cut c.args.sid (state c.args.desk.now no_macros) Input (g.S.Source.remaining c.args.source.now) (g.S.Source.remaining c.read_line.new.source)
-    (g.W.Write.contents c.args.writer.now) (g.W.Write.contents c.write_out.new.writer) (λ e. absurd (cc (e)))
+    (g.W.Write.contents c.args.writer.now) (g.W.Write.contents c.write_out.new.writer) tt
     (progress-cut _ _ _ _ _ _ _ _ _ _ so_far c.in_default-write_out.ensures.ok (cuts-line _ _ c.in_default-read_line.ensures.rest))
 
 pub returns-then-not-rest-clause-turns : goal.returns-then-not-rest-clause-turns
@@ -373,7 +373,7 @@ returns-clause-err g c =
     let start = stand (state c.args.desk.now no_macros) c.args.source.now c.args.writer.now [] turns in
     let now = stand (state c.loop-turns.desk c.loop-turns.talker.macros) c.loop-turns.source c.loop-turns.writer c.loop-turns.unwritten.items c.loop-turns.turns in
     ends-cut c.args.sid (state c.args.desk.now no_macros) Input (g.S.Source.remaining c.args.source.now) (g.S.Source.remaining c.loop-turns.source)
-    (g.W.Write.contents c.args.writer.now) _ (λ e. absurd (cc (e)))
+    (g.W.Write.contents c.args.writer.now) _ tt
     (progress-cut c.args.sid (state c.args.desk.now no_macros) (g.S.Source.remaining c.args.source.now) (g.S.Source.remaining c.loop-turns.source)
     (g.S.Source.remaining c.loop-turns.source) (g.W.Write.contents c.args.writer.now) (g.W.Write.contents c.loop-turns.writer) _
     c.loop-turns.unwritten.items (state c.loop-turns.desk c.loop-turns.talker.macros)
