@@ -11,7 +11,7 @@
 RT ?= rt
 export RT
 
-.PHONY: try try-serve run serve test wrong check talks bench
+.PHONY: try try-serve run serve test wrong check talks bench bench-serve soak
 
 try:
 	@cd crates/mainframe && $(RT) try -- run
@@ -41,7 +41,6 @@ talks:
 bench:
 	@bench/run $(NAME)
 
-.PHONY: bench-serve soak
 
 bench-serve:
 	@bench/serve crates/mainframe/out/mainframe
