@@ -41,7 +41,6 @@ talks:
 bench:
 	@bench/run $(NAME)
 
-
 bench-serve:
 	@bench/serve crates/mainframe/out/mainframe
 	@bench/status crates/mainframe/out/mainframe

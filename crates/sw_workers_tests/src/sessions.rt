@@ -158,12 +158,13 @@ impl Play {
     }
 }
 
-/// A lock holds the other session's query, and its request for the lock, until it is freed.
+/// A lock holds the other session's query, and its request for the lock, until it is freed. Its status is told at once.
 fn locks_out<W: Wait + Clock + Copy + Drop>(one: &Client<W>, other: &Client<W>) -> bool {
     one.begins(1)
         && other.begins(2)
         && one.second.tells(LOCK, LOCKED)
         && other.first.sends(CLOSED_QUERY)
+        && other.second.tells(STATUS, &status(0))
         && other.second.sends(LOCK_LATER)
         && one.first.tells(CLOSE, ONE)
         && other.first.is_silent()
@@ -173,7 +174,7 @@ fn locks_out<W: Wait + Clock + Copy + Drop>(one: &Client<W>, other: &Client<W>) 
         && other.first.receives(ONE)
 }
 
-/// A service request is told to both sessions, at a pause.
+/// A service request is told to both sessions, at a pause. The first status query tells of it, the next one doesn't.
 fn asks_for_service<W: Wait + Clock + Copy + Drop>(one: &Client<W>, other: &Client<W>) -> bool {
     one.begins(1)
         && other.begins(2)
@@ -181,6 +182,8 @@ fn asks_for_service<W: Wait + Clock + Copy + Drop>(one: &Client<W>, other: &Clie
         && one.second.receives(SERVICE_REQUEST)
         && other.second.receives(SERVICE_REQUEST)
         && one.second.is_silent()
+        && one.second.tells(STATUS, &status(68))
+        && one.second.tells(STATUS, &status(4))
 }
 
 /// A client with the lock goes away within a message, and the next one has its number and nothing else of it.

@@ -36,6 +36,24 @@ const TOLD_IN_PARTS: &[u8] =
     b"HS\x06\x00\xff\xff\xff\x02\x00\x00\x00\x00\x00\x00\x00\x10OPENBENCH,SWM8,0\
     HS\x07\x00\xff\xff\xff\x02\x00\x00\x00\x00\x00\x00\x00\x05,1.0\n";
 
+/// `*IDN?` from whom has not told that it read the answer; what both connections tell of that, and the answer.
+const ASKED_UNREAD: &[u8] = b"HS\x07\x00\xff\xff\xff\x04\x00\x00\x00\x00\x00\x00\x00\x06*IDN?\n";
+
+const INTERRUPTED: &[u8] = b"HS\x0d\x00\xff\xff\xff\x04\x00\x00\x00\x00\x00\x00\x00\x00";
+
+const INTERRUPTED_ASIDE: &[u8] = b"HS\x0e\x00\xff\xff\xff\x04\x00\x00\x00\x00\x00\x00\x00\x00";
+
+const TOLD_ALL_THE_SAME: &[u8] =
+    b"HS\x06\x00\xff\xff\xff\x04\x00\x00\x00\x00\x00\x00\x00\x10OPENBENCH,SWM8,0\
+    HS\x07\x00\xff\xff\xff\x04\x00\x00\x00\x00\x00\x00\x00\x05,1.0\n";
+
+/// `SYST:ERR?` from whom has read that answer, and what it is told.
+const ASKED_WHY: &[u8] = b"HS\x07\x01\xff\xff\xff\x06\x00\x00\x00\x00\x00\x00\x00\x0aSYST:ERR?\n";
+
+const TOLD_WHY: &[u8] =
+    b"HS\x06\x00\xff\xff\xff\x06\x00\x00\x00\x00\x00\x00\x00\x10-410,\"Query INTE\
+    HS\x07\x00\xff\xff\xff\x06\x00\x00\x00\x00\x00\x00\x00\x09RRUPTED\"\n";
+
 /// AsyncStatusQuery, and its answer while a message is available.
 const STATUS: &[u8] = b"HS\x15\x00\x00\x00\x00\x00\x00\x00\x00\x00\x00\x00\x00\x00";
 
@@ -71,6 +89,14 @@ fn leaves(stream: &mut TcpStream) -> bool {
     stream.shutdown(Shutdown::Write).is_ok() && matches!(stream.read(&mut rest), Ok(0))
 }
 
+/// Whether a query is told to have interrupted the answer before it, on both connections, and is answered.
+fn is_interrupted(first: &mut TcpStream, second: &mut TcpStream) -> bool {
+    answers(first, ASKED_UNREAD, INTERRUPTED)
+        && answers(first, &[], TOLD_ALL_THE_SAME)
+        && answers(second, &[], INTERRUPTED_ASIDE)
+        && answers(first, ASKED_WHY, TOLD_WHY)
+}
+
 /// Whether a session's two connections are answered.
 fn converses<R: Net<Stream = TcpStream>>(rt: &R, addr: SocketAddr) -> bool {
     let Ok(mut first) = TcpStream::connect(rt, addr) else {
@@ -85,6 +111,8 @@ fn converses<R: Net<Stream = TcpStream>>(rt: &R, addr: SocketAddr) -> bool {
         && answers(&mut second, SMALL, LARGEST)
         && tells_of_a_message(&mut second)
         && answers(&mut first, ASKED_AGAIN, TOLD_IN_PARTS)
+        && tells_of_a_message(&mut second)
+        && is_interrupted(&mut first, &mut second)
         && leaves(&mut first)
         && leaves(&mut second)
 }
