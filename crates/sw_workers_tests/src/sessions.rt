@@ -84,6 +84,18 @@ impl<W: Wait + Clock + Copy + Drop> Client<W> {
     }
 }
 
+impl<W: Wait + Clock + Copy + Drop> Client<W> {
+    /// A query that is held is given up by a device clear, and nothing comes of it; the scan that it waits for stays.
+    fn clears_what_is_held(&self) -> bool {
+        self.begins(1)
+            && self.first.sends(HELD)
+            && self.first.is_silent()
+            && self.second.tells(CLEAR, CLEARING)
+            && self.first.tells(CLEAR_COMPLETE, CLEARED)
+            && self.first.tells(CONDITION, WAITS_FOR_TRIGGER)
+    }
+}
+
 /// Interrupted and AsyncInterrupted with the parameter of the query.
 const INTERRUPTED: &[u8] = b"HS\x0d\x00\xff\xff\xff\x00\x00\x00\x00\x00\x00\x00\x00\x00";
 
@@ -110,6 +122,24 @@ const CLOSE: &[u8] =
     b"HS\x07\x00\xff\xff\xff\x00\x00\x00\x00\x00\x00\x00\x00\x17ROUT:CLOS (@1!1);*OPC?\n";
 
 const ONE: &[u8] = b"HS\x07\x00\xff\xff\xff\x00\x00\x00\x00\x00\x00\x00\x00\x021\n";
+
+const ZERO: &[u8] = b"HS\x07\x00\xff\xff\xff\x00\x00\x00\x00\x00\x00\x00\x00\x020\n";
+
+/// A scan that waits for the bus, and a query that waits for its end.
+const HELD: &[u8] = b"HS\x07\x00\xff\xff\xff\x00\x00\x00\x00\x00\x00\x00\x00\x2c\
+    ROUT:SCAN (@1!1);:TRIG:SOUR BUS;:INIT;*OPC?\n";
+
+/// The query for what a scan waits for, and its answer where that is a trigger.
+const CONDITION: &[u8] =
+    b"HS\x07\x00\xff\xff\xff\x00\x00\x00\x00\x00\x00\x00\x00\x10STAT:OPER:COND?\n";
+
+const WAITS_FOR_TRIGGER: &[u8] = b"HS\x07\x00\xff\xff\xff\x00\x00\x00\x00\x00\x00\x00\x00\x0332\n";
+
+/// Data with a command that would close a channel, and AsyncLock for the lock that sessions with the key `k` share.
+const BEGUN_CLOSING: &[u8] =
+    b"HS\x06\x00\xff\xff\xff\x00\x00\x00\x00\x00\x00\x00\x00\x11ROUT:CLOS (@1!1);";
+
+const LOCK_WITH_OTHERS: &[u8] = b"HS\x04\x01\x00\x00\x00\x00\x00\x00\x00\x00\x00\x00\x00\x01k";
 
 /// AsyncLock for the exclusive lock, within no time and within 60 seconds; its release; and the answer that it was
 /// granted or freed.
@@ -141,6 +171,9 @@ pub enum Play {
     Service,
     Vanishes,
     LeavesAside,
+    Breaks,
+    ClearsHeld,
+    LeavesPart,
 }
 
 impl Play {
@@ -154,6 +187,9 @@ impl Play {
             Play::Service => asks_for_service(one, other),
             Play::Vanishes => vanishes(one, other),
             Play::LeavesAside => leaves_aside(one, other),
+            Play::Breaks => breaks_with_the_lock(one, other),
+            Play::ClearsHeld => one.clears_what_is_held(),
+            Play::LeavesPart => leaves_a_part(one, other),
         }
     }
 }
@@ -203,6 +239,33 @@ fn vanishes<W: Wait + Clock + Copy + Drop>(one: &Client<W>, other: &Client<W>) -
         && other.second.tells(LOCK_INFO, UNLOCKED)
         && other.second.tells(STATUS, &status(0))
         && other.first.tells(IDENTITY, IDENTIFIED)
+}
+
+/// A session with the lock whose connection fails holds nobody up.
+fn breaks_with_the_lock<W: Wait + Clock + Copy + Drop>(one: &Client<W>, other: &Client<W>) -> bool {
+    let is_held = one.begins(1)
+        && other.begins(2)
+        && one.second.tells(LOCK, LOCKED)
+        && other.first.sends(CLOSED_QUERY)
+        && other.first.is_silent();
+    one.first.breaks();
+    is_held && other.first.receives(ZERO)
+}
+
+/// A session that leaves within a program message, with a lock that others may share, has done and keeps nothing.
+fn leaves_a_part<W: Wait + Clock + Copy + Drop>(one: &Client<W>, other: &Client<W>) -> bool {
+    let is_gone = one.begins(1)
+        && one.second.tells(LOCK_WITH_OTHERS, LOCKED)
+        && one.first.sends(BEGUN_CLOSING)
+        && one.first.is_silent();
+    one.first.close();
+    one.second.close();
+    is_gone
+        && one.first.ends()
+        && one.second.ends()
+        && other.begins(1)
+        && other.second.tells(LOCK_INFO, UNLOCKED)
+        && other.first.tells(CLOSED_QUERY, ZERO)
 }
 
 /// What is left to a second channel that doesn't come to write it never reaches the next session of the number.
@@ -367,4 +430,19 @@ fn a_client_that_vanishes_leaves_nothing_to_the_next(rt: HostRuntime) {
 #[test]
 fn what_was_left_aside_never_reaches_the_next_session(rt: HostRuntime) {
     assert!(rt; plays(rt, rt.alloc(), Play::LeavesAside));
+}
+
+#[test]
+fn a_lock_is_freed_where_its_session_fails(rt: HostRuntime) {
+    assert!(rt; plays(rt, rt.alloc(), Play::Breaks));
+}
+
+#[test]
+fn a_device_clear_gives_up_what_is_held(rt: HostRuntime) {
+    assert!(rt; plays(rt, rt.alloc(), Play::ClearsHeld));
+}
+
+#[test]
+fn a_session_that_leaves_within_a_message_has_done_nothing(rt: HostRuntime) {
+    assert!(rt; plays(rt, rt.alloc(), Play::LeavesPart));
 }

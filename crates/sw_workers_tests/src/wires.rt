@@ -23,6 +23,8 @@ pub struct Wire {
     /// A read waits.
     waits: AtomicBool,
     ended: AtomicBool,
+    /// Each read fails from now on.
+    broken: AtomicBool,
 }
 
 pub type SharedWire = Arc<Wire, Global>;
@@ -37,6 +39,7 @@ impl Wire {
             stopped: AtomicBool::new(false),
             waits: AtomicBool::new(false),
             ended: AtomicBool::new(false),
+            broken: AtomicBool::new(false),
         };
         Ok(Arc::new(alloc, wire)?)
     }
@@ -87,6 +90,9 @@ impl<W: Wait + Clock + Copy + Drop> Read for Incoming<W> {
         for _ in 0..PATIENCE {
             if self.wire.is_held(&self.rt) {
                 return Err(io::Error::from(ErrorKind::WouldBlock));
+            }
+            if self.wire.broken.load(Ordering::SeqCst) {
+                return Err(io::Error::from(ErrorKind::ConnectionReset));
             }
             if let Some(n) = self.look(buffer) {
                 return Ok(n.min(buffer.len()));
@@ -162,6 +168,11 @@ impl<W: Wait + Clock + Copy + Drop> End<W> {
     /// Nothing more is sent.
     pub fn close(&self) {
         self.wire.closed.store(true, Ordering::SeqCst);
+    }
+
+    /// Each read of the server fails from now on.
+    pub fn breaks(&self) {
+        self.wire.broken.store(true, Ordering::SeqCst);
     }
 
     /// Whether the server comes to an end, within so many turns.
