@@ -16,6 +16,8 @@ mod cages;
 #[cfg(test)]
 mod hostile;
 #[cfg(test)]
+mod hostile_memory;
+#[cfg(test)]
 mod scans;
 #[cfg(test)]
 mod session;

@@ -155,7 +155,7 @@ fn fourteen_happenings_end_the_scan(rt: HostRuntime) -> Result<(), Fail> {
 }
 
 /// Whether a running scan keeps its meter out, and slot 2 takes no other card, which is handed back.
-fn keeps_its_cards<R: Relay, M: Meter>(alloc: Global, core: &mut Core<R, M>, other: R) -> bool {
+pub fn keeps_its_cards<R: Relay, M: Meter>(alloc: Global, core: &mut Core<R, M>, other: R) -> bool {
     match refused_card(alloc, core, 2, Card::relays(other)) {
         Some((refusal, back)) => {
             let is_back = refusal == InstallRefusal::Busy && back.serial() == 7;
@@ -193,7 +193,11 @@ fn leaves<R: Relay, M: Meter>(alloc: Global, core: &mut Core<R, M>, sid: Sid) ->
 }
 
 /// Begins a scan of 1!1 while 2!1 is closed, and gives its first measurement.
-fn measuring<R: Relay, M: Meter>(alloc: Global, core: &mut Core<R, M>, sid: Sid) -> Option<Job<M>> {
+pub fn measuring<R: Relay, M: Meter>(
+    alloc: Global,
+    core: &mut Core<R, M>,
+    sid: Sid,
+) -> Option<Job<M>> {
     if !does(alloc, core, sid, b"ROUT:SCAN (@1!1)")
         || !does(alloc, core, sid, b"ROUT:CLOS (@2!1)")
     {
