@@ -60,7 +60,7 @@ const STATUS: &[u8] = b"HS\x15\x00\x00\x00\x00\x00\x00\x00\x00\x00\x00\x00\x00\x
 const AVAILABLE: &[u8] = b"HS\x16\x10\x00\x00\x00\x00\x00\x00\x00\x00\x00\x00\x00\x00";
 
 /// How often the status is asked for.
-const TRIES: u32 = 1_000;
+const TRIES: u32 = 100_000;
 
 /// Whether these bytes are answered by those.
 fn answers(stream: &mut TcpStream, asked: &[u8], told: &[u8]) -> bool {
