@@ -30,7 +30,7 @@ test:
 	@./gate
 
 wrong:
-	@wrong/try --all
+	@wrong/libraries && wrong/try --all
 
 check:
 	@cd crates/$(CRATE) && $(RT) check
