@@ -1,6 +1,6 @@
 -- A command that is carried out is done or refused.
-use Rattle.std.proofs.Common.{◌≡◌, Bool, true, false, List, [], ◌∷◌, Option, None, Some, sym, subst}
-use Rattle.std.specs.Prelude.{MatchBool}
+use Rattle.std.proofs.Common.{◌≡◌, Bool, true, false, List, [], ◌∷◌, Option, None, Some, sym, ap, ◌∙◌, subst}
+use Rattle.std.specs.Prelude.{MatchBool, if◌then◌else◌}
 use Rattle.sw_base.specs.declared.error.ScpiError.{ScpiError}
 use Rattle.sw_base.specs.declared.error.ScpiError.TheVariants.{SettingsConflict}
 use Rattle.sw_base.specs.declared.reading.Reading.{Reading}
@@ -16,7 +16,7 @@ use Rattle.sw_core.specs.Panel.{Panel, is_running}
 use Rattle.sw_core.specs.Sessions.{IsJoined}
 use Rattle.sw_core.specs.View.{WorkView}
 use Rattle.sw_core.specs.Step.{StepRefused, StepReadings, StepAlone, StepEffect, StepHeld, StepAction, session_told, StepJoined, StepAdmitted, StepSession}
-use Rattle.sw_core.specs.Step.{drops, shuts_out}
+use Rattle.sw_core.specs.Step.{Admission, Dropped, ShutOut, Admitted, drops, shuts_out, admission}
 
 -- done, or refused
 abbrev pub IsAnswered : SessionAnswer → Type 0
@@ -109,10 +109,14 @@ pub admitted : (p : Panel) (sid : Sid) (ask : SessionAsk) (f : Bool) (a : Sessio
     → drops p sid ask ≡ false → shuts_out p sid ask ≡ false → StepJoined p ask f a w q → StepSession (Some sid) p ask f a w q
 admitted p sid ask f a w q joined d o h = by_answer a w h
   where
-    clear : (a : SessionAnswer) (w : Option WorkView) → StepJoined p ask f a w q → StepAdmitted (drops p sid ask) (shuts_out p sid ask) p ask f a w q
+    goes_on : admission p sid ask ≡ Admitted
+    goes_on =
+        ap (λ (b : Bool). if b then Dropped else if shuts_out p sid ask then ShutOut else Admitted) d
+        ∙ ap (λ (b : Bool). if b then ShutOut else Admitted) o
+
+    clear : (a : SessionAnswer) (w : Option WorkView) → StepJoined p ask f a w q → StepAdmitted (admission p sid ask) p ask f a w q
     clear a w h =
-        subst (λ (x : Bool). StepAdmitted x (shuts_out p sid ask) p ask f a w q) (sym d)
-        (subst (λ (x : Bool). StepAdmitted false x p ask f a w q) (sym o) h)
+        subst (λ (x : Admission). StepAdmitted x p ask f a w q) (sym goes_on) h
 
     by_answer : (a : SessionAnswer) (w : Option WorkView) → StepJoined p ask f a w q → StepSession (Some sid) p ask f a w q
     by_answer Stranger None h = absurd (known p ask f q h)

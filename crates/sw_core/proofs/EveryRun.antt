@@ -18,7 +18,8 @@ use Rattle.sw_core.specs.Panel.{Panel, opening_at}
 use Rattle.sw_core.specs.View.{AskView, AskSession, AskInstall, AskEject, AskExternal, AskElapsed, AskFinished, AnswerView, SaysSession}
 use Rattle.sw_core.specs.View.{SaysFailed, failed_in, IsOwnAccount, with_meter}
 use Rattle.sw_core.specs.Event.{last_number}
-use Rattle.sw_core.specs.Step.{Step, StepAdmitted, IsEvent, IsUnnumbered, acts_unnumbered, drops, shuts_out}
+use Rattle.sw_core.specs.Step.{Step, StepAdmitted, IsEvent, IsUnnumbered, acts_unnumbered}
+use Rattle.sw_core.specs.Step.{Admission, Dropped, ShutOut, Admitted, admission}
 use Rattle.sw_core.specs.Good.{IsGoodPanel, StaysGood}
 use Rattle.sw_core.specs.Run.{Event, IsNext, IsRun, AtEach, TellsBound, tells_failure, HasFailed, AddsOwn, IsGoodEvent, EveryRunIsGood}
 use Rattle.sw_core.specs.Ends.{begins}
@@ -46,11 +47,11 @@ stays_good = record { opening = good_opening; step = good_step }
 
 -- ---- the bound that is told
 
-bound_admitted : (b o : Bool) (p : Panel) (sid : Sid) (available f : Bool) (text : List ℕ) (q : Panel)
-    → StepAdmitted b o p (Ask.Unit sid command.BoundQuery available) f (Done (Some text)) None q → text ≡ decimal (bound_of q.settings)
-bound_admitted true o p sid available f text q h = absurd h
-bound_admitted false true p sid available f text q h = absurd h
-bound_admitted false false p sid available f text q h = h.0.1 ∙ ap (λ (s : Setup). decimal (bound_of s)) (sym (ap (λ (x : Panel). x.settings) h.0.2))
+bound_admitted : (now : Admission) (p : Panel) (sid : Sid) (available f : Bool) (text : List ℕ) (q : Panel)
+    → StepAdmitted now p (Ask.Unit sid command.BoundQuery available) f (Done (Some text)) None q → text ≡ decimal (bound_of q.settings)
+bound_admitted Dropped p sid available f text q h = absurd h
+bound_admitted ShutOut p sid available f text q h = absurd h
+bound_admitted Admitted p sid available f text q h = h.0.1 ∙ ap (λ (s : Setup). decimal (bound_of s)) (sym (ap (λ (x : Panel). x.settings) h.0.2))
 
 bound_either : (b : Bool) (p : Panel) (sid : Sid) (available f : Bool) (text : List ℕ) (q : Panel)
     → MatchBool b (IsUnnumbered p (AskSession (Ask.Unit sid command.BoundQuery available)) f (SaysSession (Done (Some text)) None) q)
@@ -58,7 +59,7 @@ bound_either : (b : Bool) (p : Panel) (sid : Sid) (available f : Bool) (text : L
 bound_either true p sid available f text q h = absurd h.worn
 bound_either false p sid available f text q h =
     let ask = Ask.Unit sid command.BoundQuery available in
-    bound_admitted (drops p sid ask) (shuts_out p sid ask) p sid available f text h.done h.acts.1
+    bound_admitted (admission p sid ask) p sid available f text h.done h.acts.1
     ∙ ap (λ (s : Setup). decimal (bound_of s)) (sym (ap (λ (x : Panel). x.settings) h.after))
 
 bound_step : (p q : Panel) (ask : AskView) (f : Bool) (answer : AnswerView) (sid : Sid) (available : Bool) (text : List ℕ)

@@ -42,7 +42,8 @@ use Rattle.sw_core.specs.View.{SaysInstalled, SaysNotInstalled, SaysEjected, Say
 use Rattle.sw_core.specs.Step.{IsFailSafe, FailsSafe, StepClose, StepOpen, StepFlags, StepText, StepDone, StepSetting, StepRefused, StepReadings, StepAlone}
 use Rattle.sw_core.specs.Step.{Happens, StepHappens, StepEffect, StepHeld, StepAction, StepSnapshot, IsStarted, Starts, StepStart, IsServed, StepJoined}
 use Rattle.sw_core.specs.Step.{session_told, work_of, started_answer, outside_told, acts_unnumbered, IsEvent, IsUnnumbered, Step}
-use Rattle.sw_core.specs.Step.{StepAdmitted, drops, shuts_out, StepNew, StepJoin, StepAttach, StepSession, StepOutside, Returns, IsReturned, StepFinished, Acts}
+use Rattle.sw_core.specs.Step.{StepAdmitted, StepNew, StepJoin, StepAttach, StepSession, StepOutside, Returns, IsReturned, StepFinished, Acts}
+use Rattle.sw_core.specs.Step.{Admission, Dropped, ShutOut, Admitted, admission}
 use Rattle.sw_core.specs.Run.{failures_in}
 use Rattle.sw_core.proofs.Same.{same_rack}
 
@@ -297,12 +298,12 @@ told_joined p Ask.Join a None q h = true_is_false h.unfailed
 told_joined p (Ask.Attach number) a None q h = true_is_false h.unfailed
 told_joined p ask a w q h = absurd h
 
-told_admitted : (b o : Bool) (p : Panel) (ask : SessionAsk) (a : SessionAnswer) (w : Option WorkView) (q : Panel) → StepAdmitted b o p ask true a w q
+told_admitted : (now : Admission) (p : Panel) (ask : SessionAsk) (a : SessionAnswer) (w : Option WorkView) (q : Panel) → StepAdmitted now p ask true a w q
     → IsToldFall (fallen_ask ask p) a w q
-told_admitted true o p ask Broken None q h = true_is_false h.0
-told_admitted true o p ask a w q h = absurd h
-told_admitted false true p ask a w q h = absurd (no_held p ask a w q h)
-told_admitted false false p ask a w q h = told_joined p ask a w q h
+told_admitted Dropped p ask Broken None q h = true_is_false h.0
+told_admitted Dropped p ask a w q h = absurd h
+told_admitted ShutOut p ask a w q h = absurd (no_held p ask a w q h)
+told_admitted Admitted p ask a w q h = told_joined p ask a w q h
 
 no_join : (p : Panel) (a : SessionAnswer) (w : Option WorkView) (q : Panel) → StepJoin p true a w q → ⊥
 no_join p (Joined sid) None q h = true_is_false h.0
@@ -323,7 +324,7 @@ told_session : (o : Option Sid) (p : Panel) (ask : SessionAsk) (a : SessionAnswe
     → IsToldFall (fallen_ask ask p) a w q
 told_session None p ask a w q h = absurd (no_new p ask a w q h)
 told_session (Some sid) p ask Stranger None q h = true_is_false h.0
-told_session (Some sid) p ask a w q h = told_admitted (drops p sid ask) (shuts_out p sid ask) p ask a w q h.1
+told_session (Some sid) p ask a w q h = told_admitted (admission p sid ask) p ask a w q h.1
 
 abbrev fallen_return : CageSeen → Result Reading CardFault → CageSeen
 fallen_return c (Ok r) = with_reading c r

@@ -30,8 +30,9 @@ use Rattle.sw_core.specs.Event.{concluded, session_concluded, last_number}
 use Rattle.sw_core.specs.Seats.{asker_of}
 use Rattle.sw_core.specs.Step.{StepRefused, StepEffect, StepHeld}
 use Rattle.sw_core.specs.Step.{StepAction, session_told, StepHappens, StepSnapshot, StepStart, started_answer, IsServed, StepJoined}
-use Rattle.sw_core.specs.Step.{StepAdmitted, drops, shuts_out, StepJoin, StepAttach, StepSession, outside_told, StepOutside, StepFinished, Acts}
+use Rattle.sw_core.specs.Step.{StepAdmitted, StepJoin, StepAttach, StepSession, outside_told, StepOutside, StepFinished, Acts}
 use Rattle.sw_core.specs.Step.{acts_unnumbered, IsWorn, IsEvent, IsUnnumbered, Step}
+use Rattle.sw_core.specs.Step.{Admission, Dropped, ShutOut, Admitted, admission}
 use Rattle.sw_core.specs.Ends.{left_of, went_on, was_taken, took_effect, took_command, took, begins, breaks_off}
 use Rattle.sw_cage.proofs.SlotChangeLemmas.{is_none}
 use Rattle.sw_core.specs.View.{WorkView, AskView, AskSession, AskInstall, AskEject, AskExternal, AskElapsed, AskFinished, AnswerView, SaysSession}
@@ -201,20 +202,20 @@ move_silent : (p : Panel) (ask : SessionAsk) (a : SessionAnswer) (w : Option Wor
 move_silent p ask a w q n e =
     subst (λ (k : ℕ). Moves (AskSession ask) (SaysSession a w) p k q) (sym (took_none ask a w n)) (move_is (AskSession ask) (SaysSession a w) p q e)
 
-move_admitted : (b o : Bool) (p : Panel) (ask : SessionAsk) (f : Bool) (a : SessionAnswer) (w : Option WorkView) (q : Panel)
-    → begins (AskSession ask) (SaysSession a w) ≡ false → StepAdmitted b o p ask f a w q
+move_admitted : (now : Admission) (p : Panel) (ask : SessionAsk) (f : Bool) (a : SessionAnswer) (w : Option WorkView) (q : Panel)
+    → begins (AskSession ask) (SaysSession a w) ≡ false → StepAdmitted now p ask f a w q
     → Moves (AskSession ask) (SaysSession a w) p (took (AskSession ask) (SaysSession a w)) q
-move_admitted true o p ask f Broken None q n h = move_silent p ask Broken None q refl h.1
-move_admitted true o p ask f a w q n h = absurd h
-move_admitted false true p ask f (Hold back) None q n h = move_silent p ask (Hold back) None q refl h.2
-move_admitted false true p ask f a w q n h = absurd h
-move_admitted false false p ask f a w q n h = move_joined p ask f a w q n h
+move_admitted Dropped p ask f Broken None q n h = move_silent p ask Broken None q refl h.1
+move_admitted Dropped p ask f a w q n h = absurd h
+move_admitted ShutOut p ask f (Hold back) None q n h = move_silent p ask (Hold back) None q refl h.2
+move_admitted ShutOut p ask f a w q n h = absurd h
+move_admitted Admitted p ask f a w q n h = move_joined p ask f a w q n h
 
 move_known : (sid : Sid) (p : Panel) (ask : SessionAsk) (f : Bool) (a : SessionAnswer) (w : Option WorkView) (q : Panel)
     → begins (AskSession ask) (SaysSession a w) ≡ false → StepSession (Some sid) p ask f a w q
     → Moves (AskSession ask) (SaysSession a w) p (took (AskSession ask) (SaysSession a w)) q
 move_known sid p ask f Stranger None q n h = move_silent p ask Stranger None q refl h.2
-move_known sid p ask f a w q n h = move_admitted (drops p sid ask) (shuts_out p sid ask) p ask f a w q n h.1
+move_known sid p ask f a w q n h = move_admitted (admission p sid ask) p ask f a w q n h.1
 
 move_session : (p : Panel) (ask : SessionAsk) (f : Bool) (a : SessionAnswer) (w : Option WorkView) (q : Panel)
     → begins (AskSession ask) (SaysSession a w) ≡ false → StepSession (asker_of ask) p ask f a w q

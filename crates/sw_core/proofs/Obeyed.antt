@@ -41,7 +41,8 @@ use Rattle.sw_core.specs.View.{SaysFailed}
 use Rattle.sw_core.specs.Seats.{asker_of}
 use Rattle.sw_core.specs.Step.{FailsSafe, StepClose, StepOpen, StepFlags, StepText, StepRefused, StepReadings, StepAlone, StepEffect, StepHeld, StepAction}
 use Rattle.sw_core.specs.Step.{StepOutside, Returns, Happens, session_told, StepSnapshot, StepStart, started_answer, Starts, outside_told, StepJoined}
-use Rattle.sw_core.specs.Step.{StepAdmitted, StepNew, drops, shuts_out, StepSession, Acts, acts_unnumbered, IsWorn, IsEvent, IsUnnumbered, Step}
+use Rattle.sw_core.specs.Step.{StepAdmitted, StepNew, StepSession, Acts, acts_unnumbered, IsWorn, IsEvent, IsUnnumbered, Step}
+use Rattle.sw_core.specs.Step.{Admission, Dropped, ShutOut, Admitted, admission}
 use Rattle.sw_core.specs.Run.{IsAfterCardFault, IsAtRest, IsDoneFor, tells_failure}
 use Rattle.sw_core.proofs.Harmless.{IsHarmless, IsHarmlessAction, harmless}
 use Rattle.sw_core.proofs.Safety.{rest_closed, rest_slot}
@@ -56,11 +57,11 @@ event_of : (p : Panel) (ask : AskView) (f : Bool) (a : AnswerView) (q : Panel) �
 event_of p ask f a q n h = event_if ((p.events == last_number) && not (acts_unnumbered ask)) p ask f a q n h
 
 -- what is done was neither dropped nor held
-not_kept_out : (b o : Bool) (p : Panel) (ask : SessionAsk) (f : Bool) (t : _) (w : Option WorkView) (q : Panel) → StepAdmitted b o p ask f (Done t) w q
+not_kept_out : (now : Admission) (p : Panel) (ask : SessionAsk) (f : Bool) (t : _) (w : Option WorkView) (q : Panel) → StepAdmitted now p ask f (Done t) w q
     → StepJoined p ask f (Done t) w q
-not_kept_out true o p ask f t w q h = absurd h
-not_kept_out false true p ask f t w q h = absurd h
-not_kept_out false false p ask f t w q h = h
+not_kept_out Dropped p ask f t w q h = absurd h
+not_kept_out ShutOut p ask f t w q h = absurd h
+not_kept_out Admitted p ask f t w q h = h
 
 -- a command that is done was not refused for a scan
 not_barred : (b : Bool) (p : Panel) (effect : Effect) (f : Bool) (t : _) (w : Option WorkView) (q : Panel)
@@ -73,7 +74,7 @@ done_of : (p : Panel) (sid : Sid) (command : Command) (available f : Bool) (q : 
     (e : IsEvent p (AskSession (Ask.Unit sid command available)) f (SaysSession (Done None) None) q)
     → StepAction (action_of available command) p (Ask.Unit sid command available) f (Done None) None e.done
 done_of p sid command available f q e =
-    not_kept_out (drops p sid (Ask.Unit sid command available)) (shuts_out p sid (Ask.Unit sid command available)) p (Ask.Unit sid command available) f None
+    not_kept_out (admission p sid (Ask.Unit sid command available)) p (Ask.Unit sid command available) f None
     None e.done e.acts.1
 
 pub closes : (p q : Panel) (chans : List Channel) (available failed : Bool) → IsDoneFor p (Command.Close chans) available failed q → (c : Channel)
@@ -250,11 +251,11 @@ joined_quiet p (Ask.LockInfo sid) f e q h n = absurd h.served
 joined_quiet p (Ask.Attach number) f e q h n = absurd h.served
 joined_quiet p Ask.Join f e q h n = absurd h.served
 
-admitted_quiet : (b o : Bool) (p : Panel) (ask : SessionAsk) (f : Bool) (e : ScpiError) (q : Panel) → StepAdmitted b o p ask f (Refused e) None q
+admitted_quiet : (now : Admission) (p : Panel) (ask : SessionAsk) (f : Bool) (e : ScpiError) (q : Panel) → StepAdmitted now p ask f (Refused e) None q
     → IsQuiet p e q
-admitted_quiet true o p ask f e q h n = absurd h
-admitted_quiet false true p ask f e q h n = absurd h
-admitted_quiet false false p ask f e q h n = joined_quiet p ask f e q h n
+admitted_quiet Dropped p ask f e q h n = absurd h
+admitted_quiet ShutOut p ask f e q h n = absurd h
+admitted_quiet Admitted p ask f e q h n = joined_quiet p ask f e q h n
 
 new_quiet : (p : Panel) (ask : SessionAsk) (f : Bool) (e : ScpiError) (q : Panel) → StepNew p ask f (Refused e) None q → IsQuiet p e q
 new_quiet p Ask.Join f e q h n = absurd h
@@ -264,7 +265,7 @@ new_quiet p ask f e q h n = absurd h
 session_quiet : (o : Option Sid) (p : Panel) (ask : SessionAsk) (f : Bool) (e : ScpiError) (q : Panel) → StepSession o p ask f (Refused e) None q
     → IsQuiet p e q
 session_quiet None p ask f e q h n = new_quiet p ask f e q h n
-session_quiet (Some sid) p ask f e q h n = admitted_quiet (drops p sid ask) (shuts_out p sid ask) p ask f e q h.1 n
+session_quiet (Some sid) p ask f e q h n = admitted_quiet (admission p sid ask) p ask f e q h.1 n
 
 acts_quiet : (p : Panel) (ask : AskView) (f : Bool) (e : ScpiError) (q : Panel) → Acts p ask f (SaysSession (Refused e) None) q → IsQuiet p e q
 acts_quiet p (AskSession ask) f e q h n = session_quiet (asker_of ask) p ask f e q h n
@@ -391,11 +392,12 @@ joined_down p (Ask.Attach number) f None q h = absurd h.served
 joined_down p Ask.Join f None q h = absurd h.served
 joined_down p ask f w q h = absurd h
 
-admitted_down : (b o : Bool) (p : Panel) (ask : SessionAsk) (f : Bool) (w : Option WorkView) (q : Panel) → StepAdmitted b o p ask f (Refused HardwareError) w q
+admitted_down : (now : Admission) (p : Panel) (ask : SessionAsk) (f : Bool) (w : Option WorkView) (q : Panel)
+    → StepAdmitted now p ask f (Refused HardwareError) w q
     → IsDown p f q
-admitted_down true o p ask f w q h = absurd h
-admitted_down false true p ask f w q h = absurd h
-admitted_down false false p ask f w q h = joined_down p ask f w q h
+admitted_down Dropped p ask f w q h = absurd h
+admitted_down ShutOut p ask f w q h = absurd h
+admitted_down Admitted p ask f w q h = joined_down p ask f w q h
 
 new_down : (p : Panel) (ask : SessionAsk) (f : Bool) (w : Option WorkView) (q : Panel) → StepNew p ask f (Refused HardwareError) w q → IsDown p f q
 new_down p Ask.Join f w q h = absurd h
@@ -405,7 +407,7 @@ new_down p ask f w q h = absurd h
 session_down : (o : Option Sid) (p : Panel) (ask : SessionAsk) (f : Bool) (w : Option WorkView) (q : Panel) → StepSession o p ask f (Refused HardwareError) w q
     → IsDown p f q
 session_down None p ask f w q h = new_down p ask f w q h
-session_down (Some sid) p ask f w q h = admitted_down (drops p sid ask) (shuts_out p sid ask) p ask f w q h.1
+session_down (Some sid) p ask f w q h = admitted_down (admission p sid ask) p ask f w q h.1
 
 -- told to no session
 

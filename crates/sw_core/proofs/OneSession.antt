@@ -16,8 +16,9 @@ use Rattle.sw_core.specs.Panel.{Panel}
 use Rattle.sw_core.specs.Action.{action_of}
 use Rattle.sw_core.specs.Event.{next_number}
 use Rattle.sw_core.specs.View.{WorkView, SaysSession}
-use Rattle.sw_core.specs.Step.{StepAdmitted, StepAttach, StepNew, IsServed, drops, shuts_out}
+use Rattle.sw_core.specs.Step.{StepAdmitted, StepAttach, StepNew, IsServed}
 use Rattle.sw_core.specs.Step.{StepJoin, StepJoined, StepSession}
+use Rattle.sw_core.specs.Step.{Admission, Dropped, ShutOut, Admitted, admission}
 use Rattle.sw_core.proofs.OneCommand.{IsWhole, both}
 use Rattle.sw_core.proofs.OneScan.{IsAlike, happening_once, held_once, action_once, snapshot_once, start_once}
 
@@ -88,13 +89,13 @@ joined_once p Ask.Join f f' a a' None None q q' n m x y h k = served_once p Ask.
 joined_once p (Ask.Attach number) f f' a a' None None q q' n m x y h k = served_once p (Ask.Attach number) f f' a a' q q' x y h k
 joined_once p ask f f' a a' w w' q q' n m x y h k = absurd (assumption (h, k))
 
-pub admitted_once : (b o : Bool) (p : Panel) (ask : SessionAsk) (f f' : Bool) (a a' : SessionAnswer) (w w' : Option WorkView) (q q' : Panel)
-    → IsWhole (SaysSession a None) → IsWhole (SaysSession a' None) → FindsKey p.sessions ask a → FindsKey p.sessions ask a' → StepAdmitted b o p ask f a w q
-    → StepAdmitted b o p ask f' a' w' q' → IsAlike a a' w w' q q'
-admitted_once true o p ask f f' Broken Broken None None q q' n m x y h k = (refl, refl, both p q q' h.1 k.1)
-admitted_once true o p ask f f' a a' w w' q q' n m x y h k = absurd (assumption (h, k))
-admitted_once false true p ask f f' a a' w w' q q' n m x y h k = held_once p ask f f' a a' w w' q q' h k
-admitted_once false false p ask f f' a a' w w' q q' n m x y h k = joined_once p ask f f' a a' w w' q q' n m x y h k
+pub admitted_once : (now : Admission) (p : Panel) (ask : SessionAsk) (f f' : Bool) (a a' : SessionAnswer) (w w' : Option WorkView) (q q' : Panel)
+    → IsWhole (SaysSession a None) → IsWhole (SaysSession a' None) → FindsKey p.sessions ask a → FindsKey p.sessions ask a' → StepAdmitted now p ask f a w q
+    → StepAdmitted now p ask f' a' w' q' → IsAlike a a' w w' q q'
+admitted_once Dropped p ask f f' Broken Broken None None q q' n m x y h k = (refl, refl, both p q q' h.1 k.1)
+admitted_once Dropped p ask f f' a a' w w' q q' n m x y h k = absurd (assumption (h, k))
+admitted_once ShutOut p ask f f' a a' w w' q q' n m x y h k = held_once p ask f f' a a' w w' q q' h k
+admitted_once Admitted p ask f f' a a' w w' q q' n m x y h k = joined_once p ask f f' a a' w w' q q' n m x y h k
 
 pub attach_once : (p : Panel) (number : ℕ) (f f' : Bool) (a a' : SessionAnswer) (w w' : Option WorkView) (q q' : Panel) → StepAttach p number f a w q
     → StepAttach p number f' a' w' q' → IsAlike a a' w w' q q'
@@ -122,7 +123,7 @@ IsStrange p sid a w q = (IsJoined p.sessions sid → ⊥) × (a ≡ Stranger) ×
 
 pub session_as : (p : Panel) (sid : Sid) (ask : SessionAsk) (f : Bool) (a : SessionAnswer) (w : Option WorkView) (q : Panel)
     → StepSession (Some sid) p ask f a w q → IsStrange p sid a w q
-    ⊎ (IsJoined p.sessions sid × StepAdmitted (drops p sid ask) (shuts_out p sid ask) p ask f a w q)
+    ⊎ (IsJoined p.sessions sid × StepAdmitted (admission p sid ask) p ask f a w q)
 session_as p sid ask f Stranger None q h = inl (h.1, refl, refl, h.2)
 session_as p sid ask f a w q h = inr h
 
@@ -135,6 +136,6 @@ session_once (Some sid) p ask f f' a a' w w' q q' n m kx ky h k = elim (session_
   | inr x ↦ elim (session_as p sid ask f' a' w' q' k) [
     | inl y ↦ absurd (y.0 x.0)
     | inr y ↦
-        admitted_once (drops p sid ask) (shuts_out p sid ask) p ask f f' a a' w w' q q' n m kx ky x.1 y.1
+        admitted_once (admission p sid ask) p ask f f' a a' w w' q q' n m kx ky x.1 y.1
   ]
 ]

@@ -45,8 +45,9 @@ use Rattle.sw_core.specs.View.{SaysInstalled, SaysNotInstalled, SaysEjected, Say
 use Rattle.sw_core.specs.Seats.{asker_of}
 use Rattle.sw_core.specs.Step.{FailsSafe, StepClose, StepOpen, StepFlags, StepText, StepDone, StepSetting, StepRefused, StepReadings, StepAlone, StepEffect}
 use Rattle.sw_core.specs.Step.{StepHeld, StepAction}
-use Rattle.sw_core.specs.Step.{Happens, MayScan, StepSnapshot, Starts, StepStart, StepJoin, StepAttach, StepNew, IsServed, StepJoined, StepAdmitted, drops}
-use Rattle.sw_core.specs.Step.{shuts_out, StepSession, StepOutside, IsOut, Returns, StepFinished, Acts, acts_unnumbered, IsEvent, IsUnnumbered, Step}
+use Rattle.sw_core.specs.Step.{Happens, MayScan, StepSnapshot, Starts, StepStart, StepJoin, StepAttach, StepNew, IsServed, StepJoined, StepAdmitted}
+use Rattle.sw_core.specs.Step.{StepSession, StepOutside, IsOut, Returns, StepFinished, Acts, acts_unnumbered, IsEvent, IsUnnumbered, Step}
+use Rattle.sw_core.specs.Step.{Admission, Dropped, ShutOut, Admitted, admission}
 use Rattle.std.specs.Prelude.{replicate}
 use Rattle.sw_cage.specs.declared.job.Ticket.{Ticket}
 use Rattle.sw_core.specs.Good.{OptionFew}
@@ -332,12 +333,12 @@ joined_fine p Ask.Join f answer None q k h = served_fine p Ask.Join f answer q k
 joined_fine p (Ask.Attach n) f answer None q k h = served_fine p (Ask.Attach n) f answer q k h
 joined_fine p ask f a w q k h = absurd h
 
-admitted_fine : (b o : Bool) (p : Panel) (ask : SessionAsk) (f : Bool) (a : SessionAnswer) (w : Option WorkView) (q : Panel) → IsFine p
-    → StepAdmitted b o p ask f a w q → IsFine q
-admitted_fine true o p ask f Broken None q k h = fine_is p q h.1 k
-admitted_fine true o p ask f a w q k h = absurd h
-admitted_fine false true p ask f a w q k h = held_fine p ask f a w q k h
-admitted_fine false false p ask f a w q k h = joined_fine p ask f a w q k h
+admitted_fine : (now : Admission) (p : Panel) (ask : SessionAsk) (f : Bool) (a : SessionAnswer) (w : Option WorkView) (q : Panel) → IsFine p
+    → StepAdmitted now p ask f a w q → IsFine q
+admitted_fine Dropped p ask f Broken None q k h = fine_is p q h.1 k
+admitted_fine Dropped p ask f a w q k h = absurd h
+admitted_fine ShutOut p ask f a w q k h = held_fine p ask f a w q k h
+admitted_fine Admitted p ask f a w q k h = joined_fine p ask f a w q k h
 
 join_fine : (p : Panel) (f : Bool) (a : SessionAnswer) (w : Option WorkView) (q : Panel) → IsFine p → StepJoin p f a w q → IsFine q
 join_fine p f (Joined sid) None q k h =
@@ -365,7 +366,7 @@ session_fine : (o : Option Sid) (p : Panel) (ask : SessionAsk) (f : Bool) (a : S
     → StepSession o p ask f a w q → IsFine q
 session_fine None p ask f a w q k h = new_fine p ask f a w q k h
 session_fine (Some sid) p ask f Stranger None q k h = fine_is p q h.2 k
-session_fine (Some sid) p ask f a w q k h = admitted_fine (drops p sid ask) (shuts_out p sid ask) p ask f a w q k h.1
+session_fine (Some sid) p ask f a w q k h = admitted_fine (admission p sid ask) p ask f a w q k h.1
 
 -- ---- cards
 

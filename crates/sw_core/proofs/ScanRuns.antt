@@ -27,8 +27,9 @@ use Rattle.sw_core.specs.declared.ask.SessionAnswer.TheVariants.{Stranger, Broke
 use Rattle.sw_core.specs.Panel.{Panel, opening_at, is_running}
 use Rattle.sw_core.specs.Event.{last_number}
 use Rattle.sw_core.specs.Step.{Starts, StepStart, started_answer}
-use Rattle.sw_core.specs.Step.{StepAdmitted, drops, shuts_out, StepSession, Acts}
+use Rattle.sw_core.specs.Step.{StepAdmitted, StepSession, Acts}
 use Rattle.sw_core.specs.Step.{acts_unnumbered, IsWorn, IsEvent, IsUnnumbered, Step}
+use Rattle.sw_core.specs.Step.{Admission, Dropped, ShutOut, Admitted, admission}
 use Rattle.sw_cage.proofs.ClosedMemberLemmas.{among_closed}
 use Rattle.sw_core.specs.View.{WorkView, AskView, AskSession, AnswerView, SaysSession}
 use Rattle.std.proofs.Common.{◌*◌}
@@ -131,18 +132,18 @@ begun_start p q sid plan f (Done None) w k n h = begun_by p q plan f h.told k (s
 begun_start p q sid plan f (Done (Some text)) w k n h = absurd h
 begun_start p q sid plan f a w k n h = absurd (cc (n))
 
-begun_admitted : (b o : Bool) (p q : Panel) (sid : Sid) (plan : Snapshot) (f : Bool) (a : SessionAnswer) (w : Option WorkView) → IsFine p
-    → begins (AskSession (Ask.Start sid plan)) (SaysSession a w) ≡ true → StepAdmitted b o p (Ask.Start sid plan) f a w q → Begun plan q.cage
-begun_admitted true o p q sid plan f Broken None k n h = absurd (cc (n))
-begun_admitted true o p q sid plan f a w k n h = absurd h
-begun_admitted false true p q sid plan f (Hold back) None k n h = absurd (cc (n))
-begun_admitted false true p q sid plan f a w k n h = absurd h
-begun_admitted false false p q sid plan f a w k n h = begun_start p q sid plan f a w k n h
+begun_admitted : (now : Admission) (p q : Panel) (sid : Sid) (plan : Snapshot) (f : Bool) (a : SessionAnswer) (w : Option WorkView) → IsFine p
+    → begins (AskSession (Ask.Start sid plan)) (SaysSession a w) ≡ true → StepAdmitted now p (Ask.Start sid plan) f a w q → Begun plan q.cage
+begun_admitted Dropped p q sid plan f Broken None k n h = absurd (cc (n))
+begun_admitted Dropped p q sid plan f a w k n h = absurd h
+begun_admitted ShutOut p q sid plan f (Hold back) None k n h = absurd (cc (n))
+begun_admitted ShutOut p q sid plan f a w k n h = absurd h
+begun_admitted Admitted p q sid plan f a w k n h = begun_start p q sid plan f a w k n h
 
 begun_session : (p q : Panel) (sid : Sid) (plan : Snapshot) (f : Bool) (a : SessionAnswer) (w : Option WorkView) → IsFine p
     → begins (AskSession (Ask.Start sid plan)) (SaysSession a w) ≡ true → StepSession (Some sid) p (Ask.Start sid plan) f a w q → Begun plan q.cage
 begun_session p q sid plan f Stranger w k n h = absurd (cc (n))
-begun_session p q sid plan f a w k n h = begun_admitted (drops p sid (Ask.Start sid plan)) (shuts_out p sid (Ask.Start sid plan)) p q sid plan f a w k n h.1
+begun_session p q sid plan f a w k n h = begun_admitted (admission p sid (Ask.Start sid plan)) p q sid plan f a w k n h.1
 
 begun_acts : (p q : Panel) (sid : Sid) (plan : Snapshot) (f : Bool) (a : AnswerView) → IsFine p → begins (AskSession (Ask.Start sid plan)) a ≡ true
     → Acts p (AskSession (Ask.Start sid plan)) f a q → Begun plan q.cage

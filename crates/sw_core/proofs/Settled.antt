@@ -22,8 +22,9 @@ use Rattle.sw_core.specs.View.{WorkView, AskView, AskSession, AskExternal, AskEl
 use Rattle.sw_core.specs.View.{SaysInstalled}
 use Rattle.sw_core.specs.View.{SaysNotInstalled, SaysEjected, SaysNotEjected, SaysTaken, SaysMissed, SaysFailed, SaysBack, SaysWorn}
 use Rattle.sw_core.specs.Seats.{asker_of}
-use Rattle.sw_core.specs.Step.{StepEffect, StepHeld, StepAction, StepSnapshot, StepStart, IsServed, StepJoined, StepAdmitted, drops, shuts_out}
+use Rattle.sw_core.specs.Step.{StepEffect, StepHeld, StepAction, StepSnapshot, StepStart, IsServed, StepJoined, StepAdmitted}
 use Rattle.sw_core.specs.Step.{StepJoin, StepAttach, StepNew, StepSession, outside_told, Acts, acts_unnumbered, IsEvent, IsUnnumbered, Step}
+use Rattle.sw_core.specs.Step.{Admission, Dropped, ShutOut, Admitted, admission}
 use Rattle.sw_core.proofs.Answered.{IsAnswered, effect_answered, barred_answered, happening_answered}
 
 abbrev pub IsTelling : Panel → Type 0
@@ -114,12 +115,12 @@ joined_telling p Ask.Join f a None q n k h = served_telling p Ask.Join f a q k h
 joined_telling p (Ask.Attach number) f a None q n k h = served_telling p (Ask.Attach number) f a q k h
 joined_telling p ask f a w q n k h = absurd h
 
-admitted_telling : (b o : Bool) (p : Panel) (ask : SessionAsk) (f : Bool) (a : SessionAnswer) (w : Option WorkView) (q : Panel) → IsSilent a → IsTelling p
-    → StepAdmitted b o p ask f a w q → IsTelling q
-admitted_telling true o p ask f Broken None q n k h = telling_as p q h.1 k
-admitted_telling true o p ask f a w q n k h = absurd h
-admitted_telling false true p ask f a w q n k h = held_telling p ask f a w q k h
-admitted_telling false false p ask f a w q n k h = joined_telling p ask f a w q n k h
+admitted_telling : (now : Admission) (p : Panel) (ask : SessionAsk) (f : Bool) (a : SessionAnswer) (w : Option WorkView) (q : Panel) → IsSilent a → IsTelling p
+    → StepAdmitted now p ask f a w q → IsTelling q
+admitted_telling Dropped p ask f Broken None q n k h = telling_as p q h.1 k
+admitted_telling Dropped p ask f a w q n k h = absurd h
+admitted_telling ShutOut p ask f a w q n k h = held_telling p ask f a w q k h
+admitted_telling Admitted p ask f a w q n k h = joined_telling p ask f a w q n k h
 
 join_silent : (p : Panel) (f : Bool) (a : SessionAnswer) (w : Option WorkView) (q : Panel) → IsSilent a → StepJoin p f a w q → ⊥
 join_silent p f (Joined sid) w q n h = n
@@ -142,7 +143,7 @@ session_telling : (o : Option Sid) (p : Panel) (ask : SessionAsk) (f : Bool) (a 
     → StepSession o p ask f a w q → IsTelling q
 session_telling None p ask f a w q n k h = new_telling p ask f a w q n k h
 session_telling (Some sid) p ask f Stranger None q n k h = telling_as p q h.2 k
-session_telling (Some sid) p ask f a w q n k h = admitted_telling (drops p sid ask) (shuts_out p sid ask) p ask f a w q n k h.1
+session_telling (Some sid) p ask f a w q n k h = admitted_telling (admission p sid ask) p ask f a w q n k h.1
 
 -- ---- events
 

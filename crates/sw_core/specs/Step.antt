@@ -276,13 +276,6 @@ StepJoined p (Ask.Start sid plan) f answer work q = StepStart p plan f answer wo
 StepJoined p ask f answer None q = IsServed p ask f answer q
 StepJoined p ask f answer work q = ⊥
 
--- it is dropped while the session is being cleared, or held while the locks of other sessions keep it out
-abbrev pub StepAdmitted : Bool → Bool → Panel → SessionAsk → Bool → SessionAnswer → Option WorkView → Panel → Type 0
-StepAdmitted true out p ask f Broken None q = (f ≡ false) × (q ≡ p)
-StepAdmitted true out p ask f answer work q = ⊥
-StepAdmitted false true p ask f answer work q = StepHeld p ask f answer work q
-StepAdmitted false false p ask f answer work q = StepJoined p ask f answer work q
-
 -- what the session asks is dropped now
 abbrev pub drops : Panel → Sid → SessionAsk → Bool
 drops p sid ask = is_clearing p.sessions sid.number && is_dropped ask
@@ -290,6 +283,26 @@ drops p sid ask = is_clearing p.sessions sid.number && is_dropped ask
 -- what the session asks waits for the locks of others now
 abbrev pub shuts_out : Panel → Sid → SessionAsk → Bool
 shuts_out p sid ask = not (admits p.sessions.locks sid.number) && is_shut_out ask
+
+-- what becomes of a joined session's ask
+pub data Admission : Type 0 where
+  -- it is dropped while the session is being cleared
+  Dropped : Admission
+  -- it is held while the locks of other sessions keep it out
+  ShutOut : Admission
+  -- it may be done
+  Admitted : Admission
+
+-- what becomes of the session's ask now: what a clear drops is dropped, whatever the locks
+abbrev pub admission : Panel → Sid → SessionAsk → Admission
+admission p sid ask = if drops p sid ask then Dropped else if shuts_out p sid ask then ShutOut else Admitted
+
+-- it is dropped, held or done
+abbrev pub StepAdmitted : Admission → Panel → SessionAsk → Bool → SessionAnswer → Option WorkView → Panel → Type 0
+StepAdmitted Dropped p ask f Broken None q = (f ≡ false) × (q ≡ p)
+StepAdmitted Dropped p ask f answer work q = ⊥
+StepAdmitted ShutOut p ask f answer work q = StepHeld p ask f answer work q
+StepAdmitted Admitted p ask f answer work q = StepJoined p ask f answer work q
 
 -- a new session gets the least free number, and the number of events that there are once it has joined
 abbrev pub StepJoin : Panel → Bool → SessionAnswer → Option WorkView → Panel → Type 0
@@ -318,7 +331,7 @@ abbrev pub StepSession : Option Sid → Panel → SessionAsk → Bool → Sessio
 StepSession None p ask f answer work q = StepNew p ask f answer work q
 StepSession (Some sid) p ask f Stranger None q = (f ≡ false) × (IsJoined p.sessions sid → ⊥) × (q ≡ p)
 StepSession (Some sid) p ask f answer work q =
-    IsJoined p.sessions sid × StepAdmitted (drops p sid ask) (shuts_out p sid ask) p ask f answer work q
+    IsJoined p.sessions sid × StepAdmitted (admission p sid ask) p ask f answer work q
 
 -- what is answered to no session by what the cage told
 abbrev pub outside_told : TakenSeen → AnswerView

@@ -11,7 +11,8 @@ use Rattle.sw_core.proofs.Answered.{effect_answered, barred_answered, happening_
 use Rattle.sw_core.specs.Event.{last_number}
 use Rattle.sw_core.specs.View.{WorkView, AskSession, SaysSession}
 use Rattle.sw_core.specs.Step.{StepEffect, StepHeld, StepAction, StepSession, Step, IsUnnumbered, IsEvent}
-use Rattle.sw_core.specs.Step.{acts_unnumbered, StepJoined, StepAdmitted, drops, shuts_out}
+use Rattle.sw_core.specs.Step.{acts_unnumbered, StepJoined, StepAdmitted}
+use Rattle.sw_core.specs.Step.{Admission, Dropped, ShutOut, Admitted, admission}
 use Rattle.sw_core.specs.Seats.{asker_of}
 use Rattle.sw_core.specs.declared.ask.Sid.{Sid}
 use Rattle.sw_session.specs.Trace.{HandsBack}
@@ -76,18 +77,18 @@ held-served p (Ask.Attach number) f back (Some work) q s = absurd s
 held-served p Ask.Join f back None q s = absurd s.served
 held-served p Ask.Join f back (Some work) q s = absurd s
 
-held-admitted : (b o : Bool) (p : Panel) (ask : SessionAsk) (f : Bool) (back : SessionAsk) (work : Option WorkView) (q : Panel)
-    → StepAdmitted b o p ask f (Hold back) work q → back ≡ ask
-held-admitted true o p ask f back work q s = absurd s
-held-admitted false true p ask f back work q s = held-back p ask f back work q s
-held-admitted false false p ask f back work q s = held-served p ask f back work q s
+held-admitted : (now : Admission) (p : Panel) (ask : SessionAsk) (f : Bool) (back : SessionAsk) (work : Option WorkView) (q : Panel)
+    → StepAdmitted now p ask f (Hold back) work q → back ≡ ask
+held-admitted Dropped p ask f back work q s = absurd s
+held-admitted ShutOut p ask f back work q s = held-back p ask f back work q s
+held-admitted Admitted p ask f back work q s = held-served p ask f back work q s
 
 held-of : (o : Option Sid) (p : Panel) (ask : SessionAsk) (f : Bool) (back : SessionAsk) (work : Option WorkView) (q : Panel)
     → StepSession o p ask f (Hold back) work q → back ≡ ask
 held-of None p Ask.Join f back work q s = absurd s
 held-of None p (Ask.Attach number) f back work q s = absurd s
 held-of None p ask f back work q s = absurd s
-held-of (Some sid) p ask f back work q s = held-admitted (drops p sid ask) (shuts_out p sid ask) p ask f back work q s.1
+held-of (Some sid) p ask f back work q s = held-admitted (admission p sid ask) p ask f back work q s.1
 
 held : (p : Panel) (ask : SessionAsk) (f : Bool) (back : SessionAsk) (work : Option WorkView) (q : Panel)
     → StepSession (asker_of ask) p ask f (Hold back) work q → back ≡ ask
@@ -124,18 +125,18 @@ unworn-served p (Ask.Attach number) f back (Some work) q s = s
 unworn-served p Ask.Join f back None q s = s.served
 unworn-served p Ask.Join f back (Some work) q s = s
 
-unworn-admitted : (b o : Bool) (p : Panel) (ask : SessionAsk) (f : Bool) (back : SessionAsk) (work : Option WorkView) (q : Panel)
-    → StepAdmitted b o p ask f (Worn back) work q → ⊥
-unworn-admitted true o p ask f back work q s = s
-unworn-admitted false true p ask f back work q s = s
-unworn-admitted false false p ask f back work q s = unworn-served p ask f back work q s
+unworn-admitted : (now : Admission) (p : Panel) (ask : SessionAsk) (f : Bool) (back : SessionAsk) (work : Option WorkView) (q : Panel)
+    → StepAdmitted now p ask f (Worn back) work q → ⊥
+unworn-admitted Dropped p ask f back work q s = s
+unworn-admitted ShutOut p ask f back work q s = s
+unworn-admitted Admitted p ask f back work q s = unworn-served p ask f back work q s
 
 unworn-of : (o : Option Sid) (p : Panel) (ask : SessionAsk) (f : Bool) (back : SessionAsk) (work : Option WorkView) (q : Panel)
     → StepSession o p ask f (Worn back) work q → ⊥
 unworn-of None p Ask.Join f back work q s = s
 unworn-of None p (Ask.Attach number) f back work q s = s
 unworn-of None p ask f back work q s = s
-unworn-of (Some sid) p ask f back work q s = unworn-admitted (drops p sid ask) (shuts_out p sid ask) p ask f back work q s.1
+unworn-of (Some sid) p ask f back work q s = unworn-admitted (admission p sid ask) p ask f back work q s.1
 
 unworn : (p : Panel) (ask : SessionAsk) (f : Bool) (back : SessionAsk) (work : Option WorkView) (q : Panel)
     → StepSession (asker_of ask) p ask f (Worn back) work q → ⊥

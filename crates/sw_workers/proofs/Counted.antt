@@ -31,8 +31,9 @@ use Rattle.sw_core.specs.Action.{Resets, reset, Offers, Refuses, IsOfMacros, Ini
 use Rattle.sw_core.specs.Event.{concluded, session_concluded, last_number, next_number}
 use Rattle.sw_core.specs.Seats.{asker_of}
 use Rattle.sw_core.specs.Step.{StepClose, StepOpen, StepFlags, StepText, StepDone, StepSetting, StepRefused, StepReadings, StepAlone}
-use Rattle.sw_core.specs.Step.{Happens, StepEffect, StepHeld, StepAction, StepSnapshot, StepStart, IsServed, StepJoined, StepAdmitted, drops, shuts_out}
+use Rattle.sw_core.specs.Step.{Happens, StepEffect, StepHeld, StepAction, StepSnapshot, StepStart, IsServed, StepJoined, StepAdmitted}
 use Rattle.sw_core.specs.Step.{StepJoin, StepAttach, StepNew, StepSession, Returns, StepFinished, Acts, acts_unnumbered, IsWorn, IsEvent, IsUnnumbered, Step}
+use Rattle.sw_core.specs.Step.{Admission, Dropped, ShutOut, Admitted, admission}
 use Rattle.sw_core.specs.View.{WorkView, AskView, AskSession, AskInstall, AskEject, AskExternal, AskElapsed, AskFinished, AnswerView, SaysSession}
 use Rattle.sw_core.specs.View.{SaysInstalled, SaysNotInstalled, SaysEjected, SaysNotEjected, SaysTaken, SaysMissed, SaysFailed, SaysBack, SaysWorn}
 use Rattle.sw_workers.specs.Shares.{is_counted, one_if}
@@ -252,12 +253,12 @@ same_joined p Ask.Join f a None q h = same_served p Ask.Join f a q h
 same_joined p (Ask.Attach number) f a None q h = same_served p (Ask.Attach number) f a q h
 same_joined p ask f a w q h = absurd h
 
-same_admitted : (b o : Bool) (p : Panel) (ask : SessionAsk) (f : Bool) (a : SessionAnswer) (w : Option WorkView) (q : Panel) → StepAdmitted b o p ask f a w q
-    → IsSame p q
-same_admitted true o p ask f Broken None q h = ap (λ (x : Panel). x.events) h.1
-same_admitted true o p ask f a w q h = absurd h
-same_admitted false true p ask f a w q h = same_held p ask f a w q h
-same_admitted false false p ask f a w q h = same_joined p ask f a w q h
+same_admitted : (now : Admission) (p : Panel) (ask : SessionAsk) (f : Bool) (a : SessionAnswer) (w : Option WorkView) (q : Panel)
+    → StepAdmitted now p ask f a w q → IsSame p q
+same_admitted Dropped p ask f Broken None q h = ap (λ (x : Panel). x.events) h.1
+same_admitted Dropped p ask f a w q h = absurd h
+same_admitted ShutOut p ask f a w q h = same_held p ask f a w q h
+same_admitted Admitted p ask f a w q h = same_joined p ask f a w q h
 
 same_join : (p : Panel) (f : Bool) (a : SessionAnswer) (w : Option WorkView) (q : Panel) → StepJoin p f a w q → IsSame p q
 same_join p f (Joined sid) None q h = ap (λ (x : Panel). x.events) h.3
@@ -278,7 +279,7 @@ same_session : (o : Option Sid) (p : Panel) (ask : SessionAsk) (f : Bool) (a : S
     → StepSession o p ask f a w q → IsSame p q
 same_session None p ask f a w q h = same_new p ask f a w q h
 same_session (Some sid) p ask f Stranger None q h = ap (λ (x : Panel). x.events) h.2
-same_session (Some sid) p ask f a w q h = same_admitted (drops p sid ask) (shuts_out p sid ask) p ask f a w q h.1
+same_session (Some sid) p ask f a w q h = same_admitted (admission p sid ask) p ask f a w q h.1
 
 -- ---- asks
 

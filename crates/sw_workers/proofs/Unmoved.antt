@@ -29,8 +29,9 @@ use Rattle.sw_core.specs.Seats.{asker_of, StepSeat, StepLock}
 use Rattle.sw_core.specs.Sessions.{SessionsSeen}
 use Rattle.sw_core.specs.Step.{StepClose, StepOpen, StepFlags, StepText, StepDone, StepSetting, StepRefused, StepReadings, StepAlone}
 use Rattle.sw_core.specs.Step.{session_told, StepHappens, StepEffect, StepHeld, StepAction, StepSnapshot, StepStart, IsServed, StepJoined, StepAdmitted}
-use Rattle.sw_core.specs.Step.{drops, shuts_out, StepJoin, StepAttach, StepNew, StepSession, outside_told, StepOutside, StepFinished}
+use Rattle.sw_core.specs.Step.{StepJoin, StepAttach, StepNew, StepSession, outside_told, StepOutside, StepFinished}
 use Rattle.sw_core.specs.Step.{Acts, acts_unnumbered, IsUnnumbered, IsEvent, Step}
+use Rattle.sw_core.specs.Step.{Admission, Dropped, ShutOut, Admitted, admission}
 use Rattle.sw_core.specs.View.{WorkView, AskView, AskSession, AskInstall, AskEject, AskExternal, AskElapsed, AskFinished, AnswerView, SaysSession}
 use Rattle.sw_core.specs.View.{SaysInstalled, SaysNotInstalled, SaysEjected, SaysNotEjected, SaysTaken, SaysMissed, SaysFailed, SaysBack, SaysWorn}
 use Rattle.sw_workers.specs.Shares.{is_session_event, is_event}
@@ -210,12 +211,12 @@ stays_joined p Ask.Join f a None q h = stays_served p Ask.Join f a q h
 stays_joined p (Ask.Attach number) f a None q h = stays_served p (Ask.Attach number) f a q h
 stays_joined p ask f a w q h = absurd h
 
-stays_admitted : (b o : Bool) (p : Panel) (ask : SessionAsk) (f : Bool) (a : SessionAnswer) (w : Option WorkView) (q : Panel)
-    → StepAdmitted b o p ask f a w q → Stays (is_session_event a) p q
-stays_admitted true o p ask f Broken None q h = h.1
-stays_admitted true o p ask f a w q h = absurd h
-stays_admitted false true p ask f a w q h = stays_held p ask f a w q h
-stays_admitted false false p ask f a w q h = stays_joined p ask f a w q h
+stays_admitted : (now : Admission) (p : Panel) (ask : SessionAsk) (f : Bool) (a : SessionAnswer) (w : Option WorkView) (q : Panel)
+    → StepAdmitted now p ask f a w q → Stays (is_session_event a) p q
+stays_admitted Dropped p ask f Broken None q h = h.1
+stays_admitted Dropped p ask f a w q h = absurd h
+stays_admitted ShutOut p ask f a w q h = stays_held p ask f a w q h
+stays_admitted Admitted p ask f a w q h = stays_joined p ask f a w q h
 
 stays_join : (p : Panel) (f : Bool) (a : SessionAnswer) (w : Option WorkView) (q : Panel) → StepJoin p f a w q → Stays (is_session_event a) p q
 stays_join p f (Joined sid) w q h = tt
@@ -238,7 +239,7 @@ stays_session : (o : Option Sid) (p : Panel) (ask : SessionAsk) (f : Bool) (a : 
     → StepSession o p ask f a w q → Stays (is_session_event a) p q
 stays_session None p ask f a w q h = stays_new p ask f a w q h
 stays_session (Some sid) p ask f Stranger None q h = h.2
-stays_session (Some sid) p ask f a w q h = stays_admitted (drops p sid ask) (shuts_out p sid ask) p ask f a w q h.1
+stays_session (Some sid) p ask f a w q h = stays_admitted (admission p sid ask) p ask f a w q h.1
 
 -- ---- asks
 
