@@ -8,7 +8,6 @@ use Rattle.sw_hislip.specs.declared.kind.Kind.{Kind}
 use Rattle.sw_hislip.specs.declared.message.Message.{Message}
 use Rattle.sw_hislip.specs.Pending.{Pending, fed}
 use Rattle.sw_hislip.specs.Stream.{Call, feeds, answers, Decodes, stream_of, told}
-use Rattle.sw_session.specs.declared.engine.step.Channel.{Channel}
 use Rattle.sw_session.specs.declared.engine.step.Sent.{Sent}
 use Rattle.sw_session.specs.declared.engine.step.Step.{Step}
 use Rattle.sw_session.specs.declared.servers.act.Act.{Act}
@@ -20,8 +19,8 @@ use Rattle.sw_session.specs.declared.servers.fault.ServeFault.TheVariants as Fau
 use Rattle.sw_session.specs.Trace.{Entry, Leads}
 use Rattle.sw_session.specs.EngineStep.{LedBy}
 use Rattle.sw_session.specs.ServeWrite.{wire_on, wire_off, WritesPart, Sends}
-use Rattle.sw_session.specs.Serve.{Protocol, Exchange, Speaks, acts_of, asks_of, said_of, arrived, is_refused, after_of, notes_of, pauses, is_pause, Point}
-use Rattle.sw_session.specs.Serve.{point}
+use Rattle.sw_session.specs.Serve.{Protocol, Voice, Exchange, Speaks, acts_of, asks_of, said_of, arrived, is_refused, after_of, notes_of, pauses, is_pause}
+use Rattle.sw_session.specs.Serve.{Point, point}
 use Rattle.sw_session.specs.Serve.{Spoken, Stops, Breaks, GoesThrough, Hears, IsCutOff, Finds, Tells}
 use Rattle.sw_session.proofs.ServeKnown.{appends-nothing, appends-more}
 
@@ -95,8 +94,8 @@ tells-fed p p' piece e = record { calls = feeds piece ∷ []; decodes = e; strea
 
 -- ---- exchanges
 
-pub spoken-none : {E D : Type 0} (v : Protocol E) (passes : D → Entry → D → Type 0) (own : Channel) (a : Point E D) → Spoken v passes own a a [] Goes
-spoken-none v passes own a = record { speaks = (refl, refl); asks = refl; main = appends-nothing a.main; side = appends-nothing a.side }
+pub spoken-none : {E D : Type 0} (u : Voice E D) (a : Point E D) → Spoken u a a [] Goes
+spoken-none u a = record { speaks = (refl, refl); asks = refl; main = appends-nothing a.main; side = appends-nothing a.side }
 
 said-then : (f : Sent → List ℕ) (a b c : Option (List ℕ)) (xs ys : List Exchange) → Appends a b (flat_map f (said_of xs))
     → Appends b c (flat_map f (said_of ys)) → Appends a c (flat_map f (said_of (xs ++ ys)))
@@ -105,113 +104,112 @@ said-then f a b c xs ys p q =
     sym (ap (flat_map f) (flat_map-append (λ (x : Exchange). x.step.out) xs ys) ∙ flat_map-append f (said_of xs) (said_of ys)) in
     subst (λ (l : List ℕ). Appends a c l) same (appends-more a b c (flat_map f (said_of xs)) (flat_map f (said_of ys)) p q)
 
-pub spoken-then : {E D : Type 0} (v : Protocol E) (passes : D → Entry → D → Type 0) (own : Channel) (a b c : Point E D) (xs ys : List Exchange) (after : After)
-    → Spoken v passes own a b xs Goes → Spoken v passes own b c ys after → Spoken v passes own a c (xs ++ ys) after
-spoken-then v passes own a b c xs ys after p q = record {
-  speaks = speaks-then v a.engine b.engine c.engine xs ys after p.speaks q.speaks;
-  asks = subst (λ (l : List Entry). Leads passes a.desk l c.desk) (sym (flat_map-append (λ (x : Exchange). x.asked ++ x.noted) xs ys))
-      (onward passes a.desk b.desk c.desk (asks_of xs) (asks_of ys) p.asks q.asks);
-  main = said-then (wire_on own) a.main b.main c.main xs ys p.main q.main;
-  side = said-then (wire_off own) a.side b.side c.side xs ys p.side q.side;
+pub spoken-then : {E D : Type 0} (u : Voice E D) (a b c : Point E D) (xs ys : List Exchange) (after : After)
+    → Spoken u a b xs Goes → Spoken u b c ys after → Spoken u a c (xs ++ ys) after
+spoken-then u a b c xs ys after p q = record {
+  speaks = speaks-then u.protocol a.engine b.engine c.engine xs ys after p.speaks q.speaks;
+  asks = subst (λ (l : List Entry). Leads u.passes a.desk l c.desk) (sym (flat_map-append (λ (x : Exchange). x.asked ++ x.noted) xs ys))
+      (onward u.passes a.desk b.desk c.desk (asks_of xs) (asks_of ys) p.asks q.asks);
+  main = said-then (wire_on u.own) a.main b.main c.main xs ys p.main q.main;
+  side = said-then (wire_off u.own) a.side b.side c.side xs ys p.side q.side;
 }
 
 acts-append : (xs ys : List Exchange) → acts_of (xs ++ ys) ≡ acts_of xs ++ acts_of ys
 acts-append [] ys = refl
 acts-append (x ∷ xs) ys = ap (λ (l : List Act). x.act ∷ l) (acts-append xs ys)
 
-pub goes-nowhere : {E D : Type 0} (v : Protocol E) (passes : D → Entry → D → Type 0) (own : Channel) (a : Point E D) → GoesThrough v passes own a a [] Goes
-goes-nowhere v passes own a = ([], [], refl, λ g. refl, spoken-none v passes own a)
+pub goes-nowhere : {E D : Type 0} (u : Voice E D) (a : Point E D) → GoesThrough u a a [] Goes
+goes-nowhere u a = ([], [], refl, λ g. refl, spoken-none u a)
 
 -- all of the acts
 all-acts : (done rest acts : List Act) → rest ≡ [] → done ++ rest ≡ acts → done ≡ acts
 all-acts done rest acts n e = sym (append-nil done) ∙ sym (ap (λ (l : List Act). done ++ l) n) ∙ e
 
-pub goes-then : {E D : Type 0} (v : Protocol E) (passes : D → Entry → D → Type 0) (own : Channel) (a b c : Point E D) (is js : List Act) (after : After)
-    → GoesThrough v passes own a b is Goes → GoesThrough v passes own b c js after → GoesThrough v passes own a c (is ++ js) after
-goes-then v passes own a b c is js after (xs, r, e, n, p) (ys, t, f, m, q) = (
+pub goes-then : {E D : Type 0} (u : Voice E D) (a b c : Point E D) (is js : List Act) (after : After)
+    → GoesThrough u a b is Goes → GoesThrough u b c js after → GoesThrough u a c (is ++ js) after
+goes-then u a b c is js after (xs, r, e, n, p) (ys, t, f, m, q) = (
   xs ++ ys,
   t,
   ap (λ (l : List Act). l ++ t) (acts-append xs ys) ∙ append_assoc (acts_of xs) (acts_of ys) t ∙ ap₂ (λ (l k : List Act). l ++ k)
       (all-acts (acts_of xs) r is (n refl) e) f,
   m,
-  spoken-then v passes own a b c xs ys after p q,
+  spoken-then u a b c xs ys after p q,
 )
 
 -- a channel that ended comes to no more acts
-pub ends-before : {E D : Type 0} (v : Protocol E) (passes : D → Entry → D → Type 0) (own : Channel) (a b : Point E D) (is js : List Act) (after : After)
+pub ends-before : {E D : Type 0} (u : Voice E D) (a b : Point E D) (is js : List Act) (after : After)
     → (after ≡ Goes → ⊥)
-    → GoesThrough v passes own a b is after → GoesThrough v passes own a b (is ++ js) after
-ends-before v passes own a b is js after ended (xs, r, e, n, p) =
+    → GoesThrough u a b is after → GoesThrough u a b (is ++ js) after
+ends-before u a b is js after ended (xs, r, e, n, p) =
     (xs, r ++ js, sym (append_assoc (acts_of xs) r js) ∙ ap (λ (l : List Act). l ++ js) e, λ g. absurd (ended g), p)
 
-pub stops-then : {E D : Type 0} (v : Protocol E) (passes : D → Entry → D → Type 0) (own : Channel) (a b c : Point E D) (is js : List Act) (fault : ServeFault)
-    → GoesThrough v passes own a b is Goes → Stops v passes own b c js fault → Stops v passes own a c (is ++ js) fault
-stops-then v passes own a b c is js fault (xs, r, e, n, p) t = record {
+pub stops-then : {E D : Type 0} (u : Voice E D) (a b c : Point E D) (is js : List Act) (fault : ServeFault)
+    → GoesThrough u a b is Goes → Stops u b c js fault → Stops u a c (is ++ js) fault
+stops-then u a b c is js fault (xs, r, e, n, p) t = record {
   xs = xs ++ t.xs;
   act = t.act;
   rest = t.rest;
   mid = t.mid;
   acts_are = ap (λ (l : List Act). l ++ t.act ∷ t.rest) (acts-append xs t.xs) ∙ append_assoc (acts_of xs) (acts_of t.xs) (t.act ∷ t.rest) ∙ ap₂
       (λ (l k : List Act). l ++ k) (all-acts (acts_of xs) r is (n refl) e) t.acts_are;
-  spoken = spoken-then v passes own a b t.mid xs t.xs Goes p t.spoken;
+  spoken = spoken-then u a b t.mid xs t.xs Goes p t.spoken;
   breaks = t.breaks;
 }
 
 -- an act that fails, with others that are not come to
-pub stops-at : {E D : Type 0} (v : Protocol E) (passes : D → Entry → D → Type 0) (own : Channel) (a b : Point E D) (act : Act) (rest : List Act)
-    (fault : ServeFault)
-    → Breaks v passes own a b act fault → Stops v passes own a b (act ∷ rest) fault
-stops-at v passes own a b act rest fault k = record
-    { xs = []; act = act; rest = rest; mid = a; acts_are = refl; spoken = spoken-none v passes own a; breaks = k }
+pub stops-at : {E D : Type 0} (u : Voice E D) (a b : Point E D) (act : Act) (rest : List Act) (fault : ServeFault)
+    → Breaks u a b act fault → Stops u a b (act ∷ rest) fault
+stops-at u a b act rest fault k = record
+    { xs = []; act = act; rest = rest; mid = a; acts_are = refl; spoken = spoken-none u a; breaks = k }
 
 -- ---- one act
 
 one-out : (f : Sent → List ℕ) (a b : Option (List ℕ)) (x : Exchange) → Appends a b (flat_map f x.step.out) → Appends a b (flat_map f (said_of (x ∷ [])))
 one-out f a b x p = subst (λ (l : List Sent). Appends a b (flat_map f l)) (sym (append-nil x.step.out)) p
 
-pub hears-ok : {E D : Type 0} (v : Protocol E) (passes : D → Entry → D → Type 0) (own : Channel) (s s' : E) (d e d' : D) (w w' y y' : Option (List ℕ))
+pub hears-ok : {E D : Type 0} (u : Voice E D) (s s' : E) (d e d' : D) (w w' y y' : Option (List ℕ))
     (act : Act) (step : Step) (noted : List Entry) (after : After)
-    → LedBy passes d e (λ asked. v.speaks s act asked step s') → noted ≡ notes_of (v.session s') step.out → Leads passes e noted d'
+    → LedBy u.passes d e (λ asked. u.protocol.speaks s act asked step s') → noted ≡ notes_of (u.protocol.session s') step.out → Leads u.passes e noted d'
     → after ≡ after_of (is_refused act) step
-    → Appends w w' (flat_map (wire_on own) step.out) → Appends y y' (flat_map (wire_off own) step.out)
-    → Hears v passes own act (point s d w y) (point s' d' w' y') (Ok after)
-hears-ok v passes own s s' d e d' w w' y y' act step noted after led n notes a main side =
+    → Appends w w' (flat_map (wire_on u.own) step.out) → Appends y y' (flat_map (wire_off u.own) step.out)
+    → Hears u act (point s d w y) (point s' d' w' y') (Ok after)
+hears-ok u s s' d e d' w w' y y' act step noted after led n notes a main side =
     let x : Exchange = record { act = act; asked = led.asked; step = step; noted = noted } in (
       x ∷ [],
       [],
       refl,
       λ g. refl,
       record {
-        speaks = speaks-one v s s' x after led.admits n a;
-        asks = subst (λ (l : List Entry). Leads passes d l d') (sym (append-nil (led.asked ++ noted))) (onward passes d e d' led.asked noted led.leads notes);
-        main = one-out (wire_on own) w w' x main;
-        side = one-out (wire_off own) y y' x side;
+        speaks = speaks-one u.protocol s s' x after led.admits n a;
+        asks = subst (λ (l : List Entry). Leads u.passes d l d') (sym (append-nil (led.asked ++ noted)))
+            (onward u.passes d e d' led.asked noted led.leads notes);
+        main = one-out (wire_on u.own) w w' x main;
+        side = one-out (wire_off u.own) y y' x side;
       },
     )
 
-cut-off : {E D : Type 0} (v : Protocol E) (passes : D → Entry → D → Type 0) (own : Channel) (s s' : E) (d d' : D) (w w' y y' : Option (List ℕ)) (act : Act)
-    (step : Step)
-    → LedBy passes d d' (λ asked. v.speaks s act asked step s') → WritesPart w w' (flat_map (wire_on own) step.out)
-    → WritesPart y y' (flat_map (wire_off own) step.out)
-    → IsCutOff v passes own (point s d w y) (point s' d' w' y') act
-cut-off v passes own s s' d d' w w' y y' act step led main side = record
+cut-off : {E D : Type 0} (u : Voice E D) (s s' : E) (d d' : D) (w w' y y' : Option (List ℕ)) (act : Act) (step : Step)
+    → LedBy u.passes d d' (λ asked. u.protocol.speaks s act asked step s') → WritesPart w w' (flat_map (wire_on u.own) step.out)
+    → WritesPart y y' (flat_map (wire_off u.own) step.out)
+    → IsCutOff u (point s d w y) (point s' d' w' y') act
+cut-off u s s' d d' w w' y y' act step led main side = record
     { asked = led.asked; step = step; speaks = led.admits; asks = led.leads; main = main; side = side }
 
-pub hears-err : {E D : Type 0} (v : Protocol E) (passes : D → Entry → D → Type 0) (own : Channel) (s s' : E) (d d' : D) (w w' y y' : Option (List ℕ))
+pub hears-err : {E D : Type 0} (u : Voice E D) (s s' : E) (d d' : D) (w w' y y' : Option (List ℕ))
     (act : Act) (step : Step) (fault : ServeFault)
-    → LedBy passes d d' (λ asked. v.speaks s act asked step s') → WritesPart w w' (flat_map (wire_on own) step.out)
-    → WritesPart y y' (flat_map (wire_off own) step.out) → Sends (Err fault)
-    → Hears v passes own act (point s d w y) (point s' d' w' y') (Err fault)
-hears-err v passes own s s' d d' w w' y y' act step Fault.Write led main side f = cut-off v passes own s s' d d' w w' y y' act step led main side
-hears-err v passes own s s' d d' w w' y y' act step Fault.NoMemory led main side f = inl (cut-off v passes own s s' d d' w w' y y' act step led main side)
-hears-err v passes own s s' d d' w w' y y' act step Fault.Read led main side f = absurd f
-hears-err v passes own s s' d d' w w' y y' act step Fault.Wire led main side f = absurd f
-hears-err v passes own s s' d d' w w' y y' act step Fault.Fatal led main side f = absurd f
-hears-err v passes own s s' d d' w w' y y' act step Fault.ReadBound led main side f = absurd f
+    → LedBy u.passes d d' (λ asked. u.protocol.speaks s act asked step s') → WritesPart w w' (flat_map (wire_on u.own) step.out)
+    → WritesPart y y' (flat_map (wire_off u.own) step.out) → Sends (Err fault)
+    → Hears u act (point s d w y) (point s' d' w' y') (Err fault)
+hears-err u s s' d d' w w' y y' act step Fault.Write led main side f = cut-off u s s' d d' w w' y y' act step led main side
+hears-err u s s' d d' w w' y y' act step Fault.NoMemory led main side f = inl (cut-off u s s' d d' w w' y y' act step led main side)
+hears-err u s s' d d' w w' y y' act step Fault.Read led main side f = absurd f
+hears-err u s s' d d' w w' y y' act step Fault.Wire led main side f = absurd f
+hears-err u s s' d d' w w' y y' act step Fault.Fatal led main side f = absurd f
+hears-err u s s' d d' w w' y y' act step Fault.ReadBound led main side f = absurd f
 
-pub hears-starved : {E D : Type 0} (v : Protocol E) (passes : D → Entry → D → Type 0) (own : Channel) (s s' : E) (d d' : D) (w y : Option (List ℕ)) (act : Act)
-    → LedBy passes d d' (λ asked. v.falters s act asked s') → Hears v passes own act (point s d w y) (point s' d' w y) (Err Fault.NoMemory)
-hears-starved v passes own s s' d d' w y act led = inr (record { asked = led.asked; falters = led.admits; asks = led.leads; main = refl; side = refl })
+pub hears-starved : {E D : Type 0} (u : Voice E D) (s s' : E) (d d' : D) (w y : Option (List ℕ)) (act : Act)
+    → LedBy u.passes d d' (λ asked. u.protocol.falters s act asked s') → Hears u act (point s d w y) (point s' d' w y) (Err Fault.NoMemory)
+hears-starved u s s' d d' w y act led = inr (record { asked = led.asked; falters = led.admits; asks = led.leads; main = refl; side = refl })
 
 -- ---- reads that a time limit ended
 

@@ -5,7 +5,6 @@ use Rattle.std.proofs.lemmas.List.{length-drop}
 use Rattle.std.proofs.lemmas.List.Concat.{flat_map-append}
 use Rattle.sw_hislip.specs.Wire.{header, header_of}
 use Rattle.sw_hislip.specs.Pending.{Pending, Waits, HasWrongPrologue}
-use Rattle.sw_session.specs.declared.engine.step.Channel.{Channel}
 use Rattle.sw_session.specs.declared.servers.act.Act.{Act}
 use Rattle.sw_session.specs.declared.servers.act.Act.TheVariants.{Takes, Skips, Refuses, Notices}
 use Rattle.sw_session.specs.declared.servers.act.After.{After}
@@ -13,21 +12,19 @@ use Rattle.sw_session.specs.declared.servers.act.After.TheVariants.{Goes, Ends, 
 use Rattle.sw_session.specs.declared.servers.fault.ServeFault.{ServeFault}
 use Rattle.sw_session.specs.declared.servers.turns.Came.{Came}
 use Rattle.sw_session.specs.declared.servers.turns.Next.{Next}
-use Rattle.sw_session.specs.Trace.{Entry}
-use Rattle.sw_session.specs.Serve.{Protocol, acts_for, is_refused, pauses, Point, Stops, GoesThrough, Judges, Hears, HearsEach, Finds, HoldsMessage, NextInput}
-use Rattle.sw_session.specs.Serve.{Tells, Stands, Listens, HearsAll, TakesTurn}
+use Rattle.sw_session.specs.Serve.{Voice, Service, acts_for, is_refused, pauses, Point, Stops, GoesThrough, Judges, Hears, HearsEach, Finds, HoldsMessage}
+use Rattle.sw_session.specs.Serve.{NextInput, Tells, Stands, Listens, HearsAll, Course, TakesTurn}
 use Rattle.sw_session.proofs.ServeParts.{found-unpaused, none-more, tells-nothing, tells-then, tells-found, goes-nowhere, goes-then, ends-before, stops-then}
 use Rattle.sw_session.proofs.ServeParts.{stops-at}
 
 -- ---- results that are known
 
-pub hears-is : {E D : Type 0} (v : Protocol E) (passes : D → Entry → D → Type 0) (own : Channel) (act : Act) (a b : Point E D) (r q : Result After ServeFault)
-    → r ≡ q → Hears v passes own act a b r → Hears v passes own act a b q
-hears-is v passes own act a b r q e h = subst (λ (x : Result After ServeFault). Hears v passes own act a b x) e h
+pub hears-is : {E D : Type 0} (u : Voice E D) (act : Act) (a b : Point E D) (r q : Result After ServeFault) → r ≡ q → Hears u act a b r → Hears u act a b q
+hears-is u act a b r q e h = subst (λ (x : Result After ServeFault). Hears u act a b x) e h
 
-pub each-is : {E D : Type 0} (v : Protocol E) (passes : D → Entry → D → Type 0) (own : Channel) (acts : List Act) (a b : Point E D)
-    (r q : Result After ServeFault) → r ≡ q → HearsEach v passes own acts a b r → HearsEach v passes own acts a b q
-each-is v passes own acts a b r q e h = subst (λ (x : Result After ServeFault). HearsEach v passes own acts a b x) e h
+pub each-is : {E D : Type 0} (u : Voice E D) (acts : List Act) (a b : Point E D) (r q : Result After ServeFault)
+    → r ≡ q → HearsEach u acts a b r → HearsEach u acts a b q
+each-is u acts a b r q e h = subst (λ (x : Result After ServeFault). HearsEach u acts a b x) e h
 
 pub next-is : (p p' : Pending) (r : Result (Option Act) ServeFault) (input : Act) → r ≡ Ok (Some input) → NextInput p p' r → Finds p input p'
 next-is p p' r input e n = subst (λ (x : Result (Option Act) ServeFault). NextInput p p' x) e n
@@ -35,37 +32,35 @@ next-is p p' r input e n = subst (λ (x : Result (Option Act) ServeFault). NextI
 pub listens-is : (input left : Option (List ℕ)) (p p' : Pending) (r q : Result Came ServeFault) → r ≡ q → Listens input left p p' r → Listens input left p p' q
 listens-is input left p p' r q e l = subst (λ (x : Result Came ServeFault). Listens input left p p' x) e l
 
-pub turn-is : {E D : Type 0} (v : Protocol E) (passes : D → Entry → D → Type 0) (own : Channel) (may_pause : Type 0) (p p' : Pending) (a b : Point E D)
-    (input left : Option (List ℕ)) (r q : Result Next ServeFault) → r ≡ q → TakesTurn v passes own may_pause p p' a b input left r
-    → TakesTurn v passes own may_pause p p' a b input left q
-turn-is v passes own may_pause p p' a b input left r q e t = subst (λ (x : Result Next ServeFault). TakesTurn v passes own may_pause p p' a b input left x) e t
+pub turn-is : {E D : Type 0} (s : Service E D) (p p' : Pending) (a b : Course E D) (r q : Result Next ServeFault)
+    → r ≡ q → TakesTurn s p p' a b r → TakesTurn s p p' a b q
+turn-is s p p' a b r q e t = subst (λ (x : Result Next ServeFault). TakesTurn s p p' a b x) e t
 
 -- ---- what the wire tells
 
 -- one act is all
-pub each-one : {E D : Type 0} (v : Protocol E) (passes : D → Entry → D → Type 0) (own : Channel) (act : Act) (a b : Point E D) (r : Result After ServeFault)
-    → Hears v passes own act a b r → HearsEach v passes own (act ∷ []) a b r
-each-one v passes own act a b (Ok after) h = h
-each-one v passes own act a b (Err fault) h = stops-at v passes own a b act [] fault h
+pub each-one : {E D : Type 0} (u : Voice E D) (act : Act) (a b : Point E D) (r : Result After ServeFault)
+    → Hears u act a b r → HearsEach u (act ∷ []) a b r
+each-one u act a b (Ok after) h = h
+each-one u act a b (Err fault) h = stops-at u a b act [] fault h
 
 -- an act, and then another
-pub each-two : {E D : Type 0} (v : Protocol E) (passes : D → Entry → D → Type 0) (own : Channel) (first second : Act) (a b c : Point E D)
-    (r : Result After ServeFault)
-    → Hears v passes own first a b (Ok Goes) → Hears v passes own second b c r → HearsEach v passes own (first ∷ second ∷ []) a c r
-each-two v passes own first second a b c (Ok after) h k = goes-then v passes own a b c (first ∷ []) (second ∷ []) after h k
-each-two v passes own first second a b c (Err fault) h k = stops-then v passes own a b c (first ∷ []) (second ∷ []) fault h
-    (stops-at v passes own b c second [] fault k)
+pub each-two : {E D : Type 0} (u : Voice E D) (first second : Act) (a b c : Point E D) (r : Result After ServeFault)
+    → Hears u first a b (Ok Goes) → Hears u second b c r → HearsEach u (first ∷ second ∷ []) a c r
+each-two u first second a b c (Ok after) h k = goes-then u a b c (first ∷ []) (second ∷ []) after h k
+each-two u first second a b c (Err fault) h k = stops-then u a b c (first ∷ []) (second ∷ []) fault h
+    (stops-at u b c second [] fault k)
 
 -- an act that ends the channel before another
-pub each-end : {E D : Type 0} (v : Protocol E) (passes : D → Entry → D → Type 0) (own : Channel) (first second : Act) (a b : Point E D) (after : After)
+pub each-end : {E D : Type 0} (u : Voice E D) (first second : Act) (a b : Point E D) (after : After)
     → (after ≡ Goes → ⊥)
-    → Hears v passes own first a b (Ok after) → HearsEach v passes own (first ∷ second ∷ []) a b (Ok after)
-each-end v passes own first second a b after ended h = ends-before v passes own a b (first ∷ []) (second ∷ []) after ended h
+    → Hears u first a b (Ok after) → HearsEach u (first ∷ second ∷ []) a b (Ok after)
+each-end u first second a b after ended h = ends-before u a b (first ∷ []) (second ∷ []) after ended h
 
 -- or that fails
-pub each-err : {E D : Type 0} (v : Protocol E) (passes : D → Entry → D → Type 0) (own : Channel) (first second : Act) (a b : Point E D) (fault : ServeFault)
-    → Hears v passes own first a b (Err fault) → HearsEach v passes own (first ∷ second ∷ []) a b (Err fault)
-each-err v passes own first second a b fault h = stops-at v passes own a b first (second ∷ []) fault h
+pub each-err : {E D : Type 0} (u : Voice E D) (first second : Act) (a b : Point E D) (fault : ServeFault)
+    → Hears u first a b (Err fault) → HearsEach u (first ∷ second ∷ []) a b (Err fault)
+each-err u first second a b fault h = stops-at u a b first (second ∷ []) fault h
 
 -- ---- all that the wire tells
 
@@ -95,71 +90,69 @@ stands p p' Refuses Malformed ended f judged = subst (λ (q : Pending). HasWrong
 stands p p' Notices Malformed ended f judged = absurd f
 
 -- so far all that the wire told is gone through
-pub record Hearing {E D : Type 0} (v : Protocol E) (passes : D → Entry → D → Type 0) (own : Channel) (p p' : Pending) (a b : Point E D) : Type 0 where
+pub record Hearing {E D : Type 0} (u : Voice E D) (p p' : Pending) (a b : Point E D) : Type 0 where
   pub inputs : List Act
   pub unpaused : pauses inputs ≡ 0
   pub tells : Tells p p' [] inputs
-  pub goes : GoesThrough v passes own a b (flat_map acts_for inputs) Goes
+  pub goes : GoesThrough u a b (flat_map acts_for inputs) Goes
 
-pub hearing-start : {E D : Type 0} (v : Protocol E) (passes : D → Entry → D → Type 0) (own : Channel) (p : Pending) (a : Point E D)
-    → Hearing v passes own p p a a
-hearing-start v passes own p a = record { inputs = []; unpaused = refl; tells = tells-nothing p; goes = goes-nowhere v passes own a }
+pub hearing-start : {E D : Type 0} (u : Voice E D) (p : Pending) (a : Point E D) → Hearing u p p a a
+hearing-start u p a = record { inputs = []; unpaused = refl; tells = tells-nothing p; goes = goes-nowhere u a }
 
 acts-more : (inputs : List Act) (input : Act) → flat_map acts_for inputs ++ acts_for input ≡ flat_map acts_for (inputs ++ input ∷ [])
 acts-more inputs input = ap (λ (l : List Act). flat_map acts_for inputs ++ l) (sym (append-nil (acts_for input))) ∙ sym
     (flat_map-append acts_for inputs (input ∷ []))
 
-goes-more : {E D : Type 0} (v : Protocol E) (passes : D → Entry → D → Type 0) (own : Channel) (a b c : Point E D) (inputs : List Act) (input : Act)
-    (after : After) → GoesThrough v passes own a b (flat_map acts_for inputs) Goes → GoesThrough v passes own b c (acts_for input) after
-    → GoesThrough v passes own a c (flat_map acts_for (inputs ++ input ∷ [])) after
-goes-more v passes own a b c inputs input after g h =
-    subst (λ (l : List Act). GoesThrough v passes own a c l after) (acts-more inputs input)
-    (goes-then v passes own a b c (flat_map acts_for inputs) (acts_for input) after g h)
+goes-more : {E D : Type 0} (u : Voice E D) (a b c : Point E D) (inputs : List Act) (input : Act) (after : After)
+    → GoesThrough u a b (flat_map acts_for inputs) Goes → GoesThrough u b c (acts_for input) after
+    → GoesThrough u a c (flat_map acts_for (inputs ++ input ∷ [])) after
+goes-more u a b c inputs input after g h =
+    subst (λ (l : List Act). GoesThrough u a c l after) (acts-more inputs input)
+    (goes-then u a b c (flat_map acts_for inputs) (acts_for input) after g h)
 
-pub hearing-on : {E D : Type 0} (v : Protocol E) (passes : D → Entry → D → Type 0) (own : Channel) (p q q' : Pending) (a b c : Point E D) (input : Act)
-    → Hearing v passes own p q a b → Finds q input q' → HearsEach v passes own (acts_for input) b c (Ok Goes) → Hearing v passes own p q' a c
-hearing-on v passes own p q q' a b c input k f h = record {
+pub hearing-on : {E D : Type 0} (u : Voice E D) (p q q' : Pending) (a b c : Point E D) (input : Act)
+    → Hearing u p q a b → Finds q input q' → HearsEach u (acts_for input) b c (Ok Goes) → Hearing u p q' a c
+hearing-on u p q q' a b c input k f h = record {
   inputs = k.inputs ++ input ∷ [];
   unpaused = none-more k.inputs input k.unpaused (found-unpaused q q' input f);
   tells = tells-then p q q' [] [] k.inputs (input ∷ []) k.tells (tells-found q q' input f);
-  goes = goes-more v passes own a b c k.inputs input Goes k.goes h;
+  goes = goes-more u a b c k.inputs input Goes k.goes h;
 }
 
 -- no more is whole
-pub all-heard : {E D : Type 0} (v : Protocol E) (passes : D → Entry → D → Type 0) (own : Channel) (p q q' : Pending) (a b : Point E D)
-    → Hearing v passes own p q a b → NextInput q q' (Ok None) → HearsAll v passes own p q' a b (Ok Goes)
-all-heard v passes own p q q' a b k (waits, same) = record {
+pub all-heard : {E D : Type 0} (u : Voice E D) (p q q' : Pending) (a b : Point E D)
+    → Hearing u p q a b → NextInput q q' (Ok None) → HearsAll u p q' a b (Ok Goes)
+all-heard u p q q' a b k (waits, same) = record {
   inputs = k.inputs;
   unpaused = k.unpaused;
   tells = subst (λ (r : Pending). Tells p r [] k.inputs) (sym same) k.tells;
   spoken = (k.goes, subst (λ (r : Pending). Waits r.bytes) (sym same) waits);
 }
 
-pub all-ended : {E D : Type 0} (v : Protocol E) (passes : D → Entry → D → Type 0) (own : Channel) (p q q' : Pending) (a b c : Point E D) (input : Act)
-    (after : After) → (after ≡ Goes → ⊥)
-    → Hearing v passes own p q a b → Finds q input q' → HearsEach v passes own (acts_for input) b c (Ok after) → Judges (is_refused input) after
-    → HearsAll v passes own p q' a c (Ok after)
-all-ended v passes own p q q' a b c input after ended k f h judged = record {
+pub all-ended : {E D : Type 0} (u : Voice E D) (p q q' : Pending) (a b c : Point E D) (input : Act) (after : After)
+    → (after ≡ Goes → ⊥)
+    → Hearing u p q a b → Finds q input q' → HearsEach u (acts_for input) b c (Ok after) → Judges (is_refused input) after
+    → HearsAll u p q' a c (Ok after)
+all-ended u p q q' a b c input after ended k f h judged = record {
   inputs = k.inputs ++ input ∷ [];
   unpaused = none-more k.inputs input k.unpaused (found-unpaused q q' input f);
   tells = tells-then p q q' [] [] k.inputs (input ∷ []) k.tells (tells-found q q' input f);
-  spoken = (goes-more v passes own a b c k.inputs input after k.goes h, stands q q' input after ended f judged);
+  spoken = (goes-more u a b c k.inputs input after k.goes h, stands q q' input after ended f judged);
 }
 
-pub all-stopped : {E D : Type 0} (v : Protocol E) (passes : D → Entry → D → Type 0) (own : Channel) (p q q' : Pending) (a b c : Point E D) (input : Act)
-    (fault : ServeFault)
-    → Hearing v passes own p q a b → Finds q input q' → HearsEach v passes own (acts_for input) b c (Err fault) → HearsAll v passes own p q' a c (Err fault)
-all-stopped v passes own p q q' a b c input fault k f h = record {
+pub all-stopped : {E D : Type 0} (u : Voice E D) (p q q' : Pending) (a b c : Point E D) (input : Act) (fault : ServeFault)
+    → Hearing u p q a b → Finds q input q' → HearsEach u (acts_for input) b c (Err fault) → HearsAll u p q' a c (Err fault)
+all-stopped u p q q' a b c input fault k f h = record {
   inputs = k.inputs ++ input ∷ [];
   unpaused = none-more k.inputs input k.unpaused (found-unpaused q q' input f);
   tells = tells-then p q q' [] [] k.inputs (input ∷ []) k.tells (tells-found q q' input f);
-  spoken = inl (subst (λ (l : List Act). Stops v passes own a c l fault) (acts-more k.inputs input)
-      (stops-then v passes own a b c (flat_map acts_for k.inputs) (acts_for input) fault k.goes h));
+  spoken = inl (subst (λ (l : List Act). Stops u a c l fault) (acts-more k.inputs input)
+      (stops-then u a b c (flat_map acts_for k.inputs) (acts_for input) fault k.goes h));
 }
 
-pub all-starved : {E D : Type 0} (v : Protocol E) (passes : D → Entry → D → Type 0) (own : Channel) (p q q' : Pending) (a b : Point E D) (fault : ServeFault)
-    → Hearing v passes own p q a b → NextInput q q' (Err fault) → HearsAll v passes own p q' a b (Err fault)
-all-starved v passes own p q q' a b fault k (e, same, whole) = record {
+pub all-starved : {E D : Type 0} (u : Voice E D) (p q q' : Pending) (a b : Point E D) (fault : ServeFault)
+    → Hearing u p q a b → NextInput q q' (Err fault) → HearsAll u p q' a b (Err fault)
+all-starved u p q q' a b fault k (e, same, whole) = record {
   inputs = k.inputs;
   unpaused = k.unpaused;
   tells = subst (λ (r : Pending). Tells p r [] k.inputs) (sym same) k.tells;

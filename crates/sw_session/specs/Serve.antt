@@ -35,6 +35,24 @@ pub record Protocol (E : Type 0) : Type 1 where
   pub falters : E → Act → List Entry → E → Type 0
   pub session : E → Option Sid
 
+-- What one channel's server stands on where it asks and writes: the engine's definition, what passes between it and its
+-- desk, and which channel it serves.
+pub record Voice (E D : Type 0) : Type 1 where
+  pub protocol : Protocol E
+  pub passes : D → Entry → D → Type 0
+  pub own : Channel
+
+abbrev pub voice : {E D : Type 0} → Protocol E → (D → Entry → D → Type 0) → Channel → Voice E D
+voice v passes own = record { protocol = v; passes = passes; own = own }
+
+-- The same where it reads as well: may_pause says that a time limit can end a read.
+pub record Service (E D : Type 0) : Type 1 where
+  pub voice : Voice E D
+  pub may_pause : Type 0
+
+abbrev pub service : {E D : Type 0} → Voice E D → Type 0 → Service E D
+service u may_pause = record { voice = u; may_pause = may_pause }
+
 -- ---- acts
 
 -- what a server does for what it reads: before each message is taken it looks for service requests
@@ -130,65 +148,59 @@ abbrev pub point : {E D : Type 0} → E → D → Option (List ℕ) → Option (
 point s d w x = record { engine = s; desk = d; main = w; side = x }
 
 -- The engine's definition of these exchanges is what was asked, and what the writers got.
-pub record Spoken {E D : Type 0} (v : Protocol E) (passes : D → Entry → D → Type 0) (own : Channel) (a b : Point E D)
-    (xs : List Exchange) (after : After) : Type 0 where
-  pub speaks : Speaks v a.engine xs after b.engine
-  pub asks : Leads passes a.desk (asks_of xs) b.desk
-  pub main : Appends a.main b.main (flat_map (wire_on own) (said_of xs))
-  pub side : Appends a.side b.side (flat_map (wire_off own) (said_of xs))
+pub record Spoken {E D : Type 0} (u : Voice E D) (a b : Point E D) (xs : List Exchange) (after : After) : Type 0 where
+  pub speaks : Speaks u.protocol a.engine xs after b.engine
+  pub asks : Leads u.passes a.desk (asks_of xs) b.desk
+  pub main : Appends a.main b.main (flat_map (wire_on u.own) (said_of xs))
+  pub side : Appends a.side b.side (flat_map (wire_off u.own) (said_of xs))
 
 -- ---- acts that fail
 
 -- what was said to an act was not written whole
-pub record IsCutOff {E D : Type 0} (v : Protocol E) (passes : D → Entry → D → Type 0) (own : Channel) (a b : Point E D)
-    (act : Act) : Type 0 where
+pub record IsCutOff {E D : Type 0} (u : Voice E D) (a b : Point E D) (act : Act) : Type 0 where
   pub asked : List Entry
   pub step : Step
-  pub speaks : v.speaks a.engine act asked step b.engine
-  pub asks : Leads passes a.desk asked b.desk
-  pub main : WritesPart a.main b.main (flat_map (wire_on own) step.out)
-  pub side : WritesPart a.side b.side (flat_map (wire_off own) step.out)
+  pub speaks : u.protocol.speaks a.engine act asked step b.engine
+  pub asks : Leads u.passes a.desk asked b.desk
+  pub main : WritesPart a.main b.main (flat_map (wire_on u.own) step.out)
+  pub side : WritesPart a.side b.side (flat_map (wire_off u.own) step.out)
 
 -- there was no memory for an act
-pub record IsStarved {E D : Type 0} (v : Protocol E) (passes : D → Entry → D → Type 0) (a b : Point E D)
-    (act : Act) : Type 0 where
+pub record IsStarved {E D : Type 0} (u : Voice E D) (a b : Point E D) (act : Act) : Type 0 where
   pub asked : List Entry
-  pub falters : v.falters a.engine act asked b.engine
-  pub asks : Leads passes a.desk asked b.desk
+  pub falters : u.protocol.falters a.engine act asked b.engine
+  pub asks : Leads u.passes a.desk asked b.desk
   pub main : b.main ≡ a.main
   pub side : b.side ≡ a.side
 
-abbrev pub Breaks : {E D : Type 0} → Protocol E → (D → Entry → D → Type 0) → Channel → Point E D → Point E D → Act
-    → ServeFault → Type 0
-Breaks v passes own a b act Fault.Write = IsCutOff v passes own a b act
-Breaks v passes own a b act Fault.NoMemory = IsCutOff v passes own a b act ⊎ IsStarved v passes a b act
-Breaks v passes own a b act fault = ⊥
+abbrev pub Breaks : {E D : Type 0} → Voice E D → Point E D → Point E D → Act → ServeFault → Type 0
+Breaks u a b act Fault.Write = IsCutOff u a b act
+Breaks u a b act Fault.NoMemory = IsCutOff u a b act ⊎ IsStarved u a b act
+Breaks u a b act fault = ⊥
 
 -- these acts are gone through up to one that fails
-pub record Stops {E D : Type 0} (v : Protocol E) (passes : D → Entry → D → Type 0) (own : Channel) (a b : Point E D)
-    (acts : List Act) (fault : ServeFault) : Type 0 where
+pub record Stops {E D : Type 0} (u : Voice E D) (a b : Point E D) (acts : List Act)
+    (fault : ServeFault) : Type 0 where
   pub xs : List Exchange
   pub act : Act
   pub rest : List Act
   pub mid : Point E D
   pub acts_are : acts_of xs ++ act ∷ rest ≡ acts
-  pub spoken : Spoken v passes own a mid xs Goes
-  pub breaks : Breaks v passes own mid b act fault
+  pub spoken : Spoken u a mid xs Goes
+  pub breaks : Breaks u mid b act fault
 
 -- these acts are gone through, all of them where the channel goes on, and else up to the one that ends it
-abbrev pub GoesThrough : {E D : Type 0} → Protocol E → (D → Entry → D → Type 0) → Channel → Point E D → Point E D
-    → List Act → After → Type 0
-GoesThrough v passes own a b acts after =
+abbrev pub GoesThrough : {E D : Type 0} → Voice E D → Point E D → Point E D → List Act → After → Type 0
+GoesThrough u a b acts after =
     (xs : List Exchange) × (rest : List Act) × (acts_of xs ++ rest ≡ acts) × (after ≡ Goes → rest ≡ [])
-    × Spoken v passes own a b xs after
+    × Spoken u a b xs after
 
 -- ---- clauses of a server's parts
 
 -- one act
-abbrev pub Hears : {E D : Type 0} → Protocol E → (D → Entry → D → Type 0) → Channel → Act → Point E D → Point E D
-    → Result After ServeFault → Type 0
-Hears v passes own act a b (Ok after) = GoesThrough v passes own a b (act ∷ []) after
-Hears v passes own act a b (Err fault) = Breaks v passes own a b act fault
+abbrev pub Hears : {E D : Type 0} → Voice E D → Act → Point E D → Point E D → Result After ServeFault → Type 0
+Hears u act a b (Ok after) = GoesThrough u a b (act ∷ []) after
+Hears u act a b (Err fault) = Breaks u a b act fault
 
 -- only a wrong prologue ends a channel as malformed, and it always does
 abbrev pub Judges : Bool → After → Type 0
@@ -196,10 +208,9 @@ Judges true after = after ≡ Malformed
 Judges false after = after ≢ Malformed
 
 -- some acts
-abbrev pub HearsEach : {E D : Type 0} → Protocol E → (D → Entry → D → Type 0) → Channel → List Act → Point E D
-    → Point E D → Result After ServeFault → Type 0
-HearsEach v passes own acts a b (Ok after) = GoesThrough v passes own a b acts after
-HearsEach v passes own acts a b (Err fault) = Stops v passes own a b acts fault
+abbrev pub HearsEach : {E D : Type 0} → Voice E D → List Act → Point E D → Point E D → Result After ServeFault → Type 0
+HearsEach u acts a b (Ok after) = GoesThrough u a b acts after
+HearsEach u acts a b (Err fault) = Stops u a b acts fault
 
 -- a whole message stands at the front
 abbrev pub HoldsMessage : Pending → Type 0
@@ -242,21 +253,20 @@ Stands Malformed p = HasWrongPrologue p.bytes
 Stands Ends p = Unit {0}
 Stands Fatal p = Unit {0}
 
-abbrev pub HearsInputs : {E D : Type 0} → Protocol E → (D → Entry → D → Type 0) → Channel → List Act → Pending
-    → Point E D → Point E D → Result After ServeFault → Type 0
-HearsInputs v passes own inputs p a b (Ok after) = GoesThrough v passes own a b (flat_map acts_for inputs) after
-    × Stands after p
-HearsInputs v passes own inputs p a b (Err fault) =
-    Stops v passes own a b (flat_map acts_for inputs) fault
-    ⊎ ((fault ≡ Fault.NoMemory) × GoesThrough v passes own a b (flat_map acts_for inputs) Goes × HoldsMessage p)
+abbrev pub HearsInputs : {E D : Type 0} → Voice E D → List Act → Pending → Point E D → Point E D
+    → Result After ServeFault → Type 0
+HearsInputs u inputs p a b (Ok after) = GoesThrough u a b (flat_map acts_for inputs) after × Stands after p
+HearsInputs u inputs p a b (Err fault) =
+    Stops u a b (flat_map acts_for inputs) fault
+    ⊎ ((fault ≡ Fault.NoMemory) × GoesThrough u a b (flat_map acts_for inputs) Goes × HoldsMessage p)
 
 -- all that the wire tells is gone through, or what it tells up to an end of the channel or a fault
-pub record HearsAll {E D : Type 0} (v : Protocol E) (passes : D → Entry → D → Type 0) (own : Channel) (p p' : Pending)
-    (a b : Point E D) (result : Result After ServeFault) : Type 0 where
+pub record HearsAll {E D : Type 0} (u : Voice E D) (p p' : Pending) (a b : Point E D)
+    (result : Result After ServeFault) : Type 0 where
   pub inputs : List Act
   pub unpaused : pauses inputs ≡ 0
   pub tells : Tells p p' [] inputs
-  pub spoken : HearsInputs v passes own inputs p' a b result
+  pub spoken : HearsInputs u inputs p' a b result
 
 -- how a channel's state ends a turn
 abbrev pub conclude : Result After ServeFault → Result Next ServeFault
@@ -277,11 +287,22 @@ abbrev pub Loses : {A : Type 0} → Result A ServeFault → List ℕ → Type 0
 Loses (Ok _) lost = lost ≡ []
 Loses (Err fault) lost = LosesAt fault lost
 
+-- How far a run, or a turn, has come: the acts for what was read, what is pending, the bytes that were lost, how many
+-- bytes and pauses were read, and what is left to be read, where that is known.
+pub record Progress : Type 0 where
+  pub acts : List Act
+  pub pending : Pending
+  pub lost : List ℕ
+  pub count : ℕ
+  pub left : Option (List ℕ)
+
+abbrev pub progress : List Act → Pending → List ℕ → ℕ → Option (List ℕ) → Progress
+progress acts p lost count left = record { acts = acts; pending = p; lost = lost; count = count; left = left }
+
 -- A run ends well where all was read and gone through, or where the channel ended.
-abbrev pub EndsWell : {E D : Type 0} → Protocol E → (D → Entry → D → Type 0) → Channel → Point E D → Point E D
-    → List Act → Pending → Option (List ℕ) → Type 0
-EndsWell v passes own a b acts p left = (GoesThrough v passes own a b acts Goes × Waits p.bytes × IsAtEnd left)
-    ⊎ GoesThrough v passes own a b acts Ends
+abbrev pub EndsWell : {E D : Type 0} → Voice E D → Point E D → Point E D → Progress → Type 0
+EndsWell u a b so_far = (GoesThrough u a b so_far.acts Goes × Waits so_far.pending.bytes × IsAtEnd so_far.left)
+    ⊎ GoesThrough u a b so_far.acts Ends
 
 -- there was no memory for bytes that came, or for a whole message at the front
 abbrev pub LacksMemory : Pending → List ℕ → Type 0
@@ -289,69 +310,76 @@ LacksMemory p lost = (0 < length lost) ⊎ HoldsMessage p
 
 -- Why a run fails: after a read fault all that was read is gone through; a wrong prologue stands in a message's place,
 -- or the engine met a fatal error; ReadBound comes after as many bytes and pauses as there are turns.
-abbrev pub FailsBy : {E D : Type 0} → Protocol E → (D → Entry → D → Type 0) → Channel → Point E D → Point E D → List Act
-    → Pending → List ℕ → ℕ → ℕ → ServeFault → Type 0
-FailsBy v passes own a b acts p lost turns n Fault.Read = GoesThrough v passes own a b acts Goes × Waits p.bytes
-FailsBy v passes own a b acts p lost turns n Fault.Write = Stops v passes own a b acts Fault.Write
-FailsBy v passes own a b acts p lost turns n Fault.Wire = GoesThrough v passes own a b acts Malformed
-    × HasWrongPrologue p.bytes
-FailsBy v passes own a b acts p lost turns n Fault.Fatal = GoesThrough v passes own a b acts Fatal
-FailsBy v passes own a b acts p lost turns n Fault.NoMemory = Stops v passes own a b acts Fault.NoMemory
-    ⊎ (GoesThrough v passes own a b acts Goes × LacksMemory p lost)
-FailsBy v passes own a b acts p lost turns n Fault.ReadBound = GoesThrough v passes own a b acts Goes × Waits p.bytes
-    × (turns ≤ n)
+abbrev pub FailsBy : {E D : Type 0} → Voice E D → Point E D → Point E D → Progress → ℕ → ServeFault → Type 0
+FailsBy u a b so_far turns Fault.Read = GoesThrough u a b so_far.acts Goes × Waits so_far.pending.bytes
+FailsBy u a b so_far turns Fault.Write = Stops u a b so_far.acts Fault.Write
+FailsBy u a b so_far turns Fault.Wire = GoesThrough u a b so_far.acts Malformed × HasWrongPrologue so_far.pending.bytes
+FailsBy u a b so_far turns Fault.Fatal = GoesThrough u a b so_far.acts Fatal
+FailsBy u a b so_far turns Fault.NoMemory = Stops u a b so_far.acts Fault.NoMemory
+    ⊎ (GoesThrough u a b so_far.acts Goes × LacksMemory so_far.pending so_far.lost)
+FailsBy u a b so_far turns Fault.ReadBound = GoesThrough u a b so_far.acts Goes × Waits so_far.pending.bytes
+    × (turns ≤ so_far.count)
 
-abbrev pub EndsTurn : {E D : Type 0} → Protocol E → (D → Entry → D → Type 0) → Channel → Point E D → Point E D
-    → List Act → Pending → List ℕ → ℕ → Option (List ℕ) → Result Next ServeFault → Type 0
-EndsTurn v passes own a b acts p lost n left (Ok On) = GoesThrough v passes own a b acts Goes × Waits p.bytes × (0 < n)
-EndsTurn v passes own a b acts p lost n left (Ok Over) = EndsWell v passes own a b acts p left
-EndsTurn v passes own a b acts p lost n left (Err fault) = FailsBy v passes own a b acts p lost 0 n fault
-    × (fault ≡ Fault.ReadBound → ⊥)
+abbrev pub EndsTurn : {E D : Type 0} → Voice E D → Point E D → Point E D → Progress → Result Next ServeFault → Type 0
+EndsTurn u a b so_far (Ok On) = GoesThrough u a b so_far.acts Goes × Waits so_far.pending.bytes × (0 < so_far.count)
+EndsTurn u a b so_far (Ok Over) = EndsWell u a b so_far
+EndsTurn u a b so_far (Err fault) = FailsBy u a b so_far 0 fault × (fault ≡ Fault.ReadBound → ⊥)
 
--- one read, and what is gone through for it; may_pause says that a time limit can end a read
-pub record TakesTurn {E D : Type 0} (v : Protocol E) (passes : D → Entry → D → Type 0) (own : Channel)
-    (may_pause : Type 0)
-    (p p' : Pending) (a b : Point E D) (input left : Option (List ℕ)) (result : Result Next ServeFault) : Type 0 where
+-- where a server stands, and what is left to be read
+pub record Course (E D : Type 0) : Type 0 where
+  pub point : Point E D
+  pub input : Option (List ℕ)
+
+abbrev pub course : {E D : Type 0} → Point E D → Option (List ℕ) → Course E D
+course a input = record { point = a; input = input }
+
+-- one read, and what is gone through for it
+pub record TakesTurn {E D : Type 0} (s : Service E D) (p p' : Pending) (before after : Course E D)
+    (result : Result Next ServeFault) : Type 0 where
   pub read : List ℕ
   pub lost : List ℕ
-  pub reads : Consumes input left (read ++ lost)
+  pub reads : Consumes before.input after.input (read ++ lost)
   pub loses : Loses result lost
   pub inputs : List Act
-  pub paused : 0 < pauses inputs → may_pause
+  pub paused : 0 < pauses inputs → s.may_pause
   pub tells : Tells p p' read inputs
-  pub ends : EndsTurn v passes own a b (flat_map acts_for inputs) p' lost
-      (length read + pauses inputs) left result
+  pub ends : EndsTurn s.voice before.point after.point
+      (progress (flat_map acts_for inputs) p' lost (length read + pauses inputs) after.input) result
 
-abbrev pub EndsRun : {E D : Type 0} → Protocol E → (D → Entry → D → Type 0) → Channel → Point E D → Point E D → List Act
-    → Pending → List ℕ → ℕ → ℕ → Option (List ℕ) → Result (Unit {0}) ServeFault → Type 0
-EndsRun v passes own a b acts p lost turns n left (Ok _) = EndsWell v passes own a b acts p left
-EndsRun v passes own a b acts p lost turns n left (Err fault) = FailsBy v passes own a b acts p lost turns n fault
+abbrev pub EndsRun : {E D : Type 0} → Voice E D → Point E D → Point E D → Progress → ℕ → Result (Unit {0}) ServeFault
+    → Type 0
+EndsRun u a b so_far turns (Ok _) = EndsWell u a b so_far
+EndsRun u a b so_far turns (Err fault) = FailsBy u a b so_far turns fault
 
 -- These bytes were read, however they were cut. The messages that stand in them are what the engine is asked, as far as
 -- the run came; where it waits for more, or stands at a wrong prologue, those are all messages of the stream. No time
 -- limit ended a read where none can.
-pub record Runs {E D : Type 0} (v : Protocol E) (passes : D → Entry → D → Type 0) (own : Channel) (may_pause : Type 0)
-    (turns : ℕ) (a b : Point E D) (input left : Option (List ℕ)) (result : Result (Unit {0}) ServeFault) : Type 0 where
+pub record Runs {E D : Type 0} (s : Service E D) (turns : ℕ) (before after : Course E D)
+    (result : Result (Unit {0}) ServeFault) : Type 0 where
   pub read : List ℕ
   pub lost : List ℕ
-  pub reads : Consumes input left (read ++ lost)
+  pub reads : Consumes before.input after.input (read ++ lost)
   pub loses : Loses result lost
   pub inputs : List Act
-  pub paused : 0 < pauses inputs → may_pause
+  pub paused : 0 < pauses inputs → s.may_pause
   pub pending : Pending
   pub follows : Follows read (flat_map arrived inputs) pending
   pub stream : Rests pending.bytes → IsStream read follows.messages follows.rest
-  pub ends : EndsRun v passes own a b (flat_map acts_for inputs) pending lost turns
-      (length read + pauses inputs) left result
+  pub ends : EndsRun s.voice before.point after.point
+      (progress (flat_map acts_for inputs) pending lost (length read + pauses inputs) after.input) turns result
 
 -- a session that was joined is left, and nothing else is asked
 abbrev pub Leaves : {D : Type 0} → (D → Entry → D → Type 0) → Option Sid → D → D → Type 0
 Leaves passes None d d' = d' ≡ d
 Leaves passes (Some sid) d d' = (answer : SessionAnswer) × passes d (Asked (Ask.Leave sid) answer) d'
 
+-- the same with this desk
+abbrev pub with_desk : {E D : Type 0} → D → Course E D → Course E D
+with_desk d c = course (point c.point.engine d c.point.main c.point.side) c.input
+
 -- a run, and then the session is left
-pub record Serves {E D : Type 0} (v : Protocol E) (passes : D → Entry → D → Type 0) (own : Channel) (may_pause : Type 0)
-    (turns : ℕ) (a b : Point E D) (input left : Option (List ℕ)) (result : Result (Unit {0}) ServeFault) : Type 0 where
+pub record Serves {E D : Type 0} (s : Service E D) (turns : ℕ) (before after : Course E D)
+    (result : Result (Unit {0}) ServeFault) : Type 0 where
   pub desk : D
-  pub runs : Runs v passes own may_pause turns a (point b.engine desk b.main b.side) input left result
-  pub leaves : Leaves passes (v.session b.engine) desk b.desk
+  pub runs : Runs s turns before (with_desk desk after) result
+  pub leaves : Leaves s.voice.passes (s.voice.protocol.session after.point.engine) desk after.point.desk

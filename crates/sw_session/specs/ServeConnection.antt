@@ -7,16 +7,41 @@ use Rattle.sw_session.specs.declared.servers.source.Source as Source
 use Rattle.sw_session.specs.declared.servers.writing.Sink as Sink
 use Rattle.sw_session.specs.Trace.{Entry}
 use Rattle.sw_session.specs.ServeRead.{CameTo, MayPause}
-use Rattle.sw_session.specs.ServeEngine.{ServesChannel}
+use Rattle.sw_session.specs.ServeEngine.{Station, ServesChannel}
+
+-- what the traits of a server's reader and its two writers tell of them
+pub record Wiring (R W S : Type 0) : Type 1 where
+  pub reads : Source.Ghosts R
+  pub writes : Sink.Ghosts W
+  pub writes_aside : Sink.Ghosts S
+
+abbrev pub wiring : {R W S : Type 0} → Source.Ghosts R → Sink.Ghosts W → Sink.Ghosts S → Wiring R W S
+wiring reads writes writes_aside = record { reads = reads; writes = writes; writes_aside = writes_aside }
+
+-- a server's desk, its reader and its two writers
+pub record Connected (D R W S : Type 0) : Type 0 where
+  pub desk : D
+  pub reader : R
+  pub writer : W
+  pub side : S
+
+abbrev pub connected : {D R W S : Type 0} → D → R → W → S → Connected D R W S
+connected desk reader writer side = record { desk = desk; reader = reader; writer = writer; side = side }
+
+-- the bytes that the reader has left, and those that the writers hold
+abbrev pub station_of : {D R W S : Type 0} → Wiring R W S → Connected D R W S → Station D
+station_of w c = record {
+  desk = c.desk;
+  input = w.reads.remaining c.reader;
+  main = w.writes.contents c.writer;
+  side = w.writes_aside.contents c.side;
+}
 
 -- The channel is served, with the bytes that the reader has left and those that the writers hold. A fault of reading
 -- comes where a read failed, and one of writing where a write failed.
 pub record ServesConnection {D R W S : Type 0} (own : Channel) (turns : ℕ) (passes : D → Entry → D → Type 0)
-    (reads : Source.Ghosts R) (writes : Sink.Ghosts W) (writes_aside : Sink.Ghosts S)
-    (desk desk' : D) (reader reader' : R) (writer writer' : W) (side side' : S)
-    (result : Result (Unit {0}) ServeFault) : Type 0 where
-  pub serves : ServesChannel passes own (MayPause reads.paused) turns desk desk'
-      (reads.remaining reader) (reads.remaining reader') (writes.contents writer) (writes.contents writer')
-      (writes_aside.contents side) (writes_aside.contents side') result
-  pub read : result ≡ Err Fault.Read → CameTo reads.failed reader'
-  pub write : result ≡ Err Fault.Write → CameTo writes.failed writer' ⊎ CameTo writes_aside.failed side'
+    (w : Wiring R W S) (before after : Connected D R W S) (result : Result (Unit {0}) ServeFault) : Type 0 where
+  pub serves : ServesChannel passes own (MayPause w.reads.paused) turns (station_of w before) (station_of w after)
+      result
+  pub read : result ≡ Err Fault.Read → CameTo w.reads.failed after.reader
+  pub write : result ≡ Err Fault.Write → CameTo w.writes.failed after.writer ⊎ CameTo w.writes_aside.failed after.side

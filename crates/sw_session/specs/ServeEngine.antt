@@ -14,7 +14,7 @@ use Rattle.sw_session.specs.Trace.{Entry, Polled}
 use Rattle.sw_session.specs.EngineStep.{goes, says, fails, Unasked}
 use Rattle.sw_session.specs.Engine.{EngineStanding, fresh, Takes, Falters, session_of, channel_of, too_large, skips}
 use Rattle.sw_session.specs.Engine.{notice_from, noticed_from}
-use Rattle.sw_session.specs.Serve.{Protocol, Serves, point}
+use Rattle.sw_session.specs.Serve.{Protocol, voice, service, Course, course, Serves, point}
 
 -- a service request that is told, if any
 abbrev pub told_step : Option Message → Step
@@ -56,10 +56,20 @@ EngineFalters e act asked f = (asked ≡ []) × (f ≡ e)
 abbrev pub engine_protocol : Protocol EngineStanding
 engine_protocol = record { speaks = EngineSpeaks; falters = EngineFalters; session = λ e. session_of e.state }
 
+-- where a channel's server stands, but for its engine: its desk, what is left to be read, and what its two writers hold
+pub record Station (D : Type 0) : Type 0 where
+  pub desk : D
+  pub input : Option (List ℕ)
+  pub main : Option (List ℕ)
+  pub side : Option (List ℕ)
+
+-- with this engine
+abbrev pub manned : {D : Type 0} → EngineStanding → Station D → Course EngineStanding D
+manned e t = course (point e t.desk t.main t.side) t.input
+
 -- A server of one channel, from its first byte on: an engine on which nothing has come is served.
 pub record ServesChannel {D : Type 0} (passes : D → Entry → D → Type 0) (own : Channel) (may_pause : Type 0) (turns : ℕ)
-    (desk desk' : D) (input left main main' side side' : Option (List ℕ))
-    (result : Result (Unit {0}) ServeFault) : Type 0 where
+    (before after : Station D) (result : Result (Unit {0}) ServeFault) : Type 0 where
   pub engine : EngineStanding
-  pub serves : Serves engine_protocol passes own may_pause turns (point (fresh own) desk main side)
-      (point engine desk' main' side') input left result
+  pub serves : Serves (service (voice engine_protocol passes own) may_pause) turns (manned (fresh own) before)
+      (manned engine after) result

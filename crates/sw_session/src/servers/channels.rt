@@ -1,7 +1,7 @@
 //! The servers of a session's two channels.
 
 ghost use Rattle.sw_session.specs.Talk.{turns};
-ghost use Rattle.sw_session.specs.ServeConnection.{ServesConnection};
+ghost use Rattle.sw_session.specs.ServeConnection.{ServesConnection, connected, wiring};
 
 use crate::asking::TURNS;
 use crate::desk::Desk;
@@ -23,8 +23,9 @@ pub fn serve_sync_for<R: Source, W: Sink, S: Sink, D: Desk>(
     desk: &mut D,
     turns: u64,
 ) -> Result<(), ServeFault>
-    ensures { ServesConnection Channel.Synchronous turns D.passes R.Source W.Sink S.Sink
-        desk.old desk.new reader.old reader.new writer.old writer.new side.old side.new result }
+    ensures { ServesConnection Channel.Synchronous turns D.passes (wiring R.Source W.Sink S.Sink)
+        (connected desk.old reader.old writer.old side.old) (connected desk.new reader.new writer.new side.new)
+        result }
 {
     let own = Channel::Synchronous;
     let mut engine = Engine::new(alloc, own);
@@ -42,8 +43,9 @@ pub fn serve_async_for<R: Source, W: Sink, S: Sink, D: Desk>(
     desk: &mut D,
     turns: u64,
 ) -> Result<(), ServeFault>
-    ensures { ServesConnection Channel.Asynchronous turns D.passes R.Source W.Sink S.Sink
-        desk.old desk.new reader.old reader.new writer.old writer.new side.old side.new result }
+    ensures { ServesConnection Channel.Asynchronous turns D.passes (wiring R.Source W.Sink S.Sink)
+        (connected desk.old reader.old writer.old side.old) (connected desk.new reader.new writer.new side.new)
+        result }
 {
     let own = Channel::Asynchronous;
     let mut engine = Engine::new(alloc, own);
@@ -58,8 +60,9 @@ pub fn serve_sync<R: Source, W: Sink, S: Sink, D: Desk>(
     side: &mut S,
     desk: &mut D,
 ) -> Result<(), ServeFault>
-    ensures { ServesConnection Channel.Synchronous turns D.passes R.Source W.Sink S.Sink
-        desk.old desk.new reader.old reader.new writer.old writer.new side.old side.new result }
+    ensures { ServesConnection Channel.Synchronous turns D.passes (wiring R.Source W.Sink S.Sink)
+        (connected desk.old reader.old writer.old side.old) (connected desk.new reader.new writer.new side.new)
+        result }
 {
     serve_sync_for(alloc, reader, writer, side, desk, TURNS)
 }
@@ -72,8 +75,9 @@ pub fn serve_async<R: Source, W: Sink, S: Sink, D: Desk>(
     side: &mut S,
     desk: &mut D,
 ) -> Result<(), ServeFault>
-    ensures { ServesConnection Channel.Asynchronous turns D.passes R.Source W.Sink S.Sink
-        desk.old desk.new reader.old reader.new writer.old writer.new side.old side.new result }
+    ensures { ServesConnection Channel.Asynchronous turns D.passes (wiring R.Source W.Sink S.Sink)
+        (connected desk.old reader.old writer.old side.old) (connected desk.new reader.new writer.new side.new)
+        result }
 {
     serve_async_for(alloc, reader, writer, side, desk, TURNS)
 }

@@ -3,7 +3,7 @@
 ghost use Rattle.std.specs.Prelude.{◌≡◌, ◌⊎◌, Err, IfOk};
 ghost use Rattle.sw_session.specs.Trace.{Leads};
 ghost use Rattle.sw_session.specs.ServeRead.{CameTo};
-ghost use Rattle.sw_session.specs.Serve.{Hears, HearsEach, Judges, acts_for, is_refused, notes_of, point};
+ghost use Rattle.sw_session.specs.Serve.{Hears, HearsEach, Judges, acts_for, is_refused, notes_of, point, voice};
 
 use crate::desk::Desk;
 use crate::engine::{Channel, Sent};
@@ -35,7 +35,7 @@ fn hear<E: Handler, W: Sink, S: Sink, D: Desk>(
     side: &mut S,
     desk: &mut D,
 ) -> Result<After, ServeFault>
-    ensures heard { Hears E.protocol D.passes own act
+    ensures heard { Hears (voice E.protocol D.passes own) act
         (point engine.old desk.old (W.contents writer.old) (S.contents side.old))
         (point engine.new desk.new (W.contents writer.new) (S.contents side.new)) result }
     ensures judged { IfOk result (λ after. Judges (is_refused act) after) }
@@ -64,7 +64,7 @@ pub fn attend<E: Handler, W: Sink, S: Sink, D: Desk>(
     side: &mut S,
     desk: &mut D,
 ) -> Result<After, ServeFault>
-    ensures heard { HearsEach E.protocol D.passes own (acts_for input)
+    ensures heard { HearsEach (voice E.protocol D.passes own) (acts_for input)
         (point engine.old desk.old (W.contents writer.old) (S.contents side.old))
         (point engine.new desk.new (W.contents writer.new) (S.contents side.new)) result }
     ensures judged { IfOk result (λ after. Judges (is_refused input) after) }

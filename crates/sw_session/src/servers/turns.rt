@@ -3,8 +3,8 @@
 ghost use Rattle.std.specs.Prelude.{◌≡◌, ◌⊎◌, Ok, Err};
 ghost use Rattle.sw_hislip.specs.Pending.{Waits};
 ghost use Rattle.sw_session.specs.ServeRead.{CameTo, MayPause};
-ghost use Rattle.sw_session.specs.Serve.{point, Listens, conclude, NextInput, HearsAll, TakesTurn};
-ghost use Rattle.sw_session.specs.Serve.{Runs, Leaves, Serves};
+ghost use Rattle.sw_session.specs.Serve.{Listens, NextInput, HearsAll, TakesTurn, Runs, Leaves, Serves};
+ghost use Rattle.sw_session.specs.Serve.{voice, service, point, course, conclude};
 
 use crate::desk::Desk;
 use crate::engine::Channel;
@@ -92,7 +92,7 @@ fn hear_all<E: Handler, W: Sink, S: Sink, D: Desk>(
     side: &mut S,
     desk: &mut D,
 ) -> Result<After, ServeFault>
-    ensures heard { HearsAll E.protocol D.passes own decoder.old.pending decoder.new.pending
+    ensures heard { HearsAll (voice E.protocol D.passes own) decoder.old.pending decoder.new.pending
         (point engine.old desk.old (W.contents writer.old) (S.contents side.old))
         (point engine.new desk.new (W.contents writer.new) (S.contents side.new)) result }
     ensures write { result ≡ Err ServeFault.Write → CameTo W.failed writer.new ⊎ CameTo S.failed side.new }
@@ -125,10 +125,11 @@ fn take_turn<E: Handler, R: Source, W: Sink, S: Sink, D: Desk>(
     desk: &mut D,
 ) -> Result<Next, ServeFault>
     requires { Waits decoder.old.pending.bytes }
-    ensures turn { TakesTurn E.protocol D.passes own (MayPause R.paused) decoder.old.pending decoder.new.pending
-        (point engine.old desk.old (W.contents writer.old) (S.contents side.old))
-        (point engine.new desk.new (W.contents writer.new) (S.contents side.new))
-        (R.remaining reader.old) (R.remaining reader.new) result }
+    ensures turn { TakesTurn (service (voice E.protocol D.passes own) (MayPause R.paused))
+        decoder.old.pending decoder.new.pending
+        (course (point engine.old desk.old (W.contents writer.old) (S.contents side.old)) (R.remaining reader.old))
+        (course (point engine.new desk.new (W.contents writer.new) (S.contents side.new)) (R.remaining reader.new))
+        result }
     ensures read { result ≡ Err ServeFault.Read → CameTo R.failed reader.new }
     ensures write { result ≡ Err ServeFault.Write → CameTo W.failed writer.new ⊎ CameTo S.failed side.new }
 {
@@ -151,10 +152,10 @@ fn run<E: Handler, R: Source, W: Sink, S: Sink, D: Desk>(
     desk: &mut D,
     turns: u64,
 ) -> Result<(), ServeFault>
-    ensures runs { Runs E.protocol D.passes own (MayPause R.paused) turns
-        (point engine.old desk.old (W.contents writer.old) (S.contents side.old))
-        (point engine.new desk.new (W.contents writer.new) (S.contents side.new))
-        (R.remaining reader.old) (R.remaining reader.new) result }
+    ensures runs { Runs (service (voice E.protocol D.passes own) (MayPause R.paused)) turns
+        (course (point engine.old desk.old (W.contents writer.old) (S.contents side.old)) (R.remaining reader.old))
+        (course (point engine.new desk.new (W.contents writer.new) (S.contents side.new)) (R.remaining reader.new))
+        result }
     ensures read { result ≡ Err ServeFault.Read → CameTo R.failed reader.new }
     ensures write { result ≡ Err ServeFault.Write → CameTo W.failed writer.new ⊎ CameTo S.failed side.new }
 {
@@ -192,10 +193,10 @@ pub fn serve_for<E: Handler, R: Source, W: Sink, S: Sink, D: Desk>(
     desk: &mut D,
     turns: u64,
 ) -> Result<(), ServeFault>
-    ensures serves { Serves E.protocol D.passes own (MayPause R.paused) turns
-        (point engine.old desk.old (W.contents writer.old) (S.contents side.old))
-        (point engine.new desk.new (W.contents writer.new) (S.contents side.new))
-        (R.remaining reader.old) (R.remaining reader.new) result }
+    ensures serves { Serves (service (voice E.protocol D.passes own) (MayPause R.paused)) turns
+        (course (point engine.old desk.old (W.contents writer.old) (S.contents side.old)) (R.remaining reader.old))
+        (course (point engine.new desk.new (W.contents writer.new) (S.contents side.new)) (R.remaining reader.new))
+        result }
     ensures read { result ≡ Err ServeFault.Read → CameTo R.failed reader.new }
     ensures write { result ≡ Err ServeFault.Write → CameTo W.failed writer.new ⊎ CameTo S.failed side.new }
 {

@@ -1,16 +1,18 @@
 use Rattle.std.proofs.Common.{rules}
+use Rattle.sw_session.specs.Serve.{voice}
 use Rattle.sw_session.proofs.ServeParts.{hears-ok, hears-err, hears-starved}
 use Rattle.sw_session.proofs.servers.hearing.hear.Goals as goal
 
 pub returns-in-Ok-send_all-clause-heard : goal.returns-in-Ok-send_all-clause-heard
 returns-in-Ok-send_all-clause-heard g c =
-    hears-ok g.E.Handler.protocol g.D.Desk.passes c.args.own _ _ _ c.handle.new.desk _ _ _ _ _ c.args.act c.in-Ok.step _ _ c.in-Ok.ensures.ok (search rules)
-    c.note.ensures (search rules) (search rules) (search rules)
+    hears-ok (voice g.E.Handler.protocol g.D.Desk.passes c.args.own) _ _ _ c.handle.new.desk _ _ _ _ _ c.args.act c.in-Ok.step _ _ c.in-Ok.ensures.ok
+    (search rules) c.note.ensures (search rules) (search rules) (search rules)
 
 pub returns-clause-heard : goal.returns-clause-heard
 returns-clause-heard g c =
-    hears-err g.E.Handler.protocol g.D.Desk.passes c.args.own _ _ _ _ _ _ _ _ c.args.act c.in-Ok.step c.in-Err.fault c.in-Ok.ensures.ok (search rules)
-    (search rules) (search rules)
+    hears-err (voice g.E.Handler.protocol g.D.Desk.passes c.args.own) _ _ _ _ _ _ _ _ c.args.act c.in-Ok.step c.in-Err.fault c.in-Ok.ensures.ok
+    (search rules) (search rules) (search rules)
 
 pub returns-in_default-clause-heard : goal.returns-in_default-clause-heard
-returns-in_default-clause-heard g c = hears-starved g.E.Handler.protocol g.D.Desk.passes c.args.own _ _ _ _ _ _ c.args.act (search rules)
+returns-in_default-clause-heard g c =
+    hears-starved (voice g.E.Handler.protocol g.D.Desk.passes c.args.own) _ _ _ _ _ _ c.args.act (search rules)

@@ -5,25 +5,22 @@ use Rattle.sw_session.proofs.ServeTurns.{going-start, going-on, runs-over, runs-
 use Rattle.sw_session.proofs.servers.turns.run.Goals as goal
 
 pub loop-turn-init : goal.loop-turn-init
-loop-turn-init g c = going-start g.E.Handler.protocol g.D.Desk.passes _ _ _ _ _ c.new-decoder.ensures.nothing
+loop-turn-init g c = going-start _ _ _ c.new-decoder.ensures.nothing
 
 pub loop-turn-preserved : goal.loop-turn-preserved
 loop-turn-preserved g c =
-    going-on g.E.Handler.protocol g.D.Desk.passes _ _ _ _ _ _ _ _ _ _ _ _ c.loop-turn.invariant
-    (turn-is g.E.Handler.protocol g.D.Desk.passes _ _ _ _ _ _ _ _ c.take_turn.result (Ok On) (search rules) c.take_turn.ensures.turn)
+    going-on _ _ _ _ _ _ _ _ c.loop-turn.invariant (turn-is _ _ _ _ _ c.take_turn.result (Ok On) (search rules) c.take_turn.ensures.turn)
 
 pub returns-in-Ok-Over-clause-runs : goal.returns-in-Ok-Over-clause-runs
 returns-in-Ok-Over-clause-runs g c =
-    runs-over g.E.Handler.protocol g.D.Desk.passes _ _ _ _ _ _ _ _ _ _ _ _ c.every_message_comes_out.ensures c.nothing_whole_is_left.ensures
-    c.loop-turn.invariant
-    (turn-is g.E.Handler.protocol g.D.Desk.passes _ _ _ _ _ _ _ _ c.take_turn.result (Ok Over) (search rules) c.take_turn.ensures.turn)
+    runs-over _ _ _ _ _ _ _ _ c.every_message_comes_out.ensures c.nothing_whole_is_left.ensures c.loop-turn.invariant
+    (turn-is _ _ _ _ _ c.take_turn.result (Ok Over) (search rules) c.take_turn.ensures.turn)
 
 pub returns-in-Err-clause-runs : goal.returns-in-Err-clause-runs
 returns-in-Err-clause-runs g c =
-    runs-fault g.E.Handler.protocol g.D.Desk.passes _ _ _ _ _ _ _ _ _ _ _ _ c.in-Err.fault c.every_message_comes_out.ensures c.nothing_whole_is_left.ensures
+    runs-fault _ _ _ _ _ _ _ _ c.in-Err.fault c.every_message_comes_out.ensures c.nothing_whole_is_left.ensures
     c.loop-turn.invariant c.in-Err.ensures.turn
 
 pub returns-clause-runs : goal.returns-clause-runs
 returns-clause-runs g c =
-    runs-bound g.E.Handler.protocol g.D.Desk.passes _ _ _ _ _ _ _ _ _ c.every_message_comes_out.ensures c.nothing_whole_is_left.ensures c.loop-turn.invariant
-    (search rules)
+    runs-bound _ _ _ _ _ _ c.every_message_comes_out.ensures c.nothing_whole_is_left.ensures c.loop-turn.invariant (search rules)

@@ -6,32 +6,30 @@ use Rattle.sw_session.proofs.ServeTurns.{turn-paused, turn-bytes}
 use Rattle.sw_session.proofs.servers.turns.take_turn.Goals as goal
 
 pub returns-in-Err-clause-turn : goal.returns-in-Err-clause-turn
-returns-in-Err-clause-turn g c = turn-err g.E.Handler.protocol g.D.Desk.passes c.args.own _ _ _ _ _ _ c.in-Err.fault c.requires c.in-Err.ensures.listens
+returns-in-Err-clause-turn g c = turn-err _ _ _ _ _ _ c.in-Err.fault c.requires c.in-Err.ensures.listens
 
 pub returns-in-Ok-End-clause-turn : goal.returns-in-Ok-End-clause-turn
 returns-in-Ok-End-clause-turn g c =
-    turn-end g.E.Handler.protocol g.D.Desk.passes c.args.own _ _ _ _ _ _ c.requires
-    (listens-is _ _ _ _ c.listen.result (Ok End) (search rules) c.listen.ensures.listens)
+    turn-end _ _ _ _ _ _ c.requires (listens-is _ _ _ _ c.listen.result (Ok End) (search rules) c.listen.ensures.listens)
 
 pub returns-in-Ok-Paused-clause-turn : goal.returns-in-Ok-Paused-clause-turn
 returns-in-Ok-Paused-clause-turn g c =
-    rw c.conclude.ensures (turn-paused g.E.Handler.protocol g.D.Desk.passes c.args.own _ c.args.decoder.now.pending c.listen.new.decoder.pending _ _ _ _
-    c.attend.result (c.listen.new.reader, c.listen.ensures.paused (search rules)) c.requires
+    rw c.conclude.ensures (turn-paused _ c.args.decoder.now.pending c.listen.new.decoder.pending _ _ c.attend.result
+    (c.listen.new.reader, c.listen.ensures.paused (search rules)) c.requires
     (listens-is _ _ _ _ c.listen.result (Ok Paused) (search rules) c.listen.ensures.listens) c.attend.ensures.heard
     (judged-ok false c.attend.result c.attend.ensures.judged))
 
 pub returns-in-Ok-Bytes-clause-turn : goal.returns-in-Ok-Bytes-clause-turn
 returns-in-Ok-Bytes-clause-turn g c =
-    rw c.conclude-in-Ok-Bytes.ensures (turn-bytes g.E.Handler.protocol g.D.Desk.passes c.args.own _ c.args.decoder.now.pending c.listen.new.decoder.pending _ _
-    _ _
-    _ c.hear_all.result (listens-is _ _ _ _ c.listen.result (Ok Bytes) (search rules) c.listen.ensures.listens) c.hear_all.ensures.heard)
+    rw c.conclude-in-Ok-Bytes.ensures (turn-bytes _ c.args.decoder.now.pending c.listen.new.decoder.pending _ _ _ c.hear_all.result
+    (listens-is _ _ _ _ c.listen.result (Ok Bytes) (search rules) c.listen.ensures.listens) c.hear_all.ensures.heard)
 
 pub returns-in-Err-clause-write : goal.returns-in-Err-clause-write
 returns-in-Err-clause-write g c = λ e. absurd (listens-unwritten _ _ _ _ c.in-Err.fault c.in-Err.ensures.listens (cc (e)))
 
 pub returns-in-Ok-Paused-clause-read : goal.returns-in-Ok-Paused-clause-read
 returns-in-Ok-Paused-clause-read g c =
-    λ e. absurd (each-unread g.E.Handler.protocol g.D.Desk.passes _ _ _ _ c.attend.result c.attend.ensures.heard
+    λ e. absurd (each-unread _ _ _ _ c.attend.result c.attend.ensures.heard
     (concluded-read _ (sym c.conclude.ensures ∙ e)))
 
 pub returns-in-Ok-Paused-clause-write : goal.returns-in-Ok-Paused-clause-write
@@ -39,7 +37,7 @@ returns-in-Ok-Paused-clause-write g c = λ e. c.attend.ensures.write (concluded-
 
 pub returns-in-Ok-Bytes-clause-read : goal.returns-in-Ok-Bytes-clause-read
 returns-in-Ok-Bytes-clause-read g c =
-    λ e. absurd (all-unread g.E.Handler.protocol g.D.Desk.passes _ _ _ _ _ c.hear_all.result c.hear_all.ensures.heard
+    λ e. absurd (all-unread _ _ _ _ _ c.hear_all.result c.hear_all.ensures.heard
     (concluded-read _ (sym c.conclude-in-Ok-Bytes.ensures ∙ e)))
 
 pub returns-in-Ok-Bytes-clause-write : goal.returns-in-Ok-Bytes-clause-write
