@@ -58,21 +58,22 @@ impl Talker {
         }
         let mut out = Vec::new(self.alloc);
         let mut path = Path::root();
-        match self.talk(desk, text, &mut path, &mut out) {
+        match self.talk::<ByExpansion, D>(desk, text, &mut path, &mut out) {
             After::Ends => Vec::new(self.alloc),
             _ => out,
         }
     }
 
-    /// Talks over the units of a message, below this path.
-    fn talk<D: Desk>(
+    /// Talks over the units of a text, each in this way, below this path.
+    #[inline(never)]
+    fn talk<W: Way, D: Desk>(
         &mut self,
         desk: &mut D,
         text: &[u8],
         path: &mut Path,
         out: &mut Vec<u8>,
     ) -> After
-        ensures talks { TalksLine (Expanded self.old.sid) D.passes self.old.sid text.now
+        ensures talks { TalksLine (W.way self.old.sid) D.passes self.old.sid text.now
             (spot desk.old (path_of path.old) self.old.macros out.old.items)
             result (spot desk.new (path_of path.new) self.new.macros out.new.items) }
         ensures same { self.new.sid ≡ self.old.sid }
@@ -84,60 +85,7 @@ impl Talker {
                 Err(misfit) => return self.serve(desk, Err(misfit), out),
                 Ok(Some((unit, rest))) => {
                     left = rest;
-                    match self.expand(desk, &unit, path, out) {
-                        After::Goes => {}
-                        after => return after,
-                    }
-                }
-            }
-        }
-    }
-
-    /// Talks over a unit of a message: its expansion where it calls a macro, else itself.
-    fn expand<D: Desk>(
-        &mut self,
-        desk: &mut D,
-        unit: &RawUnit<'_>,
-        path: &mut Path,
-        out: &mut Vec<u8>,
-    ) -> After
-        ensures unit { OnLine D.passes
-            (spot desk.old (path_of path.old) self.old.macros out.old.items)
-            (spot desk.new (path_of path.new) self.new.macros out.new.items)
-            (λ s s'. Expanded self.old.sid (unit_of unit.now) s result s') }
-        ensures same { self.new.sid ≡ self.old.sid }
-    {
-        if !self.macros.calls(unit) {
-            return self.unit(desk, unit, path, out);
-        }
-        match self.macros.expand(self.alloc, unit) {
-            Ok(text) => self.unfold(desk, &text, path, out),
-            Err(error) => self.serve(desk, Err(error), out),
-        }
-    }
-
-    /// Talks over the units of an expansion, below this path: each of them is itself.
-    #[inline(never)]
-    fn unfold<D: Desk>(
-        &mut self,
-        desk: &mut D,
-        text: &[u8],
-        path: &mut Path,
-        out: &mut Vec<u8>,
-    ) -> After
-        ensures talks { TalksLine (Itself self.old.sid) D.passes self.old.sid text.now
-            (spot desk.old (path_of path.old) self.old.macros out.old.items)
-            result (spot desk.new (path_of path.new) self.new.macros out.new.items) }
-        ensures same { self.new.sid ≡ self.old.sid }
-    {
-        let mut left = text;
-        'units: loop {
-            match next_unit(left) {
-                Ok(None) => return After::Goes,
-                Err(error) => return self.serve(desk, Err(error), out),
-                Ok(Some((unit, rest))) => {
-                    left = rest;
-                    match self.unit(desk, &unit, path, out) {
+                    match W::unit(self, desk, &unit, path, out) {
                         After::Goes => {}
                         after => return after,
                     }
@@ -187,6 +135,72 @@ impl Talker {
             answered,
         );
         conclude(desk, self.sid, &answer, out)
+    }
+}
+
+/// How a unit of a text is talked over.
+trait Way {
+    ghost use Rattle.std.specs.Prelude.{◌≡◌};
+    ghost use Rattle.sw_lex.specs.Unit.{unit_of};
+    ghost use Rattle.sw_lex.specs.Meaning.{path_of};
+    ghost use Rattle.sw_core.specs.declared.ask.Sid.{Sid};
+    ghost use Rattle.sw_session.specs.Talk.{OnLine, spot, Way};
+
+    /// The way by its definition.
+    ghost way: { Sid → Way };
+
+    /// Talks over one unit, below this path.
+    fn unit<D: Desk>(
+        talker: &mut Talker,
+        desk: &mut D,
+        unit: &RawUnit<'_>,
+        path: &mut Path,
+        out: &mut Vec<u8>,
+    ) -> After
+        ensures unit { OnLine D.passes
+            (spot desk.old (path_of path.old) talker.old.macros out.old.items)
+            (spot desk.new (path_of path.new) talker.new.macros out.new.items)
+            (λ s s'. way talker.old.sid (unit_of unit.now) s result s') }
+        ensures same { talker.new.sid ≡ talker.old.sid };
+}
+
+/// The way of a message's units: a unit that calls a macro is its expansion, any other is itself.
+struct ByExpansion;
+
+impl Way for ByExpansion {
+    ghost way = { Expanded };
+
+    fn unit<D: Desk>(
+        talker: &mut Talker,
+        desk: &mut D,
+        unit: &RawUnit<'_>,
+        path: &mut Path,
+        out: &mut Vec<u8>,
+    ) -> After {
+        if !talker.macros.calls(unit) {
+            return talker.unit(desk, unit, path, out);
+        }
+        match talker.macros.expand(talker.alloc, unit) {
+            Ok(text) => talker.talk::<ByItself, D>(desk, &text, path, out),
+            Err(error) => talker.serve(desk, Err(error), out),
+        }
+    }
+}
+
+/// The way of an expansion's units: each is itself.
+struct ByItself;
+
+impl Way for ByItself {
+    ghost way = { Itself };
+
+    fn unit<D: Desk>(
+        talker: &mut Talker,
+        desk: &mut D,
+        unit: &RawUnit<'_>,
+        path: &mut Path,
+        out: &mut Vec<u8>,
+    ) -> After {
+        talker.unit(desk, unit, path, out)
     }
 }
 

@@ -5,7 +5,7 @@ use Rattle.sw_core.specs.declared.ask.Sid.{Sid}
 use Rattle.sw_session.specs.declared.talker.After.TheVariants.{Goes}
 use Rattle.sw_session.specs.Trace.{Led}
 use Rattle.sw_session.specs.Script.{Complete, Refuses, Unread}
-use Rattle.sw_session.specs.Talk.{Expanded, Serves, standing}
+use Rattle.sw_session.specs.Talk.{Serves, standing}
 use Rattle.sw_session.proofs.Talks.{ScriptsBy, scripts-more, talk-starts, talk-goes, talk-stops, talk-refused, talk-complete}
 use Rattle.sw_session.proofs.talker.Talker.talk.Goals as goal
 
@@ -19,7 +19,7 @@ units-init g c =
         answers,
         all,
         written,
-        talk-starts g.D.Desk.passes (Expanded c.args.self.now.sid) c.args.self.now.sid c.args.desk.now
+        talk-starts g.D.Desk.passes (g.W.Way.way c.args.self.now.sid) c.args.self.now.sid c.args.desk.now
             (standing (path_of c.args.path.now) c.args.self.now.macros answers),
       );
     }
@@ -32,7 +32,7 @@ returns-in-Ok-None-clause-talks g c = λ answers written.
       inv.1,
       inv.2 [] Complete (rw c.in-Ok-None.field-0-is at c.in-Ok-None.ensures.none),
       inv.3,
-      talk-complete g.D.Desk.passes (Expanded c.args.self.now.sid) c.args.self.now.sid _ _ inv.0
+      talk-complete g.D.Desk.passes (g.W.Way.way c.args.self.now.sid) c.args.self.now.sid _ _ inv.0
           (standing (path_of c.args.path.now) c.args.self.now.macros answers)
           (standing (path_of c.units.path) c.units.self.macros inv.1) inv.4,
     )
@@ -51,7 +51,7 @@ returns-in-Err-clause-talks g c = λ answers written.
       s.0,
       inv.2 [] (Refuses c.in-Err.misfit) c.in-Err.ensures.refused,
       s.1,
-      talk-refused g.D.Desk.passes (Expanded c.args.self.now.sid) c.args.self.now.sid _ _ _ inv.0 c.in-Err.misfit
+      talk-refused g.D.Desk.passes (g.W.Way.way c.args.self.now.sid) c.args.self.now.sid _ _ _ inv.0 c.in-Err.misfit
           (standing (path_of c.args.path.now) c.args.self.now.macros answers) (standing path c.units.self.macros inv.1) (standing path c.serve.new.self.macros s.0)
           c.serve.result inv.4 served,
     )
@@ -64,18 +64,18 @@ units-preserved g c = record {
       let u = unit_of c.in-Ok-Some.unit in
       let s = c.in-Goes.ensures.unit inv.1 inv.3 in
       let is : IsUnit c.units.left.now u c.in-Ok-Some.rest.now = rw c.in-Ok-Some.field-0-is at c.in-Ok-Some.ensures.unit in
-      let done : Led g.D.Desk.passes c.units.desk c.expand.new.desk (λ t rest. Expanded c.args.self.now.sid u
-      (standing (path_of c.units.path) c.units.self.macros inv.1 t) Goes (standing (path_of c.expand.new.path) c.expand.new.self.macros s.0 rest)) =
-      subst (λ (i : Sid). Led g.D.Desk.passes c.units.desk c.expand.new.desk (λ t rest. Expanded i u
-      (standing (path_of c.units.path) c.units.self.macros inv.1 t) Goes (standing (path_of c.expand.new.path) c.expand.new.self.macros s.0 rest)))
+      let done : Led g.D.Desk.passes c.units.desk c.unit.new.desk (λ t rest. g.W.Way.way c.args.self.now.sid u
+      (standing (path_of c.units.path) c.units.self.macros inv.1 t) Goes (standing (path_of c.unit.new.path) c.unit.new.talker.macros s.0 rest)) =
+      subst (λ (i : Sid). Led g.D.Desk.passes c.units.desk c.unit.new.desk (λ t rest. g.W.Way.way i u
+      (standing (path_of c.units.path) c.units.self.macros inv.1 t) Goes (standing (path_of c.unit.new.path) c.unit.new.talker.macros s.0 rest)))
       c.units.invariant.sid s.2 in (
         inv.0 ++ u ∷ [],
         s.0,
         scripts-more _ _ _ inv.0 u is inv.2,
         s.1,
-        talk-goes g.D.Desk.passes (Expanded c.args.self.now.sid) c.args.self.now.sid _ _ _ inv.0 u
+        talk-goes g.D.Desk.passes (g.W.Way.way c.args.self.now.sid) c.args.self.now.sid _ _ _ inv.0 u
             (standing (path_of c.args.path.now) c.args.self.now.macros answers)
-            (standing (path_of c.units.path) c.units.self.macros inv.1) (standing (path_of c.expand.new.path) c.expand.new.self.macros s.0) inv.4 done,
+            (standing (path_of c.units.path) c.units.self.macros inv.1) (standing (path_of c.unit.new.path) c.unit.new.talker.macros s.0) inv.4 done,
       );
 }
 
@@ -83,21 +83,21 @@ pub returns-in_default-clause-talks : goal.returns-in_default-clause-talks
 returns-in_default-clause-talks g c = λ answers written.
     let inv = c.units.invariant.so_far answers written in
     let u = unit_of c.in-Ok-Some.unit in
-    let s = c.expand.ensures.unit inv.1 inv.3 in
+    let s = c.unit.ensures.unit inv.1 inv.3 in
     let is : IsUnit c.units.left.now u c.in-Ok-Some.rest.now = rw c.in-Ok-Some.field-0-is at c.in-Ok-Some.ensures.unit in
-    let done : Led g.D.Desk.passes c.units.desk c.expand.new.desk (λ t rest. Expanded c.args.self.now.sid u
-    (standing (path_of c.units.path) c.units.self.macros inv.1 t) c.expand.result
-    (standing (path_of c.expand.new.path) c.expand.new.self.macros s.0 rest)) =
-    subst (λ (i : Sid). Led g.D.Desk.passes c.units.desk c.expand.new.desk (λ t rest. Expanded i u
-    (standing (path_of c.units.path) c.units.self.macros inv.1 t) c.expand.result (standing (path_of c.expand.new.path) c.expand.new.self.macros s.0 rest)))
+    let done : Led g.D.Desk.passes c.units.desk c.unit.new.desk (λ t rest. g.W.Way.way c.args.self.now.sid u
+    (standing (path_of c.units.path) c.units.self.macros inv.1 t) c.unit.result
+    (standing (path_of c.unit.new.path) c.unit.new.talker.macros s.0 rest)) =
+    subst (λ (i : Sid). Led g.D.Desk.passes c.units.desk c.unit.new.desk (λ t rest. g.W.Way.way i u
+    (standing (path_of c.units.path) c.units.self.macros inv.1 t) c.unit.result (standing (path_of c.unit.new.path) c.unit.new.talker.macros s.0 rest)))
     c.units.invariant.sid s.2 in (
       inv.0 ++ u ∷ [],
       Unread,
       s.0,
       inv.2 (u ∷ []) Unread (_, is, tt),
       s.1,
-      talk-stops g.D.Desk.passes (Expanded c.args.self.now.sid) c.args.self.now.sid _ _ _ inv.0 u
+      talk-stops g.D.Desk.passes (g.W.Way.way c.args.self.now.sid) c.args.self.now.sid _ _ _ inv.0 u
           (standing (path_of c.args.path.now) c.args.self.now.macros answers)
-          (standing (path_of c.units.path) c.units.self.macros inv.1) (standing (path_of c.expand.new.path) c.expand.new.self.macros s.0) c.expand.result
+          (standing (path_of c.units.path) c.units.self.macros inv.1) (standing (path_of c.unit.new.path) c.unit.new.talker.macros s.0) c.unit.result
           c.in_default.not-Goes inv.4 done,
     )

@@ -2,7 +2,7 @@ use Rattle.std.proofs.Common.{◌≡◌, List, ℕ, length}
 use Rattle.sw_lex.specs.Unit.{UnitView}
 use Rattle.sw_lex.specs.Meaning.{path_of}
 use Rattle.sw_session.specs.Trace.{Led}
-use Rattle.sw_session.specs.Talk.{Expanded, standing, line_of}
+use Rattle.sw_session.specs.Talk.{standing, line_of}
 use Rattle.sw_session.proofs.Talks.{ScriptsBy, TalksBy}
 use Rattle.sw_session.proofs.talker.Talker.talk.Given as goal
 
@@ -11,7 +11,7 @@ invariant-units g l = record {
   sid : l.self.sid ≡ l.fn.self.sid;
   so_far : (answers : List (List ℕ)) → l.fn.out.items ≡ line_of answers → (front : List UnitView) × (told : List (List ℕ)) × ScriptsBy l.text front l.left
       × (l.out.items ≡ line_of told)
-      × Led g.D.Desk.passes l.fn.desk l.desk (λ t rest. TalksBy (Expanded l.fn.self.sid) l.fn.self.sid front
+      × Led g.D.Desk.passes l.fn.desk l.desk (λ t rest. TalksBy (g.W.Way.way l.fn.self.sid) l.fn.self.sid front
       (standing (path_of l.fn.path) l.fn.self.macros answers t) (standing (path_of l.path) l.self.macros told rest));
 }
 
