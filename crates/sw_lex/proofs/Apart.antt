@@ -40,7 +40,7 @@ same_words-refl : (ws : List (List ℕ)) → same_words ws ws ≡ true
 same_words-refl [] = refl
 same_words-refl (x ∷ ws) = rw (same_word-refl x) (same_words-refl ws)
 
-same_bool-refl : (b : Bool) → same_bool b b ≡ true
+pub same_bool-refl : (b : Bool) → same_bool b b ≡ true
 same_bool-refl true = refl
 same_bool-refl false = refl
 

@@ -1,13 +1,12 @@
 -- The two forms of a mnemonic.
-use Rattle.std.proofs.Common.{◌≡◌, ℕ, Bool, true, false, not, List, [], ◌∷◌, ◌++◌, map, refl, sym, ap, subst, ◌∙◌, ◌⊎◌, inl, inr, IsTrue, arith}
+use Rattle.std.proofs.Common.{◌≡◌, ℕ, Bool, true, false, not, List, [], ◌∷◌, ◌++◌, refl, sym, ap, subst, ◌∙◌, ◌⊎◌, inl, inr, IsTrue}
 use Rattle.std.specs.Prelude.{◌==◌, ◌&&◌}
 use Rattle.std.specs.Char.{is_ascii_lowercase, to_ascii_uppercase}
 use Rattle.std.proofs.lemmas.Bool.{and_parts, eq-eqb, eqb-true, cases_Bool}
 use Rattle.std.proofs.lemmas.List.{same_from_push}
-use Rattle.std.proofs.lemmas.Str.Ascii.{uppercase_is}
 use Rattle.sw_lex.specs.Words.{short_of, long_of}
 use Rattle.sw_lex.specs.Found.{IsForm, IsNumbered}
-use Rattle.sw_lex.specs.Rows.{is_form_from, is_starred}
+use Rattle.sw_lex.specs.Rows.{is_form_from}
 use Rattle.sw_lex.specs.Apart.{same_word}
 use Rattle.sw_lex.specs.Values.{is_named}
 use Rattle.sw_lex.proofs.Apart.{same_word-refl, same_eq}
@@ -122,34 +121,4 @@ numbered_so form front last digit e h =
       | inl s ↦ inl (ap (λ (t : List ℕ). t ++ last ∷ []) s ∙ ap (λ (d : ℕ). short_of form ++ d ∷ []) e)
       | inr l ↦
           inr (ap (λ (t : List ℕ). t ++ last ∷ []) l ∙ ap (λ (d : ℕ). long_of form ++ d ∷ []) e)
-    ]
-
--- ---- a star in front
-
--- a star stays one in capitals, and no other byte becomes one
-star_up : (b : ℕ) → (to_ascii_uppercase b == 42) ≡ (b == 42)
-star_up b = grind (arith, uppercase_is)
-
-small_no_star : (b : ℕ) → is_ascii_lowercase b ≡ true → (b == 42) ≡ false
-small_no_star b h = grind arith
-
-same_star : (a b : ℕ) → to_ascii_uppercase a ≡ to_ascii_uppercase b → (b == 42) ≡ (a == 42)
-same_star a b e = sym (star_up b) ∙ ap (λ (x : ℕ). x == 42) (sym e) ∙ star_up a
-
--- a form of a mnemonic begins with a star where the mnemonic does
-pub form_starred : (form w : List ℕ) → IsForm form (map to_ascii_uppercase w) → is_starred form ≡ is_starred w
-form_starred [] [] h = refl
-form_starred [] (x ∷ w) h = absurd (elim h [ inl s ↦ no_byte _ _ (sym s) | inr l ↦ no_byte _ _ (sym l) ])
-form_starred (b ∷ form) [] h =
-    elim h [
-      | inl s ↦ elim (cases_Bool (is_ascii_lowercase b)) [ inl t ↦ small_no_star b t | inr f ↦ absurd (no_byte _ _ (rw f at s)) ]
-      | inr l ↦ absurd (no_byte _ _ l)
-    ]
-form_starred (b ∷ form) (x ∷ w) h =
-    elim h [
-      | inl s ↦ elim (cases_Bool (is_ascii_lowercase b)) [
-        | inl t ↦ absurd (no_byte _ _ (sym (rw t at s)))
-        | inr f ↦ same_star x b (heads _ _ _ _ (rw f at s)).0
-      ]
-      | inr l ↦ same_star x b (heads _ _ _ _ l).0
     ]

@@ -4,6 +4,7 @@ pub mod Spelled
 pub mod Forms
 pub mod Listed
 pub mod Apart
+pub mod Parts
 pub mod Nodes
 pub mod Shorter
 pub mod Headings

@@ -22,7 +22,7 @@ in_cases x [] ys h = inr h
 in_cases x (z ∷ xs) ys h = elim h [ inl e ↦ inl (inl e) | inr r ↦ elim (in_cases x xs ys r) [ inl l ↦ inl (inr l) | inr q ↦ inr q ] ]
 
 -- each of these passes the test
-in_passes : {X : Type 0} (test : X → Bool) (x : X) (xs : List X) → list_all test xs ≡ true → IsIn x xs → test x ≡ true
+pub in_passes : {X : Type 0} (test : X → Bool) (x : X) (xs : List X) → list_all test xs ≡ true → IsIn x xs → test x ≡ true
 in_passes test x [] t h = absurd h
 in_passes test x (y ∷ ys) t h =
     let p = and_parts (test y) (list_all test ys) t in

@@ -5,6 +5,7 @@ pub mod Table
 pub mod Found
 pub mod Rows
 pub mod Apart
+pub mod Parts
 pub mod Commands
 pub mod Values
 pub mod Meaning

@@ -48,11 +48,6 @@ unfoldable pub entries_of : List Group → List Entry
 entries_of [] = []
 entries_of (group ∷ groups) = map (entry_at group.first.now) group.rows.now ++ entries_of groups
 
--- whether a word begins with the star of a common command
-abbrev pub is_starred : List ℕ → Bool
-is_starred [] = false
-is_starred (b ∷ word) = b == 42
-
 -- the words, in capitals, are what one of the rows has below its first node
 abbrev pub MatchesRow : List Row → List (List ℕ) → Bool → Key → ℕ → Type 0
 MatchesRow [] ws query key k = ⊥

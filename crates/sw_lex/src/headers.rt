@@ -1,14 +1,17 @@
 //! From the nodes of a header to its command.
 
 ghost use Rattle.std.specs.Prelude.{◌≡◌, ℕ, Bool, false, ◌==◌, List, [], ◌∷◌, ◌++◌, map, IfSome, IfNone, IsTrue, ◌↔◌};
+ghost use Rattle.std.specs.List.{filter};
 ghost use Rattle.std.specs.Char.{to_ascii_uppercase};
 ghost use Rattle.sw_lex.specs.Found.{IsFound, IsForm, IsNumbered, Fits};
 ghost use Rattle.sw_lex.specs.Table.{entries};
 ghost use Rattle.sw_lex.specs.Values.{is_named};
-ghost use Rattle.sw_lex.specs.Rows.{nodes_at, MatchesRow, Matches, is_form_from, is_starred};
+ghost use Rattle.sw_lex.specs.Rows.{nodes_at, entries_of, MatchesRow, Matches, is_form_from};
+ghost use Rattle.sw_lex.specs.Parts.{IsPart, belongs, part_of};
 ghost use Rattle.sw_lex.specs.declared.table.Key.{Key};
 
-use crate::rows::{Group, Row, Step, groups};
+use crate::common_rows::common_at;
+use crate::rows::{Group, NONE, Part, Row, Step, path_at};
 use crate::table::Key;
 
 /// How far a small letter is from its capital.
@@ -144,14 +147,14 @@ fn may_fit(steps: &[Step], words: &[&[u8]]) -> bool
 }
 
 /// What the first row asks for that these words spell below its first node, and the number in them.
-fn below(rows: &[Row], words: &[&[u8]], query: bool) -> Option<(Key, u8)>
-    ensures some { IfSome result (λ x. MatchesRow rows.now
+fn below(rows: &[Row], words: &[&[u8]]) -> Option<(Key, u8)>
+    ensures some { IfSome result (λ x. (query : Bool) × MatchesRow rows.now
         (map (λ w. map to_ascii_uppercase w.now) words.now) query x.0 x.1) }
-    ensures none { IfNone result ((key : Key) (k : ℕ)
+    ensures none { IfNone result ((query : Bool) (key : Key) (k : ℕ)
         → MatchesRow rows.now (map (λ w. map to_ascii_uppercase w.now) words.now) query key k → ⊥) }
 {
     for row in rows {
-        if row.is_query() == query && may_fit(row.steps(), words) {
+        if may_fit(row.steps(), words) {
             if let Some(number) = spelled(row.steps(), words) {
                 return Some((row.key(), number));
             }
@@ -161,15 +164,15 @@ fn below(rows: &[Row], words: &[&[u8]], query: bool) -> Option<(Key, u8)>
 }
 
 /// What a header asks for that is this word and then these, and the number in it.
-fn matching(groups: &[Group], word: &[u8], words: &[&[u8]], query: bool) -> Option<(Key, u8)>
-    ensures some { IfSome result (λ x. Matches groups.now (map to_ascii_uppercase word.now)
+fn matching(groups: &[Group], word: &[u8], words: &[&[u8]]) -> Option<(Key, u8)>
+    ensures some { IfSome result (λ x. (query : Bool) × Matches groups.now (map to_ascii_uppercase word.now)
         (map (λ w. map to_ascii_uppercase w.now) words.now) query x.0 x.1) }
-    ensures none { IfNone result ((key : Key) (k : ℕ) → Matches groups.now (map to_ascii_uppercase word.now)
-        (map (λ w. map to_ascii_uppercase w.now) words.now) query key k → ⊥) }
+    ensures none { IfNone result ((query : Bool) (key : Key) (k : ℕ) → Matches groups.now
+        (map to_ascii_uppercase word.now) (map (λ w. map to_ascii_uppercase w.now) words.now) query key k → ⊥) }
 {
     for group in groups {
-        if may_be_form(word, group.first) && is_form(word, group.first) {
-            if let Some(found) = below(group.rows, words, query) {
+        if is_form(word, group.first) {
+            if let Some(found) = below(group.rows, words) {
                 return Some(found);
             }
         }
@@ -177,14 +180,29 @@ fn matching(groups: &[Group], word: &[u8], words: &[&[u8]], query: bool) -> Opti
     None
 }
 
-/// Whether the word is a common header.
-fn is_starred(word: &[u8]) -> bool
-    ensures { result ≡ is_starred word.now }
+/// The headers that begin as this word does.
+fn part_at(word: &[u8]) -> &'static Part
+    ensures { IsPart (part_of (map to_ascii_uppercase word.now)) result.now }
 {
     match word {
-        [first, ..] => *first == b'*',
-        [] => false,
+        [] => &NONE,
+        [letter] => path_at(*letter),
+        [first, letter, ..] => {
+            if *first == b'*' {
+                common_at(*letter)
+            } else {
+                path_at(*first)
+            }
+        }
     }
+}
+
+/// The headers that begin as this word does, and are commands, or queries.
+fn groups_at(word: &[u8], query: bool) -> &'static [Group]
+    ensures { entries_of result.now ≡ filter (belongs (part_of (map to_ascii_uppercase word.now)) query) entries }
+{
+    let part = part_at(word);
+    if query { part.queries } else { part.commands }
 }
 
 /// The command that a header is, and the number in it.
@@ -194,16 +212,9 @@ pub fn find(words: &[&[u8]], query: bool) -> Option<(Key, u8)>
     ensures none { IfNone result ((key : Key) (k : ℕ)
         → IsFound entries (map (λ w. map to_ascii_uppercase w.now) words.now) query key k → ⊥) }
 {
-    let (common, others) = groups();
     match words {
         [] => None,
-        [word, words @ ..] => {
-            if is_starred(word) {
-                matching(common, word, words, query)
-            } else {
-                matching(others, word, words, query)
-            }
-        }
+        [word, words @ ..] => matching(groups_at(word, query), word, words),
     }
 }
 

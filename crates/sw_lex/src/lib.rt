@@ -11,6 +11,7 @@
 
 mod choice;
 mod command;
+mod common_rows;
 mod elements;
 mod headers;
 mod meaning;
