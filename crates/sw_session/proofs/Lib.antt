@@ -18,6 +18,7 @@ pub mod SyncRows
 pub mod SyncAnswers
 pub mod SyncTalks
 pub mod SyncShort
+pub mod Parts
 pub mod EngineTakes
 mod Order
 pub mod ServeKnown

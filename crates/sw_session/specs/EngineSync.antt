@@ -1,7 +1,7 @@
 -- The synchronous channel: what is asked and said to each message (IVI-6.1 HiSLIP, synchronized mode; when MAV is set
 -- and cleared, what interrupts and what a device clear drops is own).
 use Rattle.std.specs.Prelude.{◌≡◌, ◌≢◌, ℕ, ◌⊎◌, Bool, true, false, MatchBool, List, [], ◌∷◌, ◌++◌, map, Option, None}
-use Rattle.std.specs.Prelude.{Some, Result, Ok, Err, if◌then◌else◌}
+use Rattle.std.specs.Prelude.{Some, Result, Ok, Err, if◌then◌else◌, take}
 use Rattle.std.specs.Io.BufRead.{strip_last}
 use Rattle.sw_base.specs.declared.error.ScpiError.TheVariants.{GetNotAllowed, QueryInterrupted}
 use Rattle.sw_hislip.specs.declared.kind.Kind.{Kind}
@@ -25,7 +25,7 @@ use Rattle.sw_session.specs.declared.engine.step.Step.{Step}
 use Rattle.sw_session.specs.EngineKinds.{sync_request}
 use Rattle.sw_session.specs.EngineMessages.{plain, error_of, welcome, IsSubAddress, IsCut, room_of, tells_delivery}
 use Rattle.sw_session.specs.EngineStep.{on, goes, reply_step, over, says, fails, joined, Unasked, is_gone}
-use Rattle.sw_session.specs.Talk.{TalksMessage, Settles, Queues, is_done}
+use Rattle.sw_session.specs.Talk.{TalksMessage, Settles, Queues, is_done, most_kept}
 use Rattle.sw_session.specs.Trace.{Entry, Asked, Polled, Noted}
 
 -- whose channel it is; the session's macros; whether its second channel was seen to stand; and what has come of a
@@ -148,17 +148,20 @@ Delivers sid control id asked step rest =
 
 -- ---- program messages
 
--- with one more part
+-- with one more part; no more is kept than shows whether the message is too long (own)
 abbrev pub with_part : Front → List ℕ → Front
-with_part Front.Nothing bytes = Front.Kept bytes
-with_part (Front.Kept front) bytes = Front.Kept (front ++ bytes)
+with_part Front.Nothing bytes = Front.Kept (take most_kept bytes)
+with_part (Front.Kept front) bytes = Front.Kept (take most_kept (front ++ bytes))
 with_part Front.Lost bytes = Front.Lost
 
--- the whole message, once its last part is there; none where a part of it was skipped
+-- what is kept of a message; none where a part of it was skipped
+abbrev pub kept_of : Front → Option (List ℕ)
+kept_of (Front.Kept bytes) = Some bytes
+kept_of front = None
+
+-- the same once its last part is there
 abbrev pub whole : Front → List ℕ → Option (List ℕ)
-whole Front.Nothing bytes = Some bytes
-whole (Front.Kept front) bytes = Some (front ++ bytes)
-whole Front.Lost bytes = None
+whole front bytes = kept_of (with_part front bytes)
 
 -- An answer goes out under this identifier, cut to the size that the client told; an empty one is none. Where the
 -- session is none any more, or nothing more can be numbered, the channel ends.

@@ -1,6 +1,8 @@
--- A talk leaves no choice.
-use Rattle.std.specs.Prelude.{◌≡◌, ◌≢◌, ℕ, ◌≤◌, List, [], ◌∷◌, ◌++◌, length, replicate, true, Option, None, Result}
-use Rattle.std.specs.List.{AllByRecursion}
+-- A talk leaves no choice, and a message that comes in parts is one message.
+use Rattle.std.specs.Prelude.{◌≡◌, ◌≢◌, ℕ, ◌≤◌, List, [], ◌∷◌, ◌++◌, length, replicate, true, Option, Some, None, Result}
+use Rattle.std.specs.Prelude.{◌↔◌}
+use Rattle.std.specs.List.{AllByRecursion, concat}
+use Rattle.std.specs.Io.BufRead.{strip_last}
 use Rattle.sw_base.specs.declared.error.ScpiError.TheVariants.{OutOfMemory}
 use Rattle.sw_core.specs.declared.ask.Sid.{Sid}
 use Rattle.sw_core.specs.declared.ask.SessionAsk.{SessionAsk}
@@ -16,6 +18,8 @@ use Rattle.sw_session.specs.CoreDesk.{DeskSeen, but_room, Carried, PassesBy, Cor
 use Rattle.sw_session.specs.declared.desk.Wake.TheVariants.{Again}
 use Rattle.sw_session.specs.Trace.{Entry, Asked, Waited, Polled, Noted, Leads}
 use Rattle.sw_session.specs.Talk.{State, Talked, TalksMessage}
+use Rattle.sw_session.specs.EngineSync.{with_part, whole}
+use Rattle.sw_session.specs.declared.engine.front.Front.{Front}
 
 -- the talker had memory: it queued no error for want of it
 abbrev pub IsAmple : Entry → Type 0
@@ -150,3 +154,19 @@ abbrev pub CoreRestIsDetermined : Type 0
 CoreRestIsDetermined = (d d' e e' : DeskSeen) (r : Rests d true e) (r' : Rests d' true e') → IsSameDesk d d'
     → AllSmooth (waits_of r) (carried_at_rest r) → AllSmooth (waits_of r') (carried_at_rest r')
     → outcomes_at_rest r ≡ outcomes_at_rest r' → IsSameDesk e e'
+
+-- the front of a program message with these parts, one after another
+abbrev pub with_parts : Front → List (List ℕ) → Front
+with_parts front [] = front
+with_parts front (part ∷ parts) = with_parts (with_part front part) parts
+
+-- The talk about the one message is the talk about the other.
+abbrev pub IsSameMessage : List ℕ → List ℕ → Type 0
+IsSameMessage text text' = (sid : Sid) (macros macros' : Table) (trace : List Entry) (bytes : List ℕ)
+    → TalksMessage sid macros (strip_last 10 text) trace bytes macros'
+    ↔ TalksMessage sid macros (strip_last 10 text') trace bytes macros'
+
+-- A program message that came in parts, none of them skipped, is talked over as all their bytes, however many they are.
+abbrev pub PartsAreOneMessage : Type 0
+PartsAreOneMessage = (parts : List (List ℕ)) (last : List ℕ) → (text : List ℕ)
+    × (whole (with_parts Front.Nothing parts) last ≡ Some text) × IsSameMessage text (concat parts ++ last)

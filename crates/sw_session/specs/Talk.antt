@@ -32,6 +32,11 @@ use Rattle.sw_session.specs.Macros.{Told, Acts}
 abbrev pub turns : ℕ
 turns = 2 ^ 32
 
+-- how many bytes of a message are kept where it comes in parts: the longest one, its line feed, and one byte, by which
+-- a longer one is known
+abbrev pub most_kept : ℕ
+most_kept = most_bytes + 2
+
 -- what is written: the answers, with a semicolon between and a line feed at the end; nothing for none
 abbrev pub line_of : List (List ℕ) → List ℕ
 line_of [] = []

@@ -1,6 +1,7 @@
 //! What follows from the contract of a talk.
 
 ghost use Rattle.sw_session.specs.Law.{TalkIsDetermined, CoreTalkIsDetermined, CoreRestIsDetermined};
+ghost use Rattle.sw_session.specs.Law.{PartsAreOneMessage};
 ghost use Rattle.sw_session.specs.Order.{WorkIsDoneInOrder, WorkIsKeptWhereThereIsRoom};
 
 use sw_core::step_is_determined;
@@ -47,4 +48,10 @@ pub fn work_is_done_in_order()
 /// than there is room for.
 pub fn work_is_kept_where_there_is_room()
     ensures { WorkIsKeptWhereThereIsRoom }
+{}
+
+/// A law: a program message that came in parts, none of them skipped, is talked over as all their bytes, however many
+/// they are: what is kept of them has the same talk. So those within the limit are the message, and else it is -363.
+pub fn parts_are_one_message()
+    ensures { PartsAreOneMessage }
 {}

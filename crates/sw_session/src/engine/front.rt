@@ -1,32 +1,41 @@
 //! The parts of a program message that came so far.
 
-ghost use Rattle.std.specs.Prelude.{◌≡◌, IfOk};
+ghost use Rattle.std.specs.Prelude.{◌≡◌, ◌++◌, take, IfOk};
+ghost use Rattle.sw_session.specs.Talk.{most_kept};
 ghost use Rattle.sw_session.specs.EngineSync.{with_part, whole, skipped, is_within};
 
 use crate::engine::requests::SyncRequest;
 use std::alloc::AllocError;
-use sw_base::Sequence;
+use sw_base::{MESSAGE_BYTES, Sequence};
+
+/// How many bytes of a program message are kept at most: the longest one, its line feed, and one byte, by which a
+/// longer one is known.
+const MOST_KEPT: usize = MESSAGE_BYTES + 2;
 
 /// What has come of a program message that isn't ended.
 #[derive(Debug, Drop)]
 pub enum Front {
     /// No part of it.
     Nothing,
-    /// Parts with these bytes.
+    /// Parts with these bytes, or with more after the first `MOST_KEPT`.
     Kept(Sequence<u8>),
     /// A part that was too large: the whole message is dropped.
     Lost,
 }
 
-/// The front with one more part. Want of memory loses the whole message.
+/// The front with one more part, of which no more is taken than there is room for. Want of memory loses the whole
+/// message.
 pub fn with_part(front: Front, part: Sequence<u8>) -> Result<Front, AllocError>
     ensures { IfOk result (λ after. after ≡ with_part front part) }
 {
     match front {
-        Front::Nothing => Ok(Front::Kept(part)),
+        Front::Nothing => {
+            let mut first = part.into_vec();
+            first.truncate(MOST_KEPT);
+            Ok(Front::Kept(Sequence::new(first)))
+        }
         Front::Kept(front) => {
-            let mut bytes = front.into_vec();
-            bytes.extend_from_slice(part.as_slice())?;
+            let bytes = extended(front.into_vec(), part.as_slice())?;
             Ok(Front::Kept(Sequence::new(bytes)))
         }
         Front::Lost => {
@@ -36,7 +45,18 @@ pub fn with_part(front: Front, part: Sequence<u8>) -> Result<Front, AllocError>
     }
 }
 
-/// The whole message with its last part; none where a part of it was skipped.
+/// The first `MOST_KEPT` of these bytes and then those.
+fn extended(front: Vec<u8>, part: &[u8]) -> Result<Vec<u8>, AllocError>
+    ensures { IfOk result (λ all. all.items ≡ take most_kept (front.items ++ part.now)) }
+{
+    let mut bytes = front;
+    let room = MOST_KEPT.saturating_sub(bytes.len());
+    bytes.extend_from_slice(&part[..part.len().min(room)])?;
+    bytes.truncate(MOST_KEPT);
+    Ok(bytes)
+}
+
+/// The message with its last part, as far as it is kept; none where a part of it was skipped.
 pub fn whole(front: Front, part: Sequence<u8>) -> Result<Option<Sequence<u8>>, AllocError>
     ensures { IfOk result (λ text. text ≡ whole front part) }
 {
