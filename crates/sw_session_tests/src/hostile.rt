@@ -355,6 +355,14 @@ fn is_place(length: usize, cut: usize) -> bool {
     cut < 300 || length.saturating_sub(cut) < 100
 }
 
+/// Whether the stream is served so where it comes in one piece.
+pub fn holds_uncut(alloc: Global, stream: Stream<'_>) -> bool {
+    match sent_by(alloc, stream.rows) {
+        Some(bytes) => is_served_cut(alloc, stream, bytes.as_slice(), bytes.len()),
+        None => false,
+    }
+}
+
 /// Whether the stream is served so, however it is cut.
 pub fn holds(alloc: Global, stream: Stream<'_>) -> bool {
     let Some(bytes) = sent_by(alloc, stream.rows) else {

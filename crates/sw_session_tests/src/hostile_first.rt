@@ -2,7 +2,8 @@
 
 use crate::clients::IDENTITY;
 use crate::hostile::{
-    Row, Stream, Wire, claims, first, holds, line, malformed, plain, quiet, refused, says,
+    Row, Stream, Wire, claims, first, holds, holds_uncut, line, malformed, plain, quiet, refused,
+    says,
 };
 use std::alloc::Global;
 use std::test::Fail;
@@ -241,6 +242,58 @@ fn overruns(alloc: Global, text: &[u8]) -> bool {
 fn a_program_message_too_long_is_dropped(rt: HostRuntime) -> Result<(), Fail> {
     let text = Vec::from_elem(rt.alloc(), b';', 65_536)?;
     assert!(rt; overruns(rt.alloc(), &text));
+    Ok(())
+}
+
+/// Whether a program message of these parts and more is dropped whole, with one error, and the next is served.
+fn overruns_by_far(alloc: Global, text: &[u8]) -> bool {
+    let rows = [
+        begins(),
+        part(text),
+        part(text),
+        part(text),
+        bids(b";*IDN?"),
+        asks(
+            b"SYST:ERR?;ERR?",
+            b"-363,\"Input buffer overrun\";0,\"No error\"\n",
+        ),
+        asks(b"*IDN?", IDENTITY),
+    ];
+    holds_uncut(alloc, first(BEGUN, &rows, Ok(())))
+}
+
+#[test]
+fn a_program_message_of_many_parts_is_dropped_once(rt: HostRuntime) -> Result<(), Fail> {
+    let text = Vec::from_elem(rt.alloc(), b';', 65_536)?;
+    assert!(rt; overruns_by_far(rt.alloc(), &text));
+    Ok(())
+}
+
+/// Whether after these blanks a query is answered, and one with a byte more is dropped, wherever that byte stands.
+fn ends_at_the_limit(alloc: Global, blanks: &[u8]) -> bool {
+    let overrun: &[u8] = b"-363,\"Input buffer overrun\"\n";
+    let rows = [
+        begins(),
+        part(blanks),
+        asks(b"*IDN?\n", IDENTITY),
+        part(blanks),
+        bids(b" *IDN?\n"),
+        asks(b"SYST:ERR?", overrun),
+        part(blanks),
+        bids(b"*IDN?\n\n"),
+        asks(b"SYST:ERR?", overrun),
+        part(blanks),
+        part(b"*IDN?\n"),
+        bids(b"*CLS"),
+        asks(b"SYST:ERR?", overrun),
+    ];
+    holds_uncut(alloc, first(BEGUN, &rows, Ok(())))
+}
+
+#[test]
+fn a_program_message_may_end_at_the_limit(rt: HostRuntime) -> Result<(), Fail> {
+    let blanks = Vec::from_elem(rt.alloc(), b' ', 65_531)?;
+    assert!(rt; ends_at_the_limit(rt.alloc(), &blanks));
     Ok(())
 }
 
