@@ -3,5 +3,6 @@ mod Lines
 mod Kept
 mod TurnLemmas
 mod Runs
+mod Stopped
 mod Determined
 mod Listings

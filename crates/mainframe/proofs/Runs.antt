@@ -1,5 +1,5 @@
 -- A run, one line further.
-use Rattle.std.proofs.Common.{◌≡◌, ◌≢◌, ℕ, List, [], ◌∷◌, ◌++◌, length, take, Option, Some, None, IfSome, Result, Ok, Err, OnOk, IfErr, inl, inr, All}
+use Rattle.std.proofs.Common.{◌≡◌, ◌≢◌, ℕ, List, [], ◌∷◌, ◌++◌, length, take, Option, Some, None, IfSome, Result, Ok, Err, OnOk, IfErr, inr, All}
 use Rattle.std.proofs.Common.{Bool, true, false, ◌==◌, ◌-◌, zero, suc, drop, refl, ap, sym, ◌∙◌, subst, append_assoc, arith}
 use Rattle.std.proofs.lemmas.List.{append-nil}
 use Rattle.std.specs.Io.KnownBytes.{Appends, Keeps, IsAtEnd}
@@ -17,8 +17,8 @@ use Rattle.mainframe.specs.Run.{State, begins_over, IsSetUp, Line, Run, Runs, An
 use Rattle.mainframe.specs.declared.fault.RunFault.{RunFault}
 use Rattle.mainframe.specs.declared.fault.RunFault.TheVariants.{Input, Output, Memory, Listen}
 use Rattle.mainframe.specs.Kept.{most_kept, CutsLine, ShowsLine, LosesFront}
-use Rattle.mainframe.specs.Turns.{Gathers, Stand, TakesTurns, AsksInTurn, StopsBy, StopsAtHand, AnswersAtHand, IsUnasked, IsInVain, IsOfReading, stand}
-use Rattle.mainframe.proofs.TurnLemmas.{gathers-none, gathers-more, gathers-written, gathers-part, reads-gathers, takes-append}
+use Rattle.mainframe.specs.Turns.{Gathers, Stand, Streams, TakesTurns, IsOfReading}
+use Rattle.mainframe.proofs.TurnLemmas.{gathers-none, gathers-more, gathers-written, gathers-part, reads-gathers}
 use Rattle.mainframe.proofs.Lines.{lines_of-through}
 use Rattle.std.specs.Io.{StopsAt}
 use Rattle.std.specs.Prelude.{if◌then◌else◌}
@@ -26,15 +26,17 @@ use Rattle.mainframe.proofs.Kept.{no_feeds}
 use Rattle.std.proofs.KnownBytes.{Consumes-nil, Consumes-kept}
 use Rattle.std.proofs.Transfers.{StopsAt-of_All}
 
-pub line_rested : (sid talker : Sid) (macros macros' : Table) (q spoken mid : DeskSeen) (kept line told : List ℕ) (rested : Bool) → talker ≡ sid → line ≡ kept
+-- a line that was talked over, and after which all that was outstanding was carried out
+pub line_rested : {sid talker : Sid} {macros macros' : Table} {q spoken mid : DeskSeen} {kept line told : List ℕ} {rested : Bool} → talker ≡ sid → line ≡ kept
     → Talked CorePasses talker (state q macros) line told (state spoken macros') → Rests spoken rested mid → rested ≡ true
     → Line sid (state q macros) kept told (state mid macros')
-line_rested sid talker macros macros' q spoken mid kept line told rested sids lines talked rests is = record {
-  spoken = spoken;
-  talked = subst (λ (s : Sid). Talked CorePasses s (state q macros) kept told (state spoken macros')) sids (subst (λ (l : List ℕ).
-      Talked CorePasses talker (state q macros) l told (state spoken macros')) lines talked);
-  rests = subst (λ (b : Bool). Rests spoken b mid) is rests;
-}
+line_rested {sid = sid} {talker = talker} {macros = macros} {macros' = macros'} {q = q} {spoken = spoken} {mid = mid} {kept = kept} {told = told} sids lines
+    talked rests is = record {
+      spoken = spoken;
+      talked = subst (λ (s : Sid). Talked CorePasses s (state q macros) kept told (state spoken macros')) sids
+          (subst (λ (l : List ℕ). Talked CorePasses talker (state q macros) l told (state spoken macros')) lines talked);
+      rests = subst (λ (b : Bool). Rests spoken b mid) is rests;
+    }
 
 lines-next : (left : List ℕ) → take_through 10 left ≢ [] → lines_of left ≡ take_through 10 left ∷ lines_of (drop_through 10 left)
 lines-next [] some = absurd (some refl)
@@ -62,24 +64,29 @@ progress-line sid p q last (Some xs) (Some ys) r2 c0 c1 c2 line told u0 u1 u2 so
       told ++ bytes,
       left,
       at,
-      next ∙ ap (λ (l : List ℕ). l ∷ lines_of (drop_through 10 xs)) (sym takes) ∙ ap (λ (l : List ℕ). line ∷ lines_of l) (sym rest) ∙ ap (λ ls. line ∷ ls) lines,
+      next ∙ ap (λ (l : List ℕ). l ∷ lines_of (drop_through 10 xs)) (sym takes) ∙ ap (λ (l : List ℕ). line ∷ lines_of l) (sym rest)
+          ∙ ap (λ ls. line ∷ ls) lines,
       (told, q, bytes, one, run, refl),
       subst (λ (l : List ℕ). Gathers c0 l c2 u2) (append_assoc u0 told bytes) (gathers-more c0 c1 c2 (u0 ++ told) bytes u1 u2 g more),
     )
 
--- so it is after lines in turn
-pub progress-turns : {S W : Type 0} (remaining : S → Option (List ℕ)) (asked : S → W → S → Type 0) (unasked : S → S → Type 0) (contents : W
-    → Option (List ℕ)) (sid : Sid) (a b : Stand S W) (lines : List (List ℕ)) → TakesTurns remaining asked unasked contents sid a lines b
-    → Progress sid a.state (remaining a.source) (remaining b.source) (contents a.writer) a.unwritten (contents b.writer) b.unwritten b.state
-progress-turns remaining asked unasked contents sid a b [] same =
-    subst (λ x. Progress sid a.state (remaining a.source) (remaining x.source) (contents a.writer) a.unwritten (contents x.writer) x.unwritten x.state) (sym same)
-    (progress-none sid a.state (remaining a.source) (contents a.writer) a.unwritten)
-progress-turns remaining asked unasked contents sid a b (line ∷ lines) (mid, t, more) =
-    progress-line sid a.state mid.state b.state (remaining a.source) (remaining mid.source) (remaining b.source) (contents a.writer) (contents mid.writer)
-    (contents b.writer) line t.told a.unwritten mid.unwritten b.unwritten t.some t.takes (subst (λ x. DropsThrough (remaining a.source) (remaining x) 10)
-    (sym t.source) t.rest) t.answered (gathers-more (contents a.writer) (contents t.read.writer) (contents mid.writer) a.unwritten t.told t.read.unwritten
-    mid.unwritten (reads-gathers asked unasked contents a t.read t.reads) t.writes)
-    (progress-turns remaining asked unasked contents sid mid b lines more)
+-- so it is from one stand to another
+abbrev pub ProgressTo : {S W : Type 0} → Streams S W → Sid → Stand S W → List ℕ → Stand S W → Type 0
+ProgressTo known sid a unwritten b = Progress sid a.state (known.remaining a.source) (known.remaining b.source) (known.contents a.writer) unwritten
+    (known.contents b.writer) b.unwritten b.state
+
+pub progress-turns : {S W : Type 0} (known : Streams S W) (sid : Sid) (a b : Stand S W) (lines : List (List ℕ)) → TakesTurns known sid a lines b
+    → ProgressTo known sid a a.unwritten b
+progress-turns known sid a b [] same =
+    subst (λ x. ProgressTo known sid a a.unwritten x) (sym same)
+    (progress-none sid a.state (known.remaining a.source) (known.contents a.writer) a.unwritten)
+progress-turns known sid a b (line ∷ lines) (mid, t, more) =
+    let rest = subst (λ x. DropsThrough (known.remaining a.source) (known.remaining x) 10) (sym t.source) t.rest in
+    let gathers = gathers-more (known.contents a.writer) (known.contents t.read.writer) (known.contents mid.writer) a.unwritten t.told t.read.unwritten
+    mid.unwritten (reads-gathers known a t.read t.reads) t.writes in
+    progress-line sid a.state mid.state b.state (known.remaining a.source) (known.remaining mid.source) (known.remaining b.source) (known.contents a.writer)
+    (known.contents mid.writer) (known.contents b.writer) line t.told a.unwritten mid.unwritten b.unwritten t.some t.takes rest t.answered gathers
+    (progress-turns known sid mid b lines more)
 
 pub progress-keeps : (sid : Sid) (start : State) (r0 r r' c0 c : Option (List ℕ)) (u : List ℕ) (p : State) → Keeps r r' → Progress sid start r0 r c0 [] c u p
     → Progress sid start r0 r' c0 [] c u p
@@ -206,93 +213,6 @@ shown-taken None r1 r2 n kept Shown shows keeps shown loses = (tt, tt)
 shown-taken (Some xs) None r2 n kept Shown shows keeps shown loses = absurd keeps
 shown-taken (Some xs) (Some ys) r2 n kept Shown (here, whole) keeps shown loses =
     (whole.1, loses shown ∙ ap (λ l. Some (drop n l)) keeps ∙ ap (λ m. Some (drop m xs)) whole.0 ∙ ap Some (drop-through xs))
-
--- a fault while the lines at hand are answered
-stops-so : (sid : Sid) (start : State) (fault : RunFault) (r0 r r' c0 : Option (List ℕ)) {W : Type 0} (contents : W → Option (List ℕ)) (old new : W)
-    (bytes : List ℕ) (desk : DeskSeen) (p : State) → Progress sid start r0 r c0 [] (contents old) bytes p → Keeps r r'
-    → StopsBy contents fault old bytes new desk → IfSome r0 (λ input. EndsFrom sid start fault input r' c0 (contents new))
-stops-so sid start Input r0 r r' c0 contents old new bytes desk p h k (w, vain) =
-    progress-cut sid start r0 r r' c0 (contents old) (contents new) bytes p h w (cuts-none r r' k)
-stops-so sid start Output r0 r r' c0 contents old new bytes desk p h k w =
-    progress-part sid start r0 r r' c0 (contents old) (contents new) bytes p h k w
-stops-so sid start Memory r0 r r' c0 contents old new bytes desk p h k w = absurd w
-stops-so sid start Listen r0 r r' c0 contents old new bytes desk p h k w = absurd w
-
-in-vain : {W : Type 0} (contents : W → Option (List ℕ)) (fault : RunFault) (old new : W) (bytes : List ℕ) (desk : DeskSeen)
-    → StopsBy contents fault old bytes new desk → fault ≡ Input → IsInVain desk
-in-vain contents Input old new bytes desk (w, vain) is = vain
-in-vain contents Output old new bytes desk w is = absurd (cc (is))
-in-vain contents Memory old new bytes desk w is = absurd w
-in-vain contents Listen old new bytes desk w is = absurd w
-
-pub stops-ends : {S W : Type 0} (remaining : S → Option (List ℕ)) (asked : S → W → S → Type 0) (unasked : S → S → Type 0) (contents : W
-    → Option (List ℕ)) (sid : Sid) (start : State) (first : S) (begun : W) (turns : ℕ) (b : Stand S W) (lines : List (List ℕ)) (fault : RunFault)
-    (source : S) (writer : W) (desk : DeskSeen)
-    → TakesTurns remaining asked unasked contents sid (stand start first begun [] turns) lines b
-    → StopsAtHand remaining asked unasked contents sid b fault source writer desk
-    → IfSome (remaining first) (λ input. EndsFrom sid start fault input (remaining source) (contents begun) (contents writer))
-stops-ends remaining asked unasked contents sid start first begun turns b lines fault source writer desk t s =
-    stops-so sid start fault (remaining first) (remaining s.last.source) (remaining source) (contents begun) contents s.last.writer writer s.last.unwritten desk
-    s.last.state
-    (progress-turns remaining asked unasked contents sid (stand start first begun [] turns) s.last (lines ++ s.lines)
-    (takes-append remaining asked unasked contents sid (stand start first begun [] turns) b s.last lines s.lines t s.turns)) s.keeps s.stops
-
-pub stops-asks : {S W : Type 0} (remaining : S → Option (List ℕ)) (asked : S → W → S → Type 0) (unasked : S → S → Type 0) (contents : W
-    → Option (List ℕ)) (sid : Sid) (a b : Stand S W) (lines : List (List ℕ)) (fault : RunFault) (source : S) (writer : W) (desk : DeskSeen)
-    → TakesTurns remaining asked unasked contents sid a lines b → StopsAtHand remaining asked unasked contents sid b fault source writer desk
-    → AsksInTurn remaining asked unasked contents sid a b.turns source × (fault ≡ Input → IsInVain desk)
-stops-asks remaining asked unasked contents sid a b lines fault source writer desk t s = (
-  record {
-    lines = lines ++ s.lines;
-    last = s.last;
-    turns = takes-append remaining asked unasked contents sid a b s.last lines s.lines t s.turns;
-    read = record s.last { source = source };
-    reads = inl (record { moves = s.moves; writer = refl; unwritten = refl; turns = refl });
-    comes = refl;
-    spent = sym s.same;
-  },
-  in-vain contents fault s.last.writer writer s.last.unwritten desk s.stops,
-)
-
--- the lines at hand are answered behind others
-pub at-hand : {S W : Type 0} (remaining : S → Option (List ℕ)) (asked : S → W → S → Type 0) (unasked : S → S → Type 0) (contents : W
-    → Option (List ℕ)) (sid talker : Sid) (a b after : Stand S W) (lines : List (List ℕ)) → talker ≡ sid
-    → TakesTurns remaining asked unasked contents sid a lines b → AnswersAtHand remaining asked unasked contents talker b after
-    → (before : S) × (more : List (List ℕ)) × TakesTurns remaining asked unasked contents sid a more (record after { source = before })
-    × IsUnasked unasked before after.source × Keeps (remaining before) (remaining after.source)
-at-hand {S = S} {W = W} remaining asked unasked contents sid talker a b after lines sids t h =
-    let own = subst (λ (s : Sid). TakesTurns remaining asked unasked contents s b h.lines h.last) sids h.turns in
-    let all = takes-append remaining asked unasked contents sid a b h.last lines h.lines t own in (
-      h.last.source,
-      lines ++ h.lines,
-      subst (λ x. TakesTurns remaining asked unasked contents sid a (lines ++ h.lines) x) (sym (ap (λ (x : Stand S W). record x { source = h.last.source }) h.same)) all,
-      h.moves,
-      h.keeps,
-    )
-
--- a fault is told by its result
-pub same-fault : (a b : RunFault) → ◌≡◌ {A = Result (Unit {0}) RunFault} (Err a) (Err b) → a ≡ b
-same-fault a b e = cc (e)
-
--- the fault of a write
-pub stops-output : {W : Type 0} (contents : W → Option (List ℕ)) (fault : RunFault) (old new : W) (bytes : List ℕ) (desk : DeskSeen) → fault ≡ Output
-    → WritesPart (contents old) (contents new) bytes → StopsBy contents fault old bytes new desk
-stops-output contents fault old new bytes desk is part = subst (λ (f : RunFault). StopsBy contents f old bytes new desk) (sym is) part
-
--- a write fails behind these lines
-pub fails-write : {S W : Type 0} (remaining : S → Option (List ℕ)) (asked : S → W → S → Type 0) (unasked : S → S → Type 0) (contents : W
-    → Option (List ℕ)) (sid : Sid) (a : Stand S W) (source : S) (fault : RunFault) (writer : W) (desk : DeskSeen) → IsUnasked unasked a.source source
-    → Keeps (remaining a.source) (remaining source) → fault ≡ Output
-    → WritesPart (contents a.writer) (contents writer) a.unwritten → StopsAtHand remaining asked unasked contents sid a fault source writer desk
-fails-write remaining asked unasked contents sid a source fault writer desk moves keeps is part = record {
-  lines = [];
-  last = a;
-  turns = refl;
-  same = refl;
-  moves = moves;
-  keeps = keeps;
-  stops = stops-output contents fault a.writer writer a.unwritten desk is part;
-}
 
 -- what the loop over the lines comes to, from a mainframe that was set up
 runs_set_up : (cards : Fitted) (sid : Sid) (start : Panel) (result : Result (Unit {0}) RunFault) (r0 left old new : Option (List ℕ)) → IsSetUp cards sid start

@@ -8,7 +8,7 @@ use Rattle.sw_core.specs.declared.ask.Sid.{Sid}
 use Rattle.sw_session.specs.ServeWrite.{WritesPart}
 use Rattle.mainframe.specs.Kept.{most_kept}
 use Rattle.mainframe.specs.Run.{State, Line}
-use Rattle.mainframe.specs.Turns.{AsksWith, Spends, Gathers, IsUnasked, Stand, Reads, TakesTurn, TakesTurns}
+use Rattle.mainframe.specs.Turns.{AsksWith, Spends, Gathers, IsUnasked, Stand, Streams, Reads, TakesTurn, TakesTurns}
 use Rattle.mainframe.proofs.Kept.{line_whole}
 use Rattle.mainframe.proofs.Known.{appends-nothing, appends-more}
 
@@ -60,32 +60,30 @@ gathers-part c0 c1 c2 bytes unwritten (front, is, a) part = record {
 }
 
 -- what is read before an answer is written or kept
-pub reads-gathers : {S W : Type 0} (asked : S → W → S → Type 0) (unasked : S → S → Type 0) (contents : W
-    → Option (List ℕ)) (a b : Stand S W) → Reads asked unasked contents a b
-    → Gathers (contents a.writer) a.unwritten (contents b.writer) b.unwritten
-reads-gathers asked unasked contents a b (inl r) =
-    subst (λ w. Gathers (contents a.writer) a.unwritten (contents w) b.unwritten) (sym r.writer)
-    (subst (λ (u : List ℕ). Gathers (contents a.writer) a.unwritten (contents a.writer) u) (sym r.unwritten) (gathers-none (contents a.writer) a.unwritten))
-reads-gathers asked unasked contents a b (inr r) =
+pub reads-gathers : {S W : Type 0} (known : Streams S W) (a b : Stand S W) → Reads known a b
+    → Gathers (known.contents a.writer) a.unwritten (known.contents b.writer) b.unwritten
+reads-gathers known a b (inl r) =
+    subst (λ w. Gathers (known.contents a.writer) a.unwritten (known.contents w) b.unwritten) (sym r.writer)
+    (subst (λ (u : List ℕ). Gathers (known.contents a.writer) a.unwritten (known.contents a.writer) u) (sym r.unwritten)
+    (gathers-none (known.contents a.writer) a.unwritten))
+reads-gathers known a b (inr r) =
     (a.unwritten, sym (ap (λ (l : List ℕ). a.unwritten ++ l) r.unwritten ∙ append-nil a.unwritten), r.writes)
 
 -- lines in turn
-pub takes-append : {S W : Type 0} (remaining : S → Option (List ℕ)) (asked : S → W → S → Type 0) (unasked : S → S → Type 0) (contents : W
-    → Option (List ℕ)) (sid : Sid) (a b c : Stand S W) (lines more : List (List ℕ)) → TakesTurns remaining asked unasked contents sid a lines b
-    → TakesTurns remaining asked unasked contents sid b more c
-    → TakesTurns remaining asked unasked contents sid a (lines ++ more) c
-takes-append remaining asked unasked contents sid a b c [] more same t =
-    subst (λ x. TakesTurns remaining asked unasked contents sid x more c) same t
-takes-append remaining asked unasked contents sid a b c (l ∷ lines) more (mid, first, rest) t =
-    (mid, first, takes-append remaining asked unasked contents sid mid b c lines more rest t)
+pub takes-append : {S W : Type 0} (known : Streams S W) (sid : Sid) (a b c : Stand S W) (lines more : List (List ℕ)) → TakesTurns known sid a lines b
+    → TakesTurns known sid b more c
+    → TakesTurns known sid a (lines ++ more) c
+takes-append known sid a b c [] more same t =
+    subst (λ x. TakesTurns known sid x more c) same t
+takes-append known sid a b c (l ∷ lines) more (mid, first, rest) t =
+    (mid, first, takes-append known sid mid b c lines more rest t)
 
-pub takes-push : {S W : Type 0} (remaining : S → Option (List ℕ)) (asked : S → W → S → Type 0) (unasked : S → S → Type 0) (contents : W
-    → Option (List ℕ)) (sid : Sid) (a b c : Stand S W) (lines : List (List ℕ)) (line : List ℕ)
-    → TakesTurns remaining asked unasked contents sid a lines b
-    → TakesTurn remaining asked unasked contents sid b line c
-    → TakesTurns remaining asked unasked contents sid a (lines ++ line ∷ []) c
-takes-push remaining asked unasked contents sid a b c lines line t one =
-    takes-append remaining asked unasked contents sid a b c lines (line ∷ []) t (c, one, refl)
+pub takes-push : {S W : Type 0} (known : Streams S W) (sid : Sid) (a b c : Stand S W) (lines : List (List ℕ)) (line : List ℕ)
+    → TakesTurns known sid a lines b
+    → TakesTurn known sid b line c
+    → TakesTurns known sid a (lines ++ line ∷ []) c
+takes-push known sid a b c lines line t one =
+    takes-append known sid a b c lines (line ∷ []) t (c, one, refl)
 
 -- the line that was taken, of which this was kept
 pub line_taken : (r : Option (List ℕ)) (sid : Sid) (q mid : State) (kept told : List ℕ) → IfSome r (λ xs. kept ≡ take most_kept (take_through 10 xs))
@@ -100,14 +98,13 @@ line_taken (Some xs) sid q mid kept told is some t = (
 )
 
 -- one line further, of which so much was kept
-pub turn : {S W : Type 0} (remaining : S → Option (List ℕ)) (asked : S → W → S → Type 0) (unasked : S → S → Type 0) (contents : W
-    → Option (List ℕ)) (sid : Sid) (a read b : Stand S W) (kept told : List ℕ) → Reads asked unasked contents a read
-    → IfSome (remaining a.source) (λ xs. kept ≡ take most_kept (take_through 10 xs)) → kept ≢ []
-    → DropsThrough (remaining a.source) (remaining read.source) 10 → Line sid a.state kept told b.state
-    → Gathers (contents read.writer) (read.unwritten ++ told) (contents b.writer) b.unwritten → b.source ≡ read.source → b.turns ≡ read.turns
-    → (line : List ℕ) × TakesTurn remaining asked unasked contents sid a line b
-turn remaining asked unasked contents sid a read b kept told reads is some rest answered writes source turns =
-    let taken = line_taken (remaining a.source) sid a.state b.state kept told is some answered in (
+pub turn : {S W : Type 0} (known : Streams S W) (sid : Sid) (a read b : Stand S W) (kept told : List ℕ) → Reads known a read
+    → IfSome (known.remaining a.source) (λ xs. kept ≡ take most_kept (take_through 10 xs)) → kept ≢ []
+    → DropsThrough (known.remaining a.source) (known.remaining read.source) 10 → Line sid a.state kept told b.state
+    → Gathers (known.contents read.writer) (read.unwritten ++ told) (known.contents b.writer) b.unwritten → b.source ≡ read.source → b.turns ≡ read.turns
+    → (line : List ℕ) × TakesTurn known sid a line b
+turn known sid a read b kept told reads is some rest answered writes source turns =
+    let taken = line_taken (known.remaining a.source) sid a.state b.state kept told is some answered in (
       taken.0,
       record {
         read = read;

@@ -45,6 +45,19 @@ IsUnasked unasked old new = (n : ℕ) × MovesUnasked unasked old n new
 abbrev pub FailsAfter : {S : Type 0} → (S → S → Type 0) → ℕ → S → Type 0
 FailsAfter failed left new = (left ≡ 0) ⊎ ((old : _) × failed old new)
 
+-- what is known of what a run reads from and writes to: which bytes are left to be read; how the source moves where it is
+-- asked for bytes, while the writer is so, and where it is not; and what the writer has
+pub record Streams (S W : Type 0) : Type 1 where
+  pub remaining : S → Option (List ℕ)
+  pub asked : S → W → S → Type 0
+  pub unasked : S → S → Type 0
+  pub contents : W → Option (List ℕ)
+
+abbrev pub streams : {S W : Type 0} → (S → Option (List ℕ)) → (S → W → S → Type 0) → (S → S → Type 0)
+    → (W → Option (List ℕ)) → Streams S W
+streams remaining asked unasked contents =
+    record { remaining = remaining; asked = asked; unasked = unasked; contents = contents }
+
 -- where a run stands: its desk and macros, its source and its writer, what was answered and not written yet, and how
 -- often the source may still be asked
 pub record Stand (S W : Type 0) : Type 0 where
@@ -60,57 +73,51 @@ stand state source writer unwritten turns =
 
 -- The source comes from one state to another. Either it is asked for nothing; or all answers so far are written before,
 -- and the writer has them each time that it is asked for bytes.
-pub record AsksNothing {S W : Type 0} (unasked : S → S → Type 0) (a b : Stand S W) : Type 0 where
-  pub moves : IsUnasked unasked a.source b.source
+pub record AsksNothing {S W : Type 0} (known : Streams S W) (a b : Stand S W) : Type 0 where
+  pub moves : IsUnasked known.unasked a.source b.source
   pub writer : b.writer ≡ a.writer
   pub unwritten : b.unwritten ≡ a.unwritten
   pub turns : b.turns ≡ a.turns
 
-pub record AsksWritten {S W : Type 0} (asked : S → W → S → Type 0) (unasked : S → S → Type 0)
-    (contents : W → Option (List ℕ)) (a b : Stand S W) : Type 0 where
+pub record AsksWritten {S W : Type 0} (known : Streams S W) (a b : Stand S W) : Type 0 where
   pub before : S
-  pub moves : IsUnasked unasked a.source before
-  pub writes : Appends (contents a.writer) (contents b.writer) a.unwritten
+  pub moves : IsUnasked known.unasked a.source before
+  pub writes : Appends (known.contents a.writer) (known.contents b.writer) a.unwritten
   pub unwritten : b.unwritten ≡ []
-  pub asks : Spends asked before b.writer a.turns b.turns b.source
+  pub asks : Spends known.asked before b.writer a.turns b.turns b.source
 
-abbrev pub Reads : {S W : Type 0} → (S → W → S → Type 0) → (S → S → Type 0) → (W → Option (List ℕ))
-    → Stand S W → Stand S W → Type 0
-Reads asked unasked contents a b = AsksNothing unasked a b ⊎ AsksWritten asked unasked contents a b
+abbrev pub Reads : {S W : Type 0} → Streams S W → Stand S W → Stand S W → Type 0
+Reads known a b = AsksNothing known a b ⊎ AsksWritten known a b
 
 -- One line is read, then it is talked over, and then its answer is written or kept behind those that are not written.
-pub record TakesTurn {S W : Type 0} (remaining : S → Option (List ℕ)) (asked : S → W → S → Type 0)
-    (unasked : S → S → Type 0) (contents : W → Option (List ℕ)) (sid : Sid)
+pub record TakesTurn {S W : Type 0} (known : Streams S W) (sid : Sid)
     (a : Stand S W) (line : List ℕ) (b : Stand S W) : Type 0 where
   pub read : Stand S W
   pub told : List ℕ
-  pub reads : Reads asked unasked contents a read
+  pub reads : Reads known a read
   pub some : line ≢ []
-  pub takes : IfSome (remaining a.source) (λ xs. line ≡ take_through 10 xs)
-  pub rest : DropsThrough (remaining a.source) (remaining read.source) 10
+  pub takes : IfSome (known.remaining a.source) (λ xs. line ≡ take_through 10 xs)
+  pub rest : DropsThrough (known.remaining a.source) (known.remaining read.source) 10
   pub answered : Line sid a.state line told b.state
-  pub writes : Gathers (contents read.writer) (read.unwritten ++ told) (contents b.writer) b.unwritten
+  pub writes : Gathers (known.contents read.writer) (read.unwritten ++ told) (known.contents b.writer) b.unwritten
   pub source : b.source ≡ read.source
   pub turns : b.turns ≡ read.turns
 
 -- these lines, one after another
-abbrev pub TakesTurns : {S W : Type 0} → (S → Option (List ℕ)) → (S → W → S → Type 0) → (S → S → Type 0)
-    → (W → Option (List ℕ)) → Sid → Stand S W → List (List ℕ) → Stand S W → Type 0
-TakesTurns remaining asked unasked contents sid a [] b = b ≡ a
-TakesTurns remaining asked unasked contents sid a (line ∷ more) b = (mid : _)
-    × TakesTurn remaining asked unasked contents sid a line mid
-    × TakesTurns remaining asked unasked contents sid mid more b
+abbrev pub TakesTurns : {S W : Type 0} → Streams S W → Sid → Stand S W → List (List ℕ) → Stand S W → Type 0
+TakesTurns known sid a [] b = b ≡ a
+TakesTurns known sid a (line ∷ more) b =
+    (mid : _) × TakesTurn known sid a line mid × TakesTurns known sid mid more b
 
 -- All that a run asks of its source, down to so many turns: whole lines in turn, and then what is asked while all
 -- answers to these are written, and no more than they.
-pub record AsksInTurn {S W : Type 0} (remaining : S → Option (List ℕ)) (asked : S → W → S → Type 0)
-    (unasked : S → S → Type 0) (contents : W → Option (List ℕ)) (sid : Sid)
+pub record AsksInTurn {S W : Type 0} (known : Streams S W) (sid : Sid)
     (a : Stand S W) (left : ℕ) (source : S) : Type 0 where
   pub lines : List (List ℕ)
   pub last : Stand S W
-  pub turns : TakesTurns remaining asked unasked contents sid a lines last
+  pub turns : TakesTurns known sid a lines last
   pub read : Stand S W
-  pub reads : Reads asked unasked contents last read
+  pub reads : Reads known last read
   pub comes : source ≡ read.source
   pub spent : left ≡ read.turns
 
@@ -119,13 +126,12 @@ abbrev pub IsInVain : DeskSeen → Type 0
 IsInVain desk = (spoken : DeskSeen) × Rests spoken false desk
 
 -- The lines at hand are answered.
-pub record AnswersAtHand {S W : Type 0} (remaining : S → Option (List ℕ)) (asked : S → W → S → Type 0)
-    (unasked : S → S → Type 0) (contents : W → Option (List ℕ)) (sid : Sid) (a b : Stand S W) : Type 0 where
+pub record AnswersAtHand {S W : Type 0} (known : Streams S W) (sid : Sid) (a b : Stand S W) : Type 0 where
   pub lines : List (List ℕ)
   pub last : Stand S W
-  pub turns : TakesTurns remaining asked unasked contents sid a lines last
-  pub moves : IsUnasked unasked last.source b.source
-  pub keeps : Keeps (remaining last.source) (remaining b.source)
+  pub turns : TakesTurns known sid a lines last
+  pub moves : IsUnasked known.unasked last.source b.source
+  pub keeps : Keeps (known.remaining last.source) (known.remaining b.source)
   pub same : b ≡ record last { source = b.source }
 
 -- The same up to a fault: all answers are written but for the fault of a write, and nothing behind these lines is
@@ -136,13 +142,12 @@ StopsBy contents Output old bytes new desk = WritesPart (contents old) (contents
 StopsBy contents Memory old bytes new desk = ⊥
 StopsBy contents Listen old bytes new desk = ⊥
 
-pub record StopsAtHand {S W : Type 0} (remaining : S → Option (List ℕ)) (asked : S → W → S → Type 0)
-    (unasked : S → S → Type 0) (contents : W → Option (List ℕ)) (sid : Sid)
+pub record StopsAtHand {S W : Type 0} (known : Streams S W) (sid : Sid)
     (a : Stand S W) (fault : RunFault) (source : S) (writer : W) (desk : DeskSeen) : Type 0 where
   pub lines : List (List ℕ)
   pub last : Stand S W
-  pub turns : TakesTurns remaining asked unasked contents sid a lines last
+  pub turns : TakesTurns known sid a lines last
   pub same : last.turns ≡ a.turns
-  pub moves : IsUnasked unasked last.source source
-  pub keeps : Keeps (remaining last.source) (remaining source)
-  pub stops : StopsBy contents fault last.writer last.unwritten writer desk
+  pub moves : IsUnasked known.unasked last.source source
+  pub keeps : Keeps (known.remaining last.source) (known.remaining source)
+  pub stops : StopsBy known.contents fault last.writer last.unwritten writer desk

@@ -18,6 +18,7 @@ mod fault;
 mod laws;
 mod listing;
 mod lobby;
+mod offer;
 mod port;
 mod reading;
 mod run;

@@ -2,17 +2,17 @@
 
 ghost use Rattle.std.specs.Prelude.{◌≡◌, ◌⊎◌, ℕ, OnOk, IfOk, IfSome, IfErr, []};
 ghost use Rattle.std.specs.Io.KnownBytes.{IsAtEnd};
-ghost use Rattle.sw_core.specs.View.{ask_view};
 ghost use Rattle.sw_card.specs.Account.{relay_account, of_meter};
 ghost use Rattle.sw_core.specs.Panel.{opening};
 ghost use Rattle.mainframe.specs.Cards.{fitted, program_cards};
 ghost use Rattle.sw_macro.specs.Table.{no_macros};
-ghost use Rattle.mainframe.specs.Turns.{AsksInTurn, AnswersAtHand, StopsAtHand, FailsAfter, IsInVain, stand};
+ghost use Rattle.mainframe.specs.Turns.{AsksInTurn, AnswersAtHand, StopsAtHand, FailsAfter, IsInVain, stand, streams};
 ghost use Rattle.sw_session.specs.Talk.{state, turns};
-ghost use Rattle.mainframe.specs.Run.{IsSetUp, Joins, Stepped, AnsweredFrom, EndsFrom, Runs};
+ghost use Rattle.mainframe.specs.Run.{IsSetUp, Joins, AnsweredFrom, EndsFrom, Runs};
 
 use crate::cards::{first_card, meter_card, second_card, third_card};
 use crate::fault::RunFault;
+use crate::offer::offer;
 use crate::reading::{Source, read_line};
 use crate::writing::{gather, write_out};
 use std::alloc::{AllocError, Global};
@@ -115,13 +115,6 @@ fn join<R: Relay, M: Meter>(alloc: Global, core: &mut Core<R, M>) -> Sid
     }
 }
 
-/// Asks, whatever is answered.
-fn offer<R: Relay, M: Meter>(alloc: Global, core: &mut Core<R, M>, ask: Ask<R, M>)
-    ensures { Stepped core.old (ask_view ask) core.new }
-{
-    drop(core.apply(alloc, ask));
-}
-
 /// Answers each line of the source by the desk. Each time that the source is asked for bytes, all answers so far are
 /// written and handed on.
 pub fn run_on<R: Relay, M: Meter, S: Source<W>, W: Write>(
@@ -138,7 +131,7 @@ pub fn run_on<R: Relay, M: Meter, S: Source<W>, W: Write>(
         (state desk.old no_macros) fault input (S.remaining source.new)
         (W.contents writer.old) (W.contents writer.new))) }
     ensures turns { (left : ℕ)
-        × AsksInTurn S.remaining S.asked S.unasked W.contents sid
+        × AsksInTurn (streams S.remaining S.asked S.unasked W.contents) sid
         (stand (state desk.old no_macros) source.old writer.old [] turns) left source.new
         × (result ≡ Err RunFault.Input → FailsAfter S.failed left source.new ⊎ IsInVain desk.new) }
 {
@@ -193,11 +186,12 @@ fn answer_at_hand<R: Relay, M: Meter, S: Source<W>, W: Write>(
     line: &mut Vec<u8>,
     unwritten: &mut Vec<u8>,
 ) -> Result<(), RunFault>
-    ensures ok { (turns : ℕ) → OnOk result (AnswersAtHand S.remaining S.asked S.unasked W.contents talker.old.sid
+    ensures ok { (turns : ℕ) → OnOk result (AnswersAtHand
+        (streams S.remaining S.asked S.unasked W.contents) talker.old.sid
         (stand (state desk.old talker.old.macros) source.old writer.old unwritten.old.items turns)
         (stand (state desk.new talker.new.macros) source.new writer.new unwritten.new.items turns)) }
     ensures err { (turns : ℕ) → IfErr result (λ fault.
-        StopsAtHand S.remaining S.asked S.unasked W.contents talker.old.sid
+        StopsAtHand (streams S.remaining S.asked S.unasked W.contents) talker.old.sid
         (stand (state desk.old talker.old.macros) source.old writer.old unwritten.old.items turns)
         fault source.new writer.new desk.new) }
     ensures same { talker.new.sid ≡ talker.old.sid }

@@ -2,9 +2,7 @@
 
 ghost use Rattle.std.specs.Prelude.{◌≡◌, ◌≤◌, ◌+◌, ◌<◌, ◌^◌, All, IfErr, IfOk, OnOk, IfSome, ◌⊎◌};
 ghost use Rattle.sw_core.specs.Good.{IsGoodPanel};
-ghost use Rattle.sw_core.specs.View.{ask_view};
 ghost use Rattle.mainframe.specs.Cards.{fitted};
-ghost use Rattle.mainframe.specs.Run.{Stepped};
 ghost use Rattle.mainframe.specs.Serving.{IsFitted};
 ghost use Rattle.sw_session.specs.ServeRead.{MayPause};
 ghost use Rattle.sw_session.specs.Talk.{turns};
@@ -17,6 +15,7 @@ use crate::cards::{first_card, meter_card, second_card, third_card};
 use crate::crew::Crew;
 use crate::fault::RunFault;
 use crate::lobby::Lobby;
+use crate::offer::offer;
 use crate::port::Port;
 use crossbeam_channel::Receiver;
 use std::alloc::{AllocError, Global};
@@ -119,16 +118,6 @@ fn fit<R: Relay, M: Meter>(
     offer(alloc, &mut core, Ask::Install(3, third));
     offer(alloc, &mut core, Ask::Install(4, meter));
     Ok(core)
-}
-
-/// Asks, whatever is answered.
-fn offer<R: Relay, M: Meter>(alloc: Global, core: &mut Core<R, M>, ask: Ask<R, M>)
-    requires { IsGoodPanel core.old }
-    ensures stepped { Stepped core.old (ask_view ask) core.new }
-    ensures good { IsGoodPanel core.new }
-{
-    mainframe_stays_good();
-    drop(core.apply(alloc, ask));
 }
 
 /// Takes so many connections over a mainframe that has a name, and then closes it down.

@@ -1,18 +1,18 @@
-use Rattle.std.proofs.Common.{◌≡◌, ◌<◌, ◌∙◌, Bool, true, false, ℕ, List, [], ◌∷◌, ◌++◌, refl, subst, inl, rules, arith}
+use Rattle.std.proofs.Common.{◌≡◌, ◌<◌, ◌∙◌, Bool, true, false, ℕ, List, [], ◌++◌, refl, subst, inl, rules, arith}
 use Rattle.sw_session.specs.CoreDesk.{Rests}
 use Rattle.sw_session.specs.ServeWrite.{WritesPart}
 use Rattle.sw_session.specs.Talk.{state}
-use Rattle.mainframe.specs.Run.{Line}
 use Rattle.mainframe.specs.Turns.{Gathers, stand}
-use Rattle.mainframe.proofs.TurnLemmas.{unasked-none, unasked-one, unasked-two, gathers-none, takes-push, turn, keeps-same}
-use Rattle.mainframe.proofs.Runs.{shown-taken, line_rested, stops-output}
+use Rattle.mainframe.proofs.TurnLemmas.{unasked-none, unasked-one, unasked-two, gathers-none, keeps-same}
+use Rattle.mainframe.proofs.Runs.{shown-taken, line_rested}
+use Rattle.mainframe.proofs.Stopped.{further, stops-output}
 use Rattle.mainframe.proofs.run.answer_at_hand.Goals as goal
 
 pub returns-then-length-eq0-clause-ok : goal.returns-then-length-eq0-clause-ok
 returns-then-length-eq0-clause-ok g c turns = record {
-  lines = (c.loop-at_hand.invariant.in_turn turns).0;
+  lines = (c.loop-at_hand.invariant.in_turn turns).lines;
   last = stand (state c.loop-at_hand.desk c.loop-at_hand.talker.macros) c.loop-at_hand.source c.loop-at_hand.writer c.loop-at_hand.unwritten.items turns;
-  turns = (c.loop-at_hand.invariant.in_turn turns).1;
+  turns = (c.loop-at_hand.invariant.in_turn turns).turns;
   moves = unasked-one g.S.Source.unasked _ _ c.look-length.ensures.unasked;
   keeps = c.look-length.ensures.keeps;
   same = refl;
@@ -20,35 +20,33 @@ returns-then-length-eq0-clause-ok g c turns = record {
 
 pub returns-clause-ok : goal.returns-clause-ok
 returns-clause-ok g c turns = record {
-  lines = (c.loop-at_hand.invariant.in_turn turns).0;
+  lines = (c.loop-at_hand.invariant.in_turn turns).lines;
   last = stand (state c.loop-at_hand.desk c.loop-at_hand.talker.macros) c.loop-at_hand.source c.loop-at_hand.writer c.loop-at_hand.unwritten.items turns;
-  turns = (c.loop-at_hand.invariant.in_turn turns).1;
+  turns = (c.loop-at_hand.invariant.in_turn turns).turns;
   moves = unasked-none g.S.Source.unasked _;
   keeps = keeps-same _;
   same = refl;
 }
 
 pub returns-in-Err-clause-err : goal.returns-in-Err-clause-err
-returns-in-Err-clause-err g c turns =
-    let now = stand (state c.loop-at_hand.desk c.loop-at_hand.talker.macros) c.loop-at_hand.source c.loop-at_hand.writer c.loop-at_hand.unwritten.items turns in
-    record {
-      lines = (c.loop-at_hand.invariant.in_turn turns).0;
-      last = now;
-      turns = (c.loop-at_hand.invariant.in_turn turns).1;
-      same = refl;
-      moves = unasked-one g.S.Source.unasked _ _ c.look-length.ensures.unasked;
-      keeps = c.look-length.ensures.keeps;
-      stops = stops-output g.W.Write.contents c.in-Err.fault c.loop-at_hand.writer c.write_out.new.writer c.loop-at_hand.unwritten.items c.rest.new.self
-          (cc (c.in-Err.ensures.output)) c.in-Err.ensures.err;
-    }
+returns-in-Err-clause-err g c turns = record {
+  lines = (c.loop-at_hand.invariant.in_turn turns).lines;
+  last = stand (state c.loop-at_hand.desk c.loop-at_hand.talker.macros) c.loop-at_hand.source c.loop-at_hand.writer c.loop-at_hand.unwritten.items turns;
+  turns = (c.loop-at_hand.invariant.in_turn turns).turns;
+  same = refl;
+  moves = unasked-one g.S.Source.unasked _ _ c.look-length.ensures.unasked;
+  keeps = c.look-length.ensures.keeps;
+  stops = stops-output g.W.Write.contents c.in-Err.fault c.loop-at_hand.writer c.write_out.new.writer c.loop-at_hand.unwritten.items c.rest.new.self
+      (cc (c.in-Err.ensures.output)) c.in-Err.ensures.err;
+}
 
 pub returns-then-not-rest-clause-err : goal.returns-then-not-rest-clause-err
 returns-then-not-rest-clause-err g c turns =
     let vain : c.rest.result ≡ false = search rules in
     record {
-      lines = (c.loop-at_hand.invariant.in_turn turns).0;
+      lines = (c.loop-at_hand.invariant.in_turn turns).lines;
       last = stand (state c.loop-at_hand.desk c.loop-at_hand.talker.macros) c.loop-at_hand.source c.loop-at_hand.writer c.loop-at_hand.unwritten.items turns;
-      turns = (c.loop-at_hand.invariant.in_turn turns).1;
+      turns = (c.loop-at_hand.invariant.in_turn turns).turns;
       same = refl;
       moves = unasked-one g.S.Source.unasked _ _ c.look-length.ensures.unasked;
       keeps = c.look-length.ensures.keeps;
@@ -66,33 +64,27 @@ returns-in-Err-gather-clause-err g c turns =
     (g.S.Source.remaining c.take.new.self) c.look-length.result c.look-length.new.line.items (g.S.Source.shows c.look-length.new.self c.look-length.result)
     shows c.look-length.ensures.keeps c.look-length.ensures.shown c.take.ensures.taken in
     let rested : c.rest.result ≡ true = search rules in
-    let answered : Line c.args.talker.now.sid (state c.loop-at_hand.desk c.loop-at_hand.talker.macros) c.look-length.new.line.items c.message-told.result.items
-    (state c.rest.new.self c.message-told.new.self.macros) =
-    line_rested c.args.talker.now.sid c.loop-at_hand.talker.sid c.loop-at_hand.talker.macros c.message-told.new.self.macros c.loop-at_hand.desk
-    c.message-told.new.desk c.rest.new.self c.look-length.new.line.items _ c.message-told.result.items c.rest.result c.loop-at_hand.invariant.sid
-    c.deref.ensures.value c.message-told.ensures.talked c.rest.ensures.rests rested in
-    let now = stand (state c.loop-at_hand.desk c.loop-at_hand.talker.macros) c.loop-at_hand.source c.loop-at_hand.writer c.loop-at_hand.unwritten.items turns in
-    let next = stand (state c.rest.new.self c.message-told.new.self.macros) c.take.new.self c.loop-at_hand.writer (c.loop-at_hand.unwritten.items
-    ++ c.message-told.result.items) turns in
-    let one = turn g.S.Source.remaining g.S.Source.asked g.S.Source.unasked g.W.Write.contents c.args.talker.now.sid now
-    (stand (state c.loop-at_hand.desk c.loop-at_hand.talker.macros) c.take.new.self c.loop-at_hand.writer c.loop-at_hand.unwritten.items turns) next
-    c.look-length.new.line.items c.message-told.result.items (inl (record {
+    let answered = line_rested c.loop-at_hand.invariant.sid c.deref.ensures.value c.message-told.ensures.talked c.rest.ensures.rests rested in
+    let next = stand (state c.rest.new.self c.message-told.new.self.macros) c.take.new.self c.loop-at_hand.writer
+    (c.loop-at_hand.unwritten.items ++ c.message-told.result.items) turns in
+    let read = stand (state c.loop-at_hand.desk c.loop-at_hand.talker.macros) c.take.new.self c.loop-at_hand.writer c.loop-at_hand.unwritten.items turns in
+    let comes = further read next (c.loop-at_hand.invariant.in_turn turns) (inl (record {
       moves = unasked-two g.S.Source.unasked _ c.look-length.new.self _ c.look-length.ensures.unasked c.take.ensures.unasked;
       writer = refl;
       unwritten = refl;
       turns = refl;
     })) taken.0 shows.0 taken.1 answered (gathers-none _ _) refl refl in
+    let part = subst (λ (b : List ℕ). WritesPart (g.W.Write.contents c.loop-at_hand.writer) (g.W.Write.contents c.gather.new.writer)
+    (c.loop-at_hand.unwritten.items ++ b)) c.deref-in-loop-at_hand.ensures.value c.in-Err-gather.ensures.err in
     record {
-      lines = (c.loop-at_hand.invariant.in_turn turns).0 ++ one.0 ∷ [];
+      lines = comes.lines;
       last = next;
-      turns = takes-push _ _ _ _ _ _ now next _ _ (c.loop-at_hand.invariant.in_turn turns).1 one.1;
+      turns = comes.turns;
       same = refl;
       moves = unasked-none g.S.Source.unasked _;
       keeps = keeps-same _;
-      stops = stops-output g.W.Write.contents c.in-Err-gather.fault c.loop-at_hand.writer c.gather.new.writer (c.loop-at_hand.unwritten.items
-          ++ c.message-told.result.items) c.rest.new.self (cc (c.in-Err-gather.ensures.output))
-          (subst (λ (b : List ℕ). WritesPart (g.W.Write.contents c.loop-at_hand.writer) (g.W.Write.contents c.gather.new.writer) (c.loop-at_hand.unwritten.items
-          ++ b)) c.deref-in-loop-at_hand.ensures.value c.in-Err-gather.ensures.err);
+      stops = stops-output g.W.Write.contents c.in-Err-gather.fault c.loop-at_hand.writer c.gather.new.writer
+          (c.loop-at_hand.unwritten.items ++ c.message-told.result.items) c.rest.new.self (cc (c.in-Err-gather.ensures.output)) part;
     }
 
 pub loop-at_hand-preserved : goal.loop-at_hand-preserved
@@ -103,28 +95,19 @@ loop-at_hand-preserved g c =
     (g.S.Source.remaining c.take.new.self) c.look-length.result c.look-length.new.line.items (g.S.Source.shows c.look-length.new.self c.look-length.result)
     shows c.look-length.ensures.keeps c.look-length.ensures.shown c.take.ensures.taken in
     let rested : c.rest.result ≡ true = search rules in
-    let answered : Line c.args.talker.now.sid (state c.loop-at_hand.desk c.loop-at_hand.talker.macros) c.look-length.new.line.items c.message-told.result.items
-    (state c.rest.new.self c.message-told.new.self.macros) =
-    line_rested c.args.talker.now.sid c.loop-at_hand.talker.sid c.loop-at_hand.talker.macros c.message-told.new.self.macros c.loop-at_hand.desk
-    c.message-told.new.desk c.rest.new.self c.look-length.new.line.items _ c.message-told.result.items c.rest.result c.loop-at_hand.invariant.sid
-    c.deref.ensures.value c.message-told.ensures.talked c.rest.ensures.rests rested in
+    let answered = line_rested c.loop-at_hand.invariant.sid c.deref.ensures.value c.message-told.ensures.talked c.rest.ensures.rests rested in
     let wrote = subst (λ (b : List ℕ). Gathers (g.W.Write.contents c.loop-at_hand.writer) (c.loop-at_hand.unwritten.items ++ b)
     (g.W.Write.contents c.gather.new.writer) c.gather.new.unwritten.items) c.deref-in-loop-at_hand.ensures.value c.in_default-gather.ensures.ok in
     record {
       sid = c.message-told.ensures.same ∙ c.loop-at_hand.invariant.sid;
       in_turn = λ turns.
-          let now = stand (state c.loop-at_hand.desk c.loop-at_hand.talker.macros) c.loop-at_hand.source c.loop-at_hand.writer
-          c.loop-at_hand.unwritten.items turns in
           let next = stand (state c.rest.new.self c.message-told.new.self.macros) c.take.new.self c.gather.new.writer c.gather.new.unwritten.items turns in
-          let one = turn g.S.Source.remaining g.S.Source.asked g.S.Source.unasked g.W.Write.contents c.args.talker.now.sid now
-          (stand (state c.loop-at_hand.desk c.loop-at_hand.talker.macros) c.take.new.self c.loop-at_hand.writer c.loop-at_hand.unwritten.items turns) next
-          c.look-length.new.line.items c.message-told.result.items (inl (record {
+          let read = stand (state c.loop-at_hand.desk c.loop-at_hand.talker.macros) c.take.new.self c.loop-at_hand.writer
+          c.loop-at_hand.unwritten.items turns in
+          further read next (c.loop-at_hand.invariant.in_turn turns) (inl (record {
             moves = unasked-two g.S.Source.unasked _ c.look-length.new.self _ c.look-length.ensures.unasked c.take.ensures.unasked;
             writer = refl;
             unwritten = refl;
             turns = refl;
-          })) taken.0 shows.0 taken.1 answered wrote refl refl in (
-            (c.loop-at_hand.invariant.in_turn turns).0 ++ one.0 ∷ [],
-            takes-push _ _ _ _ _ _ now next _ _ (c.loop-at_hand.invariant.in_turn turns).1 one.1,
-          );
+          })) taken.0 shows.0 taken.1 answered wrote refl refl;
     }

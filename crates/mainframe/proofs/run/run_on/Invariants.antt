@@ -1,16 +1,16 @@
-use Rattle.std.specs.Prelude.{◌≡◌, ℕ, List, []}
+use Rattle.std.specs.Prelude.{◌≡◌, []}
 use Rattle.sw_macro.specs.Table.{no_macros}
 use Rattle.sw_session.specs.Talk.{state, turns}
-use Rattle.mainframe.specs.Turns.{stand, TakesTurns}
+use Rattle.mainframe.specs.Turns.{stand, streams}
+use Rattle.mainframe.proofs.Stopped.{ComesTo}
 use Rattle.mainframe.proofs.run.run_on.Given as goal
 
 abbrev pub invariant-loop-turns : goal.invariant-loop-turns
 invariant-loop-turns g l = record {
   sid : l.talker.sid ≡ l.fn.sid;
-  in_turn : (lines : List (List ℕ))
-      × TakesTurns g.S.Source.remaining g.S.Source.asked g.S.Source.unasked g.W.Write.contents l.fn.sid
+  in_turn : ComesTo (streams g.S.Source.remaining g.S.Source.asked g.S.Source.unasked g.W.Write.contents) l.fn.sid
       (stand (state l.fn.desk no_macros) l.fn.source l.fn.writer [] turns)
-      lines (stand (state l.desk l.talker.macros) l.source l.writer l.unwritten.items l.turns);
+      (stand (state l.desk l.talker.macros) l.source l.writer l.unwritten.items l.turns);
 }
 
 abbrev pub decreases-loop-turns : goal.decreases-loop-turns
