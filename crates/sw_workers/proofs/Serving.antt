@@ -6,15 +6,15 @@ use Rattle.sw_session.specs.declared.engine.step.Channel.TheVariants.{Synchronou
 use Rattle.sw_session.specs.declared.servers.fault.ServeFault.{ServeFault}
 use Rattle.sw_session.specs.declared.servers.fault.ServeFault.TheVariants.{Read, Write}
 use Rattle.sw_session.specs.Trace.{Entry}
-use Rattle.sw_session.specs.ServeEngine.{ServesChannel}
-use Rattle.sw_workers.specs.Connected.{channel_of, ServesFromHeader}
+use Rattle.sw_session.specs.ServeEngine.{Station, ServesChannel}
+use Rattle.sw_workers.specs.Connected.{Mishaps, Attended, beside, channel_of, ServesFromHeader}
 
 -- the same run, of an input that it consumed as well
-pub serves-as : {D : Type 0} (passes : D → Entry → D → Type 0) (own : Channel) (may may' : Type 0) (turns : ℕ) (desk desk' : D)
-    (input input' left main main' side side' : Option (List ℕ)) (result : Result (Unit {0}) ServeFault) → (may → may')
-    → ((bs : List ℕ) → Consumes input left bs → Consumes input' left bs) → ServesChannel passes own may turns desk desk' input left main main' side side' result
-    → ServesChannel passes own may' turns desk desk' input' left main main' side side' result
-serves-as passes own may may' turns desk desk' input input' left main main' side side' result f h s =
+pub serves-as : {D : Type 0} (passes : D → Entry → D → Type 0) (own : Channel) (may may' : Type 0) (turns : ℕ) (before after : Station D)
+    (input : Option (List ℕ)) (result : Result (Unit {0}) ServeFault)
+    → (may → may') → ((bs : List ℕ) → Consumes before.input after.input bs → Consumes input after.input bs)
+    → ServesChannel passes own may turns before after result → ServesChannel passes own may' turns (record before { input = input }) after result
+serves-as passes own may may' turns before after input result f h s =
     let r = s.serves.runs in record {
       engine = s.engine;
       serves = record {
@@ -49,22 +49,25 @@ whole-or P Q F U (Ok x) f (inl p) e = inl p
 whole-or P Q F U (Ok x) f (inr q) e = inr (inl q)
 whole-or P Q F U (Err x) f o e = inr (inr (f e))
 
-pub connects : {D : Type 0} (passes : D → Entry → D → Type 0) (may unread unwritten : Type 0) (turns : ℕ) (desk desk' : D)
-    (input rest again left main main' : Option (List ℕ)) (result : Result (Unit {0}) ServeFault) (header : List ℕ) (own : Channel) → own ≡ channel_of header → Consumes input rest header
-    → (length header ≡ 16) ⊎ IsAtEnd rest ⊎ unread → again ≡ prepend_known header rest
-    → ((side : Option (List ℕ)) × (side' : Option (List ℕ)) × ServesChannel passes own may turns desk desk' again left main main' side side' result)
-    → (result ≡ Err Read → unread) → (result ≡ Err Write → unwritten ⊎ (own ≡ Synchronous))
-    → ServesFromHeader desk desk' passes may unread unwritten turns input left main main' result
-connects passes may unread unwritten turns desk desk' input rest again left main main' result header own is begins whole same serves read write = record {
+pub connects : {D : Type 0} (passes : D → Entry → D → Type 0) (m : Mishaps) (turns : ℕ) (before after : Attended D) (rest again : Option (List ℕ))
+    (result : Result (Unit {0}) ServeFault) (header : List ℕ) (own : Channel)
+    → own ≡ channel_of header → Consumes before.input rest header
+    → (length header ≡ 16) ⊎ IsAtEnd rest ⊎ m.unread → again ≡ prepend_known header rest
+    → ((side : Option (List ℕ)) × (side' : Option (List ℕ))
+    × ServesChannel passes own m.may_pause turns (beside side (record before { input = again })) (beside side' after) result)
+    → (result ≡ Err Read → m.unread) → (result ≡ Err Write → m.unwritten ⊎ (own ≡ Synchronous))
+    → ServesFromHeader passes m turns before after result
+connects passes m turns before after rest again result header own is begins whole same serves read write = record {
   header = header;
   rest = rest;
   begins = begins;
   whole = whole;
   side = serves.0;
   side' = serves.1;
-  serves = subst (λ (channel : Channel). ServesChannel passes channel may turns desk desk' input left main main' serves.0 serves.1 result) is
-      (serves-as passes own may may turns desk desk' again input left main main' serves.0 serves.1 result (λ m. m)
-      (λ bs q. consumed-again input rest left header bs begins (subst (λ (a : Option (List ℕ)). Consumes a left bs) same q)) serves.2);
+  serves = subst (λ (channel : Channel). ServesChannel passes channel m.may_pause turns (beside serves.0 before) (beside serves.1 after) result) is
+      (serves-as passes own m.may_pause m.may_pause turns (beside serves.0 (record before { input = again })) (beside serves.1 after) before.input result
+      (λ p. p) (λ bs q. consumed-again before.input rest after.input header bs begins
+      (subst (λ (a : Option (List ℕ)). Consumes a after.input bs) same q)) serves.2);
   read = read;
-  write = subst (λ (channel : Channel). result ≡ Err Write → unwritten ⊎ (channel ≡ Synchronous)) is write;
+  write = subst (λ (channel : Channel). result ≡ Err Write → m.unwritten ⊎ (channel ≡ Synchronous)) is write;
 }

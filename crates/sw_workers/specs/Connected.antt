@@ -7,9 +7,11 @@ use Rattle.sw_session.specs.declared.engine.step.Channel.{Channel}
 use Rattle.sw_session.specs.declared.engine.step.Channel.TheVariants.{Synchronous, Asynchronous}
 use Rattle.sw_session.specs.declared.servers.fault.ServeFault.{ServeFault}
 use Rattle.sw_session.specs.declared.servers.fault.ServeFault.TheVariants.{Read, Write, NoMemory}
-use Rattle.sw_session.specs.ServeRead.{CameTo}
+use Rattle.sw_session.specs.declared.servers.source.Source as Source
+use Rattle.sw_session.specs.declared.servers.writing.Sink as Sink
+use Rattle.sw_session.specs.ServeRead.{CameTo, MayPause}
 use Rattle.sw_session.specs.Trace.{Entry}
-use Rattle.sw_session.specs.ServeEngine.{ServesChannel}
+use Rattle.sw_session.specs.ServeEngine.{Station, ServesChannel}
 
 -- such a step has been taken
 abbrev pub Happened : {A : Type 0} → (A → A → Type 0) → Type 0
@@ -21,27 +23,55 @@ channel_of (h ∷ s ∷ kind ∷ rest) =
     if (h == 72) && (s == 83) && (kind == kind_number AsyncInitialize) then Asynchronous else Synchronous
 channel_of bytes = Synchronous
 
+-- what can befall a connection: a time limit can end a read; a read has failed; a write has failed
+pub record Mishaps : Type 1 where
+  pub may_pause : Type 0
+  pub unread : Type 0
+  pub unwritten : Type 0
+
+-- What a connection's reader, its writer and its second way to the client tell of that: the second way is written to
+-- before a read, which then fails with it.
+abbrev pub mishaps : {R W S : Type 0} → Source.Ghosts R → Sink.Ghosts W → Sink.Ghosts S → Mishaps
+mishaps reads writes writes_aside = record {
+  may_pause = MayPause reads.paused;
+  unread = Happened reads.failed ⊎ Happened writes_aside.failed;
+  unwritten = Happened writes.failed;
+}
+
+-- where the server of a connection stands: its desk, what is left to be read, and what was written
+pub record Attended (D : Type 0) : Type 0 where
+  pub desk : D
+  pub input : Option (List ℕ)
+  pub output : Option (List ℕ)
+
+abbrev pub attended : {D : Type 0} → D → Option (List ℕ) → Option (List ℕ) → Attended D
+attended desk input output = record { desk = desk; input = input; output = output }
+
+-- the same as a channel's server that has this with its side writer
+abbrev pub beside : {D : Type 0} → Option (List ℕ) → Attended D → Station D
+beside side a = record { desk = a.desk; input = a.input; main = a.output; side = side }
+
 -- A connection is served from its first byte on, as the channel that its first header tells. The header is whole,
 -- unless the input ended or failed in it. A run that ends by a read fault has a read that failed; one that ends by a
 -- write fault a write that failed, or else it is of the first channel, where there was no memory for what is left to
 -- the second one.
-pub record ServesFromHeader {D : Type 0} (desk desk' : D) (passes : D → Entry → D → Type 0)
-    (may_pause unread unwritten : Type 0) (turns : ℕ) (input left main main' : Option (List ℕ))
-    (result : Result (Unit {0}) ServeFault) : Type 0 where
+pub record ServesFromHeader {D : Type 0} (passes : D → Entry → D → Type 0) (m : Mishaps) (turns : ℕ)
+    (before after : Attended D) (result : Result (Unit {0}) ServeFault) : Type 0 where
   pub header : List ℕ
   pub rest : Option (List ℕ)
-  pub begins : Consumes input rest header
-  pub whole : (length header ≡ 16) ⊎ IsAtEnd rest ⊎ unread
+  pub begins : Consumes before.input rest header
+  pub whole : (length header ≡ 16) ⊎ IsAtEnd rest ⊎ m.unread
   pub side : Option (List ℕ)
   pub side' : Option (List ℕ)
-  pub serves : ServesChannel passes (channel_of header) may_pause turns desk desk' input left main main' side side'
+  pub serves : ServesChannel passes (channel_of header) m.may_pause turns (beside side before) (beside side' after)
       result
-  pub read : result ≡ Err Read → unread
-  pub write : result ≡ Err Write → unwritten ⊎ (channel_of header ≡ Synchronous)
+  pub read : result ≡ Err Read → m.unread
+  pub write : result ≡ Err Write → m.unwritten ⊎ (channel_of header ≡ Synchronous)
 
 -- There was no memory to begin, and nothing was read, asked or written; or the connection is served.
-abbrev pub RunsSession : {D : Type 0} → D → D → (D → Entry → D → Type 0) → Type 0 → Type 0 → Type 0 → ℕ
-    → Option (List ℕ) → Option (List ℕ) → Option (List ℕ) → Option (List ℕ) → Result (Unit {0}) ServeFault → Type 0
-RunsSession desk desk' passes may_pause unread unwritten turns input left main main' result =
-    ((result ≡ Err NoMemory) × (desk' ≡ desk) × (left ≡ input) × (main' ≡ main))
-    ⊎ ServesFromHeader desk desk' passes may_pause unread unwritten turns input left main main' result
+abbrev pub RunsSession : {D : Type 0} → (D → Entry → D → Type 0) → Mishaps → ℕ → Attended D → Attended D
+    → Result (Unit {0}) ServeFault → Type 0
+RunsSession passes m turns before after result =
+    ((result ≡ Err NoMemory) × (after.desk ≡ before.desk) × (after.input ≡ before.input)
+    × (after.output ≡ before.output))
+    ⊎ ServesFromHeader passes m turns before after result

@@ -5,7 +5,7 @@ ghost use Rattle.sw_session.specs.Talk.{turns};
 ghost use Rattle.sw_session.specs.ServeRead.{MayPause};
 ghost use Rattle.sw_session.specs.ServeEngine.{ServesChannel};
 ghost use Rattle.sw_workers.specs.Ahead.{left_ahead};
-ghost use Rattle.sw_workers.specs.Connected.{Happened, ServesFromHeader, RunsSession};
+ghost use Rattle.sw_workers.specs.Connected.{Happened, mishaps, attended, beside, ServesFromHeader, RunsSession};
 ghost use Rattle.sw_workers.specs.Work.{DeskPasses};
 
 use crate::ahead::{HEADER, ReadAhead, channel_of, read_header};
@@ -117,11 +117,10 @@ pub fn run_session_for<
     alloc: Global,
     turns: u64,
 ) -> Ended<SharedDesk<H, R, M, G, W>, C::In, C::Out>
-    ensures { RunsSession desk result.desk
-        (λ before entry after. DeskPasses H.first before.part entry after.part)
-        (MayPause C.In.paused) (Happened C.In.failed ⊎ Happened C.Aside.failed) (Happened C.Out.failed) turns
-        (C.input connection) (left_ahead C.In.remaining result.reader)
-        (C.output connection) (C.Out.contents result.writer) result.result }
+    ensures { RunsSession (λ before entry after. DeskPasses H.first before.part entry after.part)
+        (mishaps C.In.Source C.Out.Sink C.Aside.Sink) turns
+        (attended desk (C.input connection) (C.output connection))
+        (attended result.desk (left_ahead C.In.remaining result.reader) (C.Out.contents result.writer)) result.result }
 {
     let (reader, writer, aside) = connection.into_parts();
     let rt = desk.rt;
@@ -153,11 +152,10 @@ pub fn run_session<
     desk: SharedDesk<H, R, M, G, W>,
     alloc: Global,
 ) -> Ended<SharedDesk<H, R, M, G, W>, C::In, C::Out>
-    ensures { RunsSession desk result.desk
-        (λ before entry after. DeskPasses H.first before.part entry after.part)
-        (MayPause C.In.paused) (Happened C.In.failed ⊎ Happened C.Aside.failed) (Happened C.Out.failed) turns
-        (C.input connection) (left_ahead C.In.remaining result.reader)
-        (C.output connection) (C.Out.contents result.writer) result.result }
+    ensures { RunsSession (λ before entry after. DeskPasses H.first before.part entry after.part)
+        (mishaps C.In.Source C.Out.Sink C.Aside.Sink) turns
+        (attended desk (C.input connection) (C.output connection))
+        (attended result.desk (left_ahead C.In.remaining result.reader) (C.Out.contents result.writer)) result.result }
 {
     run_session_for(connection, desk, alloc, TURNS)
 }
@@ -201,10 +199,9 @@ fn serve_parts<C: Connection, D: Desk + Drop, W: Wait + Copy + Drop>(
     turns: u64,
 ) -> Ended<D, C::In, C::Out>
     requires { (header.items ≡ []) × (16 ≤ vec_capacity header) }
-    ensures { ServesFromHeader desk result.desk D.passes (MayPause C.In.paused)
-        (Happened C.In.failed ⊎ Happened C.Aside.failed) (Happened C.Out.failed) turns
-        (C.In.remaining wire.reader) (left_ahead C.In.remaining result.reader)
-        (C.Out.contents wire.writer) (C.Out.contents result.writer) result.result }
+    ensures { ServesFromHeader D.passes (mishaps C.In.Source C.Out.Sink C.Aside.Sink) turns
+        (attended desk (C.In.remaining wire.reader) (C.Out.contents wire.writer))
+        (attended result.desk (left_ahead C.In.remaining result.reader) (C.Out.contents result.writer)) result.result }
 {
     let Parts {
         mut reader,
@@ -244,9 +241,10 @@ fn serve_first<R: Source + Drop, O: Sink + Drop, D: Desk + Drop, W: Wait + Drop>
     turns: u64,
 ) -> Ended<D, R, O>
     ensures serves { (side : Option (List ℕ)) × (side' : Option (List ℕ))
-        × ServesChannel D.passes Channel.Synchronous (MayPause R.paused) turns desk result.desk
-        (left_ahead R.remaining reader) (left_ahead R.remaining result.reader)
-        (O.contents writer) (O.contents result.writer) side side' result.result }
+        × ServesChannel D.passes Channel.Synchronous (MayPause R.paused) turns
+        (beside side (attended desk (left_ahead R.remaining reader) (O.contents writer)))
+        (beside side' (attended result.desk (left_ahead R.remaining result.reader) (O.contents result.writer)))
+        result.result }
     ensures read { result.result ≡ Err ServeFault.Read → Happened R.failed }
 {
     let mut reader = reader;
@@ -271,9 +269,10 @@ fn serve_second<R: Source + Drop, O: Sink + Drop, A: Sink + Drop, D: Desk + Drop
     turns: u64,
 ) -> Ended<D, R, O>
     ensures serves { (side : Option (List ℕ)) × (side' : Option (List ℕ))
-        × ServesChannel D.passes Channel.Asynchronous (MayPause R.paused) turns desk result.desk
-        (left_ahead R.remaining source.reader) (left_ahead R.remaining result.reader)
-        (O.contents writer) (O.contents result.writer) side side' result.result }
+        × ServesChannel D.passes Channel.Asynchronous (MayPause R.paused) turns
+        (beside side (attended desk (left_ahead R.remaining source.reader) (O.contents writer)))
+        (beside side' (attended result.desk (left_ahead R.remaining result.reader) (O.contents result.writer)))
+        result.result }
     ensures read { result.result ≡ Err ServeFault.Read → Happened R.failed ⊎ Happened A.failed }
     ensures write { result.result ≡ Err ServeFault.Write → Happened O.failed }
 {
