@@ -1,14 +1,13 @@
 //! Connections, each served by a thread of its own.
 
-ghost use Rattle.std.specs.Prelude.{◌≡◌, ◌≤◌, ◌+◌, ◌<◌, ◌^◌, All, IfErr, IfOk, OnOk, IfSome, ◌⊎◌};
+ghost use Rattle.std.specs.Prelude.{◌≡◌, ◌≤◌, ◌+◌, ◌<◌, ◌^◌, All, IfErr, IfOk, OnOk, IfSome};
 ghost use Rattle.sw_core.specs.Good.{IsGoodPanel};
 ghost use Rattle.mainframe.specs.Cards.{fitted};
 ghost use Rattle.mainframe.specs.Serving.{IsFitted};
-ghost use Rattle.sw_session.specs.ServeRead.{MayPause};
 ghost use Rattle.sw_session.specs.Talk.{turns};
 ghost use Rattle.sw_workers.specs.Ahead.{left_ahead};
 ghost use Rattle.sw_workers.specs.Closing.{IsOpen};
-ghost use Rattle.sw_workers.specs.Connected.{Happened, RunsSession};
+ghost use Rattle.sw_workers.specs.Connected.{mishaps, attended, RunsSession};
 ghost use Rattle.sw_workers.specs.Work.{DeskPasses};
 
 use crate::cards::{first_card, meter_card, second_card, third_card};
@@ -272,11 +271,11 @@ fn attend<
     lobby: Arc<Lobby<H, R, M, G, W>, Global>,
     connection: C,
 ) -> Option<Ended<SharedDesk<H, R, M, G, W>, C::In, C::Out>>
-    ensures { IfSome result (λ ended. (desk : _) × RunsSession desk ended.desk
-        (λ before entry after. DeskPasses H.first before.part entry after.part)
-        (MayPause C.In.paused) (Happened C.In.failed ⊎ Happened C.Aside.failed) (Happened C.Out.failed) turns
-        (C.input connection) (left_ahead C.In.remaining ended.reader)
-        (C.output connection) (C.Out.contents ended.writer) ended.result) }
+    ensures { IfSome result (λ ended. (desk : _)
+        × RunsSession (λ before entry after. DeskPasses H.first before.part entry after.part)
+        (mishaps C.In.Source C.Out.Sink C.Aside.Sink) turns
+        (attended desk (C.input connection) (C.output connection))
+        (attended ended.desk (left_ahead C.In.remaining ended.reader) (C.Out.contents ended.writer)) ended.result) }
 {
     let desk = lobby.desk()?;
     Some(run_session(connection, desk, alloc))
