@@ -3,6 +3,6 @@ mod Lines
 mod Kept
 mod TurnLemmas
 mod Runs
-mod Stopped
+mod StandLemmas
 mod Determined
 mod Listings

@@ -1,7 +1,7 @@
 use Rattle.std.specs.Prelude.{◌≡◌, ℕ}
 use Rattle.sw_session.specs.Talk.{state}
 use Rattle.mainframe.specs.Turns.{stand, streams}
-use Rattle.mainframe.proofs.Stopped.{ComesTo}
+use Rattle.mainframe.proofs.StandLemmas.{ComesTo}
 use Rattle.mainframe.proofs.run.answer_at_hand.Given as goal
 
 abbrev pub invariant-loop-at_hand : goal.invariant-loop-at_hand

@@ -9,8 +9,8 @@ use Rattle.mainframe.specs.Turns.{Gathers, stand}
 use Rattle.mainframe.proofs.Kept.{kept-none}
 use Rattle.mainframe.proofs.TurnLemmas.{gathers-none, keeps-same}
 use Rattle.mainframe.proofs.Runs.{line_rested, cuts-none, cuts-line}
-use Rattle.mainframe.proofs.Stopped.{further-asked, handed-none, at-hand, reading-end, reading-all, reading-cut, asks-none, asks-written}
-use Rattle.mainframe.proofs.Stopped.{stops-behind, same-fault, fails-write, stopped-asks}
+use Rattle.mainframe.proofs.StandLemmas.{further-asked, handed-none, at-hand, reading-end, reading-all, reading-cut, asks-none, asks-written}
+use Rattle.mainframe.proofs.StandLemmas.{stops-behind, same-fault, fails-write, stopped-asks}
 use Rattle.mainframe.proofs.run.run_on.Goals as goal
 
 pub loop-turns-init : goal.loop-turns-init

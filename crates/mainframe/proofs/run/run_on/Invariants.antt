@@ -2,7 +2,7 @@ use Rattle.std.specs.Prelude.{◌≡◌, []}
 use Rattle.sw_macro.specs.Table.{no_macros}
 use Rattle.sw_session.specs.Talk.{state, turns}
 use Rattle.mainframe.specs.Turns.{stand, streams}
-use Rattle.mainframe.proofs.Stopped.{ComesTo}
+use Rattle.mainframe.proofs.StandLemmas.{ComesTo}
 use Rattle.mainframe.proofs.run.run_on.Given as goal
 
 abbrev pub invariant-loop-turns : goal.invariant-loop-turns
