@@ -5,7 +5,7 @@ use Rattle.sw_core.specs.declared.ask.Sid.{Sid}
 use Rattle.sw_core.specs.declared.ask.SessionAsk.TheVariants as Ask
 use Rattle.sw_core.specs.declared.ask.SessionAnswer.TheVariants.{Joined}
 use Rattle.sw_core.specs.Panel.{Panel, opening}
-use Rattle.sw_core.specs.View.{AskSession, AskInstall, AnswerView, SaysSession, SaysInstalled, SaysNotInstalled, SaysWorn}
+use Rattle.sw_core.specs.Seen.{AskSession, AskInstall, AnswerSeen, SaysSession, SaysInstalled, SaysNotInstalled, SaysWorn}
 use Rattle.sw_core.specs.Event.{last_number}
 use Rattle.sw_core.specs.Step.{Acts, acts_unnumbered, IsWorn, IsEvent, IsUnnumbered, Step}
 use Rattle.sw_cage.specs.Accounts.{Accounts}
@@ -16,39 +16,39 @@ use Rattle.sw_session.specs.Law.{IsSameDesk, CoreTalkIsDetermined, CoreRestIsDet
 use Rattle.sw_card.specs.Account.{Account}
 use Rattle.mainframe.specs.Lines.{lines_of}
 use Rattle.mainframe.specs.Cards.{Fitted}
-use Rattle.mainframe.specs.Run.{State, begins_over, Stepped, AsksInTurn, Joins, IsSetUp, Line, Run, RunsTo}
+use Rattle.mainframe.specs.Run.{RunState, begins_over, Stepped, AsksEach, Joins, IsSetUp, Line, Run, RunsTo}
 use Rattle.mainframe.specs.Law.{IsPlainLine, IsPlainRun, outcomes_in_run}
 
 -- an offer of a card is answered plainly
-install_worn : (slot : ℕ) (card : Account) (a : AnswerView) → IsWorn (AskInstall slot card) a → IsPlain a
+install_worn : (slot : ℕ) (card : Account) (a : AnswerSeen) → IsWorn (AskInstall slot card) a → IsPlain a
 install_worn slot card SaysWorn w = tt
 install_worn slot card a w = absurd w
 
-install_acts : (p : Panel) (slot : ℕ) (card : Account) (f : Bool) (a : AnswerView) (q : Panel) → Acts p (AskInstall slot card) f a q → IsPlain a
+install_acts : (p : Panel) (slot : ℕ) (card : Account) (f : Bool) (a : AnswerSeen) (q : Panel) → Acts p (AskInstall slot card) f a q → IsPlain a
 install_acts p slot card f SaysInstalled q s = tt
 install_acts p slot card f (SaysNotInstalled r) q s = tt
 install_acts p slot card f a q s = absurd s
 
-install_either : (b : Bool) (p : Panel) (slot : ℕ) (card : Account) (f : Bool) (a : AnswerView) (q : Panel)
+install_either : (b : Bool) (p : Panel) (slot : ℕ) (card : Account) (f : Bool) (a : AnswerSeen) (q : Panel)
     → MatchBool b (IsUnnumbered p (AskInstall slot card) f a q) (IsEvent p (AskInstall slot card) f a q) → IsPlain a
 install_either true p slot card f a q s = install_worn slot card a s.worn
 install_either false p slot card f a q s = install_acts p slot card f a s.done s.acts
 
-install_plain : (p : Panel) (slot : ℕ) (card : Account) (f : Bool) (a : AnswerView) (q : Panel) → Step p (AskInstall slot card) f a q → IsPlain a
+install_plain : (p : Panel) (slot : ℕ) (card : Account) (f : Bool) (a : AnswerSeen) (q : Panel) → Step p (AskInstall slot card) f a q → IsPlain a
 install_plain p slot card f a q s = install_either ((p.events == last_number) && not (acts_unnumbered (AskInstall slot card))) p slot card f a q s
 
 -- and no card fails in it
-install_done : (p : Panel) (slot : ℕ) (card : Account) (f : Bool) (a : AnswerView) (q : Panel) → Acts p (AskInstall slot card) f a q → f ≡ false
+install_done : (p : Panel) (slot : ℕ) (card : Account) (f : Bool) (a : AnswerSeen) (q : Panel) → Acts p (AskInstall slot card) f a q → f ≡ false
 install_done p slot card f SaysInstalled q s = s.0
 install_done p slot card f (SaysNotInstalled r) q s = s.0
 install_done p slot card f a q s = absurd s
 
-install_whole : (b : Bool) (p : Panel) (slot : ℕ) (card : Account) (f : Bool) (a : AnswerView) (q : Panel)
+install_whole : (b : Bool) (p : Panel) (slot : ℕ) (card : Account) (f : Bool) (a : AnswerSeen) (q : Panel)
     → MatchBool b (IsUnnumbered p (AskInstall slot card) f a q) (IsEvent p (AskInstall slot card) f a q) → f ≡ false
 install_whole true p slot card f a q s = s.unfailed
 install_whole false p slot card f a q s = install_done p slot card f a s.done s.acts
 
-install_unfailed : (p : Panel) (slot : ℕ) (card : Account) (f : Bool) (a : AnswerView) (q : Panel) → Step p (AskInstall slot card) f a q → f ≡ false
+install_unfailed : (p : Panel) (slot : ℕ) (card : Account) (f : Bool) (a : AnswerSeen) (q : Panel) → Step p (AskInstall slot card) f a q → f ≡ false
 install_unfailed p slot card f a q s = install_whole ((p.events == last_number) && not (acts_unnumbered (AskInstall slot card))) p slot card f a q s
 
 -- nor in a join
@@ -75,8 +75,8 @@ install_once law p q q' slot card s t =
     (install_plain p slot card t.failed t.answer q' t.step) tt tt).1
 
 offers_once : StepIsDetermined → (cards : Fitted) (p p' q q' : Panel) → p ≡ p'
-    → AsksInTurn p (AskInstall 1 cards.first ∷ AskInstall 2 cards.second ∷ AskInstall 3 cards.third ∷ AskInstall 4 cards.fourth ∷ []) q
-    → AsksInTurn p' (AskInstall 1 cards.first ∷ AskInstall 2 cards.second ∷ AskInstall 3 cards.third ∷ AskInstall 4 cards.fourth ∷ []) q' → q ≡ q'
+    → AsksEach p (AskInstall 1 cards.first ∷ AskInstall 2 cards.second ∷ AskInstall 3 cards.third ∷ AskInstall 4 cards.fourth ∷ []) q
+    → AsksEach p' (AskInstall 1 cards.first ∷ AskInstall 2 cards.second ∷ AskInstall 3 cards.third ∷ AskInstall 4 cards.fourth ∷ []) q' → q ≡ q'
 offers_once law cards p p' q q' e (a, s, (b, t, (c, u, (d, v, is)))) (a', s', (b', t', (c', u', (d', v', is')))) =
     let one : a ≡ a' = install_once law p' a a' 1 cards.first (subst (λ (x : Panel). Stepped x (AskInstall 1 cards.first) a) e s) s' in
     let two : b ≡ b' = install_once law a' b b' 2 cards.second (subst (λ (x : Panel). Stepped x (AskInstall 2 cards.second) b) one t) t' in
@@ -99,13 +99,13 @@ set_up_once law cards sid sid' p p' s t =
     (j.0, offers_once law cards s.begun t.begun p p' j.1 s.fitted t.fitted)
 
 -- two runs stand alike, whatever the room of their desks
-record AreAlike (s s' : State) : Type 0 where
+record AreAlike (s s' : RunState) : Type 0 where
   desks : IsSameDesk s.desk s'.desk
   macros : s.macros ≡ s'.macros
 
 -- one line
 line_same : CoreTalkIsDetermined → CoreRestIsDetermined
-    → (sid : Sid) (s s' e e' : State) (line told told' : List ℕ) (l : Line sid s line told e) (l' : Line sid s' line told' e') → AreAlike s s'
+    → (sid : Sid) (s s' e e' : RunState) (line told told' : List ℕ) (l : Line sid s line told e) (l' : Line sid s' line told' e') → AreAlike s s'
     → IsPlainLine l → IsPlainLine l'
     → outcomes_in_talk l.talked ≡ outcomes_in_talk l'.talked → outcomes_at_rest l.rests ≡ outcomes_at_rest l'.rests
     → (told ≡ told') × AreAlike e e'
@@ -126,7 +126,7 @@ others_of : {T : Type 0} (a b a' b' : T) (c c' : List T) → a ∷ b ∷ c ≡ a
 others_of a b a' b' c c' same = cc (same)
 
 run_same : CoreTalkIsDetermined → CoreRestIsDetermined
-    → (sid : Sid) (d d' : State) (lines : List (List ℕ)) (bytes bytes' : List ℕ) (e e' : State) (r : Run sid d lines bytes e)
+    → (sid : Sid) (d d' : RunState) (lines : List (List ℕ)) (bytes bytes' : List ℕ) (e e' : RunState) (r : Run sid d lines bytes e)
     (r' : Run sid d' lines bytes' e') → AreAlike d d'
     → IsPlainRun sid d lines bytes e r → IsPlainRun sid d' lines bytes' e' r'
     → outcomes_in_run sid d lines bytes e r ≡ outcomes_in_run sid d' lines bytes' e' r' → bytes ≡ bytes'

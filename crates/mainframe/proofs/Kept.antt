@@ -13,14 +13,14 @@ use Rattle.std.proofs.KnownBytes.{Consumes-nil, Consumes-kept, Consumes-trans}
 use Rattle.std.proofs.BufReadLemmas.{Consumes_through, take_through-nil, take_through_nonempty}
 use Rattle.std.proofs.Transfers.{StopsAt-of_All, StopsAt-append}
 use Rattle.sw_core.specs.declared.ask.Sid.{Sid}
-use Rattle.sw_base.specs.Limits.{most_bytes}
+use Rattle.sw_base.specs.Limits.{most_bytes, most_kept}
 use Rattle.sw_macro.specs.Table.{Table}
 use Rattle.sw_session.specs.CoreDesk.{CorePasses}
 use Rattle.sw_session.specs.Trace.{Entry}
 use Rattle.sw_session.specs.Talk.{state, Talked, TalksMessage, TalksUnits, Overruns}
 use Rattle.mainframe.specs.declared.fault.RunFault.{RunFault}
-use Rattle.mainframe.specs.Kept.{most_kept, CutsLine, TakesPart, KeepsFront, IsFirstLine, ShowsLine, LosesFront}
-use Rattle.mainframe.specs.Run.{Line, State}
+use Rattle.mainframe.specs.Kept.{CutsLine, TakesPart, KeepsFront, IsFirstLine, ShowsLine, LosesFront}
+use Rattle.mainframe.specs.Run.{Line, RunState}
 
 take-both : (k end n : ℕ) (xs : List ℕ) → n ≡ min end k → take n xs ≡ take k (take end xs)
 take-both zero end n xs is = let none : n ≡ 0 = omega arith in ap (λ m. take m xs) none
@@ -131,7 +131,7 @@ talks-whole sid macros macros' trace bytes line t = at (leb_tells (length line) 
     at (inr (e, long)) = long-alike sid macros macros' trace bytes (strip_last 10 (take most_kept line)) (strip_last 10 line)
         (strip-long (take most_kept line) (omega (arith, length-take most_kept line))) (strip-long line (omega arith)) t
 
-pub talked-whole : (p q : State) (sid : Sid) (line bytes : List ℕ) → Talked CorePasses sid p (take most_kept line) bytes q
+pub talked-whole : (p q : RunState) (sid : Sid) (line bytes : List ℕ) → Talked CorePasses sid p (take most_kept line) bytes q
     → Talked CorePasses sid p line bytes q
 talked-whole p q sid line bytes t = record {
   trace = t.trace;
@@ -144,7 +144,7 @@ pub kept-none : (old : Option (List ℕ)) (kept : List ℕ) → IfSome old (λ x
 kept-none None kept is none = tt
 kept-none (Some xs) kept is none = take_through-nil 10 xs (omega (arith, ap length is, length-take most_kept (take_through 10 xs)))
 
-pub line_whole : (p q : State) (sid : Sid) (line bytes : List ℕ) → Line sid p (take most_kept line) bytes q → Line sid p line bytes q
+pub line_whole : (p q : RunState) (sid : Sid) (line bytes : List ℕ) → Line sid p (take most_kept line) bytes q → Line sid p line bytes q
 line_whole p q sid line bytes t = record { spoken = t.spoken; talked = talked-whole p (state t.spoken q.macros) sid line bytes t.talked; rests = t.rests }
 
 first-part : (xs : List ℕ) (n : ℕ) → 0 < n → n ≤ length xs → StopsAt (take n xs) 10 → IsEmptyOrEndsWith (take n xs) 10 → take n xs ≡ take_through 10 xs

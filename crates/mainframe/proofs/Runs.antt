@@ -7,16 +7,17 @@ use Rattle.std.specs.Io.BufRead.{take_through, drop_through, DropsThrough}
 use Rattle.sw_core.specs.declared.ask.Sid.{Sid}
 use Rattle.sw_core.specs.Panel.{Panel}
 use Rattle.sw_macro.specs.Table.{Table, no_macros}
-use Rattle.sw_session.specs.CoreDesk.{desk_over, DeskSeen, CorePasses, Rests}
+use Rattle.sw_session.specs.CoreDesk.{desk_over, DeskSeen, CorePasses, WaitsOut}
 use Rattle.sw_session.specs.Talk.{state, Talked}
 use Rattle.mainframe.specs.Lines.{lines_of}
 use Rattle.sw_session.specs.ServeWrite.{WritesPart}
 use Rattle.sw_card.specs.Account.{Account}
 use Rattle.mainframe.specs.Cards.{Fitted, fitted}
-use Rattle.mainframe.specs.Run.{State, begins_over, IsSetUp, Line, Run, Runs, AnsweredFrom, PartFrom, CutFrom, EndsFrom}
+use Rattle.mainframe.specs.Run.{RunState, begins_over, IsSetUp, Line, Run, Runs, AnsweredFrom, PartFrom, CutFrom, EndsFrom}
 use Rattle.mainframe.specs.declared.fault.RunFault.{RunFault}
 use Rattle.mainframe.specs.declared.fault.RunFault.TheVariants.{Input, Output, Memory, Listen}
-use Rattle.mainframe.specs.Kept.{most_kept, CutsLine, ShowsLine, LosesFront}
+use Rattle.sw_base.specs.Limits.{most_kept}
+use Rattle.mainframe.specs.Kept.{CutsLine, ShowsLine, LosesFront}
 use Rattle.mainframe.specs.Turns.{Gathers, Stand, Streams, TakesTurns, IsOfReading}
 use Rattle.mainframe.proofs.TurnLemmas.{gathers-none, gathers-more, gathers-written, gathers-part, reads-gathers}
 use Rattle.mainframe.proofs.Lines.{lines_of-through}
@@ -28,14 +29,14 @@ use Rattle.std.proofs.Transfers.{StopsAt-of_All}
 
 -- a line that was talked over, and after which all that was outstanding was carried out
 pub line_rested : {sid talker : Sid} {macros macros' : Table} {q spoken mid : DeskSeen} {kept line told : List ℕ} {rested : Bool} → talker ≡ sid → line ≡ kept
-    → Talked CorePasses talker (state q macros) line told (state spoken macros') → Rests spoken rested mid → rested ≡ true
+    → Talked CorePasses talker (state q macros) line told (state spoken macros') → WaitsOut spoken rested mid → rested ≡ true
     → Line sid (state q macros) kept told (state mid macros')
 line_rested {sid = sid} {talker = talker} {macros = macros} {macros' = macros'} {q = q} {spoken = spoken} {mid = mid} {kept = kept} {told = told} sids lines
     talked rests is = record {
       spoken = spoken;
       talked = subst (λ (s : Sid). Talked CorePasses s (state q macros) kept told (state spoken macros')) sids
           (subst (λ (l : List ℕ). Talked CorePasses talker (state q macros) l told (state spoken macros')) lines talked);
-      rests = subst (λ (b : Bool). Rests spoken b mid) is rests;
+      rests = subst (λ (b : Bool). WaitsOut spoken b mid) is rests;
     }
 
 lines-next : (left : List ℕ) → take_through 10 left ≢ [] → lines_of left ≡ take_through 10 left ∷ lines_of (drop_through 10 left)
@@ -43,16 +44,16 @@ lines-next [] some = absurd (some refl)
 lines-next (x ∷ xs) some = lines_of-through x xs
 
 -- the lines that were read are answered, and the answers are written but for these
-abbrev pub Progress : Sid → State → Option (List ℕ) → Option (List ℕ) → Option (List ℕ) → List ℕ → Option (List ℕ) → List ℕ → State → Type 0
+abbrev pub Progress : Sid → RunState → Option (List ℕ) → Option (List ℕ) → Option (List ℕ) → List ℕ → Option (List ℕ) → List ℕ → RunState → Type 0
 Progress sid start r0 r c0 u0 c u p = IfSome r0 (λ input. (done : List (List ℕ)) × (bytes left : List ℕ) × (r ≡ Some left)
     × (lines_of input ≡ done ++ lines_of left) × Run sid start done bytes p × Gathers c0 (u0 ++ bytes) c u)
 
-progress-none : (sid : Sid) (start : State) (r c : Option (List ℕ)) (u : List ℕ) → Progress sid start r r c u c u start
+progress-none : (sid : Sid) (start : RunState) (r c : Option (List ℕ)) (u : List ℕ) → Progress sid start r r c u c u start
 progress-none sid start None c u = tt
 progress-none sid start (Some input) c u =
     ([], [], input, refl, refl, (refl, refl), subst (λ (l : List ℕ). Gathers c l c u) (sym (append-nil u)) (gathers-none c u))
 
-progress-line : (sid : Sid) (p q last : State) (r0 r1 r2 c0 c1 c2 : Option (List ℕ)) (line told u0 u1 u2 : List ℕ) → line ≢ []
+progress-line : (sid : Sid) (p q last : RunState) (r0 r1 r2 c0 c1 c2 : Option (List ℕ)) (line told u0 u1 u2 : List ℕ) → line ≢ []
     → IfSome r0 (λ xs. line ≡ take_through 10 xs) → DropsThrough r0 r1 10 → Line sid p line told q → Gathers c0 (u0 ++ told) c1 u1
     → Progress sid q r1 r2 c1 u1 c2 u2 last → Progress sid p r0 r2 c0 u0 c2 u2 last
 progress-line sid p q last None r1 r2 c0 c1 c2 line told u0 u1 u2 some takes drops one g h = tt
@@ -88,7 +89,8 @@ progress-turns known sid a b (line ∷ lines) (mid, t, more) =
     (known.contents mid.writer) (known.contents b.writer) line t.told a.unwritten mid.unwritten b.unwritten t.some t.takes rest t.answered gathers
     (progress-turns known sid mid b lines more)
 
-pub progress-keeps : (sid : Sid) (start : State) (r0 r r' c0 c : Option (List ℕ)) (u : List ℕ) (p : State) → Keeps r r' → Progress sid start r0 r c0 [] c u p
+pub progress-keeps : (sid : Sid) (start : RunState) (r0 r r' c0 c : Option (List ℕ)) (u : List ℕ) (p : RunState) → Keeps r r'
+    → Progress sid start r0 r c0 [] c u p
     → Progress sid start r0 r' c0 [] c u p
 progress-keeps sid start None r r' c0 c u p k h = tt
 progress-keeps sid start (Some input) None r' c0 c u p k (done, bytes, left, is, lines, run, a) = absurd (cc (is))
@@ -97,7 +99,7 @@ progress-keeps sid start (Some input) (Some xs) (Some ys) c0 c u p k (done, byte
     (done, bytes, left, ap Some k ∙ is, lines, run, a)
 
 -- all of it was read and written
-pub progress-end : (sid : Sid) (start : State) (r0 r c0 c c' : Option (List ℕ)) (u : List ℕ) (p : State) → Progress sid start r0 r c0 [] c u p
+pub progress-end : (sid : Sid) (start : RunState) (r0 r c0 c c' : Option (List ℕ)) (u : List ℕ) (p : RunState) → Progress sid start r0 r c0 [] c u p
     → Appends c c' u → IsAtEnd r → IfSome r0 (λ input. AnsweredFrom sid start input [] c0 c')
 progress-end sid start None r c0 c c' u p h w end = tt
 progress-end sid start (Some input) r c0 c c' u p (done, bytes, left, is, lines, run, a) w end =
@@ -109,7 +111,7 @@ progress-end sid start (Some input) r c0 c c' u p (done, bytes, left, is, lines,
     }
 
 -- a read failed after all was written
-pub progress-cut : (sid : Sid) (start : State) (r0 r r2 c0 c c' : Option (List ℕ)) (u : List ℕ) (p : State) → Progress sid start r0 r c0 [] c u p
+pub progress-cut : (sid : Sid) (start : RunState) (r0 r r2 c0 c c' : Option (List ℕ)) (u : List ℕ) (p : RunState) → Progress sid start r0 r c0 [] c u p
     → Appends c c' u → CutsLine r r2 → IfSome r0 (λ input. CutFrom sid start input r2 c0 c')
 progress-cut sid start None r r2 c0 c c' u p h w cuts = tt
 progress-cut sid start (Some input) None r2 c0 c c' u p (done, bytes, left, is, lines, run, a) w (cut, used, stops) = absurd (cc (is))
@@ -129,7 +131,7 @@ progress-cut sid start (Some input) (Some xs) (Some ys) c0 c c' u p (done, bytes
     }
 
 -- a write failed
-pub progress-part : (sid : Sid) (start : State) (r0 r r' c0 c c' : Option (List ℕ)) (u : List ℕ) (p : State) → Progress sid start r0 r c0 [] c u p
+pub progress-part : (sid : Sid) (start : RunState) (r0 r r' c0 c c' : Option (List ℕ)) (u : List ℕ) (p : RunState) → Progress sid start r0 r c0 [] c u p
     → Keeps r r' → WritesPart c c' u → IfSome r0 (λ input. PartFrom sid start input r' c0 c')
 progress-part sid start None r r' c0 c c' u p h k w = tt
 progress-part sid start (Some input) None r' c0 c c' u p (done, bytes, left, is, lines, run, a) k w = absurd (cc (is))
@@ -142,7 +144,7 @@ progress-part sid start (Some input) (Some xs) (Some ys) c0 c c' u p (done, byte
   writes = gathers-part c0 c c' bytes u a w;
 }
 
-pub progress-all : (sid : Sid) (start : State) (r0 r r2 c0 c : Option (List ℕ)) (u : List ℕ) (p : State) → Progress sid start r0 r c0 [] c u p
+pub progress-all : (sid : Sid) (start : RunState) (r0 r r2 c0 c : Option (List ℕ)) (u : List ℕ) (p : RunState) → Progress sid start r0 r c0 [] c u p
     → IsAtEnd r → DropsThrough r r2 10 → IfSome r0 (λ _. IsAtEnd r2)
 progress-all sid start None r r2 c0 c u p h end drops = tt
 progress-all sid start (Some input) None r2 c0 c u p (done, bytes, left, is, lines, run, a) end drops = absurd (cc (is))
@@ -154,7 +156,7 @@ pub cuts-none : (r r' : Option (List ℕ)) → Keeps r r' → CutsLine r r'
 cuts-none r r' k = ([], Consumes-kept r r r' [] (Consumes-nil r) k, StopsAt-of_All [] 10 no_feeds)
 
 -- a fault of a read
-pub ends-cut : (sid : Sid) (start : State) (fault : RunFault) (r0 r c0 c : Option (List ℕ)) → IsOfReading fault
+pub ends-cut : (sid : Sid) (start : RunState) (fault : RunFault) (r0 r c0 c : Option (List ℕ)) → IsOfReading fault
     → IfSome r0 (λ input. CutFrom sid start input r c0 c) → IfSome r0 (λ input. EndsFrom sid start fault input r c0 c)
 ends-cut sid start Input r0 r c0 c read h = h
 ends-cut sid start Memory r0 r c0 c read h = h

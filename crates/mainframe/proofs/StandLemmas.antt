@@ -7,9 +7,10 @@ use Rattle.sw_session.specs.CoreDesk.{DeskSeen}
 use Rattle.sw_session.specs.ServeWrite.{WritesPart}
 use Rattle.mainframe.specs.declared.fault.RunFault.{RunFault}
 use Rattle.mainframe.specs.declared.fault.RunFault.TheVariants.{Input, Output, Memory, Listen}
-use Rattle.mainframe.specs.Kept.{most_kept, CutsLine}
-use Rattle.mainframe.specs.Run.{State, Line, AnsweredFrom, EndsFrom}
-use Rattle.mainframe.specs.Turns.{Gathers, Spends, Stand, Streams, Reads, TakesTurns, AsksInTurn, AnswersAtHand, StopsBy, StopsAtHand, FailsAfter}
+use Rattle.sw_base.specs.Limits.{most_kept}
+use Rattle.mainframe.specs.Kept.{CutsLine}
+use Rattle.mainframe.specs.Run.{RunState, Line, AnsweredFrom, EndsFrom}
+use Rattle.mainframe.specs.Turns.{Gathers, Spends, Stand, Streams, ReadsOn, TakesTurns, AsksInTurn, AnswersAtHand, StopsWith, StopsAtHand, FailsAfter}
 use Rattle.mainframe.specs.Turns.{IsUnasked, IsInVain, IsOfReading, stand}
 use Rattle.mainframe.proofs.TurnLemmas.{unasked-none, takes-append, takes-push, turn, keeps-same, shown-kept, drops-kept}
 use Rattle.mainframe.proofs.Runs.{Progress, ProgressTo, progress-turns, progress-keeps, progress-end, progress-cut, progress-part, progress-all, ends-cut}
@@ -38,7 +39,7 @@ pub record Stopped {S W : Type 0} (known : Streams S W) (sid : Sid) (a : Stand S
 
 -- one line further
 pub further : {S W : Type 0} {known : Streams S W} {sid : Sid} {a b : Stand S W} (read c : Stand S W) {kept told : List ℕ} → ComesTo known sid a b
-    → Reads known b read → IfSome (known.remaining b.source) (λ xs. kept ≡ take most_kept (take_through 10 xs)) → kept ≢ []
+    → ReadsOn known b read → IfSome (known.remaining b.source) (λ xs. kept ≡ take most_kept (take_through 10 xs)) → kept ≢ []
     → DropsThrough (known.remaining b.source) (known.remaining read.source) 10 → Line sid b.state kept told c.state
     → Gathers (known.contents read.writer) (read.unwritten ++ told) (known.contents c.writer) c.unwritten → c.source ≡ read.source → c.turns ≡ read.turns
     → ComesTo known sid a c
@@ -144,9 +145,9 @@ asks-written {b = b} left source writer h writes asks = record {
 -- ---- faults
 
 -- a fault while the lines at hand are answered
-stops-so : (sid : Sid) (start : State) (fault : RunFault) (r0 r r' c0 : Option (List ℕ)) {W : Type 0} (contents : W → Option (List ℕ)) (old new : W)
-    (bytes : List ℕ) (desk : DeskSeen) (p : State) → Progress sid start r0 r c0 [] (contents old) bytes p → Keeps r r'
-    → StopsBy contents fault old bytes new desk → IfSome r0 (λ input. EndsFrom sid start fault input r' c0 (contents new))
+stops-so : (sid : Sid) (start : RunState) (fault : RunFault) (r0 r r' c0 : Option (List ℕ)) {W : Type 0} (contents : W → Option (List ℕ)) (old new : W)
+    (bytes : List ℕ) (desk : DeskSeen) (p : RunState) → Progress sid start r0 r c0 [] (contents old) bytes p → Keeps r r'
+    → StopsWith contents fault old bytes new desk → IfSome r0 (λ input. EndsFrom sid start fault input r' c0 (contents new))
 stops-so sid start Input r0 r r' c0 contents old new bytes desk p h k (w, vain) =
     progress-cut sid start r0 r r' c0 (contents old) (contents new) bytes p h w (cuts-none r r' k)
 stops-so sid start Output r0 r r' c0 contents old new bytes desk p h k w =
@@ -155,7 +156,7 @@ stops-so sid start Memory r0 r r' c0 contents old new bytes desk p h k w = absur
 stops-so sid start Listen r0 r r' c0 contents old new bytes desk p h k w = absurd w
 
 in-vain : {W : Type 0} (contents : W → Option (List ℕ)) (fault : RunFault) (old new : W) (bytes : List ℕ) (desk : DeskSeen)
-    → StopsBy contents fault old bytes new desk → fault ≡ Input → IsInVain desk
+    → StopsWith contents fault old bytes new desk → fault ≡ Input → IsInVain desk
 in-vain contents Input old new bytes desk (w, vain) is = vain
 in-vain contents Output old new bytes desk w is = absurd (cc (is))
 in-vain contents Memory old new bytes desk w is = absurd w
@@ -191,8 +192,8 @@ same-fault a b e = cc (e)
 
 -- the fault of a write
 pub stops-output : {W : Type 0} (contents : W → Option (List ℕ)) (fault : RunFault) (old new : W) (bytes : List ℕ) (desk : DeskSeen) → fault ≡ Output
-    → WritesPart (contents old) (contents new) bytes → StopsBy contents fault old bytes new desk
-stops-output contents fault old new bytes desk is part = subst (λ (f : RunFault). StopsBy contents f old bytes new desk) (sym is) part
+    → WritesPart (contents old) (contents new) bytes → StopsWith contents fault old bytes new desk
+stops-output contents fault old new bytes desk is part = subst (λ (f : RunFault). StopsWith contents f old bytes new desk) (sym is) part
 
 -- a write fails behind these lines
 pub fails-write : {S W : Type 0} {known : Streams S W} {sid : Sid} {a b : Stand S W} {fault : RunFault} {writer : W} {desk : DeskSeen} → a.unwritten ≡ []

@@ -6,9 +6,9 @@ use Rattle.std.specs.Io.KnownBytes.{Appends, Keeps}
 use Rattle.std.specs.Io.BufRead.{take_through, drop_through, DropsThrough}
 use Rattle.sw_core.specs.declared.ask.Sid.{Sid}
 use Rattle.sw_session.specs.ServeWrite.{WritesPart}
-use Rattle.mainframe.specs.Kept.{most_kept}
-use Rattle.mainframe.specs.Run.{State, Line}
-use Rattle.mainframe.specs.Turns.{AsksWith, Spends, Gathers, IsUnasked, Stand, Streams, Reads, TakesTurn, TakesTurns}
+use Rattle.sw_base.specs.Limits.{most_kept}
+use Rattle.mainframe.specs.Run.{RunState, Line}
+use Rattle.mainframe.specs.Turns.{AsksWith, Spends, Gathers, IsUnasked, Stand, Streams, ReadsOn, TakesTurn, TakesTurns}
 use Rattle.mainframe.proofs.Kept.{line_whole}
 use Rattle.mainframe.proofs.Known.{appends-nothing, appends-more}
 
@@ -60,7 +60,7 @@ gathers-part c0 c1 c2 bytes unwritten (front, is, a) part = record {
 }
 
 -- what is read before an answer is written or kept
-pub reads-gathers : {S W : Type 0} (known : Streams S W) (a b : Stand S W) → Reads known a b
+pub reads-gathers : {S W : Type 0} (known : Streams S W) (a b : Stand S W) → ReadsOn known a b
     → Gathers (known.contents a.writer) a.unwritten (known.contents b.writer) b.unwritten
 reads-gathers known a b (inl r) =
     subst (λ w. Gathers (known.contents a.writer) a.unwritten (known.contents w) b.unwritten) (sym r.writer)
@@ -86,7 +86,7 @@ takes-push known sid a b c lines line t one =
     takes-append known sid a b c lines (line ∷ []) t (c, one, refl)
 
 -- the line that was taken, of which this was kept
-pub line_taken : (r : Option (List ℕ)) (sid : Sid) (q mid : State) (kept told : List ℕ) → IfSome r (λ xs. kept ≡ take most_kept (take_through 10 xs))
+pub line_taken : (r : Option (List ℕ)) (sid : Sid) (q mid : RunState) (kept told : List ℕ) → IfSome r (λ xs. kept ≡ take most_kept (take_through 10 xs))
     → kept ≢ [] → Line sid q kept told mid
     → (line : List ℕ) × (line ≢ []) × IfSome r (λ xs. line ≡ take_through 10 xs) × Line sid q line told mid
 line_taken None sid q mid kept told is some t = (kept, some, tt, t)
@@ -98,7 +98,7 @@ line_taken (Some xs) sid q mid kept told is some t = (
 )
 
 -- one line further, of which so much was kept
-pub turn : {S W : Type 0} (known : Streams S W) (sid : Sid) (a read b : Stand S W) (kept told : List ℕ) → Reads known a read
+pub turn : {S W : Type 0} (known : Streams S W) (sid : Sid) (a read b : Stand S W) (kept told : List ℕ) → ReadsOn known a read
     → IfSome (known.remaining a.source) (λ xs. kept ≡ take most_kept (take_through 10 xs)) → kept ≢ []
     → DropsThrough (known.remaining a.source) (known.remaining read.source) 10 → Line sid a.state kept told b.state
     → Gathers (known.contents read.writer) (read.unwritten ++ told) (known.contents b.writer) b.unwritten → b.source ≡ read.source → b.turns ≡ read.turns

@@ -4,12 +4,8 @@ use Rattle.std.specs.Prelude.{Option, Some, IfSome, Result, Ok, OnSome}
 use Rattle.std.specs.Io.{StopsAt, IsEmptyOrEndsWith}
 use Rattle.std.specs.Io.KnownBytes.{Consumes, IsAtEnd}
 use Rattle.std.specs.Io.BufRead.{take_through}
-use Rattle.sw_base.specs.Limits.{most_bytes}
+use Rattle.sw_base.specs.Limits.{most_kept}
 use Rattle.mainframe.specs.declared.fault.RunFault.{RunFault}
-
--- how many bytes of a line are kept: the longest message, its line feed, and one byte
-abbrev pub most_kept : ℕ
-most_kept = most_bytes + 2
 
 -- bytes are gone of which no more than the last is a line feed
 abbrev pub CutsLine : Option (List ℕ) → Option (List ℕ) → Type 0

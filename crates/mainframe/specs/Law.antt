@@ -5,23 +5,23 @@ use Rattle.sw_core.specs.Panel.{Panel}
 use Rattle.sw_session.specs.Law.{AllAmple, AllSmooth, carried_in, waits_of, carried_at_rest}
 use Rattle.sw_session.specs.Law.{Outcome, outcomes_in_talk, outcomes_at_rest}
 use Rattle.mainframe.specs.Cards.{Fitted}
-use Rattle.mainframe.specs.Run.{State, begins_over, IsSetUp, Line, Run, RunsTo}
+use Rattle.mainframe.specs.Run.{RunState, begins_over, IsSetUp, Line, Run, RunsTo}
 
 -- no growth was refused in the talk about one line and in the rest after it
-pub record IsPlainLine {sid : Sid} {old new : State} {line told : List ℕ}
+pub record IsPlainLine {sid : Sid} {old new : RunState} {line told : List ℕ}
     (l : Line sid old line told new) : Type 0 where
   pub ample : AllAmple l.talked.trace
   pub talk : AllSmooth l.talked.trace (carried_in l.talked)
   pub rest : AllSmooth (waits_of l.rests) (carried_at_rest l.rests)
 
 -- nor in any of these lines
-abbrev pub IsPlainRun : (sid : Sid) (s : State) (lines : List (List ℕ)) (bytes : List ℕ) (s' : State)
+abbrev pub IsPlainRun : (sid : Sid) (s : RunState) (lines : List (List ℕ)) (bytes : List ℕ) (s' : RunState)
     → Run sid s lines bytes s' → Type 0
 IsPlainRun sid s [] bytes s' run = Unit {0}
 IsPlainRun sid s (l ∷ ls) bytes s' run = IsPlainLine run.3 × IsPlainRun sid run.1 ls run.2 s' run.4
 
 -- the outcomes of measurements and of calls of cards: for each line in the talk about it, and in the rest after it
-abbrev pub outcomes_in_run : (sid : Sid) (s : State) (lines : List (List ℕ)) (bytes : List ℕ) (s' : State)
+abbrev pub outcomes_in_run : (sid : Sid) (s : RunState) (lines : List (List ℕ)) (bytes : List ℕ) (s' : RunState)
     → Run sid s lines bytes s' → List (List Outcome)
 outcomes_in_run sid s [] bytes s' run = []
 outcomes_in_run sid s (l ∷ ls) bytes s' run =

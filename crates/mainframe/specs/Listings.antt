@@ -12,7 +12,7 @@ use Rattle.sw_code.specs.Reading.{code_in}
 use Rattle.sw_verify.specs.declared.refusal.Refusal.{Refusal}
 use Rattle.sw_verify.specs.declared.refusal.Refusal.TheVariants as refusal
 use Rattle.sw_verify.specs.Channels.{is_among}
-use Rattle.sw_verify.specs.Check.{number_of}
+use Rattle.sw_verify.specs.Check.{refusal_number}
 use Rattle.sw_verify.specs.Judged.{Judged, IsVerified}
 use Rattle.sw_verify.specs.Denied.{IsDenied}
 use Rattle.sw_cage.specs.Accounts.{layout_of}
@@ -47,7 +47,7 @@ accepted_line bound readings =
     codes "ok bound " ++ (decimal bound ++ (codes " readings " ++ (decimal readings ++ codes "\n")))
 
 abbrev pub refused_line : Refusal → List ℕ
-refused_line r = codes "refused " ++ (decimal (number_of r) ++ (codes " " ++ (refusal_name r ++ codes "\n")))
+refused_line r = codes "refused " ++ (decimal (refusal_number r) ++ (codes " " ++ (refusal_name r ++ codes "\n")))
 
 abbrev pub faulty_line : ListError → List ℕ
 faulty_line e = codes "line " ++ (decimal e.line ++ (codes ": " ++ (fault_name e.kind ++ codes "\n")))
@@ -62,7 +62,7 @@ pub record IsAccepted (text line : List ℕ) : Type 0 where
 
 -- The text lists a code, and the line tells the first cause for which it is refused here. Want of memory is none: it
 -- says nothing of a listing.
-pub record IsRefused (text line : List ℕ) : Type 0 where
+pub record IsRefusedListing (text line : List ℕ) : Type 0 where
   pub code : Program
   pub listed : code_in text ≡ Ok code
   pub cause : Refusal
@@ -79,7 +79,7 @@ pub record IsFaulty (text line : List ℕ) : Type 0 where
 -- what is said of a text
 abbrev pub Says : Bool → List ℕ → List ℕ → Type 0
 Says true text line = IsAccepted text line
-Says false text line = IsRefused text line ⊎ IsFaulty text line
+Says false text line = IsRefusedListing text line ⊎ IsFaulty text line
 
 -- it is said and written
 pub record IsChecked (accepted : Bool) (text : List ℕ) (old new : Option (List ℕ)) : Type 0 where

@@ -6,12 +6,12 @@ use Rattle.sw_core.specs.declared.ask.Sid.{Sid}
 use Rattle.sw_core.specs.declared.ask.SessionAsk.TheVariants as Ask
 use Rattle.sw_core.specs.declared.ask.SessionAnswer.TheVariants.{Joined}
 use Rattle.sw_core.specs.Panel.{Panel, opening}
-use Rattle.sw_core.specs.View.{AskView, AskSession, AskInstall, AnswerView, SaysSession}
+use Rattle.sw_core.specs.Seen.{AskSeen, AskSession, AskInstall, AnswerSeen, SaysSession}
 use Rattle.sw_core.specs.Step.{Step}
 use Rattle.sw_macro.specs.Table.{no_macros}
-use Rattle.sw_session.specs.CoreDesk.{DeskSeen, CorePasses, Rests, desk_over}
+use Rattle.sw_session.specs.CoreDesk.{DeskSeen, CorePasses, WaitsOut, desk_over}
 use Rattle.sw_session.specs.Talk.{state, Talked}
-use Rattle.sw_session.specs.Talk.{State as StateOver}
+use Rattle.sw_session.specs.Talk.{TalkState as StateOver}
 use Rattle.mainframe.specs.declared.fault.RunFault.{RunFault}
 use Rattle.mainframe.specs.declared.fault.RunFault.TheVariants.{Input, Output, Memory, Listen}
 use Rattle.mainframe.specs.Cards.{Fitted}
@@ -19,17 +19,17 @@ use Rattle.mainframe.specs.Lines.{lines_of}
 use Rattle.sw_session.specs.ServeWrite.{WritesPart}
 
 -- where a run stands
-abbrev pub State : Type 0
-State = StateOver DeskSeen
+abbrev pub RunState : Type 0
+RunState = StateOver DeskSeen
 
 -- a run begins over this mainframe with nothing outstanding, no macro, and macros off
-abbrev pub begins_over : Panel → State
+abbrev pub begins_over : Panel → RunState
 begins_over p = state (desk_over p) no_macros
 
 -- one step of the mainframe, whatever it answers
-pub record Stepped (p : Panel) (ask : AskView) (q : Panel) : Type 0 where
+pub record Stepped (p : Panel) (ask : AskSeen) (q : Panel) : Type 0 where
   pub failed : Bool
-  pub answer : AnswerView
+  pub answer : AnswerSeen
   pub step : Step p ask failed answer q
 
 -- a session joins the opening mainframe
@@ -38,46 +38,46 @@ pub record Joins (sid : Sid) (q : Panel) : Type 0 where
   pub step : Step opening (AskSession Ask.Join) failed (SaysSession (Joined sid) None) q
 
 -- these asks one after another, whatever is answered
-abbrev pub AsksInTurn : Panel → List AskView → Panel → Type 0
-AsksInTurn p [] q = q ≡ p
-AsksInTurn p (a ∷ more) q = (mid : Panel) × Stepped p a mid × AsksInTurn mid more q
+abbrev pub AsksEach : Panel → List AskSeen → Panel → Type 0
+AsksEach p [] q = q ≡ p
+AsksEach p (a ∷ more) q = (mid : Panel) × Stepped p a mid × AsksEach mid more q
 
 -- the mainframe once a session joined and these cards were offered to the empty cage
 pub record IsSetUp (cards : Fitted) (sid : Sid) (panel : Panel) : Type 0 where
   pub begun : Panel
   pub joined : Joins sid begun
-  pub fitted : AsksInTurn begun
+  pub fitted : AsksEach begun
       (AskInstall 1 cards.first ∷ AskInstall 2 cards.second
       ∷ AskInstall 3 cards.third ∷ AskInstall 4 cards.fourth ∷ []) panel
 
 -- one line is talked over and answered by these bytes, and then all that is outstanding is carried out
-pub record Line (sid : Sid) (old : State) (line told : List ℕ) (new : State) : Type 0 where
+pub record Line (sid : Sid) (old : RunState) (line told : List ℕ) (new : RunState) : Type 0 where
   pub spoken : DeskSeen
   pub talked : Talked CorePasses sid old line told (state spoken new.macros)
-  pub rests : Rests spoken true new.desk
+  pub rests : WaitsOut spoken true new.desk
 
 -- these lines, one after another, are answered by these bytes; the macros of one are those of the next
-abbrev pub Run : Sid → State → List (List ℕ) → List ℕ → State → Type 0
+abbrev pub Run : Sid → RunState → List (List ℕ) → List ℕ → RunState → Type 0
 Run sid s [] bytes s' = (bytes ≡ []) × (s' ≡ s)
 Run sid s (l ∷ ls) bytes s' =
-    (told : List ℕ) × (mid : State) × (more : List ℕ) × Line sid s l told mid × Run sid mid ls more s'
+    (told : List ℕ) × (mid : RunState) × (more : List ℕ) × Line sid s l told mid × Run sid mid ls more s'
     × (bytes ≡ told ++ more)
 
 -- of the lines of the input those before the rest are answered by these bytes
-pub record RunsTo (sid : Sid) (start : State) (input rest bytes : List ℕ) : Type 0 where
+pub record RunsTo (sid : Sid) (start : RunState) (input rest bytes : List ℕ) : Type 0 where
   pub done : List (List ℕ)
   pub lines : lines_of input ≡ done ++ lines_of rest
-  pub after : State
+  pub after : RunState
   pub run : Run sid start done bytes after
 
 -- and all of these bytes are written
-pub record AnsweredFrom (sid : Sid) (start : State) (input rest : List ℕ) (old new : Option (List ℕ)) : Type 0 where
+pub record AnsweredFrom (sid : Sid) (start : RunState) (input rest : List ℕ) (old new : Option (List ℕ)) : Type 0 where
   pub bytes : List ℕ
   pub runs : RunsTo sid start input rest bytes
   pub writes : Appends old new bytes
 
 -- or a front part of them is, and all behind these lines is still unread
-pub record PartFrom (sid : Sid) (start : State) (input : List ℕ) (left old new : Option (List ℕ)) : Type 0 where
+pub record PartFrom (sid : Sid) (start : RunState) (input : List ℕ) (left old new : Option (List ℕ)) : Type 0 where
   pub rest : List ℕ
   pub is_left : left ≡ Some rest
   pub bytes : List ℕ
@@ -85,7 +85,7 @@ pub record PartFrom (sid : Sid) (start : State) (input : List ℕ) (left old new
   pub writes : WritesPart old new bytes
 
 -- A read failed, with what it cut off of a line and what was left unread: all lines before that are answered.
-pub record CutFrom (sid : Sid) (start : State) (input : List ℕ) (left old new : Option (List ℕ)) : Type 0 where
+pub record CutFrom (sid : Sid) (start : RunState) (input : List ℕ) (left old new : Option (List ℕ)) : Type 0 where
   pub cut : List ℕ
   pub unread : List ℕ
   pub is_left : left ≡ Some unread
@@ -93,7 +93,7 @@ pub record CutFrom (sid : Sid) (start : State) (input : List ℕ) (left old new 
   pub answered : AnsweredFrom sid start input (cut ++ unread) old new
 
 -- what is written at a fault
-abbrev pub EndsFrom : Sid → State → RunFault → List ℕ → Option (List ℕ) → Option (List ℕ) → Option (List ℕ) → Type 0
+abbrev pub EndsFrom : Sid → RunState → RunFault → List ℕ → Option (List ℕ) → Option (List ℕ) → Option (List ℕ) → Type 0
 EndsFrom sid start Input input left old new = CutFrom sid start input left old new
 EndsFrom sid start Memory input left old new = CutFrom sid start input left old new
 EndsFrom sid start Output input left old new = PartFrom sid start input left old new

@@ -3,11 +3,11 @@ use Rattle.std.specs.Prelude.{◌≡◌, ◌≢◌, ℕ, zero, suc, ◌+◌, fal
 use Rattle.std.specs.Io.KnownBytes.{Appends, Keeps}
 use Rattle.std.specs.Io.BufRead.{take_through, DropsThrough}
 use Rattle.sw_core.specs.declared.ask.Sid.{Sid}
-use Rattle.sw_session.specs.CoreDesk.{DeskSeen, Rests}
+use Rattle.sw_session.specs.CoreDesk.{DeskSeen, WaitsOut}
 use Rattle.sw_session.specs.ServeWrite.{WritesPart}
 use Rattle.mainframe.specs.declared.fault.RunFault.{RunFault}
 use Rattle.mainframe.specs.declared.fault.RunFault.TheVariants.{Input, Output, Memory, Listen}
-use Rattle.mainframe.specs.Run.{State, Line}
+use Rattle.mainframe.specs.Run.{RunState, Line}
 
 -- a read failed, or there was no memory for what was read
 abbrev pub IsOfReading : RunFault → Type 0
@@ -45,8 +45,8 @@ IsUnasked unasked old new = (n : ℕ) × MovesUnasked unasked old n new
 abbrev pub FailsAfter : {S : Type 0} → (S → S → Type 0) → ℕ → S → Type 0
 FailsAfter failed left new = (left ≡ 0) ⊎ ((old : _) × failed old new)
 
--- what is known of what a run reads from and writes to: which bytes are left to be read; how the source moves where it is
--- asked for bytes, while the writer is so, and where it is not; and what the writer has
+-- what is known of what a run reads from and writes to: which bytes are left to be read; how the source moves where it
+-- is asked for bytes, while the writer is so, and where it is not; and what the writer has
 pub record Streams (S W : Type 0) : Type 1 where
   pub remaining : S → Option (List ℕ)
   pub asked : S → W → S → Type 0
@@ -61,13 +61,13 @@ streams remaining asked unasked contents =
 -- where a run stands: its desk and macros, its source and its writer, what was answered and not written yet, and how
 -- often the source may still be asked
 pub record Stand (S W : Type 0) : Type 0 where
-  pub state : State
+  pub state : RunState
   pub source : S
   pub writer : W
   pub unwritten : List ℕ
   pub turns : ℕ
 
-abbrev pub stand : {S W : Type 0} → State → S → W → List ℕ → ℕ → Stand S W
+abbrev pub stand : {S W : Type 0} → RunState → S → W → List ℕ → ℕ → Stand S W
 stand state source writer unwritten turns =
     record { state = state; source = source; writer = writer; unwritten = unwritten; turns = turns }
 
@@ -86,15 +86,15 @@ pub record AsksWritten {S W : Type 0} (known : Streams S W) (a b : Stand S W) : 
   pub unwritten : b.unwritten ≡ []
   pub asks : Spends known.asked before b.writer a.turns b.turns b.source
 
-abbrev pub Reads : {S W : Type 0} → Streams S W → Stand S W → Stand S W → Type 0
-Reads known a b = AsksNothing known a b ⊎ AsksWritten known a b
+abbrev pub ReadsOn : {S W : Type 0} → Streams S W → Stand S W → Stand S W → Type 0
+ReadsOn known a b = AsksNothing known a b ⊎ AsksWritten known a b
 
 -- One line is read, then it is talked over, and then its answer is written or kept behind those that are not written.
 pub record TakesTurn {S W : Type 0} (known : Streams S W) (sid : Sid)
     (a : Stand S W) (line : List ℕ) (b : Stand S W) : Type 0 where
   pub read : Stand S W
   pub told : List ℕ
-  pub reads : Reads known a read
+  pub reads : ReadsOn known a read
   pub some : line ≢ []
   pub takes : IfSome (known.remaining a.source) (λ xs. line ≡ take_through 10 xs)
   pub rest : DropsThrough (known.remaining a.source) (known.remaining read.source) 10
@@ -117,13 +117,13 @@ pub record AsksInTurn {S W : Type 0} (known : Streams S W) (sid : Sid)
   pub last : Stand S W
   pub turns : TakesTurns known sid a lines last
   pub read : Stand S W
-  pub reads : Reads known last read
+  pub reads : ReadsOn known last read
   pub comes : source ≡ read.source
   pub spent : left ≡ read.turns
 
 -- what was outstanding after a line was waited for in vain, as often as a desk waits at most
 abbrev pub IsInVain : DeskSeen → Type 0
-IsInVain desk = (spoken : DeskSeen) × Rests spoken false desk
+IsInVain desk = (spoken : DeskSeen) × WaitsOut spoken false desk
 
 -- The lines at hand are answered.
 pub record AnswersAtHand {S W : Type 0} (known : Streams S W) (sid : Sid) (a b : Stand S W) : Type 0 where
@@ -136,11 +136,11 @@ pub record AnswersAtHand {S W : Type 0} (known : Streams S W) (sid : Sid) (a b :
 
 -- The same up to a fault: all answers are written but for the fault of a write, and nothing behind these lines is
 -- taken.
-abbrev pub StopsBy : {W : Type 0} → (W → Option (List ℕ)) → RunFault → W → List ℕ → W → DeskSeen → Type 0
-StopsBy contents Input old bytes new desk = Appends (contents old) (contents new) bytes × IsInVain desk
-StopsBy contents Output old bytes new desk = WritesPart (contents old) (contents new) bytes
-StopsBy contents Memory old bytes new desk = ⊥
-StopsBy contents Listen old bytes new desk = ⊥
+abbrev pub StopsWith : {W : Type 0} → (W → Option (List ℕ)) → RunFault → W → List ℕ → W → DeskSeen → Type 0
+StopsWith contents Input old bytes new desk = Appends (contents old) (contents new) bytes × IsInVain desk
+StopsWith contents Output old bytes new desk = WritesPart (contents old) (contents new) bytes
+StopsWith contents Memory old bytes new desk = ⊥
+StopsWith contents Listen old bytes new desk = ⊥
 
 pub record StopsAtHand {S W : Type 0} (known : Streams S W) (sid : Sid)
     (a : Stand S W) (fault : RunFault) (source : S) (writer : W) (desk : DeskSeen) : Type 0 where
@@ -150,4 +150,4 @@ pub record StopsAtHand {S W : Type 0} (known : Streams S W) (sid : Sid)
   pub same : last.turns ≡ a.turns
   pub moves : IsUnasked known.unasked last.source source
   pub keeps : Keeps (known.remaining last.source) (known.remaining source)
-  pub stops : StopsBy known.contents fault last.writer last.unwritten writer desk
+  pub stops : StopsWith known.contents fault last.writer last.unwritten writer desk

@@ -1,6 +1,6 @@
 //! Offering cards to a mainframe.
 
-ghost use Rattle.sw_core.specs.View.{ask_view};
+ghost use Rattle.sw_core.specs.Seen.{ask_seen};
 ghost use Rattle.mainframe.specs.Run.{Stepped};
 
 use std::alloc::Global;
@@ -9,7 +9,7 @@ use sw_core::{Ask, Core};
 
 /// Asks, whatever is answered.
 pub fn offer<R: Relay, M: Meter>(alloc: Global, core: &mut Core<R, M>, ask: Ask<R, M>)
-    ensures { Stepped core.old (ask_view ask) core.new }
+    ensures { Stepped core.old (ask_seen ask) core.new }
 {
     drop(core.apply(alloc, ask));
 }

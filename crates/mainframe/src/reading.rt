@@ -2,21 +2,21 @@
 
 ghost use Rattle.std.specs.Prelude.{◌≡◌, ◌≢◌, ◌<◌, ◌≤◌, ◌-◌, All, length, take, OnOk, OnErr, IfErr, IfSome};
 ghost use Rattle.std.specs.Io.BufRead.{take_through, DropsThrough};
-ghost use Rattle.mainframe.specs.Kept.{most_kept, CutsLine, KeepsFront};
+ghost use Rattle.sw_base.specs.Limits.{most_kept};
+ghost use Rattle.mainframe.specs.Kept.{CutsLine, KeepsFront};
 ghost use Rattle.mainframe.specs.Turns.{Spends, FailsAfter, IsOfReading};
 
 use crate::fault::RunFault;
+use memchr::memchr;
 use std::io::{BufRead, ErrorKind};
-use sw_base::MESSAGE_BYTES;
-
-/// How many bytes of a line are kept at most: the longest message, its line feed, and one byte.
-const MOST_KEPT: usize = MESSAGE_BYTES + 2;
+use sw_base::KEPT_BYTES;
 
 /// What lines are read from, in sight of what was written by then.
 pub trait Source<W> {
     ghost use Rattle.std.specs.Prelude.{◌≡◌, ◌≤◌, ◌<◌, ℕ, List, Option, length, IfErr, IfSome, Err};
     ghost use Rattle.std.specs.Io.KnownBytes.{Keeps};
-    ghost use Rattle.mainframe.specs.Kept.{most_kept, TakesPart, ShowsLine, LosesFront};
+    ghost use Rattle.sw_base.specs.Limits.{most_kept};
+    ghost use Rattle.mainframe.specs.Kept.{TakesPart, ShowsLine, LosesFront};
     ghost use Rattle.mainframe.specs.Turns.{IsOfReading};
 
     /// The bytes that are left to be read, where they are known.
@@ -49,7 +49,7 @@ pub trait Source<W> {
         ensures failed { result ≡ Err RunFault.Input → failed self.old self.new };
 
     /// Looks at no more than so many bytes that are at hand, and keeps the first line of them, or its first
-    /// `MOST_KEPT` bytes. Returns the line's length, or 0 where no whole line is there, or no memory for it.
+    /// `KEPT_BYTES` bytes. Returns the line's length, or 0 where no whole line is there, or no memory for it.
     fn look(&mut self, at_hand: usize, line: &mut Vec<u8>) -> usize
         ensures unasked { unasked self.old self.new }
         ensures keeps { Keeps (remaining self.old) (remaining self.new) }
@@ -92,7 +92,7 @@ impl<Rd: BufRead, W> Source<W> for Rd {
             }
         };
         let end = line_end(available);
-        let room = MOST_KEPT - line.len();
+        let room = KEPT_BYTES - line.len();
         let Ok(()) = line.extend_from_slice(&available[..end.min(room)]) else {
             return Err(RunFault::Memory);
         };
@@ -117,7 +117,7 @@ impl<Rd: BufRead, W> Source<W> for Rd {
     }
 }
 
-/// Takes the first line with its line feed from the source, and keeps it, or its first `MOST_KEPT` bytes where it is
+/// Takes the first line with its line feed from the source, and keeps it, or its first `KEPT_BYTES` bytes where it is
 /// longer. Nothing is kept where the input is at its end. Each time that the source is asked for bytes spends a turn.
 pub fn read_line<S: Source<W>, W>(
     source: &mut S,
@@ -145,7 +145,7 @@ pub fn read_line<S: Source<W>, W>(
     Err(RunFault::Input)
 }
 
-/// Keeps the first line of the bytes, or its first `MOST_KEPT` bytes. Returns the line's length, or 0 where they have
+/// Keeps the first line of the bytes, or its first `KEPT_BYTES` bytes. Returns the line's length, or 0 where they have
 /// no whole line, or there is no memory for it.
 fn keep_line(bytes: &[u8], line: &mut Vec<u8>) -> usize
     ensures bound { result ≤ length bytes.now }
@@ -156,7 +156,7 @@ fn keep_line(bytes: &[u8], line: &mut Vec<u8>) -> usize
         return 0;
     }
     line.clear();
-    match line.extend_from_slice(&bytes[..end.min(MOST_KEPT)]) {
+    match line.extend_from_slice(&bytes[..end.min(KEPT_BYTES)]) {
         Ok(()) => end,
         Err(_) => 0,
     }
@@ -168,12 +168,8 @@ fn line_end(bytes: &[u8]) -> usize
     ensures some { 0 < length bytes.now → 0 < result }
     ensures before { All (λ x. x ≢ 10) (take (result - 1) bytes.now) }
 {
-    let mut i = 0;
-    while i < bytes.len() {
-        if bytes[i] == b'\n' {
-            return i + 1;
-        }
-        i += 1;
+    match memchr(b'\n', bytes) {
+        Some(at) => at + 1,
+        None => bytes.len(),
     }
-    i
 }

@@ -7,7 +7,7 @@ ghost use Rattle.mainframe.specs.Serving.{IsFitted};
 ghost use Rattle.sw_session.specs.Talk.{turns};
 ghost use Rattle.sw_workers.specs.Ahead.{left_ahead};
 ghost use Rattle.sw_workers.specs.Closing.{IsOpen};
-ghost use Rattle.sw_workers.specs.Connected.{mishaps, attended, RunsSession};
+ghost use Rattle.sw_workers.specs.Connected.{mishaps, connection_seen, RunsSession};
 ghost use Rattle.sw_workers.specs.Work.{DeskPasses};
 
 use crate::cards::{first_card, meter_card, second_card, third_card};
@@ -274,8 +274,9 @@ fn attend<
     ensures { IfSome result (λ ended. (desk : _)
         × RunsSession (λ before entry after. DeskPasses H.first before.part entry after.part)
         (mishaps C.In.Source C.Out.Sink C.Aside.Sink) turns
-        (attended desk (C.input connection) (C.output connection))
-        (attended ended.desk (left_ahead C.In.remaining ended.reader) (C.Out.contents ended.writer)) ended.result) }
+        (connection_seen desk (C.input connection) (C.output connection))
+        (connection_seen ended.desk (left_ahead C.In.remaining ended.reader)
+        (C.Out.contents ended.writer)) ended.result) }
 {
     let desk = lobby.desk()?;
     Some(run_session(connection, desk, alloc))

@@ -6,8 +6,9 @@ use mir.Syntax.{w32, w128}
 use mir.Val.{to_z, of_z}
 use Rattle.std.specs.Prelude.{◌==◌, unsigned_abs, FitsSigned}
 use Rattle.std.proofs.lemmas.Int.{to_z-of_z, fits_signed_from_abs}
-use Rattle.sw_base.specs.Number.{Written, value_of, with_sign, is_negative, unsigned, IsFraction, IsMantissa, IsExponent, IsTail, is_end, IsEnded, IsNumber}
-use Rattle.sw_base.specs.Number.{from_first, significant, IsInLimits, IsRefused}
+use Rattle.sw_base.specs.Number.{Written, value_of, with_sign, is_negative, unsigned, IsFraction, IsMantissa, IsExponent, IsExponentTail, is_end, IsEnded}
+use Rattle.sw_base.specs.Number.{IsNumber}
+use Rattle.sw_base.specs.Number.{from_first, significant, IsInLimits, IsRefusedNumber}
 use Rattle.sw_base.specs.declared.error.ScpiError.{ScpiError}
 use Rattle.sw_base.specs.declared.error.ScpiError.TheVariants.{InvalidCharacterInNumber, ExponentTooLarge, TooManyDigits}
 use Rattle.std.proofs.lemmas.Bool.{cases_Bool}
@@ -52,7 +53,8 @@ one_exponent text n d r n' d' r' h g =
     let all = one_span is_digit (unsigned g.signed) d r d' r' (subst (λ (x : List ℕ). Spans is_digit (unsigned x) d r) place h.all) g.all in
     (h.sign ∙ ap is_negative place ∙ sym g.sign, all.0, all.1)
 
-pub one_tail : (text : List ℕ) (e : ℤ) (rest : List ℕ) (f : ℤ) (other : List ℕ) → IsTail text e rest → IsTail text f other → (e ≡ f) × (rest ≡ other)
+pub one_tail : (text : List ℕ) (e : ℤ) (rest : List ℕ) (f : ℤ) (other : List ℕ) → IsExponentTail text e rest → IsExponentTail text f other
+    → (e ≡ f) × (rest ≡ other)
 one_tail text e rest f other (inl (n, d, h, v)) (inl (n', d', g, w)) =
     let same = one_exponent text n d rest n' d' other h g in
     let value : with_sign n (value_of d) ≡ with_sign n' (value_of d') = rw (same.0, same.1) refl in
@@ -65,7 +67,7 @@ pub one_number : (text : List ℕ) (n : Written) (rest : List ℕ) (m : Written)
     × (rest ≡ other)
 one_number text n rest m other h g =
     let front = one_mantissa text n h.after m g.after h.mantissa g.mantissa in
-    let back = one_tail g.after n.exponent rest m.exponent other (subst (λ (x : List ℕ). IsTail x n.exponent rest) front.3 h.tail) g.tail in
+    let back = one_tail g.after n.exponent rest m.exponent other (subst (λ (x : List ℕ). IsExponentTail x n.exponent rest) front.3 h.tail) g.tail in
     (same_written n m front.0 front.1 front.2 back.0, back.1)
   where
     same_written : (n m : Written) → n.negative ≡ m.negative → n.whole ≡ m.whole → n.fraction ≡ m.fraction → n.exponent ≡ m.exponent → n ≡ m
@@ -118,7 +120,7 @@ from_first-some (b ∷ whole) fraction h =
     ]
 
 -- a mantissa, an exponent or none, and an end make a number
-pub number_is : (text : List ℕ) (m : Written) (after rest : List ℕ) (e : ℤ) → IsMantissa text m after → IsTail after e rest → IsEnded rest
+pub number_is : (text : List ℕ) (m : Written) (after rest : List ℕ) (e : ℤ) → IsMantissa text m after → IsExponentTail after e rest → IsEnded rest
     → IsNumber text (record m { exponent = e }) rest
 number_is text m after rest e h t s = record {
   after = after;
@@ -127,11 +129,11 @@ number_is text m after rest e h t s = record {
   ended = s;
 }
 
-pub not_ended : (text : List ℕ) (m : Written) (after other : List ℕ) (e : ℤ) → IsMantissa text m after → IsTail after e other → (IsEnded other → ⊥)
+pub not_ended : (text : List ℕ) (m : Written) (after other : List ℕ) (e : ℤ) → IsMantissa text m after → IsExponentTail after e other → (IsEnded other → ⊥)
     → (n : Written) (rest : List ℕ) → IsNumber text n rest → ⊥
 not_ended text m after other e h t none n rest g =
     let front = one_mantissa text n g.after m after g.mantissa h in
-    let back = one_tail after n.exponent rest e other (subst (λ (x : List ℕ). IsTail x n.exponent rest) front.3 g.tail) t in
+    let back = one_tail after n.exponent rest e other (subst (λ (x : List ℕ). IsExponentTail x n.exponent rest) front.3 g.tail) t in
     none (subst IsEnded back.1 g.ended)
 
 pub size-with_sign : (negative : Bool) (n : ℕ) → unsigned_abs (with_sign negative n) ≡ n
@@ -166,7 +168,7 @@ data Cause (text : List ℕ) : ScpiError → Type 0 where
   long : IsLong text → Cause text TooManyDigits
   steep : IsSteep text → Cause text ExponentTooLarge
 
-cause : (text : List ℕ) (e : ScpiError) → IsRefused text e → Cause text e
+cause : (text : List ℕ) (e : ScpiError) → IsRefusedNumber text e → Cause text e
 cause text InvalidCharacterInNumber h = malformed h
 cause text TooManyDigits (n, rest, h, many) = long (record { n = n; rest = rest; number = h; many = many })
 cause text ExponentTooLarge (n, rest, h, few, large) = steep (record { n = n; rest = rest; number = h; few = few; large = large })
@@ -192,8 +194,8 @@ one_cause text _ _ (steep h) (malformed none) = absurd (none h.n h.rest h.number
 one_cause text _ _ (steep h) (long g) = absurd (apart text g h)
 one_cause text _ _ (steep h) (steep g) = refl
 
-pub not_both : (text : List ℕ) (n : Written) (rest : List ℕ) (e : ScpiError) → IsNumber text n rest → IsInLimits n → IsRefused text e → ⊥
+pub not_both : (text : List ℕ) (n : Written) (rest : List ℕ) (e : ScpiError) → IsNumber text n rest → IsInLimits n → IsRefusedNumber text e → ⊥
 not_both text n rest e h l r = either text n rest e h l (cause text e r)
 
-pub one_refusal : (text : List ℕ) (e f : ScpiError) → IsRefused text e → IsRefused text f → e ≡ f
+pub one_refusal : (text : List ℕ) (e f : ScpiError) → IsRefusedNumber text e → IsRefusedNumber text f → e ≡ f
 one_refusal text e f r s = one_cause text e f (cause text e r) (cause text f s)

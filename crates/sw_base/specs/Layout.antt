@@ -7,13 +7,13 @@ abbrev pub Channel : Type 0
 Channel = ℕ × ℕ
 
 -- what a slot holds: relays, by the group of each from channel 1 on, where 0 is no group; or a meter
-pub data Bay : Type 0 where
-  relays : (groups : List ℕ) → Bay
-  meter : Bay
+pub data SlotContents : Type 0 where
+  relays : (groups : List ℕ) → SlotContents
+  meter : SlotContents
 
 -- what the slots hold, from slot 1 on
 abbrev pub Layout : Type 0
-Layout = List (Option Bay)
+Layout = List (Option SlotContents)
 
 -- a slot of a row of slots; there is no slot 0
 abbrev pub slot_at : {A : Type 0} → List (Option A) → ℕ → Option A
@@ -27,32 +27,32 @@ has_channel groups ch = nat_lt 0 ch && nat_le ch (length groups)
 abbrev pub group_at : List ℕ → ℕ → ℕ
 group_at groups ch = if nat_lt 0 ch then slice_index_or groups (ch - 1) 0 else 0
 
-abbrev pub bay_has : Option Bay → ℕ → Bool
-bay_has None ch = false
-bay_has (Some meter) ch = false
-bay_has (Some (relays groups)) ch = has_channel groups ch
+abbrev pub contents_have : Option SlotContents → ℕ → Bool
+contents_have None ch = false
+contents_have (Some meter) ch = false
+contents_have (Some (relays groups)) ch = has_channel groups ch
 
-abbrev pub bay_group : Option Bay → ℕ → ℕ
-bay_group None ch = 0
-bay_group (Some meter) ch = 0
-bay_group (Some (relays groups)) ch = group_at groups ch
+abbrev pub contents_group : Option SlotContents → ℕ → ℕ
+contents_group None ch = 0
+contents_group (Some meter) ch = 0
+contents_group (Some (relays groups)) ch = group_at groups ch
 
 -- the cage has the channel
 abbrev pub is_present : Layout → Channel → Bool
-is_present layout c = bay_has (slot_at layout c.0) c.1
+is_present layout c = contents_have (slot_at layout c.0) c.1
 
 -- the channel's group, over all slots
 abbrev pub group_of : Layout → Channel → ℕ
-group_of layout c = bay_group (slot_at layout c.0) c.1
+group_of layout c = contents_group (slot_at layout c.0) c.1
 
 -- the slot holds a meter
-abbrev pub bay_is_meter : Option Bay → Bool
-bay_is_meter None = false
-bay_is_meter (Some meter) = true
-bay_is_meter (Some (relays groups)) = false
+abbrev pub contents_are_meter : Option SlotContents → Bool
+contents_are_meter None = false
+contents_are_meter (Some meter) = true
+contents_are_meter (Some (relays groups)) = false
 
 abbrev pub has_meter : Layout → ℕ → Bool
-has_meter layout slot = bay_is_meter (slot_at layout slot)
+has_meter layout slot = contents_are_meter (slot_at layout slot)
 
 -- two different channels of one nonzero group, in whatever slots they are; an absent channel has group 0
 pub record IsClash (layout : Layout) (a b : Channel) : Type 0 where

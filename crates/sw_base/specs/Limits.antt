@@ -1,5 +1,5 @@
 -- The limits of the instrument: our own, but for the length of a mnemonic.
-use Rattle.std.specs.Prelude.{ℕ}
+use Rattle.std.specs.Prelude.{ℕ, ◌+◌}
 
 -- slots of a cage, numbered from 1
 abbrev pub most_slots : ℕ
@@ -16,6 +16,11 @@ most_entries = 512
 -- bytes of a program message, of its expansion and of the payload of a HiSLIP message
 abbrev pub most_bytes : ℕ
 most_bytes = 65536
+
+-- bytes that are kept of a program message that comes in parts: the longest one, its line feed, and one byte, by which
+-- a longer one is known
+abbrev pub most_kept : ℕ
+most_kept = most_bytes + 2
 
 -- sessions at a time, numbered from 1
 abbrev pub most_sessions : ℕ

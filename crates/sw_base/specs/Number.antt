@@ -66,8 +66,8 @@ pub record IsExponent (text : List ℕ) (negative : Bool) (digits rest : List �
   pub digit : 0 < length digits
 
 -- an exponent where one can be read, else none, which counts as 0; and the rest
-abbrev pub IsTail : List ℕ → ℤ → List ℕ → Type 0
-IsTail text exponent rest =
+abbrev pub IsExponentTail : List ℕ → ℤ → List ℕ → Type 0
+IsExponentTail text exponent rest =
     ((negative : Bool) × (digits : List ℕ) × IsExponent text negative digits rest
     × (exponent ≡ with_sign negative (value_of digits)))
     ⊎ (((negative : Bool) (digits other : List ℕ) → IsExponent text negative digits other → ⊥) × (exponent ≡ pos 0)
@@ -88,7 +88,7 @@ pub record IsEnded (text : List ℕ) : Type 0 where
 pub record IsNumber (text : List ℕ) (n : Written) (rest : List ℕ) : Type 0 where
   pub after : List ℕ
   pub mantissa : IsMantissa text n after
-  pub tail : IsTail after n.exponent rest
+  pub tail : IsExponentTail after n.exponent rest
   pub ended : IsEnded rest
 
 -- the digits from the first that isn't 0
@@ -107,12 +107,12 @@ pub record IsInLimits (n : Written) : Type 0 where
 
 -- what is wrong with the text: no number stands there, or it has too many digits, or else too large an exponent
 -- (SCPI-1999, 21.8.9)
-abbrev pub IsRefused : List ℕ → ScpiError → Type 0
-IsRefused text InvalidCharacterInNumber = (n : Written) (rest : List ℕ) → IsNumber text n rest → ⊥
-IsRefused text TooManyDigits = (n : Written) × (rest : List ℕ) × IsNumber text n rest × (255 < significant n)
-IsRefused text ExponentTooLarge = (n : Written) × (rest : List ℕ) × IsNumber text n rest × (significant n ≤ 255)
+abbrev pub IsRefusedNumber : List ℕ → ScpiError → Type 0
+IsRefusedNumber text InvalidCharacterInNumber = (n : Written) (rest : List ℕ) → IsNumber text n rest → ⊥
+IsRefusedNumber text TooManyDigits = (n : Written) × (rest : List ℕ) × IsNumber text n rest × (255 < significant n)
+IsRefusedNumber text ExponentTooLarge = (n : Written) × (rest : List ℕ) × IsNumber text n rest × (significant n ≤ 255)
     × (32000 < unsigned_abs n.exponent)
-IsRefused text _ = ⊥
+IsRefusedNumber text _ = ⊥
 
 -- m * 10 ^ e as a whole number, a half rounded up
 unfoldable pub magnitude : ℕ → ℤ → ℕ

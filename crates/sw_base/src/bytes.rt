@@ -65,7 +65,7 @@ pub fn words(bytes: &[u8]) -> (&[u8], &[u8])
 }
 
 /// What stands before the first `mark` and after it.
-pub fn cut(bytes: &[u8], mark: u8) -> Option<(&[u8], &[u8])>
+pub fn split_once(bytes: &[u8], mark: u8) -> Option<(&[u8], &[u8])>
     ensures found { IfSome result (λ x. Lacks mark x.0.now × (bytes.now ≡ x.0.now ++ mark ∷ x.1.now)) }
     ensures none { IfNone result (Lacks mark bytes.now) }
 {
@@ -80,7 +80,7 @@ pub fn cut(bytes: &[u8], mark: u8) -> Option<(&[u8], &[u8])>
 }
 
 /// What follows the mark, where the bytes begin with it.
-pub fn eat(bytes: &[u8], mark: u8) -> Option<&[u8]>
+pub fn strip_prefix(bytes: &[u8], mark: u8) -> Option<&[u8]>
     ensures found { IfSome result (λ rest. bytes.now ≡ mark ∷ rest.now) }
     ensures none { IfNone result (StartsOff (λ b. b == mark) bytes.now) }
 {

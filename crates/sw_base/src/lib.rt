@@ -18,11 +18,14 @@ mod reading;
 mod sequence;
 mod terms;
 
-pub use bytes::{blanks, cut, digits, eat, is_blank, is_digit, is_letter, is_word, letters, words};
+pub use bytes::{
+    blanks, digits, is_blank, is_digit, is_letter, is_word, letters, split_once, strip_prefix,
+    words,
+};
 pub use chan::Chan;
 pub use error::{NO_ERROR, ScpiError};
 pub use limits::{
-    ARM_COUNT, BODY_BYTES, CHANNELS, LIST_ENTRIES, LONGEST_DELAY, MACRO_LEVELS, MACROS,
+    ARM_COUNT, BODY_BYTES, CHANNELS, KEPT_BYTES, LIST_ENTRIES, LONGEST_DELAY, MACRO_LEVELS, MACROS,
     MESSAGE_BYTES, MNEMONIC_BYTES, POINTS, QUEUED_ERRORS, SESSIONS, SLOTS, TRIGGER_COUNT,
     limits_agree,
 };

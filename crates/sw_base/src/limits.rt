@@ -5,7 +5,7 @@
 ghost use Rattle.std.specs.Prelude.{◌≡◌};
 ghost use Rattle.sw_base.specs.Limits.{most_slots, most_channels, most_entries, most_bytes, most_sessions, most_points};
 ghost use Rattle.sw_base.specs.Limits.{most_arm_count, most_trigger_count, longest_delay, most_macros, longest_body};
-ghost use Rattle.sw_base.specs.Limits.{most_levels, longest_mnemonic, most_errors};
+ghost use Rattle.sw_base.specs.Limits.{most_kept, most_levels, longest_mnemonic, most_errors};
 
 /// How many slots a cage has. They are numbered from 1.
 pub const SLOTS: u8 = 8;
@@ -18,6 +18,10 @@ pub const LIST_ENTRIES: usize = 512;
 
 /// How many bytes a program message, its expansion and the payload of a HiSLIP message have at most.
 pub const MESSAGE_BYTES: usize = 65_536;
+
+/// How many bytes are kept of a program message that comes in parts: the longest one, its line feed, and one byte, by
+/// which a longer one is known.
+pub const KEPT_BYTES: usize = MESSAGE_BYTES + 2;
 
 /// How many sessions there are at a time. They are numbered from 1.
 pub const SESSIONS: u8 = 16;
@@ -52,7 +56,8 @@ pub const QUEUED_ERRORS: usize = 32;
 /// A law: the limits that the code keeps are those that contracts speak of.
 pub fn limits_agree()
     ensures slots { (SLOTS ≡ most_slots) × (CHANNELS ≡ most_channels) }
-    ensures texts { (LIST_ENTRIES ≡ most_entries) × (MESSAGE_BYTES ≡ most_bytes) × (MNEMONIC_BYTES ≡ longest_mnemonic) }
+    ensures texts { (LIST_ENTRIES ≡ most_entries) × (MESSAGE_BYTES ≡ most_bytes) × (KEPT_BYTES ≡ most_kept)
+        × (MNEMONIC_BYTES ≡ longest_mnemonic) }
     ensures scans { (POINTS ≡ most_points) × (ARM_COUNT ≡ most_arm_count) × (TRIGGER_COUNT ≡ most_trigger_count)
         × (LONGEST_DELAY ≡ longest_delay) }
     ensures macros { (MACROS ≡ most_macros) × (BODY_BYTES ≡ longest_body) × (MACRO_LEVELS ≡ most_levels) }

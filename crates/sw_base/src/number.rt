@@ -6,11 +6,11 @@ ghost use Rattle.std.specs.Prelude.{if◌then◌else◌};
 ghost use Rattle.sw_base.specs.Text.{is_digit, is_letter, AllPass, StartsOff, Spans};
 ghost use Rattle.sw_base.specs.declared.error.ScpiError.{ScpiError as Fault};
 ghost use Rattle.sw_base.specs.Number.{Written, value_after, value_of, is_negative, unsigned, with_sign, IsFraction};
-ghost use Rattle.sw_base.specs.Number.{IsMantissa, IsExponent, IsTail, is_end, IsEnded, IsNumber, from_first};
-ghost use Rattle.sw_base.specs.Number.{significant, IsInLimits, IsRefused, magnitude, size_of, rounded, in_range};
+ghost use Rattle.sw_base.specs.Number.{IsMantissa, IsExponent, IsExponentTail, is_end, IsEnded, IsNumber, from_first};
+ghost use Rattle.sw_base.specs.Number.{significant, IsInLimits, IsRefusedNumber, magnitude, size_of, rounded, in_range};
 ghost use Rattle.sw_base.specs.Number.{tens_of, in_u64};
 
-use crate::bytes::{blanks, digits, eat, is_blank, letters};
+use crate::bytes::{blanks, digits, is_blank, letters, strip_prefix};
 use crate::error::ScpiError;
 use std::marker::Model;
 
@@ -75,7 +75,7 @@ impl<'a> Nrf<'a> {
     pub fn read(text: &'a [u8]) -> Result<(Nrf<'a>, &'a [u8]), ScpiError>
         ensures number { IfOk result (λ x. IsNumber text.now x.0 x.1.now) }
         ensures within { IfOk result (λ x. IsInLimits x.0) }
-        ensures refused { IfErr result (IsRefused text.now) }
+        ensures refused { IfErr result (IsRefusedNumber text.now) }
     {
         let Some((mut number, after)) = read_mantissa(text) else {
             return Err(ScpiError::InvalidCharacterInNumber);
@@ -147,9 +147,9 @@ impl<'a> Nrf<'a> {
 pub fn one_reading()
     ensures number { (text : List ℕ) (n m : Written) (rest other : List ℕ) → IsNumber text n rest
         → IsNumber text m other → (n ≡ m) × (rest ≡ other) }
-    ensures refusal { (text : List ℕ) (e f : Fault) → IsRefused text e → IsRefused text f → e ≡ f }
+    ensures refusal { (text : List ℕ) (e f : Fault) → IsRefusedNumber text e → IsRefusedNumber text f → e ≡ f }
     ensures either { (text : List ℕ) (n : Written) (rest : List ℕ) (e : Fault) → IsNumber text n rest → IsInLimits n
-        → IsRefused text e → ⊥ }
+        → IsRefusedNumber text e → ⊥ }
 {}
 
 /// Whether a minus stands first, and what follows the sign, if there is one.
@@ -157,9 +157,9 @@ fn sign(text: &[u8]) -> (bool, &[u8])
     ensures negative { result.0 ≡ is_negative text.now }
     ensures rest { result.1.now ≡ unsigned text.now }
 {
-    match eat(text, b'-') {
+    match strip_prefix(text, b'-') {
         Some(rest) => (true, rest),
-        None => (false, eat(text, b'+').unwrap_or(text)),
+        None => (false, strip_prefix(text, b'+').unwrap_or(text)),
     }
 }
 
@@ -167,7 +167,7 @@ fn sign(text: &[u8]) -> (bool, &[u8])
 fn fraction(text: &[u8]) -> (&[u8], &[u8])
     ensures { IsFraction text.now result.0.now result.1.now }
 {
-    match eat(text, b'.') {
+    match strip_prefix(text, b'.') {
         Some(after) => digits(after),
         None => (&[], text),
     }
@@ -196,13 +196,13 @@ pub fn read_mantissa(text: &[u8]) -> Option<(Nrf<'_>, &[u8])>
 }
 
 /// What follows an `E` or `e`, where one stands first.
-fn eat_mark(text: &[u8]) -> Option<&[u8]>
+fn strip_mark(text: &[u8]) -> Option<&[u8]>
     ensures found { IfSome result (λ after. (text.now ≡ 69 ∷ after.now) ⊎ (text.now ≡ 101 ∷ after.now)) }
     ensures none { IfNone result ((after : List ℕ) → (text.now ≡ 69 ∷ after) ⊎ (text.now ≡ 101 ∷ after) → ⊥) }
 {
-    match eat(text, b'E') {
+    match strip_prefix(text, b'E') {
         Some(after) => Some(after),
-        None => eat(text, b'e'),
+        None => strip_prefix(text, b'e'),
     }
 }
 
@@ -222,7 +222,7 @@ pub fn read_exponent(text: &[u8]) -> Option<(Exponent<'_>, &[u8])>
         → ⊥) }
 {
     let (before, marked) = blanks(text);
-    let after = eat_mark(marked)?;
+    let after = strip_mark(marked)?;
     let (gap, signed) = blanks(after);
     let (negative, unsigned) = sign(signed);
     let (digits, rest) = digits(unsigned);
@@ -242,7 +242,7 @@ pub fn read_exponent(text: &[u8]) -> Option<(Exponent<'_>, &[u8])>
 
 /// The exponent at the front, or none of no digits; and what follows it.
 fn tail(text: &[u8]) -> (bool, &[u8], &[u8])
-    ensures tail { IsTail text.now (with_sign result.0 (value_of result.1.now)) result.2.now }
+    ensures tail { IsExponentTail text.now (with_sign result.0 (value_of result.1.now)) result.2.now }
     ensures digits { AllPass is_digit result.1.now }
 {
     match read_exponent(text) {

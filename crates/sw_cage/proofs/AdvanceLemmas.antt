@@ -5,12 +5,12 @@ use Rattle.sw_base.specs.Limits.{most_slots}
 use mathlib.Core.Path.{fun_ext}
 use Rattle.std.proofs.lemmas.Bool.{and_right}
 use Rattle.std.proofs.lemmas.List.{length-set}
-use Rattle.sw_base.specs.Layout.{Channel, Layout, slot_at, has_meter, bay_is_meter}
+use Rattle.sw_base.specs.Layout.{Channel, Layout, slot_at, has_meter, contents_are_meter}
 use Rattle.sw_base.specs.declared.reading.Reading.{Reading}
 use Rattle.sw_card.specs.Account.{Account, MeterAccount, of_meter}
 use Rattle.sw_trigger.specs.declared.layer.Awaited.{Awaited}
 use Rattle.sw_trigger.specs.declared.layer.Awaited.TheVariants.{Read}
-use Rattle.sw_trigger.specs.Settings.{Setup, IsInRange}
+use Rattle.sw_trigger.specs.Settings.{SettingsSeen, IsInRange}
 use Rattle.sw_trigger.specs.Agenda.{agenda}
 use Rattle.sw_trigger.specs.Counts.{reads}
 use Rattle.sw_verify.specs.Sound.{effect}
@@ -40,7 +40,7 @@ same_cage p q bays number scan readings =
     ∙ ap (λ (r : List Reading). cage q.cards q.out q.number q.scan r) readings
 
 -- A scan that is sound for the cage stands between two items; its meter is in its slot.
-pub record CanGo (p : CageSeen) (s : Setup) (i : ℕ) : Type 0 where
+pub record CanGo (p : CageSeen) (s : SettingsSeen) (i : ℕ) : Type 0 where
   pub listed : 0 < length s.list
   pub range : IsInRange s
   pub home : slot_at p.out s.meter ≡ None
@@ -54,7 +54,7 @@ lengths p k = k.outs ∙ sym k.slots ∙ sym (layout_length p.cards)
 -- a meter in its slot is one of the cage's
 meter_with : (bays : Layout) (out : List (Option Ticket)) (s : ℕ) → length out ≡ length bays → slot_at out s ≡ None → has_meter bays s ≡ true
     → has_meter (layout_with bays out) s ≡ true
-meter_with bays out s h e m = ap bay_is_meter (slot_with bays out s h ∙ ap (or_meter (slot_at bays s)) e ∙ or_in (slot_at bays s)) ∙ m
+meter_with bays out s h e m = ap contents_are_meter (slot_with bays out s h ∙ ap (or_meter (slot_at bays s)) e ∙ or_in (slot_at bays s)) ∙ m
 
 pub meter_open : (m : MeterAccount) (ch : ℕ) → option_closed (Some (of_meter m)) ch ≡ false
 meter_open m ch = and_right (nat_lt 0 ch) false refl
@@ -95,7 +95,7 @@ held_both p s v t scan k a b empty past = record {
 }
 
 -- the scan has made its moves, and stands at the next item
-module _ (p : CageSeen) (s : Setup) (i : ℕ) (mid : Accounts) (k : IsHeld p) (g : CanGo p s i) (m : Moved p.cards (moves_from s i) mid) where
+module _ (p : CageSeen) (s : SettingsSeen) (i : ℕ) (mid : Accounts) (k : IsHeld p) (g : CanGo p s i) (m : Moved p.cards (moves_from s i) mid) where
   abbrev at : ScanSeen
   at = next_place s i
 
@@ -160,7 +160,7 @@ module _ (p : CageSeen) (s : Setup) (i : ℕ) (mid : Accounts) (k : IsHeld p) (g
       }
 
 -- wherever the scan comes to, the cage is good
-pub good_lands : (p q : CageSeen) (s : Setup) (i : ℕ) (told : TakenSeen) → IsHeld p → CanGo p s i
+pub good_lands : (p q : CageSeen) (s : SettingsSeen) (i : ℕ) (told : TakenSeen) → IsHeld p → CanGo p s i
     → Reaches (occupancy_of p) p.number (moves_from s i) (next_place s i) told (occupancy_of q) q.scan → q.number ≡ p.number → q.readings ≡ p.readings
     → IsGood q
 good_lands p q s i SaysIgnored k g l n r = absurd l.arrives
@@ -191,7 +191,7 @@ good_falls p q k f n r =
     (ap (λ (o : List (Option Ticket)). let b : Occupancy = record { cards = q.cards; out = o } in b) f.out) n f.over r))
     (record { held = held_stays p q.cards None k (stays_identities p.cards q.cards f.fallen.cards); running = tt })
 
-pub good_goes : (p q : CageSeen) (s : Setup) (i : ℕ) (told : TakenSeen) → IsHeld p → CanGo p s i → Advances p s i told q → IsGood q
+pub good_goes : (p q : CageSeen) (s : SettingsSeen) (i : ℕ) (told : TakenSeen) → IsHeld p → CanGo p s i → Advances p s i told q → IsGood q
 good_goes p q s i SaysFault k g h = good_falls p q k h.runs h.number h.readings
 good_goes p q s i SaysIgnored k g h = good_lands p q s i SaysIgnored k g h.runs h.number h.readings
 good_goes p q s i SaysWaits k g h = good_lands p q s i SaysWaits k g h.runs h.number h.readings

@@ -6,7 +6,7 @@ use Rattle.std.proofs.lemmas.List.{get_or-set_same, get_or-set_other, take_more,
 use Rattle.std.proofs.lemmas.List.Folds.{list_any-append, list_any_at}
 use Rattle.std.proofs.lemmas.Grind.{common_steps}
 use Rattle.std.proofs.lemmas.Bool.{cases_eq, or_left, false_from_ne_true}
-use Rattle.sw_base.specs.Layout.{Channel, slot_at, bay_has, is_present}
+use Rattle.sw_base.specs.Layout.{Channel, slot_at, contents_have, is_present}
 use Rattle.sw_card.specs.Account.{Account, closed_at, set_closed, none_closed, IsWithin, at_rest, IsFault}
 use Rattle.sw_verify.specs.Channels.{same_channel, is_among}
 use Rattle.sw_verify.proofs.Round.{same_channel_is, same_channel_self}
@@ -65,14 +65,15 @@ closed_same l ch on p h = grind (arith, common_steps, get_or-set_same)
 closed_other : (l : List Bool) (ch k : ℕ) (on : Bool) → 0 < ch → k ≢ ch → closed_at (set_closed l ch on) k ≡ closed_at l k
 closed_other l ch k on p h = grind (arith, common_steps, get_or-set_other)
 
-has_bounds : (a : Account) (ch : ℕ) → bay_has (Some (card_contents a)) ch ≡ true → (0 < ch) × (ch ≤ length a.groups)
+has_bounds : (a : Account) (ch : ℕ) → contents_have (Some (card_contents a)) ch ≡ true → (0 < ch) × (ch ≤ length a.groups)
 has_bounds a ch h = (grind (arith, common_steps), grind (arith, common_steps))
 
-option_same : (o : Option Account) (ch : ℕ) (on : Bool) → OptionWellFormed o → bay_has (slot_contents o) ch ≡ true → option_closed (option_set o ch on) ch ≡ on
+option_same : (o : Option Account) (ch : ℕ) (on : Bool) → OptionWellFormed o → contents_have (slot_contents o) ch ≡ true
+    → option_closed (option_set o ch on) ch ≡ on
 option_same None ch on r h = absurd (cc)
 option_same (Some a) ch on r h = let b : (0 < ch) × (ch ≤ length a.groups) = has_bounds a ch h in closed_same a.closed ch on b.0 (omega (arith, r.states, b.1))
 
-option_other : (o : Option Account) (ch k : ℕ) (on : Bool) → bay_has (slot_contents o) ch ≡ true → k ≢ ch
+option_other : (o : Option Account) (ch k : ℕ) (on : Bool) → contents_have (slot_contents o) ch ≡ true → k ≢ ch
     → option_closed (option_set o ch on) k ≡ option_closed o k
 option_other None ch k on h n = refl
 option_other (Some a) ch k on h n = let b : (0 < ch) × (ch ≤ length a.groups) = has_bounds a ch h in closed_other a.closed ch k on b.0 n

@@ -7,7 +7,7 @@ use Rattle.std.proofs.lemmas.List.Elements.{filter-append}
 use Rattle.std.proofs.lemmas.Grind.{common_steps}
 use Rattle.std.proofs.lemmas.Bool.{cases_lt}
 use Rattle.sw_base.specs.Limits.{most_channels}
-use Rattle.sw_base.specs.Layout.{Channel, slot_at, bay_has}
+use Rattle.sw_base.specs.Layout.{Channel, slot_at, contents_have}
 use Rattle.sw_card.specs.Account.{Account, is_meter}
 use Rattle.sw_card.specs.Mask.{in_mask}
 use Rattle.sw_cage.specs.Accounts.{Accounts, card_contents, slot_contents, is_closed, OptionWellFormed, AreSafe}
@@ -16,10 +16,10 @@ use Rattle.sw_cage.proofs.SlotChangeLemmas.{present_at}
 
 -- closed channels
 
-pub has_bounds : (a : Account) (ch : ℕ) → bay_has (Some (card_contents a)) ch ≡ true → (0 < ch) × ((is_meter a ≡ false) × (ch ≤ length a.groups))
+pub has_bounds : (a : Account) (ch : ℕ) → contents_have (Some (card_contents a)) ch ≡ true → (0 < ch) × ((is_meter a ≡ false) × (ch ≤ length a.groups))
 has_bounds a ch h = (grind (arith, common_steps), (grind (arith, common_steps), grind (arith, common_steps)))
 
-row_bounds : (o : Option Account) (ch : ℕ) → OptionWellFormed o → bay_has (slot_contents o) ch ≡ true → (1 ≤ ch) × (ch ≤ most_channels)
+row_bounds : (o : Option Account) (ch : ℕ) → OptionWellFormed o → contents_have (slot_contents o) ch ≡ true → (1 ≤ ch) × (ch ≤ most_channels)
 row_bounds None ch r h = absurd (cc)
 row_bounds (Some a) ch r h = let b : (0 < ch) × ((is_meter a ≡ false) × (ch ≤ length a.groups)) = has_bounds a ch h in let f : length a.groups ≤ most_channels =
     r.few b.1.0 in (omega (arith, b.0), omega (arith, b.1.1, f))

@@ -9,7 +9,7 @@ use Rattle.sw_base.specs.declared.reading.Reading.{Reading}
 use Rattle.sw_card.specs.Account.{MeterAccount, of_meter}
 use Rattle.sw_trigger.specs.declared.layer.Awaited.{Awaited}
 use Rattle.sw_trigger.specs.declared.layer.Awaited.TheVariants.{Wait, Pause, Read}
-use Rattle.sw_trigger.specs.Settings.{Setup, IsInRange}
+use Rattle.sw_trigger.specs.Settings.{SettingsSeen, IsInRange}
 use Rattle.sw_trigger.specs.Agenda.{Item, agenda}
 use Rattle.sw_trigger.specs.Counts.{reads, is_reading}
 use Rattle.sw_verify.specs.Channels.{Channels, is_among}
@@ -33,24 +33,26 @@ use Rattle.sw_cage.proofs.AdvanceLemmas.{CanGo, lengths, closed_back, held_both,
 
 -- a scan that can go on
 
-pub go_meter : (p : CageSeen) (s : Setup) (i : ℕ) (at : ScanSeen) → CanGo p s i → at ≡ next_place s i → has_meter (layout_of p.cards) at.setup.meter ≡ true
+pub go_meter : (p : CageSeen) (s : SettingsSeen) (i : ℕ) (at : ScanSeen) → CanGo p s i → at ≡ next_place s i
+    → has_meter (layout_of p.cards) at.setup.meter ≡ true
 go_meter p s i at g e = ap (λ (x : ScanSeen). has_meter (layout_of p.cards) x.setup.meter) e ∙ g.measured
 
-pub go_slot : (p : CageSeen) (s : Setup) (i : ℕ) (at : ScanSeen) → CanGo p s i → at ≡ next_place s i → (1 ≤ at.setup.meter) × (at.setup.meter ≤ most_slots)
+pub go_slot : (p : CageSeen) (s : SettingsSeen) (i : ℕ) (at : ScanSeen) → CanGo p s i → at ≡ next_place s i
+    → (1 ≤ at.setup.meter) × (at.setup.meter ≤ most_slots)
 go_slot p s i at g e = subst (λ (x : ScanSeen). (1 ≤ x.setup.meter) × (x.setup.meter ≤ most_slots)) (sym e) g.range.meter
 
-pub go_may : (p : CageSeen) (s : Setup) (i : ℕ) (o k : Option Channel) → IsHeld p → CanGo p s i → opens_of o ++ closes_of k ≡ moves_from s i
+pub go_may : (p : CageSeen) (s : SettingsSeen) (i : ℕ) (o k : Option Channel) → IsHeld p → CanGo p s i → opens_of o ++ closes_of k ≡ moves_from s i
     → MayMove (layout_of p.cards) (is_closed p.cards) o k
 go_may p s i o k held g e = may_move_in (layout_of p.cards) p.out (lengths p held) (is_closed p.cards) o k
     (may_move (cage_layout p) (is_closed p.cards) s i g.way o k e)
 
-room_some : (room : ℕ) (s : Setup) (i : ℕ) (scan : Option ScanSeen) → reads (agenda s) ≤ room → scan ≡ Some (next_place s i) → HasRoom scan room
+room_some : (room : ℕ) (s : SettingsSeen) (i : ℕ) (scan : Option ScanSeen) → reads (agenda s) ≤ room → scan ≡ Some (next_place s i) → HasRoom scan room
 room_some room s i scan r e = subst (λ (o : Option ScanSeen). HasRoom o room) (sym e) r
 
 room_none : (room : ℕ) (scan : Option ScanSeen) → scan ≡ None → HasRoom scan room
 room_none room scan e = subst (λ (o : Option ScanSeen). HasRoom o room) (sym e) tt
 
-room_goes : (p q : CageSeen) (s : Setup) (i : ℕ) (told : TakenSeen) (room : ℕ) → reads (agenda s) ≤ room
+room_goes : (p q : CageSeen) (s : SettingsSeen) (i : ℕ) (told : TakenSeen) (room : ℕ) → reads (agenda s) ≤ room
     → AdvancesOrFails (occupancy_of p) p.number (moves_from s i) (next_place s i) told (occupancy_of q) q.scan → HasRoom q.scan room
 room_goes p q s i SaysIgnored room r h = absurd h.arrives
 room_goes p q s i SaysWaits room r h = room_some room s i q.scan r h.arrives.2
@@ -59,7 +61,7 @@ room_goes p q s i (SaysJob job) room r h = room_some room s i q.scan r h.arrives
 room_goes p q s i SaysEnded room r h = room_none room q.scan h.arrives.2
 room_goes p q s i SaysFault room r h = room_none room q.scan h.over
 
-pub go_kept : (p q : CageSeen) (s : Setup) (i : ℕ) (told : TakenSeen) (moves : List Item) (at : ScanSeen) (room : ℕ) → IsHeld p → CanGo p s i
+pub go_kept : (p q : CageSeen) (s : SettingsSeen) (i : ℕ) (told : TakenSeen) (moves : List Item) (at : ScanSeen) (room : ℕ) → IsHeld p → CanGo p s i
     → reads (agenda s) ≤ room
     → AdvancesOrFails (occupancy_of p) p.number moves at told (occupancy_of q) q.scan → moves ≡ moves_from s i → at ≡ next_place s i → q.number ≡ p.number
     → q.readings ≡ p.readings
@@ -131,7 +133,7 @@ module _ (p : CageSeen) (s : ℕ) (t : Ticket) (m : MeterAccount) (k : IsHeld p)
   closed_same : is_closed rack_back ≡ is_closed p.cards
   closed_same = let b = slot_some p s t k out in fun_ext (closed_back p.cards s m b.0 (omega (arith, b.1, k.slots)) empty_slot)
 
-  way_back : (setup : Setup) (i : ℕ) → HasDone (cage_layout p) (is_closed p.cards) setup i
+  way_back : (setup : SettingsSeen) (i : ℕ) → HasDone (cage_layout p) (is_closed p.cards) setup i
       → HasDone (layout_with (layout_of rack_back) out_back) (is_closed rack_back) setup i
   way_back setup i w = on_way_like (cage_layout p) (layout_with (layout_of rack_back) out_back) (is_closed p.cards) (is_closed rack_back) setup i layout_same
       closed_same w
@@ -221,7 +223,7 @@ room_left p at s t room k e w =
     omega (arith, u.readings, reads_left at.setup at.index w.reading, room_at p at room k e)
 
 -- the reading is added
-pub record Counted (p : CageSeen) (s : Setup) (i : ℕ) : Type 0 where
+pub record Counted (p : CageSeen) (s : SettingsSeen) (i : ℕ) : Type 0 where
   pub held : IsHeld p
   pub go : CanGo p s i
 
@@ -241,7 +243,7 @@ counted p at s t m r rack out readings room k e w h a b c =
     })))
 
 -- a scan begins
-pub begins : (p : CageSeen) (s : Setup) (layout : Layout) (closed : List Channel) (number : ℕ) (readings : List Reading) → IsHeld p → 0 < length s.list
+pub begins : (p : CageSeen) (s : SettingsSeen) (layout : Layout) (closed : List Channel) (number : ℕ) (readings : List Reading) → IsHeld p → 0 < length s.list
     → IsInRange s → slot_at p.out s.meter ≡ None → has_meter layout s.meter ≡ true
     → IsSound layout (is_among closed) s.points (agenda s) → cage_layout p ≡ layout → closed_list p.cards ≡ closed
     → ((c : Channel) → is_closed p.cards c ≡ true → (1 ≤ c.0) × (c.0 ≤ most_slots) × (1 ≤ c.1) × (c.1 ≤ most_channels))

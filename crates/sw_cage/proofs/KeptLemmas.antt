@@ -4,7 +4,7 @@ use Rattle.std.proofs.Common.{inl, inr, refl, sym, ◌∙◌, ap, subst, arith, 
 use Rattle.std.proofs.Common.{OnErr}
 use Rattle.std.proofs.lemmas.List.{length-map, length-set, take_more}
 use Rattle.sw_base.specs.Limits.{most_slots}
-use Rattle.sw_base.specs.Layout.{Channel, Bay, meter, Layout, slot_at}
+use Rattle.sw_base.specs.Layout.{Channel, SlotContents, meter, Layout, slot_at}
 use Rattle.sw_base.specs.declared.reading.Reading.{Reading}
 use Rattle.sw_card.specs.Account.{Account, none_closed}
 use Rattle.sw_cage.specs.Accounts.{Accounts, slot_contents, layout_of, option_rest, all_open}
@@ -162,7 +162,7 @@ pub bay_out : (p q : CageSeen) (s : ℕ) → IsHeld p → p ≡ q → is_some (s
 bay_out p q s k e h =
     ap (λ (x : CageSeen). slot_at (cage_layout x) s) (sym e)
     ∙ slot_with (layout_of p.cards) p.out s (k.outs ∙ sym k.slots ∙ sym (layout_length p.cards))
-    ∙ ap (λ (b : Option Bay). or_meter b (slot_at p.out s)) (slot_layout p.cards s ∙ ap slot_contents (k.empty s h))
+    ∙ ap (λ (b : Option SlotContents). or_meter b (slot_at p.out s)) (slot_layout p.cards s ∙ ap slot_contents (k.empty s h))
     ∙ out_some (slot_at p.out s) h
 
 pub bay_in : (p q : CageSeen) (s : ℕ) → IsHeld p → p ≡ q → is_some (slot_at p.out s) ≡ false → slot_at (layout_of p.cards) s ≡ slot_at (cage_layout q) s
@@ -176,11 +176,12 @@ bay_in p q s k e h =
 pub all_contents : (p q : CageSeen) → IsHeld p → p ≡ q → length (cage_layout q) ≡ most_slots
 all_contents p q k e = ap (λ (x : CageSeen). length (cage_layout x)) (sym e) ∙ with_length (layout_of p.cards) p.out ∙ layout_length p.cards ∙ k.slots
 
-pub next_bay : (l : Layout) (i : ℕ) (now new : Layout) (b : Option Bay) → length l ≡ most_slots → i < most_slots → now ≡ take i l → b ≡ slot_at l (i + 1)
+pub next_bay : (l : Layout) (i : ℕ) (now new : Layout) (b : Option SlotContents) → length l ≡ most_slots → i < most_slots → now ≡ take i l
+    → b ≡ slot_at l (i + 1)
     → new ≡ now ++ b ∷ []
     → new ≡ take (i + 1) l
 next_bay l i now new b n h e f g =
-    g ∙ ap (λ (x : Layout). x ++ b ∷ []) e ∙ ap (λ (y : Option Bay). take i l ++ y ∷ [])
+    g ∙ ap (λ (x : Layout). x ++ b ∷ []) e ∙ ap (λ (y : Option SlotContents). take i l ++ y ∷ [])
     (f ∙ slot_get l (i + 1) (omega arith) ∙ ap (λ (k : ℕ). slice_index_or l k None) (let k : i + 1 - 1 ≡ i = omega arith in k))
     ∙ sym (take_more l i None (omega arith))
 

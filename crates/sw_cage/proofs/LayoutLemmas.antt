@@ -2,24 +2,25 @@
 use Rattle.std.proofs.Common.{◌≡◌, ℕ, zero, suc, ◌-◌, ◌<◌, Bool, true, false, List, [], ◌∷◌, length, Option, None, Some, slice_index_or, slice_set, refl, sym}
 use Rattle.std.proofs.Common.{◌∙◌, ap, arith, nat_lt, if◌then◌else◌}
 use Rattle.std.proofs.lemmas.List.{map-set, length-map}
-use Rattle.sw_base.specs.Layout.{Channel, Bay, meter, Layout, slot_at, bay_has, bay_group, bay_is_meter, is_present, group_of, has_meter, IsClash}
+use Rattle.sw_base.specs.Layout.{Channel, SlotContents, meter, Layout, slot_at, contents_have, contents_group, contents_are_meter, is_present, group_of}
+use Rattle.sw_base.specs.Layout.{has_meter, IsClash}
 use Rattle.sw_card.specs.Account.{Account, MeterAccount, of_meter}
 use Rattle.sw_cage.specs.Accounts.{Accounts, slot_contents, layout_of}
 use Rattle.sw_cage.specs.Cage.{or_meter, layout_with}
 use Rattle.sw_cage.specs.declared.job.Ticket.{Ticket}
 use Rattle.sw_cage.proofs.SlotChangeLemmas.{slot_get, slot_layout}
 
-or_has : (b : Option Bay) (t : Option Ticket) (ch : ℕ) → bay_has (or_meter b t) ch ≡ bay_has b ch
+or_has : (b : Option SlotContents) (t : Option Ticket) (ch : ℕ) → contents_have (or_meter b t) ch ≡ contents_have b ch
 or_has None None ch = refl
 or_has None (Some t) ch = refl
 or_has (Some b) t ch = refl
 
-or_group : (b : Option Bay) (t : Option Ticket) (ch : ℕ) → bay_group (or_meter b t) ch ≡ bay_group b ch
+or_group : (b : Option SlotContents) (t : Option Ticket) (ch : ℕ) → contents_group (or_meter b t) ch ≡ contents_group b ch
 or_group None None ch = refl
 or_group None (Some t) ch = refl
 or_group (Some b) t ch = refl
 
-pub or_in : (b : Option Bay) → or_meter b None ≡ b
+pub or_in : (b : Option SlotContents) → or_meter b None ≡ b
 or_in None = refl
 or_in (Some b) = refl
 
@@ -31,7 +32,7 @@ with_index (b ∷ bays) [] i h = absurd (omega arith)
 with_index (b ∷ bays) (t ∷ out) zero h = refl
 with_index (b ∷ bays) (t ∷ out) (suc i) h = with_index bays out i (omega arith)
 
-with_if : (b : Bool) (x y : Option Bay) (z : Option Ticket) → x ≡ or_meter y z
+with_if : (b : Bool) (x y : Option SlotContents) (z : Option Ticket) → x ≡ or_meter y z
     → (if b then x else None) ≡ or_meter (if b then y else None) (if b then z else None)
 with_if true x y z e = e
 with_if false x y z e = refl
@@ -48,17 +49,17 @@ with_length (b ∷ bays) (t ∷ out) = ap suc (with_length bays out)
 
 module _ (bays : Layout) (out : List (Option Ticket)) (h : length out ≡ length bays) where
   pub present_with : (c : Channel) → is_present (layout_with bays out) c ≡ is_present bays c
-  present_with c = ap (λ b. bay_has b c.1) (slot_with bays out c.0 h) ∙ or_has (slot_at bays c.0) (slot_at out c.0) c.1
+  present_with c = ap (λ b. contents_have b c.1) (slot_with bays out c.0 h) ∙ or_has (slot_at bays c.0) (slot_at out c.0) c.1
 
   pub group_with : (c : Channel) → group_of (layout_with bays out) c ≡ group_of bays c
-  group_with c = ap (λ b. bay_group b c.1) (slot_with bays out c.0 h) ∙ or_group (slot_at bays c.0) (slot_at out c.0) c.1
+  group_with c = ap (λ b. contents_group b c.1) (slot_with bays out c.0 h) ∙ or_group (slot_at bays c.0) (slot_at out c.0) c.1
 
   pub clash_with : (a b : Channel) → IsClash bays a b → IsClash (layout_with bays out) a b
   clash_with a b k = record { other = k.other; grouped = λ e. k.grouped (sym (group_with a) ∙ e); same = group_with a ∙ k.same ∙ sym (group_with b) }
 
   -- a meter that is not out is in its slot
   pub meter_in : (s : ℕ) → has_meter (layout_with bays out) s ≡ true → slot_at out s ≡ None → has_meter bays s ≡ true
-  meter_in s m e = ap bay_is_meter (sym (slot_with bays out s h ∙ ap (or_meter (slot_at bays s)) e ∙ or_in (slot_at bays s))) ∙ m
+  meter_in s m e = ap contents_are_meter (sym (slot_with bays out s h ∙ ap (or_meter (slot_at bays s)) e ∙ or_in (slot_at bays s))) ∙ m
 
 -- a meter goes out
 
@@ -66,7 +67,7 @@ sent_index : (bays : Layout) (out : List (Option Ticket)) (i : ℕ) (t : Ticket)
     → layout_with (slice_set bays i None) (slice_set out i (Some t)) ≡ layout_with bays out
 sent_index [] out i t h e = absurd (cc)
 sent_index (b ∷ bays) [] i t h e = absurd (omega arith)
-sent_index (b ∷ bays) (u ∷ out) zero t h e = ap (λ (x : Option Bay). or_meter x u ∷ layout_with bays out) (sym e)
+sent_index (b ∷ bays) (u ∷ out) zero t h e = ap (λ (x : Option SlotContents). or_meter x u ∷ layout_with bays out) (sym e)
 sent_index (b ∷ bays) (u ∷ out) (suc i) t h e = ap (λ (l : Layout). or_meter b u ∷ l) (sent_index bays out i t (omega arith) e)
 
 -- a meter comes back
@@ -74,8 +75,8 @@ back_index : (bays : Layout) (out : List (Option Ticket)) (i : ℕ) (t : Ticket)
     → slice_index_or out i None ≡ Some t → layout_with (slice_set bays i (Some meter)) (slice_set out i None) ≡ layout_with bays out
 back_index [] out i t h e f = refl
 back_index (b ∷ bays) [] i t h e f = absurd (omega arith)
-back_index (b ∷ bays) (u ∷ out) zero t h e f = ap (λ (x : Option Bay). x ∷ layout_with bays out)
-    (sym (ap (λ (y : Option Bay). or_meter y u) e ∙ ap (λ (v : Option Ticket). or_meter None v) f))
+back_index (b ∷ bays) (u ∷ out) zero t h e f = ap (λ (x : Option SlotContents). x ∷ layout_with bays out)
+    (sym (ap (λ (y : Option SlotContents). or_meter y u) e ∙ ap (λ (v : Option Ticket). or_meter None v) f))
 back_index (b ∷ bays) (u ∷ out) (suc i) t h e f = ap (λ (l : Layout). or_meter b u ∷ l) (back_index bays out i t (omega arith) e f)
 
 layout_set : (rack : Accounts) (i : ℕ) (v : Option Account) → layout_of (slice_set rack i v) ≡ slice_set (layout_of rack) i (slot_contents v)

@@ -3,7 +3,7 @@ use Rattle.std.proofs.Common.{◌≡◌, ℕ, ◌==◌, ◌||◌, ◌&&◌, not,
 use Rattle.std.proofs.Common.{if◌then◌else◌, Result, Ok, Err, OnErr}
 use mathlib.Core.Path.{fun_ext}
 use Rattle.std.proofs.lemmas.Grind.{common_steps}
-use Rattle.sw_base.specs.Layout.{Channel, Bay, relays, meter, Layout, slot_at, bay_has, bay_is_meter, is_present, has_meter}
+use Rattle.sw_base.specs.Layout.{Channel, SlotContents, relays, meter, Layout, slot_at, contents_have, contents_are_meter, is_present, has_meter}
 use Rattle.sw_trigger.specs.Agenda.{Item, Close, Open}
 use Rattle.sw_verify.specs.Channels.{Channels, same_channel, is_among}
 use Rattle.sw_verify.specs.Sound.{effect}
@@ -67,7 +67,7 @@ may_close_there old mid o k may m =
     subst (λ (l : Layout). MayCloseNext l (is_closed mid) k) (sym (moved_layout old mid (opens_of o) m))
     (subst (λ (b : Channels). MayCloseNext (layout_of old) b k) (sym (fun_ext m.closed)) may.closes)
 
-pub not_meter : (b : Option Bay) (ch : ℕ) → bay_has b ch ≡ true → bay_is_meter b ≡ false
+pub not_meter : (b : Option SlotContents) (ch : ℕ) → contents_have b ch ≡ true → contents_are_meter b ≡ false
 not_meter None ch h = refl
 not_meter (Some meter) ch h = absurd (cc)
 not_meter (Some (relays groups)) ch h = refl

@@ -13,7 +13,7 @@ use Rattle.sw_base.specs.declared.terms.Source.TheVariants.{Immediate, Bus, Exte
 use Rattle.sw_trigger.specs.declared.layer.Layer.{Layer}
 use Rattle.sw_trigger.specs.declared.layer.Awaited.{Awaited}
 use Rattle.sw_trigger.specs.declared.layer.Awaited.TheVariants.{Pause}
-use Rattle.sw_trigger.specs.Settings.{Setup, IsInRange}
+use Rattle.sw_trigger.specs.Settings.{SettingsSeen, IsInRange}
 use Rattle.sw_trigger.specs.Agenda.{Item, Awaits, Close, Open, wait_of, pause_of, head_of, channel_at, visit, pass_of, passes, arm_turn, arm_turns}
 use Rattle.sw_trigger.specs.Agenda.{agenda}
 use Rattle.sw_trigger.proofs.Repeats.{length-repeated}
@@ -42,7 +42,8 @@ some_awaited (Awaits what ∷ l) h = (what, refl, refl)
 some_awaited (Close c ∷ l) h = absurd (h refl)
 some_awaited (Open c ∷ l) h = absurd (h refl)
 
-module _ (code : List Step) (at : Place) (s : Setup) (i : ℕ) (does : Does code at (drop i (agenda s))) (awaited : first_awaited (drop i (agenda s)) ≡ None
+module _ (code : List Step) (at : Place) (s : SettingsSeen) (i : ℕ) (does : Does code at (drop i (agenda s))) (awaited : first_awaited (drop i (agenda s))
+    ≡ None
     → ⊥) where
   abbrev pub what_there : Awaited
   what_there = (some_awaited (drop i (agenda s)) awaited).0
@@ -60,7 +61,7 @@ module _ (code : List Step) (at : Place) (s : Setup) (i : ℕ) (does : Does code
   short_of m r e = omega (arith, ap length behind, ap length e, length-drop i (agenda s), length-append m r)
 
 -- the moves of a way are all up to the next awaiting item, and end where the next item is awaited
-module _ (s : Setup) (i : ℕ) (moves : Moves) (rest : List Item) (lead : leading_moves rest ≡ []) (e : drop i (agenda s) ≡ moves_of moves ++ rest) where
+module _ (s : SettingsSeen) (i : ℕ) (moves : Moves) (rest : List Item) (lead : leading_moves rest ≡ []) (e : drop i (agenda s) ≡ moves_of moves ++ rest) where
   pub way_is : moves_of moves ≡ moves_from s i
   way_is = sym (ap leading_moves e ∙ moves_lead moves.to_open moves.to_close rest lead)
 
@@ -88,7 +89,7 @@ stands code items way l = record {
 }
 
 -- past what is awaited
-pub leads_on : (code : List Step) (at : Place) (s : Setup) (i : ℕ) (does : Does code at (drop i (agenda s))) (awaited : first_awaited (drop i (agenda s))
+pub leads_on : (code : List Step) (at : Place) (s : SettingsSeen) (i : ℕ) (does : Does code at (drop i (agenda s))) (awaited : first_awaited (drop i (agenda s))
     ≡ None → ⊥)
     → 0 < length s.list → (way : Way) → ((what : Awaited) (items : List Item) → Does code at (Awaits what ∷ items) → AreVisitsOn items → LeadsOn code items way)
     → Stands code (drop (i + 1) (agenda s)) way
@@ -117,7 +118,7 @@ length-head name l =
       length-cond_pause (eqb l.delay_us 0) l.delay_us,
     )
 
-length-passes : (s : Setup) (k n : ℕ) → length (passes s k n) ≤ n * 5
+length-passes : (s : SettingsSeen) (k n : ℕ) → length (passes s k n) ≤ n * 5
 length-passes s k zero = omega arith
 length-passes s k (suc n) =
     omega (
@@ -140,7 +141,7 @@ length-arm_turns name l inside most few short =
       mul-le l.count (length (arm_turn name l inside)) 1000 (2 + most) few turn,
     )
 
-pub length-agenda : (s : Setup) → 0 < length s.list → IsInRange s → length (agenda s) + 3 < 2 ^ 64
+pub length-agenda : (s : SettingsSeen) → 0 < length s.list → IsInRange s → length (agenda s) + 3 < 2 ^ 64
 length-agenda s h i =
     let all = passes s 0 s.trigger.count in
     let a3 : s.trigger.count * 5 ≤ 100000 * 5 = mul-le s.trigger.count 5 100000 5 i.trigger.count.1 (omega arith) in

@@ -7,7 +7,8 @@ use Rattle.std.proofs.Math.Seq.{map-set_same}
 use Rattle.std.proofs.lemmas.Grind.{common_steps}
 use Rattle.std.proofs.lemmas.Bool.{cases_eq, cases_lt}
 use Rattle.sw_base.specs.Limits.{most_slots, most_channels}
-use Rattle.sw_base.specs.Layout.{Channel, Bay, Layout, slot_at, bay_has, bay_group, bay_is_meter, has_meter, is_present, group_of, IsClash, IsExclusive}
+use Rattle.sw_base.specs.Layout.{Channel, SlotContents, Layout, slot_at, contents_have, contents_group, contents_are_meter, has_meter, is_present, group_of}
+use Rattle.sw_base.specs.Layout.{IsClash, IsExclusive}
 use Rattle.sw_card.specs.Account.{Account, set_closed, with_set, IsFault}
 use Rattle.sw_card.proofs.Rows.{closed_set, open_set, within_closed, length-within, none_is_closed, length-none}
 use Rattle.sw_cage.specs.Accounts.{Accounts, card_contents, slot_contents, layout_of, option_closed, is_closed, IsWellFormed, OptionWellFormed, AreSafe}
@@ -70,13 +71,13 @@ map_slot f rack s v p e = map-set_same f rack (s - 1) v None (e ∙ ap f (slot_g
 
 -- channels
 
-pub present_at : (rack : Accounts) (c : Channel) → is_present (layout_of rack) c ≡ bay_has (slot_contents (slot_at rack c.0)) c.1
-present_at rack c = ap (λ b. bay_has b c.1) (slot_layout rack c.0)
+pub present_at : (rack : Accounts) (c : Channel) → is_present (layout_of rack) c ≡ contents_have (slot_contents (slot_at rack c.0)) c.1
+present_at rack c = ap (λ b. contents_have b c.1) (slot_layout rack c.0)
 
-pub group_in_slot : (rack : Accounts) (c : Channel) → group_of (layout_of rack) c ≡ bay_group (slot_contents (slot_at rack c.0)) c.1
-group_in_slot rack c = ap (λ b. bay_group b c.1) (slot_layout rack c.0)
+pub group_in_slot : (rack : Accounts) (c : Channel) → group_of (layout_of rack) c ≡ contents_group (slot_contents (slot_at rack c.0)) c.1
+group_in_slot rack c = ap (λ b. contents_group b c.1) (slot_layout rack c.0)
 
-present_some : (o : Option Account) (ch : ℕ) → bay_has (slot_contents o) ch ≡ true → is_some o ≡ true
+present_some : (o : Option Account) (ch : ℕ) → contents_have (slot_contents o) ch ≡ true → is_some o ≡ true
 present_some None ch h = h
 present_some (Some a) ch h = refl
 
@@ -94,12 +95,12 @@ closed_slot rack c h = some_slot rack c.0 (closed_some (slot_at rack c.0) c.1 h)
 pub same_chan : (c d : Channel) → d.0 ≡ c.0 → d.1 ≡ c.1 → d ≡ c
 same_chan c d e f = let k : ◌≡◌ {A = ℕ × ℕ} (d.0, d.1) (c.0, c.1) = cc in k
 
-option_meter_some : (o : Option Account) → bay_is_meter (slot_contents o) ≡ true → is_some o ≡ true
+option_meter_some : (o : Option Account) → contents_are_meter (slot_contents o) ≡ true → is_some o ≡ true
 option_meter_some None h = h
 option_meter_some (Some a) h = refl
 
 pub meter_some : (rack : Accounts) (s : ℕ) → has_meter (layout_of rack) s ≡ true → is_some (slot_at rack s) ≡ true
-meter_some rack s h = option_meter_some (slot_at rack s) (ap bay_is_meter (sym (slot_layout rack s)) ∙ h)
+meter_some rack s h = option_meter_some (slot_at rack s) (ap contents_are_meter (sym (slot_layout rack s)) ∙ h)
 
 -- one slot's change that closes one channel at most
 pub record IsSlotGrown (old : Option Account) (ch : ℕ) (new : Option Account) : Type 0 where
@@ -107,13 +108,13 @@ pub record IsSlotGrown (old : Option Account) (ch : ℕ) (new : Option Account) 
   pub row : OptionWellFormed old → OptionWellFormed new
   pub closed : (k : ℕ) → option_closed new k ≡ true → (option_closed old k ≡ true) ⊎ (k ≡ ch)
 
-has_positive : (a : Account) (ch : ℕ) → bay_has (Some (card_contents a)) ch ≡ true → 0 < ch
+has_positive : (a : Account) (ch : ℕ) → contents_have (Some (card_contents a)) ch ≡ true → 0 < ch
 has_positive a ch h = grind (arith, common_steps)
 
 set_row : (a : Account) (ch : ℕ) (on : Bool) → IsWellFormed a → IsWellFormed (with_set a ch on)
 set_row a ch on r = record { states = length-set a.closed (ch - 1) on ∙ r.states; few = r.few }
 
-pub closing_grows : (a : Account) (ch : ℕ) → bay_has (Some (card_contents a)) ch ≡ true → IsSlotGrown (Some a) ch (Some (with_set a ch true))
+pub closing_grows : (a : Account) (ch : ℕ) → contents_have (Some (card_contents a)) ch ≡ true → IsSlotGrown (Some a) ch (Some (with_set a ch true))
 closing_grows a ch h = record { bay = refl; row = set_row a ch true; closed = λ k e. closed_set a.closed ch k (has_positive a ch h) e }
 
 pub opening_grows : (a : Account) (ch : ℕ) → IsSlotGrown (Some a) ch (Some (with_set a ch false))
@@ -128,23 +129,24 @@ fault_row a b most e f r = record {
   few = λ m. subst (λ (g : List ℕ). length g ≤ most_channels) (sym f.groups) (r.few (ap is_some (sym f.last) ∙ m));
 }
 
-pub closing_fault_grows : (a b : Account) (ch : ℕ) → bay_has (Some (card_contents a)) ch ≡ true → IsFault a (set_closed a.closed ch true) b
+pub closing_fault_grows : (a b : Account) (ch : ℕ) → contents_have (Some (card_contents a)) ch ≡ true → IsFault a (set_closed a.closed ch true) b
     → IsSlotGrown (Some a) ch (Some b)
 closing_fault_grows a b ch h f = record {
-  bay = ap (λ (x : Bay). Some x) (fault_bay a b (set_closed a.closed ch true) f);
+  bay = ap (λ (x : SlotContents). Some x) (fault_bay a b (set_closed a.closed ch true) f);
   row = fault_row a b (set_closed a.closed ch true) (length-set a.closed (ch - 1) true) f;
   closed = λ k e. closed_set a.closed ch k (has_positive a ch h) (within_closed b.closed (set_closed a.closed ch true) k f.within e);
 }
 
 pub opening_fault_grows : (a b : Account) (ch : ℕ) → IsFault a a.closed b → IsSlotGrown (Some a) ch (Some b)
 opening_fault_grows a b ch f = record {
-  bay = ap (λ (x : Bay). Some x) (fault_bay a b a.closed f);
+  bay = ap (λ (x : SlotContents). Some x) (fault_bay a b a.closed f);
   row = fault_row a b a.closed refl f;
   closed = λ k e. inl (within_closed b.closed a.closed k f.within e);
 }
 
 -- what a call of close or open on a card does to the slot that holds it
-pub closed_grows : {T E : Type 0} (o n : Option Account) (r : Result T E) (ch : ℕ) → bay_has (slot_contents o) ch ≡ true → OnOk r (n ≡ option_set o ch true)
+pub closed_grows : {T E : Type 0} (o n : Option Account) (r : Result T E) (ch : ℕ) → contents_have (slot_contents o) ch ≡ true
+    → OnOk r (n ≡ option_set o ch true)
     → OnErr r (IsSlotFault o (option_set o ch true) n) → IsSlotGrown o ch n
 closed_grows None n r ch h ok err = absurd (cc)
 closed_grows (Some a) n (Ok t) ch h ok err = rw ok (closing_grows a ch h)
@@ -259,7 +261,7 @@ quiet_was rack s v p h quiet d k = ap (λ o. option_closed o d.1) (sym (quiet_ot
 pub quiet_group : (rack : Accounts) (s : ℕ) (v : Option Account) → 0 < s → s ≤ length rack → ((k : ℕ) → option_closed v k ≡ false) → (d : Channel)
     → is_closed (slice_set rack (s - 1) v) d ≡ true → group_of (layout_of (slice_set rack (s - 1) v)) d ≡ group_of (layout_of rack) d
 quiet_group rack s v p h quiet d k = group_in_slot (slice_set rack (s - 1) v) d
-    ∙ ap (λ o. bay_group (slot_contents o) d.1) (quiet_other rack s v p h quiet d k) ∙ sym (group_in_slot rack d)
+    ∙ ap (λ o. contents_group (slot_contents o) d.1) (quiet_other rack s v p h quiet d k) ∙ sym (group_in_slot rack d)
 
 -- where nothing was closed in the slot either
 pub quiet_still : (rack : Accounts) (s : ℕ) (v : Option Account) → 0 < s → s ≤ length rack → ((k : ℕ) → option_closed (slot_at rack s) k ≡ false)
@@ -277,7 +279,8 @@ exclusive_quiet rack s v p h quiet safe =
     let group = quiet_group rack s v p h quiet in
     let has : (d : Channel) → is_closed (slice_set rack (s - 1) v) d ≡ true
     → is_present (layout_of (slice_set rack (s - 1) v)) d ≡ is_present (layout_of rack) d =
-    λ d k. present_at (slice_set rack (s - 1) v) d ∙ ap (λ o. bay_has (slot_contents o) d.1) (quiet_other rack s v p h quiet d k) ∙ sym (present_at rack d) in
+    λ d k. present_at (slice_set rack (s - 1) v) d ∙ ap (λ o. contents_have (slot_contents o) d.1) (quiet_other rack s v p h quiet d k)
+    ∙ sym (present_at rack d) in
     record {
       present = λ d k. has d k ∙ safe.present d (was d k);
       apart = λ a b ka kb clash. safe.apart a b (was a ka) (was b kb)

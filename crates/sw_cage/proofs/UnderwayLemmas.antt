@@ -6,12 +6,12 @@ use Rattle.std.proofs.lemmas.List.{take-append-drop}
 use Rattle.sw_base.specs.Layout.{Channel, Layout}
 use Rattle.sw_trigger.specs.declared.layer.Awaited.{Awaited}
 use Rattle.sw_trigger.specs.declared.layer.Awaited.TheVariants.{Read}
-use Rattle.sw_trigger.specs.Settings.{Setup}
+use Rattle.sw_trigger.specs.Settings.{SettingsSeen}
 use Rattle.sw_trigger.specs.Agenda.{Item, Awaits, Close, Open, agenda}
 use Rattle.sw_trigger.specs.Counts.{reads, is_reading}
 use Rattle.sw_trigger.proofs.Awaiting.{reads-append}
 use Rattle.sw_verify.specs.Channels.{Channels, same_channel, none, with_channel, without}
-use Rattle.sw_verify.specs.Sound.{CanClose, AllRight, effect}
+use Rattle.sw_verify.specs.Sound.{CanCloseOne, AllRight, effect}
 use Rattle.sw_verify.proofs.Round.{effect-append}
 use Rattle.sw_cage.specs.Cage.{layout_with}
 use Rattle.sw_cage.specs.Advance.{leading_moves, first_awaited, opens_of, closes_of, moves_from}
@@ -40,21 +40,21 @@ leading_reads (Awaits x ∷ l) = refl
 leading_reads (Close c ∷ l) = leading_reads l
 leading_reads (Open c ∷ l) = leading_reads l
 
-take_way : (s : Setup) (i : ℕ) → take (i + length (moves_from s i)) (agenda s) ≡ take i (agenda s) ++ moves_from s i
+take_way : (s : SettingsSeen) (i : ℕ) → take (i + length (moves_from s i)) (agenda s) ≡ take i (agenda s) ++ moves_from s i
 take_way s i = take-add i (length (moves_from s i)) (agenda s) ∙ ap (λ (l : List Item). take i (agenda s) ++ l) (leading_front (drop i (agenda s)))
 
-take_past : (s : Setup) (i : ℕ) (x : Awaited) → first_awaited (drop i (agenda s)) ≡ Some x → take (i + 1) (agenda s) ≡ take i (agenda s) ++ Awaits x ∷ []
+take_past : (s : SettingsSeen) (i : ℕ) (x : Awaited) → first_awaited (drop i (agenda s)) ≡ Some x → take (i + 1) (agenda s) ≡ take i (agenda s) ++ Awaits x ∷ []
 take_past s i x e = take-add i 1 (agenda s) ∙ ap (λ (l : List Item). take i (agenda s) ++ take 1 l) (awaits_first (drop i (agenda s)) x e)
 
-pub reads_way : (s : Setup) (i : ℕ) → reads (take (i + length (moves_from s i)) (agenda s)) ≡ reads (take i (agenda s))
+pub reads_way : (s : SettingsSeen) (i : ℕ) → reads (take (i + length (moves_from s i)) (agenda s)) ≡ reads (take i (agenda s))
 reads_way s i = ap reads (take_way s i) ∙ reads-append (take i (agenda s)) (moves_from s i) ∙ omega (arith, leading_reads (drop i (agenda s)))
 
-pub reads_past : (s : Setup) (i : ℕ) (x : Awaited) → first_awaited (drop i (agenda s)) ≡ Some x
+pub reads_past : (s : SettingsSeen) (i : ℕ) (x : Awaited) → first_awaited (drop i (agenda s)) ≡ Some x
     → reads (take (i + 1) (agenda s)) ≡ reads (take i (agenda s)) + is_reading x
 reads_past s i x e = ap reads (take_past s i x e) ∙ reads-append (take i (agenda s)) (Awaits x ∷ []) ∙ omega arith
 
 -- a reading is left where one is awaited
-pub reads_left : (s : Setup) (i : ℕ) → first_awaited (drop i (agenda s)) ≡ Some Read → reads (take i (agenda s)) < reads (agenda s)
+pub reads_left : (s : SettingsSeen) (i : ℕ) → first_awaited (drop i (agenda s)) ≡ Some Read → reads (take i (agenda s)) < reads (agenda s)
 reads_left s i e =
     let whole = ap reads (sym (take-append-drop i (agenda s))) ∙ reads-append (take i (agenda s)) (drop i (agenda s)) in
     let rest = ap reads (awaits_first (drop i (agenda s)) Read e) in
@@ -93,8 +93,8 @@ moves_may layout b m (Some o) None r w h = record { opens = w o h.0; closes = tt
 moves_may layout b m (Some o) (Some k) r w h = record { opens = w o h.0; closes = h.1.0 }
 
 -- a meter that is out has no channel, so none is hindered or let by it
-can_close_in : (bays : Layout) (out : List (Option Ticket)) (h : length out ≡ length bays) (b : Channels) (c : Channel) → CanClose (layout_with bays out) b c
-    → CanClose bays b c
+can_close_in : (bays : Layout) (out : List (Option Ticket)) (h : length out ≡ length bays) (b : Channels) (c : Channel) → CanCloseOne (layout_with bays out) b c
+    → CanCloseOne bays b c
 can_close_in bays out h b c k = record {
   present = sym (present_with bays out h c) ∙ k.present;
   was_open = k.was_open;
@@ -111,7 +111,7 @@ pub may_move_in : (bays : Layout) (out : List (Option Ticket)) (h : length out �
     → MayMove (layout_with bays out) b o k → MayMove bays b o k
 may_move_in bays out h b o k m = record { opens = m.opens; closes = may_close_in bays out h (effect b (opens_of o)) k m.closes }
 
-module _ (layout : Layout) (closed : Channels) (s : Setup) (i : ℕ) (w : HasDone layout closed s i) where
+module _ (layout : Layout) (closed : Channels) (s : SettingsSeen) (i : ℕ) (w : HasDone layout closed s i) where
   pub right_here : AllRight layout closed (effect none (take i (agenda s))) (drop i (agenda s))
   right_here =
       let all : AllRight layout w.found none (take i (agenda s) ++ drop i (agenda s)) =
@@ -150,5 +150,6 @@ module _ (layout : Layout) (closed : Channels) (s : Setup) (i : ℕ) (w : HasDon
     so_far = w.so_far ∙ sym (effect-append w.found (take i (agenda s)) (Awaits x ∷ [])) ∙ ap (effect w.found) (sym (take_past s i x e));
   }
 
-pub on_way_like : (layout layout' : Layout) (b b' : Channels) (s : Setup) (i : ℕ) → layout' ≡ layout → b' ≡ b → HasDone layout b s i → HasDone layout' b' s i
+pub on_way_like : (layout layout' : Layout) (b b' : Channels) (s : SettingsSeen) (i : ℕ) → layout' ≡ layout → b' ≡ b → HasDone layout b s i
+    → HasDone layout' b' s i
 on_way_like layout layout' b b' s i e f w = subst (λ (l : Layout). HasDone l b' s i) (sym e) (subst (λ (x : Channels). HasDone layout x s i) (sym f) w)

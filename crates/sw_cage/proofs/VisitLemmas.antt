@@ -4,7 +4,7 @@ use Rattle.sw_base.specs.declared.terms.LayerName.{LayerName}
 use Rattle.sw_base.specs.declared.terms.LayerName.TheVariants.{Arm1, Arm2, Trigger}
 use Rattle.sw_trigger.specs.declared.layer.Awaited.{Awaited}
 use Rattle.sw_trigger.specs.declared.layer.Layer.{Layer}
-use Rattle.sw_trigger.specs.Settings.{Setup}
+use Rattle.sw_trigger.specs.Settings.{SettingsSeen}
 use Rattle.sw_trigger.specs.Agenda.{Item, Awaits, Close, Open, repeated, head_of, channel_at, visit, pass_of, passes, arm_turn, arm_turns, agenda}
 use Rattle.sw_trigger.proofs.Awaiting.{agenda_is}
 use Rattle.sw_cage.specs.Advance.{first_awaited}
@@ -30,7 +30,7 @@ visits-awaits : (l : List Awaited) → AreVisits (map Awaits l)
 visits-awaits [] = tt
 visits-awaits (x ∷ l) = visits-awaits l
 
-visits-passes : (s : Setup) (k n : ℕ) → AreVisits (passes s k n)
+visits-passes : (s : SettingsSeen) (k n : ℕ) → AreVisits (passes s k n)
 visits-passes s k zero = tt
 visits-passes s k (suc n) =
     visits-append (pass_of s k) (passes s (suc k) n)
@@ -41,7 +41,7 @@ visits-arm_turns : (name : LayerName) (l : Layer) (inside : List Item) → AreVi
 visits-arm_turns name l inside f =
     visits-repeated l.count (arm_turn name l inside) (visits-append (map Awaits (head_of name l)) inside (visits-awaits (head_of name l)) f)
 
-pub visits-agenda : (s : Setup) → 0 < length s.list → AreVisits (agenda s)
+pub visits-agenda : (s : SettingsSeen) → 0 < length s.list → AreVisits (agenda s)
 visits-agenda s h =
     subst AreVisits (sym (agenda_is s h))
     (visits-arm_turns Arm1 s.arm1 (arm_turns Arm2 s.arm2 (passes s 0 s.trigger.count))

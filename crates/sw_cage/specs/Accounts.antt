@@ -2,7 +2,7 @@
 use Rattle.std.specs.Prelude.{◌≡◌, ℕ, ◌-◌, ◌≤◌, Bool, false, List, length, map, Option, None, Some, slice_set}
 use Rattle.std.specs.Prelude.{if◌then◌else◌}
 use Rattle.sw_base.specs.Limits.{most_slots, most_channels}
-use Rattle.sw_base.specs.Layout.{Channel, Bay, relays, meter, Layout, slot_at, IsExclusive}
+use Rattle.sw_base.specs.Layout.{Channel, SlotContents, relays, meter, Layout, slot_at, IsExclusive}
 use Rattle.sw_card.specs.Account.{Account, is_meter, closed_at, with_set, at_rest, IsFault}
 
 -- what the slots hold, from slot 1 on
@@ -18,10 +18,10 @@ option_account (Some card) = Some card.1
 abbrev pub accounts_of : {C : Type 0} → List (Option (C × Account)) → Accounts
 accounts_of slots = map option_account slots
 
-abbrev pub card_contents : Account → Bay
+abbrev pub card_contents : Account → SlotContents
 card_contents a = if is_meter a then meter else relays a.groups
 
-abbrev pub slot_contents : Option Account → Option Bay
+abbrev pub slot_contents : Option Account → Option SlotContents
 slot_contents None = None
 slot_contents (Some a) = Some (card_contents a)
 

@@ -2,7 +2,7 @@
 use Rattle.std.specs.Prelude.{ℕ, ◌+◌, List, [], ◌∷◌, length, drop, Option, Some, None}
 use Rattle.sw_base.specs.Layout.{Channel}
 use Rattle.sw_trigger.specs.declared.layer.Awaited.{Awaited}
-use Rattle.sw_trigger.specs.Settings.{Setup}
+use Rattle.sw_trigger.specs.Settings.{SettingsSeen}
 use Rattle.sw_trigger.specs.Agenda.{Item, Awaits, Close, Open, agenda}
 use Rattle.sw_cage.specs.Cage.{ScanSeen}
 
@@ -29,11 +29,11 @@ closes_of None = []
 closes_of (Some c) = Close c ∷ []
 
 -- what is done from item i on, before the next awaiting item
-abbrev pub moves_from : Setup → ℕ → List Item
+abbrev pub moves_from : SettingsSeen → ℕ → List Item
 moves_from s i = leading_moves (drop i (agenda s))
 
 -- the first awaiting item from item i on, or the agenda's end
-abbrev pub next_place : Setup → ℕ → ScanSeen
+abbrev pub next_place : SettingsSeen → ℕ → ScanSeen
 next_place s i = record { setup = s; index = i + length (moves_from s i) }
 
 -- what a scan awaits; nothing, where it is over

@@ -1,15 +1,15 @@
 -- The cage as plain data.
 use Rattle.std.specs.Prelude.{ℕ, List, [], ◌∷◌, Option, None, Some, replicate}
 use Rattle.sw_base.specs.Limits.{most_slots}
-use Rattle.sw_base.specs.Layout.{Bay, meter, Layout}
+use Rattle.sw_base.specs.Layout.{SlotContents, meter, Layout}
 use Rattle.sw_base.specs.declared.reading.Reading.{Reading}
-use Rattle.sw_trigger.specs.Settings.{Setup}
+use Rattle.sw_trigger.specs.Settings.{SettingsSeen}
 use Rattle.sw_cage.specs.Accounts.{Accounts, layout_of, all_open}
 use Rattle.sw_cage.specs.declared.job.Ticket.{Ticket}
 
 -- a scan's settings, and the item of its agenda that it awaits
 pub record ScanSeen : Type 0 where
-  pub setup : Setup
+  pub setup : SettingsSeen
   pub index : ℕ
 
 -- what is seen of a cage: the cards in their slots, by slot the ticket under which its meter is out, the number of
@@ -31,15 +31,15 @@ empty_cage = record {
   readings = [];
 }
 
-abbrev pub with_cards : CageSeen → Accounts → CageSeen
-with_cards p rack = record p { cards = rack }
+abbrev pub cage_with_cards : CageSeen → Accounts → CageSeen
+cage_with_cards p rack = record p { cards = rack }
 
 -- no scan runs, and every relay is open
 abbrev pub safe_state : CageSeen → CageSeen
 safe_state p = record p { cards = all_open p.cards; scan = None }
 
 -- what a slot holds, where a meter that is out counts as its slot's
-abbrev pub or_meter : Option Bay → Option Ticket → Option Bay
+abbrev pub or_meter : Option SlotContents → Option Ticket → Option SlotContents
 or_meter (Some bay) t = Some bay
 or_meter None None = None
 or_meter None (Some t) = Some meter

@@ -4,7 +4,7 @@ use Rattle.sw_base.specs.Limits.{most_slots}
 use Rattle.sw_base.specs.Layout.{Layout, slot_at, has_meter}
 use Rattle.sw_trigger.specs.declared.layer.Awaited.{Awaited}
 use Rattle.sw_trigger.specs.declared.layer.Awaited.TheVariants.{Wait, Pause, Read}
-use Rattle.sw_trigger.specs.Settings.{Setup, IsInRange}
+use Rattle.sw_trigger.specs.Settings.{SettingsSeen, IsInRange}
 use Rattle.sw_trigger.specs.Agenda.{agenda}
 use Rattle.sw_trigger.specs.Counts.{reads}
 use Rattle.sw_verify.specs.Channels.{Channels}
@@ -15,7 +15,7 @@ use Rattle.sw_cage.specs.Advance.{awaits}
 use Rattle.sw_cage.specs.declared.job.Ticket.{Ticket}
 
 -- A sound scan has done the items before this one: from some channels that it found closed it has come to these.
-pub record HasDone (layout : Layout) (closed : Channels) (s : Setup) (index : ℕ) : Type 0 where
+pub record HasDone (layout : Layout) (closed : Channels) (s : SettingsSeen) (index : ℕ) : Type 0 where
   pub found : Channels
   pub sound : IsSound layout found s.points (agenda s)
   pub so_far : closed ≡ effect found (take index (agenda s))

@@ -2,7 +2,7 @@
 use Rattle.std.specs.Prelude.{◌≡◌, true, map, Option, Some, None}
 use Rattle.sw_base.specs.Layout.{Channel, Layout}
 use Rattle.sw_verify.specs.Channels.{Channels}
-use Rattle.sw_verify.specs.Sound.{CanClose, effect}
+use Rattle.sw_verify.specs.Sound.{CanCloseOne, effect}
 use Rattle.sw_cage.specs.Accounts.{Accounts}
 use Rattle.sw_cage.specs.Change.{RelayFailed, identity}
 use Rattle.sw_cage.specs.Advance.{opens_of}
@@ -13,7 +13,7 @@ MayOpenNext closed (Some c) = closed c ≡ true
 
 abbrev pub MayCloseNext : Layout → Channels → Option Channel → Type 0
 MayCloseNext layout closed None = Unit {0}
-MayCloseNext layout closed (Some c) = CanClose layout closed c
+MayCloseNext layout closed (Some c) = CanCloseOne layout closed c
 
 -- the one may be opened, and the other closed after that
 pub record MayMove (layout : Layout) (closed : Channels) (to_open to_close : Option Channel) : Type 0 where

@@ -8,7 +8,7 @@ use Rattle.sw_base.specs.declared.reading.Reading.{Reading}
 use Rattle.sw_card.specs.declared.board.CardFault.{CardFault}
 use Rattle.sw_card.specs.Account.{of_meter}
 use Rattle.sw_trigger.specs.declared.layer.Awaited.TheVariants.{Wait, Pause, Read}
-use Rattle.sw_trigger.specs.Settings.{Setup}
+use Rattle.sw_trigger.specs.Settings.{SettingsSeen}
 use Rattle.sw_trigger.specs.Agenda.{Item}
 use Rattle.sw_verify.specs.Sound.{effect}
 use Rattle.sw_cage.specs.Accounts.{Accounts, is_closed, all_open}
@@ -86,7 +86,7 @@ AdvancesOrFails old number moves at (SaysJob job) new scan = Reaches old number 
 AdvancesOrFails old number moves at SaysEnded new scan = Reaches old number moves at SaysEnded new scan
 
 -- From item i of the settings' agenda the scan goes on to the next awaiting item, and tells what it awaits there.
-pub record Advances (p : CageSeen) (s : Setup) (i : ℕ) (told : TakenSeen) (q : CageSeen) : Type 0 where
+pub record Advances (p : CageSeen) (s : SettingsSeen) (i : ℕ) (told : TakenSeen) (q : CageSeen) : Type 0 where
   pub runs : AdvancesOrFails (occupancy_of p) p.number (moves_from s i) (next_place s i) told (occupancy_of q) q.scan
   pub number : q.number ≡ p.number
   pub readings : q.readings ≡ p.readings

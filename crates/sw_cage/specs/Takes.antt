@@ -5,7 +5,7 @@ use Rattle.sw_base.specs.declared.terms.Source.TheVariants as source
 use Rattle.sw_base.specs.declared.terms.LayerName.{LayerName}
 use Rattle.sw_trigger.specs.declared.layer.Awaited.{Awaited}
 use Rattle.sw_trigger.specs.declared.layer.Awaited.TheVariants.{Wait, Pause, Read}
-use Rattle.sw_trigger.specs.Settings.{Setup, layer_of}
+use Rattle.sw_trigger.specs.Settings.{SettingsSeen, layer_of}
 use Rattle.sw_trigger.specs.Counts.{is_reading}
 use Rattle.sw_cage.specs.Cage.{ScanSeen, CageSeen, ticket_of}
 use Rattle.sw_cage.specs.Advance.{awaits}
@@ -14,7 +14,7 @@ use Rattle.sw_cage.specs.declared.taken.Happening.{Happening}
 use Rattle.sw_cage.specs.declared.taken.Happening.TheVariants.{Bus, External, Signal, Elapsed}
 
 -- a wait of the layer takes the happening
-abbrev pub TakesWait : Setup → LayerName → Happening → Type 0
+abbrev pub TakesWait : SettingsSeen → LayerName → Happening → Type 0
 TakesWait s name Bus = (layer_of s name).source ≡ source.Bus
 TakesWait s name External = (layer_of s name).source ≡ source.External
 TakesWait s name (Signal signalled) = name ≡ signalled
@@ -28,12 +28,12 @@ TakesPause present (Signal signalled) = ⊥
 TakesPause present (Elapsed ticket) = present ≡ ticket
 
 -- what awaits this takes the happening, under the ticket that is present
-abbrev pub TakesAt : Setup → Ticket → Awaited → Happening → Type 0
+abbrev pub TakesAt : SettingsSeen → Ticket → Awaited → Happening → Type 0
 TakesAt s present (Wait name) happening = TakesWait s name happening
 TakesAt s present (Pause micros) happening = TakesPause present happening
 TakesAt s present Read happening = ⊥
 
-abbrev pub TakesIf : Setup → Ticket → Option Awaited → Happening → Type 0
+abbrev pub TakesIf : SettingsSeen → Ticket → Option Awaited → Happening → Type 0
 TakesIf s present None happening = ⊥
 TakesIf s present (Some what) happening = TakesAt s present what happening
 

@@ -10,7 +10,7 @@ ghost use Rattle.sw_cage.specs.Change.{Sets, IsDisturbed, any_failed};
 ghost use Rattle.sw_cage.specs.Install.{CanInstall, RefusesInstall, RefusesEject, stopped, without_card};
 ghost use Rattle.sw_cage.specs.Close.{all_present, CanClose, RefusesClose};
 ghost use Rattle.sw_cage.specs.Channels.{closed_list};
-ghost use Rattle.sw_cage.specs.Cage.{empty_cage, with_cards, safe_state, cage_layout};
+ghost use Rattle.sw_cage.specs.Cage.{empty_cage, cage_with_cards, safe_state, cage_layout};
 ghost use Rattle.sw_code.specs.Compiled.{compiled};
 ghost use Rattle.sw_verify.specs.Check.{IsReady};
 ghost use Rattle.sw_cage.specs.Work.{IsTold};
@@ -169,7 +169,7 @@ impl<R: Relay, M: Meter> Cage<R, M> {
         ensures err { OnErr result (IsChannelFault self.old.cards chan (with_chan self.old.cards chan true)
             self.new.cards) }
         ensures disturbed { OnErr result (IsDisturbed self.old.cards (chan ∷ []) self.new.cards) }
-        ensures rest { self.new ≡ with_cards self.old self.new.cards }
+        ensures rest { self.new ≡ cage_with_cards self.old self.new.cards }
     {
         self.slots.close(chan)
     }
@@ -181,7 +181,7 @@ impl<R: Relay, M: Meter> Cage<R, M> {
         ensures ok { OnOk result (Sets self.old.cards (chan ∷ []) false self.new.cards) }
         ensures err { OnErr result (IsChannelFault self.old.cards chan self.old.cards self.new.cards) }
         ensures disturbed { OnErr result (IsDisturbed self.old.cards (chan ∷ []) self.new.cards) }
-        ensures rest { self.new ≡ with_cards self.old self.new.cards }
+        ensures rest { self.new ≡ cage_with_cards self.old self.new.cards }
     {
         self.slots.open(chan)
     }
@@ -230,7 +230,7 @@ impl<R: Relay, M: Meter> Cage<R, M> {
         requires apart { CanClose (layout_of self.old.cards) (is_closed self.old.cards) chans.now }
         ensures ok { OnOk result (Sets self.old.cards chans.now true self.new.cards) }
         ensures err { OnErr result (IsDisturbed self.old.cards chans.now self.new.cards) }
-        ensures rest { self.new ≡ with_cards self.old self.new.cards }
+        ensures rest { self.new ≡ cage_with_cards self.old self.new.cards }
     {
         self.slots.close_listed(chans)
     }
@@ -240,7 +240,7 @@ impl<R: Relay, M: Meter> Cage<R, M> {
         requires idle { self.old.scan ≡ None }
         ensures ok { OnOk result (Sets self.old.cards chans.now false self.new.cards) }
         ensures err { OnErr result (IsDisturbed self.old.cards chans.now self.new.cards) }
-        ensures rest { self.new ≡ with_cards self.old self.new.cards }
+        ensures rest { self.new ≡ cage_with_cards self.old self.new.cards }
     {
         self.slots.open_listed(chans)
     }

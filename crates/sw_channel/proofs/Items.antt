@@ -4,7 +4,7 @@ use Rattle.std.specs.Prelude.{◌↔◌}
 use Rattle.std.proofs.lemmas.List.{append_cancel_right}
 use Rattle.sw_base.specs.Text.{Lacks}
 use Rattle.sw_base.proofs.Runs.{Lacks-none}
-use Rattle.sw_channel.specs.Grammar.{WrittenChannel, plain, pair, Item, one, range, IsPadded, IsChannel, IsItem, IsItems, IsList}
+use Rattle.sw_channel.specs.Grammar.{WrittenChannel, plain, pair, ListItem, one, range, IsPadded, IsChannel, IsItem, IsItems, IsList}
 use Rattle.sw_channel.proofs.Marks.{IsMark, number_lacks, one_number, joined_none, joined_cut, joined_lacks}
 
 bang : IsMark 33
@@ -57,26 +57,27 @@ no_colon text w p = channel_lacks 58 colon (refl, tt) text w p
 no_comma : (text : List ℕ) (w : WrittenChannel) → IsChannel text w → Lacks 44 text
 no_comma text w p = channel_lacks 44 comma (refl, tt) text w p
 
-pub item_whole : (text : List ℕ) → Lacks 58 text → (i : Item) → IsItem text i → (w : WrittenChannel) × (i ≡ one w) × IsChannel text w
+pub item_whole : (text : List ℕ) → Lacks 58 text → (i : ListItem) → IsItem text i → (w : WrittenChannel) × (i ≡ one w) × IsChannel text w
 item_whole text h (one w) p = (w, refl, p)
 item_whole text h (range v w) p = absurd (joined_none h p)
 
-pub item_cut : (text left right : List ℕ) → Lacks 58 left → text ≡ left ++ 58 ∷ right → (i : Item) → IsItem text i → (v w : WrittenChannel) × (i ≡ range v w)
+pub item_cut : (text left right : List ℕ) → Lacks 58 left → text ≡ left ++ 58 ∷ right → (i : ListItem) → IsItem text i
+    → (v w : WrittenChannel) × (i ≡ range v w)
     × IsChannel left v × IsChannel right w
 item_cut text left right h e (one w) p = absurd (Lacks-none 58 left right (subst (Lacks 58) e (no_colon text w p)))
 item_cut text left right h e (range v w) p = let r = joined_cut (λ t. no_colon t v) h e p in (v, w, refl, r.0, r.1)
 
 pub item_stop : (text left right : List ℕ) → Lacks 58 left → text ≡ left ++ 58 ∷ right → ((w : WrittenChannel) → IsChannel left w → ⊥)
-    ⊎ ((w : WrittenChannel) → IsChannel right w → ⊥) → (i : Item) → IsItem text i → ⊥
+    ⊎ ((w : WrittenChannel) → IsChannel right w → ⊥) → (i : ListItem) → IsItem text i → ⊥
 item_stop text left right h e none i p =
     let r = item_cut text left right h e i p in
     elim none [ inl f ↦ f r.0 r.3 | inr f ↦ f r.1 r.4 ]
 
-item_lacks : (text : List ℕ) (i : Item) → IsItem text i → Lacks 44 text
+item_lacks : (text : List ℕ) (i : ListItem) → IsItem text i → Lacks 44 text
 item_lacks text (one w) p = no_comma text w p
 item_lacks text (range v w) p = joined_lacks 44 refl (λ t. no_comma t v) (λ t. no_comma t w) p
 
-pub one_item : (text : List ℕ) (i j : Item) → IsItem text i → IsItem text j → i ≡ j
+pub one_item : (text : List ℕ) (i j : ListItem) → IsItem text i → IsItem text j → i ≡ j
 one_item text (one w) j p q =
     let r = item_whole text (no_colon text w p) j q in
     ap one (one_channel text w r.0 p r.2) ∙ sym r.1
@@ -88,36 +89,39 @@ one_item text (range v w) j p q =
 
 -- ---- items and commas
 
-pub items_last : (text : List ℕ) → Lacks 44 text → (is : List Item) → IsItems text is → (i : Item) × (is ≡ i ∷ []) × IsItem text i
+pub items_last : (text : List ℕ) → Lacks 44 text → (is : List ListItem) → IsItems text is → (i : ListItem) × (is ≡ i ∷ []) × IsItem text i
 items_last text h [] p = absurd p
 items_last text h (i ∷ []) p = (i, refl, p)
 items_last text h (i ∷ j ∷ is) p = absurd (joined_none h p)
 
-pub items_cut : (text left right : List ℕ) → Lacks 44 left → text ≡ left ++ 44 ∷ right → (is : List Item) → IsItems text is → (i : Item) × (js : List Item)
+pub items_cut : (text left right : List ℕ) → Lacks 44 left → text ≡ left ++ 44 ∷ right → (is : List ListItem) → IsItems text is
+    → (i : ListItem) × (js : List ListItem)
     × (is ≡ i ∷ js) × IsItem left i × IsItems right js
 items_cut text left right h e [] p = absurd p
 items_cut text left right h e (i ∷ []) p = absurd (Lacks-none 44 left right (subst (Lacks 44) e (item_lacks text i p)))
 items_cut text left right h e (i ∷ j ∷ is) p = let r = joined_cut (λ t. item_lacks t i) h e p in (i, j ∷ is, refl, r.0, r.1)
 
-pub items_join : (text left right : List ℕ) (i : Item) (is : List Item) → text ≡ left ++ 44 ∷ right → IsItem left i → IsItems right is → IsItems text (i ∷ is)
+pub items_join : (text left right : List ℕ) (i : ListItem) (is : List ListItem) → text ≡ left ++ 44 ∷ right → IsItem left i → IsItems right is
+    → IsItems text (i ∷ is)
 items_join text left right i [] e p q = absurd q
 items_join text left right i (j ∷ is) e p q = record { left = left; right = right; first = p; second = q; whole = e }
 
 -- whether the rest is items and commas, after one item
-pub items_more : (text left right : List ℕ) → Lacks 44 left → text ≡ left ++ 44 ∷ right → (i : Item) → IsItem left i → ((is : List Item) × IsItems text is)
-    ↔ ((is : List Item) × IsItems right is)
+pub items_more : (text left right : List ℕ) → Lacks 44 left → text ≡ left ++ 44 ∷ right → (i : ListItem) → IsItem left i
+    → ((is : List ListItem) × IsItems text is)
+    ↔ ((is : List ListItem) × IsItems right is)
 items_more text left right h e i p =
     (λ x. let r = items_cut text left right h e x.0 x.1 in (r.1, r.4), λ x. (i ∷ x.0, items_join text left right i x.0 e p x.1))
 
-pub items_stop : (text left right : List ℕ) → Lacks 44 left → text ≡ left ++ 44 ∷ right → ((i : Item) → IsItem left i → ⊥)
-    → ((is : List Item) × IsItems text is) → ⊥
+pub items_stop : (text left right : List ℕ) → Lacks 44 left → text ≡ left ++ 44 ∷ right → ((i : ListItem) → IsItem left i → ⊥)
+    → ((is : List ListItem) × IsItems text is) → ⊥
 items_stop text left right h e none x = let r = items_cut text left right h e x.0 x.1 in none r.0 r.3
 
-pub one_items : (text : List ℕ) (is js : List Item) → IsItems text is → IsItems text js → is ≡ js
+pub one_items : (text : List ℕ) (is js : List ListItem) → IsItems text is → IsItems text js → is ≡ js
 one_items text [] js p q = absurd p
 one_items text (i ∷ []) js p q =
     let r = items_last text (item_lacks text i p) js q in
-    ap (λ (k : Item). k ∷ []) (one_item text i r.0 p r.2) ∙ sym r.1
+    ap (λ (k : ListItem). k ∷ []) (one_item text i r.0 p r.2) ∙ sym r.1
 one_items text (i ∷ j ∷ is) js p q =
     let r = items_cut text p.left p.right (item_lacks p.left i p.first) p.whole js q in
     let x : i ≡ r.0 = one_item p.left i r.0 p.first r.3 in
@@ -127,11 +131,11 @@ one_items text (i ∷ j ∷ is) js p q =
 -- ---- lists
 
 -- a list's body is what stands between its brackets
-pub list_body : (body text : List ℕ) (is : List Item) → text ≡ 40 ∷ 64 ∷ (body ++ 41 ∷ []) → IsList text is → IsItems body is
+pub list_body : (body text : List ℕ) (is : List ListItem) → text ≡ 40 ∷ 64 ∷ (body ++ 41 ∷ []) → IsList text is → IsItems body is
 list_body body text is e p =
     let k : 40 ∷ 64 ∷ (p.0 ++ 41 ∷ []) ≡ 40 ∷ 64 ∷ (body ++ 41 ∷ []) = sym p.2 ∙ e in
     let m : p.0 ++ 41 ∷ [] ≡ body ++ 41 ∷ [] = cc in
     subst (λ (t : List ℕ). IsItems t is) (append_cancel_right p.0 body (41 ∷ []) m) p.1
 
-pub one_list : (text : List ℕ) (is js : List Item) → IsList text is → IsList text js → is ≡ js
+pub one_list : (text : List ℕ) (is js : List ListItem) → IsList text is → IsList text js → is ≡ js
 one_list text is js p q = one_items p.0 is js p.1 (list_body p.0 text js p.2 q)

@@ -11,10 +11,10 @@ use Rattle.sw_base.specs.Layout.{Channel}
 use Rattle.sw_base.specs.Memory.{Gives}
 use Rattle.sw_base.specs.declared.error.ScpiError.{ScpiError}
 use Rattle.sw_base.specs.declared.error.ScpiError.TheVariants.{InvalidExpression, DataOutOfRange, OutOfMemory, TooMuchData}
-use Rattle.sw_channel.specs.Grammar.{Item, IsItems, IsList}
+use Rattle.sw_channel.specs.Grammar.{ListItem, IsItems, IsList}
 use Rattle.sw_channel.specs.Meaning.{channels_of, channels_between, count_between, towards, Mean, Spells, judged, judged_with}
 use Rattle.sw_channel.specs.Reading.{IsNoList, IsRefusedList, Reads}
-use Rattle.sw_channel.specs.Seen.{channels_in, MeansRun, LeadsTo, Gathers}
+use Rattle.sw_channel.specs.Seen.{channels_in, MeansRun, LeadsTo, GathersChannels}
 use Rattle.sw_channel.specs.declared.run.Run.{Run}
 use Rattle.sw_channel.specs.declared.collect.Found.{Found}
 use Rattle.sw_channel.proofs.Items.{one_list, list_body}
@@ -37,7 +37,7 @@ ok_step front all (Some c) rest e =
       | inr t ↦ absurd (let k = rw t at e in cc)
     ]
 
-pub judged_ok : (front all : List Channel) (is : List Item) → judged front is ≡ Ok all → length front ≤ 512 → (cs : List Channel) × (all ≡ front ++ cs)
+pub judged_ok : (front all : List Channel) (is : List ListItem) → judged front is ≡ Ok all → length front ≤ 512 → (cs : List Channel) × (all ≡ front ++ cs)
     × Mean is cs × (length all ≤ 512)
 judged_ok front all [] e h =
     let k : front ≡ all = okay front all e in
@@ -47,7 +47,7 @@ judged_ok front all (i ∷ is) e h =
     let r = judged_ok (front ++ s.0) all is s.3 (omega (arith, length-append front s.0, s.2)) in
     (s.0 ++ r.0, r.1 ∙ append_assoc front s.0 r.0, (s.0, r.0, s.1, r.2, refl), r.3)
 
-pub ok_judged : (front cs : List Channel) (is : List Item) → Mean is cs → length (front ++ cs) ≤ 512 → judged front is ≡ Ok (front ++ cs)
+pub ok_judged : (front cs : List Channel) (is : List ListItem) → Mean is cs → length (front ++ cs) ≤ 512 → judged front is ≡ Ok (front ++ cs)
 ok_judged front cs [] m h = ap Ok (sym (append-nil front) ∙ ap (λ (x : List Channel). front ++ x) (sym m))
 ok_judged front cs (i ∷ is) m h =
     let whole : (front ++ m.0) ++ m.1 ≡ front ++ cs = append_assoc front m.0 m.1 ∙ ap (λ (x : List Channel). front ++ x) (sym m.4) in
@@ -65,12 +65,12 @@ err_step front (Some c) rest f e =
       | inr t ↦ let k = rw t at e in cc
     ]
 
-pub judged_err : (front : List Channel) (is : List Item) → judged front is ≡ Err InvalidExpression → ⊥
+pub judged_err : (front : List Channel) (is : List ListItem) → judged front is ≡ Err InvalidExpression → ⊥
 judged_err front [] e = cc
 judged_err front (i ∷ is) e = err_step front (channels_of i) (λ more. judged more is) (λ more. judged_err more is) e
 
 -- the channels of the first item, and what judging the rest gives
-pub ok_item : (front all : List Channel) (i : Item) (is : List Item) → judged front (i ∷ is) ≡ Ok all → (cs : List Channel) × (channels_of i ≡ Some cs)
+pub ok_item : (front all : List Channel) (i : ListItem) (is : List ListItem) → judged front (i ∷ is) ≡ Ok all → (cs : List Channel) × (channels_of i ≡ Some cs)
     × (length front + length cs ≤ 512) × (judged (front ++ cs) is ≡ Ok all)
 ok_item front all i is e = ok_step front all (channels_of i) (λ more. judged more is) e
 
@@ -81,7 +81,7 @@ ok_last front all e = okay front all e
 
 -- what a text gives, with any memory
 abbrev Gives-whole : List ℕ → Result (List Channel) ScpiError → Type 0
-Gives-whole text r = (IsNoList text × (r ≡ Err InvalidExpression)) ⊎ ((is : List Item) × IsList text is × (judged [] is ≡ r))
+Gives-whole text r = (IsNoList text × (r ≡ Err InvalidExpression)) ⊎ ((is : List ListItem) × IsList text is × (judged [] is ≡ r))
 
 given_once : (text : List ℕ) (r s : Result (List Channel) ScpiError) → Gives-whole text r → Gives-whole text s → r ≡ s
 given_once text r s x y =
@@ -89,7 +89,7 @@ given_once text r s x y =
       | inl a ↦ elim y [ inl b ↦ a.1 ∙ sym b.1 | inr b ↦ absurd (a.0 b.0 b.1) ]
       | inr a ↦ elim y [
         | inl b ↦ absurd (b.0 a.0 a.1)
-        | inr b ↦ sym a.2 ∙ ap (λ (is : List Item). judged [] is) (one_list text a.0 b.0 a.1 b.1) ∙ b.2
+        | inr b ↦ sym a.2 ∙ ap (λ (is : List ListItem). judged [] is) (one_list text a.0 b.0 a.1 b.1) ∙ b.2
       ]
     ]
 
@@ -145,7 +145,7 @@ pub only_by : {X : Type 0} (view : X → List Channel) (r : Result X ScpiError) 
 only_by view r text h cs s k = gives_by view r text h (Ok cs) (of_spelled text cs s k)
 
 pub judged_by : {X : Type 0} (view : X → List Channel) (r : Result X ScpiError) (text : List ℕ) → Reads text (result_map_both view (λ e. e) r)
-    → (is : List Item) → IsList text is → Gives view r (judged [] is)
+    → (is : List ListItem) → IsList text is → Gives view r (judged [] is)
 judged_by view r text h is l = gives_by view r text h (judged [] is) (inr (is, l, refl))
 
 no_list : (text : List ℕ) → IsRefusedList text InvalidExpression → IsNoList text
@@ -166,11 +166,11 @@ malformed_by view (Err e) text h k =
 pub length-between : (slot first last : ℕ) → length (channels_between slot first last) ≡ count_between first last
 length-between slot first last = length-map-range_with_len (λ k. (slot, towards first last k)) 0 (count_between first last)
 
-pub leads_none : (f : Found) (i : Item) (is : List Item) (all : Result (List Channel) ScpiError) → MeansRun i None → LeadsTo (Ok f) (i ∷ is) all
+pub leads_none : (f : Found) (i : ListItem) (is : List ListItem) (all : Result (List Channel) ScpiError) → MeansRun i None → LeadsTo (Ok f) (i ∷ is) all
     → all ≡ Err DataOutOfRange
 leads_none f i is all e h = let k = rw e at h.3 in sym k
 
-pub leads_fits : (f g : Found) (i : Item) (is : List Item) (all : Result (List Channel) ScpiError) (run : Run) (more : ℕ)
+pub leads_fits : (f g : Found) (i : ListItem) (is : List ListItem) (all : Result (List Channel) ScpiError) (run : Run) (more : ℕ)
     → MeansRun i (Some run) → more ≡ count_between run.first.1 run.last.1 → f.count ≤ 512 - more → more ≤ 99 → g.count ≡ f.count + more
     → ((front : List Channel) → IfOk f.chans (λ v. v.items ≡ front) → IfOk g.chans (λ v. v.items ≡ front ++ channels_in run))
     → LeadsTo (Ok f) (i ∷ is) all → LeadsTo (Ok g) is all
@@ -180,7 +180,7 @@ leads_fits f g i is all run more e m h k n c x =
     let y = rw (e, room) at x.3 in
     (x.0 ++ channels_in run, omega (arith, length-append x.0 (channels_in run), l, m, n, x.1), c x.0 x.2, y)
 
-pub leads_full : (f : Found) (i : Item) (is : List Item) (all : Result (List Channel) ScpiError) (run : Run) (more : ℕ)
+pub leads_full : (f : Found) (i : ListItem) (is : List ListItem) (all : Result (List Channel) ScpiError) (run : Run) (more : ℕ)
     → MeansRun i (Some run) → more ≡ count_between run.first.1 run.last.1 → 512 - more < f.count → LeadsTo (Ok f) (i ∷ is) all
     → all ≡ Err TooMuchData
 leads_full f i is all run more e m h x =
@@ -188,19 +188,20 @@ leads_full f i is all run more e m h x =
     let full : nat_le (length x.0 + length (channels_in run)) 512 ≡ false = lt-leb _ _ (omega (arith, h, m, x.1, l)) in
     let y = rw (e, full) at x.3 in sym y
 
-items_spelled : (text body : List ℕ) (is : List Item) (cs : List Channel) → text ≡ 40 ∷ 64 ∷ (body ++ 41 ∷ []) → IsItems body is → judged [] is ≡ Ok cs
+items_spelled : (text body : List ℕ) (is : List ListItem) (cs : List Channel) → text ≡ 40 ∷ 64 ∷ (body ++ 41 ∷ []) → IsItems body is → judged [] is ≡ Ok cs
     → Spells text cs × (length cs ≤ 512)
 items_spelled text body is cs t h e =
     let j = judged_ok [] cs is e (lit≤ tt) in
     ((is, (body, h, t), subst (λ (ds : List Channel). Mean is ds) (sym j.1) j.2), j.3)
 
-due_read : (text body : List ℕ) (is : List Item) (r : Result (List Channel) ScpiError) → text ≡ 40 ∷ 64 ∷ (body ++ 41 ∷ []) → IsItems body is → r ≡ judged [] is
+due_read : (text body : List ℕ) (is : List ListItem) (r : Result (List Channel) ScpiError) → text ≡ 40 ∷ 64 ∷ (body ++ 41 ∷ []) → IsItems body is
+    → r ≡ judged [] is
     → Reads text r
 due_read text body is (Ok cs) t h e = items_spelled text body is cs t h (sym e)
 due_read text body is (Err d) t h e = inl (inr (is, (body, h, t), sym e))
 
 -- what stands between the brackets is read as the list is
-pub items_read : (text body : List ℕ) (r : Result (List Channel) ScpiError) → text ≡ 40 ∷ 64 ∷ (body ++ 41 ∷ []) → Gathers body r
+pub items_read : (text body : List ℕ) (r : Result (List Channel) ScpiError) → text ≡ 40 ∷ 64 ∷ (body ++ 41 ∷ []) → GathersChannels body r
     → Reads text r
 items_read text body r t h =
     elim h [

@@ -4,7 +4,7 @@ use Rattle.std.specs.Prelude.{◌==◌}
 use Rattle.std.proofs.lemmas.List.{append-nil}
 use Rattle.sw_base.specs.Text.{is_blank, is_digit, AllPass, Lacks, StartsOff, Spans}
 use Rattle.sw_base.proofs.Runs.{AllPass-append, AllPass-right, AllPass-weaker, one_span, digit-blank, blank-digit, lacks, Lacks-none, one_cut}
-use Rattle.sw_channel.specs.Grammar.{IsPadded, IsJoined}
+use Rattle.sw_channel.specs.Grammar.{IsPadded, IsMarkedPair}
 
 -- ---- numbers
 
@@ -59,19 +59,19 @@ number_lacks mark m text digits n =
 -- ---- two parts with a mark between them
 
 -- where the mark is missing
-pub joined_none : {mark : ℕ} {P Q : List ℕ → Type 0} {text : List ℕ} → Lacks mark text → IsJoined mark P Q text → ⊥
+pub joined_none : {mark : ℕ} {P Q : List ℕ → Type 0} {text : List ℕ} → Lacks mark text → IsMarkedPair mark P Q text → ⊥
 joined_none {mark} {P} {Q} {text} h j = Lacks-none mark j.left j.right (subst (Lacks mark) j.whole h)
 
 -- where the first part has no such mark, the first mark is the one between them
 pub joined_cut : {mark : ℕ} {P Q : List ℕ → Type 0} {text left right : List ℕ} → ((t : List ℕ) → P t → Lacks mark t) → Lacks mark left
-    → text ≡ left ++ mark ∷ right → IsJoined mark P Q text → P left × Q right
+    → text ≡ left ++ mark ∷ right → IsMarkedPair mark P Q text → P left × Q right
 joined_cut {mark} {P} {Q} {text} {left} {right} f h e j =
     let r = one_cut mark j.left j.right left right (f j.left j.first) h (sym j.whole ∙ e) in
     (subst P r.0 j.first, subst Q r.1 j.second)
 
 -- another mark that is missing in both parts
 pub joined_lacks : {mark : ℕ} {P Q : List ℕ → Type 0} {text : List ℕ} → (other : ℕ) → not (mark == other) ≡ true → ((t : List ℕ) → P t → Lacks other t)
-    → ((t : List ℕ) → Q t → Lacks other t) → IsJoined mark P Q text → Lacks other text
+    → ((t : List ℕ) → Q t → Lacks other t) → IsMarkedPair mark P Q text → Lacks other text
 joined_lacks {mark} {P} {Q} {text} other n f g j =
     let q : ℕ → Bool = λ b. not (b == other) in
     subst (AllPass q) (sym j.whole) (AllPass-append q j.left (mark ∷ j.right) (f j.left j.first) (n, g j.right j.second))

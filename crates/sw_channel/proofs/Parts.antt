@@ -7,8 +7,8 @@ use Rattle.std.proofs.lemmas.List.{append-nil}
 use Rattle.sw_base.specs.Text.{is_blank, is_digit, AllPass, StartsOff, Spans}
 use Rattle.sw_base.proofs.Runs.{one_span, digit-blank, blank-digit}
 use Rattle.sw_channel.specs.declared.run.Run.{Run}
-use Rattle.sw_channel.specs.Grammar.{WrittenChannel, plain, pair, Item, one, range, IsPadded, IsJoined, IsChannel, IsItem, IsItems}
-use Rattle.sw_channel.specs.Seen.{ends_number, ends_channel, ends_item, EndsBy, Leads, LeadsNone, MeansNumber, MeansRun}
+use Rattle.sw_channel.specs.Grammar.{WrittenChannel, plain, pair, ListItem, one, range, IsPadded, IsMarkedPair, IsChannel, IsItem, IsItems}
+use Rattle.sw_channel.specs.Seen.{ends_number, ends_channel, ends_item, EndsBy, LeadsPart, LeadsNone, MeansNumber, MeansRun}
 use Rattle.sw_channel.proofs.Items.{items_join, one_items}
 
 -- ---- numbers
@@ -48,7 +48,7 @@ digits_at text a r other tail e s p h w =
     (one_span is_blank text p.before (e ++ (p.after ++ tail)) a r f s).1
 
 pub number_leads : (text a r d m b rest : List ℕ) (number : Option ℕ) → Spans is_blank text a r → Spans is_digit r d m → Spans is_blank m b rest
-    → 0 < length d → MeansNumber d number → Leads IsPadded ends_number MeansNumber text number rest
+    → 0 < length d → MeansNumber d number → LeadsPart IsPadded ends_number MeansNumber text number rest
 number_leads text a r d m b rest number s t u h n = record {
   front = a ++ (d ++ b);
   written = d;
@@ -74,8 +74,8 @@ pub record IsForm {W V : Type 0} (P : List ℕ → W → Type 0) (Q : List ℕ �
   pub single : W → V
   pub double : W → W → V
   pub of_single : (text : List ℕ) (w : W) → P text w → Q text (single w)
-  pub of_double : (text : List ℕ) (x y : W) → IsJoined mark (λ t. P t x) (λ t. P t y) text → Q text (double x y)
-  pub cases : (text : List ℕ) (v : V) → Q text v → ((w : W) × P text w) ⊎ ((x : W) × (y : W) × IsJoined mark (λ t. P t x) (λ t. P t y) text)
+  pub of_double : (text : List ℕ) (x y : W) → IsMarkedPair mark (λ t. P t x) (λ t. P t y) text → Q text (double x y)
+  pub cases : (text : List ℕ) (v : V) → Q text v → ((w : W) × P text w) ⊎ ((x : W) × (y : W) × IsMarkedPair mark (λ t. P t x) (λ t. P t y) text)
   pub on : inner mark ≡ true
   pub off : outer mark ≡ false
   pub wider : (b : ℕ) → outer b ≡ true → inner b ≡ true
@@ -101,7 +101,7 @@ none_first {W} {V} {P} {Q} {mark} {inner} {outer} f text n = λ other tail v q e
     ]
 
 pub none_second : {W V M : Type 0} {P : List ℕ → W → Type 0} {Q : List ℕ → V → Type 0} {mark : ℕ} {inner outer : ℕ → Bool} {Means : W → M → Type 0}
-    → IsForm P Q mark inner outer → (text rest more : List ℕ) (m : M) → Leads P inner Means text m rest → rest ≡ mark ∷ more → LeadsNone P inner more
+    → IsForm P Q mark inner outer → (text rest more : List ℕ) (m : M) → LeadsPart P inner Means text m rest → rest ≡ mark ∷ more → LeadsNone P inner more
     → LeadsNone Q outer text
 none_second {W} {V} {M} {P} {Q} {mark} {inner} {outer} {Means} f text rest more m l r n = λ other tail v q e t.
     elim (f.cases other v q) [
@@ -114,8 +114,8 @@ none_second {W} {V} {M} {P} {Q} {mark} {inner} {outer} {Means} f text rest more 
     ]
 
 pub leads_single : {W V M N : Type 0} {P : List ℕ → W → Type 0} {Q : List ℕ → V → Type 0} {mark : ℕ} {inner outer : ℕ → Bool} {Means : W → M → Type 0}
-    {Meaning : V → N → Type 0} → (f : IsForm P Q mark inner outer) (text rest : List ℕ) (m : M) (n : N) → Leads P inner Means text m rest
-    → StartsOff (λ b. b == mark) rest → ((w : W) → Means w m → Meaning (f.single w) n) → Leads Q outer Meaning text n rest
+    {Meaning : V → N → Type 0} → (f : IsForm P Q mark inner outer) (text rest : List ℕ) (m : M) (n : N) → LeadsPart P inner Means text m rest
+    → StartsOff (λ b. b == mark) rest → ((w : W) → Means w m → Meaning (f.single w) n) → LeadsPart Q outer Meaning text n rest
 leads_single {W} {V} {M} {N} {P} {Q} {mark} {inner} {outer} {Means} {Meaning} f text rest m n l o g = record {
   front = l.front;
   written = f.single l.written;
@@ -134,9 +134,9 @@ leads_single {W} {V} {M} {N} {P} {Q} {mark} {inner} {outer} {Means} {Meaning} f 
 }
 
 pub leads_double : {W V M N : Type 0} {P : List ℕ → W → Type 0} {Q : List ℕ → V → Type 0} {mark : ℕ} {inner outer : ℕ → Bool} {Means : W → M → Type 0}
-    {Meaning : V → N → Type 0} → (f : IsForm P Q mark inner outer) (text rest more last : List ℕ) (m k : M) (n : N) → Leads P inner Means text m rest
-    → rest ≡ mark ∷ more → Leads P inner Means more k last → ((x y : W) → Means x m → Means y k → Meaning (f.double x y) n)
-    → Leads Q outer Meaning text n last
+    {Meaning : V → N → Type 0} → (f : IsForm P Q mark inner outer) (text rest more last : List ℕ) (m k : M) (n : N) → LeadsPart P inner Means text m rest
+    → rest ≡ mark ∷ more → LeadsPart P inner Means more k last → ((x y : W) → Means x m → Means y k → Meaning (f.double x y) n)
+    → LeadsPart Q outer Meaning text n last
 leads_double {W} {V} {M} {N} {P} {Q} {mark} {inner} {outer} {Means} {Meaning} f text rest more last m k n l r s g = record {
   front = l.front ++ mark ∷ s.front;
   written = f.double l.written s.written;
@@ -158,7 +158,7 @@ leads_double {W} {V} {M} {N} {P} {Q} {mark} {inner} {outer} {Means} {Meaning} f 
 -- ---- channels and items
 
 pub channel_cases : (text : List ℕ) (w : WrittenChannel) → IsChannel text w
-    → ((n : List ℕ) × IsPadded text n) ⊎ ((s : List ℕ) × (c : List ℕ) × IsJoined 33 (λ t. IsPadded t s) (λ t. IsPadded t c) text)
+    → ((n : List ℕ) × IsPadded text n) ⊎ ((s : List ℕ) × (c : List ℕ) × IsMarkedPair 33 (λ t. IsPadded t s) (λ t. IsPadded t c) text)
 channel_cases text (plain n) p = inl (n, p)
 channel_cases text (pair s c) p = inr (s, c, p)
 
@@ -177,8 +177,8 @@ channels = record {
   wider = channel_wider;
 }
 
-pub item_cases : (text : List ℕ) (i : Item) → IsItem text i
-    → ((w : WrittenChannel) × IsChannel text w) ⊎ ((v : WrittenChannel) × (w : WrittenChannel) × IsJoined 58 (λ t. IsChannel t v) (λ t. IsChannel t w) text)
+pub item_cases : (text : List ℕ) (i : ListItem) → IsItem text i
+    → ((w : WrittenChannel) × IsChannel text w) ⊎ ((v : WrittenChannel) × (w : WrittenChannel) × IsMarkedPair 58 (λ t. IsChannel t v) (λ t. IsChannel t w) text)
 item_cases text (one w) p = inl (w, p)
 item_cases text (range v w) p = inr (v, w, p)
 
@@ -209,9 +209,9 @@ some_left xs h e =
     let z : true ≡ false = sym k ∙ h in cc
 
 -- the first item of a list, and what stands behind it
-pub record IsFirst (text : List ℕ) (is : List Item) : Type 0 where
-  pub item : Item
-  pub others : List Item
+pub record IsFirst (text : List ℕ) (is : List ListItem) : Type 0 where
+  pub item : ListItem
+  pub others : List ListItem
   pub front : List ℕ
   pub tail : List ℕ
   pub all : is ≡ item ∷ others
@@ -220,7 +220,7 @@ pub record IsFirst (text : List ℕ) (is : List Item) : Type 0 where
   pub whole : text ≡ front ++ tail
   pub onward : ((tail ≡ []) × (others ≡ [])) ⊎ ((right : List ℕ) × (tail ≡ 44 ∷ right) × IsItems right others)
 
-pub first_of : (text : List ℕ) (is : List Item) → IsItems text is → IsFirst text is
+pub first_of : (text : List ℕ) (is : List ListItem) → IsItems text is → IsFirst text is
 first_of text [] p = absurd p
 first_of text (i ∷ []) p =
     record { item = i; others = []; front = text; tail = []; all = refl; part = p; ends = tt; whole = sym (append-nil text); onward = inl (refl, refl) }
@@ -236,16 +236,17 @@ first_of text (i ∷ j ∷ is) p = record {
   onward = inr (p.right, refl, p.second);
 }
 
-pub last_item : (text rest : List ℕ) (run : Option Run) (l : Leads IsItem ends_item MeansRun text run rest) → rest ≡ [] → IsItems text (l.written ∷ [])
+pub last_item : (text rest : List ℕ) (run : Option Run) (l : LeadsPart IsItem ends_item MeansRun text run rest) → rest ≡ [] → IsItems text (l.written ∷ [])
 last_item text rest run l e =
     subst (λ (t : List ℕ). IsItem t l.written) (sym (l.whole ∙ ap (λ (t : List ℕ). l.front ++ t) e ∙ append-nil l.front)) l.part
 
 -- what follows the item that was read is what follows the first item of the list
-tail_is : (text rest : List ℕ) (run : Option Run) → Leads IsItem ends_item MeansRun text run rest → (is : List Item) → (f : IsFirst text is) → f.tail ≡ rest
+tail_is : (text rest : List ℕ) (run : Option Run) → LeadsPart IsItem ends_item MeansRun text run rest → (is : List ListItem) → (f : IsFirst text is)
+    → f.tail ≡ rest
 tail_is text rest run l is f = l.only f.front f.tail f.item f.part f.ends f.whole
 
-pub no_next : (text rest : List ℕ) (run : Option Run) → Leads IsItem ends_item MeansRun text run rest → (rest ≡ [] → ⊥) → StartsOff (λ b. b == 44) rest
-    → (is : List Item) → IsItems text is → ⊥
+pub no_next : (text rest : List ℕ) (run : Option Run) → LeadsPart IsItem ends_item MeansRun text run rest → (rest ≡ [] → ⊥) → StartsOff (λ b. b == 44) rest
+    → (is : List ListItem) → IsItems text is → ⊥
 no_next text rest run l n o is h =
     let f = first_of text is h in
     let t = tail_is text rest run l is f in
@@ -256,8 +257,8 @@ no_next text rest run l n o is h =
           let z : true ≡ false = b in cc
     ]
 
-pub next_items : (text rest more : List ℕ) (run : Option Run) (l : Leads IsItem ends_item MeansRun text run rest) → rest ≡ 44 ∷ more → (is : List Item)
-    → IsItems text is → (js : List Item) × (is ≡ l.written ∷ js) × IsItems more js
+pub next_items : (text rest more : List ℕ) (run : Option Run) (l : LeadsPart IsItem ends_item MeansRun text run rest) → rest ≡ 44 ∷ more → (is : List ListItem)
+    → IsItems text is → (js : List ListItem) × (is ≡ l.written ∷ js) × IsItems more js
 next_items text rest more run l e is h =
     let f = first_of text is h in
     let t = tail_is text rest run l is f in

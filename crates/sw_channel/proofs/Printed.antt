@@ -13,7 +13,7 @@ use Rattle.std.proofs.lemmas.List.{take_all}
 use Rattle.std.proofs.lemmas.Grind.{common_steps}
 use Rattle.sw_base.specs.Text.{is_digit, AllPass}
 use Rattle.sw_base.specs.Layout.{Channel}
-use Rattle.sw_channel.specs.Grammar.{WrittenChannel, pair, Item, one, IsPadded, IsChannel, IsItems}
+use Rattle.sw_channel.specs.Grammar.{WrittenChannel, pair, ListItem, one, IsPadded, IsChannel, IsItems}
 use Rattle.sw_channel.specs.Meaning.{short_number, channel_of, channels_of, Mean, Spells}
 use Rattle.sw_channel.specs.Printing.{printed_number, printed_channel, printed_others, printed_body, printed, InRange}
 
@@ -55,7 +55,7 @@ means c r =
     let k : nat_le c.1 99 ≡ true = le-leb c.1 99 r.3 in
     rw (n, e, a, b, g, k) refl
 
-abbrev item_of : Channel → Item
+abbrev item_of : Channel → ListItem
 item_of c = one (written c)
 
 are_items : (c : Channel) (cs : List Channel) → InRange c → AllByRecursion InRange cs → IsItems (printed_channel c ++ printed_others cs) (map item_of (c ∷ cs))

@@ -8,9 +8,9 @@ pub data WrittenChannel : Type 0 where
   pair : List ℕ → List ℕ → WrittenChannel
 
 -- An item of a list as it is written: a channel, or the two ends of a range.
-pub data Item : Type 0 where
-  one : WrittenChannel → Item
-  range : WrittenChannel → WrittenChannel → Item
+pub data ListItem : Type 0 where
+  one : WrittenChannel → ListItem
+  range : WrittenChannel → WrittenChannel → ListItem
 
 -- a number: its digits, with white space on either side
 pub record IsPadded (text digits : List ℕ) : Type 0 where
@@ -23,7 +23,7 @@ pub record IsPadded (text digits : List ℕ) : Type 0 where
   pub some : 0 < length digits
 
 -- two parts with a mark between them
-pub record IsJoined (mark : ℕ) (First Second : List ℕ → Type 0) (text : List ℕ) : Type 0 where
+pub record IsMarkedPair (mark : ℕ) (First Second : List ℕ → Type 0) (text : List ℕ) : Type 0 where
   pub left : List ℕ
   pub right : List ℕ
   pub first : First left
@@ -33,19 +33,19 @@ pub record IsJoined (mark : ℕ) (First Second : List ℕ → Type 0) (text : Li
 -- a channel: a number, or two joined by `!`
 abbrev pub IsChannel : List ℕ → WrittenChannel → Type 0
 IsChannel text (plain n) = IsPadded text n
-IsChannel text (pair s c) = IsJoined 33 (λ t. IsPadded t s) (λ t. IsPadded t c) text
+IsChannel text (pair s c) = IsMarkedPair 33 (λ t. IsPadded t s) (λ t. IsPadded t c) text
 
 -- an item: a channel, or two joined by `:`
-abbrev pub IsItem : List ℕ → Item → Type 0
+abbrev pub IsItem : List ℕ → ListItem → Type 0
 IsItem text (one w) = IsChannel text w
-IsItem text (range v w) = IsJoined 58 (λ t. IsChannel t v) (λ t. IsChannel t w) text
+IsItem text (range v w) = IsMarkedPair 58 (λ t. IsChannel t v) (λ t. IsChannel t w) text
 
 -- one item or more, joined by `,`
-abbrev pub IsItems : List ℕ → List Item → Type 0
+abbrev pub IsItems : List ℕ → List ListItem → Type 0
 IsItems text [] = ⊥
 IsItems text (i ∷ []) = IsItem text i
-IsItems text (i ∷ j ∷ is) = IsJoined 44 (λ t. IsItem t i) (λ t. IsItems t (j ∷ is)) text
+IsItems text (i ∷ j ∷ is) = IsMarkedPair 44 (λ t. IsItem t i) (λ t. IsItems t (j ∷ is)) text
 
 -- a list: these between `(@` and `)`
-abbrev pub IsList : List ℕ → List Item → Type 0
+abbrev pub IsList : List ℕ → List ListItem → Type 0
 IsList text items = (body : List ℕ) × IsItems body items × (text ≡ 40 ∷ 64 ∷ (body ++ 41 ∷ []))

@@ -7,7 +7,7 @@ use Rattle.sw_base.specs.Layout.{Channel}
 use Rattle.sw_base.specs.Limits.{most_slots, most_channels, most_entries}
 use Rattle.sw_base.specs.declared.error.ScpiError.{ScpiError}
 use Rattle.sw_base.specs.declared.error.ScpiError.TheVariants.{DataOutOfRange, TooMuchData}
-use Rattle.sw_channel.specs.Grammar.{WrittenChannel, plain, pair, Item, one, range, IsList}
+use Rattle.sw_channel.specs.Grammar.{WrittenChannel, plain, pair, ListItem, one, range, IsList}
 
 -- ---- channels
 
@@ -21,14 +21,15 @@ abbrev pub short_number : List ℕ → Option ℕ
 short_number digits = if nat_lt 9 (length digits) then None else Some (number_from 0 digits)
 
 -- the cage's slots and a card's channels are numbered from 1
-abbrev pub channel_at : ℕ → ℕ → Option Channel
-channel_at s c =
+abbrev pub channel_numbered : ℕ → ℕ → Option Channel
+channel_numbered s c =
     if nat_le 1 s && nat_le s most_slots && nat_le 1 c && nat_le c most_channels then Some ((s, c)) else None
 
 -- a plain n is channel n mod 100 of slot n div 100
 abbrev pub channel_of : WrittenChannel → Option Channel
-channel_of (plain n) = option_and_then (λ k. channel_at (k / 100) (k % 100)) (short_number n)
-channel_of (pair s c) = option_and_then (λ i. option_and_then (λ k. channel_at i k) (short_number c)) (short_number s)
+channel_of (plain n) = option_and_then (λ k. channel_numbered (k / 100) (k % 100)) (short_number n)
+channel_of (pair s c) =
+    option_and_then (λ i. option_and_then (λ k. channel_numbered i k) (short_number c)) (short_number s)
 
 -- ---- ranges
 
@@ -51,19 +52,19 @@ range_of a b = if a.0 == b.0 then Some (channels_between a.0 a.1 b.1) else None
 -- ---- lists
 
 -- what an item names
-abbrev pub channels_of : Item → Option (List Channel)
+abbrev pub channels_of : ListItem → Option (List Channel)
 channels_of (one w) = option_and_then (λ c. Some (c ∷ [])) (channel_of w)
 channels_of (range v w) = option_and_then (λ a. option_and_then (λ b. range_of a b) (channel_of w)) (channel_of v)
 
 -- The items name the channels, in order and with repeats.
-abbrev pub Mean : List Item → List Channel → Type 0
+abbrev pub Mean : List ListItem → List Channel → Type 0
 Mean [] cs = cs ≡ []
 Mean (i ∷ is) cs = (first : List Channel) × (others : List Channel) × (channels_of i ≡ Some first) × Mean is others
     × (cs ≡ first ++ others)
 
 -- The text spells the channels, one item or more, however many they are.
 abbrev pub Spells : List ℕ → List Channel → Type 0
-Spells text cs = (items : List Item) × IsList text items × Mean items cs
+Spells text cs = (items : List ListItem) × IsList text items × Mean items cs
 
 -- ---- refusals
 
@@ -75,6 +76,6 @@ judged_with front (Some cs) rest =
     if nat_le (length front + length cs) most_entries then rest (front ++ cs) else Err TooMuchData
 
 -- the channels of the items after those in front, or the first refusal from left to right
-abbrev pub judged : List Channel → List Item → Result (List Channel) ScpiError
+abbrev pub judged : List Channel → List ListItem → Result (List Channel) ScpiError
 judged front [] = Ok front
 judged front (i ∷ is) = judged_with front (channels_of i) (λ more. judged more is)

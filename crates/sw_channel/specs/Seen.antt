@@ -6,7 +6,7 @@ use Rattle.sw_base.specs.Layout.{Channel}
 use Rattle.sw_base.specs.Text.{is_digit, Spans}
 use Rattle.sw_base.specs.declared.error.ScpiError.{ScpiError}
 use Rattle.sw_base.specs.declared.error.ScpiError.TheVariants.{InvalidExpression, OutOfMemory}
-use Rattle.sw_channel.specs.Grammar.{WrittenChannel, Item, IsItems}
+use Rattle.sw_channel.specs.Grammar.{WrittenChannel, ListItem, IsItems}
 use Rattle.sw_channel.specs.Meaning.{short_number, channel_of, channels_of, channels_between, judged}
 use Rattle.sw_channel.specs.declared.run.Run.{Run}
 use Rattle.sw_channel.specs.declared.collect.Found.{Found}
@@ -29,7 +29,7 @@ EndsBy test [] = Unit {0}
 EndsBy test (b ∷ bytes) = test b ≡ true
 
 -- a part at the front of a text, what it means, and what follows it; a part that stands there up to an end is this one
-pub record Leads {W M : Type 0} (Part : List ℕ → W → Type 0) (ends : ℕ → Bool) (Means : W → M → Type 0)
+pub record LeadsPart {W M : Type 0} (Part : List ℕ → W → Type 0) (ends : ℕ → Bool) (Means : W → M → Type 0)
     (text : List ℕ) (meant : M) (rest : List ℕ) : Type 0 where
   pub front : List ℕ
   pub written : W
@@ -60,22 +60,22 @@ MeansChannel written chan = chan ≡ channel_of written
 abbrev pub channels_in : Run → List Channel
 channels_in run = channels_between run.first.0 run.first.1 run.last.1
 
-abbrev pub MeansRun : Item → Option Run → Type 0
+abbrev pub MeansRun : ListItem → Option Run → Type 0
 MeansRun item run = channels_of item ≡ option_map channels_in run
 
 -- ---- lists
 
 -- What is found of the first items, their channels or a refusal, and what is left of them lead to this.
-abbrev pub LeadsTo : Result Found ScpiError → List Item → Result (List Channel) ScpiError → Type 0
+abbrev pub LeadsTo : Result Found ScpiError → List ListItem → Result (List Channel) ScpiError → Type 0
 LeadsTo (Ok found) items all = (front : List Channel) × (length front ≡ found.count)
     × IfOk found.chans (λ v. v.items ≡ front) × (judged front items ≡ all)
 LeadsTo (Err e) items all = all ≡ Err e
 
 -- the answer that is due, or want of memory where channels are due
-abbrev pub Answers : Result (List Channel) ScpiError → Result (List Channel) ScpiError → Type 0
-Answers due r = (r ≡ due) ⊎ ((r ≡ Err OutOfMemory) × ((cs : List Channel) × (due ≡ Ok cs)))
+abbrev pub AnswersChannels : Result (List Channel) ScpiError → Result (List Channel) ScpiError → Type 0
+AnswersChannels due r = (r ≡ due) ⊎ ((r ≡ Err OutOfMemory) × ((cs : List Channel) × (due ≡ Ok cs)))
 
 -- the channels that the items name or their first refusal, or -171 where the text is no items
-abbrev pub Gathers : List ℕ → Result (List Channel) ScpiError → Type 0
-Gathers text r = (((is : List Item) → IsItems text is → ⊥) × (r ≡ Err InvalidExpression))
-    ⊎ ((is : List Item) × IsItems text is × Answers (judged [] is) r)
+abbrev pub GathersChannels : List ℕ → Result (List Channel) ScpiError → Type 0
+GathersChannels text r = (((is : List ListItem) → IsItems text is → ⊥) × (r ≡ Err InvalidExpression))
+    ⊎ ((is : List ListItem) × IsItems text is × AnswersChannels (judged [] is) r)

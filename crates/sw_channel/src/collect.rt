@@ -5,13 +5,13 @@ ghost use Rattle.std.specs.Result.{result_map_both, ForOk};
 ghost use Rattle.sw_base.specs.Layout.{Channel};
 ghost use Rattle.sw_base.specs.Limits.{most_entries};
 ghost use Rattle.sw_base.specs.declared.error.ScpiError.{ScpiError as Error};
-ghost use Rattle.sw_channel.specs.Grammar.{Item};
-ghost use Rattle.sw_channel.specs.Seen.{channels_in, MeansRun, LeadsTo, Answers, Gathers};
+ghost use Rattle.sw_channel.specs.Grammar.{ListItem};
+ghost use Rattle.sw_channel.specs.Seen.{channels_in, MeansRun, LeadsTo, AnswersChannels, GathersChannels};
 
 use crate::parse::read_item;
 use crate::run::Run;
 use std::alloc::{AllocError, Global};
-use sw_base::{Chan, LIST_ENTRIES, ScpiError, eat};
+use sw_base::{Chan, LIST_ENTRIES, ScpiError, strip_prefix};
 
 /// The least number of bytes that a channel takes in a list, its comma counted.
 const LEAST_BYTES: usize = 4;
@@ -52,7 +52,7 @@ fn with_run(chans: Result<Vec<Chan>, AllocError>, run: &Run) -> Result<Vec<Chan>
 /// What is found after one more item that names this run, or none.
 fn with_item(found: Result<Found, ScpiError>, run: Option<Run>) -> Result<Found, ScpiError>
     requires { ForOk found (λ f. f.count ≤ most_entries) }
-    ensures leads { (i : Item) (is : List Item) (all : Result (List Channel) Error) → MeansRun i run
+    ensures leads { (i : ListItem) (is : List ListItem) (all : Result (List Channel) Error) → MeansRun i run
         → LeadsTo found (i ∷ is) all → LeadsTo result is all }
     ensures within { IfOk result (λ f. f.count ≤ most_entries) }
 {
@@ -82,14 +82,14 @@ fn room(alloc: Global, bytes: usize) -> Result<Vec<Chan>, AllocError>
 /// The channels that were found, unless there was no memory for them.
 fn all_of(found: Result<Found, ScpiError>) -> Result<Vec<Chan>, ScpiError>
     ensures { (all : Result (List Channel) Error) → LeadsTo found [] all
-        → Answers all (result_map_both (λ v. v.items) (λ e. e) result) }
+        → AnswersChannels all (result_map_both (λ v. v.items) (λ e. e) result) }
 {
     Ok(found?.chans?)
 }
 
 /// The channels that the items of the text name, or the first refusal.
 pub fn collect(alloc: Global, text: &[u8]) -> Result<Vec<Chan>, ScpiError>
-    ensures { Gathers text.now (result_map_both (λ v. v.items) (λ e. e) result) }
+    ensures { GathersChannels text.now (result_map_both (λ v. v.items) (λ e. e) result) }
 {
     let mut rest = text;
     let mut found = Ok(Found {
@@ -104,7 +104,7 @@ pub fn collect(alloc: Global, text: &[u8]) -> Result<Vec<Chan>, ScpiError>
                 if after.is_empty() {
                     return all_of(found);
                 }
-                match eat(after, b',') {
+                match strip_prefix(after, b',') {
                     None => return Err(ScpiError::InvalidExpression),
                     Some(others) => rest = others,
                 }

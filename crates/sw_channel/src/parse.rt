@@ -3,12 +3,12 @@
 ghost use Rattle.std.specs.Prelude.{◌≡◌, ◌∷◌, ◌++◌, List, [], ℕ, IfSome, IfNone};
 ghost use Rattle.sw_base.specs.Text.{is_digit, StartsOff};
 ghost use Rattle.sw_channel.specs.Grammar.{WrittenChannel, plain, pair, one, range, IsPadded, IsChannel, IsItem};
-ghost use Rattle.sw_channel.specs.Meaning.{channel_at};
-ghost use Rattle.sw_channel.specs.Seen.{ends_number, ends_channel, ends_item, Leads, LeadsNone, LeadsDigits};
+ghost use Rattle.sw_channel.specs.Meaning.{channel_numbered};
+ghost use Rattle.sw_channel.specs.Seen.{ends_number, ends_channel, ends_item, LeadsPart, LeadsNone, LeadsDigits};
 ghost use Rattle.sw_channel.specs.Seen.{MeansNumber, MeansChannel, MeansRun};
 
 use crate::run::Run;
-use sw_base::{CHANNELS, Chan, SLOTS, blanks, eat, is_digit};
+use sw_base::{CHANNELS, Chan, SLOTS, blanks, is_digit, strip_prefix};
 
 /// The digits that a number may have.
 const MOST_DIGITS: usize = 9;
@@ -38,7 +38,7 @@ fn read_digits(text: &[u8]) -> Option<(Option<u32>, &[u8])>
 
 /// The number at the front with the white space round it, none of more than nine digits, and what follows it.
 fn read_number(text: &[u8]) -> Option<(Option<u32>, &[u8])>
-    ensures found { IfSome result (λ x. Leads IsPadded ends_number MeansNumber text.now x.0 x.1.now) }
+    ensures found { IfSome result (λ x. LeadsPart IsPadded ends_number MeansNumber text.now x.0 x.1.now) }
     ensures none { IfNone result (LeadsNone IsPadded ends_number text.now) }
 {
     let (_, text) = blanks(text);
@@ -49,7 +49,7 @@ fn read_number(text: &[u8]) -> Option<(Option<u32>, &[u8])>
 
 /// The channel of these two numbers, where they are in range.
 fn channel_at(slot: u32, ch: u32) -> Option<Chan>
-    ensures { result ≡ channel_at slot ch }
+    ensures { result ≡ channel_numbered slot ch }
 {
     if 1 <= slot && slot <= u32::from(SLOTS) && 1 <= ch && ch <= u32::from(CHANNELS) {
         Some(Chan::new(slot as u8, ch as u8))
@@ -75,13 +75,13 @@ fn paired_channel(slot: Option<u32>, ch: Option<u32>) -> Option<Chan>
 
 /// What the channel at the front means, and what follows it.
 fn read_channel(text: &[u8]) -> Option<(Option<Chan>, &[u8])>
-    ensures found { IfSome result (λ x. Leads IsChannel ends_channel MeansChannel text.now x.0 x.1.now) }
+    ensures found { IfSome result (λ x. LeadsPart IsChannel ends_channel MeansChannel text.now x.0 x.1.now) }
     ensures none { IfNone result (LeadsNone IsChannel ends_channel text.now) }
 {
     let Some((first, rest)) = read_number(text) else {
         return None;
     };
-    let Some(more) = eat(rest, b'!') else {
+    let Some(more) = strip_prefix(rest, b'!') else {
         return Some((plain_channel(first), rest));
     };
     let Some((second, others)) = read_number(more) else {
@@ -116,13 +116,13 @@ fn range_run(first: Option<Chan>, last: Option<Chan>) -> Option<Run>
 
 /// What the item at the front names, and what follows it.
 pub fn read_item(text: &[u8]) -> Option<(Option<Run>, &[u8])>
-    ensures found { IfSome result (λ x. Leads IsItem ends_item MeansRun text.now x.0 x.1.now) }
+    ensures found { IfSome result (λ x. LeadsPart IsItem ends_item MeansRun text.now x.0 x.1.now) }
     ensures none { IfNone result (LeadsNone IsItem ends_item text.now) }
 {
     let Some((first, rest)) = read_channel(text) else {
         return None;
     };
-    let Some(more) = eat(rest, b':') else {
+    let Some(more) = strip_prefix(rest, b':') else {
         return Some((single_run(first), rest));
     };
     let Some((last, others)) = read_channel(more) else {

@@ -7,7 +7,7 @@ ghost use Rattle.sw_base.specs.Limits.{most_entries};
 ghost use Rattle.sw_base.specs.Memory.{Gives};
 ghost use Rattle.sw_base.specs.declared.error.ScpiError.{ScpiError as Error};
 ghost use Rattle.sw_base.specs.declared.error.ScpiError.TheVariants.{OutOfMemory};
-ghost use Rattle.sw_channel.specs.Grammar.{Item, IsList};
+ghost use Rattle.sw_channel.specs.Grammar.{ListItem, IsList};
 ghost use Rattle.sw_channel.specs.Meaning.{Spells, judged};
 ghost use Rattle.sw_channel.specs.Reading.{Reads, IsRefusedList, IsNoList};
 
@@ -39,7 +39,7 @@ pub fn read_list(alloc: Global, text: &[u8]) -> Result<Vec<Chan>, ScpiError>
     // What is refused is refused so, however much memory there is.
     ensures refused { (e : Error) → IsRefusedList text.now e → result ≡ Err e }
     // A text that is written right gives its channels or its first refusal, unless memory runs out.
-    ensures judged { (is : List Item) → IsList text.now is → Gives (λ v. v.items) result (judged [] is) }
+    ensures judged { (is : List ListItem) → IsList text.now is → Gives (λ v. v.items) result (judged [] is) }
     // Any other text, and no other, is no list.
     ensures malformed { (result ≡ Err ScpiError.InvalidExpression) ↔ IsNoList text.now }
 {

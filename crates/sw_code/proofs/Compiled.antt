@@ -11,7 +11,7 @@ use Rattle.sw_base.specs.Layout.{Channel}
 use Rattle.sw_code.specs.declared.code.Step.{Step}
 use Rattle.sw_code.specs.declared.code.Step.TheVariants as step
 use Rattle.sw_trigger.specs.declared.layer.Layer.{Layer}
-use Rattle.sw_trigger.specs.Settings.{Setup, IsInRange}
+use Rattle.sw_trigger.specs.Settings.{SettingsSeen, IsInRange}
 use Rattle.sw_trigger.specs.Agenda.{Item, Awaits, repeated, head_of, channel_at, pass_of, passes, visit, arm_turns, agenda}
 use Rattle.sw_code.specs.Code.{Unfolds}
 use Rattle.sw_code.specs.Tree.{Tree, Nil, Times, step_of, size, flatten, meaning, IsNested}
@@ -39,7 +39,7 @@ channel_at-round list k =
     let e : k + length list ≡ k + 1 * length list = omega arith in
     ap (λ (i : ℕ). get_or list i ((0, 0))) (ap (λ (i : ℕ). i % length list) e ∙ add-mul-mod_self_right k 1 (length list))
 
-passes-round : (s : Setup) (k n : ℕ) → passes s (k + length s.list) n ≡ passes s k n
+passes-round : (s : SettingsSeen) (k n : ℕ) → passes s (k + length s.list) n ≡ passes s k n
 passes-round s k zero = refl
 passes-round s k (suc n) =
     let e : suc (k + length s.list) ≡ suc k + length s.list = omega arith in
@@ -47,7 +47,7 @@ passes-round s k (suc n) =
     ∙ ap (λ (i : ℕ). pass_of s k ++ passes s i n) e
     ∙ ap (λ (l : List Item). pass_of s k ++ l) (passes-round s (suc k) n)
 
-pub passes-add : (s : Setup) (k m n : ℕ) → passes s k (m + n) ≡ passes s k m ++ passes s (k + m) n
+pub passes-add : (s : SettingsSeen) (k m n : ℕ) → passes s k (m + n) ≡ passes s k m ++ passes s (k + m) n
 passes-add s k zero n =
     let e : 0 + n ≡ n = omega arith in
     let f : k ≡ k + 0 = omega arith in
@@ -59,7 +59,7 @@ passes-add s k (suc m) n =
     ∙ ap (λ (l : List Item). pass_of s k ++ l) (passes-add s (suc k) m n ∙ ap (λ (i : ℕ). passes s (suc k) m ++ passes s i n) f)
     ∙ sym (append_assoc (pass_of s k) (passes s (suc k) m) (passes s (k + suc m) n))
 
-rounds : (s : Setup) (q r : ℕ) → passes s 0 (q * length s.list + r) ≡ repeated q (passes s 0 (length s.list)) ++ passes s 0 r
+rounds : (s : SettingsSeen) (q r : ℕ) → passes s 0 (q * length s.list + r) ≡ repeated q (passes s 0 (length s.list)) ++ passes s 0 r
 rounds s zero r = let e : 0 * length s.list + r ≡ r = omega arith in ap (passes s 0) e
 rounds s (suc q) r =
     let n = length s.list in
@@ -69,7 +69,7 @@ rounds s (suc q) r =
     ∙ ap (λ (l : List Item). passes s 0 n ++ l) (passes-round s 0 (q * n + r) ∙ rounds s q r)
     ∙ sym (append_assoc (passes s 0 n) (repeated q (passes s 0 n)) (passes s 0 r))
 
-pub meaning-passes : (s : Setup) → meaning (passes_tree s) ≡ passes s 0 s.trigger.count
+pub meaning-passes : (s : SettingsSeen) → meaning (passes_tree s) ≡ passes s 0 s.trigger.count
 meaning-passes s = at (s.trigger.count / length s.list) (s.trigger.count % length s.list) (div-add-mod' s.trigger.count (length s.list)) where
   left : (r : ℕ) → meaning (line (passes s 0 r) Nil) ≡ passes s 0 r
   left r = meaning-line (passes s 0 r) Nil ∙ append-nil (passes s 0 r)
@@ -90,13 +90,13 @@ meaning-arm counter name l inside =
     append-nil (repeated l.count (meaning (line (map Awaits (head_of name l)) inside)))
     ∙ ap (repeated l.count) (meaning-line (map Awaits (head_of name l)) inside)
 
-pub meaning-tree : (s : Setup) → 0 < length s.list → meaning (tree_of s) ≡ agenda s
+pub meaning-tree : (s : SettingsSeen) → 0 < length s.list → meaning (tree_of s) ≡ agenda s
 meaning-tree s h =
     meaning-arm 0 Arm1 s.arm1 (arm_tree 1 Arm2 s.arm2 (passes_tree s))
     ∙ ap (arm_turns Arm1 s.arm1) (meaning-arm 1 Arm2 s.arm2 (passes_tree s) ∙ ap (arm_turns Arm2 s.arm2) (meaning-passes s))
     ∙ sym (agenda_is s h)
 
-nested-passes : (s : Setup) (used : ℕ → Bool) → used 2 ≡ false → IsNested used (passes_tree s)
+nested-passes : (s : SettingsSeen) (used : ℕ → Bool) → used 2 ≡ false → IsNested used (passes_tree s)
 nested-passes s used free = at (s.trigger.count / length s.list) where
   at : (q : ℕ) → IsNested used (cond (eqb q 0) (line (passes s 0 (s.trigger.count % length s.list)) Nil)
       (Times 2 q (line (passes s 0 (length s.list)) Nil) (line (passes s 0 (s.trigger.count % length s.list)) Nil)))
@@ -116,17 +116,17 @@ nested-arm : (used : ℕ → Bool) (counter : ℕ) (name : LayerName) (l : Layer
 nested-arm used counter name l inside some free h =
     (some, free, nested-line (λ j. eqb j counter || used j) (map Awaits (head_of name l)) inside h, tt)
 
-pub nested-tree : (s : Setup) → IsInRange s → IsNested (λ k. false) (tree_of s)
+pub nested-tree : (s : SettingsSeen) → IsInRange s → IsNested (λ k. false) (tree_of s)
 nested-tree s i =
     nested-arm (λ k. false) 0 Arm1 s.arm1 (arm_tree 1 Arm2 s.arm2 (passes_tree s)) i.arm1.count.0 refl
     (nested-arm (λ j. eqb j 0 || false) 1 Arm2 s.arm2 (passes_tree s) i.arm2.count.0 refl (nested-passes s (λ j. eqb j 1 || (eqb j 0 || false)) refl))
 
-pub compiled_unfolds : (s : Setup) → 0 < length s.list → IsInRange s → Unfolds (flatten (tree_of s) 0 ++ step.Halt ∷ []) (agenda s)
+pub compiled_unfolds : (s : SettingsSeen) → 0 < length s.list → IsInRange s → Unfolds (flatten (tree_of s) 0 ++ step.Halt ∷ []) (agenda s)
 compiled_unfolds s h i = subst (λ (l : List Item). Unfolds (flatten (tree_of s) 0
     ++ step.Halt ∷ []) l) (meaning-tree s h) (unfolds (tree_of s) (nested-tree s i))
 
 -- the pieces as the program writes them
-pub compiled_is : (s : Setup) (h1 h2 ps : List Step) (place2 place3 : ℕ) → h1 ≡ steps_of (map Awaits (head_of Arm1 s.arm1))
+pub compiled_is : (s : SettingsSeen) (h1 h2 ps : List Step) (place2 place3 : ℕ) → h1 ≡ steps_of (map Awaits (head_of Arm1 s.arm1))
     → h2 ≡ steps_of (map Awaits (head_of Arm2 s.arm2)) → place2 ≡ 2 + length h1 → place3 ≡ place2 + length h2 → ps ≡ flatten (passes_tree s) place3 →
     (step.Set 0 s.arm1.count ∷ (h1 ++ (step.Set 1 s.arm2.count ∷ (h2 ++ (ps ++ (step.Loop 1 place2 ∷ step.Loop 0 1 ∷ step.Halt ∷ []))))))
     ≡ flatten (tree_of s) 0 ++ step.Halt ∷ []
@@ -148,7 +148,7 @@ compiled_is s h1 h2 ps place2 place3 e1 e2 p2 p3 e =
     sym (ap (λ (l : List Step). step.Set 0 s.arm1.count ∷ ((l ++ step.Loop 0 1 ∷ []) ++ step.Halt ∷ [])) all ∙ simp append_assoc)
 
 -- the passes as the program writes them, with a loop and without
-pub looped_is : (s : Setup) (place : ℕ) (body rest : List Step) → 0 < s.trigger.count / length s.list → body ≡ steps_of (passes s 0 (length s.list))
+pub looped_is : (s : SettingsSeen) (place : ℕ) (body rest : List Step) → 0 < s.trigger.count / length s.list → body ≡ steps_of (passes s 0 (length s.list))
     → rest ≡ steps_of (passes s 0 (s.trigger.count % length s.list))
     → step.Set 2 (s.trigger.count / length s.list) ∷ (body ++ (step.Loop 2 (place + 1) ∷ rest)) ≡ flatten (passes_tree s) place
 looped_is s place body rest h e f =
@@ -164,7 +164,8 @@ looped_is s place body rest h e f =
     ∙ ap (λ (l : List Step). step.Set 2 q ∷ (l ++ (step.Loop 2 (place + 1) ∷ flatten tail (place + 2 + size (line (passes s 0 n) Nil))))) inside
     ∙ ap (λ (l : List Step). step.Set 2 q ∷ (body ++ (step.Loop 2 (place + 1) ∷ l))) (end (place + 2 + size (line (passes s 0 n) Nil))))
 
-pub plain_is : (s : Setup) (place : ℕ) (rest : List Step) → s.trigger.count / length s.list ≡ 0 → rest ≡ steps_of (passes s 0 (s.trigger.count % length s.list))
+pub plain_is : (s : SettingsSeen) (place : ℕ) (rest : List Step) → s.trigger.count / length s.list ≡ 0
+    → rest ≡ steps_of (passes s 0 (s.trigger.count % length s.list))
     → rest ≡ flatten (passes_tree s) place
 plain_is s place rest h f =
     let n = length s.list in
@@ -175,7 +176,7 @@ plain_is s place rest h f =
     ∙ sym (ap (λ b. flatten (cond b tail (Times 2 q (line (passes s 0 n) Nil) tail)) place) t)
 
 -- one more pass
-pub steps-passes_more : (s : Setup) (j : ℕ) → steps_of (passes s 0 (j + 1)) ≡ steps_of (passes s 0 j) ++ steps_of (pass_of s j)
+pub steps-passes_more : (s : SettingsSeen) (j : ℕ) → steps_of (passes s 0 (j + 1)) ≡ steps_of (passes s 0 j) ++ steps_of (pass_of s j)
 steps-passes_more s j =
     let e : 0 + j ≡ j = omega arith in
     ap steps_of (passes-add s 0 j 1 ∙ ap (λ (i : ℕ). passes s 0 j ++ passes s i 1) e ∙ ap (λ (l : List Item). passes s 0 j ++ l) (append-nil (pass_of s j)))

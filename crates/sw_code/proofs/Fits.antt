@@ -12,12 +12,12 @@ use Rattle.sw_base.specs.declared.terms.Source.{Source}
 use Rattle.sw_base.specs.declared.terms.Source.TheVariants.{Immediate, Bus, External, Hold}
 use Rattle.sw_trigger.specs.declared.layer.Layer.{Layer}
 use Rattle.sw_trigger.specs.declared.layer.Awaited.TheVariants.{Pause}
-use Rattle.sw_trigger.specs.Settings.{Setup, IsInRange}
+use Rattle.sw_trigger.specs.Settings.{SettingsSeen, IsInRange}
 use Rattle.sw_trigger.specs.Agenda.{Item, Awaits, head_of, wait_of, pause_of, channel_at, visit, pass_of, passes}
 use Rattle.sw_code.specs.declared.code.Step.{Step}
 use Rattle.sw_code.specs.declared.code.Step.TheVariants as step
 use Rattle.sw_base.specs.Limits.{most_entries, most_trigger_count}
-use Rattle.sw_code.specs.Range.{most_steps, IsStep, IsInRange as IsCode}
+use Rattle.sw_code.specs.Range.{most_steps, IsStep, IsProgramInRange as IsCode}
 use Rattle.sw_code.specs.Tree.{Tree, Nil, Then, Times, step_of, size, flatten}
 use Rattle.sw_code.specs.Compiled.{line, passes_tree, tree_of, compiled}
 use Rattle.sw_code.proofs.Unfolding.{length-flatten}
@@ -86,7 +86,7 @@ length-head name l h =
     let b = (fits-pause l.delay_us h).1 in
     omega (arith, a, b, length-map (head_of name l) Awaits, length-append (wait_of name l.source) (pause_of l.delay_us))
 
-module _ (s : Setup) (h : s.trigger.delay_us ≤ 3600000000) where
+module _ (s : SettingsSeen) (h : s.trigger.delay_us ≤ 3600000000) where
   fits-passes : (k n : ℕ) → Fits (passes s k n)
   fits-passes k zero = tt
   fits-passes k (suc n) =
@@ -137,7 +137,7 @@ module _ (s : Setup) (h : s.trigger.delay_us ≤ 3600000000) where
           subst (λ (b : Bool). IsFit (cond b rest (Times 2 (suc q) body rest)) × (size (cond b rest (Times 2 (suc q) body rest)) ≤ 5122)) (sym e)
           (((two, one, count), a.0, r.0), few)
 
-fit-tree : (s : Setup) → 0 < length s.list → IsInRange s → IsFit (tree_of s) × (size (tree_of s) ≤ 5130)
+fit-tree : (s : SettingsSeen) → 0 < length s.list → IsInRange s → IsFit (tree_of s) × (size (tree_of s) ≤ 5130)
 fit-tree s some i =
     let inner = fit-rounds s i.trigger.delay some i.list i.trigger.count.1 in
     let i1 = map Awaits (head_of Arm1 s.arm1) in
@@ -160,7 +160,7 @@ fit-tree s some i =
       omega (arith, size-line i1 loop2, size-line i2 (passes_tree s), inner.1, length-head Arm1 s.arm1 i.arm1.delay, length-head Arm2 s.arm2 i.arm2.delay),
     )
 
-pub compiled_fits : (s : Setup) → 0 < length s.list → IsInRange s → IsCode (compiled s)
+pub compiled_fits : (s : SettingsSeen) → 0 < length s.list → IsInRange s → IsCode (compiled s)
 compiled_fits s some i =
     let t = fit-tree s some i in
     record {

@@ -14,7 +14,7 @@ use Rattle.sw_code.specs.declared.code.Step.{Step}
 use Rattle.sw_code.specs.declared.fault.ListFault.TheVariants.{BadStep, BadNumber}
 use Rattle.sw_code.specs.declared.fault.ListError.{ListError}
 use Rattle.sw_code.specs.Range.{IsStep, HasChannel}
-use Rattle.sw_code.specs.Listing.{line_of, lines_of, parts_of}
+use Rattle.sw_code.specs.Listing.{line_of, listed_lines, parts_of}
 use Rattle.sw_code.specs.Reading.{parts_at, then_read, channel_in, step_in, meter_in, on_line, numbered_step, steps_in, after_steps, code_after_version}
 use Rattle.sw_code.specs.Reading.{code_of_lines}
 
@@ -83,21 +83,21 @@ only_of mark a h = slice_split_none (λ (x : ℕ). x == mark) a (lacks_all mark 
 
 -- steps that are printed one by one
 pub one_more : (out out1 out2 line whole : List ℕ) (steps : List Step) (i : ℕ) (s : Step) → i < length steps → s ≡ get_or steps i s → out1 ≡ out ++ line → line
-    ++ 10 ∷ [] ≡ line_of (parts_of s) → out2 ≡ out1 ++ 10 ∷ [] → out ++ lines_of (drop i steps) ≡ whole → out2 ++ lines_of (drop (i + 1) steps) ≡ whole
+    ++ 10 ∷ [] ≡ line_of (parts_of s) → out2 ≡ out1 ++ 10 ∷ [] → out ++ listed_lines (drop i steps) ≡ whole → out2 ++ listed_lines (drop (i + 1) steps) ≡ whole
 one_more out out1 out2 line whole steps i s lt is e l f h =
     let d : drop i steps ≡ s ∷ drop (suc i) steps = drop-cons steps i s lt ∙ ap (λ (x : Step). x ∷ drop (suc i) steps) (sym is) in
     let g = rw d at h in
     let two : out2 ≡ out ++ line_of (parts_of s) = f ∙ ap (λ (x : List ℕ). x ++ 10 ∷ []) e ∙ append_assoc out line (10 ∷ [])
     ∙ ap (λ (x : List ℕ). out ++ x) l in
     let n : i + 1 ≡ suc i = omega arith in
-    ap (λ (x : List ℕ). x ++ lines_of (drop (i + 1) steps)) two ∙ ap (λ (j : ℕ). (out ++ line_of (parts_of s)) ++ lines_of (drop j steps)) n
-    ∙ append_assoc out (line_of (parts_of s)) (lines_of (drop (suc i) steps)) ∙ g
+    ap (λ (x : List ℕ). x ++ listed_lines (drop (i + 1) steps)) two ∙ ap (λ (j : ℕ). (out ++ line_of (parts_of s)) ++ listed_lines (drop j steps)) n
+    ∙ append_assoc out (line_of (parts_of s)) (listed_lines (drop (suc i) steps)) ∙ g
 
 pub channels_more : (steps : List Step) (i : ℕ) (s : Step) → i < length steps → s ≡ get_or steps i s → All HasChannel (take i steps) → HasChannel s
     → All HasChannel (take (i + 1) steps)
 channels_more steps i s lt is a r = All-more HasChannel steps i s lt a (subst HasChannel is r)
 
-pub lines_done : (out whole : List ℕ) (steps : List Step) (i : ℕ) → length steps ≤ i → out ++ lines_of (drop i steps) ≡ whole → out ≡ whole
+pub lines_done : (out whole : List ℕ) (steps : List Step) (i : ℕ) → length steps ≤ i → out ++ listed_lines (drop i steps) ≡ whole → out ≡ whole
 lines_done out whole steps i le e = sym (append-nil out) ∙ (rw (drop_of_length-le steps le) at e)
 
 pub all_channels : (steps : List Step) (i : ℕ) → length steps ≤ i → All HasChannel (take i steps) → AllByRecursion HasChannel steps

@@ -8,7 +8,7 @@ use Rattle.sw_base.specs.declared.terms.LayerName.TheVariants.{Arm1, Arm2, Trigg
 use Rattle.sw_trigger.specs.declared.layer.Awaited.TheVariants.{Wait, Pause, Read}
 use Rattle.sw_code.specs.declared.code.Step.{Step}
 use Rattle.sw_code.specs.declared.code.Step.TheVariants as step
-use Rattle.sw_trigger.specs.Settings.{Setup, IsInRange}
+use Rattle.sw_trigger.specs.Settings.{SettingsSeen, IsInRange}
 use Rattle.sw_trigger.specs.Agenda.{Item, Awaits, Close, Open, head_of, channel_at, pass_of, passes, visit}
 use Rattle.sw_code.specs.Tree.{Tree, Nil, Then, Times, step_of, size, flatten}
 use Rattle.sw_code.specs.Compiled.{line, passes_tree, tree_of, compiled}
@@ -180,12 +180,12 @@ item-some : (xs : List Item) (rest : Tree) → 0 < length xs → HasItem (line x
 item-some [] rest h = absurd (omega arith)
 item-some (x ∷ xs) rest h = tt
 
-passes_some : (s : Setup) (n : ℕ) → 0 < n → 0 < length (passes s 0 n)
+passes_some : (s : SettingsSeen) (n : ℕ) → 0 < n → 0 < length (passes s 0 n)
 passes_some s zero h = absurd (omega arith)
 passes_some s (suc n) h =
     omega (arith, length-append (pass_of s 0) (passes s 1 n), length-append (map Awaits (head_of Trigger s.trigger)) (visit (channel_at s.list 0)))
 
-passes_within : (s : Setup) → 0 < length s.list → 0 < s.trigger.count → HasItem (passes_tree s) × IsWithin 1 (passes_tree s)
+passes_within : (s : SettingsSeen) → 0 < length s.list → 0 < s.trigger.count → HasItem (passes_tree s) × IsWithin 1 (passes_tree s)
 passes_within s some count = at (s.trigger.count / length s.list) (s.trigger.count % length s.list) (div-add-mod' s.trigger.count (length s.list)) where
   at : (q r : ℕ) → q * length s.list + r ≡ s.trigger.count
       → HasItem (cond (eqb q 0) (line (passes s 0 r) Nil) (Times 2 q (line (passes s 0 (length s.list)) Nil) (line (passes s 0 r) Nil)))
@@ -200,7 +200,7 @@ passes_within s some count = at (s.trigger.count / length s.list) (s.trigger.cou
       (item, (item, within-line 0 (passes s 0 (length s.list)) Nil tt, within-line 1 (passes s 0 r) Nil tt))
 
 -- the code of settings
-pub compiled_paced : (s : Setup) → 0 < length s.list → IsInRange s → IsPaced (compiled s).steps 6
+pub compiled_paced : (s : SettingsSeen) → 0 < length s.list → IsInRange s → IsPaced (compiled s).steps 6
 compiled_paced s some i =
     let inner = passes_within s some i.trigger.count.0 in
     let i1 = map Awaits (head_of Arm1 s.arm1) in

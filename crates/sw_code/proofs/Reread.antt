@@ -19,9 +19,9 @@ use Rattle.sw_code.specs.declared.code.Step.TheVariants as step
 use Rattle.sw_code.specs.declared.fault.ListFault.{ListFault}
 use Rattle.sw_code.specs.declared.fault.ListFault.TheVariants.{BadNumber, TooLong}
 use Rattle.sw_code.specs.declared.fault.ListError.{ListError}
-use Rattle.sw_code.specs.Range.{Program, most_steps, IsStep, IsChannel, HasChannel, IsInRange}
+use Rattle.sw_code.specs.Range.{Program, most_steps, IsStep, IsInChannelRange, HasChannel, IsProgramInRange}
 use Rattle.sw_base.specs.Limits.{most_slots, most_channels}
-use Rattle.sw_code.specs.Listing.{layer_word, channel_text, line_of, lines_of, parts_of, listing_of}
+use Rattle.sw_code.specs.Listing.{layer_word, channel_text, line_of, listed_lines, parts_of, listing_of}
 use Rattle.sw_code.specs.Reading.{parts_at, then_read, is_numeral, number_in, channel_in, step_in, meter_in, on_line, numbered_step, steps_in}
 use Rattle.sw_code.specs.Reading.{code_after_version, code_of_lines, code_in}
 use Rattle.sw_code.proofs.Listed.{first_of, only_of, some_parts, version_some, second_some, steps_some}
@@ -96,7 +96,7 @@ number_printed low high n l h small =
     sym (number_good low high (decimal n) n (all_three (nat_lt 0 (length (decimal n))) (nat_le (length (decimal n)) 20) (list_all is_digit (decimal n)) s
     (le-leb (length (decimal n)) 20 few) (digits_test (decimal n) d.0)) (sym d.1) l h)
 
-channel_printed : (c : Channel) → IsChannel c → channel_in (parts_at 33 (channel_text c)) ≡ Ok c
+channel_printed : (c : Channel) → IsInChannelRange c → channel_in (parts_at 33 (channel_text c)) ≡ Ok c
 channel_printed c r =
     let slot : c.0 ≤ 3600000000 = omega (arith, r.1) in
     let ch : c.1 ≤ 3600000000 = omega (arith, r.3) in
@@ -106,7 +106,7 @@ channel_printed c r =
     then_read x (λ (s : ℕ). then_read (number_in 1 most_channels (decimal c.1)) (λ (h : ℕ). Ok (s, h)))) (number_printed 1 most_slots c.0 r.0 r.1 slot)
     ∙ ap (λ (x : Result ℕ ListFault). then_read x (λ (h : ℕ). Ok (c.0, h))) (number_printed 1 most_channels c.1 r.2 r.3 ch)
 
-channel_lacks : (mark : ℕ) → is_digit mark ≡ false → not (33 == mark) ≡ true → (c : Channel) → IsChannel c → Lacks mark (channel_text c)
+channel_lacks : (mark : ℕ) → is_digit mark ≡ false → not (33 == mark) ≡ true → (c : Channel) → IsInChannelRange c → Lacks mark (channel_text c)
 channel_lacks mark h k c r =
     let slot : c.0 ≤ 3600000000 = omega (arith, r.1) in
     let ch : c.1 ≤ 3600000000 = omega (arith, r.3) in
@@ -190,24 +190,24 @@ numbered_printed line s i h l =
     ∙ ap (λ (b : Bool). cond b (Err TooLong) (Ok s)) t
 
 steps_printed : (steps : List Step) (line : ℕ) → AllByRecursion IsStep steps → AllByRecursion HasChannel steps → line + length steps ≤ 8195
-    → steps_in line (parts_at 10 (lines_of steps)) ≡ Ok steps
+    → steps_in line (parts_at 10 (listed_lines steps)) ≡ Ok steps
 steps_printed [] line i h l = refl
 steps_printed (s ∷ steps) line i h l =
     let text = join_with_byte 32 (parts_of s) in
-    let more = parts_at 10 (lines_of steps) in
+    let more = parts_at 10 (listed_lines steps) in
     let here : line ≤ 2 + most_steps = omega arith in
-    ap (steps_in line) (line_first text (lines_of steps) (line_lacks s i.0 h.0))
-    ∙ steps_some line text more (some_parts 10 (lines_of steps))
+    ap (steps_in line) (line_first text (listed_lines steps) (line_lacks s i.0 h.0))
+    ∙ steps_some line text more (some_parts 10 (listed_lines steps))
     ∙ ap (λ (r : Result Step ListFault). then_read (on_line line r) (λ (x : Step).
     then_read (steps_in (line + 1) more) (λ (l : List Step). Ok (x ∷ l)))) (numbered_printed line s i.0 h.0 here)
     ∙ ap (λ (r : Result (List Step) ListError). then_read r (λ (l : List Step). Ok (s ∷ l))) (steps_printed steps (line + 1) i.1 h.1 (omega arith))
 
-pub listing_printed : (p : Program) → IsInRange p → AllByRecursion HasChannel p.steps → code_in (listing_of p) ≡ Ok p
+pub listing_printed : (p : Program) → IsProgramInRange p → AllByRecursion HasChannel p.steps → code_in (listing_of p) ≡ Ok p
 listing_printed p i h =
     let m : p.meter ≤ 3600000000 = omega (arith, i.meter.1) in
     let second = codes "meter" ++ 32 ∷ decimal p.meter in
-    let rest = line_of (codes "meter" ∷ decimal p.meter ∷ []) ++ lines_of p.steps in
-    let lines = parts_at 10 (lines_of p.steps) in
+    let rest = line_of (codes "meter" ∷ decimal p.meter ∷ []) ++ listed_lines p.steps in
+    let lines = parts_at 10 (listed_lines p.steps) in
     let first_lacks : Lacks 10 (codes "scan 1") = (refl, (refl, (refl, (refl, (refl, (refl, tt)))))) in
     let second_lacks : Lacks 10 second = join_lacks (codes "meter") (decimal p.meter) (
       refl,
@@ -219,8 +219,8 @@ listing_printed p i h =
     let steps : steps_in 3 lines ≡ Ok p.steps = steps_printed p.steps 3 i.steps h (omega (arith, i.length)) in
     ap code_of_lines (line_first (codes "scan 1") rest first_lacks)
     ∙ version_some (codes "scan 1") (parts_at 10 rest) (some_parts 10 rest)
-    ∙ ap code_after_version (line_first second (lines_of p.steps) second_lacks)
-    ∙ second_some second lines (some_parts 10 (lines_of p.steps))
+    ∙ ap code_after_version (line_first second (listed_lines p.steps) second_lacks)
+    ∙ second_some second lines (some_parts 10 (listed_lines p.steps))
     ∙ ap (λ (r : Result ℕ ListFault). then_read (on_line 2 r) (λ (x : ℕ).
     then_read (steps_in 3 lines) (λ (l : List Step). Ok (record { meter = x; steps = l })))) meter
     ∙ ap (λ (r : Result (List Step) ListError). then_read r (λ (l : List Step). Ok (record { meter = p.meter; steps = l }))) steps

@@ -6,7 +6,7 @@ use Rattle.sw_code.specs.declared.code.Step.{Step}
 use Rattle.sw_code.specs.declared.code.Step.TheVariants as step
 use Rattle.sw_code.specs.Range.{Program}
 use Rattle.sw_trigger.specs.declared.layer.Layer.{Layer}
-use Rattle.sw_trigger.specs.Settings.{Setup}
+use Rattle.sw_trigger.specs.Settings.{SettingsSeen}
 use Rattle.sw_trigger.specs.Agenda.{Item, Awaits, head_of, passes}
 use Rattle.sw_code.specs.Tree.{Tree, Nil, Then, Times, step_of, flatten}
 
@@ -19,7 +19,7 @@ abbrev pub steps_of : List Item → List Step
 steps_of items = map step_of items
 
 -- the passes of one turn of the inmost ARM layer: whole rounds of the list as a loop, and the passes left over
-abbrev pub passes_tree : Setup → Tree
+abbrev pub passes_tree : SettingsSeen → Tree
 passes_tree s =
     let count = s.trigger.count in
     let n = length s.list in
@@ -30,9 +30,9 @@ passes_tree s =
 abbrev pub arm_tree : ℕ → LayerName → Layer → Tree → Tree
 arm_tree counter name layer inside = Times counter layer.count (line (map Awaits (head_of name layer)) inside) Nil
 
-abbrev pub tree_of : Setup → Tree
+abbrev pub tree_of : SettingsSeen → Tree
 tree_of s = arm_tree 0 Arm1 s.arm1 (arm_tree 1 Arm2 s.arm2 (passes_tree s))
 
 -- the code of settings
-abbrev pub compiled : Setup → Program
+abbrev pub compiled : SettingsSeen → Program
 compiled s = record { meter = s.meter; steps = flatten (tree_of s) 0 ++ step.Halt ∷ [] }

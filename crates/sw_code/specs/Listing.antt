@@ -31,11 +31,11 @@ parts_of step.Halt = codes "halt" ∷ []
 abbrev pub line_of : List (List ℕ) → List ℕ
 line_of parts = join_with_byte 32 parts ++ 10 ∷ []
 
-abbrev pub lines_of : List Step → List ℕ
-lines_of [] = []
-lines_of (s ∷ steps) = line_of (parts_of s) ++ lines_of steps
+abbrev pub listed_lines : List Step → List ℕ
+listed_lines [] = []
+listed_lines (s ∷ steps) = line_of (parts_of s) ++ listed_lines steps
 
 -- the version, the slot of the meter, and the steps
 abbrev pub listing_of : Program → List ℕ
 listing_of p = line_of (codes "scan" ∷ codes "1" ∷ [])
-    ++ (line_of (codes "meter" ∷ decimal p.meter ∷ []) ++ lines_of p.steps)
+    ++ (line_of (codes "meter" ∷ decimal p.meter ∷ []) ++ listed_lines p.steps)

@@ -27,16 +27,16 @@ IsStep (step.Loop k to) = (k ≤ 2) × (to < most_steps)
 IsStep step.Halt = Unit {0}
 
 -- a channel's slot and its number are in range
-abbrev pub IsChannel : Channel → Type 0
-IsChannel c = (1 ≤ c.0) × (c.0 ≤ most_slots) × (1 ≤ c.1) × (c.1 ≤ most_channels)
+abbrev pub IsInChannelRange : Channel → Type 0
+IsInChannelRange c = (1 ≤ c.0) × (c.0 ≤ most_slots) × (1 ≤ c.1) × (c.1 ≤ most_channels)
 
 -- the step's channel, if it has one, is in range
 abbrev pub HasChannel : Step → Type 0
-HasChannel (step.Close c) = IsChannel c
-HasChannel (step.Open c) = IsChannel c
+HasChannel (step.Close c) = IsInChannelRange c
+HasChannel (step.Open c) = IsInChannelRange c
 HasChannel _ = Unit {0}
 
-pub record IsInRange (p : Program) : Type 0 where
+pub record IsProgramInRange (p : Program) : Type 0 where
   pub meter : (1 ≤ p.meter) × (p.meter ≤ most_slots)
   pub length : length p.steps ≤ most_steps
   pub steps : AllByRecursion IsStep p.steps

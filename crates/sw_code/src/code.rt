@@ -3,7 +3,7 @@
 ghost use Rattle.std.specs.Prelude.{◌≡◌, ◌≤◌, length, List};
 ghost use Rattle.std.specs.List.{AllByRecursion};
 ghost use Rattle.sw_base.specs.Limits.{most_slots};
-ghost use Rattle.sw_code.specs.Range.{IsStep, IsInRange, most_steps};
+ghost use Rattle.sw_code.specs.Range.{IsStep, IsProgramInRange, most_steps};
 ghost use Rattle.sw_code.specs.Code.{Unfolds};
 ghost use Rattle.sw_trigger.specs.Agenda.{Item};
 ghost use Rattle.sw_code.specs.declared.code.Step.{Step};
@@ -49,11 +49,11 @@ impl Model for Code {
 
     ghost Value = { Program };
 
-    ghost use Rattle.sw_code.specs.Seen.{program_of, HoldsRange};
+    ghost use Rattle.sw_code.specs.Seen.{program_of, HoldsProgramRange};
 
     ghost view = { program_of };
 
-    ghost invariant = { HoldsRange };
+    ghost invariant = { HoldsProgramRange };
 }
 
 impl Code {
@@ -70,7 +70,7 @@ impl Code {
     /// The slot of its meter.
     pub fn meter(&self) -> u8
         ensures meter { result ≡ self.now.meter }
-        ensures range { IsInRange self.now }
+        ensures range { IsProgramInRange self.now }
     {
         self.meter
     }
@@ -78,7 +78,7 @@ impl Code {
     /// Its steps, from number 0 on.
     pub fn steps(&self) -> &[Step]
         ensures steps { result.now ≡ self.now.steps }
-        ensures range { IsInRange self.now }
+        ensures range { IsProgramInRange self.now }
     {
         self.steps.as_slice()
     }

@@ -7,7 +7,7 @@ ghost use Rattle.sw_trigger.specs.Settings.{layer_of};
 ghost use Rattle.sw_trigger.specs.Settings as settled;
 ghost use Rattle.sw_code.specs.declared.code.Step.TheVariants as step;
 ghost use Rattle.sw_code.specs.Code.{Unfolds};
-ghost use Rattle.sw_code.specs.Range.{IsInRange};
+ghost use Rattle.sw_code.specs.Range.{IsProgramInRange};
 ghost use Rattle.sw_code.specs.Tree.{flatten};
 ghost use Rattle.sw_code.specs.Compiled.{steps_of, passes_tree, compiled};
 
@@ -33,7 +33,7 @@ pub fn compile(alloc: Global, settings: &Settings) -> Result<Code, ScpiError>
 fn all_steps(alloc: Global, settings: &Settings) -> Result<Vec<Step>, AllocError>
     requires listed { 0 < length settings.now.list }
     ensures steps { IfOk result (λ steps. steps.items ≡ (compiled settings.now).steps) }
-    ensures range { IfOk result (λ steps. IsInRange (compiled settings.now)) }
+    ensures range { IfOk result (λ steps. IsProgramInRange (compiled settings.now)) }
     ensures unfolds { IfOk result (λ steps. Unfolds (compiled settings.now).steps (agenda settings.now)) }
 {
     let mut steps = Vec::new(alloc);

@@ -8,7 +8,7 @@ ghost use Rattle.sw_base.specs.Number.{value_of};
 ghost use Rattle.sw_code.specs.Reading.{parts_at, is_numeral, number_in, channel_in};
 
 use crate::fault::ListFault;
-use sw_base::{CHANNELS, Chan, SLOTS, cut, is_digit};
+use sw_base::{CHANNELS, Chan, SLOTS, is_digit, split_once};
 
 /// What stands before the first mark, and what follows it; none where there is no mark.
 pub fn first_part(bytes: &[u8], mark: u8) -> Option<(&[u8], &[u8])>
@@ -17,7 +17,7 @@ pub fn first_part(bytes: &[u8], mark: u8) -> Option<(&[u8], &[u8])>
     ensures more { IfSome result (λ x. 0 < length (parts_at mark x.1.now)) }
     ensures none { IfNone result (parts_at mark bytes.now ≡ bytes.now ∷ []) }
 {
-    cut(bytes, mark)
+    split_once(bytes, mark)
 }
 
 pub fn is_word(part: &[u8], word: &[u8]) -> bool

@@ -3,9 +3,9 @@
 ghost use Rattle.std.specs.Prelude.{◌≡◌, ◌++◌, [], ◌∷◌, List, ℕ, Ok, IfOk, IfErr, OnOk, decimal};
 ghost use Rattle.std.specs.List.{AllByRecursion, join_with_byte};
 ghost use Rattle.sw_base.specs.declared.error.ScpiError.TheVariants.{OutOfMemory};
-ghost use Rattle.sw_code.specs.Listing.{channel_text, parts_of, line_of, lines_of, listing_of, layer_word};
+ghost use Rattle.sw_code.specs.Listing.{channel_text, parts_of, line_of, listed_lines, listing_of, layer_word};
 ghost use Rattle.sw_code.specs.Reading.{code_in};
-ghost use Rattle.sw_code.specs.Range.{IsChannel, HasChannel, IsInRange};
+ghost use Rattle.sw_code.specs.Range.{IsInChannelRange, HasChannel, IsProgramInRange};
 ghost use Rattle.sw_code.specs.declared.code.Step.TheVariants as step;
 
 use crate::code::{Code, Step};
@@ -28,7 +28,7 @@ pub fn print_listing(alloc: Global, code: &Code) -> Result<Vec<u8>, ScpiError>
 fn all_lines(alloc: Global, code: &Code) -> Result<Vec<u8>, AllocError>
     ensures printed { IfOk result (λ v. v.items ≡ listing_of code.now) }
     ensures channels { IfOk result (λ v. AllByRecursion HasChannel code.now.steps) }
-    ensures range { IfOk result (λ v. IsInRange code.now) }
+    ensures range { IfOk result (λ v. IsProgramInRange code.now) }
 {
     let mut out = Vec::new(alloc);
     out.extend_from_slice(b"scan 1\nmeter ")?;
@@ -39,7 +39,7 @@ fn all_lines(alloc: Global, code: &Code) -> Result<Vec<u8>, AllocError>
 }
 
 fn put_steps(out: &mut Vec<u8>, steps: &[Step]) -> Result<(), AllocError>
-    ensures printed { OnOk result (out.new.items ≡ out.old.items ++ lines_of steps.now) }
+    ensures printed { OnOk result (out.new.items ≡ out.old.items ++ listed_lines steps.now) }
     ensures channels { OnOk result (AllByRecursion HasChannel steps.now) }
 {
     for step in steps {
@@ -100,7 +100,7 @@ fn put_wait(out: &mut Vec<u8>, name: LayerName) -> Result<(), AllocError>
 /// Adds a word with its space, and `slot!channel`.
 fn put_channel(out: &mut Vec<u8>, word: &[u8], channel: Chan) -> Result<(), AllocError>
     ensures printed { OnOk result (out.new.items ≡ out.old.items ++ (word.now ++ channel_text channel)) }
-    ensures range { IsChannel channel }
+    ensures range { IsInChannelRange channel }
 {
     let slot = channel.slot();
     let ch = channel.ch();

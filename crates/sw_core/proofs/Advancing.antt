@@ -8,7 +8,7 @@ use Rattle.sw_base.specs.declared.reading.Reading.{Reading}
 use Rattle.sw_card.specs.declared.board.CardFault.{CardFault}
 use Rattle.sw_trigger.specs.declared.layer.Awaited.{Awaited}
 use Rattle.sw_trigger.specs.declared.layer.Awaited.TheVariants.{Read}
-use Rattle.sw_trigger.specs.Settings.{Setup}
+use Rattle.sw_trigger.specs.Settings.{SettingsSeen}
 use Rattle.sw_trigger.specs.Agenda.{Item, Awaits, Close, Open, agenda}
 use Rattle.sw_trigger.specs.Counts.{awaiting, reads}
 use Rattle.sw_verify.specs.Sound.{effect}
@@ -28,7 +28,7 @@ use Rattle.sw_core.specs.Step.{Returns}
 use Rattle.sw_cage.proofs.SlotChangeLemmas.{some_slot}
 use Rattle.sw_cage.proofs.AdvanceLemmas.{closed_back}
 use Rattle.sw_core.proofs.Course.{drop_past, leaves, Holds, SameClosed, holds_same, holds_none, holds_goes}
-use Rattle.sw_core.specs.View.{AskView, AskFinished, AnswerView}
+use Rattle.sw_core.specs.Seen.{AskSeen, AskFinished, AnswerSeen}
 use Rattle.std.proofs.lemmas.List.{length-append}
 use Rattle.std.specs.Prelude.{IfOk}
 use Rattle.sw_core.specs.Ends.{left_at, left_of, left_in}
@@ -38,7 +38,7 @@ use Rattle.sw_trigger.proofs.Awaiting.{reads-append}
 use Rattle.sw_cage.specs.Good.{IsUnderway}
 use Rattle.sw_cage.proofs.SlotChangeLemmas.{all_open_closed}
 use Rattle.sw_cage.proofs.UnderwayLemmas.{reads_way, reads_past}
-use Rattle.sw_core.specs.View.{IsOwnAccount}
+use Rattle.sw_core.specs.Seen.{IsOwnAccount}
 use Rattle.sw_core.specs.Run.{AddsOwn}
 use Rattle.sw_core.specs.Ends.{breaks_off}
 use Rattle.sw_core.proofs.Course.{effect_next, past_closed}
@@ -72,19 +72,19 @@ left_past at x e =
     awaited_first (drop at.index (agenda at.setup)) x e ∙ ap (λ (l : List Item). suc (length (awaiting l))) (sym (drop_past at.index 1 (agenda at.setup)))
 
 -- and the next is come to
-pub left_next : (s : Setup) (i : ℕ) → left_at (next_place s i) ≡ length (awaiting (drop i (agenda s)))
+pub left_next : (s : SettingsSeen) (i : ℕ) → left_at (next_place s i) ≡ length (awaiting (drop i (agenda s)))
 left_next s i =
     ap (λ (l : List Item). length (awaiting l)) (drop_past i (length (moves_from s i)) (agenda s))
     ∙ ap (λ (l : List Awaited). length l) (lead_awaits (drop i (agenda s)))
 
-left_none : (s : Setup) (i : ℕ) → awaits (next_place s i) ≡ None → length (awaiting (drop i (agenda s))) ≡ 0
+left_none : (s : SettingsSeen) (i : ℕ) → awaits (next_place s i) ≡ None → length (awaiting (drop i (agenda s))) ≡ 0
 left_none s i e =
     ap (λ (l : List Awaited). length l) (lead_ends (drop i (agenda s)) (ap first_awaited (sym (drop_past i (length (moves_from s i)) (agenda s))) ∙ e))
 
 -- ---- scans
 
 -- where a scan is that came to the next awaited item from item i on
-pub left_arrives : (old new : Occupancy) (number : ℕ) (s : Setup) (i : ℕ) (told : TakenSeen) (scan : Option ScanSeen)
+pub left_arrives : (old new : Occupancy) (number : ℕ) (s : SettingsSeen) (i : ℕ) (told : TakenSeen) (scan : Option ScanSeen)
     → Arrives old number (next_place s i) told new scan → left_of scan ≡ length (awaiting (drop i (agenda s)))
 left_arrives old new number s i SaysWaits scan h = ap left_of h.2 ∙ left_next s i
 left_arrives old new number s i (SaysPause ticket micros) scan h = ap left_of h.3 ∙ left_next s i
@@ -96,7 +96,7 @@ left_arrives old new number s i told scan h = absurd h
 abbrev IsLeft : Option ScanSeen → ℕ → Type 0
 IsLeft scan n = (left_of scan ≡ n) ⊎ (scan ≡ None)
 
-left_runs : (old new : Occupancy) (number : ℕ) (s : Setup) (i : ℕ) (told : TakenSeen) (scan : Option ScanSeen)
+left_runs : (old new : Occupancy) (number : ℕ) (s : SettingsSeen) (i : ℕ) (told : TakenSeen) (scan : Option ScanSeen)
     → AdvancesOrFails old number (moves_from s i) (next_place s i) told new scan → IsLeft scan (length (awaiting (drop i (agenda s))))
 left_runs old new number s i SaysFault scan h = inr h.over
 left_runs old new number s i SaysIgnored scan h = inl (left_arrives (record old { cards = h.cards }) new number s i SaysIgnored scan h.arrives)
@@ -150,13 +150,13 @@ lead_nil (Awaits w ∷ l) e = absurd (cc (e))
 lead_nil (Close c ∷ l) e = lead_nil l e
 lead_nil (Open c ∷ l) e = lead_nil l e
 
-place_nil : (s : Setup) (i : ℕ) → awaits (next_place s i) ≡ None → drop (i + length (moves_from s i)) (agenda s) ≡ []
+place_nil : (s : SettingsSeen) (i : ℕ) → awaits (next_place s i) ≡ None → drop (i + length (moves_from s i)) (agenda s) ≡ []
 place_nil s i e =
     let there = drop_past i (length (moves_from s i)) (agenda s) in
     there ∙ lead_nil (drop i (agenda s)) (ap first_awaited (sym there) ∙ e)
 
 -- where nothing is left, what was done is all
-reads_all : (s : Setup) (n : ℕ) → drop n (agenda s) ≡ [] → reads (take n (agenda s)) ≡ reads (agenda s)
+reads_all : (s : SettingsSeen) (n : ℕ) → drop n (agenda s) ≡ [] → reads (take n (agenda s)) ≡ reads (agenda s)
 reads_all s n e =
     let whole = ap reads (sym (take-append-drop n (agenda s))) ∙ reads-append (take n (agenda s)) (drop n (agenda s)) in
     let rest : reads (drop n (agenda s)) ≡ 0 = ap reads e in
@@ -182,7 +182,7 @@ Ends off p taken q = (at : ScanSeen) → p.scan ≡ Some at → IsUnderway p at 
     → Completed p at taken q ⊎ ((off ≡ true) × Stopped at q)
 
 -- what an ask does that begins no scan
-pub record Moves (ask : AskView) (answer : AnswerView) (p : Panel) (taken : ℕ) (q : Panel) : Type 0 where
+pub record Moves (ask : AskSeen) (answer : AnswerSeen) (p : Panel) (taken : ℕ) (q : Panel) : Type 0 where
   pub near : Nears p taken q
   pub ends : Ends (breaks_off ask answer) p.cage taken q.cage
   pub adds : IsOwnAccount ask → AddsOwn ask p.cage.readings q.cage.readings
@@ -190,7 +190,7 @@ pub record Moves (ask : AskView) (answer : AnswerView) (p : Panel) (taken : ℕ)
 still_runs : (p q : CageSeen) (at : ScanSeen) → p.scan ≡ Some at → q.scan ≡ p.scan → q.scan ≡ None → ⊥
 still_runs p q at is e over = let n = sym is ∙ sym e ∙ over in cc (n)
 
-pub move_same : (ask : AskView) (a : AnswerView) (p q : Panel) → q.cage.scan ≡ p.cage.scan → SameClosed p.cage q.cage → q.cage.readings ≡ p.cage.readings
+pub move_same : (ask : AskSeen) (a : AnswerSeen) (p q : Panel) → q.cage.scan ≡ p.cage.scan → SameClosed p.cage q.cage → q.cage.readings ≡ p.cage.readings
     → Moves ask a p 0 q
 move_same ask a p q e c r = record {
   near = near_same p q e c;
@@ -198,7 +198,7 @@ move_same ask a p q e c r = record {
   adds = λ own. inl r;
 }
 
-pub move_is : (ask : AskView) (a : AnswerView) (p q : Panel) → q ≡ p → Moves ask a p 0 q
+pub move_is : (ask : AskSeen) (a : AnswerSeen) (p q : Panel) → q ≡ p → Moves ask a p 0 q
 move_is ask a p q e =
     move_same ask a p q (ap (λ (x : Panel). x.cage.scan) e) (λ c. ap (λ (x : Panel). is_closed x.cage.cards c) e) (ap (λ (x : Panel). x.cage.readings) e)
 
@@ -210,7 +210,7 @@ IsIdle p q = (p.scan ≡ None) × (q.scan ≡ None) × (q.readings ≡ p.reading
 abbrev pub IsCut : Bool → CageSeen → CageSeen → Type 0
 IsCut off p q = (off ≡ true) × (q.scan ≡ None) × ((c : Channel) → is_closed q.cards c ≡ false) × ((q.readings ≡ p.readings) ⊎ (q.readings ≡ []))
 
-pub move_idle : (ask : AskView) (a : AnswerView) (p q : Panel) → IsIdle p.cage q.cage → Moves ask a p 0 q
+pub move_idle : (ask : AskSeen) (a : AnswerSeen) (p q : Panel) → IsIdle p.cage q.cage → Moves ask a p 0 q
 move_idle ask a p q i = record {
   near = near_none p q i.1;
   ends = λ at is u over. absurd (let n = sym is ∙ i.0 in cc (n));
@@ -222,7 +222,7 @@ stopped_by : (at : ScanSeen) (p q : CageSeen) → IsUnderway p at → ((c : Chan
 stopped_by at p q u none (inl e) = record { none = none; items = at.index; readings = ap (λ (l : List Reading). length l) e ∙ u.readings }
 stopped_by at p q u none (inr e) = record { none = none; items = 0; readings = ap (λ (l : List Reading). length l) e }
 
-pub move_cut : (ask : AskView) (a : AnswerView) (p q : Panel) → IsCut (breaks_off ask a) p.cage q.cage → Moves ask a p 0 q
+pub move_cut : (ask : AskSeen) (a : AnswerSeen) (p q : Panel) → IsCut (breaks_off ask a) p.cage q.cage → Moves ask a p 0 q
 move_cut ask a p q h = record {
   near = near_none p q h.1;
   ends = λ at is u over. inr (h.0, stopped_by at p.cage q.cage u h.2 h.3);
@@ -274,7 +274,7 @@ ends_goes off p from q at x SaysEnded e same count fault u g over = inl (complet
 ends_goes off p from q at x SaysFault e same count fault u g over = inr (fault refl, faults p from q at x e count u g)
 
 -- what a taken happening comes with: a card's failure breaks the scan off, and what is added is the meter's own
-pub record Takes1 (ask : AskView) (answer : AnswerView) (p : CageSeen) (from : CageSeen) (x : Awaited) (told : TakenSeen) : Type 0 where
+pub record Takes1 (ask : AskSeen) (answer : AnswerSeen) (p : CageSeen) (from : CageSeen) (x : Awaited) (told : TakenSeen) : Type 0 where
   pub fault : told ≡ SaysFault → breaks_off ask answer ≡ true
   pub same : SameClosed p from
   pub count : length from.readings ≡ length p.readings + is_reading x
@@ -283,7 +283,7 @@ pub record Takes1 (ask : AskView) (answer : AnswerView) (p : CageSeen) (from : C
 same_scan : (p : CageSeen) (at at' : ScanSeen) → p.scan ≡ Some at → p.scan ≡ Some at' → at ≡ at'
 same_scan p at at' e f = let h = sym e ∙ f in cc (h)
 
-pub move_goes : (ask : AskView) (a : AnswerView) (p q : Panel) (from : CageSeen) (at : ScanSeen) (x : Awaited) (told : TakenSeen) → p.cage.scan ≡ Some at
+pub move_goes : (ask : AskSeen) (a : AnswerSeen) (p q : Panel) (from : CageSeen) (at : ScanSeen) (x : Awaited) (told : TakenSeen) → p.cage.scan ≡ Some at
     → awaits at ≡ Some x
     → Takes1 ask a p.cage from x told → Advances from at.setup (at.index + 1) told q.cage → Moves ask a p 1 q
 move_goes ask a p q from at x told is e t g = record {
@@ -295,14 +295,14 @@ move_goes ask a p q from at x told is e t g = record {
   adds = λ own. subst (λ (l : List Reading). AddsOwn ask p.cage.readings l) (sym g.readings) (t.own own);
 }
 
-takes_some : (s : Setup) (present : Ticket) (o : Option Awaited) (happening : Happening) → TakesIf s present o happening → (x : Awaited) × (o ≡ Some x)
+takes_some : (s : SettingsSeen) (present : Ticket) (o : Option Awaited) (happening : Happening) → TakesIf s present o happening → (x : Awaited) × (o ≡ Some x)
     × (is_reading x ≡ 0)
 takes_some s present None happening h = absurd h
 takes_some s present (Some (Wait name)) happening h = (Wait name, refl, refl)
 takes_some s present (Some (Pause micros)) happening h = (Pause micros, refl, refl)
 takes_some s present (Some Read) happening h = absurd h
 
-move_past : (ask : AskView) (a : AnswerView) (p q : Panel) (happening : Happening) (told : TakenSeen) (scan : Option ScanSeen)
+move_past : (ask : AskSeen) (a : AnswerSeen) (p q : Panel) (happening : Happening) (told : TakenSeen) (scan : Option ScanSeen)
     → (told ≡ SaysFault → breaks_off ask a ≡ true)
     → p.cage.scan ≡ scan → TakesThere p.cage.number scan happening → AdvancesPastFrom p.cage scan told q.cage → Moves ask a p 1 q
 move_past ask a p q happening told None fault is h g = absurd h
@@ -314,7 +314,7 @@ abbrev pub of_taken : TakenSeen → ℕ
 of_taken SaysIgnored = 0
 of_taken told = 1
 
-pub move_happens : (ask : AskView) (a : AnswerView) (p : Panel) (happening : Happening) (f : Bool) (told : TakenSeen) (q : Panel)
+pub move_happens : (ask : AskSeen) (a : AnswerSeen) (p : Panel) (happening : Happening) (f : Bool) (told : TakenSeen) (q : Panel)
     → (told ≡ SaysFault → breaks_off ask a ≡ true)
     → Happens p happening f told q → Moves ask a p (of_taken told) q
 move_happens ask a p happening f SaysIgnored q fault h = move_is ask a p q h.2
@@ -329,7 +329,7 @@ own_reading : (done : FinishedSeen) (r : Reading) → done.outcome ≡ Ok r → 
 own_reading done r e own = subst (λ (o : Result Reading CardFault). IfOk o (λ r. done.meter.last ≡ Some r)) e own.reading
 
 -- a meter's return that the scan takes
-move_counted : (a : AnswerView) (p q : Panel) (done : FinishedSeen) (told : TakenSeen) (scan : Option ScanSeen) (outcome : Result Reading CardFault)
+move_counted : (a : AnswerSeen) (p q : Panel) (done : FinishedSeen) (told : TakenSeen) (scan : Option ScanSeen) (outcome : Result Reading CardFault)
     → (told ≡ SaysFault → breaks_off (AskFinished done) a ≡ true) → done.outcome ≡ outcome → p.cage.scan ≡ scan
     → TakesReturnThere p.cage.number scan done.slot done.ticket
     → SameClosed p.cage (with_back p.cage done) → Counts (with_back p.cage done) outcome told q.cage → Moves (AskFinished done) a p 1 q
@@ -359,7 +359,7 @@ same_back c done k e =
     let b : (0 < done.slot) × (done.slot ≤ length c.out) = some_slot c.out done.slot out in
     closed_back c.cards done.slot done.meter (omega (arith, b.0)) (omega (arith, b.1, k.outs, k.slots)) (k.empty done.slot out)
 
-pub move_returns : (a : AnswerView) (p : Panel) (done : FinishedSeen) (f : Bool) (told : TakenSeen) (q : Panel)
+pub move_returns : (a : AnswerSeen) (p : Panel) (done : FinishedSeen) (f : Bool) (told : TakenSeen) (q : Panel)
     → (told ≡ SaysFault → breaks_off (AskFinished done) a ≡ true)
     → SameClosed p.cage (with_back p.cage done) → Returns p done f told q → Moves (AskFinished done) a p (of_taken told) q
 move_returns a p done f SaysIgnored q fault same h =

@@ -14,7 +14,7 @@ use Rattle.sw_core.specs.declared.ask.SessionAnswer.{SessionAnswer}
 use Rattle.sw_core.specs.declared.ask.SessionAnswer.TheVariants.{Stranger, Done, Refused}
 use Rattle.sw_core.specs.Panel.{Panel, is_running}
 use Rattle.sw_core.specs.Sessions.{IsJoined}
-use Rattle.sw_core.specs.View.{WorkView}
+use Rattle.sw_core.specs.Seen.{WorkSeen}
 use Rattle.sw_core.specs.Step.{StepRefused, StepReadings, StepAlone, StepEffect, StepHeld, StepAction, session_told, StepJoined, StepAdmitted, StepSession}
 use Rattle.sw_core.specs.Step.{Admission, Dropped, ShutOut, Admitted, drops, shuts_out, admission}
 
@@ -60,7 +60,7 @@ told_answered error SaysFault = tt
 pub happening_answered : (error : ScpiError) (told : TakenSeen) (a : SessionAnswer) → a ≡ session_told error told → IsAnswered a
 happening_answered error told a is = subst (λ (x : SessionAnswer). IsAnswered x) (sym is) (told_answered error told)
 
-pub effect_answered : (e : Effect) (p : Panel) (f : Bool) (a : SessionAnswer) (w : Option WorkView) (q : Panel) → StepEffect e p f a w q → IsAnswered a
+pub effect_answered : (e : Effect) (p : Panel) (f : Bool) (a : SessionAnswer) (w : Option WorkSeen) (q : Panel) → StepEffect e p f a w q → IsAnswered a
 effect_answered (Offers happening error) p f a w q h = happening_answered error h.told a h.answer_is
 effect_answered e p f a w q h = alone_answered e p f a q h.0
 
@@ -69,7 +69,7 @@ refused_answered p error f (Refused e) q h = tt
 refused_answered p error f a q h = absurd h
 
 -- refused or carried out
-pub barred_answered : (b : Bool) (e : Effect) (p : Panel) (f : Bool) (a : SessionAnswer) (w : Option WorkView) (q : Panel)
+pub barred_answered : (b : Bool) (e : Effect) (p : Panel) (f : Bool) (a : SessionAnswer) (w : Option WorkSeen) (q : Panel)
     → MatchBool b (StepRefused p SettingsConflict f a q × (w ≡ None)) (StepEffect e p f a w q) → IsAnswered a
 barred_answered true e p f a w q h = refused_answered p SettingsConflict f a q h.0
 barred_answered false e p f a w q h = effect_answered e p f a w q h
@@ -105,7 +105,7 @@ known p (Ask.Attach number) f q h = h.served
 known p Ask.Join f q h = h.served
 
 -- what a joined session asks that is neither dropped nor kept out
-pub admitted : (p : Panel) (sid : Sid) (ask : SessionAsk) (f : Bool) (a : SessionAnswer) (w : Option WorkView) (q : Panel) → IsJoined p.sessions sid
+pub admitted : (p : Panel) (sid : Sid) (ask : SessionAsk) (f : Bool) (a : SessionAnswer) (w : Option WorkSeen) (q : Panel) → IsJoined p.sessions sid
     → drops p sid ask ≡ false → shuts_out p sid ask ≡ false → StepJoined p ask f a w q → StepSession (Some sid) p ask f a w q
 admitted p sid ask f a w q joined d o h = by_answer a w h
   where
@@ -114,10 +114,10 @@ admitted p sid ask f a w q joined d o h = by_answer a w h
         ap (λ (b : Bool). if b then Dropped else if shuts_out p sid ask then ShutOut else Admitted) d
         ∙ ap (λ (b : Bool). if b then ShutOut else Admitted) o
 
-    clear : (a : SessionAnswer) (w : Option WorkView) → StepJoined p ask f a w q → StepAdmitted (admission p sid ask) p ask f a w q
+    clear : (a : SessionAnswer) (w : Option WorkSeen) → StepJoined p ask f a w q → StepAdmitted (admission p sid ask) p ask f a w q
     clear a w h =
         subst (λ (x : Admission). StepAdmitted x p ask f a w q) (sym goes_on) h
 
-    by_answer : (a : SessionAnswer) (w : Option WorkView) → StepJoined p ask f a w q → StepSession (Some sid) p ask f a w q
+    by_answer : (a : SessionAnswer) (w : Option WorkSeen) → StepJoined p ask f a w q → StepSession (Some sid) p ask f a w q
     by_answer Stranger None h = absurd (known p ask f q h)
     by_answer a w h = (joined, clear a w h)

@@ -8,7 +8,7 @@ use Rattle.sw_cage.specs.Change.{Sets, IsDisturbed, any_failed, option_failed, i
 use Rattle.sw_cage.proofs.SlotChangeLemmas.{all_open_closed, slot_get}
 use Rattle.std.specs.Prelude.{if◌then◌else◌}
 use Rattle.sw_cage.specs.Cage.{CageSeen, safe_state}
-use Rattle.sw_cage.specs.Cage.{with_cards as cage_with}
+use Rattle.sw_cage.specs.Cage.{cage_with_cards as cage_with}
 use Rattle.sw_cage.specs.Install.{stopped, without_card}
 use Rattle.sw_cage.proofs.ChannelCallLemmas.{or_false, failed_rest, failed_rest_old, sets_unfailed, identities_all_open}
 use Rattle.sw_core.specs.Step.{IsFailSafe}

@@ -3,7 +3,7 @@ use Rattle.std.proofs.Common.{◌≡◌, ℕ, zero, suc, ◌+◌, ◌<◌, ◌�
 use mathlib.Core.Path.{fun_ext}
 use Rattle.sw_base.specs.Layout.{Channel}
 use Rattle.sw_trigger.specs.declared.layer.Awaited.{Awaited}
-use Rattle.sw_trigger.specs.Settings.{Setup}
+use Rattle.sw_trigger.specs.Settings.{SettingsSeen}
 use Rattle.sw_trigger.specs.Agenda.{Item, Awaits, Close, Open, agenda}
 use Rattle.sw_verify.specs.Channels.{Channels, with_channel, without}
 use Rattle.sw_verify.specs.Sound.{effect}
@@ -47,7 +47,7 @@ effect_first b (Awaits w ∷ l) x e = refl
 effect_first b (Close c ∷ l) x e = absurd (cc (e))
 effect_first b (Open c ∷ l) x e = absurd (cc (e))
 
-pub effect_next : (b : Channels) (s : Setup) (i : ℕ)
+pub effect_next : (b : Channels) (s : SettingsSeen) (i : ℕ)
     → effect (effect b (moves_from s i)) (drop (i + length (moves_from s i)) (agenda s)) ≡ effect b (drop i (agenda s))
 effect_next b s i =
     ap (λ (l : List Item). effect (effect b (moves_from s i)) l) (drop_past i (length (moves_from s i)) (agenda s)) ∙ effect_lead b (drop i (agenda s))
@@ -55,10 +55,11 @@ effect_next b s i =
 -- ---- moves
 
 -- a scan stands at this place, by these settings, and would leave closed what these items do
-abbrev IsCome : Accounts → Channels → Setup → ℕ → ScanSeen → Type 0
+abbrev IsCome : Accounts → Channels → SettingsSeen → ℕ → ScanSeen → Type 0
 IsCome rack b s i at = (at.setup ≡ s) × (leaves rack at ≡ effect b (drop i (agenda s)))
 
-come : (old mid new : Accounts) (s : Setup) (i : ℕ) (scan : Option ScanSeen) (at : ScanSeen) → Moved old (moves_from s i) mid → is_closed new ≡ is_closed mid
+come : (old mid new : Accounts) (s : SettingsSeen) (i : ℕ) (scan : Option ScanSeen) (at : ScanSeen) → Moved old (moves_from s i) mid
+    → is_closed new ≡ is_closed mid
     → scan ≡ Some (next_place s i) → scan ≡ Some at → IsCome new (is_closed old) s i at
 come old mid new s i scan at m e f g =
     let there : next_place s i ≡ at = let h = sym f ∙ g in cc (h) in
@@ -77,7 +78,7 @@ sent_closed old slot ticket job new h =
     ap (λ (x : Occupancy). is_closed x.cards) h.after ∙ fun_ext (closed_sent old.cards slot job.meter (omega (arith, b.0)) b.1 h.meter)
 
 -- where a scan comes to it leaves closed what it would have before
-pub leaves_goes : (old new : Occupancy) (number : ℕ) (s : Setup) (i : ℕ) (told : TakenSeen) (scan : Option ScanSeen) (at : ScanSeen)
+pub leaves_goes : (old new : Occupancy) (number : ℕ) (s : SettingsSeen) (i : ℕ) (told : TakenSeen) (scan : Option ScanSeen) (at : ScanSeen)
     → AdvancesOrFails old number (moves_from s i) (next_place s i) told new scan → scan ≡ Some at → IsCome new.cards (is_closed old.cards) s i at
 leaves_goes old new number s i SaysFault scan at h e = absurd (let n = sym h.over ∙ e in cc (n))
 leaves_goes old new number s i SaysIgnored scan at h e = absurd h.arrives

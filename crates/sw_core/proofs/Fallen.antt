@@ -11,7 +11,7 @@ use Rattle.sw_base.specs.declared.error.ScpiError.TheVariants.{OutOfMemory, Trig
 use Rattle.sw_card.specs.Account.{Account, none_closed}
 use Rattle.sw_card.specs.declared.board.CardFault.{CardFault}
 use Rattle.sw_status.specs.StatusModel.{StatusSeen}
-use Rattle.sw_trigger.specs.Settings.{Setup}
+use Rattle.sw_trigger.specs.Settings.{SettingsSeen}
 use Rattle.sw_verify.specs.declared.snapshot.Snapshot.{Snapshot}
 use Rattle.sw_cage.specs.Accounts.{Accounts, is_closed, all_open, option_rest}
 use Rattle.sw_cage.specs.Change.{identity}
@@ -37,8 +37,8 @@ use Rattle.sw_core.specs.Action.{Effect, TellsNumber, TellsText, TellsReadings, 
 use Rattle.sw_core.specs.Action.{Resets, reset, Offers, Refuses, IsOfMacros, Initiates, Action, AtOnce, BetweenScans, AfterScan, action_of}
 use Rattle.sw_core.specs.Seats.{asker_of}
 use Rattle.sw_core.specs.Event.{concluded, ended, erred, last_number}
-use Rattle.sw_core.specs.View.{WorkView, AskView, AskSession, AskInstall, AskEject, AskExternal, AskElapsed, AskFinished, AnswerView, SaysSession}
-use Rattle.sw_core.specs.View.{SaysInstalled, SaysNotInstalled, SaysEjected, SaysNotEjected, SaysFailed, SaysBack, SaysWorn}
+use Rattle.sw_core.specs.Seen.{WorkSeen, AskSeen, AskSession, AskInstall, AskEject, AskExternal, AskElapsed, AskFinished, AnswerSeen, SaysSession}
+use Rattle.sw_core.specs.Seen.{SaysInstalled, SaysNotInstalled, SaysEjected, SaysNotEjected, SaysFailed, SaysBack, SaysWorn}
 use Rattle.sw_core.specs.Step.{IsFailSafe, FailsSafe, StepClose, StepOpen, StepFlags, StepText, StepDone, StepSetting, StepRefused, StepReadings, StepAlone}
 use Rattle.sw_core.specs.Step.{Happens, StepHappens, StepEffect, StepHeld, StepAction, StepSnapshot, IsStarted, Starts, StepStart, IsServed, StepJoined}
 use Rattle.sw_core.specs.Step.{session_told, work_of, started_answer, outside_told, acts_unnumbered, IsEvent, IsUnnumbered, Step}
@@ -101,7 +101,8 @@ reported p = record p { status = card_fault_reported p.status }
 abbrev cut : Panel → CageSeen → Panel
 cut p cage = record p { cage = record cage { scan = None }; status = card_fault_reported p.status }
 
-fallen_cage : (c d : CageSeen) (s : Setup) (i : ℕ) → Advances c s i SaysFault d → IsFailSafe c.cards d.cards × (d ≡ record c { cards = d.cards; scan = None })
+fallen_cage : (c d : CageSeen) (s : SettingsSeen) (i : ℕ) → Advances c s i SaysFault d
+    → IsFailSafe c.cards d.cards × (d ≡ record c { cards = d.cards; scan = None })
 fallen_cage c d s i h =
     let bays : occupancy_of d ≡ occupancy_of (record c { cards = d.cards; scan = None }) =
     ap (λ (o : List (Option Ticket)). let r : Occupancy = record { cards = d.cards; out = o } in r) h.runs.out in (
@@ -120,7 +121,7 @@ cut_falls p q c safe is e = (safe, e ∙ ap (λ (x : CageSeen). let r : Panel = 
 
 -- ---- commands
 
-abbrev IsToldFall : Panel → SessionAnswer → Option WorkView → Panel → Type 0
+abbrev IsToldFall : Panel → SessionAnswer → Option WorkSeen → Panel → Type 0
 IsToldFall base a w q = (a ≡ Refused HardwareError) × (w ≡ None) × Falls base q
 
 -- what a happening that is offered tells
@@ -144,7 +145,8 @@ no_done : (after : Panel) (a : SessionAnswer) (q : Panel) → StepDone after tru
 no_done after (Done None) q h = true_is_false h.0
 no_done after a q h = absurd h
 
-no_setting : (p : Panel) (Fits : Type 0) (error : ScpiError) (setup : Setup) (a : SessionAnswer) (q : Panel) → StepSetting p Fits error setup true a q → ⊥
+no_setting : (p : Panel) (Fits : Type 0) (error : ScpiError) (setup : SettingsSeen) (a : SessionAnswer) (q : Panel) → StepSetting p Fits error setup true a q
+    → ⊥
 no_setting p Fits error setup (Done None) q h = true_is_false h.0
 no_setting p Fits error setup (Refused e) q h = true_is_false h.0
 no_setting p Fits error setup a q h = absurd h
@@ -200,17 +202,17 @@ abbrev fallen_effect : Effect → Panel → Panel
 fallen_effect (Offers happening error) p = cut p p.cage
 fallen_effect d p = reported p
 
-told_happening : (p : Panel) (happening : Happening) (error : ScpiError) (a : SessionAnswer) (w : Option WorkView) (q : Panel)
+told_happening : (p : Panel) (happening : Happening) (error : ScpiError) (a : SessionAnswer) (w : Option WorkSeen) (q : Panel)
     → StepHappens p happening error true a w q → IsToldFall (cut p p.cage) a w q
 told_happening p happening error a w q h =
     let t = told_happens p happening h.told q h.happens in
     (h.answer_is ∙ ap (λ (x : TakenSeen). session_told error x) t.0, h.work_is ∙ ap (λ (x : TakenSeen). work_of x) t.0, t.1)
 
-told_effect : (d : Effect) (p : Panel) (a : SessionAnswer) (w : Option WorkView) (q : Panel) → StepEffect d p true a w q → IsToldFall (fallen_effect d p) a w q
+told_effect : (d : Effect) (p : Panel) (a : SessionAnswer) (w : Option WorkSeen) (q : Panel) → StepEffect d p true a w q → IsToldFall (fallen_effect d p) a w q
 told_effect (Offers happening error) p a w q h = told_happening p happening error a w q h
 told_effect d p a w q h = let r = told_alone d p a q h.0 in (r.0, h.1, r.1)
 
-no_held : (p : Panel) (ask : SessionAsk) (a : SessionAnswer) (w : Option WorkView) (q : Panel) → StepHeld p ask true a w q → ⊥
+no_held : (p : Panel) (ask : SessionAsk) (a : SessionAnswer) (w : Option WorkSeen) (q : Panel) → StepHeld p ask true a w q → ⊥
 no_held p ask (Hold back) None q h = true_is_false h.0
 no_held p ask a w q h = absurd h
 
@@ -223,7 +225,7 @@ either_fell : (b : Bool) (A B C : Type 0) → (A → ⊥) → (B → C) → Matc
 either_fell true A B C never on h = absurd (never h)
 either_fell false A B C never on h = on h
 
-told_action : (x : Action) (p : Panel) (ask : SessionAsk) (a : SessionAnswer) (w : Option WorkView) (q : Panel) → StepAction x p ask true a w q
+told_action : (x : Action) (p : Panel) (ask : SessionAsk) (a : SessionAnswer) (w : Option WorkSeen) (q : Panel) → StepAction x p ask true a w q
     → IsToldFall (fallen_action x p) a w q
 told_action (AtOnce d) p ask a w q h = told_effect d p a w q h
 told_action (BetweenScans d) p ask a w q h =
@@ -249,13 +251,13 @@ told_starts p plan (SaysJob job) q h = true_is_false h.0
 told_starts p plan SaysEnded q h = true_is_false h.0
 told_starts p plan SaysFault q h = let d = fallen_cage (begun p.cage) q.cage p.settings 0 h.3 in (refl, cut_falls p q (begun p.cage) d.0 d.1 h.4)
 
-told_started : (p : Panel) (plan : Snapshot) (a : SessionAnswer) (w : Option WorkView) (q : Panel) → IsStarted p plan true a w q
+told_started : (p : Panel) (plan : Snapshot) (a : SessionAnswer) (w : Option WorkSeen) (q : Panel) → IsStarted p plan true a w q
     → IsToldFall (cut p (begun p.cage)) a w q
 told_started p plan a w q h =
     let t = told_starts p plan h.told q h.starts in
     (h.answer_is ∙ ap (λ (x : TakenSeen). started_answer x) t.0, h.work_is ∙ ap (λ (x : TakenSeen). work_of x) t.0, t.1)
 
-told_start : (p : Panel) (plan : Snapshot) (a : SessionAnswer) (w : Option WorkView) (q : Panel) → StepStart p plan true a w q
+told_start : (p : Panel) (plan : Snapshot) (a : SessionAnswer) (w : Option WorkSeen) (q : Panel) → StepStart p plan true a w q
     → IsToldFall (cut p (begun p.cage)) a w q
 told_start p plan (Done None) w q h = told_started p plan (Done None) w q h
 told_start p plan (Refused HardwareError) w q h = told_started p plan (Refused HardwareError) w q h
@@ -272,13 +274,13 @@ fallen_ask (Ask.Bus sid) p = cut p p.cage
 fallen_ask (Ask.Start sid plan) p = cut p (begun p.cage)
 fallen_ask ask p = p
 
-no_fault : (p : Panel) (sid : Sid) (e : ScpiError) (a : SessionAnswer) (w : Option WorkView) (q : Panel) → StepJoined p (Ask.Fault sid e) true a w q → ⊥
+no_fault : (p : Panel) (sid : Sid) (e : ScpiError) (a : SessionAnswer) (w : Option WorkSeen) (q : Panel) → StepJoined p (Ask.Fault sid e) true a w q → ⊥
 no_fault p sid e (Done None) None q h = true_is_false h.0
 no_fault p sid e (Done None) (Some w) q h = absurd h
 no_fault p sid e a None q h = true_is_false h.unfailed
 no_fault p sid e a (Some w) q h = absurd h
 
-told_joined : (p : Panel) (ask : SessionAsk) (a : SessionAnswer) (w : Option WorkView) (q : Panel) → StepJoined p ask true a w q
+told_joined : (p : Panel) (ask : SessionAsk) (a : SessionAnswer) (w : Option WorkSeen) (q : Panel) → StepJoined p ask true a w q
     → IsToldFall (fallen_ask ask p) a w q
 told_joined p (Ask.Fault sid e) a w q h = absurd (no_fault p sid e a w q h)
 told_joined p (Ask.Unit sid command available) a w q h = told_action (action_of available command) p (Ask.Unit sid command available) a w q h
@@ -298,29 +300,29 @@ told_joined p Ask.Join a None q h = true_is_false h.unfailed
 told_joined p (Ask.Attach number) a None q h = true_is_false h.unfailed
 told_joined p ask a w q h = absurd h
 
-told_admitted : (now : Admission) (p : Panel) (ask : SessionAsk) (a : SessionAnswer) (w : Option WorkView) (q : Panel) → StepAdmitted now p ask true a w q
+told_admitted : (now : Admission) (p : Panel) (ask : SessionAsk) (a : SessionAnswer) (w : Option WorkSeen) (q : Panel) → StepAdmitted now p ask true a w q
     → IsToldFall (fallen_ask ask p) a w q
 told_admitted Dropped p ask Broken None q h = true_is_false h.0
 told_admitted Dropped p ask a w q h = absurd h
 told_admitted ShutOut p ask a w q h = absurd (no_held p ask a w q h)
 told_admitted Admitted p ask a w q h = told_joined p ask a w q h
 
-no_join : (p : Panel) (a : SessionAnswer) (w : Option WorkView) (q : Panel) → StepJoin p true a w q → ⊥
+no_join : (p : Panel) (a : SessionAnswer) (w : Option WorkSeen) (q : Panel) → StepJoin p true a w q → ⊥
 no_join p (Joined sid) None q h = true_is_false h.0
 no_join p Full None q h = true_is_false h.0
 no_join p a w q h = absurd h
 
-no_attach : (p : Panel) (number : ℕ) (a : SessionAnswer) (w : Option WorkView) (q : Panel) → StepAttach p number true a w q → ⊥
+no_attach : (p : Panel) (number : ℕ) (a : SessionAnswer) (w : Option WorkSeen) (q : Panel) → StepAttach p number true a w q → ⊥
 no_attach p number (Joined sid) None q h = true_is_false h.0
 no_attach p number Stranger None q h = true_is_false h.0
 no_attach p number a w q h = absurd h
 
-no_new : (p : Panel) (ask : SessionAsk) (a : SessionAnswer) (w : Option WorkView) (q : Panel) → StepNew p ask true a w q → ⊥
+no_new : (p : Panel) (ask : SessionAsk) (a : SessionAnswer) (w : Option WorkSeen) (q : Panel) → StepNew p ask true a w q → ⊥
 no_new p Ask.Join a w q h = no_join p a w q h
 no_new p (Ask.Attach number) a w q h = no_attach p number a w q h
 no_new p ask a w q h = absurd h
 
-told_session : (o : Option Sid) (p : Panel) (ask : SessionAsk) (a : SessionAnswer) (w : Option WorkView) (q : Panel) → StepSession o p ask true a w q
+told_session : (o : Option Sid) (p : Panel) (ask : SessionAsk) (a : SessionAnswer) (w : Option WorkSeen) (q : Panel) → StepSession o p ask true a w q
     → IsToldFall (fallen_ask ask p) a w q
 told_session None p ask a w q h = absurd (no_new p ask a w q h)
 told_session (Some sid) p ask Stranger None q h = true_is_false h.0
@@ -356,36 +358,36 @@ told_returns p done SaysFault q h =
     (refl, cut_falls p q (fallen_return (with_back p.cage done) done.outcome) d.0 d.1 h.2.1)
 
 -- what is told of a step in which a card failed, and what it leaves but for the cards
-abbrev pub told_fall : AskView → AnswerView
+abbrev pub told_fall : AskSeen → AnswerSeen
 told_fall (AskSession ask) = SaysSession (Refused HardwareError) None
 told_fall ask = SaysFailed
 
-abbrev pub fallen : AskView → Panel → Panel
+abbrev pub fallen : AskSeen → Panel → Panel
 fallen (AskSession ask) p = fallen_ask ask p
 fallen (AskFinished done) p = fallen_back p done
 fallen ask p = cut p p.cage
 
-abbrev pub IsFall : AskView → Panel → AnswerView → Panel → Type 0
+abbrev pub IsFall : AskSeen → Panel → AnswerSeen → Panel → Type 0
 IsFall ask p a q = (a ≡ told_fall ask) × Falls (fallen ask p) q
 
-told_outside : (p : Panel) (happening : Happening) (a : AnswerView) (q : Panel) → StepOutside p happening true a q → (a ≡ SaysFailed) × Falls (cut p p.cage) q
+told_outside : (p : Panel) (happening : Happening) (a : AnswerSeen) (q : Panel) → StepOutside p happening true a q → (a ≡ SaysFailed) × Falls (cut p p.cage) q
 told_outside p happening a q h =
     let t = told_happens p happening h.told q h.happens in
     (h.answer_is ∙ ap (λ (x : TakenSeen). outside_told x) t.0, t.1)
 
-told_returned : (p : Panel) (done : FinishedSeen) (a : AnswerView) (q : Panel) → IsReturned p done true a q → IsFall (AskFinished done) p a q
+told_returned : (p : Panel) (done : FinishedSeen) (a : AnswerSeen) (q : Panel) → IsReturned p done true a q → IsFall (AskFinished done) p a q
 told_returned p done a q h =
     let t = told_returns p done h.told q h.returns in
     (h.answer_is ∙ ap (λ (x : TakenSeen). outside_told x) t.0, t.1)
 
-told_finished : (p : Panel) (done : FinishedSeen) (a : AnswerView) (q : Panel) → StepFinished p done true a q → IsFall (AskFinished done) p a q
+told_finished : (p : Panel) (done : FinishedSeen) (a : AnswerSeen) (q : Panel) → StepFinished p done true a q → IsFall (AskFinished done) p a q
 told_finished p done SaysBack q h = true_is_false h.0
 told_finished p done a q h = told_returned p done a q h
 
-pub told_acts : (p : Panel) (ask : AskView) (a : AnswerView) (q : Panel) → Acts p ask true a q → IsFall ask p a q
+pub told_acts : (p : Panel) (ask : AskSeen) (a : AnswerSeen) (q : Panel) → Acts p ask true a q → IsFall ask p a q
 told_acts p (AskSession ask) (SaysSession a w) q h =
     let r = told_session (asker_of ask) p ask a w q h in
-    (ap (λ (x : SessionAnswer). SaysSession x w) r.0 ∙ ap (λ (x : Option WorkView). SaysSession (Refused HardwareError) x) r.1, r.2)
+    (ap (λ (x : SessionAnswer). SaysSession x w) r.0 ∙ ap (λ (x : Option WorkSeen). SaysSession (Refused HardwareError) x) r.1, r.2)
 told_acts p (AskInstall slot card) SaysInstalled q h = true_is_false h.0
 told_acts p (AskInstall slot card) (SaysNotInstalled refusal) q h = true_is_false h.0
 told_acts p (AskEject slot) (SaysEjected card) q h = true_is_false h.0
@@ -397,7 +399,7 @@ told_acts p ask a q h = absurd h
 
 -- ---- the event
 
-fall_ends : (ask : AskView) (p : Panel) → concluded (told_fall ask) p ≡ ended (erred p HardwareError)
+fall_ends : (ask : AskSeen) (p : Panel) → concluded (told_fall ask) p ≡ ended (erred p HardwareError)
 fall_ends (AskSession ask) p = refl
 fall_ends (AskInstall slot card) p = refl
 fall_ends (AskEject slot) p = refl
@@ -405,18 +407,18 @@ fall_ends AskExternal p = refl
 fall_ends (AskElapsed ticket) p = refl
 fall_ends (AskFinished done) p = refl
 
-fall_after : (ask : AskView) (p : Panel) (a : AnswerView) (q : Panel) → (e : IsEvent p ask true a q) → q ≡ ended (erred e.done HardwareError)
+fall_after : (ask : AskSeen) (p : Panel) (a : AnswerSeen) (q : Panel) → (e : IsEvent p ask true a q) → q ≡ ended (erred e.done HardwareError)
 fall_after ask p a q e =
-    e.after ∙ ap (λ (x : AnswerView). concluded x e.done) (told_acts p ask a e.done e.acts).0 ∙ fall_ends ask e.done
+    e.after ∙ ap (λ (x : AnswerSeen). concluded x e.done) (told_acts p ask a e.done e.acts).0 ∙ fall_ends ask e.done
 
-fall_counts : (ask : AskView) (p : Panel) (a : AnswerView) (q : Panel) → (e : IsEvent p ask true a q)
+fall_counts : (ask : AskSeen) (p : Panel) (a : AnswerSeen) (q : Panel) → (e : IsEvent p ask true a q)
     → map failures_in q.cage.cards ≡ map failures_in e.done.cage.cards
 fall_counts ask p a q e = ap (λ (x : Panel). map failures_in x.cage.cards) (fall_after ask p a q e)
 
 abbrev SameCounts : Panel → Panel → Type 0
 SameCounts q q' = map failures_in q.cage.cards ≡ map failures_in q'.cage.cards
 
-event_fell : (p q q' : Panel) (ask : AskView) (a a' : AnswerView) → IsEvent p ask true a q → IsEvent p ask true a' q' → SameCounts q q'
+event_fell : (p q q' : Panel) (ask : AskSeen) (a a' : AnswerSeen) → IsEvent p ask true a q → IsEvent p ask true a' q' → SameCounts q q'
     → (a ≡ a') × (q ≡ q')
 event_fell p q q' ask a a' h k same =
     let x = told_acts p ask a h.done h.acts in
@@ -425,12 +427,12 @@ event_fell p q q' ask a a' h k same =
     let dones : h.done ≡ k.done = falls_once (fallen ask p) h.done k.done x.1 y.1 counts in
     (x.0 ∙ sym y.0, fall_after ask p a q h ∙ ap (λ (z : Panel). ended (erred z HardwareError)) dones ∙ sym (fall_after ask p a' q' k))
 
-either_event : (b : Bool) (p q q' : Panel) (ask : AskView) (a a' : AnswerView) → MatchBool b (IsUnnumbered p ask true a q) (IsEvent p ask true a q)
+either_event : (b : Bool) (p q q' : Panel) (ask : AskSeen) (a a' : AnswerSeen) → MatchBool b (IsUnnumbered p ask true a q) (IsEvent p ask true a q)
     → MatchBool b (IsUnnumbered p ask true a' q') (IsEvent p ask true a' q') → SameCounts q q' → (a ≡ a') × (q ≡ q')
 either_event true p q q' ask a a' h k same = true_is_false h.unfailed
 either_event false p q q' ask a a' h k same = event_fell p q q' ask a a' h k same
 
 -- where a card failed, the cards' counts of failures leave no choice
-pub step_fell : (p q q' : Panel) (ask : AskView) (a a' : AnswerView) → Step p ask true a q → Step p ask true a' q'
+pub step_fell : (p q q' : Panel) (ask : AskSeen) (a a' : AnswerSeen) → Step p ask true a q → Step p ask true a' q'
     → map failures_in q.cage.cards ≡ map failures_in q'.cage.cards → (a ≡ a') × (q ≡ q')
 step_fell p q q' ask a a' h k same = either_event ((p.events == last_number) && not (acts_unnumbered ask)) p q q' ask a a' h k same

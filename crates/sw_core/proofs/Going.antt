@@ -5,7 +5,7 @@ use Rattle.sw_base.specs.declared.reading.Reading.{Reading}
 use Rattle.sw_card.specs.declared.board.CardFault.{CardFault}
 use Rattle.sw_card.specs.Account.{Account, MeterAccount, of_meter}
 use Rattle.sw_trigger.specs.declared.layer.Awaited.TheVariants.{Pause}
-use Rattle.sw_trigger.specs.Settings.{Setup}
+use Rattle.sw_trigger.specs.Settings.{SettingsSeen}
 use Rattle.sw_trigger.specs.Agenda.{Item}
 use Rattle.sw_verify.specs.declared.snapshot.Snapshot.{Snapshot}
 use Rattle.sw_status.specs.StatusModel.{StatusSeen}
@@ -99,7 +99,7 @@ lands old number moves at (SaysPause ticket micros) new scan n h = h
 lands old number moves at (SaysJob job) new scan n h = h
 lands old number moves at SaysEnded new scan n h = h
 
-pub goes_once : (p q q' : CageSeen) (s : Setup) (i : ℕ) (told told' : TakenSeen) → Advances p s i told q → Advances p s i told' q' → told ≢ SaysFault
+pub goes_once : (p q q' : CageSeen) (s : SettingsSeen) (i : ℕ) (told told' : TakenSeen) → Advances p s i told q → Advances p s i told' q' → told ≢ SaysFault
     → told' ≢ SaysFault → (told ≡ told') × (q ≡ q')
 goes_once p q q' s i told told' h k n m =
     let r = lands_once (occupancy_of p) p.number (moves_from s i) (next_place s i) told told' (occupancy_of q) (occupancy_of q') q.scan q'.scan

@@ -19,7 +19,7 @@ use Rattle.sw_cage.specs.declared.taken.Happening.{Happening}
 use Rattle.sw_cage.proofs.FailureLemmas.{failed_goes, failed_past, failed_counts}
 use Rattle.sw_core.specs.Panel.{Panel}
 use Rattle.sw_core.specs.Registers.{card_fault_reported, card_fault_cleared}
-use Rattle.sw_core.specs.View.{AnswerView, AskFinished, failed_in}
+use Rattle.sw_core.specs.Seen.{AnswerSeen, AskFinished, failed_in}
 use Rattle.sw_core.specs.Step.{StepFinished, IsOut, outside_told, work_of, Happens, Returns, RefusesScan, MayScan, snapshot_of, StepStart, started_answer}
 use Rattle.sw_core.proofs.Calls.{failed_same}
 
@@ -92,12 +92,12 @@ returned p done SaysFault cage s ignored taken takes e =
     (t, taken t, (sym (failed_counts (with_back p.cage done) cage done.outcome SaysFault (taken t)), ap (λ (x : StatusSeen). told_panel p cage x) e))
 
 -- and what is answered
-pub return_answered : (p : Panel) (done : FinishedSeen) (told : TakenSeen) (cage : CageSeen) (s : StatusSeen) (answer : AnswerView) → IsOut p done
+pub return_answered : (p : Panel) (done : FinishedSeen) (told : TakenSeen) (cage : CageSeen) (s : StatusSeen) (answer : AnswerSeen) → IsOut p done
     → Returns p done (failed_in (AskFinished done) (outside_told told) p.cage.cards cage.cards) told (record p { cage = cage; status = s })
     → answer ≡ outside_told told
     → StepFinished p done (failed_in (AskFinished done) answer p.cage.cards cage.cards) answer (record p { cage = cage; status = s })
 return_answered p done told cage s answer out h e =
-    subst (λ (a : AnswerView). StepFinished p done (failed_in (AskFinished done) a p.cage.cards cage.cards) a (record p {
+    subst (λ (a : AnswerSeen). StepFinished p done (failed_in (AskFinished done) a p.cage.cards cage.cards) a (record p {
       cage = cage;
       status = s;
     })) (sym e) (by_told told h)

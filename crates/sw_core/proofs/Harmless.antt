@@ -7,8 +7,8 @@ use Rattle.sw_base.specs.declared.error.ScpiError.TheVariants.{TriggerIgnored, A
 use Rattle.sw_base.specs.declared.error.ScpiError.TheVariants.{SettingsConflict, HardwareError}
 use Rattle.sw_lex.specs.declared.command.Command.{Command}
 use Rattle.sw_trigger.specs.declared.layer.Layer.{Layer}
-use Rattle.sw_trigger.specs.Settings.{Setup, IsInRange, IsLayer, layer_of, with_layer, most_of, at_reset}
-use Rattle.sw_status.specs.StatusModel.{StatusSeen, IsStatus, group_of, with_group}
+use Rattle.sw_trigger.specs.Settings.{SettingsSeen, IsInRange, IsLayer, layer_of, with_layer, most_of, at_reset}
+use Rattle.sw_status.specs.StatusModel.{StatusSeen, IsStatus, registers_of, with_group}
 use Rattle.sw_cage.specs.Accounts.{all_open}
 use Rattle.sw_cage.specs.Cage.{CageSeen, ScanSeen, safe_state}
 use Rattle.sw_cage.specs.Good.{IsRunning}
@@ -34,17 +34,17 @@ pub record IsFine (p : Panel) : Type 0 where
   pub status : IsStatus p.status
 
 -- what IsFine says of the settings
-abbrev pub GoesBy : Option ScanSeen → Setup → Type 0
+abbrev pub GoesBy : Option ScanSeen → SettingsSeen → Type 0
 GoesBy scan s = IfSome scan (λ at. at.setup ≡ s)
 
-pub by_none : (scan : Option ScanSeen) (s : Setup) → scan ≡ None → GoesBy scan s
+pub by_none : (scan : Option ScanSeen) (s : SettingsSeen) → scan ≡ None → GoesBy scan s
 by_none scan s e = subst (λ (o : Option ScanSeen). GoesBy o s) (sym e) tt
 
 pub fine_as : (p q : Panel) → q.cage ≡ p.cage → q.settings ≡ p.settings → IsStatus q.status → IsFine p → IsFine q
 fine_as p q c s u k = record {
   cage = subst (λ (x : CageSeen). IsKept x) (sym c) k.cage;
-  range = subst (λ (x : Setup). IsInRange x) (sym s) k.range;
-  settings = subst (λ (x : CageSeen). GoesBy x.scan q.settings) (sym c) (subst (λ (x : Setup). GoesBy p.cage.scan x) (sym s) k.settings);
+  range = subst (λ (x : SettingsSeen). IsInRange x) (sym s) k.range;
+  settings = subst (λ (x : CageSeen). GoesBy x.scan q.settings) (sym c) (subst (λ (x : SettingsSeen). GoesBy p.cage.scan x) (sym s) k.settings);
   status = u;
 }
 
@@ -56,12 +56,12 @@ none_of p e = is_none p.cage.scan e
 
 -- ---- settings
 
-layer_range : (s : Setup) (l : LayerName) → IsInRange s → IsLayer (most_of l) (layer_of s l)
+layer_range : (s : SettingsSeen) (l : LayerName) → IsInRange s → IsLayer (most_of l) (layer_of s l)
 layer_range s Arm1 r = r.arm1
 layer_range s Arm2 r = r.arm2
 layer_range s Trigger r = r.trigger
 
-range_layer : (s : Setup) (l : LayerName) (layer : Layer) → IsInRange s → IsLayer (most_of l) layer → IsInRange (with_layer s l layer)
+range_layer : (s : SettingsSeen) (l : LayerName) (layer : Layer) → IsInRange s → IsLayer (most_of l) layer → IsInRange (with_layer s l layer)
 range_layer s Arm1 layer r h = record { arm1 = h; arm2 = r.arm2; trigger = r.trigger; list = r.list; meter = r.meter; points = r.points }
 range_layer s Arm2 layer r h = record { arm1 = r.arm1; arm2 = h; trigger = r.trigger; list = r.list; meter = r.meter; points = r.points }
 range_layer s Trigger layer r h = record { arm1 = r.arm1; arm2 = r.arm2; trigger = h; list = r.list; meter = r.meter; points = r.points }
@@ -78,7 +78,7 @@ reset_range = record {
 
 -- ---- status
 
-group_fine : (s : StatusSeen) (which : StatusGroup) → IsStatus s → IsGroup (group_of s which)
+group_fine : (s : StatusSeen) (which : StatusGroup) → IsStatus s → IsGroup (registers_of s which)
 group_fine s Operation u = u.operation
 group_fine s Questionable u = u.questionable
 
@@ -86,8 +86,8 @@ group_fine s Questionable u = u.questionable
 grouped : (s : StatusSeen) (which : StatusGroup) (g : GroupSeen) → IsStatus s → IsGroup g → IsStatus (with_group s which g)
 grouped s which g u h = (status-kept s u).group which g h
 
-pub told_group : (s : StatusSeen) (which : StatusGroup) → IsStatus s → KeepsBit15Clear (group_of s which)
-told_group s which u = group-kept (group_of s which) (group_fine s which u)
+pub told_group : (s : StatusSeen) (which : StatusGroup) → IsStatus s → KeepsBit15Clear (registers_of s which)
+told_group s which u = group-kept (registers_of s which) (group_fine s which u)
 
 pub reported_status : (s : StatusSeen) → IsStatus s → IsStatus (card_fault_reported s)
 reported_status s u = grouped s Questionable _ u ((told_group s Questionable u).conditioned 512)

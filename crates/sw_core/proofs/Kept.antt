@@ -1,14 +1,14 @@
 -- What stays so of the cage, whatever its scan does.
 use Rattle.std.proofs.Common.{◌≡◌, ℕ, ◌+◌, ◌-◌, ◌<◌, ◌≤◌, true, false, List, [], ◌∷◌, ◌++◌, length, take, drop, map, Option, None, Some, Result, Ok, Err}
 use Rattle.std.proofs.Common.{slice_set, refl, sym, ◌∙◌, ap, subst, arith, is_some, inl, inr, ◌⊎◌}
-use Rattle.sw_base.specs.Layout.{Channel, Layout, slot_at, bay_has, IsClash, IsExclusive}
+use Rattle.sw_base.specs.Layout.{Channel, Layout, slot_at, contents_have, IsClash, IsExclusive}
 use Rattle.sw_base.specs.Limits.{most_slots, most_channels}
 use Rattle.sw_base.specs.declared.reading.Reading.{Reading}
 use Rattle.sw_card.specs.declared.board.CardFault.{CardFault}
 use Rattle.sw_card.specs.Account.{Account, of_meter, is_meter}
 use Rattle.sw_trigger.specs.declared.layer.Awaited.{Awaited}
 use Rattle.sw_trigger.specs.declared.layer.Awaited.TheVariants.{Wait, Pause, Read}
-use Rattle.sw_trigger.specs.Settings.{Setup, IsInRange}
+use Rattle.sw_trigger.specs.Settings.{SettingsSeen, IsInRange}
 use Rattle.sw_trigger.specs.Agenda.{Item, agenda}
 use Rattle.sw_trigger.specs.Counts.{reads}
 use Rattle.sw_verify.specs.Check.{IsReady}
@@ -115,7 +115,7 @@ exclusive_in bays out h b e =
 exclusive_same : (layout : Layout) (b b' : Channels) → ((x : Channel) → b' x ≡ b x) → IsExclusive layout b → IsExclusive layout b'
 exclusive_same layout b b' s e = record { present = λ x c. e.present x (sym (s x) ∙ c); apart = λ x y c d k. e.apart x y (sym (s x) ∙ c) (sym (s y) ∙ d) k }
 
-exclusive_moved : (c : CageSeen) (s : Setup) (i : ℕ) (rack : Accounts) → IsHeld c → CanGo c s i → IsExclusive (layout_of c.cards) (is_closed c.cards)
+exclusive_moved : (c : CageSeen) (s : SettingsSeen) (i : ℕ) (rack : Accounts) → IsHeld c → CanGo c s i → IsExclusive (layout_of c.cards) (is_closed c.cards)
     → Moved c.cards (moves_from s i) rack → IsExclusive (layout_of rack) (is_closed rack)
 exclusive_moved c s i rack held go e m =
     let right : AllRight (cage_layout c) (is_closed c.cards) (effect none (take i (agenda s))) (drop i (agenda s)) =
@@ -131,13 +131,13 @@ exclusive_moved c s i rack held go e m =
     subst (λ (l : Layout). IsExclusive l (is_closed rack)) (sym (moved_layout c.cards rack (moves_from s i) m)) here
 
 -- what a scan begins or goes on from
-pub record CanSet (c : CageSeen) (s : Setup) (i : ℕ) : Type 0 where
+pub record CanSet (c : CageSeen) (s : SettingsSeen) (i : ℕ) : Type 0 where
   pub held : IsHeld c
   pub go : CanGo c s i
   pub safe : IsExclusive (layout_of c.cards) (is_closed c.cards)
   pub few : IsFew c.cards
 
-safe_lands : (c q : CageSeen) (s : Setup) (i : ℕ) (told : TakenSeen) → CanSet c s i
+safe_lands : (c q : CageSeen) (s : SettingsSeen) (i : ℕ) (told : TakenSeen) → CanSet c s i
     → (l : Reaches (occupancy_of c) c.number (moves_from s i) (next_place s i) told (occupancy_of q) q.scan) → (q.cards ≡ l.cards)
     ⊎ (q.cards ≡ slice_set l.cards (s.meter - 1) None) → IsExclusive (layout_of q.cards) (is_closed q.cards) × IsFew q.cards
 safe_lands c q s i told k l spot =
@@ -163,7 +163,8 @@ safe_lands c q s i told k l spot =
 bay_rack : (b d : Occupancy) → b ≡ d → b.cards ≡ d.cards
 bay_rack b d e = ap (λ (x : Occupancy). x.cards) e
 
-safe_goes : (c q : CageSeen) (s : Setup) (i : ℕ) (told : TakenSeen) → CanSet c s i → Advances c s i told q → IsExclusive (layout_of q.cards) (is_closed q.cards)
+safe_goes : (c q : CageSeen) (s : SettingsSeen) (i : ℕ) (told : TakenSeen) → CanSet c s i → Advances c s i told q
+    → IsExclusive (layout_of q.cards) (is_closed q.cards)
     × IsFew q.cards
 safe_goes c q s i SaysIgnored k h = absurd h.runs.arrives
 safe_goes c q s i SaysWaits k h = safe_lands c q s i SaysWaits k h.runs (inl (bay_rack (occupancy_of q) _ h.runs.arrives.1))
@@ -173,7 +174,7 @@ safe_goes c q s i SaysEnded k h = safe_lands c q s i SaysEnded k h.runs (inl (ba
 safe_goes c q s i SaysFault k h =
     (exclusive_none (layout_of q.cards) (is_closed q.cards) h.runs.fallen.none, few_plates c.cards q.cards h.runs.fallen.cards k.few)
 
-pub kept_goes : (c q : CageSeen) (s : Setup) (i : ℕ) (told : TakenSeen) → CanSet c s i → Advances c s i told q → IsKept q
+pub kept_goes : (c q : CageSeen) (s : SettingsSeen) (i : ℕ) (told : TakenSeen) → CanSet c s i → Advances c s i told q → IsKept q
 kept_goes c q s i told k h = let r = safe_goes c q s i told k h in record { good = good_goes c q s i told k.held k.go h; safe = r.0; few = r.1 }
 
 -- ---- happenings
@@ -258,7 +259,7 @@ kept_counted c q done told k out t h = kept_counted_at c q c.scan done done.outc
 
 -- ---- a scan begins
 
-few_bounds : (o : Option Account) (ch : ℕ) → OptionFew o → bay_has (slot_contents o) ch ≡ true → (1 ≤ ch) × (ch ≤ most_channels)
+few_bounds : (o : Option Account) (ch : ℕ) → OptionFew o → contents_have (slot_contents o) ch ≡ true → (1 ≤ ch) × (ch ≤ most_channels)
 few_bounds None ch r h = absurd (cc)
 few_bounds (Some a) ch r h = let b : (0 < ch)
     × ((is_meter a ≡ false) × (ch ≤ length a.groups)) = has_bounds a ch h in let f : length a.groups ≤ most_channels = r b.1.0 in
@@ -271,7 +272,7 @@ inside c k x h =
     let ch : (1 ≤ x.1) × (x.1 ≤ most_channels) = few_bounds (slot_at c.cards x.0) x.1 (k.few x.0) (sym (present_at c.cards x) ∙ present) in
     (omega (arith, slot.0), omega (arith, slot.1, k.good.held.slots), ch.0, ch.1)
 
-pub kept_begun : (c q : CageSeen) (s : Setup) (plan : Snapshot) (told : TakenSeen) → IsKept c → slot_at c.out s.meter ≡ None → IsInRange s → IsReady plan
+pub kept_begun : (c q : CageSeen) (s : SettingsSeen) (plan : Snapshot) (told : TakenSeen) → IsKept c → slot_at c.out s.meter ≡ None → IsInRange s → IsReady plan
     → plan ≡ record { settings = s; layout = cage_layout c; closed = closed_list c.cards } → Advances (begun c) s 0 told q → IsKept q
 kept_begun c q s plan told k home range ready is h =
     let sure : IsReady (record { settings = s; layout = cage_layout c; closed = closed_list c.cards }) = subst (λ (x : Snapshot). IsReady x) is ready in

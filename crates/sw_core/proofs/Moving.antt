@@ -35,8 +35,8 @@ use Rattle.sw_core.specs.Step.{acts_unnumbered, IsWorn, IsEvent, IsUnnumbered, S
 use Rattle.sw_core.specs.Step.{Admission, Dropped, ShutOut, Admitted, admission}
 use Rattle.sw_core.specs.Ends.{left_of, went_on, was_taken, took_effect, took_command, took, begins, breaks_off}
 use Rattle.sw_cage.proofs.SlotChangeLemmas.{is_none}
-use Rattle.sw_core.specs.View.{WorkView, AskView, AskSession, AskInstall, AskEject, AskExternal, AskElapsed, AskFinished, AnswerView, SaysSession}
-use Rattle.sw_core.specs.View.{SaysInstalled, SaysNotInstalled, SaysEjected, SaysNotEjected, SaysTaken, SaysMissed, SaysFailed, SaysBack, SaysWorn}
+use Rattle.sw_core.specs.Seen.{WorkSeen, AskSeen, AskSession, AskInstall, AskEject, AskExternal, AskElapsed, AskFinished, AnswerSeen, SaysSession}
+use Rattle.sw_core.specs.Seen.{SaysInstalled, SaysNotInstalled, SaysEjected, SaysNotEjected, SaysTaken, SaysMissed, SaysFailed, SaysBack, SaysWorn}
 use Rattle.std.proofs.lemmas.List.{length-map}
 use Rattle.sw_card.specs.Account.{Account}
 use Rattle.sw_cage.specs.Accounts.{all_open, option_rest}
@@ -61,25 +61,25 @@ went_told error (SaysJob job) q = refl
 went_told error SaysEnded q = refl
 went_told error SaysFault q = refl
 
-refused_off : (ask : SessionAsk) (error : ScpiError) (told : TakenSeen) (a : SessionAnswer) (w : Option WorkView) → a ≡ session_told error told
+refused_off : (ask : SessionAsk) (error : ScpiError) (told : TakenSeen) (a : SessionAnswer) (w : Option WorkSeen) → a ≡ session_told error told
     → told ≡ SaysFault
     → breaks_off (AskSession ask) (SaysSession a w) ≡ true
 refused_off ask error told a w is e =
     ap (λ (x : SessionAnswer). breaks_off (AskSession ask) (SaysSession x w)) (is ∙ ap (λ (t : TakenSeen). session_told error t) e)
 
-move_told : (ask : SessionAsk) (p : Panel) (happening : Happening) (error : ScpiError) (f : Bool) (a : SessionAnswer) (w : Option WorkView) (q : Panel)
+move_told : (ask : SessionAsk) (p : Panel) (happening : Happening) (error : ScpiError) (f : Bool) (a : SessionAnswer) (w : Option WorkSeen) (q : Panel)
     → went_on (Refused error) ≡ 0
     → StepHappens p happening error f a w q → Moves (AskSession ask) (SaysSession a w) p (went_on a) q
 move_told ask p happening error f a w q quiet h =
     subst (λ (n : ℕ). Moves (AskSession ask) (SaysSession a w) p n q) (sym (ap went_on h.answer_is ∙ went_told error h.told quiet))
     (move_happens (AskSession ask) (SaysSession a w) p happening f h.told q (refused_off ask error h.told a w h.answer_is) h.happens)
 
-move_effect : (ask : SessionAsk) (d : Effect) (p : Panel) (f : Bool) (a : SessionAnswer) (w : Option WorkView) (q : Panel)
+move_effect : (ask : SessionAsk) (d : Effect) (p : Panel) (f : Bool) (a : SessionAnswer) (w : Option WorkSeen) (q : Panel)
     → IsStillEffect (breaks_off (AskSession ask) (SaysSession (Done None) None)) p d → StepEffect d p f a w q
     → Moves (AskSession ask) (SaysSession a w) p (took_effect d a) q
 move_effect ask (Offers happening error) p f a w q n h = move_told ask p happening error f a w q n h
 move_effect ask d p f a w q n h =
-    subst (λ (v : Option WorkView).
+    subst (λ (v : Option WorkSeen).
     Moves (AskSession ask) (SaysSession a v) p (took_effect d a) q) (sym h.1)
     (move_still (AskSession ask) (SaysSession a None) p q (still_alone ask d p f a q n h.0))
 
@@ -88,33 +88,33 @@ untaken : (d : Effect) (a : SessionAnswer) → went_on a ≡ 0 → took_effect d
 untaken (Offers happening error) a e = e
 untaken d a e = refl
 
-move_untaken : (ask : AskView) (x : AnswerView) (d : Effect) (p : Panel) (a : SessionAnswer) (q : Panel) → went_on a ≡ 0 → q ≡ p
+move_untaken : (ask : AskSeen) (x : AnswerSeen) (d : Effect) (p : Panel) (a : SessionAnswer) (q : Panel) → went_on a ≡ 0 → q ≡ p
     → Moves ask x p (took_effect d a) q
 move_untaken ask x d p a q e s = subst (λ (k : ℕ). Moves ask x p k q) (sym (untaken d a e)) (move_is ask x p q s)
 
-move_refused : (ask : AskView) (x : AnswerView) (d : Effect) (p : Panel) (f : Bool) (a : SessionAnswer) (q : Panel) → StepRefused p SettingsConflict f a q
+move_refused : (ask : AskSeen) (x : AnswerSeen) (d : Effect) (p : Panel) (f : Bool) (a : SessionAnswer) (q : Panel) → StepRefused p SettingsConflict f a q
     → Moves ask x p (took_effect d a) q
 move_refused ask x d p f (Refused e) q h = move_untaken ask x d p (Refused e) q (ap (λ (y : ScpiError). went_on (Refused y)) h.1) h.2
 move_refused ask x d p f a q h = absurd h
 
-move_held : (kind : AskView) (x : AnswerView) (d : Effect) (p : Panel) (ask : SessionAsk) (f : Bool) (a : SessionAnswer) (w : Option WorkView) (q : Panel)
+move_held : (kind : AskSeen) (x : AnswerSeen) (d : Effect) (p : Panel) (ask : SessionAsk) (f : Bool) (a : SessionAnswer) (w : Option WorkSeen) (q : Panel)
     → StepHeld p ask f a w q → Moves kind x p (took_effect d a) q
 move_held kind x d p ask f (Hold y) None q h = move_untaken kind x d p (Hold y) q refl h.2
 move_held kind x d p ask f a w q h = absurd h
 
-move_barred : (ask : SessionAsk) (b : Bool) (d : Effect) (p : Panel) (f : Bool) (a : SessionAnswer) (w : Option WorkView) (q : Panel)
+move_barred : (ask : SessionAsk) (b : Bool) (d : Effect) (p : Panel) (f : Bool) (a : SessionAnswer) (w : Option WorkSeen) (q : Panel)
     → (b ≡ false → IsStillEffect (breaks_off (AskSession ask) (SaysSession (Done None) None)) p d)
     → MatchBool b (StepRefused p SettingsConflict f a q × (w ≡ None)) (StepEffect d p f a w q) → Moves (AskSession ask) (SaysSession a w) p (took_effect d a) q
 move_barred ask true d p f a w q n h = move_refused (AskSession ask) (SaysSession a w) d p f a q h.0
 move_barred ask false d p f a w q n h = move_effect ask d p f a w q (n refl) h
 
-move_waiting : (b : Bool) (d : Effect) (p : Panel) (ask : SessionAsk) (f : Bool) (a : SessionAnswer) (w : Option WorkView) (q : Panel)
+move_waiting : (b : Bool) (d : Effect) (p : Panel) (ask : SessionAsk) (f : Bool) (a : SessionAnswer) (w : Option WorkSeen) (q : Panel)
     → IsStillEffect (breaks_off (AskSession ask) (SaysSession (Done None) None)) p d
     → MatchBool b (StepHeld p ask f a w q) (StepEffect d p f a w q) → Moves (AskSession ask) (SaysSession a w) p (took_effect d a) q
 move_waiting true d p ask f a w q n h = move_held (AskSession ask) (SaysSession a w) d p ask f a w q h
 move_waiting false d p ask f a w q n h = move_effect ask d p f a w q n h
 
-move_action : (x : Action) (p : Panel) (ask : SessionAsk) (f : Bool) (a : SessionAnswer) (w : Option WorkView) (q : Panel)
+move_action : (x : Action) (p : Panel) (ask : SessionAsk) (f : Bool) (a : SessionAnswer) (w : Option WorkSeen) (q : Panel)
     → IsStillAction (breaks_off (AskSession ask) (SaysSession (Done None) None)) p x → StepAction x p ask f a w q
     → Moves (AskSession ask) (SaysSession a w) p (took_command x a) q
 move_action (AtOnce d) p ask f a w q n h = move_effect ask d p f a w q n h
@@ -138,7 +138,7 @@ fault_told SaysFault e = refl
 fault_told told e = absurd (cc (e))
 
 -- a start that begins no scan: it is refused, or a card failed on the way
-move_start : (ask : AskView) (x : AnswerView) (p : Panel) (sid : Sid) (plan : Snapshot) (f : Bool) (a : SessionAnswer) (w : Option WorkView) (q : Panel)
+move_start : (ask : AskSeen) (x : AnswerSeen) (p : Panel) (sid : Sid) (plan : Snapshot) (f : Bool) (a : SessionAnswer) (w : Option WorkSeen) (q : Panel)
     → begins (AskSession (Ask.Start sid plan)) (SaysSession a w) ≡ false → StepStart p plan f a w q → Moves ask x p 0 q
 move_start ask x p sid plan f (Done None) w q n h = absurd (cc (n))
 move_start ask x p sid plan f (Refused HardwareError) w q n h =
@@ -152,11 +152,11 @@ move_start ask x p sid plan f (Refused SettingsConflict) None q n h = move_is as
 move_start ask x p sid plan f (Refused e) None q n h = move_is ask x p q h.2
 move_start ask x p sid plan f a w q n h = absurd h
 
-move_served : (kind : AskView) (x : AnswerView) (p : Panel) (ask : SessionAsk) (f : Bool) (a : SessionAnswer) (q : Panel) → IsServed p ask f a q
+move_served : (kind : AskSeen) (x : AnswerSeen) (p : Panel) (ask : SessionAsk) (f : Bool) (a : SessionAnswer) (q : Panel) → IsServed p ask f a q
     → Moves kind x p 0 q
 move_served kind x p ask f a q h = move_still kind x p q (inl (ap (λ (y : Panel). y.cage) h.after))
 
-move_joined : (p : Panel) (ask : SessionAsk) (f : Bool) (a : SessionAnswer) (w : Option WorkView) (q : Panel)
+move_joined : (p : Panel) (ask : SessionAsk) (f : Bool) (a : SessionAnswer) (w : Option WorkSeen) (q : Panel)
     → begins (AskSession ask) (SaysSession a w) ≡ false → StepJoined p ask f a w q
     → Moves (AskSession ask) (SaysSession a w) p (took (AskSession ask) (SaysSession a w)) q
 move_joined p (Ask.Fault sid e) f (Done None) None q n h =
@@ -180,29 +180,29 @@ move_joined p Ask.Join f a None q n h = move_served (AskSession Ask.Join) (SaysS
 move_joined p (Ask.Attach number) f a None q n h = move_served (AskSession (Ask.Attach number)) (SaysSession a None) p (Ask.Attach number) f a q h
 move_joined p ask f a w q n h = absurd h
 
-still_join : {off : Bool} (p : Panel) (f : Bool) (a : SessionAnswer) (w : Option WorkView) (q : Panel) → StepJoin p f a w q → IsStill off p q
+still_join : {off : Bool} (p : Panel) (f : Bool) (a : SessionAnswer) (w : Option WorkSeen) (q : Panel) → StepJoin p f a w q → IsStill off p q
 still_join p f (Joined sid) None q h = inl (ap (λ (x : Panel). x.cage) h.3)
 still_join p f Full None q h = still_as p q h.2
 still_join p f a w q h = absurd h
 
-still_attach : {off : Bool} (p : Panel) (number : ℕ) (f : Bool) (a : SessionAnswer) (w : Option WorkView) (q : Panel) → StepAttach p number f a w q
+still_attach : {off : Bool} (p : Panel) (number : ℕ) (f : Bool) (a : SessionAnswer) (w : Option WorkSeen) (q : Panel) → StepAttach p number f a w q
     → IsStill off p q
 still_attach p number f (Joined sid) None q h = inl (ap (λ (x : Panel). x.cage) h.2)
 still_attach p number f Stranger None q h = still_as p q h.2
 still_attach p number f a w q h = absurd h
 
 -- what a stranger asks, what is dropped and what is held is not taken
-took_none : (ask : SessionAsk) (a : SessionAnswer) (w : Option WorkView) → went_on a ≡ 0 → took (AskSession ask) (SaysSession a w) ≡ 0
+took_none : (ask : SessionAsk) (a : SessionAnswer) (w : Option WorkSeen) → went_on a ≡ 0 → took (AskSession ask) (SaysSession a w) ≡ 0
 took_none (Ask.Unit sid command available) a w n = untaken_command (action_of available command) a n
 took_none (Ask.Bus sid) a w n = n
 took_none ask a w n = refl
 
-move_silent : (p : Panel) (ask : SessionAsk) (a : SessionAnswer) (w : Option WorkView) (q : Panel) → went_on a ≡ 0 → q ≡ p
+move_silent : (p : Panel) (ask : SessionAsk) (a : SessionAnswer) (w : Option WorkSeen) (q : Panel) → went_on a ≡ 0 → q ≡ p
     → Moves (AskSession ask) (SaysSession a w) p (took (AskSession ask) (SaysSession a w)) q
 move_silent p ask a w q n e =
     subst (λ (k : ℕ). Moves (AskSession ask) (SaysSession a w) p k q) (sym (took_none ask a w n)) (move_is (AskSession ask) (SaysSession a w) p q e)
 
-move_admitted : (now : Admission) (p : Panel) (ask : SessionAsk) (f : Bool) (a : SessionAnswer) (w : Option WorkView) (q : Panel)
+move_admitted : (now : Admission) (p : Panel) (ask : SessionAsk) (f : Bool) (a : SessionAnswer) (w : Option WorkSeen) (q : Panel)
     → begins (AskSession ask) (SaysSession a w) ≡ false → StepAdmitted now p ask f a w q
     → Moves (AskSession ask) (SaysSession a w) p (took (AskSession ask) (SaysSession a w)) q
 move_admitted Dropped p ask f Broken None q n h = move_silent p ask Broken None q refl h.1
@@ -211,13 +211,13 @@ move_admitted ShutOut p ask f (Hold back) None q n h = move_silent p ask (Hold b
 move_admitted ShutOut p ask f a w q n h = absurd h
 move_admitted Admitted p ask f a w q n h = move_joined p ask f a w q n h
 
-move_known : (sid : Sid) (p : Panel) (ask : SessionAsk) (f : Bool) (a : SessionAnswer) (w : Option WorkView) (q : Panel)
+move_known : (sid : Sid) (p : Panel) (ask : SessionAsk) (f : Bool) (a : SessionAnswer) (w : Option WorkSeen) (q : Panel)
     → begins (AskSession ask) (SaysSession a w) ≡ false → StepSession (Some sid) p ask f a w q
     → Moves (AskSession ask) (SaysSession a w) p (took (AskSession ask) (SaysSession a w)) q
 move_known sid p ask f Stranger None q n h = move_silent p ask Stranger None q refl h.2
 move_known sid p ask f a w q n h = move_admitted (admission p sid ask) p ask f a w q n h.1
 
-move_session : (p : Panel) (ask : SessionAsk) (f : Bool) (a : SessionAnswer) (w : Option WorkView) (q : Panel)
+move_session : (p : Panel) (ask : SessionAsk) (f : Bool) (a : SessionAnswer) (w : Option WorkSeen) (q : Panel)
     → begins (AskSession ask) (SaysSession a w) ≡ false → StepSession (asker_of ask) p ask f a w q
     → Moves (AskSession ask) (SaysSession a w) p (took (AskSession ask) (SaysSession a w)) q
 move_session p Ask.Join f a w q n h = move_still (AskSession Ask.Join) (SaysSession a w) p q (still_join p f a w q h)
@@ -247,16 +247,16 @@ was_told (SaysJob job) = refl
 was_told SaysEnded = refl
 was_told SaysFault = refl
 
-fault_off : (ask : AskView) (a : AnswerView) (told : TakenSeen) → a ≡ outside_told told → told ≡ SaysFault → breaks_off ask a ≡ true
-fault_off ask a told is e = ap (λ (x : AnswerView). breaks_off ask x) (is ∙ ap (λ (t : TakenSeen). outside_told t) e)
+fault_off : (ask : AskSeen) (a : AnswerSeen) (told : TakenSeen) → a ≡ outside_told told → told ≡ SaysFault → breaks_off ask a ≡ true
+fault_off ask a told is e = ap (λ (x : AnswerSeen). breaks_off ask x) (is ∙ ap (λ (t : TakenSeen). outside_told t) e)
 
-move_outside : (ask : AskView) (p : Panel) (happening : Happening) (f : Bool) (a : AnswerView) (q : Panel) → StepOutside p happening f a q
+move_outside : (ask : AskSeen) (p : Panel) (happening : Happening) (f : Bool) (a : AnswerSeen) (q : Panel) → StepOutside p happening f a q
     → Moves ask a p (was_taken a) q
 move_outside ask p happening f a q h =
     subst (λ (n : ℕ). Moves ask a p n q) (sym (ap was_taken h.answer_is
     ∙ was_told h.told)) (move_happens ask a p happening f h.told q (fault_off ask a h.told h.answer_is) h.happens)
 
-move_finished : (p : Panel) (done : FinishedSeen) (f : Bool) (a : AnswerView) (q : Panel) → IsHeld p.cage → StepFinished p done f a q
+move_finished : (p : Panel) (done : FinishedSeen) (f : Bool) (a : AnswerSeen) (q : Panel) → IsHeld p.cage → StepFinished p done f a q
     → Moves (AskFinished done) a p (was_taken a) q
 move_finished p done f SaysBack q k h = move_is (AskFinished done) SaysBack p q h.2
 move_finished p done f a q k h =
@@ -301,7 +301,7 @@ move_ejected p q slot card e is = by_run (is_running p) refl
     by_run true r = move_cut (AskEject slot) (SaysEjected card) p q (refl, over, ejected_bare p q slot card e r is, inl same)
     by_run false r = move_idle (AskEject slot) (SaysEjected card) p q (none_of p r, over, same)
 
-move_acts : (p : Panel) (ask : AskView) (f : Bool) (a : AnswerView) (q : Panel) → IsHeld p.cage → begins ask a ≡ false → Acts p ask f a q
+move_acts : (p : Panel) (ask : AskSeen) (f : Bool) (a : AnswerSeen) (q : Panel) → IsHeld p.cage → begins ask a ≡ false → Acts p ask f a q
     → Moves ask a p (took ask a) q
 move_acts p (AskSession ask) f (SaysSession a w) q k n h = move_session p ask f a w q n h
 move_acts p (AskInstall slot card) f SaysInstalled q k n h =
@@ -334,7 +334,7 @@ session_scan (answers.Max n) p = refl
 session_scan (answers.Lock code) p = refl
 session_scan (answers.Info exclusive n) p = refl
 
-pub concluded_scan : (a : AnswerView) (p : Panel) → (concluded a p).cage ≡ p.cage
+pub concluded_scan : (a : AnswerSeen) (p : Panel) → (concluded a p).cage ≡ p.cage
 concluded_scan (SaysSession a w) p = session_scan a p
 concluded_scan SaysInstalled p = refl
 concluded_scan (SaysNotInstalled refusal) p = refl
@@ -346,7 +346,7 @@ concluded_scan SaysFailed p = refl
 concluded_scan SaysBack p = refl
 concluded_scan SaysWorn p = refl
 
-move_as : (ask : AskView) (a : AnswerView) (p q r : Panel) (n : ℕ) → r.cage ≡ q.cage → Moves ask a p n q → Moves ask a p n r
+move_as : (ask : AskSeen) (a : AnswerSeen) (p q r : Panel) (n : ℕ) → r.cage ≡ q.cage → Moves ask a p n q → Moves ask a p n r
 move_as ask a p q r n e h =
     let s : r.cage.scan ≡ q.cage.scan = ap (λ (c : CageSeen). c.scan) e in
     record {
@@ -360,13 +360,13 @@ move_as ask a p q r n e h =
       adds = λ own. subst (λ (c : CageSeen). AddsOwn ask p.cage.readings c.readings) (sym e) (h.adds own);
     }
 
-move_event : (p : Panel) (ask : AskView) (f : Bool) (a : AnswerView) (q : Panel) → IsHeld p.cage → begins ask a ≡ false → IsEvent p ask f a q
+move_event : (p : Panel) (ask : AskSeen) (f : Bool) (a : AnswerSeen) (q : Panel) → IsHeld p.cage → begins ask a ≡ false → IsEvent p ask f a q
     → Moves ask a p (took ask a) q
 move_event p ask f a q k n h =
     move_as ask a p h.done q (took ask a) (ap (λ (x : Panel). x.cage) h.after ∙ concluded_scan a h.done) (move_acts p ask f a h.done k n h.acts)
 
 -- what is handed back is not taken
-took_worn : (ask : AskView) (a : AnswerView) → IsWorn ask a → took ask a ≡ 0
+took_worn : (ask : AskSeen) (a : AnswerSeen) → IsWorn ask a → took ask a ≡ 0
 took_worn (AskSession (Ask.Unit sid command available)) (SaysSession (Worn back) None) h = untaken_command (action_of available command) (Worn back) refl
 took_worn (AskSession (Ask.Bus sid)) (SaysSession (Worn back) None) h = refl
 took_worn (AskSession Ask.Join) (SaysSession (Worn back) None) h = refl
@@ -390,11 +390,11 @@ took_worn (AskElapsed ticket) SaysWorn h = refl
 took_worn (AskFinished done) SaysWorn h = refl
 took_worn ask a h = absurd h
 
-move_either : (b : Bool) (p : Panel) (ask : AskView) (f : Bool) (a : AnswerView) (q : Panel) → IsHeld p.cage → begins ask a ≡ false
+move_either : (b : Bool) (p : Panel) (ask : AskSeen) (f : Bool) (a : AnswerSeen) (q : Panel) → IsHeld p.cage → begins ask a ≡ false
     → MatchBool b (IsUnnumbered p ask f a q) (IsEvent p ask f a q) → Moves ask a p (took ask a) q
 move_either true p ask f a q k n h = subst (λ (k : ℕ). Moves ask a p k q) (sym (took_worn ask a h.worn)) (move_is ask a p q h.same)
 move_either false p ask f a q k n h = move_event p ask f a q k n h
 
-pub move_step : (p : Panel) (ask : AskView) (f : Bool) (a : AnswerView) (q : Panel) → IsHeld p.cage → begins ask a ≡ false → Step p ask f a q
+pub move_step : (p : Panel) (ask : AskSeen) (f : Bool) (a : AnswerSeen) (q : Panel) → IsHeld p.cage → begins ask a ≡ false → Step p ask f a q
     → Moves ask a p (took ask a) q
 move_step p ask f a q k n h = move_either ((p.events == last_number) && not (acts_unnumbered ask)) p ask f a q k n h

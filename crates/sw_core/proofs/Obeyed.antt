@@ -36,8 +36,8 @@ use Rattle.sw_core.specs.Action.{Effect, TellsNumber, TellsText, TellsReadings, 
 use Rattle.sw_core.specs.Action.{Resets, Offers, Refuses, IsOfMacros, Initiates, Action, AtOnce, BetweenScans, AfterScan, action_of}
 use Rattle.sw_core.specs.Registers.{card_fault_reported}
 use Rattle.sw_core.specs.Event.{ended, erred, last_number}
-use Rattle.sw_core.specs.View.{WorkView, AskView, AskSession, AskInstall, AskEject, AskExternal, AskElapsed, AskFinished, AnswerView, SaysSession, SaysEjected}
-use Rattle.sw_core.specs.View.{SaysFailed}
+use Rattle.sw_core.specs.Seen.{WorkSeen, AskSeen, AskSession, AskInstall, AskEject, AskExternal, AskElapsed, AskFinished, AnswerSeen, SaysSession, SaysEjected}
+use Rattle.sw_core.specs.Seen.{SaysFailed}
 use Rattle.sw_core.specs.Seats.{asker_of}
 use Rattle.sw_core.specs.Step.{FailsSafe, StepClose, StepOpen, StepFlags, StepText, StepRefused, StepReadings, StepAlone, StepEffect, StepHeld, StepAction}
 use Rattle.sw_core.specs.Step.{StepOutside, Returns, Happens, session_told, StepSnapshot, StepStart, started_answer, Starts, outside_told, StepJoined}
@@ -48,23 +48,23 @@ use Rattle.sw_core.proofs.Harmless.{IsHarmless, IsHarmlessAction, harmless}
 use Rattle.sw_core.proofs.Safety.{rest_closed, rest_slot}
 
 -- an answer that hands nothing back is an event's
-event_if : (b : Bool) (p : Panel) (ask : AskView) (f : Bool) (a : AnswerView) (q : Panel) → (IsWorn ask a → ⊥)
+event_if : (b : Bool) (p : Panel) (ask : AskSeen) (f : Bool) (a : AnswerSeen) (q : Panel) → (IsWorn ask a → ⊥)
     → MatchBool b (IsUnnumbered p ask f a q) (IsEvent p ask f a q) → IsEvent p ask f a q
 event_if true p ask f a q n h = absurd (n h.worn)
 event_if false p ask f a q n h = h
 
-event_of : (p : Panel) (ask : AskView) (f : Bool) (a : AnswerView) (q : Panel) → (IsWorn ask a → ⊥) → Step p ask f a q → IsEvent p ask f a q
+event_of : (p : Panel) (ask : AskSeen) (f : Bool) (a : AnswerSeen) (q : Panel) → (IsWorn ask a → ⊥) → Step p ask f a q → IsEvent p ask f a q
 event_of p ask f a q n h = event_if ((p.events == last_number) && not (acts_unnumbered ask)) p ask f a q n h
 
 -- what is done was neither dropped nor held
-not_kept_out : (now : Admission) (p : Panel) (ask : SessionAsk) (f : Bool) (t : _) (w : Option WorkView) (q : Panel) → StepAdmitted now p ask f (Done t) w q
+not_kept_out : (now : Admission) (p : Panel) (ask : SessionAsk) (f : Bool) (t : _) (w : Option WorkSeen) (q : Panel) → StepAdmitted now p ask f (Done t) w q
     → StepJoined p ask f (Done t) w q
 not_kept_out Dropped p ask f t w q h = absurd h
 not_kept_out ShutOut p ask f t w q h = absurd h
 not_kept_out Admitted p ask f t w q h = h
 
 -- a command that is done was not refused for a scan
-not_barred : (b : Bool) (p : Panel) (effect : Effect) (f : Bool) (t : _) (w : Option WorkView) (q : Panel)
+not_barred : (b : Bool) (p : Panel) (effect : Effect) (f : Bool) (t : _) (w : Option WorkSeen) (q : Panel)
     → MatchBool b (StepRefused p SettingsConflict f (Done t) q × (w ≡ None)) (StepEffect effect p f (Done t) w q) → StepEffect effect p f (Done t) w q
 not_barred true p effect f t w q h = absurd h.0
 not_barred false p effect f t w q h = h
@@ -203,21 +203,21 @@ told_quiet p happening error f e (SaysPause t u) q a h n = absurd (cc (a))
 told_quiet p happening error f e (SaysJob j) q a h n = absurd (cc (a))
 told_quiet p happening error f e SaysEnded q a h n = absurd (cc (a))
 
-effect_quiet : (d : Effect) (p : Panel) (f : Bool) (e : ScpiError) (w : Option WorkView) (q : Panel) → StepEffect d p f (Refused e) w q → IsQuiet p e q
+effect_quiet : (d : Effect) (p : Panel) (f : Bool) (e : ScpiError) (w : Option WorkSeen) (q : Panel) → StepEffect d p f (Refused e) w q → IsQuiet p e q
 effect_quiet (Offers happening error) p f e w q h n = told_quiet p happening error f e h.told q h.answer_is h.happens n
 effect_quiet d p f e w q h n = alone_quiet d p f e q h.0 n
 
-barred_quiet : (b : Bool) (d : Effect) (p : Panel) (f : Bool) (e : ScpiError) (w : Option WorkView) (q : Panel)
+barred_quiet : (b : Bool) (d : Effect) (p : Panel) (f : Bool) (e : ScpiError) (w : Option WorkSeen) (q : Panel)
     → MatchBool b (StepRefused p SettingsConflict f (Refused e) q × (w ≡ None)) (StepEffect d p f (Refused e) w q) → IsQuiet p e q
 barred_quiet true d p f e w q h n = h.0.2
 barred_quiet false d p f e w q h n = effect_quiet d p f e w q h n
 
-held_quiet : (b : Bool) (d : Effect) (p : Panel) (ask : SessionAsk) (f : Bool) (e : ScpiError) (w : Option WorkView) (q : Panel)
+held_quiet : (b : Bool) (d : Effect) (p : Panel) (ask : SessionAsk) (f : Bool) (e : ScpiError) (w : Option WorkSeen) (q : Panel)
     → MatchBool b (StepHeld p ask f (Refused e) w q) (StepEffect d p f (Refused e) w q) → IsQuiet p e q
 held_quiet true d p ask f e w q h n = absurd h
 held_quiet false d p ask f e w q h n = effect_quiet d p f e w q h n
 
-action_quiet : (x : Action) (p : Panel) (ask : SessionAsk) (f : Bool) (e : ScpiError) (w : Option WorkView) (q : Panel) → StepAction x p ask f (Refused e) w q
+action_quiet : (x : Action) (p : Panel) (ask : SessionAsk) (f : Bool) (e : ScpiError) (w : Option WorkSeen) (q : Panel) → StepAction x p ask f (Refused e) w q
     → IsQuiet p e q
 action_quiet (AtOnce d) p ask f e w q h n = effect_quiet d p f e w q h n
 action_quiet (BetweenScans d) p ask f e w q h n = barred_quiet (is_running p) d p f e w q h n
@@ -267,14 +267,14 @@ session_quiet : (o : Option Sid) (p : Panel) (ask : SessionAsk) (f : Bool) (e : 
 session_quiet None p ask f e q h n = new_quiet p ask f e q h n
 session_quiet (Some sid) p ask f e q h n = admitted_quiet (admission p sid ask) p ask f e q h.1 n
 
-acts_quiet : (p : Panel) (ask : AskView) (f : Bool) (e : ScpiError) (q : Panel) → Acts p ask f (SaysSession (Refused e) None) q → IsQuiet p e q
+acts_quiet : (p : Panel) (ask : AskSeen) (f : Bool) (e : ScpiError) (q : Panel) → Acts p ask f (SaysSession (Refused e) None) q → IsQuiet p e q
 acts_quiet p (AskSession ask) f e q h n = session_quiet (asker_of ask) p ask f e q h n
 acts_quiet p (AskFinished done) f e q h n = absurd (outside_apart h.told (Refused e) h.answer_is)
 acts_quiet p AskExternal f e q h n = absurd (outside_apart h.told (Refused e) h.answer_is)
 acts_quiet p (AskElapsed ticket) f e q h n = absurd (outside_apart h.told (Refused e) h.answer_is)
 acts_quiet p ask f e q h n = absurd h
 
-unworn : (ask : AskView) (e : ScpiError) → IsWorn ask (SaysSession (Refused e) None) → ⊥
+unworn : (ask : AskSeen) (e : ScpiError) → IsWorn ask (SaysSession (Refused e) None) → ⊥
 unworn (AskSession ask) e w = w
 unworn (AskInstall slot card) e w = w
 unworn (AskEject slot) e w = w
@@ -282,7 +282,7 @@ unworn AskExternal e w = w
 unworn (AskElapsed ticket) e w = w
 unworn (AskFinished done) e w = w
 
-pub refused : (p q : Panel) (ask : AskView) (failed : Bool) (e : ScpiError) → e ≢ HardwareError → Step p ask failed (SaysSession (Refused e) None) q
+pub refused : (p q : Panel) (ask : AskSeen) (failed : Bool) (e : ScpiError) → e ≢ HardwareError → Step p ask failed (SaysSession (Refused e) None) q
     → q ≡ ended (erred p e)
 refused p q ask failed e n h =
     let x = event_of p ask failed _ q (unworn ask e) h in
@@ -342,28 +342,28 @@ told_down p happening error f SaysEnded q n a h = absurd (cc (a))
 trigger_plain : TriggerIgnored ≢ HardwareError
 trigger_plain e = absurd (cc (e))
 
-effect_down : (d : Effect) (p : Panel) (f : Bool) (w : Option WorkView) (q : Panel) → IsHarmless p d → StepEffect d p f (Refused HardwareError) w q
+effect_down : (d : Effect) (p : Panel) (f : Bool) (w : Option WorkSeen) (q : Panel) → IsHarmless p d → StepEffect d p f (Refused HardwareError) w q
     → IsDown p f q
 effect_down (Offers happening error) p f w q n h = told_down p happening error f h.told q n h.answer_is h.happens
 effect_down d p f w q n h = alone_down d p f q n h.0
 
-barred_down : (b : Bool) (d : Effect) (p : Panel) (f : Bool) (w : Option WorkView) (q : Panel) → (b ≡ false → IsHarmless p d)
+barred_down : (b : Bool) (d : Effect) (p : Panel) (f : Bool) (w : Option WorkSeen) (q : Panel) → (b ≡ false → IsHarmless p d)
     → MatchBool b (StepRefused p SettingsConflict f (Refused HardwareError) q × (w ≡ None)) (StepEffect d p f (Refused HardwareError) w q) → IsDown p f q
 barred_down true d p f w q n h = absurd (let x : HardwareError ≡ SettingsConflict = h.0.1 in cc (x))
 barred_down false d p f w q n h = effect_down d p f w q (n refl) h
 
-held_down : (b : Bool) (d : Effect) (p : Panel) (ask : SessionAsk) (f : Bool) (w : Option WorkView) (q : Panel) → IsHarmless p d
+held_down : (b : Bool) (d : Effect) (p : Panel) (ask : SessionAsk) (f : Bool) (w : Option WorkSeen) (q : Panel) → IsHarmless p d
     → MatchBool b (StepHeld p ask f (Refused HardwareError) w q) (StepEffect d p f (Refused HardwareError) w q) → IsDown p f q
 held_down true d p ask f w q n h = absurd h
 held_down false d p ask f w q n h = effect_down d p f w q n h
 
-action_down : (x : Action) (p : Panel) (ask : SessionAsk) (f : Bool) (w : Option WorkView) (q : Panel) → IsHarmlessAction p x
+action_down : (x : Action) (p : Panel) (ask : SessionAsk) (f : Bool) (w : Option WorkSeen) (q : Panel) → IsHarmlessAction p x
     → StepAction x p ask f (Refused HardwareError) w q → IsDown p f q
 action_down (AtOnce d) p ask f w q n h = effect_down d p f w q n h
 action_down (BetweenScans d) p ask f w q n h = barred_down (is_running p) d p f w q n h
 action_down (AfterScan d) p ask f w q n h = held_down (is_running p) d p ask f w q n h
 
-start_down : (p : Panel) (plan : Snapshot) (f : Bool) (told : TakenSeen) (w : Option WorkView) (q : Panel) → Refused HardwareError ≡ started_answer told
+start_down : (p : Panel) (plan : Snapshot) (f : Bool) (told : TakenSeen) (w : Option WorkSeen) (q : Panel) → Refused HardwareError ≡ started_answer told
     → Starts p plan f told q → IsDown p f q
 start_down p plan f SaysFault w q a h = record { failed = h.0; none = h.3.runs.fallen.none; idle = h.3.runs.over; status = ap (λ (x : Panel). x.status) h.4 }
 start_down p plan f SaysIgnored w q a h = absurd (cc (a))
@@ -372,7 +372,7 @@ start_down p plan f (SaysPause t u) w q a h = absurd (cc (a))
 start_down p plan f (SaysJob j) w q a h = absurd (cc (a))
 start_down p plan f SaysEnded w q a h = absurd (cc (a))
 
-joined_down : (p : Panel) (ask : SessionAsk) (f : Bool) (w : Option WorkView) (q : Panel) → StepJoined p ask f (Refused HardwareError) w q → IsDown p f q
+joined_down : (p : Panel) (ask : SessionAsk) (f : Bool) (w : Option WorkSeen) (q : Panel) → StepJoined p ask f (Refused HardwareError) w q → IsDown p f q
 joined_down p (Ask.Unit sid command available) f w q h =
     action_down (action_of available command) p (Ask.Unit sid command available) f w q (harmless p available command) h
 joined_down p (Ask.Bus sid) f w q h = told_down p Bus TriggerIgnored f h.told q trigger_plain h.answer_is h.happens
@@ -392,19 +392,19 @@ joined_down p (Ask.Attach number) f None q h = absurd h.served
 joined_down p Ask.Join f None q h = absurd h.served
 joined_down p ask f w q h = absurd h
 
-admitted_down : (now : Admission) (p : Panel) (ask : SessionAsk) (f : Bool) (w : Option WorkView) (q : Panel)
+admitted_down : (now : Admission) (p : Panel) (ask : SessionAsk) (f : Bool) (w : Option WorkSeen) (q : Panel)
     → StepAdmitted now p ask f (Refused HardwareError) w q
     → IsDown p f q
 admitted_down Dropped p ask f w q h = absurd h
 admitted_down ShutOut p ask f w q h = absurd h
 admitted_down Admitted p ask f w q h = joined_down p ask f w q h
 
-new_down : (p : Panel) (ask : SessionAsk) (f : Bool) (w : Option WorkView) (q : Panel) → StepNew p ask f (Refused HardwareError) w q → IsDown p f q
+new_down : (p : Panel) (ask : SessionAsk) (f : Bool) (w : Option WorkSeen) (q : Panel) → StepNew p ask f (Refused HardwareError) w q → IsDown p f q
 new_down p Ask.Join f w q h = absurd h
 new_down p (Ask.Attach number) f w q h = absurd h
 new_down p ask f w q h = absurd h
 
-session_down : (o : Option Sid) (p : Panel) (ask : SessionAsk) (f : Bool) (w : Option WorkView) (q : Panel) → StepSession o p ask f (Refused HardwareError) w q
+session_down : (o : Option Sid) (p : Panel) (ask : SessionAsk) (f : Bool) (w : Option WorkSeen) (q : Panel) → StepSession o p ask f (Refused HardwareError) w q
     → IsDown p f q
 session_down None p ask f w q h = new_down p ask f w q h
 session_down (Some sid) p ask f w q h = admitted_down (admission p sid ask) p ask f w q h.1
@@ -433,20 +433,20 @@ returns_down p done f q h =
     let r = counts_down (with_back p.cage done) q.cage done.outcome h.1 in
     record { failed = h.2.0; none = r.0; idle = r.1; status = ap (λ (x : Panel). x.status) h.2.1 }
 
-acts_down : (p : Panel) (ask : AskView) (f : Bool) (w : Option WorkView) (q : Panel) → Acts p ask f (SaysSession (Refused HardwareError) w) q → IsDown p f q
+acts_down : (p : Panel) (ask : AskSeen) (f : Bool) (w : Option WorkSeen) (q : Panel) → Acts p ask f (SaysSession (Refused HardwareError) w) q → IsDown p f q
 acts_down p (AskSession ask) f w q h = session_down (asker_of ask) p ask f w q h
 acts_down p (AskFinished done) f w q h = absurd (is_outside h.told (SaysSession (Refused HardwareError) w) h.answer_is)
 acts_down p AskExternal f w q h = absurd (is_outside h.told (SaysSession (Refused HardwareError) w) h.answer_is)
 acts_down p (AskElapsed ticket) f w q h = absurd (is_outside h.told (SaysSession (Refused HardwareError) w) h.answer_is)
 acts_down p ask f w q h = absurd h
 
-fails_down : (p : Panel) (ask : AskView) (f : Bool) (q : Panel) → Acts p ask f SaysFailed q → IsDown p f q
+fails_down : (p : Panel) (ask : AskSeen) (f : Bool) (q : Panel) → Acts p ask f SaysFailed q → IsDown p f q
 fails_down p AskExternal f q h = outside_down p External f q h
 fails_down p (AskElapsed ticket) f q h = outside_down p (Elapsed ticket) f q h
 fails_down p (AskFinished done) f q h = returns_down p done f q (subst (λ (t : TakenSeen). Returns p done f t q) (outside_fault h.told h.answer_is) h.returns)
 fails_down p ask f q h = absurd h
 
-worn_failure : (ask : AskView) (w : Option WorkView) → IsWorn ask (SaysSession (Refused HardwareError) w) → ⊥
+worn_failure : (ask : AskSeen) (w : Option WorkSeen) → IsWorn ask (SaysSession (Refused HardwareError) w) → ⊥
 worn_failure (AskSession ask) w h = h
 worn_failure (AskInstall slot card) w h = h
 worn_failure (AskEject slot) w h = h
@@ -454,7 +454,7 @@ worn_failure AskExternal w h = h
 worn_failure (AskElapsed ticket) w h = h
 worn_failure (AskFinished done) w h = h
 
-worn_failed : (ask : AskView) → IsWorn ask SaysFailed → ⊥
+worn_failed : (ask : AskSeen) → IsWorn ask SaysFailed → ⊥
 worn_failed (AskSession ask) h = h
 worn_failed (AskInstall slot card) h = h
 worn_failed (AskEject slot) h = h
@@ -473,7 +473,7 @@ down_after p done q f d after = (
   },
 )
 
-pub failed : (p q : Panel) (ask : AskView) (failed : Bool) (answer : AnswerView) → tells_failure answer ≡ true → Step p ask failed answer q → (failed ≡ true)
+pub failed : (p q : Panel) (ask : AskSeen) (failed : Bool) (answer : AnswerSeen) → tells_failure answer ≡ true → Step p ask failed answer q → (failed ≡ true)
     × IsAfterCardFault p q
 failed p q ask f SaysFailed t h = let x = event_of p ask f SaysFailed q (worn_failed ask) h in
     down_after p x.done q f (fails_down p ask f x.done x.acts) x.after

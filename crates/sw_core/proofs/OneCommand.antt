@@ -8,7 +8,7 @@ use Rattle.sw_base.specs.declared.error.ScpiError.TheVariants.{OutOfMemory}
 use Rattle.std.specs.List.{join_with_byte}
 use Rattle.sw_base.specs.Reading.{reading_text}
 use Rattle.sw_base.specs.declared.reading.Reading.{Reading}
-use Rattle.sw_trigger.specs.Settings.{Setup}
+use Rattle.sw_trigger.specs.Settings.{SettingsSeen}
 use Rattle.sw_status.specs.StatusModel.{StatusSeen}
 use Rattle.sw_cage.specs.Accounts.{Accounts}
 use Rattle.sw_cage.specs.Change.{Sets}
@@ -17,12 +17,12 @@ use Rattle.sw_core.specs.declared.ask.SessionAnswer.TheVariants.{Done, Refused}
 use Rattle.sw_core.specs.Panel.{Panel, with_cards}
 use Rattle.sw_core.specs.Action.{Effect, TellsNumber, TellsText, TellsReadings, ReadsOut, SetsStatus, SetsUp, Closes, Opens, TellsRelays, Leaves}
 use Rattle.sw_core.specs.Action.{Resets, reset, Offers, Refuses, IsOfMacros, Initiates}
-use Rattle.sw_core.specs.View.{AnswerView, SaysSession, SaysFailed}
+use Rattle.sw_core.specs.Seen.{AnswerSeen, SaysSession, SaysFailed}
 use Rattle.sw_core.specs.Step.{StepClose, StepOpen, StepFlags, StepText, StepDone, StepSetting, StepRefused, StepReadings, StepAlone}
 use Rattle.sw_core.proofs.Same.{sets_once}
 
 -- an answer that tells of no want of memory and of no card's failure
-abbrev pub IsWhole : AnswerView → Type 0
+abbrev pub IsWhole : AnswerSeen → Type 0
 IsWhole (SaysSession (Refused e) work) = (e ≢ OutOfMemory) × (e ≢ HardwareError)
 IsWhole SaysFailed = ⊥
 IsWhole answer = Unit {0}
@@ -89,7 +89,7 @@ pub done_once : (after : Panel) (f f' : Bool) (a a' : SessionAnswer) (q q' : Pan
 done_once after f f' (Done None) (Done None) q q' h k = (refl, both after q q' h.1 k.1)
 done_once after f f' a a' q q' h k = absurd (assumption (h, k))
 
-pub setting_once : (p : Panel) (Fits : Type 0) (error : ScpiError) (setup : Setup) (f f' : Bool) (a a' : SessionAnswer) (q q' : Panel)
+pub setting_once : (p : Panel) (Fits : Type 0) (error : ScpiError) (setup : SettingsSeen) (f f' : Bool) (a a' : SessionAnswer) (q q' : Panel)
     → StepSetting p Fits error setup f a q → StepSetting p Fits error setup f' a' q' → IsOnce a a' q q'
 setting_once p Fits error setup f f' (Done None) (Done None) q q' h k = (refl, h.2 ∙ sym k.2)
 setting_once p Fits error setup f f' (Done None) (Refused e) q q' h k = absurd (k.1 h.1)

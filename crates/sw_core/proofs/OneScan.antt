@@ -13,16 +13,16 @@ use Rattle.sw_core.specs.declared.ask.SessionAnswer.TheVariants.{Done, Refused, 
 use Rattle.sw_core.specs.Panel.{Panel, is_running}
 use Rattle.sw_core.specs.Action.{Effect}
 use Rattle.sw_core.specs.Action.{Offers, Action, AtOnce, BetweenScans, AfterScan}
-use Rattle.sw_core.specs.View.{WorkView, SaysSession}
+use Rattle.sw_core.specs.Seen.{WorkSeen, SaysSession}
 use Rattle.sw_core.specs.Step.{StepRefused, StepEffect, StepHeld, StepAction}
 use Rattle.sw_core.specs.Step.{session_told, work_of, started_answer, StepHappens, RefusesScan, MayScan, snapshot_of, StepSnapshot, IsStarted, StepStart}
 use Rattle.sw_core.proofs.Going.{happens_once, starts_once}
 use Rattle.sw_core.proofs.OneCommand.{IsWhole, IsOnce, both, true_false, refused_once, alone_once}
 
-abbrev pub IsAlike : SessionAnswer → SessionAnswer → Option WorkView → Option WorkView → Panel → Panel → Type 0
+abbrev pub IsAlike : SessionAnswer → SessionAnswer → Option WorkSeen → Option WorkSeen → Panel → Panel → Type 0
 IsAlike a a' w w' q q' = (a ≡ a') × (w ≡ w') × (q ≡ q')
 
-pub plain_any : (a : SessionAnswer) (w w' : Option WorkView) → IsWhole (SaysSession a w) → IsWhole (SaysSession a w')
+pub plain_any : (a : SessionAnswer) (w w' : Option WorkSeen) → IsWhole (SaysSession a w) → IsWhole (SaysSession a w')
 plain_any (Refused e) w w' h = h
 plain_any a w w' h = tt
 
@@ -33,7 +33,7 @@ unbroken error a told n e f =
     let plain : IsWhole (SaysSession (Refused HardwareError) None) = subst (λ (x : SessionAnswer). IsWhole (SaysSession x None)) g n in
     plain.1 refl
 
-pub happening_once : (p : Panel) (happening : Happening) (error : ScpiError) (f f' : Bool) (a a' : SessionAnswer) (w w' : Option WorkView) (q q' : Panel)
+pub happening_once : (p : Panel) (happening : Happening) (error : ScpiError) (f f' : Bool) (a a' : SessionAnswer) (w w' : Option WorkSeen) (q q' : Panel)
     → IsWhole (SaysSession a None) → IsWhole (SaysSession a' None) → StepHappens p happening error f a w q → StepHappens p happening error f' a' w' q'
     → IsAlike a a' w w' q q'
 happening_once p happening error f f' a a' w w' q q' n m h k =
@@ -41,26 +41,26 @@ happening_once p happening error f f' a a' w w' q q' n m h k =
     (unbroken error a' k.told m k.answer_is) in
     (h.answer_is ∙ ap (λ (x : TakenSeen). session_told error x) r.0 ∙ sym k.answer_is, h.work_is ∙ ap (λ (x : TakenSeen). work_of x) r.0 ∙ sym k.work_is, r.1)
 
-pub effect_once : (e : Effect) (p : Panel) (f f' : Bool) (a a' : SessionAnswer) (w w' : Option WorkView) (q q' : Panel)
+pub effect_once : (e : Effect) (p : Panel) (f f' : Bool) (a a' : SessionAnswer) (w w' : Option WorkSeen) (q q' : Panel)
     → IsWhole (SaysSession a None) → IsWhole (SaysSession a' None) → StepEffect e p f a w q → StepEffect e p f' a' w' q' → IsAlike a a' w w' q q'
 effect_once (Offers happening error) p f f' a a' w w' q q' n m h k = happening_once p happening error f f' a a' w w' q q' n m h k
 effect_once e p f f' a a' w w' q q' n m h k =
     let r = alone_once e p f f' a a' q q' n m h.0 k.0 in
     (r.0, h.1 ∙ sym k.1, r.1)
 
-pub held_once : (p : Panel) (ask : SessionAsk) (f f' : Bool) (a a' : SessionAnswer) (w w' : Option WorkView) (q q' : Panel)
+pub held_once : (p : Panel) (ask : SessionAsk) (f f' : Bool) (a a' : SessionAnswer) (w w' : Option WorkSeen) (q q' : Panel)
     → StepHeld p ask f a w q → StepHeld p ask f' a' w' q' → IsAlike a a' w w' q q'
 held_once p ask f f' (Hold x) (Hold y) None None q q' h k = (ap Hold (h.1 ∙ sym k.1), refl, both p q q' h.2 k.2)
 held_once p ask f f' a a' w w' q q' h k = absurd (assumption (h, k))
 
 -- what is so of two answers by one relation, and by another, is so by either
-pub either_alike : (b : Bool) (A B : SessionAnswer → Option WorkView → Panel → Type 0) (A' B' : SessionAnswer → Option WorkView → Panel → Type 0)
-    (a a' : SessionAnswer) (w w' : Option WorkView) (q q' : Panel) → (A a w q → A' a' w' q' → IsAlike a a' w w' q q')
+pub either_alike : (b : Bool) (A B : SessionAnswer → Option WorkSeen → Panel → Type 0) (A' B' : SessionAnswer → Option WorkSeen → Panel → Type 0)
+    (a a' : SessionAnswer) (w w' : Option WorkSeen) (q q' : Panel) → (A a w q → A' a' w' q' → IsAlike a a' w w' q q')
     → (B a w q → B' a' w' q' → IsAlike a a' w w' q q') → MatchBool b (A a w q) (B a w q) → MatchBool b (A' a' w' q') (B' a' w' q') → IsAlike a a' w w' q q'
 either_alike true A B A' B' a a' w w' q q' x y h k = x h k
 either_alike false A B A' B' a a' w w' q q' x y h k = y h k
 
-pub action_once : (x : Action) (p : Panel) (ask : SessionAsk) (f f' : Bool) (a a' : SessionAnswer) (w w' : Option WorkView) (q q' : Panel)
+pub action_once : (x : Action) (p : Panel) (ask : SessionAsk) (f f' : Bool) (a a' : SessionAnswer) (w w' : Option WorkSeen) (q q' : Panel)
     → IsWhole (SaysSession a None) → IsWhole (SaysSession a' None) → StepAction x p ask f a w q → StepAction x p ask f' a' w' q' → IsAlike a a' w w' q q'
 action_once (AtOnce e) p ask f f' a a' w w' q q' n m h k = effect_once e p f f' a a' w w' q q' n m h k
 action_once (BetweenScans e) p ask f f' a a' w w' q q' n m h k =
@@ -117,16 +117,16 @@ snapshot_once p f f' a a' q q' n m h k = elim (snapshot_as p f a q n h) [
 ]
 
 -- what comes of a start: it is done, or the plan is of another state, or it is refused
-abbrev pub IsBegun : Panel → Snapshot → SessionAnswer → Option WorkView → Panel → Type 0
+abbrev pub IsBegun : Panel → Snapshot → SessionAnswer → Option WorkSeen → Panel → Type 0
 IsBegun p plan a w q = (f : Bool) × IsStarted p plan f a w q
 
-abbrev pub IsStale : Panel → Snapshot → SessionAnswer → Option WorkView → Panel → Type 0
+abbrev pub IsStale : Panel → Snapshot → SessionAnswer → Option WorkSeen → Panel → Type 0
 IsStale p plan a w q = MayScan p × (plan ≢ snapshot_of p) × (a ≡ Refused SettingsConflict) × (w ≡ None) × (q ≡ p)
 
-abbrev pub IsBarred : Panel → SessionAnswer → Option WorkView → Panel → Type 0
+abbrev pub IsBarred : Panel → SessionAnswer → Option WorkSeen → Panel → Type 0
 IsBarred p a w q = (e : ScpiError) × RefusesScan p e × (a ≡ Refused e) × (w ≡ None) × (q ≡ p)
 
-pub start_as : (p : Panel) (plan : Snapshot) (f : Bool) (a : SessionAnswer) (w : Option WorkView) (q : Panel) → IsWhole (SaysSession a None)
+pub start_as : (p : Panel) (plan : Snapshot) (f : Bool) (a : SessionAnswer) (w : Option WorkSeen) (q : Panel) → IsWhole (SaysSession a None)
     → StepStart p plan f a w q → IsBegun p plan a w q ⊎ (IsStale p plan a w q ⊎ IsBarred p a w q)
 start_as p plan f (Done None) w q n h = inl (f, h)
 start_as p plan f (Refused HardwareError) w q n h = absurd (n.1 refl)
@@ -136,14 +136,14 @@ start_as p plan f (Refused SettingsConflict) None q n h =
 start_as p plan f (Refused e) None q n h = inr (inr (e, h.1, refl, refl, h.2))
 start_as p plan f a w q n h = absurd h
 
-pub begun_whole : (p : Panel) (plan : Snapshot) (a : SessionAnswer) (w : Option WorkView) (q : Panel) → IsWhole (SaysSession a None)
+pub begun_whole : (p : Panel) (plan : Snapshot) (a : SessionAnswer) (w : Option WorkSeen) (q : Panel) → IsWhole (SaysSession a None)
     → (b : IsBegun p plan a w q) → b.1.told ≢ SaysFault
 begun_whole p plan a w q n b e =
     let g : a ≡ Refused HardwareError = b.1.answer_is ∙ ap (λ (x : TakenSeen). started_answer x) e in
     let plain : IsWhole (SaysSession (Refused HardwareError) None) = subst (λ (x : SessionAnswer). IsWhole (SaysSession x None)) g n in
     plain.1 refl
 
-pub begun_once : (p : Panel) (plan : Snapshot) (a a' : SessionAnswer) (w w' : Option WorkView) (q q' : Panel) → IsWhole (SaysSession a None)
+pub begun_once : (p : Panel) (plan : Snapshot) (a a' : SessionAnswer) (w w' : Option WorkSeen) (q q' : Panel) → IsWhole (SaysSession a None)
     → IsWhole (SaysSession a' None) → IsBegun p plan a w q → IsBegun p plan a' w' q' → IsAlike a a' w w' q q'
 begun_once p plan a a' w w' q q' n m x y =
     let r = starts_once p q q' plan x.0 y.0 x.1.told y.1.told x.1.starts y.1.starts (begun_whole p plan a w q n x) (begun_whole p plan a' w' q' m y) in (
@@ -153,7 +153,7 @@ begun_once p plan a a' w w' q q' n m x y =
       r.1,
     )
 
-pub start_once : (p : Panel) (plan : Snapshot) (f f' : Bool) (a a' : SessionAnswer) (w w' : Option WorkView) (q q' : Panel) → IsWhole (SaysSession a None)
+pub start_once : (p : Panel) (plan : Snapshot) (f f' : Bool) (a a' : SessionAnswer) (w w' : Option WorkSeen) (q q' : Panel) → IsWhole (SaysSession a None)
     → IsWhole (SaysSession a' None) → StepStart p plan f a w q → StepStart p plan f' a' w' q' → IsAlike a a' w w' q q'
 start_once p plan f f' a a' w w' q q' n m h k = elim (start_as p plan f a w q n h) [
   | inl x ↦ elim (start_as p plan f' a' w' q' m k) [

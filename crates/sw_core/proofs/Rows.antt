@@ -9,7 +9,7 @@ use Rattle.sw_base.specs.declared.error.ScpiError.{ScpiError}
 use Rattle.sw_base.specs.declared.reading.Reading.{Reading}
 use Rattle.sw_base.specs.declared.reading.Reading.TheVariants.{Volts, Overload}
 use Rattle.sw_base.specs.Reading.{fixed, last_digits, reading_text}
-use Rattle.sw_core.specs.Answers.{flag_of, entry_of, IsRow, IsOpen}
+use Rattle.sw_core.specs.Answers.{yes_or_no, error_entry, IsRow, IsOpenEnded}
 
 some-push : (ps : List (List ℕ)) (p : List ℕ) → AllByRecursion (λ (q : List ℕ). 0 < length q) ps → 0 < length p
     → AllByRecursion (λ (q : List ℕ). 0 < length q) (ps ++ p ∷ [])
@@ -25,7 +25,7 @@ join-some q [] h = h
 join-some q (r ∷ ps) h = omega (arith, length-append q (44 ∷ join_with_byte 44 (r ∷ ps)))
 
 -- nothing stands there yet
-pub open-first : (text : List ℕ) (ps : List (List ℕ)) → length text ≡ 0 → IsRow text ps → IsOpen text ps
+pub open-first : (text : List ℕ) (ps : List (List ℕ)) → length text ≡ 0 → IsRow text ps → IsOpenEnded text ps
 open-first [] [] e r p h = record { joined = refl; some = (h, tt) }
 open-first [] (q ∷ ps) e r p h =
     absurd (let k : 0 < length (join_with_byte 44 (q ∷ ps)) = join-some q ps r.some.0 in
@@ -33,15 +33,15 @@ open-first [] (q ∷ ps) e r p h =
 open-first (x ∷ text) ps e r p h = absurd (omega arith)
 
 -- a comma was put behind what stands there
-pub open-next : (text : List ℕ) (ps : List (List ℕ)) → 0 < length text → IsRow text ps → IsOpen (text ++ 44 ∷ []) ps
+pub open-next : (text : List ℕ) (ps : List (List ℕ)) → 0 < length text → IsRow text ps → IsOpenEnded (text ++ 44 ∷ []) ps
 open-next text [] e r p h = absurd (let j : length text ≡ 0 = ap (λ (t : List ℕ). length t) r.joined in omega arith)
 open-next text (q ∷ ps) e r p h =
     record { joined = append_assoc text (44 ∷ []) p ∙ ap (λ (t : List ℕ). t ++ 44 ∷ p) r.joined ∙ sym (join-push q ps p); some = some-push (q ∷ ps) p r.some h }
 
-pub entry-some : (e : ScpiError) → 0 < length (entry_of e)
+pub entry-some : (e : ScpiError) → 0 < length (error_entry e)
 entry-some e = omega (arith, length-append (signed_decimal (code_of e)) (44 ∷ 34 ∷ (text_of e ++ 34 ∷ [])))
 
-pub flag-some : (b : Bool) → 0 < length (flag_of b)
+pub flag-some : (b : Bool) → 0 < length (yes_or_no b)
 flag-some true = omega arith
 flag-some false = omega arith
 

@@ -12,7 +12,7 @@ use Rattle.sw_base.specs.declared.error.ScpiError.{ScpiError}
 use Rattle.sw_base.specs.declared.error.ScpiError.TheVariants.{UndefinedHeader, DataCorruptOrStale}
 use Rattle.sw_base.specs.declared.error.ScpiError.TheVariants.{HardwareMissing, SettingsConflict, HardwareError, OutOfMemory}
 use Rattle.sw_card.specs.Account.{Account, closed_at}
-use Rattle.sw_trigger.specs.Settings.{Setup, IsInRange}
+use Rattle.sw_trigger.specs.Settings.{SettingsSeen, IsInRange}
 use Rattle.sw_verify.specs.declared.snapshot.Snapshot.{Snapshot}
 use Rattle.sw_status.specs.StatusModel.{StatusSeen, IsStatus, pushed}
 use Rattle.sw_cage.specs.Accounts.{Accounts, layout_of, is_closed, option_closed, all_open, option_rest}
@@ -40,8 +40,8 @@ use Rattle.sw_core.specs.Panel.{Panel, opening_at, with_cards, is_running}
 use Rattle.sw_core.specs.Action.{Effect, TellsNumber, TellsText, TellsReadings, ReadsOut, SetsStatus, SetsUp, Closes, Opens, TellsRelays, Leaves}
 use Rattle.sw_core.specs.Action.{Resets, reset, Offers, Refuses, IsOfMacros, Initiates, Action, AtOnce, BetweenScans, AfterScan, action_of}
 use Rattle.sw_core.specs.Event.{concluded, session_concluded, last_number}
-use Rattle.sw_core.specs.View.{WorkView, AskView, AskSession, AskInstall, AskEject, AskExternal, AskElapsed, AskFinished, AnswerView, SaysSession}
-use Rattle.sw_core.specs.View.{SaysInstalled, SaysNotInstalled, SaysEjected, SaysNotEjected, SaysTaken, SaysMissed, SaysFailed, SaysBack, SaysWorn}
+use Rattle.sw_core.specs.Seen.{WorkSeen, AskSeen, AskSession, AskInstall, AskEject, AskExternal, AskElapsed, AskFinished, AnswerSeen, SaysSession}
+use Rattle.sw_core.specs.Seen.{SaysInstalled, SaysNotInstalled, SaysEjected, SaysNotEjected, SaysTaken, SaysMissed, SaysFailed, SaysBack, SaysWorn}
 use Rattle.sw_core.specs.Seats.{asker_of}
 use Rattle.sw_core.specs.Step.{FailsSafe, StepClose, StepOpen, StepFlags, StepText, StepDone, StepSetting, StepRefused, StepReadings, StepAlone, StepEffect}
 use Rattle.sw_core.specs.Step.{StepHeld, StepAction}
@@ -61,7 +61,7 @@ use Rattle.sw_cage.specs.TakenSeen.{tells_fault}
 use Rattle.sw_cage.specs.Outcome.{Advances, AdvancesPastFrom, Counts, with_reading, begun}
 use Rattle.sw_status.proofs.Limits.{status-kept, status-start}
 use Rattle.sw_core.specs.Registers.{card_fault_reported, card_fault_cleared}
-use Rattle.sw_core.specs.Sessions.{with_seat, fresh}
+use Rattle.sw_core.specs.Sessions.{with_seat, fresh_seat}
 use Rattle.sw_core.specs.Event.{ended, erred, completed, with_operation, awaited_bits, next_number}
 use Rattle.sw_core.proofs.Harmless.{IsFine, GoesBy, by_none, fine_is, none_of, reset_range, told_group, reported_status, cleared_status, fallen_all}
 use Rattle.sw_core.proofs.Harmless.{dropped, IsHarmless, IsHarmlessAction, harmless}
@@ -134,7 +134,8 @@ done_fine : (after : Panel) (f : Bool) (a : SessionAnswer) (q : Panel) → IsFin
 done_fine after f (Done None) q k h = fine_is after q h.1 k
 done_fine after f a q k h = absurd h
 
-setting_fine : (p : Panel) (Fits : Type 0) (error : ScpiError) (setup : Setup) (f : Bool) (a : SessionAnswer) (q : Panel) → IsFine p → is_running p ≡ false
+setting_fine : (p : Panel) (Fits : Type 0) (error : ScpiError) (setup : SettingsSeen) (f : Bool) (a : SessionAnswer) (q : Panel) → IsFine p
+    → is_running p ≡ false
     → (Fits → IsInRange p.settings → IsInRange setup) → StepSetting p Fits error setup f a q → IsFine q
 setting_fine p Fits error setup f (Done None) q k i r h =
     fine_is (record p { settings = setup }) q h.2 (record {
@@ -181,10 +182,10 @@ alone_fine (Offers happening error) p f a q k n h = absurd h
 -- ---- scans
 
 -- a scan goes on by its settings
-by_place : (s : Setup) (i : ℕ) (scan : Option ScanSeen) → scan ≡ Some (next_place s i) → GoesBy scan s
+by_place : (s : SettingsSeen) (i : ℕ) (scan : Option ScanSeen) → scan ≡ Some (next_place s i) → GoesBy scan s
 by_place s i scan e = subst (λ (o : Option ScanSeen). GoesBy o s) (sym e) refl
 
-by_goes : (c q : CageSeen) (s : Setup) (i : ℕ) (told : TakenSeen) → Advances c s i told q → GoesBy q.scan s
+by_goes : (c q : CageSeen) (s : SettingsSeen) (i : ℕ) (told : TakenSeen) → Advances c s i told q → GoesBy q.scan s
 by_goes c q s i SaysIgnored g = absurd g.runs.arrives
 by_goes c q s i SaysWaits g = by_place s i q.scan g.runs.arrives.2
 by_goes c q s i (SaysPause t u) g = by_place s i q.scan g.runs.arrives.3
@@ -192,11 +193,12 @@ by_goes c q s i (SaysJob job) g = by_place s i q.scan g.runs.arrives.2
 by_goes c q s i SaysEnded g = by_none q.scan s g.runs.arrives.2
 by_goes c q s i SaysFault g = by_none q.scan s g.runs.over
 
-by_past : (c q : CageSeen) (scan : Option ScanSeen) (s : Setup) (told : TakenSeen) → GoesBy scan s → AdvancesPastFrom c scan told q → GoesBy q.scan s
+by_past : (c q : CageSeen) (scan : Option ScanSeen) (s : SettingsSeen) (told : TakenSeen) → GoesBy scan s → AdvancesPastFrom c scan told q → GoesBy q.scan s
 by_past c q None s told k g = absurd g
-by_past c q (Some at) s told k g = subst (λ (x : Setup). GoesBy q.scan x) k (by_goes c q at.setup (at.index + 1) told g)
+by_past c q (Some at) s told k g = subst (λ (x : SettingsSeen). GoesBy q.scan x) k (by_goes c q at.setup (at.index + 1) told g)
 
-by_counts : (c q : CageSeen) (outcome : Result Reading CardFault) (s : Setup) (told : TakenSeen) → GoesBy c.scan s → Counts c outcome told q → GoesBy q.scan s
+by_counts : (c q : CageSeen) (outcome : Result Reading CardFault) (s : SettingsSeen) (told : TakenSeen) → GoesBy c.scan s → Counts c outcome told q
+    → GoesBy q.scan s
 by_counts c q (Ok r) s told k g = by_past (with_reading c r) q c.scan s told k g
 by_counts c q (Err e) s told k g = by_none q.scan s (ap (λ (x : CageSeen). x.scan) g.1)
 
@@ -262,27 +264,27 @@ starts_fine p plan f told q k may h =
     let c : IsKept q.cage = kept_begun p.cage q.cage p.settings plan told k.cage (is_none (slot_at p.cage.out p.settings.meter) may.home) k.range h.2 h.1 h.3 in
     fine_is next q h.4 (record { cage = c; range = k.range; settings = by_goes (begun p.cage) q.cage p.settings 0 told h.3; status = u })
 
-effect_fine : (d : Effect) (p : Panel) (f : Bool) (a : SessionAnswer) (w : Option WorkView) (q : Panel) → IsFine p → IsHarmless p d → StepEffect d p f a w q
+effect_fine : (d : Effect) (p : Panel) (f : Bool) (a : SessionAnswer) (w : Option WorkSeen) (q : Panel) → IsFine p → IsHarmless p d → StepEffect d p f a w q
     → IsFine q
 effect_fine (Offers happening error) p f a w q k n h = happens_fine p happening f h.told q k h.happens
 effect_fine d p f a w q k n h = alone_fine d p f a q k n h.0
 
-held_fine : (p : Panel) (ask : SessionAsk) (f : Bool) (a : SessionAnswer) (w : Option WorkView) (q : Panel) → IsFine p → StepHeld p ask f a w q → IsFine q
+held_fine : (p : Panel) (ask : SessionAsk) (f : Bool) (a : SessionAnswer) (w : Option WorkSeen) (q : Panel) → IsFine p → StepHeld p ask f a w q → IsFine q
 held_fine p ask f (Hold back) None q k h = fine_is p q h.2 k
 held_fine p ask f a w q k h = absurd h
 
-barred_fine : (b : Bool) (d : Effect) (p : Panel) (f : Bool) (a : SessionAnswer) (w : Option WorkView) (q : Panel) → IsFine p → (b ≡ false → IsHarmless p d)
+barred_fine : (b : Bool) (d : Effect) (p : Panel) (f : Bool) (a : SessionAnswer) (w : Option WorkSeen) (q : Panel) → IsFine p → (b ≡ false → IsHarmless p d)
     → MatchBool b (StepRefused p SettingsConflict f a q × (w ≡ None)) (StepEffect d p f a w q) → IsFine q
 barred_fine true d p f a w q k n h = refused_fine p SettingsConflict f a q k h.0
 barred_fine false d p f a w q k n h = effect_fine d p f a w q k (n refl) h
 
-waiting_fine : (b : Bool) (d : Effect) (p : Panel) (ask : SessionAsk) (f : Bool) (a : SessionAnswer) (w : Option WorkView) (q : Panel) → IsFine p
+waiting_fine : (b : Bool) (d : Effect) (p : Panel) (ask : SessionAsk) (f : Bool) (a : SessionAnswer) (w : Option WorkSeen) (q : Panel) → IsFine p
     → IsHarmless p d
     → MatchBool b (StepHeld p ask f a w q) (StepEffect d p f a w q) → IsFine q
 waiting_fine true d p ask f a w q k n h = held_fine p ask f a w q k h
 waiting_fine false d p ask f a w q k n h = effect_fine d p f a w q k n h
 
-action_fine : (x : Action) (p : Panel) (ask : SessionAsk) (f : Bool) (a : SessionAnswer) (w : Option WorkView) (q : Panel) → IsFine p → IsHarmlessAction p x
+action_fine : (x : Action) (p : Panel) (ask : SessionAsk) (f : Bool) (a : SessionAnswer) (w : Option WorkSeen) (q : Panel) → IsFine p → IsHarmlessAction p x
     → StepAction x p ask f a w q → IsFine q
 action_fine (AtOnce d) p ask f a w q k n h = effect_fine d p f a w q k n h
 action_fine (BetweenScans d) p ask f a w q k n h = barred_fine (is_running p) d p f a w q k n h
@@ -294,7 +296,7 @@ snapshot_fine p f (Refused OutOfMemory) q k h = fine_is p q h.2 k
 snapshot_fine p f (Refused e) q k h = fine_is p q h.2 k
 snapshot_fine p f a q k h = absurd h
 
-start_fine : (p : Panel) (plan : Snapshot) (f : Bool) (a : SessionAnswer) (w : Option WorkView) (q : Panel) → IsFine p → StepStart p plan f a w q → IsFine q
+start_fine : (p : Panel) (plan : Snapshot) (f : Bool) (a : SessionAnswer) (w : Option WorkSeen) (q : Panel) → IsFine p → StepStart p plan f a w q → IsFine q
 start_fine p plan f (Done None) w q k h = starts_fine p plan f h.told q k h.may h.starts
 start_fine p plan f (Refused HardwareError) w q k h = starts_fine p plan f h.told q k h.may h.starts
 start_fine p plan f (Refused OutOfMemory) None q k h = fine_is p q h.3 k
@@ -306,7 +308,7 @@ served_fine : (p : Panel) (ask : SessionAsk) (f : Bool) (a : SessionAnswer) (q :
 served_fine p ask f a q k h =
     fine_is (record p { sessions = h.sessions }) q h.after (record { cage = k.cage; range = k.range; settings = k.settings; status = k.status })
 
-joined_fine : (p : Panel) (ask : SessionAsk) (f : Bool) (a : SessionAnswer) (w : Option WorkView) (q : Panel) → IsFine p → StepJoined p ask f a w q → IsFine q
+joined_fine : (p : Panel) (ask : SessionAsk) (f : Bool) (a : SessionAnswer) (w : Option WorkSeen) (q : Panel) → IsFine p → StepJoined p ask f a w q → IsFine q
 joined_fine p (Ask.Fault sid e) f (Done None) None q k h =
     fine_is (record p { status = pushed p.status e }) q h.1 (record {
       cage = k.cage;
@@ -333,16 +335,16 @@ joined_fine p Ask.Join f answer None q k h = served_fine p Ask.Join f answer q k
 joined_fine p (Ask.Attach n) f answer None q k h = served_fine p (Ask.Attach n) f answer q k h
 joined_fine p ask f a w q k h = absurd h
 
-admitted_fine : (now : Admission) (p : Panel) (ask : SessionAsk) (f : Bool) (a : SessionAnswer) (w : Option WorkView) (q : Panel) → IsFine p
+admitted_fine : (now : Admission) (p : Panel) (ask : SessionAsk) (f : Bool) (a : SessionAnswer) (w : Option WorkSeen) (q : Panel) → IsFine p
     → StepAdmitted now p ask f a w q → IsFine q
 admitted_fine Dropped p ask f Broken None q k h = fine_is p q h.1 k
 admitted_fine Dropped p ask f a w q k h = absurd h
 admitted_fine ShutOut p ask f a w q k h = held_fine p ask f a w q k h
 admitted_fine Admitted p ask f a w q k h = joined_fine p ask f a w q k h
 
-join_fine : (p : Panel) (f : Bool) (a : SessionAnswer) (w : Option WorkView) (q : Panel) → IsFine p → StepJoin p f a w q → IsFine q
+join_fine : (p : Panel) (f : Bool) (a : SessionAnswer) (w : Option WorkSeen) (q : Panel) → IsFine p → StepJoin p f a w q → IsFine q
 join_fine p f (Joined sid) None q k h =
-    fine_is (record p { sessions = with_seat p.sessions sid.number (Some (fresh (next_number p.events))) }) q h.3 (record {
+    fine_is (record p { sessions = with_seat p.sessions sid.number (Some (fresh_seat (next_number p.events))) }) q h.3 (record {
       cage = k.cage;
       range = k.range;
       settings = k.settings;
@@ -351,18 +353,18 @@ join_fine p f (Joined sid) None q k h =
 join_fine p f Full None q k h = fine_is p q h.2 k
 join_fine p f a w q k h = absurd h
 
-attach_fine : (p : Panel) (n : ℕ) (f : Bool) (a : SessionAnswer) (w : Option WorkView) (q : Panel) → IsFine p → StepAttach p n f a w q → IsFine q
+attach_fine : (p : Panel) (n : ℕ) (f : Bool) (a : SessionAnswer) (w : Option WorkSeen) (q : Panel) → IsFine p → StepAttach p n f a w q → IsFine q
 attach_fine p n f (Joined sid) None q k h =
     fine_is (record p { sessions = q.sessions }) q h.2 (record { cage = k.cage; range = k.range; settings = k.settings; status = k.status })
 attach_fine p n f Stranger None q k h = fine_is p q h.2 k
 attach_fine p n f a w q k h = absurd h
 
-new_fine : (p : Panel) (ask : SessionAsk) (f : Bool) (a : SessionAnswer) (w : Option WorkView) (q : Panel) → IsFine p → StepNew p ask f a w q → IsFine q
+new_fine : (p : Panel) (ask : SessionAsk) (f : Bool) (a : SessionAnswer) (w : Option WorkSeen) (q : Panel) → IsFine p → StepNew p ask f a w q → IsFine q
 new_fine p Ask.Join f a w q k h = join_fine p f a w q k h
 new_fine p (Ask.Attach n) f a w q k h = attach_fine p n f a w q k h
 new_fine p ask f a w q k h = absurd h
 
-session_fine : (o : Option Sid) (p : Panel) (ask : SessionAsk) (f : Bool) (a : SessionAnswer) (w : Option WorkView) (q : Panel) → IsFine p
+session_fine : (o : Option Sid) (p : Panel) (ask : SessionAsk) (f : Bool) (a : SessionAnswer) (w : Option WorkSeen) (q : Panel) → IsFine p
     → StepSession o p ask f a w q → IsFine q
 session_fine None p ask f a w q k h = new_fine p ask f a w q k h
 session_fine (Some sid) p ask f Stranger None q k h = fine_is p q h.2 k
@@ -403,14 +405,14 @@ rest_slot rack slot card e =
     let r : (0 < slot) × (slot ≤ length (all_open rack)) = some_slot (all_open rack) slot (ap (λ o. is_some o) e) in
     (r.0, subst (λ n. slot ≤ n) (length-map rack option_rest) r.1)
 
-outside_fine : (p : Panel) (happening : Happening) (f : Bool) (a : AnswerView) (q : Panel) → IsFine p → StepOutside p happening f a q → IsFine q
+outside_fine : (p : Panel) (happening : Happening) (f : Bool) (a : AnswerSeen) (q : Panel) → IsFine p → StepOutside p happening f a q → IsFine q
 outside_fine p happening f a q k h = happens_fine p happening f h.told q k h.happens
 
-finished_fine : (p : Panel) (done : FinishedSeen) (f : Bool) (a : AnswerView) (q : Panel) → IsFine p → StepFinished p done f a q → IsFine q
+finished_fine : (p : Panel) (done : FinishedSeen) (f : Bool) (a : AnswerSeen) (q : Panel) → IsFine p → StepFinished p done f a q → IsFine q
 finished_fine p done f SaysBack q k h = fine_is p q h.2 k
 finished_fine p done f a q k h = returns_fine p done f h.told q k h.out h.returns
 
-acts_fine : (p : Panel) (ask : AskView) (f : Bool) (a : AnswerView) (q : Panel) → IsFine p → Acts p ask f a q → IsFine q
+acts_fine : (p : Panel) (ask : AskSeen) (f : Bool) (a : AnswerSeen) (q : Panel) → IsFine p → Acts p ask f a q → IsFine q
 acts_fine p (AskSession ask) f (SaysSession a w) q k h = session_fine (asker_of ask) p ask f a w q k h
 acts_fine p (AskInstall slot card) f SaysInstalled q k h =
     fine_is (with_cards p (slice_set p.cage.cards (slot - 1) (Some card))) q h.4 (record {
@@ -466,7 +468,7 @@ session_ended (answers.Max n) p k = ended_fine p k
 session_ended (answers.Lock code) p k = ended_fine p k
 session_ended (answers.Info exclusive n) p k = ended_fine p k
 
-concluded_fine : (a : AnswerView) (p : Panel) → IsFine p → IsFine (concluded a p)
+concluded_fine : (a : AnswerSeen) (p : Panel) → IsFine p → IsFine (concluded a p)
 concluded_fine (SaysSession a w) p k = session_ended a p k
 concluded_fine SaysInstalled p k = ended_fine p k
 concluded_fine (SaysNotInstalled refusal) p k = ended_fine p k
@@ -478,15 +480,15 @@ concluded_fine SaysFailed p k = ended_fine (erred p HardwareError) (erred_fine p
 concluded_fine SaysBack p k = k
 concluded_fine SaysWorn p k = k
 
-event_fine : (p : Panel) (ask : AskView) (f : Bool) (a : AnswerView) (q : Panel) → IsFine p → IsEvent p ask f a q → IsFine q
+event_fine : (p : Panel) (ask : AskSeen) (f : Bool) (a : AnswerSeen) (q : Panel) → IsFine p → IsEvent p ask f a q → IsFine q
 event_fine p ask f a q k h = fine_is (concluded a h.done) q h.after (concluded_fine a h.done (acts_fine p ask f a h.done k h.acts))
 
-either_fine : (b : Bool) (p : Panel) (ask : AskView) (f : Bool) (a : AnswerView) (q : Panel) → IsFine p
+either_fine : (b : Bool) (p : Panel) (ask : AskSeen) (f : Bool) (a : AnswerSeen) (q : Panel) → IsFine p
     → MatchBool b (IsUnnumbered p ask f a q) (IsEvent p ask f a q) → IsFine q
 either_fine true p ask f a q k h = fine_is p q h.same k
 either_fine false p ask f a q k h = event_fine p ask f a q k h
 
-pub step_fine : (p : Panel) (ask : AskView) (f : Bool) (a : AnswerView) (q : Panel) → IsFine p → Step p ask f a q → IsFine q
+pub step_fine : (p : Panel) (ask : AskSeen) (f : Bool) (a : AnswerSeen) (q : Panel) → IsFine p → Step p ask f a q → IsFine q
 step_fine p ask f a q k h = either_fine ((p.events == last_number) && not (acts_unnumbered ask)) p ask f a q k h
 
 -- ---- at the start

@@ -5,7 +5,7 @@ use Rattle.std.specs.Prelude.{MatchBool, IfSome}
 use Rattle.std.proofs.lemmas.List.{take-append-drop}
 use mathlib.Core.Path.{fun_ext}
 use Rattle.sw_trigger.specs.declared.layer.Awaited.{Awaited}
-use Rattle.sw_trigger.specs.Settings.{Setup}
+use Rattle.sw_trigger.specs.Settings.{SettingsSeen}
 use Rattle.sw_trigger.specs.Agenda.{agenda}
 use Rattle.sw_trigger.specs.Counts.{awaiting, bound_of, reads}
 use Rattle.sw_verify.specs.declared.snapshot.Snapshot.{Snapshot}
@@ -31,17 +31,18 @@ use Rattle.sw_core.specs.Step.{StepAdmitted, StepSession, Acts}
 use Rattle.sw_core.specs.Step.{acts_unnumbered, IsWorn, IsEvent, IsUnnumbered, Step}
 use Rattle.sw_core.specs.Step.{Admission, Dropped, ShutOut, Admitted, admission}
 use Rattle.sw_cage.proofs.ClosedMemberLemmas.{among_closed}
-use Rattle.sw_core.specs.View.{WorkView, AskView, AskSession, AnswerView, SaysSession}
+use Rattle.sw_core.specs.Seen.{WorkSeen, AskSeen, AskSession, AnswerSeen, SaysSession}
 use Rattle.std.proofs.Common.{◌*◌}
 use Rattle.std.proofs.Math.Nat.{mul-pos}
 use Rattle.sw_trigger.specs.Settings.{IsInRange}
 use Rattle.sw_trigger.specs.Counts.{in_pass, in_arm2, in_arm1}
 use Rattle.sw_trigger.proofs.Awaiting.{some_pass, length-in_arm2, length-in_arm1, length-awaiting, reads-append}
 use Rattle.sw_cage.specs.Good.{IsUnderway}
-use Rattle.sw_core.specs.View.{failed_in}
-use Rattle.sw_core.specs.Run.{Event, IsNext, IsRun}
-use Rattle.sw_core.specs.Ends.{left_at, left_of, left_in, took, taken_in, begins, BeginsNone, last_of, IsFollowing, breaks_off, IsComplete, IsBrokenOff, IsOver}
-use Rattle.sw_core.specs.Ends.{IsEnding, Begins, EveryScanEnds}
+use Rattle.sw_core.specs.Seen.{failed_in}
+use Rattle.sw_core.specs.Run.{Event, IsNextEvent, IsRun}
+use Rattle.sw_core.specs.Ends.{left_at, left_of, left_in, took, taken_in, begins, BeginsNoScan, last_of, IsFollowing, breaks_off, IsComplete, IsBrokenOff}
+use Rattle.sw_core.specs.Ends.{IsOver}
+use Rattle.sw_core.specs.Ends.{IsEnding, BeginsScan, EveryScanEnds}
 use Rattle.sw_core.proofs.Kept.{inside}
 use Rattle.sw_core.proofs.Harmless.{IsFine, none_of}
 use Rattle.sw_core.proofs.Safety.{step_fine, opening_fine_at}
@@ -66,7 +67,7 @@ near_on p m q a b h k = by_first h.left k.left
         let none : left_in m ≡ 0 = ap left_of i in
         record { most = omega (arith, h.most, k.most, none); left = inr (k.idle i); idle = λ e. k.idle i; holds = holds_none p.cage q.cage (k.idle i) }
 
-near_run : (p : Panel) (events : List Event) → IsFine p → IsRun p events → BeginsNone events → Nears p (taken_in events) (last_of p events)
+near_run : (p : Panel) (events : List Event) → IsFine p → IsRun p events → BeginsNoScan events → Nears p (taken_in events) (last_of p events)
 near_run p [] k r n = near_is p p refl
 near_run p (e ∷ events) k r n =
     let f = failed_in e.ask e.answer p.cage.cards e.panel.cage.cards in
@@ -77,7 +78,7 @@ near_run p (e ∷ events) k r n =
 -- ---- a scan begins
 
 -- a scan that begins awaits all of its agenda
-left_started : (old new : Occupancy) (number : ℕ) (s : Setup) (i : ℕ) (told : TakenSeen) (scan : Option ScanSeen) → started_answer told ≡ Done None
+left_started : (old new : Occupancy) (number : ℕ) (s : SettingsSeen) (i : ℕ) (told : TakenSeen) (scan : Option ScanSeen) → started_answer told ≡ Done None
     → AdvancesOrFails old number (moves_from s i) (next_place s i) told new scan → left_of scan ≡ length (awaiting (drop i (agenda s)))
 left_started old new number s i SaysFault scan e h = absurd (cc (e))
 left_started old new number s i SaysIgnored scan e h = left_arrives (record old { cards = h.cards }) new number s i SaysIgnored scan h.arrives
@@ -95,7 +96,7 @@ pub record Begun (plan : Snapshot) (c : CageSeen) : Type 0 where
   pub held : (at : ScanSeen) → c.scan ≡ Some at → (at.setup ≡ plan.settings) × (leaves c.cards at ≡ is_among plan.closed)
 
 -- something is awaited
-some_bound : (s : Setup) → 0 < length s.list → IsInRange s → 0 < bound_of s
+some_bound : (s : SettingsSeen) → 0 < length s.list → IsInRange s → 0 < bound_of s
 some_bound s listed r =
     let c3 : 0 < s.trigger.count = omega (arith, r.trigger.count.0) in
     let c2 : 0 < s.arm2.count = omega (arith, r.arm2.count.0) in
@@ -116,23 +117,23 @@ begun_by p q plan f told k e h =
     record {
       left = left_started (occupancy_of (begun p.cage)) (occupancy_of q.cage) (p.cage.number + 1) p.settings 0 told q.cage.scan e h.3.runs
           ∙ ap bound_of (sym settings);
-      some = some_bound plan.settings h.2.listed (subst (λ (s : Setup). IsInRange s) (sym settings) k.range);
+      some = some_bound plan.settings h.2.listed (subst (λ (s : SettingsSeen). IsInRange s) (sym settings) k.range);
       none = h.3.readings;
       held = λ at is.
           let r = leaves_goes (occupancy_of (begun p.cage)) (occupancy_of q.cage) (p.cage.number + 1) p.settings 0 told q.cage.scan at h.3.runs is in
           let all : effect (is_closed p.cage.cards) (agenda p.settings) ≡ is_among plan.closed =
-          ap (λ (b : Channels). effect b (agenda p.settings)) found ∙ ap (λ (s : Setup). effect (is_among plan.closed) (agenda s)) (sym settings)
+          ap (λ (b : Channels). effect b (agenda p.settings)) found ∙ ap (λ (s : SettingsSeen). effect (is_among plan.closed) (agenda s)) (sym settings)
           ∙ fun_ext h.2.sound.back in
           (r.0 ∙ sym settings, r.1 ∙ all);
     }
 
-begun_start : (p q : Panel) (sid : Sid) (plan : Snapshot) (f : Bool) (a : SessionAnswer) (w : Option WorkView) → IsFine p
+begun_start : (p q : Panel) (sid : Sid) (plan : Snapshot) (f : Bool) (a : SessionAnswer) (w : Option WorkSeen) → IsFine p
     → begins (AskSession (Ask.Start sid plan)) (SaysSession a w) ≡ true → StepStart p plan f a w q → Begun plan q.cage
 begun_start p q sid plan f (Done None) w k n h = begun_by p q plan f h.told k (sym h.answer_is) h.starts
 begun_start p q sid plan f (Done (Some text)) w k n h = absurd h
 begun_start p q sid plan f a w k n h = absurd (cc (n))
 
-begun_admitted : (now : Admission) (p q : Panel) (sid : Sid) (plan : Snapshot) (f : Bool) (a : SessionAnswer) (w : Option WorkView) → IsFine p
+begun_admitted : (now : Admission) (p q : Panel) (sid : Sid) (plan : Snapshot) (f : Bool) (a : SessionAnswer) (w : Option WorkSeen) → IsFine p
     → begins (AskSession (Ask.Start sid plan)) (SaysSession a w) ≡ true → StepAdmitted now p (Ask.Start sid plan) f a w q → Begun plan q.cage
 begun_admitted Dropped p q sid plan f Broken None k n h = absurd (cc (n))
 begun_admitted Dropped p q sid plan f a w k n h = absurd h
@@ -140,34 +141,34 @@ begun_admitted ShutOut p q sid plan f (Hold back) None k n h = absurd (cc (n))
 begun_admitted ShutOut p q sid plan f a w k n h = absurd h
 begun_admitted Admitted p q sid plan f a w k n h = begun_start p q sid plan f a w k n h
 
-begun_session : (p q : Panel) (sid : Sid) (plan : Snapshot) (f : Bool) (a : SessionAnswer) (w : Option WorkView) → IsFine p
+begun_session : (p q : Panel) (sid : Sid) (plan : Snapshot) (f : Bool) (a : SessionAnswer) (w : Option WorkSeen) → IsFine p
     → begins (AskSession (Ask.Start sid plan)) (SaysSession a w) ≡ true → StepSession (Some sid) p (Ask.Start sid plan) f a w q → Begun plan q.cage
 begun_session p q sid plan f Stranger w k n h = absurd (cc (n))
 begun_session p q sid plan f a w k n h = begun_admitted (admission p sid (Ask.Start sid plan)) p q sid plan f a w k n h.1
 
-begun_acts : (p q : Panel) (sid : Sid) (plan : Snapshot) (f : Bool) (a : AnswerView) → IsFine p → begins (AskSession (Ask.Start sid plan)) a ≡ true
+begun_acts : (p q : Panel) (sid : Sid) (plan : Snapshot) (f : Bool) (a : AnswerSeen) → IsFine p → begins (AskSession (Ask.Start sid plan)) a ≡ true
     → Acts p (AskSession (Ask.Start sid plan)) f a q → Begun plan q.cage
 begun_acts p q sid plan f (SaysSession a w) k n h = begun_session p q sid plan f a w k n h
 begun_acts p q sid plan f a k n h = absurd (cc (n))
 
-begun_worn : (sid : Sid) (plan : Snapshot) (a : AnswerView) → begins (AskSession (Ask.Start sid plan)) a ≡ true → IsWorn (AskSession (Ask.Start sid plan)) a → ⊥
+begun_worn : (sid : Sid) (plan : Snapshot) (a : AnswerSeen) → begins (AskSession (Ask.Start sid plan)) a ≡ true → IsWorn (AskSession (Ask.Start sid plan)) a → ⊥
 begun_worn sid plan (SaysSession (Worn back) None) n h = cc (n)
 begun_worn sid plan a n h = h
 
-begun_either : (b : Bool) (p q : Panel) (sid : Sid) (plan : Snapshot) (f : Bool) (a : AnswerView) → IsFine p → begins (AskSession (Ask.Start sid plan)) a ≡ true
+begun_either : (b : Bool) (p q : Panel) (sid : Sid) (plan : Snapshot) (f : Bool) (a : AnswerSeen) → IsFine p → begins (AskSession (Ask.Start sid plan)) a ≡ true
     → MatchBool b (IsUnnumbered p (AskSession (Ask.Start sid plan)) f a q) (IsEvent p (AskSession (Ask.Start sid plan)) f a q) → Begun plan q.cage
 begun_either true p q sid plan f a k n h = absurd (begun_worn sid plan a n h.worn)
 begun_either false p q sid plan f a k n h =
     subst (λ (c : CageSeen). Begun plan c) (sym (ap (λ (x : Panel). x.cage) h.after ∙ concluded_scan a h.done)) (begun_acts p h.done sid plan f a k n h.acts)
 
-pub begun_step : (p q : Panel) (sid : Sid) (plan : Snapshot) (f : Bool) (a : AnswerView) → IsFine p → begins (AskSession (Ask.Start sid plan)) a ≡ true
+pub begun_step : (p q : Panel) (sid : Sid) (plan : Snapshot) (f : Bool) (a : AnswerSeen) → IsFine p → begins (AskSession (Ask.Start sid plan)) a ≡ true
     → Step p (AskSession (Ask.Start sid plan)) f a q → Begun plan q.cage
 begun_step p q sid plan f a k n h = begun_either ((p.events == last_number) && not (acts_unnumbered (AskSession (Ask.Start sid plan)))) p q sid plan f a k n h
 
 -- ---- where it ends
 
 -- what some items read is at most what all do
-reads_part : (s : Setup) (n : ℕ) → reads (take n (agenda s)) ≤ reads (agenda s)
+reads_part : (s : SettingsSeen) (n : ℕ) → reads (take n (agenda s)) ≤ reads (agenda s)
 reads_part s n =
     let whole = ap reads (sym (take-append-drop n (agenda s))) ∙ reads-append (take n (agenda s)) (drop n (agenda s)) in
     omega (arith, whole)
@@ -191,13 +192,13 @@ fine_last p (e ∷ events) k r = fine_last e.panel events (step_fine p e.ask _ e
 -- a run up to an event, and that event
 pub record Cut (p : Panel) (before : List Event) (e : Event) : Type 0 where
   pub first : IsRun p before
-  pub next : IsNext (last_of p before) e
+  pub next : IsNextEvent (last_of p before) e
 
 cut_run : (p : Panel) (before : List Event) (e : Event) → IsRun p (before ++ e ∷ []) → Cut p before e
 cut_run p [] e r = record { first = tt; next = r.0 }
 cut_run p (b ∷ before) e r = let c = cut_run b.panel before e r.1 in record { first = (r.0, c.first); next = c.next }
 
-cut_none : (before : List Event) (e : Event) → BeginsNone (before ++ e ∷ []) → BeginsNone before × (begins e.ask e.answer ≡ false)
+cut_none : (before : List Event) (e : Event) → BeginsNoScan (before ++ e ∷ []) → BeginsNoScan before × (begins e.ask e.answer ≡ false)
 cut_none [] e n = (tt, n.0)
 cut_none (b ∷ before) e n = let c = cut_none before e n.1 in ((n.0, c.0), c.1)
 
@@ -216,8 +217,13 @@ follows plan start end b h (Some at) e r =
     ∙ ap (λ (m : Channels). effect m left) (sym r.way.so_far) in
     let whole : r.way.found ≡ is_among plan.closed = found ∙ old.3 ∙ first.1 in
     let now : is_closed end.cage.cards ≡ effect (is_among plan.closed) (take at.index (agenda plan.settings)) =
-    r.way.so_far ∙ ap (λ (m : Channels). effect m done) whole ∙ ap (λ (s : Setup). effect (is_among plan.closed) (take at.index (agenda s))) same in
-    record { settings = same; closed = λ c. ap (λ (m : Channels). m c) now; readings = r.readings ∙ ap (λ (s : Setup). reads (take at.index (agenda s))) same }
+    r.way.so_far ∙ ap (λ (m : Channels). effect m done) whole ∙ ap (λ (s : SettingsSeen). effect (is_among plan.closed) (take at.index (agenda s))) same in
+    record {
+      settings = same;
+      closed = λ c. ap (λ (m : Channels). m c) now;
+      readings =
+          r.readings ∙ ap (λ (s : SettingsSeen). reads (take at.index (agenda s))) same;
+    }
 
 underway_at : (c : CageSeen) (scan : Option ScanSeen) (at : ScanSeen) → IsRunning c scan → scan ≡ Some at → IsUnderway c at
 underway_at c scan at r e = subst (λ (o : Option ScanSeen). IsRunning c o) e r
@@ -246,7 +252,7 @@ over_by : (plan : Snapshot) (p q : Panel) (taken : ℕ) (e : Event) (at : ScanSe
 over_by plan p q taken e at s u is h =
     let all : (n : ℕ)
     → reads (take n (agenda at.setup)) ≤ plan.settings.points =
-    λ (n : ℕ). subst (λ (x : Setup). reads (take n (agenda at.setup)) ≤ x.points) s.settings (omega (arith, u.way.sound.fits, reads_part at.setup n)) in
+    λ (n : ℕ). subst (λ (x : SettingsSeen). reads (take n (agenda at.setup)) ≤ x.points) s.settings (omega (arith, u.way.sound.fits, reads_part at.setup n)) in
     subst (λ (x : Panel). IsComplete plan (taken + took e.ask e.answer) x ⊎ ((breaks_off e.ask e.answer ≡ true) × IsBrokenOff plan x)) (sym is) (by_end all h)
   where
     by_end : ((n : ℕ) → reads (take n (agenda at.setup)) ≤ plan.settings.points) → Completed p.cage at (took e.ask e.answer) q.cage
@@ -255,15 +261,15 @@ over_by plan p q taken e at s u is h =
     by_end all (inl h) = inl (record {
       closed = λ c. ap (λ (m : Channels). m c) (h.closed ∙ s.leaves_it);
       taken = omega (arith, h.one, h.last, s.taken_left);
-      readings = h.readings ∙ ap (λ (x : Setup). reads (agenda x)) s.settings;
-      room = omega (arith, h.readings, subst (λ (x : Setup). reads (agenda at.setup) ≤ x.points) s.settings u.way.sound.fits);
+      readings = h.readings ∙ ap (λ (x : SettingsSeen). reads (agenda x)) s.settings;
+      room = omega (arith, h.readings, subst (λ (x : SettingsSeen). reads (agenda at.setup) ≤ x.points) s.settings u.way.sound.fits);
     })
     by_end all (inr h) = inr (
       h.0,
       record {
         none = h.1.none;
         items = h.1.items;
-        readings = h.1.readings ∙ ap (λ (x : Setup). reads (take h.1.items (agenda x))) s.settings;
+        readings = h.1.readings ∙ ap (λ (x : SettingsSeen). reads (take h.1.items (agenda x))) s.settings;
         room = omega (arith, h.1.readings, all h.1.items);
       },
     )
@@ -276,13 +282,13 @@ runs_some : (o : Option ScanSeen) → 0 < left_of o → is_some o ≡ true
 runs_some None e = absurd (omega (arith, e))
 runs_some (Some at) e = refl
 
-begun_in : (p : Panel) (start : Event) (plan : Snapshot) → IsFine p → IsNext p start → Begins plan start → Begun plan start.panel.cage
+begun_in : (p : Panel) (start : Event) (plan : Snapshot) → IsFine p → IsNextEvent p start → BeginsScan plan start → Begun plan start.panel.cage
 begun_in p start plan k r b =
     let f = failed_in start.ask start.answer p.cage.cards start.panel.cage.cards in
-    begun_step p start.panel b.sid plan f start.answer k (subst (λ (x : AskView). begins x start.answer ≡ true) b.ask b.done)
-    (subst (λ (x : AskView). Step p x f start.answer start.panel) b.ask r.step)
+    begun_step p start.panel b.sid plan f start.answer k (subst (λ (x : AskSeen). begins x start.answer ≡ true) b.ask b.done)
+    (subst (λ (x : AskSeen). Step p x f start.answer start.panel) b.ask r.step)
 
-along : (plan : Snapshot) (start : Panel) (after : List Event) → IsFine start → Begun plan start.cage → BeginsNone after → IsRun start after
+along : (plan : Snapshot) (start : Panel) (after : List Event) → IsFine start → Begun plan start.cage → BeginsNoScan after → IsRun start after
     → IsEnding plan start after
 along plan start after fine b none run =
     let h = near_run start after fine run none in
@@ -295,7 +301,7 @@ along plan start after fine b none run =
       over = λ t. elim h.left [ inl l ↦ over_at end.cage end.cage.scan good (omega (arith, l, b.left, t)) | inr i ↦ i ];
     }
 
-ends : (plan : Snapshot) (start : Panel) (between : List Event) (e : Event) → IsFine start → Begun plan start.cage → BeginsNone (between ++ e ∷ [])
+ends : (plan : Snapshot) (start : Panel) (between : List Event) (e : Event) → IsFine start → Begun plan start.cage → BeginsNoScan (between ++ e ∷ [])
     → IsRun start (between ++ e ∷ [])
     → is_running (last_of start between) ≡ true → is_running e.panel ≡ false → IsOver plan (taken_in between) e
 ends plan start between e fine b none run runs idle =

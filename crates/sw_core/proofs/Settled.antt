@@ -18,9 +18,9 @@ use Rattle.sw_core.specs.declared.ask.SessionAnswer.TheVariants.{Joined, Full, S
 use Rattle.sw_core.specs.Panel.{Panel, is_running}
 use Rattle.sw_core.specs.Action.{Effect, Action, AtOnce, BetweenScans, AfterScan, action_of}
 use Rattle.sw_core.specs.Event.{awaited_bits, ended, erred, concluded, session_concluded, last_number}
-use Rattle.sw_core.specs.View.{WorkView, AskView, AskSession, AskExternal, AskElapsed, AskFinished, AnswerView, SaysSession}
-use Rattle.sw_core.specs.View.{SaysInstalled}
-use Rattle.sw_core.specs.View.{SaysNotInstalled, SaysEjected, SaysNotEjected, SaysTaken, SaysMissed, SaysFailed, SaysBack, SaysWorn}
+use Rattle.sw_core.specs.Seen.{WorkSeen, AskSeen, AskSession, AskExternal, AskElapsed, AskFinished, AnswerSeen, SaysSession}
+use Rattle.sw_core.specs.Seen.{SaysInstalled}
+use Rattle.sw_core.specs.Seen.{SaysNotInstalled, SaysEjected, SaysNotEjected, SaysTaken, SaysMissed, SaysFailed, SaysBack, SaysWorn}
 use Rattle.sw_core.specs.Seats.{asker_of}
 use Rattle.sw_core.specs.Step.{StepEffect, StepHeld, StepAction, StepSnapshot, StepStart, IsServed, StepJoined, StepAdmitted}
 use Rattle.sw_core.specs.Step.{StepJoin, StepAttach, StepNew, StepSession, outside_told, Acts, acts_unnumbered, IsEvent, IsUnnumbered, Step}
@@ -60,18 +60,18 @@ silent_apart (Done text) k n = n
 silent_apart (Refused e) k n = n
 silent_apart a k n = absurd k
 
-held_telling : (p : Panel) (ask : SessionAsk) (f : Bool) (a : SessionAnswer) (w : Option WorkView) (q : Panel) → IsTelling p → StepHeld p ask f a w q
+held_telling : (p : Panel) (ask : SessionAsk) (f : Bool) (a : SessionAnswer) (w : Option WorkSeen) (q : Panel) → IsTelling p → StepHeld p ask f a w q
     → IsTelling q
 held_telling p ask f (Hold back) None q k h = telling_as p q h.2 k
 held_telling p ask f a w q k h = absurd h
 
-waiting_telling : (b : Bool) (e : Effect) (p : Panel) (ask : SessionAsk) (f : Bool) (a : SessionAnswer) (w : Option WorkView) (q : Panel) → IsSilent a
+waiting_telling : (b : Bool) (e : Effect) (p : Panel) (ask : SessionAsk) (f : Bool) (a : SessionAnswer) (w : Option WorkSeen) (q : Panel) → IsSilent a
     → IsTelling p
     → MatchBool b (StepHeld p ask f a w q) (StepEffect e p f a w q) → IsTelling q
 waiting_telling true e p ask f a w q n k h = held_telling p ask f a w q k h
 waiting_telling false e p ask f a w q n k h = absurd (silent_apart a (effect_answered e p f a w q h) n)
 
-action_telling : (x : Action) (p : Panel) (ask : SessionAsk) (f : Bool) (a : SessionAnswer) (w : Option WorkView) (q : Panel) → IsSilent a → IsTelling p
+action_telling : (x : Action) (p : Panel) (ask : SessionAsk) (f : Bool) (a : SessionAnswer) (w : Option WorkSeen) (q : Panel) → IsSilent a → IsTelling p
     → StepAction x p ask f a w q → IsTelling q
 action_telling (AtOnce e) p ask f a w q n k h = absurd (silent_apart a (effect_answered e p f a w q h) n)
 action_telling (BetweenScans e) p ask f a w q n k h = absurd (silent_apart a (barred_answered (is_running p) e p f a w q h) n)
@@ -84,7 +84,7 @@ snapshot_silent p f (Hold back) q n h = h
 snapshot_silent p f (Worn back) q n h = h
 snapshot_silent p f a q n h = absurd n
 
-start_silent : (p : Panel) (plan : Snapshot) (f : Bool) (a : SessionAnswer) (w : Option WorkView) (q : Panel) → IsSilent a → StepStart p plan f a w q → ⊥
+start_silent : (p : Panel) (plan : Snapshot) (f : Bool) (a : SessionAnswer) (w : Option WorkSeen) (q : Panel) → IsSilent a → StepStart p plan f a w q → ⊥
 start_silent p plan f Stranger w q n h = h
 start_silent p plan f Broken w q n h = h
 start_silent p plan f (Hold back) w q n h = h
@@ -94,7 +94,7 @@ start_silent p plan f a w q n h = absurd n
 served_telling : (p : Panel) (ask : SessionAsk) (f : Bool) (a : SessionAnswer) (q : Panel) → IsTelling p → IsServed p ask f a q → IsTelling q
 served_telling p ask f a q k h = telling_as (record p { sessions = h.sessions }) q h.after k
 
-joined_telling : (p : Panel) (ask : SessionAsk) (f : Bool) (a : SessionAnswer) (w : Option WorkView) (q : Panel) → IsSilent a → IsTelling p
+joined_telling : (p : Panel) (ask : SessionAsk) (f : Bool) (a : SessionAnswer) (w : Option WorkSeen) (q : Panel) → IsSilent a → IsTelling p
     → StepJoined p ask f a w q → IsTelling q
 joined_telling p (Ask.Fault sid e) f (Done text) w q n k h = absurd n
 joined_telling p (Ask.Fault sid e) f a None q n k h = served_telling p (Ask.Fault sid e) f a q k h
@@ -115,31 +115,31 @@ joined_telling p Ask.Join f a None q n k h = served_telling p Ask.Join f a q k h
 joined_telling p (Ask.Attach number) f a None q n k h = served_telling p (Ask.Attach number) f a q k h
 joined_telling p ask f a w q n k h = absurd h
 
-admitted_telling : (now : Admission) (p : Panel) (ask : SessionAsk) (f : Bool) (a : SessionAnswer) (w : Option WorkView) (q : Panel) → IsSilent a → IsTelling p
+admitted_telling : (now : Admission) (p : Panel) (ask : SessionAsk) (f : Bool) (a : SessionAnswer) (w : Option WorkSeen) (q : Panel) → IsSilent a → IsTelling p
     → StepAdmitted now p ask f a w q → IsTelling q
 admitted_telling Dropped p ask f Broken None q n k h = telling_as p q h.1 k
 admitted_telling Dropped p ask f a w q n k h = absurd h
 admitted_telling ShutOut p ask f a w q n k h = held_telling p ask f a w q k h
 admitted_telling Admitted p ask f a w q n k h = joined_telling p ask f a w q n k h
 
-join_silent : (p : Panel) (f : Bool) (a : SessionAnswer) (w : Option WorkView) (q : Panel) → IsSilent a → StepJoin p f a w q → ⊥
+join_silent : (p : Panel) (f : Bool) (a : SessionAnswer) (w : Option WorkSeen) (q : Panel) → IsSilent a → StepJoin p f a w q → ⊥
 join_silent p f (Joined sid) w q n h = n
 join_silent p f Full w q n h = n
 join_silent p f a w q n h = h
 
-attach_telling : (p : Panel) (number : _) (f : Bool) (a : SessionAnswer) (w : Option WorkView) (q : Panel) → IsSilent a → IsTelling p
+attach_telling : (p : Panel) (number : _) (f : Bool) (a : SessionAnswer) (w : Option WorkSeen) (q : Panel) → IsSilent a → IsTelling p
     → StepAttach p number f a w q → IsTelling q
 attach_telling p number f (Joined sid) w q n k h = absurd n
 attach_telling p number f Stranger None q n k h = telling_as p q h.2 k
 attach_telling p number f a w q n k h = absurd h
 
-new_telling : (p : Panel) (ask : SessionAsk) (f : Bool) (a : SessionAnswer) (w : Option WorkView) (q : Panel) → IsSilent a → IsTelling p → StepNew p ask f a w q
+new_telling : (p : Panel) (ask : SessionAsk) (f : Bool) (a : SessionAnswer) (w : Option WorkSeen) (q : Panel) → IsSilent a → IsTelling p → StepNew p ask f a w q
     → IsTelling q
 new_telling p Ask.Join f a w q n k h = absurd (join_silent p f a w q n h)
 new_telling p (Ask.Attach number) f a w q n k h = attach_telling p number f a w q n k h
 new_telling p ask f a w q n k h = absurd h
 
-session_telling : (o : Option Sid) (p : Panel) (ask : SessionAsk) (f : Bool) (a : SessionAnswer) (w : Option WorkView) (q : Panel) → IsSilent a → IsTelling p
+session_telling : (o : Option Sid) (p : Panel) (ask : SessionAsk) (f : Bool) (a : SessionAnswer) (w : Option WorkSeen) (q : Panel) → IsSilent a → IsTelling p
     → StepSession o p ask f a w q → IsTelling q
 session_telling None p ask f a w q n k h = new_telling p ask f a w q n k h
 session_telling (Some sid) p ask f Stranger None q n k h = telling_as p q h.2 k
@@ -147,7 +147,7 @@ session_telling (Some sid) p ask f a w q n k h = admitted_telling (admission p s
 
 -- ---- events
 
-session_settled : (a : SessionAnswer) (w : Option WorkView) (p : Panel) (ask : SessionAsk) (f : Bool) (q : Panel) → IsTelling p
+session_settled : (a : SessionAnswer) (w : Option WorkSeen) (p : Panel) (ask : SessionAsk) (f : Bool) (q : Panel) → IsTelling p
     → StepSession (asker_of ask) p ask f a w q → IsTelling (session_concluded a q)
 session_settled Stranger w p ask f q k h = session_telling (asker_of ask) p ask f Stranger w q tt k h
 session_settled Broken w p ask f q k h = session_telling (asker_of ask) p ask f Broken w q tt k h
@@ -164,7 +164,7 @@ session_settled (answers.Lock code) w p ask f q k h = ended_telling q
 session_settled (answers.Info exclusive n) w p ask f q k h = ended_telling q
 
 -- what is answered to no session
-abbrev pub IsOutside : AnswerView → Type 0
+abbrev pub IsOutside : AnswerSeen → Type 0
 IsOutside SaysMissed = Unit {0}
 IsOutside SaysFailed = Unit {0}
 IsOutside (SaysTaken work) = Unit {0}
@@ -178,10 +178,10 @@ told_outside (SaysJob job) = tt
 told_outside SaysEnded = tt
 told_outside SaysFault = tt
 
-pub is_outside : (told : TakenSeen) (a : AnswerView) → a ≡ outside_told told → IsOutside a
-is_outside told a e = subst (λ (x : AnswerView). IsOutside x) (sym e) (told_outside told)
+pub is_outside : (told : TakenSeen) (a : AnswerSeen) → a ≡ outside_told told → IsOutside a
+is_outside told a e = subst (λ (x : AnswerSeen). IsOutside x) (sym e) (told_outside told)
 
-acts_settled : (p : Panel) (ask : AskView) (f : Bool) (a : AnswerView) (q : Panel) → IsTelling p → Acts p ask f a q → IsTelling (concluded a q)
+acts_settled : (p : Panel) (ask : AskSeen) (f : Bool) (a : AnswerSeen) (q : Panel) → IsTelling p → Acts p ask f a q → IsTelling (concluded a q)
 acts_settled p (AskSession ask) f (SaysSession a w) q k h = session_settled a w p ask f q k h
 acts_settled p AskExternal f (SaysSession a w) q k h = absurd (is_outside h.told (SaysSession a w) h.answer_is)
 acts_settled p (AskElapsed ticket) f (SaysSession a w) q k h = absurd (is_outside h.told (SaysSession a w) h.answer_is)
@@ -201,10 +201,10 @@ acts_settled p ask f SaysMissed q k h = ended_telling q
 acts_settled p ask f SaysFailed q k h = ended_telling (erred q HardwareError)
 acts_settled p ask f a q k h = absurd h
 
-either_settled : (b : Bool) (p : Panel) (ask : AskView) (f : Bool) (a : AnswerView) (q : Panel) → IsTelling p
+either_settled : (b : Bool) (p : Panel) (ask : AskSeen) (f : Bool) (a : AnswerSeen) (q : Panel) → IsTelling p
     → MatchBool b (IsUnnumbered p ask f a q) (IsEvent p ask f a q) → IsTelling q
 either_settled true p ask f a q k h = telling_as p q h.same k
 either_settled false p ask f a q k h = telling_as (concluded a h.done) q h.after (acts_settled p ask f a h.done k h.acts)
 
-pub step_settled : (p : Panel) (ask : AskView) (f : Bool) (a : AnswerView) (q : Panel) → IsTelling p → Step p ask f a q → IsTelling q
+pub step_settled : (p : Panel) (ask : AskSeen) (f : Bool) (a : AnswerSeen) (q : Panel) → IsTelling p → Step p ask f a q → IsTelling q
 step_settled p ask f a q k h = either_settled ((p.events == last_number) && not (acts_unnumbered ask)) p ask f a q k h

@@ -11,7 +11,7 @@ use Rattle.sw_base.specs.declared.error.ScpiError.TheVariants.{UndefinedHeader, 
 use Rattle.sw_base.specs.declared.error.ScpiError.TheVariants.{SettingsConflict, HardwareError}
 use Rattle.sw_base.specs.declared.terms.LayerName.TheVariants as layer_name
 use Rattle.sw_lex.specs.declared.command.Command.{Command}
-use Rattle.sw_trigger.specs.Settings.{Setup}
+use Rattle.sw_trigger.specs.Settings.{SettingsSeen}
 use Rattle.sw_status.specs.StatusModel.{StatusSeen}
 use Rattle.sw_verify.specs.Sound.{effect}
 use Rattle.sw_cage.specs.Cage.{CageSeen}
@@ -25,7 +25,7 @@ use Rattle.sw_core.specs.Action.{Effect, TellsNumber, TellsText, TellsReadings, 
 use Rattle.sw_core.specs.Action.{Resets, reset, Offers, Refuses, IsOfMacros, Initiates, Action, AtOnce, BetweenScans, AfterScan, action_of}
 use Rattle.sw_core.specs.Step.{StepClose, StepOpen, StepFlags, StepText, StepDone, StepSetting, StepRefused, StepReadings, StepAlone}
 use Rattle.sw_core.specs.Ends.{went_on, breaks_off}
-use Rattle.sw_core.specs.View.{AskView, AskSession, AnswerView, SaysSession}
+use Rattle.sw_core.specs.Seen.{AskSeen, AskSession, AnswerSeen, SaysSession}
 use Rattle.sw_cage.proofs.SlotChangeLemmas.{all_open_closed}
 use Rattle.sw_core.proofs.Harmless.{none_of}
 use Rattle.sw_core.proofs.Course.{same_rack}
@@ -37,7 +37,7 @@ use Rattle.sw_core.proofs.Advancing.{Moves, move_same, IsIdle, IsCut, move_idle,
 abbrev pub IsStill : Bool → Panel → Panel → Type 0
 IsStill off p q = (q.cage ≡ p.cage) ⊎ (IsIdle p.cage q.cage ⊎ IsCut off p.cage q.cage)
 
-pub move_still : (ask : AskView) (a : AnswerView) (p q : Panel) → IsStill (breaks_off ask a) p q → Moves ask a p 0 q
+pub move_still : (ask : AskSeen) (a : AnswerSeen) (p q : Panel) → IsStill (breaks_off ask a) p q → Moves ask a p 0 q
 move_still ask a p q (inl e) =
     move_same ask a p q (ap (λ (x : CageSeen). x.scan) e) (same_rack p.cage q.cage (ap (λ (x : CageSeen). x.cards) e)) (ap (λ (x : CageSeen). x.readings) e)
 move_still ask a p q (inr (inl e)) = move_idle ask a p q e
@@ -176,7 +176,7 @@ still_done : {off : Bool} (p after : Panel) (f : Bool) (a : SessionAnswer) (q : 
 still_done {off} p after f (Done None) q s h = subst (λ (x : Panel). IsStill off p x) (sym h.1) (s refl)
 still_done p after f a q s h = absurd h
 
-still_setting : {off : Bool} (p : Panel) (Fits : Type 0) (error : ScpiError) (setup : Setup) (f : Bool) (a : SessionAnswer) (q : Panel)
+still_setting : {off : Bool} (p : Panel) (Fits : Type 0) (error : ScpiError) (setup : SettingsSeen) (f : Bool) (a : SessionAnswer) (q : Panel)
     → StepSetting p Fits error setup f a q → IsStill off p q
 still_setting p Fits error setup f (Done None) q h = inl (ap (λ (x : Panel). x.cage) h.2)
 still_setting p Fits error setup f (Refused e) q h = still_as p q h.3

@@ -11,17 +11,17 @@ use Rattle.sw_base.specs.declared.terms.LayerName.TheVariants as layer_name
 use Rattle.sw_base.specs.declared.terms.Source.{Source}
 use Rattle.sw_channel.specs.Printing.{printed}
 use Rattle.sw_lex.specs.declared.command.Command.{Command}
-use Rattle.sw_trigger.specs.Settings.{Setup, layer_of, with_layer, most_of, at_reset}
+use Rattle.sw_trigger.specs.Settings.{SettingsSeen, layer_of, with_layer, most_of, at_reset}
 use Rattle.sw_trigger.specs.Counts.{bound_of}
 use Rattle.sw_status.specs.Registers.{event_taken, with_enable, with_ptr, with_ntr}
 use Rattle.sw_status.specs.StatusModel.{StatusSeen, byte_of, enabled, preset, popped, cleared}
-use Rattle.sw_status.specs.StatusModel.{group_of, with_group}
+use Rattle.sw_status.specs.StatusModel.{registers_of, with_group}
 use Rattle.sw_cage.specs.Accounts.{all_open}
 use Rattle.sw_cage.specs.Channels.{closed_list}
 use Rattle.sw_cage.specs.Cage.{safe_state}
 use Rattle.sw_cage.specs.declared.taken.Happening.{Happening}
 use Rattle.sw_cage.specs.declared.taken.Happening.TheVariants.{Bus, Signal}
-use Rattle.sw_core.specs.Answers.{identity, version, oldest_entry, all_entries, source_word}
+use Rattle.sw_core.specs.Answers.{identity_text, version, oldest_entry, all_entries, source_word}
 use Rattle.sw_core.specs.Panel.{Panel, with_cards}
 use Rattle.sw_core.specs.Registers.{card_fault_cleared}
 
@@ -38,7 +38,7 @@ pub data Effect : Type 1 where
   -- it sets the status
   SetsStatus : (after : StatusSeen → StatusSeen) → Effect
   -- it changes the settings where they fit then, and is else refused by this error
-  SetsUp : (Fits : Type 0) → (error : ScpiError) → (after : Setup → Setup) → Effect
+  SetsUp : (Fits : Type 0) → (error : ScpiError) → (after : SettingsSeen → SettingsSeen) → Effect
   -- it closes channels, or opens them, or tells for each whether it is closed, or open
   Closes : (chans : List Channel) → Effect
   Opens : (chans : List Channel) → Effect
@@ -78,13 +78,13 @@ abbrev pub aborted : Panel → Panel
 aborted p = record p { cage = safe_state p.cage }
 
 -- the settings with another value at a layer
-abbrev pub with_count : LayerName → ℕ → Setup → Setup
+abbrev pub with_count : LayerName → ℕ → SettingsSeen → SettingsSeen
 with_count layer n s = with_layer s layer (record (layer_of s layer) { count = n })
 
-abbrev pub with_source : LayerName → Source → Setup → Setup
+abbrev pub with_source : LayerName → Source → SettingsSeen → SettingsSeen
 with_source layer source s = with_layer s layer (record (layer_of s layer) { source = source })
 
-abbrev pub with_delay : LayerName → ℕ → Setup → Setup
+abbrev pub with_delay : LayerName → ℕ → SettingsSeen → SettingsSeen
 with_delay layer micros s = with_layer s layer (record (layer_of s layer) { delay_us = micros })
 
 -- whether a command is offered to the scan (SCPI-1999, 24; IEEE 488.2, 10.37)
@@ -96,7 +96,7 @@ is_offered command = false
 -- What a command comes to, where its message has answered before or not, which is when a message is available
 -- (SCPI-1999, 3, 18, 20, 21.8 and 24; IEEE 488.2, 10 and 11.2).
 abbrev pub action_of : Bool → Command → Action
-action_of available Command.Identify = AtOnce (TellsText (λ p. identity))
+action_of available Command.Identify = AtOnce (TellsText (λ p. identity_text))
 action_of available Command.Reset = AtOnce Resets
 action_of available Command.ClearStatus =
     AtOnce (Leaves (λ p. record p { status = cleared p.status; opc_waits = false }))
@@ -149,18 +149,21 @@ action_of available (Command.ScanMeter slot) =
     BetweenScans (SetsUp ((1 ≤ slot) × (slot ≤ most_slots)) DataOutOfRange (λ s. record s { meter = slot }))
 action_of available Command.ScanMeterQuery = AtOnce (TellsNumber (λ p. p.settings.meter))
 action_of available (Command.GroupEventQuery group) =
-    AtOnce (ReadsOut (λ s. decimal (group_of s group).event) (λ s. with_group s group (event_taken (group_of s group))))
+    AtOnce (ReadsOut (λ s. decimal (registers_of s group).event)
+    (λ s. with_group s group (event_taken (registers_of s group))))
 action_of available (Command.GroupConditionQuery group) =
-    AtOnce (TellsNumber (λ p. (group_of p.status group).condition))
+    AtOnce (TellsNumber (λ p. (registers_of p.status group).condition))
 action_of available (Command.GroupEnable group bits) =
-    AtOnce (SetsStatus (λ s. with_group s group (with_enable (group_of s group) bits)))
-action_of available (Command.GroupEnableQuery group) = AtOnce (TellsNumber (λ p. (group_of p.status group).enable))
+    AtOnce (SetsStatus (λ s. with_group s group (with_enable (registers_of s group) bits)))
+action_of available (Command.GroupEnableQuery group) = AtOnce (TellsNumber (λ p. (registers_of p.status group).enable))
 action_of available (Command.PositiveTransition group bits) =
-    AtOnce (SetsStatus (λ s. with_group s group (with_ptr (group_of s group) bits)))
-action_of available (Command.PositiveTransitionQuery group) = AtOnce (TellsNumber (λ p. (group_of p.status group).ptr))
+    AtOnce (SetsStatus (λ s. with_group s group (with_ptr (registers_of s group) bits)))
+action_of available (Command.PositiveTransitionQuery group) =
+    AtOnce (TellsNumber (λ p. (registers_of p.status group).ptr))
 action_of available (Command.NegativeTransition group bits) =
-    AtOnce (SetsStatus (λ s. with_group s group (with_ntr (group_of s group) bits)))
-action_of available (Command.NegativeTransitionQuery group) = AtOnce (TellsNumber (λ p. (group_of p.status group).ntr))
+    AtOnce (SetsStatus (λ s. with_group s group (with_ntr (registers_of s group) bits)))
+action_of available (Command.NegativeTransitionQuery group) =
+    AtOnce (TellsNumber (λ p. (registers_of p.status group).ntr))
 action_of available Command.Preset = AtOnce (SetsStatus preset)
 action_of available Command.NextErrorQuery = AtOnce (ReadsOut (λ s. oldest_entry s.errors) popped)
 action_of available Command.AllErrorsQuery =

@@ -13,17 +13,17 @@ use Rattle.sw_core.specs.declared.ask.SessionAnswer.{SessionAnswer}
 use Rattle.sw_core.specs.declared.ask.SessionAnswer.TheVariants.{Done, Refused}
 
 -- the maker, the model, the serial number and the version (IEEE 488.2, 10.14)
-abbrev pub identity : List ℕ
-identity = codes "OPENBENCH,SWM8,0,1.0"
+abbrev pub identity_text : List ℕ
+identity_text = codes "OPENBENCH,SWM8,0,1.0"
 
 -- the version of SCPI (SCPI-1999, 21.21)
 abbrev pub version : List ℕ
 version = codes "1999.0"
 
 -- 1 for yes, 0 for no
-abbrev pub flag_of : Bool → List ℕ
-flag_of true = 49 ∷ []
-flag_of false = 48 ∷ []
+abbrev pub yes_or_no : Bool → List ℕ
+yes_or_no true = 49 ∷ []
+yes_or_no false = 48 ∷ []
 
 -- the flag of a channel, closed or not, where the closed ones are asked for, or the open ones
 abbrev pub as_asked : Bool → Bool → Bool
@@ -34,8 +34,8 @@ as_asked false closed = not closed
 abbrev pub entry : ℤ → List ℕ → List ℕ
 entry number text = signed_decimal number ++ 44 ∷ 34 ∷ (text ++ 34 ∷ [])
 
-abbrev pub entry_of : ScpiError → List ℕ
-entry_of e = entry (code_of e) (text_of e)
+abbrev pub error_entry : ScpiError → List ℕ
+error_entry e = entry (code_of e) (text_of e)
 
 -- what an empty queue answers
 abbrev pub no_error : List ℕ
@@ -44,12 +44,12 @@ no_error = entry (pos 0) (codes "No error")
 -- the oldest entry
 abbrev pub oldest_entry : List ScpiError → List ℕ
 oldest_entry [] = no_error
-oldest_entry (e ∷ errors) = entry_of e
+oldest_entry (e ∷ errors) = error_entry e
 
 -- all entries, joined by commas
 abbrev pub all_entries : List ScpiError → List ℕ
 all_entries [] = no_error
-all_entries (e ∷ errors) = join_with_byte 44 (map entry_of (e ∷ errors))
+all_entries (e ∷ errors) = join_with_byte 44 (map error_entry (e ∷ errors))
 
 -- the short form of a source (SCPI-1999, chapter 24)
 abbrev pub source_word : Source → List ℕ
@@ -64,15 +64,15 @@ pub record IsRow (text : List ℕ) (pieces : List (List ℕ)) : Type 0 where
   pub some : AllByRecursion (λ piece. 0 < length piece) pieces
 
 -- one more piece may be put behind these: where there are any, a comma stands behind them
-abbrev pub IsOpen : List ℕ → List (List ℕ) → Type 0
-IsOpen text pieces = (piece : List ℕ) → 0 < length piece → IsRow (text ++ piece) (pieces ++ piece ∷ [])
+abbrev pub IsOpenEnded : List ℕ → List (List ℕ) → Type 0
+IsOpenEnded text pieces = (piece : List ℕ) → 0 < length piece → IsRow (text ++ piece) (pieces ++ piece ∷ [])
 
 -- the text is answered, or that there was no memory for it
-abbrev pub Tells : Result (List ℕ) AllocError → SessionAnswer → Type 0
-Tells (Ok text) answer = answer ≡ Done (Some text)
-Tells (Err e) answer = answer ≡ Refused OutOfMemory
+abbrev pub TellsText : Result (List ℕ) AllocError → SessionAnswer → Type 0
+TellsText (Ok text) answer = answer ≡ Done (Some text)
+TellsText (Err e) answer = answer ≡ Refused OutOfMemory
 
 -- a setting was taken, or refused by an error
-abbrev pub Takes : Result (Unit {0}) ScpiError → SessionAnswer → Type 0
-Takes (Ok done) answer = answer ≡ Done None
-Takes (Err e) answer = answer ≡ Refused e
+abbrev pub TakesSetting : Result (Unit {0}) ScpiError → SessionAnswer → Type 0
+TakesSetting (Ok done) answer = answer ≡ Done None
+TakesSetting (Err e) answer = answer ≡ Refused e

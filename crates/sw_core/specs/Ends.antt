@@ -18,8 +18,8 @@ use Rattle.sw_core.specs.declared.ask.SessionAsk.TheVariants as Ask
 use Rattle.sw_core.specs.declared.ask.SessionAnswer.{SessionAnswer}
 use Rattle.sw_core.specs.declared.ask.SessionAnswer.TheVariants.{Done, Refused}
 use Rattle.sw_core.specs.Panel.{Panel, opening_at, is_running}
-use Rattle.sw_core.specs.View.{AskView, AskSession, AskEject, AskExternal, AskElapsed, AskFinished}
-use Rattle.sw_core.specs.View.{AnswerView, SaysSession, SaysEjected, SaysTaken, SaysFailed}
+use Rattle.sw_core.specs.Seen.{AskSeen, AskSession, AskEject, AskExternal, AskElapsed, AskFinished}
+use Rattle.sw_core.specs.Seen.{AnswerSeen, SaysSession, SaysEjected, SaysTaken, SaysFailed}
 use Rattle.sw_core.specs.Action.{Effect, Offers, Action, AtOnce, BetweenScans, AfterScan, action_of}
 use Rattle.sw_core.specs.Run.{Event, IsRun, tells_failure}
 
@@ -40,7 +40,7 @@ went_on (Done text) = 1
 went_on (Refused HardwareError) = 1
 went_on answer = 0
 
-abbrev pub was_taken : AnswerView → ℕ
+abbrev pub was_taken : AnswerSeen → ℕ
 was_taken (SaysTaken work) = 1
 was_taken SaysFailed = 1
 was_taken answer = 0
@@ -55,7 +55,7 @@ took_command (BetweenScans effect) answer = took_effect effect answer
 took_command (AfterScan effect) answer = took_effect effect answer
 
 -- 1 for a trigger, the end of a pause, or a meter's return that a scan took
-abbrev pub took : AskView → AnswerView → ℕ
+abbrev pub took : AskSeen → AnswerSeen → ℕ
 took (AskSession (Ask.Unit sid unit available)) (SaysSession answer work) =
     took_command (action_of available unit) answer
 took (AskSession (Ask.Bus sid)) (SaysSession answer work) = went_on answer
@@ -70,13 +70,13 @@ taken_in [] = 0
 taken_in (e ∷ events) = took e.ask e.answer + taken_in events
 
 -- a scan begins
-abbrev pub begins : AskView → AnswerView → Bool
+abbrev pub begins : AskSeen → AnswerSeen → Bool
 begins (AskSession (Ask.Start sid plan)) (SaysSession (Done text) work) = true
 begins ask answer = false
 
 -- none of these events begins a scan
-abbrev pub BeginsNone : List Event → Type 0
-BeginsNone events = AllByRecursion (λ e. begins e.ask e.answer ≡ false) events
+abbrev pub BeginsNoScan : List Event → Type 0
+BeginsNoScan events = AllByRecursion (λ e. begins e.ask e.answer ≡ false) events
 
 -- the state after these events
 abbrev pub last_of : Panel → List Event → Panel
@@ -92,14 +92,14 @@ pub record IsFollowing (plan : Snapshot) (p : Panel) (at : ScanSeen) : Type 0 wh
   pub readings : length p.cage.readings ≡ reads (take at.index (agenda plan.settings))
 
 -- ABORt and *RST, and the eject of a card, done
-abbrev pub stops : AskView → AnswerView → Bool
+abbrev pub stops : AskSeen → AnswerSeen → Bool
 stops (AskSession (Ask.Unit sid command.Abort available)) (SaysSession (Done None) work) = true
 stops (AskSession (Ask.Unit sid command.Reset available)) (SaysSession (Done None) work) = true
 stops (AskEject slot) (SaysEjected card) = true
 stops ask answer = false
 
 -- what ends a scan before it has come to its end: these, and a card's failure
-abbrev pub breaks_off : AskView → AnswerView → Bool
+abbrev pub breaks_off : AskSeen → AnswerSeen → Bool
 breaks_off ask answer = tells_failure answer || stops ask answer
 
 -- The scan of a plan came to its end.
@@ -141,7 +141,7 @@ pub record IsEnding (plan : Snapshot) (start : Panel) (events : List Event) : Ty
   pub over : taken_in events ≡ bound_of plan.settings → (last_of start events).cage.scan ≡ None
 
 -- a scan begins by the plan in the event
-pub record Begins (plan : Snapshot) (start : Event) : Type 0 where
+pub record BeginsScan (plan : Snapshot) (start : Event) : Type 0 where
   pub sid : Sid
   pub ask : start.ask ≡ AskSession (Ask.Start sid plan)
   pub done : begins start.ask start.answer ≡ true
@@ -151,12 +151,13 @@ pub record ScanEnds (plan : Snapshot) (start : Event) : Type 0 where
   -- it runs then
   pub runs : is_running start.panel ≡ true
   -- while none begins
-  pub along : (after : List Event) → BeginsNone after → IsRun start.panel after → IsEnding plan start.panel after
+  pub along : (after : List Event) → BeginsNoScan after → IsRun start.panel after → IsEnding plan start.panel after
   -- where it is over
-  pub ends : (between : List Event) (e : Event) → BeginsNone (between ++ e ∷ []) → IsRun start.panel (between ++ e ∷ [])
+  pub ends : (between : List Event) (e : Event) → BeginsNoScan (between ++ e ∷ [])
+      → IsRun start.panel (between ++ e ∷ [])
       → is_running (last_of start.panel between) ≡ true → is_running e.panel ≡ false → IsOver plan (taken_in between) e
 
 -- in every run
 abbrev pub EveryScanEnds : Type 0
 EveryScanEnds = (numbered scanned : ℕ) (before : List Event) (start : Event) (plan : Snapshot)
-    → IsRun (opening_at numbered scanned) (before ++ start ∷ []) → Begins plan start → ScanEnds plan start
+    → IsRun (opening_at numbered scanned) (before ++ start ∷ []) → BeginsScan plan start → ScanEnds plan start

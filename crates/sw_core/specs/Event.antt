@@ -13,8 +13,8 @@ use Rattle.sw_core.specs.declared.ask.SessionAnswer.{SessionAnswer}
 use Rattle.sw_core.specs.declared.ask.SessionAnswer.TheVariants.{Joined, Full, Stranger, Broken, Done, Missed, Max}
 use Rattle.sw_core.specs.declared.ask.SessionAnswer.TheVariants.{Lock, Info, Snapshot, Refused, Hold, Worn}
 use Rattle.sw_core.specs.Panel.{Panel, is_running}
-use Rattle.sw_core.specs.View.{AnswerView, SaysSession, SaysInstalled, SaysNotInstalled, SaysEjected, SaysNotEjected}
-use Rattle.sw_core.specs.View.{SaysTaken, SaysMissed, SaysFailed, SaysBack, SaysWorn}
+use Rattle.sw_core.specs.Seen.{AnswerSeen, SaysSession, SaysInstalled, SaysNotInstalled, SaysEjected, SaysNotEjected}
+use Rattle.sw_core.specs.Seen.{SaysTaken, SaysMissed, SaysFailed, SaysBack, SaysWorn}
 
 -- OPERation's condition: bit 4 at a reading, bit 5 at TRIGger's wait, bit 6 at an ARM layer's (SCPI-1999, 20.2)
 abbrev pub awaited_bits : Option Awaited → ℕ
@@ -71,7 +71,7 @@ session_concluded (Lock code) p = ended p
 session_concluded (Info exclusive n) p = ended p
 session_concluded (Snapshot snapshot) p = ended p
 
-abbrev pub concluded : AnswerView → Panel → Panel
+abbrev pub concluded : AnswerSeen → Panel → Panel
 concluded (SaysSession answer work) p = session_concluded answer p
 concluded SaysInstalled p = ended p
 concluded (SaysNotInstalled refusal) p = ended p

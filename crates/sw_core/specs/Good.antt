@@ -10,7 +10,7 @@ use Rattle.sw_cage.specs.Takes.{awaited_now}
 use Rattle.sw_cage.specs.Good.{IsGood}
 use Rattle.sw_core.specs.Event.{awaited_bits}
 use Rattle.sw_core.specs.Panel.{Panel, opening_at, IsSafe}
-use Rattle.sw_core.specs.View.{AskView, AnswerView}
+use Rattle.sw_core.specs.Seen.{AskSeen, AnswerSeen}
 use Rattle.sw_core.specs.Step.{Step}
 
 -- a relay card has no more channels than a card may have
@@ -43,5 +43,5 @@ pub record IsGoodPanel (p : Panel) : Type 0 where
 -- who is lent it.
 pub record StaysGood : Type 0 where
   pub opening : (events scans : ℕ) → IsGoodPanel (opening_at events scans)
-  pub step : (p q : Panel) (ask : AskView) (failed : Bool) (answer : AnswerView)
+  pub step : (p q : Panel) (ask : AskSeen) (failed : Bool) (answer : AnswerSeen)
       → IsGoodPanel p → Step p ask failed answer q → IsGoodPanel q

@@ -1,7 +1,7 @@
 pub mod Answers
 pub mod Sessions
 pub mod Seats
-pub mod View
+pub mod Seen
 pub mod Panel
 pub mod Registers
 pub mod Event

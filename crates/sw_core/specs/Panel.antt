@@ -1,7 +1,7 @@
 -- The whole state of the mainframe as plain data.
 use Rattle.std.specs.Prelude.{ℕ, Bool, false, is_some}
 use Rattle.sw_base.specs.Layout.{IsExclusive}
-use Rattle.sw_trigger.specs.Settings.{Setup, at_reset}
+use Rattle.sw_trigger.specs.Settings.{SettingsSeen, at_reset}
 use Rattle.sw_status.specs.StatusModel.{StatusSeen, first_status}
 use Rattle.sw_cage.specs.Cage.{CageSeen, empty_cage}
 use Rattle.sw_cage.specs.Accounts.{Accounts, layout_of, is_closed}
@@ -12,7 +12,7 @@ pub record Panel : Type 0 where
   pub cage : CageSeen
   pub sessions : SessionsSeen
   pub status : StatusSeen
-  pub settings : Setup
+  pub settings : SettingsSeen
   pub opc_waits : Bool
   pub events : ℕ
 

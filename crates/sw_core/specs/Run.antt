@@ -20,26 +20,26 @@ use Rattle.sw_status.specs.StatusModel.{queued}
 use Rattle.sw_core.specs.Event.{ended, erred}
 use Rattle.sw_core.specs.Good.{IsGoodPanel}
 use Rattle.sw_core.specs.Panel.{Panel, opening_at, is_running}
-use Rattle.sw_core.specs.View.{AskView, AskSession, AskEject, AskFinished, AnswerView, SaysSession, SaysEjected}
-use Rattle.sw_core.specs.View.{SaysFailed, failed_in, IsOwnAccount, with_meter}
+use Rattle.sw_core.specs.Seen.{AskSeen, AskSession, AskEject, AskFinished, AnswerSeen, SaysSession, SaysEjected}
+use Rattle.sw_core.specs.Seen.{SaysFailed, failed_in, IsOwnAccount, with_meter}
 use Rattle.sw_core.specs.Seats.{FindsKey}
 use Rattle.sw_core.specs.Step.{Step}
 
 -- one event: what was asked, what was answered, and the state after it
 pub record Event : Type 0 where
-  pub ask : AskView
-  pub answer : AnswerView
+  pub ask : AskSeen
+  pub answer : AnswerSeen
   pub panel : Panel
 
 -- the event is a step from p, in which a card failed exactly where a count of failures tells so
-pub record IsNext (p : Panel) (e : Event) : Type 0 where
+pub record IsNextEvent (p : Panel) (e : Event) : Type 0 where
   pub own : IsOwnAccount e.ask
   pub step : Step p e.ask (failed_in e.ask e.answer p.cage.cards e.panel.cage.cards) e.answer e.panel
 
 -- each event is a step from the state before it
 abbrev pub IsRun : Panel → List Event → Type 0
 IsRun p [] = Unit {0}
-IsRun p (e ∷ events) = IsNext p e × IsRun e.panel events
+IsRun p (e ∷ events) = IsNextEvent p e × IsRun e.panel events
 
 -- this is so of each event and the state before it
 abbrev pub AtEach : (Panel → Event → Type 0) → Panel → List Event → Type 0
@@ -53,24 +53,24 @@ TellsBound e = (sid : Sid) (available : Bool) (text : List ℕ) (at : ScanSeen)
     → e.panel.cage.scan ≡ Some at → text ≡ decimal (bound_of at.setup)
 
 -- a card's failure is answered
-abbrev pub tells_failure : AnswerView → Bool
+abbrev pub tells_failure : AnswerSeen → Bool
 tells_failure SaysFailed = true
 tells_failure (SaysSession (Refused HardwareError) work) = true
 tells_failure answer = false
 
 -- a count of failures changed: of the meter that came back, since before it measured, or of a card that stayed
-abbrev pub HasFailed : AskView → Accounts → Accounts → Type 0
-HasFailed (AskFinished done) old new =
+abbrev pub CountsFailure : AskSeen → Accounts → Accounts → Type 0
+CountsFailure (AskFinished done) old new =
     (done.meter.failures ≢ done.before) ⊎ (any_failed (with_meter old done) new ≡ true)
-HasFailed ask old new = any_failed old new ≡ true
+CountsFailure ask old new = any_failed old new ≡ true
 
 -- the meter that came back measured this last, by its own account
-abbrev pub IsLastOf : AskView → Reading → Type 0
+abbrev pub IsLastOf : AskSeen → Reading → Type 0
 IsLastOf (AskFinished done) r = done.meter.last ≡ Some r
 IsLastOf ask r = ⊥
 
 -- the readings stay, are dropped, or one more is behind them, which is the returned meter's own
-abbrev pub AddsOwn : AskView → List Reading → List Reading → Type 0
+abbrev pub AddsOwn : AskSeen → List Reading → List Reading → Type 0
 AddsOwn ask old new = (new ≡ old) ⊎ ((new ≡ []) ⊎ ((r : Reading) × IsLastOf ask r × (new ≡ old ++ r ∷ [])))
 
 -- what is so of each event
@@ -80,7 +80,7 @@ pub record IsGoodEvent (p : Panel) (e : Event) : Type 0 where
   -- the bound that is told is that of the scan that runs
   pub bound : TellsBound e
   -- no failure is told where none was counted
-  pub failure : tells_failure e.answer ≡ true → HasFailed e.ask p.cage.cards e.panel.cage.cards
+  pub failure : tells_failure e.answer ≡ true → CountsFailure e.ask p.cage.cards e.panel.cage.cards
   -- no reading is made up
   pub readings : AddsOwn e.ask p.cage.readings e.panel.cage.readings
 
@@ -117,11 +117,11 @@ pub record RelaysObey : Type 0 where
       → IsDoneFor p (command.Open chans) available failed q → (c : Channel) → is_among chans c ≡ true
       → is_closed q.cage.cards c ≡ false
   -- a refusal for any other cause than a card's failure queues its error, ends its event, and does nothing else
-  pub refused : (p q : Panel) (ask : AskView) (failed : Bool) (e : ScpiError) → e ≢ HardwareError
+  pub refused : (p q : Panel) (ask : AskSeen) (failed : Bool) (e : ScpiError) → e ≢ HardwareError
       → Step p ask failed (SaysSession (Refused e) None) q → q ≡ ended (erred p e)
   -- After a card's failure, told to a session or to none, every relay is open, -240 is queued, and QUEStionable
   -- condition bit 9 is set. It is told only where a card failed.
-  pub failed : (p q : Panel) (ask : AskView) (failed : Bool) (answer : AnswerView) → tells_failure answer ≡ true
+  pub failed : (p q : Panel) (ask : AskSeen) (failed : Bool) (answer : AnswerSeen) → tells_failure answer ≡ true
       → Step p ask failed answer q → (failed ≡ true) × IsAfterCardFault p q
   -- after ABORt and *RST no scan runs and every relay is open
   pub aborted : (p q : Panel) (available failed : Bool) → IsDoneFor p command.Abort available failed q → IsAtRest q
@@ -134,12 +134,12 @@ pub record RelaysObey : Type 0 where
       → Step p (AskEject slot) failed (SaysEjected card) q → (k : ℕ) → closed_at card.closed k ≡ false
 
 -- an answer that tells of no want of memory
-abbrev pub IsPlain : AnswerView → Type 0
+abbrev pub IsPlain : AnswerSeen → Type 0
 IsPlain (SaysSession (Refused e) work) = e ≢ OutOfMemory
 IsPlain answer = Unit {0}
 
 -- nor of a key of a lock that found no memory
-abbrev pub KeepsKey : Panel → AskView → AnswerView → Type 0
+abbrev pub KeepsKey : Panel → AskSeen → AnswerSeen → Type 0
 KeepsKey p (AskSession ask) (SaysSession answer work) = FindsKey p.sessions ask answer
 KeepsKey p ask answer = Unit {0}
 
@@ -159,6 +159,6 @@ toll true cards = Some (map failures_in cards)
 -- Where memory suffices, an ask has one answer and leaves one state for what comes of the cards: whether one failed in
 -- the call, and if so, how often each has failed after it.
 abbrev pub StepIsDetermined : Type 0
-StepIsDetermined = (p q q' : Panel) (ask : AskView) (f f' : Bool) (a a' : AnswerView)
+StepIsDetermined = (p q q' : Panel) (ask : AskSeen) (f f' : Bool) (a a' : AnswerSeen)
     → Step p ask f a q → Step p ask f' a' q' → toll f q.cage.cards ≡ toll f' q'.cage.cards → IsPlain a → IsPlain a'
     → KeepsKey p ask a → KeepsKey p ask a' → (a ≡ a') × (q ≡ q')

@@ -3,7 +3,7 @@
 use Rattle.std.specs.Prelude.{◌≡◌, ℕ, ◌⊎◌, Bool, true, false, not, List, Option, None, Some, is_some}
 use Rattle.sw_base.specs.Layout.{slot_at}
 use Rattle.sw_base.specs.Limits.{most_sessions}
-use Rattle.sw_hislip.specs.LockTable.{LockTable, Replies, MayLackMemory, holders, freed, released, left}
+use Rattle.sw_hislip.specs.LockTable.{LockTable, Replies, MayLackMemory, holders, freed, released, without_session}
 use Rattle.sw_hislip.specs.declared.locks.LockReply.TheVariants as Reply
 use Rattle.sw_hislip.specs.declared.locks.Released.{Released}
 use Rattle.sw_hislip.specs.declared.locks.Released.TheVariants as Freed
@@ -106,7 +106,8 @@ FindsKey s ask answer = Unit {0}
 
 -- What a joined session asks of its seat or of the locks.
 abbrev pub StepSeat : SessionsSeen → SessionAsk → SessionAnswer → SessionsSeen → Type 0
-StepSeat s (Ask.Leave sid) (Done None) t = t ≡ record (with_seat s sid.number None) { locks = left s.locks sid.number }
+StepSeat s (Ask.Leave sid) (Done None) t =
+    t ≡ record (with_seat s sid.number None) { locks = without_session s.locks sid.number }
 StepSeat s (Ask.Attached sid) (Done None) t = ((seat_of s sid.number).attached ≡ true) × (t ≡ s)
 StepSeat s (Ask.Attached sid) Missed t = ((seat_of s sid.number).attached ≡ false) × (t ≡ s)
 StepSeat s (Ask.Size sid n) (Done None) t =

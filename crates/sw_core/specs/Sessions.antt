@@ -15,8 +15,8 @@ abbrev pub nobody : SessionsSeen
 nobody = record { seats = replicate most_sessions None; locks = no_locks }
 
 -- a session that has joined after so many events: until it tells otherwise it takes messages of the greatest length
-abbrev pub fresh : ℕ → Seat
-fresh events = record { joined = events; attached = false; size = most_bytes; clearing = false }
+abbrev pub fresh_seat : ℕ → Seat
+fresh_seat events = record { joined = events; attached = false; size = most_bytes; clearing = false }
 
 abbrev pub with_seat : SessionsSeen → ℕ → Option Seat → SessionsSeen
 with_seat s number seat = record s { seats = slice_set s.seats (number - 1) seat }
@@ -30,7 +30,7 @@ abbrev pub IsJoined : SessionsSeen → Sid → Type 0
 IsJoined s sid = joined_in (slot_at s.seats sid.number) ≡ Some sid.joined
 
 abbrev pub seat_in : Option Seat → Seat
-seat_in None = fresh 0
+seat_in None = fresh_seat 0
 seat_in (Some seat) = seat
 
 -- what is known of the session with this number

@@ -12,7 +12,7 @@ use Rattle.sw_base.specs.declared.error.ScpiError.TheVariants.{HardwareMissing}
 use Rattle.sw_base.specs.declared.error.ScpiError.TheVariants.{SettingsConflict, DataCorruptOrStale, SystemError}
 use Rattle.sw_base.specs.declared.error.ScpiError.TheVariants.{HardwareError, OutOfMemory}
 use Rattle.sw_lex.specs.declared.command.Command.{Command}
-use Rattle.sw_trigger.specs.Settings.{Setup}
+use Rattle.sw_trigger.specs.Settings.{SettingsSeen}
 use Rattle.sw_verify.specs.declared.snapshot.Snapshot.{Snapshot}
 use Rattle.sw_verify.specs.Check.{IsReady}
 use Rattle.sw_status.specs.StatusModel.{StatusSeen, pushed}
@@ -39,17 +39,17 @@ use Rattle.sw_core.specs.Action.{Effect, TellsNumber, TellsText, TellsReadings, 
 use Rattle.sw_core.specs.Action.{Opens, TellsRelays, Leaves}
 use Rattle.sw_core.specs.Action.{Resets, Offers, Refuses, IsOfMacros, Initiates, Action, AtOnce, BetweenScans}
 use Rattle.sw_core.specs.Action.{AfterScan, action_of, reset}
-use Rattle.sw_core.specs.Answers.{flag_of, as_asked}
+use Rattle.sw_core.specs.Answers.{yes_or_no, as_asked}
 use Rattle.sw_core.specs.declared.ask.Sid.{Sid}
 use Rattle.sw_hislip.specs.LockTable.{admits}
-use Rattle.sw_core.specs.Sessions.{SessionsSeen, IsJoined, IsLeastFree, is_clearing, fresh, with_seat}
+use Rattle.sw_core.specs.Sessions.{SessionsSeen, IsJoined, IsLeastFree, is_clearing, fresh_seat, with_seat}
 use Rattle.sw_core.specs.Seats.{asker_of, is_dropped, is_shut_out, StepSeat, LacksSecond, Attaches}
 use Rattle.sw_core.specs.Panel.{Panel, with_cards, is_running}
 use Rattle.sw_core.specs.Registers.{card_fault_reported, card_fault_cleared}
 use Rattle.sw_core.specs.Event.{concluded, last_number, next_number}
-use Rattle.sw_core.specs.View.{WorkView, Measures, Pauses, AskView, AskSession, AskInstall, AskEject, AskExternal}
-use Rattle.sw_core.specs.View.{AskElapsed, AskFinished, AnswerView, SaysSession, SaysInstalled, SaysNotInstalled}
-use Rattle.sw_core.specs.View.{SaysEjected, SaysNotEjected, SaysTaken, SaysMissed, SaysFailed, SaysBack, SaysWorn}
+use Rattle.sw_core.specs.Seen.{WorkSeen, Measures, Pauses, AskSeen, AskSession, AskInstall, AskEject, AskExternal}
+use Rattle.sw_core.specs.Seen.{AskElapsed, AskFinished, AnswerSeen, SaysSession, SaysInstalled, SaysNotInstalled}
+use Rattle.sw_core.specs.Seen.{SaysEjected, SaysNotEjected, SaysTaken, SaysMissed, SaysFailed, SaysBack, SaysWorn}
 
 -- the same cards but for their counts of failures, and every relay open
 pub record IsFailSafe (old new : Accounts) : Type 0 where
@@ -94,7 +94,7 @@ StepOpen p chans f answer q = ⊥
 abbrev pub StepFlags : Panel → Bool → List Channel → Bool → SessionAnswer → Panel → Type 0
 StepFlags p closed chans f (Done (Some text)) q =
     (f ≡ false) × (has_all p chans ≡ true)
-    × (text ≡ join_with_byte 44 (map (λ c. flag_of (as_asked closed (is_closed p.cage.cards c))) chans)) × (q ≡ p)
+    × (text ≡ join_with_byte 44 (map (λ c. yes_or_no (as_asked closed (is_closed p.cage.cards c))) chans)) × (q ≡ p)
 StepFlags p closed chans f (Refused HardwareMissing) q = (f ≡ false) × (has_all p chans ≡ false) × (q ≡ p)
 StepFlags p closed chans f (Refused OutOfMemory) q = (f ≡ false) × (has_all p chans ≡ true) × (q ≡ p)
 StepFlags p closed chans f answer q = ⊥
@@ -111,7 +111,7 @@ StepDone after f (Done None) q = (f ≡ false) × (q ≡ after)
 StepDone after f answer q = ⊥
 
 -- a setting that is taken where it fits, else refused by this error
-abbrev pub StepSetting : Panel → Type 0 → ScpiError → Setup → Bool → SessionAnswer → Panel → Type 0
+abbrev pub StepSetting : Panel → Type 0 → ScpiError → SettingsSeen → Bool → SessionAnswer → Panel → Type 0
 StepSetting p Fits error setup f (Done None) q = (f ≡ false) × Fits × (q ≡ record p { settings = setup })
 StepSetting p Fits error setup f (Refused e) q = (f ≡ false) × (Fits → ⊥) × (e ≡ error) × (q ≡ p)
 StepSetting p Fits error setup f answer q = ⊥
@@ -129,7 +129,7 @@ StepReadings (r ∷ rs) p f answer q = StepText p (join_with_byte 44 (map readin
 -- ---- scans
 
 -- the work that a scan awaits once it has come to this
-abbrev pub work_of : TakenSeen → Option WorkView
+abbrev pub work_of : TakenSeen → Option WorkSeen
 work_of (SaysPause ticket micros) = Some (Pauses ticket micros)
 work_of (SaysJob job) = Some (Measures job)
 work_of told = None
@@ -154,7 +154,7 @@ session_told error told = Done None
 
 -- a session's happening
 pub record StepHappens (p : Panel) (happening : Happening) (error : ScpiError) (f : Bool) (answer : SessionAnswer)
-    (work : Option WorkView) (q : Panel) : Type 0 where
+    (work : Option WorkSeen) (q : Panel) : Type 0 where
   pub told : TakenSeen
   pub happens : Happens p happening f told q
   pub answer_is : answer ≡ session_told error told
@@ -181,17 +181,17 @@ StepAlone Initiates p f answer q = StepRefused p UndefinedHeader f answer q
 StepAlone (Offers happening error) p f answer q = ⊥
 
 -- a command that is carried out
-abbrev pub StepEffect : Effect → Panel → Bool → SessionAnswer → Option WorkView → Panel → Type 0
+abbrev pub StepEffect : Effect → Panel → Bool → SessionAnswer → Option WorkSeen → Panel → Type 0
 StepEffect (Offers happening error) p f answer work q = StepHappens p happening error f answer work q
 StepEffect effect p f answer work q = StepAlone effect p f answer q × (work ≡ None)
 
 -- an ask that is held changes nothing
-abbrev pub StepHeld : Panel → SessionAsk → Bool → SessionAnswer → Option WorkView → Panel → Type 0
+abbrev pub StepHeld : Panel → SessionAsk → Bool → SessionAnswer → Option WorkSeen → Panel → Type 0
 StepHeld p ask f (Hold back) None q = (f ≡ false) × (back ≡ ask) × (q ≡ p)
 StepHeld p ask f answer work q = ⊥
 
 -- A command is carried out, or refused or held while a scan runs.
-abbrev pub StepAction : Action → Panel → SessionAsk → Bool → SessionAnswer → Option WorkView → Panel → Type 0
+abbrev pub StepAction : Action → Panel → SessionAsk → Bool → SessionAnswer → Option WorkSeen → Panel → Type 0
 StepAction (AtOnce effect) p ask f answer work q = StepEffect effect p f answer work q
 StepAction (BetweenScans effect) p ask f answer work q =
     MatchBool (is_running p) (StepRefused p SettingsConflict f answer q × (work ≡ None))
@@ -238,7 +238,7 @@ abbrev pub started_answer : TakenSeen → SessionAnswer
 started_answer SaysFault = Refused HardwareError
 started_answer told = Done None
 
-pub record IsStarted (p : Panel) (plan : Snapshot) (f : Bool) (answer : SessionAnswer) (work : Option WorkView)
+pub record IsStarted (p : Panel) (plan : Snapshot) (f : Bool) (answer : SessionAnswer) (work : Option WorkSeen)
     (q : Panel) : Type 0 where
   pub may : MayScan p
   pub told : TakenSeen
@@ -247,7 +247,7 @@ pub record IsStarted (p : Panel) (plan : Snapshot) (f : Bool) (answer : SessionA
   pub work_is : work ≡ work_of told
 
 -- a session begins the scan of a plan: one that was made of what is so now
-abbrev pub StepStart : Panel → Snapshot → Bool → SessionAnswer → Option WorkView → Panel → Type 0
+abbrev pub StepStart : Panel → Snapshot → Bool → SessionAnswer → Option WorkSeen → Panel → Type 0
 StepStart p plan f (Done None) work q = IsStarted p plan f (Done None) work q
 StepStart p plan f (Refused HardwareError) work q = IsStarted p plan f (Refused HardwareError) work q
 StepStart p plan f (Refused OutOfMemory) None q = (f ≡ false) × MayScan p × (plan ≡ snapshot_of p) × (q ≡ p)
@@ -266,7 +266,7 @@ pub record IsServed (p : Panel) (ask : SessionAsk) (f : Bool) (answer : SessionA
   pub after : q ≡ record p { sessions = sessions }
 
 -- what a joined session asks that may be done now
-abbrev pub StepJoined : Panel → SessionAsk → Bool → SessionAnswer → Option WorkView → Panel → Type 0
+abbrev pub StepJoined : Panel → SessionAsk → Bool → SessionAnswer → Option WorkSeen → Panel → Type 0
 StepJoined p (Ask.Fault sid e) f (Done None) None q = (f ≡ false) × (q ≡ record p { status = pushed p.status e })
 StepJoined p (Ask.Unit sid command available) f answer work q =
     StepAction (action_of available command) p (Ask.Unit sid command available) f answer work q
@@ -298,49 +298,49 @@ abbrev pub admission : Panel → Sid → SessionAsk → Admission
 admission p sid ask = if drops p sid ask then Dropped else if shuts_out p sid ask then ShutOut else Admitted
 
 -- it is dropped, held or done
-abbrev pub StepAdmitted : Admission → Panel → SessionAsk → Bool → SessionAnswer → Option WorkView → Panel → Type 0
+abbrev pub StepAdmitted : Admission → Panel → SessionAsk → Bool → SessionAnswer → Option WorkSeen → Panel → Type 0
 StepAdmitted Dropped p ask f Broken None q = (f ≡ false) × (q ≡ p)
 StepAdmitted Dropped p ask f answer work q = ⊥
 StepAdmitted ShutOut p ask f answer work q = StepHeld p ask f answer work q
 StepAdmitted Admitted p ask f answer work q = StepJoined p ask f answer work q
 
 -- a new session gets the least free number, and the number of events that there are once it has joined
-abbrev pub StepJoin : Panel → Bool → SessionAnswer → Option WorkView → Panel → Type 0
+abbrev pub StepJoin : Panel → Bool → SessionAnswer → Option WorkSeen → Panel → Type 0
 StepJoin p f (Joined sid) None q =
     (f ≡ false) × IsLeastFree p.sessions sid.number × (sid.joined ≡ next_number p.events)
-    × (q ≡ record p { sessions = with_seat p.sessions sid.number (Some (fresh (next_number p.events))) })
+    × (q ≡ record p { sessions = with_seat p.sessions sid.number (Some (fresh_seat (next_number p.events))) })
 StepJoin p f Full None q =
     (f ≡ false) × ((k : ℕ) → 1 ≤ k → k ≤ most_sessions → slot_at p.sessions.seats k ≢ None) × (q ≡ p)
 StepJoin p f answer work q = ⊥
 
 -- a second channel for the session with this number
-abbrev pub StepAttach : Panel → ℕ → Bool → SessionAnswer → Option WorkView → Panel → Type 0
+abbrev pub StepAttach : Panel → ℕ → Bool → SessionAnswer → Option WorkSeen → Panel → Type 0
 StepAttach p number f (Joined sid) None q =
     (f ≡ false) × Attaches p.sessions number sid q.sessions × (q ≡ record p { sessions = q.sessions })
 StepAttach p number f Stranger None q = (f ≡ false) × (LacksSecond p.sessions number → ⊥) × (q ≡ p)
 StepAttach p number f answer work q = ⊥
 
 -- what is asked by none of the sessions
-abbrev pub StepNew : Panel → SessionAsk → Bool → SessionAnswer → Option WorkView → Panel → Type 0
+abbrev pub StepNew : Panel → SessionAsk → Bool → SessionAnswer → Option WorkSeen → Panel → Type 0
 StepNew p Ask.Join f answer work q = StepJoin p f answer work q
 StepNew p (Ask.Attach number) f answer work q = StepAttach p number f answer work q
 StepNew p ask f answer work q = ⊥
 
 -- a session's ask
-abbrev pub StepSession : Option Sid → Panel → SessionAsk → Bool → SessionAnswer → Option WorkView → Panel → Type 0
+abbrev pub StepSession : Option Sid → Panel → SessionAsk → Bool → SessionAnswer → Option WorkSeen → Panel → Type 0
 StepSession None p ask f answer work q = StepNew p ask f answer work q
 StepSession (Some sid) p ask f Stranger None q = (f ≡ false) × (IsJoined p.sessions sid → ⊥) × (q ≡ p)
 StepSession (Some sid) p ask f answer work q =
     IsJoined p.sessions sid × StepAdmitted (admission p sid ask) p ask f answer work q
 
 -- what is answered to no session by what the cage told
-abbrev pub outside_told : TakenSeen → AnswerView
+abbrev pub outside_told : TakenSeen → AnswerSeen
 outside_told SaysIgnored = SaysMissed
 outside_told SaysFault = SaysFailed
 outside_told told = SaysTaken (work_of told)
 
 -- a happening that is no session's
-pub record StepOutside (p : Panel) (happening : Happening) (f : Bool) (answer : AnswerView) (q : Panel) : Type 0 where
+pub record StepOutside (p : Panel) (happening : Happening) (f : Bool) (answer : AnswerSeen) (q : Panel) : Type 0 where
   pub told : TakenSeen
   pub happens : Happens p happening f told q
   pub answer_is : answer ≡ outside_told told
@@ -359,18 +359,18 @@ Returns p done f told q =
     × ReportsCardFault p q.cage told f q
 
 -- a meter returns that was out under its ticket
-pub record IsReturned (p : Panel) (done : FinishedSeen) (f : Bool) (answer : AnswerView) (q : Panel) : Type 0 where
+pub record IsReturned (p : Panel) (done : FinishedSeen) (f : Bool) (answer : AnswerSeen) (q : Panel) : Type 0 where
   pub out : IsOut p done
   pub told : TakenSeen
   pub returns : Returns p done f told q
   pub answer_is : answer ≡ outside_told told
 
-abbrev pub StepFinished : Panel → FinishedSeen → Bool → AnswerView → Panel → Type 0
+abbrev pub StepFinished : Panel → FinishedSeen → Bool → AnswerSeen → Panel → Type 0
 StepFinished p done f SaysBack q = (f ≡ false) × (IsOut p done → ⊥) × (q ≡ p)
 StepFinished p done f answer q = IsReturned p done f answer q
 
 -- What an ask does and is answered, before its event ends.
-abbrev pub Acts : Panel → AskView → Bool → AnswerView → Panel → Type 0
+abbrev pub Acts : Panel → AskSeen → Bool → AnswerSeen → Panel → Type 0
 Acts p (AskSession ask) f (SaysSession answer work) q = StepSession (asker_of ask) p ask f answer work q
 Acts p (AskInstall slot card) f SaysInstalled q =
     (f ≡ false) × (is_running p ≡ false) × (slot_at p.cage.out slot ≡ None) × CanInstall p.cage.cards slot card
@@ -387,33 +387,33 @@ Acts p (AskFinished done) f answer q = StepFinished p done f answer q
 Acts p ask f answer q = ⊥
 
 -- what still acts when no more events can be numbered: what makes a scan idle, or brings a meter back
-abbrev pub acts_unnumbered : AskView → Bool
+abbrev pub acts_unnumbered : AskSeen → Bool
 acts_unnumbered (AskSession (Ask.Unit sid Command.Abort available)) = true
 acts_unnumbered (AskEject slot) = true
 acts_unnumbered (AskFinished done) = true
 acts_unnumbered ask = false
 
 -- the ask is handed back
-abbrev pub IsWorn : AskView → AnswerView → Type 0
+abbrev pub IsWorn : AskSeen → AnswerSeen → Type 0
 IsWorn (AskSession ask) (SaysSession (Worn back) None) = back ≡ ask
 IsWorn (AskSession ask) answer = ⊥
 IsWorn ask SaysWorn = Unit {0}
 IsWorn ask answer = ⊥
 
 -- an event that is numbered, or an ask that still acts
-pub record IsEvent (p : Panel) (ask : AskView) (f : Bool) (answer : AnswerView) (q : Panel) : Type 0 where
+pub record IsEvent (p : Panel) (ask : AskSeen) (f : Bool) (answer : AnswerSeen) (q : Panel) : Type 0 where
   pub done : Panel
   pub acts : Acts p ask f answer done
   pub after : q ≡ concluded answer done
 
 -- an ask that can't be numbered any more changes nothing
-pub record IsUnnumbered (p : Panel) (ask : AskView) (f : Bool) (answer : AnswerView) (q : Panel) : Type 0 where
+pub record IsUnnumbered (p : Panel) (ask : AskSeen) (f : Bool) (answer : AnswerSeen) (q : Panel) : Type 0 where
   pub worn : IsWorn ask answer
   pub unfailed : f ≡ false
   pub same : q ≡ p
 
 -- From p, in a call in which a card failed or none did, the mainframe may give this answer and go on to q.
-abbrev pub Step : Panel → AskView → Bool → AnswerView → Panel → Type 0
+abbrev pub Step : Panel → AskSeen → Bool → AnswerSeen → Panel → Type 0
 Step p ask f answer q =
     MatchBool ((p.events == last_number) && not (acts_unnumbered ask)) (IsUnnumbered p ask f answer q)
     (IsEvent p ask f answer q)

@@ -1,7 +1,7 @@
 //! Who asks, and what still acts when no more events can be numbered.
 
 ghost use Rattle.std.specs.Prelude.{◌≡◌, false};
-ghost use Rattle.sw_core.specs.View.{ask_view, answer_view, AskSession, HandsBack};
+ghost use Rattle.sw_core.specs.Seen.{ask_seen, answer_seen, AskSession, HandsBack};
 ghost use Rattle.sw_core.specs.Seats.{asker_of, is_dropped, is_shut_out};
 ghost use Rattle.sw_core.specs.Step.{acts_unnumbered, IsWorn};
 
@@ -67,7 +67,7 @@ pub fn session_acts_unnumbered(ask: &SessionAsk) -> bool
 
 /// Whether an ask still acts when no more events can be numbered.
 pub fn acts_unnumbered<R: Relay, M: Meter>(ask: &Ask<R, M>) -> bool
-    ensures { result ≡ acts_unnumbered (ask_view ask.now) }
+    ensures { result ≡ acts_unnumbered (ask_seen ask.now) }
 {
     match ask {
         Ask::Session(ask) => session_acts_unnumbered(ask),
@@ -79,8 +79,8 @@ pub fn acts_unnumbered<R: Relay, M: Meter>(ask: &Ask<R, M>) -> bool
 /// Hands an ask back that can't be numbered.
 #[inline(never)]
 pub fn unnumbered<R: Relay, M: Meter>(ask: Ask<R, M>) -> Answer<R, M>
-    requires { acts_unnumbered (ask_view ask) ≡ false }
-    ensures worn { IsWorn (ask_view ask) (answer_view result) }
+    requires { acts_unnumbered (ask_seen ask) ≡ false }
+    ensures worn { IsWorn (ask_seen ask) (answer_seen result) }
     ensures back { HandsBack ask result }
 {
     match ask {

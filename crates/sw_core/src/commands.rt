@@ -3,12 +3,12 @@
 ghost use Rattle.std.specs.Prelude.{◌≡◌, None, false};
 ghost use Rattle.sw_cage.specs.Change.{any_failed};
 ghost use Rattle.sw_core.specs.Action.{action_of, is_offered};
-ghost use Rattle.sw_core.specs.Answers.{Takes};
-ghost use Rattle.sw_core.specs.View.{work_view};
+ghost use Rattle.sw_core.specs.Answers.{TakesSetting};
+ghost use Rattle.sw_core.specs.Seen.{work_seen};
 ghost use Rattle.sw_core.specs.Step.{StepAction};
 
 use crate::ask::{SessionAnswer, SessionAsk, Sid, Work};
-use crate::machine::Core;
+use crate::core::Core;
 use crate::text::{identity, told, version};
 use std::alloc::Global;
 use sw_base::{LayerName, ScpiError};
@@ -28,7 +28,7 @@ impl<R: Relay, M: Meter> Core<R, M> {
         available: bool,
     ) -> (SessionAnswer, Option<Work<M>>)
         ensures { StepAction (action_of available command) self.old (SessionAsk.Unit sid command available)
-            (any_failed self.old.cage.cards self.new.cage.cards) result.0 (work_view result.1) self.new }
+            (any_failed self.old.cage.cards self.new.cage.cards) result.0 (work_seen result.1) self.new }
     {
         match command {
             Command::Trigger => self.offer(Happening::Bus, ScpiError::TriggerIgnored),
@@ -191,7 +191,7 @@ fn held(sid: Sid, command: Command, available: bool) -> SessionAnswer
 
 /// What a setting's command is answered.
 fn taken(set: Result<(), ScpiError>) -> SessionAnswer
-    ensures { Takes set result }
+    ensures { TakesSetting set result }
 {
     match set {
         Ok(()) => SessionAnswer::Done(None),

@@ -1,11 +1,11 @@
 //! The end of an event.
 
 ghost use Rattle.std.specs.Prelude.{◌≡◌};
-ghost use Rattle.sw_core.specs.View.{answer_view};
+ghost use Rattle.sw_core.specs.Seen.{answer_seen};
 ghost use Rattle.sw_core.specs.Event.{concluded, session_concluded, ended, awaited_bits};
 
 use crate::ask::{Answer, SessionAnswer};
-use crate::machine::Core;
+use crate::core::Core;
 use sw_base::{LayerName, ScpiError, StatusGroup};
 use sw_card::{Meter, Relay};
 use sw_trigger::Awaited;
@@ -32,7 +32,7 @@ fn awaited_bits(awaited: Option<Awaited>) -> u16
 impl<R: Relay, M: Meter> Core<R, M> {
     /// Queues the error of a refusal, and ends the event. What was no event changes nothing.
     pub(crate) fn end_event(&mut self, answer: &Answer<R, M>)
-        ensures { self.new ≡ concluded (answer_view answer.now) self.old }
+        ensures { self.new ≡ concluded (answer_seen answer.now) self.old }
     {
         match answer {
             Answer::Session(answer, _) => self.end_session_event(answer),

@@ -3,7 +3,7 @@
 ghost use Rattle.std.specs.Prelude.{◌≡◌, [], Bool, decimal, if◌then◌else◌};
 ghost use Rattle.sw_channel.specs.Printing.{printed};
 ghost use Rattle.sw_status.specs.Registers.{event_taken};
-ghost use Rattle.sw_status.specs.StatusModel.{popped, cleared, group_of, with_group};
+ghost use Rattle.sw_status.specs.StatusModel.{popped, cleared, registers_of, with_group};
 ghost use Rattle.sw_core.specs.Action.{with_source};
 ghost use Rattle.sw_base.specs.Reading.{fixed};
 ghost use Rattle.sw_trigger.specs.Settings.{layer_of};
@@ -12,7 +12,7 @@ ghost use Rattle.sw_core.specs.Registers.{card_fault_reported, card_fault_cleare
 ghost use Rattle.sw_core.specs.Step.{StepText, StepReadings, StepDone};
 
 use crate::ask::SessionAnswer;
-use crate::machine::Core;
+use crate::core::Core;
 use crate::text::{all_entries, all_readings, oldest_entry, seconds, source_word, told, whole};
 use std::alloc::Global;
 use sw_base::{LayerName, ScpiError, Sequence, Source, StatusGroup};
@@ -103,8 +103,8 @@ impl<R: Relay, M: Meter> Core<R, M> {
     /// Reads a group's event register out.
     #[inline(never)]
     pub(crate) fn group_event_query(&mut self, alloc: Global, group: StatusGroup) -> SessionAnswer
-        ensures { StepText self.old (decimal (group_of self.old.status group).event)
-            (with_group self.old.status group (event_taken (group_of self.old.status group))) Bool.false result
+        ensures { StepText self.old (decimal (registers_of self.old.status group).event)
+            (with_group self.old.status group (event_taken (registers_of self.old.status group))) Bool.false result
             self.new }
     {
         match whole(alloc, u64::from(self.status.group(group).event())) {

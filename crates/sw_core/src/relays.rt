@@ -10,7 +10,7 @@ ghost use Rattle.sw_core.specs.Panel.{with_cards};
 ghost use Rattle.sw_core.specs.Step.{StepText, StepDone, StepClose, StepOpen, StepFlags};
 
 use crate::ask::SessionAnswer;
-use crate::machine::Core;
+use crate::core::Core;
 use crate::registers::{clear_card_fault, report_card_fault};
 use crate::text::flags;
 use std::alloc::Global;

@@ -4,14 +4,14 @@ ghost use Rattle.std.specs.Prelude.{◌≡◌, Bool, IfOk, IfSome, IfNone, None,
 ghost use Rattle.sw_cage.specs.Change.{any_failed};
 ghost use Rattle.sw_cage.specs.TakenSeen.{taken_seen, tells_fault};
 ghost use Rattle.sw_verify.specs.Check.{IsReady};
-ghost use Rattle.sw_core.specs.View.{work_view, answer_view, failed_in, AskFinished, HandsBack, IsOwnAccount};
+ghost use Rattle.sw_core.specs.Seen.{work_seen, answer_seen, failed_in, AskFinished, HandsBack, IsOwnAccount};
 ghost use Rattle.sw_core.specs.declared.ask.Ask.TheVariants as Ask;
 ghost use Rattle.sw_core.specs.Step.{Happens, StepHappens, StepOutside, StepFinished, StepSnapshot, StepStart};
 ghost use Rattle.sw_core.specs.Step.{RefusesScan, MayScan, session_told, outside_told, started_answer, work_of};
 ghost use Rattle.sw_core.specs.Step.{snapshot_of};
 
 use crate::ask::{Answer, SessionAnswer, Work};
-use crate::machine::Core;
+use crate::core::Core;
 use crate::registers::{report_card_fault, set_card_fault};
 use std::alloc::{AllocError, Global};
 use sw_base::{ScpiError, Sequence};
@@ -21,7 +21,7 @@ use sw_verify::{BoxedSnapshot, Plan, Snapshot};
 
 /// The work that a scan awaits once it has come to this.
 fn work_of<M: Meter>(told: Taken<M>) -> Option<Work<M>>
-    ensures { work_view result ≡ work_of (taken_seen told) }
+    ensures { work_seen result ≡ work_of (taken_seen told) }
 {
     match told {
         Taken::Pause(ticket, micros) => Some(Work::Pause(ticket, micros)),
@@ -43,7 +43,7 @@ fn session_told<M: Meter>(told: &Taken<M>, error: ScpiError) -> SessionAnswer
 
 /// What is answered to no session by what the cage told.
 fn outside_told<R: Relay, M: Meter>(told: Taken<M>) -> Answer<R, M>
-    ensures { answer_view result ≡ outside_told (taken_seen told) }
+    ensures { answer_seen result ≡ outside_told (taken_seen told) }
 {
     match told {
         Taken::Ignored => Answer::Missed,
@@ -93,7 +93,7 @@ impl<R: Relay, M: Meter> Core<R, M> {
         error: ScpiError,
     ) -> (SessionAnswer, Option<Work<M>>)
         ensures { StepHappens self.old happening error (any_failed self.old.cage.cards self.new.cage.cards) result.0
-            (work_view result.1) self.new }
+            (work_seen result.1) self.new }
     {
         let told = self.happens(happening);
         let answer = session_told(&told, error);
@@ -104,7 +104,7 @@ impl<R: Relay, M: Meter> Core<R, M> {
     #[inline(never)]
     pub(crate) fn outside(&mut self, happening: Happening) -> Answer<R, M>
         ensures { StepOutside self.old happening (any_failed self.old.cage.cards self.new.cage.cards)
-            (answer_view result) self.new }
+            (answer_seen result) self.new }
     {
         let told = self.happens(happening);
         outside_told(told)
@@ -114,8 +114,8 @@ impl<R: Relay, M: Meter> Core<R, M> {
     #[inline(never)]
     pub(crate) fn finished(&mut self, done: Finished<M>) -> Answer<R, M>
         ensures finished { StepFinished self.old done.1
-            (failed_in (AskFinished done.1) (answer_view result) self.old.cage.cards self.new.cage.cards)
-            (answer_view result) self.new }
+            (failed_in (AskFinished done.1) (answer_seen result) self.old.cage.cards self.new.cage.cards)
+            (answer_seen result) self.new }
         ensures own { IsOwnAccount (AskFinished done.1) }
         ensures back { HandsBack (Ask.Finished done) result }
     {
@@ -177,7 +177,7 @@ impl<R: Relay, M: Meter> Core<R, M> {
     #[inline(never)]
     pub(crate) fn start(&mut self, alloc: Global, plan: Plan) -> (SessionAnswer, Option<Work<M>>)
         ensures { StepStart self.old plan (any_failed self.old.cage.cards self.new.cage.cards) result.0
-            (work_view result.1) self.new }
+            (work_seen result.1) self.new }
     {
         if let Some(error) = self.refuses_scan() {
             return (SessionAnswer::Refused(error), None);
@@ -202,7 +202,7 @@ impl<R: Relay, M: Meter> Core<R, M> {
         requires same { plan ≡ snapshot_of self.old }
         requires ready { IsReady plan }
         ensures { StepStart self.old plan (any_failed self.old.cage.cards self.new.cage.cards) result.0
-            (work_view result.1) self.new }
+            (work_seen result.1) self.new }
     {
         match self.cage.start(alloc, plan) {
             Err(_) => (SessionAnswer::Refused(ScpiError::OutOfMemory), None),

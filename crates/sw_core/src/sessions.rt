@@ -5,7 +5,7 @@ ghost use Rattle.std.specs.Prelude.{None, Some, slice_set, replicate};
 ghost use Rattle.sw_base.specs.Layout.{slot_at};
 ghost use Rattle.sw_base.specs.Limits.{most_sessions};
 ghost use Rattle.sw_hislip.specs.LockTable.{admits};
-ghost use Rattle.sw_core.specs.Sessions.{nobody, fresh, IsJoined, IsLeastFree, is_clearing, with_seat, seat_of};
+ghost use Rattle.sw_core.specs.Sessions.{nobody, fresh_seat, IsJoined, IsLeastFree, is_clearing, with_seat, seat_of};
 ghost use Rattle.sw_core.specs.Sessions.{joined_in};
 ghost use Rattle.sw_core.specs.declared.ask.SessionAnswer.TheVariants.{Done};
 ghost use Rattle.sw_core.specs.Seats.{Attaches, LacksSecond, StepSeat, StepLock, released_code, asker_of, is_seats};
@@ -78,7 +78,7 @@ impl Sessions {
     /// Gives the least free number to a session that joins after so many events.
     pub fn join(&mut self, events: u64) -> Option<Sid>
         ensures free { IfSome result (λ sid. IsLeastFree self.old sid.number × (sid.joined ≡ events)) }
-        ensures joined { IfSome result (λ sid. self.new ≡ with_seat self.old sid.number (Some (fresh events))) }
+        ensures joined { IfSome result (λ sid. self.new ≡ with_seat self.old sid.number (Some (fresh_seat events))) }
         ensures full { IfNone result ((k : ℕ) → 1 ≤ k → k ≤ most_sessions → slot_at self.old.seats k ≢ None) }
         ensures same { IfNone result (self.new ≡ self.old) }
     {

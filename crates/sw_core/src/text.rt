@@ -4,8 +4,9 @@ ghost use Rattle.std.specs.Prelude.{◌≡◌, ◌<◌, ◌∷◌, [], ◌++◌,
 ghost use Rattle.std.specs.List.{join_with_byte};
 ghost use Rattle.sw_base.specs.Reading.{fixed, reading_text};
 ghost use Rattle.sw_cage.specs.Accounts.{is_closed};
-ghost use Rattle.sw_core.specs.Answers.{identity, version, flag_of, as_asked, entry, entry_of, no_error, oldest_entry};
-ghost use Rattle.sw_core.specs.Answers.{all_entries, source_word, IsRow, IsOpen, Tells};
+ghost use Rattle.sw_core.specs.Answers.{identity_text, version, yes_or_no, as_asked, entry, error_entry, no_error};
+ghost use Rattle.sw_core.specs.Answers.{oldest_entry};
+ghost use Rattle.sw_core.specs.Answers.{all_entries, source_word, IsRow, IsOpenEnded, TellsText};
 
 use crate::ask::SessionAnswer;
 use std::alloc::{AllocError, Global};
@@ -18,7 +19,7 @@ use sw_card::{Meter, Relay};
 
 /// The maker, the model, the serial number and the version (IEEE 488.2, 10.14).
 pub fn identity(alloc: Global) -> Result<Sequence<u8>, AllocError>
-    ensures { IfOk result (λ text. text ≡ identity) }
+    ensures { IfOk result (λ text. text ≡ identity_text) }
 {
     Ok(Sequence::new(Vec::from_slice(alloc, b"OPENBENCH,SWM8,0,1.0")?))
 }
@@ -70,7 +71,7 @@ pub fn flags<R: Relay, M: Meter>(
     chans: &[Chan],
 ) -> Result<Sequence<u8>, AllocError>
     ensures { IfOk result (λ text. text
-        ≡ join_with_byte 44 (map (λ c. flag_of (as_asked closed (is_closed cage.now.cards c))) chans.now)) }
+        ≡ join_with_byte 44 (map (λ c. yes_or_no (as_asked closed (is_closed cage.now.cards c))) chans.now)) }
 {
     let mut text = Vec::with_capacity(alloc, chans.len())?;
     for chan in chans {
@@ -89,7 +90,7 @@ fn as_asked(asked: bool, closed: bool) -> bool
 
 /// `1` for yes, `0` for no.
 fn flag(yes: bool) -> u8
-    ensures { result ∷ [] ≡ flag_of yes }
+    ensures { result ∷ [] ≡ yes_or_no yes }
 {
     if yes { b'1' } else { b'0' }
 }
@@ -157,7 +158,7 @@ fn nothing(alloc: Global) -> Result<Sequence<u8>, AllocError>
 
 /// Adds an entry of the error queue.
 fn add_entry(text: &mut Vec<u8>, error: ScpiError) -> Result<(), AllocError>
-    ensures { OnOk result (text.new.items ≡ text.old.items ++ entry_of error) }
+    ensures { OnOk result (text.new.items ≡ text.old.items ++ error_entry error) }
 {
     add_numbered(text, i64::from(error.code()), error.text())
 }
@@ -177,7 +178,7 @@ fn add_numbered(text: &mut Vec<u8>, number: i64, words: &str) -> Result<(), Allo
 
 /// Adds a comma behind the pieces that the text has, where there are any.
 fn separate(text: &mut Vec<u8>) -> Result<(), AllocError>
-    ensures { OnOk result ((pieces : List (List ℕ)) → IsRow text.old.items pieces → IsOpen text.new.items pieces) }
+    ensures { OnOk result ((pieces : List (List ℕ)) → IsRow text.old.items pieces → IsOpenEnded text.new.items pieces) }
 {
     if text.is_empty() {
         return Ok(());
@@ -188,7 +189,7 @@ fn separate(text: &mut Vec<u8>) -> Result<(), AllocError>
 
 /// A query's answer, or that there was no memory for it.
 pub fn told(text: Result<Sequence<u8>, AllocError>) -> SessionAnswer
-    ensures { Tells text result }
+    ensures { TellsText text result }
 {
     match text {
         Ok(text) => SessionAnswer::Done(Some(text)),

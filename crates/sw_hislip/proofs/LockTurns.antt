@@ -3,7 +3,7 @@ use Rattle.std.proofs.Common.{◌≡◌, ℕ, ◌-◌, true, false, cond, is_som
 use Rattle.std.proofs.lemmas.Bool.{cases_eq, cases_Bool, eq-eqb, and_parts, both_ways, cond-true, cond-false}
 use Rattle.std.proofs.lemmas.List.{get_or-set_same, get_or-set_other, length-set}
 use Rattle.sw_hislip.specs.declared.locks.LockReply.TheVariants.{Granted, NotNow, Wrong}
-use Rattle.sw_hislip.specs.LockTable.{LockTable, no_locks, key_of, shares, excludes, is_holder, with_key, without_exclusive, released, left, granted}
+use Rattle.sw_hislip.specs.LockTable.{LockTable, no_locks, key_of, shares, excludes, is_holder, with_key, without_exclusive, released, without_session, granted}
 use Rattle.sw_hislip.specs.LockTable.{grants, grants_shared}
 use Rattle.sw_hislip.specs.LockRules.{IsSession, NoOtherExcludes, AllHaveKey, Grants, IsOrderly, LockTurn, asks, releases, leaves, KeepsOrder}
 use Rattle.sw_hislip.proofs.LockProofs.{alone, all_have, are_rules, none_at}
@@ -121,7 +121,7 @@ release_orderly l sid s o =
           ])
     ]
 
-leave_orderly : (l : LockTable) (sid : ℕ) → IsSession sid → IsOrderly l → IsOrderly (left l sid)
+leave_orderly : (l : LockTable) (sid : ℕ) → IsSession sid → IsOrderly l → IsOrderly (without_session l sid)
 leave_orderly l sid s o =
     elim (cases_Bool (excludes l sid)) [
       | inl own ↦ subst (λ (x : LockTable). IsOrderly (with_key x sid None)) (sym (cond-true (excludes l sid) (without_exclusive l) l own))

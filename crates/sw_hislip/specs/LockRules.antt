@@ -2,7 +2,7 @@
 use Rattle.std.specs.Prelude.{◌≡◌, ◌≢◌, ◌≤◌, ℕ, true, ◌⊎◌, ◌↔◌, List, [], ◌∷◌, length, None, Some}
 use Rattle.sw_base.specs.Limits.{most_sessions}
 use Rattle.sw_hislip.specs.declared.locks.LockReply.{LockReply}
-use Rattle.sw_hislip.specs.LockTable.{LockTable, key_of, shares, admits, grants, Replies, released, left}
+use Rattle.sw_hislip.specs.LockTable.{LockTable, key_of, shares, admits, grants, Replies, released, without_session}
 
 abbrev pub IsSession : ℕ → Type 0
 IsSession sid = (1 ≤ sid) × (sid ≤ most_sessions)
@@ -56,7 +56,7 @@ pub data LockTurn : Type 0 where
 abbrev pub LockStep : LockTable → LockTurn → LockTable → Type 0
 LockStep old (asks sid key reply) new = IsSession sid × Replies old sid key reply new
 LockStep old (releases sid) new = IsSession sid × (new ≡ released old sid)
-LockStep old (leaves sid) new = IsSession sid × (new ≡ left old sid)
+LockStep old (leaves sid) new = IsSession sid × (new ≡ without_session old sid)
 
 abbrev pub KeepsOrder : LockTable → LockTurn → LockTable → Type 0
 KeepsOrder old turn new = IsOrderly old → LockStep old turn new → IsOrderly new

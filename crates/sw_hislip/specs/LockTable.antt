@@ -122,5 +122,5 @@ abbrev pub released : LockTable → ℕ → LockTable
 released l sid = if excludes l sid then without_exclusive l else (if shares l sid then with_key l sid None else l)
 
 -- a session that leaves frees both
-abbrev pub left : LockTable → ℕ → LockTable
-left l sid = with_key (if excludes l sid then without_exclusive l else l) sid None
+abbrev pub without_session : LockTable → ℕ → LockTable
+without_session l sid = with_key (if excludes l sid then without_exclusive l else l) sid None

@@ -5,7 +5,7 @@ ghost use Rattle.std.specs.List.{list_all};
 ghost use Rattle.sw_hislip.specs.LockTable.{no_locks, agrees, shares, other_excludes, admits, excludes, holds, holders};
 ghost use Rattle.sw_hislip.specs.LockTable.{is_wrong_key, grants_shared, with_key, Replies, RepliesBy, MayLackMemory};
 ghost use Rattle.sw_base.specs.Limits.{most_sessions};
-ghost use Rattle.sw_hislip.specs.LockTable.{freed, released, left};
+ghost use Rattle.sw_hislip.specs.LockTable.{freed, released, without_session};
 ghost use Rattle.sw_hislip.specs.LockRules.{IsOrderly};
 
 use std::alloc::{AllocError, Global};
@@ -133,7 +133,7 @@ impl Locks {
     /// Frees every lock of a session that leaves.
     pub fn leave(&mut self, sid: u8)
         requires { (1 ≤ sid) × (sid ≤ most_sessions) }
-        ensures { self.new ≡ left self.old sid }
+        ensures { self.new ≡ without_session self.old sid }
     {
         if self.excludes(sid) {
             self.exclusive = None;

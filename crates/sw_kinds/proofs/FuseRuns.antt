@@ -7,8 +7,8 @@ use Rattle.std.specs.Prelude.{IsErr, if◌then◌else◌, ◌==◌}
 use Rattle.sw_base.specs.declared.reading.Reading.{Reading}
 use Rattle.sw_card.specs.declared.board.CardFault.{CardFault}
 use Rattle.sw_kinds.specs.Fuse.{left_after, is_failing, DrivesByFuse, DrivesByOpenFuse, SamplesByFuse}
-use Rattle.sw_kinds.specs.FuseRuns.{switch, cut, Made, Switches, Cuts, is_closing, is_opening, HasFailed, Does, Calls, Runs, counted}
-use Rattle.sw_kinds.specs.FuseRuns.{IsNumbered, FailsByNumber, NeverFails}
+use Rattle.sw_kinds.specs.FuseRuns.{switch, cut, Made, Switches, Cuts, is_closing, is_opening, HasFailed, MakesCall, Calls, RunsCalls, count_of}
+use Rattle.sw_kinds.specs.FuseRuns.{IsCallNumber, FailsByNumber, NeverFails}
 
 -- each call through a fuse: it is counted, it fails where it is the failing one, and else passes
 pub record ByCountdown {S M : Type 0} (counts : M → Bool) (Failed : M → Type 0) (through : Calls (S × Option ℕ) M) (does : Calls S M) : Type 0 where
@@ -38,7 +38,7 @@ is_at true None h k = grind (arith, common_steps, k)
 is_at true (Some left) h k = grind (arith, common_steps, k)
 
 pub numbered : {S M : Type 0} (counts : M → Bool) (Failed : M → Type 0) (through : Calls (S × Option ℕ) M) (does : Calls S M)
-    → ByCountdown counts Failed through does → (f end : S × Option ℕ) (before after : List M) (m : M) → Runs through f (before ++ m ∷ after) end
+    → ByCountdown counts Failed through does → (f end : S × Option ℕ) (before after : List M) (m : M) → RunsCalls through f (before ++ m ∷ after) end
     → FailsByNumber counts Failed does f.1 before m
 numbered counts Failed through does by f end [] after m runs = record {
   fails = λ n. by.reports f runs.0 m runs.1 (is_at (counts m) f.1 n.counts_it n.same);
@@ -51,17 +51,17 @@ numbered counts Failed through does by f end (x ∷ before) after m runs =
     let next : runs.0.1 ≡ left_after (counts x) f.1 = by.count f runs.0 x runs.1 in
     let tail = numbered counts Failed through does by runs.0 end before after m runs.2 in
     record {
-      fails = λ n. tail.fails (record { counts_it = n.counts_it; same = next ∙ later (counts x) f.1 (counted counts before) n.same });
+      fails = λ n. tail.fails (record { counts_it = n.counts_it; same = next ∙ later (counts x) f.1 (count_of counts before) n.same });
       passes = λ none. tail.passes
-          (λ n. none (record { counts_it = n.counts_it; same = earlier (counts x) f.1 (counted counts before) (sym next ∙ n.same) }));
+          (λ n. none (record { counts_it = n.counts_it; same = earlier (counts x) f.1 (count_of counts before) (sym next ∙ n.same) }));
     }
 
 decided : {M : Type 0} (counts : M → Bool) (number : Option ℕ) (before : List M) (m : M)
-    → IsNumbered counts number before m ⊎ (IsNumbered counts number before m → ⊥)
-decided counts None before m = inr (λ n. let h : None ≡ Some (counted counts before + 1) = n.same in cc)
+    → IsCallNumber counts number before m ⊎ (IsCallNumber counts number before m → ⊥)
+decided counts None before m = inr (λ n. let h : None ≡ Some (count_of counts before + 1) = n.same in cc)
 decided counts (Some k) before m =
     elim (cases_Bool (counts m)) [
-      | inl on ↦ elim (cases_Bool (k == (counted counts before + 1))) [
+      | inl on ↦ elim (cases_Bool (k == (count_of counts before + 1))) [
         | inl same ↦ inl (record { counts_it = on; same = grind (arith, common_steps, same) })
         | inr other ↦ inr (λ n. let h = n.same in grind (arith, common_steps, other, h))
       ]
@@ -69,7 +69,7 @@ decided counts (Some k) before m =
     ]
 
 pub only_numbered : {S M : Type 0} (counts : M → Bool) (Failed : M → Type 0) (does : Calls S M) → NeverFails Failed does
-    → (number : Option ℕ) (before : List M) (m : M) → FailsByNumber counts Failed does number before m → Failed m → IsNumbered counts number before m
+    → (number : Option ℕ) (before : List M) (m : M) → FailsByNumber counts Failed does number before m → Failed m → IsCallNumber counts number before m
 only_numbered counts Failed does never number before m h failed =
     elim (decided counts number before m) [
       | inl n ↦ n
@@ -90,10 +90,10 @@ abbrev pub fuse_samples : {S : Type 0} → Calls S (Result Reading CardFault) �
 fuse_samples samples = λ f result g. SamplesByFuse samples f result g
 
 pub closings_by : {D : Type 0} (drives : Switches D) (cuts : Cuts D) (driven : D → ℕ → Bool)
-    → ByCountdown is_closing HasFailed (Does (fuse_switches drives driven) (fuse_cuts cuts)) (Does drives cuts)
+    → ByCountdown is_closing HasFailed (MakesCall (fuse_switches drives driven) (fuse_cuts cuts)) (MakesCall drives cuts)
 closings_by {D} drives cuts driven = record { count = count; reports = reports; passes = passes } where
   through : Calls (D × Option ℕ) Made
-  through = Does (fuse_switches drives driven) (fuse_cuts cuts)
+  through = MakesCall (fuse_switches drives driven) (fuse_cuts cuts)
 
   count : (f g : D × Option ℕ) (m : Made) → through f m g → g.1 ≡ left_after (is_closing m) f.1
   count f g (switch ch on, answer) d = d.counted
@@ -103,15 +103,15 @@ closings_by {D} drives cuts driven = record { count = count; reports = reports; 
   reports f g (switch ch on, answer) d h = d.reports h
   reports f g (cut, answer) d h = absurd (let no : false ≡ true = h in cc)
 
-  passes : (f g : D × Option ℕ) (m : Made) → through f m g → is_failing (is_closing m) f.1 ≡ false → Does drives cuts f.0 m g.0
+  passes : (f g : D × Option ℕ) (m : Made) → through f m g → is_failing (is_closing m) f.1 ≡ false → MakesCall drives cuts f.0 m g.0
   passes f g (switch ch on, answer) d h = d.passes h
   passes f g (cut, answer) d h = (d.0.0, d.1)
 
 pub openings_by : {D : Type 0} (drives : Switches D) (cuts : Cuts D)
-    → ByCountdown is_opening HasFailed (Does (open_fuse_switches drives) (fuse_cuts cuts)) (Does drives cuts)
+    → ByCountdown is_opening HasFailed (MakesCall (open_fuse_switches drives) (fuse_cuts cuts)) (MakesCall drives cuts)
 openings_by {D} drives cuts = record { count = count; reports = reports; passes = passes } where
   through : Calls (D × Option ℕ) Made
-  through = Does (open_fuse_switches drives) (fuse_cuts cuts)
+  through = MakesCall (open_fuse_switches drives) (fuse_cuts cuts)
 
   count : (f g : D × Option ℕ) (m : Made) → through f m g → g.1 ≡ left_after (is_opening m) f.1
   count f g (switch ch on, answer) d = d.counted
@@ -121,7 +121,7 @@ openings_by {D} drives cuts = record { count = count; reports = reports; passes 
   reports f g (switch ch on, answer) d h = d.reports h
   reports f g (cut, answer) d h = absurd (let no : false ≡ true = h in cc)
 
-  passes : (f g : D × Option ℕ) (m : Made) → through f m g → is_failing (is_opening m) f.1 ≡ false → Does drives cuts f.0 m g.0
+  passes : (f g : D × Option ℕ) (m : Made) → through f m g → is_failing (is_opening m) f.1 ≡ false → MakesCall drives cuts f.0 m g.0
   passes f g (switch ch on, answer) d h = d.passes h
   passes f g (cut, answer) d h = (d.0.0, d.1)
 

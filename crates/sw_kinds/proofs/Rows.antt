@@ -10,7 +10,7 @@ use Rattle.sw_card.specs.Mask.{in_mask, states_of}
 use Rattle.sw_card.proofs.Bits.{split_at}
 use Rattle.sw_card.proofs.Masks.{length-states, states_none, states_set, closed_states, closed_states_past}
 use Rattle.sw_card.proofs.Rows.{none_replicate, within_same}
-use Rattle.sw_kinds.specs.Row.{HoldsDriven, counted}
+use Rattle.sw_kinds.specs.Row.{HoldsDriven, failure_counted}
 
 -- after all channels were opened
 pub account_none : (old : Account) (serial failures n group mask empty : ℕ) → relay_account serial failures (replicate n group) (states_of mask n) ≡ old
@@ -92,11 +92,12 @@ kept_clear driven n mask new ch h off others = kept driven n mask new h (λ k on
     others k (λ e. let no : true ≡ false = sym on ∙ ap driven e ∙ off in cc) ∙ inside)
 
 -- after a fault nothing is closed but what might be, since exactly that is
-pub within_set : {T E : Type 0} (result : Result T E) (old new : Account) (ch : ℕ) (on : Bool) → OnErr result (new ≡ counted (with_set old ch on))
+pub within_set : {T E : Type 0} (result : Result T E) (old new : Account) (ch : ℕ) (on : Bool) → OnErr result (new ≡ failure_counted (with_set old ch on))
     → OnErr result (IsWithin new.closed (set_closed old.closed ch on))
 within_set (Ok x) old new ch on h = tt
 within_set (Err e) old new ch on h = rw (ap (λ (a : Account). a.closed) h) (within_same (set_closed old.closed ch on))
 
-pub within_old : {T E : Type 0} (result : Result T E) (old new : Account) → OnErr result (new ≡ counted old) → OnErr result (IsWithin new.closed old.closed)
+pub within_old : {T E : Type 0} (result : Result T E) (old new : Account) → OnErr result (new ≡ failure_counted old)
+    → OnErr result (IsWithin new.closed old.closed)
 within_old (Ok x) old new h = tt
 within_old (Err e) old new h = rw (ap (λ (a : Account). a.closed) h) (within_same old.closed)

@@ -11,5 +11,5 @@ pub record HoldsDriven (driven : ℕ → Bool) (channels mask : ℕ) : Type 0 wh
   pub held : (k : ℕ) → driven k ≡ true → closed_at (states_of mask channels) k ≡ true
 
 -- the card with one more failure counted
-abbrev pub counted : Account → Account
-counted a = record a { failures = (a.failures + 1) % 2 ^ 64 }
+abbrev pub failure_counted : Account → Account
+failure_counted a = record a { failures = (a.failures + 1) % 2 ^ 64 }

@@ -2,7 +2,7 @@
 
 ghost use Rattle.std.specs.Prelude.{◌≡◌, ℕ, Option};
 ghost use Rattle.sw_kinds.specs.Fuse.{DrivesByFuse};
-ghost use Rattle.sw_kinds.specs.FuseRuns.{Does, is_closing, HasFailed, FailByNumber, NeverFails, FailOnlyByNumber};
+ghost use Rattle.sw_kinds.specs.FuseRuns.{MakesCall, is_closing, HasFailed, FailByNumber, NeverFails, FailOnlyByNumber};
 
 use crate::countdown::Countdown;
 use crate::driver::Driver;
@@ -61,8 +61,8 @@ impl<D: Driver> Driver for Fuse<D> {
 /// from 1, and every other call answers what the driver behind it answered. Over a driver that never fails that closing
 /// is the one call that fails.
 pub fn one_closing_fails<D: Driver>()
-    ensures numbered { let through = Does ⟦<Fuse<D> as Driver>⟧.drives ⟦<Fuse<D> as Driver>⟧.cuts in
-        FailByNumber is_closing HasFailed through (Does D.drives D.cuts) }
-    ensures exactly { let through = Does ⟦<Fuse<D> as Driver>⟧.drives ⟦<Fuse<D> as Driver>⟧.cuts in
-        NeverFails HasFailed (Does D.drives D.cuts) → FailOnlyByNumber is_closing HasFailed through }
+    ensures numbered { let through = MakesCall ⟦<Fuse<D> as Driver>⟧.drives ⟦<Fuse<D> as Driver>⟧.cuts in
+        FailByNumber is_closing HasFailed through (MakesCall D.drives D.cuts) }
+    ensures exactly { let through = MakesCall ⟦<Fuse<D> as Driver>⟧.drives ⟦<Fuse<D> as Driver>⟧.cuts in
+        NeverFails HasFailed (MakesCall D.drives D.cuts) → FailOnlyByNumber is_closing HasFailed through }
 {}

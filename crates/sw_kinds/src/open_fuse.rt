@@ -2,7 +2,7 @@
 
 ghost use Rattle.std.specs.Prelude.{◌≡◌, ℕ, Option};
 ghost use Rattle.sw_kinds.specs.Fuse.{DrivesByOpenFuse};
-ghost use Rattle.sw_kinds.specs.FuseRuns.{Does, is_opening, HasFailed, FailByNumber, NeverFails, FailOnlyByNumber};
+ghost use Rattle.sw_kinds.specs.FuseRuns.{MakesCall, is_opening, HasFailed, FailByNumber, NeverFails, FailOnlyByNumber};
 
 use crate::countdown::Countdown;
 use crate::driver::Driver;
@@ -59,8 +59,8 @@ impl<D: Driver> Driver for OpenFuse<D> {
 /// from 1, and every other call answers what the driver behind it answered. Over a driver that never fails that opening
 /// is the one call that fails.
 pub fn one_opening_fails<D: Driver>()
-    ensures numbered { let through = Does ⟦<OpenFuse<D> as Driver>⟧.drives ⟦<OpenFuse<D> as Driver>⟧.cuts in
-        FailByNumber is_opening HasFailed through (Does D.drives D.cuts) }
-    ensures exactly { let through = Does ⟦<OpenFuse<D> as Driver>⟧.drives ⟦<OpenFuse<D> as Driver>⟧.cuts in
-        NeverFails HasFailed (Does D.drives D.cuts) → FailOnlyByNumber is_opening HasFailed through }
+    ensures numbered { let through = MakesCall ⟦<OpenFuse<D> as Driver>⟧.drives ⟦<OpenFuse<D> as Driver>⟧.cuts in
+        FailByNumber is_opening HasFailed through (MakesCall D.drives D.cuts) }
+    ensures exactly { let through = MakesCall ⟦<OpenFuse<D> as Driver>⟧.drives ⟦<OpenFuse<D> as Driver>⟧.cuts in
+        NeverFails HasFailed (MakesCall D.drives D.cuts) → FailOnlyByNumber is_opening HasFailed through }
 {}

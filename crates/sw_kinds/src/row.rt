@@ -5,7 +5,7 @@ ghost use Rattle.sw_base.specs.Layout.{has_channel};
 ghost use Rattle.sw_base.specs.Limits.{most_channels};
 ghost use Rattle.sw_card.specs.Account.{Account, relay_account, closed_at, with_set, at_rest};
 ghost use Rattle.sw_card.specs.Mask.{states_of};
-ghost use Rattle.sw_kinds.specs.Row.{HoldsDriven, counted};
+ghost use Rattle.sw_kinds.specs.Row.{HoldsDriven, failure_counted};
 
 use crate::coils::Coils;
 use crate::driver::Driver;
@@ -118,7 +118,7 @@ impl<D: Driver, K> Row<D, K> {
         ensures driver { D.drives self.old.0 ch on result self.new.0 }
         ensures driven { OnOk result (D.driven self.new.0 ch ≡ on) }
         ensures ok { OnOk result (self.new.1 ≡ self.old.1) }
-        ensures err { OnErr result (self.new.1 ≡ counted self.old.1) }
+        ensures err { OnErr result (self.new.1 ≡ failure_counted self.old.1) }
     {
         let outcome = self.coils.drive(ch, on);
         if outcome.is_err() {
@@ -169,7 +169,7 @@ impl<D: Driver, K> Relay for Row<D, K> {
         requires open { closed_at self.old.1.closed ch ≡ false }
         ensures driver { D.drives self.old.0 ch true result self.new.0 }
         ensures ok { OnOk result (self.new.1 ≡ with_set self.old.1 ch true) }
-        ensures err { OnErr result (self.new.1 ≡ counted (with_set self.old.1 ch true)) }
+        ensures err { OnErr result (self.new.1 ≡ failure_counted (with_set self.old.1 ch true)) }
     {
         self.closed.insert(ch);
         self.drive(ch, true)
@@ -180,7 +180,7 @@ impl<D: Driver, K> Relay for Row<D, K> {
         requires { closed_at self.old.1.closed ch ≡ true }
         ensures driver { D.drives self.old.0 ch false result self.new.0 }
         ensures ok { OnOk result (self.new.1 ≡ with_set self.old.1 ch false) }
-        ensures err { OnErr result (self.new.1 ≡ counted self.old.1) }
+        ensures err { OnErr result (self.new.1 ≡ failure_counted self.old.1) }
     {
         self.drive(ch, false)?;
         self.closed.remove(ch);

@@ -2,7 +2,7 @@
 use Rattle.std.proofs.Common.{◌≡◌, ℕ, Bool, true, false, not, List, [], ◌∷◌, refl, sym, ap, subst, ◌∙◌, inl, inr, IsTrue}
 use Rattle.std.specs.Prelude.{◌==◌, ◌&&◌, ◌||◌}
 use Rattle.std.proofs.lemmas.Bool.{and_parts, eq-eqb, eqb-true, cases_Bool}
-use Rattle.sw_lex.specs.Table.{Entry, table, entries}
+use Rattle.sw_lex.specs.Table.{HeaderEntry, table, entries}
 use Rattle.sw_lex.specs.declared.table.Key.{Key}
 use Rattle.sw_lex.specs.Found.{IsIn, Spelling, spellings, IsFound}
 use Rattle.sw_lex.proofs.Spelled.{all_short, all_fit}
@@ -94,20 +94,21 @@ agree ws k m (s ∷ ss) t h g =
       ]
     ]
 
-apart_at : (r q : Entry) (es : List Entry) → apart_from r es ≡ true → IsIn q es → r.query ≡ q.query → disjoint (spellings r.nodes) (spellings q.nodes) ≡ true
+apart_at : (r q : HeaderEntry) (es : List HeaderEntry) → apart_from r es ≡ true → IsIn q es → r.query ≡ q.query
+    → disjoint (spellings r.nodes) (spellings q.nodes) ≡ true
 apart_at r q [] t h e = absurd h
 apart_at r q (x ∷ es) t h e =
     let p = and_parts (not (same_bool r.query x.query) || disjoint (spellings r.nodes) (spellings x.nodes)) (apart_from r es) t in
     elim h [
       | inl i ↦
           let b : same_bool r.query x.query ≡ true =
-          subst (λ (y : Bool). same_bool r.query y ≡ true) (e ∙ ap (λ (y : Entry). y.query) i) (same_bool-refl r.query) in
+          subst (λ (y : Bool). same_bool r.query y ≡ true) (e ∙ ap (λ (y : HeaderEntry). y.query) i) (same_bool-refl r.query) in
           let z : disjoint (spellings r.nodes) (spellings x.nodes) ≡ true = rw b at p.0 in
-          subst (λ (y : Entry). disjoint (spellings r.nodes) (spellings y.nodes) ≡ true) (sym i) z
+          subst (λ (y : HeaderEntry). disjoint (spellings r.nodes) (spellings y.nodes) ≡ true) (sym i) z
       | inr i ↦ apart_at r q es p.1 i e
     ]
 
-one_entry : (es : List Entry) → all_apart es ≡ true → (r q : Entry) (ws : List (List ℕ)) (k m : ℕ) → IsIn r es → IsIn q es → r.query ≡ q.query
+one_entry : (es : List HeaderEntry) → all_apart es ≡ true → (r q : HeaderEntry) (ws : List (List ℕ)) (k m : ℕ) → IsIn r es → IsIn q es → r.query ≡ q.query
     → IsIn (ws, k) (spellings r.nodes) → IsIn (ws, m) (spellings q.nodes) → (r.key ≡ q.key) × (k ≡ m)
 one_entry [] t r q ws k m h g e a b = absurd h
 one_entry (x ∷ es) t r q ws k m h g e a b =
@@ -116,21 +117,22 @@ one_entry (x ∷ es) t r q ws k m h g e a b =
     elim h [
       | inl i ↦ elim g [
         | inl j ↦ (
-          ap (λ (y : Entry). y.key) (i ∙ sym j),
-          agree ws k m (spellings x.nodes) s.0 (subst (λ (y : Entry). IsIn (ws, k) (spellings y.nodes)) i a)
-              (subst (λ (y : Entry). IsIn (ws, m) (spellings y.nodes)) j b),
+          ap (λ (y : HeaderEntry). y.key) (i ∙ sym j),
+          agree ws k m (spellings x.nodes) s.0 (subst (λ (y : HeaderEntry). IsIn (ws, k) (spellings y.nodes)) i a)
+              (subst (λ (y : HeaderEntry). IsIn (ws, m) (spellings y.nodes)) j b),
         )
-        | inr j ↦ absurd (disjoint_not ws k m (spellings x.nodes) (spellings q.nodes) (apart_at x q es p.0 j (ap (λ (y : Entry). y.query) (sym i) ∙ e))
-            (subst (λ (y : Entry). IsIn (ws, k) (spellings y.nodes)) i a) b)
+        | inr j ↦ absurd (disjoint_not ws k m (spellings x.nodes) (spellings q.nodes) (apart_at x q es p.0 j (ap (λ (y : HeaderEntry). y.query) (sym i) ∙ e))
+            (subst (λ (y : HeaderEntry). IsIn (ws, k) (spellings y.nodes)) i a) b)
       ]
       | inr i ↦ elim g [
-        | inl j ↦ absurd (disjoint_not ws m k (spellings x.nodes) (spellings r.nodes) (apart_at x r es p.0 i (ap (λ (y : Entry). y.query) (sym j) ∙ sym e))
-            (subst (λ (y : Entry). IsIn (ws, m) (spellings y.nodes)) j b) a)
+        | inl j ↦ absurd (disjoint_not ws m k (spellings x.nodes) (spellings r.nodes)
+            (apart_at x r es p.0 i (ap (λ (y : HeaderEntry). y.query) (sym j) ∙ sym e))
+            (subst (λ (y : HeaderEntry). IsIn (ws, m) (spellings y.nodes)) j b) a)
         | inr j ↦ one_entry es s.1 r q ws k m i j e a b
       ]
     ]
 
-pub one_found : (es : List Entry) → all_apart es ≡ true → (ws : List (List ℕ)) (query : Bool) (key other : Key) (k m : ℕ) → IsFound es ws query key k
+pub one_found : (es : List HeaderEntry) → all_apart es ≡ true → (ws : List (List ℕ)) (query : Bool) (key other : Key) (k m : ℕ) → IsFound es ws query key k
     → IsFound es ws query other m → (key ≡ other) × (k ≡ m)
 one_found es t ws query key other k m f g =
     let r = one_entry es t f.entry g.entry ws k m f.listed g.listed (f.query_is ∙ sym g.query_is) f.spelled g.spelled in

@@ -9,7 +9,7 @@ use Rattle.sw_base.proofs.Runs.{same_span, one_span}
 use Rattle.sw_lex.specs.declared.elements.Kind.{Kind}
 use Rattle.sw_lex.specs.declared.elements.Kind.TheVariants as kinds
 use Rattle.sw_lex.specs.Elements.{is_numeric, is_quote, is_inner, kind_of_byte, kind_at, IsExpression, IsElement}
-use Rattle.sw_lex.specs.Unit.{Datum, number, character, string, block, expression, datum_with, datum_text, kind_of, Leads}
+use Rattle.sw_lex.specs.Unit.{Datum, number, character, string, block, expression, datum_with, datum_text, kind_of, LeadsElement}
 use Rattle.sw_lex.proofs.Numbers.{Tail, span_tail, one_numeral, numeral_tail}
 use Rattle.sw_lex.proofs.Quotes.{one_string, string_tail}
 use Rattle.sw_lex.proofs.Blocks.{one_block, block_tail}
@@ -96,7 +96,7 @@ element_tail kinds.Expression text rest p =
 pub one_kind : (text : List ℕ) (k j : Kind) → kind_at text ≡ Some k → kind_at text ≡ Some j → k ≡ j
 one_kind text k j e f = let g : Some k ≡ Some j = sym e ∙ f in cc
 
-pub one_leads : (text : List ℕ) (d c : Datum) (a b : List ℕ) → Leads text d a → Leads text c b → (d ≡ c) × (a ≡ b)
+pub one_leads : (text : List ℕ) (d c : Datum) (a b : List ℕ) → LeadsElement text d a → LeadsElement text c b → (d ≡ c) × (a ≡ b)
 one_leads text d c a b p q =
     let k = one_kind text (kind_of d) (kind_of c) p.starts q.starts in
     let r = one_rest (kind_of d) text a b p.form (subst (λ (x : Kind). IsElement x text b) (sym k) q.form) in
@@ -105,7 +105,7 @@ one_leads text d c a b p q =
     (sym (with_text d) ∙ ap (λ (x : Kind). datum_with x (datum_text d)) k ∙ ap (λ (x : List ℕ). datum_with (kind_of c) x) t ∙ with_text c, r)
 
 pub leads_is : (text : List ℕ) (k : Kind) (t rest : List ℕ) → kind_at text ≡ Some k → IsElement k text rest → text ≡ t ++ rest
-    → Leads text (datum_with k t) rest
+    → LeadsElement text (datum_with k t) rest
 leads_is text k t rest e f w = record {
   starts = e ∙ ap (λ (x : Kind). Some x) (sym (kind_with k t));
   form = subst (λ (x : Kind). IsElement x text rest) (sym (kind_with k t)) f;

@@ -3,8 +3,8 @@ use Rattle.std.proofs.Common.{◌≡◌, ℕ, Bool, List, [], ◌∷◌, map, re
 use Rattle.sw_lex.specs.declared.table.Key.{Key}
 use Rattle.sw_lex.specs.declared.rows.Row.{Row}
 use Rattle.sw_lex.specs.declared.rows.Group.{Group}
-use Rattle.sw_lex.specs.Table.{Node, must, Entry}
-use Rattle.sw_lex.specs.Rows.{nodes_at, steps_of, entry_at, entries_of, MatchesRow, Matches}
+use Rattle.sw_lex.specs.Table.{Node, must, HeaderEntry}
+use Rattle.sw_lex.specs.Rows.{nodes_at, row_steps, entry_at, entries_of, MatchesRow, Matches}
 use Rattle.sw_lex.specs.Found.{IsIn, IsForm, Fits, IsFound}
 use Rattle.sw_lex.proofs.Spelled.{in_left, in_right, in_cases, fits_listed, listed_fits}
 
@@ -20,22 +20,22 @@ row_found first w (row ∷ rows) ws query key k i m =
         listed = inl refl;
         query_is = a.0;
         key_is = a.1;
-        spelled = fits_listed (must first ∷ nodes_at (steps_of row)) (w ∷ ws) k (i, a.2);
+        spelled = fits_listed (must first ∷ nodes_at (row_steps row)) (w ∷ ws) k (i, a.2);
       }
       | inr b ↦
           let f = row_found first w rows ws query key k i b in
           record { entry = f.entry; listed = inr f.listed; query_is = f.query_is; key_is = f.key_is; spelled = f.spelled }
     ]
 
-at_row : (first w : List ℕ) (rows : List Row) (e : Entry) (ws : List (List ℕ)) (k : ℕ) → IsIn e (map (entry_at first) rows) → Fits e.nodes (w ∷ ws) k
+at_row : (first w : List ℕ) (rows : List Row) (e : HeaderEntry) (ws : List (List ℕ)) (k : ℕ) → IsIn e (map (entry_at first) rows) → Fits e.nodes (w ∷ ws) k
     → IsForm first w × MatchesRow rows ws e.query e.key k
 at_row first w [] e ws k h f = absurd h
 at_row first w (row ∷ rows) e ws k h f =
     elim h [
       | inl i ↦
-          let n : e.nodes ≡ must first ∷ nodes_at (steps_of row) = ap (λ (d : Entry). d.nodes) i in
+          let n : e.nodes ≡ must first ∷ nodes_at (row_steps row) = ap (λ (d : HeaderEntry). d.nodes) i in
           let t = subst (λ (ns : List Node). Fits ns (w ∷ ws) k) n f in
-          (t.0, inl (sym (ap (λ (d : Entry). d.query) i), sym (ap (λ (d : Entry). d.key) i), t.1))
+          (t.0, inl (sym (ap (λ (d : HeaderEntry). d.query) i), sym (ap (λ (d : HeaderEntry). d.key) i), t.1))
       | inr r ↦ let t = at_row first w rows e ws k r f in (t.0, inr t.1)
     ]
 
@@ -67,7 +67,7 @@ matches_found (group ∷ groups) w ws query key k m =
           }
     ]
 
-at_entry : (groups : List Group) (e : Entry) (w : List ℕ) (ws : List (List ℕ)) (k : ℕ) → IsIn e (entries_of groups) → Fits e.nodes (w ∷ ws) k
+at_entry : (groups : List Group) (e : HeaderEntry) (w : List ℕ) (ws : List (List ℕ)) (k : ℕ) → IsIn e (entries_of groups) → Fits e.nodes (w ∷ ws) k
     → Matches groups w ws e.query e.key k
 unfolding entries_of
 at_entry [] e w ws k h f = absurd h
@@ -77,7 +77,8 @@ at_entry (group ∷ groups) e w ws k h f =
       | inr b ↦ inr (at_entry groups e w ws k b f)
     ]
 
-pub found_matches : (groups : List Group) (w : List ℕ) (ws : List (List ℕ)) (query : Bool) (key : Key) (k : ℕ) → IsFound (entries_of groups) (w ∷ ws) query key k
+pub found_matches : (groups : List Group) (w : List ℕ) (ws : List (List ℕ)) (query : Bool) (key : Key) (k : ℕ)
+    → IsFound (entries_of groups) (w ∷ ws) query key k
     → Matches groups w ws query key k
 found_matches groups w ws query key k f =
     let m = at_entry groups f.entry w ws k f.listed (listed_fits f.entry.nodes (w ∷ ws) k f.spelled) in

@@ -9,13 +9,13 @@ use Rattle.sw_lex.specs.declared.command.Command.{Command}
 use Rattle.sw_lex.specs.declared.command.Command.TheVariants as commands
 use Rattle.sw_lex.specs.declared.table.Key.{Key}
 use Rattle.sw_lex.specs.declared.table.Key.TheVariants as keys
-use Rattle.sw_lex.specs.Unit.{Datum, number, character, string, block, expression, UnitView}
-use Rattle.sw_lex.specs.Table.{Entry, entries}
+use Rattle.sw_lex.specs.Unit.{Datum, number, character, string, block, expression, UnitSeen}
+use Rattle.sw_lex.specs.Table.{HeaderEntry, entries}
 use Rattle.sw_lex.specs.Found.{IsIn, spellings, IsFound}
-use Rattle.sw_lex.specs.Commands.{layer_of, of_common, of_instrument, of_layer, of_group, of_channels}
+use Rattle.sw_lex.specs.Commands.{layer_numbered, of_common, of_instrument, of_layer, of_group, of_channels}
 use Rattle.sw_lex.specs.Values.{on_ok, IsQuantity, ReadsQuantity, ReadsString, ReadsBlock, whole_of, continuous_of, macros_of, delay_of, source_meant}
 use Rattle.sw_lex.specs.Meaning.{Nodes, asked, path_after, WithNone, WithList, OfList, WithString, OfString, Defines, OfMacro, WithNumber, OfNumber, OfWord}
-use Rattle.sw_lex.specs.Meaning.{OfSwitch, Decodes, Resolves}
+use Rattle.sw_lex.specs.Meaning.{OfSwitch, DecodesCommand, Resolves}
 use Rattle.sw_base.specs.Text.{is_blank, Spans}
 use Rattle.sw_base.specs.Number.{Written}
 use Rattle.sw_base.proofs.Runs.{one_span}
@@ -167,31 +167,33 @@ one_of_macro (string t ∷ block u ∷ []) r s a b n m =
     one_defines u a.0 r s a.2 (subst (λ (x : Result (List ℕ) ScpiError). Defines u x s) (sym e) b.2) n m
 one_of_macro (d ∷ c ∷ e ∷ ds) r s a b n m = a ∙ sym b
 
-one_decoded : (key : Key) (k : ℕ) (ds : List Datum) (r s : Result Command ScpiError) → Decodes key k ds r → Decodes key k ds s → r ≢ Err OutOfMemory
+one_decoded : (key : Key) (k : ℕ) (ds : List Datum) (r s : Result Command ScpiError) → DecodesCommand key k ds r → DecodesCommand key k ds s
+    → r ≢ Err OutOfMemory
     → s ≢ Err OutOfMemory → r ≡ s
 one_decoded (keys.Common ask) k ds r s a b n m = one_none (of_common ask) ds r s a b
 one_decoded (keys.Instrument ask) k ds r s a b n m = one_none (of_instrument ask) ds r s a b
-one_decoded (keys.Layer ask family) k ds r s a b n m = one_none (of_layer ask (layer_of family k)) ds r s a b
+one_decoded (keys.Layer ask family) k ds r s a b n m = one_none (of_layer ask (layer_numbered family k)) ds r s a b
 one_decoded (keys.Group ask group) k ds r s a b n m = one_none (of_group ask group) ds r s a b
 one_decoded (keys.Channels ask) k ds r s a b n m = one_of_list (of_channels ask) ds r s a b n m
 one_decoded (keys.Whole ask) k ds r s a b n m = one_of_number (whole_of ask k) ds r s a b
-one_decoded (keys.Delay family) k ds r s a b n m = one_of_number (delay_of (layer_of family k)) ds r s a b
-one_decoded (keys.Source family) k ds r s a b n m = one_of_word (source_meant (layer_of family k)) ds r s a b
+one_decoded (keys.Delay family) k ds r s a b n m = one_of_number (delay_of (layer_numbered family k)) ds r s a b
+one_decoded (keys.Source family) k ds r s a b n m = one_of_word (source_meant (layer_numbered family k)) ds r s a b
 one_decoded keys.Continuous k ds r s a b n m = one_of_switch ds r s a b
 one_decoded keys.EnableMacros k ds r s a b n m = one_of_number macros_of ds r s a b
 one_decoded keys.DefineMacro k ds r s a b n m = one_of_macro ds r s a b n m
 one_decoded keys.MacroQuery k ds r s a b n m = one_of_string (λ label. commands.MacroQuery label) ds r s a b n m
 one_decoded keys.RemoveMacro k ds r s a b n m = one_of_string (λ label. commands.RemoveMacro label) ds r s a b n m
 
-pub one_meaning : (unit : UnitView) (below : Nodes) (r s : Result Command ScpiError) (a b : Nodes) → Resolves unit below r a → Resolves unit below s b
+pub one_meaning : (unit : UnitSeen) (below : Nodes) (r s : Result Command ScpiError) (a b : Nodes) → Resolves unit below r a → Resolves unit below s b
     → r ≢ Err OutOfMemory → s ≢ Err OutOfMemory → (r ≡ s) × (a ≡ b)
 one_meaning unit below r s a b p q n m =
     elim p [
       | inl c ↦ elim q [
         | inl d ↦
             let k = one_found entries entries_apart (asked unit below) unit.query c.key d.key c.number d.number c.found d.found in
-            let o : Decodes c.key c.number unit.elements s =
-            subst (λ (x : Key). Decodes x c.number unit.elements s) (sym k.0) (subst (λ (x : ℕ). Decodes d.key x unit.elements s) (sym k.1) d.decoded) in
+            let o : DecodesCommand c.key c.number unit.elements s =
+            subst (λ (x : Key). DecodesCommand x c.number unit.elements s) (sym k.0)
+            (subst (λ (x : ℕ). DecodesCommand d.key x unit.elements s) (sym k.1) d.decoded) in
             (one_decoded c.key c.number unit.elements r s c.decoded o n m, c.onward ∙ sym d.onward)
         | inr d ↦ elim d [ inl e ↦ absurd (e.nothing c.key c.number c.found) | inr e ↦ absurd (e.nothing c.key c.number c.found) ]
       ]
@@ -207,14 +209,17 @@ one_meaning unit below r s a b p q n m =
       ]
     ]
 
-pub every_spelling : (entry : Entry) (unit : UnitView) (below : Nodes) (m : ℕ) (r : Result Command ScpiError) (left : Nodes) → IsIn entry entries
+pub every_spelling : (entry : HeaderEntry) (unit : UnitSeen) (below : Nodes) (m : ℕ) (r : Result Command ScpiError) (left : Nodes) → IsIn entry entries
     → entry.query ≡ unit.query → IsIn (asked unit below, m) (spellings entry.nodes) → Resolves unit below r left
-    → Decodes entry.key m unit.elements r × (left ≡ path_after unit.header below)
+    → DecodesCommand entry.key m unit.elements r × (left ≡ path_after unit.header below)
 every_spelling entry unit below m r left i q s h =
     let f : IsFound entries (asked unit below) unit.query entry.key m = record { entry = entry; listed = i; query_is = q; key_is = refl; spelled = s } in
     elim h [
       | inl c ↦
-          let k = one_found entries entries_apart (asked unit below) unit.query c.key entry.key c.number m c.found f in
-          (subst (λ (x : ℕ). Decodes entry.key x unit.elements r) k.1 (subst (λ (x : Key). Decodes x c.number unit.elements r) k.0 c.decoded), c.onward)
+          let k = one_found entries entries_apart (asked unit below) unit.query c.key entry.key c.number m c.found f in (
+            subst (λ (x : ℕ). DecodesCommand entry.key x unit.elements r) k.1
+                (subst (λ (x : Key). DecodesCommand x c.number unit.elements r) k.0 c.decoded),
+            c.onward,
+          )
       | inr d ↦ elim d [ inl e ↦ absurd (e.nothing entry.key m f) | inr e ↦ absurd (e.nothing entry.key m f) ]
     ]

@@ -12,7 +12,7 @@ use Rattle.sw_base.specs.Text.{Lacks}
 use Rattle.sw_lex.specs.Meaning.{Nodes, nodes_of, led_by, looked_up, capitals, asked, IsNone, IsRefusal, Resolves}
 use Rattle.sw_lex.specs.Values.{unnumbered}
 use Rattle.sw_base.specs.declared.error.ScpiError.{ScpiError}
-use Rattle.sw_lex.specs.Unit.{UnitView}
+use Rattle.sw_lex.specs.Unit.{UnitSeen}
 use Rattle.sw_lex.specs.declared.table.Key.{Key}
 use Rattle.sw_lex.specs.Found.{IsFound}
 use Rattle.sw_lex.specs.Table.{entries}
@@ -77,7 +77,7 @@ pub capitals_of : (items : List (Bor (List ℕ))) (all : Nodes) → texts items 
     → map (λ (w : Bor (List ℕ)). map to_ascii_uppercase w.now) items ≡ capitals all
 capitals_of items all e = sym (map-map (λ (t : List ℕ). map to_ascii_uppercase t) (λ (w : Bor (List ℕ)). w.now) items) ∙ ap (λ (t : Nodes). capitals t) e
 
-pub unknown_many : (unit : UnitView) (below : Nodes) → 4 < length (looked_up unit.header below) → Resolves unit below (Err UndefinedHeader) below
+pub unknown_many : (unit : UnitSeen) (below : Nodes) → 4 < length (looked_up unit.header below) → Resolves unit below (Err UndefinedHeader) below
 unknown_many unit below l =
     let ns = looked_up unit.header below in
     let up : List ℕ → List ℕ = λ w. map to_ascii_uppercase w in
@@ -96,7 +96,7 @@ plain_of items nodes e =
     capitals_of items (map (λ (w : Bor (List ℕ)). unnumbered w.now) nodes) e
     ∙ ap (λ (t : Nodes). capitals t) (sym (map-map unnumbered (λ (w : Bor (List ℕ)). w.now) nodes))
 
-pub refused_is : (unit : UnitView) (below nodes : Nodes) (e : ScpiError) → nodes ≡ looked_up unit.header below → IsNone (asked unit below) unit.query
+pub refused_is : (unit : UnitSeen) (below nodes : Nodes) (e : ScpiError) → nodes ≡ looked_up unit.header below → IsNone (asked unit below) unit.query
     → IsRefusal nodes unit.query e → Resolves unit below (Err e) below
 refused_is unit below nodes e h n r =
     elim (subst (λ (x : Nodes). IsRefusal x unit.query e) h r) [

@@ -7,9 +7,10 @@ use Rattle.sw_base.specs.Text.{is_blank, is_digit, StartsOff, Spans}
 use Rattle.sw_base.proofs.Runs.{same_span, one_span}
 use Rattle.sw_base.specs.declared.error.ScpiError.{ScpiError}
 use Rattle.sw_base.specs.declared.error.ScpiError.TheVariants.{DataTypeError, InvalidSeparator, InvalidExpression}
-use Rattle.sw_lex.specs.Unit.{Heading, Heads, Asks, Datum, kind_of, Leads, Ends, IsNext, IsLast, IsData, IsTail, UnitView, IsUnit, Reaches, IsStuck}
+use Rattle.sw_lex.specs.Unit.{Heading, Heads, Asks, Datum, kind_of, LeadsElement, Ends, IsNext, IsLast, IsData, IsTail, UnitSeen, IsUnit, ReachesElement}
+use Rattle.sw_lex.specs.Unit.{IsStuck}
 use Rattle.sw_lex.specs.Unit.{BeginsNone, IsSeventeenth, IsUnclosed, IsBadBlock, IsBroken, BreaksIn, IsUnseparated, IsDataRefused, IsTailRefused}
-use Rattle.sw_lex.specs.Unit.{IsPartRefused, IsRefused, IsBlank, HasNoHeading, is_gap, fault_at, heading_text}
+use Rattle.sw_lex.specs.Unit.{IsPartRefused, IsRefusedUnit, IsBlank, HasNoHeading, is_gap, fault_at, heading_text}
 use Rattle.sw_lex.specs.declared.elements.Kind.{Kind}
 use Rattle.sw_lex.specs.declared.elements.Kind.TheVariants as kinds
 use Rattle.sw_lex.specs.Elements.{is_inner, IsBlock, IsExpression, IsElement}
@@ -19,7 +20,7 @@ use Rattle.sw_lex.proofs.Shorter.{longer, heading_some}
 
 -- ---- one element
 
-begins_not : (text : List ℕ) (e : ScpiError) (d : Datum) (a : List ℕ) → BeginsNone text e → Leads text d a → ⊥
+begins_not : (text : List ℕ) (e : ScpiError) (d : Datum) (a : List ℕ) → BeginsNone text e → LeadsElement text d a → ⊥
 begins_not text e d a n p = let z : None ≡ Some (kind_of d) = sym n.0 ∙ p.starts in cc
 
 unclosed_not : (text : List ℕ) (e : ScpiError) (a : List ℕ) → IsUnclosed text e → IsExpression text a → ⊥
@@ -88,7 +89,7 @@ one_broken kinds.String text e f u v = u.error ∙ sym v.error
 one_broken kinds.Block text e f u v = one_bad_block text e f u v
 one_broken kinds.Expression text e f u v = one_unclosed text e f u v
 
-breaks_not : (text : List ℕ) (e : ScpiError) (d : Datum) (a : List ℕ) → BreaksIn text e → Leads text d a → ⊥
+breaks_not : (text : List ℕ) (e : ScpiError) (d : Datum) (a : List ℕ) → BreaksIn text e → LeadsElement text d a → ⊥
 breaks_not text e d a u p =
     broken_not u.0 text e a u.2 (subst (λ (x : Kind). IsElement x text a) (one_kind text (kind_of d) u.0 p.starts u.1) p.form)
 
@@ -103,7 +104,7 @@ ends_once [] r s a b = a ∙ sym b
 ends_once (c ∷ more) r s a b = a.1 ∙ sym b.1
 
 -- the white space after one element, and what follows it
-one_gap : (text : List ℕ) (d c : Datum) (a b g h x y : List ℕ) → Leads text d a → Spans is_blank a g x → Leads text c b → Spans is_blank b h y
+one_gap : (text : List ℕ) (d c : Datum) (a b g h x y : List ℕ) → LeadsElement text d a → Spans is_blank a g x → LeadsElement text c b → Spans is_blank b h y
     → (d ≡ c) × (x ≡ y)
 one_gap text d c a b g h x y p s q t =
     let r = one_leads text d c a b p q in
@@ -223,7 +224,8 @@ one_data text (d ∷ b ∷ ds) (c ∷ a ∷ cs) x y p q =
     (ap (λ (z : Datum). z ∷ b ∷ ds) r.0 ∙ ap (λ (zs : List Datum). c ∷ zs) s.0, s.1)
 
 -- data that are read to their end are not refused, with k elements before them
-data_stuck : (k : ℕ) (text : List ℕ) (ds front : List Datum) (x here : List ℕ) (e : ScpiError) → k + length ds ≤ 16 → IsData text ds x → Reaches text front here
+data_stuck : (k : ℕ) (text : List ℕ) (ds front : List Datum) (x here : List ℕ) (e : ScpiError) → k + length ds ≤ 16 → IsData text ds x
+    → ReachesElement text front here
     → IsStuck (k + length front) here e → ⊥
 data_stuck k text [] front x here e l p r s = p
 data_stuck k text (d ∷ []) [] x here e l p r s =
@@ -234,11 +236,11 @@ data_stuck k text (d ∷ []) (f ∷ fs) x here e l p r s = next_last text f d r.
 data_stuck k text (d ∷ b ∷ ds) (f ∷ fs) x here e l p r s =
     let n = one_next text d f p.0 r.0 p.1 r.1 in
     let c : k + length (f ∷ fs) ≡ k + 1 + length fs = omega arith in
-    data_stuck (k + 1) p.0 (b ∷ ds) fs x here e (omega (arith, l)) p.2 (subst (λ (z : List ℕ). Reaches z fs here) (sym n.1) r.2)
+    data_stuck (k + 1) p.0 (b ∷ ds) fs x here e (omega (arith, l)) p.2 (subst (λ (z : List ℕ). ReachesElement z fs here) (sym n.1) r.2)
     (subst (λ (z : ℕ). IsStuck z here e) c s)
 
 stuck_stuck : (k : ℕ) (text : List ℕ) (front others : List Datum) (here there : List ℕ) (e f : ScpiError) → k + length front ≤ 16 → k + length others ≤ 16
-    → Reaches text front here → IsStuck (k + length front) here e → Reaches text others there → IsStuck (k + length others) there f → e ≡ f
+    → ReachesElement text front here → IsStuck (k + length front) here e → ReachesElement text others there → IsStuck (k + length others) there f → e ≡ f
 stuck_stuck k text [] [] here there e f l m r s q t =
     one_stuck (k + 0) here e f s (subst (λ (z : List ℕ). IsStuck (k + 0) z f) (sym q ∙ r) t)
 stuck_stuck k text [] (d ∷ ds) here there e f l m r s q t =
@@ -250,7 +252,7 @@ stuck_stuck k text (d ∷ ds) (c ∷ cs) here there e f l m r s q t =
     let a : k + length (d ∷ ds) ≡ k + 1 + length ds = omega arith in
     let b : k + length (c ∷ cs) ≡ k + 1 + length cs = omega arith in
     stuck_stuck (k + 1) r.0 ds cs here there e f (omega (arith, l)) (omega (arith, m)) r.2 (subst (λ (z : ℕ). IsStuck z here e) a s)
-    (subst (λ (z : List ℕ). Reaches z cs there) (sym n.1) q.2) (subst (λ (z : ℕ). IsStuck z there f) b t)
+    (subst (λ (z : List ℕ). ReachesElement z cs there) (sym n.1) q.2) (subst (λ (z : ℕ). IsStuck z there f) b t)
 
 data_refused : (text : List ℕ) (ds : List Datum) (x : List ℕ) (e : ScpiError) → length ds ≤ 16 → IsData text ds x → IsDataRefused text e → ⊥
 data_refused text ds x e l p r =
@@ -316,17 +318,17 @@ starts text a x b y s t = (one_span is_gap text a x b y s t).1
 blank_start : (text a x : List ℕ) → IsBlank text → Spans is_gap text a x → x ≡ []
 blank_start text a x h s = starts text a x text [] s (record { whole = sym (append-nil text); pass = h; off = tt })
 
-unit_starts : (text : List ℕ) (u : UnitView) (x : List ℕ) (p : IsUnit text u x) → 0 < length p.start
+unit_starts : (text : List ℕ) (u : UnitSeen) (x : List ℕ) (p : IsUnit text u x) → 0 < length p.start
 unit_starts text u x p = omega (arith, longer p.start (heading_text u.header) p.after p.header.whole, heading_some u.header p.header.form)
 
-abbrev view : Heading → Bool → List Datum → UnitView
+abbrev view : Heading → Bool → List Datum → UnitSeen
 view h q ds = record { header = h; query = q; elements = ds }
 
-view_is : (u v : UnitView) → u.header ≡ v.header → u.query ≡ v.query → u.elements ≡ v.elements → u ≡ v
+view_is : (u v : UnitSeen) → u.header ≡ v.header → u.query ≡ v.query → u.elements ≡ v.elements → u ≡ v
 view_is u v a b c =
     ap (λ (h : Heading). view h u.query u.elements) a ∙ ap (λ (q : Bool). view v.header q u.elements) b ∙ ap (λ (ds : List Datum). view v.header v.query ds) c
 
-pub one_unit : (text : List ℕ) (u v : UnitView) (x y : List ℕ) → IsUnit text u x → IsUnit text v y → (u ≡ v) × (x ≡ y)
+pub one_unit : (text : List ℕ) (u v : UnitSeen) (x y : List ℕ) → IsUnit text u x → IsUnit text v y → (u ≡ v) × (x ≡ y)
 one_unit text u v x y p q =
     let a = starts text p.before p.start q.before q.start p.skipped q.skipped in
     let b = one_heading p.start u.header v.header p.after q.after p.header (subst (λ (z : List ℕ). Heads z v.header q.after) (sym a) q.header) in
@@ -334,7 +336,7 @@ one_unit text u v x y p q =
     let d = one_tail p.tail u.elements v.elements x y p.follows (subst (λ (z : List ℕ). IsTail z v.elements y) (sym c.1) q.follows) in
     (view_is u v b.0 c.0 d.0, d.1)
 
-part_refused : (start after tail : List ℕ) (u : UnitView) (x : List ℕ) (e : ScpiError) → Heads start u.header after → Asks after u.query tail
+part_refused : (start after tail : List ℕ) (u : UnitSeen) (x : List ℕ) (e : ScpiError) → Heads start u.header after → Asks after u.query tail
     → IsTail tail u.elements x → length u.elements ≤ 16 → IsPartRefused start e → ⊥
 part_refused start after tail u x e h k t l r =
     let b = one_heading start u.header r.heading after r.after h r.header in
@@ -347,7 +349,7 @@ one_part_refusal start e f r s =
     let c = one_ask r.after r.query s.query r.tail s.tail r.asks (subst (λ (z : List ℕ). Asks z s.query s.tail) (sym b.1) s.asks) in
     one_tail_refusal r.tail e f r.refused (subst (λ (z : List ℕ). IsTailRefused z f) (sym c.1) s.refused)
 
-pub unit_refused : (text : List ℕ) (u : UnitView) (x : List ℕ) (e : ScpiError) → IsUnit text u x → IsRefused text e → ⊥
+pub unit_refused : (text : List ℕ) (u : UnitSeen) (x : List ℕ) (e : ScpiError) → IsUnit text u x → IsRefusedUnit text e → ⊥
 unit_refused text u x e p r =
     let a = starts text p.before p.start r.before r.start p.skipped r.skipped in
     elim r.refused [
@@ -355,7 +357,7 @@ unit_refused text u x e p r =
       | inr s ↦ part_refused p.start p.after p.tail u x e p.header p.asks p.follows p.few (subst (λ (z : List ℕ). IsPartRefused z e) (sym a) s)
     ]
 
-pub one_refusal : (text : List ℕ) (e f : ScpiError) → IsRefused text e → IsRefused text f → e ≡ f
+pub one_refusal : (text : List ℕ) (e f : ScpiError) → IsRefusedUnit text e → IsRefusedUnit text f → e ≡ f
 one_refusal text e f r s =
     let a = starts text r.before r.start s.before s.start r.skipped s.skipped in
     elim r.refused [
@@ -369,10 +371,10 @@ one_refusal text e f r s =
       ]
     ]
 
-pub blank_unit : (text : List ℕ) (u : UnitView) (x : List ℕ) → IsBlank text → IsUnit text u x → ⊥
+pub blank_unit : (text : List ℕ) (u : UnitSeen) (x : List ℕ) → IsBlank text → IsUnit text u x → ⊥
 blank_unit text u x h p =
     omega (arith, unit_starts text u x p, ap (λ (z : List ℕ). length z) (blank_start text p.before p.start h p.skipped))
 
-pub blank_refused : (text : List ℕ) (e : ScpiError) → IsBlank text → IsRefused text e → ⊥
+pub blank_refused : (text : List ℕ) (e : ScpiError) → IsBlank text → IsRefusedUnit text e → ⊥
 blank_refused text e h r =
     omega (arith, r.some, ap (λ (z : List ℕ). length z) (blank_start text r.before r.start h r.skipped))

@@ -5,7 +5,7 @@ use Rattle.std.specs.List.{filter, list_all, list_any}
 use Rattle.std.proofs.lemmas.Bool.{and_parts, cases_Bool, eqb-true, eq-eqb}
 use Rattle.sw_lex.specs.declared.table.Key.{Key}
 use Rattle.sw_lex.specs.declared.rows.Group.{Group}
-use Rattle.sw_lex.specs.Table.{Entry, table, entries}
+use Rattle.sw_lex.specs.Table.{HeaderEntry, table, entries}
 use Rattle.sw_lex.specs.Found.{IsIn, Spelling, spellings, IsFound}
 use Rattle.sw_lex.specs.Apart.{same_bool}
 use Rattle.sw_lex.specs.Rows.{entries_of, Matches}
@@ -77,7 +77,7 @@ pub some_there : (part : Bool × ℕ) (groups : List Group) (w : List ℕ) (ws :
 some_there part groups w ws query None e h = h
 some_there part groups w ws query (Some x) e h =
     let f = matches_found groups w ws h.0 x.0 x.1 h.1 in
-    let i = in_kept (belongs part query) f.entry entries (subst (λ (es : List Entry). IsIn f.entry es) e f.listed) in
+    let i = in_kept (belongs part query) f.entry entries (subst (λ (es : List HeaderEntry). IsIn f.entry es) e f.listed) in
     let b = and_parts (same_bool query f.entry.query) (list_any (λ (s : Spelling). begins_words part s.0) (spellings f.entry.nodes)) i.1 in
     record { entry = f.entry; listed = i.0; query_is = sym (bools_same query f.entry.query b.0); key_is = f.key_is; spelled = f.spelled }
 
@@ -87,7 +87,7 @@ pub none_there : (groups : List Group) (w : List ℕ) (ws : List (List ℕ)) (qu
 none_there groups w ws query None e h =
     λ key k f. h query key k (found_matches groups w ws query key k (record {
       entry = f.entry;
-      listed = subst (λ (es : List Entry). IsIn f.entry es) (sym e)
+      listed = subst (λ (es : List HeaderEntry). IsIn f.entry es) (sym e)
           (kept_in (belongs (part_of w) query) f.entry entries f.listed (found_belongs w ws query key k f));
       query_is = f.query_is;
       key_is = f.key_is;
@@ -95,7 +95,7 @@ none_there groups w ws query None e h =
     }))
 none_there groups w ws query (Some x) e h = h
 
-pub at_letter : (starred : Bool) (x y : ℕ) (query : Bool) (es : List Entry) → x ≡ y → es ≡ filter (belongs (starred, y) query) entries
+pub at_letter : (starred : Bool) (x y : ℕ) (query : Bool) (es : List HeaderEntry) → x ≡ y → es ≡ filter (belongs (starred, y) query) entries
     → es ≡ filter (belongs (starred, x) query) entries
 at_letter starred x y query es e h = h ∙ ap (λ (z : ℕ). filter (belongs (starred, z) query) entries) (sym e)
 
@@ -115,7 +115,7 @@ have_nodes = refl
 pub nothing_there : (query : Bool) (key : Key) (k : ℕ) → IsFound entries [] query key k → ⊥
 nothing_there query key k f =
     let p = in_passes has_node ([], k) (spellings f.entry.nodes)
-    (in_passes (λ (e : Entry). list_all has_node (spellings e.nodes)) f.entry entries have_nodes f.listed) f.spelled in
+    (in_passes (λ (e : HeaderEntry). list_all has_node (spellings e.nodes)) f.entry entries have_nodes f.listed) f.spelled in
     let z : false ≡ true = p in cc
 
 -- ---- letters with which no header begins
@@ -149,13 +149,13 @@ none_begins starred x letters (s ∷ ss) n h =
     let p = and_parts (begins_known starred letters s.0) (list_all (λ (s : Spelling). begins_known starred letters s.0) ss) h in
     rw (unknown starred x letters s.0 n p.0, none_begins starred x letters ss n p.1) refl
 
-none_of : (starred : Bool) (x : ℕ) (letters : List ℕ) (query : Bool) (es : List Entry) → list_any (λ y. y == x) letters ≡ false
+none_of : (starred : Bool) (x : ℕ) (letters : List ℕ) (query : Bool) (es : List HeaderEntry) → list_any (λ y. y == x) letters ≡ false
     → list_all (λ e. list_all (λ s. begins_known starred letters s.0) (spellings e.nodes)) es ≡ true
     → filter (belongs (starred, x) query) es ≡ []
 none_of starred x letters query [] n h = refl
 none_of starred x letters query (e ∷ es) n h =
     let p = and_parts (list_all (λ (s : Spelling). begins_known starred letters s.0) (spellings e.nodes))
-    (list_all (λ (e : Entry). list_all (λ (s : Spelling). begins_known starred letters s.0) (spellings e.nodes)) es) h in
+    (list_all (λ (e : HeaderEntry). list_all (λ (s : Spelling). begins_known starred letters s.0) (spellings e.nodes)) es) h in
     elim (cases_Bool (same_bool query e.query)) [
       | inl s ↦ rw (s, none_begins starred x letters (spellings e.nodes) n p.0) (none_of starred x letters query es n p.1)
       | inr s ↦ rw s (none_of starred x letters query es n p.1)

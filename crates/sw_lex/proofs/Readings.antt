@@ -6,7 +6,7 @@ use Rattle.std.proofs.lemmas.Bool.{cases_Bool}
 use Rattle.std.proofs.lemmas.Grind.{common_steps}
 use Rattle.std.proofs.lemmas.List.{append-nil}
 use Rattle.sw_base.specs.Text.{is_blank, is_digit, is_letter, AllPass, StartsOff, Spans}
-use Rattle.sw_base.specs.Number.{Written, IsMantissa, IsTail, IsEnded, IsNumber, is_end}
+use Rattle.sw_base.specs.Number.{Written, IsMantissa, IsExponentTail, IsEnded, IsNumber, is_end}
 use Rattle.sw_base.proofs.Runs.{one_span}
 use Rattle.sw_base.proofs.Numerals.{one_mantissa, one_tail, one_number, number_is}
 use Rattle.sw_lex.specs.Values.{IsQuantity, is_named, leading, trailing, all_digits, unnumbered}
@@ -46,18 +46,18 @@ ended_at (b ∷ gap) suffix a l = record {
   end = blank-end b a.0;
 }
 
-pub quantity_is : (text : List ℕ) (m : Written) (after rest : List ℕ) (e : ℤ) → IsMantissa text m after → IsTail after e rest → IsSuffix rest
+pub quantity_is : (text : List ℕ) (m : Written) (after rest : List ℕ) (e : ℤ) → IsMantissa text m after → IsExponentTail after e rest → IsSuffix rest
     → (n : Written) × (suffix : List ℕ) × IsQuantity text n suffix
 quantity_is text m after rest e a t s =
     let n : IsEnded rest = subst (λ (x : List ℕ). IsEnded x) (sym s.2.whole) (ended_at s.0 s.1 s.2.pass s.3) in
     (record m { exponent = e }, s.1, record { rest = rest; gap = s.0; number = number_is text m after rest e a t n; blank = s.2; letters = s.3 })
 
-pub quantity_suffix : (text : List ℕ) (m : Written) (after rest : List ℕ) (e : ℤ) → IsMantissa text m after → IsTail after e rest
+pub quantity_suffix : (text : List ℕ) (m : Written) (after rest : List ℕ) (e : ℤ) → IsMantissa text m after → IsExponentTail after e rest
     → ((n : Written) × (suffix : List ℕ) × IsQuantity text n suffix) → IsSuffix rest
 quantity_suffix text m after rest e a t q =
     let p = q.2.number in
     let x : p.after ≡ after = (one_mantissa text q.0 p.after m after p.mantissa a).3 in
-    let y = one_tail after q.0.exponent q.2.rest e rest (subst (λ (z : List ℕ). IsTail z q.0.exponent q.2.rest) x p.tail) t in
+    let y = one_tail after q.0.exponent q.2.rest e rest (subst (λ (z : List ℕ). IsExponentTail z q.0.exponent q.2.rest) x p.tail) t in
     (q.2.gap, q.1, subst (λ (z : List ℕ). Spans is_blank z q.2.gap q.1) y.1 q.2.blank, q.2.letters)
 
 pub quantity_at : (text : List ℕ) (n : Written) (rest gap suffix : List ℕ) → IsNumber text n rest → Spans is_blank rest gap suffix

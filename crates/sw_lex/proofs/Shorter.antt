@@ -2,8 +2,9 @@
 use Rattle.std.proofs.Common.{◌≡◌, ℕ, ◌+◌, ◌<◌, ◌≤◌, Bool, true, false, List, [], ◌∷◌, ◌++◌, length, ap, arith, inl, inr}
 use Rattle.std.proofs.lemmas.List.{length-append}
 use Rattle.sw_base.specs.Text.{Spans}
-use Rattle.sw_lex.specs.Unit.{Heading, common, path, heading_text, IsHeading, IsMnemonic, IsPath, colon, colons, Asks, Datum, datum_text, Leads, Ends, IsNext}
-use Rattle.sw_lex.specs.Unit.{IsLast, IsData, IsTail, IsUnit, UnitView}
+use Rattle.sw_lex.specs.Unit.{Heading, common, path, heading_text, IsHeading, IsMnemonic, IsPath, colon, colons, Asks, Datum, datum_text, LeadsElement, Ends}
+use Rattle.sw_lex.specs.Unit.{IsNext}
+use Rattle.sw_lex.specs.Unit.{IsLast, IsData, IsTail, IsUnit, UnitSeen}
 
 pub longer : (text part rest : List ℕ) → text ≡ part ++ rest → length part + length rest ≡ length text
 longer text part rest e = omega (arith, length-append part rest, ap (λ (t : List ℕ). length t) e)
@@ -11,7 +12,7 @@ longer text part rest e = omega (arith, length-append part rest, ap (λ (t : Lis
 span_rest : (test : ℕ → Bool) (text front rest : List ℕ) → Spans test text front rest → length rest ≤ length text
 span_rest test text front rest s = omega (arith, longer text front rest s.whole)
 
-leads_rest : (text : List ℕ) (d : Datum) (after : List ℕ) → Leads text d after → length after ≤ length text
+leads_rest : (text : List ℕ) (d : Datum) (after : List ℕ) → LeadsElement text d after → length after ≤ length text
 leads_rest text d after l = omega (arith, longer text (datum_text d) after l.whole)
 
 ends_rest : (text rest : List ℕ) → Ends text rest → length rest ≤ length text
@@ -53,7 +54,7 @@ pub heading_some : (h : Heading) → IsHeading h → 0 < length (heading_text h)
 heading_some (common t) i = omega (arith, ap (λ (x : List ℕ). length x) i.2)
 heading_some (path leading t) i = omega (arith, path_some t i, length-append (colon leading) t)
 
-pub unit_rest : (text : List ℕ) (unit : UnitView) (rest : List ℕ) → IsUnit text unit rest → length rest < length text
+pub unit_rest : (text : List ℕ) (unit : UnitSeen) (rest : List ℕ) → IsUnit text unit rest → length rest < length text
 unit_rest text unit rest u =
     let a = span_rest _ text u.before u.start u.skipped in
     let b = longer u.start (heading_text unit.header) u.after u.header.whole in

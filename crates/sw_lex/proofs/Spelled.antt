@@ -6,7 +6,7 @@ use Rattle.std.proofs.lemmas.Grind.{common_steps}
 use Rattle.std.specs.List.{list_all}
 use Rattle.sw_lex.specs.declared.table.Key.{Key}
 use Rattle.sw_lex.specs.Words.{short_of, long_of}
-use Rattle.sw_lex.specs.Table.{Node, must, may, numbered, Entry}
+use Rattle.sw_lex.specs.Table.{Node, must, may, numbered, HeaderEntry}
 use Rattle.sw_lex.specs.Found.{IsIn, Spelling, after_word, after_numbered, after_either, after_number, spellings, IsForm, IsNumbered, Fits, IsFound}
 
 pub in_left : {X : Type 0} (x : X) (xs ys : List X) → IsIn x xs → IsIn x (xs ++ ys)
@@ -204,7 +204,7 @@ listed_fits (numbered w ∷ ss) (x ∷ ws) k h =
 
 -- ---- no header has more than four nodes
 
-abbrev pub all_short : List Entry → Bool
+abbrev pub all_short : List HeaderEntry → Bool
 all_short entries = list_all (λ e. nat_le (length e.nodes) 4) entries
 
 fits_length : (ss : List Node) (ws : List (List ℕ)) (k : ℕ) → Fits ss ws k → length ws ≤ length ss
@@ -220,11 +220,11 @@ fits_length (numbered w ∷ ss) (x ∷ ws) k f =
       | inr a ↦ elim a [ inl b ↦ omega (arith, fits_length ss ws b.0 b.1) | inr b ↦ omega (arith, fits_length ss (x ∷ ws) k b) ]
     ]
 
-pub too_long : (entries : List Entry) (ws : List (List ℕ)) → all_short entries ≡ true → 4 < length ws → (query : Bool) (key : Key) (k : ℕ)
+pub too_long : (entries : List HeaderEntry) (ws : List (List ℕ)) → all_short entries ≡ true → 4 < length ws → (query : Bool) (key : Key) (k : ℕ)
     → IsFound entries ws query key k → ⊥
 too_long entries ws t l query key k f =
     let a = fits_length f.entry.nodes ws k (listed_fits f.entry.nodes ws k f.spelled) in
-    let p = in_passes (λ (r : Entry). nat_le (length r.nodes) 4) f.entry entries t f.listed in
+    let p = in_passes (λ (r : HeaderEntry). nat_le (length r.nodes) 4) f.entry entries t f.listed in
     let b : length f.entry.nodes ≤ 4 = grind (arith, common_steps) in
     omega (arith, a, b, l)
 
@@ -236,13 +236,14 @@ node_fits word = nat_le (length word) 12
 abbrev spelling_fits : Spelling → Bool
 spelling_fits s = list_all node_fits s.0
 
-abbrev entry_fits : Entry → Bool
+abbrev entry_fits : HeaderEntry → Bool
 entry_fits e = list_all spelling_fits (spellings e.nodes)
 
-abbrev pub all_fit : List Entry → Bool
+abbrev pub all_fit : List HeaderEntry → Bool
 all_fit entries = list_all entry_fits entries
 
-pub found_fits : (entries : List Entry) (ws : List (List ℕ)) → all_fit entries ≡ true → (query : Bool) (key : Key) (k : ℕ) → IsFound entries ws query key k
+pub found_fits : (entries : List HeaderEntry) (ws : List (List ℕ)) → all_fit entries ≡ true → (query : Bool) (key : Key) (k : ℕ)
+    → IsFound entries ws query key k
     → list_all node_fits ws ≡ true
 found_fits entries ws t query key k f =
     in_passes spelling_fits (ws, k) (spellings f.entry.nodes) (in_passes entry_fits f.entry entries t f.listed) f.spelled

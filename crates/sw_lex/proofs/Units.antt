@@ -6,7 +6,8 @@ use Rattle.sw_base.specs.Text.{is_letter, StartsOff}
 use Rattle.sw_base.specs.declared.error.ScpiError.{ScpiError}
 use Rattle.sw_base.specs.declared.error.ScpiError.TheVariants.{SyntaxError}
 use Rattle.sw_lex.specs.declared.unit.Element.{Element}
-use Rattle.sw_lex.specs.Unit.{IsMnemonic, IsName, colons, IsPath, BreaksOff, Datum, IsData, Reaches, IsNext, IsLast, fault_at, data_of, datum_of, IsStuck}
+use Rattle.sw_lex.specs.Unit.{IsMnemonic, IsName, colons, IsPath, BreaksOff, Datum, IsData, ReachesElement, IsNext, IsLast, fault_at, data_of, datum_of}
+use Rattle.sw_lex.specs.Unit.{IsStuck}
 use Rattle.sw_lex.specs.Unit.{IsDataRefused, Heads, common}
 
 -- ---- a part of a text by its length
@@ -19,14 +20,14 @@ rest_of text part rest n e k = rw e (drop_at part rest n k)
 
 -- ---- a header so far: mnemonics and their colons
 
-pub record Front (text : List ℕ) (n : ℕ) (rest : List ℕ) : Type 0 where
+pub record PathFront (text : List ℕ) (n : ℕ) (rest : List ℕ) : Type 0 where
   pub nodes : List (List ℕ)
   pub each : AllByRecursion IsMnemonic nodes
   pub whole : text ≡ colons nodes ++ rest
   pub len : length (colons nodes) ≡ n
 
-pub Front-none : (text : List ℕ) → Front text 0 text
-Front-none text = record { nodes = []; each = tt; whole = refl; len = refl }
+pub PathFront-none : (text : List ℕ) → PathFront text 0 text
+PathFront-none text = record { nodes = []; each = tt; whole = refl; len = refl }
 
 colons-push : (ms : List (List ℕ)) (m : List ℕ) → colons (ms ++ m ∷ []) ≡ colons ms ++ (m ++ 58 ∷ [])
 colons-push [] m = append-nil (m ++ 58 ∷ [])
@@ -44,24 +45,24 @@ whole-push text rest m more ms e f =
 len-push : (ms : List (List ℕ)) (m : List ℕ) (n : ℕ) → length (colons ms) ≡ n → length (colons (ms ++ m ∷ [])) ≡ n + length m + 1
 len-push ms m n e = ap (λ (t : List ℕ). length t) (colons-push ms m) ∙ omega (arith, length-append (colons ms) (m ++ 58 ∷ []), length-append m (58 ∷ []))
 
-pub Front-more : (text : List ℕ) (n : ℕ) (rest m after more : List ℕ) → Front text n rest → IsMnemonic m → rest ≡ m ++ after → after ≡ 58 ∷ more
-    → Front text (n + length m + 1) more
-Front-more text n rest m after more f h e g = record {
+pub PathFront-more : (text : List ℕ) (n : ℕ) (rest m after more : List ℕ) → PathFront text n rest → IsMnemonic m → rest ≡ m ++ after → after ≡ 58 ∷ more
+    → PathFront text (n + length m + 1) more
+PathFront-more text n rest m after more f h e g = record {
   nodes = f.nodes ++ m ∷ [];
   each = each-push f.nodes m f.each h;
   whole = whole-push text rest m more f.nodes f.whole (e ∙ ap (λ (t : List ℕ). m ++ t) g);
   len = len-push f.nodes m n f.len;
 }
 
-front-whole : (text : List ℕ) (n : ℕ) (rest m more : List ℕ) (f : Front text n rest) → rest ≡ m ++ more → text ≡ (colons f.nodes ++ m) ++ more
+front-whole : (text : List ℕ) (n : ℕ) (rest m more : List ℕ) (f : PathFront text n rest) → rest ≡ m ++ more → text ≡ (colons f.nodes ++ m) ++ more
 front-whole text n rest m more f e = f.whole ∙ ap (λ (t : List ℕ). colons f.nodes ++ t) e ∙ sym (append_assoc (colons f.nodes) m more)
 
-front-len : (text : List ℕ) (n : ℕ) (rest m : List ℕ) (f : Front text n rest) → length (colons f.nodes ++ m) ≡ n + length m
+front-len : (text : List ℕ) (n : ℕ) (rest m : List ℕ) (f : PathFront text n rest) → length (colons f.nodes ++ m) ≡ n + length m
 front-len text n rest m f = omega (arith, f.len, length-append (colons f.nodes) m)
 
-pub Front-path : (text : List ℕ) (n : ℕ) (rest m more : List ℕ) → Front text n rest → IsMnemonic m → rest ≡ m ++ more
+pub PathFront-path : (text : List ℕ) (n : ℕ) (rest m more : List ℕ) → PathFront text n rest → IsMnemonic m → rest ≡ m ++ more
     → IsPath (take (n + length m) text) × (text ≡ take (n + length m) text ++ drop (n + length m) text)
-Front-path text n rest m more f h e = (
+PathFront-path text n rest m more f h e = (
   record {
     nodes = f.nodes;
     last = m;
@@ -72,21 +73,21 @@ Front-path text n rest m more f h e = (
   sym (take-append-drop (n + length m) text),
 )
 
-pub Front-rest : (text : List ℕ) (n : ℕ) (rest m more : List ℕ) → Front text n rest → rest ≡ m ++ more → drop (n + length m) text ≡ more
-Front-rest text n rest m more f e = rest_of text (colons f.nodes ++ m) more (n + length m) (front-whole text n rest m more f e) (front-len text n rest m f)
+pub PathFront-rest : (text : List ℕ) (n : ℕ) (rest m more : List ℕ) → PathFront text n rest → rest ≡ m ++ more → drop (n + length m) text ≡ more
+PathFront-rest text n rest m more f e = rest_of text (colons f.nodes ++ m) more (n + length m) (front-whole text n rest m more f e) (front-len text n rest m f)
 
-pub Front-off : (text : List ℕ) (n : ℕ) (rest : List ℕ) (e : ScpiError) → Front text n rest → StartsOff is_letter rest → e ≡ fault_at SyntaxError rest
+pub PathFront-off : (text : List ℕ) (n : ℕ) (rest : List ℕ) (e : ScpiError) → PathFront text n rest → StartsOff is_letter rest → e ≡ fault_at SyntaxError rest
     → BreaksOff text e
-Front-off text n rest e f o h = record { nodes = f.nodes; each = f.each; more = rest; whole = f.whole; off = o; error = h }
+PathFront-off text n rest e f o h = record { nodes = f.nodes; each = f.each; more = rest; whole = f.whole; off = o; error = h }
 
 -- ---- data so far
 
-pub reaches_more : (text : List ℕ) (ds : List Datum) (here next : List ℕ) (d : Datum) → Reaches text ds here → IsNext here d next
-    → Reaches text (ds ++ d ∷ []) next
+pub reaches_more : (text : List ℕ) (ds : List Datum) (here next : List ℕ) (d : Datum) → ReachesElement text ds here → IsNext here d next
+    → ReachesElement text (ds ++ d ∷ []) next
 reaches_more text [] here next d r n = (next, subst (λ (t : List ℕ). IsNext t d next) (sym r) n, refl)
 reaches_more text (c ∷ ds) here next d r n = (r.0, r.1, reaches_more r.0 ds here next d r.2 n)
 
-pub reaches_last : (text : List ℕ) (ds : List Datum) (here rest : List ℕ) (d : Datum) → Reaches text ds here → IsLast here d rest
+pub reaches_last : (text : List ℕ) (ds : List Datum) (here rest : List ℕ) (d : Datum) → ReachesElement text ds here → IsLast here d rest
     → IsData text (ds ++ d ∷ []) rest
 reaches_last text [] here rest d r n = subst (λ (t : List ℕ). IsLast t d rest) (sym r) n
 reaches_last text (c ∷ []) here rest d r n = (r.0, r.1, reaches_last r.0 [] here rest d r.2 n)
@@ -95,7 +96,7 @@ reaches_last text (c ∷ b ∷ ds) here rest d r n = (r.0, r.1, reaches_last r.0
 pub data-push : (es : List Element) (e : Element) → data_of (es ++ e ∷ []) ≡ data_of es ++ datum_of e ∷ []
 data-push es e = map_push datum_of es e
 
-stuck-here : (text here : List ℕ) (ds : List Datum) (n : ℕ) (e : ScpiError) → Reaches text ds here → n ≡ length ds → n ≤ 16 → IsStuck n here e
+stuck-here : (text here : List ℕ) (ds : List Datum) (n : ℕ) (e : ScpiError) → ReachesElement text ds here → n ≡ length ds → n ≤ 16 → IsStuck n here e
     → IsDataRefused text e
 stuck-here text here ds n e r k f s = record {
   front = ds;
@@ -105,7 +106,7 @@ stuck-here text here ds n e r k f s = record {
   why = subst (λ (m : ℕ). IsStuck m here e) k s;
 }
 
-pub stuck-refused : (text here : List ℕ) (es : List Element) (n : ℕ) (e : ScpiError) → Reaches text (data_of es) here → n ≡ length es → n ≤ 16
+pub stuck-refused : (text here : List ℕ) (es : List Element) (n : ℕ) (e : ScpiError) → ReachesElement text (data_of es) here → n ≡ length es → n ≤ 16
     → IsStuck n here e → IsDataRefused text e
 stuck-refused text here es n e r k = stuck-here text here (data_of es) n e r (k ∙ sym (length-map es datum_of))
 

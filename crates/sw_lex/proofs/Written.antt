@@ -3,7 +3,8 @@ use Rattle.std.proofs.Common.{◌≡◌, ℕ, Bool, true, false, List, [], ◌�
 use Rattle.std.proofs.lemmas.List.{append_cancel_right}
 use Rattle.sw_base.specs.Text.{is_blank, Spans}
 use Rattle.sw_base.proofs.Runs.{one_span}
-use Rattle.sw_lex.specs.Unit.{Heading, heading_text, Heads, Asks, Datum, datum_text, Leads, IsNext, IsJoined, IsLeft, IsWritten, Reaches, UnitView, is_gap}
+use Rattle.sw_lex.specs.Unit.{Heading, heading_text, Heads, Asks, Datum, datum_text, LeadsElement, IsNext, AreJoinedElements, IsLeft, IsWritten, ReachesElement}
+use Rattle.sw_lex.specs.Unit.{UnitSeen, is_gap}
 use Rattle.sw_lex.proofs.Leading.{one_leads}
 use Rattle.sw_lex.proofs.Headings.{one_heading, one_ask}
 use Rattle.sw_lex.proofs.Once.{one_next}
@@ -19,7 +20,7 @@ leaves_more a b c p q = (p.0 ++ q.0, p.1 ∙ ap (λ (t : List ℕ). p.0 ++ t) q.
 span_leaves : (test : ℕ → Bool) (text front rest : List ℕ) → Spans test text front rest → Leaves text rest
 span_leaves test text front rest s = (front, s.whole)
 
-leads_leaves : (text : List ℕ) (d : Datum) (after : List ℕ) → Leads text d after → Leaves text after
+leads_leaves : (text : List ℕ) (d : Datum) (after : List ℕ) → LeadsElement text d after → Leaves text after
 leads_leaves text d after l = (datum_text d, l.whole)
 
 next_leaves : (text : List ℕ) (d : Datum) (next : List ℕ) → IsNext text d next → Leaves text next
@@ -28,7 +29,7 @@ next_leaves text d next n =
     (leaves_more n.after (44 ∷ n.others) next (span_leaves _ n.after n.gap (44 ∷ n.others) n.before)
     (leaves_more (44 ∷ n.others) n.others next (44 ∷ [], refl) (span_leaves _ n.others n.space next n.behind)))
 
-joined_leaves : (text : List ℕ) (ds : List Datum) (left : List ℕ) → IsJoined text ds left → Leaves text left
+joined_leaves : (text : List ℕ) (ds : List Datum) (left : List ℕ) → AreJoinedElements text ds left → Leaves text left
 joined_leaves text [] left h = absurd h
 joined_leaves text (d ∷ []) left h = leads_leaves text d left h
 joined_leaves text (d ∷ c ∷ ds) left h = leaves_more text h.0 left (next_leaves text d h.0 h.1) (joined_leaves h.0 (c ∷ ds) left h.2)
@@ -48,32 +49,33 @@ start_leaves start h after q tail ds left p a l =
 
 -- ---- data so far
 
-pub joined_last : (text : List ℕ) (ds : List Datum) (here left : List ℕ) (d : Datum) → Reaches text ds here → Leads here d left
-    → IsJoined text (ds ++ d ∷ []) left
-joined_last text [] here left d r n = subst (λ (t : List ℕ). Leads t d left) (sym r) n
+pub joined_last : (text : List ℕ) (ds : List Datum) (here left : List ℕ) (d : Datum) → ReachesElement text ds here → LeadsElement here d left
+    → AreJoinedElements text (ds ++ d ∷ []) left
+joined_last text [] here left d r n = subst (λ (t : List ℕ). LeadsElement t d left) (sym r) n
 joined_last text (c ∷ []) here left d r n = (r.0, r.1, joined_last r.0 [] here left d r.2 n)
 joined_last text (c ∷ b ∷ ds) here left d r n = (r.0, r.1, joined_last r.0 (b ∷ ds) here left d r.2 n)
 
-pub joined_left : (tail gap more : List ℕ) (ds : List Datum) (left : List ℕ) → Spans is_blank tail gap more → IsJoined more ds left → IsLeft tail ds left
+pub joined_left : (tail gap more : List ℕ) (ds : List Datum) (left : List ℕ) → Spans is_blank tail gap more → AreJoinedElements more ds left
+    → IsLeft tail ds left
 joined_left tail gap more [] left s h = absurd h
 joined_left tail gap more (d ∷ ds) left s h = (gap, more, s, h)
 
 -- ---- one way
 
-one_joined : (text : List ℕ) (ds : List Datum) (a b : List ℕ) → IsJoined text ds a → IsJoined text ds b → a ≡ b
+one_joined : (text : List ℕ) (ds : List Datum) (a b : List ℕ) → AreJoinedElements text ds a → AreJoinedElements text ds b → a ≡ b
 one_joined text [] a b p q = absurd p
 one_joined text (d ∷ []) a b p q = (one_leads text d d a b p q).1
 one_joined text (d ∷ c ∷ ds) a b p q =
     let n = one_next text d d p.0 q.0 p.1 q.1 in
-    one_joined p.0 (c ∷ ds) a b p.2 (subst (λ (z : List ℕ). IsJoined z (c ∷ ds) b) (sym n.1) q.2)
+    one_joined p.0 (c ∷ ds) a b p.2 (subst (λ (z : List ℕ). AreJoinedElements z (c ∷ ds) b) (sym n.1) q.2)
 
 one_left : (tail : List ℕ) (ds : List Datum) (a b : List ℕ) → IsLeft tail ds a → IsLeft tail ds b → a ≡ b
 one_left tail [] a b p q = p ∙ sym q
 one_left tail (d ∷ ds) a b p q =
     let r = one_span is_blank tail p.0 p.1 q.0 q.1 p.2 q.2 in
-    one_joined p.1 (d ∷ ds) a b p.3 (subst (λ (z : List ℕ). IsJoined z (d ∷ ds) b) (sym r.1) q.3)
+    one_joined p.1 (d ∷ ds) a b p.3 (subst (λ (z : List ℕ). AreJoinedElements z (d ∷ ds) b) (sym r.1) q.3)
 
-pub one_written : (text before front : List ℕ) (u : UnitView) (w v r s : List ℕ) → IsWritten text before u w r → IsWritten text front u v s
+pub one_written : (text before front : List ℕ) (u : UnitSeen) (w v r s : List ℕ) → IsWritten text before u w r → IsWritten text front u v s
     → (before ≡ front) × (w ≡ v) × (r ≡ s)
 one_written text before front u w v r s p q =
     let a = one_span is_gap text before p.start front q.start p.skipped q.skipped in

@@ -1,6 +1,6 @@
 -- A test over a whole table: no header is two commands.
 use Rattle.std.specs.Prelude.{ℕ, Bool, true, false, not, ◌==◌, ◌&&◌, ◌||◌, List, [], ◌∷◌}
-use Rattle.sw_lex.specs.Table.{Entry}
+use Rattle.sw_lex.specs.Table.{HeaderEntry}
 use Rattle.sw_lex.specs.Found.{Spelling, spellings}
 
 abbrev pub same_word : List ℕ → List ℕ → Bool
@@ -38,11 +38,11 @@ same_bool true b = b
 same_bool false b = not b
 
 -- apart from each later entry of its kind
-abbrev pub apart_from : Entry → List Entry → Bool
+abbrev pub apart_from : HeaderEntry → List HeaderEntry → Bool
 apart_from e [] = true
 apart_from e (d ∷ es) = (not (same_bool e.query d.query) || disjoint (spellings e.nodes) (spellings d.nodes))
     && apart_from e es
 
-abbrev pub all_apart : List Entry → Bool
+abbrev pub all_apart : List HeaderEntry → Bool
 all_apart [] = true
 all_apart (e ∷ es) = apart_from e es && (numbers_agree (spellings e.nodes) && all_apart es)

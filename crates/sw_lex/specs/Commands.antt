@@ -23,9 +23,9 @@ use Rattle.sw_lex.specs.declared.table.Family.{Family}
 use Rattle.sw_lex.specs.declared.table.Family.TheVariants as families
 
 -- LAYer has a number, 1 or 2, and none means 1
-abbrev pub layer_of : Family → ℕ → LayerName
-layer_of families.Arm number = if number == 2 then layers.Arm2 else layers.Arm1
-layer_of families.Trigger number = layers.Trigger
+abbrev pub layer_numbered : Family → ℕ → LayerName
+layer_numbered families.Arm number = if number == 2 then layers.Arm2 else layers.Arm1
+layer_numbered families.Trigger number = layers.Trigger
 
 abbrev pub of_common : Common → Command
 of_common common_ones.Identify = commands.Identify
@@ -85,7 +85,7 @@ of_channels channel_ones.Scan list = commands.Scan list
 abbrev pub of_whole : Whole → ℕ → ℕ → Command
 of_whole whole_ones.EventEnable number n = commands.EventEnable n
 of_whole whole_ones.ServiceEnable number n = commands.ServiceEnable n
-of_whole (whole_ones.Count family) number n = commands.Count (layer_of family number) n
+of_whole (whole_ones.Count family) number n = commands.Count (layer_numbered family number) n
 of_whole whole_ones.ScanMeter number n = commands.ScanMeter n
 of_whole (whole_ones.Enable group) number n = commands.GroupEnable group n
 of_whole (whole_ones.PositiveTransition group) number n = commands.PositiveTransition group n

@@ -2,7 +2,7 @@
 use Rattle.std.specs.Prelude.{◌≡◌, ℕ, Bool, List, [], ◌∷◌, ◌++◌, map, ◌⊎◌}
 use Rattle.sw_lex.specs.declared.table.Key.{Key}
 use Rattle.sw_lex.specs.Words.{short_of, long_of}
-use Rattle.sw_lex.specs.Table.{Node, must, may, numbered, Entry}
+use Rattle.sw_lex.specs.Table.{Node, must, may, numbered, HeaderEntry}
 
 -- x is one of these
 abbrev pub IsIn : {X : Type 0} → X → List X → Type 0
@@ -38,8 +38,9 @@ spellings (numbered w ∷ ns) =
     ++ (after_number w 1 (49 ∷ []) (spellings ns) ++ (after_number w 2 (50 ∷ []) (spellings ns) ++ spellings ns))
 
 -- the words, in capitals, are a header of the table
-pub record IsFound (entries : List Entry) (words : List (List ℕ)) (query : Bool) (key : Key) (number : ℕ) : Type 0 where
-  pub entry : Entry
+pub record IsFound (entries : List HeaderEntry) (words : List (List ℕ)) (query : Bool) (key : Key)
+    (number : ℕ) : Type 0 where
+  pub entry : HeaderEntry
   pub listed : IsIn entry entries
   pub query_is : entry.query ≡ query
   pub key_is : entry.key ≡ key

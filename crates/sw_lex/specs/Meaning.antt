@@ -14,8 +14,8 @@ use Rattle.sw_lex.specs.declared.command.Command.TheVariants as commands
 use Rattle.sw_lex.specs.declared.table.Key.{Key}
 use Rattle.sw_lex.specs.declared.table.Key.TheVariants as keys
 use Rattle.sw_lex.specs.declared.paths.Path.{Path}
-use Rattle.sw_lex.specs.Unit.{Heading, common, path, Datum, number, character, string, block, expression, UnitView}
-use Rattle.sw_lex.specs.Commands.{layer_of, of_common, of_instrument, of_layer, of_group, of_channels}
+use Rattle.sw_lex.specs.Unit.{Heading, common, path, Datum, number, character, string, block, expression, UnitSeen}
+use Rattle.sw_lex.specs.Commands.{layer_numbered, of_common, of_instrument, of_layer, of_group, of_channels}
 use Rattle.sw_lex.specs.Values.{on_ok, ReadsQuantity, ReadsString, ReadsBlock, whole_of, continuous_of, macros_of}
 use Rattle.sw_lex.specs.Values.{delay_of, source_meant, switch_meant, unnumbered}
 use Rattle.sw_lex.specs.Found.{IsFound}
@@ -152,30 +152,30 @@ OfMacro (d ∷ c ∷ b ∷ ds) r = r ≡ Err ParameterNotAllowed
 
 -- the command of a header with this number in it and these data, or its first refusal; or want of memory where a list,
 -- a string or a block is read
-abbrev pub Decodes : Key → ℕ → List Datum → Result Command ScpiError → Type 0
-Decodes (keys.Common ask) k ds r = WithNone (of_common ask) ds r
-Decodes (keys.Instrument ask) k ds r = WithNone (of_instrument ask) ds r
-Decodes (keys.Layer ask family) k ds r = WithNone (of_layer ask (layer_of family k)) ds r
-Decodes (keys.Group ask group) k ds r = WithNone (of_group ask group) ds r
-Decodes (keys.Channels ask) k ds r = OfList (of_channels ask) ds r
-Decodes (keys.Whole ask) k ds r = OfNumber (whole_of ask k) ds r
-Decodes (keys.Delay family) k ds r = OfNumber (delay_of (layer_of family k)) ds r
-Decodes (keys.Source family) k ds r = OfWord (source_meant (layer_of family k)) ds r
-Decodes keys.Continuous k ds r = OfSwitch ds r
-Decodes keys.EnableMacros k ds r = OfNumber macros_of ds r
-Decodes keys.DefineMacro k ds r = OfMacro ds r
-Decodes keys.MacroQuery k ds r = OfString (λ label. commands.MacroQuery label) ds r
-Decodes keys.RemoveMacro k ds r = OfString (λ label. commands.RemoveMacro label) ds r
+abbrev pub DecodesCommand : Key → ℕ → List Datum → Result Command ScpiError → Type 0
+DecodesCommand (keys.Common ask) k ds r = WithNone (of_common ask) ds r
+DecodesCommand (keys.Instrument ask) k ds r = WithNone (of_instrument ask) ds r
+DecodesCommand (keys.Layer ask family) k ds r = WithNone (of_layer ask (layer_numbered family k)) ds r
+DecodesCommand (keys.Group ask group) k ds r = WithNone (of_group ask group) ds r
+DecodesCommand (keys.Channels ask) k ds r = OfList (of_channels ask) ds r
+DecodesCommand (keys.Whole ask) k ds r = OfNumber (whole_of ask k) ds r
+DecodesCommand (keys.Delay family) k ds r = OfNumber (delay_of (layer_numbered family k)) ds r
+DecodesCommand (keys.Source family) k ds r = OfWord (source_meant (layer_numbered family k)) ds r
+DecodesCommand keys.Continuous k ds r = OfSwitch ds r
+DecodesCommand keys.EnableMacros k ds r = OfNumber macros_of ds r
+DecodesCommand keys.DefineMacro k ds r = OfMacro ds r
+DecodesCommand keys.MacroQuery k ds r = OfString (λ label. commands.MacroQuery label) ds r
+DecodesCommand keys.RemoveMacro k ds r = OfString (λ label. commands.RemoveMacro label) ds r
 
 -- ---- a unit's meaning
 
 -- the words of a header, in capitals
-abbrev pub asked : UnitView → Nodes → Nodes
+abbrev pub asked : UnitSeen → Nodes → Nodes
 asked unit below = capitals (looked_up unit.header below)
 
 -- the same without a trigger layer's number
-abbrev pub plain : UnitView → Nodes → Nodes
-plain unit below = capitals (map unnumbered (looked_up unit.header below))
+abbrev pub without_number : UnitSeen → Nodes → Nodes
+without_number unit below = capitals (map unnumbered (looked_up unit.header below))
 
 abbrev pub IsNone : Nodes → Bool → Type 0
 IsNone words query = (key : Key) (number : ℕ) → IsFound entries words query key number → ⊥
@@ -188,33 +188,33 @@ IsRefusal nodes query e =
     ⊎ (IsNone (capitals (map unnumbered nodes)) query × (e ≡ UndefinedHeader))
 
 -- the header is one of the table
-pub record IsCommand (unit : UnitView) (below : Nodes) (result : Result Command ScpiError)
+pub record IsCommand (unit : UnitSeen) (below : Nodes) (result : Result Command ScpiError)
     (after : Nodes) : Type 0 where
   pub key : Key
   pub number : ℕ
   pub found : IsFound entries (asked unit below) unit.query key number
-  pub decoded : Decodes key number unit.elements result
+  pub decoded : DecodesCommand key number unit.elements result
   pub onward : after ≡ path_after unit.header below
 
 -- the header is none of the table, with its question mark or without as it is written
-pub record IsUnknown (unit : UnitView) (below : Nodes) (result : Result Command ScpiError)
+pub record IsUnknown (unit : UnitSeen) (below : Nodes) (result : Result Command ScpiError)
     (after : Nodes) : Type 0 where
   pub nothing : IsNone (asked unit below) unit.query
-  pub nowhere : IsNone (plain unit below) unit.query
+  pub nowhere : IsNone (without_number unit below) unit.query
   pub refused : result ≡ Err UndefinedHeader
   pub stays : after ≡ below
 
 -- the header is none of the table, but is one without its trigger layer's number
-pub record IsMisnumbered (unit : UnitView) (below : Nodes) (result : Result Command ScpiError)
+pub record IsMisnumbered (unit : UnitSeen) (below : Nodes) (result : Result Command ScpiError)
     (after : Nodes) : Type 0 where
   pub nothing : IsNone (asked unit below) unit.query
   pub key : Key
   pub number : ℕ
-  pub found : IsFound entries (plain unit below) unit.query key number
+  pub found : IsFound entries (without_number unit below) unit.query key number
   pub refused : result ≡ Err HeaderSuffixOutOfRange
   pub stays : after ≡ below
 
 -- The unit below a path gives a command or its first refusal, and the path of the next unit.
-abbrev pub Resolves : UnitView → Nodes → Result Command ScpiError → Nodes → Type 0
+abbrev pub Resolves : UnitSeen → Nodes → Result Command ScpiError → Nodes → Type 0
 Resolves unit below result after =
     IsCommand unit below result after ⊎ (IsMisnumbered unit below result after ⊎ IsUnknown unit below result after)

@@ -3,7 +3,7 @@
 use Rattle.std.specs.Prelude.{◌≡◌, ℕ, Bool, true, false, ◌==◌, ◌&&◌, List, [], ◌∷◌, if◌then◌else◌}
 use Rattle.std.specs.List.{filter, list_any}
 use Rattle.sw_lex.specs.declared.rows.Part.{Part}
-use Rattle.sw_lex.specs.Table.{Entry, entries}
+use Rattle.sw_lex.specs.Table.{HeaderEntry, entries}
 use Rattle.sw_lex.specs.Found.{spellings}
 use Rattle.sw_lex.specs.Apart.{same_bool}
 use Rattle.sw_lex.specs.Rows.{entries_of}
@@ -23,7 +23,7 @@ begins_words part [] = false
 begins_words part (word ∷ words) = same_part part (part_of word)
 
 -- whether an entry of the table is a query or not, as asked, and a spelling of it begins with this letter
-abbrev pub belongs : Bool × ℕ → Bool → Entry → Bool
+abbrev pub belongs : Bool × ℕ → Bool → HeaderEntry → Bool
 belongs part query e = same_bool query e.query && list_any (λ s. begins_words part s.0) (spellings e.nodes)
 
 -- These are all entries of the table that begin with this letter: the commands, and the queries.

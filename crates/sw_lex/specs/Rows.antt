@@ -7,7 +7,7 @@ use Rattle.sw_lex.specs.declared.rows.Step.TheVariants.{Must, May, Numbered}
 use Rattle.sw_lex.specs.declared.rows.Row.{Row}
 use Rattle.sw_lex.specs.declared.rows.Row.TheVariants.{Command, Query}
 use Rattle.sw_lex.specs.declared.rows.Group.{Group}
-use Rattle.sw_lex.specs.Table.{Node, must, may, numbered, Entry}
+use Rattle.sw_lex.specs.Table.{Node, must, may, numbered, HeaderEntry}
 use Rattle.sw_lex.specs.Found.{IsForm, Fits}
 
 -- The word is the rest of the mnemonic's long form; or of its short form, where only capitals have been passed.
@@ -26,25 +26,30 @@ nodes_at (May w ∷ steps) = may w.now ∷ nodes_at steps
 nodes_at (Numbered w ∷ steps) = numbered w.now ∷ nodes_at steps
 
 -- whether a row has a question mark
-abbrev pub is_query : Row → Bool
-is_query (Command steps key) = false
-is_query (Query steps key) = true
+abbrev pub is_query_row : Row → Bool
+is_query_row (Command steps key) = false
+is_query_row (Query steps key) = true
 
 -- its nodes below the first
-abbrev pub steps_of : Row → List Step
-steps_of (Command steps key) = steps.now
-steps_of (Query steps key) = steps.now
+abbrev pub row_steps : Row → List Step
+row_steps (Command steps key) = steps.now
+row_steps (Query steps key) = steps.now
 
 -- what it asks for
-abbrev pub key_of : Row → Key
-key_of (Command steps key) = key
-key_of (Query steps key) = key
+abbrev pub key_of_row : Row → Key
+key_of_row (Command steps key) = key
+key_of_row (Query steps key) = key
 
 -- the entry of a row below this first mnemonic
-abbrev pub entry_at : List ℕ → Row → Entry
-entry_at first row = record { nodes = must first ∷ nodes_at (steps_of row); query = is_query row; key = key_of row }
+abbrev pub entry_at : List ℕ → Row → HeaderEntry
+entry_at first row = record {
+  nodes = must first ∷ nodes_at (row_steps row);
+  query = is_query_row row;
+  key =
+      key_of_row row;
+}
 
-unfoldable pub entries_of : List Group → List Entry
+unfoldable pub entries_of : List Group → List HeaderEntry
 entries_of [] = []
 entries_of (group ∷ groups) = map (entry_at group.first.now) group.rows.now ++ entries_of groups
 
@@ -52,7 +57,8 @@ entries_of (group ∷ groups) = map (entry_at group.first.now) group.rows.now ++
 abbrev pub MatchesRow : List Row → List (List ℕ) → Bool → Key → ℕ → Type 0
 MatchesRow [] ws query key k = ⊥
 MatchesRow (row ∷ rows) ws query key k =
-    ((is_query row ≡ query) × (key_of row ≡ key) × Fits (nodes_at (steps_of row)) ws k) ⊎ MatchesRow rows ws query key k
+    ((is_query_row row ≡ query) × (key_of_row row ≡ key) × Fits (nodes_at (row_steps row)) ws k)
+    ⊎ MatchesRow rows ws query key k
 
 -- the word and those after it, in capitals, are a header of one of the groups
 abbrev pub Matches : List Group → List ℕ → List (List ℕ) → Bool → Key → ℕ → Type 0

@@ -117,8 +117,8 @@ nodes_from s = node_before s.word s.stands s.after
 abbrev pub begin : (List ℕ → Node) → Scanned → Scanned
 begin stands s = record { word = []; stands = stands; after = nodes_from s }
 
-abbrev pub put : ℕ → Scanned → Scanned
-put b s = record { word = b ∷ s.word; stands = s.stands; after = s.after }
+abbrev pub scanned_byte : ℕ → Scanned → Scanned
+scanned_byte b s = record { word = b ∷ s.word; stands = s.stands; after = s.after }
 
 -- one byte more: `?`, `#`, `]`, a colon or `[`, or a byte of a mnemonic
 abbrev pub scan_byte : ℕ → Scanned → Scanned
@@ -127,7 +127,7 @@ scan_byte b s =
     else if b == 35 then begin numbered s
     else if b == 93 then begin may s
     else if b == 58 || b == 91 then begin must s
-    else put b s
+    else scanned_byte b s
 
 abbrev pub scanned : List ℕ → Scanned
 scanned [] = record { word = []; stands = must; after = [] }
@@ -138,13 +138,13 @@ is_query [] = false
 is_query (b ∷ text) = b == 63 || is_query text
 
 -- a header of the table: its nodes, whether it is a query, and what it asks for
-pub record Entry : Type 0 where
+pub record HeaderEntry : Type 0 where
   pub nodes : List Node
   pub query : Bool
   pub key : Key
 
-abbrev pub entry_of : List ℕ × Key → Entry
-entry_of e = record { nodes = nodes_from (scanned e.0); query = is_query e.0; key = e.1 }
+abbrev pub header_entry : List ℕ × Key → HeaderEntry
+header_entry e = record { nodes = nodes_from (scanned e.0); query = is_query e.0; key = e.1 }
 
-unfoldable pub entries : List Entry
-entries = map entry_of table
+unfoldable pub entries : List HeaderEntry
+entries = map header_entry table

@@ -36,7 +36,7 @@ pub data Datum : Type 0 where
   expression : List ℕ → Datum
 
 -- a unit: its header, whether it is a query, and its data elements
-pub record UnitView : Type 0 where
+pub record UnitSeen : Type 0 where
   pub header : Heading
   pub query : Bool
   pub elements : List Datum
@@ -55,7 +55,7 @@ datum_of (elements.Expression t) = expression t.now
 abbrev pub data_of : List Element → List Datum
 data_of es = map datum_of es
 
-abbrev pub unit_of : RawUnit → UnitView
+abbrev pub unit_of : RawUnit → UnitSeen
 unit_of u = record { header = heading_of u.header; query = u.query; elements = data_of u.elements.items }
 
 -- a unit as it is written
@@ -167,7 +167,7 @@ datum_with kinds.Block t = block t
 datum_with kinds.Expression t = expression t
 
 -- an element at the front of a text, of the kind that its first byte begins
-pub record Leads (text : List ℕ) (d : Datum) (after : List ℕ) : Type 0 where
+pub record LeadsElement (text : List ℕ) (d : Datum) (after : List ℕ) : Type 0 where
   pub starts : kind_at text ≡ Some (kind_of d)
   pub form : IsElement (kind_of d) text after
   pub whole : text ≡ datum_text d ++ after
@@ -186,7 +186,7 @@ pub record IsNext (text : List ℕ) (d : Datum) (next : List ℕ) : Type 0 where
   pub gap : List ℕ
   pub others : List ℕ
   pub space : List ℕ
-  pub element : Leads text d after
+  pub element : LeadsElement text d after
   pub before : Spans is_blank after gap (44 ∷ others)
   pub behind : Spans is_blank others space next
 
@@ -195,7 +195,7 @@ pub record IsLast (text : List ℕ) (d : Datum) (rest : List ℕ) : Type 0 where
   pub after : List ℕ
   pub gap : List ℕ
   pub end : List ℕ
-  pub element : Leads text d after
+  pub element : LeadsElement text d after
   pub before : Spans is_blank after gap end
   pub ends : Ends end rest
 
@@ -213,7 +213,7 @@ pub record IsTail (tail : List ℕ) (ds : List Datum) (rest : List ℕ) : Type 0
   pub follows : ((ds ≡ []) × Ends more rest) ⊎ ((0 < length gap) × HasNoEnd more × IsData more ds rest)
 
 -- a unit at the front of a text, after white space and empty units, and what follows it
-pub record IsUnit (text : List ℕ) (unit : UnitView) (rest : List ℕ) : Type 0 where
+pub record IsUnit (text : List ℕ) (unit : UnitSeen) (rest : List ℕ) : Type 0 where
   pub before : List ℕ
   pub start : List ℕ
   pub after : List ℕ
@@ -227,20 +227,20 @@ pub record IsUnit (text : List ℕ) (unit : UnitView) (rest : List ℕ) : Type 0
 -- ---- a unit as it is written
 
 -- elements joined by commas, and what follows the last of them
-abbrev pub IsJoined : List ℕ → List Datum → List ℕ → Type 0
-IsJoined text [] left = ⊥
-IsJoined text (d ∷ []) left = Leads text d left
-IsJoined text (d ∷ c ∷ ds) left = (next : List ℕ) × IsNext text d next × IsJoined next (c ∷ ds) left
+abbrev pub AreJoinedElements : List ℕ → List Datum → List ℕ → Type 0
+AreJoinedElements text [] left = ⊥
+AreJoinedElements text (d ∷ []) left = LeadsElement text d left
+AreJoinedElements text (d ∷ c ∷ ds) left = (next : List ℕ) × IsNext text d next × AreJoinedElements next (c ∷ ds) left
 
 -- what follows the last part of a unit: its last element, or where it has none its header and question mark
 abbrev pub IsLeft : List ℕ → List Datum → List ℕ → Type 0
 IsLeft tail [] left = left ≡ tail
 IsLeft tail (d ∷ ds) left = (gap : List ℕ) × (more : List ℕ) × Spans is_blank tail gap more
-    × IsJoined more (d ∷ ds) left
+    × AreJoinedElements more (d ∷ ds) left
 
 -- the first unit of a text as it is written, from its header's first byte to the last byte of its last part; what
 -- stands before it, and what follows it
-pub record IsWritten (text before : List ℕ) (unit : UnitView) (written left : List ℕ) : Type 0 where
+pub record IsWritten (text before : List ℕ) (unit : UnitSeen) (written left : List ℕ) : Type 0 where
   pub start : List ℕ
   pub after : List ℕ
   pub tail : List ℕ
@@ -260,9 +260,9 @@ pub record Closes (left rest : List ℕ) : Type 0 where
 -- ---- refusals: at the first byte that fits no form
 
 -- these elements and their commas come first
-abbrev pub Reaches : List ℕ → List Datum → List ℕ → Type 0
-Reaches text [] here = text ≡ here
-Reaches text (d ∷ ds) here = (next : List ℕ) × IsNext text d next × Reaches next ds here
+abbrev pub ReachesElement : List ℕ → List Datum → List ℕ → Type 0
+ReachesElement text [] here = text ≡ here
+ReachesElement text (d ∷ ds) here = (next : List ℕ) × IsNext text d next × ReachesElement next ds here
 
 -- no element begins here
 abbrev pub BeginsNone : List ℕ → ScpiError → Type 0
@@ -314,7 +314,7 @@ pub record IsUnseparated (text : List ℕ) (e : ScpiError) : Type 0 where
   pub after : List ℕ
   pub gap : List ℕ
   pub more : List ℕ
-  pub element : Leads text datum after
+  pub element : LeadsElement text datum after
   pub before : Spans is_blank after gap more
   pub on : HasNoEnd more
   pub off : StartsOff (λ b. b == 44) more
@@ -329,7 +329,7 @@ IsStuck n here e = BeginsNone here e
 pub record IsDataRefused (text : List ℕ) (e : ScpiError) : Type 0 where
   pub front : List Datum
   pub here : List ℕ
-  pub reached : Reaches text front here
+  pub reached : ReachesElement text front here
   pub few : length front ≤ most_elements
   pub why : IsStuck (length front) here e
 
@@ -352,7 +352,7 @@ pub record IsPartRefused (start : List ℕ) (e : ScpiError) : Type 0 where
   pub refused : IsTailRefused tail e
 
 -- the refusal of the unit at the front of a text
-pub record IsRefused (text : List ℕ) (e : ScpiError) : Type 0 where
+pub record IsRefusedUnit (text : List ℕ) (e : ScpiError) : Type 0 where
   pub before : List ℕ
   pub start : List ℕ
   pub skipped : Spans is_gap text before start
@@ -366,7 +366,7 @@ abbrev pub IsBlank : List ℕ → Type 0
 IsBlank text = AllPass is_gap text
 
 -- The units of a message from the front, up to its end or to its first refusal.
-abbrev pub IsMessage : List ℕ → List UnitView → Option ScpiError → Type 0
+abbrev pub IsMessage : List ℕ → List UnitSeen → Option ScpiError → Type 0
 IsMessage text [] None = IsBlank text
-IsMessage text [] (Some e) = IsRefused text e
+IsMessage text [] (Some e) = IsRefusedUnit text e
 IsMessage text (u ∷ us) end = (rest : List ℕ) × IsUnit text u rest × IsMessage rest us end

@@ -5,7 +5,7 @@ use Rattle.std.specs.Char.{to_ascii_uppercase}
 use Rattle.std.specs.Result.{result_map_both}
 use Rattle.sw_base.specs.Text.{is_blank, is_digit, is_letter, AllPass, Spans}
 use Rattle.sw_base.specs.Limits.{longest_delay}
-use Rattle.sw_base.specs.Number.{Written, IsNumber, IsInLimits, IsRefused, rounded, in_range, tens_of, in_u64}
+use Rattle.sw_base.specs.Number.{Written, IsNumber, IsInLimits, IsRefusedNumber, rounded, in_range, tens_of, in_u64}
 use Rattle.sw_base.specs.declared.error.ScpiError.{ScpiError}
 use Rattle.sw_base.specs.declared.error.ScpiError.TheVariants.{InvalidCharacterInNumber, InvalidSuffix}
 use Rattle.sw_base.specs.declared.error.ScpiError.TheVariants.{SuffixNotAllowed, InvalidCharacterData}
@@ -44,7 +44,7 @@ abbrev pub ReadsQuantity : List ℕ → Result (Written × List ℕ) ScpiError �
 ReadsQuantity text (Ok x) = IsQuantity text x.0 x.1 × IsInLimits x.0
 ReadsQuantity text (Err e) =
     (((n : Written) (suffix : List ℕ) → IsQuantity text n suffix → ⊥) × (e ≡ InvalidCharacterInNumber))
-    ⊎ ((n : Written) × (suffix : List ℕ) × IsQuantity text n suffix × IsRefused text e)
+    ⊎ ((n : Written) × (suffix : List ℕ) × IsQuantity text n suffix × IsRefusedNumber text e)
 
 -- the number itself from low to high, without its sign, else an error
 abbrev pub natural_in : ℕ → ℕ → ℤ → Result ℕ ScpiError
@@ -78,8 +78,8 @@ is_named word text = same_word text (short_of word) || same_word text (long_of w
 -- ---- delays
 
 -- a suffix names a unit of time, none seconds
-abbrev pub unit_of : List ℕ → Option TimeUnit
-unit_of suffix =
+abbrev pub time_unit_of : List ℕ → Option TimeUnit
+time_unit_of suffix =
     if is_named [] suffix then Some S
     else if is_named (codes "S") suffix then Some S
     else if is_named (codes "MS") suffix then Some Ms
@@ -97,7 +97,7 @@ delay_in layer n None = Err InvalidSuffix
 delay_in layer n (Some unit) = delay_within layer (in_u64 (rounded n (tens_of unit)))
 
 abbrev pub delay_of : LayerName → Written → List ℕ → Result Command ScpiError
-delay_of layer n suffix = delay_in layer n (unit_of (map to_ascii_uppercase suffix))
+delay_of layer n suffix = delay_in layer n (time_unit_of (map to_ascii_uppercase suffix))
 
 -- ---- strings and blocks
 

@@ -1,7 +1,8 @@
 //! From a key to its command.
 
 ghost use Rattle.std.specs.Prelude.{◌≡◌, ◌≤◌};
-ghost use Rattle.sw_lex.specs.Commands.{layer_of, of_common, of_instrument, of_layer, of_group, of_channels, of_whole};
+ghost use Rattle.sw_lex.specs.Commands.{layer_numbered, of_common, of_instrument, of_layer, of_group, of_channels};
+ghost use Rattle.sw_lex.specs.Commands.{of_whole};
 ghost use Rattle.sw_lex.specs.Commands.{least, greatest};
 
 use crate::command::Command;
@@ -10,7 +11,7 @@ use sw_base::{ARM_COUNT, Chan, LayerName, POINTS, SLOTS, Sequence, StatusGroup, 
 
 /// The layer of a header with this number, 0 where it has none.
 pub fn layer_of(family: Family, number: u8) -> LayerName
-    ensures { result ≡ layer_of family number }
+    ensures { result ≡ layer_numbered family number }
 {
     match family {
         Family::Arm => {

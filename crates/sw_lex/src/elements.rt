@@ -5,13 +5,14 @@ ghost use Rattle.std.specs.Prelude.{IfNone, length};
 ghost use Rattle.sw_base.specs.Text.{is_digit, AllPass, StartsOff};
 ghost use Rattle.sw_base.specs.Number.{value_of};
 ghost use Rattle.sw_lex.specs.Elements.{kind_of_byte, doubled, IsBlock, IsExpression, IsElement};
-ghost use Rattle.sw_lex.specs.Unit.{most_elements, datum_of, datum_with, Leads, IsUnclosed, IsBadBlock, IsBroken};
+ghost use Rattle.sw_lex.specs.Unit.{most_elements, datum_of, datum_with, LeadsElement, IsUnclosed, IsBadBlock};
+ghost use Rattle.sw_lex.specs.Unit.{IsBroken};
 ghost use Rattle.sw_lex.specs.Unit.{IsStuck};
 
 use crate::numerals::numeral_end;
 use crate::runs::{fault_at, inners};
 use crate::unit::{ELEMENTS, Element};
-use sw_base::{ScpiError, cut, digits, eat, is_digit, is_letter, words};
+use sw_base::{ScpiError, digits, is_digit, is_letter, split_once, strip_prefix, words};
 
 /// The kinds of data elements.
 #[derive(Clone, Copy, Debug, PartialEq, Eq)]
@@ -60,9 +61,9 @@ pub fn closing(text: &[u8], mark: u8) -> Option<&[u8]>
 {
     let mut rest = text;
     'marks: loop {
-        match cut(rest, mark) {
+        match split_once(rest, mark) {
             None => return None,
-            Some((_, more)) => match eat(more, mark) {
+            Some((_, more)) => match strip_prefix(more, mark) {
                 None => return Some(more),
                 Some(others) => rest = others,
             },
@@ -132,7 +133,7 @@ pub fn block_bytes(text: &[u8]) -> Option<&[u8]>
     ensures some { IfSome result (λ bytes. IsBlock text.now bytes.now []) }
     ensures none { IfNone result ((bytes : List ℕ) → IsBlock text.now bytes [] → ⊥) }
 {
-    match eat(text, b'#') {
+    match strip_prefix(text, b'#') {
         None => None,
         Some(more) => match read_block(more) {
             Err(_) => None,
@@ -147,7 +148,7 @@ fn expression_end(more: &[u8]) -> Result<&[u8], ScpiError>
     ensures err { IfErr result (λ e. IsUnclosed (40 ∷ more.now) e) }
 {
     let (_, after) = inners(more);
-    match eat(after, b')') {
+    match strip_prefix(after, b')') {
         None => Err(fault_at(ScpiError::InvalidExpression, after)),
         Some(rest) => Ok(rest),
     }
@@ -205,7 +206,7 @@ fn read_from<'a>(
 ) -> Result<(Element<'a>, &'a [u8]), ScpiError>
     requires whole { text.now ≡ first ∷ more.now }
     requires few { n ≤ most_elements }
-    ensures ok { IfOk result (λ x. Leads text.now (datum_of x.0) x.1.now) }
+    ensures ok { IfOk result (λ x. LeadsElement text.now (datum_of x.0) x.1.now) }
     ensures room { IfOk result (λ _. n < most_elements) }
     ensures err { IfErr result (λ e. IsStuck n text.now e) }
 {
@@ -224,7 +225,7 @@ fn read_from<'a>(
 /// The element at the front with n before it, and what follows it.
 pub fn read_element(text: &[u8], n: usize) -> Result<(Element<'_>, &[u8]), ScpiError>
     requires { n ≤ most_elements }
-    ensures ok { IfOk result (λ x. Leads text.now (datum_of x.0) x.1.now) }
+    ensures ok { IfOk result (λ x. LeadsElement text.now (datum_of x.0) x.1.now) }
     ensures room { IfOk result (λ _. n < most_elements) }
     ensures err { IfErr result (λ e. IsStuck n text.now e) }
 {

@@ -6,11 +6,12 @@ ghost use Rattle.sw_base.specs.Number.{Written};
 ghost use Rattle.sw_base.specs.declared.error.ScpiError.{ScpiError as Error};
 ghost use Rattle.sw_base.specs.declared.error.ScpiError.TheVariants.{OutOfMemory};
 ghost use Rattle.sw_lex.specs.declared.command.Command.{Command as Meant};
-ghost use Rattle.sw_lex.specs.Unit.{UnitView, unit_of, data_of};
+ghost use Rattle.sw_lex.specs.Unit.{UnitSeen, unit_of, data_of};
 ghost use Rattle.sw_lex.specs.Meaning.{asked, path_after, Nodes, path_of, WithNone, WithList, WithString, Defines};
-ghost use Rattle.sw_lex.specs.Meaning.{OfMacro, WithNumber, OfNumber, OfWord, OfSwitch, Decodes, IsRefusal, Resolves};
+ghost use Rattle.sw_lex.specs.Meaning.{OfMacro, WithNumber, OfNumber, OfWord, OfSwitch, DecodesCommand, IsRefusal};
+ghost use Rattle.sw_lex.specs.Meaning.{Resolves};
 ghost use Rattle.sw_lex.specs.Found.{IsIn, spellings};
-ghost use Rattle.sw_lex.specs.Table.{Entry, entries};
+ghost use Rattle.sw_lex.specs.Table.{HeaderEntry, entries};
 ghost use Rattle.sw_lex.specs.Values.{on_ok, ReadsQuantity, ReadsString, whole_of, continuous_of, macros_of, delay_of};
 ghost use Rattle.sw_lex.specs.Values.{source_meant};
 
@@ -196,7 +197,7 @@ fn decode(
     number: u8,
     elements: &[Element<'_>],
 ) -> Result<Command, ScpiError>
-    ensures { Decodes key number (data_of elements.now) result }
+    ensures { DecodesCommand key number (data_of elements.now) result }
 {
     match key {
         Key::Common(ask) => no_data(of_common(ask), elements),
@@ -258,15 +259,16 @@ pub fn resolve(alloc: Global, unit: &RawUnit<'_>, path: &mut Path) -> Result<Com
 
 /// A law: but for want of memory, a unit below a path has one command or one first refusal, and leaves one path.
 pub fn one_meaning()
-    ensures { (unit : UnitView) (below : Nodes) (r s : Result Meant Error) (a b : Nodes) → Resolves unit below r a
+    ensures { (unit : UnitSeen) (below : Nodes) (r s : Result Meant Error) (a b : Nodes) → Resolves unit below r a
         → Resolves unit below s b → r ≢ Err OutOfMemory → s ≢ Err OutOfMemory → (r ≡ s) × (a ≡ b) }
 {}
 
 /// A law: a unit whose header is a spelling of an entry of the table is what that entry asks for, whichever spelling
 /// it is.
 pub fn every_spelling()
-    ensures { (entry : Entry) (unit : UnitView) (below : Nodes) (number : ℕ) (r : Result Meant Error) (left : Nodes)
-        → IsIn entry entries → entry.query ≡ unit.query → IsIn (asked unit below, number) (spellings entry.nodes)
-        → Resolves unit below r left → Decodes entry.key number unit.elements r
+    ensures { (entry : HeaderEntry) (unit : UnitSeen) (below : Nodes) (number : ℕ) (r : Result Meant Error)
+        (left : Nodes) → IsIn entry entries → entry.query ≡ unit.query
+        → IsIn (asked unit below, number) (spellings entry.nodes)
+        → Resolves unit below r left → DecodesCommand entry.key number unit.elements r
         × (left ≡ path_after unit.header below) }
 {}

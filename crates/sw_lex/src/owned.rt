@@ -7,7 +7,7 @@ ghost use Rattle.sw_lex.specs.Values.{ReadsString, ReadsBlock};
 
 use crate::elements::{block_bytes, closing};
 use std::alloc::{AllocError, Global};
-use sw_base::{ScpiError, Sequence, cut, eat};
+use sw_base::{ScpiError, Sequence, split_once, strip_prefix};
 
 /// What stands before the closing mark, each doubled mark as one.
 fn undoubled(alloc: Global, text: &[u8], mark: u8) -> Result<Vec<u8>, AllocError>
@@ -16,11 +16,11 @@ fn undoubled(alloc: Global, text: &[u8], mark: u8) -> Result<Vec<u8>, AllocError
     let mut bytes = Vec::new(alloc);
     let mut rest = text;
     'marks: loop {
-        match cut(rest, mark) {
+        match split_once(rest, mark) {
             None => return Ok(bytes),
             Some((left, more)) => {
                 bytes.extend_from_slice(left)?;
-                match eat(more, mark) {
+                match strip_prefix(more, mark) {
                     None => return Ok(bytes),
                     Some(others) => {
                         bytes.push(mark)?;

@@ -9,7 +9,7 @@ ghost use Rattle.sw_lex.specs.Meaning.{path_of, nodes_of, looked_up, all_but_las
 use crate::unit::Header;
 use crate::values::unnumbered;
 use arrayvec::ArrayVec;
-use sw_base::{MNEMONIC_BYTES, cut};
+use sw_base::{MNEMONIC_BYTES, split_once};
 
 /// A node of a header that was found, as it was written.
 type Node = ArrayVec<u8, MNEMONIC_BYTES>;
@@ -65,7 +65,7 @@ fn joined<'a>(nodes: ArrayVec<&'a [u8], 4>, text: &'a [u8]) -> Option<ArrayVec<&
         if nodes.is_full() {
             return None;
         }
-        match cut(rest, b':') {
+        match split_once(rest, b':') {
             Some((node, more)) => {
                 nodes.push(node);
                 rest = more;

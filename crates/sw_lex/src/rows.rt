@@ -3,7 +3,7 @@
 
 ghost use Rattle.std.specs.Prelude.{◌≡◌, false};
 ghost use Rattle.std.specs.Char.{to_ascii_uppercase};
-ghost use Rattle.sw_lex.specs.Rows.{steps_of, key_of};
+ghost use Rattle.sw_lex.specs.Rows.{row_steps, key_of_row};
 ghost use Rattle.sw_lex.specs.Parts.{IsPart};
 
 use crate::rows::Row::{Command, Query};
@@ -34,7 +34,7 @@ pub enum Row {
 impl Row {
     /// Its nodes below the first.
     pub fn steps(&self) -> &'static [Step]
-        ensures { result.now ≡ steps_of self.now }
+        ensures { result.now ≡ row_steps self.now }
     {
         match *self {
             Command(steps, _) | Query(steps, _) => steps,
@@ -43,7 +43,7 @@ impl Row {
 
     /// What it asks for.
     pub fn key(&self) -> Key
-        ensures { result ≡ key_of self.now }
+        ensures { result ≡ key_of_row self.now }
     {
         match *self {
             Command(_, key) | Query(_, key) => key,

@@ -5,15 +5,15 @@ ghost use Rattle.std.specs.Prelude.{IfNone, length};
 ghost use Rattle.sw_base.specs.Text.{is_blank, is_letter, is_word, AllPass, StartsOff};
 ghost use Rattle.sw_base.specs.declared.error.ScpiError.{ScpiError as Error};
 ghost use Rattle.sw_base.specs.declared.error.ScpiError.TheVariants.{SyntaxError};
-ghost use Rattle.sw_lex.specs.Unit.{most_elements, UnitView, unit_of, heading_of, data_of, is_gap, fault_at, IsPath};
+ghost use Rattle.sw_lex.specs.Unit.{most_elements, UnitSeen, unit_of, heading_of, data_of, is_gap, fault_at, IsPath};
 ghost use Rattle.sw_lex.specs.Unit.{BreaksOff, Heads};
 ghost use Rattle.sw_lex.specs.Unit.{HasNoHeading, Asks, IsData, IsDataRefused, IsTail, IsTailRefused, IsUnit};
-ghost use Rattle.sw_lex.specs.Unit.{IsRefused, IsBlank, IsJoined, IsLeft, IsWritten, Closes, written_of};
+ghost use Rattle.sw_lex.specs.Unit.{IsRefusedUnit, IsBlank, AreJoinedElements, IsLeft, IsWritten, Closes, written_of};
 
 use crate::elements::{before, read_element};
 use crate::runs::{end, fault_at, gaps, mnemonic, name};
 use arrayvec::ArrayVec;
-use sw_base::{ScpiError, blanks, eat};
+use sw_base::{ScpiError, blanks, strip_prefix};
 
 /// The most data elements of a unit.
 pub const ELEMENTS: usize = 16;
@@ -85,7 +85,7 @@ fn read_path(text: &[u8]) -> Result<(&[u8], &[u8]), ScpiError>
     'nodes: loop {
         let (node, after) = mnemonic(rest)?;
         n += node.len();
-        match eat(after, b':') {
+        match strip_prefix(after, b':') {
             Some(more) => {
                 n += 1;
                 rest = more;
@@ -140,7 +140,7 @@ fn read_header(text: &[u8]) -> Result<(Header<'_>, &[u8]), ScpiError>
 fn query_mark(text: &[u8]) -> (bool, &[u8])
     ensures { Asks text.now result.0 result.1.now }
 {
-    match eat(text, b'?') {
+    match strip_prefix(text, b'?') {
         Some(rest) => (true, rest),
         None => (false, text),
     }
@@ -149,7 +149,7 @@ fn query_mark(text: &[u8]) -> (bool, &[u8])
 /// The elements up to the unit's end, what follows the last of them, and what follows the end.
 fn read_data(text: &[u8]) -> Result<(ArrayVec<Element<'_>, ELEMENTS>, &[u8], &[u8]), ScpiError>
     ensures ok { IfOk result (λ x. IsData text.now (data_of x.0.items) x.2.now) }
-    ensures joined { IfOk result (λ x. IsJoined text.now (data_of x.0.items) x.1.now) }
+    ensures joined { IfOk result (λ x. AreJoinedElements text.now (data_of x.0.items) x.1.now) }
     ensures closes { IfOk result (λ x. Closes x.1.now x.2.now) }
     ensures few { IfOk result (λ x. length (data_of x.0.items) ≤ most_elements) }
     ensures err { IfErr result (λ e. IsDataRefused text.now e) }
@@ -164,7 +164,7 @@ fn read_data(text: &[u8]) -> Result<(ArrayVec<Element<'_>, ELEMENTS>, &[u8], &[u
                 found.push(next);
                 return Ok((found, after, others));
             }
-            None => match eat(more, b',') {
+            None => match strip_prefix(more, b',') {
                 Some(others) => {
                     let (_, others) = blanks(others);
                     found.push(next);
@@ -204,7 +204,7 @@ pub fn next_unit(text: &[u8]) -> Result<Option<(RawUnit<'_>, &[u8])>, ScpiError>
         × IsWritten text.now before (unit_of x.0) (written_of x.0) left × Closes left x.1.now)) }
     ensures shorter { IfOk result (λ o. IfSome o (λ x. length x.1.now < length text.now)) }
     ensures none { IfOk result (λ o. IfNone o (IsBlank text.now)) }
-    ensures refused { IfErr result (λ e. IsRefused text.now e) }
+    ensures refused { IfErr result (λ e. IsRefusedUnit text.now e) }
 {
     let (_, start) = gaps(text);
     if start.is_empty() {
@@ -227,12 +227,13 @@ pub fn next_unit(text: &[u8]) -> Result<Option<(RawUnit<'_>, &[u8])>, ScpiError>
 /// A law: no text is two units, nor refused in two ways, nor a unit and refused, nor blank and either; and no unit is
 /// written in two ways.
 pub fn one_reading()
-    ensures units { (text : List ℕ) (u v : UnitView) (r s : List ℕ) → IsUnit text u r → IsUnit text v s
+    ensures units { (text : List ℕ) (u v : UnitSeen) (r s : List ℕ) → IsUnit text u r → IsUnit text v s
         → (u ≡ v) × (r ≡ s) }
-    ensures written { (text before front : List ℕ) (u : UnitView) (w v r s : List ℕ) → IsWritten text before u w r
+    ensures written { (text before front : List ℕ) (u : UnitSeen) (w v r s : List ℕ) → IsWritten text before u w r
         → IsWritten text front u v s → (before ≡ front) × (w ≡ v) × (r ≡ s) }
-    ensures refusals { (text : List ℕ) (e f : Error) → IsRefused text e → IsRefused text f → e ≡ f }
-    ensures apart { (text : List ℕ) (u : UnitView) (r : List ℕ) (e : Error) → IsUnit text u r → IsRefused text e → ⊥ }
-    ensures no_unit { (text : List ℕ) (u : UnitView) (r : List ℕ) → IsBlank text → IsUnit text u r → ⊥ }
-    ensures no_refusal { (text : List ℕ) (e : Error) → IsBlank text → IsRefused text e → ⊥ }
+    ensures refusals { (text : List ℕ) (e f : Error) → IsRefusedUnit text e → IsRefusedUnit text f → e ≡ f }
+    ensures apart { (text : List ℕ) (u : UnitSeen) (r : List ℕ) (e : Error) → IsUnit text u r → IsRefusedUnit text e
+        → ⊥ }
+    ensures no_unit { (text : List ℕ) (u : UnitSeen) (r : List ℕ) → IsBlank text → IsUnit text u r → ⊥ }
+    ensures no_refusal { (text : List ℕ) (e : Error) → IsBlank text → IsRefusedUnit text e → ⊥ }
 {}

@@ -6,7 +6,7 @@ ghost use Rattle.std.specs.Result.{result_map_both};
 ghost use Rattle.sw_base.specs.Text.{is_blank, is_letter, AllPass, Spans};
 ghost use Rattle.sw_base.specs.Number.{Written, rounded};
 ghost use Rattle.sw_lex.specs.Values.{IsQuantity, ReadsQuantity, natural_in, whole_of, continuous_of, macros_of};
-ghost use Rattle.sw_lex.specs.Values.{unit_of, delay_of, delay_in, source_of, switch_of, source_meant};
+ghost use Rattle.sw_lex.specs.Values.{time_unit_of, delay_of, delay_in, source_of, switch_of, source_meant};
 ghost use Rattle.sw_lex.specs.Values.{switch_meant, all_digits, unnumbered};
 
 use crate::choice::{greatest, least, of_whole};
@@ -101,7 +101,7 @@ pub fn macros_of(n: &Nrf<'_>, suffix: &[u8]) -> Result<Command, ScpiError>
 
 /// The unit of time that a suffix names.
 fn unit_of(suffix: &[u8]) -> Option<Unit>
-    ensures { result ≡ unit_of (map to_ascii_uppercase suffix.now) }
+    ensures { result ≡ time_unit_of (map to_ascii_uppercase suffix.now) }
 {
     if is_form(suffix, b"") {
         Some(Unit::S)

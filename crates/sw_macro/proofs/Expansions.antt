@@ -5,11 +5,11 @@ use Rattle.std.proofs.lemmas.List.{append_cancel_right, length-append, take_at, 
 use Rattle.sw_base.specs.Text.{AllPass, Spans}
 use Rattle.sw_base.proofs.Runs.{one_span}
 use Rattle.sw_base.specs.declared.error.ScpiError.{ScpiError}
-use Rattle.sw_lex.specs.Unit.{UnitView, IsUnit, IsWritten, Ends, Closes, is_gap}
+use Rattle.sw_lex.specs.Unit.{UnitSeen, IsUnit, IsWritten, Ends, Closes, is_gap}
 use Rattle.sw_lex.proofs.Once.{one_unit, unit_refused, blank_unit}
 use Rattle.sw_lex.proofs.Written.{one_written}
 use Rattle.sw_macro.specs.Table.{Macro, Table}
-use Rattle.sw_macro.specs.Expansion.{opened, Place, IsFirstUnit, HasNoUnit, Becomes, ends, keeps, fails, stops, goes, within_bound, Replaces, opened_in}
+use Rattle.sw_macro.specs.Expansion.{opened_macro, Place, IsFirstUnit, HasNoUnit, Becomes, ends, keeps, fails, stops, goes, within_bound, Replaces, opened_in}
 use Rattle.sw_macro.specs.Expansion.{Expands}
 
 -- ---- the code's cut of a text
@@ -23,7 +23,7 @@ closes_front left rest c = at_end left c.gap c.end rest c.space.whole c.ends
     at_end left gap (b ∷ end) rest w e = (gap ++ b ∷ [], w ∙ ap (λ (t : List ℕ). gap ++ b ∷ t) (sym e.1) ∙ sym (append_assoc gap (b ∷ []) rest))
 
 -- the first unit of a text, which stands at the front of what follows a gap, and the parts round it
-pub record FirstUnitParts (text before start : List ℕ) (u : UnitView) (w rest : List ℕ) : Type 0 where
+pub record FirstUnitParts (text before start : List ℕ) (u : UnitSeen) (w rest : List ℕ) : Type 0 where
   pub left : List ℕ
   pub between : List ℕ
   pub whole : start ≡ w ++ left
@@ -34,7 +34,7 @@ pub record FirstUnitParts (text before start : List ℕ) (u : UnitView) (w rest 
 no_gap : (text before start : List ℕ) → Spans is_gap text before start → Spans is_gap start [] start
 no_gap text before start s = record { whole = refl; pass = tt; off = s.off }
 
-pub first_after_gap : (text before start : List ℕ) (u : UnitView) (w rest : List ℕ) → Spans is_gap text before start
+pub first_after_gap : (text before start : List ℕ) (u : UnitSeen) (w rest : List ℕ) → Spans is_gap text before start
     → (b : List ℕ) × (left : List ℕ) × IsWritten start b u w left × Closes left rest → FirstUnitParts text before start u w rest
 first_after_gap text before start u w rest s e =
     let p = e.2 in
@@ -57,7 +57,7 @@ first_after_gap text before start u w rest s e =
       };
     }
 
-pub unit_after_gap : (text before start : List ℕ) (u : UnitView) (rest : List ℕ) → Spans is_gap text before start
+pub unit_after_gap : (text before start : List ℕ) (u : UnitSeen) (rest : List ℕ) → Spans is_gap text before start
     → IsUnit start u rest → IsUnit text u rest
 unit_after_gap text before start u rest s i =
     let r = one_span is_gap start i.before i.start [] start i.skipped (no_gap text before start s) in
@@ -117,10 +117,10 @@ pub onward_none : (ms : List Macro) (names : List (List ℕ)) (body first : List
 onward_none ms names body first = record { so = λ r d. d }
 
 -- the outcome of `open`, for the labels and the length that were passed
-pub opened_so : (ms : List Macro) (passed names : List (List ℕ)) (u : UnitView) (n : ℕ) (kept now before : List ℕ) (a : Result (Option Macro) ScpiError)
-    → passed ≡ names → kept ≡ now ++ before → n ≡ length kept → opened ms passed u n ≡ a → opened ms names u (length (now ++ before)) ≡ a
+pub opened_so : (ms : List Macro) (passed names : List (List ℕ)) (u : UnitSeen) (n : ℕ) (kept now before : List ℕ) (a : Result (Option Macro) ScpiError)
+    → passed ≡ names → kept ≡ now ++ before → n ≡ length kept → opened_macro ms passed u n ≡ a → opened_macro ms names u (length (now ++ before)) ≡ a
 opened_so ms passed names u n kept now before a p k l h =
-    ap (λ (m : ℕ). opened ms names u m) (sym (l ∙ ap (λ (t : List ℕ). length t) k)) ∙ ap (λ (x : List (List ℕ)). opened ms x u n) (sym p) ∙ h
+    ap (λ (m : ℕ). opened_macro ms names u m) (sym (l ∙ ap (λ (t : List ℕ). length t) k)) ∙ ap (λ (x : List (List ℕ)). opened_macro ms x u n) (sym p) ∙ h
 
 -- the outcome of a body within, likewise
 pub within_so : (ms : List Macro) (passed names : List (List ℕ)) (text body kept now before label : List ℕ) (r : Result (List ℕ) ScpiError)
@@ -137,23 +137,23 @@ onward_ends ms names body first rest now new o h e =
     o.so (Ok new) (subst (λ (t : List ℕ). Becomes ms names rest now (Ok t)) (sym e) (ends h))
 
 pub onward_fails : (ms : List Macro) (names : List (List ℕ)) (body first rest now : List ℕ) (p : Place) (e : ScpiError) → Onward ms names body first rest now
-    → IsFirstUnit rest p → opened ms names p.unit (length (now ++ p.before)) ≡ Err e → Becomes ms names body first (Err e)
+    → IsFirstUnit rest p → opened_macro ms names p.unit (length (now ++ p.before)) ≡ Err e → Becomes ms names body first (Err e)
 onward_fails ms names body first rest now p e o s h = o.so (Err e) (fails s h)
 
 pub onward_stops : (ms : List Macro) (names : List (List ℕ)) (body first rest now : List ℕ) (p : Place) (m : Macro) (e : ScpiError)
-    → Onward ms names body first rest now → IsFirstUnit rest p → opened ms names p.unit (length (now ++ p.before)) ≡ Ok (Some m)
+    → Onward ms names body first rest now → IsFirstUnit rest p → opened_macro ms names p.unit (length (now ++ p.before)) ≡ Ok (Some m)
     → Becomes ms (names ++ m.0 ∷ []) m.1 (now ++ p.before) (Err e) → Becomes ms names body first (Err e)
 onward_stops ms names body first rest now p m e o s h d = o.so (Err e) (stops {m = m} s h d)
 
 pub onward_keeps : (ms : List Macro) (names : List (List ℕ)) (body first rest now new : List ℕ) (p : Place) → Onward ms names body first rest now
-    → IsFirstUnit rest p → opened ms names p.unit (length (now ++ p.before)) ≡ Ok None → new ≡ ((now ++ p.before) ++ p.written) ++ p.between
+    → IsFirstUnit rest p → opened_macro ms names p.unit (length (now ++ p.before)) ≡ Ok None → new ≡ ((now ++ p.before) ++ p.written) ++ p.between
     → Onward ms names body first p.rest new
 onward_keeps ms names body first rest now new p o s h e = record {
   so = λ r d. o.so r (keeps s h (subst (λ (t : List ℕ). Becomes ms names p.rest t r) e d));
 }
 
 pub onward_goes : (ms : List Macro) (names : List (List ℕ)) (body first rest now done new : List ℕ) (p : Place) (m : Macro)
-    → Onward ms names body first rest now → IsFirstUnit rest p → opened ms names p.unit (length (now ++ p.before)) ≡ Ok (Some m)
+    → Onward ms names body first rest now → IsFirstUnit rest p → opened_macro ms names p.unit (length (now ++ p.before)) ≡ Ok (Some m)
     → Becomes ms (names ++ m.0 ∷ []) m.1 (now ++ p.before) (Ok done) → new ≡ done ++ p.between → Onward ms names body first p.rest new
 onward_goes ms names body first rest now done new p m o s h d e = record {
   so = λ r f. o.so r (goes {m = m} s h d (subst (λ (t : List ℕ). Becomes ms names p.rest t r) e f));
@@ -161,13 +161,13 @@ onward_goes ms names body first rest now done new p m o s h d e = record {
 
 -- ---- one first unit
 
-place : List ℕ → UnitView → List ℕ → List ℕ → List ℕ → Place
+place : List ℕ → UnitSeen → List ℕ → List ℕ → List ℕ → Place
 place b u w m r = record { before = b; unit = u; written = w; between = m; rest = r }
 
 place_is : (p q : Place) → p.before ≡ q.before → p.unit ≡ q.unit → p.written ≡ q.written → p.between ≡ q.between → p.rest ≡ q.rest → p ≡ q
 unfolding place
 place_is p q a b c d e =
-    ap (λ (x : List ℕ). place x p.unit p.written p.between p.rest) a ∙ ap (λ (x : UnitView). place q.before x p.written p.between p.rest) b
+    ap (λ (x : List ℕ). place x p.unit p.written p.between p.rest) a ∙ ap (λ (x : UnitSeen). place q.before x p.written p.between p.rest) b
     ∙ ap (λ (x : List ℕ). place q.before q.unit x p.between p.rest) c ∙ ap (λ (x : List ℕ). place q.before q.unit q.written x p.rest) d
     ∙ ap (λ (x : List ℕ). place q.before q.unit q.written q.between x) e
 
@@ -175,7 +175,7 @@ one_place : (text : List ℕ) (p q : Place) → IsFirstUnit text p → IsFirstUn
 one_place text p q s t =
     let u = one_unit text p.unit q.unit p.rest q.rest s.reads t.reads in
     let w = one_written text p.before q.before q.unit p.written q.written s.left t.left
-    (subst (λ (x : UnitView). IsWritten text p.before x p.written s.left) u.0 s.writes) t.writes in
+    (subst (λ (x : UnitSeen). IsWritten text p.before x p.written s.left) u.0 s.writes) t.writes in
     let m = append_cancel_right p.between q.between p.rest (sym s.parts ∙ w.2 ∙ t.parts ∙ ap (λ (x : List ℕ). q.between ++ x) (sym u.1)) in
     place_is p q w.0 u.0 w.1 m u.1
 
@@ -186,12 +186,12 @@ no_place text p h s =
 -- ---- one outcome
 
 opened_at : List Macro → List (List ℕ) → List ℕ → Place → Result (Option Macro) ScpiError
-opened_at ms names sofar p = opened ms names p.unit (length (sofar ++ p.before))
+opened_at ms names sofar p = opened_macro ms names p.unit (length (sofar ++ p.before))
 
 one_opened : (ms : List Macro) (names : List (List ℕ)) (text sofar : List ℕ) (p q : Place) (a b : Result (Option Macro) ScpiError) → IsFirstUnit text p
-    → IsFirstUnit text q → opened ms names p.unit (length (sofar ++ p.before)) ≡ a → opened ms names q.unit (length (sofar ++ q.before)) ≡ b → a ≡ b
+    → IsFirstUnit text q → opened_macro ms names p.unit (length (sofar ++ p.before)) ≡ a → opened_macro ms names q.unit (length (sofar ++ q.before)) ≡ b → a ≡ b
 one_opened ms names text sofar p q a b s t h k =
-    sym h ∙ ap (λ (z : Place). opened ms names z.unit (length (sofar ++ z.before))) (one_place text p q s t) ∙ k
+    sym h ∙ ap (λ (z : Place). opened_macro ms names z.unit (length (sofar ++ z.before))) (one_place text p q s t) ∙ k
 
 abbrev Opened : Type 0
 Opened = Result (Option Macro) ScpiError
@@ -311,6 +311,6 @@ one_replaced ms (Ok None) written r s h k = h ∙ sym k
 one_replaced ms (Ok (Some m)) written r s h k =
     h.2 ∙ ap (λ (x : Result (List ℕ) ScpiError). within_bound x) (one_becomes ms h.1 k.1) ∙ sym k.2
 
-pub one_expanded : (t : Table) (unit : UnitView) (written : List ℕ) (r s : Result (List ℕ) ScpiError) → Expands t unit written r → Expands t unit written s
+pub one_expanded : (t : Table) (unit : UnitSeen) (written : List ℕ) (r s : Result (List ℕ) ScpiError) → Expands t unit written r → Expands t unit written s
     → r ≡ s
 one_expanded t unit written r s h k = one_replaced t.macros (opened_in t unit) written r s h k

@@ -12,7 +12,7 @@ use Rattle.std.proofs.lemmas.Option.{slice_get-map, slice_get_read}
 use Rattle.sw_lex.specs.declared.unit.Element.{Element}
 use Rattle.sw_lex.specs.Unit.{Datum, datum_of, datum_text, data_of}
 use Rattle.sw_base.specs.Limits.{most_bytes}
-use Rattle.sw_macro.specs.Filling.{is_place, parameter, prefixed, joined, filled, fitting, put_in, IsDraft}
+use Rattle.sw_macro.specs.Filling.{is_place, parameter, prefixed, text_joined, filled, fitting, put_in, IsDraft}
 
 -- ---- texts after other texts
 
@@ -45,7 +45,7 @@ pub mark_stays : (ds : List Datum) (c : ℕ) (others : List ℕ) → is_place c 
 mark_stays ds c others h = rw h refl
 
 pub mark_stands : (ds : List Datum) (c : ℕ) (others : List ℕ) → is_place c ≡ true
-    → filled ds (36 ∷ c ∷ others) ≡ joined (parameter ds (c - 49)) (filled ds others)
+    → filled ds (36 ∷ c ∷ others) ≡ text_joined (parameter ds (c - 49)) (filled ds others)
 mark_stands ds c others h = rw h refl
 
 -- ---- what was written so far

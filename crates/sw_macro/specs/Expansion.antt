@@ -8,7 +8,7 @@ use Rattle.std.specs.Result.{result_map_both}
 use Rattle.sw_base.specs.Limits.{most_levels, most_bytes}
 use Rattle.sw_base.specs.declared.error.ScpiError.{ScpiError}
 use Rattle.sw_base.specs.declared.error.ScpiError.TheVariants.{MacroRecursionError}
-use Rattle.sw_lex.specs.Unit.{Heading, common, path, UnitView, IsUnit, IsRefused, IsBlank, IsWritten}
+use Rattle.sw_lex.specs.Unit.{Heading, common, path, UnitSeen, IsUnit, IsRefusedUnit, IsBlank, IsWritten}
 use Rattle.sw_macro.specs.Label.{is_label, in_capitals}
 use Rattle.sw_macro.specs.Table.{Macro, Table, body_of}
 use Rattle.sw_macro.specs.Filling.{put_in}
@@ -28,11 +28,11 @@ named_by ms (path true nodes) = None
 named_by ms (path false nodes) = macro_at ms nodes
 
 -- the macro whose label is exactly the unit's header, without a colon and without a question mark
-abbrev pub called : List Macro → UnitView → Option Macro
+abbrev pub called : List Macro → UnitSeen → Option Macro
 called ms unit = if unit.query then None else named_by ms unit.header
 
 -- whether a unit is replaced: macros are on, and it calls one
-abbrev pub calls : Table → UnitView → Bool
+abbrev pub calls : Table → UnitSeen → Bool
 calls t unit = t.on && is_some (called t.macros unit)
 
 -- ---- its body in the unit's place
@@ -40,24 +40,24 @@ calls t unit = t.on && is_some (called t.macros unit)
 abbrev pub is_one_of : List ℕ → List (List ℕ) → Bool
 is_one_of label names = list_any (bytes_eq label) names
 
-abbrev pub opening : List (List ℕ) → UnitView → ℕ → Option Macro → Result (Option Macro) ScpiError
-opening names unit n None = Ok None
-opening names unit n (Some m) =
+abbrev pub opened_found : List (List ℕ) → UnitSeen → ℕ → Option Macro → Result (Option Macro) ScpiError
+opened_found names unit n None = Ok None
+opened_found names unit n (Some m) =
     if is_one_of m.0 names || nat_le most_levels (length names) then Err MacroRecursionError
     else result_map_both (λ text. Some (m.0, text)) (λ e. e) (put_in unit.elements m.1 n)
 
 -- The label and the filled body of the macro that a unit calls, or none where it calls none. The names are the labels
 -- in whose bodies the unit stands, the outermost first; n bytes stand before it. A label inside its own body and a
 -- ninth level are refused first.
-abbrev pub opened : List Macro → List (List ℕ) → UnitView → ℕ → Result (Option Macro) ScpiError
-opened ms names unit n = opening names unit n (called ms unit)
+abbrev pub opened_macro : List Macro → List (List ℕ) → UnitSeen → ℕ → Result (Option Macro) ScpiError
+opened_macro ms names unit n = opened_found names unit n (called ms unit)
 
 -- ---- a filled body, unit by unit
 
 -- a unit in its place: what stands before it, itself as it is written, what stands between it and the rest, and that
 pub record Place : Type 0 where
   pub before : List ℕ
-  pub unit : UnitView
+  pub unit : UnitSeen
   pub written : List ℕ
   pub between : List ℕ
   pub rest : List ℕ
@@ -70,7 +70,7 @@ pub record IsFirstUnit (text : List ℕ) (p : Place) : Type 0 where
   pub parts : left ≡ p.between ++ p.rest
 
 abbrev pub HasNoUnit : List ℕ → Type 0
-HasNoUnit text = IsBlank text ⊎ ((e : ScpiError) × IsRefused text e)
+HasNoUnit text = IsBlank text ⊎ ((e : ScpiError) × IsRefusedUnit text e)
 
 -- A text below these names, after what was written so far, gives what is written then, or the first fault.
 pub data Becomes (ms : List Macro) : List (List ℕ) → List ℕ → List ℕ → Result (List ℕ) ScpiError → Type 0 where
@@ -81,24 +81,24 @@ pub data Becomes (ms : List Macro) : List (List ℕ) → List ℕ → List ℕ �
   -- a unit that calls no macro stays as it is written
   keeps : {names : List (List ℕ)} {text sofar : List ℕ} {p : Place} {r : Result (List ℕ) ScpiError}
       → IsFirstUnit text p
-      → opened ms names p.unit (length (sofar ++ p.before)) ≡ Ok None
+      → opened_macro ms names p.unit (length (sofar ++ p.before)) ≡ Ok None
       → Becomes ms names p.rest (((sofar ++ p.before) ++ p.written) ++ p.between) r
       → Becomes ms names text sofar r
   -- a macro that can't be opened
   fails : {names : List (List ℕ)} {text sofar : List ℕ} {p : Place} {e : ScpiError}
       → IsFirstUnit text p
-      → opened ms names p.unit (length (sofar ++ p.before)) ≡ Err e
+      → opened_macro ms names p.unit (length (sofar ++ p.before)) ≡ Err e
       → Becomes ms names text sofar (Err e)
   -- a fault within the body of a macro
   stops : {names : List (List ℕ)} {text sofar : List ℕ} {p : Place} {m : Macro} {e : ScpiError}
       → IsFirstUnit text p
-      → opened ms names p.unit (length (sofar ++ p.before)) ≡ Ok (Some m)
+      → opened_macro ms names p.unit (length (sofar ++ p.before)) ≡ Ok (Some m)
       → Becomes ms (names ++ m.0 ∷ []) m.1 (sofar ++ p.before) (Err e)
       → Becomes ms names text sofar (Err e)
   -- what the body of a macro becomes stands in the unit's place
   goes : {names : List (List ℕ)} {text sofar done : List ℕ} {p : Place} {m : Macro} {r : Result (List ℕ) ScpiError}
       → IsFirstUnit text p
-      → opened ms names p.unit (length (sofar ++ p.before)) ≡ Ok (Some m)
+      → opened_macro ms names p.unit (length (sofar ++ p.before)) ≡ Ok (Some m)
       → Becomes ms (names ++ m.0 ∷ []) m.1 (sofar ++ p.before) (Ok done)
       → Becomes ms names p.rest (done ++ p.between) r
       → Becomes ms names text sofar r
@@ -117,9 +117,9 @@ Replaces ms (Ok (Some m)) written r =
     (text : Result (List ℕ) ScpiError) × Becomes ms (m.0 ∷ []) m.1 [] text × (r ≡ within_bound text)
 
 -- while macros are off no unit calls one
-abbrev pub opened_in : Table → UnitView → Result (Option Macro) ScpiError
-opened_in t unit = if t.on then opened t.macros [] unit 0 else Ok None
+abbrev pub opened_in : Table → UnitSeen → Result (Option Macro) ScpiError
+opened_in t unit = if t.on then opened_macro t.macros [] unit 0 else Ok None
 
 -- A unit that is written so gives this text, or this fault. A unit that calls no macro gives itself.
-abbrev pub Expands : Table → UnitView → List ℕ → Result (List ℕ) ScpiError → Type 0
+abbrev pub Expands : Table → UnitSeen → List ℕ → Result (List ℕ) ScpiError → Type 0
 Expands t unit written r = Replaces t.macros (opened_in t unit) written r

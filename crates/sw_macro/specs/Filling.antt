@@ -20,9 +20,9 @@ prefixed bytes None = None
 prefixed bytes (Some text) = Some (bytes ++ text)
 
 -- a text after a parameter; none where either is missing
-abbrev pub joined : Option (List ℕ) → Option (List ℕ) → Option (List ℕ)
-joined None text = None
-joined (Some bytes) text = prefixed bytes text
+abbrev pub text_joined : Option (List ℕ) → Option (List ℕ) → Option (List ℕ)
+text_joined None text = None
+text_joined (Some bytes) text = prefixed bytes text
 
 -- The body with each `$1` to `$9` replaced by that data element as it is written; none where one is missing. A `$`
 -- before another byte stays.
@@ -30,7 +30,7 @@ abbrev pub filled : List Datum → List ℕ → Option (List ℕ)
 filled ds [] = Some []
 filled ds (b ∷ []) = Some (b ∷ [])
 filled ds (b ∷ c ∷ more) =
-    if b == 36 && is_place c then joined (parameter ds (c - 49)) (filled ds more)
+    if b == 36 && is_place c then text_joined (parameter ds (c - 49)) (filled ds more)
     else prefixed (b ∷ []) (filled ds (c ∷ more))
 
 -- a filled body where n bytes stand before it: a missing parameter is refused first, then what is too long together

@@ -7,11 +7,11 @@ ghost use Rattle.sw_base.specs.Memory.{Gives};
 ghost use Rattle.sw_base.specs.Limits.{most_levels};
 ghost use Rattle.sw_base.specs.declared.error.ScpiError.{ScpiError as Error};
 ghost use Rattle.sw_base.specs.declared.error.ScpiError.TheVariants.{OutOfMemory};
-ghost use Rattle.sw_lex.specs.Unit.{UnitView, unit_of, written_of};
+ghost use Rattle.sw_lex.specs.Unit.{UnitSeen, unit_of, written_of};
 ghost use Rattle.sw_macro.specs.Table.{Table};
-ghost use Rattle.sw_macro.specs.Expansion.{called, calls, opened_in, is_one_of, opened, IsFirstUnit, HasNoUnit};
+ghost use Rattle.sw_macro.specs.Expansion.{called, calls, opened_in, is_one_of, opened_macro, IsFirstUnit, HasNoUnit};
 ghost use Rattle.sw_macro.specs.Expansion.{Becomes, Expands};
-ghost use Rattle.sw_macro.specs.Placed.{piece_seen, names_of};
+ghost use Rattle.sw_macro.specs.Placed.{place_of, names_of};
 
 use crate::filling::fill;
 use crate::label::Label;
@@ -37,7 +37,7 @@ struct Piece<'a> {
 
 /// The first unit of a text in its place; none where no unit can be read.
 fn first_unit(text: &[u8]) -> Option<Piece<'_>>
-    ensures some { IfSome result (λ p. IsFirstUnit text.now (piece_seen p)) }
+    ensures some { IfSome result (λ p. IsFirstUnit text.now (place_of p)) }
     ensures shorter { IfSome result (λ p. length p.rest.now < length text.now) }
     ensures none { IfNone result (HasNoUnit text.now) }
 {
@@ -98,7 +98,7 @@ fn open(
     before: usize,
 ) -> Result<Option<(Label, Vec<u8>)>, ScpiError>
     ensures opened { Gives (λ o. option_map (λ m. (m.0.items, m.1.items)) o) result
-        (opened macros.now.macros (names_of names.now) (unit_of unit.now) before) }
+        (opened_macro macros.now.macros (names_of names.now) (unit_of unit.now) before) }
     ensures room { IfOk result (λ o. IfSome o (λ _. length names.now < most_levels)) }
 {
     match called(macros, unit) {
@@ -195,6 +195,6 @@ impl Macros {
 
 /// A law: no unit has two expansions, nor two first faults, nor an expansion and a fault.
 pub fn one_expansion()
-    ensures { (t : Table) (unit : UnitView) (written : List ℕ) (r s : Result (List ℕ) Error)
+    ensures { (t : Table) (unit : UnitSeen) (written : List ℕ) (r s : Result (List ℕ) Error)
         → Expands t unit written r → Expands t unit written s → r ≡ s }
 {}

@@ -8,7 +8,7 @@ ghost use Rattle.sw_lex.specs.Unit.{datum_of, datum_text, unit_of};
 ghost use Rattle.sw_macro.specs.Filling.{is_place, parameter, filled, put_in, PutsFor, IsDraft};
 
 use std::alloc::{AllocError, Global};
-use sw_base::{MESSAGE_BYTES, ScpiError, cut};
+use sw_base::{MESSAGE_BYTES, ScpiError, split_once};
 use sw_lex::{Element, RawUnit};
 
 /// Whether the byte after a `$` names a data element.
@@ -109,7 +109,7 @@ pub fn fill<'a>(
     let mut room = MESSAGE_BYTES.checked_sub(before);
     let mut rest = body;
     'parts: loop {
-        match cut(rest, b'$') {
+        match split_once(rest, b'$') {
             None => {
                 return match put(&mut text, rest, room)? {
                     None => Err(ScpiError::MacroRecursionError),

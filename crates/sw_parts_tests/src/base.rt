@@ -2,8 +2,8 @@
 
 use std::process::Abort;
 use sw_base::{
-    Nrf, Reading, ScpiError, Unit, cut, limits_agree, one_reading, one_text, print_micros,
-    print_number, print_reading, print_signed,
+    Nrf, Reading, ScpiError, Unit, limits_agree, one_reading, one_text, print_micros, print_number,
+    print_reading, print_signed, split_once,
 };
 
 /// Texts with the nearest whole number behind `=`, or behind `!` the number of the error, over all of i64.
@@ -42,7 +42,7 @@ fn is_read(entry: &[u8]) -> bool {
 
 /// The first entry of a row of entries, and those behind it.
 fn first_entry(row: &[u8]) -> Option<(&[u8], &[u8])> {
-    cut(row, b'|')
+    split_once(row, b'|')
 }
 
 #[test]
@@ -59,14 +59,14 @@ fn numbers_of_the_table(rt: HostRuntime) {
 }
 
 fn text_of(entry: &[u8]) -> &[u8] {
-    match cut(entry, b'=').or(cut(entry, b'!')) {
+    match split_once(entry, b'=').or(split_once(entry, b'!')) {
         Some((text, _)) => text,
         None => entry,
     }
 }
 
 fn wanted(entry: &[u8], read: bool) -> Option<&[u8]> {
-    match cut(entry, if read { b'=' } else { b'!' }) {
+    match split_once(entry, if read { b'=' } else { b'!' }) {
         Some((_, want)) => Some(want),
         None => None,
     }

@@ -8,12 +8,12 @@ use Rattle.sw_base.specs.declared.error.ScpiError.TheVariants.{OutOfMemory}
 use Rattle.sw_lex.specs.declared.command.Command.{Command}
 use Rattle.sw_lex.specs.declared.command.Command.TheVariants.{DefineMacro, MacroQuery, MacroLabelsQuery, RemoveMacro, PurgeMacros, EnableMacros}
 use Rattle.sw_lex.specs.declared.command.Command.TheVariants.{EnableMacrosQuery}
-use Rattle.sw_lex.specs.Unit.{UnitView}
+use Rattle.sw_lex.specs.Unit.{UnitSeen}
 use Rattle.sw_macro.specs.Table.{Macro, Table, labels, refusal_to_define, refusal_to_find, RefusedBy}
 use Rattle.sw_macro.specs.Filling.{put_in}
-use Rattle.sw_macro.specs.Expansion.{called, calls, opening, opened, opened_in, Replaces, Expands}
-use Rattle.sw_core.specs.Answers.{flag_of}
-use Rattle.sw_session.specs.Macros.{Told, block_of, labels_text, Tells, Defines, Removes, TellsBody, Acts}
+use Rattle.sw_macro.specs.Expansion.{called, calls, opened_found, opened_macro, opened_in, Replaces, Expands}
+use Rattle.sw_core.specs.Answers.{yes_or_no}
+use Rattle.sw_session.specs.Macros.{Told, block_of, labels_text, TellsMacroText, DefinesMacro, Removes, TellsBody, ActsOnMacros}
 
 -- no want of memory
 abbrev IsAmple : Told → Type 0
@@ -26,12 +26,13 @@ refused-once None e e' p q = p ∙ sym q
 lost : (o : Option ScpiError) (e : ScpiError) → o ≡ None → RefusedBy o e → IsAmple (Err e) → ⊥
 lost o e is p some = some (ap (λ (x : ScpiError). Err x) (subst (λ (x : Option ScpiError). RefusedBy x e) is p))
 
-tells-same : (text : List ℕ) (told told' : Told) → Tells text told → Tells text told' → IsAmple told → IsAmple told' → told ≡ told'
+tells-same : (text : List ℕ) (told told' : Told) → TellsMacroText text told → TellsMacroText text told' → IsAmple told → IsAmple told' → told ≡ told'
 tells-same text (Ok x) (Ok x') p q m n = ap (λ (y : Option (List ℕ)). Ok y) (p ∙ sym q)
 tells-same text (Ok x) (Err e) p q m n = absurd (n (ap (λ (y : ScpiError). Err y) q))
 tells-same text (Err e) told' p q m n = absurd (m (ap (λ (y : ScpiError). Err y) p))
 
-defines-same : (label body : List ℕ) (t t1 t2 : Table) (told told' : Told) → Defines label body t told t1 → Defines label body t told' t2 → IsAmple told
+defines-same : (label body : List ℕ) (t t1 t2 : Table) (told told' : Told) → DefinesMacro label body t told t1 → DefinesMacro label body t told' t2
+    → IsAmple told
     → IsAmple told' → (told ≡ told') × (t1 ≡ t2)
 defines-same label body t t1 t2 (Ok x) (Ok x') p q m n = (ap (λ (y : Option (List ℕ)). Ok y) (p.1 ∙ sym q.1), p.2 ∙ sym q.2)
 defines-same label body t t1 t2 (Ok x) (Err e) p q m n = absurd (lost (refusal_to_define t label body) e p.0 q.0 n)
@@ -60,7 +61,8 @@ body-same label t (Ok x) (Err e) p q m n = absurd (lost (refusal_to_find t label
 body-same label t (Err e) (Ok x) p q m n = absurd (lost (refusal_to_find t label) e q.1 p m)
 body-same label t (Err e) (Err e') p q m n = ap (λ (y : ScpiError). Err y) (refused-once (refusal_to_find t label) e e' p q)
 
-pub acts-same : (command : Command) (t : Table) (told told' : Told) (t1 t2 : Table) → Acts command t told t1 → Acts command t told' t2 → IsAmple told
+pub acts-same : (command : Command) (t : Table) (told told' : Told) (t1 t2 : Table) → ActsOnMacros command t told t1 → ActsOnMacros command t told' t2
+    → IsAmple told
     → IsAmple told' → (told ≡ told') × (t1 ≡ t2)
 acts-same (DefineMacro label body) t told told' t1 t2 p q m n = defines-same label body t t1 t2 told told' p q m n
 acts-same (MacroQuery label) t told told' t1 t2 p q m n = (body-same label t told told' p.0 q.0 m n, p.1 ∙ sym q.1)
@@ -68,7 +70,7 @@ acts-same MacroLabelsQuery t told told' t1 t2 p q m n = (tells-same (labels_text
 acts-same (RemoveMacro label) t told told' t1 t2 p q m n = removes-same label t t1 t2 told told' p q
 acts-same PurgeMacros t told told' t1 t2 p q m n = (p.0 ∙ sym q.0, p.1 ∙ sym q.1)
 acts-same (EnableMacros on) t told told' t1 t2 p q m n = (p.0 ∙ sym q.0, p.1 ∙ sym q.1)
-acts-same EnableMacrosQuery t told told' t1 t2 p q m n = (tells-same (flag_of t.on) told told' p.0 q.0 m n, p.1 ∙ sym q.1)
+acts-same EnableMacrosQuery t told told' t1 t2 p q m n = (tells-same (yes_or_no t.on) told told' p.0 q.0 m n, p.1 ∙ sym q.1)
 acts-same command t told told' t1 t2 p q m n = absurd p
 
 -- ---- a unit that calls a macro
@@ -80,7 +82,7 @@ put-some : (label : List ℕ) (r : Result (List ℕ) ScpiError) → result_map_b
 put-some label (Ok text) is = cc (is)
 put-some label (Err e) is = cc (is)
 
-opening-some : (u : UnitView) (o : Option Macro) → is_some o ≡ true → opening [] u 0 o ≡ Ok None → ⊥
+opening-some : (u : UnitSeen) (o : Option Macro) → is_some o ≡ true → opened_found [] u 0 o ≡ Ok None → ⊥
 opening-some u None some is = cc (some)
 opening-some u (Some m) some is = put-some m.0 (put_in u.elements m.1 0) is
 
@@ -88,10 +90,10 @@ opened-so : (on : Bool) (r : Result (Option Macro) ScpiError) → on ≡ true �
 opened-so true r is some none = some none
 opened-so false r is some none = cc (is)
 
-opened-some : (t : Table) (u : UnitView) → calls t u ≡ true → opened_in t u ≡ Ok None → ⊥
+opened-some : (t : Table) (u : UnitSeen) → calls t u ≡ true → opened_in t u ≡ Ok None → ⊥
 opened-some t u does is =
     let both = and_parts t.on (is_some (called t.macros u)) does in
-    opened-so t.on (opened t.macros [] u 0) both.0 (opening-some u (called t.macros u) both.1) is
+    opened-so t.on (opened_macro t.macros [] u 0) both.0 (opening-some u (called t.macros u) both.1) is
 
 replaces-so : (ms : List Macro) (o : Result (Option Macro) ScpiError) (written other : List ℕ) (r : Result (List ℕ) ScpiError) → (o ≡ Ok None → ⊥)
     → Replaces ms o written r → Replaces ms o other r
@@ -100,6 +102,6 @@ replaces-so ms (Ok None) written other r some p = absurd (some refl)
 replaces-so ms (Ok (Some m)) written other r some p = p
 
 -- it gives the same, however it is written
-pub written_so : (t : Table) (u : UnitView) (written other : List ℕ) (r : Result (List ℕ) ScpiError) → calls t u ≡ true → Expands t u written r
+pub written_so : (t : Table) (u : UnitSeen) (written other : List ℕ) (r : Result (List ℕ) ScpiError) → calls t u ≡ true → Expands t u written r
     → Expands t u other r
 written_so t u written other r does p = replaces-so t.macros (opened_in t u) written other r (opened-some t u does) p

@@ -12,8 +12,8 @@ use Rattle.sw_core.specs.declared.ask.Sid.{Sid}
 use Rattle.sw_core.specs.declared.ask.SessionAsk.TheVariants as Ask
 use Rattle.sw_core.specs.declared.ask.SessionAnswer.{SessionAnswer}
 use Rattle.sw_session.specs.Trace.{Entry, Led}
-use Rattle.sw_session.specs.Macros.{Told, Acts}
-use Rattle.sw_session.specs.Talk.{Queues, Settles, Begins, BeginsBy, begun, effect_of, Reports, StartsScan, Plans, table_reset}
+use Rattle.sw_session.specs.Macros.{Told, ActsOnMacros}
+use Rattle.sw_session.specs.Talk.{Queues, Settles, Begins, BeginsBy, begun_with, effect_of, Reports, StartsScan, Plans, table_reset}
 use Rattle.sw_session.proofs.Led.{led-none, led-so, led-then}
 
 module _ {D : Type 0} (passes : D → Entry → D → Type 0) (sid : Sid) where
@@ -31,7 +31,7 @@ module _ {D : Type 0} (passes : D → Entry → D → Type 0) (sid : Sid) where
       → ((label : List ℕ) → command ≡ RemoveMacro label → ⊥) → (command ≡ PurgeMacros → ⊥) → ((on : Bool) → command ≡ EnableMacros on → ⊥)
       → (command ≡ EnableMacrosQuery → ⊥)
       → (command ≡ Initiate → ⊥) → (command ≡ Reset → ⊥) → Settles sid 0 (Ask.Unit sid command answered) t final rest
-      → Begins sid answered (Ok command) macros t (begun final macros rest)
+      → Begins sid answered (Ok command) macros t (begun_with final macros rest)
   asked (DefineMacro label body) answered macros t final rest n1 n2 n3 n4 n5 n6 n7 n8 n9 s = absurd (n1 label body refl)
   asked (MacroQuery label) answered macros t final rest n1 n2 n3 n4 n5 n6 n7 n8 n9 s = absurd (n2 label refl)
   asked MacroLabelsQuery answered macros t final rest n1 n2 n3 n4 n5 n6 n7 n8 n9 s = absurd (n3 refl)
@@ -53,49 +53,49 @@ module _ {D : Type 0} (passes : D → Entry → D → Type 0) (sid : Sid) where
       → ((label : List ℕ) → command ≡ RemoveMacro label → ⊥) → (command ≡ PurgeMacros → ⊥) → ((on : Bool) → command ≡ EnableMacros on → ⊥)
       → (command ≡ EnableMacrosQuery → ⊥)
       → (command ≡ Initiate → ⊥) → (command ≡ Reset → ⊥) → Led passes d0 d1 (λ t rest. Settles sid 0 (Ask.Unit sid command answered) t final rest)
-      → Led passes d0 d1 (λ t rest. Begins sid answered (Ok command) macros t (begun final macros rest))
+      → Led passes d0 d1 (λ t rest. Begins sid answered (Ok command) macros t (begun_with final macros rest))
   begins-asked d0 d1 command answered final macros n1 n2 n3 n4 n5 n6 n7 n8 n9 p =
       led-so passes d0 d1 (λ t rest. Settles sid 0 (Ask.Unit sid command answered) t final rest) (λ t rest.
-      Begins sid answered (Ok command) macros t (begun final macros rest)) p
+      Begins sid answered (Ok command) macros t (begun_with final macros rest)) p
       (λ t rest s. asked command answered macros t final rest n1 n2 n3 n4 n5 n6 n7 n8 n9 s)
 
   -- a macro command was carried out
   pub begins-reported : (d0 d1 : D) (command : Command) (answered : Bool) (told : Told) (final : SessionAnswer) (macros macros' : Table)
-      → effect_of (action_of answered command) ≡ IsOfMacros → Acts command macros told macros'
+      → effect_of (action_of answered command) ≡ IsOfMacros → ActsOnMacros command macros told macros'
       → Led passes d0 d1 (λ t rest. Reports sid told t final rest)
-      → Led passes d0 d1 (λ t rest. Begins sid answered (Ok command) macros t (begun final macros' rest))
+      → Led passes d0 d1 (λ t rest. Begins sid answered (Ok command) macros t (begun_with final macros' rest))
   begins-reported d0 d1 command answered told final macros macros' is acts p =
-      led-so passes d0 d1 (λ t rest. Reports sid told t final rest) (λ t rest. Begins sid answered (Ok command) macros t (begun final macros' rest)) p
-      (λ t rest k. subst (λ (e : Effect). BeginsBy e sid answered command macros t (begun final macros' rest)) (sym is) (told, acts, k))
+      led-so passes d0 d1 (λ t rest. Reports sid told t final rest) (λ t rest. Begins sid answered (Ok command) macros t (begun_with final macros' rest)) p
+      (λ t rest k. subst (λ (e : Effect). BeginsBy e sid answered command macros t (begun_with final macros' rest)) (sym is) (told, acts, k))
 
   -- and needed no desk
   pub begins-done : (d : D) (command : Command) (answered : Bool) (text : Option (List ℕ)) (macros macros' : Table)
-      → effect_of (action_of answered command) ≡ IsOfMacros → Acts command macros (Ok text) macros'
-      → Led passes d d (λ t rest. Begins sid answered (Ok command) macros t (begun (Done text) macros' rest))
+      → effect_of (action_of answered command) ≡ IsOfMacros → ActsOnMacros command macros (Ok text) macros'
+      → Led passes d d (λ t rest. Begins sid answered (Ok command) macros t (begun_with (Done text) macros' rest))
   begins-done d command answered text macros macros' is acts =
-      led-none passes d (λ t rest. Begins sid answered (Ok command) macros t (begun (Done text) macros' rest))
-      (λ rest. subst (λ (e : Effect). BeginsBy e sid answered command macros rest (begun (Done text) macros' rest)) (sym is) (Ok text, acts, (refl, refl)))
+      led-none passes d (λ t rest. Begins sid answered (Ok command) macros t (begun_with (Done text) macros' rest))
+      (λ rest. subst (λ (e : Effect). BeginsBy e sid answered command macros rest (begun_with (Done text) macros' rest)) (sym is) (Ok text, acts, (refl, refl)))
 
   -- a scan was to start
   pub begins-scan : (d0 d1 : D) (command : Command) (answered : Bool) (final : SessionAnswer) (macros : Table) → command ≡ Initiate
       → Led passes d0 d1 (λ t rest. StartsScan sid t final rest)
-      → Led passes d0 d1 (λ t rest. Begins sid answered (Ok command) macros t (begun final macros rest))
+      → Led passes d0 d1 (λ t rest. Begins sid answered (Ok command) macros t (begun_with final macros rest))
   begins-scan d0 d1 command answered final macros is p =
-      led-so passes d0 d1 (λ t rest. StartsScan sid t final rest) (λ t rest. Begins sid answered (Ok command) macros t (begun final macros rest)) p
-      (λ t rest k. subst (λ (x : Command). Begins sid answered (Ok x) macros t (begun final macros rest)) (sym is) (k, refl))
+      led-so passes d0 d1 (λ t rest. StartsScan sid t final rest) (λ t rest. Begins sid answered (Ok command) macros t (begun_with final macros rest)) p
+      (λ t rest k. subst (λ (x : Command). Begins sid answered (Ok x) macros t (begun_with final macros rest)) (sym is) (k, refl))
 
   -- a reset was asked
   pub begins-reset : (d0 d1 : D) (answered : Bool) (final : SessionAnswer) (macros macros' : Table) → macros' ≡ table_reset final macros
       → Led passes d0 d1 (λ t rest. Settles sid 0 (Ask.Unit sid Reset answered) t final rest)
-      → Led passes d0 d1 (λ t rest. Begins sid answered (Ok Reset) macros t (begun final macros' rest))
+      → Led passes d0 d1 (λ t rest. Begins sid answered (Ok Reset) macros t (begun_with final macros' rest))
   begins-reset d0 d1 answered final macros macros' is p =
       led-so passes d0 d1 (λ t rest. Settles sid 0 (Ask.Unit sid Reset answered) t final rest) (λ t rest.
-      Begins sid answered (Ok Reset) macros t (begun final macros' rest)) p (λ t rest k. (k, is))
+      Begins sid answered (Ok Reset) macros t (begun_with final macros' rest)) p (λ t rest k. (k, is))
 
   -- an error was queued
   pub begins-queued : (d0 d1 : D) (e : ScpiError) (answered : Bool) (final : SessionAnswer) (macros macros' : Table) → macros' ≡ macros
       → Led passes d0 d1 (λ t rest. Queues sid e t final rest)
-      → Led passes d0 d1 (λ t rest. Begins sid answered (Err e) macros t (begun final macros' rest))
+      → Led passes d0 d1 (λ t rest. Begins sid answered (Err e) macros t (begun_with final macros' rest))
   begins-queued d0 d1 e answered final macros macros' is p =
-      led-so passes d0 d1 (λ t rest. Queues sid e t final rest) (λ t rest. Begins sid answered (Err e) macros t (begun final macros' rest)) p (λ t rest k.
+      led-so passes d0 d1 (λ t rest. Queues sid e t final rest) (λ t rest. Begins sid answered (Err e) macros t (begun_with final macros' rest)) p (λ t rest k.
       (k, is))

@@ -13,29 +13,29 @@ use Rattle.sw_core.specs.declared.ask.SessionAnswer.{SessionAnswer}
 use Rattle.sw_core.specs.Panel.{Panel}
 use Rattle.sw_core.specs.Run.{StepIsDetermined, IsPlain, KeepsKey, Toll, toll}
 use Rattle.sw_core.specs.Step.{Step}
-use Rattle.sw_core.specs.View.{WorkView, Measures, Pauses, AskView, AskSession, AskFinished, AnswerView, SaysSession}
+use Rattle.sw_core.specs.Seen.{WorkSeen, Measures, Pauses, AskSeen, AskSession, AskFinished, AnswerSeen, SaysSession}
 use Rattle.sw_macro.specs.Table.{Table}
 use Rattle.sw_session.specs.declared.desk.View.{View}
 use Rattle.sw_session.specs.declared.desk.Wake.{Wake}
 use Rattle.sw_session.specs.declared.desk.Wake.TheVariants.{Again, Over}
 use Rattle.sw_session.specs.Trace.{Entry, Asked, Waited, Polled, Noted, Leads}
 use Rattle.sw_session.specs.Available.{with_note}
-use Rattle.sw_session.specs.CoreDesk.{DeskSeen, but_room, Carried, Tells, Keeps, Answers, Works, PassesBy, CorePasses, brought, view_of}
+use Rattle.sw_session.specs.CoreDesk.{DeskSeen, but_room, Carried, TellsOfPiece, Keeps, AnswersAsk, CarriesOutOldest, PassesBy, CorePasses, brought, view_of}
 use Rattle.sw_session.specs.Law.{SameCall, SameTalk, TellsPlainly, KeepsKeys, IsSmooth, AllSmooth, carried_of, waits_of}
 use Rattle.sw_session.specs.Law.{Outcome, Measured, Cards, measured, outcomes_in, outcomes_by, outcomes_of}
 use Rattle.sw_session.specs.Talk.{TalksMessage}
 use Rattle.sw_session.specs.Law.{IsSameDesk, Left, left, TalkIsDetermined, CoreTalkIsDetermined, CoreRestIsDetermined}
 
 -- what is kept, where nothing is carried out at once
-kept-same : (d d' : DeskSeen) (brings : Option WorkView) (q q' : DeskSeen) → IsSameDesk d d' → Keeps [] d brings q → Keeps [] d' brings q' → IsSameDesk q q'
+kept-same : (d d' : DeskSeen) (brings : Option WorkSeen) (q q' : DeskSeen) → IsSameDesk d d' → Keeps [] d brings q → Keeps [] d' brings q' → IsSameDesk q q'
 kept-same d d' None q q' desks k k' = ap but_room k ∙ desks ∙ sym (ap but_room k')
 kept-same d d' (Some piece) q q' desks k k' =
     ap but_room k.leaves ∙ ap (λ (x : DeskSeen). let r : DeskSeen = record x { work = x.work ++ piece ∷ [] } in r) desks ∙ sym (ap but_room k'.leaves)
 
-keeps-same : (d d' : DeskSeen) (brings brings' : Option WorkView) (q q' : DeskSeen) → IsSameDesk d d' → brings ≡ brings' → Keeps [] d brings q
+keeps-same : (d d' : DeskSeen) (brings brings' : Option WorkSeen) (q q' : DeskSeen) → IsSameDesk d d' → brings ≡ brings' → Keeps [] d brings q
     → Keeps [] d' brings' q' → IsSameDesk q q'
 keeps-same d d' brings brings' q q' desks works k k' =
-    kept-same d d' brings q q' desks k (subst (λ (x : Option WorkView). Keeps [] d' x q') (sym works) k')
+    kept-same d d' brings q q' desks k (subst (λ (x : Option WorkSeen). Keeps [] d' x q') (sym works) k')
 
 -- a desk with another mainframe, and with other work
 panels-same : (d d' : DeskSeen) (p p' : Panel) → IsSameDesk d d' → p ≡ p' → IsSameDesk (record d { panel = p }) (record d' { panel = p' })
@@ -43,15 +43,16 @@ panels-same d d' p p' desks panels =
     ap (λ (x : DeskSeen). let r : DeskSeen = record x { panel = p } in r) desks
     ∙ ap (λ (x : Panel). let r : DeskSeen = record d' { panel = x; room = 0 } in r) panels
 
-works-same : (d d' : DeskSeen) (work work' : List WorkView) → IsSameDesk d d' → work ≡ work' → IsSameDesk (record d { work = work }) (record d' { work = work' })
+works-same : (d d' : DeskSeen) (work work' : List WorkSeen) → IsSameDesk d d' → work ≡ work'
+    → IsSameDesk (record d { work = work }) (record d' { work = work' })
 works-same d d' work work' desks works =
     ap (λ (x : DeskSeen). let r : DeskSeen = record x { work = work } in r) desks
-    ∙ ap (λ (x : List WorkView). let r : DeskSeen = record d' { work = x; room = 0 } in r) works
+    ∙ ap (λ (x : List WorkSeen). let r : DeskSeen = record d' { work = x; room = 0 } in r) works
 
-same-answer : (r s : SessionAnswer) (v w : Option WorkView) → SaysSession r v ≡ SaysSession s w → r ≡ s
+same-answer : (r s : SessionAnswer) (v w : Option WorkSeen) → SaysSession r v ≡ SaysSession s w → r ≡ s
 same-answer r s v w is = cc (is)
 
-same-work : (r s : SessionAnswer) (v w : Option WorkView) → SaysSession r v ≡ SaysSession s w → v ≡ w
+same-work : (r s : SessionAnswer) (v w : Option WorkSeen) → SaysSession r v ≡ SaysSession s w → v ≡ w
 same-work r s v w is = cc (is)
 
 -- one measurement of one outcome
@@ -89,21 +90,22 @@ toll-same : (t t' : Toll) → Cards t ≡ Cards t' → t ≡ t'
 toll-same t t' is = cc (is)
 
 -- what is told of one piece
-told-same : (piece : WorkView) (a a' : AskView) (os os' : List Outcome) → Tells piece a → Tells piece a' → measured a ++ os ≡ measured a'
+told-same : (piece : WorkSeen) (a a' : AskSeen) (os os' : List Outcome) → TellsOfPiece piece a → TellsOfPiece piece a' → measured a ++ os ≡ measured a'
     ++ os' → (a ≡ a') × (os ≡ os')
 told-same (Pauses ticket micros) a a' os os' is is' same =
     let both : a ≡ a' = is ∙ sym is' in
-    (both, (subst (λ (x : AskView). measured x ++ os ≡ os') is (subst (λ (x : AskView). measured a ++ os ≡ measured x ++ os') is' same)))
+    (both, (subst (λ (x : AskSeen). measured x ++ os ≡ os') is (subst (λ (x : AskSeen). measured a ++ os ≡ measured x ++ os') is' same)))
 told-same (Measures job) a a' os os' (done, ran, is) (done', ran', is') same =
     let all : Measured done.outcome ∷ os ≡ Measured done'.outcome ∷ os' =
-    subst (λ (x : AskView). measured x ++ os ≡ Measured done'.outcome ∷ os') is (subst (λ (x : AskView). measured a ++ os ≡ measured x ++ os') is' same) in
+    subst (λ (x : AskSeen). measured x ++ os ≡ Measured done'.outcome ∷ os') is (subst (λ (x : AskSeen). measured a ++ os ≡ measured x ++ os') is' same) in
     let one = done-same job done done' ran ran'
     (made-same done.outcome done'.outcome (head-same (Measured done.outcome) (Measured done'.outcome) os os' all)) in
     (is ∙ ap AskFinished one ∙ sym is', tail-same (Measured done.outcome) (Measured done'.outcome) os os' all)
 
 -- an ask
-asked-same : StepIsDetermined → (d d' : DeskSeen) (ask ask' : SessionAsk) (r r' : SessionAnswer) (q q' : DeskSeen) → IsSameDesk d d' → ask ≡ ask' → TellsPlainly r
-    → TellsPlainly r' → KeepsKeys ask r → KeepsKeys ask' r' → (a : Answers [] d ask r q) → (a' : Answers [] d' ask' r' q')
+asked-same : StepIsDetermined → (d d' : DeskSeen) (ask ask' : SessionAsk) (r r' : SessionAnswer) (q q' : DeskSeen) → IsSameDesk d d' → ask ≡ ask'
+    → TellsPlainly r
+    → TellsPlainly r' → KeepsKeys ask r → KeepsKeys ask' r' → (a : AnswersAsk [] d ask r q) → (a' : AnswersAsk [] d' ask' r' q')
     → toll a.failed a.after.cage.cards ≡ toll a'.failed a'.after.cage.cards → (r ≡ r') × IsSameDesk q q'
 asked-same once d d' ask ask' r r' q q' desks asks plain plain' keys keys' a a' tolls =
     let key = subst (λ (x : SessionAsk). KeepsKey d.panel (AskSession x) (SaysSession r' a'.brings)) (sym asks) (keys' d.panel a'.brings) in
@@ -118,31 +120,31 @@ asked-same once d d' ask ask' r r' q q' desks asks plain plain' keys keys' a a' 
           (same-work r r' a.brings a'.brings one.0) a.keeps a'.keeps,
     )
 
-first-piece : (x y : WorkView) (xs ys : List WorkView) → x ∷ xs ≡ y ∷ ys → x ≡ y
+first-piece : (x y : WorkSeen) (xs ys : List WorkSeen) → x ∷ xs ≡ y ∷ ys → x ≡ y
 first-piece x y xs ys is = cc (is)
 
-other-pieces : (x y : WorkView) (xs ys : List WorkView) → x ∷ xs ≡ y ∷ ys → xs ≡ ys
+other-pieces : (x y : WorkSeen) (xs ys : List WorkSeen) → x ∷ xs ≡ y ∷ ys → xs ≡ ys
 other-pieces x y xs ys is = cc (is)
 
 -- a piece that is carried out asks for no lock
-told-keeps : (piece : WorkView) (p : Panel) (ask : AskView) (a : AnswerView) → Tells piece ask → KeepsKey p ask a
-told-keeps (Pauses ticket micros) p ask a is = subst (λ (x : AskView). KeepsKey p x a) (sym is) tt
-told-keeps (Measures job) p ask a (done, ran, is) = subst (λ (x : AskView). KeepsKey p x a) (sym is) tt
+told-keeps : (piece : WorkSeen) (p : Panel) (ask : AskSeen) (a : AnswerSeen) → TellsOfPiece piece ask → KeepsKey p ask a
+told-keeps (Pauses ticket micros) p ask a is = subst (λ (x : AskSeen). KeepsKey p x a) (sym is) tt
+told-keeps (Measures job) p ask a (done, ran, is) = subst (λ (x : AskSeen). KeepsKey p x a) (sym is) tt
 
 -- a wait in which one piece is carried out
 worked-same : StepIsDetermined → (d d' q q' : DeskSeen) (c c' : Carried) (os os' : List Outcome) → IsSameDesk d d' → IsPlain c.answer
     → IsPlain c'.answer → measured c.ask ++ Cards (toll c.failed c.after.cage.cards) ∷ os ≡ measured c'.ask ++ Cards (toll c'.failed c'.after.cage.cards) ∷ os'
-    → Works c [] d q → Works c' [] d' q' → IsSameDesk q q' × (os ≡ os')
+    → CarriesOutOldest c [] d q → CarriesOutOldest c' [] d' q' → IsSameDesk q q' × (os ≡ os')
 worked-same once d d' q q' c c' os os' desks plain plain' outcomes w w' =
     let queues : w.piece ∷ w.others ≡ w'.piece ∷ w'.others = sym w.oldest ∙ ap (λ (x : DeskSeen). x.work) desks ∙ w'.oldest in
-    let tells : Tells w.piece c'.ask =
-    subst (λ (x : WorkView). Tells x c'.ask) (sym (first-piece w.piece w'.piece w.others w'.others queues)) w'.carries.tells in
+    let tells : TellsOfPiece w.piece c'.ask =
+    subst (λ (x : WorkSeen). TellsOfPiece x c'.ask) (sym (first-piece w.piece w'.piece w.others w'.others queues)) w'.carries.tells in
     let cost = Cards (toll c.failed c.after.cage.cards) in
     let cost' = Cards (toll c'.failed c'.after.cage.cards) in
     let told = told-same w.piece c.ask c'.ask (cost ∷ os) (cost' ∷ os') w.carries.tells tells outcomes in
     let tolls = toll-same (toll c.failed c.after.cage.cards) (toll c'.failed c'.after.cage.cards) (head-same cost cost' os os' told.1) in
     let here : Step d.panel c.ask c'.failed c'.answer c'.after =
-    subst (λ (x : AskView). Step d.panel x c'.failed c'.answer c'.after) (sym told.0) (subst (λ (x : DeskSeen).
+    subst (λ (x : AskSeen). Step d.panel x c'.failed c'.answer c'.after) (sym told.0) (subst (λ (x : DeskSeen).
     Step x.panel c'.ask c'.failed c'.answer c'.after) (sym desks) w'.carries.step) in
     let one = once d.panel c.after c'.after c.ask c.failed c'.failed c.answer c'.answer w.carries.step here tolls plain plain'
     (told-keeps w.piece d.panel c.ask c.answer w.carries.tells) (told-keeps w.piece d.panel c.ask c'.answer w.carries.tells) in (

@@ -8,13 +8,13 @@ use Rattle.sw_base.specs.Limits.{most_bytes}
 use Rattle.sw_base.specs.declared.error.ScpiError.{ScpiError}
 use Rattle.sw_base.specs.declared.error.ScpiError.TheVariants.{SettingsConflict, OutOfMemory, InputBufferOverrun}
 use Rattle.sw_lex.specs.declared.command.Command.{Command}
-use Rattle.sw_lex.specs.Unit.{UnitView, IsUnit, IsRefused, IsBlank}
+use Rattle.sw_lex.specs.Unit.{UnitSeen, IsUnit, IsRefusedUnit, IsBlank}
 use Rattle.sw_lex.specs.Meaning.{Nodes, Resolves}
 use Rattle.sw_verify.specs.declared.snapshot.Snapshot.{Snapshot as Taken}
 use Rattle.sw_verify.specs.declared.refusal.Refusal.{Refusal}
 use Rattle.sw_verify.specs.declared.refusal.Refusal.TheVariants.{EmptyList, NoChannel, NoMeter, GroupClash, TooManyReadings, BadNesting, BadJump, LeftClosed}
 use Rattle.sw_verify.specs.declared.refusal.Refusal.TheVariants.{NotClosed, NoMemory}
-use Rattle.sw_verify.specs.Check.{IsReady, IsFirst, IsRefused as IsUnplanned, number_of, error_of}
+use Rattle.sw_verify.specs.Check.{IsReady, IsFirst, IsRefusedScan as IsUnplanned, refusal_number, error_of}
 use Rattle.sw_macro.specs.Table.{Table}
 use Rattle.sw_macro.specs.Expansion.{calls, Expands}
 use Rattle.sw_core.specs.Action.{Effect, IsOfMacros, Initiates, Resets, action_of}
@@ -30,8 +30,10 @@ use Rattle.sw_session.specs.declared.talker.After.TheVariants.{Goes, Drops, Ends
 use Rattle.sw_session.specs.Trace.{Entry, Asked, Waited}
 use Rattle.sw_session.specs.Script.{Ending, Complete, Refuses, Unread, IsScript}
 use Rattle.sw_session.specs.Macros.{Told}
-use Rattle.sw_session.specs.Talk.{Queues, Settles, Begins, BeginsBy, Begun, begun, effect_of, Reports, StartsScan, Plans, table_reset, Concludes, Serves}
-use Rattle.sw_session.specs.Talk.{Standing, standing, Proceeds, Way, Talks, Itself, Unfolds, IsExpansion, Expanded, TalksUnits, Overruns, queued, after_of}
+use Rattle.sw_session.specs.Talk.{Queues, Settles, Begins, BeginsBy, Begun, begun_with, effect_of, Reports, StartsScan, Plans, table_reset, Concludes}
+use Rattle.sw_session.specs.Talk.{ServesUnit}
+use Rattle.sw_session.specs.Talk.{Standing, standing, Proceeds, Way, Talks, Itself, TalksExpansion, IsExpansion, Expanded, TalksUnits, Overruns, queued}
+use Rattle.sw_session.specs.Talk.{after_of}
 use Rattle.sw_session.specs.Talk.{has_answers, written, turns}
 use Rattle.sw_session.specs.Law.{IsAmple, AllAmple, SameTalk, left, TalkIsDetermined}
 use Rattle.sw_session.proofs.Acted.{acts-same, written_so}
@@ -179,7 +181,7 @@ abbrev refusal_at : ℕ → Refusal
 refusal_at n = slice_index_or (EmptyList ∷ NoChannel ∷ NoMeter ∷ GroupClash ∷ TooManyReadings ∷ BadNesting ∷ BadJump ∷ LeftClosed ∷ NotClosed ∷ []) (n - 1)
     NoMemory
 
-at-number : (r : Refusal) → refusal_at (number_of r) ≡ r
+at-number : (r : Refusal) → refusal_at (refusal_number r) ≡ r
 at-number EmptyList = refl
 at-number NoChannel = refl
 at-number NoMeter = refl
@@ -194,11 +196,11 @@ at-number NoMemory = refl
 -- one refusal is the first
 first-one : (s : Taken) (r r' : Refusal) → IsFirst r s → IsFirst r' s → r ≡ r'
 first-one s r r' f f' =
-    ⊎_elim (λ (e : number_of r ≡ number_of r'). sym (at-number r) ∙ ap refusal_at e ∙ at-number r')
-    (λ (o : (number_of r < number_of r') ⊎ (number_of r' < number_of r)).
-    ⊎_elim (λ (l : number_of r < number_of r'). absurd (f'.none_before r l f.applies)) (λ (l : number_of r' < number_of r).
+    ⊎_elim (λ (e : refusal_number r ≡ refusal_number r'). sym (at-number r) ∙ ap refusal_at e ∙ at-number r')
+    (λ (o : (refusal_number r < refusal_number r') ⊎ (refusal_number r' < refusal_number r)).
+    ⊎_elim (λ (l : refusal_number r < refusal_number r'). absurd (f'.none_before r l f.applies)) (λ (l : refusal_number r' < refusal_number r).
     absurd (f.none_before r' l f'.applies)) o)
-    (cases_order (number_of r) (number_of r'))
+    (cases_order (refusal_number r) (refusal_number r'))
 
 -- an answer that stands
 stands-same : {T : Type 0} (b b' : T) (x : SessionAnswer) (t t' r r' : List Entry) (f f' : SessionAnswer) → (f ≡ x) × (r ≡ t) → (f' ≡ x) × (r' ≡ t')
@@ -336,42 +338,42 @@ Ensues b b' after after' told told' = after ≡ after' → Alike told told' → 
 
 serves-same : {T : Type 0} (b b' : T) (sid : Sid) (command : Result Command ScpiError) (s s' : Standing) (after after' : After) (told told' : Standing)
     → Alike s s'
-    → Serves sid command s after told → Serves sid command s' after' told' → Ensues b b' after after' told told' → Rests b b' s.trace s'.trace
+    → ServesUnit sid command s after told → ServesUnit sid command s' after' told' → Ensues b b' after after' told told' → Rests b b' s.trace s'.trace
 serves-same b b' sid command s s' after after' told told' (paths, tables, texts) (f, mid, p, k, is) (f', mid', p', k', is') next =
-    let begins : Begins sid (has_answers s.answers) command s.macros s'.trace (begun f' told'.macros mid') =
-    subst (λ (x : List (List ℕ)). Begins sid (has_answers x) command s.macros s'.trace (begun f' told'.macros mid')) (sym texts)
-    (subst (λ (x : Table). Begins sid (has_answers s'.answers) command x s'.trace (begun f' told'.macros mid')) (sym tables) p') in
+    let begins : Begins sid (has_answers s.answers) command s.macros s'.trace (begun_with f' told'.macros mid') =
+    subst (λ (x : List (List ℕ)). Begins sid (has_answers x) command s.macros s'.trace (begun_with f' told'.macros mid')) (sym texts)
+    (subst (λ (x : Table). Begins sid (has_answers s'.answers) command x s'.trace (begun_with f' told'.macros mid')) (sym tables) p') in
     let concludes : Concludes sid s.answers f' mid' after' told'.answers told'.trace =
     subst (λ (x : List (List ℕ)). Concludes sid x f' mid' after' told'.answers told'.trace) (sym texts) k' in
-    begins-same b b' sid (has_answers s.answers) command s.macros s.trace s'.trace (begun f told.macros mid) (begun f' told'.macros mid') p begins
+    begins-same b b' sid (has_answers s.answers) command s.macros s.trace s'.trace (begun_with f told.macros mid) (begun_with f' told'.macros mid') p begins
     (λ same macros. concludes-same b b' sid s.answers f mid mid' told.trace told'.trace after after' told.answers told'.answers k
     (subst (λ (x : SessionAnswer). Concludes sid s.answers x mid' after' told'.answers told'.trace) (sym same) concludes)
     (λ go answers. next go (is ∙ paths ∙ sym is', macros, answers)))
 
 -- the command of a unit that was served is no want of memory
 serves-ample : (sid : Sid) (command : Result Command ScpiError) (s : Standing) (after : After) (told : Standing) → AllAmple s.trace
-    → Serves sid command s after told
+    → ServesUnit sid command s after told
     → command ≡ Err OutOfMemory → ⊥
 serves-ample sid command s after told m (f, mid, p, k, stays) is =
     no-loss sid s.trace mid f m (subst (λ (c : Result Command ScpiError).
-    Begins sid (has_answers s.answers) c s.macros s.trace (begun f told.macros mid)) is p).0
+    Begins sid (has_answers s.answers) c s.macros s.trace (begun_with f told.macros mid)) is p).0
 
 -- ---- the units
 
 -- A text is read in one way, and a unit has one meaning and one expansion, where memory suffices.
 pub record ReadsOnce : Type 0 where
-  pub unit : (text rest rest' : List ℕ) (u u' : UnitView) → IsUnit text u rest → IsUnit text u' rest' → (u ≡ u') × (rest ≡ rest')
-  pub error : (text : List ℕ) (e e' : ScpiError) → IsRefused text e → IsRefused text e' → e ≡ e'
-  pub unit_or_blank : (text rest : List ℕ) (u : UnitView) → IsUnit text u rest → IsBlank text → ⊥
-  pub unit_or_error : (text rest : List ℕ) (u : UnitView) (e : ScpiError) → IsUnit text u rest → IsRefused text e → ⊥
-  pub blank_or_error : (text : List ℕ) (e : ScpiError) → IsBlank text → IsRefused text e → ⊥
-  pub command : (u : UnitView) (path : Nodes) (c c' : Result Command ScpiError) (p p' : Nodes) → Resolves u path c p → Resolves u path c' p'
+  pub unit : (text rest rest' : List ℕ) (u u' : UnitSeen) → IsUnit text u rest → IsUnit text u' rest' → (u ≡ u') × (rest ≡ rest')
+  pub error : (text : List ℕ) (e e' : ScpiError) → IsRefusedUnit text e → IsRefusedUnit text e' → e ≡ e'
+  pub unit_or_blank : (text rest : List ℕ) (u : UnitSeen) → IsUnit text u rest → IsBlank text → ⊥
+  pub unit_or_error : (text rest : List ℕ) (u : UnitSeen) (e : ScpiError) → IsUnit text u rest → IsRefusedUnit text e → ⊥
+  pub blank_or_error : (text : List ℕ) (e : ScpiError) → IsBlank text → IsRefusedUnit text e → ⊥
+  pub command : (u : UnitSeen) (path : Nodes) (c c' : Result Command ScpiError) (p p' : Nodes) → Resolves u path c p → Resolves u path c' p'
       → (c ≡ Err OutOfMemory → ⊥) → (c' ≡ Err OutOfMemory → ⊥) → (c ≡ c') × (p ≡ p')
-  pub expansion : (t : Table) (u : UnitView) (written : List ℕ) (r r' : Result (List ℕ) ScpiError) → Expands t u written r → Expands t u written r' → r ≡ r'
+  pub expansion : (t : Table) (u : UnitSeen) (written : List ℕ) (r r' : Result (List ℕ) ScpiError) → Expands t u written r → Expands t u written r' → r ≡ r'
 
 -- one unit, talked over in this way, leaves no choice
 abbrev SameWay : {T : Type 0} → T → T → Way → Type 0
-SameWay b b' way = (u : UnitView) (s s' : Standing) (after after' : After) (told told' : Standing) → Alike s s' → way u s after told → way u s' after' told'
+SameWay b b' way = (u : UnitSeen) (s s' : Standing) (after after' : After) (told told' : Standing) → Alike s s' → way u s after told → way u s' after' told'
     → Ensues b b' after after' told told' → Rests b b' s.trace s'.trace
 
 -- what comes of units that don't go on
@@ -391,7 +393,7 @@ proceeds-same b b' on on' Drops s s' after after' told told' alike p q next more
 proceeds-same b b' on on' Ends s s' after after' told told' alike p q next more = stays-same b b' Ends after after' s s' told told' alike p q next
 
 talks-same : {T : Type 0} (b b' : T) (way : Way) → ReadsOnce → SameWay b b' way
-    → (sid : Sid) (text : List ℕ) (us us' : List UnitView) (end end' : Ending) (s s' : Standing)
+    → (sid : Sid) (text : List ℕ) (us us' : List UnitSeen) (end end' : Ending) (s s' : Standing)
     (after after' : After) (told told' : Standing) → Alike s s' → IsScript text us end → IsScript text us' end' → Talks way sid us end s after told
     → Talks way sid us' end' s' after' told' → Ensues b b' after after' told told' → Rests b b' s.trace s'.trace
 talks-same b b' way reads same sid text [] us' Unread end' s s' after after' told told' alike i i' p q next = absurd p
@@ -405,7 +407,7 @@ talks-same b b' way reads same sid text [] [] (Refuses e) Unread s s' after afte
 talks-same b b' way reads same sid text [] [] (Refuses e) Complete s s' after after' told told' alike i i' p q next = absurd (reads.blank_or_error text e i' i)
 talks-same b b' way reads same sid text [] [] (Refuses e) (Refuses e') s s' after after' told told' alike i i' p q next =
     serves-same b b' sid (Err e) s s' after after' told told' alike p (subst (λ (x : ScpiError).
-    Serves sid (Err x) s' after' told') (sym (reads.error text e e' i i')) q) next
+    ServesUnit sid (Err x) s' after' told') (sym (reads.error text e e' i i')) q) next
 talks-same b b' way reads same sid text [] (u' ∷ us') (Refuses e) end' s s' after after' told told' alike i i' p q next =
     absurd (reads.unit_or_error text i'.0 u' e i'.1 i)
 talks-same b b' way reads same sid text (u ∷ us) [] end Unread s s' after after' told told' alike i i' p q next = absurd q
@@ -420,7 +422,7 @@ talks-same b b' way reads same sid text (u ∷ us) (u' ∷ us') end end' s s' af
   on,
 ) (step', mid', w', on') next =
     let one = reads.unit text rest rest' u u' is is' in
-    let again : way u s' step' mid' = subst (λ (x : UnitView). way x s' step' mid') (sym one.0) w' in
+    let again : way u s' step' mid' = subst (λ (x : UnitSeen). way x s' step' mid') (sym one.0) w' in
     let script : IsScript rest us' end' = subst (λ (x : List ℕ). IsScript x us' end') (sym one.1) i' in
     same u s s' step step' mid mid' alike w again
     (λ same_step same_place.
@@ -436,22 +438,23 @@ itself-same b b' reads sid u s s' after after' told told' alike (c, path, res, s
     let one = reads.command u s.path c c' path path' res again (serves-ample sid c (record s { path = path }) after told m serves)
     (serves-ample sid c' (record s' { path = path' }) after' told' n serves') in
     serves-same b b' sid c (record s { path = path }) (record s' { path = path' }) after after' told told' (one.1, alike.1, alike.2) serves
-    (subst (λ (x : Result Command ScpiError). Serves sid x (record s' { path = path' }) after' told') (sym one.0) serves') next m n
+    (subst (λ (x : Result Command ScpiError). ServesUnit sid x (record s' { path = path' }) after' told') (sym one.0) serves') next m n
 
 unfolds-same : {T : Type 0} (b b' : T) → ReadsOnce
     → (sid : Sid) (x : Result (List ℕ) ScpiError) (s s' : Standing) (after after' : After) (told told' : Standing) → Alike s s'
-    → Unfolds sid x s after told → Unfolds sid x s' after' told' → Ensues b b' after after' told told' → Rests b b' s.trace s'.trace
+    → TalksExpansion sid x s after told → TalksExpansion sid x s' after' told' → Ensues b b' after after' told told' → Rests b b' s.trace s'.trace
 unfolds-same b b' reads sid (Ok text) s s' after after' told told' alike (us, end, i, p) (us', end', i', q) next =
     talks-same b b' (Itself sid) reads (itself-same b b' reads sid) sid text us us' end end' s s' after after' told told' alike i i' p q next
 unfolds-same b b' reads sid (Err e) s s' after after' told told' alike p q next = serves-same b b' sid (Err e) s s' after after' told told' alike p q next
 
 -- an expansion that stood in a unit's place is no want of memory
-unfolds-ample : (sid : Sid) (x : Result (List ℕ) ScpiError) (s : Standing) (after : After) (told : Standing) → AllAmple s.trace → Unfolds sid x s after told
+unfolds-ample : (sid : Sid) (x : Result (List ℕ) ScpiError) (s : Standing) (after : After) (told : Standing) → AllAmple s.trace
+    → TalksExpansion sid x s after told
     → x ≡ Err OutOfMemory → ⊥
 unfolds-ample sid x s after told m p is =
-    serves-ample sid (Err OutOfMemory) s after told m (subst (λ (y : Result (List ℕ) ScpiError). Unfolds sid y s after told) is p) refl
+    serves-ample sid (Err OutOfMemory) s after told m (subst (λ (y : Result (List ℕ) ScpiError). TalksExpansion sid y s after told) is p) refl
 
-expansion-same : ReadsOnce → (macros : Table) (u : UnitView) (x x' : Result (List ℕ) ScpiError) → calls macros u ≡ true → IsExpansion macros u x
+expansion-same : ReadsOnce → (macros : Table) (u : UnitSeen) (x x' : Result (List ℕ) ScpiError) → calls macros u ≡ true → IsExpansion macros u x
     → IsExpansion macros u x' → (x ≡ Err OutOfMemory → ⊥) → (x' ≡ Err OutOfMemory → ⊥) → x ≡ x'
 expansion-same reads macros u x x' does e e' some some' = elim e [
   | inl w ↦ elim e' [
@@ -468,18 +471,18 @@ either-so false P Q P' Q' p p' one other = other p p'
 expanded-same : {T : Type 0} (b b' : T) → ReadsOnce → (sid : Sid) → SameWay b b' (Expanded sid)
 expanded-same b b' reads sid u s s' after after' told told' alike p q next =
     let again : MatchBool (calls s.macros u) ((x : Result (List ℕ) ScpiError) × IsExpansion s.macros u x
-    × Unfolds sid x s' after' told') (Itself sid u s' after' told') =
+    × TalksExpansion sid x s' after' told') (Itself sid u s' after' told') =
     subst (λ (t : Table). MatchBool (calls t u) ((x : Result (List ℕ) ScpiError) × IsExpansion t u x
-    × Unfolds sid x s' after' told') (Itself sid u s' after' told'))
+    × TalksExpansion sid x s' after' told') (Itself sid u s' after' told'))
     (sym alike.1) q in
     either-so (calls s.macros u)
-    ((x : Result (List ℕ) ScpiError) × IsExpansion s.macros u x × Unfolds sid x s after told) (Itself sid u s after told)
-    ((x : Result (List ℕ) ScpiError) × IsExpansion s.macros u x × Unfolds sid x s' after' told') (Itself sid u s' after' told') p again
+    ((x : Result (List ℕ) ScpiError) × IsExpansion s.macros u x × TalksExpansion sid x s after told) (Itself sid u s after told)
+    ((x : Result (List ℕ) ScpiError) × IsExpansion s.macros u x × TalksExpansion sid x s' after' told') (Itself sid u s' after' told') p again
     (λ does k k' m n.
     let one = expansion-same reads s.macros u k.0 k'.0 does k.1 k'.1 (unfolds-ample sid k.0 s after told m k.2)
     (unfolds-ample sid k'.0 s' after' told' n k'.2) in
     unfolds-same b b' reads sid k.0 s s' after after' told told' alike k.2
-    (subst (λ (x : Result (List ℕ) ScpiError). Unfolds sid x s' after' told') (sym one) k'.2) next m n)
+    (subst (λ (x : Result (List ℕ) ScpiError). TalksExpansion sid x s' after' told') (sym one) k'.2) next m n)
     (λ k k'. itself-same b b' reads sid u s s' after after' told told' alike k k' next)
 
 -- nothing is left, and the same is left

@@ -7,7 +7,7 @@ use Rattle.sw_session.specs.declared.engine.session.State.{State}
 use Rattle.sw_session.specs.declared.engine.session.State.TheVariants.{Unopened, Synchronized, Attached}
 use Rattle.sw_session.specs.declared.engine.step.Channel.{Channel}
 use Rattle.sw_session.specs.declared.engine.step.Step.{Step}
-use Rattle.sw_session.specs.Engine.{EngineStanding, Takes, Falters, FaltersAt, session_of}
+use Rattle.sw_session.specs.Engine.{EngineStanding, TakesMessage, Falters, FaltersAt, session_of}
 use Rattle.sw_session.specs.EngineStep.{LedBy}
 use Rattle.sw_session.specs.EngineSync.{SyncStanding, TakesSync, FaltersSync}
 use Rattle.sw_session.specs.EngineAsync.{AsyncStanding, TakesAsync}
@@ -16,17 +16,17 @@ use Rattle.sw_session.specs.Trace.{Entry}
 pub takes-sync : {D : Type 0} (passes : D → Entry → D → Type 0) (old new : D) (state : State) (s t : SyncStanding) (m : Message) {E : Type 0}
     (r : Result Step E)
     → state ≡ Synchronized s → IfOk r (λ step. LedBy passes old new (λ asked. TakesSync s m asked step t))
-    → IfOk r (λ step. LedBy passes old new (λ asked. Takes state m asked step (Synchronized t)))
+    → IfOk r (λ step. LedBy passes old new (λ asked. TakesMessage state m asked step (Synchronized t)))
 takes-sync passes old new state s t m (Ok step) is h =
-    record { asked = h.asked; leads = h.leads; admits = subst (λ (q : State). Takes q m h.asked step (Synchronized t)) (sym is) (t, h.admits, refl) }
+    record { asked = h.asked; leads = h.leads; admits = subst (λ (q : State). TakesMessage q m h.asked step (Synchronized t)) (sym is) (t, h.admits, refl) }
 takes-sync passes old new state s t m (Err e) is h = tt
 
 pub takes-async : {D : Type 0} (passes : D → Entry → D → Type 0) (old new : D) (state : State) (s t : AsyncStanding) (m : Message) {E : Type 0}
     (r : Result Step E)
     → state ≡ Attached s → IfOk r (λ step. LedBy passes old new (λ asked. TakesAsync s m asked step t))
-    → IfOk r (λ step. LedBy passes old new (λ asked. Takes state m asked step (Attached t)))
+    → IfOk r (λ step. LedBy passes old new (λ asked. TakesMessage state m asked step (Attached t)))
 takes-async passes old new state s t m (Ok step) is h =
-    record { asked = h.asked; leads = h.leads; admits = subst (λ (q : State). Takes q m h.asked step (Attached t)) (sym is) (t, h.admits, refl) }
+    record { asked = h.asked; leads = h.leads; admits = subst (λ (q : State). TakesMessage q m h.asked step (Attached t)) (sym is) (t, h.admits, refl) }
 takes-async passes old new state s t m (Err e) is h = tt
 
 -- a message that found no memory

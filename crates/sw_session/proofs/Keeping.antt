@@ -8,19 +8,19 @@ use Rattle.sw_core.specs.declared.ask.SessionAnswer.{SessionAnswer}
 use Rattle.sw_core.specs.declared.ask.Work.{Work}
 use Rattle.sw_core.specs.declared.ask.Answer.{Answer}
 use Rattle.sw_core.specs.Panel.{Panel}
-use Rattle.sw_core.specs.View.{WorkView, work_view, AskView, AskSession, AnswerView, answer_view, SaysSession}
+use Rattle.sw_core.specs.Seen.{WorkSeen, work_seen, AskSeen, AskSession, AnswerSeen, answer_seen, SaysSession}
 use Rattle.sw_core.specs.Step.{Step}
 use Rattle.sw_session.specs.declared.desk.View.{View}
 use Rattle.sw_session.specs.declared.desk.Wake.TheVariants.{Again, Over}
 use Rattle.sw_session.specs.Trace.{Entry, Asked, Waited, Polled, Noted, Leads, LeavesOf}
 use Rattle.sw_session.specs.Available.{Notes, with_note}
-use Rattle.sw_session.specs.CoreDesk.{DeskSeen, IsFull, Carried, CarriesOut, CarriesOldest, Tells, Keeps, IsKept}
-use Rattle.sw_session.specs.CoreDesk.{IsCarried, PassesBy, CorePasses, Rests, most_waits, brought}
+use Rattle.sw_session.specs.CoreDesk.{DeskSeen, IsFull, Carried, CarriesOut, CarriesOldest, TellsOfPiece, Keeps, IsKept}
+use Rattle.sw_session.specs.CoreDesk.{IsCarried, PassesBy, CorePasses, WaitsOut, most_waits, brought}
 use Rattle.sw_session.specs.CoreDesk.{piece_seen, view_of}
 use Rattle.sw_session.proofs.Led.{leads-append}
 use Rattle.sw_session.proofs.Nearer.{left, nearer}
 
-pub seen-some : {M : _} (piece : Work M) → work_view (Some piece) ≡ Some (piece_seen piece)
+pub seen-some : {M : _} (piece : Work M) → work_seen (Some piece) ≡ Some (piece_seen piece)
 seen-some (Work.Measure job) = refl
 seen-some (Work.Pause ticket micros) = refl
 
@@ -31,7 +31,7 @@ seen-first items left piece None h = tt
 seen-first items left piece (Some oldest) h = sym (map-append piece_seen items (piece ∷ [])) ∙ ap (λ x. map piece_seen x) h
 
 -- nothing is brought
-pub seen-none : {R M : _} (a : Answer R M) → ((work : Option (Work M)) → a ≡ Answer.Taken work → ⊥) → None ≡ brought (answer_view a)
+pub seen-none : {R M : _} (a : Answer R M) → ((work : Option (Work M)) → a ≡ Answer.Taken work → ⊥) → None ≡ brought (answer_seen a)
 seen-none (Answer.Taken work) differs = absurd (differs work refl)
 seen-none (Answer.Session answer work) differs = refl
 seen-none Answer.Installed differs = refl
@@ -46,11 +46,11 @@ seen-none (Answer.Worn ask) differs = refl
 -- a desk of which nothing but its mainframe changed
 with-panel : (old new : DeskSeen) → new.work ≡ old.work → new.room ≡ old.room → new.available ≡ old.available → new ≡ record old { panel = new.panel }
 with-panel old new work room available =
-    ap (λ (x : List WorkView). record new { work = x }) work ∙ ap (λ (x : ℕ). record new { work = old.work; room = x }) room
+    ap (λ (x : List WorkSeen). record new { work = x }) work ∙ ap (λ (x : ℕ). record new { work = old.work; room = x }) room
     ∙ ap (λ (x : Notes). record old { panel = new.panel; available = x }) available
 
 -- what is told of a piece, and answered
-pub carried : (old new : DeskSeen) (piece : WorkView) (ask : AskView) (failed : Bool) (answer : AnswerView) (brings : Option WorkView) → Tells piece ask
+pub carried : (old new : DeskSeen) (piece : WorkSeen) (ask : AskSeen) (failed : Bool) (answer : AnswerSeen) (brings : Option WorkSeen) → TellsOfPiece piece ask
     → Step old.panel ask failed answer new.panel → brings ≡ brought answer → new.work ≡ old.work → new.room ≡ old.room
     → new.available ≡ old.available → IsCarried old piece brings new
 carried old new piece ask failed answer brings tells step is work room available = record {
@@ -61,30 +61,30 @@ carried old new piece ask failed answer brings tells step is work room available
 }
 
 -- what is kept from here on is kept from the start
-abbrev pub KeepsBy : DeskSeen → Option WorkView → DeskSeen → Option WorkView → Type 0
+abbrev pub KeepsBy : DeskSeen → Option WorkSeen → DeskSeen → Option WorkSeen → Type 0
 KeepsBy start brings d brings' = (more : List Carried) (new : DeskSeen) → Keeps more d brings' new → (all : List Carried) × Keeps all start brings new
 
-pub keeps-start : (d : DeskSeen) (brings : Option WorkView) → KeepsBy d brings d brings
+pub keeps-start : (d : DeskSeen) (brings : Option WorkSeen) → KeepsBy d brings d brings
 keeps-start d brings = λ more new k. (more, k)
 
-pub keeps-none : {M : _} (start : DeskSeen) (brings : Option WorkView) (d : DeskSeen) (w : Option (Work M)) → KeepsBy start brings d (work_view w) → w ≡ None
+pub keeps-none : {M : _} (start : DeskSeen) (brings : Option WorkSeen) (d : DeskSeen) (w : Option (Work M)) → KeepsBy start brings d (work_seen w) → w ≡ None
     → (all : List Carried) × Keeps all start brings d
-keeps-none {M} start brings d w by is = by [] d (subst (λ (x : Option (Work M)). Keeps [] d (work_view x) d) (sym is) refl)
+keeps-none {M} start brings d w by is = by [] d (subst (λ (x : Option (Work M)). Keeps [] d (work_seen x) d) (sym is) refl)
 
-pub keeps-last : {M : _} (start : DeskSeen) (brings : Option WorkView) (d new : DeskSeen) (w : Option (Work M)) (piece : Work M)
-    → KeepsBy start brings d (work_view w)
+pub keeps-last : {M : _} (start : DeskSeen) (brings : Option WorkSeen) (d new : DeskSeen) (w : Option (Work M)) (piece : Work M)
+    → KeepsBy start brings d (work_seen w)
     → w ≡ Some piece → new ≡ record d { work = d.work ++ piece_seen piece ∷ []; room = new.room } → d.room ≤ new.room
     → (all : List Carried) × Keeps all start brings new
 keeps-last {M} start brings d new w piece by is put roomy =
     let last : Keeps [] d (Some (piece_seen piece)) new = record { roomy = roomy; leaves = put } in
-    by [] new (subst (λ (x : Option WorkView). Keeps [] d x new) (sym (ap work_view is ∙ seen-some piece)) last)
+    by [] new (subst (λ (x : Option WorkSeen). Keeps [] d x new) (sym (ap work_seen is ∙ seen-some piece)) last)
 
-pub keeps-on : {M : _} (start : DeskSeen) (brings : Option WorkView) (d mid new : DeskSeen) (w : Option (Work M)) (piece oldest : Work M)
-    (brings' : Option WorkView) → KeepsBy start brings d (work_view w) → w ≡ Some piece → d.work ++ piece_seen piece ∷ [] ≡ piece_seen oldest ∷ mid.work
+pub keeps-on : {M : _} (start : DeskSeen) (brings : Option WorkSeen) (d mid new : DeskSeen) (w : Option (Work M)) (piece oldest : Work M)
+    (brings' : Option WorkSeen) → KeepsBy start brings d (work_seen w) → w ≡ Some piece → d.work ++ piece_seen piece ∷ [] ≡ piece_seen oldest ∷ mid.work
     → mid ≡ record d { work = mid.work; room = mid.room } → IsFull d → d.room ≤ mid.room
     → IsCarried mid (piece_seen oldest) brings' new → KeepsBy start brings new brings'
 keeps-on {M} start brings d mid new w piece oldest brings' by is first same full roomy k = λ more end keeps.
-    let on : Keeps more new (brought k.c.answer) end = subst (λ (x : Option WorkView). Keeps more new x end) k.brings_is keeps in
+    let on : Keeps more new (brought k.c.answer) end = subst (λ (x : Option WorkSeen). Keeps more new x end) k.brings_is keeps in
     let carries : CarriesOut d.panel (piece_seen oldest) k.c = subst (λ (x : DeskSeen). CarriesOut x.panel (piece_seen oldest) k.c) same k.carries in
     let room : new.room ≡ mid.room = ap (λ (x : DeskSeen). x.room) k.leaves in
     let off : CarriesOldest d (d.work ++ piece_seen piece ∷ []) k.c new = record {
@@ -98,30 +98,30 @@ keeps-on {M} start brings d mid new w piece oldest brings' by is first same full
           ∙ ap (λ (n : ℕ). let r : DeskSeen = record d { panel = k.c.after; work = mid.work; room = n } in r) (sym room);
     } in
     let all : Keeps (k.c ∷ more) d (Some (piece_seen piece)) end = (new, off, on) in
-    by (k.c ∷ more) end (subst (λ (x : Option WorkView). Keeps (k.c ∷ more) d x end) (sym (ap work_view is ∙ seen-some piece)) all)
+    by (k.c ∷ more) end (subst (λ (x : Option WorkSeen). Keeps (k.c ∷ more) d x end) (sym (ap work_seen is ∙ seen-some piece)) all)
 
 -- how many pieces may still be brought
-abbrev pub weight : Option WorkView → Panel → ℕ
+abbrev pub weight : Option WorkSeen → Panel → ℕ
 weight None p = 0
 weight (Some work) p = suc (left p)
 
-weight-less : (d new : DeskSeen) (piece : WorkView) (brings : Option WorkView) → IsCarried d piece brings new → weight brings new.panel < suc (left d.panel)
+weight-less : (d new : DeskSeen) (piece : WorkSeen) (brings : Option WorkSeen) → IsCarried d piece brings new → weight brings new.panel < suc (left d.panel)
 weight-less d new piece None k = omega arith
 weight-less d new piece (Some work) k =
     let near : left k.c.after < left d.panel = nearer d.panel piece work k.c k.carries (sym k.brings_is) in
     let here : left new.panel < left d.panel = subst (λ (x : DeskSeen). left x.panel < left d.panel) (sym k.leaves) near in
     omega arith
 
-pub weight-falls : {M : _} (d mid new : DeskSeen) (w : Option (Work M)) (piece oldest : Work M) (brings : Option WorkView) → w ≡ Some piece
+pub weight-falls : {M : _} (d mid new : DeskSeen) (w : Option (Work M)) (piece oldest : Work M) (brings : Option WorkSeen) → w ≡ Some piece
     → mid ≡ record d { work = mid.work; room = mid.room } → IsCarried mid (piece_seen oldest) brings new
-    → weight brings new.panel < weight (work_view w) d.panel
+    → weight brings new.panel < weight (work_seen w) d.panel
 weight-falls d mid new w piece oldest brings is same k =
     let panels : mid.panel ≡ d.panel = ap (λ (x : DeskSeen). x.panel) same in
-    subst (λ (x : Option WorkView). weight brings new.panel < weight x d.panel) (sym (ap work_view is ∙ seen-some piece))
+    subst (λ (x : Option WorkSeen). weight brings new.panel < weight x d.panel) (sym (ap work_seen is ∙ seen-some piece))
     (subst (λ (x : Panel). weight brings new.panel < suc (left x)) panels (weight-less mid new (piece_seen oldest) brings k))
 
 -- an ask
-pub passes-ask : (old mid new : DeskSeen) (ask : SessionAsk) (failed : Bool) (answer : SessionAnswer) (brings : Option WorkView)
+pub passes-ask : (old mid new : DeskSeen) (ask : SessionAsk) (failed : Bool) (answer : SessionAnswer) (brings : Option WorkSeen)
     → Step old.panel (AskSession ask) failed (SaysSession answer brings) mid.panel → mid.work ≡ old.work → mid.room ≡ old.room → mid.available ≡ old.available
     → IsKept mid brings new
     → CorePasses old (Asked ask answer) new
@@ -137,12 +137,12 @@ passes-ask old mid new ask failed answer brings step work room available kept = 
 )
 
 -- a wait
-pub passes-wait : (old mid next new : DeskSeen) (piece : WorkView) (brings : Option WorkView) (limit : Option ℕ) → old ≡ record mid { work = piece ∷ mid.work }
+pub passes-wait : (old mid next new : DeskSeen) (piece : WorkSeen) (brings : Option WorkSeen) (limit : Option ℕ) → old ≡ record mid { work = piece ∷ mid.work }
     → IsCarried mid piece brings next
     → IsKept next brings new → CorePasses old (Waited limit (Again limit)) new
 passes-wait old mid next new piece brings limit is k kept =
     let on : Keeps kept.carried (record mid { panel = k.c.after }) (brought k.c.answer) new =
-    subst (λ (x : Option WorkView). Keeps kept.carried (record mid { panel = k.c.after }) x new) k.brings_is (subst (λ (x : DeskSeen).
+    subst (λ (x : Option WorkSeen). Keeps kept.carried (record mid { panel = k.c.after }) x new) k.brings_is (subst (λ (x : DeskSeen).
     Keeps kept.carried x brings new) k.leaves kept.keeps) in (
       k.c ∷ kept.carried,
       (
@@ -191,14 +191,14 @@ waited-more old d new n rest l p =
     subst (λ (t : List Entry). Leads CorePasses old t new) (replicate_more n (Waited None (Again None)))
     (leads-append CorePasses old d new (replicate n (Waited None (Again None))) (Waited None (Again None) ∷ []) l (new, none-left d new rest p, refl))
 
-pub rests-over : (old d new : DeskSeen) (n : ℕ) → WaitedBy old n d → CorePasses d (Waited None Over) new → Rests old true new
+pub rests-over : (old d new : DeskSeen) (n : ℕ) → WaitedBy old n d → CorePasses d (Waited None Over) new → WaitsOut old true new
 rests-over old d new n l p = record {
   waits = n;
   leads = leads-append CorePasses old d new (replicate n (Waited None (Again None))) (Waited None Over ∷ []) l (new, p, refl);
   in_vain = λ is. absurd (cc is);
 }
 
-pub rests-in-vain : (old new : DeskSeen) (n : ℕ) → n ≡ most_waits → WaitedBy old n new → Rests old false new
+pub rests-in-vain : (old new : DeskSeen) (n : ℕ) → n ≡ most_waits → WaitedBy old n new → WaitsOut old false new
 rests-in-vain old new n is l = record {
   waits = n;
   leads = subst (λ (t : List Entry). Leads CorePasses old t new) (sym (append-nil (replicate n (Waited None (Again None))))) l;

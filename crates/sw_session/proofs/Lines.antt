@@ -1,11 +1,11 @@
 -- One more answer on the line.
 use Rattle.std.proofs.Common.{◌≡◌, ℕ, ◌-◌, ◌<◌, List, [], ◌∷◌, ◌++◌, length, take, refl, ap, sym, ◌∙◌, append_assoc, arith}
 use Rattle.std.proofs.lemmas.Grind.{common_steps}
-use Rattle.sw_session.specs.Talk.{line_of, JoinsLine}
+use Rattle.sw_session.specs.Talk.{answer_line, JoinsLine}
 
 -- a line of answers ends with its line feed, and one more answer goes before it
-line-front : (a : List ℕ) (answers : List (List ℕ)) → (front : List ℕ) × (line_of (a ∷ answers) ≡ front ++ 10 ∷ [])
-    × ((t : List ℕ) → line_of ((a ∷ answers) ++ t ∷ []) ≡ front ++ 59 ∷ (t ++ 10 ∷ []))
+line-front : (a : List ℕ) (answers : List (List ℕ)) → (front : List ℕ) × (answer_line (a ∷ answers) ≡ front ++ 10 ∷ [])
+    × ((t : List ℕ) → answer_line ((a ∷ answers) ++ t ∷ []) ≡ front ++ 59 ∷ (t ++ 10 ∷ []))
 line-front a [] = (a, refl, λ t. refl)
 line-front a (b ∷ answers) =
     let r = line-front b answers in (
@@ -27,5 +27,5 @@ joins-more out text some (a ∷ answers) written =
     let f = line-front a answers in
     let e : out ≡ f.0 ++ 10 ∷ [] = written ∙ (line-front a answers).1 in
     let front : take (length out - 1) out ≡ f.0 = grind (arith, common_steps) in
-    let more : line_of ((a ∷ answers) ++ text ∷ []) ≡ f.0 ++ 59 ∷ (text ++ 10 ∷ []) = (line-front a answers).2 text in
+    let more : answer_line ((a ∷ answers) ++ text ∷ []) ≡ f.0 ++ 59 ∷ (text ++ 10 ∷ []) = (line-front a answers).2 text in
     rw (front, more) (grind (arith, common_steps))

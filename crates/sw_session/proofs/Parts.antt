@@ -6,12 +6,12 @@ use Rattle.std.specs.Io.BufRead.{strip_last, ends_with_byte}
 use Rattle.std.proofs.lemmas.Bool.{lt-ltb}
 use Rattle.std.proofs.lemmas.Bool.Decides.{leb_tells}
 use Rattle.std.proofs.lemmas.List.{take_min}
-use Rattle.sw_base.specs.Limits.{most_bytes}
+use Rattle.sw_base.specs.Limits.{most_bytes, most_kept}
 use Rattle.sw_macro.specs.Table.{Table}
 use Rattle.sw_core.specs.declared.ask.Sid.{Sid}
 use Rattle.sw_session.specs.declared.engine.front.Front.{Front}
 use Rattle.sw_session.specs.Trace.{Entry}
-use Rattle.sw_session.specs.Talk.{TalksMessage, TalksUnits, Overruns, most_kept}
+use Rattle.sw_session.specs.Talk.{TalksMessage, TalksUnits, Overruns}
 use Rattle.sw_session.specs.EngineSync.{with_part, whole}
 use Rattle.sw_session.specs.Law.{with_parts, IsSameMessage, PartsAreOneMessage}
 

@@ -19,9 +19,10 @@ use Rattle.sw_session.specs.declared.servers.fault.ServeFault.TheVariants as Fau
 use Rattle.sw_session.specs.Trace.{Entry, Leads}
 use Rattle.sw_session.specs.EngineStep.{LedBy}
 use Rattle.sw_session.specs.ServeWrite.{wire_on, wire_off, WritesPart, Sends}
-use Rattle.sw_session.specs.Serve.{Protocol, Voice, Exchange, Speaks, acts_of, asks_of, said_of, arrived, is_refused, after_of, notes_of, pauses, is_pause}
+use Rattle.sw_session.specs.Serve.{Protocol, Voice, Exchange, Speaks, acts_of, asks_of, said_of, arrived, is_refused, after_step, availability_notes, pauses}
+use Rattle.sw_session.specs.Serve.{is_pause}
 use Rattle.sw_session.specs.Serve.{Point, point}
-use Rattle.sw_session.specs.Serve.{Spoken, Stops, Breaks, GoesThrough, Hears, IsCutOff, Finds, Tells}
+use Rattle.sw_session.specs.Serve.{Spoken, Stops, Breaks, GoesThrough, Hears, IsCutOff, Finds, TellsActs}
 use Rattle.sw_session.proofs.ServeKnown.{appends-nothing, appends-more}
 
 -- ---- the engine's definition
@@ -35,7 +36,7 @@ speaks-then v s mid s' (x ∷ xs) ys after (Fatal, m, row, n, a, p) q = absurd (
 speaks-then v s mid s' (x ∷ xs) ys after (Malformed, m, row, n, a, p) q = absurd (cc (p.1))
 
 pub speaks-one : {E : Type 0} (v : Protocol E) (s s' : E) (x : Exchange) (after : After) → v.speaks s x.act x.asked x.step s'
-    → x.noted ≡ notes_of (v.session s') x.step.out → after ≡ after_of (is_refused x.act) x.step → Speaks v s (x ∷ []) after s'
+    → x.noted ≡ availability_notes (v.session s') x.step.out → after ≡ after_step (is_refused x.act) x.step → Speaks v s (x ∷ []) after s'
 speaks-one v s s' x Goes row n a = (Goes, s', row, n, a, (refl, refl))
 speaks-one v s s' x Ends row n a = (Ends, s', row, n, a, (refl, refl, refl))
 speaks-one v s s' x Fatal row n a = (Fatal, s', row, n, a, (refl, refl, refl))
@@ -69,10 +70,11 @@ told-then (answers (Err BadPrologue) ∷ cs) ds = told-then cs ds
 told-then (answers (Err (TooLarge k)) ∷ cs) ds = ap (λ (l : List (Result Message Kind)). Err k ∷ l) (told-then cs ds)
 told-then (answers (Err NoMemory) ∷ cs) ds = told-then cs ds
 
-pub tells-nothing : (p : Pending) → Tells p p [] []
+pub tells-nothing : (p : Pending) → TellsActs p p [] []
 tells-nothing p = record { calls = []; decodes = refl; stream = refl; told = refl }
 
-pub tells-then : (p mid q : Pending) (read more : List ℕ) (is js : List Act) → Tells p mid read is → Tells mid q more js → Tells p q (read ++ more) (is ++ js)
+pub tells-then : (p mid q : Pending) (read more : List ℕ) (is js : List Act) → TellsActs p mid read is → TellsActs mid q more js
+    → TellsActs p q (read ++ more) (is ++ js)
 tells-then p mid q read more is js t u = record {
   calls = t.calls ++ u.calls;
   decodes = decodes-then p mid q t.calls u.calls t.decodes u.decodes;
@@ -80,16 +82,16 @@ tells-then p mid q read more is js t u = record {
   told = told-then t.calls u.calls ∙ ap₂ (λ (l m : List (Result Message Kind)). l ++ m) t.told u.told ∙ sym (flat_map-append arrived is js);
 }
 
-pub tells-found : (p p' : Pending) (input : Act) → Finds p input p' → Tells p p' [] (input ∷ [])
+pub tells-found : (p p' : Pending) (input : Act) → Finds p input p' → TellsActs p p' [] (input ∷ [])
 tells-found p p' (Takes m) f = record { calls = answers (Ok (Some m)) ∷ []; decodes = (p', f, refl); stream = refl; told = refl }
 tells-found p p' (Skips kind) f = record { calls = answers (Err (TooLarge kind)) ∷ []; decodes = (p', f, refl); stream = refl; told = refl }
 tells-found p p' Refuses f = record { calls = answers (Err BadPrologue) ∷ []; decodes = (p', f, refl); stream = refl; told = refl }
 tells-found p p' Notices f = absurd f
 
-pub tells-paused : (p : Pending) → Tells p p [] (Notices ∷ [])
+pub tells-paused : (p : Pending) → TellsActs p p [] (Notices ∷ [])
 tells-paused p = record { calls = []; decodes = refl; stream = refl; told = refl }
 
-pub tells-fed : (p p' : Pending) (piece : List ℕ) → p' ≡ fed p piece → Tells p p' piece []
+pub tells-fed : (p p' : Pending) (piece : List ℕ) → p' ≡ fed p piece → TellsActs p p' piece []
 tells-fed p p' piece e = record { calls = feeds piece ∷ []; decodes = e; stream = append-nil piece; told = refl }
 
 -- ---- exchanges
@@ -169,8 +171,9 @@ one-out f a b x p = subst (λ (l : List Sent). Appends a b (flat_map f l)) (sym 
 
 pub hears-ok : {E D : Type 0} (u : Voice E D) (s s' : E) (d e d' : D) (w w' y y' : Option (List ℕ))
     (act : Act) (step : Step) (noted : List Entry) (after : After)
-    → LedBy u.passes d e (λ asked. u.protocol.speaks s act asked step s') → noted ≡ notes_of (u.protocol.session s') step.out → Leads u.passes e noted d'
-    → after ≡ after_of (is_refused act) step
+    → LedBy u.passes d e (λ asked. u.protocol.speaks s act asked step s') → noted ≡ availability_notes (u.protocol.session s') step.out
+    → Leads u.passes e noted d'
+    → after ≡ after_step (is_refused act) step
     → Appends w w' (flat_map (wire_on u.own) step.out) → Appends y y' (flat_map (wire_off u.own) step.out)
     → Hears u act (point s d w y) (point s' d' w' y') (Ok after)
 hears-ok u s s' d e d' w w' y y' act step noted after led n notes a main side =

@@ -12,11 +12,11 @@ use Rattle.sw_session.specs.declared.engine.step.Step.{Step}
 use Rattle.sw_session.specs.declared.servers.act.Act.TheVariants as Act
 use Rattle.sw_session.specs.Trace.{Entry, Polled}
 use Rattle.sw_session.specs.EngineStep.{LedBy, goes, says, fails}
-use Rattle.sw_session.specs.Engine.{EngineStanding, Takes, Falters, session_of, channel_of, too_large, skips, notice_from, noticed_from}
+use Rattle.sw_session.specs.Engine.{EngineStanding, TakesMessage, Falters, session_of, channel_of_state, too_large, skips, notice_from, noticed_from}
 use Rattle.sw_session.specs.ServeEngine.{told_step, second_session_of, LooksFor, Looks, EngineSpeaks, EngineFalters}
 
 pub takes-speaks : {D X : Type 0} (passes : D → Entry → D → Type 0) (d d' : D) (e f : EngineStanding) (m : Message) (r : Result Step X)
-    → IfOk r (λ step. LedBy passes d d' (λ asked. Takes e.state m asked step f.state)) → OnOk r ((e.spent ≡ false) × (f.spent ≡ false))
+    → IfOk r (λ step. LedBy passes d d' (λ asked. TakesMessage e.state m asked step f.state)) → OnOk r ((e.spent ≡ false) × (f.spent ≡ false))
     → IfOk r (λ step. LedBy passes d d' (λ asked. EngineSpeaks e (Act.Takes m) asked step f))
 takes-speaks passes d d' e f m (Ok step) h k = record { asked = h.asked; leads = h.leads; admits = (h.admits, k.0, k.1) }
 takes-speaks passes d d' e f m (Err x) h k = tt
@@ -28,7 +28,7 @@ takes-falters passes d d' e f m (Ok step) h k s = tt
 takes-falters passes d d' e f m (Err x) h k s = record { asked = h.asked; leads = h.leads; admits = (h.admits, s, k) }
 
 pub skips-speaks : {D X : Type 0} (passes : D → Entry → D → Type 0) (d : D) (e f : EngineStanding) (kind : Kind) (r : Result Step X)
-    → IfOk r (λ step. step ≡ says (channel_of e.state) too_large) → IfOk r (λ step. f ≡ record e { state = skips kind e.state })
+    → IfOk r (λ step. step ≡ says (channel_of_state e.state) too_large) → IfOk r (λ step. f ≡ record e { state = skips kind e.state })
     → IfOk r (λ step. LedBy passes d d (λ asked. EngineSpeaks e (Act.Skips kind) asked step f))
 skips-speaks passes d e f kind (Ok step) h k = record { asked = []; leads = refl; admits = ((refl, h), k) }
 skips-speaks passes d e f kind (Err x) h k = tt
@@ -39,7 +39,8 @@ skips-falters passes d e f kind (Ok step) h = tt
 skips-falters passes d e f kind (Err x) h = record { asked = []; leads = refl; admits = (refl, h) }
 
 pub refuses-speaks : {D X : Type 0} (passes : D → Entry → D → Type 0) (d : D) (e : EngineStanding) (r : Result Step X)
-    → IfOk r (λ step. step ≡ fails (channel_of e.state) PoorlyFormed) → IfOk r (λ step. LedBy passes d d (λ asked. EngineSpeaks e Act.Refuses asked step e))
+    → IfOk r (λ step. step ≡ fails (channel_of_state e.state) PoorlyFormed)
+    → IfOk r (λ step. LedBy passes d d (λ asked. EngineSpeaks e Act.Refuses asked step e))
 refuses-speaks passes d e (Ok step) h = record { asked = []; leads = refl; admits = ((refl, h), refl) }
 refuses-speaks passes d e (Err x) h = tt
 
@@ -77,12 +78,12 @@ looks-some passes d d' s t sid view step e p h k =
           (refl, h, k);
     }
 
-pub second-none : (s : State) → channel_of s ≡ Synchronous → None ≡ second_session_of s
+pub second-none : (s : State) → channel_of_state s ≡ Synchronous → None ≡ second_session_of s
 second-none (Unopened c) e = refl
 second-none (Synchronized s) e = refl
 second-none (Attached s) e = absurd (cc (e))
 
-pub second-some : (s : State) → channel_of s ≡ Asynchronous → session_of s ≡ second_session_of s
+pub second-some : (s : State) → channel_of_state s ≡ Asynchronous → session_of s ≡ second_session_of s
 second-some (Unopened c) e = refl
 second-some (Synchronized s) e = absurd (cc (e))
 second-some (Attached s) e = refl

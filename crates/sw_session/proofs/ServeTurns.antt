@@ -17,8 +17,9 @@ use Rattle.sw_session.specs.declared.servers.fault.ServeFault.TheVariants as Fau
 use Rattle.sw_session.specs.declared.servers.turns.Came.TheVariants as Came
 use Rattle.sw_session.specs.declared.servers.turns.Next.{Next}
 use Rattle.sw_session.specs.declared.servers.turns.Next.TheVariants.{On, Over}
-use Rattle.sw_session.specs.Serve.{Voice, Service, acts_for, arrived, pauses, Point, Stops, GoesThrough, Judges, HearsEach, HoldsMessage, Tells, Stands}
-use Rattle.sw_session.specs.Serve.{Listens, HearsAll, conclude, Loses, Progress, progress, EndsWell, FailsBy, EndsTurn, Course, course, TakesTurn, EndsRun, Runs}
+use Rattle.sw_session.specs.Serve.{Voice, Service, acts_for, arrived, pauses, Point, Stops, GoesThrough, Judges, HearsEach, HoldsMessage, TellsActs, Stands}
+use Rattle.sw_session.specs.Serve.{Listens, HearsAll, conclude, Loses, Progress, progress, EndsWell, FailsBy, EndsTurn, Course, course, TakesServerTurn}
+use Rattle.sw_session.specs.Serve.{EndsRun, RunsChannel}
 use Rattle.sw_session.proofs.ServeKnown.{consumes-nothing, consumes-more}
 use Rattle.sw_session.proofs.ServeParts.{pauses-then, none-paused, either-paused, tells-nothing, tells-then, tells-paused, tells-fed, goes-nowhere, goes-then}
 use Rattle.sw_session.proofs.ServeParts.{stops-then}
@@ -29,9 +30,9 @@ none-lost input left piece c = subst (λ (l : List ℕ). Consumes input left l) 
 -- ---- one turn
 
 pub turn-err : {E D : Type 0} (s : Service E D) (p p' : Pending) (a : Point E D) (input left : Option (List ℕ)) (fault : ServeFault)
-    → Waits p.bytes → Listens input left p p' (Err fault) → TakesTurn s p p' (course a input) (course a left) (Err fault)
+    → Waits p.bytes → Listens input left p p' (Err fault) → TakesServerTurn s p p' (course a input) (course a left) (Err fault)
 turn-err s p p' a input left fault waits (same, inl r) =
-    subst (λ (f : ServeFault). TakesTurn s p p' (course a input) (course a left) (Err f)) (sym r.0)
+    subst (λ (f : ServeFault). TakesServerTurn s p p' (course a input) (course a left) (Err f)) (sym r.0)
     (record {
       read = [];
       lost = [];
@@ -39,11 +40,11 @@ turn-err s p p' a input left fault waits (same, inl r) =
       loses = refl;
       inputs = [];
       paused = none-paused s.may_pause 0 refl;
-      tells = subst (λ (q : Pending). Tells p q [] []) (sym same) (tells-nothing p);
+      tells = subst (λ (q : Pending). TellsActs p q [] []) (sym same) (tells-nothing p);
       ends = ((goes-nowhere s.voice a, subst (λ (q : Pending). Waits q.bytes) (sym same) waits), λ e. absurd (cc (e)));
     })
 turn-err s p p' a input left fault waits (same, inr r) =
-    subst (λ (f : ServeFault). TakesTurn s p p' (course a input) (course a left) (Err f)) (sym r.0)
+    subst (λ (f : ServeFault). TakesServerTurn s p p' (course a input) (course a left) (Err f)) (sym r.0)
     (record {
       read = [];
       lost = r.1.0;
@@ -51,12 +52,12 @@ turn-err s p p' a input left fault waits (same, inr r) =
       loses = tt;
       inputs = [];
       paused = none-paused s.may_pause 0 refl;
-      tells = subst (λ (q : Pending). Tells p q [] []) (sym same) (tells-nothing p);
+      tells = subst (λ (q : Pending). TellsActs p q [] []) (sym same) (tells-nothing p);
       ends = (inr (goes-nowhere s.voice a, inl r.1.2), λ e. absurd (cc (e)));
     })
 
 pub turn-end : {E D : Type 0} (s : Service E D) (p p' : Pending) (a : Point E D) (input left : Option (List ℕ))
-    → Waits p.bytes → Listens input left p p' (Ok Came.End) → TakesTurn s p p' (course a input) (course a left) (Ok Over)
+    → Waits p.bytes → Listens input left p p' (Ok Came.End) → TakesServerTurn s p p' (course a input) (course a left) (Ok Over)
 turn-end s p p' a input left waits (reads, end, same) =
     record {
       read = [];
@@ -65,7 +66,7 @@ turn-end s p p' a input left waits (reads, end, same) =
       loses = refl;
       inputs = [];
       paused = none-paused s.may_pause 0 refl;
-      tells = subst (λ (q : Pending). Tells p q [] []) (sym same) (tells-nothing p);
+      tells = subst (λ (q : Pending). TellsActs p q [] []) (sym same) (tells-nothing p);
       ends = inl (goes-nowhere s.voice a, subst (λ (q : Pending). Waits q.bytes) (sym same) waits, end);
     }
 
@@ -75,7 +76,7 @@ record Turned {E D : Type 0} (s : Service E D) (p p' : Pending) (a b : Course E 
   inputs : List Act
   paused : 0 < pauses inputs → s.may_pause
   reads : Consumes a.input b.input read
-  tells : Tells p p' read inputs
+  tells : TellsActs p p' read inputs
   ends : EndsTurn s.voice a.point b.point (progress (flat_map acts_for inputs) p' [] (length read + pauses inputs) b.input) result
 
 loses-none : {A : Type 0} (r : Result A ServeFault) → Loses r []
@@ -88,7 +89,7 @@ loses-none (Err Fault.NoMemory) = tt
 loses-none (Err Fault.ReadBound) = refl
 
 turned : {E D : Type 0} (s : Service E D) (p p' : Pending) (a b : Course E D) (result : Result Next ServeFault)
-    → Turned s p p' a b result → TakesTurn s p p' a b result
+    → Turned s p p' a b result → TakesServerTurn s p p' a b result
 turned s p p' a b result t = record {
   read = t.read;
   lost = [];
@@ -133,14 +134,14 @@ judged-ok b r j after e = subst (λ (q : Result After ServeFault). IfOk q (λ x.
 pub turn-paused : {E D : Type 0} (s : Service E D) (p p' : Pending) (a b : Course E D) (r : Result After ServeFault)
     → s.may_pause → Waits p.bytes → Listens a.input b.input p p' (Ok Came.Paused) → HearsEach s.voice (Notices ∷ []) a.point b.point r
     → ((after : After) → r ≡ Ok after → Judges false after)
-    → TakesTurn s p p' a b (conclude r)
+    → TakesServerTurn s p p' a b (conclude r)
 turn-paused s p p' a b (Ok after) can waits l h judged =
     turned s p p' a b (conclude (Ok after)) (record {
       read = [];
       inputs = Notices ∷ [];
       paused = λ h. can;
       reads = l.0;
-      tells = subst (λ (q : Pending). Tells p q [] (Notices ∷ [])) (sym l.1) (tells-paused p);
+      tells = subst (λ (q : Pending). TellsActs p q [] (Notices ∷ [])) (sym l.1) (tells-paused p);
       ends = ends-by s.voice a.point b.point (progress (Notices ∷ []) p' [] 1 b.input) after (omega (arith)) h
           (paused-stands p' after (subst (λ (q : Pending). Waits q.bytes) (sym l.1) waits) (judged after refl));
     })
@@ -150,16 +151,16 @@ turn-paused s p p' a b (Err fault) can waits l h judged =
       inputs = Notices ∷ [];
       paused = λ h. can;
       reads = l.0;
-      tells = subst (λ (q : Pending). Tells p q [] (Notices ∷ [])) (sym l.1) (tells-paused p);
+      tells = subst (λ (q : Pending). TellsActs p q [] (Notices ∷ [])) (sym l.1) (tells-paused p);
       ends = stops-by s.voice a.point b.point (progress (Notices ∷ []) p' [] 1 b.input) fault h;
     })
 
-tells-read : (p p' q : Pending) (piece : List ℕ) (inputs : List Act) → p' ≡ fed p piece → Tells p' q [] inputs → Tells p q piece inputs
-tells-read p p' q piece inputs e t = subst (λ (l : List ℕ). Tells p q l inputs) (append-nil piece)
+tells-read : (p p' q : Pending) (piece : List ℕ) (inputs : List Act) → p' ≡ fed p piece → TellsActs p' q [] inputs → TellsActs p q piece inputs
+tells-read p p' q piece inputs e t = subst (λ (l : List ℕ). TellsActs p q l inputs) (append-nil piece)
     (tells-then p p' q piece [] [] inputs (tells-fed p p' piece e) t)
 
 pub turn-bytes : {E D : Type 0} (s : Service E D) (p p' q : Pending) (a b : Course E D) (r : Result After ServeFault)
-    → Listens a.input b.input p p' (Ok Came.Bytes) → HearsAll s.voice p' q a.point b.point r → TakesTurn s p q a b (conclude r)
+    → Listens a.input b.input p p' (Ok Came.Bytes) → HearsAll s.voice p' q a.point b.point r → TakesServerTurn s p q a b (conclude r)
 turn-bytes s p p' q a b (Ok after) (piece, some, reads, e) h =
     turned s p q a b (conclude (Ok after)) (record {
       read = piece;
@@ -248,7 +249,7 @@ pub record Going {E D : Type 0} (s : Service E D) (p p' : Pending) (a b : Course
   pub reads : Consumes a.input b.input read
   pub inputs : List Act
   pub paused : 0 < pauses inputs → s.may_pause
-  pub tells : Tells p p' read inputs
+  pub tells : TellsActs p p' read inputs
   pub goes : GoesThrough s.voice a.point b.point (flat_map acts_for inputs) Goes
   pub waits : Waits p'.bytes
   pub turned : n ≤ length read + pauses inputs
@@ -259,7 +260,7 @@ going-start s p a e = record {
   reads = consumes-nothing a.input;
   inputs = [];
   paused = none-paused s.may_pause 0 refl;
-  tells = subst (λ (q : Pending). Tells nothing_fed q [] []) (sym e) (tells-nothing nothing_fed);
+  tells = subst (λ (q : Pending). TellsActs nothing_fed q [] []) (sym e) (tells-nothing nothing_fed);
   goes = goes-nowhere s.voice a.point;
   waits = subst (λ (q : Pending). Waits q.bytes) (sym e) (inl (omega (arith)));
   turned = omega (arith);
@@ -288,7 +289,7 @@ reads-then input mid left read more lost c d = subst (λ (l : List ℕ). Consume
     (consumes-more input mid left read (more ++ lost) c d)
 
 pub going-on : {E D : Type 0} (s : Service E D) (p q r : Pending) (a b c : Course E D) (n : ℕ)
-    → Going s p q a b n → TakesTurn s q r b c (Ok On) → Going s p r a c (n + 1)
+    → Going s p q a b n → TakesServerTurn s q r b c (Ok On) → Going s p r a c (n + 1)
 going-on s p q r a b c n g t = record {
   read = g.read ++ t.read;
   reads = consumes-more a.input b.input c.input g.read t.read g.reads
@@ -305,7 +306,7 @@ going-on s p q r a b c n g t = record {
 -- ---- the end
 
 law-follows : ((calls : List Call) (p : Pending) → EveryMessageComesOut calls p) → (p : Pending) (read : List ℕ) (inputs : List Act)
-    → Tells nothing_fed p read inputs → Follows read (flat_map arrived inputs) p
+    → TellsActs nothing_fed p read inputs → Follows read (flat_map arrived inputs) p
 law-follows law p read inputs t = subst (λ (b : List ℕ). Follows b (flat_map arrived inputs) p) t.stream
     (subst (λ (l : List (Result Message Kind)). Follows (stream_of t.calls) l p) t.told (law t.calls p t.decodes))
 
@@ -317,13 +318,13 @@ record Ran {E D : Type 0} (s : Service E D) (turns : ℕ) (p : Pending) (a b : C
   reads : Consumes a.input b.input (read ++ lost)
   loses : Loses result lost
   paused : 0 < pauses inputs → s.may_pause
-  tells : Tells nothing_fed p read inputs
+  tells : TellsActs nothing_fed p read inputs
   ends : EndsRun s.voice a.point b.point (progress (flat_map acts_for inputs) p lost (length read + pauses inputs) b.input) turns result
 
 runs : {E D : Type 0} (s : Service E D) (turns : ℕ) (p : Pending) (a b : Course E D) (result : Result (Unit {0}) ServeFault)
     → ((calls : List Call) (q : Pending) → EveryMessageComesOut calls q)
     → ((bytes : List ℕ) (t : List (Result Message Kind)) (q : Pending) → LeavesARest bytes t q)
-    → Ran s turns p a b result → Runs s turns a b result
+    → Ran s turns p a b result → RunsChannel s turns a b result
 runs s turns p a b result law rest r = record {
   read = r.read;
   lost = r.lost;
@@ -339,7 +340,7 @@ runs s turns p a b result law rest r = record {
 
 -- a turn that ended, after those that went on
 ran-then : {E D : Type 0} (s : Service E D) (turns n : ℕ) (q p : Pending) (a b c : Course E D) (r : Result Next ServeFault)
-    (result : Result (Unit {0}) ServeFault) (g : Going s nothing_fed q a b n) (t : TakesTurn s q p b c r)
+    (result : Result (Unit {0}) ServeFault) (g : Going s nothing_fed q a b n) (t : TakesServerTurn s q p b c r)
     → Loses result t.lost
     → EndsRun s.voice a.point c.point (progress (flat_map acts_for g.inputs ++ flat_map acts_for t.inputs) p t.lost
     (length (g.read ++ t.read) + pauses (g.inputs ++ t.inputs)) c.input) turns result
@@ -360,7 +361,7 @@ ran-then s turns n q p a b c r result g t loses ends = record {
 pub runs-over : {E D : Type 0} (s : Service E D) (turns n : ℕ) (q p : Pending) (a b c : Course E D)
     → ((calls : List Call) (q : Pending) → EveryMessageComesOut calls q)
     → ((bytes : List ℕ) (t : List (Result Message Kind)) (q : Pending) → LeavesARest bytes t q)
-    → Going s nothing_fed q a b n → TakesTurn s q p b c (Ok Over) → Runs s turns a c (Ok tt)
+    → Going s nothing_fed q a b n → TakesServerTurn s q p b c (Ok Over) → RunsChannel s turns a c (Ok tt)
 runs-over s turns n q p a b c law rest g t =
     runs s turns p a c (Ok tt) law rest (ran-then s turns n q p a b c (Ok Over) (Ok tt) g t t.loses
     (well-then s.voice a.point b.point c.point (flat_map acts_for g.inputs)
@@ -369,7 +370,7 @@ runs-over s turns n q p a b c law rest g t =
 pub runs-fault : {E D : Type 0} (s : Service E D) (turns n : ℕ) (q p : Pending) (a b c : Course E D) (fault : ServeFault)
     → ((calls : List Call) (q : Pending) → EveryMessageComesOut calls q)
     → ((bytes : List ℕ) (t : List (Result Message Kind)) (q : Pending) → LeavesARest bytes t q)
-    → Going s nothing_fed q a b n → TakesTurn s q p b c (Err fault) → Runs s turns a c (Err fault)
+    → Going s nothing_fed q a b n → TakesServerTurn s q p b c (Err fault) → RunsChannel s turns a c (Err fault)
 runs-fault s turns n q p a b c fault law rest g t =
     runs s turns p a c (Err fault) law rest (ran-then s turns n q p a b c (Err fault) (Err fault) g t t.loses
     (fails-then s.voice a.point b.point c.point (flat_map acts_for g.inputs)
@@ -379,7 +380,7 @@ runs-fault s turns n q p a b c fault law rest g t =
 pub runs-bound : {E D : Type 0} (s : Service E D) (turns n : ℕ) (p : Pending) (a b : Course E D)
     → ((calls : List Call) (q : Pending) → EveryMessageComesOut calls q)
     → ((bytes : List ℕ) (t : List (Result Message Kind)) (q : Pending) → LeavesARest bytes t q)
-    → Going s nothing_fed p a b n → turns ≤ n → Runs s turns a b (Err Fault.ReadBound)
+    → Going s nothing_fed p a b n → turns ≤ n → RunsChannel s turns a b (Err Fault.ReadBound)
 runs-bound s turns n p a b law rest g h = runs s turns p a b (Err Fault.ReadBound) law rest (record {
   read = g.read;
   lost = [];

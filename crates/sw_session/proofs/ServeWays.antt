@@ -13,7 +13,7 @@ use Rattle.sw_session.specs.declared.servers.fault.ServeFault.{ServeFault}
 use Rattle.sw_session.specs.declared.servers.turns.Came.{Came}
 use Rattle.sw_session.specs.declared.servers.turns.Next.{Next}
 use Rattle.sw_session.specs.Serve.{Voice, Service, acts_for, is_refused, pauses, Point, Stops, GoesThrough, Judges, Hears, HearsEach, Finds, HoldsMessage}
-use Rattle.sw_session.specs.Serve.{NextInput, Tells, Stands, Listens, HearsAll, Course, TakesTurn}
+use Rattle.sw_session.specs.Serve.{NextInput, TellsActs, Stands, Listens, HearsAll, Course, TakesServerTurn}
 use Rattle.sw_session.proofs.ServeParts.{found-unpaused, none-more, tells-nothing, tells-then, tells-found, goes-nowhere, goes-then, ends-before, stops-then}
 use Rattle.sw_session.proofs.ServeParts.{stops-at}
 
@@ -33,8 +33,8 @@ pub listens-is : (input left : Option (List ℕ)) (p p' : Pending) (r q : Result
 listens-is input left p p' r q e l = subst (λ (x : Result Came ServeFault). Listens input left p p' x) e l
 
 pub turn-is : {E D : Type 0} (s : Service E D) (p p' : Pending) (a b : Course E D) (r q : Result Next ServeFault)
-    → r ≡ q → TakesTurn s p p' a b r → TakesTurn s p p' a b q
-turn-is s p p' a b r q e t = subst (λ (x : Result Next ServeFault). TakesTurn s p p' a b x) e t
+    → r ≡ q → TakesServerTurn s p p' a b r → TakesServerTurn s p p' a b q
+turn-is s p p' a b r q e t = subst (λ (x : Result Next ServeFault). TakesServerTurn s p p' a b x) e t
 
 -- ---- what the wire tells
 
@@ -93,7 +93,7 @@ stands p p' Notices Malformed ended f judged = absurd f
 pub record Hearing {E D : Type 0} (u : Voice E D) (p p' : Pending) (a b : Point E D) : Type 0 where
   pub inputs : List Act
   pub unpaused : pauses inputs ≡ 0
-  pub tells : Tells p p' [] inputs
+  pub tells : TellsActs p p' [] inputs
   pub goes : GoesThrough u a b (flat_map acts_for inputs) Goes
 
 pub hearing-start : {E D : Type 0} (u : Voice E D) (p : Pending) (a : Point E D) → Hearing u p p a a
@@ -125,7 +125,7 @@ pub all-heard : {E D : Type 0} (u : Voice E D) (p q q' : Pending) (a b : Point E
 all-heard u p q q' a b k (waits, same) = record {
   inputs = k.inputs;
   unpaused = k.unpaused;
-  tells = subst (λ (r : Pending). Tells p r [] k.inputs) (sym same) k.tells;
+  tells = subst (λ (r : Pending). TellsActs p r [] k.inputs) (sym same) k.tells;
   spoken = (k.goes, subst (λ (r : Pending). Waits r.bytes) (sym same) waits);
 }
 
@@ -155,6 +155,6 @@ pub all-starved : {E D : Type 0} (u : Voice E D) (p q q' : Pending) (a b : Point
 all-starved u p q q' a b fault k (e, same, whole) = record {
   inputs = k.inputs;
   unpaused = k.unpaused;
-  tells = subst (λ (r : Pending). Tells p r [] k.inputs) (sym same) k.tells;
+  tells = subst (λ (r : Pending). TellsActs p r [] k.inputs) (sym same) k.tells;
   spoken = inr (e, k.goes, subst (λ (r : Pending). HoldsMessage r) (sym same) whole);
 }

@@ -18,7 +18,7 @@ use Rattle.sw_session.specs.declared.engine.synchronous.Delivery.{Delivery}
 use Rattle.sw_session.specs.EngineKinds.{sync_request}
 use Rattle.sw_session.specs.EngineStep.{LedBy, Unasked, goes, over, joined, reply_step}
 use Rattle.sw_session.specs.EngineSync.{SyncStanding, Answers, Converses, SaysMore, Finishes, Triggers, Programs, Attended, ServesProgram, Attends, gate_step}
-use Rattle.sw_session.specs.EngineSync.{Delivers, delivery_step, said_of, is_within, is_program, with_part, whole, RepliesSync, TakesSync}
+use Rattle.sw_session.specs.EngineSync.{Delivers, delivery_step, said_by_delivery, is_within, is_program, with_part, whole, RepliesSync, TakesSync}
 use Rattle.sw_session.specs.Talk.{Talked, state}
 use Rattle.sw_session.specs.Trace.{Entry, Asked, Led}
 use Rattle.sw_session.proofs.Led.{leads-append}
@@ -127,7 +127,7 @@ hears-gone passes old new request s s' m delivery step stays is led told =
     }
 
 -- what the last answer makes be said, and that the channel goes on
-went-on : (id : ℕ) (delivery : Delivery) → (delivery ≡ Delivery.Gone → ⊥) → delivery_step id delivery ≡ goes (said_of id delivery)
+went-on : (id : ℕ) (delivery : Delivery) → (delivery ≡ Delivery.Gone → ⊥) → delivery_step id delivery ≡ goes (said_by_delivery id delivery)
 went-on id Delivery.Quiet not = refl
 went-on id Delivery.Interrupted not = refl
 went-on id Delivery.Gone not = absurd (not refl)
@@ -136,7 +136,7 @@ went-on id Delivery.Gone not = absurd (not refl)
 pub hears-on : {D : Type 0} (passes : D → Entry → D → Type 0) (old mid new : D) (request : SyncRequest) (s s' : SyncStanding) (m : Message)
     (delivery : Delivery) (said : List Sent) {E : Type 0} (r : Result Step E)
     → (delivery ≡ Delivery.Gone → ⊥) → ((id : ℕ) → Led passes old mid (λ t rest. Delivers s.sid m.control id t (delivery_step id delivery) rest))
-    → said ≡ said_of m.parameter delivery
+    → said ≡ said_by_delivery m.parameter delivery
     → IfOk r (λ step. LedBy passes mid new (λ asked. SaysMore said step (λ own. Programs request s m asked own s')))
     → IfOk r (λ step. LedBy passes old new (λ asked. Attended request s m asked step s'))
 hears-on passes old mid new request s s' m delivery said (Ok step) not led is h =

@@ -9,7 +9,7 @@ use Rattle.sw_base.specs.Limits.{most_bytes}
 use Rattle.sw_base.specs.declared.error.ScpiError.{ScpiError}
 use Rattle.sw_base.specs.declared.error.ScpiError.TheVariants.{SettingsConflict, OutOfMemory, InputBufferOverrun}
 use Rattle.sw_lex.specs.declared.command.Command.{Command}
-use Rattle.sw_lex.specs.Unit.{UnitView, IsUnit}
+use Rattle.sw_lex.specs.Unit.{UnitSeen, IsUnit}
 use Rattle.sw_lex.specs.Meaning.{Nodes, Resolves}
 use Rattle.sw_macro.specs.Table.{Table}
 use Rattle.sw_macro.specs.Expansion.{calls, Expands}
@@ -22,8 +22,9 @@ use Rattle.sw_session.specs.declared.talker.After.{After}
 use Rattle.sw_session.specs.declared.talker.After.TheVariants.{Goes, Drops, Ends}
 use Rattle.sw_session.specs.Trace.{Entry, Asked, Waited, Led}
 use Rattle.sw_session.specs.Script.{Ending, Complete, Refuses, Unread, IsScript}
-use Rattle.sw_session.specs.Talk.{Queues, Settles, Begins, begun, Concludes, Serves, Standing, standing, Proceeds, Way, Talks, Itself, Unfolds, IsExpansion}
-use Rattle.sw_session.specs.Talk.{Expanded, TalksUnits, TalksMessage, Talked, Overruns, Spot, stands_at, OnLine, TalksLine, has_answers, line_of, written}
+use Rattle.sw_session.specs.Talk.{Queues, Settles, Begins, begun_with, Concludes, ServesUnit, Standing, standing, Proceeds, Way, Talks, Itself, TalksExpansion}
+use Rattle.sw_session.specs.Talk.{IsExpansion}
+use Rattle.sw_session.specs.Talk.{Expanded, TalksUnits, TalksMessage, Talked, Overruns, Spot, stands_at, OnLine, TalksLine, has_answers, answer_line, written}
 use Rattle.sw_session.specs.Talk.{state, turns}
 use Rattle.sw_session.proofs.Led.{led-none, led-so, led-more, led-then}
 
@@ -107,28 +108,28 @@ settle-told passes d0 d1 d2 sid turn ask asked final lt same differ led p =
 -- a unit that was begun is concluded
 pub serve-unit : {D : Type 0} (passes : D → Entry → D → Type 0) (d0 d1 d2 : D) (sid : Sid) (command : Result Command ScpiError) (answered : Bool) (path : Nodes)
     (macros macros' : Table) (answers : List (List ℕ)) (answer : SessionAnswer) (after : After) (answers' : List (List ℕ)) → answered ≡ has_answers answers
-    → Led passes d0 d1 (λ t rest. Begins sid answered command macros t (begun answer macros' rest))
+    → Led passes d0 d1 (λ t rest. Begins sid answered command macros t (begun_with answer macros' rest))
     → Led passes d1 d2 (λ t rest. Concludes sid answers answer t after answers' rest)
-    → Led passes d0 d2 (λ t rest. Serves sid command (standing path macros answers t) after (standing path macros' answers' rest))
+    → Led passes d0 d2 (λ t rest. ServesUnit sid command (standing path macros answers t) after (standing path macros' answers' rest))
 serve-unit passes d0 d1 d2 sid command answered path macros macros' answers answer after answers' told p q =
-    led-then passes d0 d1 d2 (λ t rest. Begins sid answered command macros t (begun answer macros' rest)) (λ t rest.
+    led-then passes d0 d1 d2 (λ t rest. Begins sid answered command macros t (begun_with answer macros' rest)) (λ t rest.
     Concludes sid answers answer t after answers' rest)
-    (λ t rest. Serves sid command (standing path macros answers t) after (standing path macros' answers' rest)) p q
-    (λ t mid rest b k. (answer, mid, subst (λ (w : Bool). Begins sid w command macros t (begun answer macros' mid)) told b, k, refl))
+    (λ t rest. ServesUnit sid command (standing path macros answers t) after (standing path macros' answers' rest)) p q
+    (λ t mid rest b k. (answer, mid, subst (λ (w : Bool). Begins sid w command macros t (begun_with answer macros' mid)) told b, k, refl))
 
 -- a script of what is left, after these units, is one of the whole text
-abbrev pub ScriptsBy : List ℕ → List UnitView → List ℕ → Type 0
-ScriptsBy text front left = (us : List UnitView) (ending : Ending) → IsScript left us ending → IsScript text (front ++ us) ending
+abbrev pub ScriptsBy : List ℕ → List UnitSeen → List ℕ → Type 0
+ScriptsBy text front left = (us : List UnitSeen) (ending : Ending) → IsScript left us ending → IsScript text (front ++ us) ending
 
-pub scripts-more : (text left rest : List ℕ) (front : List UnitView) (u : UnitView) → IsUnit left u rest → ScriptsBy text front left
+pub scripts-more : (text left rest : List ℕ) (front : List UnitSeen) (u : UnitSeen) → IsUnit left u rest → ScriptsBy text front left
     → ScriptsBy text (front ++ u ∷ []) rest
 scripts-more text left rest front u is so us ending s =
-    subst (λ (l : List UnitView). IsScript text l ending) (sym (append_assoc front (u ∷ []) us)) (so (u ∷ us) ending (rest, is, s))
+    subst (λ (l : List UnitSeen). IsScript text l ending) (sym (append_assoc front (u ∷ []) us)) (so (u ∷ us) ending (rest, is, s))
 
 -- what is talked from this standing on is talked from the first one on, after these units
-abbrev pub TalksBy : Way → Sid → List UnitView → Standing → Standing → Type 0
+abbrev pub TalksBy : Way → Sid → List UnitSeen → Standing → Standing → Type 0
 TalksBy way sid front s told =
-    (us : List UnitView) (ending : Ending) (after : After) (s' : Standing) → Talks way sid us ending told after s'
+    (us : List UnitSeen) (ending : Ending) (after : After) (s' : Standing) → Talks way sid us ending told after s'
     → Talks way sid (front ++ us) ending s after s'
 
 stops : (on : Standing → Type 0) (after : After) (told : Standing) → (after ≡ Goes → ⊥) → Proceeds on after told after told
@@ -142,17 +143,17 @@ module _ {D : Type 0} (passes : D → Entry → D → Type 0) (way : Way) (sid :
   talk-starts d s = led-none passes d (λ t rest. TalksBy way sid [] (s t) (s rest)) (λ rest us ending after s' w. w)
 
   -- a unit was talked over, and the talk goes on
-  pub talk-goes : (d0 d1 d2 : D) (front : List UnitView) (u : UnitView) (s told told' : List Entry → Standing)
+  pub talk-goes : (d0 d1 d2 : D) (front : List UnitSeen) (u : UnitSeen) (s told told' : List Entry → Standing)
       → Led passes d0 d1 (λ t rest. TalksBy way sid front (s t) (told rest))
       → Led passes d1 d2 (λ t rest. way u (told t) Goes (told' rest)) → Led passes d0 d2 (λ t rest. TalksBy way sid (front ++ u ∷ []) (s t) (told' rest))
   talk-goes d0 d1 d2 front u s told told' p q =
       led-then passes d0 d1 d2 (λ t rest. TalksBy way sid front (s t) (told rest)) (λ t rest. way u (told t) Goes (told' rest))
       (λ t rest. TalksBy way sid (front ++ u ∷ []) (s t) (told' rest)) p q
-      (λ t mid rest so w us ending after s' k. subst (λ (l : List UnitView). Talks way sid l ending (s t) after s') (sym (append_assoc front (u ∷ []) us))
+      (λ t mid rest so w us ending after s' k. subst (λ (l : List UnitSeen). Talks way sid l ending (s t) after s') (sym (append_assoc front (u ∷ []) us))
       (so (u ∷ us) ending after s' (Goes, told' rest, w, k)))
 
   -- the talk stops after a unit
-  pub talk-stops : (d0 d1 d2 : D) (front : List UnitView) (u : UnitView) (s told told' : List Entry → Standing) (after : After) → (after ≡ Goes → ⊥)
+  pub talk-stops : (d0 d1 d2 : D) (front : List UnitSeen) (u : UnitSeen) (s told told' : List Entry → Standing) (after : After) → (after ≡ Goes → ⊥)
       → Led passes d0 d1 (λ t rest. TalksBy way sid front (s t) (told rest)) → Led passes d1 d2 (λ t rest. way u (told t) after (told' rest))
       → Led passes d0 d2 (λ t rest. Talks way sid (front ++ u ∷ []) Unread (s t) after (told' rest))
   talk-stops d0 d1 d2 front u s told told' after differs p q =
@@ -162,15 +163,15 @@ module _ {D : Type 0} (passes : D → Entry → D → Type 0) (way : Way) (sid :
       (after, told' rest, w, stops (λ so_far. Talks way sid [] Unread so_far after (told' rest)) after (told' rest) differs))
 
   -- the text breaks off
-  pub talk-refused : (d0 d1 d2 : D) (front : List UnitView) (e : ScpiError) (s told told' : List Entry → Standing) (after : After)
-      → Led passes d0 d1 (λ t rest. TalksBy way sid front (s t) (told rest)) → Led passes d1 d2 (λ t rest. Serves sid (Err e) (told t) after (told' rest))
+  pub talk-refused : (d0 d1 d2 : D) (front : List UnitSeen) (e : ScpiError) (s told told' : List Entry → Standing) (after : After)
+      → Led passes d0 d1 (λ t rest. TalksBy way sid front (s t) (told rest)) → Led passes d1 d2 (λ t rest. ServesUnit sid (Err e) (told t) after (told' rest))
       → Led passes d0 d2 (λ t rest. Talks way sid (front ++ []) (Refuses e) (s t) after (told' rest))
   talk-refused d0 d1 d2 front e s told told' after p q =
-      led-then passes d0 d1 d2 (λ t rest. TalksBy way sid front (s t) (told rest)) (λ t rest. Serves sid (Err e) (told t) after (told' rest))
+      led-then passes d0 d1 d2 (λ t rest. TalksBy way sid front (s t) (told rest)) (λ t rest. ServesUnit sid (Err e) (told t) after (told' rest))
       (λ t rest. Talks way sid (front ++ []) (Refuses e) (s t) after (told' rest)) p q (λ t mid rest so k. so [] (Refuses e) after (told' rest) k)
 
   -- the text is over
-  pub talk-complete : (d0 d1 : D) (front : List UnitView) (s told : List Entry → Standing)
+  pub talk-complete : (d0 d1 : D) (front : List UnitSeen) (s told : List Entry → Standing)
       → Led passes d0 d1 (λ t rest. TalksBy way sid front (s t) (told rest))
       → Led passes d0 d1 (λ t rest. Talks way sid (front ++ []) Complete (s t) Goes (told rest))
   talk-complete d0 d1 front s told p =
@@ -192,37 +193,38 @@ on-line-so passes a b P Q on so = λ answers written.
 
 -- a unit's command or refusal is served below the path that it leaves
 pub itself-served : {D : Type 0} (passes : D → Entry → D
-    → Type 0) (a b : Spot D) (sid : Sid) (u : UnitView) (command : Result Command ScpiError) (after : After)
-    → Resolves u a.path command b.path → OnLine passes (record a { path = b.path }) b (λ s s'. Serves sid command s after s')
+    → Type 0) (a b : Spot D) (sid : Sid) (u : UnitSeen) (command : Result Command ScpiError) (after : After)
+    → Resolves u a.path command b.path → OnLine passes (record a { path = b.path }) b (λ s s'. ServesUnit sid command s after s')
     → OnLine passes a b (λ s s'. Itself sid u s after s')
 itself-served passes a b sid u command after r on = λ answers written.
     let s = on answers written in (
       s.0,
       s.1,
-      led-so passes a.desk b.desk (λ t rest. Serves sid command (stands_at (record a { path = b.path }) answers t) after (stands_at b s.0 rest))
+      led-so passes a.desk b.desk (λ t rest. ServesUnit sid command (stands_at (record a { path = b.path }) answers t) after (stands_at b s.0 rest))
           (λ t rest. Itself sid u (stands_at a answers t) after (stands_at b s.0 rest)) s.2 (λ t rest k. (command, b.path, r, k)),
     )
 
-expands : (c : Bool) (sid : Sid) (u : UnitView) (s s' : Standing) (after : After) → calls s.macros u ≡ c
-    → MatchBool c ((r : Result (List ℕ) ScpiError) × IsExpansion s.macros u r × Unfolds sid r s after s') (Itself sid u s after s') → Expanded sid u s after s'
+expands : (c : Bool) (sid : Sid) (u : UnitSeen) (s s' : Standing) (after : After) → calls s.macros u ≡ c
+    → MatchBool c ((r : Result (List ℕ) ScpiError) × IsExpansion s.macros u r × TalksExpansion sid r s after s') (Itself sid u s after s')
+    → Expanded sid u s after s'
 expands c sid u s s' after is m =
     subst (λ (x : Bool). MatchBool x ((r : Result (List ℕ) ScpiError) × IsExpansion s.macros u r
-    × Unfolds sid r s after s') (Itself sid u s after s')) (sym is) m
+    × TalksExpansion sid r s after s') (Itself sid u s after s')) (sym is) m
 
 -- a unit that calls no macro is itself
-pub expanded-itself : {D : Type 0} (passes : D → Entry → D → Type 0) (a b : Spot D) (sid : Sid) (u : UnitView) (after : After) → calls a.macros u ≡ false
+pub expanded-itself : {D : Type 0} (passes : D → Entry → D → Type 0) (a b : Spot D) (sid : Sid) (u : UnitSeen) (after : After) → calls a.macros u ≡ false
     → OnLine passes a b (λ s s'. Itself sid u s after s') → OnLine passes a b (λ s s'. Expanded sid u s after s')
 expanded-itself passes a b sid u after is on =
     on-line-so passes a b (λ s s'. Itself sid u s after s') (λ s s'. Expanded sid u s after s') on
     (λ answers answers' t rest k. expands false sid u (stands_at a answers t) (stands_at b answers' rest) after is k)
 
 -- the fault of an expansion, or want of memory
-pub fault-expands : (t : Table) (u : UnitView) (written : List ℕ) (e : ScpiError) → (e ≡ OutOfMemory) ⊎ Expands t u written (Err e) → IsExpansion t u (Err e)
+pub fault-expands : (t : Table) (u : UnitSeen) (written : List ℕ) (e : ScpiError) → (e ≡ OutOfMemory) ⊎ Expands t u written (Err e) → IsExpansion t u (Err e)
 fault-expands t u written e (inl lost) = inr (ap (λ (x : ScpiError). Err x) lost)
 fault-expands t u written e (inr so) = inl (written, so)
 
 -- the units of an expansion stand in a unit's place
-pub expanded-units : {D : Type 0} (passes : D → Entry → D → Type 0) (a b : Spot D) (sid : Sid) (u : UnitView) (text : List ℕ) (after : After)
+pub expanded-units : {D : Type 0} (passes : D → Entry → D → Type 0) (a b : Spot D) (sid : Sid) (u : UnitSeen) (text : List ℕ) (after : After)
     → calls a.macros u ≡ true
     → IsExpansion a.macros u (Ok text) → TalksLine (Itself sid) passes sid text a after b → OnLine passes a b (λ s s'. Expanded sid u s after s')
 expanded-units passes a b sid u text after is x talks = λ answers written.
@@ -235,16 +237,16 @@ expanded-units passes a b sid u text after is x talks = λ answers written.
     )
 
 -- the fault of an expansion is queued
-pub expanded-fault : {D : Type 0} (passes : D → Entry → D → Type 0) (a b : Spot D) (sid : Sid) (u : UnitView) (e : ScpiError) (after : After)
+pub expanded-fault : {D : Type 0} (passes : D → Entry → D → Type 0) (a b : Spot D) (sid : Sid) (u : UnitSeen) (e : ScpiError) (after : After)
     → calls a.macros u ≡ true
-    → IsExpansion a.macros u (Err e) → OnLine passes a b (λ s s'. Serves sid (Err e) s after s') → OnLine passes a b (λ s s'. Expanded sid u s after s')
+    → IsExpansion a.macros u (Err e) → OnLine passes a b (λ s s'. ServesUnit sid (Err e) s after s') → OnLine passes a b (λ s s'. Expanded sid u s after s')
 expanded-fault passes a b sid u e after is x on =
-    on-line-so passes a b (λ s s'. Serves sid (Err e) s after s') (λ s s'. Expanded sid u s after s') on
+    on-line-so passes a b (λ s s'. ServesUnit sid (Err e) s after s') (λ s s'. Expanded sid u s after s') on
     (λ answers answers' t rest k. expands true sid u (stands_at a answers t) (stands_at b answers' rest) after is (Err e, x, k))
 
 -- a message that isn't too long, over a trace after which nothing is left
 pub talked-units : {D : Type 0} (passes : D → Entry → D
-    → Type 0) (old new : D) (sid : Sid) (macros macros' : Table) (message text bytes : List ℕ) (units : List UnitView)
+    → Type 0) (old new : D) (sid : Sid) (macros macros' : Table) (message text bytes : List ℕ) (units : List UnitSeen)
     (ending : Ending) (after : After) (path : Nodes) (answers : List (List ℕ)) → text ≡ strip_last 10 message → length text ≤ most_bytes
     → IsScript text units ending
     → bytes ≡ written after answers
@@ -296,7 +298,7 @@ written-ends Goes answers bytes is none = absurd (cc (is))
 written-ends Drops answers bytes is none = absurd (cc (is))
 written-ends Ends answers bytes is none = none
 
-pub written-line : (after : After) (answers : List (List ℕ)) (bytes : List ℕ) → (after ≡ Ends → ⊥) → bytes ≡ line_of answers → bytes ≡ written after answers
+pub written-line : (after : After) (answers : List (List ℕ)) (bytes : List ℕ) → (after ≡ Ends → ⊥) → bytes ≡ answer_line answers → bytes ≡ written after answers
 written-line Goes answers bytes differs is = is
 written-line Drops answers bytes differs is = is
 written-line Ends answers bytes differs is = absurd (differs refl)

@@ -14,13 +14,13 @@ abbrev pub no_notes : Notes
 no_notes = replicate most_sessions None
 
 -- it is that of the session that joined after so many events
-abbrev pub is_of : ℕ → Option ℕ → Bool
-is_of joined None = false
-is_of joined (Some noted) = noted == joined
+abbrev pub is_joined_after : ℕ → Option ℕ → Bool
+is_joined_after joined None = false
+is_joined_after joined (Some noted) = noted == joined
 
 -- a message is available for the session
 abbrev pub is_available : Notes → Sid → Bool
-is_available notes sid = is_of sid.joined (slot_at notes sid.number)
+is_available notes sid = is_joined_after sid.joined (slot_at notes sid.number)
 
 -- a session's number
 abbrev pub is_number : ℕ → Bool

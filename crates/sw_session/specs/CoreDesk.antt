@@ -8,8 +8,8 @@ use Rattle.sw_core.specs.declared.ask.SessionAsk.{SessionAsk}
 use Rattle.sw_core.specs.declared.ask.SessionAnswer.{SessionAnswer}
 use Rattle.sw_core.specs.declared.ask.Work.{Work}
 use Rattle.sw_core.specs.Panel.{Panel}
-use Rattle.sw_core.specs.View.{WorkView, Measures, Pauses, AskView, AskSession, AskElapsed, AskFinished, AnswerView}
-use Rattle.sw_core.specs.View.{SaysSession, SaysTaken}
+use Rattle.sw_core.specs.Seen.{WorkSeen, Measures, Pauses, AskSeen, AskSession, AskElapsed, AskFinished, AnswerSeen}
+use Rattle.sw_core.specs.Seen.{SaysSession, SaysTaken}
 use Rattle.sw_core.specs.Step.{Step}
 use Rattle.sw_session.specs.declared.desk.View.{View}
 use Rattle.sw_session.specs.declared.desk.Wake.TheVariants.{Again, Over}
@@ -20,7 +20,7 @@ use Rattle.sw_session.specs.Available.{Notes, no_notes, is_available, with_note}
 -- that has to grow, and for which sessions a message is available
 pub record DeskSeen : Type 0 where
   pub panel : Panel
-  pub work : List WorkView
+  pub work : List WorkSeen
   pub room : ℕ
   pub available : Notes
 
@@ -37,43 +37,43 @@ abbrev pub IsFull : DeskSeen → Type 0
 IsFull d = d.room ≤ length d.work
 
 -- a piece of work as plain data
-abbrev pub piece_seen : {M : _} → Work M → WorkView
+abbrev pub piece_seen : {M : _} → Work M → WorkSeen
 piece_seen (Work.Measure job) = Measures job.1
 piece_seen (Work.Pause ticket micros) = Pauses ticket micros
 
 -- a piece that was carried out: what the mainframe was told, whether a card failed in that call, what it answered, and
 -- its state after that
 pub record Carried : Type 0 where
-  pub ask : AskView
+  pub ask : AskSeen
   pub failed : Bool
-  pub answer : AnswerView
+  pub answer : AnswerSeen
   pub after : Panel
 
 -- the work that comes with an answer
-abbrev pub brought : AnswerView → Option WorkView
+abbrev pub brought : AnswerSeen → Option WorkSeen
 brought (SaysTaken work) = work
 brought answer = None
 
 -- what is told of a piece: that a pause is over, for pauses take no time; or a measurement, made once
-abbrev pub Tells : WorkView → AskView → Type 0
-Tells (Pauses ticket micros) ask = ask ≡ AskElapsed ticket
-Tells (Measures job) ask = (done : FinishedSeen) × IsDone job done × (ask ≡ AskFinished done)
+abbrev pub TellsOfPiece : WorkSeen → AskSeen → Type 0
+TellsOfPiece (Pauses ticket micros) ask = ask ≡ AskElapsed ticket
+TellsOfPiece (Measures job) ask = (done : FinishedSeen) × IsDone job done × (ask ≡ AskFinished done)
 
 -- the piece is carried out, and the mainframe told
-pub record CarriesOut (old : Panel) (piece : WorkView) (c : Carried) : Type 0 where
-  pub tells : Tells piece c.ask
+pub record CarriesOut (old : Panel) (piece : WorkSeen) (c : Carried) : Type 0 where
+  pub tells : TellsOfPiece piece c.ask
   pub step : Step old c.ask c.failed c.answer c.after
 
 -- The piece is put behind the rest, for which the room may grow.
-pub record PutsBehind (old : DeskSeen) (piece : WorkView) (new : DeskSeen) : Type 0 where
+pub record PutsBehind (old : DeskSeen) (piece : WorkSeen) (new : DeskSeen) : Type 0 where
   pub roomy : old.room ≤ new.room
   pub leaves : new ≡ record old { work = old.work ++ piece ∷ []; room = new.room }
 
 -- There is no room for the last piece of this work: the oldest is carried out, and the rest stays in its order.
-pub record CarriesOldest (old : DeskSeen) (work : List WorkView) (c : Carried) (new : DeskSeen) : Type 0 where
+pub record CarriesOldest (old : DeskSeen) (work : List WorkSeen) (c : Carried) (new : DeskSeen) : Type 0 where
   pub full : IsFull old
-  pub piece : WorkView
-  pub others : List WorkView
+  pub piece : WorkSeen
+  pub others : List WorkSeen
   pub oldest : work ≡ piece ∷ others
   pub carries : CarriesOut old.panel piece c
   pub roomy : old.room ≤ new.room
@@ -81,7 +81,7 @@ pub record CarriesOldest (old : DeskSeen) (work : List WorkView) (c : Carried) (
 
 -- Work that came with an answer is kept behind the rest. Where a growth for it was refused, the oldest piece of all is
 -- carried out at once in its place, and what comes of that is kept in turn.
-abbrev pub Keeps : List Carried → DeskSeen → Option WorkView → DeskSeen → Type 0
+abbrev pub Keeps : List Carried → DeskSeen → Option WorkSeen → DeskSeen → Type 0
 Keeps [] d None new = new ≡ d
 Keeps [] d (Some piece) new = PutsBehind d piece new
 Keeps (c ∷ carried) d None new = ⊥
@@ -89,29 +89,29 @@ Keeps (c ∷ carried) d (Some piece) new =
     (mid : DeskSeen) × CarriesOldest d (d.work ++ piece ∷ []) c mid × Keeps carried mid (brought c.answer) new
 
 -- The clauses of the desk's parts: work is kept, and a piece is carried out and brings this.
-pub record IsKept (old : DeskSeen) (brings : Option WorkView) (new : DeskSeen) : Type 0 where
+pub record IsKept (old : DeskSeen) (brings : Option WorkSeen) (new : DeskSeen) : Type 0 where
   pub carried : List Carried
   pub keeps : Keeps carried old brings new
 
-pub record IsCarried (old : DeskSeen) (piece : WorkView) (brings : Option WorkView) (new : DeskSeen) : Type 0 where
+pub record IsCarried (old : DeskSeen) (piece : WorkSeen) (brings : Option WorkSeen) (new : DeskSeen) : Type 0 where
   pub c : Carried
   pub carries : CarriesOut old.panel piece c
   pub brings_is : brings ≡ brought c.answer
   pub leaves : new ≡ record old { panel = c.after }
 
 -- an ask is one step of the mainframe, and its work is kept
-pub record Answers (carried : List Carried) (old : DeskSeen) (ask : SessionAsk) (answer : SessionAnswer)
+pub record AnswersAsk (carried : List Carried) (old : DeskSeen) (ask : SessionAsk) (answer : SessionAnswer)
     (new : DeskSeen) : Type 0 where
   pub failed : Bool
-  pub brings : Option WorkView
+  pub brings : Option WorkSeen
   pub after : Panel
   pub step : Step old.panel (AskSession ask) failed (SaysSession answer brings) after
   pub keeps : Keeps carried (record old { panel = after }) brings new
 
 -- the oldest piece is carried out, and what comes of it is kept
-pub record Works (c : Carried) (carried : List Carried) (old new : DeskSeen) : Type 0 where
-  pub piece : WorkView
-  pub others : List WorkView
+pub record CarriesOutOldest (c : Carried) (carried : List Carried) (old new : DeskSeen) : Type 0 where
+  pub piece : WorkSeen
+  pub others : List WorkSeen
   pub oldest : old.work ≡ piece ∷ others
   pub carries : CarriesOut old.panel piece c
   pub keeps : Keeps carried (record old { panel = c.after; work = others }) (brought c.answer) new
@@ -127,8 +127,8 @@ view_of d sid = record {
 -- What is carried out in one call: at an ask nothing and at a wait one piece, where no growth is refused. A wait takes
 -- no time, and is over where nothing is outstanding.
 abbrev pub PassesBy : List Carried → DeskSeen → Entry → DeskSeen → Type 0
-PassesBy carried old (Asked ask answer) new = Answers carried old ask answer new
-PassesBy (c ∷ carried) old (Waited limit (Again left)) new = (left ≡ limit) × Works c carried old new
+PassesBy carried old (Asked ask answer) new = AnswersAsk carried old ask answer new
+PassesBy (c ∷ carried) old (Waited limit (Again left)) new = (left ≡ limit) × CarriesOutOldest c carried old new
 PassesBy [] old (Waited limit Over) new = (old.work ≡ []) × (new ≡ old)
 PassesBy [] old (Polled sid view) new = (view ≡ view_of old sid) × (new ≡ old)
 PassesBy [] old (Noted sid mav) new = new ≡ record old { available = with_note old.available sid mav }
@@ -147,7 +147,7 @@ abbrev pub most_waits : ℕ
 most_waits = 2 ^ 64 - 1
 
 -- The desk waits without a limit until nothing is outstanding, or so many times in vain.
-pub record Rests (old : DeskSeen) (rested : Bool) (new : DeskSeen) : Type 0 where
+pub record WaitsOut (old : DeskSeen) (rested : Bool) (new : DeskSeen) : Type 0 where
   pub waits : ℕ
   pub leads : Leads CorePasses old (replicate waits (Waited None (Again None)) ++ last_wait rested) new
   pub in_vain : rested ≡ false → waits ≡ most_waits

@@ -12,7 +12,7 @@ use Rattle.sw_session.specs.declared.engine.step.Channel.{Channel}
 use Rattle.sw_session.specs.declared.engine.step.Channel.TheVariants.{Synchronous, Asynchronous}
 use Rattle.sw_session.specs.declared.engine.step.Step.{Step}
 use Rattle.sw_session.specs.EngineKinds.{sync_request}
-use Rattle.sw_session.specs.EngineMessages.{error_of}
+use Rattle.sw_session.specs.EngineMessages.{error_message}
 use Rattle.sw_session.specs.EngineSync.{SyncStanding, OpensSync, TakesSync, FaltersSync, skipped}
 use Rattle.sw_session.specs.EngineAsync.{AsyncStanding, OpensAsync, TakesAsync, notice_of, noticed}
 use Rattle.sw_session.specs.Trace.{Entry}
@@ -23,8 +23,8 @@ pub record EngineStanding : Type 0 where
   pub spent : Bool
 
 -- no message has come on this channel
-abbrev pub fresh : Channel → EngineStanding
-fresh channel = record { state = Unopened channel; spent = false }
+abbrev pub fresh_engine : Channel → EngineStanding
+fresh_engine channel = record { state = Unopened channel; spent = false }
 
 -- how a channel stands after its first message
 abbrev pub opened_sync : Option SyncStanding → State
@@ -36,13 +36,14 @@ opened_async None = Unopened Asynchronous
 opened_async (Some s) = Attached s
 
 -- one message: the first one opens the channel
-abbrev pub Takes : State → Message → List Entry → Step → State → Type 0
-Takes (Unopened Synchronous) m asked step s' = (o : Option SyncStanding) × OpensSync m asked step o
+abbrev pub TakesMessage : State → Message → List Entry → Step → State → Type 0
+TakesMessage (Unopened Synchronous) m asked step s' = (o : Option SyncStanding) × OpensSync m asked step o
     × (s' ≡ opened_sync o)
-Takes (Unopened Asynchronous) m asked step s' = (o : Option AsyncStanding) × OpensAsync m.kind m.parameter asked step o
+TakesMessage (Unopened Asynchronous) m asked step s' =
+    (o : Option AsyncStanding) × OpensAsync m.kind m.parameter asked step o
     × (s' ≡ opened_async o)
-Takes (Synchronized s) m asked step s' = (t : SyncStanding) × TakesSync s m asked step t × (s' ≡ Synchronized t)
-Takes (Attached s) m asked step s' = (t : AsyncStanding) × TakesAsync s m asked step t × (s' ≡ Attached t)
+TakesMessage (Synchronized s) m asked step s' = (t : SyncStanding) × TakesSync s m asked step t × (s' ≡ Synchronized t)
+TakesMessage (Attached s) m asked step s' = (t : AsyncStanding) × TakesAsync s m asked step t × (s' ≡ Attached t)
 
 -- the session of a channel
 abbrev pub session_of : State → Option Sid
@@ -51,10 +52,10 @@ session_of (Synchronized s) = Some s.sid
 session_of (Attached s) = Some s.sid
 
 -- which connection a channel is
-abbrev pub channel_of : State → Channel
-channel_of (Unopened channel) = channel
-channel_of (Synchronized s) = Synchronous
-channel_of (Attached s) = Asynchronous
+abbrev pub channel_of_state : State → Channel
+channel_of_state (Unopened channel) = channel
+channel_of_state (Synchronized s) = Synchronous
+channel_of_state (Attached s) = Asynchronous
 
 -- a message that found no memory: on the first channel of a session it may have asked a front of its row, else nothing
 abbrev pub FaltersAt : State → Message → List Entry → Type 0
@@ -67,7 +68,7 @@ Falters e m asked = MatchBool e.spent (asked ≡ []) (FaltersAt e.state m asked)
 
 -- a message whose payload is too long is answered so (own)
 abbrev pub too_large : Message
-too_large = error_of TooLarge
+too_large = error_message TooLarge
 
 -- a skipped part of a program message drops it whole; any other skipped message does nothing else
 abbrev pub skips : Kind → State → State

@@ -21,7 +21,8 @@ use Rattle.sw_session.specs.declared.engine.step.Channel.TheVariants.{Asynchrono
 use Rattle.sw_session.specs.declared.engine.step.Reply.{Reply}
 use Rattle.sw_session.specs.declared.engine.step.Step.{Step}
 use Rattle.sw_session.specs.EngineKinds.{async_request}
-use Rattle.sw_session.specs.EngineMessages.{plain, error_of, second_welcome, size_told, size_response, tells_delivery}
+use Rattle.sw_session.specs.EngineMessages.{plain, error_message, second_welcome, size_told, size_response}
+use Rattle.sw_session.specs.EngineMessages.{tells_delivery}
 use Rattle.sw_session.specs.EngineMessages.{status_byte, lock_info}
 use Rattle.sw_session.specs.EngineStep.{goes, over, reply_step, says, fails, Unasked, OnDone}
 use Rattle.sw_session.specs.Talk.{turns}
@@ -52,14 +53,14 @@ AttachesBy Stranger asked step s' = Unasked (fails Asynchronous InvalidInitializ
 AttachesBy answer asked step s' = Unasked over asked step × (s' ≡ None)
 
 -- AsyncInitialize with this session number
-abbrev pub Attaches : ℕ → List Entry → Step → Option AsyncStanding → Type 0
-Attaches number (Asked a answer ∷ asked) step s' = (a ≡ Ask.Attach number) × AttachesBy answer asked step s'
-Attaches number [] step s' = ⊥
-Attaches number (e ∷ asked) step s' = ⊥
+abbrev pub AsksToAttach : ℕ → List Entry → Step → Option AsyncStanding → Type 0
+AsksToAttach number (Asked a answer ∷ asked) step s' = (a ≡ Ask.Attach number) × AttachesBy answer asked step s'
+AsksToAttach number [] step s' = ⊥
+AsksToAttach number (e ∷ asked) step s' = ⊥
 
 -- nothing is asked, and the fault of initialization is told
-abbrev pub Misbegins : List Entry → Step → Option AsyncStanding → Type 0
-Misbegins asked step s' = Unasked (fails Asynchronous InvalidInitialization) asked step × (s' ≡ None)
+abbrev pub MisbeginsSecond : List Entry → Step → Option AsyncStanding → Type 0
+MisbeginsSecond asked step s' = Unasked (fails Asynchronous InvalidInitialization) asked step × (s' ≡ None)
 
 abbrev pub is_second : Kind → Bool
 is_second Kind.AsyncInitialize = true
@@ -68,21 +69,21 @@ is_second kind = false
 -- a number above 255 is no session's
 abbrev pub AttachesNumber : ℕ → List Entry → Step → Option AsyncStanding → Type 0
 AttachesNumber parameter asked step s' =
-    MatchBool (nat_le parameter 255) (Attaches parameter asked step s') (Misbegins asked step s')
+    MatchBool (nat_le parameter 255) (AsksToAttach parameter asked step s') (MisbeginsSecond asked step s')
 
 -- the first message has to be an AsyncInitialize
 abbrev pub OpensAsync : Kind → ℕ → List Entry → Step → Option AsyncStanding → Type 0
 OpensAsync kind parameter asked step s' =
-    MatchBool (is_second kind) (AttachesNumber parameter asked step s') (Misbegins asked step s')
+    MatchBool (is_second kind) (AttachesNumber parameter asked step s') (MisbeginsSecond asked step s')
 
 -- what the code comes to: the second channel of a session, or a reply without one
-abbrev pub opened_step : Result AsyncStanding Reply → Step
-opened_step (Ok s) = replies second_welcome
-opened_step (Err reply) = reply_step Asynchronous reply
+abbrev pub attached_step : Result AsyncStanding Reply → Step
+attached_step (Ok s) = replies second_welcome
+attached_step (Err reply) = reply_step Asynchronous reply
 
-abbrev pub opened_session : Result AsyncStanding Reply → Option AsyncStanding
-opened_session (Ok s) = Some s
-opened_session (Err reply) = None
+abbrev pub attached_session : Result AsyncStanding Reply → Option AsyncStanding
+attached_session (Ok s) = Some s
+attached_session (Err reply) = None
 
 -- ---- locks
 
@@ -120,10 +121,10 @@ ReleasesLock sid asked step = ⊥
 
 -- another control code
 abbrev pub miscontrolled : Step
-miscontrolled = replies (error_of UnrecognizedControl)
+miscontrolled = replies (error_message UnrecognizedControl)
 
-abbrev pub Locks : Sid → Message → List Entry → Step → Type 0
-Locks sid m asked step =
+abbrev pub AsksForLock : Sid → Message → List Entry → Step → Type 0
+AsksForLock sid m asked step =
     MatchBool (m.control == 1) (AsksLock sid m.payload m.parameter asked step)
     (MatchBool (m.control == 0) (ReleasesLock sid asked step) (Unasked miscontrolled asked step))
 
@@ -173,7 +174,7 @@ noticed s view = record s { told = max s.told view.requests }
 abbrev pub RepliesAsync : AsyncRequest → Sid → Message → List Entry → Step → Type 0
 RepliesAsync Request.Size sid m asked step =
     OnDone (Ask.Size sid (size_told m.payload)) Asynchronous size_response asked step
-RepliesAsync Request.Lock sid m asked step = Locks sid m asked step
+RepliesAsync Request.Lock sid m asked step = AsksForLock sid m asked step
 RepliesAsync Request.LockInfo sid m asked step = TellsLocks sid asked step
 RepliesAsync Request.RemoteLocal sid m asked step = Unasked (control_reply m.control) asked step
 RepliesAsync Request.Clear sid m asked step =
@@ -181,8 +182,8 @@ RepliesAsync Request.Clear sid m asked step =
 RepliesAsync Request.Leave sid m asked step = Unasked over asked step
 RepliesAsync Request.Nothing sid m asked step = Unasked (goes []) asked step
 RepliesAsync Request.Initialize sid m asked step = Unasked (fails Asynchronous InvalidInitialization) asked step
-RepliesAsync Request.Vendor sid m asked step = Unasked (replies (error_of UnrecognizedVendor)) asked step
-RepliesAsync Request.Misplaced sid m asked step = Unasked (replies (error_of UnrecognizedType)) asked step
+RepliesAsync Request.Vendor sid m asked step = Unasked (replies (error_message UnrecognizedVendor)) asked step
+RepliesAsync Request.Misplaced sid m asked step = Unasked (replies (error_message UnrecognizedType)) asked step
 RepliesAsync Request.Status sid m asked step = ⊥
 
 abbrev pub TakesAsyncBy : AsyncRequest → AsyncStanding → Message → List Entry → Step → AsyncStanding → Type 0

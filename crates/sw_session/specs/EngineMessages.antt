@@ -31,8 +31,8 @@ fatal_number InvalidInitialization = 3
 fatal_number TooManyClients = 4
 
 -- the code of a fault stands as control code, and nothing else is told of it (own)
-abbrev pub error_of : ErrorCode → Message
-error_of code = plain Kind.Error (error_number code) 0
+abbrev pub error_message : ErrorCode → Message
+error_message code = plain Kind.Error (error_number code) 0
 
 abbrev pub fatal_of : FatalCode → Message
 fatal_of code = plain Kind.FatalError (fatal_number code) 0

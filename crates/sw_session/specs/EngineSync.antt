@@ -23,9 +23,10 @@ use Rattle.sw_session.specs.declared.engine.step.Sent.{Sent}
 use Rattle.sw_session.specs.declared.engine.synchronous.Delivery.{Delivery}
 use Rattle.sw_session.specs.declared.engine.step.Step.{Step}
 use Rattle.sw_session.specs.EngineKinds.{sync_request}
-use Rattle.sw_session.specs.EngineMessages.{plain, error_of, welcome, IsSubAddress, IsCut, room_of, tells_delivery}
+use Rattle.sw_session.specs.EngineMessages.{plain, error_message, welcome, IsSubAddress, IsCut, room_of, tells_delivery}
 use Rattle.sw_session.specs.EngineStep.{on, goes, reply_step, over, says, fails, joined, Unasked, is_gone}
-use Rattle.sw_session.specs.Talk.{TalksMessage, Settles, Queues, is_done, most_kept}
+use Rattle.sw_base.specs.Limits.{most_kept}
+use Rattle.sw_session.specs.Talk.{TalksMessage, Settles, Queues, is_done}
 use Rattle.sw_session.specs.Trace.{Entry, Asked, Polled, Noted}
 
 -- whose channel it is; the session's macros; whether its second channel was seen to stand; and what has come of a
@@ -65,27 +66,28 @@ opened_session (Ok sid) = Some (newly_joined sid)
 opened_session (Err reply) = None
 
 -- Initialize: a session is asked for
-abbrev pub Joins : ℕ → List Entry → Step → Option SyncStanding → Type 0
-Joins parameter (Asked a answer ∷ []) step s' = (a ≡ Ask.Join) × (step ≡ joins_step parameter answer)
+abbrev pub AsksToJoin : ℕ → List Entry → Step → Option SyncStanding → Type 0
+AsksToJoin parameter (Asked a answer ∷ []) step s' = (a ≡ Ask.Join) × (step ≡ joins_step parameter answer)
     × (s' ≡ joins_session answer)
-Joins parameter asked step s' = ⊥
+AsksToJoin parameter asked step s' = ⊥
 
 abbrev pub is_first : Kind → Bool
 is_first Kind.Initialize = true
 is_first kind = false
 
-abbrev pub Misbegins : List Entry → Step → Option SyncStanding → Type 0
-Misbegins asked step s' = Unasked (fails Synchronous InvalidInitialization) asked step × (s' ≡ None)
+abbrev pub MisbeginsFirst : List Entry → Step → Option SyncStanding → Type 0
+MisbeginsFirst asked step s' = Unasked (fails Synchronous InvalidInitialization) asked step × (s' ≡ None)
 
 -- the payload has to be a sub-address
 abbrev pub JoinsAt : List ℕ → ℕ → List Entry → Step → Option SyncStanding → Type 0
 JoinsAt payload parameter asked step s' =
-    (IsSubAddress payload × Joins parameter asked step s') ⊎ ((IsSubAddress payload → ⊥) × Misbegins asked step s')
+    (IsSubAddress payload × AsksToJoin parameter asked step s')
+    ⊎ ((IsSubAddress payload → ⊥) × MisbeginsFirst asked step s')
 
 -- the first message has to be an Initialize
 abbrev pub OpensSync : Message → List Entry → Step → Option SyncStanding → Type 0
 OpensSync m asked step s' =
-    MatchBool (is_first m.kind) (JoinsAt m.payload m.parameter asked step s') (Misbegins asked step s')
+    MatchBool (is_first m.kind) (JoinsAt m.payload m.parameter asked step s') (MisbeginsFirst asked step s')
 
 -- ---- before a message of a program
 
@@ -118,9 +120,9 @@ abbrev pub interrupted : ℕ → SessionAnswer → Step
 interrupted id answer = if is_gone answer then over else goes (interruption id)
 
 -- what the last answer makes be said
-abbrev pub said_of : ℕ → Delivery → List Sent
-said_of id Delivery.Interrupted = interruption id
-said_of id delivery = []
+abbrev pub said_by_delivery : ℕ → Delivery → List Sent
+said_by_delivery id Delivery.Interrupted = interruption id
+said_by_delivery id delivery = []
 
 -- what the last answer comes to
 abbrev pub delivery_step : ℕ → Delivery → Step
@@ -298,17 +300,18 @@ Completes sid (Asked a answer ∷ asked) step =
 Completes sid asked step = ⊥
 
 -- then what came of a program message is dropped
-abbrev pub completed : SyncStanding → Step → SyncStanding
-completed s step = if step.ends then s else record s { front = Front.Nothing }
+abbrev pub message_completed : SyncStanding → Step → SyncStanding
+message_completed s step = if step.ends then s else record s { front = Front.Nothing }
 
 -- what the messages that are no part of a program say
 abbrev pub RepliesSync : SyncRequest → SyncStanding → List Entry → Step → SyncStanding → Type 0
-RepliesSync Request.ClearComplete s asked step s' = Completes s.sid asked step × (s' ≡ completed s step)
+RepliesSync Request.ClearComplete s asked step s' = Completes s.sid asked step × (s' ≡ message_completed s step)
 RepliesSync Request.Leave s asked step s' = Unasked over asked step × (s' ≡ s)
 RepliesSync Request.Nothing s asked step s' = Unasked (goes []) asked step × (s' ≡ s)
 RepliesSync Request.Initialize s asked step s' = Unasked (fails Synchronous InvalidInitialization) asked step × (s' ≡ s)
-RepliesSync Request.Vendor s asked step s' = Unasked (responds (error_of UnrecognizedVendor)) asked step × (s' ≡ s)
-RepliesSync Request.Misplaced s asked step s' = Unasked (responds (error_of UnrecognizedType)) asked step × (s' ≡ s)
+RepliesSync Request.Vendor s asked step s' = Unasked (responds (error_message UnrecognizedVendor)) asked step × (s' ≡ s)
+RepliesSync Request.Misplaced s asked step s' =
+    Unasked (responds (error_message UnrecognizedType)) asked step × (s' ≡ s)
 RepliesSync request s asked step s' = ⊥
 
 abbrev pub TakesSyncBy : SyncRequest → SyncStanding → Message → List Entry → Step → SyncStanding → Type 0

@@ -1,5 +1,6 @@
 -- A talk leaves no choice, and a message that comes in parts is one message.
-use Rattle.std.specs.Prelude.{◌≡◌, ◌≢◌, ℕ, ◌≤◌, List, [], ◌∷◌, ◌++◌, length, replicate, true, Option, Some, None, Result}
+use Rattle.std.specs.Prelude.{◌≡◌, ◌≢◌, ℕ, ◌≤◌, List, [], ◌∷◌, ◌++◌, length, replicate, true, Option, Some, None}
+use Rattle.std.specs.Prelude.{Result}
 use Rattle.std.specs.Prelude.{◌↔◌}
 use Rattle.std.specs.List.{AllByRecursion, concat}
 use Rattle.std.specs.Io.BufRead.{strip_last}
@@ -12,12 +13,12 @@ use Rattle.sw_card.specs.declared.board.CardFault.{CardFault}
 use Rattle.sw_core.specs.declared.ask.SessionAnswer.{SessionAnswer}
 use Rattle.sw_core.specs.Panel.{Panel}
 use Rattle.sw_core.specs.Run.{IsPlain, KeepsKey, Toll, toll}
-use Rattle.sw_core.specs.View.{WorkView, AskView, AskSession, AskFinished, SaysSession}
+use Rattle.sw_core.specs.Seen.{WorkSeen, AskSeen, AskSession, AskFinished, SaysSession}
 use Rattle.sw_macro.specs.Table.{Table}
-use Rattle.sw_session.specs.CoreDesk.{DeskSeen, but_room, Carried, PassesBy, CorePasses, Rests, last_wait}
+use Rattle.sw_session.specs.CoreDesk.{DeskSeen, but_room, Carried, PassesBy, CorePasses, WaitsOut, last_wait}
 use Rattle.sw_session.specs.declared.desk.Wake.TheVariants.{Again}
 use Rattle.sw_session.specs.Trace.{Entry, Asked, Waited, Polled, Noted, Leads}
-use Rattle.sw_session.specs.Talk.{State, Talked, TalksMessage}
+use Rattle.sw_session.specs.Talk.{TalkState, Talked, TalksMessage}
 use Rattle.sw_session.specs.EngineSync.{with_part, whole}
 use Rattle.sw_session.specs.declared.engine.front.Front.{Front}
 
@@ -62,11 +63,11 @@ TalkIsDetermined = (sid : Sid) (macros : Table) (text : List ℕ) (trace trace' 
 
 -- the mainframe tells of no want of memory
 abbrev pub TellsPlainly : SessionAnswer → Type 0
-TellsPlainly answer = (work : Option WorkView) → IsPlain (SaysSession answer work)
+TellsPlainly answer = (work : Option WorkSeen) → IsPlain (SaysSession answer work)
 
 -- nor of a key of a lock that found no memory
 abbrev pub KeepsKeys : SessionAsk → SessionAnswer → Type 0
-KeepsKeys ask answer = (p : Panel) (work : Option WorkView) → KeepsKey p (AskSession ask) (SaysSession answer work)
+KeepsKeys ask answer = (p : Panel) (work : Option WorkSeen) → KeepsKey p (AskSession ask) (SaysSession answer work)
 
 -- no growth was refused in a call of the desk, in which these pieces were carried out
 abbrev pub IsSmooth : Entry → List Carried → Type 0
@@ -91,7 +92,7 @@ pub data Outcome : Type 0 where
   Cards : (toll : Toll) → Outcome
 
 -- what was measured, if it is a measurement that is told
-abbrev pub measured : AskView → List Outcome
+abbrev pub measured : AskSeen → List Outcome
 measured (AskFinished done) = Measured done.outcome ∷ []
 measured ask = []
 
@@ -115,11 +116,11 @@ outcomes_of old (e ∷ trace) new (mid, passes, l) =
     outcomes_by passes.0 old e mid passes.1 ++ outcomes_of mid trace new l
 
 -- the pieces that were carried out in a talk, and its outcomes
-abbrev pub carried_in : {old new : State DeskSeen} {sid : Sid} {message bytes : List ℕ}
+abbrev pub carried_in : {old new : TalkState DeskSeen} {sid : Sid} {message bytes : List ℕ}
     → Talked CorePasses sid old message bytes new → List (List Carried)
 carried_in {old} {new} t = carried_of old.desk t.trace new.desk t.leads
 
-abbrev pub outcomes_in_talk : {old new : State DeskSeen} {sid : Sid} {message bytes : List ℕ}
+abbrev pub outcomes_in_talk : {old new : TalkState DeskSeen} {sid : Sid} {message bytes : List ℕ}
     → Talked CorePasses sid old message bytes new → List Outcome
 outcomes_in_talk {old} {new} t = outcomes_of old.desk t.trace new.desk t.leads
 
@@ -131,7 +132,7 @@ IsSameDesk d d' = but_room d ≡ but_room d'
 -- cards determine what is asked, answered and written, the desk that is left, whatever its room, and the macros, where
 -- no growth was refused.
 abbrev pub CoreTalkIsDetermined : Type 0
-CoreTalkIsDetermined = (sid : Sid) (old old' new new' : State DeskSeen) (message bytes bytes' : List ℕ)
+CoreTalkIsDetermined = (sid : Sid) (old old' new new' : TalkState DeskSeen) (message bytes bytes' : List ℕ)
     (t : Talked CorePasses sid old message bytes new) (t' : Talked CorePasses sid old' message bytes' new')
     → IsSameDesk old.desk old'.desk → old.macros ≡ old'.macros → AllAmple t.trace → AllAmple t'.trace
     → AllSmooth t.trace (carried_in t) → AllSmooth t'.trace (carried_in t')
@@ -139,19 +140,19 @@ CoreTalkIsDetermined = (sid : Sid) (old old' new new' : State DeskSeen) (message
     × (new.macros ≡ new'.macros) × IsSameDesk new.desk new'.desk
 
 -- the calls of a rest that succeeds, the pieces that were carried out in them, and their outcomes
-abbrev pub waits_of : {old new : DeskSeen} → Rests old true new → List Entry
+abbrev pub waits_of : {old new : DeskSeen} → WaitsOut old true new → List Entry
 waits_of r = replicate r.waits (Waited None (Again None)) ++ last_wait true
 
-abbrev pub carried_at_rest : {old new : DeskSeen} → Rests old true new → List (List Carried)
+abbrev pub carried_at_rest : {old new : DeskSeen} → WaitsOut old true new → List (List Carried)
 carried_at_rest {old} {new} r = carried_of old (waits_of r) new r.leads
 
-abbrev pub outcomes_at_rest : {old new : DeskSeen} → Rests old true new → List Outcome
+abbrev pub outcomes_at_rest : {old new : DeskSeen} → WaitsOut old true new → List Outcome
 outcomes_at_rest {old} {new} r = outcomes_of old (waits_of r) new r.leads
 
 -- A rest that succeeds leaves one desk, whatever its room, for what is measured and what came of the cards, where no
 -- growth was refused.
 abbrev pub CoreRestIsDetermined : Type 0
-CoreRestIsDetermined = (d d' e e' : DeskSeen) (r : Rests d true e) (r' : Rests d' true e') → IsSameDesk d d'
+CoreRestIsDetermined = (d d' e e' : DeskSeen) (r : WaitsOut d true e) (r' : WaitsOut d' true e') → IsSameDesk d d'
     → AllSmooth (waits_of r) (carried_at_rest r) → AllSmooth (waits_of r') (carried_at_rest r')
     → outcomes_at_rest r ≡ outcomes_at_rest r' → IsSameDesk e e'
 

@@ -11,7 +11,7 @@ use Rattle.sw_lex.specs.declared.command.Command.TheVariants.{PurgeMacros, Enabl
 use Rattle.sw_macro.specs.Label.{in_capitals}
 use Rattle.sw_macro.specs.Table.{Table, labels, body_of, with_macro, without_macro, refusal_to_define, refusal_to_find}
 use Rattle.sw_macro.specs.Table.{RefusedBy}
-use Rattle.sw_core.specs.Answers.{flag_of}
+use Rattle.sw_core.specs.Answers.{yes_or_no}
 
 -- what a command comes to: its answer, if it has one, or its refusal
 abbrev pub Told : Type 0
@@ -39,15 +39,15 @@ labels_text (l ∷ ls) = row_of (l ∷ ls)
 -- ---- what comes of a command
 
 -- a text is answered, unless there is no memory for it
-abbrev pub Tells : List ℕ → Told → Type 0
-Tells text (Ok told) = told ≡ Some text
-Tells text (Err e) = e ≡ OutOfMemory
+abbrev pub TellsMacroText : List ℕ → Told → Type 0
+TellsMacroText text (Ok told) = told ≡ Some text
+TellsMacroText text (Err e) = e ≡ OutOfMemory
 
 -- *DMC: the macro is defined; or its first refusal, or want of memory, and the macros stay
-abbrev pub Defines : List ℕ → List ℕ → Table → Told → Table → Type 0
-Defines label body t (Ok text) t' = (refusal_to_define t label body ≡ None) × (text ≡ None)
+abbrev pub DefinesMacro : List ℕ → List ℕ → Table → Told → Table → Type 0
+DefinesMacro label body t (Ok text) t' = (refusal_to_define t label body ≡ None) × (text ≡ None)
     × (t' ≡ with_macro t label body)
-Defines label body t (Err e) t' = RefusedBy (refusal_to_define t label body) e × (t' ≡ t)
+DefinesMacro label body t (Err e) t' = RefusedBy (refusal_to_define t label body) e × (t' ≡ t)
 
 -- *RMC: the macro is removed; or its refusal, and the macros stay
 abbrev pub Removes : List ℕ → Table → Told → Table → Type 0
@@ -61,12 +61,12 @@ TellsBody label t (Ok text) = (body : List ℕ) × (refusal_to_find t label ≡ 
 TellsBody label t (Err e) = RefusedBy (refusal_to_find t label) e
 
 -- What a macro command does to the macros, and what it comes to.
-abbrev pub Acts : Command → Table → Told → Table → Type 0
-Acts (DefineMacro label body) t told t' = Defines label body t told t'
-Acts (MacroQuery label) t told t' = TellsBody label t told × (t' ≡ t)
-Acts MacroLabelsQuery t told t' = Tells (labels_text (labels t.macros)) told × (t' ≡ t)
-Acts (RemoveMacro label) t told t' = Removes label t told t'
-Acts PurgeMacros t told t' = (told ≡ Ok None) × (t' ≡ record t { macros = [] })
-Acts (EnableMacros on) t told t' = (told ≡ Ok None) × (t' ≡ record t { on = on })
-Acts EnableMacrosQuery t told t' = Tells (flag_of t.on) told × (t' ≡ t)
-Acts command t told t' = ⊥
+abbrev pub ActsOnMacros : Command → Table → Told → Table → Type 0
+ActsOnMacros (DefineMacro label body) t told t' = DefinesMacro label body t told t'
+ActsOnMacros (MacroQuery label) t told t' = TellsBody label t told × (t' ≡ t)
+ActsOnMacros MacroLabelsQuery t told t' = TellsMacroText (labels_text (labels t.macros)) told × (t' ≡ t)
+ActsOnMacros (RemoveMacro label) t told t' = Removes label t told t'
+ActsOnMacros PurgeMacros t told t' = (told ≡ Ok None) × (t' ≡ record t { macros = [] })
+ActsOnMacros (EnableMacros on) t told t' = (told ≡ Ok None) × (t' ≡ record t { on = on })
+ActsOnMacros EnableMacrosQuery t told t' = TellsMacroText (yes_or_no t.on) told × (t' ≡ t)
+ActsOnMacros command t told t' = ⊥

@@ -1,29 +1,29 @@
 -- The order of a desk's work, and when it is kept.
 use Rattle.std.specs.Prelude.{◌≡◌, ◌<◌, ◌≤◌, List, [], ◌∷◌, ◌++◌, length, Option, None, Some}
-use Rattle.sw_core.specs.View.{WorkView}
+use Rattle.sw_core.specs.Seen.{WorkSeen}
 use Rattle.sw_session.specs.declared.desk.Wake.TheVariants.{Again}
 use Rattle.sw_session.specs.Trace.{Entry, Asked, Waited}
 use Rattle.sw_session.specs.CoreDesk.{DeskSeen, Carried, Keeps, PassesBy, CorePasses, brought}
 
 -- the piece that there is, if any
-abbrev pub pieces_of : Option WorkView → List WorkView
+abbrev pub pieces_of : Option WorkSeen → List WorkSeen
 pieces_of None = []
 pieces_of (Some piece) = piece ∷ []
 
 -- the work that came of pieces that were carried out
-abbrev pub brought_by : List Carried → List WorkView
+abbrev pub brought_by : List Carried → List WorkSeen
 brought_by [] = []
 brought_by (c ∷ carried) = pieces_of (brought c.answer) ++ brought_by carried
 
 -- the work that came in one call: of an ask, and of the pieces that were carried out
 abbrev pub came_in : (carried : List Carried) (old : DeskSeen) (entry : Entry) (new : DeskSeen)
-    → PassesBy carried old entry new → List WorkView
+    → PassesBy carried old entry new → List WorkSeen
 came_in carried old (Asked ask answer) new passes = pieces_of passes.brings ++ brought_by carried
 came_in carried old entry new passes = brought_by carried
 
 -- the pieces that were carried out at once, where work was to be kept
-abbrev pub done_at_once : (carried : List Carried) (old : DeskSeen) (brings : Option WorkView) (new : DeskSeen)
-    → Keeps carried old brings new → List WorkView
+abbrev pub done_at_once : (carried : List Carried) (old : DeskSeen) (brings : Option WorkSeen) (new : DeskSeen)
+    → Keeps carried old brings new → List WorkSeen
 done_at_once [] old brings new keeps = []
 done_at_once (c ∷ carried) old None new keeps = []
 done_at_once (c ∷ carried) old (Some piece) new (mid, off, keeps) =
@@ -31,7 +31,7 @@ done_at_once (c ∷ carried) old (Some piece) new (mid, off, keeps) =
 
 -- the pieces that were carried out at once in one call
 abbrev pub at_once_in : (carried : List Carried) (old : DeskSeen) (entry : Entry) (new : DeskSeen)
-    → PassesBy carried old entry new → List WorkView
+    → PassesBy carried old entry new → List WorkSeen
 at_once_in carried old (Asked ask answer) new passes =
     done_at_once carried (record old { panel = passes.after }) passes.brings new passes.keeps
 at_once_in (c ∷ carried) old (Waited limit (Again left)) new (is, works) =
@@ -40,7 +40,7 @@ at_once_in carried old entry new passes = []
 
 -- the pieces that were carried out in one call: the oldest in a wait, and these
 abbrev pub done_in : (carried : List Carried) (old : DeskSeen) (entry : Entry) (new : DeskSeen)
-    → PassesBy carried old entry new → List WorkView
+    → PassesBy carried old entry new → List WorkSeen
 done_in carried old (Asked ask answer) new passes = at_once_in carried old (Asked ask answer) new passes
 done_in (c ∷ carried) old (Waited limit (Again left)) new (is, works) =
     works.piece ∷ at_once_in (c ∷ carried) old (Waited limit (Again left)) new (is, works)
@@ -53,11 +53,11 @@ WorkIsDoneInOrder = (old new : DeskSeen) (entry : Entry) (passes : CorePasses ol
     → old.work ++ came_in passes.0 old entry new passes.1 ≡ done_in passes.0 old entry new passes.1 ++ new.work
 
 -- there is room for a piece that comes in such a call, of which a wait takes one off first
-abbrev pub HasRoom : Entry → DeskSeen → Type 0
-HasRoom (Waited limit wake) d = length d.work ≤ d.room
-HasRoom entry d = length d.work < d.room
+abbrev pub HasRoomForPiece : Entry → DeskSeen → Type 0
+HasRoomForPiece (Waited limit wake) d = length d.work ≤ d.room
+HasRoomForPiece entry d = length d.work < d.room
 
 -- In a call of a desk that has room, nothing is carried out at once.
 abbrev pub WorkIsKeptWhereThereIsRoom : Type 0
 WorkIsKeptWhereThereIsRoom = (old new : DeskSeen) (entry : Entry) (passes : CorePasses old entry new)
-    → HasRoom entry old → at_once_in passes.0 old entry new passes.1 ≡ []
+    → HasRoomForPiece entry old → at_once_in passes.0 old entry new passes.1 ≡ []

@@ -1,7 +1,7 @@
 -- The units of a message, from the front as far as it is read.
 use Rattle.std.specs.Prelude.{ℕ, List, [], ◌∷◌}
 use Rattle.sw_base.specs.declared.error.ScpiError.{ScpiError}
-use Rattle.sw_lex.specs.Unit.{UnitView, IsUnit, IsRefused, IsBlank}
+use Rattle.sw_lex.specs.Unit.{UnitSeen, IsUnit, IsRefusedUnit, IsBlank}
 
 -- where the units end: at the end of the text, at the first byte that fits no form, or where nobody reads on
 pub data Ending : Type 0 where
@@ -10,8 +10,8 @@ pub data Ending : Type 0 where
   Unread : Ending
 
 -- a text is these units, one after another, and then the ending
-abbrev pub IsScript : List ℕ → List UnitView → Ending → Type 0
+abbrev pub IsScript : List ℕ → List UnitSeen → Ending → Type 0
 IsScript text [] Complete = IsBlank text
-IsScript text [] (Refuses e) = IsRefused text e
+IsScript text [] (Refuses e) = IsRefusedUnit text e
 IsScript text [] Unread = Unit {0}
 IsScript text (u ∷ us) ending = (rest : List ℕ) × IsUnit text u rest × IsScript rest us ending

@@ -104,29 +104,31 @@ is_last_part Kind.DataEnd = true
 is_last_part kind = false
 
 -- how the channel goes on: a wrong prologue ends it, as does a step that says so, with a fatal error or without
-abbrev pub after_of : Bool → Step → After
-after_of true step = Malformed
-after_of false step =
+abbrev pub after_step : Bool → Step → After
+after_step true step = Malformed
+after_step false step =
     if step.ends then if list_any (λ (s : Sent). is_fatal s.message.kind) step.out then Fatal else Ends else Goes
 
 -- once the last part of an answer is written, it is noted that a message is available for the session
-abbrev pub notes_of : Option Sid → List Sent → List Entry
-notes_of None said = []
-notes_of (Some sid) said = if list_any (λ (s : Sent). is_last_part s.message.kind) said then Noted sid true ∷ [] else []
+abbrev pub availability_notes : Option Sid → List Sent → List Entry
+availability_notes None said = []
+availability_notes (Some sid) said =
+    if list_any (λ (s : Sent). is_last_part s.message.kind) said then Noted sid true ∷ [] else []
 
-abbrev pub Proceeds : {E : Type 0} → Type 0 → After → E → List Exchange → After → E → Type 0
-Proceeds on Goes mid xs after s' = on
-Proceeds on Ends mid xs after s' = (xs ≡ []) × (after ≡ Ends) × (s' ≡ mid)
-Proceeds on Fatal mid xs after s' = (xs ≡ []) × (after ≡ Fatal) × (s' ≡ mid)
-Proceeds on Malformed mid xs after s' = (xs ≡ []) × (after ≡ Malformed) × (s' ≡ mid)
+abbrev pub ProceedsAfter : {E : Type 0} → Type 0 → After → E → List Exchange → After → E → Type 0
+ProceedsAfter on Goes mid xs after s' = on
+ProceedsAfter on Ends mid xs after s' = (xs ≡ []) × (after ≡ Ends) × (s' ≡ mid)
+ProceedsAfter on Fatal mid xs after s' = (xs ≡ []) × (after ≡ Fatal) × (s' ≡ mid)
+ProceedsAfter on Malformed mid xs after s' = (xs ≡ []) × (after ≡ Malformed) × (s' ≡ mid)
 
 -- an engine goes through these exchanges, of which only the last may end the channel
 abbrev pub Speaks : {E : Type 0} → Protocol E → E → List Exchange → After → E → Type 0
 Speaks v s [] after s' = (after ≡ Goes) × (s' ≡ s)
 Speaks v s (x ∷ xs) after s' =
-    (step : After) × (mid : _) × v.speaks s x.act x.asked x.step mid × (x.noted ≡ notes_of (v.session mid) x.step.out)
-    × (step ≡ after_of (is_refused x.act) x.step)
-    × Proceeds (Speaks v mid xs after s') step mid xs after s'
+    (step : After) × (mid : _) × v.speaks s x.act x.asked x.step mid
+    × (x.noted ≡ availability_notes (v.session mid) x.step.out)
+    × (step ≡ after_step (is_refused x.act) x.step)
+    × ProceedsAfter (Speaks v mid xs after s') step mid xs after s'
 
 abbrev pub acts_of : List Exchange → List Act
 acts_of xs = map (λ (x : Exchange). x.act) xs
@@ -240,7 +242,7 @@ Listens old new p p' (Err e) =
     ⊎ ((e ≡ Fault.NoMemory) × ((lost : List ℕ) × Consumes old new lost × (0 < length lost))))
 
 -- a decoder was fed these bytes, and this is what it told
-pub record Tells (p p' : Pending) (read : List ℕ) (inputs : List Act) : Type 0 where
+pub record TellsActs (p p' : Pending) (read : List ℕ) (inputs : List Act) : Type 0 where
   pub calls : List Call
   pub decodes : Decodes p calls p'
   pub stream : stream_of calls ≡ read
@@ -265,7 +267,7 @@ pub record HearsAll {E D : Type 0} (u : Voice E D) (p p' : Pending) (a b : Point
     (result : Result After ServeFault) : Type 0 where
   pub inputs : List Act
   pub unpaused : pauses inputs ≡ 0
-  pub tells : Tells p p' [] inputs
+  pub tells : TellsActs p p' [] inputs
   pub spoken : HearsInputs u inputs p' a b result
 
 -- how a channel's state ends a turn
@@ -334,7 +336,7 @@ abbrev pub course : {E D : Type 0} → Point E D → Option (List ℕ) → Cours
 course a input = record { point = a; input = input }
 
 -- one read, and what is gone through for it
-pub record TakesTurn {E D : Type 0} (s : Service E D) (p p' : Pending) (before after : Course E D)
+pub record TakesServerTurn {E D : Type 0} (s : Service E D) (p p' : Pending) (before after : Course E D)
     (result : Result Next ServeFault) : Type 0 where
   pub read : List ℕ
   pub lost : List ℕ
@@ -342,7 +344,7 @@ pub record TakesTurn {E D : Type 0} (s : Service E D) (p p' : Pending) (before a
   pub loses : Loses result lost
   pub inputs : List Act
   pub paused : 0 < pauses inputs → s.may_pause
-  pub tells : Tells p p' read inputs
+  pub tells : TellsActs p p' read inputs
   pub ends : EndsTurn s.voice before.point after.point
       (progress (flat_map acts_for inputs) p' lost (length read + pauses inputs) after.input) result
 
@@ -354,7 +356,7 @@ EndsRun u a b so_far turns (Err fault) = FailsBy u a b so_far turns fault
 -- These bytes were read, however they were cut. The messages that stand in them are what the engine is asked, as far as
 -- the run came; where it waits for more, or stands at a wrong prologue, those are all messages of the stream. No time
 -- limit ended a read where none can.
-pub record Runs {E D : Type 0} (s : Service E D) (turns : ℕ) (before after : Course E D)
+pub record RunsChannel {E D : Type 0} (s : Service E D) (turns : ℕ) (before after : Course E D)
     (result : Result (Unit {0}) ServeFault) : Type 0 where
   pub read : List ℕ
   pub lost : List ℕ
@@ -369,17 +371,17 @@ pub record Runs {E D : Type 0} (s : Service E D) (turns : ℕ) (before after : C
       (progress (flat_map acts_for inputs) pending lost (length read + pauses inputs) after.input) turns result
 
 -- a session that was joined is left, and nothing else is asked
-abbrev pub Leaves : {D : Type 0} → (D → Entry → D → Type 0) → Option Sid → D → D → Type 0
-Leaves passes None d d' = d' ≡ d
-Leaves passes (Some sid) d d' = (answer : SessionAnswer) × passes d (Asked (Ask.Leave sid) answer) d'
+abbrev pub LeavesSession : {D : Type 0} → (D → Entry → D → Type 0) → Option Sid → D → D → Type 0
+LeavesSession passes None d d' = d' ≡ d
+LeavesSession passes (Some sid) d d' = (answer : SessionAnswer) × passes d (Asked (Ask.Leave sid) answer) d'
 
 -- the same with this desk
 abbrev pub with_desk : {E D : Type 0} → D → Course E D → Course E D
 with_desk d c = course (point c.point.engine d c.point.main c.point.side) c.input
 
 -- a run, and then the session is left
-pub record Serves {E D : Type 0} (s : Service E D) (turns : ℕ) (before after : Course E D)
+pub record ServesAndLeaves {E D : Type 0} (s : Service E D) (turns : ℕ) (before after : Course E D)
     (result : Result (Unit {0}) ServeFault) : Type 0 where
   pub desk : D
-  pub runs : Runs s turns before (with_desk desk after) result
-  pub leaves : Leaves s.voice.passes (s.voice.protocol.session after.point.engine) desk after.point.desk
+  pub runs : RunsChannel s turns before (with_desk desk after) result
+  pub leaves : LeavesSession s.voice.passes (s.voice.protocol.session after.point.engine) desk after.point.desk

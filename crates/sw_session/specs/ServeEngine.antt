@@ -12,9 +12,10 @@ use Rattle.sw_session.specs.declared.servers.act.Act.{Act}
 use Rattle.sw_session.specs.declared.servers.fault.ServeFault.{ServeFault}
 use Rattle.sw_session.specs.Trace.{Entry, Polled}
 use Rattle.sw_session.specs.EngineStep.{goes, says, fails, Unasked}
-use Rattle.sw_session.specs.Engine.{EngineStanding, fresh, Takes, Falters, session_of, channel_of, too_large, skips}
+use Rattle.sw_session.specs.Engine.{EngineStanding, fresh_engine, TakesMessage, Falters, session_of, channel_of_state}
+use Rattle.sw_session.specs.Engine.{too_large, skips}
 use Rattle.sw_session.specs.Engine.{notice_from, noticed_from}
-use Rattle.sw_session.specs.Serve.{Protocol, voice, service, Course, course, Serves, point}
+use Rattle.sw_session.specs.Serve.{Protocol, voice, service, Course, course, ServesAndLeaves, point}
 
 -- a service request that is told, if any
 abbrev pub told_step : Option Message → Step
@@ -40,10 +41,11 @@ Looks s asked step t = LooksFor (second_session_of s) s asked step t
 -- What an engine asks and says to an act: to a message what its channel's definition says, to one that was skipped
 -- Error 4 (own), to a header that doesn't begin with `HS` FatalError 1, and service requests are told.
 abbrev pub EngineSpeaks : EngineStanding → Act → List Entry → Step → EngineStanding → Type 0
-EngineSpeaks e (Act.Takes m) asked step f = Takes e.state m asked step f.state × (e.spent ≡ false) × (f.spent ≡ false)
-EngineSpeaks e (Act.Skips kind) asked step f = Unasked (says (channel_of e.state) too_large) asked step
+EngineSpeaks e (Act.Takes m) asked step f =
+    TakesMessage e.state m asked step f.state × (e.spent ≡ false) × (f.spent ≡ false)
+EngineSpeaks e (Act.Skips kind) asked step f = Unasked (says (channel_of_state e.state) too_large) asked step
     × (f ≡ record e { state = skips kind e.state })
-EngineSpeaks e Act.Refuses asked step f = Unasked (fails (channel_of e.state) PoorlyFormed) asked step × (f ≡ e)
+EngineSpeaks e Act.Refuses asked step f = Unasked (fails (channel_of_state e.state) PoorlyFormed) asked step × (f ≡ e)
 EngineSpeaks e Act.Notices asked step f = Looks e.state asked step f.state × (f.spent ≡ e.spent)
 
 -- What it may have asked where it found no memory: to a message what the engine says, and else nothing.
@@ -71,5 +73,6 @@ manned e t = course (point e t.desk t.main t.side) t.input
 pub record ServesChannel {D : Type 0} (passes : D → Entry → D → Type 0) (own : Channel) (may_pause : Type 0) (turns : ℕ)
     (before after : Station D) (result : Result (Unit {0}) ServeFault) : Type 0 where
   pub engine : EngineStanding
-  pub serves : Serves (service (voice engine_protocol passes own) may_pause) turns (manned (fresh own) before)
+  pub serves : ServesAndLeaves (service (voice engine_protocol passes own) may_pause) turns
+      (manned (fresh_engine own) before)
       (manned engine after) result

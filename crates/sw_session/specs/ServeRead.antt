@@ -4,11 +4,11 @@ use Rattle.sw_session.specs.declared.servers.source.Unread.{Unread}
 use Rattle.sw_session.specs.declared.servers.source.Unread.TheVariants.{Paused, Failed}
 
 -- a read that gave bytes comes to just these, and one that gave an error to none
-abbrev pub Gives : {E : Type 0} → Result ℕ E → Option (Result ℕ Unread) → Type 0
-Gives (Ok n) told = told ≡ Some (Ok n)
-Gives (Err e) (Some (Ok n)) = ⊥
-Gives (Err e) (Some (Err why)) = Unit {0}
-Gives (Err e) None = Unit {0}
+abbrev pub GivesBytes : {E : Type 0} → Result ℕ E → Option (Result ℕ Unread) → Type 0
+GivesBytes (Ok n) told = told ≡ Some (Ok n)
+GivesBytes (Err e) (Some (Ok n)) = ⊥
+GivesBytes (Err e) (Some (Err why)) = Unit {0}
+GivesBytes (Err e) None = Unit {0}
 
 -- What an error of this kind comes to: interrupted, the read is asked again; one of the two kinds of a time limit ended
 -- it; it failed.

@@ -7,12 +7,12 @@ use Rattle.sw_base.specs.declared.error.ScpiError.TheVariants.{SettingsConflict,
 use Rattle.sw_base.specs.Errors.{number_of}
 use Rattle.std.specs.Io.BufRead.{strip_last}
 use Rattle.sw_lex.specs.declared.command.Command.{Command}
-use Rattle.sw_lex.specs.Unit.{UnitView}
+use Rattle.sw_lex.specs.Unit.{UnitSeen}
 use Rattle.sw_lex.specs.Meaning.{Nodes, Resolves}
 use Rattle.sw_macro.specs.Table.{Table}
 use Rattle.sw_macro.specs.Expansion.{calls, Expands}
 use Rattle.sw_verify.specs.declared.refusal.Refusal.{Refusal}
-use Rattle.sw_verify.specs.Check.{IsReady, IsRefused, error_of}
+use Rattle.sw_verify.specs.Check.{IsReady, IsRefusedScan, error_of}
 use Rattle.sw_core.specs.Action.{Effect, IsOfMacros, Initiates, Resets, Action, AtOnce, BetweenScans, AfterScan}
 use Rattle.sw_core.specs.Action.{action_of}
 use Rattle.sw_core.specs.declared.ask.Sid.{Sid}
@@ -26,22 +26,17 @@ use Rattle.sw_session.specs.declared.talker.After.{After}
 use Rattle.sw_session.specs.declared.talker.After.TheVariants.{Goes, Drops, Ends}
 use Rattle.sw_session.specs.Trace.{Entry, Asked, Waited, Leads, Led}
 use Rattle.sw_session.specs.Script.{Ending, Complete, Refuses, Unread, IsScript}
-use Rattle.sw_session.specs.Macros.{Told, Acts}
+use Rattle.sw_session.specs.Macros.{Told, ActsOnMacros}
 
 -- turns of a loop that the world keeps going: a held ask is asked again, a source of lines is asked for bytes
 abbrev pub turns : ℕ
 turns = 2 ^ 32
 
--- how many bytes of a message are kept where it comes in parts: the longest one, its line feed, and one byte, by which
--- a longer one is known
-abbrev pub most_kept : ℕ
-most_kept = most_bytes + 2
-
 -- what is written: the answers, with a semicolon between and a line feed at the end; nothing for none
-abbrev pub line_of : List (List ℕ) → List ℕ
-line_of [] = []
-line_of (a ∷ []) = a ++ 10 ∷ []
-line_of (a ∷ b ∷ answers) = a ++ 59 ∷ line_of (b ∷ answers)
+abbrev pub answer_line : List (List ℕ) → List ℕ
+answer_line [] = []
+answer_line (a ∷ []) = a ++ 10 ∷ []
+answer_line (a ∷ b ∷ answers) = a ++ 59 ∷ answer_line (b ∷ answers)
 
 -- whether anything was answered
 abbrev pub has_answers : List (List ℕ) → Bool
@@ -85,7 +80,7 @@ Settles sid turn ask trace final rest = ⊥
 abbrev pub Plans : Sid → SessionAnswer → List Entry → SessionAnswer → List Entry → Type 0
 Plans sid (Answer.Snapshot s) trace final rest =
     (IsReady s × Settles sid 0 (Ask.Start sid s) trace final rest)
-    ⊎ ((r : Refusal) × IsRefused r s × Queues sid (error_of r) trace final rest)
+    ⊎ ((r : Refusal) × IsRefusedScan r s × Queues sid (error_of r) trace final rest)
 Plans sid told trace final rest = (final ≡ told) × (rest ≡ trace)
 
 -- INITiate (SCPI-1999, 24): what a scan would begin from is asked, and its plan is made outside the mainframe (own)
@@ -113,8 +108,8 @@ pub record Begun : Type 0 where
   pub macros : Table
   pub rest : List Entry
 
-abbrev pub begun : SessionAnswer → Table → List Entry → Begun
-begun answer macros rest = record { answer = answer; macros = macros; rest = rest }
+abbrev pub begun_with : SessionAnswer → Table → List Entry → Begun
+begun_with answer macros rest = record { answer = answer; macros = macros; rest = rest }
 
 abbrev pub effect_of : Action → Effect
 effect_of (AtOnce effect) = effect
@@ -125,7 +120,7 @@ effect_of (AfterScan effect) = effect
 -- other is asked.
 abbrev pub BeginsBy : Effect → Sid → Bool → Command → Table → List Entry → Begun → Type 0
 BeginsBy IsOfMacros sid answered command t trace b =
-    (told : Told) × Acts command t told b.macros × Reports sid told trace b.answer b.rest
+    (told : Told) × ActsOnMacros command t told b.macros × Reports sid told trace b.answer b.rest
 BeginsBy Initiates sid answered command t trace b = StartsScan sid trace b.answer b.rest × (b.macros ≡ t)
 BeginsBy Resets sid answered command t trace b =
     Settles sid 0 (Ask.Unit sid command answered) trace b.answer b.rest × (b.macros ≡ table_reset b.answer t)
@@ -165,10 +160,10 @@ abbrev pub standing : Nodes → Table → List (List ℕ) → List Entry → Sta
 standing path macros answers trace = record { path = path; macros = macros; answers = answers; trace = trace }
 
 -- one unit that is this command or error, from where the session stands to where it stands then; the path stays
-abbrev pub Serves : Sid → Result Command ScpiError → Standing → After → Standing → Type 0
-Serves sid command s after s' =
+abbrev pub ServesUnit : Sid → Result Command ScpiError → Standing → After → Standing → Type 0
+ServesUnit sid command s after s' =
     (final : SessionAnswer) × (mid : List Entry)
-    × Begins sid (has_answers s.answers) command s.macros s.trace (begun final s'.macros mid)
+    × Begins sid (has_answers s.answers) command s.macros s.trace (begun_with final s'.macros mid)
     × Concludes sid s.answers final mid after s'.answers s'.trace × (s'.path ≡ s.path)
 
 -- How the units go on after one of them, from where the session stands then: with the next, or not at all; then what
@@ -180,13 +175,13 @@ Proceeds on Ends told after s' = (after ≡ Ends) × (s' ≡ told)
 
 -- how one unit is talked over, from where the session stands to where it stands then
 abbrev pub Way : Type 1
-Way = UnitView → Standing → After → Standing → Type 0
+Way = UnitSeen → Standing → After → Standing → Type 0
 
 -- The talk about these units, each in this way, from this standing. Where the text breaks off at a byte that fits no
 -- form, that error is queued. Nobody stops reading while the message goes on.
-abbrev pub Talks : Way → Sid → List UnitView → Ending → Standing → After → Standing → Type 0
+abbrev pub Talks : Way → Sid → List UnitSeen → Ending → Standing → After → Standing → Type 0
 Talks way sid [] Complete s after s' = (after ≡ Goes) × (s' ≡ s)
-Talks way sid [] (Refuses e) s after s' = Serves sid (Err e) s after s'
+Talks way sid [] (Refuses e) s after s' = ServesUnit sid (Err e) s after s'
 Talks way sid [] Unread s after s' = ⊥
 Talks way sid (u ∷ us) ending s after s' =
     (step : After) × (told : Standing)
@@ -196,32 +191,32 @@ Talks way sid (u ∷ us) ending s after s' =
 abbrev pub Itself : Sid → Way
 Itself sid u s after s' =
     (command : Result Command ScpiError) × (path : Nodes)
-    × Resolves u s.path command path × Serves sid command (record s { path = path }) after s'
+    × Resolves u s.path command path × ServesUnit sid command (record s { path = path }) after s'
 
 -- An expansion stands in a unit's place: its text is read by itself, and each of its units is itself. A fault is
 -- queued.
-abbrev pub Unfolds : Sid → Result (List ℕ) ScpiError → Standing → After → Standing → Type 0
-Unfolds sid (Ok text) s after s' =
-    (units : List UnitView) × (ending : Ending)
+abbrev pub TalksExpansion : Sid → Result (List ℕ) ScpiError → Standing → After → Standing → Type 0
+TalksExpansion sid (Ok text) s after s' =
+    (units : List UnitSeen) × (ending : Ending)
     × IsScript text units ending × Talks (Itself sid) sid units ending s after s'
-Unfolds sid (Err e) s after s' = Serves sid (Err e) s after s'
+TalksExpansion sid (Err e) s after s' = ServesUnit sid (Err e) s after s'
 
 -- what a unit that calls a macro is replaced by, or the first fault; or there is no memory for it. How such a unit is
 -- written doesn't matter to that.
-abbrev pub IsExpansion : Table → UnitView → Result (List ℕ) ScpiError → Type 0
+abbrev pub IsExpansion : Table → UnitSeen → Result (List ℕ) ScpiError → Type 0
 IsExpansion t u r = ((written : List ℕ) × Expands t u written r) ⊎ (r ≡ Err OutOfMemory)
 
 -- a unit of a message: its expansion where it calls a macro, else itself (IEEE 488.2, 10.7)
 abbrev pub Expanded : Sid → Way
 Expanded sid u s after s' =
     MatchBool (calls s.macros u)
-    ((r : Result (List ℕ) ScpiError) × IsExpansion s.macros u r × Unfolds sid r s after s')
+    ((r : Result (List ℕ) ScpiError) × IsExpansion s.macros u r × TalksExpansion sid r s after s')
     (Itself sid u s after s')
 
 -- what is written in the end
 abbrev pub written : After → List (List ℕ) → List ℕ
-written Goes answers = line_of answers
-written Drops answers = line_of answers
+written Goes answers = answer_line answers
+written Drops answers = answer_line answers
 written Ends answers = []
 
 -- a message that is too long is dropped whole
@@ -231,7 +226,7 @@ Overruns sid trace bytes = (final : SessionAnswer) × Queues sid InputBufferOver
 -- the talk about the units of a message from the root, with nothing asked besides
 pub record TalksUnits (sid : Sid) (macros : Table) (text : List ℕ) (trace : List Entry) (bytes : List ℕ)
     (macros' : Table) : Type 0 where
-  pub units : List UnitView
+  pub units : List UnitSeen
   pub ending : Ending
   pub script : IsScript text units ending
   pub after : After
@@ -249,17 +244,17 @@ TalksMessage sid macros text trace bytes macros' =
     (TalksUnits sid macros text trace bytes macros')
 
 -- where a session stands between two messages: its desk, and its macros
-pub record State (D : Type 0) : Type 0 where
+pub record TalkState (D : Type 0) : Type 0 where
   pub desk : D
   pub macros : Table
 
-abbrev pub state : {D : Type 0} → D → Table → State D
+abbrev pub state : {D : Type 0} → D → Table → TalkState D
 state desk macros = record { desk = desk; macros = macros }
 
 -- A message of a session is talked over, from one state to another, and these bytes are written. One line feed at the
 -- message's end is dropped.
-pub record Talked {D : Type 0} (passes : D → Entry → D → Type 0) (sid : Sid) (old : State D)
-    (message bytes : List ℕ) (new : State D) : Type 0 where
+pub record Talked {D : Type 0} (passes : D → Entry → D → Type 0) (sid : Sid) (old : TalkState D)
+    (message bytes : List ℕ) (new : TalkState D) : Type 0 where
   pub trace : List Entry
   pub leads : Leads passes old.desk trace new.desk
   pub talks : TalksMessage sid old.macros (strip_last 10 message) trace bytes new.macros
@@ -284,39 +279,40 @@ stands_at p answers trace = standing p.path p.macros answers trace
 abbrev pub OnLine : {D : Type 0} → (D → Entry → D → Type 0) → Spot D → Spot D → (Standing → Standing → Type 0)
     → Type 0
 OnLine passes a b part =
-    (answers : List (List ℕ)) → a.line ≡ line_of answers
-    → (answers' : List (List ℕ)) × (b.line ≡ line_of answers')
+    (answers : List (List ℕ)) → a.line ≡ answer_line answers
+    → (answers' : List (List ℕ)) × (b.line ≡ answer_line answers')
     × Led passes a.desk b.desk (λ trace rest. part (stands_at a answers trace) (stands_at b answers' rest))
 
 -- the units of a text are talked over in this way
 abbrev pub TalksLine : {D : Type 0} → Way → (D → Entry → D → Type 0) → Sid → List ℕ → Spot D → After → Spot D → Type 0
 TalksLine way passes sid text a after b =
-    (answers : List (List ℕ)) → a.line ≡ line_of answers
-    → (units : List UnitView) × (ending : Ending) × (answers' : List (List ℕ))
-    × IsScript text units ending × (b.line ≡ line_of answers')
+    (answers : List (List ℕ)) → a.line ≡ answer_line answers
+    → (units : List UnitSeen) × (ending : Ending) × (answers' : List (List ℕ))
+    × IsScript text units ending × (b.line ≡ answer_line answers')
     × Led passes a.desk b.desk
     (λ trace rest. Talks way sid units ending (stands_at a answers trace) after (stands_at b answers' rest))
 
 -- a desk, and the line that is written so far
-pub record Written (D : Type 0) : Type 0 where
+pub record WrittenLine (D : Type 0) : Type 0 where
   pub desk : D
   pub line : List ℕ
 
-abbrev pub written_at : {D : Type 0} → D → List ℕ → Written D
+abbrev pub written_at : {D : Type 0} → D → List ℕ → WrittenLine D
 written_at desk line = record { desk = desk; line = line }
 
 -- an answer is taken
-abbrev pub ConcludesLine : {D : Type 0} → (D → Entry → D → Type 0) → Sid → SessionAnswer → Written D → After
-    → Written D → Type 0
+abbrev pub ConcludesLine : {D : Type 0} → (D → Entry → D → Type 0) → Sid → SessionAnswer → WrittenLine D → After
+    → WrittenLine D → Type 0
 ConcludesLine passes sid answer a after b =
-    (answers : List (List ℕ)) → a.line ≡ line_of answers
-    → (answers' : List (List ℕ)) × (b.line ≡ line_of answers')
+    (answers : List (List ℕ)) → a.line ≡ answer_line answers
+    → (answers' : List (List ℕ)) × (b.line ≡ answer_line answers')
     × Led passes a.desk b.desk (λ trace rest. Concludes sid answers answer trace after answers' rest)
 
 -- a text joins the answers that are written
 abbrev pub JoinsLine : List ℕ → List ℕ → List ℕ → Type 0
-JoinsLine out text out' = (answers : List (List ℕ)) → out ≡ line_of answers → out' ≡ line_of (answers ++ text ∷ [])
+JoinsLine out text out' = (answers : List (List ℕ)) → out ≡ answer_line answers
+    → out' ≡ answer_line (answers ++ text ∷ [])
 
 -- whether answers that are written are any
 abbrev pub TellsAnswered : List ℕ → Bool → Type 0
-TellsAnswered out answered = (answers : List (List ℕ)) → out ≡ line_of answers → answered ≡ has_answers answers
+TellsAnswered out answered = (answers : List (List ℕ)) → out ≡ answer_line answers → answered ≡ has_answers answers

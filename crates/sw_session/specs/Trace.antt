@@ -23,10 +23,10 @@ Leads passes old [] new = new ≡ old
 Leads passes old (e ∷ trace) new = (mid : _) × passes old e mid × Leads passes mid trace new
 
 -- an ask that is held, or can't be numbered, is handed back as it came
-abbrev pub HandsBack : SessionAsk → SessionAnswer → Type 0
-HandsBack ask (Hold back) = back ≡ ask
-HandsBack ask (Worn back) = back ≡ ask
-HandsBack ask answer = Unit {0}
+abbrev pub HandsBackAsk : SessionAsk → SessionAnswer → Type 0
+HandsBackAsk ask (Hold back) = back ≡ ask
+HandsBackAsk ask (Worn back) = back ≡ ask
+HandsBackAsk ask answer = Unit {0}
 
 -- what is left of a wait's limit is never more than the limit, and none where there was none
 abbrev pub LeavesOf : Option ℕ → Wake → Type 0

@@ -2,7 +2,7 @@
 
 ghost use Rattle.std.specs.Prelude.{◌≡◌, Ok};
 ghost use Rattle.sw_session.specs.Trace.{Led};
-ghost use Rattle.sw_session.specs.Talk.{Queues, Settles, Begins, begun, Reports, StartsScan, Plans, table_reset};
+ghost use Rattle.sw_session.specs.Talk.{Queues, Settles, Begins, begun_with, Reports, StartsScan, Plans, table_reset};
 ghost use Rattle.sw_session.specs.Talk.{is_done, queued};
 
 use crate::desk::{Desk, Wake};
@@ -29,7 +29,7 @@ pub fn begin<D: Desk>(
     answered: bool,
 ) -> SessionAnswer
     ensures { Led D.passes desk.old desk.new (λ t rest.
-        Begins sid answered command macros.old t (begun result macros.new rest)) }
+        Begins sid answered command macros.old t (begun_with result macros.new rest)) }
 {
     match command {
         Ok(command) => carry_out(desk, sid, alloc, macros, command, answered),
@@ -47,7 +47,7 @@ fn carry_out<D: Desk>(
     answered: bool,
 ) -> SessionAnswer
     ensures { Led D.passes desk.old desk.new (λ t rest.
-        Begins sid answered (Ok command) macros.old t (begun result macros.new rest)) }
+        Begins sid answered (Ok command) macros.old t (begun_with result macros.new rest)) }
 {
     match command {
         Command::DefineMacro(label, body) => {

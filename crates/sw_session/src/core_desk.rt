@@ -2,9 +2,9 @@
 
 ghost use Rattle.std.specs.Prelude.{◌≡◌, ◌≤◌, Bool, true, [], ◌∷◌, ◌++◌, IfSome, IfNone};
 ghost use Rattle.std.specs.VecDeque.{deque_len, deque_capacity};
-ghost use Rattle.sw_core.specs.View.{ask_view, answer_view, work_view, AskSession, SaysSession};
+ghost use Rattle.sw_core.specs.Seen.{ask_seen, answer_seen, work_seen, AskSession, SaysSession};
 ghost use Rattle.sw_core.specs.Step.{Step};
-ghost use Rattle.sw_session.specs.CoreDesk.{IsKept, IsCarried, IsFull, Tells, Rests, desk_over, piece_seen};
+ghost use Rattle.sw_session.specs.CoreDesk.{IsKept, IsCarried, IsFull, TellsOfPiece, WaitsOut, desk_over, piece_seen};
 
 use crate::available::Available;
 use crate::desk::{Desk, View, Wake};
@@ -57,7 +57,7 @@ impl<R: Relay, M: Meter> CoreDesk<R, M> {
 
     /// Waits until nothing is outstanding. After 2^64 - 1 waits it gives up and answers false.
     pub fn rest(&mut self) -> bool
-        ensures rests { Rests self.old result self.new }
+        ensures rests { WaitsOut self.old result self.new }
         ensures rested { result ≡ true → self.new.work ≡ [] }
     {
         for _turn in 0..u64::MAX {
@@ -72,7 +72,7 @@ impl<R: Relay, M: Meter> CoreDesk<R, M> {
     /// Keeps work for a wait. Where there is no memory for that, the oldest piece of all is carried out at once in its
     /// place, and what comes of that is kept in turn.
     fn keep(&mut self, work: Option<Work<M>>)
-        ensures { IsKept self.old (work_view work) self.new }
+        ensures { IsKept self.old (work_seen work) self.new }
     {
         let mut work = work;
         'pieces: loop {
@@ -113,7 +113,7 @@ impl<R: Relay, M: Meter> CoreDesk<R, M> {
 
     /// Carries a piece out and tells the mainframe, which gives what comes next.
     fn carry(&mut self, piece: Work<M>) -> Option<Work<M>>
-        ensures { IsCarried self.old (piece_seen piece) (work_view result) self.new }
+        ensures { IsCarried self.old (piece_seen piece) (work_seen result) self.new }
     {
         let ask = carry_out(piece);
         match self.tell(ask) {
@@ -125,7 +125,7 @@ impl<R: Relay, M: Meter> CoreDesk<R, M> {
     /// Asks the mainframe what a session asks.
     fn tell_asked(&mut self, ask: SessionAsk) -> (SessionAnswer, Option<Work<M>>)
         ensures step { (failed : Bool)
-            × Step self.old.panel (AskSession ask) failed (SaysSession result.0 (work_view result.1)) self.new.panel }
+            × Step self.old.panel (AskSession ask) failed (SaysSession result.0 (work_seen result.1)) self.new.panel }
         ensures work { self.new.work ≡ self.old.work }
         ensures room { self.new.room ≡ self.old.room }
         ensures available { self.new.available ≡ self.old.available }
@@ -135,7 +135,7 @@ impl<R: Relay, M: Meter> CoreDesk<R, M> {
 
     /// Tells the mainframe what is no session's.
     fn tell(&mut self, ask: Ask<R, M>) -> Answer<R, M>
-        ensures step { (failed : Bool) × Step self.old.panel (ask_view ask) failed (answer_view result) self.new.panel }
+        ensures step { (failed : Bool) × Step self.old.panel (ask_seen ask) failed (answer_seen result) self.new.panel }
         ensures work { self.new.work ≡ self.old.work }
         ensures room { self.new.room ≡ self.old.room }
         ensures available { self.new.available ≡ self.old.available }
@@ -164,7 +164,7 @@ fn put_behind<M: Meter>(queue: &mut VecDeque<Work<M>>, piece: Work<M>) -> Option
 
 /// Carries a piece out, and gives what is to be told of it.
 fn carry_out<R: Relay, M: Meter>(piece: Work<M>) -> Ask<R, M>
-    ensures { Tells (piece_seen piece) (ask_view result) }
+    ensures { TellsOfPiece (piece_seen piece) (ask_seen result) }
 {
     match piece {
         Work::Measure(job) => Ask::Finished(job.run()),

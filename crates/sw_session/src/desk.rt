@@ -24,7 +24,7 @@ pub struct View {
 
 /// What takes a session's asks.
 pub trait Desk {
-    ghost use Rattle.sw_session.specs.Trace.{Entry, Asked, Waited, Polled, Noted, HandsBack, LeavesOf};
+    ghost use Rattle.sw_session.specs.Trace.{Entry, Asked, Waited, Polled, Noted, HandsBackAsk, LeavesOf};
 
     /// The desk may go from one state to another by this entry.
     ghost passes: { Self → Entry → Self → Type 0 };
@@ -32,7 +32,7 @@ pub trait Desk {
     /// Answers an ask. What is held, or can't be numbered, is handed back as it came.
     fn ask(&mut self, ask: SessionAsk) -> SessionAnswer
         ensures passes { passes self.old (Asked ask result) self.new }
-        ensures back { HandsBack ask result };
+        ensures back { HandsBackAsk ask result };
 
     /// Waits until an ask that was held may be asked again, for so many milliseconds at most where there is a limit.
     fn wait(&mut self, limit_ms: Option<u32>) -> Wake

@@ -2,8 +2,9 @@
 
 ghost use Rattle.std.specs.Prelude.{◌≡◌, ◌++◌, ◌∷◌, [], List, ℕ, true, false, IfOk, IfSome, IfNone, OnOk};
 ghost use Rattle.sw_macro.specs.Table.{labels};
-ghost use Rattle.sw_core.specs.Answers.{flag_of};
-ghost use Rattle.sw_session.specs.Macros.{block_of, labels_text, row_of, Tells, TellsBody, Defines, Removes};
+ghost use Rattle.sw_core.specs.Answers.{yes_or_no};
+ghost use Rattle.sw_session.specs.Macros.{block_of, labels_text, row_of, TellsMacroText, TellsBody, DefinesMacro};
+ghost use Rattle.sw_session.specs.Macros.{Removes};
 
 use std::alloc::{AllocError, Global};
 use sw_base::{ScpiError, Sequence, print_number};
@@ -14,7 +15,7 @@ pub type Outcome = Result<Option<Sequence<u8>>, ScpiError>;
 
 /// `*DMC`
 pub fn define(alloc: Global, macros: &mut Macros, label: &[u8], body: &[u8]) -> Outcome
-    ensures { Defines label.now body.now macros.old result macros.new }
+    ensures { DefinesMacro label.now body.now macros.old result macros.new }
 {
     macros.define(alloc, label, body)?;
     Ok(None)
@@ -38,14 +39,14 @@ pub fn tell_body(alloc: Global, macros: &Macros, label: &[u8]) -> Outcome
 
 /// `*LMC?`
 pub fn tell_labels(alloc: Global, macros: &Macros) -> Outcome
-    ensures { Tells (labels_text (labels macros.now.macros)) result }
+    ensures { TellsMacroText (labels_text (labels macros.now.macros)) result }
 {
     Ok(Some(labels_text(alloc, macros)?))
 }
 
 /// `*EMC?`
 pub fn tell_enabled(alloc: Global, macros: &Macros) -> Outcome
-    ensures { Tells (flag_of macros.now.on) result }
+    ensures { TellsMacroText (yes_or_no macros.now.on) result }
 {
     let flag = if macros.enabled() { b'1' } else { b'0' };
     Ok(Some(Sequence::new(Vec::from_slice(alloc, &[flag])?)))

@@ -5,7 +5,7 @@ ghost use Rattle.std.specs.Io.BufRead.{strip_last};
 ghost use Rattle.sw_lex.specs.Unit.{unit_of};
 ghost use Rattle.sw_lex.specs.Meaning.{Nodes, path_of};
 ghost use Rattle.sw_macro.specs.Table.{no_macros};
-ghost use Rattle.sw_session.specs.Talk.{Talked, TalksLine, OnLine, Itself, Expanded, Serves, ConcludesLine};
+ghost use Rattle.sw_session.specs.Talk.{Talked, TalksLine, OnLine, Itself, Expanded, ServesUnit, ConcludesLine};
 ghost use Rattle.sw_session.specs.Talk.{state, spot, written_at, after_of, is_command_error, TellsAnswered};
 
 use crate::asking::{begin, queue};
@@ -122,7 +122,7 @@ impl Talker {
         ensures serves { (path : Nodes) → OnLine D.passes
             (spot desk.old path self.old.macros out.old.items)
             (spot desk.new path self.new.macros out.new.items)
-            (λ s s'. Serves self.old.sid command s result s') }
+            (λ s s'. ServesUnit self.old.sid command s result s') }
         ensures same { self.new.sid ≡ self.old.sid }
     {
         let answered = has_answers(out);

@@ -76,9 +76,9 @@ abbrev pub enabled : StatusSeen → ℕ → StatusSeen
 enabled s bits = record s { sre = bit_and bits 0xbf }
 
 -- the registers of a group
-abbrev pub group_of : StatusSeen → StatusGroup → GroupSeen
-group_of s Operation = s.operation
-group_of s Questionable = s.questionable
+abbrev pub registers_of : StatusSeen → StatusGroup → GroupSeen
+registers_of s Operation = s.operation
+registers_of s Questionable = s.questionable
 
 -- the status with other registers of a group
 abbrev pub with_group : StatusSeen → StatusGroup → GroupSeen → StatusSeen

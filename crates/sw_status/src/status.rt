@@ -3,7 +3,7 @@
 ghost use Rattle.std.specs.Prelude.{◌≡◌, ◌<◌, ◌≤◌, ◌^◌, ◌++◌, ◌∷◌, [], length, slice_get, IfOk};
 ghost use Rattle.sw_base.specs.Limits.{most_errors};
 ghost use Rattle.sw_status.specs.Registers.{group_conditioned, event_taken, with_enable, with_ptr, with_ntr};
-ghost use Rattle.sw_status.specs.StatusModel.{first_status, pushed, popped, cleared, preset, enabled, group_of};
+ghost use Rattle.sw_status.specs.StatusModel.{first_status, pushed, popped, cleared, preset, enabled, registers_of};
 ghost use Rattle.sw_status.specs.StatusModel.{with_group, with_bit, summary_of, byte_of, event_ended, counted_of};
 ghost use Rattle.sw_status.specs.StatusModel.{flag_of, IsStatus};
 
@@ -228,7 +228,7 @@ impl Status {
 
     /// The registers of a group.
     pub fn group(&self, which: StatusGroup) -> &Group
-        ensures { result.now ≡ group_of self.now which }
+        ensures { result.now ≡ registers_of self.now which }
     {
         match which {
             StatusGroup::Operation => &self.operation,
@@ -238,8 +238,8 @@ impl Status {
 
     /// Reads a group's event register and clears it.
     pub fn take_event(&mut self, which: StatusGroup) -> u16
-        ensures event { result ≡ (group_of self.old which).event }
-        ensures rest { self.new ≡ with_group self.old which (event_taken (group_of self.old which)) }
+        ensures event { result ≡ (registers_of self.old which).event }
+        ensures rest { self.new ≡ with_group self.old which (event_taken (registers_of self.old which)) }
     {
         match which {
             StatusGroup::Operation => self.operation.take_event(),
@@ -249,7 +249,7 @@ impl Status {
 
     /// Sets a group's enable register; bit 15 is dropped.
     pub fn set_enable(&mut self, which: StatusGroup, bits: u16)
-        ensures { self.new ≡ with_group self.old which (with_enable (group_of self.old which) bits) }
+        ensures { self.new ≡ with_group self.old which (with_enable (registers_of self.old which) bits) }
     {
         match which {
             StatusGroup::Operation => self.operation.set_enable(bits),
@@ -259,7 +259,7 @@ impl Status {
 
     /// Sets a group's positive transition filter; bit 15 is dropped.
     pub fn set_ptr(&mut self, which: StatusGroup, bits: u16)
-        ensures { self.new ≡ with_group self.old which (with_ptr (group_of self.old which) bits) }
+        ensures { self.new ≡ with_group self.old which (with_ptr (registers_of self.old which) bits) }
     {
         match which {
             StatusGroup::Operation => self.operation.set_ptr(bits),
@@ -269,7 +269,7 @@ impl Status {
 
     /// Sets a group's negative transition filter; bit 15 is dropped.
     pub fn set_ntr(&mut self, which: StatusGroup, bits: u16)
-        ensures { self.new ≡ with_group self.old which (with_ntr (group_of self.old which) bits) }
+        ensures { self.new ≡ with_group self.old which (with_ntr (registers_of self.old which) bits) }
     {
         match which {
             StatusGroup::Operation => self.operation.set_ntr(bits),
@@ -280,7 +280,7 @@ impl Status {
     /// Makes these bits a group's condition, bit 15 dropped. A bit that rises or falls sets its event bit where
     /// PTRansition or NTRansition has it.
     pub fn set_condition(&mut self, which: StatusGroup, bits: u16)
-        ensures { self.new ≡ with_group self.old which (group_conditioned (group_of self.old which) bits) }
+        ensures { self.new ≡ with_group self.old which (group_conditioned (registers_of self.old which) bits) }
     {
         match which {
             StatusGroup::Operation => self.operation.set_condition(bits),

@@ -13,7 +13,7 @@ use Rattle.sw_base.specs.declared.terms.Source.{Source}
 use Rattle.sw_base.specs.declared.terms.Source.TheVariants.{Immediate, Bus, External, Hold}
 use Rattle.sw_trigger.specs.declared.layer.Awaited.{Awaited}
 use Rattle.sw_trigger.specs.declared.layer.Awaited.TheVariants.{Pause, Read}
-use Rattle.sw_trigger.specs.Settings.{Setup}
+use Rattle.sw_trigger.specs.Settings.{SettingsSeen}
 use Rattle.sw_trigger.specs.Agenda.{Item, Awaits, Close, Open, repeated, head_of, passes, pass_of, visit, channel_at, arm_turn, arm_turns, agenda, wait_of}
 use Rattle.sw_trigger.specs.Agenda.{pause_of}
 use Rattle.sw_trigger.specs.Counts.{awaiting, reads, in_turn, in_pass, in_arm2, in_arm1}
@@ -36,7 +36,7 @@ awaiting-repeated (suc n) xs = awaiting-append xs (repeated n xs) ∙ ap (λ l. 
 pub awaiting-after_head : (h : List Awaited) (xs : List Item) → awaiting (map Awaits h ++ xs) ≡ h ++ awaiting xs
 awaiting-after_head h xs = awaiting-append (map Awaits h) xs ∙ ap (λ l. l ++ awaiting xs) (awaiting-awaits h)
 
-pub awaiting-passes : (s : Setup) (k n : ℕ) → awaiting (passes s k n) ≡ repeated n (in_pass s)
+pub awaiting-passes : (s : SettingsSeen) (k n : ℕ) → awaiting (passes s k n) ≡ repeated n (in_pass s)
 awaiting-passes s k zero = refl
 awaiting-passes s k (suc n) =
     awaiting-append (pass_of s k) (passes s (suc k) n)
@@ -49,17 +49,17 @@ awaiting-arm_turns name l inside =
     awaiting-repeated l.count (arm_turn name l inside) ∙ ap (repeated l.count) (awaiting-after_head (head_of name l) inside)
 
 -- an agenda that isn't empty
-pub agenda_is : (s : Setup) → 0 < length s.list → agenda s ≡ arm_turns Arm1 s.arm1 (arm_turns Arm2 s.arm2 (passes s 0 s.trigger.count))
+pub agenda_is : (s : SettingsSeen) → 0 < length s.list → agenda s ≡ arm_turns Arm1 s.arm1 (arm_turns Arm2 s.arm2 (passes s 0 s.trigger.count))
 agenda_is s h = grind arith
 
-pub awaiting-agenda : (s : Setup) → 0 < length s.list → awaiting (agenda s) ≡ repeated s.arm1.count (in_arm1 s)
+pub awaiting-agenda : (s : SettingsSeen) → 0 < length s.list → awaiting (agenda s) ≡ repeated s.arm1.count (in_arm1 s)
 awaiting-agenda s h =
     ap awaiting (agenda_is s h)
     ∙ awaiting-arm_turns Arm1 s.arm1 (arm_turns Arm2 s.arm2 (passes s 0 s.trigger.count))
     ∙ ap (λ l. repeated s.arm1.count (head_of Arm1 s.arm1 ++ l)) (awaiting-arm_turns Arm2 s.arm2 (passes s 0 s.trigger.count)
     ∙ ap (λ l. repeated s.arm2.count (head_of Arm2 s.arm2 ++ l)) (awaiting-passes s 0 s.trigger.count))
 
-pub length-in_pass : (s : Setup) → length (in_pass s) ≡ length (head_of Trigger s.trigger) + 1
+pub length-in_pass : (s : SettingsSeen) → length (in_pass s) ≡ length (head_of Trigger s.trigger) + 1
 length-in_pass s = length-append (head_of Trigger s.trigger) (Read ∷ [])
 
 length-in_turn : (name : LayerName) (l : Layer) (times : ℕ) (inside : List Awaited)
@@ -67,13 +67,13 @@ length-in_turn : (name : LayerName) (l : Layer) (times : ℕ) (inside : List Awa
 length-in_turn name l times inside =
     length-append (head_of name l) (repeated times inside) ∙ ap (λ n. length (head_of name l) + n) (length-repeated times inside)
 
-pub length-in_arm2 : (s : Setup) → length (in_arm2 s) ≡ length (head_of Arm2 s.arm2) + s.trigger.count * length (in_pass s)
+pub length-in_arm2 : (s : SettingsSeen) → length (in_arm2 s) ≡ length (head_of Arm2 s.arm2) + s.trigger.count * length (in_pass s)
 length-in_arm2 s = length-in_turn Arm2 s.arm2 s.trigger.count (in_pass s)
 
-pub length-in_arm1 : (s : Setup) → length (in_arm1 s) ≡ length (head_of Arm1 s.arm1) + s.arm2.count * length (in_arm2 s)
+pub length-in_arm1 : (s : SettingsSeen) → length (in_arm1 s) ≡ length (head_of Arm1 s.arm1) + s.arm2.count * length (in_arm2 s)
 length-in_arm1 s = length-in_turn Arm1 s.arm1 s.arm2.count (in_arm2 s)
 
-pub length-awaiting : (s : Setup) → 0 < length s.list → length (awaiting (agenda s)) ≡ s.arm1.count * length (in_arm1 s)
+pub length-awaiting : (s : SettingsSeen) → 0 < length s.list → length (awaiting (agenda s)) ≡ s.arm1.count * length (in_arm1 s)
 length-awaiting s h = ap length (awaiting-agenda s h) ∙ length-repeated s.arm1.count (in_arm1 s)
 
 -- readings
@@ -105,7 +105,7 @@ reads-head name l =
     ap reads (map-append Awaits (wait_of name l.source) (pause_of l.delay_us))
     ∙ omega (arith, reads-append (map Awaits (wait_of name l.source)) (map Awaits (pause_of l.delay_us)), reads-wait name l.source, reads-pause l.delay_us)
 
-pub reads-passes : (s : Setup) (k n : ℕ) → reads (passes s k n) ≡ n
+pub reads-passes : (s : SettingsSeen) (k n : ℕ) → reads (passes s k n) ≡ n
 reads-passes s k zero = refl
 reads-passes s k (suc n) =
     omega (
@@ -121,7 +121,7 @@ reads-arm_turns name l inside =
     let turn : reads (arm_turn name l inside) ≡ reads inside = omega (arith, reads-append (map Awaits (head_of name l)) inside, reads-head name l) in
     reads-repeated l.count (arm_turn name l inside) ∙ ap (λ n. l.count * n) turn
 
-pub reads-agenda : (s : Setup) → 0 < length s.list → reads (agenda s) ≡ s.arm1.count * (s.arm2.count * s.trigger.count)
+pub reads-agenda : (s : SettingsSeen) → 0 < length s.list → reads (agenda s) ≡ s.arm1.count * (s.arm2.count * s.trigger.count)
 reads-agenda s h =
     ap reads (agenda_is s h)
     ∙ reads-arm_turns Arm1 s.arm1 (arm_turns Arm2 s.arm2 (passes s 0 s.trigger.count))
@@ -129,18 +129,19 @@ reads-agenda s h =
     ∙ ap (λ n. s.arm2.count * n) (reads-passes s 0 s.trigger.count))
 
 -- what the program multiplies
-pub readings_is : (s : Setup) (c1 c2 c3 : ℕ) → 0 < length s.list → c1 ≡ s.arm1.count → c2 ≡ s.arm2.count → c3 ≡ s.trigger.count
+pub readings_is : (s : SettingsSeen) (c1 c2 c3 : ℕ) → 0 < length s.list → c1 ≡ s.arm1.count → c2 ≡ s.arm2.count → c3 ≡ s.trigger.count
     → c1 * (c2 * c3) ≡ reads (agenda s)
 readings_is s c1 c2 c3 h k1 k2 k3 = let e = reads-agenda s h in cc
 
-pub bound_is : (s : Setup) (c1 l1 : ℕ) → 0 < length s.list → c1 ≡ s.arm1.count → l1 ≡ length (in_arm1 s) → c1 * l1 ≡ length (awaiting (agenda s))
+pub bound_is : (s : SettingsSeen) (c1 l1 : ℕ) → 0 < length s.list → c1 ≡ s.arm1.count → l1 ≡ length (in_arm1 s) → c1 * l1 ≡ length (awaiting (agenda s))
 bound_is s c1 l1 h k e = let a = length-awaiting s h in cc
 
-pub arm2_is : (s : Setup) (h2 c3 l3 : ℕ) → h2 ≡ length (head_of Arm2 s.arm2) → c3 ≡ s.trigger.count → l3 ≡ length (in_pass s)
+pub arm2_is : (s : SettingsSeen) (h2 c3 l3 : ℕ) → h2 ≡ length (head_of Arm2 s.arm2) → c3 ≡ s.trigger.count → l3 ≡ length (in_pass s)
     → h2 + c3 * l3 ≡ length (in_arm2 s)
 arm2_is s h2 c3 l3 e k f = let a = length-in_arm2 s in cc
 
-pub arm1_is : (s : Setup) (h1 c2 l2 : ℕ) → h1 ≡ length (head_of Arm1 s.arm1) → c2 ≡ s.arm2.count → l2 ≡ length (in_arm2 s) → h1 + c2 * l2 ≡ length (in_arm1 s)
+pub arm1_is : (s : SettingsSeen) (h1 c2 l2 : ℕ) → h1 ≡ length (head_of Arm1 s.arm1) → c2 ≡ s.arm2.count → l2 ≡ length (in_arm2 s)
+    → h1 + c2 * l2 ≡ length (in_arm1 s)
 arm1_is s h1 c2 l2 e k f = let a = length-in_arm1 s in cc
 
 -- a number below a product
@@ -152,14 +153,14 @@ some_left : (m n : ℕ) (xs : List Item) → n < length (awaiting (cond (eqb m 0
 some_left zero n xs h = absurd (omega (arith, h))
 some_left (suc m) n xs h = omega arith
 
-pub listed_from_within : (s : Setup) (n : ℕ) → n < length (awaiting (agenda s)) → 0 < length s.list
+pub listed_from_within : (s : SettingsSeen) (n : ℕ) → n < length (awaiting (agenda s)) → 0 < length s.list
 listed_from_within s n h = some_left (length s.list) n (arm_turns Arm1 s.arm1 (arm_turns Arm2 s.arm2 (passes s 0 s.trigger.count))) h
 
 pub listed_from_test : (b : Bool) (m n : ℕ) → b ≡ eqb m 0 → b ≡ false → n ≡ m → 0 < n
 listed_from_test b m n e f g = grind (arith, nat_tests)
 
 -- the item at a place, by division
-module _ (s : Setup) (n : ℕ) (within : n < length (awaiting (agenda s))) where
+module _ (s : SettingsSeen) (n : ℕ) (within : n < length (awaiting (agenda s))) where
   listed : 0 < length s.list
   listed = listed_from_within s n within
 
@@ -214,21 +215,21 @@ module _ (s : Setup) (n : ℕ) (within : n < length (awaiting (agenda s))) where
       at_pass h k ∙ get-append_right (head_of Trigger s.trigger) (Read ∷ []) place3 0 (omega (arith, length-in_pass s))
 
 -- each length is above 0, since a turn ends with a reading
-pub some_pass : (s : Setup) → 0 < length (in_pass s)
+pub some_pass : (s : SettingsSeen) → 0 < length (in_pass s)
 some_pass s = omega (arith, length-in_pass s)
 
-pub some_arm2 : (s : Setup) (n : ℕ) → n < length (awaiting (agenda s)) → length (head_of Arm1 s.arm1) ≤ n % length (in_arm1 s) → 0 < length (in_arm2 s)
+pub some_arm2 : (s : SettingsSeen) (n : ℕ) → n < length (awaiting (agenda s)) → length (head_of Arm1 s.arm1) ≤ n % length (in_arm1 s) → 0 < length (in_arm2 s)
 some_arm2 s n w h =
     let l = listed_from_within s n w in
     let some1 : 0 < length (in_arm1 s) = pos_factor n s.arm1.count (length (in_arm1 s)) (omega (arith, length-awaiting s l)) in
     let lt1 : n % length (in_arm1 s) < length (in_arm1 s) = mod_below n (length (in_arm1 s)) some1 in
     pos_factor (n % length (in_arm1 s) - length (head_of Arm1 s.arm1)) s.arm2.count (length (in_arm2 s)) (omega (arith, length-in_arm1 s))
 
-pub some_arm1 : (s : Setup) (n : ℕ) → n < length (awaiting (agenda s)) → 0 < length (in_arm1 s)
+pub some_arm1 : (s : SettingsSeen) (n : ℕ) → n < length (awaiting (agenda s)) → 0 < length (in_arm1 s)
 some_arm1 s n w = let l = listed_from_within s n w in pos_factor n s.arm1.count (length (in_arm1 s)) (omega (arith, length-awaiting s l))
 
 -- the item at a place, by the lengths that the program has
-module _ (s : Setup) (n h1 l1 h2 l2 l3 : ℕ) (within : n < length (awaiting (agenda s))) (e1 : h1 ≡ length (head_of Arm1 s.arm1)) (k1 : l1
+module _ (s : SettingsSeen) (n h1 l1 h2 l2 l3 : ℕ) (within : n < length (awaiting (agenda s))) (e1 : h1 ≡ length (head_of Arm1 s.arm1)) (k1 : l1
     ≡ length (in_arm1 s)) (e2 : h2 ≡ length (head_of Arm2 s.arm2)) (k2 : l2 ≡ length (in_arm2 s)) (k3 : l3 ≡ length (in_pass s)) where
   p1 : n % l1 ≡ place1 s n within
   p1 = cc

@@ -9,7 +9,7 @@ use Rattle.sw_base.specs.Layout.{Channel}
 use Rattle.sw_base.specs.contracts.terms.Source.{the_type}
 use Rattle.sw_base.specs.declared.terms.Source.{Source}
 use Rattle.sw_trigger.specs.declared.layer.Layer.{Layer}
-use Rattle.sw_trigger.specs.Settings.{Setup}
+use Rattle.sw_trigger.specs.Settings.{SettingsSeen}
 
 abbrev same_source : Source → Source → Bool
 same_source a b = sameb the_type a b
@@ -54,10 +54,11 @@ channel_decides a b =
 pub channels_decide : (xs ys : List Channel) (r : Bool) → r ≡ pointwise same_channel xs ys → Decides r (xs ≡ ys)
 channels_decide = slice_eq-Decides channel_decides
 
-abbrev setup : Layer → Layer → Layer → List Channel → ℕ → ℕ → Setup
+abbrev setup : Layer → Layer → Layer → List Channel → ℕ → ℕ → SettingsSeen
 setup arm1 arm2 trigger list meter points = record { arm1 = arm1; arm2 = arm2; trigger = trigger; list = list; meter = meter; points = points }
 
-pub same_setup : (a b : Setup) → a.arm1 ≡ b.arm1 → a.arm2 ≡ b.arm2 → a.trigger ≡ b.trigger → a.list ≡ b.list → a.meter ≡ b.meter → a.points ≡ b.points → a ≡ b
+pub same_setup : (a b : SettingsSeen) → a.arm1 ≡ b.arm1 → a.arm2 ≡ b.arm2 → a.trigger ≡ b.trigger → a.list ≡ b.list → a.meter ≡ b.meter → a.points ≡ b.points
+    → a ≡ b
 same_setup a b arm1 arm2 trigger list meter points =
     ap (λ x. setup x a.arm2 a.trigger a.list a.meter a.points) arm1
     ∙ ap (λ x. setup b.arm1 x a.trigger a.list a.meter a.points) arm2

@@ -10,7 +10,7 @@ use Rattle.sw_base.specs.declared.terms.LayerName.TheVariants.{Arm1, Arm2, Trigg
 use Rattle.sw_trigger.specs.declared.layer.Layer.{Layer}
 use Rattle.sw_trigger.specs.declared.layer.Awaited.{Awaited}
 use Rattle.sw_trigger.specs.declared.layer.Awaited.TheVariants.{Wait, Pause, Read}
-use Rattle.sw_trigger.specs.Settings.{Setup}
+use Rattle.sw_trigger.specs.Settings.{SettingsSeen}
 
 -- one thing that a scan does: it awaits something, or it closes or opens a channel
 pub data Item : Type 0 where
@@ -47,11 +47,11 @@ abbrev pub visit : Channel → List Item
 visit c = Close c ∷ Awaits Read ∷ Open c ∷ []
 
 -- pass number k of the TRIGger layer
-abbrev pub pass_of : Setup → ℕ → List Item
+abbrev pub pass_of : SettingsSeen → ℕ → List Item
 pass_of s k = map Awaits (head_of Trigger s.trigger) ++ visit (channel_at s.list k)
 
 -- n passes from number k on
-abbrev pub passes : Setup → ℕ → ℕ → List Item
+abbrev pub passes : SettingsSeen → ℕ → ℕ → List Item
 passes s k zero = []
 passes s k (suc n) = pass_of s k ++ passes s (suc k) n
 
@@ -65,10 +65,10 @@ arm_turns name layer inside = repeated layer.count (arm_turn name layer inside)
 
 -- all that a scan does, in order; nothing where nothing is listed. Each turn of the inmost ARM layer makes all passes,
 -- from the list's first entry on.
-abbrev pub agenda : Setup → List Item
+abbrev pub agenda : SettingsSeen → List Item
 agenda s = if length s.list == 0 then []
     else arm_turns Arm1 s.arm1 (arm_turns Arm2 s.arm2 (passes s 0 s.trigger.count))
 
 -- the entries that the agenda uses
-abbrev pub used_of : Setup → List Channel
+abbrev pub used_of : SettingsSeen → List Channel
 used_of s = take s.trigger.count s.list

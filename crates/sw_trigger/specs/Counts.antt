@@ -5,7 +5,7 @@ use Rattle.sw_base.specs.declared.terms.LayerName.TheVariants.{Arm1, Arm2, Trigg
 use Rattle.sw_trigger.specs.declared.layer.Layer.{Layer}
 use Rattle.sw_trigger.specs.declared.layer.Awaited.{Awaited}
 use Rattle.sw_trigger.specs.declared.layer.Awaited.TheVariants.{Wait, Pause, Read}
-use Rattle.sw_trigger.specs.Settings.{Setup}
+use Rattle.sw_trigger.specs.Settings.{SettingsSeen}
 use Rattle.sw_trigger.specs.Agenda.{Item, Awaits, Close, Open, agenda, head_of, repeated}
 
 -- the awaiting items, in order
@@ -28,10 +28,10 @@ reads (Close c ∷ items) = reads items
 reads (Open c ∷ items) = reads items
 
 -- the events that a scan takes before it is over
-abbrev pub bound_of : Setup → ℕ
+abbrev pub bound_of : SettingsSeen → ℕ
 bound_of s = length (awaiting (agenda s))
 
-abbrev pub readings_of : Setup → ℕ
+abbrev pub readings_of : SettingsSeen → ℕ
 readings_of s = reads (agenda s)
 
 -- what one turn of a layer awaits: its own, then what is inside it, so many times
@@ -39,11 +39,11 @@ abbrev pub in_turn : LayerName → Layer → ℕ → List Awaited → List Await
 in_turn name layer times inside = head_of name layer ++ repeated times inside
 
 -- what one pass awaits, and one turn of each ARM layer
-abbrev pub in_pass : Setup → List Awaited
+abbrev pub in_pass : SettingsSeen → List Awaited
 in_pass s = head_of Trigger s.trigger ++ Read ∷ []
 
-abbrev pub in_arm2 : Setup → List Awaited
+abbrev pub in_arm2 : SettingsSeen → List Awaited
 in_arm2 s = in_turn Arm2 s.arm2 s.trigger.count (in_pass s)
 
-abbrev pub in_arm1 : Setup → List Awaited
+abbrev pub in_arm1 : SettingsSeen → List Awaited
 in_arm1 s = in_turn Arm1 s.arm1 s.arm2.count (in_arm2 s)

@@ -1,8 +1,8 @@
 -- The settings as callers see them.
-use Rattle.sw_trigger.specs.Settings.{Setup, IsInRange}
+use Rattle.sw_trigger.specs.Settings.{SettingsSeen, IsInRange}
 use Rattle.sw_trigger.specs.declared.settings.Settings.TheInside.{Inside}
 
-abbrev pub setup_of : Inside → Setup
+abbrev pub setup_of : Inside → SettingsSeen
 setup_of s = record {
   arm1 = s.arm1;
   arm2 = s.arm2;

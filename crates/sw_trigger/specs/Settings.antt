@@ -10,7 +10,7 @@ use Rattle.sw_base.specs.declared.terms.LayerName.TheVariants.{Arm1, Arm2, Trigg
 use Rattle.sw_trigger.specs.declared.layer.Layer.{Layer}
 
 -- the settings as callers see them
-pub record Setup : Type 0 where
+pub record SettingsSeen : Type 0 where
   pub arm1 : Layer
   pub arm2 : Layer
   pub trigger : Layer
@@ -18,13 +18,13 @@ pub record Setup : Type 0 where
   pub meter : ℕ
   pub points : ℕ
 
-abbrev pub layer_of : Setup → LayerName → Layer
+abbrev pub layer_of : SettingsSeen → LayerName → Layer
 layer_of s Arm1 = s.arm1
 layer_of s Arm2 = s.arm2
 layer_of s Trigger = s.trigger
 
 -- the settings with another layer of that name
-abbrev pub with_layer : Setup → LayerName → Layer → Setup
+abbrev pub with_layer : SettingsSeen → LayerName → Layer → SettingsSeen
 with_layer s Arm1 layer = record s { arm1 = layer }
 with_layer s Arm2 layer = record s { arm2 = layer }
 with_layer s Trigger layer = record s { trigger = layer }
@@ -39,7 +39,7 @@ pub record IsLayer (most : ℕ) (layer : Layer) : Type 0 where
   pub count : (1 ≤ layer.count) × (layer.count ≤ most)
   pub delay : layer.delay_us ≤ longest_delay
 
-pub record IsInRange (s : Setup) : Type 0 where
+pub record IsInRange (s : SettingsSeen) : Type 0 where
   pub arm1 : IsLayer most_arm_count s.arm1
   pub arm2 : IsLayer most_arm_count s.arm2
   pub trigger : IsLayer most_trigger_count s.trigger
@@ -52,5 +52,5 @@ abbrev pub plain_layer : Layer
 plain_layer = record { count = 1; source = Immediate; delay_us = 0 }
 
 -- the settings at *RST
-abbrev pub at_reset : Setup
+abbrev pub at_reset : SettingsSeen
 at_reset = record { arm1 = plain_layer; arm2 = plain_layer; trigger = plain_layer; list = []; meter = 4; points = 1000 }

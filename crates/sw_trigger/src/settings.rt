@@ -29,9 +29,9 @@ pub struct Settings {
 }
 
 impl Model for Settings {
-    ghost use Rattle.sw_trigger.specs.Settings.{Setup};
+    ghost use Rattle.sw_trigger.specs.Settings.{SettingsSeen};
 
-    ghost Value = { Setup };
+    ghost Value = { SettingsSeen };
 
     ghost use Rattle.sw_trigger.specs.Seen.{setup_of, HoldsRange};
 

@@ -6,11 +6,11 @@ use Rattle.std.proofs.lemmas.Bool.{cases_Bool, and_parts, and_cases, and_from, o
 use Rattle.std.proofs.lemmas.Bool.{not-false, not_from_false, both_ways, false_from_ne_true, true_from_ne_false}
 use Rattle.std.proofs.Math.Nat.{mod-eq_of_lt, mod-lt, mod-le}
 use Rattle.sw_base.specs.Layout.{Channel, Layout, is_present, group_of, IsClash}
-use Rattle.sw_trigger.specs.Settings.{Setup, IsInRange}
+use Rattle.sw_trigger.specs.Settings.{SettingsSeen, IsInRange}
 use Rattle.sw_trigger.specs.Agenda.{channel_at, used_of, agenda}
 use Rattle.sw_trigger.specs.Counts.{reads}
 use Rattle.sw_verify.specs.Channels.{same_channel, is_among}
-use Rattle.sw_verify.specs.Sound.{CanClose, IsSound}
+use Rattle.sw_verify.specs.Sound.{CanCloseOne, IsSound}
 use Rattle.sw_verify.specs.Marks.{in_group, is_free}
 use Rattle.sw_verify.specs.Check.{IsBlocked}
 use Rattle.sw_verify.proofs.Round.{same_channel_is, same_channel_self, sound_exactly}
@@ -44,13 +44,14 @@ none_fails p P f (y ∷ ys) h (zero, x, l, e, w) = f y (and_parts (p y) (list_al
 none_fails p P f (y ∷ ys) h (suc k, x, l, e, w) = none_fails p P f ys (and_parts (p y) (list_all p ys) h).1 (k, x, omega arith, e, w)
 
 -- the same for the channels of the passes
-used_at : (p : Channel → Bool) (s : Setup) → 0 < length s.list → list_all p (used_of s) ≡ true → (j : ℕ) → j < s.trigger.count → p (channel_at s.list j) ≡ true
+used_at : (p : Channel → Bool) (s : SettingsSeen) → 0 < length s.list → list_all p (used_of s) ≡ true → (j : ℕ) → j < s.trigger.count
+    → p (channel_at s.list j) ≡ true
 used_at p s h a j k =
     let i : j % length s.list < length s.list = mod-lt j h in
     let l : j % length s.list ≤ j = mod-le j (length s.list) in
     all_at p s.list s.trigger.count (0, 0) a (j % length s.list) (omega arith) i
 
-used_from : (p : Channel → Bool) (s : Setup) → ((j : ℕ) → j < s.trigger.count → p (channel_at s.list j) ≡ true) → list_all p (used_of s) ≡ true
+used_from : (p : Channel → Bool) (s : SettingsSeen) → ((j : ℕ) → j < s.trigger.count → p (channel_at s.list j) ≡ true) → list_all p (used_of s) ≡ true
 used_from p s a =
     all_from p s.list s.trigger.count (0, 0) (λ j k l. subst (λ (i : ℕ). p (get_or s.list i (0, 0)) ≡ true) (mod-eq_of_lt l) (a j k))
 
@@ -105,14 +106,14 @@ module _ (layout : Layout) (closed : List Channel) (c : Channel) where
       (and_cases (not (is_among closed c)) (not in_its_group) f))
       (cases_Bool (is_among closed c))
 
-  pub can_close : is_present layout c ≡ true → is_free layout closed c ≡ true → CanClose layout (is_among closed) c
+  pub can_close : is_present layout c ≡ true → is_free layout closed c ≡ true → CanCloseOne layout (is_among closed) c
   can_close t f = record {
     present = t;
     was_open = false_from_ne_true (is_among closed c) (λ m. free_blocked f (inl m));
     apart = λ x m k. free_blocked f (inr (x, m, k));
   }
 
-  pub can_close_free : CanClose layout (is_among closed) c → is_free layout closed c ≡ true
+  pub can_close_free : CanCloseOne layout (is_among closed) c → is_free layout closed c ≡ true
   can_close_free k =
       true_from_ne_false (is_free layout closed c)
       (λ f.
@@ -120,7 +121,7 @@ module _ (layout : Layout) (closed : List Channel) (c : Channel) where
       (λ (w : (x : Channel) × (is_among closed x ≡ true) × IsClash layout c x). k.apart w.0 w.1 w.2)
       (not_free_blocked f))
 
-module _ (layout : Layout) (closed : List Channel) (s : Setup) (listed : 0 < length s.list) (range : IsInRange s) where
+module _ (layout : Layout) (closed : List Channel) (s : SettingsSeen) (listed : 0 < length s.list) (range : IsInRange s) where
   pub sound_from_tests : list_all (is_present layout) (used_of s) ≡ true → list_all (is_free layout closed) (used_of s) ≡ true → reads (agenda s) ≤ s.points
       → IsSound layout (is_among closed) s.points (agenda s)
   sound_from_tests t f r =

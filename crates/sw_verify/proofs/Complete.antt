@@ -10,7 +10,7 @@ use Rattle.sw_base.specs.declared.terms.LayerName.TheVariants.{Arm1, Arm2}
 use Rattle.sw_trigger.specs.declared.layer.Awaited.{Awaited}
 use Rattle.sw_trigger.specs.declared.layer.Layer.{Layer}
 use Rattle.sw_trigger.specs.declared.layer.Awaited.TheVariants.{Wait, Pause, Read}
-use Rattle.sw_trigger.specs.Settings.{Setup, IsInRange}
+use Rattle.sw_trigger.specs.Settings.{SettingsSeen, IsInRange}
 use Rattle.sw_trigger.specs.Agenda.{Item, Awaits, Close, Open, repeated, head_of, channel_at, passes, arm_turn, arm_turns, agenda}
 use Rattle.sw_code.specs.declared.code.Step.{Step}
 use Rattle.sw_code.specs.declared.code.Step.TheVariants as step
@@ -21,7 +21,7 @@ use Rattle.sw_verify.specs.declared.refusal.Refusal.{Refusal}
 use Rattle.sw_verify.specs.declared.refusal.Refusal.TheVariants.{BadNesting, BadJump}
 use Rattle.sw_verify.specs.declared.nest.Frame.{Frame}
 use Rattle.sw_verify.specs.Channels.{Channels, none, with_channel, without}
-use Rattle.sw_verify.specs.Sound.{AllRight, effect, CanClose, IsSound}
+use Rattle.sw_verify.specs.Sound.{AllRight, effect, CanCloseOne, IsSound}
 use Rattle.sw_verify.specs.Nest.{in_use, at_loop, fault_in, StepsRight}
 use Rattle.sw_verify.proofs.Round.{effect-append, round-passes, round-arm_turn, round-arm_turns, round-agenda, sound_exactly}
 
@@ -142,12 +142,12 @@ module _ (layout : Layout) where
       (some, level-awaits b m (head_of name l) inside level, ap (effect b) turn ∙ eb, ap (effect m) turn ∙ em, tt)
 
   -- what can be closed can be closed where nothing is
-  can_from_none : (b : Channels) (c : Channel) → CanClose layout b c → CanClose layout none c
+  can_from_none : (b : Channels) (c : Channel) → CanCloseOne layout b c → CanCloseOne layout none c
   can_from_none b c k = record { present = k.present; was_open = refl; apart = λ x h. absurd (cc h) }
 
-module _ (layout : Layout) (b : Channels) (s : Setup) (range : IsInRange s) (can : (j : ℕ) → j < s.trigger.count
-    → CanClose layout b (channel_at s.list j)) where
-  free : (j : ℕ) → j < s.trigger.count → CanClose layout none (channel_at s.list j)
+module _ (layout : Layout) (b : Channels) (s : SettingsSeen) (range : IsInRange s) (can : (j : ℕ) → j < s.trigger.count
+    → CanCloseOne layout b (channel_at s.list j)) where
+  free : (j : ℕ) → j < s.trigger.count → CanCloseOne layout none (channel_at s.list j)
   free j h = can_from_none layout b (channel_at s.list j) (can j h)
 
   level-passes : IsLevel layout b none (passes_tree s)
@@ -196,10 +196,10 @@ module _ (layout : Layout) (b : Channels) (s : Setup) (range : IsInRange s) (can
       (level-arm layout b none 1 Arm2 s.arm2 (passes_tree s) range.arm2.count.0 level-passes b2 n2) b1 n1
 
 -- the code of settings whose agenda is sound has no fault, and each of its steps is right
-pub compiled_nested : (s : Setup) → IsInRange s → fault_in (compiled s).steps 0 [] ≡ None
+pub compiled_nested : (s : SettingsSeen) → IsInRange s → fault_in (compiled s).steps 0 [] ≡ None
 compiled_nested s range = no_fault (tree_of s) (nested-tree s range)
 
-pub compiled_right : (layout : Layout) (b : Channels) (s : Setup) (room : ℕ) → 0 < length s.list → IsInRange s → IsSound layout b room (agenda s)
+pub compiled_right : (layout : Layout) (b : Channels) (s : SettingsSeen) (room : ℕ) → 0 < length s.list → IsInRange s → IsSound layout b room (agenda s)
     → StepsRight layout (compiled s).steps b none []
 compiled_right layout b s room listed range sound =
     let can = ((sound_exactly layout b s room listed range).0 sound).0 in

@@ -4,7 +4,7 @@ use Rattle.std.proofs.lemmas.Bool.{both_ways}
 use Rattle.sw_base.specs.Layout.{Layout, has_meter}
 use Rattle.sw_trigger.specs.Agenda.{Item, agenda}
 use Rattle.sw_trigger.specs.Counts.{reads}
-use Rattle.sw_code.specs.Range.{Program, IsInRange}
+use Rattle.sw_code.specs.Range.{Program, IsProgramInRange}
 use Rattle.sw_code.specs.Code.{Unfolds}
 use Rattle.sw_code.proofs.Compiled.{compiled_unfolds}
 use Rattle.sw_code.proofs.Unfolding.{unfolds_once}
@@ -44,7 +44,8 @@ only_memory layout b room code r denied p =
     (λ (h : r ≡ NoMemory). h) rest) rest) rest) denied
 
 -- a tally above the room is that of the readings
-pub overflows : (layout : Layout) (b : Channels) (room : ℕ) (code : Program) → IsInRange code → IsInOrder layout b code → room < tally is_read code.steps 1 []
+pub overflows : (layout : Layout) (b : Channels) (room : ℕ) (code : Program) → IsProgramInRange code → IsInOrder layout b code
+    → room < tally is_read code.steps 1 []
     → Overflows room code
 overflows layout b room code i o h =
     let all = verified layout b code.steps (tally is_read code.steps 1 []) (counted code.steps i.steps) o.nested o.right (omega arith) in

@@ -11,13 +11,14 @@ use Rattle.sw_verify.specs.declared.refusal.Refusal.TheVariants.{NotClosed, NoMe
 use Rattle.sw_verify.specs.declared.snapshot.Snapshot.{Snapshot}
 use Rattle.sw_verify.specs.Channels.{is_among}
 use Rattle.sw_verify.specs.Marks.{is_free}
-use Rattle.sw_verify.specs.Check.{Faulty, number_of, IsFirst, IsBlocked}
+use Rattle.sw_verify.specs.Check.{Faulty, refusal_number, IsFirst, IsBlocked}
 use Rattle.sw_verify.proofs.Checked.{any_fails, none_fails, free_blocked, not_free_blocked}
 
 -- none before r, one by one
-none_before : (p : Snapshot) (r : Refusal) → (1 < number_of r → Faulty EmptyList p → ⊥) → (2 < number_of r → Faulty NoChannel p → ⊥)
-    → (3 < number_of r → Faulty NoMeter p → ⊥) → (4 < number_of r → Faulty GroupClash p → ⊥) → (5 < number_of r → Faulty TooManyReadings p → ⊥) → (q : Refusal)
-    → number_of q < number_of r → Faulty q p → ⊥
+none_before : (p : Snapshot) (r : Refusal) → (1 < refusal_number r → Faulty EmptyList p → ⊥) → (2 < refusal_number r → Faulty NoChannel p → ⊥)
+    → (3 < refusal_number r → Faulty NoMeter p → ⊥) → (4 < refusal_number r → Faulty GroupClash p → ⊥) → (5 < refusal_number r → Faulty TooManyReadings p → ⊥)
+    → (q : Refusal)
+    → refusal_number q < refusal_number r → Faulty q p → ⊥
 none_before p r a b c d e EmptyList l f = a l f
 none_before p r a b c d e NoChannel l f = b l f
 none_before p r a b c d e NoMeter l f = c l f

@@ -8,23 +8,23 @@ use Rattle.std.proofs.lemmas.Bool.Decides.{nat_tests}
 use Rattle.std.proofs.lemmas.Bool.{cases_eq}
 use Rattle.std.proofs.lemmas.List.{get_or-set_same, get_or-set_other, length-set, ext_get_or, get_or-replicate, length-replicate}
 use Rattle.sw_base.specs.Layout.{Channel, Layout, is_present, group_of, IsClash}
-use Rattle.sw_code.specs.Range.{IsChannel}
+use Rattle.sw_code.specs.Range.{IsInChannelRange}
 use Rattle.sw_verify.specs.declared.ledger.Ledger.{Ledger}
 use Rattle.sw_verify.specs.Channels.{Channels, none, is_among, same_channel, with_channel, without}
 use Rattle.sw_verify.specs.Check.{IsBlocked}
 use Rattle.sw_verify.specs.Marks.{place, ChannelMarks, GroupMarks, in_group}
-use Rattle.sw_verify.specs.Sound.{CanClose}
-use Rattle.sw_verify.specs.Ledger.{Tells, GroupsTell, Shows, is_taken}
+use Rattle.sw_verify.specs.Sound.{CanCloseOne}
+use Rattle.sw_verify.specs.Ledger.{TellsRow, GroupsTell, Shows, is_taken}
 use Rattle.sw_verify.proofs.Round.{same_channel_is, same_channel_self}
 use Rattle.sw_verify.proofs.Throughout.{clash_back}
 use Rattle.sw_verify.proofs.Checked.{any_among, among_any}
 
 -- a channel's place tells it
-placed : (c : Channel) → IsChannel c → (place c < 900) × (place c / 100 ≡ c.0) × (place c % 100 ≡ c.1)
+placed : (c : Channel) → IsInChannelRange c → (place c < 900) × (place c / 100 ≡ c.0) × (place c % 100 ≡ c.1)
 placed c i =
     (omega (arith, i.1, i.3), omega (arith, i.1, i.3), omega (arith, i.1, i.3))
 
-pub tells_at : (start b m : Channels) (row : List Bool) → Tells start b m row → (c : Channel) → IsChannel c → slice_index_or row (place c) false ≡ m c
+pub tells_at : (start b m : Channels) (row : List Bool) → TellsRow start b m row → (c : Channel) → IsInChannelRange c → slice_index_or row (place c) false ≡ m c
 tells_at start b m row t c i =
     let p = placed c i in
     t.flags (place c) p.0 ∙ ap (λ (x : ℕ). m (x, place c % 100)) p.1 ∙ ap (λ (y : ℕ). m (c.0, y)) p.2
@@ -70,7 +70,7 @@ second_false : (a c : Bool) → (a || c) ≡ false → c ≡ false
 second_false true c h = absurd (cc h)
 second_false false c h = h
 
-module _ (start b m : Channels) (row : List Bool) (t : Tells start b m row) (c : Channel) (i : IsChannel c) where
+module _ (start b m : Channels) (row : List Bool) (t : TellsRow start b m row) (c : Channel) (i : IsInChannelRange c) where
   here : slice_index_or row (place c) false ≡ m c
   here = tells_at start b m row t c i
 
@@ -79,14 +79,14 @@ module _ (start b m : Channels) (row : List Bool) (t : Tells start b m row) (c :
       let p = placed c i in
       ap (λ (x : ℕ). same_channel c (x, place c % 100)) p.1 ∙ ap (λ (y : ℕ). same_channel c (c.0, y)) p.2 ∙ same_channel_self c
 
-  pub tells_with : b c ≡ false → Tells start (with_channel c b) (with_channel c m) (slice_set row (place c) true)
+  pub tells_with : b c ≡ false → TellsRow start (with_channel c b) (with_channel c m) (slice_set row (place c) true)
   tells_with free = record {
     split = λ x. (
       ap (λ v. same_channel c x || v) (t.split x).0 ∙ or_turned (same_channel c x) (start x) (m x),
       λ h. ⊎_elim (λ (e : same_channel c x ≡ true). ap start (sym (same_channel_is c x e)) ∙ first_false (start c) (m c) (sym (t.split c).0 ∙ free))
           (λ (e : m x ≡ true). (t.split x).1 e) (or_cases (same_channel c x) (m x) h),
     );
-    range = λ x h. ⊎_elim (λ (e : same_channel c x ≡ true). subst IsChannel (same_channel_is c x e) i) (λ (e : m x ≡ true).
+    range = λ x h. ⊎_elim (λ (e : same_channel c x ≡ true). subst IsInChannelRange (same_channel_is c x e) i) (λ (e : m x ≡ true).
         t.range x e) (or_cases (same_channel c x) (m x) h);
     size = length-set row (place c) true ∙ t.size;
     flags = λ j h.
@@ -99,7 +99,7 @@ module _ (start b m : Channels) (row : List Bool) (t : Tells start b m row) (c :
         (cases_eq j (place c));
   }
 
-  pub tells_without : m c ≡ true → Tells start (without c b) (without c m) (slice_set row (place c) false)
+  pub tells_without : m c ≡ true → TellsRow start (without c b) (without c m) (slice_set row (place c) false)
   tells_without own = record {
     split = λ x. (
       ap (λ v. not (same_channel c x) && v) (t.split x).0 ∙ and_turned (same_channel c x) (start x) (m x) (λ e. ap start (sym (same_channel_is c x e))
@@ -171,7 +171,7 @@ or_none : (a : Bool) → (a || false) ≡ a
 or_none true = refl
 or_none false = refl
 
-pub tells_none : (start : Channels) → Tells start start none (replicate 900 false)
+pub tells_none : (start : Channels) → TellsRow start start none (replicate 900 false)
 tells_none start = record {
   split = λ x. (sym (or_none (start x)), λ h. absurd (cc h));
   range = λ x h. absurd (cc h);
@@ -185,7 +185,7 @@ same_bools false true f g = g refl
 same_bools false false f g = refl
 
 -- one row tells one set, and one set has one row
-pub row_tells_one : (start b b' m m' : Channels) (row row' : List Bool) → Tells start b m row → Tells start b' m' row' → row ≡ row' → (b ≡ b') × (m ≡ m')
+pub row_tells_one : (start b b' m m' : Channels) (row row' : List Bool) → TellsRow start b m row → TellsRow start b' m' row' → row ≡ row' → (b ≡ b') × (m ≡ m')
 row_tells_one start b b' m m' row row' t t' e =
     let n : m ≡ m' = fun_ext (λ x. same_bools (m x) (m' x)
     (λ h. let i = t.range x h in sym (tells_at start b' m' row' t' x i) ∙ ap (λ (r : List Bool). slice_index_or r (place x) false) (sym e)
@@ -194,13 +194,13 @@ row_tells_one start b b' m m' row row' t t' e =
     ∙ tells_at start b' m' row' t' x i ∙ h)) in
     (fun_ext (λ x. (t.split x).0 ∙ ap (λ (k : Channels). start x || k x) n ∙ sym (t'.split x).0), n)
 
-pub one_row : (start b b' m m' : Channels) (row row' : List Bool) → Tells start b m row → Tells start b' m' row' → m ≡ m' → row ≡ row'
+pub one_row : (start b b' m m' : Channels) (row row' : List Bool) → TellsRow start b m row → TellsRow start b' m' row' → m ≡ m' → row ≡ row'
 one_row start b b' m m' row row' t t' e =
     ext_get_or false row row' (t.size ∙ sym t'.size)
     (λ j h. let below : j < 900 = let s : length row ≡ 900 = t.size in omega arith in t.flags j below ∙ ap (λ (k : Channels). k (j / 100, j % 100)) e
     ∙ sym (t'.flags j below))
 
-module _ (layout : Layout) (start b m : Channels) (l : Ledger) (s : Shows layout start b m l) (c : Channel) (i : IsChannel c)
+module _ (layout : Layout) (start b m : Channels) (l : Ledger) (s : Shows layout start b m l) (c : Channel) (i : IsInChannelRange c)
     (below : group_of layout c < 256) where
   closed_is : b c ≡ (slice_index_or l.found (place c) false || slice_index_or l.mine (place c) false)
   closed_is = (s.mine.split c).0 ∙ ap (λ v. v || m c) (sym (s.found c i))
@@ -220,7 +220,7 @@ module _ (layout : Layout) (start b m : Channels) (l : Ledger) (s : Shows layout
   and_both true d h g = g
   and_both false d h g = absurd (cc h)
 
-  pub free_can : is_present layout c ≡ true → is_taken l (place c) (group_of layout c) ≡ false → CanClose layout b c
+  pub free_can : is_present layout c ≡ true → is_taken l (place c) (group_of layout c) ≡ false → CanCloseOne layout b c
   free_can there free =
       let p = or_both (slice_index_or l.found (place c) false) (slice_index_or l.mine (place c) false) (not (eqb (group_of layout c) 0)
       && slice_index_or l.groups (group_of layout c) false) free in
@@ -265,7 +265,7 @@ module _ (layout : Layout) (start b m : Channels) (l : Ledger) (s : Shows layout
       cases_Bool' true = inl refl
       cases_Bool' false = inr refl
 
-  pub shows_with : CanClose layout b c → (at g : ℕ) → at ≡ place c → g ≡ group_of layout c
+  pub shows_with : CanCloseOne layout b c → (at g : ℕ) → at ≡ place c → g ≡ group_of layout c
       → Shows layout start (with_channel c b) (with_channel c m) (record {
         found = l.found;
         mine = slice_set l.mine at true;

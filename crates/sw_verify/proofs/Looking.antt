@@ -11,11 +11,11 @@ use Rattle.sw_verify.specs.declared.ledger.Ledger.{Ledger}
 use Rattle.sw_verify.specs.declared.refusal.Refusal.{Refusal}
 use Rattle.sw_verify.specs.declared.refusal.Refusal.TheVariants.{NoChannel, GroupClash, LeftClosed, NotClosed}
 use Rattle.sw_verify.specs.Channels.{Channels, none, is_among, with_channel, without}
-use Rattle.sw_verify.specs.Sound.{CanClose}
+use Rattle.sw_verify.specs.Sound.{CanCloseOne}
 use Rattle.sw_verify.specs.Check.{IsBlocked}
 use Rattle.sw_verify.specs.Nest.{StepsRight, LoopIsRound}
 use Rattle.sw_verify.specs.Stops.{IsBarred, LoopStops, StopsBy}
-use Rattle.sw_verify.specs.Ledger.{Tells, Shows, AreSaved}
+use Rattle.sw_verify.specs.Ledger.{TellsRow, Shows, AreSaved}
 use Rattle.sw_verify.proofs.Ledgers.{tells_none, row_tells_one, one_row}
 
 -- After some steps the ledger and the rows stand for closed sets from which the steps left tell of all.
@@ -78,13 +78,13 @@ module _ (layout : Layout) (closed : List Channel) (steps : List Step) (i : ℕ)
     m = p.m;
     ss = (p.b, p.m) ∷ p.ss;
     shows = p.shows;
-    saved = (subst (λ (r : List Bool). Tells (is_among closed) p.b p.m r) (sym same) p.shows.mine, p.saved);
+    saved = (subst (λ (r : List Bool). TellsRow (is_among closed) p.b p.m r) (sym same) p.shows.mine, p.saved);
     right = right_by (step.Set k n) e;
     stops = stops_by (step.Set k n) e;
   }
 
   pub after_close : (c : Channel) (after : Ledger) → drop i steps ≡ step.Close c ∷ drop (i + 1) steps
-      → ((start b m : Channels) → Shows layout start b m ledger → CanClose layout b c × Shows layout start (with_channel c b) (with_channel c m) after)
+      → ((start b m : Channels) → Shows layout start b m ledger → CanCloseOne layout b c × Shows layout start (with_channel c b) (with_channel c m) after)
       → Progress layout closed steps (i + 1) after rows
   after_close c after e closes =
       let w = closes (is_among closed) p.b p.m p.shows in
@@ -170,7 +170,7 @@ module _ (layout : Layout) (closed : List Channel) (steps : List Step) (i : ℕ)
     none_left = drop_all i steps (omega arith)
 
 -- what may not be closed can't be
-barred_not : (layout : Layout) (b : Channels) (c : Channel) (r : Refusal) → CanClose layout b c → IsBarred layout b c r → ⊥
+barred_not : (layout : Layout) (b : Channels) (c : Channel) (r : Refusal) → CanCloseOne layout b c → IsBarred layout b c r → ⊥
 barred_not layout b c r can barred =
     ⊎_elim (λ (x : (is_present layout c ≡ false) × (r ≡ NoChannel)). both_ways (is_present layout c) x.0 can.present)
     (λ (x : (is_present layout c ≡ true) × IsBlocked layout b c × (r ≡ GroupClash)).
@@ -187,7 +187,7 @@ right_not_stopped layout r (step.Wait name ∷ steps) b m ss h s = right_not_sto
 right_not_stopped layout r (step.Pause micros ∷ steps) b m ss h s = right_not_stopped layout r steps b m ss h s
 right_not_stopped layout r (step.Close c ∷ steps) b m ss h s =
     ⊎_elim (λ (x : IsBarred layout b c r). barred_not layout b c r h.0 x)
-    (λ (x : CanClose layout b c × StopsBy layout r steps (with_channel c b) (with_channel c m) ss).
+    (λ (x : CanCloseOne layout b c × StopsBy layout r steps (with_channel c b) (with_channel c m) ss).
     right_not_stopped layout r steps (with_channel c b) (with_channel c m) ss h.1 x.1) s
 right_not_stopped layout r (step.Read ∷ steps) b m ss h s = right_not_stopped layout r steps b m ss h s
 right_not_stopped layout r (step.Open c ∷ steps) b m ss h s =

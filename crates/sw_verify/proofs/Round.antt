@@ -8,13 +8,13 @@ use Rattle.sw_trigger.specs.declared.layer.Awaited.{Awaited}
 use Rattle.sw_trigger.specs.declared.layer.Layer.{Layer}
 use Rattle.sw_base.specs.declared.terms.LayerName.{LayerName}
 use Rattle.sw_base.specs.declared.terms.LayerName.TheVariants.{Arm1, Arm2, Trigger}
-use Rattle.sw_trigger.specs.Settings.{Setup, IsInRange}
+use Rattle.sw_trigger.specs.Settings.{SettingsSeen, IsInRange}
 use Rattle.sw_trigger.specs.Agenda.{Item, Awaits, Close, Open, repeated, visit, head_of, channel_at, pass_of, passes, arm_turn, arm_turns, agenda}
 use Rattle.sw_trigger.specs.Counts.{reads}
 use Rattle.sw_trigger.proofs.Awaiting.{agenda_is}
 use Rattle.sw_trigger.proofs.Same.{channel_decides}
 use Rattle.sw_verify.specs.Channels.{same_channel, Channels, none, with_channel, without}
-use Rattle.sw_verify.specs.Sound.{CanClose, AllRight, effect, IsSound}
+use Rattle.sw_verify.specs.Sound.{CanCloseOne, AllRight, effect, IsSound}
 use Rattle.sw_verify.specs.Moments.{AtMostOneMore}
 
 pub same_channel_is : (a b : Channel) → same_channel a b ≡ true → a ≡ b
@@ -88,7 +88,7 @@ module _ (layout : Layout) (b : Channels) where
     moments = λ p i. same_is_near b (effect b (take i (map Awaits (w ∷ ws)))) (moments_awaits b (w ∷ ws) i);
   }
 
-  pub round-visit : (c : Channel) → IsRound layout b (CanClose layout b c) (visit c)
+  pub round-visit : (c : Channel) → IsRound layout b (CanCloseOne layout b c) (visit c)
   round-visit c = record {
     needs = λ rest h. (
       h.0,
@@ -141,21 +141,22 @@ module _ (layout : Layout) (b : Channels) where
       (round-append xs (repeated n xs) r (round-repeated n xs r))
 
   -- the channels of the passes from number k on
-  abbrev CanPass : Setup → ℕ → ℕ → Type 0
-  CanPass s k n = (j : ℕ) → k ≤ j → j < k + n → CanClose layout b (channel_at s.list j)
+  abbrev CanPass : SettingsSeen → ℕ → ℕ → Type 0
+  CanPass s k n = (j : ℕ) → k ≤ j → j < k + n → CanCloseOne layout b (channel_at s.list j)
 
-  pub round-pass : (s : Setup) (k : ℕ) → IsRound layout b (CanClose layout b (channel_at s.list k)) (pass_of s k)
+  pub round-pass : (s : SettingsSeen) (k : ℕ) → IsRound layout b (CanCloseOne layout b (channel_at s.list k)) (pass_of s k)
   round-pass s k =
-      round-like (pass_of s k) (λ (w : Unit {0} × CanClose layout b (channel_at s.list k)). w.1) (λ (h : CanClose layout b (channel_at s.list k)). (tt, h))
+      round-like (pass_of s k) (λ (w : Unit {0} × CanCloseOne layout b (channel_at s.list k)). w.1)
+      (λ (h : CanCloseOne layout b (channel_at s.list k)). (tt, h))
       (round-append (map Awaits (head_of Trigger s.trigger)) (visit (channel_at s.list k)) (round-awaits (head_of Trigger s.trigger))
       (round-visit (channel_at s.list k)))
 
-  pub round-passes : (s : Setup) (k n : ℕ) → IsRound layout b (CanPass s k n) (passes s k n)
+  pub round-passes : (s : SettingsSeen) (k n : ℕ) → IsRound layout b (CanPass s k n) (passes s k n)
   round-passes s k zero = round-like [] (λ (u : Unit {0}). λ j h g. absurd (omega arith)) (λ (f : CanPass s k 0). tt) round-none
   round-passes s k (suc n) =
       round-like (passes s k (suc n))
-      (λ (w : CanClose layout b (channel_at s.list k) × CanPass s (suc k) n). λ j h g.
-      ⊎_elim (λ (e : k ≡ j). subst (λ (i : ℕ). CanClose layout b (channel_at s.list i)) e w.0)
+      (λ (w : CanCloseOne layout b (channel_at s.list k) × CanPass s (suc k) n). λ j h g.
+      ⊎_elim (λ (e : k ≡ j). subst (λ (i : ℕ). CanCloseOne layout b (channel_at s.list i)) e w.0)
       (λ (d : k ≡ j → ⊥). w.1 j (grind arith) (omega arith)) (cases_eq k j))
       (λ (f : CanPass s k (suc n)). (f k (omega arith) (omega arith), λ j h g. f j (omega arith) (omega arith)))
       (round-append (pass_of s k) (passes s (suc k) n) (round-pass s k) (round-passes s (suc k) n))
@@ -170,13 +171,13 @@ module _ (layout : Layout) (b : Channels) where
       → IsRound layout b (0 < l.count → P) (arm_turns name l inside)
   round-arm_turns name l inside r = round-repeated l.count (arm_turn name l inside) (round-arm_turn name l inside r)
 
-  pub round-turns : (s : Setup) → 0 < length s.list → IsRound layout b (0 < s.arm1.count → 0 < s.arm2.count → CanPass s 0 s.trigger.count) (agenda s)
+  pub round-turns : (s : SettingsSeen) → 0 < length s.list → IsRound layout b (0 < s.arm1.count → 0 < s.arm2.count → CanPass s 0 s.trigger.count) (agenda s)
   round-turns s h =
       subst (λ (l : List Item). IsRound layout b (0 < s.arm1.count → 0 < s.arm2.count → CanPass s 0 s.trigger.count) l) (sym (agenda_is s h))
       (round-arm_turns Arm1 s.arm1 (arm_turns Arm2 s.arm2 (passes s 0 s.trigger.count))
       (round-arm_turns Arm2 s.arm2 (passes s 0 s.trigger.count) (round-passes s 0 s.trigger.count)))
 
-  pub round-agenda : (s : Setup) → 0 < length s.list → IsInRange s → IsRound layout b (CanPass s 0 s.trigger.count) (agenda s)
+  pub round-agenda : (s : SettingsSeen) → 0 < length s.list → IsInRange s → IsRound layout b (CanPass s 0 s.trigger.count) (agenda s)
   round-agenda s h i =
       round-like (agenda s)
       (λ (f : 0 < s.arm1.count → 0 < s.arm2.count → CanPass s 0 s.trigger.count). f i.arm1.count.0 i.arm2.count.0)
@@ -184,14 +185,14 @@ module _ (layout : Layout) (b : Channels) where
       (round-turns s h)
 
   -- the whole agenda is sound exactly where each entry that is used can be closed, and the readings have room
-  pub sound_exactly : (s : Setup) (room : ℕ) → 0 < length s.list → IsInRange s → IsSound layout b room (agenda s)
-      ↔ ((j : ℕ) → j < s.trigger.count → CanClose layout b (channel_at s.list j)) × (reads (agenda s) ≤ room)
+  pub sound_exactly : (s : SettingsSeen) (room : ℕ) → 0 < length s.list → IsInRange s → IsSound layout b room (agenda s)
+      ↔ ((j : ℕ) → j < s.trigger.count → CanCloseOne layout b (channel_at s.list j)) × (reads (agenda s) ≤ room)
   sound_exactly s room h i =
       let r = round-agenda s h i in
       let e = append-nil (agenda s) in (
         λ (w : IsSound layout b room (agenda s)). let p = (r.needs [] (subst (λ (l : List Item). AllRight layout b none l) (sym e) w.right)).0 in
             (λ j k. p j (omega arith) (omega arith), w.fits),
-        λ (w : ((j : ℕ) → j < s.trigger.count → CanClose layout b (channel_at s.list j)) × (reads (agenda s) ≤ room)).
+        λ (w : ((j : ℕ) → j < s.trigger.count → CanCloseOne layout b (channel_at s.list j)) × (reads (agenda s) ≤ room)).
             let p : CanPass s 0 s.trigger.count = λ j k l. w.0 j (omega arith) in
             record {
               right = subst (λ (l : List Item). AllRight layout b none l) e (r.may [] p tt);

@@ -2,11 +2,11 @@
 use Rattle.std.proofs.Common.{◌≡◌, ℕ, zero, suc, ◌≤◌, true, not, List, [], ◌∷◌, take, sym, ◌∙◌, subst, ⊎_elim, arith, length, append-nil, ◌<◌}
 use Rattle.std.proofs.lemmas.Bool.{or_cases, and_parts}
 use Rattle.sw_base.specs.Layout.{Channel, Layout, is_present, IsClash, IsExclusive}
-use Rattle.sw_trigger.specs.Settings.{Setup}
+use Rattle.sw_trigger.specs.Settings.{SettingsSeen}
 use Rattle.sw_trigger.specs.Agenda.{Item, Awaits, Close, Open, agenda}
 use Rattle.sw_trigger.specs.Counts.{reads}
 use Rattle.sw_verify.specs.Channels.{same_channel, Channels, none, with_channel, without}
-use Rattle.sw_verify.specs.Sound.{CanClose, AllRight, effect, IsSound}
+use Rattle.sw_verify.specs.Sound.{CanCloseOne, AllRight, effect, IsSound}
 use Rattle.sw_verify.specs.Moments.{AtMostOneMore}
 use Rattle.sw_verify.proofs.Round.{same_channel_is, round-turns}
 
@@ -14,7 +14,7 @@ pub clash_back : (layout : Layout) (a b : Channel) → IsClash layout a b → Is
 clash_back layout a b k = record { other = λ e. k.other (sym e); grouped = λ e. k.grouped (k.same ∙ e); same = sym k.same }
 
 -- closing what can be closed, and opening, leave no two that clash
-pub exclusive_with : (layout : Layout) (b : Channels) (c : Channel) → CanClose layout b c → IsExclusive layout b → IsExclusive layout (with_channel c b)
+pub exclusive_with : (layout : Layout) (b : Channels) (c : Channel) → CanCloseOne layout b c → IsExclusive layout b → IsExclusive layout (with_channel c b)
 exclusive_with layout b c can e = record {
   present = λ x h.
       ⊎_elim (λ (s : same_channel c x ≡ true). subst (λ (y : Channel). is_present layout y ≡ true) (same_channel_is c x s) can.present)
@@ -57,7 +57,7 @@ reads_so_far (Close c ∷ items) (suc i) = reads_so_far items i
 reads_so_far (Open c ∷ items) (suc i) = reads_so_far items i
 
 -- a sound agenda closes one channel at a time
-pub one_at_a_time : (layout : Layout) (b : Channels) (room : ℕ) (s : Setup) → 0 < length s.list → IsSound layout b room (agenda s) → (i : ℕ)
+pub one_at_a_time : (layout : Layout) (b : Channels) (room : ℕ) (s : SettingsSeen) → 0 < length s.list → IsSound layout b room (agenda s) → (i : ℕ)
     → AtMostOneMore b (effect b (take i (agenda s)))
 one_at_a_time layout b room s listed w =
     let r = round-turns layout b s listed in

@@ -17,7 +17,7 @@ use Rattle.sw_verify.specs.Channels.{Channels, none, with_channel, without, same
 use Rattle.sw_base.specs.Layout.{Channel, Layout}
 use Rattle.sw_trigger.specs.Counts.{awaiting, reads}
 use Rattle.sw_base.specs.Layout.{has_meter}
-use Rattle.sw_code.specs.Range.{Program, IsStep, IsInRange}
+use Rattle.sw_code.specs.Range.{Program, IsStep, IsProgramInRange}
 use Rattle.sw_verify.specs.Judged.{HasCounts, IsVerified}
 use Rattle.sw_verify.specs.Sound.{AllRight, effect, IsSound}
 use Rattle.sw_code.specs.Tree.{Tree, Nil, Then, Times, step_of, size, flatten, meaning, IsNested}
@@ -325,7 +325,7 @@ verified layout b code room w h s k =
     )
 
 -- what the looks and counts of a code say
-pub judged : (layout : Layout) (b : Channels) (code : Program) (room bound readings : ℕ) → IsInRange code → fault_in code.steps 0 [] ≡ None
+pub judged : (layout : Layout) (b : Channels) (code : Program) (room bound readings : ℕ) → IsProgramInRange code → fault_in code.steps 0 [] ≡ None
     → StepsRight layout code.steps b none [] → has_meter layout code.meter ≡ true → bound ≡ tally every code.steps 1 []
     → readings ≡ tally is_read code.steps 1 [] → readings ≤ room → IsVerified layout b room code (record { code = code; bound = bound; readings = readings })
 judged layout b code room bound readings i nested right meter m n most =

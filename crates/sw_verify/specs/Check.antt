@@ -36,26 +36,26 @@ Faulty LeftClosed p = ⊥
 Faulty NotClosed p = ⊥
 Faulty NoMemory p = ⊥
 
-abbrev pub number_of : Refusal → ℕ
-number_of EmptyList = 1
-number_of NoChannel = 2
-number_of NoMeter = 3
-number_of GroupClash = 4
-number_of TooManyReadings = 5
-number_of BadNesting = 6
-number_of BadJump = 7
-number_of LeftClosed = 8
-number_of NotClosed = 9
-number_of NoMemory = 10
+abbrev pub refusal_number : Refusal → ℕ
+refusal_number EmptyList = 1
+refusal_number NoChannel = 2
+refusal_number NoMeter = 3
+refusal_number GroupClash = 4
+refusal_number TooManyReadings = 5
+refusal_number BadNesting = 6
+refusal_number BadJump = 7
+refusal_number LeftClosed = 8
+refusal_number NotClosed = 9
+refusal_number NoMemory = 10
 
 -- the refusal applies, and none with a lower number does
 pub record IsFirst (r : Refusal) (p : Snapshot) : Type 0 where
   pub applies : Faulty r p
-  pub none_before : (q : Refusal) → number_of q < number_of r → Faulty q p → ⊥
+  pub none_before : (q : Refusal) → refusal_number q < refusal_number r → Faulty q p → ⊥
 
 -- The snapshot does not pass the check, and r is the first refusal that applies; or it does, and memory ran out.
-abbrev pub IsRefused : Refusal → Snapshot → Type 0
-IsRefused r p = ((IsReady p → ⊥) × IsFirst r p) ⊎ (IsReady p × (r ≡ NoMemory))
+abbrev pub IsRefusedScan : Refusal → Snapshot → Type 0
+IsRefusedScan r p = ((IsReady p → ⊥) × IsFirst r p) ⊎ (IsReady p × (r ≡ NoMemory))
 
 abbrev pub error_of : Refusal → ScpiError
 error_of EmptyList = SettingsConflict

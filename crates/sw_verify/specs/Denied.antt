@@ -1,7 +1,7 @@
 -- Why a code is refused, and which code is not.
 use Rattle.std.specs.Prelude.{◌≡◌, ℕ, ◌<◌, true, false, List, [], Some, None, length, ◌⊎◌}
 use Rattle.sw_base.specs.Layout.{Layout, has_meter}
-use Rattle.sw_trigger.specs.Settings.{Setup, IsInRange}
+use Rattle.sw_trigger.specs.Settings.{SettingsSeen, IsInRange}
 use Rattle.sw_trigger.specs.Agenda.{Item, agenda}
 use Rattle.sw_trigger.specs.Counts.{reads}
 use Rattle.sw_code.specs.Range.{Program}
@@ -34,7 +34,7 @@ IsDenied layout b room code r =
 
 -- the code is that of settings that pass the check here
 pub record IsPlanned (layout : Layout) (b : Channels) (room : ℕ) (code : Program) : Type 0 where
-  pub settings : Setup
+  pub settings : SettingsSeen
   pub range : IsInRange settings
   pub listed : 0 < length settings.list
   pub is_compiled : code ≡ compiled settings

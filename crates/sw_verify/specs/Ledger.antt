@@ -2,16 +2,16 @@
 use Rattle.std.specs.Prelude.{◌≡◌, ℕ, ◌/◌, ◌%◌, ◌<◌, Bool, true, false, ◌||◌, ◌&&◌, ◌==◌, not}
 use Rattle.std.specs.Prelude.{List, [], ◌∷◌, length, slice_index_or}
 use Rattle.sw_base.specs.Layout.{Channel, Layout, group_of, IsClash}
-use Rattle.sw_code.specs.Range.{IsChannel}
+use Rattle.sw_code.specs.Range.{IsInChannelRange}
 use Rattle.sw_verify.specs.declared.ledger.Ledger.{Ledger}
 use Rattle.sw_verify.specs.Channels.{Channels}
 use Rattle.sw_verify.specs.Marks.{place}
 
 -- Of the closed channels b, those that the code closed are m, and the row has m's flags; the others were closed at the
 -- start.
-pub record Tells (start b m : Channels) (row : List Bool) : Type 0 where
+pub record TellsRow (start b m : Channels) (row : List Bool) : Type 0 where
   pub split : (x : Channel) → (b x ≡ (start x || m x)) × (m x ≡ true → start x ≡ false)
-  pub range : (x : Channel) → m x ≡ true → IsChannel x
+  pub range : (x : Channel) → m x ≡ true → IsInChannelRange x
   pub size : length row ≡ 900
   pub flags : (j : ℕ) → j < 900 → slice_index_or row j false ≡ m (j / 100, j % 100)
 
@@ -27,9 +27,9 @@ pub record GroupsTell (layout : Layout) (b : Channels) (row : List Bool) : Type 
 
 -- the ledger of the closed channels b; no closed channel clashes with one that the code closed
 pub record Shows (layout : Layout) (start b m : Channels) (l : Ledger) : Type 0 where
-  pub mine : Tells start b m l.mine
+  pub mine : TellsRow start b m l.mine
   pub found_size : length l.found ≡ 900
-  pub found : (c : Channel) → IsChannel c → slice_index_or l.found (place c) false ≡ start c
+  pub found : (c : Channel) → IsInChannelRange c → slice_index_or l.found (place c) false ≡ start c
   pub groups : GroupsTell layout b l.groups
   pub apart : (x y : Channel) → m x ≡ true → b y ≡ true → IsClash layout x y → ⊥
 
@@ -44,4 +44,4 @@ abbrev pub AreSaved : Channels → List (Channels × Channels) → List (List Bo
 AreSaved start [] [] = Unit {0}
 AreSaved start [] (row ∷ rows) = ⊥
 AreSaved start (s ∷ ss) [] = ⊥
-AreSaved start (s ∷ ss) (row ∷ rows) = Tells start s.0 s.1 row × AreSaved start ss rows
+AreSaved start (s ∷ ss) (row ∷ rows) = TellsRow start s.0 s.1 row × AreSaved start ss rows

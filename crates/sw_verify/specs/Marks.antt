@@ -2,7 +2,7 @@
 use Rattle.std.specs.Prelude.{◌≡◌, ℕ, ◌+◌, ◌*◌, ◌<◌, Bool, false, ◌==◌, ◌&&◌, not, List, slice_index_or}
 use Rattle.std.specs.List.{list_any}
 use Rattle.sw_base.specs.Layout.{Channel, Layout, group_of}
-use Rattle.sw_code.specs.Range.{IsChannel}
+use Rattle.sw_code.specs.Range.{IsInChannelRange}
 use Rattle.sw_verify.specs.Channels.{same_channel, is_among}
 
 abbrev pub place : Channel → ℕ
@@ -13,7 +13,7 @@ abbrev pub Marks : {K : Type 0} → (K → ℕ) → (K → Type 0) → (K → Ch
 Marks index Within test list marks = (k : _) → Within k → slice_index_or marks (index k) false ≡ list_any (test k) list
 
 abbrev pub ChannelMarks : List Channel → List Bool → Type 0
-ChannelMarks list marks = Marks place IsChannel same_channel list marks
+ChannelMarks list marks = Marks place IsInChannelRange same_channel list marks
 
 abbrev pub in_group : Layout → ℕ → Channel → Bool
 in_group layout group x = group_of layout x == group

@@ -11,8 +11,8 @@ abbrev pub found : Snapshot → Channels
 found p = is_among p.closed
 
 -- what is closed after the first i items
-abbrev pub closed_at : Snapshot → ℕ → Channels
-closed_at p i = effect (found p) (take i (agenda p.settings))
+abbrev pub closed_after : Snapshot → ℕ → Channels
+closed_after p i = effect (found p) (take i (agenda p.settings))
 
 -- the same channels, or these and one more
 abbrev pub AtMostOneMore : Channels → Channels → Type 0

@@ -11,7 +11,7 @@ use Rattle.sw_verify.specs.declared.refusal.Refusal.{Refusal}
 use Rattle.sw_verify.specs.declared.refusal.Refusal.TheVariants.{BadNesting, BadJump}
 use Rattle.sw_verify.specs.declared.nest.Frame.{Frame}
 use Rattle.sw_verify.specs.Channels.{Channels, none, with_channel, without}
-use Rattle.sw_verify.specs.Sound.{CanClose}
+use Rattle.sw_verify.specs.Sound.{CanCloseOne}
 
 -- a counter is in use while its loop is open
 abbrev pub in_use : List Frame → ℕ → Bool
@@ -66,7 +66,7 @@ StepsRight layout (step.Set k n ∷ steps) b m ss = StepsRight layout steps b m 
 StepsRight layout (step.Wait name ∷ steps) b m ss = StepsRight layout steps b m ss
 StepsRight layout (step.Pause micros ∷ steps) b m ss = StepsRight layout steps b m ss
 StepsRight layout (step.Close c ∷ steps) b m ss =
-    CanClose layout b c × StepsRight layout steps (with_channel c b) (with_channel c m) ss
+    CanCloseOne layout b c × StepsRight layout steps (with_channel c b) (with_channel c m) ss
 StepsRight layout (step.Read ∷ steps) b m ss = StepsRight layout steps b m ss
 StepsRight layout (step.Open c ∷ steps) b m ss = (m c ≡ true) × StepsRight layout steps (without c b) (without c m) ss
 StepsRight layout (step.Loop k to ∷ steps) b m ss = LoopIsRound b m ss (StepsRight layout steps b m)

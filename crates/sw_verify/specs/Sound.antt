@@ -6,7 +6,7 @@ use Rattle.sw_trigger.specs.Counts.{reads}
 use Rattle.sw_verify.specs.Channels.{Channels, none, with_channel, without}
 
 -- c is there and open, and clashes with no closed channel
-pub record CanClose (layout : Layout) (closed : Channels) (c : Channel) : Type 0 where
+pub record CanCloseOne (layout : Layout) (closed : Channels) (c : Channel) : Type 0 where
   pub present : is_present layout c ≡ true
   pub was_open : closed c ≡ false
   pub apart : (x : Channel) → closed x ≡ true → IsClash layout c x → ⊥
@@ -17,7 +17,7 @@ abbrev pub AllRight : Layout → Channels → Channels → List Item → Type 0
 AllRight layout closed mine [] = Unit {0}
 AllRight layout closed mine (Awaits what ∷ items) = AllRight layout closed mine items
 AllRight layout closed mine (Close c ∷ items) =
-    CanClose layout closed c × AllRight layout (with_channel c closed) (with_channel c mine) items
+    CanCloseOne layout closed c × AllRight layout (with_channel c closed) (with_channel c mine) items
 AllRight layout closed mine (Open c ∷ items) =
     (mine c ≡ true) × AllRight layout (without c closed) (without c mine) items
 

@@ -6,7 +6,7 @@ use Rattle.sw_code.specs.declared.code.Step.TheVariants as step
 use Rattle.sw_verify.specs.declared.refusal.Refusal.{Refusal}
 use Rattle.sw_verify.specs.declared.refusal.Refusal.TheVariants.{NoChannel, GroupClash, LeftClosed, NotClosed}
 use Rattle.sw_verify.specs.Channels.{Channels, none, with_channel, without}
-use Rattle.sw_verify.specs.Sound.{CanClose}
+use Rattle.sw_verify.specs.Sound.{CanCloseOne}
 use Rattle.sw_verify.specs.Check.{IsBlocked}
 
 -- the channel is absent; or it is there, and is closed or of a closed channel's group
@@ -28,7 +28,7 @@ StopsBy layout r (step.Set k n ∷ steps) b m ss = StopsBy layout r steps b m ((
 StopsBy layout r (step.Wait name ∷ steps) b m ss = StopsBy layout r steps b m ss
 StopsBy layout r (step.Pause micros ∷ steps) b m ss = StopsBy layout r steps b m ss
 StopsBy layout r (step.Close c ∷ steps) b m ss =
-    IsBarred layout b c r ⊎ (CanClose layout b c × StopsBy layout r steps (with_channel c b) (with_channel c m) ss)
+    IsBarred layout b c r ⊎ (CanCloseOne layout b c × StopsBy layout r steps (with_channel c b) (with_channel c m) ss)
 StopsBy layout r (step.Read ∷ steps) b m ss = StopsBy layout r steps b m ss
 StopsBy layout r (step.Open c ∷ steps) b m ss =
     ((m c ≡ false) × (r ≡ NotClosed)) ⊎ ((m c ≡ true) × StopsBy layout r steps (without c b) (without c m) ss)

@@ -6,7 +6,7 @@ ghost use Rattle.sw_trigger.specs.Agenda.{agenda};
 ghost use Rattle.sw_trigger.specs.Counts.{reads};
 ghost use Rattle.sw_verify.specs.Sound.{effect};
 ghost use Rattle.sw_verify.specs.Check.{IsReady};
-ghost use Rattle.sw_verify.specs.Moments.{found, closed_at, AtMostOneMore};
+ghost use Rattle.sw_verify.specs.Moments.{found, closed_after, AtMostOneMore};
 
 use crate::snapshot::Snapshot;
 
@@ -19,7 +19,7 @@ pub fn ends_as_it_began(snapshot: &Snapshot)
 /// At each moment the closed channels are those that it found, and at most one more.
 pub fn closes_one_at_a_time(snapshot: &Snapshot)
     requires passed { IsReady snapshot.now }
-    ensures { (i : ℕ) → AtMostOneMore (found snapshot.now) (closed_at snapshot.now i) }
+    ensures { (i : ℕ) → AtMostOneMore (found snapshot.now) (closed_after snapshot.now i) }
 {}
 
 /// Where it found present channels closed of which no two clash, it is so at each moment: it closes no absent channel,
@@ -27,7 +27,7 @@ pub fn closes_one_at_a_time(snapshot: &Snapshot)
 pub fn never_clashes(snapshot: &Snapshot)
     requires passed { IsReady snapshot.now }
     requires began { IsExclusive snapshot.now.layout (found snapshot.now) }
-    ensures { (i : ℕ) → IsExclusive snapshot.now.layout (closed_at snapshot.now i) }
+    ensures { (i : ℕ) → IsExclusive snapshot.now.layout (closed_after snapshot.now i) }
 {}
 
 /// At no moment has it made more readings than there is room for.

@@ -1,7 +1,7 @@
 //! Which cards stand in the slots of the cage.
 
 ghost use Rattle.std.specs.Prelude.{◌≡◌, ◌↔◌, ℕ, List, Some, None, IsTrue, IfSome, IfNone};
-ghost use Rattle.sw_base.specs.Layout.{relays, meter, bay_has, bay_group, bay_is_meter, slot_at};
+ghost use Rattle.sw_base.specs.Layout.{relays, meter, contents_have, contents_group, contents_are_meter, slot_at};
 ghost use Rattle.sw_base.specs.Layout.{is_present, group_of, has_meter};
 
 use std::marker::Model;
@@ -22,13 +22,13 @@ enum Holds {
 
 impl Model for Slot {
     ghost use Rattle.std.specs.Prelude.{Option};
-    ghost use Rattle.sw_base.specs.Layout.{Bay};
+    ghost use Rattle.sw_base.specs.Layout.{SlotContents};
 
-    ghost Value = { Option Bay };
+    ghost Value = { Option SlotContents };
 
-    ghost use Rattle.sw_verify.specs.Seen.{bay_of};
+    ghost use Rattle.sw_verify.specs.Seen.{contents_of};
 
-    ghost view = { λ s. bay_of s.holds };
+    ghost view = { λ s. contents_of s.holds };
 }
 
 impl Slot {
@@ -71,7 +71,7 @@ impl Slot {
     }
 
     fn has_channel(&self, ch: u8) -> bool
-        ensures { result ≡ bay_has self.now ch }
+        ensures { result ≡ contents_have self.now ch }
     {
         match &self.holds {
             Holds::Relays(groups) => 0 < ch && usize::from(ch) <= groups.len(),
@@ -80,7 +80,7 @@ impl Slot {
     }
 
     fn group(&self, ch: u8) -> u8
-        ensures { result ≡ bay_group self.now ch }
+        ensures { result ≡ contents_group self.now ch }
     {
         match &self.holds {
             Holds::Relays(groups) => {
@@ -96,7 +96,7 @@ impl Slot {
 
     /// Whether it holds a meter.
     pub fn is_meter(&self) -> bool
-        ensures is { result ≡ bay_is_meter self.now }
+        ensures is { result ≡ contents_are_meter self.now }
         ensures meter { IsTrue result ↔ (self.now ≡ Some meter) }
     {
         match &self.holds {

@@ -4,7 +4,7 @@ ghost use Rattle.std.specs.Prelude.{◌≡◌, ◌<◌, true, false, OnOk, IfErr
 ghost use Rattle.sw_base.specs.Layout.{Channel};
 ghost use Rattle.sw_verify.specs.declared.refusal.Refusal.TheVariants.{NotClosed};
 ghost use Rattle.sw_verify.specs.Channels.{Channels, none, is_among, with_channel, without};
-ghost use Rattle.sw_verify.specs.Sound.{CanClose};
+ghost use Rattle.sw_verify.specs.Sound.{CanCloseOne};
 ghost use Rattle.sw_verify.specs.Stops.{IsBarred};
 ghost use Rattle.sw_verify.specs.Ledger.{Shows, is_taken};
 
@@ -35,7 +35,7 @@ impl Ledger {
     /// Closes a channel, where it is there, is open and shares a group with no closed one.
     pub fn close(&mut self, layout: &Layout, c: Chan) -> Result<(), Refusal>
         ensures closed { OnOk result ((start b m : Channels) → Shows layout.now start b m self.old
-            → CanClose layout.now b c × Shows layout.now start (with_channel c b) (with_channel c m) self.new) }
+            → CanCloseOne layout.now b c × Shows layout.now start (with_channel c b) (with_channel c m) self.new) }
         ensures barred { IfErr result (λ r. (start b m : Channels) → Shows layout.now start b m self.old
             → IsBarred layout.now b c r) }
     {

@@ -4,7 +4,7 @@ ghost use Rattle.std.specs.Prelude.{◌≡◌, ◌↔◌, [], true, List, Bool, 
 ghost use Rattle.sw_verify.specs.Channels.{Channels, none, is_among};
 ghost use Rattle.sw_verify.specs.Nest.{StepsRight};
 ghost use Rattle.sw_verify.specs.Stops.{StopsBy};
-ghost use Rattle.sw_verify.specs.Ledger.{Tells};
+ghost use Rattle.sw_verify.specs.Ledger.{TellsRow};
 
 use crate::layout::Layout;
 use crate::ledger::Ledger;

@@ -2,7 +2,7 @@
 
 ghost use Rattle.std.specs.Prelude.{◌≡◌, length};
 ghost use Rattle.std.specs.List.{list_all};
-ghost use Rattle.sw_code.specs.Range.{IsChannel};
+ghost use Rattle.sw_code.specs.Range.{IsInChannelRange};
 ghost use Rattle.sw_verify.specs.Marks.{place, ChannelMarks, GroupMarks, is_free};
 
 use crate::layout::Layout;
@@ -50,7 +50,7 @@ pub fn group_marks(layout: &Layout, channels: &[Chan]) -> [bool; 256]
 
 pub fn place(c: Chan) -> usize
     ensures place { result ≡ place c }
-    ensures channel { IsChannel c }
+    ensures channel { IsInChannelRange c }
 {
     usize::from(c.slot()) * 100 + usize::from(c.ch())
 }

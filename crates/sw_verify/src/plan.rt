@@ -5,7 +5,7 @@ ghost use Rattle.sw_trigger.specs.Agenda.{agenda};
 ghost use Rattle.sw_code.specs.Code.{Unfolds};
 ghost use Rattle.sw_code.specs.Compiled.{compiled};
 ghost use Rattle.sw_verify.specs.declared.refusal.Refusal.TheVariants.{NoMemory};
-ghost use Rattle.sw_verify.specs.Check.{IsReady, IsRefused};
+ghost use Rattle.sw_verify.specs.Check.{IsReady, IsRefusedScan};
 
 use crate::ready::check;
 use crate::refusal::Refusal;
@@ -42,7 +42,7 @@ impl Plan {
     pub fn make(alloc: Global, snapshot: BoxedSnapshot) -> Result<Plan, Refusal>
         ensures ready { IfOk result (λ p. IsReady snapshot) }
         ensures plan { IfOk result (λ p. p ≡ snapshot) }
-        ensures refused { IfErr result (λ r. IsRefused r snapshot) }
+        ensures refused { IfErr result (λ r. IsRefusedScan r snapshot) }
     {
         check(snapshot.get())?;
         match verified_code(alloc, snapshot.get()) {

@@ -1,7 +1,7 @@
 //! Why a scan may not begin.
 
 ghost use Rattle.std.specs.Prelude.{◌≡◌};
-ghost use Rattle.sw_verify.specs.Check.{number_of, error_of};
+ghost use Rattle.sw_verify.specs.Check.{refusal_number, error_of};
 
 use sw_base::ScpiError;
 
@@ -33,7 +33,7 @@ pub enum Refusal {
 impl Refusal {
     /// Its number, from 1.
     pub fn number(self) -> u8
-        ensures { result ≡ number_of self }
+        ensures { result ≡ refusal_number self }
     {
         match self {
             Refusal::EmptyList => 1,

@@ -10,9 +10,9 @@ use mathlib.Core.Logic.{dite}
 use native.Mathlib.Decide.{dec_le}
 use prog.Atomic.{either}
 use Rattle.atomic_table.specs.Table.{State, Me, step, Act, keeps, Valid, stepped, carried_after, Allows, Splits, Joins}
-use Rattle.sw_workers.specs.Entries.{Entry, last_pair, made_by}
-use Rattle.sw_workers.specs.Board.{pair_in, World, Known, Said, Fits, KeptIn, Kept, Nothing, first_seat, spent, reader, told_of, after_desk, new_desk}
-use Rattle.sw_workers.specs.Board.{without_desk, of_desk, with_desk, replaced, Settles, Saw, Sees, entry_of, published, Published}
+use Rattle.sw_workers.specs.Entries.{HistoryEntry, last_pair, made_by}
+use Rattle.sw_workers.specs.Board.{pair_in, World, Known, Said, KnowsTruly, KeptIn, Kept, Nothing, first_seat, spent, reader, told_known, after_desk, new_desk}
+use Rattle.sw_workers.specs.Board.{without_desk, of_desk, desk_taken_over, replaced, SettlesStep, Saw, Sees, entry_of, published, Published}
 use Rattle.sw_workers.proofs.Fronts.{prefix_self, prefix_more, prefix_shorter}
 use Rattle.sw_workers.proofs.Entries.{last_pair-more, made_by-own, made_by-other, same_word}
 use Rattle.sw_workers.proofs.BoardSeats.{Has, All, off, none_is, same_some, fits_set, fits_split, fits_join, there_too}
@@ -23,7 +23,7 @@ use Rattle.sw_workers.proofs.BoardSeats.{Has, All, off, none_is, same_some, fits
 abbrev made_world : ℕ → World
 made_world word = record { word = word; history = []; publisher = 0; made = 0; seat_of = λ d. 0 }
 
-fits_first : (p : ℕ × ℕ) (word : ℕ) → Fits (made_world word) p 0 (first_seat p)
+fits_first : (p : ℕ × ℕ) (word : ℕ) → KnowsTruly (made_world word) p 0 (first_seat p)
 fits_first p word = record {
   seen = λ l. (refl, ([], refl), ([], refl));
   publishes = λ l. (refl, refl, refl);
@@ -34,7 +34,7 @@ pub begins : (p : ℕ × ℕ) (word : ℕ) → p ≡ pair_in word → Kept p (re
 begins p word is = (made_world word, record { words = refl; word = is; fresh = λ d h. refl; fits = one })
   where
     one : All (made_world word) p (first_seat p ∷ [])
-    one zero v e = subst (Fits (made_world word) p 0) (some-injective _ _ e) (fits_first p word)
+    one zero v e = subst (KnowsTruly (made_world word) p 0) (some-injective _ _ e) (fits_first p word)
     one (suc j) v e = absurd (some-ne-none v (sym e))
 
 -- ---- read
@@ -47,14 +47,15 @@ stays x found_words is = ap (λ (ws : List ℕ). slice_set ws 0 (slice_index ws 
 abbrev looked : World → Known → Known
 looked x v = record v { seen = x.history }
 
-fits_looked : (x : World) (p : ℕ × ℕ) (id : ℕ) (v : Known) → Fits x p id v → Fits x p id (looked x v)
+fits_looked : (x : World) (p : ℕ × ℕ) (id : ℕ) (v : Known) → KnowsTruly x p id v → KnowsTruly x p id (looked x v)
 fits_looked x p id v f = record {
   seen = λ l. let h = f.seen l in (h.0, prefix_self x.history, h.2);
   publishes = λ l. let h = f.publishes l in (h.0, refl, h.2);
   desk = f.desk;
 }
 
-saw : (x : World) (p : ℕ × ℕ) (found_words : List ℕ) (views : List Known) (id : ℕ) (v : Known) → KeptIn x p found_words views → Fits x p id v → v.live ≡ true
+saw : (x : World) (p : ℕ × ℕ) (found_words : List ℕ) (views : List Known) (id : ℕ) (v : Known) → KeptIn x p found_words views → KnowsTruly x p id v
+    → v.live ≡ true
     → Saw v (slice_index found_words 0) (looked x v)
 saw x p found_words views id v k f live =
     let h = f.seen live in record {
@@ -80,15 +81,15 @@ reads p slots id me live s kept len at small =
     )
 
 -- of what was seen and what was told the one or the other is seen
-settled : Known → List Entry → Known
+settled : Known → List HistoryEntry → Known
 settled v xs = record v { seen = xs; told = [] }
 
 Settling : ℕ × ℕ → ℕ → Me Nothing Known → State Nothing Known → Type 0
 Settling p id me s = (w : Known) × (a : Act Nothing) × Valid s.homes me.1 a × Kept p (stepped s 0 (slice_index s.words 0) id me.1 w a)
-    × Settles (step 0 0 0 0 found.none) me (slice_index s.words 0) (w, carried_after me.1 a)
+    × SettlesStep (step 0 0 0 0 found.none) me (slice_index s.words 0) (w, carried_after me.1 a)
 
 settles_at : (p : ℕ × ℕ) (id : ℕ) (me : Me Nothing Known) (s : State Nothing Known) → me.0.live ≡ true → me.0.publishes ≡ false
-    → (kept : Kept p s) → Has s.views id me.0 → (xs : List Entry) → IsPrefix me.0.seen xs → IsPrefix me.0.told xs → IsPrefix xs kept.0.history
+    → (kept : Kept p s) → Has s.views id me.0 → (xs : List HistoryEntry) → IsPrefix me.0.seen xs → IsPrefix me.0.told xs → IsPrefix xs kept.0.history
     → (xs ≡ me.0.seen) ⊎ (xs ≡ me.0.told) → Settling p id me s
 unfolding settled Settling
 settles_at p id me s live quiet kept at xs one two all which =
@@ -96,7 +97,7 @@ settles_at p id me s live quiet kept at xs one two all which =
     let k = kept.1 in
     let f = k.fits id me.0 at in
     let w = settled me.0 xs in
-    let g : Fits x p id w = record {
+    let g : KnowsTruly x p id w = record {
       seen = λ l. let h = f.seen l in (h.0, all, (x.history, refl));
       publishes = λ l. absurd (off (sym quiet ∙ l));
       desk = f.desk;
@@ -113,7 +114,7 @@ either_way : (m n : ℕ) → (m ≤ n) ⊎ (n ≤ m)
 either_way m n = dite (dec_le m n) (λ le. inl le) (λ no. let lt : n < m = lt_of_not-le no in inr (omega arith))
 
 pub compares : (p : ℕ × ℕ) (slots id : ℕ) (me : Me Nothing Known) → me.0.live ≡ true → me.0.publishes ≡ false
-    → Allows (Kept p) slots id me 0 (λ n. n) (Settles (step slots 0 0 0 found.none) me)
+    → Allows (Kept p) slots id me 0 (λ n. n) (SettlesStep (step slots 0 0 0 found.none) me)
 unfolding Settling
 compares p slots id me live quiet s kept len at small =
     let a = me.0.seen in
@@ -128,11 +129,11 @@ compares p slots id me live quiet s kept len at small =
 -- ---- publish
 
 -- one more entry, and the word of its pair
-abbrev grown : World → ℕ → Entry → World
+abbrev grown : World → ℕ → HistoryEntry → World
 grown x word e = record x { word = word; history = x.history ++ e ∷ [] }
 
-others_publish : (x : World) (p : ℕ × ℕ) (new : ℕ) (e : Entry) (id j : ℕ) (u : Known) → x.seat_of e.desk ≡ id → x.publisher ≡ id → j ≢ id
-    → Fits x p j u → Fits (grown x new e) p j u
+others_publish : (x : World) (p : ℕ × ℕ) (new : ℕ) (e : HistoryEntry) (id j : ℕ) (u : Known) → x.seat_of e.desk ≡ id → x.publisher ≡ id → j ≢ id
+    → KnowsTruly x p j u → KnowsTruly (grown x new e) p j u
 others_publish x p new e id j u own seat apart f = record {
   seen = λ l. let h = f.seen l in (h.0, prefix_more u.seen x.history (e ∷ []) h.1, prefix_more u.told x.history (e ∷ []) h.2);
   publishes = λ l. absurd (apart ((f.publishes l).0 ∙ seat));
@@ -142,17 +143,17 @@ others_publish x p new e id j u own seat apart f = record {
 }
 
 mine_publishes : (x : World) (p : ℕ × ℕ) (new id d : ℕ) (v : Known) (said : Said) → v.live ≡ true → v.publishes ≡ true → v.desk ≡ Some d
-    → Fits x p id v → Fits (grown x new (entry_of v said)) p id (published v said)
+    → KnowsTruly x p id v → KnowsTruly (grown x new (entry_of v said)) p id (published v said)
 mine_publishes x p new id d v said live pub_ is f =
     let e = entry_of v said in
     let h = f.seen live in
     let q = f.publishes pub_ in
     let m = f.desk d is in
-    let more = λ (xs : List Entry). xs ++ e ∷ [] in
+    let more = λ (xs : List HistoryEntry). xs ++ e ∷ [] in
     let own = made_by-own d x.history e (ap (λ o. unwrap_or o 0) is) ∙ ap more m.2 in record {
       seen = λ l. (
         h.0,
-        subst (λ (xs : List Entry). IsPrefix (more v.seen) (more xs)) q.1 (prefix_self (more v.seen)),
+        subst (λ (xs : List HistoryEntry). IsPrefix (more v.seen) (more xs)) q.1 (prefix_self (more v.seen)),
         prefix_more v.told x.history (e ∷ []) h.2,
       );
       publishes = λ l. (q.0, ap more q.1, q.2);
@@ -211,7 +212,7 @@ copies p id v s kept at =
     let x = kept.0 in
     let k = kept.1 in
     let f = k.fits id v at in
-    let r : Fits x p (length (set s.views id v)) (reader v) = record {
+    let r : KnowsTruly x p (length (set s.views id v)) (reader v) = record {
       seen = λ l. let h = f.seen l in (h.0, h.1, (x.history, refl));
       publishes = λ l. absurd (off l);
       desk = λ d e. absurd (none_is _ d refl e);
@@ -229,7 +230,7 @@ seat_else x c d n ne = ap (λ (b : Bool). either b n (x.seat_of c)) (ne_eqb c d 
 seat_here : (x : World) (c d n : ℕ) → c ≡ d → either (c == d) n (x.seat_of c) ≡ n
 seat_here x c d n e = ap (λ (b : Bool). either b n (x.seat_of c)) (eq-eqb c d e)
 
-fits_given : (x : World) (p : ℕ × ℕ) (d n j : ℕ) (u : Known) → x.seat_of d ≢ j → Fits x p j u → Fits (given x d n) p j u
+fits_given : (x : World) (p : ℕ × ℕ) (d n j : ℕ) (u : Known) → x.seat_of d ≢ j → KnowsTruly x p j u → KnowsTruly (given x d n) p j u
 fits_given x p d n j u apart f = record {
   seen = f.seen;
   publishes = f.publishes;
@@ -240,8 +241,8 @@ fits_given x p d n j u apart f = record {
 abbrev more_desks : World → ℕ → World
 more_desks x n = record x { made = x.made + 1; seat_of = λ c. either (c == x.made) n (x.seat_of c) }
 
-fits_older : (x : World) (p : ℕ × ℕ) (n j : ℕ) (u : Known) (made : ℕ) → (u.publishes ≡ true → made ≡ x.made + 1) → Fits x p j u
-    → Fits (more_desks x n) p j (record u { made = made })
+fits_older : (x : World) (p : ℕ × ℕ) (n j : ℕ) (u : Known) (made : ℕ) → (u.publishes ≡ true → made ≡ x.made + 1) → KnowsTruly x p j u
+    → KnowsTruly (more_desks x n) p j (record u { made = made })
 fits_older x p n j u made now f = record {
   seen = f.seen;
   publishes = λ l. let h = f.publishes l in (h.0, h.1, now l);
@@ -250,8 +251,8 @@ fits_older x p n j u made now f = record {
       let lt = h.1 in (seat_else x c x.made n (λ (same : c ≡ x.made). absurd (omega arith)) ∙ h.0, (omega arith), h.2);
 }
 
-fits_new : (x : World) (p : ℕ × ℕ) (found_words : List ℕ) (views : List Known) (id n : ℕ) (v : Known) → KeptIn x p found_words views → Fits x p id v
-    → v.publishes ≡ true → Fits (more_desks x n) p n (new_desk v)
+fits_new : (x : World) (p : ℕ × ℕ) (found_words : List ℕ) (views : List Known) (id n : ℕ) (v : Known) → KeptIn x p found_words views → KnowsTruly x p id v
+    → v.publishes ≡ true → KnowsTruly (more_desks x n) p n (new_desk v)
 fits_new x p found_words views id n v k f pub_ = record {
   seen = λ l. let h = f.seen l in (h.0, h.1, (x.history, refl));
   publishes = λ l. absurd (off l);
@@ -283,8 +284,8 @@ rides_off p id d v is s kept at =
     let f = k.fits id v at in
     let n : ℕ = length (set s.views id (without_desk v)) in
     let y : World = given x d n in
-    let l : Fits y p id (without_desk v) = record { seen = f.seen; publishes = f.publishes; desk = λ c e. absurd (none_is _ c refl e) } in
-    let r : Fits y p n (of_desk v) = record {
+    let l : KnowsTruly y p id (without_desk v) = record { seen = f.seen; publishes = f.publishes; desk = λ c e. absurd (none_is _ c refl e) } in
+    let r : KnowsTruly y p n (of_desk v) = record {
       seen = λ l. let h = f.seen l in (h.0, h.1, (x.history, refl));
       publishes = λ l. absurd (off l);
       desk = λ c there. let h = f.desk c there in (seat_here x c d n (sym (same_some d c (sym is ∙ there))), h.1, h.2);
@@ -297,23 +298,23 @@ rides_off p id d v is s kept at =
 -- ---- join
 
 -- the seat is told what the other had seen
-pub informs : (p : ℕ × ℕ) (id : ℕ) (v : Known) (other : ℕ) (w : Known) → w.live ≡ true → Joins (Kept p) id v other w (told_of v w) spent
+pub informs : (p : ℕ × ℕ) (id : ℕ) (v : Known) (other : ℕ) (w : Known) → w.live ≡ true → Joins (Kept p) id v other w (told_known v w) spent
 informs p id v other w live s kept at apart there =
     let x = kept.0 in
     let k = kept.1 in
     let f = k.fits id v at in
-    let g = k.fits other w (there_too s.views id other (told_of v w) w apart there) in
-    let b : Fits x p id (told_of v w) = record {
+    let g = k.fits other w (there_too s.views id other (told_known v w) w apart there) in
+    let b : KnowsTruly x p id (told_known v w) = record {
       seen = λ l. let h = f.seen l in (h.0, h.1, (g.seen live).1);
       publishes = f.publishes;
       desk = f.desk;
     } in
-    let all = fits_join x p s.views id other (told_of v w) (λ j u ne ne' e. k.fits j u e) b in
+    let all = fits_join x p s.views id other (told_known v w) (λ j u ne ne' e. k.fits j u e) b in
     (x, record { words = k.words; word = k.word; fresh = k.fresh; fits = all })
 
 -- what a seat with another's desk knows besides the desk is so
 Rests : ℕ × ℕ → ℕ → Known → ℕ → Known → Known → Type 0
-Rests p id v other w both = (x : World) → Fits x p id v → Fits x p other w
+Rests p id v other w both = (x : World) → KnowsTruly x p id v → KnowsTruly x p other w
     → (both.live ≡ true → (both.opening ≡ p) × IsPrefix both.seen x.history × IsPrefix both.told x.history)
     × (both.publishes ≡ true → (id ≡ x.publisher) × (both.seen ≡ x.history) × (both.made ≡ x.made))
 
@@ -327,7 +328,7 @@ comes p id d v other w both is desk mine rest s kept at apart there =
     let f = k.fits id v at in
     let g = k.fits other w (there_too s.views id other both w apart there) in
     let y : World = given x d id in
-    let b : Fits y p id both = record {
+    let b : KnowsTruly y p id both = record {
       seen = (rest x f g).0;
       publishes = (rest x f g).1;
       desk = λ c e. let h = g.desk c (sym desk ∙ e) in (seat_here x c d id (sym (same_some d c (sym is ∙ (sym desk ∙ e)))), h.1, h.2 ∙ sym mine);
@@ -338,9 +339,9 @@ comes p id d v other w both is desk mine rest s kept at apart there =
     let all = fits_join y p s.views id other both others b in (y, record { words = k.words; word = k.word; fresh = k.fresh; fits = all })
 
 pub rides_on : (p : ℕ × ℕ) (id d : ℕ) (v : Known) (other : ℕ) (w : Known) → w.desk ≡ Some d → w.live ≡ true
-    → Joins (Kept p) id v other w (with_desk v w) spent
+    → Joins (Kept p) id v other w (desk_taken_over v w) spent
 unfolding Rests
-rides_on p id d v other w is live = comes p id d v other w (with_desk v w) is refl refl
+rides_on p id d v other w is live = comes p id d v other w (desk_taken_over v w) is refl refl
     (λ x f g. ((λ l. let h = f.seen l in (h.0, h.1, (g.seen live).1)), f.publishes))
 
 pub rides_back : (p : ℕ × ℕ) (id d : ℕ) (v : Known) (other : ℕ) (w : Known) → w.desk ≡ Some d → Joins (Kept p) id v other w (replaced v w) spent

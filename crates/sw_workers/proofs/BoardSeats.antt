@@ -5,21 +5,21 @@ use mathlib.Core.Option as found
 use mathlib.Core.Option.{some-injective, some-ne-none}
 use lib.ListN.{get_elem?}
 use Rattle.atomic_table.proofs.Lists.{at_set}
-use Rattle.sw_workers.specs.Board.{World, Known, Fits, spent}
+use Rattle.sw_workers.specs.Board.{World, Known, KnowsTruly, spent}
 
 -- the seat j has the view u
 abbrev pub Has : List Known → ℕ → Known → Type 0
 Has views j u = get_elem? views j ≡ found.some u
 
 abbrev pub All : World → ℕ × ℕ → List Known → Type 0
-All x p views = (j : ℕ) (u : Known) → Has views j u → Fits x p j u
+All x p views = (j : ℕ) (u : Known) → Has views j u → KnowsTruly x p j u
 
 -- all but one, or two
 abbrev pub AllBut : World → ℕ × ℕ → List Known → ℕ → Type 0
-AllBut x p views id = (j : ℕ) (u : Known) → j ≢ id → Has views j u → Fits x p j u
+AllBut x p views id = (j : ℕ) (u : Known) → j ≢ id → Has views j u → KnowsTruly x p j u
 
 abbrev pub AllButBoth : World → ℕ × ℕ → List Known → ℕ → ℕ → Type 0
-AllButBoth x p views id other = (j : ℕ) (u : Known) → j ≢ id → j ≢ other → Has views j u → Fits x p j u
+AllButBoth x p views id other = (j : ℕ) (u : Known) → j ≢ id → j ≢ other → Has views j u → KnowsTruly x p j u
 
 pub off : false ≡ true → ⊥
 off e = true≢false (sym e)
@@ -30,11 +30,11 @@ none_is o d n e = cc
 pub same_some : (c d : ℕ) → Some c ≡ Some d → c ≡ d
 same_some c d e = cc
 
-moved : (x : World) (p : ℕ × ℕ) (i j : ℕ) (v u : Known) → j ≡ i → v ≡ u → Fits x p i v → Fits x p j u
-moved x p i j v u at is fits = subst (λ (y : ℕ × Known). Fits x p y.0 y.1) (λ k. (sym at k, is k)) fits
+moved : (x : World) (p : ℕ × ℕ) (i j : ℕ) (v u : Known) → j ≡ i → v ≡ u → KnowsTruly x p i v → KnowsTruly x p j u
+moved x p i j v u at is fits = subst (λ (y : ℕ × Known). KnowsTruly x p y.0 y.1) (λ k. (sym at k, is k)) fits
 
 -- one view changes
-pub fits_set : (x : World) (p : ℕ × ℕ) (views : List Known) (id : ℕ) (w : Known) → AllBut x p views id → Fits x p id w → All x p (set views id w)
+pub fits_set : (x : World) (p : ℕ × ℕ) (views : List Known) (id : ℕ) (w : Known) → AllBut x p views id → KnowsTruly x p id w → All x p (set views id w)
 fits_set x p views id w others mine j u e =
     ⊎_elim (λ (t : (j ≡ id) × (w ≡ u)). moved x p id j w u t.0 t.1 mine) (λ (t : (j ≢ id) × Has views j u). others j u t.0 t.1) (at_set views id j w u e)
 
@@ -49,7 +49,7 @@ at_end (x ∷ xs) a b (suc j) e =
     (λ (t : (j ≡ length xs) × (a ≡ b)). inr (ap suc t.0, t.1))
     (at_end xs a b j e)
 
-fits_more : (x : World) (p : ℕ × ℕ) (views : List Known) (w : Known) → AllBut x p views (length views) → Fits x p (length views) w
+fits_more : (x : World) (p : ℕ × ℕ) (views : List Known) (w : Known) → AllBut x p views (length views) → KnowsTruly x p (length views) w
     → All x p (views ++ w ∷ [])
 fits_more x p views w others mine j u e =
     ⊎_elim
@@ -58,16 +58,16 @@ fits_more x p views w others mine j u e =
     (at_end views w u j e)
 
 -- a seat is split
-pub fits_split : (x : World) (p : ℕ × ℕ) (views : List Known) (id : ℕ) (left right : Known) → AllBut x p views id → Fits x p id left
-    → Fits x p (length (set views id left)) right → All x p (set views id left ++ right ∷ [])
+pub fits_split : (x : World) (p : ℕ × ℕ) (views : List Known) (id : ℕ) (left right : Known) → AllBut x p views id → KnowsTruly x p id left
+    → KnowsTruly x p (length (set views id left)) right → All x p (set views id left ++ right ∷ [])
 fits_split x p views id left right others l r =
     fits_more x p (set views id left) right (λ j u ne e. fits_set x p views id left others l j u e) r
 
-fits_spent : (x : World) (p : ℕ × ℕ) (j : ℕ) → Fits x p j spent
+fits_spent : (x : World) (p : ℕ × ℕ) (j : ℕ) → KnowsTruly x p j spent
 fits_spent x p j = record { seen = λ l. absurd (off l); publishes = λ l. absurd (off l); desk = λ d e. absurd (none_is _ d refl e) }
 
 -- a seat is joined to another
-pub fits_join : (x : World) (p : ℕ × ℕ) (views : List Known) (id other : ℕ) (both : Known) → AllButBoth x p views id other → Fits x p id both
+pub fits_join : (x : World) (p : ℕ × ℕ) (views : List Known) (id other : ℕ) (both : Known) → AllButBoth x p views id other → KnowsTruly x p id both
     → All x p (set (set views id both) other spent)
 fits_join x p views id other both others mine =
     fits_set x p (set views id both) other spent

@@ -2,14 +2,14 @@
 use Rattle.std.proofs.Common.{◌≡◌, ◌+◌, List, [], ◌∷◌, ◌++◌, Option, Some, refl, sym, subst, arith, append_assoc}
 use Rattle.std.proofs.lemmas.List.{append-nil}
 use Rattle.sw_core.specs.Panel.{Panel}
-use Rattle.sw_core.specs.View.{WorkView}
+use Rattle.sw_core.specs.Seen.{WorkSeen}
 use Rattle.sw_workers.specs.Board.{Known}
 use Rattle.sw_workers.specs.Held.{AtDesk}
 use Rattle.sw_workers.specs.Shares.{is_counted, one_if}
-use Rattle.sw_workers.specs.Work.{Made, Carries, Adds, Brings, Ends, Learns, events_of}
+use Rattle.sw_workers.specs.Work.{MadeAsk, Carries, Adds, Brings, EndsPiece, Learns, events_of}
 
 -- what the mainframe was told
-abbrev pub made_of : {start : Panel} {ask : _} {old : AtDesk} {work : Option WorkView} {new : AtDesk} → Brings start ask old work new → Made
+abbrev pub made_of : {start : Panel} {ask : _} {old : AtDesk} {work : Option WorkSeen} {new : AtDesk} → Brings start ask old work new → MadeAsk
 made_of {start} {ask} {old} {work} {new} told = record {
   before = told.asks.before;
   ask = ask;
@@ -21,49 +21,49 @@ made_of {start} {ask} {old} {work} {new} told = record {
 }
 
 -- the work so far was carried out, and this is left
-pub record CarriesOn (start : Panel) (work left : Option WorkView) (old new : AtDesk) : Type 0 where
-  pub made : List Made
-  pub on : (more : List Made) → Carries start left more → Carries start work (made ++ more)
+pub record CarriesOn (start : Panel) (work left : Option WorkSeen) (old new : AtDesk) : Type 0 where
+  pub made : List MadeAsk
+  pub on : (more : List MadeAsk) → Carries start left more → Carries start work (made ++ more)
   pub counts : new.amount ≡ old.amount + events_of made
   pub learns : Learns old.seat made new.seat
 
-pub carries-start : (start : Panel) (work : Option WorkView) (old : AtDesk) → CarriesOn start work work old old
+pub carries-start : (start : Panel) (work : Option WorkSeen) (old : AtDesk) → CarriesOn start work work old old
 carries-start start work old = record { made = []; on = λ more c. c; counts = omega arith; learns = refl }
 
-nothing : (start : Panel) (left : Option WorkView) → Carries start left []
+nothing : (start : Panel) (left : Option WorkSeen) → Carries start left []
 nothing start left = tt
 
-pub carries-done : (start : Panel) (work left : Option WorkView) (old new : AtDesk) → CarriesOn start work left old new → Adds start work old new
+pub carries-done : (start : Panel) (work left : Option WorkSeen) (old new : AtDesk) → CarriesOn start work left old new → Adds start work old new
 carries-done start work left old new h = record {
   made = h.made;
-  carries = subst (λ (m : List Made). Carries start work m) (append-nil h.made) (h.on [] (nothing start left));
+  carries = subst (λ (m : List MadeAsk). Carries start work m) (append-nil h.made) (h.on [] (nothing start left));
   counts = h.counts;
   learns = h.learns;
 }
 
-events-snoc : (made : List Made) (m : Made) → events_of (made ++ m ∷ []) ≡ events_of made + one_if (is_counted m.before.events m.answer)
+events-snoc : (made : List MadeAsk) (m : MadeAsk) → events_of (made ++ m ∷ []) ≡ events_of made + one_if (is_counted m.before.events m.answer)
 events-snoc [] m = omega arith
 events-snoc (x ∷ made) m = omega (arith, events-snoc made m)
 
 -- what is learned by the one and then by the other
-pub learns-append : (u v w : Known) (made more : List Made) → Learns u made v → Learns v more w → Learns u (made ++ more) w
+pub learns-append : (u v w : Known) (made more : List MadeAsk) → Learns u made v → Learns v more w → Learns u (made ++ more) w
 learns-append u v w [] more a b = subst (λ (x : Known). Learns x more w) a b
 learns-append u v w (m ∷ made) more a b = (a.0, learns-append m.knows v w made more a.1 b)
 
-carried : (start : Panel) (piece : WorkView) (next : Option WorkView) (mid new : AtDesk) (ends : Ends start piece mid next new) (more : List Made)
+carried : (start : Panel) (piece : WorkSeen) (next : Option WorkSeen) (mid new : AtDesk) (ends : EndsPiece start piece mid next new) (more : List MadeAsk)
     → Carries start next more → Carries start (Some piece) (made_of ends.told ∷ more)
 carried start piece next mid new ends more c =
-    (ends.tells, (ends.told.asks.step, ends.told.asks.history), subst (λ (o : Option WorkView). Carries start o more) ends.told.brings_is c)
+    (ends.tells, (ends.told.asks.step, ends.told.asks.history), subst (λ (o : Option WorkSeen). Carries start o more) ends.told.brings_is c)
 
-pub carries-more : (start : Panel) (work left next : Option WorkView) (piece : WorkView) (old mid new : AtDesk) → CarriesOn start work left old mid
-    → left ≡ Some piece → Ends start piece mid next new → CarriesOn start work next old new
+pub carries-more : (start : Panel) (work left next : Option WorkSeen) (piece : WorkSeen) (old mid new : AtDesk) → CarriesOn start work left old mid
+    → left ≡ Some piece → EndsPiece start piece mid next new → CarriesOn start work next old new
 carries-more start work left next piece old mid new h is ends =
-    let m : Made = made_of ends.told in record {
+    let m : MadeAsk = made_of ends.told in record {
       made = h.made ++ m ∷ [];
       on = λ more c. subst
-          (λ (u : List Made). Carries start work u)
+          (λ (u : List MadeAsk). Carries start work u)
           (sym (append_assoc h.made (m ∷ []) more))
-          (h.on (m ∷ more) (subst (λ (o : Option WorkView). Carries start o (m ∷ more)) (sym is) (carried start piece next mid new ends more c)));
+          (h.on (m ∷ more) (subst (λ (o : Option WorkSeen). Carries start o (m ∷ more)) (sym is) (carried start piece next mid new ends more c)));
       counts = omega (arith, ends.told.asks.counts, h.counts, events-snoc h.made m);
       learns = learns-append old.seat mid.seat new.seat h.made (m ∷ []) h.learns (refl, refl);
     }

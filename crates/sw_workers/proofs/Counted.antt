@@ -12,7 +12,7 @@ use Rattle.sw_base.specs.declared.error.ScpiError.TheVariants.{UndefinedHeader, 
 use Rattle.sw_base.specs.declared.error.ScpiError.TheVariants.{SettingsConflict, HardwareError}
 use Rattle.sw_base.specs.declared.terms.LayerName.TheVariants as layer_name
 use Rattle.sw_lex.specs.declared.command.Command.{Command}
-use Rattle.sw_trigger.specs.Settings.{Setup}
+use Rattle.sw_trigger.specs.Settings.{SettingsSeen}
 use Rattle.sw_status.specs.StatusModel.{StatusSeen}
 use Rattle.sw_verify.specs.declared.snapshot.Snapshot.{Snapshot}
 use Rattle.sw_cage.specs.Work.{FinishedSeen}
@@ -34,8 +34,8 @@ use Rattle.sw_core.specs.Step.{StepClose, StepOpen, StepFlags, StepText, StepDon
 use Rattle.sw_core.specs.Step.{Happens, StepEffect, StepHeld, StepAction, StepSnapshot, StepStart, IsServed, StepJoined, StepAdmitted}
 use Rattle.sw_core.specs.Step.{StepJoin, StepAttach, StepNew, StepSession, Returns, StepFinished, Acts, acts_unnumbered, IsWorn, IsEvent, IsUnnumbered, Step}
 use Rattle.sw_core.specs.Step.{Admission, Dropped, ShutOut, Admitted, admission}
-use Rattle.sw_core.specs.View.{WorkView, AskView, AskSession, AskInstall, AskEject, AskExternal, AskElapsed, AskFinished, AnswerView, SaysSession}
-use Rattle.sw_core.specs.View.{SaysInstalled, SaysNotInstalled, SaysEjected, SaysNotEjected, SaysTaken, SaysMissed, SaysFailed, SaysBack, SaysWorn}
+use Rattle.sw_core.specs.Seen.{WorkSeen, AskSeen, AskSession, AskInstall, AskEject, AskExternal, AskElapsed, AskFinished, AnswerSeen, SaysSession}
+use Rattle.sw_core.specs.Seen.{SaysInstalled, SaysNotInstalled, SaysEjected, SaysNotEjected, SaysTaken, SaysMissed, SaysFailed, SaysBack, SaysWorn}
 use Rattle.sw_workers.specs.Shares.{is_counted, one_if}
 
 -- ---- commands
@@ -149,7 +149,7 @@ same_done : (p after : Panel) (f : Bool) (a : SessionAnswer) (q : Panel) → IsS
 same_done p after f (Done None) q s h = same_as p q after h.1 s
 same_done p after f a q s h = absurd h
 
-same_setting : (p : Panel) (Fits : Type 0) (error : ScpiError) (setup : Setup) (f : Bool) (a : SessionAnswer) (q : Panel)
+same_setting : (p : Panel) (Fits : Type 0) (error : ScpiError) (setup : SettingsSeen) (f : Bool) (a : SessionAnswer) (q : Panel)
     → StepSetting p Fits error setup f a q → IsSame p q
 same_setting p Fits error setup f (Done None) q h = ap (λ (x : Panel). x.events) h.2
 same_setting p Fits error setup f (Refused e) q h = ap (λ (x : Panel). x.events) h.3
@@ -188,26 +188,26 @@ same_happens p happening f (SaysJob job) q h = ap (λ (x : Panel). x.events) h.2
 same_happens p happening f SaysEnded q h = ap (λ (x : Panel). x.events) h.2.1
 same_happens p happening f SaysFault q h = ap (λ (x : Panel). x.events) h.2.1
 
-same_effect : (d : Effect) (p : Panel) (f : Bool) (a : SessionAnswer) (w : Option WorkView) (q : Panel) → IsSameEffect p d → StepEffect d p f a w q
+same_effect : (d : Effect) (p : Panel) (f : Bool) (a : SessionAnswer) (w : Option WorkSeen) (q : Panel) → IsSameEffect p d → StepEffect d p f a w q
     → IsSame p q
 same_effect (Offers happening error) p f a w q n h = same_happens p happening f h.told q h.happens
 same_effect d p f a w q n h = same_alone d p f a q n h.0
 
-same_held : (p : Panel) (ask : SessionAsk) (f : Bool) (a : SessionAnswer) (w : Option WorkView) (q : Panel) → StepHeld p ask f a w q → IsSame p q
+same_held : (p : Panel) (ask : SessionAsk) (f : Bool) (a : SessionAnswer) (w : Option WorkSeen) (q : Panel) → StepHeld p ask f a w q → IsSame p q
 same_held p ask f (Hold back) None q h = ap (λ (x : Panel). x.events) h.2
 same_held p ask f a w q h = absurd h
 
-same_barred : (b : Bool) (d : Effect) (p : Panel) (f : Bool) (a : SessionAnswer) (w : Option WorkView) (q : Panel) → IsSameEffect p d
+same_barred : (b : Bool) (d : Effect) (p : Panel) (f : Bool) (a : SessionAnswer) (w : Option WorkSeen) (q : Panel) → IsSameEffect p d
     → MatchBool b (StepRefused p SettingsConflict f a q × (w ≡ None)) (StepEffect d p f a w q) → IsSame p q
 same_barred true d p f a w q n h = same_refused p SettingsConflict f a q h.0
 same_barred false d p f a w q n h = same_effect d p f a w q n h
 
-same_waiting : (b : Bool) (d : Effect) (p : Panel) (ask : SessionAsk) (f : Bool) (a : SessionAnswer) (w : Option WorkView) (q : Panel) → IsSameEffect p d
+same_waiting : (b : Bool) (d : Effect) (p : Panel) (ask : SessionAsk) (f : Bool) (a : SessionAnswer) (w : Option WorkSeen) (q : Panel) → IsSameEffect p d
     → MatchBool b (StepHeld p ask f a w q) (StepEffect d p f a w q) → IsSame p q
 same_waiting true d p ask f a w q n h = same_held p ask f a w q h
 same_waiting false d p ask f a w q n h = same_effect d p f a w q n h
 
-same_action : (x : Action) (p : Panel) (ask : SessionAsk) (f : Bool) (a : SessionAnswer) (w : Option WorkView) (q : Panel) → IsSameAction p x
+same_action : (x : Action) (p : Panel) (ask : SessionAsk) (f : Bool) (a : SessionAnswer) (w : Option WorkSeen) (q : Panel) → IsSameAction p x
     → StepAction x p ask f a w q → IsSame p q
 same_action (AtOnce d) p ask f a w q n h = same_effect d p f a w q n h
 same_action (BetweenScans d) p ask f a w q n h = same_barred (is_running p) d p f a w q n h
@@ -221,7 +221,7 @@ same_snapshot p f (Refused OutOfMemory) q h = ap (λ (x : Panel). x.events) h.2
 same_snapshot p f (Refused e) q h = ap (λ (x : Panel). x.events) h.2
 same_snapshot p f a q h = absurd h
 
-same_start : (p : Panel) (plan : Snapshot) (f : Bool) (a : SessionAnswer) (w : Option WorkView) (q : Panel) → StepStart p plan f a w q → IsSame p q
+same_start : (p : Panel) (plan : Snapshot) (f : Bool) (a : SessionAnswer) (w : Option WorkSeen) (q : Panel) → StepStart p plan f a w q → IsSame p q
 same_start p plan f (Done None) w q h = ap (λ (x : Panel). x.events) h.starts.4
 same_start p plan f (Refused HardwareError) w q h = ap (λ (x : Panel). x.events) h.starts.4
 same_start p plan f (Refused OutOfMemory) None q h = ap (λ (x : Panel). x.events) h.3
@@ -232,7 +232,7 @@ same_start p plan f a w q h = absurd h
 same_served : (p : Panel) (ask : SessionAsk) (f : Bool) (a : SessionAnswer) (q : Panel) → IsServed p ask f a q → IsSame p q
 same_served p ask f a q h = ap (λ (x : Panel). x.events) h.after
 
-same_joined : (p : Panel) (ask : SessionAsk) (f : Bool) (a : SessionAnswer) (w : Option WorkView) (q : Panel) → StepJoined p ask f a w q → IsSame p q
+same_joined : (p : Panel) (ask : SessionAsk) (f : Bool) (a : SessionAnswer) (w : Option WorkSeen) (q : Panel) → StepJoined p ask f a w q → IsSame p q
 same_joined p (Ask.Fault sid e) f (Done None) None q h = ap (λ (x : Panel). x.events) h.1
 same_joined p (Ask.Fault sid e) f a None q h = same_served p (Ask.Fault sid e) f a q h
 same_joined p (Ask.Unit sid command available) f a w q h =
@@ -253,29 +253,29 @@ same_joined p Ask.Join f a None q h = same_served p Ask.Join f a q h
 same_joined p (Ask.Attach number) f a None q h = same_served p (Ask.Attach number) f a q h
 same_joined p ask f a w q h = absurd h
 
-same_admitted : (now : Admission) (p : Panel) (ask : SessionAsk) (f : Bool) (a : SessionAnswer) (w : Option WorkView) (q : Panel)
+same_admitted : (now : Admission) (p : Panel) (ask : SessionAsk) (f : Bool) (a : SessionAnswer) (w : Option WorkSeen) (q : Panel)
     → StepAdmitted now p ask f a w q → IsSame p q
 same_admitted Dropped p ask f Broken None q h = ap (λ (x : Panel). x.events) h.1
 same_admitted Dropped p ask f a w q h = absurd h
 same_admitted ShutOut p ask f a w q h = same_held p ask f a w q h
 same_admitted Admitted p ask f a w q h = same_joined p ask f a w q h
 
-same_join : (p : Panel) (f : Bool) (a : SessionAnswer) (w : Option WorkView) (q : Panel) → StepJoin p f a w q → IsSame p q
+same_join : (p : Panel) (f : Bool) (a : SessionAnswer) (w : Option WorkSeen) (q : Panel) → StepJoin p f a w q → IsSame p q
 same_join p f (Joined sid) None q h = ap (λ (x : Panel). x.events) h.3
 same_join p f Full None q h = ap (λ (x : Panel). x.events) h.2
 same_join p f a w q h = absurd h
 
-same_attach : (p : Panel) (number : ℕ) (f : Bool) (a : SessionAnswer) (w : Option WorkView) (q : Panel) → StepAttach p number f a w q → IsSame p q
+same_attach : (p : Panel) (number : ℕ) (f : Bool) (a : SessionAnswer) (w : Option WorkSeen) (q : Panel) → StepAttach p number f a w q → IsSame p q
 same_attach p number f (Joined sid) None q h = ap (λ (x : Panel). x.events) h.2
 same_attach p number f Stranger None q h = ap (λ (x : Panel). x.events) h.2
 same_attach p number f a w q h = absurd h
 
-same_new : (p : Panel) (ask : SessionAsk) (f : Bool) (a : SessionAnswer) (w : Option WorkView) (q : Panel) → StepNew p ask f a w q → IsSame p q
+same_new : (p : Panel) (ask : SessionAsk) (f : Bool) (a : SessionAnswer) (w : Option WorkSeen) (q : Panel) → StepNew p ask f a w q → IsSame p q
 same_new p Ask.Join f a w q h = same_join p f a w q h
 same_new p (Ask.Attach number) f a w q h = same_attach p number f a w q h
 same_new p ask f a w q h = absurd h
 
-same_session : (o : Option Sid) (p : Panel) (ask : SessionAsk) (f : Bool) (a : SessionAnswer) (w : Option WorkView) (q : Panel)
+same_session : (o : Option Sid) (p : Panel) (ask : SessionAsk) (f : Bool) (a : SessionAnswer) (w : Option WorkSeen) (q : Panel)
     → StepSession o p ask f a w q → IsSame p q
 same_session None p ask f a w q h = same_new p ask f a w q h
 same_session (Some sid) p ask f Stranger None q h = ap (λ (x : Panel). x.events) h.2
@@ -291,11 +291,11 @@ same_returns p done f (SaysJob job) q h = ap (λ (x : Panel). x.events) h.2.1
 same_returns p done f SaysEnded q h = ap (λ (x : Panel). x.events) h.2.1
 same_returns p done f SaysFault q h = ap (λ (x : Panel). x.events) h.2.1
 
-same_finished : (p : Panel) (done : FinishedSeen) (f : Bool) (a : AnswerView) (q : Panel) → StepFinished p done f a q → IsSame p q
+same_finished : (p : Panel) (done : FinishedSeen) (f : Bool) (a : AnswerSeen) (q : Panel) → StepFinished p done f a q → IsSame p q
 same_finished p done f SaysBack q h = ap (λ (x : Panel). x.events) h.2
 same_finished p done f a q h = same_returns p done f h.told q h.returns
 
-same_acts : (p : Panel) (ask : AskView) (f : Bool) (a : AnswerView) (q : Panel) → Acts p ask f a q → IsSame p q
+same_acts : (p : Panel) (ask : AskSeen) (f : Bool) (a : AnswerSeen) (q : Panel) → Acts p ask f a q → IsSame p q
 same_acts p (AskSession ask) f (SaysSession a w) q h = same_session (asker_of ask) p ask f a w q h
 same_acts p (AskInstall slot card) f SaysInstalled q h = ap (λ (x : Panel). x.events) h.4
 same_acts p (AskInstall slot card) f (SaysNotInstalled refusal) q h = ap (λ (x : Panel). x.events) h.2
@@ -319,7 +319,7 @@ ended_counted n k = counted_end n (n == last_number) k refl
 none_counted : (n : ℕ) → n ≡ n + 0
 none_counted n = omega arith
 
-session_counted : (a : SessionAnswer) (w : Option WorkView) (p : Panel) → p.events ≤ last_number
+session_counted : (a : SessionAnswer) (w : Option WorkSeen) (p : Panel) → p.events ≤ last_number
     → (session_concluded a p).events ≡ p.events + one_if (is_counted p.events (SaysSession a w))
 session_counted Stranger w p k = none_counted p.events
 session_counted Broken w p k = none_counted p.events
@@ -335,7 +335,7 @@ session_counted (answers.Max n) w p k = ended_counted p.events k
 session_counted (answers.Lock code) w p k = ended_counted p.events k
 session_counted (answers.Info exclusive n) w p k = ended_counted p.events k
 
-concluded_counted : (a : AnswerView) (p : Panel) → p.events ≤ last_number → (concluded a p).events ≡ p.events + one_if (is_counted p.events a)
+concluded_counted : (a : AnswerSeen) (p : Panel) → p.events ≤ last_number → (concluded a p).events ≡ p.events + one_if (is_counted p.events a)
 concluded_counted (SaysSession a w) p k = session_counted a w p k
 concluded_counted SaysInstalled p k = ended_counted p.events k
 concluded_counted (SaysNotInstalled refusal) p k = ended_counted p.events k
@@ -347,7 +347,7 @@ concluded_counted SaysFailed p k = ended_counted p.events k
 concluded_counted SaysBack p k = none_counted p.events
 concluded_counted SaysWorn p k = none_counted p.events
 
-worn_uncounted : (ask : AskView) (a : AnswerView) (n : ℕ) → IsWorn ask a → n ≡ n + one_if (is_counted n a)
+worn_uncounted : (ask : AskSeen) (a : AnswerSeen) (n : ℕ) → IsWorn ask a → n ≡ n + one_if (is_counted n a)
 worn_uncounted (AskSession ask) (SaysSession (Worn back) None) n h = none_counted n
 worn_uncounted (AskInstall slot card) SaysWorn n h = none_counted n
 worn_uncounted (AskEject slot) SaysWorn n h = none_counted n
@@ -356,7 +356,7 @@ worn_uncounted (AskElapsed ticket) SaysWorn n h = none_counted n
 worn_uncounted (AskFinished done) SaysWorn n h = none_counted n
 worn_uncounted ask a n h = absurd h
 
-either_counted : (b : Bool) (p : Panel) (ask : AskView) (f : Bool) (a : AnswerView) (q : Panel) → p.events ≤ last_number
+either_counted : (b : Bool) (p : Panel) (ask : AskSeen) (f : Bool) (a : AnswerSeen) (q : Panel) → p.events ≤ last_number
     → MatchBool b (IsUnnumbered p ask f a q) (IsEvent p ask f a q) → q.events ≡ p.events + one_if (is_counted p.events a)
 either_counted true p ask f a q k h = ap (λ (x : Panel). x.events) h.same ∙ worn_uncounted ask a p.events h.worn
 either_counted false p ask f a q k h =
@@ -366,7 +366,7 @@ either_counted false p ask f a q k h =
     (concluded_counted a h.done (subst (λ (n : ℕ). n ≤ last_number) (sym s) k))
 
 -- a step leads to the next number where its event is numbered, and else to the same
-pub step_counted : (p : Panel) (ask : AskView) (f : Bool) (a : AnswerView) (q : Panel) → p.events ≤ last_number → Step p ask f a q
+pub step_counted : (p : Panel) (ask : AskSeen) (f : Bool) (a : AnswerSeen) (q : Panel) → p.events ≤ last_number → Step p ask f a q
     → q.events ≡ p.events + one_if (is_counted p.events a)
 step_counted p ask f a q k h = either_counted ((p.events == last_number) && not (acts_unnumbered ask)) p ask f a q k h
 

@@ -10,7 +10,7 @@ use Rattle.sw_cage.proofs.SlotChangeLemmas.{all_open_closed}
 use Rattle.sw_core.specs.declared.ask.Answer.{Answer}
 use Rattle.sw_core.specs.Panel.{Panel}
 use Rattle.sw_core.specs.Event.{last_number}
-use Rattle.sw_core.specs.View.{AskEject, SaysEjected, answer_view}
+use Rattle.sw_core.specs.Seen.{AskEject, SaysEjected, answer_seen}
 use Rattle.sw_core.specs.Step.{Step, IsUnnumbered, IsEvent, acts_unnumbered}
 use Rattle.sw_session.proofs.Nearer.{numbered}
 use Rattle.sw_workers.specs.Closing.{IsOpen}
@@ -30,9 +30,9 @@ told-open : (start : Panel) (slot : ℕ) (card : Account) (old new : AtDesk) →
 told-open start slot card old new a = ejected a.before slot a.failed card a.after a.step
 
 pub comes-open : {R M : _} (start : Panel) (slot : ℕ) (whole : Answer R M) (card : _) (old new : AtDesk) → whole ≡ Answer.Ejected card
-    → AsksOnce start (AskEject slot) (answer_view whole) old new → IsOpen card.1
+    → AsksOnce start (AskEject slot) (answer_seen whole) old new → IsOpen card.1
 comes-open {R} {M} start slot whole card old new is asks =
-    told-open start slot card.1 old new (subst (λ (a : Answer R M). AsksOnce start (AskEject slot) (answer_view a) old new) is asks)
+    told-open start slot card.1 old new (subst (λ (a : Answer R M). AsksOnce start (AskEject slot) (answer_seen a) old new) is asks)
 
 -- what holds of each card, and of the one that is put behind them, holds of each
 pub all-put : {X : Type 0} (P : X → Type 0) (xs ys : List X) (x : X) (fits : Bool) → All P xs → P x → ys ≡ (if fits then xs ++ x ∷ [] else xs) → All P ys

@@ -4,7 +4,7 @@ use Rattle.std.proofs.Common.{length-append, length-drop}
 use Rattle.std.proofs.lemmas.List.{drop-append-le, drop-drop, map-append}
 use Rattle.circular_buffer.specs.Buffer.{Buffer, buffer, keep_last}
 use Rattle.sw_workers.specs.declared.note.Note.{Note}
-use Rattle.sw_workers.specs.Entries.{Entry}
+use Rattle.sw_workers.specs.Entries.{HistoryEntry}
 use Rattle.sw_workers.specs.Held.{most_notes, note_of, notes_of, noted}
 use Rattle.sw_workers.specs.History.{grown}
 
@@ -17,16 +17,16 @@ keep_one n xs x some =
     ap (drop (length (drop k xs ++ x ∷ []) - n)) joined
     ∙ (drop-drop (length (drop k xs ++ x ∷ []) - n) k (xs ++ x ∷ []) ∙ ap (λ (m : ℕ). drop m (xs ++ x ∷ [])) far)
 
-pub notes_more : (es : List Entry) (e : Entry) → keep_last most_notes (notes_of es ++ note_of e ∷ []) ≡ notes_of (es ++ e ∷ [])
+pub notes_more : (es : List HistoryEntry) (e : HistoryEntry) → keep_last most_notes (notes_of es ++ note_of e ∷ []) ≡ notes_of (es ++ e ∷ [])
 notes_more es e = keep_one most_notes (map note_of es) (note_of e) (omega arith) ∙ ap (keep_last most_notes) (sym (map-append note_of es (e ∷ [])))
 
 -- the notes of a history that an event made grow, or what was none did not
-pub notes_grown : (b : Bool) (es : List Entry) (e : Entry) → notes_of (grown b es e) ≡ noted b (notes_of es) (note_of e)
+pub notes_grown : (b : Bool) (es : List HistoryEntry) (e : HistoryEntry) → notes_of (grown b es e) ≡ noted b (notes_of es) (note_of e)
 notes_grown true es e = sym (notes_more es e)
 notes_grown false es e = refl
 
 -- the ring after one more event
-pub ring_more : (old new : Buffer Note) (note : Note) (es fs : List Entry) (e : Entry) → old.capacity ≡ most_notes → old.items ≡ notes_of es
+pub ring_more : (old new : Buffer Note) (note : Note) (es fs : List HistoryEntry) (e : HistoryEntry) → old.capacity ≡ most_notes → old.items ≡ notes_of es
     → new ≡ buffer (keep_last old.capacity (old.items ++ note ∷ [])) old.capacity → note ≡ note_of e → fs ≡ es ++ e ∷ []
     → (new.capacity ≡ most_notes) × (new.items ≡ notes_of fs)
 ring_more old new note es fs e room items is noted more =

@@ -4,11 +4,11 @@ use Rattle.std.specs.Option.{unwrap_or}
 use mathlib.Core.List.{IsPrefix}
 use Rattle.sw_core.specs.Panel.{Panel}
 use Rattle.sw_core.specs.Good.{IsGoodPanel}
-use Rattle.sw_core.specs.Run.{IsNext}
-use Rattle.sw_core.specs.View.{AskView, AnswerView}
+use Rattle.sw_core.specs.Run.{IsNextEvent}
+use Rattle.sw_core.specs.Seen.{AskSeen, AnswerSeen}
 use Rattle.sw_workers.specs.Board.{Known, Said, entry_of}
-use Rattle.sw_workers.specs.Entries.{Entry, made_by}
-use Rattle.sw_workers.specs.History.{IsHistory, said_at, Entered, Replied, Told, AsksInHistory}
+use Rattle.sw_workers.specs.Entries.{HistoryEntry, made_by}
+use Rattle.sw_workers.specs.History.{IsHistory, said_at, Entered, Replied, SeatTold, AsksInHistory}
 use Rattle.sw_workers.specs.Shares.{is_event}
 use Rattle.sw_workers.proofs.Histories.{history_more}
 
@@ -17,14 +17,14 @@ pub good_fits : (q : Panel) (n : ℕ) → IsGoodPanel q → n ≡ q.status.reque
 good_fits q n g e = subst (λ (m : ℕ). m < 2 ^ 56) (sym e) g.status.requests
 
 -- the event leads from p to q
-pub record Leads (p : Panel) (ask : AskView) (answer : AnswerView) (q : Panel) : Type 0 where
-  pub next : IsNext p (record { ask = ask; answer = answer; panel = q })
+pub record Leads (p : Panel) (ask : AskSeen) (answer : AnswerSeen) (q : Panel) : Type 0 where
+  pub next : IsNextEvent p (record { ask = ask; answer = answer; panel = q })
   pub event : is_event answer ≡ true
 
-abbrev after_said : List Entry → Known → Said → List Entry
+abbrev after_said : List HistoryEntry → Known → Said → List HistoryEntry
 after_said es v said = es ++ entry_of v said ∷ []
 
-pub history_event : (start : Panel) (es : List Entry) (p : Panel) (v : Known) (said : Said) (ask : AskView) (answer : AnswerView) (q : Panel)
+pub history_event : (start : Panel) (es : List HistoryEntry) (p : Panel) (v : Known) (said : Said) (ask : AskSeen) (answer : AnswerSeen) (q : Panel)
     → IsHistory start es p → Leads p ask answer q → said ≡ said_at q ask answer → IsHistory start (es ++ entry_of v said ∷ []) q
 history_event start es p v said ask answer q h l e =
     subst
@@ -33,14 +33,15 @@ history_event start es p v said ask answer q h l e =
     (history_more start es (entry_of v (said_at q ask answer)) p q h (record { next = l.next; event = l.event; number = refl; pair = refl }))
 
 -- what the desk knows after its event
-pub record SawEvent (es : List Entry) (v : Known) (said : Said) (w : Known) : Type 0 where
+pub record SawEvent (es : List HistoryEntry) (v : Known) (said : Said) (w : Known) : Type 0 where
   pub later : IsPrefix v.seen es
   pub seen : w.seen ≡ es ++ entry_of v said ∷ []
   pub desk : w.desk ≡ v.desk
   pub mine : w.mine ≡ v.mine ++ entry_of v said ∷ []
   pub own : (d : ℕ) → w.desk ≡ Some d → made_by d w.seen ≡ w.mine
 
-pub asks_event : (start : Panel) (es : List Entry) (p : Panel) (v : Known) (said : Said) (ask : AskView) (answer : AnswerView) (q : Panel) (w : Known) (d : ℕ)
+pub asks_event : (start : Panel) (es : List HistoryEntry) (p : Panel) (v : Known) (said : Said) (ask : AskSeen) (answer : AnswerSeen) (q : Panel) (w : Known)
+    (d : ℕ)
     → IsHistory start es p → Leads p ask answer q → said ≡ said_at q ask answer → v.desk ≡ Some d → SawEvent es v said w → AsksInHistory start v ask answer w
 asks_event start es p v said ask answer q w d h l e is s =
     let entered : Entered v ask answer w = record {
@@ -53,33 +54,33 @@ asks_event start es p v said ask answer q w d h l e is s =
       desk = is ∙ ap Some (sym (ap (λ o. unwrap_or o 0) is));
       mine = s.mine;
     } in record {
-      told = subst (λ (b : Bool). Told b start v ask answer w) (sym l.event) entered;
-      legal = (q, subst (λ (xs : List Entry). IsHistory start xs q) (sym s.seen) (history_event start es p v said ask answer q h l e));
+      told = subst (λ (b : Bool). SeatTold b start v ask answer w) (sym l.event) entered;
+      legal = (q, subst (λ (xs : List HistoryEntry). IsHistory start xs q) (sym s.seen) (history_event start es p v said ask answer q h l e));
       desk = s.desk;
       own = s.own;
     }
 
 -- what the desk knows after what was no event
-pub record SawNone (es : List Entry) (v w : Known) : Type 0 where
+pub record SawNone (es : List HistoryEntry) (v w : Known) : Type 0 where
   pub later : IsPrefix v.seen es
   pub seen : w.seen ≡ es
   pub desk : w.desk ≡ v.desk
   pub mine : w.mine ≡ v.mine
   pub own : (d : ℕ) → w.desk ≡ Some d → made_by d w.seen ≡ w.mine
 
-pub asks_nothing : (start : Panel) (es : List Entry) (p : Panel) (v : Known) (ask : AskView) (answer : AnswerView) (q : Panel) (w : Known)
-    → IsHistory start es p → IsNext p (record { ask = ask; answer = answer; panel = q }) → q ≡ p → is_event answer ≡ false → SawNone es v w
+pub asks_nothing : (start : Panel) (es : List HistoryEntry) (p : Panel) (v : Known) (ask : AskSeen) (answer : AnswerSeen) (q : Panel) (w : Known)
+    → IsHistory start es p → IsNextEvent p (record { ask = ask; answer = answer; panel = q }) → q ≡ p → is_event answer ≡ false → SawNone es v w
     → AsksInHistory start v ask answer w
 asks_nothing start es p v ask answer q w h n e quiet s =
-    let there : IsHistory start w.seen p = subst (λ (xs : List Entry). IsHistory start xs p) (sym s.seen) h in
+    let there : IsHistory start w.seen p = subst (λ (xs : List HistoryEntry). IsHistory start xs p) (sym s.seen) h in
     let replied : Replied start v ask answer w = record {
       panel = p;
       history = there;
-      next = subst (λ (x : Panel). IsNext p (record { ask = ask; answer = answer; panel = x })) e n;
-      later = subst (λ (xs : List Entry). IsPrefix v.seen xs) (sym s.seen) s.later;
+      next = subst (λ (x : Panel). IsNextEvent p (record { ask = ask; answer = answer; panel = x })) e n;
+      later = subst (λ (xs : List HistoryEntry). IsPrefix v.seen xs) (sym s.seen) s.later;
       mine = s.mine;
     } in record {
-      told = subst (λ (b : Bool). Told b start v ask answer w) (sym quiet) replied;
+      told = subst (λ (b : Bool). SeatTold b start v ask answer w) (sym quiet) replied;
       legal = (p, there);
       desk = s.desk;
       own = s.own;

@@ -7,7 +7,7 @@ use Rattle.sw_session.specs.declared.servers.fault.ServeFault.{ServeFault}
 use Rattle.sw_session.specs.declared.servers.fault.ServeFault.TheVariants.{Read, Write}
 use Rattle.sw_session.specs.Trace.{Entry}
 use Rattle.sw_session.specs.ServeEngine.{Station, ServesChannel}
-use Rattle.sw_workers.specs.Connected.{Mishaps, Attended, beside, channel_of, ServesFromHeader}
+use Rattle.sw_workers.specs.Connected.{Mishaps, ConnectionSeen, beside, channel_by_header, ServesFromHeader}
 
 -- the same run, of an input that it consumed as well
 pub serves-as : {D : Type 0} (passes : D → Entry → D → Type 0) (own : Channel) (may may' : Type 0) (turns : ℕ) (before after : Station D)
@@ -49,9 +49,9 @@ whole-or P Q F U (Ok x) f (inl p) e = inl p
 whole-or P Q F U (Ok x) f (inr q) e = inr (inl q)
 whole-or P Q F U (Err x) f o e = inr (inr (f e))
 
-pub connects : {D : Type 0} (passes : D → Entry → D → Type 0) (m : Mishaps) (turns : ℕ) (before after : Attended D) (rest again : Option (List ℕ))
+pub connects : {D : Type 0} (passes : D → Entry → D → Type 0) (m : Mishaps) (turns : ℕ) (before after : ConnectionSeen D) (rest again : Option (List ℕ))
     (result : Result (Unit {0}) ServeFault) (header : List ℕ) (own : Channel)
-    → own ≡ channel_of header → Consumes before.input rest header
+    → own ≡ channel_by_header header → Consumes before.input rest header
     → (length header ≡ 16) ⊎ IsAtEnd rest ⊎ m.unread → again ≡ prepend_known header rest
     → ((side : Option (List ℕ)) × (side' : Option (List ℕ))
     × ServesChannel passes own m.may_pause turns (beside side (record before { input = again })) (beside side' after) result)

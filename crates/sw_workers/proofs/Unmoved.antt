@@ -8,7 +8,7 @@ use Rattle.sw_base.specs.declared.error.ScpiError.TheVariants.{UndefinedHeader, 
 use Rattle.std.specs.Prelude.{decimal, map}
 use Rattle.std.specs.List.{join_with_byte}
 use Rattle.sw_base.specs.Reading.{reading_text}
-use Rattle.sw_trigger.specs.Settings.{Setup}
+use Rattle.sw_trigger.specs.Settings.{SettingsSeen}
 use Rattle.sw_status.specs.StatusModel.{StatusSeen}
 use Rattle.sw_verify.specs.declared.snapshot.Snapshot.{Snapshot}
 use Rattle.sw_cage.specs.Work.{FinishedSeen}
@@ -32,8 +32,8 @@ use Rattle.sw_core.specs.Step.{session_told, StepHappens, StepEffect, StepHeld, 
 use Rattle.sw_core.specs.Step.{StepJoin, StepAttach, StepNew, StepSession, outside_told, StepOutside, StepFinished}
 use Rattle.sw_core.specs.Step.{Acts, acts_unnumbered, IsUnnumbered, IsEvent, Step}
 use Rattle.sw_core.specs.Step.{Admission, Dropped, ShutOut, Admitted, admission}
-use Rattle.sw_core.specs.View.{WorkView, AskView, AskSession, AskInstall, AskEject, AskExternal, AskElapsed, AskFinished, AnswerView, SaysSession}
-use Rattle.sw_core.specs.View.{SaysInstalled, SaysNotInstalled, SaysEjected, SaysNotEjected, SaysTaken, SaysMissed, SaysFailed, SaysBack, SaysWorn}
+use Rattle.sw_core.specs.Seen.{WorkSeen, AskSeen, AskSession, AskInstall, AskEject, AskExternal, AskElapsed, AskFinished, AnswerSeen, SaysSession}
+use Rattle.sw_core.specs.Seen.{SaysInstalled, SaysNotInstalled, SaysEjected, SaysNotEjected, SaysTaken, SaysMissed, SaysFailed, SaysBack, SaysWorn}
 use Rattle.sw_workers.specs.Shares.{is_session_event, is_event}
 
 -- it stays as it was, but for an event
@@ -81,7 +81,7 @@ stays_done : (p after : Panel) (f : Bool) (a : SessionAnswer) (q : Panel) → St
 stays_done p after f (Done text) q h = tt
 stays_done p after f a q h = absurd h
 
-stays_setting : (p : Panel) (Fits : Type 0) (error : ScpiError) (setup : Setup) (f : Bool) (a : SessionAnswer) (q : Panel)
+stays_setting : (p : Panel) (Fits : Type 0) (error : ScpiError) (setup : SettingsSeen) (f : Bool) (a : SessionAnswer) (q : Panel)
     → StepSetting p Fits error setup f a q → Stays (is_session_event a) p q
 stays_setting p Fits error setup f (Done text) q h = tt
 stays_setting p Fits error setup f (Refused e) q h = tt
@@ -120,31 +120,31 @@ told_event error (SaysJob job) = refl
 told_event error SaysEnded = refl
 told_event error SaysFault = refl
 
-stays_happens : (p : Panel) (happening : Happening) (error : ScpiError) (f : Bool) (a : SessionAnswer) (w : Option WorkView) (q : Panel)
+stays_happens : (p : Panel) (happening : Happening) (error : ScpiError) (f : Bool) (a : SessionAnswer) (w : Option WorkSeen) (q : Panel)
     → StepHappens p happening error f a w q → Stays (is_session_event a) p q
 stays_happens p happening error f a w q h = stays_event (is_session_event a) p q (ap is_session_event h.answer_is ∙ told_event error h.told)
 
-stays_effect : (d : Effect) (p : Panel) (f : Bool) (a : SessionAnswer) (w : Option WorkView) (q : Panel) → StepEffect d p f a w q
+stays_effect : (d : Effect) (p : Panel) (f : Bool) (a : SessionAnswer) (w : Option WorkSeen) (q : Panel) → StepEffect d p f a w q
     → Stays (is_session_event a) p q
 stays_effect (Offers happening error) p f a w q h = stays_happens p happening error f a w q h
 stays_effect d p f a w q h = stays_alone d p f a q h.0
 
-stays_held : (p : Panel) (ask : SessionAsk) (f : Bool) (a : SessionAnswer) (w : Option WorkView) (q : Panel) → StepHeld p ask f a w q
+stays_held : (p : Panel) (ask : SessionAsk) (f : Bool) (a : SessionAnswer) (w : Option WorkSeen) (q : Panel) → StepHeld p ask f a w q
     → Stays (is_session_event a) p q
 stays_held p ask f (Hold back) None q h = h.2
 stays_held p ask f a w q h = absurd h
 
-stays_barred : (b : Bool) (d : Effect) (p : Panel) (f : Bool) (a : SessionAnswer) (w : Option WorkView) (q : Panel)
+stays_barred : (b : Bool) (d : Effect) (p : Panel) (f : Bool) (a : SessionAnswer) (w : Option WorkSeen) (q : Panel)
     → MatchBool b (StepRefused p SettingsConflict f a q × (w ≡ None)) (StepEffect d p f a w q) → Stays (is_session_event a) p q
 stays_barred true d p f a w q h = stays_refused p SettingsConflict f a q h.0
 stays_barred false d p f a w q h = stays_effect d p f a w q h
 
-stays_waiting : (b : Bool) (d : Effect) (p : Panel) (ask : SessionAsk) (f : Bool) (a : SessionAnswer) (w : Option WorkView) (q : Panel)
+stays_waiting : (b : Bool) (d : Effect) (p : Panel) (ask : SessionAsk) (f : Bool) (a : SessionAnswer) (w : Option WorkSeen) (q : Panel)
     → MatchBool b (StepHeld p ask f a w q) (StepEffect d p f a w q) → Stays (is_session_event a) p q
 stays_waiting true d p ask f a w q h = stays_held p ask f a w q h
 stays_waiting false d p ask f a w q h = stays_effect d p f a w q h
 
-stays_action : (x : Action) (p : Panel) (ask : SessionAsk) (f : Bool) (a : SessionAnswer) (w : Option WorkView) (q : Panel)
+stays_action : (x : Action) (p : Panel) (ask : SessionAsk) (f : Bool) (a : SessionAnswer) (w : Option WorkSeen) (q : Panel)
     → StepAction x p ask f a w q → Stays (is_session_event a) p q
 stays_action (AtOnce d) p ask f a w q h = stays_effect d p f a w q h
 stays_action (BetweenScans d) p ask f a w q h = stays_barred (is_running p) d p f a w q h
@@ -157,7 +157,7 @@ stays_snapshot p f (answers.Snapshot s) q h = tt
 stays_snapshot p f (Refused e) q h = tt
 stays_snapshot p f a q h = absurd h
 
-stays_start : (p : Panel) (plan : Snapshot) (f : Bool) (a : SessionAnswer) (w : Option WorkView) (q : Panel) → StepStart p plan f a w q
+stays_start : (p : Panel) (plan : Snapshot) (f : Bool) (a : SessionAnswer) (w : Option WorkSeen) (q : Panel) → StepStart p plan f a w q
     → Stays (is_session_event a) p q
 stays_start p plan f (Done text) w q h = tt
 stays_start p plan f (Refused e) w q h = tt
@@ -189,7 +189,7 @@ with_sessions false p q s h e = e ∙ ap (λ (x : SessionsSeen). record p { sess
 stays_served : (p : Panel) (ask : SessionAsk) (f : Bool) (a : SessionAnswer) (q : Panel) → IsServed p ask f a q → Stays (is_session_event a) p q
 stays_served p ask f a q h = with_sessions (is_session_event a) p q h.sessions (stays_seat p.sessions ask a h.sessions h.served) h.after
 
-stays_joined : (p : Panel) (ask : SessionAsk) (f : Bool) (a : SessionAnswer) (w : Option WorkView) (q : Panel) → StepJoined p ask f a w q
+stays_joined : (p : Panel) (ask : SessionAsk) (f : Bool) (a : SessionAnswer) (w : Option WorkSeen) (q : Panel) → StepJoined p ask f a w q
     → Stays (is_session_event a) p q
 stays_joined p (Ask.Fault sid e) f (Done None) None q h = tt
 stays_joined p (Ask.Fault sid e) f a None q h = stays_served p (Ask.Fault sid e) f a q h
@@ -211,31 +211,31 @@ stays_joined p Ask.Join f a None q h = stays_served p Ask.Join f a q h
 stays_joined p (Ask.Attach number) f a None q h = stays_served p (Ask.Attach number) f a q h
 stays_joined p ask f a w q h = absurd h
 
-stays_admitted : (now : Admission) (p : Panel) (ask : SessionAsk) (f : Bool) (a : SessionAnswer) (w : Option WorkView) (q : Panel)
+stays_admitted : (now : Admission) (p : Panel) (ask : SessionAsk) (f : Bool) (a : SessionAnswer) (w : Option WorkSeen) (q : Panel)
     → StepAdmitted now p ask f a w q → Stays (is_session_event a) p q
 stays_admitted Dropped p ask f Broken None q h = h.1
 stays_admitted Dropped p ask f a w q h = absurd h
 stays_admitted ShutOut p ask f a w q h = stays_held p ask f a w q h
 stays_admitted Admitted p ask f a w q h = stays_joined p ask f a w q h
 
-stays_join : (p : Panel) (f : Bool) (a : SessionAnswer) (w : Option WorkView) (q : Panel) → StepJoin p f a w q → Stays (is_session_event a) p q
+stays_join : (p : Panel) (f : Bool) (a : SessionAnswer) (w : Option WorkSeen) (q : Panel) → StepJoin p f a w q → Stays (is_session_event a) p q
 stays_join p f (Joined sid) w q h = tt
 stays_join p f Full w q h = tt
 stays_join p f a w q h = absurd h
 
-stays_attach : (p : Panel) (number : ℕ) (f : Bool) (a : SessionAnswer) (w : Option WorkView) (q : Panel) → StepAttach p number f a w q
+stays_attach : (p : Panel) (number : ℕ) (f : Bool) (a : SessionAnswer) (w : Option WorkSeen) (q : Panel) → StepAttach p number f a w q
     → Stays (is_session_event a) p q
 stays_attach p number f (Joined sid) w q h = tt
 stays_attach p number f Stranger None q h = h.2
 stays_attach p number f a w q h = absurd h
 
-stays_new : (p : Panel) (ask : SessionAsk) (f : Bool) (a : SessionAnswer) (w : Option WorkView) (q : Panel) → StepNew p ask f a w q
+stays_new : (p : Panel) (ask : SessionAsk) (f : Bool) (a : SessionAnswer) (w : Option WorkSeen) (q : Panel) → StepNew p ask f a w q
     → Stays (is_session_event a) p q
 stays_new p Ask.Join f a w q h = stays_join p f a w q h
 stays_new p (Ask.Attach number) f a w q h = stays_attach p number f a w q h
 stays_new p ask f a w q h = absurd h
 
-stays_session : (o : Option Sid) (p : Panel) (ask : SessionAsk) (f : Bool) (a : SessionAnswer) (w : Option WorkView) (q : Panel)
+stays_session : (o : Option Sid) (p : Panel) (ask : SessionAsk) (f : Bool) (a : SessionAnswer) (w : Option WorkSeen) (q : Panel)
     → StepSession o p ask f a w q → Stays (is_session_event a) p q
 stays_session None p ask f a w q h = stays_new p ask f a w q h
 stays_session (Some sid) p ask f Stranger None q h = h.2
@@ -251,14 +251,14 @@ outside_event (SaysJob job) = refl
 outside_event SaysEnded = refl
 outside_event SaysFault = refl
 
-stays_outside : (p : Panel) (happening : Happening) (f : Bool) (a : AnswerView) (q : Panel) → StepOutside p happening f a q → Stays (is_event a) p q
+stays_outside : (p : Panel) (happening : Happening) (f : Bool) (a : AnswerSeen) (q : Panel) → StepOutside p happening f a q → Stays (is_event a) p q
 stays_outside p happening f a q h = stays_event (is_event a) p q (ap is_event h.answer_is ∙ outside_event h.told)
 
-stays_finished : (p : Panel) (done : FinishedSeen) (f : Bool) (a : AnswerView) (q : Panel) → StepFinished p done f a q → Stays (is_event a) p q
+stays_finished : (p : Panel) (done : FinishedSeen) (f : Bool) (a : AnswerSeen) (q : Panel) → StepFinished p done f a q → Stays (is_event a) p q
 stays_finished p done f SaysBack q h = h.2
 stays_finished p done f a q h = stays_event (is_event a) p q (ap is_event h.answer_is ∙ outside_event h.told)
 
-stays_acts : (p : Panel) (ask : AskView) (f : Bool) (a : AnswerView) (q : Panel) → Acts p ask f a q → Stays (is_event a) p q
+stays_acts : (p : Panel) (ask : AskSeen) (f : Bool) (a : AnswerSeen) (q : Panel) → Acts p ask f a q → Stays (is_event a) p q
 stays_acts p (AskSession ask) f (SaysSession a w) q h = stays_session (asker_of ask) p ask f a w q h
 stays_acts p (AskInstall slot card) f SaysInstalled q h = tt
 stays_acts p (AskInstall slot card) f (SaysNotInstalled refusal) q h = tt
@@ -286,7 +286,7 @@ session_ends (answers.Max n) p = tt
 session_ends (answers.Lock code) p = tt
 session_ends (answers.Info exclusive n) p = tt
 
-stays_ends : (a : AnswerView) (p : Panel) → Stays (is_event a) p (concluded a p)
+stays_ends : (a : AnswerSeen) (p : Panel) → Stays (is_event a) p (concluded a p)
 stays_ends (SaysSession a w) p = session_ends a p
 stays_ends SaysInstalled p = tt
 stays_ends (SaysNotInstalled refusal) p = tt
@@ -298,7 +298,7 @@ stays_ends SaysFailed p = tt
 stays_ends SaysBack p = refl
 stays_ends SaysWorn p = refl
 
-either_stays : (b : Bool) (p : Panel) (ask : AskView) (f : Bool) (a : AnswerView) (q : Panel)
+either_stays : (b : Bool) (p : Panel) (ask : AskSeen) (f : Bool) (a : AnswerSeen) (q : Panel)
     → MatchBool b (IsUnnumbered p ask f a q) (IsEvent p ask f a q) → Stays (is_event a) p q
 either_stays true p ask f a q h = stays_same (is_event a) p q h.same
 either_stays false p ask f a q h =
@@ -309,6 +309,6 @@ stays_known true old new e h = absurd (true≢false e)
 stays_known false old new e h = h
 
 -- what is no event changes nothing
-pub step_unmoved : (p : Panel) (ask : AskView) (f : Bool) (a : AnswerView) (q : Panel) → Step p ask f a q → is_event a ≡ false → q ≡ p
+pub step_unmoved : (p : Panel) (ask : AskSeen) (f : Bool) (a : AnswerSeen) (q : Panel) → Step p ask f a q → is_event a ≡ false → q ≡ p
 step_unmoved p ask f a q h e =
     stays_known (is_event a) p q e (either_stays ((p.events == last_number) && not (acts_unnumbered ask)) p ask f a q h)

@@ -6,9 +6,9 @@ use mathlib.Core.List.{IsPrefix}
 use mathlib.Core.Option as found
 use lib.ListN.{get_elem?}
 use Rattle.atomic_table.specs.Table.{State, Me, Step}
-use Rattle.sw_core.specs.View.{AskView, AskExternal, AnswerView, SaysMissed}
+use Rattle.sw_core.specs.Seen.{AskSeen, AskExternal, AnswerSeen, SaysMissed}
 use Rattle.atomic_table.specs.Seated.{TableId}
-use Rattle.sw_workers.specs.Entries.{Entry, last_pair, made_by}
+use Rattle.sw_workers.specs.Entries.{HistoryEntry, last_pair, made_by}
 
 -- the board has no slots
 abbrev pub Nothing : Type 0
@@ -25,9 +25,9 @@ pub record Known : Type 0 where
   -- the opening pair
   pub opening : ℕ × ℕ
   -- the history, as far as it has seen it
-  pub seen : List Entry
+  pub seen : List HistoryEntry
   -- how far another seat that was joined to it had seen it
-  pub told : List Entry
+  pub told : List HistoryEntry
   -- it is the one that publishes
   pub publishes : Bool
   -- how many desks there are, where it publishes
@@ -35,19 +35,19 @@ pub record Known : Type 0 where
   -- the desk whose seat it is
   pub desk : Option ℕ
   -- all entries of that desk
-  pub mine : List Entry
+  pub mine : List HistoryEntry
 
 -- the board at one moment: its word, the whole history, which seat publishes, how many desks there are, and the seat
 -- of each
 pub record World : Type 0 where
   pub word : ℕ
-  pub history : List Entry
+  pub history : List HistoryEntry
   pub publisher : ℕ
   pub made : ℕ
   pub seat_of : ℕ → ℕ
 
 -- what a seat knows is so
-pub record Fits (x : World) (opening : ℕ × ℕ) (seat : ℕ) (v : Known) : Type 0 where
+pub record KnowsTruly (x : World) (opening : ℕ × ℕ) (seat : ℕ) (v : Known) : Type 0 where
   pub seen : v.live ≡ true → (v.opening ≡ opening) × IsPrefix v.seen x.history × IsPrefix v.told x.history
   pub publishes : v.publishes ≡ true → (seat ≡ x.publisher) × (v.seen ≡ x.history) × (v.made ≡ x.made)
   pub desk : (d : ℕ) → v.desk ≡ Some d → (x.seat_of d ≡ seat) × (d < x.made) × (made_by d x.history ≡ v.mine)
@@ -56,7 +56,7 @@ pub record KeptIn (x : World) (opening : ℕ × ℕ) (row : List ℕ) (seats : L
   pub words : row ≡ x.word ∷ []
   pub word : last_pair opening x.history ≡ pair_in x.word
   pub fresh : (d : ℕ) → x.made ≤ d → made_by d x.history ≡ []
-  pub fits : (seat : ℕ) (v : Known) → get_elem? seats seat ≡ found.some v → Fits x opening seat v
+  pub fits : (seat : ℕ) (v : Known) → get_elem? seats seat ≡ found.some v → KnowsTruly x opening seat v
 
 -- The rule of the board: there is one history, its last pair is the word, and what each seat knows of it is so.
 abbrev pub Kept : ℕ × ℕ → State Nothing Known → Type 0
@@ -82,12 +82,12 @@ first_seat opening = record {
 -- what is said of an event as it is published
 pub record Said : Type 0 where
   pub number : ℕ
-  pub ask : AskView
-  pub answer : AnswerView
+  pub ask : AskSeen
+  pub answer : AnswerSeen
   pub pair : ℕ × ℕ
 
 -- the entry of what is said, of the seat's desk
-abbrev pub entry_of : Known → Said → Entry
+abbrev pub entry_of : Known → Said → HistoryEntry
 entry_of v said = record {
   number = said.number;
   desk = unwrap_or v.desk 0;
@@ -125,8 +125,8 @@ pub record Settled (v : Known) (w : Known) : Type 0 where
   pub later : IsPrefix v.seen w.seen × IsPrefix v.told w.seen
   pub one : (w.seen ≡ v.seen) ⊎ (w.seen ≡ v.told)
 
-abbrev pub Settles : Step Nothing → Me Nothing Known → ℕ → Me Nothing Known → Type 0
-Settles s v word w = Settled v.0 w.0 × (w.1 ≡ v.1)
+abbrev pub SettlesStep : Step Nothing → Me Nothing Known → ℕ → Me Nothing Known → Type 0
+SettlesStep s v word w = Settled v.0 w.0 × (w.1 ≡ v.1)
 
 -- ---- split
 
@@ -151,12 +151,12 @@ of_desk v = record v { told = []; publishes = false; made = 0 }
 -- ---- join
 
 -- the seat is told what the other had seen
-abbrev pub told_of : Known → Known → Known
-told_of v w = record v { told = w.seen }
+abbrev pub told_known : Known → Known → Known
+told_known v w = record v { told = w.seen }
 
 -- the seat takes the other's desk over, and is told what that had seen
-abbrev pub with_desk : Known → Known → Known
-with_desk v w = record v { told = w.seen; desk = w.desk; mine = w.mine }
+abbrev pub desk_taken_over : Known → Known → Known
+desk_taken_over v w = record v { told = w.seen; desk = w.desk; mine = w.mine }
 
 -- the seat is as the other was
 abbrev pub replaced : Known → Known → Known

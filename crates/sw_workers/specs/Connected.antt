@@ -18,10 +18,10 @@ abbrev pub Happened : {A : Type 0} → (A → A → Type 0) → Type 0
 Happened step = (new : _) × CameTo step new
 
 -- the channel that begins so: the second one with `HS` and the kind AsyncInitialize, any other is the first one
-abbrev pub channel_of : List ℕ → Channel
-channel_of (h ∷ s ∷ kind ∷ rest) =
+abbrev pub channel_by_header : List ℕ → Channel
+channel_by_header (h ∷ s ∷ kind ∷ rest) =
     if (h == 72) && (s == 83) && (kind == kind_number AsyncInitialize) then Asynchronous else Synchronous
-channel_of bytes = Synchronous
+channel_by_header bytes = Synchronous
 
 -- what can befall a connection: a time limit can end a read; a read has failed; a write has failed
 pub record Mishaps : Type 1 where
@@ -39,16 +39,16 @@ mishaps reads writes writes_aside = record {
 }
 
 -- where the server of a connection stands: its desk, what is left to be read, and what was written
-pub record Attended (D : Type 0) : Type 0 where
+pub record ConnectionSeen (D : Type 0) : Type 0 where
   pub desk : D
   pub input : Option (List ℕ)
   pub output : Option (List ℕ)
 
-abbrev pub attended : {D : Type 0} → D → Option (List ℕ) → Option (List ℕ) → Attended D
-attended desk input output = record { desk = desk; input = input; output = output }
+abbrev pub connection_seen : {D : Type 0} → D → Option (List ℕ) → Option (List ℕ) → ConnectionSeen D
+connection_seen desk input output = record { desk = desk; input = input; output = output }
 
 -- the same as a channel's server that has this with its side writer
-abbrev pub beside : {D : Type 0} → Option (List ℕ) → Attended D → Station D
+abbrev pub beside : {D : Type 0} → Option (List ℕ) → ConnectionSeen D → Station D
 beside side a = record { desk = a.desk; input = a.input; main = a.output; side = side }
 
 -- A connection is served from its first byte on, as the channel that its first header tells. The header is whole,
@@ -56,20 +56,21 @@ beside side a = record { desk = a.desk; input = a.input; main = a.output; side =
 -- write fault a write that failed, or else it is of the first channel, where there was no memory for what is left to
 -- the second one.
 pub record ServesFromHeader {D : Type 0} (passes : D → Entry → D → Type 0) (m : Mishaps) (turns : ℕ)
-    (before after : Attended D) (result : Result (Unit {0}) ServeFault) : Type 0 where
+    (before after : ConnectionSeen D) (result : Result (Unit {0}) ServeFault) : Type 0 where
   pub header : List ℕ
   pub rest : Option (List ℕ)
   pub begins : Consumes before.input rest header
   pub whole : (length header ≡ 16) ⊎ IsAtEnd rest ⊎ m.unread
   pub side : Option (List ℕ)
   pub side' : Option (List ℕ)
-  pub serves : ServesChannel passes (channel_of header) m.may_pause turns (beside side before) (beside side' after)
+  pub serves : ServesChannel passes (channel_by_header header) m.may_pause turns (beside side before)
+      (beside side' after)
       result
   pub read : result ≡ Err Read → m.unread
-  pub write : result ≡ Err Write → m.unwritten ⊎ (channel_of header ≡ Synchronous)
+  pub write : result ≡ Err Write → m.unwritten ⊎ (channel_by_header header ≡ Synchronous)
 
 -- There was no memory to begin, and nothing was read, asked or written; or the connection is served.
-abbrev pub RunsSession : {D : Type 0} → (D → Entry → D → Type 0) → Mishaps → ℕ → Attended D → Attended D
+abbrev pub RunsSession : {D : Type 0} → (D → Entry → D → Type 0) → Mishaps → ℕ → ConnectionSeen D → ConnectionSeen D
     → Result (Unit {0}) ServeFault → Type 0
 RunsSession passes m turns before after result =
     ((result ≡ Err NoMemory) × (after.desk ≡ before.desk) × (after.input ≡ before.input)

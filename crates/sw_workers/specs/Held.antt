@@ -4,24 +4,24 @@ use Rattle.circular_buffer.specs.Buffer.{keep_last}
 use Rattle.sw_core.specs.Panel.{Panel}
 use Rattle.sw_workers.specs.declared.note.Note.{Note}
 use Rattle.sw_workers.specs.Board.{Known}
-use Rattle.sw_workers.specs.Entries.{Entry}
-use Rattle.sw_workers.specs.Kinds.{kind_of}
+use Rattle.sw_workers.specs.Entries.{HistoryEntry}
+use Rattle.sw_workers.specs.Kinds.{ask_kind}
 
 -- what is behind the lock: the mainframe's panel, how many desks there are, and all events
 pub record Locked : Type 0 where
   pub panel : Panel
   pub given : ℕ
-  pub history : List Entry
+  pub history : List HistoryEntry
 
 -- how many events are told of
 abbrev pub most_notes : ℕ
 most_notes = 64
 
 -- the note of an event, and the notes of the last ones, the oldest first
-abbrev pub note_of : Entry → Note
-note_of e = record { number = e.number; ask = kind_of e.ask }
+abbrev pub note_of : HistoryEntry → Note
+note_of e = record { number = e.number; ask = ask_kind e.ask }
 
-abbrev pub notes_of : List Entry → List Note
+abbrev pub notes_of : List HistoryEntry → List Note
 notes_of entries = keep_last most_notes (map note_of entries)
 
 -- the notes after an event, or after what is none

@@ -1,7 +1,7 @@
 -- What an ask is called.
 use Rattle.sw_core.specs.declared.ask.SessionAsk.{SessionAsk}
 use Rattle.sw_core.specs.declared.ask.SessionAsk.TheVariants as Session
-use Rattle.sw_core.specs.View.{AskView, AskSession, AskInstall, AskEject, AskExternal, AskElapsed, AskFinished}
+use Rattle.sw_core.specs.Seen.{AskSeen, AskSession, AskInstall, AskEject, AskExternal, AskElapsed, AskFinished}
 use Rattle.sw_workers.specs.declared.note.AskKind.{AskKind}
 use Rattle.sw_workers.specs.declared.note.AskKind.TheVariants as Kind
 
@@ -23,10 +23,10 @@ session_kind (Session.Bus sid) = Kind.Bus
 session_kind (Session.Snapshot sid) = Kind.Snapshot
 session_kind (Session.Start sid plan) = Kind.Start
 
-abbrev pub kind_of : AskView → AskKind
-kind_of (AskSession ask) = session_kind ask
-kind_of (AskInstall slot card) = Kind.Install
-kind_of (AskEject slot) = Kind.Eject
-kind_of AskExternal = Kind.External
-kind_of (AskElapsed ticket) = Kind.Elapsed
-kind_of (AskFinished done) = Kind.Finished
+abbrev pub ask_kind : AskSeen → AskKind
+ask_kind (AskSession ask) = session_kind ask
+ask_kind (AskInstall slot card) = Kind.Install
+ask_kind (AskEject slot) = Kind.Eject
+ask_kind AskExternal = Kind.External
+ask_kind (AskElapsed ticket) = Kind.Elapsed
+ask_kind (AskFinished done) = Kind.Finished

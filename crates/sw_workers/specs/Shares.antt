@@ -3,7 +3,7 @@ use Rattle.std.specs.Prelude.{◌==◌, ◌&&◌, ℕ, Bool, true, false, not}
 use Rattle.sw_core.specs.declared.ask.SessionAnswer.{SessionAnswer}
 use Rattle.sw_core.specs.declared.ask.SessionAnswer.TheVariants.{Stranger, Broken, Hold, Worn}
 use Rattle.sw_core.specs.Event.{last_number}
-use Rattle.sw_core.specs.View.{AnswerView, SaysSession, SaysBack, SaysWorn}
+use Rattle.sw_core.specs.Seen.{AnswerSeen, SaysSession, SaysBack, SaysWorn}
 
 -- What is asked of no joined session, dropped, held or handed back is no event.
 abbrev pub is_session_event : SessionAnswer → Bool
@@ -13,14 +13,14 @@ is_session_event (Hold ask) = false
 is_session_event (Worn ask) = false
 is_session_event answer = true
 
-abbrev pub is_event : AnswerView → Bool
+abbrev pub is_event : AnswerSeen → Bool
 is_event (SaysSession answer work) = is_session_event answer
 is_event SaysBack = false
 is_event SaysWorn = false
 is_event answer = true
 
 -- the answer after so many events is a further event's, and there is a number for it
-abbrev pub is_counted : ℕ → AnswerView → Bool
+abbrev pub is_counted : ℕ → AnswerSeen → Bool
 is_counted events answer = is_event answer && not (events == last_number)
 
 abbrev pub one_if : Bool → ℕ

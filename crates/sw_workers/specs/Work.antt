@@ -4,11 +4,11 @@ use mathlib.Core.List.{IsPrefix}
 use Rattle.sw_core.specs.declared.ask.SessionAsk.{SessionAsk}
 use Rattle.sw_core.specs.declared.ask.SessionAnswer.{SessionAnswer}
 use Rattle.sw_core.specs.Panel.{Panel}
-use Rattle.sw_core.specs.View.{WorkView, AskView, AskSession, AnswerView, SaysSession}
+use Rattle.sw_core.specs.Seen.{WorkSeen, AskSeen, AskSession, AnswerSeen, SaysSession}
 use Rattle.sw_core.specs.Step.{Step}
 use Rattle.sw_session.specs.declared.desk.View.{View}
 use Rattle.sw_session.specs.Trace.{Entry, Asked, Waited, Polled, Noted}
-use Rattle.sw_session.specs.CoreDesk.{Tells, brought}
+use Rattle.sw_session.specs.CoreDesk.{TellsOfPiece, brought}
 use Rattle.sw_workers.specs.Board.{Known}
 use Rattle.sw_workers.specs.Entries.{last_pair, made_by}
 use Rattle.sw_workers.specs.Held.{AtDesk}
@@ -17,31 +17,31 @@ use Rattle.sw_workers.specs.Shares.{is_counted, one_if}
 
 -- what the mainframe was asked by a desk, at the panel that was behind the lock then, and what the desk's seat knew
 -- before and after
-pub record Made : Type 0 where
+pub record MadeAsk : Type 0 where
   pub before : Panel
-  pub ask : AskView
+  pub ask : AskSeen
   pub failed : Bool
-  pub answer : AnswerView
+  pub answer : AnswerSeen
   pub after : Panel
   pub knew : Known
   pub knows : Known
 
 -- it is a step of a mainframe that opened so, and stands in its history
-abbrev pub IsMade : Panel → Made → Type 0
+abbrev pub IsMade : Panel → MadeAsk → Type 0
 IsMade start m = Step m.before m.ask m.failed m.answer m.after × AsksInHistory start m.knew m.ask m.answer m.knows
 
 -- the events among them that are numbered
-abbrev pub events_of : List Made → ℕ
+abbrev pub events_of : List MadeAsk → ℕ
 events_of [] = 0
 events_of (m ∷ made) = one_if (is_counted m.before.events m.answer) + events_of made
 
 -- what the seat knows goes on from one to the next
-abbrev pub Learns : Known → List Made → Known → Type 0
+abbrev pub Learns : Known → List MadeAsk → Known → Type 0
 Learns v [] w = w ≡ v
 Learns v (m ∷ made) w = (m.knew ≡ v) × Learns m.knows made w
 
 -- the mainframe was asked once, a share counts that, and the desk's seat knows it
-pub record AsksOnce (start : Panel) (ask : AskView) (answer : AnswerView) (old new : AtDesk) : Type 0 where
+pub record AsksOnce (start : Panel) (ask : AskSeen) (answer : AnswerSeen) (old new : AtDesk) : Type 0 where
   pub before : Panel
   pub failed : Bool
   pub after : Panel
@@ -50,50 +50,51 @@ pub record AsksOnce (start : Panel) (ask : AskView) (answer : AnswerView) (old n
   pub history : AsksInHistory start old.seat ask answer new.seat
 
 -- The work was sent, or there was none; or it was carried out, and so on with what that brought.
-abbrev pub Carries : Panel → Option WorkView → List Made → Type 0
+abbrev pub Carries : Panel → Option WorkSeen → List MadeAsk → Type 0
 Carries start work [] = Unit {0}
 Carries start None (m ∷ made) = ⊥
-Carries start (Some piece) (m ∷ made) = Tells piece m.ask × IsMade start m × Carries start (brought m.answer) made
+Carries start (Some piece) (m ∷ made) =
+    TellsOfPiece piece m.ask × IsMade start m × Carries start (brought m.answer) made
 
 -- what a desk counts and knows where the work is sent or carried out
-pub record Adds (start : Panel) (work : Option WorkView) (old new : AtDesk) : Type 0 where
-  pub made : List Made
+pub record Adds (start : Panel) (work : Option WorkSeen) (old new : AtDesk) : Type 0 where
+  pub made : List MadeAsk
   pub carries : Carries start work made
   pub counts : new.amount ≡ old.amount + events_of made
   pub learns : Learns old.seat made new.seat
 
 -- the mainframe was told this, which brought this work
-pub record Brings (start : Panel) (ask : AskView) (old : AtDesk) (brings : Option WorkView) (new : AtDesk)
+pub record Brings (start : Panel) (ask : AskSeen) (old : AtDesk) (brings : Option WorkSeen) (new : AtDesk)
     : Type 0 where
-  pub answer : AnswerView
+  pub answer : AnswerSeen
   pub asks : AsksOnce start ask answer old new
   pub brings_is : brings ≡ brought answer
 
 -- one piece was carried out and the mainframe told, which brought this
-pub record Ends (start : Panel) (piece : WorkView) (old : AtDesk) (brings : Option WorkView) (new : AtDesk)
+pub record EndsPiece (start : Panel) (piece : WorkSeen) (old : AtDesk) (brings : Option WorkSeen) (new : AtDesk)
     : Type 0 where
-  pub ask : AskView
-  pub tells : Tells piece ask
+  pub ask : AskSeen
+  pub tells : TellsOfPiece piece ask
   pub told : Brings start ask old brings new
 
 -- the mainframe was told of a piece of work
-abbrev pub IsTold : Panel → Made → Type 0
-IsTold start m = (piece : WorkView) × Tells piece m.ask × IsMade start m
+abbrev pub IsToldOfWork : Panel → MadeAsk → Type 0
+IsToldOfWork start m = (piece : WorkSeen) × TellsOfPiece piece m.ask × IsMade start m
 
-abbrev pub AreTold : Panel → List Made → Type 0
+abbrev pub AreTold : Panel → List MadeAsk → Type 0
 AreTold start [] = Unit {0}
-AreTold start (m ∷ made) = IsTold start m × AreTold start made
+AreTold start (m ∷ made) = IsToldOfWork start m × AreTold start made
 
 -- what a worker's desk counts and knows: the events of what it told of work, and no others
 pub record Works (start : Panel) (old new : AtDesk) : Type 0 where
-  pub made : List Made
+  pub made : List MadeAsk
   pub told : AreTold start made
   pub counts : new.amount ≡ old.amount + events_of made
   pub learns : Learns old.seat made new.seat
 
 -- a session's ask, and the work that it brought
-pub record Answers (start : Panel) (ask : SessionAsk) (answer : SessionAnswer) (old new : AtDesk) : Type 0 where
-  pub work : Option WorkView
+pub record AnswersDesk (start : Panel) (ask : SessionAsk) (answer : SessionAnswer) (old new : AtDesk) : Type 0 where
+  pub work : Option WorkSeen
   pub mid : AtDesk
   pub asks : AsksOnce start (AskSession ask) (SaysSession answer work) old mid
   pub adds : Adds start work mid new
@@ -108,7 +109,7 @@ pub record ReadsStatus (start : Panel) (view : View) (old new : AtDesk) : Type 0
 
 -- How a desk of a mainframe that opened so goes on. Only an ask counts events.
 abbrev pub DeskPasses : Panel → AtDesk → Entry → AtDesk → Type 0
-DeskPasses start old (Asked ask answer) new = Answers start ask answer old new
+DeskPasses start old (Asked ask answer) new = AnswersDesk start ask answer old new
 DeskPasses start old (Waited limit wake) new = new ≡ old
 DeskPasses start old (Polled sid view) new = ReadsStatus start view old new
 DeskPasses start old (Noted sid mav) new = new ≡ old

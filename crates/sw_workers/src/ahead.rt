@@ -5,7 +5,7 @@ ghost use Rattle.std.specs.Prelude.{vec_capacity, OnOk, OnErr};
 ghost use Rattle.std.specs.Io.Cursor.{cursor_position, cursor_inner};
 ghost use Rattle.std.specs.Io.KnownBytes.{Consumes, IsAtEnd};
 ghost use Rattle.sw_session.specs.ServeRead.{CameTo};
-ghost use Rattle.sw_workers.specs.Connected.{Happened, channel_of};
+ghost use Rattle.sw_workers.specs.Connected.{Happened, channel_by_header};
 
 use std::io::{Cursor, Read};
 use std::marker::Model;
@@ -45,7 +45,7 @@ pub fn read_header<R: Source, W: Wait>(
 
 /// Which channel begins so: the second one with the header of AsyncInitialize, any other is the first one.
 pub fn channel_of(bytes: &[u8]) -> Channel
-    ensures { result ≡ channel_of bytes.now }
+    ensures { result ≡ channel_by_header bytes.now }
 {
     if bytes.len() >= 3
         && bytes[0] == b'H'

@@ -44,9 +44,9 @@ impl Play<(), Knowing> for Reads {
 pub struct Compares;
 
 impl Play<(), Knowing> for Compares {
-    ghost use Rattle.sw_workers.specs.Board.{Settles};
+    ghost use Rattle.sw_workers.specs.Board.{SettlesStep};
 
-    ghost then = { Settles };
+    ghost then = { SettlesStep };
 }
 
 /// What a step that publishes says of an event.
@@ -85,9 +85,9 @@ impl Split<Knowing> for Copies {
 }
 
 impl Join<Knowing> for Copies {
-    ghost use Rattle.sw_workers.specs.Board.{told_of, spent};
+    ghost use Rattle.sw_workers.specs.Board.{told_known, spent};
 
-    ghost both = { told_of };
+    ghost both = { told_known };
 
     ghost spent = { spent };
 }
@@ -115,9 +115,9 @@ impl Split<Knowing> for Rides {
 }
 
 impl Join<Knowing> for Rides {
-    ghost use Rattle.sw_workers.specs.Board.{with_desk, spent};
+    ghost use Rattle.sw_workers.specs.Board.{desk_taken_over, spent};
 
-    ghost both = { with_desk };
+    ghost both = { desk_taken_over };
 
     ghost spent = { spent };
 }

@@ -1,9 +1,9 @@
 //! The desk of one thread.
 
 ghost use Rattle.std.specs.Prelude.{◌≡◌, [], IfSome};
-ghost use Rattle.sw_core.specs.View.{ask_view, answer_view, work_view};
-ghost use Rattle.sw_session.specs.CoreDesk.{Tells, piece_seen};
-ghost use Rattle.sw_workers.specs.Work.{Adds, AsksOnce, Brings, Ends, Works};
+ghost use Rattle.sw_core.specs.Seen.{ask_seen, answer_seen, work_seen};
+ghost use Rattle.sw_session.specs.CoreDesk.{TellsOfPiece, piece_seen};
+ghost use Rattle.sw_workers.specs.Work.{Adds, AsksOnce, Brings, EndsPiece, Works};
 
 use crate::gate::{Gate, Point};
 use crate::held::{DeskPart, House};
@@ -83,7 +83,7 @@ impl<H: House, R: Relay, M: Meter, G: Gate + Drop, W: Wait + Clock + Copy + Drop
 
     /// Sends work, or carries it out, and so on with what that brings.
     pub(crate) fn carry(&mut self, work: Option<Work<M>>)
-        ensures { Adds H.first (work_view work) self.old.part self.new.part }
+        ensures { Adds H.first (work_seen work) self.old.part self.new.part }
     {
         let rt = self.rt;
         let mut left = work;
@@ -101,7 +101,7 @@ impl<H: House, R: Relay, M: Meter, G: Gate + Drop, W: Wait + Clock + Copy + Drop
 
     /// Carries a piece of work out, and tells the mainframe, which gives what comes next.
     pub(crate) fn finish(&mut self, piece: Work<M>) -> Option<Work<M>>
-        ensures { Ends H.first (piece_seen piece) self.old.part (work_view result) self.new.part }
+        ensures { EndsPiece H.first (piece_seen piece) self.old.part (work_seen result) self.new.part }
     {
         let ask = self.carried_out(piece);
         self.tell(ask)
@@ -109,7 +109,7 @@ impl<H: House, R: Relay, M: Meter, G: Gate + Drop, W: Wait + Clock + Copy + Drop
 
     /// Tells the mainframe, which gives what comes next.
     pub(crate) fn tell(&mut self, ask: Ask<R, M>) -> Option<Work<M>>
-        ensures { Brings H.first (ask_view ask) self.old.part (work_view result) self.new.part }
+        ensures { Brings H.first (ask_seen ask) self.old.part (work_seen result) self.new.part }
     {
         match self.act(ask) {
             Answer::Taken(work) => work,
@@ -120,7 +120,7 @@ impl<H: House, R: Relay, M: Meter, G: Gate + Drop, W: Wait + Clock + Copy + Drop
     /// Asks the mainframe. The desk of a session's synchronous channel, which is the one that joined, leaves in the
     /// session's slot what it has then seen, until the session has left.
     fn act(&mut self, ask: Ask<R, M>) -> Answer<R, M>
-        ensures { AsksOnce H.first (ask_view ask) (answer_view result) self.old.part self.new.part }
+        ensures { AsksOnce H.first (ask_seen ask) (answer_seen result) self.old.part self.new.part }
     {
         let changes = changes_session(&ask);
         let (answer, turn) = self.shared.act(&self.rt, &mut self.part, ask);
@@ -136,7 +136,7 @@ impl<H: House, R: Relay, M: Meter, G: Gate + Drop, W: Wait + Clock + Copy + Drop
 
     /// Carries a piece of work out, and gives what is to be told of it. It holds no lock.
     fn carried_out(&self, piece: Work<M>) -> Ask<R, M>
-        ensures { Tells (piece_seen piece) (ask_view result) }
+        ensures { TellsOfPiece (piece_seen piece) (ask_seen result) }
     {
         match piece {
             Work::Measure(job) => {

@@ -3,13 +3,13 @@
 
 ghost use Rattle.std.specs.Prelude.{◌≡◌, ◌+◌, ℕ, [], IfOk, IfSome, IfNone, Some};
 ghost use mathlib.Core.List.{IsPrefix};
-ghost use Rattle.sw_core.specs.View.{ask_view, answer_view, failed_in, HandsBack};
+ghost use Rattle.sw_core.specs.Seen.{ask_seen, answer_seen, failed_in, HandsBack};
 ghost use Rattle.sw_core.specs.Step.{Step};
 ghost use Rattle.sw_workers.specs.Board.{entry_of, reader};
 ghost use Rattle.sw_workers.specs.Entries.{last_pair, made_by};
 ghost use Rattle.sw_workers.specs.Held.{notes_of, noted};
 ghost use Rattle.sw_workers.specs.History.{pair_of, said_at, grown, AsksInHistory};
-ghost use Rattle.sw_workers.specs.Kinds.{kind_of};
+ghost use Rattle.sw_workers.specs.Kinds.{ask_kind};
 ghost use Rattle.sw_workers.specs.Shares.{all_parts, is_counted, is_event, one_if};
 
 use crate::board::StatusBoard;
@@ -247,19 +247,19 @@ impl<H: House, R: Relay, M: Meter> Held<H, R, M> {
     /// it is numbered it counts in the desk's share, once. The desk's seat has then seen the whole history.
     #[tactic(auto, using(crate::proofs::Counted::step_counted))]
     pub fn ask(&mut self, part: &mut DeskPart<H>, ask: Ask<R, M>) -> Answer<R, M>
-        ensures step { Step self.old.panel (ask_view ask)
-            (failed_in (ask_view ask) (answer_view result) self.old.panel.cage.cards self.new.panel.cage.cards)
-            (answer_view result) self.new.panel }
+        ensures step { Step self.old.panel (ask_seen ask)
+            (failed_in (ask_seen ask) (answer_seen result) self.old.panel.cage.cards self.new.panel.cage.cards)
+            (answer_seen result) self.new.panel }
         ensures back { HandsBack ask result }
-        ensures asked { AsksInHistory H.first part.old.seat (ask_view ask) (answer_view result) part.new.seat }
+        ensures asked { AsksInHistory H.first part.old.seat (ask_seen ask) (answer_seen result) part.new.seat }
         ensures seen { IsPrefix part.old.seat.seen self.old.history × (part.new.seat.seen ≡ self.new.history) }
-        ensures history { self.new.history ≡ grown (is_event (answer_view result)) self.old.history
-            (entry_of part.old.seat (said_at self.new.panel (ask_view ask) (answer_view result))) }
+        ensures history { self.new.history ≡ grown (is_event (answer_seen result)) self.old.history
+            (entry_of part.old.seat (said_at self.new.panel (ask_seen ask) (answer_seen result))) }
         ensures share { part.new.amount
-            ≡ part.old.amount + one_if (is_counted self.old.panel.events (answer_view result)) }
+            ≡ part.old.amount + one_if (is_counted self.old.panel.events (answer_seen result)) }
         ensures given { self.new.given ≡ self.old.given }
-        ensures notes { notes_of self.new.history ≡ noted (is_event (answer_view result)) (notes_of self.old.history)
-            (record { number = self.new.panel.events; ask = kind_of (ask_view ask) }) }
+        ensures notes { notes_of self.new.history ≡ noted (is_event (answer_seen result)) (notes_of self.old.history)
+            (record { number = self.new.panel.events; ask = ask_kind (ask_seen ask) }) }
     {
         let before = self.core.events();
         let kind = kind(&ask);

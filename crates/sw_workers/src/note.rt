@@ -1,8 +1,8 @@
 //! Notes of events.
 
 ghost use Rattle.std.specs.Prelude.{◌≡◌};
-ghost use Rattle.sw_core.specs.View.{ask_view};
-ghost use Rattle.sw_workers.specs.Kinds.{session_kind, kind_of};
+ghost use Rattle.sw_core.specs.Seen.{ask_seen};
+ghost use Rattle.sw_workers.specs.Kinds.{session_kind, ask_kind};
 
 use sw_card::{Meter, Relay};
 use sw_core::{Ask, SessionAsk};
@@ -89,7 +89,7 @@ fn session_kind(ask: &SessionAsk) -> AskKind
 
 /// What an ask is called.
 pub fn kind<R: Relay, M: Meter>(ask: &Ask<R, M>) -> AskKind
-    ensures { result ≡ kind_of (ask_view ask.now) }
+    ensures { result ≡ ask_kind (ask_seen ask.now) }
 {
     match ask {
         Ask::Session(ask) => session_kind(ask),

@@ -6,11 +6,11 @@ ghost use Rattle.sw_status.specs.StatusModel.{summary_of};
 ghost use Rattle.sw_core.specs.Good.{IsGoodPanel, StaysGood};
 ghost use Rattle.sw_core.specs.Panel.{Panel};
 ghost use Rattle.sw_core.specs.Step.{Step};
-ghost use Rattle.sw_core.specs.View.{ask_view, answer_view, failed_in, HandsBack, IsOwnAccount};
+ghost use Rattle.sw_core.specs.Seen.{ask_seen, answer_seen, failed_in, HandsBack, IsOwnAccount};
 ghost use Rattle.sw_workers.specs.Board.{entry_of};
 ghost use Rattle.sw_workers.specs.Entries.{made_by};
 ghost use Rattle.sw_workers.specs.History.{pair_of, said_at, grown, IsHistory, AsksInHistory};
-ghost use Rattle.sw_workers.specs.Said.{said_of};
+ghost use Rattle.sw_workers.specs.Said.{said_in};
 ghost use Rattle.sw_workers.specs.Shares.{is_event};
 
 use crate::board::{BoardName, StatusBoard};
@@ -82,15 +82,15 @@ impl<B: Recording, R: Relay, M: Meter> Recorded<B, R, M> {
     #[tactic(auto, using(crate::proofs::Recordings::good_fits))]
     pub fn ask(&mut self, alloc: Global, desk: &mut StatusSeat<B>, ask: Ask<R, M>) -> Answer<R, M>
         requires desk { (d : ℕ) × (desk.old.desk ≡ Some d) }
-        ensures step { Step self.old.panel (ask_view ask)
-            (failed_in (ask_view ask) (answer_view result) self.old.panel.cage.cards self.new.panel.cage.cards)
-            (answer_view result) self.new.panel }
-        ensures own { IsOwnAccount (ask_view ask) }
+        ensures step { Step self.old.panel (ask_seen ask)
+            (failed_in (ask_seen ask) (answer_seen result) self.old.panel.cage.cards self.new.panel.cage.cards)
+            (answer_seen result) self.new.panel }
+        ensures own { IsOwnAccount (ask_seen ask) }
         ensures back { HandsBack ask result }
-        ensures history { AsksInHistory B.first desk.old (ask_view ask) (answer_view result) desk.new }
+        ensures history { AsksInHistory B.first desk.old (ask_seen ask) (answer_seen result) desk.new }
         ensures seen { IsPrefix desk.old.seen self.old.history × (desk.new.seen ≡ self.new.history) }
-        ensures grown { self.new.history ≡ grown (is_event (answer_view result)) self.old.history
-            (entry_of desk.old (said_at self.new.panel (ask_view ask) (answer_view result))) }
+        ensures grown { self.new.history ≡ grown (is_event (answer_seen result)) self.old.history
+            (entry_of desk.old (said_at self.new.panel (ask_seen ask) (answer_seen result))) }
     {
         mainframe_stays_good();
         let Recorded { core, pass, board } = self;

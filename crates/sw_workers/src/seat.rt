@@ -4,7 +4,7 @@ ghost use Rattle.std.specs.Prelude.{◌≡◌, ◌⊎◌, ◌<◌, ◌^◌, ℕ,
 ghost use mathlib.Core.List.{IsPrefix};
 ghost use Rattle.sw_workers.specs.Entries.{last_pair, made_by};
 ghost use Rattle.sw_workers.specs.Board.{first_seat, pair_in, Saw, entry_of, published};
-ghost use Rattle.sw_workers.specs.Board.{reader, new_desk, without_desk, of_desk, with_desk};
+ghost use Rattle.sw_workers.specs.Board.{reader, new_desk, without_desk, of_desk, desk_taken_over};
 
 use crate::board::{
     BoardName, Compares, Copies, Desks, Publishes, RawSeat, Reads, Returns, Rides, StatusBoard,
@@ -79,10 +79,10 @@ pub struct LockedPass<B: BoardName> {
 
 impl<B: BoardName> Model for LockedPass<B> {
     ghost use Rattle.std.specs.Prelude.{◌≡◌, [], true, None, List};
-    ghost use Rattle.sw_workers.specs.Entries.{Entry, last_pair};
+    ghost use Rattle.sw_workers.specs.Entries.{HistoryEntry, last_pair};
     ghost use Rattle.sw_workers.specs.Board.{pair_in};
 
-    ghost Value = { List Entry };
+    ghost Value = { List HistoryEntry };
 
     ghost view = { λ p. p.pass.me.0.seen };
 
@@ -99,7 +99,7 @@ fn ride(on: &Steps, pass: &mut RawSeat, desk: &mut RawSeat)
     requires live { (pass.old.me.0.publishes ≡ true) × (pass.old.me.0.live ≡ true) × (desk.old.me.0.live ≡ true) }
     requires desk { (d : ℕ) × (desk.old.me.0.desk ≡ Some d) }
     ensures same { (pass.new.table_id ≡ pass.old.table_id) × (desk.new.table_id ≡ desk.old.table_id) }
-    ensures pass { pass.new.me ≡ (with_desk pass.old.me.0 desk.old.me.0, pass.old.me.1) }
+    ensures pass { pass.new.me ≡ (desk_taken_over pass.old.me.0 desk.old.me.0, pass.old.me.1) }
     ensures desk { desk.new.me ≡ (without_desk desk.old.me.0, desk.old.me.1) }
     ensures later { IsPrefix desk.old.me.0.seen pass.old.me.0.seen }
     ensures own { (d : ℕ) → desk.old.me.0.desk ≡ Some d → made_by d pass.old.me.0.seen ≡ desk.old.me.0.mine }

@@ -5,7 +5,7 @@ ghost use Rattle.sw_session.specs.Talk.{turns};
 ghost use Rattle.sw_session.specs.ServeRead.{MayPause};
 ghost use Rattle.sw_session.specs.ServeEngine.{ServesChannel};
 ghost use Rattle.sw_workers.specs.Ahead.{left_ahead};
-ghost use Rattle.sw_workers.specs.Connected.{Happened, mishaps, attended, beside, ServesFromHeader, RunsSession};
+ghost use Rattle.sw_workers.specs.Connected.{Happened, mishaps, connection_seen, beside, ServesFromHeader, RunsSession};
 ghost use Rattle.sw_workers.specs.Work.{DeskPasses};
 
 use crate::ahead::{HEADER, ReadAhead, channel_of, read_header};
@@ -119,8 +119,9 @@ pub fn run_session_for<
 ) -> Ended<SharedDesk<H, R, M, G, W>, C::In, C::Out>
     ensures { RunsSession (λ before entry after. DeskPasses H.first before.part entry after.part)
         (mishaps C.In.Source C.Out.Sink C.Aside.Sink) turns
-        (attended desk (C.input connection) (C.output connection))
-        (attended result.desk (left_ahead C.In.remaining result.reader) (C.Out.contents result.writer)) result.result }
+        (connection_seen desk (C.input connection) (C.output connection))
+        (connection_seen result.desk (left_ahead C.In.remaining result.reader)
+        (C.Out.contents result.writer)) result.result }
 {
     let (reader, writer, aside) = connection.into_parts();
     let rt = desk.rt;
@@ -154,8 +155,9 @@ pub fn run_session<
 ) -> Ended<SharedDesk<H, R, M, G, W>, C::In, C::Out>
     ensures { RunsSession (λ before entry after. DeskPasses H.first before.part entry after.part)
         (mishaps C.In.Source C.Out.Sink C.Aside.Sink) turns
-        (attended desk (C.input connection) (C.output connection))
-        (attended result.desk (left_ahead C.In.remaining result.reader) (C.Out.contents result.writer)) result.result }
+        (connection_seen desk (C.input connection) (C.output connection))
+        (connection_seen result.desk (left_ahead C.In.remaining result.reader)
+        (C.Out.contents result.writer)) result.result }
 {
     run_session_for(connection, desk, alloc, TURNS)
 }
@@ -200,8 +202,9 @@ fn serve_parts<C: Connection, D: Desk + Drop, W: Wait + Copy + Drop>(
 ) -> Ended<D, C::In, C::Out>
     requires { (header.items ≡ []) × (16 ≤ vec_capacity header) }
     ensures { ServesFromHeader D.passes (mishaps C.In.Source C.Out.Sink C.Aside.Sink) turns
-        (attended desk (C.In.remaining wire.reader) (C.Out.contents wire.writer))
-        (attended result.desk (left_ahead C.In.remaining result.reader) (C.Out.contents result.writer)) result.result }
+        (connection_seen desk (C.In.remaining wire.reader) (C.Out.contents wire.writer))
+        (connection_seen result.desk (left_ahead C.In.remaining result.reader)
+        (C.Out.contents result.writer)) result.result }
 {
     let Parts {
         mut reader,
@@ -242,8 +245,8 @@ fn serve_first<R: Source + Drop, O: Sink + Drop, D: Desk + Drop, W: Wait + Drop>
 ) -> Ended<D, R, O>
     ensures serves { (side : Option (List ℕ)) × (side' : Option (List ℕ))
         × ServesChannel D.passes Channel.Synchronous (MayPause R.paused) turns
-        (beside side (attended desk (left_ahead R.remaining reader) (O.contents writer)))
-        (beside side' (attended result.desk (left_ahead R.remaining result.reader) (O.contents result.writer)))
+        (beside side (connection_seen desk (left_ahead R.remaining reader) (O.contents writer)))
+        (beside side' (connection_seen result.desk (left_ahead R.remaining result.reader) (O.contents result.writer)))
         result.result }
     ensures read { result.result ≡ Err ServeFault.Read → Happened R.failed }
 {
@@ -270,8 +273,8 @@ fn serve_second<R: Source + Drop, O: Sink + Drop, A: Sink + Drop, D: Desk + Drop
 ) -> Ended<D, R, O>
     ensures serves { (side : Option (List ℕ)) × (side' : Option (List ℕ))
         × ServesChannel D.passes Channel.Asynchronous (MayPause R.paused) turns
-        (beside side (attended desk (left_ahead R.remaining source.reader) (O.contents writer)))
-        (beside side' (attended result.desk (left_ahead R.remaining result.reader) (O.contents result.writer)))
+        (beside side (connection_seen desk (left_ahead R.remaining source.reader) (O.contents writer)))
+        (beside side' (connection_seen result.desk (left_ahead R.remaining result.reader) (O.contents result.writer)))
         result.result }
     ensures read { result.result ≡ Err ServeFault.Read → Happened R.failed ⊎ Happened A.failed }
     ensures write { result.result ≡ Err ServeFault.Write → Happened O.failed }

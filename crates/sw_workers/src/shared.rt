@@ -2,7 +2,7 @@
 
 ghost use Rattle.std.specs.Prelude.{◌≡◌, ◌≤◌, ◌+◌, [], IfOk, IfSome};
 ghost use Rattle.sw_core.specs.Good.{IsGoodPanel};
-ghost use Rattle.sw_core.specs.View.{ask_view, answer_view};
+ghost use Rattle.sw_core.specs.Seen.{ask_seen, answer_seen};
 ghost use Rattle.sw_session.specs.CoreDesk.{piece_seen};
 ghost use Rattle.sw_session.specs.Trace.{LeavesOf};
 ghost use Rattle.sw_workers.specs.History.{pair_of};
@@ -136,7 +136,7 @@ impl<H: House, R: Relay, M: Meter, G: Gate + Drop> Shared<H, R, M, G> {
         part: &mut DeskPart<H>,
         ask: Ask<R, M>,
     ) -> (Answer<R, M>, u64)
-        ensures { AsksOnce H.first (ask_view ask) (answer_view result.0) part.old part.new }
+        ensures { AsksOnce H.first (ask_seen ask) (answer_seen result.0) part.old part.new }
     {
         let may_admit = may_admit(&ask);
         let mut guard = self.held.lock(rt);

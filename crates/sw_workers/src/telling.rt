@@ -2,10 +2,10 @@
 
 ghost use Rattle.std.specs.Prelude.{◌≡◌, ◌<◌, ◌^◌, ℕ, [], ◌∷◌, ◌++◌, Some};
 ghost use mathlib.Core.List.{IsPrefix};
-ghost use Rattle.sw_core.specs.View.{answer_view};
+ghost use Rattle.sw_core.specs.Seen.{answer_seen};
 ghost use Rattle.sw_workers.specs.Board.{entry_of};
 ghost use Rattle.sw_workers.specs.Entries.{made_by};
-ghost use Rattle.sw_workers.specs.Said.{said_of};
+ghost use Rattle.sw_workers.specs.Said.{said_in};
 ghost use Rattle.sw_workers.specs.Shares.{is_session_event, is_event};
 
 use crate::board::{BoardName, StatusBoard, Telling};
@@ -41,7 +41,7 @@ fn is_session_event(answer: &SessionAnswer) -> bool
 
 /// Whether an answer is an event's: not that of an ask which is of no joined session, dropped, held or handed back.
 pub fn is_event<R: Relay, M: Meter>(answer: &Answer<R, M>) -> bool
-    ensures { result ≡ is_event (answer_view answer.now) }
+    ensures { result ≡ is_event (answer_seen answer.now) }
 {
     match answer {
         Answer::Session(answer, _) => is_session_event(answer),
@@ -60,11 +60,11 @@ fn publish_said<B: BoardName, T: Telling, R: Relay, M: Meter>(
 )
     requires desk { (d : ℕ) × (desk.old.desk ≡ Some d) }
     requires fits { event.now.pair.1 < 2 ^ 56 }
-    requires said { T.said ≡ said_of event.now }
-    ensures history { pass.new ≡ pass.old ++ entry_of desk.old (said_of event.now) ∷ [] }
+    requires said { T.said ≡ said_in event.now }
+    ensures history { pass.new ≡ pass.old ++ entry_of desk.old (said_in event.now) ∷ [] }
     ensures seen { IsPrefix desk.old.seen pass.old × (desk.new.seen ≡ pass.new) }
     ensures mine { (desk.new.desk ≡ desk.old.desk)
-        × (desk.new.mine ≡ desk.old.mine ++ entry_of desk.old (said_of event.now) ∷ []) }
+        × (desk.new.mine ≡ desk.old.mine ++ entry_of desk.old (said_in event.now) ∷ []) }
     ensures own { (d : ℕ) → desk.new.desk ≡ Some d → made_by d desk.new.seen ≡ desk.new.mine }
 {
     pass.publish::<T>(board, desk, event.pair);
@@ -79,10 +79,10 @@ pub fn tell_event<B: BoardName, R: Relay, M: Meter>(
 )
     requires desk { (d : ℕ) × (desk.old.desk ≡ Some d) }
     requires fits { event.now.pair.1 < 2 ^ 56 }
-    ensures history { pass.new ≡ pass.old ++ entry_of desk.old (said_of event.now) ∷ [] }
+    ensures history { pass.new ≡ pass.old ++ entry_of desk.old (said_in event.now) ∷ [] }
     ensures seen { IsPrefix desk.old.seen pass.old × (desk.new.seen ≡ pass.new) }
     ensures mine { (desk.new.desk ≡ desk.old.desk)
-        × (desk.new.mine ≡ desk.old.mine ++ entry_of desk.old (said_of event.now) ∷ []) }
+        × (desk.new.mine ≡ desk.old.mine ++ entry_of desk.old (said_in event.now) ∷ []) }
     ensures own { (d : ℕ) → desk.new.desk ≡ Some d → made_by d desk.new.seen ≡ desk.new.mine }
 {
     publish_said::<B, Brand, R, M>(pass, board, desk, event);

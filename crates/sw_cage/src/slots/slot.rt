@@ -2,7 +2,7 @@
 
 ghost use Rattle.std.specs.Prelude.{◌≡◌, ℕ, ◌≤◌, length, true, false, None, Some, OnOk, OnErr, IfOk, ◌↔◌, IsTrue};
 ghost use Rattle.sw_base.specs.Limits.{most_slots, most_channels};
-ghost use Rattle.sw_base.specs.Layout.{bay_has, bay_group, bay_is_meter};
+ghost use Rattle.sw_base.specs.Layout.{contents_have, contents_group, contents_are_meter};
 ghost use Rattle.sw_card.specs.Account.{closed_at, is_meter, of_meter};
 ghost use Rattle.sw_cage.specs.Accounts.{accounts_of, option_account, slot_contents, option_closed, option_set};
 ghost use Rattle.sw_cage.specs.Accounts.{option_rest, OptionWellFormed};
@@ -91,7 +91,7 @@ pub(super) fn is_fit<R: Relay, M: Meter>(card: &Card<R, M>) -> bool
 pub(super) fn close_in<R: Relay, M: Meter>(slot: &mut Place<R, M>, ch: u8) -> Result<(), CardFault>
     requires few { ch ≤ most_channels }
     requires formed { OptionWellFormed (option_account slot.old) }
-    requires present { bay_has (slot_contents (option_account slot.old)) ch ≡ true }
+    requires present { contents_have (slot_contents (option_account slot.old)) ch ≡ true }
     requires open { option_closed (option_account slot.old) ch ≡ false }
     ensures ok { OnOk result (option_account slot.new ≡ option_set (option_account slot.old) ch true) }
     ensures err { OnErr result (IsSlotFault (option_account slot.old) (option_set (option_account slot.old) ch true)
@@ -167,7 +167,7 @@ pub(super) fn rest_all<R: Relay, M: Meter>(slots: &mut [Place<R, M>])
 
 /// Whether the card in the slot has the channel.
 pub(super) fn present_in<R: Relay, M: Meter>(slot: &Place<R, M>, ch: u8) -> bool
-    ensures { result ≡ bay_has (slot_contents (option_account slot.now)) ch }
+    ensures { result ≡ contents_have (slot_contents (option_account slot.now)) ch }
 {
     match &slot.card {
         Some(card) => !card.is_meter() && ch >= 1 && ch <= card.channels(),
@@ -186,8 +186,8 @@ pub(super) fn closed_in<R: Relay, M: Meter>(slots: &[Place<R, M>], chan: Chan) -
 
 /// The group of the channel of the card in the slot, which the card has.
 pub(super) fn group_in<R: Relay, M: Meter>(slot: &Place<R, M>, ch: u8) -> u8
-    requires { bay_has (slot_contents (option_account slot.now)) ch ≡ true }
-    ensures { result ≡ bay_group (slot_contents (option_account slot.now)) ch }
+    requires { contents_have (slot_contents (option_account slot.now)) ch ≡ true }
+    ensures { result ≡ contents_group (slot_contents (option_account slot.now)) ch }
 {
     match &slot.card {
         Some(card) => card.group(ch),
@@ -197,7 +197,7 @@ pub(super) fn group_in<R: Relay, M: Meter>(slot: &Place<R, M>, ch: u8) -> u8
 
 /// Takes the meter out of the slot.
 pub(super) fn take_meter<R: Relay, M: Meter>(slot: &mut Place<R, M>) -> MeterCard<M>
-    requires { bay_is_meter (slot_contents (option_account slot.old)) ≡ true }
+    requires { contents_are_meter (slot_contents (option_account slot.old)) ≡ true }
     ensures meter { option_account slot.old ≡ Some (of_meter result.1) }
     ensures empty { slot.new ≡ None }
 {

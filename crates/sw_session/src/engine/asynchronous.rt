@@ -4,8 +4,8 @@ ghost use Rattle.std.specs.Prelude.{◌≡◌, ◌≢◌, IfOk, OnErr};
 ghost use Rattle.sw_session.specs.Trace.{Leads};
 ghost use Rattle.sw_session.specs.EngineStep.{LedBy, OnDone, reply_step, on_done};
 ghost use Rattle.sw_session.specs.EngineMessages.{size_told, size_response, plain};
-ghost use Rattle.sw_session.specs.EngineAsync.{OpensAsync, AttachesNumber, is_second, Attaches, opened_step};
-ghost use Rattle.sw_session.specs.EngineAsync.{opened_session, TakesAsync, delivered, RepliesAsync, TellsStatus};
+ghost use Rattle.sw_session.specs.EngineAsync.{OpensAsync, AttachesNumber, is_second, AsksToAttach, attached_step};
+ghost use Rattle.sw_session.specs.EngineAsync.{attached_session, TakesAsync, delivered, RepliesAsync, TellsStatus};
 ghost use Rattle.sw_session.specs.EngineAsync.{notice_of, noticed, control_reply};
 ghost use Rattle.sw_session.specs.declared.engine.step.Channel.TheVariants.{Asynchronous};
 ghost use Rattle.sw_core.specs.declared.ask.SessionAsk.TheVariants as Ask;
@@ -51,7 +51,7 @@ impl AsyncSession {
     /// Begins the channel by its first message; else gives what is said.
     pub fn open<D: Desk>(kind: Kind, parameter: u32, desk: &mut D) -> Result<AsyncSession, Reply>
         ensures { LedBy D.passes desk.old desk.new (λ asked.
-            OpensAsync kind parameter asked (opened_step result) (opened_session result)) }
+            OpensAsync kind parameter asked (attached_step result) (attached_session result)) }
     {
         if is_second(kind) {
             return AsyncSession::attach_number(parameter, desk);
@@ -62,7 +62,7 @@ impl AsyncSession {
     /// Asks to be the second channel of the session with the number in a parameter; else gives what is said.
     fn attach_number<D: Desk>(parameter: u32, desk: &mut D) -> Result<AsyncSession, Reply>
         ensures { LedBy D.passes desk.old desk.new (λ asked.
-            AttachesNumber parameter asked (opened_step result) (opened_session result)) }
+            AttachesNumber parameter asked (attached_step result) (attached_session result)) }
     {
         if parameter <= 255 {
             return AsyncSession::attach(parameter as u8, desk);
@@ -73,7 +73,7 @@ impl AsyncSession {
     /// Asks to be the second channel of the session with this number; else gives what is said.
     fn attach<D: Desk>(number: u8, desk: &mut D) -> Result<AsyncSession, Reply>
         ensures { LedBy D.passes desk.old desk.new (λ asked.
-            Attaches number asked (opened_step result) (opened_session result)) }
+            AsksToAttach number asked (attached_step result) (attached_session result)) }
     {
         match desk.ask(SessionAsk::Attach(number)) {
             SessionAnswer::Joined(sid) => {

@@ -1,23 +1,19 @@
 //! The parts of a program message that came so far.
 
 ghost use Rattle.std.specs.Prelude.{◌≡◌, ◌++◌, take, IfOk};
-ghost use Rattle.sw_session.specs.Talk.{most_kept};
+ghost use Rattle.sw_base.specs.Limits.{most_kept};
 ghost use Rattle.sw_session.specs.EngineSync.{with_part, whole, skipped, is_within};
 
 use crate::engine::requests::SyncRequest;
 use std::alloc::AllocError;
-use sw_base::{MESSAGE_BYTES, Sequence};
-
-/// How many bytes of a program message are kept at most: the longest one, its line feed, and one byte, by which a
-/// longer one is known.
-const MOST_KEPT: usize = MESSAGE_BYTES + 2;
+use sw_base::{KEPT_BYTES, Sequence};
 
 /// What has come of a program message that isn't ended.
 #[derive(Debug, Drop)]
 pub enum Front {
     /// No part of it.
     Nothing,
-    /// Parts with these bytes, or with more after the first `MOST_KEPT`.
+    /// Parts with these bytes, or with more after the first `KEPT_BYTES`.
     Kept(Sequence<u8>),
     /// A part that was too large: the whole message is dropped.
     Lost,
@@ -31,7 +27,7 @@ pub fn with_part(front: Front, part: Sequence<u8>) -> Result<Front, AllocError>
     match front {
         Front::Nothing => {
             let mut first = part.into_vec();
-            first.truncate(MOST_KEPT);
+            first.truncate(KEPT_BYTES);
             Ok(Front::Kept(Sequence::new(first)))
         }
         Front::Kept(front) => {
@@ -45,14 +41,14 @@ pub fn with_part(front: Front, part: Sequence<u8>) -> Result<Front, AllocError>
     }
 }
 
-/// The first `MOST_KEPT` of these bytes and then those.
+/// The first `KEPT_BYTES` of these bytes and then those.
 fn extended(front: Vec<u8>, part: &[u8]) -> Result<Vec<u8>, AllocError>
     ensures { IfOk result (λ all. all.items ≡ take most_kept (front.items ++ part.now)) }
 {
     let mut bytes = front;
-    let room = MOST_KEPT.saturating_sub(bytes.len());
+    let room = KEPT_BYTES.saturating_sub(bytes.len());
     bytes.extend_from_slice(&part[..part.len().min(room)])?;
-    bytes.truncate(MOST_KEPT);
+    bytes.truncate(KEPT_BYTES);
     Ok(bytes)
 }
 

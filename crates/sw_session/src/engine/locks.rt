@@ -2,7 +2,7 @@
 
 ghost use Rattle.std.specs.Prelude.{◌≡◌, Some};
 ghost use Rattle.sw_session.specs.EngineStep.{LedBy, reply_step};
-ghost use Rattle.sw_session.specs.EngineAsync.{Locks, AsksLock, AwaitsLock, ReleasesLock, TellsLocks, lock_code};
+ghost use Rattle.sw_session.specs.EngineAsync.{AsksForLock, AsksLock, AwaitsLock, ReleasesLock, TellsLocks, lock_code};
 ghost use Rattle.sw_session.specs.EngineAsync.{lock_reply, info_reply};
 ghost use Rattle.sw_session.specs.declared.engine.step.Channel.TheVariants.{Asynchronous};
 
@@ -20,7 +20,8 @@ const TURNS: u64 = 1 << 32;
 
 /// Answers an AsyncLock: control code 1 asks for a lock, 0 releases one.
 pub fn lock<D: Desk>(alloc: Global, sid: Sid, message: Message, desk: &mut D) -> Reply
-    ensures { LedBy D.passes desk.old desk.new (λ asked. Locks sid message asked (reply_step Asynchronous result)) }
+    ensures { LedBy D.passes desk.old desk.new
+        (λ asked. AsksForLock sid message asked (reply_step Asynchronous result)) }
 {
     match message.control {
         1 => ask_lock(alloc, sid, message.payload, message.parameter, desk),

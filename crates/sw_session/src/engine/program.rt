@@ -3,9 +3,11 @@
 ghost use Rattle.std.specs.Prelude.{◌≡◌, ◌≢◌, ◌≤◌, ◌++◌, List, [], map, true, false, IfOk, OnErr, vec_capacity};
 ghost use Rattle.sw_session.specs.EngineSync as EngineSync;
 ghost use Rattle.sw_session.specs.EngineStep.{LedBy, on, goes, joined, reply_step};
-ghost use Rattle.sw_session.specs.EngineSync.{newly_joined, TakesSync, RepliesSync, Completes, completed, Triggers};
+ghost use Rattle.sw_session.specs.EngineSync.{newly_joined, TakesSync, RepliesSync, Completes, message_completed};
+ghost use Rattle.sw_session.specs.EngineSync.{Triggers};
 ghost use Rattle.sw_session.specs.EngineSync.{is_within, ServesProgram, Attended, Programs};
-ghost use Rattle.sw_session.specs.EngineSync.{Finishes, Converses, Answers, CutsTo, said_of, skipped, SaysMore};
+ghost use Rattle.sw_session.specs.EngineSync.{Finishes, Converses, Answers, CutsTo, said_by_delivery, skipped};
+ghost use Rattle.sw_session.specs.EngineSync.{SaysMore};
 ghost use Rattle.sw_session.specs.EngineSync.{is_program};
 ghost use Rattle.sw_session.specs.EngineKinds.{sync_request};
 ghost use Rattle.sw_session.specs.EngineSync.{IsToBeCut, LosesAnswer, FinishesShort, ProgramsShort, AttendedShort};
@@ -121,7 +123,7 @@ impl SyncSession {
     fn complete<D: Desk>(&mut self, alloc: Global, desk: &mut D) -> Reply
         ensures asked { LedBy D.passes desk.old desk.new (λ asked.
             Completes self.old.sid asked (reply_step Synchronous result)) }
-        ensures state { self.new ≡ completed self.old (reply_step Synchronous result) }
+        ensures state { self.new ≡ message_completed self.old (reply_step Synchronous result) }
         ensures same { self.new.sid ≡ self.old.sid }
     {
         let reply = complete(alloc, self.sid, desk);
@@ -311,7 +313,7 @@ fn told(said: Vec<Sent>, ends: bool) -> Step
 fn interruption(alloc: Global, room: Vec<Sent>, id: u32, delivery: Delivery) -> Vec<Sent>
     requires empty { room.items ≡ [] }
     requires room { 2 ≤ vec_capacity room }
-    ensures { result.items ≡ said_of id delivery }
+    ensures { result.items ≡ said_by_delivery id delivery }
 {
     let mut said = room;
     if delivery == Delivery::Interrupted {

@@ -1,7 +1,7 @@
 //! Faults that are told to the client.
 
 ghost use Rattle.std.specs.Prelude.{◌≡◌};
-ghost use Rattle.sw_session.specs.EngineMessages.{error_number, fatal_number, error_of, fatal_of};
+ghost use Rattle.sw_session.specs.EngineMessages.{error_number, fatal_number, error_message, fatal_of};
 
 use crate::engine::responses::plain;
 use std::alloc::Global;
@@ -55,7 +55,7 @@ impl FatalCode {
 
 /// The message that tells of this fault, after which the channel goes on.
 pub fn error(alloc: Global, code: ErrorCode) -> Message
-    ensures { result ≡ error_of code }
+    ensures { result ≡ error_message code }
 {
     plain(alloc, Kind::Error, code.number(), 0)
 }

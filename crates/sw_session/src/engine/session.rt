@@ -1,8 +1,9 @@
 //! The engine of one channel: which channel of which session it is, from the first message on.
 
 ghost use Rattle.std.specs.Prelude.{◌≡◌, ◌≤◌, [], true, false, IfOk, OnErr, OnOk, vec_capacity};
-ghost use Rattle.sw_session.specs.Engine.{fresh, Takes, session_of, Falters, FaltersAt, too_large, skips, notice_from};
-ghost use Rattle.sw_session.specs.Engine.{channel_of, noticed_from, opened_sync, opened_async};
+ghost use Rattle.sw_session.specs.Engine.{fresh_engine, TakesMessage, session_of, Falters, FaltersAt, too_large, skips};
+ghost use Rattle.sw_session.specs.Engine.{notice_from};
+ghost use Rattle.sw_session.specs.Engine.{channel_of_state, noticed_from, opened_sync, opened_async};
 ghost use Rattle.sw_session.specs.EngineSync as EngineSync;
 ghost use Rattle.sw_session.specs.EngineAsync as EngineAsync;
 ghost use Rattle.sw_session.specs.EngineStep.{LedBy, reply_step};
@@ -50,7 +51,7 @@ impl Model for Engine {
 impl Engine {
     /// This channel, on which nothing has come yet.
     pub fn new(alloc: Global, channel: Channel) -> Self
-        ensures { result ≡ fresh channel }
+        ensures { result ≡ fresh_engine channel }
     {
         Engine {
             alloc,
@@ -63,7 +64,7 @@ impl Engine {
     /// on nothing is asked, and want of memory is answered again.
     pub fn take<D: Desk>(&mut self, message: Message, desk: &mut D) -> Result<Step, AllocError>
         ensures ok { IfOk result (λ step. LedBy D.passes desk.old desk.new (λ asked.
-            Takes self.old.state message asked step self.new.state)) }
+            TakesMessage self.old.state message asked step self.new.state)) }
         ensures heard { OnOk result ((self.old.spent ≡ false) × (self.new.spent ≡ false)) }
         ensures err { OnErr result (LedBy D.passes desk.old desk.new (λ asked. Falters self.old message asked)) }
         ensures spent { OnErr result (self.new.spent ≡ true) }
@@ -115,7 +116,7 @@ impl Engine {
 
     /// Which connection the channel is.
     pub fn channel(&self) -> Channel
-        ensures { result ≡ channel_of self.now.state }
+        ensures { result ≡ channel_of_state self.now.state }
     {
         match &self.state {
             State::Unopened(channel) => *channel,
@@ -134,7 +135,7 @@ impl State {
         desk: &mut D,
     ) -> Result<Step, AllocError>
         ensures ok { IfOk result (λ step. LedBy D.passes desk.old desk.new (λ asked.
-            Takes self.old message asked step self.new)) }
+            TakesMessage self.old message asked step self.new)) }
         ensures err { OnErr result (LedBy D.passes desk.old desk.new (λ asked. FaltersAt self.old message asked)) }
         ensures session { OnErr result (session_of self.new ≡ session_of self.old) }
     {
@@ -165,7 +166,7 @@ fn open<D: Desk>(
     desk: &mut D,
 ) -> Result<Opened, AllocError>
     ensures ok { IfOk result (λ opened. LedBy D.passes desk.old desk.new (λ asked.
-        Takes (State.Unopened channel) message asked opened.step opened.state)) }
+        TakesMessage (State.Unopened channel) message asked opened.step opened.state)) }
     ensures unasked { OnErr result (desk.new ≡ desk.old) }
 {
     let room = Vec::with_capacity(alloc, 1)?;
@@ -180,7 +181,7 @@ fn join<D: Desk>(alloc: Global, room: Vec<Sent>, message: Message, desk: &mut D)
     requires empty { room.items ≡ [] }
     requires room { 1 ≤ vec_capacity room }
     ensures { LedBy D.passes desk.old desk.new (λ asked.
-        Takes (State.Unopened Channel.Synchronous) message asked result.step result.state) }
+        TakesMessage (State.Unopened Channel.Synchronous) message asked result.step result.state) }
 {
     let parameter = message.parameter;
     let session = synchronous::open(&message, desk);
@@ -213,7 +214,7 @@ fn attach<D: Desk>(alloc: Global, room: Vec<Sent>, message: Message, desk: &mut 
     requires empty { room.items ≡ [] }
     requires room { 1 ≤ vec_capacity room }
     ensures { LedBy D.passes desk.old desk.new (λ asked.
-        Takes (State.Unopened Channel.Asynchronous) message asked result.step result.state) }
+        TakesMessage (State.Unopened Channel.Asynchronous) message asked result.step result.state) }
 {
     let session = AsyncSession::open(message.kind, message.parameter, desk);
     attached(alloc, room, session)
@@ -223,8 +224,8 @@ fn attach<D: Desk>(alloc: Global, room: Vec<Sent>, message: Message, desk: &mut 
 fn attached(alloc: Global, room: Vec<Sent>, session: Result<AsyncSession, Reply>) -> Opened
     requires empty { room.items ≡ [] }
     requires room { 1 ≤ vec_capacity room }
-    ensures step { result.step ≡ EngineAsync.opened_step session }
-    ensures state { result.state ≡ opened_async (EngineAsync.opened_session session) }
+    ensures step { result.step ≡ EngineAsync.attached_step session }
+    ensures state { result.state ≡ opened_async (EngineAsync.attached_session session) }
 {
     match session {
         Ok(session) => Opened {

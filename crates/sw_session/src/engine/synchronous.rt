@@ -4,7 +4,7 @@
 ghost use Rattle.std.specs.Prelude.{◌≡◌, ℕ, true, [], IfSome};
 ghost use Rattle.sw_session.specs.Trace.{Led};
 ghost use Rattle.sw_session.specs.EngineStep.{LedBy, is_gone, reply_step};
-ghost use Rattle.sw_session.specs.EngineSync.{OpensSync, JoinsAt, is_first, Joins, joins_step, joins_session};
+ghost use Rattle.sw_session.specs.EngineSync.{OpensSync, JoinsAt, is_first, AsksToJoin, joins_step, joins_session};
 ghost use Rattle.sw_session.specs.EngineSync.{opened_step, opened_session, Attends, attended, gate_step, Delivers};
 ghost use Rattle.sw_session.specs.EngineSync.{Interrupts, delivery_step, interrupted, Triggers, GivesTrigger};
 ghost use Rattle.sw_session.specs.EngineSync.{Completes};
@@ -66,7 +66,7 @@ fn is_first(kind: Kind) -> bool
 /// Asks for a session; else gives what is said.
 fn join<D: Desk>(desk: &mut D) -> Result<Sid, Reply>
     ensures { (parameter : ℕ) → LedBy D.passes desk.old desk.new (λ asked.
-        Joins parameter asked (opened_step parameter result) (opened_session result)) }
+        AsksToJoin parameter asked (opened_step parameter result) (opened_session result)) }
 {
     let answer = desk.ask(SessionAsk::Join);
     joined(answer)

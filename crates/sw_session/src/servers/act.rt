@@ -2,7 +2,7 @@
 
 ghost use Rattle.std.specs.Prelude.{◌≡◌};
 ghost use Rattle.std.specs.List.{list_any};
-ghost use Rattle.sw_session.specs.Serve.{Judges, after_of, is_refused, is_fatal, is_last_part};
+ghost use Rattle.sw_session.specs.Serve.{Judges, after_step, is_refused, is_fatal, is_last_part};
 ghost use Rattle.sw_session.specs.declared.engine.step.Sent.{Sent};
 
 use crate::desk::Desk;
@@ -82,7 +82,7 @@ pub fn has_last_part(said: &[Sent]) -> bool
 
 /// How the channel goes on after a step.
 pub fn after_of(is_refused: bool, step: &Step) -> After
-    ensures after { result ≡ after_of is_refused step.now }
+    ensures after { result ≡ after_step is_refused step.now }
     ensures judged { Judges is_refused result }
 {
     if is_refused {

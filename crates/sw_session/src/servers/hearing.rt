@@ -3,7 +3,8 @@
 ghost use Rattle.std.specs.Prelude.{◌≡◌, ◌⊎◌, Err, IfOk};
 ghost use Rattle.sw_session.specs.Trace.{Leads};
 ghost use Rattle.sw_session.specs.ServeRead.{CameTo};
-ghost use Rattle.sw_session.specs.Serve.{Hears, HearsEach, Judges, acts_for, is_refused, notes_of, point, voice};
+ghost use Rattle.sw_session.specs.Serve.{Hears, HearsEach, Judges, acts_for, is_refused, availability_notes, point};
+ghost use Rattle.sw_session.specs.Serve.{voice};
 
 use crate::desk::Desk;
 use crate::engine::{Channel, Sent};
@@ -16,7 +17,7 @@ use sw_core::Sid;
 
 /// Notes that a message is available where the last part of an answer was written.
 fn note<D: Desk>(sid: Option<Sid>, said: &[Sent], desk: &mut D)
-    ensures { Leads D.passes desk.old (notes_of sid said.now) desk.new }
+    ensures { Leads D.passes desk.old (availability_notes sid said.now) desk.new }
 {
     if let Some(sid) = sid {
         if has_last_part(said) {

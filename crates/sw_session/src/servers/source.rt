@@ -4,7 +4,7 @@ ghost use Rattle.std.specs.Prelude.{Some, IfErr};
 ghost use Rattle.std.specs.Io.{ReadsAtMost};
 ghost use Rattle.std.specs.Io.KnownBytes.{ReadConsumes};
 ghost use Rattle.std.specs.IoError.{error_kind};
-ghost use Rattle.sw_session.specs.ServeRead.{Gives, ComesTo};
+ghost use Rattle.sw_session.specs.ServeRead.{GivesBytes, ComesTo};
 
 use crate::asking::TURNS;
 use std::io::{self, ErrorKind, Read};
@@ -70,7 +70,7 @@ fn read_on<R: Read>(reader: &mut R, buffer: &mut [u8]) -> Result<usize, Unread>
 
 /// What a read comes to; none where it was interrupted.
 fn read_of(read: io::Result<usize>) -> Option<Result<usize, Unread>>
-    ensures bytes { Gives read result }
+    ensures bytes { GivesBytes read result }
     ensures kind { IfErr read (λ e. ComesTo ErrorKind.Interrupted ErrorKind.TimedOut ErrorKind.WouldBlock (error_kind e)
         result) }
 {

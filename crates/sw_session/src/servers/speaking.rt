@@ -2,7 +2,7 @@
 
 ghost use Rattle.std.specs.Prelude.{◌≡◌, IfOk, OnErr};
 ghost use Rattle.sw_session.specs.EngineStep.{LedBy, says, fails, reply_step};
-ghost use Rattle.sw_session.specs.Engine.{channel_of, too_large, skips};
+ghost use Rattle.sw_session.specs.Engine.{channel_of_state, too_large, skips};
 ghost use Rattle.sw_session.specs.ServeEngine.{Looks, second_session_of, told_step};
 ghost use Rattle.sw_session.specs.declared.engine.refusals.FatalCode.TheVariants.{PoorlyFormed};
 
@@ -40,7 +40,7 @@ impl Handler for Engine {
 
 /// Answers a message of this kind, which was too large.
 fn skip(alloc: Global, kind: Kind, engine: &mut Engine) -> Result<Step, AllocError>
-    ensures says { IfOk result (λ step. step ≡ says (channel_of engine.old.state) too_large) }
+    ensures says { IfOk result (λ step. step ≡ says (channel_of_state engine.old.state) too_large) }
     ensures skips { IfOk result (λ _. engine.new ≡ record engine.old { state = skips kind engine.old.state }) }
     ensures same { OnErr result (engine.new ≡ engine.old) }
 {
@@ -51,7 +51,7 @@ fn skip(alloc: Global, kind: Kind, engine: &mut Engine) -> Result<Step, AllocErr
 
 /// Answers a header that doesn't begin with `HS`.
 fn refuse(alloc: Global, engine: &Engine) -> Result<Step, AllocError>
-    ensures { IfOk result (λ step. step ≡ fails (channel_of engine.now.state) PoorlyFormed) }
+    ensures { IfOk result (λ step. step ≡ fails (channel_of_state engine.now.state) PoorlyFormed) }
 {
     let room = Vec::with_capacity(alloc, 1)?;
     let reply = Reply::Fails(FatalCode::PoorlyFormed);

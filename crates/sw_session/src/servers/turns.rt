@@ -3,7 +3,8 @@
 ghost use Rattle.std.specs.Prelude.{◌≡◌, ◌⊎◌, Ok, Err};
 ghost use Rattle.sw_hislip.specs.Pending.{Waits};
 ghost use Rattle.sw_session.specs.ServeRead.{CameTo, MayPause};
-ghost use Rattle.sw_session.specs.Serve.{Listens, NextInput, HearsAll, TakesTurn, Runs, Leaves, Serves};
+ghost use Rattle.sw_session.specs.Serve.{Listens, NextInput, HearsAll, TakesServerTurn, RunsChannel, LeavesSession};
+ghost use Rattle.sw_session.specs.Serve.{ServesAndLeaves};
 ghost use Rattle.sw_session.specs.Serve.{voice, service, point, course, conclude};
 
 use crate::desk::Desk;
@@ -125,7 +126,7 @@ fn take_turn<E: Handler, R: Source, W: Sink, S: Sink, D: Desk>(
     desk: &mut D,
 ) -> Result<Next, ServeFault>
     requires { Waits decoder.old.pending.bytes }
-    ensures turn { TakesTurn (service (voice E.protocol D.passes own) (MayPause R.paused))
+    ensures turn { TakesServerTurn (service (voice E.protocol D.passes own) (MayPause R.paused))
         decoder.old.pending decoder.new.pending
         (course (point engine.old desk.old (W.contents writer.old) (S.contents side.old)) (R.remaining reader.old))
         (course (point engine.new desk.new (W.contents writer.new) (S.contents side.new)) (R.remaining reader.new))
@@ -152,7 +153,7 @@ fn run<E: Handler, R: Source, W: Sink, S: Sink, D: Desk>(
     desk: &mut D,
     turns: u64,
 ) -> Result<(), ServeFault>
-    ensures runs { Runs (service (voice E.protocol D.passes own) (MayPause R.paused)) turns
+    ensures runs { RunsChannel (service (voice E.protocol D.passes own) (MayPause R.paused)) turns
         (course (point engine.old desk.old (W.contents writer.old) (S.contents side.old)) (R.remaining reader.old))
         (course (point engine.new desk.new (W.contents writer.new) (S.contents side.new)) (R.remaining reader.new))
         result }
@@ -174,7 +175,7 @@ fn run<E: Handler, R: Source, W: Sink, S: Sink, D: Desk>(
 
 /// Leaves the session that was joined.
 fn leave<D: Desk>(sid: Option<Sid>, desk: &mut D)
-    ensures { Leaves D.passes sid desk.old desk.new }
+    ensures { LeavesSession D.passes sid desk.old desk.new }
 {
     if let Some(sid) = sid {
         drop(desk.ask(SessionAsk::Leave(sid)));
@@ -193,7 +194,7 @@ pub fn serve_for<E: Handler, R: Source, W: Sink, S: Sink, D: Desk>(
     desk: &mut D,
     turns: u64,
 ) -> Result<(), ServeFault>
-    ensures serves { Serves (service (voice E.protocol D.passes own) (MayPause R.paused)) turns
+    ensures serves { ServesAndLeaves (service (voice E.protocol D.passes own) (MayPause R.paused)) turns
         (course (point engine.old desk.old (W.contents writer.old) (S.contents side.old)) (R.remaining reader.old))
         (course (point engine.new desk.new (W.contents writer.new) (S.contents side.new)) (R.remaining reader.new))
         result }

@@ -1,7 +1,7 @@
 use Rattle.std.proofs.Common.{◌≡◌, ◌++◌, ◌-◌, [], take, ap, ◌∙◌, rules, arith, get_or, get_or-take, length-take-le, zero-le}
 use Rattle.std.specs.Prelude.{slice_index}
 use Rattle.std.proofs.Transfers.{StopsAt-take}
-use Rattle.mainframe.specs.Kept.{most_kept}
+use Rattle.sw_base.specs.Limits.{most_kept}
 use Rattle.mainframe.proofs.Kept.{kept-fits}
 use Rattle.mainframe.proofs.reading.keep_line.Goals as goal
 

@@ -1,5 +1,5 @@
 use Rattle.std.proofs.Common.{◌≡◌, ◌<◌, ◌∙◌, Bool, true, false, ℕ, List, [], ◌++◌, refl, subst, inl, rules, arith}
-use Rattle.sw_session.specs.CoreDesk.{Rests}
+use Rattle.sw_session.specs.CoreDesk.{WaitsOut}
 use Rattle.sw_session.specs.ServeWrite.{WritesPart}
 use Rattle.sw_session.specs.Talk.{state}
 use Rattle.mainframe.specs.Turns.{Gathers, stand}
@@ -52,7 +52,7 @@ returns-then-not-rest-clause-err g c turns =
       keeps = c.look-length.ensures.keeps;
       stops = (
         c.in_default.ensures.ok,
-        (c.message-told.new.desk, subst (λ (b : Bool). Rests c.message-told.new.desk b c.rest.new.self) vain c.rest.ensures.rests),
+        (c.message-told.new.desk, subst (λ (b : Bool). WaitsOut c.message-told.new.desk b c.rest.new.self) vain c.rest.ensures.rests),
       );
     }
 

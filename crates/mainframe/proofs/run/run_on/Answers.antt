@@ -1,7 +1,7 @@
 use Rattle.std.proofs.Common.{◌≡◌, ◌<◌, ◌∙◌, Bool, true, false, ℕ, List, [], ◌++◌, length, refl, sym, ap, subst, inl, inr, rules, arith, eqb-true, vec_len}
 use Rattle.std.proofs.lemmas.Bool.{eqb-false}
 use Rattle.sw_macro.specs.Table.{Table, no_macros}
-use Rattle.sw_session.specs.CoreDesk.{Rests}
+use Rattle.sw_session.specs.CoreDesk.{WaitsOut}
 use Rattle.sw_session.specs.ServeWrite.{WritesPart}
 use Rattle.sw_session.specs.Talk.{state, turns}
 use Rattle.mainframe.specs.declared.fault.RunFault.TheVariants.{Input, Output}
@@ -107,7 +107,7 @@ returns-then-not-rest-clause-turns g c =
       c.read_line.new.turns,
       asks-written c.read_line.new.turns c.read_line.new.source c.write_out.new.writer hand c.in_default-write_out.ensures.ok
           c.in_default-read_line.ensures.turns,
-      λ e. inr (c.message-told.new.desk, subst (λ (b : Bool). Rests c.message-told.new.desk b c.rest.new.self) vain c.rest.ensures.rests),
+      λ e. inr (c.message-told.new.desk, subst (λ (b : Bool). WaitsOut c.message-told.new.desk b c.rest.new.self) vain c.rest.ensures.rests),
     )
 
 -- the answer can't be written

@@ -1,5 +1,5 @@
 use Rattle.std.proofs.Common.{◌≡◌, ◌∙◌, ◌++◌, List, [], ◌∷◌, ℕ, ap, refl, sym, inl, inr, subst}
-use Rattle.sw_channel.specs.Grammar.{Item}
+use Rattle.sw_channel.specs.Grammar.{ListItem}
 use Rattle.sw_channel.specs.Meaning.{judged}
 use Rattle.sw_channel.specs.Seen.{LeadsTo}
 use Rattle.sw_channel.proofs.Items.{items_join, one_items}
@@ -24,15 +24,15 @@ returns-then-is_empty c =
     let all = c.list.invariant.onward whole.0 whole.1 in
     let e : all.0 ≡ l.written ∷ [] = one_items _ all.0 (l.written ∷ []) all.1 last in
     let t = c.with_item-found.ensures.leads l.written [] (judged [] whole.0) l.means
-    (subst (λ (js : List Item). LeadsTo c.list.found js (judged [] whole.0)) e all.2) in
+    (subst (λ (js : List ListItem). LeadsTo c.list.found js (judged [] whole.0)) e all.2) in
     inr (whole.0, whole.1, c.all_of.ensures (judged [] whole.0) t)
 
-pub returns-in-None-eat : goal.returns-in-None-eat
-returns-in-None-eat c =
+pub returns-in-None-strip_prefix : goal.returns-in-None-strip_prefix
+returns-in-None-strip_prefix c =
     inl (
       λ is h.
           let all = c.list.invariant.onward is h in
-          no_next _ _ _ c.in-Some.ensures.found (some_left _ (sym c.is_empty.ensures ∙ c.if-is_empty.false)) c.in-None-eat.ensures.none all.0 all.1,
+          no_next _ _ _ c.in-Some.ensures.found (some_left _ (sym c.is_empty.ensures ∙ c.if-is_empty.false)) c.in-None-strip_prefix.ensures.none all.0 all.1,
       refl,
     )
 
@@ -42,14 +42,14 @@ list-preserved c =
     record {
       onward = λ is h.
           let all = c.list.invariant.onward is h in
-          let r = next_items _ _ _ _ l c.in-Some-eat.ensures.found all.0 all.1 in (
+          let r = next_items _ _ _ _ l c.in-Some-strip_prefix.ensures.found all.0 all.1 in (
             r.0,
             r.2,
             c.with_item-found.ensures.leads l.written r.0 (judged [] is) l.means
-                (subst (λ (js : List Item). LeadsTo c.list.found js (judged [] is)) r.1 all.2),
+                (subst (λ (js : List ListItem). LeadsTo c.list.found js (judged [] is)) r.1 all.2),
           );
       back = λ js h.
-          let w = l.whole ∙ ap (λ (t : List ℕ). l.front ++ t) c.in-Some-eat.ensures.found in
+          let w = l.whole ∙ ap (λ (t : List ℕ). l.front ++ t) c.in-Some-strip_prefix.ensures.found in
           c.list.invariant.back (l.written ∷ js) (items_join _ l.front _ l.written js w l.part h);
       within = λ f e. rw e at c.with_item-found.ensures.within;
     }

@@ -22,16 +22,16 @@ returns-in-Some-clause-joined c =
 
 pub data-preserved : goal.data-preserved
 data-preserved c = record {
-  reached = rw (c.push-in-Some-eat.ensures.items, data-push) (reaches_more _ _ _ _ _ c.data.invariant.reached (record {
+  reached = rw (c.push-in-Some-strip_prefix.ensures.items, data-push) (reaches_more _ _ _ _ _ c.data.invariant.reached (record {
     after = c.in_ok-next.after.now;
     gap = c.blanks.result.0.now;
-    others = c.in-Some-eat.others.now;
-    space = c.blanks-in-Some-eat.result.0.now;
+    others = c.in-Some-strip_prefix.others.now;
+    space = c.blanks-in-Some-strip_prefix.result.0.now;
     element = c.in_ok-next.ensures.ok;
-    before = subst (λ (t : List ℕ). Spans is_blank c.in_ok-next.after.now c.blanks.result.0.now t) c.in-Some-eat.ensures.found c.blanks.ensures;
-    behind = c.blanks-in-Some-eat.ensures;
+    before = subst (λ (t : List ℕ). Spans is_blank c.in_ok-next.after.now c.blanks.result.0.now t) c.in-Some-strip_prefix.ensures.found c.blanks.ensures;
+    behind = c.blanks-in-Some-strip_prefix.ensures;
   }));
-  few = omega (arith, c.push-in-Some-eat.ensures.len, c.in_ok-next.ensures.room, c.len.ensures.value);
+  few = omega (arith, c.push-in-Some-strip_prefix.ensures.len, c.in_ok-next.ensures.room, c.len.ensures.value);
 }
 
 pub returns-in_err-next-clause-err : goal.returns-in_err-next-clause-err
@@ -39,8 +39,8 @@ returns-in_err-next-clause-err c =
     let p = err_from_is_err_and c.from_residual.result c.from_residual.ensures.1 in
     rw (p.1, p.2) (stuck-refused _ _ _ _ _ c.data.invariant.reached c.len.ensures.value c.len.ensures.fits c.in_err-next.ensures.err)
 
-pub returns-in-None-eat-clause-err : goal.returns-in-None-eat-clause-err
-returns-in-None-eat-clause-err c =
+pub returns-in-None-strip_prefix-clause-err : goal.returns-in-None-strip_prefix-clause-err
+returns-in-None-strip_prefix-clause-err c =
     stuck-refused _ _ _ _ _ c.data.invariant.reached c.len.ensures.value c.len.ensures.fits (inr (inr (
       c.in_ok-next.ensures.room,
       inr (record {
@@ -51,7 +51,7 @@ returns-in-None-eat-clause-err c =
         element = c.in_ok-next.ensures.ok;
         before = c.blanks.ensures;
         on = c.in-None.ensures.none;
-        off = c.in-None-eat.ensures.none;
+        off = c.in-None-strip_prefix.ensures.none;
         error = c.fault_at.ensures;
       }),
     )))

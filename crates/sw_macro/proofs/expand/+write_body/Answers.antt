@@ -7,8 +7,8 @@ use Rattle.sw_base.specs.declared.error.ScpiError.{ScpiError}
 use Rattle.sw_base.specs.declared.error.ScpiError.TheVariants.{OutOfMemory}
 use Rattle.std.specs.Prelude.{◌⊎◌}
 use Rattle.sw_macro.specs.Table.{Macro}
-use Rattle.sw_macro.specs.Expansion.{opened, Becomes}
-use Rattle.sw_macro.specs.Placed.{piece_seen, names_of}
+use Rattle.sw_macro.specs.Expansion.{opened_macro, Becomes}
+use Rattle.sw_macro.specs.Placed.{place_of, names_of}
 use Rattle.sw_macro.proofs.Expansions.{opened_so, within_so, onward_ends, onward_fails, onward_stops, onward_keeps, onward_goes}
 use Rattle.sw_macro.proofs.expand.+write_body.Goals as goal
 use Rattle.sw_macro.proofs.expand.+write_body.Goals.{in-None-2+in_ok-extend_from_slice-in-None-2, in-Some-2+in_ok-write_body-in-Some-2}
@@ -38,7 +38,7 @@ pub returns-in_err-open-in-Some-clause-err : goal.returns-in_err-open-in-Some-cl
 returns-in_err-open-in-Some-clause-err t c =
     let ms = c.args.macros.now.macros in
     let names = names_of c.args.names.now.items in
-    let place = piece_seen c.in-Some.piece in
+    let place = place_of c.in-Some.piece in
     let now = c.units.out.items in
     let kept = c.extend_from_slice-in-Some.new.self.items in
     let e = c.in_err-open-in-Some.field-0.0 in
@@ -56,7 +56,7 @@ pub returns-in_err-write_body-in-Some-2-clause-err : goal.returns-in_err-write_b
 returns-in_err-write_body-in-Some-2-clause-err t c =
     let ms = c.args.macros.now.macros in
     let names = names_of c.args.names.now.items in
-    let place = piece_seen c.in-Some.piece in
+    let place = place_of c.in-Some.piece in
     let now = c.units.out.items in
     let kept = c.extend_from_slice-in-Some.new.self.items in
     let label = c.in-Some-2.label in
@@ -64,7 +64,7 @@ returns-in_err-write_body-in-Some-2-clause-err t c =
     let e = c.in_err-write_body-in-Some-2.field-0.0 in
     let so = ap (λ (v : ArrayVec (ArrayVec ℕ)). v.items) c.units.invariant.names in
     let passed : names_of c.as_slice.result.now ≡ names = ap names_of (c.as_slice.ensures.value ∙ so) in
-    let opens : opened ms (names_of c.as_slice.result.now) place.unit c.len.result ≡ Ok (Some m) =
+    let opens : opened_macro ms (names_of c.as_slice.result.now) place.unit c.len.result ≡ Ok (Some m) =
     c.in_ok-open-in-Some.ensures.opened ∙ ap viewed c.in-Some-2.is in
     let p = err_from_is_err_and c.from_residual-in_err-write_body-in-Some-2.result c.from_residual-in_err-write_body-in-Some-2.ensures.1 in
     rw (p.1, p.2) (elim c.in_err-write_body-in-Some-2.ensures.err as (λ _. (e ≡ OutOfMemory) ⊎ Becomes ms names c.args.body.now c.args.out.now.items (Err e)) [
@@ -81,14 +81,14 @@ pub units-preserved : goal.units-preserved
 units-preserved t c =
     let ms = c.args.macros.now.macros in
     let names = names_of c.args.names.now.items in
-    let place = piece_seen c.in-Some.piece in
+    let place = place_of c.in-Some.piece in
     let now = c.units.out.items in
     let kept = c.extend_from_slice-in-Some.new.self.items in
     let new = c.extend_from_slice-in-Some-2.new.self.items in
     let so = ap (λ (v : ArrayVec (ArrayVec ℕ)). v.items) c.units.invariant.names in
     let passed : names_of c.as_slice.result.now ≡ names = ap names_of (c.as_slice.ensures.value ∙ so) in
-    let still : (a : Result (Option Macro) ScpiError) → opened ms (names_of c.as_slice.result.now) place.unit c.len.result ≡ a
-    → opened ms names place.unit (length (now ++ place.before)) ≡ a =
+    let still : (a : Result (Option Macro) ScpiError) → opened_macro ms (names_of c.as_slice.result.now) place.unit c.len.result ≡ a
+    → opened_macro ms names place.unit (length (now ++ place.before)) ≡ a =
     λ a h. opened_so ms (names_of c.as_slice.result.now) names place.unit c.len.result kept now place.before a passed
     c.in_ok-extend_from_slice-in-Some.ensures.items (c.len.ensures ∙ c.extend_from_slice-in-Some.new.self.ok.0) h in
     record {

@@ -1,4 +1,4 @@
-use Rattle.sw_core.specs.View.{AskExternal, SaysMissed}
+use Rattle.sw_core.specs.Seen.{AskExternal, SaysMissed}
 use Rattle.sw_workers_tests.proofs.board.publishes.Given as goal
 
 abbrev pub ghosts-publish : goal.ghosts-publish

@@ -1,6 +1,6 @@
 use Rattle.std.proofs.Common.{◌≤◌, ◌+◌, ◌∙◌, ap, sym, subst, refl, arith, vec_capacity}
 use Rattle.sw_base.specs.Layout.{slot_at}
-use Rattle.sw_trigger.specs.Settings.{Setup, IsInRange}
+use Rattle.sw_trigger.specs.Settings.{SettingsSeen, IsInRange}
 use Rattle.sw_trigger.specs.Agenda.{agenda}
 use Rattle.sw_trigger.specs.Counts.{reads}
 use Rattle.sw_cage.specs.Channels.{closed_list}
@@ -24,8 +24,8 @@ go_on-scan-requires-clause-meter g c =
     (ap (λ (p : CageSeen). slot_at p.out s.meter) c.self.view_is ∙ c.requires.home) ready.measured ready.sound
     (ap cage_layout c.self.view_is ∙ c.requires.layout) (ap (λ (p : CageSeen). closed_list p.cards) c.self.view_is ∙ c.requires.closed)
     c.stay_safe.ensures.range refl c.in_ok-readings.ensures.items in
-    let at = c.begin-scan.ensures.scan ∙ ap (λ (x : Setup). next_place x 0) same in
-    let moves = c.begin-scan.ensures.moves ∙ ap (λ (x : Setup). moves_from x 0) same in
+    let at = c.begin-scan.ensures.scan ∙ ap (λ (x : SettingsSeen). next_place x 0) same in
+    let moves = c.begin-scan.ensures.moves ∙ ap (λ (x : SettingsSeen). moves_from x 0) same in
     go_meter _ s 0 c.begin-scan.result.0 go.go at
 
 pub go_on-scan-requires-clause-may : goal.go_on-scan-requires-clause-may
@@ -38,8 +38,8 @@ go_on-scan-requires-clause-may g c =
     (ap (λ (p : CageSeen). slot_at p.out s.meter) c.self.view_is ∙ c.requires.home) ready.measured ready.sound
     (ap cage_layout c.self.view_is ∙ c.requires.layout) (ap (λ (p : CageSeen). closed_list p.cards) c.self.view_is ∙ c.requires.closed)
     c.stay_safe.ensures.range refl c.in_ok-readings.ensures.items in
-    let at = c.begin-scan.ensures.scan ∙ ap (λ (x : Setup). next_place x 0) same in
-    let moves = c.begin-scan.ensures.moves ∙ ap (λ (x : Setup). moves_from x 0) same in
+    let at = c.begin-scan.ensures.scan ∙ ap (λ (x : SettingsSeen). next_place x 0) same in
+    let moves = c.begin-scan.ensures.moves ∙ ap (λ (x : SettingsSeen). moves_from x 0) same in
     go_may _ s 0 c.begin-scan.result.1.to_open c.begin-scan.result.1.to_close go.held go.go moves
 
 pub invariant_of-self : goal.invariant_of-self
@@ -52,10 +52,10 @@ invariant_of-self g c =
     (ap (λ (p : CageSeen). slot_at p.out s.meter) c.self.view_is ∙ c.requires.home) ready.measured ready.sound
     (ap cage_layout c.self.view_is ∙ c.requires.layout) (ap (λ (p : CageSeen). closed_list p.cards) c.self.view_is ∙ c.requires.closed)
     c.stay_safe.ensures.range refl c.in_ok-readings.ensures.items in
-    let at = c.begin-scan.ensures.scan ∙ ap (λ (x : Setup). next_place x 0) same in
-    let moves = c.begin-scan.ensures.moves ∙ ap (λ (x : Setup). moves_from x 0) same in
+    let at = c.begin-scan.ensures.scan ∙ ap (λ (x : SettingsSeen). next_place x 0) same in
+    let moves = c.begin-scan.ensures.moves ∙ ap (λ (x : SettingsSeen). moves_from x 0) same in
     let room : reads (agenda s) ≤ vec_capacity c.in_ok-readings.readings =
-    omega (arith, c.in_ok-readings.ensures.exact, c.readings.ensures.readings, ap (λ (x : Setup). reads (agenda x)) same) in
+    omega (arith, c.in_ok-readings.ensures.exact, c.readings.ensures.readings, ap (λ (x : SettingsSeen). reads (agenda x)) same) in
     go_kept _ _ s 0 _ _ c.begin-scan.result.0 _ go.held go.go room c.go_on-scan.ensures moves at refl refl
 
 pub returns-clause-failed : goal.returns-clause-failed

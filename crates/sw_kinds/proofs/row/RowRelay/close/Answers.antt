@@ -1,7 +1,7 @@
 use Rattle.std.proofs.Common.{◌≡◌, ap, subst, OnErr, ◌∙◌}
 use Rattle.sw_card.specs.Account.{Account}
 use Rattle.sw_card.proofs.Masks.{closed_states}
-use Rattle.sw_kinds.specs.Row.{counted}
+use Rattle.sw_kinds.specs.Row.{failure_counted}
 use Rattle.sw_kinds.proofs.Rows.{account_set, in_row, kept_set}
 use Rattle.sw_kinds.proofs.row.RowRelay.close.Goals as goal
 
@@ -31,4 +31,4 @@ returns-clause-err g c =
     let e = ap (λ p. p.1) c.self.view_is in
     let a =
     account_set c.args.self.now.1 old.serial old.failures old.channels old.group old.closed c.insert.new.self c.args.ch e c.requires.present m.here m.others in
-    subst (λ (a : Account). OnErr c.drive.result (c.drive.new.self.1 ≡ counted a)) a c.drive.ensures.err
+    subst (λ (a : Account). OnErr c.drive.result (c.drive.new.self.1 ≡ failure_counted a)) a c.drive.ensures.err

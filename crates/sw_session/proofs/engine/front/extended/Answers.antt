@@ -1,5 +1,5 @@
 use Rattle.std.proofs.Common.{ℕ, ap, ◌∙◌, ◌-◌, take, min, length}
-use Rattle.sw_session.specs.Talk.{most_kept}
+use Rattle.sw_base.specs.Limits.{most_kept}
 use Rattle.sw_session.proofs.Parts.{kept-fits}
 use Rattle.sw_session.proofs.engine.front.extended.Goals as goal
 

@@ -1,6 +1,6 @@
 use Rattle.std.proofs.Common.{subst, sym}
 use Rattle.sw_session.specs.declared.engine.step.Step.{Step}
-use Rattle.sw_session.specs.EngineAsync.{OpensAsync, opened_session}
+use Rattle.sw_session.specs.EngineAsync.{OpensAsync, attached_session}
 use Rattle.sw_session.proofs.EngineAsks.{by-so}
 use Rattle.sw_session.proofs.engine.session.attach.Goals as goal
 
@@ -8,8 +8,8 @@ pub returns : goal.returns
 returns g c =
     by-so g.D.Desk.passes _ _ _ _ c.open-session.ensures
     (λ asked opens. (
-      opened_session c.open-session.result,
+      attached_session c.open-session.result,
       subst (λ (t : Step). OpensAsync c.args.message.kind c.args.message.parameter asked t
-          (opened_session c.open-session.result)) (sym c.attached.ensures.step) opens,
+          (attached_session c.open-session.result)) (sym c.attached.ensures.step) opens,
       c.attached.ensures.state,
     ))

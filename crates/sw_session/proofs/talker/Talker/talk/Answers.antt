@@ -5,7 +5,7 @@ use Rattle.sw_core.specs.declared.ask.Sid.{Sid}
 use Rattle.sw_session.specs.declared.talker.After.TheVariants.{Goes}
 use Rattle.sw_session.specs.Trace.{Led}
 use Rattle.sw_session.specs.Script.{Complete, Refuses, Unread}
-use Rattle.sw_session.specs.Talk.{Serves, standing}
+use Rattle.sw_session.specs.Talk.{ServesUnit, standing}
 use Rattle.sw_session.proofs.Talks.{ScriptsBy, scripts-more, talk-starts, talk-goes, talk-stops, talk-refused, talk-complete}
 use Rattle.sw_session.proofs.talker.Talker.talk.Goals as goal
 
@@ -42,9 +42,9 @@ returns-in-Err-clause-talks g c = λ answers written.
     let inv = c.units.invariant.so_far answers written in
     let path = path_of c.units.path in
     let s = c.serve.ensures.serves path inv.1 inv.3 in
-    let served : Led g.D.Desk.passes c.units.desk c.serve.new.desk (λ t rest. Serves c.args.self.now.sid (Err c.in-Err.misfit)
+    let served : Led g.D.Desk.passes c.units.desk c.serve.new.desk (λ t rest. ServesUnit c.args.self.now.sid (Err c.in-Err.misfit)
     (standing path c.units.self.macros inv.1 t) c.serve.result (standing path c.serve.new.self.macros s.0 rest)) =
-    subst (λ (i : Sid). Led g.D.Desk.passes c.units.desk c.serve.new.desk (λ t rest. Serves i (Err c.in-Err.misfit)
+    subst (λ (i : Sid). Led g.D.Desk.passes c.units.desk c.serve.new.desk (λ t rest. ServesUnit i (Err c.in-Err.misfit)
     (standing path c.units.self.macros inv.1 t) c.serve.result (standing path c.serve.new.self.macros s.0 rest))) c.units.invariant.sid s.2 in (
       inv.0 ++ [],
       Refuses c.in-Err.misfit,
@@ -52,7 +52,8 @@ returns-in-Err-clause-talks g c = λ answers written.
       inv.2 [] (Refuses c.in-Err.misfit) c.in-Err.ensures.refused,
       s.1,
       talk-refused g.D.Desk.passes (g.W.Way.way c.args.self.now.sid) c.args.self.now.sid _ _ _ inv.0 c.in-Err.misfit
-          (standing (path_of c.args.path.now) c.args.self.now.macros answers) (standing path c.units.self.macros inv.1) (standing path c.serve.new.self.macros s.0)
+          (standing (path_of c.args.path.now) c.args.self.now.macros answers) (standing path c.units.self.macros inv.1)
+          (standing path c.serve.new.self.macros s.0)
           c.serve.result inv.4 served,
     )
 

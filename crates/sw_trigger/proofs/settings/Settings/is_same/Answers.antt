@@ -1,6 +1,6 @@
 use Rattle.std.proofs.Common.{◌≡◌, sym, ap, ◌∙◌}
 use Rattle.sw_trigger.specs.Seen.{setup_of}
-use Rattle.sw_trigger.specs.Settings.{Setup}
+use Rattle.sw_trigger.specs.Settings.{SettingsSeen}
 use Rattle.sw_trigger.proofs.Same.{layer_same, channels_decide, same_setup}
 use Rattle.sw_trigger.proofs.settings.Settings.is_same.Goals as goal
 
@@ -14,6 +14,6 @@ returns c =
     let list = channels_decide c.as_slice.result.now c.as_slice-2.result.now c.eq.result c.eq.ensures in (
       λ t. sym c.self.view_is ∙ same_setup a b arm1 arm2 trigger (sym c.as_slice.ensures.value ∙ list.0 (cc)
           ∙ c.as_slice-2.ensures.value) c.if-self-other.false c.if-self-other-2.false ∙ c.other.view_is,
-      λ e. let same : a.list ≡ b.list = ap (λ (v : Setup). v.list) (c.self.view_is ∙ e ∙ sym c.other.view_is) in
+      λ e. let same : a.list ≡ b.list = ap (λ (v : SettingsSeen). v.list) (c.self.view_is ∙ e ∙ sym c.other.view_is) in
           list.1 (c.as_slice.ensures.value ∙ same ∙ sym c.as_slice-2.ensures.value),
     )

@@ -1,8 +1,8 @@
 use Rattle.std.proofs.Common.{ap, subst, ◌∙◌}
-use Rattle.sw_core.specs.View.{WorkView, work_view}
+use Rattle.sw_core.specs.Seen.{WorkSeen, work_seen}
 use Rattle.sw_session.specs.CoreDesk.{piece_seen}
 use Rattle.sw_session.proofs.Keeping.{seen-some}
-use Rattle.sw_workers.specs.Work.{Ends}
+use Rattle.sw_workers.specs.Work.{EndsPiece}
 use Rattle.sw_workers.proofs.Carries.{carries-done, carries-more}
 use Rattle.sw_workers.proofs.desk.SharedDesk.carry.Goals as goal
 
@@ -14,8 +14,8 @@ returns-in_default-send g c = carries-done _ _ _ _ _ c.loop.invariant
 
 pub loop-preserved : goal.loop-preserved
 loop-preserved g c =
-    carries-more _ _ _ _ (piece_seen c.in-Some-left.piece) _ _ _ c.loop.invariant (ap work_view c.in-Some-left.is ∙ seen-some c.in-Some-left.piece)
+    carries-more _ _ _ _ (piece_seen c.in-Some-left.piece) _ _ _ c.loop.invariant (ap work_seen c.in-Some-left.is ∙ seen-some c.in-Some-left.piece)
     (subst
-    (λ (w : WorkView). Ends g.H.Recording.first w c.loop.self.part (work_view c.finish-left.result) c.finish-left.new.self.part)
+    (λ (w : WorkSeen). EndsPiece g.H.Recording.first w c.loop.self.part (work_seen c.finish-left.result) c.finish-left.new.self.part)
     c.in-Some-send.ensures
     c.finish-left.ensures)

@@ -1,10 +1,10 @@
 use Rattle.std.proofs.Common.{rules, ◌≡◌, true, false, List, sym, subst, ◌∙◌}
 use Rattle.sw_core.specs.Good.{IsGoodPanel}
 use Rattle.sw_core.specs.Panel.{Panel}
-use Rattle.sw_core.specs.Run.{IsNext}
-use Rattle.sw_core.specs.View.{ask_view, answer_view}
+use Rattle.sw_core.specs.Run.{IsNextEvent}
+use Rattle.sw_core.specs.Seen.{ask_seen, answer_seen}
 use Rattle.sw_workers.specs.Board.{Said}
-use Rattle.sw_workers.specs.Entries.{Entry}
+use Rattle.sw_workers.specs.Entries.{HistoryEntry}
 use Rattle.sw_workers.specs.History.{IsHistory, said_at}
 use Rattle.sw_workers.specs.Shares.{is_event}
 use Rattle.sw_workers.proofs.Recordings.{Leads, history_event, SawEvent, asks_event, SawNone, asks_nothing}
@@ -14,11 +14,11 @@ use Rattle.sw_workers.proofs.recorded.Recorded.ask.Goals as goal
 pub invariant_of-self : goal.invariant_of-self
 invariant_of-self g c =
     let i = c.self.invariant in
-    let quiet : is_event (answer_view c.apply-answer.result) ≡ false = search rules in
+    let quiet : is_event (answer_seen c.apply-answer.result) ≡ false = search rules in
     let same = step_unmoved _ _ _ _ _ c.apply-answer.ensures.step quiet in
     let first = g.B.Recording.first in
     let there = subst (λ (x : Panel). IsHistory first c.self.inside.pass x) (sym same) i.0 in (
-      subst (λ (es : List Entry). IsHistory first es c.apply-answer.new.self) (sym c.tell.ensures.history) there,
+      subst (λ (es : List HistoryEntry). IsHistory first es c.apply-answer.new.self) (sym c.tell.ensures.history) there,
       subst IsGoodPanel (sym same) i.1,
       i.2,
     )
@@ -26,11 +26,11 @@ invariant_of-self g c =
 pub returns-then-not-is_event-clause-history : goal.returns-then-not-is_event-clause-history
 returns-then-not-is_event-clause-history g c =
     let i = c.self.invariant in
-    let quiet : is_event (answer_view c.apply-answer.result) ≡ false = search rules in
+    let quiet : is_event (answer_seen c.apply-answer.result) ≡ false = search rules in
     let same = step_unmoved _ _ _ _ _ c.apply-answer.ensures.step quiet in
     let t = c.tell.ensures in
-    let asked = ask_view c.args.ask in
-    let answered = answer_view c.apply-answer.result in
+    let asked = ask_seen c.args.ask in
+    let answered = answer_seen c.apply-answer.result in
     let p = c.self.inside.core in
     let q = c.apply-answer.new.self in
     let saw : SawNone c.self.inside.pass c.args.desk.now c.tell.new.desk = record {
@@ -40,7 +40,7 @@ returns-then-not-is_event-clause-history g c =
       mine = t.same.1;
       own = t.own;
     } in
-    let next : IsNext p (record { ask = asked; answer = answered; panel = q }) = record {
+    let next : IsNextEvent p (record { ask = asked; answer = answered; panel = q }) = record {
       own = c.apply-answer.ensures.own;
       step = c.apply-answer.ensures.step;
     } in
@@ -49,29 +49,29 @@ returns-then-not-is_event-clause-history g c =
 pub invariant_of-self-2 : goal.invariant_of-self-2
 invariant_of-self-2 g c =
     let i = c.self.invariant in
-    let event : is_event (answer_view c.apply-answer.result) ≡ true = search rules in
-    let asked = ask_view c.args.ask in
-    let answered = answer_view c.apply-answer.result in
+    let event : is_event (answer_seen c.apply-answer.result) ≡ true = search rules in
+    let asked = ask_seen c.args.ask in
+    let answered = answer_seen c.apply-answer.result in
     let q = c.apply-answer.new.self in
     let said : Said = record {
       number = c.events.result;
-      ask = ask_view c.of-asked.result.value;
-      answer = answer_view c.of.result.value;
+      ask = ask_seen c.of-asked.result.value;
+      answer = answer_seen c.of.result.value;
       pair = c.pair.result;
     } in
     let same : said ≡ said_at q asked answered = λ j. record {
       number = c.events.ensures j;
-      ask = ask_view (c.of-asked.ensures j);
-      answer = answer_view (c.of.ensures j);
+      ask = ask_seen (c.of-asked.ensures j);
+      answer = answer_seen (c.of.ensures j);
       pair = (c.pair.ensures.byte j, c.pair.ensures.requests j);
     } in
-    let next : IsNext c.self.inside.core (record { ask = asked; answer = answered; panel = q }) = record {
+    let next : IsNextEvent c.self.inside.core (record { ask = asked; answer = answered; panel = q }) = record {
       own = c.apply-answer.ensures.own;
       step = c.apply-answer.ensures.step;
     } in
     let leads : Leads c.self.inside.core asked answered q = record { next = next; event = event } in
     let grown = history_event g.B.Recording.first c.self.inside.pass c.self.inside.core c.args.desk.now said asked answered q i.0 leads same in (
-      subst (λ (es : List Entry). IsHistory g.B.Recording.first es q) (sym c.tell_event.ensures.history) grown,
+      subst (λ (es : List HistoryEntry). IsHistory g.B.Recording.first es q) (sym c.tell_event.ensures.history) grown,
       c.mainframe_stays_good.ensures.step _ _ _ _ _ i.1 c.apply-answer.ensures.step,
       i.2,
     )
@@ -79,23 +79,23 @@ invariant_of-self-2 g c =
 pub returns-clause-history : goal.returns-clause-history
 returns-clause-history g c =
     let i = c.self.invariant in
-    let event : is_event (answer_view c.apply-answer.result) ≡ true = search rules in
-    let asked = ask_view c.args.ask in
-    let answered = answer_view c.apply-answer.result in
+    let event : is_event (answer_seen c.apply-answer.result) ≡ true = search rules in
+    let asked = ask_seen c.args.ask in
+    let answered = answer_seen c.apply-answer.result in
     let q = c.apply-answer.new.self in
     let said : Said = record {
       number = c.events.result;
-      ask = ask_view c.of-asked.result.value;
-      answer = answer_view c.of.result.value;
+      ask = ask_seen c.of-asked.result.value;
+      answer = answer_seen c.of.result.value;
       pair = c.pair.result;
     } in
     let same : said ≡ said_at q asked answered = λ j. record {
       number = c.events.ensures j;
-      ask = ask_view (c.of-asked.ensures j);
-      answer = answer_view (c.of.ensures j);
+      ask = ask_seen (c.of-asked.ensures j);
+      answer = answer_seen (c.of.ensures j);
       pair = (c.pair.ensures.byte j, c.pair.ensures.requests j);
     } in
-    let next : IsNext c.self.inside.core (record { ask = asked; answer = answered; panel = q }) = record {
+    let next : IsNextEvent c.self.inside.core (record { ask = asked; answer = answered; panel = q }) = record {
       own = c.apply-answer.ensures.own;
       step = c.apply-answer.ensures.step;
     } in

@@ -1,5 +1,5 @@
 use Rattle.std.proofs.Common.{◌≡◌, false, IfOk, OnOk, OnErr, subst}
-use Rattle.sw_session.specs.Engine.{EngineStanding, Takes, Falters, session_of}
+use Rattle.sw_session.specs.Engine.{EngineStanding, TakesMessage, Falters, session_of}
 use Rattle.sw_session.specs.EngineStep.{LedBy}
 use Rattle.sw_session.proofs.EngineTakes.{falters-again, falters-at, heard-well, spent-since}
 use Rattle.sw_session.proofs.engine.session.Engine.take.Goals as goal
@@ -13,7 +13,7 @@ pub returns-clause-ok : goal.returns-clause-ok
 returns-clause-ok g c =
     subst (λ (e : EngineStanding). IfOk c.take-step.result (λ step.
     LedBy g.D.Desk.passes c.args.desk.now c.take-step.new.desk (λ asked.
-    Takes e.state c.args.message asked step c.take-step.new.self))) c.self.view_is c.take-step.ensures.ok
+    TakesMessage e.state c.args.message asked step c.take-step.new.self))) c.self.view_is c.take-step.ensures.ok
 
 pub returns-clause-heard : goal.returns-clause-heard
 returns-clause-heard g c =

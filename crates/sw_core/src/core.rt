@@ -4,8 +4,8 @@ ghost use Rattle.std.specs.Prelude.{◌≡◌, Bool, IfOk, None, Some};
 ghost use Rattle.sw_cage.specs.Change.{any_failed};
 ghost use Rattle.sw_status.specs.StatusModel.{summary_of};
 ghost use Rattle.sw_core.specs.Sessions.{IsJoined};
-ghost use Rattle.sw_core.specs.View.{ask_view, answer_view, work_view, failed_in, HandsBack, IsOwnAccount};
-ghost use Rattle.sw_core.specs.View.{AskSession, AskInstall, AskEject, SaysSession};
+ghost use Rattle.sw_core.specs.Seen.{ask_seen, answer_seen, work_seen, failed_in, HandsBack, IsOwnAccount};
+ghost use Rattle.sw_core.specs.Seen.{AskSession, AskInstall, AskEject, SaysSession};
 ghost use Rattle.sw_core.specs.Panel.{Panel, opening, opening_at};
 ghost use Rattle.sw_core.specs.Seats.{asker_of};
 ghost use Rattle.sw_core.specs.Step.{Step, Acts, StepSession, StepNew, StepJoin, StepAttach, StepJoined};
@@ -95,10 +95,10 @@ impl<R: Relay, M: Meter> Core<R, M> {
     /// does.
     #[tactic(auto, using(crate::proofs::Numbered::worn_step, crate::proofs::Numbered::numbered_step, crate::proofs::Numbered::own_worn))]
     pub fn apply(&mut self, alloc: Global, ask: Ask<R, M>) -> Answer<R, M>
-        ensures step { Step self.old (ask_view ask)
-            (failed_in (ask_view ask) (answer_view result) self.old.cage.cards self.new.cage.cards)
-            (answer_view result) self.new }
-        ensures own { IsOwnAccount (ask_view ask) }
+        ensures step { Step self.old (ask_seen ask)
+            (failed_in (ask_seen ask) (answer_seen result) self.old.cage.cards self.new.cage.cards)
+            (answer_seen result) self.new }
+        ensures own { IsOwnAccount (ask_seen ask) }
         ensures back { HandsBack ask result }
     {
         if self.events == u64::MAX && !acts_unnumbered(&ask) {
@@ -113,7 +113,7 @@ impl<R: Relay, M: Meter> Core<R, M> {
     #[tactic(auto, using(crate::proofs::Numbered::worn_step, crate::proofs::Numbered::numbered_step))]
     pub fn ask(&mut self, alloc: Global, ask: SessionAsk) -> (SessionAnswer, Option<Work<M>>)
         ensures { Step self.old (AskSession ask) (any_failed self.old.cage.cards self.new.cage.cards)
-            (SaysSession result.0 (work_view result.1)) self.new }
+            (SaysSession result.0 (work_seen result.1)) self.new }
     {
         if self.events == u64::MAX && !session_acts_unnumbered(&ask) {
             return (SessionAnswer::Worn(ask), None);
@@ -125,10 +125,10 @@ impl<R: Relay, M: Meter> Core<R, M> {
 
     /// Does what is asked, and leaves the end of the event to the caller.
     fn act(&mut self, alloc: Global, ask: Ask<R, M>) -> Answer<R, M>
-        ensures acts { Acts self.old (ask_view ask)
-            (failed_in (ask_view ask) (answer_view result) self.old.cage.cards self.new.cage.cards)
-            (answer_view result) self.new }
-        ensures own { IsOwnAccount (ask_view ask) }
+        ensures acts { Acts self.old (ask_seen ask)
+            (failed_in (ask_seen ask) (answer_seen result) self.old.cage.cards self.new.cage.cards)
+            (answer_seen result) self.new }
+        ensures own { IsOwnAccount (ask_seen ask) }
         ensures back { HandsBack ask result }
     {
         match ask {
@@ -148,7 +148,7 @@ impl<R: Relay, M: Meter> Core<R, M> {
     #[inline(never)]
     fn install(&mut self, slot: u8, card: Card<R, M>) -> Answer<R, M>
         ensures acts { Acts self.old (AskInstall slot card.1) (any_failed self.old.cage.cards self.new.cage.cards)
-            (answer_view result) self.new }
+            (answer_seen result) self.new }
         ensures back { HandsBack (Ask.Install slot card) result }
     {
         match self.cage.install(slot, card) {
@@ -161,7 +161,7 @@ impl<R: Relay, M: Meter> Core<R, M> {
     #[inline(never)]
     fn eject(&mut self, slot: u8) -> Answer<R, M>
         ensures { Acts self.old (AskEject slot) (any_failed self.old.cage.cards self.new.cage.cards)
-            (answer_view result) self.new }
+            (answer_seen result) self.new }
     {
         match self.cage.eject(slot) {
             Ok(card) => {
@@ -175,7 +175,7 @@ impl<R: Relay, M: Meter> Core<R, M> {
     #[tactic(auto, using(crate::proofs::Calls::failed_same))]
     fn session(&mut self, alloc: Global, ask: SessionAsk) -> (SessionAnswer, Option<Work<M>>)
         ensures { StepSession (asker_of ask) self.old ask (any_failed self.old.cage.cards self.new.cage.cards) result.0
-            (work_view result.1) self.new }
+            (work_seen result.1) self.new }
     {
         let Some(sid) = asker(&ask) else {
             return (self.newcomer(ask), None);
@@ -237,7 +237,7 @@ impl<R: Relay, M: Meter> Core<R, M> {
         requires asker { asker_of ask ≡ Some sid }
         requires joined { IsJoined self.old.sessions sid }
         ensures { StepJoined self.old ask (any_failed self.old.cage.cards self.new.cage.cards) result.0
-            (work_view result.1) self.new }
+            (work_seen result.1) self.new }
     {
         match ask {
             SessionAsk::Fault(_, error) => {

@@ -1,6 +1,6 @@
 use Rattle.std.proofs.Common.{◌≡◌, Bool, ap, sym, subst, ◌∙◌}
 use Rattle.std.specs.Prelude.{if◌then◌else◌}
-use Rattle.sw_trigger.specs.Settings.{Setup}
+use Rattle.sw_trigger.specs.Settings.{SettingsSeen}
 use Rattle.sw_verify.specs.declared.snapshot.Snapshot.{Snapshot}
 use Rattle.sw_cage.specs.Outcome.{Advances, begun}
 use Rattle.sw_cage.specs.TakenSeen.{taken_seen}
@@ -8,7 +8,7 @@ use Rattle.sw_core.specs.Panel.{Panel}
 use Rattle.sw_core.specs.Registers.{card_fault_reported, card_fault_cleared}
 use Rattle.sw_core.specs.Step.{MayScan, snapshot_of}
 use Rattle.sw_core.proofs.Happened.{unbegun, started}
-use Rattle.sw_core.proofs.machine.Core.begin.Goals as goal
+use Rattle.sw_core.proofs.core.Core.begin.Goals as goal
 
 pub returns-in-Err : goal.returns-in-Err
 returns-in-Err g c =
@@ -35,7 +35,7 @@ returns-in-Ok g c =
     } in
     let same : c.args.plan ≡ snapshot_of p = subst (λ (x : Panel). c.args.plan ≡ snapshot_of x) (sym c.self.view_is) c.requires.same in
     let goes : Advances (begun p.cage) p.settings 0 (taken_seen c.in-Ok.told) c.start.new.self =
-    subst (λ (x : Setup). Advances (begun p.cage) x 0 (taken_seen c.in-Ok.told) c.start.new.self) (ap (λ (x : Snapshot).
+    subst (λ (x : SettingsSeen). Advances (begun p.cage) x 0 (taken_seen c.in-Ok.told) c.start.new.self) (ap (λ (x : Snapshot).
     x.settings) same) c.in-Ok.ensures.ok in
     let status = c.set_card_fault.ensures ∙ ap (λ (b : Bool). if b then card_fault_reported p.status else card_fault_cleared p.status) c.tells_fault.ensures in
     rw (

@@ -1,8 +1,0 @@
-use Rattle.std.specs.Prelude.{◌≢◌, ◌-◌, ◌≤◌, All, length, take}
-use Rattle.mainframe.proofs.reading.line_end.Given as goal
-
-abbrev pub invariant-loop-i : goal.invariant-loop-i
-invariant-loop-i l = (l.i ≤ length l.bytes) × All (λ x. x ≢ 10) (take l.i l.bytes)
-
-abbrev pub decreases-loop-i : goal.decreases-loop-i
-decreases-loop-i l = length l.bytes - l.i
