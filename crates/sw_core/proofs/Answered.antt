@@ -5,8 +5,8 @@ use Rattle.sw_base.specs.declared.error.ScpiError.{ScpiError}
 use Rattle.sw_base.specs.declared.error.ScpiError.TheVariants.{SettingsConflict}
 use Rattle.sw_base.specs.declared.reading.Reading.{Reading}
 use Rattle.sw_cage.specs.TakenSeen.{TakenSeen, SaysIgnored, SaysFault, SaysWaits, SaysPause, SaysJob, SaysEnded}
-use Rattle.sw_core.specs.Action.{Effect, TellsNumber, TellsText, TellsReadings, ReadsOut, SetsStatus, SetsUp, Closes, Opens, TellsRelays, Leaves}
-use Rattle.sw_core.specs.Action.{Resets, Offers, Refuses, IsOfMacros, Initiates, Action, AtOnce, BetweenScans, AfterScan, action_of}
+use Rattle.sw_core.specs.Action.{Effect, TellsNumber, TellsText, TellsReadings, ReadsOut, SetsStatus, SetsUp, ClosesListed, OpensListed, TellsRelays, Changes}
+use Rattle.sw_core.specs.Action.{Resets, Offers, RefusesWith, IsOfMacros, Initiates, Action, AtOnce, BetweenScans, AfterScan, action_of}
 use Rattle.sw_core.specs.declared.ask.Sid.{Sid}
 use Rattle.sw_core.specs.declared.ask.SessionAsk.{SessionAsk}
 use Rattle.sw_core.specs.declared.ask.SessionAsk.TheVariants as Ask
@@ -39,12 +39,12 @@ alone_answered (TellsText text) p f a q h = absurd h
 alone_answered (ReadsOut text after) p f a q h = absurd h
 alone_answered (SetsStatus after) p f a q h = absurd h
 alone_answered (SetsUp Fits error after) p f a q h = absurd h
-alone_answered (Closes chans) p f a q h = absurd h
-alone_answered (Opens chans) p f a q h = absurd h
+alone_answered (ClosesListed chans) p f a q h = absurd h
+alone_answered (OpensListed chans) p f a q h = absurd h
 alone_answered (TellsRelays closed chans) p f a q h = absurd h
-alone_answered (Leaves after) p f a q h = absurd h
+alone_answered (Changes after) p f a q h = absurd h
 alone_answered Resets p f a q h = absurd h
-alone_answered (Refuses error) p f a q h = absurd h
+alone_answered (RefusesWith error) p f a q h = absurd h
 alone_answered IsOfMacros p f a q h = absurd h
 alone_answered Initiates p f a q h = absurd h
 alone_answered (Offers happening error) p f a q h = absurd h

@@ -33,8 +33,8 @@ use Rattle.sw_core.specs.declared.ask.SessionAnswer.TheVariants as Answer
 use Rattle.sw_core.specs.declared.ask.SessionAnswer.TheVariants.{Joined, Full, Stranger, Broken, Done, Refused, Hold}
 use Rattle.sw_core.specs.Panel.{Panel, with_cards, is_running}
 use Rattle.sw_core.specs.Registers.{card_fault_reported, card_fault_cleared}
-use Rattle.sw_core.specs.Action.{Effect, TellsNumber, TellsText, TellsReadings, ReadsOut, SetsStatus, SetsUp, Closes, Opens, TellsRelays, Leaves}
-use Rattle.sw_core.specs.Action.{Resets, reset, Offers, Refuses, IsOfMacros, Initiates, Action, AtOnce, BetweenScans, AfterScan, action_of}
+use Rattle.sw_core.specs.Action.{Effect, TellsNumber, TellsText, TellsReadings, ReadsOut, SetsStatus, SetsUp, ClosesListed, OpensListed, TellsRelays, Changes}
+use Rattle.sw_core.specs.Action.{Resets, reset, Offers, RefusesWith, IsOfMacros, Initiates, Action, AtOnce, BetweenScans, AfterScan, action_of}
 use Rattle.sw_core.specs.Seats.{asker_of}
 use Rattle.sw_core.specs.Event.{concluded, ended, erred, last_number}
 use Rattle.sw_core.specs.Seen.{WorkSeen, AskSeen, AskSession, AskInstall, AskEject, AskExternal, AskElapsed, AskFinished, AnswerSeen, SaysSession}
@@ -188,12 +188,12 @@ told_alone TellsReadings p a q h = absurd (no_readings p.cage.readings p a q h)
 told_alone (ReadsOut text after) p a q h = absurd (no_text p (text p.status) (after p.status) a q h)
 told_alone (SetsStatus after) p a q h = absurd (no_done (record p { status = after p.status }) a q h)
 told_alone (SetsUp Fits error after) p a q h = absurd (no_setting p Fits error (after p.settings) a q h)
-told_alone (Closes chans) p a q h = told_close p chans a q h
-told_alone (Opens chans) p a q h = told_open p chans a q h
+told_alone (ClosesListed chans) p a q h = told_close p chans a q h
+told_alone (OpensListed chans) p a q h = told_open p chans a q h
 told_alone (TellsRelays closed chans) p a q h = absurd (no_flags p closed chans a q h)
-told_alone (Leaves after) p a q h = absurd (no_done (after p) a q h)
+told_alone (Changes after) p a q h = absurd (no_done (after p) a q h)
 told_alone Resets p a q h = absurd (no_done (reset p) a q h)
-told_alone (Refuses error) p a q h = absurd (no_refused p error a q h)
+told_alone (RefusesWith error) p a q h = absurd (no_refused p error a q h)
 told_alone IsOfMacros p a q h = absurd (no_refused p UndefinedHeader a q h)
 told_alone Initiates p a q h = absurd (no_refused p UndefinedHeader a q h)
 told_alone (Offers happening error) p a q h = absurd h

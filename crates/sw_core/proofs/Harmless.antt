@@ -15,8 +15,8 @@ use Rattle.sw_cage.specs.Good.{IsRunning}
 use Rattle.sw_cage.proofs.SlotChangeLemmas.{is_none, all_open_closed, exclusive_none}
 use Rattle.sw_cage.proofs.ChannelCallLemmas.{identities_all_open}
 use Rattle.sw_core.specs.Panel.{Panel, is_running}
-use Rattle.sw_core.specs.Action.{Effect, TellsNumber, TellsText, TellsReadings, ReadsOut, SetsStatus, SetsUp, Closes, Opens, TellsRelays, Leaves}
-use Rattle.sw_core.specs.Action.{Resets, Offers, Refuses, IsOfMacros, Initiates, Action, AtOnce, BetweenScans, AfterScan, action_of}
+use Rattle.sw_core.specs.Action.{Effect, TellsNumber, TellsText, TellsReadings, ReadsOut, SetsStatus, SetsUp, ClosesListed, OpensListed, TellsRelays, Changes}
+use Rattle.sw_core.specs.Action.{Resets, Offers, RefusesWith, IsOfMacros, Initiates, Action, AtOnce, BetweenScans, AfterScan, action_of}
 use Rattle.sw_core.proofs.Kept.{IsKept, kept_rack, kept_over}
 use Rattle.std.specs.Prelude.{IfSome}
 use Rattle.sw_base.specs.declared.terms.StatusGroup.{StatusGroup}
@@ -136,13 +136,13 @@ IsHarmless p TellsReadings = Unit {0}
 IsHarmless p (ReadsOut text after) = IsStatus p.status → IsStatus (after p.status)
 IsHarmless p (SetsStatus after) = IsStatus p.status → IsStatus (after p.status)
 IsHarmless p (SetsUp Fits error after) = (Fits → IsInRange p.settings → IsInRange (after p.settings)) × (error ≢ HardwareError) × (is_running p ≡ false)
-IsHarmless p (Closes chans) = is_running p ≡ false
-IsHarmless p (Opens chans) = is_running p ≡ false
+IsHarmless p (ClosesListed chans) = is_running p ≡ false
+IsHarmless p (OpensListed chans) = is_running p ≡ false
 IsHarmless p (TellsRelays closed chans) = Unit {0}
-IsHarmless p (Leaves after) = IsFine p → IsFine (after p)
+IsHarmless p (Changes after) = IsFine p → IsFine (after p)
 IsHarmless p Resets = Unit {0}
 IsHarmless p (Offers happening error) = error ≢ HardwareError
-IsHarmless p (Refuses error) = error ≢ HardwareError
+IsHarmless p (RefusesWith error) = error ≢ HardwareError
 IsHarmless p IsOfMacros = Unit {0}
 IsHarmless p Initiates = Unit {0}
 

@@ -32,8 +32,8 @@ use Rattle.sw_core.specs.declared.ask.SessionAsk.TheVariants as Ask
 use Rattle.sw_core.specs.declared.ask.SessionAnswer.{SessionAnswer}
 use Rattle.sw_core.specs.declared.ask.SessionAnswer.TheVariants.{Done, Refused}
 use Rattle.sw_core.specs.Panel.{Panel, is_running}
-use Rattle.sw_core.specs.Action.{Effect, TellsNumber, TellsText, TellsReadings, ReadsOut, SetsStatus, SetsUp, Closes, Opens, TellsRelays, Leaves}
-use Rattle.sw_core.specs.Action.{Resets, Offers, Refuses, IsOfMacros, Initiates, Action, AtOnce, BetweenScans, AfterScan, action_of}
+use Rattle.sw_core.specs.Action.{Effect, TellsNumber, TellsText, TellsReadings, ReadsOut, SetsStatus, SetsUp, ClosesListed, OpensListed, TellsRelays, Changes}
+use Rattle.sw_core.specs.Action.{Resets, Offers, RefusesWith, IsOfMacros, Initiates, Action, AtOnce, BetweenScans, AfterScan, action_of}
 use Rattle.sw_core.specs.Registers.{card_fault_reported}
 use Rattle.sw_core.specs.Event.{ended, erred, last_number}
 use Rattle.sw_core.specs.Seen.{WorkSeen, AskSeen, AskSession, AskInstall, AskEject, AskExternal, AskElapsed, AskFinished, AnswerSeen, SaysSession, SaysEjected}
@@ -84,7 +84,7 @@ closes p q chans available failed s c i =
     let sid = s.0 in
     let h = s.1 in
     let e = event_of p (AskSession (Ask.Unit sid (Command.Close chans) available)) failed (SaysSession (Done None) None) q (λ w. w) h in
-    let d = (not_barred (is_running p) p (Closes chans) failed None None e.done (done_of p sid (Command.Close chans) available failed q e)).0 in
+    let d = (not_barred (is_running p) p (ClosesListed chans) failed None None e.done (done_of p sid (Command.Close chans) available failed q e)).0 in
     ap (λ (x : Panel). is_closed x.cage.cards c) e.after ∙ d.2.closed c ∙ ap (λ (b : Bool). if b then true else is_closed p.cage.cards c) i
 
 pub opens : (p q : Panel) (chans : List Channel) (available failed : Bool) → IsDoneFor p (Command.Open chans) available failed q → (c : Channel)
@@ -94,7 +94,7 @@ opens p q chans available failed s c i =
     let sid = s.0 in
     let h = s.1 in
     let e = event_of p (AskSession (Ask.Unit sid (Command.Open chans) available)) failed (SaysSession (Done None) None) q (λ w. w) h in
-    let d = (not_barred (is_running p) p (Opens chans) failed None None e.done (done_of p sid (Command.Open chans) available failed q e)).0 in
+    let d = (not_barred (is_running p) p (OpensListed chans) failed None None e.done (done_of p sid (Command.Open chans) available failed q e)).0 in
     ap (λ (x : Panel). is_closed x.cage.cards c) e.after ∙ d.2.closed c ∙ ap (λ (b : Bool). if b then false else is_closed p.cage.cards c) i
 
 pub aborted : (p q : Panel) (available failed : Bool) → IsDoneFor p Command.Abort available failed q → IsAtRest q
@@ -184,12 +184,12 @@ alone_quiet TellsReadings p f e q h n = readings_quiet p.cage.readings p f e q h
 alone_quiet (ReadsOut text after) p f e q h n = text_quiet p (text p.status) (after p.status) f e q h
 alone_quiet (SetsStatus after) p f e q h n = absurd h
 alone_quiet (SetsUp Fits error after) p f e q h n = h.3
-alone_quiet (Closes chans) p f e q h n = close_quiet p chans f e q h n
-alone_quiet (Opens chans) p f e q h n = open_quiet p chans f e q h n
+alone_quiet (ClosesListed chans) p f e q h n = close_quiet p chans f e q h n
+alone_quiet (OpensListed chans) p f e q h n = open_quiet p chans f e q h n
 alone_quiet (TellsRelays closed chans) p f e q h n = flags_quiet p closed chans f e q h
-alone_quiet (Leaves after) p f e q h n = absurd h
+alone_quiet (Changes after) p f e q h n = absurd h
 alone_quiet Resets p f e q h n = absurd h
-alone_quiet (Refuses error) p f e q h n = h.2
+alone_quiet (RefusesWith error) p f e q h n = h.2
 alone_quiet IsOfMacros p f e q h n = h.2
 alone_quiet Initiates p f e q h n = h.2
 alone_quiet (Offers happening error) p f e q h n = absurd h
@@ -315,12 +315,12 @@ alone_down TellsReadings p f q n h = readings_down p.cage.readings p f q h
 alone_down (ReadsOut text after) p f q n h = absurd h
 alone_down (SetsStatus after) p f q n h = absurd h
 alone_down (SetsUp Fits error after) p f q n h = absurd (n.1 (sym h.2))
-alone_down (Closes chans) p f q n h = falls_down p f q h.0 n h.2
-alone_down (Opens chans) p f q n h = falls_down p f q h.0 n h.2
+alone_down (ClosesListed chans) p f q n h = falls_down p f q h.0 n h.2
+alone_down (OpensListed chans) p f q n h = falls_down p f q h.0 n h.2
 alone_down (TellsRelays closed chans) p f q n h = absurd h
-alone_down (Leaves after) p f q n h = absurd h
+alone_down (Changes after) p f q n h = absurd h
 alone_down Resets p f q n h = absurd h
-alone_down (Refuses error) p f q n h = absurd (n (sym h.1))
+alone_down (RefusesWith error) p f q n h = absurd (n (sym h.1))
 alone_down IsOfMacros p f q n h = undefined_down p f q h
 alone_down Initiates p f q n h = undefined_down p f q h
 alone_down (Offers happening error) p f q n h = absurd h

@@ -15,8 +15,8 @@ use Rattle.sw_cage.specs.Change.{Sets}
 use Rattle.sw_core.specs.declared.ask.SessionAnswer.{SessionAnswer}
 use Rattle.sw_core.specs.declared.ask.SessionAnswer.TheVariants.{Done, Refused}
 use Rattle.sw_core.specs.Panel.{Panel, with_cards}
-use Rattle.sw_core.specs.Action.{Effect, TellsNumber, TellsText, TellsReadings, ReadsOut, SetsStatus, SetsUp, Closes, Opens, TellsRelays, Leaves}
-use Rattle.sw_core.specs.Action.{Resets, reset, Offers, Refuses, IsOfMacros, Initiates}
+use Rattle.sw_core.specs.Action.{Effect, TellsNumber, TellsText, TellsReadings, ReadsOut, SetsStatus, SetsUp, ClosesListed, OpensListed, TellsRelays, Changes}
+use Rattle.sw_core.specs.Action.{Resets, reset, Offers, RefusesWith, IsOfMacros, Initiates}
 use Rattle.sw_core.specs.Seen.{AnswerSeen, SaysSession, SaysFailed}
 use Rattle.sw_core.specs.Step.{StepClose, StepOpen, StepFlags, StepText, StepDone, StepSetting, StepRefused, StepReadings, StepAlone}
 use Rattle.sw_core.proofs.Same.{sets_once}
@@ -115,12 +115,12 @@ alone_once TellsReadings p f f' a a' q q' n m h k = readings_once p.cage.reading
 alone_once (ReadsOut text after) p f f' a a' q q' n m h k = text_once p (text p.status) (after p.status) f f' a a' q q' n m h k
 alone_once (SetsStatus after) p f f' a a' q q' n m h k = done_once (record p { status = after p.status }) f f' a a' q q' h k
 alone_once (SetsUp Fits error after) p f f' a a' q q' n m h k = setting_once p Fits error (after p.settings) f f' a a' q q' h k
-alone_once (Closes chans) p f f' a a' q q' n m h k = close_once p chans f f' a a' q q' n m h k
-alone_once (Opens chans) p f f' a a' q q' n m h k = open_once p chans f f' a a' q q' n m h k
+alone_once (ClosesListed chans) p f f' a a' q q' n m h k = close_once p chans f f' a a' q q' n m h k
+alone_once (OpensListed chans) p f f' a a' q q' n m h k = open_once p chans f f' a a' q q' n m h k
 alone_once (TellsRelays closed chans) p f f' a a' q q' n m h k = flags_once p closed chans f f' a a' q q' n m h k
-alone_once (Leaves after) p f f' a a' q q' n m h k = done_once (after p) f f' a a' q q' h k
+alone_once (Changes after) p f f' a a' q q' n m h k = done_once (after p) f f' a a' q q' h k
 alone_once Resets p f f' a a' q q' n m h k = done_once (reset p) f f' a a' q q' h k
-alone_once (Refuses error) p f f' a a' q q' n m h k = refused_once p error f f' a a' q q' h k
+alone_once (RefusesWith error) p f f' a a' q q' n m h k = refused_once p error f f' a a' q q' h k
 alone_once IsOfMacros p f f' a a' q q' n m h k = refused_once p UndefinedHeader f f' a a' q q' h k
 alone_once Initiates p f f' a a' q q' n m h k = refused_once p UndefinedHeader f f' a a' q q' h k
 alone_once (Offers happening error) p f f' a a' q q' n m h k = absurd h

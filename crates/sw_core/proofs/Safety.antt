@@ -37,8 +37,8 @@ use Rattle.sw_core.specs.declared.ask.SessionAnswer.{SessionAnswer}
 use Rattle.sw_core.specs.declared.ask.SessionAnswer.TheVariants as answers
 use Rattle.sw_core.specs.declared.ask.SessionAnswer.TheVariants.{Joined, Full, Stranger, Broken, Done, Refused, Hold, Worn}
 use Rattle.sw_core.specs.Panel.{Panel, opening_at, with_cards, is_running}
-use Rattle.sw_core.specs.Action.{Effect, TellsNumber, TellsText, TellsReadings, ReadsOut, SetsStatus, SetsUp, Closes, Opens, TellsRelays, Leaves}
-use Rattle.sw_core.specs.Action.{Resets, reset, Offers, Refuses, IsOfMacros, Initiates, Action, AtOnce, BetweenScans, AfterScan, action_of}
+use Rattle.sw_core.specs.Action.{Effect, TellsNumber, TellsText, TellsReadings, ReadsOut, SetsStatus, SetsUp, ClosesListed, OpensListed, TellsRelays, Changes}
+use Rattle.sw_core.specs.Action.{Resets, reset, Offers, RefusesWith, IsOfMacros, Initiates, Action, AtOnce, BetweenScans, AfterScan, action_of}
 use Rattle.sw_core.specs.Event.{concluded, session_concluded, last_number}
 use Rattle.sw_core.specs.Seen.{WorkSeen, AskSeen, AskSession, AskInstall, AskEject, AskExternal, AskElapsed, AskFinished, AnswerSeen, SaysSession}
 use Rattle.sw_core.specs.Seen.{SaysInstalled, SaysNotInstalled, SaysEjected, SaysNotEjected, SaysTaken, SaysMissed, SaysFailed, SaysBack, SaysWorn}
@@ -163,8 +163,8 @@ alone_fine (ReadsOut text after) p f a q k n h = text_fine p (text p.status) (af
 alone_fine (SetsStatus after) p f a q k n h =
     done_fine (record p { status = after p.status }) f a q (record { cage = k.cage; range = k.range; settings = k.settings; status = n k.status }) h
 alone_fine (SetsUp Fits error after) p f a q k n h = setting_fine p Fits error (after p.settings) f a q k n.2 n.0 h
-alone_fine (Closes chans) p f a q k n h = close_fine p chans f a q k n h
-alone_fine (Opens chans) p f a q k n h = open_fine p chans f a q k n h
+alone_fine (ClosesListed chans) p f a q k n h = close_fine p chans f a q k n h
+alone_fine (OpensListed chans) p f a q k n h = open_fine p chans f a q k n h
 alone_fine (TellsRelays closed chans) p f a q k n h = flags_fine p closed chans f a q k h
 alone_fine Resets p f a q k n h =
     done_fine (reset p) f a q (record {
@@ -173,8 +173,8 @@ alone_fine Resets p f a q k n h =
       settings = tt;
       status = cleared_status p.status k.status;
     }) h
-alone_fine (Leaves after) p f a q k n h = done_fine (after p) f a q (n k) h
-alone_fine (Refuses error) p f a q k n h = refused_fine p error f a q k h
+alone_fine (Changes after) p f a q k n h = done_fine (after p) f a q (n k) h
+alone_fine (RefusesWith error) p f a q k n h = refused_fine p error f a q k h
 alone_fine IsOfMacros p f a q k n h = refused_fine p UndefinedHeader f a q k h
 alone_fine Initiates p f a q k n h = refused_fine p UndefinedHeader f a q k h
 alone_fine (Offers happening error) p f a q k n h = absurd h

@@ -21,8 +21,8 @@ use Rattle.sw_core.specs.declared.ask.SessionAsk.TheVariants as Ask
 use Rattle.sw_core.specs.declared.ask.SessionAnswer.{SessionAnswer}
 use Rattle.sw_core.specs.declared.ask.SessionAnswer.TheVariants.{Done, Refused}
 use Rattle.sw_core.specs.Panel.{Panel, is_running}
-use Rattle.sw_core.specs.Action.{Effect, TellsNumber, TellsText, TellsReadings, ReadsOut, SetsStatus, SetsUp, Closes, Opens, TellsRelays, Leaves}
-use Rattle.sw_core.specs.Action.{Resets, reset, Offers, Refuses, IsOfMacros, Initiates, Action, AtOnce, BetweenScans, AfterScan, action_of}
+use Rattle.sw_core.specs.Action.{Effect, TellsNumber, TellsText, TellsReadings, ReadsOut, SetsStatus, SetsUp, ClosesListed, OpensListed, TellsRelays, Changes}
+use Rattle.sw_core.specs.Action.{Resets, reset, Offers, RefusesWith, IsOfMacros, Initiates, Action, AtOnce, BetweenScans, AfterScan, action_of}
 use Rattle.sw_core.specs.Step.{StepClose, StepOpen, StepFlags, StepText, StepDone, StepSetting, StepRefused, StepReadings, StepAlone}
 use Rattle.sw_core.specs.Ends.{went_on, breaks_off}
 use Rattle.sw_core.specs.Seen.{AskSeen, AskSession, AnswerSeen, SaysSession}
@@ -58,13 +58,13 @@ IsStillEffect off p TellsReadings = Unit {0}
 IsStillEffect off p (ReadsOut text after) = Unit {0}
 IsStillEffect off p (SetsStatus after) = Unit {0}
 IsStillEffect off p (SetsUp Fits error after) = Unit {0}
-IsStillEffect off p (Closes chans) = p.cage.scan ≡ None
-IsStillEffect off p (Opens chans) = p.cage.scan ≡ None
+IsStillEffect off p (ClosesListed chans) = p.cage.scan ≡ None
+IsStillEffect off p (OpensListed chans) = p.cage.scan ≡ None
 IsStillEffect off p (TellsRelays closed chans) = Unit {0}
-IsStillEffect off p (Leaves after) = IsStill off p (after p)
+IsStillEffect off p (Changes after) = IsStill off p (after p)
 IsStillEffect off p Resets = off ≡ true
 IsStillEffect off p (Offers happening error) = went_on (Refused error) ≡ 0
-IsStillEffect off p (Refuses error) = Unit {0}
+IsStillEffect off p (RefusesWith error) = Unit {0}
 IsStillEffect off p IsOfMacros = Unit {0}
 IsStillEffect off p Initiates = Unit {0}
 
@@ -203,12 +203,12 @@ still_alone ask TellsReadings p f a q n h = still_readings p.cage.readings p f a
 still_alone ask (ReadsOut text after) p f a q n h = still_text p (text p.status) (after p.status) f a q h
 still_alone ask (SetsStatus after) p f a q n h = still_done p (record p { status = after p.status }) f a q (λ e. inl refl) h
 still_alone ask (SetsUp Fits error after) p f a q n h = still_setting p Fits error (after p.settings) f a q h
-still_alone ask (Closes chans) p f a q n h = still_close p chans f a q n h
-still_alone ask (Opens chans) p f a q n h = still_open p chans f a q n h
+still_alone ask (ClosesListed chans) p f a q n h = still_close p chans f a q n h
+still_alone ask (OpensListed chans) p f a q n h = still_open p chans f a q n h
 still_alone ask (TellsRelays closed chans) p f a q n h = still_flags p closed chans f a q h
-still_alone ask (Leaves after) p f a q n h = still_done p (after p) f a q (λ e. subst (λ (b : Bool). IsStill b p (after p)) (off_as ask a e) n) h
+still_alone ask (Changes after) p f a q n h = still_done p (after p) f a q (λ e. subst (λ (b : Bool). IsStill b p (after p)) (off_as ask a e) n) h
 still_alone ask Resets p f a q n h = still_done p (reset p) f a q (λ e. inr (inr (sym (off_as ask a e) ∙ n, refl, all_open_closed p.cage.cards, inr refl))) h
-still_alone ask (Refuses error) p f a q n h = still_refused p error f a q h
+still_alone ask (RefusesWith error) p f a q n h = still_refused p error f a q h
 still_alone ask IsOfMacros p f a q n h = still_refused p UndefinedHeader f a q h
 still_alone ask Initiates p f a q n h = still_refused p UndefinedHeader f a q h
 still_alone ask (Offers happening error) p f a q n h = absurd h

@@ -40,17 +40,17 @@ pub data Effect : Type 1 where
   -- it changes the settings where they fit then, and is else refused by this error
   SetsUp : (Fits : Type 0) → (error : ScpiError) → (after : SettingsSeen → SettingsSeen) → Effect
   -- it closes channels, or opens them, or tells for each whether it is closed, or open
-  Closes : (chans : List Channel) → Effect
-  Opens : (chans : List Channel) → Effect
+  ClosesListed : (chans : List Channel) → Effect
+  OpensListed : (chans : List Channel) → Effect
   TellsRelays : (closed : Bool) → (chans : List Channel) → Effect
   -- it leaves this state
-  Leaves : (after : Panel → Panel) → Effect
+  Changes : (after : Panel → Panel) → Effect
   -- it resets the mainframe
   Resets : Effect
   -- it is offered to the scan; where no scan takes it, it is refused by this error
   Offers : (happening : Happening) → (error : ScpiError) → Effect
   -- it is refused by this error
-  Refuses : (error : ScpiError) → Effect
+  RefusesWith : (error : ScpiError) → Effect
   -- A session's own: macros, and the beginning of a scan. The mainframe is asked neither as a command, and refuses it
   -- as an undefined header.
   IsOfMacros : Effect
@@ -99,16 +99,16 @@ abbrev pub action_of : Bool → Command → Action
 action_of available Command.Identify = AtOnce (TellsText (λ p. identity_text))
 action_of available Command.Reset = AtOnce Resets
 action_of available Command.ClearStatus =
-    AtOnce (Leaves (λ p. record p { status = cleared p.status; opc_waits = false }))
+    AtOnce (Changes (λ p. record p { status = cleared p.status; opc_waits = false }))
 action_of available (Command.EventEnable bits) = AtOnce (SetsStatus (λ s. record s { ese = bits }))
 action_of available Command.EventEnableQuery = AtOnce (TellsNumber (λ p. p.status.ese))
 action_of available Command.EventQuery = AtOnce (ReadsOut (λ s. decimal s.esr) (λ s. record s { esr = 0 }))
 action_of available (Command.ServiceEnable bits) = AtOnce (SetsStatus (λ s. enabled s bits))
 action_of available Command.ServiceEnableQuery = AtOnce (TellsNumber (λ p. p.status.sre))
 action_of available Command.StatusByteQuery = AtOnce (TellsNumber (λ p. byte_of p.status available))
-action_of available Command.OperationComplete = AtOnce (Leaves (λ p. record p { opc_waits = true }))
+action_of available Command.OperationComplete = AtOnce (Changes (λ p. record p { opc_waits = true }))
 action_of available Command.OperationCompleteQuery = AfterScan (TellsNumber (λ p. 1))
-action_of available Command.Wait = AfterScan (Leaves (λ p. p))
+action_of available Command.Wait = AfterScan (Changes (λ p. p))
 action_of available Command.SelfTestQuery = AtOnce (TellsNumber (λ p. 0))
 action_of available Command.Trigger = AtOnce (Offers Bus TriggerIgnored)
 action_of available (Command.DefineMacro label body) = AtOnce IsOfMacros
@@ -118,16 +118,16 @@ action_of available (Command.RemoveMacro label) = AtOnce IsOfMacros
 action_of available Command.PurgeMacros = AtOnce IsOfMacros
 action_of available (Command.EnableMacros on) = AtOnce IsOfMacros
 action_of available Command.EnableMacrosQuery = AtOnce IsOfMacros
-action_of available Command.Abort = AtOnce (Leaves aborted)
+action_of available Command.Abort = AtOnce (Changes aborted)
 action_of available Command.Initiate = AtOnce Initiates
-action_of available (Command.InitiateContinuous true) = AtOnce (Refuses SettingsConflict)
-action_of available (Command.InitiateContinuous false) = AtOnce (Leaves (λ p. p))
+action_of available (Command.InitiateContinuous true) = AtOnce (RefusesWith SettingsConflict)
+action_of available (Command.InitiateContinuous false) = AtOnce (Changes (λ p. p))
 action_of available Command.InitiateContinuousQuery = AtOnce (TellsNumber (λ p. 0))
 action_of available (Command.Count layer n) =
     BetweenScans (SetsUp ((1 ≤ n) × (n ≤ most_of layer)) DataOutOfRange (with_count layer n))
 action_of available (Command.CountQuery layer) = AtOnce (TellsNumber (λ p. (layer_of p.settings layer).count))
 action_of available (Command.SetSource layer source) =
-    BetweenScans (Leaves (λ p. record p { settings = with_source layer source p.settings }))
+    BetweenScans (Changes (λ p. record p { settings = with_source layer source p.settings }))
 action_of available (Command.SourceQuery layer) =
     AtOnce (TellsText (λ p. source_word (layer_of p.settings layer).source))
 action_of available (Command.Delay layer micros) =
@@ -136,12 +136,12 @@ action_of available (Command.DelayQuery layer) = AtOnce (TellsText (λ p. fixed 
 action_of available (Command.Signal layer_name.Trigger) = AtOnce (Offers (Signal layer_name.Trigger) TriggerIgnored)
 action_of available (Command.Signal layer_name.Arm1) = AtOnce (Offers (Signal layer_name.Arm1) ArmIgnored)
 action_of available (Command.Signal layer_name.Arm2) = AtOnce (Offers (Signal layer_name.Arm2) ArmIgnored)
-action_of available (Command.Close chans) = BetweenScans (Closes chans)
+action_of available (Command.Close chans) = BetweenScans (ClosesListed chans)
 action_of available (Command.CloseQuery chans) = AtOnce (TellsRelays true chans)
 action_of available Command.CloseState = AtOnce (TellsText (λ p. printed (closed_list p.cage.cards)))
-action_of available (Command.Open chans) = BetweenScans (Opens chans)
+action_of available (Command.Open chans) = BetweenScans (OpensListed chans)
 action_of available (Command.OpenQuery chans) = AtOnce (TellsRelays false chans)
-action_of available Command.OpenAll = BetweenScans (Leaves (λ p. with_cards p (all_open p.cage.cards)))
+action_of available Command.OpenAll = BetweenScans (Changes (λ p. with_cards p (all_open p.cage.cards)))
 action_of available (Command.Scan chans) =
     BetweenScans (SetsUp (length chans ≤ most_entries) TooMuchData (λ s. record s { list = chans }))
 action_of available Command.ScanQuery = AtOnce (TellsText (λ p. printed p.settings.list))

@@ -68,9 +68,9 @@ abbrev pub IsOpenEnded : List ℕ → List (List ℕ) → Type 0
 IsOpenEnded text pieces = (piece : List ℕ) → 0 < length piece → IsRow (text ++ piece) (pieces ++ piece ∷ [])
 
 -- the text is answered, or that there was no memory for it
-abbrev pub TellsText : Result (List ℕ) AllocError → SessionAnswer → Type 0
-TellsText (Ok text) answer = answer ≡ Done (Some text)
-TellsText (Err e) answer = answer ≡ Refused OutOfMemory
+abbrev pub AnswersText : Result (List ℕ) AllocError → SessionAnswer → Type 0
+AnswersText (Ok text) answer = answer ≡ Done (Some text)
+AnswersText (Err e) answer = answer ≡ Refused OutOfMemory
 
 -- a setting was taken, or refused by an error
 abbrev pub TakesSetting : Result (Unit {0}) ScpiError → SessionAnswer → Type 0

@@ -35,9 +35,9 @@ use Rattle.sw_core.specs.declared.ask.SessionAnswer.{SessionAnswer}
 use Rattle.sw_core.specs.declared.ask.SessionAnswer.TheVariants as Answer
 use Rattle.sw_core.specs.declared.ask.SessionAnswer.TheVariants.{Joined, Full, Stranger, Broken, Done, Refused, Hold}
 use Rattle.sw_core.specs.declared.ask.SessionAnswer.TheVariants.{Worn}
-use Rattle.sw_core.specs.Action.{Effect, TellsNumber, TellsText, TellsReadings, ReadsOut, SetsStatus, SetsUp, Closes}
-use Rattle.sw_core.specs.Action.{Opens, TellsRelays, Leaves}
-use Rattle.sw_core.specs.Action.{Resets, Offers, Refuses, IsOfMacros, Initiates, Action, AtOnce, BetweenScans}
+use Rattle.sw_core.specs.Action.{Effect, TellsNumber, TellsText, TellsReadings, ReadsOut, SetsStatus, SetsUp}
+use Rattle.sw_core.specs.Action.{ClosesListed, OpensListed, TellsRelays, Changes}
+use Rattle.sw_core.specs.Action.{Resets, Offers, RefusesWith, IsOfMacros, Initiates, Action, AtOnce, BetweenScans}
 use Rattle.sw_core.specs.Action.{AfterScan, action_of, reset}
 use Rattle.sw_core.specs.Answers.{yes_or_no, as_asked}
 use Rattle.sw_core.specs.declared.ask.Sid.{Sid}
@@ -170,12 +170,12 @@ StepAlone TellsReadings p f answer q = StepReadings p.cage.readings p f answer q
 StepAlone (ReadsOut text after) p f answer q = StepText p (text p.status) (after p.status) f answer q
 StepAlone (SetsStatus after) p f answer q = StepDone (record p { status = after p.status }) f answer q
 StepAlone (SetsUp Fits error after) p f answer q = StepSetting p Fits error (after p.settings) f answer q
-StepAlone (Closes chans) p f answer q = StepClose p chans f answer q
-StepAlone (Opens chans) p f answer q = StepOpen p chans f answer q
+StepAlone (ClosesListed chans) p f answer q = StepClose p chans f answer q
+StepAlone (OpensListed chans) p f answer q = StepOpen p chans f answer q
 StepAlone (TellsRelays closed chans) p f answer q = StepFlags p closed chans f answer q
-StepAlone (Leaves after) p f answer q = StepDone (after p) f answer q
+StepAlone (Changes after) p f answer q = StepDone (after p) f answer q
 StepAlone Resets p f answer q = StepDone (reset p) f answer q
-StepAlone (Refuses error) p f answer q = StepRefused p error f answer q
+StepAlone (RefusesWith error) p f answer q = StepRefused p error f answer q
 StepAlone IsOfMacros p f answer q = StepRefused p UndefinedHeader f answer q
 StepAlone Initiates p f answer q = StepRefused p UndefinedHeader f answer q
 StepAlone (Offers happening error) p f answer q = ⊥

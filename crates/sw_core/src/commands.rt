@@ -8,7 +8,7 @@ ghost use Rattle.sw_core.specs.Seen.{work_seen};
 ghost use Rattle.sw_core.specs.Step.{StepAction};
 
 use crate::ask::{SessionAnswer, SessionAsk, Sid, Work};
-use crate::core::Core;
+use crate::state::Core;
 use crate::text::{identity, told, version};
 use std::alloc::Global;
 use sw_base::{LayerName, ScpiError};

@@ -5,7 +5,7 @@ ghost use Rattle.sw_core.specs.Seen.{answer_seen};
 ghost use Rattle.sw_core.specs.Event.{concluded, session_concluded, ended, awaited_bits};
 
 use crate::ask::{Answer, SessionAnswer};
-use crate::core::Core;
+use crate::state::Core;
 use sw_base::{LayerName, ScpiError, StatusGroup};
 use sw_card::{Meter, Relay};
 use sw_trigger::Awaited;

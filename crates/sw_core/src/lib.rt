@@ -11,17 +11,17 @@
 mod ask;
 mod asks;
 mod commands;
-mod core;
 mod event;
 mod laws;
 mod registers;
 mod relays;
 mod scans;
 mod sessions;
+mod state;
 mod text;
 
-pub use crate::core::Core;
 pub use ask::{Answer, Ask, SessionAnswer, SessionAsk, Sid, Work};
 pub use laws::{
     every_run_is_good, every_scan_ends, mainframe_stays_good, relays_obey, step_is_determined,
 };
+pub use state::Core;

@@ -12,7 +12,7 @@ ghost use Rattle.sw_core.specs.Registers.{card_fault_reported, card_fault_cleare
 ghost use Rattle.sw_core.specs.Step.{StepText, StepReadings, StepDone};
 
 use crate::ask::SessionAnswer;
-use crate::core::Core;
+use crate::state::Core;
 use crate::text::{all_entries, all_readings, oldest_entry, seconds, source_word, told, whole};
 use std::alloc::Global;
 use sw_base::{LayerName, ScpiError, Sequence, Source, StatusGroup};

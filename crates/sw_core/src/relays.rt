@@ -10,8 +10,8 @@ ghost use Rattle.sw_core.specs.Panel.{with_cards};
 ghost use Rattle.sw_core.specs.Step.{StepText, StepDone, StepClose, StepOpen, StepFlags};
 
 use crate::ask::SessionAnswer;
-use crate::core::Core;
 use crate::registers::{clear_card_fault, report_card_fault};
+use crate::state::Core;
 use crate::text::flags;
 use std::alloc::Global;
 use sw_base::{Chan, ScpiError, Sequence};

@@ -11,8 +11,8 @@ ghost use Rattle.sw_core.specs.Step.{RefusesScan, MayScan, session_told, outside
 ghost use Rattle.sw_core.specs.Step.{snapshot_of};
 
 use crate::ask::{Answer, SessionAnswer, Work};
-use crate::core::Core;
 use crate::registers::{report_card_fault, set_card_fault};
+use crate::state::Core;
 use std::alloc::{AllocError, Global};
 use sw_base::{ScpiError, Sequence};
 use sw_cage::{Finished, Happening, Taken};

@@ -6,7 +6,7 @@ ghost use Rattle.sw_base.specs.Reading.{fixed, reading_text};
 ghost use Rattle.sw_cage.specs.Accounts.{is_closed};
 ghost use Rattle.sw_core.specs.Answers.{identity_text, version, yes_or_no, as_asked, entry, error_entry, no_error};
 ghost use Rattle.sw_core.specs.Answers.{oldest_entry};
-ghost use Rattle.sw_core.specs.Answers.{all_entries, source_word, IsRow, IsOpenEnded, TellsText};
+ghost use Rattle.sw_core.specs.Answers.{all_entries, source_word, IsRow, IsOpenEnded, AnswersText};
 
 use crate::ask::SessionAnswer;
 use std::alloc::{AllocError, Global};
@@ -189,7 +189,7 @@ fn separate(text: &mut Vec<u8>) -> Result<(), AllocError>
 
 /// A query's answer, or that there was no memory for it.
 pub fn told(text: Result<Sequence<u8>, AllocError>) -> SessionAnswer
-    ensures { TellsText text result }
+    ensures { AnswersText text result }
 {
     match text {
         Ok(text) => SessionAnswer::Done(Some(text)),

@@ -25,15 +25,15 @@ use Rattle.sw_core.specs.declared.ask.SessionAnswer.{SessionAnswer}
 use Rattle.sw_core.specs.declared.ask.SessionAnswer.TheVariants.{Joined, Full, Stranger, Broken, Done, Snapshot, Refused, Hold, Worn, Missed, Max, Lock, Info}
 use Rattle.sw_session.specs.declared.desk.Wake.{Wake}
 use Rattle.sw_session.specs.declared.desk.Wake.TheVariants.{Again, Over}
-use Rattle.sw_session.specs.declared.talker.After.{After}
-use Rattle.sw_session.specs.declared.talker.After.TheVariants.{Goes, Drops, Ends}
+use Rattle.sw_session.specs.declared.talker.AfterUnit.{AfterUnit}
+use Rattle.sw_session.specs.declared.talker.AfterUnit.TheVariants.{Goes, Drops, Ends}
 use Rattle.sw_session.specs.Trace.{Entry, Asked, Waited}
-use Rattle.sw_session.specs.Script.{Ending, Complete, Refuses, Unread, IsScript}
+use Rattle.sw_session.specs.Script.{Ending, Complete, EndsRefused, EndsUnread, IsScript}
 use Rattle.sw_session.specs.Macros.{Told}
 use Rattle.sw_session.specs.Talk.{Queues, Settles, Begins, BeginsBy, Begun, begun_with, effect_of, Reports, StartsScan, Plans, table_reset, Concludes}
 use Rattle.sw_session.specs.Talk.{ServesUnit}
-use Rattle.sw_session.specs.Talk.{Standing, standing, Proceeds, Way, Talks, Itself, TalksExpansion, IsExpansion, Expanded, TalksUnits, Overruns, queued}
-use Rattle.sw_session.specs.Talk.{after_of}
+use Rattle.sw_session.specs.Talk.{Standing, standing, Proceeds, Way, Talks, Itself, TalksExpansion, IsExpansion, Expanded, TalksUnits, Overruns, after_queueing}
+use Rattle.sw_session.specs.Talk.{after_unit}
 use Rattle.sw_session.specs.Talk.{has_answers, written, turns}
 use Rattle.sw_session.specs.Law.{IsAmple, AllAmple, SameTalk, left, TalkIsDetermined}
 use Rattle.sw_session.proofs.Acted.{acts-same, written_so}
@@ -45,7 +45,7 @@ Rests b b' r r' = AllAmple r → AllAmple r' → SameTalk b b' r r'
 queues-same : {T : Type 0} (b b' : T) (sid : Sid) (e : ScpiError) (t t' r r' : List Entry) (f f' : SessionAnswer) → Queues sid e t f r → Queues sid e t' f' r'
     → (f ≡ f' → Rests b b' r r') → Rests b b' t t'
 queues-same b b' sid e (Asked a x ∷ t) (Asked a' x' ∷ t') r r' f f' (is, fin, left) (is', fin', left') next m n =
-    (is ∙ sym is', λ same. rw (← left, ← left') (next (fin ∙ ap (queued e) same ∙ sym fin') (rw left m.1) (rw left' n.1)))
+    (is ∙ sym is', λ same. rw (← left, ← left') (next (fin ∙ ap (after_queueing e) same ∙ sym fin') (rw left m.1) (rw left' n.1)))
 queues-same b b' sid e (Asked a x ∷ t) [] r r' f f' p q next m n = absurd q
 queues-same b b' sid e (Asked a x ∷ t) (entry ∷ t') r r' f f' p q next m n = absurd q
 queues-same b b' sid e [] t' r r' f f' p q next m n = absurd p
@@ -295,13 +295,13 @@ begins-same b b' sid answered (Err e) macros t t' x x' (p, is) (q, is') next =
     queues-same b b' sid e t t' x.rest x'.rest x.answer x'.answer p q (λ same. next same (is ∙ sym is'))
 
 -- what comes of an answer that is no text
-plain-same : {T : Type 0} (b b' : T) (t t' r r' : List Entry) (s after after' : After) (answers told told' : List (List ℕ)) → (after ≡ s) × (told ≡ answers)
+plain-same : {T : Type 0} (b b' : T) (t t' r r' : List Entry) (s after after' : AfterUnit) (answers told told' : List (List ℕ)) → (after ≡ s) × (told ≡ answers)
     × (r ≡ t) → (after' ≡ s) × (told' ≡ answers) × (r' ≡ t')
     → (after ≡ after' → told ≡ told' → Rests b b' r r') → Rests b b' t t'
 plain-same b b' t t' r r' s after after' answers told told' (go, is, left) (go', is', left') next =
     rw (← left, ← left') (next (go ∙ sym go') (is ∙ sym is'))
 
-concludes-same : {T : Type 0} (b b' : T) (sid : Sid) (answers : List (List ℕ)) (f : SessionAnswer) (t t' r r' : List Entry) (after after' : After)
+concludes-same : {T : Type 0} (b b' : T) (sid : Sid) (answers : List (List ℕ)) (f : SessionAnswer) (t t' r r' : List Entry) (after after' : AfterUnit)
     (told told' : List (List ℕ)) → Concludes sid answers f t after told r → Concludes sid answers f t' after' told' r'
     → (after ≡ after' → told ≡ told' → Rests b b' r r') → Rests b b' t t'
 concludes-same b b' sid answers (Done (Some text)) t t' r r' after after' told told' p q next = λ m n. elim p [
@@ -324,7 +324,7 @@ concludes-same b b' sid answers (Info exclusive holders) t t' r r' after after' 
 concludes-same b b' sid answers Stranger t t' r r' after after' told told' p q next = plain-same b b' t t' r r' Ends after after' answers told told' p q next
 concludes-same b b' sid answers Broken t t' r r' after after' told told' p q next = plain-same b b' t t' r r' Ends after after' answers told told' p q next
 concludes-same b b' sid answers (Refused e) t t' r r' after after' told told' p q next =
-    plain-same b b' t t' r r' (after_of (Refused e)) after after' answers told told' p q next
+    plain-same b b' t t' r r' (after_unit (Refused e)) after after' answers told told' p q next
 concludes-same b b' sid answers (Hold h) t t' r r' after after' told told' p q next = plain-same b b' t t' r r' Ends after after' answers told told' p q next
 concludes-same b b' sid answers (Worn h) t t' r r' after after' told told' p q next = plain-same b b' t t' r r' Ends after after' answers told told' p q next
 
@@ -333,10 +333,10 @@ abbrev Alike : Standing → Standing → Type 0
 Alike s s' = (s.path ≡ s'.path) × (s.macros ≡ s'.macros) × (s.answers ≡ s'.answers)
 
 -- what comes of two parts that end alike
-abbrev Ensues : {T : Type 0} → T → T → After → After → Standing → Standing → Type 0
+abbrev Ensues : {T : Type 0} → T → T → AfterUnit → AfterUnit → Standing → Standing → Type 0
 Ensues b b' after after' told told' = after ≡ after' → Alike told told' → Rests b b' told.trace told'.trace
 
-serves-same : {T : Type 0} (b b' : T) (sid : Sid) (command : Result Command ScpiError) (s s' : Standing) (after after' : After) (told told' : Standing)
+serves-same : {T : Type 0} (b b' : T) (sid : Sid) (command : Result Command ScpiError) (s s' : Standing) (after after' : AfterUnit) (told told' : Standing)
     → Alike s s'
     → ServesUnit sid command s after told → ServesUnit sid command s' after' told' → Ensues b b' after after' told told' → Rests b b' s.trace s'.trace
 serves-same b b' sid command s s' after after' told told' (paths, tables, texts) (f, mid, p, k, is) (f', mid', p', k', is') next =
@@ -351,7 +351,7 @@ serves-same b b' sid command s s' after after' told told' (paths, tables, texts)
     (λ go answers. next go (is ∙ paths ∙ sym is', macros, answers)))
 
 -- the command of a unit that was served is no want of memory
-serves-ample : (sid : Sid) (command : Result Command ScpiError) (s : Standing) (after : After) (told : Standing) → AllAmple s.trace
+serves-ample : (sid : Sid) (command : Result Command ScpiError) (s : Standing) (after : AfterUnit) (told : Standing) → AllAmple s.trace
     → ServesUnit sid command s after told
     → command ≡ Err OutOfMemory → ⊥
 serves-ample sid command s after told m (f, mid, p, k, stays) is =
@@ -373,18 +373,18 @@ pub record ReadsOnce : Type 0 where
 
 -- one unit, talked over in this way, leaves no choice
 abbrev SameWay : {T : Type 0} → T → T → Way → Type 0
-SameWay b b' way = (u : UnitSeen) (s s' : Standing) (after after' : After) (told told' : Standing) → Alike s s' → way u s after told → way u s' after' told'
+SameWay b b' way = (u : UnitSeen) (s s' : Standing) (after after' : AfterUnit) (told told' : Standing) → Alike s s' → way u s after told → way u s' after' told'
     → Ensues b b' after after' told told' → Rests b b' s.trace s'.trace
 
 -- what comes of units that don't go on
-stays-same : {T : Type 0} (b b' : T) (step after after' : After) (s s' told told' : Standing) → Alike s s' → (after ≡ step) × (told ≡ s) → (after' ≡ step)
+stays-same : {T : Type 0} (b b' : T) (step after after' : AfterUnit) (s s' told told' : Standing) → Alike s s' → (after ≡ step) × (told ≡ s) → (after' ≡ step)
     × (told' ≡ s')
     → Ensues b b' after after' told told' → Rests b b' s.trace s'.trace
 stays-same b b' step after after' s s' told told' alike (go, is) (go', is') next =
     subst (λ (x : Standing). Alike x s' → Rests b b' x.trace s'.trace) is
     (subst (λ (x : Standing). Alike told x → Rests b b' told.trace x.trace) is' (next (go ∙ sym go'))) alike
 
-proceeds-same : {T : Type 0} (b b' : T) (on on' : Standing → Type 0) (step : After) (s s' : Standing) (after after' : After) (told told' : Standing)
+proceeds-same : {T : Type 0} (b b' : T) (on on' : Standing → Type 0) (step : AfterUnit) (s s' : Standing) (after after' : AfterUnit) (told told' : Standing)
     → Alike s s'
     → Proceeds on step s after told → Proceeds on' step s' after' told' → Ensues b b' after after' told told' → (on s → on' s' → Rests b b' s.trace s'.trace)
     → Rests b b' s.trace s'.trace
@@ -394,26 +394,28 @@ proceeds-same b b' on on' Ends s s' after after' told told' alike p q next more 
 
 talks-same : {T : Type 0} (b b' : T) (way : Way) → ReadsOnce → SameWay b b' way
     → (sid : Sid) (text : List ℕ) (us us' : List UnitSeen) (end end' : Ending) (s s' : Standing)
-    (after after' : After) (told told' : Standing) → Alike s s' → IsScript text us end → IsScript text us' end' → Talks way sid us end s after told
+    (after after' : AfterUnit) (told told' : Standing) → Alike s s' → IsScript text us end → IsScript text us' end' → Talks way sid us end s after told
     → Talks way sid us' end' s' after' told' → Ensues b b' after after' told told' → Rests b b' s.trace s'.trace
-talks-same b b' way reads same sid text [] us' Unread end' s s' after after' told told' alike i i' p q next = absurd p
-talks-same b b' way reads same sid text [] [] Complete Unread s s' after after' told told' alike i i' p q next = absurd q
+talks-same b b' way reads same sid text [] us' EndsUnread end' s s' after after' told told' alike i i' p q next = absurd p
+talks-same b b' way reads same sid text [] [] Complete EndsUnread s s' after after' told told' alike i i' p q next = absurd q
 talks-same b b' way reads same sid text [] [] Complete Complete s s' after after' told told' alike i i' p q next =
     stays-same b b' Goes after after' s s' told told' alike p q next
-talks-same b b' way reads same sid text [] [] Complete (Refuses e) s s' after after' told told' alike i i' p q next = absurd (reads.blank_or_error text e i i')
+talks-same b b' way reads same sid text [] [] Complete (EndsRefused e) s s' after after' told told' alike i i' p q next =
+    absurd (reads.blank_or_error text e i i')
 talks-same b b' way reads same sid text [] (u' ∷ us') Complete end' s s' after after' told told' alike i i' p q next =
     absurd (reads.unit_or_blank text i'.0 u' i'.1 i)
-talks-same b b' way reads same sid text [] [] (Refuses e) Unread s s' after after' told told' alike i i' p q next = absurd q
-talks-same b b' way reads same sid text [] [] (Refuses e) Complete s s' after after' told told' alike i i' p q next = absurd (reads.blank_or_error text e i' i)
-talks-same b b' way reads same sid text [] [] (Refuses e) (Refuses e') s s' after after' told told' alike i i' p q next =
+talks-same b b' way reads same sid text [] [] (EndsRefused e) EndsUnread s s' after after' told told' alike i i' p q next = absurd q
+talks-same b b' way reads same sid text [] [] (EndsRefused e) Complete s s' after after' told told' alike i i' p q next =
+    absurd (reads.blank_or_error text e i' i)
+talks-same b b' way reads same sid text [] [] (EndsRefused e) (EndsRefused e') s s' after after' told told' alike i i' p q next =
     serves-same b b' sid (Err e) s s' after after' told told' alike p (subst (λ (x : ScpiError).
     ServesUnit sid (Err x) s' after' told') (sym (reads.error text e e' i i')) q) next
-talks-same b b' way reads same sid text [] (u' ∷ us') (Refuses e) end' s s' after after' told told' alike i i' p q next =
+talks-same b b' way reads same sid text [] (u' ∷ us') (EndsRefused e) end' s s' after after' told told' alike i i' p q next =
     absurd (reads.unit_or_error text i'.0 u' e i'.1 i)
-talks-same b b' way reads same sid text (u ∷ us) [] end Unread s s' after after' told told' alike i i' p q next = absurd q
+talks-same b b' way reads same sid text (u ∷ us) [] end EndsUnread s s' after after' told told' alike i i' p q next = absurd q
 talks-same b b' way reads same sid text (u ∷ us) [] end Complete s s' after after' told told' alike i i' p q next =
     absurd (reads.unit_or_blank text i.0 u i.1 i')
-talks-same b b' way reads same sid text (u ∷ us) [] end (Refuses e) s s' after after' told told' alike i i' p q next =
+talks-same b b' way reads same sid text (u ∷ us) [] end (EndsRefused e) s s' after after' told told' alike i i' p q next =
     absurd (reads.unit_or_error text i.0 u e i.1 i')
 talks-same b b' way reads same sid text (u ∷ us) (u' ∷ us') end end' s s' after after' told told' alike (rest, is, i) (rest', is', i') (
   step,
@@ -427,7 +429,7 @@ talks-same b b' way reads same sid text (u ∷ us) (u' ∷ us') end end' s s' af
     same u s s' step step' mid mid' alike w again
     (λ same_step same_place.
     let on-alike : Proceeds (λ x. Talks way sid us' end' x after' told') step mid' after' told' =
-    subst (λ (x : After). Proceeds (λ y. Talks way sid us' end' y after' told') x mid' after' told') (sym same_step) on' in
+    subst (λ (x : AfterUnit). Proceeds (λ y. Talks way sid us' end' y after' told') x mid' after' told') (sym same_step) on' in
     proceeds-same b b' (λ x. Talks way sid us end x after told) (λ x.
     Talks way sid us' end' x after' told') step mid mid' after after' told told' same_place on on-alike next
     (λ k k'. talks-same b b' way reads same sid rest us us' end end' mid mid' after after' told told' same_place i script k k' next))
@@ -441,14 +443,14 @@ itself-same b b' reads sid u s s' after after' told told' alike (c, path, res, s
     (subst (λ (x : Result Command ScpiError). ServesUnit sid x (record s' { path = path' }) after' told') (sym one.0) serves') next m n
 
 unfolds-same : {T : Type 0} (b b' : T) → ReadsOnce
-    → (sid : Sid) (x : Result (List ℕ) ScpiError) (s s' : Standing) (after after' : After) (told told' : Standing) → Alike s s'
+    → (sid : Sid) (x : Result (List ℕ) ScpiError) (s s' : Standing) (after after' : AfterUnit) (told told' : Standing) → Alike s s'
     → TalksExpansion sid x s after told → TalksExpansion sid x s' after' told' → Ensues b b' after after' told told' → Rests b b' s.trace s'.trace
 unfolds-same b b' reads sid (Ok text) s s' after after' told told' alike (us, end, i, p) (us', end', i', q) next =
     talks-same b b' (Itself sid) reads (itself-same b b' reads sid) sid text us us' end end' s s' after after' told told' alike i i' p q next
 unfolds-same b b' reads sid (Err e) s s' after after' told told' alike p q next = serves-same b b' sid (Err e) s s' after after' told told' alike p q next
 
 -- an expansion that stood in a unit's place is no want of memory
-unfolds-ample : (sid : Sid) (x : Result (List ℕ) ScpiError) (s : Standing) (after : After) (told : Standing) → AllAmple s.trace
+unfolds-ample : (sid : Sid) (x : Result (List ℕ) ScpiError) (s : Standing) (after : AfterUnit) (told : Standing) → AllAmple s.trace
     → TalksExpansion sid x s after told
     → x ≡ Err OutOfMemory → ⊥
 unfolds-ample sid x s after told m p is =
@@ -504,4 +506,4 @@ talk-determined reads sid macros text t t' bytes bytes' kept kept' p q =
     (standing [] macros [] t')
     k.after k'.after (standing k.path kept k.answers []) (standing k'.path kept' k'.answers []) (refl, refl, refl) k.script k'.script k.talks k'.talks
     (λ same_after same. nothing-left b b' (left-same bytes bytes' kept kept'
-    (k.writes ∙ ap (λ (x : After). written x k.answers) same_after ∙ ap (λ (x : List (List ℕ)). written k'.after x) same.2 ∙ sym k'.writes) same.1)))
+    (k.writes ∙ ap (λ (x : AfterUnit). written x k.answers) same_after ∙ ap (λ (x : List (List ℕ)). written k'.after x) same.2 ∙ sym k'.writes) same.1)))

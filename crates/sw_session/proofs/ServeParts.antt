@@ -12,8 +12,8 @@ use Rattle.sw_session.specs.declared.engine.step.Sent.{Sent}
 use Rattle.sw_session.specs.declared.engine.step.Step.{Step}
 use Rattle.sw_session.specs.declared.servers.act.Act.{Act}
 use Rattle.sw_session.specs.declared.servers.act.Act.TheVariants.{Takes, Skips, Refuses, Notices}
-use Rattle.sw_session.specs.declared.servers.act.After.{After}
-use Rattle.sw_session.specs.declared.servers.act.After.TheVariants.{Goes, Ends, Fatal, Malformed}
+use Rattle.sw_session.specs.declared.servers.act.AfterStep.{AfterStep}
+use Rattle.sw_session.specs.declared.servers.act.AfterStep.TheVariants.{Goes, Ends, Fatal, Malformed}
 use Rattle.sw_session.specs.declared.servers.fault.ServeFault.{ServeFault}
 use Rattle.sw_session.specs.declared.servers.fault.ServeFault.TheVariants as Fault
 use Rattle.sw_session.specs.Trace.{Entry, Leads}
@@ -27,7 +27,7 @@ use Rattle.sw_session.proofs.ServeKnown.{appends-nothing, appends-more}
 
 -- ---- the engine's definition
 
-pub speaks-then : {E : Type 0} (v : Protocol E) (s mid s' : E) (xs ys : List Exchange) (after : After) → Speaks v s xs Goes mid → Speaks v mid ys after s'
+pub speaks-then : {E : Type 0} (v : Protocol E) (s mid s' : E) (xs ys : List Exchange) (after : AfterStep) → Speaks v s xs Goes mid → Speaks v mid ys after s'
     → Speaks v s (xs ++ ys) after s'
 speaks-then v s mid s' [] ys after p q = subst (λ t. Speaks v t ys after s') p.1 q
 speaks-then v s mid s' (x ∷ xs) ys after (Goes, m, row, n, a, p) q = (Goes, m, row, n, a, speaks-then v m mid s' xs ys after p q)
@@ -35,7 +35,7 @@ speaks-then v s mid s' (x ∷ xs) ys after (Ends, m, row, n, a, p) q = absurd (c
 speaks-then v s mid s' (x ∷ xs) ys after (Fatal, m, row, n, a, p) q = absurd (cc (p.1))
 speaks-then v s mid s' (x ∷ xs) ys after (Malformed, m, row, n, a, p) q = absurd (cc (p.1))
 
-pub speaks-one : {E : Type 0} (v : Protocol E) (s s' : E) (x : Exchange) (after : After) → v.speaks s x.act x.asked x.step s'
+pub speaks-one : {E : Type 0} (v : Protocol E) (s s' : E) (x : Exchange) (after : AfterStep) → v.speaks s x.act x.asked x.step s'
     → x.noted ≡ availability_notes (v.session s') x.step.out → after ≡ after_step (is_refused x.act) x.step → Speaks v s (x ∷ []) after s'
 speaks-one v s s' x Goes row n a = (Goes, s', row, n, a, (refl, refl))
 speaks-one v s s' x Ends row n a = (Ends, s', row, n, a, (refl, refl, refl))
@@ -106,7 +106,7 @@ said-then f a b c xs ys p q =
     sym (ap (flat_map f) (flat_map-append (λ (x : Exchange). x.step.out) xs ys) ∙ flat_map-append f (said_of xs) (said_of ys)) in
     subst (λ (l : List ℕ). Appends a c l) same (appends-more a b c (flat_map f (said_of xs)) (flat_map f (said_of ys)) p q)
 
-pub spoken-then : {E D : Type 0} (u : Voice E D) (a b c : Point E D) (xs ys : List Exchange) (after : After)
+pub spoken-then : {E D : Type 0} (u : Voice E D) (a b c : Point E D) (xs ys : List Exchange) (after : AfterStep)
     → Spoken u a b xs Goes → Spoken u b c ys after → Spoken u a c (xs ++ ys) after
 spoken-then u a b c xs ys after p q = record {
   speaks = speaks-then u.protocol a.engine b.engine c.engine xs ys after p.speaks q.speaks;
@@ -127,7 +127,7 @@ goes-nowhere u a = ([], [], refl, λ g. refl, spoken-none u a)
 all-acts : (done rest acts : List Act) → rest ≡ [] → done ++ rest ≡ acts → done ≡ acts
 all-acts done rest acts n e = sym (append-nil done) ∙ sym (ap (λ (l : List Act). done ++ l) n) ∙ e
 
-pub goes-then : {E D : Type 0} (u : Voice E D) (a b c : Point E D) (is js : List Act) (after : After)
+pub goes-then : {E D : Type 0} (u : Voice E D) (a b c : Point E D) (is js : List Act) (after : AfterStep)
     → GoesThrough u a b is Goes → GoesThrough u b c js after → GoesThrough u a c (is ++ js) after
 goes-then u a b c is js after (xs, r, e, n, p) (ys, t, f, m, q) = (
   xs ++ ys,
@@ -139,7 +139,7 @@ goes-then u a b c is js after (xs, r, e, n, p) (ys, t, f, m, q) = (
 )
 
 -- a channel that ended comes to no more acts
-pub ends-before : {E D : Type 0} (u : Voice E D) (a b : Point E D) (is js : List Act) (after : After)
+pub ends-before : {E D : Type 0} (u : Voice E D) (a b : Point E D) (is js : List Act) (after : AfterStep)
     → (after ≡ Goes → ⊥)
     → GoesThrough u a b is after → GoesThrough u a b (is ++ js) after
 ends-before u a b is js after ended (xs, r, e, n, p) =
@@ -170,7 +170,7 @@ one-out : (f : Sent → List ℕ) (a b : Option (List ℕ)) (x : Exchange) → A
 one-out f a b x p = subst (λ (l : List Sent). Appends a b (flat_map f l)) (sym (append-nil x.step.out)) p
 
 pub hears-ok : {E D : Type 0} (u : Voice E D) (s s' : E) (d e d' : D) (w w' y y' : Option (List ℕ))
-    (act : Act) (step : Step) (noted : List Entry) (after : After)
+    (act : Act) (step : Step) (noted : List Entry) (after : AfterStep)
     → LedBy u.passes d e (λ asked. u.protocol.speaks s act asked step s') → noted ≡ availability_notes (u.protocol.session s') step.out
     → Leads u.passes e noted d'
     → after ≡ after_step (is_refused act) step

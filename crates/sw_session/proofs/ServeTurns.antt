@@ -10,8 +10,8 @@ use Rattle.sw_hislip.specs.Pending.{Pending, nothing_fed, fed, Waits}
 use Rattle.sw_hislip.specs.Stream.{Call, Follows, EveryMessageComesOut, LeavesARest, stream_of}
 use Rattle.sw_session.specs.declared.servers.act.Act.{Act}
 use Rattle.sw_session.specs.declared.servers.act.Act.TheVariants.{Notices}
-use Rattle.sw_session.specs.declared.servers.act.After.{After}
-use Rattle.sw_session.specs.declared.servers.act.After.TheVariants.{Goes, Ends, Fatal, Malformed}
+use Rattle.sw_session.specs.declared.servers.act.AfterStep.{AfterStep}
+use Rattle.sw_session.specs.declared.servers.act.AfterStep.TheVariants.{Goes, Ends, Fatal, Malformed}
 use Rattle.sw_session.specs.declared.servers.fault.ServeFault.{ServeFault}
 use Rattle.sw_session.specs.declared.servers.fault.ServeFault.TheVariants as Fault
 use Rattle.sw_session.specs.declared.servers.turns.Came.TheVariants as Came
@@ -102,7 +102,7 @@ turned s p p' a b result t = record {
 }
 
 -- how acts end a turn
-ends-by : {E D : Type 0} (u : Voice E D) (a b : Point E D) (r : Progress) (after : After)
+ends-by : {E D : Type 0} (u : Voice E D) (a b : Point E D) (r : Progress) (after : AfterStep)
     → 0 < r.count → GoesThrough u a b r.acts after → Stands after r.pending → EndsTurn u a b r (conclude (Ok after))
 ends-by u a b r Goes some g s = (g, s, some)
 ends-by u a b r Ends some g s = inr g
@@ -122,18 +122,18 @@ starves-by : {E D : Type 0} (u : Voice E D) (a b : Point E D) (r : Progress) (fa
     → fault ≡ Fault.NoMemory → GoesThrough u a b r.acts Goes → HoldsMessage r.pending → EndsTurn u a b r (Err fault)
 starves-by u a b r fault e g w = subst (λ (f : ServeFault). EndsTurn u a b r (Err f)) (sym e) (inr (g, inr w), λ x. absurd (cc (x)))
 
-paused-stands : (p : Pending) (after : After) → Waits p.bytes → Judges false after → Stands after p
+paused-stands : (p : Pending) (after : AfterStep) → Waits p.bytes → Judges false after → Stands after p
 paused-stands p Goes waits j = waits
 paused-stands p Ends waits j = tt
 paused-stands p Fatal waits j = tt
 paused-stands p Malformed waits j = absurd (j refl)
 
-pub judged-ok : (b : Bool) (r : Result After ServeFault) → IfOk r (λ after. Judges b after) → (after : After) → r ≡ Ok after → Judges b after
-judged-ok b r j after e = subst (λ (q : Result After ServeFault). IfOk q (λ x. Judges b x)) e j
+pub judged-ok : (b : Bool) (r : Result AfterStep ServeFault) → IfOk r (λ after. Judges b after) → (after : AfterStep) → r ≡ Ok after → Judges b after
+judged-ok b r j after e = subst (λ (q : Result AfterStep ServeFault). IfOk q (λ x. Judges b x)) e j
 
-pub turn-paused : {E D : Type 0} (s : Service E D) (p p' : Pending) (a b : Course E D) (r : Result After ServeFault)
+pub turn-paused : {E D : Type 0} (s : Service E D) (p p' : Pending) (a b : Course E D) (r : Result AfterStep ServeFault)
     → s.may_pause → Waits p.bytes → Listens a.input b.input p p' (Ok Came.Paused) → HearsEach s.voice (Notices ∷ []) a.point b.point r
-    → ((after : After) → r ≡ Ok after → Judges false after)
+    → ((after : AfterStep) → r ≡ Ok after → Judges false after)
     → TakesServerTurn s p p' a b (conclude r)
 turn-paused s p p' a b (Ok after) can waits l h judged =
     turned s p p' a b (conclude (Ok after)) (record {
@@ -159,7 +159,7 @@ tells-read : (p p' q : Pending) (piece : List ℕ) (inputs : List Act) → p' �
 tells-read p p' q piece inputs e t = subst (λ (l : List ℕ). TellsActs p q l inputs) (append-nil piece)
     (tells-then p p' q piece [] [] inputs (tells-fed p p' piece e) t)
 
-pub turn-bytes : {E D : Type 0} (s : Service E D) (p p' q : Pending) (a b : Course E D) (r : Result After ServeFault)
+pub turn-bytes : {E D : Type 0} (s : Service E D) (p p' q : Pending) (a b : Course E D) (r : Result AfterStep ServeFault)
     → Listens a.input b.input p p' (Ok Came.Bytes) → HearsAll s.voice p' q a.point b.point r → TakesServerTurn s p q a b (conclude r)
 turn-bytes s p p' q a b (Ok after) (piece, some, reads, e) h =
     turned s p q a b (conclude (Ok after)) (record {
@@ -187,7 +187,7 @@ turn-bytes s p p' q a b (Err fault) (piece, some, reads, e) h =
 
 -- ---- why a turn fails
 
-pub concluded-read : (r : Result After ServeFault) → conclude r ≡ Err Fault.Read → r ≡ Err Fault.Read
+pub concluded-read : (r : Result AfterStep ServeFault) → conclude r ≡ Err Fault.Read → r ≡ Err Fault.Read
 concluded-read (Ok Goes) e = absurd (cc (e))
 concluded-read (Ok Ends) e = absurd (cc (e))
 concluded-read (Ok Fatal) e = absurd (cc (e))
@@ -199,7 +199,7 @@ concluded-read (Err Fault.Fatal) e = absurd (cc (e))
 concluded-read (Err Fault.NoMemory) e = absurd (cc (e))
 concluded-read (Err Fault.ReadBound) e = absurd (cc (e))
 
-pub concluded-write : (r : Result After ServeFault) → conclude r ≡ Err Fault.Write → r ≡ Err Fault.Write
+pub concluded-write : (r : Result AfterStep ServeFault) → conclude r ≡ Err Fault.Write → r ≡ Err Fault.Write
 concluded-write (Ok Goes) e = absurd (cc (e))
 concluded-write (Ok Ends) e = absurd (cc (e))
 concluded-write (Ok Fatal) e = absurd (cc (e))
@@ -212,7 +212,7 @@ concluded-write (Err Fault.NoMemory) e = absurd (cc (e))
 concluded-write (Err Fault.ReadBound) e = absurd (cc (e))
 
 pub each-unread : {E D : Type 0} (u : Voice E D) (acts : List Act) (a b : Point E D)
-    (r : Result After ServeFault) → HearsEach u acts a b r → r ≡ Err Fault.Read → ⊥
+    (r : Result AfterStep ServeFault) → HearsEach u acts a b r → r ≡ Err Fault.Read → ⊥
 each-unread u acts a b (Ok after) h e = absurd (cc (e))
 each-unread u acts a b (Err Fault.Read) h e = h.breaks
 each-unread u acts a b (Err Fault.Write) h e = absurd (cc (e))
@@ -222,7 +222,7 @@ each-unread u acts a b (Err Fault.NoMemory) h e = absurd (cc (e))
 each-unread u acts a b (Err Fault.ReadBound) h e = absurd (cc (e))
 
 pub all-unread : {E D : Type 0} (u : Voice E D) (p p' : Pending) (a b : Point E D)
-    (r : Result After ServeFault) → HearsAll u p p' a b r → r ≡ Err Fault.Read → ⊥
+    (r : Result AfterStep ServeFault) → HearsAll u p p' a b r → r ≡ Err Fault.Read → ⊥
 all-unread u p p' a b (Ok after) h e = absurd (cc (e))
 all-unread u p p' a b (Err Fault.Read) h e = elim h.spoken [
   | inl t ↦ t.breaks

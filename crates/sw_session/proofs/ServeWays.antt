@@ -7,8 +7,8 @@ use Rattle.sw_hislip.specs.Wire.{header, header_of}
 use Rattle.sw_hislip.specs.Pending.{Pending, Waits, HasWrongPrologue}
 use Rattle.sw_session.specs.declared.servers.act.Act.{Act}
 use Rattle.sw_session.specs.declared.servers.act.Act.TheVariants.{Takes, Skips, Refuses, Notices}
-use Rattle.sw_session.specs.declared.servers.act.After.{After}
-use Rattle.sw_session.specs.declared.servers.act.After.TheVariants.{Goes, Ends, Fatal, Malformed}
+use Rattle.sw_session.specs.declared.servers.act.AfterStep.{AfterStep}
+use Rattle.sw_session.specs.declared.servers.act.AfterStep.TheVariants.{Goes, Ends, Fatal, Malformed}
 use Rattle.sw_session.specs.declared.servers.fault.ServeFault.{ServeFault}
 use Rattle.sw_session.specs.declared.servers.turns.Came.{Came}
 use Rattle.sw_session.specs.declared.servers.turns.Next.{Next}
@@ -19,12 +19,12 @@ use Rattle.sw_session.proofs.ServeParts.{stops-at}
 
 -- ---- results that are known
 
-pub hears-is : {E D : Type 0} (u : Voice E D) (act : Act) (a b : Point E D) (r q : Result After ServeFault) → r ≡ q → Hears u act a b r → Hears u act a b q
-hears-is u act a b r q e h = subst (λ (x : Result After ServeFault). Hears u act a b x) e h
+pub hears-is : {E D : Type 0} (u : Voice E D) (act : Act) (a b : Point E D) (r q : Result AfterStep ServeFault) → r ≡ q → Hears u act a b r → Hears u act a b q
+hears-is u act a b r q e h = subst (λ (x : Result AfterStep ServeFault). Hears u act a b x) e h
 
-pub each-is : {E D : Type 0} (u : Voice E D) (acts : List Act) (a b : Point E D) (r q : Result After ServeFault)
+pub each-is : {E D : Type 0} (u : Voice E D) (acts : List Act) (a b : Point E D) (r q : Result AfterStep ServeFault)
     → r ≡ q → HearsEach u acts a b r → HearsEach u acts a b q
-each-is u acts a b r q e h = subst (λ (x : Result After ServeFault). HearsEach u acts a b x) e h
+each-is u acts a b r q e h = subst (λ (x : Result AfterStep ServeFault). HearsEach u acts a b x) e h
 
 pub next-is : (p p' : Pending) (r : Result (Option Act) ServeFault) (input : Act) → r ≡ Ok (Some input) → NextInput p p' r → Finds p input p'
 next-is p p' r input e n = subst (λ (x : Result (Option Act) ServeFault). NextInput p p' x) e n
@@ -39,20 +39,20 @@ turn-is s p p' a b r q e t = subst (λ (x : Result Next ServeFault). TakesServer
 -- ---- what the wire tells
 
 -- one act is all
-pub each-one : {E D : Type 0} (u : Voice E D) (act : Act) (a b : Point E D) (r : Result After ServeFault)
+pub each-one : {E D : Type 0} (u : Voice E D) (act : Act) (a b : Point E D) (r : Result AfterStep ServeFault)
     → Hears u act a b r → HearsEach u (act ∷ []) a b r
 each-one u act a b (Ok after) h = h
 each-one u act a b (Err fault) h = stops-at u a b act [] fault h
 
 -- an act, and then another
-pub each-two : {E D : Type 0} (u : Voice E D) (first second : Act) (a b c : Point E D) (r : Result After ServeFault)
+pub each-two : {E D : Type 0} (u : Voice E D) (first second : Act) (a b c : Point E D) (r : Result AfterStep ServeFault)
     → Hears u first a b (Ok Goes) → Hears u second b c r → HearsEach u (first ∷ second ∷ []) a c r
 each-two u first second a b c (Ok after) h k = goes-then u a b c (first ∷ []) (second ∷ []) after h k
 each-two u first second a b c (Err fault) h k = stops-then u a b c (first ∷ []) (second ∷ []) fault h
     (stops-at u b c second [] fault k)
 
 -- an act that ends the channel before another
-pub each-end : {E D : Type 0} (u : Voice E D) (first second : Act) (a b : Point E D) (after : After)
+pub each-end : {E D : Type 0} (u : Voice E D) (first second : Act) (a b : Point E D) (after : AfterStep)
     → (after ≡ Goes → ⊥)
     → Hears u first a b (Ok after) → HearsEach u (first ∷ second ∷ []) a b (Ok after)
 each-end u first second a b after ended h = ends-before u a b (first ∷ []) (second ∷ []) after ended h
@@ -80,7 +80,7 @@ takes-bytes p p' Refuses f judged = absurd (cc (judged))
 takes-bytes p p' Notices f judged = absurd f
 
 -- what is pending once the channel ended so
-pub stands : (p p' : Pending) (input : Act) (after : After) → (after ≡ Goes → ⊥) → Finds p input p' → Judges (is_refused input) after → Stands after p'
+pub stands : (p p' : Pending) (input : Act) (after : AfterStep) → (after ≡ Goes → ⊥) → Finds p input p' → Judges (is_refused input) after → Stands after p'
 stands p p' input Goes ended f judged = absurd (ended refl)
 stands p p' input Ends ended f judged = tt
 stands p p' input Fatal ended f judged = tt
@@ -103,7 +103,7 @@ acts-more : (inputs : List Act) (input : Act) → flat_map acts_for inputs ++ ac
 acts-more inputs input = ap (λ (l : List Act). flat_map acts_for inputs ++ l) (sym (append-nil (acts_for input))) ∙ sym
     (flat_map-append acts_for inputs (input ∷ []))
 
-goes-more : {E D : Type 0} (u : Voice E D) (a b c : Point E D) (inputs : List Act) (input : Act) (after : After)
+goes-more : {E D : Type 0} (u : Voice E D) (a b c : Point E D) (inputs : List Act) (input : Act) (after : AfterStep)
     → GoesThrough u a b (flat_map acts_for inputs) Goes → GoesThrough u b c (acts_for input) after
     → GoesThrough u a c (flat_map acts_for (inputs ++ input ∷ [])) after
 goes-more u a b c inputs input after g h =
@@ -129,7 +129,7 @@ all-heard u p q q' a b k (waits, same) = record {
   spoken = (k.goes, subst (λ (r : Pending). Waits r.bytes) (sym same) waits);
 }
 
-pub all-ended : {E D : Type 0} (u : Voice E D) (p q q' : Pending) (a b c : Point E D) (input : Act) (after : After)
+pub all-ended : {E D : Type 0} (u : Voice E D) (p q q' : Pending) (a b c : Point E D) (input : Act) (after : AfterStep)
     → (after ≡ Goes → ⊥)
     → Hearing u p q a b → Finds q input q' → HearsEach u (acts_for input) b c (Ok after) → Judges (is_refused input) after
     → HearsAll u p q' a c (Ok after)

@@ -18,10 +18,10 @@ use Rattle.sw_core.specs.declared.ask.SessionAsk.{SessionAsk}
 use Rattle.sw_core.specs.declared.ask.SessionAnswer.{SessionAnswer}
 use Rattle.sw_core.specs.declared.ask.SessionAnswer.TheVariants.{Joined, Full, Stranger, Broken, Done, Snapshot, Refused, Hold, Worn, Missed, Max, Lock, Info}
 use Rattle.sw_session.specs.declared.desk.Wake.TheVariants.{Again, Over}
-use Rattle.sw_session.specs.declared.talker.After.{After}
-use Rattle.sw_session.specs.declared.talker.After.TheVariants.{Goes, Drops, Ends}
+use Rattle.sw_session.specs.declared.talker.AfterUnit.{AfterUnit}
+use Rattle.sw_session.specs.declared.talker.AfterUnit.TheVariants.{Goes, Drops, Ends}
 use Rattle.sw_session.specs.Trace.{Entry, Asked, Waited, Led}
-use Rattle.sw_session.specs.Script.{Ending, Complete, Refuses, Unread, IsScript}
+use Rattle.sw_session.specs.Script.{Ending, Complete, EndsRefused, EndsUnread, IsScript}
 use Rattle.sw_session.specs.Talk.{Queues, Settles, Begins, begun_with, Concludes, ServesUnit, Standing, standing, Proceeds, Way, Talks, Itself, TalksExpansion}
 use Rattle.sw_session.specs.Talk.{IsExpansion}
 use Rattle.sw_session.specs.Talk.{Expanded, TalksUnits, TalksMessage, Talked, Overruns, Spot, stands_at, OnLine, TalksLine, has_answers, answer_line, written}
@@ -107,7 +107,7 @@ settle-told passes d0 d1 d2 sid turn ask asked final lt same differ led p =
 
 -- a unit that was begun is concluded
 pub serve-unit : {D : Type 0} (passes : D → Entry → D → Type 0) (d0 d1 d2 : D) (sid : Sid) (command : Result Command ScpiError) (answered : Bool) (path : Nodes)
-    (macros macros' : Table) (answers : List (List ℕ)) (answer : SessionAnswer) (after : After) (answers' : List (List ℕ)) → answered ≡ has_answers answers
+    (macros macros' : Table) (answers : List (List ℕ)) (answer : SessionAnswer) (after : AfterUnit) (answers' : List (List ℕ)) → answered ≡ has_answers answers
     → Led passes d0 d1 (λ t rest. Begins sid answered command macros t (begun_with answer macros' rest))
     → Led passes d1 d2 (λ t rest. Concludes sid answers answer t after answers' rest)
     → Led passes d0 d2 (λ t rest. ServesUnit sid command (standing path macros answers t) after (standing path macros' answers' rest))
@@ -129,10 +129,10 @@ scripts-more text left rest front u is so us ending s =
 -- what is talked from this standing on is talked from the first one on, after these units
 abbrev pub TalksBy : Way → Sid → List UnitSeen → Standing → Standing → Type 0
 TalksBy way sid front s told =
-    (us : List UnitSeen) (ending : Ending) (after : After) (s' : Standing) → Talks way sid us ending told after s'
+    (us : List UnitSeen) (ending : Ending) (after : AfterUnit) (s' : Standing) → Talks way sid us ending told after s'
     → Talks way sid (front ++ us) ending s after s'
 
-stops : (on : Standing → Type 0) (after : After) (told : Standing) → (after ≡ Goes → ⊥) → Proceeds on after told after told
+stops : (on : Standing → Type 0) (after : AfterUnit) (told : Standing) → (after ≡ Goes → ⊥) → Proceeds on after told after told
 stops on Goes told differs = absurd (differs refl)
 stops on Drops told differs = (refl, refl)
 stops on Ends told differs = (refl, refl)
@@ -153,22 +153,22 @@ module _ {D : Type 0} (passes : D → Entry → D → Type 0) (way : Way) (sid :
       (so (u ∷ us) ending after s' (Goes, told' rest, w, k)))
 
   -- the talk stops after a unit
-  pub talk-stops : (d0 d1 d2 : D) (front : List UnitSeen) (u : UnitSeen) (s told told' : List Entry → Standing) (after : After) → (after ≡ Goes → ⊥)
+  pub talk-stops : (d0 d1 d2 : D) (front : List UnitSeen) (u : UnitSeen) (s told told' : List Entry → Standing) (after : AfterUnit) → (after ≡ Goes → ⊥)
       → Led passes d0 d1 (λ t rest. TalksBy way sid front (s t) (told rest)) → Led passes d1 d2 (λ t rest. way u (told t) after (told' rest))
-      → Led passes d0 d2 (λ t rest. Talks way sid (front ++ u ∷ []) Unread (s t) after (told' rest))
+      → Led passes d0 d2 (λ t rest. Talks way sid (front ++ u ∷ []) EndsUnread (s t) after (told' rest))
   talk-stops d0 d1 d2 front u s told told' after differs p q =
       led-then passes d0 d1 d2 (λ t rest. TalksBy way sid front (s t) (told rest)) (λ t rest. way u (told t) after (told' rest))
-      (λ t rest. Talks way sid (front ++ u ∷ []) Unread (s t) after (told' rest)) p q
-      (λ t mid rest so w. so (u ∷ []) Unread after (told' rest)
-      (after, told' rest, w, stops (λ so_far. Talks way sid [] Unread so_far after (told' rest)) after (told' rest) differs))
+      (λ t rest. Talks way sid (front ++ u ∷ []) EndsUnread (s t) after (told' rest)) p q
+      (λ t mid rest so w. so (u ∷ []) EndsUnread after (told' rest)
+      (after, told' rest, w, stops (λ so_far. Talks way sid [] EndsUnread so_far after (told' rest)) after (told' rest) differs))
 
   -- the text breaks off
-  pub talk-refused : (d0 d1 d2 : D) (front : List UnitSeen) (e : ScpiError) (s told told' : List Entry → Standing) (after : After)
+  pub talk-refused : (d0 d1 d2 : D) (front : List UnitSeen) (e : ScpiError) (s told told' : List Entry → Standing) (after : AfterUnit)
       → Led passes d0 d1 (λ t rest. TalksBy way sid front (s t) (told rest)) → Led passes d1 d2 (λ t rest. ServesUnit sid (Err e) (told t) after (told' rest))
-      → Led passes d0 d2 (λ t rest. Talks way sid (front ++ []) (Refuses e) (s t) after (told' rest))
+      → Led passes d0 d2 (λ t rest. Talks way sid (front ++ []) (EndsRefused e) (s t) after (told' rest))
   talk-refused d0 d1 d2 front e s told told' after p q =
       led-then passes d0 d1 d2 (λ t rest. TalksBy way sid front (s t) (told rest)) (λ t rest. ServesUnit sid (Err e) (told t) after (told' rest))
-      (λ t rest. Talks way sid (front ++ []) (Refuses e) (s t) after (told' rest)) p q (λ t mid rest so k. so [] (Refuses e) after (told' rest) k)
+      (λ t rest. Talks way sid (front ++ []) (EndsRefused e) (s t) after (told' rest)) p q (λ t mid rest so k. so [] (EndsRefused e) after (told' rest) k)
 
   -- the text is over
   pub talk-complete : (d0 d1 : D) (front : List UnitSeen) (s told : List Entry → Standing)
@@ -193,7 +193,7 @@ on-line-so passes a b P Q on so = λ answers written.
 
 -- a unit's command or refusal is served below the path that it leaves
 pub itself-served : {D : Type 0} (passes : D → Entry → D
-    → Type 0) (a b : Spot D) (sid : Sid) (u : UnitSeen) (command : Result Command ScpiError) (after : After)
+    → Type 0) (a b : Spot D) (sid : Sid) (u : UnitSeen) (command : Result Command ScpiError) (after : AfterUnit)
     → Resolves u a.path command b.path → OnLine passes (record a { path = b.path }) b (λ s s'. ServesUnit sid command s after s')
     → OnLine passes a b (λ s s'. Itself sid u s after s')
 itself-served passes a b sid u command after r on = λ answers written.
@@ -204,7 +204,7 @@ itself-served passes a b sid u command after r on = λ answers written.
           (λ t rest. Itself sid u (stands_at a answers t) after (stands_at b s.0 rest)) s.2 (λ t rest k. (command, b.path, r, k)),
     )
 
-expands : (c : Bool) (sid : Sid) (u : UnitSeen) (s s' : Standing) (after : After) → calls s.macros u ≡ c
+expands : (c : Bool) (sid : Sid) (u : UnitSeen) (s s' : Standing) (after : AfterUnit) → calls s.macros u ≡ c
     → MatchBool c ((r : Result (List ℕ) ScpiError) × IsExpansion s.macros u r × TalksExpansion sid r s after s') (Itself sid u s after s')
     → Expanded sid u s after s'
 expands c sid u s s' after is m =
@@ -212,7 +212,7 @@ expands c sid u s s' after is m =
     × TalksExpansion sid r s after s') (Itself sid u s after s')) (sym is) m
 
 -- a unit that calls no macro is itself
-pub expanded-itself : {D : Type 0} (passes : D → Entry → D → Type 0) (a b : Spot D) (sid : Sid) (u : UnitSeen) (after : After) → calls a.macros u ≡ false
+pub expanded-itself : {D : Type 0} (passes : D → Entry → D → Type 0) (a b : Spot D) (sid : Sid) (u : UnitSeen) (after : AfterUnit) → calls a.macros u ≡ false
     → OnLine passes a b (λ s s'. Itself sid u s after s') → OnLine passes a b (λ s s'. Expanded sid u s after s')
 expanded-itself passes a b sid u after is on =
     on-line-so passes a b (λ s s'. Itself sid u s after s') (λ s s'. Expanded sid u s after s') on
@@ -224,7 +224,7 @@ fault-expands t u written e (inl lost) = inr (ap (λ (x : ScpiError). Err x) los
 fault-expands t u written e (inr so) = inl (written, so)
 
 -- the units of an expansion stand in a unit's place
-pub expanded-units : {D : Type 0} (passes : D → Entry → D → Type 0) (a b : Spot D) (sid : Sid) (u : UnitSeen) (text : List ℕ) (after : After)
+pub expanded-units : {D : Type 0} (passes : D → Entry → D → Type 0) (a b : Spot D) (sid : Sid) (u : UnitSeen) (text : List ℕ) (after : AfterUnit)
     → calls a.macros u ≡ true
     → IsExpansion a.macros u (Ok text) → TalksLine (Itself sid) passes sid text a after b → OnLine passes a b (λ s s'. Expanded sid u s after s')
 expanded-units passes a b sid u text after is x talks = λ answers written.
@@ -237,7 +237,7 @@ expanded-units passes a b sid u text after is x talks = λ answers written.
     )
 
 -- the fault of an expansion is queued
-pub expanded-fault : {D : Type 0} (passes : D → Entry → D → Type 0) (a b : Spot D) (sid : Sid) (u : UnitSeen) (e : ScpiError) (after : After)
+pub expanded-fault : {D : Type 0} (passes : D → Entry → D → Type 0) (a b : Spot D) (sid : Sid) (u : UnitSeen) (e : ScpiError) (after : AfterUnit)
     → calls a.macros u ≡ true
     → IsExpansion a.macros u (Err e) → OnLine passes a b (λ s s'. ServesUnit sid (Err e) s after s') → OnLine passes a b (λ s s'. Expanded sid u s after s')
 expanded-fault passes a b sid u e after is x on =
@@ -247,7 +247,7 @@ expanded-fault passes a b sid u e after is x on =
 -- a message that isn't too long, over a trace after which nothing is left
 pub talked-units : {D : Type 0} (passes : D → Entry → D
     → Type 0) (old new : D) (sid : Sid) (macros macros' : Table) (message text bytes : List ℕ) (units : List UnitSeen)
-    (ending : Ending) (after : After) (path : Nodes) (answers : List (List ℕ)) → text ≡ strip_last 10 message → length text ≤ most_bytes
+    (ending : Ending) (after : AfterUnit) (path : Nodes) (answers : List (List ℕ)) → text ≡ strip_last 10 message → length text ≤ most_bytes
     → IsScript text units ending
     → bytes ≡ written after answers
     → Led passes old new (λ t rest. Talks (Expanded sid) sid units ending (standing [] macros [] t) after (standing path macros' answers rest))
@@ -293,12 +293,13 @@ talked-overrun passes old new sid macros macros' message text bytes final is muc
       talks = subst (λ (t : List ℕ). TalksMessage sid macros t led.trace bytes macros') is all;
     }
 
-pub written-ends : (after : After) (answers : List (List ℕ)) (bytes : List ℕ) → after ≡ Ends → bytes ≡ [] → bytes ≡ written after answers
+pub written-ends : (after : AfterUnit) (answers : List (List ℕ)) (bytes : List ℕ) → after ≡ Ends → bytes ≡ [] → bytes ≡ written after answers
 written-ends Goes answers bytes is none = absurd (cc (is))
 written-ends Drops answers bytes is none = absurd (cc (is))
 written-ends Ends answers bytes is none = none
 
-pub written-line : (after : After) (answers : List (List ℕ)) (bytes : List ℕ) → (after ≡ Ends → ⊥) → bytes ≡ answer_line answers → bytes ≡ written after answers
+pub written-line : (after : AfterUnit) (answers : List (List ℕ)) (bytes : List ℕ) → (after ≡ Ends → ⊥) → bytes ≡ answer_line answers
+    → bytes ≡ written after answers
 written-line Goes answers bytes differs is = is
 written-line Drops answers bytes differs is = is
 written-line Ends answers bytes differs is = absurd (differs refl)

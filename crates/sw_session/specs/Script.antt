@@ -6,12 +6,12 @@ use Rattle.sw_lex.specs.Unit.{UnitSeen, IsUnit, IsRefusedUnit, IsBlank}
 -- where the units end: at the end of the text, at the first byte that fits no form, or where nobody reads on
 pub data Ending : Type 0 where
   Complete : Ending
-  Refuses : ScpiError → Ending
-  Unread : Ending
+  EndsRefused : ScpiError → Ending
+  EndsUnread : Ending
 
 -- a text is these units, one after another, and then the ending
 abbrev pub IsScript : List ℕ → List UnitSeen → Ending → Type 0
 IsScript text [] Complete = IsBlank text
-IsScript text [] (Refuses e) = IsRefusedUnit text e
-IsScript text [] Unread = Unit {0}
+IsScript text [] (EndsRefused e) = IsRefusedUnit text e
+IsScript text [] EndsUnread = Unit {0}
 IsScript text (u ∷ us) ending = (rest : List ℕ) × IsUnit text u rest × IsScript rest us ending

@@ -17,8 +17,8 @@ use Rattle.sw_session.specs.declared.engine.step.Sent.{Sent}
 use Rattle.sw_session.specs.declared.engine.step.Step.{Step}
 use Rattle.sw_session.specs.declared.servers.act.Act.{Act}
 use Rattle.sw_session.specs.declared.servers.act.Act.TheVariants.{Takes, Skips, Refuses, Notices}
-use Rattle.sw_session.specs.declared.servers.act.After.{After}
-use Rattle.sw_session.specs.declared.servers.act.After.TheVariants.{Goes, Ends, Fatal, Malformed}
+use Rattle.sw_session.specs.declared.servers.act.AfterStep.{AfterStep}
+use Rattle.sw_session.specs.declared.servers.act.AfterStep.TheVariants.{Goes, Ends, Fatal, Malformed}
 use Rattle.sw_session.specs.declared.servers.fault.ServeFault.{ServeFault}
 use Rattle.sw_session.specs.declared.servers.fault.ServeFault.TheVariants as Fault
 use Rattle.sw_session.specs.declared.servers.turns.Came.{Came}
@@ -104,7 +104,7 @@ is_last_part Kind.DataEnd = true
 is_last_part kind = false
 
 -- how the channel goes on: a wrong prologue ends it, as does a step that says so, with a fatal error or without
-abbrev pub after_step : Bool → Step → After
+abbrev pub after_step : Bool → Step → AfterStep
 after_step true step = Malformed
 after_step false step =
     if step.ends then if list_any (λ (s : Sent). is_fatal s.message.kind) step.out then Fatal else Ends else Goes
@@ -115,17 +115,17 @@ availability_notes None said = []
 availability_notes (Some sid) said =
     if list_any (λ (s : Sent). is_last_part s.message.kind) said then Noted sid true ∷ [] else []
 
-abbrev pub ProceedsAfter : {E : Type 0} → Type 0 → After → E → List Exchange → After → E → Type 0
+abbrev pub ProceedsAfter : {E : Type 0} → Type 0 → AfterStep → E → List Exchange → AfterStep → E → Type 0
 ProceedsAfter on Goes mid xs after s' = on
 ProceedsAfter on Ends mid xs after s' = (xs ≡ []) × (after ≡ Ends) × (s' ≡ mid)
 ProceedsAfter on Fatal mid xs after s' = (xs ≡ []) × (after ≡ Fatal) × (s' ≡ mid)
 ProceedsAfter on Malformed mid xs after s' = (xs ≡ []) × (after ≡ Malformed) × (s' ≡ mid)
 
 -- an engine goes through these exchanges, of which only the last may end the channel
-abbrev pub Speaks : {E : Type 0} → Protocol E → E → List Exchange → After → E → Type 0
+abbrev pub Speaks : {E : Type 0} → Protocol E → E → List Exchange → AfterStep → E → Type 0
 Speaks v s [] after s' = (after ≡ Goes) × (s' ≡ s)
 Speaks v s (x ∷ xs) after s' =
-    (step : After) × (mid : _) × v.speaks s x.act x.asked x.step mid
+    (step : AfterStep) × (mid : _) × v.speaks s x.act x.asked x.step mid
     × (x.noted ≡ availability_notes (v.session mid) x.step.out)
     × (step ≡ after_step (is_refused x.act) x.step)
     × ProceedsAfter (Speaks v mid xs after s') step mid xs after s'
@@ -150,7 +150,8 @@ abbrev pub point : {E D : Type 0} → E → D → Option (List ℕ) → Option (
 point s d w x = record { engine = s; desk = d; main = w; side = x }
 
 -- The engine's definition of these exchanges is what was asked, and what the writers got.
-pub record Spoken {E D : Type 0} (u : Voice E D) (a b : Point E D) (xs : List Exchange) (after : After) : Type 0 where
+pub record Spoken {E D : Type 0} (u : Voice E D) (a b : Point E D) (xs : List Exchange) (after : AfterStep)
+    : Type 0 where
   pub speaks : Speaks u.protocol a.engine xs after b.engine
   pub asks : Leads u.passes a.desk (asks_of xs) b.desk
   pub main : Appends a.main b.main (flat_map (wire_on u.own) (said_of xs))
@@ -192,7 +193,7 @@ pub record Stops {E D : Type 0} (u : Voice E D) (a b : Point E D) (acts : List A
   pub breaks : Breaks u mid b act fault
 
 -- these acts are gone through, all of them where the channel goes on, and else up to the one that ends it
-abbrev pub GoesThrough : {E D : Type 0} → Voice E D → Point E D → Point E D → List Act → After → Type 0
+abbrev pub GoesThrough : {E D : Type 0} → Voice E D → Point E D → Point E D → List Act → AfterStep → Type 0
 GoesThrough u a b acts after =
     (xs : List Exchange) × (rest : List Act) × (acts_of xs ++ rest ≡ acts) × (after ≡ Goes → rest ≡ [])
     × Spoken u a b xs after
@@ -200,17 +201,18 @@ GoesThrough u a b acts after =
 -- ---- clauses of a server's parts
 
 -- one act
-abbrev pub Hears : {E D : Type 0} → Voice E D → Act → Point E D → Point E D → Result After ServeFault → Type 0
+abbrev pub Hears : {E D : Type 0} → Voice E D → Act → Point E D → Point E D → Result AfterStep ServeFault → Type 0
 Hears u act a b (Ok after) = GoesThrough u a b (act ∷ []) after
 Hears u act a b (Err fault) = Breaks u a b act fault
 
 -- only a wrong prologue ends a channel as malformed, and it always does
-abbrev pub Judges : Bool → After → Type 0
+abbrev pub Judges : Bool → AfterStep → Type 0
 Judges true after = after ≡ Malformed
 Judges false after = after ≢ Malformed
 
 -- some acts
-abbrev pub HearsEach : {E D : Type 0} → Voice E D → List Act → Point E D → Point E D → Result After ServeFault → Type 0
+abbrev pub HearsEach : {E D : Type 0} → Voice E D → List Act → Point E D → Point E D → Result AfterStep ServeFault
+    → Type 0
 HearsEach u acts a b (Ok after) = GoesThrough u a b acts after
 HearsEach u acts a b (Err fault) = Stops u a b acts fault
 
@@ -249,14 +251,14 @@ pub record TellsActs (p p' : Pending) (read : List ℕ) (inputs : List Act) : Ty
   pub told : told calls ≡ flat_map arrived inputs
 
 -- what is pending where a channel goes on, or met a wrong prologue
-abbrev pub Stands : After → Pending → Type 0
+abbrev pub Stands : AfterStep → Pending → Type 0
 Stands Goes p = Waits p.bytes
 Stands Malformed p = HasWrongPrologue p.bytes
 Stands Ends p = Unit {0}
 Stands Fatal p = Unit {0}
 
 abbrev pub HearsInputs : {E D : Type 0} → Voice E D → List Act → Pending → Point E D → Point E D
-    → Result After ServeFault → Type 0
+    → Result AfterStep ServeFault → Type 0
 HearsInputs u inputs p a b (Ok after) = GoesThrough u a b (flat_map acts_for inputs) after × Stands after p
 HearsInputs u inputs p a b (Err fault) =
     Stops u a b (flat_map acts_for inputs) fault
@@ -264,14 +266,14 @@ HearsInputs u inputs p a b (Err fault) =
 
 -- all that the wire tells is gone through, or what it tells up to an end of the channel or a fault
 pub record HearsAll {E D : Type 0} (u : Voice E D) (p p' : Pending) (a b : Point E D)
-    (result : Result After ServeFault) : Type 0 where
+    (result : Result AfterStep ServeFault) : Type 0 where
   pub inputs : List Act
   pub unpaused : pauses inputs ≡ 0
   pub tells : TellsActs p p' [] inputs
   pub spoken : HearsInputs u inputs p' a b result
 
 -- how a channel's state ends a turn
-abbrev pub conclude : Result After ServeFault → Result Next ServeFault
+abbrev pub conclude : Result AfterStep ServeFault → Result Next ServeFault
 conclude (Ok Goes) = Ok On
 conclude (Ok Ends) = Ok Over
 conclude (Ok Fatal) = Err Fault.Fatal

@@ -22,10 +22,10 @@ use Rattle.sw_core.specs.declared.ask.SessionAnswer.{SessionAnswer}
 use Rattle.sw_core.specs.declared.ask.SessionAnswer.TheVariants as Answer
 use Rattle.sw_core.specs.declared.ask.SessionAnswer.TheVariants.{Stranger, Broken, Done, Refused, Hold, Worn}
 use Rattle.sw_session.specs.declared.desk.Wake.TheVariants.{Again, Over}
-use Rattle.sw_session.specs.declared.talker.After.{After}
-use Rattle.sw_session.specs.declared.talker.After.TheVariants.{Goes, Drops, Ends}
+use Rattle.sw_session.specs.declared.talker.AfterUnit.{AfterUnit}
+use Rattle.sw_session.specs.declared.talker.AfterUnit.TheVariants.{Goes, Drops, Ends}
 use Rattle.sw_session.specs.Trace.{Entry, Asked, Waited, Leads, Led}
-use Rattle.sw_session.specs.Script.{Ending, Complete, Refuses, Unread, IsScript}
+use Rattle.sw_session.specs.Script.{Ending, Complete, EndsRefused, EndsUnread, IsScript}
 use Rattle.sw_session.specs.Macros.{Told, ActsOnMacros}
 
 -- turns of a loop that the world keeps going: a held ask is asked again, a source of lines is asked for bytes
@@ -48,17 +48,17 @@ abbrev pub is_command_error : ScpiError → Bool
 is_command_error e = nat_le 100 (number_of e) && nat_le (number_of e) 199
 
 -- what a queued error comes to: a refusal, unless the session is none any more
-abbrev pub queued : ScpiError → SessionAnswer → SessionAnswer
-queued e Stranger = Stranger
-queued e Broken = Broken
-queued e (Worn ask) = Worn ask
-queued e answer = Refused e
+abbrev pub after_queueing : ScpiError → SessionAnswer → SessionAnswer
+after_queueing e Stranger = Stranger
+after_queueing e Broken = Broken
+after_queueing e (Worn ask) = Worn ask
+after_queueing e answer = Refused e
 
 -- The relations below take the trace from somewhere on, and what is left of it.
 
 -- the error is queued by one ask, whatever is answered
 abbrev pub Queues : Sid → ScpiError → List Entry → SessionAnswer → List Entry → Type 0
-Queues sid e (Asked a r ∷ trace) final rest = (a ≡ Ask.Fault sid e) × (final ≡ queued e r) × (rest ≡ trace)
+Queues sid e (Asked a r ∷ trace) final rest = (a ≡ Ask.Fault sid e) × (final ≡ after_queueing e r) × (rest ≡ trace)
 Queues sid e trace final rest = ⊥
 
 -- An ask that was held turn times is asked. Held, it is asked again after a wait without a limit, and given up after
@@ -134,19 +134,20 @@ Begins sid answered (Ok command) t trace b =
 Begins sid answered (Err e) t trace b = Queues sid e trace b.answer b.rest × (b.macros ≡ t)
 
 -- whether the message goes on after an answer
-abbrev pub after_of : SessionAnswer → After
-after_of (Done text) = Goes
-after_of (Refused e) = if is_command_error e then Drops else Goes
-after_of answer = Ends
+abbrev pub after_unit : SessionAnswer → AfterUnit
+after_unit (Done text) = Goes
+after_unit (Refused e) = if is_command_error e then Drops else Goes
+after_unit answer = Ends
 
 -- A text joins the answers so far, or there was no memory for it and that error is queued.
-abbrev pub Concludes : Sid → List (List ℕ) → SessionAnswer → List Entry → After → List (List ℕ) → List Entry → Type 0
+abbrev pub Concludes : Sid → List (List ℕ) → SessionAnswer → List Entry → AfterUnit → List (List ℕ) → List Entry
+    → Type 0
 Concludes sid answers (Done (Some text)) trace after answers' rest =
     ((after ≡ Goes) × (answers' ≡ answers ++ text ∷ []) × (rest ≡ trace))
     ⊎ ((final : SessionAnswer)
-    × Queues sid OutOfMemory trace final rest × (after ≡ after_of final) × (answers' ≡ answers))
+    × Queues sid OutOfMemory trace final rest × (after ≡ after_unit final) × (answers' ≡ answers))
 Concludes sid answers answer trace after answers' rest =
-    (after ≡ after_of answer) × (answers' ≡ answers) × (rest ≡ trace)
+    (after ≡ after_unit answer) × (answers' ≡ answers) × (rest ≡ trace)
 
 -- where a session stands in the midst of a message: the path below which the next header is looked up, its macros, the
 -- answers so far, and what is left of the trace
@@ -160,7 +161,7 @@ abbrev pub standing : Nodes → Table → List (List ℕ) → List Entry → Sta
 standing path macros answers trace = record { path = path; macros = macros; answers = answers; trace = trace }
 
 -- one unit that is this command or error, from where the session stands to where it stands then; the path stays
-abbrev pub ServesUnit : Sid → Result Command ScpiError → Standing → After → Standing → Type 0
+abbrev pub ServesUnit : Sid → Result Command ScpiError → Standing → AfterUnit → Standing → Type 0
 ServesUnit sid command s after s' =
     (final : SessionAnswer) × (mid : List Entry)
     × Begins sid (has_answers s.answers) command s.macros s.trace (begun_with final s'.macros mid)
@@ -168,23 +169,23 @@ ServesUnit sid command s after s' =
 
 -- How the units go on after one of them, from where the session stands then: with the next, or not at all; then what
 -- comes of it is what came of all.
-abbrev pub Proceeds : (Standing → Type 0) → After → Standing → After → Standing → Type 0
+abbrev pub Proceeds : (Standing → Type 0) → AfterUnit → Standing → AfterUnit → Standing → Type 0
 Proceeds on Goes told after s' = on told
 Proceeds on Drops told after s' = (after ≡ Drops) × (s' ≡ told)
 Proceeds on Ends told after s' = (after ≡ Ends) × (s' ≡ told)
 
 -- how one unit is talked over, from where the session stands to where it stands then
 abbrev pub Way : Type 1
-Way = UnitSeen → Standing → After → Standing → Type 0
+Way = UnitSeen → Standing → AfterUnit → Standing → Type 0
 
 -- The talk about these units, each in this way, from this standing. Where the text breaks off at a byte that fits no
 -- form, that error is queued. Nobody stops reading while the message goes on.
-abbrev pub Talks : Way → Sid → List UnitSeen → Ending → Standing → After → Standing → Type 0
+abbrev pub Talks : Way → Sid → List UnitSeen → Ending → Standing → AfterUnit → Standing → Type 0
 Talks way sid [] Complete s after s' = (after ≡ Goes) × (s' ≡ s)
-Talks way sid [] (Refuses e) s after s' = ServesUnit sid (Err e) s after s'
-Talks way sid [] Unread s after s' = ⊥
+Talks way sid [] (EndsRefused e) s after s' = ServesUnit sid (Err e) s after s'
+Talks way sid [] EndsUnread s after s' = ⊥
 Talks way sid (u ∷ us) ending s after s' =
-    (step : After) × (told : Standing)
+    (step : AfterUnit) × (told : Standing)
     × way u s step told × Proceeds (λ so_far. Talks way sid us ending so_far after s') step told after s'
 
 -- a unit is itself: its command or its refusal is served, below the path that it leaves
@@ -195,7 +196,7 @@ Itself sid u s after s' =
 
 -- An expansion stands in a unit's place: its text is read by itself, and each of its units is itself. A fault is
 -- queued.
-abbrev pub TalksExpansion : Sid → Result (List ℕ) ScpiError → Standing → After → Standing → Type 0
+abbrev pub TalksExpansion : Sid → Result (List ℕ) ScpiError → Standing → AfterUnit → Standing → Type 0
 TalksExpansion sid (Ok text) s after s' =
     (units : List UnitSeen) × (ending : Ending)
     × IsScript text units ending × Talks (Itself sid) sid units ending s after s'
@@ -214,7 +215,7 @@ Expanded sid u s after s' =
     (Itself sid u s after s')
 
 -- what is written in the end
-abbrev pub written : After → List (List ℕ) → List ℕ
+abbrev pub written : AfterUnit → List (List ℕ) → List ℕ
 written Goes answers = answer_line answers
 written Drops answers = answer_line answers
 written Ends answers = []
@@ -229,7 +230,7 @@ pub record TalksUnits (sid : Sid) (macros : Table) (text : List ℕ) (trace : Li
   pub units : List UnitSeen
   pub ending : Ending
   pub script : IsScript text units ending
-  pub after : After
+  pub after : AfterUnit
   pub path : Nodes
   pub answers : List (List ℕ)
   pub talks :
@@ -284,7 +285,8 @@ OnLine passes a b part =
     × Led passes a.desk b.desk (λ trace rest. part (stands_at a answers trace) (stands_at b answers' rest))
 
 -- the units of a text are talked over in this way
-abbrev pub TalksLine : {D : Type 0} → Way → (D → Entry → D → Type 0) → Sid → List ℕ → Spot D → After → Spot D → Type 0
+abbrev pub TalksLine : {D : Type 0} → Way → (D → Entry → D → Type 0) → Sid → List ℕ → Spot D → AfterUnit → Spot D
+    → Type 0
 TalksLine way passes sid text a after b =
     (answers : List (List ℕ)) → a.line ≡ answer_line answers
     → (units : List UnitSeen) × (ending : Ending) × (answers' : List (List ℕ))
@@ -301,7 +303,7 @@ abbrev pub written_at : {D : Type 0} → D → List ℕ → WrittenLine D
 written_at desk line = record { desk = desk; line = line }
 
 -- an answer is taken
-abbrev pub ConcludesLine : {D : Type 0} → (D → Entry → D → Type 0) → Sid → SessionAnswer → WrittenLine D → After
+abbrev pub ConcludesLine : {D : Type 0} → (D → Entry → D → Type 0) → Sid → SessionAnswer → WrittenLine D → AfterUnit
     → WrittenLine D → Type 0
 ConcludesLine passes sid answer a after b =
     (answers : List (List ℕ)) → a.line ≡ answer_line answers

@@ -3,7 +3,7 @@
 ghost use Rattle.std.specs.Prelude.{◌≡◌, Ok};
 ghost use Rattle.sw_session.specs.Trace.{Led};
 ghost use Rattle.sw_session.specs.Talk.{Queues, Settles, Begins, begun_with, Reports, StartsScan, Plans, table_reset};
-ghost use Rattle.sw_session.specs.Talk.{is_done, queued};
+ghost use Rattle.sw_session.specs.Talk.{is_done, after_queueing};
 
 use crate::desk::{Desk, Wake};
 use crate::macros::{Outcome, define, remove, tell_body, tell_enabled, tell_labels};
@@ -160,12 +160,12 @@ pub fn queue<D: Desk>(desk: &mut D, sid: Sid, error: ScpiError) -> SessionAnswer
     ensures { Led D.passes desk.old desk.new (λ t rest. Queues sid error t result rest) }
 {
     let answer = desk.ask(SessionAsk::Fault(sid, error));
-    queued(error, answer)
+    after_queueing(error, answer)
 }
 
 /// What a queued error comes to: a refusal, unless the session is none any more.
-fn queued(error: ScpiError, answer: SessionAnswer) -> SessionAnswer
-    ensures { result ≡ queued error answer }
+fn after_queueing(error: ScpiError, answer: SessionAnswer) -> SessionAnswer
+    ensures { result ≡ after_queueing error answer }
 {
     match answer {
         SessionAnswer::Stranger => SessionAnswer::Stranger,

@@ -12,8 +12,9 @@
 //! is carried out in the order in which it came (`work_is_done_in_order`).
 //!
 //! `Engine` is one of the two channels of a HiSLIP session (IVI-6.1), and its contract what is asked and said to each
-//! message (`Takes`). `serve_sync` and `serve_async` serve a channel over any reader, two writers and any desk: what is
-//! written is what the engine says to the messages that stand in what was read, however it was cut (`ServesChannel`).
+//! message (`TakesMessage`). `serve_sync` and `serve_async` serve a channel over any reader, two writers and any desk:
+//! what is written is what the engine says to the messages that stand in what was read, however it was cut
+//! (`ServesChannel`).
 //!
 //! Not promised: that a desk ever answers anything but a hold, and that memory is there.
 #![tactic(auto)]

@@ -6,7 +6,7 @@ ghost use Rattle.sw_lex.specs.Unit.{unit_of};
 ghost use Rattle.sw_lex.specs.Meaning.{Nodes, path_of};
 ghost use Rattle.sw_macro.specs.Table.{no_macros};
 ghost use Rattle.sw_session.specs.Talk.{Talked, TalksLine, OnLine, Itself, Expanded, ServesUnit, ConcludesLine};
-ghost use Rattle.sw_session.specs.Talk.{state, spot, written_at, after_of, is_command_error, TellsAnswered};
+ghost use Rattle.sw_session.specs.Talk.{state, spot, written_at, after_unit, is_command_error, TellsAnswered};
 
 use crate::asking::{begin, queue};
 use crate::desk::Desk;
@@ -59,7 +59,7 @@ impl Talker {
         let mut out = Vec::new(self.alloc);
         let mut path = Path::root();
         match self.talk::<ByExpansion, D>(desk, text, &mut path, &mut out) {
-            After::Ends => Vec::new(self.alloc),
+            AfterUnit::Ends => Vec::new(self.alloc),
             _ => out,
         }
     }
@@ -72,7 +72,7 @@ impl Talker {
         text: &[u8],
         path: &mut Path,
         out: &mut Vec<u8>,
-    ) -> After
+    ) -> AfterUnit
         ensures talks { TalksLine (W.way self.old.sid) D.passes self.old.sid text.now
             (spot desk.old (path_of path.old) self.old.macros out.old.items)
             result (spot desk.new (path_of path.new) self.new.macros out.new.items) }
@@ -81,12 +81,12 @@ impl Talker {
         let mut left = text;
         'units: loop {
             match next_unit(left) {
-                Ok(None) => return After::Goes,
+                Ok(None) => return AfterUnit::Goes,
                 Err(misfit) => return self.serve(desk, Err(misfit), out),
                 Ok(Some((unit, rest))) => {
                     left = rest;
                     match W::unit(self, desk, &unit, path, out) {
-                        After::Goes => {}
+                        AfterUnit::Goes => {}
                         after => return after,
                     }
                 }
@@ -101,7 +101,7 @@ impl Talker {
         unit: &RawUnit<'_>,
         path: &mut Path,
         out: &mut Vec<u8>,
-    ) -> After
+    ) -> AfterUnit
         ensures unit { OnLine D.passes
             (spot desk.old (path_of path.old) self.old.macros out.old.items)
             (spot desk.new (path_of path.new) self.new.macros out.new.items)
@@ -118,7 +118,7 @@ impl Talker {
         desk: &mut D,
         command: Result<Command, ScpiError>,
         out: &mut Vec<u8>,
-    ) -> After
+    ) -> AfterUnit
         ensures serves { (path : Nodes) → OnLine D.passes
             (spot desk.old path self.old.macros out.old.items)
             (spot desk.new path self.new.macros out.new.items)
@@ -156,7 +156,7 @@ trait Way {
         unit: &RawUnit<'_>,
         path: &mut Path,
         out: &mut Vec<u8>,
-    ) -> After
+    ) -> AfterUnit
         ensures unit { OnLine D.passes
             (spot desk.old (path_of path.old) talker.old.macros out.old.items)
             (spot desk.new (path_of path.new) talker.new.macros out.new.items)
@@ -176,7 +176,7 @@ impl Way for ByExpansion {
         unit: &RawUnit<'_>,
         path: &mut Path,
         out: &mut Vec<u8>,
-    ) -> After {
+    ) -> AfterUnit {
         if !talker.macros.calls(unit) {
             return talker.unit(desk, unit, path, out);
         }
@@ -199,7 +199,7 @@ impl Way for ByItself {
         unit: &RawUnit<'_>,
         path: &mut Path,
         out: &mut Vec<u8>,
-    ) -> After {
+    ) -> AfterUnit {
         talker.unit(desk, unit, path, out)
     }
 }
@@ -216,7 +216,7 @@ fn without_line_feed(text: &[u8]) -> &[u8]
 
 /// How a message goes on after a unit.
 #[derive(Clone, Copy, Debug, PartialEq, Eq)]
-pub enum After {
+pub enum AfterUnit {
     /// With the next unit.
     Goes,
     /// The rest is dropped; the answers given are written.
@@ -234,31 +234,31 @@ fn has_answers(out: &[u8]) -> bool
 
 /// Adds a unit's answer to those that are written. Where there is no memory for it, it is dropped and that error
 /// queued.
-fn conclude<D: Desk>(desk: &mut D, sid: Sid, answer: &SessionAnswer, out: &mut Vec<u8>) -> After
+fn conclude<D: Desk>(desk: &mut D, sid: Sid, answer: &SessionAnswer, out: &mut Vec<u8>) -> AfterUnit
     ensures { ConcludesLine D.passes sid answer.now
         (written_at desk.old out.old.items) result (written_at desk.new out.new.items) }
 {
     match answer {
         SessionAnswer::Done(Some(text)) => match join(out, text.as_slice()) {
-            Ok(()) => After::Goes,
+            Ok(()) => AfterUnit::Goes,
             Err(_) => {
                 let lost = queue(desk, sid, ScpiError::OutOfMemory);
-                after_of(&lost)
+                after_unit(&lost)
             }
         },
-        _ => after_of(answer),
+        _ => after_unit(answer),
     }
 }
 
 /// How a message goes on after an answer.
-fn after_of(answer: &SessionAnswer) -> After
-    ensures { result ≡ after_of answer.now }
+fn after_unit(answer: &SessionAnswer) -> AfterUnit
+    ensures { result ≡ after_unit answer.now }
 {
     match answer {
-        SessionAnswer::Done(_) => After::Goes,
-        SessionAnswer::Refused(error) if is_command_error(*error) => After::Drops,
-        SessionAnswer::Refused(_) => After::Goes,
-        _ => After::Ends,
+        SessionAnswer::Done(_) => AfterUnit::Goes,
+        SessionAnswer::Refused(error) if is_command_error(*error) => AfterUnit::Drops,
+        SessionAnswer::Refused(_) => AfterUnit::Goes,
+        _ => AfterUnit::Ends,
     }
 }
 

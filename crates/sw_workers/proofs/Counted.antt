@@ -26,8 +26,8 @@ use Rattle.sw_core.specs.declared.ask.SessionAnswer.{SessionAnswer}
 use Rattle.sw_core.specs.declared.ask.SessionAnswer.TheVariants as answers
 use Rattle.sw_core.specs.declared.ask.SessionAnswer.TheVariants.{Joined, Full, Stranger, Broken, Done, Refused, Hold, Worn}
 use Rattle.sw_core.specs.Panel.{Panel, is_running}
-use Rattle.sw_core.specs.Action.{Effect, TellsNumber, TellsText, TellsReadings, ReadsOut, SetsStatus, SetsUp, Closes, Opens, TellsRelays, Leaves}
-use Rattle.sw_core.specs.Action.{Resets, reset, Offers, Refuses, IsOfMacros, Initiates, Action, AtOnce, BetweenScans, AfterScan, action_of}
+use Rattle.sw_core.specs.Action.{Effect, TellsNumber, TellsText, TellsReadings, ReadsOut, SetsStatus, SetsUp, ClosesListed, OpensListed, TellsRelays, Changes}
+use Rattle.sw_core.specs.Action.{Resets, reset, Offers, RefusesWith, IsOfMacros, Initiates, Action, AtOnce, BetweenScans, AfterScan, action_of}
 use Rattle.sw_core.specs.Event.{concluded, session_concluded, last_number, next_number}
 use Rattle.sw_core.specs.Seats.{asker_of}
 use Rattle.sw_core.specs.Step.{StepClose, StepOpen, StepFlags, StepText, StepDone, StepSetting, StepRefused, StepReadings, StepAlone}
@@ -48,7 +48,7 @@ same_as : (p q r : Panel) → q ≡ r → IsSame p r → IsSame p q
 same_as p q r e s = ap (λ (x : Panel). x.events) e ∙ s
 
 abbrev pub IsSameEffect : Panel → Effect → Type 0
-IsSameEffect p (Leaves after) = IsSame p (after p)
+IsSameEffect p (Changes after) = IsSame p (after p)
 IsSameEffect p effect = Unit {0}
 
 abbrev pub IsSameAction : Panel → Action → Type 0
@@ -170,12 +170,12 @@ same_alone TellsReadings p f a q n h = same_readings p.cage.readings p f a q h
 same_alone (ReadsOut text after) p f a q n h = same_text p (text p.status) (after p.status) f a q h
 same_alone (SetsStatus after) p f a q n h = same_done p (record p { status = after p.status }) f a q refl h
 same_alone (SetsUp Fits error after) p f a q n h = same_setting p Fits error (after p.settings) f a q h
-same_alone (Closes chans) p f a q n h = same_close p chans f a q h
-same_alone (Opens chans) p f a q n h = same_open p chans f a q h
+same_alone (ClosesListed chans) p f a q n h = same_close p chans f a q h
+same_alone (OpensListed chans) p f a q n h = same_open p chans f a q h
 same_alone (TellsRelays closed chans) p f a q n h = same_flags p closed chans f a q h
-same_alone (Leaves after) p f a q n h = same_done p (after p) f a q n h
+same_alone (Changes after) p f a q n h = same_done p (after p) f a q n h
 same_alone Resets p f a q n h = same_done p (reset p) f a q refl h
-same_alone (Refuses error) p f a q n h = same_refused p error f a q h
+same_alone (RefusesWith error) p f a q n h = same_refused p error f a q h
 same_alone IsOfMacros p f a q n h = same_refused p UndefinedHeader f a q h
 same_alone Initiates p f a q n h = same_refused p UndefinedHeader f a q h
 same_alone (Offers happening error) p f a q n h = absurd h

@@ -22,8 +22,8 @@ use Rattle.sw_core.specs.declared.ask.SessionAnswer.{SessionAnswer}
 use Rattle.sw_core.specs.declared.ask.SessionAnswer.TheVariants as answers
 use Rattle.sw_core.specs.declared.ask.SessionAnswer.TheVariants.{Joined, Full, Stranger, Broken, Done, Refused, Hold, Worn}
 use Rattle.sw_core.specs.Panel.{Panel, is_running}
-use Rattle.sw_core.specs.Action.{Effect, TellsNumber, TellsText, TellsReadings, ReadsOut, SetsStatus, SetsUp, Closes, Opens, TellsRelays, Leaves}
-use Rattle.sw_core.specs.Action.{Resets, reset, Offers, Refuses, IsOfMacros, Initiates, Action, AtOnce, BetweenScans, AfterScan, action_of}
+use Rattle.sw_core.specs.Action.{Effect, TellsNumber, TellsText, TellsReadings, ReadsOut, SetsStatus, SetsUp, ClosesListed, OpensListed, TellsRelays, Changes}
+use Rattle.sw_core.specs.Action.{Resets, reset, Offers, RefusesWith, IsOfMacros, Initiates, Action, AtOnce, BetweenScans, AfterScan, action_of}
 use Rattle.sw_core.specs.Event.{concluded, session_concluded, last_number}
 use Rattle.sw_core.specs.Seats.{asker_of, StepSeat, StepLock}
 use Rattle.sw_core.specs.Sessions.{SessionsSeen}
@@ -102,12 +102,12 @@ stays_alone TellsReadings p f a q h = stays_readings p.cage.readings p f a q h
 stays_alone (ReadsOut text after) p f a q h = stays_text p (text p.status) (after p.status) f a q h
 stays_alone (SetsStatus after) p f a q h = stays_done p (record p { status = after p.status }) f a q h
 stays_alone (SetsUp Fits error after) p f a q h = stays_setting p Fits error (after p.settings) f a q h
-stays_alone (Closes chans) p f a q h = stays_close p chans f a q h
-stays_alone (Opens chans) p f a q h = stays_open p chans f a q h
+stays_alone (ClosesListed chans) p f a q h = stays_close p chans f a q h
+stays_alone (OpensListed chans) p f a q h = stays_open p chans f a q h
 stays_alone (TellsRelays closed chans) p f a q h = stays_flags p closed chans f a q h
-stays_alone (Leaves after) p f a q h = stays_done p (after p) f a q h
+stays_alone (Changes after) p f a q h = stays_done p (after p) f a q h
 stays_alone Resets p f a q h = stays_done p (reset p) f a q h
-stays_alone (Refuses error) p f a q h = stays_refused p error f a q h
+stays_alone (RefusesWith error) p f a q h = stays_refused p error f a q h
 stays_alone IsOfMacros p f a q h = stays_refused p UndefinedHeader f a q h
 stays_alone Initiates p f a q h = stays_refused p UndefinedHeader f a q h
 stays_alone (Offers happening error) p f a q h = absurd h

@@ -26,7 +26,7 @@ pub enum Act {
 
 /// How a channel goes on.
 #[derive(Clone, Copy, Debug, PartialEq, Eq)]
-pub enum After {
+pub enum AfterStep {
     Goes,
     /// It is over.
     Ends,
@@ -81,19 +81,19 @@ pub fn has_last_part(said: &[Sent]) -> bool
 }
 
 /// How the channel goes on after a step.
-pub fn after_of(is_refused: bool, step: &Step) -> After
+pub fn after_step(is_refused: bool, step: &Step) -> AfterStep
     ensures after { result ≡ after_step is_refused step.now }
     ensures judged { Judges is_refused result }
 {
     if is_refused {
-        return After::Malformed;
+        return AfterStep::Malformed;
     }
     if !step.ends {
-        return After::Goes;
+        return AfterStep::Goes;
     }
     if has_fatal(step.out.as_slice()) {
-        After::Fatal
+        AfterStep::Fatal
     } else {
-        After::Ends
+        AfterStep::Ends
     }
 }

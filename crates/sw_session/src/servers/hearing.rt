@@ -8,7 +8,7 @@ ghost use Rattle.sw_session.specs.Serve.{voice};
 
 use crate::desk::Desk;
 use crate::engine::{Channel, Sent};
-use crate::servers::act::{Act, After, Handler, after_of, has_last_part, is_refused};
+use crate::servers::act::{Act, AfterStep, Handler, after_step, has_last_part, is_refused};
 use crate::servers::fault::ServeFault;
 use crate::servers::sending::send_all;
 use crate::servers::writing::Sink;
@@ -35,7 +35,7 @@ fn hear<E: Handler, W: Sink, S: Sink, D: Desk>(
     writer: &mut W,
     side: &mut S,
     desk: &mut D,
-) -> Result<After, ServeFault>
+) -> Result<AfterStep, ServeFault>
     ensures heard { Hears (voice E.protocol D.passes own) act
         (point engine.old desk.old (W.contents writer.old) (S.contents side.old))
         (point engine.new desk.new (W.contents writer.new) (S.contents side.new)) result }
@@ -49,7 +49,7 @@ fn hear<E: Handler, W: Sink, S: Sink, D: Desk>(
     match send_all(alloc, own, step.out.as_slice(), writer, side) {
         Ok(()) => {
             note(engine.session(), step.out.as_slice(), desk);
-            Ok(after_of(refused, &step))
+            Ok(after_step(refused, &step))
         }
         Err(fault) => Err(fault),
     }
@@ -64,7 +64,7 @@ pub fn attend<E: Handler, W: Sink, S: Sink, D: Desk>(
     writer: &mut W,
     side: &mut S,
     desk: &mut D,
-) -> Result<After, ServeFault>
+) -> Result<AfterStep, ServeFault>
     ensures heard { HearsEach (voice E.protocol D.passes own) (acts_for input)
         (point engine.old desk.old (W.contents writer.old) (S.contents side.old))
         (point engine.new desk.new (W.contents writer.new) (S.contents side.new)) result }
@@ -80,10 +80,10 @@ pub fn attend<E: Handler, W: Sink, S: Sink, D: Desk>(
         Act::Notices => return hear(alloc, own, Act::Notices, engine, writer, side, desk),
     };
     match hear(alloc, own, Act::Notices, engine, writer, side, desk) {
-        Ok(After::Goes) => hear(alloc, own, Act::Takes(message), engine, writer, side, desk),
-        Ok(After::Ends) => Ok(After::Ends),
-        Ok(After::Fatal) => Ok(After::Fatal),
-        Ok(After::Malformed) => Ok(After::Malformed),
+        Ok(AfterStep::Goes) => hear(alloc, own, Act::Takes(message), engine, writer, side, desk),
+        Ok(AfterStep::Ends) => Ok(AfterStep::Ends),
+        Ok(AfterStep::Fatal) => Ok(AfterStep::Fatal),
+        Ok(AfterStep::Malformed) => Ok(AfterStep::Malformed),
         Err(fault) => Err(fault),
     }
 }

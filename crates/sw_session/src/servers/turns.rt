@@ -9,7 +9,7 @@ ghost use Rattle.sw_session.specs.Serve.{voice, service, point, course, conclude
 
 use crate::desk::Desk;
 use crate::engine::Channel;
-use crate::servers::act::{Act, After, Handler};
+use crate::servers::act::{Act, AfterStep, Handler};
 use crate::servers::fault::ServeFault;
 use crate::servers::hearing::attend;
 use crate::servers::source::{Source, Unread};
@@ -58,14 +58,14 @@ fn listen<R: Source>(reader: &mut R, decoder: &mut Decoder) -> Result<Came, Serv
 }
 
 /// How a turn ends.
-fn conclude(heard: Result<After, ServeFault>) -> Result<Next, ServeFault>
+fn conclude(heard: Result<AfterStep, ServeFault>) -> Result<Next, ServeFault>
     ensures { result ≡ conclude heard }
 {
     match heard {
-        Ok(After::Goes) => Ok(Next::On),
-        Ok(After::Ends) => Ok(Next::Over),
-        Ok(After::Fatal) => Err(ServeFault::Fatal),
-        Ok(After::Malformed) => Err(ServeFault::Wire),
+        Ok(AfterStep::Goes) => Ok(Next::On),
+        Ok(AfterStep::Ends) => Ok(Next::Over),
+        Ok(AfterStep::Fatal) => Err(ServeFault::Fatal),
+        Ok(AfterStep::Malformed) => Err(ServeFault::Wire),
         Err(fault) => Err(fault),
     }
 }
@@ -92,7 +92,7 @@ fn hear_all<E: Handler, W: Sink, S: Sink, D: Desk>(
     writer: &mut W,
     side: &mut S,
     desk: &mut D,
-) -> Result<After, ServeFault>
+) -> Result<AfterStep, ServeFault>
     ensures heard { HearsAll (voice E.protocol D.passes own) decoder.old.pending decoder.new.pending
         (point engine.old desk.old (W.contents writer.old) (S.contents side.old))
         (point engine.new desk.new (W.contents writer.new) (S.contents side.new)) result }
@@ -101,14 +101,14 @@ fn hear_all<E: Handler, W: Sink, S: Sink, D: Desk>(
     loop {
         let input = match next_input(alloc, decoder) {
             Ok(Some(input)) => input,
-            Ok(None) => return Ok(After::Goes),
+            Ok(None) => return Ok(AfterStep::Goes),
             Err(fault) => return Err(fault),
         };
         match attend(alloc, own, input, engine, writer, side, desk) {
-            Ok(After::Goes) => {}
-            Ok(After::Ends) => return Ok(After::Ends),
-            Ok(After::Fatal) => return Ok(After::Fatal),
-            Ok(After::Malformed) => return Ok(After::Malformed),
+            Ok(AfterStep::Goes) => {}
+            Ok(AfterStep::Ends) => return Ok(AfterStep::Ends),
+            Ok(AfterStep::Fatal) => return Ok(AfterStep::Fatal),
+            Ok(AfterStep::Malformed) => return Ok(AfterStep::Malformed),
             Err(fault) => return Err(fault),
         }
     }

@@ -6,4 +6,4 @@ use Rattle.sw_session.proofs.asking.queue.Goals as goal
 
 pub returns : goal.returns
 returns g c = led-one g.D.Desk.passes _ _ _ (Asked (Fault c.args.sid c.args.error) c.ask-answer.result) c.ask-answer.ensures.passes (λ rest.
-    (refl, c.queued.ensures, refl))
+    (refl, c.after_queueing.ensures, refl))

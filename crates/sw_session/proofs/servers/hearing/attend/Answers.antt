@@ -1,6 +1,6 @@
 use Rattle.std.proofs.Common.{rules, Ok}
 use Rattle.sw_session.specs.declared.servers.act.Act.TheVariants.{Notices, Takes, Skips, Refuses}
-use Rattle.sw_session.specs.declared.servers.act.After.TheVariants.{Goes, Ends, Fatal, Malformed}
+use Rattle.sw_session.specs.declared.servers.act.AfterStep.TheVariants.{Goes, Ends, Fatal, Malformed}
 use Rattle.sw_session.specs.Serve.{voice}
 use Rattle.sw_session.proofs.ServeWays.{hears-is, each-one, each-two, each-end, each-err}
 use Rattle.sw_session.proofs.servers.hearing.attend.Goals as goal

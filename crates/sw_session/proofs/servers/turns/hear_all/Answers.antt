@@ -1,5 +1,5 @@
 use Rattle.std.proofs.Common.{rules, Ok}
-use Rattle.sw_session.specs.declared.servers.act.After.TheVariants.{Goes, Ends, Fatal, Malformed}
+use Rattle.sw_session.specs.declared.servers.act.AfterStep.TheVariants.{Goes, Ends, Fatal, Malformed}
 use Rattle.sw_session.proofs.ServeWays.{next-is, each-is, hearing-start, hearing-on, all-ended, all-stopped}
 use Rattle.sw_session.proofs.servers.turns.hear_all.Goals as goal
 

@@ -2,9 +2,9 @@ use Rattle.std.proofs.Common.{[], ◌∷◌, ◌++◌, Err, refl, subst, ◌∙�
 use Rattle.sw_lex.specs.Unit.{IsUnit, unit_of}
 use Rattle.sw_lex.specs.Meaning.{path_of}
 use Rattle.sw_core.specs.declared.ask.Sid.{Sid}
-use Rattle.sw_session.specs.declared.talker.After.TheVariants.{Goes}
+use Rattle.sw_session.specs.declared.talker.AfterUnit.TheVariants.{Goes}
 use Rattle.sw_session.specs.Trace.{Led}
-use Rattle.sw_session.specs.Script.{Complete, Refuses, Unread}
+use Rattle.sw_session.specs.Script.{Complete, EndsRefused, EndsUnread}
 use Rattle.sw_session.specs.Talk.{ServesUnit, standing}
 use Rattle.sw_session.proofs.Talks.{ScriptsBy, scripts-more, talk-starts, talk-goes, talk-stops, talk-refused, talk-complete}
 use Rattle.sw_session.proofs.talker.Talker.talk.Goals as goal
@@ -47,9 +47,9 @@ returns-in-Err-clause-talks g c = λ answers written.
     subst (λ (i : Sid). Led g.D.Desk.passes c.units.desk c.serve.new.desk (λ t rest. ServesUnit i (Err c.in-Err.misfit)
     (standing path c.units.self.macros inv.1 t) c.serve.result (standing path c.serve.new.self.macros s.0 rest))) c.units.invariant.sid s.2 in (
       inv.0 ++ [],
-      Refuses c.in-Err.misfit,
+      EndsRefused c.in-Err.misfit,
       s.0,
-      inv.2 [] (Refuses c.in-Err.misfit) c.in-Err.ensures.refused,
+      inv.2 [] (EndsRefused c.in-Err.misfit) c.in-Err.ensures.refused,
       s.1,
       talk-refused g.D.Desk.passes (g.W.Way.way c.args.self.now.sid) c.args.self.now.sid _ _ _ inv.0 c.in-Err.misfit
           (standing (path_of c.args.path.now) c.args.self.now.macros answers) (standing path c.units.self.macros inv.1)
@@ -93,9 +93,9 @@ returns-in_default-clause-talks g c = λ answers written.
     (standing (path_of c.units.path) c.units.self.macros inv.1 t) c.unit.result (standing (path_of c.unit.new.path) c.unit.new.talker.macros s.0 rest)))
     c.units.invariant.sid s.2 in (
       inv.0 ++ u ∷ [],
-      Unread,
+      EndsUnread,
       s.0,
-      inv.2 (u ∷ []) Unread (_, is, tt),
+      inv.2 (u ∷ []) EndsUnread (_, is, tt),
       s.1,
       talk-stops g.D.Desk.passes (g.W.Way.way c.args.self.now.sid) c.args.self.now.sid _ _ _ inv.0 u
           (standing (path_of c.args.path.now) c.args.self.now.macros answers)

@@ -6,7 +6,7 @@ use Rattle.sw_status.specs.StatusModel.{StatusSeen}
 use Rattle.sw_core.specs.Panel.{Panel}
 use Rattle.sw_core.specs.Registers.{card_fault_cleared}
 use Rattle.sw_core.proofs.Calls.{failed_ejected}
-use Rattle.sw_core.proofs.core.Core.eject.Goals as goal
+use Rattle.sw_core.proofs.state.Core.eject.Goals as goal
 
 pub returns-in-Ok : goal.returns-in-Ok
 returns-in-Ok g c =

@@ -1,6 +1,6 @@
 use Rattle.std.proofs.Common.{◌≡◌, true, ◌∙◌}
 use Rattle.sw_core.proofs.Happened.{stale_start}
-use Rattle.sw_core.proofs.core.Core.start.Goals as goal
+use Rattle.sw_core.proofs.state.Core.start.Goals as goal
 
 pub returns-then-not-is_now : goal.returns-then-not-is_now
 returns-then-not-is_now g c =

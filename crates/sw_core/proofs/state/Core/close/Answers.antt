@@ -1,13 +1,13 @@
-use Rattle.std.proofs.Common.{ap, sym, ◌∙◌}
+use Rattle.std.proofs.Common.{ap, ◌∙◌}
 use Rattle.sw_cage.specs.Cage.{CageSeen}
 use Rattle.sw_status.specs.StatusModel.{StatusSeen}
 use Rattle.sw_core.specs.Panel.{Panel}
 use Rattle.sw_core.specs.Registers.{card_fault_reported}
 use Rattle.sw_core.proofs.Calls.{failed_sets, fallen, fallen_cage}
-use Rattle.sw_core.proofs.core.Core.open.Goals as goal
+use Rattle.sw_core.proofs.state.Core.close.Goals as goal
 
-pub returns-in-Ok : goal.returns-in-Ok
-returns-in-Ok g c =
+pub returns-in-Ok-close_listed : goal.returns-in-Ok-close_listed
+returns-in-Ok-close_listed g c =
     let cage = ap (λ (s : CageSeen). let p : Panel = record {
       cage = s;
       sessions = c.self.inside.sessions;
@@ -15,12 +15,12 @@ returns-in-Ok g c =
       settings = c.self.inside.settings;
       opc_waits = c.self.inside.opc_waits;
       events = c.self.inside.events;
-    } in p) c.open_listed.ensures.rest in
-    rw (← c.self.view_is) (failed_sets _ _ _ _ c.in-Ok.ensures.ok, sym c.all_present.ensures ∙ c.if-not-all_present.false, c.in-Ok.ensures.ok, cage)
+    } in p) c.close_listed.ensures.rest in
+    rw (← c.self.view_is) (failed_sets _ _ _ _ c.in-Ok-close_listed.ensures.ok, c.in-Ok.ensures.ok, c.in-Ok-close_listed.ensures.ok, cage)
 
 pub returns-in-Err : goal.returns-in-Err
 returns-in-Err g c =
-    let f = fallen c.self.inside.cage.cards c.open_listed.new.self.cards c.open_all.new.self.cards c.args.chans.now c.in-Err.ensures.err (ap (λ (s : CageSeen).
+    let f = fallen c.self.inside.cage.cards c.close_listed.new.self.cards c.open_all.new.self.cards c.args.chans.now c.in-Err.ensures.err (ap (λ (s : CageSeen).
     s.cards) c.open_all.ensures) in
     let told = ap (λ (s : StatusSeen). let p : Panel = record {
       cage = c.open_all.new.self;
@@ -38,5 +38,5 @@ returns-in-Err g c =
       opc_waits = c.self.inside.opc_waits;
       events = c.self.inside.events;
     } in
-    p) (fallen_cage c.self.inside.cage c.open_listed.new.self c.open_all.new.self c.open_listed.ensures.rest c.open_all.ensures) in
-    rw (← c.self.view_is) (f.0, sym c.all_present.ensures ∙ c.if-not-all_present.false, (f.1, told ∙ cage))
+    p) (fallen_cage c.self.inside.cage c.close_listed.new.self c.open_all.new.self c.close_listed.ensures.rest c.open_all.ensures) in
+    rw (← c.self.view_is) (f.0, c.in-Ok.ensures.ok, (f.1, told ∙ cage))
