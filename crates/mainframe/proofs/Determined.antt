@@ -9,7 +9,7 @@ use Rattle.sw_core.specs.Seen.{AskSession, AskInstall, AnswerSeen, SaysSession, 
 use Rattle.sw_core.specs.Event.{last_number}
 use Rattle.sw_core.specs.Step.{Acts, acts_unnumbered, IsWorn, IsEvent, IsUnnumbered, Step}
 use Rattle.sw_cage.specs.Accounts.{Accounts}
-use Rattle.sw_core.specs.Run.{IsPlain, toll, StepIsDetermined}
+use Rattle.sw_core.specs.Run.{IsPlain, failures_after, StepIsDetermined}
 use Rattle.sw_session.specs.Law.{outcomes_in_talk, outcomes_at_rest}
 use Rattle.sw_session.specs.Talk.{state}
 use Rattle.sw_session.specs.Law.{IsSameDesk, CoreTalkIsDetermined, CoreRestIsDetermined}
@@ -63,15 +63,15 @@ join_unfailed : (p : Panel) (sid : Sid) (f : Bool) (q : Panel) → Step p (AskSe
 join_unfailed p sid f q s = join_whole ((p.events == last_number) && not (acts_unnumbered (AskSession Ask.Join))) p sid f q s
 
 -- where none fails, nothing comes of the cards
-no_toll : (f f' : Bool) (r r' : Accounts) → f ≡ false → f' ≡ false → toll f r ≡ toll f' r'
-no_toll f f' r r' e e' = ap (λ (x : Bool). toll x r) e ∙ sym (ap (λ (x : Bool). toll x r') e')
+no_failures : (f f' : Bool) (r r' : Accounts) → f ≡ false → f' ≡ false → failures_after f r ≡ failures_after f' r'
+no_failures f f' r r' e e' = ap (λ (x : Bool). failures_after x r) e ∙ sym (ap (λ (x : Bool). failures_after x r') e')
 
 install_once : StepIsDetermined → (p q q' : Panel) (slot : ℕ) (card : Account) → Stepped p (AskInstall slot card) q → Stepped p (AskInstall slot card) q'
     → q ≡ q'
 install_once law p q q' slot card s t =
-    let tolls = no_toll s.failed t.failed q.cage.cards q'.cage.cards (install_unfailed p slot card s.failed s.answer q s.step)
+    let same_failures = no_failures s.failed t.failed q.cage.cards q'.cage.cards (install_unfailed p slot card s.failed s.answer q s.step)
     (install_unfailed p slot card t.failed t.answer q' t.step) in
-    (law p q q' (AskInstall slot card) s.failed t.failed s.answer t.answer s.step t.step tolls (install_plain p slot card s.failed s.answer q s.step)
+    (law p q q' (AskInstall slot card) s.failed t.failed s.answer t.answer s.step t.step same_failures (install_plain p slot card s.failed s.answer q s.step)
     (install_plain p slot card t.failed t.answer q' t.step) tt tt).1
 
 offers_once : StepIsDetermined → (cards : Fitted) (p p' q q' : Panel) → p ≡ p'
@@ -86,9 +86,10 @@ offers_once law cards p p' q q' e (a, s, (b, t, (c, u, (d, v, is)))) (a', s', (b
 
 joined_once : StepIsDetermined → (sid sid' : Sid) (q q' : Panel) → Joins sid q → Joins sid' q' → (sid ≡ sid') × (q ≡ q')
 joined_once law sid sid' q q' j k =
-    let tolls = no_toll j.failed k.failed q.cage.cards q'.cage.cards (join_unfailed opening sid j.failed q j.step)
+    let same_failures = no_failures j.failed k.failed q.cage.cards q'.cage.cards (join_unfailed opening sid j.failed q j.step)
     (join_unfailed opening sid' k.failed q' k.step) in
-    let r = law opening q q' (AskSession Ask.Join) j.failed k.failed (SaysSession (Joined sid) None) (SaysSession (Joined sid') None) j.step k.step tolls tt
+    let r = law opening q q' (AskSession Ask.Join) j.failed k.failed (SaysSession (Joined sid) None) (SaysSession (Joined sid') None) j.step k.step
+    same_failures tt
     tt tt tt in
     let e : SaysSession (Joined sid) None ≡ SaysSession (Joined sid') None = r.0 in
     (let s : sid ≡ sid' = cc in s, r.1)

@@ -14,7 +14,7 @@ use Rattle.sw_core.specs.Event.{concluded, last_number}
 use Rattle.sw_core.specs.Seen.{WorkSeen, AskSeen, AskSession, AskInstall, AskEject, AskExternal, AskElapsed, AskFinished, AnswerSeen, SaysSession}
 use Rattle.sw_core.specs.Seen.{SaysInstalled, SaysNotInstalled, SaysEjected, SaysNotEjected, SaysFailed, SaysBack, SaysWorn}
 use Rattle.sw_core.specs.Step.{outside_told, StepOutside, IsOut, IsReturned, StepFinished, Acts, acts_unnumbered, IsWorn, IsEvent, IsUnnumbered, Step}
-use Rattle.sw_core.specs.Run.{IsPlain, KeepsKey, tells_failure, failures_in, toll}
+use Rattle.sw_core.specs.Run.{IsPlain, KeepsKey, tells_failure, failures_in, failures_after}
 use Rattle.sw_base.specs.declared.error.ScpiError.{ScpiError}
 use Rattle.sw_core.specs.declared.ask.SessionAnswer.TheVariants.{Refused}
 use Rattle.sw_core.proofs.Fallen.{step_fell}
@@ -115,7 +115,7 @@ unfailed : (p q : Panel) (ask : AskSeen) (a : AnswerSeen) → Step p ask false a
 unfailed p q ask a h is = false_is_true (failed p q ask false a is h).0
 
 pub step_once : (p q q' : Panel) (ask : AskSeen) (f f' : Bool) (a a' : AnswerSeen) → Step p ask f a q → Step p ask f' a' q'
-    → toll f q.cage.cards ≡ toll f' q'.cage.cards → IsPlain a → IsPlain a' → KeepsKey p ask a → KeepsKey p ask a' → (a ≡ a') × (q ≡ q')
+    → failures_after f q.cage.cards ≡ failures_after f' q'.cage.cards → IsPlain a → IsPlain a' → KeepsKey p ask a → KeepsKey p ask a' → (a ≡ a') × (q ≡ q')
 step_once p q q' ask false false a a' h k same n m kx ky =
     step_whole p q q' ask false false a a' h k (whole a n (unfailed p q ask a h)) (whole a' m (unfailed p q' ask a' k)) kx ky
 step_once p q q' ask true true a a' h k same n m kx ky =

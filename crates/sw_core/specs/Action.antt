@@ -93,6 +93,12 @@ is_offered Command.Trigger = true
 is_offered (Command.Signal layer) = true
 is_offered command = false
 
+-- whether a command waits for the end of the scan (IEEE 488.2, 12.5.2 and 12.5.3)
+abbrev pub awaits_end : Command → Bool
+awaits_end Command.OperationCompleteQuery = true
+awaits_end Command.Wait = true
+awaits_end command = false
+
 -- What a command comes to, where its message has answered before or not, which is when a message is available
 -- (SCPI-1999, 3, 18, 20, 21.8 and 24; IEEE 488.2, 10 and 11.2).
 abbrev pub action_of : Bool → Command → Action

@@ -149,16 +149,16 @@ failures_in None = None
 failures_in (Some card) = Some card.failures
 
 -- What came of the cards in a call: nothing where none failed; else how often each has failed, after the call.
-abbrev pub Toll : Type 0
-Toll = Option (List (Option ℕ))
+abbrev pub FailuresAfter : Type 0
+FailuresAfter = Option (List (Option ℕ))
 
-abbrev pub toll : Bool → Accounts → Toll
-toll false cards = None
-toll true cards = Some (map failures_in cards)
+abbrev pub failures_after : Bool → Accounts → FailuresAfter
+failures_after false cards = None
+failures_after true cards = Some (map failures_in cards)
 
 -- Where memory suffices, an ask has one answer and leaves one state for what comes of the cards: whether one failed in
 -- the call, and if so, how often each has failed after it.
 abbrev pub StepIsDetermined : Type 0
 StepIsDetermined = (p q q' : Panel) (ask : AskSeen) (f f' : Bool) (a a' : AnswerSeen)
-    → Step p ask f a q → Step p ask f' a' q' → toll f q.cage.cards ≡ toll f' q'.cage.cards → IsPlain a → IsPlain a'
+    → Step p ask f a q → Step p ask f' a' q' → failures_after f q.cage.cards ≡ failures_after f' q'.cage.cards → IsPlain a → IsPlain a'
     → KeepsKey p ask a → KeepsKey p ask a' → (a ≡ a') × (q ≡ q')

@@ -38,7 +38,7 @@ use Rattle.sw_core.specs.declared.ask.SessionAnswer.TheVariants.{Worn}
 use Rattle.sw_core.specs.Action.{Effect, TellsNumber, TellsText, TellsReadings, ReadsOut, SetsStatus, SetsUp}
 use Rattle.sw_core.specs.Action.{ClosesListed, OpensListed, TellsRelays, Changes}
 use Rattle.sw_core.specs.Action.{Resets, Offers, RefusesWith, IsOfMacros, Initiates, Action, AtOnce, BetweenScans}
-use Rattle.sw_core.specs.Action.{AfterScan, action_of, reset}
+use Rattle.sw_core.specs.Action.{AfterScan, action_of, awaits_end, reset}
 use Rattle.sw_core.specs.Answers.{yes_or_no, as_asked}
 use Rattle.sw_core.specs.declared.ask.Sid.{Sid}
 use Rattle.sw_hislip.specs.LockTable.{admits}
@@ -275,6 +275,11 @@ StepJoined p (Ask.Snapshot sid) f answer None q = StepSnapshot p f answer q
 StepJoined p (Ask.Start sid plan) f answer work q = StepStart p plan f answer work q
 StepJoined p ask f answer None q = IsServed p ask f answer q
 StepJoined p ask f answer work q = ⊥
+
+-- whether what a session asks waits for the end of the scan
+abbrev pub is_held : SessionAsk → Bool
+is_held (Ask.Unit sid command available) = awaits_end command
+is_held ask = false
 
 -- what the session asks is dropped now
 abbrev pub drops : Panel → Sid → SessionAsk → Bool

@@ -3,7 +3,7 @@
 ghost use Rattle.std.specs.Prelude.{◌≡◌, false};
 ghost use Rattle.sw_core.specs.Seen.{ask_seen, answer_seen, AskSession, HandsBack};
 ghost use Rattle.sw_core.specs.Seats.{asker_of, is_dropped, is_shut_out};
-ghost use Rattle.sw_core.specs.Step.{acts_unnumbered, IsWorn};
+ghost use Rattle.sw_core.specs.Step.{acts_unnumbered, is_held, IsWorn};
 
 use crate::ask::{Answer, Ask, SessionAnswer, SessionAsk, Sid};
 use sw_card::{Meter, Relay};
@@ -51,6 +51,16 @@ pub fn is_shut_out(ask: &SessionAsk) -> bool
         | SessionAsk::Bus(_)
         | SessionAsk::Snapshot(_)
         | SessionAsk::Start(_, _) => true,
+        _ => false,
+    }
+}
+
+/// Whether a session's ask waits for the end of the scan.
+pub fn is_held(ask: &SessionAsk) -> bool
+    ensures { result ≡ is_held ask.now }
+{
+    match ask {
+        SessionAsk::Unit(_, Command::OperationCompleteQuery | Command::Wait, _) => true,
         _ => false,
     }
 }

@@ -1,72 +1,39 @@
 //! Commands: what each comes to, one row for each.
 
-ghost use Rattle.std.specs.Prelude.{◌≡◌, None, false};
+ghost use Rattle.std.specs.Prelude.{◌≡◌, ◌&&◌, None, false};
 ghost use Rattle.sw_cage.specs.Change.{any_failed};
-ghost use Rattle.sw_core.specs.Action.{action_of, is_offered};
+ghost use Rattle.sw_core.specs.Action.{action_of, awaits_end, is_offered};
 ghost use Rattle.sw_core.specs.Answers.{TakesSetting};
-ghost use Rattle.sw_core.specs.Seen.{work_seen};
+ghost use Rattle.sw_core.specs.Panel.{is_running};
+ghost use Rattle.sw_core.specs.declared.ask.SessionAsk.{SessionAsk};
 ghost use Rattle.sw_core.specs.Step.{StepAction};
 
-use crate::ask::{SessionAnswer, SessionAsk, Sid, Work};
+use crate::ask::SessionAnswer;
 use crate::state::Core;
 use crate::text::{identity, told, version};
 use std::alloc::Global;
-use sw_base::{LayerName, ScpiError};
-use sw_cage::Happening;
+use sw_base::ScpiError;
 use sw_card::{Meter, Relay};
 use sw_lex::Command;
 
 impl<R: Relay, M: Meter> Core<R, M> {
-    /// Carries a command out, or refuses or holds it while a scan runs; `available` says whether its message has
-    /// answered before, so that a message is available.
+    /// Carries a command out that is offered to no scan and that nothing holds, or refuses it while a scan runs;
+    /// `available` says whether its message has answered before, so that a message is available. A command that has no
+    /// row here doesn't compile.
     #[tactic(auto, using(crate::proofs::Calls::failed_same))]
-    pub(crate) fn unit(
+    pub(crate) fn command(
         &mut self,
         alloc: Global,
-        sid: Sid,
-        command: Command,
-        available: bool,
-    ) -> (SessionAnswer, Option<Work<M>>)
-        ensures { StepAction (action_of available command) self.old (SessionAsk.Unit sid command available)
-            (any_failed self.old.cage.cards self.new.cage.cards) result.0 (work_seen result.1) self.new }
-    {
-        match command {
-            Command::Trigger => self.offer(Happening::Bus, ScpiError::TriggerIgnored),
-            Command::Signal(LayerName::Trigger) => self.offer(
-                Happening::Signal(LayerName::Trigger),
-                ScpiError::TriggerIgnored,
-            ),
-            Command::Signal(LayerName::Arm1) => self.offer(
-                Happening::Signal(LayerName::Arm1),
-                ScpiError::ArmIgnored,
-            ),
-            Command::Signal(LayerName::Arm2) => self.offer(
-                Happening::Signal(LayerName::Arm2),
-                ScpiError::ArmIgnored,
-            ),
-            command => (self.command(alloc, sid, command, available), None),
-        }
-    }
-
-    /// Carries a command out that is offered to no scan. A command that has no row here doesn't compile.
-    #[tactic(auto, using(crate::proofs::Calls::failed_same))]
-    fn command(
-        &mut self,
-        alloc: Global,
-        sid: Sid,
         command: Command,
         available: bool,
     ) -> SessionAnswer
         requires alone { is_offered command ≡ false }
-        ensures { StepAction (action_of available command) self.old (SessionAsk.Unit sid command available)
+        requires unheld { awaits_end command && is_running self.old ≡ false }
+        ensures { (ask : SessionAsk) → StepAction (action_of available command) self.old ask
             (any_failed self.old.cage.cards self.new.cage.cards) result None self.new }
     {
         let running = self.cage.is_running();
         match command {
-            Command::OperationCompleteQuery if running => {
-                held(sid, Command::OperationCompleteQuery, available)
-            }
-            Command::Wait if running => held(sid, Command::Wait, available),
             Command::Close(_)
             | Command::Open(_)
             | Command::OpenAll
@@ -180,13 +147,6 @@ fn undefined() -> SessionAnswer
     ensures { result ≡ SessionAnswer.Refused ScpiError.UndefinedHeader }
 {
     SessionAnswer::Refused(ScpiError::UndefinedHeader)
-}
-
-/// What a command is answered that is to be asked again.
-fn held(sid: Sid, command: Command, available: bool) -> SessionAnswer
-    ensures { result ≡ SessionAnswer.Hold (SessionAsk.Unit sid command available) }
-{
-    SessionAnswer::Hold(SessionAsk::Unit(sid, command, available))
 }
 
 /// What a setting's command is answered.

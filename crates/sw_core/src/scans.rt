@@ -8,13 +8,16 @@ ghost use Rattle.sw_core.specs.Seen.{work_seen, answer_seen, failed_in, AskFinis
 ghost use Rattle.sw_core.specs.declared.ask.Ask.TheVariants as Ask;
 ghost use Rattle.sw_core.specs.Step.{Happens, StepHappens, StepOutside, StepFinished, StepSnapshot, StepStart};
 ghost use Rattle.sw_core.specs.Step.{RefusesScan, MayScan, session_told, outside_told, started_answer, work_of};
-ghost use Rattle.sw_core.specs.Step.{snapshot_of};
+ghost use Rattle.sw_core.specs.Step.{StepJoined, snapshot_of};
+ghost use Rattle.sw_core.specs.declared.ask.Sid.{Sid};
+ghost use Rattle.sw_core.specs.declared.ask.SessionAsk.TheVariants.{Unit};
+ghost use Rattle.sw_lex.specs.declared.command.Command.TheVariants as Command;
 
 use crate::ask::{Answer, SessionAnswer, Work};
 use crate::registers::{report_card_fault, set_card_fault};
 use crate::state::Core;
 use std::alloc::{AllocError, Global};
-use sw_base::{ScpiError, Sequence};
+use sw_base::{LayerName, ScpiError, Sequence};
 use sw_cage::{Finished, Happening, Taken};
 use sw_card::{Meter, Relay};
 use sw_verify::{BoxedSnapshot, Plan, Snapshot};
@@ -85,19 +88,34 @@ impl<R: Relay, M: Meter> Core<R, M> {
         told
     }
 
-    /// Offers a session's happening to the scan; where it isn't taken it is refused by this error.
+    /// Offers a session's happening to the scan; where it isn't taken it is refused by this error. What the scan awaits
+    /// now is left in `work`.
     #[inline(never)]
     pub(crate) fn offer(
         &mut self,
         happening: Happening,
         error: ScpiError,
-    ) -> (SessionAnswer, Option<Work<M>>)
-        ensures { StepHappens self.old happening error (any_failed self.old.cage.cards self.new.cage.cards) result.0
-            (work_seen result.1) self.new }
+        work: &mut Option<Work<M>>,
+    ) -> SessionAnswer
+        ensures { StepHappens self.old happening error (any_failed self.old.cage.cards self.new.cage.cards) result
+            (work_seen work.new) self.new }
     {
         let told = self.happens(happening);
         let answer = session_told(&told, error);
-        (answer, work_of(told))
+        *work = work_of(told);
+        answer
+    }
+
+    /// Offers a layer's signal to the scan.
+    pub(crate) fn signal(&mut self, layer: LayerName, work: &mut Option<Work<M>>) -> SessionAnswer
+        ensures { (sid : Sid) (available : Bool) → StepJoined self.old (Unit sid (Command.Signal layer) available)
+            (any_failed self.old.cage.cards self.new.cage.cards) result (work_seen work.new) self.new }
+    {
+        let error = match layer {
+            LayerName::Trigger => ScpiError::TriggerIgnored,
+            LayerName::Arm1 | LayerName::Arm2 => ScpiError::ArmIgnored,
+        };
+        self.offer(Happening::Signal(layer), error, work)
     }
 
     /// Offers a happening that is no session's to the scan.
@@ -172,10 +190,24 @@ impl<R: Relay, M: Meter> Core<R, M> {
         BoxedSnapshot::new(alloc, snapshot)
     }
 
-    /// Begins the scan of a plan, where what it was made of is so now.
-    #[tactic(auto, using(crate::proofs::Happened::refused_start))]
+    /// Begins the scan of a plan, where what it was made of is so now. What it awaits now is left in `work`.
     #[inline(never)]
-    pub(crate) fn start(&mut self, alloc: Global, plan: Plan) -> (SessionAnswer, Option<Work<M>>)
+    pub(crate) fn start_with(
+        &mut self,
+        alloc: Global,
+        plan: Plan,
+        work: &mut Option<Work<M>>,
+    ) -> SessionAnswer
+        ensures { StepStart self.old plan (any_failed self.old.cage.cards self.new.cage.cards) result
+            (work_seen work.new) self.new }
+    {
+        let (answer, awaited) = self.start(alloc, plan);
+        *work = awaited;
+        answer
+    }
+
+    #[tactic(auto, using(crate::proofs::Happened::refused_start))]
+    fn start(&mut self, alloc: Global, plan: Plan) -> (SessionAnswer, Option<Work<M>>)
         ensures { StepStart self.old plan (any_failed self.old.cage.cards self.new.cage.cards) result.0
             (work_seen result.1) self.new }
     {

@@ -1,24 +1,26 @@
 //! The whole state of the mainframe, and the one call that changes it.
 
-ghost use Rattle.std.specs.Prelude.{◌≡◌, Bool, IfOk, None, Some};
+ghost use Rattle.std.specs.Prelude.{◌≡◌, ◌&&◌, Bool, IfOk, None, Some, false};
 ghost use Rattle.sw_cage.specs.Change.{any_failed};
 ghost use Rattle.sw_status.specs.StatusModel.{summary_of};
 ghost use Rattle.sw_core.specs.Sessions.{IsJoined};
 ghost use Rattle.sw_core.specs.Seen.{ask_seen, answer_seen, work_seen, failed_in, HandsBack, IsOwnAccount};
-ghost use Rattle.sw_core.specs.Seen.{AskSession, AskInstall, AskEject, SaysSession};
-ghost use Rattle.sw_core.specs.Panel.{Panel, opening, opening_at};
+ghost use Rattle.sw_core.specs.Seen.{AskSession, AskInstall, AskEject, AskFinished, SaysSession};
+ghost use Rattle.sw_core.specs.Panel.{Panel, is_running, opening, opening_at};
 ghost use Rattle.sw_core.specs.Seats.{asker_of};
-ghost use Rattle.sw_core.specs.Step.{Step, Acts, StepSession, StepNew, StepJoin, StepAttach, StepJoined};
+ghost use Rattle.sw_core.specs.Step.{Step, Acts, StepSession, StepNew, StepJoin, StepAttach, StepJoined, is_held};
+ghost use Rattle.sw_core.specs.declared.ask.Ask.TheVariants as Ask;
 
 use crate::ask::{Answer, Ask, SessionAnswer, SessionAsk, Sid, Work};
-use crate::asks::{acts_unnumbered, asker, session_acts_unnumbered, unnumbered};
+use crate::asks::{acts_unnumbered, asker, is_held, session_acts_unnumbered, unnumbered};
 use crate::registers::clear_card_fault;
 use crate::sessions::Sessions;
 use std::alloc::{AllocError, Global};
 use std::marker::Model;
 use sw_base::ScpiError;
-use sw_cage::{Cage, Happening};
+use sw_cage::{Cage, Finished, Happening};
 use sw_card::{Card, Meter, Relay};
+use sw_lex::Command;
 use sw_status::Status;
 use sw_trigger::Settings;
 
@@ -109,18 +111,38 @@ impl<R: Relay, M: Meter> Core<R, M> {
         answer
     }
 
-    /// Does what a session asks: one event, as `apply` does it.
+    /// Does what a session asks: one event, as `apply` does it. What its scan awaits now is left in `work`.
     #[tactic(auto, using(crate::proofs::Numbered::worn_step, crate::proofs::Numbered::numbered_step))]
-    pub fn ask(&mut self, alloc: Global, ask: SessionAsk) -> (SessionAnswer, Option<Work<M>>)
+    pub fn ask(
+        &mut self,
+        alloc: Global,
+        ask: SessionAsk,
+        work: &mut Option<Work<M>>,
+    ) -> SessionAnswer
+        requires { work.old ≡ None }
         ensures { Step self.old (AskSession ask) (any_failed self.old.cage.cards self.new.cage.cards)
-            (SaysSession result.0 (work_seen result.1)) self.new }
+            (SaysSession result (work_seen work.new)) self.new }
     {
         if self.events == u64::MAX && !session_acts_unnumbered(&ask) {
-            return (SessionAnswer::Worn(ask), None);
+            return SessionAnswer::Worn(ask);
         }
-        let answered = self.session(alloc, ask);
-        self.end_session_event(&answered.0);
-        answered
+        let answer = self.session(alloc, ask, work);
+        self.end_session_event(&answer);
+        answer
+    }
+
+    /// Takes a meter back: one event, as `apply` does it.
+    #[tactic(auto, using(crate::proofs::Numbered::numbered_step))]
+    pub fn finish(&mut self, done: Finished<M>) -> Answer<R, M>
+        ensures step { Step self.old (AskFinished done.1)
+            (failed_in (AskFinished done.1) (answer_seen result) self.old.cage.cards self.new.cage.cards)
+            (answer_seen result) self.new }
+        ensures own { IsOwnAccount (AskFinished done.1) }
+        ensures back { HandsBack (Ask.Finished done) result }
+    {
+        let answer = self.finished(done);
+        self.end_event(&answer);
+        answer
     }
 
     /// Does what is asked, and leaves the end of the event to the caller.
@@ -133,7 +155,8 @@ impl<R: Relay, M: Meter> Core<R, M> {
     {
         match ask {
             Ask::Session(ask) => {
-                let (answer, work) = self.session(alloc, ask);
+                let mut work = None;
+                let answer = self.session(alloc, ask, &mut work);
                 Answer::Session(answer, work)
             }
             Ask::Install(slot, card) => self.install(slot, card),
@@ -173,23 +196,32 @@ impl<R: Relay, M: Meter> Core<R, M> {
     }
 
     #[tactic(auto, using(crate::proofs::Calls::failed_same))]
-    fn session(&mut self, alloc: Global, ask: SessionAsk) -> (SessionAnswer, Option<Work<M>>)
-        ensures { StepSession (asker_of ask) self.old ask (any_failed self.old.cage.cards self.new.cage.cards) result.0
-            (work_seen result.1) self.new }
+    fn session(
+        &mut self,
+        alloc: Global,
+        ask: SessionAsk,
+        work: &mut Option<Work<M>>,
+    ) -> SessionAnswer
+        requires { work.old ≡ None }
+        ensures { StepSession (asker_of ask) self.old ask (any_failed self.old.cage.cards self.new.cage.cards) result
+            (work_seen work.new) self.new }
     {
         let Some(sid) = asker(&ask) else {
-            return (self.newcomer(ask), None);
+            return self.newcomer(ask);
         };
         if !self.sessions.has(sid) {
-            return (SessionAnswer::Stranger, None);
+            return SessionAnswer::Stranger;
         }
         if self.sessions.drops(sid, &ask) {
-            return (SessionAnswer::Broken, None);
+            return SessionAnswer::Broken;
         }
         if self.sessions.shuts_out(sid, &ask) {
-            return (SessionAnswer::Hold(ask), None);
+            return SessionAnswer::Hold(ask);
         }
-        self.joined(alloc, sid, ask)
+        if is_held(&ask) && self.cage.is_running() {
+            return SessionAnswer::Hold(ask);
+        }
+        self.joined(alloc, sid, ask, work)
     }
 
     /// Does what none of the sessions asks.
@@ -226,30 +258,37 @@ impl<R: Relay, M: Meter> Core<R, M> {
         }
     }
 
-    /// Does what a session that is joined asks.
+    /// Does what a session that is joined asks, where nothing holds it.
     #[tactic(auto, using(crate::proofs::Calls::failed_same))]
     fn joined(
         &mut self,
         alloc: Global,
         sid: Sid,
         ask: SessionAsk,
-    ) -> (SessionAnswer, Option<Work<M>>)
+        work: &mut Option<Work<M>>,
+    ) -> SessionAnswer
         requires asker { asker_of ask ≡ Some sid }
         requires joined { IsJoined self.old.sessions sid }
-        ensures { StepJoined self.old ask (any_failed self.old.cage.cards self.new.cage.cards) result.0
-            (work_seen result.1) self.new }
+        requires unheld { is_held ask && is_running self.old ≡ false }
+        requires empty { work.old ≡ None }
+        ensures { StepJoined self.old ask (any_failed self.old.cage.cards self.new.cage.cards) result
+            (work_seen work.new) self.new }
     {
         match ask {
             SessionAsk::Fault(_, error) => {
                 self.status.push_error(error);
-                (SessionAnswer::Done(None), None)
+                SessionAnswer::Done(None)
             }
-            SessionAsk::Unit(sid, command, available) => self.unit(alloc, sid, command, available),
-            SessionAsk::Bus(_) => self.offer(Happening::Bus, ScpiError::TriggerIgnored),
-            SessionAsk::Snapshot(_) => (self.snapshot(alloc), None),
-            SessionAsk::Start(_, plan) => self.start(alloc, plan),
+            SessionAsk::Unit(_, Command::Trigger, _) => {
+                self.offer(Happening::Bus, ScpiError::TriggerIgnored, work)
+            }
+            SessionAsk::Unit(_, Command::Signal(layer), _) => self.signal(layer, work),
+            SessionAsk::Unit(_, command, available) => self.command(alloc, command, available),
+            SessionAsk::Bus(_) => self.offer(Happening::Bus, ScpiError::TriggerIgnored, work),
+            SessionAsk::Snapshot(_) => self.snapshot(alloc),
+            SessionAsk::Start(_, plan) => self.start_with(alloc, plan, work),
             SessionAsk::Join | SessionAsk::Attach(_) => unreachable!(),
-            ask => (self.sessions.serve(alloc, sid, ask), None),
+            ask => self.sessions.serve(alloc, sid, ask),
         }
     }
 }

@@ -1,7 +1,10 @@
 -- What holds of the locks at all times.
-use Rattle.std.proofs.Common.{◌≡◌, ℕ, ◌-◌, true, false, cond, is_some, List, [], ◌∷◌, length, Option, Some, None, refl, sym, ap, ◌∙◌, arith, inl, inr, subst}
+use Rattle.std.proofs.Common.{◌≡◌, ℕ, ◌-◌, true, false, cond, is_some, is_none, List, [], ◌∷◌, length, Option, Some, None, refl}
+use Rattle.std.proofs.Common.{sym, ap, ◌∙◌, arith, inl, inr, subst}
 use Rattle.std.proofs.lemmas.Bool.{cases_eq, cases_Bool, eq-eqb, and_parts, both_ways, cond-true, cond-false}
 use Rattle.std.proofs.lemmas.List.{get_or-set_same, get_or-set_other, length-set}
+use Rattle.std.proofs.lemmas.List.Folds.{list_all_at}
+use Rattle.std.specs.List.{list_all}
 use Rattle.sw_hislip.specs.declared.locks.LockReply.TheVariants.{Granted, NotNow, Wrong}
 use Rattle.sw_hislip.specs.LockTable.{LockTable, no_locks, key_of, shares, excludes, is_holder, with_key, without_exclusive, released, without_session, granted}
 use Rattle.sw_hislip.specs.LockTable.{grants, grants_shared}
@@ -32,6 +35,13 @@ key_same l sid k n s = get_or-set_same l.keys (sid - 1) k None (omega (arith, n,
 key_other : (l : LockTable) (sid other : ℕ) (k : Option (List ℕ)) → IsSession sid → IsSession other → (other ≡ sid → ⊥)
     → key_of (with_key l sid k) other ≡ key_of l other
 key_other l sid other k s t differ = get_or-set_other l.keys (sid - 1) (other - 1) k None (λ e. differ (omega (arith, e, s.0, t.0)))
+
+-- once a session shares a lock, some key is held
+pub one_held : (l : LockTable) (sid : ℕ) (key : List ℕ) → length l.keys ≡ 16 → IsSession sid → list_all is_none (with_key l sid (Some key)).keys ≡ false
+one_held l sid key n s =
+    let new = with_key l sid (Some key) in
+    let many : length new.keys ≡ 16 = length-set l.keys (sid - 1) (Some key) ∙ n in
+    list_all_at is_none new.keys (sid - 1) None (omega (arith, many, s.0, s.1)) (ap is_none (key_same l sid (Some key) n s))
 
 -- ---- a grant
 

@@ -1,6 +1,6 @@
 //! Who holds the locks of the instrument.
 
-ghost use Rattle.std.specs.Prelude.{◌≡◌, ◌≤◌, true, false, is_some, is_none, [], Some, IfOk, OnErr};
+ghost use Rattle.std.specs.Prelude.{◌≡◌, ◌≤◌, true, false, is_some, is_none, [], Some, None, IfOk, OnErr};
 ghost use Rattle.std.specs.List.{list_all};
 ghost use Rattle.sw_hislip.specs.LockTable.{no_locks, agrees, shares, other_excludes, admits, excludes, holds, holders};
 ghost use Rattle.sw_hislip.specs.LockTable.{is_wrong_key, grants_shared, with_key, Replies, RepliesBy, MayLackMemory};
@@ -45,6 +45,8 @@ pub struct Locks {
     exclusive: Option<u8>,
     /// The keys of the sessions, by number from 1.
     keys: [Option<Sequence<u8>>; PLACES],
+    /// No key is held.
+    unshared: bool,
 }
 
 impl Model for Locks {
@@ -54,9 +56,12 @@ impl Model for Locks {
 
     ghost view = { λ l. record { exclusive = l.exclusive; keys = l.keys } };
 
+    ghost use Rattle.std.specs.Prelude.{◌≡◌, is_none};
+    ghost use Rattle.std.specs.List.{list_all};
     ghost use Rattle.sw_hislip.specs.LockRules.{IsOrderly};
 
-    ghost invariant = { λ l. IsOrderly (record { exclusive = l.exclusive; keys = l.keys }) };
+    ghost invariant = { λ l. IsOrderly (record { exclusive = l.exclusive; keys = l.keys })
+        × (l.unshared ≡ list_all is_none l.keys) };
 }
 
 impl Locks {
@@ -70,6 +75,7 @@ impl Locks {
                 None, None, None, None, None, None, None, None, None, None, None, None, None, None,
                 None, None,
             ],
+            unshared: true,
         }
     }
 
@@ -98,7 +104,7 @@ impl Locks {
             self.exclusive = None;
             Released::Exclusive
         } else if self.shares(sid) {
-            self.keys[(sid - 1) as usize] = None;
+            self.forget(sid);
             Released::Shared
         } else {
             Released::Nothing
@@ -111,7 +117,7 @@ impl Locks {
         ensures admitted { result ≡ admits self.now sid }
         ensures orderly { IsOrderly self.now }
     {
-        !self.other_excludes(sid) && (none_held(&self.keys) || self.shares(sid))
+        !self.other_excludes(sid) && (self.unshared || self.shares(sid))
     }
 
     /// Whether the exclusive lock is held, and how many sessions hold a lock.
@@ -138,7 +144,7 @@ impl Locks {
         if self.excludes(sid) {
             self.exclusive = None;
         }
-        self.keys[(sid - 1) as usize] = None;
+        self.forget(sid);
     }
 
     /// A session asks for the exclusive lock.
@@ -174,7 +180,18 @@ impl Locks {
         }
         let key = Vec::from_slice(alloc, key)?;
         self.keys[(sid - 1) as usize] = Some(Sequence::new(key));
+        self.unshared = false;
         Ok(LockReply::Granted)
+    }
+
+    /// Frees the shared lock of a session that has not the exclusive one.
+    fn forget(&mut self, sid: u8)
+        requires session { (1 ≤ sid) × (sid ≤ most_sessions) }
+        requires alone { excludes self.old sid ≡ false }
+        ensures { self.new ≡ with_key self.old sid None }
+    {
+        self.keys[(sid - 1) as usize] = None;
+        self.unshared = self.unshared || none_held(&self.keys);
     }
 
     /// Whether the session holds the exclusive lock.

@@ -1,15 +1,16 @@
 -- The nodes of a header.
-use Rattle.std.proofs.Common.{◌≡◌, ℕ, ◌<◌, ◌≤◌, Bool, true, false, not, List, [], ◌∷◌, ◌++◌, length, refl, sym, ap, ◌∙◌, map, append_assoc, arith, Bor, inl}
-use Rattle.std.proofs.Common.{inr, subst, Err}
+use Rattle.std.proofs.Common.{◌≡◌, ℕ, ◌-◌, ◌<◌, ◌≤◌, Bool, true, false, not, List, [], ◌∷◌, ◌++◌, length, take, refl, sym, ap, ◌∙◌, map}
+use Rattle.std.proofs.Common.{append_assoc, arith, Bor, inl, inr, subst, Err}
 use Rattle.std.specs.Prelude.{◌==◌, if◌then◌else◌}
 use Rattle.std.specs.List.{All, list_all}
 use Rattle.std.proofs.lemmas.Grind.{common_steps}
-use Rattle.std.proofs.lemmas.List.Elements.{All-weaker}
+use Rattle.std.proofs.lemmas.List.Elements.{All-weaker, All-head, All-tail, All-same}
 use Rattle.std.proofs.lemmas.List.Folds.{list_all-map}
 use Rattle.std.proofs.lemmas.List.Sums.{AllPass-from_list_all}
-use Rattle.std.proofs.lemmas.List.{length-append, length-map, map_push}
+use Rattle.std.proofs.lemmas.List.{length-append, length_push, length-map, map_push}
+use Rattle.std.proofs.Math.Seq.{take-append_seam}
 use Rattle.sw_base.specs.Text.{Lacks}
-use Rattle.sw_lex.specs.Meaning.{Nodes, nodes_of, led_by, looked_up, capitals, asked, IsNone, IsRefusal, Resolves}
+use Rattle.sw_lex.specs.Meaning.{Nodes, nodes_of, led_by, looked_up, all_but_last, capitals, asked, IsNone, IsRefusal, Resolves}
 use Rattle.sw_lex.specs.Values.{unnumbered}
 use Rattle.sw_base.specs.declared.error.ScpiError.{ScpiError}
 use Rattle.sw_lex.specs.Unit.{UnitSeen}
@@ -54,13 +55,21 @@ nodes_some (b ∷ bs) =
 abbrev pub texts : List (Bor (List ℕ)) → Nodes
 texts ws = map (λ w. w.now) ws
 
+-- a list of nodes, and the nodes of a text that begins with one more
+nodes_split : (below : Nodes) (node rest more : List ℕ) (all : Nodes) → below ++ nodes_of rest ≡ all → Lacks 58 node → rest ≡ node ++ 58 ∷ more
+    → below ++ node ∷ nodes_of more ≡ all
+nodes_split below node rest more all h l e =
+    let n : nodes_of rest ≡ node ∷ nodes_of more = ap (λ (t : List ℕ). nodes_of t) e ∙ nodes_cut node more l in
+    ap (λ (t : Nodes). below ++ t) (sym n) ∙ h
+
+pub path_on : (below : Nodes) (node rest more : List ℕ) (all : Nodes) → below ++ nodes_of rest ≡ all → Lacks 58 node → rest ≡ node ++ 58 ∷ more
+    → (below ++ node ∷ []) ++ nodes_of more ≡ all
+path_on below node rest more all h l e = append_assoc below (node ∷ []) (nodes_of more) ∙ nodes_split below node rest more all h l e
+
 pub nodes_on : (items : List (Bor (List ℕ))) (node : Bor (List ℕ)) (rest more : List ℕ) (all : Nodes) → texts items ++ nodes_of rest ≡ all → Lacks 58 node.now
     → rest ≡ node.now ++ 58 ∷ more → texts (items ++ node ∷ []) ++ nodes_of more ≡ all
 nodes_on items node rest more all h l e =
-    let n : nodes_of rest ≡ node.now ∷ nodes_of more = ap (λ (t : List ℕ). nodes_of t) e ∙ nodes_cut node.now more l in
-    let p : texts (items ++ node ∷ []) ++ nodes_of more ≡ (texts items ++ node.now ∷ []) ++ nodes_of more =
-    ap (λ (t : Nodes). t ++ nodes_of more) (map_push (λ (w : Bor (List ℕ)). w.now) items node) in
-    p ∙ append_assoc (texts items) (node.now ∷ []) (nodes_of more) ∙ ap (λ (t : Nodes). texts items ++ t) (sym n) ∙ h
+    ap (λ (t : Nodes). t ++ nodes_of more) (map_push (λ (w : Bor (List ℕ)). w.now) items node) ∙ path_on (texts items) node.now rest more all h l e
 
 pub nodes_end : (items : List (Bor (List ℕ))) (node : Bor (List ℕ)) (all : Nodes) → texts items ++ nodes_of node.now ≡ all → Lacks 58 node.now
     → texts (items ++ node ∷ []) ≡ all
@@ -71,6 +80,41 @@ pub nodes_many : (items : List (Bor (List ℕ))) (rest : List ℕ) (all : Nodes)
 nodes_many items rest all h e =
     let n : length (texts items ++ nodes_of rest) ≡ length all = ap (λ (t : Nodes). length t) h in
     omega (arith, n, e, length-append (texts items) (nodes_of rest), length-map items (λ (w : Bor (List ℕ)). w.now), nodes_some rest)
+
+-- ---- a path that takes up the nodes of a text, but for the last
+
+-- at most four nodes leave room for one that isn't the last
+pub path_room : (below : Nodes) (node rest more : List ℕ) (all : Nodes) → below ++ nodes_of rest ≡ all → Lacks 58 node → rest ≡ node ++ 58 ∷ more
+    → length all ≤ 4 → length below < 4
+path_room below node rest more all h l e few =
+    let n : length (below ++ node ∷ nodes_of more) ≡ length all = ap (λ (t : Nodes). length t) (nodes_split below node rest more all h l e) in
+    omega (arith, n, few, length-append below (node ∷ nodes_of more))
+
+all_at : (P : List ℕ → Type 0) (xs : Nodes) (y : List ℕ) (zs : Nodes) → All P (xs ++ y ∷ zs) → P y
+all_at P [] y zs a = All-head P y zs a
+all_at P (x ∷ xs) y zs a = all_at P xs y zs (All-tail P x (xs ++ y ∷ zs) a)
+
+pub path_short : (below : Nodes) (node rest more : List ℕ) (all : Nodes) → below ++ nodes_of rest ≡ all → Lacks 58 node → rest ≡ node ++ 58 ∷ more
+    → All (λ w. length w ≤ 12) all → length node ≤ 12
+path_short below node rest more all h l e a =
+    let short : List ℕ → Type 0 = λ w. length w ≤ 12 in
+    all_at short below node (nodes_of more) (All-same short _ _ (nodes_split below node rest more all h l e) a)
+
+but_last : (below : Nodes) (node : List ℕ) → all_but_last (below ++ node ∷ []) ≡ below
+but_last below node =
+    let n : length (below ++ node ∷ []) - 1 ≡ length below = omega (arith, length_push below node) in
+    ap (λ (k : ℕ). take k (below ++ node ∷ [])) n ∙ take-append_seam below (node ∷ [])
+
+pub path_end : (below : Nodes) (rest : List ℕ) (all : Nodes) → below ++ nodes_of rest ≡ all → Lacks 58 rest → below ≡ all_but_last all
+path_end below rest all h l =
+    let n : below ++ rest ∷ [] ≡ all = ap (λ (t : Nodes). below ++ t) (sym (nodes_one rest l)) ∙ h in
+    sym (but_last below rest) ∙ ap (λ (t : Nodes). all_but_last t) n
+
+-- the nodes that were looked up are no more than those found
+pub looked_few : (items : List (Bor (List ℕ))) (all : Nodes) → texts items ≡ all → length items ≤ 4 → length all ≤ 4
+looked_few items all e few =
+    let n : length (texts items) ≡ length all = ap (λ (t : Nodes). length t) e in
+    omega (arith, n, few, length-map items (λ (w : Bor (List ℕ)). w.now))
 
 -- the nodes in capitals, as the table is asked
 pub capitals_of : (items : List (Bor (List ℕ))) (all : Nodes) → texts items ≡ all
@@ -110,10 +154,9 @@ short_one w p =
     omega (arith, l, length-map w to_ascii_uppercase)
 
 -- the nodes of a header that was found
-pub found_short : (items : List (Bor (List ℕ))) (query : Bool) (key : Key) (k : ℕ)
-    → IsFound entries (map (λ (w : Bor (List ℕ)). map to_ascii_uppercase w.now) items) query key k → All (λ w. length w.now ≤ 12) items
-found_short items query key k f =
-    let up : Bor (List ℕ) → List ℕ = λ w. map to_ascii_uppercase w.now in
-    let t : list_all (λ (w : Bor (List ℕ)). node_fits (up w)) items ≡ true = sym (list_all-map node_fits up items)
-    ∙ found_fits entries (map up items) entries_fit query key k f in
-    All-weaker _ _ (λ w p. short_one w.now p) items (AllPass-from_list_all (λ (w : Bor (List ℕ)). node_fits (up w)) items t)
+pub found_short : (all : Nodes) (query : Bool) (key : Key) (k : ℕ) → IsFound entries (capitals all) query key k → All (λ w. length w ≤ 12) all
+found_short all query key k f =
+    let up : List ℕ → List ℕ = λ w. map to_ascii_uppercase w in
+    let t : list_all (λ (w : List ℕ). node_fits (up w)) all ≡ true = sym (list_all-map node_fits up all)
+    ∙ found_fits entries (map up all) entries_fit query key k f in
+    All-weaker _ _ (λ w p. short_one w p) all (AllPass-from_list_all (λ (w : List ℕ). node_fits (up w)) all t)

@@ -19,7 +19,7 @@ use crate::choice::{layer_of, of_channels, of_common, of_group, of_instrument, o
 use crate::command::Command;
 use crate::headers::find;
 use crate::owned::{body, content};
-use crate::paths::{Path, after, look_up, unnumbered_all};
+use crate::paths::{Path, look_up, unnumbered_all};
 use crate::table::{Key, Whole};
 use crate::unit::{Element, Header, RawUnit};
 use crate::values::{
@@ -29,12 +29,13 @@ use std::alloc::Global;
 use sw_base::{Chan, LayerName, Nrf, ScpiError, Sequence};
 use sw_channel::read_list;
 
-/// The command, where there are no data.
-fn no_data(command: Command, elements: &[Element<'_>]) -> Result<Command, ScpiError>
-    ensures { WithNone command (data_of elements.now) result }
+/// Refuses any data, for a command that takes none.
+fn no_data(elements: &[Element<'_>]) -> Result<(), ScpiError>
+    ensures { (command : Meant) → WithNone command (data_of elements.now)
+        (result_map_both (λ _. command) (λ e. e) result) }
 {
     match elements {
-        [] => Ok(command),
+        [] => Ok(()),
         _ => Err(ScpiError::ParameterNotAllowed),
     }
 }
@@ -191,6 +192,7 @@ fn of_macro(alloc: Global, elements: &[Element<'_>]) -> Result<Command, ScpiErro
 }
 
 /// The command of a header with this number in it and these data.
+#[inline(never)]
 fn decode(
     alloc: Global,
     key: Key,
@@ -200,10 +202,22 @@ fn decode(
     ensures { DecodesCommand key number (data_of elements.now) result }
 {
     match key {
-        Key::Common(ask) => no_data(of_common(ask), elements),
-        Key::Instrument(ask) => no_data(of_instrument(ask), elements),
-        Key::Layer(ask, family) => no_data(of_layer(ask, layer_of(family, number)), elements),
-        Key::Group(ask, group) => no_data(of_group(ask, group), elements),
+        Key::Common(ask) => {
+            no_data(elements)?;
+            Ok(of_common(ask))
+        }
+        Key::Instrument(ask) => {
+            no_data(elements)?;
+            Ok(of_instrument(ask))
+        }
+        Key::Layer(ask, family) => {
+            no_data(elements)?;
+            Ok(of_layer(ask, layer_of(family, number)))
+        }
+        Key::Group(ask, group) => {
+            no_data(elements)?;
+            Ok(of_group(ask, group))
+        }
         Key::Channels(ask) => Ok(of_channels(ask, one_list(alloc, elements)?)),
         Key::Whole(ask) => of_whole(ask, number, elements),
         Key::Delay(family) => of_delay(layer_of(family, number), elements),
@@ -246,10 +260,7 @@ pub fn resolve(alloc: Global, unit: &RawUnit<'_>, path: &mut Path) -> Result<Com
             Some((key, number)) => {
                 match unit.header {
                     Header::Common(_) => {}
-                    Header::Path { .. } => {
-                        let above = after(nodes.as_slice());
-                        *path = above;
-                    }
+                    Header::Path { leading, nodes } => path.enter(leading, nodes),
                 }
                 decode(alloc, key, number, unit.elements.as_slice())
             }

@@ -2,9 +2,9 @@
 
 ghost use Rattle.std.specs.Prelude.{◌≡◌, ◌≤◌, ◌<◌, ◌++◌, [], All, length, map, IfSome, IfNone};
 ghost use Rattle.sw_base.specs.Limits.{longest_mnemonic};
-ghost use Rattle.sw_lex.specs.Unit.{heading_of};
+ghost use Rattle.sw_lex.specs.Unit.{heading_of, path};
 ghost use Rattle.sw_lex.specs.Values.{unnumbered};
-ghost use Rattle.sw_lex.specs.Meaning.{path_of, nodes_of, looked_up, all_but_last};
+ghost use Rattle.sw_lex.specs.Meaning.{path_of, nodes_of, looked_up, path_after};
 
 use crate::unit::Header;
 use crate::values::unnumbered;
@@ -51,6 +51,22 @@ impl Path {
         }
         nodes
     }
+
+    /// Becomes the path after a header that was found: all of its nodes as looked up, but for the last.
+    pub(crate) fn enter(&mut self, leading: bool, text: &[u8])
+        requires few { length (looked_up (path leading text.now) (path_of self.old)) ≤ 4 }
+        requires short { All (λ w. length w ≤ longest_mnemonic) (looked_up (path leading text.now) (path_of self.old)) }
+        ensures { path_of self.new ≡ path_after (path leading text.now) (path_of self.old) }
+    {
+        if leading {
+            self.nodes.clear();
+        }
+        let mut left = text;
+        'nodes: while let Some((node, more)) = split_once(left, b':') {
+            self.nodes.push(copied(node));
+            left = more;
+        }
+    }
 }
 
 /// The nodes of a text after those given; none where they are more than four, as in no header of the table.
@@ -96,24 +112,6 @@ pub fn look_up<'a>(header: Header<'a>, path: &'a Path) -> Option<ArrayVec<&'a [u
             } else {
                 joined(path.nodes(), nodes)
             }
-        }
-    }
-}
-
-/// The path after a header that was found as these nodes: all but the last.
-pub fn after(nodes: &[&[u8]]) -> Path
-    requires few { length nodes.now ≤ 4 }
-    requires short { All (λ w. length w.now ≤ longest_mnemonic) nodes.now }
-    ensures { path_of result ≡ all_but_last (map (λ w. w.now) nodes.now) }
-{
-    match nodes {
-        [] => Path::root(),
-        [leading @ .., _] => {
-            let mut above = ArrayVec::new();
-            for node in leading {
-                above.push(copied(node));
-            }
-            Path { nodes: above }
         }
     }
 }

@@ -13,7 +13,7 @@ use Rattle.sw_core.specs.declared.ask.SessionAsk.TheVariants as Ask
 use Rattle.sw_core.specs.declared.ask.SessionAnswer.{SessionAnswer}
 use Rattle.sw_session.specs.Trace.{Entry, Led}
 use Rattle.sw_session.specs.Macros.{Told, ActsOnMacros}
-use Rattle.sw_session.specs.Talk.{Queues, Settles, Begins, BeginsBy, begun_with, effect_of, Reports, StartsScan, Plans, table_reset}
+use Rattle.sw_session.specs.Talk.{Queues, Settles, Begins, BeginsBy, begun_with, effect_of, is_own, Reports, StartsScan, Plans, table_reset}
 use Rattle.sw_session.proofs.Led.{led-none, led-so, led-then}
 
 module _ {D : Type 0} (passes : D → Entry → D → Type 0) (sid : Sid) where
@@ -27,37 +27,31 @@ module _ {D : Type 0} (passes : D → Entry → D → Type 0) (sid : Sid) where
 
   -- a command that is the mainframe's is asked
   asked : (command : Command) (answered : Bool) (macros : Table) (t : List Entry) (final : SessionAnswer) (rest : List Entry)
-      → ((label body : List ℕ) → command ≡ DefineMacro label body → ⊥) → ((label : List ℕ) → command ≡ MacroQuery label → ⊥) → (command ≡ MacroLabelsQuery → ⊥)
-      → ((label : List ℕ) → command ≡ RemoveMacro label → ⊥) → (command ≡ PurgeMacros → ⊥) → ((on : Bool) → command ≡ EnableMacros on → ⊥)
-      → (command ≡ EnableMacrosQuery → ⊥)
-      → (command ≡ Initiate → ⊥) → (command ≡ Reset → ⊥) → Settles sid 0 (Ask.Unit sid command answered) t final rest
+      → is_own command ≡ false → Settles sid 0 (Ask.Unit sid command answered) t final rest
       → Begins sid answered (Ok command) macros t (begun_with final macros rest)
-  asked (DefineMacro label body) answered macros t final rest n1 n2 n3 n4 n5 n6 n7 n8 n9 s = absurd (n1 label body refl)
-  asked (MacroQuery label) answered macros t final rest n1 n2 n3 n4 n5 n6 n7 n8 n9 s = absurd (n2 label refl)
-  asked MacroLabelsQuery answered macros t final rest n1 n2 n3 n4 n5 n6 n7 n8 n9 s = absurd (n3 refl)
-  asked (RemoveMacro label) answered macros t final rest n1 n2 n3 n4 n5 n6 n7 n8 n9 s = absurd (n4 label refl)
-  asked PurgeMacros answered macros t final rest n1 n2 n3 n4 n5 n6 n7 n8 n9 s = absurd (n5 refl)
-  asked (EnableMacros on) answered macros t final rest n1 n2 n3 n4 n5 n6 n7 n8 n9 s = absurd (n6 on refl)
-  asked EnableMacrosQuery answered macros t final rest n1 n2 n3 n4 n5 n6 n7 n8 n9 s = absurd (n7 refl)
-  asked Initiate answered macros t final rest n1 n2 n3 n4 n5 n6 n7 n8 n9 s = absurd (n8 refl)
-  asked Reset answered macros t final rest n1 n2 n3 n4 n5 n6 n7 n8 n9 s = absurd (n9 refl)
-  asked (Signal layer_name.Trigger) answered macros t final rest n1 n2 n3 n4 n5 n6 n7 n8 n9 s = (s, refl)
-  asked (Signal layer_name.Arm1) answered macros t final rest n1 n2 n3 n4 n5 n6 n7 n8 n9 s = (s, refl)
-  asked (Signal layer_name.Arm2) answered macros t final rest n1 n2 n3 n4 n5 n6 n7 n8 n9 s = (s, refl)
-  asked (InitiateContinuous true) answered macros t final rest n1 n2 n3 n4 n5 n6 n7 n8 n9 s = (s, refl)
-  asked (InitiateContinuous false) answered macros t final rest n1 n2 n3 n4 n5 n6 n7 n8 n9 s = (s, refl)
-  asked command answered macros t final rest n1 n2 n3 n4 n5 n6 n7 n8 n9 s = (s, refl)
+  asked (DefineMacro label body) answered macros t final rest own s = absurd (cc (own))
+  asked (MacroQuery label) answered macros t final rest own s = absurd (cc (own))
+  asked MacroLabelsQuery answered macros t final rest own s = absurd (cc (own))
+  asked (RemoveMacro label) answered macros t final rest own s = absurd (cc (own))
+  asked PurgeMacros answered macros t final rest own s = absurd (cc (own))
+  asked (EnableMacros on) answered macros t final rest own s = absurd (cc (own))
+  asked EnableMacrosQuery answered macros t final rest own s = absurd (cc (own))
+  asked Initiate answered macros t final rest own s = absurd (cc (own))
+  asked Reset answered macros t final rest own s = absurd (cc (own))
+  asked (Signal layer_name.Trigger) answered macros t final rest own s = (s, refl)
+  asked (Signal layer_name.Arm1) answered macros t final rest own s = (s, refl)
+  asked (Signal layer_name.Arm2) answered macros t final rest own s = (s, refl)
+  asked (InitiateContinuous true) answered macros t final rest own s = (s, refl)
+  asked (InitiateContinuous false) answered macros t final rest own s = (s, refl)
+  asked command answered macros t final rest own s = (s, refl)
 
   pub begins-asked : (d0 d1 : D) (command : Command) (answered : Bool) (final : SessionAnswer) (macros : Table)
-      → ((label body : List ℕ) → command ≡ DefineMacro label body → ⊥) → ((label : List ℕ) → command ≡ MacroQuery label → ⊥) → (command ≡ MacroLabelsQuery → ⊥)
-      → ((label : List ℕ) → command ≡ RemoveMacro label → ⊥) → (command ≡ PurgeMacros → ⊥) → ((on : Bool) → command ≡ EnableMacros on → ⊥)
-      → (command ≡ EnableMacrosQuery → ⊥)
-      → (command ≡ Initiate → ⊥) → (command ≡ Reset → ⊥) → Led passes d0 d1 (λ t rest. Settles sid 0 (Ask.Unit sid command answered) t final rest)
+      → is_own command ≡ false → Led passes d0 d1 (λ t rest. Settles sid 0 (Ask.Unit sid command answered) t final rest)
       → Led passes d0 d1 (λ t rest. Begins sid answered (Ok command) macros t (begun_with final macros rest))
-  begins-asked d0 d1 command answered final macros n1 n2 n3 n4 n5 n6 n7 n8 n9 p =
+  begins-asked d0 d1 command answered final macros own p =
       led-so passes d0 d1 (λ t rest. Settles sid 0 (Ask.Unit sid command answered) t final rest) (λ t rest.
       Begins sid answered (Ok command) macros t (begun_with final macros rest)) p
-      (λ t rest s. asked command answered macros t final rest n1 n2 n3 n4 n5 n6 n7 n8 n9 s)
+      (λ t rest s. asked command answered macros t final rest own s)
 
   -- a macro command was carried out
   pub begins-reported : (d0 d1 : D) (command : Command) (answered : Bool) (told : Told) (final : SessionAnswer) (macros macros' : Table)

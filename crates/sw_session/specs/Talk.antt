@@ -116,6 +116,19 @@ effect_of (AtOnce effect) = effect
 effect_of (BetweenScans effect) = effect
 effect_of (AfterScan effect) = effect
 
+-- whether a session carries a command out by itself: one of macros, INITiate, or *RST, which switches macros off
+abbrev pub is_own : Command → Bool
+is_own (Command.DefineMacro label body) = true
+is_own (Command.MacroQuery label) = true
+is_own Command.MacroLabelsQuery = true
+is_own (Command.RemoveMacro label) = true
+is_own Command.PurgeMacros = true
+is_own (Command.EnableMacros on) = true
+is_own Command.EnableMacrosQuery = true
+is_own Command.Initiate = true
+is_own Command.Reset = true
+is_own command = false
+
 -- A command by what it does: a macro command changes the macros and asks nothing else, INITiate starts a scan, and any
 -- other is asked.
 abbrev pub BeginsBy : Effect → Sid → Bool → Command → Table → List Entry → Begun → Type 0

@@ -1,9 +1,9 @@
 //! Beginning units: macro commands, asking a desk until it answers, beginning scans, and queuing errors.
 
-ghost use Rattle.std.specs.Prelude.{◌≡◌, Ok};
+ghost use Rattle.std.specs.Prelude.{◌≡◌, Ok, true};
 ghost use Rattle.sw_session.specs.Trace.{Led};
 ghost use Rattle.sw_session.specs.Talk.{Queues, Settles, Begins, begun_with, Reports, StartsScan, Plans, table_reset};
-ghost use Rattle.sw_session.specs.Talk.{is_done, after_queueing};
+ghost use Rattle.sw_session.specs.Talk.{is_done, is_own, after_queueing};
 
 use crate::desk::{Desk, Wake};
 use crate::macros::{Outcome, define, remove, tell_body, tell_enabled, tell_labels};
@@ -49,6 +49,44 @@ fn carry_out<D: Desk>(
     ensures { Led D.passes desk.old desk.new (λ t rest.
         Begins sid answered (Ok command) macros.old t (begun_with result macros.new rest)) }
 {
+    if is_own(&command) {
+        return carry_own(desk, sid, alloc, macros, command, answered);
+    }
+    settle(desk, sid, SessionAsk::Unit(sid, command, answered))
+}
+
+/// Whether a command is the session's own: of macros, the beginning of a scan, or the reset, which switches macros off.
+fn is_own(command: &Command) -> bool
+    ensures { result ≡ is_own command.now }
+{
+    match command {
+        Command::DefineMacro(_, _)
+        | Command::MacroQuery(_)
+        | Command::MacroLabelsQuery
+        | Command::RemoveMacro(_)
+        | Command::PurgeMacros
+        | Command::EnableMacros(_)
+        | Command::EnableMacrosQuery
+        | Command::Initiate
+        | Command::Reset => true,
+        _ => false,
+    }
+}
+
+/// Carries out a command of the session's own.
+#[inline(never)]
+fn carry_own<D: Desk>(
+    desk: &mut D,
+    sid: Sid,
+    alloc: Global,
+    macros: &mut Macros,
+    command: Command,
+    answered: bool,
+) -> SessionAnswer
+    requires { is_own command ≡ true }
+    ensures { Led D.passes desk.old desk.new (λ t rest.
+        Begins sid answered (Ok command) macros.old t (begun_with result macros.new rest)) }
+{
     match command {
         Command::DefineMacro(label, body) => {
             let outcome = define(alloc, macros, label.as_slice(), body.as_slice());
@@ -80,7 +118,7 @@ fn carry_out<D: Desk>(
         }
         Command::Initiate => initiate(desk, sid, alloc),
         Command::Reset => reset(desk, sid, macros, answered),
-        command => settle(desk, sid, SessionAsk::Unit(sid, command, answered)),
+        _ => unreachable!(),
     }
 }
 

@@ -1,8 +1,8 @@
 //! A desk over a mainframe of its own.
 
-ghost use Rattle.std.specs.Prelude.{◌≡◌, ◌≤◌, Bool, true, [], ◌∷◌, ◌++◌, IfSome, IfNone};
+ghost use Rattle.std.specs.Prelude.{◌≡◌, ◌≤◌, Bool, true, [], ◌∷◌, ◌++◌, None, Some, IfSome, IfNone};
 ghost use Rattle.std.specs.VecDeque.{deque_len, deque_capacity};
-ghost use Rattle.sw_core.specs.Seen.{ask_seen, answer_seen, work_seen, AskSession, SaysSession};
+ghost use Rattle.sw_core.specs.Seen.{AskSeen, answer_seen, work_seen, AskSession, SaysSession};
 ghost use Rattle.sw_core.specs.Step.{Step};
 ghost use Rattle.sw_session.specs.CoreDesk.{IsKept, IsCarried, IsFull, TellsOfPiece, WaitsOut, desk_over, piece_seen};
 
@@ -74,7 +74,18 @@ impl<R: Relay, M: Meter> CoreDesk<R, M> {
     fn keep(&mut self, work: Option<Work<M>>)
         ensures { IsKept self.old (work_seen work) self.new }
     {
-        let mut work = work;
+        match work {
+            None => {}
+            Some(piece) => self.keep_piece(piece),
+        }
+    }
+
+    /// Keeps a piece of work for a wait.
+    #[inline(never)]
+    fn keep_piece(&mut self, piece: Work<M>)
+        ensures { IsKept self.old (work_seen (Some piece)) self.new }
+    {
+        let mut work = Some(piece);
         'pieces: loop {
             let Some(piece) = work else {
                 return;
@@ -115,32 +126,36 @@ impl<R: Relay, M: Meter> CoreDesk<R, M> {
     fn carry(&mut self, piece: Work<M>) -> Option<Work<M>>
         ensures { IsCarried self.old (piece_seen piece) (work_seen result) self.new }
     {
-        let ask = carry_out(piece);
-        match self.tell(ask) {
+        match self.carry_out(piece) {
             Answer::Taken(work) => work,
             _ => None,
         }
     }
 
-    /// Asks the mainframe what a session asks.
-    fn tell_asked(&mut self, ask: SessionAsk) -> (SessionAnswer, Option<Work<M>>)
+    /// Asks the mainframe what a session asks. The work that its scan awaits now is left in `work`.
+    fn tell_asked(&mut self, ask: SessionAsk, work: &mut Option<Work<M>>) -> SessionAnswer
+        requires empty { work.old ≡ None }
         ensures step { (failed : Bool)
-            × Step self.old.panel (AskSession ask) failed (SaysSession result.0 (work_seen result.1)) self.new.panel }
+            × Step self.old.panel (AskSession ask) failed (SaysSession result (work_seen work.new)) self.new.panel }
         ensures work { self.new.work ≡ self.old.work }
         ensures room { self.new.room ≡ self.old.room }
         ensures available { self.new.available ≡ self.old.available }
     {
-        self.core.ask(self.alloc, ask)
+        self.core.ask(self.alloc, ask, work)
     }
 
-    /// Tells the mainframe what is no session's.
-    fn tell(&mut self, ask: Ask<R, M>) -> Answer<R, M>
-        ensures step { (failed : Bool) × Step self.old.panel (ask_seen ask) failed (answer_seen result) self.new.panel }
+    /// Carries a piece out and tells the mainframe of it.
+    fn carry_out(&mut self, piece: Work<M>) -> Answer<R, M>
+        ensures step { (ask : AskSeen) × TellsOfPiece (piece_seen piece) ask
+            × ((failed : Bool) × Step self.old.panel ask failed (answer_seen result) self.new.panel) }
         ensures work { self.new.work ≡ self.old.work }
         ensures room { self.new.room ≡ self.old.room }
         ensures available { self.new.available ≡ self.old.available }
     {
-        self.core.apply(self.alloc, ask)
+        match piece {
+            Work::Measure(job) => self.core.finish(job.run()),
+            Work::Pause(ticket, _) => self.core.apply(self.alloc, Ask::Elapsed(ticket)),
+        }
     }
 }
 
@@ -162,23 +177,14 @@ fn put_behind<M: Meter>(queue: &mut VecDeque<Work<M>>, piece: Work<M>) -> Option
     Some(oldest)
 }
 
-/// Carries a piece out, and gives what is to be told of it.
-fn carry_out<R: Relay, M: Meter>(piece: Work<M>) -> Ask<R, M>
-    ensures { TellsOfPiece (piece_seen piece) (ask_seen result) }
-{
-    match piece {
-        Work::Measure(job) => Ask::Finished(job.run()),
-        Work::Pause(ticket, _) => Ask::Elapsed(ticket),
-    }
-}
-
 impl<R: Relay, M: Meter> Desk for CoreDesk<R, M> {
     ghost use Rattle.sw_session.specs.CoreDesk.{CorePasses};
 
     ghost passes = { CorePasses };
 
     fn ask(&mut self, ask: SessionAsk) -> SessionAnswer {
-        let (answer, work) = self.tell_asked(ask);
+        let mut work = None;
+        let answer = self.tell_asked(ask, &mut work);
         self.keep(work);
         answer
     }

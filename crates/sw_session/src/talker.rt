@@ -134,7 +134,7 @@ impl Talker {
             command,
             answered,
         );
-        conclude(desk, self.sid, &answer, out)
+        conclude(desk, self.sid, answer, out)
     }
 }
 
@@ -234,20 +234,26 @@ fn has_answers(out: &[u8]) -> bool
 
 /// Adds a unit's answer to those that are written. Where there is no memory for it, it is dropped and that error
 /// queued.
-fn conclude<D: Desk>(desk: &mut D, sid: Sid, answer: &SessionAnswer, out: &mut Vec<u8>) -> AfterUnit
-    ensures { ConcludesLine D.passes sid answer.now
+fn conclude<D: Desk>(desk: &mut D, sid: Sid, answer: SessionAnswer, out: &mut Vec<u8>) -> AfterUnit
+    ensures { ConcludesLine D.passes sid answer
         (written_at desk.old out.old.items) result (written_at desk.new out.new.items) }
 {
     match answer {
-        SessionAnswer::Done(Some(text)) => match join(out, text.as_slice()) {
+        SessionAnswer::Done(None) => AfterUnit::Goes,
+        SessionAnswer::Done(Some(text)) => match join(out, text) {
             Ok(()) => AfterUnit::Goes,
-            Err(_) => {
-                let lost = queue(desk, sid, ScpiError::OutOfMemory);
-                after_unit(&lost)
-            }
+            Err(_) => go_on(queue(desk, sid, ScpiError::OutOfMemory)),
         },
-        _ => after_unit(answer),
+        answer => go_on(answer),
     }
+}
+
+/// How a message goes on after an answer, which is let go.
+#[inline(never)]
+fn go_on(answer: SessionAnswer) -> AfterUnit
+    ensures { result ≡ after_unit answer }
+{
+    after_unit(&answer)
 }
 
 /// How a message goes on after an answer.

@@ -1,9 +1,9 @@
-use Rattle.std.proofs.Common.{◌≡◌, ◌∙◌, sym, ap, map, inl, refl}
+use Rattle.std.proofs.Common.{◌≡◌, ◌∙◌, sym, ap, inl}
 use Rattle.sw_lex.specs.Unit.{heading_of}
-use Rattle.sw_lex.specs.Meaning.{path_of, path_after, looked_up}
+use Rattle.sw_lex.specs.Meaning.{path_of, path_after}
 use Rattle.sw_lex.specs.declared.paths.Path.{Path}
 use Rattle.sw_lex.specs.declared.unit.Header.{Header}
-use Rattle.sw_lex.proofs.Nodes.{capitals_of, found_short, unknown_many, refused_is}
+use Rattle.sw_lex.proofs.Nodes.{capitals_of, looked_few, found_short, unknown_many, refused_is}
 use Rattle.sw_lex.proofs.meaning.resolve.Goals as goal
 use Rattle.sw_lex.proofs.meaning.resolve.Goals.{in-Common, in-Path}
 
@@ -15,9 +15,14 @@ returns-in-None-find c =
     refused_is _ _ _ _ c.in-Some.ensures.some (rw (capitals_of _ _ c.in-Some.ensures.some) at (rw c.as_slice.ensures.value at c.in-None-find.ensures.none))
     (rw c.as_slice-in-None-find.ensures.value at c.refusal.ensures)
 
-pub after-above-requires-clause-short : goal.after-above-requires-clause-short
-after-above-requires-clause-short c =
-    rw (c.as_slice-in-Path.ensures.value) (found_short _ _ _ _ (rw c.as_slice.ensures.value at c.in-Some-find.ensures.some))
+pub enter-requires-clause-few : goal.enter-requires-clause-few
+enter-requires-clause-few c =
+    looked_few _ _ (rw c.in-Path.is at c.in-Some.ensures.some) (rw c.as_slice.ensures.value at c.as_slice.ensures.fits)
+
+pub enter-requires-clause-short : goal.enter-requires-clause-short
+enter-requires-clause-short c =
+    let e = capitals_of _ _ (rw c.in-Path.is at c.in-Some.ensures.some) in
+    found_short _ _ _ _ (rw e at (rw c.as_slice.ensures.value at c.in-Some-find.ensures.some))
 
 pub returns-after-unit : goal.returns-after-unit
 returns-after-unit c = inl (record {
@@ -28,8 +33,8 @@ returns-after-unit c = inl (record {
   onward = elim c.match-unit.branch [
     | in-Common w ↦ ap (λ (p : Path). path_of p) w.path-is ∙ sym (ap (λ (h : Header). path_after (heading_of h) (path_of c.args.path.now)) w.in-Common.is)
     | in-Path w ↦
-        let found : map (λ w. w.now) w.as_slice-in-Path.result.now ≡ looked_up (heading_of c.args.unit.now.header) (path_of c.args.path.now) =
-        rw (w.as_slice-in-Path.ensures.value) c.in-Some.ensures.some in
-        ap (λ (p : Path). path_of p) w.path-is ∙ w.after-above.ensures ∙ rw (found, w.in-Path.is) refl
+        let onward : path_after (heading_of c.args.unit.now.header) (path_of c.args.path.now) ≡ path_of w.enter.new.self =
+        ap (λ (h : Header). path_after (heading_of h) (path_of c.args.path.now)) w.in-Path.is ∙ sym w.enter.ensures in
+        ap (λ (p : Path). path_of p) w.path-is ∙ sym onward
   ];
 })
