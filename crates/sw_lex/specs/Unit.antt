@@ -56,7 +56,7 @@ abbrev pub data_of : List Element → List Datum
 data_of es = map datum_of es
 
 abbrev pub unit_of : RawUnit → UnitSeen
-unit_of u = record { header = heading_of u.header; query = u.query; elements = data_of u.elements.items }
+unit_of u = record { header = heading_of u.header; query = u.query; elements = data_of u.elements.now }
 
 -- a unit as it is written
 abbrev pub written_of : RawUnit → List ℕ

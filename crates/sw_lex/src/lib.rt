@@ -31,4 +31,4 @@ pub use meaning::{every_spelling, one_meaning, resolve};
 pub use paths::Path;
 pub use runs::gaps;
 pub use table::Key;
-pub use unit::{ELEMENTS, Element, Header, RawUnit, next_unit, one_reading};
+pub use unit::{ELEMENTS, Element, Elements, Header, RawUnit, next_unit, one_reading};

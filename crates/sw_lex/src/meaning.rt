@@ -262,7 +262,7 @@ pub fn resolve(alloc: Global, unit: &RawUnit<'_>, path: &mut Path) -> Result<Com
                     Header::Common(_) => {}
                     Header::Path { leading, nodes } => path.enter(leading, nodes),
                 }
-                decode(alloc, key, number, unit.elements.as_slice())
+                decode(alloc, key, number, unit.elements)
             }
         },
     }

@@ -48,17 +48,32 @@ pub enum Header<'a> {
     Path { leading: bool, nodes: &'a [u8] },
 }
 
+/// Room for the data elements of one unit. Who reads one unit after another gives the same room each time.
+#[derive(Drop)]
+pub struct Elements<'a> {
+    found: ArrayVec<Element<'a>, ELEMENTS>,
+}
+
+impl Elements<'_> {
+    /// Room that nothing stands in yet.
+    pub fn new() -> Self {
+        Elements {
+            found: ArrayVec::new(),
+        }
+    }
+}
+
 /// One unit of a program message.
 ///
-/// Its parts are slices of the message.
-#[derive(Drop)]
+/// Its parts are slices of the message; its data elements stand in the caller's room.
+#[derive(Clone, Copy)]
 pub struct RawUnit<'a> {
     /// The header.
     pub header: Header<'a>,
     /// Whether a question mark follows the header.
     pub query: bool,
     /// The data elements.
-    pub elements: ArrayVec<Element<'a>, ELEMENTS>,
+    pub elements: &'a [Element<'a>],
     /// The unit as it is written.
     text: &'a [u8],
 }
@@ -146,15 +161,18 @@ fn query_mark(text: &[u8]) -> (bool, &[u8])
     }
 }
 
-/// The elements up to the unit's end, what follows the last of them, and what follows the end.
-fn read_data(text: &[u8]) -> Result<(ArrayVec<Element<'_>, ELEMENTS>, &[u8], &[u8]), ScpiError>
-    ensures ok { IfOk result (λ x. IsData text.now (data_of x.0.items) x.2.now) }
-    ensures joined { IfOk result (λ x. AreJoinedElements text.now (data_of x.0.items) x.1.now) }
-    ensures closes { IfOk result (λ x. Closes x.1.now x.2.now) }
-    ensures few { IfOk result (λ x. length (data_of x.0.items) ≤ most_elements) }
+/// Reads the elements up to the unit's end. Returns what follows the last of them, and what follows the end.
+fn read_data<'a>(
+    text: &'a [u8],
+    found: &mut ArrayVec<Element<'a>, ELEMENTS>,
+) -> Result<(&'a [u8], &'a [u8]), ScpiError>
+    requires empty { found.old.items ≡ [] }
+    ensures ok { IfOk result (λ x. IsData text.now (data_of found.new.items) x.1.now) }
+    ensures joined { IfOk result (λ x. AreJoinedElements text.now (data_of found.new.items) x.0.now) }
+    ensures closes { IfOk result (λ x. Closes x.0.now x.1.now) }
+    ensures few { IfOk result (λ _. length (data_of found.new.items) ≤ most_elements) }
     ensures err { IfErr result (λ e. IsDataRefused text.now e) }
 {
-    let mut found = ArrayVec::new();
     let mut rest = text;
     'data: loop {
         let (next, after) = read_element(rest, found.len())?;
@@ -162,7 +180,7 @@ fn read_data(text: &[u8]) -> Result<(ArrayVec<Element<'_>, ELEMENTS>, &[u8], &[u
         match end(more) {
             Some(others) => {
                 found.push(next);
-                return Ok((found, after, others));
+                return Ok((after, others));
             }
             None => match strip_prefix(more, b',') {
                 Some(others) => {
@@ -176,29 +194,36 @@ fn read_data(text: &[u8]) -> Result<(ArrayVec<Element<'_>, ELEMENTS>, &[u8], &[u
     }
 }
 
-/// What follows a header: its data, what follows the unit's last part, and what follows the unit.
-fn read_tail(text: &[u8]) -> Result<(ArrayVec<Element<'_>, ELEMENTS>, &[u8], &[u8]), ScpiError>
-    ensures ok { IfOk result (λ x. IsTail text.now (data_of x.0.items) x.2.now) }
-    ensures left { IfOk result (λ x. IsLeft text.now (data_of x.0.items) x.1.now) }
-    ensures closes { IfOk result (λ x. Closes x.1.now x.2.now) }
-    ensures few { IfOk result (λ x. length (data_of x.0.items) ≤ most_elements) }
+/// Reads the data that follow a header. Returns what follows the unit's last part, and what follows the unit.
+fn read_tail<'a>(
+    text: &'a [u8],
+    found: &mut ArrayVec<Element<'a>, ELEMENTS>,
+) -> Result<(&'a [u8], &'a [u8]), ScpiError>
+    requires empty { found.old.items ≡ [] }
+    ensures ok { IfOk result (λ x. IsTail text.now (data_of found.new.items) x.1.now) }
+    ensures left { IfOk result (λ x. IsLeft text.now (data_of found.new.items) x.0.now) }
+    ensures closes { IfOk result (λ x. Closes x.0.now x.1.now) }
+    ensures few { IfOk result (λ _. length (data_of found.new.items) ≤ most_elements) }
     ensures err { IfErr result (λ e. IsTailRefused text.now e) }
 {
     let (gap, more) = blanks(text);
     match end(more) {
-        Some(rest) => Ok((ArrayVec::new(), text, rest)),
+        Some(rest) => Ok((text, rest)),
         None => {
             if gap.is_empty() {
                 return Err(fault_at(ScpiError::InvalidSeparator, more));
             }
-            read_data(more)
+            read_data(more, found)
         }
     }
 }
 
 /// The next unit of a message, and what follows it; none where nothing but white space and empty units is left
-/// (IEEE 488.2, 7.3).
-pub fn next_unit(text: &[u8]) -> Result<Option<(RawUnit<'_>, &[u8])>, ScpiError>
+/// (IEEE 488.2, 7.3). Its data elements are put in this room, whatever stood there.
+pub fn next_unit<'u, 'a: 'u>(
+    text: &'a [u8],
+    room: &'u mut Elements<'a>,
+) -> Result<Option<(RawUnit<'u>, &'a [u8])>, ScpiError>
     ensures unit { IfOk result (λ o. IfSome o (λ x. IsUnit text.now (unit_of x.0) x.1.now)) }
     ensures written { IfOk result (λ o. IfSome o (λ x. (before left : List ℕ)
         × IsWritten text.now before (unit_of x.0) (written_of x.0) left × Closes left x.1.now)) }
@@ -212,12 +237,13 @@ pub fn next_unit(text: &[u8]) -> Result<Option<(RawUnit<'_>, &[u8])>, ScpiError>
     }
     let (header, rest) = read_header(start)?;
     let (query, rest) = query_mark(rest);
-    let (elements, left, rest) = read_tail(rest)?;
+    room.found.clear();
+    let (left, rest) = read_tail(rest, &mut room.found)?;
     Ok(Some((
         RawUnit {
             header,
             query,
-            elements,
+            elements: room.found.as_slice(),
             text: before(start, left),
         },
         rest,

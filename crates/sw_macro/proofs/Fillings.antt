@@ -92,10 +92,10 @@ missing n ds body h = ap (λ (o : Option (List ℕ)). fitting n o) h
 
 -- ---- one data element
 
-pub parameter_at : (items xs : List Element) (k : ℕ) (e : Element) (t : List ℕ) → xs ≡ items → k < length xs → e ≡ get_or xs k e → t ≡ datum_text (datum_of e)
+pub parameter_at : (items : List Element) (k : ℕ) (e : Element) (t : List ℕ) → k < length items → e ≡ get_or items k e → t ≡ datum_text (datum_of e)
     → Some t ≡ parameter (data_of items) k
-parameter_at items xs k e t s l g f =
-    let h : Some e ≡ slice_get xs k = sym (slice_get_read xs (length xs) k e refl l g) in
+parameter_at items k e t l g f =
+    let h : Some e ≡ slice_get items k = sym (slice_get_read items (length items) k e refl l g) in
     ap (λ (x : List ℕ). Some x) f
-    ∙ ap (λ (o : Option Element). option_map datum_text (option_map datum_of o)) (h ∙ ap (λ (ys : List Element). slice_get ys k) s)
+    ∙ ap (λ (o : Option Element). option_map datum_text (option_map datum_of o)) h
     ∙ sym (slice_get-map datum_text (data_of items) k ∙ ap (λ (o : Option Datum). option_map datum_text o) (slice_get-map datum_of items k))

@@ -19,30 +19,30 @@ use crate::table::Macros;
 use arrayvec::ArrayVec;
 use std::alloc::Global;
 use sw_base::{MACRO_LEVELS, MESSAGE_BYTES, ScpiError};
-use sw_lex::{Header, RawUnit, gaps, next_unit};
+use sw_lex::{Elements, Header, RawUnit, gaps, next_unit};
 
 /// The labels in whose bodies a unit stands, the outermost first.
 type Names = ArrayVec<Label, MACRO_LEVELS>;
 
 /// The first unit of a text in its place.
-#[derive(Drop)]
-struct Piece<'a> {
+#[derive(Clone, Copy)]
+struct Piece<'u, 'a> {
     /// What stands before it.
     before: &'a [u8],
-    unit: RawUnit<'a>,
+    unit: RawUnit<'u>,
     /// What stands between it and what follows it.
     between: &'a [u8],
     rest: &'a [u8],
 }
 
-/// The first unit of a text in its place; none where no unit can be read.
-fn first_unit(text: &[u8]) -> Option<Piece<'_>>
+/// The first unit of a text in its place, its data elements in this room; none where no unit can be read.
+fn first_unit<'u, 'a: 'u>(text: &'a [u8], room: &'u mut Elements<'a>) -> Option<Piece<'u, 'a>>
     ensures some { IfSome result (λ p. IsFirstUnit text.now (place_of p)) }
     ensures shorter { IfSome result (λ p. length p.rest.now < length text.now) }
     ensures none { IfNone result (HasNoUnit text.now) }
 {
     let (before, start) = gaps(text);
-    match next_unit(start) {
+    match next_unit(start, room) {
         Ok(Some((unit, rest))) => {
             let (_, left) = start.split_at(unit.text().len());
             let (between, _) = left.split_at(left.len() - rest.len());
@@ -127,9 +127,10 @@ fn write_body(
     ensures err { IfErr result (λ e. (e ≡ OutOfMemory)
         ⊎ Becomes macros.now.macros (names_of names.old.items) body.now out.old.items (Err e)) }
 {
+    let mut room = Elements::new();
     let mut rest = body;
     'units: loop {
-        match first_unit(rest) {
+        match first_unit(rest, &mut room) {
             None => {
                 out.extend_from_slice(rest)?;
                 return Ok(());

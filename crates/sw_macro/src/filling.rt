@@ -35,7 +35,7 @@ fn text_of(element: Element<'_>) -> &[u8]
 fn parameter<'a>(unit: &RawUnit<'a>, k: usize) -> Option<&'a [u8]>
     ensures { option_map (λ text. text.now) result ≡ parameter (unit_of unit.now).elements k }
 {
-    match unit.elements.as_slice().get(k) {
+    match unit.elements.get(k) {
         None => None,
         Some(element) => Some(text_of(*element)),
     }

@@ -29,7 +29,7 @@ returns-after-unit c = inl (record {
   key = c.in-Some-find.key;
   number = c.in-Some-find.number;
   found = rw (capitals_of _ _ c.in-Some.ensures.some) at (rw c.as_slice.ensures.value at c.in-Some-find.ensures.some);
-  decoded = rw c.as_slice-in-Some-find.ensures.value at c.decode.ensures;
+  decoded = c.decode.ensures;
   onward = elim c.match-unit.branch [
     | in-Common w ↦ ap (λ (p : Path). path_of p) w.path-is ∙ sym (ap (λ (h : Header). path_after (heading_of h) (path_of c.args.path.now)) w.in-Common.is)
     | in-Path w ↦

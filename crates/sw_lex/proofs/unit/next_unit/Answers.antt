@@ -8,8 +8,8 @@ returns-clause-shorter c =
     unit_rest c.args.text.now (record {
       header = heading_of c.in_ok-header.header;
       query = c.query_mark-query.result.0;
-      elements = data_of c.in_ok-elements.elements.items;
-    }) c.in_ok-elements.rest.now (record {
+      elements = data_of c.read_tail.new.found.items;
+    }) c.in_ok-left.rest.now (record {
       before = c.gaps.result.0.now;
       start = c.gaps.result.1.now;
       after = c.in_ok-header.rest.now;
@@ -17,10 +17,10 @@ returns-clause-shorter c =
       skipped = c.gaps.ensures;
       header = c.in_ok-header.ensures.ok;
       asks = c.query_mark-query.ensures;
-      follows = c.in_ok-elements.ensures.ok;
-      few = c.in_ok-elements.ensures.few;
+      follows = c.in_ok-left.ensures.ok;
+      few = c.in_ok-left.ensures.few;
     })
 
 pub before-requires : goal.before-requires
 before-requires c =
-    start_leaves _ _ _ _ _ _ _ c.in_ok-header.ensures.ok c.query_mark-query.ensures c.in_ok-elements.ensures.left
+    start_leaves _ _ _ _ _ _ _ c.in_ok-header.ensures.ok c.query_mark-query.ensures c.in_ok-left.ensures.left
