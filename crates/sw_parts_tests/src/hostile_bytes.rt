@@ -5,7 +5,7 @@ use std::alloc::{AllocError, Global};
 use std::test::Fail;
 use sw_base::ScpiError;
 use sw_hislip::{Decoder, Kind, Message, WireFault, encode};
-use sw_lex::next_unit;
+use sw_lex::{Elements, next_unit};
 
 /// What a decoder tells.
 #[derive(Clone, Copy, PartialEq, Eq)]
@@ -194,7 +194,7 @@ fn odd_sub_addresses_are_passed_on(rt: HostRuntime) -> Result<(), Fail> {
 
 /// Whether this is why the text begins with no unit.
 fn is_refused(text: &[u8], error: ScpiError) -> bool {
-    match next_unit(text) {
+    match next_unit(text, &mut Elements::new()) {
         Ok(_) => false,
         Err(why) => why == error,
     }

@@ -6,7 +6,7 @@ use sw_base::{Chan, LayerName, ScpiError};
 use sw_channel::{print_list, read_list};
 use sw_code::{Code, ListFault, compile, print_listing, read_listing};
 use sw_hislip::{Decoder, Kind, LockReply, Locks, Message, WireFault, encode};
-use sw_lex::{Command, Path, next_unit, resolve};
+use sw_lex::{Command, Elements, Path, next_unit, resolve};
 use sw_macro::Macros;
 use sw_status::Status;
 use sw_trigger::Settings;
@@ -69,7 +69,8 @@ fn closes(command: &Command, wanted: &[Chan]) -> bool {
 
 /// Whether the unit of a text closes these channels, if there is memory.
 fn resolves(alloc: Global, text: &[u8], wanted: &[Chan]) -> bool {
-    let Ok(Some((unit, _))) = next_unit(text) else {
+    let mut room = Elements::new();
+    let Ok(Some((unit, _))) = next_unit(text, &mut room) else {
         return false;
     };
     let mut path = Path::root();
@@ -111,7 +112,8 @@ fn defines(alloc: Global, macros: &mut Macros, label: &[u8], body: &[u8]) -> boo
 
 /// Whether the unit of a text becomes this, or stays as it is where its macro is missing, if there is memory.
 fn becomes(alloc: Global, macros: &Macros, text: &[u8], wanted: &[u8]) -> bool {
-    let Ok(Some((unit, _))) = next_unit(text) else {
+    let mut room = Elements::new();
+    let Ok(Some((unit, _))) = next_unit(text, &mut room) else {
         return false;
     };
     match macros.expand(alloc, &unit) {

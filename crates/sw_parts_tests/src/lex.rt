@@ -3,12 +3,12 @@
 use std::alloc::Global;
 use std::test::Fail;
 use sw_base::{Chan, LayerName, ScpiError, Source, StatusGroup};
-use sw_lex::{Command, Element, Path, RawUnit, next_unit, resolve};
+use sw_lex::{Command, Element, Elements, Path, RawUnit, next_unit, resolve};
 
 /// What the first unit of a text gives below this path.
 fn read_at(alloc: Global, text: &[u8], path: Path) -> Result<Command, ScpiError> {
     let mut path = path;
-    match next_unit(text)? {
+    match next_unit(text, &mut Elements::new())? {
         Some((unit, _)) => resolve(alloc, &unit, &mut path),
         None => Err(ScpiError::SystemError),
     }
@@ -28,7 +28,7 @@ fn path_behind(alloc: Global, unit: &RawUnit<'_>) -> Path {
 
 /// The path that the first unit of a message leaves, and what stands behind it.
 fn path_and_rest(alloc: Global, message: &[u8]) -> Result<(Path, &[u8]), ScpiError> {
-    match next_unit(message)? {
+    match next_unit(message, &mut Elements::new())? {
         Some((unit, rest)) => Ok((path_behind(alloc, &unit), rest)),
         None => Err(ScpiError::SystemError),
     }
@@ -111,12 +111,14 @@ fn reads_commands(rt: HostRuntime) {
 
 #[test]
 fn reads_elements(rt: HostRuntime) -> Result<(), Fail> {
-    let Some((unit, rest)) = next_unit(b"A 1 E +1,-.5 S ,On_1,\"a;\"\"b\",#13a;\n,(;,);B")? else {
+    let text = b"A 1 E +1,-.5 S ,On_1,\"a;\"\"b\",#13a;\n,(;,);B";
+    let mut room = Elements::new();
+    let Some((unit, rest)) = next_unit(text, &mut room)? else {
         return Err(ScpiError::SystemError.into());
     };
     assert!(rt; rest == b"B".as_slice());
     assert_eq!(rt;
-        unit.elements.as_slice(),
+        unit.elements,
         [
             Element::Number(b"1 E +1"),
             Element::Number(b"-.5 S"),
@@ -281,7 +283,7 @@ fn reads_macros(rt: HostRuntime) {
 
 /// Whether a text is refused by this error before a unit is read.
 fn refuses_unit(text: &[u8], error: ScpiError) -> bool {
-    match next_unit(text) {
+    match next_unit(text, &mut Elements::new()) {
         Ok(_) => false,
         Err(why) => why == error,
     }
@@ -329,7 +331,7 @@ fn refuses_units(rt: HostRuntime) -> Result<(), Fail> {
     for (message, error) in cases {
         assert!(rt; refuses_unit(message, error));
     }
-    assert!(rt; next_unit(b" ; ;").is_ok());
+    assert!(rt; next_unit(b" ; ;", &mut Elements::new()).is_ok());
     Ok(())
 }
 

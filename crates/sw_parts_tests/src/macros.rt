@@ -4,12 +4,12 @@ use std::alloc::{AllocError, Global};
 use std::process::Abort;
 use std::test::Fail;
 use sw_base::ScpiError;
-use sw_lex::next_unit;
+use sw_lex::{Elements, next_unit};
 use sw_macro::Macros;
 
 /// What the first unit of a message becomes.
 fn expanded(alloc: Global, macros: &Macros, message: &[u8]) -> Result<Vec<u8>, ScpiError> {
-    match next_unit(message)? {
+    match next_unit(message, &mut Elements::new())? {
         Some((unit, _)) => macros.expand(alloc, &unit),
         None => Err(ScpiError::SystemError),
     }

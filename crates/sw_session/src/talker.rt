@@ -14,7 +14,7 @@ use crate::line::join;
 use std::alloc::Global;
 use sw_base::{MESSAGE_BYTES, ScpiError};
 use sw_core::{SessionAnswer, Sid};
-use sw_lex::{Command, Path, RawUnit, next_unit, resolve};
+use sw_lex::{Command, Elements, Path, RawUnit, next_unit, resolve};
 use sw_macro::Macros;
 
 /// What a session keeps for its messages.
@@ -78,9 +78,10 @@ impl Talker {
             result (spot desk.new (path_of path.new) self.new.macros out.new.items) }
         ensures same { self.new.sid ≡ self.old.sid }
     {
+        let mut room = Elements::new();
         let mut left = text;
         'units: loop {
-            match next_unit(left) {
+            match next_unit(left, &mut room) {
                 Ok(None) => return AfterUnit::Goes,
                 Err(misfit) => return self.serve(desk, Err(misfit), out),
                 Ok(Some((unit, rest))) => {

@@ -9,7 +9,7 @@ use sw_base::ScpiError;
 use sw_cage::{EjectRefusal, InstallRefusal, Job, Ticket};
 use sw_card::{Card, Meter, Relay};
 use sw_core::{Answer, Ask, Core, SessionAnswer, SessionAsk, Sid, Work};
-use sw_lex::{Command, Path, next_unit, resolve};
+use sw_lex::{Command, Elements, Path, next_unit, resolve};
 
 /// Asks the core.
 fn ask<R: Relay, M: Meter>(alloc: Global, core: &mut Core<R, M>, ask: Ask<R, M>) -> Answer<R, M> {
@@ -272,7 +272,7 @@ pub fn was_refused(answer: Option<SessionAnswer>, error: ScpiError) -> bool {
 
 /// What a text's first unit asks for.
 fn read(alloc: Global, text: &[u8]) -> Result<Command, ScpiError> {
-    match next_unit(text)? {
+    match next_unit(text, &mut Elements::new())? {
         Some((unit, _)) => resolve(alloc, &unit, &mut Path::root()),
         None => Err(ScpiError::SystemError),
     }
