@@ -1,6 +1,7 @@
 //! Beginning units: macro commands, asking a desk until it answers, beginning scans, and queuing errors.
 
-ghost use Rattle.std.specs.Prelude.{◌≡◌, Ok, true};
+ghost use Rattle.std.specs.Prelude.{◌≡◌, Ok, true, false};
+ghost use Rattle.sw_macro.specs.Table.{Table};
 ghost use Rattle.sw_session.specs.Trace.{Led};
 ghost use Rattle.sw_session.specs.Talk.{Queues, Settles, Begins, begun_with, Reports, StartsScan, Plans, table_reset};
 ghost use Rattle.sw_session.specs.Talk.{is_done, is_own, after_queueing};
@@ -18,45 +19,22 @@ use sw_verify::Plan;
 /// asked for bytes.
 pub const TURNS: u64 = 1 << 32;
 
-/// Begins a unit that is this command or error: a command is carried out, an error queued. `answered` says whether the
-/// message has answered before.
-pub fn begin<D: Desk>(
+/// Asks for a command that is not the session's own. `answered` says whether the message has answered before.
+pub fn ask_command<D: Desk>(
     desk: &mut D,
     sid: Sid,
-    alloc: Global,
-    macros: &mut Macros,
-    command: Result<Command, ScpiError>,
-    answered: bool,
-) -> SessionAnswer
-    ensures { Led D.passes desk.old desk.new (λ t rest.
-        Begins sid answered command macros.old t (begun_with result macros.new rest)) }
-{
-    match command {
-        Ok(command) => carry_out(desk, sid, alloc, macros, command, answered),
-        Err(error) => queue(desk, sid, error),
-    }
-}
-
-/// Carries a command out: one of the session's own by itself, any other by asking the desk.
-fn carry_out<D: Desk>(
-    desk: &mut D,
-    sid: Sid,
-    alloc: Global,
-    macros: &mut Macros,
     command: Command,
     answered: bool,
 ) -> SessionAnswer
-    ensures { Led D.passes desk.old desk.new (λ t rest.
-        Begins sid answered (Ok command) macros.old t (begun_with result macros.new rest)) }
+    requires { is_own command ≡ false }
+    ensures { (macros : Table) → Led D.passes desk.old desk.new (λ t rest.
+        Begins sid answered (Ok command) macros t (begun_with result macros rest)) }
 {
-    if is_own(&command) {
-        return carry_own(desk, sid, alloc, macros, command, answered);
-    }
     settle(desk, sid, SessionAsk::Unit(sid, command, answered))
 }
 
 /// Whether a command is the session's own: of macros, the beginning of a scan, or the reset, which switches macros off.
-fn is_own(command: &Command) -> bool
+pub fn is_own(command: &Command) -> bool
     ensures { result ≡ is_own command.now }
 {
     match command {
@@ -73,9 +51,8 @@ fn is_own(command: &Command) -> bool
     }
 }
 
-/// Carries out a command of the session's own.
-#[inline(never)]
-fn carry_own<D: Desk>(
+/// Carries out a command of the session's own. `answered` says whether the message has answered before.
+pub fn carry_own<D: Desk>(
     desk: &mut D,
     sid: Sid,
     alloc: Global,

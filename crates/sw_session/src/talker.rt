@@ -1,14 +1,14 @@
 //! The talk about one program message.
 
-ghost use Rattle.std.specs.Prelude.{◌≡◌, []};
+ghost use Rattle.std.specs.Prelude.{◌≡◌, [], Ok, Err, true, false};
 ghost use Rattle.std.specs.Io.BufRead.{strip_last};
 ghost use Rattle.sw_lex.specs.Unit.{unit_of};
 ghost use Rattle.sw_lex.specs.Meaning.{Nodes, path_of};
 ghost use Rattle.sw_macro.specs.Table.{no_macros};
 ghost use Rattle.sw_session.specs.Talk.{Talked, TalksLine, OnLine, Itself, Expanded, ServesUnit, ConcludesLine};
-ghost use Rattle.sw_session.specs.Talk.{state, spot, written_at, after_unit, is_command_error, TellsAnswered};
+ghost use Rattle.sw_session.specs.Talk.{state, spot, written_at, after_unit, is_command_error, TellsAnswered, is_own};
 
-use crate::asking::{begin, queue};
+use crate::asking::{ask_command, carry_own, is_own, queue};
 use crate::desk::Desk;
 use crate::line::join;
 use std::alloc::Global;
@@ -126,8 +126,49 @@ impl Talker {
             (λ s s'. ServesUnit self.old.sid command s result s') }
         ensures same { self.new.sid ≡ self.old.sid }
     {
+        match command {
+            Err(error) => self.serve_error(desk, error, out),
+            Ok(command) => {
+                if is_own(&command) {
+                    self.serve_own(desk, command, out)
+                } else {
+                    self.serve_asked(desk, command, out)
+                }
+            }
+        }
+    }
+
+    /// Serves a unit that is this command, which the desk is asked for.
+    fn serve_asked<D: Desk>(
+        &mut self,
+        desk: &mut D,
+        command: Command,
+        out: &mut Vec<u8>,
+    ) -> AfterUnit
+        requires { is_own command ≡ false }
+        ensures serves { (path : Nodes) → OnLine D.passes
+            (spot desk.old path self.old.macros out.old.items)
+            (spot desk.new path self.new.macros out.new.items)
+            (λ s s'. ServesUnit self.old.sid (Ok command) s result s') }
+        ensures same { self.new.sid ≡ self.old.sid }
+    {
         let answered = has_answers(out);
-        let answer = begin(
+        let answer = ask_command(desk, self.sid, command, answered);
+        conclude(desk, self.sid, answer, out)
+    }
+
+    /// Serves a unit that is this command, one of the session's own.
+    #[inline(never)]
+    fn serve_own<D: Desk>(&mut self, desk: &mut D, command: Command, out: &mut Vec<u8>) -> AfterUnit
+        requires { is_own command ≡ true }
+        ensures serves { (path : Nodes) → OnLine D.passes
+            (spot desk.old path self.old.macros out.old.items)
+            (spot desk.new path self.new.macros out.new.items)
+            (λ s s'. ServesUnit self.old.sid (Ok command) s result s') }
+        ensures same { self.new.sid ≡ self.old.sid }
+    {
+        let answered = has_answers(out);
+        let answer = carry_own(
             desk,
             self.sid,
             self.alloc,
@@ -135,6 +176,24 @@ impl Talker {
             command,
             answered,
         );
+        conclude(desk, self.sid, answer, out)
+    }
+
+    /// Serves a unit that is refused by this error.
+    #[inline(never)]
+    fn serve_error<D: Desk>(
+        &mut self,
+        desk: &mut D,
+        error: ScpiError,
+        out: &mut Vec<u8>,
+    ) -> AfterUnit
+        ensures serves { (path : Nodes) → OnLine D.passes
+            (spot desk.old path self.old.macros out.old.items)
+            (spot desk.new path self.new.macros out.new.items)
+            (λ s s'. ServesUnit self.old.sid (Err error) s result s') }
+        ensures same { self.new.sid ≡ self.old.sid }
+    {
+        let answer = queue(desk, self.sid, error);
         conclude(desk, self.sid, answer, out)
     }
 }

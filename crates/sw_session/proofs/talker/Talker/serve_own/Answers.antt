@@ -1,0 +1,13 @@
+use Rattle.std.proofs.Common.{◌∙◌, Ok, Err, refl}
+use Rattle.sw_session.proofs.Talks.{serve-unit}
+use Rattle.sw_session.proofs.talker.Talker.serve_own.Goals as goal
+
+pub returns-clause-serves : goal.returns-clause-serves
+returns-clause-serves g c = λ path answers written.
+    let s = c.conclude.ensures answers written in (
+      s.0,
+      s.1,
+      serve-unit g.D.Desk.passes _ _ _ c.args.self.now.sid (Ok c.args.command) _ path c.args.self.now.macros c.carry_own-answer.new.macros answers
+          c.carry_own-answer.result _ s.0
+          (c.has_answers-answered.ensures answers (c.deref.ensures.value ∙ written)) c.carry_own-answer.ensures s.2,
+    )
