@@ -17,18 +17,30 @@ use sw_base::{
 use sw_cage::Cage;
 use sw_card::{Meter, Relay};
 
+/// For how many bytes there is room in a short answer, so that the line it begins takes memory once, in most cases.
+const ROOM: usize = 64;
+
+/// A short answer.
+fn short(alloc: Global, text: &[u8]) -> Result<Sequence<u8>, AllocError>
+    ensures { IfOk result (λ answer. answer ≡ text.now) }
+{
+    let mut answer = Vec::with_capacity(alloc, ROOM)?;
+    answer.extend_from_slice(text)?;
+    Ok(Sequence::new(answer))
+}
+
 /// The maker, the model, the serial number and the version (IEEE 488.2, 10.14).
 pub fn identity(alloc: Global) -> Result<Sequence<u8>, AllocError>
     ensures { IfOk result (λ text. text ≡ identity_text) }
 {
-    Ok(Sequence::new(Vec::from_slice(alloc, b"OPENBENCH,SWM8,0,1.0")?))
+    short(alloc, b"OPENBENCH,SWM8,0,1.0")
 }
 
 /// The version of SCPI (SCPI-1999, 21.21).
 pub fn version(alloc: Global) -> Result<Sequence<u8>, AllocError>
     ensures { IfOk result (λ text. text ≡ version) }
 {
-    Ok(Sequence::new(Vec::from_slice(alloc, b"1999.0")?))
+    short(alloc, b"1999.0")
 }
 
 /// A whole number.
@@ -37,7 +49,7 @@ pub fn whole(alloc: Global, n: u64) -> Result<Sequence<u8>, AllocError>
 {
     let mut buffer = [0; 32];
     let end = print_number(n, &mut buffer);
-    Ok(Sequence::new(Vec::from_slice(alloc, &buffer[..end])?))
+    short(alloc, &buffer[..end])
 }
 
 /// Microseconds as seconds with six decimals.
@@ -46,7 +58,7 @@ pub fn seconds(alloc: Global, micros: u64) -> Result<Sequence<u8>, AllocError>
 {
     let mut buffer = [0; 32];
     let end = print_micros(micros, &mut buffer);
-    Ok(Sequence::new(Vec::from_slice(alloc, &buffer[..end])?))
+    short(alloc, &buffer[..end])
 }
 
 /// The short form of a source.
@@ -59,7 +71,7 @@ pub fn source_word(alloc: Global, source: Source) -> Result<Sequence<u8>, AllocE
         Source::External => b"EXT",
         Source::Hold => b"HOLD",
     };
-    Ok(Sequence::new(Vec::from_slice(alloc, word)?))
+    short(alloc, word)
 }
 
 /// For each channel `1` or `0`, joined by commas: whether it is closed, or, where `closed` is false, whether it is
@@ -102,7 +114,7 @@ pub fn oldest_entry(alloc: Global, errors: &[ScpiError]) -> Result<Sequence<u8>,
     match errors {
         [] => nothing(alloc),
         [error, ..] => {
-            let mut text = Vec::new(alloc);
+            let mut text = Vec::with_capacity(alloc, ROOM)?;
             add_entry(&mut text, *error)?;
             Ok(Sequence::new(text))
         }
@@ -116,7 +128,7 @@ pub fn all_entries(alloc: Global, errors: &[ScpiError]) -> Result<Sequence<u8>, 
     if errors.is_empty() {
         return nothing(alloc);
     }
-    let mut text = Vec::new(alloc);
+    let mut text = Vec::with_capacity(alloc, ROOM)?;
     for error in errors {
         separate(&mut text)?;
         add_entry(&mut text, *error)?;
@@ -151,7 +163,7 @@ fn add_reading(text: &mut Vec<u8>, reading: Reading) -> Result<(), AllocError>
 fn nothing(alloc: Global) -> Result<Sequence<u8>, AllocError>
     ensures { IfOk result (λ text. text ≡ no_error) }
 {
-    let mut text = Vec::new(alloc);
+    let mut text = Vec::with_capacity(alloc, ROOM)?;
     add_numbered(&mut text, 0, NO_ERROR)?;
     Ok(Sequence::new(text))
 }
