@@ -18,7 +18,7 @@ use Rattle.sw_cage.specs.Accounts.{Accounts, layout_of, is_closed, all_open}
 use Rattle.sw_cage.specs.Channels.{closed_list}
 use Rattle.sw_cage.specs.Cage.{ScanSeen, CageSeen, layout_with, cage_layout, ticket_of}
 use Rattle.sw_cage.specs.Advance.{opens_of, closes_of, moves_from, next_place, awaits}
-use Rattle.sw_cage.specs.Moves.{MayMove}
+use Rattle.sw_cage.specs.Moves.{MayMove, MayGoOn}
 use Rattle.sw_cage.specs.Good.{HasDone, MeterStands, IsUnderway, IsRunning, IsHeld, HasRoom, IsGoodWithRoom}
 use Rattle.sw_cage.specs.TakenSeen.{TakenSeen, SaysIgnored, SaysWaits, SaysPause, SaysJob, SaysEnded, SaysFault}
 use Rattle.sw_cage.specs.Takes.{AwaitsReturn, TakesReturnThere, AwaitsOther}
@@ -45,6 +45,9 @@ pub go_may : (p : CageSeen) (s : SettingsSeen) (i : ℕ) (o k : Option Channel) 
     → MayMove (layout_of p.cards) (is_closed p.cards) o k
 go_may p s i o k held g e = may_move_in (layout_of p.cards) p.out (lengths p held) (is_closed p.cards) o k
     (may_move (cage_layout p) (is_closed p.cards) s i g.way o k e)
+
+pub may_go : (p : CageSeen) (s : SettingsSeen) (i : ℕ) → IsHeld p → CanGo p s i → MayGoOn (layout_of p.cards) (is_closed p.cards) s i
+may_go p s i held g = record { slot_in = g.range.meter; meter = g.measured; moves = λ o k e. go_may p s i o k held g e }
 
 room_some : (room : ℕ) (s : SettingsSeen) (i : ℕ) (scan : Option ScanSeen) → reads (agenda s) ≤ room → scan ≡ Some (next_place s i) → HasRoom scan room
 room_some room s i scan r e = subst (λ (o : Option ScanSeen). HasRoom o room) (sym e) r
@@ -103,6 +106,10 @@ go_other p at room k e o =
       way = on_way_past (cage_layout p) (is_closed p.cards) at.setup at.index u.way x o.1.0;
       readings = u.readings ∙ omega (arith, reads_past at.setup at.index x o.1.0, o.1.1);
     }
+
+pub other_scan : (scan : Option ScanSeen) → AwaitsOther scan → (at : ScanSeen) × ((scan ≡ Some at) × AwaitsOther (Some at))
+other_scan None h = absurd h
+other_scan (Some at) h = (at, (refl, h))
 
 -- a meter comes back
 

@@ -1,11 +1,13 @@
 -- Which moves a scan may make, and what a failed one leaves.
-use Rattle.std.specs.Prelude.{◌≡◌, true, map, Option, Some, None}
-use Rattle.sw_base.specs.Layout.{Channel, Layout}
+use Rattle.std.specs.Prelude.{◌≡◌, ◌≤◌, ◌++◌, ℕ, true, map, Option, Some, None}
+use Rattle.sw_base.specs.Limits.{most_slots}
+use Rattle.sw_base.specs.Layout.{Channel, Layout, has_meter}
+use Rattle.sw_trigger.specs.Settings.{SettingsSeen}
 use Rattle.sw_verify.specs.Channels.{Channels}
 use Rattle.sw_verify.specs.Sound.{CanCloseOne, effect}
 use Rattle.sw_cage.specs.Accounts.{Accounts}
 use Rattle.sw_cage.specs.Change.{RelayFailed, identity}
-use Rattle.sw_cage.specs.Advance.{opens_of}
+use Rattle.sw_cage.specs.Advance.{opens_of, closes_of, moves_from}
 
 abbrev pub MayOpenNext : Channels → Option Channel → Type 0
 MayOpenNext closed None = Unit {0}
@@ -19,6 +21,13 @@ MayCloseNext layout closed (Some c) = CanCloseOne layout closed c
 pub record MayMove (layout : Layout) (closed : Channels) (to_open to_close : Option Channel) : Type 0 where
   pub opens : MayOpenNext closed to_open
   pub closes : MayCloseNext layout (effect closed (opens_of to_open)) to_close
+
+-- From item i of the settings' agenda a scan may go on: its meter is there, and what stands on the way may be done.
+pub record MayGoOn (layout : Layout) (closed : Channels) (s : SettingsSeen) (i : ℕ) : Type 0 where
+  pub slot_in : (1 ≤ s.meter) × (s.meter ≤ most_slots)
+  pub meter : has_meter layout s.meter ≡ true
+  pub moves : (to_open to_close : Option Channel) → opens_of to_open ++ closes_of to_close ≡ moves_from s i
+      → MayMove layout closed to_open to_close
 
 -- a call on a relay card failed: the cards are the same
 pub record RelayCallFailed (old new : Accounts) : Type 0 where

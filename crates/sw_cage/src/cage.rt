@@ -24,7 +24,7 @@ mod layout;
 use crate::job::{Finished, Ticket};
 use crate::refusal::{CloseRefusal, EjectRefusal, InstallRefusal};
 use crate::scan::Scan;
-use crate::scan::machine::{go_on, take_in};
+use crate::scan::machine::{go_on, go_past, take_in};
 use crate::scan::tickets::Tickets;
 use crate::slots::Slots;
 use crate::taken::{Happening, Taken};
@@ -332,8 +332,14 @@ impl<R: Relay, M: Meter> Cage<R, M> {
         let (scan, moves) = Scan::begin(settings, code);
         self.number += 1;
         self.readings = readings;
-        let (scan, taken) = go_on(&mut self.slots, &mut self.out, scan, self.number, moves);
-        self.scan = scan;
+        self.scan = Some(scan);
+        let taken = go_on(
+            &mut self.slots,
+            &mut self.out,
+            &mut self.scan,
+            self.number,
+            moves,
+        );
         Ok(taken)
     }
 
@@ -365,13 +371,7 @@ impl<R: Relay, M: Meter> Cage<R, M> {
         requires { AwaitsOther self.old.scan }
         ensures { AdvancesPast self.old (taken_seen result) self.new }
     {
-        let Some(mut scan) = self.scan.take() else {
-            unreachable!();
-        };
-        let moves = scan.advance();
-        let (scan, taken) = go_on(&mut self.slots, &mut self.out, scan, self.number, moves);
-        self.scan = scan;
-        taken
+        go_past(&mut self.slots, &mut self.out, &mut self.scan, self.number)
     }
 
     /// Takes a meter back, unless it is not out of its slot under its ticket: then it is handed back.
@@ -444,13 +444,7 @@ impl<R: Relay, M: Meter> Cage<R, M> {
             return Taken::Fault;
         };
         self.readings.push(reading).unwrap();
-        let Some(mut scan) = self.scan.take() else {
-            unreachable!();
-        };
-        let moves = scan.advance();
-        let (scan, taken) = go_on(&mut self.slots, &mut self.out, scan, self.number, moves);
-        self.scan = scan;
-        taken
+        go_past(&mut self.slots, &mut self.out, &mut self.scan, self.number)
     }
 }
 

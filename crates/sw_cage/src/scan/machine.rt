@@ -1,13 +1,14 @@
 //! What a running scan does between two things that it awaits.
 
-ghost use Rattle.std.specs.Prelude.{◌≡◌, ◌-◌, ◌≤◌, true, OnOk, OnErr, Some, None, slice_set};
+ghost use Rattle.std.specs.Prelude.{◌≡◌, ◌+◌, ◌-◌, ◌≤◌, true, is_some, OnOk, OnErr, Some, None, slice_set};
 ghost use Rattle.sw_base.specs.Limits.{most_slots};
 ghost use Rattle.sw_base.specs.Layout.{has_meter};
 ghost use Rattle.sw_card.specs.Account.{of_meter};
 ghost use Rattle.sw_cage.specs.Accounts.{layout_of, is_closed};
-ghost use Rattle.sw_cage.specs.Advance.{opens_of, closes_of};
+ghost use Rattle.sw_cage.specs.Cage.{ScanSeen};
+ghost use Rattle.sw_cage.specs.Advance.{opens_of, closes_of, moves_from, next_place, awaits};
 ghost use Rattle.sw_cage.specs.Steps.{moves_of};
-ghost use Rattle.sw_cage.specs.Moves.{MayOpenNext, MayCloseNext, MayMove, RelayCallFailed};
+ghost use Rattle.sw_cage.specs.Moves.{MayOpenNext, MayCloseNext, MayMove, MayGoOn, RelayCallFailed};
 ghost use Rattle.sw_cage.specs.TakenSeen.{taken_seen};
 ghost use Rattle.sw_cage.specs.Outcome.{Moved, IsSent, Arrives, AdvancesOrFails};
 
@@ -21,26 +22,51 @@ use sw_base::Chan;
 use sw_card::{CardFault, Meter, MeterCard, Relay};
 use sw_trigger::Awaited;
 
-/// Makes the moves, and tells what the scan awaits now that it has come there. After a fault every relay is open.
+/// Goes past what the scan awaits, and on to the next that it awaits. A scan that is over leaves `None`.
+pub(crate) fn go_past<R: Relay, M: Meter>(
+    slots: &mut Slots<R, M>,
+    out: &mut Tickets,
+    scan: &mut Option<Scan>,
+    number: u64,
+) -> Taken<M>
+    requires runs { is_some scan.old ≡ true }
+    requires awaits { (at : ScanSeen) → scan.old ≡ Some at → awaits at ≡ None → ⊥ }
+    requires may { (at : ScanSeen) → scan.old ≡ Some at
+        → MayGoOn (layout_of slots.old) (is_closed slots.old) at.setup (at.index + 1) }
+    ensures { (at : ScanSeen) → scan.old ≡ Some at → AdvancesOrFails (record { cards = slots.old; out = out.old }) number
+        (moves_from at.setup (at.index + 1)) (next_place at.setup (at.index + 1)) (taken_seen result)
+        (record { cards = slots.new; out = out.new }) scan.new }
+{
+    let Some(at) = scan else {
+        unreachable!();
+    };
+    let moves = at.advance();
+    go_on(slots, out, scan, number, moves)
+}
+
+/// Makes the moves, and tells what the scan awaits now that it has come there. After a fault every relay is open. A
+/// scan that is over leaves `None`.
 pub(crate) fn go_on<R: Relay, M: Meter>(
     slots: &mut Slots<R, M>,
     out: &mut Tickets,
-    scan: Scan,
+    scan: &mut Option<Scan>,
     number: u64,
     moves: Moves,
-) -> (Option<Scan>, Taken<M>)
-    requires slot_in { (1 ≤ scan.setup.meter) × (scan.setup.meter ≤ most_slots) }
-    requires meter { has_meter (layout_of slots.old) scan.setup.meter ≡ true }
+) -> Taken<M>
+    requires runs { is_some scan.old ≡ true }
+    requires slot_in { (at : ScanSeen) → scan.old ≡ Some at → (1 ≤ at.setup.meter) × (at.setup.meter ≤ most_slots) }
+    requires meter { (at : ScanSeen) → scan.old ≡ Some at → has_meter (layout_of slots.old) at.setup.meter ≡ true }
     requires may { MayMove (layout_of slots.old) (is_closed slots.old) moves.to_open moves.to_close }
-    ensures { AdvancesOrFails (record { cards = slots.old; out = out.old }) number (moves_of moves) scan
-        (taken_seen result.1)
-        (record { cards = slots.new; out = out.new }) result.0 }
+    ensures { (at : ScanSeen) → scan.old ≡ Some at → AdvancesOrFails (record { cards = slots.old; out = out.old }) number
+        (moves_of moves) at (taken_seen result)
+        (record { cards = slots.new; out = out.new }) scan.new }
 {
     match make_moves(slots, moves) {
         Ok(()) => return arrive(slots, out, scan, number),
         Err(_) => {
             slots.open_all();
-            return (None, Taken::Fault);
+            *scan = None;
+            return Taken::Fault;
         }
     }
 }
@@ -84,30 +110,34 @@ fn close_then<R: Relay, M: Meter>(
     }
 }
 
-/// What the scan awaits where it stands; for a reading its meter goes out.
+/// What the scan awaits where it stands; for a reading its meter goes out. A scan that is over leaves `None`.
 fn arrive<R: Relay, M: Meter>(
     slots: &mut Slots<R, M>,
     out: &mut Tickets,
-    scan: Scan,
+    scan: &mut Option<Scan>,
     number: u64,
-) -> (Option<Scan>, Taken<M>)
-    requires slot_in { (1 ≤ scan.setup.meter) × (scan.setup.meter ≤ most_slots) }
-    requires meter { has_meter (layout_of slots.old) scan.setup.meter ≡ true }
-    ensures { Arrives (record { cards = slots.old; out = out.old }) number scan (taken_seen result.1)
-        (record { cards = slots.new; out = out.new }) result.0 }
+) -> Taken<M>
+    requires runs { is_some scan.old ≡ true }
+    requires slot_in { (at : ScanSeen) → scan.old ≡ Some at → (1 ≤ at.setup.meter) × (at.setup.meter ≤ most_slots) }
+    requires meter { (at : ScanSeen) → scan.old ≡ Some at → has_meter (layout_of slots.old) at.setup.meter ≡ true }
+    ensures { (at : ScanSeen) → scan.old ≡ Some at → Arrives (record { cards = slots.old; out = out.old }) number at
+        (taken_seen result) (record { cards = slots.new; out = out.new }) scan.new }
 {
+    let Some(at) = &*scan else {
+        unreachable!();
+    };
     let ticket = Ticket {
         scan: number,
-        index: scan.index(),
+        index: at.index(),
     };
-    match scan.awaited() {
-        None => return (None, Taken::Ended),
-        Some(Awaited::Wait(_)) => return (Some(scan), Taken::Waits),
-        Some(Awaited::Pause(micros)) => return (Some(scan), Taken::Pause(ticket, micros)),
-        Some(Awaited::Read) => {
-            let job = send_out(slots, out, scan.meter(), ticket);
-            return (Some(scan), Taken::Job(job));
+    match at.awaited() {
+        None => {
+            *scan = None;
+            return Taken::Ended;
         }
+        Some(Awaited::Wait(_)) => return Taken::Waits,
+        Some(Awaited::Pause(micros)) => return Taken::Pause(ticket, micros),
+        Some(Awaited::Read) => return Taken::Job(send_out(slots, out, at.meter(), ticket)),
     }
 }
 

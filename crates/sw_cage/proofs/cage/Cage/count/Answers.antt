@@ -1,9 +1,9 @@
-use Rattle.std.proofs.Common.{◌≡◌, ◌+◌, ◌<◌, ◌≤◌, ◌∙◌, sym, ap, subst, refl, Option, Some, arith, length, vec_capacity}
+use Rattle.std.proofs.Common.{◌+◌, ◌<◌, ◌≤◌, ap, subst, refl, Option, arith, length, vec_capacity}
 use Rattle.sw_trigger.specs.Agenda.{agenda}
 use Rattle.sw_trigger.specs.Counts.{reads}
 use Rattle.sw_cage.specs.Cage.{ScanSeen}
 use Rattle.sw_cage.specs.Takes.{TakesReturnThere}
-use Rattle.sw_cage.proofs.HappeningLemmas.{kept_failed, here_out, here_taken, room_for, room_at, pushed, counted, go_meter, go_may, go_kept}
+use Rattle.sw_cage.proofs.HappeningLemmas.{kept_failed, here_out, here_taken, taken_scan, room_for, room_at, pushed, counted, may_go, go_kept}
 use Rattle.sw_cage.proofs.cage.Cage.count.Goals as goal
 
 pub invariant_of-self : goal.invariant_of-self
@@ -25,35 +25,18 @@ unwrap-requires g c =
     let room : length c.self.inside.readings.items < vec_capacity c.self.inside.readings = room_for _ f.slot f.ticket _ c.self.invariant taken in
     c.push.ensures.succeeds (omega (arith, room, c.self.inside.readings.ok.0))
 
-pub go_on-scan-requires-clause-meter : goal.go_on-scan-requires-clause-meter
-go_on-scan-requires-clause-meter g c =
+pub go_past-requires-clause-may : goal.go_past-requires-clause-may
+go_past-requires-clause-may g c = λ at is.
     let f = c.finished.inside in
     let slot = ap (λ x. x.1.slot) c.finished.view_is in
     let ticket = ap (λ x. x.1.ticket) c.finished.view_is in
     let out = here_out _ c.args.self.now f.slot c.args.finished.1.slot f.ticket c.args.finished.1.ticket c.self.view_is slot ticket c.requires.out in
     let taken = here_taken _ c.args.self.now f.slot c.args.finished.1.slot f.ticket c.args.finished.1.ticket c.self.view_is slot ticket c.requires.taken in
-    let at = c.in-Some.scan in
-    let is : c.self.inside.scan ≡ Some at = sym c.take.ensures.value ∙ c.in-Some.is in
     let awaited = subst (λ (o : Option ScanSeen). TakesReturnThere c.self.inside.number o f.slot f.ticket) is taken in
     let items = pushed c.push.result c.unwrap.result c.self.inside.readings.items c.push.new.self.items c.in-Ok.reading c.push.ensures.items c.unwrap.ensures in
     let ready = counted _ at f.slot f.ticket f.meter.1 c.in-Ok.reading c.take_in.new.slots c.take_in.new.out c.push.new.self.items _ c.self.invariant is awaited
     out c.take_in.ensures.cards c.take_in.ensures.out items in
-    go_meter _ at.setup (at.index + 1) c.advance-moves.new.self ready.go c.advance-moves.ensures.scan
-
-pub go_on-scan-requires-clause-may : goal.go_on-scan-requires-clause-may
-go_on-scan-requires-clause-may g c =
-    let f = c.finished.inside in
-    let slot = ap (λ x. x.1.slot) c.finished.view_is in
-    let ticket = ap (λ x. x.1.ticket) c.finished.view_is in
-    let out = here_out _ c.args.self.now f.slot c.args.finished.1.slot f.ticket c.args.finished.1.ticket c.self.view_is slot ticket c.requires.out in
-    let taken = here_taken _ c.args.self.now f.slot c.args.finished.1.slot f.ticket c.args.finished.1.ticket c.self.view_is slot ticket c.requires.taken in
-    let at = c.in-Some.scan in
-    let is : c.self.inside.scan ≡ Some at = sym c.take.ensures.value ∙ c.in-Some.is in
-    let awaited = subst (λ (o : Option ScanSeen). TakesReturnThere c.self.inside.number o f.slot f.ticket) is taken in
-    let items = pushed c.push.result c.unwrap.result c.self.inside.readings.items c.push.new.self.items c.in-Ok.reading c.push.ensures.items c.unwrap.ensures in
-    let ready = counted _ at f.slot f.ticket f.meter.1 c.in-Ok.reading c.take_in.new.slots c.take_in.new.out c.push.new.self.items _ c.self.invariant is awaited
-    out c.take_in.ensures.cards c.take_in.ensures.out items in
-    go_may _ at.setup (at.index + 1) c.advance-moves.result.to_open c.advance-moves.result.to_close ready.held ready.go c.advance-moves.ensures.moves
+    may_go _ at.setup (at.index + 1) ready.held ready.go
 
 pub invariant_of-self-2 : goal.invariant_of-self-2
 invariant_of-self-2 g c =
@@ -62,12 +45,12 @@ invariant_of-self-2 g c =
     let ticket = ap (λ x. x.1.ticket) c.finished.view_is in
     let out = here_out _ c.args.self.now f.slot c.args.finished.1.slot f.ticket c.args.finished.1.ticket c.self.view_is slot ticket c.requires.out in
     let taken = here_taken _ c.args.self.now f.slot c.args.finished.1.slot f.ticket c.args.finished.1.ticket c.self.view_is slot ticket c.requires.taken in
-    let at = c.in-Some.scan in
-    let is : c.self.inside.scan ≡ Some at = sym c.take.ensures.value ∙ c.in-Some.is in
-    let awaited = subst (λ (o : Option ScanSeen). TakesReturnThere c.self.inside.number o f.slot f.ticket) is taken in
+    let runs = taken_scan _ _ f.slot f.ticket taken in
+    let at = runs.0 in
+    let is = runs.1.0 in
+    let awaited = runs.1.1 in
     let items = pushed c.push.result c.unwrap.result c.self.inside.readings.items c.push.new.self.items c.in-Ok.reading c.push.ensures.items c.unwrap.ensures in
     let ready = counted _ at f.slot f.ticket f.meter.1 c.in-Ok.reading c.take_in.new.slots c.take_in.new.out c.push.new.self.items _ c.self.invariant is awaited
     out c.take_in.ensures.cards c.take_in.ensures.out items in
     let room : reads (agenda at.setup) ≤ vec_capacity c.push.new.self = omega (arith, room_at _ at _ c.self.invariant is, c.push.ensures.capacity) in
-    go_kept _ _ at.setup (at.index + 1) _ _ c.advance-moves.new.self _ ready.held ready.go room c.go_on-scan.ensures c.advance-moves.ensures.moves
-    c.advance-moves.ensures.scan refl refl
+    go_kept _ _ at.setup (at.index + 1) _ _ _ _ ready.held ready.go room (c.go_past.ensures at is) refl refl refl refl

@@ -1,4 +1,4 @@
-use Rattle.std.proofs.Common.{◌≤◌, ◌+◌, ◌∙◌, ap, sym, subst, refl, arith, vec_capacity}
+use Rattle.std.proofs.Common.{◌≡◌, ◌≤◌, ◌+◌, ◌∙◌, ap, sym, subst, refl, arith, vec_capacity}
 use Rattle.sw_base.specs.Layout.{slot_at}
 use Rattle.sw_trigger.specs.Settings.{SettingsSeen, IsInRange}
 use Rattle.sw_trigger.specs.Agenda.{agenda}
@@ -14,8 +14,8 @@ use Rattle.sw_cage.proofs.HappeningLemmas.{begins, go_meter, go_may, go_kept}
 use Rattle.sw_cage.proofs.FailureLemmas.{failed_runs}
 use Rattle.sw_cage.proofs.cage.Cage.start.Goals as goal
 
-pub go_on-scan-requires-clause-meter : goal.go_on-scan-requires-clause-meter
-go_on-scan-requires-clause-meter g c =
+pub go_on-taken-requires-clause-meter : goal.go_on-taken-requires-clause-meter
+go_on-taken-requires-clause-meter g c = λ there is.
     let s = c.args.plan.settings in
     let same = c.ready_parts-settings.ensures.settings in
     let ready = c.ready_parts-settings.ensures.ready in
@@ -25,11 +25,11 @@ go_on-scan-requires-clause-meter g c =
     (ap cage_layout c.self.view_is ∙ c.requires.layout) (ap (λ (p : CageSeen). closed_list p.cards) c.self.view_is ∙ c.requires.closed)
     c.stay_safe.ensures.range refl c.in_ok-readings.ensures.items in
     let at = c.begin-scan.ensures.scan ∙ ap (λ (x : SettingsSeen). next_place x 0) same in
-    let moves = c.begin-scan.ensures.moves ∙ ap (λ (x : SettingsSeen). moves_from x 0) same in
-    go_meter _ s 0 c.begin-scan.result.0 go.go at
+    let here : there ≡ next_place s 0 = cc (is, at) in
+    go_meter _ s 0 there go.go here
 
-pub go_on-scan-requires-clause-may : goal.go_on-scan-requires-clause-may
-go_on-scan-requires-clause-may g c =
+pub go_on-taken-requires-clause-may : goal.go_on-taken-requires-clause-may
+go_on-taken-requires-clause-may g c =
     let s = c.args.plan.settings in
     let same = c.ready_parts-settings.ensures.settings in
     let ready = c.ready_parts-settings.ensures.ready in
@@ -56,12 +56,12 @@ invariant_of-self g c =
     let moves = c.begin-scan.ensures.moves ∙ ap (λ (x : SettingsSeen). moves_from x 0) same in
     let room : reads (agenda s) ≤ vec_capacity c.in_ok-readings.readings =
     omega (arith, c.in_ok-readings.ensures.exact, c.readings.ensures.readings, ap (λ (x : SettingsSeen). reads (agenda x)) same) in
-    go_kept _ _ s 0 _ _ c.begin-scan.result.0 _ go.held go.go room c.go_on-scan.ensures moves at refl refl
+    go_kept _ _ s 0 _ _ c.begin-scan.result.0 _ go.held go.go room (c.go_on-taken.ensures c.begin-scan.result.0 refl) moves at refl refl
 
 pub returns-clause-failed : goal.returns-clause-failed
 returns-clause-failed g c =
     let old : Occupancy = record { cards = c.self.inside.slots; out = c.self.inside.out } in
-    let new : Occupancy = record { cards = c.go_on-scan.new.slots; out = c.go_on-scan.new.out } in
-    sym (failed_runs old new (c.self.inside.number + 1) (moves_of c.begin-scan.result.1) c.begin-scan.result.0 (taken_seen c.go_on-scan.result.1)
-    c.go_on-scan.result.0 c.go_on-scan.ensures)
-    ∙ ap (λ (p : CageSeen). any_failed p.cards c.go_on-scan.new.slots) c.self.view_is
+    let new : Occupancy = record { cards = c.go_on-taken.new.slots; out = c.go_on-taken.new.out } in
+    sym (failed_runs old new (c.self.inside.number + 1) (moves_of c.begin-scan.result.1) c.begin-scan.result.0 (taken_seen c.go_on-taken.result)
+    c.go_on-taken.new.scan (c.go_on-taken.ensures c.begin-scan.result.0 refl))
+    ∙ ap (λ (p : CageSeen). any_failed p.cards c.go_on-taken.new.slots) c.self.view_is
