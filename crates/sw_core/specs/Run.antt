@@ -160,5 +160,5 @@ failures_after true cards = Some (map failures_in cards)
 -- the call, and if so, how often each has failed after it.
 abbrev pub StepIsDetermined : Type 0
 StepIsDetermined = (p q q' : Panel) (ask : AskSeen) (f f' : Bool) (a a' : AnswerSeen)
-    → Step p ask f a q → Step p ask f' a' q' → failures_after f q.cage.cards ≡ failures_after f' q'.cage.cards → IsPlain a → IsPlain a'
-    → KeepsKey p ask a → KeepsKey p ask a' → (a ≡ a') × (q ≡ q')
+    → Step p ask f a q → Step p ask f' a' q' → failures_after f q.cage.cards ≡ failures_after f' q'.cage.cards
+    → IsPlain a → IsPlain a' → KeepsKey p ask a → KeepsKey p ask a' → (a ≡ a') × (q ≡ q')

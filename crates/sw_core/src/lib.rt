@@ -1,9 +1,10 @@
-//! The whole state of the mainframe, and the one call that changes it: one step for each ask.
+//! The whole state of the mainframe, and the calls that change it: one step for each ask.
 //!
-//! The crate's contract to the layers above: `Core::apply` answers and goes on as the relation `Step` of
-//! `specs/Step.antt` says, with one line for each legal pair of ask and answer. Over every run of such steps no absent
-//! channel is closed and no two closed channels clash, and a scan does a prefix of its plan's agenda and ends; the laws
-//! in `laws.rt` say so, and what closing, opening, refusing, failing and ejecting come to.
+//! The crate's contract to the layers above: `Core::apply`, and `ask` and `finish`, which do its part for a session's
+//! ask and a meter's return, answer and go on as the relation `Step` of `specs/Step.antt` says, with one line for each
+//! legal pair of ask and answer; `Core::holds` tells of a step that would change nothing. Over every run of such steps
+//! no absent channel is closed and no two closed channels clash, and a scan does a prefix of its plan's agenda and ends;
+//! the laws in `laws.rt` say so, and what closing, opening, refusing, failing and ejecting come to.
 //!
 //! Not promised: that memory is there, and what a relay really does, which is its card's own word.
 #![tactic(auto)]

@@ -192,32 +192,24 @@ impl<R: Relay, M: Meter> Core<R, M> {
 
     /// Begins the scan of a plan, where what it was made of is so now. What it awaits now is left in `work`.
     #[inline(never)]
-    pub(crate) fn start_with(
+    #[tactic(auto, using(crate::proofs::Happened::refused_start))]
+    pub(crate) fn start(
         &mut self,
         alloc: Global,
         plan: Plan,
         work: &mut Option<Work<M>>,
     ) -> SessionAnswer
+        requires empty { work.old ≡ None }
         ensures { StepStart self.old plan (any_failed self.old.cage.cards self.new.cage.cards) result
             (work_seen work.new) self.new }
     {
-        let (answer, awaited) = self.start(alloc, plan);
-        *work = awaited;
-        answer
-    }
-
-    #[tactic(auto, using(crate::proofs::Happened::refused_start))]
-    fn start(&mut self, alloc: Global, plan: Plan) -> (SessionAnswer, Option<Work<M>>)
-        ensures { StepStart self.old plan (any_failed self.old.cage.cards self.new.cage.cards) result.0
-            (work_seen result.1) self.new }
-    {
         if let Some(error) = self.refuses_scan() {
-            return (SessionAnswer::Refused(error), None);
+            return SessionAnswer::Refused(error);
         }
         if !self.is_now(plan.snapshot()) {
-            return (SessionAnswer::Refused(ScpiError::SettingsConflict), None);
+            return SessionAnswer::Refused(ScpiError::SettingsConflict);
         }
-        self.begin(alloc, plan)
+        self.begin(alloc, plan, work)
     }
 
     /// Whether the snapshot tells what is so now. It takes no memory.
@@ -229,19 +221,21 @@ impl<R: Relay, M: Meter> Core<R, M> {
             && self.cage.has_closed(snapshot.closed.as_slice())
     }
 
-    fn begin(&mut self, alloc: Global, plan: Plan) -> (SessionAnswer, Option<Work<M>>)
+    fn begin(&mut self, alloc: Global, plan: Plan, work: &mut Option<Work<M>>) -> SessionAnswer
         requires may { MayScan self.old }
         requires same { plan ≡ snapshot_of self.old }
         requires ready { IsReady plan }
-        ensures { StepStart self.old plan (any_failed self.old.cage.cards self.new.cage.cards) result.0
-            (work_seen result.1) self.new }
+        requires empty { work.old ≡ None }
+        ensures { StepStart self.old plan (any_failed self.old.cage.cards self.new.cage.cards) result
+            (work_seen work.new) self.new }
     {
         match self.cage.start(alloc, plan) {
-            Err(_) => (SessionAnswer::Refused(ScpiError::OutOfMemory), None),
+            Err(_) => SessionAnswer::Refused(ScpiError::OutOfMemory),
             Ok(told) => {
                 set_card_fault(&mut self.status, tells_fault(&told));
                 let answer = started_answer(&told);
-                (answer, work_of(told))
+                *work = work_of(told);
+                answer
             }
         }
     }

@@ -1,6 +1,6 @@
-//! The whole state of the mainframe, and the one call that changes it.
+//! The whole state of the mainframe, and the calls that change it: `apply`, and its parts `ask` and `finish`.
 
-ghost use Rattle.std.specs.Prelude.{◌≡◌, ◌&&◌, Bool, IfOk, None, Some, false};
+ghost use Rattle.std.specs.Prelude.{◌≡◌, ◌&&◌, Bool, IfOk, None, Some, true, false};
 ghost use Rattle.sw_cage.specs.Change.{any_failed};
 ghost use Rattle.sw_status.specs.StatusModel.{summary_of};
 ghost use Rattle.sw_core.specs.Sessions.{IsJoined};
@@ -10,6 +10,7 @@ ghost use Rattle.sw_core.specs.Panel.{Panel, is_running, opening, opening_at};
 ghost use Rattle.sw_core.specs.Seats.{asker_of};
 ghost use Rattle.sw_core.specs.Step.{Step, Acts, StepSession, StepNew, StepJoin, StepAttach, StepJoined, is_held};
 ghost use Rattle.sw_core.specs.declared.ask.Ask.TheVariants as Ask;
+ghost use Rattle.sw_core.specs.declared.ask.SessionAnswer.TheVariants.{Hold};
 
 use crate::ask::{Answer, Ask, SessionAnswer, SessionAsk, Sid, Work};
 use crate::asks::{acts_unnumbered, asker, is_held, session_acts_unnumbered, unnumbered};
@@ -129,6 +130,26 @@ impl<R: Relay, M: Meter> Core<R, M> {
         let answer = self.session(alloc, ask, work);
         self.end_session_event(&answer);
         answer
+    }
+
+    /// Whether what a session asks would be held now, with nothing changed. An ask for a lock is answered no.
+    pub fn holds(&self, ask: &SessionAsk) -> bool
+        ensures { result ≡ true → Step self.now (AskSession ask.now) Bool.false
+            (SaysSession (Hold ask.now) None) self.now }
+    {
+        if self.events == u64::MAX {
+            return false;
+        }
+        let Some(sid) = asker(ask) else {
+            return false;
+        };
+        if !self.sessions.has(sid) {
+            return false;
+        }
+        if self.sessions.drops(sid, ask) {
+            return false;
+        }
+        self.sessions.shuts_out(sid, ask) || (is_held(ask) && self.cage.is_running())
     }
 
     /// Takes a meter back: one event, as `apply` does it.
@@ -286,7 +307,7 @@ impl<R: Relay, M: Meter> Core<R, M> {
             SessionAsk::Unit(_, command, available) => self.command(alloc, command, available),
             SessionAsk::Bus(_) => self.offer(Happening::Bus, ScpiError::TriggerIgnored, work),
             SessionAsk::Snapshot(_) => self.snapshot(alloc),
-            SessionAsk::Start(_, plan) => self.start_with(alloc, plan, work),
+            SessionAsk::Start(_, plan) => self.start(alloc, plan, work),
             SessionAsk::Join | SessionAsk::Attach(_) => unreachable!(),
             ask => self.sessions.serve(alloc, sid, ask),
         }

@@ -5,6 +5,7 @@ use Rattle.std.proofs.lemmas.List.{append-nil, map-append, replicate_more}
 use Rattle.sw_core.specs.declared.ask.Sid.{Sid}
 use Rattle.sw_core.specs.declared.ask.SessionAsk.{SessionAsk}
 use Rattle.sw_core.specs.declared.ask.SessionAnswer.{SessionAnswer}
+use Rattle.sw_core.specs.declared.ask.SessionAnswer.TheVariants.{Hold}
 use Rattle.sw_core.specs.declared.ask.Work.{Work}
 use Rattle.sw_core.specs.declared.ask.Answer.{Answer}
 use Rattle.sw_core.specs.Panel.{Panel}
@@ -135,6 +136,11 @@ passes-ask old mid new ask failed answer brings step work room available kept = 
     keeps = subst (λ (d : DeskSeen). Keeps kept.carried d brings new) (with-panel old mid work room available) kept.keeps;
   },
 )
+
+-- an ask that is held, with nothing changed
+pub passes-held : (d : DeskSeen) (ask : SessionAsk) → Step d.panel (AskSession ask) false (SaysSession (Hold ask) None) d.panel
+    → CorePasses d (Asked ask (Hold ask)) d
+passes-held d ask step = ([], record { failed = false; brings = None; after = d.panel; step = step; keeps = refl })
 
 -- a wait
 pub passes-wait : (old mid next new : DeskSeen) (piece : WorkSeen) (brings : Option WorkSeen) (limit : Option ℕ) → old ≡ record mid { work = piece ∷ mid.work }

@@ -17,6 +17,7 @@ use Rattle.sw_core.specs.declared.ask.Sid.{Sid}
 use Rattle.sw_core.specs.declared.ask.SessionAsk.{SessionAsk}
 use Rattle.sw_core.specs.declared.ask.SessionAnswer.{SessionAnswer}
 use Rattle.sw_core.specs.declared.ask.SessionAnswer.TheVariants.{Joined, Full, Stranger, Broken, Done, Snapshot, Refused, Hold, Worn, Missed, Max, Lock, Info}
+use Rattle.sw_session.specs.declared.desk.Wake.{Wake}
 use Rattle.sw_session.specs.declared.desk.Wake.TheVariants.{Again, Over}
 use Rattle.sw_session.specs.declared.talker.AfterUnit.{AfterUnit}
 use Rattle.sw_session.specs.declared.talker.AfterUnit.TheVariants.{Goes, Drops, Ends}
@@ -26,15 +27,17 @@ use Rattle.sw_session.specs.Talk.{Queues, Settles, Begins, begun_with, Concludes
 use Rattle.sw_session.specs.Talk.{IsExpansion}
 use Rattle.sw_session.specs.Talk.{Expanded, TalksUnits, TalksMessage, Talked, Overruns, Spot, stands_at, OnLine, TalksLine, has_answers, answer_line, written}
 use Rattle.sw_session.specs.Talk.{state, turns}
-use Rattle.sw_session.proofs.Led.{led-none, led-so, led-more, led-then}
+use Rattle.sw_session.proofs.Led.{led-none, led-one, led-so, led-more, led-then}
 
 -- an ask that was held turn times is asked, or given up
 abbrev pub Awaits : Sid → ℕ → SessionAsk → List Entry → SessionAnswer → List Entry → Type 0
 Awaits sid turn ask trace final rest = MatchBool (turn == turns) (Queues sid SettingsConflict trace final rest) (Settles sid turn ask trace final rest)
 
--- what is settled from the rest on is settled from the trace on
+-- what was held turn times, and is held once more, is settled from the rest on: then it is settled from the trace on
 abbrev pub SettlesBy : Sid → ℕ → SessionAsk → List Entry → List Entry → Type 0
-SettlesBy sid turn ask trace mid = (final : SessionAnswer) (rest : List Entry) → Awaits sid turn ask mid final rest → Settles sid 0 ask trace final rest
+SettlesBy sid turn ask trace mid =
+    (final : SessionAnswer) (rest : List Entry) → Settles sid turn ask (Asked ask (Hold ask) ∷ mid) final rest
+    → Settles sid 0 ask (Asked ask (Hold ask) ∷ trace) final rest
 
 awaits-open : (sid : Sid) (turn : ℕ) (ask : SessionAsk) (t : List Entry) (final : SessionAnswer) (rest : List Entry) → turn < turns
     → Settles sid turn ask t final rest → Awaits sid turn ask t final rest
@@ -48,39 +51,41 @@ awaits-last sid turn ask t final rest is s =
     let same : (turn == turns) ≡ true = grind (arith, nat_tests) in
     subst (λ (b : Bool). MatchBool b (Queues sid SettingsConflict t final rest) (Settles sid turn ask t final rest)) (sym same) s
 
+pub settle-start : {D : Type 0} (passes : D → Entry → D → Type 0) (d : D) (sid : Sid) (ask : SessionAsk) → Led passes d d (SettlesBy sid 0 ask)
+settle-start passes d sid ask = led-none passes d (SettlesBy sid 0 ask) (λ rest final rest' s. s)
+
 pub settle-again : {D : Type 0} (passes : D → Entry → D → Type 0) (d0 d1 d2 d3 : D) (sid : Sid) (turn : ℕ) (ask asked held : SessionAsk) (left : Option ℕ)
-    → turn < turns → asked ≡ ask → Led passes d0 d1 (SettlesBy sid turn ask)
-    → passes d1 (Asked asked (Hold held)) d2 → passes d2 (Waited None (Again left)) d3 → Led passes d0 d3 (SettlesBy sid (turn + 1) ask)
-settle-again passes d0 d1 d2 d3 sid turn ask asked held left lt same led p q =
-    led-more passes d0 d1 d3 (SettlesBy sid turn ask) (SettlesBy sid (turn + 1) ask) (Asked asked (Hold held) ∷ Waited None (Again left) ∷ []) led (
+    → turn + 1 < turns → asked ≡ ask → held ≡ ask → Led passes d0 d1 (SettlesBy sid turn ask)
+    → passes d1 (Waited None (Again left)) d2 → passes d2 (Asked asked (Hold held)) d3 → Led passes d0 d3 (SettlesBy sid (turn + 1) ask)
+settle-again passes d0 d1 d2 d3 sid turn ask asked held left lt same back led p q =
+    let q' : passes d2 (Asked ask (Hold ask)) d3 =
+    subst (λ (x : SessionAsk). passes d2 (Asked ask (Hold x)) d3) back (subst (λ (x : SessionAsk). passes d2 (Asked x (Hold held)) d3) same q) in
+    led-more passes d0 d1 d3 (SettlesBy sid turn ask) (SettlesBy sid (turn + 1) ask) (Waited None (Again left) ∷ Asked ask (Hold ask) ∷ []) led (
       d2,
       p,
-      (d3, q, refl),
+      (d3, q', refl),
     )
-    (λ t rest so final rest' w. so final rest' (awaits-open sid turn ask (Asked asked (Hold held) ∷ Waited None (Again left) ∷ rest) final rest' lt (same, w)))
+    (λ t rest so final rest' w. so final rest' (refl, awaits-open sid (turn + 1) ask (Asked ask (Hold ask) ∷ rest) final rest' lt w))
 
-pub settle-over : {D : Type 0} (passes : D → Entry → D
-    → Type 0) (d0 d1 d2 d3 d4 : D) (sid : Sid) (turn : ℕ) (ask asked held : SessionAsk) (final : SessionAnswer) → turn < turns → asked ≡ ask
-    → Led passes d0 d1 (SettlesBy sid turn ask)
-    → passes d1 (Asked asked (Hold held)) d2 → passes d2 (Waited None Over) d3 → Led passes d3 d4 (λ t rest. Queues sid SettingsConflict t final rest)
-    → Led passes d0 d4 (λ t rest. Settles sid 0 ask t final rest)
-settle-over passes d0 d1 d2 d3 d4 sid turn ask asked held final lt same led p q last =
-    let P : List Entry → List Entry → Type 0 = λ t mid. (rest : List Entry) → Queues sid SettingsConflict mid final rest → Settles sid 0 ask t final rest in
-    let held' : Led passes d0 d3 P = led-more passes d0 d1 d3 (SettlesBy sid turn ask) P (Asked asked (Hold held) ∷ Waited None Over ∷ []) led (
-      d2,
-      p,
-      (d3, q, refl),
-    )
-    (λ t mid so rest w. so final rest (awaits-open sid turn ask (Asked asked (Hold held) ∷ Waited None Over ∷ mid) final rest lt (same, w))) in
-    led-then passes d0 d3 d4 P (λ t rest. Queues sid SettingsConflict t final rest) (λ t rest. Settles sid 0 ask t final rest) held' last (λ t u rest so w.
-    so rest w)
+-- the wait was over, or was the last
+given-up : (sid : Sid) (turn : ℕ) (ask : SessionAsk) (wake : Wake) (t : List Entry) (final : SessionAnswer) (rest : List Entry)
+    → (wake ≡ Over) ⊎ (turn + 1 ≡ turns)
+    → Queues sid SettingsConflict t final rest → Settles sid turn ask (Asked ask (Hold ask) ∷ Waited None wake ∷ t) final rest
+given-up sid turn ask Over t final rest why w = (refl, w)
+given-up sid turn ask (Again left) t final rest (inl over) w = absurd (cc over)
+given-up sid turn ask (Again left) t final rest (inr last) w = (refl, awaits-last sid (turn + 1) ask t final rest last w)
 
-pub settle-end : {D : Type 0} (passes : D → Entry → D → Type 0) (d0 d1 d2 : D) (sid : Sid) (turn : ℕ) (ask : SessionAsk) (final : SessionAnswer) → turn ≡ turns
-    → Led passes d0 d1 (SettlesBy sid turn ask)
-    → Led passes d1 d2 (λ t rest. Queues sid SettingsConflict t final rest) → Led passes d0 d2 (λ t rest. Settles sid 0 ask t final rest)
-settle-end passes d0 d1 d2 sid turn ask final is led last =
-    led-then passes d0 d1 d2 (SettlesBy sid turn ask) (λ t rest. Queues sid SettingsConflict t final rest) (λ t rest. Settles sid 0 ask t final rest) led last
-    (λ t u rest so w. so final rest (awaits-last sid turn ask u final rest is w))
+pub settle-end : {D : Type 0} (passes : D → Entry → D → Type 0) (d0 d1 d2 d3 : D) (sid : Sid) (turn : ℕ) (ask : SessionAsk) (wake : Wake)
+    (final : SessionAnswer) → (wake ≡ Over) ⊎ (turn + 1 ≡ turns) → Led passes d0 d1 (SettlesBy sid turn ask)
+    → passes d1 (Waited None wake) d2 → Led passes d2 d3 (λ t rest. Queues sid SettingsConflict t final rest)
+    → Led passes d0 d3 (λ t rest. Settles sid 0 ask (Asked ask (Hold ask) ∷ t) final rest)
+settle-end passes d0 d1 d2 d3 sid turn ask wake final why led p last =
+    let P : List Entry → List Entry → Type 0 = λ t mid. (rest : List Entry) → Queues sid SettingsConflict mid final rest
+    → Settles sid 0 ask (Asked ask (Hold ask) ∷ t) final rest in
+    let held' : Led passes d0 d2 P = led-more passes d0 d1 d2 (SettlesBy sid turn ask) P (Waited None wake ∷ []) led (d2, p, refl)
+    (λ t mid so rest w. so final rest (given-up sid turn ask wake mid final rest why w)) in
+    led-then passes d0 d2 d3 P (λ t rest. Queues sid SettingsConflict t final rest) (λ t rest. Settles sid 0 ask (Asked ask (Hold ask) ∷ t) final rest) held' last
+    (λ t u rest so w. so rest w)
 
 settles-told : (sid : Sid) (turn : ℕ) (ask asked : SessionAsk) (final : SessionAnswer) (rest : List Entry) → asked ≡ ask
     → ((held : SessionAsk) → final ≡ Hold held → ⊥) → Settles sid turn ask (Asked asked final ∷ rest) final rest
@@ -98,12 +103,35 @@ settles-told sid turn ask asked (Refused e) rest same differ = (same, refl, refl
 settles-told sid turn ask asked (Worn back) rest same differ = (same, refl, refl)
 settles-told sid turn ask asked (Snapshot s) rest same differ = (same, refl, refl)
 
-pub settle-told : {D : Type 0} (passes : D → Entry → D → Type 0) (d0 d1 d2 : D) (sid : Sid) (turn : ℕ) (ask asked : SessionAsk) (final : SessionAnswer)
-    → turn < turns → asked ≡ ask → ((held : SessionAsk) → final ≡ Hold held → ⊥) → Led passes d0 d1 (SettlesBy sid turn ask)
-    → passes d1 (Asked asked final) d2 → Led passes d0 d2 (λ t rest. Settles sid 0 ask t final rest)
-settle-told passes d0 d1 d2 sid turn ask asked final lt same differ led p =
-    led-more passes d0 d1 d2 (SettlesBy sid turn ask) (λ t rest. Settles sid 0 ask t final rest) (Asked asked final ∷ []) led (d2, p, refl)
-    (λ t rest so. so final rest (awaits-open sid turn ask (Asked asked final ∷ rest) final rest lt (settles-told sid turn ask asked final rest same differ)))
+pub settle-told : {D : Type 0} (passes : D → Entry → D → Type 0) (d0 d1 d2 d3 : D) (sid : Sid) (turn : ℕ) (ask asked : SessionAsk) (left : Option ℕ)
+    (final : SessionAnswer) → turn + 1 < turns → asked ≡ ask → ((held : SessionAsk) → final ≡ Hold held → ⊥) → Led passes d0 d1 (SettlesBy sid turn ask)
+    → passes d1 (Waited None (Again left)) d2 → passes d2 (Asked asked final) d3
+    → Led passes d0 d3 (λ t rest. Settles sid 0 ask (Asked ask (Hold ask) ∷ t) final rest)
+settle-told passes d0 d1 d2 d3 sid turn ask asked left final lt same differ led p q =
+    led-more passes d0 d1 d3 (SettlesBy sid turn ask) (λ t rest. Settles sid 0 ask (Asked ask (Hold ask) ∷ t) final rest)
+    (Waited None (Again left) ∷ Asked asked final ∷ []) led (d2, p, (d3, q, refl))
+    (λ t rest so. so final rest (
+      refl,
+      awaits-open sid (turn + 1) ask (Asked asked final ∷ rest) final rest lt
+          (settles-told sid (turn + 1) ask asked final rest same differ),
+    ))
+
+-- the first ask is held, or answered
+pub settle-held : {D : Type 0} (passes : D → Entry → D → Type 0) (d0 d1 d2 : D) (sid : Sid) (ask held : SessionAsk) (final : SessionAnswer) → held ≡ ask
+    → passes d0 (Asked ask (Hold held)) d1 → Led passes d1 d2 (λ t rest. Settles sid 0 held (Asked held (Hold held) ∷ t) final rest)
+    → Led passes d0 d2 (λ t rest. Settles sid 0 ask t final rest)
+settle-held passes d0 d1 d2 sid ask held final back p led =
+    let p' : passes d0 (Asked held (Hold held)) d1 = subst (λ (x : SessionAsk). passes d0 (Asked x (Hold held)) d1) (sym back) p in
+    subst (λ (x : SessionAsk). Led passes d0 d2 (λ t rest. Settles sid 0 x t final rest)) back (record {
+      trace = Asked held (Hold held) ∷ led.trace;
+      leads = (d1, p', led.leads);
+      admits = led.admits;
+    })
+
+pub settle-first : {D : Type 0} (passes : D → Entry → D → Type 0) (d0 d1 : D) (sid : Sid) (ask : SessionAsk) (final : SessionAnswer)
+    → ((held : SessionAsk) → final ≡ Hold held → ⊥) → passes d0 (Asked ask final) d1 → Led passes d0 d1 (λ t rest. Settles sid 0 ask t final rest)
+settle-first passes d0 d1 sid ask final differ p =
+    led-one passes d0 d1 (λ t rest. Settles sid 0 ask t final rest) (Asked ask final) p (λ rest. settles-told sid 0 ask ask final rest refl differ)
 
 -- a unit that was begun is concluded
 pub serve-unit : {D : Type 0} (passes : D → Entry → D → Type 0) (d0 d1 d2 : D) (sid : Sid) (command : Result Command ScpiError) (answered : Bool) (path : Nodes)

@@ -1,8 +1,9 @@
 //! Beginning units: macro commands, asking a desk until it answers, beginning scans, and queuing errors.
 
-ghost use Rattle.std.specs.Prelude.{◌≡◌, Ok, true, false};
+ghost use Rattle.std.specs.Prelude.{◌≡◌, ◌∷◌, Ok, true, false};
 ghost use Rattle.sw_macro.specs.Table.{Table};
-ghost use Rattle.sw_session.specs.Trace.{Led};
+ghost use Rattle.sw_core.specs.declared.ask.SessionAnswer.TheVariants.{Hold};
+ghost use Rattle.sw_session.specs.Trace.{Led, Asked};
 ghost use Rattle.sw_session.specs.Talk.{Queues, Settles, Begins, begun_with, Reports, StartsScan, Plans, table_reset};
 ghost use Rattle.sw_session.specs.Talk.{is_done, is_own, after_queueing};
 
@@ -156,16 +157,35 @@ fn plan<D: Desk>(desk: &mut D, sid: Sid, alloc: Global, told: SessionAnswer) -> 
 pub fn settle<D: Desk>(desk: &mut D, sid: Sid, ask: SessionAsk) -> SessionAnswer
     ensures { Led D.passes desk.old desk.new (λ t rest. Settles sid 0 ask t result rest) }
 {
-    let mut ask = ask;
-    for _turn in 0..TURNS {
-        match desk.ask(ask) {
-            SessionAnswer::Hold(held) => match desk.wait(None) {
-                Wake::Again(_) => ask = held,
-                Wake::Over => return queue(desk, sid, ScpiError::SettingsConflict),
-            },
-            answer => return answer,
+    match desk.ask(ask) {
+        SessionAnswer::Hold(held) => wait_out(desk, sid, held),
+        answer => answer,
+    }
+}
+
+/// Waits until an ask that was held once isn't held any more. After each wait it is asked again, unless the desk says
+/// that it is held still.
+#[inline(never)]
+fn wait_out<D: Desk>(desk: &mut D, sid: Sid, held: SessionAsk) -> SessionAnswer
+    ensures { Led D.passes desk.old desk.new (λ t rest.
+        Settles sid 0 held (Asked held (Hold held) ∷ t) result rest) }
+{
+    let mut ask = held;
+    for _turn in 0..TURNS - 1 {
+        if let Wake::Over = desk.wait(None) {
+            drop(ask);
+            return queue(desk, sid, ScpiError::SettingsConflict);
+        }
+        if !desk.holds(&ask) {
+            match desk.ask(ask) {
+                SessionAnswer::Hold(back) => ask = back,
+                answer => return answer,
+            }
         }
     }
+    // Whatever the last wait ends with, the ask is given up.
+    let _ = desk.wait(None);
+    drop(ask);
     queue(desk, sid, ScpiError::SettingsConflict)
 }
 

@@ -189,6 +189,10 @@ impl<R: Relay, M: Meter> Desk for CoreDesk<R, M> {
         answer
     }
 
+    fn holds(&self, ask: &SessionAsk) -> bool {
+        self.core.holds(ask)
+    }
+
     fn wait(&mut self, limit_ms: Option<u32>) -> Wake {
         match self.take() {
             Some(piece) => {

@@ -24,6 +24,8 @@ pub struct View {
 
 /// What takes a session's asks.
 pub trait Desk {
+    ghost use Rattle.std.specs.Prelude.{◌≡◌, true};
+    ghost use Rattle.sw_core.specs.declared.ask.SessionAnswer.TheVariants.{Hold};
     ghost use Rattle.sw_session.specs.Trace.{Entry, Asked, Waited, Polled, Noted, HandsBackAsk, LeavesOf};
 
     /// The desk may go from one state to another by this entry.
@@ -33,6 +35,14 @@ pub trait Desk {
     fn ask(&mut self, ask: SessionAsk) -> SessionAnswer
         ensures passes { passes self.old (Asked ask result) self.new }
         ensures back { HandsBackAsk ask result };
+
+    /// Whether an ask that was held would be held again now, with nothing changed. A desk may answer no at any time.
+    fn holds(&self, ask: &SessionAsk) -> bool
+        ensures { result ≡ true → passes self.now (Asked ask.now (Hold ask.now)) self.now }
+    {
+        let _ = ask;
+        false
+    }
 
     /// Waits until an ask that was held may be asked again, for so many milliseconds at most where there is a limit.
     fn wait(&mut self, limit_ms: Option<u32>) -> Wake

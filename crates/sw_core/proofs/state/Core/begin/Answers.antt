@@ -20,7 +20,7 @@ returns-in-Err g c =
       opc_waits = c.self.inside.opc_waits;
       events = c.self.inside.events;
     } in
-    rw (← c.self.view_is) (unbegun p c.args.plan c.start.new.self c.in-Err.ensures.err (subst (λ (x : Panel).
+    rw (c.requires.empty, ← c.self.view_is) (unbegun p c.args.plan c.start.new.self c.in-Err.ensures.err (subst (λ (x : Panel).
     MayScan x) (sym c.self.view_is) c.requires.may) (subst (λ (x : Panel). c.args.plan ≡ snapshot_of x) (sym c.self.view_is) c.requires.same))
 
 pub returns-in-Ok : goal.returns-in-Ok

@@ -4,6 +4,6 @@ use Rattle.sw_core.proofs.state.Core.start.Goals as goal
 
 pub returns-then-not-is_now : goal.returns-then-not-is_now
 returns-then-not-is_now g c =
-    stale_start c.args.self.now c.args.plan c.in_default.ensures.none (λ e.
+    rw c.requires.empty (stale_start c.args.self.now c.args.plan c.in_default.ensures.none (λ e.
     let yes : c.is_now.result ≡ true = c.is_now.ensures.1 (c.snapshot.ensures.snapshot ∙ e) in
-    absurd (cc (yes, c.if-not-is_now.true)))
+    absurd (cc (yes, c.if-not-is_now.true))))
