@@ -4,6 +4,7 @@ ghost use Rattle.std.specs.Prelude.{◌≡◌, false};
 ghost use Rattle.sw_core.specs.Seen.{ask_seen, answer_seen, AskSession, HandsBack};
 ghost use Rattle.sw_core.specs.Seats.{asker_of, is_dropped, is_shut_out};
 ghost use Rattle.sw_core.specs.Step.{acts_unnumbered, is_held, IsWorn};
+ghost use Rattle.sw_core.specs.declared.ask.SessionAnswer.TheVariants.{Hold, Worn};
 
 use crate::ask::{Answer, Ask, SessionAnswer, SessionAsk, Sid};
 use sw_card::{Meter, Relay};
@@ -86,6 +87,22 @@ pub fn acts_unnumbered<R: Relay, M: Meter>(ask: &Ask<R, M>) -> bool
     }
 }
 
+/// Hands a session's ask back that can't be numbered. Out of line, as `held`, so that a caller leaves its ask in place.
+#[inline(never)]
+pub fn worn(ask: SessionAsk) -> SessionAnswer
+    ensures { result ≡ Worn ask }
+{
+    SessionAnswer::Worn(ask)
+}
+
+/// Hands a session's ask back that is held.
+#[inline(never)]
+pub fn held(ask: SessionAsk) -> SessionAnswer
+    ensures { result ≡ Hold ask }
+{
+    SessionAnswer::Hold(ask)
+}
+
 /// Hands an ask back that can't be numbered.
 #[inline(never)]
 pub fn unnumbered<R: Relay, M: Meter>(ask: Ask<R, M>) -> Answer<R, M>
@@ -94,7 +111,7 @@ pub fn unnumbered<R: Relay, M: Meter>(ask: Ask<R, M>) -> Answer<R, M>
     ensures back { HandsBack ask result }
 {
     match ask {
-        Ask::Session(ask) => Answer::Session(SessionAnswer::Worn(ask), None),
+        Ask::Session(ask) => Answer::Session(worn(ask), None),
         ask => Answer::Worn(ask),
     }
 }

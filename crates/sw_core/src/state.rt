@@ -13,7 +13,9 @@ ghost use Rattle.sw_core.specs.declared.ask.Ask.TheVariants as Ask;
 ghost use Rattle.sw_core.specs.declared.ask.SessionAnswer.TheVariants.{Hold};
 
 use crate::ask::{Answer, Ask, SessionAnswer, SessionAsk, Sid, Work};
-use crate::asks::{acts_unnumbered, asker, is_held, session_acts_unnumbered, unnumbered};
+use crate::asks::{
+    acts_unnumbered, asker, held, is_held, session_acts_unnumbered, unnumbered, worn,
+};
 use crate::registers::clear_card_fault;
 use crate::sessions::Sessions;
 use std::alloc::{AllocError, Global};
@@ -125,7 +127,7 @@ impl<R: Relay, M: Meter> Core<R, M> {
             (SaysSession result (work_seen work.new)) self.new }
     {
         if self.events == u64::MAX && !session_acts_unnumbered(&ask) {
-            return SessionAnswer::Worn(ask);
+            return worn(ask);
         }
         let answer = self.session(alloc, ask, work);
         self.end_session_event(&answer);
@@ -237,10 +239,10 @@ impl<R: Relay, M: Meter> Core<R, M> {
             return SessionAnswer::Broken;
         }
         if self.sessions.shuts_out(sid, &ask) {
-            return SessionAnswer::Hold(ask);
+            return held(ask);
         }
         if is_held(&ask) && self.cage.is_running() {
-            return SessionAnswer::Hold(ask);
+            return held(ask);
         }
         self.joined(alloc, sid, ask, work)
     }
