@@ -81,8 +81,19 @@ impl<R: Relay, M: Meter> CoreDesk<R, M> {
     }
 
     /// Keeps a piece of work for a wait.
-    #[inline(never)]
     fn keep_piece(&mut self, piece: Work<M>)
+        ensures { IsKept self.old (work_seen (Some piece)) self.new }
+    {
+        if self.work.len() < self.work.capacity() {
+            self.work.push_back(piece).unwrap();
+        } else {
+            self.keep_or_carry(piece);
+        }
+    }
+
+    /// Keeps a piece of work for a wait, where the room for it has to grow; where it can't, pieces are carried out.
+    #[inline(never)]
+    fn keep_or_carry(&mut self, piece: Work<M>)
         ensures { IsKept self.old (work_seen (Some piece)) self.new }
     {
         let mut work = Some(piece);

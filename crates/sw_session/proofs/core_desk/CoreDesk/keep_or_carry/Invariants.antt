@@ -1,7 +1,7 @@
 use Rattle.std.proofs.Common.{Some}
 use Rattle.sw_core.specs.Seen.{work_seen}
 use Rattle.sw_session.proofs.Keeping.{KeepsBy, weight}
-use Rattle.sw_session.proofs.core_desk.CoreDesk.keep_piece.Given as goal
+use Rattle.sw_session.proofs.core_desk.CoreDesk.keep_or_carry.Given as goal
 
 abbrev pub invariant-pieces : goal.invariant-pieces
 invariant-pieces g l = KeepsBy l.fn.self (work_seen (Some l.fn.piece)) l.self (work_seen l.work)

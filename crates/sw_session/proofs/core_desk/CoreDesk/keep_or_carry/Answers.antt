@@ -1,5 +1,5 @@
 use Rattle.sw_session.proofs.Keeping.{keeps-start, keeps-none, keeps-last, keeps-on, weight-falls}
-use Rattle.sw_session.proofs.core_desk.CoreDesk.keep_piece.Goals as goal
+use Rattle.sw_session.proofs.core_desk.CoreDesk.keep_or_carry.Goals as goal
 
 pub pieces-init : goal.pieces-init
 pieces-init g c = keeps-start _ _
