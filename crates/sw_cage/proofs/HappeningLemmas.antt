@@ -4,6 +4,7 @@ use Rattle.std.proofs.Common.{arith, is_some, length-append, Result, Ok, if◌th
 use Rattle.std.specs.Result.{is_ok}
 use Rattle.sw_base.specs.Limits.{most_slots, most_channels}
 use mathlib.Core.Path.{fun_ext}
+use Rattle.sw_channel.specs.Positions.{Position}
 use Rattle.sw_base.specs.Layout.{Channel, Layout, slot_at, has_meter}
 use Rattle.sw_base.specs.declared.reading.Reading.{Reading}
 use Rattle.sw_card.specs.Account.{MeterAccount, of_meter}
@@ -41,7 +42,7 @@ pub go_slot : (p : CageSeen) (s : SettingsSeen) (i : ℕ) (at : ScanSeen) → Ca
     → (1 ≤ at.setup.meter) × (at.setup.meter ≤ most_slots)
 go_slot p s i at g e = subst (λ (x : ScanSeen). (1 ≤ x.setup.meter) × (x.setup.meter ≤ most_slots)) (sym e) g.range.meter
 
-pub go_may : (p : CageSeen) (s : SettingsSeen) (i : ℕ) (o k : Option Channel) → IsHeld p → CanGo p s i → opens_of o ++ closes_of k ≡ moves_from s i
+pub go_may : (p : CageSeen) (s : SettingsSeen) (i : ℕ) (o k : Option Position) → IsHeld p → CanGo p s i → opens_of o ++ closes_of k ≡ moves_from s i
     → MayMove (layout_of p.cards) (is_closed p.cards) o k
 go_may p s i o k held g e = may_move_in (layout_of p.cards) p.out (lengths p held) (is_closed p.cards) o k
     (may_move (cage_layout p) (is_closed p.cards) s i g.way o k e)

@@ -1,12 +1,15 @@
 -- A scan's moves, by the calls on the cards that make them.
-use Rattle.std.proofs.Common.{◌≡◌, ℕ, ◌==◌, ◌||◌, ◌&&◌, not, Bool, true, false, List, [], ◌∷◌, ◌++◌, Option, None, Some, refl, sym, ◌∙◌, ap, subst, arith}
+use Rattle.std.proofs.Common.{◌≡◌, ℕ, ◌==◌, ◌||◌, ◌&&◌, not, Bool, true, false, List, [], ◌∷◌, ◌++◌, Option, None, Some, refl, sym, ◌∙◌, ap, subst, arith, ◌+◌, ◌<◌, length, drop}
+use Rattle.std.specs.Prelude.{slice_index_or}
 use Rattle.std.proofs.Common.{if◌then◌else◌, Result, Ok, Err, OnErr}
 use mathlib.Core.Path.{fun_ext}
 use Rattle.std.proofs.lemmas.Grind.{common_steps}
+use Rattle.sw_channel.specs.Positions.{Position}
 use Rattle.sw_base.specs.Layout.{Channel, SlotContents, relays, meter, Layout, slot_at, contents_have, contents_are_meter, is_present, has_meter}
 use Rattle.sw_trigger.specs.Agenda.{Item, Close, Open}
-use Rattle.sw_verify.specs.Channels.{Channels, same_channel, is_among}
-use Rattle.sw_verify.specs.Sound.{effect}
+use Rattle.sw_verify.specs.Channels.{Channels, same_channel, is_among, with_channel, without, with_each, without_each}
+use Rattle.sw_verify.specs.Sound.{CanCloseEach, CanOpenEach, effect}
+use Rattle.std.proofs.lemmas.List.{drop_more}
 use Rattle.sw_verify.proofs.Round.{effect-append}
 use Rattle.sw_cage.specs.Accounts.{Accounts, layout_of, is_closed, option_rest, all_open, IsChannelFault}
 use Rattle.sw_cage.specs.Change.{Sets, option_failed, RelayFailed, IsDisturbed}
@@ -38,19 +41,56 @@ if_with false b = refl
 pub moved_none : (old : Accounts) → Moved old [] old
 moved_none old = record { rest = refl; closed = λ x. refl }
 
-pub moved_open : (old new : Accounts) (c : Channel) → Sets old (c ∷ []) false new → Moved old (Open c ∷ []) new
-moved_open old new c s = record {
-  rest = s.rest;
-  closed = λ x. s.closed x ∙ ap (λ (t : Bool). if t then false else is_closed old x) (in_one_is c x) ∙ if_without
-      (same_channel c x) (is_closed old x);
-}
+-- one channel set
 
-pub moved_close : (old new : Accounts) (c : Channel) → Sets old (c ∷ []) true new → Moved old (Close c ∷ []) new
-moved_close old new c s = record {
-  rest = s.rest;
-  closed = λ x. s.closed x ∙ ap (λ (t : Bool). if t then true else is_closed old x) (in_one_is c x) ∙ if_with
-      (same_channel c x) (is_closed old x);
-}
+set_open : (old new : Accounts) (c : Channel) → Sets old (c ∷ []) false new → is_closed new ≡ without c (is_closed old)
+set_open old new c s = fun_ext (λ x. s.closed x ∙ ap (λ (t : Bool). if t then false else is_closed old x) (in_one_is c x) ∙ if_without
+    (same_channel c x) (is_closed old x))
+
+set_close : (old new : Accounts) (c : Channel) → Sets old (c ∷ []) true new → is_closed new ≡ with_channel c (is_closed old)
+set_close old new c s = fun_ext (λ x. s.closed x ∙ ap (λ (t : Bool). if t then true else is_closed old x) (in_one_is c x) ∙ if_with
+    (same_channel c x) (is_closed old x))
+
+-- a position whose channels are set one by one: what is left of it
+pub record ClosesOn (old : Accounts) (p rest : Position) (now : Accounts) : Type 0 where
+  pub same : all_open now ≡ all_open old
+  pub can : CanCloseEach (layout_of now) (is_closed now) rest
+  pub ends : with_each rest (is_closed now) ≡ with_each p (is_closed old)
+
+pub record OpensOn (old : Accounts) (p rest : Position) (now : Accounts) : Type 0 where
+  pub same : all_open now ≡ all_open old
+  pub can : CanOpenEach (is_closed now) rest
+  pub ends : without_each rest (is_closed now) ≡ without_each p (is_closed old)
+
+pub closes_first : (old : Accounts) (p : Position) → CanCloseEach (layout_of old) (is_closed old) p → ClosesOn old p p old
+closes_first old p k = record { same = refl; can = k; ends = refl }
+
+pub opens_first : (old : Accounts) (p : Position) → CanOpenEach (is_closed old) p → OpensOn old p p old
+opens_first old p k = record { same = refl; can = k; ends = refl }
+
+pub closes_next : (old now new : Accounts) (p rest : Position) (c : Channel) → ClosesOn old p (c ∷ rest) now → Sets now (c ∷ []) true new → ClosesOn old p rest new
+closes_next old now new p rest c g s =
+    let closed = set_close now new c s in
+    record {
+      same = s.rest ∙ g.same;
+      can = subst (λ (l : Layout). CanCloseEach l (is_closed new) rest) (sym (layout_rest now new s.rest))
+          (subst (λ (b : Channels). CanCloseEach (layout_of now) b rest) (sym closed) g.can.1);
+      ends = ap (with_each rest) closed ∙ g.ends;
+    }
+
+pub opens_next : (old now new : Accounts) (p rest : Position) (c : Channel) → OpensOn old p (c ∷ rest) now → Sets now (c ∷ []) false new → OpensOn old p rest new
+opens_next old now new p rest c g s =
+    let closed = set_open now new c s in
+    record { same = s.rest ∙ g.same; can = subst (λ (b : Channels). CanOpenEach b rest) (sym closed) g.can.1; ends = ap (without_each rest) closed ∙ g.ends }
+
+pub closes_over : (old now : Accounts) (p : Position) → ClosesOn old p [] now → Moved old (Close p ∷ []) now
+closes_over old now p g = record { rest = g.same; closed = λ x. ap (λ (b : Channels). b x) g.ends }
+
+pub opens_over : (old now : Accounts) (p : Position) → OpensOn old p [] now → Moved old (Open p ∷ []) now
+opens_over old now p g = record { rest = g.same; closed = λ x. ap (λ (b : Channels). b x) g.ends }
+
+pub next_left : (p : Position) (i : ℕ) (c : Channel) → i < length p → c ≡ slice_index_or p i c → drop i p ≡ c ∷ drop (i + 1) p
+next_left p i c h e = drop_more p i c h ∙ ap (λ (x : Channel). x ∷ drop (i + 1) p) (sym e)
 
 pub moved_both : (old mid new : Accounts) (xs ys : List Item) → Moved old xs mid → Moved mid ys new → Moved old (xs ++ ys) new
 moved_both old mid new xs ys a b = record {
@@ -61,7 +101,7 @@ moved_both old mid new xs ys a b = record {
 pub moved_layout : (old mid : Accounts) (xs : List Item) → Moved old xs mid → layout_of mid ≡ layout_of old
 moved_layout old mid xs m = layout_rest old mid m.rest
 
-pub may_close_there : (old mid : Accounts) (o k : Option Channel) → MayMove (layout_of old) (is_closed old) o k → Moved old (opens_of o) mid
+pub may_close_there : (old mid : Accounts) (o k : Option Position) → MayMove (layout_of old) (is_closed old) o k → Moved old (opens_of o) mid
     → MayCloseNext (layout_of mid) (is_closed mid) k
 may_close_there old mid o k may m =
     subst (λ (l : Layout). MayCloseNext l (is_closed mid) k) (sym (moved_layout old mid (opens_of o) m))
@@ -90,14 +130,14 @@ pub broken_result : {T E : Type 0} (r : Result T E) (old most new : Accounts) (c
 broken_result (Ok t) old most new c p f d = tt
 broken_result (Err e) old most new c p f d = broken_call old most new c p f d
 
-relay_after : (old mid new : Accounts) (xs : List Item) → Moved old xs mid → RelayFailed mid new → RelayFailed old new
-relay_after old mid new xs m f =
+relay_after : (old mid new : Accounts) → all_open mid ≡ all_open old → RelayFailed mid new → RelayFailed old new
+relay_after old mid new m f =
     let s = f.slot in
     let same : option_rest (slot_at old s) ≡ option_rest (slot_at mid s) =
-    sym (slot_rest old s) ∙ ap (λ (r : Accounts). slot_at r s) (sym m.rest) ∙ slot_rest mid s in
+    sym (slot_rest old s) ∙ ap (λ (r : Accounts). slot_at r s) (sym m) ∙ slot_rest mid s in
     record {
       slot = s;
-      relays = ap (λ (l : Layout). has_meter l s) (sym (moved_layout old mid xs m)) ∙ f.relays;
+      relays = ap (λ (l : Layout). has_meter l s) (sym (layout_rest old mid m)) ∙ f.relays;
       counted = sym (rest_old (slot_at old s) (slot_at new s)) ∙ ap (λ o. option_failed o (slot_at new s)) same ∙ rest_old (slot_at mid s) (slot_at new s) ∙
           f.counted;
     }
@@ -110,8 +150,15 @@ relay_rested old new f = record {
       ap (option_failed (slot_at old f.slot)) (slot_rest new f.slot) ∙ rest_new (slot_at old f.slot) (slot_at new f.slot) ∙ f.counted;
 }
 
+pub broken_since : (old mid new : Accounts) → all_open mid ≡ all_open old → RelayCallFailed mid new → RelayCallFailed old new
+broken_since old mid new m b = record { cards = b.cards ∙ identities_rest old mid m; failed = relay_after old mid new m b.failed }
+
+pub when_err : {T E : Type 0} (r : Result T E) (X : Type 0) → X → OnErr r X
+when_err (Ok t) X x = tt
+when_err (Err e) X x = x
+
 pub broken_after : (old mid new : Accounts) (xs : List Item) → Moved old xs mid → RelayCallFailed mid new → RelayCallFailed old new
-broken_after old mid new xs m b = record { cards = b.cards ∙ identities_rest old mid m.rest; failed = relay_after old mid new xs m b.failed }
+broken_after old mid new xs m b = broken_since old mid new m.rest b
 
 pub fallen : (old new : Accounts) → RelayCallFailed old new → IsSafeAfterFault old (all_open new)
 fallen old new b = record { cards = identities_all_open new ∙ b.cards; failed = relay_rested old new b.failed; none = all_open_closed new }

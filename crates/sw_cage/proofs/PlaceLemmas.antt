@@ -5,6 +5,7 @@ use Rattle.std.proofs.Math.Seq.{drop-drop, drop-append_seam}
 use Rattle.std.proofs.Math.Nat.{suc-mul}
 use Rattle.std.proofs.lemmas.Nat.{mul-le}
 use Rattle.std.proofs.lemmas.List.{length-map}
+use Rattle.sw_channel.specs.Positions.{Position}
 use Rattle.sw_base.specs.Layout.{Channel}
 use Rattle.sw_base.specs.declared.terms.LayerName.{LayerName}
 use Rattle.sw_base.specs.declared.terms.LayerName.TheVariants.{Arm1, Arm2, Trigger}
@@ -14,7 +15,7 @@ use Rattle.sw_trigger.specs.declared.layer.Layer.{Layer}
 use Rattle.sw_trigger.specs.declared.layer.Awaited.{Awaited}
 use Rattle.sw_trigger.specs.declared.layer.Awaited.TheVariants.{Pause}
 use Rattle.sw_trigger.specs.Settings.{SettingsSeen, IsInRange}
-use Rattle.sw_trigger.specs.Agenda.{Item, Awaits, Close, Open, wait_of, pause_of, head_of, channel_at, visit, pass_of, passes, arm_turn, arm_turns}
+use Rattle.sw_trigger.specs.Agenda.{Item, Awaits, Close, Open, wait_of, pause_of, head_of, position_at, visit, pass_of, passes, arm_turn, arm_turns}
 use Rattle.sw_trigger.specs.Agenda.{agenda}
 use Rattle.sw_trigger.proofs.Repeats.{length-repeated}
 use Rattle.sw_trigger.proofs.Awaiting.{agenda_is}
@@ -29,7 +30,7 @@ use Rattle.sw_cage.specs.Steps.{Does, IsResting, AreVisitsOn, LeadsOn, moves_of}
 use Rattle.sw_cage.proofs.StepLemmas.{first_of_rest}
 use Rattle.sw_cage.proofs.VisitLemmas.{visits-agenda, visits_past}
 
-moves_lead : (o c : Option Channel) (l : List Item) → leading_moves l ≡ [] → leading_moves ((opens_of o ++ closes_of c) ++ l) ≡ opens_of o ++ closes_of c
+moves_lead : (o c : Option Position) (l : List Item) → leading_moves l ≡ [] → leading_moves ((opens_of o ++ closes_of c) ++ l) ≡ opens_of o ++ closes_of c
 moves_lead None None l h = h
 moves_lead None (Some c) l h = ap (λ (m : List Item). Close c ∷ m) h
 moves_lead (Some o) None l h = ap (λ (m : List Item). Open o ∷ m) h
@@ -124,7 +125,7 @@ length-passes s k (suc n) =
     omega (
       arith,
       length-append (pass_of s k) (passes s (suc k) n),
-      length-append (map Awaits (head_of Trigger s.trigger)) (visit (channel_at s.list k)),
+      length-append (map Awaits (head_of Trigger s.trigger)) (visit (position_at s.list k)),
       length-head Trigger s.trigger,
       length-passes s (suc k) n,
       suc-mul n 5,

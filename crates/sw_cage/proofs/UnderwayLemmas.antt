@@ -4,14 +4,15 @@ use Rattle.std.proofs.Common.{◌∙◌, subst, arith}
 use Rattle.std.proofs.Math.Seq.{take-add}
 use Rattle.std.proofs.lemmas.List.{take-append-drop}
 use Rattle.sw_base.specs.Layout.{Channel, Layout}
+use Rattle.sw_channel.specs.Positions.{Position}
 use Rattle.sw_trigger.specs.declared.layer.Awaited.{Awaited}
 use Rattle.sw_trigger.specs.declared.layer.Awaited.TheVariants.{Read}
 use Rattle.sw_trigger.specs.Settings.{SettingsSeen}
 use Rattle.sw_trigger.specs.Agenda.{Item, Awaits, Close, Open, agenda}
 use Rattle.sw_trigger.specs.Counts.{reads, is_reading}
 use Rattle.sw_trigger.proofs.Awaiting.{reads-append}
-use Rattle.sw_verify.specs.Channels.{Channels, same_channel, none, with_channel, without}
-use Rattle.sw_verify.specs.Sound.{CanCloseOne, AllRight, effect}
+use Rattle.sw_verify.specs.Channels.{Channels, same_channel, none, with_channel, without, with_each, without_each}
+use Rattle.sw_verify.specs.Sound.{CanCloseOne, CanCloseEach, CanOpenEach, AllRight, effect}
 use Rattle.sw_verify.proofs.Round.{effect-append}
 use Rattle.sw_cage.specs.Cage.{layout_with}
 use Rattle.sw_cage.specs.Advance.{leading_moves, first_awaited, opens_of, closes_of, moves_from}
@@ -64,8 +65,8 @@ reads_left s i e =
 right_after : (layout : Layout) (b m : Channels) (xs ys : List Item) → AllRight layout b m (xs ++ ys) → AllRight layout (effect b xs) (effect m xs) ys
 right_after layout b m [] ys h = h
 right_after layout b m (Awaits w ∷ xs) ys h = right_after layout b m xs ys h
-right_after layout b m (Close c ∷ xs) ys h = right_after layout (with_channel c b) (with_channel c m) xs ys h.1
-right_after layout b m (Open c ∷ xs) ys h = right_after layout (without c b) (without c m) xs ys h.1
+right_after layout b m (Close p ∷ xs) ys h = right_after layout (with_each p b) (with_each p m) xs ys h.1
+right_after layout b m (Open p ∷ xs) ys h = right_after layout (without_each p b) (without_each p m) xs ys h.1
 
 -- mine are closed
 abbrev IsWithin : Channels → Channels → Type 0
@@ -79,18 +80,34 @@ and_keeps : (t a b : Bool) → (a ≡ true → b ≡ true) → (t && a) ≡ true
 and_keeps true a b f h = f h
 and_keeps false a b f h = h
 
+within_with : (m b : Channels) (p : Position) → IsWithin m b → IsWithin (with_each p m) (with_each p b)
+within_with m b [] h = h
+within_with m b (c ∷ p) h = within_with (with_channel c m) (with_channel c b) p (λ x e. or_keeps (same_channel c x) (m x) (b x) (h x) e)
+
+less_within : (m b : Channels) (c : Channel) → IsWithin m b → IsWithin (without c m) (without c b)
+less_within m b c h = λ x e. and_keeps (not (same_channel c x)) (m x) (b x) (h x) e
+
+within_without : (m b : Channels) (p : Position) → IsWithin m b → IsWithin (without_each p m) (without_each p b)
+within_without m b [] h = h
+within_without m b (c ∷ p) h = within_without (without c m) (without c b) p (less_within m b c h)
+
+-- what is mine may be opened
+opens_within : (m b : Channels) (p : Position) → IsWithin m b → CanOpenEach m p → CanOpenEach b p
+opens_within m b [] h k = tt
+opens_within m b (c ∷ p) h k = (h c k.0, opens_within (without c m) (without c b) p (less_within m b c h) k.1)
+
 within_after : (m b : Channels) (xs : List Item) → IsWithin m b → IsWithin (effect m xs) (effect b xs)
 within_after m b [] h = h
 within_after m b (Awaits w ∷ xs) h = within_after m b xs h
-within_after m b (Close c ∷ xs) h = within_after (with_channel c m) (with_channel c b) xs (λ x e. or_keeps (same_channel c x) (m x) (b x) (h x) e)
-within_after m b (Open c ∷ xs) h = within_after (without c m) (without c b) xs (λ x e. and_keeps (not (same_channel c x)) (m x) (b x) (h x) e)
+within_after m b (Close p ∷ xs) h = within_after (with_each p m) (with_each p b) xs (within_with m b p h)
+within_after m b (Open p ∷ xs) h = within_after (without_each p m) (without_each p b) xs (within_without m b p h)
 
-moves_may : (layout : Layout) (b m : Channels) (o k : Option Channel) (r : List Item) → IsWithin m b → AllRight layout b m ((opens_of o ++ closes_of k) ++ r)
+moves_may : (layout : Layout) (b m : Channels) (o k : Option Position) (r : List Item) → IsWithin m b → AllRight layout b m ((opens_of o ++ closes_of k) ++ r)
     → MayMove layout b o k
 moves_may layout b m None None r w h = record { opens = tt; closes = tt }
 moves_may layout b m None (Some k) r w h = record { opens = tt; closes = h.0 }
-moves_may layout b m (Some o) None r w h = record { opens = w o h.0; closes = tt }
-moves_may layout b m (Some o) (Some k) r w h = record { opens = w o h.0; closes = h.1.0 }
+moves_may layout b m (Some o) None r w h = record { opens = opens_within m b o w h.0; closes = tt }
+moves_may layout b m (Some o) (Some k) r w h = record { opens = opens_within m b o w h.0; closes = h.1.0 }
 
 -- a meter that is out has no channel, so none is hindered or let by it
 can_close_in : (bays : Layout) (out : List (Option Ticket)) (h : length out ≡ length bays) (b : Channels) (c : Channel) → CanCloseOne (layout_with bays out) b c
@@ -102,12 +119,17 @@ can_close_in bays out h b c k = record {
       λ x e j. k.apart x e (clash_with bays out h c x j);
 }
 
-may_close_in : (bays : Layout) (out : List (Option Ticket)) (h : length out ≡ length bays) (b : Channels) (k : Option Channel)
+can_close_each_in : (bays : Layout) (out : List (Option Ticket)) (h : length out ≡ length bays) (b : Channels) (p : Position)
+    → CanCloseEach (layout_with bays out) b p → CanCloseEach bays b p
+can_close_each_in bays out h b [] k = tt
+can_close_each_in bays out h b (c ∷ p) k = (can_close_in bays out h b c k.0, can_close_each_in bays out h (with_channel c b) p k.1)
+
+may_close_in : (bays : Layout) (out : List (Option Ticket)) (h : length out ≡ length bays) (b : Channels) (k : Option Position)
     → MayCloseNext (layout_with bays out) b k → MayCloseNext bays b k
 may_close_in bays out h b None m = tt
-may_close_in bays out h b (Some c) m = can_close_in bays out h b c m
+may_close_in bays out h b (Some p) m = can_close_each_in bays out h b p m
 
-pub may_move_in : (bays : Layout) (out : List (Option Ticket)) (h : length out ≡ length bays) (b : Channels) (o k : Option Channel)
+pub may_move_in : (bays : Layout) (out : List (Option Ticket)) (h : length out ≡ length bays) (b : Channels) (o k : Option Position)
     → MayMove (layout_with bays out) b o k → MayMove bays b o k
 may_move_in bays out h b o k m = record { opens = m.opens; closes = may_close_in bays out h (effect b (opens_of o)) k m.closes }
 
@@ -120,7 +142,7 @@ module _ (layout : Layout) (closed : Channels) (s : SettingsSeen) (i : ℕ) (w :
       (right_after layout w.found none (take i (agenda s)) (drop i (agenda s)) all)
 
   -- the moves that come next may be made
-  pub may_move : (o k : Option Channel) → opens_of o ++ closes_of k ≡ moves_from s i → MayMove layout closed o k
+  pub may_move : (o k : Option Position) → opens_of o ++ closes_of k ≡ moves_from s i → MayMove layout closed o k
   may_move o k e =
       let after = drop i (agenda s) in
       let r = drop (length (moves_from s i)) after in

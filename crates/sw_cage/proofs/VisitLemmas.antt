@@ -5,7 +5,7 @@ use Rattle.sw_base.specs.declared.terms.LayerName.TheVariants.{Arm1, Arm2, Trigg
 use Rattle.sw_trigger.specs.declared.layer.Awaited.{Awaited}
 use Rattle.sw_trigger.specs.declared.layer.Layer.{Layer}
 use Rattle.sw_trigger.specs.Settings.{SettingsSeen}
-use Rattle.sw_trigger.specs.Agenda.{Item, Awaits, Close, Open, repeated, head_of, channel_at, visit, pass_of, passes, arm_turn, arm_turns, agenda}
+use Rattle.sw_trigger.specs.Agenda.{Item, Awaits, Close, Open, repeated, head_of, position_at, visit, pass_of, passes, arm_turn, arm_turns, agenda}
 use Rattle.sw_trigger.proofs.Awaiting.{agenda_is}
 use Rattle.sw_cage.specs.Advance.{first_awaited}
 use Rattle.sw_cage.specs.Steps.{AreVisits, AreVisitsOn}
@@ -34,7 +34,7 @@ visits-passes : (s : SettingsSeen) (k n : ℕ) → AreVisits (passes s k n)
 visits-passes s k zero = tt
 visits-passes s k (suc n) =
     visits-append (pass_of s k) (passes s (suc k) n)
-    (visits-append (map Awaits (head_of Trigger s.trigger)) (visit (channel_at s.list k)) (visits-awaits (head_of Trigger s.trigger)) tt)
+    (visits-append (map Awaits (head_of Trigger s.trigger)) (visit (position_at s.list k)) (visits-awaits (head_of Trigger s.trigger)) tt)
     (visits-passes s (suc k) n)
 
 visits-arm_turns : (name : LayerName) (l : Layer) (inside : List Item) → AreVisits inside → AreVisits (arm_turns name l inside)

@@ -1,7 +1,7 @@
 -- The way of a scan's code from one awaiting step to the next.
 use Rattle.std.proofs.Common.{◌≡◌, ◌+◌, List, [], ◌∷◌, ◌++◌, Option, Some, None, refl, ap, ◌∙◌, subst}
 use Rattle.std.specs.List.{slice_get}
-use Rattle.sw_base.specs.Layout.{Channel}
+use Rattle.sw_channel.specs.Positions.{Position}
 use Rattle.sw_trigger.specs.declared.layer.Awaited.TheVariants.{Wait, Pause, Read}
 use Rattle.sw_trigger.specs.Agenda.{Item, Awaits, Close, Open}
 use Rattle.sw_code.specs.declared.code.Step.{Step}
@@ -13,38 +13,38 @@ use Rattle.sw_cage.specs.Advance.{opens_of, closes_of}
 use Rattle.sw_cage.specs.Steps.{Does, IsResting, AreVisits, AreVisitsOn, LeadsOn, opened_by, closed_by}
 use Rattle.sw_cage.proofs.StepLemmas.{place, does_none, does_halt, does_item, rests_awaiting}
 
-abbrev way : Option Channel → Option Channel → Place → Way
+abbrev way : Option Position → Option Position → Place → Way
 way o k at = record { moves = record { to_open = o; to_close = k }; at = at }
 
 -- all that may come past this place comes at the other
 abbrev pub GoesTo : List Step → Place → Place → Type 0
 GoesTo code at after = (items : List Item) → Does code at items → Does code after items
 
-pub closer : (o : Option Step) (c : Channel) → closed_by o ≡ Some c → o ≡ Some (step.Close c)
+pub closer : (o : Option Step) (c : Position) → closed_by o ≡ Some c → o ≡ Some (step.Close c)
 closer None c e = absurd (cc)
 closer (Some (step.Set k n)) c e = absurd (cc)
 closer (Some (step.Wait name)) c e = absurd (cc)
 closer (Some (step.Pause micros)) c e = absurd (cc)
-closer (Some (step.Close x)) c e = let same : x ≡ c = cc in ap (λ (y : Channel). Some (step.Close y)) same
+closer (Some (step.Close x)) c e = let same : x ≡ c = cc in ap (λ (y : Position). Some (step.Close y)) same
 closer (Some step.Read) c e = absurd (cc)
 closer (Some (step.Open x)) c e = absurd (cc)
 closer (Some (step.Loop k to)) c e = absurd (cc)
 closer (Some step.Halt) c e = absurd (cc)
 
-pub opener : (o : Option Step) (c : Channel) → opened_by o ≡ Some c → o ≡ Some (step.Open c)
+pub opener : (o : Option Step) (c : Position) → opened_by o ≡ Some c → o ≡ Some (step.Open c)
 opener None c e = absurd (cc)
 opener (Some (step.Set k n)) c e = absurd (cc)
 opener (Some (step.Wait name)) c e = absurd (cc)
 opener (Some (step.Pause micros)) c e = absurd (cc)
 opener (Some (step.Close x)) c e = absurd (cc)
 opener (Some step.Read) c e = absurd (cc)
-opener (Some (step.Open x)) c e = let same : x ≡ c = cc in ap (λ (y : Channel). Some (step.Open y)) same
+opener (Some (step.Open x)) c e = let same : x ≡ c = cc in ap (λ (y : Position). Some (step.Open y)) same
 opener (Some (step.Loop k to)) c e = absurd (cc)
 opener (Some step.Halt) c e = absurd (cc)
 
 module _ (code : List Step) (at : Place) (items : List Item) (d : Does code at items) where
   -- it closes a channel
-  pub way_closes : (c : Channel) (after : Place) → closed_by (slice_get code at.step) ≡ Some c → AreVisits items
+  pub way_closes : (c : Position) (after : Place) → closed_by (slice_get code at.step) ≡ Some c → AreVisits items
       → GoesTo code (place (at.step + 1) at.counters) after
       → IsNear code 0 after.step → LeadsOn code items (way None (Some c) after)
   way_closes c after e v goes near =
@@ -78,7 +78,7 @@ module _ (code : List Step) (at : Place) (items : List Item) (d : Does code at i
     go (Some step.Halt) e = tt
 
   -- it opens one, and goes on so
-  pub way_opens : (c : Channel) (after : Place) (on : Way) → opened_by (slice_get code at.step) ≡ Some c → AreVisitsOn items
+  pub way_opens : (c : Position) (after : Place) (on : Way) → opened_by (slice_get code at.step) ≡ Some c → AreVisitsOn items
       → GoesTo code (place (at.step + 1) at.counters) after → on.moves.to_open ≡ None
       → ((rest : List Item) → Does code after rest → AreVisits rest → LeadsOn code rest on)
       → LeadsOn code items (way (Some c) on.moves.to_close on.at)
@@ -87,7 +87,7 @@ module _ (code : List Step) (at : Place) (items : List Item) (d : Does code at i
       let l = leads p.0 (goes p.0 p.2) (subst AreVisitsOn p.1 v) in
       record {
         rest = l.rest;
-        split = p.1 ∙ ap (λ (r : List Item). Open c ∷ r) (l.split ∙ ap (λ (o : Option Channel). (opens_of o ++ closes_of on.moves.to_close) ++ l.rest) none);
+        split = p.1 ∙ ap (λ (r : List Item). Open c ∷ r) (l.split ∙ ap (λ (o : Option Position). (opens_of o ++ closes_of on.moves.to_close) ++ l.rest) none);
         does = l.does;
         rests = l.rests;
       }

@@ -1,6 +1,6 @@
 -- From one item that a scan awaits to the next.
 use Rattle.std.specs.Prelude.{ℕ, ◌+◌, List, [], ◌∷◌, length, drop, Option, Some, None}
-use Rattle.sw_base.specs.Layout.{Channel}
+use Rattle.sw_channel.specs.Positions.{Position}
 use Rattle.sw_trigger.specs.declared.layer.Awaited.{Awaited}
 use Rattle.sw_trigger.specs.Settings.{SettingsSeen}
 use Rattle.sw_trigger.specs.Agenda.{Item, Awaits, Close, Open, agenda}
@@ -20,11 +20,11 @@ first_awaited (Awaits what ∷ items) = Some what
 first_awaited (Close c ∷ items) = None
 first_awaited (Open c ∷ items) = None
 
-abbrev pub opens_of : Option Channel → List Item
+abbrev pub opens_of : Option Position → List Item
 opens_of None = []
 opens_of (Some c) = Open c ∷ []
 
-abbrev pub closes_of : Option Channel → List Item
+abbrev pub closes_of : Option Position → List Item
 closes_of None = []
 closes_of (Some c) = Close c ∷ []
 

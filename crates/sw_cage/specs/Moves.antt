@@ -1,24 +1,25 @@
 -- Which moves a scan may make, and what a failed one leaves.
 use Rattle.std.specs.Prelude.{◌≡◌, ◌≤◌, ◌++◌, ℕ, true, map, Option, Some, None}
 use Rattle.sw_base.specs.Limits.{most_slots}
-use Rattle.sw_base.specs.Layout.{Channel, Layout, has_meter}
+use Rattle.sw_base.specs.Layout.{Layout, has_meter}
+use Rattle.sw_channel.specs.Positions.{Position}
 use Rattle.sw_trigger.specs.Settings.{SettingsSeen}
 use Rattle.sw_verify.specs.Channels.{Channels}
-use Rattle.sw_verify.specs.Sound.{CanCloseOne, effect}
+use Rattle.sw_verify.specs.Sound.{CanCloseEach, CanOpenEach, effect}
 use Rattle.sw_cage.specs.Accounts.{Accounts}
 use Rattle.sw_cage.specs.Change.{RelayFailed, identity}
 use Rattle.sw_cage.specs.Advance.{opens_of, closes_of, moves_from}
 
-abbrev pub MayOpenNext : Channels → Option Channel → Type 0
+abbrev pub MayOpenNext : Channels → Option Position → Type 0
 MayOpenNext closed None = Unit {0}
-MayOpenNext closed (Some c) = closed c ≡ true
+MayOpenNext closed (Some p) = CanOpenEach closed p
 
-abbrev pub MayCloseNext : Layout → Channels → Option Channel → Type 0
+abbrev pub MayCloseNext : Layout → Channels → Option Position → Type 0
 MayCloseNext layout closed None = Unit {0}
-MayCloseNext layout closed (Some c) = CanCloseOne layout closed c
+MayCloseNext layout closed (Some p) = CanCloseEach layout closed p
 
 -- the one may be opened, and the other closed after that
-pub record MayMove (layout : Layout) (closed : Channels) (to_open to_close : Option Channel) : Type 0 where
+pub record MayMove (layout : Layout) (closed : Channels) (to_open to_close : Option Position) : Type 0 where
   pub opens : MayOpenNext closed to_open
   pub closes : MayCloseNext layout (effect closed (opens_of to_open)) to_close
 
@@ -26,7 +27,7 @@ pub record MayMove (layout : Layout) (closed : Channels) (to_open to_close : Opt
 pub record MayGoOn (layout : Layout) (closed : Channels) (s : SettingsSeen) (i : ℕ) : Type 0 where
   pub slot_in : (1 ≤ s.meter) × (s.meter ≤ most_slots)
   pub meter : has_meter layout s.meter ≡ true
-  pub moves : (to_open to_close : Option Channel) → opens_of to_open ++ closes_of to_close ≡ moves_from s i
+  pub moves : (to_open to_close : Option Position) → opens_of to_open ++ closes_of to_close ≡ moves_from s i
       → MayMove layout closed to_open to_close
 
 -- a call on a relay card failed: the cards are the same

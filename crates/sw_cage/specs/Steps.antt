@@ -1,7 +1,7 @@
 -- Where in its code a scan stands, and what is done from there to the next step that awaits.
 use Rattle.std.specs.Prelude.{◌≡◌, ℕ, List, [], ◌∷◌, ◌++◌, Option, Some, None, slice_index_or}
 use Rattle.std.specs.List.{slice_get}
-use Rattle.sw_base.specs.Layout.{Channel}
+use Rattle.sw_channel.specs.Positions.{Position}
 use Rattle.sw_trigger.specs.Agenda.{Item, Awaits, Close, Open}
 use Rattle.sw_code.specs.declared.code.Step.{Step}
 use Rattle.sw_code.specs.declared.code.Step.TheVariants as step
@@ -31,12 +31,12 @@ IsResting (Some (step.Open c)) = ⊥
 IsResting (Some (step.Loop k to)) = ⊥
 IsResting (Some step.Halt) = Unit {0}
 
--- the channel that the step opens, and that which it closes
-abbrev pub opened_by : Option Step → Option Channel
+-- the position that the step opens, and that which it closes
+abbrev pub opened_by : Option Step → Option Position
 opened_by (Some (step.Open c)) = Some c
 opened_by _ = None
 
-abbrev pub closed_by : Option Step → Option Channel
+abbrev pub closed_by : Option Step → Option Position
 closed_by (Some (step.Close c)) = Some c
 closed_by _ = None
 

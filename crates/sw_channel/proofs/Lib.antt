@@ -3,3 +3,4 @@ pub mod Items
 pub mod Parts
 pub mod Judging
 pub mod Printed
+pub mod Joining

@@ -3,3 +3,5 @@ pub mod Meaning
 pub mod Reading
 pub mod Printing
 pub mod Seen
+pub mod Positions
+pub mod PositionSeen

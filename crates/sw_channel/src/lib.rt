@@ -10,9 +10,11 @@
 
 mod collect;
 mod parse;
+mod position;
 mod print;
 mod read;
 mod run;
 
+pub use position::Position;
 pub use print::print_list;
 pub use read::{one_reading, read_list};

@@ -7,12 +7,12 @@ use Rattle.std.proofs.lemmas.Nat.{div-add-mod'}
 use Rattle.std.proofs.Math.Nat.{add-mul-mod_self_right, suc-mul}
 use Rattle.sw_base.specs.declared.terms.LayerName.{LayerName}
 use Rattle.sw_base.specs.declared.terms.LayerName.TheVariants.{Arm1, Arm2, Trigger}
-use Rattle.sw_base.specs.Layout.{Channel}
+use Rattle.sw_channel.specs.Positions.{Position}
 use Rattle.sw_code.specs.declared.code.Step.{Step}
 use Rattle.sw_code.specs.declared.code.Step.TheVariants as step
 use Rattle.sw_trigger.specs.declared.layer.Layer.{Layer}
 use Rattle.sw_trigger.specs.Settings.{SettingsSeen, IsInRange}
-use Rattle.sw_trigger.specs.Agenda.{Item, Awaits, repeated, head_of, channel_at, pass_of, passes, visit, arm_turns, agenda}
+use Rattle.sw_trigger.specs.Agenda.{Item, Awaits, repeated, head_of, position_at, pass_of, passes, visit, arm_turns, agenda}
 use Rattle.sw_code.specs.Code.{Unfolds}
 use Rattle.sw_code.specs.Tree.{Tree, Nil, Times, step_of, size, flatten, meaning, IsNested}
 use Rattle.sw_code.specs.Compiled.{line, steps_of, passes_tree, arm_tree, tree_of}
@@ -34,16 +34,16 @@ nested-line used [] rest h = h
 nested-line used (x ∷ xs) rest h = nested-line used xs rest h
 
 -- passes, round the list
-channel_at-round : (list : List Channel) (k : ℕ) → channel_at list (k + length list) ≡ channel_at list k
-channel_at-round list k =
+position_at-round : (list : List Position) (k : ℕ) → position_at list (k + length list) ≡ position_at list k
+position_at-round list k =
     let e : k + length list ≡ k + 1 * length list = omega arith in
-    ap (λ (i : ℕ). get_or list i ((0, 0))) (ap (λ (i : ℕ). i % length list) e ∙ add-mul-mod_self_right k 1 (length list))
+    ap (λ (i : ℕ). get_or list i []) (ap (λ (i : ℕ). i % length list) e ∙ add-mul-mod_self_right k 1 (length list))
 
 passes-round : (s : SettingsSeen) (k n : ℕ) → passes s (k + length s.list) n ≡ passes s k n
 passes-round s k zero = refl
 passes-round s k (suc n) =
     let e : suc (k + length s.list) ≡ suc k + length s.list = omega arith in
-    ap (λ (c : Channel). (map Awaits (head_of Trigger s.trigger) ++ visit c) ++ passes s (suc (k + length s.list)) n) (channel_at-round s.list k)
+    ap (λ (c : Position). (map Awaits (head_of Trigger s.trigger) ++ visit c) ++ passes s (suc (k + length s.list)) n) (position_at-round s.list k)
     ∙ ap (λ (i : ℕ). pass_of s k ++ passes s i n) e
     ∙ ap (λ (l : List Item). pass_of s k ++ l) (passes-round s (suc k) n)
 

@@ -13,7 +13,7 @@ use Rattle.sw_base.specs.declared.terms.Source.TheVariants.{Immediate, Bus, Exte
 use Rattle.sw_trigger.specs.declared.layer.Layer.{Layer}
 use Rattle.sw_trigger.specs.declared.layer.Awaited.TheVariants.{Pause}
 use Rattle.sw_trigger.specs.Settings.{SettingsSeen, IsInRange}
-use Rattle.sw_trigger.specs.Agenda.{Item, Awaits, head_of, wait_of, pause_of, channel_at, visit, pass_of, passes}
+use Rattle.sw_trigger.specs.Agenda.{Item, Awaits, head_of, wait_of, pause_of, position_at, visit, pass_of, passes}
 use Rattle.sw_code.specs.declared.code.Step.{Step}
 use Rattle.sw_code.specs.declared.code.Step.TheVariants as step
 use Rattle.sw_base.specs.Limits.{most_entries, most_trigger_count}
@@ -91,7 +91,7 @@ module _ (s : SettingsSeen) (h : s.trigger.delay_us ≤ 3600000000) where
   fits-passes k zero = tt
   fits-passes k (suc n) =
       fits-append (pass_of s k) (passes s (suc k) n)
-      (fits-append (map Awaits (head_of Trigger s.trigger)) (visit (channel_at s.list k)) (fits-head Trigger s.trigger h) (tt, (tt, (tt, tt))))
+      (fits-append (map Awaits (head_of Trigger s.trigger)) (visit (position_at s.list k)) (fits-head Trigger s.trigger h) (tt, (tt, (tt, tt))))
       (fits-passes (suc k) n)
 
   length-passes : (k n : ℕ) → length (passes s k n) ≤ n * 5
@@ -100,7 +100,7 @@ module _ (s : SettingsSeen) (h : s.trigger.delay_us ≤ 3600000000) where
       omega (
         arith,
         length-append (pass_of s k) (passes s (suc k) n),
-        length-append (map Awaits (head_of Trigger s.trigger)) (visit (channel_at s.list k)),
+        length-append (map Awaits (head_of Trigger s.trigger)) (visit (position_at s.list k)),
         length-head Trigger s.trigger h,
         length-passes (suc k) n,
         suc-mul n 5,

@@ -1,6 +1,6 @@
 -- Lines and parts of a listing.
 use Rattle.std.proofs.Common.{◌≡◌, ℕ, suc, ◌+◌, ◌<◌, ◌≤◌, Bool, true, false, not, List, [], ◌∷◌, ◌++◌, length, get_or, take}
-use Rattle.std.proofs.Common.{drop, drop-cons, refl, sym, ap, ◌∙◌, subst, arith, append_assoc}
+use Rattle.std.proofs.Common.{drop, drop-cons, add-one, refl, sym, ap, ◌∙◌, subst, arith, append_assoc}
 use Rattle.std.specs.Prelude.{Option, Some, None, IfSome, IfNone, Ok, Err, codes, Result, ◌==◌, if◌then◌else◌}
 use Rattle.std.specs.List.{All, AllByRecursion}
 use Rattle.std.specs.Str.{bytes_eq}
@@ -13,8 +13,9 @@ use Rattle.sw_base.specs.Text.{Lacks}
 use Rattle.sw_code.specs.declared.code.Step.{Step}
 use Rattle.sw_code.specs.declared.fault.ListFault.TheVariants.{BadStep, BadNumber}
 use Rattle.sw_code.specs.declared.fault.ListError.{ListError}
-use Rattle.sw_code.specs.Range.{IsStep, HasChannel}
-use Rattle.sw_code.specs.Listing.{line_of, listed_lines, parts_of}
+use Rattle.sw_code.specs.Range.{IsStep, IsInChannelRange, HasPosition}
+use Rattle.sw_code.specs.Listing.{line_of, listed_lines, parts_of, channel_text, others_text}
+use Rattle.sw_base.specs.Layout.{Channel}
 use Rattle.sw_code.specs.Reading.{parts_at, then_read, channel_in, step_in, meter_in, on_line, numbered_step, steps_in, after_steps, code_after_version}
 use Rattle.sw_code.specs.Reading.{code_of_lines}
 
@@ -93,15 +94,34 @@ one_more out out1 out2 line whole steps i s lt is e l f h =
     ap (λ (x : List ℕ). x ++ listed_lines (drop (i + 1) steps)) two ∙ ap (λ (j : ℕ). (out ++ line_of (parts_of s)) ++ listed_lines (drop j steps)) n
     ∙ append_assoc out (line_of (parts_of s)) (listed_lines (drop (suc i) steps)) ∙ g
 
-pub channels_more : (steps : List Step) (i : ℕ) (s : Step) → i < length steps → s ≡ get_or steps i s → All HasChannel (take i steps) → HasChannel s
-    → All HasChannel (take (i + 1) steps)
-channels_more steps i s lt is a r = All-more HasChannel steps i s lt a (subst HasChannel is r)
+pub channels_more : (steps : List Step) (i : ℕ) (s : Step) → i < length steps → s ≡ get_or steps i s → All HasPosition (take i steps) → HasPosition s
+    → All HasPosition (take (i + 1) steps)
+channels_more steps i s lt is a r = All-more HasPosition steps i s lt a (subst HasPosition is r)
 
 pub lines_done : (out whole : List ℕ) (steps : List Step) (i : ℕ) → length steps ≤ i → out ++ listed_lines (drop i steps) ≡ whole → out ≡ whole
 lines_done out whole steps i le e = sym (append-nil out) ∙ (rw (drop_of_length-le steps le) at e)
 
-pub all_channels : (steps : List Step) (i : ℕ) → length steps ≤ i → All HasChannel (take i steps) → AllByRecursion HasChannel steps
-all_channels steps i le a = recursion_from_All HasChannel steps (rw (take_all i steps le) at a)
+pub all_channels : (steps : List Step) (i : ℕ) → length steps ≤ i → All HasPosition (take i steps) → AllByRecursion HasPosition steps
+all_channels steps i le a = recursion_from_All HasPosition steps (rw (take_all i steps le) at a)
+
+-- channels that are printed one by one
+pub channel_more_printed : (out out1 out2 whole : List ℕ) (cs : List Channel) (i : ℕ) (c : Channel) → i < length cs → c ≡ get_or cs i c → out1 ≡ out ++ 38 ∷ []
+    → out2 ≡ out1 ++ channel_text c → out ++ others_text (drop i cs) ≡ whole → out2 ++ others_text (drop (i + 1) cs) ≡ whole
+channel_more_printed out out1 out2 whole cs i c lt is e f h =
+    let d : drop i cs ≡ c ∷ drop (suc i) cs = drop-cons cs i c lt ∙ ap (λ (x : Channel). x ∷ drop (suc i) cs) (sym is) in
+    let g = rw d at h in
+    rw (f, e, add-one) (let k : ((out ++ 38 ∷ []) ++ channel_text c) ++ others_text (drop (suc i) cs)
+    ≡ out ++ 38 ∷ (channel_text c ++ others_text (drop (suc i) cs)) = simp append_assoc in k ∙ g)
+
+pub range_more : (cs : List Channel) (i : ℕ) (c : Channel) → i < length cs → c ≡ get_or cs i c → All IsInChannelRange (take i cs) → IsInChannelRange c
+    → All IsInChannelRange (take (i + 1) cs)
+range_more cs i c lt is a r = All-more IsInChannelRange cs i c lt a (subst IsInChannelRange is r)
+
+pub others_done : (out whole : List ℕ) (cs : List Channel) (i : ℕ) → length cs ≤ i → out ++ others_text (drop i cs) ≡ whole → out ≡ whole
+others_done out whole cs i le e = sym (append-nil out) ∙ (rw (drop_of_length-le cs le) at e)
+
+pub all_in_range : (cs : List Channel) (i : ℕ) → length cs ≤ i → All IsInChannelRange (take i cs) → AllByRecursion IsInChannelRange cs
+all_in_range cs i le a = recursion_from_All IsInChannelRange cs (rw (take_all i cs le) at a)
 
 -- steps that are read one by one
 pub steps_push : (steps : List Step) (s : Step) → AllByRecursion IsStep steps → IsStep s → AllByRecursion IsStep (steps ++ s ∷ [])

@@ -9,7 +9,7 @@ use Rattle.sw_trigger.specs.declared.layer.Awaited.TheVariants.{Wait, Pause, Rea
 use Rattle.sw_code.specs.declared.code.Step.{Step}
 use Rattle.sw_code.specs.declared.code.Step.TheVariants as step
 use Rattle.sw_trigger.specs.Settings.{SettingsSeen, IsInRange}
-use Rattle.sw_trigger.specs.Agenda.{Item, Awaits, Close, Open, head_of, channel_at, pass_of, passes, visit}
+use Rattle.sw_trigger.specs.Agenda.{Item, Awaits, Close, Open, head_of, position_at, pass_of, passes, visit}
 use Rattle.sw_code.specs.Tree.{Tree, Nil, Then, Times, step_of, size, flatten}
 use Rattle.sw_code.specs.Compiled.{line, passes_tree, tree_of, compiled}
 use Rattle.sw_code.specs.Pace.{IsNearBy, IsNear, IsNearAfter, IsPaced}
@@ -183,7 +183,7 @@ item-some (x ∷ xs) rest h = tt
 passes_some : (s : SettingsSeen) (n : ℕ) → 0 < n → 0 < length (passes s 0 n)
 passes_some s zero h = absurd (omega arith)
 passes_some s (suc n) h =
-    omega (arith, length-append (pass_of s 0) (passes s 1 n), length-append (map Awaits (head_of Trigger s.trigger)) (visit (channel_at s.list 0)))
+    omega (arith, length-append (pass_of s 0) (passes s 1 n), length-append (map Awaits (head_of Trigger s.trigger)) (visit (position_at s.list 0)))
 
 passes_within : (s : SettingsSeen) → 0 < length s.list → 0 < s.trigger.count → HasItem (passes_tree s) × IsWithin 1 (passes_tree s)
 passes_within s some count = at (s.trigger.count / length s.list) (s.trigger.count % length s.list) (div-add-mod' s.trigger.count (length s.list)) where

@@ -1,6 +1,6 @@
 -- What is printed reads as the same code.
 use Rattle.std.proofs.Common.{◌≡◌, ℕ, ◌+◌, ◌-◌, ◌/◌, ◌%◌, ◌<◌, ◌≤◌, ◌^◌, Bool, true, false, not, cond, List, [], ◌∷◌, ◌++◌, length, refl}
-use Rattle.std.proofs.Common.{sym, ap, ◌∙◌, arith, lit<, append_assoc}
+use Rattle.std.proofs.Common.{sym, ap, ◌∙◌, arith, lit<, append_assoc, append-nil, length-append, subst, suc}
 use Rattle.std.specs.Prelude.{Ok, Err, Result, codes, decimal, ◌==◌, ◌&&◌, nat_lt, nat_le}
 use Rattle.std.specs.List.{AllByRecursion, list_all, join_with_byte}
 use Rattle.std.proofs.lemmas.Bool.{le-leb}
@@ -8,6 +8,8 @@ use Rattle.std.proofs.lemmas.Bool.Decides.{nat_tests}
 use Rattle.std.proofs.lemmas.Fmt.{decimal_by_steps, decimal_nonempty, length-decimal-le}
 use Rattle.std.proofs.lemmas.Grind.{common_steps}
 use Rattle.sw_base.specs.Layout.{Channel}
+use Rattle.sw_channel.specs.Positions.{Position, has, AreDifferent, IsPosition, most_joined}
+use Rattle.sw_channel.proofs.Joining.{same, same_swap, both_false, neither}
 use Rattle.sw_base.specs.Text.{AllPass, Lacks, is_digit}
 use Rattle.sw_base.specs.Number.{value_after, value_of}
 use Rattle.sw_base.specs.declared.terms.LayerName.{LayerName}
@@ -19,10 +21,10 @@ use Rattle.sw_code.specs.declared.code.Step.TheVariants as step
 use Rattle.sw_code.specs.declared.fault.ListFault.{ListFault}
 use Rattle.sw_code.specs.declared.fault.ListFault.TheVariants.{BadNumber, TooLong}
 use Rattle.sw_code.specs.declared.fault.ListError.{ListError}
-use Rattle.sw_code.specs.Range.{Program, most_steps, IsStep, IsInChannelRange, HasChannel, IsProgramInRange}
+use Rattle.sw_code.specs.Range.{Program, most_steps, IsStep, IsInChannelRange, IsPositionInRange, HasPosition, IsProgramInRange}
 use Rattle.sw_base.specs.Limits.{most_slots, most_channels}
-use Rattle.sw_code.specs.Listing.{layer_word, channel_text, line_of, listed_lines, parts_of, listing_of}
-use Rattle.sw_code.specs.Reading.{parts_at, then_read, is_numeral, number_in, channel_in, step_in, meter_in, on_line, numbered_step, steps_in}
+use Rattle.sw_code.specs.Listing.{layer_word, channel_text, others_text, position_text, line_of, listed_lines, parts_of, listing_of}
+use Rattle.sw_code.specs.Reading.{parts_at, then_read, is_numeral, number_in, channel_in, joined_with, joined_in, position_in, step_in, meter_in, on_line, numbered_step, steps_in}
 use Rattle.sw_code.specs.Reading.{code_after_version, code_of_lines, code_in}
 use Rattle.sw_code.proofs.Listed.{first_of, only_of, some_parts, version_some, second_some, steps_some}
 
@@ -112,6 +114,60 @@ channel_lacks mark h k c r =
     let ch : c.1 ≤ 3600000000 = omega (arith, r.3) in
     AllPass-append (λ (b : ℕ). not (b == mark)) (decimal c.0) (33 ∷ decimal c.1) (digits_lack mark h c.0 slot) (k, digits_lack mark h c.1 ch)
 
+position_lacks : (mark : ℕ) → is_digit mark ≡ false → not (33 == mark) ≡ true → not (38 == mark) ≡ true → (p : Position) → AllByRecursion IsInChannelRange p
+    → Lacks mark (position_text p)
+position_lacks mark h k j [] r = tt
+position_lacks mark h k j (c ∷ p) r =
+    AllPass-append (λ (b : ℕ). not (b == mark)) (channel_text c) (others_text p) (channel_lacks mark h k c r.0) (others p r.1) where
+      others : (q : Position) → AllByRecursion IsInChannelRange q → Lacks mark (others_text q)
+      others [] r = tt
+      others (d ∷ q) r = (j, AllPass-append (λ (b : ℕ). not (b == mark)) (channel_text d) (others_text q) (channel_lacks mark h k d r.0) (others q r.1))
+
+-- a channel that comes after those is none of them
+different_apart : (p : Position) (c : Channel) (q : Position) → AreDifferent (p ++ c ∷ q) → has p c ≡ false
+different_apart [] c q d = refl
+different_apart (x ∷ p) c q d = neither (same c x) (has p c) (same_swap c x ∙ first_not p (d.0)) (different_apart p c q d.1) where
+  first_not : (p : Position) → has (p ++ c ∷ q) x ≡ false → same x c ≡ false
+  first_not [] h = (both_false (same x c) (has q x) h).0
+  first_not (y ∷ p) h = first_not p (both_false (same x y) (has (p ++ c ∷ q) x) h).1
+
+joined_good : (done : Position) (c : Channel) (q : Position) → IsPosition (done ++ c ∷ q) → joined_with done c ≡ Ok (done ++ c ∷ [])
+joined_good done c q i =
+    let n : length (done ++ c ∷ q) ≡ length done + suc (length q) = length-append done (c ∷ q) in
+    let few = i.few in
+    let t : nat_lt (length done) most_joined ≡ true = let k : length done < 4 = omega (arith, n, few) in grind (arith, nat_tests) in
+    ap (λ (b : Bool). cond b (Err BadNumber) (cond (nat_lt (length done) most_joined) (Ok (done ++ c ∷ [])) (Err BadNumber))) (different_apart done c q i.different)
+    ∙ ap (λ (b : Bool). cond b (Ok (done ++ c ∷ [])) (Err BadNumber)) t
+
+others_printed : (done : Position) (c : Channel) (q : Position) → IsPosition (done ++ c ∷ q) → IsInChannelRange c → AllByRecursion IsInChannelRange q
+    → joined_in done (parts_at 38 (channel_text c ++ others_text q)) ≡ Ok (done ++ c ∷ q)
+others_printed done c [] i r rs =
+    ap (λ (t : List ℕ). joined_in done (parts_at 38 t)) (append-nil (channel_text c))
+    ∙ ap (joined_in done) (only_of 38 (channel_text c) (channel_lacks 38 refl refl c r))
+    ∙ ap (λ (x : Result Channel ListFault). then_read x (λ (d : Channel). then_read (joined_with done d) (λ (q : Position). Ok q))) (channel_printed c r)
+    ∙ ap (λ (x : Result Position ListFault). then_read x (λ (q : Position). Ok q)) (joined_good done c [] i)
+others_printed done c (d ∷ q) i r rs =
+    let rest = parts_at 38 (channel_text d ++ others_text q) in
+    ap (joined_in done) (first_of 38 (channel_text c) (channel_text d ++ others_text q) (channel_lacks 38 refl refl c r))
+    ∙ ap (λ (x : Result Channel ListFault). then_read x (λ (e : Channel). then_read (joined_with done e) (λ (p : Position). joined_in p rest))) (channel_printed c r)
+    ∙ ap (λ (x : Result Position ListFault). then_read x (λ (p : Position). joined_in p rest)) (joined_good done c (d ∷ q) i)
+    ∙ others_printed (done ++ c ∷ []) d q (subst IsPosition (sym (append_assoc done (c ∷ []) (d ∷ q))) i) rs.0 rs.1
+    ∙ ap Ok (append_assoc done (c ∷ []) (d ∷ q))
+
+position_printed : (p : Position) → IsPositionInRange p → position_in (parts_at 38 (position_text p)) ≡ Ok p
+position_printed [] r = let n = r.position.some in absurd (omega (arith, n))
+position_printed (c ∷ []) r =
+    let in_range = r.channels.0 in
+    ap (λ (t : List ℕ). position_in (parts_at 38 t)) (append-nil (channel_text c))
+    ∙ ap position_in (only_of 38 (channel_text c) (channel_lacks 38 refl refl c in_range))
+    ∙ ap (λ (x : Result Channel ListFault). then_read x (λ (d : Channel). Ok (d ∷ []))) (channel_printed c in_range)
+position_printed (c ∷ d ∷ q) r =
+    let in_range = r.channels.0 in
+    let rest = parts_at 38 (channel_text d ++ others_text q) in
+    ap position_in (first_of 38 (channel_text c) (channel_text d ++ others_text q) (channel_lacks 38 refl refl c in_range))
+    ∙ ap (λ (x : Result Channel ListFault). then_read x (λ (e : Channel). joined_in (e ∷ []) rest)) (channel_printed c in_range)
+    ∙ others_printed (c ∷ []) d q r.position r.channels.1.0 r.channels.1.1
+
 -- a line of two parts, and of three
 two_parts : (w a : List ℕ) → Lacks 32 w → Lacks 32 a → parts_at 32 (w ++ 32 ∷ a) ≡ w ∷ a ∷ []
 two_parts w a p q = first_of 32 w a p ∙ ap (λ (l : List (List ℕ)). w ∷ l) (only_of 32 a q)
@@ -127,7 +183,7 @@ layer_lacks mark e Arm1 = rw e (refl, (refl, (refl, (refl, tt))))
 layer_lacks mark e Arm2 = rw e (refl, (refl, (refl, (refl, tt))))
 layer_lacks mark e Trigger = rw e (refl, (refl, (refl, (refl, tt))))
 
-step_printed : (s : Step) → IsStep s → HasChannel s → step_in (parts_at 32 (join_with_byte 32 (parts_of s))) ≡ Ok s
+step_printed : (s : Step) → IsStep s → HasPosition s → step_in (parts_at 32 (join_with_byte 32 (parts_of s))) ≡ Ok s
 step_printed (step.Set k n) i h =
     let p : k ≤ 3600000000 = omega (arith, i.0) in
     let q : n ≤ 3600000000 = omega (arith, i.2) in
@@ -141,13 +197,13 @@ step_printed (step.Wait Trigger) i h = refl
 step_printed (step.Pause micros) i h =
     ap step_in (two_parts (codes "pause") (decimal micros) (refl, (refl, (refl, (refl, (refl, tt))))) (digits_lack 32 refl micros i.1))
     ∙ ap (λ (x : Result ℕ ListFault). then_read x (λ (m : ℕ). Ok (step.Pause m))) (number_printed 1 3600000000 micros i.0 i.1 i.1)
-step_printed (step.Close c) i h =
-    ap step_in (two_parts (codes "close") (channel_text c) (refl, (refl, (refl, (refl, (refl, tt))))) (channel_lacks 32 refl refl c h))
-    ∙ ap (λ (x : Result Channel ListFault). then_read x (λ (d : Channel). Ok (step.Close d))) (channel_printed c h)
+step_printed (step.Close p) i h =
+    ap step_in (two_parts (codes "close") (position_text p) (refl, (refl, (refl, (refl, (refl, tt))))) (position_lacks 32 refl refl refl p h.channels))
+    ∙ ap (λ (x : Result Position ListFault). then_read x (λ (q : Position). Ok (step.Close q))) (position_printed p h)
 step_printed step.Read i h = refl
-step_printed (step.Open c) i h =
-    ap step_in (two_parts (codes "open") (channel_text c) (refl, (refl, (refl, (refl, tt)))) (channel_lacks 32 refl refl c h))
-    ∙ ap (λ (x : Result Channel ListFault). then_read x (λ (d : Channel). Ok (step.Open d))) (channel_printed c h)
+step_printed (step.Open p) i h =
+    ap step_in (two_parts (codes "open") (position_text p) (refl, (refl, (refl, (refl, tt)))) (position_lacks 32 refl refl refl p h.channels))
+    ∙ ap (λ (x : Result Position ListFault). then_read x (λ (q : Position). Ok (step.Open q))) (position_printed p h)
 step_printed (step.Loop k to) i h =
     let p : k ≤ 3600000000 = omega (arith, i.0) in
     let q : to ≤ 3600000000 = omega (arith, i.1) in
@@ -157,7 +213,7 @@ step_printed (step.Loop k to) i h =
     ∙ ap (λ (x : Result ℕ ListFault). then_read x (λ (j : ℕ). Ok (step.Loop k j))) (number_printed 0 (most_steps - 1) to (omega arith) (omega (arith, i.1)) q)
 step_printed step.Halt i h = refl
 
-line_lacks : (s : Step) → IsStep s → HasChannel s → Lacks 10 (join_with_byte 32 (parts_of s))
+line_lacks : (s : Step) → IsStep s → HasPosition s → Lacks 10 (join_with_byte 32 (parts_of s))
 line_lacks (step.Set k n) i h =
     let p : k ≤ 3600000000 = omega (arith, i.0) in
     let q : n ≤ 3600000000 = omega (arith, i.2) in
@@ -167,9 +223,9 @@ line_lacks (step.Set k n) i h =
     ) (join_lacks (decimal k) (decimal n) (digits_lack 10 refl k p) (digits_lack 10 refl n q))
 line_lacks (step.Wait name) i h = join_lacks (codes "wait") (layer_word name) (refl, (refl, (refl, (refl, tt)))) (layer_lacks 10 refl name)
 line_lacks (step.Pause micros) i h = join_lacks (codes "pause") (decimal micros) (refl, (refl, (refl, (refl, (refl, tt))))) (digits_lack 10 refl micros i.1)
-line_lacks (step.Close c) i h = join_lacks (codes "close") (channel_text c) (refl, (refl, (refl, (refl, (refl, tt))))) (channel_lacks 10 refl refl c h)
+line_lacks (step.Close p) i h = join_lacks (codes "close") (position_text p) (refl, (refl, (refl, (refl, (refl, tt))))) (position_lacks 10 refl refl refl p h.channels)
 line_lacks step.Read i h = (refl, (refl, (refl, (refl, tt))))
-line_lacks (step.Open c) i h = join_lacks (codes "open") (channel_text c) (refl, (refl, (refl, (refl, tt)))) (channel_lacks 10 refl refl c h)
+line_lacks (step.Open p) i h = join_lacks (codes "open") (position_text p) (refl, (refl, (refl, (refl, tt)))) (position_lacks 10 refl refl refl p h.channels)
 line_lacks (step.Loop k to) i h =
     let p : k ≤ 3600000000 = omega (arith, i.0) in
     let q : to ≤ 3600000000 = omega (arith, i.1) in
@@ -183,13 +239,13 @@ line_lacks step.Halt i h = (refl, (refl, (refl, (refl, tt))))
 line_first : (line rest : List ℕ) → Lacks 10 line → parts_at 10 ((line ++ 10 ∷ []) ++ rest) ≡ line ∷ parts_at 10 rest
 line_first line rest h = ap (parts_at 10) (append_assoc line (10 ∷ []) rest) ∙ first_of 10 line rest h
 
-numbered_printed : (line : ℕ) (s : Step) → IsStep s → HasChannel s → line ≤ 2 + most_steps → numbered_step line (join_with_byte 32 (parts_of s)) ≡ Ok s
+numbered_printed : (line : ℕ) (s : Step) → IsStep s → HasPosition s → line ≤ 2 + most_steps → numbered_step line (join_with_byte 32 (parts_of s)) ≡ Ok s
 numbered_printed line s i h l =
     let t : nat_lt (2 + most_steps) line ≡ false = grind (arith, nat_tests) in
     ap (λ (x : Result Step ListFault). then_read x (λ (y : Step). cond (nat_lt (2 + most_steps) line) (Err TooLong) (Ok y))) (step_printed s i h)
     ∙ ap (λ (b : Bool). cond b (Err TooLong) (Ok s)) t
 
-steps_printed : (steps : List Step) (line : ℕ) → AllByRecursion IsStep steps → AllByRecursion HasChannel steps → line + length steps ≤ 8195
+steps_printed : (steps : List Step) (line : ℕ) → AllByRecursion IsStep steps → AllByRecursion HasPosition steps → line + length steps ≤ 8195
     → steps_in line (parts_at 10 (listed_lines steps)) ≡ Ok steps
 steps_printed [] line i h l = refl
 steps_printed (s ∷ steps) line i h l =
@@ -202,7 +258,7 @@ steps_printed (s ∷ steps) line i h l =
     then_read (steps_in (line + 1) more) (λ (l : List Step). Ok (x ∷ l)))) (numbered_printed line s i.0 h.0 here)
     ∙ ap (λ (r : Result (List Step) ListError). then_read r (λ (l : List Step). Ok (s ∷ l))) (steps_printed steps (line + 1) i.1 h.1 (omega arith))
 
-pub listing_printed : (p : Program) → IsProgramInRange p → AllByRecursion HasChannel p.steps → code_in (listing_of p) ≡ Ok p
+pub listing_printed : (p : Program) → IsProgramInRange p → AllByRecursion HasPosition p.steps → code_in (listing_of p) ≡ Ok p
 listing_printed p i h =
     let m : p.meter ≤ 3600000000 = omega (arith, i.meter.1) in
     let second = codes "meter" ++ 32 ∷ decimal p.meter in

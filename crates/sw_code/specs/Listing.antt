@@ -2,6 +2,7 @@
 use Rattle.std.specs.Prelude.{ℕ, List, [], ◌∷◌, ◌++◌, codes, decimal}
 use Rattle.std.specs.List.{join_with_byte}
 use Rattle.sw_base.specs.Layout.{Channel}
+use Rattle.sw_channel.specs.Positions.{Position}
 use Rattle.sw_base.specs.declared.terms.LayerName.{LayerName}
 use Rattle.sw_base.specs.declared.terms.LayerName.TheVariants.{Arm1, Arm2, Trigger}
 use Rattle.sw_code.specs.declared.code.Step.{Step}
@@ -17,14 +18,24 @@ layer_word Trigger = codes "trig"
 abbrev pub channel_text : Channel → List ℕ
 channel_text c = decimal c.0 ++ 33 ∷ decimal c.1
 
+-- each after `&`
+abbrev pub others_text : Position → List ℕ
+others_text [] = []
+others_text (c ∷ p) = 38 ∷ (channel_text c ++ others_text p)
+
+-- joined by `&`
+abbrev pub position_text : Position → List ℕ
+position_text [] = []
+position_text (c ∷ p) = channel_text c ++ others_text p
+
 -- the parts of a step's line
 abbrev pub parts_of : Step → List (List ℕ)
 parts_of (step.Set k n) = codes "set" ∷ decimal k ∷ decimal n ∷ []
 parts_of (step.Wait name) = codes "wait" ∷ layer_word name ∷ []
 parts_of (step.Pause micros) = codes "pause" ∷ decimal micros ∷ []
-parts_of (step.Close c) = codes "close" ∷ channel_text c ∷ []
+parts_of (step.Close p) = codes "close" ∷ position_text p ∷ []
 parts_of step.Read = codes "read" ∷ []
-parts_of (step.Open c) = codes "open" ∷ channel_text c ∷ []
+parts_of (step.Open p) = codes "open" ∷ position_text p ∷ []
 parts_of (step.Loop k to) = codes "loop" ∷ decimal k ∷ decimal to ∷ []
 parts_of step.Halt = codes "halt" ∷ []
 

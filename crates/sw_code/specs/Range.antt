@@ -2,6 +2,7 @@
 use Rattle.std.specs.Prelude.{ℕ, ◌<◌, ◌≤◌, List, length}
 use Rattle.std.specs.List.{AllByRecursion}
 use Rattle.sw_base.specs.Layout.{Channel}
+use Rattle.sw_channel.specs.Positions.{Position, IsPosition}
 use Rattle.sw_base.specs.Limits.{most_slots, most_channels, most_trigger_count, longest_delay}
 use Rattle.sw_code.specs.declared.code.Step.{Step}
 use Rattle.sw_code.specs.declared.code.Step.TheVariants as step
@@ -15,14 +16,14 @@ pub record Program : Type 0 where
 abbrev pub most_steps : ℕ
 most_steps = 8192
 
--- the numbers of a step are in range; a channel keeps its own
+-- the numbers of a step are in range; a position keeps its own
 abbrev pub IsStep : Step → Type 0
 IsStep (step.Set k n) = (k ≤ 2) × (1 ≤ n) × (n ≤ most_trigger_count)
 IsStep (step.Wait name) = Unit {0}
 IsStep (step.Pause micros) = (1 ≤ micros) × (micros ≤ longest_delay)
-IsStep (step.Close c) = Unit {0}
+IsStep (step.Close p) = Unit {0}
 IsStep step.Read = Unit {0}
-IsStep (step.Open c) = Unit {0}
+IsStep (step.Open p) = Unit {0}
 IsStep (step.Loop k to) = (k ≤ 2) × (to < most_steps)
 IsStep step.Halt = Unit {0}
 
@@ -30,11 +31,16 @@ IsStep step.Halt = Unit {0}
 abbrev pub IsInChannelRange : Channel → Type 0
 IsInChannelRange c = (1 ≤ c.0) × (c.0 ≤ most_slots) × (1 ≤ c.1) × (c.1 ≤ most_channels)
 
--- the step's channel, if it has one, is in range
-abbrev pub HasChannel : Step → Type 0
-HasChannel (step.Close c) = IsInChannelRange c
-HasChannel (step.Open c) = IsInChannelRange c
-HasChannel _ = Unit {0}
+-- a position whose channels are in range
+pub record IsPositionInRange (p : Position) : Type 0 where
+  pub position : IsPosition p
+  pub channels : AllByRecursion IsInChannelRange p
+
+-- the step's position, if it has one, is one, and its channels are in range
+abbrev pub HasPosition : Step → Type 0
+HasPosition (step.Close p) = IsPositionInRange p
+HasPosition (step.Open p) = IsPositionInRange p
+HasPosition _ = Unit {0}
 
 pub record IsProgramInRange (p : Program) : Type 0 where
   pub meter : (1 ≤ p.meter) × (p.meter ≤ most_slots)

@@ -5,6 +5,7 @@ use Rattle.std.specs.Prelude.{codes, if◌then◌else◌}
 use Rattle.std.specs.List.{list_all, slice_split}
 use Rattle.std.specs.Str.{bytes_eq}
 use Rattle.sw_base.specs.Layout.{Channel}
+use Rattle.sw_channel.specs.Positions.{Position, has, most_joined}
 use Rattle.sw_base.specs.Limits.{most_slots, most_channels, most_trigger_count, longest_delay}
 use Rattle.sw_base.specs.Text.{is_digit}
 use Rattle.sw_base.specs.Number.{value_of}
@@ -40,6 +41,21 @@ channel_in (s ∷ c ∷ []) = then_read (number_in 1 most_slots s) (λ slot.
     then_read (number_in 1 most_channels c) (λ ch. Ok (slot, ch)))
 channel_in _ = Err BadNumber
 
+-- a channel more: not one that is there, nor a fifth
+abbrev pub joined_with : Position → Channel → Result Position ListFault
+joined_with p c = if has p c then Err BadNumber else
+    (if nat_lt (length p) most_joined then Ok (p ++ c ∷ []) else Err BadNumber)
+
+abbrev pub joined_in : Position → List (List ℕ) → Result Position ListFault
+joined_in p [] = Ok p
+joined_in p (a ∷ parts) = then_read (channel_in (parts_at 33 a)) (λ c.
+    then_read (joined_with p c) (λ q. joined_in q parts))
+
+-- channels joined by `&`
+abbrev pub position_in : List (List ℕ) → Result Position ListFault
+position_in [] = Err BadNumber
+position_in (a ∷ parts) = then_read (channel_in (parts_at 33 a)) (λ c. joined_in (c ∷ []) parts)
+
 abbrev pub layer_in : List ℕ → Result LayerName ListFault
 layer_in word =
     if bytes_eq word (codes "arm1") then Ok Arm1
@@ -57,8 +73,8 @@ step_with word a =
     if bytes_eq word (codes "wait") then then_read (layer_in a) (λ name. Ok (step.Wait name))
     else (if bytes_eq word (codes "pause") then then_read (number_in 1 longest_delay a) (λ micros.
     Ok (step.Pause micros))
-    else (if bytes_eq word (codes "close") then then_read (channel_in (parts_at 33 a)) (λ c. Ok (step.Close c))
-    else (if bytes_eq word (codes "open") then then_read (channel_in (parts_at 33 a)) (λ c. Ok (step.Open c))
+    else (if bytes_eq word (codes "close") then then_read (position_in (parts_at 38 a)) (λ p. Ok (step.Close p))
+    else (if bytes_eq word (codes "open") then then_read (position_in (parts_at 38 a)) (λ p. Ok (step.Open p))
     else Err BadStep)))
 
 abbrev pub step_with_two : List ℕ → List ℕ → List ℕ → Result Step ListFault

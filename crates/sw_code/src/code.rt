@@ -9,7 +9,8 @@ ghost use Rattle.sw_trigger.specs.Agenda.{Item};
 ghost use Rattle.sw_code.specs.declared.code.Step.{Step};
 
 use std::marker::Model;
-use sw_base::{Chan, LayerName};
+use sw_base::LayerName;
+use sw_channel::Position;
 
 /// How many steps a code has at most. They are numbered from 0.
 pub const STEPS: u16 = 8_192;
@@ -23,12 +24,12 @@ pub enum Step {
     Wait(LayerName),
     /// The end of so many microseconds is awaited, 1 to an hour.
     Pause(u64),
-    /// The channel is closed.
-    Close(Chan),
+    /// The channels are closed, in order.
+    Close(Position),
     /// A reading of the meter is awaited.
     Read,
-    /// The channel is opened.
-    Open(Chan),
+    /// The channels are opened, in order.
+    Open(Position),
     /// The counter goes down by one, and where it isn't 0 then, the step of that number is next, below `STEPS`.
     Loop(u8, u16),
     /// The end.

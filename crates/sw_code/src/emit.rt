@@ -104,15 +104,15 @@ fn put_pass(steps: &mut Vec<Step>, settings: &Settings, k: u32) -> Result<(), Al
     requires listed { 0 < length settings.now.list }
     ensures { OnOk result (steps.new.items ≡ steps.old.items ++ steps_of (pass_of settings.now k)) }
 {
-    let channel = settings.channel(k);
+    let position = settings.position(k);
     put_head(
         steps,
         LayerName::Trigger,
         settings.layer(LayerName::Trigger),
     )?;
-    steps.push(Step::Close(channel))?;
+    steps.push(Step::Close(position))?;
     steps.push(Step::Read)?;
-    steps.push(Step::Open(channel))?;
+    steps.push(Step::Open(position))?;
     Ok(())
 }
 

@@ -5,10 +5,12 @@ ghost use Rattle.std.specs.List.{list_all};
 ghost use Rattle.std.specs.Str.{bytes_eq};
 ghost use Rattle.sw_base.specs.Text.{AllPass, is_digit};
 ghost use Rattle.sw_base.specs.Number.{value_of};
-ghost use Rattle.sw_code.specs.Reading.{parts_at, is_numeral, number_in, channel_in};
+ghost use Rattle.sw_code.specs.Reading.{parts_at, is_numeral, number_in, channel_in, joined_with, joined_in, position_in};
+ghost use Rattle.sw_code.specs.Reading.{then_read};
 
 use crate::fault::ListFault;
 use sw_base::{CHANNELS, Chan, SLOTS, is_digit, split_once};
+use sw_channel::Position;
 
 /// What stands before the first mark, and what follows it; none where there is no mark.
 pub fn first_part(bytes: &[u8], mark: u8) -> Option<(&[u8], &[u8])>
@@ -57,7 +59,7 @@ fn are_digits(part: &[u8]) -> bool
 
 /// The channel that the part writes as `slot!channel`.
 #[tactic(auto, using(crate::proofs::Listed::channel_more))]
-pub fn channel(part: &[u8]) -> Result<Chan, ListFault>
+fn channel(part: &[u8]) -> Result<Chan, ListFault>
     ensures { result ≡ channel_in (parts_at 33 part.now) }
 {
     let Some((slot, ch)) = first_part(part, b'!') else {
@@ -69,6 +71,43 @@ pub fn channel(part: &[u8]) -> Result<Chan, ListFault>
     let slot = number(slot, 1, u64::from(SLOTS))?;
     let ch = number(ch, 1, u64::from(CHANNELS))?;
     Ok(Chan::new(slot as u8, ch as u8))
+}
+
+/// The position that the part writes as channels joined by `&`.
+pub fn position(part: &[u8]) -> Result<Position, ListFault>
+    ensures { result ≡ position_in (parts_at 38 part.now) }
+{
+    match first_part(part, b'&') {
+        None => Ok(Position::new(channel(part)?)),
+        Some((first, rest)) => all_joined(Position::new(channel(first)?), rest),
+    }
+}
+
+/// The position with the channels that the text writes, joined by `&`.
+fn all_joined(position: Position, text: &[u8]) -> Result<Position, ListFault>
+    ensures { result ≡ joined_in position (parts_at 38 text.now) }
+{
+    let mut joined = position;
+    let mut rest = text;
+    'channels: loop {
+        match first_part(rest, b'&') {
+            None => return with(joined, channel(rest)?),
+            Some((first, others)) => {
+                joined = with(joined, channel(first)?)?;
+                rest = others;
+            }
+        }
+    }
+}
+
+/// The position with one channel more.
+fn with(position: Position, chan: Chan) -> Result<Position, ListFault>
+    ensures { result ≡ joined_with position chan }
+{
+    match position.joined(chan) {
+        Ok(joined) => Ok(joined),
+        Err(_) => Err(ListFault::BadNumber),
+    }
 }
 
 fn value(digits: &[u8]) -> u128

@@ -10,7 +10,7 @@ ghost use Rattle.sw_code.specs.Reading.{on_line, numbered_step, steps_in, code_i
 
 use crate::code::{Code, STEPS, Step};
 use crate::fault::{ListError, ListFault};
-use crate::parts::{channel, first_part, is_word, number};
+use crate::parts::{first_part, is_word, number, position};
 use std::alloc::Global;
 use sw_base::{LONGEST_DELAY, LayerName, SLOTS, TRIGGER_COUNT};
 
@@ -168,10 +168,10 @@ fn step_with(word: &[u8], part: &[u8]) -> Result<Step, ListFault>
         return Ok(Step::Pause(number(part, 1, LONGEST_DELAY)?));
     }
     if is_word(word, b"close") {
-        return Ok(Step::Close(channel(part)?));
+        return Ok(Step::Close(position(part)?));
     }
     if is_word(word, b"open") {
-        return Ok(Step::Open(channel(part)?));
+        return Ok(Step::Open(position(part)?));
     }
     Err(ListFault::BadStep)
 }

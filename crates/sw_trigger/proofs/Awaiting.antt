@@ -14,7 +14,7 @@ use Rattle.sw_base.specs.declared.terms.Source.TheVariants.{Immediate, Bus, Exte
 use Rattle.sw_trigger.specs.declared.layer.Awaited.{Awaited}
 use Rattle.sw_trigger.specs.declared.layer.Awaited.TheVariants.{Pause, Read}
 use Rattle.sw_trigger.specs.Settings.{SettingsSeen}
-use Rattle.sw_trigger.specs.Agenda.{Item, Awaits, Close, Open, repeated, head_of, passes, pass_of, visit, channel_at, arm_turn, arm_turns, agenda, wait_of}
+use Rattle.sw_trigger.specs.Agenda.{Item, Awaits, Close, Open, repeated, head_of, passes, pass_of, visit, position_at, arm_turn, arm_turns, agenda, wait_of}
 use Rattle.sw_trigger.specs.Agenda.{pause_of}
 use Rattle.sw_trigger.specs.Counts.{awaiting, reads, in_turn, in_pass, in_arm2, in_arm1}
 use Rattle.sw_trigger.proofs.Repeats.{length-repeated, get-repeated, get-append_left, get-append_right}
@@ -40,7 +40,7 @@ pub awaiting-passes : (s : SettingsSeen) (k n : ℕ) → awaiting (passes s k n)
 awaiting-passes s k zero = refl
 awaiting-passes s k (suc n) =
     awaiting-append (pass_of s k) (passes s (suc k) n)
-    ∙ ap (λ l. l ++ awaiting (passes s (suc k) n)) (awaiting-after_head (head_of Trigger s.trigger) (visit (channel_at s.list k)))
+    ∙ ap (λ l. l ++ awaiting (passes s (suc k) n)) (awaiting-after_head (head_of Trigger s.trigger) (visit (position_at s.list k)))
     ∙ ap (λ l. in_pass s ++ l) (awaiting-passes s (suc k) n)
 
 awaiting-arm_turns : (name : LayerName) (l : Layer) (inside : List Item)
@@ -111,7 +111,7 @@ reads-passes s k (suc n) =
     omega (
       arith,
       reads-append (pass_of s k) (passes s (suc k) n),
-      reads-append (map Awaits (head_of Trigger s.trigger)) (visit (channel_at s.list k)),
+      reads-append (map Awaits (head_of Trigger s.trigger)) (visit (position_at s.list k)),
       reads-head Trigger s.trigger,
       reads-passes s (suc k) n,
     )

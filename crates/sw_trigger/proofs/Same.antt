@@ -1,11 +1,13 @@
 -- What `==` tells of layers and lists of channels, and two settings of the same parts.
-use Rattle.std.proofs.Common.{◌≡◌, ℕ, Bool, true, false, not, ◌&&◌, eqb, List, refl, sym, ap, ◌∙◌}
+use Rattle.std.proofs.Common.{◌≡◌, ℕ, Bool, true, false, not, ◌&&◌, eqb, List, [], ◌∷◌, ◌++◌, ◌-◌, length, take, replicate, refl, sym, ap, ◌∙◌}
 use Rattle.std.specs.Bool.{Decides}
 use Rattle.std.specs.Cmp.Lexicographic.{pointwise}
 use Rattle.std.proofs.lemmas.Bool.Decides.{Decides-eqb, Decides-and, Decides-like}
 use Rattle.std.proofs.lemmas.Slice.Eq.{slice_eq-Decides}
 use denote.Enum.Bare.{sameb, same_true, true_same}
 use Rattle.sw_base.specs.Layout.{Channel}
+use Rattle.sw_channel.specs.Positions.{Position, most_joined}
+use Rattle.sw_channel.specs.PositionSeen.{first_of, filled}
 use Rattle.sw_base.specs.contracts.terms.Source.{the_type}
 use Rattle.sw_base.specs.declared.terms.Source.{Source}
 use Rattle.sw_trigger.specs.declared.layer.Layer.{Layer}
@@ -54,7 +56,30 @@ channel_decides a b =
 pub channels_decide : (xs ys : List Channel) (r : Bool) → r ≡ pointwise same_channel xs ys → Decides r (xs ≡ ys)
 channels_decide = slice_eq-Decides channel_decides
 
-abbrev setup : Layer → Layer → Layer → List Channel → ℕ → ℕ → SettingsSeen
+channels_sides : (xs ys : List Channel) → Decides (pointwise same_channel xs ys) (xs ≡ ys)
+channels_sides xs ys = channels_decide xs ys (pointwise same_channel xs ys) refl
+
+take_front : (p r : List Channel) → take (length p) (p ++ r) ≡ p
+take_front [] r = refl
+take_front (c ∷ p) r = ap (λ (l : List Channel). c ∷ l) (take_front p r)
+
+-- what `==` of two positions looks at: their channels, filled up, and how many they are
+abbrev same_position : Position → Position → Bool
+same_position a b = pointwise same_channel (filled a) (filled b) && eqb (length a) (length b)
+
+pub position_decides : (a b : Position) → Decides (same_position a b) (a ≡ b)
+position_decides a b =
+    Decides-like (same_position a b) (λ (e : (filled a ≡ filled b) × (length a ≡ length b)).
+    sym (take_front a (replicate (most_joined - length a) (first_of a)))
+    ∙ ap (λ (l : List Channel). take (length a) l) e.0 ∙ ap (λ (n : ℕ). take n (filled b)) e.1
+    ∙ take_front b (replicate (most_joined - length b) (first_of b)))
+    (λ (e : a ≡ b). (ap filled e, ap length e))
+    (Decides-and (pointwise same_channel (filled a) (filled b)) (eqb (length a) (length b)) (channels_sides (filled a) (filled b)) (Decides-eqb (length a) (length b)))
+
+pub positions_decide : (xs ys : List Position) (r : Bool) → r ≡ pointwise same_position xs ys → Decides r (xs ≡ ys)
+positions_decide = slice_eq-Decides position_decides
+
+abbrev setup : Layer → Layer → Layer → List Position → ℕ → ℕ → SettingsSeen
 setup arm1 arm2 trigger list meter points = record { arm1 = arm1; arm2 = arm2; trigger = trigger; list = list; meter = meter; points = points }
 
 pub same_setup : (a b : SettingsSeen) → a.arm1 ≡ b.arm1 → a.arm2 ≡ b.arm2 → a.trigger ≡ b.trigger → a.list ≡ b.list → a.meter ≡ b.meter → a.points ≡ b.points

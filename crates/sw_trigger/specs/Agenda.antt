@@ -2,7 +2,7 @@
 -- layer; the order of the layers is this instrument's own.
 use Rattle.std.specs.Prelude.{ℕ, zero, suc, ◌%◌, ◌==◌, List, [], ◌∷◌, ◌++◌, length, map, take, slice_index_or}
 use Rattle.std.specs.Prelude.{if◌then◌else◌}
-use Rattle.sw_base.specs.Layout.{Channel}
+use Rattle.sw_channel.specs.Positions.{Position}
 use Rattle.sw_base.specs.declared.terms.Source.{Source}
 use Rattle.sw_base.specs.declared.terms.Source.TheVariants.{Immediate, Bus, External, Hold}
 use Rattle.sw_base.specs.declared.terms.LayerName.{LayerName}
@@ -12,11 +12,11 @@ use Rattle.sw_trigger.specs.declared.layer.Awaited.{Awaited}
 use Rattle.sw_trigger.specs.declared.layer.Awaited.TheVariants.{Wait, Pause, Read}
 use Rattle.sw_trigger.specs.Settings.{SettingsSeen}
 
--- one thing that a scan does: it awaits something, or it closes or opens a channel
+-- one thing that a scan does: it awaits something, or it closes or opens a position
 pub data Item : Type 0 where
   Awaits : (what : Awaited) → Item
-  Close : (c : Channel) → Item
-  Open : (c : Channel) → Item
+  Close : (p : Position) → Item
+  Open : (p : Position) → Item
 
 -- a list n times over
 abbrev pub repeated : {A : Type 0} → ℕ → List A → List A
@@ -38,17 +38,17 @@ pause_of micros = if micros == 0 then [] else Pause micros ∷ []
 abbrev pub head_of : LayerName → Layer → List Awaited
 head_of name layer = wait_of name layer.source ++ pause_of layer.delay_us
 
--- the channel of pass number k: the list is read round and round
-abbrev pub channel_at : List Channel → ℕ → Channel
-channel_at list k = slice_index_or list (k % length list) (0, 0)
+-- the position of pass number k: the list is read round and round
+abbrev pub position_at : List Position → ℕ → Position
+position_at list k = slice_index_or list (k % length list) []
 
--- one channel measured
-abbrev pub visit : Channel → List Item
-visit c = Close c ∷ Awaits Read ∷ Open c ∷ []
+-- one position measured
+abbrev pub visit : Position → List Item
+visit p = Close p ∷ Awaits Read ∷ Open p ∷ []
 
 -- pass number k of the TRIGger layer
 abbrev pub pass_of : SettingsSeen → ℕ → List Item
-pass_of s k = map Awaits (head_of Trigger s.trigger) ++ visit (channel_at s.list k)
+pass_of s k = map Awaits (head_of Trigger s.trigger) ++ visit (position_at s.list k)
 
 -- n passes from number k on
 abbrev pub passes : SettingsSeen → ℕ → ℕ → List Item
@@ -70,5 +70,5 @@ agenda s = if length s.list == 0 then []
     else arm_turns Arm1 s.arm1 (arm_turns Arm2 s.arm2 (passes s 0 s.trigger.count))
 
 -- the entries that the agenda uses
-abbrev pub used_of : SettingsSeen → List Channel
+abbrev pub used_of : SettingsSeen → List Position
 used_of s = take s.trigger.count s.list

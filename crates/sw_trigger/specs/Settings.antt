@@ -1,7 +1,7 @@
 -- The settings of a scan: the layers of the ARM-TRIGger model (SCPI-1999, chapter 24), the scan list, the meter's slot
 -- and the room for readings.
 use Rattle.std.specs.Prelude.{ℕ, ◌≤◌, List, [], length}
-use Rattle.sw_base.specs.Layout.{Channel}
+use Rattle.sw_channel.specs.Positions.{Position}
 pub use Rattle.sw_base.specs.Limits.{longest_delay}
 use Rattle.sw_base.specs.Limits.{most_slots, most_entries, most_points, most_arm_count, most_trigger_count}
 use Rattle.sw_base.specs.declared.terms.Source.TheVariants.{Immediate}
@@ -14,7 +14,7 @@ pub record SettingsSeen : Type 0 where
   pub arm1 : Layer
   pub arm2 : Layer
   pub trigger : Layer
-  pub list : List Channel
+  pub list : List Position
   pub meter : ℕ
   pub points : ℕ
 

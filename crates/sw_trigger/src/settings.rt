@@ -4,17 +4,18 @@ ghost use Rattle.std.specs.Prelude.{◌≡◌, ◌%◌, ◌<◌, ◌≤◌, ◌�
 ghost use Rattle.sw_base.specs.declared.error.ScpiError.TheVariants.{DataOutOfRange, TooMuchData};
 ghost use Rattle.sw_base.specs.Limits.{most_slots, most_entries, most_points, longest_delay};
 ghost use Rattle.sw_trigger.specs.Settings.{IsInRange, IsLayer, layer_of, with_layer, most_of, at_reset};
-ghost use Rattle.sw_trigger.specs.Agenda.{channel_at, used_of};
+ghost use Rattle.sw_trigger.specs.Agenda.{position_at, used_of};
 
 use crate::layer::Layer;
 use std::alloc::{AllocError, Global};
 use std::marker::Model;
 use sw_base::{
-    ARM_COUNT, Chan, LIST_ENTRIES, LONGEST_DELAY, LayerName, POINTS, SLOTS, ScpiError, Source,
+    ARM_COUNT, LIST_ENTRIES, LONGEST_DELAY, LayerName, POINTS, SLOTS, ScpiError, Source,
     TRIGGER_COUNT,
 };
+use sw_channel::Position;
 
-/// What a scan does: three layers, a list of channels, the slot of its meter and its room for readings.
+/// What a scan does: three layers, a list of positions, the slot of its meter and its room for readings.
 ///
 /// Contracts see a plain record. Counts are 1 to 1,000 for an ARM layer and 1 to 100,000 for TRIGger, delays at most an
 /// hour, the meter's slot 1 to `SLOTS`, the points 1 to 100,000, and the list has at most `LIST_ENTRIES` entries.
@@ -23,7 +24,7 @@ pub struct Settings {
     arm1: Layer,
     arm2: Layer,
     trigger: Layer,
-    list: Vec<Chan>,
+    list: Vec<Position>,
     meter: u8,
     points: u32,
 }
@@ -107,8 +108,8 @@ impl Settings {
         Ok(())
     }
 
-    /// Sets the list of channels, which need not exist; -223 for more than `LIST_ENTRIES`, which keeps the old list.
-    pub fn set_list(&mut self, list: Vec<Chan>) -> Result<(), ScpiError>
+    /// Sets the list of positions, whose channels need not exist; -223 for more than `LIST_ENTRIES`, which keeps the old list.
+    pub fn set_list(&mut self, list: Vec<Position>) -> Result<(), ScpiError>
         ensures taken { IsOk result ↔ (length list.items ≤ most_entries) }
         ensures set { OnOk result (self.new ≡ record self.old { list = list.items }) }
         ensures kept { OnErr result (self.new ≡ self.old) }
@@ -161,8 +162,8 @@ impl Settings {
         }
     }
 
-    /// The channels, in the order of the scan.
-    pub fn list(&self) -> &[Chan]
+    /// The positions, in the order of the scan.
+    pub fn list(&self) -> &[Position]
         ensures list { result.now ≡ self.now.list }
         ensures range { IsInRange self.now }
     {
@@ -170,7 +171,7 @@ impl Settings {
     }
 
     /// The entries that a scan uses: the first ones, as many as TRIGger's count.
-    pub fn used(&self) -> &[Chan]
+    pub fn used(&self) -> &[Position]
         ensures { result.now ≡ used_of self.now }
     {
         let count = self.trigger.count as usize;
@@ -181,10 +182,10 @@ impl Settings {
         }
     }
 
-    /// The channel of TRIGger's pass number `k`, from 0.
-    pub fn channel(&self, k: u32) -> Chan
+    /// The position of TRIGger's pass number `k`, from 0.
+    pub fn position(&self, k: u32) -> Position
         requires listed { 0 < length self.now.list }
-        ensures { result ≡ channel_at self.now.list k }
+        ensures { result ≡ position_at self.now.list k }
     {
         self.list[k as usize % self.list.len()]
     }

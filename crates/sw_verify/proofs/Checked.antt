@@ -1,34 +1,22 @@
 -- What the tests of the check tell.
 use Rattle.std.proofs.Common.{◌≡◌, ℕ, zero, suc, ◌%◌, ◌<◌, ◌≤◌, Bool, true, false, ◌&&◌, not, List, [], ◌∷◌, length, take, get_or, eqb, refl, sym, ap, ◌∙◌}
 use Rattle.std.proofs.Common.{subst, ⊎_elim, inl, inr, arith}
-use Rattle.std.specs.List.{list_all, list_any, Any}
+use Rattle.std.specs.List.{list_all, list_any, Any, AllByRecursion}
 use Rattle.std.proofs.lemmas.Bool.{cases_Bool, and_parts, and_cases, and_from, or_cases, or_left, or_right, eqb-false, eq-eqb, eqb-true, ne_eqb, not-true}
 use Rattle.std.proofs.lemmas.Bool.{not-false, not_from_false, both_ways, false_from_ne_true, true_from_ne_false}
 use Rattle.std.proofs.Math.Nat.{mod-eq_of_lt, mod-lt, mod-le}
+use Rattle.sw_channel.specs.Positions.{Position}
 use Rattle.sw_base.specs.Layout.{Channel, Layout, is_present, group_of, IsClash}
 use Rattle.sw_trigger.specs.Settings.{SettingsSeen, IsInRange}
-use Rattle.sw_trigger.specs.Agenda.{channel_at, used_of, agenda}
+use Rattle.sw_trigger.specs.Agenda.{position_at, used_of, agenda}
 use Rattle.sw_trigger.specs.Counts.{reads}
-use Rattle.sw_verify.specs.Channels.{same_channel, is_among}
-use Rattle.sw_verify.specs.Sound.{CanCloseOne, IsSound}
-use Rattle.sw_verify.specs.Marks.{in_group, is_free}
-use Rattle.sw_verify.specs.Check.{IsBlocked}
+use Rattle.sw_verify.specs.Channels.{Channels, same_channel, is_among, with_channel}
+use Rattle.sw_verify.specs.Sound.{CanCloseOne, CanCloseEach, IsSound}
+use Rattle.sw_verify.specs.Check.{IsBlocked, IsBlockedAt}
+use Rattle.sw_verify.specs.Stops.{IsBarred, IsBarredAt}
+use Rattle.sw_verify.specs.declared.refusal.Refusal.{Refusal}
+use Rattle.sw_verify.specs.declared.refusal.Refusal.TheVariants.{NoChannel, GroupClash}
 use Rattle.sw_verify.proofs.Round.{same_channel_is, same_channel_self, sound_exactly}
-
--- a list's test, entry by entry
-all_at : {X : Type 0} (p : X → Bool) (xs : List X) (n : ℕ) (d : X) → list_all p (take n xs) ≡ true → (j : ℕ) → j < n → j < length xs → p (get_or xs j d) ≡ true
-all_at p [] n d h j k l = absurd (omega arith)
-all_at p (x ∷ xs) zero d h j k l = absurd (omega arith)
-all_at p (x ∷ xs) (suc n) d h zero k l = (and_parts (p x) (list_all p (take n xs)) h).0
-all_at p (x ∷ xs) (suc n) d h (suc j) k l = all_at p xs n d (and_parts (p x) (list_all p (take n xs)) h).1 j (omega arith) (omega arith)
-
-all_from : {X : Type 0} (p : X → Bool) (xs : List X) (n : ℕ) (d : X) → ((j : ℕ) → j < n → j < length xs → p (get_or xs j d) ≡ true)
-    → list_all p (take n xs) ≡ true
-all_from p [] zero d h = refl
-all_from p [] (suc n) d h = refl
-all_from p (x ∷ xs) zero d h = refl
-all_from p (x ∷ xs) (suc n) d h =
-    and_from (p x) (list_all p (take n xs)) (h 0 (omega arith) (omega arith)) (all_from p xs n d (λ j k l. h (suc j) (omega arith) (omega arith)))
 
 -- an entry that fails the test is there exactly where the list's test fails
 pub any_fails : {X : Type 0} (p : X → Bool) (P : X → Type 0) → ((x : X) → p x ≡ false → P x) → (xs : List X) → list_all p xs ≡ false → Any P xs
@@ -43,17 +31,46 @@ none_fails p P f [] h (k, x, l, e, w) = absurd (omega arith)
 none_fails p P f (y ∷ ys) h (zero, x, l, e, w) = f y (and_parts (p y) (list_all p ys) h).0 (subst P (sym e) w)
 none_fails p P f (y ∷ ys) h (suc k, x, l, e, w) = none_fails p P f ys (and_parts (p y) (list_all p ys) h).1 (k, x, omega arith, e, w)
 
--- the same for the channels of the passes
-used_at : (p : Channel → Bool) (s : SettingsSeen) → 0 < length s.list → list_all p (used_of s) ≡ true → (j : ℕ) → j < s.trigger.count
-    → p (channel_at s.list j) ≡ true
-used_at p s h a j k =
+-- what holds of each entry
+each_at : {X : Type 0} (P : X → Type 0) (xs : List X) (n : ℕ) (d : X) → AllByRecursion P (take n xs) → (j : ℕ) → j < n → j < length xs → P (get_or xs j d)
+each_at P [] n d h j k l = absurd (omega arith)
+each_at P (x ∷ xs) zero d h j k l = absurd (omega arith)
+each_at P (x ∷ xs) (suc n) d h zero k l = h.0
+each_at P (x ∷ xs) (suc n) d h (suc j) k l = each_at P xs n d h.1 j (omega arith) (omega arith)
+
+each_from : {X : Type 0} (P : X → Type 0) (xs : List X) (n : ℕ) (d : X) → ((j : ℕ) → j < n → j < length xs → P (get_or xs j d))
+    → AllByRecursion P (take n xs)
+each_from P [] zero d h = tt
+each_from P [] (suc n) d h = tt
+each_from P (x ∷ xs) zero d h = tt
+each_from P (x ∷ xs) (suc n) d h = (h 0 (omega arith) (omega arith), each_from P xs n d (λ j k l. h (suc j) (omega arith) (omega arith)))
+
+all_each : {X : Type 0} (p : X → Bool) (P : X → Type 0) → ((x : X) → P x → p x ≡ true) → (xs : List X) → AllByRecursion P xs → list_all p xs ≡ true
+all_each p P f [] h = refl
+all_each p P f (x ∷ xs) h = and_from (p x) (list_all p xs) (f x h.0) (all_each p P f xs h.1)
+
+pub each_but_any : {X : Type 0} (P Q : X → Type 0) → ((x : X) → P x → Q x → ⊥) → (xs : List X) → AllByRecursion P xs → Any Q xs → ⊥
+each_but_any P Q f [] h (k, x, l, e, w) = absurd (omega arith)
+each_but_any P Q f (y ∷ ys) h (zero, x, l, e, w) = f y h.0 (subst Q (sym e) w)
+each_but_any P Q f (y ∷ ys) h (suc k, x, l, e, w) = each_but_any P Q f ys h.1 (k, x, omega arith, e, w)
+
+pub any_with : {X : Type 0} (p : X → Bool) (P Q : X → Type 0) → ((x : X) → p x ≡ true → P x → Q x) → (xs : List X) → list_all p xs ≡ true → Any P xs → Any Q xs
+any_with p P Q f [] h (k, x, l, e, w) = absurd (omega arith)
+any_with p P Q f (y ∷ ys) h (zero, x, l, e, w) = (0, y, omega arith, refl, f y (and_parts (p y) (list_all p ys) h).0 (subst P (sym e) w))
+any_with p P Q f (y ∷ ys) h (suc k, x, l, e, w) =
+    let r = any_with p P Q f ys (and_parts (p y) (list_all p ys) h).1 (k, x, omega arith, e, w) in (suc r.0, r.1, omega arith, r.3, r.4)
+
+-- the same for the positions of the passes
+used_each : (P : Position → Type 0) (s : SettingsSeen) → 0 < length s.list → AllByRecursion P (used_of s) → (j : ℕ) → j < s.trigger.count
+    → P (position_at s.list j)
+used_each P s h a j k =
     let i : j % length s.list < length s.list = mod-lt j h in
     let l : j % length s.list ≤ j = mod-le j (length s.list) in
-    all_at p s.list s.trigger.count (0, 0) a (j % length s.list) (omega arith) i
+    each_at P s.list s.trigger.count [] a (j % length s.list) (omega arith) i
 
-used_from : (p : Channel → Bool) (s : SettingsSeen) → ((j : ℕ) → j < s.trigger.count → p (channel_at s.list j) ≡ true) → list_all p (used_of s) ≡ true
-used_from p s a =
-    all_from p s.list s.trigger.count (0, 0) (λ j k l. subst (λ (i : ℕ). p (get_or s.list i (0, 0)) ≡ true) (mod-eq_of_lt l) (a j k))
+each_used : (P : Position → Type 0) (s : SettingsSeen) → ((j : ℕ) → j < s.trigger.count → P (position_at s.list j)) → AllByRecursion P (used_of s)
+each_used P s a =
+    each_from P s.list s.trigger.count [] (λ j k l. subst (λ (i : ℕ). P (get_or s.list i [])) (mod-eq_of_lt l) (a j k))
 
 -- a channel of the list passes the test exactly where the list's test says so
 pub any_among : (p : Channel → Bool) (xs : List Channel) (x : Channel) → is_among xs x ≡ true → p x ≡ true → list_any p xs ≡ true
@@ -70,68 +87,45 @@ among_any p (y ∷ ys) h =
     (λ (e : list_any p ys ≡ true). let r = among_any p ys e in (r.0, or_right (same_channel r.0 y) (is_among ys r.0) r.1, r.2))
     (or_cases (p y) (list_any p ys) h)
 
-module _ (layout : Layout) (closed : List Channel) (c : Channel) where
-  abbrev in_its_group : Bool
-  in_its_group = not (eqb (group_of layout c) 0) && list_any (in_group layout (group_of layout c)) closed
+-- where each channel can be closed, all of them are there, and none is so that it can't be closed
+pub each_present : (layout : Layout) (b : Channels) (p : Position) → CanCloseEach layout b p → list_all (is_present layout) p ≡ true
+each_present layout b [] k = refl
+each_present layout b (c ∷ p) k = and_from (is_present layout c) (list_all (is_present layout) p) k.0.present (each_present layout (with_channel c b) p k.1)
 
-  pub free_blocked : is_free layout closed c ≡ true → IsBlocked layout (is_among closed) c → ⊥
-  free_blocked f b =
-      let p = and_parts (not (is_among closed c)) (not in_its_group) f in
-      ⊎_elim (λ (m : is_among closed c ≡ true). both_ways (is_among closed c) (not-true (is_among closed c) p.0) m)
-      (λ (w : (x : Channel) × (is_among closed x ≡ true) × IsClash layout c x).
-      let k = w.2 in
-      let here = any_among (in_group layout (group_of layout c)) closed w.0 w.1 (eq-eqb (group_of layout w.0) (group_of layout c) (sym k.same)) in
-      both_ways in_its_group (not-true in_its_group p.1) (and_from (not (eqb (group_of layout c) 0)) (list_any (in_group layout (group_of layout c)) closed)
-      (not_from_false (eqb (group_of layout c) 0) (ne_eqb (group_of layout c) 0 k.grouped)) here))
-      b
+pub each_not_blocked : (layout : Layout) (b : Channels) (p : Position) → CanCloseEach layout b p → IsBlockedAt layout b p → ⊥
+each_not_blocked layout b [] k h = h
+each_not_blocked layout b (c ∷ p) k h =
+    ⊎_elim
+    (λ (w : IsBlocked layout b c). ⊎_elim (λ (e : b c ≡ true). both_ways (b c) k.0.was_open e)
+    (λ (e : (x : Channel) × (b x ≡ true) × IsClash layout c x). k.0.apart e.0 e.1 e.2) w)
+    (λ (w : IsBlockedAt layout (with_channel c b) p). each_not_blocked layout (with_channel c b) p k.1 w)
+    h
 
-  pub not_free_blocked : is_free layout closed c ≡ false → IsBlocked layout (is_among closed) c
-  not_free_blocked f =
-      ⊎_elim (λ (m : is_among closed c ≡ true). inl m)
-      (λ (o : is_among closed c ≡ false).
-      ⊎_elim (λ (e : not (is_among closed c) ≡ false). absurd (both_ways (is_among closed c) o (not-false (is_among closed c) e)))
-      (λ (e : not in_its_group ≡ false).
-      let p = and_parts (not (eqb (group_of layout c) 0)) (list_any (in_group layout (group_of layout c)) closed) (not-false in_its_group e) in
-      let r = among_any (in_group layout (group_of layout c)) closed p.1 in
-      let same : group_of layout r.0 ≡ group_of layout c = eqb-true (group_of layout r.0) (group_of layout c) r.2 in
-      inr (
-        r.0,
-        r.1,
-        record {
-          other = λ d. both_ways (is_among closed c) o (subst (λ (y : Channel). is_among closed y ≡ true) (sym d) r.1);
-          grouped = eqb-false (group_of layout c) 0 (not-true (eqb (group_of layout c) 0) p.0);
-          same = sym same;
-        },
-      ))
-      (and_cases (not (is_among closed c)) (not in_its_group) f))
-      (cases_Bool (is_among closed c))
+-- what bars a position whose channels are there is that one of them is blocked
+pub barred_blocked : (layout : Layout) (b : Channels) (p : Position) (r : Refusal) → list_all (is_present layout) p ≡ true → IsBarredAt layout b p r
+    → IsBlockedAt layout b p
+barred_blocked layout b [] r t h = h
+barred_blocked layout b (c ∷ p) r t h =
+    let there = and_parts (is_present layout c) (list_all (is_present layout) p) t in
+    ⊎_elim
+    (λ (w : IsBarred layout b c r).
+    ⊎_elim (λ (x : (is_present layout c ≡ false) × (r ≡ NoChannel)). absurd (both_ways (is_present layout c) x.0 there.0))
+    (λ (x : (is_present layout c ≡ true) × IsBlocked layout b c × (r ≡ GroupClash)). inl x.1) w)
+    (λ (w : CanCloseOne layout b c × IsBarredAt layout (with_channel c b) p r). inr (barred_blocked layout (with_channel c b) p r there.1 w.1))
+    h
 
-  pub can_close : is_present layout c ≡ true → is_free layout closed c ≡ true → CanCloseOne layout (is_among closed) c
-  can_close t f = record {
-    present = t;
-    was_open = false_from_ne_true (is_among closed c) (λ m. free_blocked f (inl m));
-    apart = λ x m k. free_blocked f (inr (x, m, k));
-  }
-
-  pub can_close_free : CanCloseOne layout (is_among closed) c → is_free layout closed c ≡ true
-  can_close_free k =
-      true_from_ne_false (is_free layout closed c)
-      (λ f.
-      ⊎_elim (λ (m : is_among closed c ≡ true). both_ways (is_among closed c) k.was_open m)
-      (λ (w : (x : Channel) × (is_among closed x ≡ true) × IsClash layout c x). k.apart w.0 w.1 w.2)
-      (not_free_blocked f))
+pub each_not_barred : (layout : Layout) (b : Channels) (p : Position) (r : Refusal) → CanCloseEach layout b p → IsBarredAt layout b p r → ⊥
+each_not_barred layout b p r k h = each_not_blocked layout b p k (barred_blocked layout b p r (each_present layout b p k) h)
 
 module _ (layout : Layout) (closed : List Channel) (s : SettingsSeen) (listed : 0 < length s.list) (range : IsInRange s) where
-  pub sound_from_tests : list_all (is_present layout) (used_of s) ≡ true → list_all (is_free layout closed) (used_of s) ≡ true → reads (agenda s) ≤ s.points
+  pub sound_from_free : AllByRecursion (CanCloseEach layout (is_among closed)) (used_of s) → reads (agenda s) ≤ s.points
       → IsSound layout (is_among closed) s.points (agenda s)
-  sound_from_tests t f r =
-      (sound_exactly layout (is_among closed) s s.points listed range).1
-      (λ j h. can_close layout closed (channel_at s.list j) (used_at (is_present layout) s listed t j h) (used_at (is_free layout closed) s listed f j h), r)
+  sound_from_free f r =
+      (sound_exactly layout (is_among closed) s s.points listed range).1 (λ j h. used_each (CanCloseEach layout (is_among closed)) s listed f j h, r)
 
-  pub tests_from_sound : IsSound layout (is_among closed) s.points (agenda s) → (list_all (is_present layout) (used_of s) ≡ true)
-      × (list_all (is_free layout closed) (used_of s) ≡ true)
-  tests_from_sound w =
-      let a = ((sound_exactly layout (is_among closed) s s.points listed range).0 w).0 in (
-        used_from (is_present layout) s (λ j h. (a j h).present),
-        used_from (is_free layout closed) s (λ j h. can_close_free layout closed (channel_at s.list j) (a j h)),
-      )
+  pub free_from_sound : IsSound layout (is_among closed) s.points (agenda s) → AllByRecursion (CanCloseEach layout (is_among closed)) (used_of s)
+  free_from_sound w = each_used (CanCloseEach layout (is_among closed)) s ((sound_exactly layout (is_among closed) s s.points listed range).0 w).0
+
+  pub present_from_sound : IsSound layout (is_among closed) s.points (agenda s) → list_all (list_all (is_present layout)) (used_of s) ≡ true
+  present_from_sound w = all_each (list_all (is_present layout)) (CanCloseEach layout (is_among closed)) (each_present layout (is_among closed)) (used_of s)
+      (free_from_sound w)

@@ -1,6 +1,7 @@
 -- What settings compile to passes the verifier's looks, where their agenda is sound.
-use Rattle.std.proofs.Common.{◌≡◌, ℕ, zero, suc, ◌+◌, ◌*◌, ◌/◌, ◌%◌, ◌<◌, ◌≤◌, Bool, true, false, not, cond, eqb, List, [], ◌∷◌, ◌++◌, length, map, Option}
+use Rattle.std.proofs.Common.{◌≡◌, ℕ, zero, suc, ◌+◌, ◌*◌, ◌/◌, ◌%◌, ◌<◌, ◌≤◌, Bool, true, false, not, ◌||◌, cond, eqb, List, [], ◌∷◌, ◌++◌, length, map, Option}
 use Rattle.std.proofs.Common.{Some, None, refl, sym, ap, ◌∙◌, subst, arith, append_assoc, append-nil}
+use Rattle.std.proofs.lemmas.Bool.{both_ways, false_from_ne_true}
 use Rattle.std.proofs.lemmas.Bool.Decides.{nat_tests}
 use Rattle.std.proofs.lemmas.Nat.{div-add-mod'}
 use Rattle.std.proofs.Math.Nat.{suc-mul}
@@ -11,7 +12,7 @@ use Rattle.sw_trigger.specs.declared.layer.Awaited.{Awaited}
 use Rattle.sw_trigger.specs.declared.layer.Layer.{Layer}
 use Rattle.sw_trigger.specs.declared.layer.Awaited.TheVariants.{Wait, Pause, Read}
 use Rattle.sw_trigger.specs.Settings.{SettingsSeen, IsInRange}
-use Rattle.sw_trigger.specs.Agenda.{Item, Awaits, Close, Open, repeated, head_of, channel_at, passes, arm_turn, arm_turns, agenda}
+use Rattle.sw_trigger.specs.Agenda.{Item, Awaits, Close, Open, repeated, head_of, position_at, passes, arm_turn, arm_turns, agenda}
 use Rattle.sw_code.specs.declared.code.Step.{Step}
 use Rattle.sw_code.specs.declared.code.Step.TheVariants as step
 use Rattle.sw_code.specs.Tree.{Tree, Nil, Then, Times, step_of, size, flatten, meaning, IsNested}
@@ -20,8 +21,9 @@ use Rattle.sw_code.proofs.Compiled.{meaning-line, meaning-arm, meaning-passes, m
 use Rattle.sw_verify.specs.declared.refusal.Refusal.{Refusal}
 use Rattle.sw_verify.specs.declared.refusal.Refusal.TheVariants.{BadNesting, BadJump}
 use Rattle.sw_verify.specs.declared.nest.Frame.{Frame}
-use Rattle.sw_verify.specs.Channels.{Channels, none, with_channel, without}
-use Rattle.sw_verify.specs.Sound.{AllRight, effect, CanCloseOne, IsSound}
+use Rattle.sw_verify.specs.Channels.{Channels, none, same_channel, with_channel, with_each, without_each}
+use Rattle.sw_verify.specs.Sound.{AllRight, effect, CanCloseOne, CanCloseEach, IsSound}
+use Rattle.sw_channel.specs.Positions.{Position}
 use Rattle.sw_verify.specs.Nest.{in_use, at_loop, fault_in, StepsRight}
 use Rattle.sw_verify.proofs.Round.{effect-append, round-passes, round-arm_turn, round-arm_turns, round-agenda, sound_exactly}
 
@@ -74,8 +76,8 @@ module _ (layout : Layout) where
   right_front : (b m : Channels) (xs ys : List Item) → AllRight layout b m (xs ++ ys) → AllRight layout b m xs × AllRight layout (effect b xs) (effect m xs) ys
   right_front b m [] ys h = (tt, h)
   right_front b m (Awaits w ∷ xs) ys h = right_front b m xs ys h
-  right_front b m (Close c ∷ xs) ys h = let r = right_front (with_channel c b) (with_channel c m) xs ys h.1 in ((h.0, r.0), r.1)
-  right_front b m (Open c ∷ xs) ys h = let r = right_front (without c b) (without c m) xs ys h.1 in ((h.0, r.0), r.1)
+  right_front b m (Close c ∷ xs) ys h = let r = right_front (with_each c b) (with_each c m) xs ys h.1 in ((h.0, r.0), r.1)
+  right_front b m (Open c ∷ xs) ys h = let r = right_front (without_each c b) (without_each c m) xs ys h.1 in ((h.0, r.0), r.1)
 
   item_steps : (x : Item) (steps : List Step) (b m : Channels) (ss : List (Channels × Channels)) → AllRight layout b m (x ∷ [])
       → StepsRight layout steps (effect b (x ∷ [])) (effect m (x ∷ [])) ss → StepsRight layout (step_of x ∷ steps) b m ss
@@ -142,13 +144,28 @@ module _ (layout : Layout) where
       (some, level-awaits b m (head_of name l) inside level, ap (effect b) turn ∙ eb, ap (effect m) turn ∙ em, tt)
 
   -- what can be closed can be closed where nothing is
-  can_from_none : (b : Channels) (c : Channel) → CanCloseOne layout b c → CanCloseOne layout none c
-  can_from_none b c k = record { present = k.present; was_open = refl; apart = λ x h. absurd (cc h) }
+  or_keeps : (t a b : Bool) → (a ≡ true → b ≡ true) → (t || a) ≡ true → (t || b) ≡ true
+  or_keeps true a b f h = refl
+  or_keeps false a b f h = f h
+
+  can_among_fewer : (b few : Channels) (p : Position) → ((x : Channel) → few x ≡ true → b x ≡ true) → CanCloseEach layout b p → CanCloseEach layout few p
+  can_among_fewer b few [] f k = tt
+  can_among_fewer b few (c ∷ p) f k = (
+    record {
+      present = k.0.present;
+      was_open = false_from_ne_true (few c) (λ e. both_ways (b c) k.0.was_open (f c e));
+      apart = λ x e. k.0.apart x (f x e);
+    },
+    can_among_fewer (with_channel c b) (with_channel c few) p (λ x e. or_keeps (same_channel c x) (few x) (b x) (f x) e) k.1,
+  )
+
+  can_from_none : (b : Channels) (p : Position) → CanCloseEach layout b p → CanCloseEach layout none p
+  can_from_none b p k = can_among_fewer b none p (λ x h. absurd (cc h)) k
 
 module _ (layout : Layout) (b : Channels) (s : SettingsSeen) (range : IsInRange s) (can : (j : ℕ) → j < s.trigger.count
-    → CanCloseOne layout b (channel_at s.list j)) where
-  free : (j : ℕ) → j < s.trigger.count → CanCloseOne layout none (channel_at s.list j)
-  free j h = can_from_none layout b (channel_at s.list j) (can j h)
+    → CanCloseEach layout b (position_at s.list j)) where
+  free : (j : ℕ) → j < s.trigger.count → CanCloseEach layout none (position_at s.list j)
+  free j h = can_from_none layout b (position_at s.list j) (can j h)
 
   level-passes : IsLevel layout b none (passes_tree s)
   level-passes = at (s.trigger.count / length s.list) (div-add-mod' s.trigger.count (length s.list)) where
@@ -210,4 +227,4 @@ compiled_right layout b s room listed range sound =
   where
     clear : effect none (agenda s) ≡ none
     clear = (round-agenda layout none s listed range).keeps (λ j h g.
-        can_from_none layout b (channel_at s.list j) (((sound_exactly layout b s room listed range).0 sound).0 j (omega arith)))
+        can_from_none layout b (position_at s.list j) (((sound_exactly layout b s room listed range).0 sound).0 j (omega arith)))

@@ -1,6 +1,6 @@
 -- The first refusal that applies.
 use Rattle.std.proofs.Common.{◌≡◌, ◌<◌, Bool, true, false, List, [], length, ap, arith}
-use Rattle.std.specs.List.{list_all, Any}
+use Rattle.std.specs.List.{list_all, Any, AllByRecursion}
 use Rattle.std.proofs.lemmas.Bool.{both_ways}
 use Rattle.sw_base.specs.Layout.{Channel, is_present, has_meter}
 use Rattle.sw_trigger.specs.Agenda.{used_of}
@@ -10,9 +10,11 @@ use Rattle.sw_verify.specs.declared.refusal.Refusal.TheVariants.{EmptyList, NoCh
 use Rattle.sw_verify.specs.declared.refusal.Refusal.TheVariants.{NotClosed, NoMemory}
 use Rattle.sw_verify.specs.declared.snapshot.Snapshot.{Snapshot}
 use Rattle.sw_verify.specs.Channels.{is_among}
-use Rattle.sw_verify.specs.Marks.{is_free}
-use Rattle.sw_verify.specs.Check.{Faulty, refusal_number, IsFirst, IsBlocked}
-use Rattle.sw_verify.proofs.Checked.{any_fails, none_fails, free_blocked, not_free_blocked}
+use Rattle.sw_verify.specs.Sound.{CanCloseEach}
+use Rattle.sw_verify.specs.Stops.{IsBarredAt}
+use Rattle.sw_channel.specs.Positions.{Position}
+use Rattle.sw_verify.specs.Check.{Faulty, refusal_number, IsFirst, IsBlockedAt}
+use Rattle.sw_verify.proofs.Checked.{any_fails, none_fails, each_but_any, any_with, each_not_blocked, barred_blocked}
 
 -- none before r, one by one
 none_before : (p : Snapshot) (r : Refusal) → (1 < refusal_number r → Faulty EmptyList p → ⊥) → (2 < refusal_number r → Faulty NoChannel p → ⊥)
@@ -30,21 +32,31 @@ none_before p r a b c d e LeftClosed l f = f
 none_before p r a b c d e NotClosed l f = f
 none_before p r a b c d e NoMemory l f = f
 
-not_empty : (list : List Channel) → 0 < length list → list ≡ [] → ⊥
+not_empty : (list : List Position) → 0 < length list → list ≡ [] → ⊥
 not_empty list h e = let n : length list ≡ 0 = ap length e in omega arith
 
 module _ (p : Snapshot) where
   abbrev present : Bool
-  present = list_all (is_present p.layout) (used_of p.settings)
+  present = list_all (list_all (is_present p.layout)) (used_of p.settings)
 
-  abbrev free : Bool
-  free = list_all (is_free p.layout p.closed) (used_of p.settings)
+  abbrev Free : Type 0
+  Free = AllByRecursion (CanCloseEach p.layout (is_among p.closed)) (used_of p.settings)
 
-  none_absent : present ≡ true → Any (λ c. is_present p.layout c ≡ false) (used_of p.settings) → ⊥
-  none_absent t = none_fails (is_present p.layout) (λ c. is_present p.layout c ≡ false) (λ x a b. both_ways (is_present p.layout x) b a) (used_of p.settings) t
+  abbrev Barred : Type 0
+  Barred = Any (λ (q : Position). (r : Refusal) × IsBarredAt p.layout (is_among p.closed) q r) (used_of p.settings)
 
-  none_blocked : free ≡ true → Any (IsBlocked p.layout (is_among p.closed)) (used_of p.settings) → ⊥
-  none_blocked t = none_fails (is_free p.layout p.closed) (IsBlocked p.layout (is_among p.closed)) (free_blocked p.layout p.closed) (used_of p.settings) t
+  not_there : (q : Position) → list_all (is_present p.layout) q ≡ false → Any (λ c. is_present p.layout c ≡ false) q
+  not_there q h = any_fails (is_present p.layout) (λ c. is_present p.layout c ≡ false) (λ x a. a) q h
+
+  all_there : (q : Position) → list_all (is_present p.layout) q ≡ true → Any (λ c. is_present p.layout c ≡ false) q → ⊥
+  all_there q h = none_fails (is_present p.layout) (λ c. is_present p.layout c ≡ false) (λ x a b. both_ways (is_present p.layout x) b a) q h
+
+  none_absent : present ≡ true → Any (Any (λ c. is_present p.layout c ≡ false)) (used_of p.settings) → ⊥
+  none_absent t = none_fails (list_all (is_present p.layout)) (Any (λ c. is_present p.layout c ≡ false)) all_there (used_of p.settings) t
+
+  none_blocked : Free → Any (IsBlockedAt p.layout (is_among p.closed)) (used_of p.settings) → ⊥
+  none_blocked t = each_but_any (CanCloseEach p.layout (is_among p.closed)) (IsBlockedAt p.layout (is_among p.closed))
+      (each_not_blocked p.layout (is_among p.closed)) (used_of p.settings) t
 
   pub first_empty : p.settings.list ≡ [] → IsFirst EmptyList p
   first_empty e = record {
@@ -54,7 +66,7 @@ module _ (p : Snapshot) where
 
   pub first_absent : 0 < length p.settings.list → present ≡ false → IsFirst NoChannel p
   first_absent h t = record {
-    applies = any_fails (is_present p.layout) (λ c. is_present p.layout c ≡ false) (λ x a. a) (used_of p.settings) t;
+    applies = any_fails (list_all (is_present p.layout)) (Any (λ c. is_present p.layout c ≡ false)) not_there (used_of p.settings) t;
     none_before = none_before p NoChannel (λ l f. not_empty p.settings.list h f) (λ l f. omega arith) (λ l f. omega arith) (λ l f. omega arith) (λ l f.
         omega arith);
   }
@@ -66,14 +78,15 @@ module _ (p : Snapshot) where
         omega arith);
   }
 
-  pub first_blocked : 0 < length p.settings.list → present ≡ true → has_meter p.layout p.settings.meter ≡ true → free ≡ false → IsFirst GroupClash p
+  pub first_blocked : 0 < length p.settings.list → present ≡ true → has_meter p.layout p.settings.meter ≡ true → Barred → IsFirst GroupClash p
   first_blocked h t m f = record {
-    applies = any_fails (is_free p.layout p.closed) (IsBlocked p.layout (is_among p.closed)) (not_free_blocked p.layout p.closed) (used_of p.settings) f;
+    applies = any_with (list_all (is_present p.layout)) (λ (q : Position). (r : Refusal) × IsBarredAt p.layout (is_among p.closed) q r)
+        (IsBlockedAt p.layout (is_among p.closed)) (λ q h w. barred_blocked p.layout (is_among p.closed) q w.0 h w.1) (used_of p.settings) t f;
     none_before = none_before p GroupClash (λ l f. not_empty p.settings.list h f) (λ l f. none_absent t f) (λ l f.
         both_ways (has_meter p.layout p.settings.meter) f m) (λ l f. omega arith) (λ l f. omega arith);
   }
 
-  pub first_too_many : 0 < length p.settings.list → present ≡ true → has_meter p.layout p.settings.meter ≡ true → free ≡ true
+  pub first_too_many : 0 < length p.settings.list → present ≡ true → has_meter p.layout p.settings.meter ≡ true → Free
       → p.settings.points < readings_of p.settings → IsFirst TooManyReadings p
   first_too_many h t m f r = record {
     applies = r;

@@ -10,3 +10,4 @@ pub mod Whole
 pub mod Complete
 pub mod Limits
 pub mod Denying
+pub mod Each

@@ -3,6 +3,7 @@ use Rattle.std.proofs.Common.{◌≡◌, ℕ, ◌+◌, ◌<◌, Bool, true, fals
 use Rattle.std.proofs.Common.{inl, inr, ⊎_elim}
 use Rattle.std.proofs.lemmas.List.{drop_more, drop_all}
 use Rattle.std.proofs.lemmas.Bool.{both_ways}
+use Rattle.sw_channel.specs.Positions.{Position}
 use Rattle.sw_base.specs.Layout.{Channel, Layout, is_present, IsClash}
 use Rattle.sw_base.specs.declared.terms.LayerName.{LayerName}
 use Rattle.sw_code.specs.declared.code.Step.{Step}
@@ -10,11 +11,11 @@ use Rattle.sw_code.specs.declared.code.Step.TheVariants as step
 use Rattle.sw_verify.specs.declared.ledger.Ledger.{Ledger}
 use Rattle.sw_verify.specs.declared.refusal.Refusal.{Refusal}
 use Rattle.sw_verify.specs.declared.refusal.Refusal.TheVariants.{NoChannel, GroupClash, LeftClosed, NotClosed}
-use Rattle.sw_verify.specs.Channels.{Channels, none, is_among, with_channel, without}
-use Rattle.sw_verify.specs.Sound.{CanCloseOne}
+use Rattle.sw_verify.specs.Channels.{Channels, none, is_among, with_channel, without, with_each, without_each}
+use Rattle.sw_verify.specs.Sound.{CanCloseOne, CanCloseEach, CanOpenEach}
 use Rattle.sw_verify.specs.Check.{IsBlocked}
 use Rattle.sw_verify.specs.Nest.{StepsRight, LoopIsRound}
-use Rattle.sw_verify.specs.Stops.{IsBarred, LoopStops, StopsBy}
+use Rattle.sw_verify.specs.Stops.{IsBarred, IsBarredAt, IsNotMineAt, LoopStops, StopsBy}
 use Rattle.sw_verify.specs.Ledger.{TellsRow, Shows, AreSaved}
 use Rattle.sw_verify.proofs.Ledgers.{tells_none, row_tells_one, one_row}
 
@@ -83,14 +84,14 @@ module _ (layout : Layout) (closed : List Channel) (steps : List Step) (i : ℕ)
     stops = stops_by (step.Set k n) e;
   }
 
-  pub after_close : (c : Channel) (after : Ledger) → drop i steps ≡ step.Close c ∷ drop (i + 1) steps
-      → ((start b m : Channels) → Shows layout start b m ledger → CanCloseOne layout b c × Shows layout start (with_channel c b) (with_channel c m) after)
+  pub after_close : (c : Position) (after : Ledger) → drop i steps ≡ step.Close c ∷ drop (i + 1) steps
+      → ((start b m : Channels) → Shows layout start b m ledger → CanCloseEach layout b c × Shows layout start (with_each c b) (with_each c m) after)
       → Progress layout closed steps (i + 1) after rows
   after_close c after e closes =
       let w = closes (is_among closed) p.b p.m p.shows in
       record {
-        b = with_channel c p.b;
-        m = with_channel c p.m;
+        b = with_each c p.b;
+        m = with_each c p.m;
         ss = p.ss;
         shows = w.1;
         saved = p.saved;
@@ -98,18 +99,18 @@ module _ (layout : Layout) (closed : List Channel) (steps : List Step) (i : ℕ)
         stops = λ r h. stops_by (step.Close c) e r (inr (w.0, h));
       }
 
-  pub close_stops : (c : Channel) (r : Refusal) → drop i steps ≡ step.Close c ∷ drop (i + 1) steps
-      → ((start b m : Channels) → Shows layout start b m ledger → IsBarred layout b c r) → StopsBy layout r steps (is_among closed) none []
+  pub close_stops : (c : Position) (r : Refusal) → drop i steps ≡ step.Close c ∷ drop (i + 1) steps
+      → ((start b m : Channels) → Shows layout start b m ledger → IsBarredAt layout b c r) → StopsBy layout r steps (is_among closed) none []
   close_stops c r e barred = stops_by (step.Close c) e r (inl (barred (is_among closed) p.b p.m p.shows))
 
-  pub after_open : (c : Channel) (after : Ledger) → drop i steps ≡ step.Open c ∷ drop (i + 1) steps
-      → ((start b m : Channels) → Shows layout start b m ledger → (m c ≡ true) × Shows layout start (without c b) (without c m) after)
+  pub after_open : (c : Position) (after : Ledger) → drop i steps ≡ step.Open c ∷ drop (i + 1) steps
+      → ((start b m : Channels) → Shows layout start b m ledger → CanOpenEach m c × Shows layout start (without_each c b) (without_each c m) after)
       → Progress layout closed steps (i + 1) after rows
   after_open c after e opens =
       let w = opens (is_among closed) p.b p.m p.shows in
       record {
-        b = without c p.b;
-        m = without c p.m;
+        b = without_each c p.b;
+        m = without_each c p.m;
         ss = p.ss;
         shows = w.1;
         saved = p.saved;
@@ -117,8 +118,8 @@ module _ (layout : Layout) (closed : List Channel) (steps : List Step) (i : ℕ)
         stops = λ r h. stops_by (step.Open c) e r (inr (w.0, h));
       }
 
-  pub open_stops : (c : Channel) (r : Refusal) → drop i steps ≡ step.Open c ∷ drop (i + 1) steps → (r ≡ NotClosed)
-      × ((start b m : Channels) → Shows layout start b m ledger → m c ≡ false) → StopsBy layout r steps (is_among closed) none []
+  pub open_stops : (c : Position) (r : Refusal) → drop i steps ≡ step.Open c ∷ drop (i + 1) steps → (r ≡ NotClosed)
+      × ((start b m : Channels) → Shows layout start b m ledger → IsNotMineAt m c) → StopsBy layout r steps (is_among closed) none []
   open_stops c r e w = stops_by (step.Open c) e r (inl (w.1 (is_among closed) p.b p.m p.shows, w.0))
 
   -- the end of a loop with no loop open
@@ -178,6 +179,17 @@ barred_not layout b c r can barred =
     (λ (h : (y : Channel) × (b y ≡ true) × IsClash layout c y). can.apart h.0 h.1 h.2) x.1)
     barred
 
+pub barred_at_not : (layout : Layout) (b : Channels) (p : Position) (r : Refusal) → CanCloseEach layout b p → IsBarredAt layout b p r → ⊥
+barred_at_not layout b [] r k h = h
+barred_at_not layout b (c ∷ p) r k h =
+    ⊎_elim (λ (w : IsBarred layout b c r). barred_not layout b c r k.0 w)
+    (λ (w : CanCloseOne layout b c × IsBarredAt layout (with_channel c b) p r). barred_at_not layout (with_channel c b) p r k.1 w.1) h
+
+pub not_mine_not : (m : Channels) (p : Position) → CanOpenEach m p → IsNotMineAt m p → ⊥
+not_mine_not m [] k h = h
+not_mine_not m (c ∷ p) k h =
+    ⊎_elim (λ (w : m c ≡ false). both_ways (m c) w k.0) (λ (w : (m c ≡ true) × IsNotMineAt (without c m) p). not_mine_not (without c m) p k.1 w.1) h
+
 -- steps that are right are not refused
 pub right_not_stopped : (layout : Layout) (r : Refusal) (steps : List Step) (b m : Channels) (ss : List (Channels × Channels)) → StepsRight layout steps b m ss
     → StopsBy layout r steps b m ss → ⊥
@@ -186,13 +198,14 @@ right_not_stopped layout r (step.Set k n ∷ steps) b m ss h s = right_not_stopp
 right_not_stopped layout r (step.Wait name ∷ steps) b m ss h s = right_not_stopped layout r steps b m ss h s
 right_not_stopped layout r (step.Pause micros ∷ steps) b m ss h s = right_not_stopped layout r steps b m ss h s
 right_not_stopped layout r (step.Close c ∷ steps) b m ss h s =
-    ⊎_elim (λ (x : IsBarred layout b c r). barred_not layout b c r h.0 x)
-    (λ (x : CanCloseOne layout b c × StopsBy layout r steps (with_channel c b) (with_channel c m) ss).
-    right_not_stopped layout r steps (with_channel c b) (with_channel c m) ss h.1 x.1) s
+    ⊎_elim (λ (x : IsBarredAt layout b c r). barred_at_not layout b c r h.0 x)
+    (λ (x : CanCloseEach layout b c × StopsBy layout r steps (with_each c b) (with_each c m) ss).
+    right_not_stopped layout r steps (with_each c b) (with_each c m) ss h.1 x.1) s
 right_not_stopped layout r (step.Read ∷ steps) b m ss h s = right_not_stopped layout r steps b m ss h s
 right_not_stopped layout r (step.Open c ∷ steps) b m ss h s =
-    ⊎_elim (λ (x : (m c ≡ false) × (r ≡ NotClosed)). both_ways (m c) x.0 h.0)
-    (λ (x : (m c ≡ true) × StopsBy layout r steps (without c b) (without c m) ss). right_not_stopped layout r steps (without c b) (without c m) ss h.1 x.1) s
+    ⊎_elim (λ (x : IsNotMineAt m c × (r ≡ NotClosed)). not_mine_not m c h.0 x.0)
+    (λ (x : CanOpenEach m c × StopsBy layout r steps (without_each c b) (without_each c m) ss).
+    right_not_stopped layout r steps (without_each c b) (without_each c m) ss h.1 x.1) s
 right_not_stopped layout r (step.Loop k to ∷ steps) b m [] h s = h
 right_not_stopped layout r (step.Loop k to ∷ steps) b m (t ∷ ss) h s =
     ⊎_elim (λ (x : ((b ≡ t.0) × (m ≡ t.1) → ⊥) × (r ≡ LeftClosed)). x.0 (h.0, h.1))

@@ -2,19 +2,20 @@
 use Rattle.std.proofs.Common.{◌≡◌, ℕ, zero, suc, ◌+◌, ◌<◌, ◌≤◌, Bool, true, false, ◌&&◌, ◌||◌, not, List, [], ◌∷◌, ◌++◌, length, map, take, refl, sym, ap, ◌∙◌}
 use Rattle.std.proofs.Common.{subst, ⊎_elim, inl, inr, arith, append_assoc, append-nil, ◌↔◌, ◌⊎◌}
 use mathlib.Core.Path.{fun_ext}
-use Rattle.std.proofs.lemmas.Bool.{cases_eq}
+use Rattle.std.proofs.lemmas.Bool.{cases_eq, or_cases, or_left, or_right, and_from}
 use Rattle.sw_base.specs.Layout.{Channel, Layout}
+use Rattle.sw_channel.specs.Positions.{Position}
 use Rattle.sw_trigger.specs.declared.layer.Awaited.{Awaited}
 use Rattle.sw_trigger.specs.declared.layer.Layer.{Layer}
 use Rattle.sw_base.specs.declared.terms.LayerName.{LayerName}
 use Rattle.sw_base.specs.declared.terms.LayerName.TheVariants.{Arm1, Arm2, Trigger}
 use Rattle.sw_trigger.specs.Settings.{SettingsSeen, IsInRange}
-use Rattle.sw_trigger.specs.Agenda.{Item, Awaits, Close, Open, repeated, visit, head_of, channel_at, pass_of, passes, arm_turn, arm_turns, agenda}
+use Rattle.sw_trigger.specs.Agenda.{Item, Awaits, Close, Open, repeated, visit, head_of, position_at, pass_of, passes, arm_turn, arm_turns, agenda}
 use Rattle.sw_trigger.specs.Counts.{reads}
 use Rattle.sw_trigger.proofs.Awaiting.{agenda_is}
 use Rattle.sw_trigger.proofs.Same.{channel_decides}
-use Rattle.sw_verify.specs.Channels.{same_channel, Channels, none, with_channel, without}
-use Rattle.sw_verify.specs.Sound.{CanCloseOne, AllRight, effect, IsSound}
+use Rattle.sw_verify.specs.Channels.{same_channel, Channels, none, is_among, with_channel, without, with_each, without_each}
+use Rattle.sw_verify.specs.Sound.{CanCloseEach, CanOpenEach, AllRight, effect, IsSound}
 use Rattle.sw_verify.specs.Moments.{AtMostOneMore}
 
 pub same_channel_is : (a b : Channel) → same_channel a b ≡ true → a ≡ b
@@ -23,13 +24,74 @@ same_channel_is a b h = (channel_decides a b).0 h
 pub same_channel_self : (a : Channel) → same_channel a a ≡ true
 same_channel_self a = (channel_decides a a).1 refl
 
+same_bools : (a b : Bool) → (a ≡ true → b ≡ true) → (b ≡ true → a ≡ true) → a ≡ b
+same_bools true b f g = sym (f refl)
+same_bools false true f g = g refl
+same_bools false false f g = refl
+
 -- closing and opening a channel that was open changes nothing
 undone_at : (t v : Bool) → (t ≡ true → v ≡ false) → (not t && (t || v)) ≡ v
 undone_at true v h = sym (h refl)
 undone_at false v h = refl
 
-pub undone : (c : Channel) (b : Channels) → b c ≡ false → without c (with_channel c b) ≡ b
-undone c b h = fun_ext (λ x. undone_at (same_channel c x) (b x) (λ e. ap b (sym (same_channel_is c x e)) ∙ h))
+swapped_one : (a b : Channel) → same_channel a b ≡ true → same_channel b a ≡ true
+swapped_one a b e = ap (λ (x : Channel). same_channel x a) (sym (same_channel_is a b e)) ∙ same_channel_self a
+
+pub same_swap : (a b : Channel) → same_channel a b ≡ same_channel b a
+same_swap a b = same_bools (same_channel a b) (same_channel b a) (swapped_one a b) (swapped_one b a)
+
+-- what is closed with a position, and without it
+or_moved : (t u a : Bool) → (t || (u || a)) ≡ ((u || t) || a)
+or_moved true true a = refl
+or_moved true false a = refl
+or_moved false true a = refl
+or_moved false false a = refl
+
+and_moved : (t u a : Bool) → (not t && (not u && a)) ≡ (not (u || t) && a)
+and_moved true true a = refl
+and_moved true false a = refl
+and_moved false true a = refl
+and_moved false false a = refl
+
+pub with_each_is : (p : Position) (b : Channels) (x : Channel) → with_each p b x ≡ (is_among p x || b x)
+with_each_is [] b x = refl
+with_each_is (c ∷ p) b x =
+    with_each_is p (with_channel c b) x ∙ ap (λ (t : Bool). is_among p x || (t || b x)) (same_swap c x) ∙ or_moved (is_among p x) (same_channel x c) (b x)
+
+pub without_each_is : (p : Position) (b : Channels) (x : Channel) → without_each p b x ≡ (not (is_among p x) && b x)
+without_each_is [] b x = refl
+without_each_is (c ∷ p) b x =
+    without_each_is p (without c b) x ∙ ap (λ (t : Bool). not (is_among p x) && (not t && b x)) (same_swap c x)
+    ∙ and_moved (is_among p x) (same_channel x c) (b x)
+
+pub undone : (p : Position) (b : Channels) → ((x : Channel) → is_among p x ≡ true → b x ≡ false) → without_each p (with_each p b) ≡ b
+undone p b h = fun_ext (λ x. without_each_is p (with_each p b) x ∙ ap (λ (t : Bool). not (is_among p x) && t) (with_each_is p b x)
+    ∙ undone_at (is_among p x) (b x) (h x))
+
+or_none : (a b : Bool) → (a || b) ≡ false → (a ≡ false) × (b ≡ false)
+or_none true b h = absurd (cc h)
+or_none false b h = (refl, h)
+
+-- the channels of a position that can be closed are open, and all of them can be opened again
+pub each_open : (layout : Layout) (b : Channels) (p : Position) → CanCloseEach layout b p → (x : Channel) → is_among p x ≡ true → b x ≡ false
+each_open layout b [] k x e = absurd (cc e)
+each_open layout b (c ∷ p) k x e =
+    ⊎_elim (λ (s : same_channel x c ≡ true). ap b (same_channel_is x c s) ∙ k.0.was_open)
+    (λ (s : is_among p x ≡ true). (or_none (same_channel c x) (b x) (each_open layout (with_channel c b) p k.1 x s)).1)
+    (or_cases (same_channel x c) (is_among p x) e)
+
+pub each_opens : (layout : Layout) (b m : Channels) (p : Position) → CanCloseEach layout b p → ((x : Channel) → is_among p x ≡ true → m x ≡ true)
+    → CanOpenEach m p
+each_opens layout b m [] k h = tt
+each_opens layout b m (c ∷ p) k h = (
+  h c (or_left (same_channel c c) (is_among p c) (same_channel_self c)),
+  each_opens layout (with_channel c b) (without c m) p k.1 (λ x e.
+      and_from (not (same_channel c x)) (m x) (ap not (or_none (same_channel c x) (b x) (each_open layout (with_channel c b) p k.1 x e)).0)
+      (h x (or_right (same_channel x c) (is_among p x) e))),
+)
+
+pub each_among : (p : Position) (b : Channels) (x : Channel) → is_among p x ≡ true → with_each p b x ≡ true
+each_among p b x e = with_each_is p b x ∙ or_left (is_among p x) (b x) e
 
 -- the items may be done from b exactly where P holds, whatever comes after them, and then leave b
 pub record IsRound (layout : Layout) (b : Channels) (P : Type 0) (items : List Item) : Type 0 where
@@ -41,8 +103,8 @@ pub record IsRound (layout : Layout) (b : Channels) (P : Type 0) (items : List I
 pub effect-append : (b : Channels) (xs ys : List Item) → effect b (xs ++ ys) ≡ effect (effect b xs) ys
 effect-append b [] ys = refl
 effect-append b (Awaits w ∷ xs) ys = effect-append b xs ys
-effect-append b (Close c ∷ xs) ys = effect-append (with_channel c b) xs ys
-effect-append b (Open c ∷ xs) ys = effect-append (without c b) xs ys
+effect-append b (Close p ∷ xs) ys = effect-append (with_each p b) xs ys
+effect-append b (Open p ∷ xs) ys = effect-append (without_each p b) xs ys
 
 -- the first i items of two lists in a row
 split_take : (xs ys : List Item) (i : ℕ) → (take i (xs ++ ys) ≡ take i xs) ⊎ ((j : ℕ) × (take i (xs ++ ys) ≡ xs ++ take j ys))
@@ -63,12 +125,12 @@ moments_awaits b [] (suc i) = refl
 moments_awaits b (w ∷ ws) zero = refl
 moments_awaits b (w ∷ ws) (suc i) = moments_awaits b ws i
 
-moments_visit : (b : Channels) (c : Channel) → b c ≡ false → (i : ℕ) → AtMostOneMore b (effect b (take i (visit c)))
+moments_visit : (b : Channels) (c : Position) → ((x : Channel) → is_among c x ≡ true → b x ≡ false) → (i : ℕ) → AtMostOneMore b (effect b (take i (visit c)))
 moments_visit b c h zero = inl (λ x. refl)
 moments_visit b c h (suc zero) = inr (c, λ x. refl)
 moments_visit b c h (suc (suc zero)) = inr (c, λ x. refl)
-moments_visit b c h (suc (suc (suc zero))) = same_is_near b (without c (with_channel c b)) (undone c b h)
-moments_visit b c h (suc (suc (suc (suc i)))) = same_is_near b (without c (with_channel c b)) (undone c b h)
+moments_visit b c h (suc (suc (suc zero))) = same_is_near b (without_each c (with_each c b)) (undone c b h)
+moments_visit b c h (suc (suc (suc (suc i)))) = same_is_near b (without_each c (with_each c b)) (undone c b h)
 
 module _ (layout : Layout) (b : Channels) where
   pub round-none : IsRound layout b (Unit {0}) []
@@ -88,23 +150,23 @@ module _ (layout : Layout) (b : Channels) where
     moments = λ p i. same_is_near b (effect b (take i (map Awaits (w ∷ ws)))) (moments_awaits b (w ∷ ws) i);
   }
 
-  pub round-visit : (c : Channel) → IsRound layout b (CanCloseOne layout b c) (visit c)
-  round-visit c = record {
+  pub round-visit : (c : Position) → IsRound layout b (CanCloseEach layout b c) (visit c)
+  round-visit c = let clear : without_each c (with_each c none) ≡ none = undone c none (λ x e. refl) in record {
     needs = λ rest h. (
       h.0,
-      subst (λ (m : Channels). AllRight layout m none rest) (undone c b h.0.was_open) (subst (λ (m : Channels).
-          AllRight layout (without c (with_channel c b)) m rest) (undone c none refl) h.1.1),
+      subst (λ (m : Channels). AllRight layout m none rest) (undone c b (each_open layout b c h.0)) (subst (λ (m : Channels).
+          AllRight layout (without_each c (with_each c b)) m rest) clear h.1.1),
     );
     may = λ rest p h. (
       p,
       (
-        simp same_channel_self refl,
-        subst (λ (m : Channels). AllRight layout (without c (with_channel c b)) m rest) (sym (undone c none refl)) (subst (λ (m : Channels).
-            AllRight layout m none rest) (sym (undone c b p.was_open)) h),
+        each_opens layout b (with_each c none) c p (each_among c none),
+        subst (λ (m : Channels). AllRight layout (without_each c (with_each c b)) m rest) (sym clear) (subst (λ (m : Channels).
+            AllRight layout m none rest) (sym (undone c b (each_open layout b c p))) h),
       ),
     );
-    keeps = λ p. undone c b p.was_open;
-    moments = λ p i. moments_visit b c p.was_open i;
+    keeps = λ p. undone c b (each_open layout b c p);
+    moments = λ p i. moments_visit b c (each_open layout b c p) i;
   }
 
   pub round-append : (xs ys : List Item) {P Q : Type 0} → IsRound layout b P xs → IsRound layout b Q ys → IsRound layout b (P × Q) (xs ++ ys)
@@ -142,21 +204,21 @@ module _ (layout : Layout) (b : Channels) where
 
   -- the channels of the passes from number k on
   abbrev CanPass : SettingsSeen → ℕ → ℕ → Type 0
-  CanPass s k n = (j : ℕ) → k ≤ j → j < k + n → CanCloseOne layout b (channel_at s.list j)
+  CanPass s k n = (j : ℕ) → k ≤ j → j < k + n → CanCloseEach layout b (position_at s.list j)
 
-  pub round-pass : (s : SettingsSeen) (k : ℕ) → IsRound layout b (CanCloseOne layout b (channel_at s.list k)) (pass_of s k)
+  pub round-pass : (s : SettingsSeen) (k : ℕ) → IsRound layout b (CanCloseEach layout b (position_at s.list k)) (pass_of s k)
   round-pass s k =
-      round-like (pass_of s k) (λ (w : Unit {0} × CanCloseOne layout b (channel_at s.list k)). w.1)
-      (λ (h : CanCloseOne layout b (channel_at s.list k)). (tt, h))
-      (round-append (map Awaits (head_of Trigger s.trigger)) (visit (channel_at s.list k)) (round-awaits (head_of Trigger s.trigger))
-      (round-visit (channel_at s.list k)))
+      round-like (pass_of s k) (λ (w : Unit {0} × CanCloseEach layout b (position_at s.list k)). w.1)
+      (λ (h : CanCloseEach layout b (position_at s.list k)). (tt, h))
+      (round-append (map Awaits (head_of Trigger s.trigger)) (visit (position_at s.list k)) (round-awaits (head_of Trigger s.trigger))
+      (round-visit (position_at s.list k)))
 
   pub round-passes : (s : SettingsSeen) (k n : ℕ) → IsRound layout b (CanPass s k n) (passes s k n)
   round-passes s k zero = round-like [] (λ (u : Unit {0}). λ j h g. absurd (omega arith)) (λ (f : CanPass s k 0). tt) round-none
   round-passes s k (suc n) =
       round-like (passes s k (suc n))
-      (λ (w : CanCloseOne layout b (channel_at s.list k) × CanPass s (suc k) n). λ j h g.
-      ⊎_elim (λ (e : k ≡ j). subst (λ (i : ℕ). CanCloseOne layout b (channel_at s.list i)) e w.0)
+      (λ (w : CanCloseEach layout b (position_at s.list k) × CanPass s (suc k) n). λ j h g.
+      ⊎_elim (λ (e : k ≡ j). subst (λ (i : ℕ). CanCloseEach layout b (position_at s.list i)) e w.0)
       (λ (d : k ≡ j → ⊥). w.1 j (grind arith) (omega arith)) (cases_eq k j))
       (λ (f : CanPass s k (suc n)). (f k (omega arith) (omega arith), λ j h g. f j (omega arith) (omega arith)))
       (round-append (pass_of s k) (passes s (suc k) n) (round-pass s k) (round-passes s (suc k) n))
@@ -186,13 +248,13 @@ module _ (layout : Layout) (b : Channels) where
 
   -- the whole agenda is sound exactly where each entry that is used can be closed, and the readings have room
   pub sound_exactly : (s : SettingsSeen) (room : ℕ) → 0 < length s.list → IsInRange s → IsSound layout b room (agenda s)
-      ↔ ((j : ℕ) → j < s.trigger.count → CanCloseOne layout b (channel_at s.list j)) × (reads (agenda s) ≤ room)
+      ↔ ((j : ℕ) → j < s.trigger.count → CanCloseEach layout b (position_at s.list j)) × (reads (agenda s) ≤ room)
   sound_exactly s room h i =
       let r = round-agenda s h i in
       let e = append-nil (agenda s) in (
         λ (w : IsSound layout b room (agenda s)). let p = (r.needs [] (subst (λ (l : List Item). AllRight layout b none l) (sym e) w.right)).0 in
             (λ j k. p j (omega arith) (omega arith), w.fits),
-        λ (w : ((j : ℕ) → j < s.trigger.count → CanCloseOne layout b (channel_at s.list j)) × (reads (agenda s) ≤ room)).
+        λ (w : ((j : ℕ) → j < s.trigger.count → CanCloseEach layout b (position_at s.list j)) × (reads (agenda s) ≤ room)).
             let p : CanPass s 0 s.trigger.count = λ j k l. w.0 j (omega arith) in
             record {
               right = subst (λ (l : List Item). AllRight layout b none l) e (r.may [] p tt);

@@ -1,12 +1,13 @@
 -- What holds at each moment of a list of items.
 use Rattle.std.proofs.Common.{◌≡◌, ℕ, zero, suc, ◌≤◌, true, not, List, [], ◌∷◌, take, sym, ◌∙◌, subst, ⊎_elim, arith, length, append-nil, ◌<◌}
 use Rattle.std.proofs.lemmas.Bool.{or_cases, and_parts}
+use Rattle.sw_channel.specs.Positions.{Position}
 use Rattle.sw_base.specs.Layout.{Channel, Layout, is_present, IsClash, IsExclusive}
 use Rattle.sw_trigger.specs.Settings.{SettingsSeen}
 use Rattle.sw_trigger.specs.Agenda.{Item, Awaits, Close, Open, agenda}
 use Rattle.sw_trigger.specs.Counts.{reads}
-use Rattle.sw_verify.specs.Channels.{same_channel, Channels, none, with_channel, without}
-use Rattle.sw_verify.specs.Sound.{CanCloseOne, AllRight, effect, IsSound}
+use Rattle.sw_verify.specs.Channels.{same_channel, Channels, none, with_channel, without, with_each, without_each}
+use Rattle.sw_verify.specs.Sound.{CanCloseOne, CanCloseEach, AllRight, effect, IsSound}
 use Rattle.sw_verify.specs.Moments.{AtMostOneMore}
 use Rattle.sw_verify.proofs.Round.{same_channel_is, round-turns}
 
@@ -39,15 +40,23 @@ exclusive_without layout b c e = record {
   apart = λ x y h g k. e.apart x y (and_parts (not (same_channel c x)) (b x) h).1 (and_parts (not (same_channel c y)) (b y) g).1 k;
 }
 
+exclusive_with_each : (layout : Layout) (b : Channels) (p : Position) → CanCloseEach layout b p → IsExclusive layout b → IsExclusive layout (with_each p b)
+exclusive_with_each layout b [] k e = e
+exclusive_with_each layout b (c ∷ p) k e = exclusive_with_each layout (with_channel c b) p k.1 (exclusive_with layout b c k.0 e)
+
+exclusive_without_each : (layout : Layout) (b : Channels) (p : Position) → IsExclusive layout b → IsExclusive layout (without_each p b)
+exclusive_without_each layout b [] e = e
+exclusive_without_each layout b (c ∷ p) e = exclusive_without_each layout (without c b) p (exclusive_without layout b c e)
+
 pub exclusive_throughout : (layout : Layout) (b mine : Channels) (items : List Item) → AllRight layout b mine items → IsExclusive layout b → (i : ℕ)
     → IsExclusive layout (effect b (take i items))
 exclusive_throughout layout b mine items h e zero = e
 exclusive_throughout layout b mine [] h e (suc i) = e
 exclusive_throughout layout b mine (Awaits w ∷ items) h e (suc i) = exclusive_throughout layout b mine items h e i
-exclusive_throughout layout b mine (Close c ∷ items) h e (suc i) =
-    exclusive_throughout layout (with_channel c b) (with_channel c mine) items h.1 (exclusive_with layout b c h.0 e) i
-exclusive_throughout layout b mine (Open c ∷ items) h e (suc i) =
-    exclusive_throughout layout (without c b) (without c mine) items h.1 (exclusive_without layout b c e) i
+exclusive_throughout layout b mine (Close p ∷ items) h e (suc i) =
+    exclusive_throughout layout (with_each p b) (with_each p mine) items h.1 (exclusive_with_each layout b p h.0 e) i
+exclusive_throughout layout b mine (Open p ∷ items) h e (suc i) =
+    exclusive_throughout layout (without_each p b) (without_each p mine) items h.1 (exclusive_without_each layout b p e) i
 
 pub reads_so_far : (items : List Item) (i : ℕ) → reads (take i items) ≤ reads items
 reads_so_far items zero = omega arith

@@ -13,13 +13,14 @@ use Rattle.sw_verify.specs.declared.refusal.Refusal.TheVariants.{BadNesting, Bad
 use Rattle.sw_verify.specs.declared.nest.Frame.{Frame}
 use Rattle.sw_trigger.specs.Agenda.{Item, Awaits, Close, Open, repeated}
 use Rattle.sw_code.specs.Code.{Unfolds}
-use Rattle.sw_verify.specs.Channels.{Channels, none, with_channel, without, same_channel}
+use Rattle.sw_verify.specs.Channels.{Channels, none, with_channel, without, same_channel, with_each, without_each}
 use Rattle.sw_base.specs.Layout.{Channel, Layout}
+use Rattle.sw_channel.specs.Positions.{Position}
 use Rattle.sw_trigger.specs.Counts.{awaiting, reads}
 use Rattle.sw_base.specs.Layout.{has_meter}
 use Rattle.sw_code.specs.Range.{Program, IsStep, IsProgramInRange}
 use Rattle.sw_verify.specs.Judged.{HasCounts, IsVerified}
-use Rattle.sw_verify.specs.Sound.{AllRight, effect, IsSound}
+use Rattle.sw_verify.specs.Sound.{CanCloseEach, CanOpenEach, AllRight, effect, IsSound}
 use Rattle.sw_code.specs.Tree.{Tree, Nil, Then, Times, step_of, size, flatten, meaning, IsNested}
 use Rattle.sw_verify.specs.Nest.{in_use, at_loop, fault_in, AreCounted, StepsRight, tally, every, is_read}
 use Rattle.sw_code.proofs.Unfolding.{unfolds}
@@ -107,8 +108,8 @@ module _ (layout : Layout) where
   right-append : (b m : Channels) (xs ys : List Item) → AllRight layout b m xs → AllRight layout (effect b xs) (effect m xs) ys → AllRight layout b m (xs ++ ys)
   right-append b m [] ys p q = q
   right-append b m (Awaits w ∷ xs) ys p q = right-append b m xs ys p q
-  right-append b m (Close c ∷ xs) ys p q = (p.0, right-append (with_channel c b) (with_channel c m) xs ys p.1 q)
-  right-append b m (Open c ∷ xs) ys p q = (p.0, right-append (without c b) (without c m) xs ys p.1 q)
+  right-append b m (Close c ∷ xs) ys p q = (p.0, right-append (with_each c b) (with_each c m) xs ys p.1 q)
+  right-append b m (Open c ∷ xs) ys p q = (p.0, right-append (without_each c b) (without_each c m) xs ys p.1 q)
 
   effect-repeated : (b : Channels) (xs : List Item) (n : ℕ) → effect b xs ≡ b → effect b (repeated n xs) ≡ b
   effect-repeated b xs zero e = refl
@@ -275,11 +276,19 @@ module _ (layout : Layout) (start : Channels) where
     λ h. (s x).1 (and_true (same_channel c x) (m x) h),
   )
 
+  each_closed_split : (b m : Channels) (p : Position) → CanCloseEach layout b p → IsSplit b m → IsSplit (with_each p b) (with_each p m)
+  each_closed_split b m [] k s = s
+  each_closed_split b m (c ∷ p) k s = each_closed_split (with_channel c b) (with_channel c m) p k.1 (closed_split b m c k.0.was_open s)
+
+  each_opened_split : (b m : Channels) (p : Position) → CanOpenEach m p → IsSplit b m → IsSplit (without_each p b) (without_each p m)
+  each_opened_split b m [] k s = s
+  each_opened_split b m (c ∷ p) k s = each_opened_split (without c b) (without c m) p k.1 (opened_split b m c k.0 s)
+
   split_after : (b m : Channels) (xs : List Item) → IsSplit b m → AllRight layout b m xs → IsSplit (effect b xs) (effect m xs)
   split_after b m [] s h = s
   split_after b m (Awaits w ∷ xs) s h = split_after b m xs s h
-  split_after b m (Close c ∷ xs) s h = split_after (with_channel c b) (with_channel c m) xs (closed_split b m c h.0.was_open s) h.1
-  split_after b m (Open c ∷ xs) s h = split_after (without c b) (without c m) xs (opened_split b m c h.0 s) h.1
+  split_after b m (Close p ∷ xs) s h = split_after (with_each p b) (with_each p m) xs (each_closed_split b m p h.0 s) h.1
+  split_after b m (Open p ∷ xs) s h = split_after (without_each p b) (without_each p m) xs (each_opened_split b m p h.0 s) h.1
 
   or_none : (a : Bool) → (a || false) ≡ a
   or_none true = refl

@@ -1,5 +1,6 @@
 -- When a scan may begin, and why not.
-use Rattle.std.specs.Prelude.{◌≡◌, ℕ, ◌<◌, true, false, [], length, Any, ◌⊎◌}
+use Rattle.std.specs.Prelude.{◌≡◌, ℕ, ◌<◌, true, false, [], ◌∷◌, length, Any, ◌⊎◌}
+use Rattle.sw_channel.specs.Positions.{Position}
 use Rattle.sw_base.specs.Layout.{Channel, Layout, is_present, has_meter, IsClash}
 use Rattle.sw_base.specs.declared.error.ScpiError.{ScpiError}
 use Rattle.sw_base.specs.declared.error.ScpiError.TheVariants.{SettingsConflict, HardwareMissing, OutOfMemory}
@@ -10,7 +11,7 @@ use Rattle.sw_verify.specs.declared.refusal.Refusal.TheVariants.{EmptyList, NoCh
 use Rattle.sw_verify.specs.declared.refusal.Refusal.TheVariants.{TooManyReadings}
 use Rattle.sw_verify.specs.declared.refusal.Refusal.TheVariants.{BadNesting, BadJump, LeftClosed, NotClosed, NoMemory}
 use Rattle.sw_verify.specs.declared.snapshot.Snapshot.{Snapshot}
-use Rattle.sw_verify.specs.Channels.{Channels, is_among}
+use Rattle.sw_verify.specs.Channels.{Channels, is_among, with_channel}
 use Rattle.sw_verify.specs.Sound.{IsSound}
 
 -- the scan has entries and a meter, and its agenda is sound here
@@ -23,12 +24,17 @@ pub record IsReady (p : Snapshot) : Type 0 where
 abbrev pub IsBlocked : Layout → Channels → Channel → Type 0
 IsBlocked layout closed c = (closed c ≡ true) ⊎ ((x : Channel) × (closed x ≡ true) × IsClash layout c x)
 
+-- a channel of the position is so, those before it being closed then
+abbrev pub IsBlockedAt : Layout → Channels → Position → Type 0
+IsBlockedAt layout closed [] = ⊥
+IsBlockedAt layout closed (c ∷ p) = IsBlocked layout closed c ⊎ IsBlockedAt layout (with_channel c closed) p
+
 -- what is wrong by each refusal of a snapshot; the other refusals are of scan code alone
 abbrev pub Faulty : Refusal → Snapshot → Type 0
 Faulty EmptyList p = p.settings.list ≡ []
-Faulty NoChannel p = Any (λ c. is_present p.layout c ≡ false) (used_of p.settings)
+Faulty NoChannel p = Any (Any (λ c. is_present p.layout c ≡ false)) (used_of p.settings)
 Faulty NoMeter p = has_meter p.layout p.settings.meter ≡ false
-Faulty GroupClash p = Any (IsBlocked p.layout (is_among p.closed)) (used_of p.settings)
+Faulty GroupClash p = Any (IsBlockedAt p.layout (is_among p.closed)) (used_of p.settings)
 Faulty TooManyReadings p = p.settings.points < readings_of p.settings
 Faulty BadNesting p = ⊥
 Faulty BadJump p = ⊥

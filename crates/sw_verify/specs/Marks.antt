@@ -1,9 +1,9 @@
 -- Rows of flags that tell at once which channels of a list are there, and which groups.
-use Rattle.std.specs.Prelude.{◌≡◌, ℕ, ◌+◌, ◌*◌, ◌<◌, Bool, false, ◌==◌, ◌&&◌, not, List, slice_index_or}
+use Rattle.std.specs.Prelude.{◌≡◌, ℕ, ◌+◌, ◌*◌, ◌<◌, Bool, false, ◌==◌, List, slice_index_or}
 use Rattle.std.specs.List.{list_any}
 use Rattle.sw_base.specs.Layout.{Channel, Layout, group_of}
 use Rattle.sw_code.specs.Range.{IsInChannelRange}
-use Rattle.sw_verify.specs.Channels.{same_channel, is_among}
+use Rattle.sw_verify.specs.Channels.{same_channel}
 
 abbrev pub place : Channel → ℕ
 place c = c.0 * 100 + c.1
@@ -20,9 +20,3 @@ in_group layout group x = group_of layout x == group
 
 abbrev pub GroupMarks : Layout → List Channel → List Bool → Type 0
 GroupMarks layout list marks = Marks (λ g. g) (λ g. g < 256) (in_group layout) list marks
-
--- c is not among the closed, and no closed channel is of its nonzero group
-abbrev pub is_free : Layout → List Channel → Channel → Bool
-is_free layout closed c =
-    not (is_among closed c)
-    && not (not (group_of layout c == 0) && list_any (in_group layout (group_of layout c)) closed)

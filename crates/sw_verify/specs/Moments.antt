@@ -1,9 +1,10 @@
 -- What is closed while a scan runs.
 use Rattle.std.specs.Prelude.{◌≡◌, ℕ, take, ◌⊎◌}
 use Rattle.sw_base.specs.Layout.{Channel}
+use Rattle.sw_channel.specs.Positions.{Position}
 use Rattle.sw_trigger.specs.Agenda.{agenda}
 use Rattle.sw_verify.specs.declared.snapshot.Snapshot.{Snapshot}
-use Rattle.sw_verify.specs.Channels.{Channels, is_among, with_channel}
+use Rattle.sw_verify.specs.Channels.{Channels, is_among, with_each}
 use Rattle.sw_verify.specs.Sound.{effect}
 
 -- what was closed at the start
@@ -14,7 +15,7 @@ found p = is_among p.closed
 abbrev pub closed_after : Snapshot → ℕ → Channels
 closed_after p i = effect (found p) (take i (agenda p.settings))
 
--- the same channels, or these and one more
+-- the same channels, or these and one position more
 abbrev pub AtMostOneMore : Channels → Channels → Type 0
 AtMostOneMore before now =
-    ((x : Channel) → now x ≡ before x) ⊎ ((c : Channel) × ((x : Channel) → now x ≡ with_channel c before x))
+    ((x : Channel) → now x ≡ before x) ⊎ ((p : Position) × ((x : Channel) → now x ≡ with_each p before x))

@@ -10,8 +10,8 @@ use Rattle.sw_trigger.specs.declared.layer.Awaited.TheVariants.{Wait, Pause, Rea
 use Rattle.sw_verify.specs.declared.refusal.Refusal.{Refusal}
 use Rattle.sw_verify.specs.declared.refusal.Refusal.TheVariants.{BadNesting, BadJump}
 use Rattle.sw_verify.specs.declared.nest.Frame.{Frame}
-use Rattle.sw_verify.specs.Channels.{Channels, none, with_channel, without}
-use Rattle.sw_verify.specs.Sound.{CanCloseOne}
+use Rattle.sw_verify.specs.Channels.{Channels, none, with_each, without_each}
+use Rattle.sw_verify.specs.Sound.{CanCloseEach, CanOpenEach}
 
 -- a counter is in use while its loop is open
 abbrev pub in_use : List Frame → ℕ → Bool
@@ -35,9 +35,9 @@ fault_in (step.Set k n ∷ steps) pc fs =
     else fault_in steps (pc + 1) (record { counter = k; count = n; start = pc + 1 } ∷ fs)
 fault_in (step.Wait name ∷ steps) pc fs = fault_in steps (pc + 1) fs
 fault_in (step.Pause micros ∷ steps) pc fs = fault_in steps (pc + 1) fs
-fault_in (step.Close c ∷ steps) pc fs = fault_in steps (pc + 1) fs
+fault_in (step.Close p ∷ steps) pc fs = fault_in steps (pc + 1) fs
 fault_in (step.Read ∷ steps) pc fs = fault_in steps (pc + 1) fs
-fault_in (step.Open c ∷ steps) pc fs = fault_in steps (pc + 1) fs
+fault_in (step.Open p ∷ steps) pc fs = fault_in steps (pc + 1) fs
 fault_in (step.Loop k to ∷ steps) pc fs = at_loop k to fs (fault_in steps (pc + 1))
 fault_in (step.Halt ∷ steps) pc fs = at_halt steps fs
 
@@ -47,9 +47,9 @@ AreCounted [] = Unit {0}
 AreCounted (step.Set k n ∷ steps) = (0 < n) × AreCounted steps
 AreCounted (step.Wait name ∷ steps) = AreCounted steps
 AreCounted (step.Pause micros ∷ steps) = AreCounted steps
-AreCounted (step.Close c ∷ steps) = AreCounted steps
+AreCounted (step.Close p ∷ steps) = AreCounted steps
 AreCounted (step.Read ∷ steps) = AreCounted steps
-AreCounted (step.Open c ∷ steps) = AreCounted steps
+AreCounted (step.Open p ∷ steps) = AreCounted steps
 AreCounted (step.Loop k to ∷ steps) = AreCounted steps
 AreCounted (step.Halt ∷ steps) = AreCounted steps
 
@@ -65,10 +65,11 @@ StepsRight layout [] b m ss = Unit {0}
 StepsRight layout (step.Set k n ∷ steps) b m ss = StepsRight layout steps b m ((b, m) ∷ ss)
 StepsRight layout (step.Wait name ∷ steps) b m ss = StepsRight layout steps b m ss
 StepsRight layout (step.Pause micros ∷ steps) b m ss = StepsRight layout steps b m ss
-StepsRight layout (step.Close c ∷ steps) b m ss =
-    CanCloseOne layout b c × StepsRight layout steps (with_channel c b) (with_channel c m) ss
+StepsRight layout (step.Close p ∷ steps) b m ss =
+    CanCloseEach layout b p × StepsRight layout steps (with_each p b) (with_each p m) ss
 StepsRight layout (step.Read ∷ steps) b m ss = StepsRight layout steps b m ss
-StepsRight layout (step.Open c ∷ steps) b m ss = (m c ≡ true) × StepsRight layout steps (without c b) (without c m) ss
+StepsRight layout (step.Open p ∷ steps) b m ss =
+    CanOpenEach m p × StepsRight layout steps (without_each p b) (without_each p m) ss
 StepsRight layout (step.Loop k to ∷ steps) b m ss = LoopIsRound b m ss (StepsRight layout steps b m)
 StepsRight layout (step.Halt ∷ steps) b m ss = m ≡ none
 
@@ -94,9 +95,9 @@ tally counts [] f gs = 0
 tally counts (step.Set k n ∷ steps) f gs = tally counts steps (f * n) (f ∷ gs)
 tally counts (step.Wait name ∷ steps) f gs = tally_item counts (Wait name) f (tally counts steps f gs)
 tally counts (step.Pause micros ∷ steps) f gs = tally_item counts (Pause micros) f (tally counts steps f gs)
-tally counts (step.Close c ∷ steps) f gs = tally counts steps f gs
+tally counts (step.Close p ∷ steps) f gs = tally counts steps f gs
 tally counts (step.Read ∷ steps) f gs = tally_item counts Read f (tally counts steps f gs)
-tally counts (step.Open c ∷ steps) f gs = tally counts steps f gs
+tally counts (step.Open p ∷ steps) f gs = tally counts steps f gs
 tally counts (step.Loop k to ∷ steps) f gs = tally_loop gs (tally counts steps)
 tally counts (step.Halt ∷ steps) f gs = 0
 
@@ -115,8 +116,8 @@ AreLimited [] f gs = Unit {0}
 AreLimited (step.Set k n ∷ steps) f gs = Limited (f * n) × AreLimited steps (f * n) (f ∷ gs)
 AreLimited (step.Wait name ∷ steps) f gs = AreLimited steps f gs
 AreLimited (step.Pause micros ∷ steps) f gs = AreLimited steps f gs
-AreLimited (step.Close c ∷ steps) f gs = AreLimited steps f gs
+AreLimited (step.Close p ∷ steps) f gs = AreLimited steps f gs
 AreLimited (step.Read ∷ steps) f gs = AreLimited steps f gs
-AreLimited (step.Open c ∷ steps) f gs = AreLimited steps f gs
+AreLimited (step.Open p ∷ steps) f gs = AreLimited steps f gs
 AreLimited (step.Loop k to ∷ steps) f gs = limited_loop gs (AreLimited steps)
 AreLimited (step.Halt ∷ steps) f gs = Unit {0}

@@ -1,12 +1,13 @@
 -- Why the verifier refuses a step.
 use Rattle.std.specs.Prelude.{◌≡◌, true, false, List, [], ◌∷◌, ◌⊎◌}
 use Rattle.sw_base.specs.Layout.{Channel, Layout, is_present}
+use Rattle.sw_channel.specs.Positions.{Position}
 use Rattle.sw_code.specs.declared.code.Step.{Step}
 use Rattle.sw_code.specs.declared.code.Step.TheVariants as step
 use Rattle.sw_verify.specs.declared.refusal.Refusal.{Refusal}
 use Rattle.sw_verify.specs.declared.refusal.Refusal.TheVariants.{NoChannel, GroupClash, LeftClosed, NotClosed}
-use Rattle.sw_verify.specs.Channels.{Channels, none, with_channel, without}
-use Rattle.sw_verify.specs.Sound.{CanCloseOne}
+use Rattle.sw_verify.specs.Channels.{Channels, none, with_channel, without, with_each, without_each}
+use Rattle.sw_verify.specs.Sound.{CanCloseOne, CanCloseEach, CanOpenEach}
 use Rattle.sw_verify.specs.Check.{IsBlocked}
 
 -- the channel is absent; or it is there, and is closed or of a closed channel's group
@@ -14,6 +15,17 @@ abbrev pub IsBarred : Layout → Channels → Channel → Refusal → Type 0
 IsBarred layout b c r =
     ((is_present layout c ≡ false) × (r ≡ NoChannel))
     ⊎ ((is_present layout c ≡ true) × IsBlocked layout b c × (r ≡ GroupClash))
+
+-- from left to right a channel of the position is so, when its turn comes
+abbrev pub IsBarredAt : Layout → Channels → Position → Refusal → Type 0
+IsBarredAt layout b [] r = ⊥
+IsBarredAt layout b (c ∷ p) r =
+    IsBarred layout b c r ⊎ (CanCloseOne layout b c × IsBarredAt layout (with_channel c b) p r)
+
+-- from left to right a channel of the position is not mine, when its turn comes
+abbrev pub IsNotMineAt : Channels → Position → Type 0
+IsNotMineAt m [] = ⊥
+IsNotMineAt m (c ∷ p) = (m c ≡ false) ⊎ ((m c ≡ true) × IsNotMineAt (without c m) p)
 
 -- a loop's body ends with another closed set than it began with, or it does not and what follows stops
 abbrev pub LoopStops :
@@ -27,10 +39,11 @@ StopsBy layout r [] b m ss = ⊥
 StopsBy layout r (step.Set k n ∷ steps) b m ss = StopsBy layout r steps b m ((b, m) ∷ ss)
 StopsBy layout r (step.Wait name ∷ steps) b m ss = StopsBy layout r steps b m ss
 StopsBy layout r (step.Pause micros ∷ steps) b m ss = StopsBy layout r steps b m ss
-StopsBy layout r (step.Close c ∷ steps) b m ss =
-    IsBarred layout b c r ⊎ (CanCloseOne layout b c × StopsBy layout r steps (with_channel c b) (with_channel c m) ss)
+StopsBy layout r (step.Close p ∷ steps) b m ss =
+    IsBarredAt layout b p r ⊎ (CanCloseEach layout b p × StopsBy layout r steps (with_each p b) (with_each p m) ss)
 StopsBy layout r (step.Read ∷ steps) b m ss = StopsBy layout r steps b m ss
-StopsBy layout r (step.Open c ∷ steps) b m ss =
-    ((m c ≡ false) × (r ≡ NotClosed)) ⊎ ((m c ≡ true) × StopsBy layout r steps (without c b) (without c m) ss)
+StopsBy layout r (step.Open p ∷ steps) b m ss =
+    (IsNotMineAt m p × (r ≡ NotClosed))
+    ⊎ (CanOpenEach m p × StopsBy layout r steps (without_each p b) (without_each p m) ss)
 StopsBy layout r (step.Loop k to ∷ steps) b m ss = LoopStops b m ss r (StopsBy layout r steps b m)
 StopsBy layout r (step.Halt ∷ steps) b m ss = (m ≡ none → ⊥) × (r ≡ LeftClosed)

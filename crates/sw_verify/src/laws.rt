@@ -16,7 +16,7 @@ pub fn ends_as_it_began(snapshot: &Snapshot)
     ensures { (c : Channel) → effect (found snapshot.now) (agenda snapshot.now.settings) c ≡ found snapshot.now c }
 {}
 
-/// At each moment the closed channels are those that it found, and at most one more.
+/// At each moment the closed channels are those that it found, and at most those of one position more.
 pub fn closes_one_at_a_time(snapshot: &Snapshot)
     requires passed { IsReady snapshot.now }
     ensures { (i : ℕ) → AtMostOneMore (found snapshot.now) (closed_after snapshot.now i) }

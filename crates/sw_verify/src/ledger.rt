@@ -3,15 +3,16 @@
 ghost use Rattle.std.specs.Prelude.{◌≡◌, ◌<◌, true, false, OnOk, IfErr};
 ghost use Rattle.sw_base.specs.Layout.{Channel};
 ghost use Rattle.sw_verify.specs.declared.refusal.Refusal.TheVariants.{NotClosed};
-ghost use Rattle.sw_verify.specs.Channels.{Channels, none, is_among, with_channel, without};
-ghost use Rattle.sw_verify.specs.Sound.{CanCloseOne};
-ghost use Rattle.sw_verify.specs.Stops.{IsBarred};
+ghost use Rattle.sw_verify.specs.Channels.{Channels, none, is_among, with_channel, without, with_each, without_each};
+ghost use Rattle.sw_verify.specs.Sound.{CanCloseOne, CanCloseEach, CanOpenEach};
+ghost use Rattle.sw_verify.specs.Stops.{IsBarred, IsBarredAt, IsNotMineAt};
 ghost use Rattle.sw_verify.specs.Ledger.{Shows, is_taken};
 
 use crate::layout::Layout;
 use crate::marks::{PLACES, channel_marks, group_marks, place};
 use crate::refusal::Refusal;
 use sw_base::Chan;
+use sw_channel::Position;
 
 /// What was closed at the start, what the code closed since, and the groups of both.
 #[derive(Drop)]
@@ -32,8 +33,40 @@ impl Ledger {
         }
     }
 
+    /// Closes the channels of a position, in order, where each is there, is open and shares a group with no closed one.
+    pub fn close(&mut self, layout: &Layout, position: &Position) -> Result<(), Refusal>
+        ensures closed { OnOk result ((start b m : Channels) → Shows layout.now start b m self.old
+            → CanCloseEach layout.now b position.now
+            × Shows layout.now start (with_each position.now b) (with_each position.now m) self.new) }
+        ensures barred { IfErr result (λ r. (start b m : Channels) → Shows layout.now start b m self.old
+            → IsBarredAt layout.now b position.now r) }
+    {
+        for c in position.as_slice() {
+            if let Err(wrong) = self.close_one(layout, *c) {
+                return Err(wrong);
+            }
+        }
+        Ok(())
+    }
+
+    /// Opens the channels of a position, in order, where the code closed each.
+    pub fn open(&mut self, layout: &Layout, position: &Position) -> Result<(), Refusal>
+        ensures opened { OnOk result ((start b m : Channels) → Shows layout.now start b m self.old
+            → CanOpenEach m position.now
+            × Shows layout.now start (without_each position.now b) (without_each position.now m) self.new) }
+        ensures refused { IfErr result (λ r. (r ≡ NotClosed) × ((start b m : Channels)
+            → Shows layout.now start b m self.old → IsNotMineAt m position.now)) }
+    {
+        for c in position.as_slice() {
+            if let Err(wrong) = self.open_one(layout, *c) {
+                return Err(wrong);
+            }
+        }
+        Ok(())
+    }
+
     /// Closes a channel, where it is there, is open and shares a group with no closed one.
-    pub fn close(&mut self, layout: &Layout, c: Chan) -> Result<(), Refusal>
+    fn close_one(&mut self, layout: &Layout, c: Chan) -> Result<(), Refusal>
         ensures closed { OnOk result ((start b m : Channels) → Shows layout.now start b m self.old
             → CanCloseOne layout.now b c × Shows layout.now start (with_channel c b) (with_channel c m) self.new) }
         ensures barred { IfErr result (λ r. (start b m : Channels) → Shows layout.now start b m self.old
@@ -53,7 +86,7 @@ impl Ledger {
     }
 
     /// Opens a channel, where the code closed it.
-    pub fn open(&mut self, layout: &Layout, c: Chan) -> Result<(), Refusal>
+    fn open_one(&mut self, layout: &Layout, c: Chan) -> Result<(), Refusal>
         ensures opened { OnOk result ((start b m : Channels) → Shows layout.now start b m self.old
             → (m c ≡ true) × Shows layout.now start (without c b) (without c m) self.new) }
         ensures refused { IfErr result (λ r. (r ≡ NotClosed) × ((start b m : Channels)

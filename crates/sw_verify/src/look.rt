@@ -42,13 +42,13 @@ pub fn look(
                     return Ok(Some(Refusal::LeftClosed));
                 }
             }
-            Step::Close(c) => {
-                if let Err(wrong) = ledger.close(layout, c) {
+            Step::Close(p) => {
+                if let Err(wrong) = ledger.close(layout, &p) {
                     return Ok(Some(wrong));
                 }
             }
-            Step::Open(c) => {
-                if let Err(wrong) = ledger.open(layout, c) {
+            Step::Open(p) => {
+                if let Err(wrong) = ledger.open(layout, &p) {
                     return Ok(Some(wrong));
                 }
             }

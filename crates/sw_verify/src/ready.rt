@@ -1,15 +1,21 @@
 //! The check of a scan before it begins.
 
-ghost use Rattle.std.specs.Prelude.{◌≡◌, ◌↔◌, IsOk, IfErr};
-ghost use Rattle.std.specs.List.{list_all};
+ghost use Rattle.std.specs.Prelude.{◌≡◌, ◌↔◌, true, false, Any, IsOk, IfErr};
+ghost use Rattle.std.specs.List.{list_all, AllByRecursion};
+ghost use Rattle.sw_channel.specs.Positions.{Position as Joined};
 ghost use Rattle.sw_base.specs.Layout.{is_present};
+ghost use Rattle.sw_verify.specs.Channels.{is_among};
+ghost use Rattle.sw_verify.specs.Sound.{CanCloseEach};
+ghost use Rattle.sw_verify.specs.Stops.{IsBarredAt};
+ghost use Rattle.sw_verify.specs.declared.refusal.Refusal.{Refusal as Why};
 ghost use Rattle.sw_verify.specs.Check.{IsReady, IsFirst};
 
 use crate::layout::Layout;
-use crate::marks::are_free;
+use crate::ledger::Ledger;
 use crate::refusal::Refusal;
 use crate::snapshot::Snapshot;
 use sw_base::Chan;
+use sw_channel::Position;
 
 /// Whether the scan may begin; else the first refusal that applies, and never `NoMemory`.
 ///
@@ -39,8 +45,33 @@ pub fn check(snapshot: &Snapshot) -> Result<(), Refusal>
     Ok(())
 }
 
-fn are_present(layout: &Layout, channels: &[Chan]) -> bool
+fn are_present(layout: &Layout, positions: &[Position]) -> bool
+    ensures { result ≡ list_all (list_all (is_present layout.now)) positions.now }
+{
+    positions.iter().all(|p| all_present(layout, p.as_slice()))
+}
+
+fn all_present(layout: &Layout, channels: &[Chan]) -> bool
     ensures { result ≡ list_all (is_present layout.now) channels.now }
 {
     channels.iter().all(|c| layout.has_channel(*c))
+}
+
+/// Whether each of the positions can be closed where these channels are.
+fn are_free(layout: &Layout, closed: &[Chan], positions: &[Position]) -> bool
+    ensures free { result ≡ true
+        → AllByRecursion (CanCloseEach layout.now (is_among closed.now)) positions.now }
+    ensures blocked { result ≡ false
+        → Any (λ (p : Joined). (r : Why) × IsBarredAt layout.now (is_among closed.now) p r) positions.now }
+{
+    let mut ledger = Ledger::new(layout, closed);
+    for p in positions {
+        if let Err(_) = ledger.close(layout, p) {
+            return false;
+        }
+        if let Err(_) = ledger.open(layout, p) {
+            unreachable!();
+        }
+    }
+    true
 }

@@ -1,10 +1,13 @@
 //! What a running scan does between two things that it awaits.
 
-ghost use Rattle.std.specs.Prelude.{◌≡◌, ◌+◌, ◌-◌, ◌≤◌, true, is_some, OnOk, OnErr, Some, None, slice_set};
+ghost use Rattle.std.specs.Prelude.{◌≡◌, ◌+◌, ◌-◌, ◌≤◌, ◌∷◌, [], true, false, is_some, OnOk, OnErr, Some, None, slice_set};
 ghost use Rattle.sw_base.specs.Limits.{most_slots};
 ghost use Rattle.sw_base.specs.Layout.{has_meter};
 ghost use Rattle.sw_card.specs.Account.{of_meter};
 ghost use Rattle.sw_cage.specs.Accounts.{layout_of, is_closed};
+ghost use Rattle.sw_trigger.specs.Agenda.{Close, Open};
+ghost use Rattle.sw_verify.specs.Sound.{CanCloseOne, CanCloseEach, CanOpenEach};
+ghost use Rattle.sw_cage.specs.Change.{Sets};
 ghost use Rattle.sw_cage.specs.Cage.{ScanSeen};
 ghost use Rattle.sw_cage.specs.Advance.{opens_of, closes_of, moves_from, next_place, awaits};
 ghost use Rattle.sw_cage.specs.Steps.{moves_of};
@@ -20,6 +23,7 @@ use crate::slots::Slots;
 use crate::taken::Taken;
 use sw_base::Chan;
 use sw_card::{CardFault, Meter, MeterCard, Relay};
+use sw_channel::Position;
 use sw_trigger::Awaited;
 
 /// Goes past what the scan awaits, and on to the next that it awaits. A scan that is over leaves `None`.
@@ -83,31 +87,77 @@ fn make_moves<R: Relay, M: Meter>(slots: &mut Slots<R, M>, moves: Moves) -> Resu
 
 fn open_first<R: Relay, M: Meter>(
     slots: &mut Slots<R, M>,
-    chan: Option<Chan>,
+    position: Option<Position>,
 ) -> Result<(), CardFault>
-    requires { MayOpenNext (is_closed slots.old) chan }
-    ensures ok { OnOk result (Moved slots.old (opens_of chan) slots.new) }
+    requires { MayOpenNext (is_closed slots.old) position }
+    ensures ok { OnOk result (Moved slots.old (opens_of position) slots.new) }
     ensures err { OnErr result (RelayCallFailed slots.old slots.new) }
 {
-    slots.stay_safe();
-    match chan {
-        Some(chan) => slots.open(chan),
+    match position {
+        Some(position) => open_each(slots, &position),
         None => Ok(()),
     }
 }
 
 fn close_then<R: Relay, M: Meter>(
     slots: &mut Slots<R, M>,
-    chan: Option<Chan>,
+    position: Option<Position>,
 ) -> Result<(), CardFault>
-    requires { MayCloseNext (layout_of slots.old) (is_closed slots.old) chan }
-    ensures ok { OnOk result (Moved slots.old (closes_of chan) slots.new) }
+    requires { MayCloseNext (layout_of slots.old) (is_closed slots.old) position }
+    ensures ok { OnOk result (Moved slots.old (closes_of position) slots.new) }
     ensures err { OnErr result (RelayCallFailed slots.old slots.new) }
 {
-    match chan {
-        Some(chan) => slots.close(chan),
+    match position {
+        Some(position) => close_each(slots, &position),
         None => Ok(()),
     }
+}
+
+/// Opens the channels of a position, in order. It stops at the first fault.
+fn open_each<R: Relay, M: Meter>(
+    slots: &mut Slots<R, M>,
+    position: &Position,
+) -> Result<(), CardFault>
+    requires { CanOpenEach (is_closed slots.old) position.now }
+    ensures ok { OnOk result (Moved slots.old (Open position.now ∷ []) slots.new) }
+    ensures err { OnErr result (RelayCallFailed slots.old slots.new) }
+{
+    for chan in position.as_slice() {
+        open_one(slots, *chan)?;
+    }
+    Ok(())
+}
+
+/// Closes the channels of a position, in order. It stops at the first fault.
+fn close_each<R: Relay, M: Meter>(
+    slots: &mut Slots<R, M>,
+    position: &Position,
+) -> Result<(), CardFault>
+    requires { CanCloseEach (layout_of slots.old) (is_closed slots.old) position.now }
+    ensures ok { OnOk result (Moved slots.old (Close position.now ∷ []) slots.new) }
+    ensures err { OnErr result (RelayCallFailed slots.old slots.new) }
+{
+    for chan in position.as_slice() {
+        close_one(slots, *chan)?;
+    }
+    Ok(())
+}
+
+fn open_one<R: Relay, M: Meter>(slots: &mut Slots<R, M>, chan: Chan) -> Result<(), CardFault>
+    requires { is_closed slots.old chan ≡ true }
+    ensures ok { OnOk result (Sets slots.old (chan ∷ []) false slots.new) }
+    ensures err { OnErr result (RelayCallFailed slots.old slots.new) }
+{
+    slots.stay_safe();
+    slots.open(chan)
+}
+
+fn close_one<R: Relay, M: Meter>(slots: &mut Slots<R, M>, chan: Chan) -> Result<(), CardFault>
+    requires { CanCloseOne (layout_of slots.old) (is_closed slots.old) chan }
+    ensures ok { OnOk result (Sets slots.old (chan ∷ []) true slots.new) }
+    ensures err { OnErr result (RelayCallFailed slots.old slots.new) }
+{
+    slots.close(chan)
 }
 
 /// What the scan awaits where it stands; for a reading its meter goes out. A scan that is over leaves `None`.

@@ -11,7 +11,7 @@ ghost use Rattle.sw_code.specs.Pace.{IsNear, IsPaced};
 ghost use Rattle.sw_cage.specs.Advance.{first_awaited};
 ghost use Rattle.sw_cage.specs.Steps.{Does, IsResting, AreVisits, AreVisitsOn, LeadsOn, opened_by, closed_by};
 
-use sw_base::Chan;
+use sw_channel::Position;
 use sw_code::Step;
 use sw_trigger::Awaited;
 
@@ -28,8 +28,8 @@ pub(crate) struct Place {
 /// What is done on the way to the next awaiting step: first the opening, then the closing.
 #[derive(Clone, Copy, Debug, PartialEq, Eq)]
 pub(crate) struct Moves {
-    pub(crate) to_open: Option<Chan>,
-    pub(crate) to_close: Option<Chan>,
+    pub(crate) to_open: Option<Position>,
+    pub(crate) to_close: Option<Position>,
 }
 
 /// The way to the next awaiting step, or to the end, and where that is.
@@ -87,10 +87,10 @@ fn move_on(steps: &[Step], at: Place) -> Way
     ensures { (items : List Item) → Does steps.now at items → AreVisitsOn items → LeadsOn steps.now items result }
 {
     match to_open(steps, at) {
-        Some(chan) => {
+        Some(position) => {
             let after = settle(steps, at.past());
             let mut way = close_on(steps, after);
-            way.moves.to_open = Some(chan);
+            way.moves.to_open = Some(position);
             way
         }
         None => close_on(steps, at),
@@ -106,10 +106,10 @@ fn close_on(steps: &[Step], at: Place) -> Way
     ensures opens_none { result.moves.to_open ≡ None }
 {
     match to_close(steps, at) {
-        Some(chan) => Way {
+        Some(position) => Way {
             moves: Moves {
                 to_open: None,
-                to_close: Some(chan),
+                to_close: Some(position),
             },
             at: settle(steps, at.past()),
         },
@@ -123,24 +123,24 @@ fn close_on(steps: &[Step], at: Place) -> Way
     }
 }
 
-/// The channel that the step opens.
-fn to_open(steps: &[Step], at: Place) -> Option<Chan>
+/// The position that the step opens.
+fn to_open(steps: &[Step], at: Place) -> Option<Position>
     ensures opens { result ≡ opened_by (slice_get steps.now at.step) }
     ensures within { IfSome result (λ _. at.step < length steps.now) }
 {
     match steps.get(at.step) {
-        Some(Step::Open(chan)) => Some(*chan),
+        Some(Step::Open(position)) => Some(*position),
         _ => None,
     }
 }
 
-/// The channel that the step closes.
-fn to_close(steps: &[Step], at: Place) -> Option<Chan>
+/// The position that the step closes.
+fn to_close(steps: &[Step], at: Place) -> Option<Position>
     ensures closes { result ≡ closed_by (slice_get steps.now at.step) }
     ensures within { IfSome result (λ _. at.step < length steps.now) }
 {
     match steps.get(at.step) {
-        Some(Step::Close(chan)) => Some(*chan),
+        Some(Step::Close(position)) => Some(*position),
         _ => None,
     }
 }

@@ -13,16 +13,16 @@ pub returns-in-Err-clause-stops : goal.returns-in-Err-clause-stops
 returns-in-Err-clause-stops c =
     let steps = c.args.steps.now in
     let i = c.loop-i.i in
-    let e = next_step steps i (step.Close c.in-Close.c) _ c.loop-i-test.true c.in-Close.is in
-    close_stops c.args.layout.now c.args.closed.now steps i c.loop-i.ledger c.loop-i.saved.items c.loop-i.invariant c.in-Close.c c.in-Err.wrong e
+    let e = next_step steps i (step.Close c.in-Close.p) _ c.loop-i-test.true c.in-Close.is in
+    close_stops c.args.layout.now c.args.closed.now steps i c.loop-i.ledger c.loop-i.saved.items c.loop-i.invariant c.in-Close.p c.in-Err.wrong e
     c.in-Err.ensures.barred
 
 pub returns-in-Err-open-clause-stops : goal.returns-in-Err-open-clause-stops
 returns-in-Err-open-clause-stops c =
     let steps = c.args.steps.now in
     let i = c.loop-i.i in
-    let e = next_step steps i (step.Open c.in-Open.c) _ c.loop-i-test.true c.in-Open.is in
-    open_stops c.args.layout.now c.args.closed.now steps i c.loop-i.ledger c.loop-i.saved.items c.loop-i.invariant c.in-Open.c c.in-Err-open.wrong e
+    let e = next_step steps i (step.Open c.in-Open.p) _ c.loop-i-test.true c.in-Open.is in
+    open_stops c.args.layout.now c.args.closed.now steps i c.loop-i.ledger c.loop-i.saved.items c.loop-i.invariant c.in-Open.p c.in-Err-open.wrong e
     c.in-Err-open.ensures.refused
 
 pub returns-then-not-is_same-clause-stops : goal.returns-then-not-is_same-clause-stops
@@ -77,11 +77,11 @@ loop-i-preserved c =
           (popped rows w.remove-before.new.self.items w.remove-before.result some w.remove-before.ensures.value w.remove-before.ensures.items)
           (w.is_same.ensures.0 w.if-not-is_same.false))
       | in-Close+in_default w ↦ moved layout closed steps (i + 1) w.close.new.self now rows left w.ledger-is (ap (λ v. v.items) w.saved-is)
-          (after_close layout closed steps i ledger rows p w.in-Close.c w.close.new.self
-          (next_step steps i (step.Close w.in-Close.c) _ c.loop-i-test.true w.in-Close.is) w.in_default.ensures.closed)
+          (after_close layout closed steps i ledger rows p w.in-Close.p w.close.new.self
+          (next_step steps i (step.Close w.in-Close.p) _ c.loop-i-test.true w.in-Close.is) w.in_default.ensures.closed)
       | in-Open+in_default-open w ↦ moved layout closed steps (i + 1) w.open.new.self now rows left w.ledger-is (ap (λ v. v.items) w.saved-is)
-          (after_open layout closed steps i ledger rows p w.in-Open.c w.open.new.self
-          (next_step steps i (step.Open w.in-Open.c) _ c.loop-i-test.true w.in-Open.is) w.in_default-open.ensures.opened)
+          (after_open layout closed steps i ledger rows p w.in-Open.p w.open.new.self
+          (next_step steps i (step.Open w.in-Open.p) _ c.loop-i-test.true w.in-Open.is) w.in_default-open.ensures.opened)
       | in-Wait w ↦ moved layout closed steps (i + 1) ledger now rows left w.ledger-is (ap (λ v. v.items) w.saved-is)
           (⊎_elim (λ (x : (name : LayerName) × (get_or steps i _ ≡ step.Wait name)).
           after_wait layout closed steps i ledger rows p x.0 (next_step steps i (step.Wait x.0) _ c.loop-i-test.true x.1))

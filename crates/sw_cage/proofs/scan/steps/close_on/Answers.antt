@@ -11,13 +11,13 @@ pub settle-requires-clause-near : goal.settle-requires-clause-near
 settle-requires-clause-near c =
     let code = c.args.steps.now in
     let at = c.args.at in
-    let e = closer (slice_get code at.step) c.in-Some.chan (sym c.to_close.ensures.closes ∙ c.in-Some.is) in
-    subst (λ (p : Place). IsNear code 6 p.step) (sym c.past.ensures) (c.requires.paced.after at.step (step.Close c.in-Some.chan) e)
+    let e = closer (slice_get code at.step) c.in-Some.position (sym c.to_close.ensures.closes ∙ c.in-Some.is) in
+    subst (λ (p : Place). IsNear code 6 p.step) (sym c.past.ensures) (c.requires.paced.after at.step (step.Close c.in-Some.position) e)
 
 pub returns-in-Some-clause-way : goal.returns-in-Some-clause-way
 returns-in-Some-clause-way c = λ items d v.
     let code = c.args.steps.now in
     let at = c.args.at in
     let e = sym c.to_close.ensures.closes ∙ c.in-Some.is in
-    way_closes code at items d c.in-Some.chan c.settle.result e v
+    way_closes code at items d c.in-Some.position c.settle.result e v
     (λ l f. c.settle.ensures.does l (subst (λ (p : Place). Does code p l) (sym c.past.ensures) f)) c.settle.ensures.near

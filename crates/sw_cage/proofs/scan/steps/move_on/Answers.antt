@@ -10,13 +10,13 @@ use Rattle.sw_cage.proofs.scan.steps.move_on.Goals as goal
 pub settle-after-requires-clause-near : goal.settle-after-requires-clause-near
 settle-after-requires-clause-near c =
     let at = c.args.at in
-    let e = opener (slice_get c.args.steps.now at.step) c.in-Some.chan (sym c.to_open.ensures.opens ∙ c.in-Some.is) in
-    subst (λ (p : Place). IsNear c.args.steps.now 6 p.step) (sym c.past.ensures) (c.requires.paced.after at.step (step.Open c.in-Some.chan) e)
+    let e = opener (slice_get c.args.steps.now at.step) c.in-Some.position (sym c.to_open.ensures.opens ∙ c.in-Some.is) in
+    subst (λ (p : Place). IsNear c.args.steps.now 6 p.step) (sym c.past.ensures) (c.requires.paced.after at.step (step.Open c.in-Some.position) e)
 
 pub returns-in-Some : goal.returns-in-Some
 returns-in-Some c = λ items d v.
     let code = c.args.steps.now in
-    way_opens code c.args.at items d c.in-Some.chan c.settle-after.result c.close_on-way.result (sym c.to_open.ensures.opens ∙ c.in-Some.is) v
+    way_opens code c.args.at items d c.in-Some.position c.settle-after.result c.close_on-way.result (sym c.to_open.ensures.opens ∙ c.in-Some.is) v
     (λ l f. c.settle-after.ensures.does l (subst (λ (p : Place). Does code p l) (sym c.past.ensures) f)) c.close_on-way.ensures.opens_none
     c.close_on-way.ensures.way
 

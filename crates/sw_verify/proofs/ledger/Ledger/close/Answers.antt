@@ -1,21 +1,36 @@
-use Rattle.std.proofs.Common.{◌≡◌, ◌<◌, true, false, ap, sym, ◌∙◌, arith}
-use Rattle.sw_base.specs.Layout.{is_present, group_of}
-use Rattle.sw_verify.specs.Marks.{place}
-use Rattle.sw_verify.specs.Ledger.{is_taken}
-use Rattle.sw_verify.proofs.Ledgers.{free_can, shows_with}
+use Rattle.std.proofs.Common.{◌+◌, drop, length, get_or, subst, ap, ◌∙◌, arith}
+use Rattle.sw_channel.specs.Positions.{Position}
+use Rattle.sw_verify.proofs.Each.{Closing, next_left, none_left, closing_first, closing_next, closing_barred, closing_over}
 use Rattle.sw_verify.proofs.ledger.Ledger.close.Goals as goal
+
+pub loop-c-init : goal.loop-c-init
+loop-c-init c = λ start b m s. closing_first c.args.layout.now start b m c.args.position.now c.args.self.now s
+
+pub returns-in-Err-clause-barred : goal.returns-in-Err-clause-barred
+returns-in-Err-clause-barred c = λ start b m s.
+    let layout = c.args.layout.now in
+    let p = c.args.position.now in
+    let i = c.loop-c.c-index in
+    let chans = c.as_slice-c-items.ensures.chans in
+    let e = next_left p i c.c-item.result (omega (arith, c.loop-c-test.true, ap length chans))
+    (c.c-item.is ∙ ap (λ (l : Position). get_or l i c.c-item.result) chans) in
+    let here = subst (λ (rest : Position). Closing layout start b m p rest c.loop-c.self) e (c.loop-c.invariant start b m s) in
+    closing_barred layout start b m p c.c-item.result (drop (i + 1) p) c.loop-c.self c.in-Err.wrong c.in-Err.ensures.barred here
+
+pub loop-c-preserved : goal.loop-c-preserved
+loop-c-preserved c = λ start b m s.
+    let layout = c.args.layout.now in
+    let p = c.args.position.now in
+    let i = c.loop-c.c-index in
+    let chans = c.as_slice-c-items.ensures.chans in
+    let e = next_left p i c.c-item.result (omega (arith, c.loop-c-test.true, ap length chans))
+    (c.c-item.is ∙ ap (λ (l : Position). get_or l i c.c-item.result) chans) in
+    let here = subst (λ (rest : Position). Closing layout start b m p rest c.loop-c.self) e (c.loop-c.invariant start b m s) in
+    closing_next layout start b m p c.c-item.result (drop (i + 1) p) c.loop-c.self c.close_one.new.self c.in_default.ensures.closed here
 
 pub returns-clause-closed : goal.returns-clause-closed
 returns-clause-closed c = λ start b m s.
     let layout = c.args.layout.now in
-    let l = c.args.self.now in
-    let below : group_of layout c.args.c < 256 = omega (arith, c.group-group.ensures) in
-    let there : is_present layout c.args.c ≡ true = sym c.has_channel.ensures ∙ c.if-not-has_channel.false in
-    let free : is_taken l (place c.args.c) (group_of layout c.args.c) ≡ false =
-    ap (λ g. is_taken l (place c.args.c) g) (sym c.group-group.ensures) ∙ ap (λ a. is_taken l a c.group-group.result) (sym c.place-at.ensures.place)
-    ∙ sym c.is_taken.ensures ∙ c.if-is_taken.false in
-    let can = free_can layout start b m l s c.args.c c.place-at.ensures.channel below there free in (
-      can,
-      shows_with layout start b m l s c.args.c c.place-at.ensures.channel below can c.place-at.result c.from.result c.place-at.ensures.place (c.from.ensures
-          ∙ c.group-group.ensures),
-    )
+    let p = c.args.position.now in
+    let end = none_left p c.loop-c.c-index (omega (arith, c.loop-c-test.false, ap length c.as_slice-c-items.ensures.chans)) in
+    closing_over layout start b m p c.loop-c.self (subst (λ (rest : Position). Closing layout start b m p rest c.loop-c.self) end (c.loop-c.invariant start b m s))
