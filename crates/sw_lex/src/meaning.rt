@@ -58,12 +58,15 @@ fn one_list(alloc: Global, elements: &[Element<'_>]) -> Result<Sequence<Chan>, S
 
 /// The positions of the one element, which is a list of positions.
 #[inline(never)]
-fn one_position_list(alloc: Global, elements: &[Element<'_>]) -> Result<Sequence<Position>, ScpiError>
+fn one_position_list(
+    alloc: Global,
+    elements: &[Element<'_>],
+) -> Result<Sequence<Position>, ScpiError>
     ensures { WithList ReadsPositions (data_of elements.now) result }
 {
     match elements {
         [] => Err(ScpiError::MissingParameter),
-        [list] => match *list {
+        [positions] => match *positions {
             Element::Expression(text) => Ok(Sequence::new(read_positions(alloc, text)?)),
             _ => Err(ScpiError::DataTypeError),
         },
