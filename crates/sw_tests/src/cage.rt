@@ -4,8 +4,9 @@ ghost use Rattle.std.specs.Prelude.{ℕ, Bool};
 
 use crate::boxes::{Relays, closed, mux, voltmeter};
 use crate::cage_calls::{
-    begin, close, ejected, fill, give_back, has, has_all, has_closed, install, is_closed,
-    is_ignored, is_over, job_of, lists_closed, refused_card, refuses, refuses_eject, settings_of,
+    begin, close, ejected, fill, give_back, has, has_all, has_closed, install, is_closed, is_fault,
+    is_ignored, is_over, job_of, lists_closed, refused_card, refuses, refuses_eject, settings_for,
+    settings_of,
 };
 use std::alloc::{AllocError, Global};
 use std::sync::Arc;
@@ -14,7 +15,7 @@ use std::test::Fail;
 use sw_base::{Chan, LayerName, ScpiError, Source};
 use sw_cage::{Cage, CloseRefusal, EjectRefusal, Happening, InstallRefusal, Job, Taken, Ticket};
 use sw_card::{Card, CardFault, Meter, Relay};
-use sw_kinds::{Driver, Mux, SimDriver};
+use sw_kinds::{Driver, Fuse, Mux, SimDriver};
 use sw_trigger::Settings;
 use sw_verify::Layout;
 
@@ -123,6 +124,105 @@ fn recorded(alloc: Global, record: &Record) -> Result<(Relays, Relays, Relays), 
     let second: Relays = Box::new(alloc, recording(2, 0, record)?)?;
     let third: Relays = Box::new(alloc, recording(3, 1, record)?)?;
     Ok((first, second, third))
+}
+
+/// Whether a scan of the positions that the text spells drives their channels in this order.
+fn drives_each<R: Relay, M: Meter>(
+    alloc: Global,
+    cage: &mut Cage<R, M>,
+    record: &Record,
+    text: &[u8],
+    wanted: u64,
+) -> bool {
+    record.store(0, Ordering::SeqCst);
+    match settings_for(alloc, text) {
+        Ok(settings) => {
+            let taken = begin(alloc, cage, settings);
+            ends_after(cage, taken, 1) && record.load(Ordering::SeqCst) == wanted
+        }
+        Err(_) => false,
+    }
+}
+
+/// Whether the channels of a position are closed in the order written, and opened so.
+fn keeps_order_within<R: Relay, M: Meter>(
+    alloc: Global,
+    cards: (R, R, R),
+    meter: M,
+    record: &Record,
+) -> bool {
+    let Ok(mut cage) = Cage::new(alloc) else {
+        return false;
+    };
+    let is_so = fill(&mut cage, cards, meter)
+        && drives_each(alloc, &mut cage, record, b"(@1!1&2!1)", 111_211_110_210)
+        && drives_each(alloc, &mut cage, record, b"(@2!1&1!1)", 211_111_210_110)
+        && drives_each(
+            alloc,
+            &mut cage,
+            record,
+            b"(@2!2&3!1&2!1)",
+            221_311_211_220_310_210,
+        );
+    drop(cage);
+    is_so
+}
+
+#[test]
+fn the_channels_of_a_position_keep_their_order(rt: HostRuntime) -> Result<(), Fail> {
+    let record = Arc::new(rt.alloc(), AtomicU64::new(0))?;
+    let cards = recorded(rt.alloc(), &record)?;
+    let meter = voltmeter(rt.alloc())?;
+    assert!(rt; keeps_order_within(rt.alloc(), cards, meter, &record));
+    Ok(())
+}
+
+/// Two cards and one whose first closing fails, which write into the record.
+fn recorded_with_fuse(
+    alloc: Global,
+    record: &Record,
+) -> Result<(Relays, Relays, Relays), AllocError> {
+    let first: Relays = Box::new(alloc, recording(1, 1, record)?)?;
+    let driver = Recorder {
+        coils: SimDriver::new(),
+        slot: 2,
+        record: record.clone()?,
+    };
+    let second: Relays = Box::new(alloc, Mux::new(2, 2, 0, Fuse::new(driver, Some(1))))?;
+    let third: Relays = Box::new(alloc, recording(3, 2, record)?)?;
+    Ok((first, second, third))
+}
+
+/// Whether no channel behind the one that fails is closed, and none of the position is left closed.
+fn stops_at_failure<R: Relay, M: Meter>(
+    alloc: Global,
+    cards: (R, R, R),
+    meter: M,
+    record: &Record,
+) -> bool {
+    let Ok(mut cage) = Cage::new(alloc) else {
+        return false;
+    };
+    let is_so = match settings_for(alloc, b"(@1!1&2!2&3!1)") {
+        Ok(settings) => {
+            fill(&mut cage, cards, meter)
+                && is_fault(begin(alloc, &mut cage, settings))
+                && record.load(Ordering::SeqCst) == 111_221
+                && lists_closed(alloc, &cage, &[])
+        }
+        Err(_) => false,
+    };
+    drop(cage);
+    is_so
+}
+
+#[test]
+fn a_position_stops_at_its_first_failure(rt: HostRuntime) -> Result<(), Fail> {
+    let record = Arc::new(rt.alloc(), AtomicU64::new(0))?;
+    let cards = recorded_with_fuse(rt.alloc(), &record)?;
+    let meter = voltmeter(rt.alloc())?;
+    assert!(rt; stops_at_failure(rt.alloc(), cards, meter, &record));
+    Ok(())
 }
 
 /// A channel opens before the next one closes; the list begins anew after its end.

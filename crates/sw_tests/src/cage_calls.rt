@@ -1,10 +1,12 @@
 //! A cage that the tests use by one call at a time. These promise nothing, and most answer yes or no, so that a test is
 //! checked without all that the cage promises.
 
+use crate::positions::one_each;
 use std::alloc::Global;
 use sw_base::{Chan, LayerName, ScpiError, Sequence};
 use sw_cage::{Cage, CloseRefusal, EjectRefusal, InstallRefusal, Job, Taken};
 use sw_card::{Card, Meter, Relay};
+use sw_channel::read_positions;
 use sw_trigger::Settings;
 use sw_verify::{BoxedSnapshot, Plan, Snapshot};
 
@@ -127,6 +129,26 @@ fn set(
     settings.set_count(LayerName::Trigger, count)
 }
 
+/// The settings of a scan with a reading of each of the positions that the text spells.
+pub fn settings_for(alloc: Global, text: &[u8]) -> Result<Settings, ScpiError> {
+    let mut settings = Settings::new(alloc);
+    let set = set_positions(alloc, &mut settings, text);
+    match set {
+        Ok(()) => Ok(settings),
+        Err(error) => {
+            drop(settings);
+            Err(error)
+        }
+    }
+}
+
+fn set_positions(alloc: Global, settings: &mut Settings, text: &[u8]) -> Result<(), ScpiError> {
+    let positions = read_positions(alloc, text)?;
+    let count = positions.len() as u32;
+    settings.set_list(positions)?;
+    settings.set_count(LayerName::Trigger, count)
+}
+
 /// Gives the meter that has measured back to the cage.
 pub fn give_back<R: Relay, M: Meter>(cage: &mut Cage<R, M>, job: Job<M>) -> Option<Taken<M>> {
     match cage.finish(job.run()) {
@@ -153,6 +175,12 @@ pub fn is_over<M: Meter>(taken: Option<Taken<M>>) -> bool {
     let over = matches!(&taken, Some(Taken::Ended));
     drop(taken);
     over
+}
+
+pub fn is_fault<M: Meter>(taken: Option<Taken<M>>) -> bool {
+    let fault = matches!(&taken, Some(Taken::Fault));
+    drop(taken);
+    fault
 }
 
 pub fn is_ignored<M: Meter>(taken: Option<Taken<M>>) -> bool {

@@ -21,13 +21,13 @@ fn with_first(alloc: Global, first: Relays) -> Result<(Relays, Relays, Relays), 
 }
 
 /// Cards of which, in slot 1, the closing with this number fails.
-fn with_closing(alloc: Global, number: u32) -> Result<(Relays, Relays, Relays), AllocError> {
+pub fn with_closing(alloc: Global, number: u32) -> Result<(Relays, Relays, Relays), AllocError> {
     let fuse = Fuse::new(SimDriver::new(), Some(number));
     with_first(alloc, Box::new(alloc, Mux::new(1, 20, 1, fuse))?)
 }
 
 /// Cards of which, in slot 1, the opening with this number fails.
-fn with_opening(alloc: Global, number: u32) -> Result<(Relays, Relays, Relays), AllocError> {
+pub fn with_opening(alloc: Global, number: u32) -> Result<(Relays, Relays, Relays), AllocError> {
     let fuse = OpenFuse::new(SimDriver::new(), Some(number));
     with_first(alloc, Box::new(alloc, Mux::new(1, 20, 1, fuse))?)
 }
@@ -46,7 +46,7 @@ fn sets_passes<R: Relay, M: Meter>(alloc: Global, core: &mut Core<R, M>, sid: Si
 }
 
 /// How many pieces were taken before one that was not, if any.
-fn pieces_before_failure<R: Relay, M: Meter>(
+pub fn pieces_before_failure<R: Relay, M: Meter>(
     alloc: Global,
     core: &mut Core<R, M>,
     work: Option<Work<M>>,
@@ -64,7 +64,7 @@ fn pieces_before_failure<R: Relay, M: Meter>(
 }
 
 /// Whether a card's failure is told once, and every relay is open.
-fn is_broken_off<R: Relay, M: Meter>(alloc: Global, core: &mut Core<R, M>, sid: Sid) -> bool {
+pub fn is_broken_off<R: Relay, M: Meter>(alloc: Global, core: &mut Core<R, M>, sid: Sid) -> bool {
     tells(
         alloc,
         core,
@@ -77,7 +77,7 @@ fn is_broken_off<R: Relay, M: Meter>(alloc: Global, core: &mut Core<R, M>, sid: 
 }
 
 /// Whether these are the readings, from one nanovolt on.
-fn keeps_readings<R: Relay, M: Meter>(
+pub fn keeps_readings<R: Relay, M: Meter>(
     alloc: Global,
     core: &mut Core<R, M>,
     sid: Sid,
@@ -191,7 +191,7 @@ fn begins_broken<R: Relay, M: Meter>(alloc: Global, cards: (R, R, R), meter: M) 
 }
 
 /// Whether no work comes of a scan that begins.
-fn begins_nothing<R: Relay, M: Meter>(alloc: Global, core: &mut Core<R, M>, sid: Sid) -> bool {
+pub fn begins_nothing<R: Relay, M: Meter>(alloc: Global, core: &mut Core<R, M>, sid: Sid) -> bool {
     let work = initiate(alloc, core, sid);
     let is_none = work.is_none();
     drop(work);
@@ -256,7 +256,7 @@ fn a_late_failing_return_is_silent(rt: HostRuntime) -> Result<(), Fail> {
 
 /// Begins a scan of two rounds with 2!1 closed by hand, and goes on to the awaiting item of this index: the bus passes
 /// a wait, and work is carried out.
-fn reached<R: Relay, M: Meter>(
+pub fn reached<R: Relay, M: Meter>(
     alloc: Global,
     core: &mut Core<R, M>,
     sid: Sid,
@@ -308,7 +308,7 @@ enum Blow {
 }
 
 /// Whether the scan that awaits this is over, every relay is open, and what it awaited comes too late.
-fn ends<R: Relay, M: Meter>(
+pub fn ends<R: Relay, M: Meter>(
     alloc: Global,
     core: &mut Core<R, M>,
     sid: Sid,

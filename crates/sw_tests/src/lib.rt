@@ -18,6 +18,10 @@ mod hostile;
 #[cfg(test)]
 mod hostile_memory;
 #[cfg(test)]
+mod positions;
+#[cfg(test)]
 mod scans;
 #[cfg(test)]
 mod session;
+#[cfg(test)]
+mod several;

@@ -1,6 +1,7 @@
 //! Messages over a desk that answers as it is told.
 
 use crate::asks::{install, joined};
+use crate::positions::one_each;
 use std::alloc::Global;
 use std::process::Abort;
 use std::test::Fail;

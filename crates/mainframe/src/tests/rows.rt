@@ -333,3 +333,60 @@ fn a_65th_macro_is_too_much(rt: HostRuntime) -> Result<(), Fail> {
         b"-223,\"Too much data\"\n",
     )
 }
+
+#[test]
+fn positions_keep_their_order(rt: HostRuntime) -> Result<(), Fail> {
+    check(
+        &rt,
+        rt.alloc(),
+        None,
+        b"ROUT:SCAN (@1!1&2!1,2!3:2!2);SCAN?\n",
+        b"(@1!1&2!1,2!3,2!2)\n",
+    )
+}
+
+#[test]
+fn a_scan_of_one_position(rt: HostRuntime) -> Result<(), Fail> {
+    check(
+        &rt,
+        rt.alloc(),
+        None,
+        b"ROUT:SCAN (@1!1&2!1);:DIAG:SCAN:BOUN?;:INIT;:ROUT:CLOS:STAT?\nROUT:CLOS:STAT?;:FETC?\n",
+        b"1;(@1!1,2!1)\n(@);1.000000000\n",
+    )
+}
+
+#[test]
+fn a_position_that_would_join_its_channels(rt: HostRuntime) -> Result<(), Fail> {
+    check(
+        &rt,
+        rt.alloc(),
+        None,
+        b"ROUT:SCAN (@1!1&3!1);:INIT;:SYST:ERR?\n",
+        b"-221,\"Settings conflict\"\n",
+    )
+}
+
+#[test]
+fn positions_that_are_refused(rt: HostRuntime) -> Result<(), Fail> {
+    check(
+        &rt,
+        rt.alloc(),
+        None,
+        b"ROUT:SCAN (@1!1&1!1)\nROUT:SCAN (@1!1&1!2&1!3&1!4&1!5)\nROUT:SCAN (@1!1&1!2:1!3)\n\
+ROUT:CLOS (@1!1&2!1)\nSYST:ERR:ALL?\n",
+        b"-222,\"Data out of range\",-223,\"Too much data\",-171,\"Invalid expression\",\
+-171,\"Invalid expression\"\n",
+    )
+}
+
+#[test]
+fn a_closing_fails_in_a_position(rt: HostRuntime) -> Result<(), Fail> {
+    check(
+        &rt,
+        rt.alloc(),
+        Some(1),
+        b"ROUT:SCAN (@2!1&1!1);:INIT;:SYST:ERR?;:ROUT:CLOS:STAT?\n",
+        b"-240,\"Hardware error\";(@)\n",
+    )
+}
