@@ -234,8 +234,8 @@ class Session:
             self.write(":SYST:ERR:COUN?")
             identifier, answer = self._answer([of_line, self._sent])
             if identifier == of_line:
-                yield answer.decode("utf-8", "surrogateescape").rstrip("\n")
                 self.read_raw()
+                yield answer.decode("utf-8", "surrogateescape").rstrip("\n")
 
     def trigger(self) -> None:
         """A bus trigger, as `*TRG`."""
@@ -363,22 +363,18 @@ class Session:
                 raise SessionError(str(message), wanted.name)
 
 
-def talk(session: Session, text: Iterable[str]) -> None:
-    """A terminal: prints the answers to lines. Ctrl-C gives up a command that waits."""
-    for line in text:
-        try:
-            for answer in session.lines([line]):
-                print(answer, flush=True)
-        except KeyboardInterrupt:
-            session.clear()
-            print("given up", file=sys.stderr)
-
-
-def main(port: str = str(PORT), host: str = "127.0.0.1") -> int:
+def terminal(port: int = PORT, host: str = "127.0.0.1") -> int:
+    """Sends the lines of standard input and prints their answers; tells the status of the process."""
     try:
-        with Session(int(port), host) as session:
+        with Session(port, host) as session:
             session.timeout = None
-            talk(session, sys.stdin)
+            for line in sys.stdin:
+                try:
+                    for answer in session.lines([line]):
+                        print(answer, flush=True)
+                except KeyboardInterrupt:
+                    session.clear()
+                    print("given up", file=sys.stderr)
     except KeyboardInterrupt:
         return 130
     except SessionError as fault:
@@ -388,4 +384,4 @@ def main(port: str = str(PORT), host: str = "127.0.0.1") -> int:
 
 
 if __name__ == "__main__":
-    sys.exit(main(*sys.argv[1:]))
+    sys.exit(terminal(*map(int, sys.argv[1:2]), *sys.argv[2:]))
