@@ -87,8 +87,8 @@ def as_default(port):
 
 def check_python(program, text, told):
     with Served(program) as served, as_default(served.port), contextlib.redirect_stdout(io.StringIO()) as printed:
-        names = {} if "import" in text else {"mainframe": swm.Session(timeout=PATIENCE * 1_000)}
-        exec(compile(text, "the document", "exec"), names)
+        with swm.Session(timeout=PATIENCE * 1_000) as mainframe:
+            exec(compile(text, "the document", "exec"), {"mainframe": mainframe})
     same("what is printed", printed.getvalue().splitlines(), told.splitlines())
 
 
