@@ -1,21 +1,35 @@
 """What a person types at a terminal is answered line by line: by `run`, and by the client before `serve`."""
 import contextlib
+import errno
 import fcntl
 import os
 import pathlib
 import pty
 import select
+import signal
+import socket
 import subprocess
 import sys
 import tempfile
 import termios
 import time
 
+import swm
 from served import IDENTITY, PATIENCE, Failure, Served, same
 
 HERE = pathlib.Path(__file__).resolve().parent.parent
 A_WHILE = 0.5  # seconds, in which a line that was typed is surely sent
 END, INTERRUPT = "\x04", "\x03"  # Ctrl-D, Ctrl-C
+
+
+def in_the_foreground():
+    """Ctrl-C is heeded, also where whatever runs the checks ignores it."""
+    signal.signal(signal.SIGINT, signal.SIG_DFL)
+
+
+def at_its_terminal():
+    in_the_foreground()
+    fcntl.ioctl(0, termios.TIOCSCTTY, 0)
 
 
 class Terminal:
@@ -25,7 +39,7 @@ class Terminal:
         self.keys, screen = pty.openpty()
         self.shown = ""
         self.process = subprocess.Popen(words, stdin=screen, stdout=screen, stderr=screen, start_new_session=True,
-                                        preexec_fn=lambda: fcntl.ioctl(0, termios.TIOCSCTTY, 0), **options)
+                                        preexec_fn=at_its_terminal, **options)
         os.close(screen)
 
     def types(self, text):
@@ -118,7 +132,29 @@ def make_try_tells_of_a_build_that_fails(_):
     same("status", done.returncode, 1)
 
 
+def make_try_serve_tells_when_it_listens(program):
+    """`make try-serve`: from that line on it serves, and however it ends, what it started ends too."""
+    for number, status in [(signal.SIGINT, 0), (signal.SIGTERM, 143), (signal.SIGHUP, 129)]:
+        with stand_in(program) as environment, socket.create_server(("127.0.0.1", 0)) as free:
+            port = free.getsockname()[1]
+            words = [sys.executable, HERE / "try", str(port)]
+            taken = subprocess.run(words, stderr=subprocess.PIPE, text=True, timeout=PATIENCE, env=environment)
+            same("a port that is taken", (taken.returncode, taken.stderr), (1, f"port {port} is taken\n"))
+            free.close()
+            with subprocess.Popen(words, stderr=subprocess.PIPE, text=True, env=environment,
+                                  preexec_fn=in_the_foreground) as door:
+                same("first", door.stderr.readline(), "building the program, unproved: about a minute\n")
+                same("second", door.stderr.readline(), f"listening on 127.0.0.1:{port}, until Ctrl-C\n")
+                with swm.Session(port) as mainframe:
+                    same("identity", mainframe.query("*IDN?"), IDENTITY)
+                door.send_signal(number)
+                same("status", door.wait(PATIENCE), status)
+        refused = socket.socket().connect_ex(("127.0.0.1", port))
+        same("a connection after it", refused, errno.ECONNREFUSED)
+
+
 CHECKS = [
     run_answers_at_a_terminal, the_client_answers_at_a_terminal, a_command_that_waits_is_given_up,
     make_try_answers_at_a_terminal, make_try_answers_a_pipe, make_try_tells_of_a_build_that_fails,
+    make_try_serve_tells_when_it_listens,
 ]
