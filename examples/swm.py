@@ -106,9 +106,9 @@ class Wire:
     def send(self, message: Message, end: float | None) -> None:
         """Sends a message whole; where it can't, the connection is of no more use and is closed."""
         kind, control, parameter, payload = message
-        self.socket.settimeout(self._left(end))
         try:
             with self._tells("room for what is sent"):
+                self.socket.settimeout(self._left(end))
                 self.socket.sendall(HEADER.pack(PROLOGUE, kind, control, parameter, len(payload)) + payload)
         except BaseException:
             self.close()

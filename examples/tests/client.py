@@ -10,9 +10,9 @@ NO_ERROR = '0,"No error"'
 WAITING = "*RST;:ROUT:SCAN (@1!1);:TRIG:SOUR BUS;:INIT"
 
 
-def session(served, timeout=PATIENCE * 1_000):
+def session(served):
     """A session that is not the first one, so that its number is not 1."""
-    return Session(served.port, timeout=timeout)
+    return Session(served.port, timeout=PATIENCE * 1_000)
 
 
 def refuses(call, *words):
@@ -89,9 +89,10 @@ def drops_interrupted_answers(served):
 
 def keeps_time(served):
     """Where no answer comes in time, the session goes on; a late answer is not the next one's."""
-    with session(served, 200) as mainframe:
-        began = time.monotonic()
+    with session(served) as mainframe:
         mainframe.write("*CLS")
+        mainframe.timeout = 200
+        began = time.monotonic()
         refuses(mainframe.read, "nothing came in time", "an answer to *CLS")
         if not 0.15 < time.monotonic() - began < 10:
             raise Failure("200 ms are not kept")
@@ -155,7 +156,7 @@ def tells_of_service_requests(served):
         same("the error", mainframe.query("SYST:ERR?"), '-221,"Settings conflict"')
         refuses(lambda: mainframe.wait_for_srq(150), "nothing came in time", "AsyncServiceRequest")
         mainframe.write("FOO")
-        other.query("*OPC?")
+        mainframe.query("*OPC?")
         same("a lock beside it", (other.lock_excl(), other.unlock()), (None, None))
         same("kept apart", (other.read_stb() & 4, len(other.requests)), (4, 1))
         same("waited for", (other.wait_for_srq() & 68, other.requests), (68, []))
@@ -215,7 +216,7 @@ def names_what_came(served):
         refuses(mainframe.read_stb, "Error 1 (a kind that it doesn't serve)", "AsyncStatusResponse")
         mainframe.write_raw(b"\n")
         send(mainframe.commands, Kind.FatalError)
-        refuses(mainframe.read, "the end of the connection", "an answer")
+        refuses(mainframe.read, "an answer")
         refuses(lambda: [mainframe.query("*IDN?") for _ in range(2)], "an answer")
 
 

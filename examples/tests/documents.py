@@ -4,6 +4,8 @@
 - Indented lines behind `$ ` are commands of a shell that knows `mainframe`; what stands below comes out.
 - A fenced piece of Python is run with `mainframe` as a session of `serve`; the next fenced piece is what it prints.
   Where it takes PyVISA, the client stands in its place.
+- Fenced lines behind `> ` and `< ` that begin with `48 53` are messages, sent and received in this order on the two
+  connections of one session, all of a document one after another.
 """
 import contextlib
 import io
@@ -16,9 +18,12 @@ import tempfile
 import types
 
 import swm
-from served import PATIENCE, Failure, Served, same
+from served import PATIENCE, Failure, Served, receive_bytes, same
+from swm import Kind
 
 ROOT = pathlib.Path(__file__).resolve().parent.parent.parent
+ON_COMMANDS = {Kind.Initialize, Kind.InitializeResponse, Kind.Data, Kind.DataEnd, Kind.Trigger, Kind.Interrupted,
+               Kind.DeviceClearComplete, Kind.DeviceClearAcknowledge}
 BLOCK = re.compile(r"^```(\w*)\n(.*?)^```$|(?:^    [^\n]*\n)+", re.M | re.S)
 
 
@@ -92,9 +97,25 @@ def check_python(program, text, told):
     same("what is printed", printed.getvalue().splitlines(), told.splitlines())
 
 
+def check_messages(program, lines):
+    """Sends and receives as the lines say, each message on the connection that its kind belongs to."""
+    with Served(program) as served, served.connect() as commands, served.connect() as events:
+        for line in lines:
+            message = bytes.fromhex(line[2:])
+            wire = commands if message[2] in ON_COMMANDS else events
+            if line.startswith("> "):
+                wire.sendall(message)
+            else:
+                same(line, receive_bytes(wire, len(message)).hex(" "), message.hex(" "))
+
+
 def checks_of(path):
     """The checks of a document by their names."""
     found = list(blocks(path))
+    messages = [line for _, language, text in found if language == "plain" and text.startswith("> 48 53")
+                for line in text.splitlines()]
+    if messages:
+        yield f"{path.relative_to(ROOT)}: messages", lambda program: check_messages(program, messages)
     for (line, language, text), (_, next_language, following) in zip(found, found[1:] + [(0, "", "")]):
         name = f"{path.relative_to(ROOT)}:{line}"
         if language == "indented" and text.startswith("> "):
