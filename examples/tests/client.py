@@ -1,9 +1,11 @@
 """Each call of the client, `examples/swm.py`, over a served program; and PyVISA's order of messages, byte by byte."""
+import contextlib
+import socket
 import threading
 import time
 
 from served import IDENTITY, PATIENCE, SESSIONS, Failure, receive, same, send, wait_until
-from swm import Kind, Session, SessionError
+from swm import HEADER, Kind, Session, SessionError
 
 ROUNDS = 3_000  # of PyVISA's order of messages, none of which may be interrupted
 NO_ERROR = '0,"No error"'
@@ -135,6 +137,7 @@ def clears(served):
         mainframe.write("*OPC?;*IDN?")
         same("status", mainframe.read_stb() & 16, 0)
         mainframe.clear()
+        same("identifiers", mainframe.identifier, 0xFFFF_FF00)
         same("after it", mainframe.query("ABOR;*IDN?"), IDENTITY)
         mainframe.write("*IDN?")
         mainframe.clear()
@@ -220,6 +223,87 @@ def names_what_came(served):
         refuses(lambda: [mainframe.query("*IDN?") for _ in range(2)], "an answer")
 
 
+@contextlib.contextmanager
+def scripted(script):
+    """A session of an instrument that does what the script does with its two connections, once it has begun."""
+    def serve():
+        with listener.accept()[0] as commands:
+            receive(commands)
+            send(commands, Kind.InitializeResponse, 0, 0x0100_0007)
+            with listener.accept()[0] as events:
+                receive(events)
+                send(events, Kind.AsyncInitializeResponse)
+                receive(events)
+                send(events, Kind.AsyncMaximumMessageSizeResponse, 0, 0, (24).to_bytes(8, "big"))
+                script(commands, events)
+
+    with socket.create_server(("127.0.0.1", 0)) as listener:
+        server = threading.Thread(target=serve, daemon=True)
+        server.start()
+        with Session(listener.getsockname()[1], timeout=PATIENCE * 1_000) as mainframe:
+            yield mainframe
+        server.join(PATIENCE)
+
+
+def passes_over_what_comes_late(_):
+    """The status byte of a call that was given up is not the next one's."""
+    def script(commands, events):
+        receive(commands)
+        receive(events)
+        receive(events)
+        for status in (1, 2):
+            send(events, Kind.AsyncStatusResponse, status)
+            send(events, Kind.AsyncInterrupted, 0, 0xFFFF_FF10 + status)
+
+    with scripted(script) as mainframe:
+        same("number", mainframe.number, 7)
+        mainframe.timeout = 50
+        refuses(mainframe.read_stb, "nothing came in time", "AsyncStatusResponse")
+        mainframe.timeout = PATIENCE * 1_000
+        mainframe.write("*CLS")
+        same("status", mainframe.read_stb(), 2)
+        same("interruptions", mainframe.interruptions, [0xFFFF_FF11])
+
+
+def keeps_parts_of_an_answer(_):
+    """A message of commands goes in parts of 8 bytes; what came of an answer in time is the front of what comes."""
+    late = threading.Event()
+
+    def script(commands, _):
+        parts = [receive(commands) for _ in range(3)]
+        same("kinds", [part.kind for part in parts], [Kind.Data, Kind.Data, Kind.DataEnd])
+        same("text", b"".join(part.payload for part in parts), b"*IDN?;*OPC?;*STB?\n")
+        send(commands, Kind.DataEnd, 0, parts[1].parameter, b"another's\n")
+        send(commands, Kind.Data, 0, parts[2].parameter, b"a front, ")
+        commands.sendall(HEADER.pack(b"HS", Kind.DataEnd, 0, parts[2].parameter, 10) + b"and")
+        late.wait(PATIENCE)
+        commands.sendall(b" rest\n\n")
+
+    with scripted(script) as mainframe:
+        mainframe.write("*IDN?;*OPC?;*STB?")
+        mainframe.timeout = 200
+        refuses(mainframe.read, "nothing came in time", "an answer to *IDN?;*OPC?;*STB?")
+        late.set()
+        mainframe.timeout = PATIENCE * 1_000
+        same("answer", mainframe.read(), "a front, and rest\n")
+
+
+def refuses_what_is_no_answer(_):
+    """Another kind, bytes that begin no message, a payload that is too long, an end in mid-message."""
+    for sent, words in [
+        (HEADER.pack(b"HS", Kind.AsyncStatusResponse, 5, 0, 0), ["AsyncStatusResponse 5", "an answer to *IDN?"]),
+        (HEADER.pack(b"HS", 200, 5, 0, 0), ["a message of kind 200", "an answer"]),
+        (HEADER.pack(b"HT", Kind.DataEnd, 0, 0, 0), ["which begins no message", "an answer"]),
+        (HEADER.pack(b"HS", Kind.DataEnd, 0, 0xFFFF_FF00, 2**40), ["which begins no message", "an answer"]),
+        (HEADER.pack(b"HS", Kind.DataEnd, 0, 0xFFFF_FF00, 2) + b"a", ["the end of the connection", "an answer"]),
+        (HEADER.pack(b"HS", Kind.FatalError, 1, 0, 0), ["FatalError 1 (no header stood there)", "an answer"]),
+        (HEADER.pack(b"HS", Kind.Error, 4, 0, 0), ["Error 4 (a payload that is too long)", "an answer"]),
+    ]:
+        with scripted(lambda commands, _, sent=sent: (receive(commands), commands.sendall(sent))) as mainframe:
+            mainframe.write("*IDN?")
+            refuses(mainframe.read, *words)
+
+
 # ---- PyVISA's order of messages
 
 
@@ -253,5 +337,5 @@ def keeps_pyvisas_order(served):
 CHECKS = [
     asks_and_reads, asks_for_values, writes_blocks, splits_long_messages, drops_interrupted_answers, keeps_time,
     talks_in_lines, triggers, clears, tells_of_service_requests, locks, waits_for_a_lock, names_what_came,
-    keeps_pyvisas_order,
+    passes_over_what_comes_late, keeps_parts_of_an_answer, refuses_what_is_no_answer, keeps_pyvisas_order,
 ]
