@@ -3,6 +3,7 @@
 
 use std::alloc::{AllocError, Global};
 use sw_base::{Chan, POINTS};
+use sw_channel::Position;
 use sw_code::{ListError, ListFault, Step, read_listing};
 use sw_verify::{Layout, Refusal};
 
@@ -182,26 +183,45 @@ fn placed(
             None => Ok(None),
         },
         Step::Halt => left(alloc, line, "the scan", &[], &closed.chans),
-        Step::Close(chan) => {
-            let remark = unclosable(alloc, line, chan, layout, &closed.chans)?;
-            closed.chans.push(chan)?;
-            Ok(remark)
-        }
-        Step::Open(chan) => {
-            let found = closed.chans.iter().position(|c| *c == chan);
-            match found {
-                Some(at) => {
-                    closed.chans.remove(at);
-                    Ok(None)
-                }
-                None => {
-                    let name = name_of(alloc, chan)?;
-                    format!(in alloc; "line {line}: the scan has not closed {name}").map(Some)
-                }
-            }
-        }
+        Step::Close(position) => close_each(alloc, &mut closed.chans, line, &position, layout),
+        Step::Open(position) => open_each(alloc, &mut closed.chans, line, &position),
         _ => Ok(None),
     }
+}
+
+/// Closes the channels of a position, from left to right, up to the first that may not be; and why not.
+fn close_each(
+    alloc: Global,
+    closed: &mut Vec<Chan>,
+    line: usize,
+    position: &Position,
+    layout: &Layout,
+) -> Result<Option<String>, AllocError> {
+    for chan in position.as_slice() {
+        let remark = unclosable(alloc, line, *chan, layout, closed)?;
+        if remark.is_some() {
+            return Ok(remark);
+        }
+        closed.push(*chan)?;
+    }
+    Ok(None)
+}
+
+/// Opens the channels of a position, from left to right, up to the first that the scan has not closed; and says so.
+fn open_each(
+    alloc: Global,
+    closed: &mut Vec<Chan>,
+    line: usize,
+    position: &Position,
+) -> Result<Option<String>, AllocError> {
+    for chan in position.as_slice() {
+        let Some(at) = closed.iter().position(|c| c == chan) else {
+            let name = name_of(alloc, *chan)?;
+            return format!(in alloc; "line {line}: the scan has not closed {name}").map(Some);
+        };
+        closed.remove(at);
+    }
+    Ok(None)
 }
 
 /// Why a channel may not be closed while these are.

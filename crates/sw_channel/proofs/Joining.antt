@@ -3,7 +3,7 @@ use Rattle.std.proofs.Common.{◌≡◌, ℕ, zero, suc, ◌+◌, ◌-◌, ◌<�
 use Rattle.std.proofs.Common.{refl, sym, ap, ◌∙◌, subst, arith, length-append, append_assoc}
 use Rattle.std.proofs.lemmas.Grind.{common_steps}
 use Rattle.sw_base.specs.Layout.{Channel}
-use Rattle.sw_channel.specs.Positions.{has, AreDifferent, IsPosition, most_joined}
+use Rattle.sw_channel.specs.Positions.{same_channel, is_among, AreDifferent, IsPosition, most_joined}
 use Rattle.sw_channel.specs.PositionSeen.{position_of, first_of, filled, HoldsPosition}
 use Rattle.sw_channel.specs.declared.position.Position.TheInside.{Inside}
 
@@ -15,13 +15,10 @@ take_end : {A : Type 0} (p : List A) (y : A) (r : List A) → take (suc (length 
 take_end [] y r = refl
 take_end (z ∷ p) y r = ap (λ l. z ∷ l) (take_end p y r)
 
-abbrev pub same : Channel → Channel → Bool
-same c x = (c.0 == x.0) && (c.1 == x.1)
-
 swap_eq : (m n : ℕ) → (m == n) ≡ (n == m)
 swap_eq m n = grind (arith, common_steps)
 
-pub same_swap : (a b : Channel) → same a b ≡ same b a
+pub same_swap : (a b : Channel) → same_channel a b ≡ same_channel b a
 same_swap a b = let p = swap_eq a.0 b.0 in let q = swap_eq a.1 b.1 in cc
 
 pub both_false : (a b : Bool) → (a || b) ≡ false → (a ≡ false) × (b ≡ false)
@@ -32,17 +29,25 @@ pub neither : (a b : Bool) → a ≡ false → b ≡ false → (a || b) ≡ fals
 neither true b h g = absurd (cc h)
 neither false b h g = g
 
-has_more : (p : List Channel) (c x : Channel) → has p x ≡ false → same x c ≡ false → has (p ++ c ∷ []) x ≡ false
-has_more [] c x h g = neither (same x c) false g refl
-has_more (y ∷ p) c x h g =
-    let w = both_false (same x y) (has p x) h in
-    neither (same x y) (has (p ++ c ∷ []) x) w.0 (has_more p c x w.1 g)
+is_among_more : (p : List Channel) (c x : Channel) → is_among p x ≡ false → same_channel x c ≡ false → is_among (p ++ c ∷ []) x ≡ false
+is_among_more [] c x h g = neither (same_channel x c) false g refl
+is_among_more (y ∷ p) c x h g =
+    let w = both_false (same_channel x y) (is_among p x) h in
+    neither (same_channel x y) (is_among (p ++ c ∷ []) x) w.0 (is_among_more p c x w.1 g)
 
-different_more : (p : List Channel) (c : Channel) → AreDifferent p → has p c ≡ false → AreDifferent (p ++ c ∷ [])
+pub different_more : (p : List Channel) (c : Channel) → AreDifferent p → is_among p c ≡ false → AreDifferent (p ++ c ∷ [])
 different_more [] c d h = (refl, tt)
 different_more (y ∷ p) c d h =
-    let w = both_false (same c y) (has p c) h in
-    (has_more p c y d.0 (same_swap y c ∙ w.0), different_more p c d.1 w.1)
+    let w = both_false (same_channel c y) (is_among p c) h in
+    (is_among_more p c y d.0 (same_swap y c ∙ w.0), different_more p c d.1 w.1)
+
+-- a channel that comes after those is none of them
+pub different_apart : (p : List Channel) (c : Channel) (q : List Channel) → AreDifferent (p ++ c ∷ q) → is_among p c ≡ false
+different_apart [] c q d = refl
+different_apart (x ∷ p) c q d = neither (same_channel c x) (is_among p c) (same_swap c x ∙ first_not p (d.0)) (different_apart p c q d.1) where
+  first_not : (p : List Channel) → is_among (p ++ c ∷ q) x ≡ false → same_channel x c ≡ false
+  first_not [] h = (both_false (same_channel x c) (is_among q x) h).0
+  first_not (y ∷ p) h = first_not p (both_false (same_channel x y) (is_among (p ++ c ∷ q) x) h).1
 
 first_more : (p : List Channel) (c : Channel) → 1 ≤ length p → first_of (p ++ c ∷ []) ≡ first_of p
 first_more [] c h = absurd (omega arith)
@@ -51,7 +56,7 @@ first_more (x ∷ p) c h = refl
 abbrev inside : List Channel → ℕ → Inside
 inside chans len = record { chans = chans; len = len }
 
-end_holds : (p : List Channel) (c : Channel) (k : ℕ) → IsPosition p → length p + suc k ≡ 4 → has p c ≡ false
+end_holds : (p : List Channel) (c : Channel) (k : ℕ) → IsPosition p → length p + suc k ≡ 4 → is_among p c ≡ false
     → HoldsPosition (inside (p ++ c ∷ replicate k (first_of p)) (suc (length p)))
 end_holds p c k i e h =
     let t = take_end p c (replicate k (first_of p)) in
@@ -70,7 +75,7 @@ end_holds p c k i e h =
           ∙ append_assoc p (c ∷ []) (replicate k (first_of p));
     }
 
-pub joined_holds : (a : Inside) (c : Channel) → HoldsPosition a → has (position_of a) c ≡ false → a.len < most_joined
+pub joined_holds : (a : Inside) (c : Channel) → HoldsPosition a → is_among (position_of a) c ≡ false → a.len < most_joined
     → HoldsPosition (record { chans = slice_set a.chans a.len c; len = a.len + 1 })
 joined_holds a c h free few =
     let p = position_of a in

@@ -4,3 +4,5 @@ pub mod Parts
 pub mod Judging
 pub mod Printed
 pub mod Joining
+pub mod PositionJudging
+pub mod Joined

@@ -6,10 +6,9 @@ use Rattle.std.proofs.lemmas.Bool.{eq-eqb, eqb-true}
 use Rattle.std.proofs.lemmas.List.{append-nil}
 use Rattle.sw_base.specs.Text.{is_blank, is_digit, AllPass, StartsOff, Spans}
 use Rattle.sw_base.proofs.Runs.{one_span, digit-blank, blank-digit}
-use Rattle.sw_channel.specs.declared.run.Run.{Run}
-use Rattle.sw_channel.specs.Grammar.{WrittenChannel, plain, pair, ListItem, one, range, IsPadded, IsMarkedPair, IsChannel, IsItem, IsItems}
-use Rattle.sw_channel.specs.Seen.{ends_number, ends_channel, ends_item, EndsBy, LeadsPart, LeadsNone, MeansNumber, MeansRun}
-use Rattle.sw_channel.proofs.Items.{items_join, one_items}
+use Rattle.sw_channel.specs.Grammar.{WrittenChannel, plain, pair, ListItem, one, range, IsPadded, IsMarkedPair, AreJoined, IsChannel, IsItem}
+use Rattle.sw_channel.specs.Seen.{ends_number, ends_channel, ends_item, EndsBy, LeadsPart, LeadsNone, MeansNumber}
+use Rattle.sw_channel.proofs.Items.{IsJoinable, parts_join, one_joined}
 
 -- ---- numbers
 
@@ -80,11 +79,11 @@ pub record IsForm {W V : Type 0} (P : List ℕ → W → Type 0) (Q : List ℕ �
   pub off : outer mark ≡ false
   pub wider : (b : ℕ) → outer b ≡ true → inner b ≡ true
 
-ends_wider : (inner outer : ℕ → Bool) → ((b : ℕ) → outer b ≡ true → inner b ≡ true) → (tail : List ℕ) → EndsBy outer tail → EndsBy inner tail
+pub ends_wider : (inner outer : ℕ → Bool) → ((b : ℕ) → outer b ≡ true → inner b ≡ true) → (tail : List ℕ) → EndsBy outer tail → EndsBy inner tail
 ends_wider inner outer f [] h = tt
 ends_wider inner outer f (b ∷ bs) h = f b h
 
-no_end : (outer : ℕ → Bool) (mark : ℕ) (tail more : List ℕ) → outer mark ≡ false → EndsBy outer tail → tail ≡ mark ∷ more → ⊥
+pub no_end : (outer : ℕ → Bool) (mark : ℕ) (tail more : List ℕ) → outer mark ≡ false → EndsBy outer tail → tail ≡ mark ∷ more → ⊥
 no_end outer mark tail more o h e =
     let k : outer mark ≡ true = subst (λ (t : List ℕ). EndsBy outer t) e h in
     let z : true ≡ false = sym k ∙ o in cc
@@ -209,18 +208,18 @@ some_left xs h e =
     let z : true ≡ false = sym k ∙ h in cc
 
 -- the first item of a list, and what stands behind it
-pub record IsFirst (text : List ℕ) (is : List ListItem) : Type 0 where
-  pub item : ListItem
-  pub others : List ListItem
+pub record IsFirst {W : Type 0} (Part : List ℕ → W → Type 0) (text : List ℕ) (is : List W) : Type 0 where
+  pub item : W
+  pub others : List W
   pub front : List ℕ
   pub tail : List ℕ
   pub all : is ≡ item ∷ others
-  pub part : IsItem front item
+  pub part : Part front item
   pub ends : EndsBy ends_item tail
   pub whole : text ≡ front ++ tail
-  pub onward : ((tail ≡ []) × (others ≡ [])) ⊎ ((right : List ℕ) × (tail ≡ 44 ∷ right) × IsItems right others)
+  pub onward : ((tail ≡ []) × (others ≡ [])) ⊎ ((right : List ℕ) × (tail ≡ 44 ∷ right) × AreJoined 44 Part right others)
 
-pub first_of : (text : List ℕ) (is : List ListItem) → IsItems text is → IsFirst text is
+pub first_of : {W : Type 0} {Part : List ℕ → W → Type 0} (text : List ℕ) (is : List W) → AreJoined 44 Part text is → IsFirst Part text is
 first_of text [] p = absurd p
 first_of text (i ∷ []) p =
     record { item = i; others = []; front = text; tail = []; all = refl; part = p; ends = tt; whole = sym (append-nil text); onward = inl (refl, refl) }
@@ -236,38 +235,37 @@ first_of text (i ∷ j ∷ is) p = record {
   onward = inr (p.right, refl, p.second);
 }
 
-pub last_item : (text rest : List ℕ) (run : Option Run) (l : LeadsPart IsItem ends_item MeansRun text run rest) → rest ≡ [] → IsItems text (l.written ∷ [])
-last_item text rest run l e =
-    subst (λ (t : List ℕ). IsItem t l.written) (sym (l.whole ∙ ap (λ (t : List ℕ). l.front ++ t) e ∙ append-nil l.front)) l.part
+module _ {W M : Type 0} (Part : List ℕ → W → Type 0) (Means : W → M → Type 0) (text rest : List ℕ) (meant : M)
+    (l : LeadsPart Part ends_item Means text meant rest) where
+  pub last_item : rest ≡ [] → AreJoined 44 Part text (l.written ∷ [])
+  last_item e = subst (λ (t : List ℕ). Part t l.written) (sym (l.whole ∙ ap (λ (t : List ℕ). l.front ++ t) e ∙ append-nil l.front)) l.part
 
--- what follows the item that was read is what follows the first item of the list
-tail_is : (text rest : List ℕ) (run : Option Run) → LeadsPart IsItem ends_item MeansRun text run rest → (is : List ListItem) → (f : IsFirst text is)
-    → f.tail ≡ rest
-tail_is text rest run l is f = l.only f.front f.tail f.item f.part f.ends f.whole
+  -- what follows the item that was read is what follows the first item of the list
+  tail_is : (is : List W) → (f : IsFirst Part text is) → f.tail ≡ rest
+  tail_is is f = l.only f.front f.tail f.item f.part f.ends f.whole
 
-pub no_next : (text rest : List ℕ) (run : Option Run) → LeadsPart IsItem ends_item MeansRun text run rest → (rest ≡ [] → ⊥) → StartsOff (λ b. b == 44) rest
-    → (is : List ListItem) → IsItems text is → ⊥
-no_next text rest run l n o is h =
-    let f = first_of text is h in
-    let t = tail_is text rest run l is f in
-    elim f.onward [
-      | inl x ↦ n (sym t ∙ x.0)
-      | inr x ↦
-          let b : (44 == 44) ≡ false = subst (λ (y : List ℕ). StartsOff (λ b. b == 44) y) (sym t ∙ x.1) o in
-          let z : true ≡ false = b in cc
-    ]
+  pub no_next : (rest ≡ [] → ⊥) → StartsOff (λ b. b == 44) rest → (is : List W) → AreJoined 44 Part text is → ⊥
+  no_next n o is h =
+      let f = first_of {Part = Part} text is h in
+      let t = tail_is is f in
+      elim f.onward [
+        | inl x ↦ n (sym t ∙ x.0)
+        | inr x ↦
+            let b : (44 == 44) ≡ false = subst (λ (y : List ℕ). StartsOff (λ b. b == 44) y) (sym t ∙ x.1) o in
+            let z : true ≡ false = b in cc
+      ]
 
-pub next_items : (text rest more : List ℕ) (run : Option Run) (l : LeadsPart IsItem ends_item MeansRun text run rest) → rest ≡ 44 ∷ more → (is : List ListItem)
-    → IsItems text is → (js : List ListItem) × (is ≡ l.written ∷ js) × IsItems more js
-next_items text rest more run l e is h =
-    let f = first_of text is h in
-    let t = tail_is text rest run l is f in
-    elim f.onward [
-      | inl x ↦ absurd (let z : [] ≡ 44 ∷ more = sym x.0 ∙ t ∙ e in cc)
-      | inr x ↦
-          let k : 44 ∷ x.0 ≡ 44 ∷ more = sym x.1 ∙ t ∙ e in
-          let r : x.0 ≡ more = cc in
-          let q = subst (λ (y : List ℕ). IsItems y f.others) r x.2 in
-          let g = items_join text l.front more l.written f.others (l.whole ∙ ap (λ (y : List ℕ). l.front ++ y) e) l.part q in
-          (f.others, one_items text is (l.written ∷ f.others) h g, q)
-    ]
+  pub next_items : (more : List ℕ) → IsJoinable 44 Part → rest ≡ 44 ∷ more → (is : List W) → AreJoined 44 Part text is
+      → (js : List W) × (is ≡ l.written ∷ js) × AreJoined 44 Part more js
+  next_items more j e is h =
+      let f = first_of {Part = Part} text is h in
+      let t = tail_is is f in
+      elim f.onward [
+        | inl x ↦ absurd (let z : [] ≡ 44 ∷ more = sym x.0 ∙ t ∙ e in cc)
+        | inr x ↦
+            let k : 44 ∷ x.0 ≡ 44 ∷ more = sym x.1 ∙ t ∙ e in
+            let r : x.0 ≡ more = cc in
+            let q = subst (λ (y : List ℕ). AreJoined 44 Part y f.others) r x.2 in
+            let g = parts_join 44 Part text l.front more l.written f.others (l.whole ∙ ap (λ (y : List ℕ). l.front ++ y) e) l.part q in
+            (f.others, one_joined j text is (l.written ∷ f.others) h g, q)
+      ]

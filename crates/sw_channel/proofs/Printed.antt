@@ -13,9 +13,12 @@ use Rattle.std.proofs.lemmas.List.{take_all}
 use Rattle.std.proofs.lemmas.Grind.{common_steps}
 use Rattle.sw_base.specs.Text.{is_digit, AllPass}
 use Rattle.sw_base.specs.Layout.{Channel}
-use Rattle.sw_channel.specs.Grammar.{WrittenChannel, pair, ListItem, one, IsPadded, IsChannel, IsItems}
-use Rattle.sw_channel.specs.Meaning.{short_number, channel_of, channels_of, Mean, Spells}
-use Rattle.sw_channel.specs.Printing.{printed_number, printed_channel, printed_others, printed_body, printed, InRange}
+use Rattle.sw_channel.specs.Grammar.{WrittenChannel, plain, pair, ListItem, one, IsPadded, IsChannel, IsItem, AreJoined, PositionItem, joined, IsPositionItem}
+use Rattle.sw_channel.specs.Meaning.{short_number, channel_of, channels_of, Names, Mean, Spells}
+use Rattle.sw_channel.specs.Printing.{printed_number, printed_channel, printed_after, printed_joined, printed, printed_position, printed_positions, InRange}
+use Rattle.sw_channel.specs.Printing.{IsPrintable}
+use Rattle.sw_channel.specs.Positions.{Position}
+use Rattle.sw_channel.specs.PositionMeaning.{NamePositions, SpellsPositions}
 
 digit : (n : ℕ) → n ≤ 9 → is_digit (48 + n) ≡ true
 digit n h = grind (arith, common_steps)
@@ -58,36 +61,76 @@ means c r =
 abbrev item_of : Channel → ListItem
 item_of c = one (written c)
 
-are_items : (c : Channel) (cs : List Channel) → InRange c → AllByRecursion InRange cs → IsItems (printed_channel c ++ printed_others cs) (map item_of (c ∷ cs))
-are_items c [] r a = rw append-nil (is_channel c r)
-are_items c (d ∷ cs) r a =
-    record { left = printed_channel c; right = printed_channel d ++ printed_others cs; first = is_channel c r; second = are_items d cs a.0 a.1; whole = refl }
+-- what is printed of each is written so, and so they are joined
+are_joined : {V W : Type 0} (mark : ℕ) (Part : List ℕ → W → Type 0) (each : V → List ℕ) (spelled : V → W) (v : V) (vs : List V) → Part (each v) (spelled v)
+    → AllByRecursion (λ u. Part (each u) (spelled u)) vs → AreJoined mark Part (each v ++ printed_after mark each vs) (map spelled (v ∷ vs))
+are_joined mark Part each spelled v [] p a = rw append-nil p
+are_joined mark Part each spelled v (u ∷ us) p a =
+    record { left = each v; right = each u ++ printed_after mark each us; first = p; second = are_joined mark Part each spelled u us a.0 a.1; whole = refl }
+
+weaker : {V : Type 0} {P Q : V → Type 0} → ((v : V) → P v → Q v) → (vs : List V) → AllByRecursion P vs → AllByRecursion Q vs
+weaker f [] a = tt
+weaker f (v ∷ vs) a = (f v a.0, weaker f vs a.1)
 
 names : (c : Channel) → InRange c → channels_of (item_of c) ≡ Some (c ∷ [])
 names c r = rw (means c r) refl
 
-all_mean : (cs : List Channel) → AllByRecursion InRange cs → Mean (map item_of cs) cs
+all_mean : (cs : List Channel) → AllByRecursion InRange cs → Mean Names (map item_of cs) cs
 all_mean [] a = refl
 all_mean (c ∷ cs) a = (c ∷ [], cs, names c a.0, all_mean cs a.1, refl)
 
 pub printed_spells : (cs : List Channel) → cs ≢ [] → AllByRecursion InRange cs → Spells (printed cs) cs
 printed_spells [] no_nil a = absurd (no_nil refl)
-printed_spells (c ∷ cs) no_nil a = (map item_of (c ∷ cs), (printed_body (c ∷ cs), are_items c cs a.0 a.1, refl), all_mean (c ∷ cs) a)
+printed_spells (c ∷ cs) no_nil a =
+    let parts = are_joined 44 IsItem printed_channel item_of c cs (is_channel c a.0) (weaker is_channel cs a.1) in
+    (map item_of (c ∷ cs), (printed_joined 44 printed_channel (c ∷ cs), parts, refl), all_mean (c ∷ cs) a)
 
-pub one_more : (out out1 out2 whole : List ℕ) (cs : List Channel) (i : ℕ) (c : Channel) → i < length cs → c ≡ get_or cs i c → out1 ≡ out ++ 44 ∷ []
-    → out2 ≡ out1 ++ printed_channel c → out ++ printed_others (drop i cs) ≡ whole → out2 ++ printed_others (drop (i + 1) cs) ≡ whole
-one_more out out1 out2 whole cs i c lt is e f h =
-    let d : drop i cs ≡ c ∷ drop (suc i) cs = drop-cons cs i c lt ∙ ap (λ (x : Channel). x ∷ drop (suc i) cs) (sym is) in
+-- ---- positions
+
+abbrev position_item_of : Position → PositionItem
+position_item_of [] = joined (plain []) []
+position_item_of (c ∷ p) = joined (written c) (map written p)
+
+is_position_item : (p : Position) → IsPrintable p → IsPositionItem (printed_position p) (position_item_of p)
+is_position_item [] g = let s = g.0.some in absurd (omega (arith, s))
+is_position_item (c ∷ p) g = are_joined 38 IsChannel printed_channel written c p (is_channel c g.1.0) (weaker is_channel p g.1.1)
+
+all_named : (p : Position) → AllByRecursion InRange p → map channel_of (map written p) ≡ map Some p
+all_named [] a = refl
+all_named (c ∷ p) a = let x = means c a.0 in let y = all_named p a.1 in cc
+
+names_position : (p : Position) → IsPrintable p → NamePositions (position_item_of p) (p ∷ [])
+names_position [] g = let s = g.0.some in absurd (omega (arith, s))
+names_position (c ∷ p) g = (c ∷ p, all_named (c ∷ p) g.1, g.0, refl)
+
+positions_mean : (ps : List Position) → AllByRecursion IsPrintable ps → Mean NamePositions (map position_item_of ps) ps
+positions_mean [] a = refl
+positions_mean (p ∷ ps) a = (p ∷ [], ps, names_position p a.0, positions_mean ps a.1, refl)
+
+pub printed_spells_positions : (ps : List Position) → ps ≢ [] → AllByRecursion IsPrintable ps → SpellsPositions (printed_positions ps) ps
+printed_spells_positions [] no_nil a = absurd (no_nil refl)
+printed_spells_positions (p ∷ ps) no_nil a =
+    let parts = are_joined 44 IsPositionItem printed_position position_item_of p ps (is_position_item p a.0) (weaker is_position_item ps a.1) in
+    (map position_item_of (p ∷ ps), (printed_joined 44 printed_position (p ∷ ps), parts, refl), positions_mean (p ∷ ps) a)
+
+-- ---- what is printed one after another
+
+pub one_more : {V : Type 0} (mark : ℕ) (each : V → List ℕ) (out out1 out2 whole : List ℕ) (vs : List V) (i : ℕ) (v : V) → i < length vs → v ≡ get_or vs i v
+    → out1 ≡ out ++ mark ∷ [] → out2 ≡ out1 ++ each v → out ++ printed_after mark each (drop i vs) ≡ whole
+    → out2 ++ printed_after mark each (drop (i + 1) vs) ≡ whole
+one_more {V = V} mark each out out1 out2 whole vs i v lt is e f h =
+    let d : drop i vs ≡ v ∷ drop (suc i) vs = drop-cons vs i v lt ∙ ap (λ (x : V). x ∷ drop (suc i) vs) (sym is) in
     let g = rw d at h in
-    rw (f, e, add-one) (let k : ((out ++ 44 ∷ []) ++ printed_channel c) ++ printed_others (drop (suc i) cs)
-    ≡ out ++ 44 ∷ (printed_channel c ++ printed_others (drop (suc i) cs)) = simp append_assoc in k ∙ g)
+    rw (f, e, add-one) (let k : ((out ++ mark ∷ []) ++ each v) ++ printed_after mark each (drop (suc i) vs)
+    ≡ out ++ mark ∷ (each v ++ printed_after mark each (drop (suc i) vs)) = simp append_assoc in k ∙ g)
 
-pub in_range-more : (cs : List Channel) (i : ℕ) (c : Channel) → i < length cs → c ≡ get_or cs i c → All InRange (take i cs) → InRange c
-    → All InRange (take (i + 1) cs)
-in_range-more cs i c lt is a r = All-more InRange cs i c lt a (subst InRange is r)
+pub all_more : {V : Type 0} (P : V → Type 0) (vs : List V) (i : ℕ) (v : V) → i < length vs → v ≡ get_or vs i v → All P (take i vs) → P v
+    → All P (take (i + 1) vs)
+all_more P vs i v lt is a r = All-more P vs i v lt a (subst P is r)
 
-pub others_done : (out whole : List ℕ) (cs : List Channel) (i : ℕ) → length cs ≤ i → out ++ printed_others (drop i cs) ≡ whole → out ≡ whole
-others_done out whole cs i le e = sym (append-nil out) ∙ (rw (drop_of_length-le cs le) at e)
+pub others_done : {V : Type 0} (mark : ℕ) (each : V → List ℕ) (out whole : List ℕ) (vs : List V) (i : ℕ) → length vs ≤ i
+    → out ++ printed_after mark each (drop i vs) ≡ whole → out ≡ whole
+others_done mark each out whole vs i le e = sym (append-nil out) ∙ (rw (drop_of_length-le vs le) at e)
 
-pub all_in_range : (cs : List Channel) (i : ℕ) → length cs ≤ i → All InRange (take i cs) → AllByRecursion InRange cs
-all_in_range cs i le a = recursion_from_All InRange cs (rw (take_all i cs le) at a)
+pub all_over : {V : Type 0} (P : V → Type 0) (vs : List V) (i : ℕ) → length vs ≤ i → All P (take i vs) → AllByRecursion P vs
+all_over P vs i le a = recursion_from_All P vs (rw (take_all i vs le) at a)

@@ -40,12 +40,40 @@ abbrev pub IsItem : List ℕ → ListItem → Type 0
 IsItem text (one w) = IsChannel text w
 IsItem text (range v w) = IsMarkedPair 58 (λ t. IsChannel t v) (λ t. IsChannel t w) text
 
+-- one part or more, joined by a mark
+abbrev pub AreJoined : {W : Type 0} → ℕ → (List ℕ → W → Type 0) → List ℕ → List W → Type 0
+AreJoined mark Part text [] = ⊥
+AreJoined mark Part text (w ∷ []) = Part text w
+AreJoined mark Part text (w ∷ v ∷ ws) =
+    IsMarkedPair mark (λ t. Part t w) (λ t. AreJoined mark Part t (v ∷ ws)) text
+
+-- what stands between `(@` and `)`
+abbrev pub IsBracketed : {I : Type 0} → (List ℕ → I → Type 0) → List ℕ → I → Type 0
+IsBracketed Body text i = (body : List ℕ) × Body body i × (text ≡ 40 ∷ 64 ∷ (body ++ 41 ∷ []))
+
 -- one item or more, joined by `,`
 abbrev pub IsItems : List ℕ → List ListItem → Type 0
-IsItems text [] = ⊥
-IsItems text (i ∷ []) = IsItem text i
-IsItems text (i ∷ j ∷ is) = IsMarkedPair 44 (λ t. IsItem t i) (λ t. IsItems t (j ∷ is)) text
+IsItems = AreJoined 44 IsItem
 
 -- a list: these between `(@` and `)`
 abbrev pub IsList : List ℕ → List ListItem → Type 0
-IsList text items = (body : List ℕ) × IsItems body items × (text ≡ 40 ∷ 64 ∷ (body ++ 41 ∷ []))
+IsList = IsBracketed IsItems
+
+-- ---- lists of positions (this instrument's own)
+
+-- An item of such a list as it is written: a channel and those joined to it, or the two ends of a range.
+pub data PositionItem : Type 0 where
+  joined : WrittenChannel → List WrittenChannel → PositionItem
+  single_each : WrittenChannel → WrittenChannel → PositionItem
+
+-- an item: channels joined by `&`, or two joined by `:`
+abbrev pub IsPositionItem : List ℕ → PositionItem → Type 0
+IsPositionItem text (joined w ws) = AreJoined 38 IsChannel text (w ∷ ws)
+IsPositionItem text (single_each v w) = IsItem text (range v w)
+
+abbrev pub IsPositionItems : List ℕ → List PositionItem → Type 0
+IsPositionItems = AreJoined 44 IsPositionItem
+
+-- a list of positions: one item or more, joined by `,`, between `(@` and `)`
+abbrev pub IsPositionList : List ℕ → List PositionItem → Type 0
+IsPositionList = IsBracketed IsPositionItems

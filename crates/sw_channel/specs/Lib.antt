@@ -4,4 +4,5 @@ pub mod Reading
 pub mod Printing
 pub mod Seen
 pub mod Positions
+pub mod PositionMeaning
 pub mod PositionSeen

@@ -56,26 +56,40 @@ abbrev pub channels_of : ListItem → Option (List Channel)
 channels_of (one w) = option_and_then (λ c. Some (c ∷ [])) (channel_of w)
 channels_of (range v w) = option_and_then (λ a. option_and_then (λ b. range_of a b) (channel_of w)) (channel_of v)
 
--- The items name the channels, in order and with repeats.
-abbrev pub Mean : List ListItem → List Channel → Type 0
-Mean [] cs = cs ≡ []
-Mean (i ∷ is) cs = (first : List Channel) × (others : List Channel) × (channels_of i ≡ Some first) × Mean is others
-    × (cs ≡ first ++ others)
+-- An item names these channels.
+abbrev pub Names : ListItem → List Channel → Type 0
+Names i cs = channels_of i ≡ Some cs
+
+-- The items name the entries, in order and with repeats.
+abbrev pub Mean : {I V : Type 0} → (I → List V → Type 0) → List I → List V → Type 0
+Mean NamesEach [] vs = vs ≡ []
+Mean {I} {V} NamesEach (i ∷ is) vs = (first : List V) × (others : List V) × NamesEach i first
+    × Mean NamesEach is others
+    × (vs ≡ first ++ others)
 
 -- The text spells the channels, one item or more, however many they are.
 abbrev pub Spells : List ℕ → List Channel → Type 0
-Spells text cs = (items : List ListItem) × IsList text items × Mean items cs
+Spells text cs = (items : List ListItem) × IsList text items × Mean Names items cs
 
 -- ---- refusals
 
--- what an item that names these adds to the channels in front of it: none such is -222, one entry too many is -223
-abbrev pub judged_with : List Channel → Option (List Channel) → (List Channel → Result (List Channel) ScpiError)
-    → Result (List Channel) ScpiError
-judged_with front None rest = Err DataOutOfRange
-judged_with front (Some cs) rest =
-    if nat_le (length front + length cs) most_entries then rest (front ++ cs) else Err TooMuchData
+-- what is added to so many entries: none that is right is -222, one too many is -223
+abbrev pub fitting : {V : Type 0} → ℕ → Option (List V) → Result (List V) ScpiError
+fitting count None = Err DataOutOfRange
+fitting count (Some vs) = if nat_le (count + length vs) most_entries then Ok vs else Err TooMuchData
 
--- the channels of the items after those in front, or the first refusal from left to right
-abbrev pub judged : List Channel → List ListItem → Result (List Channel) ScpiError
-judged front [] = Ok front
-judged front (i ∷ is) = judged_with front (channels_of i) (λ more. judged more is)
+-- the channels that an item adds to so many, or its refusal
+abbrev pub channels_judged : ℕ → ListItem → Result (List Channel) ScpiError
+channels_judged count i = fitting count (channels_of i)
+
+-- the entries in front with those of an item, and what comes of the others
+abbrev pub judged_with : {V : Type 0} → List V → Result (List V) ScpiError → (List V → Result (List V) ScpiError)
+    → Result (List V) ScpiError
+judged_with front (Err e) rest = Err e
+judged_with front (Ok vs) rest = rest (front ++ vs)
+
+-- the entries of the items after those in front, or the first refusal from left to right
+abbrev pub judged : {I V : Type 0} → (ℕ → I → Result (List V) ScpiError) → List V → List I
+    → Result (List V) ScpiError
+judged judge front [] = Ok front
+judged judge front (i ∷ is) = judged_with front (judge (length front) i) (λ more. judged judge more is)

@@ -1,4 +1,4 @@
--- A position as callers see it, and the fields that hold it.
+-- A position as callers see it, and the fields that hold it: its channels, and then the first one again and again.
 use Rattle.std.specs.Prelude.{◌≡◌, ℕ, ◌-◌, List, [], ◌∷◌, ◌++◌, length, take, replicate}
 use Rattle.std.proofs.Common.{ap, ◌∙◌}
 use Rattle.sw_base.specs.Layout.{Channel}
@@ -12,7 +12,7 @@ abbrev pub first_of : List Channel → Channel
 first_of [] = (0, 0)
 first_of (c ∷ p) = c
 
--- filled up with the first one
+-- the channels, filled up with the first one
 abbrev pub filled : List Channel → List Channel
 filled p = p ++ replicate (most_joined - length p) (first_of p)
 

@@ -1,14 +1,19 @@
 -- What was read of a text, without where it lies in memory.
 use Rattle.std.specs.Prelude.{◌≡◌, ℕ, ◌<◌, Bool, true, ◌==◌, ◌||◌, List, [], ◌++◌, ◌∷◌, length, Option, Result, Ok}
-use Rattle.std.specs.Prelude.{Err, ◌⊎◌, IfOk}
+use Rattle.std.specs.Prelude.{Err, ◌⊎◌, IfOk, map}
 use Rattle.std.specs.Option.{option_map}
+use Rattle.std.specs.Result.{result_map_both}
 use Rattle.sw_base.specs.Layout.{Channel}
 use Rattle.sw_base.specs.Text.{is_digit, Spans}
 use Rattle.sw_base.specs.declared.error.ScpiError.{ScpiError}
 use Rattle.sw_base.specs.declared.error.ScpiError.TheVariants.{InvalidExpression, OutOfMemory}
-use Rattle.sw_channel.specs.Grammar.{WrittenChannel, ListItem, IsItems}
-use Rattle.sw_channel.specs.Meaning.{short_number, channel_of, channels_of, channels_between, judged}
+use Rattle.sw_channel.specs.Grammar.{WrittenChannel, ListItem, IsItems, PositionItem, IsPositionItems}
+use Rattle.sw_channel.specs.Meaning.{short_number, channel_of, channels_of, channels_between, judged, channels_judged}
+use Rattle.sw_channel.specs.Positions.{Position, alone}
+use Rattle.sw_channel.specs.PositionMeaning.{position_of_joined, positions_judged}
 use Rattle.sw_channel.specs.declared.run.Run.{Run}
+use Rattle.sw_channel.specs.declared.entry.Entry.{Entry}
+use Rattle.sw_channel.specs.declared.entry.Entry.TheVariants.{Joined, Range}
 use Rattle.sw_channel.specs.declared.collect.Found.{Found}
 
 -- ---- parts at the front of a text
@@ -18,7 +23,7 @@ abbrev pub ends_item : ℕ → Bool
 ends_item b = b == 44
 
 abbrev pub ends_channel : ℕ → Bool
-ends_channel b = b == 58 || ends_item b
+ends_channel b = b == 38 || b == 58 || ends_item b
 
 abbrev pub ends_number : ℕ → Bool
 ends_number b = b == 33 || ends_channel b
@@ -63,19 +68,47 @@ channels_in run = channels_between run.first.0 run.first.1 run.last.1
 abbrev pub MeansRun : ListItem → Option Run → Type 0
 MeansRun item run = channels_of item ≡ option_map channels_in run
 
+-- joined channels, and the position of them in a list of so many, or their refusal
+abbrev pub MeansJoined : ℕ → List WrittenChannel → Result Position ScpiError → Type 0
+MeansJoined count written position = position_of_joined count written ≡ position
+
+-- the positions that an entry stands for
+abbrev pub positions_in : Entry → List Position
+positions_in (Joined position) = position ∷ []
+positions_in (Range run) = map alone (channels_in run)
+
+abbrev pub entry_seen : Result Entry ScpiError → Result (List Position) ScpiError
+entry_seen r = result_map_both positions_in (λ e. e) r
+
+abbrev pub MeansEntry : ℕ → PositionItem → Result Entry ScpiError → Type 0
+MeansEntry count item entry = positions_judged count item ≡ entry_seen entry
+
 -- ---- lists
 
--- What is found of the first items, their channels or a refusal, and what is left of them lead to this.
-abbrev pub LeadsTo : Result Found ScpiError → List ListItem → Result (List Channel) ScpiError → Type 0
-LeadsTo (Ok found) items all = (front : List Channel) × (length front ≡ found.count)
-    × IfOk found.chans (λ v. v.items ≡ front) × (judged front items ≡ all)
-LeadsTo (Err e) items all = all ≡ Err e
+-- What is found of the first items, their entries or a refusal, and what is left of them lead to this.
+abbrev pub LeadsTo : {I V : Type 0} → (ℕ → I → Result (List V) ScpiError) → Result (Found V) ScpiError → List I
+    → Result (List V) ScpiError → Type 0
+LeadsTo {I} {V} judge (Ok found) items all = (front : List V) × (length front ≡ found.count)
+    × IfOk found.entries (λ v. v.items ≡ front) × (judged judge front items ≡ all)
+LeadsTo judge (Err e) items all = all ≡ Err e
 
--- the answer that is due, or want of memory where channels are due
-abbrev pub AnswersChannels : Result (List Channel) ScpiError → Result (List Channel) ScpiError → Type 0
-AnswersChannels due r = (r ≡ due) ⊎ ((r ≡ Err OutOfMemory) × ((cs : List Channel) × (due ≡ Ok cs)))
+-- what is found of all items: these entries, or this refusal
+abbrev pub IsFound : {V : Type 0} → Result (Found V) ScpiError → Result (List V) ScpiError → Type 0
+IsFound {V} (Ok found) all = (front : List V) × IfOk found.entries (λ v. v.items ≡ front) × (all ≡ Ok front)
+IsFound (Err e) all = all ≡ Err e
 
--- the channels that the items name or their first refusal, or -171 where the text is no items
+-- the answer that is due, or want of memory where entries are due
+abbrev pub AnswersDue : {V : Type 0} → Result (List V) ScpiError → Result (List V) ScpiError → Type 0
+AnswersDue {V} due r = (r ≡ due) ⊎ ((r ≡ Err OutOfMemory) × ((vs : List V) × (due ≡ Ok vs)))
+
+-- the entries that the items name or their first refusal, or -171 where the text is no items
+abbrev pub Gathers : {I V : Type 0} → (List ℕ → List I → Type 0) → (ℕ → I → Result (List V) ScpiError) → List ℕ
+    → Result (List V) ScpiError → Type 0
+Gathers {I} {V} Items judge text r = (((is : List I) → Items text is → ⊥) × (r ≡ Err InvalidExpression))
+    ⊎ ((is : List I) × Items text is × AnswersDue (judged judge [] is) r)
+
 abbrev pub GathersChannels : List ℕ → Result (List Channel) ScpiError → Type 0
-GathersChannels text r = (((is : List ListItem) → IsItems text is → ⊥) × (r ≡ Err InvalidExpression))
-    ⊎ ((is : List ListItem) × IsItems text is × AnswersChannels (judged [] is) r)
+GathersChannels = Gathers IsItems channels_judged
+
+abbrev pub GathersPositions : List ℕ → Result (List Position) ScpiError → Type 0
+GathersPositions = Gathers IsPositionItems positions_judged

@@ -6,7 +6,8 @@ ghost use Rattle.sw_base.specs.Layout.{Channel};
 ghost use Rattle.sw_base.specs.Limits.{most_entries};
 ghost use Rattle.sw_base.specs.declared.error.ScpiError.{ScpiError as Error};
 ghost use Rattle.sw_channel.specs.Grammar.{ListItem};
-ghost use Rattle.sw_channel.specs.Seen.{channels_in, MeansRun, LeadsTo, AnswersChannels, GathersChannels};
+ghost use Rattle.sw_channel.specs.Meaning.{channels_judged};
+ghost use Rattle.sw_channel.specs.Seen.{channels_in, MeansRun, LeadsTo, IsFound, AnswersDue, GathersChannels};
 
 use crate::parse::read_item;
 use crate::run::Run;
@@ -16,25 +17,21 @@ use sw_base::{Chan, LIST_ENTRIES, ScpiError, strip_prefix};
 /// The least number of bytes that a channel takes in a list, its comma counted.
 const LEAST_BYTES: usize = 4;
 
-/// The channels that the first items of a list name.
+/// The entries that the first items of a list name: channels, or positions.
 #[derive(Drop)]
-pub struct Found {
+pub struct Found<T> {
     /// How many they are.
-    count: usize,
+    pub count: usize,
     /// Themselves, unless there was no memory for them.
-    chans: Result<Vec<Chan>, AllocError>,
+    pub entries: Result<Vec<T>, AllocError>,
 }
 
 /// Adds the channels of the run.
 fn push_run(chans: &mut Vec<Chan>, run: &Run) -> Result<(), AllocError>
     ensures { OnOk result (chans.new.items ≡ chans.old.items ++ channels_in run.now) }
 {
-    let slot = run.first.slot();
-    let from = run.first.ch();
-    let to = run.last.ch();
     for k in 0..run.count() {
-        let ch = if from <= to { from + k } else { from - k };
-        chans.push(Chan::new(slot, ch))?;
+        chans.push(run.channel(k))?;
     }
     Ok(())
 }
@@ -50,10 +47,13 @@ fn with_run(chans: Result<Vec<Chan>, AllocError>, run: &Run) -> Result<Vec<Chan>
 }
 
 /// What is found after one more item that names this run, or none.
-fn with_item(found: Result<Found, ScpiError>, run: Option<Run>) -> Result<Found, ScpiError>
+fn with_item(
+    found: Result<Found<Chan>, ScpiError>,
+    run: Option<Run>,
+) -> Result<Found<Chan>, ScpiError>
     requires { ForOk found (λ f. f.count ≤ most_entries) }
     ensures leads { (i : ListItem) (is : List ListItem) (all : Result (List Channel) Error) → MeansRun i run
-        → LeadsTo found (i ∷ is) all → LeadsTo result is all }
+        → LeadsTo channels_judged found (i ∷ is) all → LeadsTo channels_judged result is all }
     ensures within { IfOk result (λ f. f.count ≤ most_entries) }
 {
     let found = found?;
@@ -66,25 +66,25 @@ fn with_item(found: Result<Found, ScpiError>, run: Option<Run>) -> Result<Found,
             }
             Ok(Found {
                 count: found.count + more,
-                chans: with_run(found.chans, &run),
+                entries: with_run(found.entries, &run),
             })
         }
     }
 }
 
-/// Room for the channels of a list of this many bytes where none of its items is a range.
-fn room(alloc: Global, bytes: usize) -> Result<Vec<Chan>, AllocError>
+/// Room for the entries of a list of this many bytes where none of its items is a range.
+pub fn room<T>(alloc: Global, bytes: usize) -> Result<Vec<T>, AllocError>
     ensures { IfOk result (λ v. v.items ≡ []) }
 {
     Vec::with_capacity(alloc, (bytes / LEAST_BYTES + 1).min(LIST_ENTRIES))
 }
 
-/// The channels that were found, unless there was no memory for them.
-fn all_of(found: Result<Found, ScpiError>) -> Result<Vec<Chan>, ScpiError>
-    ensures { (all : Result (List Channel) Error) → LeadsTo found [] all
-        → AnswersChannels all (result_map_both (λ v. v.items) (λ e. e) result) }
+/// The entries that were found, unless there was no memory for them.
+pub fn all_of<T>(found: Result<Found<T>, ScpiError>) -> Result<Vec<T>, ScpiError>
+    ensures { (all : Result (List T) Error) → IsFound found all
+        → AnswersDue all (result_map_both (λ v. v.items) (λ e. e) result) }
 {
-    Ok(found?.chans?)
+    Ok(found?.entries?)
 }
 
 /// The channels that the items of the text name, or the first refusal.
@@ -94,7 +94,7 @@ pub fn collect(alloc: Global, text: &[u8]) -> Result<Vec<Chan>, ScpiError>
     let mut rest = text;
     let mut found = Ok(Found {
         count: 0,
-        chans: room(alloc, text.len()),
+        entries: room(alloc, text.len()),
     });
     'list: loop {
         match read_item(rest) {

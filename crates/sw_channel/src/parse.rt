@@ -74,7 +74,7 @@ fn paired_channel(slot: Option<u32>, ch: Option<u32>) -> Option<Chan>
 }
 
 /// What the channel at the front means, and what follows it.
-fn read_channel(text: &[u8]) -> Option<(Option<Chan>, &[u8])>
+pub fn read_channel(text: &[u8]) -> Option<(Option<Chan>, &[u8])>
     ensures found { IfSome result (λ x. LeadsPart IsChannel ends_channel MeansChannel text.now x.0 x.1.now) }
     ensures none { IfNone result (LeadsNone IsChannel ends_channel text.now) }
 {
@@ -102,7 +102,7 @@ fn single_run(chan: Option<Chan>) -> Option<Run>
 }
 
 /// The run from a channel to another one of its slot.
-fn range_run(first: Option<Chan>, last: Option<Chan>) -> Option<Run>
+pub fn range_run(first: Option<Chan>, last: Option<Chan>) -> Option<Run>
     ensures { (v w : WrittenChannel) → MeansChannel v first → MeansChannel w last → MeansRun (range v w) result }
 {
     let first = first?;

@@ -3,7 +3,7 @@
 ghost use Rattle.std.specs.Prelude.{◌≡◌, ◌↔◌, ◌<◌, ◌++◌, ◌∷◌, [], length, false, IsOk, IfOk, IfErr, if◌then◌else◌};
 ghost use Rattle.std.specs.List.{slice_get};
 ghost use Rattle.sw_base.specs.declared.error.ScpiError.TheVariants.{DataOutOfRange, TooMuchData};
-ghost use Rattle.sw_channel.specs.Positions.{IsPosition, most_joined, has};
+ghost use Rattle.sw_channel.specs.Positions.{IsPosition, most_joined, is_among, alone};
 
 use std::marker::Model;
 use sw_base::{Chan, ScpiError};
@@ -35,14 +35,13 @@ impl Model for Position {
 
     ghost inverse = { inside_of };
 
-
     ghost inverse_ok = { inside_back };
 }
 
 impl Position {
     /// The position of one channel.
     pub fn new(chan: Chan) -> Position
-        ensures { result ≡ chan ∷ [] }
+        ensures { result ≡ alone chan }
     {
         Position {
             chans: [chan; MOST],
@@ -78,8 +77,8 @@ impl Position {
     }
 
     /// Whether the channel is among them.
-    pub fn has(&self, chan: Chan) -> bool
-        ensures { result ≡ has self.now chan }
+    pub fn contains(&self, chan: Chan) -> bool
+        ensures { result ≡ is_among self.now chan }
     {
         self.as_slice().iter().any(|c| chan == *c)
     }
@@ -87,10 +86,10 @@ impl Position {
     /// The position with one more channel; -222 for one that it has, -223 where it has four.
     pub fn joined(self, chan: Chan) -> Result<Position, ScpiError>
         ensures joined { IfOk result (λ p. p ≡ self ++ chan ∷ []) }
-        ensures taken { IsOk result ↔ (has self chan ≡ false) × (length self < most_joined) }
-        ensures refused { IfErr result (λ e. e ≡ (if has self chan then DataOutOfRange else TooMuchData)) }
+        ensures taken { IsOk result ↔ (is_among self chan ≡ false) × (length self < most_joined) }
+        ensures refused { IfErr result (λ e. e ≡ (if is_among self chan then DataOutOfRange else TooMuchData)) }
     {
-        if self.has(chan) {
+        if self.contains(chan) {
             return Err(ScpiError::DataOutOfRange);
         }
         if self.len() >= MOST {

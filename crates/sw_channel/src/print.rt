@@ -1,11 +1,14 @@
-//! Printing a channel list.
+//! Printing a channel list, and a list of positions.
 
 ghost use Rattle.std.specs.Prelude.{◌≡◌, ◌≢◌, [], ◌++◌, IfOk, IfErr, OnOk};
 ghost use Rattle.std.specs.List.{AllByRecursion};
 ghost use Rattle.sw_base.specs.declared.error.ScpiError.TheVariants.{OutOfMemory};
 ghost use Rattle.sw_channel.specs.Meaning.{Spells};
-ghost use Rattle.sw_channel.specs.Printing.{printed, printed_channel, printed_others, printed_body, InRange};
+ghost use Rattle.sw_channel.specs.PositionMeaning.{SpellsPositions};
+ghost use Rattle.sw_channel.specs.Printing.{printed, printed_positions, printed_position, printed_channel};
+ghost use Rattle.sw_channel.specs.Printing.{printed_after, printed_joined, InRange, IsPrintable};
 
+use crate::position::Position;
 use std::alloc::{AllocError, Global};
 use sw_base::{Chan, ScpiError};
 
@@ -24,32 +27,75 @@ pub fn print_list(alloc: Global, chans: &[Chan]) -> Result<Vec<u8>, ScpiError>
     let room = chans.len().saturating_mul(MOST_BYTES).saturating_add(3);
     let mut out = Vec::with_capacity(alloc, room)?;
     out.extend_from_slice(b"(@")?;
-    put_all(&mut out, chans)?;
+    put_all(&mut out, chans, b',')?;
     out.push(b')')?;
     Ok(out)
 }
 
-/// Adds the channels, joined by commas.
-fn put_all(out: &mut Vec<u8>, chans: &[Chan]) -> Result<(), AllocError>
-    ensures printed { OnOk result (out.new.items ≡ out.old.items ++ printed_body chans.now) }
+/// A list of positions as text: as a channel list, but with the channels of a position joined by `&`.
+///
+/// `OutOfMemory` comes where the text found no room, and no other error.
+pub fn print_positions(alloc: Global, positions: &[Position]) -> Result<Vec<u8>, ScpiError>
+    ensures printed { IfOk result (λ v. v.items ≡ printed_positions positions.now) }
+    // What is printed spells what it is printed of.
+    ensures spelled { positions.now ≢ [] → IfOk result (λ v. SpellsPositions v.items positions.now) }
+    ensures refused { IfErr result (λ e. e ≡ OutOfMemory) }
+{
+    let room = positions.len().saturating_mul(MOST_BYTES).saturating_add(3);
+    let mut out = Vec::with_capacity(alloc, room)?;
+    out.extend_from_slice(b"(@")?;
+    put_positions(&mut out, positions)?;
+    out.push(b')')?;
+    Ok(out)
+}
+
+/// Adds the positions, joined by commas.
+fn put_positions(out: &mut Vec<u8>, positions: &[Position]) -> Result<(), AllocError>
+    ensures printed { OnOk result (out.new.items ≡ out.old.items ++ printed_joined 44 printed_position positions.now) }
+    ensures in_range { OnOk result (AllByRecursion IsPrintable positions.now) }
+{
+    match positions {
+        [] => Ok(()),
+        [head, tail @ ..] => {
+            put_all(out, head.as_slice(), b'&')?;
+            put_other_positions(out, tail)
+        }
+    }
+}
+
+/// Adds each position after a comma.
+fn put_other_positions(out: &mut Vec<u8>, positions: &[Position]) -> Result<(), AllocError>
+    ensures printed { OnOk result (out.new.items ≡ out.old.items ++ printed_after 44 printed_position positions.now) }
+    ensures in_range { OnOk result (AllByRecursion IsPrintable positions.now) }
+{
+    for position in positions {
+        out.push(b',')?;
+        put_all(out, position.as_slice(), b'&')?;
+    }
+    Ok(())
+}
+
+/// Adds the channels, joined by the mark.
+fn put_all(out: &mut Vec<u8>, chans: &[Chan], mark: u8) -> Result<(), AllocError>
+    ensures printed { OnOk result (out.new.items ≡ out.old.items ++ printed_joined mark printed_channel chans.now) }
     ensures in_range { OnOk result (AllByRecursion InRange chans.now) }
 {
     match chans {
         [] => Ok(()),
         [head, tail @ ..] => {
             put_channel(out, *head)?;
-            put_others(out, tail)
+            put_others(out, tail, mark)
         }
     }
 }
 
-/// Adds each channel after a comma.
-fn put_others(out: &mut Vec<u8>, chans: &[Chan]) -> Result<(), AllocError>
-    ensures printed { OnOk result (out.new.items ≡ out.old.items ++ printed_others chans.now) }
+/// Adds each channel after the mark.
+fn put_others(out: &mut Vec<u8>, chans: &[Chan], mark: u8) -> Result<(), AllocError>
+    ensures printed { OnOk result (out.new.items ≡ out.old.items ++ printed_after mark printed_channel chans.now) }
     ensures in_range { OnOk result (AllByRecursion InRange chans.now) }
 {
     for chan in chans {
-        out.push(b',')?;
+        out.push(mark)?;
         put_channel(out, *chan)?;
     }
     Ok(())

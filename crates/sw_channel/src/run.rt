@@ -1,8 +1,8 @@
 //! Runs of channels: what one item of a list names.
 
-ghost use Rattle.std.specs.Prelude.{◌≡◌, ◌≤◌};
+ghost use Rattle.std.specs.Prelude.{◌≡◌, ◌≤◌, ◌<◌};
 ghost use Rattle.sw_base.specs.Limits.{most_channels};
-ghost use Rattle.sw_channel.specs.Meaning.{count_between};
+ghost use Rattle.sw_channel.specs.Meaning.{count_between, towards};
 
 use sw_base::Chan;
 
@@ -26,5 +26,19 @@ impl Run {
         } else {
             from - to + 1
         }
+    }
+
+    /// The channel that stands `k` places from the first towards the last.
+    pub fn channel(&self, k: u8) -> Chan
+        requires { k < count_between self.now.first.1 self.now.last.1 }
+        ensures { result ≡ (self.now.first.0, towards self.now.first.1 self.now.last.1 k) }
+    {
+        let from = self.first.ch();
+        let ch = if from <= self.last.ch() {
+            from + k
+        } else {
+            from - k
+        };
+        Chan::new(self.first.slot(), ch)
     }
 }

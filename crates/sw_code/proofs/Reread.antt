@@ -8,8 +8,8 @@ use Rattle.std.proofs.lemmas.Bool.Decides.{nat_tests}
 use Rattle.std.proofs.lemmas.Fmt.{decimal_by_steps, decimal_nonempty, length-decimal-le}
 use Rattle.std.proofs.lemmas.Grind.{common_steps}
 use Rattle.sw_base.specs.Layout.{Channel}
-use Rattle.sw_channel.specs.Positions.{Position, has, AreDifferent, IsPosition, most_joined}
-use Rattle.sw_channel.proofs.Joining.{same, same_swap, both_false, neither}
+use Rattle.sw_channel.specs.Positions.{Position, IsPosition, most_joined}
+use Rattle.sw_channel.proofs.Joining.{different_apart}
 use Rattle.sw_base.specs.Text.{AllPass, Lacks, is_digit}
 use Rattle.sw_base.specs.Number.{value_after, value_of}
 use Rattle.sw_base.specs.declared.terms.LayerName.{LayerName}
@@ -122,14 +122,6 @@ position_lacks mark h k j (c ∷ p) r =
       others : (q : Position) → AllByRecursion IsInChannelRange q → Lacks mark (others_text q)
       others [] r = tt
       others (d ∷ q) r = (j, AllPass-append (λ (b : ℕ). not (b == mark)) (channel_text d) (others_text q) (channel_lacks mark h k d r.0) (others q r.1))
-
--- a channel that comes after those is none of them
-different_apart : (p : Position) (c : Channel) (q : Position) → AreDifferent (p ++ c ∷ q) → has p c ≡ false
-different_apart [] c q d = refl
-different_apart (x ∷ p) c q d = neither (same c x) (has p c) (same_swap c x ∙ first_not p (d.0)) (different_apart p c q d.1) where
-  first_not : (p : Position) → has (p ++ c ∷ q) x ≡ false → same x c ≡ false
-  first_not [] h = (both_false (same x c) (has q x) h).0
-  first_not (y ∷ p) h = first_not p (both_false (same x y) (has (p ++ c ∷ q) x) h).1
 
 joined_good : (done : Position) (c : Channel) (q : Position) → IsPosition (done ++ c ∷ q) → joined_with done c ≡ Ok (done ++ c ∷ [])
 joined_good done c q i =

@@ -5,7 +5,7 @@ use Rattle.std.specs.Prelude.{codes, if◌then◌else◌}
 use Rattle.std.specs.List.{list_all, slice_split}
 use Rattle.std.specs.Str.{bytes_eq}
 use Rattle.sw_base.specs.Layout.{Channel}
-use Rattle.sw_channel.specs.Positions.{Position, has, most_joined}
+use Rattle.sw_channel.specs.Positions.{Position, is_among, most_joined}
 use Rattle.sw_base.specs.Limits.{most_slots, most_channels, most_trigger_count, longest_delay}
 use Rattle.sw_base.specs.Text.{is_digit}
 use Rattle.sw_base.specs.Number.{value_of}
@@ -43,7 +43,7 @@ channel_in _ = Err BadNumber
 
 -- a channel more: not one that is there, nor a fifth
 abbrev pub joined_with : Position → Channel → Result Position ListFault
-joined_with p c = if has p c then Err BadNumber else
+joined_with p c = if is_among p c then Err BadNumber else
     (if nat_lt (length p) most_joined then Ok (p ++ c ∷ []) else Err BadNumber)
 
 abbrev pub joined_in : Position → List (List ℕ) → Result Position ListFault

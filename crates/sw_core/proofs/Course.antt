@@ -5,7 +5,7 @@ use Rattle.sw_base.specs.Layout.{Channel}
 use Rattle.sw_trigger.specs.declared.layer.Awaited.{Awaited}
 use Rattle.sw_trigger.specs.Settings.{SettingsSeen}
 use Rattle.sw_trigger.specs.Agenda.{Item, Awaits, Close, Open, agenda}
-use Rattle.sw_verify.specs.Channels.{Channels, with_channel, without}
+use Rattle.sw_verify.specs.Channels.{Channels, with_each, without_each}
 use Rattle.sw_verify.specs.Sound.{effect}
 use Rattle.sw_cage.specs.Accounts.{Accounts, is_closed}
 use Rattle.sw_cage.specs.Cage.{ScanSeen, CageSeen}
@@ -37,8 +37,8 @@ leaves rack at = effect (is_closed rack) (drop at.index (agenda at.setup))
 effect_lead : (b : Channels) (l : List Item) → effect (effect b (leading_moves l)) (drop (length (leading_moves l)) l) ≡ effect b l
 effect_lead b [] = refl
 effect_lead b (Awaits w ∷ l) = refl
-effect_lead b (Close c ∷ l) = effect_lead (with_channel c b) l
-effect_lead b (Open c ∷ l) = effect_lead (without c b) l
+effect_lead b (Close p ∷ l) = effect_lead (with_each p b) l
+effect_lead b (Open p ∷ l) = effect_lead (without_each p b) l
 
 -- what is awaited closes and opens nothing
 effect_first : (b : Channels) (l : List Item) (x : Awaited) → first_awaited l ≡ Some x → effect b (drop 1 l) ≡ effect b l

@@ -9,7 +9,7 @@ use Rattle.sw_base.specs.declared.error.ScpiError.TheVariants.{SettingsConflict,
 use Rattle.sw_base.specs.declared.terms.LayerName.{LayerName}
 use Rattle.sw_base.specs.declared.terms.LayerName.TheVariants as layer_name
 use Rattle.sw_base.specs.declared.terms.Source.{Source}
-use Rattle.sw_channel.specs.Printing.{printed}
+use Rattle.sw_channel.specs.Printing.{printed, printed_positions}
 use Rattle.sw_lex.specs.declared.command.Command.{Command}
 use Rattle.sw_trigger.specs.Settings.{SettingsSeen, layer_of, with_layer, most_of, at_reset}
 use Rattle.sw_trigger.specs.Counts.{bound_of}
@@ -148,9 +148,9 @@ action_of available Command.CloseState = AtOnce (TellsText (λ p. printed (close
 action_of available (Command.Open chans) = BetweenScans (OpensListed chans)
 action_of available (Command.OpenQuery chans) = AtOnce (TellsRelays false chans)
 action_of available Command.OpenAll = BetweenScans (Changes (λ p. with_cards p (all_open p.cage.cards)))
-action_of available (Command.Scan chans) =
-    BetweenScans (SetsUp (length chans ≤ most_entries) TooMuchData (λ s. record s { list = chans }))
-action_of available Command.ScanQuery = AtOnce (TellsText (λ p. printed p.settings.list))
+action_of available (Command.Scan positions) =
+    BetweenScans (SetsUp (length positions ≤ most_entries) TooMuchData (λ s. record s { list = positions }))
+action_of available Command.ScanQuery = AtOnce (TellsText (λ p. printed_positions p.settings.list))
 action_of available (Command.ScanMeter slot) =
     BetweenScans (SetsUp ((1 ≤ slot) × (slot ≤ most_slots)) DataOutOfRange (λ s. record s { meter = slot }))
 action_of available Command.ScanMeterQuery = AtOnce (TellsNumber (λ p. p.settings.meter))

@@ -91,7 +91,7 @@ impl<R: Relay, M: Meter> Core<R, M> {
             Command::Open(chans) => self.open(chans.as_slice()),
             Command::OpenQuery(chans) => self.flags(alloc, false, chans.as_slice()),
             Command::OpenAll => self.open_everything(),
-            Command::Scan(chans) => taken(self.settings.set_list(chans.into_vec())),
+            Command::Scan(positions) => taken(self.settings.set_list(positions.into_vec())),
             Command::ScanQuery => self.scan_query(alloc),
             Command::ScanMeter(slot) => taken(self.settings.set_meter(slot)),
             Command::ScanMeterQuery => self.number(alloc, u64::from(self.settings.meter())),

@@ -1,7 +1,7 @@
 //! Commands that tell or set status and settings, and call no card.
 
 ghost use Rattle.std.specs.Prelude.{◌≡◌, [], Bool, decimal, if◌then◌else◌};
-ghost use Rattle.sw_channel.specs.Printing.{printed};
+ghost use Rattle.sw_channel.specs.Printing.{printed_positions};
 ghost use Rattle.sw_status.specs.Registers.{event_taken};
 ghost use Rattle.sw_status.specs.StatusModel.{popped, cleared, registers_of, with_group};
 ghost use Rattle.sw_core.specs.Action.{with_source};
@@ -17,7 +17,7 @@ use crate::text::{all_entries, all_readings, oldest_entry, seconds, source_word,
 use std::alloc::Global;
 use sw_base::{LayerName, ScpiError, Sequence, Source, StatusGroup};
 use sw_card::{Meter, Relay};
-use sw_channel::print_list;
+use sw_channel::print_positions;
 use sw_status::Status;
 
 /// The condition bit of a card's failure (own).
@@ -59,9 +59,9 @@ impl<R: Relay, M: Meter> Core<R, M> {
     /// The channels of the scan.
     #[inline(never)]
     pub(crate) fn scan_query(&self, alloc: Global) -> SessionAnswer
-        ensures { StepText self.now (printed self.now.settings.list) self.now.status Bool.false result self.now }
+        ensures { StepText self.now (printed_positions self.now.settings.list) self.now.status Bool.false result self.now }
     {
-        match print_list(alloc, self.settings.list()) {
+        match print_positions(alloc, self.settings.list()) {
             Ok(text) => SessionAnswer::Done(Some(Sequence::new(text))),
             Err(error) => SessionAnswer::Refused(error),
         }

@@ -1,10 +1,10 @@
 -- But for want of memory a unit below a path has one meaning.
 use Rattle.std.proofs.Common.{◌≡◌, ◌≢◌, ℕ, List, [], ◌∷◌, refl, sym, ap, subst, ◌∙◌, inl, inr, Result, Ok, Err}
 use Rattle.std.specs.Result.{result_map_both}
-use Rattle.sw_base.specs.Layout.{Channel}
 use Rattle.sw_base.specs.declared.error.ScpiError.{ScpiError}
 use Rattle.sw_base.specs.declared.error.ScpiError.TheVariants.{OutOfMemory}
-use Rattle.sw_channel.proofs.Judging.{one_reading}
+use Rattle.sw_channel.proofs.Judging.{one_reading, one_position_reading}
+use Rattle.sw_channel.specs.Reading.{Reads, ReadsPositions}
 use Rattle.sw_lex.specs.declared.command.Command.{Command}
 use Rattle.sw_lex.specs.declared.command.Command.TheVariants as commands
 use Rattle.sw_lex.specs.declared.table.Key.{Key}
@@ -28,21 +28,27 @@ one_none : (command : Command) (ds : List Datum) (r s : Result Command ScpiError
 one_none command [] r s a b = a ∙ sym b
 one_none command (d ∷ ds) r s a b = a ∙ sym b
 
-one_list : (ds : List Datum) (r s : Result (List Channel) ScpiError) → WithList ds r → WithList ds s → r ≢ Err OutOfMemory → s ≢ Err OutOfMemory → r ≡ s
-one_list [] r s a b n m = a ∙ sym b
-one_list (number t ∷ []) r s a b n m = a ∙ sym b
-one_list (character t ∷ []) r s a b n m = a ∙ sym b
-one_list (string t ∷ []) r s a b n m = a ∙ sym b
-one_list (block t ∷ []) r s a b n m = a ∙ sym b
-one_list (expression t ∷ []) r s a b n m = one_reading t r s a b n m
-one_list (d ∷ c ∷ ds) r s a b n m = a ∙ sym b
+-- a list of this kind is read in one way
+abbrev ReadsOnce : {V : Type 0} → (List ℕ → Result (List V) ScpiError → Type 0) → Type 0
+ReadsOnce {V} ReadsList = (t : List ℕ) (r s : Result (List V) ScpiError) → ReadsList t r → ReadsList t s → r ≢ Err OutOfMemory → s ≢ Err OutOfMemory → r ≡ s
 
-one_of_list : (make : List Channel → Command) (ds : List Datum) (r s : Result Command ScpiError) → OfList make ds r → OfList make ds s → r ≢ Err OutOfMemory
-    → s ≢ Err OutOfMemory → r ≡ s
-one_of_list make ds r s a b n m =
-    let f : Result (List Channel) ScpiError → Result Command ScpiError = λ x. result_map_both make (λ e. e) x in
-    let e = one_list ds a.0 b.0 a.1 b.1 (λ k. n (a.2 ∙ ap f k)) (λ k. m (b.2 ∙ ap f k)) in
-    a.2 ∙ ap f e ∙ sym b.2
+module _ {V : Type 0} (ReadsList : List ℕ → Result (List V) ScpiError → Type 0) (unique : ReadsOnce ReadsList) where
+  one_list : (ds : List Datum) (r s : Result (List V) ScpiError) → WithList ReadsList ds r → WithList ReadsList ds s → r ≢ Err OutOfMemory
+      → s ≢ Err OutOfMemory → r ≡ s
+  one_list [] r s a b n m = a ∙ sym b
+  one_list (number t ∷ []) r s a b n m = a ∙ sym b
+  one_list (character t ∷ []) r s a b n m = a ∙ sym b
+  one_list (string t ∷ []) r s a b n m = a ∙ sym b
+  one_list (block t ∷ []) r s a b n m = a ∙ sym b
+  one_list (expression t ∷ []) r s a b n m = unique t r s a b n m
+  one_list (d ∷ c ∷ ds) r s a b n m = a ∙ sym b
+
+  one_of_list : (make : List V → Command) (ds : List Datum) (r s : Result Command ScpiError) → OfList ReadsList make ds r → OfList ReadsList make ds s
+      → r ≢ Err OutOfMemory → s ≢ Err OutOfMemory → r ≡ s
+  one_of_list make ds r s a b n m =
+      let f : Result (List V) ScpiError → Result Command ScpiError = λ x. result_map_both make (λ e. e) x in
+      let e = one_list ds a.0 b.0 a.1 b.1 (λ k. n (a.2 ∙ ap f k)) (λ k. m (b.2 ∙ ap f k)) in
+      a.2 ∙ ap f e ∙ sym b.2
 
 one_quantity_text : (text : List ℕ) (n m : Written) (s t : List ℕ) → IsQuantity text n s → IsQuantity text m t → (n ≡ m) × (s ≡ t)
 one_quantity_text text n m s t p q =
@@ -174,7 +180,8 @@ one_decoded (keys.Common ask) k ds r s a b n m = one_none (of_common ask) ds r s
 one_decoded (keys.Instrument ask) k ds r s a b n m = one_none (of_instrument ask) ds r s a b
 one_decoded (keys.Layer ask family) k ds r s a b n m = one_none (of_layer ask (layer_numbered family k)) ds r s a b
 one_decoded (keys.Group ask group) k ds r s a b n m = one_none (of_group ask group) ds r s a b
-one_decoded (keys.Channels ask) k ds r s a b n m = one_of_list (of_channels ask) ds r s a b n m
+one_decoded (keys.Channels ask) k ds r s a b n m = one_of_list Reads one_reading (of_channels ask) ds r s a b n m
+one_decoded keys.Scan k ds r s a b n m = one_of_list ReadsPositions one_position_reading commands.Scan ds r s a b n m
 one_decoded (keys.Whole ask) k ds r s a b n m = one_of_number (whole_of ask k) ds r s a b
 one_decoded (keys.Delay family) k ds r s a b n m = one_of_number (delay_of (layer_numbered family k)) ds r s a b
 one_decoded (keys.Source family) k ds r s a b n m = one_of_word (source_meant (layer_numbered family k)) ds r s a b

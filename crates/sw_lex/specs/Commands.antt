@@ -80,7 +80,6 @@ of_channels channel_ones.Close list = commands.Close list
 of_channels channel_ones.CloseQuery list = commands.CloseQuery list
 of_channels channel_ones.Open list = commands.Open list
 of_channels channel_ones.OpenQuery list = commands.OpenQuery list
-of_channels channel_ones.Scan list = commands.Scan list
 
 abbrev pub of_whole : Whole → ℕ → ℕ → Command
 of_whole whole_ones.EventEnable number n = commands.EventEnable n

@@ -3,12 +3,11 @@ use Rattle.std.specs.Prelude.{◌≡◌, ℕ, ◌-◌, Bool, true, false, ◌==�
 use Rattle.std.specs.Prelude.{Err, ◌⊎◌, if◌then◌else◌}
 use Rattle.std.specs.Char.{to_ascii_uppercase}
 use Rattle.std.specs.Result.{result_map_both}
-use Rattle.sw_base.specs.Layout.{Channel}
 use Rattle.sw_base.specs.declared.error.ScpiError.{ScpiError}
 use Rattle.sw_base.specs.declared.error.ScpiError.TheVariants.{DataTypeError, ParameterNotAllowed, MissingParameter}
 use Rattle.sw_base.specs.declared.error.ScpiError.TheVariants.{UndefinedHeader, HeaderSuffixOutOfRange}
 use Rattle.sw_base.specs.Number.{Written}
-use Rattle.sw_channel.specs.Reading.{Reads}
+use Rattle.sw_channel.specs.Reading.{Reads, ReadsPositions}
 use Rattle.sw_lex.specs.declared.command.Command.{Command}
 use Rattle.sw_lex.specs.declared.command.Command.TheVariants as commands
 use Rattle.sw_lex.specs.declared.table.Key.{Key}
@@ -64,19 +63,22 @@ abbrev pub WithNone : Command → List Datum → Result Command ScpiError → Ty
 WithNone command [] r = r ≡ Ok command
 WithNone command (d ∷ ds) r = r ≡ Err ParameterNotAllowed
 
--- one channel list: too few elements are refused first, then too many, then another kind, then what the list refuses
-abbrev pub WithList : List Datum → Result (List Channel) ScpiError → Type 0
-WithList [] r = r ≡ Err MissingParameter
-WithList (number t ∷ []) r = r ≡ Err DataTypeError
-WithList (character t ∷ []) r = r ≡ Err DataTypeError
-WithList (string t ∷ []) r = r ≡ Err DataTypeError
-WithList (block t ∷ []) r = r ≡ Err DataTypeError
-WithList (expression t ∷ []) r = Reads t r
-WithList (d ∷ c ∷ ds) r = r ≡ Err ParameterNotAllowed
+-- one list, of channels or of positions: too few elements are refused first, then too many, then another kind, then
+-- what the list refuses
+abbrev pub WithList : {V : Type 0} → (List ℕ → Result (List V) ScpiError → Type 0) → List Datum
+    → Result (List V) ScpiError → Type 0
+WithList ReadsList [] r = r ≡ Err MissingParameter
+WithList ReadsList (number t ∷ []) r = r ≡ Err DataTypeError
+WithList ReadsList (character t ∷ []) r = r ≡ Err DataTypeError
+WithList ReadsList (string t ∷ []) r = r ≡ Err DataTypeError
+WithList ReadsList (block t ∷ []) r = r ≡ Err DataTypeError
+WithList ReadsList (expression t ∷ []) r = ReadsList t r
+WithList ReadsList (d ∷ c ∷ ds) r = r ≡ Err ParameterNotAllowed
 
--- the command of one channel list
-abbrev pub OfList : (List Channel → Command) → List Datum → Result Command ScpiError → Type 0
-OfList make ds r = (read : Result (List Channel) ScpiError) × WithList ds read
+-- the command of one list
+abbrev pub OfList : {V : Type 0} → (List ℕ → Result (List V) ScpiError → Type 0) → (List V → Command) → List Datum
+    → Result Command ScpiError → Type 0
+OfList {V} ReadsList make ds r = (read : Result (List V) ScpiError) × WithList ReadsList ds read
     × (r ≡ result_map_both make (λ e. e) read)
 
 -- one number: the number and its suffix, or the first refusal
@@ -157,7 +159,8 @@ DecodesCommand (keys.Common ask) k ds r = WithNone (of_common ask) ds r
 DecodesCommand (keys.Instrument ask) k ds r = WithNone (of_instrument ask) ds r
 DecodesCommand (keys.Layer ask family) k ds r = WithNone (of_layer ask (layer_numbered family k)) ds r
 DecodesCommand (keys.Group ask group) k ds r = WithNone (of_group ask group) ds r
-DecodesCommand (keys.Channels ask) k ds r = OfList (of_channels ask) ds r
+DecodesCommand (keys.Channels ask) k ds r = OfList Reads (of_channels ask) ds r
+DecodesCommand keys.Scan k ds r = OfList ReadsPositions commands.Scan ds r
 DecodesCommand (keys.Whole ask) k ds r = OfNumber (whole_of ask k) ds r
 DecodesCommand (keys.Delay family) k ds r = OfNumber (delay_of (layer_numbered family k)) ds r
 DecodesCommand (keys.Source family) k ds r = OfWord (source_meant (layer_numbered family k)) ds r

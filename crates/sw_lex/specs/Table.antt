@@ -64,7 +64,7 @@ table =
     ∷ (codes "ROUTe:OPEN", keys.Channels lists.Open)
     ∷ (codes "ROUTe:OPEN?", keys.Channels lists.OpenQuery)
     ∷ (codes "ROUTe:OPEN:ALL", keys.Instrument instrument.OpenAll)
-    ∷ (codes "ROUTe:SCAN", keys.Channels lists.Scan)
+    ∷ (codes "ROUTe:SCAN", keys.Scan)
     ∷ (codes "ROUTe:SCAN?", keys.Instrument instrument.ScanQuery)
     ∷ (codes "ROUTe:SCAN:METer", keys.Whole wholes.ScanMeter)
     ∷ (codes "ROUTe:SCAN:METer?", keys.Instrument instrument.ScanMeterQuery)

@@ -101,7 +101,6 @@ pub fn of_channels(ask: Channels, list: Sequence<Chan>) -> Command
         Channels::CloseQuery => Command::CloseQuery(list),
         Channels::Open => Command::Open(list),
         Channels::OpenQuery => Command::OpenQuery(list),
-        Channels::Scan => Command::Scan(list),
     }
 }
 

@@ -2,6 +2,7 @@
 
 use std::fmt::Debug;
 use sw_base::{Chan, LayerName, Sequence, Source, StatusGroup};
+use sw_channel::Position;
 
 /// What a unit asks for, with its data read (SCPI-1999; IEEE 488.2, 10).
 ///
@@ -84,8 +85,8 @@ pub enum Command {
     OpenQuery(Sequence<Chan>),
     /// `ROUTe:OPEN:ALL`
     OpenAll,
-    /// `ROUTe:SCAN`: these channels, in this order.
-    Scan(Sequence<Chan>),
+    /// `ROUTe:SCAN`: these positions, in this order.
+    Scan(Sequence<Position>),
     /// `ROUTe:SCAN?`
     ScanQuery,
     /// `ROUTe:SCAN:METer`: a slot, 1 to 8.

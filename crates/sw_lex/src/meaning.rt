@@ -5,6 +5,7 @@ ghost use Rattle.std.specs.Result.{result_map_both};
 ghost use Rattle.sw_base.specs.Number.{Written};
 ghost use Rattle.sw_base.specs.declared.error.ScpiError.{ScpiError as Error};
 ghost use Rattle.sw_base.specs.declared.error.ScpiError.TheVariants.{OutOfMemory};
+ghost use Rattle.sw_channel.specs.Reading.{Reads, ReadsPositions};
 ghost use Rattle.sw_lex.specs.declared.command.Command.{Command as Meant};
 ghost use Rattle.sw_lex.specs.Unit.{UnitSeen, unit_of, data_of};
 ghost use Rattle.sw_lex.specs.Meaning.{asked, path_after, Nodes, path_of, WithNone, WithList, WithString, Defines};
@@ -27,7 +28,7 @@ use crate::values::{
 };
 use std::alloc::Global;
 use sw_base::{Chan, LayerName, Nrf, ScpiError, Sequence};
-use sw_channel::read_list;
+use sw_channel::{Position, read_list, read_positions};
 
 /// Refuses any data, for a command that takes none.
 fn no_data(elements: &[Element<'_>]) -> Result<(), ScpiError>
@@ -43,12 +44,30 @@ fn no_data(elements: &[Element<'_>]) -> Result<(), ScpiError>
 /// The channels of the one element, which is a channel list.
 #[inline(never)]
 fn one_list(alloc: Global, elements: &[Element<'_>]) -> Result<Sequence<Chan>, ScpiError>
-    ensures { WithList (data_of elements.now) result }
+    ensures { WithList Reads (data_of elements.now) result }
 {
     match elements {
         [] => Err(ScpiError::MissingParameter),
         [list] => match *list {
             Element::Expression(text) => Ok(Sequence::new(read_list(alloc, text)?)),
+            _ => Err(ScpiError::DataTypeError),
+        },
+        _ => Err(ScpiError::ParameterNotAllowed),
+    }
+}
+
+/// The positions of the one element, which is a list of positions.
+#[inline(never)]
+fn one_position_list(
+    alloc: Global,
+    elements: &[Element<'_>],
+) -> Result<Sequence<Position>, ScpiError>
+    ensures { WithList ReadsPositions (data_of elements.now) result }
+{
+    match elements {
+        [] => Err(ScpiError::MissingParameter),
+        [positions] => match *positions {
+            Element::Expression(text) => Ok(Sequence::new(read_positions(alloc, text)?)),
             _ => Err(ScpiError::DataTypeError),
         },
         _ => Err(ScpiError::ParameterNotAllowed),
@@ -219,6 +238,7 @@ fn decode(
             Ok(of_group(ask, group))
         }
         Key::Channels(ask) => Ok(of_channels(ask, one_list(alloc, elements)?)),
+        Key::Scan => Ok(Command::Scan(one_position_list(alloc, elements)?)),
         Key::Whole(ask) => of_whole(ask, number, elements),
         Key::Delay(family) => of_delay(layer_of(family, number), elements),
         Key::Source(family) => of_source(layer_of(family, number), elements),

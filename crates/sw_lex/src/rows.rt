@@ -182,7 +182,7 @@ static PATHS_R: Part = Part {
                 &[Must(b"OPEN"), Must(b"ALL")],
                 Key::Instrument(Instrument::OpenAll),
             ),
-            Command(&[Must(b"SCAN")], Key::Channels(Channels::Scan)),
+            Command(&[Must(b"SCAN")], Key::Scan),
             Command(
                 &[Must(b"SCAN"), Must(b"METer")],
                 Key::Whole(Whole::ScanMeter),

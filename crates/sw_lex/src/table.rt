@@ -15,6 +15,8 @@ pub enum Key {
     Group(GroupAsk, StatusGroup),
     /// A command with a channel list.
     Channels(Channels),
+    /// `ROUTe:SCAN`
+    Scan,
     /// A command with a whole number.
     Whole(Whole),
     /// A layer's delay.
@@ -100,7 +102,6 @@ pub enum Channels {
     CloseQuery,
     Open,
     OpenQuery,
-    Scan,
 }
 
 /// The commands with a whole number.

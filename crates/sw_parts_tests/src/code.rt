@@ -1,9 +1,11 @@
 //! Scan code and its listing: a compiled example as text, and listings that are refused.
 
+use crate::positions::one_each;
 use std::alloc::Global;
 use std::process::Abort;
 use std::test::Fail;
 use sw_base::{Chan, LayerName, Source};
+use sw_channel::{Position, read_positions};
 use sw_code::{Code, ListError, ListFault, Step, compile, print_listing, read_listing};
 use sw_trigger::Settings;
 
@@ -44,18 +46,24 @@ fn fault(line: u32, kind: ListFault) -> Option<ListError> {
 
 /// Three passes round channels 1!1 and 1!2.
 fn set_example(alloc: Global, settings: &mut Settings) -> Result<(), Fail> {
-    settings.set_list([Chan::new(1, 1), Chan::new(1, 2)].to_vec(alloc)?)?;
+    settings.set_list(one_each(alloc, &[Chan::new(1, 1), Chan::new(1, 2)])?)?;
     settings.set_count(LayerName::Trigger, 3)?;
     Ok(())
 }
 
 /// A scan with a wait of each layer, and a pause of ARM layer 2.
 fn set_waits(alloc: Global, settings: &mut Settings) -> Result<(), Fail> {
-    settings.set_list([Chan::new(8, 99), Chan::new(1, 1)].to_vec(alloc)?)?;
+    settings.set_list(one_each(alloc, &[Chan::new(8, 99), Chan::new(1, 1)])?)?;
     settings.set_source(LayerName::Arm1, Source::Bus);
     settings.set_source(LayerName::Arm2, Source::Hold);
     settings.set_delay(LayerName::Arm2, 3_600_000_000)?;
     settings.set_source(LayerName::Trigger, Source::External);
+    Ok(())
+}
+
+/// A scan of the positions that the text spells, by the reset settings.
+fn set_positions(alloc: Global, settings: &mut Settings, text: &[u8]) -> Result<(), Fail> {
+    settings.set_list(read_positions(alloc, text)?)?;
     Ok(())
 }
 
@@ -128,7 +136,7 @@ fn look(rt: &impl Abort, code: &Code) {
     assert_eq!(rt; code.steps().len(), 16);
     assert!(rt; has_step(code, 2, Step::Set(2, 1)));
     assert!(rt; has_step(code, 7, Step::Read));
-    assert!(rt; has_step(code, 8, Step::Open(Chan::new(1, 2))));
+    assert!(rt; has_step(code, 8, Step::Open(Position::new(Chan::new(1, 2)))));
     assert!(rt; has_step(code, 9, Step::Loop(2, 3)));
 }
 
@@ -295,4 +303,63 @@ fn one_step_too_many(rt: HostRuntime) -> Result<(), Fail> {
     listing.extend_from_slice(b"read\n")?;
     assert!(rt; refuses(rt.alloc(), listing.as_slice(), 8195, ListFault::TooLong));
     Ok(())
+}
+
+/// One pass of a position of two channels.
+const FOUR_WIRES: &[u8] = b"scan 1
+meter 4
+set 0 1
+set 1 1
+set 2 1
+close 1!1&2!1
+read
+open 1!1&2!1
+loop 2 3
+loop 1 2
+loop 0 1
+halt
+";
+
+/// Whether the scan of the positions that the text spells is printed so.
+fn prints_positions(alloc: Global, text: &[u8], wanted: &[u8]) -> Result<bool, Fail> {
+    let mut settings = Settings::new(alloc);
+    set_positions(alloc, &mut settings, text)?;
+    prints(alloc, &settings, wanted)
+}
+
+#[test]
+fn a_position_is_closed_and_opened_by_one_step(rt: HostRuntime) -> Result<(), Fail> {
+    assert!(rt; prints_positions(rt.alloc(), b"(@1!1&2!1)", FOUR_WIRES)?);
+    assert!(rt; reads(rt.alloc(), FOUR_WIRES));
+    assert!(rt;
+        reads(
+            rt.alloc(),
+            b"scan 1\nmeter 4\nclose 1!1&001!2&8!99&2!1\nhalt\n"
+        )
+    );
+    Ok(())
+}
+
+#[test]
+fn refuses_other_positions(rt: HostRuntime) {
+    let numbers = [
+        b"scan 1\nmeter 4\nclose 1!1&\n".as_slice(),
+        b"scan 1\nmeter 4\nclose &1!1\n".as_slice(),
+        b"scan 1\nmeter 4\nclose 1!1&&2!1\n".as_slice(),
+        b"scan 1\nmeter 4\nopen 1!1&1!1\n".as_slice(),
+        b"scan 1\nmeter 4\nopen 1!1&01!1\n".as_slice(),
+        b"scan 1\nmeter 4\nclose 1!1&2!1&9!1\n".as_slice(),
+        b"scan 1\nmeter 4\nclose 1!1&1!2&1!3&1!4&1!5\n".as_slice(),
+    ];
+    for text in numbers {
+        assert!(rt; refuses(rt.alloc(), text, 3, ListFault::BadNumber));
+    }
+    assert!(rt;
+        refuses(
+            rt.alloc(),
+            b"scan 1\nmeter 4\nclose 1!1 & 2!1\n",
+            3,
+            ListFault::BadStep
+        )
+    );
 }

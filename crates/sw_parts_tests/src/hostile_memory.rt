@@ -1,9 +1,10 @@
 //! Library calls where a growth of memory is refused: what they answer is right or tells of that want, and what they
 //! work on stays as it was. `bench/growths` runs these tests while each growth is refused in turn.
 
+use crate::positions::one_each;
 use std::alloc::{AllocError, Global};
 use sw_base::{Chan, LayerName, ScpiError};
-use sw_channel::{print_list, read_list};
+use sw_channel::{print_list, print_positions, read_list, read_positions};
 use sw_code::{Code, ListFault, compile, print_listing, read_listing};
 use sw_hislip::{Decoder, Kind, LockReply, Locks, Message, WireFault, encode};
 use sw_lex::{Command, Elements, Path, next_unit, resolve};
@@ -38,6 +39,39 @@ fn prints_list(alloc: Global, list: &[Chan], wanted: &[u8]) -> bool {
     match print_list(alloc, list) {
         Ok(text) => text.as_slice() == wanted,
         Err(error) => error == ScpiError::OutOfMemory,
+    }
+}
+
+/// Whether a text is read as positions that are printed so, if there is memory.
+fn reads_positions(alloc: Global, text: &[u8], wanted: &[u8]) -> bool {
+    let Ok(positions) = read_positions(alloc, text) else {
+        return true;
+    };
+    match print_positions(alloc, &positions) {
+        Ok(printed) => printed.as_slice() == wanted,
+        Err(error) => error == ScpiError::OutOfMemory,
+    }
+}
+
+/// Whether a text is refused so as a list of positions, or there is no memory.
+fn refuses_positions(alloc: Global, text: &[u8], wanted: ScpiError) -> bool {
+    match read_positions(alloc, text) {
+        Ok(positions) => {
+            drop(positions);
+            false
+        }
+        Err(error) => error == wanted || error == ScpiError::OutOfMemory,
+    }
+}
+
+#[test]
+fn positions_are_right_or_lack_memory(rt: HostRuntime) {
+    for _ in 0..2u8 {
+        assert!(rt;
+            reads_positions(rt.alloc(), b"(@1!1&2!1,2!3:2!2)", b"(@1!1&2!1,2!3,2!2)")
+                && refuses_positions(rt.alloc(), b"(@1!1&1!1)", ScpiError::DataOutOfRange)
+                && refuses_positions(rt.alloc(), b"(@1!1&1!2:1!3)", ScpiError::InvalidExpression)
+        );
     }
 }
 
@@ -157,7 +191,7 @@ loop 2 3\nclose 1!1\nread\nopen 1!1\nloop 1 2\nloop 0 1\nhalt\n";
 /// Settings of that, if there is memory.
 fn example(alloc: Global) -> Option<Settings> {
     let mut settings = Settings::new(alloc);
-    let list = [Chan::new(1, 1), Chan::new(1, 2)].to_vec(alloc).ok()?;
+    let list = one_each(alloc, &[Chan::new(1, 1), Chan::new(1, 2)]).ok()?;
     settings.set_list(list).ok()?;
     settings.set_count(LayerName::Trigger, 3).ok()?;
     Some(settings)

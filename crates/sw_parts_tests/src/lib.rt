@@ -25,6 +25,8 @@ mod lex;
 #[cfg(test)]
 mod macros;
 #[cfg(test)]
+mod positions;
+#[cfg(test)]
 mod status;
 #[cfg(test)]
 mod trigger;

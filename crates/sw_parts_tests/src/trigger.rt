@@ -1,9 +1,11 @@
 //! Worked settings, with what they come to.
 
+use crate::positions::one_each;
 use std::alloc::{AllocError, Global};
 use std::process::Abort;
 use std::test::Fail;
 use sw_base::{Chan, LayerName, ScpiError, Source};
+use sw_channel::Position;
 use sw_trigger::{Awaited, Settings};
 
 /// Sets a count. It promises nothing, nor do those below it, so that a test is checked without all that is promised.
@@ -19,7 +21,7 @@ fn set_source(settings: &mut Settings, name: LayerName, source: Source) {
     settings.set_source(name, source);
 }
 
-fn set_list(settings: &mut Settings, list: Vec<Chan>) -> Result<(), ScpiError> {
+fn set_list(settings: &mut Settings, list: Vec<Position>) -> Result<(), ScpiError> {
     settings.set_list(list)
 }
 
@@ -38,17 +40,17 @@ fn awaits(settings: &Settings, n: u64, wanted: Option<Awaited>) -> bool {
     settings.awaited(n) == wanted
 }
 
-/// The channel of the pass, where there is a list.
-fn channel_of(settings: &Settings, k: u32) -> Option<Chan> {
+/// The position of the pass, where there is a list.
+fn position_of(settings: &Settings, k: u32) -> Option<Position> {
     if settings.list().is_empty() {
         return None;
     }
-    Some(settings.channel(k))
+    Some(settings.position(k))
 }
 
 /// Twice through ARM layer 1 by the bus, three passes each, with half a second before each reading.
 fn set_worked(alloc: Global, settings: &mut Settings) -> Result<(), Fail> {
-    set_list(settings, [Chan::new(1, 1)].to_vec(alloc)?)?;
+    set_list(settings, one_each(alloc, &[Chan::new(1, 1)])?)?;
     set_count(settings, LayerName::Arm1, 2)?;
     set_source(settings, LayerName::Arm1, Source::Bus);
     set_count(settings, LayerName::Trigger, 3)?;
@@ -56,10 +58,10 @@ fn set_worked(alloc: Global, settings: &mut Settings) -> Result<(), Fail> {
     Ok(())
 }
 
-fn entries(alloc: Global, count: usize) -> Result<Vec<Chan>, AllocError> {
+fn entries(alloc: Global, count: usize) -> Result<Vec<Position>, AllocError> {
     let mut list = Vec::new(alloc);
     for _ in 0..count {
-        list.push(Chan::new(8, 99))?;
+        list.push(Position::new(Chan::new(8, 99)))?;
     }
     Ok(list)
 }
@@ -75,7 +77,7 @@ fn count_worked(rt: &impl Abort, alloc: Global, settings: &mut Settings) -> Resu
     assert!(rt; awaits(settings, 14, None));
     assert_eq!(rt; settings.layer(LayerName::Trigger).delay_us, 500_000);
     assert_eq!(rt; settings.list().len(), 1);
-    assert!(rt; channel_of(settings, 2) == Some(Chan::new(1, 1)));
+    assert!(rt; position_of(settings, 2) == Some(Position::new(Chan::new(1, 1))));
     Ok(())
 }
 

@@ -1,9 +1,11 @@
 //! Worked snapshots: what the check says of each.
 
+use crate::positions::one_each;
 use std::alloc::Global;
 use std::process::Abort;
 use std::test::Fail;
 use sw_base::{Chan, LayerName, ScpiError, Sequence};
+use sw_channel::{Position, read_positions};
 use sw_trigger::Settings;
 use sw_verify::{BoxedSnapshot, Layout, Plan, Refusal, Slot, Snapshot, check, laws};
 
@@ -19,8 +21,12 @@ fn cage(alloc: Global) -> Result<Layout, Fail> {
 }
 
 fn snapshot(alloc: Global, list: &[Chan], closed: &[Chan]) -> Result<Snapshot, Fail> {
+    snapshot_of(alloc, one_each(alloc, list)?, closed)
+}
+
+fn snapshot_of(alloc: Global, positions: Vec<Position>, closed: &[Chan]) -> Result<Snapshot, Fail> {
     let mut settings = Settings::new(alloc);
-    settings.set_list(list.to_vec(alloc)?)?;
+    settings.set_list(positions)?;
     Ok(Snapshot {
         settings,
         layout: cage(alloc)?,
@@ -41,6 +47,19 @@ fn gives(
     wanted: Result<(), Refusal>,
 ) -> Result<bool, Fail> {
     let scan = snapshot(alloc, list, closed)?;
+    let is_so = is_judged(&scan, wanted);
+    drop(scan);
+    Ok(is_so)
+}
+
+/// Whether the check says that of a scan of the positions that the text spells.
+fn gives_of(
+    alloc: Global,
+    text: &[u8],
+    closed: &[Chan],
+    wanted: Result<(), Refusal>,
+) -> Result<bool, Fail> {
+    let scan = snapshot_of(alloc, read_positions(alloc, text)?, closed)?;
     let is_so = is_judged(&scan, wanted);
     drop(scan);
     Ok(is_so)
@@ -124,6 +143,21 @@ fn groups_run_over_all_slots(rt: HostRuntime) -> Result<(), Fail> {
     assert!(rt; gives(alloc, &[Chan::new(2, 1)], &[Chan::new(2, 1)], clash)?);
     let closed = [Chan::new(2, 2), Chan::new(1, 1)];
     assert!(rt; gives(alloc, &[Chan::new(2, 1)], &closed, Ok(()))?);
+    Ok(())
+}
+
+#[test]
+fn channels_of_a_position_are_judged_together(rt: HostRuntime) -> Result<(), Fail> {
+    let alloc = rt.alloc();
+    let clash = Err(Refusal::GroupClash);
+    assert!(rt; gives_of(alloc, b"(@1!1&2!1,2!3)", &[], Ok(()))?);
+    assert!(rt; gives_of(alloc, b"(@1!1&3!1)", &[], clash)?);
+    assert!(rt; gives_of(alloc, b"(@2!1&1!1&2!2&1!2)", &[], clash)?);
+    assert!(rt; gives_of(alloc, b"(@2!1&2!2)", &[Chan::new(2, 2)], clash)?);
+    assert!(rt; gives_of(alloc, b"(@2!1&1!1)", &[Chan::new(3, 10)], clash)?);
+    assert!(rt; gives_of(alloc, b"(@2!1&5!1)", &[], Err(Refusal::NoChannel))?);
+    // Only the first position is used.
+    assert!(rt; gives_of(alloc, b"(@2!1&1!1,1!1&3!1)", &[], Ok(()))?);
     Ok(())
 }
 

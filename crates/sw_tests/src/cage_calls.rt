@@ -123,7 +123,7 @@ fn set(
     chans: &[Chan],
     count: u32,
 ) -> Result<(), ScpiError> {
-    settings.set_list(chans.to_vec(alloc)?)?;
+    settings.set_list(one_each(alloc, chans)?)?;
     settings.set_count(LayerName::Trigger, count)
 }
 

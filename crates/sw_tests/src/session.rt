@@ -221,7 +221,7 @@ fn takes_65536_bytes(rt: HostRuntime) -> Result<(), Fail> {
 /// A cage of four channels in slot 1 and a meter in slot 4, where these channels are to be scanned.
 fn snapshot(alloc: Global, list: &[Chan]) -> Result<BoxedSnapshot, Fail> {
     let mut settings = Settings::new(alloc);
-    settings.set_list(list.to_vec(alloc)?)?;
+    settings.set_list(one_each(alloc, list)?)?;
     let mut slots = Vec::new(alloc);
     slots.push(Slot::relays([1; 4].to_vec(alloc)?))?;
     slots.push(Slot::empty())?;

@@ -1,20 +1,13 @@
 -- Sets of channels, each a test.
 use Rattle.std.specs.Prelude.{Bool, false, ◌==◌, ◌&&◌, ◌||◌, not, List, [], ◌∷◌}
-use Rattle.std.specs.List.{list_any}
 use Rattle.sw_base.specs.Layout.{Channel}
-
-abbrev pub same_channel : Channel → Channel → Bool
-same_channel a b = (a.0 == b.0) && (a.1 == b.1)
+pub use Rattle.sw_channel.specs.Positions.{same_channel, is_among}
 
 abbrev pub Channels : Type 0
 Channels = Channel → Bool
 
 abbrev pub none : Channels
 none x = false
-
--- the channels of a list
-abbrev pub is_among : List Channel → Channels
-is_among list x = list_any (same_channel x) list
 
 abbrev pub with_channel : Channel → Channels → Channels
 with_channel c b = λ x. same_channel c x || b x

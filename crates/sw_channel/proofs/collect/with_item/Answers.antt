@@ -10,6 +10,6 @@ returns-then-found-more-clause-leads c i is all m h =
 
 pub returns-else-found-more-clause-leads : goal.returns-else-found-more-clause-leads
 returns-else-found-more-clause-leads c i is all m h =
-    leads_fits c.in_ok-found.found (record { count = c.in_ok-found.found.count + c.from-more.result; chans = c.with_run.result }) i is all c.in-Some.run'
+    leads_fits c.in_ok-found.found (record { count = c.in_ok-found.found.count + c.from-more.result; entries = c.with_run.result }) i is all c.in-Some.run'
     c.from-more.result (rw c.in-Some.is at m) (c.from-more.ensures ∙ c.count.ensures.value) c.if-found-more.false
     (omega (arith, c.from-more.ensures, c.count.ensures.range)) refl c.with_run.ensures (rw c.in_ok-found.was at h)
