@@ -324,7 +324,7 @@ class Session:
 
     def _take_lock(self, timeout: float | str | None, key: str) -> None:
         wait = self.timeout if timeout == "default" else timeout
-        code = self._ask_lock(MOST_MILLISECONDS if wait is None else int(wait), key.encode())
+        code = self._ask_lock(MOST_MILLISECONDS if wait is None else min(int(wait), MOST_MILLISECONDS), key.encode())
         if code != 1:
             why = "not in time" if code == 0 else "one is held already, or the key is too long"
             raise SessionError(f"AsyncLockResponse {code} ({why})", "a lock")
@@ -337,29 +337,27 @@ class Session:
     # ---- the second connection
 
     def _request(self, request: Message, wanted: Kind, milliseconds: float = 0) -> Message:
-        """Asks on the second connection, whose answers come in the order of what was asked: those that came too late
-        for an earlier call are passed over. The instrument may take so many milliseconds more than the time limit."""
+        """Asks on the second connection; the instrument may take so many milliseconds more than the time limit."""
         end = end_of(None if self.timeout is None else self.timeout + milliseconds)
         self._events.send(request, end)
         self._owed.append(wanted)
-        while True:
-            answer = self._wanted(self._events, self._owed[0], end)
-            if len(self._owed) == 1:
-                self._owed.clear()
-                return answer
-            self._owed.pop(0)
+        return self._wanted(self._events, wanted, end)
 
     def _wanted(self, wire: Wire, wanted: Kind, end: float | None) -> Message:
-        """The next message of this kind; service requests and interruptions before it are kept apart."""
+        """The next message of this kind. Service requests and interruptions before it are kept apart; answers come in
+        the order of what was asked, so those that came too late for an earlier call are passed over."""
         while True:
             message = wire.receive(end, wanted.name)
-            if message.kind == wanted:
+            was_owed = self._owed[:1] == [message.kind]
+            if was_owed:
+                self._owed.pop(0)
+            if message.kind == wanted and wanted not in self._owed:
                 return message
             if message.kind == Kind.AsyncServiceRequest:
                 self.requests.append(message.control)
             elif message.kind == Kind.AsyncInterrupted:
                 self.interruptions.append(message.parameter)
-            else:
+            elif not was_owed:
                 raise SessionError(str(message), wanted.name)
 
 

@@ -246,7 +246,9 @@ def scripted(script):
 
 
 def passes_over_what_comes_late(_):
-    """The status byte of a call that was given up is not the next one's."""
+    """The status byte of a call that was given up is not the next one's, nor is the answer about a lock."""
+    given_up = threading.Event()
+
     def script(commands, events):
         receive(commands)
         receive(events)
@@ -254,6 +256,10 @@ def passes_over_what_comes_late(_):
         for status in (1, 2):
             send(events, Kind.AsyncStatusResponse, status)
             send(events, Kind.AsyncInterrupted, 0, 0xFFFF_FF10 + status)
+        receive(events)
+        given_up.wait(PATIENCE)
+        send(events, Kind.AsyncLockResponse, 1)
+        send(events, Kind.AsyncServiceRequest, 68)
 
     with scripted(script) as mainframe:
         same("number", mainframe.number, 7)
@@ -263,6 +269,10 @@ def passes_over_what_comes_late(_):
         mainframe.write("*CLS")
         same("status", mainframe.read_stb(), 2)
         same("interruptions", mainframe.interruptions, [0xFFFF_FF11])
+        mainframe.timeout = 50
+        refuses(lambda: mainframe.lock_excl(0), "nothing came in time", "AsyncLockResponse")
+        given_up.set()
+        same("the request", mainframe.wait_for_srq(), 68)
 
 
 def keeps_parts_of_an_answer(_):
