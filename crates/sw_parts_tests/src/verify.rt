@@ -194,7 +194,7 @@ fn tell(rt: &impl Abort, layout: &Layout) {
 /// The laws of a plan. They cost nothing.
 fn obey(plan: &Plan) {
     laws::ends_as_it_began(plan.snapshot());
-    laws::closes_one_at_a_time(plan.snapshot());
+    laws::closes_one_position_at_a_time(plan.snapshot());
     laws::stays_within_its_points(plan.snapshot());
 }
 

@@ -16,7 +16,7 @@ use Rattle.sw_verify.specs.Check.{IsBlocked, IsBlockedAt}
 use Rattle.sw_verify.specs.Stops.{IsBarred, IsBarredAt}
 use Rattle.sw_verify.specs.declared.refusal.Refusal.{Refusal}
 use Rattle.sw_verify.specs.declared.refusal.Refusal.TheVariants.{NoChannel, GroupClash}
-use Rattle.sw_verify.proofs.Round.{same_channel_is, same_channel_self, sound_exactly}
+use Rattle.sw_verify.proofs.Round.{anyone, same_channel_is, same_channel_self, sound_exactly}
 
 -- an entry that fails the test is there exactly where the list's test fails
 pub any_fails : {X : Type 0} (p : X → Bool) (P : X → Type 0) → ((x : X) → p x ≡ false → P x) → (xs : List X) → list_all p xs ≡ false → Any P xs
@@ -121,10 +121,10 @@ module _ (layout : Layout) (closed : List Channel) (s : SettingsSeen) (listed : 
   pub sound_from_free : AllByRecursion (CanCloseEach layout (is_among closed)) (used_of s) → reads (agenda s) ≤ s.points
       → IsSound layout (is_among closed) s.points (agenda s)
   sound_from_free f r =
-      (sound_exactly layout (is_among closed) s s.points listed range).1 (λ j h. used_each (CanCloseEach layout (is_among closed)) s listed f j h, r)
+      (sound_exactly layout (is_among closed) anyone s (λ k. tt) s.points listed range).1 (λ j h. used_each (CanCloseEach layout (is_among closed)) s listed f j h, r)
 
   pub free_from_sound : IsSound layout (is_among closed) s.points (agenda s) → AllByRecursion (CanCloseEach layout (is_among closed)) (used_of s)
-  free_from_sound w = each_used (CanCloseEach layout (is_among closed)) s ((sound_exactly layout (is_among closed) s s.points listed range).0 w).0
+  free_from_sound w = each_used (CanCloseEach layout (is_among closed)) s ((sound_exactly layout (is_among closed) anyone s (λ k. tt) s.points listed range).0 w).0
 
   pub present_from_sound : IsSound layout (is_among closed) s.points (agenda s) → list_all (list_all (is_present layout)) (used_of s) ≡ true
   present_from_sound w = all_each (list_all (is_present layout)) (CanCloseEach layout (is_among closed)) (each_present layout (is_among closed)) (used_of s)

@@ -25,7 +25,7 @@ use Rattle.sw_verify.specs.Channels.{Channels, none, same_channel, with_channel,
 use Rattle.sw_verify.specs.Sound.{AllRight, effect, CanCloseOne, CanCloseEach, IsSound}
 use Rattle.sw_channel.specs.Positions.{Position}
 use Rattle.sw_verify.specs.Nest.{in_use, at_loop, fault_in, StepsRight}
-use Rattle.sw_verify.proofs.Round.{effect-append, round-passes, round-arm_turn, round-arm_turns, round-agenda, sound_exactly}
+use Rattle.sw_verify.proofs.Round.{anyone, effect-append, round-passes, round-arm_turn, round-arm_turns, round-agenda, sound_exactly}
 
 fault_item : (x : Item) (steps : List Step) (pc : ℕ) (fs : List Frame) → fault_in (step_of x ∷ steps) pc fs ≡ fault_in steps (pc + 1) fs
 fault_item (Awaits (Wait name)) steps pc fs = refl
@@ -182,8 +182,8 @@ module _ (layout : Layout) (b : Channels) (s : SettingsSeen) (range : IsInRange 
         let below : n ≤ s.trigger.count = omega (arith, e, more) in
         let body = line (passes s 0 n) Nil in
         let is : meaning body ≡ passes s 0 n = meaning-line (passes s 0 n) Nil ∙ append-nil (passes s 0 n) in
-        let eb : effect b (meaning body) ≡ b = ap (effect b) is ∙ (round-passes layout b s 0 n).keeps (λ j h g. can j (omega arith)) in
-        let em : effect none (meaning body) ≡ none = ap (effect none) is ∙ (round-passes layout none s 0 n).keeps (λ j h g. free j (omega arith)) in
+        let eb : effect b (meaning body) ≡ b = ap (effect b) is ∙ (round-passes layout b anyone s (λ k. tt) 0 n).keeps (λ j h g. can j (omega arith)) in
+        let em : effect none (meaning body) ≡ none = ap (effect none) is ∙ (round-passes layout none anyone s (λ k. tt) 0 n).keeps (λ j h g. free j (omega arith)) in
         let some : 0 < suc q = omega arith in
         subst (λ (v : Bool). IsLevel layout b none (cond v (line (passes s 0 left) Nil) (Times 2 (suc q) body (line (passes s 0 left) Nil)))) (sym f)
         (some, level-line layout b none (passes s 0 n), eb, em, level-line layout b none (passes s 0 left))
@@ -197,17 +197,17 @@ module _ (layout : Layout) (b : Channels) (s : SettingsSeen) (range : IsInRange 
       let m1 : meaning arm2 ≡ turns = meaning-arm 1 Arm2 s.arm2 (passes_tree s) ∙ ap (arm_turns Arm2 s.arm2) m2 in
       let b2 : effect b (arm_turn Arm2 s.arm2 (meaning (passes_tree s))) ≡ b =
       ap (λ (l : List Item). effect b (arm_turn Arm2 s.arm2 l)) m2
-      ∙ (round-arm_turn layout b Arm2 s.arm2 all (round-passes layout b s 0 s.trigger.count)).keeps (λ j h g. can j (omega arith)) in
+      ∙ (round-arm_turn layout b anyone Arm2 s.arm2 all (round-passes layout b anyone s (λ k. tt) 0 s.trigger.count)).keeps (λ j h g. can j (omega arith)) in
       let n2 : effect none (arm_turn Arm2 s.arm2 (meaning (passes_tree s))) ≡ none =
       ap (λ (l : List Item). effect none (arm_turn Arm2 s.arm2 l)) m2
-      ∙ (round-arm_turn layout none Arm2 s.arm2 all (round-passes layout none s 0 s.trigger.count)).keeps (λ j h g. free j (omega arith)) in
+      ∙ (round-arm_turn layout none anyone Arm2 s.arm2 all (round-passes layout none anyone s (λ k. tt) 0 s.trigger.count)).keeps (λ j h g. free j (omega arith)) in
       let b1 : effect b (arm_turn Arm1 s.arm1 (meaning arm2)) ≡ b =
       ap (λ (l : List Item). effect b (arm_turn Arm1 s.arm1 l)) m1
-      ∙ (round-arm_turn layout b Arm1 s.arm1 turns (round-arm_turns layout b Arm2 s.arm2 all (round-passes layout b s 0 s.trigger.count))).keeps
+      ∙ (round-arm_turn layout b anyone Arm1 s.arm1 turns (round-arm_turns layout b anyone Arm2 s.arm2 all (round-passes layout b anyone s (λ k. tt) 0 s.trigger.count))).keeps
       (λ u j h g. can j (omega arith)) in
       let n1 : effect none (arm_turn Arm1 s.arm1 (meaning arm2)) ≡ none =
       ap (λ (l : List Item). effect none (arm_turn Arm1 s.arm1 l)) m1
-      ∙ (round-arm_turn layout none Arm1 s.arm1 turns (round-arm_turns layout none Arm2 s.arm2 all (round-passes layout none s 0 s.trigger.count))).keeps
+      ∙ (round-arm_turn layout none anyone Arm1 s.arm1 turns (round-arm_turns layout none anyone Arm2 s.arm2 all (round-passes layout none anyone s (λ k. tt) 0 s.trigger.count))).keeps
       (λ u j h g. free j (omega arith)) in
       level-arm layout b none 0 Arm1 s.arm1 arm2 range.arm1.count.0
       (level-arm layout b none 1 Arm2 s.arm2 (passes_tree s) range.arm2.count.0 level-passes b2 n2) b1 n1
@@ -219,12 +219,12 @@ compiled_nested s range = no_fault (tree_of s) (nested-tree s range)
 pub compiled_right : (layout : Layout) (b : Channels) (s : SettingsSeen) (room : ℕ) → 0 < length s.list → IsInRange s → IsSound layout b room (agenda s)
     → StepsRight layout (compiled s).steps b none []
 compiled_right layout b s room listed range sound =
-    let can = ((sound_exactly layout b s room listed range).0 sound).0 in
+    let can = ((sound_exactly layout b anyone s (λ k. tt) room listed range).0 sound).0 in
     let is = meaning-tree s listed in
     let right : AllRight layout b none (meaning (tree_of s)) = subst (AllRight layout b none) (sym is) sound.right in
     let n1 : effect none (meaning (tree_of s)) ≡ none = ap (effect none) is ∙ clear in
     steps_tree layout (tree_of s) 0 (step.Halt ∷ []) b none [] (level-tree layout b s range can) right n1
   where
     clear : effect none (agenda s) ≡ none
-    clear = (round-agenda layout none s listed range).keeps (λ j h g.
-        can_from_none layout b (position_at s.list j) (((sound_exactly layout b s room listed range).0 sound).0 j (omega arith)))
+    clear = (round-agenda layout none anyone s (λ k. tt) listed range).keeps (λ j h g.
+        can_from_none layout b (position_at s.list j) (((sound_exactly layout b anyone s (λ k. tt) room listed range).0 sound).0 j (omega arith)))

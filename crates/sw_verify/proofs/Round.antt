@@ -94,11 +94,11 @@ pub each_among : (p : Position) (b : Channels) (x : Channel) → is_among p x �
 each_among p b x e = with_each_is p b x ∙ or_left (is_among p x) (b x) e
 
 -- the items may be done from b exactly where P holds, whatever comes after them, and then leave b
-pub record IsRound (layout : Layout) (b : Channels) (P : Type 0) (items : List Item) : Type 0 where
+pub record IsRound (layout : Layout) (b : Channels) (Of : Position → Type 0) (P : Type 0) (items : List Item) : Type 0 where
   pub needs : (rest : List Item) → AllRight layout b none (items ++ rest) → P × AllRight layout b none rest
   pub may : (rest : List Item) → P → AllRight layout b none rest → AllRight layout b none (items ++ rest)
   pub keeps : P → effect b items ≡ b
-  pub moments : P → (i : ℕ) → AtMostOneMore b (effect b (take i items))
+  pub moments : P → (i : ℕ) → AtMostOneMore Of b (effect b (take i items))
 
 pub effect-append : (b : Channels) (xs ys : List Item) → effect b (xs ++ ys) ≡ effect (effect b xs) ys
 effect-append b [] ys = refl
@@ -116,8 +116,8 @@ split_take (x ∷ xs) ys (suc i) =
     (split_take xs ys i)
 
 -- the same channels are at most one more
-same_is_near : (before now : Channels) → now ≡ before → AtMostOneMore before now
-same_is_near before now e = inl (λ x. ap (λ (m : Channels). m x) e)
+same_is_near : (Of : Position → Type 0) (before now : Channels) → now ≡ before → AtMostOneMore Of before now
+same_is_near Of before now e = inl (λ x. ap (λ (m : Channels). m x) e)
 
 moments_awaits : (b : Channels) (ws : List Awaited) (i : ℕ) → effect b (take i (map Awaits ws)) ≡ b
 moments_awaits b [] zero = refl
@@ -125,33 +125,37 @@ moments_awaits b [] (suc i) = refl
 moments_awaits b (w ∷ ws) zero = refl
 moments_awaits b (w ∷ ws) (suc i) = moments_awaits b ws i
 
-moments_visit : (b : Channels) (c : Position) → ((x : Channel) → is_among c x ≡ true → b x ≡ false) → (i : ℕ) → AtMostOneMore b (effect b (take i (visit c)))
-moments_visit b c h zero = inl (λ x. refl)
-moments_visit b c h (suc zero) = inr (c, λ x. refl)
-moments_visit b c h (suc (suc zero)) = inr (c, λ x. refl)
-moments_visit b c h (suc (suc (suc zero))) = same_is_near b (without_each c (with_each c b)) (undone c b h)
-moments_visit b c h (suc (suc (suc (suc i)))) = same_is_near b (without_each c (with_each c b)) (undone c b h)
+moments_visit : (Of : Position → Type 0) (b : Channels) (c : Position) → Of c → ((x : Channel) → is_among c x ≡ true → b x ≡ false) → (i : ℕ) → AtMostOneMore Of b (effect b (take i (visit c)))
+moments_visit Of b c of h zero = inl (λ x. refl)
+moments_visit Of b c of h (suc zero) = inr (c, of, λ x. refl)
+moments_visit Of b c of h (suc (suc zero)) = inr (c, of, λ x. refl)
+moments_visit Of b c of h (suc (suc (suc zero))) = same_is_near Of b (without_each c (with_each c b)) (undone c b h)
+moments_visit Of b c of h (suc (suc (suc (suc i)))) = same_is_near Of b (without_each c (with_each c b)) (undone c b h)
 
-module _ (layout : Layout) (b : Channels) where
-  pub round-none : IsRound layout b (Unit {0}) []
+-- any position
+abbrev pub anyone : Position → Type 0
+anyone p = Unit {0}
+
+module _ (layout : Layout) (b : Channels) (Of : Position → Type 0) where
+  pub round-none : IsRound layout b Of (Unit {0}) []
   round-none = record {
     needs = λ rest h. (tt, h);
     may = λ rest p h. h;
     keeps = λ p. refl;
-    moments = λ p i. same_is_near b (effect b (take i [])) (moments_awaits b [] i);
+    moments = λ p i. same_is_near Of b (effect b (take i [])) (moments_awaits b [] i);
   }
 
-  pub round-awaits : (ws : List Awaited) → IsRound layout b (Unit {0}) (map Awaits ws)
+  pub round-awaits : (ws : List Awaited) → IsRound layout b Of (Unit {0}) (map Awaits ws)
   round-awaits [] = round-none
   round-awaits (w ∷ ws) = let r = round-awaits ws in record {
     needs = λ rest h. r.needs rest h;
     may = λ rest p h. r.may rest p h;
     keeps = λ p. r.keeps p;
-    moments = λ p i. same_is_near b (effect b (take i (map Awaits (w ∷ ws)))) (moments_awaits b (w ∷ ws) i);
+    moments = λ p i. same_is_near Of b (effect b (take i (map Awaits (w ∷ ws)))) (moments_awaits b (w ∷ ws) i);
   }
 
-  pub round-visit : (c : Position) → IsRound layout b (CanCloseEach layout b c) (visit c)
-  round-visit c = let clear : without_each c (with_each c none) ≡ none = undone c none (λ x e. refl) in record {
+  pub round-visit : (c : Position) → Of c → IsRound layout b Of (CanCloseEach layout b c) (visit c)
+  round-visit c of = let clear : without_each c (with_each c none) ≡ none = undone c none (λ x e. refl) in record {
     needs = λ rest h. (
       h.0,
       subst (λ (m : Channels). AllRight layout m none rest) (undone c b (each_open layout b c h.0)) (subst (λ (m : Channels).
@@ -166,10 +170,10 @@ module _ (layout : Layout) (b : Channels) where
       ),
     );
     keeps = λ p. undone c b (each_open layout b c p);
-    moments = λ p i. moments_visit b c (each_open layout b c p) i;
+    moments = λ p i. moments_visit Of b c of (each_open layout b c p) i;
   }
 
-  pub round-append : (xs ys : List Item) {P Q : Type 0} → IsRound layout b P xs → IsRound layout b Q ys → IsRound layout b (P × Q) (xs ++ ys)
+  pub round-append : (xs ys : List Item) {P Q : Type 0} → IsRound layout b Of P xs → IsRound layout b Of Q ys → IsRound layout b Of (P × Q) (xs ++ ys)
   round-append xs ys r q = record {
     needs = λ rest h.
         let at = r.needs (ys ++ rest) (subst (λ (l : List Item). AllRight layout b none l) (append_assoc xs ys rest) h) in
@@ -179,14 +183,14 @@ module _ (layout : Layout) (b : Channels) where
     keeps = λ p. effect-append b xs ys ∙ ap (λ (m : Channels). effect m ys) (r.keeps p.0) ∙ q.keeps p.1;
     moments = λ p i.
         ⊎_elim
-        (λ (e : take i (xs ++ ys) ≡ take i xs). subst (λ (l : List Item). AtMostOneMore b (effect b l)) (sym e) (r.moments p.0 i))
+        (λ (e : take i (xs ++ ys) ≡ take i xs). subst (λ (l : List Item). AtMostOneMore Of b (effect b l)) (sym e) (r.moments p.0 i))
         (λ (e : (j : ℕ) × (take i (xs ++ ys) ≡ xs ++ take j ys)).
         let on = effect-append b xs (take e.0 ys) ∙ ap (λ (m : Channels). effect m (take e.0 ys)) (r.keeps p.0) in
-        subst (λ (l : List Item). AtMostOneMore b (effect b l)) (sym e.1) (subst (λ (m : Channels). AtMostOneMore b m) (sym on) (q.moments p.1 e.0)))
+        subst (λ (l : List Item). AtMostOneMore Of b (effect b l)) (sym e.1) (subst (λ (m : Channels). AtMostOneMore Of b m) (sym on) (q.moments p.1 e.0)))
         (split_take xs ys i);
   }
 
-  pub round-like : (xs : List Item) {P Q : Type 0} → (P → Q) → (Q → P) → IsRound layout b P xs → IsRound layout b Q xs
+  pub round-like : (xs : List Item) {P Q : Type 0} → (P → Q) → (Q → P) → IsRound layout b Of P xs → IsRound layout b Of Q xs
   round-like xs f g r = record {
     needs = λ rest h. let at = r.needs rest h in (f at.0, at.1);
     may = λ rest p h. r.may rest (g p) h;
@@ -194,7 +198,7 @@ module _ (layout : Layout) (b : Channels) where
     moments = λ p i. r.moments (g p) i;
   }
 
-  pub round-repeated : (n : ℕ) (xs : List Item) {P : Type 0} → IsRound layout b P xs → IsRound layout b (0 < n → P) (repeated n xs)
+  pub round-repeated : (n : ℕ) (xs : List Item) {P : Type 0} → IsRound layout b Of P xs → IsRound layout b Of (0 < n → P) (repeated n xs)
   round-repeated zero xs {P = P} r = round-like [] (λ (u : Unit {0}). λ (h : 0 < 0). absurd (omega arith)) (λ (f : 0 < 0 → P). tt) round-none
   round-repeated (suc n) xs {P = P} r =
       round-like (repeated (suc n) xs)
@@ -202,55 +206,59 @@ module _ (layout : Layout) (b : Channels) where
       (λ (f : 0 < suc n → P). (f (omega arith), λ (h : 0 < n). f (omega arith)))
       (round-append xs (repeated n xs) r (round-repeated n xs r))
 
+  -- each position of the list is such a one
+  abbrev IsOf : SettingsSeen → Type 0
+  IsOf s = (k : ℕ) → Of (position_at s.list k)
+
   -- the channels of the passes from number k on
   abbrev CanPass : SettingsSeen → ℕ → ℕ → Type 0
   CanPass s k n = (j : ℕ) → k ≤ j → j < k + n → CanCloseEach layout b (position_at s.list j)
 
-  pub round-pass : (s : SettingsSeen) (k : ℕ) → IsRound layout b (CanCloseEach layout b (position_at s.list k)) (pass_of s k)
-  round-pass s k =
+  pub round-pass : (s : SettingsSeen) → IsOf s → (k : ℕ) → IsRound layout b Of (CanCloseEach layout b (position_at s.list k)) (pass_of s k)
+  round-pass s of k =
       round-like (pass_of s k) (λ (w : Unit {0} × CanCloseEach layout b (position_at s.list k)). w.1)
       (λ (h : CanCloseEach layout b (position_at s.list k)). (tt, h))
       (round-append (map Awaits (head_of Trigger s.trigger)) (visit (position_at s.list k)) (round-awaits (head_of Trigger s.trigger))
-      (round-visit (position_at s.list k)))
+      (round-visit (position_at s.list k) (of k)))
 
-  pub round-passes : (s : SettingsSeen) (k n : ℕ) → IsRound layout b (CanPass s k n) (passes s k n)
-  round-passes s k zero = round-like [] (λ (u : Unit {0}). λ j h g. absurd (omega arith)) (λ (f : CanPass s k 0). tt) round-none
-  round-passes s k (suc n) =
+  pub round-passes : (s : SettingsSeen) → IsOf s → (k n : ℕ) → IsRound layout b Of (CanPass s k n) (passes s k n)
+  round-passes s of k zero = round-like [] (λ (u : Unit {0}). λ j h g. absurd (omega arith)) (λ (f : CanPass s k 0). tt) round-none
+  round-passes s of k (suc n) =
       round-like (passes s k (suc n))
       (λ (w : CanCloseEach layout b (position_at s.list k) × CanPass s (suc k) n). λ j h g.
       ⊎_elim (λ (e : k ≡ j). subst (λ (i : ℕ). CanCloseEach layout b (position_at s.list i)) e w.0)
       (λ (d : k ≡ j → ⊥). w.1 j (grind arith) (omega arith)) (cases_eq k j))
       (λ (f : CanPass s k (suc n)). (f k (omega arith) (omega arith), λ j h g. f j (omega arith) (omega arith)))
-      (round-append (pass_of s k) (passes s (suc k) n) (round-pass s k) (round-passes s (suc k) n))
+      (round-append (pass_of s k) (passes s (suc k) n) (round-pass s of k) (round-passes s of (suc k) n))
 
   pub round-arm_turn : (name : LayerName) (l : Layer) (inside : List Item) {P : Type 0}
-      → IsRound layout b P inside → IsRound layout b P (arm_turn name l inside)
+      → IsRound layout b Of P inside → IsRound layout b Of P (arm_turn name l inside)
   round-arm_turn name l inside {P = P} r =
       round-like (arm_turn name l inside) (λ (w : Unit {0} × P). w.1) (λ (h : P). (tt, h))
       (round-append (map Awaits (head_of name l)) inside (round-awaits (head_of name l)) r)
 
-  pub round-arm_turns : (name : LayerName) (l : Layer) (inside : List Item) {P : Type 0} → IsRound layout b P inside
-      → IsRound layout b (0 < l.count → P) (arm_turns name l inside)
+  pub round-arm_turns : (name : LayerName) (l : Layer) (inside : List Item) {P : Type 0} → IsRound layout b Of P inside
+      → IsRound layout b Of (0 < l.count → P) (arm_turns name l inside)
   round-arm_turns name l inside r = round-repeated l.count (arm_turn name l inside) (round-arm_turn name l inside r)
 
-  pub round-turns : (s : SettingsSeen) → 0 < length s.list → IsRound layout b (0 < s.arm1.count → 0 < s.arm2.count → CanPass s 0 s.trigger.count) (agenda s)
-  round-turns s h =
-      subst (λ (l : List Item). IsRound layout b (0 < s.arm1.count → 0 < s.arm2.count → CanPass s 0 s.trigger.count) l) (sym (agenda_is s h))
+  pub round-turns : (s : SettingsSeen) → IsOf s → 0 < length s.list → IsRound layout b Of (0 < s.arm1.count → 0 < s.arm2.count → CanPass s 0 s.trigger.count) (agenda s)
+  round-turns s of h =
+      subst (λ (l : List Item). IsRound layout b Of (0 < s.arm1.count → 0 < s.arm2.count → CanPass s 0 s.trigger.count) l) (sym (agenda_is s h))
       (round-arm_turns Arm1 s.arm1 (arm_turns Arm2 s.arm2 (passes s 0 s.trigger.count))
-      (round-arm_turns Arm2 s.arm2 (passes s 0 s.trigger.count) (round-passes s 0 s.trigger.count)))
+      (round-arm_turns Arm2 s.arm2 (passes s 0 s.trigger.count) (round-passes s of 0 s.trigger.count)))
 
-  pub round-agenda : (s : SettingsSeen) → 0 < length s.list → IsInRange s → IsRound layout b (CanPass s 0 s.trigger.count) (agenda s)
-  round-agenda s h i =
+  pub round-agenda : (s : SettingsSeen) → IsOf s → 0 < length s.list → IsInRange s → IsRound layout b Of (CanPass s 0 s.trigger.count) (agenda s)
+  round-agenda s of h i =
       round-like (agenda s)
       (λ (f : 0 < s.arm1.count → 0 < s.arm2.count → CanPass s 0 s.trigger.count). f i.arm1.count.0 i.arm2.count.0)
       (λ (f : CanPass s 0 s.trigger.count). λ (u : 0 < s.arm1.count). λ (v : 0 < s.arm2.count). f)
-      (round-turns s h)
+      (round-turns s of h)
 
   -- the whole agenda is sound exactly where each entry that is used can be closed, and the readings have room
-  pub sound_exactly : (s : SettingsSeen) (room : ℕ) → 0 < length s.list → IsInRange s → IsSound layout b room (agenda s)
+  pub sound_exactly : (s : SettingsSeen) → IsOf s → (room : ℕ) → 0 < length s.list → IsInRange s → IsSound layout b room (agenda s)
       ↔ ((j : ℕ) → j < s.trigger.count → CanCloseEach layout b (position_at s.list j)) × (reads (agenda s) ≤ room)
-  sound_exactly s room h i =
-      let r = round-agenda s h i in
+  sound_exactly s of room h i =
+      let r = round-agenda s of h i in
       let e = append-nil (agenda s) in (
         λ (w : IsSound layout b room (agenda s)). let p = (r.needs [] (subst (λ (l : List Item). AllRight layout b none l) (sym e) w.right)).0 in
             (λ j k. p j (omega arith) (omega arith), w.fits),

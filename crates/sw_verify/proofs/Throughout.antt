@@ -1,5 +1,5 @@
 -- What holds at each moment of a list of items.
-use Rattle.std.proofs.Common.{◌≡◌, ℕ, zero, suc, ◌≤◌, true, not, List, [], ◌∷◌, take, sym, ◌∙◌, subst, ⊎_elim, arith, length, append-nil, ◌<◌}
+use Rattle.std.proofs.Common.{◌≡◌, ℕ, zero, suc, ◌≤◌, true, not, List, [], ◌∷◌, take, refl, sym, ◌∙◌, subst, ⊎_elim, arith, length, append-nil, ◌<◌}
 use Rattle.std.proofs.lemmas.Bool.{or_cases, and_parts}
 use Rattle.sw_channel.specs.Positions.{Position}
 use Rattle.sw_base.specs.Layout.{Channel, Layout, is_present, IsClash, IsExclusive}
@@ -8,7 +8,7 @@ use Rattle.sw_trigger.specs.Agenda.{Item, Awaits, Close, Open, agenda}
 use Rattle.sw_trigger.specs.Counts.{reads}
 use Rattle.sw_verify.specs.Channels.{same_channel, Channels, none, with_channel, without, with_each, without_each}
 use Rattle.sw_verify.specs.Sound.{CanCloseOne, CanCloseEach, AllRight, effect, IsSound}
-use Rattle.sw_verify.specs.Moments.{AtMostOneMore}
+use Rattle.sw_verify.specs.Moments.{IsListed, AtMostOneMore}
 use Rattle.sw_verify.proofs.Round.{same_channel_is, round-turns}
 
 pub clash_back : (layout : Layout) (a b : Channel) → IsClash layout a b → IsClash layout b a
@@ -65,9 +65,9 @@ reads_so_far (Awaits w ∷ items) (suc i) = omega (arith, reads_so_far items i)
 reads_so_far (Close c ∷ items) (suc i) = reads_so_far items i
 reads_so_far (Open c ∷ items) (suc i) = reads_so_far items i
 
--- a sound agenda closes one channel at a time
+-- a sound agenda closes one position at a time
 pub one_at_a_time : (layout : Layout) (b : Channels) (room : ℕ) (s : SettingsSeen) → 0 < length s.list → IsSound layout b room (agenda s) → (i : ℕ)
-    → AtMostOneMore b (effect b (take i (agenda s)))
+    → AtMostOneMore (IsListed s.list) b (effect b (take i (agenda s)))
 one_at_a_time layout b room s listed w =
-    let r = round-turns layout b s listed in
+    let r = round-turns layout b (IsListed s.list) s (λ k. (k, refl)) listed in
     r.moments (r.needs [] (subst (λ (l : List Item). AllRight layout b none l) (sym (append-nil (agenda s))) w.right)).0

@@ -6,7 +6,7 @@ ghost use Rattle.sw_trigger.specs.Agenda.{agenda};
 ghost use Rattle.sw_trigger.specs.Counts.{reads};
 ghost use Rattle.sw_verify.specs.Sound.{effect};
 ghost use Rattle.sw_verify.specs.Check.{IsReady};
-ghost use Rattle.sw_verify.specs.Moments.{found, closed_after, AtMostOneMore};
+ghost use Rattle.sw_verify.specs.Moments.{found, closed_after, IsListed, AtMostOneMore};
 
 use crate::snapshot::Snapshot;
 
@@ -16,10 +16,10 @@ pub fn ends_as_it_began(snapshot: &Snapshot)
     ensures { (c : Channel) → effect (found snapshot.now) (agenda snapshot.now.settings) c ≡ found snapshot.now c }
 {}
 
-/// At each moment the closed channels are those that it found, and at most those of one position more.
-pub fn closes_one_at_a_time(snapshot: &Snapshot)
+/// At each moment the closed channels are those that it found, and at most those of one of its positions more.
+pub fn closes_one_position_at_a_time(snapshot: &Snapshot)
     requires passed { IsReady snapshot.now }
-    ensures { (i : ℕ) → AtMostOneMore (found snapshot.now) (closed_after snapshot.now i) }
+    ensures { (i : ℕ) → AtMostOneMore (IsListed snapshot.now.settings.list) (found snapshot.now) (closed_after snapshot.now i) }
 {}
 
 /// Where it found present channels closed of which no two clash, it is so at each moment: it closes no absent channel,

@@ -10,14 +10,14 @@ pub returns-in-Err-clause-refused : goal.returns-in-Err-clause-refused
 returns-in-Err-clause-refused c = (
   c.in-Err.ensures.refused.0,
   λ start b m s.
-    let layout = c.args.layout.now in
-    let p = c.args.position.now in
-    let i = c.loop-c.c-index in
-    let chans = c.as_slice-c-items.ensures.chans in
-    let e = next_left p i c.c-item.result (omega (arith, c.loop-c-test.true, ap length chans))
-    (c.c-item.is ∙ ap (λ (l : Position). get_or l i c.c-item.result) chans) in
-    let here = subst (λ (rest : Position). Opening layout start b m p rest c.loop-c.self) e (c.loop-c.invariant start b m s) in
-    opening_barred layout start b m p c.c-item.result (drop (i + 1) p) c.loop-c.self c.in-Err.ensures.refused.1 here,
+      let layout = c.args.layout.now in
+      let p = c.args.position.now in
+      let i = c.loop-c.c-index in
+      let chans = c.as_slice-c-items.ensures.chans in
+      let e = next_left p i c.c-item.result (omega (arith, c.loop-c-test.true, ap length chans))
+      (c.c-item.is ∙ ap (λ (l : Position). get_or l i c.c-item.result) chans) in
+      let here = subst (λ (rest : Position). Opening layout start b m p rest c.loop-c.self) e (c.loop-c.invariant start b m s) in
+      opening_barred layout start b m p c.c-item.result (drop (i + 1) p) c.loop-c.self c.in-Err.ensures.refused.1 here,
 )
 
 pub loop-c-preserved : goal.loop-c-preserved

@@ -1,6 +1,6 @@
 use Rattle.sw_verify.specs.Channels.{is_among}
 use Rattle.sw_verify.proofs.Throughout.{one_at_a_time}
-use Rattle.sw_verify.proofs.laws.closes_one_at_a_time.Goals as goal
+use Rattle.sw_verify.proofs.laws.closes_one_position_at_a_time.Goals as goal
 
 pub returns : goal.returns
 returns c =
