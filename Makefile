@@ -1,7 +1,7 @@
-# make try:   answers the terminal's lines in about a minute, by a program that nothing has proved.
-# make try-serve: serves HiSLIP clients for an hour in about a minute, likewise; PORT=5025: on that port.
-# make run:   the same by the proved program; the first time it proves it.
-# make serve: serves HiSLIP clients on port 4880 of this machine by the proved program; PORT=5025: on that port.
+# make try:   in about a minute answers the lines that are typed, by a program that nothing has proved.
+# make try-serve: likewise serves HiSLIP clients on port 4880 of this machine; PORT=4881: on that port.
+# make run:   answers the lines that are typed by the proved program; the first time it proves it.
+# make serve: serves HiSLIP clients on port 4880 of this machine by the proved program; PORT=4881: on that port.
 # make test:  the whole gate.
 # make wrong: tries every wrong body, whatever is recorded of it.
 # make check CRATE=sw_lex: proves one crate.
@@ -14,11 +14,10 @@ export RT
 .PHONY: try try-serve run serve test wrong check talks bench bench-serve soak
 
 try:
-	@cd crates/mainframe && $(RT) try -- run
+	@examples/try
 
 try-serve:
-	@echo "in about a minute on 127.0.0.1:$(or $(PORT),4880), by a program that nothing has proved"
-	@cd crates/mainframe && $(RT) try --seconds 3600 -- serve --port $(or $(PORT),4880)
+	@examples/try $(or $(PORT),4880)
 
 run:
 	@cd crates/mainframe && $(RT) run -- run

@@ -9,13 +9,10 @@ import time
 
 sys.dont_write_bytecode = True
 sys.path.insert(0, str(pathlib.Path(__file__).resolve().parent.parent / "examples"))
-from hislip_client import Session, receive, send
+from swm import HEADER, Kind, Message, Session, SessionError
 
 SESSIONS = 16
 PATIENCE = 60  # seconds after which something is stuck
-DEVICE_CLEAR_COMPLETE, DEVICE_CLEAR_ACKNOWLEDGE = 8, 9
-ASYNC_LOCK, ASYNC_DEVICE_CLEAR, ASYNC_DEVICE_CLEAR_ACKNOWLEDGE = 4, 19, 23
-ASYNC_SERVICE_REQUEST = 20
 IDENTITY = "OPENBENCH,SWM8,0,1.0"
 
 
@@ -26,6 +23,28 @@ class Failure(Exception):
 def same(what, got, wanted):
     if got != wanted:
         raise Failure(f"{what}: {got!r} in place of {wanted!r}")
+
+
+def send(wire, kind, control=0, parameter=0, payload=b""):
+    """Sends a message on a bare connection."""
+    wire.sendall(HEADER.pack(b"HS", kind, control, parameter, len(payload)) + payload)
+
+
+def receive_bytes(wire, count):
+    """So many bytes of a bare connection."""
+    received = b""
+    while len(received) < count:
+        part = wire.recv(count - len(received))
+        if not part:
+            raise ConnectionError("the instrument closed the connection")
+        received += part
+    return received
+
+
+def receive(wire):
+    """The next message of a bare connection."""
+    _, kind, control, parameter, length = HEADER.unpack(receive_bytes(wire, HEADER.size))
+    return Message(kind, control, parameter, receive_bytes(wire, length))
 
 
 def wait_until(what, holds):
@@ -88,8 +107,8 @@ class Served:
 
         def tries():
             try:
-                joined.append((kind or Client)(self.port, seconds=PATIENCE))
-            except ConnectionError as refusal:
+                joined.append((kind or Client)(self.port, timeout=PATIENCE * 1_000))
+            except SessionError as refusal:
                 if "FatalError 4" not in str(refusal):
                     raise
             return joined
@@ -112,33 +131,21 @@ class Served:
 
 
 class Client(Session):
-    """A session that also locks, clears and breaks off."""
+    """A session that also shows its bare connections, asks for locks without an exception, and breaks off."""
 
-    def event(self, wanted):
-        """The control code of the next message of this kind on the second connection, past service requests."""
-        kind, control, _, _ = receive(self.events)
-        while kind == ASYNC_SERVICE_REQUEST:
-            self.requests.append(control)
-            kind, control, _, _ = receive(self.events)
-        same("kind", kind, wanted)
-        return control
+    @property
+    def commands(self):
+        return self._commands.socket
+
+    @property
+    def events(self):
+        return self._events.socket
 
     def lock(self, milliseconds, key=b""):
-        send(self.events, ASYNC_LOCK, 1, milliseconds, key)
-        return self.event(ASYNC_LOCK + 1)
+        return self._ask_lock(milliseconds, key)
 
     def release(self):
-        send(self.events, ASYNC_LOCK)
-        return self.event(ASYNC_LOCK + 1)
-
-    def clear(self):
-        """Clears the device, and drops what was still on its way."""
-        send(self.events, ASYNC_DEVICE_CLEAR)
-        self.event(ASYNC_DEVICE_CLEAR_ACKNOWLEDGE)
-        send(self.commands, DEVICE_CLEAR_COMPLETE)
-        while receive(self.commands)[0] != DEVICE_CLEAR_ACKNOWLEDGE:
-            pass
-        self.has_answer = 0
+        return self._request(Message(Kind.AsyncLock), Kind.AsyncLockResponse).control
 
     def break_off(self, start=b""):
         """Sends the start of a message, and resets both connections."""

@@ -1,6 +1,5 @@
 """Hostile HiSLIP streams: a table of them with the answers that docs/HISLIP.md tells, and others made at random."""
-from served import IDENTITY
-from hislip_client import HEADER
+from served import HEADER, IDENTITY
 
 LARGEST = 65_536  # bytes of a payload
 FROM_INSTRUMENT = {1, 2, 3, 5, 6, 7, 9, 11, 13, 14, 16, 18, 20, 22, 23, 25}  # the kinds that an instrument sends
