@@ -169,8 +169,8 @@ fn a_connection_without_its_session_does_nothing_to_the_next(rt: HostRuntime) ->
     Ok(())
 }
 
-/// A desk on which, before the second look at its status, the session that is looked at leaves, and another takes its
-/// number.
+/// A desk on which the session whose status is looked at leaves before the third look, and another takes its number. The
+/// first look is at the beginning of a second connection, and one is before each of its messages.
 #[derive(Drop)]
 struct Succeeded<D: Desk> {
     desk: D,
@@ -221,7 +221,7 @@ impl<D: Desk> Desk for Succeeded<D> {
 
     fn poll(&mut self, sid: Sid) -> View {
         self.looks = self.looks.saturating_add(1);
-        if self.looks == 2 {
+        if self.looks == 3 {
             self.succeed(sid);
         }
         self.desk.poll(sid)
