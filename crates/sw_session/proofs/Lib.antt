@@ -23,6 +23,7 @@ pub mod EngineTakes
 mod Order
 pub mod ServeKnown
 pub mod ServeParts
+pub mod ServeHands
 pub mod ServeWays
 pub mod ServeTurns
 pub mod ServeSpeaks

@@ -1,6 +1,6 @@
 -- What is kept of a message that comes in parts.
 use Rattle.std.proofs.Common.{◌≡◌, ℕ, zero, suc, ◌+◌, ◌-◌, ◌≤◌, ◌<◌, min, Bool, true, false, cond, leb, MatchBool, ◌⊎◌, inl, inr, List, [], ◌∷◌, ◌++◌}
-use Rattle.std.proofs.Common.{◌↔◌, length, take, Option, Some, refl, ap, sym, subst, ◌∙◌, arith, append-nil, append_assoc, take_all, length-take}
+use Rattle.std.proofs.Common.{◌↔◌, length, take, Some, refl, ap, sym, subst, ◌∙◌, arith, append-nil, append_assoc, take_all, length-take}
 use Rattle.std.specs.List.{concat}
 use Rattle.std.specs.Io.BufRead.{strip_last, ends_with_byte}
 use Rattle.std.proofs.lemmas.Bool.{lt-ltb}
@@ -12,7 +12,7 @@ use Rattle.sw_core.specs.declared.ask.Sid.{Sid}
 use Rattle.sw_session.specs.declared.engine.front.Front.{Front}
 use Rattle.sw_session.specs.Trace.{Entry}
 use Rattle.sw_session.specs.Talk.{TalksMessage, TalksUnits, Overruns}
-use Rattle.sw_session.specs.EngineSync.{with_part, whole}
+use Rattle.sw_session.specs.EngineSync.{whole}
 use Rattle.sw_session.specs.Law.{with_parts, IsSameMessage, PartsAreOneMessage}
 
 -- a front of a front of the same length

@@ -1,6 +1,6 @@
 -- Known bytes that grow.
-use Rattle.std.proofs.Common.{◌≡◌, ℕ, ◌+◌, ◌-◌, ◌≤◌, List, [], ◌∷◌, ◌++◌, length, take, drop, Option, Some, None, ap, sym, refl, ◌∙◌, append_assoc, append-nil}
-use Rattle.std.proofs.Common.{subst, flat_map}
+use Rattle.std.proofs.Common.{◌≡◌, ℕ, ◌+◌, ◌-◌, ◌≤◌, List, [], ◌++◌, length, take, drop, Option, Some, None, ap, sym, refl, ◌∙◌, append_assoc, append-nil}
+use Rattle.std.proofs.Common.{subst}
 use Rattle.std.proofs.Math.Seq.{take-add}
 use Rattle.std.proofs.lemmas.List.{take_rest, take-append-drop}
 use Rattle.std.specs.Io.KnownBytes.{Appends, Consumes, Keeps}
@@ -33,24 +33,6 @@ appends-keeps (Some old) (Some bs) (Some cs) xs p q = q ∙ p
 pub part-take : (a b : Option (List ℕ)) (bytes : List ℕ) (n : ℕ) → Appends a b (take n bytes) → WritesPart a b bytes
 part-take a b bytes n p = record { front = take n bytes; back = drop n bytes; parts = sym (take-append-drop n bytes); writes = p }
 
--- a front part, after bytes that are written whole
-pub part-after : (a b c : Option (List ℕ)) (xs ys : List ℕ) → Appends a b xs → WritesPart b c ys → WritesPart a c (xs ++ ys)
-part-after a b c xs ys p w = record {
-  front = xs ++ w.front;
-  back = w.back;
-  parts = ap (λ t. xs ++ t) w.parts ∙ sym (append_assoc xs w.front w.back);
-  writes = appends-more a b c xs w.front p w.writes;
-}
-
--- a front part is one, whatever follows
-pub part-before : (a b : Option (List ℕ)) (xs ys : List ℕ) → WritesPart a b xs → WritesPart a b (xs ++ ys)
-part-before a b xs ys w = record {
-  front = w.front;
-  back = w.back ++ ys;
-  parts = ap (λ t. t ++ ys) w.parts ∙ append_assoc w.front w.back ys;
-  writes = w.writes;
-}
-
 pub consumes-nothing : (a : Option (List ℕ)) → Consumes a a []
 consumes-nothing None = tt
 consumes-nothing (Some xs) = refl
@@ -60,32 +42,3 @@ consumes-more None b c xs ys p q = tt
 consumes-more (Some old) None c xs ys p q = absurd p
 consumes-more (Some old) (Some bs) None xs ys p q = absurd q
 consumes-more (Some old) (Some bs) (Some cs) xs ys p q = p ∙ ap (λ t. xs ++ t) q ∙ sym (append_assoc xs ys cs)
-
--- ---- items that are written one after another
-
-pub record Writing {A : Type 0} (f : A → List ℕ) (all left : List A) (old new : Option (List ℕ)) : Type 0 where
-  pub done : List ℕ
-  pub parts : flat_map f all ≡ done ++ flat_map f left
-  pub writes : Appends old new done
-
-pub writing-start : {A : Type 0} (f : A → List ℕ) (all : List A) (old : Option (List ℕ)) → Writing f all all old old
-writing-start f all old = record { done = []; parts = refl; writes = appends-nothing old }
-
-pub writing-on : {A : Type 0} (f : A → List ℕ) (all left rest : List A) (x : A) (old mid new : Option (List ℕ)) → left ≡ x ∷ rest → Writing f all left old mid
-    → Appends mid new (f x) → Writing f all rest old new
-writing-on f all left rest x old mid new e w p = record {
-  done = w.done ++ f x;
-  parts = w.parts ∙ ap (λ l. w.done ++ flat_map f l) e ∙ sym (append_assoc w.done (f x) (flat_map f rest));
-  writes = appends-more old mid new w.done (f x) w.writes p;
-}
-
-pub writing-all : {A : Type 0} (f : A → List ℕ) (all left : List A) (old new : Option (List ℕ)) → left ≡ [] → Writing f all left old new
-    → Appends old new (flat_map f all)
-writing-all f all left old new e w =
-    subst (λ (b : List ℕ). Appends old new b) (sym (w.parts ∙ ap (λ l. w.done ++ flat_map f l) e ∙ append-nil w.done)) w.writes
-
-pub writing-cut : {A : Type 0} (f : A → List ℕ) (all left rest : List A) (x : A) (old mid new : Option (List ℕ)) → left ≡ x ∷ rest → Writing f all left old mid
-    → WritesPart mid new (f x) → WritesPart old new (flat_map f all)
-writing-cut f all left rest x old mid new e w p =
-    subst (λ (b : List ℕ). WritesPart old new b) (sym (w.parts ∙ ap (λ l. w.done ++ flat_map f l) e))
-    (part-after old mid new w.done (f x ++ flat_map f rest) w.writes (part-before mid new (f x) (flat_map f rest) p))

@@ -18,8 +18,9 @@ use Rattle.sw_session.specs.declared.servers.fault.ServeFault.{ServeFault}
 use Rattle.sw_session.specs.declared.servers.fault.ServeFault.TheVariants as Fault
 use Rattle.sw_session.specs.Trace.{Entry, Leads}
 use Rattle.sw_session.specs.EngineStep.{LedBy}
-use Rattle.sw_session.specs.ServeWrite.{wire_on, wire_off, WritesPart, Sends}
-use Rattle.sw_session.specs.Serve.{Protocol, Voice, Exchange, Speaks, acts_of, asks_of, said_of, arrived, is_refused, after_step, availability_notes, pauses}
+use Rattle.sw_session.specs.ServeWrite.{wire_on, wire_off}
+use Rattle.sw_session.specs.ServeHand.{availability_notes, HandsOver, HandsUpTo, manner, outlets}
+use Rattle.sw_session.specs.Serve.{Protocol, Voice, Exchange, Speaks, acts_of, asks_of, said_of, arrived, is_refused, after_step, pauses}
 use Rattle.sw_session.specs.Serve.{is_pause}
 use Rattle.sw_session.specs.Serve.{Point, point}
 use Rattle.sw_session.specs.Serve.{Spoken, Stops, Breaks, GoesThrough, Hears, IsCutOff, Finds, TellsActs}
@@ -170,45 +171,45 @@ one-out : (f : Sent → List ℕ) (a b : Option (List ℕ)) (x : Exchange) → A
 one-out f a b x p = subst (λ (l : List Sent). Appends a b (flat_map f l)) (sym (append-nil x.step.out)) p
 
 pub hears-ok : {E D : Type 0} (u : Voice E D) (s s' : E) (d e d' : D) (w w' y y' : Option (List ℕ))
-    (act : Act) (step : Step) (noted : List Entry) (after : AfterStep)
-    → LedBy u.passes d e (λ asked. u.protocol.speaks s act asked step s') → noted ≡ availability_notes (u.protocol.session s') step.out
-    → Leads u.passes e noted d'
+    (act : Act) (step : Step) (after : AfterStep)
+    → LedBy u.passes d e (λ asked. u.protocol.speaks s act asked step s')
+    → HandsOver (manner u.passes (u.protocol.session s') u.own) (outlets e w y) (outlets d' w' y') step.out
     → after ≡ after_step (is_refused act) step
-    → Appends w w' (flat_map (wire_on u.own) step.out) → Appends y y' (flat_map (wire_off u.own) step.out)
     → Hears u act (point s d w y) (point s' d' w' y') (Ok after)
-hears-ok u s s' d e d' w w' y y' act step noted after led n notes a main side =
+hears-ok u s s' d e d' w w' y y' act step after led hands a =
+    let noted : List Entry = availability_notes (u.protocol.session s') step.out in
     let x : Exchange = record { act = act; asked = led.asked; step = step; noted = noted } in (
       x ∷ [],
       [],
       refl,
       λ g. refl,
       record {
-        speaks = speaks-one u.protocol s s' x after led.admits n a;
+        speaks = speaks-one u.protocol s s' x after led.admits refl a;
         asks = subst (λ (l : List Entry). Leads u.passes d l d') (sym (append-nil (led.asked ++ noted)))
-            (onward u.passes d e d' led.asked noted led.leads notes);
-        main = one-out (wire_on u.own) w w' x main;
-        side = one-out (wire_off u.own) y y' x side;
+            (onward u.passes d e d' led.asked noted led.leads hands.notes);
+        main = one-out (wire_on u.own) w w' x hands.main;
+        side = one-out (wire_off u.own) y y' x hands.side;
       },
     )
 
-cut-off : {E D : Type 0} (u : Voice E D) (s s' : E) (d d' : D) (w w' y y' : Option (List ℕ)) (act : Act) (step : Step)
-    → LedBy u.passes d d' (λ asked. u.protocol.speaks s act asked step s') → WritesPart w w' (flat_map (wire_on u.own) step.out)
-    → WritesPart y y' (flat_map (wire_off u.own) step.out)
-    → IsCutOff u (point s d w y) (point s' d' w' y') act
-cut-off u s s' d d' w w' y y' act step led main side = record
-    { asked = led.asked; step = step; speaks = led.admits; asks = led.leads; main = main; side = side }
+cut-off : {E D : Type 0} (u : Voice E D) (s s' : E) (d e d' : D) (w w' y y' : Option (List ℕ)) (act : Act) (step : Step) (fault : ServeFault)
+    → LedBy u.passes d e (λ asked. u.protocol.speaks s act asked step s')
+    → HandsUpTo (manner u.passes (u.protocol.session s') u.own) (outlets e w y) (outlets d' w' y') step.out fault
+    → IsCutOff u (point s d w y) (point s' d' w' y') act fault
+cut-off u s s' d e d' w w' y y' act step fault led cut = record
+    { asked = led.asked; step = step; speaks = led.admits; desk = e; asks = led.leads; cut = cut }
 
-pub hears-err : {E D : Type 0} (u : Voice E D) (s s' : E) (d d' : D) (w w' y y' : Option (List ℕ))
+pub hears-err : {E D : Type 0} (u : Voice E D) (s s' : E) (d e d' : D) (w w' y y' : Option (List ℕ))
     (act : Act) (step : Step) (fault : ServeFault)
-    → LedBy u.passes d d' (λ asked. u.protocol.speaks s act asked step s') → WritesPart w w' (flat_map (wire_on u.own) step.out)
-    → WritesPart y y' (flat_map (wire_off u.own) step.out) → Sends (Err fault)
+    → LedBy u.passes d e (λ asked. u.protocol.speaks s act asked step s')
+    → HandsUpTo (manner u.passes (u.protocol.session s') u.own) (outlets e w y) (outlets d' w' y') step.out fault
     → Hears u act (point s d w y) (point s' d' w' y') (Err fault)
-hears-err u s s' d d' w w' y y' act step Fault.Write led main side f = cut-off u s s' d d' w w' y y' act step led main side
-hears-err u s s' d d' w w' y y' act step Fault.NoMemory led main side f = inl (cut-off u s s' d d' w w' y y' act step led main side)
-hears-err u s s' d d' w w' y y' act step Fault.Read led main side f = absurd f
-hears-err u s s' d d' w w' y y' act step Fault.Wire led main side f = absurd f
-hears-err u s s' d d' w w' y y' act step Fault.Fatal led main side f = absurd f
-hears-err u s s' d d' w w' y y' act step Fault.ReadBound led main side f = absurd f
+hears-err u s s' d e d' w w' y y' act step Fault.Write led cut = cut-off u s s' d e d' w w' y y' act step Fault.Write led cut
+hears-err u s s' d e d' w w' y y' act step Fault.NoMemory led cut = inl (cut-off u s s' d e d' w w' y y' act step Fault.NoMemory led cut)
+hears-err u s s' d e d' w w' y y' act step Fault.Read led cut = absurd cut.fails
+hears-err u s s' d e d' w w' y y' act step Fault.Wire led cut = absurd cut.fails
+hears-err u s s' d e d' w w' y y' act step Fault.Fatal led cut = absurd cut.fails
+hears-err u s s' d e d' w w' y y' act step Fault.ReadBound led cut = absurd cut.fails
 
 pub hears-starved : {E D : Type 0} (u : Voice E D) (s s' : E) (d d' : D) (w y : Option (List ℕ)) (act : Act)
     → LedBy u.passes d d' (λ asked. u.protocol.falters s act asked s') → Hears u act (point s d w y) (point s' d' w y) (Err Fault.NoMemory)

@@ -25,8 +25,9 @@ use Rattle.sw_session.specs.declared.servers.turns.Came.{Came}
 use Rattle.sw_session.specs.declared.servers.turns.Came.TheVariants.{End, Bytes, Paused}
 use Rattle.sw_session.specs.declared.servers.turns.Next.{Next}
 use Rattle.sw_session.specs.declared.servers.turns.Next.TheVariants.{On, Over}
-use Rattle.sw_session.specs.Trace.{Entry, Asked, Noted, Leads}
-use Rattle.sw_session.specs.ServeWrite.{wire_on, wire_off, WritesPart}
+use Rattle.sw_session.specs.Trace.{Entry, Asked, Leads}
+use Rattle.sw_session.specs.ServeWrite.{wire_on, wire_off}
+use Rattle.sw_session.specs.ServeHand.{availability_notes, HandsUpTo, manner, outlets}
 
 -- An engine's definition: what it asks and says to an act, and where it stands then; what it may have asked, and where
 -- it may stand, where it found no memory; and which session it has joined.
@@ -82,7 +83,7 @@ pauses (i ∷ inputs) = is_pause i + pauses inputs
 
 -- ---- exchanges
 
--- an act, what was asked for it, what was said, and what was asked once that was written
+-- an act, what was asked for it, what was said, and what was noted while that was handed over
 pub record Exchange : Type 0 where
   pub act : Act
   pub asked : List Entry
@@ -99,21 +100,11 @@ abbrev pub is_fatal : Kind → Bool
 is_fatal Kind.FatalError = true
 is_fatal kind = false
 
-abbrev pub is_last_part : Kind → Bool
-is_last_part Kind.DataEnd = true
-is_last_part kind = false
-
 -- how the channel goes on: a wrong prologue ends it, as does a step that says so, with a fatal error or without
 abbrev pub after_step : Bool → Step → AfterStep
 after_step true step = Malformed
 after_step false step =
     if step.ends then if list_any (λ (s : Sent). is_fatal s.message.kind) step.out then Fatal else Ends else Goes
-
--- once the last part of an answer is written, it is noted that a message is available for the session
-abbrev pub availability_notes : Option Sid → List Sent → List Entry
-availability_notes None said = []
-availability_notes (Some sid) said =
-    if list_any (λ (s : Sent). is_last_part s.message.kind) said then Noted sid true ∷ [] else []
 
 abbrev pub ProceedsAfter : {E : Type 0} → Type 0 → AfterStep → E → List Exchange → AfterStep → E → Type 0
 ProceedsAfter on Goes mid xs after s' = on
@@ -159,14 +150,15 @@ pub record Spoken {E D : Type 0} (u : Voice E D) (a b : Point E D) (xs : List Ex
 
 -- ---- acts that fail
 
--- what was said to an act was not written whole
-pub record IsCutOff {E D : Type 0} (u : Voice E D) (a b : Point E D) (act : Act) : Type 0 where
+-- what was said to an act was not written whole: its messages were handed over up to one that is not written
+pub record IsCutOff {E D : Type 0} (u : Voice E D) (a b : Point E D) (act : Act) (fault : ServeFault) : Type 0 where
   pub asked : List Entry
   pub step : Step
   pub speaks : u.protocol.speaks a.engine act asked step b.engine
-  pub asks : Leads u.passes a.desk asked b.desk
-  pub main : WritesPart a.main b.main (flat_map (wire_on u.own) step.out)
-  pub side : WritesPart a.side b.side (flat_map (wire_off u.own) step.out)
+  pub desk : D
+  pub asks : Leads u.passes a.desk asked desk
+  pub cut : HandsUpTo (manner u.passes (u.protocol.session b.engine) u.own) (outlets desk a.main a.side)
+      (outlets b.desk b.main b.side) step.out fault
 
 -- there was no memory for an act
 pub record IsStarved {E D : Type 0} (u : Voice E D) (a b : Point E D) (act : Act) : Type 0 where
@@ -177,8 +169,8 @@ pub record IsStarved {E D : Type 0} (u : Voice E D) (a b : Point E D) (act : Act
   pub side : b.side ≡ a.side
 
 abbrev pub Breaks : {E D : Type 0} → Voice E D → Point E D → Point E D → Act → ServeFault → Type 0
-Breaks u a b act Fault.Write = IsCutOff u a b act
-Breaks u a b act Fault.NoMemory = IsCutOff u a b act ⊎ IsStarved u a b act
+Breaks u a b act Fault.Write = IsCutOff u a b act Fault.Write
+Breaks u a b act Fault.NoMemory = IsCutOff u a b act Fault.NoMemory ⊎ IsStarved u a b act
 Breaks u a b act fault = ⊥
 
 -- these acts are gone through up to one that fails

@@ -5,8 +5,6 @@ use Rattle.sw_hislip.specs.Wire.{wire}
 use Rattle.sw_session.specs.declared.engine.step.Channel.{Channel}
 use Rattle.sw_session.specs.declared.engine.step.Channel.TheVariants.{Synchronous, Asynchronous}
 use Rattle.sw_session.specs.declared.engine.step.Sent.{Sent}
-use Rattle.sw_session.specs.declared.servers.fault.ServeFault.{ServeFault}
-use Rattle.sw_session.specs.declared.servers.fault.ServeFault.TheVariants.{Write, NoMemory}
 
 -- a message of that channel goes to the writer of this one
 abbrev pub is_own : Channel → Channel → Bool
@@ -34,13 +32,3 @@ pub record WritesPart (old new : Option (List ℕ)) (bytes : List ℕ) : Type 0 
 abbrev pub Wrote : {F : Type 0} → Result (Unit {0}) F → Option (List ℕ) → Option (List ℕ) → List ℕ → Type 0
 Wrote (Ok _) old new bytes = Appends old new bytes
 Wrote (Err _) old new bytes = WritesPart old new bytes
-
--- messages are not written where a writer fails, or for want of memory
-abbrev pub IsSendFault : ServeFault → Type 0
-IsSendFault Write = Unit {0}
-IsSendFault NoMemory = Unit {0}
-IsSendFault fault = ⊥
-
-abbrev pub Sends : Result (Unit {0}) ServeFault → Type 0
-Sends (Ok _) = Unit {0}
-Sends (Err fault) = IsSendFault fault

@@ -354,7 +354,8 @@ fn a_lock_is_granted_once_it_is_free(rt: HostRuntime) -> Result<(), Fail> {
     Ok(())
 }
 
-/// Whether an error asks for service once, and MAV shows until the client has taken its answer.
+/// Whether an error asks for service once, in the message after the one that enabled it, and MAV shows until the client
+/// has taken its answer.
 fn asks_for_service<D: Desk>(client: &mut Client, desk: &mut D) -> bool {
     let is_so = client.bids(desk, b"*SRE 4")
         && client.notices_none(desk)
@@ -367,9 +368,18 @@ fn asks_for_service<D: Desk>(client: &mut Client, desk: &mut D) -> bool {
     is_so && client.shows(desk, 0, 20) && client.shows(desk, TAKEN, 4) && !client.has_message(desk)
 }
 
+/// Whether that is so for the second of two sessions, and the first is told of the same request, without MAV.
 fn joins_and_asks_for_service<D: Desk>(alloc: Global, desk: &mut D) -> bool {
+    let mut other = Client::new(alloc);
     let mut client = Client::new(alloc);
-    let is_so = client.joins(desk, 1) && asks_for_service(&mut client, desk);
+    let is_so = other.joins(desk, 1)
+        && client.joins(desk, 2)
+        && asks_for_service(&mut client, desk)
+        && other.notices(desk, 68)
+        && other.notices_none(desk)
+        && other.shows(desk, 0, 68)
+        && other.shows(desk, 0, 4);
+    drop(other);
     drop(client);
     is_so
 }

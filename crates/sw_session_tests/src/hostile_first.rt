@@ -95,6 +95,7 @@ fn refuses_prologue(alloc: Global, prologue: [u8; 2]) -> bool {
 fn a_wrong_prologue_is_fatal(rt: HostRuntime) {
     assert!(rt;
         refuses_prologue(rt.alloc(), *b"HX")
+            && refuses_prologue(rt.alloc(), *b"HT")
             && refuses_prologue(rt.alloc(), *b"hS")
             && refuses_prologue(rt.alloc(), *b"SH")
             && refuses_prologue(rt.alloc(), [0, 0])
@@ -111,6 +112,32 @@ fn another_first_message_is_fatal(rt: HostRuntime) {
     for kind in 1..=255u8 {
         assert!(rt; begins_not_by(rt.alloc(), kind));
     }
+}
+
+/// Whether no session begins by this sub-address.
+fn begins_not_at(alloc: Global, sub_address: &[u8]) -> bool {
+    let it = line(INITIALIZE, 0, 0x0100_5858, sub_address);
+    begins_not(alloc, fails(it, 3), ServeFault::Fatal)
+}
+
+/// Whether no session begins by this byte, wherever it stands in a sub-address.
+fn begins_not_with(alloc: Global, byte: u8) -> bool {
+    begins_not_at(alloc, &[byte])
+        && begins_not_at(alloc, &[byte, b'h', b'i', b's', b'l', b'i', b'p', b'0'])
+        && begins_not_at(alloc, &[b'h', b'i', b's', byte, b'l', b'i', b'p', b'0'])
+        && begins_not_at(alloc, &[b'h', b'i', b's', b'l', b'i', b'p', b'0', byte])
+}
+
+#[test]
+fn a_sub_address_that_is_none_is_fatal(rt: HostRuntime) -> Result<(), Fail> {
+    let long = Vec::from_elem(rt.alloc(), b'h', 257)?;
+    assert!(rt;
+        begins_not_at(rt.alloc(), &long)
+            && begins_not_with(rt.alloc(), 128)
+            && begins_not_with(rt.alloc(), 233)
+            && begins_not_with(rt.alloc(), 255)
+    );
+    Ok(())
 }
 
 /// Whether a session is ended by such a message, which initializes once more.

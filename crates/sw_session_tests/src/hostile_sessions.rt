@@ -4,9 +4,9 @@ use crate::clients::{Client, FIRST, Fields, IDENTITY, TAKEN, bench, carrying, pl
 use crate::hostile::{Halves, Row, Watched, line, quiet, sent_by, serve_on};
 use std::alloc::Global;
 use std::test::Fail;
-use sw_core::SessionAsk;
+use sw_core::{SessionAnswer, SessionAsk, Sid};
 use sw_hislip::Kind;
-use sw_session::{Channel, Desk, Step};
+use sw_session::{Channel, Desk, Step, View, Wake, serve_async};
 
 /// Whether an answer is the identity in parts of so many bytes.
 fn is_cut(step: &Step, part: usize) -> bool {
@@ -167,6 +167,120 @@ fn a_connection_without_its_session_does_nothing_to_the_next(rt: HostRuntime) ->
         assert!(rt; is_so);
     }
     Ok(())
+}
+
+/// A desk on which the session whose status is looked at leaves before the third look, and another takes its number. The
+/// first look is at the beginning of a second connection, and one is before each of its messages.
+#[derive(Drop)]
+struct Succeeded<D: Desk> {
+    desk: D,
+    looks: u32,
+    next: Option<Sid>,
+    /// How often the session that had the number before has left.
+    leaves: u32,
+}
+
+impl<D: Desk> Succeeded<D> {
+    /// Another session takes the number of this one, with its second connection.
+    fn succeed(&mut self, sid: Sid) {
+        drop(self.desk.ask(SessionAsk::Leave(sid)));
+        let answer = self.desk.ask(SessionAsk::Join);
+        match &answer {
+            SessionAnswer::Joined(next) => self.next = Some(*next),
+            _ => {}
+        }
+        drop(answer);
+        drop(self.desk.ask(SessionAsk::Attach(sid.number)));
+    }
+
+    /// Whether the other session stands, with this number and its second connection.
+    fn stands(&mut self, number: u8) -> bool {
+        let Some(next) = self.next else {
+            return false;
+        };
+        let answer = self.desk.ask(SessionAsk::Attached(next));
+        let is_so = next.number == number && matches!(&answer, SessionAnswer::Done(None));
+        drop(answer);
+        is_so
+    }
+}
+
+impl<D: Desk> Desk for Succeeded<D> {
+    ghost passes = { λ old entry new. Unit {0} };
+
+    fn ask(&mut self, ask: SessionAsk) -> SessionAnswer {
+        if matches!(&ask, SessionAsk::Leave(_)) {
+            self.leaves = self.leaves.saturating_add(1);
+        }
+        self.desk.ask(ask)
+    }
+
+    fn wait(&mut self, limit_ms: Option<u32>) -> Wake {
+        self.desk.wait(limit_ms)
+    }
+
+    fn poll(&mut self, sid: Sid) -> View {
+        self.looks = self.looks.saturating_add(1);
+        if self.looks == 3 {
+            self.succeed(sid);
+        }
+        self.desk.poll(sid)
+    }
+
+    fn note(&mut self, sid: Sid, mav: bool) {
+        self.desk.note(sid, mav)
+    }
+}
+
+/// The second connection of session 3: its size is told, and told again once its number is another's.
+fn late() -> [Row<'static>; 3] {
+    [
+        quiet(line(17, 0, 3, b"")),
+        quiet(line(15, 0, 0, &[17])),
+        quiet(line(15, 0, 0, &[18])),
+    ]
+}
+
+/// What is said to that: AsyncInitializeResponse, and the answer to the first size alone.
+const LATE_SAID: &[u8] = b"HS\x12\x00\x00\x00SW\x00\x00\x00\x00\x00\x00\x00\x00\
+HS\x10\x00\x00\x00\x00\x00\x00\x00\x00\x00\x00\x00\x00\x08\x00\x00\x00\x00\x00\x01\x00\x00";
+
+/// Whether the server of a second connection ends at the first message after its number went to another session, has
+/// left once by itself, and that other session stands.
+fn ends_late<D: Desk>(alloc: Global, desk: &mut Succeeded<D>, sent: &[u8]) -> bool {
+    let mut reader = Halves {
+        front: sent,
+        rest: b"",
+    };
+    let mut main = Vec::new(alloc);
+    let mut side: Vec<u8> = Vec::new(alloc);
+    let result = serve_async(alloc, &mut reader, &mut main, &mut side, desk);
+    let is_over = result == Ok(()) && main.as_slice() == LATE_SAID && side.is_empty();
+    is_over && desk.leaves == 1 && desk.stands(3)
+}
+
+/// Whether that is so for the third of three sessions.
+fn is_succeeded(alloc: Global) -> bool {
+    let (Some(sent), Some(desk)) = (sent_by(alloc, &late()), bench(alloc)) else {
+        return false;
+    };
+    let mut desk = Succeeded {
+        desk,
+        looks: 0,
+        next: None,
+        leaves: 0,
+    };
+    for _ in 0..3 {
+        drop(desk.ask(SessionAsk::Join));
+    }
+    let is_so = ends_late(alloc, &mut desk, sent.as_slice());
+    drop(desk);
+    is_so
+}
+
+#[test]
+fn a_late_second_connection_does_nothing_to_the_next_session(rt: HostRuntime) {
+    assert!(rt; is_succeeded(rt.alloc()));
 }
 
 /// Begins a scan that awaits the bus.

@@ -350,7 +350,8 @@ fn time_limits_and_interrupts_are_no_faults(rt: HostRuntime) {
 }
 
 /// Whether a writer that fails after so many bytes has the front of the answer, and the session leaves. That a message
-/// is available is noted only once its last part was written.
+/// is available is noted where its last part is handed to the writer, before it is written, and not where a part before
+/// it fails.
 fn stops_writing(alloc: Global, room: usize) -> bool {
     let mut reader = Pieces::new(TALK, 512, 512);
     let mut main = Narrow {
@@ -362,7 +363,7 @@ fn stops_writing(alloc: Global, room: usize) -> bool {
     let result = serve_sync(alloc, &mut reader, &mut main, &mut side, &mut desk);
     let (notes, leaves) = (desk.notes, desk.leaves);
     drop(desk);
-    let noted = if room < 69 { 0 } else { 1 };
+    let noted = if room < 43 { 0 } else { 1 };
     let served = Served {
         result,
         main: main.bytes,

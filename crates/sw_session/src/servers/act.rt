@@ -2,7 +2,7 @@
 
 ghost use Rattle.std.specs.Prelude.{◌≡◌};
 ghost use Rattle.std.specs.List.{list_any};
-ghost use Rattle.sw_session.specs.Serve.{Judges, after_step, is_refused, is_fatal, is_last_part};
+ghost use Rattle.sw_session.specs.Serve.{Judges, after_step, is_refused, is_fatal};
 ghost use Rattle.sw_session.specs.declared.engine.step.Sent.{Sent};
 
 use crate::desk::Desk;
@@ -70,14 +70,6 @@ fn has_fatal(said: &[Sent]) -> bool
 {
     said.iter()
         .any(|sent| matches!(sent.message.kind, Kind::FatalError))
-}
-
-/// Whether any of the messages is the last part of an answer.
-pub fn has_last_part(said: &[Sent]) -> bool
-    ensures { result ≡ list_any (λ (s : Sent). is_last_part s.message.kind) said.now }
-{
-    said.iter()
-        .any(|sent| matches!(sent.message.kind, Kind::DataEnd))
 }
 
 /// How the channel goes on after a step.

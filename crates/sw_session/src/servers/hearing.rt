@@ -1,32 +1,19 @@
 //! Acts of an engine, and what is said to them.
 
 ghost use Rattle.std.specs.Prelude.{◌≡◌, ◌⊎◌, Err, IfOk};
-ghost use Rattle.sw_session.specs.Trace.{Leads};
 ghost use Rattle.sw_session.specs.ServeRead.{CameTo};
-ghost use Rattle.sw_session.specs.Serve.{Hears, HearsEach, Judges, acts_for, is_refused, availability_notes, point};
+ghost use Rattle.sw_session.specs.Serve.{Hears, HearsEach, Judges, acts_for, is_refused, point};
 ghost use Rattle.sw_session.specs.Serve.{voice};
 
 use crate::desk::Desk;
-use crate::engine::{Channel, Sent};
-use crate::servers::act::{Act, AfterStep, Handler, after_step, has_last_part, is_refused};
+use crate::engine::Channel;
+use crate::servers::act::{Act, AfterStep, Handler, after_step, is_refused};
 use crate::servers::fault::ServeFault;
-use crate::servers::sending::send_all;
+use crate::servers::sending::hand_all;
 use crate::servers::writing::Sink;
 use std::alloc::Global;
-use sw_core::Sid;
 
-/// Notes that a message is available where the last part of an answer was written.
-fn note<D: Desk>(sid: Option<Sid>, said: &[Sent], desk: &mut D)
-    ensures { Leads D.passes desk.old (availability_notes sid said.now) desk.new }
-{
-    if let Some(sid) = sid {
-        if has_last_part(said) {
-            desk.note(sid, true);
-        }
-    }
-}
-
-/// Asks the engine for an act, and writes what it says.
+/// Asks the engine for an act, and hands over what it says.
 fn hear<E: Handler, W: Sink, S: Sink, D: Desk>(
     alloc: Global,
     own: Channel,
@@ -46,11 +33,9 @@ fn hear<E: Handler, W: Sink, S: Sink, D: Desk>(
     let Ok(step) = engine.handle(alloc, act, desk) else {
         return Err(ServeFault::NoMemory);
     };
-    match send_all(alloc, own, step.out.as_slice(), writer, side) {
-        Ok(()) => {
-            note(engine.session(), step.out.as_slice(), desk);
-            Ok(after_step(refused, &step))
-        }
+    let session = engine.session();
+    match hand_all(alloc, own, session, step.out.as_slice(), writer, side, desk) {
+        Ok(()) => Ok(after_step(refused, &step)),
         Err(fault) => Err(fault),
     }
 }

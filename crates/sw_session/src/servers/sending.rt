@@ -1,15 +1,19 @@
 //! Messages to the writers.
 
 ghost use Rattle.std.specs.Prelude.{◌≡◌, ◌⊎◌, Err, OnErr};
-ghost use Rattle.std.specs.List.{flat_map};
+ghost use Rattle.sw_hislip.specs.Wire.{wire};
 ghost use Rattle.sw_session.specs.ServeRead.{CameTo};
-ghost use Rattle.sw_session.specs.ServeWrite.{is_own, wire_on, wire_off, Wrote, Sends};
+ghost use Rattle.sw_session.specs.ServeHand.{Hands, manner, outlets, notes_before, is_last_part};
+ghost use Rattle.sw_session.specs.ServeWrite.{is_own, wire_on, wire_off, Wrote};
+ghost use Rattle.sw_session.specs.Trace.{Leads};
 
+use crate::desk::Desk;
 use crate::engine::{Channel, Sent};
 use crate::servers::fault::ServeFault;
-use crate::servers::writing::Sink;
+use crate::servers::writing::{Sink, Unwritten};
 use std::alloc::Global;
-use sw_hislip::encode;
+use sw_core::Sid;
+use sw_hislip::{Kind, encode};
 
 /// Whether a message of that channel goes to the writer of this one.
 fn is_own(own: Channel, other: Channel) -> bool
@@ -22,60 +26,73 @@ fn is_own(own: Channel, other: Channel) -> bool
     }
 }
 
-/// Writes all of the bytes, or a front part of them where that fails.
-fn write<W: Sink>(writer: &mut W, bytes: &[u8]) -> Result<(), ServeFault>
-    ensures wrote { Wrote result (W.contents writer.old) (W.contents writer.new) bytes.now }
-    ensures fault { Sends result }
-    ensures cause { OnErr result (W.failed writer.old writer.new) }
+/// Whether a message is the last part of an answer.
+fn is_last_part(kind: Kind) -> bool
+    ensures { result ≡ is_last_part kind }
 {
-    match writer.deliver(bytes) {
-        Ok(()) => Ok(()),
-        Err(_) => Err(ServeFault::Write),
+    matches!(kind, Kind::DataEnd)
+}
+
+/// Notes that a message is available for the session, where this is the last part of an answer.
+fn note<D: Desk>(session: Option<Sid>, sent: &Sent, desk: &mut D)
+    ensures { Leads D.passes desk.old (notes_before session sent.now) desk.new }
+{
+    if let Some(sid) = session {
+        if is_last_part(sent.message.kind) {
+            desk.note(sid, true);
+        }
     }
 }
 
-/// Writes one message, header and payload together, to the writer of its channel.
-fn send<W: Sink, S: Sink>(
-    alloc: Global,
+/// Hands the bytes of a message to the writer of its channel: all of them, or a front part where that fails. Before the
+/// last part of an answer it notes that a message is available.
+fn hand_over<W: Sink, S: Sink, D: Desk>(
     own: Channel,
+    session: Option<Sid>,
     sent: &Sent,
+    bytes: &[u8],
     writer: &mut W,
     side: &mut S,
-) -> Result<(), ServeFault>
+    desk: &mut D,
+) -> Result<(), Unwritten>
+    requires { bytes.now ≡ wire sent.now.message }
+    ensures notes { Leads D.passes desk.old (notes_before session sent.now) desk.new }
     ensures main { Wrote result (W.contents writer.old) (W.contents writer.new) (wire_on own sent.now) }
     ensures side { Wrote result (S.contents side.old) (S.contents side.new) (wire_off own sent.now) }
-    ensures fault { Sends result }
-    ensures cause { result ≡ Err ServeFault.Write → CameTo W.failed writer.new ⊎ CameTo S.failed side.new }
+    ensures cause { OnErr result (CameTo W.failed writer.new ⊎ CameTo S.failed side.new) }
 {
-    let Ok(bytes) = encode(alloc, &sent.message) else {
-        return Err(ServeFault::NoMemory);
-    };
+    note(session, sent, desk);
     if is_own(own, sent.channel) {
-        write(writer, bytes.as_slice())
+        writer.deliver(bytes)
     } else {
-        write(side, bytes.as_slice())
+        side.deliver(bytes)
     }
 }
 
-/// Writes messages, one after another.
-pub fn send_all<W: Sink, S: Sink>(
+/// Hands messages over, one after another, header and payload of each together.
+pub fn hand_all<W: Sink, S: Sink, D: Desk>(
     alloc: Global,
     own: Channel,
+    session: Option<Sid>,
     out: &[Sent],
     writer: &mut W,
     side: &mut S,
+    desk: &mut D,
 ) -> Result<(), ServeFault>
-    ensures main { Wrote result (W.contents writer.old) (W.contents writer.new) (flat_map (wire_on own) out.now) }
-    ensures side { Wrote result (S.contents side.old) (S.contents side.new) (flat_map (wire_off own) out.now) }
-    ensures fault { Sends result }
+    ensures hands { Hands (manner D.passes session own)
+        (outlets desk.old (W.contents writer.old) (S.contents side.old))
+        (outlets desk.new (W.contents writer.new) (S.contents side.new)) out.now result }
     ensures cause { result ≡ Err ServeFault.Write → CameTo W.failed writer.new ⊎ CameTo S.failed side.new }
 {
     let mut left = out;
     while let Some((first, rest)) = left.split_first() {
-        if let Err(fault) = send(alloc, own, first, writer, side) {
-            return Err(fault);
+        let Ok(bytes) = encode(alloc, &first.message) else {
+            return Err(ServeFault::NoMemory);
+        };
+        match hand_over(own, session, first, bytes.as_slice(), writer, side, desk) {
+            Ok(()) => left = rest,
+            Err(_) => return Err(ServeFault::Write),
         }
-        left = rest;
     }
     Ok(())
 }

@@ -3,15 +3,15 @@ use Rattle.sw_session.specs.Serve.{voice}
 use Rattle.sw_session.proofs.ServeParts.{hears-ok, hears-err, hears-starved}
 use Rattle.sw_session.proofs.servers.hearing.hear.Goals as goal
 
-pub returns-in-Ok-send_all-clause-heard : goal.returns-in-Ok-send_all-clause-heard
-returns-in-Ok-send_all-clause-heard g c =
-    hears-ok (voice g.E.Handler.protocol g.D.Desk.passes c.args.own) _ _ _ c.handle.new.desk _ _ _ _ _ c.args.act c.in-Ok.step _ _ c.in-Ok.ensures.ok
-    (search rules) c.note.ensures (search rules) (search rules) (search rules)
+pub returns-in-Ok-hand_all-clause-heard : goal.returns-in-Ok-hand_all-clause-heard
+returns-in-Ok-hand_all-clause-heard g c =
+    hears-ok (voice g.E.Handler.protocol g.D.Desk.passes c.args.own) _ _ _ _ _ _ _ _ _ c.args.act c.in-Ok.step _ c.in-Ok.ensures.ok
+    (search rules) (search rules)
 
 pub returns-clause-heard : goal.returns-clause-heard
 returns-clause-heard g c =
-    hears-err (voice g.E.Handler.protocol g.D.Desk.passes c.args.own) _ _ _ _ _ _ _ _ c.args.act c.in-Ok.step c.in-Err.fault c.in-Ok.ensures.ok
-    (search rules) (search rules) (search rules)
+    hears-err (voice g.E.Handler.protocol g.D.Desk.passes c.args.own) _ _ _ _ _ _ _ _ _ c.args.act c.in-Ok.step c.in-Err.fault c.in-Ok.ensures.ok
+    (search rules)
 
 pub returns-in_default-clause-heard : goal.returns-in_default-clause-heard
 returns-in_default-clause-heard g c =

@@ -1,4 +1,4 @@
-use Rattle.std.proofs.Common.{◌∙◌, Ok, Err, refl}
+use Rattle.std.proofs.Common.{◌∙◌, Ok}
 use Rattle.sw_session.proofs.Talks.{serve-unit}
 use Rattle.sw_session.proofs.talker.Talker.serve_asked.Goals as goal
 
