@@ -8,9 +8,11 @@ use sw_code::{ListError, ListFault, Step, read_listing};
 use sw_verify::{Layout, Refusal};
 
 /// Why a text lists no code.
-pub fn explain_fault(alloc: Global, error: ListError) -> Option<String> {
+pub fn explain_fault(alloc: Global, text: &[u8], error: ListError) -> Option<String> {
     let line = error.line;
     let cause = match error.kind {
+        ListFault::BadStep if ends_in_return(text, line) =>
+            "a line ends with a line feed alone, and here a carriage return stands before it",
         ListFault::BadStep if line == 1 => "a listing begins with `scan 1` and a line feed",
         ListFault::BadStep if line == 2 =>
             "the second line is `meter`, a space, a slot and a line feed",
@@ -20,6 +22,22 @@ pub fn explain_fault(alloc: Global, error: ListError) -> Option<String> {
         ListFault::NoMemory => "memory ran out",
     };
     format!(in alloc; "line {line}: {cause}").ok()
+}
+
+/// Whether a carriage return stands before the line feed of this line.
+fn ends_in_return(text: &[u8], line: u32) -> bool {
+    let mut lines_left = line;
+    let mut before = 0;
+    for byte in text {
+        if *byte == b'\n' {
+            lines_left = lines_left.saturating_sub(1);
+            if lines_left == 0 {
+                return before == b'\r';
+            }
+        }
+        before = *byte;
+    }
+    false
 }
 
 /// Why the code that a text lists is refused here.

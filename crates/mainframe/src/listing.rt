@@ -106,7 +106,7 @@ fn faulty(alloc: Global, text: &[u8], error: ListError) -> Result<Judgement, Run
     let Ok(line) = faulty_line(alloc, error) else {
         return Err(RunFault::Memory);
     };
-    Ok(turned_down(line, explain_fault(alloc, error)))
+    Ok(turned_down(line, explain_fault(alloc, text, error)))
 }
 
 /// What is to be said of a text that lists this code.
