@@ -20,7 +20,7 @@ use sw_trigger::Settings;
 use sw_verify::Layout;
 
 /// What the drivers of several cards did, in order: by threes of decimal digits the slot, the channel, and 1 for on.
-type Record = Arc<AtomicU64, Global>;
+pub type Record = Arc<AtomicU64, Global>;
 
 /// A driver that writes into the record what it is asked to drive.
 #[derive(Drop)]
@@ -119,7 +119,7 @@ fn keeps_order_at_rest<R: Relay, M: Meter>(
 }
 
 /// Two cards of group 1 and between them one of no group, which write into the record.
-fn recorded(alloc: Global, record: &Record) -> Result<(Relays, Relays, Relays), AllocError> {
+pub fn recorded(alloc: Global, record: &Record) -> Result<(Relays, Relays, Relays), AllocError> {
     let first: Relays = Box::new(alloc, recording(1, 1, record)?)?;
     let second: Relays = Box::new(alloc, recording(2, 0, record)?)?;
     let third: Relays = Box::new(alloc, recording(3, 1, record)?)?;
@@ -178,7 +178,7 @@ fn the_channels_of_a_position_keep_their_order(rt: HostRuntime) -> Result<(), Fa
 }
 
 /// Two cards and one whose first closing fails, which write into the record.
-fn recorded_with_fuse(
+pub fn recorded_with_fuse(
     alloc: Global,
     record: &Record,
 ) -> Result<(Relays, Relays, Relays), AllocError> {

@@ -18,6 +18,8 @@ mod hostile;
 #[cfg(test)]
 mod hostile_memory;
 #[cfg(test)]
+mod lists;
+#[cfg(test)]
 mod positions;
 #[cfg(test)]
 mod scans;
