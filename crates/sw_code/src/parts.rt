@@ -5,8 +5,8 @@ ghost use Rattle.std.specs.List.{list_all};
 ghost use Rattle.std.specs.Str.{bytes_eq};
 ghost use Rattle.sw_base.specs.Text.{AllPass, is_digit};
 ghost use Rattle.sw_base.specs.Number.{value_of};
-ghost use Rattle.sw_code.specs.Reading.{parts_at, is_numeral, number_in, channel_in, joined_with, joined_in, position_in};
-ghost use Rattle.sw_code.specs.Reading.{then_read};
+ghost use Rattle.sw_code.specs.Reading.{parts_at, is_numeral, number_in, channel_in, joined_with, joined_in};
+ghost use Rattle.sw_code.specs.Reading.{position_in, then_read};
 
 use crate::fault::ListFault;
 use sw_base::{CHANNELS, Chan, SLOTS, is_digit, split_once};

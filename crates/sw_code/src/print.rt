@@ -3,7 +3,8 @@
 ghost use Rattle.std.specs.Prelude.{◌≡◌, ◌++◌, [], ◌∷◌, List, ℕ, Ok, IfOk, IfErr, OnOk, decimal};
 ghost use Rattle.std.specs.List.{AllByRecursion, join_with_byte};
 ghost use Rattle.sw_base.specs.declared.error.ScpiError.TheVariants.{OutOfMemory};
-ghost use Rattle.sw_code.specs.Listing.{channel_text, position_text, others_text, parts_of, line_of, listed_lines, listing_of, layer_word};
+ghost use Rattle.sw_code.specs.Listing.{channel_text, position_text, others_text, parts_of, line_of, listed_lines};
+ghost use Rattle.sw_code.specs.Listing.{listing_of, layer_word};
 ghost use Rattle.sw_code.specs.Reading.{code_in};
 ghost use Rattle.sw_code.specs.Range.{IsInChannelRange, IsPositionInRange, HasPosition, IsProgramInRange};
 ghost use Rattle.sw_code.specs.declared.code.Step.TheVariants as step;

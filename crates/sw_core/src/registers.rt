@@ -59,7 +59,8 @@ impl<R: Relay, M: Meter> Core<R, M> {
     /// The channels of the scan.
     #[inline(never)]
     pub(crate) fn scan_query(&self, alloc: Global) -> SessionAnswer
-        ensures { StepText self.now (printed_positions self.now.settings.list) self.now.status Bool.false result self.now }
+        ensures { StepText self.now (printed_positions self.now.settings.list) self.now.status Bool.false result
+            self.now }
     {
         match print_positions(alloc, self.settings.list()) {
             Ok(text) => SessionAnswer::Done(Some(Sequence::new(text))),

@@ -108,7 +108,8 @@ impl Settings {
         Ok(())
     }
 
-    /// Sets the list of positions, whose channels need not exist; -223 for more than `LIST_ENTRIES`, which keeps the old list.
+    /// Sets the list of positions, whose channels need not exist; -223 for more than `LIST_ENTRIES`, which keeps the
+    /// old list.
     pub fn set_list(&mut self, list: Vec<Position>) -> Result<(), ScpiError>
         ensures taken { IsOk result ↔ (length list.items ≤ most_entries) }
         ensures set { OnOk result (self.new ≡ record self.old { list = list.items }) }

@@ -19,7 +19,8 @@ pub fn ends_as_it_began(snapshot: &Snapshot)
 /// At each moment the closed channels are those that it found, and at most those of one of its positions more.
 pub fn closes_one_position_at_a_time(snapshot: &Snapshot)
     requires passed { IsReady snapshot.now }
-    ensures { (i : ℕ) → AtMostOneMore (IsListed snapshot.now.settings.list) (found snapshot.now) (closed_after snapshot.now i) }
+    ensures { (i : ℕ) → AtMostOneMore (IsListed snapshot.now.settings.list) (found snapshot.now)
+        (closed_after snapshot.now i) }
 {}
 
 /// Where it found present channels closed of which no two clash, it is so at each moment: it closes no absent channel,

@@ -1,6 +1,7 @@
 //! What a running scan does between two things that it awaits.
 
-ghost use Rattle.std.specs.Prelude.{◌≡◌, ◌+◌, ◌-◌, ◌≤◌, ◌∷◌, [], true, false, is_some, OnOk, OnErr, Some, None, slice_set};
+ghost use Rattle.std.specs.Prelude.{◌≡◌, ◌+◌, ◌-◌, ◌≤◌, ◌∷◌, [], true, false, is_some, OnOk, OnErr, Some, None};
+ghost use Rattle.std.specs.Prelude.{slice_set};
 ghost use Rattle.sw_base.specs.Limits.{most_slots};
 ghost use Rattle.sw_base.specs.Layout.{has_meter};
 ghost use Rattle.sw_card.specs.Account.{of_meter};
@@ -37,7 +38,8 @@ pub(crate) fn go_past<R: Relay, M: Meter>(
     requires awaits { (at : ScanSeen) → scan.old ≡ Some at → awaits at ≡ None → ⊥ }
     requires may { (at : ScanSeen) → scan.old ≡ Some at
         → MayGoOn (layout_of slots.old) (is_closed slots.old) at.setup (at.index + 1) }
-    ensures { (at : ScanSeen) → scan.old ≡ Some at → AdvancesOrFails (record { cards = slots.old; out = out.old }) number
+    ensures { (at : ScanSeen) → scan.old ≡ Some at
+        → AdvancesOrFails (record { cards = slots.old; out = out.old }) number
         (moves_from at.setup (at.index + 1)) (next_place at.setup (at.index + 1)) (taken_seen result)
         (record { cards = slots.new; out = out.new }) scan.new }
 {
@@ -61,7 +63,8 @@ pub(crate) fn go_on<R: Relay, M: Meter>(
     requires slot_in { (at : ScanSeen) → scan.old ≡ Some at → (1 ≤ at.setup.meter) × (at.setup.meter ≤ most_slots) }
     requires meter { (at : ScanSeen) → scan.old ≡ Some at → has_meter (layout_of slots.old) at.setup.meter ≡ true }
     requires may { MayMove (layout_of slots.old) (is_closed slots.old) moves.to_open moves.to_close }
-    ensures { (at : ScanSeen) → scan.old ≡ Some at → AdvancesOrFails (record { cards = slots.old; out = out.old }) number
+    ensures { (at : ScanSeen) → scan.old ≡ Some at
+        → AdvancesOrFails (record { cards = slots.old; out = out.old }) number
         (moves_of moves) at (taken_seen result)
         (record { cards = slots.new; out = out.new }) scan.new }
 {
@@ -143,6 +146,7 @@ fn close_each<R: Relay, M: Meter>(
     Ok(())
 }
 
+/// Opens a channel that is closed.
 fn open_one<R: Relay, M: Meter>(slots: &mut Slots<R, M>, chan: Chan) -> Result<(), CardFault>
     requires { is_closed slots.old chan ≡ true }
     ensures ok { OnOk result (Sets slots.old (chan ∷ []) false slots.new) }
@@ -152,6 +156,7 @@ fn open_one<R: Relay, M: Meter>(slots: &mut Slots<R, M>, chan: Chan) -> Result<(
     slots.open(chan)
 }
 
+/// Closes a channel that may be closed.
 fn close_one<R: Relay, M: Meter>(slots: &mut Slots<R, M>, chan: Chan) -> Result<(), CardFault>
     requires { CanCloseOne (layout_of slots.old) (is_closed slots.old) chan }
     ensures ok { OnOk result (Sets slots.old (chan ∷ []) true slots.new) }
