@@ -301,12 +301,18 @@ plain-same : {T : Type 0} (b b' : T) (t t' r r' : List Entry) (s after after' : 
 plain-same b b' t t' r r' s after after' answers told told' (go, is, left) (go', is', left') next =
     rw (← left, ← left') (next (go ∙ sym go') (is ∙ sym is'))
 
+-- what comes of a text that joined the answers
+joined-plain : (answers told : List (List ℕ)) (s after : AfterUnit) (r t : List Entry) (room : Type 0) → (after ≡ s) × (told ≡ answers) × (r ≡ t) × room
+    → (after ≡ s) × (told ≡ answers) × (r ≡ t)
+joined-plain answers told s after r t room (go, is, left, fits) = (go, is, left)
+
 concludes-same : {T : Type 0} (b b' : T) (sid : Sid) (answers : List (List ℕ)) (f : SessionAnswer) (t t' r r' : List Entry) (after after' : AfterUnit)
     (told told' : List (List ℕ)) → Concludes sid answers f t after told r → Concludes sid answers f t' after' told' r'
     → (after ≡ after' → told ≡ told' → Rests b b' r r') → Rests b b' t t'
 concludes-same b b' sid answers (Done (Some text)) t t' r r' after after' told told' p q next = λ m n. elim p [
   | inl k ↦ elim q [
-    | inl k' ↦ plain-same b b' t t' r r' Goes after after' (answers ++ text ∷ []) told told' k k' next m n
+    | inl k' ↦ plain-same b b' t t' r r' Goes after after' (answers ++ text ∷ []) told told' (joined-plain (answers ++ text ∷ []) told Goes after r t _ k)
+        (joined-plain (answers ++ text ∷ []) told' Goes after' r' t' _ k') next m n
     | inr lost ↦ absurd (no-loss sid t' r' lost.0 n lost.1)
   ]
   | inr lost ↦ absurd (no-loss sid t r lost.0 m lost.1)

@@ -1,5 +1,5 @@
 -- What is asked after each answer, and what is written (IEEE 488.2, 6.3, 8.4 and 10.7; SCPI-1999, 21.8).
-use Rattle.std.specs.Prelude.{◌≡◌, ℕ, ◌+◌, ◌^◌, ◌⊎◌, ◌==◌, Bool, true, false, nat_lt, nat_le, ◌&&◌, MatchBool, List, []}
+use Rattle.std.specs.Prelude.{◌≡◌, ℕ, ◌+◌, ◌^◌, ◌≤◌, ◌⊎◌, ◌==◌, Bool, true, false, nat_lt, nat_le, ◌&&◌, MatchBool, List, []}
 use Rattle.std.specs.Prelude.{◌∷◌, ◌++◌, Some, None, Result, Ok, Err, length, if◌then◌else◌}
 use Rattle.sw_base.specs.Limits.{most_bytes}
 use Rattle.sw_base.specs.declared.error.ScpiError.{ScpiError}
@@ -37,6 +37,14 @@ abbrev pub answer_line : List (List ℕ) → List ℕ
 answer_line [] = []
 answer_line (a ∷ []) = a ++ 10 ∷ []
 answer_line (a ∷ b ∷ answers) = a ++ 59 ∷ answer_line (b ∷ answers)
+
+-- bytes of the answers to one program message, with what stands between them and the line feed
+abbrev pub most_answer_bytes : ℕ
+most_answer_bytes = 16777216
+
+-- there is room for these answers to one message
+abbrev pub HasRoom : List (List ℕ) → Type 0
+HasRoom answers = length (answer_line answers) ≤ most_answer_bytes
 
 -- whether anything was answered
 abbrev pub has_answers : List (List ℕ) → Bool
@@ -152,11 +160,11 @@ after_unit (Done text) = Goes
 after_unit (Refused e) = if is_command_error e then Drops else Goes
 after_unit answer = Ends
 
--- A text joins the answers so far, or there was no memory for it and that error is queued.
+-- A text joins the answers so far where there is room for it, or there was none, or no memory, and -225 is queued.
 abbrev pub Concludes : Sid → List (List ℕ) → SessionAnswer → List Entry → AfterUnit → List (List ℕ) → List Entry
     → Type 0
 Concludes sid answers (Done (Some text)) trace after answers' rest =
-    ((after ≡ Goes) × (answers' ≡ answers ++ text ∷ []) × (rest ≡ trace))
+    ((after ≡ Goes) × (answers' ≡ answers ++ text ∷ []) × (rest ≡ trace) × HasRoom (answers ++ text ∷ []))
     ⊎ ((final : SessionAnswer)
     × Queues sid OutOfMemory trace final rest × (after ≡ after_unit final) × (answers' ≡ answers))
 Concludes sid answers answer trace after answers' rest =
@@ -323,10 +331,10 @@ ConcludesLine passes sid answer a after b =
     → (answers' : List (List ℕ)) × (b.line ≡ answer_line answers')
     × Led passes a.desk b.desk (λ trace rest. Concludes sid answers answer trace after answers' rest)
 
--- a text joins the answers that are written
+-- a text joins the answers that are written, and there is room for it
 abbrev pub JoinsLine : List ℕ → List ℕ → List ℕ → Type 0
 JoinsLine out text out' = (answers : List (List ℕ)) → out ≡ answer_line answers
-    → out' ≡ answer_line (answers ++ text ∷ [])
+    → (out' ≡ answer_line (answers ++ text ∷ [])) × HasRoom (answers ++ text ∷ [])
 
 -- whether answers that are written are any
 abbrev pub TellsAnswered : List ℕ → Bool → Type 0

@@ -39,6 +39,7 @@ pub use laws::{
     core_rest_is_determined, core_talk_is_determined, parts_are_one_message, talk_is_determined,
     work_is_done_in_order, work_is_kept_where_there_is_room,
 };
+pub use line::ANSWER_BYTES;
 pub use servers::{
     Act, Handler, Memory, ServeFault, Sink, Source, Unread, Unwritten, serve_async,
     serve_async_for, serve_for, serve_sync, serve_sync_for, write_all,

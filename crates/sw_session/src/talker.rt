@@ -45,7 +45,8 @@ impl Talker {
     /// whole, with error -363. A unit that calls a macro is replaced by its expansion, whose units are final. An error
     /// from -100 to -199 drops the rest of the message, any other its unit alone. Where the desk answers that the
     /// session is being cleared, is joined no more, or that nothing more can be numbered, nothing is written. An answer
-    /// or an expansion that finds no memory is dropped, with error -225.
+    /// or an expansion that finds no memory is dropped, with error -225, as is an answer with which the line would have
+    /// more than `ANSWER_BYTES`.
     pub fn message<D: Desk>(&mut self, text: &[u8], desk: &mut D) -> Vec<u8>
         ensures talked { Talked D.passes self.old.sid (state desk.old self.old.macros)
             text.now result.items (state desk.new self.new.macros) }
@@ -292,8 +293,8 @@ fn has_answers(out: &[u8]) -> bool
     !out.is_empty()
 }
 
-/// Adds a unit's answer to those that are written. Where there is no memory for it, it is dropped and that error
-/// queued.
+/// Adds a unit's answer to those that are written. Where there is no room or no memory for it, it is dropped and that
+/// error queued.
 fn conclude<D: Desk>(desk: &mut D, sid: Sid, answer: SessionAnswer, out: &mut Vec<u8>) -> AfterUnit
     ensures { ConcludesLine D.passes sid answer
         (written_at desk.old out.old.items) result (written_at desk.new out.new.items) }

@@ -19,4 +19,6 @@ mod hostile_second;
 #[cfg(test)]
 mod hostile_sessions;
 #[cfg(test)]
+mod room;
+#[cfg(test)]
 mod servers;
