@@ -2,6 +2,7 @@
 
 ghost use Rattle.std.specs.Prelude.{◌≡◌, ◌+◌, ◌<◌, ◌^◌};
 
+use std::alloc::Global;
 use std::net::TcpListener;
 use std::thread;
 use std::time::{Clock, Duration};
@@ -14,17 +15,19 @@ const REST_MS: u64 = 10;
 #[derive(Drop)]
 pub struct Port<'a, W: Clock + Copy + Drop> {
     rt: W,
+    alloc: Global,
     listener: &'a TcpListener,
     pub taken: u32,
 }
 
 impl<'a, W: Clock + Copy + Drop> Port<'a, W> {
     /// One that no connection came to yet.
-    pub fn new(rt: W, listener: &'a TcpListener) -> Self
+    pub fn new(rt: W, alloc: Global, listener: &'a TcpListener) -> Self
         ensures { result.taken ≡ 0 }
     {
         Port {
             rt,
+            alloc,
             listener,
             taken: 0,
         }
@@ -40,6 +43,6 @@ impl<'a, W: Clock + Copy + Drop> Port<'a, W> {
             thread::sleep(&self.rt, Duration::from_millis(REST_MS));
             return None;
         };
-        Tcp::new(stream).ok()
+        Tcp::new(self.alloc, stream).ok()
     }
 }

@@ -58,7 +58,7 @@ pub fn serve_on<W: Threads + Wait + Clock + Copy + Drop + Send + Sync + 'static>
         return Err(RunFault::Memory);
     };
     let meter: Box<dyn Meter + Send> = boxed;
-    let mut port = Port::new(rt, listener);
+    let mut port = Port::new(rt, alloc, listener);
     serve_cards(rt, alloc, &mut port, limit, first, second, third, meter)
 }
 
@@ -182,7 +182,7 @@ fn start_workers<
         workers.start(rt, 0, move || measure(theirs, jobs));
     }
     if let Ok(theirs) = Arc::try_clone(lobby) {
-        workers.start(rt, 1, move || wait_out(alloc, theirs, pauses));
+        workers.start(rt, 1, move || wait_out(theirs, pauses));
     }
 }
 
@@ -197,12 +197,11 @@ fn measure<H: House, R: Relay, M: Meter, G: Gate + Drop, W: Wait + Clock + Copy 
 
 /// What the thread for pauses does.
 fn wait_out<H: House, R: Relay, M: Meter, G: Gate + Drop, W: Wait + Clock + Copy + Drop>(
-    alloc: Global,
     lobby: Arc<Lobby<H, R, M, G, W>, Global>,
     pauses: Receiver<Pause>,
 ) -> Left<H, R, M, G, W> {
     let desk = lobby.desk()?;
-    Some(run_timer_worker(alloc, desk, pauses))
+    Some(run_timer_worker(desk, pauses))
 }
 
 /// Takes so many connections, and starts a thread for each. Threads that ended are joined before the next one starts,

@@ -19,7 +19,7 @@ use Rattle.sw_session.specs.declared.desk.View.{View}
 use Rattle.sw_session.specs.declared.desk.Wake.{Wake}
 use Rattle.sw_session.specs.declared.desk.Wake.TheVariants.{Again, Over}
 use Rattle.sw_session.specs.Trace.{Entry, Asked, Waited, Polled, Noted, Leads}
-use Rattle.sw_session.specs.Available.{with_note}
+use Rattle.sw_session.specs.Available.{with_note, seated}
 use Rattle.sw_session.specs.CoreDesk.{DeskSeen, but_room, Carried, TellsOfPiece, Keeps, AnswersAsk, CarriesOutOldest, PassesBy, CorePasses, brought, view_of}
 use Rattle.sw_session.specs.Law.{SameCall, SameTalk, TellsPlainly, KeepsKeys, IsSmooth, AllSmooth, carried_of, waits_of}
 use Rattle.sw_session.specs.Law.{Outcome, Measured, Cards, measured, outcomes_in, outcomes_by, outcomes_of}
@@ -42,6 +42,15 @@ panels-same : (d d' : DeskSeen) (p p' : Panel) → IsSameDesk d d' → p ≡ p' 
 panels-same d d' p p' desks panels =
     ap (λ (x : DeskSeen). let r : DeskSeen = record x { panel = p } in r) desks
     ∙ ap (λ (x : Panel). let r : DeskSeen = record d' { panel = x; room = 0 } in r) panels
+
+-- a desk after an ask and its answer
+seats-same : (d d' : DeskSeen) (p p' : Panel) (ask ask' : SessionAsk) (r r' : SessionAnswer) → IsSameDesk d d' → p ≡ p' → ask ≡ ask' → r ≡ r'
+    → IsSameDesk (record d { panel = p; available = seated d.available ask r }) (record d' { panel = p'; available = seated d'.available ask' r' })
+seats-same d d' p p' ask ask' r r' desks panels asks answers =
+    ap (λ (x : DeskSeen). let r0 : DeskSeen = record x { panel = p; available = seated x.available ask r } in r0) desks
+    ∙ ap (λ (x : Panel). let r0 : DeskSeen = record d' { panel = x; available = seated d'.available ask r; room = 0 } in r0) panels
+    ∙ ap (λ (x : SessionAsk). let r0 : DeskSeen = record d' { panel = p'; available = seated d'.available x r; room = 0 } in r0) asks
+    ∙ ap (λ (x : SessionAnswer). let r0 : DeskSeen = record d' { panel = p'; available = seated d'.available ask' x; room = 0 } in r0) answers
 
 works-same : (d d' : DeskSeen) (work work' : List WorkSeen) → IsSameDesk d d' → work ≡ work'
     → IsSameDesk (record d { work = work }) (record d' { work = work' })
@@ -114,9 +123,11 @@ asked-same once d d' ask ask' r r' q q' desks asks plain plain' keys keys' a a' 
     (subst (λ (x : DeskSeen). Step x.panel (AskSession ask') a'.failed (SaysSession r' a'.brings) a'.after) (sym desks) a'.step) in
     let one = once d.panel a.after a'.after (AskSession ask) a.failed a'.failed (SaysSession r a.brings) (SaysSession r' a'.brings)
     a.step here same_failures (plain a.brings)
-    (plain' a'.brings) (keys d.panel a.brings) key in (
-      same-answer r r' a.brings a'.brings one.0,
-      keeps-same (record d { panel = a.after }) (record d' { panel = a'.after }) a.brings a'.brings q q' (panels-same d d' a.after a'.after desks one.1)
+    (plain' a'.brings) (keys d.panel a.brings) key in
+    let answers : r ≡ r' = same-answer r r' a.brings a'.brings one.0 in (
+      answers,
+      keeps-same (record d { panel = a.after; available = seated d.available ask r }) (record d' { panel = a'.after; available = seated d'.available ask' r' })
+          a.brings a'.brings q q' (seats-same d d' a.after a'.after ask ask' r r' desks one.1 asks answers)
           (same-work r r' a.brings a'.brings one.0) a.keeps a'.keeps,
     )
 

@@ -14,7 +14,8 @@ use Rattle.sw_core.specs.Step.{Step}
 use Rattle.sw_session.specs.declared.desk.View.{View}
 use Rattle.sw_session.specs.declared.desk.Wake.TheVariants.{Again, Over}
 use Rattle.sw_session.specs.Trace.{Entry, Asked, Waited, Polled, Noted, Leads, LeavesOf}
-use Rattle.sw_session.specs.Available.{Notes, with_note}
+use Rattle.sw_session.specs.declared.available.Seating.{Seating}
+use Rattle.sw_session.specs.Available.{Notes, with_note, followed, seated, seating_of}
 use Rattle.sw_session.specs.CoreDesk.{DeskSeen, IsFull, Carried, CarriesOut, CarriesOldest, TellsOfPiece, Keeps, IsKept}
 use Rattle.sw_session.specs.CoreDesk.{IsCarried, PassesBy, CorePasses, WaitsOut, most_waits, brought}
 use Rattle.sw_session.specs.CoreDesk.{piece_seen, view_of}
@@ -121,19 +122,29 @@ weight-falls d mid new w piece oldest brings is same k =
     subst (λ (x : Option WorkSeen). weight brings new.panel < weight x d.panel) (sym (ap work_seen is ∙ seen-some piece))
     (subst (λ (x : Panel). weight brings new.panel < suc (left x)) panels (weight-less mid new (piece_seen oldest) brings k))
 
+-- who has joined is followed
+follows : (old told mid : DeskSeen) (ask : SessionAsk) (answer : SessionAnswer) (seating : Seating) → told ≡ record old { panel = told.panel }
+    → seating ≡ seating_of ask → mid ≡ record told { available = followed told.available answer seating }
+    → mid ≡ record old { panel = told.panel; available = seated old.available ask answer }
+follows old told mid ask answer seating same sits is =
+    is ∙ ap (λ (s : Seating). let r : DeskSeen = record told { available = followed told.available answer s } in r) sits
+    ∙ ap (λ (d : DeskSeen). let r : DeskSeen = record d { available = seated d.available ask answer } in r) same
+
 -- an ask
-pub passes-ask : (old mid new : DeskSeen) (ask : SessionAsk) (failed : Bool) (answer : SessionAnswer) (brings : Option WorkSeen)
-    → Step old.panel (AskSession ask) failed (SaysSession answer brings) mid.panel → mid.work ≡ old.work → mid.room ≡ old.room → mid.available ≡ old.available
+pub passes-ask : (old told mid new : DeskSeen) (ask : SessionAsk) (failed : Bool) (answer : SessionAnswer) (brings : Option WorkSeen) (seating : Seating)
+    → Step old.panel (AskSession ask) failed (SaysSession answer brings) told.panel → told.work ≡ old.work → told.room ≡ old.room → told.available ≡ old.available
+    → seating ≡ seating_of ask → mid ≡ record told { available = followed told.available answer seating }
     → IsKept mid brings new
     → CorePasses old (Asked ask answer) new
-passes-ask old mid new ask failed answer brings step work room available kept = (
+passes-ask old told mid new ask failed answer brings seating step work room available sits is kept = (
   kept.carried,
   record {
     failed = failed;
     brings = brings;
-    after = mid.panel;
+    after = told.panel;
     step = step;
-    keeps = subst (λ (d : DeskSeen). Keeps kept.carried d brings new) (with-panel old mid work room available) kept.keeps;
+    keeps = subst (λ (d : DeskSeen). Keeps kept.carried d brings new) (follows old told mid ask answer seating (with-panel old told work room available) sits is)
+        kept.keeps;
   },
 )
 

@@ -21,6 +21,7 @@ pub mod SyncShort
 pub mod Parts
 pub mod EngineTakes
 mod Order
+mod Noting
 pub mod ServeKnown
 pub mod ServeParts
 pub mod ServeHands

@@ -4,6 +4,7 @@ use Rattle.std.proofs.lemmas.List.{append_assoc, append-nil}
 use Rattle.sw_core.specs.Seen.{WorkSeen}
 use Rattle.sw_session.specs.declared.desk.Wake.TheVariants.{Again, Over}
 use Rattle.sw_session.specs.Trace.{Entry, Asked, Waited, Polled, Noted}
+use Rattle.sw_session.specs.Available.{seated}
 use Rattle.sw_session.specs.CoreDesk.{DeskSeen, Carried, Keeps, PassesBy, brought}
 use Rattle.sw_session.specs.Order.{pieces_of, brought_by, came_in, done_at_once, at_once_in, done_in, HasRoomForPiece, WorkIsDoneInOrder}
 use Rattle.sw_session.specs.Order.{WorkIsKeptWhereThereIsRoom}
@@ -23,7 +24,7 @@ keeps-order (c ∷ carried) d (Some piece) new (mid, off, k) =
 
 passes-order : (carried : List Carried) (old : DeskSeen) (entry : Entry) (new : DeskSeen) (p : PassesBy carried old entry new)
     → old.work ++ came_in carried old entry new p ≡ done_in carried old entry new p ++ new.work
-passes-order carried old (Asked ask answer) new p = keeps-order carried (record old { panel = p.after }) p.brings new p.keeps
+passes-order carried old (Asked ask answer) new p = keeps-order carried (record old { panel = p.after; available = seated old.available ask answer }) p.brings new p.keeps
 passes-order [] old (Waited limit (Again rest)) new p = absurd p
 passes-order (c ∷ carried) old (Waited limit (Again rest)) new (is, w) =
     let more : List WorkSeen = pieces_of (brought c.answer) ++ brought_by carried in
@@ -48,7 +49,7 @@ keeps-all (c ∷ carried) d (Some piece) new (mid, off, k) room = absurd (omega 
 
 passes-keeping : (carried : List Carried) (old : DeskSeen) (entry : Entry) (new : DeskSeen) (p : PassesBy carried old entry new) → HasRoomForPiece entry old
     → at_once_in carried old entry new p ≡ []
-passes-keeping carried old (Asked ask answer) new p room = keeps-all carried (record old { panel = p.after }) p.brings new p.keeps room
+passes-keeping carried old (Asked ask answer) new p room = keeps-all carried (record old { panel = p.after; available = seated old.available ask answer }) p.brings new p.keeps room
 passes-keeping [] old (Waited limit (Again rest)) new p room = refl
 passes-keeping (c ∷ carried) old (Waited limit (Again rest)) new (is, w) room =
     let many : length old.work ≡ suc (length w.others) = ap length w.oldest in

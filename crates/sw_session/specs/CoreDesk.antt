@@ -14,7 +14,7 @@ use Rattle.sw_core.specs.Step.{Step}
 use Rattle.sw_session.specs.declared.desk.View.{View}
 use Rattle.sw_session.specs.declared.desk.Wake.TheVariants.{Again, Over}
 use Rattle.sw_session.specs.Trace.{Entry, Asked, Waited, Polled, Noted, Leads}
-use Rattle.sw_session.specs.Available.{Notes, no_notes, is_available, with_note}
+use Rattle.sw_session.specs.Available.{Notes, no_notes, is_available, with_note, seated}
 
 -- the mainframe's panel, the work that is outstanding, the oldest first, for how many pieces of it there is room before
 -- that has to grow, and for which sessions a message is available
@@ -99,14 +99,14 @@ pub record IsCarried (old : DeskSeen) (piece : WorkSeen) (brings : Option WorkSe
   pub brings_is : brings ≡ brought c.answer
   pub leaves : new ≡ record old { panel = c.after }
 
--- an ask is one step of the mainframe, and its work is kept
+-- an ask is one step of the mainframe, and its work is kept; who joins by it has no message available
 pub record AnswersAsk (carried : List Carried) (old : DeskSeen) (ask : SessionAsk) (answer : SessionAnswer)
     (new : DeskSeen) : Type 0 where
   pub failed : Bool
   pub brings : Option WorkSeen
   pub after : Panel
   pub step : Step old.panel (AskSession ask) failed (SaysSession answer brings) after
-  pub keeps : Keeps carried (record old { panel = after }) brings new
+  pub keeps : Keeps carried (record old { panel = after; available = seated old.available ask answer }) brings new
 
 -- the oldest piece is carried out, and what comes of it is kept
 pub record CarriesOutOldest (c : Carried) (carried : List Carried) (old new : DeskSeen) : Type 0 where

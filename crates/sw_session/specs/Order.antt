@@ -3,6 +3,7 @@ use Rattle.std.specs.Prelude.{◌≡◌, ◌<◌, ◌≤◌, List, [], ◌∷◌
 use Rattle.sw_core.specs.Seen.{WorkSeen}
 use Rattle.sw_session.specs.declared.desk.Wake.TheVariants.{Again}
 use Rattle.sw_session.specs.Trace.{Entry, Asked, Waited}
+use Rattle.sw_session.specs.Available.{seated}
 use Rattle.sw_session.specs.CoreDesk.{DeskSeen, Carried, Keeps, PassesBy, CorePasses, brought}
 
 -- the piece that there is, if any
@@ -33,7 +34,7 @@ done_at_once (c ∷ carried) old (Some piece) new (mid, off, keeps) =
 abbrev pub at_once_in : (carried : List Carried) (old : DeskSeen) (entry : Entry) (new : DeskSeen)
     → PassesBy carried old entry new → List WorkSeen
 at_once_in carried old (Asked ask answer) new passes =
-    done_at_once carried (record old { panel = passes.after }) passes.brings new passes.keeps
+    done_at_once carried (record old { panel = passes.after; available = seated old.available ask answer }) passes.brings new passes.keeps
 at_once_in (c ∷ carried) old (Waited limit (Again left)) new (is, works) =
     done_at_once carried (record old { panel = c.after; work = works.others }) (brought c.answer) new works.keeps
 at_once_in carried old entry new passes = []

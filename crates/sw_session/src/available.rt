@@ -1,20 +1,52 @@
 //! For which sessions a message is available.
 
 ghost use Rattle.std.specs.Prelude.{◌≡◌};
-ghost use Rattle.sw_session.specs.Available.{no_notes, is_available, with_note};
+ghost use Rattle.sw_session.specs.Available.{no_notes, is_joined, is_available, with_joined, with_left, with_note};
+ghost use Rattle.sw_base.specs.Layout.{slot_at};
+ghost use Rattle.sw_session.specs.Available.{followed, seating_of, with_mark};
 
 use std::marker::Model;
 use sw_base::SESSIONS;
-use sw_core::Sid;
+use sw_core::{SessionAnswer, SessionAsk, Sid};
 
 /// A place for each session number.
 const PLACES: usize = SESSIONS as usize;
 
-/// What was noted of each session number: the session of that number for which a message is available, by the number of
-/// events after its Join.
+/// The session that has a number.
+#[derive(Clone, Copy, Debug)]
+pub struct Mark {
+    /// The number of events after its Join.
+    pub joined: u64,
+    /// Whether a message is available for it.
+    pub mav: bool,
+}
+
+/// What an ask is to change about who has joined.
+#[derive(Clone, Copy, Debug)]
+pub enum Seating {
+    /// A session is to begin.
+    Joins,
+    /// This session is to end.
+    Leaves(Sid),
+    /// Nothing.
+    Stays,
+}
+
+/// What the ask is to change about who has joined.
+pub fn seating_of(ask: &SessionAsk) -> Seating
+    ensures { result ≡ seating_of ask.now }
+{
+    match ask {
+        SessionAsk::Join => Seating::Joins,
+        SessionAsk::Leave(sid) => Seating::Leaves(*sid),
+        _ => Seating::Stays,
+    }
+}
+
+/// For each session number who has joined under it, and whether a message is available for that session.
 #[derive(Drop)]
 pub struct Available {
-    notes: [Option<u64>; PLACES],
+    notes: [Option<Mark>; PLACES],
 }
 
 impl Model for Available {
@@ -30,7 +62,7 @@ impl Model for Available {
 }
 
 impl Available {
-    /// No message is available.
+    /// Nobody has joined.
     pub fn new() -> Self
         ensures { result ≡ no_notes }
     {
@@ -39,26 +71,90 @@ impl Available {
         }
     }
 
+    /// Who has joined under a number, and whether a message is available for that session.
+    fn mark(&self, number: u8) -> Option<Mark>
+        ensures { result ≡ slot_at self.now number }
+    {
+        let notes: &[Option<Mark>] = &self.notes;
+        if number < 1 || number > SESSIONS {
+            return None;
+        }
+        notes[number as usize - 1]
+    }
+
+    /// Sets who has joined under the session's number.
+    fn set(&mut self, number: u8, mark: Option<Mark>)
+        ensures { self.new ≡ with_mark self.old number mark }
+    {
+        if number >= 1 && number <= SESSIONS {
+            self.notes[number as usize - 1] = mark;
+        }
+    }
+
+    /// Whether the session is the one that has joined under its number.
+    fn is_joined(&self, sid: Sid) -> bool
+        ensures { result ≡ is_joined self.now sid }
+    {
+        match self.mark(sid.number) {
+            Some(mark) => mark.joined == sid.joined,
+            None => false,
+        }
+    }
+
     /// Whether a message is available for the session.
     pub fn has(&self, sid: Sid) -> bool
         ensures { result ≡ is_available self.now sid }
     {
-        let notes: &[Option<u64>] = &self.notes;
-        sid.number >= 1
-            && sid.number <= SESSIONS
-            && notes[sid.number as usize - 1] == Some(sid.joined)
+        match self.mark(sid.number) {
+            Some(mark) => mark.joined == sid.joined && mark.mav,
+            None => false,
+        }
     }
 
-    /// Notes whether a message is available for the session.
+    /// Notes whether a message is available for the session. Of one that isn't joined now nothing is noted.
     pub fn note(&mut self, sid: Sid, mav: bool)
         ensures { self.new ≡ with_note self.old sid mav }
     {
-        if mav {
-            if sid.number >= 1 && sid.number <= SESSIONS {
-                self.notes[sid.number as usize - 1] = Some(sid.joined);
+        if !self.is_joined(sid) {
+            return;
+        }
+        let joined = sid.joined;
+        self.set(sid.number, Some(Mark { joined, mav }));
+    }
+
+    /// The session has joined.
+    fn join(&mut self, sid: Sid)
+        ensures { self.new ≡ with_joined self.old sid }
+    {
+        let joined = sid.joined;
+        self.set(sid.number, Some(Mark { joined, mav: false }));
+    }
+
+    /// The session has left.
+    fn leave(&mut self, sid: Sid)
+        ensures { self.new ≡ with_left self.old sid }
+    {
+        if self.is_joined(sid) {
+            self.set(sid.number, None);
+        }
+    }
+
+    /// Follows who joins and who leaves, by an ask and its answer.
+    pub fn follow(&mut self, seating: Seating, answer: &SessionAnswer)
+        ensures { self.new ≡ followed self.old answer.now seating }
+    {
+        match answer {
+            SessionAnswer::Joined(sid) => {
+                if let Seating::Joins = seating {
+                    self.join(*sid);
+                }
             }
-        } else if self.has(sid) {
-            self.notes[sid.number as usize - 1] = None;
+            SessionAnswer::Done(_) => {
+                if let Seating::Leaves(sid) = seating {
+                    self.leave(sid);
+                }
+            }
+            _ => {}
         }
     }
 }

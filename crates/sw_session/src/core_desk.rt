@@ -4,9 +4,10 @@ ghost use Rattle.std.specs.Prelude.{◌≡◌, ◌≤◌, Bool, true, [], ◌∷
 ghost use Rattle.std.specs.VecDeque.{deque_len, deque_capacity};
 ghost use Rattle.sw_core.specs.Seen.{AskSeen, answer_seen, work_seen, AskSession, SaysSession};
 ghost use Rattle.sw_core.specs.Step.{Step};
+ghost use Rattle.sw_session.specs.Available.{followed};
 ghost use Rattle.sw_session.specs.CoreDesk.{IsKept, IsCarried, IsFull, TellsOfPiece, WaitsOut, desk_over, piece_seen};
 
-use crate::available::Available;
+use crate::available::{Available, Seating, seating_of};
 use crate::desk::{Desk, View, Wake};
 use std::alloc::Global;
 use std::collections::VecDeque;
@@ -155,6 +156,13 @@ impl<R: Relay, M: Meter> CoreDesk<R, M> {
         self.core.ask(self.alloc, ask, work)
     }
 
+    /// Follows who joins and who leaves.
+    fn follow(&mut self, seating: Seating, answer: &SessionAnswer)
+        ensures { self.new ≡ record self.old { available = followed self.old.available answer.now seating } }
+    {
+        self.available.follow(seating, answer);
+    }
+
     /// Carries a piece out and tells the mainframe of it.
     fn carry_out(&mut self, piece: Work<M>) -> Answer<R, M>
         ensures step { (ask : AskSeen) × TellsOfPiece (piece_seen piece) ask
@@ -195,7 +203,9 @@ impl<R: Relay, M: Meter> Desk for CoreDesk<R, M> {
 
     fn ask(&mut self, ask: SessionAsk) -> SessionAnswer {
         let mut work = None;
+        let seating = seating_of(&ask);
         let answer = self.tell_asked(ask, &mut work);
+        self.follow(seating, &answer);
         self.keep(work);
         answer
     }

@@ -1,6 +1,7 @@
 //! What follows from the contract of a talk.
 
 ghost use Rattle.sw_session.specs.Law.{TalkIsDetermined, CoreTalkIsDetermined, CoreRestIsDetermined};
+ghost use Rattle.sw_session.specs.Available.{NoteLeavesOthers};
 ghost use Rattle.sw_session.specs.Law.{PartsAreOneMessage};
 ghost use Rattle.sw_session.specs.Order.{WorkIsDoneInOrder, WorkIsKeptWhereThereIsRoom};
 
@@ -48,6 +49,12 @@ pub fn work_is_done_in_order()
 /// than there is room for.
 pub fn work_is_kept_where_there_is_room()
     ensures { WorkIsKeptWhereThereIsRoom }
+{}
+
+/// A law: what is noted of one session leaves what is noted of every other, also of an earlier or a later one of the
+/// same number.
+pub fn note_leaves_others()
+    ensures { NoteLeavesOthers }
 {}
 
 /// A law: a program message that came in parts, none of them skipped, is talked over as all their bytes, however many

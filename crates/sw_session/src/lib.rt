@@ -31,13 +31,13 @@ mod servers;
 mod talker;
 
 pub use asking::TURNS;
-pub use available::Available;
+pub use available::{Available, Mark, Seating, seating_of};
 pub use core_desk::CoreDesk;
 pub use desk::{Desk, View, Wake};
 pub use engine::{Channel, Engine, Sent, Step};
 pub use laws::{
-    core_rest_is_determined, core_talk_is_determined, parts_are_one_message, talk_is_determined,
-    work_is_done_in_order, work_is_kept_where_there_is_room,
+    core_rest_is_determined, core_talk_is_determined, note_leaves_others, parts_are_one_message,
+    talk_is_determined, work_is_done_in_order, work_is_kept_where_there_is_room,
 };
 pub use line::ANSWER_BYTES;
 pub use servers::{

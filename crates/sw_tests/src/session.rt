@@ -380,7 +380,7 @@ fn shows<D: Desk>(desk: &mut D, sid: Sid, mav: bool) -> bool {
     desk.poll(sid) == view
 }
 
-/// Notes of a session, and of a later one of its number, after an error that asks for service.
+/// Notes of a session, and of one of its number that isn't joined, after an error that asks for service.
 fn note<D: Desk>(rt: &impl Abort, alloc: Global, desk: &mut D, sid: Sid) {
     let later = Sid {
         number: sid.number,
@@ -389,8 +389,10 @@ fn note<D: Desk>(rt: &impl Abort, alloc: Global, desk: &mut D, sid: Sid) {
     assert!(rt; is_silent(alloc, desk, sid, b"*SRE 4;FOO"));
     assert!(rt; shows(desk, sid, false));
     desk.note(sid, true);
-    desk.note(later, false);
+    desk.note(later, true);
     assert!(rt; shows(desk, sid, true) && shows(desk, later, false));
+    desk.note(later, false);
+    assert!(rt; shows(desk, sid, true));
     desk.note(sid, false);
     assert!(rt; shows(desk, sid, false));
 }

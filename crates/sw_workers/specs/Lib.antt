@@ -10,3 +10,5 @@ pub mod Closing
 pub mod Ahead
 pub mod Connected
 pub mod Sides
+pub mod Limits
+pub mod Pauses

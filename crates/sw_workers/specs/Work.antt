@@ -1,12 +1,16 @@
 -- What a desk asks, and the work that it carries out.
-use Rattle.std.specs.Prelude.{◌≡◌, ◌+◌, ℕ, Bool, List, [], ◌∷◌, Option, None, Some}
+use Rattle.std.specs.Prelude.{◌≡◌, ◌+◌, ◌⊎◌, ℕ, Bool, List, [], ◌∷◌, Option, None, Some}
 use mathlib.Core.List.{IsPrefix}
+use Rattle.sw_core.specs.declared.ask.Sid.{Sid}
 use Rattle.sw_core.specs.declared.ask.SessionAsk.{SessionAsk}
+use Rattle.sw_core.specs.declared.ask.SessionAsk.TheVariants as Ask
 use Rattle.sw_core.specs.declared.ask.SessionAnswer.{SessionAnswer}
 use Rattle.sw_core.specs.Panel.{Panel}
 use Rattle.sw_core.specs.Seen.{WorkSeen, AskSeen, AskSession, AnswerSeen, SaysSession}
 use Rattle.sw_core.specs.Step.{Step}
 use Rattle.sw_session.specs.declared.desk.View.{View}
+use Rattle.sw_session.specs.declared.desk.Wake.{Wake}
+use Rattle.sw_session.specs.declared.desk.Wake.TheVariants.{Again, Over}
 use Rattle.sw_session.specs.Trace.{Entry, Asked, Waited, Polled, Noted}
 use Rattle.sw_session.specs.CoreDesk.{TellsOfPiece, brought}
 use Rattle.sw_workers.specs.Board.{Known}
@@ -107,9 +111,19 @@ pub record ReadsStatus (start : Panel) (view : View) (old new : AtDesk) : Type 0
   pub desk : (new.seat.desk ≡ old.seat.desk) × (new.seat.mine ≡ old.seat.mine)
   pub amount : new.amount ≡ old.amount
 
--- How a desk of a mainframe that opened so goes on. Only an ask counts events.
+-- A desk whose client has ended its connection leaves the session that it serves, if it serves one, as if it were asked.
+abbrev pub LeavesUnasked : Panel → AtDesk → AtDesk → Type 0
+LeavesUnasked start old new =
+    (new ≡ old) ⊎ ((sid : Sid) × (answer : SessionAnswer) × AnswersDesk start (Ask.Leave sid) answer old new)
+
+-- a wait that is over may be so since the client has ended its connection
+abbrev pub Rests : Panel → Wake → AtDesk → AtDesk → Type 0
+Rests start Over old new = LeavesUnasked start old new
+Rests start (Again left) old new = new ≡ old
+
+-- How a desk of a mainframe that opened so goes on. Only an ask counts events, and a wait that leaves the session.
 abbrev pub DeskPasses : Panel → AtDesk → Entry → AtDesk → Type 0
 DeskPasses start old (Asked ask answer) new = AnswersDesk start ask answer old new
-DeskPasses start old (Waited limit wake) new = new ≡ old
+DeskPasses start old (Waited limit wake) new = Rests start wake old new
 DeskPasses start old (Polled sid view) new = ReadsStatus start view old new
 DeskPasses start old (Noted sid mav) new = new ≡ old

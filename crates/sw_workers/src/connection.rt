@@ -1,8 +1,9 @@
 //! What a session reads from and writes to.
 
+use crate::line::Line;
+use std::alloc::Global;
 use std::io;
 use std::net::TcpStream;
-use std::time::Duration;
 use sw_session::{Sink, Source};
 
 /// A connection of one channel of a session: what it reads from, what it writes to, and a second way to the same
@@ -21,6 +22,9 @@ pub trait Connection {
 
     /// The bytes that were written, where they are known.
     ghost output: { Self → Option (List ℕ) };
+
+    /// Its line, where it has one.
+    fn line(&self) -> Option<Line>;
 
     /// Takes the connection apart.
     fn into_parts(self) -> (Self::In, Self::Out, Self::Aside)
@@ -52,6 +56,10 @@ impl<I: Source + Drop, O: Sink + Drop, A: Sink + Drop> Connection for Wired<I, O
 
     ghost output = { λ c. O.contents c.writer };
 
+    fn line(&self) -> Option<Line> {
+        None
+    }
+
     fn into_parts(self) -> (I, O, A) {
         let Wired {
             reader,
@@ -66,24 +74,24 @@ impl<I: Source + Drop, O: Sink + Drop, A: Sink + Drop> Connection for Wired<I, O
     }
 }
 
-/// A connection over TCP, which sends each write at once.
+/// A connection over TCP.
 #[derive(Drop)]
 pub struct Tcp {
-    reader: TcpStream,
-    writer: TcpStream,
-    aside: TcpStream,
+    reader: Line,
+    writer: Line,
+    aside: Line,
+    line: Line,
 }
 
 impl Tcp {
     /// The connection of this stream.
-    pub fn new(stream: TcpStream) -> io::Result<Tcp> {
-        stream.set_nodelay(true)?;
-        let reader = stream.try_clone()?;
-        let aside = stream.try_clone()?;
+    pub fn new(alloc: Global, stream: TcpStream) -> io::Result<Tcp> {
+        let line = Line::new(alloc, stream)?;
         Ok(Tcp {
-            reader,
-            writer: stream,
-            aside,
+            reader: line.try_clone()?,
+            writer: line.try_clone()?,
+            aside: line.try_clone()?,
+            line,
         })
     }
 }
@@ -91,26 +99,31 @@ impl Tcp {
 impl Connection for Tcp {
     ghost use Rattle.std.specs.Prelude.{None};
 
-    type In = TcpStream;
+    type In = Line;
 
-    type Out = TcpStream;
+    type Out = Line;
 
-    type Aside = TcpStream;
+    type Aside = Line;
 
     ghost input = { λ _. None };
 
     ghost output = { λ _. None };
 
-    fn into_parts(self) -> (TcpStream, TcpStream, TcpStream) {
+    fn line(&self) -> Option<Line> {
+        self.line.try_clone().ok()
+    }
+
+    fn into_parts(self) -> (Line, Line, Line) {
         let Tcp {
             reader,
             writer,
             aside,
+            line: _,
         } = self;
         (reader, writer, aside)
     }
 
-    fn set_limit(reader: &mut TcpStream, ms: u32) -> io::Result<()> {
-        reader.set_read_timeout(Some(Duration::from_millis(ms as u64)))
+    fn set_limit(reader: &mut Line, ms: u32) -> io::Result<()> {
+        reader.set_limit(ms)
     }
 }

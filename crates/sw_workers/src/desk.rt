@@ -3,11 +3,13 @@
 ghost use Rattle.std.specs.Prelude.{◌≡◌, [], IfSome};
 ghost use Rattle.sw_core.specs.Seen.{ask_seen, answer_seen, work_seen};
 ghost use Rattle.sw_session.specs.CoreDesk.{TellsOfPiece, piece_seen};
-ghost use Rattle.sw_workers.specs.Work.{Adds, AsksOnce, Brings, EndsPiece, Works};
+ghost use Rattle.sw_session.specs.Trace.{LeavesOf};
+ghost use Rattle.sw_workers.specs.Work.{Adds, AsksOnce, Brings, EndsPiece, LeavesUnasked, Works};
 
 use crate::gate::{Gate, Point};
 use crate::held::{DeskPart, House};
-use crate::shared::Shared;
+use crate::limits::{Limit, slice_of};
+use crate::shared::{Shared, Woken, seating_in};
 use crate::sides::Place;
 use std::alloc::Global;
 use std::sync::{Arc, Wait};
@@ -15,7 +17,7 @@ use std::thread;
 use std::time::{Clock, Duration};
 use sw_card::{Meter, Relay};
 use sw_core::{Answer, Ask, SessionAnswer, SessionAsk, Sid, Work};
-use sw_session::{Desk, View, Wake};
+use sw_session::{Desk, Seating, View, Wake, seating_of};
 
 /// The desk of a session or of a worker, which one thread has.
 #[derive(Drop)]
@@ -29,20 +31,69 @@ pub struct SharedDesk<H: House, R: Relay, M: Meter, G: Gate + Drop, W: Wait + Cl
     seen: u64,
     /// The number of the session whose synchronous channel this is.
     number: Option<u8>,
+    /// The limit of the wait for what is held, which goes on from wait to wait.
+    limit: Option<Limit>,
 }
 
-/// Whether the ask is to begin or to end a session.
-fn changes_session<R: Relay, M: Meter>(ask: &Ask<R, M>) -> bool {
-    match ask {
-        Ask::Session(SessionAsk::Join) | Ask::Session(SessionAsk::Leave(_)) => true,
-        _ => false,
+/// The number of the session whose synchronous channel a desk is, after an ask and its answer.
+fn number_after<R: Relay, M: Meter>(
+    number: Option<u8>,
+    seating: Seating,
+    answer: &Answer<R, M>,
+) -> Option<u8> {
+    match (seating, answer) {
+        (Seating::Stays, _) => number,
+        (Seating::Joins, Answer::Session(SessionAnswer::Joined(sid), _)) => Some(sid.number),
+        _ => None,
     }
 }
 
-/// The number of the session that was joined.
-fn number_of<R: Relay, M: Meter>(answer: &Answer<R, M>) -> Option<u8> {
+/// How long a thread that waits goes on.
+enum Rest {
+    /// What was held may be asked again; so much of the limit is left.
+    Again(Option<Limit>),
+    /// It is over.
+    Over,
+    /// The client has ended its connection.
+    Deserted,
+}
+
+/// The limit as it is now, if there is one.
+fn at_present<C: Clock>(rt: &C, limit: Option<Limit>) -> Option<Limit> {
+    match limit {
+        Some(limit) => Some(limit.at_present(rt)),
+        None => None,
+    }
+}
+
+/// What is left of a limit, if there is one.
+fn told_ms(limit: Option<Limit>) -> Option<u32> {
+    match limit {
+        Some(limit) => Some(limit.left_ms()),
+        None => None,
+    }
+}
+
+/// What is told to be left of a limit of so many milliseconds.
+fn left_ms(limit_ms: Option<u32>, limit: Option<Limit>) -> Option<u32>
+    ensures { LeavesOf limit_ms (Wake.Again result) }
+{
+    let ms = limit_ms?;
+    match limit {
+        Some(limit) if limit.left_ms() < ms => Some(limit.left_ms()),
+        _ => Some(ms),
+    }
+}
+
+/// What the ask is to change about who has joined.
+fn seats(ask: &SessionAsk) -> Seating {
+    seating_of(ask)
+}
+
+/// The limit of the wait for what is held, after an answer: it goes on while the ask is held.
+fn limit_after(limit: Option<Limit>, answer: &SessionAnswer) -> Option<Limit> {
     match answer {
-        Answer::Session(SessionAnswer::Joined(sid), _) => Some(sid.number),
+        SessionAnswer::Hold(_) => limit,
         _ => None,
     }
 }
@@ -70,6 +121,7 @@ impl<H: House, R: Relay, M: Meter, G: Gate + Drop, W: Wait + Clock + Copy + Drop
             place,
             seen: 0,
             number: None,
+            limit: None,
         })
     }
 
@@ -122,16 +174,59 @@ impl<H: House, R: Relay, M: Meter, G: Gate + Drop, W: Wait + Clock + Copy + Drop
     fn act(&mut self, ask: Ask<R, M>) -> Answer<R, M>
         ensures { AsksOnce H.first (ask_seen ask) (answer_seen result) self.old.part self.new.part }
     {
-        let changes = changes_session(&ask);
+        let seating = seating_in(&ask);
         let (answer, turn) = self.shared.act(&self.rt, &mut self.part, ask);
         self.seen = turn;
-        if changes {
-            self.number = number_of(&answer);
-        }
+        self.number = number_after(self.number, seating, &answer);
         if let Some(number) = self.number {
             self.shared.leave(&self.rt, number, &mut self.part);
         }
         answer
+    }
+
+    /// Waits for so many milliseconds at most, where there is a limit. A limit that is told as it was left goes on.
+    fn rest_for(&self, limit_ms: Option<u32>) -> Rest {
+        let Some(ms) = limit_ms else {
+            return self.rest(None);
+        };
+        let limit = match self.limit {
+            Some(limit) if limit.left_ms() == ms => Some(limit),
+            _ => Limit::new(&self.rt, ms),
+        };
+        match limit {
+            Some(limit) => self.rest(Some(limit)),
+            None => Rest::Over,
+        }
+    }
+
+    /// Waits until the mainframe's turn is another, the limit is over, or the client has ended its connection, for which
+    /// it looks again and again.
+    fn rest(&self, limit: Option<Limit>) -> Rest {
+        let rt = self.rt;
+        for _ in rt.forever() {
+            let limit = at_present(&rt, limit);
+            let left = told_ms(limit);
+            if left == Some(0) {
+                return Rest::Over;
+            }
+            match self.shared.wait(&rt, self.seen, slice_of(left)) {
+                Woken::Turned => return Rest::Again(at_present(&rt, limit)),
+                Woken::Closing => return Rest::Over,
+                Woken::Unchanged if self.place.is_deserted(&rt) => return Rest::Deserted,
+                Woken::Unchanged => {}
+            }
+        }
+        unreachable!()
+    }
+
+    /// Leaves the session that is served, where one is.
+    fn desert(&mut self)
+        ensures { LeavesUnasked H.first self.old.part self.new.part }
+    {
+        let Some(sid) = self.place.session(&self.rt) else {
+            return;
+        };
+        drop(self.ask(SessionAsk::Leave(sid)));
     }
 
     /// Carries a piece of work out, and gives what is to be told of it. It holds no lock.
@@ -160,10 +255,12 @@ impl<H: House, R: Relay, M: Meter, G: Gate + Drop, W: Wait + Clock + Copy + Drop
 
     fn ask(&mut self, ask: SessionAsk) -> SessionAnswer {
         self.shared.gate().pass(&self.rt, Point::Ask);
+        let seating = seats(&ask);
         match self.act(Ask::Session(ask)) {
             Answer::Session(answer, work) => {
-                self.place.learn(&self.rt, &answer);
+                self.place.follow(&self.rt, seating, &answer);
                 self.carry(work);
+                self.limit = limit_after(self.limit, &answer);
                 answer
             }
             _ => unreachable!(),
@@ -171,7 +268,21 @@ impl<H: House, R: Relay, M: Meter, G: Gate + Drop, W: Wait + Clock + Copy + Drop
     }
 
     fn wait(&mut self, limit_ms: Option<u32>) -> Wake {
-        self.shared.wait(&self.rt, self.seen, limit_ms)
+        match self.rest_for(limit_ms) {
+            Rest::Again(limit) => {
+                self.limit = limit;
+                Wake::Again(left_ms(limit_ms, limit))
+            }
+            Rest::Over => {
+                self.limit = None;
+                Wake::Over
+            }
+            Rest::Deserted => {
+                self.limit = None;
+                self.desert();
+                Wake::Over
+            }
+        }
     }
 
     fn poll(&mut self, sid: Sid) -> View {

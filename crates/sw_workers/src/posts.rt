@@ -3,21 +3,14 @@
 ghost use Rattle.std.specs.Prelude.{◌≡◌, IfSome};
 ghost use Rattle.sw_session.specs.CoreDesk.{piece_seen};
 
+use crate::pauses::{Pause, end_of};
 use crossbeam_channel::{Receiver, Sender};
 use std::alloc::{AllocError, Global};
 use std::sync::Wait;
+use std::time::Clock;
 use sw_cage::{Job, Ticket};
 use sw_card::Meter;
 use sw_core::Work;
-
-/// A pause to be waited out: what its end is told under, and how long it is.
-#[derive(Clone, Copy, Debug)]
-pub struct Pause {
-    /// What its end is told under.
-    pub ticket: Ticket,
-    /// How long it is, in microseconds.
-    pub micros: u64,
-}
 
 /// The sending ends.
 #[derive(Drop)]
@@ -49,8 +42,8 @@ pub fn work_posts<M: Meter>(alloc: Global) -> Result<(Posts<M>, Posted<M>), Allo
 }
 
 impl<M: Meter> Posts<M> {
-    /// Sends a piece of work, or hands it back where no growth is to be had or no worker is left.
-    pub fn send<W: Wait>(&self, rt: &W, piece: Work<M>) -> Option<Work<M>>
+    /// Sends a piece of work, or hands it back where no growth is to be had or no worker is left. A pause begins now.
+    pub fn send<W: Wait + Clock>(&self, rt: &W, piece: Work<M>) -> Option<Work<M>>
         ensures { IfSome result (λ back. piece_seen back ≡ piece_seen piece) }
     {
         match piece {
@@ -58,10 +51,20 @@ impl<M: Meter> Posts<M> {
                 Ok(()) => None,
                 Err(refused) => Some(Work::Measure(refused.into_inner())),
             },
-            Work::Pause(ticket, micros) => match self.pauses.send(rt, Pause { ticket, micros }) {
-                Ok(()) => None,
-                Err(_) => Some(Work::Pause(ticket, micros)),
-            },
+            Work::Pause(ticket, micros) => {
+                if self.has_begun(rt, ticket, micros) {
+                    return None;
+                }
+                Some(Work::Pause(ticket, micros))
+            }
+        }
+    }
+
+    /// Sends a pause that begins now, and says whether it went.
+    fn has_begun<W: Wait + Clock>(&self, rt: &W, ticket: Ticket, micros: u64) -> bool {
+        match end_of(rt, micros) {
+            Some(at) => self.pauses.send(rt, Pause { ticket, at }).is_ok(),
+            None => false,
         }
     }
 }

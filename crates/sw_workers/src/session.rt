@@ -123,6 +123,7 @@ pub fn run_session_for<
         (connection_seen result.desk (left_ahead C.In.remaining result.reader)
         (C.Out.contents result.writer)) result.result }
 {
+    let line = connection.line();
     let (reader, writer, aside) = connection.into_parts();
     let rt = desk.rt;
     let Ok(place) = Arc::try_clone(&desk.place) else {
@@ -131,13 +132,15 @@ pub fn run_session_for<
     let Ok(header) = Vec::with_capacity(alloc, HEADER) else {
         return unbegun(alloc, reader, writer, desk);
     };
-    place.clear(&rt);
+    place.begin(&rt, line);
     let wire = Parts {
         reader,
         writer,
         aside,
     };
-    serve_parts::<C, _, W>(rt, alloc, header, wire, desk, place, turns)
+    let ended = serve_parts::<C, _, W>(rt, alloc, header, wire, desk, place, turns);
+    ended.desk.place.finish(&rt);
+    ended
 }
 
 /// `run_session_for` with 2^32 reads.

@@ -1,10 +1,9 @@
 //! The mainframe behind one lock, and what wakes those who wait for it.
 
-ghost use Rattle.std.specs.Prelude.{◌≡◌, ◌≤◌, ◌+◌, [], IfOk, IfSome};
+ghost use Rattle.std.specs.Prelude.{◌≡◌, ◌+◌, [], IfOk, IfSome};
 ghost use Rattle.sw_core.specs.Good.{IsGoodPanel};
 ghost use Rattle.sw_core.specs.Seen.{ask_seen, answer_seen};
 ghost use Rattle.sw_session.specs.CoreDesk.{piece_seen};
-ghost use Rattle.sw_session.specs.Trace.{LeavesOf};
 ghost use Rattle.sw_workers.specs.History.{pair_of};
 ghost use Rattle.sw_workers.specs.Shares.{all_parts};
 ghost use Rattle.sw_workers.specs.Work.{AsksOnce, ReadsStatus};
@@ -21,10 +20,10 @@ use crate::waking::{is_over, may_admit};
 use std::alloc::{AllocError, Global};
 use std::sync::ledger::{Blank, Share};
 use std::sync::{Arc, Condvar, Mutex, Wait};
-use std::time::{Clock, Duration, Instant};
+use std::time::{Clock, Duration};
 use sw_card::{Meter, Relay};
 use sw_core::{Answer, Ask, Core, Sid, Work};
-use sw_session::{Available, View, Wake};
+use sw_session::{Available, Seating, View, seating_of};
 
 /// The parts of a ledger.
 const PARTS: u64 = (1 << 33) + 1;
@@ -51,6 +50,25 @@ impl<R: Relay, M: Meter> Opening<R, M> {
         let board = BlankBoard::new(alloc, core.pair())?;
         let blank = Blank::new(PARTS);
         Ok(Opening { core, blank, board })
+    }
+}
+
+/// What a wait for another turn ends with.
+#[derive(Clone, Copy, Debug, PartialEq, Eq)]
+pub enum Woken {
+    /// The mainframe's turn is another one.
+    Turned,
+    /// The time is up.
+    Unchanged,
+    /// The end has begun.
+    Closing,
+}
+
+/// What an ask is to change about who has joined.
+pub fn seating_in<R: Relay, M: Meter>(ask: &Ask<R, M>) -> Seating {
+    match ask {
+        Ask::Session(ask) => seating_of(ask),
+        _ => Seating::Stays,
     }
 }
 
@@ -139,9 +157,11 @@ impl<H: House, R: Relay, M: Meter, G: Gate + Drop> Shared<H, R, M, G> {
         ensures { AsksOnce H.first (ask_seen ask) (answer_seen result.0) part.old part.new }
     {
         let may_admit = may_admit(&ask);
+        let seating = seating_in(&ask);
         let mut guard = self.held.lock(rt);
         let before = guard.turn();
         let answer = guard.ask(part, ask);
+        self.follow(rt, seating, &answer);
         guard.take_turn(may_admit && is_over(&answer));
         let turn = guard.turn();
         drop(guard);
@@ -151,8 +171,18 @@ impl<H: House, R: Relay, M: Meter, G: Gate + Drop> Shared<H, R, M, G> {
         (answer, turn)
     }
 
+    /// Follows who joins and who leaves, while the mainframe is locked.
+    fn follow<W: Wait>(&self, rt: &W, seating: Seating, answer: &Answer<R, M>) {
+        if let Seating::Stays = seating {
+            return;
+        }
+        if let Answer::Session(answer, _) = answer {
+            self.available.lock(rt).follow(seating, answer);
+        }
+    }
+
     /// Sends a piece of work to its worker, or hands it back.
-    pub fn send<W: Wait>(&self, rt: &W, piece: Work<M>) -> Option<Work<M>>
+    pub fn send<W: Wait + Clock>(&self, rt: &W, piece: Work<M>) -> Option<Work<M>>
         ensures { IfSome result (λ back. piece_seen back ≡ piece_seen piece) }
     {
         let guard = self.posts.lock(rt);
@@ -162,35 +192,22 @@ impl<H: House, R: Relay, M: Meter, G: Gate + Drop> Shared<H, R, M, G> {
         posts.send(rt, piece)
     }
 
-    /// Waits until the mainframe's turn is another than this, for so many milliseconds at most where there is a limit.
-    /// It is over where the time is up, or the end has begun.
-    pub fn wait<W: Wait + Clock>(&self, rt: &W, seen: u64, limit_ms: Option<u32>) -> Wake
-        ensures { LeavesOf limit_ms result }
-    {
+    /// Waits until the mainframe's turn is another than this, for so many milliseconds at most.
+    pub fn wait<W: Wait + Clock>(&self, rt: &W, seen: u64, ms: u32) -> Woken {
         let guard = self.held.lock(rt);
-        let Some(limit) = limit_ms else {
-            let guard = self.happened.wait_while(
-                rt,
-                guard,
-                |held| held.turn() == seen && !held.is_closing(),
-            );
-            if guard.is_closing() {
-                return Wake::Over;
-            }
-            return Wake::Again(None);
-        };
-        let start = Instant::now(rt).ok();
-        let (guard, timed) = self.happened.wait_timeout_while(
+        let (guard, _) = self.happened.wait_timeout_while(
             rt,
             guard,
-            Duration::from_millis(limit as u64),
+            Duration::from_millis(ms as u64),
             |held| held.turn() == seen && !held.is_closing(),
         );
-        if timed.timed_out() || guard.is_closing() {
-            return Wake::Over;
+        if guard.is_closing() {
+            return Woken::Closing;
         }
-        drop(guard);
-        Wake::Again(Some(left_of(rt, start, limit)))
+        if guard.turn() == seen {
+            return Woken::Unchanged;
+        }
+        Woken::Turned
     }
 
     /// Leaves in a session's slot what the desk of its synchronous channel has seen.
@@ -245,21 +262,5 @@ impl<H: House, R: Relay, M: Meter, G: Gate + Drop> Shared<H, R, M, G> {
         ensures share { (all.new.parts ≡ all.old.parts) × (all.new.amount ≡ all.old.amount) }
     {
         self.held.lock(rt).number(all)
-    }
-}
-
-/// What is left of a limit, in milliseconds; none where the clock can't be read.
-fn left_of<C: Clock>(rt: &C, start: Option<Instant>, limit: u32) -> u32
-    ensures { result ≤ limit }
-{
-    let Some(start) = start else {
-        return 0;
-    };
-    let Ok(spent) = start.elapsed(rt) else {
-        return 0;
-    };
-    match u32::try_from(spent.as_millis()) {
-        Ok(spent) => limit.saturating_sub(spent),
-        Err(_) => 0,
     }
 }

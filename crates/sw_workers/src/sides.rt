@@ -3,6 +3,8 @@
 ghost use Rattle.std.specs.Prelude.{◌≡◌, [], None, IfSome, IfNone, OnOk, OnErr, vec_len};
 ghost use Rattle.sw_workers.specs.Sides.{opened, appended, emptied, told_to};
 
+use crate::ends::Ends;
+use crate::line::Line;
 use crossbeam_utils::CachePadded;
 use std::alloc::{AllocError, Global};
 use std::marker::Model;
@@ -10,6 +12,7 @@ use std::mem;
 use std::sync::{Arc, Mutex, Wait};
 use sw_base::SESSIONS;
 use sw_core::{SessionAnswer, Sid};
+use sw_session::Seating;
 
 /// The bytes that wait in a slot, and whose they are.
 #[derive(Drop)]
@@ -75,11 +78,18 @@ impl Waiting {
     }
 }
 
+/// What the threads of the session that has a number leave to each other, and the lines that end with it.
+#[derive(Drop)]
+struct Slot {
+    waiting: Mutex<Waiting>,
+    ends: Mutex<Ends>,
+}
+
 /// A slot for each session number.
 #[derive(Drop)]
 pub struct Sides {
     alloc: Global,
-    rows: Vec<CachePadded<Mutex<Waiting>>>,
+    rows: Vec<CachePadded<Slot>>,
     pub ghost sixteen: { vec_len rows ≡ 16 },
 }
 
@@ -88,7 +98,11 @@ impl Sides {
     pub fn new(alloc: Global) -> Result<Self, AllocError> {
         let mut rows = Vec::new(alloc);
         for _ in 0..SESSIONS {
-            rows.push(CachePadded::new(Mutex::new(Waiting::new(alloc))))?;
+            let slot = Slot {
+                waiting: Mutex::new(Waiting::new(alloc)),
+                ends: Mutex::new(Ends::new(alloc)),
+            };
+            rows.push(CachePadded::new(slot))?;
         }
         Ok(Sides { alloc, rows })
     }
@@ -98,66 +112,133 @@ impl Sides {
         self.alloc
     }
 
-    fn slot(&self, sid: Sid) -> Option<&Mutex<Waiting>> {
+    fn slot(&self, sid: Sid) -> Option<&Slot> {
         if sid.number < 1 || sid.number > SESSIONS {
             return None;
         }
-        let slot: &Mutex<Waiting> = &self.rows[(sid.number - 1) as usize];
+        let slot: &Slot = &self.rows[(sid.number - 1) as usize];
         Some(slot)
     }
 
     /// Empties the slot of a session's number for it, unless it has it already, or a later one does.
     pub fn open<W: Wait>(&self, rt: &W, sid: Sid) {
         if let Some(slot) = self.slot(sid) {
-            slot.lock(rt).open(sid.joined);
+            slot.waiting.lock(rt).open(sid.joined);
         }
     }
 
     /// Leaves bytes to a session, all of them or, where there is no memory, none.
     pub fn append<W: Wait>(&self, rt: &W, sid: Sid, bytes: &[u8]) -> Result<(), AllocError> {
         match self.slot(sid) {
-            Some(slot) => slot.lock(rt).append(sid.joined, bytes),
+            Some(slot) => slot.waiting.lock(rt).append(sid.joined, bytes),
             None => Ok(()),
         }
     }
 
     /// Takes what waits for a session, if anything does.
     pub fn take<W: Wait>(&self, rt: &W, sid: Sid) -> Option<Vec<u8>> {
-        self.slot(sid)?.lock(rt).take(self.alloc, sid.joined)
+        self.slot(sid)?
+            .waiting
+            .lock(rt)
+            .take(self.alloc, sid.joined)
+    }
+
+    /// A line of the session, which ends with it.
+    pub fn enlist<W: Wait>(&self, rt: &W, sid: Sid, line: Line) {
+        if let Some(slot) = self.slot(sid) {
+            slot.ends.lock(rt).enlist(sid.joined, line);
+        }
+    }
+
+    /// The session has left, and its lines end.
+    pub fn end<W: Wait>(&self, rt: &W, sid: Sid) {
+        if let Some(slot) = self.slot(sid) {
+            slot.ends.lock(rt).end(self.alloc, sid.joined);
+        }
     }
 }
 
-/// Which session the thread of a desk serves, and the slots of all sessions.
+/// What the thread of a desk serves: a line, where there is one, and the session that it turned out to be.
+#[derive(Drop)]
+struct Served {
+    line: Option<Line>,
+    session: Option<Sid>,
+}
+
+/// What the thread of a desk serves, and the slots of all sessions.
 #[derive(Drop)]
 pub struct Place {
     sides: Arc<Sides, Global>,
-    session: Mutex<Option<Sid>>,
+    served: Mutex<Served>,
 }
 
 impl Place {
-    /// No session is served yet.
+    /// Nothing is served yet.
     pub fn new(sides: Arc<Sides, Global>) -> Self {
         Place {
             sides,
-            session: Mutex::new(None),
+            served: Mutex::new(Served {
+                line: None,
+                session: None,
+            }),
         }
     }
 
-    /// No session is served any more.
-    pub fn clear<W: Wait>(&self, rt: &W) {
-        *self.session.lock(rt) = None;
+    /// This line is served from now on, and no session yet.
+    pub fn begin<W: Wait>(&self, rt: &W, line: Option<Line>) {
+        *self.served.lock(rt) = Served {
+            line,
+            session: None,
+        };
     }
 
-    /// Where the answer is to a Join or an Attach, that session is served from now on.
-    pub fn learn<W: Wait>(&self, rt: &W, answer: &SessionAnswer) {
+    /// Nothing is served any more, and the line ends.
+    pub fn finish<W: Wait>(&self, rt: &W) {
+        if let Some(line) = self.line(rt) {
+            line.close();
+        }
+        self.begin(rt, None);
+    }
+
+    /// Follows an ask and its answer: a session that was joined or attached to is served from now on, and with one that
+    /// has left all its lines end.
+    pub fn follow<W: Wait>(&self, rt: &W, seating: Seating, answer: &SessionAnswer) {
         if let SessionAnswer::Joined(sid) = answer {
-            *self.session.lock(rt) = Some(*sid);
-            self.sides.open(rt, *sid);
+            self.learn(rt, *sid);
+        }
+        if let Seating::Leaves(sid) = seating {
+            self.sides.end(rt, sid);
         }
     }
 
-    fn session<W: Wait>(&self, rt: &W) -> Option<Sid> {
-        *self.session.lock(rt)
+    /// This session is served from now on.
+    fn learn<W: Wait>(&self, rt: &W, sid: Sid) {
+        self.served.lock(rt).session = Some(sid);
+        self.sides.open(rt, sid);
+        if let Some(line) = self.line(rt) {
+            self.sides.enlist(rt, sid, line);
+        }
+    }
+
+    /// The line that is served.
+    fn line<W: Wait>(&self, rt: &W) -> Option<Line> {
+        match &self.served.lock(rt).line {
+            Some(line) => line.try_clone().ok(),
+            None => None,
+        }
+    }
+
+    /// The session that is served.
+    pub fn session<W: Wait>(&self, rt: &W) -> Option<Sid> {
+        self.served.lock(rt).session
+    }
+
+    /// Whether the client has ended the line.
+    pub fn is_deserted<W: Wait>(&self, rt: &W) -> bool {
+        match &self.served.lock(rt).line {
+            Some(line) => line.has_ended(),
+            None => false,
+        }
     }
 
     /// Leaves bytes to the session's other thread, all of them or, where there is no memory, none.

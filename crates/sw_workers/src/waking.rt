@@ -1,8 +1,9 @@
 //! After what those who wait may go on.
 
 use crate::telling::is_event;
+use sw_base::ScpiError;
 use sw_card::{Meter, Relay};
-use sw_core::{Answer, Ask, SessionAsk};
+use sw_core::{Answer, Ask, SessionAnswer, SessionAsk};
 use sw_lex::Command;
 
 /// Whether the command may end a scan.
@@ -34,11 +35,20 @@ pub fn may_admit<R: Relay, M: Meter>(ask: &Ask<R, M>) -> bool {
     }
 }
 
-/// Whether nothing is outstanding after the answer: a scan that gave work goes on, and what was held or missed changed
-/// nothing.
+/// Whether a session's answer tells that nothing changed: the trigger was ignored, or no lock was granted or freed.
+fn is_in_vain(answer: &SessionAnswer) -> bool {
+    matches!(
+        answer,
+        SessionAnswer::Refused(ScpiError::TriggerIgnored | ScpiError::ArmIgnored)
+            | SessionAnswer::Lock(3)
+    )
+}
+
+/// Whether something changed by the answer after which nothing is outstanding: a scan that gave work goes on, and what
+/// was held, missed or in vain changed nothing.
 pub fn is_over<R: Relay, M: Meter>(answer: &Answer<R, M>) -> bool {
     match answer {
-        Answer::Session(_, work) => work.is_none() && is_event(answer),
+        Answer::Session(told, work) => work.is_none() && is_event(answer) && !is_in_vain(told),
         Answer::Taken(work) => work.is_none(),
         Answer::Missed => false,
         _ => true,

@@ -121,10 +121,7 @@ impl<
         let for_jobs = SharedDesk::open(rt, &shared)?;
         let for_pauses = SharedDesk::open(rt, &shared)?;
         let card_worker = thread::spawn(&rt, move || run_card_worker(for_jobs, jobs)).ok()?;
-        let timer_worker = thread::spawn(
-            &rt,
-            move || run_timer_worker(alloc, for_pauses, pauses),
-        ).ok()?;
+        let timer_worker = thread::spawn(&rt, move || run_timer_worker(for_pauses, pauses)).ok()?;
         Some(Shop {
             shared,
             card_worker,

@@ -9,7 +9,7 @@ use std::test::Fail;
 use std::thread;
 use std::thread::Threads;
 use std::time::Clock;
-use sw_core::Sid;
+use sw_core::{SessionAsk, Sid};
 use sw_kinds::{SimDriver, SimSource};
 use sw_session::{Desk, View, Wake};
 use sw_workers::{AskKind, Note, Open, Point};
@@ -22,6 +22,7 @@ pub enum Scene<C: Clock + Drop> {
     Busy(Busy<C>),
     Awaited(Awaited<C>),
     Looked,
+    Succeeded,
     Closes,
     AtOnce,
 }
@@ -40,6 +41,7 @@ impl<W: Threads + Wait + Clock + Copy + Drop + Send + Sync + 'static> Scene<W> {
             Scene::Meanwhile(scene) => scene.play(rt, alloc, first, second, third),
             Scene::Locked(scene) => scene.play(rt, alloc, first, second, third),
             Scene::Looked => looks(alloc, first, second, third),
+            Scene::Succeeded => is_succeeded(first, second, third),
             Scene::Closes => closes(alloc, first, second, third),
             Scene::AtOnce => asks_at_once(rt, alloc, first, second, third),
             Scene::Busy(scene) => scene.play(rt, alloc, first, second, third),
@@ -266,6 +268,65 @@ fn a_session_is_looked_at_by_another_desk(rt: HostRuntime) {
         ask: AskKind::Fault,
     };
     assert!(rt; played(rt, rt.alloc(), SimSource::new(1, 1), Open, &Scene::Looked) == Some(last));
+}
+
+/// Whether a message is seen to be available for a session.
+fn has_message<D: Desk>(desk: &mut D, sid: Sid) -> bool {
+    desk.poll(sid).mav
+}
+
+/// Whether notes of a session that left change nothing for the one that has its number now.
+fn is_unchanged<D: Desk>(desk: &mut D, left: Sid, now: Sid) -> bool {
+    desk.note(left, true);
+    let begins_without = !has_message(desk, now) && !has_message(desk, left);
+    desk.note(now, true);
+    desk.note(left, true);
+    let has_its_own = has_message(desk, now) && !has_message(desk, left);
+    desk.note(left, false);
+    begins_without && has_its_own && has_message(desk, now)
+}
+
+/// Session 2 leaves with a message, and another one has its number. Gives the desks back, where all went as it should.
+fn is_succeeded<D: Desk + Drop + Send + 'static>(
+    first: D,
+    second: D,
+    third: D,
+) -> Option<(D, D, D)> {
+    let mut first = first;
+    let mut second = second;
+    let mut third = third;
+    let one = join(&mut first)?;
+    let left = join(&mut second)?;
+    second.note(left, true);
+    let was_noted = has_message(&mut first, left);
+    drop(second.ask(SessionAsk::Leave(left)));
+    let now = join(&mut third)?;
+    let is_same_number = left.number == 2 && now.number == 2;
+    if was_noted
+        && is_same_number
+        && is_unchanged(&mut first, left, now)
+        && !has_message(&mut first, one)
+    {
+        return Some((first, second, third));
+    }
+    None
+}
+
+#[test]
+fn a_session_that_left_notes_nothing_for_the_next_one(rt: HostRuntime) {
+    let last = Note {
+        number: 6,
+        ask: AskKind::Join,
+    };
+    assert!(rt;
+        played(
+            rt,
+            rt.alloc(),
+            SimSource::new(1, 1),
+            Open,
+            &Scene::Succeeded
+        ) == Some(last)
+    );
 }
 
 /// A session closes a channel, and that is all. Gives the desks back, where all went as it should.

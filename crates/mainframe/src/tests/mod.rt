@@ -1,10 +1,13 @@
 //! The program on bytes: what is read, and what is written.
 
+mod clients;
 mod command_line;
 mod doors;
 mod listing;
 mod rows;
 mod serving;
+mod timing;
+mod vanishing;
 
 use crate::run::run_lines;
 use std::alloc::Global;

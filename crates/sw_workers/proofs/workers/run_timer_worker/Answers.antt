@@ -1,8 +1,5 @@
 use Rattle.sw_workers.proofs.Worked.{works-more}
 use Rattle.sw_workers.proofs.workers.run_timer_worker.Goals as goal
 
-pub loop-preserved-in-Begins : goal.loop-preserved-in-Begins
-loop-preserved-in-Begins g c = works-more _ _ _ _ c.loop.invariant c.begin_pause.ensures
-
 pub loop-preserved : goal.loop-preserved
 loop-preserved g c = works-more _ _ _ _ c.loop.invariant c.end_pause.ensures

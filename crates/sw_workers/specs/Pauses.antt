@@ -1,0 +1,23 @@
+-- Pauses that a timer waits out: only the latest can still be awaited.
+use Rattle.std.specs.Prelude.{◌==◌, ◌&&◌, ◌||◌, Bool, true, nat_lt, Option, None, Some, if◌then◌else◌}
+use Rattle.sw_cage.specs.declared.job.Ticket.{Ticket}
+use Rattle.sw_workers.specs.declared.pauses.Pause.{Pause}
+use Rattle.sw_workers.specs.declared.pauses.Standing.{Standing}
+
+-- it was made in an earlier scan, or earlier in the same one
+abbrev pub is_earlier : Ticket → Ticket → Bool
+is_earlier first other = nat_lt first.scan other.scan || ((first.scan == other.scan) && nat_lt first.index other.index)
+
+-- it was made after every ticket that came
+abbrev pub is_latest : Option Ticket → Ticket → Bool
+is_latest None ticket = true
+is_latest (Some latest) ticket = is_earlier latest ticket
+
+-- a pause stands once it came, unless a later one had come: what stood before it is stale
+abbrev pub with_pause : Standing → Pause → Standing
+with_pause s pause =
+    if is_latest s.latest pause.ticket then record { latest = Some pause.ticket; until = Some pause.at } else s
+
+-- the pause that stood is over
+abbrev pub with_none : Standing → Standing
+with_none s = record s { until = None }

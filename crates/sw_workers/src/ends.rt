@@ -1,0 +1,62 @@
+//! The lines of each session, which end together.
+
+use crate::line::Line;
+use std::alloc::Global;
+use std::mem;
+
+/// The lines of the session that has a number.
+#[derive(Drop)]
+pub struct Ends {
+    /// The session, by the number of events after its Join.
+    joined: Option<u64>,
+    /// It has left.
+    is_over: bool,
+    lines: Vec<Line>,
+}
+
+impl Ends {
+    /// No session has the number yet.
+    pub fn new(alloc: Global) -> Self {
+        Ends {
+            joined: None,
+            is_over: false,
+            lines: Vec::new(alloc),
+        }
+    }
+
+    /// A line of this session, with which it ends from now on. Where it has left, or there is no memory, the line ends
+    /// at once.
+    pub fn enlist(&mut self, joined: u64, line: Line) {
+        self.begin(joined);
+        if self.joined != Some(joined) || self.is_over || self.lines.reserve(1).is_err() {
+            line.close();
+            return;
+        }
+        self.lines.push(line).unwrap();
+    }
+
+    /// Gives the number to a session, unless this session or a later one has it.
+    fn begin(&mut self, joined: u64) {
+        if let Some(last) = self.joined {
+            if last >= joined {
+                return;
+            }
+        }
+        self.joined = Some(joined);
+        self.is_over = false;
+        self.lines.clear();
+    }
+
+    /// The session has left: its lines end.
+    pub fn end(&mut self, alloc: Global, joined: u64) {
+        self.begin(joined);
+        if self.joined != Some(joined) {
+            return;
+        }
+        self.is_over = true;
+        let lines = mem::replace(&mut self.lines, Vec::new(alloc));
+        for line in lines.iter() {
+            line.close();
+        }
+    }
+}
