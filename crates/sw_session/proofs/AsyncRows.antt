@@ -5,7 +5,7 @@ use Rattle.sw_core.specs.declared.ask.Sid.{Sid}
 use Rattle.sw_core.specs.declared.ask.SessionAnswer.{SessionAnswer}
 use Rattle.sw_core.specs.declared.ask.SessionAnswer.TheVariants.{Joined, Full, Stranger, Broken, Done, Missed, Max, Lock, Info, Snapshot, Refused, Hold, Worn}
 use Rattle.sw_session.specs.declared.desk.View.{View}
-use Rattle.sw_session.specs.declared.engine.step.Step.{Step}
+use Rattle.sw_session.specs.Said.{StepSeen}
 use Rattle.sw_session.specs.Trace.{Entry, Polled, Leads}
 use Rattle.sw_session.specs.EngineMessages.{plain, status_byte}
 use Rattle.sw_session.specs.EngineStep.{LedBy, over}
@@ -13,7 +13,7 @@ use Rattle.sw_session.specs.EngineAsync.{AsyncStanding, TellsStatus, AttachesBy,
 use Rattle.sw_session.proofs.Led.{leads-append}
 
 -- the status is told
-pub status-told : {D : Type 0} (passes : D → Entry → D → Type 0) (old mid new : D) (s s' : AsyncStanding) (control : ℕ) (view : View) (step : Step)
+pub status-told : {D : Type 0} (passes : D → Entry → D → Type 0) (old mid new : D) (s s' : AsyncStanding) (control : ℕ) (view : View) (step : StepSeen)
     → Leads passes old (delivered s.sid control) mid → passes mid (Polled s.sid view) new
     → step ≡ replies (plain Kind.AsyncStatusResponse (status_byte view.byte view.mav (nat_lt s.polled view.requests)) 0)
     → s' ≡ record s { polled = max s.polled view.requests }

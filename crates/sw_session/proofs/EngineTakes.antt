@@ -6,7 +6,7 @@ use Rattle.sw_core.specs.declared.ask.Sid.{Sid}
 use Rattle.sw_session.specs.declared.engine.session.State.{State}
 use Rattle.sw_session.specs.declared.engine.session.State.TheVariants.{Unopened, Synchronized, Attached}
 use Rattle.sw_session.specs.declared.engine.step.Channel.{Channel}
-use Rattle.sw_session.specs.declared.engine.step.Step.{Step}
+use Rattle.sw_session.specs.Said.{StepSeen}
 use Rattle.sw_session.specs.Engine.{EngineStanding, TakesMessage, Falters, FaltersAt, session_of}
 use Rattle.sw_session.specs.EngineStep.{LedBy}
 use Rattle.sw_session.specs.EngineSync.{SyncStanding, TakesSync, FaltersSync}
@@ -14,7 +14,7 @@ use Rattle.sw_session.specs.EngineAsync.{AsyncStanding, TakesAsync}
 use Rattle.sw_session.specs.Trace.{Entry}
 
 pub takes-sync : {D : Type 0} (passes : D → Entry → D → Type 0) (old new : D) (state : State) (s t : SyncStanding) (m : Message) {E : Type 0}
-    (r : Result Step E)
+    (r : Result StepSeen E)
     → state ≡ Synchronized s → IfOk r (λ step. LedBy passes old new (λ asked. TakesSync s m asked step t))
     → IfOk r (λ step. LedBy passes old new (λ asked. TakesMessage state m asked step (Synchronized t)))
 takes-sync passes old new state s t m (Ok step) is h =
@@ -22,7 +22,7 @@ takes-sync passes old new state s t m (Ok step) is h =
 takes-sync passes old new state s t m (Err e) is h = tt
 
 pub takes-async : {D : Type 0} (passes : D → Entry → D → Type 0) (old new : D) (state : State) (s t : AsyncStanding) (m : Message) {E : Type 0}
-    (r : Result Step E)
+    (r : Result StepSeen E)
     → state ≡ Attached s → IfOk r (λ step. LedBy passes old new (λ asked. TakesAsync s m asked step t))
     → IfOk r (λ step. LedBy passes old new (λ asked. TakesMessage state m asked step (Attached t)))
 takes-async passes old new state s t m (Ok step) is h =

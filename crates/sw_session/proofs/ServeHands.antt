@@ -1,9 +1,11 @@
 -- Messages that are handed over one after another.
-use Rattle.std.proofs.Common.{◌≡◌, ℕ, List, [], ◌∷◌, ◌++◌, refl, sym, ap, ◌∙◌, append_assoc, append-nil, subst, flat_map, Option}
+use Rattle.std.proofs.Common.{◌≡◌, ◌≢◌, Result, Ok, Some, ℕ, List, [], ◌∷◌, ◌++◌, refl, sym, ap, ◌∙◌, append_assoc, append-nil, subst, flat_map, Option}
 use Rattle.std.proofs.lemmas.List.Concat.{flat_map-append}
 use Rattle.std.specs.Io.KnownBytes.{Appends}
 use Rattle.sw_session.specs.declared.engine.step.Sent.{Sent}
 use Rattle.sw_session.specs.declared.servers.fault.ServeFault.{ServeFault}
+use Rattle.sw_session.specs.declared.servers.fault.ServeFault.TheVariants as Fault
+use Rattle.sw_session.specs.InParts.{GivesFirst}
 use Rattle.sw_session.specs.Trace.{Entry, Leads}
 use Rattle.sw_session.specs.ServeWrite.{wire_on, wire_off, WritesPart}
 use Rattle.sw_session.specs.ServeHand.{Manner, Outlets, notes_before, availability_notes, HandsOver, HandsPart, HandsUpTo, FailsAt}
@@ -65,3 +67,13 @@ handing-cut m all left rest x a b c fault e h f = record {
 pub part-handed : {D : Type 0} (m : Manner D) (b c : Outlets D) (x : Sent) → Leads m.passes b.desk (notes_before m.session x) c.desk
     → WritesPart b.main c.main (wire_on m.own x) → WritesPart b.side c.side (wire_off m.own x) → HandsPart m b c x
 part-handed m b c x n p q = record { notes = n; main = p; side = q }
+
+-- the next message is given, or there was no memory for it
+pub gives-one : {E : Type 0} (old new : List Sent) (r : Result (Option Sent) E) (first : Sent) → r ≡ Ok (Some first) → GivesFirst old r new
+    → old ≡ first ∷ new
+gives-one {E} old new r first e g = subst (λ (t : Result (Option Sent) E). GivesFirst old t new) e g
+
+pub handing-lost : {D : Type 0} (m : Manner D) (all left : List Sent) (a b : Outlets D) → left ≢ [] → Handing m all left a b
+    → HandsUpTo m a b all Fault.NoMemory
+handing-lost m all [] a b some h = absurd (some refl)
+handing-lost m all (x ∷ rest) a b some h = handing-cut m all (x ∷ rest) rest x a b b Fault.NoMemory refl h refl

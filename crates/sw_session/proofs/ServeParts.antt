@@ -9,7 +9,7 @@ use Rattle.sw_hislip.specs.declared.message.Message.{Message}
 use Rattle.sw_hislip.specs.Pending.{Pending, fed}
 use Rattle.sw_hislip.specs.Stream.{Call, feeds, answers, Decodes, stream_of, told}
 use Rattle.sw_session.specs.declared.engine.step.Sent.{Sent}
-use Rattle.sw_session.specs.declared.engine.step.Step.{Step}
+use Rattle.sw_session.specs.Said.{StepSeen}
 use Rattle.sw_session.specs.declared.servers.act.Act.{Act}
 use Rattle.sw_session.specs.declared.servers.act.Act.TheVariants.{Takes, Skips, Refuses, Notices}
 use Rattle.sw_session.specs.declared.servers.act.AfterStep.{AfterStep}
@@ -171,7 +171,7 @@ one-out : (f : Sent → List ℕ) (a b : Option (List ℕ)) (x : Exchange) → A
 one-out f a b x p = subst (λ (l : List Sent). Appends a b (flat_map f l)) (sym (append-nil x.step.out)) p
 
 pub hears-ok : {E D : Type 0} (u : Voice E D) (s s' : E) (d e d' : D) (w w' y y' : Option (List ℕ))
-    (act : Act) (step : Step) (after : AfterStep)
+    (act : Act) (step : StepSeen) (after : AfterStep)
     → LedBy u.passes d e (λ asked. u.protocol.speaks s act asked step s')
     → HandsOver (manner u.passes (u.protocol.session s') u.own) (outlets e w y) (outlets d' w' y') step.out
     → after ≡ after_step (is_refused act) step
@@ -192,7 +192,7 @@ hears-ok u s s' d e d' w w' y y' act step after led hands a =
       },
     )
 
-cut-off : {E D : Type 0} (u : Voice E D) (s s' : E) (d e d' : D) (w w' y y' : Option (List ℕ)) (act : Act) (step : Step) (fault : ServeFault)
+cut-off : {E D : Type 0} (u : Voice E D) (s s' : E) (d e d' : D) (w w' y y' : Option (List ℕ)) (act : Act) (step : StepSeen) (fault : ServeFault)
     → LedBy u.passes d e (λ asked. u.protocol.speaks s act asked step s')
     → HandsUpTo (manner u.passes (u.protocol.session s') u.own) (outlets e w y) (outlets d' w' y') step.out fault
     → IsCutOff u (point s d w y) (point s' d' w' y') act fault
@@ -200,7 +200,7 @@ cut-off u s s' d e d' w w' y y' act step fault led cut = record
     { asked = led.asked; step = step; speaks = led.admits; desk = e; asks = led.leads; cut = cut }
 
 pub hears-err : {E D : Type 0} (u : Voice E D) (s s' : E) (d e d' : D) (w w' y y' : Option (List ℕ))
-    (act : Act) (step : Step) (fault : ServeFault)
+    (act : Act) (step : StepSeen) (fault : ServeFault)
     → LedBy u.passes d e (λ asked. u.protocol.speaks s act asked step s')
     → HandsUpTo (manner u.passes (u.protocol.session s') u.own) (outlets e w y) (outlets d' w' y') step.out fault
     → Hears u act (point s d w y) (point s' d' w' y') (Err fault)

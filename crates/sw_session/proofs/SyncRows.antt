@@ -6,7 +6,7 @@ use Rattle.sw_core.specs.declared.ask.SessionAsk.TheVariants as Ask
 use Rattle.sw_core.specs.declared.ask.SessionAnswer.{SessionAnswer}
 use Rattle.sw_session.specs.declared.desk.View.{View}
 use Rattle.sw_session.specs.declared.engine.step.Reply.{Reply}
-use Rattle.sw_session.specs.declared.engine.step.Step.{Step}
+use Rattle.sw_session.specs.Said.{StepSeen}
 use Rattle.sw_hislip.specs.declared.kind.Kind.TheVariants as Kind
 use Rattle.sw_session.specs.Talk.{Settles, Queues, is_done}
 use Rattle.sw_session.proofs.EngineAsks.{by-one, by-two}
@@ -38,7 +38,7 @@ delivered-told passes old new sid control id is p =
     (λ rest. subst (λ (b : Bool). MatchBool b ((Noted sid false ∷ rest ≡ Noted sid false ∷ rest) × (goes [] ≡ goes []))
     (LooksForAnswer sid id (Noted sid false ∷ rest) (goes []) rest)) (sym is) (refl, refl))
 
-looked : (sid : Sid) (control id : ℕ) (asked rest : List Entry) (step : Step) → tells_delivery control ≡ false → LooksForAnswer sid id asked step rest
+looked : (sid : Sid) (control id : ℕ) (asked rest : List Entry) (step : StepSeen) → tells_delivery control ≡ false → LooksForAnswer sid id asked step rest
     → Delivers sid control id asked step rest
 looked sid control id asked rest step is h =
     subst (λ (b : Bool). MatchBool b ((asked ≡ Noted sid false ∷ rest) × (step ≡ goes [])) (LooksForAnswer sid id asked step rest)) (sym is) h
@@ -52,7 +52,7 @@ delivered-none passes old new sid control id view is none p =
     (refl, subst (λ (b : Bool). MatchBool b (Interrupts sid id rest (goes []) rest) ((goes [] ≡ goes []) × (rest ≡ rest))) (sym none) (refl, refl)))
 
 -- one is, and is dropped
-pub delivered-not : {D : Type 0} (passes : D → Entry → D → Type 0) (old mid new : D) (sid : Sid) (control id : ℕ) (view : View) (step : Step)
+pub delivered-not : {D : Type 0} (passes : D → Entry → D → Type 0) (old mid new : D) (sid : Sid) (control id : ℕ) (view : View) (step : StepSeen)
     → tells_delivery control ≡ false → view.mav ≡ true → passes old (Polled sid view) mid
     → Led passes mid new (λ t rest. Interrupts sid id t step rest) → Led passes old new (λ t rest. Delivers sid control id t step rest)
 delivered-not passes old mid new sid control id view step is some p led =
@@ -64,7 +64,7 @@ delivered-not passes old mid new sid control id view step is some p led =
     (refl, subst (λ (b : Bool). MatchBool b (Interrupts sid id u step rest) ((step ≡ goes []) × (rest ≡ u))) (sym some) h)))
 
 -- the interrupt
-pub interrupts-told : {D : Type 0} (passes : D → Entry → D → Type 0) (old mid new : D) (sid : Sid) (id : ℕ) (answer : SessionAnswer) (step : Step)
+pub interrupts-told : {D : Type 0} (passes : D → Entry → D → Type 0) (old mid new : D) (sid : Sid) (id : ℕ) (answer : SessionAnswer) (step : StepSeen)
     → passes old (Noted sid false) mid → passes mid (Asked (Ask.Fault sid QueryInterrupted) answer) new → step ≡ interrupted id answer
     → Led passes old new (λ t rest. Interrupts sid id t step rest)
 interrupts-told passes old mid new sid id answer step p q told = record {
@@ -93,7 +93,7 @@ trigger-alone passes old new sid within final is led = record {
 }
 
 -- a clear is complete
-pub completes-done : {D : Type 0} (passes : D → Entry → D → Type 0) (old mid new : D) (sid : Sid) (answer : SessionAnswer) (step : Step) → is_done answer ≡ true
+pub completes-done : {D : Type 0} (passes : D → Entry → D → Type 0) (old mid new : D) (sid : Sid) (answer : SessionAnswer) (step : StepSeen) → is_done answer ≡ true
     → passes old (Asked (Ask.Cleared sid) answer) mid → passes mid (Noted sid false) new
     → step ≡ responds (plain Kind.DeviceClearAcknowledge 0 0) → LedBy passes old new (λ asked. Completes sid asked step)
 completes-done passes old mid new sid answer step is p q told =

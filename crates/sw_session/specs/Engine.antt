@@ -10,7 +10,7 @@ use Rattle.sw_session.specs.declared.engine.session.State.{State}
 use Rattle.sw_session.specs.declared.engine.session.State.TheVariants.{Unopened, Synchronized, Attached}
 use Rattle.sw_session.specs.declared.engine.step.Channel.{Channel}
 use Rattle.sw_session.specs.declared.engine.step.Channel.TheVariants.{Synchronous, Asynchronous}
-use Rattle.sw_session.specs.declared.engine.step.Step.{Step}
+use Rattle.sw_session.specs.Said.{StepSeen}
 use Rattle.sw_session.specs.EngineKinds.{sync_request}
 use Rattle.sw_session.specs.EngineMessages.{error_message}
 use Rattle.sw_session.specs.EngineSync.{SyncStanding, OpensSync, TakesSync, FaltersSync, skipped}
@@ -36,7 +36,7 @@ opened_async None = Unopened Asynchronous
 opened_async (Some s) = Attached s
 
 -- one message: the first one opens the channel
-abbrev pub TakesMessage : State → Message → List Entry → Step → State → Type 0
+abbrev pub TakesMessage : State → Message → List Entry → StepSeen → State → Type 0
 TakesMessage (Unopened Synchronous) m asked step s' = (o : Option SyncStanding) × OpensSync m asked step o
     × (s' ≡ opened_sync o)
 TakesMessage (Unopened Asynchronous) m asked step s' =

@@ -19,7 +19,7 @@ use Rattle.sw_session.specs.declared.engine.requests.AsyncRequest.{AsyncRequest}
 use Rattle.sw_session.specs.declared.engine.requests.AsyncRequest.TheVariants as Request
 use Rattle.sw_session.specs.declared.engine.step.Channel.TheVariants.{Asynchronous}
 use Rattle.sw_session.specs.declared.engine.step.Reply.{Reply}
-use Rattle.sw_session.specs.declared.engine.step.Step.{Step}
+use Rattle.sw_session.specs.Said.{StepSeen}
 use Rattle.sw_session.specs.EngineKinds.{async_request}
 use Rattle.sw_session.specs.EngineMessages.{plain, error_message, second_welcome, size_told, size_response}
 use Rattle.sw_session.specs.EngineMessages.{tells_delivery}
@@ -38,14 +38,14 @@ abbrev pub second_channel : Sid → ℕ → AsyncStanding
 second_channel sid requests = record { sid = sid; told = requests; polled = requests }
 
 -- this message is said on the asynchronous channel
-abbrev pub replies : Message → Step
+abbrev pub replies : Message → StepSeen
 replies m = says Asynchronous m
 
 -- ---- the first message
 
 -- what comes of an answer to Attach: the channel is the second one of that session, and requests are counted from here;
 -- a number without such a session is a fault of initialization
-abbrev pub AttachesBy : SessionAnswer → List Entry → Step → Option AsyncStanding → Type 0
+abbrev pub AttachesBy : SessionAnswer → List Entry → StepSeen → Option AsyncStanding → Type 0
 AttachesBy (Joined sid) (Polled p view ∷ []) step s' = (p ≡ sid) × (step ≡ replies second_welcome)
     × (s' ≡ Some (second_channel sid view.requests))
 AttachesBy (Joined sid) asked step s' = ⊥
@@ -53,13 +53,13 @@ AttachesBy Stranger asked step s' = Unasked (fails Asynchronous InvalidInitializ
 AttachesBy answer asked step s' = Unasked over asked step × (s' ≡ None)
 
 -- AsyncInitialize with this session number
-abbrev pub AsksToAttach : ℕ → List Entry → Step → Option AsyncStanding → Type 0
+abbrev pub AsksToAttach : ℕ → List Entry → StepSeen → Option AsyncStanding → Type 0
 AsksToAttach number (Asked a answer ∷ asked) step s' = (a ≡ Ask.Attach number) × AttachesBy answer asked step s'
 AsksToAttach number [] step s' = ⊥
 AsksToAttach number (e ∷ asked) step s' = ⊥
 
 -- nothing is asked, and the fault of initialization is told
-abbrev pub MisbeginsSecond : List Entry → Step → Option AsyncStanding → Type 0
+abbrev pub MisbeginsSecond : List Entry → StepSeen → Option AsyncStanding → Type 0
 MisbeginsSecond asked step s' = Unasked (fails Asynchronous InvalidInitialization) asked step × (s' ≡ None)
 
 abbrev pub is_second : Kind → Bool
@@ -67,17 +67,17 @@ is_second Kind.AsyncInitialize = true
 is_second kind = false
 
 -- a number above 255 is no session's
-abbrev pub AttachesNumber : ℕ → List Entry → Step → Option AsyncStanding → Type 0
+abbrev pub AttachesNumber : ℕ → List Entry → StepSeen → Option AsyncStanding → Type 0
 AttachesNumber parameter asked step s' =
     MatchBool (nat_le parameter 255) (AsksToAttach parameter asked step s') (MisbeginsSecond asked step s')
 
 -- the first message has to be an AsyncInitialize
-abbrev pub OpensAsync : Kind → ℕ → List Entry → Step → Option AsyncStanding → Type 0
+abbrev pub OpensAsync : Kind → ℕ → List Entry → StepSeen → Option AsyncStanding → Type 0
 OpensAsync kind parameter asked step s' =
     MatchBool (is_second kind) (AttachesNumber parameter asked step s') (MisbeginsSecond asked step s')
 
 -- what the code comes to: the second channel of a session, or a reply without one
-abbrev pub attached_step : Result AsyncStanding Reply → Step
+abbrev pub attached_step : Result AsyncStanding Reply → StepSeen
 attached_step (Ok s) = replies second_welcome
 attached_step (Err reply) = reply_step Asynchronous reply
 
@@ -88,7 +88,7 @@ attached_session (Err reply) = None
 -- ---- locks
 
 -- what became of an ask for a lock: the code of the response; none where the channel ends
-abbrev pub lock_reply : Option ℕ → Step
+abbrev pub lock_reply : Option ℕ → StepSeen
 lock_reply (Some code) = replies (plain Kind.AsyncLockResponse code 0)
 lock_reply None = over
 
@@ -110,37 +110,37 @@ AwaitsLock turn ask limit (Asked a answer ∷ []) code = (a ≡ ask) × (code �
 AwaitsLock turn ask limit asked code = ⊥
 
 -- control code 1: a lock by this key, exclusive for an empty one, within so many milliseconds
-abbrev pub AsksLock : Sid → List ℕ → ℕ → List Entry → Step → Type 0
+abbrev pub AsksLock : Sid → List ℕ → ℕ → List Entry → StepSeen → Type 0
 AsksLock sid key limit asked step = (code : Option ℕ) × AwaitsLock 0 (Ask.Lock sid key) (Some limit) asked code
     × (step ≡ lock_reply code)
 
 -- control code 0: a lock is released
-abbrev pub ReleasesLock : Sid → List Entry → Step → Type 0
+abbrev pub ReleasesLock : Sid → List Entry → StepSeen → Type 0
 ReleasesLock sid (Asked a answer ∷ []) step = (a ≡ Ask.Release sid) × (step ≡ lock_reply (lock_code answer))
 ReleasesLock sid asked step = ⊥
 
 -- another control code
-abbrev pub miscontrolled : Step
+abbrev pub miscontrolled : StepSeen
 miscontrolled = replies (error_message UnrecognizedControl)
 
-abbrev pub AsksForLock : Sid → Message → List Entry → Step → Type 0
+abbrev pub AsksForLock : Sid → Message → List Entry → StepSeen → Type 0
 AsksForLock sid m asked step =
     MatchBool (m.control == 1) (AsksLock sid m.payload m.parameter asked step)
     (MatchBool (m.control == 0) (ReleasesLock sid asked step) (Unasked miscontrolled asked step))
 
 -- who holds locks
-abbrev pub info_reply : SessionAnswer → Step
+abbrev pub info_reply : SessionAnswer → StepSeen
 info_reply (Info exclusive holders) = replies (lock_info exclusive holders)
 info_reply answer = over
 
-abbrev pub TellsLocks : Sid → List Entry → Step → Type 0
+abbrev pub TellsLocks : Sid → List Entry → StepSeen → Type 0
 TellsLocks sid (Asked a answer ∷ []) step = (a ≡ Ask.LockInfo sid) × (step ≡ info_reply answer)
 TellsLocks sid asked step = ⊥
 
 -- ---- remote and local control
 
 -- the codes 0 to 6 are acknowledged, and nothing comes of them (own)
-abbrev pub control_reply : ℕ → Step
+abbrev pub control_reply : ℕ → StepSeen
 control_reply control = if nat_le control 6 then replies (plain Kind.AsyncRemoteLocalResponse 0 0) else miscontrolled
 
 -- ---- status
@@ -150,7 +150,7 @@ abbrev pub delivered : Sid → ℕ → List Entry
 delivered sid control = if tells_delivery control then Noted sid false ∷ [] else []
 
 -- the status byte is told, with RQS where there were more requests than were asked for
-pub record TellsStatus (s : AsyncStanding) (control : ℕ) (asked : List Entry) (step : Step)
+pub record TellsStatus (s : AsyncStanding) (control : ℕ) (asked : List Entry) (step : StepSeen)
     (s' : AsyncStanding) : Type 0 where
   pub view : View
   pub asks : asked ≡ delivered s.sid control ++ Polled s.sid view ∷ []
@@ -171,7 +171,7 @@ noticed s view = record s { told = max s.told view.requests }
 -- ---- all messages after the first
 
 -- what a message says and asks that leaves the standing as it is
-abbrev pub RepliesAsync : AsyncRequest → Sid → Message → List Entry → Step → Type 0
+abbrev pub RepliesAsync : AsyncRequest → Sid → Message → List Entry → StepSeen → Type 0
 RepliesAsync Request.Size sid m asked step =
     OnDone (Ask.Size sid (size_told m.payload)) Asynchronous size_response asked step
 RepliesAsync Request.Lock sid m asked step = AsksForLock sid m asked step
@@ -186,10 +186,10 @@ RepliesAsync Request.Vendor sid m asked step = Unasked (replies (error_message U
 RepliesAsync Request.Misplaced sid m asked step = Unasked (replies (error_message UnrecognizedType)) asked step
 RepliesAsync Request.Status sid m asked step = ⊥
 
-abbrev pub TakesAsyncBy : AsyncRequest → AsyncStanding → Message → List Entry → Step → AsyncStanding → Type 0
+abbrev pub TakesAsyncBy : AsyncRequest → AsyncStanding → Message → List Entry → StepSeen → AsyncStanding → Type 0
 TakesAsyncBy Request.Status s m asked step s' = TellsStatus s m.control asked step s'
 TakesAsyncBy request s m asked step s' = RepliesAsync request s.sid m asked step × (s' ≡ s)
 
 -- one message of the asynchronous channel
-abbrev pub TakesAsync : AsyncStanding → Message → List Entry → Step → AsyncStanding → Type 0
+abbrev pub TakesAsync : AsyncStanding → Message → List Entry → StepSeen → AsyncStanding → Type 0
 TakesAsync s m asked step s' = TakesAsyncBy (async_request m.kind) s m asked step s'

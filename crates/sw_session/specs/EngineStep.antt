@@ -9,7 +9,7 @@ use Rattle.sw_session.specs.declared.engine.step.Channel.{Channel}
 use Rattle.sw_session.specs.declared.engine.step.Reply.{Reply}
 use Rattle.sw_session.specs.declared.engine.step.Reply.TheVariants.{Says, Silence, Fails, Leaves}
 use Rattle.sw_session.specs.declared.engine.step.Sent.{Sent}
-use Rattle.sw_session.specs.declared.engine.step.Step.{Step}
+use Rattle.sw_session.specs.Said.{StepSeen}
 use Rattle.sw_session.specs.EngineMessages.{fatal_of}
 use Rattle.sw_session.specs.Talk.{is_done}
 use Rattle.sw_session.specs.Trace.{Entry, Asked, Leads}
@@ -18,35 +18,35 @@ abbrev pub on : Channel → Message → Sent
 on channel m = record { channel = channel; message = m }
 
 -- these messages are said, and the channel goes on
-abbrev pub goes : List Sent → Step
+abbrev pub goes : List Sent → StepSeen
 goes said = record { out = said; ends = false }
 
 -- the channel ends, and nothing is said
-abbrev pub over : Step
+abbrev pub over : StepSeen
 over = record { out = []; ends = true }
 
 -- one message is said on this channel, which goes on
-abbrev pub says : Channel → Message → Step
+abbrev pub says : Channel → Message → StepSeen
 says channel m = goes (on channel m ∷ [])
 
 -- a fault is told on the channel that met it, and the channel ends
-abbrev pub fails : Channel → FatalCode → Step
+abbrev pub fails : Channel → FatalCode → StepSeen
 fails channel code = record { out = on channel (fatal_of code) ∷ []; ends = true }
 
 -- what one part of a message's row says, and then another
-abbrev pub joined : Step → Step → Step
+abbrev pub joined : StepSeen → StepSeen → StepSeen
 joined first second = record { out = first.out ++ second.out; ends = second.ends }
 
 -- nothing is asked, and this is said
-abbrev pub Unasked : Step → List Entry → Step → Type 0
+abbrev pub Unasked : StepSeen → List Entry → StepSeen → Type 0
 Unasked it asked step = (asked ≡ []) × (step ≡ it)
 
 -- once what was asked is done, this message is said; any other answer ends the channel
-abbrev pub on_done : Channel → Message → SessionAnswer → Step
+abbrev pub on_done : Channel → Message → SessionAnswer → StepSeen
 on_done channel m answer = if is_done answer then says channel m else over
 
 -- this is asked
-abbrev pub OnDone : SessionAsk → Channel → Message → List Entry → Step → Type 0
+abbrev pub OnDone : SessionAsk → Channel → Message → List Entry → StepSeen → Type 0
 OnDone ask channel m (Asked a answer ∷ []) step = (a ≡ ask) × (step ≡ on_done channel m answer)
 OnDone ask channel m asked step = ⊥
 
@@ -63,7 +63,7 @@ pub record LedBy {D : Type 0} (passes : D → Entry → D → Type 0) (old new :
   pub admits : P asked
 
 -- what a reply comes to on this channel
-abbrev pub reply_step : Channel → Reply → Step
+abbrev pub reply_step : Channel → Reply → StepSeen
 reply_step channel (Says m) = says channel m
 reply_step channel Silence = goes []
 reply_step channel (Fails code) = fails channel code

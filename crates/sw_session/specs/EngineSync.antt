@@ -1,6 +1,6 @@
 -- The synchronous channel: what is asked and said to each message (IVI-6.1 HiSLIP, synchronized mode; when MAV is set
 -- and cleared, what interrupts and what a device clear drops is own).
-use Rattle.std.specs.Prelude.{◌≡◌, ◌≢◌, ℕ, ◌⊎◌, Bool, true, false, MatchBool, List, [], ◌∷◌, ◌++◌, map, Option, None}
+use Rattle.std.specs.Prelude.{◌≡◌, ℕ, ◌⊎◌, Bool, true, false, MatchBool, List, [], ◌∷◌, ◌++◌, map, Option, None}
 use Rattle.std.specs.Prelude.{Some, Result, Ok, Err, if◌then◌else◌, take}
 use Rattle.std.specs.Io.BufRead.{strip_last}
 use Rattle.sw_base.specs.declared.error.ScpiError.TheVariants.{GetNotAllowed, QueryInterrupted}
@@ -21,7 +21,7 @@ use Rattle.sw_session.specs.declared.engine.step.Channel.TheVariants.{Synchronou
 use Rattle.sw_session.specs.declared.engine.step.Reply.{Reply}
 use Rattle.sw_session.specs.declared.engine.step.Sent.{Sent}
 use Rattle.sw_session.specs.declared.engine.synchronous.Delivery.{Delivery}
-use Rattle.sw_session.specs.declared.engine.step.Step.{Step}
+use Rattle.sw_session.specs.Said.{StepSeen}
 use Rattle.sw_session.specs.EngineKinds.{sync_request}
 use Rattle.sw_session.specs.EngineMessages.{plain, error_message, welcome, IsSubAddress, IsCut, room_of, tells_delivery}
 use Rattle.sw_session.specs.EngineStep.{on, goes, reply_step, over, says, fails, joined, Unasked, is_gone}
@@ -41,13 +41,13 @@ abbrev pub newly_joined : Sid → SyncStanding
 newly_joined sid = record { sid = sid; macros = no_macros; attached = false; front = Front.Nothing }
 
 -- this message is said on the synchronous channel
-abbrev pub responds : Message → Step
+abbrev pub responds : Message → StepSeen
 responds m = says Synchronous m
 
 -- ---- the first message
 
 -- what comes of an answer to Join
-abbrev pub joins_step : ℕ → SessionAnswer → Step
+abbrev pub joins_step : ℕ → SessionAnswer → StepSeen
 joins_step parameter (Joined sid) = responds (welcome parameter sid.number)
 joins_step parameter Full = fails Synchronous TooManyClients
 joins_step parameter answer = over
@@ -57,7 +57,7 @@ joins_session (Joined sid) = Some (newly_joined sid)
 joins_session answer = None
 
 -- what the code comes to: the session that was joined, or a reply without one
-abbrev pub opened_step : ℕ → Result Sid Reply → Step
+abbrev pub opened_step : ℕ → Result Sid Reply → StepSeen
 opened_step parameter (Ok sid) = responds (welcome parameter sid.number)
 opened_step parameter (Err reply) = reply_step Synchronous reply
 
@@ -66,7 +66,7 @@ opened_session (Ok sid) = Some (newly_joined sid)
 opened_session (Err reply) = None
 
 -- Initialize: a session is asked for
-abbrev pub AsksToJoin : ℕ → List Entry → Step → Option SyncStanding → Type 0
+abbrev pub AsksToJoin : ℕ → List Entry → StepSeen → Option SyncStanding → Type 0
 AsksToJoin parameter (Asked a answer ∷ []) step s' = (a ≡ Ask.Join) × (step ≡ joins_step parameter answer)
     × (s' ≡ joins_session answer)
 AsksToJoin parameter asked step s' = ⊥
@@ -75,17 +75,17 @@ abbrev pub is_first : Kind → Bool
 is_first Kind.Initialize = true
 is_first kind = false
 
-abbrev pub MisbeginsFirst : List Entry → Step → Option SyncStanding → Type 0
+abbrev pub MisbeginsFirst : List Entry → StepSeen → Option SyncStanding → Type 0
 MisbeginsFirst asked step s' = Unasked (fails Synchronous InvalidInitialization) asked step × (s' ≡ None)
 
 -- the payload has to be a sub-address
-abbrev pub JoinsAt : List ℕ → ℕ → List Entry → Step → Option SyncStanding → Type 0
+abbrev pub JoinsAt : List ℕ → ℕ → List Entry → StepSeen → Option SyncStanding → Type 0
 JoinsAt payload parameter asked step s' =
     (IsSubAddress payload × AsksToJoin parameter asked step s')
     ⊎ ((IsSubAddress payload → ⊥) × MisbeginsFirst asked step s')
 
 -- the first message has to be an Initialize
-abbrev pub OpensSync : Message → List Entry → Step → Option SyncStanding → Type 0
+abbrev pub OpensSync : Message → List Entry → StepSeen → Option SyncStanding → Type 0
 OpensSync m asked step s' =
     MatchBool (is_first m.kind) (JoinsAt m.payload m.parameter asked step s') (MisbeginsFirst asked step s')
 
@@ -94,18 +94,18 @@ OpensSync m asked step s' =
 -- The parts below take the calls from somewhere on, and what is left of them.
 
 -- an answer to Attached: a session without its second channel is told so
-abbrev pub attended : SessionAnswer → Step
+abbrev pub attended : SessionAnswer → StepSeen
 attended (Done text) = goes []
 attended Missed = fails Synchronous WithoutBothChannels
 attended answer = over
 
 -- what keeps a message from being served is said
-abbrev pub gate_step : Option Reply → Step
+abbrev pub gate_step : Option Reply → StepSeen
 gate_step None = goes []
 gate_step (Some reply) = reply_step Synchronous reply
 
 -- until the second channel was seen to stand, it is asked whether it does
-abbrev pub Attends : Bool → Sid → List Entry → Step → List Entry → Type 0
+abbrev pub Attends : Bool → Sid → List Entry → StepSeen → List Entry → Type 0
 Attends true sid asked step rest = (step ≡ goes []) × (rest ≡ asked)
 Attends false sid (Asked a answer ∷ asked) step rest = (a ≡ Ask.Attached sid) × (step ≡ attended answer)
     × (rest ≡ asked)
@@ -116,7 +116,7 @@ abbrev pub interruption : ℕ → List Sent
 interruption id = on Asynchronous (plain Kind.AsyncInterrupted 0 id) ∷ on Synchronous (plain Kind.Interrupted 0 id) ∷ []
 
 -- what an interrupt comes to, by the answer to its error
-abbrev pub interrupted : ℕ → SessionAnswer → Step
+abbrev pub interrupted : ℕ → SessionAnswer → StepSeen
 interrupted id answer = if is_gone answer then over else goes (interruption id)
 
 -- what the last answer makes be said
@@ -125,25 +125,25 @@ said_by_delivery id Delivery.Interrupted = interruption id
 said_by_delivery id delivery = []
 
 -- what the last answer comes to
-abbrev pub delivery_step : ℕ → Delivery → Step
+abbrev pub delivery_step : ℕ → Delivery → StepSeen
 delivery_step id Delivery.Quiet = goes []
 delivery_step id Delivery.Interrupted = goes (interruption id)
 delivery_step id Delivery.Gone = over
 
 -- the answer that is available is dropped, and -410 is queued
-abbrev pub Interrupts : Sid → ℕ → List Entry → Step → List Entry → Type 0
+abbrev pub Interrupts : Sid → ℕ → List Entry → StepSeen → List Entry → Type 0
 Interrupts sid id (Noted p mav ∷ Asked a answer ∷ asked) step rest =
     (p ≡ sid) × (mav ≡ false) × (a ≡ Ask.Fault sid QueryInterrupted) × (step ≡ interrupted id answer) × (rest ≡ asked)
 Interrupts sid id asked step rest = ⊥
 
 -- a message that doesn't tell that the last answer was taken interrupts where one is available
-abbrev pub LooksForAnswer : Sid → ℕ → List Entry → Step → List Entry → Type 0
+abbrev pub LooksForAnswer : Sid → ℕ → List Entry → StepSeen → List Entry → Type 0
 LooksForAnswer sid id (Polled p view ∷ asked) step rest = (p ≡ sid)
     × MatchBool view.mav (Interrupts sid id asked step rest) ((step ≡ goes []) × (rest ≡ asked))
 LooksForAnswer sid id asked step rest = ⊥
 
 -- what the control code tells of the last answer
-abbrev pub Delivers : Sid → ℕ → ℕ → List Entry → Step → List Entry → Type 0
+abbrev pub Delivers : Sid → ℕ → ℕ → List Entry → StepSeen → List Entry → Type 0
 Delivers sid control id asked step rest =
     MatchBool (tells_delivery control) ((asked ≡ Noted sid false ∷ rest) × (step ≡ goes []))
     (LooksForAnswer sid id asked step rest)
@@ -171,13 +171,13 @@ abbrev pub CutsTo : ℕ → ℕ → List ℕ → List Message → Type 0
 CutsTo size id [] parts = parts ≡ []
 CutsTo size id (b ∷ bytes) parts = IsCut (room_of size) id (b ∷ bytes) parts
 
-abbrev pub Answers : ℕ → List ℕ → SessionAnswer → Step → Type 0
+abbrev pub Answers : ℕ → List ℕ → SessionAnswer → StepSeen → Type 0
 Answers id bytes (Max size) step = (parts : List Message) × CutsTo size id bytes parts
     × (step ≡ goes (map (on Synchronous) parts))
 Answers id bytes told step = step ≡ over
 
 -- A whole program message is talked over. Then it is asked what size the client told last, and the answer goes out.
-pub record Converses (s : SyncStanding) (id : ℕ) (text : List ℕ) (asked : List Entry) (step : Step)
+pub record Converses (s : SyncStanding) (id : ℕ) (text : List ℕ) (asked : List Entry) (step : StepSeen)
     (macros : Table) : Type 0 where
   pub talk : List Entry
   pub told : SessionAnswer
@@ -187,7 +187,7 @@ pub record Converses (s : SyncStanding) (id : ℕ) (text : List ℕ) (asked : Li
   pub answers : Answers id bytes told step
 
 -- DataEnd: the message is whole, or is dropped whole
-abbrev pub Finishes : SyncStanding → ℕ → Option (List ℕ) → List Entry → Step → SyncStanding → Type 0
+abbrev pub Finishes : SyncStanding → ℕ → Option (List ℕ) → List Entry → StepSeen → SyncStanding → Type 0
 Finishes s id None asked step s' = Unasked (goes []) asked step × (s' ≡ record s { front = Front.Nothing })
 Finishes s id (Some text) asked step s' = Converses s id text asked step s'.macros
     × (s' ≡ record s { macros = s'.macros; front = Front.Nothing })
@@ -203,11 +203,11 @@ GivesTrigger true sid asked final = Queues sid GetNotAllowed asked final []
 GivesTrigger false sid asked final = Settles sid 0 (Ask.Bus sid) asked final []
 
 -- what a trigger comes to
-abbrev pub trigger_step : SessionAnswer → Step
+abbrev pub trigger_step : SessionAnswer → StepSeen
 trigger_step final = record { out = []; ends = is_gone final }
 
 -- Trigger: what came of a program message is dropped
-abbrev pub Triggers : Bool → Sid → List Entry → Step → Type 0
+abbrev pub Triggers : Bool → Sid → List Entry → StepSeen → Type 0
 Triggers within sid asked step = (final : SessionAnswer) × GivesTrigger within sid asked final
     × (step ≡ trigger_step final)
 
@@ -219,7 +219,7 @@ is_program Request.Trigger = true
 is_program request = false
 
 -- what each of these messages does once that was done
-abbrev pub Programs : SyncRequest → SyncStanding → Message → List Entry → Step → SyncStanding → Type 0
+abbrev pub Programs : SyncRequest → SyncStanding → Message → List Entry → StepSeen → SyncStanding → Type 0
 Programs Request.Part s m asked step s' = Unasked (goes []) asked step
     × (s' ≡ record s { front = with_part s.front m.payload })
 Programs Request.End s m asked step s' = Finishes s m.parameter (whole s.front m.payload) asked step s'
@@ -228,71 +228,52 @@ Programs Request.Trigger s m asked step s' = Triggers (is_within s.front) s.sid 
 Programs request s m asked step s' = ⊥
 
 -- this is said, and then more, which comes from this; the channel ends as that says
-abbrev pub SaysMore : List Sent → Step → (Step → Type 0) → Type 0
-SaysMore said step P = (own : Step) × P own × (step ≡ joined (goes said) own)
+abbrev pub SaysMore : List Sent → StepSeen → (StepSeen → Type 0) → Type 0
+SaysMore said step P = (own : StepSeen) × P own × (step ≡ joined (goes said) own)
 
 -- a part of a row, and what follows it unless it ends the channel; what both say is said
-abbrev pub Onward : (List Entry → Step → SyncStanding → Type 0) → Step → SyncStanding → List Entry → Step → SyncStanding
+abbrev pub Onward : (List Entry → StepSeen → SyncStanding → Type 0) → StepSeen → SyncStanding → List Entry → StepSeen → SyncStanding
     → Type 0
 Onward next first s asked step s' =
     MatchBool first.ends (Unasked first asked step × (s' ≡ s))
-    ((second : Step) × next asked second s' × (step ≡ joined first second))
+    ((second : StepSeen) × next asked second s' × (step ≡ joined first second))
 
 -- Data, DataEnd and Trigger: the second channel has to stand, then the last answer is looked at, then the message is
 -- served
-abbrev pub Attended : SyncRequest → SyncStanding → Message → List Entry → Step → SyncStanding → Type 0
+abbrev pub Attended : SyncRequest → SyncStanding → Message → List Entry → StepSeen → SyncStanding → Type 0
 Attended request s m asked step s' =
-    (first : Step) × (rest : List Entry) × Delivers s.sid m.control m.parameter asked first rest
+    (first : StepSeen) × (rest : List Entry) × Delivers s.sid m.control m.parameter asked first rest
     × Onward (λ calls said t. Programs request s m calls said t) first s rest step s'
 
-abbrev pub ServesProgram : SyncRequest → SyncStanding → Message → List Entry → Step → SyncStanding → Type 0
+abbrev pub ServesProgram : SyncRequest → SyncStanding → Message → List Entry → StepSeen → SyncStanding → Type 0
 ServesProgram request s m asked step s' =
-    (first : Step) × (rest : List Entry) × Attends s.attached s.sid asked first rest
+    (first : StepSeen) × (rest : List Entry) × Attends s.attached s.sid asked first rest
     × Onward (λ calls said t. Attended request (record s { attached = true }) m calls said t) first s rest step s'
 
 -- ---- want of memory at a message of a program
 
--- there is an answer, and the size to which it is to be cut was told
-abbrev pub IsToBeCut : List ℕ → SessionAnswer → Type 0
-IsToBeCut bytes told = (size : ℕ) × (told ≡ Max size) × (bytes ≢ [])
-
--- A whole program message was talked over and the size asked, and its answer found no memory.
-pub record LosesAnswer (s : SyncStanding) (text : List ℕ) (asked : List Entry) : Type 0 where
-  pub talk : List Entry
-  pub told : SessionAnswer
-  pub asks : asked ≡ talk ++ Asked (Ask.MaxSize s.sid) told ∷ []
-  pub bytes : List ℕ
-  pub macros : Table
-  pub talks : TalksMessage s.sid s.macros (strip_last 10 text) talk bytes macros
-  pub cut : IsToBeCut bytes told
-
--- what a DataEnd asks by itself: nothing where its message found no memory
-abbrev pub FinishesShort : SyncStanding → Option (List ℕ) → List Entry → Type 0
-FinishesShort s None asked = asked ≡ []
-FinishesShort s (Some text) asked = (asked ≡ []) ⊎ LosesAnswer s text asked
-
--- what each of these messages asks by itself
+-- what each of these messages asks by itself: a part of a program message that finds no memory, nothing
 abbrev pub ProgramsShort : SyncRequest → SyncStanding → Message → List Entry → Type 0
 ProgramsShort Request.Part s m asked = asked ≡ []
-ProgramsShort Request.End s m asked = FinishesShort s (whole s.front m.payload) asked
+ProgramsShort Request.End s m asked = asked ≡ []
 ProgramsShort request s m asked = ⊥
 
 -- before that the last answer was looked at, and before that whether the second channel stands; neither ended the
 -- channel
 abbrev pub AttendedShort : SyncRequest → SyncStanding → Message → List Entry → Type 0
 AttendedShort request s m asked =
-    (first : Step) × (rest : List Entry) × Delivers s.sid m.control m.parameter asked first rest × (first.ends ≡ false)
+    (first : StepSeen) × (rest : List Entry) × Delivers s.sid m.control m.parameter asked first rest × (first.ends ≡ false)
     × ProgramsShort request s m rest
 
 abbrev pub ServesShort : SyncRequest → SyncStanding → Message → List Entry → Type 0
 ServesShort request s m asked =
-    (first : Step) × (rest : List Entry) × Attends s.attached s.sid asked first rest × (first.ends ≡ false)
+    (first : StepSeen) × (rest : List Entry) × Attends s.attached s.sid asked first rest × (first.ends ≡ false)
     × AttendedShort request (record s { attached = true }) m rest
 
 -- ---- all messages after the first
 
 -- DeviceClearComplete: the session is heard again, and no answer is available
-abbrev pub Completes : Sid → List Entry → Step → Type 0
+abbrev pub Completes : Sid → List Entry → StepSeen → Type 0
 Completes sid (Asked a answer ∷ asked) step =
     (a ≡ Ask.Cleared sid) × MatchBool (is_done answer)
     ((asked ≡ Noted sid false ∷ []) × (step ≡ responds (plain Kind.DeviceClearAcknowledge 0 0)))
@@ -300,11 +281,11 @@ Completes sid (Asked a answer ∷ asked) step =
 Completes sid asked step = ⊥
 
 -- then what came of a program message is dropped
-abbrev pub message_completed : SyncStanding → Step → SyncStanding
+abbrev pub message_completed : SyncStanding → StepSeen → SyncStanding
 message_completed s step = if step.ends then s else record s { front = Front.Nothing }
 
 -- what the messages that are no part of a program say
-abbrev pub RepliesSync : SyncRequest → SyncStanding → List Entry → Step → SyncStanding → Type 0
+abbrev pub RepliesSync : SyncRequest → SyncStanding → List Entry → StepSeen → SyncStanding → Type 0
 RepliesSync Request.ClearComplete s asked step s' = Completes s.sid asked step × (s' ≡ message_completed s step)
 RepliesSync Request.Leave s asked step s' = Unasked over asked step × (s' ≡ s)
 RepliesSync Request.Nothing s asked step s' = Unasked (goes []) asked step × (s' ≡ s)
@@ -314,12 +295,12 @@ RepliesSync Request.Misplaced s asked step s' =
     Unasked (responds (error_message UnrecognizedType)) asked step × (s' ≡ s)
 RepliesSync request s asked step s' = ⊥
 
-abbrev pub TakesSyncBy : SyncRequest → SyncStanding → Message → List Entry → Step → SyncStanding → Type 0
+abbrev pub TakesSyncBy : SyncRequest → SyncStanding → Message → List Entry → StepSeen → SyncStanding → Type 0
 TakesSyncBy request s m asked step s' =
     MatchBool (is_program request) (ServesProgram request s m asked step s') (RepliesSync request s asked step s')
 
 -- one message of the synchronous channel
-abbrev pub TakesSync : SyncStanding → Message → List Entry → Step → SyncStanding → Type 0
+abbrev pub TakesSync : SyncStanding → Message → List Entry → StepSeen → SyncStanding → Type 0
 TakesSync s m asked step s' = TakesSyncBy (sync_request m.kind) s m asked step s'
 
 -- A message that found no memory has asked a front of what its row asks: nothing, or what a message of a program asks

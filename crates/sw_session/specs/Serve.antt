@@ -14,7 +14,7 @@ use Rattle.sw_core.specs.declared.ask.SessionAsk.TheVariants as Ask
 use Rattle.sw_core.specs.declared.ask.SessionAnswer.{SessionAnswer}
 use Rattle.sw_session.specs.declared.engine.step.Channel.{Channel}
 use Rattle.sw_session.specs.declared.engine.step.Sent.{Sent}
-use Rattle.sw_session.specs.declared.engine.step.Step.{Step}
+use Rattle.sw_session.specs.Said.{StepSeen, is_fatal}
 use Rattle.sw_session.specs.declared.servers.act.Act.{Act}
 use Rattle.sw_session.specs.declared.servers.act.Act.TheVariants.{Takes, Skips, Refuses, Notices}
 use Rattle.sw_session.specs.declared.servers.act.AfterStep.{AfterStep}
@@ -32,7 +32,7 @@ use Rattle.sw_session.specs.ServeHand.{availability_notes, HandsUpTo, manner, ou
 -- An engine's definition: what it asks and says to an act, and where it stands then; what it may have asked, and where
 -- it may stand, where it found no memory; and which session it has joined.
 pub record Protocol (E : Type 0) : Type 1 where
-  pub speaks : E → Act → List Entry → Step → E → Type 0
+  pub speaks : E → Act → List Entry → StepSeen → E → Type 0
   pub falters : E → Act → List Entry → E → Type 0
   pub session : E → Option Sid
 
@@ -87,7 +87,7 @@ pauses (i ∷ inputs) = is_pause i + pauses inputs
 pub record Exchange : Type 0 where
   pub act : Act
   pub asked : List Entry
-  pub step : Step
+  pub step : StepSeen
   pub noted : List Entry
 
 abbrev pub is_refused : Act → Bool
@@ -96,12 +96,8 @@ is_refused (Takes m) = false
 is_refused (Skips kind) = false
 is_refused Notices = false
 
-abbrev pub is_fatal : Kind → Bool
-is_fatal Kind.FatalError = true
-is_fatal kind = false
-
 -- how the channel goes on: a wrong prologue ends it, as does a step that says so, with a fatal error or without
-abbrev pub after_step : Bool → Step → AfterStep
+abbrev pub after_step : Bool → StepSeen → AfterStep
 after_step true step = Malformed
 after_step false step =
     if step.ends then if list_any (λ (s : Sent). is_fatal s.message.kind) step.out then Fatal else Ends else Goes
@@ -153,7 +149,7 @@ pub record Spoken {E D : Type 0} (u : Voice E D) (a b : Point E D) (xs : List Ex
 -- what was said to an act was not written whole: its messages were handed over up to one that is not written
 pub record IsCutOff {E D : Type 0} (u : Voice E D) (a b : Point E D) (act : Act) (fault : ServeFault) : Type 0 where
   pub asked : List Entry
-  pub step : Step
+  pub step : StepSeen
   pub speaks : u.protocol.speaks a.engine act asked step b.engine
   pub desk : D
   pub asks : Leads u.passes a.desk asked desk

@@ -7,7 +7,7 @@ use Rattle.sw_session.specs.declared.engine.session.State.{State}
 use Rattle.sw_session.specs.declared.engine.session.State.TheVariants.{Attached}
 use Rattle.sw_session.specs.declared.engine.step.Channel.{Channel}
 use Rattle.sw_session.specs.declared.engine.step.Channel.TheVariants.{Asynchronous}
-use Rattle.sw_session.specs.declared.engine.step.Step.{Step}
+use Rattle.sw_session.specs.Said.{StepSeen}
 use Rattle.sw_session.specs.declared.servers.act.Act.{Act}
 use Rattle.sw_session.specs.declared.servers.fault.ServeFault.{ServeFault}
 use Rattle.sw_session.specs.Trace.{Entry, Polled}
@@ -18,7 +18,7 @@ use Rattle.sw_session.specs.Engine.{notice_from, noticed_from}
 use Rattle.sw_session.specs.Serve.{Protocol, voice, service, Course, course, ServesAndLeaves, point}
 
 -- a service request that is told, if any
-abbrev pub told_step : Option Message → Step
+abbrev pub told_step : Option Message → StepSeen
 told_step None = goes []
 told_step (Some m) = says Asynchronous m
 
@@ -29,18 +29,18 @@ second_session_of s = None
 
 -- The second channel of a session looks at its status, and tells of service requests that were not told yet. Any other
 -- channel asks and says nothing.
-abbrev pub LooksFor : Option Sid → State → List Entry → Step → State → Type 0
+abbrev pub LooksFor : Option Sid → State → List Entry → StepSeen → State → Type 0
 LooksFor (Some sid) s (Polled p view ∷ []) step t = (p ≡ sid) × (step ≡ told_step (notice_from s view))
     × (t ≡ noticed_from s view)
 LooksFor (Some sid) s asked step t = ⊥
 LooksFor None s asked step t = Unasked (goes []) asked step × (t ≡ s)
 
-abbrev pub Looks : State → List Entry → Step → State → Type 0
+abbrev pub Looks : State → List Entry → StepSeen → State → Type 0
 Looks s asked step t = LooksFor (second_session_of s) s asked step t
 
 -- What an engine asks and says to an act: to a message what its channel's definition says, to one that was skipped
 -- Error 4 (own), to a header that doesn't begin with `HS` FatalError 1, and service requests are told.
-abbrev pub EngineSpeaks : EngineStanding → Act → List Entry → Step → EngineStanding → Type 0
+abbrev pub EngineSpeaks : EngineStanding → Act → List Entry → StepSeen → EngineStanding → Type 0
 EngineSpeaks e (Act.Takes m) asked step f =
     TakesMessage e.state m asked step f.state × (e.spent ≡ false) × (f.spent ≡ false)
 EngineSpeaks e (Act.Skips kind) asked step f = Unasked (says (channel_of_state e.state) too_large) asked step

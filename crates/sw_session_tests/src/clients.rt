@@ -92,24 +92,42 @@ fn is_said(sent: &Sent, channel: Channel, wanted: Fields<'_>) -> bool {
         && sent.message.payload.as_slice() == wanted.payload
 }
 
+/// What is said to one message, one after another, and whether the channel ends then.
+#[derive(Drop)]
+pub struct Said {
+    pub out: Vec<Sent>,
+    pub ends: bool,
+}
+
+/// All that is said.
+fn all_said(alloc: Global, step: Step) -> Option<Said> {
+    let mut step = step;
+    let mut out = Vec::new(alloc);
+    while let Some(sent) = step.next(alloc).ok()? {
+        out.push(sent).ok()?;
+    }
+    let ends = step.ends();
+    Some(Said { out, ends })
+}
+
 /// Whether nothing is said.
-fn is_silent(step: &Step) -> bool {
-    step.out.as_slice().is_empty() && !step.ends
+fn is_silent(said: &Said) -> bool {
+    said.out.is_empty() && !said.ends
 }
 
 /// Whether this alone is said, and whether the channel ends with it.
-pub fn is_answer(step: &Step, channel: Channel, wanted: Fields<'_>, ends: bool) -> bool {
-    match step.out.as_slice() {
-        [sent] => step.ends == ends && is_said(sent, channel, wanted),
+pub fn is_answer(said: &Said, channel: Channel, wanted: Fields<'_>, ends: bool) -> bool {
+    match said.out.as_slice() {
+        [sent] => said.ends == ends && is_said(sent, channel, wanted),
         _ => false,
     }
 }
 
 /// Whether these two are said, each on its channel, and the channel goes on.
-fn is_pair(step: &Step, first: (Channel, Fields<'_>), second: (Channel, Fields<'_>)) -> bool {
-    match step.out.as_slice() {
+fn is_pair(said: &Said, first: (Channel, Fields<'_>), second: (Channel, Fields<'_>)) -> bool {
+    match said.out.as_slice() {
         [one, two] => {
-            !step.ends && is_said(one, first.0, first.1) && is_said(two, second.0, second.1)
+            !said.ends && is_said(one, first.0, first.1) && is_said(two, second.0, second.1)
         }
         _ => false,
     }
@@ -121,9 +139,9 @@ pub fn take<D: Desk>(
     engine: &mut Engine,
     desk: &mut D,
     it: Fields<'_>,
-) -> Option<Step> {
+) -> Option<Said> {
     match message(alloc, it) {
-        Ok(message) => engine.take(message, desk).ok(),
+        Ok(message) => all_said(alloc, engine.take(message, desk).ok()?),
         Err(_) => None,
     }
 }
@@ -151,7 +169,7 @@ impl Client {
         desk: &mut D,
         channel: Channel,
         it: Fields<'_>,
-    ) -> Option<Step> {
+    ) -> Option<Said> {
         match channel {
             Channel::Synchronous => take(self.alloc, &mut self.main, desk, it),
             Channel::Asynchronous => take(self.alloc, &mut self.side, desk, it),

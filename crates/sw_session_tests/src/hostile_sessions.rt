@@ -1,18 +1,18 @@
 //! Sessions that end too early, connections that outlive their session, and sizes of odd lengths.
 
-use crate::clients::{Client, FIRST, Fields, IDENTITY, TAKEN, bench, carrying, plain};
+use crate::clients::{Client, FIRST, Fields, IDENTITY, Said, TAKEN, bench, carrying, plain};
 use crate::hostile::{Halves, Row, Watched, line, quiet, sent_by, serve_on};
 use std::alloc::Global;
 use std::test::Fail;
 use sw_core::{SessionAnswer, SessionAsk, Sid};
 use sw_hislip::Kind;
-use sw_session::{Channel, Desk, Step, View, Wake, serve_async};
+use sw_session::{Channel, Desk, View, Wake, serve_async};
 
 /// Whether an answer is the identity in parts of so many bytes.
-fn is_cut(step: &Step, part: usize) -> bool {
+fn is_cut(said: &Said, part: usize) -> bool {
     let mut left = IDENTITY;
-    let mut is_so = !step.ends;
-    for sent in step.out.as_slice() {
+    let mut is_so = !said.ends;
+    for sent in said.out.as_slice() {
         let (front, rest) = left.split_at(part.min(left.len()));
         let kind = if rest.is_empty() {
             Kind::DataEnd
@@ -91,7 +91,7 @@ fn leave<D: Desk>(client: &Client, desk: &mut D) -> bool {
 fn ends<D: Desk>(client: &mut Client, desk: &mut D, channel: Channel, it: Fields<'_>) -> bool {
     match client.hears(desk, channel, it) {
         Some(step) => {
-            let is_so = step.ends && step.out.as_slice().is_empty();
+            let is_so = step.ends && step.out.is_empty();
             drop(step);
             is_so
         }

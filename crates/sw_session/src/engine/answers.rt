@@ -1,9 +1,11 @@
 //! Answers, cut to the client's size.
 
-ghost use Rattle.std.specs.Prelude.{◌≡◌, ◌<◌, IfOk};
-ghost use Rattle.sw_session.specs.EngineMessages.{room_of, part, IsCut};
+ghost use Rattle.std.specs.Prelude.{◌≡◌, ◌<◌, ◌≤◌, IfOk, drop, length};
+ghost use Rattle.sw_session.specs.EngineMessages.{room_of, part};
+ghost use Rattle.sw_session.specs.InParts.{parts_of, GivesFirst};
 
 use std::alloc::{AllocError, Global};
+use std::marker::Model;
 use sw_base::Sequence;
 use sw_hislip::{Kind, LONGEST_PAYLOAD, Message};
 
@@ -18,20 +20,64 @@ pub fn room_of(size: u64) -> usize
     size.min(LONGEST_PAYLOAD).saturating_sub(HEADER).max(1) as usize
 }
 
-/// An answer under this identifier, cut into payloads of this many bytes. Only want of memory is refused.
-pub fn cut(alloc: Global, id: u32, room: usize, answer: &[u8]) -> Result<Vec<Message>, AllocError>
-    requires { 0 < room }
-    ensures { IfOk result (λ out. IsCut room id answer.now out.items) }
-{
-    let mut out = Vec::new(alloc);
-    let mut left = answer;
-    while left.len() > room {
-        let (front, rest) = left.split_at(room);
-        out.push(part(alloc, Kind::Data, id, front)?)?;
-        left = rest;
+/// The parts of an answer that are still to be said. The answer is kept as it is, and each part is made when it is asked
+/// for, so that all of them never stand in memory together. Contracts see their messages.
+#[derive(Debug, Drop)]
+pub struct Parts {
+    id: u32,
+    /// How many bytes go into one part.
+    room: usize,
+    answer: Vec<u8>,
+    /// How many bytes of the answer were given.
+    given: usize,
+    /// Whether the last part was given.
+    is_over: bool,
+}
+
+impl Model for Parts {
+    ghost use Rattle.std.specs.Prelude.{◌<◌, ◌≤◌, drop, length, List, [], if◌then◌else◌};
+    ghost use Rattle.sw_hislip.specs.declared.message.Message.{Message};
+    ghost use Rattle.sw_session.specs.InParts.{parts_of};
+
+    ghost Value = { List Message };
+
+    ghost view = { λ p. if p.is_over then [] else parts_of p.room p.id (drop p.given p.answer.items) };
+
+    ghost invariant = { λ p. (0 < p.room) × (p.given ≤ length p.answer.items) };
+}
+
+impl Parts {
+    /// All parts of an answer under this identifier, of so many bytes each, but for the last, which may have fewer.
+    pub fn of(id: u32, room: usize, answer: Vec<u8>) -> Self
+        requires { 0 < room }
+        ensures { result ≡ parts_of room id answer.items }
+    {
+        Parts {
+            id,
+            room,
+            answer,
+            given: 0,
+            is_over: false,
+        }
     }
-    out.push(part(alloc, Kind::DataEnd, id, left)?)?;
-    Ok(out)
+
+    /// The next part. Only want of memory is refused.
+    pub fn next(&mut self, alloc: Global) -> Result<Option<Message>, AllocError>
+        ensures { GivesFirst self.old result self.new }
+    {
+        if self.is_over {
+            return Ok(None);
+        }
+        let left = &self.answer[self.given..];
+        if left.len() > self.room {
+            let message = part(alloc, Kind::Data, self.id, &left[..self.room])?;
+            self.given += self.room;
+            return Ok(Some(message));
+        }
+        let message = part(alloc, Kind::DataEnd, self.id, left)?;
+        self.is_over = true;
+        Ok(Some(message))
+    }
 }
 
 /// A part of an answer.

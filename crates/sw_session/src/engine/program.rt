@@ -1,6 +1,6 @@
 //! The synchronous channel of a session after its first message: program messages in parts, and their answers.
 
-ghost use Rattle.std.specs.Prelude.{◌≡◌, ◌≢◌, ◌≤◌, ◌++◌, List, [], map, true, false, IfOk, OnErr, vec_capacity};
+ghost use Rattle.std.specs.Prelude.{◌≡◌, ◌≤◌, List, [], map, true, false, IfOk, OnErr, vec_capacity};
 ghost use Rattle.sw_session.specs.EngineSync as EngineSync;
 ghost use Rattle.sw_session.specs.EngineStep.{LedBy, on, goes, joined, reply_step};
 ghost use Rattle.sw_session.specs.EngineSync.{newly_joined, TakesSync, RepliesSync, Completes, message_completed};
@@ -10,12 +10,12 @@ ghost use Rattle.sw_session.specs.EngineSync.{Finishes, Converses, Answers, Cuts
 ghost use Rattle.sw_session.specs.EngineSync.{SaysMore};
 ghost use Rattle.sw_session.specs.EngineSync.{is_program};
 ghost use Rattle.sw_session.specs.EngineKinds.{sync_request};
-ghost use Rattle.sw_session.specs.EngineSync.{IsToBeCut, LosesAnswer, FinishesShort, ProgramsShort, AttendedShort};
+ghost use Rattle.sw_session.specs.EngineSync.{ProgramsShort, AttendedShort};
 ghost use Rattle.sw_session.specs.EngineSync.{ServesShort, FaltersSync};
 ghost use Rattle.sw_session.specs.declared.engine.step.Channel.TheVariants.{Synchronous};
 
 use crate::desk::Desk;
-use crate::engine::answers::{cut, room_of};
+use crate::engine::answers::{Parts, room_of};
 use crate::engine::front::{Front, is_within, skipped, whole, with_part};
 use crate::engine::refusals::{ErrorCode, FatalCode, error};
 use crate::engine::requests::{SyncRequest, is_program, sync_request};
@@ -211,7 +211,7 @@ impl SyncSession {
     {
         match request {
             SyncRequest::Part => self.keep(message.payload, said),
-            SyncRequest::End => self.finish(alloc, message.parameter, message.payload, said, desk),
+            SyncRequest::End => self.finish(message.parameter, message.payload, said, desk),
             SyncRequest::Trigger => {
                 drop(message);
                 Ok(self.trigger(said, desk))
@@ -252,7 +252,6 @@ impl SyncSession {
     /// Ends a program message with its last part.
     fn finish<D: Desk>(
         &mut self,
-        alloc: Global,
         id: u32,
         part: Sequence<u8>,
         said: Vec<Sent>,
@@ -261,34 +260,25 @@ impl SyncSession {
         ensures ok { IfOk result (λ step. LedBy D.passes desk.old desk.new (λ asked.
             SaysMore said.items step (λ own.
             Finishes self.old id (EngineSync.whole self.old.front part) asked own self.new))) }
-        ensures err { OnErr result (LedBy D.passes desk.old desk.new (λ asked.
-            FinishesShort self.old (EngineSync.whole self.old.front part) asked)) }
+        ensures err { OnErr result (LedBy D.passes desk.old desk.new (λ asked. asked ≡ [])) }
         ensures same { self.new.sid ≡ self.old.sid }
     {
         let front = replace(&mut self.front, Front::Nothing);
         match whole(front, part)? {
-            Some(text) => self.converse(alloc, id, text.as_slice(), said, desk),
+            Some(text) => Ok(self.converse(id, text.as_slice(), said, desk)),
             None => Ok(told(said, false)),
         }
     }
 
-    /// Talks over a program message, and cuts its answer to the client's size.
-    fn converse<D: Desk>(
-        &mut self,
-        alloc: Global,
-        id: u32,
-        text: &[u8],
-        said: Vec<Sent>,
-        desk: &mut D,
-    ) -> Result<Step, AllocError>
-        ensures ok { IfOk result (λ step. LedBy D.passes desk.old desk.new (λ asked.
-            SaysMore said.items step (λ own. Converses self.old id text.now asked own self.new.macros))) }
-        ensures err { OnErr result (LedBy D.passes desk.old desk.new (λ asked. LosesAnswer self.old text.now asked)) }
+    /// Talks over a program message, and says its answer in parts of the client's size.
+    fn converse<D: Desk>(&mut self, id: u32, text: &[u8], said: Vec<Sent>, desk: &mut D) -> Step
+        ensures talks { LedBy D.passes desk.old desk.new (λ asked.
+            SaysMore said.items result (λ own. Converses self.old id text.now asked own self.new.macros)) }
         ensures kept { self.new ≡ record self.old { macros = self.new.macros } }
     {
         let bytes = self.talker.message(text, desk);
-        let answer = desk.ask(SessionAsk::MaxSize(self.sid));
-        respond(alloc, id, &bytes, answer, said)
+        let size = desk.ask(SessionAsk::MaxSize(self.sid));
+        respond(id, bytes, size, said)
     }
 }
 
@@ -303,10 +293,7 @@ fn ends(reply: &Reply) -> bool
 fn told(said: Vec<Sent>, ends: bool) -> Step
     ensures { result ≡ joined (goes said.items) (record { out = []; ends = ends }) }
 {
-    Step {
-        out: Sequence::new(said),
-        ends,
-    }
+    Step::new(said, ends)
 }
 
 /// The messages of an interrupt, where there was one.
@@ -328,55 +315,25 @@ fn interruption(alloc: Global, room: Vec<Sent>, id: u32, delivery: Delivery) -> 
 }
 
 /// An answer, cut to the size that was told; where none was, the channel ends. This was said before.
-fn respond(
-    alloc: Global,
-    id: u32,
-    bytes: &[u8],
-    size: SessionAnswer,
-    said: Vec<Sent>,
-) -> Result<Step, AllocError>
-    ensures ok { IfOk result (λ step. SaysMore said.items step (λ own. Answers id bytes.now size own)) }
-    ensures err { OnErr result (IsToBeCut bytes.now size) }
+fn respond(id: u32, bytes: Vec<u8>, size: SessionAnswer, said: Vec<Sent>) -> Step
+    ensures { SaysMore said.items result (λ own. Answers id bytes.items size own) }
 {
     match size {
-        SessionAnswer::Max(size) => {
-            let said = say_parts(alloc, id, size, bytes, said)?;
-            Ok(told(said, false))
-        }
+        SessionAnswer::Max(size) => answer(id, size, bytes, said),
         answer => {
             drop(answer);
-            Ok(told(said, true))
+            told(said, true)
         }
     }
 }
 
 /// What was said before, and an answer cut to this size; an empty one is none.
-fn say_parts(
-    alloc: Global,
-    id: u32,
-    size: u64,
-    bytes: &[u8],
-    said: Vec<Sent>,
-) -> Result<Vec<Sent>, AllocError>
-    ensures ok { IfOk result (λ all. (parts : List Message) × CutsTo size id bytes.now parts
-        × (all.items ≡ said.items ++ map (on Synchronous) parts)) }
-    ensures err { OnErr result (bytes.now ≢ []) }
+fn answer(id: u32, size: u64, bytes: Vec<u8>, said: Vec<Sent>) -> Step
+    ensures { (parts : List Message) × CutsTo size id bytes.items parts
+        × (result ≡ joined (goes said.items) (goes (map (on Synchronous) parts))) }
 {
     if bytes.is_empty() {
-        return Ok(said);
+        return told(said, false);
     }
-    let parts = cut(alloc, id, room_of(size), bytes)?;
-    say_all(parts, said)
-}
-
-/// What was said before, and these messages.
-fn say_all(parts: Vec<Message>, said: Vec<Sent>) -> Result<Vec<Sent>, AllocError>
-    ensures { IfOk result (λ all. all.items ≡ said.items ++ map (on Synchronous) parts.items) }
-{
-    let mut said = said;
-    for message in parts {
-        let channel = Channel::Synchronous;
-        said.push(Sent { channel, message })?;
-    }
-    Ok(said)
+    Step::answering(said, Parts::of(id, room_of(size), bytes))
 }

@@ -1,12 +1,17 @@
 //! What an engine says to one message, and on which connection.
 
-ghost use Rattle.std.specs.Prelude.{◌≡◌, ◌≤◌, [], vec_capacity};
+ghost use Rattle.std.specs.Prelude.{◌≡◌, ◌≤◌, ◌++◌, [], true, false, vec_capacity};
+ghost use Rattle.std.specs.List.{list_any};
 ghost use Rattle.sw_session.specs.EngineStep.{reply_step};
+ghost use Rattle.sw_session.specs.InParts.{GivesFirst};
+ghost use Rattle.sw_session.specs.Said.{answering, is_fatal};
+ghost use Rattle.sw_session.specs.declared.engine.step.Sent.{Sent};
 
+use crate::engine::answers::Parts;
 use crate::engine::refusals::{FatalCode, fatal};
-use std::alloc::Global;
-use sw_base::Sequence;
-use sw_hislip::Message;
+use std::alloc::{AllocError, Global};
+use std::marker::Model;
+use sw_hislip::{Kind, Message};
 
 /// The two connections of a session.
 #[derive(Clone, Copy, Debug, PartialEq, Eq)]
@@ -22,11 +27,88 @@ pub struct Sent {
     pub message: Message,
 }
 
-/// What is said to one message, in order, and whether the channel ends then.
+/// What follows the messages that are said.
+#[derive(Debug, Drop)]
+enum Rest {
+    /// Nothing, and the channel goes on.
+    Nothing,
+    /// Nothing, and the channel ends.
+    End,
+    /// The parts of an answer, and the channel goes on.
+    Answer(Parts),
+}
+
+/// What is said to one message: messages, then the parts of an answer, and whether the channel ends then. Contracts see
+/// all its messages in order.
 #[derive(Debug, Drop)]
 pub struct Step {
-    pub out: Sequence<Sent>,
-    pub ends: bool,
+    said: Vec<Sent>,
+    rest: Rest,
+}
+
+impl Model for Step {
+    ghost use Rattle.std.specs.Prelude.{◌++◌};
+    ghost use Rattle.sw_session.specs.Said.{StepSeen, answering, left_of, is_end};
+
+    ghost Value = { StepSeen };
+
+    ghost view = { λ s. record { out = s.said.items ++ answering (left_of s.rest); ends = is_end s.rest } };
+}
+
+impl Step {
+    /// These messages are said, and whether the channel ends.
+    pub fn new(said: Vec<Sent>, ends: bool) -> Self
+        ensures { result ≡ record { out = said.items; ends = ends } }
+    {
+        let rest = if ends { Rest::End } else { Rest::Nothing };
+        Step { said, rest }
+    }
+
+    /// These messages are said, and then the parts of an answer.
+    pub fn answering(said: Vec<Sent>, parts: Parts) -> Self
+        ensures { result ≡ record { out = said.items ++ answering parts; ends = false } }
+    {
+        let rest = Rest::Answer(parts);
+        Step { said, rest }
+    }
+
+    /// Whether the channel ends.
+    pub fn ends(&self) -> bool
+        ensures { result ≡ self.now.ends }
+    {
+        matches!(self.rest, Rest::End)
+    }
+
+    /// Whether any of the messages is a fatal error, where the channel ends.
+    pub fn has_fatal(&self) -> bool
+        requires { self.now.ends ≡ true }
+        ensures { result ≡ list_any (λ (s : Sent). is_fatal s.message.kind) self.now.out }
+    {
+        let said = self.said.as_slice();
+        said.iter()
+            .any(|sent| matches!(sent.message.kind, Kind::FatalError))
+    }
+
+    /// The next message. Only want of memory for a part of an answer is refused.
+    pub fn next(&mut self, alloc: Global) -> Result<Option<Sent>, AllocError>
+        ensures gives { GivesFirst self.old.out result self.new.out }
+        ensures same { self.new.ends ≡ self.old.ends }
+    {
+        if !self.said.is_empty() {
+            return Ok(Some(self.said.remove(0)));
+        }
+        match &mut self.rest {
+            Rest::Answer(parts) => match parts.next(alloc) {
+                Ok(Some(message)) => Ok(Some(Sent {
+                    channel: Channel::Synchronous,
+                    message,
+                })),
+                Ok(None) => Ok(None),
+                Err(refused) => Err(refused),
+            },
+            Rest::Nothing | Rest::End => Ok(None),
+        }
+    }
 }
 
 /// What is said to a message, where it is one message at most.
@@ -60,8 +142,5 @@ pub fn step_of(alloc: Global, channel: Channel, room: Vec<Sent>, reply: Reply) -
         }
         Reply::Leaves => ends = true,
     }
-    Step {
-        out: Sequence::new(out),
-        ends,
-    }
+    Step::new(out, ends)
 }

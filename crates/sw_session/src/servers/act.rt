@@ -1,12 +1,10 @@
 //! What a server asks an engine for.
 
 ghost use Rattle.std.specs.Prelude.{◌≡◌};
-ghost use Rattle.std.specs.List.{list_any};
-ghost use Rattle.sw_session.specs.Serve.{Judges, after_step, is_refused, is_fatal};
-ghost use Rattle.sw_session.specs.declared.engine.step.Sent.{Sent};
+ghost use Rattle.sw_session.specs.Serve.{Judges, after_step, is_refused};
 
 use crate::desk::Desk;
-use crate::engine::{Sent, Step};
+use crate::engine::Step;
 use std::alloc::{AllocError, Global};
 use sw_core::Sid;
 use sw_hislip::{Kind, Message};
@@ -64,14 +62,6 @@ pub fn is_refused(act: &Act) -> bool
     matches!(act, Act::Refuses)
 }
 
-/// Whether any of the messages ends the session.
-fn has_fatal(said: &[Sent]) -> bool
-    ensures { result ≡ list_any (λ (s : Sent). is_fatal s.message.kind) said.now }
-{
-    said.iter()
-        .any(|sent| matches!(sent.message.kind, Kind::FatalError))
-}
-
 /// How the channel goes on after a step.
 pub fn after_step(is_refused: bool, step: &Step) -> AfterStep
     ensures after { result ≡ after_step is_refused step.now }
@@ -80,10 +70,10 @@ pub fn after_step(is_refused: bool, step: &Step) -> AfterStep
     if is_refused {
         return AfterStep::Malformed;
     }
-    if !step.ends {
+    if !step.ends() {
         return AfterStep::Goes;
     }
-    if has_fatal(step.out.as_slice()) {
+    if step.has_fatal() {
         AfterStep::Fatal
     } else {
         AfterStep::Ends

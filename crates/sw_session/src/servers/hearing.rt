@@ -33,9 +33,9 @@ fn hear<E: Handler, W: Sink, S: Sink, D: Desk>(
     let Ok(step) = engine.handle(alloc, act, desk) else {
         return Err(ServeFault::NoMemory);
     };
-    let session = engine.session();
-    match hand_all(alloc, own, session, step.out.as_slice(), writer, side, desk) {
-        Ok(()) => Ok(after_step(refused, &step)),
+    let after = after_step(refused, &step);
+    match hand_all(alloc, own, engine.session(), step, writer, side, desk) {
+        Ok(()) => Ok(after),
         Err(fault) => Err(fault),
     }
 }

@@ -8,7 +8,7 @@ ghost use Rattle.sw_session.specs.ServeWrite.{is_own, wire_on, wire_off, Wrote};
 ghost use Rattle.sw_session.specs.Trace.{Leads};
 
 use crate::desk::Desk;
-use crate::engine::{Channel, Sent};
+use crate::engine::{Channel, Sent, Step};
 use crate::servers::fault::ServeFault;
 use crate::servers::writing::{Sink, Unwritten};
 use std::alloc::Global;
@@ -69,30 +69,34 @@ fn hand_over<W: Sink, S: Sink, D: Desk>(
     }
 }
 
-/// Hands messages over, one after another, header and payload of each together.
+/// Hands over what is said, one message after another, header and payload of each together.
 pub fn hand_all<W: Sink, S: Sink, D: Desk>(
     alloc: Global,
     own: Channel,
     session: Option<Sid>,
-    out: &[Sent],
+    said: Step,
     writer: &mut W,
     side: &mut S,
     desk: &mut D,
 ) -> Result<(), ServeFault>
     ensures hands { Hands (manner D.passes session own)
         (outlets desk.old (W.contents writer.old) (S.contents side.old))
-        (outlets desk.new (W.contents writer.new) (S.contents side.new)) out.now result }
+        (outlets desk.new (W.contents writer.new) (S.contents side.new)) said.out result }
     ensures cause { result ≡ Err ServeFault.Write → CameTo W.failed writer.new ⊎ CameTo S.failed side.new }
 {
-    let mut left = out;
-    while let Some((first, rest)) = left.split_first() {
-        let Ok(bytes) = encode(alloc, &first.message) else {
+    let mut left = said;
+    loop {
+        let sent = match left.next(alloc) {
+            Ok(Some(sent)) => sent,
+            Ok(None) => return Ok(()),
+            Err(_) => return Err(ServeFault::NoMemory),
+        };
+        let Ok(bytes) = encode(alloc, &sent.message) else {
             return Err(ServeFault::NoMemory);
         };
-        match hand_over(own, session, first, bytes.as_slice(), writer, side, desk) {
-            Ok(()) => left = rest,
+        match hand_over(own, session, &sent, bytes.as_slice(), writer, side, desk) {
+            Ok(()) => {}
             Err(_) => return Err(ServeFault::Write),
         }
     }
-    Ok(())
 }

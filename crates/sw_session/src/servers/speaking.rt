@@ -10,7 +10,6 @@ use crate::desk::Desk;
 use crate::engine::{Channel, Engine, FatalCode, Reply, Step, step_of};
 use crate::servers::act::{Act, Handler};
 use std::alloc::{AllocError, Global};
-use sw_base::Sequence;
 use sw_core::Sid;
 use sw_hislip::{Kind, Message};
 
@@ -87,10 +86,7 @@ fn look<D: Desk>(alloc: Global, engine: &mut Engine, desk: &mut D) -> Result<Ste
     ensures unasked { OnErr result (desk.new ≡ desk.old) }
 {
     let Some(sid) = second_session(engine) else {
-        return Ok(Step {
-            out: Sequence::new(Vec::new(alloc)),
-            ends: false,
-        });
+        return Ok(Step::new(Vec::new(alloc), false));
     };
     let room = Vec::with_capacity(alloc, 1)?;
     let notice = engine.notice(desk.poll(sid));

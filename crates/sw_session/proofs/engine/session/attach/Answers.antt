@@ -1,5 +1,5 @@
 use Rattle.std.proofs.Common.{subst, sym}
-use Rattle.sw_session.specs.declared.engine.step.Step.{Step}
+use Rattle.sw_session.specs.Said.{StepSeen}
 use Rattle.sw_session.specs.EngineAsync.{OpensAsync, attached_session}
 use Rattle.sw_session.proofs.EngineAsks.{by-so}
 use Rattle.sw_session.proofs.engine.session.attach.Goals as goal
@@ -9,7 +9,7 @@ returns g c =
     by-so g.D.Desk.passes _ _ _ _ c.open-session.ensures
     (λ asked opens. (
       attached_session c.open-session.result,
-      subst (λ (t : Step). OpensAsync c.args.message.kind c.args.message.parameter asked t
+      subst (λ (t : StepSeen). OpensAsync c.args.message.kind c.args.message.parameter asked t
           (attached_session c.open-session.result)) (sym c.attached.ensures.step) opens,
       c.attached.ensures.state,
     ))

@@ -1,5 +1,5 @@
 use Rattle.std.proofs.Common.{subst, sym}
-use Rattle.sw_session.specs.declared.engine.step.Step.{Step}
+use Rattle.sw_session.specs.Said.{StepSeen}
 use Rattle.sw_session.specs.EngineSync.{OpensSync, opened_session}
 use Rattle.sw_session.proofs.EngineAsks.{by-so}
 use Rattle.sw_session.proofs.engine.session.join.Goals as goal
@@ -9,7 +9,7 @@ returns g c =
     by-so g.D.Desk.passes _ _ _ _ c.open-session.ensures
     (λ asked opens. (
       opened_session c.open-session.result,
-      subst (λ (t : Step). OpensSync c.args.message asked t (opened_session c.open-session.result))
+      subst (λ (t : StepSeen). OpensSync c.args.message asked t (opened_session c.open-session.result))
           (sym c.joined.ensures.step) opens,
       c.joined.ensures.state,
     ))

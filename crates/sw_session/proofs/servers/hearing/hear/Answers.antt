@@ -8,8 +8,8 @@ returns-in-Ok-hand_all-clause-heard g c =
     hears-ok (voice g.E.Handler.protocol g.D.Desk.passes c.args.own) _ _ _ _ _ _ _ _ _ c.args.act c.in-Ok.step _ c.in-Ok.ensures.ok
     (search rules) (search rules)
 
-pub returns-clause-heard : goal.returns-clause-heard
-returns-clause-heard g c =
+pub returns-in-Err-clause-heard : goal.returns-in-Err-clause-heard
+returns-in-Err-clause-heard g c =
     hears-err (voice g.E.Handler.protocol g.D.Desk.passes c.args.own) _ _ _ _ _ _ _ _ _ c.args.act c.in-Ok.step c.in-Err.fault c.in-Ok.ensures.ok
     (search rules)
 

@@ -1,10 +1,10 @@
-use Rattle.std.proofs.Common.{List, ℕ, Option, IfOk, OnErr, ap, sym, subst, ◌∙◌}
+use Rattle.std.proofs.Common.{List, ℕ, Option, refl, ap, sym, subst, ◌∙◌}
 use Rattle.sw_core.specs.declared.ask.Sid.{Sid}
 use Rattle.sw_session.specs.declared.engine.front.Front.{Front}
 use Rattle.sw_session.specs.EngineStep.{LedBy}
-use Rattle.sw_session.specs.EngineSync.{SyncStanding, Converses, Finishes, FinishesShort, LosesAnswer, SaysMore, whole}
+use Rattle.sw_session.specs.EngineSync.{SyncStanding, Converses, Finishes, SaysMore, whole}
 use Rattle.sw_session.proofs.SyncTalks.{finishes-none, finishes-some}
-use Rattle.sw_session.proofs.SyncShort.{short-else, finishes-nothing, finishes-short}
+use Rattle.sw_session.proofs.SyncShort.{short-else}
 use Rattle.sw_session.proofs.engine.program.SyncSession.finish.Goals as goal
 
 pub returns-in-Some-clause-ok : goal.returns-in-Some-clause-ok
@@ -12,16 +12,16 @@ returns-in-Some-clause-ok g c =
     let put : Front → SyncStanding =
     λ f. record { sid = c.self.inside.sid; macros = c.self.inside.talker.macros; attached = c.self.inside.attached; front = f } in
     let all : Front → Option (List ℕ) = λ f. whole f c.args.part in
-    subst (λ (t : SyncStanding). IfOk c.converse.result (λ step.
+    subst (λ (t : SyncStanding).
     LedBy g.D.Desk.passes c.args.desk.now c.converse.new.desk (λ asked.
-    SaysMore c.args.said.items step (λ own. Finishes t c.args.id (whole t.front c.args.part) asked own c.converse.new.self)))) c.self.view_is
+    SaysMore c.args.said.items c.converse.result (λ own. Finishes t c.args.id (whole t.front c.args.part) asked own c.converse.new.self))) c.self.view_is
     (finishes-some g.D.Desk.passes _ _ (put c.self.inside.front) (put c.replace-front.new.dest) c.converse.new.self c.args.said.items c.args.id c.in-Some.text
     (all c.self.inside.front) c.converse.result
     (sym (c.in_ok-text.ensures ∙ ap all c.replace-front.ensures.value) ∙ c.in-Some.is) (ap put c.replace-front.ensures.after) c.converse.ensures.kept
-    (subst (λ (b : List ℕ). IfOk c.converse.result (λ step.
+    (subst (λ (b : List ℕ).
     LedBy g.D.Desk.passes c.args.desk.now c.converse.new.desk (λ asked.
-    SaysMore c.args.said.items step (λ own.
-    Converses (put c.replace-front.new.dest) c.args.id b asked own c.converse.new.self.macros)))) c.as_slice.ensures c.converse.ensures.ok))
+    SaysMore c.args.said.items c.converse.result (λ own.
+    Converses (put c.replace-front.new.dest) c.args.id b asked own c.converse.new.self.macros))) c.as_slice.ensures c.converse.ensures.talks))
 
 pub returns-in-Some-clause-same : goal.returns-in-Some-clause-same
 returns-in-Some-clause-same g c =
@@ -41,17 +41,4 @@ returns-in-None-clause-ok g c =
     (sym (c.in_ok-text.ensures ∙ ap all c.replace-front.ensures.value) ∙ c.in-None.is) (ap put c.replace-front.ensures.after) c.told.ensures)
 
 pub returns-in_err-text-clause-err : goal.returns-in_err-text-clause-err
-returns-in_err-text-clause-err g c = short-else g.D.Desk.passes c.args.desk.now _ c.from_residual.result (finishes-nothing _ _)
-
-pub returns-in-Some-clause-err : goal.returns-in-Some-clause-err
-returns-in-Some-clause-err g c =
-    let put : Front → SyncStanding =
-    λ f. record { sid = c.self.inside.sid; macros = c.self.inside.talker.macros; attached = c.self.inside.attached; front = f } in
-    let all : Front → Option (List ℕ) = λ f. whole f c.args.part in
-    subst (λ (t : SyncStanding). OnErr c.converse.result
-    (LedBy g.D.Desk.passes c.args.desk.now c.converse.new.desk (λ asked. FinishesShort t (whole t.front c.args.part) asked))) c.self.view_is
-    (finishes-short g.D.Desk.passes _ _ (put c.self.inside.front) (put c.replace-front.new.dest) c.in-Some.text (all c.self.inside.front) c.converse.result
-    (sym (c.in_ok-text.ensures ∙ ap all c.replace-front.ensures.value) ∙ c.in-Some.is) (ap put c.replace-front.ensures.after)
-    (subst (λ (b : List ℕ). OnErr c.converse.result
-    (LedBy g.D.Desk.passes c.args.desk.now c.converse.new.desk (λ asked.
-    LosesAnswer (put c.replace-front.new.dest) b asked))) c.as_slice.ensures c.converse.ensures.err))
+returns-in_err-text-clause-err g c = short-else g.D.Desk.passes c.args.desk.now _ c.from_residual.result refl

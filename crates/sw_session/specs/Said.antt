@@ -1,0 +1,33 @@
+-- What is said to one message.
+use Rattle.std.specs.Prelude.{Bool, true, false, List, [], map}
+use Rattle.sw_hislip.specs.declared.kind.Kind.{Kind}
+use Rattle.sw_hislip.specs.declared.kind.Kind.TheVariants as Kinds
+use Rattle.sw_hislip.specs.declared.message.Message.{Message}
+use Rattle.sw_session.specs.declared.engine.step.Channel.TheVariants.{Synchronous}
+use Rattle.sw_session.specs.declared.engine.step.Rest.{Rest}
+use Rattle.sw_session.specs.declared.engine.step.Rest.TheVariants.{Nothing, End, Answer}
+use Rattle.sw_session.specs.declared.engine.step.Sent.{Sent}
+
+-- the messages that are said, in order, and whether the channel ends then
+pub record StepSeen : Type 0 where
+  pub out : List Sent
+  pub ends : Bool
+
+-- the parts of an answer that follow the messages, and whether the channel ends
+abbrev pub left_of : Rest → List Message
+left_of Nothing = []
+left_of End = []
+left_of (Answer parts) = parts
+
+abbrev pub is_end : Rest → Bool
+is_end Nothing = false
+is_end End = true
+is_end (Answer parts) = false
+
+-- parts of an answer go out on the synchronous channel
+abbrev pub answering : List Message → List Sent
+answering parts = map (λ (m : Message). record { channel = Synchronous; message = m }) parts
+
+abbrev pub is_fatal : Kind → Bool
+is_fatal Kinds.FatalError = true
+is_fatal kind = false
