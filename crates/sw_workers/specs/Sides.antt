@@ -1,5 +1,6 @@
 -- What one thread of a session leaves to the other.
-use Rattle.std.specs.Prelude.{◌==◌, ℕ, nat_lt, Bool, true, false, List, [], ◌++◌, Option, None, Some, if◌then◌else◌}
+use Rattle.std.specs.Prelude.{◌==◌, ◌+◌, ℕ, nat_lt, nat_le, Bool, true, false, List, [], ◌++◌, length, Option, None}
+use Rattle.std.specs.Prelude.{Some, if◌then◌else◌}
 
 -- the session that a slot is given to, by the number of events after its Join, and what waits for it
 pub record InSlot : Type 0 where
@@ -17,6 +18,15 @@ is_before (Some last) joined = nat_lt last joined
 -- a session has the slot from its Join on, empty at first; an earlier one doesn't get it back
 abbrev pub opened : InSlot → ℕ → InSlot
 opened s joined = if is_before s.joined joined then record { joined = Some joined; bytes = [] } else s
+
+-- bytes that wait in a slot
+abbrev pub most_waiting : ℕ
+most_waiting = 65536
+
+-- there is room for these bytes, which are dropped where they are left to another session than the slot's
+abbrev pub has_room : InSlot → ℕ → List ℕ → Bool
+has_room s joined bytes =
+    if is_of s.joined joined then nat_le (length s.bytes + length bytes) most_waiting else true
 
 -- what is left to another session than the slot's is dropped
 abbrev pub appended : InSlot → ℕ → List ℕ → InSlot

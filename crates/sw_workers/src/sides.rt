@@ -1,7 +1,7 @@
 //! What one thread of a session leaves to the other: for each session number a slot under a lock of its own.
 
-ghost use Rattle.std.specs.Prelude.{◌≡◌, [], None, IfSome, IfNone, OnOk, OnErr, vec_len};
-ghost use Rattle.sw_workers.specs.Sides.{opened, appended, emptied, told_to};
+ghost use Rattle.std.specs.Prelude.{◌≡◌, true, [], None, IfSome, IfNone, OnOk, OnErr, vec_len};
+ghost use Rattle.sw_workers.specs.Sides.{opened, appended, emptied, told_to, has_room};
 
 use crate::ends::Ends;
 use crate::line::Line;
@@ -13,6 +13,9 @@ use std::sync::{Arc, Mutex, Wait};
 use sw_base::SESSIONS;
 use sw_core::{SessionAnswer, Sid};
 use sw_session::Seating;
+
+/// How many bytes wait at most for a session's other thread; one whose client doesn't read them is left.
+const SIDE_BYTES: usize = 65_536;
 
 /// The bytes that wait in a slot, and whose they are.
 #[derive(Drop)]
@@ -54,13 +57,18 @@ impl Waiting {
         self.bytes.clear();
     }
 
-    /// Appends what is left to a session. Nothing comes of it where the slot isn't that session's.
+    /// Appends what is left to a session, where no more than `SIDE_BYTES` wait then. Nothing comes of it where the slot
+    /// isn't that session's.
     pub fn append(&mut self, joined: u64, bytes: &[u8]) -> Result<(), AllocError>
         ensures ok { OnOk result (self.new ≡ appended self.old joined bytes.now) }
+        ensures room { OnOk result (has_room self.old joined bytes.now ≡ true) }
         ensures err { OnErr result (self.new ≡ self.old) }
     {
         if self.joined != Some(joined) {
             return Ok(());
+        }
+        if self.bytes.len().saturating_add(bytes.len()) > SIDE_BYTES {
+            return Err(AllocError);
         }
         self.bytes.extend_from_slice(bytes)
     }
@@ -127,7 +135,7 @@ impl Sides {
         }
     }
 
-    /// Leaves bytes to a session, all of them or, where there is no memory, none.
+    /// Leaves bytes to a session, all of them or, where there is no room or no memory, none.
     pub fn append<W: Wait>(&self, rt: &W, sid: Sid, bytes: &[u8]) -> Result<(), AllocError> {
         match self.slot(sid) {
             Some(slot) => slot.waiting.lock(rt).append(sid.joined, bytes),
@@ -241,7 +249,7 @@ impl Place {
         }
     }
 
-    /// Leaves bytes to the session's other thread, all of them or, where there is no memory, none.
+    /// Leaves bytes to the session's other thread, all of them or, where there is no room or no memory, none.
     pub fn append<W: Wait>(&self, rt: &W, bytes: &[u8]) -> Result<(), AllocError> {
         match self.session(rt) {
             Some(sid) => self.sides.append(rt, sid, bytes),
