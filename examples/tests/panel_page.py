@@ -1,15 +1,19 @@
-"""The panel's page and what it tells of a served program, by its own HTTP answers; and that it leaves no trace."""
+"""The panel's page and what it tells of a served program, by its own HTTP answers and, where a browser is installed, as
+that draws it; and that it leaves no trace."""
 import contextlib
 import http.client
 import json
 import pathlib
 import re
+import shutil
 import subprocess
 import sys
+import tempfile
 
-from served import PATIENCE, Served, same, wait_until
+from served import PATIENCE, Failure, Served, same, wait_until
 
 HERE = pathlib.Path(__file__).resolve().parent.parent
+BROWSERS = ("chromium", "chromium-browser", "google-chrome")
 
 
 class Page:
@@ -73,6 +77,33 @@ def the_panel_shows_what_is(program):
         page.comes_to_show(count=0, readings=[], errors=0)
 
 
+def drawn(browser, page):
+    """The page as a browser draws it after two seconds: the ids of lit channels, and the text of each part by its id."""
+    with tempfile.TemporaryDirectory() as profile:
+        words = [browser, "--headless", "--no-sandbox", "--disable-gpu", f"--user-data-dir={profile}",
+                 "--virtual-time-budget=2000", "--dump-dom", f"http://127.0.0.1:{page.port}/"]
+        ran = subprocess.run(words, stdout=subprocess.PIPE, stderr=subprocess.DEVNULL, text=True, timeout=PATIENCE)
+    if ran.returncode or "</html>" not in ran.stdout:
+        raise Failure(f"the browser ends with status {ran.returncode}: {ran.stdout[:200]!r}")
+    lit = re.findall(r'class="ch closed" id="([^"]+)"', ran.stdout)
+    return lit, dict(re.findall(r'<(?:p|dd)[^>]* ?id="(\w+)"[^>]*>([^<]*)<', ran.stdout))
+
+
+def a_browser_draws_the_page(program):
+    """Closed channels are lit, and what the scan awaits, its readings and the errors stand there."""
+    browser = next(filter(None, map(shutil.which, BROWSERS)), None)
+    if not browser:
+        return
+    with Served(program) as served, served.join() as mainframe, page_of(served.port) as page:
+        mainframe.write("ROUT:CLOS (@2!3);:ROUT:SCAN (@1!2&2!1,3!4);:TRIG:COUN 2;SOUR BUS;:INIT;*TRG")
+        mainframe.write("ROUT:CLOS (@3!1)")
+        page.comes_to_show(awaited="a trigger", count=1, errors=1)
+        lit, texts = drawn(browser, page)
+        same("lit channels", lit, ["2!3"])
+        told = {"state": "connected", "awaited": "a trigger", "count": "1", "errors": "1", "status": "4", "fault": "no"}
+        same("texts", {name: texts.get(name) for name in told}, told)
+
+
 def the_panel_outlives_a_lock(program):
     """It tells that another session holds the lock, and goes on when that is free."""
     with Served(program) as served, served.join() as mainframe, page_of(served.port) as page:
@@ -92,4 +123,5 @@ def the_panel_awaits_a_mainframe(program):
         wait_until("a word of its end", lambda: page.seen()["state"].startswith("not connected"))
 
 
-CHECKS = [the_page_is_served, the_panel_shows_what_is, the_panel_outlives_a_lock, the_panel_awaits_a_mainframe]
+CHECKS = [the_page_is_served, the_panel_shows_what_is, a_browser_draws_the_page, the_panel_outlives_a_lock,
+          the_panel_awaits_a_mainframe]
