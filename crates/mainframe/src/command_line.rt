@@ -14,9 +14,9 @@ const LISTING: &str =
     set K N         counter K, 0 to 2, becomes N, 1 to 100000\n  \
     wait LAYER      await arm1, arm2 or trig\n  \
     pause U         await the end of U microseconds\n  \
-    close S!C       close channel C of slot S\n  \
+    close S!C       close channel C of slot S, or up to four joined by &\n  \
     read            take a reading of the meter\n  \
-    open S!C        open channel C of slot S\n  \
+    open S!C        open channel C of slot S, or up to four joined by &\n  \
     loop K T        counter K goes down by one; where it isn't 0, go to step T\n  \
     halt            the end\n\n\
     The answer is `ok bound B readings R`, `refused N Name` or `line L: Name`; why, on standard error.";
