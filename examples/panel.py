@@ -118,7 +118,7 @@ PAGE = """<!DOCTYPE html>
 <html lang="en"><meta charset="utf-8"><title>Mainframe</title>
 <style>
 body { font: 16px sans-serif; margin: 2em; background: #fafafa; color: #222 }
-.slot { margin: .8em 0 } .slot b { display: inline-block; width: 9em }
+.slot { margin: .8em 0 } .slot b { display: inline-block; width: 9.5em }
 .ch { display: inline-block; width: 2.1em; margin: 1px; padding: .2em 0; text-align: center; border-radius: 4px;
       border: 2px solid var(--group); background: #fff }
 .closed { background: #d62; color: #fff; font-weight: bold }
