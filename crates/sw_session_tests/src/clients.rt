@@ -99,15 +99,21 @@ pub struct Said {
     pub ends: bool,
 }
 
+/// How many messages are said to one at most.
+const MOST_SAID: u32 = 1_000_000;
+
 /// All that is said.
 fn all_said(alloc: Global, step: Step) -> Option<Said> {
     let mut step = step;
     let mut out = Vec::new(alloc);
-    while let Some(sent) = step.next(alloc).ok()? {
+    for _ in 0..MOST_SAID {
+        let Some(sent) = step.next(alloc).ok()? else {
+            let ends = step.ends();
+            return Some(Said { out, ends });
+        };
         out.push(sent).ok()?;
     }
-    let ends = step.ends();
-    Some(Said { out, ends })
+    None
 }
 
 /// Whether nothing is said.

@@ -22,6 +22,8 @@ mod lists;
 #[cfg(test)]
 mod positions;
 #[cfg(test)]
+mod recorded;
+#[cfg(test)]
 mod scans;
 #[cfg(test)]
 mod session;

@@ -3,7 +3,7 @@
 
 use crate::asks::{does, fit, has_closed, refuses};
 use crate::boxes::voltmeter;
-use crate::cage::{Record, recorded, recorded_with_fuse};
+use crate::recorded::{Record, recorded, recorded_with_fuse};
 use std::alloc::Global;
 use std::sync::Arc;
 use std::sync::atomic::{AtomicU64, Ordering};

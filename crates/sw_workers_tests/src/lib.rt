@@ -8,6 +8,8 @@ mod board;
 #[cfg(test)]
 mod latches;
 #[cfg(test)]
+mod notes;
+#[cfg(test)]
 mod sessions;
 #[cfg(test)]
 mod shop;

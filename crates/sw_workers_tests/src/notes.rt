@@ -1,0 +1,98 @@
+//! What is noted and seen of a session, by the desks of several threads.
+
+use crate::shop::{join, played, tells};
+use crate::threads::{Scene, shows};
+use std::alloc::Global;
+use sw_core::{SessionAsk, Sid};
+use sw_kinds::SimSource;
+use sw_session::{Desk, Wake};
+use sw_workers::{AskKind, Note, Open};
+
+/// A session asks for service, and is looked at by another desk. Gives the desks back, where all went as it should.
+pub fn looks<D: Desk + Drop + Send + 'static>(
+    alloc: Global,
+    first: D,
+    second: D,
+    third: D,
+) -> Option<(D, D, D)> {
+    let mut first = first;
+    let mut second = second;
+    let sid = join(&mut first)?;
+    let is_told = tells(alloc, &mut first, sid, b"*SRE 4;FOO", b"");
+    first.note(sid, true);
+    let is_seen = shows(&mut second, sid, 4, 1, true);
+    first.note(sid, false);
+    let is_over = first.wait(Some(1)) == Wake::Over;
+    if is_told && is_seen && is_over && shows(&mut second, sid, 4, 1, false) {
+        return Some((first, second, third));
+    }
+    None
+}
+
+#[test]
+fn a_session_is_looked_at_by_another_desk(rt: HostRuntime) {
+    let last = Note {
+        number: 5,
+        ask: AskKind::Fault,
+    };
+    assert!(rt; played(rt, rt.alloc(), SimSource::new(1, 1), Open, &Scene::Looked) == Some(last));
+}
+
+/// Whether a message is seen to be available for a session.
+fn has_message<D: Desk>(desk: &mut D, sid: Sid) -> bool {
+    desk.poll(sid).mav
+}
+
+/// Whether notes of a session that left change nothing for the one that has its number now.
+fn is_unchanged<D: Desk>(desk: &mut D, left: Sid, now: Sid) -> bool {
+    desk.note(left, true);
+    let begins_without = !has_message(desk, now) && !has_message(desk, left);
+    desk.note(now, true);
+    desk.note(left, true);
+    let has_its_own = has_message(desk, now) && !has_message(desk, left);
+    desk.note(left, false);
+    begins_without && has_its_own && has_message(desk, now)
+}
+
+/// Session 2 leaves with a message, and another one has its number. Gives the desks back, where all went as it should.
+pub fn is_succeeded<D: Desk + Drop + Send + 'static>(
+    first: D,
+    second: D,
+    third: D,
+) -> Option<(D, D, D)> {
+    let mut first = first;
+    let mut second = second;
+    let mut third = third;
+    let one = join(&mut first)?;
+    let left = join(&mut second)?;
+    second.note(left, true);
+    let was_noted = has_message(&mut first, left);
+    drop(second.ask(SessionAsk::Leave(left)));
+    let now = join(&mut third)?;
+    let is_same_number = left.number == 2 && now.number == 2;
+    if was_noted
+        && is_same_number
+        && is_unchanged(&mut first, left, now)
+        && !has_message(&mut first, one)
+    {
+        return Some((first, second, third));
+    }
+    None
+}
+
+#[test]
+fn a_session_that_left_notes_nothing_for_the_next_one(rt: HostRuntime) {
+    let last = Note {
+        number: 6,
+        ask: AskKind::Join,
+    };
+    assert!(rt;
+        played(
+            rt,
+            rt.alloc(),
+            SimSource::new(1, 1),
+            Open,
+            &Scene::Succeeded
+        ) == Some(last)
+    );
+}
