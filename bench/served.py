@@ -60,6 +60,7 @@ class Served:
     """The program, which serves on `port` until the block ends."""
 
     def __init__(self, program):
+        self.program = program
         with socket.create_server(("127.0.0.1", 0)) as free:
             self.port = free.getsockname()[1]
         words = [program, "serve", "--port", str(self.port)]
