@@ -1,4 +1,6 @@
 """`mainframe serve` as a process on a free port, and sessions of it, for the scripts of this folder."""
+import contextlib
+import os
 import pathlib
 import socket
 import struct
@@ -13,7 +15,10 @@ from swm import HEADER, Kind, Message, Session, SessionError
 
 SESSIONS = 16
 PATIENCE = 60  # seconds after which something is stuck
+SOON = 3  # seconds within which what is done at once is done, on a slow machine too
+MOST_GROWTH = 1_024  # kB that memory may grow by in the end, and a tenth
 IDENTITY = "OPENBENCH,SWM8,0,1.0"
+CLOSED = (ConnectionResetError, BrokenPipeError)
 
 
 class Failure(Exception):
@@ -23,6 +28,21 @@ class Failure(Exception):
 def same(what, got, wanted):
     if got != wanted:
         raise Failure(f"{what}: {got!r} in place of {wanted!r}")
+
+
+def check_growth(settled, late):
+    """Memory in kB, once it had settled and later, did not grow."""
+    if late > settled * 1.1 + MOST_GROWTH:
+        raise Failure(f"memory grew from {settled:.0f} to {late:.0f} kB")
+
+
+@contextlib.contextmanager
+def within(seconds, what):
+    """What is done inside takes no longer than so many seconds."""
+    began = time.monotonic()
+    yield
+    if time.monotonic() > began + seconds:
+        raise Failure(f"{what} took {time.monotonic() - began:.1f} s in place of {seconds}")
 
 
 def send(wire, kind, control=0, parameter=0, payload=b""):
@@ -45,6 +65,16 @@ def receive(wire):
     """The next message of a bare connection."""
     _, kind, control, parameter, length = HEADER.unpack(receive_bytes(wire, HEADER.size))
     return Message(kind, control, parameter, receive_bytes(wire, length))
+
+
+def check_end(wire):
+    """The instrument has closed this connection, or closes it now."""
+    try:
+        rest = wire.recv(1)
+    except CLOSED:
+        return
+    if rest:
+        raise Failure("the connection does not end")
 
 
 def wait_until(what, holds):
@@ -98,6 +128,16 @@ class Served:
     def resident(self):
         """Memory in kB."""
         return self.entry("VmRSS")
+
+    def descriptors(self):
+        """How many are open."""
+        self.check_alive()
+        return len(os.listdir(f"/proc/{self.process.pid}/fd"))
+
+    def await_end_of_others(self, descriptors, threads):
+        """Waits until no more than these are left, so that all other connections are over."""
+        wait_until(f"the end of all but {descriptors} descriptors", lambda: self.descriptors() <= descriptors)
+        wait_until(f"the end of all but {threads} threads", lambda: self.threads() <= threads)
 
     def connect(self):
         return socket.create_connection(("127.0.0.1", self.port), PATIENCE)
@@ -155,3 +195,41 @@ class Client(Session):
         for wire in (self.commands, self.events):
             wire.setsockopt(socket.SOL_SOCKET, socket.SO_LINGER, struct.pack("ii", 1, 0))
         self.close()
+
+
+class Steady(threading.Thread):
+    """A session that is answered right all the while, on both connections."""
+
+    def __init__(self, served):
+        super().__init__(daemon=True)
+        self.client = served.join()
+        self.client.write('*DMC "STEADY",#15*IDN?;*EMC 1;:ROUT:CLOS (@2!16)')
+        self.over = threading.Event()
+        self.failure = None
+        self.rounds = 0
+
+    def run(self):
+        try:
+            while not self.over.is_set():
+                same("a macro, a relay", self.client.query("STEADY;:ROUT:CLOS? (@2!16)"), f"{IDENTITY};1")
+                self.client.read_stb()
+                self.rounds += 1
+        except (Failure, OSError) as failure:
+            self.failure = failure
+
+    def check(self):
+        """Tells once of what went wrong."""
+        failure, self.failure = self.failure, None
+        if failure:
+            raise Failure(f"the steady session: {type(failure).__name__} {failure}")
+
+    def check_goes_on(self):
+        """It is answered now."""
+        end = self.rounds + 2
+        wait_until("an answer of the steady session", lambda: self.rounds >= end or self.failure)
+        self.check()
+
+    def stop(self):
+        self.over.set()
+        self.join(PATIENCE)
+        self.check()

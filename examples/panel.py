@@ -28,7 +28,7 @@ PERIOD = 0.5  # seconds between two looks
 PATIENCE = 1_000  # milliseconds that a look waits for an answer
 MOST_PLOTTED = 1_000  # readings, the last ones
 LOOK = ":ROUT:CLOS:STAT?;:STAT:OPER:COND?;:STAT:QUES:COND?;:SYST:ERR:COUN?;:TRAC:POIN:ACT?"
-AWAITED = {0: "no scan runs", 16: "a reading", 32: "a trigger", 64: "a trigger of an ARM layer"}
+AWAITED = {0: "no scan runs", 16: "a reading", 32: "the event of the TRIGger layer", 64: "the event of an ARM layer"}
 
 
 class Card(NamedTuple):

@@ -69,7 +69,7 @@ def the_panel_shows_what_is(program):
         mainframe.write("ROUT:CLOS (@2!3,3!10);CLOS (@1!1)")
         page.comes_to_show(closed=["2!3", "3!10"], errors=1, status=4)
         mainframe.write("*CLS;:ROUT:OPEN:ALL;:ROUT:SCAN (@1!2,3!4);:TRIG:COUN 2;SOUR BUS;:INIT;*TRG")
-        page.comes_to_show(awaited="a trigger", count=1, readings=[1.0])
+        page.comes_to_show(awaited="the event of the TRIGger layer", count=1, readings=[1.0])
         mainframe.write("*TRG")
         page.comes_to_show(awaited="no scan runs", count=2, readings=[1.0, 1.000000001])
         same("what it left", mainframe.query("SYST:ERR:COUN?;:STAT:OPER?;*ESR?"), "0;48;0")
@@ -97,10 +97,11 @@ def a_browser_draws_the_page(program):
     with Served(program) as served, served.join() as mainframe, page_of(served.port) as page:
         mainframe.write("ROUT:CLOS (@2!3);:ROUT:SCAN (@1!2&2!1,3!4);:TRIG:COUN 2;SOUR BUS;:INIT;*TRG")
         mainframe.write("ROUT:CLOS (@3!1)")
-        page.comes_to_show(awaited="a trigger", count=1, errors=1)
+        page.comes_to_show(awaited="the event of the TRIGger layer", count=1, errors=1)
         lit, texts = drawn(browser, page)
         same("lit channels", lit, ["2!3"])
-        told = {"state": "connected", "awaited": "a trigger", "count": "1", "errors": "1", "status": "4", "fault": "no"}
+        told = {"state": "connected", "awaited": "the event of the TRIGger layer", "count": "1", "errors": "1",
+                "status": "4", "fault": "no"}
         same("texts", {name: texts.get(name) for name in told}, told)
 
 

@@ -4,7 +4,7 @@
 use std::alloc::{AllocError, Global};
 use sw_base::{Chan, POINTS};
 use sw_channel::Position;
-use sw_code::{ListError, ListFault, Step, read_listing};
+use sw_code::{ListError, ListFault, Step, listing_version, read_listing};
 use sw_verify::{Layout, Refusal};
 
 /// Why a text lists no code.
@@ -13,15 +13,26 @@ pub fn explain_fault(alloc: Global, text: &[u8], error: ListError) -> Option<Str
     let cause = match error.kind {
         ListFault::BadStep if ends_in_return(text, line) =>
             "a line ends with a line feed alone, and here a carriage return stands before it",
-        ListFault::BadStep if line == 1 => "a listing begins with `scan 1` and a line feed",
+        ListFault::BadStep if line == 1 =>
+            "a listing begins with `scan 1` or `scan 2`, and a line feed",
         ListFault::BadStep if line == 2 =>
             "the second line is `meter`, a space, a slot and a line feed",
-        ListFault::BadStep => "no step is written so, or its line feed is missing",
-        ListFault::BadNumber => "a number is missing, malformed or out of its range",
+        ListFault::BadStep => return by_version(alloc, text, line, NO_STEP),
+        ListFault::BadNumber => return by_version(alloc, text, line, NO_NUMBER),
         ListFault::TooLong => "a listing has at most 8192 steps",
         ListFault::NoMemory => "memory ran out",
     };
     format!(in alloc; "line {line}: {cause}").ok()
+}
+
+const NO_STEP: &str = "its line feed is missing, or no step is written so";
+
+const NO_NUMBER: &str = "a number is missing, malformed or out of its range";
+
+/// A fault of this line that another version of listings may not have.
+fn by_version(alloc: Global, text: &[u8], line: u32, cause: &str) -> Option<String> {
+    let number = listing_version(text)?.number;
+    format!(in alloc; "line {line}: {cause} in version {number}").ok()
 }
 
 /// Whether a carriage return stands before the line feed of this line.

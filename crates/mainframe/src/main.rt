@@ -4,8 +4,9 @@
 //! `run::run_lines`: what is written is what the definition of a talk says of what was read, by the step relation of
 //! the core from its opening state. `mainframe check` says of a listing whether the program's cards may do its scan;
 //! its contract is that of `listing::check_listing`. `mainframe serve [--port P]` serves sessions over TCP, and its
-//! contract is that of `serving::serve_over`: how many connections it takes, and that it ends with every card open;
-//! what a connection's thread does is said by `serving::attend`.
+//! contract is that of `serving::serve_on`: how many connections it takes; and of `serving::serve_cards`: which cards
+//! come out of their slots at the end, each of them open. What a connection's thread does is said by
+//! `serving::attend`.
 //!
 //! Nothing is promised of what a terminal or a network carries, nor of the texts of `clap`.
 #![tactic(auto)]
@@ -32,6 +33,7 @@ use clap::error::ErrorKind;
 use command_line::{Order, parse_words, unrun_status};
 use fault::RunFault;
 use listing::{check_listing, checked_status};
+use port::Port;
 use run::run_lines;
 use serving::serve_on;
 use std::alloc::{AllocError, Global};
@@ -101,7 +103,8 @@ fn serve_port<
         return stopped(&rt, RunFault::Listen);
     };
     let _ = eprintln!(rt; "mainframe: listening on 127.0.0.1:{port}");
-    match serve_on(rt, alloc, &listener, u32::MAX) {
+    let mut port = Port::new(rt, alloc, &listener);
+    match serve_on(rt, alloc, &mut port, u32::MAX) {
         Ok(()) => ExitCode::SUCCESS,
         Err(fault) => stopped(&rt, fault),
     }

@@ -1,12 +1,14 @@
 //! Connections, each served by a thread of its own.
 
 ghost use Rattle.std.specs.Prelude.{◌≡◌, ◌≤◌, ◌+◌, ◌<◌, ◌^◌, All, IfErr, IfOk, OnOk, IfSome};
+ghost use Rattle.sw_card.specs.Account.{relay_account, of_meter};
+ghost use Rattle.sw_cage.specs.Accounts.{accounts_of};
 ghost use Rattle.sw_core.specs.Good.{IsGoodPanel};
 ghost use Rattle.mainframe.specs.Cards.{fitted};
-ghost use Rattle.mainframe.specs.Serving.{IsFitted};
+ghost use Rattle.mainframe.specs.Serving.{IsFitted, ClosesDown};
 ghost use Rattle.sw_session.specs.Talk.{turns};
 ghost use Rattle.sw_workers.specs.Ahead.{left_ahead};
-ghost use Rattle.sw_workers.specs.Closing.{IsOpen};
+ghost use Rattle.sw_workers.specs.Closing.{IsOpen, IsClosedDown};
 ghost use Rattle.sw_workers.specs.Connected.{mishaps, connection_seen, RunsSession};
 ghost use Rattle.sw_workers.specs.Work.{DeskPasses};
 
@@ -19,7 +21,6 @@ use crate::port::Port;
 use crossbeam_channel::Receiver;
 use std::alloc::{AllocError, Global};
 use std::marker::Brand;
-use std::net::TcpListener;
 use std::sync::{Arc, Wait};
 use std::thread::Threads;
 use std::time::Clock;
@@ -37,10 +38,12 @@ use sw_workers::{
 pub fn serve_on<W: Threads + Wait + Clock + Copy + Drop + Send + Sync + 'static>(
     rt: W,
     alloc: Global,
-    listener: &TcpListener,
+    port: &mut Port<'_, W>,
     limit: u32,
 ) -> Result<(), RunFault>
-    ensures { IfErr result (λ fault. fault ≡ RunFault.Memory) }
+    requires { port.old.taken + limit < 2 ^ 32 }
+    ensures memory { IfErr result (λ fault. fault ≡ RunFault.Memory) }
+    ensures taken { OnOk result (port.new.taken ≡ port.old.taken + limit) }
 {
     let Ok(boxed) = Box::new(alloc, first_card(None)) else {
         return Err(RunFault::Memory);
@@ -58,12 +61,11 @@ pub fn serve_on<W: Threads + Wait + Clock + Copy + Drop + Send + Sync + 'static>
         return Err(RunFault::Memory);
     };
     let meter: Box<dyn Meter + Send> = boxed;
-    let mut port = Port::new(rt, alloc, listener);
-    serve_cards(rt, alloc, &mut port, limit, first, second, third, meter)
+    serve_by(rt, alloc, port, limit, first, second, third, meter)
 }
 
-/// The same by these cards in slots 1 to 4.
-fn serve_cards<
+/// The same by these cards in slots 1 to 4, which end with it.
+fn serve_by<
     R: Relay + Send + 'static,
     M: Meter + Send + 'static,
     W: Threads + Wait + Clock + Copy + Drop + Send + Sync + 'static,
@@ -81,6 +83,37 @@ fn serve_cards<
     ensures memory { IfErr result (λ fault. fault ≡ RunFault.Memory) }
     ensures taken { OnOk result (port.new.taken ≡ port.old.taken + limit) }
 {
+    let closed = serve_cards(rt, alloc, port, limit, first, second, third, meter)?;
+    drop(closed);
+    Ok(())
+}
+
+/// The same, and gives the cards back that came out.
+fn serve_cards<
+    R: Relay + Send + 'static,
+    M: Meter + Send + 'static,
+    W: Threads + Wait + Clock + Copy + Drop + Send + Sync + 'static,
+>(
+    rt: W,
+    alloc: Global,
+    port: &mut Port<'_, W>,
+    limit: u32,
+    first: R,
+    second: R,
+    third: R,
+    meter: M,
+) -> Result<Closed<R, M>, RunFault>
+    requires { port.old.taken + limit < 2 ^ 32 }
+    ensures memory { IfErr result (λ fault. fault ≡ RunFault.Memory) }
+    ensures taken { OnOk result (port.new.taken ≡ port.old.taken + limit) }
+    ensures cards { IfOk result (λ closed. ClosesDown
+        (fitted
+        (relay_account (R.the_serial first) (R.failed first) (R.groups first) (R.closed first))
+        (relay_account (R.the_serial second) (R.failed second) (R.groups second) (R.closed second))
+        (relay_account (R.the_serial third) (R.failed third) (R.groups third) (R.closed third))
+        (of_meter (record { serial = M.the_serial meter; failures = M.failed meter; last = M.last_reading meter })))
+        closed.events (accounts_of closed.cards.items)) }
+{
     let first = Card::relays(first);
     let second = Card::relays(second);
     let third = Card::relays(third);
@@ -91,10 +124,7 @@ fn serve_cards<
         return Err(RunFault::Memory);
     };
     match serve_over::<Brand, R, M, Open, W>(rt, alloc, port, limit, opening, Open) {
-        Ok(closed) => {
-            drop(closed);
-            Ok(())
-        }
+        Ok(ended) => Ok(ended),
         Err(_) => Err(RunFault::Memory),
     }
 }
@@ -140,7 +170,10 @@ pub fn serve_over<
         × (opening.board.table.shared.key ≡ H.opening) }
     requires room { port.old.taken + limit < 2 ^ 32 }
     ensures events { IfOk result (λ closed. H.first.events ≤ closed.events) }
-    ensures open { IfOk result (λ closed. All (λ card. IsOpen card.1) closed.cards.items) }
+    ensures cards { IfOk result (λ closed.
+        IsClosedDown H.first closed.events (accounts_of closed.cards.items)) }
+    ensures open { IfOk result (λ closed.
+        All (λ slot. IfSome slot (λ card. IsOpen card.1)) closed.cards.items) }
     ensures taken { OnOk result (port.new.taken ≡ port.old.taken + limit) }
 {
     let (shared, posted) = Shared::<H, R, M, G>::new(alloc, opening, gate)?;
@@ -272,9 +305,9 @@ fn attend<
 ) -> Option<Ended<SharedDesk<H, R, M, G, W>, C::In, C::Out>>
     ensures { IfSome result (λ ended. (desk : _)
         × RunsSession (λ before entry after. DeskPasses H.first before.part entry after.part)
-        (mishaps C.In.Source C.Out.Sink C.Aside.Sink) turns
-        (connection_seen desk (C.input connection) (C.output connection))
-        (connection_seen ended.desk (left_ahead C.In.remaining ended.reader)
+        (mishaps C.In.Source C.Out.Sink C.Aside.Sink H.refused) turns
+        (connection_seen desk (C.input connection) (C.pauses connection) (C.output connection))
+        (connection_seen ended.desk (left_ahead C.In.remaining ended.reader) (C.In.pauses ended.reader.reader)
         (C.Out.contents ended.writer)) ended.result) }
 {
     let desk = lobby.desk()?;

@@ -1,6 +1,7 @@
 pub mod Limits
 pub mod Text
 pub mod Errors
+pub mod Layers
 pub mod Layout
 pub mod Memory
 pub mod Number

@@ -1,15 +1,19 @@
 -- The limits of the instrument: our own, but for the length of a mnemonic.
-use Rattle.std.specs.Prelude.{ℕ, ◌+◌}
+use Rattle.std.specs.Prelude.{ℕ, ◌+◌, ◌*◌}
 
 -- slots of a cage, numbered from 1
 abbrev pub most_slots : ℕ
-most_slots = 8
+most_slots = 16
 
 -- channels of a card, numbered from 1
 abbrev pub most_channels : ℕ
 most_channels = 99
 
--- channels of a list
+-- places for the channels of all slots, each at 100 times its slot and its number
+abbrev pub channel_places : ℕ
+channel_places = 100 * (most_slots + 1)
+
+-- channels of a list, and positions of a list
 abbrev pub most_entries : ℕ
 most_entries = 512
 
@@ -22,6 +26,10 @@ most_bytes = 65536
 abbrev pub most_kept : ℕ
 most_kept = most_bytes + 2
 
+-- bytes of the answers to one program message, with what stands between them and the line feed
+abbrev pub most_answer_bytes : ℕ
+most_answer_bytes = 16777216
+
 -- sessions at a time, numbered from 1
 abbrev pub most_sessions : ℕ
 most_sessions = 16
@@ -29,6 +37,14 @@ most_sessions = 16
 -- readings of a scan
 abbrev pub most_points : ℕ
 most_points = 100000
+
+-- ARM layers, numbered from 1, the outermost
+abbrev pub most_arm_layers : ℕ
+most_arm_layers = 3
+
+-- counters of scan code, numbered from 0: one for each ARM layer, and one for whole rounds of the list
+abbrev pub most_counters : ℕ
+most_counters = most_arm_layers + 1
 
 -- how often an ARM layer is passed
 abbrev pub most_arm_count : ℕ
@@ -38,7 +54,7 @@ most_arm_count = 1000
 abbrev pub most_trigger_count : ℕ
 most_trigger_count = 100000
 
--- the delay of a layer in microseconds: an hour
+-- the delay of a layer and the time of its timer, in microseconds: an hour
 abbrev pub longest_delay : ℕ
 longest_delay = 3600000000
 

@@ -5,7 +5,7 @@ ghost use Rattle.sw_base.specs.Limits.{most_slots, most_channels};
 
 use std::marker::Model;
 
-/// A relay of the cage: its card's slot, 1 to 8, and its number on that card, 1 to 99.
+/// A relay of the cage: its card's slot, 1 to `SLOTS`, and its number on that card, 1 to `CHANNELS`.
 ///
 /// Contracts see the pair of the two numbers.
 #[derive(Clone, Copy, Debug, PartialEq, Eq)]

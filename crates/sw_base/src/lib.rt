@@ -25,11 +25,11 @@ pub use bytes::{
 pub use chan::Chan;
 pub use error::{NO_ERROR, ScpiError};
 pub use limits::{
-    ARM_COUNT, BODY_BYTES, CHANNELS, KEPT_BYTES, LIST_ENTRIES, LONGEST_DELAY, MACRO_LEVELS, MACROS,
-    MESSAGE_BYTES, MNEMONIC_BYTES, POINTS, QUEUED_ERRORS, SESSIONS, SLOTS, TRIGGER_COUNT,
-    limits_agree,
+    ANSWER_BYTES, ARM_COUNT, ARM_LAYERS, BODY_BYTES, CHANNEL_PLACES, CHANNELS, COUNTERS,
+    KEPT_BYTES, LIST_ENTRIES, LONGEST_DELAY, MACRO_LEVELS, MACROS, MESSAGE_BYTES, MNEMONIC_BYTES,
+    POINTS, QUEUED_ERRORS, SESSIONS, SLOTS, TRIGGER_COUNT, limits_agree,
 };
 pub use number::{Exponent, Nrf, Unit, one_reading, read_exponent, read_mantissa};
 pub use reading::{Reading, one_text, print_micros, print_number, print_reading, print_signed};
 pub use sequence::Sequence;
-pub use terms::{LayerName, Source, StatusGroup};
+pub use terms::{ARMS, ArmLayer, LayerName, Source, StatusGroup, arms_agree};

@@ -9,7 +9,7 @@ use Rattle.sw_base.specs.Layout.{Channel, Layout, slot_at, has_meter, contents_a
 use Rattle.sw_base.specs.declared.reading.Reading.{Reading}
 use Rattle.sw_card.specs.Account.{Account, MeterAccount, of_meter}
 use Rattle.sw_trigger.specs.declared.layer.Awaited.{Awaited}
-use Rattle.sw_trigger.specs.declared.layer.Awaited.TheVariants.{Read}
+use Rattle.sw_trigger.specs.declared.layer.Awaited.TheVariants.{Wait, Period, Pause, Read}
 use Rattle.sw_trigger.specs.Settings.{SettingsSeen, IsInRange}
 use Rattle.sw_trigger.specs.Agenda.{agenda}
 use Rattle.sw_trigger.specs.Counts.{reads}
@@ -20,7 +20,7 @@ use Rattle.sw_cage.specs.Advance.{moves_from, next_place, awaits}
 use Rattle.sw_cage.specs.Good.{HasDone, MeterStands, IsHeld, IsGood}
 use Rattle.sw_cage.specs.Work.{JobSeen}
 use Rattle.sw_cage.specs.TakenSeen.{TakenSeen, SaysIgnored, SaysWaits, SaysPause, SaysJob, SaysEnded, SaysFault}
-use Rattle.sw_cage.specs.Outcome.{Moved, Occupancy, occupancy_of, Reaches, EntersSafeState, Advances}
+use Rattle.sw_cage.specs.Outcome.{lasting, Moved, Occupancy, occupancy_of, Reaches, EntersSafeState, Advances}
 use Rattle.sw_cage.specs.declared.job.Ticket.{Ticket}
 use Rattle.sw_cage.proofs.SlotChangeLemmas.{slot_cases, slot_set_same, slot_set_other}
 use Rattle.sw_cage.proofs.LayoutLemmas.{slot_with, or_in, layout_length, layout_sent}
@@ -159,6 +159,14 @@ module _ (p : CageSeen) (s : SettingsSeen) (i : ℕ) (mid : Accounts) (k : IsHel
         };
       }
 
+-- what lasts and ends by itself finds the meter at home
+stays_home : (t : Ticket) (o : Option Awaited) (micros : ℕ) → lasting o ≡ Some micros → MeterStands None t o
+stays_home t None micros e = absurd (cc e)
+stays_home t (Some (Wait name)) micros e = refl
+stays_home t (Some (Period name u)) micros e = refl
+stays_home t (Some (Pause u)) micros e = refl
+stays_home t (Some Read) micros e = absurd (cc e)
+
 -- wherever the scan comes to, the cage is good
 pub good_lands : (p q : CageSeen) (s : SettingsSeen) (i : ℕ) (told : TakenSeen) → IsHeld p → CanGo p s i
     → Reaches (occupancy_of p) p.number (moves_from s i) (next_place s i) told (occupancy_of q) q.scan → q.number ≡ p.number → q.readings ≡ p.readings
@@ -170,7 +178,7 @@ good_lands p q s i SaysWaits k g l n r =
     (good_waiting p s i l.cards k g l.moved (subst (MeterStands None (ticket_of p.number (next_place s i))) (sym l.arrives.0.1) refl))
 good_lands p q s i (SaysPause t micros) k g l n r =
     subst IsGood (sym (same_cage q (record p { cards = l.cards; scan = Some (next_place s i) }) l.arrives.2 n l.arrives.3 r))
-    (good_waiting p s i l.cards k g l.moved (subst (MeterStands None (ticket_of p.number (next_place s i))) (sym l.arrives.0) refl))
+    (good_waiting p s i l.cards k g l.moved (stays_home (ticket_of p.number (next_place s i)) (awaits (next_place s i)) micros l.arrives.0))
 good_lands p q s i (SaysJob job) k g l n r =
     let at = next_place s i in
     let sent = l.arrives.1 in

@@ -9,7 +9,7 @@ use Rattle.sw_base.specs.Layout.{Channel, Layout, slot_at, has_meter}
 use Rattle.sw_base.specs.declared.reading.Reading.{Reading}
 use Rattle.sw_card.specs.Account.{MeterAccount, of_meter}
 use Rattle.sw_trigger.specs.declared.layer.Awaited.{Awaited}
-use Rattle.sw_trigger.specs.declared.layer.Awaited.TheVariants.{Wait, Pause, Read}
+use Rattle.sw_trigger.specs.declared.layer.Awaited.TheVariants.{Wait, Period, Pause, Read}
 use Rattle.sw_trigger.specs.Settings.{SettingsSeen, IsInRange}
 use Rattle.sw_trigger.specs.Agenda.{Item, agenda}
 use Rattle.sw_trigger.specs.Counts.{reads, is_reading}
@@ -90,6 +90,7 @@ awaits_some at o e = cc
 
 other_home : (out : Option Ticket) (t : Ticket) (x : Awaited) → is_reading x ≡ 0 → MeterStands out t (Some x) → out ≡ None
 other_home out t (Wait name) n m = m
+other_home out t (Period name micros) n m = m
 other_home out t (Pause micros) n m = m
 other_home out t Read n m = absurd (omega arith)
 
@@ -169,6 +170,7 @@ module _ (p : CageSeen) (s : ℕ) (t : Ticket) (m : MeterAccount) (k : IsHeld p)
       → AwaitsReturn p.number at s t
   stands_out at None e f w = absurd w
   stands_out at (Some (Wait name)) e f w = absurd (cc)
+  stands_out at (Some (Period name micros)) e f w = absurd (cc)
   stands_out at (Some (Pause micros)) e f w = absurd (cc)
   stands_out at (Some Read) e f w = record { reading = e; slot_is = f; ticket_is = let y : ticket_of p.number at ≡ t = cc in y }
 

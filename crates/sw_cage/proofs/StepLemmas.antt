@@ -6,7 +6,7 @@ use Rattle.std.specs.List.{slice_get, AllByRecursion}
 use Rattle.std.proofs.lemmas.Bool.Decides.{nat_tests}
 use Rattle.std.proofs.lemmas.List.{get_or-set_same, get_or-set_other}
 use Rattle.sw_trigger.specs.declared.layer.Awaited.{Awaited}
-use Rattle.sw_trigger.specs.declared.layer.Awaited.TheVariants.{Wait, Pause, Read}
+use Rattle.sw_trigger.specs.declared.layer.Awaited.TheVariants.{Wait, Period, Pause, Read}
 use Rattle.sw_trigger.specs.Agenda.{Item, Awaits, Close, Open}
 use Rattle.sw_code.specs.declared.code.Step.{Step}
 use Rattle.sw_code.specs.declared.code.Step.TheVariants as step
@@ -43,7 +43,7 @@ abbrev at_start : Counters
 at_start = λ k. 0
 
 abbrev zeros : List ℕ
-zeros = 0 ∷ 0 ∷ 0 ∷ []
+zeros = 0 ∷ 0 ∷ 0 ∷ 0 ∷ []
 
 start_is : counters_of zeros ≡ at_start
 start_is = fun_ext at where
@@ -51,10 +51,11 @@ start_is = fun_ext at where
   at zero = refl
   at (suc zero) = refl
   at (suc (suc zero)) = refl
-  at (suc (suc (suc j))) = refl
+  at (suc (suc (suc zero))) = refl
+  at (suc (suc (suc (suc j)))) = refl
 
 -- a run of the code from its start
-pub does_start : (code : List Step) (at : Place) (items : List Item) → at.step ≡ 0 → at.counters ≡ replicate 3 0 → Unfolds code items → Does code at items
+pub does_start : (code : List Step) (at : Place) (items : List Item) → at.step ≡ 0 → at.counters ≡ replicate 4 0 → Unfolds code items → Does code at items
 does_start code at items e f u = record {
   steps = u.steps;
   run = ap (λ (pc : ℕ). exec code u.steps pc (counters_of at.counters)) e ∙ ap (λ (cs : List ℕ). exec code u.steps 0 (counters_of cs)) f ∙
@@ -79,6 +80,7 @@ module _ (code : List Step) (at : Place) where
   act_item : (x : Item) (n : ℕ)
       → act (Some (step_of x)) (exec code n) at.step (counters_of at.counters) ≡ passing x (exec code n (at.step + 1) (counters_of at.counters))
   act_item (Awaits (Wait name)) n = refl
+  act_item (Awaits (Period name micros)) n = refl
   act_item (Awaits (Pause micros)) n = refl
   act_item (Awaits Read) n = refl
   act_item (Close c) n = refl
@@ -144,6 +146,7 @@ module _ (code : List Step) (at : Place) where
     go None e = absurd (does_none (Awaits what ∷ items) e d)
     go (Some (step.Set k n)) e = absurd (subst (λ (i : Option Step). IsNearBy i (λ p. ⊥) at.step) e near)
     go (Some (step.Wait name)) e = tt
+    go (Some (step.Timer name micros)) e = tt
     go (Some (step.Pause micros)) e = tt
     go (Some (step.Close c)) e = let s = (does_item (Close c) (Awaits what ∷ items) e d).1 in absurd (cc)
     go (Some step.Read) e = tt
@@ -158,6 +161,7 @@ module _ (code : List Step) (at : Place) where
     go None e r = absurd r
     go (Some (step.Set k n)) e r = absurd r
     go (Some (step.Wait name)) e r = ap leading_moves (does_item (Awaits (Wait name)) items e d).1
+    go (Some (step.Timer name micros)) e r = ap leading_moves (does_item (Awaits (Period name micros)) items e d).1
     go (Some (step.Pause micros)) e r = ap leading_moves (does_item (Awaits (Pause micros)) items e d).1
     go (Some (step.Close c)) e r = absurd r
     go (Some step.Read) e r = ap leading_moves (does_item (Awaits Read) items e d).1
@@ -210,6 +214,7 @@ module _ (code : List Step) (at : Place) where
     go None e r = absurd r
     go (Some (step.Set k n)) e r = absurd r
     go (Some (step.Wait name)) e r = gone (Wait name) e
+    go (Some (step.Timer name micros)) e r = gone (Period name micros) e
     go (Some (step.Pause micros)) e r = gone (Pause micros) e
     go (Some (step.Close c)) e r = absurd r
     go (Some step.Read) e r = gone Read e
@@ -224,6 +229,7 @@ module _ (code : List Step) (at : Place) where
     go None e r = absurd r
     go (Some (step.Set k v)) e r = absurd r
     go (Some (step.Wait name)) e r = p.after at.step (step.Wait name) e
+    go (Some (step.Timer name micros)) e r = p.after at.step (step.Timer name micros) e
     go (Some (step.Pause micros)) e r = p.after at.step (step.Pause micros) e
     go (Some (step.Close c)) e r = absurd r
     go (Some step.Read) e r = p.after at.step step.Read e

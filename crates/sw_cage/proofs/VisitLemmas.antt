@@ -1,11 +1,9 @@
 -- An agenda opens what it closed after one reading.
 use Rattle.std.proofs.Common.{◌≡◌, ℕ, zero, suc, ◌+◌, ◌<◌, List, [], ◌∷◌, ◌++◌, length, drop, map, Some, sym, subst, arith}
-use Rattle.sw_base.specs.declared.terms.LayerName.{LayerName}
-use Rattle.sw_base.specs.declared.terms.LayerName.TheVariants.{Arm1, Arm2, Trigger}
+use Rattle.sw_base.specs.declared.terms.LayerName.TheVariants.{Trigger}
 use Rattle.sw_trigger.specs.declared.layer.Awaited.{Awaited}
-use Rattle.sw_trigger.specs.declared.layer.Layer.{Layer}
-use Rattle.sw_trigger.specs.Settings.{SettingsSeen}
-use Rattle.sw_trigger.specs.Agenda.{Item, Awaits, Close, Open, repeated, head_of, position_at, visit, pass_of, passes, arm_turn, arm_turns, agenda}
+use Rattle.sw_trigger.specs.Settings.{SettingsSeen, NamedLayer, arms_of}
+use Rattle.sw_trigger.specs.Agenda.{Item, Awaits, Close, Open, repeated, head_of, position_at, visit, pass_of, passes, turns_of, agenda}
 use Rattle.sw_trigger.proofs.Awaiting.{agenda_is}
 use Rattle.sw_cage.specs.Advance.{first_awaited}
 use Rattle.sw_cage.specs.Steps.{AreVisits, AreVisitsOn}
@@ -37,15 +35,15 @@ visits-passes s k (suc n) =
     (visits-append (map Awaits (head_of Trigger s.trigger)) (visit (position_at s.list k)) (visits-awaits (head_of Trigger s.trigger)) tt)
     (visits-passes s (suc k) n)
 
-visits-arm_turns : (name : LayerName) (l : Layer) (inside : List Item) → AreVisits inside → AreVisits (arm_turns name l inside)
-visits-arm_turns name l inside f =
-    visits-repeated l.count (arm_turn name l inside) (visits-append (map Awaits (head_of name l)) inside (visits-awaits (head_of name l)) f)
+visits-turns : (arms : List NamedLayer) (inside : List Item) → AreVisits inside → AreVisits (turns_of arms inside)
+visits-turns [] inside f = f
+visits-turns (arm ∷ arms) inside f =
+    visits-repeated arm.1.count (map Awaits (head_of arm.0 arm.1) ++ turns_of arms inside)
+    (visits-append (map Awaits (head_of arm.0 arm.1)) (turns_of arms inside) (visits-awaits (head_of arm.0 arm.1)) (visits-turns arms inside f))
 
 pub visits-agenda : (s : SettingsSeen) → 0 < length s.list → AreVisits (agenda s)
 visits-agenda s h =
-    subst AreVisits (sym (agenda_is s h))
-    (visits-arm_turns Arm1 s.arm1 (arm_turns Arm2 s.arm2 (passes s 0 s.trigger.count))
-    (visits-arm_turns Arm2 s.arm2 (passes s 0 s.trigger.count) (visits-passes s 0 s.trigger.count)))
+    subst AreVisits (sym (agenda_is s h)) (visits-turns (arms_of s) (passes s 0 s.trigger.count) (visits-passes s 0 s.trigger.count))
 
 pub visits_on : (l : List Item) → AreVisits l → AreVisitsOn l
 visits_on [] f = tt

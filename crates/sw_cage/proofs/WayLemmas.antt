@@ -2,7 +2,7 @@
 use Rattle.std.proofs.Common.{◌≡◌, ◌+◌, List, [], ◌∷◌, ◌++◌, Option, Some, None, refl, ap, ◌∙◌, subst}
 use Rattle.std.specs.List.{slice_get}
 use Rattle.sw_channel.specs.Positions.{Position}
-use Rattle.sw_trigger.specs.declared.layer.Awaited.TheVariants.{Wait, Pause, Read}
+use Rattle.sw_trigger.specs.declared.layer.Awaited.TheVariants.{Wait, Period, Pause, Read}
 use Rattle.sw_trigger.specs.Agenda.{Item, Awaits, Close, Open}
 use Rattle.sw_code.specs.declared.code.Step.{Step}
 use Rattle.sw_code.specs.declared.code.Step.TheVariants as step
@@ -24,6 +24,7 @@ pub closer : (o : Option Step) (c : Position) → closed_by o ≡ Some c → o �
 closer None c e = absurd (cc)
 closer (Some (step.Set k n)) c e = absurd (cc)
 closer (Some (step.Wait name)) c e = absurd (cc)
+closer (Some (step.Timer name micros)) c e = absurd (cc)
 closer (Some (step.Pause micros)) c e = absurd (cc)
 closer (Some (step.Close x)) c e = let same : x ≡ c = cc in ap (λ (y : Position). Some (step.Close y)) same
 closer (Some step.Read) c e = absurd (cc)
@@ -35,6 +36,7 @@ pub opener : (o : Option Step) (c : Position) → opened_by o ≡ Some c → o �
 opener None c e = absurd (cc)
 opener (Some (step.Set k n)) c e = absurd (cc)
 opener (Some (step.Wait name)) c e = absurd (cc)
+opener (Some (step.Timer name micros)) c e = absurd (cc)
 opener (Some (step.Pause micros)) c e = absurd (cc)
 opener (Some (step.Close x)) c e = absurd (cc)
 opener (Some step.Read) c e = absurd (cc)
@@ -70,6 +72,7 @@ module _ (code : List Step) (at : Place) (items : List Item) (d : Does code at i
     go None e = absurd (does_none code at items e d)
     go (Some (step.Set k n)) e = absurd (subst (λ (i : Option Step). IsNearBy i (λ p. ⊥) at.step) e near)
     go (Some (step.Wait name)) e = tt
+    go (Some (step.Timer name micros)) e = tt
     go (Some (step.Pause micros)) e = tt
     go (Some (step.Close c)) e = let k = ap closed_by e in absurd (cc)
     go (Some step.Read) e = tt
@@ -104,6 +107,7 @@ module _ (code : List Step) (at : Place) (items : List Item) (d : Does code at i
       go_open None e = does_none code at (Open c ∷ l) e f
       go_open (Some (step.Set k n)) e = subst (λ (i : Option Step). IsNearBy i (λ p. ⊥) at.step) e near
       go_open (Some (step.Wait name)) e = let s = (does_item code at (Awaits (Wait name)) (Open c ∷ l) e f).1 in absurd (cc)
+      go_open (Some (step.Timer name micros)) e = let s = (does_item code at (Awaits (Period name micros)) (Open c ∷ l) e f).1 in absurd (cc)
       go_open (Some (step.Pause micros)) e = let s = (does_item code at (Awaits (Pause micros)) (Open c ∷ l) e f).1 in absurd (cc)
       go_open (Some (step.Close x)) e = let s = (does_item code at (Close x) (Open c ∷ l) e f).1 in absurd (cc)
       go_open (Some step.Read) e = let s = (does_item code at (Awaits Read) (Open c ∷ l) e f).1 in absurd (cc)

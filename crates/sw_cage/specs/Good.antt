@@ -3,7 +3,7 @@ use Rattle.std.specs.Prelude.{◌≡◌, ℕ, ◌<◌, ◌≤◌, true, length, 
 use Rattle.sw_base.specs.Limits.{most_slots}
 use Rattle.sw_base.specs.Layout.{Layout, slot_at, has_meter}
 use Rattle.sw_trigger.specs.declared.layer.Awaited.{Awaited}
-use Rattle.sw_trigger.specs.declared.layer.Awaited.TheVariants.{Wait, Pause, Read}
+use Rattle.sw_trigger.specs.declared.layer.Awaited.TheVariants.{Wait, Period, Pause, Read}
 use Rattle.sw_trigger.specs.Settings.{SettingsSeen, IsInRange}
 use Rattle.sw_trigger.specs.Agenda.{agenda}
 use Rattle.sw_trigger.specs.Counts.{reads}
@@ -24,6 +24,7 @@ pub record HasDone (layout : Layout) (closed : Channels) (s : SettingsSeen) (ind
 abbrev pub MeterStands : Option Ticket → Ticket → Option Awaited → Type 0
 MeterStands out ticket None = ⊥
 MeterStands out ticket (Some (Wait name)) = out ≡ None
+MeterStands out ticket (Some (Period name micros)) = out ≡ None
 MeterStands out ticket (Some (Pause micros)) = out ≡ None
 MeterStands out ticket (Some Read) = out ≡ Some ticket
 

@@ -7,7 +7,8 @@ use Rattle.sw_base.specs.declared.terms.LayerName.{LayerName}
 use Rattle.sw_base.specs.declared.reading.Reading.{Reading}
 use Rattle.sw_card.specs.declared.board.CardFault.{CardFault}
 use Rattle.sw_card.specs.Account.{of_meter}
-use Rattle.sw_trigger.specs.declared.layer.Awaited.TheVariants.{Wait, Pause, Read}
+use Rattle.sw_trigger.specs.declared.layer.Awaited.{Awaited}
+use Rattle.sw_trigger.specs.declared.layer.Awaited.TheVariants.{Wait, Period, Pause, Read}
 use Rattle.sw_trigger.specs.Settings.{SettingsSeen}
 use Rattle.sw_trigger.specs.Agenda.{Item}
 use Rattle.sw_verify.specs.Sound.{effect}
@@ -48,6 +49,14 @@ pub record IsSent (old : Occupancy) (slot : ℕ) (ticket : Ticket) (job : JobSee
     out = slice_set old.out (slot - 1) (Some ticket);
   }
 
+-- how many microseconds something awaited lasts that ends by itself
+abbrev pub lasting : Option Awaited → Option ℕ
+lasting None = None
+lasting (Some (Wait name)) = None
+lasting (Some (Period name micros)) = Some micros
+lasting (Some (Pause micros)) = Some micros
+lasting (Some Read) = None
+
 -- What is told where the scan has come to this place: what it awaits there. A pause and a reading come with their
 -- ticket, and for a reading the meter goes out.
 abbrev pub Arrives : Occupancy → ℕ → ScanSeen → TakenSeen → Occupancy → Option ScanSeen → Type 0
@@ -55,7 +64,7 @@ Arrives old number at SaysIgnored new scan = ⊥
 Arrives old number at SaysWaits new scan = ((name : LayerName) × (awaits at ≡ Some (Wait name))) × (new ≡ old)
     × (scan ≡ Some at)
 Arrives old number at (SaysPause ticket micros) new scan =
-    (awaits at ≡ Some (Pause micros)) × (ticket ≡ ticket_of number at) × (new ≡ old) × (scan ≡ Some at)
+    (lasting (awaits at) ≡ Some micros) × (ticket ≡ ticket_of number at) × (new ≡ old) × (scan ≡ Some at)
 Arrives old number at (SaysJob job) new scan = (awaits at ≡ Some Read) × IsSent old at.setup.meter (ticket_of number at)
     job new × (scan ≡ Some at)
 Arrives old number at SaysEnded new scan = (awaits at ≡ None) × (new ≡ old) × (scan ≡ None)

@@ -24,6 +24,7 @@ abbrev pub IsResting : Option Step → Type 0
 IsResting None = ⊥
 IsResting (Some (step.Set k n)) = ⊥
 IsResting (Some (step.Wait name)) = Unit {0}
+IsResting (Some (step.Timer name micros)) = Unit {0}
 IsResting (Some (step.Pause micros)) = Unit {0}
 IsResting (Some (step.Close c)) = ⊥
 IsResting (Some step.Read) = Unit {0}

@@ -4,7 +4,7 @@ use Rattle.std.specs.Prelude.{◌≡◌, ℕ, Option, Some, None}
 use Rattle.sw_base.specs.declared.terms.Source.TheVariants as source
 use Rattle.sw_base.specs.declared.terms.LayerName.{LayerName}
 use Rattle.sw_trigger.specs.declared.layer.Awaited.{Awaited}
-use Rattle.sw_trigger.specs.declared.layer.Awaited.TheVariants.{Wait, Pause, Read}
+use Rattle.sw_trigger.specs.declared.layer.Awaited.TheVariants.{Wait, Period, Pause, Read}
 use Rattle.sw_trigger.specs.Settings.{SettingsSeen, layer_of}
 use Rattle.sw_trigger.specs.Counts.{is_reading}
 use Rattle.sw_cage.specs.Cage.{ScanSeen, CageSeen, ticket_of}
@@ -27,9 +27,17 @@ TakesPause present External = ⊥
 TakesPause present (Signal signalled) = ⊥
 TakesPause present (Elapsed ticket) = present ≡ ticket
 
+-- a layer's timer under this ticket takes its end, and its layer's SIGNal
+abbrev pub TakesPeriod : Ticket → LayerName → Happening → Type 0
+TakesPeriod present name Bus = ⊥
+TakesPeriod present name External = ⊥
+TakesPeriod present name (Signal signalled) = name ≡ signalled
+TakesPeriod present name (Elapsed ticket) = present ≡ ticket
+
 -- what awaits this takes the happening, under the ticket that is present
 abbrev pub TakesAt : SettingsSeen → Ticket → Awaited → Happening → Type 0
 TakesAt s present (Wait name) happening = TakesWait s name happening
+TakesAt s present (Period name micros) happening = TakesPeriod present name happening
 TakesAt s present (Pause micros) happening = TakesPause present happening
 TakesAt s present Read happening = ⊥
 

@@ -1,16 +1,14 @@
 -- Channels joined by `&` at the front of a text, and the item that they are, or that a range is.
-use Rattle.std.proofs.Common.{◌≡◌, ℕ, Bool, true, false, List, [], ◌∷◌, ◌++◌, refl, sym, ap, subst, ◌∙◌, append_assoc, ◌⊎◌, inl, inr}
-use Rattle.std.specs.Prelude.{◌==◌, ◌||◌, Option, Result, Ok}
-use Rattle.std.proofs.lemmas.Grind.{common_steps}
-use Rattle.std.proofs.lemmas.List.{append-nil}
+use Rattle.std.proofs.Common.{◌≡◌, ℕ, true, false, List, [], ◌∷◌, ◌++◌, refl, sym, ap, subst, ◌∙◌, append_assoc, ◌⊎◌, inl, inr}
+use Rattle.std.specs.Prelude.{◌==◌, Option, Result, Ok}
 use Rattle.sw_base.specs.Layout.{Channel}
 use Rattle.sw_base.specs.Text.{StartsOff}
 use Rattle.sw_base.specs.declared.error.ScpiError.{ScpiError}
 use Rattle.sw_channel.specs.declared.entry.Entry.{Entry}
-use Rattle.sw_channel.specs.Grammar.{WrittenChannel, range, PositionItem, joined, single_each, IsMarkedPair, IsChannel, AreJoined, IsPositionItem}
+use Rattle.sw_channel.specs.Grammar.{WrittenChannel, PositionItem, joined, single_each, IsMarkedPair, IsChannel, AreJoined, IsPositionItem}
 use Rattle.sw_channel.specs.Meaning.{channel_of}
 use Rattle.sw_channel.specs.Positions.{Position}
-use Rattle.sw_channel.specs.PositionMeaning.{and_next, position_after, position_of_joined}
+use Rattle.sw_channel.specs.PositionMeaning.{and_next}
 use Rattle.sw_channel.specs.Seen.{ends_channel, ends_item, EndsBy, LeadsPart, LeadsNone, MeansChannel, MeansJoined, MeansEntry}
 use Rattle.sw_channel.proofs.Parts.{ends_wider, no_end, item_wider}
 use Rattle.sw_channel.proofs.PositionJudging.{after_more}

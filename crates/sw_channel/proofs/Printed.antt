@@ -7,12 +7,12 @@ use Rattle.std.proofs.lemmas.List.{append-nil}
 use Rattle.std.proofs.lemmas.Bool.{cases_Bool, leb-false, le-leb}
 use Rattle.std.proofs.Common.{suc, get_or, drop-cons, add-one, subst}
 use Rattle.std.proofs.lemmas.List.Elements.{All-more, recursion_from_All}
-use Rattle.sw_channel.specs.Meaning.{number_from}
 use Rattle.std.proofs.Math.ListN.{drop_of_length-le}
 use Rattle.std.proofs.lemmas.List.{take_all}
 use Rattle.std.proofs.lemmas.Grind.{common_steps}
 use Rattle.sw_base.specs.Text.{is_digit, AllPass}
 use Rattle.sw_base.specs.Layout.{Channel}
+use Rattle.sw_base.specs.Limits.{most_slots}
 use Rattle.sw_channel.specs.Grammar.{WrittenChannel, plain, pair, ListItem, one, IsPadded, IsChannel, IsItem, AreJoined, PositionItem, joined, IsPositionItem}
 use Rattle.sw_channel.specs.Meaning.{short_number, channel_of, channels_of, Names, Mean, Spells}
 use Rattle.sw_channel.specs.Printing.{printed_number, printed_channel, printed_after, printed_joined, printed, printed_position, printed_positions, InRange}
@@ -34,15 +34,16 @@ number_printed c h =
     ]
 
 abbrev written : Channel → WrittenChannel
-written c = pair ((48 + c.0) ∷ []) (printed_number c.1)
+written c = pair (printed_number c.0) (printed_number c.1)
 
 is_channel : (c : Channel) → InRange c → IsChannel (printed_channel c) (written c)
 is_channel c r =
+    let m = number_printed c.0 (omega (arith, r.1)) in
     let n = number_printed c.1 r.3 in
     record {
-      left = (48 + c.0) ∷ [];
+      left = printed_number c.0;
       right = printed_number c.1;
-      first = is_number _ (digit c.0 (omega arith), tt) (lit< tt);
+      first = is_number _ m.0 m.1;
       second =
           is_number _ n.0 n.1;
       whole = refl;
@@ -51,9 +52,9 @@ is_channel c r =
 means : (c : Channel) → InRange c → channel_of (written c) ≡ Some c
 means c r =
     let n : short_number (printed_number c.1) ≡ Some c.1 = (number_printed c.1 r.3).2 in
-    let e : number_from 0 ((48 + c.0) ∷ []) ≡ c.0 = omega arith in
+    let e : short_number (printed_number c.0) ≡ Some c.0 = (number_printed c.0 (omega (arith, r.1))).2 in
     let a : nat_le 1 c.0 ≡ true = le-leb 1 c.0 r.0 in
-    let b : nat_le c.0 8 ≡ true = le-leb c.0 8 r.1 in
+    let b : nat_le c.0 most_slots ≡ true = le-leb c.0 most_slots r.1 in
     let g : nat_le 1 c.1 ≡ true = le-leb 1 c.1 r.2 in
     let k : nat_le c.1 99 ≡ true = le-leb c.1 99 r.3 in
     rw (n, e, a, b, g, k) refl

@@ -7,7 +7,7 @@ use Rattle.sw_base.specs.Limits.{most_entries}
 use Rattle.sw_base.specs.declared.error.ScpiError.{ScpiError}
 use Rattle.sw_base.specs.declared.error.ScpiError.TheVariants.{DataOutOfRange, TooMuchData}
 use Rattle.sw_channel.specs.Grammar.{WrittenChannel, range, PositionItem, joined, single_each, IsPositionList}
-use Rattle.sw_channel.specs.Meaning.{channel_of, channels_of, Mean, fitting, judged}
+use Rattle.sw_channel.specs.Meaning.{channel_of, channels_of, Mean, fitting}
 use Rattle.sw_channel.specs.Positions.{Position, IsPosition, is_among, most_joined, alone}
 
 -- Channels that are joined name one position, of one to four different ones; a range names a position of each channel.

@@ -11,7 +11,7 @@ printed_number c = if nat_le 10 c then (48 + c / 10) ∷ (48 + c % 10) ∷ [] el
 
 -- `s!c`
 abbrev pub printed_channel : Channel → List ℕ
-printed_channel c = (48 + c.0) ∷ 33 ∷ printed_number c.1
+printed_channel c = printed_number c.0 ++ 33 ∷ printed_number c.1
 
 -- each after a mark
 abbrev pub printed_after : {V : Type 0} → ℕ → (V → List ℕ) → List V → List ℕ

@@ -1,19 +1,20 @@
 //! Printing a channel list, and a list of positions.
 
-ghost use Rattle.std.specs.Prelude.{◌≡◌, ◌≢◌, [], ◌++◌, IfOk, IfErr, OnOk};
+ghost use Rattle.std.specs.Prelude.{◌≡◌, ◌≢◌, ◌<◌, [], ◌++◌, IfOk, IfErr, OnOk};
 ghost use Rattle.std.specs.List.{AllByRecursion};
 ghost use Rattle.sw_base.specs.declared.error.ScpiError.TheVariants.{OutOfMemory};
 ghost use Rattle.sw_channel.specs.Meaning.{Spells};
 ghost use Rattle.sw_channel.specs.PositionMeaning.{SpellsPositions};
 ghost use Rattle.sw_channel.specs.Printing.{printed, printed_positions, printed_position, printed_channel};
 ghost use Rattle.sw_channel.specs.Printing.{printed_after, printed_joined, InRange, IsPrintable};
+ghost use Rattle.sw_channel.specs.Printing.{printed_number};
 
 use crate::position::Position;
 use std::alloc::{AllocError, Global};
 use sw_base::{Chan, ScpiError};
 
-/// The bytes of a channel at most, its comma counted: `,8!99`.
-const MOST_BYTES: usize = 5;
+/// The bytes of a channel at most, its comma counted: `,16!99`.
+const MOST_BYTES: usize = 6;
 
 /// A channel list as text: `(@`, each channel as `slot!channel`, joined by commas, and `)`; `(@)` for none.
 ///
@@ -108,11 +109,19 @@ fn put_channel(out: &mut Vec<u8>, chan: Chan) -> Result<(), AllocError>
 {
     let slot = chan.slot();
     let ch = chan.ch();
-    out.push(b'0' + slot)?;
+    put_number(out, slot)?;
     out.push(b'!')?;
-    if ch >= 10 {
-        out.push(b'0' + ch / 10)?;
+    put_number(out, ch)
+}
+
+/// Adds a number below 100, without a leading zero.
+fn put_number(out: &mut Vec<u8>, number: u8) -> Result<(), AllocError>
+    requires { number < 100 }
+    ensures { OnOk result (out.new.items ≡ out.old.items ++ printed_number number) }
+{
+    if number >= 10 {
+        out.push(b'0' + number / 10)?;
     }
-    out.push(b'0' + ch % 10)?;
+    out.push(b'0' + number % 10)?;
     Ok(())
 }

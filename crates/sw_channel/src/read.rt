@@ -29,7 +29,7 @@ use sw_base::{Chan, ScpiError};
 ///
 /// The first of these refusals is answered, where there is one:
 /// - `InvalidExpression` where any part of the text is no list, and for one of no item;
-/// - then item by item `DataOutOfRange` for a number of more than nine digits, a slot outside 1 to 8, a channel
+/// - then item by item `DataOutOfRange` for a number of more than nine digits, a slot outside 1 to 16, a channel
 ///   outside 1 to 99 or a range over two slots, and `TooMuchData` for a 513th channel.
 ///
 /// `OutOfMemory` comes where a list that has none of these finds no room.

@@ -1,21 +1,24 @@
 -- What settings compile to unfolds to their agenda.
-use Rattle.std.proofs.Common.{◌≡◌, ℕ, zero, suc, ◌+◌, ◌*◌, ◌/◌, ◌%◌, ◌<◌, Bool, true, false, ◌||◌, cond, eqb, List, [], ◌∷◌, ◌++◌, length, map}
+use Rattle.std.proofs.Common.{◌≡◌, ℕ, zero, suc, ◌+◌, ◌-◌, ◌*◌, ◌/◌, ◌%◌, ◌<◌, ◌≤◌, Bool, true, false, ◌||◌, cond, eqb, List, [], ◌∷◌, ◌++◌, length, map}
 use Rattle.std.proofs.Common.{get_or, refl, sym, ap, ◌∙◌, subst, arith, append_assoc, append-nil}
 use Rattle.std.proofs.lemmas.Bool.Decides.{nat_tests}
 use Rattle.std.proofs.lemmas.List.{length-map, map-append}
 use Rattle.std.proofs.lemmas.Nat.{div-add-mod'}
 use Rattle.std.proofs.Math.Nat.{add-mul-mod_self_right, suc-mul}
+use Rattle.sw_base.specs.Limits.{most_arm_layers}
 use Rattle.sw_base.specs.declared.terms.LayerName.{LayerName}
-use Rattle.sw_base.specs.declared.terms.LayerName.TheVariants.{Arm1, Arm2, Trigger}
+use Rattle.sw_base.specs.declared.terms.LayerName.TheVariants.{Trigger}
 use Rattle.sw_channel.specs.Positions.{Position}
 use Rattle.sw_code.specs.declared.code.Step.{Step}
 use Rattle.sw_code.specs.declared.code.Step.TheVariants as step
 use Rattle.sw_trigger.specs.declared.layer.Layer.{Layer}
-use Rattle.sw_trigger.specs.Settings.{SettingsSeen, IsInRange}
-use Rattle.sw_trigger.specs.Agenda.{Item, Awaits, repeated, head_of, position_at, pass_of, passes, visit, arm_turns, agenda}
+use Rattle.sw_trigger.specs.Settings.{SettingsSeen, IsInRange, NamedLayer, named, arms_of}
+use Rattle.sw_base.specs.Layers.{arm_layers, number_of}
+use Rattle.sw_base.specs.declared.terms.ArmLayer.{ArmLayer}
+use Rattle.sw_trigger.specs.Agenda.{Item, Awaits, repeated, head_of, position_at, pass_of, passes, visit, turns_of, agenda}
 use Rattle.sw_code.specs.Code.{Unfolds}
 use Rattle.sw_code.specs.Tree.{Tree, Nil, Times, step_of, size, flatten, meaning, IsNested}
-use Rattle.sw_code.specs.Compiled.{line, steps_of, passes_tree, arm_tree, tree_of}
+use Rattle.sw_code.specs.Compiled.{line, steps_of, passes_tree, arms_tree, tree_of}
 use Rattle.sw_trigger.proofs.Awaiting.{agenda_is}
 use Rattle.sw_code.proofs.Unfolding.{unfolds}
 
@@ -75,82 +78,101 @@ meaning-passes s = at (s.trigger.count / length s.list) (s.trigger.count % lengt
   left r = meaning-line (passes s 0 r) Nil ∙ append-nil (passes s 0 r)
 
   at : (q r : ℕ) → q * length s.list + r ≡ s.trigger.count
-      → meaning (cond (eqb q 0) (line (passes s 0 r) Nil) (Times 2 q (line (passes s 0 (length s.list)) Nil) (line (passes s 0 r) Nil)))
+      → meaning (cond (eqb q 0) (line (passes s 0 r) Nil) (Times most_arm_layers q (line (passes s 0 (length s.list)) Nil) (line (passes s 0 r) Nil)))
       ≡ passes s 0 s.trigger.count
   at zero r e = left r ∙ sym (rounds s 0 r) ∙ ap (passes s 0) e
   at (suc q) r e =
       let f : eqb (suc q) 0 ≡ false = grind (arith, nat_tests) in
-      ap (λ b. meaning (cond b (line (passes s 0 r) Nil) (Times 2 (suc q) (line (passes s 0 (length s.list)) Nil) (line (passes s 0 r) Nil)))) f
+      ap (λ b. meaning (cond b (line (passes s 0 r) Nil) (Times most_arm_layers (suc q) (line (passes s 0 (length s.list)) Nil) (line (passes s 0 r) Nil)))) f
       ∙ ap (λ (l : List Item). repeated (suc q) l ++ meaning (line (passes s 0 r) Nil)) (left (length s.list))
       ∙ ap (λ (l : List Item). repeated (suc q) (passes s 0 (length s.list)) ++ l) (left r)
       ∙ sym (rounds s (suc q) r) ∙ ap (passes s 0) e
 
-pub meaning-arm : (counter : ℕ) (name : LayerName) (l : Layer) (inside : Tree) → meaning (arm_tree counter name l inside) ≡ arm_turns name l (meaning inside)
-meaning-arm counter name l inside =
-    append-nil (repeated l.count (meaning (line (map Awaits (head_of name l)) inside)))
-    ∙ ap (repeated l.count) (meaning-line (map Awaits (head_of name l)) inside)
+pub meaning-arms : (k : ℕ) (arms : List NamedLayer) (inside : Tree) → meaning (arms_tree k arms inside) ≡ turns_of arms (meaning inside)
+meaning-arms k [] inside = refl
+meaning-arms k (arm ∷ arms) inside =
+    append-nil (repeated arm.1.count (meaning (line (map Awaits (head_of arm.0 arm.1)) (arms_tree (k + 1) arms inside))))
+    ∙ ap (repeated arm.1.count) (meaning-line (map Awaits (head_of arm.0 arm.1)) (arms_tree (k + 1) arms inside)
+    ∙ ap (λ (l : List Item). map Awaits (head_of arm.0 arm.1) ++ l) (meaning-arms (k + 1) arms inside))
 
 pub meaning-tree : (s : SettingsSeen) → 0 < length s.list → meaning (tree_of s) ≡ agenda s
-meaning-tree s h =
-    meaning-arm 0 Arm1 s.arm1 (arm_tree 1 Arm2 s.arm2 (passes_tree s))
-    ∙ ap (arm_turns Arm1 s.arm1) (meaning-arm 1 Arm2 s.arm2 (passes_tree s) ∙ ap (arm_turns Arm2 s.arm2) (meaning-passes s))
-    ∙ sym (agenda_is s h)
+meaning-tree s h = meaning-arms 0 (arms_of s) (passes_tree s) ∙ ap (turns_of (arms_of s)) (meaning-passes s) ∙ sym (agenda_is s h)
 
-nested-passes : (s : SettingsSeen) (used : ℕ → Bool) → used 2 ≡ false → IsNested used (passes_tree s)
+nested-passes : (s : SettingsSeen) (used : ℕ → Bool) → used 3 ≡ false → IsNested used (passes_tree s)
 nested-passes s used free = at (s.trigger.count / length s.list) where
   at : (q : ℕ) → IsNested used (cond (eqb q 0) (line (passes s 0 (s.trigger.count % length s.list)) Nil)
-      (Times 2 q (line (passes s 0 (length s.list)) Nil) (line (passes s 0 (s.trigger.count % length s.list)) Nil)))
+      (Times most_arm_layers q (line (passes s 0 (length s.list)) Nil) (line (passes s 0 (s.trigger.count % length s.list)) Nil)))
   at zero = nested-line used (passes s 0 (s.trigger.count % length s.list)) Nil tt
   at (suc q) =
       let f : eqb (suc q) 0 ≡ false = grind (arith, nat_tests) in
       subst (λ (b : Bool). IsNested used (cond b (line (passes s 0 (s.trigger.count % length s.list)) Nil)
-      (Times 2 (suc q) (line (passes s 0 (length s.list)) Nil) (line (passes s 0 (s.trigger.count % length s.list)) Nil)))) (sym f) (
+      (Times most_arm_layers (suc q) (line (passes s 0 (length s.list)) Nil) (line (passes s 0 (s.trigger.count % length s.list)) Nil)))) (sym f) (
         omega arith,
         free,
-        nested-line (λ j. eqb j 2 || used j) (passes s 0 (length s.list)) Nil tt,
+        nested-line (λ j. eqb j most_arm_layers || used j) (passes s 0 (length s.list)) Nil tt,
         nested-line used (passes s 0 (s.trigger.count % length s.list)) Nil tt,
       )
 
-nested-arm : (used : ℕ → Bool) (counter : ℕ) (name : LayerName) (l : Layer) (inside : Tree) → 0 < l.count → used counter ≡ false
-    → IsNested (λ j. eqb j counter || used j) inside → IsNested used (arm_tree counter name l inside)
-nested-arm used counter name l inside some free h =
-    (some, free, nested-line (λ j. eqb j counter || used j) (map Awaits (head_of name l)) inside h, tt)
+abbrev pub AreCounted : List NamedLayer → Type 0
+AreCounted [] = Unit {0}
+AreCounted (arm ∷ arms) = (0 < arm.1.count) × AreCounted arms
+
+pub arms_counted : (s : SettingsSeen) → IsInRange s → (arms : List ArmLayer) → AreCounted (named s arms)
+arms_counted s i [] = tt
+arms_counted s i (arm ∷ arms) = ((i.arms (number_of arm - 1)).count.0, arms_counted s i arms)
+
+-- the counters from k on are free
+abbrev IsFree : (ℕ → Bool) → ℕ → Type 0
+IsFree used k = (j : ℕ) → k ≤ j → used j ≡ false
+
+free_more : (used : ℕ → Bool) (k : ℕ) → IsFree used k → IsFree (λ j. eqb j k || used j) (k + 1)
+free_more used k f j h = let e : eqb j k ≡ false = grind (arith, nat_tests) in ap (λ b. b || used j) e ∙ f j (omega arith)
+
+nested-arms : (used : ℕ → Bool) (k : ℕ) (arms : List NamedLayer) (inside : Tree) → AreCounted arms → IsFree used k
+    → ((used : ℕ → Bool) → IsFree used (k + length arms) → IsNested used inside) → IsNested used (arms_tree k arms inside)
+nested-arms used k [] inside c f h = let e : k ≡ k + 0 = omega arith in h used (subst (IsFree used) e f)
+nested-arms used k (arm ∷ arms) inside c f h =
+    let e : k + 1 + length arms ≡ k + suc (length arms) = omega arith in (
+      c.0,
+      f k (omega arith),
+      nested-line (λ j. eqb j k || used j) (map Awaits (head_of arm.0 arm.1)) (arms_tree (k + 1) arms inside)
+          (nested-arms (λ j. eqb j k || used j) (k + 1) arms inside c.1 (free_more used k f) (λ u g. h u (subst (IsFree u) e g))),
+      tt,
+    )
 
 pub nested-tree : (s : SettingsSeen) → IsInRange s → IsNested (λ k. false) (tree_of s)
 nested-tree s i =
-    nested-arm (λ k. false) 0 Arm1 s.arm1 (arm_tree 1 Arm2 s.arm2 (passes_tree s)) i.arm1.count.0 refl
-    (nested-arm (λ j. eqb j 0 || false) 1 Arm2 s.arm2 (passes_tree s) i.arm2.count.0 refl (nested-passes s (λ j. eqb j 1 || (eqb j 0 || false)) refl))
+    nested-arms (λ k. false) 0 (arms_of s) (passes_tree s) (arms_counted s i arm_layers) (λ j h. refl)
+    (λ used f. nested-passes s used (f most_arm_layers (omega arith)))
 
 pub compiled_unfolds : (s : SettingsSeen) → 0 < length s.list → IsInRange s → Unfolds (flatten (tree_of s) 0 ++ step.Halt ∷ []) (agenda s)
 compiled_unfolds s h i = subst (λ (l : List Item). Unfolds (flatten (tree_of s) 0
     ++ step.Halt ∷ []) l) (meaning-tree s h) (unfolds (tree_of s) (nested-tree s i))
 
--- the pieces as the program writes them
-pub compiled_is : (s : SettingsSeen) (h1 h2 ps : List Step) (place2 place3 : ℕ) → h1 ≡ steps_of (map Awaits (head_of Arm1 s.arm1))
-    → h2 ≡ steps_of (map Awaits (head_of Arm2 s.arm2)) → place2 ≡ 2 + length h1 → place3 ≡ place2 + length h2 → ps ≡ flatten (passes_tree s) place3 →
-    (step.Set 0 s.arm1.count ∷ (h1 ++ (step.Set 1 s.arm2.count ∷ (h2 ++ (ps ++ (step.Loop 1 place2 ∷ step.Loop 0 1 ∷ step.Halt ∷ []))))))
-    ≡ flatten (tree_of s) 0 ++ step.Halt ∷ []
-compiled_is s h1 h2 ps place2 place3 e1 e2 p2 p3 e =
-    let i1 = map Awaits (head_of Arm1 s.arm1) in
-    let i2 = map Awaits (head_of Arm2 s.arm2) in
-    let inner = Times 1 s.arm2.count (line i2 (passes_tree s)) Nil in
-    let q : 1 + length i1 + 1 ≡ place2 = omega (arith, ap length e1, length-map i1 step_of) in
-    let r : place2 + length i2 ≡ place3 = omega (arith, ap length e2, length-map i2 step_of) in
-    let body : flatten (line i2 (passes_tree s)) place2 ≡ h2 ++ ps =
-    flatten-line i2 (passes_tree s) place2 ∙ ap (λ (n : ℕ). steps_of i2 ++ flatten (passes_tree s) n) r
-    ∙ ap (λ (l : List Step). steps_of i2 ++ l) (sym e) ∙ ap (λ (l : List Step). l ++ ps) (sym e2) in
-    let loop : flatten inner (1 + length i1) ≡ step.Set 1 s.arm2.count ∷ ((h2 ++ ps) ++ step.Loop 1 place2 ∷ []) =
-    ap (λ (n : ℕ). step.Set 1 s.arm2.count ∷ (flatten (line i2 (passes_tree s)) n ++ step.Loop 1 n ∷ [])) q
-    ∙ ap (λ (l : List Step). step.Set 1 s.arm2.count ∷ (l ++ step.Loop 1 place2 ∷ [])) body in
-    let all : flatten (line i1 inner) 1 ≡ h1 ++ (step.Set 1 s.arm2.count ∷ ((h2 ++ ps) ++ step.Loop 1 place2 ∷ [])) =
-    flatten-line i1 inner 1 ∙ ap (λ (l : List Step). steps_of i1 ++ l) loop
-    ∙ ap (λ (l : List Step). l ++ (step.Set 1 s.arm2.count ∷ ((h2 ++ ps) ++ step.Loop 1 place2 ∷ []))) (sym e1) in
-    sym (ap (λ (l : List Step). step.Set 0 s.arm1.count ∷ ((l ++ step.Loop 0 1 ∷ []) ++ step.Halt ∷ [])) all ∙ simp append_assoc)
+-- one ARM layer more, as the program writes it
+pub arms_more : (k n place : ℕ) (name : LayerName) (l : Layer) (arms : List NamedLayer) (inside : Tree) (before h body after : List Step) → n ≡ length before
+    → place ≡ n + 1 → h ≡ steps_of (map Awaits (head_of name l))
+    → body ≡ flatten (arms_tree (k + 1) arms inside) (place + length h)
+    → after ≡ ((before ++ (step.Set k l.count ∷ h)) ++ body) ++ step.Loop k place ∷ []
+    → after ≡ before ++ flatten (arms_tree k ((name, l) ∷ arms) inside) n
+arms_more k n place name l arms inside before h body after e p q b a =
+    let items = map Awaits (head_of name l) in
+    let within : flatten (line items (arms_tree (k + 1) arms inside)) (n + 1) ≡ h ++ body =
+    ap (flatten (line items (arms_tree (k + 1) arms inside))) (sym p)
+    ∙ flatten-line items (arms_tree (k + 1) arms inside) place
+    ∙ ap (λ (m : ℕ). steps_of items ++ flatten (arms_tree (k + 1) arms inside) m) (let r : place + length items ≡ place + length h = omega (arith, ap length q, length-map items step_of) in r)
+    ∙ ap (λ (x : List Step). steps_of items ++ x) (sym b) ∙ ap (λ (x : List Step). x ++ body) (sym q) in
+    let whole : flatten (arms_tree k ((name, l) ∷ arms) inside) n ≡ step.Set k l.count ∷ ((h ++ body) ++ step.Loop k place ∷ []) =
+    ap (λ (x : List Step). step.Set k l.count ∷ (x ++ step.Loop k (n + 1) ∷ [])) within
+    ∙ ap (λ (m : ℕ). step.Set k l.count ∷ ((h ++ body) ++ step.Loop k m ∷ [])) (sym p) in
+    let turned : ((before ++ (step.Set k l.count ∷ h)) ++ body) ++ step.Loop k place ∷ [] ≡ before ++ (step.Set k l.count ∷ ((h ++ body) ++ step.Loop k place ∷ [])) =
+    simp append_assoc in
+    a ∙ turned ∙ sym (ap (λ (x : List Step). before ++ x) whole)
 
 -- the passes as the program writes them, with a loop and without
 pub looped_is : (s : SettingsSeen) (place : ℕ) (body rest : List Step) → 0 < s.trigger.count / length s.list → body ≡ steps_of (passes s 0 (length s.list))
     → rest ≡ steps_of (passes s 0 (s.trigger.count % length s.list))
-    → step.Set 2 (s.trigger.count / length s.list) ∷ (body ++ (step.Loop 2 (place + 1) ∷ rest)) ≡ flatten (passes_tree s) place
+    → step.Set most_arm_layers (s.trigger.count / length s.list) ∷ (body ++ (step.Loop most_arm_layers (place + 1) ∷ rest)) ≡ flatten (passes_tree s) place
 looped_is s place body rest h e f =
     let n = length s.list in
     let q = s.trigger.count / n in
@@ -160,9 +182,9 @@ looped_is s place body rest h e f =
     ∙ append-nil (steps_of (passes s 0 (s.trigger.count % n))) ∙ sym f in
     let inside : flatten (line (passes s 0 n) Nil) (place + 1) ≡ body = flatten-line (passes s 0 n) Nil (place + 1) ∙ append-nil (steps_of (passes s 0 n))
     ∙ sym e in
-    sym (ap (λ b. flatten (cond b tail (Times 2 q (line (passes s 0 n) Nil) tail)) place) t
-    ∙ ap (λ (l : List Step). step.Set 2 q ∷ (l ++ (step.Loop 2 (place + 1) ∷ flatten tail (place + 2 + size (line (passes s 0 n) Nil))))) inside
-    ∙ ap (λ (l : List Step). step.Set 2 q ∷ (body ++ (step.Loop 2 (place + 1) ∷ l))) (end (place + 2 + size (line (passes s 0 n) Nil))))
+    sym (ap (λ b. flatten (cond b tail (Times most_arm_layers q (line (passes s 0 n) Nil) tail)) place) t
+    ∙ ap (λ (l : List Step). step.Set most_arm_layers q ∷ (l ++ (step.Loop most_arm_layers (place + 1) ∷ flatten tail (place + 2 + size (line (passes s 0 n) Nil))))) inside
+    ∙ ap (λ (l : List Step). step.Set most_arm_layers q ∷ (body ++ (step.Loop most_arm_layers (place + 1) ∷ l))) (end (place + 2 + size (line (passes s 0 n) Nil))))
 
 pub plain_is : (s : SettingsSeen) (place : ℕ) (rest : List Step) → s.trigger.count / length s.list ≡ 0
     → rest ≡ steps_of (passes s 0 (s.trigger.count % length s.list))
@@ -173,7 +195,7 @@ plain_is s place rest h f =
     let t : eqb q 0 ≡ true = grind (arith, nat_tests) in
     let tail = line (passes s 0 (s.trigger.count % n)) Nil in
     f ∙ sym (append-nil (steps_of (passes s 0 (s.trigger.count % n)))) ∙ sym (flatten-line (passes s 0 (s.trigger.count % n)) Nil place)
-    ∙ sym (ap (λ b. flatten (cond b tail (Times 2 q (line (passes s 0 n) Nil) tail)) place) t)
+    ∙ sym (ap (λ b. flatten (cond b tail (Times most_arm_layers q (line (passes s 0 n) Nil) tail)) place) t)
 
 -- one more pass
 pub steps-passes_more : (s : SettingsSeen) (j : ℕ) → steps_of (passes s 0 (j + 1)) ≡ steps_of (passes s 0 j) ++ steps_of (pass_of s j)

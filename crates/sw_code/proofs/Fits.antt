@@ -1,5 +1,5 @@
 -- The code of settings is in range.
-use Rattle.std.proofs.Common.{◌≡◌, ℕ, zero, suc, ◌+◌, ◌*◌, ◌/◌, ◌%◌, ◌<◌, ◌≤◌, Bool, false, cond, eqb, List, [], ◌∷◌, ◌++◌, length, map, refl, sym, ap}
+use Rattle.std.proofs.Common.{◌≡◌, ℕ, zero, suc, ◌+◌, ◌-◌, ◌*◌, ◌/◌, ◌%◌, ◌<◌, ◌≤◌, Bool, false, cond, eqb, List, [], ◌∷◌, ◌++◌, length, map, refl, sym, ap}
 use Rattle.std.proofs.Common.{subst, arith, length-append}
 use Rattle.std.specs.List.{AllByRecursion}
 use Rattle.std.proofs.lemmas.Bool.Decides.{nat_tests}
@@ -7,19 +7,21 @@ use Rattle.std.proofs.lemmas.List.{length-map}
 use Rattle.std.proofs.lemmas.Nat.{mod_below}
 use Rattle.std.proofs.Math.Nat.{suc-mul, div-le_self}
 use Rattle.sw_base.specs.declared.terms.LayerName.{LayerName}
-use Rattle.sw_base.specs.declared.terms.LayerName.TheVariants.{Arm1, Arm2, Trigger}
+use Rattle.sw_base.specs.declared.terms.LayerName.TheVariants.{Trigger}
 use Rattle.sw_base.specs.declared.terms.Source.{Source}
-use Rattle.sw_base.specs.declared.terms.Source.TheVariants.{Immediate, Bus, External, Hold}
+use Rattle.sw_base.specs.declared.terms.Source.TheVariants.{Immediate, Bus, External, Hold, Timer}
 use Rattle.sw_trigger.specs.declared.layer.Layer.{Layer}
 use Rattle.sw_trigger.specs.declared.layer.Awaited.TheVariants.{Pause}
-use Rattle.sw_trigger.specs.Settings.{SettingsSeen, IsInRange}
-use Rattle.sw_trigger.specs.Agenda.{Item, Awaits, head_of, wait_of, pause_of, position_at, visit, pass_of, passes}
+use Rattle.sw_trigger.specs.Settings.{SettingsSeen, IsLayer, IsInRange, NamedLayer, named, arms_of}
+use Rattle.sw_base.specs.Layers.{arm_layers, number_of}
+use Rattle.sw_base.specs.declared.terms.ArmLayer.{ArmLayer}
+use Rattle.sw_trigger.specs.Agenda.{Item, Awaits, head_of, wait_by, wait_of, pause_of, position_at, visit, pass_of, passes}
 use Rattle.sw_code.specs.declared.code.Step.{Step}
 use Rattle.sw_code.specs.declared.code.Step.TheVariants as step
-use Rattle.sw_base.specs.Limits.{most_entries, most_trigger_count}
+use Rattle.sw_base.specs.Limits.{most_arm_layers, most_counters, most_entries, most_arm_count, most_trigger_count}
 use Rattle.sw_code.specs.Range.{most_steps, IsStep, IsProgramInRange as IsCode}
 use Rattle.sw_code.specs.Tree.{Tree, Nil, Then, Times, step_of, size, flatten}
-use Rattle.sw_code.specs.Compiled.{line, passes_tree, tree_of, compiled}
+use Rattle.sw_code.specs.Compiled.{line, passes_tree, arms_tree, tree_of, compiled}
 use Rattle.sw_code.proofs.Unfolding.{length-flatten}
 
 abbrev pub Fits : List Item → Type 0
@@ -29,7 +31,7 @@ Fits items = AllByRecursion (λ x. IsStep (step_of x)) items
 abbrev pub IsFit : Tree → Type 0
 IsFit Nil = Unit {0}
 IsFit (Then x rest) = IsStep (step_of x) × IsFit rest
-IsFit (Times k n body rest) = ((k ≤ 2) × (1 ≤ n) × (n ≤ 100000)) × IsFit body × IsFit rest
+IsFit (Times k n body rest) = ((k < most_counters) × (1 ≤ n) × (n ≤ 100000)) × IsFit body × IsFit rest
 
 steps-append : (xs ys : List Step) → AllByRecursion IsStep xs → AllByRecursion IsStep ys → AllByRecursion IsStep (xs ++ ys)
 steps-append [] ys a b = b
@@ -58,11 +60,13 @@ size-line : (xs : List Item) (rest : Tree) → size (line xs rest) ≡ length xs
 size-line [] rest = omega arith
 size-line (x ∷ xs) rest = omega (arith, size-line xs rest)
 
-fits-wait : (name : LayerName) (source : Source) → Fits (map Awaits (wait_of name source)) × (length (wait_of name source) ≤ 1)
-fits-wait name Immediate = (tt, omega arith)
-fits-wait name Bus = ((tt, tt), omega arith)
-fits-wait name External = ((tt, tt), omega arith)
-fits-wait name Hold = ((tt, tt), omega arith)
+fits-wait : (name : LayerName) (source : Source) (timer : ℕ) → (1 ≤ timer) × (timer ≤ 3600000000)
+    → Fits (map Awaits (wait_by name source timer)) × (length (wait_by name source timer) ≤ 1)
+fits-wait name Immediate timer t = (tt, omega arith)
+fits-wait name Bus timer t = ((tt, tt), omega arith)
+fits-wait name External timer t = ((tt, tt), omega arith)
+fits-wait name Hold timer t = ((tt, tt), omega arith)
+fits-wait name Timer timer t = ((t, tt), omega arith)
 
 fits-pause : (micros : ℕ) → micros ≤ 3600000000 → Fits (map Awaits (pause_of micros)) × (length (pause_of micros) ≤ 1)
 fits-pause zero h = (tt, omega arith)
@@ -75,18 +79,18 @@ map-append-awaits : (xs ys : List _) → map Awaits (xs ++ ys) ≡ map Awaits xs
 map-append-awaits [] ys = refl
 map-append-awaits (x ∷ xs) ys = ap (λ (l : List Item). Awaits x ∷ l) (map-append-awaits xs ys)
 
-fits-head : (name : LayerName) (l : Layer) → l.delay_us ≤ 3600000000 → Fits (map Awaits (head_of name l))
+fits-head : {most : ℕ} (name : LayerName) (l : Layer) → IsLayer most l → Fits (map Awaits (head_of name l))
 fits-head name l h =
-    subst Fits (sym (map-append-awaits (wait_of name l.source) (pause_of l.delay_us)))
-    (fits-append (map Awaits (wait_of name l.source)) (map Awaits (pause_of l.delay_us)) (fits-wait name l.source).0 (fits-pause l.delay_us h).0)
+    subst Fits (sym (map-append-awaits (wait_of name l) (pause_of l.delay_us)))
+    (fits-append (map Awaits (wait_of name l)) (map Awaits (pause_of l.delay_us)) (fits-wait name l.source l.timer_us h.timer).0 (fits-pause l.delay_us h.delay).0)
 
-length-head : (name : LayerName) (l : Layer) → l.delay_us ≤ 3600000000 → length (map Awaits (head_of name l)) ≤ 2
+length-head : {most : ℕ} (name : LayerName) (l : Layer) → IsLayer most l → length (map Awaits (head_of name l)) ≤ 2
 length-head name l h =
-    let a = (fits-wait name l.source).1 in
-    let b = (fits-pause l.delay_us h).1 in
-    omega (arith, a, b, length-map (head_of name l) Awaits, length-append (wait_of name l.source) (pause_of l.delay_us))
+    let a = (fits-wait name l.source l.timer_us h.timer).1 in
+    let b = (fits-pause l.delay_us h.delay).1 in
+    omega (arith, a, b, length-map (head_of name l) Awaits, length-append (wait_of name l) (pause_of l.delay_us))
 
-module _ (s : SettingsSeen) (h : s.trigger.delay_us ≤ 3600000000) where
+module _ (s : SettingsSeen) (h : IsLayer most_trigger_count s.trigger) where
   fits-passes : (k n : ℕ) → Fits (passes s k n)
   fits-passes k zero = tt
   fits-passes k (suc n) =
@@ -117,8 +121,8 @@ module _ (s : SettingsSeen) (h : s.trigger.delay_us ≤ 3600000000) where
       left = s.trigger.count % length s.list
 
       at : (q : ℕ) → q ≤ s.trigger.count
-          → IsFit (cond (eqb q 0) (line (passes s 0 left) Nil) (Times 2 q (line (passes s 0 (length s.list)) Nil) (line (passes s 0 left) Nil)))
-          × (size (cond (eqb q 0) (line (passes s 0 left) Nil) (Times 2 q (line (passes s 0 (length s.list)) Nil) (line (passes s 0 left) Nil))) ≤ 5122)
+          → IsFit (cond (eqb q 0) (line (passes s 0 left) Nil) (Times most_arm_layers q (line (passes s 0 (length s.list)) Nil) (line (passes s 0 left) Nil)))
+          × (size (cond (eqb q 0) (line (passes s 0 left) Nil) (Times most_arm_layers q (line (passes s 0 (length s.list)) Nil) (line (passes s 0 left) Nil))) ≤ 5122)
       at zero below =
           let r = fit-some left in
           let small : left < length s.list = mod_below s.trigger.count (length s.list) some in
@@ -132,33 +136,36 @@ module _ (s : SettingsSeen) (h : s.trigger.delay_us ≤ 3600000000) where
           let rest = line (passes s 0 left) Nil in
           let few : 2 + size body + size rest ≤ 5122 = omega (arith, r.1, a.1, small) in
           let count : suc q ≤ 100000 = omega arith in
-          let two : 2 ≤ 2 = omega arith in
+          let last : most_arm_layers < most_counters = omega arith in
           let one : 1 ≤ suc q = omega arith in
-          subst (λ (b : Bool). IsFit (cond b rest (Times 2 (suc q) body rest)) × (size (cond b rest (Times 2 (suc q) body rest)) ≤ 5122)) (sym e)
-          (((two, one, count), a.0, r.0), few)
+          subst (λ (b : Bool). IsFit (cond b rest (Times most_arm_layers (suc q) body rest)) × (size (cond b rest (Times most_arm_layers (suc q) body rest)) ≤ 5122)) (sym e)
+          (((last, one, count), a.0, r.0), few)
 
-fit-tree : (s : SettingsSeen) → 0 < length s.list → IsInRange s → IsFit (tree_of s) × (size (tree_of s) ≤ 5130)
-fit-tree s some i =
-    let inner = fit-rounds s i.trigger.delay some i.list i.trigger.count.1 in
-    let i1 = map Awaits (head_of Arm1 s.arm1) in
-    let i2 = map Awaits (head_of Arm2 s.arm2) in
-    let body2 = line i2 (passes_tree s) in
-    let loop2 = Times 1 s.arm2.count body2 Nil in
-    let c1 : s.arm1.count ≤ 100000 = omega (arith, i.arm1.count.1) in
-    let c2 : s.arm2.count ≤ 100000 = omega (arith, i.arm2.count.1) in
-    let z : 0 ≤ 2 = omega arith in
-    let o : 1 ≤ 2 = omega arith in (
-      (
-        (z, i.arm1.count.0, c1),
-        fit-line i1 loop2 (fits-head Arm1 s.arm1 i.arm1.delay) ((
-          (o, i.arm2.count.0, c2),
-          fit-line i2 (passes_tree s) (fits-head Arm2 s.arm2 i.arm2.delay) inner.0,
-          tt,
-        )),
-        tt,
-      ),
-      omega (arith, size-line i1 loop2, size-line i2 (passes_tree s), inner.1, length-head Arm1 s.arm1 i.arm1.delay, length-head Arm2 s.arm2 i.arm2.delay),
+abbrev AreLayers : List NamedLayer → Type 0
+AreLayers [] = Unit {0}
+AreLayers (arm ∷ arms) = IsLayer most_arm_count arm.1 × AreLayers arms
+
+arms_fit : (s : SettingsSeen) → IsInRange s → (arms : List ArmLayer) → AreLayers (named s arms)
+arms_fit s i [] = tt
+arms_fit s i (arm ∷ arms) = (i.arms (number_of arm - 1), arms_fit s i arms)
+
+fit-arms : (k : ℕ) (arms : List NamedLayer) (inside : Tree) (n : ℕ) → AreLayers arms → k + length arms ≤ most_counters → IsFit inside → size inside ≤ n
+    → IsFit (arms_tree k arms inside) × (size (arms_tree k arms inside) ≤ length arms * 4 + n)
+fit-arms k [] inside n a few f h = (f, omega (arith, h))
+fit-arms k (arm ∷ arms) inside n a few f h =
+    let head = map Awaits (head_of arm.0 arm.1) in
+    let r = fit-arms (k + 1) arms inside n a.1 (omega arith) f h in
+    let c = a.0.count in
+    let most : arm.1.count ≤ 100000 = omega (arith, c.1) in
+    let within : k < most_counters = omega arith in (
+      ((within, c.0, most), fit-line head (arms_tree (k + 1) arms inside) (fits-head arm.0 arm.1 a.0) r.0, tt),
+      omega (arith, size-line head (arms_tree (k + 1) arms inside), r.1, length-head arm.0 arm.1 a.0),
     )
+
+fit-tree : (s : SettingsSeen) → 0 < length s.list → IsInRange s → IsFit (tree_of s) × (size (tree_of s) ≤ 5134)
+fit-tree s some i =
+    let inner = fit-rounds s i.trigger some i.list i.trigger.count.1 in
+    fit-arms 0 (arms_of s) (passes_tree s) 5122 (arms_fit s i arm_layers) (omega arith) inner.0 inner.1
 
 pub compiled_fits : (s : SettingsSeen) → 0 < length s.list → IsInRange s → IsCode (compiled s)
 compiled_fits s some i =

@@ -1,9 +1,9 @@
 -- Lines and parts of a listing.
 use Rattle.std.proofs.Common.{◌≡◌, ℕ, suc, ◌+◌, ◌<◌, ◌≤◌, Bool, true, false, not, List, [], ◌∷◌, ◌++◌, length, get_or, take}
 use Rattle.std.proofs.Common.{drop, drop-cons, add-one, refl, sym, ap, ◌∙◌, subst, arith, append_assoc}
-use Rattle.std.specs.Prelude.{Option, Some, None, IfSome, IfNone, Ok, Err, codes, Result, ◌==◌, if◌then◌else◌}
+use Rattle.std.specs.Prelude.{Option, Some, None, IfSome, IfNone, Ok, Err, Result, ◌==◌}
+use Rattle.std.specs.Result.{result_ok}
 use Rattle.std.specs.List.{All, AllByRecursion}
-use Rattle.std.specs.Str.{bytes_eq}
 use Rattle.std.proofs.Math.ListN.{drop_of_length-le}
 use Rattle.std.proofs.lemmas.List.{append-nil, take_all}
 use Rattle.std.proofs.lemmas.List.Elements.{All-more, All-from_recursion, recursion_from_All}
@@ -17,37 +17,43 @@ use Rattle.sw_code.specs.Range.{IsStep, IsInChannelRange, HasPosition}
 use Rattle.sw_code.specs.Listing.{line_of, listed_lines, parts_of, channel_text, others_text}
 use Rattle.sw_base.specs.Layout.{Channel}
 use Rattle.sw_code.specs.Reading.{parts_at, then_read, channel_in, step_in, meter_in, on_line, numbered_step, steps_in, after_steps, code_after_version}
-use Rattle.sw_code.specs.Reading.{code_of_lines}
+use Rattle.sw_code.specs.Reading.{code_of_lines, version_of_lines}
+use Rattle.sw_code.specs.Versions.{version_in}
+use Rattle.sw_code.specs.declared.version.Version.{Version}
 
 -- more parts or lines than there should be, or some that follow
-pub channel_more : (s c : List ℕ) (more : List (List ℕ)) → 0 < length more → channel_in (s ∷ c ∷ more) ≡ Err BadNumber
-channel_more s c [] h = absurd (omega arith)
-channel_more s c (x ∷ more) h = refl
+pub channel_more : (v : Version) (s c : List ℕ) (more : List (List ℕ)) → 0 < length more → channel_in v (s ∷ c ∷ more) ≡ Err BadNumber
+channel_more v s c [] h = absurd (omega arith)
+channel_more v s c (x ∷ more) h = refl
 
-pub meter_more : (w s : List ℕ) (more : List (List ℕ)) → 0 < length more → meter_in (w ∷ s ∷ more) ≡ Err BadStep
-meter_more w s [] h = absurd (omega arith)
-meter_more w s (x ∷ more) h = refl
+pub meter_more : (v : Version) (w s : List ℕ) (more : List (List ℕ)) → 0 < length more → meter_in v (w ∷ s ∷ more) ≡ Err BadStep
+meter_more v w s [] h = absurd (omega arith)
+meter_more v w s (x ∷ more) h = refl
 
-pub step_more : (w a b : List ℕ) (more : List (List ℕ)) → 0 < length more → step_in (w ∷ a ∷ b ∷ more) ≡ Err BadStep
-step_more w a b [] h = absurd (omega arith)
-step_more w a b (x ∷ more) h = refl
+pub step_more : (v : Version) (w a b : List ℕ) (more : List (List ℕ)) → 0 < length more → step_in v (w ∷ a ∷ b ∷ more) ≡ Err BadStep
+step_more v w a b [] h = absurd (omega arith)
+step_more v w a b (x ∷ more) h = refl
 
 pub version_some : (text : List ℕ) (more : List (List ℕ)) → 0 < length more
-    → code_of_lines (text ∷ more) ≡ (if bytes_eq text (codes "scan 1") then code_after_version more else Err (record { line = 1; kind = BadStep }))
+    → code_of_lines (text ∷ more) ≡ then_read (on_line 1 (version_in text)) (λ (v : Version). code_after_version v more)
 version_some text [] h = absurd (omega arith)
 version_some text (x ∷ more) h = refl
 
-pub second_some : (text : List ℕ) (more : List (List ℕ)) → 0 < length more
-    → code_after_version (text ∷ more) ≡ then_read (on_line 2 (meter_in (parts_at 32 text))) (λ (meter : ℕ).
-    then_read (steps_in 3 more) (λ (steps : List Step). Ok (record { meter = meter; steps = steps })))
-second_some text [] h = absurd (omega arith)
-second_some text (x ∷ more) h = refl
+pub told_some : (text : List ℕ) (more : List (List ℕ)) → 0 < length more → version_of_lines (text ∷ more) ≡ result_ok (version_in text)
+told_some text [] h = absurd (omega arith)
+told_some text (x ∷ more) h = refl
 
-pub steps_some : (line : ℕ) (text : List ℕ) (more : List (List ℕ)) → 0 < length more
-    → steps_in line (text ∷ more) ≡ then_read (on_line line (numbered_step line text)) (λ (s : Step).
-    then_read (steps_in (line + 1) more) (λ (steps : List Step). Ok (s ∷ steps)))
-steps_some line text [] h = absurd (omega arith)
-steps_some line text (x ∷ more) h = refl
+pub second_some : (v : Version) (text : List ℕ) (more : List (List ℕ)) → 0 < length more
+    → code_after_version v (text ∷ more) ≡ then_read (on_line 2 (meter_in v (parts_at 32 text))) (λ (meter : ℕ).
+    then_read (steps_in v 3 more) (λ (steps : List Step). Ok (record { meter = meter; steps = steps })))
+second_some v text [] h = absurd (omega arith)
+second_some v text (x ∷ more) h = refl
+
+pub steps_some : (v : Version) (line : ℕ) (text : List ℕ) (more : List (List ℕ)) → 0 < length more
+    → steps_in v line (text ∷ more) ≡ then_read (on_line line (numbered_step v line text)) (λ (s : Step).
+    then_read (steps_in v (line + 1) more) (λ (steps : List Step). Ok (s ∷ steps)))
+steps_some v line text [] h = absurd (omega arith)
+steps_some v line text (x ∷ more) h = refl
 
 -- what holds of a value holds of what may be one
 pub some_weaker : {T : Type 0} (r : Option T) (P Q : T → Type 0) → ((x : T) → P x → Q x) → IfSome r P → IfSome r Q

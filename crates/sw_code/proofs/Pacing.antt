@@ -4,15 +4,16 @@ use Rattle.std.proofs.Common.{Some, None, sym, subst, arith, length-append}
 use Rattle.std.specs.List.{slice_get}
 use Rattle.std.proofs.lemmas.Bool.Decides.{nat_tests}
 use Rattle.std.proofs.lemmas.Nat.{div-add-mod'}
-use Rattle.sw_base.specs.declared.terms.LayerName.TheVariants.{Arm1, Arm2, Trigger}
-use Rattle.sw_trigger.specs.declared.layer.Awaited.TheVariants.{Wait, Pause, Read}
+use Rattle.sw_base.specs.Limits.{most_arm_layers}
+use Rattle.sw_base.specs.declared.terms.LayerName.TheVariants.{Trigger}
+use Rattle.sw_trigger.specs.declared.layer.Awaited.TheVariants.{Wait, Period, Pause, Read}
 use Rattle.sw_code.specs.declared.code.Step.{Step}
 use Rattle.sw_code.specs.declared.code.Step.TheVariants as step
-use Rattle.sw_trigger.specs.Settings.{SettingsSeen, IsInRange}
+use Rattle.sw_trigger.specs.Settings.{SettingsSeen, IsInRange, NamedLayer, arms_of}
 use Rattle.sw_trigger.specs.Agenda.{Item, Awaits, Close, Open, head_of, position_at, pass_of, passes, visit}
 use Rattle.sw_code.specs.Tree.{Tree, Nil, Then, Times, step_of, size, flatten}
-use Rattle.sw_code.specs.Compiled.{line, passes_tree, tree_of, compiled}
-use Rattle.sw_code.specs.Pace.{IsNearBy, IsNear, IsNearAfter, IsPaced}
+use Rattle.sw_code.specs.Compiled.{line, passes_tree, arms_tree, tree_of, compiled}
+use Rattle.sw_code.specs.Pace.{most_counting, IsNearBy, IsNear, IsNearAfter, IsPaced}
 use Rattle.sw_code.proofs.Unfolding.{HasAt, has_front, has_back, has_all, length-flatten}
 
 -- an item is done before the tree is left
@@ -33,6 +34,7 @@ module _ (code : List Step) where
   by_more None f g pc up h = tt
   by_more (Some (step.Set k n)) f g pc up h = up (pc + 1) h
   by_more (Some (step.Wait name)) f g pc up h = tt
+  by_more (Some (step.Timer name micros)) f g pc up h = tt
   by_more (Some (step.Pause micros)) f g pc up h = tt
   by_more (Some (step.Close c)) f g pc up h = tt
   by_more (Some step.Read) f g pc up h = tt
@@ -55,6 +57,7 @@ module _ (code : List Step) where
 
   by_item : (x : Item) (f : ℕ → Type 0) (pc : ℕ) → IsNearBy (Some (step_of x)) f pc
   by_item (Awaits (Wait name)) f pc = tt
+  by_item (Awaits (Period name micros)) f pc = tt
   by_item (Awaits (Pause micros)) f pc = tt
   by_item (Awaits Read) f pc = tt
   by_item (Close c) f pc = tt
@@ -62,6 +65,7 @@ module _ (code : List Step) where
 
   after_item : (x : Item) (n pc : ℕ) → IsNear code n (pc + 1) → IsNearAfter code n pc (step_of x)
   after_item (Awaits (Wait name)) n pc h = h
+  after_item (Awaits (Period name micros)) n pc h = h
   after_item (Awaits (Pause micros)) n pc h = h
   after_item (Awaits Read) n pc h = h
   after_item (Close c) n pc h = h
@@ -188,29 +192,31 @@ passes_some s (suc n) h =
 passes_within : (s : SettingsSeen) → 0 < length s.list → 0 < s.trigger.count → HasItem (passes_tree s) × IsWithin 1 (passes_tree s)
 passes_within s some count = at (s.trigger.count / length s.list) (s.trigger.count % length s.list) (div-add-mod' s.trigger.count (length s.list)) where
   at : (q r : ℕ) → q * length s.list + r ≡ s.trigger.count
-      → HasItem (cond (eqb q 0) (line (passes s 0 r) Nil) (Times 2 q (line (passes s 0 (length s.list)) Nil) (line (passes s 0 r) Nil)))
-      × IsWithin 1 (cond (eqb q 0) (line (passes s 0 r) Nil) (Times 2 q (line (passes s 0 (length s.list)) Nil) (line (passes s 0 r) Nil)))
+      → HasItem (cond (eqb q 0) (line (passes s 0 r) Nil) (Times most_arm_layers q (line (passes s 0 (length s.list)) Nil) (line (passes s 0 r) Nil)))
+      × IsWithin 1 (cond (eqb q 0) (line (passes s 0 r) Nil) (Times most_arm_layers q (line (passes s 0 (length s.list)) Nil) (line (passes s 0 r) Nil)))
   at zero r e = (item-some (passes s 0 r) Nil (passes_some s r (omega arith)), within-line 1 (passes s 0 r) Nil tt)
   at (suc q) r e =
       let f : eqb (suc q) 0 ≡ false = grind (arith, nat_tests) in
       let body = line (passes s 0 (length s.list)) Nil in
       let rest = line (passes s 0 r) Nil in
       let item : HasItem body = item-some (passes s 0 (length s.list)) Nil (passes_some s (length s.list) some) in
-      subst (λ (b : Bool). HasItem (cond b rest (Times 2 (suc q) body rest)) × IsWithin 1 (cond b rest (Times 2 (suc q) body rest))) (sym f)
+      subst (λ (b : Bool). HasItem (cond b rest (Times most_arm_layers (suc q) body rest)) × IsWithin 1 (cond b rest (Times most_arm_layers (suc q) body rest))) (sym f)
       (item, (item, within-line 0 (passes s 0 (length s.list)) Nil tt, within-line 1 (passes s 0 r) Nil tt))
 
+-- each ARM layer is one loop more
+arms_item : (k : ℕ) (arms : List NamedLayer) (inside : Tree) → HasItem inside → HasItem (arms_tree k arms inside)
+arms_item k [] inside h = h
+arms_item k (arm ∷ arms) inside h = item-line (map Awaits (head_of arm.0 arm.1)) (arms_tree (k + 1) arms inside) (arms_item (k + 1) arms inside h)
+
+arms_within : (k d : ℕ) (arms : List NamedLayer) (inside : Tree) → HasItem inside → IsWithin d inside → IsWithin (length arms + d) (arms_tree k arms inside)
+arms_within k d [] inside h w = let e : d ≡ 0 + d = omega arith in subst (λ (n : ℕ). IsWithin n inside) e w
+arms_within k d (arm ∷ arms) inside h w = let e : suc (length arms + d) ≡ suc (length arms) + d = omega arith in subst (λ (n : ℕ). IsWithin n (arms_tree k (arm ∷ arms) inside)) e (
+  item-line (map Awaits (head_of arm.0 arm.1)) (arms_tree (k + 1) arms inside) (arms_item (k + 1) arms inside h),
+  within-line (length arms + d) (map Awaits (head_of arm.0 arm.1)) (arms_tree (k + 1) arms inside) (arms_within (k + 1) d arms inside h w),
+  tt,
+)
+
 -- the code of settings
-pub compiled_paced : (s : SettingsSeen) → 0 < length s.list → IsInRange s → IsPaced (compiled s).steps 6
+pub compiled_paced : (s : SettingsSeen) → 0 < length s.list → IsInRange s → IsPaced (compiled s).steps most_counting
 compiled_paced s some i =
-    let inner = passes_within s some i.trigger.count.0 in
-    let i1 = map Awaits (head_of Arm1 s.arm1) in
-    let i2 = map Awaits (head_of Arm2 s.arm2) in
-    let body2 = line i2 (passes_tree s) in
-    let item2 : HasItem body2 = item-line i2 (passes_tree s) inner.0 in
-    let loop2 = Times 1 s.arm2.count body2 Nil in
-    let body1 = line i1 loop2 in
-    paced (tree_of s) 3 (
-      item-line i1 loop2 item2,
-      within-line 2 i1 loop2 (item2, within-line 1 i2 (passes_tree s) inner.1, tt),
-      tt,
-    )
+    let inner = passes_within s some i.trigger.count.0 in paced (tree_of s) 4 (arms_within 0 1 (arms_of s) (passes_tree s) inner.0 inner.1)

@@ -5,7 +5,7 @@ use Rattle.std.specs.List.{slice_get}
 use Rattle.std.proofs.Math.Seq.{get_or-append_seam}
 use Rattle.std.proofs.lemmas.Option.{slice_get-get_or, same_Some}
 use Rattle.std.proofs.lemmas.Bool.Decides.{nat_tests}
-use Rattle.sw_trigger.specs.declared.layer.Awaited.TheVariants.{Wait, Pause, Read}
+use Rattle.sw_trigger.specs.declared.layer.Awaited.TheVariants.{Wait, Period, Pause, Read}
 use Rattle.sw_code.specs.declared.code.Step.{Step}
 use Rattle.sw_code.specs.declared.code.Step.TheVariants as step
 use Rattle.sw_trigger.specs.Agenda.{Item, Awaits, Close, Open, repeated}
@@ -94,6 +94,7 @@ module _ (code : List Step) where
 
   act_item : (x : Item) (next : Next) (pc : ℕ) (cs : Counters) → act (Some (step_of x)) next pc cs ≡ passing x (next (pc + 1) cs)
   act_item (Awaits (Wait name)) next pc cs = refl
+  act_item (Awaits (Period name micros)) next pc cs = refl
   act_item (Awaits (Pause micros)) next pc cs = refl
   act_item (Awaits Read) next pc cs = refl
   act_item (Close c) next pc cs = refl
@@ -205,6 +206,7 @@ act_more : (o : Option Step) (f g : Next) (pc : ℕ) (cs : Counters) (l : List I
 act_more None f g pc cs l up h = h
 act_more (Some (step.Set k n)) f g pc cs l up h = up (pc + 1) (put k n cs) l h
 act_more (Some (step.Wait name)) f g pc cs l up h = passing_some (Awaits (Wait name)) (f (pc + 1) cs) (g (pc + 1) cs) l h (λ m e. up (pc + 1) cs m e)
+act_more (Some (step.Timer name micros)) f g pc cs l up h = passing_some (Awaits (Period name micros)) (f (pc + 1) cs) (g (pc + 1) cs) l h (λ m e. up (pc + 1) cs m e)
 act_more (Some (step.Pause micros)) f g pc cs l up h = passing_some (Awaits (Pause micros)) (f (pc + 1) cs) (g (pc + 1) cs) l h (λ m e. up (pc + 1) cs m e)
 act_more (Some (step.Close c)) f g pc cs l up h = passing_some (Close c) (f (pc + 1) cs) (g (pc + 1) cs) l h (λ m e. up (pc + 1) cs m e)
 act_more (Some step.Read) f g pc cs l up h = passing_some (Awaits Read) (f (pc + 1) cs) (g (pc + 1) cs) l h (λ m e. up (pc + 1) cs m e)

@@ -2,7 +2,7 @@
 use Rattle.std.specs.Prelude.{◌≡◌, ℕ, zero, suc, ◌+◌, ◌-◌, ◌==◌, List, [], ◌∷◌, Option, Some, None, option_map}
 use Rattle.std.specs.Prelude.{if◌then◌else◌}
 use Rattle.std.specs.List.{slice_get}
-use Rattle.sw_trigger.specs.declared.layer.Awaited.TheVariants.{Wait, Pause, Read}
+use Rattle.sw_trigger.specs.declared.layer.Awaited.TheVariants.{Wait, Period, Pause, Read}
 use Rattle.sw_code.specs.declared.code.Step.{Step}
 use Rattle.sw_code.specs.declared.code.Step.TheVariants as step
 use Rattle.sw_trigger.specs.Agenda.{Item, Awaits, Close, Open}
@@ -25,6 +25,7 @@ abbrev pub act : Option Step → Next → ℕ → Counters → Option (List Item
 act None next pc cs = None
 act (Some (step.Set k n)) next pc cs = next (pc + 1) (put k n cs)
 act (Some (step.Wait name)) next pc cs = passing (Awaits (Wait name)) (next (pc + 1) cs)
+act (Some (step.Timer name micros)) next pc cs = passing (Awaits (Period name micros)) (next (pc + 1) cs)
 act (Some (step.Pause micros)) next pc cs = passing (Awaits (Pause micros)) (next (pc + 1) cs)
 act (Some (step.Close c)) next pc cs = passing (Close c) (next (pc + 1) cs)
 act (Some step.Read) next pc cs = passing (Awaits Read) (next (pc + 1) cs)

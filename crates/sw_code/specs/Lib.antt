@@ -3,6 +3,7 @@ pub mod Seen
 pub mod Code
 pub mod Tree
 pub mod Compiled
+pub mod Versions
 pub mod Listing
 pub mod Reading
 pub mod Pace

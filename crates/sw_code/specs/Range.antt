@@ -3,7 +3,7 @@ use Rattle.std.specs.Prelude.{ℕ, ◌<◌, ◌≤◌, List, length}
 use Rattle.std.specs.List.{AllByRecursion}
 use Rattle.sw_base.specs.Layout.{Channel}
 use Rattle.sw_channel.specs.Positions.{Position, IsPosition}
-use Rattle.sw_base.specs.Limits.{most_slots, most_channels, most_trigger_count, longest_delay}
+use Rattle.sw_base.specs.Limits.{most_slots, most_channels, most_counters, most_trigger_count, longest_delay}
 use Rattle.sw_code.specs.declared.code.Step.{Step}
 use Rattle.sw_code.specs.declared.code.Step.TheVariants as step
 
@@ -18,13 +18,14 @@ most_steps = 8192
 
 -- the numbers of a step are in range; a position keeps its own
 abbrev pub IsStep : Step → Type 0
-IsStep (step.Set k n) = (k ≤ 2) × (1 ≤ n) × (n ≤ most_trigger_count)
+IsStep (step.Set k n) = (k < most_counters) × (1 ≤ n) × (n ≤ most_trigger_count)
 IsStep (step.Wait name) = Unit {0}
+IsStep (step.Timer name micros) = (1 ≤ micros) × (micros ≤ longest_delay)
 IsStep (step.Pause micros) = (1 ≤ micros) × (micros ≤ longest_delay)
 IsStep (step.Close p) = Unit {0}
 IsStep step.Read = Unit {0}
 IsStep (step.Open p) = Unit {0}
-IsStep (step.Loop k to) = (k ≤ 2) × (to < most_steps)
+IsStep (step.Loop k to) = (k < most_counters) × (to < most_steps)
 IsStep step.Halt = Unit {0}
 
 -- a channel's slot and its number are in range

@@ -1,6 +1,6 @@
 -- Code with its loops seen as such.
 use Rattle.std.specs.Prelude.{◌≡◌, ℕ, ◌+◌, ◌<◌, ◌==◌, Bool, false, ◌||◌, List, [], ◌∷◌, ◌++◌}
-use Rattle.sw_trigger.specs.declared.layer.Awaited.TheVariants.{Wait, Pause, Read}
+use Rattle.sw_trigger.specs.declared.layer.Awaited.TheVariants.{Wait, Period, Pause, Read}
 use Rattle.sw_code.specs.declared.code.Step.{Step}
 use Rattle.sw_code.specs.declared.code.Step.TheVariants as step
 use Rattle.sw_trigger.specs.Agenda.{Item, Awaits, Close, Open, repeated}
@@ -13,6 +13,7 @@ pub data Tree : Type 0 where
 
 abbrev pub step_of : Item → Step
 step_of (Awaits (Wait name)) = step.Wait name
+step_of (Awaits (Period name micros)) = step.Timer name micros
 step_of (Awaits (Pause micros)) = step.Pause micros
 step_of (Awaits Read) = step.Read
 step_of (Close c) = step.Close c

@@ -18,10 +18,12 @@ pub const STEPS: u16 = 8_192;
 /// One step of a code.
 #[derive(Clone, Copy, Debug, PartialEq, Eq)]
 pub enum Step {
-    /// The counter, 0 to 2, becomes the number, 1 to 100,000.
+    /// The counter, below `COUNTERS`, becomes the number, 1 to `TRIGGER_COUNT`.
     Set(u8, u32),
     /// A trigger for the layer is awaited.
     Wait(LayerName),
+    /// The end of the layer's timer is awaited, so many microseconds, 1 to an hour.
+    Timer(LayerName, u64),
     /// The end of so many microseconds is awaited, 1 to an hour.
     Pause(u64),
     /// The channels are closed, in order.

@@ -1,19 +1,19 @@
 //! From settings to scan code.
 
-ghost use Rattle.std.specs.Prelude.{◌≡◌, ◌+◌, ◌<◌, ◌≤◌, [], ◌∷◌, ◌++◌, length, map, IfOk, IfErr, OnOk};
+ghost use Rattle.std.specs.Prelude.{◌≡◌, ◌+◌, ◌*◌, ◌<◌, ◌≤◌, [], ◌∷◌, ◌++◌, length, map, IfOk, IfErr, OnOk};
 ghost use Rattle.sw_base.specs.declared.error.ScpiError.TheVariants.{OutOfMemory};
 ghost use Rattle.sw_trigger.specs.Agenda.{agenda, head_of, pass_of, passes, Awaits};
-ghost use Rattle.sw_trigger.specs.Settings.{layer_of};
+ghost use Rattle.sw_trigger.specs.Settings.{layer_of, named};
 ghost use Rattle.sw_trigger.specs.Settings as settled;
 ghost use Rattle.sw_code.specs.declared.code.Step.TheVariants as step;
 ghost use Rattle.sw_code.specs.Code.{Unfolds};
 ghost use Rattle.sw_code.specs.Range.{IsProgramInRange};
 ghost use Rattle.sw_code.specs.Tree.{flatten};
-ghost use Rattle.sw_code.specs.Compiled.{steps_of, passes_tree, compiled};
+ghost use Rattle.sw_code.specs.Compiled.{steps_of, passes_tree, arms_tree, compiled};
 
 use crate::code::{Code, Step};
 use std::alloc::{AllocError, Global};
-use sw_base::{LayerName, ScpiError, Source};
+use sw_base::{ARM_LAYERS, ARMS, ArmLayer, LayerName, ScpiError, Source};
 use sw_trigger::{Layer, Settings};
 
 /// The code of a scan: one loop for each ARM layer, and one for whole rounds of the list. `OutOfMemory` comes where the
@@ -37,13 +37,34 @@ fn all_steps(alloc: Global, settings: &Settings) -> Result<Vec<Step>, AllocError
     ensures unfolds { IfOk result (λ steps. Unfolds (compiled settings.now).steps (agenda settings.now)) }
 {
     let mut steps = Vec::new(alloc);
-    let arm1 = begin_turns(&mut steps, 0, LayerName::Arm1, settings)?;
-    let arm2 = begin_turns(&mut steps, 1, LayerName::Arm2, settings)?;
-    put_rounds(&mut steps, settings)?;
-    steps.push(Step::Loop(1, arm2))?;
-    steps.push(Step::Loop(0, arm1))?;
+    put_arms(&mut steps, settings, &ARMS, 0)?;
     steps.push(Step::Halt)?;
     Ok(steps)
+}
+
+/// Adds the turns of these ARM layers, each as a loop, on counters from this one on, and the passes inside.
+fn put_arms(
+    steps: &mut Vec<Step>,
+    settings: &Settings,
+    arms: &[ArmLayer],
+    counter: u8,
+) -> Result<(), AllocError>
+    requires listed { 0 < length settings.now.list }
+    requires short { length steps.old.items + 3 * length arms.now < 100 }
+    requires counters { counter + length arms.now < 100 }
+    ensures range { settled.IsInRange settings.now }
+    ensures steps { OnOk result (steps.new.items ≡ steps.old.items
+        ++ flatten (arms_tree counter (named settings.now arms.now) (passes_tree settings.now)) (length steps.old.items)) }
+{
+    match arms {
+        [] => put_rounds(steps, settings),
+        [arm, inner @ ..] => {
+            let start = begin_turns(steps, counter, LayerName::Arm(*arm), settings)?;
+            put_arms(steps, settings, inner, counter + 1)?;
+            steps.push(Step::Loop(counter, start))?;
+            Ok(())
+        }
+    }
 }
 
 /// Begins the turns of an ARM layer, as a loop that counts with this counter, by what each turn awaits before it goes
@@ -73,7 +94,8 @@ fn begin_turns(
 fn put_rounds(steps: &mut Vec<Step>, settings: &Settings) -> Result<(), AllocError>
     requires listed { 0 < length settings.now.list }
     requires short { length steps.old.items < 100 }
-    ensures { OnOk result (steps.new.items ≡ steps.old.items
+    ensures range { settled.IsInRange settings.now }
+    ensures steps { OnOk result (steps.new.items ≡ steps.old.items
         ++ flatten (passes_tree settings.now) (length steps.old.items)) }
 {
     let count = settings.layer(LayerName::Trigger).count;
@@ -83,9 +105,9 @@ fn put_rounds(steps: &mut Vec<Step>, settings: &Settings) -> Result<(), AllocErr
         return put_passes(steps, settings, count % entries);
     }
     let start = steps.len() as u16 + 1;
-    steps.push(Step::Set(2, rounds))?;
+    steps.push(Step::Set(ARM_LAYERS, rounds))?;
     put_passes(steps, settings, entries)?;
-    steps.push(Step::Loop(2, start))?;
+    steps.push(Step::Loop(ARM_LAYERS, start))?;
     put_passes(steps, settings, count % entries)
 }
 
@@ -121,8 +143,10 @@ fn put_head(steps: &mut Vec<Step>, name: LayerName, layer: Layer) -> Result<(), 
     ensures head { OnOk result (steps.new.items ≡ steps.old.items ++ steps_of (map Awaits (head_of name layer))) }
     ensures short { OnOk result (length steps.new.items ≤ length steps.old.items + 2) }
 {
-    if layer.source != Source::Immediate {
-        steps.push(Step::Wait(name))?;
+    match layer.source {
+        Source::Immediate => {}
+        Source::Timer => steps.push(Step::Timer(name, layer.timer_us))?,
+        Source::Bus | Source::External | Source::Hold => steps.push(Step::Wait(name))?,
     }
     if layer.delay_us != 0 {
         steps.push(Step::Pause(layer.delay_us))?;

@@ -12,9 +12,11 @@ mod fault;
 mod parts;
 mod print;
 mod read;
+mod version;
 
 pub use code::{Code, STEPS, Step, one_unfolding};
 pub use emit::compile;
 pub use fault::{ListError, ListFault};
 pub use print::print_listing;
 pub use read::read_listing;
+pub use version::{Version, listing_version};

@@ -1,15 +1,18 @@
-//! Parts of a text, and the numbers and channels among them.
+//! Parts of a text, and the numbers, channels and layers among them.
 
 ghost use Rattle.std.specs.Prelude.{◌≡◌, ◌<◌, ◌≤◌, ◌∷◌, [], length, IfSome, IfNone, IfOk};
 ghost use Rattle.std.specs.List.{list_all};
 ghost use Rattle.std.specs.Str.{bytes_eq};
 ghost use Rattle.sw_base.specs.Text.{AllPass, is_digit};
 ghost use Rattle.sw_base.specs.Number.{value_of};
+ghost use Rattle.sw_code.specs.Listing.{layer_word};
 ghost use Rattle.sw_code.specs.Reading.{parts_at, is_numeral, number_in, channel_in, joined_with, joined_in};
-ghost use Rattle.sw_code.specs.Reading.{position_in, then_read};
+ghost use Rattle.sw_code.specs.Reading.{position_in, layer_among, layer_in};
+ghost use Rattle.sw_code.specs.Versions.{IsVersion};
 
 use crate::fault::ListFault;
-use sw_base::{CHANNELS, Chan, SLOTS, is_digit, split_once};
+use crate::version::Version;
+use sw_base::{ARMS, ArmLayer, CHANNELS, Chan, LayerName, is_digit, split_once};
 use sw_channel::Position;
 
 /// What stands before the first mark, and what follows it; none where there is no mark.
@@ -59,8 +62,9 @@ fn are_digits(part: &[u8]) -> bool
 
 /// The channel that the part writes as `slot!channel`.
 #[tactic(auto, using(crate::proofs::Listed::channel_more))]
-fn channel(part: &[u8]) -> Result<Chan, ListFault>
-    ensures { result ≡ channel_in (parts_at 33 part.now) }
+fn channel(version: Version, part: &[u8]) -> Result<Chan, ListFault>
+    requires version { IsVersion version }
+    ensures { result ≡ channel_in version (parts_at 33 part.now) }
 {
     let Some((slot, ch)) = first_part(part, b'!') else {
         return Err(ListFault::BadNumber);
@@ -68,32 +72,34 @@ fn channel(part: &[u8]) -> Result<Chan, ListFault>
     if first_part(ch, b'!').is_some() {
         return Err(ListFault::BadNumber);
     }
-    let slot = number(slot, 1, u64::from(SLOTS))?;
+    let slot = number(slot, 1, u64::from(version.slots))?;
     let ch = number(ch, 1, u64::from(CHANNELS))?;
     Ok(Chan::new(slot as u8, ch as u8))
 }
 
 /// The position that the part writes as channels joined by `&`.
-pub fn position(part: &[u8]) -> Result<Position, ListFault>
-    ensures { result ≡ position_in (parts_at 38 part.now) }
+pub fn position(version: Version, part: &[u8]) -> Result<Position, ListFault>
+    requires version { IsVersion version }
+    ensures { result ≡ position_in version (parts_at 38 part.now) }
 {
     match first_part(part, b'&') {
-        None => Ok(Position::new(channel(part)?)),
-        Some((first, rest)) => all_joined(Position::new(channel(first)?), rest),
+        None => Ok(Position::new(channel(version, part)?)),
+        Some((first, rest)) => all_joined(version, Position::new(channel(version, first)?), rest),
     }
 }
 
 /// The position with the channels that the text writes, joined by `&`.
-fn all_joined(position: Position, text: &[u8]) -> Result<Position, ListFault>
-    ensures { result ≡ joined_in position (parts_at 38 text.now) }
+fn all_joined(version: Version, position: Position, text: &[u8]) -> Result<Position, ListFault>
+    requires version { IsVersion version }
+    ensures { result ≡ joined_in version position (parts_at 38 text.now) }
 {
     let mut joined = position;
     let mut rest = text;
     'channels: loop {
         match first_part(rest, b'&') {
-            None => return with(joined, channel(rest)?),
+            None => return with(joined, channel(version, rest)?),
             Some((first, others)) => {
-                joined = with(joined, channel(first)?)?;
+                joined = with(joined, channel(version, first)?)?;
                 rest = others;
             }
         }
@@ -120,4 +126,44 @@ fn value(digits: &[u8]) -> u128
         n = 10 * n + u128::from(*d - 48);
     }
     n
+}
+
+/// The layer that the part names, in this version.
+pub fn layer(version: Version, part: &[u8]) -> Result<LayerName, ListFault>
+    requires version { IsVersion version }
+    ensures { result ≡ layer_in version part.now }
+{
+    layer_among(&ARMS[..usize::from(version.arm_layers)], part)
+}
+
+/// The layer that the part names, among these ARM layers and TRIGger.
+fn layer_among(arms: &[ArmLayer], part: &[u8]) -> Result<LayerName, ListFault>
+    ensures { result ≡ layer_among arms.now part.now }
+{
+    match arms {
+        [] => {
+            if is_word(part, &layer_word(LayerName::Trigger)) {
+                return Ok(LayerName::Trigger);
+            }
+            Err(ListFault::BadStep)
+        }
+        [arm, inner @ ..] => {
+            let name = LayerName::Arm(*arm);
+            if is_word(part, &layer_word(name)) {
+                return Ok(name);
+            }
+            layer_among(inner, part)
+        }
+    }
+}
+
+/// The word of a layer.
+#[tactic(auto, using(crate::proofs::Words::arm_word))]
+pub fn layer_word(name: LayerName) -> [u8; 4]
+    ensures { result ≡ layer_word name }
+{
+    match name {
+        LayerName::Arm(arm) => [b'a', b'r', b'm', b'0' + arm.number()],
+        LayerName::Trigger => *b"trig",
+    }
 }

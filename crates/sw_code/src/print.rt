@@ -10,11 +10,14 @@ ghost use Rattle.sw_code.specs.Range.{IsInChannelRange, IsPositionInRange, HasPo
 ghost use Rattle.sw_code.specs.declared.code.Step.TheVariants as step;
 
 use crate::code::{Code, Step};
+use crate::parts::layer_word;
+use crate::version::NEWEST;
 use std::alloc::{AllocError, Global};
 use sw_base::{Chan, LayerName, ScpiError, print_number};
 use sw_channel::Position;
 
-/// The listing of a code: `scan 1`, `meter` and its slot, and a line for each step, numbers without leading zeros.
+/// The listing of a code, in version 2: `scan 2`, `meter` and its slot, and a line for each step, numbers without
+/// leading zeros.
 ///
 /// `OutOfMemory` comes where the text found no room, and no other error.
 pub fn print_listing(alloc: Global, code: &Code) -> Result<Vec<u8>, ScpiError>
@@ -33,7 +36,9 @@ fn all_lines(alloc: Global, code: &Code) -> Result<Vec<u8>, AllocError>
     ensures range { IfOk result (λ v. IsProgramInRange code.now) }
 {
     let mut out = Vec::new(alloc);
-    out.extend_from_slice(b"scan 1\nmeter ")?;
+    out.extend_from_slice(b"scan ")?;
+    put_number(&mut out, u64::from(NEWEST.number))?;
+    out.extend_from_slice(b"\nmeter ")?;
     put_number(&mut out, u64::from(code.meter()))?;
     out.push(b'\n')?;
     put_steps(&mut out, code.steps())?;
@@ -59,6 +64,7 @@ fn put_step(out: &mut Vec<u8>, step: Step) -> Result<(), AllocError>
     match step {
         Step::Set(counter, count) => put_pair(out, b"set ", counter, u64::from(count)),
         Step::Wait(name) => put_wait(out, name),
+        Step::Timer(name, micros) => put_timer(out, name, micros),
         Step::Pause(micros) => {
             out.extend_from_slice(b"pause ")?;
             put_number(out, micros)
@@ -90,13 +96,18 @@ fn put_pair(out: &mut Vec<u8>, word: &[u8], counter: u8, number: u64) -> Result<
 fn put_wait(out: &mut Vec<u8>, name: LayerName) -> Result<(), AllocError>
     ensures { OnOk result (out.new.items ≡ out.old.items ++ join_with_byte 32 (parts_of (step.Wait name))) }
 {
-    let line: &[u8] = match name {
-        LayerName::Arm1 => b"wait arm1",
-        LayerName::Arm2 => b"wait arm2",
-        LayerName::Trigger => b"wait trig",
-    };
-    out.extend_from_slice(line)?;
+    out.extend_from_slice(b"wait ")?;
+    out.extend_from_slice(&layer_word(name))?;
     Ok(())
+}
+
+fn put_timer(out: &mut Vec<u8>, name: LayerName, micros: u64) -> Result<(), AllocError>
+    ensures { OnOk result (out.new.items ≡ out.old.items ++ join_with_byte 32 (parts_of (step.Timer name micros))) }
+{
+    out.extend_from_slice(b"timer ")?;
+    out.extend_from_slice(&layer_word(name))?;
+    out.push(b' ')?;
+    put_number(out, micros)
 }
 
 /// Adds a word with its space, and the channels joined by `&`.

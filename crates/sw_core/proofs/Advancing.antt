@@ -32,7 +32,7 @@ use Rattle.sw_core.specs.Seen.{AskSeen, AskFinished, AnswerSeen}
 use Rattle.std.proofs.lemmas.List.{length-append}
 use Rattle.std.specs.Prelude.{IfOk}
 use Rattle.sw_core.specs.Ends.{left_at, left_of, left_in}
-use Rattle.sw_trigger.specs.declared.layer.Awaited.TheVariants.{Wait, Pause}
+use Rattle.sw_trigger.specs.declared.layer.Awaited.TheVariants.{Wait, Period, Pause}
 use Rattle.sw_trigger.specs.Counts.{is_reading}
 use Rattle.sw_trigger.proofs.Awaiting.{reads-append}
 use Rattle.sw_cage.specs.Good.{IsUnderway}
@@ -299,6 +299,7 @@ takes_some : (s : SettingsSeen) (present : Ticket) (o : Option Awaited) (happeni
     × (is_reading x ≡ 0)
 takes_some s present None happening h = absurd h
 takes_some s present (Some (Wait name)) happening h = (Wait name, refl, refl)
+takes_some s present (Some (Period name micros)) happening h = (Period name micros, refl, refl)
 takes_some s present (Some (Pause micros)) happening h = (Pause micros, refl, refl)
 takes_some s present (Some Read) happening h = absurd h
 

@@ -4,7 +4,6 @@ use Rattle.std.specs.Prelude.{if◌then◌else◌}
 use Rattle.sw_base.specs.declared.reading.Reading.{Reading}
 use Rattle.sw_card.specs.declared.board.CardFault.{CardFault}
 use Rattle.sw_card.specs.Account.{Account, MeterAccount, of_meter}
-use Rattle.sw_trigger.specs.declared.layer.Awaited.TheVariants.{Pause}
 use Rattle.sw_trigger.specs.Settings.{SettingsSeen}
 use Rattle.sw_trigger.specs.Agenda.{Item}
 use Rattle.sw_verify.specs.declared.snapshot.Snapshot.{Snapshot}
@@ -17,7 +16,7 @@ use Rattle.sw_cage.specs.Work.{JobSeen, FinishedSeen}
 use Rattle.sw_cage.specs.TakenSeen.{TakenSeen, SaysIgnored, SaysWaits, SaysPause, SaysJob, SaysEnded, SaysFault, tells_fault}
 use Rattle.sw_cage.specs.declared.job.Ticket.{Ticket}
 use Rattle.sw_cage.specs.declared.taken.Happening.{Happening}
-use Rattle.sw_cage.specs.Outcome.{Moved, Occupancy, occupancy_of, IsSent, Arrives, Reaches, AdvancesOrFails, Advances, AdvancesPast, AdvancesPastFrom, Counts}
+use Rattle.sw_cage.specs.Outcome.{lasting, Moved, Occupancy, occupancy_of, IsSent, Arrives, Reaches, AdvancesOrFails, Advances, AdvancesPast, AdvancesPastFrom, Counts}
 use Rattle.sw_cage.specs.Outcome.{begun, with_back, with_reading}
 use Rattle.sw_cage.proofs.AdvanceLemmas.{same_cage}
 use Rattle.sw_core.specs.Panel.{Panel}
@@ -63,22 +62,21 @@ arrives_once : (old : Occupancy) (number : ℕ) (at : ScanSeen) (told told' : Ta
     → Arrives old number at told new scan → Arrives old number at told' new' scan' → IsSameGoing told told' new new' scan scan'
 arrives_once old number at SaysWaits SaysWaits new new' scan scan' h k = (refl, h.1 ∙ sym k.1, h.2 ∙ sym k.2)
 arrives_once old number at (SaysPause t u) (SaysPause t' u') new new' scan scan' h k =
-    let e : Some (Pause u) ≡ Some (Pause u') = sym h.0 ∙ k.0 in
-    (pause_once t t' u u' (h.1 ∙ sym k.1) (let x : u ≡ u' = cc (e) in x), h.2 ∙ sym k.2, h.3 ∙ sym k.3)
+    (pause_once t t' u u' (h.1 ∙ sym k.1) (some_eq u u' (sym h.0 ∙ k.0)), h.2 ∙ sym k.2, h.3 ∙ sym k.3)
 arrives_once old number at (SaysJob j) (SaysJob j') new new' scan scan' h k = let s =
     sent_once old at.setup.meter (ticket_of number at) j j' new new' h.1 k.1 in (ap SaysJob s.0, s.1, h.2 ∙ sym k.2)
 arrives_once old number at SaysEnded SaysEnded new new' scan scan' h k = (refl, h.1 ∙ sym k.1, h.2 ∙ sym k.2)
-arrives_once old number at SaysWaits (SaysPause t' u') new new' scan scan' h k = absurd (let e = sym h.0.1 ∙ k.0 in cc (e))
+arrives_once old number at SaysWaits (SaysPause t' u') new new' scan scan' h k = absurd (let e = sym (ap lasting h.0.1) ∙ k.0 in cc (e))
 arrives_once old number at SaysWaits (SaysJob j') new new' scan scan' h k = absurd (let e = sym h.0.1 ∙ k.0 in cc (e))
 arrives_once old number at SaysWaits SaysEnded new new' scan scan' h k = absurd (let e = sym h.0.1 ∙ k.0 in cc (e))
-arrives_once old number at (SaysPause t u) SaysWaits new new' scan scan' h k = absurd (let e = sym h.0 ∙ k.0.1 in cc (e))
-arrives_once old number at (SaysPause t u) (SaysJob j') new new' scan scan' h k = absurd (let e = sym h.0 ∙ k.0 in cc (e))
-arrives_once old number at (SaysPause t u) SaysEnded new new' scan scan' h k = absurd (let e = sym h.0 ∙ k.0 in cc (e))
+arrives_once old number at (SaysPause t u) SaysWaits new new' scan scan' h k = absurd (let e = sym h.0 ∙ ap lasting k.0.1 in cc (e))
+arrives_once old number at (SaysPause t u) (SaysJob j') new new' scan scan' h k = absurd (let e = sym h.0 ∙ ap lasting k.0 in cc (e))
+arrives_once old number at (SaysPause t u) SaysEnded new new' scan scan' h k = absurd (let e = sym h.0 ∙ ap lasting k.0 in cc (e))
 arrives_once old number at (SaysJob j) SaysWaits new new' scan scan' h k = absurd (let e = sym h.0 ∙ k.0.1 in cc (e))
-arrives_once old number at (SaysJob j) (SaysPause t' u') new new' scan scan' h k = absurd (let e = sym h.0 ∙ k.0 in cc (e))
+arrives_once old number at (SaysJob j) (SaysPause t' u') new new' scan scan' h k = absurd (let e = sym (ap lasting h.0) ∙ k.0 in cc (e))
 arrives_once old number at (SaysJob j) SaysEnded new new' scan scan' h k = absurd (let e = sym h.0 ∙ k.0 in cc (e))
 arrives_once old number at SaysEnded SaysWaits new new' scan scan' h k = absurd (let e = sym h.0 ∙ k.0.1 in cc (e))
-arrives_once old number at SaysEnded (SaysPause t' u') new new' scan scan' h k = absurd (let e = sym h.0 ∙ k.0 in cc (e))
+arrives_once old number at SaysEnded (SaysPause t' u') new new' scan scan' h k = absurd (let e = sym (ap lasting h.0) ∙ k.0 in cc (e))
 arrives_once old number at SaysEnded (SaysJob j') new new' scan scan' h k = absurd (let e = sym h.0 ∙ k.0 in cc (e))
 arrives_once old number at told told' new new' scan scan' h k = absurd (assumption (h, k))
 

@@ -1,13 +1,12 @@
 -- What each command does leaves the mainframe fine.
 use Rattle.std.proofs.Common.{◌≡◌, ◌≢◌, Bool, true, false, [], Option, None, sym}
-use Rattle.std.proofs.Common.{subst, arith}
-use Rattle.sw_base.specs.declared.terms.LayerName.{LayerName}
-use Rattle.sw_base.specs.declared.terms.LayerName.TheVariants.{Arm1, Arm2, Trigger}
+use Rattle.std.proofs.Common.{subst}
+use Rattle.sw_base.specs.declared.terms.LayerName.TheVariants.{Arm, Trigger}
 use Rattle.sw_base.specs.declared.error.ScpiError.TheVariants.{TriggerIgnored, ArmIgnored, DataOutOfRange, TooMuchData}
 use Rattle.sw_base.specs.declared.error.ScpiError.TheVariants.{SettingsConflict, HardwareError}
 use Rattle.sw_lex.specs.declared.command.Command.{Command}
-use Rattle.sw_trigger.specs.declared.layer.Layer.{Layer}
-use Rattle.sw_trigger.specs.Settings.{SettingsSeen, IsInRange, IsLayer, layer_of, with_layer, most_of, at_reset}
+use Rattle.sw_trigger.specs.Settings.{SettingsSeen, IsInRange}
+use Rattle.sw_trigger.proofs.Ranges.{layer_range, range_layer}
 use Rattle.sw_status.specs.StatusModel.{StatusSeen, IsStatus, registers_of, with_group}
 use Rattle.sw_cage.specs.Accounts.{all_open}
 use Rattle.sw_cage.specs.Cage.{CageSeen, ScanSeen, safe_state}
@@ -53,28 +52,6 @@ fine_is p q e k = subst (λ (x : Panel). IsFine x) (sym e) k
 
 pub none_of : (p : Panel) → is_running p ≡ false → p.cage.scan ≡ None
 none_of p e = is_none p.cage.scan e
-
--- ---- settings
-
-layer_range : (s : SettingsSeen) (l : LayerName) → IsInRange s → IsLayer (most_of l) (layer_of s l)
-layer_range s Arm1 r = r.arm1
-layer_range s Arm2 r = r.arm2
-layer_range s Trigger r = r.trigger
-
-range_layer : (s : SettingsSeen) (l : LayerName) (layer : Layer) → IsInRange s → IsLayer (most_of l) layer → IsInRange (with_layer s l layer)
-range_layer s Arm1 layer r h = record { arm1 = h; arm2 = r.arm2; trigger = r.trigger; list = r.list; meter = r.meter; points = r.points }
-range_layer s Arm2 layer r h = record { arm1 = r.arm1; arm2 = h; trigger = r.trigger; list = r.list; meter = r.meter; points = r.points }
-range_layer s Trigger layer r h = record { arm1 = r.arm1; arm2 = r.arm2; trigger = h; list = r.list; meter = r.meter; points = r.points }
-
-pub reset_range : IsInRange at_reset
-reset_range = record {
-  arm1 = record { count = (omega arith, omega arith); delay = omega arith };
-  arm2 = record { count = (omega arith, omega arith); delay = omega arith };
-  trigger = record { count = (omega arith, omega arith); delay = omega arith };
-  list = omega arith;
-  meter = (omega arith, omega arith);
-  points = (omega arith, omega arith);
-}
 
 -- ---- status
 
@@ -179,7 +156,15 @@ harmless p available (Command.InitiateContinuous true) = conflict
 harmless p available (Command.InitiateContinuous false) = λ k. k
 harmless p available Command.InitiateContinuousQuery = tt
 harmless p available (Command.Count layer n) =
-    λ idle. (λ fits r. range_layer p.settings layer _ r (record { count = fits; delay = (layer_range p.settings layer r).delay }), out_of_range, idle)
+    λ idle. (
+      λ fits r. range_layer p.settings layer _ r (record {
+        count = fits;
+        delay = (layer_range p.settings layer r).delay;
+        timer = (layer_range p.settings layer r).timer;
+      }),
+      out_of_range,
+      idle,
+    )
 harmless p available (Command.CountQuery layer) = tt
 harmless p available (Command.SetSource layer source) =
     λ idle k. record {
@@ -187,17 +172,36 @@ harmless p available (Command.SetSource layer source) =
       range = range_layer p.settings layer _ k.range (record {
         count = (layer_range p.settings layer k.range).count;
         delay = (layer_range p.settings layer k.range).delay;
+        timer = (layer_range p.settings layer k.range).timer;
       });
       settings = by_none p.cage.scan _ (none_of p idle);
       status = k.status;
     }
 harmless p available (Command.SourceQuery layer) = tt
 harmless p available (Command.Delay layer micros) =
-    λ idle. (λ fits r. range_layer p.settings layer _ r (record { count = (layer_range p.settings layer r).count; delay = fits }), out_of_range, idle)
+    λ idle. (
+      λ fits r. range_layer p.settings layer _ r (record {
+        count = (layer_range p.settings layer r).count;
+        delay = fits;
+        timer = (layer_range p.settings layer r).timer;
+      }),
+      out_of_range,
+      idle,
+    )
 harmless p available (Command.DelayQuery layer) = tt
+harmless p available (Command.Timer layer micros) =
+    λ idle. (
+      λ fits r. range_layer p.settings layer _ r (record {
+        count = (layer_range p.settings layer r).count;
+        delay = (layer_range p.settings layer r).delay;
+        timer = fits;
+      }),
+      out_of_range,
+      idle,
+    )
+harmless p available (Command.TimerQuery layer) = tt
 harmless p available (Command.Signal Trigger) = not_triggered
-harmless p available (Command.Signal Arm1) = not_armed
-harmless p available (Command.Signal Arm2) = not_armed
+harmless p available (Command.Signal (Arm arm)) = not_armed
 harmless p available (Command.Close chans) = λ idle. idle
 harmless p available (Command.CloseQuery chans) = tt
 harmless p available Command.CloseState = tt
@@ -212,10 +216,10 @@ harmless p available Command.OpenAll =
       status = k.status;
     }
 harmless p available (Command.Scan chans) =
-    λ idle. (λ fits r. record { arm1 = r.arm1; arm2 = r.arm2; trigger = r.trigger; list = fits; meter = r.meter; points = r.points }, too_much, idle)
+    λ idle. (λ fits r. record { layers = r.layers; arms = r.arms; trigger = r.trigger; list = fits; meter = r.meter; points = r.points }, too_much, idle)
 harmless p available Command.ScanQuery = tt
 harmless p available (Command.ScanMeter slot) =
-    λ idle. (λ fits r. record { arm1 = r.arm1; arm2 = r.arm2; trigger = r.trigger; list = r.list; meter = fits; points = r.points }, out_of_range, idle)
+    λ idle. (λ fits r. record { layers = r.layers; arms = r.arms; trigger = r.trigger; list = r.list; meter = fits; points = r.points }, out_of_range, idle)
 harmless p available Command.ScanMeterQuery = tt
 harmless p available (Command.GroupEventQuery group) = λ u. grouped p.status group _ u (told_group p.status group u).taken
 harmless p available (Command.GroupConditionQuery group) = tt
@@ -231,7 +235,7 @@ harmless p available Command.AllErrorsQuery = λ u. (status-kept p.status u).emp
 harmless p available Command.ErrorCountQuery = tt
 harmless p available Command.VersionQuery = tt
 harmless p available (Command.Points n) =
-    λ idle. (λ fits r. record { arm1 = r.arm1; arm2 = r.arm2; trigger = r.trigger; list = r.list; meter = r.meter; points = fits }, out_of_range, idle)
+    λ idle. (λ fits r. record { layers = r.layers; arms = r.arms; trigger = r.trigger; list = r.list; meter = r.meter; points = fits }, out_of_range, idle)
 harmless p available Command.PointsQuery = tt
 harmless p available Command.ActualPointsQuery = tt
 harmless p available Command.BoundQuery = tt

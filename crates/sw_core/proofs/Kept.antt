@@ -7,7 +7,7 @@ use Rattle.sw_base.specs.declared.reading.Reading.{Reading}
 use Rattle.sw_card.specs.declared.board.CardFault.{CardFault}
 use Rattle.sw_card.specs.Account.{Account, of_meter, is_meter}
 use Rattle.sw_trigger.specs.declared.layer.Awaited.{Awaited}
-use Rattle.sw_trigger.specs.declared.layer.Awaited.TheVariants.{Wait, Pause, Read}
+use Rattle.sw_trigger.specs.declared.layer.Awaited.TheVariants.{Wait, Period, Pause, Read}
 use Rattle.sw_trigger.specs.Settings.{SettingsSeen, IsInRange}
 use Rattle.sw_trigger.specs.Agenda.{Item, agenda}
 use Rattle.sw_trigger.specs.Counts.{reads}
@@ -182,6 +182,7 @@ kept_goes c q s i told k h = let r = safe_goes c q s i told k h in record { good
 other_if : (at : ScanSeen) (o : Option Awaited) (t : Ticket) (h : Happening) → awaits at ≡ o → TakesIf at.setup t o h → AwaitsOther (Some at)
 other_if at None t h e k = absurd k
 other_if at (Some (Wait name)) t h e k = (Wait name, (e, refl))
+other_if at (Some (Period name u)) t h e k = (Period name u, (e, refl))
 other_if at (Some (Pause u)) t h e k = (Pause u, (e, refl))
 other_if at (Some Read) t h e k = absurd k
 

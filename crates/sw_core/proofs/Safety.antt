@@ -63,7 +63,8 @@ use Rattle.sw_status.proofs.Limits.{status-kept, status-start}
 use Rattle.sw_core.specs.Registers.{card_fault_reported, card_fault_cleared}
 use Rattle.sw_core.specs.Sessions.{with_seat, fresh_seat}
 use Rattle.sw_core.specs.Event.{ended, erred, completed, with_operation, awaited_bits, next_number}
-use Rattle.sw_core.proofs.Harmless.{IsFine, GoesBy, by_none, fine_is, none_of, reset_range, told_group, reported_status, cleared_status, fallen_all}
+use Rattle.sw_trigger.proofs.Ranges.{reset_range}
+use Rattle.sw_core.proofs.Harmless.{IsFine, GoesBy, by_none, fine_is, none_of, told_group, reported_status, cleared_status, fallen_all}
 use Rattle.sw_core.proofs.Harmless.{dropped, IsHarmless, IsHarmlessAction, harmless}
 
 -- ---- commands

@@ -32,11 +32,9 @@ use Rattle.sw_core.specs.Step.{acts_unnumbered, IsWorn, IsEvent, IsUnnumbered, S
 use Rattle.sw_core.specs.Step.{Admission, Dropped, ShutOut, Admitted, admission}
 use Rattle.sw_cage.proofs.ClosedMemberLemmas.{among_closed}
 use Rattle.sw_core.specs.Seen.{WorkSeen, AskSeen, AskSession, AnswerSeen, SaysSession}
-use Rattle.std.proofs.Common.{◌*◌}
-use Rattle.std.proofs.Math.Nat.{mul-pos}
 use Rattle.sw_trigger.specs.Settings.{IsInRange}
-use Rattle.sw_trigger.specs.Counts.{in_pass, in_arm2, in_arm1}
-use Rattle.sw_trigger.proofs.Awaiting.{some_pass, length-in_arm2, length-in_arm1, length-awaiting, reads-append}
+use Rattle.sw_trigger.proofs.Awaiting.{reads-append}
+use Rattle.sw_trigger.proofs.Ranges.{some_bound}
 use Rattle.sw_cage.specs.Good.{IsUnderway}
 use Rattle.sw_core.specs.Seen.{failed_in}
 use Rattle.sw_core.specs.Run.{Event, IsNextEvent, IsRun}
@@ -94,19 +92,6 @@ pub record Begun (plan : Snapshot) (c : CageSeen) : Type 0 where
   pub some : 0 < bound_of plan.settings
   pub none : c.readings ≡ []
   pub held : (at : ScanSeen) → c.scan ≡ Some at → (at.setup ≡ plan.settings) × (leaves c.cards at ≡ is_among plan.closed)
-
--- something is awaited
-some_bound : (s : SettingsSeen) → 0 < length s.list → IsInRange s → 0 < bound_of s
-some_bound s listed r =
-    let c3 : 0 < s.trigger.count = omega (arith, r.trigger.count.0) in
-    let c2 : 0 < s.arm2.count = omega (arith, r.arm2.count.0) in
-    let c1 : 0 < s.arm1.count = omega (arith, r.arm1.count.0) in
-    let passes : 0 < s.trigger.count * length (in_pass s) = mul-pos c3 (some_pass s) in
-    let arm2 : 0 < length (in_arm2 s) = omega (arith, length-in_arm2 s, passes) in
-    let turns : 0 < s.arm2.count * length (in_arm2 s) = mul-pos c2 arm2 in
-    let arm1 : 0 < length (in_arm1 s) = omega (arith, length-in_arm1 s, turns) in
-    let all : 0 < s.arm1.count * length (in_arm1 s) = mul-pos c1 arm1 in
-    omega (arith, length-awaiting s listed, all)
 
 begun_by : (p q : Panel) (plan : Snapshot) (f : Bool) (told : TakenSeen) → IsFine p → started_answer told ≡ Done None → Starts p plan f told q
     → Begun plan q.cage

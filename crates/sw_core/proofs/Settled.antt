@@ -2,9 +2,9 @@
 use Rattle.std.proofs.Common.{◌≡◌, ◌==◌, ◌&&◌, not, Bool, true, false, Option, None, Some, refl, sym, subst}
 use Rattle.std.specs.Prelude.{MatchBool}
 use Rattle.sw_base.specs.declared.error.ScpiError.TheVariants.{TriggerIgnored, HardwareError}
-use Rattle.sw_base.specs.declared.terms.LayerName.TheVariants.{Arm1, Arm2, Trigger}
+use Rattle.sw_base.specs.declared.terms.LayerName.TheVariants.{Arm, Trigger}
 use Rattle.sw_trigger.specs.declared.layer.Awaited.{Awaited}
-use Rattle.sw_trigger.specs.declared.layer.Awaited.TheVariants.{Wait, Pause, Read}
+use Rattle.sw_trigger.specs.declared.layer.Awaited.TheVariants.{Wait, Period, Pause, Read}
 use Rattle.sw_verify.specs.declared.snapshot.Snapshot.{Snapshot}
 use Rattle.sw_status.specs.Registers.{low_15}
 use Rattle.sw_cage.specs.Takes.{awaited_now}
@@ -33,8 +33,9 @@ IsTelling p = p.status.operation.condition ≡ awaited_bits (awaited_now p.cage.
 low_bits : (o : Option Awaited) → low_15 (awaited_bits o) ≡ awaited_bits o
 low_bits (Some Read) = refl
 low_bits (Some (Wait Trigger)) = refl
-low_bits (Some (Wait Arm1)) = refl
-low_bits (Some (Wait Arm2)) = refl
+low_bits (Some (Wait (Arm arm))) = refl
+low_bits (Some (Period Trigger micros)) = refl
+low_bits (Some (Period (Arm arm) micros)) = refl
 low_bits (Some (Pause micros)) = refl
 low_bits None = refl
 

@@ -87,6 +87,9 @@ with_source layer source s = with_layer s layer (record (layer_of s layer) { sou
 abbrev pub with_delay : LayerName → ℕ → SettingsSeen → SettingsSeen
 with_delay layer micros s = with_layer s layer (record (layer_of s layer) { delay_us = micros })
 
+abbrev pub with_timer : LayerName → ℕ → SettingsSeen → SettingsSeen
+with_timer layer micros s = with_layer s layer (record (layer_of s layer) { timer_us = micros })
+
 -- whether a command is offered to the scan (SCPI-1999, 24; IEEE 488.2, 10.37)
 abbrev pub is_offered : Command → Bool
 is_offered Command.Trigger = true
@@ -139,9 +142,11 @@ action_of available (Command.SourceQuery layer) =
 action_of available (Command.Delay layer micros) =
     BetweenScans (SetsUp (micros ≤ longest_delay) DataOutOfRange (with_delay layer micros))
 action_of available (Command.DelayQuery layer) = AtOnce (TellsText (λ p. fixed 6 (layer_of p.settings layer).delay_us))
+action_of available (Command.Timer layer micros) =
+    BetweenScans (SetsUp ((1 ≤ micros) × (micros ≤ longest_delay)) DataOutOfRange (with_timer layer micros))
+action_of available (Command.TimerQuery layer) = AtOnce (TellsText (λ p. fixed 6 (layer_of p.settings layer).timer_us))
 action_of available (Command.Signal layer_name.Trigger) = AtOnce (Offers (Signal layer_name.Trigger) TriggerIgnored)
-action_of available (Command.Signal layer_name.Arm1) = AtOnce (Offers (Signal layer_name.Arm1) ArmIgnored)
-action_of available (Command.Signal layer_name.Arm2) = AtOnce (Offers (Signal layer_name.Arm2) ArmIgnored)
+action_of available (Command.Signal (layer_name.Arm arm)) = AtOnce (Offers (Signal (layer_name.Arm arm)) ArmIgnored)
 action_of available (Command.Close chans) = BetweenScans (ClosesListed chans)
 action_of available (Command.CloseQuery chans) = AtOnce (TellsRelays true chans)
 action_of available Command.CloseState = AtOnce (TellsText (λ p. printed (closed_list p.cage.cards)))

@@ -8,7 +8,7 @@ use Rattle.sw_base.specs.Errors.{text_of, code_of}
 use Rattle.sw_base.specs.declared.error.ScpiError.{ScpiError}
 use Rattle.sw_base.specs.declared.error.ScpiError.TheVariants.{OutOfMemory}
 use Rattle.sw_base.specs.declared.terms.Source.{Source}
-use Rattle.sw_base.specs.declared.terms.Source.TheVariants.{Immediate, Bus, External, Hold}
+use Rattle.sw_base.specs.declared.terms.Source.TheVariants.{Immediate, Bus, External, Hold, Timer}
 use Rattle.sw_core.specs.declared.ask.SessionAnswer.{SessionAnswer}
 use Rattle.sw_core.specs.declared.ask.SessionAnswer.TheVariants.{Done, Refused}
 
@@ -56,6 +56,7 @@ abbrev pub source_word : Source → List ℕ
 source_word Immediate = codes "IMM"
 source_word Bus = codes "BUS"
 source_word External = codes "EXT"
+source_word Timer = codes "TIM"
 source_word Hold = codes "HOLD"
 
 -- the text is these pieces, none of them empty, joined by commas

@@ -2,10 +2,11 @@
 use Rattle.std.specs.Prelude.{ℕ, ◌+◌, ◌-◌, ◌^◌, min, Bool, not, ◌&&◌, Option, Some, None, if◌then◌else◌}
 use Rattle.sw_base.specs.declared.error.ScpiError.{ScpiError}
 use Rattle.sw_base.specs.declared.error.ScpiError.TheVariants.{HardwareError}
-use Rattle.sw_base.specs.declared.terms.LayerName.TheVariants.{Arm1, Arm2, Trigger}
+use Rattle.sw_base.specs.declared.terms.LayerName.{LayerName}
+use Rattle.sw_base.specs.declared.terms.LayerName.TheVariants.{Arm, Trigger}
 use Rattle.sw_base.specs.declared.terms.StatusGroup.TheVariants.{Operation}
 use Rattle.sw_trigger.specs.declared.layer.Awaited.{Awaited}
-use Rattle.sw_trigger.specs.declared.layer.Awaited.TheVariants.{Wait, Pause, Read}
+use Rattle.sw_trigger.specs.declared.layer.Awaited.TheVariants.{Wait, Period, Pause, Read}
 use Rattle.sw_status.specs.Registers.{group_conditioned}
 use Rattle.sw_status.specs.StatusModel.{StatusSeen, pushed, with_bit, with_group, event_ended}
 use Rattle.sw_cage.specs.Takes.{awaited_now}
@@ -16,12 +17,16 @@ use Rattle.sw_core.specs.Panel.{Panel, is_running}
 use Rattle.sw_core.specs.Seen.{AnswerSeen, SaysSession, SaysInstalled, SaysNotInstalled, SaysEjected, SaysNotEjected}
 use Rattle.sw_core.specs.Seen.{SaysTaken, SaysMissed, SaysFailed, SaysBack, SaysWorn}
 
--- OPERation's condition: bit 4 at a reading, bit 5 at TRIGger's wait, bit 6 at an ARM layer's (SCPI-1999, 20.2)
+-- OPERation's condition at a layer's wait: bit 5 at TRIGger's, bit 6 at an ARM layer's (SCPI-1999, 20.2)
+abbrev pub waiting_bits : LayerName → ℕ
+waiting_bits Trigger = 32
+waiting_bits (Arm arm) = 64
+
+-- OPERation's condition: bit 4 at a reading, a layer's bits at its wait, that for its timer's end included
 abbrev pub awaited_bits : Option Awaited → ℕ
 awaited_bits (Some Read) = 16
-awaited_bits (Some (Wait Trigger)) = 32
-awaited_bits (Some (Wait Arm1)) = 64
-awaited_bits (Some (Wait Arm2)) = 64
+awaited_bits (Some (Wait name)) = waiting_bits name
+awaited_bits (Some (Period name micros)) = waiting_bits name
 awaited_bits (Some (Pause micros)) = 0
 awaited_bits None = 0
 

@@ -42,6 +42,7 @@ impl<R: Relay, M: Meter> Core<R, M> {
             | Command::Count(_, _)
             | Command::SetSource(_, _)
             | Command::Delay(_, _)
+            | Command::Timer(_, _)
             | Command::Points(_)
                 if running => { SessionAnswer::Refused(ScpiError::SettingsConflict) }
             Command::Identify => told(identity(alloc)),
@@ -85,6 +86,8 @@ impl<R: Relay, M: Meter> Core<R, M> {
             Command::SourceQuery(layer) => self.source_query(alloc, layer),
             Command::Delay(layer, micros) => taken(self.settings.set_delay(layer, micros)),
             Command::DelayQuery(layer) => self.delay_query(alloc, layer),
+            Command::Timer(layer, micros) => taken(self.settings.set_timer(layer, micros)),
+            Command::TimerQuery(layer) => self.timer_query(alloc, layer),
             Command::Close(chans) => self.close(chans.as_slice()),
             Command::CloseQuery(chans) => self.flags(alloc, true, chans.as_slice()),
             Command::CloseState => self.close_state(alloc),

@@ -2,7 +2,7 @@
 
 ghost use Rattle.std.specs.Prelude.{◌≡◌};
 ghost use Rattle.sw_core.specs.Seen.{answer_seen};
-ghost use Rattle.sw_core.specs.Event.{concluded, session_concluded, ended, awaited_bits};
+ghost use Rattle.sw_core.specs.Event.{concluded, session_concluded, ended, awaited_bits, waiting_bits};
 
 use crate::ask::{Answer, SessionAnswer};
 use crate::state::Core;
@@ -23,9 +23,18 @@ fn awaited_bits(awaited: Option<Awaited>) -> u16
 {
     match awaited {
         Some(Awaited::Read) => MEASURING,
-        Some(Awaited::Wait(LayerName::Trigger)) => WAITING_FOR_TRIGGER,
-        Some(Awaited::Wait(LayerName::Arm1 | LayerName::Arm2)) => WAITING_FOR_ARM,
+        Some(Awaited::Wait(name) | Awaited::Period(name, _)) => waiting_bits(name),
         Some(Awaited::Pause(_)) | None => 0,
+    }
+}
+
+/// What OPERation tells where a scan waits at this layer.
+fn waiting_bits(name: LayerName) -> u16
+    ensures { result ≡ waiting_bits name }
+{
+    match name {
+        LayerName::Trigger => WAITING_FOR_TRIGGER,
+        LayerName::Arm(_) => WAITING_FOR_ARM,
     }
 }
 

@@ -86,6 +86,15 @@ impl<R: Relay, M: Meter> Core<R, M> {
         told(seconds(alloc, self.settings.layer(layer).delay_us))
     }
 
+    /// How long the wait of a layer with source Timer lasts.
+    #[inline(never)]
+    pub(crate) fn timer_query(&self, alloc: Global, layer: LayerName) -> SessionAnswer
+        ensures { StepText self.now (fixed 6 (layer_of self.now.settings layer).timer_us) self.now.status Bool.false
+            result self.now }
+    {
+        told(seconds(alloc, self.settings.layer(layer).timer_us))
+    }
+
     /// Reads the event status register out.
     #[inline(never)]
     pub(crate) fn event_query(&mut self, alloc: Global) -> SessionAnswer

@@ -113,7 +113,7 @@ impl<R: Relay, M: Meter> Core<R, M> {
     {
         let error = match layer {
             LayerName::Trigger => ScpiError::TriggerIgnored,
-            LayerName::Arm1 | LayerName::Arm2 => ScpiError::ArmIgnored,
+            LayerName::Arm(_) => ScpiError::ArmIgnored,
         };
         self.offer(Happening::Signal(layer), error, work)
     }

@@ -69,6 +69,7 @@ pub fn source_word(alloc: Global, source: Source) -> Result<Sequence<u8>, AllocE
         Source::Immediate => b"IMM",
         Source::Bus => b"BUS",
         Source::External => b"EXT",
+        Source::Timer => b"TIM",
         Source::Hold => b"HOLD",
     };
     short(alloc, word)

@@ -1,11 +1,10 @@
 -- The two forms of a mnemonic.
-use Rattle.std.proofs.Common.{◌≡◌, ℕ, Bool, true, false, not, List, [], ◌∷◌, ◌++◌, refl, sym, ap, subst, ◌∙◌, ◌⊎◌, inl, inr, IsTrue}
+use Rattle.std.proofs.Common.{◌≡◌, ℕ, Bool, true, false, not, List, [], ◌∷◌, refl, sym, ap, subst, ◌∙◌, ◌⊎◌, inl, inr, IsTrue}
 use Rattle.std.specs.Prelude.{◌==◌, ◌&&◌}
 use Rattle.std.specs.Char.{is_ascii_lowercase, to_ascii_uppercase}
 use Rattle.std.proofs.lemmas.Bool.{and_parts, eq-eqb, eqb-true, cases_Bool}
-use Rattle.std.proofs.lemmas.List.{same_from_push}
 use Rattle.sw_lex.specs.Words.{short_of, long_of}
-use Rattle.sw_lex.specs.Found.{IsForm, IsNumbered}
+use Rattle.sw_lex.specs.Found.{IsForm}
 use Rattle.sw_lex.specs.Rows.{is_form_from}
 use Rattle.sw_lex.specs.Apart.{same_word}
 use Rattle.sw_lex.specs.Values.{is_named}
@@ -104,21 +103,4 @@ named_is b form word h =
         | inl t ↦ absurd (let z : true ≡ false = sym (named_so form word (h.0 t)) ∙ s in cc)
         | inr t ↦ t ∙ sym s
       ]
-    ]
-
--- ---- a form and then a digit
-
-pub numbered_parts : (form front : List ℕ) (last digit : ℕ) → IsNumbered form (digit ∷ []) (front ++ last ∷ []) → (last ≡ digit) × IsForm form front
-numbered_parts form front last digit h =
-    elim h [
-      | inl s ↦ let p = same_from_push front (short_of form) last digit s in (p.1, inl p.0)
-      | inr l ↦ let p = same_from_push front (long_of form) last digit l in (p.1, inr p.0)
-    ]
-
-pub numbered_so : (form front : List ℕ) (last digit : ℕ) → last ≡ digit → IsForm form front → IsNumbered form (digit ∷ []) (front ++ last ∷ [])
-numbered_so form front last digit e h =
-    elim h [
-      | inl s ↦ inl (ap (λ (t : List ℕ). t ++ last ∷ []) s ∙ ap (λ (d : ℕ). short_of form ++ d ∷ []) e)
-      | inr l ↦
-          inr (ap (λ (t : List ℕ). t ++ last ∷ []) l ∙ ap (λ (d : ℕ). long_of form ++ d ∷ []) e)
     ]

@@ -13,7 +13,7 @@ use Rattle.sw_lex.specs.Unit.{Datum, number, character, string, block, expressio
 use Rattle.sw_lex.specs.Table.{HeaderEntry, entries}
 use Rattle.sw_lex.specs.Found.{IsIn, spellings, IsFound}
 use Rattle.sw_lex.specs.Commands.{layer_numbered, of_common, of_instrument, of_layer, of_group, of_channels}
-use Rattle.sw_lex.specs.Values.{on_ok, IsQuantity, ReadsQuantity, ReadsString, ReadsBlock, whole_of, continuous_of, macros_of, delay_of, source_meant}
+use Rattle.sw_lex.specs.Values.{on_ok, IsQuantity, ReadsQuantity, ReadsString, ReadsBlock, whole_of, continuous_of, macros_of, time_of, source_meant}
 use Rattle.sw_lex.specs.Meaning.{Nodes, asked, path_after, WithNone, WithList, OfList, WithString, OfString, Defines, OfMacro, WithNumber, OfNumber, OfWord}
 use Rattle.sw_lex.specs.Meaning.{OfSwitch, DecodesCommand, Resolves}
 use Rattle.sw_base.specs.Text.{is_blank, Spans}
@@ -183,7 +183,7 @@ one_decoded (keys.Group ask group) k ds r s a b n m = one_none (of_group ask gro
 one_decoded (keys.Channels ask) k ds r s a b n m = one_of_list Reads one_reading (of_channels ask) ds r s a b n m
 one_decoded keys.Scan k ds r s a b n m = one_of_list ReadsPositions one_position_reading commands.Scan ds r s a b n m
 one_decoded (keys.Whole ask) k ds r s a b n m = one_of_number (whole_of ask k) ds r s a b
-one_decoded (keys.Delay family) k ds r s a b n m = one_of_number (delay_of (layer_numbered family k)) ds r s a b
+one_decoded (keys.Time kind family) k ds r s a b n m = one_of_number (time_of kind (layer_numbered family k)) ds r s a b
 one_decoded (keys.Source family) k ds r s a b n m = one_of_word (source_meant (layer_numbered family k)) ds r s a b
 one_decoded keys.Continuous k ds r s a b n m = one_of_switch ds r s a b
 one_decoded keys.EnableMacros k ds r s a b n m = one_of_number macros_of ds r s a b

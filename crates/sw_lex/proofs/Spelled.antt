@@ -1,13 +1,16 @@
 -- The spellings that are listed are those that fit.
-use Rattle.std.proofs.Common.{◌≡◌, ℕ, List, [], ◌∷◌, ◌++◌, refl, ap, ◌∙◌, ◌⊎◌, inl, inr, Bool, true, length, ◌<◌, ◌≤◌}
+use Rattle.std.proofs.Common.{◌≡◌, ℕ, zero, suc, List, [], ◌∷◌, ◌++◌, refl, sym, ap, subst, ◌∙◌, ◌⊎◌, inl, inr, Bool, true, length, ◌<◌, ◌≤◌}
 use Rattle.std.proofs.Common.{nat_le, arith}
-use Rattle.std.proofs.lemmas.Bool.{and_parts}
+use Rattle.std.specs.Prelude.{◌==◌}
+use Rattle.std.proofs.lemmas.Bool.{and_parts, cases_Bool, eqb-true, eqb-false}
 use Rattle.std.proofs.lemmas.Grind.{common_steps}
 use Rattle.std.specs.List.{list_all}
 use Rattle.sw_lex.specs.declared.table.Key.{Key}
 use Rattle.sw_lex.specs.Words.{short_of, long_of}
 use Rattle.sw_lex.specs.Table.{Node, must, may, numbered, HeaderEntry}
-use Rattle.sw_lex.specs.Found.{IsIn, Spelling, after_word, after_numbered, after_either, after_number, spellings, IsForm, IsNumbered, Fits, IsFound}
+use Rattle.sw_base.specs.Limits.{most_arm_layers}
+use Rattle.sw_lex.specs.Found.{IsIn, Spelling, after_word, after_numbered, after_either, with_digit, after_number, after_numbers, spellings, IsForm}
+use Rattle.sw_lex.specs.Found.{HasNumber, Fits, IsFound}
 
 pub in_left : {X : Type 0} (x : X) (xs ys : List X) → IsIn x xs → IsIn x (xs ++ ys)
 in_left x [] ys h = absurd h
@@ -101,48 +104,77 @@ no_either w k rest h = elim (in_cases ([], k) (after_word (short_of w) rest) (af
       no_word (long_of w) k rest a
 ]
 
-number_in : (w : List ℕ) (n : ℕ) (digits : List ℕ) (x : List ℕ) (ws : List (List ℕ)) (m : ℕ) (rest : List Spelling) → IsNumbered w digits x → IsIn (ws, m) rest
-    → IsIn (x ∷ ws, n) (after_number w n digits rest)
-number_in w n digits x ws m rest f h =
+number_in : (w : List ℕ) (n : ℕ) (x : List ℕ) (ws : List (List ℕ)) (m : ℕ) (rest : List Spelling) → HasNumber w n x → IsIn (ws, m) rest
+    → IsIn (x ∷ ws, n) (after_number w n rest)
+number_in w n x ws m rest f h =
+    let short = after_numbered (with_digit (short_of w) n) n rest in
+    let long = after_numbered (with_digit (long_of w) n) n rest in
     elim f [
-      | inl e ↦ rw e (in_left _ (after_numbered (short_of w ++ digits) n rest) (after_numbered (long_of w ++ digits) n rest)
-          (numbered_in (short_of w ++ digits) n ws m rest h))
-      | inr e ↦ rw e (in_right _ (after_numbered (short_of w ++ digits) n rest) (after_numbered (long_of w ++ digits) n rest)
-          (numbered_in (long_of w ++ digits) n ws m rest h))
+      | inl e ↦ rw e (in_left _ short long (numbered_in (with_digit (short_of w) n) n ws m rest h))
+      | inr e ↦ rw e (in_right _ short long (numbered_in (with_digit (long_of w) n) n ws m rest h))
     ]
 
-in_number : (w : List ℕ) (n : ℕ) (digits : List ℕ) (x : List ℕ) (ws : List (List ℕ)) (k : ℕ) (rest : List Spelling)
-    → IsIn (x ∷ ws, k) (after_number w n digits rest) → IsNumbered w digits x × (k ≡ n) × ((m : ℕ) × IsIn (ws, m) rest)
-in_number w n digits x ws k rest h =
-    elim (in_cases (x ∷ ws, k) (after_numbered (short_of w ++ digits) n rest) (after_numbered (long_of w ++ digits) n rest) h) [
-      | inl a ↦ let q = in_numbered (short_of w ++ digits) n x ws k rest a in (inl q.0, q.1, q.2)
-      | inr a ↦ let q = in_numbered (long_of w ++ digits) n x ws k rest a in (inr q.0, q.1, q.2)
+in_number : (w : List ℕ) (n : ℕ) (x : List ℕ) (ws : List (List ℕ)) (k : ℕ) (rest : List Spelling) → IsIn (x ∷ ws, k) (after_number w n rest)
+    → HasNumber w n x × (k ≡ n) × ((m : ℕ) × IsIn (ws, m) rest)
+in_number w n x ws k rest h =
+    elim (in_cases (x ∷ ws, k) (after_numbered (with_digit (short_of w) n) n rest) (after_numbered (with_digit (long_of w) n) n rest) h) [
+      | inl a ↦ let q = in_numbered (with_digit (short_of w) n) n x ws k rest a in (inl q.0, q.1, q.2)
+      | inr a ↦ let q = in_numbered (with_digit (long_of w) n) n x ws k rest a in (inr q.0, q.1, q.2)
     ]
 
-no_number : (w : List ℕ) (n : ℕ) (digits : List ℕ) (k : ℕ) (rest : List Spelling) → IsIn ([], k) (after_number w n digits rest) → ⊥
-no_number w n digits k rest h = elim (in_cases ([], k) (after_numbered (short_of w ++ digits) n rest) (after_numbered (long_of w ++ digits) n rest) h) [
-  | inl a ↦
-      no_numbered _ n k rest a
-  | inr a ↦ no_numbered _ n k rest a
-]
+no_number : (w : List ℕ) (n k : ℕ) (rest : List Spelling) → IsIn ([], k) (after_number w n rest) → ⊥
+no_number w n k rest h =
+    elim (in_cases ([], k) (after_numbered (with_digit (short_of w) n) n rest) (after_numbered (with_digit (long_of w) n) n rest) h) [
+      | inl a ↦ no_numbered _ n k rest a
+      | inr a ↦ no_numbered _ n k rest a
+    ]
+
+-- each number up to n put in front
+numbers_in : (w : List ℕ) (n k : ℕ) (x : List ℕ) (ws : List (List ℕ)) (m : ℕ) (rest : List Spelling) → 1 ≤ k → k ≤ n → HasNumber w k x → IsIn (ws, m) rest
+    → IsIn (x ∷ ws, k) (after_numbers w n rest)
+numbers_in w zero k x ws m rest low high f h = absurd (omega (arith, low, high))
+numbers_in w (suc n) k x ws m rest low high f h =
+    elim (cases_Bool (k == suc n)) [
+      | inl e ↦
+          let last : HasNumber w (suc n) x = subst (λ (j : ℕ). HasNumber w j x) (eqb-true k (suc n) e) f in
+          in_right _ (after_numbers w n rest) (after_number w (suc n) rest)
+          (subst (λ (j : ℕ). IsIn (x ∷ ws, j) (after_number w (suc n) rest)) (sym (eqb-true k (suc n) e)) (number_in w (suc n) x ws m rest last h))
+      | inr e ↦
+          in_left _ (after_numbers w n rest) (after_number w (suc n) rest)
+          (numbers_in w n k x ws m rest low (omega (arith, high, eqb-false k (suc n) e)) f h)
+    ]
+
+in_numbers : (w : List ℕ) (n : ℕ) (x : List ℕ) (ws : List (List ℕ)) (k : ℕ) (rest : List Spelling) → IsIn (x ∷ ws, k) (after_numbers w n rest)
+    → (1 ≤ k) × (k ≤ n) × HasNumber w k x × ((m : ℕ) × IsIn (ws, m) rest)
+in_numbers w zero x ws k rest h = absurd h
+in_numbers w (suc n) x ws k rest h =
+    elim (in_cases (x ∷ ws, k) (after_numbers w n rest) (after_number w (suc n) rest) h) [
+      | inl a ↦ let q = in_numbers w n x ws k rest a in (q.0, omega (arith, q.1), q.2, q.3)
+      | inr a ↦
+          let q = in_number w (suc n) x ws k rest a in
+          (omega (arith, q.1), omega (arith, q.1), subst (λ (j : ℕ). HasNumber w j x) (sym q.1) q.0, q.2)
+    ]
+
+no_numbers : (w : List ℕ) (n k : ℕ) (rest : List Spelling) → IsIn ([], k) (after_numbers w n rest) → ⊥
+no_numbers w zero k rest h = h
+no_numbers w (suc n) k rest h =
+    elim (in_cases ([], k) (after_numbers w n rest) (after_number w (suc n) rest) h) [
+      | inl a ↦ no_numbers w n k rest a
+      | inr a ↦ no_number w (suc n) k rest a
+    ]
 
 -- ---- what fits is listed
 
 numbered_last : (w : List ℕ) (ss : List Node) (ws : List (List ℕ)) (k : ℕ) → IsIn (ws, k) (spellings ss) → IsIn (ws, k) (spellings (numbered w ∷ ss))
 numbered_last w ss ws k h =
-    in_right _ (after_either w (spellings ss)) _
-    (in_right _ (after_number w 1 (49 ∷ []) (spellings ss)) _ (in_right _ (after_number w 2 (50 ∷ []) (spellings ss)) (spellings ss) h))
+    in_right _ (after_either w (spellings ss)) _ (in_right _ (after_numbers w most_arm_layers (spellings ss)) (spellings ss) h)
 
 numbered_cases : (w : List ℕ) (ss : List Node) (ws : List (List ℕ)) (k : ℕ) → IsIn (ws, k) (spellings (numbered w ∷ ss))
-    → IsIn (ws, k) (after_either w (spellings ss))
-    ⊎ (IsIn (ws, k) (after_number w 1 (49 ∷ []) (spellings ss)) ⊎ (IsIn (ws, k) (after_number w 2 (50 ∷ []) (spellings ss)) ⊎ IsIn (ws, k) (spellings ss)))
+    → IsIn (ws, k) (after_either w (spellings ss)) ⊎ (IsIn (ws, k) (after_numbers w most_arm_layers (spellings ss)) ⊎ IsIn (ws, k) (spellings ss))
 numbered_cases w ss ws k h =
     elim (in_cases _ (after_either w (spellings ss)) _ h) [
       | inl a ↦ inl a
-      | inr a ↦ elim (in_cases _ (after_number w 1 (49 ∷ []) (spellings ss)) _ a) [
-        | inl b ↦ inr (inl b)
-        | inr b ↦ elim (in_cases _ (after_number w 2 (50 ∷ []) (spellings ss)) (spellings ss) b) [ inl d ↦ inr (inr (inl d)) | inr d ↦ inr (inr (inr d)) ]
-      ]
+      | inr a ↦ inr (in_cases _ (after_numbers w most_arm_layers (spellings ss)) (spellings ss) a)
     ]
 
 pub fits_listed : (ss : List Node) (ws : List (List ℕ)) (k : ℕ) → Fits ss ws k → IsIn (ws, k) (spellings ss)
@@ -160,13 +192,8 @@ fits_listed (numbered w ∷ ss) (x ∷ ws) k f =
     elim f [
       | inl a ↦ in_left _ (after_either w (spellings ss)) _ (either_in w x ws k (spellings ss) a.0 (fits_listed ss ws k a.1))
       | inr a ↦ elim a [
-        | inl b ↦ elim b.2 [
-          | inl d ↦ rw d.1 (in_right _ (after_either w (spellings ss)) _
-              (in_left _ (after_number w 1 (49 ∷ []) (spellings ss)) _ (number_in w 1 (49 ∷ []) x ws b.0 (spellings ss) d.0 (fits_listed ss ws b.0 b.1))))
-          | inr d ↦ rw d.1 (in_right _ (after_either w (spellings ss)) _
-              (in_right _ (after_number w 1 (49 ∷ []) (spellings ss)) _
-              (in_left _ (after_number w 2 (50 ∷ []) (spellings ss)) _ (number_in w 2 (50 ∷ []) x ws b.0 (spellings ss) d.0 (fits_listed ss ws b.0 b.1)))))
-        ]
+        | inl b ↦ in_right _ (after_either w (spellings ss)) _ (in_left _ (after_numbers w most_arm_layers (spellings ss)) _
+            (numbers_in w most_arm_layers k x ws b.0 (spellings ss) b.2.0 b.2.1 b.2.2 (fits_listed ss ws b.0 b.1)))
         | inr b ↦ numbered_last w ss (x ∷ ws) k (fits_listed ss (x ∷ ws) k b)
       ]
     ]
@@ -185,20 +212,16 @@ listed_fits (may w ∷ ss) (x ∷ ws) k h =
 listed_fits (numbered w ∷ ss) [] k h =
     elim (numbered_cases w ss [] k h) [
       | inl a ↦ absurd (no_either w k (spellings ss) a)
-      | inr a ↦ elim a [
-        | inl b ↦ absurd (no_number w 1 (49 ∷ []) k (spellings ss) b)
-        | inr b ↦ elim b [ inl d ↦ absurd (no_number w 2 (50 ∷ []) k (spellings ss) d) | inr d ↦ listed_fits ss [] k d ]
-      ]
+      | inr a ↦ elim a [ inl b ↦ absurd (no_numbers w most_arm_layers k (spellings ss) b) | inr b ↦ listed_fits ss [] k b ]
     ]
 listed_fits (numbered w ∷ ss) (x ∷ ws) k h =
     elim (numbered_cases w ss (x ∷ ws) k h) [
       | inl a ↦ let q = in_either w x ws k (spellings ss) a in inl (q.0, listed_fits ss ws k q.1)
       | inr a ↦ elim a [
-        | inl b ↦ let q = in_number w 1 (49 ∷ []) x ws k (spellings ss) b in inr (inl (q.2.0, listed_fits ss ws q.2.0 q.2.1, inl (q.0, q.1)))
-        | inr b ↦ elim b [
-          | inl d ↦ let q = in_number w 2 (50 ∷ []) x ws k (spellings ss) d in inr (inl (q.2.0, listed_fits ss ws q.2.0 q.2.1, inr (q.0, q.1)))
-          | inr d ↦ inr (inr (listed_fits ss (x ∷ ws) k d))
-        ]
+        | inl b ↦
+            let q = in_numbers w most_arm_layers x ws k (spellings ss) b in
+            inr (inl (q.3.0, listed_fits ss ws q.3.0 q.3.1, (q.0, q.1, q.2)))
+        | inr b ↦ inr (inr (listed_fits ss (x ∷ ws) k b))
       ]
     ]
 

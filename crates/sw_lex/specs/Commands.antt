@@ -1,5 +1,6 @@
 -- The commands of the keys, and the ranges of their numbers (SCPI-1999, volume 2; IEEE 488.2, 10).
-use Rattle.std.specs.Prelude.{ℕ, List, ◌==◌, if◌then◌else◌}
+use Rattle.std.specs.Prelude.{ℕ, List}
+use Rattle.sw_base.specs.Layers.{arm_numbered}
 use Rattle.sw_base.specs.Layout.{Channel}
 use Rattle.sw_base.specs.Limits.{most_slots, most_points, most_arm_count, most_trigger_count}
 use Rattle.sw_base.specs.declared.terms.LayerName.{LayerName}
@@ -19,12 +20,14 @@ use Rattle.sw_lex.specs.declared.table.Channels.{Channels}
 use Rattle.sw_lex.specs.declared.table.Channels.TheVariants as channel_ones
 use Rattle.sw_lex.specs.declared.table.Whole.{Whole}
 use Rattle.sw_lex.specs.declared.table.Whole.TheVariants as whole_ones
+use Rattle.sw_lex.specs.declared.table.Time.{Time}
+use Rattle.sw_lex.specs.declared.table.Time.TheVariants as times
 use Rattle.sw_lex.specs.declared.table.Family.{Family}
 use Rattle.sw_lex.specs.declared.table.Family.TheVariants as families
 
--- LAYer has a number, 1 or 2, and none means 1
+-- LAYer has the number of an ARM layer; none, which is 0 here, means 1
 abbrev pub layer_numbered : Family → ℕ → LayerName
-layer_numbered families.Arm number = if number == 2 then layers.Arm2 else layers.Arm1
+layer_numbered families.Arm number = layers.Arm (arm_numbered number)
 layer_numbered families.Trigger number = layers.Trigger
 
 abbrev pub of_common : Common → Command
@@ -66,6 +69,7 @@ abbrev pub of_layer : LayerAsk → LayerName → Command
 of_layer layer_asks.CountQuery layer = commands.CountQuery layer
 of_layer layer_asks.SourceQuery layer = commands.SourceQuery layer
 of_layer layer_asks.DelayQuery layer = commands.DelayQuery layer
+of_layer layer_asks.TimerQuery layer = commands.TimerQuery layer
 of_layer layer_asks.Signal layer = commands.Signal layer
 
 abbrev pub of_group : GroupAsk → StatusGroup → Command
@@ -113,3 +117,13 @@ greatest (whole_ones.Enable group) = 65535
 greatest (whole_ones.PositiveTransition group) = 65535
 greatest (whole_ones.NegativeTransition group) = 65535
 greatest whole_ones.Points = most_points
+
+-- a time of a layer, in microseconds
+abbrev pub of_time : Time → LayerName → ℕ → Command
+of_time times.Delay layer micros = commands.Delay layer micros
+of_time times.Timer layer micros = commands.Timer layer micros
+
+-- the least one that the layer takes
+abbrev pub least_micros : Time → ℕ
+least_micros times.Delay = 0
+least_micros times.Timer = 1

@@ -16,7 +16,7 @@ use Rattle.sw_lex.specs.declared.paths.Path.{Path}
 use Rattle.sw_lex.specs.Unit.{Heading, common, path, Datum, number, character, string, block, expression, UnitSeen}
 use Rattle.sw_lex.specs.Commands.{layer_numbered, of_common, of_instrument, of_layer, of_group, of_channels}
 use Rattle.sw_lex.specs.Values.{on_ok, ReadsQuantity, ReadsString, ReadsBlock, whole_of, continuous_of, macros_of}
-use Rattle.sw_lex.specs.Values.{delay_of, source_meant, switch_meant, unnumbered}
+use Rattle.sw_lex.specs.Values.{time_of, source_meant, switch_meant, unnumbered}
 use Rattle.sw_lex.specs.Found.{IsFound}
 use Rattle.sw_lex.specs.Table.{entries}
 
@@ -162,7 +162,7 @@ DecodesCommand (keys.Group ask group) k ds r = WithNone (of_group ask group) ds 
 DecodesCommand (keys.Channels ask) k ds r = OfList Reads (of_channels ask) ds r
 DecodesCommand keys.Scan k ds r = OfList ReadsPositions commands.Scan ds r
 DecodesCommand (keys.Whole ask) k ds r = OfNumber (whole_of ask k) ds r
-DecodesCommand (keys.Delay family) k ds r = OfNumber (delay_of (layer_numbered family k)) ds r
+DecodesCommand (keys.Time kind family) k ds r = OfNumber (time_of kind (layer_numbered family k)) ds r
 DecodesCommand (keys.Source family) k ds r = OfWord (source_meant (layer_numbered family k)) ds r
 DecodesCommand keys.Continuous k ds r = OfSwitch ds r
 DecodesCommand keys.EnableMacros k ds r = OfNumber macros_of ds r

@@ -1,6 +1,6 @@
 -- The table of headers (SCPI-1999, volume 2; IEEE 488.2, 10), each as the standard writes it: mnemonics joined by
--- colons, nodes that may be left out in brackets, and a question mark behind a query. `#` stands for a number, 1 or 2,
--- or none.
+-- colons, nodes that may be left out in brackets, and a question mark behind a query. `#` stands for the
+-- number of an ARM layer, or none.
 use Rattle.std.specs.Prelude.{ℕ, Bool, false, ◌==◌, ◌||◌, List, [], ◌∷◌, map, codes, if◌then◌else◌}
 use Rattle.sw_base.specs.declared.terms.StatusGroup.TheVariants as groups
 use Rattle.sw_lex.specs.declared.table.Key.{Key}
@@ -11,6 +11,7 @@ use Rattle.sw_lex.specs.declared.table.LayerAsk.TheVariants as layer_asks
 use Rattle.sw_lex.specs.declared.table.GroupAsk.TheVariants as group_asks
 use Rattle.sw_lex.specs.declared.table.Channels.TheVariants as lists
 use Rattle.sw_lex.specs.declared.table.Whole.TheVariants as wholes
+use Rattle.sw_lex.specs.declared.table.Time.TheVariants as times
 use Rattle.sw_lex.specs.declared.table.Family.TheVariants as families
 
 -- each header, and what it asks for
@@ -42,8 +43,10 @@ table =
     ∷ (codes "ARM[:LAYer#]:COUNt?", keys.Layer layer_asks.CountQuery families.Arm)
     ∷ (codes "ARM[:LAYer#]:SOURce", keys.Source families.Arm)
     ∷ (codes "ARM[:LAYer#]:SOURce?", keys.Layer layer_asks.SourceQuery families.Arm)
-    ∷ (codes "ARM[:LAYer#]:DELay", keys.Delay families.Arm)
+    ∷ (codes "ARM[:LAYer#]:DELay", keys.Time times.Delay families.Arm)
     ∷ (codes "ARM[:LAYer#]:DELay?", keys.Layer layer_asks.DelayQuery families.Arm)
+    ∷ (codes "ARM[:LAYer#]:TIMer", keys.Time times.Timer families.Arm)
+    ∷ (codes "ARM[:LAYer#]:TIMer?", keys.Layer layer_asks.TimerQuery families.Arm)
     ∷ (codes "ARM[:LAYer#]:SIGNal", keys.Layer layer_asks.Signal families.Arm)
     ∷ (codes "INITiate[:IMMediate]", keys.Instrument instrument.Initiate)
     ∷ (codes "INITiate:CONTinuous", keys.Continuous)
@@ -52,8 +55,10 @@ table =
     ∷ (codes "TRIGger:COUNt?", keys.Layer layer_asks.CountQuery families.Trigger)
     ∷ (codes "TRIGger:SOURce", keys.Source families.Trigger)
     ∷ (codes "TRIGger:SOURce?", keys.Layer layer_asks.SourceQuery families.Trigger)
-    ∷ (codes "TRIGger:DELay", keys.Delay families.Trigger)
+    ∷ (codes "TRIGger:DELay", keys.Time times.Delay families.Trigger)
     ∷ (codes "TRIGger:DELay?", keys.Layer layer_asks.DelayQuery families.Trigger)
+    ∷ (codes "TRIGger:TIMer", keys.Time times.Timer families.Trigger)
+    ∷ (codes "TRIGger:TIMer?", keys.Layer layer_asks.TimerQuery families.Trigger)
     ∷ (codes "TRIGger:SIGNal", keys.Layer layer_asks.Signal families.Trigger)
     ∷ (codes "TRACe:POINts", keys.Whole wholes.Points)
     ∷ (codes "TRACe:POINts?", keys.Instrument instrument.PointsQuery)

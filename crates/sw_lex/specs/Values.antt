@@ -19,10 +19,11 @@ use Rattle.sw_base.specs.declared.terms.Source.TheVariants as sources
 use Rattle.sw_lex.specs.declared.command.Command.{Command}
 use Rattle.sw_lex.specs.declared.command.Command.TheVariants as commands
 use Rattle.sw_lex.specs.declared.table.Whole.{Whole}
+use Rattle.sw_lex.specs.declared.table.Time.{Time}
 use Rattle.sw_lex.specs.Elements.{IsString, IsBlock}
 use Rattle.sw_lex.specs.Apart.{same_word}
 use Rattle.sw_lex.specs.Words.{short_of, long_of}
-use Rattle.sw_lex.specs.Commands.{of_whole, least, greatest}
+use Rattle.sw_lex.specs.Commands.{of_whole, least, greatest, of_time, least_micros}
 
 -- the answer, and from it the next one; an error stays
 abbrev pub on_ok : {A B : Type 0} → Result A ScpiError → (A → Result B ScpiError) → Result B ScpiError
@@ -75,7 +76,7 @@ macros_of n (b ∷ suffix) = Err SuffixNotAllowed
 abbrev pub is_named : List ℕ → List ℕ → Bool
 is_named word text = same_word text (short_of word) || same_word text (long_of word)
 
--- ---- delays
+-- ---- times of a layer
 
 -- a suffix names a unit of time, none seconds
 abbrev pub time_unit_of : List ℕ → Option TimeUnit
@@ -86,18 +87,20 @@ time_unit_of suffix =
     else if is_named (codes "US") suffix then Some Us
     else None
 
--- a delay is at most an hour
-abbrev pub delay_within : LayerName → Result ℕ ScpiError → Result Command ScpiError
-delay_within layer (Ok micros) = if nat_le micros longest_delay then Ok (commands.Delay layer micros)
+-- whole microseconds, from the least to an hour
+abbrev pub time_within : Time → LayerName → Result ℕ ScpiError → Result Command ScpiError
+time_within kind layer (Ok micros) =
+    if nat_le (least_micros kind) micros && nat_le micros longest_delay then Ok (of_time kind layer micros)
     else Err DataOutOfRange
-delay_within layer (Err e) = Err e
+time_within kind layer (Err e) = Err e
 
-abbrev pub delay_in : LayerName → Written → Option TimeUnit → Result Command ScpiError
-delay_in layer n None = Err InvalidSuffix
-delay_in layer n (Some unit) = delay_within layer (in_u64 (rounded n (tens_of unit)))
+-- they are rounded first
+abbrev pub time_in : Time → LayerName → Written → Option TimeUnit → Result Command ScpiError
+time_in kind layer n None = Err InvalidSuffix
+time_in kind layer n (Some unit) = time_within kind layer (in_u64 (rounded n (tens_of unit)))
 
-abbrev pub delay_of : LayerName → Written → List ℕ → Result Command ScpiError
-delay_of layer n suffix = delay_in layer n (time_unit_of (map to_ascii_uppercase suffix))
+abbrev pub time_of : Time → LayerName → Written → List ℕ → Result Command ScpiError
+time_of kind layer n suffix = time_in kind layer n (time_unit_of (map to_ascii_uppercase suffix))
 
 -- ---- strings and blocks
 
@@ -123,6 +126,7 @@ source_of text =
     else if is_named (codes "BUS") text then Some sources.Bus
     else if is_named (codes "EXTernal") text then Some sources.External
     else if is_named (codes "HOLD") text then Some sources.Hold
+    else if is_named (codes "TIMer") text then Some sources.Timer
     else None
 
 abbrev pub switch_of : List ℕ → Option Bool

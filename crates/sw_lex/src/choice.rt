@@ -2,25 +2,20 @@
 
 ghost use Rattle.std.specs.Prelude.{◌≡◌, ◌≤◌};
 ghost use Rattle.sw_lex.specs.Commands.{layer_numbered, of_common, of_instrument, of_layer, of_group, of_channels};
-ghost use Rattle.sw_lex.specs.Commands.{of_whole};
-ghost use Rattle.sw_lex.specs.Commands.{least, greatest};
+ghost use Rattle.sw_lex.specs.Commands.{of_whole, least, greatest, of_time, least_micros};
 
 use crate::command::Command;
-use crate::table::{Channels, Common, Family, GroupAsk, Instrument, LayerAsk, Whole};
-use sw_base::{ARM_COUNT, Chan, LayerName, POINTS, SLOTS, Sequence, StatusGroup, TRIGGER_COUNT};
+use crate::table::{Channels, Common, Family, GroupAsk, Instrument, LayerAsk, Time, Whole};
+use sw_base::{
+    ARM_COUNT, ArmLayer, Chan, LayerName, POINTS, SLOTS, Sequence, StatusGroup, TRIGGER_COUNT,
+};
 
 /// The layer of a header with this number, 0 where it has none.
 pub fn layer_of(family: Family, number: u8) -> LayerName
     ensures { result ≡ layer_numbered family number }
 {
     match family {
-        Family::Arm => {
-            if number == 2 {
-                LayerName::Arm2
-            } else {
-                LayerName::Arm1
-            }
-        }
+        Family::Arm => LayerName::Arm(ArmLayer::numbered(number)),
         Family::Trigger => LayerName::Trigger,
     }
 }
@@ -77,6 +72,7 @@ pub fn of_layer(ask: LayerAsk, layer: LayerName) -> Command
         LayerAsk::CountQuery => Command::CountQuery(layer),
         LayerAsk::SourceQuery => Command::SourceQuery(layer),
         LayerAsk::DelayQuery => Command::DelayQuery(layer),
+        LayerAsk::TimerQuery => Command::TimerQuery(layer),
         LayerAsk::Signal => Command::Signal(layer),
     }
 }
@@ -142,5 +138,25 @@ pub fn greatest(ask: Whole) -> u32
         Whole::ScanMeter => u32::from(SLOTS),
         Whole::Enable(_) | Whole::PositiveTransition(_) | Whole::NegativeTransition(_) => 65_535,
         Whole::Points => POINTS,
+    }
+}
+
+/// The command that sets this time of a layer to so many microseconds.
+pub fn of_time(time: Time, layer: LayerName, micros: u64) -> Command
+    ensures { result ≡ of_time time layer micros }
+{
+    match time {
+        Time::Delay => Command::Delay(layer, micros),
+        Time::Timer => Command::Timer(layer, micros),
+    }
+}
+
+/// The least microseconds that this time of a layer has.
+pub fn least_micros(time: Time) -> u64
+    ensures { result ≡ least_micros time }
+{
+    match time {
+        Time::Delay => 0,
+        Time::Timer => 1,
     }
 }

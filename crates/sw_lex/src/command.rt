@@ -71,6 +71,10 @@ pub enum Command {
     Delay(LayerName, u64),
     /// `ARM[:LAYer]:DELay?`, `TRIGger:DELay?`
     DelayQuery(LayerName),
+    /// `ARM[:LAYer]:TIMer`, `TRIGger:TIMer`: whole microseconds, 1 to 3,600,000,000.
+    Timer(LayerName, u64),
+    /// `ARM[:LAYer]:TIMer?`, `TRIGger:TIMer?`
+    TimerQuery(LayerName),
     /// `ARM[:LAYer]:SIGNal`, `TRIGger:SIGNal`
     Signal(LayerName),
     /// `ROUTe:CLOSe`: these channels, in this order.
@@ -89,7 +93,7 @@ pub enum Command {
     Scan(Sequence<Position>),
     /// `ROUTe:SCAN?`
     ScanQuery,
-    /// `ROUTe:SCAN:METer`: a slot, 1 to 8.
+    /// `ROUTe:SCAN:METer`: a slot, 1 to `SLOTS`.
     ScanMeter(u8),
     /// `ROUTe:SCAN:METer?`
     ScanMeterQuery,

@@ -13,6 +13,7 @@ ghost use Rattle.sw_lex.specs.declared.table.Key.{Key};
 use crate::common_rows::common_at;
 use crate::rows::{Group, NONE, Part, Row, Step, path_at};
 use crate::table::Key;
+use sw_base::ARM_LAYERS;
 
 /// How far a small letter is from its capital.
 const LETTER_CASE: u8 = 32;
@@ -69,13 +70,20 @@ fn may_be_form(word: &[u8], form: &[u8]) -> bool
     }
 }
 
-/// Whether a word is one of the two forms and then the digit.
-fn is_numbered(word: &[u8], form: &[u8], digit: u8) -> bool
-    ensures { IsTrue result ↔ IsNumbered form.now (digit ∷ []) (map to_ascii_uppercase word.now) }
+/// The number of an ARM layer that a word has behind one of the two forms.
+fn number_behind(word: &[u8], form: &[u8]) -> Option<u8>
+    ensures some { IfSome result (λ n. IsNumbered form.now n (map to_ascii_uppercase word.now)) }
+    ensures none { IfNone result ((n : ℕ) → IsNumbered form.now n (map to_ascii_uppercase word.now) → ⊥) }
 {
     match word {
-        [front @ .., last] => last.to_ascii_uppercase() == digit && is_form(front, form),
-        [] => false,
+        [front @ .., last] => {
+            if *last > b'0' && *last <= b'0' + ARM_LAYERS && is_form(front, form) {
+                Some(*last - b'0')
+            } else {
+                None
+            }
+        }
+        [] => None,
     }
 }
 
@@ -115,11 +123,8 @@ fn spelled(steps: &[Step], words: &[&[u8]]) -> Option<u8>
                         if is_form(word, form) {
                             return Some(number);
                         }
-                        if is_numbered(word, form, b'1') {
-                            return Some(1);
-                        }
-                        if is_numbered(word, form, b'2') {
-                            return Some(2);
+                        if let Some(number) = number_behind(word, form) {
+                            return Some(number);
                         }
                     }
                     spelled(others, words)

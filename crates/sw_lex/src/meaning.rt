@@ -13,7 +13,7 @@ ghost use Rattle.sw_lex.specs.Meaning.{OfMacro, WithNumber, OfNumber, OfWord, Of
 ghost use Rattle.sw_lex.specs.Meaning.{Resolves};
 ghost use Rattle.sw_lex.specs.Found.{IsIn, spellings};
 ghost use Rattle.sw_lex.specs.Table.{HeaderEntry, entries};
-ghost use Rattle.sw_lex.specs.Values.{on_ok, ReadsQuantity, ReadsString, whole_of, continuous_of, macros_of, delay_of};
+ghost use Rattle.sw_lex.specs.Values.{on_ok, ReadsQuantity, ReadsString, whole_of, continuous_of, macros_of, time_of};
 ghost use Rattle.sw_lex.specs.Values.{source_meant};
 
 use crate::choice::{layer_of, of_channels, of_common, of_group, of_instrument, of_layer};
@@ -21,10 +21,10 @@ use crate::command::Command;
 use crate::headers::find;
 use crate::owned::{body, content};
 use crate::paths::{Path, look_up, unnumbered_all};
-use crate::table::{Key, Whole};
+use crate::table::{Key, Time, Whole};
 use crate::unit::{Element, Header, RawUnit};
 use crate::values::{
-    continuous_of, delay_of, macros_of, quantity, source_meant, switch_meant, whole_of,
+    continuous_of, macros_of, quantity, source_meant, switch_meant, time_of, whole_of,
 };
 use std::alloc::Global;
 use sw_base::{Chan, LayerName, Nrf, ScpiError, Sequence};
@@ -99,14 +99,14 @@ fn of_whole(ask: Whole, number: u8, elements: &[Element<'_>]) -> Result<Command,
     }
 }
 
-/// A layer's delay.
+/// A time of a layer.
 #[inline(never)]
-fn of_delay(layer: LayerName, elements: &[Element<'_>]) -> Result<Command, ScpiError>
-    ensures { OfNumber (delay_of layer) (data_of elements.now) result }
+fn of_time(time: Time, layer: LayerName, elements: &[Element<'_>]) -> Result<Command, ScpiError>
+    ensures { OfNumber (time_of time layer) (data_of elements.now) result }
 {
     match one_number(elements) {
         Err(e) => Err(e),
-        Ok((n, suffix)) => delay_of(layer, &n, suffix),
+        Ok((n, suffix)) => time_of(time, layer, &n, suffix),
     }
 }
 
@@ -240,7 +240,7 @@ fn decode(
         Key::Channels(ask) => Ok(of_channels(ask, one_list(alloc, elements)?)),
         Key::Scan => Ok(Command::Scan(one_position_list(alloc, elements)?)),
         Key::Whole(ask) => of_whole(ask, number, elements),
-        Key::Delay(family) => of_delay(layer_of(family, number), elements),
+        Key::Time(time, family) => of_time(time, layer_of(family, number), elements),
         Key::Source(family) => of_source(layer_of(family, number), elements),
         Key::Continuous => of_switch(elements),
         Key::EnableMacros => of_macros(elements),

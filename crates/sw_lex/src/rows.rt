@@ -9,7 +9,7 @@ ghost use Rattle.sw_lex.specs.Parts.{IsPart};
 use crate::rows::Row::{Command, Query};
 use crate::rows::Step::{May, Must, Numbered};
 use crate::table::Family::{Arm, Trigger};
-use crate::table::{Channels, GroupAsk, Instrument, Key, LayerAsk, Whole};
+use crate::table::{Channels, GroupAsk, Instrument, Key, LayerAsk, Time, Whole};
 use sw_base::StatusGroup::{Operation, Questionable};
 
 /// A node of a header, with its mnemonic as the standard writes it: its short form in capitals, and what the long form
@@ -20,7 +20,7 @@ pub enum Step {
     Must(&'static [u8]),
     /// It may be left out.
     May(&'static [u8]),
-    /// It may be left out, and may have a number, 1 or 2.
+    /// It may be left out, and may have the number of an ARM layer.
     Numbered(&'static [u8]),
 }
 
@@ -87,7 +87,14 @@ static PATHS_A: Part = Part {
                     Key::Whole(Whole::Count(Arm)),
                 ),
                 Command(&[Numbered(b"LAYer"), Must(b"SOURce")], Key::Source(Arm)),
-                Command(&[Numbered(b"LAYer"), Must(b"DELay")], Key::Delay(Arm)),
+                Command(
+                    &[Numbered(b"LAYer"), Must(b"DELay")],
+                    Key::Time(Time::Delay, Arm),
+                ),
+                Command(
+                    &[Numbered(b"LAYer"), Must(b"TIMer")],
+                    Key::Time(Time::Timer, Arm),
+                ),
                 Command(
                     &[Numbered(b"LAYer"), Must(b"SIGNal")],
                     Key::Layer(LayerAsk::Signal, Arm),
@@ -109,6 +116,10 @@ static PATHS_A: Part = Part {
             Query(
                 &[Numbered(b"LAYer"), Must(b"DELay")],
                 Key::Layer(LayerAsk::DelayQuery, Arm),
+            ),
+            Query(
+                &[Numbered(b"LAYer"), Must(b"TIMer")],
+                Key::Layer(LayerAsk::TimerQuery, Arm),
             ),
         ],
     }],
@@ -138,7 +149,8 @@ static PATHS_T: Part = Part {
             rows: &[
                 Command(&[Must(b"COUNt")], Key::Whole(Whole::Count(Trigger))),
                 Command(&[Must(b"SOURce")], Key::Source(Trigger)),
-                Command(&[Must(b"DELay")], Key::Delay(Trigger)),
+                Command(&[Must(b"DELay")], Key::Time(Time::Delay, Trigger)),
+                Command(&[Must(b"TIMer")], Key::Time(Time::Timer, Trigger)),
                 Command(&[Must(b"SIGNal")], Key::Layer(LayerAsk::Signal, Trigger)),
             ],
         },
@@ -157,6 +169,7 @@ static PATHS_T: Part = Part {
                     Key::Layer(LayerAsk::SourceQuery, Trigger),
                 ),
                 Query(&[Must(b"DELay")], Key::Layer(LayerAsk::DelayQuery, Trigger)),
+                Query(&[Must(b"TIMer")], Key::Layer(LayerAsk::TimerQuery, Trigger)),
             ],
         },
         Group {

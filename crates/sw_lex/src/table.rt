@@ -19,8 +19,8 @@ pub enum Key {
     Scan,
     /// A command with a whole number.
     Whole(Whole),
-    /// A layer's delay.
-    Delay(Family),
+    /// A layer's delay, or its timer.
+    Time(Time, Family),
     /// A layer's source.
     Source(Family),
     /// `INITiate:CONTinuous`
@@ -82,6 +82,7 @@ pub enum LayerAsk {
     CountQuery,
     SourceQuery,
     DelayQuery,
+    TimerQuery,
     Signal,
 }
 
@@ -117,7 +118,14 @@ pub enum Whole {
     Points,
 }
 
-/// The nodes below which trigger layers stand: ARM has two, by the number in the header, and TRIGger is one.
+/// The times of a trigger layer.
+#[derive(Clone, Copy, Debug, PartialEq, Eq)]
+pub enum Time {
+    Delay,
+    Timer,
+}
+
+/// The nodes below which trigger layers stand: ARM has several, by the number in the header, and TRIGger is one.
 #[derive(Clone, Copy, Debug, PartialEq, Eq)]
 pub enum Family {
     Arm,

@@ -6,13 +6,13 @@ ghost use Rattle.std.specs.Result.{result_map_both};
 ghost use Rattle.sw_base.specs.Text.{is_blank, is_letter, AllPass, Spans};
 ghost use Rattle.sw_base.specs.Number.{Written, rounded};
 ghost use Rattle.sw_lex.specs.Values.{IsQuantity, ReadsQuantity, natural_in, whole_of, continuous_of, macros_of};
-ghost use Rattle.sw_lex.specs.Values.{time_unit_of, delay_of, delay_in, source_of, switch_of, source_meant};
+ghost use Rattle.sw_lex.specs.Values.{time_unit_of, time_of, source_of, switch_of, source_meant};
 ghost use Rattle.sw_lex.specs.Values.{switch_meant, all_digits, unnumbered};
 
-use crate::choice::{greatest, least, of_whole};
+use crate::choice::{greatest, least, least_micros, of_time, of_whole};
 use crate::command::Command;
 use crate::headers::is_form;
-use crate::table::Whole;
+use crate::table::{Time, Whole};
 use sw_base::{
     LONGEST_DELAY, LayerName, Nrf, ScpiError, Source, Unit, blanks, digits, letters, read_exponent,
     read_mantissa,
@@ -116,17 +116,22 @@ fn unit_of(suffix: &[u8]) -> Option<Unit>
     }
 }
 
-/// A layer's delay of this number and suffix.
-pub fn delay_of(layer: LayerName, n: &Nrf<'_>, suffix: &[u8]) -> Result<Command, ScpiError>
-    ensures { result ≡ delay_of layer n.now suffix.now }
+/// A time of a layer, of this number and suffix.
+pub fn time_of(
+    time: Time,
+    layer: LayerName,
+    n: &Nrf<'_>,
+    suffix: &[u8],
+) -> Result<Command, ScpiError>
+    ensures { result ≡ time_of time layer n.now suffix.now }
 {
     match unit_of(suffix) {
         None => Err(ScpiError::InvalidSuffix),
         Some(unit) => match n.micros(unit) {
             Err(e) => Err(e),
             Ok(micros) => {
-                if micros <= LONGEST_DELAY {
-                    Ok(Command::Delay(layer, micros))
+                if micros >= least_micros(time) && micros <= LONGEST_DELAY {
+                    Ok(of_time(time, layer, micros))
                 } else {
                     Err(ScpiError::DataOutOfRange)
                 }
@@ -146,6 +151,8 @@ fn source_of(text: &[u8]) -> Option<Source>
         Some(Source::External)
     } else if is_form(text, b"HOLD") {
         Some(Source::Hold)
+    } else if is_form(text, b"TIMer") {
+        Some(Source::Timer)
     } else {
         None
     }

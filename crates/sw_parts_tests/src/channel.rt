@@ -38,16 +38,22 @@ fn reads_lists(rt: HostRuntime) {
     assert!(rt; reads(rt.alloc(), b"(@1!5:1!3)", &range));
     let spaced = [Chan::new(8, 99), Chan::new(1, 1), Chan::new(1, 2)];
     assert!(rt; reads(rt.alloc(), b"(@ 8 ! 099 , 000000101:1!2 )", &spaced));
+    let high = [Chan::new(9, 1), Chan::new(16, 1), Chan::new(16, 99)];
+    assert!(rt; reads(rt.alloc(), b"(@901,1601,16!99)", &high));
 }
 
 #[test]
 fn refuses_other_texts(rt: HostRuntime) {
     let cases = [
         (b"(@)".as_slice(), ScpiError::InvalidExpression),
-        (b"(@9!1,1!1&1!2)".as_slice(), ScpiError::InvalidExpression),
+        (b"(@17!1,1!1&1!2)".as_slice(), ScpiError::InvalidExpression),
         (b"(@1!1,)".as_slice(), ScpiError::InvalidExpression),
         (b"( @1!1)".as_slice(), ScpiError::InvalidExpression),
-        (b"(@9!1)".as_slice(), ScpiError::DataOutOfRange),
+        (b"(@17!1)".as_slice(), ScpiError::DataOutOfRange),
+        (b"(@1701)".as_slice(), ScpiError::DataOutOfRange),
+        (b"(@1600)".as_slice(), ScpiError::DataOutOfRange),
+        (b"(@16!100)".as_slice(), ScpiError::DataOutOfRange),
+        (b"(@15!99:16!1)".as_slice(), ScpiError::DataOutOfRange),
         (b"(@1!0)".as_slice(), ScpiError::DataOutOfRange),
         (b"(@1!1:2!2)".as_slice(), ScpiError::DataOutOfRange),
         (b"(@0000000101)".as_slice(), ScpiError::DataOutOfRange),
@@ -73,6 +79,8 @@ fn holds_512_entries(rt: HostRuntime) -> Result<(), Fail> {
 fn prints_lists(rt: HostRuntime) -> Result<(), Fail> {
     let list = [Chan::new(1, 5), Chan::new(1, 4), Chan::new(8, 99)];
     assert!(rt; prints(rt.alloc(), &list, b"(@1!5,1!4,8!99)")?);
+    let high = [Chan::new(9, 99), Chan::new(10, 1), Chan::new(16, 10)];
+    assert!(rt; prints(rt.alloc(), &high, b"(@9!99,10!1,16!10)")?);
     assert!(rt; prints(rt.alloc(), &[], b"(@)")?);
     one_reading();
     Ok(())
@@ -97,6 +105,7 @@ fn refuses_positions(alloc: Global, text: &[u8], error: ScpiError) -> bool {
 fn reads_positions_as_they_are_written(rt: HostRuntime) -> Result<(), Fail> {
     let alloc = rt.alloc();
     assert!(rt; reads_positions(alloc, b"(@1!1&2!1,2!3:2!2)", b"(@1!1&2!1,2!3,2!2)")?);
+    assert!(rt; reads_positions(alloc, b"(@1699&901,1602:1601)", b"(@16!99&9!1,16!2,16!1)")?);
     assert!(rt;
         reads_positions(
             alloc,
@@ -145,7 +154,7 @@ fn refuses_other_texts_of_positions(rt: HostRuntime) {
         (b"(@1!1&1!1)".as_slice(), ScpiError::DataOutOfRange),
         (b"(@1!1&101)".as_slice(), ScpiError::DataOutOfRange),
         (b"(@2!1&1!1&01!1)".as_slice(), ScpiError::DataOutOfRange),
-        (b"(@1!1&9!1)".as_slice(), ScpiError::DataOutOfRange),
+        (b"(@1!1&17!1)".as_slice(), ScpiError::DataOutOfRange),
         (b"(@1!1&1!2&1!3&1!4&1!5)".as_slice(), ScpiError::TooMuchData),
         (
             b"(@1!1&1!2&1!3&1!4&1!2)".as_slice(),
@@ -156,7 +165,7 @@ fn refuses_other_texts_of_positions(rt: HostRuntime) {
             ScpiError::DataOutOfRange,
         ),
         (
-            b"(@1!1&1!2&1!3&1!4&1!5,9!1)".as_slice(),
+            b"(@1!1&1!2&1!3&1!4&1!5,17!1)".as_slice(),
             ScpiError::TooMuchData,
         ),
     ];
@@ -180,7 +189,7 @@ fn holds_512_positions(rt: HostRuntime) -> Result<(), Fail> {
     assert_eq!(rt; full.len(), 512);
     let cases = [
         (b",1!1)".as_slice(), ScpiError::TooMuchData),
-        (b",9!1)".as_slice(), ScpiError::DataOutOfRange),
+        (b",17!1)".as_slice(), ScpiError::DataOutOfRange),
         (b",1!1&1!1)".as_slice(), ScpiError::TooMuchData),
         (b",1!1:1!2)".as_slice(), ScpiError::TooMuchData),
         (b",1!1:2!2)".as_slice(), ScpiError::DataOutOfRange),

@@ -63,9 +63,13 @@ fn a_listing_cut_anywhere_is_refused_by_its_line(rt: HostRuntime) {
         b"scan 1\nmeter 4\nset 0 2\nset 1 100000\nwait arm1\nwait arm2\nwait trig\npause 3600000000\n\
 close 1!1\nread\nopen 1!1\nloop 1 2\nloop 0 1\nhalt\n";
     let zeros = b"scan 1\nmeter 00000000000000000004\nclose 01!0099\nloop 0 00008191\n";
+    let newer =
+        b"scan 2\nmeter 16\nset 2 1\nset 3 100000\nwait arm3\ntimer arm1 1\ntimer trig 3600000000\n\
+close 16!99&9!1\nread\nopen 9!1&16!99\nloop 3 2\nloop 2 1\nhalt\n";
     assert!(rt;
         holds(rt.alloc(), whole, u32::MAX, ListFault::BadStep)
             && holds(rt.alloc(), zeros, u32::MAX, ListFault::BadStep)
+            && holds(rt.alloc(), newer, u32::MAX, ListFault::BadStep)
     );
 }
 
@@ -74,7 +78,8 @@ fn wrong_first_lines_are_refused_wherever_they_are_cut(rt: HostRuntime) {
     let step = ListFault::BadStep;
     let number = ListFault::BadNumber;
     assert!(rt;
-        holds(rt.alloc(), b"scan 2\nmeter 4\nhalt\n", 1, step)
+        holds(rt.alloc(), b"scan 3\nmeter 4\nhalt\n", 1, step)
+            && holds(rt.alloc(), b"scan 02\nmeter 4\nhalt\n", 1, step)
             && holds(rt.alloc(), b"SCAN 1\nmeter 4\nhalt\n", 1, step)
             && holds(rt.alloc(), b"scan 1 \nmeter 4\nhalt\n", 1, step)
             && holds(rt.alloc(), b"scan 1\r\nmeter 4\r\nhalt\r\n", 1, step)
@@ -85,6 +90,7 @@ fn wrong_first_lines_are_refused_wherever_they_are_cut(rt: HostRuntime) {
             && holds(rt.alloc(), b"scan 1\nmeter 4 4\nhalt\n", 2, step)
             && holds(rt.alloc(), b"scan 1\nmeter 0\nhalt\n", 2, number)
             && holds(rt.alloc(), b"scan 1\nmeter 9\nhalt\n", 2, number)
+            && holds(rt.alloc(), b"scan 2\nmeter 17\nhalt\n", 2, number)
             && holds(rt.alloc(), b"scan 1\nmeter x\nhalt\n", 2, number)
             && holds(
                 rt.alloc(),
@@ -97,7 +103,7 @@ fn wrong_first_lines_are_refused_wherever_they_are_cut(rt: HostRuntime) {
 
 #[test]
 fn lines_that_are_no_steps_are_refused_wherever_they_are_cut(rt: HostRuntime) {
-    let texts: [&[u8]; 16] = [
+    let texts: [&[u8]; 20] = [
         b"scan 1\nmeter 4\n\nhalt\n",
         b"scan 1\nmeter 4\nclos 1!1\nhalt\n",
         b"scan 1\nmeter 4\nClose 1!1\nhalt\n",
@@ -109,6 +115,10 @@ fn lines_that_are_no_steps_are_refused_wherever_they_are_cut(rt: HostRuntime) {
         b"scan 1\nmeter 4\nread \nhalt\n",
         b"scan 1\nmeter 4\nhalt\r\n",
         b"scan 1\nmeter 4\nwait arm3\nhalt\n",
+        b"scan 1\nmeter 4\ntimer arm1 1\nhalt\n",
+        b"scan 2\nmeter 4\nwait arm4\nhalt\n",
+        b"scan 2\nmeter 4\ntimer arm4 1\nhalt\n",
+        b"scan 2\nmeter 4\ntimer arm1\nhalt\n",
         b"scan 1\nmeter 4\nwait\nhalt\n",
         b"scan 1\nmeter 4\nset 9\nhalt\n",
         b"scan 1\nmeter 4\nset 9 9 9\nhalt\n",
@@ -120,8 +130,9 @@ fn lines_that_are_no_steps_are_refused_wherever_they_are_cut(rt: HostRuntime) {
 
 #[test]
 fn numbers_out_of_range_are_refused_wherever_they_are_cut(rt: HostRuntime) {
-    let texts: [&[u8]; 20] = [
+    let texts: [&[u8]; 25] = [
         b"scan 1\nmeter 4\nset 3 1\nhalt\n",
+        b"scan 2\nmeter 4\nset 4 1\nhalt\n",
         b"scan 1\nmeter 4\nset 0 0\nhalt\n",
         b"scan 1\nmeter 4\nset 0 100001\nhalt\n",
         b"scan 1\nmeter 4\nset 0 18446744073709551616\nhalt\n",
@@ -140,6 +151,10 @@ fn numbers_out_of_range_are_refused_wherever_they_are_cut(rt: HostRuntime) {
         b"scan 1\nmeter 4\nclose 101\nhalt\n",
         b"scan 1\nmeter 4\nopen 1!1\r\nhalt\n",
         b"scan 1\nmeter 4\nloop 3 0\nhalt\n",
+        b"scan 2\nmeter 4\nloop 4 0\nhalt\n",
+        b"scan 2\nmeter 4\nclose 17!1\nhalt\n",
+        b"scan 2\nmeter 4\ntimer arm1 0\nhalt\n",
+        b"scan 2\nmeter 4\ntimer arm3 3600000001\nhalt\n",
         b"scan 1\nmeter 4\nloop 0 8192\nhalt\n",
     ];
     assert!(rt; refuses_each(rt.alloc(), &texts, ListFault::BadNumber));

@@ -86,7 +86,7 @@ fn lists_are_right_or_lack_memory(rt: HostRuntime) {
     for _ in 0..2u8 {
         assert!(rt;
             reads_list(rt.alloc(), LIST, &range)
-                && refuses_list(rt.alloc(), b"(@1!1,9!1)", ScpiError::DataOutOfRange)
+                && refuses_list(rt.alloc(), b"(@1!1,17!1)", ScpiError::DataOutOfRange)
                 && refuses_list(rt.alloc(), b"(@1!1,)", ScpiError::InvalidExpression)
                 && prints_list(rt.alloc(), &range, b"(@1!5,1!4,1!3,8!99)")
         );
@@ -185,8 +185,8 @@ fn macros_are_right_or_lack_memory(rt: HostRuntime) {
 
 /// Three passes round a list of two channels.
 const EXAMPLE: &[u8] =
-    b"scan 1\nmeter 4\nset 0 1\nset 1 1\nset 2 1\nclose 1!1\nread\nopen 1!1\nclose 1!2\nread\nopen 1!2\n\
-loop 2 3\nclose 1!1\nread\nopen 1!1\nloop 1 2\nloop 0 1\nhalt\n";
+    b"scan 2\nmeter 4\nset 0 1\nset 1 1\nset 2 1\nset 3 1\nclose 1!1\nread\nopen 1!1\nclose 1!2\nread\n\
+open 1!2\nloop 3 4\nclose 1!1\nread\nopen 1!1\nloop 2 3\nloop 1 2\nloop 0 1\nhalt\n";
 
 /// Settings of that, if there is memory.
 fn example(alloc: Global) -> Option<Settings> {

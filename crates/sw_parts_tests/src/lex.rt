@@ -15,7 +15,7 @@ fn read_at(alloc: Global, text: &[u8], path: Path) -> Result<Command, ScpiError>
 }
 
 /// What the first unit of a message gives.
-fn first(alloc: Global, message: &[u8]) -> Result<Command, ScpiError> {
+pub fn first(alloc: Global, message: &[u8]) -> Result<Command, ScpiError> {
     read_at(alloc, message, Path::root())
 }
 
@@ -85,7 +85,7 @@ fn is_refused(read: &Result<Command, ScpiError>, error: ScpiError) -> bool {
 }
 
 /// Whether the first unit of a message is refused by this error.
-fn refuses_first(alloc: Global, message: &[u8], error: ScpiError) -> bool {
+pub fn refuses_first(alloc: Global, message: &[u8], error: ScpiError) -> bool {
     let read = first(alloc, message);
     let is_so = is_refused(&read, error);
     drop(read);
@@ -105,6 +105,7 @@ fn reads_commands(rt: HostRuntime) {
     let alloc = rt.alloc();
     let list = [Chan::new(2, 3), Chan::new(2, 1), Chan::new(2, 2)];
     assert!(rt; reads_first(alloc, b"rout:close (@2!3,2!1,202)", "close", &list));
+    assert!(rt; reads_first(alloc, b"ROUT:CLOS (@1601)", "close", &[Chan::new(16, 1)]));
     assert!(rt; reads_first(alloc, b":ROUTE:CLOSE:STATE?", "state?", &[]));
     assert!(rt; reads_second(alloc, b"FOO;*IDN?", "identify", &[]));
 }
@@ -164,6 +165,7 @@ fn numbers(command: &Command) -> (u64, u8) {
         Command::Count(layer, n) => (u64::from(*n), layer_number(*layer)),
         Command::Delay(layer, n) => (*n, layer_number(*layer)),
         Command::SetSource(layer, Source::External) => (77, layer_number(*layer)),
+        Command::SetSource(layer, Source::Timer) => (78, layer_number(*layer)),
         Command::Points(n) => (u64::from(*n), 0),
         Command::GroupEnable(StatusGroup::Operation, n) => (u64::from(*n), 1),
         Command::NegativeTransition(StatusGroup::Questionable, n) => (u64::from(*n), 2),
@@ -173,11 +175,11 @@ fn numbers(command: &Command) -> (u64, u8) {
     }
 }
 
-fn layer_number(layer: LayerName) -> u8 {
+/// The number of an ARM layer, and 9 for TRIGger.
+pub fn layer_number(layer: LayerName) -> u8 {
     match layer {
-        LayerName::Arm1 => 1,
-        LayerName::Arm2 => 2,
-        LayerName::Trigger => 3,
+        LayerName::Arm(arm) => arm.number(),
+        LayerName::Trigger => 9,
     }
 }
 
@@ -218,14 +220,19 @@ fn reads_numbers(rt: HostRuntime) {
         (b"*ESE 1 E +1".as_slice(), (10, 0)),
         (b"ARM:COUNT 1000".as_slice(), (1000, 1)),
         (b"arm:layer2:coun 7".as_slice(), (7, 2)),
+        (b"ARM:LAY3:COUN 1000".as_slice(), (1000, 3)),
         (b"ARM:LAY1:SIGN".as_slice(), (0, 1)),
-        (b"TRIGGER:COUNT?".as_slice(), (0, 3)),
-        (b"TRIG:DEL 1.0000005".as_slice(), (1_000_001, 3)),
-        (b"TRIG:DEL 500 MS".as_slice(), (500_000, 3)),
+        (b"arm:layer3:sign".as_slice(), (0, 3)),
+        (b"TRIGGER:COUNT?".as_slice(), (0, 9)),
+        (b"TRIG:DEL 0".as_slice(), (0, 9)),
+        (b"TRIG:DEL 1.0000005".as_slice(), (1_000_001, 9)),
+        (b"TRIG:DEL 500 MS".as_slice(), (500_000, 9)),
         (b"ARM:LAY2:DEL 3us".as_slice(), (3, 2)),
-        (b"TRIG:SOUR ext".as_slice(), (77, 3)),
+        (b"TRIG:SOUR ext".as_slice(), (77, 9)),
+        (b"TRIG:SOUR TIM".as_slice(), (78, 9)),
+        (b"ARM:LAYER3:SOURCE timer".as_slice(), (78, 3)),
         (b"TRAC:POIN 1e5".as_slice(), (100_000, 0)),
-        (b"ROUT:SCAN:MET 8".as_slice(), (8, 0)),
+        (b"ROUT:SCAN:MET 16".as_slice(), (16, 0)),
         (b"STAT:OPER:ENAB 65535".as_slice(), (65_535, 1)),
         (b"STATUS:QUESTIONABLE:NTRANSITION 2".as_slice(), (2, 2)),
         (b"INIT:CONT OFF".as_slice(), (0, 0)),
@@ -347,14 +354,18 @@ fn refuses_commands(rt: HostRuntime) {
             ScpiError::HeaderSuffixOutOfRange,
         ),
         (
-            b"ARM:LAY3:COUN 1".as_slice(),
+            b"ARM:LAY4:COUN 2".as_slice(),
+            ScpiError::HeaderSuffixOutOfRange,
+        ),
+        (
+            b"ARM:LAY03:COUN?".as_slice(),
             ScpiError::HeaderSuffixOutOfRange,
         ),
         (
             b"ARM:LAYER01:COUN".as_slice(),
             ScpiError::HeaderSuffixOutOfRange,
         ),
-        (b"ARM:LAY3:COUNTS 1".as_slice(), ScpiError::UndefinedHeader),
+        (b"ARM:LAY4:COUNTS 1".as_slice(), ScpiError::UndefinedHeader),
         (b"ROUT2:OPEN:ALL".as_slice(), ScpiError::UndefinedHeader),
         (b"ROUT:CLOS".as_slice(), ScpiError::MissingParameter),
         (
@@ -363,6 +374,10 @@ fn refuses_commands(rt: HostRuntime) {
         ),
         (b"*IDN? (@1!1)".as_slice(), ScpiError::ParameterNotAllowed),
         (b"ROUT:CLOS (@1!0)".as_slice(), ScpiError::DataOutOfRange),
+        (b"ROUT:CLOS (@17!1)".as_slice(), ScpiError::DataOutOfRange),
+        (b"ROUT:CLOS (@1600)".as_slice(), ScpiError::DataOutOfRange),
+        (b"ROUT:SCAN:MET 0".as_slice(), ScpiError::DataOutOfRange),
+        (b"ROUT:SCAN:MET 17".as_slice(), ScpiError::DataOutOfRange),
         (b"*ESE".as_slice(), ScpiError::MissingParameter),
         (b"*ESE ON,1".as_slice(), ScpiError::ParameterNotAllowed),
         (b"*ESE ON".as_slice(), ScpiError::DataTypeError),

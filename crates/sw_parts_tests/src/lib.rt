@@ -21,7 +21,11 @@ mod hostile_memory;
 #[cfg(test)]
 mod kinds;
 #[cfg(test)]
+mod layered;
+#[cfg(test)]
 mod lex;
+#[cfg(test)]
+mod lex_timers;
 #[cfg(test)]
 mod macros;
 #[cfg(test)]

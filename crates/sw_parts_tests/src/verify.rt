@@ -4,7 +4,7 @@ use crate::positions::one_each;
 use std::alloc::Global;
 use std::process::Abort;
 use std::test::Fail;
-use sw_base::{Chan, LayerName, ScpiError, Sequence};
+use sw_base::{ArmLayer, Chan, LayerName, ScpiError, Sequence};
 use sw_channel::{Position, read_positions};
 use sw_trigger::Settings;
 use sw_verify::{BoxedSnapshot, Layout, Plan, Refusal, Slot, Snapshot, check, laws};
@@ -163,7 +163,7 @@ fn channels_of_a_position_are_judged_together(rt: HostRuntime) -> Result<(), Fai
 
 /// Six readings, with room for five of them and for all.
 fn fit(rt: &impl Abort, scan: &mut Snapshot) -> Result<(), Fail> {
-    set_count(scan, LayerName::Arm1, 2)?;
+    set_count(scan, LayerName::Arm(ArmLayer::First), 2)?;
     set_count(scan, LayerName::Trigger, 3)?;
     scan.settings.set_points(5)?;
     assert!(rt; is_judged(scan, Err(Refusal::TooManyReadings)));
@@ -203,7 +203,7 @@ fn plan_keeps_its_snapshot(rt: HostRuntime) -> Result<(), Fail> {
     let scan = snapshot(rt.alloc(), &[Chan::new(1, 1)], &[Chan::new(2, 16)])?;
     let plan = Plan::make(rt.alloc(), BoxedSnapshot::new(rt.alloc(), scan)?)?;
     assert_eq!(rt; plan.code().meter(), 4);
-    assert_eq!(rt; plan.code().steps().len(), 10);
+    assert_eq!(rt; plan.code().steps().len(), 12);
     obey(&plan);
     let kept = plan.into_parts().0;
     tell(&rt, &kept.layout);

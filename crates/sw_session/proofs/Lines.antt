@@ -1,7 +1,8 @@
 -- One more answer on the line.
 use Rattle.std.proofs.Common.{◌≡◌, ℕ, ◌-◌, ◌<◌, ◌≤◌, subst, List, [], ◌∷◌, ◌++◌, length, take, refl, ap, sym, ◌∙◌, append_assoc, arith}
 use Rattle.std.proofs.lemmas.Grind.{common_steps}
-use Rattle.sw_session.specs.Talk.{most_answer_bytes, answer_line, HasRoom}
+use Rattle.sw_base.specs.Limits.{most_answer_bytes}
+use Rattle.sw_session.specs.Talk.{answer_line, HasRoom}
 
 -- a line of answers ends with its line feed, and one more answer goes before it
 line-front : (a : List ℕ) (answers : List (List ℕ)) → (front : List ℕ) × (answer_line (a ∷ answers) ≡ front ++ 10 ∷ [])

@@ -1,16 +1,16 @@
 -- A scan's end comes nearer with each piece of work.
 use Rattle.std.specs.Prelude.{◌==◌, ◌&&◌, not}
 use Rattle.std.proofs.Common.{◌≡◌, ℕ, zero, suc, ◌+◌, ◌-◌, ◌<◌, Bool, true, false, MatchBool, List, [], ◌∷◌, length, drop, Option, Some, None, Result, Ok, Err}
-use Rattle.std.proofs.Common.{sym, ap, ◌∙◌, subst, arith}
+use Rattle.std.proofs.Common.{refl, sym, ap, ◌∙◌, subst, arith}
 use Rattle.sw_base.specs.declared.reading.Reading.{Reading}
 use Rattle.sw_card.specs.declared.board.CardFault.{CardFault}
 use Rattle.sw_trigger.specs.declared.layer.Awaited.{Awaited}
-use Rattle.sw_trigger.specs.declared.layer.Awaited.TheVariants.{Pause, Read}
+use Rattle.sw_trigger.specs.declared.layer.Awaited.TheVariants.{Wait, Period, Pause, Read}
 use Rattle.sw_trigger.specs.Settings.{SettingsSeen}
 use Rattle.sw_trigger.specs.Agenda.{Item, agenda}
 use Rattle.sw_cage.specs.Cage.{ScanSeen, CageSeen}
 use Rattle.sw_cage.specs.Advance.{moves_from, next_place, first_awaited, awaits}
-use Rattle.sw_cage.specs.Outcome.{Advances, AdvancesPastFrom, Counts, with_reading, with_back}
+use Rattle.sw_cage.specs.Outcome.{lasting, Advances, AdvancesPastFrom, Counts, with_reading, with_back}
 use Rattle.sw_cage.specs.Work.{FinishedSeen}
 use Rattle.sw_cage.specs.declared.job.Ticket.{Ticket}
 use Rattle.sw_cage.specs.declared.taken.Happening.{Happening}
@@ -44,11 +44,20 @@ lands s i what scan awaited is =
     let w : i + 1 + length (moves_from s (i + 1)) < length (agenda s) = within (agenda s) (i + 1 + length (moves_from s (i + 1))) what awaited in
     subst (λ (x : Option ScanSeen). items_left x < length (agenda s) - i) (sym is) (omega arith)
 
+-- what lasts and ends by itself is awaited
+lasts : (o : Option Awaited) (micros : ℕ) → lasting o ≡ Some micros → (what : Awaited) × (o ≡ Some what)
+lasts None micros e = absurd (cc e)
+lasts (Some (Wait name)) micros e = absurd (cc e)
+lasts (Some (Period name u)) micros e = (Period name u, refl)
+lasts (Some (Pause u)) micros e = (Pause u, refl)
+lasts (Some Read) micros e = absurd (cc e)
+
 goes : (p q : CageSeen) (s : SettingsSeen) (i : ℕ) (told : TakenSeen) (work : WorkSeen) → Advances p s (i + 1) told q → work_of told ≡ Some work
     → items_left q.scan < length (agenda s) - i
 goes p q s i SaysIgnored work g is = absurd (cc is)
 goes p q s i SaysWaits work g is = absurd (cc is)
-goes p q s i (SaysPause ticket micros) work g is = let a = g.runs.arrives in lands s i (Pause micros) q.scan a.0 a.3
+goes p q s i (SaysPause ticket micros) work g is = let a = g.runs.arrives in
+    let w = lasts (awaits (next_place s (i + 1))) micros a.0 in lands s i w.0 q.scan w.1 a.3
 goes p q s i (SaysJob job) work g is = let a = g.runs.arrives in lands s i Read q.scan a.0 a.2
 goes p q s i SaysEnded work g is = absurd (cc is)
 goes p q s i SaysFault work g is = absurd (cc is)

@@ -1,12 +1,12 @@
 -- What is noted of one session leaves what is noted of every other.
-use Rattle.std.proofs.Common.{◌≡◌, ◌≢◌, ℕ, ◌-◌, ◌<◌, ◌≤◌, ◌==◌, ◌&&◌, ◌⊎◌, inl, inr, Bool, true, false, List, length, Option, Some, None, refl, sym, ap, ◌∙◌, subst, arith}
+use Rattle.std.proofs.Common.{◌≡◌, ◌≢◌, ℕ, ◌<◌, ◌≤◌, inl, inr, Bool, true, false, length, Option, Some, None, refl, sym, ap, ◌∙◌, arith}
 use Rattle.std.specs.Prelude.{if◌then◌else◌}
 use Rattle.sw_base.specs.Limits.{most_sessions}
 use Rattle.sw_base.specs.Layout.{slot_at}
 use Rattle.sw_cage.proofs.SlotChangeLemmas.{slot_cases}
 use Rattle.sw_core.specs.declared.ask.Sid.{Sid}
 use Rattle.sw_session.specs.declared.available.Mark.{Mark}
-use Rattle.sw_session.specs.Available.{Notes, NoteLeavesOthers, is_available, is_joined, is_joined_after, has_message, is_number, with_mark, with_note}
+use Rattle.sw_session.specs.Available.{Notes, NoteLeavesOthers, is_available, is_joined, is_joined_after, has_message, is_number, with_mark}
 
 -- a session has no message where another one has joined
 unlike : (joined other : ℕ) (mark : Option Mark) → joined ≢ other → is_joined_after joined mark ≡ true → has_message other mark ≡ false

@@ -1,7 +1,8 @@
 -- Parts of a server's run, one after another.
-use Rattle.std.proofs.Common.{◌≡◌, ℕ, zero, suc, ◌+◌, ◌<◌, List, [], ◌∷◌, ◌++◌, refl, sym, ap, ap₂, ◌∙◌, append_assoc, append-nil, arith, inl, inr, subst}
+use Rattle.std.proofs.Common.{◌≡◌, ℕ, ◌+◌, List, [], ◌∷◌, ◌++◌, refl, sym, ap, ap₂, ◌∙◌, append_assoc, append-nil, arith, inl, inr, subst}
 use Rattle.std.proofs.Common.{flat_map, Ok, Err, Some, None, Option, Result}
 use Rattle.std.proofs.lemmas.List.Concat.{flat_map-append}
+use Rattle.std.specs.Prelude.{option_map}
 use Rattle.std.specs.Io.KnownBytes.{Appends}
 use Rattle.sw_hislip.specs.declared.fault.WireFault.TheVariants.{BadPrologue, TooLarge, NoMemory}
 use Rattle.sw_hislip.specs.declared.kind.Kind.{Kind}
@@ -20,6 +21,7 @@ use Rattle.sw_session.specs.Trace.{Entry, Leads}
 use Rattle.sw_session.specs.EngineStep.{LedBy}
 use Rattle.sw_session.specs.ServeWrite.{wire_on, wire_off}
 use Rattle.sw_session.specs.ServeHand.{availability_notes, HandsOver, HandsUpTo, manner, outlets}
+use Rattle.sw_session.specs.ServeRead.{PausesBy}
 use Rattle.sw_session.specs.Serve.{Protocol, Voice, Exchange, Speaks, acts_of, asks_of, said_of, arrived, is_refused, after_step, pauses}
 use Rattle.sw_session.specs.Serve.{is_pause}
 use Rattle.sw_session.specs.Serve.{Point, point}
@@ -221,15 +223,17 @@ pub pauses-then : (is js : List Act) → pauses (is ++ js) ≡ pauses is + pause
 pauses-then [] js = omega (arith)
 pauses-then (i ∷ is) js = let e = pauses-then is js in omega (arith, e)
 
-pub none-paused : (P : Type 0) (n : ℕ) → n ≡ 0 → 0 < n → P
-none-paused P n e h = absurd (omega (arith, e, h))
+-- where there was none the count stands
+pub none-paused : (old new : Option ℕ) (n : ℕ) → n ≡ 0 → new ≡ old → PausesBy old new n
+none-paused None new n e f = f
+none-paused (Some m) new n e f = f ∙ ap (λ (k : ℕ). Some k) (omega (arith, e))
 
-some-first : (P : Type 0) (m n : ℕ) → (0 < m → P) → (0 < n → P) → 0 < m + n → P
-some-first P zero n p q h = q (omega (arith, h))
-some-first P (suc m) n p q h = p (omega arith)
-
-pub either-paused : (P : Type 0) (is js : List Act) → (0 < pauses is → P) → (0 < pauses js → P) → 0 < pauses (is ++ js) → P
-either-paused P is js p q h = some-first P (pauses is) (pauses js) p q (let e = pauses-then is js in omega (arith, e, h))
+pub paused-then : (old mid new : Option ℕ) (is js : List Act) → PausesBy old mid (pauses is) → PausesBy mid new (pauses js)
+    → PausesBy old new (pauses (is ++ js))
+paused-then None mid new is js p q = q ∙ ap (λ (o : Option ℕ). option_map (λ m. m + pauses js) o) p
+paused-then (Some k) mid new is js p q =
+    q ∙ ap (λ (o : Option ℕ). option_map (λ m. m + pauses js) o) p
+    ∙ ap (λ (n : ℕ). Some n) (let e = pauses-then is js in omega (arith, e))
 
 -- what the wire tells is no such read
 pub found-unpaused : (p p' : Pending) (input : Act) → Finds p input p' → is_pause input ≡ 0

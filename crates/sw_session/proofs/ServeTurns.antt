@@ -17,11 +17,12 @@ use Rattle.sw_session.specs.declared.servers.fault.ServeFault.TheVariants as Fau
 use Rattle.sw_session.specs.declared.servers.turns.Came.TheVariants as Came
 use Rattle.sw_session.specs.declared.servers.turns.Next.{Next}
 use Rattle.sw_session.specs.declared.servers.turns.Next.TheVariants.{On, Over}
-use Rattle.sw_session.specs.Serve.{Voice, Service, acts_for, arrived, pauses, Point, Stops, GoesThrough, Judges, HearsEach, HoldsMessage, TellsActs, Stands}
+use Rattle.sw_session.specs.ServeRead.{PausesBy}
+use Rattle.sw_session.specs.Serve.{Voice, acts_for, arrived, pauses, Point, Stops, GoesThrough, Judges, HearsEach, HoldsMessage, TellsActs, Stands}
 use Rattle.sw_session.specs.Serve.{Listens, HearsAll, conclude, Loses, Progress, progress, EndsWell, FailsBy, EndsTurn, Course, course, TakesServerTurn}
 use Rattle.sw_session.specs.Serve.{EndsRun, RunsChannel}
 use Rattle.sw_session.proofs.ServeKnown.{consumes-nothing, consumes-more}
-use Rattle.sw_session.proofs.ServeParts.{pauses-then, none-paused, either-paused, tells-nothing, tells-then, tells-paused, tells-fed, goes-nowhere, goes-then}
+use Rattle.sw_session.proofs.ServeParts.{pauses-then, none-paused, paused-then, tells-nothing, tells-then, tells-paused, tells-fed, goes-nowhere, goes-then}
 use Rattle.sw_session.proofs.ServeParts.{stops-then}
 
 none-lost : (input left : Option (List ℕ)) (piece : List ℕ) → Consumes input left piece → Consumes input left (piece ++ [])
@@ -29,55 +30,58 @@ none-lost input left piece c = subst (λ (l : List ℕ). Consumes input left l) 
 
 -- ---- one turn
 
-pub turn-err : {E D : Type 0} (s : Service E D) (p p' : Pending) (a : Point E D) (input left : Option (List ℕ)) (fault : ServeFault)
-    → Waits p.bytes → Listens input left p p' (Err fault) → TakesServerTurn s p p' (course a input) (course a left) (Err fault)
-turn-err s p p' a input left fault waits (same, inl r) =
-    subst (λ (f : ServeFault). TakesServerTurn s p p' (course a input) (course a left) (Err f)) (sym r.0)
+pub turn-err : {E D : Type 0} (u : Voice E D) (p p' : Pending) (a : Point E D) (input left : Option (List ℕ)) (old new : Option ℕ)
+    (fault : ServeFault)
+    → Waits p.bytes → Listens input left p p' (Err fault) → new ≡ old
+    → TakesServerTurn u p p' (course a input old) (course a left new) (Err fault)
+turn-err u p p' a input left old new fault waits (same, inl r) e =
+    subst (λ (f : ServeFault). TakesServerTurn u p p' (course a input old) (course a left new) (Err f)) (sym r.0)
     (record {
       read = [];
       lost = [];
       reads = r.1;
       loses = refl;
       inputs = [];
-      paused = none-paused s.may_pause 0 refl;
+      paused = none-paused old new 0 refl e;
       tells = subst (λ (q : Pending). TellsActs p q [] []) (sym same) (tells-nothing p);
-      ends = ((goes-nowhere s.voice a, subst (λ (q : Pending). Waits q.bytes) (sym same) waits), λ e. absurd (cc (e)));
+      ends = ((goes-nowhere u a, subst (λ (q : Pending). Waits q.bytes) (sym same) waits), λ x. absurd (cc (x)));
     })
-turn-err s p p' a input left fault waits (same, inr r) =
-    subst (λ (f : ServeFault). TakesServerTurn s p p' (course a input) (course a left) (Err f)) (sym r.0)
+turn-err u p p' a input left old new fault waits (same, inr r) e =
+    subst (λ (f : ServeFault). TakesServerTurn u p p' (course a input old) (course a left new) (Err f)) (sym r.0)
     (record {
       read = [];
       lost = r.1.0;
       reads = r.1.1;
       loses = tt;
       inputs = [];
-      paused = none-paused s.may_pause 0 refl;
+      paused = none-paused old new 0 refl e;
       tells = subst (λ (q : Pending). TellsActs p q [] []) (sym same) (tells-nothing p);
-      ends = (inr (goes-nowhere s.voice a, inl r.1.2), λ e. absurd (cc (e)));
+      ends = (inr (goes-nowhere u a, inl r.1.2), λ x. absurd (cc (x)));
     })
 
-pub turn-end : {E D : Type 0} (s : Service E D) (p p' : Pending) (a : Point E D) (input left : Option (List ℕ))
-    → Waits p.bytes → Listens input left p p' (Ok Came.End) → TakesServerTurn s p p' (course a input) (course a left) (Ok Over)
-turn-end s p p' a input left waits (reads, end, same) =
+pub turn-end : {E D : Type 0} (u : Voice E D) (p p' : Pending) (a : Point E D) (input left : Option (List ℕ)) (old new : Option ℕ)
+    → Waits p.bytes → Listens input left p p' (Ok Came.End) → new ≡ old
+    → TakesServerTurn u p p' (course a input old) (course a left new) (Ok Over)
+turn-end u p p' a input left old new waits (reads, end, same) e =
     record {
       read = [];
       lost = [];
       reads = reads;
       loses = refl;
       inputs = [];
-      paused = none-paused s.may_pause 0 refl;
+      paused = none-paused old new 0 refl e;
       tells = subst (λ (q : Pending). TellsActs p q [] []) (sym same) (tells-nothing p);
-      ends = inl (goes-nowhere s.voice a, subst (λ (q : Pending). Waits q.bytes) (sym same) waits, end);
+      ends = inl (goes-nowhere u a, subst (λ (q : Pending). Waits q.bytes) (sym same) waits, end);
     }
 
 -- how a turn ends in which so many bytes were read, and these inputs gone through
-record Turned {E D : Type 0} (s : Service E D) (p p' : Pending) (a b : Course E D) (result : Result Next ServeFault) : Type 0 where
+record Turned {E D : Type 0} (u : Voice E D) (p p' : Pending) (a b : Course E D) (result : Result Next ServeFault) : Type 0 where
   read : List ℕ
   inputs : List Act
-  paused : 0 < pauses inputs → s.may_pause
+  paused : PausesBy a.pauses b.pauses (pauses inputs)
   reads : Consumes a.input b.input read
   tells : TellsActs p p' read inputs
-  ends : EndsTurn s.voice a.point b.point (progress (flat_map acts_for inputs) p' [] (length read + pauses inputs) b.input) result
+  ends : EndsTurn u a.point b.point (progress (flat_map acts_for inputs) p' [] (length read + pauses inputs) b.input) result
 
 loses-none : {A : Type 0} (r : Result A ServeFault) → Loses r []
 loses-none (Ok x) = refl
@@ -88,9 +92,9 @@ loses-none (Err Fault.Fatal) = refl
 loses-none (Err Fault.NoMemory) = tt
 loses-none (Err Fault.ReadBound) = refl
 
-turned : {E D : Type 0} (s : Service E D) (p p' : Pending) (a b : Course E D) (result : Result Next ServeFault)
-    → Turned s p p' a b result → TakesServerTurn s p p' a b result
-turned s p p' a b result t = record {
+turned : {E D : Type 0} (u : Voice E D) (p p' : Pending) (a b : Course E D) (result : Result Next ServeFault)
+    → Turned u p p' a b result → TakesServerTurn u p p' a b result
+turned u p p' a b result t = record {
   read = t.read;
   lost = [];
   reads = none-lost a.input b.input t.read t.reads;
@@ -131,57 +135,57 @@ paused-stands p Malformed waits j = absurd (j refl)
 pub judged-ok : (b : Bool) (r : Result AfterStep ServeFault) → IfOk r (λ after. Judges b after) → (after : AfterStep) → r ≡ Ok after → Judges b after
 judged-ok b r j after e = subst (λ (q : Result AfterStep ServeFault). IfOk q (λ x. Judges b x)) e j
 
-pub turn-paused : {E D : Type 0} (s : Service E D) (p p' : Pending) (a b : Course E D) (r : Result AfterStep ServeFault)
-    → s.may_pause → Waits p.bytes → Listens a.input b.input p p' (Ok Came.Paused) → HearsEach s.voice (Notices ∷ []) a.point b.point r
+pub turn-paused : {E D : Type 0} (u : Voice E D) (p p' : Pending) (a b : Course E D) (r : Result AfterStep ServeFault)
+    → PausesBy a.pauses b.pauses 1 → Waits p.bytes → Listens a.input b.input p p' (Ok Came.Paused) → HearsEach u (Notices ∷ []) a.point b.point r
     → ((after : AfterStep) → r ≡ Ok after → Judges false after)
-    → TakesServerTurn s p p' a b (conclude r)
-turn-paused s p p' a b (Ok after) can waits l h judged =
-    turned s p p' a b (conclude (Ok after)) (record {
+    → TakesServerTurn u p p' a b (conclude r)
+turn-paused u p p' a b (Ok after) counts waits l h judged =
+    turned u p p' a b (conclude (Ok after)) (record {
       read = [];
       inputs = Notices ∷ [];
-      paused = λ h. can;
+      paused = counts;
       reads = l.0;
       tells = subst (λ (q : Pending). TellsActs p q [] (Notices ∷ [])) (sym l.1) (tells-paused p);
-      ends = ends-by s.voice a.point b.point (progress (Notices ∷ []) p' [] 1 b.input) after (omega (arith)) h
+      ends = ends-by u a.point b.point (progress (Notices ∷ []) p' [] 1 b.input) after (omega (arith)) h
           (paused-stands p' after (subst (λ (q : Pending). Waits q.bytes) (sym l.1) waits) (judged after refl));
     })
-turn-paused s p p' a b (Err fault) can waits l h judged =
-    turned s p p' a b (Err fault) (record {
+turn-paused u p p' a b (Err fault) counts waits l h judged =
+    turned u p p' a b (Err fault) (record {
       read = [];
       inputs = Notices ∷ [];
-      paused = λ h. can;
+      paused = counts;
       reads = l.0;
       tells = subst (λ (q : Pending). TellsActs p q [] (Notices ∷ [])) (sym l.1) (tells-paused p);
-      ends = stops-by s.voice a.point b.point (progress (Notices ∷ []) p' [] 1 b.input) fault h;
+      ends = stops-by u a.point b.point (progress (Notices ∷ []) p' [] 1 b.input) fault h;
     })
 
 tells-read : (p p' q : Pending) (piece : List ℕ) (inputs : List Act) → p' ≡ fed p piece → TellsActs p' q [] inputs → TellsActs p q piece inputs
 tells-read p p' q piece inputs e t = subst (λ (l : List ℕ). TellsActs p q l inputs) (append-nil piece)
     (tells-then p p' q piece [] [] inputs (tells-fed p p' piece e) t)
 
-pub turn-bytes : {E D : Type 0} (s : Service E D) (p p' q : Pending) (a b : Course E D) (r : Result AfterStep ServeFault)
-    → Listens a.input b.input p p' (Ok Came.Bytes) → HearsAll s.voice p' q a.point b.point r → TakesServerTurn s p q a b (conclude r)
-turn-bytes s p p' q a b (Ok after) (piece, some, reads, e) h =
-    turned s p q a b (conclude (Ok after)) (record {
+pub turn-bytes : {E D : Type 0} (u : Voice E D) (p p' q : Pending) (a b : Course E D) (r : Result AfterStep ServeFault)
+    → Listens a.input b.input p p' (Ok Came.Bytes) → b.pauses ≡ a.pauses → HearsAll u p' q a.point b.point r → TakesServerTurn u p q a b (conclude r)
+turn-bytes u p p' q a b (Ok after) (piece, some, reads, e) counts h =
+    turned u p q a b (conclude (Ok after)) (record {
       read = piece;
       inputs = h.inputs;
-      paused = none-paused s.may_pause (pauses h.inputs) h.unpaused;
+      paused = none-paused a.pauses b.pauses (pauses h.inputs) h.unpaused counts;
       reads = reads;
       tells = tells-read p p' q piece h.inputs e h.tells;
-      ends = ends-by s.voice a.point b.point (progress (flat_map acts_for h.inputs) q [] (length piece + pauses h.inputs) b.input) after
+      ends = ends-by u a.point b.point (progress (flat_map acts_for h.inputs) q [] (length piece + pauses h.inputs) b.input) after
           (omega (arith, some)) h.spoken.0 h.spoken.1;
     })
-turn-bytes s p p' q a b (Err fault) (piece, some, reads, e) h =
+turn-bytes u p p' q a b (Err fault) (piece, some, reads, e) counts h =
     let so_far = progress (flat_map acts_for h.inputs) q [] (length piece + pauses h.inputs) b.input in
-    turned s p q a b (Err fault) (record {
+    turned u p q a b (Err fault) (record {
       read = piece;
       inputs = h.inputs;
-      paused = none-paused s.may_pause (pauses h.inputs) h.unpaused;
+      paused = none-paused a.pauses b.pauses (pauses h.inputs) h.unpaused counts;
       reads = reads;
       tells = tells-read p p' q piece h.inputs e h.tells;
       ends = elim h.spoken [
-        | inl t ↦ stops-by s.voice a.point b.point so_far fault t
-        | inr t ↦ starves-by s.voice a.point b.point so_far fault t.0 t.1 t.2
+        | inl t ↦ stops-by u a.point b.point so_far fault t
+        | inr t ↦ starves-by u a.point b.point so_far fault t.0 t.1 t.2
       ];
     })
 
@@ -244,24 +248,24 @@ acts-then : (is js : List Act) → flat_map acts_for is ++ flat_map acts_for js 
 acts-then is js = sym (flat_map-append acts_for is js)
 
 -- so many turns are over, and the run goes on
-pub record Going {E D : Type 0} (s : Service E D) (p p' : Pending) (a b : Course E D) (n : ℕ) : Type 0 where
+pub record Going {E D : Type 0} (u : Voice E D) (p p' : Pending) (a b : Course E D) (n : ℕ) : Type 0 where
   pub read : List ℕ
   pub reads : Consumes a.input b.input read
   pub inputs : List Act
-  pub paused : 0 < pauses inputs → s.may_pause
+  pub paused : PausesBy a.pauses b.pauses (pauses inputs)
   pub tells : TellsActs p p' read inputs
-  pub goes : GoesThrough s.voice a.point b.point (flat_map acts_for inputs) Goes
+  pub goes : GoesThrough u a.point b.point (flat_map acts_for inputs) Goes
   pub waits : Waits p'.bytes
   pub turned : n ≤ length read + pauses inputs
 
-pub going-start : {E D : Type 0} (s : Service E D) (p : Pending) (a : Course E D) → p ≡ nothing_fed → Going s nothing_fed p a a 0
-going-start s p a e = record {
+pub going-start : {E D : Type 0} (u : Voice E D) (p : Pending) (a : Course E D) → p ≡ nothing_fed → Going u nothing_fed p a a 0
+going-start u p a e = record {
   read = [];
   reads = consumes-nothing a.input;
   inputs = [];
-  paused = none-paused s.may_pause 0 refl;
+  paused = none-paused a.pauses a.pauses 0 refl refl;
   tells = subst (λ (q : Pending). TellsActs nothing_fed q [] []) (sym e) (tells-nothing nothing_fed);
-  goes = goes-nowhere s.voice a.point;
+  goes = goes-nowhere u a.point;
   waits = subst (λ (q : Pending). Waits q.bytes) (sym e) (inl (omega (arith)));
   turned = omega (arith);
 }
@@ -288,17 +292,17 @@ reads-then : (input mid left : Option (List ℕ)) (read more lost : List ℕ) �
 reads-then input mid left read more lost c d = subst (λ (l : List ℕ). Consumes input left l) (sym (append_assoc read more lost))
     (consumes-more input mid left read (more ++ lost) c d)
 
-pub going-on : {E D : Type 0} (s : Service E D) (p q r : Pending) (a b c : Course E D) (n : ℕ)
-    → Going s p q a b n → TakesServerTurn s q r b c (Ok On) → Going s p r a c (n + 1)
-going-on s p q r a b c n g t = record {
+pub going-on : {E D : Type 0} (u : Voice E D) (p q r : Pending) (a b c : Course E D) (n : ℕ)
+    → Going u p q a b n → TakesServerTurn u q r b c (Ok On) → Going u p r a c (n + 1)
+going-on u p q r a b c n g t = record {
   read = g.read ++ t.read;
   reads = consumes-more a.input b.input c.input g.read t.read g.reads
       (subst (λ (l : List ℕ). Consumes b.input c.input l) (ap (λ l. t.read ++ l) t.loses ∙ append-nil t.read) t.reads);
   inputs = g.inputs ++ t.inputs;
-  paused = either-paused s.may_pause g.inputs t.inputs g.paused t.paused;
+  paused = paused-then a.pauses b.pauses c.pauses g.inputs t.inputs g.paused t.paused;
   tells = tells-then p q r g.read t.read g.inputs t.inputs g.tells t.tells;
-  goes = subst (λ (l : List Act). GoesThrough s.voice a.point c.point l Goes) (acts-then g.inputs t.inputs)
-      (goes-then s.voice a.point b.point c.point (flat_map acts_for g.inputs) (flat_map acts_for t.inputs) Goes g.goes t.ends.0);
+  goes = subst (λ (l : List Act). GoesThrough u a.point c.point l Goes) (acts-then g.inputs t.inputs)
+      (goes-then u a.point b.point c.point (flat_map acts_for g.inputs) (flat_map acts_for t.inputs) Goes g.goes t.ends.0);
   waits = t.ends.1;
   turned = let e = g.turned in let f = t.ends.2 in let h = length-append g.read t.read in let k = pauses-then g.inputs t.inputs in omega (arith, e, f, h, k);
 }
@@ -311,21 +315,21 @@ law-follows law p read inputs t = subst (λ (b : List ℕ). Follows b (flat_map 
     (subst (λ (l : List (Result Message Kind)). Follows (stream_of t.calls) l p) t.told (law t.calls p t.decodes))
 
 -- how a run ends in which these bytes were read, and these inputs gone through
-record Ran {E D : Type 0} (s : Service E D) (turns : ℕ) (p : Pending) (a b : Course E D) (result : Result (Unit {0}) ServeFault) : Type 0 where
+record Ran {E D : Type 0} (u : Voice E D) (turns : ℕ) (p : Pending) (a b : Course E D) (result : Result (Unit {0}) ServeFault) : Type 0 where
   read : List ℕ
   lost : List ℕ
   inputs : List Act
   reads : Consumes a.input b.input (read ++ lost)
   loses : Loses result lost
-  paused : 0 < pauses inputs → s.may_pause
+  paused : PausesBy a.pauses b.pauses (pauses inputs)
   tells : TellsActs nothing_fed p read inputs
-  ends : EndsRun s.voice a.point b.point (progress (flat_map acts_for inputs) p lost (length read + pauses inputs) b.input) turns result
+  ends : EndsRun u a.point b.point (progress (flat_map acts_for inputs) p lost (length read + pauses inputs) b.input) turns result
 
-runs : {E D : Type 0} (s : Service E D) (turns : ℕ) (p : Pending) (a b : Course E D) (result : Result (Unit {0}) ServeFault)
+runs : {E D : Type 0} (u : Voice E D) (turns : ℕ) (p : Pending) (a b : Course E D) (result : Result (Unit {0}) ServeFault)
     → ((calls : List Call) (q : Pending) → EveryMessageComesOut calls q)
     → ((bytes : List ℕ) (t : List (Result Message Kind)) (q : Pending) → LeavesARest bytes t q)
-    → Ran s turns p a b result → RunsChannel s turns a b result
-runs s turns p a b result law rest r = record {
+    → Ran u turns p a b result → RunsChannel u turns a b result
+runs u turns p a b result law rest r = record {
   read = r.read;
   lost = r.lost;
   reads = r.reads;
@@ -339,49 +343,49 @@ runs s turns p a b result law rest r = record {
 }
 
 -- a turn that ended, after those that went on
-ran-then : {E D : Type 0} (s : Service E D) (turns n : ℕ) (q p : Pending) (a b c : Course E D) (r : Result Next ServeFault)
-    (result : Result (Unit {0}) ServeFault) (g : Going s nothing_fed q a b n) (t : TakesServerTurn s q p b c r)
+ran-then : {E D : Type 0} (u : Voice E D) (turns n : ℕ) (q p : Pending) (a b c : Course E D) (r : Result Next ServeFault)
+    (result : Result (Unit {0}) ServeFault) (g : Going u nothing_fed q a b n) (t : TakesServerTurn u q p b c r)
     → Loses result t.lost
-    → EndsRun s.voice a.point c.point (progress (flat_map acts_for g.inputs ++ flat_map acts_for t.inputs) p t.lost
+    → EndsRun u a.point c.point (progress (flat_map acts_for g.inputs ++ flat_map acts_for t.inputs) p t.lost
     (length (g.read ++ t.read) + pauses (g.inputs ++ t.inputs)) c.input) turns result
-    → Ran s turns p a c result
-ran-then s turns n q p a b c r result g t loses ends = record {
+    → Ran u turns p a c result
+ran-then u turns n q p a b c r result g t loses ends = record {
   read = g.read ++ t.read;
   lost = t.lost;
   inputs = g.inputs ++ t.inputs;
   reads = reads-then a.input b.input c.input g.read t.read t.lost g.reads t.reads;
   loses = loses;
-  paused = either-paused s.may_pause g.inputs t.inputs g.paused t.paused;
+  paused = paused-then a.pauses b.pauses c.pauses g.inputs t.inputs g.paused t.paused;
   tells = tells-then nothing_fed q p g.read t.read g.inputs t.inputs g.tells t.tells;
-  ends = subst (λ (l : List Act). EndsRun s.voice a.point c.point
+  ends = subst (λ (l : List Act). EndsRun u a.point c.point
       (progress l p t.lost (length (g.read ++ t.read) + pauses (g.inputs ++ t.inputs)) c.input) turns result)
       (acts-then g.inputs t.inputs) ends;
 }
 
-pub runs-over : {E D : Type 0} (s : Service E D) (turns n : ℕ) (q p : Pending) (a b c : Course E D)
+pub runs-over : {E D : Type 0} (u : Voice E D) (turns n : ℕ) (q p : Pending) (a b c : Course E D)
     → ((calls : List Call) (q : Pending) → EveryMessageComesOut calls q)
     → ((bytes : List ℕ) (t : List (Result Message Kind)) (q : Pending) → LeavesARest bytes t q)
-    → Going s nothing_fed q a b n → TakesServerTurn s q p b c (Ok Over) → RunsChannel s turns a c (Ok tt)
-runs-over s turns n q p a b c law rest g t =
-    runs s turns p a c (Ok tt) law rest (ran-then s turns n q p a b c (Ok Over) (Ok tt) g t t.loses
-    (well-then s.voice a.point b.point c.point (flat_map acts_for g.inputs)
+    → Going u nothing_fed q a b n → TakesServerTurn u q p b c (Ok Over) → RunsChannel u turns a c (Ok tt)
+runs-over u turns n q p a b c law rest g t =
+    runs u turns p a c (Ok tt) law rest (ran-then u turns n q p a b c (Ok Over) (Ok tt) g t t.loses
+    (well-then u a.point b.point c.point (flat_map acts_for g.inputs)
     (progress (flat_map acts_for t.inputs) p t.lost (length (g.read ++ t.read) + pauses (g.inputs ++ t.inputs)) c.input) g.goes t.ends))
 
-pub runs-fault : {E D : Type 0} (s : Service E D) (turns n : ℕ) (q p : Pending) (a b c : Course E D) (fault : ServeFault)
+pub runs-fault : {E D : Type 0} (u : Voice E D) (turns n : ℕ) (q p : Pending) (a b c : Course E D) (fault : ServeFault)
     → ((calls : List Call) (q : Pending) → EveryMessageComesOut calls q)
     → ((bytes : List ℕ) (t : List (Result Message Kind)) (q : Pending) → LeavesARest bytes t q)
-    → Going s nothing_fed q a b n → TakesServerTurn s q p b c (Err fault) → RunsChannel s turns a c (Err fault)
-runs-fault s turns n q p a b c fault law rest g t =
-    runs s turns p a c (Err fault) law rest (ran-then s turns n q p a b c (Err fault) (Err fault) g t t.loses
-    (fails-then s.voice a.point b.point c.point (flat_map acts_for g.inputs)
+    → Going u nothing_fed q a b n → TakesServerTurn u q p b c (Err fault) → RunsChannel u turns a c (Err fault)
+runs-fault u turns n q p a b c fault law rest g t =
+    runs u turns p a c (Err fault) law rest (ran-then u turns n q p a b c (Err fault) (Err fault) g t t.loses
+    (fails-then u a.point b.point c.point (flat_map acts_for g.inputs)
     (progress (flat_map acts_for t.inputs) p t.lost (length t.read + pauses t.inputs) c.input) turns
     (length (g.read ++ t.read) + pauses (g.inputs ++ t.inputs)) fault g.goes t.ends.0 t.ends.1))
 
-pub runs-bound : {E D : Type 0} (s : Service E D) (turns n : ℕ) (p : Pending) (a b : Course E D)
+pub runs-bound : {E D : Type 0} (u : Voice E D) (turns n : ℕ) (p : Pending) (a b : Course E D)
     → ((calls : List Call) (q : Pending) → EveryMessageComesOut calls q)
     → ((bytes : List ℕ) (t : List (Result Message Kind)) (q : Pending) → LeavesARest bytes t q)
-    → Going s nothing_fed p a b n → turns ≤ n → RunsChannel s turns a b (Err Fault.ReadBound)
-runs-bound s turns n p a b law rest g h = runs s turns p a b (Err Fault.ReadBound) law rest (record {
+    → Going u nothing_fed p a b n → turns ≤ n → RunsChannel u turns a b (Err Fault.ReadBound)
+runs-bound u turns n p a b law rest g h = runs u turns p a b (Err Fault.ReadBound) law rest (record {
   read = g.read;
   lost = [];
   inputs = g.inputs;

@@ -12,8 +12,8 @@ use Rattle.sw_session.specs.declared.servers.act.AfterStep.TheVariants.{Goes, En
 use Rattle.sw_session.specs.declared.servers.fault.ServeFault.{ServeFault}
 use Rattle.sw_session.specs.declared.servers.turns.Came.{Came}
 use Rattle.sw_session.specs.declared.servers.turns.Next.{Next}
-use Rattle.sw_session.specs.Serve.{Voice, Service, acts_for, is_refused, pauses, Point, Stops, GoesThrough, Judges, Hears, HearsEach, Finds, HoldsMessage}
-use Rattle.sw_session.specs.Serve.{NextInput, TellsActs, Stands, Listens, HearsAll, Course, TakesServerTurn}
+use Rattle.sw_session.specs.Serve.{Voice, acts_for, is_refused, pauses, Point, Stops, GoesThrough, Judges, Hears, HearsEach, Finds, HoldsMessage}
+use Rattle.sw_session.specs.Serve.{NextInput, TellsActs, Stands, Listens, CountsCame, HearsAll, Course, TakesServerTurn}
 use Rattle.sw_session.proofs.ServeParts.{found-unpaused, none-more, tells-nothing, tells-then, tells-found, goes-nowhere, goes-then, ends-before, stops-then}
 use Rattle.sw_session.proofs.ServeParts.{stops-at}
 
@@ -32,9 +32,12 @@ next-is p p' r input e n = subst (λ (x : Result (Option Act) ServeFault). NextI
 pub listens-is : (input left : Option (List ℕ)) (p p' : Pending) (r q : Result Came ServeFault) → r ≡ q → Listens input left p p' r → Listens input left p p' q
 listens-is input left p p' r q e l = subst (λ (x : Result Came ServeFault). Listens input left p p' x) e l
 
-pub turn-is : {E D : Type 0} (s : Service E D) (p p' : Pending) (a b : Course E D) (r q : Result Next ServeFault)
-    → r ≡ q → TakesServerTurn s p p' a b r → TakesServerTurn s p p' a b q
-turn-is s p p' a b r q e t = subst (λ (x : Result Next ServeFault). TakesServerTurn s p p' a b x) e t
+pub counts-is : (old new : Option ℕ) (r q : Result Came ServeFault) → r ≡ q → CountsCame old new r → CountsCame old new q
+counts-is old new r q e c = subst (λ (x : Result Came ServeFault). CountsCame old new x) e c
+
+pub turn-is : {E D : Type 0} (u : Voice E D) (p p' : Pending) (a b : Course E D) (r q : Result Next ServeFault)
+    → r ≡ q → TakesServerTurn u p p' a b r → TakesServerTurn u p p' a b q
+turn-is u p p' a b r q e t = subst (λ (x : Result Next ServeFault). TakesServerTurn u p p' a b x) e t
 
 -- ---- what the wire tells
 

@@ -26,6 +26,7 @@ use Rattle.sw_session.specs.declared.servers.turns.Came.TheVariants.{End, Bytes,
 use Rattle.sw_session.specs.declared.servers.turns.Next.{Next}
 use Rattle.sw_session.specs.declared.servers.turns.Next.TheVariants.{On, Over}
 use Rattle.sw_session.specs.Trace.{Entry, Asked, Leads}
+use Rattle.sw_session.specs.ServeRead.{PausesBy}
 use Rattle.sw_session.specs.ServeWrite.{wire_on, wire_off}
 use Rattle.sw_session.specs.ServeHand.{availability_notes, HandsUpTo, manner, outlets}
 
@@ -36,8 +37,8 @@ pub record Protocol (E : Type 0) : Type 1 where
   pub falters : E → Act → List Entry → E → Type 0
   pub session : E → Option Sid
 
--- What one channel's server stands on where it asks and writes: the engine's definition, what passes between it and its
--- desk, and which channel it serves.
+-- What one channel's server stands on: the engine's definition, what passes between it and its desk, and which channel
+-- it serves.
 pub record Voice (E D : Type 0) : Type 1 where
   pub protocol : Protocol E
   pub passes : D → Entry → D → Type 0
@@ -45,14 +46,6 @@ pub record Voice (E D : Type 0) : Type 1 where
 
 abbrev pub voice : {E D : Type 0} → Protocol E → (D → Entry → D → Type 0) → Channel → Voice E D
 voice v passes own = record { protocol = v; passes = passes; own = own }
-
--- The same where it reads as well: may_pause says that a time limit can end a read.
-pub record Service (E D : Type 0) : Type 1 where
-  pub voice : Voice E D
-  pub may_pause : Type 0
-
-abbrev pub service : {E D : Type 0} → Voice E D → Type 0 → Service E D
-service u may_pause = record { voice = u; may_pause = may_pause }
 
 -- ---- acts
 
@@ -231,6 +224,13 @@ Listens old new p p' (Err e) =
     × (((e ≡ Fault.Read) × Consumes old new [])
     ⊎ ((e ≡ Fault.NoMemory) × ((lost : List ℕ) × Consumes old new lost × (0 < length lost))))
 
+-- such a read is counted where a time limit ended it
+abbrev pub CountsCame : Option ℕ → Option ℕ → Result Came ServeFault → Type 0
+CountsCame old new (Ok End) = new ≡ old
+CountsCame old new (Ok Bytes) = new ≡ old
+CountsCame old new (Ok Paused) = PausesBy old new 1
+CountsCame old new (Err e) = new ≡ old
+
 -- a decoder was fed these bytes, and this is what it told
 pub record TellsActs (p p' : Pending) (read : List ℕ) (inputs : List Act) : Type 0 where
   pub calls : List Call
@@ -317,25 +317,26 @@ EndsTurn u a b so_far (Ok On) = GoesThrough u a b so_far.acts Goes × Waits so_f
 EndsTurn u a b so_far (Ok Over) = EndsWell u a b so_far
 EndsTurn u a b so_far (Err fault) = FailsBy u a b so_far 0 fault × (fault ≡ Fault.ReadBound → ⊥)
 
--- where a server stands, and what is left to be read
+-- where a server stands, what is left to be read, and how many reads a time limit has ended so far, where that is known
 pub record Course (E D : Type 0) : Type 0 where
   pub point : Point E D
   pub input : Option (List ℕ)
+  pub pauses : Option ℕ
 
-abbrev pub course : {E D : Type 0} → Point E D → Option (List ℕ) → Course E D
-course a input = record { point = a; input = input }
+abbrev pub course : {E D : Type 0} → Point E D → Option (List ℕ) → Option ℕ → Course E D
+course a input pauses = record { point = a; input = input; pauses = pauses }
 
 -- one read, and what is gone through for it
-pub record TakesServerTurn {E D : Type 0} (s : Service E D) (p p' : Pending) (before after : Course E D)
+pub record TakesServerTurn {E D : Type 0} (u : Voice E D) (p p' : Pending) (before after : Course E D)
     (result : Result Next ServeFault) : Type 0 where
   pub read : List ℕ
   pub lost : List ℕ
   pub reads : Consumes before.input after.input (read ++ lost)
   pub loses : Loses result lost
   pub inputs : List Act
-  pub paused : 0 < pauses inputs → s.may_pause
+  pub paused : PausesBy before.pauses after.pauses (pauses inputs)
   pub tells : TellsActs p p' read inputs
-  pub ends : EndsTurn s.voice before.point after.point
+  pub ends : EndsTurn u before.point after.point
       (progress (flat_map acts_for inputs) p' lost (length read + pauses inputs) after.input) result
 
 abbrev pub EndsRun : {E D : Type 0} → Voice E D → Point E D → Point E D → Progress → ℕ → Result (Unit {0}) ServeFault
@@ -344,20 +345,20 @@ EndsRun u a b so_far turns (Ok _) = EndsWell u a b so_far
 EndsRun u a b so_far turns (Err fault) = FailsBy u a b so_far turns fault
 
 -- These bytes were read, however they were cut. The messages that stand in them are what the engine is asked, as far as
--- the run came; where it waits for more, or stands at a wrong prologue, those are all messages of the stream. No time
--- limit ended a read where none can.
-pub record RunsChannel {E D : Type 0} (s : Service E D) (turns : ℕ) (before after : Course E D)
+-- the run came; where it waits for more, or stands at a wrong prologue, those are all messages of the stream. Where
+-- the reader counts the reads that a time limit ended, the inputs have a pause for each of them, and no other.
+pub record RunsChannel {E D : Type 0} (u : Voice E D) (turns : ℕ) (before after : Course E D)
     (result : Result (Unit {0}) ServeFault) : Type 0 where
   pub read : List ℕ
   pub lost : List ℕ
   pub reads : Consumes before.input after.input (read ++ lost)
   pub loses : Loses result lost
   pub inputs : List Act
-  pub paused : 0 < pauses inputs → s.may_pause
+  pub paused : PausesBy before.pauses after.pauses (pauses inputs)
   pub pending : Pending
   pub follows : Follows read (flat_map arrived inputs) pending
   pub stream : Rests pending.bytes → IsStream read follows.messages follows.rest
-  pub ends : EndsRun s.voice before.point after.point
+  pub ends : EndsRun u before.point after.point
       (progress (flat_map acts_for inputs) pending lost (length read + pauses inputs) after.input) turns result
 
 -- a session that was joined is left, and nothing else is asked
@@ -367,11 +368,11 @@ LeavesSession passes (Some sid) d d' = (answer : SessionAnswer) × passes d (Ask
 
 -- the same with this desk
 abbrev pub with_desk : {E D : Type 0} → D → Course E D → Course E D
-with_desk d c = course (point c.point.engine d c.point.main c.point.side) c.input
+with_desk d c = course (point c.point.engine d c.point.main c.point.side) c.input c.pauses
 
 -- a run, and then the session is left
-pub record ServesAndLeaves {E D : Type 0} (s : Service E D) (turns : ℕ) (before after : Course E D)
+pub record ServesAndLeaves {E D : Type 0} (u : Voice E D) (turns : ℕ) (before after : Course E D)
     (result : Result (Unit {0}) ServeFault) : Type 0 where
   pub desk : D
-  pub runs : RunsChannel s turns before (with_desk desk after) result
-  pub leaves : LeavesSession s.voice.passes (s.voice.protocol.session after.point.engine) desk after.point.desk
+  pub runs : RunsChannel u turns before (with_desk desk after) result
+  pub leaves : LeavesSession u.passes (u.protocol.session after.point.engine) desk after.point.desk

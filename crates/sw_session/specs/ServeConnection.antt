@@ -6,7 +6,7 @@ use Rattle.sw_session.specs.declared.servers.fault.ServeFault.TheVariants as Fau
 use Rattle.sw_session.specs.declared.servers.source.Source as Source
 use Rattle.sw_session.specs.declared.servers.writing.Sink as Sink
 use Rattle.sw_session.specs.Trace.{Entry}
-use Rattle.sw_session.specs.ServeRead.{CameTo, MayPause}
+use Rattle.sw_session.specs.ServeRead.{CameTo}
 use Rattle.sw_session.specs.ServeEngine.{Station, ServesChannel}
 
 -- what the traits of a server's reader and its two writers tell of them
@@ -28,20 +28,20 @@ pub record Connected (D R W S : Type 0) : Type 0 where
 abbrev pub connected : {D R W S : Type 0} → D → R → W → S → Connected D R W S
 connected desk reader writer side = record { desk = desk; reader = reader; writer = writer; side = side }
 
--- the bytes that the reader has left, and those that the writers hold
+-- the bytes that the reader has left, how many reads a time limit ended, and the bytes that the writers hold
 abbrev pub station_of : {D R W S : Type 0} → Wiring R W S → Connected D R W S → Station D
 station_of w c = record {
   desk = c.desk;
   input = w.reads.remaining c.reader;
+  pauses = w.reads.pauses c.reader;
   main = w.writes.contents c.writer;
   side = w.writes_aside.contents c.side;
 }
 
--- The channel is served, with the bytes that the reader has left and those that the writers hold. A fault of reading
--- comes where a read failed, and one of writing where a write failed.
+-- The channel is served, with what the reader and the writers tell of their bytes and of the reads that a time limit
+-- ended. A fault of reading comes where a read failed, and one of writing where a write failed.
 pub record ServesConnection {D R W S : Type 0} (own : Channel) (turns : ℕ) (passes : D → Entry → D → Type 0)
     (w : Wiring R W S) (before after : Connected D R W S) (result : Result (Unit {0}) ServeFault) : Type 0 where
-  pub serves : ServesChannel passes own (MayPause w.reads.paused) turns (station_of w before) (station_of w after)
-      result
+  pub serves : ServesChannel passes own turns (station_of w before) (station_of w after) result
   pub read : result ≡ Err Fault.Read → CameTo w.reads.failed after.reader
   pub write : result ≡ Err Fault.Write → CameTo w.writes.failed after.writer ⊎ CameTo w.writes_aside.failed after.side

@@ -15,7 +15,7 @@ use Rattle.sw_session.specs.EngineStep.{goes, says, fails, Unasked}
 use Rattle.sw_session.specs.Engine.{EngineStanding, fresh_engine, TakesMessage, Falters, session_of, channel_of_state}
 use Rattle.sw_session.specs.Engine.{too_large, skips}
 use Rattle.sw_session.specs.Engine.{notice_from, noticed_from}
-use Rattle.sw_session.specs.Serve.{Protocol, voice, service, Course, course, ServesAndLeaves, point}
+use Rattle.sw_session.specs.Serve.{Protocol, voice, Course, course, ServesAndLeaves, point}
 
 -- a service request that is told, if any
 abbrev pub told_step : Option Message → StepSeen
@@ -58,21 +58,22 @@ EngineFalters e act asked f = (asked ≡ []) × (f ≡ e)
 abbrev pub engine_protocol : Protocol EngineStanding
 engine_protocol = record { speaks = EngineSpeaks; falters = EngineFalters; session = λ e. session_of e.state }
 
--- where a channel's server stands, but for its engine: its desk, what is left to be read, and what its two writers hold
+-- where a channel's server stands, but for its engine: its desk, what is left to be read, how many reads a time limit
+-- has ended, and what its two writers hold
 pub record Station (D : Type 0) : Type 0 where
   pub desk : D
   pub input : Option (List ℕ)
+  pub pauses : Option ℕ
   pub main : Option (List ℕ)
   pub side : Option (List ℕ)
 
 -- with this engine
 abbrev pub manned : {D : Type 0} → EngineStanding → Station D → Course EngineStanding D
-manned e t = course (point e t.desk t.main t.side) t.input
+manned e t = course (point e t.desk t.main t.side) t.input t.pauses
 
 -- A server of one channel, from its first byte on: an engine on which nothing has come is served.
-pub record ServesChannel {D : Type 0} (passes : D → Entry → D → Type 0) (own : Channel) (may_pause : Type 0) (turns : ℕ)
+pub record ServesChannel {D : Type 0} (passes : D → Entry → D → Type 0) (own : Channel) (turns : ℕ)
     (before after : Station D) (result : Result (Unit {0}) ServeFault) : Type 0 where
   pub engine : EngineStanding
-  pub serves : ServesAndLeaves (service (voice engine_protocol passes own) may_pause) turns
-      (manned (fresh_engine own) before)
-      (manned engine after) result
+  pub serves : ServesAndLeaves (voice engine_protocol passes own) turns
+      (manned (fresh_engine own) before) (manned engine after) result

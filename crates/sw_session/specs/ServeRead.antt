@@ -1,5 +1,5 @@
 -- What a server makes of its reads.
-use Rattle.std.specs.Prelude.{◌≡◌, ◌≢◌, ◌⊎◌, ℕ, Option, None, Some, Result, Ok, Err}
+use Rattle.std.specs.Prelude.{◌≡◌, ◌≢◌, ◌⊎◌, ℕ, ◌+◌, Option, None, Some, Result, Ok, Err, option_map}
 use Rattle.sw_session.specs.declared.servers.source.Unread.{Unread}
 use Rattle.sw_session.specs.declared.servers.source.Unread.TheVariants.{Paused, Failed}
 
@@ -22,6 +22,12 @@ pub record ComesTo {K : Type 0} (interrupted timed_out would_block kind : K)
 abbrev pub CameTo : {A : Type 0} → (A → A → Type 0) → A → Type 0
 CameTo step new = (old : _) × step old new
 
--- a time limit can end a read
-abbrev pub MayPause : {A : Type 0} → (A → A → Type 0) → Type 0
-MayPause paused = (new : _) × CameTo paused new
+-- time limits ended so many reads more: where their count is known it is by so many higher, and else it stays unknown
+abbrev pub PausesBy : Option ℕ → Option ℕ → ℕ → Type 0
+PausesBy old new n = new ≡ option_map (λ m. m + n) old
+
+-- a read that a time limit ended is counted, and no other is
+abbrev pub CountsPause : Option ℕ → Option ℕ → Result ℕ Unread → Type 0
+CountsPause old new (Ok n) = new ≡ old
+CountsPause old new (Err Paused) = PausesBy old new 1
+CountsPause old new (Err Failed) = new ≡ old

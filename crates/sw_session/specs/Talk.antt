@@ -1,7 +1,7 @@
 -- What is asked after each answer, and what is written (IEEE 488.2, 6.3, 8.4 and 10.7; SCPI-1999, 21.8).
 use Rattle.std.specs.Prelude.{◌≡◌, ℕ, ◌+◌, ◌^◌, ◌≤◌, ◌⊎◌, ◌==◌, Bool, true, false, nat_lt, nat_le, ◌&&◌, MatchBool, List, []}
 use Rattle.std.specs.Prelude.{◌∷◌, ◌++◌, Some, None, Result, Ok, Err, length, if◌then◌else◌}
-use Rattle.sw_base.specs.Limits.{most_bytes}
+use Rattle.sw_base.specs.Limits.{most_bytes, most_answer_bytes}
 use Rattle.sw_base.specs.declared.error.ScpiError.{ScpiError}
 use Rattle.sw_base.specs.declared.error.ScpiError.TheVariants.{SettingsConflict, OutOfMemory, InputBufferOverrun}
 use Rattle.sw_base.specs.Errors.{number_of}
@@ -37,10 +37,6 @@ abbrev pub answer_line : List (List ℕ) → List ℕ
 answer_line [] = []
 answer_line (a ∷ []) = a ++ 10 ∷ []
 answer_line (a ∷ b ∷ answers) = a ++ 59 ∷ answer_line (b ∷ answers)
-
--- bytes of the answers to one program message, with what stands between them and the line feed
-abbrev pub most_answer_bytes : ℕ
-most_answer_bytes = 16777216
 
 -- there is room for these answers to one message
 abbrev pub HasRoom : List (List ℕ) → Type 0

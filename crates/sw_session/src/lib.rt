@@ -14,7 +14,8 @@
 //! `Engine` is one of the two channels of a HiSLIP session (IVI-6.1), and its contract what is asked and said to each
 //! message (`TakesMessage`). `serve_sync` and `serve_async` serve a channel over any reader, two writers and any desk:
 //! what is written is what the engine says to the messages that stand in what was read, however it was cut
-//! (`ServesChannel`).
+//! (`ServesChannel`). A reader (`Source`) counts the reads that a time limit ended, where it can; then a server gives
+//! up after as many bytes and such reads as it has turns, and not before.
 //!
 //! Not promised: that a desk ever answers anything but a hold, and that memory is there.
 #![tactic(auto)]
@@ -39,7 +40,6 @@ pub use laws::{
     core_rest_is_determined, core_talk_is_determined, note_leaves_others, parts_are_one_message,
     talk_is_determined, work_is_done_in_order, work_is_kept_where_there_is_room,
 };
-pub use line::ANSWER_BYTES;
 pub use servers::{
     Act, Handler, Memory, ServeFault, Sink, Source, Unread, Unwritten, serve_async,
     serve_async_for, serve_for, serve_sync, serve_sync_for, write_all,

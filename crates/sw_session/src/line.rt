@@ -1,13 +1,11 @@
 //! The line of answers, kept as a finished line.
 
 ghost use Rattle.std.specs.Prelude.{◌≡◌, ◌+◌, ◌<◌, nat_lt, length, OnOk, OnErr};
-ghost use Rattle.sw_session.specs.Talk.{most_answer_bytes, JoinsLine};
+ghost use Rattle.sw_base.specs.Limits.{most_answer_bytes};
+ghost use Rattle.sw_session.specs.Talk.{JoinsLine};
 
 use std::alloc::AllocError;
-use sw_base::Sequence;
-
-/// How many bytes the answers to one program message have at most, with what stands between them and the line feed.
-pub const ANSWER_BYTES: usize = 16_777_216;
+use sw_base::{ANSWER_BYTES, Sequence};
 
 /// Adds an answer to those that are written: before it a semicolon, unless it is the first, and after it a line feed.
 /// A growth beyond `ANSWER_BYTES` is refused as one for which there is no memory. The first answer's memory becomes the

@@ -19,6 +19,8 @@ mod hostile_second;
 #[cfg(test)]
 mod hostile_sessions;
 #[cfg(test)]
+mod pauses;
+#[cfg(test)]
 mod room;
 #[cfg(test)]
 mod servers;

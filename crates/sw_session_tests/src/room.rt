@@ -3,8 +3,9 @@
 use crate::clients::{IDENTITY, bench};
 use std::alloc::Global;
 use std::test::Fail;
+use sw_base::ANSWER_BYTES;
 use sw_core::{SessionAnswer, SessionAsk, Sid};
-use sw_session::{ANSWER_BYTES, Desk, Talker};
+use sw_session::{Desk, Talker};
 
 /// How many bytes the macro's body has.
 const BODY: usize = 4_000;

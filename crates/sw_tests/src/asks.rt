@@ -278,6 +278,17 @@ fn read(alloc: Global, text: &[u8]) -> Result<Command, ScpiError> {
     }
 }
 
+/// Whether the text's first unit is refused by this error before it is asked.
+pub fn is_misread(alloc: Global, text: &[u8], error: ScpiError) -> bool {
+    match read(alloc, text) {
+        Ok(command) => {
+            drop(command);
+            false
+        }
+        Err(why) => why == error,
+    }
+}
+
 /// What a session asks that sends one unit.
 fn sent(alloc: Global, sid: Sid, text: &[u8]) -> Option<SessionAsk> {
     match read(alloc, text) {

@@ -7,7 +7,7 @@ use crate::cage_calls::{
 };
 use std::alloc::Global;
 use std::test::Fail;
-use sw_base::{Chan, LayerName, ScpiError, Source};
+use sw_base::{ArmLayer, Chan, LayerName, ScpiError, Source};
 use sw_cage::{Cage, CloseRefusal, EjectRefusal, Happening, InstallRefusal, Job, Taken, Ticket};
 use sw_card::{Card, Meter, Relay};
 use sw_trigger::Settings;
@@ -214,7 +214,7 @@ fn triggered<R: Relay, M: Meter>(cage: &mut Cage<R, M>) -> Option<(Ticket, u64)>
 /// Whether the scan goes on by the bus alone to this pause.
 fn pauses<R: Relay, M: Meter>(cage: &mut Cage<R, M>, wanted: (Ticket, u64)) -> bool {
     ignores(cage, Happening::External)
-        && ignores(cage, Happening::Signal(LayerName::Arm2))
+        && ignores(cage, Happening::Signal(LayerName::Arm(ArmLayer::Second)))
         && triggered(cage) == Some(wanted)
 }
 
@@ -246,7 +246,7 @@ fn goes_on_alone<R: Relay, M: Meter>(cage: &mut Cage<R, M>, layout: &Layout) -> 
 
 /// One reading by the bus, behind half a second.
 fn set_pause(settings: &mut Settings) -> Result<(), ScpiError> {
-    settings.set_source(LayerName::Arm1, Source::Bus);
+    settings.set_source(LayerName::Arm(ArmLayer::First), Source::Bus);
     settings.set_delay(LayerName::Trigger, 500_000)
 }
 

@@ -18,6 +18,8 @@ mod hostile;
 #[cfg(test)]
 mod hostile_memory;
 #[cfg(test)]
+mod layers;
+#[cfg(test)]
 mod lists;
 #[cfg(test)]
 mod positions;
@@ -29,3 +31,7 @@ mod scans;
 mod session;
 #[cfg(test)]
 mod several;
+#[cfg(test)]
+mod slots;
+#[cfg(test)]
+mod timers;

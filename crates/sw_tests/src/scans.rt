@@ -283,7 +283,7 @@ fn answer_after<R: Relay, M: Meter>(
 }
 
 /// Whether the plan that could begin is refused as a conflict once this was sent.
-fn is_outdated_by<R: Relay, M: Meter>(
+pub fn is_outdated_by<R: Relay, M: Meter>(
     alloc: Global,
     core: &mut Core<R, M>,
     sid: Sid,
@@ -296,7 +296,7 @@ fn is_outdated_by<R: Relay, M: Meter>(
 }
 
 /// Whether the plan that could begin does so once this was sent.
-fn is_kept_by<R: Relay, M: Meter>(
+pub fn is_kept_by<R: Relay, M: Meter>(
     alloc: Global,
     core: &mut Core<R, M>,
     sid: Sid,

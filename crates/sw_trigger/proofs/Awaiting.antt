@@ -1,22 +1,23 @@
 -- The awaiting items of an agenda.
-use Rattle.std.proofs.Common.{◌≡◌, ℕ, zero, suc, ◌+◌, ◌-◌, ◌*◌, ◌%◌, ◌<◌, ◌≤◌, List, [], ◌∷◌, ◌++◌, length, map, Bool, true, false, Some, cond, eqb, refl, sym}
-use Rattle.std.proofs.Common.{ap, ◌∙◌, arith, length-append}
+use Rattle.std.proofs.Common.{◌≡◌, ℕ, zero, suc, ◌+◌, ◌-◌, ◌*◌, ◌%◌, ◌<◌, ◌≤◌, List, [], ◌∷◌, ◌++◌, length, map, Bool, true, false, None, cond, eqb, refl, sym}
+use Rattle.std.proofs.Common.{ap, ◌∙◌, arith, length-append, le_trans}
 use Rattle.std.specs.List.{slice_get}
-use Rattle.std.proofs.Math.Nat.{suc-mul}
+use Rattle.std.proofs.Math.Nat.{suc-mul, le-mul_of_pos_right, mul-le-mul_left, mul-le-mul_right, mul_comm}
 use Rattle.std.proofs.lemmas.Bool.Decides.{nat_tests}
 use Rattle.std.proofs.lemmas.Nat.{mod_below}
 use Rattle.std.proofs.lemmas.List.{map-append}
 use Rattle.sw_trigger.specs.declared.layer.Layer.{Layer}
 use Rattle.sw_base.specs.declared.terms.LayerName.{LayerName}
-use Rattle.sw_base.specs.declared.terms.LayerName.TheVariants.{Arm1, Arm2, Trigger}
+use Rattle.sw_base.specs.declared.terms.LayerName.TheVariants.{Trigger}
+use Rattle.sw_base.specs.Limits.{most_arm_layers, most_arm_count}
 use Rattle.sw_base.specs.declared.terms.Source.{Source}
-use Rattle.sw_base.specs.declared.terms.Source.TheVariants.{Immediate, Bus, External, Hold}
+use Rattle.sw_base.specs.declared.terms.Source.TheVariants.{Immediate, Bus, External, Hold, Timer}
 use Rattle.sw_trigger.specs.declared.layer.Awaited.{Awaited}
 use Rattle.sw_trigger.specs.declared.layer.Awaited.TheVariants.{Pause, Read}
-use Rattle.sw_trigger.specs.Settings.{SettingsSeen}
-use Rattle.sw_trigger.specs.Agenda.{Item, Awaits, Close, Open, repeated, head_of, passes, pass_of, visit, position_at, arm_turn, arm_turns, agenda, wait_of}
+use Rattle.sw_trigger.specs.Settings.{SettingsSeen, NamedLayer, arms_of}
+use Rattle.sw_trigger.specs.Agenda.{Item, Awaits, Close, Open, repeated, head_of, passes, pass_of, visit, position_at, turns_of, agenda, wait_by, wait_of}
 use Rattle.sw_trigger.specs.Agenda.{pause_of}
-use Rattle.sw_trigger.specs.Counts.{awaiting, reads, in_turn, in_pass, in_arm2, in_arm1}
+use Rattle.sw_trigger.specs.Counts.{awaiting, reads, in_turns, in_arms, in_scan, times, most_awaited, most_read}
 use Rattle.sw_trigger.proofs.Repeats.{length-repeated, get-repeated, get-append_left, get-append_right}
 
 pub awaiting-append : (xs ys : List Item) → awaiting (xs ++ ys) ≡ awaiting xs ++ awaiting ys
@@ -36,45 +37,33 @@ awaiting-repeated (suc n) xs = awaiting-append xs (repeated n xs) ∙ ap (λ l. 
 pub awaiting-after_head : (h : List Awaited) (xs : List Item) → awaiting (map Awaits h ++ xs) ≡ h ++ awaiting xs
 awaiting-after_head h xs = awaiting-append (map Awaits h) xs ∙ ap (λ l. l ++ awaiting xs) (awaiting-awaits h)
 
-pub awaiting-passes : (s : SettingsSeen) (k n : ℕ) → awaiting (passes s k n) ≡ repeated n (in_pass s)
+pub awaiting-passes : (s : SettingsSeen) (k n : ℕ) → awaiting (passes s k n) ≡ repeated n (head_of Trigger s.trigger ++ Read ∷ [])
 awaiting-passes s k zero = refl
 awaiting-passes s k (suc n) =
     awaiting-append (pass_of s k) (passes s (suc k) n)
     ∙ ap (λ l. l ++ awaiting (passes s (suc k) n)) (awaiting-after_head (head_of Trigger s.trigger) (visit (position_at s.list k)))
-    ∙ ap (λ l. in_pass s ++ l) (awaiting-passes s (suc k) n)
+    ∙ ap (λ l. (head_of Trigger s.trigger ++ Read ∷ []) ++ l) (awaiting-passes s (suc k) n)
 
-awaiting-arm_turns : (name : LayerName) (l : Layer) (inside : List Item)
-    → awaiting (arm_turns name l inside) ≡ repeated l.count (head_of name l ++ awaiting inside)
-awaiting-arm_turns name l inside =
-    awaiting-repeated l.count (arm_turn name l inside) ∙ ap (repeated l.count) (awaiting-after_head (head_of name l) inside)
+pub awaiting-turns : (arms : List NamedLayer) (inside : List Item) → awaiting (turns_of arms inside) ≡ in_arms arms (awaiting inside)
+awaiting-turns [] inside = refl
+awaiting-turns (arm ∷ arms) inside =
+    awaiting-repeated arm.1.count (map Awaits (head_of arm.0 arm.1) ++ turns_of arms inside)
+    ∙ ap (repeated arm.1.count) (awaiting-after_head (head_of arm.0 arm.1) (turns_of arms inside))
+    ∙ ap (in_turns arm.0 arm.1) (awaiting-turns arms inside)
 
 -- an agenda that isn't empty
-pub agenda_is : (s : SettingsSeen) → 0 < length s.list → agenda s ≡ arm_turns Arm1 s.arm1 (arm_turns Arm2 s.arm2 (passes s 0 s.trigger.count))
+pub agenda_is : (s : SettingsSeen) → 0 < length s.list → agenda s ≡ turns_of (arms_of s) (passes s 0 s.trigger.count)
 agenda_is s h = grind arith
 
-pub awaiting-agenda : (s : SettingsSeen) → 0 < length s.list → awaiting (agenda s) ≡ repeated s.arm1.count (in_arm1 s)
+pub awaiting-agenda : (s : SettingsSeen) → 0 < length s.list → awaiting (agenda s) ≡ in_scan s
 awaiting-agenda s h =
-    ap awaiting (agenda_is s h)
-    ∙ awaiting-arm_turns Arm1 s.arm1 (arm_turns Arm2 s.arm2 (passes s 0 s.trigger.count))
-    ∙ ap (λ l. repeated s.arm1.count (head_of Arm1 s.arm1 ++ l)) (awaiting-arm_turns Arm2 s.arm2 (passes s 0 s.trigger.count)
-    ∙ ap (λ l. repeated s.arm2.count (head_of Arm2 s.arm2 ++ l)) (awaiting-passes s 0 s.trigger.count))
+    ap awaiting (agenda_is s h) ∙ awaiting-turns (arms_of s) (passes s 0 s.trigger.count)
+    ∙ ap (in_arms (arms_of s)) (awaiting-passes s 0 s.trigger.count)
 
-pub length-in_pass : (s : SettingsSeen) → length (in_pass s) ≡ length (head_of Trigger s.trigger) + 1
-length-in_pass s = length-append (head_of Trigger s.trigger) (Read ∷ [])
-
-length-in_turn : (name : LayerName) (l : Layer) (times : ℕ) (inside : List Awaited)
-    → length (in_turn name l times inside) ≡ length (head_of name l) + times * length inside
-length-in_turn name l times inside =
-    length-append (head_of name l) (repeated times inside) ∙ ap (λ n. length (head_of name l) + n) (length-repeated times inside)
-
-pub length-in_arm2 : (s : SettingsSeen) → length (in_arm2 s) ≡ length (head_of Arm2 s.arm2) + s.trigger.count * length (in_pass s)
-length-in_arm2 s = length-in_turn Arm2 s.arm2 s.trigger.count (in_pass s)
-
-pub length-in_arm1 : (s : SettingsSeen) → length (in_arm1 s) ≡ length (head_of Arm1 s.arm1) + s.arm2.count * length (in_arm2 s)
-length-in_arm1 s = length-in_turn Arm1 s.arm1 s.arm2.count (in_arm2 s)
-
-pub length-awaiting : (s : SettingsSeen) → 0 < length s.list → length (awaiting (agenda s)) ≡ s.arm1.count * length (in_arm1 s)
-length-awaiting s h = ap length (awaiting-agenda s h) ∙ length-repeated s.arm1.count (in_arm1 s)
+pub length-in_turns : (name : LayerName) (l : Layer) (inside : List Awaited)
+    → length (in_turns name l inside) ≡ l.count * (length (head_of name l) + length inside)
+length-in_turns name l inside =
+    length-repeated l.count (head_of name l ++ inside) ∙ ap (λ n. l.count * n) (length-append (head_of name l) inside)
 
 -- readings
 pub reads-append : (xs ys : List Item) → reads (xs ++ ys) ≡ reads xs + reads ys
@@ -87,11 +76,12 @@ pub reads-repeated : (n : ℕ) (xs : List Item) → reads (repeated n xs) ≡ n 
 reads-repeated zero xs = omega arith
 reads-repeated (suc n) xs = omega (arith, reads-append xs (repeated n xs), reads-repeated n xs, suc-mul n (reads xs))
 
-pub reads-wait : (name : LayerName) (source : Source) → reads (map Awaits (wait_of name source)) ≡ 0
-reads-wait name Immediate = refl
-reads-wait name Bus = refl
-reads-wait name External = refl
-reads-wait name Hold = refl
+pub reads-wait : (name : LayerName) (source : Source) (timer : ℕ) → reads (map Awaits (wait_by name source timer)) ≡ 0
+reads-wait name Immediate timer = refl
+reads-wait name Bus timer = refl
+reads-wait name External timer = refl
+reads-wait name Hold timer = refl
+reads-wait name Timer timer = refl
 
 reads-cond_pause : (b : Bool) (micros : ℕ) → reads (map Awaits (cond b [] (Pause micros ∷ []))) ≡ 0
 reads-cond_pause true micros = refl
@@ -102,8 +92,8 @@ reads-pause micros = reads-cond_pause (eqb micros 0) micros
 
 pub reads-head : (name : LayerName) (l : Layer) → reads (map Awaits (head_of name l)) ≡ 0
 reads-head name l =
-    ap reads (map-append Awaits (wait_of name l.source) (pause_of l.delay_us))
-    ∙ omega (arith, reads-append (map Awaits (wait_of name l.source)) (map Awaits (pause_of l.delay_us)), reads-wait name l.source, reads-pause l.delay_us)
+    ap reads (map-append Awaits (wait_of name l) (pause_of l.delay_us))
+    ∙ omega (arith, reads-append (map Awaits (wait_of name l)) (map Awaits (pause_of l.delay_us)), reads-wait name l.source l.timer_us, reads-pause l.delay_us)
 
 pub reads-passes : (s : SettingsSeen) (k n : ℕ) → reads (passes s k n) ≡ n
 reads-passes s k zero = refl
@@ -116,146 +106,99 @@ reads-passes s k (suc n) =
       reads-passes s (suc k) n,
     )
 
-reads-arm_turns : (name : LayerName) (l : Layer) (inside : List Item) → reads (arm_turns name l inside) ≡ l.count * reads inside
-reads-arm_turns name l inside =
-    let turn : reads (arm_turn name l inside) ≡ reads inside = omega (arith, reads-append (map Awaits (head_of name l)) inside, reads-head name l) in
-    reads-repeated l.count (arm_turn name l inside) ∙ ap (λ n. l.count * n) turn
+pub reads-turns : (arms : List NamedLayer) (inside : List Item) → reads (turns_of arms inside) ≡ times arms (reads inside)
+reads-turns [] inside = refl
+reads-turns (arm ∷ arms) inside =
+    let turn : reads (map Awaits (head_of arm.0 arm.1) ++ turns_of arms inside) ≡ reads (turns_of arms inside) =
+    omega (arith, reads-append (map Awaits (head_of arm.0 arm.1)) (turns_of arms inside), reads-head arm.0 arm.1) in
+    reads-repeated arm.1.count (map Awaits (head_of arm.0 arm.1) ++ turns_of arms inside) ∙ ap (λ n. arm.1.count * n) (turn ∙ reads-turns arms inside)
 
-pub reads-agenda : (s : SettingsSeen) → 0 < length s.list → reads (agenda s) ≡ s.arm1.count * (s.arm2.count * s.trigger.count)
+pub reads-agenda : (s : SettingsSeen) → 0 < length s.list → reads (agenda s) ≡ times (arms_of s) s.trigger.count
 reads-agenda s h =
-    ap reads (agenda_is s h)
-    ∙ reads-arm_turns Arm1 s.arm1 (arm_turns Arm2 s.arm2 (passes s 0 s.trigger.count))
-    ∙ ap (λ n. s.arm1.count * n) (reads-arm_turns Arm2 s.arm2 (passes s 0 s.trigger.count)
-    ∙ ap (λ n. s.arm2.count * n) (reads-passes s 0 s.trigger.count))
+    ap reads (agenda_is s h) ∙ reads-turns (arms_of s) (passes s 0 s.trigger.count)
+    ∙ ap (times (arms_of s)) (reads-passes s 0 s.trigger.count)
 
--- what the program multiplies
-pub readings_is : (s : SettingsSeen) (c1 c2 c3 : ℕ) → 0 < length s.list → c1 ≡ s.arm1.count → c2 ≡ s.arm2.count → c3 ≡ s.trigger.count
-    → c1 * (c2 * c3) ≡ reads (agenda s)
-readings_is s c1 c2 c3 h k1 k2 k3 = let e = reads-agenda s h in cc
-
-pub bound_is : (s : SettingsSeen) (c1 l1 : ℕ) → 0 < length s.list → c1 ≡ s.arm1.count → l1 ≡ length (in_arm1 s) → c1 * l1 ≡ length (awaiting (agenda s))
-bound_is s c1 l1 h k e = let a = length-awaiting s h in cc
-
-pub arm2_is : (s : SettingsSeen) (h2 c3 l3 : ℕ) → h2 ≡ length (head_of Arm2 s.arm2) → c3 ≡ s.trigger.count → l3 ≡ length (in_pass s)
-    → h2 + c3 * l3 ≡ length (in_arm2 s)
-arm2_is s h2 c3 l3 e k f = let a = length-in_arm2 s in cc
-
-pub arm1_is : (s : SettingsSeen) (h1 c2 l2 : ℕ) → h1 ≡ length (head_of Arm1 s.arm1) → c2 ≡ s.arm2.count → l2 ≡ length (in_arm2 s)
-    → h1 + c2 * l2 ≡ length (in_arm1 s)
-arm1_is s h1 c2 l2 e k f = let a = length-in_arm1 s in cc
-
--- a number below a product
-pos_factor : (n a b : ℕ) → n < a * b → 0 < b
-pos_factor n a zero h = absurd (omega (arith, h))
-pos_factor n a (suc b) h = omega arith
+pub listed_from_test : (b : Bool) (m n : ℕ) → b ≡ eqb m 0 → b ≡ false → n ≡ m → 0 < n
+listed_from_test b m n e f g = grind (arith, nat_tests)
 
 some_left : (m n : ℕ) (xs : List Item) → n < length (awaiting (cond (eqb m 0) [] xs)) → 0 < m
 some_left zero n xs h = absurd (omega (arith, h))
 some_left (suc m) n xs h = omega arith
 
 pub listed_from_within : (s : SettingsSeen) (n : ℕ) → n < length (awaiting (agenda s)) → 0 < length s.list
-listed_from_within s n h = some_left (length s.list) n (arm_turns Arm1 s.arm1 (arm_turns Arm2 s.arm2 (passes s 0 s.trigger.count))) h
+listed_from_within s n h = some_left (length s.list) n (turns_of (arms_of s) (passes s 0 s.trigger.count)) h
 
-pub listed_from_test : (b : Bool) (m n : ℕ) → b ≡ eqb m 0 → b ≡ false → n ≡ m → 0 < n
-listed_from_test b m n e f g = grind (arith, nat_tests)
+-- the item at a place in the turns of a layer, by division
+module _ (name : LayerName) (l : Layer) (xs : List Awaited) (n m : ℕ) (within : n < length (in_turns name l xs)) (len : m ≡ length (head_of name l) + length xs)
+    (some : 0 < m) where
+  whole : n < l.count * length (head_of name l ++ xs)
+  whole = omega (arith, length-in_turns name l xs, ap (λ k. l.count * k) (length-append (head_of name l) xs))
 
--- the item at a place, by division
-module _ (s : SettingsSeen) (n : ℕ) (within : n < length (awaiting (agenda s))) where
-  listed : 0 < length s.list
-  listed = listed_from_within s n within
+  at_turn : slice_get (in_turns name l xs) n ≡ slice_get (head_of name l ++ xs) (n % m)
+  at_turn = get-repeated l.count (head_of name l ++ xs) n whole
+      ∙ ap (λ k. slice_get (head_of name l ++ xs) (n % k)) (length-append (head_of name l) xs ∙ sym len)
 
-  abbrev pub place1 : ℕ
-  place1 = n % length (in_arm1 s)
+  pub at_head : n % m < length (head_of name l) → slice_get (in_turns name l xs) n ≡ slice_get (head_of name l) (n % m)
+  at_head h = at_turn ∙ get-append_left (head_of name l) xs (n % m) h
 
-  abbrev pub place2 : ℕ
-  place2 = (place1 - length (head_of Arm1 s.arm1)) % length (in_arm2 s)
+  pub at_inside : length (head_of name l) ≤ n % m
+      → (n % m - length (head_of name l) < length xs) × (slice_get (in_turns name l xs) n ≡ slice_get xs (n % m - length (head_of name l)))
+  at_inside h =
+      let lt : n % m < m = mod_below n m some in (
+        omega (arith, lt, len, h),
+        at_turn ∙ get-append_right (head_of name l) xs (n % m) (n % m - length (head_of name l)) (omega arith),
+      )
 
-  abbrev pub place3 : ℕ
-  place3 = (place2 - length (head_of Arm2 s.arm2)) % length (in_pass s)
+-- what is there is found
+pub some_there : (l : List Awaited) (i : ℕ) → i < length l → slice_get l i ≡ None → ⊥
+some_there [] i h e = omega arith
+some_there (x ∷ l) zero h e = absurd (cc e)
+some_there (x ∷ l) (suc i) h e = some_there l i (omega arith) e
 
-  at_arm1 : slice_get (awaiting (agenda s)) n ≡ slice_get (in_arm1 s) place1
-  at_arm1 = ap (λ l. slice_get l n) (awaiting-agenda s listed) ∙ get-repeated s.arm1.count (in_arm1 s) n (omega (arith, length-awaiting s listed))
+-- the product that the turns of a layer come to
+pub turned : (count head inside c : ℕ) → 1 ≤ count → head ≤ 2 → c ≡ count → (2 + inside) * count < 18446744073709551616
+    → (head + inside < 18446744073709551616) × (c * (head + inside) < 18446744073709551616) × (inside ≤ c * (head + inside)) × (c * (head + inside) ≤ (2 + inside) * count)
+turned count head inside c some small same fits =
+    let least : head + inside ≤ (head + inside) * count = le-mul_of_pos_right (head + inside) some in
+    let swap : (head + inside) * count ≡ count * (head + inside) = mul_comm (head + inside) count in
+    let more : count * (head + inside) ≤ count * (2 + inside) = mul-le-mul_left count (omega arith) in
+    let turn : count * (2 + inside) ≡ (2 + inside) * count = mul_comm count (2 + inside) in
+    let e : c * (head + inside) ≡ count * (head + inside) = ap (λ n. n * (head + inside)) same in
+    (omega (arith, least, swap, more, turn), omega (arith, more, turn, e), omega (arith, least, swap, e), omega (arith, more, turn, e))
 
-  pub at_arm1_head : place1 < length (head_of Arm1 s.arm1) → slice_get (awaiting (agenda s)) n ≡ slice_get (head_of Arm1 s.arm1) place1
-  at_arm1_head h = at_arm1 ∙ get-append_left (head_of Arm1 s.arm1) (repeated s.arm2.count (in_arm2 s)) place1 h
+-- ---- the most of each
 
-  at_arm2 : length (head_of Arm1 s.arm1) ≤ place1 → slice_get (awaiting (agenda s)) n ≡ slice_get (in_arm2 s) place2
-  at_arm2 h =
-      let j = place1 - length (head_of Arm1 s.arm1) in
-      let some : 0 < length (in_arm1 s) = pos_factor n s.arm1.count (length (in_arm1 s)) (omega (arith, length-awaiting s listed)) in
-      let lt : place1 < length (in_arm1 s) = mod_below n (length (in_arm1 s)) some in
-      at_arm1
-      ∙ get-append_right (head_of Arm1 s.arm1) (repeated s.arm2.count (in_arm2 s)) place1 j (omega arith)
-      ∙ get-repeated s.arm2.count (in_arm2 s) j (omega (arith, length-in_arm1 s))
+-- products of what is at most so much
+pub product_most : (a b m n : ℕ) → a ≤ m → b ≤ n → a * b ≤ m * n
+product_most a b m n h k = le_trans (mul-le-mul_left a k) (mul-le-mul_right n h)
 
-  pub at_arm2_head : length (head_of Arm1 s.arm1) ≤ place1 → place2 < length (head_of Arm2 s.arm2)
-      → slice_get (awaiting (agenda s)) n ≡ slice_get (head_of Arm2 s.arm2) place2
-  at_arm2_head h k = at_arm2 h ∙ get-append_left (head_of Arm2 s.arm2) (repeated s.trigger.count (in_pass s)) place2 k
+-- inside so many layers at most stands no more than inside so many
+pub awaited_below : (n : ℕ) → suc n ≤ most_arm_layers → most_awaited n ≤ 300002002000
+awaited_below zero h = omega arith
+awaited_below (suc zero) h = omega arith
+awaited_below (suc (suc zero)) h = omega arith
+awaited_below (suc (suc (suc n))) h = absurd (omega arith)
 
-  at_pass : length (head_of Arm1 s.arm1) ≤ place1 → length (head_of Arm2 s.arm2) ≤ place2 → slice_get (awaiting (agenda s)) n ≡ slice_get (in_pass s) place3
-  at_pass h k =
-      let j = place2 - length (head_of Arm2 s.arm2) in
-      let some1 : 0 < length (in_arm1 s) = pos_factor n s.arm1.count (length (in_arm1 s)) (omega (arith, length-awaiting s listed)) in
-      let lt1 : place1 < length (in_arm1 s) = mod_below n (length (in_arm1 s)) some1 in
-      let some2 : 0 < length (in_arm2 s) =
-      pos_factor (place1 - length (head_of Arm1 s.arm1)) s.arm2.count (length (in_arm2 s)) (omega (arith, length-in_arm1 s)) in
-      let lt2 : place2 < length (in_arm2 s) = mod_below (place1 - length (head_of Arm1 s.arm1)) (length (in_arm2 s)) some2 in
-      at_arm2 h
-      ∙ get-append_right (head_of Arm2 s.arm2) (repeated s.trigger.count (in_pass s)) place2 j (omega arith)
-      ∙ get-repeated s.trigger.count (in_pass s) j (omega (arith, length-in_arm2 s))
+pub read_below : (n : ℕ) → suc n ≤ most_arm_layers → most_read n ≤ 100000000000
+read_below zero h = omega arith
+read_below (suc zero) h = omega arith
+read_below (suc (suc zero)) h = omega arith
+read_below (suc (suc (suc n))) h = absurd (omega arith)
 
-  pub at_pass_head : length (head_of Arm1 s.arm1) ≤ place1 → length (head_of Arm2 s.arm2) ≤ place2 → place3 < length (head_of Trigger s.trigger)
-      → slice_get (awaiting (agenda s)) n ≡ slice_get (head_of Trigger s.trigger) place3
-  at_pass_head h k m = at_pass h k ∙ get-append_left (head_of Trigger s.trigger) (Read ∷ []) place3 m
+-- the turns of a layer more fit into a number of the code, and so does what they read
+pub fits_awaited : (n inside count : ℕ) → suc n ≤ most_arm_layers → inside ≤ most_awaited n → count ≤ most_arm_count
+    → (2 + inside) * count < 18446744073709551616
+fits_awaited n inside count few h k =
+    let b = awaited_below n few in
+    let p = product_most (2 + inside) count 300002002002 1000 (omega (arith, h, b)) (omega (arith, k)) in
+    omega (arith, p)
 
-  pub at_read : length (head_of Arm1 s.arm1) ≤ place1 → length (head_of Arm2 s.arm2) ≤ place2 → length (head_of Trigger s.trigger) ≤ place3
-      → slice_get (awaiting (agenda s)) n ≡ Some Read
-  at_read h k m =
-      let lt : place3 < length (in_pass s) = mod_below (place2 - length (head_of Arm2 s.arm2)) (length (in_pass s)) (omega (arith, length-in_pass s)) in
-      at_pass h k ∙ get-append_right (head_of Trigger s.trigger) (Read ∷ []) place3 0 (omega (arith, length-in_pass s))
+pub fits_turn : (n inside : ℕ) → suc n ≤ most_arm_layers → inside ≤ most_awaited n → 2 + inside < 18446744073709551616
+fits_turn n inside few h = let b = awaited_below n few in omega (arith, h, b)
 
--- each length is above 0, since a turn ends with a reading
-pub some_pass : (s : SettingsSeen) → 0 < length (in_pass s)
-some_pass s = omega (arith, length-in_pass s)
-
-pub some_arm2 : (s : SettingsSeen) (n : ℕ) → n < length (awaiting (agenda s)) → length (head_of Arm1 s.arm1) ≤ n % length (in_arm1 s) → 0 < length (in_arm2 s)
-some_arm2 s n w h =
-    let l = listed_from_within s n w in
-    let some1 : 0 < length (in_arm1 s) = pos_factor n s.arm1.count (length (in_arm1 s)) (omega (arith, length-awaiting s l)) in
-    let lt1 : n % length (in_arm1 s) < length (in_arm1 s) = mod_below n (length (in_arm1 s)) some1 in
-    pos_factor (n % length (in_arm1 s) - length (head_of Arm1 s.arm1)) s.arm2.count (length (in_arm2 s)) (omega (arith, length-in_arm1 s))
-
-pub some_arm1 : (s : SettingsSeen) (n : ℕ) → n < length (awaiting (agenda s)) → 0 < length (in_arm1 s)
-some_arm1 s n w = let l = listed_from_within s n w in pos_factor n s.arm1.count (length (in_arm1 s)) (omega (arith, length-awaiting s l))
-
--- the item at a place, by the lengths that the program has
-module _ (s : SettingsSeen) (n h1 l1 h2 l2 l3 : ℕ) (within : n < length (awaiting (agenda s))) (e1 : h1 ≡ length (head_of Arm1 s.arm1)) (k1 : l1
-    ≡ length (in_arm1 s)) (e2 : h2 ≡ length (head_of Arm2 s.arm2)) (k2 : l2 ≡ length (in_arm2 s)) (k3 : l3 ≡ length (in_pass s)) where
-  p1 : n % l1 ≡ place1 s n within
-  p1 = cc
-
-  p2 : (n % l1 - h1) % l2 ≡ place2 s n within
-  p2 = cc
-
-  p3 : ((n % l1 - h1) % l2 - h2) % l3 ≡ place3 s n within
-  p3 = cc
-
-  pub some1 : 0 < l1
-  some1 = omega (arith, some_arm1 s n within)
-
-  pub some2 : h1 ≤ n % l1 → 0 < l2
-  some2 h = omega (arith, some_arm2 s n within (omega (arith, p1)))
-
-  pub found_arm1 : n % l1 < h1 → slice_get (awaiting (agenda s)) n ≡ slice_get (head_of Arm1 s.arm1) (n % l1)
-  found_arm1 h = at_arm1_head s n within (omega (arith, p1)) ∙ ap (slice_get (head_of Arm1 s.arm1)) (sym p1)
-
-  pub found_arm2 : h1 ≤ n % l1 → (n % l1 - h1) % l2 < h2 → slice_get (awaiting (agenda s)) n ≡ slice_get (head_of Arm2 s.arm2) ((n % l1 - h1) % l2)
-  found_arm2 h k = at_arm2_head s n within (omega (arith, p1)) (omega (arith, p2)) ∙ ap (slice_get (head_of Arm2 s.arm2)) (sym p2)
-
-  pub found_pass : h1 ≤ n % l1 → h2 ≤ (n % l1 - h1) % l2 → ((n % l1 - h1) % l2 - h2) % l3 + 1 < l3
-      → slice_get (awaiting (agenda s)) n ≡ slice_get (head_of Trigger s.trigger) (((n % l1 - h1) % l2 - h2) % l3)
-  found_pass h k m = at_pass_head s n within (omega (arith, p1)) (omega (arith, p2)) (omega (arith, p3, length-in_pass s))
-      ∙ ap (slice_get (head_of Trigger s.trigger)) (sym p3)
-
-  pub found_read : h1 ≤ n % l1 → h2 ≤ (n % l1 - h1) % l2 → l3 ≤ ((n % l1 - h1) % l2 - h2) % l3 + 1 → slice_get (awaiting (agenda s)) n ≡ Some Read
-  found_read h k m = at_read s n within (omega (arith, p1)) (omega (arith, p2)) (omega (arith, p3, length-in_pass s))
+pub fits_read : (n inside count : ℕ) → suc n ≤ most_arm_layers → inside ≤ most_read n → count ≤ most_arm_count
+    → count * inside < 18446744073709551616
+fits_read n inside count few h k =
+    let b = read_below n few in
+    let p = product_most count inside 1000 100000000000 (omega (arith, k)) (omega (arith, h, b)) in
+    omega (arith, p)

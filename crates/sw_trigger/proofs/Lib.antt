@@ -1,3 +1,4 @@
 pub mod Repeats
 pub mod Awaiting
 pub mod Same
+pub mod Ranges

@@ -19,27 +19,56 @@ same_source a b = sameb the_type a b
 source_decides : (a b : Source) → Decides (same_source a b) (a ≡ b)
 source_decides a b = (same_true the_type tt a b, true_same the_type a b)
 
-abbrev layer : ℕ → Source → ℕ → Layer
-layer count source delay = record { count = count; source = source; delay_us = delay }
+abbrev layer : ℕ → Source → ℕ → ℕ → Layer
+layer count source delay timer = record { count = count; source = source; delay_us = delay; timer_us = timer }
 
-same_layer : (a b : Layer) → (a.count ≡ b.count) × (a.source ≡ b.source) × (a.delay_us ≡ b.delay_us) → a ≡ b
-same_layer a b e = ap (λ n. layer n a.source a.delay_us) e.0 ∙ ap (λ s. layer b.count s a.delay_us) e.1 ∙ ap (λ n. layer b.count b.source n) e.2
+same_layer : (a b : Layer) → (a.count ≡ b.count) × (a.source ≡ b.source) × (a.delay_us ≡ b.delay_us) × (a.timer_us ≡ b.timer_us) → a ≡ b
+same_layer a b e =
+    ap (λ n. layer n a.source a.delay_us a.timer_us) e.0 ∙ ap (λ s. layer b.count s a.delay_us a.timer_us) e.1
+    ∙ ap (λ n. layer b.count b.source n a.timer_us) e.2 ∙ ap (λ n. layer b.count b.source b.delay_us n) e.3
 
 not_other : (b : Bool) → not b ≡ false → b ≡ true
 not_other true h = refl
 not_other false h = sym h
 
-all_three : (a b c : Bool) → (a && (b && c)) ≡ true → (a ≡ true) × (b ≡ true) × (c ≡ true)
-all_three true true c h = (refl, refl, h)
-all_three true false c h = cc
-all_three false b c h = cc
+all_four : (a b c d : Bool) → (a && (b && (c && d))) ≡ true → (a ≡ true) × (b ≡ true) × (c ≡ true) × (d ≡ true)
+all_four true true true d h = (refl, refl, refl, h)
+all_four true true false d h = cc
+all_four true false c d h = cc
+all_four false b c d h = cc
 
--- what `a != b` tells where it is false
-pub layer_same : (r : Bool) (a b : Layer) → r ≡ not (eqb a.count b.count && (same_source a.source b.source && eqb a.delay_us b.delay_us)) → r ≡ false → a ≡ b
-layer_same r a b e f =
-    let t = all_three (eqb a.count b.count) (same_source a.source b.source) (eqb a.delay_us b.delay_us) (not_other (eqb a.count b.count
-    && (same_source a.source b.source && eqb a.delay_us b.delay_us)) (sym e ∙ f)) in
-    same_layer a b ((Decides-eqb a.count b.count).0 t.0, (source_decides a.source b.source).0 t.1, (Decides-eqb a.delay_us b.delay_us).0 t.2)
+abbrev layers_test : Layer → Layer → Bool
+layers_test a b = eqb a.count b.count && (same_source a.source b.source && (eqb a.delay_us b.delay_us && eqb a.timer_us b.timer_us))
+
+layer_back : (a b : Layer) → layers_test a b ≡ true → a ≡ b
+layer_back a b e =
+    let t = all_four (eqb a.count b.count) (same_source a.source b.source) (eqb a.delay_us b.delay_us) (eqb a.timer_us b.timer_us) e in
+    same_layer a b (
+      (Decides-eqb a.count b.count).0 t.0,
+      (source_decides a.source b.source).0 t.1,
+      (Decides-eqb a.delay_us b.delay_us).0 t.2,
+      (Decides-eqb a.timer_us b.timer_us).0 t.3,
+    )
+
+test_refl : (a : Layer) → layers_test a a ≡ true
+test_refl a =
+    rw ((Decides-eqb a.count a.count).1 refl, (source_decides a.source a.source).1 refl, (Decides-eqb a.delay_us a.delay_us).1 refl, (Decides-eqb a.timer_us a.timer_us).1 refl) refl
+
+layer_decides : (a b : Layer) → Decides (layers_test a b) (a ≡ b)
+layer_decides a b = (layer_back a b, λ e. ap (layers_test a) (sym e) ∙ test_refl a)
+
+-- what `a != b` tells where it is false, of a layer and of a row of them
+pub layer_same : (r : Bool) (a b : Layer) → r ≡ not (layers_test a b) → r ≡ false → a ≡ b
+layer_same r a b e f = layer_back a b (not_other (layers_test a b) (sym e ∙ f))
+
+pub layers_same : (r : Bool) (xs ys : List Layer) → r ≡ not (pointwise layers_test xs ys) → r ≡ false → xs ≡ ys
+layers_same r xs ys e f = (slice_eq-Decides layer_decides xs ys (pointwise layers_test xs ys) refl).0 (not_other (pointwise layers_test xs ys) (sym e ∙ f))
+
+pub layer_other : (r : Bool) (a b : Layer) → r ≡ not (layers_test a b) → r ≡ true → a ≡ b → ⊥
+layer_other r a b e f g = absurd (cc (sym f ∙ e ∙ ap not ((layer_decides a b).1 g)))
+
+pub layers_other : (r : Bool) (xs ys : List Layer) → r ≡ not (pointwise layers_test xs ys) → r ≡ true → xs ≡ ys → ⊥
+layers_other r xs ys e f g = absurd (cc (sym f ∙ e ∙ ap not ((slice_eq-Decides layer_decides xs ys (pointwise layers_test xs ys) refl).1 g)))
 
 abbrev same_channel : Channel → Channel → Bool
 same_channel a b = eqb a.0 b.0 && eqb a.1 b.1
@@ -79,15 +108,13 @@ position_decides a b =
 pub positions_decide : (xs ys : List Position) (r : Bool) → r ≡ pointwise same_position xs ys → Decides r (xs ≡ ys)
 positions_decide = slice_eq-Decides position_decides
 
-abbrev setup : Layer → Layer → Layer → List Position → ℕ → ℕ → SettingsSeen
-setup arm1 arm2 trigger list meter points = record { arm1 = arm1; arm2 = arm2; trigger = trigger; list = list; meter = meter; points = points }
+abbrev setup : List Layer → Layer → List Position → ℕ → ℕ → SettingsSeen
+setup arms trigger list meter points = record { arms = arms; trigger = trigger; list = list; meter = meter; points = points }
 
-pub same_setup : (a b : SettingsSeen) → a.arm1 ≡ b.arm1 → a.arm2 ≡ b.arm2 → a.trigger ≡ b.trigger → a.list ≡ b.list → a.meter ≡ b.meter → a.points ≡ b.points
-    → a ≡ b
-same_setup a b arm1 arm2 trigger list meter points =
-    ap (λ x. setup x a.arm2 a.trigger a.list a.meter a.points) arm1
-    ∙ ap (λ x. setup b.arm1 x a.trigger a.list a.meter a.points) arm2
-    ∙ ap (λ x. setup b.arm1 b.arm2 x a.list a.meter a.points) trigger
-    ∙ ap (λ x. setup b.arm1 b.arm2 b.trigger x a.meter a.points) list
-    ∙ ap (λ x. setup b.arm1 b.arm2 b.trigger b.list x a.points) meter
-    ∙ ap (λ x. setup b.arm1 b.arm2 b.trigger b.list b.meter x) points
+pub same_setup : (a b : SettingsSeen) → a.arms ≡ b.arms → a.trigger ≡ b.trigger → a.list ≡ b.list → a.meter ≡ b.meter → a.points ≡ b.points → a ≡ b
+same_setup a b arms trigger list meter points =
+    ap (λ x. setup x a.trigger a.list a.meter a.points) arms
+    ∙ ap (λ x. setup b.arms x a.list a.meter a.points) trigger
+    ∙ ap (λ x. setup b.arms b.trigger x a.meter a.points) list
+    ∙ ap (λ x. setup b.arms b.trigger b.list x a.points) meter
+    ∙ ap (λ x. setup b.arms b.trigger b.list b.meter x) points

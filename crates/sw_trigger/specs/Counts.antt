@@ -1,11 +1,12 @@
 -- How many things a scan awaits, and how many of them are readings.
-use Rattle.std.specs.Prelude.{ℕ, ◌+◌, List, [], ◌∷◌, ◌++◌, length}
+use Rattle.std.specs.Prelude.{ℕ, zero, suc, ◌+◌, ◌*◌, List, [], ◌∷◌, ◌++◌, length}
 use Rattle.sw_base.specs.declared.terms.LayerName.{LayerName}
-use Rattle.sw_base.specs.declared.terms.LayerName.TheVariants.{Arm1, Arm2, Trigger}
+use Rattle.sw_base.specs.declared.terms.LayerName.TheVariants.{Trigger}
+use Rattle.sw_base.specs.Limits.{most_arm_count, most_trigger_count}
 use Rattle.sw_trigger.specs.declared.layer.Layer.{Layer}
 use Rattle.sw_trigger.specs.declared.layer.Awaited.{Awaited}
-use Rattle.sw_trigger.specs.declared.layer.Awaited.TheVariants.{Wait, Pause, Read}
-use Rattle.sw_trigger.specs.Settings.{SettingsSeen}
+use Rattle.sw_trigger.specs.declared.layer.Awaited.TheVariants.{Wait, Period, Pause, Read}
+use Rattle.sw_trigger.specs.Settings.{SettingsSeen, NamedLayer, arms_of}
 use Rattle.sw_trigger.specs.Agenda.{Item, Awaits, Close, Open, agenda, head_of, repeated}
 
 -- the awaiting items, in order
@@ -17,6 +18,7 @@ awaiting (Open c ∷ items) = awaiting items
 
 abbrev pub is_reading : Awaited → ℕ
 is_reading (Wait name) = 0
+is_reading (Period name micros) = 0
 is_reading (Pause micros) = 0
 is_reading Read = 1
 
@@ -34,16 +36,33 @@ bound_of s = length (awaiting (agenda s))
 abbrev pub readings_of : SettingsSeen → ℕ
 readings_of s = reads (agenda s)
 
--- what one turn of a layer awaits: its own, then what is inside it, so many times
-abbrev pub in_turn : LayerName → Layer → ℕ → List Awaited → List Awaited
-in_turn name layer times inside = head_of name layer ++ repeated times inside
+-- what the turns of a layer await, and those of the ARM layers round what is inside them
+abbrev pub in_turns : LayerName → Layer → List Awaited → List Awaited
+in_turns name layer inside = repeated layer.count (head_of name layer ++ inside)
 
--- what one pass awaits, and one turn of each ARM layer
-abbrev pub in_pass : SettingsSeen → List Awaited
-in_pass s = head_of Trigger s.trigger ++ Read ∷ []
+abbrev pub in_arms : List NamedLayer → List Awaited → List Awaited
+in_arms [] inside = inside
+in_arms (arm ∷ arms) inside = in_turns arm.0 arm.1 (in_arms arms inside)
 
-abbrev pub in_arm2 : SettingsSeen → List Awaited
-in_arm2 s = in_turn Arm2 s.arm2 s.trigger.count (in_pass s)
+-- what the passes of one turn of the inmost ARM layer await
+abbrev pub in_passes : Layer → List Awaited
+in_passes trigger = in_turns Trigger trigger (Read ∷ [])
 
-abbrev pub in_arm1 : SettingsSeen → List Awaited
-in_arm1 s = in_turn Arm1 s.arm1 s.arm2.count (in_arm2 s)
+-- all that a scan awaits, where something is listed
+abbrev pub in_scan : SettingsSeen → List Awaited
+in_scan s = in_arms (arms_of s) (in_passes s.trigger)
+
+-- how often something is done that is done so often on each turn of the inmost of the ARM layers
+abbrev pub times : List NamedLayer → ℕ → ℕ
+times [] n = n
+times (arm ∷ arms) n = arm.1.count * times arms n
+
+-- the most that so many ARM layers round the passes await, and read: on each turn a wait and a pause, and in each pass a
+-- reading
+abbrev pub most_awaited : ℕ → ℕ
+most_awaited zero = most_trigger_count * (2 + 1)
+most_awaited (suc arms) = most_arm_count * (2 + most_awaited arms)
+
+abbrev pub most_read : ℕ → ℕ
+most_read zero = most_trigger_count
+most_read (suc arms) = most_arm_count * most_read arms

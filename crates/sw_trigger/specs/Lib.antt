@@ -2,3 +2,4 @@ pub mod Settings
 pub mod Agenda
 pub mod Counts
 pub mod Seen
+pub mod Found

@@ -4,8 +4,7 @@ use Rattle.sw_trigger.specs.declared.settings.Settings.TheInside.{Inside}
 
 abbrev pub setup_of : Inside → SettingsSeen
 setup_of s = record {
-  arm1 = s.arm1;
-  arm2 = s.arm2;
+  arms = s.arms;
   trigger = s.trigger;
   list = s.list.items;
   meter = s.meter;

@@ -1,38 +1,41 @@
 //! What the settings of a scan come to, by multiplication and division.
 
-ghost use Rattle.std.specs.Prelude.{◌≡◌, ◌≤◌, ◌↔◌, length, IsNone};
+ghost use Rattle.std.specs.Prelude.{◌≡◌, ◌≢◌, ◌<◌, ◌≤◌, ◌+◌, ◌*◌, ◌^◌, ◌↔◌, ◌∷◌, [], List, length, Some, IsNone};
 ghost use Rattle.std.specs.List.{slice_get};
-ghost use Rattle.sw_base.specs.declared.terms.LayerName.TheVariants.{Arm1, Arm2};
-ghost use Rattle.sw_trigger.specs.Agenda.{agenda, head_of};
-ghost use Rattle.sw_trigger.specs.Counts.{awaiting, bound_of, readings_of, in_pass, in_arm2, in_arm1};
+ghost use Rattle.sw_base.specs.declared.terms.Source.TheVariants.{Immediate};
+ghost use Rattle.sw_trigger.specs.declared.layer.Awaited.{Awaited as Await};
+ghost use Rattle.sw_trigger.specs.Agenda.{agenda, head_of, wait_of};
+ghost use Rattle.sw_base.specs.Limits.{most_arm_layers};
+ghost use Rattle.sw_trigger.specs.Counts.{awaiting, bound_of, readings_of, in_turns, in_arms, in_passes};
+ghost use Rattle.sw_trigger.specs.Counts.{times, most_awaited, most_read};
+ghost use Rattle.sw_trigger.specs.Found.{Finds};
+ghost use Rattle.sw_trigger.specs.Settings.{named};
 
 use crate::layer::{Awaited, Layer};
 use crate::settings::Settings;
-use sw_base::{LayerName, Source};
+use sw_base::{ARMS, ArmLayer, LayerName, Source};
 
 impl Settings {
     /// How many things a scan awaits; 0 where nothing is listed.
     pub fn bound(&self) -> u64
         ensures bound { result ≡ bound_of self.now }
-        ensures most { result ≤ 300002002000 }
+        ensures most { result ≤ most_awaited most_arm_layers }
     {
         if self.list().is_empty() {
             return 0;
         }
-        u64::from(self.layer(LayerName::Arm1).count) * self.turns().arm1
+        arms_len(self, &ARMS)
     }
 
     /// How many readings a scan makes; 0 where nothing is listed.
     pub fn readings(&self) -> u64
         ensures readings { result ≡ readings_of self.now }
-        ensures most { result ≤ 100000000000 }
+        ensures most { result ≤ most_read most_arm_layers }
     {
         if self.list().is_empty() {
             return 0;
         }
-        let arm1 = u64::from(self.layer(LayerName::Arm1).count);
-        let arm2 = u64::from(self.layer(LayerName::Arm2).count);
-        arm1 * (arm2 * u64::from(self.layer(LayerName::Trigger).count))
+        arms_times(self, &ARMS)
     }
 
     /// The n-th thing that a scan awaits, from 0; none from the bound on.
@@ -43,56 +46,106 @@ impl Settings {
         if n >= self.bound() {
             return None;
         }
-        let turns = self.turns();
-        let in_arm1 = n % turns.arm1;
-        if in_arm1 < turns.arm1_head {
-            return head_at(LayerName::Arm1, self.layer(LayerName::Arm1), in_arm1);
-        }
-        let in_arm2 = (in_arm1 - turns.arm1_head) % turns.arm2;
-        if in_arm2 < turns.arm2_head {
-            return head_at(LayerName::Arm2, self.layer(LayerName::Arm2), in_arm2);
-        }
-        let in_pass = (in_arm2 - turns.arm2_head) % turns.pass;
-        if in_pass + 1 < turns.pass {
-            return head_at(LayerName::Trigger, self.layer(LayerName::Trigger), in_pass);
-        }
-        Some(Awaited::Read)
+        Some(find_in_arms(self, &ARMS, n))
     }
+}
 
-    fn turns(&self) -> Turns
-        ensures pass { result.pass ≡ length (in_pass self.now) }
-        ensures arm2_head { result.arm2_head ≡ length (head_of Arm2 self.now.arm2) }
-        ensures arm2 { result.arm2 ≡ length (in_arm2 self.now) }
-        ensures arm1_head { result.arm1_head ≡ length (head_of Arm1 self.now.arm1) }
-        ensures arm1 { result.arm1 ≡ length (in_arm1 self.now) }
-        ensures most { result.arm1 ≤ 300002002 }
-    {
-        let arm1 = self.layer(LayerName::Arm1);
-        let arm2 = self.layer(LayerName::Arm2);
-        let trigger = self.layer(LayerName::Trigger);
-        let pass = head_len(LayerName::Trigger, trigger) + 1;
-        let arm2_head = head_len(LayerName::Arm2, arm2);
-        let arm2_turn = arm2_head + u64::from(trigger.count) * pass;
-        let arm1_head = head_len(LayerName::Arm1, arm1);
-        Turns {
-            pass,
-            arm2_head,
-            arm2: arm2_turn,
-            arm1_head,
-            arm1: arm1_head + u64::from(arm2.count) * arm2_turn,
+/// How many things all turns of these ARM layers await, the passes inside them.
+fn arms_len(settings: &Settings, arms: &[ArmLayer]) -> u64
+    requires few { length arms.now ≤ most_arm_layers }
+    ensures len { result ≡ length (in_arms (named settings.now arms.now) (in_passes settings.now.trigger)) }
+    ensures some { 0 < result }
+    ensures most { result ≤ most_awaited (length arms.now) }
+{
+    match arms {
+        [] => turns_len(LayerName::Trigger, settings.layer(LayerName::Trigger), 1),
+        [arm, inner @ ..] => {
+            let name = LayerName::Arm(*arm);
+            turns_len(name, settings.layer(name), arms_len(settings, inner))
         }
     }
 }
 
-/// How many things a scan awaits in one pass of TRIGger and in one turn of each ARM layer, and how many of these at a
-/// turn's head.
-#[derive(Drop)]
-struct Turns {
-    pass: u64,
-    arm2_head: u64,
-    arm2: u64,
-    arm1_head: u64,
-    arm1: u64,
+/// How many readings all turns of these ARM layers make, the passes inside them.
+fn arms_times(settings: &Settings, arms: &[ArmLayer]) -> u64
+    requires few { length arms.now ≤ most_arm_layers }
+    ensures times { result ≡ times (named settings.now arms.now) settings.now.trigger.count }
+    ensures most { result ≤ most_read (length arms.now) }
+{
+    match arms {
+        [] => u64::from(settings.layer(LayerName::Trigger).count),
+        [arm, inner @ ..] => {
+            u64::from(settings.layer(LayerName::Arm(*arm)).count) * arms_times(settings, inner)
+        }
+    }
+}
+
+/// The n-th thing that all turns of these ARM layers await, the passes inside them.
+fn find_in_arms(settings: &Settings, arms: &[ArmLayer], n: u64) -> Awaited
+    requires few { length arms.now ≤ most_arm_layers }
+    requires within { n < length (in_arms (named settings.now arms.now) (in_passes settings.now.trigger)) }
+    ensures { slice_get (in_arms (named settings.now arms.now) (in_passes settings.now.trigger)) n ≡ Some result }
+{
+    match arms {
+        [] => find_in_passes(settings.layer(LayerName::Trigger), n),
+        [arm, inner @ ..] => {
+            let name = LayerName::Arm(*arm);
+            match find(name, settings.layer(name), arms_len(settings, inner), n) {
+                Found::Here(what) => what,
+                Found::Inside(i) => find_in_arms(settings, inner, i),
+            }
+        }
+    }
+}
+
+/// The n-th thing that the passes of one turn of the inmost ARM layer await.
+fn find_in_passes(trigger: Layer, n: u64) -> Awaited
+    requires within { n < length (in_passes trigger) }
+    ensures { slice_get (in_passes trigger) n ≡ Some result }
+{
+    match find(LayerName::Trigger, trigger, 1, n) {
+        Found::Here(what) => what,
+        Found::Inside(_) => Awaited::Read,
+    }
+}
+
+/// Where in all turns of a layer a thing is awaited.
+#[derive(Clone, Copy, Debug, PartialEq, Eq)]
+enum Found {
+    /// At the head of a turn.
+    Here(Awaited),
+    /// At this index, from 0, of what is inside a turn.
+    Inside(u64),
+}
+
+/// How many things all turns of a layer await, so many of them inside each turn.
+fn turns_len(name: LayerName, layer: Layer, inside: u64) -> u64
+    requires some { 1 ≤ layer.count }
+    requires fits { (2 + inside) * layer.count < 2 ^ 64 }
+    ensures len { (xs : List Await) → length xs ≡ inside → result ≡ length (in_turns name layer xs) }
+    ensures least { inside ≤ result }
+    ensures most { result ≤ (2 + inside) * layer.count }
+{
+    u64::from(layer.count) * (head_len(name, layer) + inside)
+}
+
+/// The n-th thing that all turns of a layer await.
+fn find(name: LayerName, layer: Layer, inside: u64, n: u64) -> Found
+    requires fits { 2 + inside < 2 ^ 64 }
+    requires some { 0 < inside }
+    ensures { (xs : List Await) → length xs ≡ inside → n < length (in_turns name layer xs)
+        → Finds (in_turns name layer xs) n xs result }
+{
+    let head = head_len(name, layer);
+    let at = n % (head + inside);
+    if at < head {
+        match head_at(name, layer, at) {
+            Some(what) => Found::Here(what),
+            None => unreachable!(),
+        }
+    } else {
+        Found::Inside(at - head)
+    }
 }
 
 /// How many things a layer awaits on each turn before it goes on inwards.
@@ -116,10 +169,22 @@ fn head_at(name: LayerName, layer: Layer, n: u64) -> Option<Awaited>
     let wait = layer.source != Source::Immediate;
     let pause = layer.delay_us != 0;
     if n == 0 && wait {
-        return Some(Awaited::Wait(name));
+        return Some(wait_at(name, layer));
     }
     if pause && ((n == 0 && !wait) || (n == 1 && wait)) {
         return Some(Awaited::Pause(layer.delay_us));
     }
     None
+}
+
+/// What a layer that isn't immediate awaits first.
+fn wait_at(name: LayerName, layer: Layer) -> Awaited
+    requires { layer.source ≢ Immediate }
+    ensures { wait_of name layer ≡ result ∷ [] }
+{
+    if layer.source == Source::Timer {
+        Awaited::Period(name, layer.timer_us)
+    } else {
+        Awaited::Wait(name)
+    }
 }

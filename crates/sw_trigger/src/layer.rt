@@ -9,6 +9,8 @@ pub struct Layer {
     pub source: Source,
     /// Microseconds, 0 for no pause.
     pub delay_us: u64,
+    /// Microseconds that the wait of a layer with source Timer lasts.
+    pub timer_us: u64,
 }
 
 /// What a running scan awaits.
@@ -16,6 +18,8 @@ pub struct Layer {
 pub enum Awaited {
     /// A trigger for the layer.
     Wait(LayerName),
+    /// The end of the layer's timer, after so many microseconds.
+    Period(LayerName, u64),
     /// The end of a pause of so many microseconds.
     Pause(u64),
     /// The meter's reading.

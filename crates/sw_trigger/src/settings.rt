@@ -10,19 +10,20 @@ use crate::layer::Layer;
 use std::alloc::{AllocError, Global};
 use std::marker::Model;
 use sw_base::{
-    ARM_COUNT, LIST_ENTRIES, LONGEST_DELAY, LayerName, POINTS, SLOTS, ScpiError, Source,
-    TRIGGER_COUNT,
+    ARM_COUNT, ARM_LAYERS, LIST_ENTRIES, LONGEST_DELAY, LayerName, POINTS, SLOTS, ScpiError,
+    Source, TRIGGER_COUNT,
 };
 use sw_channel::Position;
 
-/// What a scan does: three layers, a list of positions, the slot of its meter and its room for readings.
+/// What a scan does: the layers of the trigger model, a list of positions, the slot of its meter and its room for readings.
 ///
-/// Contracts see a plain record. Counts are 1 to 1,000 for an ARM layer and 1 to 100,000 for TRIGger, delays at most an
-/// hour, the meter's slot 1 to `SLOTS`, the points 1 to 100,000, and the list has at most `LIST_ENTRIES` entries.
+/// Contracts see a plain record. Counts are 1 to `ARM_COUNT` for an ARM layer and 1 to `TRIGGER_COUNT` for TRIGger,
+/// delays at most an hour, timers 1 microsecond to an hour, the meter's slot 1 to `SLOTS`, the points 1 to `POINTS`, and
+/// the list has at most `LIST_ENTRIES` positions.
 #[derive(Debug, Drop)]
 pub struct Settings {
-    arm1: Layer,
-    arm2: Layer,
+    /// The ARM layers, the outermost first.
+    arms: [Layer; ARMS],
     trigger: Layer,
     list: Vec<Position>,
     meter: u8,
@@ -47,8 +48,7 @@ impl Settings {
         ensures { result ≡ at_reset }
     {
         Settings {
-            arm1: PLAIN,
-            arm2: PLAIN,
+            arms: [PLAIN; ARMS],
             trigger: PLAIN,
             list: Vec::new(alloc),
             meter: 4,
@@ -60,8 +60,7 @@ impl Settings {
     pub fn reset(&mut self)
         ensures { self.new ≡ at_reset }
     {
-        self.arm1 = PLAIN;
-        self.arm2 = PLAIN;
+        self.arms = [PLAIN; ARMS];
         self.trigger = PLAIN;
         self.list.clear();
         self.meter = 4;
@@ -105,6 +104,22 @@ impl Settings {
         }
         let layer = self.layer(name);
         self.put(name, Layer { delay_us, ..layer });
+        Ok(())
+    }
+
+    /// Sets how long the wait of a layer with source Timer lasts, in microseconds; -222 for none or above an hour.
+    pub fn set_timer(&mut self, name: LayerName, timer_us: u64) -> Result<(), ScpiError>
+        ensures taken { IsOk result ↔ (1 ≤ timer_us) × (timer_us ≤ longest_delay) }
+        ensures set { OnOk result (self.new
+            ≡ with_layer self.old name (record (layer_of self.old name) { timer_us = timer_us })) }
+        ensures kept { OnErr result (self.new ≡ self.old) }
+        ensures error { IfErr result (λ e. e ≡ DataOutOfRange) }
+    {
+        if timer_us < 1 || timer_us > LONGEST_DELAY {
+            return Err(ScpiError::DataOutOfRange);
+        }
+        let layer = self.layer(name);
+        self.put(name, Layer { timer_us, ..layer });
         Ok(())
     }
 
@@ -157,8 +172,7 @@ impl Settings {
         ensures range { IsInRange self.now }
     {
         match name {
-            LayerName::Arm1 => self.arm1,
-            LayerName::Arm2 => self.arm2,
+            LayerName::Arm(arm) => self.arms[usize::from(arm.number()) - 1],
             LayerName::Trigger => self.trigger,
         }
     }
@@ -212,8 +226,7 @@ impl Settings {
     {
         let list = self.list.as_slice().to_vec(alloc)?;
         Ok(Settings {
-            arm1: self.arm1,
-            arm2: self.arm2,
+            arms: self.arms,
             trigger: self.trigger,
             list,
             meter: self.meter,
@@ -225,7 +238,7 @@ impl Settings {
     pub fn is_same(&self, other: &Settings) -> bool
         ensures { IsTrue result ↔ (self.now ≡ other.now) }
     {
-        if self.arm1 != other.arm1 || self.arm2 != other.arm2 || self.trigger != other.trigger {
+        if self.arms != other.arms || self.trigger != other.trigger {
             return false;
         }
         if self.meter != other.meter || self.points != other.points {
@@ -239,18 +252,21 @@ impl Settings {
         ensures { self.new ≡ with_layer self.old name layer }
     {
         match name {
-            LayerName::Arm1 => self.arm1 = layer,
-            LayerName::Arm2 => self.arm2 = layer,
+            LayerName::Arm(arm) => self.arms[usize::from(arm.number()) - 1] = layer,
             LayerName::Trigger => self.trigger = layer,
         }
     }
 }
 
-/// A layer at `*RST`: once, at once.
+/// How many ARM layers there are.
+const ARMS: usize = ARM_LAYERS as usize;
+
+/// A layer at `*RST`: once, at once, and a second for its timer.
 const PLAIN: Layer = Layer {
     count: 1,
     source: Source::Immediate,
     delay_us: 0,
+    timer_us: 1_000_000,
 };
 
 /// The greatest count of a layer.
@@ -258,7 +274,7 @@ fn most(name: LayerName) -> u32
     ensures { result ≡ most_of name }
 {
     match name {
-        LayerName::Arm1 | LayerName::Arm2 => ARM_COUNT,
+        LayerName::Arm(_) => ARM_COUNT,
         LayerName::Trigger => TRIGGER_COUNT,
     }
 }

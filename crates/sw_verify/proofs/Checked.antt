@@ -1,12 +1,12 @@
 -- What the tests of the check tell.
-use Rattle.std.proofs.Common.{◌≡◌, ℕ, zero, suc, ◌%◌, ◌<◌, ◌≤◌, Bool, true, false, ◌&&◌, not, List, [], ◌∷◌, length, take, get_or, eqb, refl, sym, ap, ◌∙◌}
+use Rattle.std.proofs.Common.{◌≡◌, ℕ, zero, suc, ◌%◌, ◌<◌, ◌≤◌, Bool, true, false, List, [], ◌∷◌, length, take, get_or, refl, sym, ap, ◌∙◌}
 use Rattle.std.proofs.Common.{subst, ⊎_elim, inl, inr, arith}
 use Rattle.std.specs.List.{list_all, list_any, Any, AllByRecursion}
-use Rattle.std.proofs.lemmas.Bool.{cases_Bool, and_parts, and_cases, and_from, or_cases, or_left, or_right, eqb-false, eq-eqb, eqb-true, ne_eqb, not-true}
-use Rattle.std.proofs.lemmas.Bool.{not-false, not_from_false, both_ways, false_from_ne_true, true_from_ne_false}
+use Rattle.std.proofs.lemmas.Bool.{and_parts, and_cases, and_from, or_cases, or_left, or_right}
+use Rattle.std.proofs.lemmas.Bool.{both_ways}
 use Rattle.std.proofs.Math.Nat.{mod-eq_of_lt, mod-lt, mod-le}
 use Rattle.sw_channel.specs.Positions.{Position}
-use Rattle.sw_base.specs.Layout.{Channel, Layout, is_present, group_of, IsClash}
+use Rattle.sw_base.specs.Layout.{Channel, Layout, is_present, IsClash}
 use Rattle.sw_trigger.specs.Settings.{SettingsSeen, IsInRange}
 use Rattle.sw_trigger.specs.Agenda.{position_at, used_of, agenda}
 use Rattle.sw_trigger.specs.Counts.{reads}

@@ -6,29 +6,29 @@ use Rattle.std.proofs.lemmas.Bool.Decides.{nat_tests}
 use Rattle.std.proofs.lemmas.Nat.{div-add-mod'}
 use Rattle.std.proofs.Math.Nat.{suc-mul}
 use Rattle.sw_base.specs.Layout.{Channel, Layout}
-use Rattle.sw_base.specs.declared.terms.LayerName.{LayerName}
-use Rattle.sw_base.specs.declared.terms.LayerName.TheVariants.{Arm1, Arm2}
 use Rattle.sw_trigger.specs.declared.layer.Awaited.{Awaited}
-use Rattle.sw_trigger.specs.declared.layer.Layer.{Layer}
-use Rattle.sw_trigger.specs.declared.layer.Awaited.TheVariants.{Wait, Pause, Read}
-use Rattle.sw_trigger.specs.Settings.{SettingsSeen, IsInRange}
-use Rattle.sw_trigger.specs.Agenda.{Item, Awaits, Close, Open, repeated, head_of, position_at, passes, arm_turn, arm_turns, agenda}
+use Rattle.sw_trigger.specs.declared.layer.Awaited.TheVariants.{Wait, Period, Pause, Read}
+use Rattle.sw_trigger.specs.Settings.{SettingsSeen, IsInRange, NamedLayer, arms_of}
+use Rattle.sw_base.specs.Layers.{arm_layers}
+use Rattle.sw_base.specs.Limits.{most_arm_layers}
+use Rattle.sw_trigger.specs.Agenda.{Item, Awaits, Close, Open, repeated, head_of, position_at, passes, agenda}
 use Rattle.sw_code.specs.declared.code.Step.{Step}
 use Rattle.sw_code.specs.declared.code.Step.TheVariants as step
 use Rattle.sw_code.specs.Tree.{Tree, Nil, Then, Times, step_of, size, flatten, meaning, IsNested}
-use Rattle.sw_code.specs.Compiled.{line, passes_tree, arm_tree, tree_of, compiled}
-use Rattle.sw_code.proofs.Compiled.{meaning-line, meaning-arm, meaning-passes, meaning-tree, nested-tree}
+use Rattle.sw_code.specs.Compiled.{line, passes_tree, arms_tree, tree_of, compiled}
+use Rattle.sw_code.proofs.Compiled.{meaning-line, meaning-passes, meaning-tree, nested-tree, AreCounted, arms_counted}
 use Rattle.sw_verify.specs.declared.refusal.Refusal.{Refusal}
 use Rattle.sw_verify.specs.declared.refusal.Refusal.TheVariants.{BadNesting, BadJump}
 use Rattle.sw_verify.specs.declared.nest.Frame.{Frame}
 use Rattle.sw_verify.specs.Channels.{Channels, none, same_channel, with_channel, with_each, without_each}
-use Rattle.sw_verify.specs.Sound.{AllRight, effect, CanCloseOne, CanCloseEach, IsSound}
+use Rattle.sw_verify.specs.Sound.{AllRight, effect, CanCloseEach, IsSound}
 use Rattle.sw_channel.specs.Positions.{Position}
 use Rattle.sw_verify.specs.Nest.{in_use, at_loop, fault_in, StepsRight}
-use Rattle.sw_verify.proofs.Round.{anyone, effect-append, round-passes, round-arm_turn, round-arm_turns, round-agenda, sound_exactly}
+use Rattle.sw_verify.proofs.Round.{anyone, effect-append, round-passes, round-agenda, sound_exactly}
 
 fault_item : (x : Item) (steps : List Step) (pc : ℕ) (fs : List Frame) → fault_in (step_of x ∷ steps) pc fs ≡ fault_in steps (pc + 1) fs
 fault_item (Awaits (Wait name)) steps pc fs = refl
+fault_item (Awaits (Period name micros)) steps pc fs = refl
 fault_item (Awaits (Pause micros)) steps pc fs = refl
 fault_item (Awaits Read) steps pc fs = refl
 fault_item (Close c) steps pc fs = refl
@@ -82,6 +82,7 @@ module _ (layout : Layout) where
   item_steps : (x : Item) (steps : List Step) (b m : Channels) (ss : List (Channels × Channels)) → AllRight layout b m (x ∷ [])
       → StepsRight layout steps (effect b (x ∷ [])) (effect m (x ∷ [])) ss → StepsRight layout (step_of x ∷ steps) b m ss
   item_steps (Awaits (Wait name)) steps b m ss p h = h
+  item_steps (Awaits (Period name micros)) steps b m ss p h = h
   item_steps (Awaits (Pause micros)) steps b m ss p h = h
   item_steps (Awaits Read) steps b m ss p h = h
   item_steps (Close c) steps b m ss p h = (p.0, h)
@@ -137,13 +138,28 @@ module _ (layout : Layout) where
   level-awaits b m [] rest h = h
   level-awaits b m (w ∷ ws) rest h = level-awaits b m ws rest h
 
-  level-arm : (b m : Channels) (counter : ℕ) (name : LayerName) (l : Layer) (inside : Tree) → 0 < l.count → IsLevel b m inside
-      → effect b (arm_turn name l (meaning inside)) ≡ b → effect m (arm_turn name l (meaning inside)) ≡ m → IsLevel b m (arm_tree counter name l inside)
-  level-arm b m counter name l inside some level eb em =
-      let turn = meaning-line (map Awaits (head_of name l)) inside in
-      (some, level-awaits b m (head_of name l) inside level, ap (effect b) turn ∙ eb, ap (effect m) turn ∙ em, tt)
+  -- what is inside comes back to the closed sets, and so do the turns round it
+  level-arms : (b m : Channels) (k : ℕ) (arms : List NamedLayer) (inside : Tree) → AreCounted arms → IsLevel b m inside → effect b (meaning inside) ≡ b
+      → effect m (meaning inside) ≡ m
+      → IsLevel b m (arms_tree k arms inside) × (effect b (meaning (arms_tree k arms inside)) ≡ b) × (effect m (meaning (arms_tree k arms inside)) ≡ m)
+  level-arms b m k [] inside c level eb em = (level, eb, em)
+  level-arms b m k (arm ∷ arms) inside c level eb em =
+      let r = level-arms b m (k + 1) arms inside c.1 level eb em in
+      let body = line (map Awaits (head_of arm.0 arm.1)) (arms_tree (k + 1) arms inside) in
+      let tb : effect b (meaning body) ≡ b = turn b (head_of arm.0 arm.1) (arms_tree (k + 1) arms inside) r.1 in
+      let tm : effect m (meaning body) ≡ m = turn m (head_of arm.0 arm.1) (arms_tree (k + 1) arms inside) r.2 in (
+        (c.0, level-awaits b m (head_of arm.0 arm.1) (arms_tree (k + 1) arms inside) r.0, tb, tm, tt),
+        whole b arm.1.count (meaning body) tb,
+        whole m arm.1.count (meaning body) tm,
+      )
+    where
+      turn : (b : Channels) (ws : List Awaited) (rest : Tree) → effect b (meaning rest) ≡ b → effect b (meaning (line (map Awaits ws) rest)) ≡ b
+      turn b [] rest e = e
+      turn b (w ∷ ws) rest e = turn b ws rest e
 
-  -- what can be closed can be closed where nothing is
+      whole : (b : Channels) (n : ℕ) (xs : List Item) → effect b xs ≡ b → effect b (repeated n xs ++ []) ≡ b
+      whole b n xs e = ap (effect b) (append-nil (repeated n xs)) ∙ effect-turns b xs n e
+
   or_keeps : (t a b : Bool) → (a ≡ true → b ≡ true) → (t || a) ≡ true → (t || b) ≡ true
   or_keeps true a b f h = refl
   or_keeps false a b f h = f h
@@ -173,7 +189,7 @@ module _ (layout : Layout) (b : Channels) (s : SettingsSeen) (range : IsInRange 
     left = s.trigger.count % length s.list
 
     at : (q : ℕ) → q * length s.list + left ≡ s.trigger.count
-        → IsLevel layout b none (cond (eqb q 0) (line (passes s 0 left) Nil) (Times 2 q (line (passes s 0 (length s.list)) Nil) (line (passes s 0 left) Nil)))
+        → IsLevel layout b none (cond (eqb q 0) (line (passes s 0 left) Nil) (Times most_arm_layers q (line (passes s 0 (length s.list)) Nil) (line (passes s 0 left) Nil)))
     at zero e = level-line layout b none (passes s 0 left)
     at (suc q) e =
         let n = length s.list in
@@ -185,32 +201,15 @@ module _ (layout : Layout) (b : Channels) (s : SettingsSeen) (range : IsInRange 
         let eb : effect b (meaning body) ≡ b = ap (effect b) is ∙ (round-passes layout b anyone s (λ k. tt) 0 n).keeps (λ j h g. can j (omega arith)) in
         let em : effect none (meaning body) ≡ none = ap (effect none) is ∙ (round-passes layout none anyone s (λ k. tt) 0 n).keeps (λ j h g. free j (omega arith)) in
         let some : 0 < suc q = omega arith in
-        subst (λ (v : Bool). IsLevel layout b none (cond v (line (passes s 0 left) Nil) (Times 2 (suc q) body (line (passes s 0 left) Nil)))) (sym f)
+        subst (λ (v : Bool). IsLevel layout b none (cond v (line (passes s 0 left) Nil) (Times most_arm_layers (suc q) body (line (passes s 0 left) Nil)))) (sym f)
         (some, level-line layout b none (passes s 0 n), eb, em, level-line layout b none (passes s 0 left))
 
   level-tree : IsLevel layout b none (tree_of s)
   level-tree =
-      let all = passes s 0 s.trigger.count in
-      let turns = arm_turns Arm2 s.arm2 all in
-      let arm2 = arm_tree 1 Arm2 s.arm2 (passes_tree s) in
-      let m2 : meaning (passes_tree s) ≡ all = meaning-passes s in
-      let m1 : meaning arm2 ≡ turns = meaning-arm 1 Arm2 s.arm2 (passes_tree s) ∙ ap (arm_turns Arm2 s.arm2) m2 in
-      let b2 : effect b (arm_turn Arm2 s.arm2 (meaning (passes_tree s))) ≡ b =
-      ap (λ (l : List Item). effect b (arm_turn Arm2 s.arm2 l)) m2
-      ∙ (round-arm_turn layout b anyone Arm2 s.arm2 all (round-passes layout b anyone s (λ k. tt) 0 s.trigger.count)).keeps (λ j h g. can j (omega arith)) in
-      let n2 : effect none (arm_turn Arm2 s.arm2 (meaning (passes_tree s))) ≡ none =
-      ap (λ (l : List Item). effect none (arm_turn Arm2 s.arm2 l)) m2
-      ∙ (round-arm_turn layout none anyone Arm2 s.arm2 all (round-passes layout none anyone s (λ k. tt) 0 s.trigger.count)).keeps (λ j h g. free j (omega arith)) in
-      let b1 : effect b (arm_turn Arm1 s.arm1 (meaning arm2)) ≡ b =
-      ap (λ (l : List Item). effect b (arm_turn Arm1 s.arm1 l)) m1
-      ∙ (round-arm_turn layout b anyone Arm1 s.arm1 turns (round-arm_turns layout b anyone Arm2 s.arm2 all (round-passes layout b anyone s (λ k. tt) 0 s.trigger.count))).keeps
-      (λ u j h g. can j (omega arith)) in
-      let n1 : effect none (arm_turn Arm1 s.arm1 (meaning arm2)) ≡ none =
-      ap (λ (l : List Item). effect none (arm_turn Arm1 s.arm1 l)) m1
-      ∙ (round-arm_turn layout none anyone Arm1 s.arm1 turns (round-arm_turns layout none anyone Arm2 s.arm2 all (round-passes layout none anyone s (λ k. tt) 0 s.trigger.count))).keeps
-      (λ u j h g. free j (omega arith)) in
-      level-arm layout b none 0 Arm1 s.arm1 arm2 range.arm1.count.0
-      (level-arm layout b none 1 Arm2 s.arm2 (passes_tree s) range.arm2.count.0 level-passes b2 n2) b1 n1
+      let all = meaning-passes s in
+      (level-arms layout b none 0 (arms_of s) (passes_tree s) (arms_counted s range arm_layers) level-passes
+      (ap (effect b) all ∙ (round-passes layout b anyone s (λ k. tt) 0 s.trigger.count).keeps (λ j h g. can j (omega arith)))
+      (ap (effect none) all ∙ (round-passes layout none anyone s (λ k. tt) 0 s.trigger.count).keeps (λ j h g. free j (omega arith)))).0
 
 -- the code of settings whose agenda is sound has no fault, and each of its steps is right
 pub compiled_nested : (s : SettingsSeen) → IsInRange s → fault_in (compiled s).steps 0 [] ≡ None

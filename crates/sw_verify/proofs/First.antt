@@ -2,7 +2,7 @@
 use Rattle.std.proofs.Common.{◌≡◌, ◌<◌, Bool, true, false, List, [], length, ap, arith}
 use Rattle.std.specs.List.{list_all, Any, AllByRecursion}
 use Rattle.std.proofs.lemmas.Bool.{both_ways}
-use Rattle.sw_base.specs.Layout.{Channel, is_present, has_meter}
+use Rattle.sw_base.specs.Layout.{is_present, has_meter}
 use Rattle.sw_trigger.specs.Agenda.{used_of}
 use Rattle.sw_trigger.specs.Counts.{readings_of}
 use Rattle.sw_verify.specs.declared.refusal.Refusal.{Refusal}

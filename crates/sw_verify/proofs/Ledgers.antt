@@ -7,6 +7,7 @@ use Rattle.std.proofs.lemmas.Bool.{or_cases, or_left, or_right, and_parts, both_
 use Rattle.std.proofs.lemmas.Bool.Decides.{nat_tests}
 use Rattle.std.proofs.lemmas.Bool.{cases_eq}
 use Rattle.std.proofs.lemmas.List.{get_or-set_same, get_or-set_other, length-set, ext_get_or, get_or-replicate, length-replicate}
+use Rattle.sw_base.specs.Limits.{channel_places}
 use Rattle.sw_base.specs.Layout.{Channel, Layout, is_present, group_of, IsClash}
 use Rattle.sw_code.specs.Range.{IsInChannelRange}
 use Rattle.sw_verify.specs.declared.ledger.Ledger.{Ledger}
@@ -20,7 +21,7 @@ use Rattle.sw_verify.proofs.Throughout.{clash_back}
 use Rattle.sw_verify.proofs.Checked.{any_among, among_any}
 
 -- a channel's place tells it
-placed : (c : Channel) → IsInChannelRange c → (place c < 900) × (place c / 100 ≡ c.0) × (place c % 100 ≡ c.1)
+placed : (c : Channel) → IsInChannelRange c → (place c < channel_places) × (place c / 100 ≡ c.0) × (place c % 100 ≡ c.1)
 placed c i =
     (omega (arith, i.1, i.3), omega (arith, i.1, i.3), omega (arith, i.1, i.3))
 
@@ -92,7 +93,7 @@ module _ (start b m : Channels) (row : List Bool) (t : TellsRow start b m row) (
     flags = λ j h.
         ⊎_elim (λ (e : j ≡ place c).
         subst (λ (k : ℕ). slice_index_or (slice_set row (place c) true) k false ≡ (same_channel c (k / 100, k % 100) || m (k / 100, k % 100))) (sym e)
-        (get_or-set_same row (place c) true false (let s : length row ≡ 900 = t.size in omega (arith, s, (placed c i).0))
+        (get_or-set_same row (place c) true false (let s : length row ≡ channel_places = t.size in omega (arith, s, (placed c i).0))
         ∙ sym (or_true (same_channel c (place c / 100, place c % 100)) (m (place c / 100, place c % 100)) self_place)))
         (λ (n : j ≡ place c → ⊥). get_or-set_other row (place c) j true false n ∙ t.flags j h
         ∙ sym (or_false (same_channel c (j / 100, j % 100)) (m (j / 100, j % 100)) (other_place c j n)))
@@ -111,7 +112,7 @@ module _ (start b m : Channels) (row : List Bool) (t : TellsRow start b m row) (
     flags = λ j h.
         ⊎_elim (λ (e : j ≡ place c).
         subst (λ (k : ℕ). slice_index_or (slice_set row (place c) false) k false ≡ (not (same_channel c (k / 100, k % 100)) && m (k / 100, k % 100))) (sym e)
-        (get_or-set_same row (place c) false false (let s : length row ≡ 900 = t.size in omega (arith, s, (placed c i).0))
+        (get_or-set_same row (place c) false false (let s : length row ≡ channel_places = t.size in omega (arith, s, (placed c i).0))
         ∙ sym (and_not_true (same_channel c (place c / 100, place c % 100)) (m (place c / 100, place c % 100)) self_place)))
         (λ (n : j ≡ place c → ⊥). get_or-set_other row (place c) j false false n ∙ t.flags j h
         ∙ sym (and_not_false (same_channel c (j / 100, j % 100)) (m (j / 100, j % 100)) (other_place c j n)))
@@ -171,12 +172,12 @@ or_none : (a : Bool) → (a || false) ≡ a
 or_none true = refl
 or_none false = refl
 
-pub tells_none : (start : Channels) → TellsRow start start none (replicate 900 false)
+pub tells_none : (start : Channels) → TellsRow start start none (replicate channel_places false)
 tells_none start = record {
   split = λ x. (sym (or_none (start x)), λ h. absurd (cc h));
   range = λ x h. absurd (cc h);
-  size = length-replicate 900 false;
-  flags = λ j h. get_or-replicate 900 j false false h;
+  size = length-replicate channel_places false;
+  flags = λ j h. get_or-replicate channel_places j false false h;
 }
 
 same_bools : (a b : Bool) → (a ≡ true → b ≡ true) → (b ≡ true → a ≡ true) → a ≡ b
@@ -197,7 +198,7 @@ row_tells_one start b b' m m' row row' t t' e =
 pub one_row : (start b b' m m' : Channels) (row row' : List Bool) → TellsRow start b m row → TellsRow start b' m' row' → m ≡ m' → row ≡ row'
 one_row start b b' m m' row row' t t' e =
     ext_get_or false row row' (t.size ∙ sym t'.size)
-    (λ j h. let below : j < 900 = let s : length row ≡ 900 = t.size in omega arith in t.flags j below ∙ ap (λ (k : Channels). k (j / 100, j % 100)) e
+    (λ j h. let below : j < channel_places = let s : length row ≡ channel_places = t.size in omega arith in t.flags j below ∙ ap (λ (k : Channels). k (j / 100, j % 100)) e
     ∙ sym (t'.flags j below))
 
 module _ (layout : Layout) (start b m : Channels) (l : Ledger) (s : Shows layout start b m l) (c : Channel) (i : IsInChannelRange c)
@@ -330,9 +331,9 @@ module _ (layout : Layout) (start b m : Channels) (l : Ledger) (s : Shows layout
       or_second true d h = refl
       or_second false d h = h
 
-pub shows_start : (layout : Layout) (closed : List Channel) (found groups : List Bool) → length found ≡ 900 → length groups ≡ 256 → ChannelMarks closed found
+pub shows_start : (layout : Layout) (closed : List Channel) (found groups : List Bool) → length found ≡ channel_places → length groups ≡ 256 → ChannelMarks closed found
     → GroupMarks layout closed groups
-    → Shows layout (is_among closed) (is_among closed) none (record { found = found; mine = replicate 900 false; groups = groups })
+    → Shows layout (is_among closed) (is_among closed) none (record { found = found; mine = replicate channel_places false; groups = groups })
 shows_start layout closed found groups s k f g = record {
   mine = tells_none (is_among closed);
   found_size = s;

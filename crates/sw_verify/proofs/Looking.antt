@@ -3,6 +3,7 @@ use Rattle.std.proofs.Common.{◌≡◌, ℕ, ◌+◌, ◌<◌, Bool, true, fals
 use Rattle.std.proofs.Common.{inl, inr, ⊎_elim}
 use Rattle.std.proofs.lemmas.List.{drop_more, drop_all}
 use Rattle.std.proofs.lemmas.Bool.{both_ways}
+use Rattle.sw_base.specs.Limits.{channel_places}
 use Rattle.sw_channel.specs.Positions.{Position}
 use Rattle.sw_base.specs.Layout.{Channel, Layout, is_present, IsClash}
 use Rattle.sw_base.specs.declared.terms.LayerName.{LayerName}
@@ -56,6 +57,17 @@ module _ (layout : Layout) (closed : List Channel) (steps : List Step) (i : ℕ)
     saved = p.saved;
     right = right_by (step.Wait name) e;
     stops = stops_by (step.Wait name) e;
+  }
+
+  pub after_timer : (name : LayerName) (micros : ℕ) → drop i steps ≡ step.Timer name micros ∷ drop (i + 1) steps → Progress layout closed steps (i + 1) ledger rows
+  after_timer name micros e = record {
+    b = p.b;
+    m = p.m;
+    ss = p.ss;
+    shows = p.shows;
+    saved = p.saved;
+    right = right_by (step.Timer name micros) e;
+    stops = stops_by (step.Timer name micros) e;
   }
 
   pub after_pause : (micros : ℕ) → drop i steps ≡ step.Pause micros ∷ drop (i + 1) steps → Progress layout closed steps (i + 1) ledger rows
@@ -151,17 +163,17 @@ module _ (layout : Layout) (closed : List Channel) (steps : List Step) (i : ℕ)
             let w = row_tells_one (is_among closed) p.b s.0 p.m s.1 ledger.mine row p.shows.mine h.0 same in
             record { b = p.b; m = p.m; ss = ss; shows = p.shows; saved = h.1; right = λ x. f (w.0, w.1, x); stops = λ r x. g r (inr (w.0, w.1, x)) }
 
-  pub halt_right : drop i steps ≡ step.Halt ∷ drop (i + 1) steps → ledger.mine ≡ replicate 900 false → StepsRight layout steps (is_among closed) none []
+  pub halt_right : drop i steps ≡ step.Halt ∷ drop (i + 1) steps → ledger.mine ≡ replicate channel_places false → StepsRight layout steps (is_among closed) none []
   halt_right e clear =
-      right_by step.Halt e (row_tells_one (is_among closed) p.b (is_among closed) p.m none ledger.mine (replicate 900 false) p.shows.mine
+      right_by step.Halt e (row_tells_one (is_among closed) p.b (is_among closed) p.m none ledger.mine (replicate channel_places false) p.shows.mine
       (tells_none (is_among closed)) clear).1
 
-  pub halt_stops : drop i steps ≡ step.Halt ∷ drop (i + 1) steps → (ledger.mine ≡ replicate 900 false → ⊥)
+  pub halt_stops : drop i steps ≡ step.Halt ∷ drop (i + 1) steps → (ledger.mine ≡ replicate channel_places false → ⊥)
       → StopsBy layout LeftClosed steps (is_among closed) none []
   halt_stops e left =
       stops_by step.Halt e LeftClosed (
         λ w.
-            left (one_row (is_among closed) p.b (is_among closed) p.m none ledger.mine (replicate 900 false) p.shows.mine (tells_none (is_among closed)) w),
+            left (one_row (is_among closed) p.b (is_among closed) p.m none ledger.mine (replicate channel_places false) p.shows.mine (tells_none (is_among closed)) w),
         refl,
       )
 
@@ -196,6 +208,7 @@ pub right_not_stopped : (layout : Layout) (r : Refusal) (steps : List Step) (b m
 right_not_stopped layout r [] b m ss h s = s
 right_not_stopped layout r (step.Set k n ∷ steps) b m ss h s = right_not_stopped layout r steps b m ((b, m) ∷ ss) h s
 right_not_stopped layout r (step.Wait name ∷ steps) b m ss h s = right_not_stopped layout r steps b m ss h s
+right_not_stopped layout r (step.Timer name micros ∷ steps) b m ss h s = right_not_stopped layout r steps b m ss h s
 right_not_stopped layout r (step.Pause micros ∷ steps) b m ss h s = right_not_stopped layout r steps b m ss h s
 right_not_stopped layout r (step.Close c ∷ steps) b m ss h s =
     ⊎_elim (λ (x : IsBarredAt layout b c r). barred_at_not layout b c r h.0 x)

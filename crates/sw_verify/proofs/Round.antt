@@ -6,16 +6,16 @@ use Rattle.std.proofs.lemmas.Bool.{cases_eq, or_cases, or_left, or_right, and_fr
 use Rattle.sw_base.specs.Layout.{Channel, Layout}
 use Rattle.sw_channel.specs.Positions.{Position}
 use Rattle.sw_trigger.specs.declared.layer.Awaited.{Awaited}
-use Rattle.sw_trigger.specs.declared.layer.Layer.{Layer}
-use Rattle.sw_base.specs.declared.terms.LayerName.{LayerName}
-use Rattle.sw_base.specs.declared.terms.LayerName.TheVariants.{Arm1, Arm2, Trigger}
-use Rattle.sw_trigger.specs.Settings.{SettingsSeen, IsInRange}
-use Rattle.sw_trigger.specs.Agenda.{Item, Awaits, Close, Open, repeated, visit, head_of, position_at, pass_of, passes, arm_turn, arm_turns, agenda}
+use Rattle.sw_base.specs.declared.terms.LayerName.TheVariants.{Trigger}
+use Rattle.sw_trigger.specs.Settings.{SettingsSeen, IsInRange, NamedLayer, arms_of}
+use Rattle.sw_base.specs.Layers.{arm_layers}
+use Rattle.sw_trigger.specs.Agenda.{Item, Awaits, Close, Open, repeated, visit, head_of, position_at, pass_of, passes, turns_of, agenda}
 use Rattle.sw_trigger.specs.Counts.{reads}
 use Rattle.sw_trigger.proofs.Awaiting.{agenda_is}
 use Rattle.sw_trigger.proofs.Same.{channel_decides}
 use Rattle.sw_verify.specs.Channels.{same_channel, Channels, none, is_among, with_channel, without, with_each, without_each}
 use Rattle.sw_verify.specs.Sound.{CanCloseEach, CanOpenEach, AllRight, effect, IsSound}
+use Rattle.sw_code.proofs.Compiled.{AreCounted, arms_counted}
 use Rattle.sw_verify.specs.Moments.{AtMostOneMore}
 
 pub same_channel_is : (a b : Channel) → same_channel a b ≡ true → a ≡ b
@@ -231,27 +231,30 @@ module _ (layout : Layout) (b : Channels) (Of : Position → Type 0) where
       (λ (f : CanPass s k (suc n)). (f k (omega arith) (omega arith), λ j h g. f j (omega arith) (omega arith)))
       (round-append (pass_of s k) (passes s (suc k) n) (round-pass s of k) (round-passes s of (suc k) n))
 
-  pub round-arm_turn : (name : LayerName) (l : Layer) (inside : List Item) {P : Type 0}
-      → IsRound layout b Of P inside → IsRound layout b Of P (arm_turn name l inside)
-  round-arm_turn name l inside {P = P} r =
-      round-like (arm_turn name l inside) (λ (w : Unit {0} × P). w.1) (λ (h : P). (tt, h))
-      (round-append (map Awaits (head_of name l)) inside (round-awaits (head_of name l)) r)
+  pub round-turn : (arm : NamedLayer) (inside : List Item) {P : Type 0} → IsRound layout b Of P inside
+      → IsRound layout b Of P (map Awaits (head_of arm.0 arm.1) ++ inside)
+  round-turn arm inside {P = P} r =
+      round-like (map Awaits (head_of arm.0 arm.1) ++ inside) (λ (w : Unit {0} × P). w.1) (λ (h : P). (tt, h))
+      (round-append (map Awaits (head_of arm.0 arm.1)) inside (round-awaits (head_of arm.0 arm.1)) r)
 
-  pub round-arm_turns : (name : LayerName) (l : Layer) (inside : List Item) {P : Type 0} → IsRound layout b Of P inside
-      → IsRound layout b Of (0 < l.count → P) (arm_turns name l inside)
-  round-arm_turns name l inside r = round-repeated l.count (arm_turn name l inside) (round-arm_turn name l inside r)
+  pub round-arms : (arms : List NamedLayer) (inside : List Item) {P : Type 0} → IsRound layout b Of P inside → IsRound layout b Of (AreCounted arms → P) (turns_of arms inside)
+  round-arms [] inside {P = P} r = round-like inside (λ (h : P). λ (c : Unit {0}). h) (λ (f : Unit {0} → P). f tt) r
+  round-arms (arm ∷ arms) inside {P = P} r =
+      round-like (turns_of (arm ∷ arms) inside)
+      (λ (f : 0 < arm.1.count → AreCounted arms → P). λ (c : AreCounted (arm ∷ arms)). f c.0 c.1)
+      (λ (f : AreCounted (arm ∷ arms) → P). λ (h : 0 < arm.1.count). λ (c : AreCounted arms). f (h, c))
+      (round-repeated arm.1.count (map Awaits (head_of arm.0 arm.1) ++ turns_of arms inside) (round-turn arm (turns_of arms inside) (round-arms arms inside r)))
 
-  pub round-turns : (s : SettingsSeen) → IsOf s → 0 < length s.list → IsRound layout b Of (0 < s.arm1.count → 0 < s.arm2.count → CanPass s 0 s.trigger.count) (agenda s)
+  pub round-turns : (s : SettingsSeen) → IsOf s → 0 < length s.list → IsRound layout b Of (AreCounted (arms_of s) → CanPass s 0 s.trigger.count) (agenda s)
   round-turns s of h =
-      subst (λ (l : List Item). IsRound layout b Of (0 < s.arm1.count → 0 < s.arm2.count → CanPass s 0 s.trigger.count) l) (sym (agenda_is s h))
-      (round-arm_turns Arm1 s.arm1 (arm_turns Arm2 s.arm2 (passes s 0 s.trigger.count))
-      (round-arm_turns Arm2 s.arm2 (passes s 0 s.trigger.count) (round-passes s of 0 s.trigger.count)))
+      subst (λ (l : List Item). IsRound layout b Of (AreCounted (arms_of s) → CanPass s 0 s.trigger.count) l) (sym (agenda_is s h))
+      (round-arms (arms_of s) (passes s 0 s.trigger.count) (round-passes s of 0 s.trigger.count))
 
   pub round-agenda : (s : SettingsSeen) → IsOf s → 0 < length s.list → IsInRange s → IsRound layout b Of (CanPass s 0 s.trigger.count) (agenda s)
   round-agenda s of h i =
       round-like (agenda s)
-      (λ (f : 0 < s.arm1.count → 0 < s.arm2.count → CanPass s 0 s.trigger.count). f i.arm1.count.0 i.arm2.count.0)
-      (λ (f : CanPass s 0 s.trigger.count). λ (u : 0 < s.arm1.count). λ (v : 0 < s.arm2.count). f)
+      (λ (f : AreCounted (arms_of s) → CanPass s 0 s.trigger.count). f (arms_counted s i arm_layers))
+      (λ (f : CanPass s 0 s.trigger.count). λ (c : AreCounted (arms_of s)). f)
       (round-turns s of h)
 
   -- the whole agenda is sound exactly where each entry that is used can be closed, and the readings have room

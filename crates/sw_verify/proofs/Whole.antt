@@ -6,7 +6,7 @@ use Rattle.std.specs.Option.{IfSome}
 use Rattle.std.specs.List.{AllByRecursion}
 use Rattle.std.proofs.Math.Nat.{mul-add, mul_assoc, suc-mul}
 use Rattle.sw_trigger.specs.declared.layer.Awaited.{Awaited}
-use Rattle.sw_trigger.specs.declared.layer.Awaited.TheVariants.{Wait, Pause, Read}
+use Rattle.sw_trigger.specs.declared.layer.Awaited.TheVariants.{Wait, Period, Pause, Read}
 use Rattle.sw_code.specs.declared.code.Step.{Step}
 use Rattle.sw_code.specs.declared.code.Step.TheVariants as step
 use Rattle.sw_verify.specs.declared.refusal.Refusal.TheVariants.{BadNesting, BadJump}
@@ -95,6 +95,7 @@ joined (step.Set k n ∷ steps) pc fs w h =
     let a = chosen (in_use fs k) BadNesting (fault_in steps (pc + 1) (record { counter = k; count = n; start = pc + 1 } ∷ fs)) h in
     join_set k n steps pc fs w.0 a.0 (joined steps (pc + 1) (record { counter = k; count = n; start = pc + 1 } ∷ fs) w.1 a.1)
 joined (step.Wait name ∷ steps) pc fs w h = join_item (Awaits (Wait name)) steps pc fs (joined steps (pc + 1) fs w h)
+joined (step.Timer name micros ∷ steps) pc fs w h = join_item (Awaits (Period name micros)) steps pc fs (joined steps (pc + 1) fs w h)
 joined (step.Pause micros ∷ steps) pc fs w h = join_item (Awaits (Pause micros)) steps pc fs (joined steps (pc + 1) fs w h)
 joined (step.Close c ∷ steps) pc fs w h = join_item (Close c) steps pc fs (joined steps (pc + 1) fs w h)
 joined (step.Read ∷ steps) pc fs w h = join_item (Awaits Read) steps pc fs (joined steps (pc + 1) fs w h)
@@ -126,6 +127,7 @@ module _ (layout : Layout) where
   step_right : (x : Item) (steps : List Step) (b m : Channels) (ss : List (Channels × Channels)) → StepsRight layout (step_of x ∷ steps) b m ss
       → AllRight layout b m (x ∷ []) × StepsRight layout steps (effect b (x ∷ [])) (effect m (x ∷ [])) ss
   step_right (Awaits (Wait name)) steps b m ss h = (tt, h)
+  step_right (Awaits (Period name micros)) steps b m ss h = (tt, h)
   step_right (Awaits (Pause micros)) steps b m ss h = (tt, h)
   step_right (Awaits Read) steps b m ss h = (tt, h)
   step_right (Close c) steps b m ss h = ((h.0, tt), h.1)
@@ -191,6 +193,7 @@ weigh-repeated p (suc n) xs = omega (arith, weigh-append p xs (repeated n xs), w
 weigh-reads : (xs : List Item) → weigh is_read xs ≡ reads xs
 weigh-reads [] = refl
 weigh-reads (Awaits (Wait name) ∷ xs) = omega (arith, weigh-reads xs)
+weigh-reads (Awaits (Period name micros) ∷ xs) = omega (arith, weigh-reads xs)
 weigh-reads (Awaits (Pause micros) ∷ xs) = omega (arith, weigh-reads xs)
 weigh-reads (Awaits Read ∷ xs) = omega (arith, weigh-reads xs)
 weigh-reads (Close c ∷ xs) = weigh-reads xs
@@ -210,6 +213,7 @@ module _ (p : Awaited → Bool) where
   -- the count of one look at each step is that of the whole run
   tally_one : (x : Item) (steps : List Step) (f : ℕ) (gs : List ℕ) → tally p (step_of x ∷ steps) f gs ≡ f * weigh p (x ∷ []) + tally p steps f gs
   tally_one (Awaits (Wait name)) steps f gs = one_at (p (Wait name)) f (tally p steps f gs)
+  tally_one (Awaits (Period name micros)) steps f gs = one_at (p (Period name micros)) f (tally p steps f gs)
   tally_one (Awaits (Pause micros)) steps f gs = one_at (p (Pause micros)) f (tally p steps f gs)
   tally_one (Awaits Read) steps f gs = one_at (p Read) f (tally p steps f gs)
   tally_one (Close c) steps f gs = grind arith
@@ -306,6 +310,7 @@ pub counted : (steps : List Step) → AllByRecursion IsStep steps → AreCounted
 counted [] h = tt
 counted (step.Set k n ∷ steps) h = let p : 0 < n = omega (arith, h.0.1) in (p, counted steps h.1)
 counted (step.Wait name ∷ steps) h = counted steps h.1
+counted (step.Timer name micros ∷ steps) h = counted steps h.1
 counted (step.Pause micros ∷ steps) h = counted steps h.1
 counted (step.Close c ∷ steps) h = counted steps h.1
 counted (step.Read ∷ steps) h = counted steps h.1

@@ -1,5 +1,5 @@
 -- Sets of channels, each a test.
-use Rattle.std.specs.Prelude.{Bool, false, ◌==◌, ◌&&◌, ◌||◌, not, List, [], ◌∷◌}
+use Rattle.std.specs.Prelude.{Bool, false, ◌&&◌, ◌||◌, not, List, [], ◌∷◌}
 use Rattle.sw_base.specs.Layout.{Channel}
 pub use Rattle.sw_channel.specs.Positions.{same_channel, is_among}
 

@@ -1,6 +1,7 @@
 -- What rows of flags tell of the closed channels.
 use Rattle.std.specs.Prelude.{◌≡◌, ℕ, ◌/◌, ◌%◌, ◌<◌, Bool, true, false, ◌||◌, ◌&&◌, ◌==◌, not}
 use Rattle.std.specs.Prelude.{List, [], ◌∷◌, length, slice_index_or}
+use Rattle.sw_base.specs.Limits.{channel_places}
 use Rattle.sw_base.specs.Layout.{Channel, Layout, group_of, IsClash}
 use Rattle.sw_code.specs.Range.{IsInChannelRange}
 use Rattle.sw_verify.specs.declared.ledger.Ledger.{Ledger}
@@ -12,8 +13,8 @@ use Rattle.sw_verify.specs.Marks.{place}
 pub record TellsRow (start b m : Channels) (row : List Bool) : Type 0 where
   pub split : (x : Channel) → (b x ≡ (start x || m x)) × (m x ≡ true → start x ≡ false)
   pub range : (x : Channel) → m x ≡ true → IsInChannelRange x
-  pub size : length row ≡ 900
-  pub flags : (j : ℕ) → j < 900 → slice_index_or row j false ≡ m (j / 100, j % 100)
+  pub size : length row ≡ channel_places
+  pub flags : (j : ℕ) → j < channel_places → slice_index_or row j false ≡ m (j / 100, j % 100)
 
 -- a group's flag is set exactly where a closed channel is of it
 pub record GroupsTell (layout : Layout) (b : Channels) (row : List Bool) : Type 0 where
@@ -28,7 +29,7 @@ pub record GroupsTell (layout : Layout) (b : Channels) (row : List Bool) : Type 
 -- the ledger of the closed channels b; no closed channel clashes with one that the code closed
 pub record Shows (layout : Layout) (start b m : Channels) (l : Ledger) : Type 0 where
   pub mine : TellsRow start b m l.mine
-  pub found_size : length l.found ≡ 900
+  pub found_size : length l.found ≡ channel_places
   pub found : (c : Channel) → IsInChannelRange c → slice_index_or l.found (place c) false ≡ start c
   pub groups : GroupsTell layout b l.groups
   pub apart : (x y : Channel) → m x ≡ true → b y ≡ true → IsClash layout x y → ⊥

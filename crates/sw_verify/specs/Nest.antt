@@ -6,7 +6,7 @@ use Rattle.sw_base.specs.Layout.{Layout}
 use Rattle.sw_code.specs.declared.code.Step.{Step}
 use Rattle.sw_code.specs.declared.code.Step.TheVariants as step
 use Rattle.sw_trigger.specs.declared.layer.Awaited.{Awaited}
-use Rattle.sw_trigger.specs.declared.layer.Awaited.TheVariants.{Wait, Pause, Read}
+use Rattle.sw_trigger.specs.declared.layer.Awaited.TheVariants.{Wait, Period, Pause, Read}
 use Rattle.sw_verify.specs.declared.refusal.Refusal.{Refusal}
 use Rattle.sw_verify.specs.declared.refusal.Refusal.TheVariants.{BadNesting, BadJump}
 use Rattle.sw_verify.specs.declared.nest.Frame.{Frame}
@@ -34,6 +34,7 @@ fault_in (step.Set k n ∷ steps) pc fs =
     if in_use fs k then Some BadNesting
     else fault_in steps (pc + 1) (record { counter = k; count = n; start = pc + 1 } ∷ fs)
 fault_in (step.Wait name ∷ steps) pc fs = fault_in steps (pc + 1) fs
+fault_in (step.Timer name micros ∷ steps) pc fs = fault_in steps (pc + 1) fs
 fault_in (step.Pause micros ∷ steps) pc fs = fault_in steps (pc + 1) fs
 fault_in (step.Close p ∷ steps) pc fs = fault_in steps (pc + 1) fs
 fault_in (step.Read ∷ steps) pc fs = fault_in steps (pc + 1) fs
@@ -46,6 +47,7 @@ abbrev pub AreCounted : List Step → Type 0
 AreCounted [] = Unit {0}
 AreCounted (step.Set k n ∷ steps) = (0 < n) × AreCounted steps
 AreCounted (step.Wait name ∷ steps) = AreCounted steps
+AreCounted (step.Timer name micros ∷ steps) = AreCounted steps
 AreCounted (step.Pause micros ∷ steps) = AreCounted steps
 AreCounted (step.Close p ∷ steps) = AreCounted steps
 AreCounted (step.Read ∷ steps) = AreCounted steps
@@ -64,6 +66,7 @@ abbrev pub StepsRight : Layout → List Step → Channels → Channels → List 
 StepsRight layout [] b m ss = Unit {0}
 StepsRight layout (step.Set k n ∷ steps) b m ss = StepsRight layout steps b m ((b, m) ∷ ss)
 StepsRight layout (step.Wait name ∷ steps) b m ss = StepsRight layout steps b m ss
+StepsRight layout (step.Timer name micros ∷ steps) b m ss = StepsRight layout steps b m ss
 StepsRight layout (step.Pause micros ∷ steps) b m ss = StepsRight layout steps b m ss
 StepsRight layout (step.Close p ∷ steps) b m ss =
     CanCloseEach layout b p × StepsRight layout steps (with_each p b) (with_each p m) ss
@@ -79,6 +82,7 @@ every what = true
 
 abbrev pub is_read : Awaited → Bool
 is_read (Wait name) = false
+is_read (Period name micros) = false
 is_read (Pause micros) = false
 is_read Read = true
 
@@ -94,6 +98,7 @@ abbrev pub tally : (Awaited → Bool) → List Step → ℕ → List ℕ → ℕ
 tally counts [] f gs = 0
 tally counts (step.Set k n ∷ steps) f gs = tally counts steps (f * n) (f ∷ gs)
 tally counts (step.Wait name ∷ steps) f gs = tally_item counts (Wait name) f (tally counts steps f gs)
+tally counts (step.Timer name micros ∷ steps) f gs = tally_item counts (Period name micros) f (tally counts steps f gs)
 tally counts (step.Pause micros ∷ steps) f gs = tally_item counts (Pause micros) f (tally counts steps f gs)
 tally counts (step.Close p ∷ steps) f gs = tally counts steps f gs
 tally counts (step.Read ∷ steps) f gs = tally_item counts Read f (tally counts steps f gs)
@@ -101,20 +106,21 @@ tally counts (step.Open p ∷ steps) f gs = tally counts steps f gs
 tally counts (step.Loop k to ∷ steps) f gs = tally_loop gs (tally counts steps)
 tally counts (step.Halt ∷ steps) f gs = 0
 
--- each factor is at most 10^15
+-- each factor is at most 10^20
 abbrev pub Limited : ℕ → Type 0
-Limited f = f ≤ 1000000000000000
+Limited f = f ≤ 100000000000000000000
 
 abbrev pub limited_loop : List ℕ → (ℕ → List ℕ → Type 0) → Type 0
 limited_loop [] go = ⊥
 limited_loop (g ∷ gs) go = Limited g × go g gs
 
--- Each step is done at most 10^15 times. The next one is done f times, and what follows the ends of the open loops as
+-- Each step is done at most 10^20 times. The next one is done f times, and what follows the ends of the open loops as
 -- often as gs says
 abbrev pub AreLimited : List Step → ℕ → List ℕ → Type 0
 AreLimited [] f gs = Unit {0}
 AreLimited (step.Set k n ∷ steps) f gs = Limited (f * n) × AreLimited steps (f * n) (f ∷ gs)
 AreLimited (step.Wait name ∷ steps) f gs = AreLimited steps f gs
+AreLimited (step.Timer name micros ∷ steps) f gs = AreLimited steps f gs
 AreLimited (step.Pause micros ∷ steps) f gs = AreLimited steps f gs
 AreLimited (step.Close p ∷ steps) f gs = AreLimited steps f gs
 AreLimited (step.Read ∷ steps) f gs = AreLimited steps f gs

@@ -38,6 +38,7 @@ abbrev pub StopsBy : Layout → Refusal → List Step → Channels → Channels 
 StopsBy layout r [] b m ss = ⊥
 StopsBy layout r (step.Set k n ∷ steps) b m ss = StopsBy layout r steps b m ((b, m) ∷ ss)
 StopsBy layout r (step.Wait name ∷ steps) b m ss = StopsBy layout r steps b m ss
+StopsBy layout r (step.Timer name micros ∷ steps) b m ss = StopsBy layout r steps b m ss
 StopsBy layout r (step.Pause micros ∷ steps) b m ss = StopsBy layout r steps b m ss
 StopsBy layout r (step.Close p ∷ steps) b m ss =
     IsBarredAt layout b p r ⊎ (CanCloseEach layout b p × StopsBy layout r steps (with_each p b) (with_each p m) ss)

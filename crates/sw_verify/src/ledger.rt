@@ -2,6 +2,7 @@
 
 ghost use Rattle.std.specs.Prelude.{◌≡◌, ◌<◌, true, false, OnOk, IfErr};
 ghost use Rattle.sw_base.specs.Layout.{Channel};
+ghost use Rattle.sw_base.specs.Limits.{channel_places};
 ghost use Rattle.sw_verify.specs.declared.refusal.Refusal.TheVariants.{NotClosed};
 ghost use Rattle.sw_verify.specs.Channels.{Channels, none, is_among, with_channel, without, with_each, without_each};
 ghost use Rattle.sw_verify.specs.Sound.{CanCloseOne, CanCloseEach, CanOpenEach};
@@ -9,16 +10,16 @@ ghost use Rattle.sw_verify.specs.Stops.{IsBarred, IsBarredAt, IsNotMineAt};
 ghost use Rattle.sw_verify.specs.Ledger.{Shows, is_taken};
 
 use crate::layout::Layout;
-use crate::marks::{PLACES, channel_marks, group_marks, place};
+use crate::marks::{channel_marks, group_marks, place};
 use crate::refusal::Refusal;
-use sw_base::Chan;
+use sw_base::{CHANNEL_PLACES, Chan};
 use sw_channel::Position;
 
 /// What was closed at the start, what the code closed since, and the groups of both.
 #[derive(Drop)]
 pub struct Ledger {
-    found: [bool; PLACES],
-    pub mine: [bool; PLACES],
+    found: [bool; CHANNEL_PLACES],
+    pub mine: [bool; CHANNEL_PLACES],
     groups: [bool; 256],
 }
 
@@ -28,7 +29,7 @@ impl Ledger {
     {
         Ledger {
             found: channel_marks(closed),
-            mine: [false; PLACES],
+            mine: [false; CHANNEL_PLACES],
             groups: group_marks(layout, closed),
         }
     }
@@ -102,7 +103,7 @@ impl Ledger {
     }
 
     fn is_taken(&self, at: usize, group: u8) -> bool
-        requires { at < 900 }
+        requires { at < channel_places }
         ensures { result ≡ is_taken self.now at group }
     {
         self.found[at] || self.mine[at] || (group != 0 && self.groups[usize::from(group)])

@@ -8,10 +8,9 @@ ghost use Rattle.sw_verify.specs.Ledger.{TellsRow};
 
 use crate::layout::Layout;
 use crate::ledger::Ledger;
-use crate::marks::PLACES;
 use crate::refusal::Refusal;
 use std::alloc::{AllocError, Global};
-use sw_base::Chan;
+use sw_base::{CHANNEL_PLACES, Chan};
 use sw_code::Step;
 
 /// Why the first step that may not be done is refused, if there is one: NoChannel, GroupClash, NotClosed or LeftClosed.
@@ -53,18 +52,18 @@ pub fn look(
                 }
             }
             Step::Halt => {
-                if is_same(&ledger.mine, &[false; PLACES]) {
+                if is_same(&ledger.mine, &[false; CHANNEL_PLACES]) {
                     return Ok(None);
                 }
                 return Ok(Some(Refusal::LeftClosed));
             }
-            Step::Wait(_) | Step::Pause(_) | Step::Read => {}
+            Step::Wait(_) | Step::Timer(_, _) | Step::Pause(_) | Step::Read => {}
         }
     }
     Ok(None)
 }
 
-fn is_same(row: &[bool; PLACES], other: &[bool; PLACES]) -> bool
+fn is_same(row: &[bool; CHANNEL_PLACES], other: &[bool; CHANNEL_PLACES]) -> bool
     ensures { IsTrue result ↔ (row.now ≡ other.now) }
 {
     row == other

@@ -1,20 +1,18 @@
-//! The closed channels and their groups as rows of flags, so that an entry is judged without a walk over them.
+//! The closed channels and their groups as rows of flags, so that a position is judged without a walk over them.
 
 ghost use Rattle.std.specs.Prelude.{◌≡◌, length};
+ghost use Rattle.sw_base.specs.Limits.{channel_places};
 ghost use Rattle.sw_code.specs.Range.{IsInChannelRange};
 ghost use Rattle.sw_verify.specs.Marks.{place, ChannelMarks, GroupMarks};
 
 use crate::layout::Layout;
-use sw_base::Chan;
+use sw_base::{CHANNEL_PLACES, Chan};
 
-/// A place for each channel: its slot times 100 and its number.
-pub const PLACES: usize = 900;
-
-pub fn channel_marks(channels: &[Chan]) -> [bool; PLACES]
+pub fn channel_marks(channels: &[Chan]) -> [bool; CHANNEL_PLACES]
     ensures marks { ChannelMarks channels.now result }
-    ensures size { length result ≡ 900 }
+    ensures size { length result ≡ channel_places }
 {
-    let mut marks = [false; PLACES];
+    let mut marks = [false; CHANNEL_PLACES];
     for c in channels {
         marks[place(*c)] = true;
     }
@@ -32,6 +30,7 @@ pub fn group_marks(layout: &Layout, channels: &[Chan]) -> [bool; 256]
     marks
 }
 
+/// A channel's place: its slot times 100 and its number.
 pub fn place(c: Chan) -> usize
     ensures place { result ≡ place c }
     ensures channel { IsInChannelRange c }

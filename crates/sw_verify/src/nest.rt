@@ -56,7 +56,12 @@ pub fn nesting(alloc: Global, steps: &[Step]) -> Result<Option<Refusal>, AllocEr
                 }
                 return Ok(Some(Refusal::BadNesting));
             }
-            Step::Wait(_) | Step::Pause(_) | Step::Close(_) | Step::Read | Step::Open(_) => {}
+            Step::Wait(_)
+            | Step::Timer(_, _)
+            | Step::Pause(_)
+            | Step::Close(_)
+            | Step::Read
+            | Step::Open(_) => {}
         }
     }
     Ok(Some(Refusal::BadNesting))

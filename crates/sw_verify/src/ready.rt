@@ -19,7 +19,7 @@ use sw_channel::Position;
 
 /// Whether the scan may begin; else the first refusal that applies, and never `NoMemory`.
 ///
-/// It looks at each entry that the scan uses once, and at each closed channel once.
+/// It looks at each position that the scan uses once, and at each closed channel once.
 pub fn check(snapshot: &Snapshot) -> Result<(), Refusal>
     ensures ok { IsOk result ↔ IsReady snapshot.now }
     ensures first { IfErr result (λ r. IsFirst r snapshot.now) }

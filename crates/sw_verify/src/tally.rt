@@ -14,7 +14,7 @@ pub struct Counts {
     pub readings: u128,
 }
 
-/// The counts of a code whose loops are nested. Each step is done at most 10^15 times, so 128 bits hold them.
+/// The counts of a code whose loops are nested. Each step is done at most 10^20 times, so 128 bits hold them.
 pub fn tally(alloc: Global, steps: &[Step]) -> Result<Counts, AllocError>
     requires length { length steps.now ≤ most_steps }
     requires limited { AreLimited steps.now 1 [] }
@@ -34,7 +34,7 @@ pub fn tally(alloc: Global, steps: &[Step]) -> Result<Counts, AllocError>
                 turns *= u128::from(count);
             }
             Step::Loop(_, _) => turns = saved.remove(0),
-            Step::Wait(_) | Step::Pause(_) => counts.bound += turns,
+            Step::Wait(_) | Step::Timer(_, _) | Step::Pause(_) => counts.bound += turns,
             Step::Read => {
                 counts.bound += turns;
                 counts.readings += turns;

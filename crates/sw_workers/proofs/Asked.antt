@@ -28,7 +28,7 @@ answers start ask whole answer work old mid new is asks adds =
 
 handed : (start : Panel) (ask : SessionAsk) (answer : SessionAnswer) (work : Option WorkSeen) (old new : AtDesk)
     → AsksOnce start (AskSession ask) (SaysSession answer work) old new → HandsBackAsk ask answer
-handed start ask answer work old new asks = handed-back asks.before ask asks.failed answer work asks.after asks.step
+handed start ask answer work old new asks = handed-back asks.before ask _ answer work asks.after asks.history.next.step
 
 pub hands-back : {R M : _} (start : Panel) (ask : SessionAsk) (whole : Answer R M) (answer : SessionAnswer) (work : Option (Work M)) (old new : AtDesk)
     → whole ≡ Answer.Session answer work → AsksOnce start (AskSession ask) (answer_seen whole) old new → HandsBackAsk ask answer

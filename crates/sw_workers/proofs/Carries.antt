@@ -5,6 +5,7 @@ use Rattle.sw_core.specs.Panel.{Panel}
 use Rattle.sw_core.specs.Seen.{WorkSeen}
 use Rattle.sw_workers.specs.Board.{Known}
 use Rattle.sw_workers.specs.Held.{AtDesk}
+use Rattle.sw_workers.specs.History.{event}
 use Rattle.sw_workers.specs.Shares.{is_counted, one_if}
 use Rattle.sw_workers.specs.Work.{MadeAsk, Carries, Adds, Brings, EndsPiece, Learns, events_of}
 
@@ -12,10 +13,7 @@ use Rattle.sw_workers.specs.Work.{MadeAsk, Carries, Adds, Brings, EndsPiece, Lea
 abbrev pub made_of : {start : Panel} {ask : _} {old : AtDesk} {work : Option WorkSeen} {new : AtDesk} → Brings start ask old work new → MadeAsk
 made_of {start} {ask} {old} {work} {new} told = record {
   before = told.asks.before;
-  ask = ask;
-  failed = told.asks.failed;
-  answer = told.answer;
-  after = told.asks.after;
+  event = event ask told.answer told.asks.after;
   knew = old.seat;
   knows = new.seat;
 }
@@ -41,7 +39,7 @@ carries-done start work left old new h = record {
   learns = h.learns;
 }
 
-events-snoc : (made : List MadeAsk) (m : MadeAsk) → events_of (made ++ m ∷ []) ≡ events_of made + one_if (is_counted m.before.events m.answer)
+events-snoc : (made : List MadeAsk) (m : MadeAsk) → events_of (made ++ m ∷ []) ≡ events_of made + one_if (is_counted m.before.events m.event.answer)
 events-snoc [] m = omega arith
 events-snoc (x ∷ made) m = omega (arith, events-snoc made m)
 
@@ -53,7 +51,7 @@ learns-append u v w (m ∷ made) more a b = (a.0, learns-append m.knows v w made
 carried : (start : Panel) (piece : WorkSeen) (next : Option WorkSeen) (mid new : AtDesk) (ends : EndsPiece start piece mid next new) (more : List MadeAsk)
     → Carries start next more → Carries start (Some piece) (made_of ends.told ∷ more)
 carried start piece next mid new ends more c =
-    (ends.tells, (ends.told.asks.step, ends.told.asks.history), subst (λ (o : Option WorkSeen). Carries start o more) ends.told.brings_is c)
+    (ends.tells, ends.told.asks.history, subst (λ (o : Option WorkSeen). Carries start o more) ends.told.brings_is c)
 
 pub carries-more : (start : Panel) (work left next : Option WorkSeen) (piece : WorkSeen) (old mid new : AtDesk) → CarriesOn start work left old mid
     → left ≡ Some piece → EndsPiece start piece mid next new → CarriesOn start work next old new

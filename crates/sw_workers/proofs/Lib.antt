@@ -14,3 +14,4 @@ mod Worked
 mod Ejected
 mod Asked
 mod Serving
+mod EachCounted

@@ -8,7 +8,7 @@ use Rattle.sw_core.specs.Run.{IsNextEvent}
 use Rattle.sw_core.specs.Seen.{AskSeen, AnswerSeen}
 use Rattle.sw_workers.specs.Board.{Known, Said, entry_of}
 use Rattle.sw_workers.specs.Entries.{HistoryEntry, made_by}
-use Rattle.sw_workers.specs.History.{IsHistory, said_at, Entered, Replied, SeatTold, AsksInHistory}
+use Rattle.sw_workers.specs.History.{IsEntry, IsHistory, event, said_at, Entered, Replied, SeatTold, AsksInHistory}
 use Rattle.sw_workers.specs.Shares.{is_event}
 use Rattle.sw_workers.proofs.Histories.{history_more}
 
@@ -42,20 +42,24 @@ pub record SawEvent (es : List HistoryEntry) (v : Known) (said : Said) (w : Know
 
 pub asks_event : (start : Panel) (es : List HistoryEntry) (p : Panel) (v : Known) (said : Said) (ask : AskSeen) (answer : AnswerSeen) (q : Panel) (w : Known)
     (d : ℕ)
-    → IsHistory start es p → Leads p ask answer q → said ≡ said_at q ask answer → v.desk ≡ Some d → SawEvent es v said w → AsksInHistory start v ask answer w
+    → IsHistory start es p → Leads p ask answer q → said ≡ said_at q ask answer → v.desk ≡ Some d → SawEvent es v said w
+    → AsksInHistory start p v (event ask answer q) w
 asks_event start es p v said ask answer q w d h l e is s =
-    let entered : Entered v ask answer w = record {
+    let entered : Entered start p v (event ask answer q) w = record {
       before = es;
       entry = entry_of v said;
       seen = s.seen;
       later = s.later;
+      leads = h;
+      is_entry = subst (λ (x : Said). IsEntry p (entry_of v x) q) (sym e) (record { next = l.next; event = l.event; number = refl; pair = refl });
       ask_is = ap (λ (x : Said). x.ask) e;
       answer_is = ap (λ (x : Said). x.answer) e;
       desk = is ∙ ap Some (sym (ap (λ o. unwrap_or o 0) is));
       mine = s.mine;
     } in record {
-      told = subst (λ (b : Bool). SeatTold b start v ask answer w) (sym l.event) entered;
-      legal = (q, subst (λ (xs : List HistoryEntry). IsHistory start xs q) (sym s.seen) (history_event start es p v said ask answer q h l e));
+      next = l.next;
+      told = subst (λ (b : Bool). SeatTold b start p v (event ask answer q) w) (sym l.event) entered;
+      legal = subst (λ (xs : List HistoryEntry). IsHistory start xs q) (sym s.seen) (history_event start es p v said ask answer q h l e);
       desk = s.desk;
       own = s.own;
     }
@@ -69,19 +73,19 @@ pub record SawNone (es : List HistoryEntry) (v w : Known) : Type 0 where
   pub own : (d : ℕ) → w.desk ≡ Some d → made_by d w.seen ≡ w.mine
 
 pub asks_nothing : (start : Panel) (es : List HistoryEntry) (p : Panel) (v : Known) (ask : AskSeen) (answer : AnswerSeen) (q : Panel) (w : Known)
-    → IsHistory start es p → IsNextEvent p (record { ask = ask; answer = answer; panel = q }) → q ≡ p → is_event answer ≡ false → SawNone es v w
-    → AsksInHistory start v ask answer w
+    → IsHistory start es p → IsNextEvent p (event ask answer q) → q ≡ p → is_event answer ≡ false → SawNone es v w
+    → AsksInHistory start p v (event ask answer q) w
 asks_nothing start es p v ask answer q w h n e quiet s =
     let there : IsHistory start w.seen p = subst (λ (xs : List HistoryEntry). IsHistory start xs p) (sym s.seen) h in
-    let replied : Replied start v ask answer w = record {
-      panel = p;
-      history = there;
-      next = subst (λ (x : Panel). IsNextEvent p (record { ask = ask; answer = answer; panel = x })) e n;
+    let replied : Replied start p v (event ask answer q) w = record {
+      same = e;
+      leads = there;
       later = subst (λ (xs : List HistoryEntry). IsPrefix v.seen xs) (sym s.seen) s.later;
       mine = s.mine;
     } in record {
-      told = subst (λ (b : Bool). SeatTold b start v ask answer w) (sym quiet) replied;
-      legal = (p, there);
+      next = n;
+      told = subst (λ (b : Bool). SeatTold b start p v (event ask answer q) w) (sym quiet) replied;
+      legal = subst (λ (x : Panel). IsHistory start w.seen x) (sym e) there;
       desk = s.desk;
       own = s.own;
     }

@@ -30,7 +30,7 @@ pub works-told : (start : Panel) (piece : WorkSeen) (ask : AskSeen) (old new : A
     → Brings start ask old work new → Works start old new
 works-told start piece ask old new work tells told = record {
   made = made_of told ∷ [];
-  told = ((piece, tells, (told.asks.step, told.asks.history)), tt);
+  told = ((piece, tells, told.asks.history), tt);
   counts = omega (arith, told.asks.counts);
   learns = (refl, refl);
 }
@@ -41,7 +41,7 @@ works-ends start piece old new work ends = works-told start piece ends.ask old n
 carried-told : (start : Panel) (work : Option WorkSeen) (made : List MadeAsk) → Carries start work made → AreTold start made
 carried-told start work [] c = tt
 carried-told start None (m ∷ made) c = absurd c
-carried-told start (Some piece) (m ∷ made) c = ((piece, c.0, c.1), carried-told start (brought m.answer) made c.2)
+carried-told start (Some piece) (m ∷ made) c = ((piece, c.0, c.1), carried-told start (brought m.event.answer) made c.2)
 
 pub works-adds : (start : Panel) (work : Option WorkSeen) (old new : AtDesk) → Adds start work old new → Works start old new
 works-adds start work old new adds =

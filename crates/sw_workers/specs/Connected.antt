@@ -9,7 +9,7 @@ use Rattle.sw_session.specs.declared.servers.fault.ServeFault.{ServeFault}
 use Rattle.sw_session.specs.declared.servers.fault.ServeFault.TheVariants.{Read, Write, NoMemory}
 use Rattle.sw_session.specs.declared.servers.source.Source as Source
 use Rattle.sw_session.specs.declared.servers.writing.Sink as Sink
-use Rattle.sw_session.specs.ServeRead.{CameTo, MayPause}
+use Rattle.sw_session.specs.ServeRead.{CameTo, PausesBy}
 use Rattle.sw_session.specs.Trace.{Entry}
 use Rattle.sw_session.specs.ServeEngine.{Station, ServesChannel}
 
@@ -23,56 +23,64 @@ channel_by_header (h ∷ s ∷ kind ∷ rest) =
     if (h == 72) && (s == 83) && (kind == kind_number AsyncInitialize) then Asynchronous else Synchronous
 channel_by_header bytes = Synchronous
 
--- what can befall a connection: a time limit can end a read; a read has failed; a write has failed
+-- What can befall a connection: a read has failed; a write has failed; what was left to the session's other thread was
+-- refused, since it didn't fit beside what waited.
 pub record Mishaps : Type 1 where
-  pub may_pause : Type 0
   pub unread : Type 0
   pub unwritten : Type 0
+  pub refused : Type 0
 
--- What a connection's reader, its writer and its second way to the client tell of that: the second way is written to
--- before a read, which then fails with it.
-abbrev pub mishaps : {R W S : Type 0} → Source.Ghosts R → Sink.Ghosts W → Sink.Ghosts S → Mishaps
-mishaps reads writes writes_aside = record {
-  may_pause = MayPause reads.paused;
+-- What a connection's reader, its writer, its second way to the client and what is left to the other thread tell of
+-- that: the second way is written to before a read, which then fails with it.
+abbrev pub mishaps : {R W S : Type 0} → Source.Ghosts R → Sink.Ghosts W → Sink.Ghosts S → Type 0 → Mishaps
+mishaps reads writes writes_aside refused = record {
   unread = Happened reads.failed ⊎ Happened writes_aside.failed;
   unwritten = Happened writes.failed;
+  refused = refused;
 }
 
--- where the server of a connection stands: its desk, what is left to be read, and what was written
+-- where the server of a connection stands: its desk, what is left to be read, how many reads a time limit has ended so
+-- far, where that is known, and what was written
 pub record ConnectionSeen (D : Type 0) : Type 0 where
   pub desk : D
   pub input : Option (List ℕ)
+  pub pauses : Option ℕ
   pub output : Option (List ℕ)
 
-abbrev pub connection_seen : {D : Type 0} → D → Option (List ℕ) → Option (List ℕ) → ConnectionSeen D
-connection_seen desk input output = record { desk = desk; input = input; output = output }
+abbrev pub connection_seen : {D : Type 0} → D → Option (List ℕ) → Option ℕ → Option (List ℕ) → ConnectionSeen D
+connection_seen desk input pauses output = record { desk = desk; input = input; pauses = pauses; output = output }
 
 -- the same as a channel's server that has this with its side writer
 abbrev pub beside : {D : Type 0} → Option (List ℕ) → ConnectionSeen D → Station D
-beside side a = record { desk = a.desk; input = a.input; main = a.output; side = side }
+beside side a = record { desk = a.desk; input = a.input; pauses = a.pauses; main = a.output; side = side }
+
+-- time limits ended some reads meanwhile, and their count, where it is known, went on by as many
+pub record Waited (before after : Option ℕ) : Type 0 where
+  pub reads : ℕ
+  pub counts : PausesBy before after reads
 
 -- A connection is served from its first byte on, as the channel that its first header tells. The header is whole,
--- unless the input ended or failed in it. A run that ends by a read fault has a read that failed; one that ends by a
--- write fault a write that failed, or else it is of the first channel, where there was no memory for what is left to
--- the second one.
+-- unless the input ended or failed in it; time limits may have ended reads in it. A run that ends by a read fault has a read that failed; one that ends by a
+-- write fault a write that failed, or else it is of the first channel, and what it left to the second one was refused.
 pub record ServesFromHeader {D : Type 0} (passes : D → Entry → D → Type 0) (m : Mishaps) (turns : ℕ)
     (before after : ConnectionSeen D) (result : Result (Unit {0}) ServeFault) : Type 0 where
   pub header : List ℕ
   pub rest : Option (List ℕ)
   pub begins : Consumes before.input rest header
   pub whole : (length header ≡ 16) ⊎ IsAtEnd rest ⊎ m.unread
+  pub pauses : Option ℕ
+  pub waited : Waited before.pauses pauses
   pub side : Option (List ℕ)
   pub side' : Option (List ℕ)
-  pub serves : ServesChannel passes (channel_by_header header) m.may_pause turns (beside side before)
-      (beside side' after)
-      result
+  pub serves : ServesChannel passes (channel_by_header header) turns (beside side (record before { pauses = pauses }))
+      (beside side' after) result
   pub read : result ≡ Err Read → m.unread
-  pub write : result ≡ Err Write → m.unwritten ⊎ (channel_by_header header ≡ Synchronous)
+  pub write : result ≡ Err Write → m.unwritten ⊎ ((channel_by_header header ≡ Synchronous) × m.refused)
 
--- There was no memory to begin, and nothing was read, asked or written; or the connection is served.
+-- There was no memory to begin, or no room for one more connection, and nothing was read, asked or written; or the
+-- connection is served.
 abbrev pub RunsSession : {D : Type 0} → (D → Entry → D → Type 0) → Mishaps → ℕ → ConnectionSeen D → ConnectionSeen D
     → Result (Unit {0}) ServeFault → Type 0
 RunsSession passes m turns before after result =
-    ((result ≡ Err NoMemory) × (after.desk ≡ before.desk) × (after.input ≡ before.input)
-    × (after.output ≡ before.output))
+    ((result ≡ Err NoMemory) × (after ≡ before))
     ⊎ ServesFromHeader passes m turns before after result

@@ -1,11 +1,16 @@
 -- The history of a mainframe: its events, each a step of the core from what the one before it left. What an ask tells
 -- the desk that made it.
-use Rattle.std.specs.Prelude.{◌≡◌, ℕ, Bool, true, false, List, [], ◌∷◌, ◌++◌, Some}
+use Rattle.std.specs.Prelude.{◌≡◌, ℕ, Bool, true, false, List, [], ◌∷◌, ◌++◌, Some, None}
 use mathlib.Core.List.{IsPrefix}
 use Rattle.sw_status.specs.StatusModel.{summary_of}
 use Rattle.sw_core.specs.Panel.{Panel}
-use Rattle.sw_core.specs.Seen.{AskSeen, AnswerSeen}
-use Rattle.sw_core.specs.Run.{IsNextEvent}
+use Rattle.sw_lex.specs.declared.command.Command.TheVariants.{OperationCompleteQuery}
+use Rattle.sw_core.specs.declared.ask.Sid.{Sid}
+use Rattle.sw_core.specs.declared.ask.SessionAsk.TheVariants as Ask
+use Rattle.sw_core.specs.declared.ask.SessionAnswer.TheVariants.{Hold}
+use Rattle.sw_core.specs.Seen.{AskSeen, AskSession, AnswerSeen, SaysSession}
+use Rattle.sw_core.specs.Step.{Step}
+use Rattle.sw_core.specs.Run.{Event, IsNextEvent}
 use Rattle.sw_workers.specs.Board.{Known, Said}
 use Rattle.sw_workers.specs.Entries.{HistoryEntry, made_by}
 use Rattle.sw_workers.specs.Shares.{is_event}
@@ -14,9 +19,13 @@ use Rattle.sw_workers.specs.Shares.{is_event}
 abbrev pub pair_of : Panel → ℕ × ℕ
 pair_of p = (summary_of p.status, p.status.requests)
 
+-- what is asked and answered, and the panel that this leaves
+abbrev pub event : AskSeen → AnswerSeen → Panel → Event
+event ask answer after = record { ask = ask; answer = answer; panel = after }
+
 -- the entry is an event that leads from p to q
 pub record IsEntry (p : Panel) (e : HistoryEntry) (q : Panel) : Type 0 where
-  pub next : IsNextEvent p (record { ask = e.ask; answer = e.answer; panel = q })
+  pub next : IsNextEvent p (event e.ask e.answer q)
   pub event : is_event e.answer ≡ true
   pub number : e.number ≡ q.events
   pub pair : e.pair ≡ pair_of q
@@ -35,34 +44,37 @@ abbrev pub grown : Bool → List HistoryEntry → HistoryEntry → List HistoryE
 grown true entries e = entries ++ e ∷ []
 grown false entries e = entries
 
--- The ask stands with its answer in one new entry of the desk, which has seen the history up to it.
-pub record Entered (v : Known) (ask : AskSeen) (answer : AnswerSeen) (w : Known) : Type 0 where
+-- What was asked at panel p stands with its answer in one new entry of the desk, which has seen the history up to it.
+pub record Entered (start p : Panel) (v : Known) (e : Event) (w : Known) : Type 0 where
   pub before : List HistoryEntry
   pub entry : HistoryEntry
   pub seen : w.seen ≡ before ++ entry ∷ []
   pub later : IsPrefix v.seen before
-  pub ask_is : entry.ask ≡ ask
-  pub answer_is : entry.answer ≡ answer
+  pub leads : IsHistory start before p
+  pub is_entry : IsEntry p entry e.panel
+  pub ask_is : entry.ask ≡ e.ask
+  pub answer_is : entry.answer ≡ e.answer
   pub desk : v.desk ≡ Some entry.desk
   pub mine : w.mine ≡ v.mine ++ entry ∷ []
 
--- The answer, which is no event's, is one of a panel to which the history leads that the desk has then seen.
-pub record Replied (start : Panel) (v : Known) (ask : AskSeen) (answer : AnswerSeen) (w : Known) : Type 0 where
-  pub panel : Panel
-  pub history : IsHistory start w.seen panel
-  pub next : IsNextEvent panel (record { ask = ask; answer = answer; panel = panel })
+-- The answer, which is no event's, is one of panel p, to which the history leads that the desk has then seen.
+pub record Replied (start p : Panel) (v : Known) (e : Event) (w : Known) : Type 0 where
+  pub same : e.panel ≡ p
+  pub leads : IsHistory start w.seen p
   pub later : IsPrefix v.seen w.seen
   pub mine : w.mine ≡ v.mine
 
-abbrev pub SeatTold : Bool → Panel → Known → AskSeen → AnswerSeen → Known → Type 0
-SeatTold true start v ask answer w = Entered v ask answer w
-SeatTold false start v ask answer w = Replied start v ask answer w
+abbrev pub SeatTold : Bool → Panel → Panel → Known → Event → Known → Type 0
+SeatTold true start p v e w = Entered start p v e w
+SeatTold false start p v e w = Replied start p v e w
 
--- What an ask tells its desk. What the desk has then seen is the history of a mainframe that opened so, and has the
--- entries that the desk made and no others of it.
-pub record AsksInHistory (start : Panel) (v : Known) (ask : AskSeen) (answer : AnswerSeen) (w : Known) : Type 0 where
-  pub told : SeatTold (is_event answer) start v ask answer w
-  pub legal : (p : Panel) × IsHistory start w.seen p
+-- What an ask at panel p tells its desk: it is a step, and stands in the history where it is an event, right after what
+-- led to p. What the desk has then seen is the history of a mainframe that opened so, and has the entries that the desk
+-- made and no others of it.
+pub record AsksInHistory (start p : Panel) (v : Known) (e : Event) (w : Known) : Type 0 where
+  pub next : IsNextEvent p e
+  pub told : SeatTold (is_event e.answer) start p v e w
+  pub legal : IsHistory start w.seen e.panel
   pub desk : w.desk ≡ v.desk
   pub own : (d : ℕ) → w.desk ≡ Some d → made_by d w.seen ≡ w.mine
 
@@ -70,3 +82,8 @@ pub record AsksInHistory (start : Panel) (v : Known) (ask : AskSeen) (answer : A
 pub record InHistory : Type 0 where
   pub panel : Panel
   pub history : List HistoryEntry
+
+-- *OPC? of the session is held
+abbrev pub AwaitsEnd : Panel → Sid → Type 0
+AwaitsEnd p sid = Step p (AskSession (Ask.Unit sid OperationCompleteQuery false)) false
+    (SaysSession (Hold (Ask.Unit sid OperationCompleteQuery false)) None) p

@@ -12,3 +12,6 @@ pub mod Connected
 pub mod Sides
 pub mod Limits
 pub mod Pauses
+pub mod Laws
+pub mod Places
+pub mod Waits

@@ -1,5 +1,5 @@
 -- What one thread of a session leaves to the other.
-use Rattle.std.specs.Prelude.{◌==◌, ◌+◌, ℕ, nat_lt, nat_le, Bool, true, false, List, [], ◌++◌, length, Option, None}
+use Rattle.std.specs.Prelude.{◌==◌, ◌+◌, ◌<◌, ◌⊎◌, ℕ, nat_lt, nat_le, Bool, true, false, List, [], ◌++◌, length, Option, None}
 use Rattle.std.specs.Prelude.{Some, if◌then◌else◌}
 
 -- the session that a slot is given to, by the number of events after its Join, and what waits for it
@@ -27,6 +27,10 @@ most_waiting = 65536
 abbrev pub has_room : InSlot → ℕ → List ℕ → Bool
 has_room s joined bytes =
     if is_of s.joined joined then nat_le (length s.bytes + length bytes) most_waiting else true
+
+-- So many more bytes don't fit beside those that wait: not into what may wait, or not into the room that the slot has.
+abbrev pub IsFull : ℕ → ℕ → ℕ → Type 0
+IsFull waiting room more = (most_waiting < waiting + more) ⊎ (room < waiting + more)
 
 -- what is left to another session than the slot's is dropped
 abbrev pub appended : InSlot → ℕ → List ℕ → InSlot

@@ -1,5 +1,5 @@
 -- What a desk asks, and the work that it carries out.
-use Rattle.std.specs.Prelude.{◌≡◌, ◌+◌, ◌⊎◌, ℕ, Bool, List, [], ◌∷◌, Option, None, Some}
+use Rattle.std.specs.Prelude.{◌≡◌, ◌+◌, ◌⊎◌, ℕ, List, [], ◌∷◌, Option, None, Some}
 use mathlib.Core.List.{IsPrefix}
 use Rattle.sw_core.specs.declared.ask.Sid.{Sid}
 use Rattle.sw_core.specs.declared.ask.SessionAsk.{SessionAsk}
@@ -7,7 +7,7 @@ use Rattle.sw_core.specs.declared.ask.SessionAsk.TheVariants as Ask
 use Rattle.sw_core.specs.declared.ask.SessionAnswer.{SessionAnswer}
 use Rattle.sw_core.specs.Panel.{Panel}
 use Rattle.sw_core.specs.Seen.{WorkSeen, AskSeen, AskSession, AnswerSeen, SaysSession}
-use Rattle.sw_core.specs.Step.{Step}
+use Rattle.sw_core.specs.Run.{Event}
 use Rattle.sw_session.specs.declared.desk.View.{View}
 use Rattle.sw_session.specs.declared.desk.Wake.{Wake}
 use Rattle.sw_session.specs.declared.desk.Wake.TheVariants.{Again, Over}
@@ -16,49 +16,45 @@ use Rattle.sw_session.specs.CoreDesk.{TellsOfPiece, brought}
 use Rattle.sw_workers.specs.Board.{Known}
 use Rattle.sw_workers.specs.Entries.{last_pair, made_by}
 use Rattle.sw_workers.specs.Held.{AtDesk}
-use Rattle.sw_workers.specs.History.{pair_of, AsksInHistory}
+use Rattle.sw_workers.specs.History.{pair_of, event, AsksInHistory}
 use Rattle.sw_workers.specs.Shares.{is_counted, one_if}
 
--- what the mainframe was asked by a desk, at the panel that was behind the lock then, and what the desk's seat knew
--- before and after
+-- What the mainframe was asked by a desk at the panel that was behind the lock then, what was answered, and the panel
+-- after it; and what the desk's seat knew before and after.
 pub record MadeAsk : Type 0 where
   pub before : Panel
-  pub ask : AskSeen
-  pub failed : Bool
-  pub answer : AnswerSeen
-  pub after : Panel
+  pub event : Event
   pub knew : Known
   pub knows : Known
 
 -- it is a step of a mainframe that opened so, and stands in its history
 abbrev pub IsMade : Panel → MadeAsk → Type 0
-IsMade start m = Step m.before m.ask m.failed m.answer m.after × AsksInHistory start m.knew m.ask m.answer m.knows
+IsMade start m = AsksInHistory start m.before m.knew m.event m.knows
 
 -- the events among them that are numbered
 abbrev pub events_of : List MadeAsk → ℕ
 events_of [] = 0
-events_of (m ∷ made) = one_if (is_counted m.before.events m.answer) + events_of made
+events_of (m ∷ made) = one_if (is_counted m.before.events m.event.answer) + events_of made
 
 -- what the seat knows goes on from one to the next
 abbrev pub Learns : Known → List MadeAsk → Known → Type 0
 Learns v [] w = w ≡ v
 Learns v (m ∷ made) w = (m.knew ≡ v) × Learns m.knows made w
 
--- the mainframe was asked once, a share counts that, and the desk's seat knows it
+-- The mainframe was asked once, and the desk's seat knows it. A share counts that, by the number of events at the panel
+-- to which the history had led.
 pub record AsksOnce (start : Panel) (ask : AskSeen) (answer : AnswerSeen) (old new : AtDesk) : Type 0 where
   pub before : Panel
-  pub failed : Bool
   pub after : Panel
-  pub step : Step before ask failed answer after
+  pub history : AsksInHistory start before old.seat (event ask answer after) new.seat
   pub counts : new.amount ≡ old.amount + one_if (is_counted before.events answer)
-  pub history : AsksInHistory start old.seat ask answer new.seat
 
 -- The work was sent, or there was none; or it was carried out, and so on with what that brought.
 abbrev pub Carries : Panel → Option WorkSeen → List MadeAsk → Type 0
 Carries start work [] = Unit {0}
 Carries start None (m ∷ made) = ⊥
 Carries start (Some piece) (m ∷ made) =
-    TellsOfPiece piece m.ask × IsMade start m × Carries start (brought m.answer) made
+    TellsOfPiece piece m.event.ask × IsMade start m × Carries start (brought m.event.answer) made
 
 -- what a desk counts and knows where the work is sent or carried out
 pub record Adds (start : Panel) (work : Option WorkSeen) (old new : AtDesk) : Type 0 where
@@ -83,7 +79,7 @@ pub record EndsPiece (start : Panel) (piece : WorkSeen) (old : AtDesk) (brings :
 
 -- the mainframe was told of a piece of work
 abbrev pub IsToldOfWork : Panel → MadeAsk → Type 0
-IsToldOfWork start m = (piece : WorkSeen) × TellsOfPiece piece m.ask × IsMade start m
+IsToldOfWork start m = (piece : WorkSeen) × TellsOfPiece piece m.event.ask × IsMade start m
 
 abbrev pub AreTold : Panel → List MadeAsk → Type 0
 AreTold start [] = Unit {0}

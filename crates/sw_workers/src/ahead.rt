@@ -5,25 +5,31 @@ ghost use Rattle.std.specs.Prelude.{vec_capacity, OnOk, OnErr};
 ghost use Rattle.std.specs.Io.Cursor.{cursor_position, cursor_inner};
 ghost use Rattle.std.specs.Io.KnownBytes.{Consumes, IsAtEnd};
 ghost use Rattle.sw_session.specs.ServeRead.{CameTo};
-ghost use Rattle.sw_workers.specs.Connected.{Happened, channel_by_header};
+ghost use Rattle.sw_workers.specs.Connected.{Happened, Waited, channel_by_header};
 
+use crate::sides::Place;
 use std::io::{Cursor, Read};
 use std::marker::Model;
 use std::sync::Wait;
+use std::time::Clock;
 use sw_hislip::Kind;
 use sw_session::{Channel, Source, Unread};
 
 /// The bytes of a header.
 pub const HEADER: usize = 16;
 
-/// Reads until a header is whole, or the input ends or fails. A read that a time limit ended is asked again.
-pub fn read_header<R: Source, W: Wait>(
+/// Reads until a header is whole, or the input ends or fails. A read that a time limit ended is asked again, until the
+/// connection has stood for too long.
+#[tactic(auto, using(crate::proofs::Serving::waited_none, crate::proofs::Serving::waited_on))]
+pub fn read_header<R: Source, W: Wait + Clock>(
     rt: &W,
+    place: &Place,
     reader: &mut R,
     header: &mut Vec<u8>,
 ) -> Result<(), Unread>
     requires { (header.old.items ≡ []) × (16 ≤ vec_capacity header.old) }
     ensures bytes { Consumes (R.remaining reader.old) (R.remaining reader.new) header.new.items }
+    ensures waits { Waited (R.pauses reader.old) (R.pauses reader.new) }
     ensures whole { OnOk result ((length header.new.items ≡ 16) ⊎ IsAtEnd (R.remaining reader.new)) }
     ensures failed { OnErr result (CameTo R.failed reader.new) }
 {
@@ -31,6 +37,7 @@ pub fn read_header<R: Source, W: Wait>(
         if header.len() >= HEADER {
             return Ok(());
         }
+        let _ = place.end_overdue(rt, false);
         let mut bytes = [0_u8; HEADER];
         let room = HEADER - header.len();
         match reader.receive(&mut bytes[..room]) {
@@ -98,13 +105,12 @@ impl<R: Source + Drop> ReadAhead<R> {
 }
 
 impl<R: Source + Drop> Source for ReadAhead<R> {
-    ghost use Rattle.sw_session.specs.ServeRead.{MayPause};
     ghost use Rattle.sw_workers.specs.Ahead.{left_ahead};
     ghost use Rattle.sw_workers.specs.Connected.{Happened};
 
     ghost remaining = { λ s. left_ahead R.remaining s };
 
-    ghost paused = { λ _ _. MayPause R.paused };
+    ghost pauses = { λ s. R.pauses s.reader };
 
     ghost failed = { λ _ _. Happened R.failed };
 

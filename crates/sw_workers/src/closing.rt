@@ -1,13 +1,16 @@
 //! The end of a mainframe.
 
-ghost use Rattle.std.specs.Prelude.{◌≡◌, ◌+◌, ◌≤◌, [], All, IfErr, IfOk, IfSome, sum_by, vec_len};
+ghost use Rattle.std.specs.Prelude.{◌≡◌, ◌+◌, ◌-◌, ◌≤◌, [], All, IfErr, IfOk, IfSome, None, slice_set, sum_by, vec_len};
 ghost use Rattle.std.specs.Vec.{vec_capacity};
+ghost use Rattle.sw_base.specs.Layout.{slot_at};
 ghost use Rattle.sw_base.specs.Limits.{most_slots};
-ghost use Rattle.sw_workers.specs.Closing.{IsOpen};
+ghost use Rattle.sw_cage.specs.Accounts.{option_account, accounts_of, all_open};
+ghost use Rattle.sw_core.specs.Good.{IsGoodPanel};
+ghost use Rattle.sw_workers.specs.Closing.{IsOpen, IsClosedDown};
 
 use crate::desk::SharedDesk;
 use crate::gate::Gate;
-use crate::held::{DeskPart, House};
+use crate::held::{DeskPart, Held, House};
 use crate::shared::Shared;
 use std::alloc::Global;
 use std::sync::ledger::Share;
@@ -15,15 +18,15 @@ use std::sync::{Arc, Wait};
 use std::time::Clock;
 use sw_base::SLOTS;
 use sw_card::{Card, Meter, Relay};
-use sw_core::{Answer, Ask};
+use sw_core::{Answer, Ask, mainframe_stays_good};
 
 /// A mainframe that was closed down.
 #[derive(Drop)]
 pub struct Closed<R: Relay, M: Meter> {
     /// How many events there were before its cards came out.
     pub events: u64,
-    /// The cards that were in their slots, by slot, with nothing closed.
-    pub cards: Vec<Card<R, M>>,
+    /// For each slot the card that was in it, with nothing closed.
+    pub cards: Vec<Option<Card<R, M>>>,
 }
 
 /// Ends a mainframe of which every desk is given back. Where one is missing, or no memory is to be had, what was given
@@ -42,7 +45,10 @@ pub fn close_down<H: House, R: Relay, M: Meter, G: Gate + Drop, W: Wait + Clock 
 >
     ensures events { IfOk result (λ closed.
         closed.events ≡ H.first.events + sum_by (λ desk. desk.part.amount) desks.items) }
-    ensures open { IfOk result (λ closed. All (λ card. IsOpen card.1) closed.cards.items) }
+    ensures cards { IfOk result (λ closed.
+        IsClosedDown H.first closed.events (accounts_of closed.cards.items)) }
+    ensures open { IfOk result (λ closed.
+        All (λ slot. IfSome slot (λ card. IsOpen card.1)) closed.cards.items) }
     ensures back { IfErr result (λ back. back.1.items ≡ desks.items) }
 {
     let Ok(room) = Vec::with_capacity(alloc, SLOTS as usize) else {
@@ -51,45 +57,43 @@ pub fn close_down<H: House, R: Relay, M: Meter, G: Gate + Drop, W: Wait + Clock 
     let Some(spare) = shared.take_spare(rt, desks.len() as u64) else {
         return Err((shared, desks));
     };
-    let mut all = gather(spare, desks);
-    let events = shared.number(rt, &mut all);
-    let mut part = shared.last_part(rt, all.split_off(1, 0));
-    let cards = take_cards(rt, &*shared, &mut part, room);
-    Ok(Closed { events, cards })
+    Ok(shared.close_down(rt, gather(spare, desks), room))
 }
 
-/// Takes the cards out of their slots, with nothing closed, by slot.
-fn take_cards<H: House, R: Relay, M: Meter, G: Gate + Drop, W: Wait>(
-    rt: &W,
-    shared: &Shared<H, R, M, G>,
+/// Takes the cards out of their slots, with nothing closed. Where a slot gives none, there is none at its place.
+pub fn take_cards<H: House, R: Relay, M: Meter>(
+    held: &mut Held<H, R, M>,
     part: &mut DeskPart<H>,
-    room: Vec<Card<R, M>>,
-) -> Vec<Card<R, M>>
-    requires empty { room.items ≡ [] }
-    requires room { most_slots ≤ vec_capacity room }
-    ensures { All (λ card. IsOpen card.1) result.items }
+    room: Vec<Option<Card<R, M>>>,
+) -> Vec<Option<Card<R, M>>>
+    requires good { IsGoodPanel held.old.panel }
+    requires room { (room.items ≡ []) × (most_slots ≤ vec_capacity room) }
+    ensures { accounts_of result.items ≡ all_open held.old.panel.cage.cards }
 {
     let mut cards = room;
     for before in 0..SLOTS {
-        let Some(card) = take_out(rt, shared, part, before + 1) else {
-            continue;
-        };
+        let card = take_out(held, part, before + 1);
         cards.push(card).unwrap();
     }
     cards
 }
 
-/// Takes a card out of its slot, with nothing closed.
-fn take_out<H: House, R: Relay, M: Meter, G: Gate + Drop, W: Wait>(
-    rt: &W,
-    shared: &Shared<H, R, M, G>,
+/// Takes a card out of its slot, with nothing closed. There is none where the slot is empty, as it is while its card
+/// is out.
+fn take_out<H: House, R: Relay, M: Meter>(
+    held: &mut Held<H, R, M>,
     part: &mut DeskPart<H>,
     slot: u8,
 ) -> Option<Card<R, M>>
-    ensures { IfSome result (λ card. IsOpen card.1) }
+    requires good { IsGoodPanel held.old.panel }
+    requires slot { 1 ≤ slot }
+    ensures good { IsGoodPanel held.new.panel }
+    ensures card { option_account result ≡ slot_at (all_open held.old.panel.cage.cards) slot }
+    ensures others { all_open held.new.panel.cage.cards
+        ≡ slice_set (all_open held.old.panel.cage.cards) (slot - 1) None }
 {
-    let (answer, _) = shared.act(rt, part, Ask::Eject(slot));
-    match answer {
+    mainframe_stays_good();
+    match held.ask(part, Ask::Eject(slot)) {
         Answer::Ejected(card) => Some(card),
         _ => None,
     }

@@ -20,6 +20,9 @@ pub trait Connection {
     /// The bytes that reads will give, where they are known.
     ghost input: { Self → Option (List ℕ) };
 
+    /// How many reads a time limit has ended so far, where that is known.
+    ghost pauses: { Self → Option ℕ };
+
     /// The bytes that were written, where they are known.
     ghost output: { Self → Option (List ℕ) };
 
@@ -29,11 +32,13 @@ pub trait Connection {
     /// Takes the connection apart.
     fn into_parts(self) -> (Self::In, Self::Out, Self::Aside)
         ensures input { Self.In.remaining result.0 ≡ input self }
+        ensures pauses { Self.In.pauses result.0 ≡ pauses self }
         ensures output { Self.Out.contents result.1 ≡ output self };
 
     /// Limits each read from now on to so many milliseconds. Where that can't be, it counts as a failed read.
     fn set_limit(reader: &mut Self::In, ms: u32) -> io::Result<()>
         ensures bytes { Self.In.remaining reader.new ≡ Self.In.remaining reader.old }
+        ensures pauses { Self.In.pauses reader.new ≡ Self.In.pauses reader.old }
         ensures failed { OnErr result (Self.In.failed reader.old reader.new) };
 }
 
@@ -53,6 +58,8 @@ impl<I: Source + Drop, O: Sink + Drop, A: Sink + Drop> Connection for Wired<I, O
     type Aside = A;
 
     ghost input = { λ c. I.remaining c.reader };
+
+    ghost pauses = { λ c. I.pauses c.reader };
 
     ghost output = { λ c. O.contents c.writer };
 
@@ -106,6 +113,8 @@ impl Connection for Tcp {
     type Aside = Line;
 
     ghost input = { λ _. None };
+
+    ghost pauses = { λ _. None };
 
     ghost output = { λ _. None };
 

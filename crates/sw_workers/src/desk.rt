@@ -85,11 +85,6 @@ fn left_ms(limit_ms: Option<u32>, limit: Option<Limit>) -> Option<u32>
     }
 }
 
-/// What the ask is to change about who has joined.
-fn seats(ask: &SessionAsk) -> Seating {
-    seating_of(ask)
-}
-
 /// The limit of the wait for what is held, after an answer: it goes on while the ask is held.
 fn limit_after(limit: Option<Limit>, answer: &SessionAnswer) -> Option<Limit> {
     match answer {
@@ -255,7 +250,7 @@ impl<H: House, R: Relay, M: Meter, G: Gate + Drop, W: Wait + Clock + Copy + Drop
 
     fn ask(&mut self, ask: SessionAsk) -> SessionAnswer {
         self.shared.gate().pass(&self.rt, Point::Ask);
-        let seating = seats(&ask);
+        let seating = seating_of(&ask);
         match self.act(Ask::Session(ask)) {
             Answer::Session(answer, work) => {
                 self.place.follow(&self.rt, seating, &answer);

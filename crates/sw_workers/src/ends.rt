@@ -25,7 +25,7 @@ impl Ends {
     }
 
     /// A line of this session, with which it ends from now on. Where it has left, or there is no memory, the line ends
-    /// at once.
+    /// at once. Once both stand, their writes wait as long as it takes.
     pub fn enlist(&mut self, joined: u64, line: Line) {
         self.begin(joined);
         if self.joined != Some(joined) || self.is_over || self.lines.reserve(1).is_err() {
@@ -33,6 +33,9 @@ impl Ends {
             return;
         }
         self.lines.push(line).unwrap();
+        if self.lines.len() >= 2 {
+            self.lines.iter().for_each(|line| line.be_patient());
+        }
     }
 
     /// Gives the number to a session, unless this session or a later one has it.
@@ -45,6 +48,11 @@ impl Ends {
         self.joined = Some(joined);
         self.is_over = false;
         self.lines.clear();
+    }
+
+    /// Whether both connections of this session stand.
+    pub fn are_paired(&self, joined: u64) -> bool {
+        self.joined == Some(joined) && self.lines.len() >= 2
     }
 
     /// The session has left: its lines end.

@@ -1,14 +1,15 @@
 //! What stands behind the lock: the mainframe and its history, how its events are counted, and the notes of the last
 //! ones.
 
-ghost use Rattle.std.specs.Prelude.{◌≡◌, ◌+◌, ℕ, [], IfOk, IfSome, IfNone, Some};
+ghost use Rattle.std.specs.Prelude.{◌≡◌, ◌+◌, ℕ, [], IfOk, IfSome, IfNone, Some, true};
 ghost use mathlib.Core.List.{IsPrefix};
+ghost use Rattle.sw_core.specs.Good.{IsGoodPanel};
 ghost use Rattle.sw_core.specs.Seen.{ask_seen, answer_seen, failed_in, HandsBack};
 ghost use Rattle.sw_core.specs.Step.{Step};
 ghost use Rattle.sw_workers.specs.Board.{entry_of, reader};
 ghost use Rattle.sw_workers.specs.Entries.{last_pair, made_by};
 ghost use Rattle.sw_workers.specs.Held.{notes_of, noted};
-ghost use Rattle.sw_workers.specs.History.{pair_of, said_at, grown, AsksInHistory};
+ghost use Rattle.sw_workers.specs.History.{pair_of, event, said_at, grown, IsHistory, AsksInHistory, AwaitsEnd};
 ghost use Rattle.sw_workers.specs.Kinds.{ask_kind};
 ghost use Rattle.sw_workers.specs.Shares.{all_parts, is_counted, is_event, one_if};
 
@@ -16,6 +17,7 @@ use crate::board::StatusBoard;
 use crate::note::{Note, kind};
 use crate::recorded::{Recorded, Recording};
 use crate::seat::StatusSeat;
+use crate::sides::Outbox;
 use crate::slots::SeatSlots;
 use crate::telling::is_event;
 use circular_buffer::HeapCircularBuffer;
@@ -24,10 +26,11 @@ use std::marker::{Brand, Model};
 use std::sync::Wait;
 use std::sync::ledger::{Book, Ledger, Share};
 use sw_card::{Meter, Relay};
-use sw_core::{Answer, Ask};
+use sw_core::{Answer, Ask, Sid};
 
-/// Which mainframe it is: its ledger, its board, and the panel that it opened with.
-pub trait House: Ledger + Recording {}
+/// Which mainframe it is: its ledger, its board, the panel that it opened with, and what its sessions' threads leave to
+/// each other.
+pub trait House: Ledger + Recording + Outbox {}
 
 impl House for Brand {}
 
@@ -209,16 +212,31 @@ impl<H: House, R: Relay, M: Meter> Held<H, R, M> {
         self.core.events()
     }
 
+    /// What is so whenever it is seen: its history leads from the opening panel to this one, which is good.
+    pub fn has_history(&self)
+        ensures leads { IsHistory H.first self.now.history self.now.panel }
+        ensures good { IsGoodPanel self.now.panel }
+    {
+        self.core.has_history();
+    }
+
+    /// Whether `*OPC?` of the session would be held now: a scan runs, or others have a lock.
+    pub fn awaits_end(&self, sid: Sid) -> bool
+        ensures { result ≡ true → AwaitsEnd self.now.panel sid }
+    {
+        self.core.awaits_end(sid)
+    }
+
     /// What changes where something happened that may admit what was held.
     pub fn turn(&self) -> u64 {
         self.turn
     }
 
-    /// Notes whether what happened may admit what was held. Where no event can be numbered any more, nothing is held.
-    pub fn take_turn(&mut self, may_admit: bool)
+    /// Notes whether what was held may go on. Where no event can be numbered any more, nothing is held.
+    pub fn take_turn(&mut self, may_go_on: bool)
         ensures { self.new ≡ self.old }
     {
-        if may_admit || self.core.events() == u64::MAX {
+        if may_go_on || self.core.events() == u64::MAX {
             self.turn = self.turn.wrapping_add(1);
         }
     }
@@ -251,7 +269,8 @@ impl<H: House, R: Relay, M: Meter> Held<H, R, M> {
             (failed_in (ask_seen ask) (answer_seen result) self.old.panel.cage.cards self.new.panel.cage.cards)
             (answer_seen result) self.new.panel }
         ensures back { HandsBack ask result }
-        ensures asked { AsksInHistory H.first part.old.seat (ask_seen ask) (answer_seen result) part.new.seat }
+        ensures asked { AsksInHistory H.first self.old.panel part.old.seat
+            (event (ask_seen ask) (answer_seen result) self.new.panel) part.new.seat }
         ensures seen { IsPrefix part.old.seat.seen self.old.history × (part.new.seat.seen ≡ self.new.history) }
         ensures history { self.new.history ≡ grown (is_event (answer_seen result)) self.old.history
             (entry_of part.old.seat (said_at self.new.panel (ask_seen ask) (answer_seen result))) }

@@ -15,7 +15,8 @@
 //! status that it reads, for which it takes no lock of the mainframe, is that at some place of the history, not
 //! before any that it had seen. Its share counts the event of each ask, and those of the work that it carried out
 //! because it couldn't be sent. Workers give their desks back when they end, and `close_down`, which is handed every
-//! desk, tells the number of events and gives the cards with nothing closed.
+//! desk, tells the number of events and gives the cards by slot, each as it stood there at the end of the history, but
+//! with nothing closed.
 //!
 //! `run_session` serves one connection of a HiSLIP session by such a desk, as the channel that its first header tells:
 //! what is asked and written for what is read is what `serve_sync` and `serve_async` promise (`RunsSession`). What the
@@ -33,10 +34,12 @@ mod desk;
 mod ends;
 mod gate;
 mod held;
+mod laws;
 mod limits;
 mod line;
 mod note;
 mod pauses;
+mod porch;
 mod posts;
 mod recorded;
 mod seat;
@@ -46,6 +49,7 @@ mod sides;
 mod slots;
 mod telling;
 mod waking;
+mod watched;
 mod workers;
 
 pub use ahead::ReadAhead;
@@ -55,6 +59,7 @@ pub use connection::{Connection, Tcp, Wired};
 pub use desk::SharedDesk;
 pub use gate::{Gate, Open, Point};
 pub use held::{DeskPart, Held, House};
+pub use laws::each_event_is_counted;
 pub use line::Line;
 pub use note::{AskKind, Note};
 pub use pauses::Pause;
@@ -63,6 +68,7 @@ pub use recorded::{Recorded, Recording};
 pub use seat::{LockedPass, StatusSeat};
 pub use session::{Ended, run_session, run_session_for};
 pub use shared::{Opening, Shared};
+pub use sides::Outbox;
 pub use slots::SeatSlots;
 pub use telling::{Happened, is_event, tell_event};
 pub use workers::{run_card_worker, run_timer_worker};

@@ -1,12 +1,41 @@
-//! What is left of a wait's limit, and for how long a thread waits before it looks whether its client is still there.
+//! What is left of a wait's limit, for how long a thread waits before it looks whether its client is still there, and
+//! for how long a connection may stand without its session.
 
 ghost use Rattle.std.specs.Prelude.{◌≡◌, ◌≤◌};
-ghost use Rattle.sw_workers.specs.Limits.{left_of, slice_of};
+ghost use Rattle.sw_workers.specs.Limits.{left_of, slice_of, time_for, is_spent, micros_between, ms_between};
 
 use std::time::{Clock, Duration, Instant};
 
 /// For how many milliseconds at most a thread waits before it looks whether its client is still there.
 pub const SLICE_MS: u32 = 100;
+
+/// Within how many milliseconds of a connection's beginning its first header has to be whole.
+const HEADER_MS: u64 = 10_000;
+
+/// Within how many milliseconds of a connection's beginning its session has to have both connections.
+const PAIR_MS: u64 = 60_000;
+
+/// How long a connection may stand, in milliseconds from its beginning, if there is a limit: it tells whether its first
+/// header is whole, and whether its session has both connections.
+fn time_for(is_heard: bool, is_paired: bool) -> Option<u64>
+    ensures { result ≡ time_for is_heard is_paired }
+{
+    match (is_heard, is_paired) {
+        (false, _) => Some(HEADER_MS),
+        (true, false) => Some(PAIR_MS),
+        (true, true) => None,
+    }
+}
+
+/// Whether a connection that stands like this has stood for too long after so many milliseconds.
+pub fn is_overdue(is_heard: bool, is_paired: bool, stood_ms: u64) -> bool
+    ensures { result ≡ is_spent (time_for is_heard is_paired) stood_ms }
+{
+    match time_for(is_heard, is_paired) {
+        Some(most) => stood_ms >= most,
+        None => false,
+    }
+}
 
 /// What is left of a limit where so many microseconds are left until its end: whole milliseconds, of which one that has
 /// begun to run out counts.
@@ -28,6 +57,22 @@ pub fn slice_of(left_ms: Option<u32>) -> u32
         Some(left) if left < SLICE_MS => left,
         _ => SLICE_MS,
     }
+}
+
+/// The whole milliseconds from one instant to another: none where that came before.
+pub fn ms_between(earlier: Instant, later: Instant) -> u64
+    ensures { result ≡ ms_between earlier later }
+{
+    let duration = later.saturating_duration_since(earlier);
+    u64::try_from(duration.as_millis()).unwrap_or(u64::MAX)
+}
+
+/// The whole microseconds from one instant to another: none where that came before.
+fn micros_between(earlier: Instant, later: Instant) -> u64
+    ensures { result ≡ micros_between earlier later }
+{
+    let duration = later.saturating_duration_since(earlier);
+    u64::try_from(duration.as_micros()).unwrap_or(u64::MAX)
 }
 
 /// When a limit is over, and what was left of it when it was told last.
@@ -67,12 +112,9 @@ impl Limit {
 
     /// How many microseconds are left: none where the clock can't be read.
     fn micros<C: Clock>(&self, rt: &C) -> u64 {
-        let Ok(now) = Instant::now(rt) else {
-            return 0;
-        };
-        match u64::try_from(self.at.saturating_duration_since(now).as_micros()) {
-            Ok(micros) => micros,
-            Err(_) => u64::MAX,
+        match Instant::now(rt) {
+            Ok(now) => micros_between(now, self.at),
+            Err(_) => 0,
         }
     }
 }

@@ -9,6 +9,9 @@ use std::os::fd::AsRawFd;
 use std::sync::Arc;
 use std::time::Duration;
 
+/// How long a write waits at most for room, until its session has both connections, in milliseconds.
+const WRITE_MS: u64 = 10_000;
+
 /// A TCP connection, with one descriptor for all that have it. Each write is sent at once.
 #[derive(Drop)]
 pub struct Line {
@@ -16,9 +19,10 @@ pub struct Line {
 }
 
 impl Line {
-    /// The line of this stream.
+    /// The line of this stream. A write that finds no room in time fails.
     pub fn new(alloc: Global, stream: TcpStream) -> io::Result<Line> {
         stream.set_nodelay(true)?;
+        stream.set_write_timeout(Some(Duration::from_millis(WRITE_MS)))?;
         Ok(Line {
             stream: Arc::new(alloc, stream)?,
         })
@@ -35,6 +39,11 @@ impl Line {
     pub fn set_limit(&self, ms: u32) -> io::Result<()> {
         self.stream
             .set_read_timeout(Some(Duration::from_millis(ms as u64)))
+    }
+
+    /// From now on a write waits for room as long as it takes.
+    pub fn be_patient(&self) {
+        let _ = self.stream.set_write_timeout(None);
     }
 
     /// Whether the client has ended the connection, or its half of it. It takes no bytes, and doesn't wait.

@@ -1,7 +1,8 @@
 //! Pauses that a timer waits out. A scan awaits one pause at a time, and a mainframe runs one scan, so only the latest
 //! pause can still be awaited.
 
-ghost use Rattle.std.specs.Prelude.{◌≡◌};
+ghost use Rattle.std.specs.Prelude.{◌≡◌, ◌+◌, ◌*◌, IfSome, IfNone};
+ghost use Rattle.std.specs.Time.{instant_nanos, FitsClock};
 ghost use Rattle.sw_workers.specs.Pauses.{is_earlier, is_latest, with_pause, with_none};
 
 use std::time::{Clock, Duration, Instant};
@@ -16,10 +17,18 @@ pub struct Pause {
     pub at: Instant,
 }
 
-/// When a pause that begins now is over. None where the clock can't be read.
+/// When a pause that begins now is over. None where the clock can't be read, or doesn't go so far.
 pub fn end_of<C: Clock>(rt: &C, micros: u64) -> Option<Instant> {
     let now = Instant::now(rt).ok()?;
-    now.checked_add(Duration::from_micros(micros))
+    end_after(now, micros)
+}
+
+/// When a pause of so many microseconds is over that begins at this instant. None where the clock doesn't go so far.
+fn end_after(begin: Instant, micros: u64) -> Option<Instant>
+    ensures some { IfSome result (λ end. instant_nanos end ≡ instant_nanos begin + micros * 1000) }
+    ensures none { IfNone result (FitsClock (instant_nanos begin + micros * 1000) → ⊥) }
+{
+    begin.checked_add(Duration::from_micros(micros))
 }
 
 /// Whether the first ticket was made before the other: in an earlier scan, or earlier in the same one.

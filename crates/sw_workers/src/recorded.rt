@@ -1,6 +1,6 @@
 //! A mainframe whose events stand, one after another, in the history that the status board tells the end of.
 
-ghost use Rattle.std.specs.Prelude.{◌≡◌, ◌<◌, ◌^◌, ℕ, [], ◌∷◌, ◌++◌, Some};
+ghost use Rattle.std.specs.Prelude.{◌≡◌, ◌<◌, ◌^◌, ℕ, [], ◌∷◌, ◌++◌, Some, true};
 ghost use mathlib.Core.List.{IsPrefix};
 ghost use Rattle.sw_status.specs.StatusModel.{summary_of};
 ghost use Rattle.sw_core.specs.Good.{IsGoodPanel, StaysGood};
@@ -9,7 +9,7 @@ ghost use Rattle.sw_core.specs.Step.{Step};
 ghost use Rattle.sw_core.specs.Seen.{ask_seen, answer_seen, failed_in, HandsBack, IsOwnAccount};
 ghost use Rattle.sw_workers.specs.Board.{entry_of};
 ghost use Rattle.sw_workers.specs.Entries.{made_by};
-ghost use Rattle.sw_workers.specs.History.{pair_of, said_at, grown, IsHistory, AsksInHistory};
+ghost use Rattle.sw_workers.specs.History.{pair_of, event, said_at, grown, IsHistory, AsksInHistory, AwaitsEnd};
 ghost use Rattle.sw_workers.specs.Said.{said_in};
 ghost use Rattle.sw_workers.specs.Shares.{is_event};
 
@@ -21,7 +21,8 @@ use std::marker::{Brand, Model};
 use std::snapshot::Snapshot;
 use std::sync::Arc;
 use sw_card::{Meter, Relay};
-use sw_core::{Answer, Ask, Core, mainframe_stays_good};
+use sw_core::{Answer, Ask, Core, SessionAsk, Sid, mainframe_stays_good};
+use sw_lex::Command;
 
 /// Which mainframe it is: its board, and the panel that it opened with.
 pub trait Recording: BoardName {
@@ -87,7 +88,8 @@ impl<B: Recording, R: Relay, M: Meter> Recorded<B, R, M> {
             (answer_seen result) self.new.panel }
         ensures own { IsOwnAccount (ask_seen ask) }
         ensures back { HandsBack ask result }
-        ensures history { AsksInHistory B.first desk.old (ask_seen ask) (answer_seen result) desk.new }
+        ensures history { AsksInHistory B.first self.old.panel desk.old
+            (event (ask_seen ask) (answer_seen result) self.new.panel) desk.new }
         ensures seen { IsPrefix desk.old.seen self.old.history × (desk.new.seen ≡ self.new.history) }
         ensures grown { self.new.history ≡ grown (is_event (answer_seen result)) self.old.history
             (entry_of desk.old (said_at self.new.panel (ask_seen ask) (answer_seen result))) }
@@ -108,6 +110,22 @@ impl<B: Recording, R: Relay, M: Meter> Recorded<B, R, M> {
         };
         tell_event(pass, board, desk, &event);
         answer
+    }
+
+    /// Whether `*OPC?` of the session would be held now: a scan runs, or others have a lock.
+    pub fn awaits_end(&self, sid: Sid) -> bool
+        ensures { result ≡ true → AwaitsEnd self.now.panel sid }
+    {
+        let query = SessionAsk::Unit(sid, Command::OperationCompleteQuery, false);
+        self.core.holds(&query)
+    }
+
+    /// What is so whenever it is seen: its history leads from the opening panel to this one, which is good.
+    pub fn has_history(&self)
+        ensures leads { IsHistory B.first self.now.history self.now.panel }
+        ensures good { IsGoodPanel self.now.panel }
+    {
+        let _ = &self.core;
     }
 
     /// The number of events.

@@ -1,11 +1,13 @@
 //! A session's connections, each served by the desk of one thread.
 
-ghost use Rattle.std.specs.Prelude.{◌≡◌, ◌⊎◌, ◌≤◌, ℕ, List, [], Option, Err, vec_capacity};
+ghost use Rattle.std.specs.Prelude.{◌≡◌, ◌⊎◌, ◌≤◌, ℕ, List, [], Option, Err, length, vec_capacity, OnOk, OnErr};
+ghost use Rattle.std.specs.Io.KnownBytes.{Consumes, IsAtEnd};
 ghost use Rattle.sw_session.specs.Talk.{turns};
-ghost use Rattle.sw_session.specs.ServeRead.{MayPause};
+ghost use Rattle.sw_session.specs.ServeRead.{CameTo};
 ghost use Rattle.sw_session.specs.ServeEngine.{ServesChannel};
 ghost use Rattle.sw_workers.specs.Ahead.{left_ahead};
-ghost use Rattle.sw_workers.specs.Connected.{Happened, mishaps, connection_seen, beside, ServesFromHeader, RunsSession};
+ghost use Rattle.sw_workers.specs.Connected.{Happened, Waited, mishaps, connection_seen, beside};
+ghost use Rattle.sw_workers.specs.Connected.{ServesFromHeader, RunsSession};
 ghost use Rattle.sw_workers.specs.Work.{DeskPasses};
 
 use crate::ahead::{HEADER, ReadAhead, channel_of, read_header};
@@ -14,7 +16,9 @@ use crate::desk::SharedDesk;
 use crate::gate::Gate;
 use crate::held::House;
 use crate::sides::Place;
+use crate::watched::Watched;
 use std::alloc::Global;
+use std::marker::PhantomData;
 use std::sync::{Arc, Wait};
 use std::time::Clock;
 use sw_card::{Meter, Relay};
@@ -23,7 +27,8 @@ use sw_session::{
     serve_sync_for,
 };
 
-/// How long a read of the second channel lasts at most, in milliseconds: service requests are told then.
+/// How long a read lasts at most, in milliseconds: service requests are told then, and a connection that has stood for
+/// too long ends.
 const LIMIT_MS: u32 = 100;
 
 /// How a connection was served.
@@ -39,20 +44,21 @@ pub struct Ended<D: Drop, R: Source + Drop, O: Drop> {
 
 /// The side writer of a session's first channel: what is said on the second one is left to the thread that serves that.
 #[derive(Drop)]
-struct SideWriter<W: Wait + Drop> {
-    place: Arc<Place, Global>,
+struct SideWriter<'a, H: House, W: Wait + Drop> {
+    place: &'a Place,
     rt: W,
+    of: PhantomData<H>,
 }
 
-impl<W: Wait + Drop> Sink for SideWriter<W> {
+impl<H: House, W: Wait + Drop> Sink for SideWriter<'_, H, W> {
     ghost use Rattle.std.specs.Prelude.{None};
 
     ghost contents = { λ _. None };
 
-    ghost failed = { λ _ _. Unit {0} };
+    ghost failed = { λ _ _. H.refused };
 
     fn deliver(&mut self, bytes: &[u8]) -> Result<(), Unwritten> {
-        match self.place.append(&self.rt, bytes) {
+        match self.place.append::<H, W>(&self.rt, bytes) {
             Ok(()) => Ok(()),
             Err(_) => Err(Unwritten),
         }
@@ -77,19 +83,19 @@ impl Sink for Nowhere {
 
 /// What a second channel reads from: before each read, what the first channel's thread left is written.
 #[derive(Drop)]
-struct Forwarding<R: Source + Drop, A: Sink + Drop, W: Wait + Drop> {
+struct Forwarding<'a, R: Source + Drop, A: Sink + Drop, W: Wait + Drop> {
     reader: R,
     aside: A,
-    place: Arc<Place, Global>,
+    place: &'a Place,
     rt: W,
 }
 
-impl<R: Source + Drop, A: Sink + Drop, W: Wait + Drop> Source for Forwarding<R, A, W> {
+impl<R: Source + Drop, A: Sink + Drop, W: Wait + Drop> Source for Forwarding<'_, R, A, W> {
     ghost use Rattle.std.specs.Prelude.{◌⊎◌};
 
     ghost remaining = { λ s. R.remaining s.reader };
 
-    ghost paused = { λ s t. R.paused s.reader t.reader };
+    ghost pauses = { λ s. R.pauses s.reader };
 
     ghost failed = { λ s t. R.failed s.reader t.reader ⊎ A.failed s.aside t.aside };
 
@@ -118,9 +124,9 @@ pub fn run_session_for<
     turns: u64,
 ) -> Ended<SharedDesk<H, R, M, G, W>, C::In, C::Out>
     ensures { RunsSession (λ before entry after. DeskPasses H.first before.part entry after.part)
-        (mishaps C.In.Source C.Out.Sink C.Aside.Sink) turns
-        (connection_seen desk (C.input connection) (C.output connection))
-        (connection_seen result.desk (left_ahead C.In.remaining result.reader)
+        (mishaps C.In.Source C.Out.Sink C.Aside.Sink H.refused) turns
+        (connection_seen desk (C.input connection) (C.pauses connection) (C.output connection))
+        (connection_seen result.desk (left_ahead C.In.remaining result.reader) (C.In.pauses result.reader.reader)
         (C.Out.contents result.writer)) result.result }
 {
     let line = connection.line();
@@ -132,13 +138,15 @@ pub fn run_session_for<
     let Ok(header) = Vec::with_capacity(alloc, HEADER) else {
         return unbegun(alloc, reader, writer, desk);
     };
-    place.begin(&rt, line);
+    if !place.begin(&rt, line) {
+        return unbegun(alloc, reader, writer, desk);
+    }
     let wire = Parts {
         reader,
         writer,
         aside,
     };
-    let ended = serve_parts::<C, _, W>(rt, alloc, header, wire, desk, place, turns);
+    let ended = serve_parts::<H, C, _, W>(rt, alloc, header, wire, desk, &*place, turns);
     ended.desk.place.finish(&rt);
     ended
 }
@@ -157,15 +165,15 @@ pub fn run_session<
     alloc: Global,
 ) -> Ended<SharedDesk<H, R, M, G, W>, C::In, C::Out>
     ensures { RunsSession (λ before entry after. DeskPasses H.first before.part entry after.part)
-        (mishaps C.In.Source C.Out.Sink C.Aside.Sink) turns
-        (connection_seen desk (C.input connection) (C.output connection))
-        (connection_seen result.desk (left_ahead C.In.remaining result.reader)
+        (mishaps C.In.Source C.Out.Sink C.Aside.Sink H.refused) turns
+        (connection_seen desk (C.input connection) (C.pauses connection) (C.output connection))
+        (connection_seen result.desk (left_ahead C.In.remaining result.reader) (C.In.pauses result.reader.reader)
         (C.Out.contents result.writer)) result.result }
 {
     run_session_for(connection, desk, alloc, TURNS)
 }
 
-/// What is left where there was no memory to begin.
+/// What is left where there was no memory to begin, or no room for one more connection.
 fn unbegun<R: Source + Drop, O: Drop, D: Drop>(
     alloc: Global,
     reader: R,
@@ -174,6 +182,7 @@ fn unbegun<R: Source + Drop, O: Drop, D: Drop>(
 ) -> Ended<D, R, O>
     ensures desk { result.desk ≡ desk }
     ensures reader { left_ahead R.remaining result.reader ≡ R.remaining reader }
+    ensures pauses { R.pauses result.reader.reader ≡ R.pauses reader }
     ensures writer { result.writer ≡ writer }
     ensures result { result.result ≡ Err ServeFault.NoMemory }
 {
@@ -193,20 +202,39 @@ struct Parts<I: Drop, O: Drop, A: Drop> {
     aside: A,
 }
 
+/// Limits each read, and reads until the first header is whole, or the input ends or fails.
+fn hear_header<C: Connection, W: Wait + Clock>(
+    rt: &W,
+    place: &Place,
+    reader: &mut C::In,
+    header: &mut Vec<u8>,
+) -> Result<(), Unread>
+    requires { (header.old.items ≡ []) × (16 ≤ vec_capacity header.old) }
+    ensures bytes { Consumes (C.In.remaining reader.old) (C.In.remaining reader.new) header.new.items }
+    ensures waits { Waited (C.In.pauses reader.old) (C.In.pauses reader.new) }
+    ensures whole { OnOk result ((length header.new.items ≡ 16) ⊎ IsAtEnd (C.In.remaining reader.new)) }
+    ensures failed { OnErr result (CameTo C.In.failed reader.new) }
+{
+    if C::set_limit(reader, LIMIT_MS).is_err() {
+        return Err(Unread::Failed);
+    }
+    read_header(rt, place, reader, header)
+}
+
 /// Reads the first header, and serves the channel that it tells.
-fn serve_parts<C: Connection, D: Desk + Drop, W: Wait + Copy + Drop>(
+fn serve_parts<H: House, C: Connection, D: Desk + Drop, W: Wait + Clock + Copy + Drop>(
     rt: W,
     alloc: Global,
     header: Vec<u8>,
     wire: Parts<C::In, C::Out, C::Aside>,
     desk: D,
-    place: Arc<Place, Global>,
+    place: &Place,
     turns: u64,
 ) -> Ended<D, C::In, C::Out>
     requires { (header.items ≡ []) × (16 ≤ vec_capacity header) }
-    ensures { ServesFromHeader D.passes (mishaps C.In.Source C.Out.Sink C.Aside.Sink) turns
-        (connection_seen desk (C.In.remaining wire.reader) (C.Out.contents wire.writer))
-        (connection_seen result.desk (left_ahead C.In.remaining result.reader)
+    ensures { ServesFromHeader D.passes (mishaps C.In.Source C.Out.Sink C.Aside.Sink H.refused) turns
+        (connection_seen desk (C.In.remaining wire.reader) (C.In.pauses wire.reader) (C.Out.contents wire.writer))
+        (connection_seen result.desk (left_ahead C.In.remaining result.reader) (C.In.pauses result.reader.reader)
         (C.Out.contents result.writer)) result.result }
 {
     let Parts {
@@ -215,18 +243,21 @@ fn serve_parts<C: Connection, D: Desk + Drop, W: Wait + Copy + Drop>(
         aside,
     } = wire;
     let mut header = header;
-    let mut failed = read_header(&rt, &mut reader, &mut header).is_err();
-    match channel_of(header.as_slice()) {
+    let failed = hear_header::<C, W>(&rt, place, &mut reader, &mut header).is_err();
+    let channel = channel_of(header.as_slice());
+    let reader = Watched {
+        reader: ReadAhead::new(header, failed, reader),
+        place,
+        rt,
+        is_paired: false,
+    };
+    match channel {
         Channel::Synchronous => {
-            let reader = ReadAhead::new(header, failed, reader);
-            serve_first(rt, alloc, reader, writer, desk, place, turns)
+            serve_first::<H, _, _, _, W>(rt, alloc, reader, writer, desk, turns)
         }
         Channel::Asynchronous => {
-            if C::set_limit(&mut reader, LIMIT_MS).is_err() {
-                failed = true;
-            }
             let source = Forwarding {
-                reader: ReadAhead::new(header, failed, reader),
+                reader,
                 aside,
                 place,
                 rt,
@@ -237,27 +268,34 @@ fn serve_parts<C: Connection, D: Desk + Drop, W: Wait + Copy + Drop>(
 }
 
 /// Serves a first channel.
-fn serve_first<R: Source + Drop, O: Sink + Drop, D: Desk + Drop, W: Wait + Drop>(
+fn serve_first<H: House, R: Source + Drop, O: Sink + Drop, D: Desk + Drop, W: Wait + Clock + Drop>(
     rt: W,
     alloc: Global,
-    reader: ReadAhead<R>,
+    source: Watched<'_, ReadAhead<R>, W>,
     writer: O,
     desk: D,
-    place: Arc<Place, Global>,
     turns: u64,
 ) -> Ended<D, R, O>
     ensures serves { (side : Option (List ℕ)) × (side' : Option (List ℕ))
-        × ServesChannel D.passes Channel.Synchronous (MayPause R.paused) turns
-        (beside side (connection_seen desk (left_ahead R.remaining reader) (O.contents writer)))
-        (beside side' (connection_seen result.desk (left_ahead R.remaining result.reader) (O.contents result.writer)))
+        × ServesChannel D.passes Channel.Synchronous turns
+        (beside side (connection_seen desk (left_ahead R.remaining source.entry.reader) (R.pauses source.entry.reader.reader)
+        (O.contents writer)))
+        (beside side' (connection_seen result.desk (left_ahead R.remaining result.reader)
+        (R.pauses result.reader.reader) (O.contents result.writer)))
         result.result }
     ensures read { result.result ≡ Err ServeFault.Read → Happened R.failed }
+    ensures write { result.result ≡ Err ServeFault.Write → Happened O.failed ⊎ H.refused }
 {
-    let mut reader = reader;
+    let mut source = source;
     let mut writer = writer;
     let mut desk = desk;
-    let mut side = SideWriter { place, rt };
-    let result = serve_sync_for(alloc, &mut reader, &mut writer, &mut side, &mut desk, turns);
+    let mut side = SideWriter {
+        place: source.place,
+        rt,
+        of: PhantomData::<H>,
+    };
+    let result = serve_sync_for(alloc, &mut source, &mut writer, &mut side, &mut desk, turns);
+    let Watched { reader, .. } = source;
     Ended {
         desk,
         reader,
@@ -267,17 +305,25 @@ fn serve_first<R: Source + Drop, O: Sink + Drop, D: Desk + Drop, W: Wait + Drop>
 }
 
 /// Serves a second channel.
-fn serve_second<R: Source + Drop, O: Sink + Drop, A: Sink + Drop, D: Desk + Drop, W: Wait + Drop>(
+fn serve_second<
+    R: Source + Drop,
+    O: Sink + Drop,
+    A: Sink + Drop,
+    D: Desk + Drop,
+    W: Wait + Clock + Drop,
+>(
     alloc: Global,
-    source: Forwarding<ReadAhead<R>, A, W>,
+    source: Forwarding<'_, Watched<'_, ReadAhead<R>, W>, A, W>,
     writer: O,
     desk: D,
     turns: u64,
 ) -> Ended<D, R, O>
     ensures serves { (side : Option (List ℕ)) × (side' : Option (List ℕ))
-        × ServesChannel D.passes Channel.Asynchronous (MayPause R.paused) turns
-        (beside side (connection_seen desk (left_ahead R.remaining source.reader) (O.contents writer)))
-        (beside side' (connection_seen result.desk (left_ahead R.remaining result.reader) (O.contents result.writer)))
+        × ServesChannel D.passes Channel.Asynchronous turns
+        (beside side (connection_seen desk (left_ahead R.remaining source.entry.reader.reader) (R.pauses source.entry.reader.reader.reader)
+        (O.contents writer)))
+        (beside side' (connection_seen result.desk (left_ahead R.remaining result.reader)
+        (R.pauses result.reader.reader) (O.contents result.writer)))
         result.result }
     ensures read { result.result ≡ Err ServeFault.Read → Happened R.failed ⊎ Happened A.failed }
     ensures write { result.result ≡ Err ServeFault.Write → Happened O.failed }
@@ -288,11 +334,12 @@ fn serve_second<R: Source + Drop, O: Sink + Drop, A: Sink + Drop, D: Desk + Drop
     let mut side = Nowhere;
     let result = serve_async_for(alloc, &mut source, &mut writer, &mut side, &mut desk, turns);
     let Forwarding {
-        reader,
+        reader: watched,
         aside: _,
         place: _,
         rt: _,
     } = source;
+    let Watched { reader, .. } = watched;
     Ended {
         desk,
         reader,

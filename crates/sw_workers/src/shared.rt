@@ -1,14 +1,20 @@
 //! The mainframe behind one lock, and what wakes those who wait for it.
 
-ghost use Rattle.std.specs.Prelude.{◌≡◌, ◌+◌, [], IfOk, IfSome};
+ghost use Rattle.std.specs.Prelude.{◌≡◌, ◌+◌, ◌≤◌, [], IfOk, IfSome};
+ghost use Rattle.std.specs.Vec.{vec_capacity};
+ghost use Rattle.sw_base.specs.Limits.{most_slots};
+ghost use Rattle.sw_cage.specs.Accounts.{accounts_of};
 ghost use Rattle.sw_core.specs.Good.{IsGoodPanel};
 ghost use Rattle.sw_core.specs.Seen.{ask_seen, answer_seen};
 ghost use Rattle.sw_session.specs.CoreDesk.{piece_seen};
+ghost use Rattle.sw_workers.specs.Closing.{IsClosedDown};
 ghost use Rattle.sw_workers.specs.History.{pair_of};
 ghost use Rattle.sw_workers.specs.Shares.{all_parts};
+ghost use Rattle.sw_workers.specs.Waits.{outcome_of};
 ghost use Rattle.sw_workers.specs.Work.{AsksOnce, ReadsStatus};
 
 use crate::board::{BlankBoard, StatusBoard};
+use crate::closing::{Closed, take_cards};
 use crate::gate::Gate;
 use crate::held::{DeskPart, Held, House};
 use crate::note::Note;
@@ -16,12 +22,12 @@ use crate::posts::{Posted, Posts, work_posts};
 use crate::recorded::Recorded;
 use crate::sides::{Place, Sides};
 use crate::slots::SeatSlots;
-use crate::waking::{is_over, may_admit};
+use crate::waking::{Concern, concern_of, wakes};
 use std::alloc::{AllocError, Global};
 use std::sync::ledger::{Blank, Share};
 use std::sync::{Arc, Condvar, Mutex, Wait};
 use std::time::{Clock, Duration};
-use sw_card::{Meter, Relay};
+use sw_card::{Card, Meter, Relay};
 use sw_core::{Answer, Ask, Core, Sid, Work};
 use sw_session::{Available, Seating, View, seating_of};
 
@@ -64,11 +70,32 @@ pub enum Woken {
     Closing,
 }
 
+/// What a wait comes to for whom has seen this turn: it goes on while nothing changed.
+fn outcome_of(seen: u64, turn: u64, is_closing: bool) -> Woken
+    ensures { result ≡ outcome_of seen turn is_closing }
+{
+    if is_closing {
+        Woken::Closing
+    } else if turn == seen {
+        Woken::Unchanged
+    } else {
+        Woken::Turned
+    }
+}
+
 /// What an ask is to change about who has joined.
 pub fn seating_in<R: Relay, M: Meter>(ask: &Ask<R, M>) -> Seating {
     match ask {
         Ask::Session(ask) => seating_of(ask),
         _ => Seating::Stays,
+    }
+}
+
+/// Whether a scan runs, as the session sees it that may end it.
+fn runs_for<H: House, R: Relay, M: Meter>(held: &Held<H, R, M>, concern: Concern) -> bool {
+    match concern {
+        Concern::ScanBy(sid) => held.awaits_end(sid),
+        _ => false,
     }
 }
 
@@ -139,14 +166,6 @@ impl<H: House, R: Relay, M: Meter, G: Gate + Drop> Shared<H, R, M, G> {
         self.held.lock(rt).new_part()
     }
 
-    /// A desk with a part that no desk has any more.
-    pub fn last_part<W: Wait>(&self, rt: &W, share: Share<H>) -> DeskPart<H>
-        requires { share.parts ≡ 1 }
-        ensures { (result.amount ≡ share.amount) × (result.seat.mine ≡ []) }
-    {
-        self.held.lock(rt).last_part(share)
-    }
-
     /// Asks under the lock, and wakes those who wait where they may go on. It gives the turn after that too.
     pub fn act<W: Wait>(
         &self,
@@ -156,13 +175,15 @@ impl<H: House, R: Relay, M: Meter, G: Gate + Drop> Shared<H, R, M, G> {
     ) -> (Answer<R, M>, u64)
         ensures { AsksOnce H.first (ask_seen ask) (answer_seen result.0) part.old part.new }
     {
-        let may_admit = may_admit(&ask);
+        let concern = concern_of(&ask);
         let seating = seating_in(&ask);
         let mut guard = self.held.lock(rt);
         let before = guard.turn();
+        let ran = runs_for(&guard, concern);
         let answer = guard.ask(part, ask);
         self.follow(rt, seating, &answer);
-        guard.take_turn(may_admit && is_over(&answer));
+        let may_go_on = wakes(concern, ran, runs_for(&guard, concern), &answer);
+        guard.take_turn(may_go_on);
         let turn = guard.turn();
         drop(guard);
         if turn != before {
@@ -199,15 +220,9 @@ impl<H: House, R: Relay, M: Meter, G: Gate + Drop> Shared<H, R, M, G> {
             rt,
             guard,
             Duration::from_millis(ms as u64),
-            |held| held.turn() == seen && !held.is_closing(),
+            |held| outcome_of(seen, held.turn(), held.is_closing()) == Woken::Unchanged,
         );
-        if guard.is_closing() {
-            return Woken::Closing;
-        }
-        if guard.turn() == seen {
-            return Woken::Unchanged;
-        }
-        Woken::Turned
+        outcome_of(seen, guard.turn(), guard.is_closing())
     }
 
     /// Leaves in a session's slot what the desk of its synchronous channel has seen.
@@ -255,12 +270,25 @@ impl<H: House, R: Relay, M: Meter, G: Gate + Drop> Shared<H, R, M, G> {
         self.held.lock(rt).take_spare(desks)
     }
 
-    /// The number of events, to whom has every part: the opening one and all that was counted.
-    pub fn number<W: Wait>(&self, rt: &W, all: &mut Share<H>) -> u64
-        requires { all.old.parts ≡ all_parts }
-        ensures number { result ≡ H.first.events + all.old.amount }
-        ensures share { (all.new.parts ≡ all.old.parts) × (all.new.amount ≡ all.old.amount) }
+    /// The end, to whom has every part. Under one lock it tells the number of events, the opening one and all that was
+    /// counted, and takes the cards out of their slots, with nothing closed.
+    pub fn close_down<W: Wait>(
+        &self,
+        rt: &W,
+        all: Share<H>,
+        room: Vec<Option<Card<R, M>>>,
+    ) -> Closed<R, M>
+        requires parts { all.parts ≡ all_parts }
+        requires room { (room.items ≡ []) × (most_slots ≤ vec_capacity room) }
+        ensures events { result.events ≡ H.first.events + all.amount }
+        ensures cards { IsClosedDown H.first result.events (accounts_of result.cards.items) }
     {
-        self.held.lock(rt).number(all)
+        let mut all = all;
+        let mut held = self.held.lock(rt);
+        held.has_history();
+        let events = held.number(&mut all);
+        let mut part = held.last_part(all.split_off(1, 0));
+        let cards = take_cards(&mut held, &mut part, room);
+        Closed { events, cards }
     }
 }

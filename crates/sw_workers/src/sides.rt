@@ -4,18 +4,45 @@ ghost use Rattle.std.specs.Prelude.{◌≡◌, true, [], None, IfSome, IfNone, O
 ghost use Rattle.sw_workers.specs.Sides.{opened, appended, emptied, told_to, has_room};
 
 use crate::ends::Ends;
+use crate::limits::{is_overdue, ms_between};
 use crate::line::Line;
+use crate::porch::Porch;
+use crate::slots::place_of;
 use crossbeam_utils::CachePadded;
 use std::alloc::{AllocError, Global};
-use std::marker::Model;
+use std::marker::{Brand, Model};
 use std::mem;
 use std::sync::{Arc, Mutex, Wait};
+use std::time::{Clock, Instant};
 use sw_base::SESSIONS;
 use sw_core::{SessionAnswer, Sid};
 use sw_session::Seating;
 
 /// How many bytes wait at most for a session's other thread; one whose client doesn't read them is left.
 const SIDE_BYTES: usize = 65_536;
+
+/// Which mainframe it is, to what its sessions' threads leave to each other.
+pub trait Outbox {
+    ghost use Rattle.std.specs.Prelude.{length};
+    ghost use Rattle.sw_workers.specs.Sides.{IsFull};
+
+    /// Bytes that were left to a session's other thread were refused.
+    ghost refused: { Type 0 };
+
+    /// They are, where they don't fit beside those that wait, in what may wait or in the room that there is for them.
+    fn refuse(waiting: &[u8], room: usize, bytes: &[u8])
+        requires { IsFull (length waiting.now) room (length bytes.now) }
+        ensures { refused };
+}
+
+impl Outbox for Brand {
+    ghost use Rattle.std.specs.Prelude.{ℕ};
+    ghost use Rattle.sw_workers.specs.Sides.{IsFull};
+
+    ghost refused = { (waiting : ℕ) × (room : ℕ) × (more : ℕ) × IsFull waiting room more };
+
+    fn refuse(_waiting: &[u8], _room: usize, _bytes: &[u8]) {}
+}
 
 /// The bytes that wait in a slot, and whose they are.
 #[derive(Drop)]
@@ -58,19 +85,26 @@ impl Waiting {
     }
 
     /// Appends what is left to a session, where no more than `SIDE_BYTES` wait then. Nothing comes of it where the slot
-    /// isn't that session's.
-    pub fn append(&mut self, joined: u64, bytes: &[u8]) -> Result<(), AllocError>
+    /// isn't that session's. What doesn't fit, or finds no memory, is refused.
+    pub fn append<H: Outbox>(&mut self, joined: u64, bytes: &[u8]) -> Result<(), AllocError>
         ensures ok { OnOk result (self.new ≡ appended self.old joined bytes.now) }
         ensures room { OnOk result (has_room self.old joined bytes.now ≡ true) }
         ensures err { OnErr result (self.new ≡ self.old) }
+        ensures refused { OnErr result H.refused }
     {
         if self.joined != Some(joined) {
             return Ok(());
         }
+        let room = self.bytes.capacity();
         if self.bytes.len().saturating_add(bytes.len()) > SIDE_BYTES {
+            H::refuse(self.bytes.as_slice(), room, bytes);
             return Err(AllocError);
         }
-        self.bytes.extend_from_slice(bytes)
+        let left = self.bytes.extend_from_slice(bytes);
+        if left.is_err() {
+            H::refuse(self.bytes.as_slice(), room, bytes);
+        }
+        left
     }
 
     /// Takes all that waits for a session, if anything does.
@@ -97,6 +131,8 @@ struct Slot {
 #[derive(Drop)]
 pub struct Sides {
     alloc: Global,
+    /// The connections that have no session.
+    porch: Porch,
     rows: Vec<CachePadded<Slot>>,
     pub ghost sixteen: { vec_len rows ≡ 16 },
 }
@@ -112,7 +148,11 @@ impl Sides {
             };
             rows.push(CachePadded::new(slot))?;
         }
-        Ok(Sides { alloc, rows })
+        Ok(Sides {
+            alloc,
+            porch: Porch::new(),
+            rows,
+        })
     }
 
     /// What it takes memory from.
@@ -121,10 +161,7 @@ impl Sides {
     }
 
     fn slot(&self, sid: Sid) -> Option<&Slot> {
-        if sid.number < 1 || sid.number > SESSIONS {
-            return None;
-        }
-        let slot: &Slot = &self.rows[(sid.number - 1) as usize];
+        let slot: &Slot = &self.rows[place_of(sid.number)?];
         Some(slot)
     }
 
@@ -136,9 +173,16 @@ impl Sides {
     }
 
     /// Leaves bytes to a session, all of them or, where there is no room or no memory, none.
-    pub fn append<W: Wait>(&self, rt: &W, sid: Sid, bytes: &[u8]) -> Result<(), AllocError> {
+    pub fn append<H: Outbox, W: Wait>(
+        &self,
+        rt: &W,
+        sid: Sid,
+        bytes: &[u8],
+    ) -> Result<(), AllocError>
+        ensures { OnErr result H.refused }
+    {
         match self.slot(sid) {
-            Some(slot) => slot.waiting.lock(rt).append(sid.joined, bytes),
+            Some(slot) => slot.waiting.lock(rt).append::<H>(sid.joined, bytes),
             None => Ok(()),
         }
     }
@@ -158,6 +202,14 @@ impl Sides {
         }
     }
 
+    /// Whether both connections of the session stand.
+    pub fn are_paired<W: Wait>(&self, rt: &W, sid: Sid) -> bool {
+        match self.slot(sid) {
+            Some(slot) => slot.ends.lock(rt).are_paired(sid.joined),
+            None => false,
+        }
+    }
+
     /// The session has left, and its lines end.
     pub fn end<W: Wait>(&self, rt: &W, sid: Sid) {
         if let Some(slot) = self.slot(sid) {
@@ -171,6 +223,19 @@ impl Sides {
 struct Served {
     line: Option<Line>,
     session: Option<Sid>,
+    /// When it began, where the clock can be read.
+    since: Option<Instant>,
+    /// It is one of those that stand without a session.
+    is_standing: bool,
+}
+
+impl Served {
+    const NOTHING: Self = Served {
+        line: None,
+        session: None,
+        since: None,
+        is_standing: false,
+    };
 }
 
 /// What the thread of a desk serves, and the slots of all sessions.
@@ -185,27 +250,66 @@ impl Place {
     pub fn new(sides: Arc<Sides, Global>) -> Self {
         Place {
             sides,
-            served: Mutex::new(Served {
-                line: None,
-                session: None,
-            }),
+            served: Mutex::new(Served::NOTHING),
         }
     }
 
-    /// This line is served from now on, and no session yet.
-    pub fn begin<W: Wait>(&self, rt: &W, line: Option<Line>) {
+    /// This line is served from now on, and no session yet. It is not where as many stand without a session as may.
+    pub fn begin<W: Wait + Clock>(&self, rt: &W, line: Option<Line>) -> bool {
+        if !self.sides.porch.enter(rt) {
+            return false;
+        }
         *self.served.lock(rt) = Served {
             line,
             session: None,
+            since: Instant::now(rt).ok(),
+            is_standing: true,
         };
+        true
     }
 
     /// Nothing is served any more, and the line ends.
     pub fn finish<W: Wait>(&self, rt: &W) {
+        self.settle(rt);
+        self.end_line(rt);
+        *self.served.lock(rt) = Served::NOTHING;
+    }
+
+    /// It doesn't stand without a session any more.
+    fn settle<W: Wait>(&self, rt: &W) {
+        let stood = mem::replace(&mut self.served.lock(rt).is_standing, false);
+        if stood {
+            self.sides.porch.leave(rt);
+        }
+    }
+
+    /// Ends the line: reads come to its end.
+    fn end_line<W: Wait>(&self, rt: &W) {
         if let Some(line) = self.line(rt) {
             line.close();
         }
-        self.begin(rt, None);
+    }
+
+    /// Ends the line where it has stood for too long, and tells whether its session has both connections. `is_heard`
+    /// tells whether its first header is whole.
+    pub fn end_overdue<W: Wait + Clock>(&self, rt: &W, is_heard: bool) -> bool {
+        let is_paired = match self.session(rt) {
+            Some(sid) => self.sides.are_paired(rt, sid),
+            None => false,
+        };
+        if is_overdue(is_heard, is_paired, self.stood_ms(rt)) {
+            self.end_line(rt);
+        }
+        is_paired
+    }
+
+    /// For how many milliseconds the line has been served: none where the clock can't be read.
+    fn stood_ms<W: Wait + Clock>(&self, rt: &W) -> u64 {
+        let since = self.served.lock(rt).since;
+        match (since, Instant::now(rt)) {
+            (Some(since), Ok(now)) => ms_between(since, now),
+            _ => 0,
+        }
     }
 
     /// Follows an ask and its answer: a session that was joined or attached to is served from now on, and with one that
@@ -222,6 +326,7 @@ impl Place {
     /// This session is served from now on.
     fn learn<W: Wait>(&self, rt: &W, sid: Sid) {
         self.served.lock(rt).session = Some(sid);
+        self.settle(rt);
         self.sides.open(rt, sid);
         if let Some(line) = self.line(rt) {
             self.sides.enlist(rt, sid, line);
@@ -250,9 +355,11 @@ impl Place {
     }
 
     /// Leaves bytes to the session's other thread, all of them or, where there is no room or no memory, none.
-    pub fn append<W: Wait>(&self, rt: &W, bytes: &[u8]) -> Result<(), AllocError> {
+    pub fn append<H: Outbox, W: Wait>(&self, rt: &W, bytes: &[u8]) -> Result<(), AllocError>
+        ensures { OnErr result H.refused }
+    {
         match self.session(rt) {
-            Some(sid) => self.sides.append(rt, sid, bytes),
+            Some(sid) => self.sides.append::<H, W>(rt, sid, bytes),
             None => Ok(()),
         }
     }

@@ -1,9 +1,10 @@
 //! For each session a seat that has seen what its last event left, under a lock of the session alone.
 
-ghost use Rattle.std.specs.Prelude.{◌≡◌, ◌<◌, ℕ, Some, vec_len};
+ghost use Rattle.std.specs.Prelude.{◌≡◌, ◌<◌, ℕ, Some, IfSome, vec_len};
 ghost use mathlib.Core.List.{IsPrefix};
 ghost use Rattle.sw_base.specs.Limits.{most_sessions};
 ghost use Rattle.sw_workers.specs.Entries.{last_pair, made_by};
+ghost use Rattle.sw_workers.specs.Places.{place_of};
 
 use crate::board::{BoardName, StatusBoard};
 use crate::seat::StatusSeat;
@@ -11,6 +12,17 @@ use crossbeam_utils::CachePadded;
 use std::alloc::{AllocError, Global};
 use std::sync::{Mutex, Wait};
 use sw_base::SESSIONS;
+
+/// The place of the session with this number in what has one for each. None where there is no such session.
+pub fn place_of(number: u8) -> Option<usize>
+    ensures place { result ≡ place_of number }
+    ensures bound { IfSome result (λ place. place < most_sessions) }
+{
+    if number < 1 || number > SESSIONS {
+        return None;
+    }
+    Some((number - 1) as usize)
+}
 
 /// A session's slot.
 type Slot<B> = CachePadded<Mutex<Option<StatusSeat<B>>>>;
@@ -33,10 +45,7 @@ impl<B: BoardName> SeatSlots<B> {
     }
 
     fn slot(&self, number: u8) -> Option<&Mutex<Option<StatusSeat<B>>>> {
-        if number < 1 || number > SESSIONS {
-            return None;
-        }
-        let slot: &Mutex<Option<StatusSeat<B>>> = &self.rows[(number - 1) as usize];
+        let slot: &Mutex<Option<StatusSeat<B>>> = &self.rows[place_of(number)?];
         Some(slot)
     }
 

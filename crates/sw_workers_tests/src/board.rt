@@ -14,7 +14,7 @@ use std::thread::{Threads, join};
 use sw_workers::{BlankBoard, BoardName, LockedPass, SeatSlots, StatusBoard, StatusSeat};
 
 /// How often a thread looks whether another has come so far.
-const TURNS: u32 = 100_000;
+const TURNS: u32 = 50_000_000;
 
 fn waits_for(flag: &AtomicBool) -> bool {
     for _ in 0..TURNS {
@@ -43,9 +43,9 @@ fn publishes<B: BoardName, W: Wait>(
 }
 
 /// Holds the lock until the flag is up, and tells whether it came up in time.
-fn holds<B: BoardName, W: Wait>(
+pub fn holds<T: Drop, W: Wait>(
     rt: &W,
-    lock: &Mutex<LockedPass<B>>,
+    lock: &Mutex<T>,
     held: &AtomicBool,
     read: &AtomicBool,
 ) -> bool {
@@ -57,7 +57,7 @@ fn holds<B: BoardName, W: Wait>(
 }
 
 /// Reads once the lock is held.
-fn reads<B: BoardName>(
+pub fn reads<B: BoardName>(
     board: &StatusBoard<B>,
     mut seat: StatusSeat<B>,
     held: &AtomicBool,

@@ -6,14 +6,22 @@
 #[cfg(test)]
 mod board;
 #[cfg(test)]
+mod closing;
+#[cfg(test)]
 mod latches;
 #[cfg(test)]
 mod notes;
+#[cfg(test)]
+mod seats;
 #[cfg(test)]
 mod sessions;
 #[cfg(test)]
 mod shop;
 #[cfg(test)]
 mod threads;
+#[cfg(test)]
+mod timers;
+#[cfg(test)]
+mod wakes;
 #[cfg(test)]
 mod wires;

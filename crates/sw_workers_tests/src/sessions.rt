@@ -89,6 +89,7 @@ impl<W: Wait + Clock + Copy + Drop> Client<W> {
     fn clears_what_is_held(&self) -> bool {
         self.begins(1)
             && self.first.sends(HELD)
+            && self.second.comes_to_tell(STATUS, &status(128))
             && self.first.is_silent()
             && self.second.tells(CLEAR, CLEARING)
             && self.first.tells(CLEAR_COMPLETE, CLEARED)
@@ -125,9 +126,9 @@ const ONE: &[u8] = b"HS\x07\x00\xff\xff\xff\x00\x00\x00\x00\x00\x00\x00\x00\x021
 
 const ZERO: &[u8] = b"HS\x07\x00\xff\xff\xff\x00\x00\x00\x00\x00\x00\x00\x00\x020\n";
 
-/// A scan that waits for the bus, and a query that waits for its end.
-const HELD: &[u8] = b"HS\x07\x00\xff\xff\xff\x00\x00\x00\x00\x00\x00\x00\x00\x2c\
-    ROUT:SCAN (@1!1);:TRIG:SOUR BUS;:INIT;*OPC?\n";
+/// A scan that waits for the bus, which the status byte tells, and a query that waits for its end.
+const HELD: &[u8] = b"HS\x07\x00\xff\xff\xff\x00\x00\x00\x00\x00\x00\x00\x00\x3f\
+    ROUT:SCAN (@1!1);:TRIG:SOUR BUS;:STAT:OPER:ENAB 32;:INIT;*OPC?\n";
 
 /// The query for what a scan waits for, and its answer where that is a trigger.
 const CONDITION: &[u8] =
@@ -156,8 +157,9 @@ const LOCK_INFO: &[u8] = b"HS\x18\x00\x00\x00\x00\x00\x00\x00\x00\x00\x00\x00\x0
 
 const UNLOCKED: &[u8] = b"HS\x19\x00\x00\x00\x00\x00\x00\x00\x00\x00\x00\x00\x00\x00";
 
-/// A message that asks for service by an error, and AsyncServiceRequest with the status byte then.
-const SERVICE: &[u8] = b"HS\x07\x00\xff\xff\xff\x00\x00\x00\x00\x00\x00\x00\x00\x0b*SRE 4;FOO\n";
+/// Two messages, the second an error for which the first asks to be served, and AsyncServiceRequest with the status byte.
+const SERVICE: &[u8] = b"HS\x07\x00\xff\xff\xff\x00\x00\x00\x00\x00\x00\x00\x00\x07*SRE 4\n\
+    HS\x07\x00\xff\xff\xff\x02\x00\x00\x00\x00\x00\x00\x00\x04FOO\n";
 
 const SERVICE_REQUEST: &[u8] = b"HS\x14\x44\x00\x00\x00\x00\x00\x00\x00\x00\x00\x00\x00\x00";
 

@@ -25,7 +25,7 @@ use sw_workers::{
 };
 
 /// Whether a card comes into the slot. The mainframe stays good.
-fn install<R: Relay, M: Meter>(
+pub fn install<R: Relay, M: Meter>(
     alloc: Global,
     core: &mut Core<R, M>,
     slot: u8,
@@ -42,7 +42,7 @@ fn install<R: Relay, M: Meter>(
 }
 
 /// A mainframe as it opens, which is good.
-fn opened<R: Relay, M: Meter>(core: Core<R, M>) -> Core<R, M>
+pub fn opened<R: Relay, M: Meter>(core: Core<R, M>) -> Core<R, M>
     requires { core ≡ opening }
     ensures { IsGoodPanel result }
 {
@@ -162,21 +162,28 @@ impl<
         let notes = shared.recent(&rt).ok()?;
         let last = notes.as_slice().last()?;
         let closed = close_down(&rt, alloc, shared, desks).ok()?;
-        if are_at_rest(&closed) && closed.events == last.number {
+        if come_out(&closed, &SERIALS) && closed.events == last.number {
             return Some(*last);
         }
         None
     }
 }
 
-/// Whether these are the cards of slots 1 and 4, with nothing closed.
-fn are_at_rest<R: Relay, M: Meter>(closed: &Closed<R, M>) -> bool {
-    let cards = &closed.cards;
-    cards.len() == 2
-        && cards[0].serial() == 1
-        && cards[1].serial() == 4
-        && !cards[0].any_closed()
-        && !cards[1].any_closed()
+/// The serial numbers of a fitted mainframe's cards, by slot, where 0 stands for no card.
+const SERIALS: [u32; 16] = [1, 0, 0, 4, 0, 0, 0, 0, 0, 0, 0, 0, 0, 0, 0, 0];
+
+/// Whether these are the cards that came out, by slot, with nothing closed.
+pub fn come_out<R: Relay, M: Meter>(closed: &Closed<R, M>, serials: &[u32; 16]) -> bool {
+    let cards = closed.cards.as_slice();
+    cards.len() == 16 && (0..16).all(|place| is_card(&cards[place], serials[place]))
+}
+
+/// Whether the slot gave this card, with nothing closed.
+fn is_card<R: Relay, M: Meter>(slot: &Option<Card<R, M>>, serial: u32) -> bool {
+    match slot {
+        Some(card) => card.serial() == serial && !card.any_closed(),
+        None => serial == 0,
+    }
 }
 
 /// Plays a scene over a mainframe that is put behind its lock.

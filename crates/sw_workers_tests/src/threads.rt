@@ -4,6 +4,8 @@
 use crate::latches::{Latch, LatchedDriver, LatchedGate, LatchedSource, SharedLatch, turn};
 use crate::notes::{is_succeeded, looks};
 use crate::shop::{comes_to_tell, join, locks, played, played_by, releases, tells};
+use crate::timers::{Signalled, outpaces};
+use crate::wakes::is_undisturbed;
 use std::alloc::Global;
 use std::sync::Wait;
 use std::test::Fail;
@@ -22,8 +24,11 @@ pub enum Scene<C: Clock + Drop> {
     Locked(Locked<C>),
     Busy(Busy<C>),
     Awaited(Awaited<C>),
+    Signalled(Signalled<C>),
+    Outpaced,
     Looked,
     Succeeded,
+    Undisturbed,
     Closes,
     AtOnce,
 }
@@ -41,12 +46,15 @@ impl<W: Threads + Wait + Clock + Copy + Drop + Send + Sync + 'static> Scene<W> {
         match self {
             Scene::Meanwhile(scene) => scene.play(rt, alloc, first, second, third),
             Scene::Locked(scene) => scene.play(rt, alloc, first, second, third),
+            Scene::Outpaced => outpaces(alloc, first, second, third),
             Scene::Looked => looks(alloc, first, second, third),
             Scene::Succeeded => is_succeeded(first, second, third),
+            Scene::Undisturbed => is_undisturbed(alloc, first, second, third),
             Scene::Closes => closes(alloc, first, second, third),
             Scene::AtOnce => asks_at_once(rt, alloc, first, second, third),
             Scene::Busy(scene) => scene.play(rt, alloc, first, second, third),
             Scene::Awaited(scene) => scene.play(rt, alloc, first, second, third),
+            Scene::Signalled(scene) => scene.play(rt, alloc, first, second, third),
         }
     }
 }
@@ -367,8 +375,8 @@ fn a_status_is_seen_while_the_mainframe_is_locked(rt: HostRuntime) -> Result<(),
 /// A session waits in a thread of its own for the end of a scan, which another brings about.
 #[derive(Drop)]
 pub struct Awaited<C: Clock + Drop> {
-    latch: SharedLatch<C>,
-    end: &'static [u8],
+    pub latch: SharedLatch<C>,
+    pub end: &'static [u8],
 }
 
 /// Asks for the end of the scan, and gives the desk back with whether it came.
@@ -384,7 +392,7 @@ fn awaits_end<D: Desk, C: Clock + Drop>(
     (desk, is_told)
 }
 
-const TRIGGERED: &[u8] = b"ROUT:SCAN (@1!1);:TRIG:SOUR BUS;:INIT";
+pub const TRIGGERED: &[u8] = b"ROUT:SCAN (@1!1);:TRIG:SOUR BUS;:INIT";
 
 impl<W: Threads + Wait + Clock + Copy + Drop + Send + Sync + 'static> Awaited<W> {
     /// Gives the desks back, where the session went on.
@@ -422,26 +430,4 @@ fn pauses<C: Clock>(clock: &C) -> bool {
         turn(clock);
     }
     true
-}
-
-#[test]
-fn who_waits_for_a_scan_goes_on_when_it_is_aborted(rt: HostRuntime) -> Result<(), Fail> {
-    let latch = Latch::new(rt.alloc(), rt)?;
-    let scene = Scene::Awaited(Awaited {
-        latch,
-        end: b"ABOR",
-    });
-    assert!(rt; played(rt, rt.alloc(), SimSource::new(1, 1), Open, &scene).is_some());
-    Ok(())
-}
-
-#[test]
-fn who_waits_for_a_scan_goes_on_when_it_has_its_readings(rt: HostRuntime) -> Result<(), Fail> {
-    let latch = Latch::new(rt.alloc(), rt)?;
-    let scene = Scene::Awaited(Awaited {
-        latch,
-        end: b"*TRG",
-    });
-    assert!(rt; played(rt, rt.alloc(), SimSource::new(1, 1), Open, &scene).is_some());
-    Ok(())
 }

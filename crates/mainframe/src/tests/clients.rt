@@ -1,7 +1,24 @@
 //! Clients of `serve`, over the loopback.
 
+use crate::port::Port;
+use crate::serving::serve_on;
+use std::alloc::Global;
 use std::io::{Read, Write};
-use std::net::{Net, Shutdown, SocketAddr, TcpStream};
+use std::net::{Net, Shutdown, SocketAddr, TcpListener, TcpStream};
+use std::sync::Wait;
+use std::thread::Threads;
+use std::time::Clock;
+
+/// Whether so many connections are served on a listener, and the mainframe then closed down.
+pub fn serves<W: Threads + Wait + Clock + Copy + Drop + Send + Sync + 'static>(
+    rt: W,
+    alloc: Global,
+    listener: &TcpListener,
+    limit: u32,
+) -> bool {
+    let mut port = Port::new(rt, alloc, listener);
+    serve_on(rt, alloc, &mut port, limit).is_ok()
+}
 
 /// A client with both connections of its session.
 #[derive(Drop)]

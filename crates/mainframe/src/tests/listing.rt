@@ -12,6 +12,11 @@ const THREE_PASSES: &[u8] =
     b"scan 1\nmeter 4\nset 0 1\nset 1 1\nset 2 1\nclose 1!1\nread\nopen 1!1\nclose 1!2\nread\n\
     open 1!2\nloop 2 3\nclose 1!1\nread\nopen 1!1\nloop 1 2\nloop 0 1\nhalt\n";
 
+/// The same as the newer version lists it, with a counter more.
+const THREE_PASSES_NOW: &[u8] =
+    b"scan 2\nmeter 4\nset 0 1\nset 1 1\nset 2 1\nset 3 1\nclose 1!1\nread\nopen 1!1\nclose 1!2\nread\n\
+    open 1!2\nloop 3 4\nclose 1!1\nread\nopen 1!1\nloop 2 3\nloop 1 2\nloop 0 1\nhalt\n";
+
 /// Whether the listing is answered so, with this verdict and exit status.
 fn says(alloc: Global, listing: &[u8], told: &[u8], status: u8) -> bool {
     let mut reader = listing;
@@ -37,6 +42,38 @@ fn listings_are_judged(rt: HostRuntime) -> Result<(), Fail> {
     );
     assert!(rt; says(alloc, b"scan 1\nmeter 1\nhalt\n", b"refused 3 NoMeter\n", 3));
     assert!(rt; says(alloc, b"scan 1\n", b"line 2: BadStep\n", 3));
+    Ok(())
+}
+
+#[test]
+fn listings_of_the_newer_version_are_judged(rt: HostRuntime) -> Result<(), Fail> {
+    let alloc = rt.alloc();
+    assert!(rt; says(alloc, THREE_PASSES_NOW, b"ok bound 3 readings 3\n", 0));
+    assert!(rt;
+        says(
+            alloc,
+            b"scan 2\nmeter 4\ntimer arm3 1\nwait arm3\nhalt\n",
+            b"ok bound 2 readings 0\n",
+            0
+        )
+    );
+    assert!(rt;
+        says(
+            alloc,
+            b"scan 2\nmeter 16\nhalt\n",
+            b"refused 3 NoMeter\n",
+            3
+        )
+    );
+    assert!(rt;
+        says(
+            alloc,
+            b"scan 1\nmeter 4\nwait arm3\nhalt\n",
+            b"line 3: BadStep\n",
+            3
+        )
+    );
+    assert!(rt; says(alloc, b"scan 3\nmeter 4\nhalt\n", b"line 1: BadStep\n", 3));
     Ok(())
 }
 

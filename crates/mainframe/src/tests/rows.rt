@@ -21,7 +21,7 @@ fn errors_are_queued_in_order(rt: HostRuntime) -> Result<(), Fail> {
         rt.alloc(),
         None,
         b"ROUT:CLOS (@5!1);CLOS (@9!1);CLOS (@1!0);:SYST:ERR:ALL?\n",
-        b"-241,\"Hardware missing\",-222,\"Data out of range\",-222,\"Data out of range\"\n",
+        b"-241,\"Hardware missing\",-241,\"Hardware missing\",-222,\"Data out of range\"\n",
     )
 }
 
@@ -388,5 +388,66 @@ fn a_closing_fails_in_a_position(rt: HostRuntime) -> Result<(), Fail> {
         Some(1),
         b"ROUT:SCAN (@2!1&1!1);:INIT;:SYST:ERR?;:ROUT:CLOS:STAT?\n",
         b"-240,\"Hardware error\";(@)\n",
+    )
+}
+
+#[test]
+fn a_scan_that_a_timer_paces(rt: HostRuntime) -> Result<(), Fail> {
+    check(
+        &rt,
+        rt.alloc(),
+        None,
+        b"ROUT:SCAN (@1!1);:TRIG:COUN 3;SOUR TIM;TIM 0.25;SOUR?;TIM?;:DIAG:SCAN:BOUN?\n\
+          INIT;:STAT:OPER:COND?\nFETC?\nINIT;:TRIG:SIGN;:STAT:OPER:COND?\n",
+        b"TIM;0.250000;6\n32\n1.000000000,1.000000001,1.000000002\n16\n",
+    )
+}
+
+#[test]
+fn a_third_arm_layer_and_no_fourth(rt: HostRuntime) -> Result<(), Fail> {
+    check(
+        &rt,
+        rt.alloc(),
+        None,
+        b"ARM:LAY3:COUN 1000;COUN?\nARM:LAY4:COUN 2\nTRIG:TIM 0.0000004\nSYST:ERR:ALL?\n",
+        b"1000\n-114,\"Header suffix out of range\",-222,\"Data out of range\"\n",
+    )
+}
+
+#[test]
+fn a_channel_of_slot_16_and_none_of_slot_17(rt: HostRuntime) -> Result<(), Fail> {
+    check(
+        &rt,
+        rt.alloc(),
+        None,
+        b"ROUT:CLOS (@1601);CLOS (@17!1);:SYST:ERR:ALL?\n",
+        b"-241,\"Hardware missing\",-222,\"Data out of range\"\n",
+    )
+}
+
+#[test]
+fn the_longest_scan_is_bounded(rt: HostRuntime) -> Result<(), Fail> {
+    check(
+        &rt,
+        rt.alloc(),
+        None,
+        b"ROUT:SCAN (@1!1);:ARM:COUN 1000;SOUR BUS;DEL 1\nARM:LAY2:COUN 1000;SOUR TIM;DEL 1\n\
+          ARM:LAY3:COUN 1000;SOUR EXT;DEL 1\nTRIG:COUN 100000;SOUR HOLD;DEL 1;:DIAG:SCAN:BOUN?\n",
+        b"300002002002000\n",
+    )
+}
+
+#[test]
+fn one_timer_of_a_microsecond_and_one_of_an_hour(rt: HostRuntime) -> Result<(), Fail> {
+    check(
+        &rt,
+        rt.alloc(),
+        None,
+        b"TRIG:TIM 0.0000005;TIM?;TIM 3600.0000004;TIM?;TIM 250 MS;TIM?\n\
+          TRIG:TIM 0;TIM 3600.0000005;TIM?\nARM:TIM 2;:ARM:LAY1:TIM?;:ARM:LAYER3:TIM?\n\
+          *RST;:ARM:TIM?;:TRIG:TIM?\nINIT:CONT TIM\nTRIG:TIM 1 H\nARM:LAY03:TIM 1\nSYST:ERR:ALL?\n",
+        b"0.000001;3600.000000;0.250000\n0.250000\n2.000000;1.000000\n1.000000;1.000000\n\
+          -222,\"Data out of range\",-222,\"Data out of range\",-224,\"Illegal parameter value\",\
+          -131,\"Invalid suffix\",-114,\"Header suffix out of range\"\n",
     )
 }

@@ -1,6 +1,6 @@
 //! `serve` over the loopback.
 
-use crate::serving::serve_on;
+use crate::tests::clients::serves;
 use std::io::{Read, Write};
 use std::net::{Net, Shutdown, SocketAddr, TcpListener, TcpStream};
 use std::test::Fail;
@@ -124,10 +124,10 @@ fn a_session_over_two_connections(rt: HostRuntime) -> Result<(), Fail> {
     let alloc = rt.alloc();
     let (served, converses) = join(
         &rt,
-        || serve_on(rt, alloc, &listener, 2),
+        || serves(rt, alloc, &listener, 2),
         || converses(&rt, addr),
     );
-    assert!(rt; converses && served.is_ok());
+    assert!(rt; converses && served);
     Ok(())
 }
 
@@ -151,9 +151,9 @@ fn no_session_is_left_behind(rt: HostRuntime) -> Result<(), Fail> {
     let alloc = rt.alloc();
     let (served, first) = join(
         &rt,
-        || serve_on(rt, alloc, &listener, 20),
+        || serves(rt, alloc, &listener, 20),
         || each_is_the_first(&rt, addr, 20),
     );
-    assert!(rt; first && served.is_ok());
+    assert!(rt; first && served);
     Ok(())
 }

@@ -1,7 +1,6 @@
 //! `serve`: limits and pauses that are over in time, over the loopback.
 
-use crate::serving::serve_on;
-use crate::tests::clients::{Client, LOCK, LOCKED, answers, header};
+use crate::tests::clients::{Client, LOCK, LOCKED, answers, header, serves};
 use std::alloc::Global;
 use std::io::Write;
 use std::net::{Net, SocketAddr, TcpListener, TcpStream};
@@ -82,10 +81,10 @@ fn a_limit_runs_out_while_others_work(rt: HostRuntime) -> Result<(), Fail> {
     let alloc = rt.alloc();
     let (served, goes) = join(
         &rt,
-        || serve_on(rt, alloc, &listener, 6),
+        || serves(rt, alloc, &listener, 6),
         || runs_out(&rt, addr) == Some(true),
     );
-    assert!(rt; goes && served.is_ok());
+    assert!(rt; goes && served);
     Ok(())
 }
 
@@ -156,9 +155,9 @@ fn stale_pauses_hold_nobody_up(rt: HostRuntime) -> Result<(), Fail> {
     let alloc = rt.alloc();
     let (served, goes) = join(
         &rt,
-        || serve_on(rt, alloc, &listener, 4),
+        || serves(rt, alloc, &listener, 4),
         || is_on_time(&rt, alloc, addr) == Some(true),
     );
-    assert!(rt; goes && served.is_ok());
+    assert!(rt; goes && served);
     Ok(())
 }

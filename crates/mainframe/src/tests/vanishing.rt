@@ -1,7 +1,6 @@
 //! `serve` and clients that go away, over the loopback.
 
-use crate::serving::serve_on;
-use crate::tests::clients::{Client, LOCK, LOCKED, answers};
+use crate::tests::clients::{Client, LOCK, LOCKED, answers, serves};
 use std::io::Write;
 use std::net::{Net, Shutdown, SocketAddr, TcpListener, TcpStream};
 use std::test::Fail;
@@ -58,10 +57,10 @@ fn a_client_that_vanished_does_nothing_more(rt: HostRuntime) -> Result<(), Fail>
     let alloc = rt.alloc();
     let (served, goes) = join(
         &rt,
-        || serve_on(rt, alloc, &listener, 8),
+        || serves(rt, alloc, &listener, 8),
         || vanish(&rt, addr) == Some(true),
     );
-    assert!(rt; goes && served.is_ok());
+    assert!(rt; goes && served);
     Ok(())
 }
 
@@ -85,9 +84,9 @@ fn both_connections_of_a_session_end_together(rt: HostRuntime) -> Result<(), Fai
     let alloc = rt.alloc();
     let (served, goes) = join(
         &rt,
-        || serve_on(rt, alloc, &listener, 8),
+        || serves(rt, alloc, &listener, 8),
         || end_together(&rt, addr) == Some(true),
     );
-    assert!(rt; goes && served.is_ok());
+    assert!(rt; goes && served);
     Ok(())
 }

@@ -191,6 +191,7 @@ fn arrive<R: Relay, M: Meter>(
             return Taken::Ended;
         }
         Some(Awaited::Wait(_)) => return Taken::Waits,
+        Some(Awaited::Period(_, micros)) => return Taken::Pause(ticket, micros),
         Some(Awaited::Pause(micros)) => return Taken::Pause(ticket, micros),
         Some(Awaited::Read) => return Taken::Job(send_out(slots, out, at.meter(), ticket)),
     }

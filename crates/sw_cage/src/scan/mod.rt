@@ -6,7 +6,7 @@ ghost use Rattle.sw_code.specs.Compiled.{compiled};
 ghost use Rattle.sw_cage.specs.Advance.{awaits, moves_from, next_place};
 ghost use Rattle.sw_cage.specs.Cage.{ticket_of};
 ghost use Rattle.sw_cage.specs.Steps.{moves_of};
-ghost use Rattle.sw_cage.specs.Takes.{TakesIf, TakesWait, TakesPause, AwaitsReturn};
+ghost use Rattle.sw_cage.specs.Takes.{TakesIf, TakesWait, TakesPeriod, TakesPause, AwaitsReturn};
 
 pub(crate) mod machine;
 mod steps;
@@ -92,6 +92,7 @@ impl Scan {
         };
         match self.awaited() {
             Some(Awaited::Wait(name)) => return self.wait_takes(name, happening),
+            Some(Awaited::Period(name, _)) => return period_takes(present, name, happening),
             Some(Awaited::Pause(_)) => return pause_takes(present, happening),
             Some(Awaited::Read) => return false,
             None => return false,
@@ -153,6 +154,16 @@ fn pause_takes(present: Ticket, happening: Happening) -> bool
     match happening {
         Happening::Elapsed(ticket) => return present.is_same(ticket),
         _ => return false,
+    }
+}
+
+/// Whether a layer's timer under the present ticket takes the happening.
+fn period_takes(present: Ticket, name: LayerName, happening: Happening) -> bool
+    ensures { IsTrue result ↔ TakesPeriod present name happening }
+{
+    match happening {
+        Happening::Signal(layer) => return name == layer,
+        _ => return pause_takes(present, happening),
     }
 }
 

@@ -7,22 +7,24 @@ ghost use Rattle.sw_trigger.specs.Agenda.{Item, Awaits};
 ghost use Rattle.sw_trigger.specs.declared.layer.Awaited.{Awaited as Await};
 ghost use Rattle.sw_code.specs.Code.{Unfolds};
 ghost use Rattle.sw_code.specs.Range.{IsStep};
-ghost use Rattle.sw_code.specs.Pace.{IsNear, IsPaced};
+ghost use Rattle.sw_base.specs.Limits.{most_counters};
+ghost use Rattle.sw_code.specs.Pace.{most_counting, IsNear, IsPaced};
 ghost use Rattle.sw_cage.specs.Advance.{first_awaited};
 ghost use Rattle.sw_cage.specs.Steps.{Does, IsResting, AreVisits, AreVisitsOn, LeadsOn, opened_by, closed_by};
 
+use sw_base::COUNTERS;
 use sw_channel::Position;
 use sw_code::Step;
 use sw_trigger::Awaited;
 
 /// How many steps only count, at most, before the first item of a scan and between two.
-const MOST_COUNTING: u8 = 6;
+const MOST_COUNTING: u8 = 2 * COUNTERS;
 
 /// The number of the step that comes next, and the counters.
 #[derive(Clone, Copy, Debug, PartialEq, Eq)]
 pub(crate) struct Place {
     pub(crate) step: usize,
-    pub(crate) counters: [u32; 3],
+    pub(crate) counters: [u32; COUNTERS as usize],
 }
 
 /// What is done on the way to the next awaiting step: first the opening, then the closing.
@@ -46,6 +48,7 @@ pub(crate) fn awaited(steps: &[Step], at: Place) -> Option<Awaited>
 {
     match step_at(steps, at) {
         Some(Step::Wait(name)) => Some(Awaited::Wait(name)),
+        Some(Step::Timer(name, micros)) => Some(Awaited::Period(name, micros)),
         Some(Step::Pause(micros)) => Some(Awaited::Pause(micros)),
         Some(Step::Read) => Some(Awaited::Read),
         _ => None,
@@ -55,12 +58,12 @@ pub(crate) fn awaited(steps: &[Step], at: Place) -> Option<Awaited>
 /// The way from the start to the first step that awaits.
 pub(crate) fn first(steps: &[Step]) -> Way
     requires range { AllByRecursion IsStep steps.now }
-    requires paced { IsPaced steps.now 6 }
+    requires paced { IsPaced steps.now most_counting }
     ensures { (items : List Item) → Unfolds steps.now items → AreVisits items → LeadsOn steps.now items result }
 {
     let start = Place {
         step: 0,
-        counters: [0; 3],
+        counters: [0; COUNTERS as usize],
     };
     let at = settle(steps, start);
     move_on(steps, at)
@@ -69,7 +72,7 @@ pub(crate) fn first(steps: &[Step]) -> Way
 /// The way from a step that awaits to the next.
 pub(crate) fn next(steps: &[Step], at: Place) -> Way
     requires range { AllByRecursion IsStep steps.now }
-    requires paced { IsPaced steps.now 6 }
+    requires paced { IsPaced steps.now most_counting }
     requires rests { IsResting (slice_get steps.now at.step) }
     requires awaits { (what : Await) × (items : List Item) × Does steps.now at (Awaits what ∷ items) }
     ensures { (what : Await) (items : List Item) → Does steps.now at (Awaits what ∷ items) → AreVisitsOn items
@@ -82,7 +85,7 @@ pub(crate) fn next(steps: &[Step], at: Place) -> Way
 /// The way on from a step that does more than count.
 fn move_on(steps: &[Step], at: Place) -> Way
     requires range { AllByRecursion IsStep steps.now }
-    requires paced { IsPaced steps.now 6 }
+    requires paced { IsPaced steps.now most_counting }
     requires near { IsNear steps.now 0 at.step }
     ensures { (items : List Item) → Does steps.now at items → AreVisitsOn items → LeadsOn steps.now items result }
 {
@@ -100,7 +103,7 @@ fn move_on(steps: &[Step], at: Place) -> Way
 /// The way on from a step that does more than count.
 fn close_on(steps: &[Step], at: Place) -> Way
     requires range { AllByRecursion IsStep steps.now }
-    requires paced { IsPaced steps.now 6 }
+    requires paced { IsPaced steps.now most_counting }
     requires near { IsNear steps.now 0 at.step }
     ensures way { (items : List Item) → Does steps.now at items → AreVisits items → LeadsOn steps.now items result }
     ensures opens_none { result.moves.to_open ≡ None }
@@ -148,7 +151,7 @@ fn to_close(steps: &[Step], at: Place) -> Option<Position>
 /// On to a step that does more than count.
 fn settle(steps: &[Step], at: Place) -> Place
     requires range { AllByRecursion IsStep steps.now }
-    requires near { IsNear steps.now 6 at.step }
+    requires near { IsNear steps.now most_counting at.step }
     ensures near { IsNear steps.now 0 result.step }
     ensures does { (items : List Item) → Does steps.now at items → Does steps.now result items }
 {
@@ -178,7 +181,7 @@ fn counted(steps: &[Step], at: Place) -> Option<Place>
 
 /// The place after a loop's end: the counter goes down by one, and the loop begins again or is over.
 fn turned(at: Place, counter: u8, to: u16) -> Place
-    requires counter { counter ≤ 2 }
+    requires counter { counter < most_counters }
     requires within { at.step + 1 < 2 ^ 64 }
     ensures again { 1 < slice_index_or at.counters counter 0 → result ≡ record {
       step = to;
@@ -224,7 +227,7 @@ impl Place {
 
     /// The same step, the counter being at so many turns.
     fn with(self, counter: u8, turns: u32) -> Place
-        requires { counter ≤ 2 }
+        requires { counter < most_counters }
         ensures { result ≡ record { step = self.step; counters = slice_set self.counters counter turns } }
     {
         let mut counters = self.counters;

@@ -1,10 +1,10 @@
 //! What a server reads from.
 
-ghost use Rattle.std.specs.Prelude.{Some, IfErr};
+ghost use Rattle.std.specs.Prelude.{Some, None, IfErr};
 ghost use Rattle.std.specs.Io.{ReadsAtMost};
 ghost use Rattle.std.specs.Io.KnownBytes.{ReadConsumes};
 ghost use Rattle.std.specs.IoError.{error_kind};
-ghost use Rattle.sw_session.specs.ServeRead.{GivesBytes, ComesTo};
+ghost use Rattle.sw_session.specs.ServeRead.{GivesBytes, ComesTo, CountsPause};
 
 use crate::asking::TURNS;
 use std::io::{self, ErrorKind, Read};
@@ -23,12 +23,13 @@ pub trait Source {
     ghost use Rattle.std.specs.Prelude.{◌≡◌, ℕ, List, Option, Err};
     ghost use Rattle.std.specs.Io.{ReadsAtMost};
     ghost use Rattle.std.specs.Io.KnownBytes.{ReadConsumes};
+    ghost use Rattle.sw_session.specs.ServeRead.{CountsPause};
 
     /// The bytes that are left to be read, where they are known.
     ghost remaining: { Self → Option (List ℕ) };
 
-    /// A time limit ended a read, between these states.
-    ghost paused: { Self → Self → Type 0 };
+    /// How many reads a time limit has ended so far, where that is known.
+    ghost pauses: { Self → Option ℕ };
 
     /// A read failed, between these states.
     ghost failed: { Self → Self → Type 0 };
@@ -37,16 +38,16 @@ pub trait Source {
     fn receive(&mut self, buffer: &mut [u8]) -> Result<usize, Unread>
         ensures bound { ReadsAtMost result buffer.new }
         ensures bytes { ReadConsumes (remaining self.old) (remaining self.new) result buffer.new }
-        ensures paused { result ≡ Err Unread.Paused → paused self.old self.new }
+        ensures pauses { CountsPause (pauses self.old) (pauses self.new) result }
         ensures failed { result ≡ Err Unread.Failed → failed self.old self.new };
 }
 
 /// Any reader is a source: an error of kind `TimedOut` or `WouldBlock` is the end of a time limit, and an interrupted
-/// read is asked again. It tells nothing of why a read fails.
+/// read is asked again. It tells nothing of why a read fails, nor how many of them a time limit ended.
 impl<R: Read> Source for R {
     ghost remaining = { λ r. R.remaining r };
 
-    ghost paused = { λ _ _. Unit {0} };
+    ghost pauses = { λ _. None };
 
     ghost failed = { λ _ _. Unit {0} };
 
@@ -94,7 +95,7 @@ pub struct Memory<'a> {
 impl Source for Memory<'_> {
     ghost remaining = { λ m. Some m.left.now };
 
-    ghost paused = { λ _ _. ⊥ };
+    ghost pauses = { λ _. Some 0 };
 
     ghost failed = { λ _ _. ⊥ };
 

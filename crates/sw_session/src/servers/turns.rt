@@ -2,10 +2,10 @@
 
 ghost use Rattle.std.specs.Prelude.{◌≡◌, ◌⊎◌, Ok, Err};
 ghost use Rattle.sw_hislip.specs.Pending.{Waits};
-ghost use Rattle.sw_session.specs.ServeRead.{CameTo, MayPause};
-ghost use Rattle.sw_session.specs.Serve.{Listens, NextInput, HearsAll, TakesServerTurn, RunsChannel, LeavesSession};
-ghost use Rattle.sw_session.specs.Serve.{ServesAndLeaves};
-ghost use Rattle.sw_session.specs.Serve.{voice, service, point, course, conclude};
+ghost use Rattle.sw_session.specs.ServeRead.{CameTo};
+ghost use Rattle.sw_session.specs.Serve.{Listens, CountsCame, NextInput, HearsAll, TakesServerTurn, RunsChannel};
+ghost use Rattle.sw_session.specs.Serve.{LeavesSession, ServesAndLeaves};
+ghost use Rattle.sw_session.specs.Serve.{voice, point, course, conclude};
 
 use crate::desk::Desk;
 use crate::engine::Channel;
@@ -38,7 +38,7 @@ pub enum Next {
 fn listen<R: Source>(reader: &mut R, decoder: &mut Decoder) -> Result<Came, ServeFault>
     ensures listens { Listens
         (R.remaining reader.old) (R.remaining reader.new) decoder.old.pending decoder.new.pending result }
-    ensures paused { result ≡ Ok Came.Paused → CameTo R.paused reader.new }
+    ensures pauses { CountsCame (R.pauses reader.old) (R.pauses reader.new) result }
     ensures read { result ≡ Err ServeFault.Read → CameTo R.failed reader.new }
 {
     let mut buffer = [0_u8; 512];
@@ -126,10 +126,11 @@ fn take_turn<E: Handler, R: Source, W: Sink, S: Sink, D: Desk>(
     desk: &mut D,
 ) -> Result<Next, ServeFault>
     requires { Waits decoder.old.pending.bytes }
-    ensures turn { TakesServerTurn (service (voice E.protocol D.passes own) (MayPause R.paused))
-        decoder.old.pending decoder.new.pending
-        (course (point engine.old desk.old (W.contents writer.old) (S.contents side.old)) (R.remaining reader.old))
-        (course (point engine.new desk.new (W.contents writer.new) (S.contents side.new)) (R.remaining reader.new))
+    ensures turn { TakesServerTurn (voice E.protocol D.passes own) decoder.old.pending decoder.new.pending
+        (course (point engine.old desk.old (W.contents writer.old) (S.contents side.old)) (R.remaining reader.old)
+        (R.pauses reader.old))
+        (course (point engine.new desk.new (W.contents writer.new) (S.contents side.new)) (R.remaining reader.new)
+        (R.pauses reader.new))
         result }
     ensures read { result ≡ Err ServeFault.Read → CameTo R.failed reader.new }
     ensures write { result ≡ Err ServeFault.Write → CameTo W.failed writer.new ⊎ CameTo S.failed side.new }
@@ -153,9 +154,11 @@ fn run<E: Handler, R: Source, W: Sink, S: Sink, D: Desk>(
     desk: &mut D,
     turns: u64,
 ) -> Result<(), ServeFault>
-    ensures runs { RunsChannel (service (voice E.protocol D.passes own) (MayPause R.paused)) turns
-        (course (point engine.old desk.old (W.contents writer.old) (S.contents side.old)) (R.remaining reader.old))
-        (course (point engine.new desk.new (W.contents writer.new) (S.contents side.new)) (R.remaining reader.new))
+    ensures runs { RunsChannel (voice E.protocol D.passes own) turns
+        (course (point engine.old desk.old (W.contents writer.old) (S.contents side.old)) (R.remaining reader.old)
+        (R.pauses reader.old))
+        (course (point engine.new desk.new (W.contents writer.new) (S.contents side.new)) (R.remaining reader.new)
+        (R.pauses reader.new))
         result }
     ensures read { result ≡ Err ServeFault.Read → CameTo R.failed reader.new }
     ensures write { result ≡ Err ServeFault.Write → CameTo W.failed writer.new ⊎ CameTo S.failed side.new }
@@ -194,9 +197,11 @@ pub fn serve_for<E: Handler, R: Source, W: Sink, S: Sink, D: Desk>(
     desk: &mut D,
     turns: u64,
 ) -> Result<(), ServeFault>
-    ensures serves { ServesAndLeaves (service (voice E.protocol D.passes own) (MayPause R.paused)) turns
-        (course (point engine.old desk.old (W.contents writer.old) (S.contents side.old)) (R.remaining reader.old))
-        (course (point engine.new desk.new (W.contents writer.new) (S.contents side.new)) (R.remaining reader.new))
+    ensures serves { ServesAndLeaves (voice E.protocol D.passes own) turns
+        (course (point engine.old desk.old (W.contents writer.old) (S.contents side.old)) (R.remaining reader.old)
+        (R.pauses reader.old))
+        (course (point engine.new desk.new (W.contents writer.new) (S.contents side.new)) (R.remaining reader.new)
+        (R.pauses reader.new))
         result }
     ensures read { result ≡ Err ServeFault.Read → CameTo R.failed reader.new }
     ensures write { result ≡ Err ServeFault.Write → CameTo W.failed writer.new ⊎ CameTo S.failed side.new }

@@ -1,4 +1,3 @@
-use Rattle.std.proofs.Common.{ap, ◌∙◌}
 use Rattle.sw_channel.specs.Printing.{printed_position, IsPrintable}
 use Rattle.sw_channel.proofs.Printed.{one_more, all_more, others_done, all_over}
 use Rattle.sw_channel.proofs.print.put_other_positions.Goals as goal

@@ -10,6 +10,7 @@ use Rattle.sw_code.proofs.read.read_steps.Goals as goal
 
 pub lines-preserved : goal.lines-preserved
 lines-preserved c =
+    let v = c.args.version in
     let before = c.lines.steps.items in
     let line = c.lines.line in
     let first = c.in-Some.first.now in
@@ -17,15 +18,15 @@ lines-preserved c =
     let s = c.in_ok-step-in-Some.step in
     let pushed = c.in-Ok.ensures.items in
     let go : Result Step ListError → Result (List Step) ListError =
-    λ r. after_steps before (then_read r (λ (x : Step). then_read (steps_in (line + 1) more) (λ (steps : List Step). Ok (x ∷ steps)))) in
+    λ r. after_steps before (then_read r (λ (x : Step). then_read (steps_in v (line + 1) more) (λ (steps : List Step). Ok (x ∷ steps)))) in
     record {
       same =
           c.lines.invariant.same
-          ∙ ap (λ (x : List (List ℕ)). after_steps before (steps_in line x)) c.in-Some.ensures.found
-          ∙ ap (after_steps before) (steps_some line first more c.in-Some.ensures.more)
+          ∙ ap (λ (x : List (List ℕ)). after_steps before (steps_in v line x)) c.in-Some.ensures.found
+          ∙ ap (after_steps before) (steps_some v line first more c.in-Some.ensures.more)
           ∙ ap go (sym c.in_ok-step-in-Some.ensures.step)
-          ∙ after_one before s (steps_in (line + 1) more)
-          ∙ ap (λ (l : List Step). after_steps l (steps_in (line + 1) more)) (sym pushed);
+          ∙ after_one before s (steps_in v (line + 1) more)
+          ∙ ap (λ (l : List Step). after_steps l (steps_in v (line + 1) more)) (sym pushed);
       line = omega (arith, c.lines.invariant.line, ap length pushed, length-append before (s ∷ []));
       most = omega (arith, c.in_ok-step-in-Some.ensures.room);
       range = subst (AllByRecursion IsStep) (sym pushed) (steps_push before s c.lines.invariant.range c.in_ok-step-in-Some.ensures.range);

@@ -1,4 +1,4 @@
-use Rattle.sw_session.specs.Talk.{most_answer_bytes}
+use Rattle.sw_base.specs.Limits.{most_answer_bytes}
 use Rattle.std.proofs.Common.{◌≡◌, ◌≤◌, length, ◌++◌, ◌∷◌, [], arith}
 use Rattle.std.proofs.lemmas.Grind.{common_steps}
 use Rattle.sw_session.proofs.Lines.{joins-first, has-room}

@@ -3,7 +3,7 @@ use Rattle.std.proofs.lemmas.Bool.{both_ways}
 use Rattle.sw_base.specs.declared.terms.LayerName.{LayerName}
 use Rattle.sw_code.specs.declared.code.Step.TheVariants as step
 use Rattle.sw_trigger.proofs.Awaiting.{listed_from_test}
-use Rattle.sw_verify.proofs.Looking.{next_step, popped, after_wait, after_pause, after_read, after_set, after_close, close_stops, after_open, open_stops, moved}
+use Rattle.sw_verify.proofs.Looking.{next_step, popped, after_wait, after_timer, after_pause, after_read, after_set, after_close, close_stops, after_open, open_stops, moved}
 use Rattle.sw_verify.proofs.Looking.{loop_stops, after_loop, halt_right, halt_stops}
 use Rattle.sw_verify.proofs.look.look.Goals.{in-Set+in_ok-insert-in-Set, in-Loop+else-is_empty+else-not-is_same, in-Close+in_default, in-Open+in_default-open}
 use Rattle.sw_verify.proofs.look.look.Goals.{in-Wait}
@@ -85,8 +85,10 @@ loop-i-preserved c =
       | in-Wait w ↦ moved layout closed steps (i + 1) ledger now rows left w.ledger-is (ap (λ v. v.items) w.saved-is)
           (⊎_elim (λ (x : (name : LayerName) × (get_or steps i _ ≡ step.Wait name)).
           after_wait layout closed steps i ledger rows p x.0 (next_step steps i (step.Wait x.0) _ c.loop-i-test.true x.1))
+          (λ o. ⊎_elim (λ (x : (name : LayerName) × (micros : ℕ) × (get_or steps i _ ≡ step.Timer name micros)).
+          after_timer layout closed steps i ledger rows p x.0 x.1 (next_step steps i (step.Timer x.0 x.1) _ c.loop-i-test.true x.2))
           (λ o. ⊎_elim (λ (x : (micros : ℕ) × (get_or steps i _ ≡ step.Pause micros)).
           after_pause layout closed steps i ledger rows p x.0 (next_step steps i (step.Pause x.0) _ c.loop-i-test.true x.1))
-          (λ (x : get_or steps i _ ≡ step.Read). after_read layout closed steps i ledger rows p (next_step steps i step.Read _ c.loop-i-test.true x)) o)
+          (λ (x : get_or steps i _ ≡ step.Read). after_read layout closed steps i ledger rows p (next_step steps i step.Read _ c.loop-i-test.true x)) o) o)
           w.in-Wait.is)
     ]

@@ -1,9 +1,6 @@
-use Rattle.std.proofs.Common.{◌≡◌, ◌<◌, get_or, length, refl, sym, ap, subst, arith}
-use Rattle.std.specs.Prelude.{take}
-use Rattle.std.specs.List.{All}
+use Rattle.std.proofs.Common.{sym, subst}
 use Rattle.std.proofs.lemmas.List.{take_all}
 use Rattle.std.proofs.lemmas.List.Elements.{All-more, recursion_from_All}
-use Rattle.sw_channel.specs.Positions.{Position}
 use Rattle.sw_verify.specs.Channels.{is_among, none}
 use Rattle.sw_verify.specs.Sound.{CanCloseEach}
 use Rattle.sw_verify.proofs.Each.{shows_again, opens_again}

@@ -5,7 +5,7 @@ use Rattle.sw_base.specs.Layout.{is_present, has_meter}
 use Rattle.sw_trigger.specs.Agenda.{used_of}
 use Rattle.sw_trigger.specs.Counts.{readings_of}
 use Rattle.sw_trigger.proofs.Awaiting.{listed_from_test}
-use Rattle.sw_verify.specs.Channels.{Channels, is_among}
+use Rattle.sw_verify.specs.Channels.{is_among}
 use Rattle.sw_verify.specs.Sound.{CanCloseEach}
 use Rattle.sw_verify.specs.Stops.{IsBarredAt}
 use Rattle.sw_verify.specs.declared.refusal.Refusal.{Refusal}

@@ -8,5 +8,5 @@ invariant-loop-i l = record {
   readings : l.counts.readings + tally is_read (drop l.i l.steps) l.turns l.saved.items ≡ tally is_read l.steps 1 [];
   limited : AreLimited (drop l.i l.steps) l.turns l.saved.items;
   turns : Limited l.turns;
-  most : (l.counts.bound ≤ l.i * 1000000000000000) × (l.counts.readings ≤ l.i * 1000000000000000);
+  most : (l.counts.bound ≤ l.i * 100000000000000000000) × (l.counts.readings ≤ l.i * 100000000000000000000);
 }

@@ -1,11 +1,20 @@
-use Rattle.std.proofs.Common.{arith}
-use Rattle.sw_workers.specs.Closing.{IsOpen}
-use Rattle.sw_workers.proofs.Ejected.{all-put, of-some}
+use Rattle.std.proofs.Common.{◌≡◌, ◌++◌, [], ◌∷◌, length, arith}
+use Rattle.sw_base.specs.Limits.{most_slots}
+use Rattle.sw_cage.specs.Accounts.{all_open}
+use Rattle.sw_workers.proofs.Ejected.{good_slots, one_out}
 use Rattle.sw_workers.proofs.closing.take_cards.Goals as goal
 
 pub loop-before-preserved : goal.loop-before-preserved
-loop-before-preserved g c = (
-  all-put (λ card. IsOpen card.1) _ _ _ _ c.loop-before.invariant.0 (of-some (λ card. IsOpen card.1) _ _ c.in-Some.is c.take_out.ensures) c.push.ensures.items,
-  omega (arith, c.push.ensures.upper_bound, c.loop-before.invariant.1),
-  omega (arith, c.push.ensures.capacity, c.loop-before.invariant.2),
-)
+loop-before-preserved g c =
+    let i = c.loop-before.invariant in
+    let t = c.take_out-card.ensures in
+    let slots : length (all_open c.loop-before.held.panel.cage.cards) ≡ most_slots = good_slots c.loop-before.held.panel i.good in
+    let put : c.push.new.self.items ≡ c.loop-before.cards.items ++ c.take_out-card.result ∷ [] = rw c.unwrap.ensures at c.push.ensures.items in
+    record {
+      so_far = one_out c.loop-before.cards.items c.push.new.self.items c.take_out-card.result c.loop-before.before
+          (all_open c.loop-before.held.panel.cage.cards) (all_open c.take_out-card.new.held.panel.cage.cards) (all_open c.args.held.now.panel.cage.cards)
+          i.so_far t.card t.others (omega (arith, slots, c.loop-before-test.true)) put;
+      good = t.good;
+      count = omega (arith, c.push.ensures.upper_bound, i.count);
+      room = omega (arith, c.push.ensures.capacity, i.room);
+    }

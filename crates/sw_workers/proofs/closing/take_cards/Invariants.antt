@@ -1,8 +1,15 @@
-use Rattle.std.proofs.Common.{◌≤◌, vec_len, All}
+use Rattle.std.proofs.Common.{◌≡◌, ◌≤◌, ◌++◌, drop, vec_len}
 use Rattle.std.specs.Vec.{vec_capacity}
 use Rattle.sw_base.specs.Limits.{most_slots}
-use Rattle.sw_workers.specs.Closing.{IsOpen}
+use Rattle.sw_cage.specs.Accounts.{accounts_of, all_open}
+use Rattle.sw_core.specs.Good.{IsGoodPanel}
 use Rattle.sw_workers.proofs.closing.take_cards.Given as goal
 
+-- the cards so far, and those of the slots still to come, are those of all slots
 abbrev pub invariant-loop-before : goal.invariant-loop-before
-invariant-loop-before g l = All (λ card. IsOpen card.1) l.cards.items × (vec_len l.cards ≤ l.before) × (most_slots ≤ vec_capacity l.cards)
+invariant-loop-before g l = record {
+  so_far : accounts_of l.cards.items ++ drop l.before (all_open l.held.panel.cage.cards) ≡ all_open l.fn.held.panel.cage.cards;
+  good : IsGoodPanel l.held.panel;
+  count : vec_len l.cards ≤ l.before;
+  room : most_slots ≤ vec_capacity l.cards;
+}

@@ -1,5 +1,33 @@
-use Rattle.sw_workers.proofs.Ejected.{comes-open}
+use Rattle.std.proofs.Common.{sym, ap, ◌∙◌}
+use Rattle.sw_core.specs.declared.ask.Answer.{Answer}
+use Rattle.sw_core.specs.Seen.{AskEject, answer_seen, failed_in}
+use Rattle.sw_workers.proofs.Ejected.{ejected, Leaves, step_ejects, not_ejected}
 use Rattle.sw_workers.proofs.closing.take_out.Goals as goal
 
 pub returns-in-Ejected : goal.returns-in-Ejected
-returns-in-Ejected g c = comes-open _ _ c.act-answer.result.0 _ _ _ c.in-Ejected.is c.act-answer.ensures
+returns-in-Ejected g c =
+    let p = c.args.held.now.panel in
+    let q = c.ask.new.self.panel in
+    let ask = AskEject c.args.slot in
+    let answer = answer_seen c.ask.result in
+    let failed = failed_in ask answer p.cage.cards q.cage.cards in
+    let l : Leaves p.cage c.args.slot answer q.cage = step_ejects p c.args.slot failed answer q c.requires.slot c.requires.good c.ask.ensures.step in
+    record {
+      good = c.mainframe_stays_good.ensures.step p q ask failed answer c.requires.good c.ask.ensures.step;
+      card = sym (ap (λ (x : Answer _ _). ejected (answer_seen x)) c.in-Ejected.is) ∙ l.card;
+      others = l.others;
+    }
+
+pub returns : goal.returns
+returns g c =
+    let p = c.args.held.now.panel in
+    let q = c.ask.new.self.panel in
+    let ask = AskEject c.args.slot in
+    let answer = answer_seen c.ask.result in
+    let failed = failed_in ask answer p.cage.cards q.cage.cards in
+    let l : Leaves p.cage c.args.slot answer q.cage = step_ejects p c.args.slot failed answer q c.requires.slot c.requires.good c.ask.ensures.step in
+    record {
+      good = c.mainframe_stays_good.ensures.step p q ask failed answer c.requires.good c.ask.ensures.step;
+      card = sym (not_ejected c.ask.result c.in_default.not-Ejected) ∙ l.card;
+      others = l.others;
+    }

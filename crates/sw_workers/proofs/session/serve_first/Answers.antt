@@ -1,6 +1,9 @@
 use Rattle.std.proofs.Common.{None}
-use Rattle.sw_workers.proofs.Serving.{serves-as}
+use Rattle.sw_workers.proofs.Serving.{failed-or-refused}
 use Rattle.sw_workers.proofs.session.serve_first.Goals as goal
 
 pub returns-clause-serves : goal.returns-clause-serves
-returns-clause-serves g c = (None, None, serves-as g.D.Desk.passes _ _ _ _ _ _ _ _ (λ m. m.1.1) (λ bs p. p) c.serve_sync_for-result.ensures.serves)
+returns-clause-serves g c = (None, None, c.serve_sync_for-result.ensures.serves)
+
+pub returns-clause-write : goal.returns-clause-write
+returns-clause-write g c = λ e. failed-or-refused g.O.Sink.failed _ (c.serve_sync_for-result.ensures.write e)

@@ -4,7 +4,7 @@ use Rattle.sw_trigger.specs.Agenda.{agenda}
 use Rattle.sw_code.specs.declared.code.Step.{Step}
 use Rattle.sw_code.specs.Code.{Unfolds}
 use Rattle.sw_code.specs.Compiled.{compiled}
-use Rattle.sw_code.specs.Pace.{IsPaced}
+use Rattle.sw_code.specs.Pace.{most_counting, IsPaced}
 use Rattle.sw_code.specs.Range.{Program}
 use Rattle.sw_code.proofs.Compiled.{compiled_unfolds}
 use Rattle.sw_code.proofs.Pacing.{compiled_paced}
@@ -17,7 +17,7 @@ pub first-way-requires-clause-paced : goal.first-way-requires-clause-paced
 first-way-requires-clause-paced c =
     let s = c.args.settings in
     let same : c.steps.result.now ≡ (compiled s).steps = c.steps.ensures.steps ∙ ap (λ (p : Program). p.steps) c.requires.code in
-    subst (λ (l : List Step). IsPaced l 6) (sym same) (compiled_paced s c.requires.listed c.requires.range)
+    subst (λ (l : List Step). IsPaced l 8) (sym same) (compiled_paced s c.requires.listed c.requires.range)
 
 pub invariant_of-scan : goal.invariant_of-scan
 invariant_of-scan c =
@@ -31,7 +31,7 @@ invariant_of-scan c =
     record {
       listed = c.requires.listed;
       range = c.requires.range;
-      paced = subst (λ (p : Program). IsPaced p.steps 6) (sym c.requires.code) (compiled_paced s c.requires.listed c.requires.range);
+      paced = subst (λ (p : Program). IsPaced p.steps most_counting) (sym c.requires.code) (compiled_paced s c.requires.listed c.requires.range);
       does = subst (λ (k : List Step). Does k way.at (drop c.count-index.result (agenda s))) c.steps.ensures.steps
           (subst (Does c.steps.result.now way.at) (sym (ap (λ n. drop n (agenda s)) e ∙ rest_there s 0 way.moves l.rest l.lead l.split)) l.does);
       rests = subst (λ (k : List Step). IsResting (slice_get k way.at.step)) c.steps.ensures.steps l.rests;

@@ -12,7 +12,7 @@ settle-requires-clause-near c =
     let code = c.args.steps.now in
     let at = c.args.at in
     let e = closer (slice_get code at.step) c.in-Some.position (sym c.to_close.ensures.closes ∙ c.in-Some.is) in
-    subst (λ (p : Place). IsNear code 6 p.step) (sym c.past.ensures) (c.requires.paced.after at.step (step.Close c.in-Some.position) e)
+    subst (λ (p : Place). IsNear code 8 p.step) (sym c.past.ensures) (c.requires.paced.after at.step (step.Close c.in-Some.position) e)
 
 pub returns-in-Some-clause-way : goal.returns-in-Some-clause-way
 returns-in-Some-clause-way c = λ items d v.

@@ -11,7 +11,7 @@ pub settle-after-requires-clause-near : goal.settle-after-requires-clause-near
 settle-after-requires-clause-near c =
     let at = c.args.at in
     let e = opener (slice_get c.args.steps.now at.step) c.in-Some.position (sym c.to_open.ensures.opens ∙ c.in-Some.is) in
-    subst (λ (p : Place). IsNear c.args.steps.now 6 p.step) (sym c.past.ensures) (c.requires.paced.after at.step (step.Open c.in-Some.position) e)
+    subst (λ (p : Place). IsNear c.args.steps.now 8 p.step) (sym c.past.ensures) (c.requires.paced.after at.step (step.Open c.in-Some.position) e)
 
 pub returns-in-Some : goal.returns-in-Some
 returns-in-Some c = λ items d v.

@@ -7,7 +7,7 @@ use Rattle.sw_cage.proofs.scan.steps.next.Goals as goal
 
 pub settle-at-requires-clause-near : goal.settle-at-requires-clause-near
 settle-at-requires-clause-near c =
-    subst (λ (p : Place). IsNear c.args.steps.now 6 p.step) (sym c.past.ensures) (near_past c.args.steps.now c.args.at 6 c.requires.paced c.requires.rests
+    subst (λ (p : Place). IsNear c.args.steps.now 8 p.step) (sym c.past.ensures) (near_past c.args.steps.now c.args.at 8 c.requires.paced c.requires.rests
     c.requires.awaits.0 c.requires.awaits.1 c.requires.awaits.2)
 
 pub returns : goal.returns

@@ -1,28 +1,30 @@
 use Rattle.std.proofs.Common.{rules, false, Ok, sym, ◌∙◌}
 use Rattle.sw_session.specs.declared.servers.turns.Came.TheVariants.{End, Bytes, Paused}
-use Rattle.sw_session.proofs.ServeWays.{listens-is}
+use Rattle.sw_session.proofs.ServeWays.{listens-is, counts-is}
 use Rattle.sw_session.proofs.ServeTurns.{judged-ok, concluded-read, concluded-write, each-unread, all-unread, listens-unwritten, turn-err, turn-end}
 use Rattle.sw_session.proofs.ServeTurns.{turn-paused, turn-bytes}
 use Rattle.sw_session.proofs.servers.turns.take_turn.Goals as goal
 
 pub returns-in-Err-clause-turn : goal.returns-in-Err-clause-turn
-returns-in-Err-clause-turn g c = turn-err _ _ _ _ _ _ c.in-Err.fault c.requires c.in-Err.ensures.listens
+returns-in-Err-clause-turn g c = turn-err _ _ _ _ _ _ _ _ c.in-Err.fault c.requires c.in-Err.ensures.listens c.in-Err.ensures.pauses
 
 pub returns-in-Ok-End-clause-turn : goal.returns-in-Ok-End-clause-turn
 returns-in-Ok-End-clause-turn g c =
-    turn-end _ _ _ _ _ _ c.requires (listens-is _ _ _ _ c.listen.result (Ok End) (search rules) c.listen.ensures.listens)
+    turn-end _ _ _ _ _ _ _ _ c.requires (listens-is _ _ _ _ c.listen.result (Ok End) (search rules) c.listen.ensures.listens)
+    (counts-is _ _ c.listen.result (Ok End) (search rules) c.listen.ensures.pauses)
 
 pub returns-in-Ok-Paused-clause-turn : goal.returns-in-Ok-Paused-clause-turn
 returns-in-Ok-Paused-clause-turn g c =
     rw c.conclude.ensures (turn-paused _ c.args.decoder.now.pending c.listen.new.decoder.pending _ _ c.attend.result
-    (c.listen.new.reader, c.listen.ensures.paused (search rules)) c.requires
+    (counts-is _ _ c.listen.result (Ok Paused) (search rules) c.listen.ensures.pauses) c.requires
     (listens-is _ _ _ _ c.listen.result (Ok Paused) (search rules) c.listen.ensures.listens) c.attend.ensures.heard
     (judged-ok false c.attend.result c.attend.ensures.judged))
 
 pub returns-in-Ok-Bytes-clause-turn : goal.returns-in-Ok-Bytes-clause-turn
 returns-in-Ok-Bytes-clause-turn g c =
     rw c.conclude-in-Ok-Bytes.ensures (turn-bytes _ c.args.decoder.now.pending c.listen.new.decoder.pending _ _ _ c.hear_all.result
-    (listens-is _ _ _ _ c.listen.result (Ok Bytes) (search rules) c.listen.ensures.listens) c.hear_all.ensures.heard)
+    (listens-is _ _ _ _ c.listen.result (Ok Bytes) (search rules) c.listen.ensures.listens)
+    (counts-is _ _ c.listen.result (Ok Bytes) (search rules) c.listen.ensures.pauses) c.hear_all.ensures.heard)
 
 pub returns-in-Err-clause-write : goal.returns-in-Err-clause-write
 returns-in-Err-clause-write g c = λ e. absurd (listens-unwritten _ _ _ _ c.in-Err.fault c.in-Err.ensures.listens (cc (e)))

@@ -1,11 +1,11 @@
-use Rattle.std.proofs.Common.{rules, ◌≡◌, true, false, List, sym, subst, ◌∙◌}
+use Rattle.std.proofs.Common.{rules, ◌≡◌, true, false, List, sym, ap, subst, ◌∙◌}
 use Rattle.sw_core.specs.Good.{IsGoodPanel}
 use Rattle.sw_core.specs.Panel.{Panel}
 use Rattle.sw_core.specs.Run.{IsNextEvent}
 use Rattle.sw_core.specs.Seen.{ask_seen, answer_seen}
 use Rattle.sw_workers.specs.Board.{Said}
 use Rattle.sw_workers.specs.Entries.{HistoryEntry}
-use Rattle.sw_workers.specs.History.{IsHistory, said_at}
+use Rattle.sw_workers.specs.History.{InHistory, IsHistory, AsksInHistory, event, said_at}
 use Rattle.sw_workers.specs.Shares.{is_event}
 use Rattle.sw_workers.proofs.Recordings.{Leads, history_event, SawEvent, asks_event, SawNone, asks_nothing}
 use Rattle.sw_workers.proofs.Unmoved.{step_unmoved}
@@ -27,6 +27,7 @@ pub returns-then-not-is_event-clause-history : goal.returns-then-not-is_event-cl
 returns-then-not-is_event-clause-history g c =
     let i = c.self.invariant in
     let quiet : is_event (answer_seen c.apply-answer.result) ≡ false = search rules in
+    let first = g.B.Recording.first in
     let same = step_unmoved _ _ _ _ _ c.apply-answer.ensures.step quiet in
     let t = c.tell.ensures in
     let asked = ask_seen c.args.ask in
@@ -44,7 +45,8 @@ returns-then-not-is_event-clause-history g c =
       own = c.apply-answer.ensures.own;
       step = c.apply-answer.ensures.step;
     } in
-    asks_nothing g.B.Recording.first c.self.inside.pass p c.args.desk.now asked answered q c.tell.new.desk i.0 next same quiet saw
+    subst (λ (x : Panel). AsksInHistory first x c.args.desk.now (event asked answered q) c.tell.new.desk) (ap (λ (l : InHistory). l.panel) c.self.view_is)
+    (asks_nothing first c.self.inside.pass p c.args.desk.now asked answered q c.tell.new.desk i.0 next same quiet saw)
 
 pub invariant_of-self-2 : goal.invariant_of-self-2
 invariant_of-self-2 g c =
@@ -79,7 +81,7 @@ invariant_of-self-2 g c =
 pub returns-clause-history : goal.returns-clause-history
 returns-clause-history g c =
     let i = c.self.invariant in
-    let event : is_event (answer_seen c.apply-answer.result) ≡ true = search rules in
+    let is : is_event (answer_seen c.apply-answer.result) ≡ true = search rules in
     let asked = ask_seen c.args.ask in
     let answered = answer_seen c.apply-answer.result in
     let q = c.apply-answer.new.self in
@@ -99,7 +101,7 @@ returns-clause-history g c =
       own = c.apply-answer.ensures.own;
       step = c.apply-answer.ensures.step;
     } in
-    let leads : Leads c.self.inside.core asked answered q = record { next = next; event = event } in
+    let leads : Leads c.self.inside.core asked answered q = record { next = next; event = is } in
     let t = c.tell_event.ensures in
     let saw : SawEvent c.self.inside.pass c.args.desk.now said c.tell_event.new.desk = record {
       later = t.seen.0;
@@ -109,5 +111,6 @@ returns-clause-history g c =
       own = t.own;
     } in
     let d = c.requires.desk in
-    asks_event g.B.Recording.first c.self.inside.pass c.self.inside.core c.args.desk.now said asked answered q c.tell_event.new.desk d.0 i.0 leads same d.1
-    saw
+    subst (λ (x : Panel). AsksInHistory g.B.Recording.first x c.args.desk.now (event asked answered q) c.tell_event.new.desk)
+    (ap (λ (l : InHistory). l.panel) c.self.view_is)
+    (asks_event g.B.Recording.first c.self.inside.pass c.self.inside.core c.args.desk.now said asked answered q c.tell_event.new.desk d.0 i.0 leads same d.1 saw)
