@@ -22,25 +22,41 @@ use Rattle.sw_core.specs.Step.{Step, StepAdmitted, IsEvent, IsUnnumbered, acts_u
 use Rattle.sw_core.specs.Step.{Admission, Dropped, ShutOut, Admitted, admission}
 use Rattle.sw_core.specs.Good.{IsGoodPanel, StaysGood}
 use Rattle.sw_core.specs.Run.{Event, IsNextEvent, IsRun, AtEach, TellsBound, tells_failure, CountsFailure, AddsOwn, IsGoodEvent, EveryRunIsGood}
-use Rattle.sw_core.specs.Ends.{begins}
+use Rattle.sw_core.specs.Ends.{begins, last_of}
+use Rattle.sw_core.specs.Sessions.{AreSeated}
 use Rattle.sw_core.proofs.Harmless.{IsFine}
 use Rattle.sw_core.proofs.Safety.{step_fine, opening_fine_at}
 use Rattle.sw_core.proofs.Settled.{IsTelling, step_settled}
 use Rattle.sw_core.proofs.Obeyed.{failed}
 use Rattle.sw_core.proofs.Moving.{move_step}
 use Rattle.sw_core.proofs.ScanRuns.{begun_step}
+use Rattle.sw_core.proofs.Seated.{opening_seated, step_seated}
+use Rattle.sw_core.proofs.Counted.{counted_told}
+use Rattle.sw_core.proofs.Keeping.{reads_step}
+use Rattle.sw_core.proofs.Missed.{missed_step}
 
 fine_of : (p : Panel) → IsGoodPanel p → IsFine p
 fine_of p g = record { cage = record { good = g.good; safe = g.safe; few = g.few }; range = g.range; settings = g.settings; status = g.status }
 
-good_of : (p : Panel) → IsFine p → IsTelling p → IsGoodPanel p
-good_of p k t = record { safe = k.cage.safe; good = k.cage.good; few = k.cage.few; range = k.range; settings = k.settings; status = k.status; condition = t }
+good_of : (p : Panel) → IsFine p → AreSeated p.sessions → IsTelling p → IsGoodPanel p
+good_of p k s t = record {
+  safe = k.cage.safe;
+  good = k.cage.good;
+  few = k.cage.few;
+  range = k.range;
+  settings = k.settings;
+  status = k.status;
+  sessions = s;
+  condition = t;
+}
 
 good_step : (p q : Panel) (ask : AskSeen) (failed : Bool) (answer : AnswerSeen) → IsGoodPanel p → Step p ask failed answer q → IsGoodPanel q
-good_step p q ask failed answer g h = good_of q (step_fine p ask failed answer q (fine_of p g) h) (step_settled p ask failed answer q g.condition h)
+good_step p q ask failed answer g h =
+    good_of q (step_fine p ask failed answer q (fine_of p g) h) (step_seated p ask failed answer q g.sessions h)
+    (step_settled p ask failed answer q g.condition h)
 
-good_opening : (events scans : ℕ) → IsGoodPanel (opening_at events scans)
-good_opening events scans = good_of (opening_at events scans) (opening_fine_at events scans) refl
+pub good_opening : (events scans : ℕ) → IsGoodPanel (opening_at events scans)
+good_opening events scans = good_of (opening_at events scans) (opening_fine_at events scans) (opening_seated events scans) refl
 
 pub stays_good : StaysGood
 stays_good = record { opening = good_opening; step = good_step }
@@ -127,12 +143,19 @@ good_event p e g n =
       panel = after;
       bound = tells_bound p e f after n.step;
       failure = λ t. has_failed e.ask e.answer p.cage.cards e.panel.cage.cards n.own t (failed p e.panel e.ask f e.answer t n.step).0;
-      readings = adds_own p e.panel e.ask f e.answer (fine_of p g) n.own n.step;
+      told = λ x. counted_told p e.ask e.answer e.panel g.good n.step x;
+      own = adds_own p e.panel e.ask f e.answer (fine_of p g) n.own n.step;
+      readings = reads_step p e.ask f e.answer e.panel n.step;
+      missed = λ o t. missed_step p e.ask f e.answer e.panel g.good.held o n.step t;
     }
 
-good_run : (p : Panel) (events : List Event) → IsGoodPanel p → IsRun p events → AtEach IsGoodEvent p events
+pub good_run : (p : Panel) (events : List Event) → IsGoodPanel p → IsRun p events → AtEach IsGoodEvent p events
 good_run p [] g r = tt
 good_run p (e ∷ events) g r = let h = good_event p e g r.0 in (h, good_run e.panel events h.panel r.1)
+
+pub good_last : (p : Panel) (events : List Event) → IsGoodPanel p → IsRun p events → IsGoodPanel (last_of p events)
+good_last p [] g r = g
+good_last p (e ∷ events) g r = good_last e.panel events (good_event p e g r.0).panel r.1
 
 pub every_run : EveryRunIsGood
 every_run events scans run r = good_run (opening_at events scans) run (good_opening events scans) r

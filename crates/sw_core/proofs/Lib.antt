@@ -21,5 +21,10 @@ mod Course
 mod Advancing
 mod Still
 mod Moving
+mod Keeping
+mod Seated
+mod Counted
+mod Missed
 mod ScanRuns
 mod EveryRun
+mod GoingOn

@@ -33,7 +33,8 @@ use Rattle.sw_core.specs.Step.{StepAction, session_told, StepHappens, StepSnapsh
 use Rattle.sw_core.specs.Step.{StepAdmitted, StepJoin, StepAttach, StepSession, outside_told, StepOutside, StepFinished, Acts}
 use Rattle.sw_core.specs.Step.{acts_unnumbered, IsWorn, IsEvent, IsUnnumbered, Step}
 use Rattle.sw_core.specs.Step.{Admission, Dropped, ShutOut, Admitted, admission}
-use Rattle.sw_core.specs.Ends.{left_of, went_on, was_taken, took_effect, took_command, took, begins, breaks_off}
+use Rattle.sw_core.specs.Taken.{went_on, was_taken, took_effect, took_command, took}
+use Rattle.sw_core.specs.Ends.{left_of, begins, breaks_off}
 use Rattle.sw_cage.proofs.SlotChangeLemmas.{is_none}
 use Rattle.sw_core.specs.Seen.{WorkSeen, AskSeen, AskSession, AskInstall, AskEject, AskExternal, AskElapsed, AskFinished, AnswerSeen, SaysSession}
 use Rattle.sw_core.specs.Seen.{SaysInstalled, SaysNotInstalled, SaysEjected, SaysNotEjected, SaysTaken, SaysMissed, SaysFailed, SaysBack, SaysWorn}
@@ -280,7 +281,7 @@ ejected_bare p q slot card e run is c =
     ap (λ (x : CageSeen). is_closed x.cards c) (is ∙ ap (λ (x : CageSeen). without_card x slot) fell)
     ∙ bare_slot (all_open p.cage.cards) slot c b.0 (subst (λ n. slot ≤ n) (sym (length-map p.cage.cards option_rest)) b.1) (all_open_closed p.cage.cards)
 
-stopped_readings : (c : CageSeen) → (stopped c).readings ≡ c.readings
+pub stopped_readings : (c : CageSeen) → (stopped c).readings ≡ c.readings
 stopped_readings c = by_scan (is_some c.scan)
   where
     by_scan : (b : Bool) → (if b then safe_state c else c).readings ≡ c.readings

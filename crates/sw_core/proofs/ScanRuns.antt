@@ -38,7 +38,8 @@ use Rattle.sw_trigger.proofs.Ranges.{some_bound}
 use Rattle.sw_cage.specs.Good.{IsUnderway}
 use Rattle.sw_core.specs.Seen.{failed_in}
 use Rattle.sw_core.specs.Run.{Event, IsNextEvent, IsRun}
-use Rattle.sw_core.specs.Ends.{left_at, left_of, left_in, took, taken_in, begins, BeginsNoScan, last_of, IsFollowing, breaks_off, IsComplete, IsBrokenOff}
+use Rattle.sw_core.specs.Taken.{took, readings_after}
+use Rattle.sw_core.specs.Ends.{left_at, left_of, left_in, taken_in, begins, BeginsNoScan, last_of, IsFollowing, breaks_off, IsComplete, IsBrokenOff}
 use Rattle.sw_core.specs.Ends.{IsOver}
 use Rattle.sw_core.specs.Ends.{IsEnding, BeginsScan, EveryScanEnds}
 use Rattle.sw_core.proofs.Kept.{inside}
@@ -47,6 +48,7 @@ use Rattle.sw_core.proofs.Safety.{step_fine, opening_fine_at}
 use Rattle.sw_core.proofs.Course.{leaves, leaves_goes, Holds, holds_none, holds_on}
 use Rattle.sw_core.proofs.Advancing.{left_past, left_arrives, Nears, near_is, Completed, Stopped}
 use Rattle.sw_core.proofs.Moving.{concluded_scan, move_step}
+use Rattle.sw_core.proofs.Keeping.{reads_step}
 
 -- ---- runs
 
@@ -233,16 +235,18 @@ stands plan start p taken at b h e =
 
 -- the scan is over at q
 over_by : (plan : Snapshot) (p q : Panel) (taken : ℕ) (e : Event) (at : ScanSeen) → Stands plan p taken at → IsUnderway p.cage at → e.panel ≡ q
-    → Completed p.cage at (took e.ask e.answer) q.cage ⊎ ((breaks_off e.ask e.answer ≡ true) × Stopped at q.cage) → IsOver plan taken e
-over_by plan p q taken e at s u is h =
+    → q.cage.readings ≡ readings_after e.ask e.answer p.cage.readings
+    → Completed p.cage at (took e.ask e.answer) q.cage ⊎ ((breaks_off e.ask e.answer ≡ true) × Stopped at q.cage) → IsOver plan taken p e
+over_by plan p q taken e at s u is kept h =
     let all : (n : ℕ)
     → reads (take n (agenda at.setup)) ≤ plan.settings.points =
     λ (n : ℕ). subst (λ (x : SettingsSeen). reads (take n (agenda at.setup)) ≤ x.points) s.settings (omega (arith, u.way.sound.fits, reads_part at.setup n)) in
-    subst (λ (x : Panel). IsComplete plan (taken + took e.ask e.answer) x ⊎ ((breaks_off e.ask e.answer ≡ true) × IsBrokenOff plan x)) (sym is) (by_end all h)
+    subst (λ (x : Panel). IsComplete plan (taken + took e.ask e.answer) x
+    ⊎ ((breaks_off e.ask e.answer ≡ true) × IsBrokenOff plan p e.ask e.answer x)) (sym is) (by_end all h)
   where
     by_end : ((n : ℕ) → reads (take n (agenda at.setup)) ≤ plan.settings.points) → Completed p.cage at (took e.ask e.answer) q.cage
         ⊎ ((breaks_off e.ask e.answer ≡ true) × Stopped at q.cage)
-        → IsComplete plan (taken + took e.ask e.answer) q ⊎ ((breaks_off e.ask e.answer ≡ true) × IsBrokenOff plan q)
+        → IsComplete plan (taken + took e.ask e.answer) q ⊎ ((breaks_off e.ask e.answer ≡ true) × IsBrokenOff plan p e.ask e.answer q)
     by_end all (inl h) = inl (record {
       closed = λ c. ap (λ (m : Channels). m c) (h.closed ∙ s.leaves_it);
       taken = omega (arith, h.one, h.last, s.taken_left);
@@ -253,8 +257,7 @@ over_by plan p q taken e at s u is h =
       h.0,
       record {
         none = h.1.none;
-        items = h.1.items;
-        readings = h.1.readings ∙ ap (λ (x : SettingsSeen). reads (take h.1.items (agenda x))) s.settings;
+        readings = kept;
         room = omega (arith, h.1.readings, all h.1.items);
       },
     )
@@ -288,7 +291,7 @@ along plan start after fine b none run =
 
 ends : (plan : Snapshot) (start : Panel) (between : List Event) (e : Event) → IsFine start → Begun plan start.cage → BeginsNoScan (between ++ e ∷ [])
     → IsRun start (between ++ e ∷ [])
-    → is_running (last_of start between) ≡ true → is_running e.panel ≡ false → IsOver plan (taken_in between) e
+    → is_running (last_of start between) ≡ true → is_running e.panel ≡ false → IsOver plan (taken_in between) (last_of start between) e
 ends plan start between e fine b none run runs idle =
     let n = cut_none between e none in
     let c = cut_run start between e run in
@@ -298,7 +301,7 @@ ends plan start between e fine b none run runs idle =
     let u : IsUnderway p.cage at.0 = underway_at p.cage p.cage.scan at.0 k.cage.good.running at.1 in
     let s = stands plan start p (taken_in between) at.0 b (near_run start between fine c.first n.0) at.1 in
     let m = move_step p e.ask _ e.answer e.panel k.cage.good.held n.1 c.next.step in
-    over_by plan p e.panel (taken_in between) e at.0 s u refl (m.ends at.0 at.1 u (none_of e.panel idle))
+    over_by plan p e.panel (taken_in between) e at.0 s u refl (reads_step p e.ask _ e.answer e.panel c.next.step) (m.ends at.0 at.1 u (none_of e.panel idle))
 
 pub every_scan : EveryScanEnds
 every_scan numbered scanned before start plan run b =

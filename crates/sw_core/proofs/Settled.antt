@@ -49,7 +49,7 @@ telling_as p q e k = subst (λ (x : Panel). IsTelling x) (sym e) k
 -- ---- what is no event
 
 -- an answer that ends no event
-abbrev IsSilent : SessionAnswer → Type 0
+abbrev pub IsSilent : SessionAnswer → Type 0
 IsSilent Stranger = Unit {0}
 IsSilent Broken = Unit {0}
 IsSilent (Hold ask) = Unit {0}

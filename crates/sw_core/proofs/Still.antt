@@ -24,7 +24,8 @@ use Rattle.sw_core.specs.Panel.{Panel, is_running}
 use Rattle.sw_core.specs.Action.{Effect, TellsNumber, TellsText, TellsReadings, ReadsOut, SetsStatus, SetsUp, ClosesListed, OpensListed, TellsRelays, Changes}
 use Rattle.sw_core.specs.Action.{Resets, reset, Offers, RefusesWith, IsOfMacros, Initiates, Action, AtOnce, BetweenScans, AfterScan, action_of}
 use Rattle.sw_core.specs.Step.{StepClose, StepOpen, StepFlags, StepText, StepDone, StepSetting, StepRefused, StepReadings, StepAlone}
-use Rattle.sw_core.specs.Ends.{went_on, breaks_off}
+use Rattle.sw_core.specs.Taken.{went_on}
+use Rattle.sw_core.specs.Ends.{breaks_off}
 use Rattle.sw_core.specs.Seen.{AskSeen, AskSession, AnswerSeen, SaysSession}
 use Rattle.sw_cage.proofs.SlotChangeLemmas.{all_open_closed}
 use Rattle.sw_core.proofs.Harmless.{none_of}

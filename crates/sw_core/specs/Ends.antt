@@ -4,7 +4,6 @@ use Rattle.std.specs.Prelude.{◌≡◌, ℕ, ◌+◌, ◌≤◌, Bool, true, fa
 use Rattle.std.specs.Prelude.{Option, None, Some, IfSome, ◌⊎◌, ◌||◌}
 use Rattle.std.specs.List.{AllByRecursion}
 use Rattle.sw_base.specs.Layout.{Channel}
-use Rattle.sw_base.specs.declared.error.ScpiError.TheVariants.{HardwareError}
 use Rattle.sw_trigger.specs.Agenda.{agenda}
 use Rattle.sw_trigger.specs.Counts.{awaiting, bound_of, readings_of, reads}
 use Rattle.sw_verify.specs.declared.snapshot.Snapshot.{Snapshot}
@@ -15,12 +14,10 @@ use Rattle.sw_lex.specs.declared.command.Command.TheVariants as command
 use Rattle.sw_cage.specs.Cage.{ScanSeen}
 use Rattle.sw_core.specs.declared.ask.Sid.{Sid}
 use Rattle.sw_core.specs.declared.ask.SessionAsk.TheVariants as Ask
-use Rattle.sw_core.specs.declared.ask.SessionAnswer.{SessionAnswer}
-use Rattle.sw_core.specs.declared.ask.SessionAnswer.TheVariants.{Done, Refused}
+use Rattle.sw_core.specs.declared.ask.SessionAnswer.TheVariants.{Done}
 use Rattle.sw_core.specs.Panel.{Panel, opening_at, is_running}
-use Rattle.sw_core.specs.Seen.{AskSeen, AskSession, AskEject, AskExternal, AskElapsed, AskFinished}
-use Rattle.sw_core.specs.Seen.{AnswerSeen, SaysSession, SaysEjected, SaysTaken, SaysFailed}
-use Rattle.sw_core.specs.Action.{Effect, Offers, Action, AtOnce, BetweenScans, AfterScan, action_of}
+use Rattle.sw_core.specs.Seen.{AskSeen, AskSession, AskEject, AnswerSeen, SaysSession, SaysEjected}
+use Rattle.sw_core.specs.Taken.{took, readings_after}
 use Rattle.sw_core.specs.Run.{Event, IsRun, tells_failure}
 
 -- how many items of its agenda a scan still awaits, the present one included; none, where none runs
@@ -33,36 +30,6 @@ left_of (Some at) = left_at at
 
 abbrev pub left_in : Panel → ℕ
 left_in p = left_of p.cage.scan
-
--- 1 for what is answered where the scan took it: done, or a card failed on the way
-abbrev pub went_on : SessionAnswer → ℕ
-went_on (Done text) = 1
-went_on (Refused HardwareError) = 1
-went_on answer = 0
-
-abbrev pub was_taken : AnswerSeen → ℕ
-was_taken (SaysTaken work) = 1
-was_taken SaysFailed = 1
-was_taken answer = 0
-
-abbrev pub took_effect : Effect → SessionAnswer → ℕ
-took_effect (Offers happening error) answer = went_on answer
-took_effect effect answer = 0
-
-abbrev pub took_command : Action → SessionAnswer → ℕ
-took_command (AtOnce effect) answer = took_effect effect answer
-took_command (BetweenScans effect) answer = took_effect effect answer
-took_command (AfterScan effect) answer = took_effect effect answer
-
--- 1 for a trigger, the end of a pause, or a meter's return that a scan took
-abbrev pub took : AskSeen → AnswerSeen → ℕ
-took (AskSession (Ask.Unit sid unit available)) (SaysSession answer work) =
-    took_command (action_of available unit) answer
-took (AskSession (Ask.Bus sid)) (SaysSession answer work) = went_on answer
-took AskExternal answer = was_taken answer
-took (AskElapsed ticket) answer = was_taken answer
-took (AskFinished done) answer = was_taken answer
-took ask answer = 0
 
 -- how many of these events are taken
 abbrev pub taken_in : List Event → ℕ
@@ -113,22 +80,20 @@ pub record IsComplete (plan : Snapshot) (count : ℕ) (p : Panel) : Type 0 where
   -- there was room for them
   pub room : length p.cage.readings ≤ plan.settings.points
 
--- The scan of a plan was ended before.
-pub record IsBrokenOff (plan : Snapshot) (p : Panel) : Type 0 where
+-- The scan of a plan was ended before, by this ask: it ran at p, and none runs at q.
+pub record IsBrokenOff (plan : Snapshot) (p : Panel) (ask : AskSeen) (answer : AnswerSeen) (q : Panel) : Type 0 where
   -- no relay of any slot is closed
-  pub none : (c : Channel) → is_closed p.cage.cards c ≡ false
-  -- so many items of its agenda it has done
-  pub items : ℕ
-  -- its readings are those of these items; *RST drops them
-  pub readings : length p.cage.readings ≡ reads (take items (agenda plan.settings))
+  pub none : (c : Channel) → is_closed q.cage.cards c ≡ false
+  -- its readings are those that it had made, and that of the meter which came back; *RST drops them
+  pub readings : q.cage.readings ≡ readings_after ask answer p.cage.readings
   -- there was room for them
-  pub room : length p.cage.readings ≤ plan.settings.points
+  pub room : length q.cage.readings ≤ plan.settings.points
 
 -- The scan of a plan runs before this event, and none runs after it: then it is complete, or one of four things ended
 -- it and it is broken off. Nothing else ends a scan.
-abbrev pub IsOver : Snapshot → ℕ → Event → Type 0
-IsOver plan taken e = IsComplete plan (taken + took e.ask e.answer) e.panel
-    ⊎ ((breaks_off e.ask e.answer ≡ true) × IsBrokenOff plan e.panel)
+abbrev pub IsOver : Snapshot → ℕ → Panel → Event → Type 0
+IsOver plan taken p e = IsComplete plan (taken + took e.ask e.answer) e.panel
+    ⊎ ((breaks_off e.ask e.answer ≡ true) × IsBrokenOff plan p e.ask e.answer e.panel)
 
 -- A scan has begun by the plan in the event before these, and none has since: while it runs it has done a prefix of its
 -- plan's agenda; it took no more happenings than its plan's bound; what it took and what it still awaits make up the
@@ -155,7 +120,8 @@ pub record ScanEnds (plan : Snapshot) (start : Event) : Type 0 where
   -- where it is over
   pub ends : (between : List Event) (e : Event) → BeginsNoScan (between ++ e ∷ [])
       → IsRun start.panel (between ++ e ∷ [])
-      → is_running (last_of start.panel between) ≡ true → is_running e.panel ≡ false → IsOver plan (taken_in between) e
+      → is_running (last_of start.panel between) ≡ true → is_running e.panel ≡ false
+      → IsOver plan (taken_in between) (last_of start.panel between) e
 
 -- in every run
 abbrev pub EveryScanEnds : Type 0

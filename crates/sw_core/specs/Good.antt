@@ -8,6 +8,7 @@ use Rattle.sw_status.specs.StatusModel.{IsStatus}
 use Rattle.sw_cage.specs.Accounts.{Accounts}
 use Rattle.sw_cage.specs.Takes.{awaited_now}
 use Rattle.sw_cage.specs.Good.{IsGood}
+use Rattle.sw_core.specs.Sessions.{AreSeated}
 use Rattle.sw_core.specs.Event.{awaited_bits}
 use Rattle.sw_core.specs.Panel.{Panel, opening_at, IsSafe}
 use Rattle.sw_core.specs.Seen.{AskSeen, AnswerSeen}
@@ -36,6 +37,8 @@ pub record IsGoodPanel (p : Panel) : Type 0 where
   pub settings : IfSome p.cage.scan (λ at. at.setup ≡ p.settings)
   -- the status is within its limits: the queue holds 32 errors at most
   pub status : IsStatus p.status
+  -- the locks are in order, and whoever holds one is joined
+  pub sessions : AreSeated p.sessions
   -- OPERation's condition tells what the scan awaits, nothing where none runs
   pub condition : p.status.operation.condition ≡ awaited_bits (awaited_now p.cage.scan)
 

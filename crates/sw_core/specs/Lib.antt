@@ -8,5 +8,7 @@ pub mod Event
 pub mod Action
 pub mod Step
 pub mod Good
+pub mod Taken
 pub mod Run
 pub mod Ends
+pub mod Opening

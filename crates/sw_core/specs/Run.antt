@@ -1,6 +1,6 @@
 -- Runs: lists of events from the opening state, and what none of them can do.
 use Rattle.std.specs.Prelude.{◌≡◌, ◌≢◌, ℕ, Bool, true, false, List, [], ◌∷◌, ◌++◌, Some, None, ◌⊎◌, decimal}
-use Rattle.std.specs.Prelude.{Option, map}
+use Rattle.std.specs.Prelude.{Option, map, is_err}
 use Rattle.sw_base.specs.Layout.{Channel}
 use Rattle.sw_base.specs.declared.error.ScpiError.{ScpiError}
 use Rattle.sw_base.specs.declared.error.ScpiError.TheVariants.{HardwareError, OutOfMemory}
@@ -11,6 +11,7 @@ use Rattle.sw_verify.specs.Channels.{is_among}
 use Rattle.sw_cage.specs.Accounts.{Accounts, is_closed}
 use Rattle.sw_cage.specs.Cage.{ScanSeen}
 use Rattle.sw_cage.specs.Change.{any_failed}
+use Rattle.sw_cage.specs.Takes.{TakesReturn}
 use Rattle.sw_lex.specs.declared.command.Command.{Command}
 use Rattle.sw_lex.specs.declared.command.Command.TheVariants as command
 use Rattle.sw_core.specs.declared.ask.Sid.{Sid}
@@ -22,6 +23,7 @@ use Rattle.sw_core.specs.Good.{IsGoodPanel}
 use Rattle.sw_core.specs.Panel.{Panel, opening_at, is_running}
 use Rattle.sw_core.specs.Seen.{AskSeen, AskSession, AskEject, AskFinished, AnswerSeen, SaysSession, SaysEjected}
 use Rattle.sw_core.specs.Seen.{SaysFailed, failed_in, IsOwnAccount, with_meter}
+use Rattle.sw_core.specs.Taken.{took, is_happening, readings_after, IsUnmoved}
 use Rattle.sw_core.specs.Seats.{FindsKey}
 use Rattle.sw_core.specs.Step.{Step}
 
@@ -73,6 +75,23 @@ IsLastOf ask r = ⊥
 abbrev pub AddsOwn : AskSeen → List Reading → List Reading → Type 0
 AddsOwn ask old new = (new ≡ old) ⊎ ((new ≡ []) ⊎ ((r : Reading) × IsLastOf ask r × (new ≡ old ++ r ∷ [])))
 
+-- the meter that the scan awaits came back, and had measured in vain
+abbrev pub MeasuresInVain : Panel → AskSeen → Type 0
+MeasuresInVain p (AskFinished done) =
+    TakesReturn p.cage done.slot done.ticket × (is_err done.outcome ≡ true)
+MeasuresInVain p ask = ⊥
+
+-- a card failed: one that stayed in its slot counts other failures than before, or the scan's meter measured in vain
+abbrev pub HasFailure : Panel → AskSeen → Panel → Type 0
+HasFailure p ask q = (any_failed p.cage.cards q.cage.cards ≡ true) ⊎ MeasuresInVain p ask
+
+-- no scan runs, every relay is open, -240 is queued behind the errors before it, and QUEStionable tells of a failure
+pub record IsAfterCardFault (p q : Panel) : Type 0 where
+  pub none : (c : Channel) → is_closed q.cage.cards c ≡ false
+  pub idle : q.cage.scan ≡ None
+  pub told : q.status.errors ≡ queued p.status.errors HardwareError
+  pub condition : q.status.questionable.condition ≡ 512
+
 -- what is so of each event
 pub record IsGoodEvent (p : Panel) (e : Event) : Type 0 where
   -- it leaves the mainframe good
@@ -81,20 +100,19 @@ pub record IsGoodEvent (p : Panel) (e : Event) : Type 0 where
   pub bound : TellsBound e
   -- no failure is told where none was counted
   pub failure : tells_failure e.answer ≡ true → CountsFailure e.ask p.cage.cards e.panel.cage.cards
+  -- and none is kept silent: it is told, every relay is open and no scan runs
+  pub told : HasFailure p e.ask e.panel → (tells_failure e.answer ≡ true) × IsAfterCardFault p e.panel
   -- no reading is made up
-  pub readings : AddsOwn e.ask p.cage.readings e.panel.cage.readings
+  pub own : AddsOwn e.ask p.cage.readings e.panel.cage.readings
+  -- and none is lost but by *RST and where a scan begins
+  pub readings : e.panel.cage.readings ≡ readings_after e.ask e.answer p.cage.readings
+  -- what the scan does not take moves nothing
+  pub missed : is_happening e.ask ≡ true → took e.ask e.answer ≡ 0 → IsUnmoved p e.panel
 
 -- in every run, whatever the numbers of events and scans begin with
 abbrev pub EveryRunIsGood : Type 0
 EveryRunIsGood = (numbered scanned : ℕ) (events : List Event)
     → IsRun (opening_at numbered scanned) events → AtEach IsGoodEvent (opening_at numbered scanned) events
-
--- no scan runs, every relay is open, -240 is queued behind the errors before it, and QUEStionable tells of a failure
-pub record IsAfterCardFault (p q : Panel) : Type 0 where
-  pub none : (c : Channel) → is_closed q.cage.cards c ≡ false
-  pub idle : q.cage.scan ≡ None
-  pub told : q.status.errors ≡ queued p.status.errors HardwareError
-  pub condition : q.status.questionable.condition ≡ 512
 
 -- no scan runs, and every relay of every slot is open
 pub record IsAtRest (q : Panel) : Type 0 where

@@ -1,8 +1,10 @@
 -- Which sessions are joined, and which locks they hold.
-use Rattle.std.specs.Prelude.{◌≡◌, ◌≢◌, ℕ, ◌-◌, ◌≤◌, ◌<◌, Bool, false, List, Option, None, Some, replicate, slice_set}
+use Rattle.std.specs.Prelude.{◌≡◌, ◌≢◌, ℕ, ◌-◌, ◌≤◌, ◌<◌, Bool, true, false, List, length, Option, None, Some}
+use Rattle.std.specs.Prelude.{is_some, replicate, slice_set}
 use Rattle.sw_base.specs.Layout.{slot_at}
 use Rattle.sw_base.specs.Limits.{most_bytes, most_sessions}
-use Rattle.sw_hislip.specs.LockTable.{LockTable, no_locks}
+use Rattle.sw_hislip.specs.LockTable.{LockTable, no_locks, holds}
+use Rattle.sw_hislip.specs.LockRules.{IsSession, IsOrderly}
 use Rattle.sw_core.specs.declared.ask.Sid.{Sid}
 use Rattle.sw_core.specs.declared.sessions.Seat.{Seat}
 
@@ -47,3 +49,13 @@ pub record IsLeastFree (s : SessionsSeen) (number : ℕ) : Type 0 where
   pub last : number ≤ most_sessions
   pub free : slot_at s.seats number ≡ None
   pub below : (k : ℕ) → 1 ≤ k → k < number → slot_at s.seats k ≢ None
+
+-- What is so of the sessions at all times: the locks are in order, and whoever holds one is joined.
+pub record AreSeated (s : SessionsSeen) : Type 0 where
+  -- there is a seat for each session number
+  pub seats : length s.seats ≡ most_sessions
+  -- all that share a lock have one key, and beside the exclusive lock only those share one with whom its holder does
+  pub locks : IsOrderly s.locks
+  -- whoever holds the exclusive lock or shares one has a seat
+  pub joined : (number : ℕ) → IsSession number → holds s.locks number ≡ true
+      → is_some (slot_at s.seats number) ≡ true

@@ -3,16 +3,19 @@
 ghost use Rattle.sw_core.specs.Good.{StaysGood};
 ghost use Rattle.sw_core.specs.Run.{EveryRunIsGood, RelaysObey, StepIsDetermined};
 ghost use Rattle.sw_core.specs.Ends.{EveryScanEnds};
+ghost use Rattle.sw_core.specs.Opening.{RunsGoOn};
 
 /// A mainframe begins good and stays good, whatever went before: no absent channel is closed and no two closed channels
 /// clash, a scan that runs goes by the settings and has done a prefix of its agenda, which is sound, the queue holds 32
-/// errors at most, and OPERation tells what the scan awaits.
+/// errors at most, OPERation tells what the scan awaits, the locks are in order, and whoever holds one is joined.
 pub fn mainframe_stays_good()
     ensures { StaysGood }
 {}
 
-/// Each event of every run leaves the mainframe good. The bound that is told is that of the scan that runs; no card's
-/// failure is told where none was counted; and a reading that is added is the last one of the meter that came back.
+/// Each event of every run leaves the mainframe good. The bound that is told is that of the scan that runs. A card's
+/// failure is told where one was counted, and then every relay is open and no scan runs, and it is told nowhere else.
+/// A reading that is added is the last one of the meter that came back; none is lost but by a reset and where a scan
+/// begins. A happening that no scan takes leaves the scan, its readings and every relay as they were.
 pub fn every_run_is_good()
     ensures { EveryRunIsGood }
 {}
@@ -34,7 +37,14 @@ pub fn step_is_determined()
 /// readings of that prefix. It is over after at most as many taken triggers, ends of pauses and returns of its meter as
 /// its plan's bound says; what it took and what it still awaits make up the bound. Where it is over it is complete,
 /// with what the plan found closed and the readings of its whole agenda, or an abort, a reset, an eject or a card's
-/// failure broke it off, and every relay is open. Nothing else ends it.
+/// failure broke it off, every relay is open, and the readings are those that it had made, but for a reset. Nothing
+/// else ends it.
 pub fn every_scan_ends()
     ensures { EveryScanEnds }
+{}
+
+/// A mainframe that was made and fitted with cards, and whatever was asked of it since, is reached by a run from the
+/// opening state; so `every_run_is_good` and `every_scan_ends` hold of each run from a state that is handed on so.
+pub fn runs_go_on()
+    ensures { RunsGoOn }
 {}

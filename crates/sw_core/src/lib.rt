@@ -23,6 +23,7 @@ mod text;
 
 pub use ask::{Answer, Ask, SessionAnswer, SessionAsk, Sid, Work};
 pub use laws::{
-    every_run_is_good, every_scan_ends, mainframe_stays_good, relays_obey, step_is_determined,
+    every_run_is_good, every_scan_ends, mainframe_stays_good, relays_obey, runs_go_on,
+    step_is_determined,
 };
 pub use state::Core;

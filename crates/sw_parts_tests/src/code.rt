@@ -365,7 +365,9 @@ fn steps_that_are_none(rt: HostRuntime) {
         b"scan 1\nmeter 4\nloop 0 8192\n",
     ];
     let unknown = b"scan 1\nmeter 4\nread\nclos 1!1\n";
+    let misspelled = b"scan 1\nmeter 4\nset 0 1\nset 1 1\nset 2 1\ncloss 1!1\nhalt\n";
     assert!(rt; refuses(rt.alloc(), unknown, 4, ListFault::BadStep));
+    assert!(rt; refuses(rt.alloc(), misspelled, 6, ListFault::BadStep));
     assert!(rt; refuses_each(rt.alloc(), &words, 3, ListFault::BadStep));
     assert!(rt; refuses_each(rt.alloc(), &numbers, 3, ListFault::BadNumber));
 }

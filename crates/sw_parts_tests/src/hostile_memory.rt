@@ -13,7 +13,7 @@ use sw_status::Status;
 use sw_trigger::Settings;
 use sw_verify::{Layout, Refusal, Slot, verify};
 
-const LIST: &[u8] = b"(@1!5:1!3,8!99)";
+pub const LIST: &[u8] = b"(@1!5:1!3,8!99)";
 
 /// Whether a text is read as these channels, if there is memory.
 fn reads_list(alloc: Global, text: &[u8], wanted: &[Chan]) -> bool {
@@ -184,12 +184,12 @@ fn macros_are_right_or_lack_memory(rt: HostRuntime) {
 }
 
 /// Three passes round a list of two channels.
-const EXAMPLE: &[u8] =
+pub const EXAMPLE: &[u8] =
     b"scan 2\nmeter 4\nset 0 1\nset 1 1\nset 2 1\nset 3 1\nclose 1!1\nread\nopen 1!1\nclose 1!2\nread\n\
 open 1!2\nloop 3 4\nclose 1!1\nread\nopen 1!1\nloop 2 3\nloop 1 2\nloop 0 1\nhalt\n";
 
 /// Settings of that, if there is memory.
-fn example(alloc: Global) -> Option<Settings> {
+pub fn example(alloc: Global) -> Option<Settings> {
     let mut settings = Settings::new(alloc);
     let list = one_each(alloc, &[Chan::new(1, 1), Chan::new(1, 2)]).ok()?;
     settings.set_list(list).ok()?;
@@ -280,7 +280,7 @@ fn codes_are_right_or_lack_memory(rt: HostRuntime) {
 }
 
 /// Twenty channels of group 1 in slot 1, and a meter in slot 4.
-fn cage(alloc: Global) -> Option<Layout> {
+pub fn cage(alloc: Global) -> Option<Layout> {
     let mut slots = Vec::new(alloc);
     slots.push(Slot::relays([1; 20].to_vec(alloc).ok()?)).ok()?;
     slots.push(Slot::relays([0; 16].to_vec(alloc).ok()?)).ok()?;

@@ -69,6 +69,10 @@ fn verified_refusals(rt: HostRuntime) -> Result<(), Fail> {
             Err(Refusal::BadJump)
         )?
     );
+    let past_its_body =
+        b"scan 1\nmeter 4\nset 0 1\nset 1 1\nset 2 1\nclose 1!1\nread\nopen 1!1\nclose 1!2\nread\nopen 1!2\n\
+          loop 2 3\nclose 1!1\nread\nopen 1!1\nloop 1 3\nloop 0 1\nhalt\n";
+    assert!(rt; gives(alloc, past_its_body, Err(Refusal::BadJump))?);
     assert!(rt;
         gives(
             alloc,

@@ -24,6 +24,8 @@ mod lists;
 #[cfg(test)]
 mod positions;
 #[cfg(test)]
+mod queries;
+#[cfg(test)]
 mod recorded;
 #[cfg(test)]
 mod scans;

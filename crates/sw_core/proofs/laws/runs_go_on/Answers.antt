@@ -1,0 +1,5 @@
+use Rattle.sw_core.proofs.GoingOn.{runs_on}
+use Rattle.sw_core.proofs.laws.runs_go_on.Goals as goal
+
+pub returns : goal.returns
+returns c = runs_on

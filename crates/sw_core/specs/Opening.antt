@@ -1,0 +1,48 @@
+-- Runs that begin at a mainframe which was just made and fitted with cards, and what they have led to.
+use Rattle.std.specs.Prelude.{◌≡◌, ℕ, Bool, true, false, List, [], ◌∷◌, ◌++◌}
+use Rattle.std.specs.List.{AllByRecursion}
+use Rattle.sw_verify.specs.declared.snapshot.Snapshot.{Snapshot}
+use Rattle.sw_core.specs.Panel.{Panel, opening_at}
+use Rattle.sw_core.specs.Seen.{AskSeen, AskInstall}
+use Rattle.sw_core.specs.Good.{IsGoodPanel}
+use Rattle.sw_core.specs.Run.{Event, IsNextEvent, IsRun, AtEach, IsGoodEvent}
+use Rattle.sw_core.specs.Ends.{last_of, BeginsScan, ScanEnds}
+
+-- a card is offered to a slot
+abbrev pub is_offer : AskSeen → Bool
+is_offer (AskInstall slot card) = true
+is_offer ask = false
+
+-- A run from the opening state, whatever numbers of events and scans that began with, has led here.
+pub record IsReached (p : Panel) : Type 0 where
+  pub numbered : ℕ
+  pub scanned : ℕ
+  pub events : List Event
+  pub run : IsRun (opening_at numbered scanned) events
+  pub there : p ≡ last_of (opening_at numbered scanned) events
+
+-- A mainframe that was just made, and of which nothing was asked but that it take cards: each was taken or refused.
+pub record IsFitted (p : Panel) : Type 0 where
+  pub numbered : ℕ
+  pub scanned : ℕ
+  pub offers : List Event
+  pub only : AllByRecursion (λ e. is_offer e.ask ≡ true) offers
+  pub run : IsRun (opening_at numbered scanned) offers
+  pub there : p ≡ last_of (opening_at numbered scanned) offers
+
+-- What is handed on by whoever makes a mainframe, fits it with cards and asks of it. So the laws over runs from the
+-- opening state speak of each run from a state that was so handed on.
+pub record RunsGoOn : Type 0 where
+  -- it is fitted as it is made, and after each card that is offered then
+  pub made : (events scans : ℕ) → IsFitted (opening_at events scans)
+  pub offered : (p : Panel) (e : Event) → IsFitted p → is_offer e.ask ≡ true → IsNextEvent p e → IsFitted e.panel
+  -- one that is fitted is reached, and so is what an event or a run leads to from there
+  pub fitted : (p : Panel) → IsFitted p → IsReached p
+  pub next : (p : Panel) (e : Event) → IsReached p → IsNextEvent p e → IsReached e.panel
+  pub on : (p : Panel) (events : List Event) → IsReached p → IsRun p events → IsReached (last_of p events)
+  -- what is reached is good, and so is each event of a run from there
+  pub good : (p : Panel) → IsReached p → IsGoodPanel p
+  pub events : (p : Panel) (events : List Event) → IsReached p → IsRun p events → AtEach IsGoodEvent p events
+  -- a scan that begins in such a run does what its plan says, and ends
+  pub scans : (p : Panel) (before : List Event) (start : Event) (plan : Snapshot) → IsReached p
+      → IsRun p (before ++ start ∷ []) → BeginsScan plan start → ScanEnds plan start
