@@ -26,8 +26,7 @@ use Rattle.sw_cage.specs.Advance.{leading_moves, first_awaited, opens_of, closes
 use Rattle.sw_code.specs.declared.code.Step.{Step}
 use Rattle.sw_cage.specs.declared.scan.steps.Place.{Place}
 use Rattle.std.specs.List.{slice_get}
-use Rattle.sw_cage.specs.declared.scan.steps.Way.{Way}
-use Rattle.sw_cage.specs.Steps.{Does, IsResting, AreVisitsOn, LeadsOn, moves_of}
+use Rattle.sw_cage.specs.Steps.{Way, Does, IsResting, AreVisitsOn, LeadsOn, moves_of}
 use Rattle.sw_cage.proofs.StepLemmas.{first_of_rest}
 use Rattle.sw_cage.proofs.VisitLemmas.{visits-agenda, visits_past}
 

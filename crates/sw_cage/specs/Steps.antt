@@ -8,7 +8,6 @@ use Rattle.sw_code.specs.declared.code.Step.TheVariants as step
 use Rattle.sw_code.specs.Code.{Counters, exec}
 use Rattle.sw_cage.specs.declared.scan.steps.Place.{Place}
 use Rattle.sw_cage.specs.declared.scan.steps.Moves.{Moves}
-use Rattle.sw_cage.specs.declared.scan.steps.Way.{Way}
 use Rattle.sw_cage.specs.Advance.{opens_of, closes_of}
 
 abbrev pub counters_of : List ℕ → Counters
@@ -32,15 +31,6 @@ IsResting (Some (step.Open c)) = ⊥
 IsResting (Some (step.Loop k to)) = ⊥
 IsResting (Some step.Halt) = Unit {0}
 
--- the position that the step opens, and that which it closes
-abbrev pub opened_by : Option Step → Option Position
-opened_by (Some (step.Open c)) = Some c
-opened_by _ = None
-
-abbrev pub closed_by : Option Step → Option Position
-closed_by (Some (step.Close c)) = Some c
-closed_by _ = None
-
 -- what is closed is opened after one awaiting item
 abbrev pub AreVisits : List Item → Type 0
 AreVisits [] = Unit {0}
@@ -59,6 +49,21 @@ AreVisitsOn (Open c ∷ items) = AreVisits items
 -- the moves as items: first what opens, then what closes
 abbrev pub moves_of : Moves → List Item
 moves_of moves = opens_of moves.to_open ++ closes_of moves.to_close
+
+-- a way in the code: what is done on it, and where it ends
+pub record Way : Type 0 where
+  pub moves : Moves
+  pub at : Place
+
+abbrev pub way_of : Moves → Place → Way
+way_of moves at = record { moves = moves; at = at }
+
+-- of these items the first may be an opening, of this position, and the rest, which are visits, are done from the place on
+pub record Opens (code : List Step) (items : List Item) (opened : Option Position) (at : Place) : Type 0 where
+  pub rest : List Item
+  pub split : items ≡ opens_of opened ++ rest
+  pub does : Does code at rest
+  pub visits : AreVisits rest
 
 -- of these items the moves are done, and the rest from a step on that awaits, or is the end
 pub record LeadsOn (code : List Step) (items : List Item) (way : Way) : Type 0 where

@@ -28,6 +28,7 @@ use sw_channel::Position;
 use sw_trigger::Awaited;
 
 /// Goes past what the scan awaits, and on to the next that it awaits. A scan that is over leaves `None`.
+#[inline(always)]
 pub(crate) fn go_past<R: Relay, M: Meter>(
     slots: &mut Slots<R, M>,
     out: &mut Tickets,
@@ -52,6 +53,7 @@ pub(crate) fn go_past<R: Relay, M: Meter>(
 
 /// Makes the moves, and tells what the scan awaits now that it has come there. After a fault every relay is open. A
 /// scan that is over leaves `None`.
+#[inline(always)]
 pub(crate) fn go_on<R: Relay, M: Meter>(
     slots: &mut Slots<R, M>,
     out: &mut Tickets,
@@ -79,6 +81,7 @@ pub(crate) fn go_on<R: Relay, M: Meter>(
 }
 
 /// Opens, and then closes.
+#[inline(always)]
 fn make_moves<R: Relay, M: Meter>(slots: &mut Slots<R, M>, moves: Moves) -> Result<(), CardFault>
     requires { MayMove (layout_of slots.old) (is_closed slots.old) moves.to_open moves.to_close }
     ensures ok { OnOk result (Moved slots.old (moves_of moves) slots.new) }
@@ -166,6 +169,7 @@ fn close_one<R: Relay, M: Meter>(slots: &mut Slots<R, M>, chan: Chan) -> Result<
 }
 
 /// What the scan awaits where it stands; for a reading its meter goes out. A scan that is over leaves `None`.
+#[inline(always)]
 fn arrive<R: Relay, M: Meter>(
     slots: &mut Slots<R, M>,
     out: &mut Tickets,
@@ -219,6 +223,7 @@ fn send_out<R: Relay, M: Meter>(
 }
 
 /// Takes the slot's meter in again.
+#[inline(always)]
 pub(crate) fn take_in<R: Relay, M: Meter>(
     slots: &mut Slots<R, M>,
     out: &mut Tickets,

@@ -52,22 +52,22 @@ impl Scan {
         ensures scan { result.0 ≡ next_place settings 0 }
         ensures moves { moves_of result.1 ≡ moves_from settings 0 }
     {
-        let way = first(code.steps());
-        let index = count(way.moves);
+        let (moves, at) = first(code.steps());
+        let index = count(&moves);
         let scan = Scan {
             settings,
             code,
-            at: way.at,
+            at,
             index,
         };
-        (scan, way.moves)
+        (scan, moves)
     }
 
     /// What the scan awaits; nothing, where it is over.
     pub(crate) fn awaited(&self) -> Option<Awaited>
         ensures { result ≡ awaits self.now }
     {
-        awaited(self.code.steps(), self.at)
+        awaited(self.code.steps(), &self.at)
     }
 
     /// Goes past what the scan awaits, and tells what is done before the next.
@@ -76,10 +76,9 @@ impl Scan {
         ensures scan { self.new ≡ next_place self.old.setup (self.old.index + 1) }
         ensures moves { moves_of result ≡ moves_from self.old.setup (self.old.index + 1) }
     {
-        let way = next(self.code.steps(), self.at);
-        self.index += 1 + count(way.moves);
-        self.at = way.at;
-        way.moves
+        let moves = next(self.code.steps(), &mut self.at);
+        self.index += 1 + count(&moves);
+        moves
     }
 
     /// Whether the scan takes the happening, being number so many.
@@ -168,8 +167,8 @@ fn period_takes(present: Ticket, name: LayerName, happening: Happening) -> bool
 }
 
 /// How many moves they are.
-fn count(moves: Moves) -> u64
-    ensures count { result ≡ length (moves_of moves) }
+fn count(moves: &Moves) -> u64
+    ensures count { result ≡ length (moves_of moves.now) }
     ensures few { result ≤ 2 }
 {
     let opened = if moves.to_open.is_some() { 1 } else { 0 };

@@ -1,7 +1,7 @@
 //! The steps of a scan's code, from one that awaits to the next.
 
-ghost use Rattle.std.specs.Prelude.{◌≡◌, ℕ, suc, ◌+◌, ◌-◌, ◌^◌, ◌<◌, ◌≤◌, List, ◌∷◌, None, length, slice_set};
-ghost use Rattle.std.specs.Prelude.{slice_index_or, IfSome, IfNone};
+ghost use Rattle.std.specs.Prelude.{◌≡◌, ℕ, suc, ◌+◌, ◌-◌, ◌^◌, ◌<◌, ◌≤◌, List, ◌∷◌, Some, None, true, false, slice_set};
+ghost use Rattle.std.specs.Prelude.{slice_index_or, length, IfSome, IfNone};
 ghost use Rattle.std.specs.List.{slice_get, AllByRecursion};
 ghost use Rattle.sw_trigger.specs.Agenda.{Item, Awaits};
 ghost use Rattle.sw_trigger.specs.declared.layer.Awaited.{Awaited as Await};
@@ -10,7 +10,7 @@ ghost use Rattle.sw_code.specs.Range.{IsStep};
 ghost use Rattle.sw_base.specs.Limits.{most_counters};
 ghost use Rattle.sw_code.specs.Pace.{most_counting, IsNear, IsPaced};
 ghost use Rattle.sw_cage.specs.Advance.{first_awaited};
-ghost use Rattle.sw_cage.specs.Steps.{Does, IsResting, AreVisits, AreVisitsOn, LeadsOn, opened_by, closed_by};
+ghost use Rattle.sw_cage.specs.Steps.{Does, IsResting, AreVisits, AreVisitsOn, LeadsOn, Opens, way_of};
 
 use sw_base::COUNTERS;
 use sw_channel::Position;
@@ -34,207 +34,164 @@ pub(crate) struct Moves {
     pub(crate) to_close: Option<Position>,
 }
 
-/// The way to the next awaiting step, or to the end, and where that is.
-#[derive(Clone, Copy, Debug, PartialEq, Eq)]
-pub(crate) struct Way {
-    pub(crate) moves: Moves,
-    pub(crate) at: Place,
-}
-
 /// What the step awaits at which the scan stands; nothing at the end.
-pub(crate) fn awaited(steps: &[Step], at: Place) -> Option<Awaited>
-    requires rests { IsResting (slice_get steps.now at.step) }
-    ensures { (items : List Item) → Does steps.now at items → result ≡ first_awaited items }
+pub(crate) fn awaited(steps: &[Step], at: &Place) -> Option<Awaited>
+    requires rests { IsResting (slice_get steps.now at.now.step) }
+    ensures { (items : List Item) → Does steps.now at.now items → result ≡ first_awaited items }
 {
     match step_at(steps, at) {
-        Some(Step::Wait(name)) => Some(Awaited::Wait(name)),
-        Some(Step::Timer(name, micros)) => Some(Awaited::Period(name, micros)),
-        Some(Step::Pause(micros)) => Some(Awaited::Pause(micros)),
+        Some(Step::Wait(name)) => Some(Awaited::Wait(*name)),
+        Some(Step::Timer(name, micros)) => Some(Awaited::Period(*name, *micros)),
+        Some(Step::Pause(micros)) => Some(Awaited::Pause(*micros)),
         Some(Step::Read) => Some(Awaited::Read),
         _ => None,
     }
 }
 
-/// The way from the start to the first step that awaits.
-pub(crate) fn first(steps: &[Step]) -> Way
+/// The place of the first step that awaits, and what is done before it.
+pub(crate) fn first(steps: &[Step]) -> (Moves, Place)
     requires range { AllByRecursion IsStep steps.now }
     requires paced { IsPaced steps.now most_counting }
-    ensures { (items : List Item) → Unfolds steps.now items → AreVisits items → LeadsOn steps.now items result }
+    ensures { (items : List Item) → Unfolds steps.now items → AreVisits items
+        → LeadsOn steps.now items (way_of result.0 result.1) }
 {
-    let start = Place {
+    let mut at = Place {
         step: 0,
         counters: [0; COUNTERS as usize],
     };
-    let at = settle(steps, start);
+    settle(steps, &mut at);
+    let moves = move_on(steps, &mut at);
+    (moves, at)
+}
+
+/// Goes from a step that awaits to the next, and tells what is done before that.
+pub(crate) fn next(steps: &[Step], at: &mut Place) -> Moves
+    requires range { AllByRecursion IsStep steps.now }
+    requires paced { IsPaced steps.now most_counting }
+    requires rests { IsResting (slice_get steps.now at.old.step) }
+    requires awaits { (what : Await) × (items : List Item) × Does steps.now at.old (Awaits what ∷ items) }
+    ensures { (what : Await) (items : List Item) → Does steps.now at.old (Awaits what ∷ items) → AreVisitsOn items
+        → LeadsOn steps.now items (way_of result at.new) }
+{
+    at.step += 1;
+    settle(steps, at);
     move_on(steps, at)
 }
 
-/// The way from a step that awaits to the next.
-pub(crate) fn next(steps: &[Step], at: Place) -> Way
+/// Goes on from a step that does more than count to one that awaits, and tells what is done before that.
+fn move_on(steps: &[Step], at: &mut Place) -> Moves
     requires range { AllByRecursion IsStep steps.now }
     requires paced { IsPaced steps.now most_counting }
-    requires rests { IsResting (slice_get steps.now at.step) }
-    requires awaits { (what : Await) × (items : List Item) × Does steps.now at (Awaits what ∷ items) }
-    ensures { (what : Await) (items : List Item) → Does steps.now at (Awaits what ∷ items) → AreVisitsOn items
-        → LeadsOn steps.now items result }
+    requires near { IsNear steps.now 0 at.old.step }
+    ensures { (items : List Item) → Does steps.now at.old items → AreVisitsOn items
+        → LeadsOn steps.now items (way_of result at.new) }
 {
-    let at = settle(steps, at.past());
-    move_on(steps, at)
+    let to_open = open_on(steps, at);
+    let to_close = close_on(steps, at);
+    Moves { to_open, to_close }
 }
 
-/// The way on from a step that does more than count.
-fn move_on(steps: &[Step], at: Place) -> Way
+/// Goes past a step that opens, on to one that does more than count, and tells which position it opens.
+fn open_on(steps: &[Step], at: &mut Place) -> Option<Position>
     requires range { AllByRecursion IsStep steps.now }
     requires paced { IsPaced steps.now most_counting }
-    requires near { IsNear steps.now 0 at.step }
-    ensures { (items : List Item) → Does steps.now at items → AreVisitsOn items → LeadsOn steps.now items result }
+    requires near { IsNear steps.now 0 at.old.step }
+    ensures near { IsNear steps.now 0 at.new.step }
+    ensures opens { (items : List Item) → Does steps.now at.old items → AreVisitsOn items
+        → Opens steps.now items result at.new }
 {
-    match to_open(steps, at) {
-        Some(position) => {
-            let after = settle(steps, at.past());
-            let mut way = close_on(steps, after);
-            way.moves.to_open = Some(position);
-            way
+    match step_at(steps, at) {
+        Some(Step::Open(position)) => {
+            at.step += 1;
+            settle(steps, at);
+            Some(*position)
         }
-        None => close_on(steps, at),
-    }
-}
-
-/// The way on from a step that does more than count.
-fn close_on(steps: &[Step], at: Place) -> Way
-    requires range { AllByRecursion IsStep steps.now }
-    requires paced { IsPaced steps.now most_counting }
-    requires near { IsNear steps.now 0 at.step }
-    ensures way { (items : List Item) → Does steps.now at items → AreVisits items → LeadsOn steps.now items result }
-    ensures opens_none { result.moves.to_open ≡ None }
-{
-    match to_close(steps, at) {
-        Some(position) => Way {
-            moves: Moves {
-                to_open: None,
-                to_close: Some(position),
-            },
-            at: settle(steps, at.past()),
-        },
-        None => Way {
-            moves: Moves {
-                to_open: None,
-                to_close: None,
-            },
-            at,
-        },
-    }
-}
-
-/// The position that the step opens.
-fn to_open(steps: &[Step], at: Place) -> Option<Position>
-    ensures opens { result ≡ opened_by (slice_get steps.now at.step) }
-    ensures within { IfSome result (λ _. at.step < length steps.now) }
-{
-    match steps.get(at.step) {
-        Some(Step::Open(position)) => Some(*position),
         _ => None,
     }
 }
 
-/// The position that the step closes.
-fn to_close(steps: &[Step], at: Place) -> Option<Position>
-    ensures closes { result ≡ closed_by (slice_get steps.now at.step) }
-    ensures within { IfSome result (λ _. at.step < length steps.now) }
+/// Goes past a step that closes, on to one that does more than count, and tells which position it closes.
+fn close_on(steps: &[Step], at: &mut Place) -> Option<Position>
+    requires range { AllByRecursion IsStep steps.now }
+    requires paced { IsPaced steps.now most_counting }
+    requires near { IsNear steps.now 0 at.old.step }
+    ensures { (items : List Item) → Does steps.now at.old items → AreVisits items
+        → LeadsOn steps.now items (record { moves = record { to_open = None; to_close = result }; at = at.new }) }
 {
-    match steps.get(at.step) {
-        Some(Step::Close(position)) => Some(*position),
+    match step_at(steps, at) {
+        Some(Step::Close(position)) => {
+            at.step += 1;
+            settle(steps, at);
+            Some(*position)
+        }
         _ => None,
     }
 }
 
 /// On to a step that does more than count.
-fn settle(steps: &[Step], at: Place) -> Place
+fn settle(steps: &[Step], at: &mut Place)
     requires range { AllByRecursion IsStep steps.now }
-    requires near { IsNear steps.now most_counting at.step }
-    ensures near { IsNear steps.now 0 result.step }
-    ensures does { (items : List Item) → Does steps.now at items → Does steps.now result items }
+    requires near { IsNear steps.now most_counting at.old.step }
+    ensures near { IsNear steps.now 0 at.new.step }
+    ensures does { (items : List Item) → Does steps.now at.old items → Does steps.now at.new items }
 {
-    let mut place = at;
     for _ in 0..MOST_COUNTING {
-        match counted(steps, place) {
-            Some(next) => place = next,
-            None => return place,
+        if !has_counted(steps, at) {
+            return;
         }
     }
-    place
 }
 
-/// The place after the step, if it only counts.
-fn counted(steps: &[Step], at: Place) -> Option<Place>
+/// Goes past the step, if it only counts, and tells whether it does.
+fn has_counted(steps: &[Step], at: &mut Place) -> bool
     requires range { AllByRecursion IsStep steps.now }
-    ensures near { IfSome result (λ next. (n : ℕ) → IsNear steps.now (suc n) at.step → IsNear steps.now n next.step) }
-    ensures does { IfSome result (λ next. (items : List Item) → Does steps.now at items → Does steps.now next items) }
-    ensures still { IfNone result (IsNear steps.now 0 at.step) }
+    ensures near { result ≡ true
+        → (n : ℕ) → IsNear steps.now (suc n) at.old.step → IsNear steps.now n at.new.step }
+    ensures does { result ≡ true → (items : List Item) → Does steps.now at.old items → Does steps.now at.new items }
+    ensures still { result ≡ false → IsNear steps.now 0 at.old.step × (at.new ≡ at.old) }
 {
     match step_at(steps, at) {
-        Some(Step::Set(counter, turns)) => Some(at.past().with(counter, turns)),
-        Some(Step::Loop(counter, to)) => Some(turned(at, counter, to)),
-        _ => None,
+        Some(Step::Set(counter, turns)) => {
+            at.counters[*counter as usize] = *turns;
+            at.step += 1;
+            true
+        }
+        Some(Step::Loop(counter, to)) => {
+            turn(at, *counter, *to);
+            true
+        }
+        _ => false,
     }
 }
 
-/// The place after a loop's end: the counter goes down by one, and the loop begins again or is over.
-fn turned(at: Place, counter: u8, to: u16) -> Place
+/// Goes past a loop's end: the counter goes down by one, and the loop begins again or is over.
+fn turn(at: &mut Place, counter: u8, to: u16)
     requires counter { counter < most_counters }
-    requires within { at.step + 1 < 2 ^ 64 }
-    ensures again { 1 < slice_index_or at.counters counter 0 → result ≡ record {
+    requires within { at.old.step + 1 < 2 ^ 64 }
+    ensures again { 1 < slice_index_or at.old.counters counter 0 → at.new ≡ record {
       step = to;
-      counters = slice_set at.counters counter (slice_index_or at.counters counter 0 - 1);
+      counters = slice_set at.old.counters counter (slice_index_or at.old.counters counter 0 - 1);
     } }
-    ensures over { slice_index_or at.counters counter 0 ≤ 1 → result ≡ record {
-      step = at.step + 1;
-      counters = slice_set at.counters counter 0;
+    ensures over { slice_index_or at.old.counters counter 0 ≤ 1 → at.new ≡ record {
+      step = at.old.step + 1;
+      counters = slice_set at.old.counters counter 0;
     } }
 {
     let turns = at.counters[counter as usize];
     if turns > 1 {
-        at.at_step(to as usize).with(counter, turns - 1)
+        at.counters[counter as usize] = turns - 1;
+        at.step = to as usize;
     } else {
-        at.past().with(counter, 0)
+        at.counters[counter as usize] = 0;
+        at.step += 1;
     }
 }
 
-/// The step of that number.
-fn step_at(steps: &[Step], at: Place) -> Option<Step>
-    ensures step { result ≡ slice_get steps.now at.step }
-    ensures within { IfSome result (λ _. at.step < length steps.now) }
+/// The step of the place's number.
+fn step_at<'a>(steps: &'a [Step], at: &Place) -> Option<&'a Step>
+    ensures step { IfSome result (λ step. slice_get steps.now at.now.step ≡ Some step.now) }
+    ensures within { IfSome result (λ _. at.now.step < length steps.now) }
+    ensures end { IfNone result (slice_get steps.now at.now.step ≡ None) }
 {
-    steps.get(at.step).copied()
-}
-
-impl Place {
-    /// The next step.
-    fn past(self) -> Place
-        requires { self.step + 1 < 2 ^ 64 }
-        ensures { result ≡ record { step = self.step + 1; counters = self.counters } }
-    {
-        self.at_step(self.step + 1)
-    }
-
-    /// That step.
-    fn at_step(self, step: usize) -> Place
-        ensures { result ≡ record { step = step; counters = self.counters } }
-    {
-        let counters = self.counters;
-        Place { step, counters }
-    }
-
-    /// The same step, the counter being at so many turns.
-    fn with(self, counter: u8, turns: u32) -> Place
-        requires { counter < most_counters }
-        ensures { result ≡ record { step = self.step; counters = slice_set self.counters counter turns } }
-    {
-        let mut counters = self.counters;
-        counters[counter as usize] = turns;
-        Place {
-            step: self.step,
-            counters,
-        }
-    }
+    steps.get(at.step)
 }

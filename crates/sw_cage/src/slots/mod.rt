@@ -113,6 +113,7 @@ impl<R: Relay, M: Meter> Slots<R, M> {
     }
 
     /// Closes one channel.
+    #[inline(always)]
     pub(crate) fn close(&mut self, chan: Chan) -> Result<(), CardFault>
         requires present { is_present (layout_of self.old) chan ≡ true }
         requires open { is_closed self.old chan ≡ false }
@@ -133,6 +134,7 @@ impl<R: Relay, M: Meter> Slots<R, M> {
     }
 
     /// Opens one channel.
+    #[inline(always)]
     pub(crate) fn open(&mut self, chan: Chan) -> Result<(), CardFault>
         requires { is_closed self.old chan ≡ true }
         ensures ok { OnOk result (Sets self.old (chan ∷ []) false self.new) }

@@ -4,7 +4,7 @@ use Rattle.sw_trigger.specs.Agenda.{agenda}
 use Rattle.sw_code.specs.declared.code.Step.{Step}
 use Rattle.sw_cage.specs.Cage.{ScanSeen}
 use Rattle.sw_cage.specs.Advance.{moves_from, next_place, awaits}
-use Rattle.sw_cage.specs.Steps.{Does, IsResting, moves_of}
+use Rattle.sw_cage.specs.Steps.{Does, IsResting, moves_of, way_of}
 use Rattle.sw_cage.proofs.PlaceLemmas.{leads_on, short_of, way_is, rest_there, place_is, length-agenda}
 use Rattle.sw_cage.proofs.scan.Scan.advance.Goals as goal
 
@@ -13,11 +13,11 @@ overflow_add-self-2 c =
     let s = c.self.inside.settings in
     let i = c.self.inside.index in
     let code = c.steps.result.now in
-    let way = c.next-way.result in
+    let way = way_of c.next-moves.result c.next-moves.new.at in
     let at = c.self.inside.at in
     let does = subst (λ (l : List Step). Does l at (drop i (agenda s))) (sym c.steps.ensures.steps) c.self.invariant.does in
     let some = subst (λ (p : ScanSeen). awaits p ≡ None → ⊥) (sym c.self.view_is) c.requires in
-    let l = leads_on code at s i does some c.self.invariant.listed way c.next-way.ensures in
+    let l = leads_on code at s i does some c.self.invariant.listed way c.next-moves.ensures in
     let fits : i + (1 + c.count.result) < 2 ^ 64 =
     omega (
       arith,
@@ -32,11 +32,11 @@ invariant_of-self c =
     let s = c.self.inside.settings in
     let i = c.self.inside.index in
     let code = c.steps.result.now in
-    let way = c.next-way.result in
+    let way = way_of c.next-moves.result c.next-moves.new.at in
     let at = c.self.inside.at in
     let does = subst (λ (l : List Step). Does l at (drop i (agenda s))) (sym c.steps.ensures.steps) c.self.invariant.does in
     let some = subst (λ (p : ScanSeen). awaits p ≡ None → ⊥) (sym c.self.view_is) c.requires in
-    let l = leads_on code at s i does some c.self.invariant.listed way c.next-way.ensures in
+    let l = leads_on code at s i does some c.self.invariant.listed way c.next-moves.ensures in
     let e : i + (1 + c.count.result) ≡ i + 1 + length (moves_of way.moves) = omega (arith, c.count.ensures.count) in
     record {
       listed = c.self.invariant.listed;
@@ -52,11 +52,11 @@ returns-clause-scan c =
     let s = c.self.inside.settings in
     let i = c.self.inside.index in
     let code = c.steps.result.now in
-    let way = c.next-way.result in
+    let way = way_of c.next-moves.result c.next-moves.new.at in
     let at = c.self.inside.at in
     let does = subst (λ (l : List Step). Does l at (drop i (agenda s))) (sym c.steps.ensures.steps) c.self.invariant.does in
     let some = subst (λ (p : ScanSeen). awaits p ≡ None → ⊥) (sym c.self.view_is) c.requires in
-    let l = leads_on code at s i does some c.self.invariant.listed way c.next-way.ensures in
+    let l = leads_on code at s i does some c.self.invariant.listed way c.next-moves.ensures in
     let e : i + (1 + c.count.result) ≡ i + 1 + length (moves_of way.moves) = omega (arith, c.count.ensures.count) in
     place_is s (i + 1) way.moves l.rest l.lead l.split (i + (1 + c.count.result)) e
     ∙ ap (λ (p : ScanSeen). next_place p.setup (p.index + 1)) c.self.view_is
@@ -66,10 +66,10 @@ returns-clause-moves c =
     let s = c.self.inside.settings in
     let i = c.self.inside.index in
     let code = c.steps.result.now in
-    let way = c.next-way.result in
+    let way = way_of c.next-moves.result c.next-moves.new.at in
     let at = c.self.inside.at in
     let does = subst (λ (l : List Step). Does l at (drop i (agenda s))) (sym c.steps.ensures.steps) c.self.invariant.does in
     let some = subst (λ (p : ScanSeen). awaits p ≡ None → ⊥) (sym c.self.view_is) c.requires in
-    let l = leads_on code at s i does some c.self.invariant.listed way c.next-way.ensures in
+    let l = leads_on code at s i does some c.self.invariant.listed way c.next-moves.ensures in
     way_is s (i + 1) way.moves l.rest l.lead l.split
     ∙ ap (λ (p : ScanSeen). moves_from p.setup (p.index + 1)) c.self.view_is

@@ -7,6 +7,6 @@ use Rattle.sw_cage.proofs.scan.steps.settle.Given as goal
 abbrev pub invariant-loop : goal.invariant-loop
 invariant-loop l = record {
   few : l.counter ≤ 8;
-  near : IsNear l.steps (8 - l.counter) l.place.step;
-  does : (items : List Item) → Does l.steps l.fn.at items → Does l.steps l.place items;
+  near : IsNear l.steps (8 - l.counter) l.at.step;
+  does : (items : List Item) → Does l.steps l.fn.at items → Does l.steps l.at items;
 }
