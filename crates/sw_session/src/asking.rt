@@ -21,6 +21,7 @@ use sw_verify::Plan;
 pub const TURNS: u64 = 1 << 32;
 
 /// Asks for a command that is not the session's own. `answered` says whether the message has answered before.
+#[inline(always)]
 pub fn ask_command<D: Desk>(
     desk: &mut D,
     sid: Sid,
@@ -154,6 +155,7 @@ fn plan<D: Desk>(desk: &mut D, sid: Sid, alloc: Global, told: SessionAnswer) -> 
 }
 
 /// Asks until the ask isn't held; gives it up where the waiting is over, or after `TURNS` turns.
+#[inline(always)]
 pub fn settle<D: Desk>(desk: &mut D, sid: Sid, ask: SessionAsk) -> SessionAnswer
     ensures { Led D.passes desk.old desk.new (λ t rest. Settles sid 0 ask t result rest) }
 {

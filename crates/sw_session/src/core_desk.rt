@@ -72,6 +72,7 @@ impl<R: Relay, M: Meter> CoreDesk<R, M> {
 
     /// Keeps work for a wait. Where there is no memory for that, the oldest piece of all is carried out at once in its
     /// place, and what comes of that is kept in turn.
+    #[inline(always)]
     fn keep(&mut self, work: Option<Work<M>>)
         ensures { IsKept self.old (work_seen work) self.new }
     {
@@ -126,6 +127,7 @@ impl<R: Relay, M: Meter> CoreDesk<R, M> {
     }
 
     /// Takes the oldest piece off.
+    #[inline(always)]
     fn take(&mut self) -> Option<Work<M>>
         ensures some { IfSome result (λ piece. self.old ≡ record self.new { work = piece_seen piece ∷ self.new.work }) }
         ensures none { IfNone result (self.old.work ≡ []) }
@@ -135,6 +137,7 @@ impl<R: Relay, M: Meter> CoreDesk<R, M> {
     }
 
     /// Carries a piece out and tells the mainframe, which gives what comes next.
+    #[inline(always)]
     fn carry(&mut self, piece: Work<M>) -> Option<Work<M>>
         ensures { IsCarried self.old (piece_seen piece) (work_seen result) self.new }
     {
@@ -145,6 +148,7 @@ impl<R: Relay, M: Meter> CoreDesk<R, M> {
     }
 
     /// Asks the mainframe what a session asks. The work that its scan awaits now is left in `work`.
+    #[inline(always)]
     fn tell_asked(&mut self, ask: SessionAsk, work: &mut Option<Work<M>>) -> SessionAnswer
         requires empty { work.old ≡ None }
         ensures step { (failed : Bool)
@@ -201,6 +205,7 @@ impl<R: Relay, M: Meter> Desk for CoreDesk<R, M> {
 
     ghost passes = { CorePasses };
 
+    #[inline(always)]
     fn ask(&mut self, ask: SessionAsk) -> SessionAnswer {
         let mut work = None;
         let seating = seating_of(&ask);

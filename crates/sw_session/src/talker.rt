@@ -115,6 +115,7 @@ impl Talker {
     }
 
     /// Serves one unit that is this command or error, and adds its answer to those that are written.
+    #[inline(always)]
     fn serve<D: Desk>(
         &mut self,
         desk: &mut D,
@@ -140,6 +141,7 @@ impl Talker {
     }
 
     /// Serves a unit that is this command, which the desk is asked for.
+    #[inline(always)]
     fn serve_asked<D: Desk>(
         &mut self,
         desk: &mut D,
@@ -295,6 +297,7 @@ fn has_answers(out: &[u8]) -> bool
 
 /// Adds a unit's answer to those that are written. Where there is no room or no memory for it, it is dropped and that
 /// error queued.
+#[inline(always)]
 fn conclude<D: Desk>(desk: &mut D, sid: Sid, answer: SessionAnswer, out: &mut Vec<u8>) -> AfterUnit
     ensures { ConcludesLine D.passes sid answer
         (written_at desk.old out.old.items) result (written_at desk.new out.new.items) }
