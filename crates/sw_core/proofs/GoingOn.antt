@@ -6,7 +6,7 @@ use Rattle.sw_core.specs.Panel.{Panel, opening_at}
 use Rattle.sw_core.specs.Good.{IsGoodPanel}
 use Rattle.sw_core.specs.Run.{Event, IsNextEvent, IsRun}
 use Rattle.sw_core.specs.Ends.{last_of, BeginsScan, ScanEnds}
-use Rattle.sw_core.specs.Opening.{is_offer, IsReached, IsFitted, RunsGoOn}
+use Rattle.sw_core.specs.Opening.{is_offer, IsReached, IsFresh, RunsGoOn}
 use Rattle.sw_core.proofs.EveryRun.{good_opening, good_last, good_run}
 use Rattle.sw_core.proofs.ScanRuns.{every_scan}
 
@@ -43,14 +43,14 @@ reached_on p events h r = record {
 reached_next : (p : Panel) (e : Event) → IsReached p → IsNextEvent p e → IsReached e.panel
 reached_next p e h n = reached_on p (e ∷ []) h (n, tt)
 
-fitted_reached : (p : Panel) → IsFitted p → IsReached p
-fitted_reached p h = record { numbered = h.numbered; scanned = h.scanned; events = h.offers; run = h.run; there = h.there }
+fresh_reached : (p : Panel) → IsFresh p → IsReached p
+fresh_reached p h = record { numbered = h.numbered; scanned = h.scanned; events = h.offers; run = h.run; there = h.there }
 
-fitted_made : (events scans : ℕ) → IsFitted (opening_at events scans)
-fitted_made events scans = record { numbered = events; scanned = scans; offers = []; only = tt; run = tt; there = refl }
+fresh_made : (events scans : ℕ) → IsFresh (opening_at events scans)
+fresh_made events scans = record { numbered = events; scanned = scans; offers = []; only = tt; run = tt; there = refl }
 
-fitted_offered : (p : Panel) (e : Event) → IsFitted p → is_offer e.ask ≡ true → IsNextEvent p e → IsFitted e.panel
-fitted_offered p e h o n = record {
+fresh_offered : (p : Panel) (e : Event) → IsFresh p → is_offer e.ask ≡ true → IsNextEvent p e → IsFresh e.panel
+fresh_offered p e h o n = record {
   numbered = h.numbered;
   scanned = h.scanned;
   offers = h.offers ++ e ∷ [];
@@ -74,9 +74,9 @@ reached_scans p before start plan h r b =
 
 pub runs_on : RunsGoOn
 runs_on = record {
-  made = fitted_made;
-  offered = fitted_offered;
-  fitted = fitted_reached;
+  made = fresh_made;
+  offered = fresh_offered;
+  fresh = fresh_reached;
   next = reached_next;
   on = reached_on;
   good = reached_good;

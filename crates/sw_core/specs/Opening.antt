@@ -22,7 +22,7 @@ pub record IsReached (p : Panel) : Type 0 where
   pub there : p ≡ last_of (opening_at numbered scanned) events
 
 -- A mainframe that was just made, and of which nothing was asked but that it take cards: each was taken or refused.
-pub record IsFitted (p : Panel) : Type 0 where
+pub record IsFresh (p : Panel) : Type 0 where
   pub numbered : ℕ
   pub scanned : ℕ
   pub offers : List Event
@@ -33,11 +33,11 @@ pub record IsFitted (p : Panel) : Type 0 where
 -- What is handed on by whoever makes a mainframe, fits it with cards and asks of it. So the laws over runs from the
 -- opening state speak of each run from a state that was so handed on.
 pub record RunsGoOn : Type 0 where
-  -- it is fitted as it is made, and after each card that is offered then
-  pub made : (events scans : ℕ) → IsFitted (opening_at events scans)
-  pub offered : (p : Panel) (e : Event) → IsFitted p → is_offer e.ask ≡ true → IsNextEvent p e → IsFitted e.panel
-  -- one that is fitted is reached, and so is what an event or a run leads to from there
-  pub fitted : (p : Panel) → IsFitted p → IsReached p
+  -- it is fresh as it is made, and after each card that is offered then
+  pub made : (events scans : ℕ) → IsFresh (opening_at events scans)
+  pub offered : (p : Panel) (e : Event) → IsFresh p → is_offer e.ask ≡ true → IsNextEvent p e → IsFresh e.panel
+  -- one that is fresh is reached, and so is what an event or a run leads to from there
+  pub fresh : (p : Panel) → IsFresh p → IsReached p
   pub next : (p : Panel) (e : Event) → IsReached p → IsNextEvent p e → IsReached e.panel
   pub on : (p : Panel) (events : List Event) → IsReached p → IsRun p events → IsReached (last_of p events)
   -- what is reached is good, and so is each event of a run from there
