@@ -1,5 +1,5 @@
 use Rattle.std.proofs.Common.{vec_len}
-use Rattle.mainframe.proofs.serving.join_all.Given as goal
+use Rattle.sw_serve.proofs.serving.join_ended.Given as goal
 
 abbrev pub invariant-loop-left : goal.invariant-loop-left
 invariant-loop-left g l = Unit {0}

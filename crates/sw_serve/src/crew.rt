@@ -1,6 +1,6 @@
 //! Threads that are joined soon after they end.
 
-ghost use Rattle.std.specs.Prelude.{◌≡◌, ◌+◌, IfOk, IfSome, IfNone, vec_len};
+ghost use Rattle.std.specs.Prelude.{◌≡◌, ◌+◌, true, IfOk, IfSome, IfNone, vec_len};
 ghost use Rattle.std.specs.Prelude.{if◌then◌else◌};
 
 use crossbeam_channel::{Receiver, Sender};
@@ -75,11 +75,28 @@ impl<T: Send + Drop + 'static> Crew<T> {
         let Ok(number) = self.rung.try_recv(rt) else {
             return None;
         };
+        let member = self.take(number)?;
+        Some(member.handle.join(rt))
+    }
+
+    /// Takes the thread of this number out.
+    fn take(&mut self, number: u32) -> Option<Member<T>>
+        ensures some { IfSome result (λ _. vec_len self.old.members ≡ vec_len self.new.members + 1) }
+        ensures number { IfSome result (λ member. member.number ≡ number) }
+        ensures none { IfNone result (vec_len self.new.members ≡ vec_len self.old.members) }
+    {
         let at = self
             .members
             .iter()
             .position(|member| member.number == number)?;
-        Some(self.members.swap_remove(at).handle.join(rt))
+        Some(self.members.swap_remove(at))
+    }
+
+    /// Whether no thread is left.
+    pub fn is_empty(&self) -> bool
+        ensures { result ≡ true → vec_len self.now.members ≡ 0 }
+    {
+        self.members.is_empty()
     }
 
     /// Joins a thread when its work is done. None where none is left.

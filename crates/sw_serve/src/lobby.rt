@@ -47,6 +47,12 @@ impl<H: House, R: Relay, M: Meter, G: Gate + Drop, W: Wait + Clock + Copy + Drop
         let _ = free.push(desk);
     }
 
+    /// No connection is served that comes from now on, and each session ends after the message that it is in; or all
+    /// connections end at once.
+    pub fn end_lines(&self, is_at_once: bool) {
+        self.shared.end_lines(&self.rt, is_at_once);
+    }
+
     /// Nobody has to wait any more, and workers end.
     pub fn end_work(&self) {
         self.shared.end_work(&self.rt);

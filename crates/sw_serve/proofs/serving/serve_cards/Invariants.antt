@@ -1,4 +1,4 @@
-use Rattle.mainframe.proofs.serving.serve_cards.Given as goal
+use Rattle.sw_serve.proofs.serving.serve_cards.Given as goal
 
 abbrev pub ghosts-serve_over-H-Recording : goal.ghosts-serve_over-H-Recording
 ghosts-serve_over-H-Recording g a = record { first = a.opening.core }
