@@ -12,6 +12,7 @@
 
 mod cards;
 mod command_line;
+mod error_log;
 mod explanation;
 mod fault;
 mod laws;
@@ -25,6 +26,7 @@ mod writing;
 
 use clap::error::ErrorKind;
 use command_line::{Order, Serving, Unrun, parse_words, unrun_status};
+use error_log::ErrorLog;
 use fault::RunFault;
 use listing::{check_listing, checked_status};
 use run::run_lines;
@@ -109,8 +111,13 @@ fn serve_at<
         Err(error) => return unbound(&rt, at, &error),
     };
     let _ = eprintln!(rt; "mainframe: listening on {at}");
-    let mut door = Door::new(rt, alloc, &listener, input);
-    match serve_on(rt, alloc, &mut door, u32::MAX) {
+    let log = ErrorLog {
+        rt,
+        alloc,
+        is_on: serving.is_logged,
+    };
+    let mut door = Door::new(rt, alloc, &listener, input, log);
+    match serve_on(rt, alloc, &mut door, u32::MAX, log) {
         Ok(()) => ExitCode::SUCCESS,
         Err(fault) => stopped(&rt, fault),
     }
@@ -140,7 +147,9 @@ fn unrun(rt: &HostRuntime, why: &Unrun) -> ExitCode {
             let _ = error.print(rt);
         }
         Unrun::Address => {
-            let _ = eprintln!(rt; "error: --address <ADDRESS> takes an IPv4 or IPv6 address\n\nFor more information, try '--help'.");
+            let _ = eprintln!(rt;
+                "error: --address <ADDRESS> takes an IPv4 or IPv6 address\n\nFor more information, try '--help'."
+            );
         }
     }
     ExitCode::from(unrun_status(kind))

@@ -10,16 +10,15 @@ use std::sync::Wait;
 use std::thread::Threads;
 use std::time::Clock;
 use sw_card::{Meter, Relay};
-use sw_serve::{Offer, Port, serve_cards};
+use sw_serve::{Log, Offer, Port, serve_cards, tell_failures};
 
 /// Takes so many connections, or fewer where the port ends, each served by a thread of its own over the program's
-/// cards, and then closes down.
-pub fn serve_on<W: Threads + Wait + Clock + Copy + Drop + Send + Sync + 'static, P: Port>(
-    rt: W,
-    alloc: Global,
-    port: &mut P,
-    limit: u32,
-) -> Result<(), RunFault>
+/// cards, and then closes down. A call of a card that fails is told to the log.
+pub fn serve_on<
+    W: Threads + Wait + Clock + Copy + Drop + Send + Sync + 'static,
+    P: Port,
+    L: Log + Copy + Drop + Send + 'static,
+>(rt: W, alloc: Global, port: &mut P, limit: u32, log: L) -> Result<(), RunFault>
     requires { P.taken port.old + limit < 2 ^ 32 }
     ensures memory { IfErr result (λ fault. fault ≡ RunFault.Memory) }
     ensures taken { OnOk result (TakesUpTo limit (P.taken port.old) (P.taken port.new) (P.ended port.new)) }
@@ -29,7 +28,7 @@ pub fn serve_on<W: Threads + Wait + Clock + Copy + Drop + Send + Sync + 'static,
     let third: Box<dyn Relay + Send> = Box::new(alloc, third_card())?;
     let meter: Box<dyn Meter + Send> = Box::new(alloc, meter_card())?;
     let offers = in_slots(alloc, first, second, third, meter)?;
-    serve_by(rt, alloc, port, limit, offers)
+    serve_by(rt, alloc, port, limit, offers, log)
 }
 
 /// The same by these cards, which end with it.
@@ -38,17 +37,20 @@ fn serve_by<
     M: Meter + Send + 'static,
     W: Threads + Wait + Clock + Copy + Drop + Send + Sync + 'static,
     P: Port,
+    L: Log + Copy + Drop + Send + 'static,
 >(
     rt: W,
     alloc: Global,
     port: &mut P,
     limit: u32,
     offers: Vec<Offer<R, M>>,
+    log: L,
 ) -> Result<(), RunFault>
     requires { P.taken port.old + limit < 2 ^ 32 }
     ensures memory { IfErr result (λ fault. fault ≡ RunFault.Memory) }
     ensures taken { OnOk result (TakesUpTo limit (P.taken port.old) (P.taken port.new) (P.ended port.new)) }
 {
+    let offers = tell_failures(alloc, offers, log)?;
     let closed = serve_cards(rt, alloc, port, limit, offers)?;
     drop(closed);
     Ok(())

@@ -24,7 +24,7 @@ pub takes-one : {R M : Type 0} (relays : R → Account) (meters : M → Account)
 takes-one relays meters p m q offers o card is takes step =
     let own = subst (λ (x : Account). Stepped m (AskInstall o.slot x) q) is step in
     subst (λ (l : List Offered). TakesOffers p l q) (sym (seen-more relays meters offers o))
-        (takes-more p m q (offers_seen relays meters offers) (offered o.slot (own_seen relays meters o.card)) takes own)
+    (takes-more p m q (offers_seen relays meters offers) (offered o.slot (own_seen relays meters o.card)) takes own)
 
 -- a step of a good mainframe, whatever it answers
 good-step : {p q : Panel} {ask : AskSeen} → StaysGood → Stepped p ask q → IsGoodPanel p → IsGoodPanel q

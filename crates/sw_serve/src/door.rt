@@ -2,7 +2,9 @@
 
 ghost use Rattle.std.specs.Prelude.{◌≡◌, true, false};
 
+use crate::log::{Log, Remark};
 use crate::port::{Arrival, Port};
+use crate::visitor::Visitor;
 use libc::net::{POLLIN, poll};
 use libc::types::pollfd;
 use std::alloc::Global;
@@ -18,20 +20,26 @@ use sw_workers::Tcp;
 const REST_MS: u64 = 10;
 
 /// A listener, and how many connections came to it, those among them that failed. Where it has an input, no connection
-/// is taken after that has ended or failed; what comes from it before is let go.
+/// is taken after that has ended or failed; what comes from it before is let go. What comes and goes is told to a log.
 #[derive(Drop)]
-pub struct Door<'a, W: Wait + Clock + Copy + Drop, I: Read + AsRawFd + Drop> {
+pub struct Door<'a, W: Wait + Clock + Copy + Drop, I: Read + AsRawFd + Drop, L: Log + Copy + Drop> {
     rt: W,
     alloc: Global,
     listener: &'a TcpListener,
     input: Option<I>,
+    log: L,
     pub taken: u32,
     pub is_over: bool,
 }
 
-impl<'a, W: Wait + Clock + Copy + Drop, I: Read + AsRawFd + Drop> Door<'a, W, I> {
+impl<'a, W: Wait + Clock + Copy + Drop, I: Read + AsRawFd + Drop, L: Log + Copy + Drop> Door<
+    'a,
+    W,
+    I,
+    L,
+> {
     /// One that no connection came to yet.
-    pub fn new(rt: W, alloc: Global, listener: &'a TcpListener, input: Option<I>) -> Self
+    pub fn new(rt: W, alloc: Global, listener: &'a TcpListener, input: Option<I>, log: L) -> Self
         ensures { (result.taken ≡ 0) × (result.is_over ≡ false) }
     {
         Door {
@@ -39,29 +47,36 @@ impl<'a, W: Wait + Clock + Copy + Drop, I: Read + AsRawFd + Drop> Door<'a, W, I>
             alloc,
             listener,
             input,
+            log,
             taken: 0,
             is_over: false,
         }
     }
 
     /// The next connection. None where it fails.
-    fn next(&self) -> Option<Tcp> {
-        let Ok((stream, _)) = self.listener.accept() else {
+    fn next(&self) -> Option<Visitor<Tcp, L>> {
+        let Ok((stream, from)) = self.listener.accept() else {
             thread::sleep(&self.rt, Duration::from_millis(REST_MS));
             return None;
         };
-        Tcp::new(self.alloc, stream).ok()
+        self.log.tell(Remark::Taken(self.taken, from));
+        let connection = Tcp::new(self.alloc, stream).ok()?;
+        Visitor::new(self.alloc, connection, self.log, self.taken).ok()
     }
 }
 
-impl<W: Wait + Clock + Copy + Drop, I: Read + AsRawFd + Drop> Port for Door<'_, W, I> {
-    type Link = Tcp;
+impl<
+    W: Wait + Clock + Copy + Drop,
+    I: Read + AsRawFd + Drop,
+    L: Log + Copy + Drop + Send + 'static,
+> Port for Door<'_, W, I, L> {
+    type Link = Visitor<Tcp, L>;
 
     ghost taken = { λ d. d.taken };
 
     ghost ended = { λ d. d.is_over ≡ true };
 
-    fn accept(&mut self) -> Arrival<Tcp> {
+    fn accept(&mut self) -> Arrival<Visitor<Tcp, L>> {
         if let Some(input) = &mut self.input {
             self.is_over = ends_first(&self.rt, self.listener, input);
         }

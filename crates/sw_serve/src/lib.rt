@@ -14,14 +14,20 @@
 
 mod crew;
 mod door;
+mod failing;
 mod lobby;
+mod log;
 mod offer;
 mod port;
 mod serving;
 mod single;
+mod visitor;
 
 pub use door::Door;
+pub use failing::{Telling, tell_failures};
+pub use log::{Log, Parting, Remark, Silent};
 pub use offer::{Offer, OwnCard, fit};
 pub use port::{Arrival, Port, Visit};
 pub use serving::{serve_cards, serve_over};
 pub use single::desk_for_one;
+pub use visitor::Visitor;

@@ -97,10 +97,16 @@ fn addresses(rt: HostRuntime) -> Result<(), Fail> {
     )?;
     let six = asked(rt.alloc(), &["serve", "--address", "::1"])?;
     assert!(rt;
-        is_bound(own, "127.0.0.1:4880") && is_bound(all, "0.0.0.0:1") && is_bound(six, "[::1]:4880"));
+        is_bound(own, "127.0.0.1:4880") && is_bound(all, "0.0.0.0:1") && is_bound(six, "[::1]:4880")
+    );
     let none = ErrorKind::ValueValidation;
     check_refused(&rt, rt.alloc(), &["serve", "--address", "localhost"], none)?;
-    check_refused(&rt, rt.alloc(), &["serve", "--address", "127.0.0.1:80"], none)
+    check_refused(
+        &rt,
+        rt.alloc(),
+        &["serve", "--address", "127.0.0.1:80"],
+        none,
+    )
 }
 
 #[test]
