@@ -90,6 +90,11 @@ impl Client {
         ends_after(&mut self.first, 0) && ends_after(&mut self.second, 16)
     }
 
+    /// Whether the server ends both connections, whatever it said before.
+    pub fn is_left(&mut self) -> bool {
+        ends_after(&mut self.first, 64) && ends_after(&mut self.second, 64)
+    }
+
     /// Leaves, and says whether the server ends both connections.
     pub fn leaves(&mut self) -> bool {
         self.first.shutdown(Shutdown::Write).is_ok() && self.is_ended()
