@@ -28,7 +28,7 @@ use clap::error::ErrorKind;
 use command_line::{Order, Serving, Unrun, parse_words, unrun_status};
 use error_log::ErrorLog;
 use fault::RunFault;
-use listing::{check_listing, checked_status};
+use listing::check_listing;
 use run::run_lines;
 use serving::serve_on;
 use std::alloc::{AllocError, Global};
@@ -87,7 +87,7 @@ fn check_input(rt: &HostRuntime) -> ExitCode {
     if let Some(remark) = &checked.remark {
         let _ = eprintln!(rt; "{remark}");
     }
-    ExitCode::from(checked_status(checked.accepted))
+    ExitCode::from(checked.status())
 }
 
 /// Serves connections at an address and a port, and says when it listens, or why it can't. With `input` it serves until
