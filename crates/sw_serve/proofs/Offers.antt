@@ -1,5 +1,5 @@
 -- One offer more, and what offers leave as it was.
-use Rattle.std.proofs.Common.{◌≡◌, List, [], ◌∷◌, ◌++◌, refl, sym, ap, subst}
+use Rattle.std.proofs.Common.{◌≡◌, List, [], ◌∷◌, ◌++◌, refl, sym, ap, subst, ◌∙◌}
 use Rattle.sw_card.specs.Account.{Account}
 use Rattle.sw_core.specs.Good.{IsGoodPanel, StaysGood}
 use Rattle.sw_core.specs.Panel.{Panel}
@@ -33,3 +33,13 @@ good-step {p = p} {q = q} {ask = ask} law stepped good = law.step p q ask steppe
 pub good-offers : StaysGood → (p q : Panel) (cards : List Offered) → TakesOffers p cards q → IsGoodPanel p → IsGoodPanel q
 good-offers law p q [] is good = subst IsGoodPanel (sym is) good
 good-offers law p q (o ∷ cards) (mid, first, more) good = good-offers law mid q cards more (good-step law first good)
+
+-- one offer more on both sides
+pub told-more : {R M S N : Type 0} (relays : R → Account) (meters : M → Account) (relays' : S → Account) (meters' : N → Account)
+    (told new : List (Offer S N)) (offers : List (Offer R M)) (t : Offer S N) (o : Offer R M) → new ≡ told ++ t ∷ [] → t.slot ≡ o.slot → own_seen relays' meters' t.card ≡ own_seen relays meters o.card
+    → offers_seen relays' meters' told ≡ offers_seen relays meters offers
+    → offers_seen relays' meters' new ≡ offers_seen relays meters (offers ++ o ∷ [])
+told-more relays meters relays' meters' told new offers t o is slot card same =
+    let both : offers_seen relays' meters' told ++ offered t.slot (own_seen relays' meters' t.card) ∷ []
+    ≡ offers_seen relays meters offers ++ offered o.slot (own_seen relays meters o.card) ∷ [] = λ j. same j ++ offered (slot j) (card j) ∷ [] in
+    ap (offers_seen relays' meters') is ∙ seen-more relays' meters' told t ∙ both ∙ sym (seen-more relays meters offers o)

@@ -1,6 +1,7 @@
 -- What the first bytes of a message tell of a connection.
 use Rattle.std.specs.Prelude.{ℕ, ◌+◌, ◌*◌, ◌==◌, if◌then◌else◌, List, [], ◌∷◌, Option, Some, None}
-use Rattle.sw_hislip.specs.declared.kind.Kind.TheVariants.{InitializeResponse, FatalError, AsyncInitialize, AsyncInitializeResponse}
+use Rattle.sw_hislip.specs.declared.kind.Kind.TheVariants.{InitializeResponse, FatalError}
+use Rattle.sw_hislip.specs.declared.kind.Kind.TheVariants.{AsyncInitialize, AsyncInitializeResponse}
 use Rattle.sw_hislip.specs.Kinds.{kind_number}
 use Rattle.sw_serve.specs.declared.visitor.Said.{Said}
 use Rattle.sw_serve.specs.declared.visitor.Said.TheVariants.{Joins, Attaches, Fails, Other}

@@ -1,7 +1,8 @@
 -- How a connection has ended.
 use Rattle.std.specs.Prelude.{ℕ, Bool, true, false, Option, Some, None, Result, Ok, Err}
 use Rattle.sw_session.specs.declared.servers.fault.ServeFault.{ServeFault}
-use Rattle.sw_session.specs.declared.servers.fault.ServeFault.TheVariants.{Read, Write, Wire, Fatal, NoMemory, ReadBound}
+use Rattle.sw_session.specs.declared.servers.fault.ServeFault.TheVariants.{Read, Write, Wire, Fatal}
+use Rattle.sw_session.specs.declared.servers.fault.ServeFault.TheVariants.{NoMemory, ReadBound}
 use Rattle.sw_serve.specs.declared.log.Parting.{Parting}
 use Rattle.sw_serve.specs.declared.log.Parting.TheVariants as parting
 

@@ -95,13 +95,51 @@ fn attached_by(bytes: &[u8]) -> Option<u16>
     Some(u16::from(bytes[6]) * 256 + u16::from(bytes[7]))
 }
 
+/// The first header, as far as it has come.
+#[derive(Drop)]
+struct Front {
+    bytes: [u8; HEADER],
+    length: usize,
+}
+
+impl Front {
+    const EMPTY: Self = Front {
+        bytes: [0; HEADER],
+        length: 0,
+    };
+
+    /// Whether it is whole.
+    fn is_whole(&self) -> bool {
+        self.length >= HEADER
+    }
+
+    /// Takes what belongs to it.
+    fn take(&mut self, bytes: &[u8]) {
+        for byte in bytes {
+            if self.length >= HEADER {
+                return;
+            }
+            self.bytes[self.length] = *byte;
+            self.length += 1;
+        }
+    }
+
+    /// The session that it asks for, once it is whole.
+    fn session(&self) -> Option<u16> {
+        if self.is_whole() {
+            attached_by(&self.bytes)
+        } else {
+            None
+        }
+    }
+}
+
 /// What a connection reads from.
 #[derive(Drop)]
 pub struct Heard<I: Source + Drop> {
     pub reader: I,
     known: Arc<Known, Global>,
-    header: [u8; HEADER],
-    filled: usize,
+    front: Front,
 }
 
 impl<I: Source + Drop> Heard<I> {
@@ -109,21 +147,13 @@ impl<I: Source + Drop> Heard<I> {
     fn hear(&mut self, bytes: &[u8])
         ensures { self.new.reader ≡ self.old.reader }
     {
-        let room = HEADER.saturating_sub(self.filled);
-        if room == 0 {
+        if self.front.is_whole() {
             return;
         }
         self.known.is_heard.store(true, Ordering::SeqCst);
-        for byte in bytes.iter().take(room) {
-            if self.filled < HEADER {
-                self.header[self.filled] = *byte;
-                self.filled += 1;
-            }
-        }
-        if self.filled == HEADER {
-            if let Some(session) = attached_by(&self.header) {
-                self.known.session.store(session, Ordering::SeqCst);
-            }
+        self.front.take(bytes);
+        if let Some(session) = self.front.session() {
+            self.known.session.store(session, Ordering::SeqCst);
         }
     }
 }
@@ -218,8 +248,7 @@ impl<C: Connection + Drop, L: Log + Drop> Connection for Visitor<C, L> {
             Heard {
                 reader,
                 known: theirs,
-                header: [0; HEADER],
-                filled: 0,
+                front: Front::EMPTY,
             },
             Told {
                 writer,
