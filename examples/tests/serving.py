@@ -15,11 +15,13 @@ import time
 from served import IDENTITY, PATIENCE, SOON, Client, Failure, Served, receive, same, within
 from served import wait_until
 from streams import message
+from terminals import END as CTRL_D
+from terminals import Terminal
 from swm import SessionError
 
 ROOT = pathlib.Path(__file__).resolve().parent.parent.parent
 END = 2  # seconds within which a server ends after its input
-SCAN = "ROUT:SCAN (@1!1);:TRIG:COUN {count};:INIT;*OPC?"
+SCAN = "ROUT:SCAN (@1!1);:TRAC:POIN {count};:TRIG:COUN {count};:INIT;*OPC?"
 MOST = 100_000  # readings of a scan
 ALL_READINGS = ",".join(f"{1 + n / 1_000_000_000:.9f}" for n in range(MOST))
 
@@ -99,6 +101,32 @@ def beside_half_a_message(served, joins):
     joins().commands.sendall(message(6, 0, 0xffff_ff00, b"ROUT:CLOS") + b"HS\x07")
     served.connect().sendall(b"HS")
     served.connect()
+
+
+def at_a_terminal(program):
+    """Ctrl-D ends the server well."""
+    with socket.create_server(("127.0.0.1", 0)) as free:
+        port = free.getsockname()[1]
+    terminal = Terminal([program, "serve", "--until-end-of-input", "--port", str(port)])
+    try:
+        terminal.shows(f"listening on 127.0.0.1:{port}")
+        with within(END, "the end"):
+            terminal.types(CTRL_D)
+            same("status", terminal.process.wait(PATIENCE), 0)
+    finally:
+        terminal.close()
+
+
+def a_pipe_whose_writer_is_killed(program):
+    """As a supervisor's unit has it: what holds the pipe is ended, and the shell ends with the server."""
+    with socket.create_server(("127.0.0.1", 0)) as free:
+        port = free.getsockname()[1]
+    command = f"sleep 3600 | exec '{program}' serve --until-end-of-input --port {port}"
+    with subprocess.Popen(["/bin/sh", "-c", command], stderr=subprocess.PIPE, text=True) as shell:
+        same("what is told", shell.stderr.readline(), f"mainframe: listening on 127.0.0.1:{port}\n")
+        with within(END, "the end"):
+            subprocess.run(["pkill", "-P", str(shell.pid), "-x", "sleep"], check=True)
+            same("status", shell.wait(PATIENCE), 0)
 
 
 def the_message_that_the_end_meets_is_answered_whole(program):
@@ -267,6 +295,6 @@ CHECKS = [ends_while(play) for play in (
     with_nobody, behind_text_that_nobody_asked_for, beside_sixteen_idle_clients, beside_a_held_query,
     beside_a_lock_and_who_waits_for_it, beside_a_pause_of_an_hour, beside_an_answer_that_nobody_reads,
     beside_half_a_message)]
-CHECKS += [the_message_that_the_end_meets_is_answered_whole, an_answer_of_all_readings, a_pause_holds_no_session_up,
+CHECKS += [at_a_terminal, a_pipe_whose_writer_is_killed, the_message_that_the_end_meets_is_answered_whole, an_answer_of_all_readings, a_pause_holds_no_session_up,
            accepts_that_fail_are_over_soon, more_desks_than_a_few, another_address, an_address_of_version_six,
            what_is_told_of_connections, cards_of_ones_own]

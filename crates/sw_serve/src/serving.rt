@@ -32,7 +32,7 @@ use sw_workers::{
 
 /// Takes so many connections, or fewer where the port ends, each served by a thread of its own over these cards, and
 /// then closes down. A connection that fails counts; one for which there is no memory or no thread is closed. Once the
-/// port has ended each session ends after the message that it is in, and one that goes on for a second is cut off.
+/// port has ended each session ends after the message that it is in, and one that goes on for 0.7 seconds is cut off.
 pub fn serve_cards<
     R: Relay + Send + 'static,
     M: Meter + Send + 'static,
@@ -186,11 +186,11 @@ fn serve_each<
 }
 
 /// How often it is looked whether all sessions have ended, and how many milliseconds lie between.
-const LOOKS: u32 = 100;
+const LOOKS: u32 = 70;
 
 const LOOK_MS: u64 = 10;
 
-/// Ends the sessions: each after the message that it is in, and after a second at once.
+/// Ends the sessions: each after the message that it is in, and after 0.7 seconds at once.
 fn end_sessions<
     H: House + Send + Sync + 'static,
     R: Relay + Send + 'static,
