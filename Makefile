@@ -1,7 +1,8 @@
 # make try:   in about a minute answers the lines that are typed, by a program that nothing has proved.
 # make try-serve: likewise serves HiSLIP clients on port 4880 of this machine; PORT=4881: on that port.
 # make run:   answers the lines that are typed by the proved program; the first time it proves it.
-# make serve: serves HiSLIP clients on port 4880 of this machine by the proved program; PORT=4881: on that port.
+# make serve: serves HiSLIP clients on port 4880 of this machine by the proved program, until Ctrl-D; PORT=4881: on that
+#             port; ADDRESS=192.168.1.5: at that address, for whoever reaches it.
 # make test:  the whole gate.
 # make wrong: tries every wrong body, whatever is recorded of it.
 # make check CRATE=sw_lex: proves one crate.
@@ -23,7 +24,8 @@ run:
 	@cd crates/mainframe && $(RT) run -- run
 
 serve:
-	@cd crates/mainframe && $(RT) run -- --version && exec out/mainframe serve --port $(or $(PORT),4880)
+	@cd crates/mainframe && $(RT) run -- --version && \
+	exec out/mainframe serve --until-end-of-input --address $(or $(ADDRESS),127.0.0.1) --port $(or $(PORT),4880)
 
 test:
 	@./gate

@@ -89,12 +89,13 @@ def wait_until(what, holds):
 class Served:
     """The program, which serves on `port` until the block ends."""
 
-    def __init__(self, program):
+    def __init__(self, program, *words, host="127.0.0.1", stdin=subprocess.DEVNULL, **options):
         self.program = program
-        with socket.create_server(("127.0.0.1", 0)) as free:
+        family = socket.AF_INET6 if ":" in host else socket.AF_INET
+        with socket.create_server((host, 0), family=family) as free:
             self.port = free.getsockname()[1]
-        words = [program, "serve", "--port", str(self.port)]
-        self.process = subprocess.Popen(words, stdin=subprocess.DEVNULL, stderr=subprocess.PIPE, text=True)
+        words = [program, "serve", "--port", str(self.port), *words]
+        self.process = subprocess.Popen(words, stdin=stdin, stderr=subprocess.PIPE, text=True, **options)
         self.remarks = [self.process.stderr.readline()]
         if not self.remarks[0].endswith(f":{self.port}\n"):
             self.process.kill()

@@ -4,6 +4,7 @@
 - Indented lines behind `$ ` are commands of a shell that knows `mainframe`; what stands below comes out.
 - A fenced piece of Python is run with `mainframe` as a session of `serve`; the next fenced piece is what it prints.
   Where it takes PyVISA, the client stands in its place.
+- A fenced piece of Rust stands as it is in a file of `own_cards`, whatever it is indented by there.
 - Fenced lines behind `> ` and `< ` that begin with `48 53` are messages, sent and received in this order on the two
   connections of one session, all of a document one after another.
 """
@@ -109,6 +110,16 @@ def check_messages(program, lines):
                 same(line, receive_bytes(wire, len(message)).hex(" "), message.hex(" "))
 
 
+def check_excerpt(text):
+    """Whether some file of the program with cards of its own has these lines, one after another."""
+    wanted = [line.strip() for line in text.splitlines()]
+    for path in sorted(ROOT.glob("crates/own_cards/src/*.rt")):
+        lines = [line.strip() for line in path.read_text().splitlines()]
+        if any(lines[at:at + len(wanted)] == wanted for at in range(len(lines))):
+            return
+    raise Failure(f"no file of own_cards has the lines from {wanted[0]!r} on")
+
+
 def checks_of(path):
     """The checks of a document by their names."""
     found = list(blocks(path))
@@ -122,6 +133,8 @@ def checks_of(path):
             yield name, lambda program, text=text: check_session(program, text)
         elif language == "indented" and text.startswith("$ "):
             yield name, lambda program, text=text: check_shell(program, text)
+        elif language == "rust":
+            yield name, lambda program, text=text: check_excerpt(text)
         elif language == "python":
             told = following if next_language == "plain" else ""
             yield name, lambda program, text=text, told=told: check_python(program, text, told)

@@ -15,8 +15,8 @@ use Rattle.sw_session.specs.Talk.{state}
 use Rattle.sw_session.specs.Law.{IsSameDesk, CoreTalkIsDetermined, CoreRestIsDetermined}
 use Rattle.sw_card.specs.Account.{Account}
 use Rattle.mainframe.specs.Lines.{lines_of}
-use Rattle.mainframe.specs.Cards.{Fitted}
-use Rattle.mainframe.specs.Run.{RunState, begins_over, Stepped, AsksEach, Joins, IsSetUp, Line, Run, RunsTo}
+use Rattle.sw_serve.specs.Offers.{Offered, Stepped, TakesOffers, Joins, IsSetUp}
+use Rattle.mainframe.specs.Run.{RunState, begins_over, Line, Run, RunsTo}
 use Rattle.mainframe.specs.Law.{IsPlainLine, IsPlainRun, outcomes_in_run}
 
 -- an offer of a card is answered plainly
@@ -74,15 +74,11 @@ install_once law p q q' slot card s t =
     (law p q q' (AskInstall slot card) s.failed t.failed s.answer t.answer s.step t.step same_failures (install_plain p slot card s.failed s.answer q s.step)
     (install_plain p slot card t.failed t.answer q' t.step) tt tt).1
 
-offers_once : StepIsDetermined → (cards : Fitted) (p p' q q' : Panel) → p ≡ p'
-    → AsksEach p (AskInstall 1 cards.first ∷ AskInstall 2 cards.second ∷ AskInstall 3 cards.third ∷ AskInstall 4 cards.fourth ∷ []) q
-    → AsksEach p' (AskInstall 1 cards.first ∷ AskInstall 2 cards.second ∷ AskInstall 3 cards.third ∷ AskInstall 4 cards.fourth ∷ []) q' → q ≡ q'
-offers_once law cards p p' q q' e (a, s, (b, t, (c, u, (d, v, is)))) (a', s', (b', t', (c', u', (d', v', is')))) =
-    let one : a ≡ a' = install_once law p' a a' 1 cards.first (subst (λ (x : Panel). Stepped x (AskInstall 1 cards.first) a) e s) s' in
-    let two : b ≡ b' = install_once law a' b b' 2 cards.second (subst (λ (x : Panel). Stepped x (AskInstall 2 cards.second) b) one t) t' in
-    let three : c ≡ c' = install_once law b' c c' 3 cards.third (subst (λ (x : Panel). Stepped x (AskInstall 3 cards.third) c) two u) u' in
-    let four : d ≡ d' = install_once law c' d d' 4 cards.fourth (subst (λ (x : Panel). Stepped x (AskInstall 4 cards.fourth) d) three v) v' in
-    is ∙ four ∙ sym is'
+offers_once : StepIsDetermined → (cards : List Offered) (p p' q q' : Panel) → p ≡ p' → TakesOffers p cards q → TakesOffers p' cards q' → q ≡ q'
+offers_once law [] p p' q q' e is is' = is ∙ e ∙ sym is'
+offers_once law (o ∷ cards) p p' q q' e (a, s, more) (a', s', more') =
+    let one : a ≡ a' = install_once law p' a a' o.slot o.card (subst (λ (x : Panel). Stepped x (AskInstall o.slot o.card) a) e s) s' in
+    offers_once law cards a a' q q' one more more'
 
 joined_once : StepIsDetermined → (sid sid' : Sid) (q q' : Panel) → Joins sid q → Joins sid' q' → (sid ≡ sid') × (q ≡ q')
 joined_once law sid sid' q q' j k =
@@ -94,7 +90,7 @@ joined_once law sid sid' q q' j k =
     let e : SaysSession (Joined sid) None ≡ SaysSession (Joined sid') None = r.0 in
     (let s : sid ≡ sid' = cc in s, r.1)
 
-pub set_up_once : StepIsDetermined → (cards : Fitted) (sid sid' : Sid) (p p' : Panel) → IsSetUp cards sid p → IsSetUp cards sid' p' → (sid ≡ sid') × (p ≡ p')
+pub set_up_once : StepIsDetermined → (cards : List Offered) (sid sid' : Sid) (p p' : Panel) → IsSetUp cards sid p → IsSetUp cards sid' p' → (sid ≡ sid') × (p ≡ p')
 set_up_once law cards sid sid' p p' s t =
     let j = joined_once law sid sid' s.begun t.begun s.joined t.joined in
     (j.0, offers_once law cards s.begun t.begun p p' j.1 s.fitted t.fitted)
@@ -144,7 +140,7 @@ all_lines : (input : List ℕ) (done : List (List ℕ)) → lines_of input ≡ d
 all_lines input done e = sym (append-nil done) ∙ sym e
 
 pub run_once : StepIsDetermined → CoreTalkIsDetermined → CoreRestIsDetermined
-    → (cards : Fitted) (sid sid' : Sid) (start start' : Panel) (input bytes bytes' : List ℕ) → IsSetUp cards sid start → IsSetUp cards sid' start'
+    → (cards : List Offered) (sid sid' : Sid) (start start' : Panel) (input bytes bytes' : List ℕ) → IsSetUp cards sid start → IsSetUp cards sid' start'
     → (r : RunsTo sid (begins_over start) input [] bytes) (r' : RunsTo sid' (begins_over start') input [] bytes')
     → IsPlainRun sid (begins_over start) r.done bytes r.after r.run → IsPlainRun sid' (begins_over start') r'.done bytes' r'.after r'.run
     → outcomes_in_run sid (begins_over start) r.done bytes r.after r.run ≡ outcomes_in_run sid' (begins_over start') r'.done bytes' r'.after r'.run

@@ -11,9 +11,8 @@ use Rattle.sw_session.specs.CoreDesk.{desk_over, DeskSeen, CorePasses, WaitsOut}
 use Rattle.sw_session.specs.Talk.{state, Talked}
 use Rattle.mainframe.specs.Lines.{lines_of}
 use Rattle.sw_session.specs.ServeWrite.{WritesPart}
-use Rattle.sw_card.specs.Account.{Account}
-use Rattle.mainframe.specs.Cards.{Fitted, fitted}
-use Rattle.mainframe.specs.Run.{RunState, begins_over, IsSetUp, Line, Run, Runs, AnsweredFrom, PartFrom, CutFrom, EndsFrom}
+use Rattle.sw_serve.specs.Offers.{Offered, IsSetUp, IsDeskForOne}
+use Rattle.mainframe.specs.Run.{RunState, begins_over, Line, Run, Runs, AnsweredFrom, PartFrom, CutFrom, EndsFrom}
 use Rattle.mainframe.specs.declared.fault.RunFault.{RunFault}
 use Rattle.mainframe.specs.declared.fault.RunFault.TheVariants.{Input, Output, Memory, Listen}
 use Rattle.sw_base.specs.Limits.{most_kept}
@@ -217,7 +216,7 @@ shown-taken (Some xs) (Some ys) r2 n kept Shown (here, whole) keeps shown loses 
     (whole.1, loses shown ∙ ap (λ l. Some (drop n l)) keeps ∙ ap (λ m. Some (drop m xs)) whole.0 ∙ ap Some (drop-through xs))
 
 -- what the loop over the lines comes to, from a mainframe that was set up
-runs_set_up : (cards : Fitted) (sid : Sid) (start : Panel) (result : Result (Unit {0}) RunFault) (r0 left old new : Option (List ℕ)) → IsSetUp cards sid start
+runs_set_up : (cards : List Offered) (sid : Sid) (start : Panel) (result : Result (Unit {0}) RunFault) (r0 left old new : Option (List ℕ)) → IsSetUp cards sid start
     → OnOk result (IfSome r0 (λ input. AnsweredFrom sid (begins_over start) input [] old new)) → OnOk result (IfSome r0 (λ _. IsAtEnd left))
     → IfErr result (λ fault. IfSome r0 (λ input. EndsFrom sid (begins_over start) fault input left old new))
     → IfSome r0 (λ input. Runs cards result input left old new)
@@ -235,17 +234,14 @@ IfErr_map : {T E : Type 0} {X Y : E → Type 0} (r : Result T E) → ((e : E) �
 IfErr_map (Ok t) f h = tt
 IfErr_map (Err e) f h = f e h
 
--- and from the desk over it, with the cards by what their makers say of them
-pub runs_begun : (first second third fourth f s t m : Account) → f ≡ first → s ≡ second → t ≡ third → m ≡ fourth → (sid : Sid) (core : Panel) (desk : DeskSeen)
-    → desk ≡ desk_over core → (result : Result (Unit {0}) RunFault) (r0 left old new : Option (List ℕ)) → IsSetUp (fitted f s t m) sid core
+-- and from the desk over it
+pub runs_begun : (cards : List Offered) (sid : Sid) (desk spoken : DeskSeen) → IsDeskForOne cards sid spoken → desk ≡ spoken
+    → (result : Result (Unit {0}) RunFault) (r0 left old new : Option (List ℕ))
     → OnOk result (IfSome r0 (λ input. AnsweredFrom sid (state desk no_macros) input [] old new)) → OnOk result (IfSome r0 (λ _. IsAtEnd left))
     → IfErr result (λ fault. IfSome r0 (λ input. EndsFrom sid (state desk no_macros) fault input left old new))
-    → IfSome r0 (λ input. Runs (fitted first second third fourth) result input left old new)
-runs_begun first second third fourth f s t m a b c d sid core desk is result r0 left old new up ok all err =
-    let one : IsSetUp (fitted first s t m) sid core = subst (λ (x : Account). IsSetUp (fitted x s t m) sid core) a up in
-    let two : IsSetUp (fitted first second t m) sid core = subst (λ (x : Account). IsSetUp (fitted first x t m) sid core) b one in
-    let three : IsSetUp (fitted first second third m) sid core = subst (λ (x : Account). IsSetUp (fitted first second x m) sid core) c two in
-    let four : IsSetUp (fitted first second third fourth) sid core = subst (λ (x : Account). IsSetUp (fitted first second third x) sid core) d three in
-    runs_set_up (fitted first second third fourth) sid core result r0 left old new four (OnOk_map result (λ h.
+    → IfSome r0 (λ input. Runs cards result input left old new)
+runs_begun cards sid desk spoken up same result r0 left old new ok all err =
+    let is = same ∙ up.over in
+    runs_set_up cards sid up.panel result r0 left old new up.set_up (OnOk_map result (λ h.
     subst (λ (d : DeskSeen). IfSome r0 (λ input. AnsweredFrom sid (state d no_macros) input [] old new)) is h) ok) all (IfErr_map result (λ fault h.
     subst (λ (d : DeskSeen). IfSome r0 (λ input. EndsFrom sid (state d no_macros) fault input left old new)) is h) err)

@@ -6,4 +6,4 @@ pub mod Turns
 pub mod Statuses
 pub mod Law
 pub mod Listings
-pub mod Serving
+pub mod Address

@@ -1,6 +1,6 @@
 -- What `check` writes of a listing: whether the program's cards may do its scan, with nothing closed (own).
 use Rattle.std.specs.Prelude.{◌≡◌, ◌≢◌, ℕ, Bool, true, false, List, [], ◌∷◌, ◌++◌, Option, Some, Ok, Err, ◌⊎◌}
-use Rattle.std.specs.Prelude.{codes, decimal}
+use Rattle.std.specs.Prelude.{codes, decimal, map}
 use Rattle.std.specs.Io.KnownBytes.{Appends}
 use Rattle.sw_base.specs.Layout.{Layout}
 use Rattle.sw_base.specs.Limits.{most_points}
@@ -19,10 +19,9 @@ use Rattle.sw_cage.specs.Accounts.{layout_of}
 use Rattle.mainframe.specs.Cards.{program_cards}
 use Rattle.sw_session.specs.ServeWrite.{WritesPart}
 
--- the program's cards, in slots 1 to 4
+-- the program's cards, which are offered to the slots from 1 on
 abbrev pub program_layout : Layout
-program_layout = layout_of (Some program_cards.first ∷ Some program_cards.second
-    ∷ Some program_cards.third ∷ Some program_cards.fourth ∷ [])
+program_layout = layout_of (map (λ o. Some o.card) program_cards)
 
 abbrev pub fault_name : ListFault → List ℕ
 fault_name BadStep = codes "BadStep"

@@ -1,20 +1,16 @@
 -- What `run` writes for what it reads.
-use Rattle.std.specs.Prelude.{◌≡◌, ℕ, true, None, List, [], ◌∷◌, ◌++◌, Option, Some, Result, OnOk, IfErr, Bool, ◌⊎◌}
+use Rattle.std.specs.Prelude.{◌≡◌, ℕ, true, List, [], ◌∷◌, ◌++◌, Option, Some, Result, OnOk, IfErr, ◌⊎◌}
 use Rattle.std.specs.Io.KnownBytes.{Appends, Keeps, IsAtEnd}
 use Rattle.std.specs.Io.{StopsAt}
 use Rattle.sw_core.specs.declared.ask.Sid.{Sid}
-use Rattle.sw_core.specs.declared.ask.SessionAsk.TheVariants as Ask
-use Rattle.sw_core.specs.declared.ask.SessionAnswer.TheVariants.{Joined}
-use Rattle.sw_core.specs.Panel.{Panel, opening}
-use Rattle.sw_core.specs.Seen.{AskSeen, AskSession, AskInstall, AnswerSeen, SaysSession}
-use Rattle.sw_core.specs.Step.{Step}
+use Rattle.sw_core.specs.Panel.{Panel}
 use Rattle.sw_macro.specs.Table.{no_macros}
 use Rattle.sw_session.specs.CoreDesk.{DeskSeen, CorePasses, WaitsOut, desk_over}
 use Rattle.sw_session.specs.Talk.{state, Talked}
 use Rattle.sw_session.specs.Talk.{TalkState as StateOver}
 use Rattle.mainframe.specs.declared.fault.RunFault.{RunFault}
 use Rattle.mainframe.specs.declared.fault.RunFault.TheVariants.{Input, Output, Memory, Listen}
-use Rattle.mainframe.specs.Cards.{Fitted}
+use Rattle.sw_serve.specs.Offers.{Offered, IsSetUp}
 use Rattle.mainframe.specs.Lines.{lines_of}
 use Rattle.sw_session.specs.ServeWrite.{WritesPart}
 
@@ -25,30 +21,6 @@ RunState = StateOver DeskSeen
 -- a run begins over this mainframe with nothing outstanding, no macro, and macros off
 abbrev pub begins_over : Panel → RunState
 begins_over p = state (desk_over p) no_macros
-
--- one step of the mainframe, whatever it answers
-pub record Stepped (p : Panel) (ask : AskSeen) (q : Panel) : Type 0 where
-  pub failed : Bool
-  pub answer : AnswerSeen
-  pub step : Step p ask failed answer q
-
--- a session joins the opening mainframe
-pub record Joins (sid : Sid) (q : Panel) : Type 0 where
-  pub failed : Bool
-  pub step : Step opening (AskSession Ask.Join) failed (SaysSession (Joined sid) None) q
-
--- these asks one after another, whatever is answered
-abbrev pub AsksEach : Panel → List AskSeen → Panel → Type 0
-AsksEach p [] q = q ≡ p
-AsksEach p (a ∷ more) q = (mid : Panel) × Stepped p a mid × AsksEach mid more q
-
--- the mainframe once a session joined and these cards were offered to the empty cage
-pub record IsSetUp (cards : Fitted) (sid : Sid) (panel : Panel) : Type 0 where
-  pub begun : Panel
-  pub joined : Joins sid begun
-  pub fitted : AsksEach begun
-      (AskInstall 1 cards.first ∷ AskInstall 2 cards.second
-      ∷ AskInstall 3 cards.third ∷ AskInstall 4 cards.fourth ∷ []) panel
 
 -- one line is talked over and answered by these bytes, and then all that is outstanding is carried out
 pub record Line (sid : Sid) (old : RunState) (line told : List ℕ) (new : RunState) : Type 0 where
@@ -100,14 +72,14 @@ EndsFrom sid start Output input left old new = PartFrom sid start input left old
 EndsFrom sid start Listen input left old new = ⊥
 
 -- The whole input is answered by a mainframe of these cards.
-pub record Answered (cards : Fitted) (input : List ℕ) (old new : Option (List ℕ)) : Type 0 where
+pub record Answered (cards : List Offered) (input : List ℕ) (old new : Option (List ℕ)) : Type 0 where
   pub sid : Sid
   pub start : Panel
   pub set_up : IsSetUp cards sid start
   pub answered : AnsweredFrom sid (begins_over start) input [] old new
 
 -- The input is answered up to a fault by a mainframe of these cards.
-pub record Cut (cards : Fitted) (fault : RunFault) (input : List ℕ) (left old new : Option (List ℕ)) : Type 0 where
+pub record Cut (cards : List Offered) (fault : RunFault) (input : List ℕ) (left old new : Option (List ℕ)) : Type 0 where
   pub sid : Sid
   pub start : Panel
   pub set_up : IsSetUp cards sid start
@@ -121,7 +93,7 @@ pub record Unbegun (fault : RunFault) (input : List ℕ) (left old new : Option 
 
 -- What a run comes to by a mainframe of these cards. At Ok all of the input was read and answered. At a fault either
 -- nothing was begun, or the answers are written up to the fault.
-pub record Runs (cards : Fitted) (result : Result (Unit {0}) RunFault) (input : List ℕ)
+pub record Runs (cards : List Offered) (result : Result (Unit {0}) RunFault) (input : List ℕ)
     (left old new : Option (List ℕ)) : Type 0 where
   pub answered : OnOk result (Answered cards input old new)
   pub all : OnOk result (IsAtEnd left)

@@ -1,11 +1,13 @@
 //! The command line: what its words ask for, and the exit status where they are refused.
 
 ghost use Rattle.std.specs.Prelude.{◌≡◌};
+ghost use Rattle.mainframe.specs.Address.{IsBoundAt};
 ghost use Rattle.mainframe.specs.Statuses.{unrun_status};
 
 use clap::error::ErrorKind;
-use clap::{Arg, ArgMatches, Command, Error};
+use clap::{Arg, ArgAction, ArgMatches, Command, Error};
 use std::alloc::{AllocError, Global};
+use std::net::{IpAddr, Ipv4Addr, SocketAddr};
 
 /// What a listing is, for the help of `check`.
 const LISTING: &str =
@@ -28,7 +30,8 @@ const LISTING: &str =
 const SERVED: &str =
     "Sixteen sessions share the cards of `run`. A client opens two connections for each, as IVI-6.1 \
     tells; its resource name at port 4880 is TCPIP::127.0.0.1::hislip0::INSTR.\n\n\
-    `mainframe: listening on 127.0.0.1:P` on standard error says that connections are taken.";
+    `mainframe: listening on 127.0.0.1:P` on standard error says that connections are taken.\n\n\
+    HiSLIP knows no user: whoever reaches the address moves relays.";
 
 /// The port of HiSLIP.
 const PORT: u16 = 4880;
@@ -40,15 +43,65 @@ pub enum Order {
     Run(Option<u32>),
     /// To check a listing on standard input.
     Check,
-    /// To serve connections on this port of 127.0.0.1.
-    Serve(u16),
+    /// To serve connections.
+    Serve(Serving),
 }
 
-/// What these words ask for, of which the first is the program's name. Else what `clap` says of them: of a mistake, of
-/// want of memory, or the help or the version that they ask for.
-pub fn parse_words(alloc: Global, words: &[String]) -> Result<Order, Error> {
-    let matches = command_line(alloc)?.try_get_matches_from(words)?;
-    Ok(order_of(&matches))
+/// How connections are served.
+#[derive(Clone, Copy, Debug, PartialEq, Eq, Drop)]
+pub struct Serving {
+    /// At which address; without one at this machine's own.
+    pub address: Option<IpAddr>,
+    pub port: u16,
+    /// Until the end of standard input, and not for ever.
+    pub until_end_of_input: bool,
+    /// Each connection is told of on standard error.
+    pub is_logged: bool,
+}
+
+impl Serving {
+    /// Where connections are taken.
+    pub fn bound_at(&self) -> SocketAddr
+        ensures { IsBoundAt self.now.address self.now.port result }
+    {
+        let ip = match self.address {
+            Some(ip) => ip,
+            None => IpAddr::V4(Ipv4Addr::new(127, 0, 0, 1)),
+        };
+        SocketAddr::new(ip, self.port)
+    }
+}
+
+/// Why words ask for nothing to be run.
+#[derive(Drop)]
+pub enum Unrun {
+    /// What `clap` says of them: of a mistake, of want of memory, or the help or the version that they ask for.
+    Words(Error),
+    /// The word behind `--address` is no address.
+    Address,
+}
+
+impl Unrun {
+    /// What kind it is of.
+    pub fn kind(&self) -> ErrorKind {
+        match self {
+            Unrun::Words(error) => error.kind(),
+            Unrun::Address => ErrorKind::ValueValidation,
+        }
+    }
+}
+
+/// What these words ask for, of which the first is the program's name, or why they ask for nothing to be run.
+pub fn parse_words(alloc: Global, words: &[String]) -> Result<Order, Unrun> {
+    match matches_of(alloc, words) {
+        Ok(matches) => order_of(&matches),
+        Err(error) => Err(Unrun::Words(error)),
+    }
+}
+
+/// What `clap` reads of the words.
+fn matches_of<'a>(alloc: Global, words: &'a [String]) -> Result<ArgMatches<'a>, Error> {
+    command_line(alloc)?.try_get_matches_from(words)
 }
 
 /// The words that are understood.
@@ -75,25 +128,61 @@ fn command_line<'a>(alloc: Global) -> Result<Command<'a>, AllocError> {
 
 /// The words of `serve`.
 fn serve_words<'a>(alloc: Global) -> Result<Command<'a>, AllocError> {
+    let address = Arg::new(alloc, "address")
+        .long("address")
+        .value_name("ADDRESS")
+        .help("Listen on this IPv4 or IPv6 address [default: 127.0.0.1]");
     let port = Arg::new(alloc, "port")
         .long("port")
         .value_name("P")
-        .help("Listen on port P of 127.0.0.1, P from 1 to 65535")
+        .help("Listen on port P, from 1 to 65535")
         .default_value("4880")
         .value_parser(clap::value_parser!(u16).range(1..65_536));
+    let until = Arg::new(alloc, "until-end-of-input")
+        .long("until-end-of-input")
+        .action(ArgAction::SetTrue)
+        .help("End with standard input, every relay open");
+    let log = Arg::new(alloc, "log")
+        .long("log")
+        .action(ArgAction::SetTrue)
+        .help("Tell each connection's coming and leaving on standard error");
     Command::new(alloc, "serve")
         .about("Serve HiSLIP sessions over TCP, each connection by a thread of its own")
         .after_help(SERVED)
-        .arg(port)
+        .arg(address)?
+        .arg(port)?
+        .arg(until)?
+        .arg(log)
 }
 
 /// What the words that were understood ask for.
-fn order_of(matches: &ArgMatches) -> Order {
+fn order_of(matches: &ArgMatches) -> Result<Order, Unrun> {
     match matches.subcommand() {
-        Some(("check", _)) => Order::Check,
-        Some(("serve", serve)) => Order::Serve(serve.get_one::<u16>("port").unwrap_or(PORT)),
-        Some((_, run)) => Order::Run(run.get_one::<u32>("fuse")),
-        None => Order::Run(None),
+        Some(("check", _)) => Ok(Order::Check),
+        Some(("serve", serve)) => Ok(Order::Serve(serving_of(serve)?)),
+        Some((_, run)) => Ok(Order::Run(run.get_one::<u32>("fuse"))),
+        None => Ok(Order::Run(None)),
+    }
+}
+
+/// How the words of `serve` ask for connections to be served.
+fn serving_of(serve: &ArgMatches) -> Result<Serving, Unrun> {
+    Ok(Serving {
+        address: address_of(serve.get_str("address"))?,
+        port: serve.get_one::<u16>("port").unwrap_or(PORT),
+        until_end_of_input: serve.get_flag("until-end-of-input"),
+        is_logged: serve.get_flag("log"),
+    })
+}
+
+/// The address that a word tells.
+fn address_of(word: Option<&str>) -> Result<Option<IpAddr>, Unrun> {
+    let Some(word) = word else {
+        return Ok(None);
+    };
+    match word.parse::<IpAddr>() {
+        Ok(ip) => Ok(Some(ip)),
+        Err(_) => Err(Unrun::Address),
     }
 }
 

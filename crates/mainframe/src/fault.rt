@@ -1,7 +1,9 @@
 //! Why the program stops.
 
 ghost use Rattle.std.specs.Prelude.{◌≡◌};
+ghost use Rattle.mainframe.specs.declared.fault.RunFault.TheVariants.{Memory};
 
+use std::alloc::{AllocError, AllocFailed};
 use thiserror::Error;
 
 /// Why the program stops. Its text is the line on standard error.
@@ -27,5 +29,21 @@ impl RunFault {
         ensures { result ≡ 1 }
     {
         1
+    }
+}
+
+impl From<AllocError> for RunFault {
+    ghost from_gives = { λ _ fault. fault ≡ Memory };
+
+    fn from(_error: AllocError) -> RunFault {
+        RunFault::Memory
+    }
+}
+
+impl<T: Drop> From<AllocFailed<T>> for RunFault {
+    ghost from_gives = { λ _ fault. fault ≡ Memory };
+
+    fn from(_failed: AllocFailed<T>) -> RunFault {
+        RunFault::Memory
     }
 }

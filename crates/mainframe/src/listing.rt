@@ -29,6 +29,15 @@ pub struct Checked {
     pub remark: Option<String>,
 }
 
+impl Checked {
+    /// The exit status: 0, or 3 where the listing is refused, whether there was memory to say why or not.
+    pub fn status(&self) -> u8
+        ensures { result ≡ (if self.now.accepted then 0 else 3) }
+    {
+        if self.accepted { 0 } else { 3 }
+    }
+}
+
 /// What is to be said of a listing.
 #[derive(Drop)]
 struct Judgement {
@@ -58,13 +67,6 @@ pub fn check_listing<Rd: Read, W: Write>(
     let judgement = judge(alloc, &text)?;
     write_bytes(writer, judgement.line.as_bytes())?;
     Ok(judgement.checked)
-}
-
-/// The exit status where a listing was checked: 0, or 3 where it is refused.
-pub fn checked_status(accepted: bool) -> u8
-    ensures { result ≡ (if accepted then 0 else 3) }
-{
-    if accepted { 0 } else { 3 }
 }
 
 /// The bytes up to the reader's end.

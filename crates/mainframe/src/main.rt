@@ -3,24 +3,20 @@
 //! `mainframe run [--fuse K]` answers each line of standard input on standard output. The crate's contract is that of
 //! `run::run_lines`: what is written is what the definition of a talk says of what was read, by the step relation of
 //! the core from its opening state. `mainframe check` says of a listing whether the program's cards may do its scan;
-//! its contract is that of `listing::check_listing`. `mainframe serve [--port P]` serves sessions over TCP, and its
-//! contract is that of `serving::serve_on`: how many connections it takes; and of `serving::serve_cards`: which cards
-//! come out of their slots at the end, each of them open. What a connection's thread does is said by
-//! `serving::attend`.
+//! its contract is that of `listing::check_listing`. `mainframe serve` serves sessions over TCP at the address and the
+//! port that `Serving::bound_at` tells; its contract is that of `serving::serve_on`: how many connections it takes; and
+//! of `sw_serve::serve_cards`: which cards come out of their slots at the end, each of them open.
 //!
 //! Nothing is promised of what a terminal or a network carries, nor of the texts of `clap`.
 #![tactic(auto)]
 
 mod cards;
 mod command_line;
-mod crew;
+mod error_log;
 mod explanation;
 mod fault;
 mod laws;
 mod listing;
-mod lobby;
-mod offer;
-mod port;
 mod reading;
 mod run;
 mod serving;
@@ -28,22 +24,23 @@ mod serving;
 mod tests;
 mod writing;
 
-use clap::Error;
 use clap::error::ErrorKind;
-use command_line::{Order, parse_words, unrun_status};
+use command_line::{Order, Serving, Unrun, parse_words, unrun_status};
+use error_log::ErrorLog;
 use fault::RunFault;
-use listing::{check_listing, checked_status};
-use port::Port;
+use listing::check_listing;
 use run::run_lines;
 use serving::serve_on;
 use std::alloc::{AllocError, Global};
 use std::io;
-use std::io::BufReader;
-use std::net::{Ipv4Addr, Net, TcpListener, TcpStream};
+use std::io::{BufReader, Read};
+use std::net::{Net, SocketAddr, TcpListener, TcpStream};
+use std::os::fd::AsRawFd;
 use std::process::ExitCode;
 use std::sync::Wait;
 use std::thread::Threads;
 use std::time::Clock;
+use sw_serve::Door;
 
 fn main(rt: HostRuntime) -> ExitCode {
     let Ok(words) = std::env::args(&rt) else {
@@ -56,7 +53,14 @@ fn main(rt: HostRuntime) -> ExitCode {
     match parse_words(rt.alloc(), words.as_slice()) {
         Ok(Order::Run(fuse)) => answer_input(&rt, fuse),
         Ok(Order::Check) => check_input(&rt),
-        Ok(Order::Serve(port)) => serve_port(rt, rt.alloc(), port),
+        Ok(Order::Serve(serving)) => {
+            let input = if serving.until_end_of_input {
+                Some(rt.reader())
+            } else {
+                None
+            };
+            serve_at(rt, rt.alloc(), serving, input)
+        }
         Err(error) => unrun(&rt, &error),
     }
 }
@@ -83,11 +87,12 @@ fn check_input(rt: &HostRuntime) -> ExitCode {
     if let Some(remark) = &checked.remark {
         let _ = eprintln!(rt; "{remark}");
     }
-    ExitCode::from(checked_status(checked.accepted))
+    ExitCode::from(checked.status())
 }
 
-/// Serves connections on a port of this machine, and says when it listens.
-fn serve_port<
+/// Serves connections at an address and a port, and says when it listens, or why it can't. With `input` it serves until
+/// that ends.
+fn serve_at<
     W: Threads
         + Wait
         + Clock
@@ -98,16 +103,31 @@ fn serve_port<
         + Send
         + Sync
         + 'static,
->(rt: W, alloc: Global, port: u16) -> ExitCode {
-    let Ok(listener) = TcpListener::bind(&rt, (Ipv4Addr::LOCALHOST, port)) else {
-        return stopped(&rt, RunFault::Listen);
+    I: Read + AsRawFd + Drop,
+>(rt: W, alloc: Global, serving: Serving, input: Option<I>) -> ExitCode {
+    let at = serving.bound_at();
+    let listener = match TcpListener::bind(&rt, at) {
+        Ok(listener) => listener,
+        Err(error) => return unbound(&rt, at, &error),
     };
-    let _ = eprintln!(rt; "mainframe: listening on 127.0.0.1:{port}");
-    let mut port = Port::new(rt, alloc, &listener);
-    match serve_on(rt, alloc, &mut port, u32::MAX) {
+    let _ = eprintln!(rt; "mainframe: listening on {at}");
+    let log = ErrorLog {
+        rt,
+        alloc,
+        is_on: serving.is_logged,
+    };
+    let mut door = Door::new(rt, alloc, &listener, input, log);
+    match serve_on(rt, alloc, &mut door, u32::MAX, log) {
         Ok(()) => ExitCode::SUCCESS,
         Err(fault) => stopped(&rt, fault),
     }
+}
+
+/// Says that no connection can be taken, and where, and why.
+fn unbound(rt: &impl Eprint, at: SocketAddr, error: &io::Error) -> ExitCode {
+    let status = stopped(rt, RunFault::Listen);
+    let _ = eprintln!(rt; "mainframe: {at}: {error}");
+    status
 }
 
 /// One line on standard error, and the fault's status.
@@ -117,11 +137,20 @@ fn stopped(rt: &impl Eprint, fault: RunFault) -> ExitCode {
 }
 
 /// What is said where nothing is run, and its status.
-fn unrun(rt: &HostRuntime, error: &Error) -> ExitCode {
-    let kind = error.kind();
+fn unrun(rt: &HostRuntime, why: &Unrun) -> ExitCode {
+    let kind = why.kind();
     if kind == ErrorKind::OutOfMemory {
         return stopped(rt, RunFault::Memory);
     }
-    let _ = error.print(rt);
+    match why {
+        Unrun::Words(error) => {
+            let _ = error.print(rt);
+        }
+        Unrun::Address => {
+            let _ = eprintln!(rt;
+                "error: --address <ADDRESS> takes an IPv4 or IPv6 address\n\nFor more information, try '--help'."
+            );
+        }
+    }
     ExitCode::from(unrun_status(kind))
 }

@@ -1,24 +1,23 @@
 //! Lines in, lines out: each line that is read is one program message of one session.
 
-ghost use Rattle.std.specs.Prelude.{◌≡◌, ◌⊎◌, ℕ, OnOk, IfOk, IfSome, IfErr, []};
+ghost use Rattle.std.specs.Prelude.{◌≡◌, ◌⊎◌, ℕ, OnOk, IfSome, IfErr, []};
 ghost use Rattle.std.specs.Io.KnownBytes.{IsAtEnd};
-ghost use Rattle.sw_card.specs.Account.{relay_account, of_meter};
-ghost use Rattle.sw_core.specs.Panel.{opening};
-ghost use Rattle.mainframe.specs.Cards.{fitted, program_cards};
+ghost use Rattle.sw_serve.specs.Offers.{offers_seen, relay_seen, meter_seen};
+ghost use Rattle.mainframe.specs.Cards.{program_cards};
 ghost use Rattle.sw_macro.specs.Table.{no_macros};
 ghost use Rattle.mainframe.specs.Turns.{AsksInTurn, AnswersAtHand, StopsAtHand, FailsAfter, IsInVain, stand, streams};
 ghost use Rattle.sw_session.specs.Talk.{state, turns};
-ghost use Rattle.mainframe.specs.Run.{IsSetUp, Joins, AnsweredFrom, EndsFrom, Runs};
+ghost use Rattle.mainframe.specs.Run.{AnsweredFrom, EndsFrom, Runs};
 
-use crate::cards::{first_card, meter_card, second_card, third_card};
+use crate::cards::{first_card, in_slots, meter_card, second_card, third_card};
 use crate::fault::RunFault;
-use crate::offer::offer;
 use crate::reading::{Source, read_line};
 use crate::writing::{gather, write_out};
-use std::alloc::{AllocError, Global};
+use std::alloc::Global;
 use std::io::{BufRead, Write};
-use sw_card::{Card, Meter, Relay};
-use sw_core::{Answer, Ask, Core, SessionAnswer, SessionAsk, Sid};
+use sw_card::{Meter, Relay};
+use sw_core::Sid;
+use sw_serve::{Offer, desk_for_one};
 use sw_session::{CoreDesk, TURNS, Talker};
 
 /// Answers each line of the reader as a program message, by the program's cards: a multiplexer of 20 channels in group
@@ -36,82 +35,32 @@ pub fn run_lines<Rd: BufRead, W: Write>(
     ensures { IfSome (Rd.remaining reader.old) (λ input. Runs program_cards result input
         (Rd.remaining reader.new) (W.contents writer.old) (W.contents writer.new)) }
 {
-    let Ok(boxed) = Box::new(alloc, first_card(fuse)) else {
-        return Err(RunFault::Memory);
-    };
-    let first: Box<dyn Relay + Send> = boxed;
-    let Ok(boxed) = Box::new(alloc, second_card()) else {
-        return Err(RunFault::Memory);
-    };
-    let second: Box<dyn Relay + Send> = boxed;
-    let Ok(boxed) = Box::new(alloc, third_card()) else {
-        return Err(RunFault::Memory);
-    };
-    let third: Box<dyn Relay + Send> = boxed;
-    let Ok(boxed) = Box::new(alloc, meter_card()) else {
-        return Err(RunFault::Memory);
-    };
-    let meter: Box<dyn Meter + Send> = boxed;
-    run_over(alloc, reader, writer, first, second, third, meter)
+    let first: Box<dyn Relay + Send> = Box::new(alloc, first_card(fuse))?;
+    let second: Box<dyn Relay + Send> = Box::new(alloc, second_card())?;
+    let third: Box<dyn Relay + Send> = Box::new(alloc, third_card())?;
+    let meter: Box<dyn Meter + Send> = Box::new(alloc, meter_card())?;
+    let offers = in_slots(alloc, first, second, third, meter)?;
+    run_over(alloc, reader, writer, offers)
 }
 
-/// Answers each line of the source as a program message, by these cards in slots 1 to 4.
+/// Answers each line of the source as a program message, by a mainframe that was offered these cards.
 fn run_over<R: Relay, M: Meter, S: Source<W>, W: Write>(
     alloc: Global,
     source: &mut S,
     writer: &mut W,
-    first: R,
-    second: R,
-    third: R,
-    meter: M,
+    offers: Vec<Offer<R, M>>,
 ) -> Result<(), RunFault>
-    ensures { IfSome (S.remaining source.old) (λ input. Runs
-        (fitted
-        (relay_account (R.the_serial first) (R.failed first) (R.groups first) (R.closed first))
-        (relay_account (R.the_serial second) (R.failed second) (R.groups second) (R.closed second))
-        (relay_account (R.the_serial third) (R.failed third) (R.groups third) (R.closed third))
-        (of_meter (record { serial = M.the_serial meter; failures = M.failed meter; last = M.last_reading meter })))
+    ensures { IfSome (S.remaining source.old) (λ input. Runs (offers_seen
+        (relay_seen R.the_serial R.failed R.groups R.closed)
+        (meter_seen M.the_serial M.failed M.last_reading) offers.items)
         result input (S.remaining source.new) (W.contents writer.old) (W.contents writer.new)) }
 {
-    let first = Card::relays(first);
-    let second = Card::relays(second);
-    let third = Card::relays(third);
-    match set_up(alloc, first, second, third, Card::meter(meter)) {
-        Ok((core, sid)) => {
-            let mut desk = CoreDesk::new(alloc, core);
+    match desk_for_one(alloc, offers) {
+        Ok((desk, sid)) => {
+            let mut desk = desk;
             run_on(alloc, source, writer, &mut desk, sid)
         }
         Err(_) => Err(RunFault::Memory),
-    }
-}
-
-/// A mainframe that was joined by one session, and offered these cards.
-fn set_up<R: Relay, M: Meter>(
-    alloc: Global,
-    first: Card<R, M>,
-    second: Card<R, M>,
-    third: Card<R, M>,
-    meter: Card<R, M>,
-) -> Result<(Core<R, M>, Sid), AllocError>
-    ensures { IfOk result (λ x. IsSetUp (fitted first.1 second.1 third.1 meter.1) x.1 x.0) }
-{
-    let mut core = Core::new(alloc)?;
-    let sid = join(alloc, &mut core);
-    offer(alloc, &mut core, Ask::Install(1, first));
-    offer(alloc, &mut core, Ask::Install(2, second));
-    offer(alloc, &mut core, Ask::Install(3, third));
-    offer(alloc, &mut core, Ask::Install(4, meter));
-    Ok((core, sid))
-}
-
-/// Joins the opening mainframe.
-fn join<R: Relay, M: Meter>(alloc: Global, core: &mut Core<R, M>) -> Sid
-    requires { core.old ≡ opening }
-    ensures { Joins result core.new }
-{
-    match core.apply(alloc, Ask::Session(SessionAsk::Join)) {
-        Answer::Session(SessionAnswer::Joined(sid), _) => sid,
-        _ => unreachable!(),
     }
 }
 

@@ -11,6 +11,8 @@ pub struct Ends {
     joined: Option<u64>,
     /// It has left.
     is_over: bool,
+    /// The server ends.
+    is_closing: bool,
     lines: Vec<Line>,
 }
 
@@ -20,15 +22,17 @@ impl Ends {
         Ends {
             joined: None,
             is_over: false,
+            is_closing: false,
             lines: Vec::new(alloc),
         }
     }
 
-    /// A line of this session, with which it ends from now on. Where it has left, or there is no memory, the line ends
-    /// at once. Once both stand, their writes wait as long as it takes.
+    /// A line of this session, with which it ends from now on. Where it has left, the server ends, or there is no memory,
+    /// the line ends at once. Once both stand, their writes wait as long as it takes.
     pub fn enlist(&mut self, joined: u64, line: Line) {
         self.begin(joined);
-        if self.joined != Some(joined) || self.is_over || self.lines.reserve(1).is_err() {
+        let is_current = self.joined == Some(joined) && !self.is_over && !self.is_closing;
+        if !is_current || self.lines.reserve(1).is_err() {
             line.close();
             return;
         }
@@ -65,6 +69,17 @@ impl Ends {
         let lines = mem::replace(&mut self.lines, Vec::new(alloc));
         for line in lines.iter() {
             line.close();
+        }
+    }
+
+    /// The server ends, and with it each line that comes from now on. Nothing more is read from the first line, whose
+    /// end is the session's; or all lines end at once.
+    pub fn end_all(&mut self, is_at_once: bool) {
+        self.is_closing = true;
+        if is_at_once {
+            self.lines.iter().for_each(|line| line.close());
+        } else if let Some(first) = self.lines.first() {
+            first.finish();
         }
     }
 }

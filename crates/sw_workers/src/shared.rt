@@ -255,6 +255,12 @@ impl<H: House, R: Relay, M: Meter, G: Gate + Drop> Shared<H, R, M, G> {
         self.held.lock(rt).recent()
     }
 
+    /// No connection is served that comes from now on, and nothing more is read from those that are: each session ends
+    /// after the message that it is in. Or all connections end at once.
+    pub fn end_lines<W: Wait>(&self, rt: &W, is_at_once: bool) {
+        self.sides.end_all(rt, is_at_once);
+    }
+
     /// Nobody has to wait any more, and no work is sent any more: workers end once they have taken what was.
     pub fn end_work<W: Wait>(&self, rt: &W) {
         self.held.lock(rt).close();

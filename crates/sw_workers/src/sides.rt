@@ -216,6 +216,15 @@ impl Sides {
             slot.ends.lock(rt).end(self.alloc, sid.joined);
         }
     }
+
+    /// The server ends: no connection is served that comes from now on, and nothing more is read from those that are,
+    /// or they end at once.
+    pub fn end_all<W: Wait>(&self, rt: &W, is_at_once: bool) {
+        self.porch.close();
+        for slot in self.rows.iter() {
+            slot.ends.lock(rt).end_all(is_at_once);
+        }
+    }
 }
 
 /// What the thread of a desk serves: a line, where there is one, and the session that it turned out to be.
@@ -290,14 +299,14 @@ impl Place {
         }
     }
 
-    /// Ends the line where it has stood for too long, and tells whether its session has both connections. `is_heard`
-    /// tells whether its first header is whole.
+    /// Ends the line where it has stood for too long, or the server ends, and tells whether its session has both
+    /// connections. `is_heard` tells whether its first header is whole.
     pub fn end_overdue<W: Wait + Clock>(&self, rt: &W, is_heard: bool) -> bool {
         let is_paired = match self.session(rt) {
             Some(sid) => self.sides.are_paired(rt, sid),
             None => false,
         };
-        if is_overdue(is_heard, is_paired, self.stood_ms(rt)) {
+        if self.sides.porch.is_closed() || is_overdue(is_heard, is_paired, self.stood_ms(rt)) {
             self.end_line(rt);
         }
         is_paired

@@ -1,6 +1,5 @@
 //! Clients of `serve`, over the loopback.
 
-use crate::port::Port;
 use crate::serving::serve_on;
 use std::alloc::Global;
 use std::io::{Read, Write};
@@ -8,6 +7,7 @@ use std::net::{Net, Shutdown, SocketAddr, TcpListener, TcpStream};
 use std::sync::Wait;
 use std::thread::Threads;
 use std::time::Clock;
+use sw_serve::{Door, Silent};
 
 /// Whether so many connections are served on a listener, and the mainframe then closed down.
 pub fn serves<W: Threads + Wait + Clock + Copy + Drop + Send + Sync + 'static>(
@@ -16,8 +16,8 @@ pub fn serves<W: Threads + Wait + Clock + Copy + Drop + Send + Sync + 'static>(
     listener: &TcpListener,
     limit: u32,
 ) -> bool {
-    let mut port = Port::new(rt, alloc, listener);
-    serve_on(rt, alloc, &mut port, limit).is_ok()
+    let mut door = Door::new(rt, alloc, listener, None::<TcpStream>, Silent);
+    serve_on(rt, alloc, &mut door, limit, Silent).is_ok()
 }
 
 /// A client with both connections of its session.
@@ -88,6 +88,11 @@ impl Client {
     /// Whether both connections end, with no answer but that of the lock.
     pub fn is_ended(&mut self) -> bool {
         ends_after(&mut self.first, 0) && ends_after(&mut self.second, 16)
+    }
+
+    /// Whether the server ends both connections, whatever it said before.
+    pub fn is_left(&mut self) -> bool {
+        ends_after(&mut self.first, 64) && ends_after(&mut self.second, 64)
     }
 
     /// Leaves, and says whether the server ends both connections.

@@ -1,9 +1,10 @@
 //! The words of the command line, the fault lines and the exit statuses.
 
-use crate::command_line::{Order, parse_words, unrun_status};
+use crate::command_line::{Order, Serving, parse_words, unrun_status};
 use crate::fault::RunFault;
 use clap::error::ErrorKind;
 use std::alloc::Global;
+use std::net::SocketAddr;
 use std::process::Abort;
 use std::test::Fail;
 
@@ -32,13 +33,22 @@ fn a_run_with_a_fuse_and_without(rt: HostRuntime) -> Result<(), Fail> {
     Ok(())
 }
 
+/// To serve at this port of this machine alone, for ever, and to say nothing of it.
+fn at(port: u16) -> Result<Order, ErrorKind> {
+    Ok(Order::Serve(Serving {
+        address: None,
+        port,
+        until_end_of_input: false,
+        is_logged: false,
+    }))
+}
+
 #[test]
 fn a_port_and_the_usual_one(rt: HostRuntime) -> Result<(), Fail> {
-    assert_eq!(rt; asked(rt.alloc(), &["serve"])?, Ok(Order::Serve(4880)));
+    let usual = asked(rt.alloc(), &["serve"])?;
     let least = asked(rt.alloc(), &["serve", "--port", "1"])?;
-    assert_eq!(rt; least, Ok(Order::Serve(1)));
     let most = asked(rt.alloc(), &["serve", "--port", "65535"])?;
-    assert_eq!(rt; most, Ok(Order::Serve(65_535)));
+    assert!(rt; usual == at(4880) && least == at(1) && most == at(65_535));
     Ok(())
 }
 
@@ -68,6 +78,48 @@ fn a_port_out_of_range(rt: HostRuntime) -> Result<(), Fail> {
     check_refused(&rt, rt.alloc(), &["serve", "--port", "0"], range)?;
     check_refused(&rt, rt.alloc(), &["serve", "--port", "65536"], range)?;
     check_refused(&rt, rt.alloc(), &["serve", "--port", "hislip"], range)
+}
+
+/// Whether this address is bound where it is asked for.
+fn is_bound(order: Result<Order, ErrorKind>, bound: &str) -> bool {
+    match (order, bound.parse::<SocketAddr>()) {
+        (Ok(Order::Serve(serving)), Ok(at)) => serving.bound_at() == at,
+        _ => false,
+    }
+}
+
+#[test]
+fn addresses(rt: HostRuntime) -> Result<(), Fail> {
+    let own = asked(rt.alloc(), &["serve"])?;
+    let all = asked(
+        rt.alloc(),
+        &["serve", "--address", "0.0.0.0", "--port", "1"],
+    )?;
+    let six = asked(rt.alloc(), &["serve", "--address", "::1"])?;
+    assert!(rt;
+        is_bound(own, "127.0.0.1:4880") && is_bound(all, "0.0.0.0:1") && is_bound(six, "[::1]:4880")
+    );
+    let none = ErrorKind::ValueValidation;
+    check_refused(&rt, rt.alloc(), &["serve", "--address", "localhost"], none)?;
+    check_refused(
+        &rt,
+        rt.alloc(),
+        &["serve", "--address", "127.0.0.1:80"],
+        none,
+    )
+}
+
+#[test]
+fn an_end_and_a_log(rt: HostRuntime) -> Result<(), Fail> {
+    let both = asked(rt.alloc(), &["serve", "--until-end-of-input", "--log"])?;
+    let wanted = Serving {
+        address: None,
+        port: 4880,
+        until_end_of_input: true,
+        is_logged: true,
+    };
+    assert_eq!(rt; both, Ok(Order::Serve(wanted)));
+    Ok(())
 }
 
 #[test]

@@ -1,7 +1,7 @@
 //! Checking listings over memory, and over readers and writers that fail.
 
 use crate::fault::RunFault;
-use crate::listing::{check_listing, checked_status};
+use crate::listing::check_listing;
 use std::alloc::Global;
 use std::io;
 use std::io::{ErrorKind, Read, Write};
@@ -21,11 +21,11 @@ const THREE_PASSES_NOW: &[u8] =
 fn says(alloc: Global, listing: &[u8], told: &[u8], status: u8) -> bool {
     let mut reader = listing;
     let mut out = Vec::new(alloc);
-    let accepted = match check_listing(alloc, &mut reader, &mut out) {
-        Ok(checked) => checked.accepted,
+    let exit = match check_listing(alloc, &mut reader, &mut out) {
+        Ok(checked) => checked.status(),
         Err(_) => return false,
     };
-    reader.is_empty() && out.as_slice() == told && checked_status(accepted) == status
+    reader.is_empty() && out.as_slice() == told && exit == status
 }
 
 #[test]

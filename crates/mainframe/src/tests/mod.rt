@@ -3,6 +3,7 @@
 mod clients;
 mod command_line;
 mod doors;
+mod ending;
 mod listing;
 mod rows;
 mod serving;

@@ -1,8 +1,0 @@
-use Rattle.std.proofs.Common.{vec_len}
-use Rattle.mainframe.proofs.serving.join_all.Given as goal
-
-abbrev pub invariant-loop-left : goal.invariant-loop-left
-invariant-loop-left g l = Unit {0}
-
-abbrev pub decreases-loop-left : goal.decreases-loop-left
-decreases-loop-left g l = vec_len l.crew.members

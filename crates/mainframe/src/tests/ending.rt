@@ -1,0 +1,146 @@
+//! `serve` until its input ends, over the loopback: idle clients, a held query, a lock, a pause of an hour.
+
+use crate::serving::serve_on;
+use crate::tests::clients::{Client, LOCK, LOCKED, answers, header};
+use std::alloc::Global;
+use std::io::{self, Write};
+use std::net::{Net, Shutdown, SocketAddr, TcpListener, TcpStream};
+use std::sync::Wait;
+use std::test::Fail;
+use std::thread::{Threads, join};
+use std::time::{Clock, Instant};
+use sw_serve::{Door, Silent};
+
+/// Within how many milliseconds of its input's end a server ends.
+const END_MS: u128 = 2_000;
+
+/// A scan whose pause has an hour, and a query that waits for its end.
+const LONG: &[u8] = b"HS\x07\x00\xff\xff\xff\x00\x00\x00\x00\x00\x00\x00\x00\x30\
+    ROUT:SCAN (@1!1);:TRIG:DEL 3600;:INIT;*OPC;*OPC?";
+
+/// AsyncLock for the exclusive lock within 2^32 - 1 milliseconds.
+const LOCK_LATER: &[u8] = b"HS\x04\x01\xff\xff\xff\xff\x00\x00\x00\x00\x00\x00\x00\x00";
+
+/// Whether a server ends with its mainframe closed down once this input ends, and when.
+fn serves_until<W: Threads + Wait + Clock + Copy + Drop + Send + Sync + 'static>(
+    rt: W,
+    alloc: Global,
+    listener: &TcpListener,
+    input: TcpStream,
+) -> Option<Instant> {
+    let mut door = Door::new(rt, alloc, listener, Some(input), Silent);
+    if serve_on(rt, alloc, &mut door, u32::MAX, Silent).is_err() {
+        return None;
+    }
+    Instant::now(&rt).ok()
+}
+
+/// So many clients, the sessions from 1 on.
+fn clients<R: Net<Stream = TcpStream>>(
+    rt: &R,
+    alloc: Global,
+    addr: SocketAddr,
+    count: u8,
+) -> Option<Vec<Client>> {
+    let mut clients = Vec::new(alloc);
+    for before in 0..count {
+        clients
+            .push(Client::new(rt, addr, before.saturating_add(1))?)
+            .ok()?;
+    }
+    Some(clients)
+}
+
+/// Ends the input, and tells when, where all clients are then left.
+fn all_are_left<C: Clock>(rt: &C, clients: &mut [Client], output: &TcpStream) -> Option<Instant> {
+    let start = Instant::now(rt).ok()?;
+    output.shutdown(Shutdown::Write).ok()?;
+    for client in clients.iter_mut() {
+        if !client.is_left() {
+            return None;
+        }
+    }
+    Some(start)
+}
+
+/// Sixteen clients that do nothing.
+fn idle<R: Net<Stream = TcpStream> + Clock>(
+    rt: &R,
+    alloc: Global,
+    addr: SocketAddr,
+    output: &TcpStream,
+) -> Option<Instant> {
+    let mut clients = clients(rt, alloc, addr, 16)?;
+    all_are_left(rt, clients.as_mut_slice(), output)
+}
+
+/// Session 2 waits for a pause of an hour, session 3 has the lock, session 16 waits for it, session 4 has only begun a
+/// message, and a connection has only begun a header.
+fn busy<R: Net<Stream = TcpStream> + Clock>(
+    rt: &R,
+    alloc: Global,
+    addr: SocketAddr,
+    output: &TcpStream,
+) -> Option<Instant> {
+    let mut standing = TcpStream::connect(rt, addr).ok()?;
+    let mut clients = clients(rt, alloc, addr, 16)?;
+    standing.write_all(b"HS\x00").ok()?;
+    clients[1].first.write_all(LONG).ok()?;
+    if !answers(&mut clients[2].second, LOCK, LOCKED) {
+        return None;
+    }
+    clients[15].second.write_all(LOCK_LATER).ok()?;
+    clients[3]
+        .first
+        .write_all(&header(7, 0, [255, 255, 255, 0], 9))
+        .ok()?;
+    all_are_left(rt, clients.as_mut_slice(), output)
+}
+
+/// Whether a server ends soon after its input did, which `plays` tells.
+fn ends_soon(start: Option<Instant>, end: Option<Instant>) -> bool {
+    match (start, end) {
+        (Some(start), Some(end)) => { end.saturating_duration_since(start).as_millis() < END_MS }
+        _ => false,
+    }
+}
+
+/// An input, and what ends it.
+fn input_of<R: Net<Listener = TcpListener, Stream = TcpStream>>(
+    rt: &R,
+) -> io::Result<(TcpStream, TcpStream)> {
+    let listener = TcpListener::bind(rt, "127.0.0.1:0")?;
+    let output = TcpStream::connect(rt, listener.local_addr()?)?;
+    let (input, _) = listener.accept()?;
+    Ok((input, output))
+}
+
+#[test]
+fn idle_clients_hold_no_end_up(rt: HostRuntime) -> Result<(), Fail> {
+    let listener = TcpListener::bind(&rt, "127.0.0.1:0")?;
+    let addr = listener.local_addr()?;
+    let alloc = rt.alloc();
+    let (input, output) = input_of(&rt)?;
+    let (end, start) = join(
+        &rt,
+        || serves_until(rt, alloc, &listener, input),
+        || idle(&rt, alloc, addr, &output),
+    );
+    assert!(rt; ends_soon(start, end));
+    Ok(())
+}
+
+#[test]
+fn busy_clients_hold_no_end_up(rt: HostRuntime) -> Result<(), Fail> {
+    let listener = TcpListener::bind(&rt, "127.0.0.1:0")?;
+    let addr = listener.local_addr()?;
+    let alloc = rt.alloc();
+    let (input, output) = input_of(&rt)?;
+    let (end, start) = join(
+        &rt,
+        || serves_until(rt, alloc, &listener, input),
+        || busy(&rt, alloc, addr, &output),
+    );
+    assert!(rt; ends_soon(start, end));
+    Ok(())
+}

@@ -1,0 +1,13 @@
+-- Connections that come to a port.
+use Rattle.std.specs.Prelude.{◌≡◌, ◌≤◌, ◌+◌, ◌×◌, ◌⊎◌, ℕ}
+use Rattle.sw_serve.specs.declared.port.Arrival.{Arrival}
+use Rattle.sw_serve.specs.declared.port.Arrival.TheVariants.{Came, Failed, Ended}
+
+-- how many connections have come after this: those that failed count
+abbrev pub count_after : {C : Type 0} → Arrival C → ℕ → ℕ
+count_after Ended taken = taken
+count_after _ taken = taken + 1
+
+-- so many connections came to a port, or fewer before it ended
+abbrev pub TakesUpTo : ℕ → ℕ → ℕ → Type 0 → Type 0
+TakesUpTo limit before after ended = (after ≡ before + limit) ⊎ ((after ≤ before + limit) × ended)

@@ -1,0 +1,5 @@
+pub mod Offers
+pub mod Arrivals
+pub mod Serving
+pub mod Partings
+pub mod Heard

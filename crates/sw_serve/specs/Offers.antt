@@ -1,0 +1,71 @@
+-- Cards that are offered to slots, and the mainframe that was offered them.
+use Rattle.std.specs.Prelude.{◌≡◌, ℕ, Bool, List, [], ◌∷◌, Option, None}
+use Rattle.sw_base.specs.declared.reading.Reading.{Reading}
+use Rattle.sw_card.specs.Account.{Account, relay_account, of_meter}
+use Rattle.sw_core.specs.declared.ask.Sid.{Sid}
+use Rattle.sw_core.specs.declared.ask.SessionAsk.TheVariants as Ask
+use Rattle.sw_core.specs.declared.ask.SessionAnswer.TheVariants.{Joined}
+use Rattle.sw_core.specs.Panel.{Panel, opening}
+use Rattle.sw_core.specs.Seen.{AskSeen, AskSession, AskInstall, AnswerSeen, SaysSession}
+use Rattle.sw_core.specs.Step.{Step}
+use Rattle.sw_session.specs.CoreDesk.{DeskSeen, desk_over}
+use Rattle.sw_serve.specs.declared.offer.OwnCard.{OwnCard}
+use Rattle.sw_serve.specs.declared.offer.OwnCard.TheVariants.{Relays, Measures}
+use Rattle.sw_serve.specs.declared.offer.Offer.{Offer}
+
+-- a card by its own account, and the slot that it is offered to
+pub record Offered : Type 0 where
+  pub slot : ℕ
+  pub card : Account
+
+abbrev pub offered : ℕ → Account → Offered
+offered slot card = record { slot = slot; card = card }
+
+-- the account that a relay card, or a meter, gives of itself
+abbrev pub relay_seen : {R : Type 0} → (R → ℕ) → (R → ℕ) → (R → List ℕ) → (R → List Bool) → R → Account
+relay_seen serial failures groups closed r = relay_account (serial r) (failures r) (groups r) (closed r)
+
+abbrev pub meter_seen : {M : Type 0} → (M → ℕ) → (M → ℕ) → (M → Option Reading) → M → Account
+meter_seen serial failures last m = of_meter (record { serial = serial m; failures = failures m; last = last m })
+
+abbrev pub own_seen : {R M : Type 0} → (R → Account) → (M → Account) → OwnCard R M → Account
+own_seen relays meters (Relays r) = relays r
+own_seen relays meters (Measures m) = meters m
+
+-- what is offered, in this order
+abbrev pub offers_seen : {R M : Type 0} → (R → Account) → (M → Account) → List (Offer R M) → List Offered
+offers_seen relays meters [] = []
+offers_seen relays meters (o ∷ more) =
+    offered o.slot (own_seen relays meters o.card) ∷ offers_seen relays meters more
+
+-- one step of the mainframe, whatever it answers
+pub record Stepped (p : Panel) (ask : AskSeen) (q : Panel) : Type 0 where
+  pub failed : Bool
+  pub answer : AnswerSeen
+  pub step : Step p ask failed answer q
+
+-- the mainframe is offered these cards one after another, each once, whatever it answers
+abbrev pub TakesOffers : Panel → List Offered → Panel → Type 0
+TakesOffers p [] q = q ≡ p
+TakesOffers p (o ∷ more) q = (mid : Panel) × Stepped p (AskInstall o.slot o.card) mid × TakesOffers mid more q
+
+-- the mainframe once these cards were offered to the empty cage
+abbrev pub IsFitted : List Offered → Panel → Type 0
+IsFitted cards panel = TakesOffers opening cards panel
+
+-- a session joins the opening mainframe
+pub record Joins (sid : Sid) (q : Panel) : Type 0 where
+  pub failed : Bool
+  pub step : Step opening (AskSession Ask.Join) failed (SaysSession (Joined sid) None) q
+
+-- the mainframe once a session joined and these cards were offered to the empty cage
+pub record IsSetUp (cards : List Offered) (sid : Sid) (panel : Panel) : Type 0 where
+  pub begun : Panel
+  pub joined : Joins sid begun
+  pub fitted : TakesOffers begun cards panel
+
+-- a desk over such a mainframe, with nothing outstanding
+pub record IsDeskForOne (cards : List Offered) (sid : Sid) (desk : DeskSeen) : Type 0 where
+  pub panel : Panel
+  pub set_up : IsSetUp cards sid panel
+  pub over : desk ≡ desk_over panel

@@ -1,0 +1,24 @@
+-- How a connection has ended.
+use Rattle.std.specs.Prelude.{ℕ, Bool, true, false, Option, Some, None, Result, Ok, Err}
+use Rattle.sw_session.specs.declared.servers.fault.ServeFault.{ServeFault}
+use Rattle.sw_session.specs.declared.servers.fault.ServeFault.TheVariants.{Read, Write, Wire, Fatal}
+use Rattle.sw_session.specs.declared.servers.fault.ServeFault.TheVariants.{NoMemory, ReadBound}
+use Rattle.sw_serve.specs.declared.log.Parting.{Parting}
+use Rattle.sw_serve.specs.declared.log.Parting.TheVariants as parting
+
+-- by the FatalError that was told: code 4 says that there are too many clients
+abbrev pub after_fatal : Option ℕ → Parting
+after_fatal None = parting.Fault
+after_fatal (Some 4) = parting.Full
+after_fatal (Some code) = parting.FatalError code
+
+-- where nothing was read there was no room for the connection
+abbrev pub parting_of : Result (Unit {0}) ServeFault → Option ℕ → Bool → Parting
+parting_of (Ok done) fatal heard = parting.End
+parting_of (Err Read) fatal heard = parting.Fault
+parting_of (Err Write) fatal heard = parting.Fault
+parting_of (Err Wire) fatal heard = parting.BrokenHeader
+parting_of (Err Fatal) fatal heard = after_fatal fatal
+parting_of (Err NoMemory) fatal true = parting.NoMemory
+parting_of (Err NoMemory) fatal false = parting.Full
+parting_of (Err ReadBound) fatal heard = parting.Fault

@@ -1,0 +1,33 @@
+//! A server of sessions over any port and any cards.
+//!
+//! Who has cards of their own makes a list of offers (`Offer`), each a card and the slot that it is for. `desk_for_one`
+//! fits them into a mainframe for one session without a network; `serve_cards` serves whoever comes to a port (`Port`),
+//! each connection by a thread of its own, until so many have come or the port has ended, and then closes down.
+//!
+//! The crate's contract is that of `serve_cards`: exactly so many connections are taken, or fewer where the port has
+//! ended; the mainframe was offered the cards of the list, each once and in its order; and at the end these come out
+//! of their slots, each as it stood there at the end of the history, but with every relay open (`ClosesDown`). What
+//! the thread of a connection does is said by `serving::attend`.
+//!
+//! Nothing is promised of what a network carries, of when a thread goes on, nor of what is told to a log.
+#![tactic(auto)]
+
+mod crew;
+mod door;
+mod failing;
+mod lobby;
+mod log;
+mod offer;
+mod port;
+mod serving;
+mod single;
+mod visitor;
+
+pub use door::Door;
+pub use failing::{Telling, tell_failures};
+pub use log::{Log, Parting, Remark, Silent};
+pub use offer::{Offer, OwnCard, fit};
+pub use port::{Arrival, Port, Visit};
+pub use serving::{serve_cards, serve_over};
+pub use single::desk_for_one;
+pub use visitor::Visitor;

@@ -1,0 +1,99 @@
+//! What a server tells of itself.
+
+ghost use Rattle.std.specs.Prelude.{◌≡◌};
+ghost use Rattle.sw_serve.specs.Partings.{parting_of};
+
+use std::fmt;
+use std::fmt::{Display, Formatter, Write};
+use std::net::SocketAddr;
+use sw_session::ServeFault;
+
+/// What a server tells of itself, none of which is what a client sends.
+#[derive(Clone, Copy)]
+pub enum Remark {
+    /// A connection was taken: its number, from 1, and where it comes from.
+    Taken(u32, SocketAddr),
+    /// The connection of this number has joined as this session.
+    Joined(u32, u16),
+    /// It has ended.
+    Left(u32, Parting),
+    /// A call of the card that was offered to this slot has failed.
+    CardFailed(u8),
+}
+
+/// How a connection has ended.
+#[derive(Clone, Copy, Debug, PartialEq, Eq, Drop)]
+pub enum Parting {
+    /// The client ended it, or the server did.
+    End,
+    /// A read or a write failed.
+    Fault,
+    /// What came doesn't begin as a message.
+    BrokenHeader,
+    /// The client was told a FatalError with this code.
+    FatalError(u8),
+    /// There was no room for one more.
+    Full,
+    NoMemory,
+}
+
+/// Where a server tells of itself. What takes a remark may hold up the thread that tells it.
+pub trait Log {
+    fn tell(&self, remark: Remark);
+}
+
+/// Nothing is told.
+#[derive(Clone, Copy, Debug, Drop)]
+pub struct Silent;
+
+impl Log for Silent {
+    fn tell(&self, _remark: Remark) {}
+}
+
+/// The code of FatalError where there are too many clients.
+const TOO_MANY_CLIENTS: u8 = 4;
+
+/// How a connection has ended that was served so. `fatal` is the code of the FatalError that was told; `is_heard` tells
+/// whether anything was read.
+pub fn parting_of(served: Result<(), ServeFault>, fatal: Option<u8>, is_heard: bool) -> Parting
+    ensures { result ≡ parting_of served fatal is_heard }
+{
+    match served {
+        Ok(()) => Parting::End,
+        Err(ServeFault::Wire) => Parting::BrokenHeader,
+        Err(ServeFault::NoMemory) if !is_heard => Parting::Full,
+        Err(ServeFault::NoMemory) => Parting::NoMemory,
+        Err(ServeFault::Fatal) => match fatal {
+            Some(TOO_MANY_CLIENTS) => Parting::Full,
+            Some(code) => Parting::FatalError(code),
+            None => Parting::Fault,
+        },
+        Err(_) => Parting::Fault,
+    }
+}
+
+impl Display for Parting {
+    fn fmt<W: Write>(&self, f: &mut Formatter<W>) -> fmt::Result {
+        match self {
+            Parting::End => write!(f, "left: end"),
+            Parting::Fault => write!(f, "left: fault"),
+            Parting::BrokenHeader => write!(f, "left: broken header"),
+            Parting::FatalError(code) => write!(f, "left: FatalError {code}"),
+            Parting::Full => write!(f, "refused: full"),
+            Parting::NoMemory => write!(f, "left: out of memory"),
+        }
+    }
+}
+
+impl Display for Remark {
+    fn fmt<W: Write>(&self, f: &mut Formatter<W>) -> fmt::Result {
+        match self {
+            Remark::Taken(number, from) => write!(f, "connection {number} from {from}"),
+            Remark::Joined(number, session) => {
+                write!(f, "connection {number} joined as session {session}")
+            }
+            Remark::Left(number, parting) => write!(f, "connection {number} {parting}"),
+            Remark::CardFailed(slot) => write!(f, "the card in slot {slot} failed"),
+        }
+    }
+}
