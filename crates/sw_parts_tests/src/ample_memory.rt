@@ -8,6 +8,7 @@ use sw_code::{compile, print_listing, read_listing};
 use sw_hislip::Locks;
 use sw_macro::Macros;
 use sw_status::Status;
+use sw_trigger::Settings;
 use sw_verify::verify;
 
 fn reads_lists(alloc: Global) -> bool {
@@ -15,19 +16,27 @@ fn reads_lists(alloc: Global) -> bool {
     channels && read_positions(alloc, b"(@1!1&2!1,2!3:2!2)").is_ok()
 }
 
-/// Whether the example's settings are compiled to a code that is printed.
-fn compiles_example(alloc: Global) -> bool {
-    let Some(settings) = example(alloc) else {
+/// Whether settings are compiled to a code that is printed.
+fn compiles(alloc: Global, settings: &Settings) -> bool {
+    if settings.list().is_empty() {
         return false;
-    };
-    let is_so = match compile(alloc, &settings) {
+    }
+    match compile(alloc, settings) {
         Ok(code) => {
             let is_printed = print_listing(alloc, &code).is_ok();
             drop(code);
             is_printed
         }
         Err(_) => false,
+    }
+}
+
+/// Whether those of the example are.
+fn compiles_example(alloc: Global) -> bool {
+    let Some(settings) = example(alloc) else {
+        return false;
     };
+    let is_so = compiles(alloc, &settings);
     drop(settings);
     is_so
 }
