@@ -1,6 +1,6 @@
 //! The whole state of the mainframe, and the calls that change it: `apply`, and its parts `ask` and `finish`.
 
-ghost use Rattle.std.specs.Prelude.{◌≡◌, ◌&&◌, Bool, IfOk, None, Some, true, false};
+ghost use Rattle.std.specs.Prelude.{◌≡◌, ◌==◌, ◌&&◌, ◌||◌, Bool, IfOk, None, Some, true, false};
 ghost use Rattle.sw_cage.specs.Change.{any_failed};
 ghost use Rattle.sw_status.specs.StatusModel.{summary_of};
 ghost use Rattle.sw_core.specs.Sessions.{IsJoined};
@@ -8,7 +8,10 @@ ghost use Rattle.sw_core.specs.Seen.{ask_seen, answer_seen, work_seen, failed_in
 ghost use Rattle.sw_core.specs.Seen.{AskSession, AskInstall, AskEject, AskFinished, SaysSession};
 ghost use Rattle.sw_core.specs.Panel.{Panel, is_running, opening, opening_at};
 ghost use Rattle.sw_core.specs.Seats.{asker_of};
+ghost use Rattle.sw_core.specs.Event.{last_number};
 ghost use Rattle.sw_core.specs.Step.{Step, Acts, StepSession, StepNew, StepJoin, StepAttach, StepJoined, is_held};
+ghost use Rattle.sw_core.specs.Step.{drops, shuts_out};
+ghost use Rattle.sw_core.specs.declared.ask.Sid.{Sid};
 ghost use Rattle.sw_core.specs.declared.ask.Ask.TheVariants as Ask;
 ghost use Rattle.sw_core.specs.declared.ask.SessionAnswer.TheVariants.{Hold};
 
@@ -136,8 +139,11 @@ impl<R: Relay, M: Meter> Core<R, M> {
 
     /// Whether what a session asks would be held now, with nothing changed. An ask for a lock is answered no.
     pub fn holds(&self, ask: &SessionAsk) -> bool
-        ensures { result ≡ true → Step self.now (AskSession ask.now) Bool.false
+        ensures held { result ≡ true → Step self.now (AskSession ask.now) Bool.false
             (SaysSession (Hold ask.now) None) self.now }
+        ensures answer { (sid : Sid) → asker_of ask.now ≡ Some sid → IsJoined self.now.sessions sid
+            → drops self.now sid ask.now ≡ false → (self.now.events == last_number) ≡ false
+            → result ≡ shuts_out self.now sid ask.now || (is_held ask.now && is_running self.now) }
     {
         if self.events == u64::MAX {
             return false;

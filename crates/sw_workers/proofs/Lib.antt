@@ -15,3 +15,8 @@ mod Ejected
 mod Asked
 mod Serving
 mod EachCounted
+mod Commanded
+pub mod Holds
+mod Seated
+mod Woken
+mod Waited

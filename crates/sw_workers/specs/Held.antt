@@ -7,11 +7,12 @@ use Rattle.sw_workers.specs.Board.{Known}
 use Rattle.sw_workers.specs.Entries.{HistoryEntry}
 use Rattle.sw_workers.specs.Kinds.{ask_kind}
 
--- what is behind the lock: the mainframe's panel, how many desks there are, and all events
+-- what is behind the lock: the mainframe's panel, how many desks there are, all events, and the turn
 pub record Locked : Type 0 where
   pub panel : Panel
   pub given : ℕ
   pub history : List HistoryEntry
+  pub turn : ℕ
 
 -- how many events are told of
 abbrev pub most_notes : ℕ

@@ -15,3 +15,4 @@ pub mod Pauses
 pub mod Laws
 pub mod Places
 pub mod Waits
+pub mod Waking

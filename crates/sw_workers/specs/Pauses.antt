@@ -1,8 +1,15 @@
 -- Pauses that a timer waits out: only the latest can still be awaited.
-use Rattle.std.specs.Prelude.{◌==◌, ◌&&◌, ◌||◌, Bool, true, nat_lt, Option, None, Some, if◌then◌else◌}
+use Rattle.std.specs.Prelude.{◌≡◌, ◌==◌, ◌+◌, ◌*◌, ◌&&◌, ◌||◌, Bool, true, nat_lt, Option, None, Some, if◌then◌else◌}
+use Rattle.std.specs.Time.{instant_nanos}
 use Rattle.sw_cage.specs.declared.job.Ticket.{Ticket}
+use Rattle.sw_workers.specs.declared.pauses.Next.{Next}
+use Rattle.sw_workers.specs.declared.pauses.Next.TheVariants.{Begins, Ends, Over}
 use Rattle.sw_workers.specs.declared.pauses.Pause.{Pause}
 use Rattle.sw_workers.specs.declared.pauses.Standing.{Standing}
+
+-- it is over as many microseconds after it began as it is long
+abbrev pub IsPause : Pause → Type 0
+IsPause pause = instant_nanos pause.at ≡ instant_nanos pause.begin + pause.micros * 1000
 
 -- it was made in an earlier scan, or earlier in the same one
 abbrev pub is_earlier : Ticket → Ticket → Bool
@@ -16,8 +23,20 @@ is_latest (Some latest) ticket = is_earlier latest ticket
 -- a pause stands once it came, unless a later one had come: what stood before it is stale
 abbrev pub with_pause : Standing → Pause → Standing
 with_pause s pause =
-    if is_latest s.latest pause.ticket then record { latest = Some pause.ticket; until = Some pause.at } else s
+    if is_latest s.latest pause.ticket then record { latest = Some pause.ticket; stands = Some pause } else s
 
 -- the pause that stood is over
 abbrev pub with_none : Standing → Standing
-with_none s = record s { until = None }
+with_none s = record s { stands = None }
+
+-- after what came next
+abbrev pub after_next : Standing → Next → Standing
+after_next s (Begins pause) = with_pause s pause
+after_next s (Ends ticket) = with_none s
+after_next s Over = s
+
+-- Only the pause that stands ends, under its own ticket.
+abbrev pub EndsStanding : Option Pause → Next → Type 0
+EndsStanding None (Ends ticket) = ⊥
+EndsStanding (Some pause) (Ends ticket) = ticket ≡ pause.ticket
+EndsStanding stands next = Unit {0}

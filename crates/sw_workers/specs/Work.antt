@@ -6,7 +6,7 @@ use Rattle.sw_core.specs.declared.ask.SessionAsk.{SessionAsk}
 use Rattle.sw_core.specs.declared.ask.SessionAsk.TheVariants as Ask
 use Rattle.sw_core.specs.declared.ask.SessionAnswer.{SessionAnswer}
 use Rattle.sw_core.specs.Panel.{Panel}
-use Rattle.sw_core.specs.Seen.{WorkSeen, AskSeen, AskSession, AnswerSeen, SaysSession}
+use Rattle.sw_core.specs.Seen.{WorkSeen, Measures, Pauses, AskSeen, AskSession, AnswerSeen, SaysSession}
 use Rattle.sw_core.specs.Run.{Event}
 use Rattle.sw_session.specs.declared.desk.View.{View}
 use Rattle.sw_session.specs.declared.desk.Wake.{Wake}
@@ -62,6 +62,26 @@ pub record Adds (start : Panel) (work : Option WorkSeen) (old new : AtDesk) : Ty
   pub carries : Carries start work made
   pub counts : new.amount ≡ old.amount + events_of made
   pub learns : Learns old.seat made new.seat
+
+-- what is left to be done of the work after this: what was brought last
+abbrev pub left_over : Option WorkSeen → List MadeAsk → Option WorkSeen
+left_over work [] = work
+left_over work (m ∷ made) = left_over (brought m.event.answer) made
+
+-- it was sent, or there was none
+abbrev pub IsSentOn : (WorkSeen → Type 0) → Option WorkSeen → Type 0
+IsSentOn sent None = Unit {0}
+IsSentOn sent (Some piece) = sent piece
+
+-- no piece was dropped: each was carried out and told, but for the last, which was sent
+pub record SeesToWork (start : Panel) (sent : WorkSeen → Type 0) (work : Option WorkSeen) (old new : AtDesk) : Type 0 where
+  pub adds : Adds start work old new
+  pub rest : IsSentOn sent (left_over work adds.made)
+
+-- a pause was waited out
+abbrev pub IsRested : (ℕ → Type 0) → WorkSeen → Type 0
+IsRested rested (Pauses ticket micros) = rested micros
+IsRested rested (Measures job) = Unit {0}
 
 -- the mainframe was told this, which brought this work
 pub record Brings (start : Panel) (ask : AskSeen) (old : AtDesk) (brings : Option WorkSeen) (new : AtDesk)

@@ -1,10 +1,11 @@
 //! The desk of one thread.
 
-ghost use Rattle.std.specs.Prelude.{◌≡◌, [], IfSome};
+ghost use Rattle.std.specs.Prelude.{◌≡◌, [], None, IfSome};
 ghost use Rattle.sw_core.specs.Seen.{ask_seen, answer_seen, work_seen};
 ghost use Rattle.sw_session.specs.CoreDesk.{TellsOfPiece, piece_seen};
 ghost use Rattle.sw_session.specs.Trace.{LeavesOf};
-ghost use Rattle.sw_workers.specs.Work.{Adds, AsksOnce, Brings, EndsPiece, LeavesUnasked, Works};
+ghost use Rattle.sw_workers.specs.Waits.{MayRest, limit_after, number_after, told_left};
+ghost use Rattle.sw_workers.specs.Work.{AsksOnce, Brings, SeesToWork, EndsPiece, LeavesUnasked, IsRested, Works};
 
 use crate::gate::{Gate, Point};
 use crate::held::{DeskPart, House};
@@ -13,8 +14,7 @@ use crate::shared::{Shared, Woken, seating_in};
 use crate::sides::Place;
 use std::alloc::Global;
 use std::sync::{Arc, Wait};
-use std::thread;
-use std::time::{Clock, Duration};
+use std::time::Clock;
 use sw_card::{Meter, Relay};
 use sw_core::{Answer, Ask, SessionAnswer, SessionAsk, Sid, Work};
 use sw_session::{Desk, Seating, View, Wake, seating_of};
@@ -40,7 +40,9 @@ fn number_after<R: Relay, M: Meter>(
     number: Option<u8>,
     seating: Seating,
     answer: &Answer<R, M>,
-) -> Option<u8> {
+) -> Option<u8>
+    ensures { result ≡ number_after number seating (answer_seen answer.now) }
+{
     match (seating, answer) {
         (Seating::Stays, _) => number,
         (Seating::Joins, Answer::Session(SessionAnswer::Joined(sid), _)) => Some(sid.number),
@@ -59,7 +61,9 @@ enum Rest {
 }
 
 /// The limit as it is now, if there is one.
-fn at_present<C: Clock>(rt: &C, limit: Option<Limit>) -> Option<Limit> {
+fn at_present<C: Clock>(rt: &C, limit: Option<Limit>) -> Option<Limit>
+    ensures { limit ≡ None → result ≡ None }
+{
     match limit {
         Some(limit) => Some(limit.at_present(rt)),
         None => None,
@@ -67,7 +71,9 @@ fn at_present<C: Clock>(rt: &C, limit: Option<Limit>) -> Option<Limit> {
 }
 
 /// What is left of a limit, if there is one.
-fn told_ms(limit: Option<Limit>) -> Option<u32> {
+fn told_ms(limit: Option<Limit>) -> Option<u32>
+    ensures { limit ≡ None → result ≡ None }
+{
     match limit {
         Some(limit) => Some(limit.left_ms()),
         None => None,
@@ -76,7 +82,8 @@ fn told_ms(limit: Option<Limit>) -> Option<u32> {
 
 /// What is told to be left of a limit of so many milliseconds.
 fn left_ms(limit_ms: Option<u32>, limit: Option<Limit>) -> Option<u32>
-    ensures { LeavesOf limit_ms (Wake.Again result) }
+    ensures told { result ≡ told_left limit_ms limit }
+    ensures left { LeavesOf limit_ms (Wake.Again result) }
 {
     let ms = limit_ms?;
     match limit {
@@ -86,7 +93,9 @@ fn left_ms(limit_ms: Option<u32>, limit: Option<Limit>) -> Option<u32>
 }
 
 /// The limit of the wait for what is held, after an answer: it goes on while the ask is held.
-fn limit_after(limit: Option<Limit>, answer: &SessionAnswer) -> Option<Limit> {
+fn limit_after(limit: Option<Limit>, answer: &SessionAnswer) -> Option<Limit>
+    ensures { result ≡ limit_after limit answer.now }
+{
     match answer {
         SessionAnswer::Hold(_) => limit,
         _ => None,
@@ -130,7 +139,7 @@ impl<H: House, R: Relay, M: Meter, G: Gate + Drop, W: Wait + Clock + Copy + Drop
 
     /// Sends work, or carries it out, and so on with what that brings.
     pub(crate) fn carry(&mut self, work: Option<Work<M>>)
-        ensures { Adds H.first (work_seen work) self.old.part self.new.part }
+        ensures { SeesToWork H.first H.sent (work_seen work) self.old.part self.new.part }
     {
         let rt = self.rt;
         let mut left = work;
@@ -180,7 +189,9 @@ impl<H: House, R: Relay, M: Meter, G: Gate + Drop, W: Wait + Clock + Copy + Drop
     }
 
     /// Waits for so many milliseconds at most, where there is a limit. A limit that is told as it was left goes on.
-    fn rest_for(&self, limit_ms: Option<u32>) -> Rest {
+    fn rest_for(&self, limit_ms: Option<u32>) -> Rest
+        ensures { MayRest H.over limit_ms result }
+    {
         let Some(ms) = limit_ms else {
             return self.rest(None);
         };
@@ -196,7 +207,9 @@ impl<H: House, R: Relay, M: Meter, G: Gate + Drop, W: Wait + Clock + Copy + Drop
 
     /// Waits until the mainframe's turn is another, the limit is over, or the client has ended its connection, for which
     /// it looks again and again.
-    fn rest(&self, limit: Option<Limit>) -> Rest {
+    fn rest(&self, limit: Option<Limit>) -> Rest
+        ensures { limit ≡ None → MayRest H.over None result }
+    {
         let rt = self.rt;
         for _ in rt.forever() {
             let limit = at_present(&rt, limit);
@@ -226,7 +239,8 @@ impl<H: House, R: Relay, M: Meter, G: Gate + Drop, W: Wait + Clock + Copy + Drop
 
     /// Carries a piece of work out, and gives what is to be told of it. It holds no lock.
     fn carried_out(&self, piece: Work<M>) -> Ask<R, M>
-        ensures { TellsOfPiece (piece_seen piece) (ask_seen result) }
+        ensures tells { TellsOfPiece (piece_seen piece) (ask_seen result) }
+        ensures rested { IsRested H.rested (piece_seen piece) }
     {
         match piece {
             Work::Measure(job) => {
@@ -234,7 +248,7 @@ impl<H: House, R: Relay, M: Meter, G: Gate + Drop, W: Wait + Clock + Copy + Drop
                 Ask::Finished(job.run())
             }
             Work::Pause(ticket, micros) => {
-                thread::sleep(&self.rt, Duration::from_micros(micros));
+                H::rest(&self.rt, micros);
                 self.shared.gate().pass(&self.rt, Point::Pause);
                 Ask::Elapsed(ticket)
             }

@@ -1,7 +1,7 @@
 //! What stands behind the lock: the mainframe and its history, how its events are counted, and the notes of the last
 //! ones.
 
-ghost use Rattle.std.specs.Prelude.{◌≡◌, ◌+◌, ℕ, [], IfOk, IfSome, IfNone, Some, true};
+ghost use Rattle.std.specs.Prelude.{◌≡◌, ◌+◌, ◌↔◌, ℕ, [], IfOk, IfSome, IfNone, Some, true};
 ghost use mathlib.Core.List.{IsPrefix};
 ghost use Rattle.sw_core.specs.Good.{IsGoodPanel};
 ghost use Rattle.sw_core.specs.Seen.{ask_seen, answer_seen, failed_in, HandsBack};
@@ -12,14 +12,19 @@ ghost use Rattle.sw_workers.specs.Held.{notes_of, noted};
 ghost use Rattle.sw_workers.specs.History.{pair_of, event, said_at, grown, IsHistory, AsksInHistory, AwaitsEnd};
 ghost use Rattle.sw_workers.specs.Kinds.{ask_kind};
 ghost use Rattle.sw_workers.specs.Shares.{all_parts, is_counted, is_event, one_if};
+ghost use Rattle.sw_workers.specs.Waking.{HoldsOn, TellsScan, turn_after};
+ghost use Rattle.sw_workers.specs.Work.{AsksOnce};
 
 use crate::board::StatusBoard;
+use crate::laws::whoever_may_go_on_is_woken;
 use crate::note::{Note, kind};
+use crate::posts::Carrier;
 use crate::recorded::{Recorded, Recording};
 use crate::seat::StatusSeat;
 use crate::sides::Outbox;
 use crate::slots::SeatSlots;
 use crate::telling::is_event;
+use crate::waking::{Concern, concern_of, turn_after, wakes};
 use circular_buffer::HeapCircularBuffer;
 use std::alloc::{AllocError, Global};
 use std::marker::{Brand, Model};
@@ -28,9 +33,25 @@ use std::sync::ledger::{Book, Ledger, Share};
 use sw_card::{Meter, Relay};
 use sw_core::{Answer, Ask, Sid};
 
-/// Which mainframe it is: its ledger, its board, the panel that it opened with, and what its sessions' threads leave to
-/// each other.
-pub trait House: Ledger + Recording + Outbox {}
+/// Which mainframe it is, to those who wait for it: that its end has begun is known only once nobody has to wait.
+pub trait Lasting {
+    /// The end has begun.
+    ghost over: { Type 0 };
+
+    /// It begins.
+    fn end()
+        ensures { over };
+}
+
+impl Lasting for Brand {
+    ghost over = { Unit {0} };
+
+    fn end() {}
+}
+
+/// Which mainframe it is: its ledger, its board, the panel that it opened with, what its sessions' threads leave to each
+/// other, the work that is sent, and its end.
+pub trait House: Ledger + Recording + Outbox + Carrier + Lasting {}
 
 impl House for Brand {}
 
@@ -60,18 +81,23 @@ pub struct Held<H: House, R: Relay, M: Meter> {
 }
 
 impl<H: House, R: Relay, M: Meter> Model for Held<H, R, M> {
-    ghost use Rattle.std.specs.Prelude.{◌≡◌, ◌+◌, IfSome};
+    ghost use Rattle.std.specs.Prelude.{◌≡◌, ◌+◌, IfSome, true};
     ghost use Rattle.sw_workers.specs.Held.{Locked, most_notes, notes_of};
     ghost use Rattle.sw_workers.specs.History.{pair_of};
     ghost use Rattle.sw_workers.specs.Shares.{all_parts};
 
     ghost Value = { Locked };
 
-    ghost view = { λ h. record { panel = h.core.panel; given = h.given; history = h.core.history } };
+    ghost view = { λ h. record {
+      panel = h.core.panel;
+      given = h.given;
+      history = h.core.history;
+      turn = h.turn;
+    } };
 
     ghost invariant = { λ h. (h.core.panel.events ≡ H.first.events + h.events.total) × (H.parts ≡ all_parts)
         × IfSome h.spare (λ s. (s.parts + h.given ≡ all_parts) × (s.amount ≡ 0)) × (h.notes.capacity ≡ most_notes)
-        × (h.notes.items ≡ notes_of h.core.history) × (H.opening ≡ pair_of H.first) };
+        × (h.notes.items ≡ notes_of h.core.history) × (H.opening ≡ pair_of H.first) × (h.closing ≡ true → H.over) };
 }
 
 /// What a desk has: one part of the ledger, with how many events are this desk's, and the desk's seat at the board.
@@ -140,7 +166,7 @@ impl<H: House, R: Relay, M: Meter> Held<H, R, M> {
         requires start { (core.panel.events ≡ H.first.events) × (core.history ≡ []) × (events.total ≡ 0) }
         requires pair { H.opening ≡ pair_of H.first }
         requires parts { (spare.parts ≡ all_parts) × (spare.amount ≡ 0) × (H.parts ≡ all_parts) }
-        ensures { IfOk result (λ held. held ≡ record { panel = core.panel; given = 0; history = [] }) }
+        ensures { IfOk result (λ held. held ≡ record { panel = core.panel; given = 0; history = []; turn = 0 }) }
     {
         let notes = HeapCircularBuffer::with_capacity(alloc, MOST_NOTES)?;
         Ok(Held {
@@ -159,6 +185,7 @@ impl<H: House, R: Relay, M: Meter> Held<H, R, M> {
     /// desks, or the end has begun.
     pub fn new_part(&mut self) -> Option<DeskPart<H>>
         ensures panel { (self.new.panel ≡ self.old.panel) × (self.new.history ≡ self.old.history) }
+        ensures turn { self.new.turn ≡ self.old.turn }
         ensures some { IfSome result (λ p. (p.amount ≡ 0) × (self.new.given ≡ self.old.given + 1)) }
         ensures seat { IfSome result (λ p. (p.seat.seen ≡ self.old.history) × (p.seat.mine ≡ [])) }
         ensures none { IfNone result (self.new.given ≡ self.old.given) }
@@ -222,35 +249,64 @@ impl<H: House, R: Relay, M: Meter> Held<H, R, M> {
 
     /// Whether `*OPC?` of the session would be held now: a scan runs, or others have a lock.
     pub fn awaits_end(&self, sid: Sid) -> bool
-        ensures { result ≡ true → AwaitsEnd self.now.panel sid }
+        ensures { (result ≡ true) ↔ AwaitsEnd self.now.panel sid }
     {
         self.core.awaits_end(sid)
     }
 
     /// What changes where something happened that may admit what was held.
-    pub fn turn(&self) -> u64 {
+    pub fn turn(&self) -> u64
+        ensures { result ≡ self.now.turn }
+    {
         self.turn
     }
 
-    /// Notes whether what was held may go on. Where no event can be numbered any more, nothing is held.
-    pub fn take_turn(&mut self, may_go_on: bool)
-        ensures { self.new ≡ self.old }
+    /// Notes whether what was held may go on.
+    fn take_turn(&mut self, may_go_on: bool)
+        ensures { self.new ≡ record self.old {
+          turn = turn_after self.old.turn may_go_on self.old.panel.events;
+        } }
     {
-        if may_go_on || self.core.events() == u64::MAX {
-            self.turn = self.turn.wrapping_add(1);
+        self.turn = turn_after(self.turn, may_go_on, self.core.events());
+    }
+
+    /// Whether a scan runs, where a session's ask may end it.
+    fn tells_scan(&self, concern: Concern) -> bool
+        ensures { TellsScan concern self.now.panel result }
+    {
+        match concern {
+            Concern::ScanBy(sid) => self.awaits_end(sid),
+            _ => false,
         }
+    }
+
+    /// Asks the mainframe, and takes another turn where what was held may go on: where the turn stays, all that was held
+    /// is held still.
+    pub fn act(&mut self, part: &mut DeskPart<H>, ask: Ask<R, M>) -> Answer<R, M>
+        ensures once { AsksOnce H.first (ask_seen ask) (answer_seen result) part.old part.new }
+        ensures waits { self.new.turn ≡ self.old.turn → HoldsOn self.old.panel self.new.panel }
+    {
+        whoever_may_go_on_is_woken();
+        let concern = concern_of(&ask);
+        let ran = self.tells_scan(concern);
+        let answer = self.ask(part, ask);
+        let runs = self.tells_scan(concern);
+        self.take_turn(wakes(concern, ran, runs, &answer));
+        answer
     }
 
     /// Nobody has to wait any more.
     pub fn close(&mut self)
         ensures { self.new ≡ self.old }
     {
+        H::end();
         self.closing = true;
-        self.turn = self.turn.wrapping_add(1);
     }
 
     /// Whether the end has begun.
-    pub fn is_closing(&self) -> bool {
+    pub fn is_closing(&self) -> bool
+        ensures { result ≡ true → H.over }
+    {
         self.closing
     }
 
@@ -276,7 +332,7 @@ impl<H: House, R: Relay, M: Meter> Held<H, R, M> {
             (entry_of part.old.seat (said_at self.new.panel (ask_seen ask) (answer_seen result))) }
         ensures share { part.new.amount
             ≡ part.old.amount + one_if (is_counted self.old.panel.events (answer_seen result)) }
-        ensures given { self.new.given ≡ self.old.given }
+        ensures given { (self.new.given ≡ self.old.given) × (self.new.turn ≡ self.old.turn) }
         ensures notes { notes_of self.new.history ≡ noted (is_event (answer_seen result)) (notes_of self.old.history)
             (record { number = self.new.panel.events; ask = ask_kind (ask_seen ask) }) }
     {

@@ -12,9 +12,10 @@
 //!
 //! A `SharedDesk` is the desk of one thread. What it knows goes on by `DeskPasses`: each ask stands with its answer
 //! in one history of all desks, which has the desk's own events, each once, in their order, and no others of it; a
-//! status that it reads, for which it takes no lock of the mainframe, is that at some place of the history, not
-//! before any that it had seen. Its share counts the event of each ask, and those of the work that it carried out
-//! because it couldn't be sent. Workers give their desks back when they end, and `close_down`, which is handed every
+//! status that it reads is that at some place of the history, not before any that it had seen. Its share counts the
+//! event of each ask, and those of the work that it carried out because it couldn't be sent; none of its work is
+//! dropped, and a pause that it carries out is waited out (`SeesToWork`). What is held of a session's asks is held on
+//! after any ask that takes no other turn (`Held::act`), by which those who wait are woken. Workers give their desks back when they end, and `close_down`, which is handed every
 //! desk, tells the number of events and gives the cards by slot, each as it stood there at the end of the history, but
 //! with nothing closed.
 //!
@@ -58,12 +59,12 @@ pub use closing::{Closed, close_down};
 pub use connection::{Connection, Tcp, Wired};
 pub use desk::SharedDesk;
 pub use gate::{Gate, Open, Point};
-pub use held::{DeskPart, Held, House};
-pub use laws::each_event_is_counted;
+pub use held::{DeskPart, Held, House, Lasting};
+pub use laws::{each_event_is_counted, whoever_may_go_on_is_woken};
 pub use line::Line;
 pub use note::{AskKind, Note};
 pub use pauses::Pause;
-pub use posts::Posted;
+pub use posts::{Carrier, Posted};
 pub use recorded::{Recorded, Recording};
 pub use seat::{LockedPass, StatusSeat};
 pub use session::{Ended, run_session, run_session_for};

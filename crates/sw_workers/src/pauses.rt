@@ -3,24 +3,38 @@
 
 ghost use Rattle.std.specs.Prelude.{◌≡◌, ◌+◌, ◌*◌, IfSome, IfNone};
 ghost use Rattle.std.specs.Time.{instant_nanos, FitsClock};
-ghost use Rattle.sw_workers.specs.Pauses.{is_earlier, is_latest, with_pause, with_none};
+ghost use Rattle.sw_workers.specs.Pauses.{IsPause, is_earlier, is_latest, with_pause, with_none, after_next};
 
 use std::time::{Clock, Duration, Instant};
 use sw_cage::Ticket;
 
-/// A pause to be waited out: what its end is told under, and when it is over.
+/// A pause to be waited out: what its end is told under, how long it is, when it began and when it is over.
 #[derive(Clone, Copy, Debug)]
 pub struct Pause {
     /// What its end is told under.
     pub ticket: Ticket,
+    /// How long it is, in microseconds.
+    pub micros: u64,
+    /// When it began.
+    pub begin: Instant,
     /// When it is over.
     pub at: Instant,
 }
 
-/// When a pause that begins now is over. None where the clock can't be read, or doesn't go so far.
-pub fn end_of<C: Clock>(rt: &C, micros: u64) -> Option<Instant> {
-    let now = Instant::now(rt).ok()?;
-    end_after(now, micros)
+impl Pause {
+    /// A pause of so many microseconds that begins now. None where the clock can't be read, or doesn't go so far.
+    pub fn begun<C: Clock>(rt: &C, ticket: Ticket, micros: u64) -> Option<Pause>
+        ensures { IfSome result (λ pause. IsPause pause × (pause.ticket ≡ ticket) × (pause.micros ≡ micros)) }
+    {
+        let begin = Instant::now(rt).ok()?;
+        let at = end_after(begin, micros)?;
+        Some(Pause {
+            ticket,
+            micros,
+            begin,
+            at,
+        })
+    }
 }
 
 /// When a pause of so many microseconds is over that begins at this instant. None where the clock doesn't go so far.
@@ -38,11 +52,22 @@ pub fn is_earlier(first: Ticket, other: Ticket) -> bool
     first.scan < other.scan || (first.scan == other.scan && first.index < other.index)
 }
 
-/// The latest pause that came, and when it is over, unless it has been.
+/// What comes next for a timer.
+#[derive(Clone, Copy, Debug)]
+pub enum Next {
+    /// A pause came.
+    Begins(Pause),
+    /// The pause under this ticket is over.
+    Ends(Ticket),
+    /// No more can come.
+    Over,
+}
+
+/// The latest pause that came, and the one that stands: the latest, unless it is over.
 #[derive(Clone, Copy, Debug)]
 pub struct Standing {
-    pub latest: Option<Ticket>,
-    pub until: Option<Instant>,
+    latest: Option<Ticket>,
+    stands: Option<Pause>,
 }
 
 impl Standing {
@@ -50,33 +75,50 @@ impl Standing {
     pub fn new() -> Standing {
         Standing {
             latest: None,
-            until: None,
+            stands: None,
         }
     }
 
     /// The pause that stands, if one does.
-    pub fn pause(&self) -> Option<Pause> {
-        Some(Pause {
-            ticket: self.latest?,
-            at: self.until?,
-        })
+    pub fn pause(&self) -> Option<Pause>
+        ensures { result ≡ self.now.stands }
+    {
+        self.stands
     }
 
-    /// A pause came: it stands, unless a later one had come, and one that stood is stale.
-    pub fn take(&mut self, pause: Pause)
-        ensures { self.new ≡ with_pause self.old pause }
+    /// After what came next: a pause that came stands, unless a later one had come, and one that stood is stale; and one
+    /// that is over stands no more.
+    pub fn after(self, next: Next) -> Standing
+        ensures { result ≡ after_next self next }
     {
-        if is_latest(self.latest, pause.ticket) {
-            self.latest = Some(pause.ticket);
-            self.until = Some(pause.at);
+        match next {
+            Next::Begins(pause) => self.with_pause(pause),
+            Next::Ends(_) => self.with_none(),
+            Next::Over => self,
+        }
+    }
+
+    /// A pause came.
+    fn with_pause(self, pause: Pause) -> Standing
+        ensures { result ≡ with_pause self pause }
+    {
+        if !is_latest(self.latest, pause.ticket) {
+            return self;
+        }
+        Standing {
+            latest: Some(pause.ticket),
+            stands: Some(pause),
         }
     }
 
     /// The pause that stood is over.
-    pub fn end(&mut self)
-        ensures { self.new ≡ with_none self.old }
+    fn with_none(self) -> Standing
+        ensures { result ≡ with_none self }
     {
-        self.until = None;
+        Standing {
+            latest: self.latest,
+            stands: None,
+        }
     }
 }
 

@@ -1,6 +1,6 @@
 //! A mainframe whose events stand, one after another, in the history that the status board tells the end of.
 
-ghost use Rattle.std.specs.Prelude.{◌≡◌, ◌<◌, ◌^◌, ℕ, [], ◌∷◌, ◌++◌, Some, true};
+ghost use Rattle.std.specs.Prelude.{◌≡◌, ◌<◌, ◌^◌, ◌↔◌, ℕ, [], ◌∷◌, ◌++◌, Some, true};
 ghost use mathlib.Core.List.{IsPrefix};
 ghost use Rattle.sw_status.specs.StatusModel.{summary_of};
 ghost use Rattle.sw_core.specs.Good.{IsGoodPanel, StaysGood};
@@ -113,8 +113,9 @@ impl<B: Recording, R: Relay, M: Meter> Recorded<B, R, M> {
     }
 
     /// Whether `*OPC?` of the session would be held now: a scan runs, or others have a lock.
+    #[tactic(auto, using(crate::proofs::Holds::awaits_known))]
     pub fn awaits_end(&self, sid: Sid) -> bool
-        ensures { result ≡ true → AwaitsEnd self.now.panel sid }
+        ensures { (result ≡ true) ↔ AwaitsEnd self.now.panel sid }
     {
         let query = SessionAsk::Unit(sid, Command::OperationCompleteQuery, false);
         self.core.holds(&query)

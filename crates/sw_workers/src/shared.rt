@@ -1,6 +1,6 @@
 //! The mainframe behind one lock, and what wakes those who wait for it.
 
-ghost use Rattle.std.specs.Prelude.{◌≡◌, ◌+◌, ◌≤◌, [], IfOk, IfSome};
+ghost use Rattle.std.specs.Prelude.{◌≡◌, ◌+◌, ◌≤◌, [], IfOk, IfSome, IfNone};
 ghost use Rattle.std.specs.Vec.{vec_capacity};
 ghost use Rattle.sw_base.specs.Limits.{most_slots};
 ghost use Rattle.sw_cage.specs.Accounts.{accounts_of};
@@ -12,6 +12,7 @@ ghost use Rattle.sw_workers.specs.History.{pair_of};
 ghost use Rattle.sw_workers.specs.Shares.{all_parts};
 ghost use Rattle.sw_workers.specs.Waits.{outcome_of};
 ghost use Rattle.sw_workers.specs.Work.{AsksOnce, ReadsStatus};
+ghost use Rattle.sw_workers.specs.declared.shared.Woken.TheVariants.{Closing};
 
 use crate::board::{BlankBoard, StatusBoard};
 use crate::closing::{Closed, take_cards};
@@ -22,7 +23,6 @@ use crate::posts::{Posted, Posts, work_posts};
 use crate::recorded::Recorded;
 use crate::sides::{Place, Sides};
 use crate::slots::SeatSlots;
-use crate::waking::{Concern, concern_of, wakes};
 use std::alloc::{AllocError, Global};
 use std::sync::ledger::{Blank, Share};
 use std::sync::{Arc, Condvar, Mutex, Wait};
@@ -88,14 +88,6 @@ pub fn seating_in<R: Relay, M: Meter>(ask: &Ask<R, M>) -> Seating {
     match ask {
         Ask::Session(ask) => seating_of(ask),
         _ => Seating::Stays,
-    }
-}
-
-/// Whether a scan runs, as the session sees it that may end it.
-fn runs_for<H: House, R: Relay, M: Meter>(held: &Held<H, R, M>, concern: Concern) -> bool {
-    match concern {
-        Concern::ScanBy(sid) => held.awaits_end(sid),
-        _ => false,
     }
 }
 
@@ -175,15 +167,11 @@ impl<H: House, R: Relay, M: Meter, G: Gate + Drop> Shared<H, R, M, G> {
     ) -> (Answer<R, M>, u64)
         ensures { AsksOnce H.first (ask_seen ask) (answer_seen result.0) part.old part.new }
     {
-        let concern = concern_of(&ask);
         let seating = seating_in(&ask);
         let mut guard = self.held.lock(rt);
         let before = guard.turn();
-        let ran = runs_for(&guard, concern);
-        let answer = guard.ask(part, ask);
+        let answer = guard.act(part, ask);
         self.follow(rt, seating, &answer);
-        let may_go_on = wakes(concern, ran, runs_for(&guard, concern), &answer);
-        guard.take_turn(may_go_on);
         let turn = guard.turn();
         drop(guard);
         if turn != before {
@@ -204,17 +192,20 @@ impl<H: House, R: Relay, M: Meter, G: Gate + Drop> Shared<H, R, M, G> {
 
     /// Sends a piece of work to its worker, or hands it back.
     pub fn send<W: Wait + Clock>(&self, rt: &W, piece: Work<M>) -> Option<Work<M>>
-        ensures { IfSome result (λ back. piece_seen back ≡ piece_seen piece) }
+        ensures sent { IfNone result (H.sent (piece_seen piece)) }
+        ensures back { IfSome result (λ back. piece_seen back ≡ piece_seen piece) }
     {
         let guard = self.posts.lock(rt);
         let Some(posts) = &*guard else {
             return Some(piece);
         };
-        posts.send(rt, piece)
+        posts.send::<H, W>(rt, piece)
     }
 
     /// Waits until the mainframe's turn is another than this, for so many milliseconds at most.
-    pub fn wait<W: Wait + Clock>(&self, rt: &W, seen: u64, ms: u32) -> Woken {
+    pub fn wait<W: Wait + Clock>(&self, rt: &W, seen: u64, ms: u32) -> Woken
+        ensures { result ≡ Closing → H.over }
+    {
         let guard = self.held.lock(rt);
         let (guard, _) = self.happened.wait_timeout_while(
             rt,

@@ -1,16 +1,21 @@
-//! After what those who wait may go on.
+//! After what those who wait may go on: a row for each ask and each command.
+
+ghost use Rattle.std.specs.Prelude.{◌≡◌};
+ghost use Rattle.sw_core.specs.Seen.{ask_seen, answer_seen};
+ghost use Rattle.sw_workers.specs.Waking.{may_end, session_concern, concern_of};
+ghost use Rattle.sw_workers.specs.Waking.{changes_seats, may_be_over, wakes, turn_after};
 
 use crate::telling::is_event;
-use sw_base::ScpiError;
 use sw_card::{Meter, Relay};
 use sw_core::{Answer, Ask, SessionAnswer, SessionAsk, Sid};
+use sw_lex::Command;
 
-/// What an ask may change for those who wait.
+/// What an ask may end of what holds those who wait.
 #[derive(Clone, Copy, Debug, PartialEq, Eq)]
 pub enum Concern {
     /// Nothing.
     Nobody,
-    /// Locks, clears or second channels.
+    /// Locks or clears.
     Seats,
     /// The scan that runs, by what this session asks.
     ScanBy(Sid),
@@ -18,18 +23,63 @@ pub enum Concern {
     Scan,
 }
 
-/// What a session's ask may change for those who wait.
-fn session_concern(ask: &SessionAsk) -> Concern {
-    match ask {
-        SessionAsk::Lock(_, _) | SessionAsk::Release(_) | SessionAsk::Leave(_) => Concern::Seats,
-        SessionAsk::Clear(_) | SessionAsk::Cleared(_) | SessionAsk::Attach(_) => Concern::Seats,
-        SessionAsk::Unit(sid, _, _) | SessionAsk::Bus(sid) => Concern::ScanBy(*sid),
-        _ => Concern::Nobody,
+/// Whether a command may end the scan that runs.
+fn may_end(command: &Command) -> bool
+    ensures { result ≡ may_end command.now }
+{
+    match command {
+        Command::Abort | Command::Reset => true,
+        Command::Trigger | Command::Signal(_) => true,
+        Command::Initiate => false,
+        Command::InitiateContinuous(_) | Command::InitiateContinuousQuery => false,
+        Command::OperationComplete | Command::OperationCompleteQuery | Command::Wait => false,
+        Command::Close(_) | Command::CloseQuery(_) | Command::CloseState => false,
+        Command::Open(_) | Command::OpenQuery(_) | Command::OpenAll => false,
+        Command::Scan(_) | Command::ScanQuery => false,
+        Command::ScanMeter(_) | Command::ScanMeterQuery => false,
+        Command::Count(_, _) | Command::CountQuery(_) => false,
+        Command::SetSource(_, _) | Command::SourceQuery(_) => false,
+        Command::Delay(_, _) | Command::DelayQuery(_) => false,
+        Command::Timer(_, _) | Command::TimerQuery(_) => false,
+        Command::Points(_) | Command::PointsQuery | Command::ActualPointsQuery => false,
+        Command::BoundQuery | Command::Fetch => false,
+        Command::Identify | Command::SelfTestQuery | Command::VersionQuery => false,
+        Command::ClearStatus | Command::Preset | Command::StatusByteQuery => false,
+        Command::EventEnable(_) | Command::EventEnableQuery | Command::EventQuery => false,
+        Command::ServiceEnable(_) | Command::ServiceEnableQuery => false,
+        Command::GroupEventQuery(_) | Command::GroupConditionQuery(_) => false,
+        Command::GroupEnable(_, _) | Command::GroupEnableQuery(_) => false,
+        Command::PositiveTransition(_, _) | Command::PositiveTransitionQuery(_) => false,
+        Command::NegativeTransition(_, _) | Command::NegativeTransitionQuery(_) => false,
+        Command::NextErrorQuery | Command::AllErrorsQuery | Command::ErrorCountQuery => false,
+        Command::DefineMacro(_, _) | Command::MacroQuery(_) => false,
+        Command::MacroLabelsQuery | Command::RemoveMacro(_) | Command::PurgeMacros => false,
+        Command::EnableMacros(_) | Command::EnableMacrosQuery => false,
     }
 }
 
-/// What an ask may change for those who wait.
-pub fn concern_of<R: Relay, M: Meter>(ask: &Ask<R, M>) -> Concern {
+/// What a session's ask may end of what holds those who wait.
+fn session_concern(ask: &SessionAsk) -> Concern
+    ensures { result ≡ session_concern ask.now }
+{
+    match ask {
+        SessionAsk::Lock(_, _) | SessionAsk::Release(_) => Concern::Seats,
+        SessionAsk::Leave(_) | SessionAsk::Clear(_) => Concern::Seats,
+        SessionAsk::Unit(sid, command, _) if may_end(command) => Concern::ScanBy(*sid),
+        SessionAsk::Unit(_, _, _) => Concern::Nobody,
+        SessionAsk::Bus(sid) => Concern::ScanBy(*sid),
+        SessionAsk::Join | SessionAsk::Attach(_) | SessionAsk::Attached(_) => Concern::Nobody,
+        SessionAsk::Size(_, _) | SessionAsk::MaxSize(_) => Concern::Nobody,
+        SessionAsk::Cleared(_) | SessionAsk::LockInfo(_) => Concern::Nobody,
+        SessionAsk::Fault(_, _) | SessionAsk::Snapshot(_) => Concern::Nobody,
+        SessionAsk::Start(_, _) => Concern::Nobody,
+    }
+}
+
+/// What an ask may end of what holds those who wait.
+pub fn concern_of<R: Relay, M: Meter>(ask: &Ask<R, M>) -> Concern
+    ensures { result ≡ concern_of (ask_seen ask.now) }
+{
     match ask {
         Ask::Session(ask) => session_concern(ask),
         Ask::Install(_, _) => Concern::Nobody,
@@ -38,33 +88,54 @@ pub fn concern_of<R: Relay, M: Meter>(ask: &Ask<R, M>) -> Concern {
     }
 }
 
-/// Whether locks, clears or second channels changed by an event that is answered so.
-fn changes_seats<R: Relay, M: Meter>(answer: &Answer<R, M>) -> bool {
-    !matches!(answer, Answer::Session(SessionAnswer::Lock(3), _))
-}
-
-/// Whether a scan may have ended by an event that no session asked for and that is answered so.
-fn may_end_scan<R: Relay, M: Meter>(answer: &Answer<R, M>) -> bool {
+/// Whether locks or clears may be others after an event that is answered so.
+fn changes_seats<R: Relay, M: Meter>(answer: &Answer<R, M>) -> bool
+    ensures { result ≡ changes_seats (answer_seen answer.now) }
+{
     match answer {
-        Answer::Taken(work) => work.is_none(),
-        Answer::Missed | Answer::NotEjected(_) => false,
+        Answer::Session(SessionAnswer::Lock(code), _) => *code != 3,
         _ => true,
     }
 }
 
-/// Whether those who wait may go on after an answer. Of a session's unit or trigger that is where a scan ran before it,
-/// and none does after it.
+/// Whether a scan may be over after an event that no session asked for and that is answered so.
+fn may_be_over<R: Relay, M: Meter>(answer: &Answer<R, M>) -> bool
+    ensures { result ≡ may_be_over (answer_seen answer.now) }
+{
+    match answer {
+        Answer::Taken(work) => work.is_none(),
+        Answer::Missed | Answer::NotEjected(_) => false,
+        Answer::Failed | Answer::Ejected(_) => true,
+        Answer::Session(_, _) | Answer::Installed | Answer::NotInstalled(_, _) => true,
+        Answer::Back(_) | Answer::Worn(_) => true,
+    }
+}
+
+/// Whether those who wait may go on after an answer. Of what a session asks of the scan that is where a scan ran before
+/// it, and none does after it.
 pub fn wakes<R: Relay, M: Meter>(
     concern: Concern,
     ran: bool,
     runs: bool,
     answer: &Answer<R, M>,
-) -> bool {
+) -> bool
+    ensures { result ≡ wakes concern ran runs (answer_seen answer.now) }
+{
     is_event(answer)
         && match concern {
             Concern::Nobody => false,
             Concern::Seats => changes_seats(answer),
             Concern::ScanBy(_) => ran && !runs,
-            Concern::Scan => may_end_scan(answer),
+            Concern::Scan => may_be_over(answer),
         }
+}
+
+/// The turn after an ask: another one where those who wait may go on, and where no event can be numbered any more.
+pub fn turn_after(turn: u64, may_go_on: bool, events: u64) -> u64
+    ensures { result ≡ turn_after turn may_go_on events }
+{
+    if !may_go_on && events != u64::MAX {
+        return turn;
+    }
+    if turn == u64::MAX { 0 } else { turn + 1 }
 }

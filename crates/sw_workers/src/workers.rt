@@ -1,11 +1,12 @@
 //! The threads that carry out work.
 
+ghost use Rattle.sw_workers.specs.Pauses.{EndsStanding};
 ghost use Rattle.sw_workers.specs.Work.{Works};
 
 use crate::desk::SharedDesk;
 use crate::gate::{Gate, Point};
 use crate::held::House;
-use crate::pauses::{Pause, Standing};
+use crate::pauses::{Next, Pause, Standing};
 use crossbeam_channel::{Receiver, RecvTimeoutError};
 use std::sync::Wait;
 use std::time::Clock;
@@ -46,31 +47,21 @@ pub fn run_timer_worker<
     let rt = own.rt;
     let mut standing = Standing::new();
     for _ in rt.forever() {
-        match await_next(&rt, &pauses, standing.pause()) {
-            Next::Begins(pause) => standing.take(pause),
-            Next::Ends(ticket) => {
-                standing.end();
-                end_pause(&mut own, ticket);
-            }
+        let next = await_next(&rt, &pauses, standing.pause());
+        standing = standing.after(next);
+        match next {
+            Next::Begins(_) => {}
+            Next::Ends(ticket) => end_pause(&mut own, ticket),
             Next::Over => return own,
         }
     }
     unreachable!()
 }
 
-/// What comes next for the timer worker.
-#[derive(Clone, Copy, Debug)]
-enum Next {
-    /// A pause came.
-    Begins(Pause),
-    /// The pause under this ticket is over.
-    Ends(Ticket),
-    /// No more can come.
-    Over,
-}
-
 /// Waits for the next pause that comes, or for the end of the one that stands.
-fn await_next<W: Wait + Clock>(rt: &W, pauses: &Receiver<Pause>, stands: Option<Pause>) -> Next {
+fn await_next<W: Wait + Clock>(rt: &W, pauses: &Receiver<Pause>, stands: Option<Pause>) -> Next
+    ensures { EndsStanding stands result }
+{
     let Some(stands) = stands else {
         return match pauses.recv(rt) {
             Ok(pause) => Next::Begins(pause),

@@ -4,4 +4,4 @@ use Rattle.sw_workers.proofs.Worked.{works-more, works-told, works-adds}
 use Rattle.sw_workers.proofs.workers.end_pause.Goals as goal
 
 pub returns : goal.returns
-returns g c = works-more _ _ _ _ (works-told _ (Pauses c.args.ticket 0) _ _ _ _ refl c.tell-next.ensures) (works-adds _ _ _ _ c.carry.ensures)
+returns g c = works-more _ _ _ _ (works-told _ (Pauses c.args.ticket 0) _ _ _ _ refl c.tell-next.ensures) (works-adds _ _ _ _ c.carry.ensures.adds)

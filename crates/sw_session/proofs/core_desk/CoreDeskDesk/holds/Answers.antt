@@ -2,4 +2,4 @@ use Rattle.sw_session.proofs.Keeping.{passes-held}
 use Rattle.sw_session.proofs.core_desk.CoreDeskDesk.holds.Goals as goal
 
 pub returns : goal.returns
-returns g c = λ held. rw (← c.self.view_is) (passes-held _ c.args.ask.now (c.holds.ensures held))
+returns g c = λ held. rw (← c.self.view_is) (passes-held _ c.args.ask.now (c.holds.ensures.held held))

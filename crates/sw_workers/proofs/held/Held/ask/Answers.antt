@@ -43,7 +43,7 @@ invariant_of-self-then-number-before g c =
     let note : Note = record { number = c.events-number.result; ask = c.kind-kind.result } in
     let same : note ≡ note_of e = λ j. record { number = c.events-number.ensures j; ask = c.kind-kind.ensures j } in
     let ring = ring_more c.self.inside.notes c.push_back.new.self note es c.ask-answer.new.self.history e i.3 i.4 c.push_back.ensures.items same more in
-    (search rules, i.1, i.2, ring.0, ring.1, i.5)
+    (search rules, i.1, i.2, ring.0, ring.1, i.5, i.6)
 
 pub invariant_of-self-2 : goal.invariant_of-self-2
 invariant_of-self-2 g c =
@@ -61,4 +61,4 @@ invariant_of-self-2 g c =
     let counted : q ≡ p + one_if (is_counted p (answer_seen answer)) = search (rules, step_counted) in
     let apart : (c.events-number.result == c.events-before.result) ≡ false = search rules in
     let up = one_more p q _ _ (is_counted p (answer_seen answer)) c.events-before.ensures c.events-number.ensures counted apart in
-    (omega (arith, up, i.0, c.add.ensures.total), i.1, i.2, ring.0, ring.1, i.5)
+    (omega (arith, up, i.0, c.add.ensures.total), i.1, i.2, ring.0, ring.1, i.5, i.6)
