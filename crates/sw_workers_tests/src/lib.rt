@@ -4,15 +4,21 @@
 #![tactic(auto)]
 
 #[cfg(test)]
+mod asides;
+#[cfg(test)]
 mod board;
 #[cfg(test)]
 mod closing;
+#[cfg(test)]
+mod lasting;
 #[cfg(test)]
 mod latches;
 #[cfg(test)]
 mod notes;
 #[cfg(test)]
 mod seats;
+#[cfg(test)]
+mod served;
 #[cfg(test)]
 mod sessions;
 #[cfg(test)]
@@ -21,6 +27,8 @@ mod shop;
 mod threads;
 #[cfg(test)]
 mod timers;
+#[cfg(test)]
+mod waiters;
 #[cfg(test)]
 mod wakes;
 #[cfg(test)]

@@ -3,23 +3,24 @@
 ghost use Rattle.std.specs.Prelude.{◌≡◌};
 ghost use Rattle.sw_core.specs.Good.{IsGoodPanel};
 
-use crate::shop::{Shop, fitted};
-use crate::wires::{End, Incoming, Outgoing, SharedWire};
+use crate::asides::{aborts_a_pause, both_leave, leaves_two};
+use crate::shop::{Shop, fitted, gathers};
+use crate::wires::End;
 use std::alloc::Global;
 use std::marker::Brand;
 use std::sync::Wait;
-use std::thread;
-use std::thread::{JoinHandle, Threads};
+use std::thread::Threads;
 use std::time::Clock;
 use sw_card::{Meter, Relay};
 use sw_kinds::{SimDriver, SimSource};
-use sw_workers::{Ended, Gate, House, Open, Opening, SharedDesk, Wired, run_session};
+use sw_workers::{Gate, House, Open, Opening, SharedDesk};
 
-/// A client: the ends of its two connections.
+/// A client: the ends of its two connections, and how many sessions joined before it began.
 #[derive(Drop)]
 pub struct Client<W: Wait + Clock + Copy + Drop> {
-    first: End<W>,
-    second: End<W>,
+    pub first: End<W>,
+    pub second: End<W>,
+    pub crowd: u8,
 }
 
 /// Initialize for `hislip0`.
@@ -29,9 +30,9 @@ const INITIALIZE: &[u8] = b"HS\x00\x00\x01\x00XX\x00\x00\x00\x00\x00\x00\x00\x07
 const ATTACHED: &[u8] = b"HS\x12\x00\x00\x00SW\x00\x00\x00\x00\x00\x00\x00\x00";
 
 /// The query `*IDN?`, after an answer that was not told to be taken; and its answer.
-const IDENTITY: &[u8] = b"HS\x07\x00\xff\xff\xff\x00\x00\x00\x00\x00\x00\x00\x00\x06*IDN?\n";
+pub const IDENTITY: &[u8] = b"HS\x07\x00\xff\xff\xff\x00\x00\x00\x00\x00\x00\x00\x00\x06*IDN?\n";
 
-const IDENTIFIED: &[u8] =
+pub const IDENTIFIED: &[u8] =
     b"HS\x07\x00\xff\xff\xff\x00\x00\x00\x00\x00\x00\x00\x00\x15OPENBENCH,SWM8,0,1.0\n";
 
 /// AsyncStatusQuery, and its response with this status byte.
@@ -44,17 +45,42 @@ fn status(byte: u8) -> [u8; 16] {
 }
 
 impl<W: Wait + Clock + Copy + Drop> Client<W> {
-    /// Whether both channels of a session with this number come to stand.
-    fn begins(&self, number: u8) -> bool {
+    /// A client that has not begun yet.
+    pub fn new(alloc: Global, rt: W, crowd: u8) -> Option<Self> {
+        Some(Client {
+            first: End::new(alloc, rt).ok()?,
+            second: End::new(alloc, rt).ok()?,
+            crowd,
+        })
+    }
+
+    /// Nothing more is sent.
+    pub fn closes(&self) {
+        self.first.close();
+        self.second.close();
+    }
+
+    /// Whether both channels of a session come to stand, of the first, the second and so on after the crowd.
+    pub fn begins(&self, nth: u8) -> bool {
+        self.joins(nth) && self.attaches(nth)
+    }
+
+    /// Whether its first channel comes to stand.
+    pub fn joins(&self, nth: u8) -> bool {
         let mut joined = *b"HS\x01\x00\x01\x00\x00\x00\x00\x00\x00\x00\x00\x00\x00\x00";
-        joined[7] = number;
+        joined[7] = self.crowd.saturating_add(nth);
+        self.first.tells(INITIALIZE, &joined)
+    }
+
+    /// Whether its second channel comes to stand.
+    pub fn attaches(&self, nth: u8) -> bool {
         let mut attach = *b"HS\x11\x00\x00\x00\x00\x00\x00\x00\x00\x00\x00\x00\x00\x00";
-        attach[7] = number;
-        self.first.tells(INITIALIZE, &joined) && self.second.tells(&attach, ATTACHED)
+        attach[7] = self.crowd.saturating_add(nth);
+        self.second.tells(&attach, ATTACHED)
     }
 
     /// Sends the header of the query in pieces, and asks for the status when it was answered.
-    fn asks(&self) -> bool {
+    pub fn asks(&self) -> bool {
         let (front, back) = IDENTITY.split_at(5);
         self.begins(1)
             && self.first.sends(front)
@@ -65,7 +91,7 @@ impl<W: Wait + Clock + Copy + Drop> Client<W> {
     }
 
     /// A query whose answer was not taken is interrupted, which is told on both connections.
-    fn is_interrupted(&self) -> bool {
+    pub fn is_interrupted(&self) -> bool {
         self.begins(1)
             && self.first.tells(IDENTITY, IDENTIFIED)
             && self.first.tells(IDENTITY, INTERRUPTED)
@@ -75,7 +101,7 @@ impl<W: Wait + Clock + Copy + Drop> Client<W> {
     }
 
     /// What came of a program message is dropped by a device clear.
-    fn is_cleared(&self) -> bool {
+    pub fn is_cleared(&self) -> bool {
         self.begins(1)
             && self.first.sends(BEGUN)
             && self.second.tells(CLEAR, CLEARING)
@@ -86,7 +112,7 @@ impl<W: Wait + Clock + Copy + Drop> Client<W> {
 
 impl<W: Wait + Clock + Copy + Drop> Client<W> {
     /// A query that is held is given up by a device clear, and nothing comes of it; the scan that it waits for stays.
-    fn clears_what_is_held(&self) -> bool {
+    pub fn clears_what_is_held(&self) -> bool {
         self.begins(1)
             && self.first.sends(HELD)
             && self.second.comes_to_tell(STATUS, &status(128))
@@ -98,9 +124,9 @@ impl<W: Wait + Clock + Copy + Drop> Client<W> {
 }
 
 /// Interrupted and AsyncInterrupted with the parameter of the query.
-const INTERRUPTED: &[u8] = b"HS\x0d\x00\xff\xff\xff\x00\x00\x00\x00\x00\x00\x00\x00\x00";
+pub const INTERRUPTED: &[u8] = b"HS\x0d\x00\xff\xff\xff\x00\x00\x00\x00\x00\x00\x00\x00\x00";
 
-const ASYNC_INTERRUPTED: &[u8] = b"HS\x0e\x00\xff\xff\xff\x00\x00\x00\x00\x00\x00\x00\x00\x00";
+pub const ASYNC_INTERRUPTED: &[u8] = b"HS\x0e\x00\xff\xff\xff\x00\x00\x00\x00\x00\x00\x00\x00\x00";
 
 /// Data with the beginning of a program message.
 const BEGUN: &[u8] = b"HS\x06\x00\xff\xff\xff\x00\x00\x00\x00\x00\x00\x00\x00\x03*ID";
@@ -122,7 +148,7 @@ const CLOSED_QUERY: &[u8] =
 const CLOSE: &[u8] =
     b"HS\x07\x00\xff\xff\xff\x00\x00\x00\x00\x00\x00\x00\x00\x17ROUT:CLOS (@1!1);*OPC?\n";
 
-const ONE: &[u8] = b"HS\x07\x00\xff\xff\xff\x00\x00\x00\x00\x00\x00\x00\x00\x021\n";
+pub const ONE: &[u8] = b"HS\x07\x00\xff\xff\xff\x00\x00\x00\x00\x00\x00\x00\x00\x021\n";
 
 const ZERO: &[u8] = b"HS\x07\x00\xff\xff\xff\x00\x00\x00\x00\x00\x00\x00\x00\x020\n";
 
@@ -166,6 +192,10 @@ const SERVICE_REQUEST: &[u8] = b"HS\x14\x44\x00\x00\x00\x00\x00\x00\x00\x00\x00\
 /// What two clients play.
 #[derive(Clone, Copy, Debug, PartialEq, Eq)]
 pub enum Play {
+    ServesAgain,
+    LeavesTwo,
+    BothLeave,
+    AbortsPause,
     Asks,
     Interrupted,
     Cleared,
@@ -182,6 +212,10 @@ impl Play {
     /// Whether all goes as it should.
     fn goes<W: Wait + Clock + Copy + Drop>(self, one: &Client<W>, other: &Client<W>) -> bool {
         match self {
+            Play::ServesAgain => false,
+            Play::LeavesTwo => leaves_two(one),
+            Play::BothLeave => both_leave(one, other),
+            Play::AbortsPause => aborts_a_pause(one, other),
             Play::Asks => one.asks(),
             Play::Interrupted => one.is_interrupted(),
             Play::Cleared => one.is_cleared(),
@@ -287,27 +321,6 @@ fn leaves_aside<W: Wait + Clock + Copy + Drop>(one: &Client<W>, other: &Client<W
     is_next && one.second.is_silent() && other.second.is_silent()
 }
 
-/// Serves a connection, and gives the desk back.
-fn serve<H: House, R: Relay, M: Meter, G: Gate + Drop, W: Wait + Clock + Copy + Drop>(
-    alloc: Global,
-    desk: SharedDesk<H, R, M, G, W>,
-    connection: Wired<Incoming<W>, Outgoing<W>, Outgoing<W>>,
-    wire: SharedWire,
-) -> SharedDesk<H, R, M, G, W> {
-    let ended = run_session(connection, desk, alloc);
-    wire.end();
-    let Ended {
-        desk,
-        reader,
-        writer,
-        result,
-    } = ended;
-    drop(reader);
-    drop(writer);
-    drop(result);
-    desk
-}
-
 impl<
     H: House + Send + Sync + 'static,
     R: Relay + Send + 'static,
@@ -315,43 +328,29 @@ impl<
     G: Gate + Drop + Send + Sync + 'static,
     W: Threads + Wait + Clock + Copy + Drop + Send + Sync + 'static,
 > Shop<H, R, M, G, W> {
-    /// Serves the other end in a thread of its own.
-    fn connect(
-        &self,
-        rt: W,
-        alloc: Global,
-        end: &End<W>,
-    ) -> Option<JoinHandle<SharedDesk<H, R, M, G, W>>> {
-        let desk = SharedDesk::open(rt, &self.shared)?;
-        let (connection, wire) = end.served()?;
-        thread::spawn(&rt, move || serve(alloc, desk, connection, wire)).ok()
-    }
-
     /// Serves both connections of two clients that play, and gives the desks back where all went as it should.
     fn serve_clients(
         &self,
         rt: W,
         alloc: Global,
+        crowd: u8,
         play: Play,
     ) -> Option<Vec<SharedDesk<H, R, M, G, W>>> {
-        let one = Client {
-            first: End::new(alloc, rt).ok()?,
-            second: End::new(alloc, rt).ok()?,
-        };
-        let other = Client {
-            first: End::new(alloc, rt).ok()?,
-            second: End::new(alloc, rt).ok()?,
-        };
+        if let Play::ServesAgain = play {
+            return self.serve_again(rt, alloc, crowd);
+        }
+        let filler = gathers(SharedDesk::open(rt, &self.shared)?, crowd)?;
+        let one = Client::new(alloc, rt, crowd)?;
+        let other = Client::new(alloc, rt, crowd)?;
         let first = self.connect(rt, alloc, &one.first)?;
         let second = self.connect(rt, alloc, &one.second)?;
         let third = self.connect(rt, alloc, &other.first)?;
         let fourth = self.connect(rt, alloc, &other.second)?;
         let goes = play.goes(&one, &other);
-        one.first.close();
-        one.second.close();
-        other.first.close();
-        other.second.close();
-        let mut desks = Vec::with_capacity(alloc, 4).ok()?;
+        one.closes();
+        other.closes();
+        let mut desks = Vec::with_capacity(alloc, 5).ok()?;
+        desks.push(filler).ok()?;
         desks.push(first.join(&rt)).ok()?;
         desks.push(second.join(&rt)).ok()?;
         desks.push(third.join(&rt)).ok()?;
@@ -370,7 +369,7 @@ fn play_behind<
     M: Meter + Send + 'static,
     G: Gate + Drop + Send + Sync + 'static,
     W: Threads + Wait + Clock + Copy + Drop + Send + Sync + 'static,
->(rt: W, alloc: Global, opening: Opening<R, M>, gate: G, play: Play) -> bool
+>(rt: W, alloc: Global, opening: Opening<R, M>, gate: G, crowd: u8, play: Play) -> bool
     requires first { (opening.core ≡ H.first) × IsGoodPanel opening.core }
     requires ledger { (opening.blank.name ≡ H.name) × (opening.blank.parts ≡ H.parts) }
     requires board { (opening.board.table.shared.table_id ≡ H.table) × (opening.board.table.shared.key ≡ H.opening) }
@@ -378,23 +377,33 @@ fn play_behind<
     let Some(shop) = Shop::<H, R, M, G, W>::open(rt, alloc, opening, gate) else {
         return false;
     };
-    match shop.serve_clients(rt, alloc, play) {
+    match shop.serve_clients(rt, alloc, crowd, play) {
         Some(desks) => shop.close(rt, alloc, desks).is_some(),
         None => false,
     }
 }
 
 /// Plays over a new mainframe, and closes it down. Whether all went as it should.
-pub fn plays<W: Threads + Wait + Clock + Copy + Drop + Send + Sync + 'static>(
+fn plays<W: Threads + Wait + Clock + Copy + Drop + Send + Sync + 'static>(
     rt: W,
     alloc: Global,
+    play: Play,
+) -> bool {
+    plays_after(rt, alloc, 0, play)
+}
+
+/// The same once so many sessions have joined, so that the clients are the sessions after these.
+pub fn plays_after<W: Threads + Wait + Clock + Copy + Drop + Send + Sync + 'static>(
+    rt: W,
+    alloc: Global,
+    crowd: u8,
     play: Play,
 ) -> bool {
     let Some(core) = fitted(alloc, SimDriver::new(), SimSource::new(1, 1)) else {
         return false;
     };
     match Opening::new(alloc, core) {
-        Ok(opening) => play_behind::<Brand, _, _, Open, W>(rt, alloc, opening, Open, play),
+        Ok(opening) => play_behind::<Brand, _, _, Open, W>(rt, alloc, opening, Open, crowd, play),
         Err(_) => false,
     }
 }

@@ -287,3 +287,12 @@ fn is_lock(answer: SessionAnswer) -> bool {
     drop(answer);
     is_so
 }
+
+/// Joins as so many sessions by one desk, and gives it back where all are joined.
+pub fn gathers<D: Desk + Drop>(desk: D, crowd: u8) -> Option<D> {
+    let mut desk = desk;
+    for _ in 0..crowd {
+        join(&mut desk)?;
+    }
+    Some(desk)
+}

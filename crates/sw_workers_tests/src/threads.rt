@@ -1,10 +1,12 @@
 //! A mainframe that several threads share: what is asked while a worker is held, what a lock holds, what is seen of a
 //! session's status, and what closing it down gives.
 
+use crate::lasting::{goes_far, lasts};
 use crate::latches::{Latch, LatchedDriver, LatchedGate, LatchedSource, SharedLatch, turn};
 use crate::notes::{is_succeeded, looks};
 use crate::shop::{comes_to_tell, join, locks, played, played_by, releases, tells};
 use crate::timers::{Signalled, outpaces};
+use crate::waiters::{go_on_together, misses_no_wake, uses_its_limit_up};
 use crate::wakes::is_undisturbed;
 use std::alloc::Global;
 use std::sync::Wait;
@@ -27,6 +29,11 @@ pub enum Scene<C: Clock + Drop> {
     Signalled(Signalled<C>),
     Outpaced,
     Looked,
+    Together,
+    Missed,
+    UsedUp,
+    Lasts,
+    Far,
     Succeeded,
     Undisturbed,
     Closes,
@@ -48,6 +55,11 @@ impl<W: Threads + Wait + Clock + Copy + Drop + Send + Sync + 'static> Scene<W> {
             Scene::Locked(scene) => scene.play(rt, alloc, first, second, third),
             Scene::Outpaced => outpaces(alloc, first, second, third),
             Scene::Looked => looks(alloc, first, second, third),
+            Scene::Together => go_on_together(rt, alloc, first, second, third),
+            Scene::Missed => misses_no_wake(alloc, first, second, third),
+            Scene::UsedUp => uses_its_limit_up(rt, alloc, first, second, third),
+            Scene::Lasts => lasts(&rt, alloc, first, second, third),
+            Scene::Far => goes_far(alloc, first, second, third),
             Scene::Succeeded => is_succeeded(first, second, third),
             Scene::Undisturbed => is_undisturbed(alloc, first, second, third),
             Scene::Closes => closes(alloc, first, second, third),
@@ -380,7 +392,7 @@ pub struct Awaited<C: Clock + Drop> {
 }
 
 /// Asks for the end of the scan, and gives the desk back with whether it came.
-fn awaits_end<D: Desk, C: Clock + Drop>(
+pub fn awaits_end<D: Desk, C: Clock + Drop>(
     alloc: Global,
     desk: D,
     sid: Sid,
@@ -425,7 +437,7 @@ impl<W: Threads + Wait + Clock + Copy + Drop + Send + Sync + 'static> Awaited<W>
 }
 
 /// Lets other threads go on for a while.
-fn pauses<C: Clock>(clock: &C) -> bool {
+pub fn pauses<C: Clock>(clock: &C) -> bool {
     for _ in 0..100 {
         turn(clock);
     }

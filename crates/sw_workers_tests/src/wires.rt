@@ -88,11 +88,12 @@ impl<W: Wait + Clock + Copy + Drop> Incoming<W> {
 impl<W: Wait + Clock + Copy + Drop> Read for Incoming<W> {
     fn read(&mut self, buffer: &mut [u8]) -> io::Result<usize> {
         for _ in 0..PATIENCE {
-            if self.wire.is_held(&self.rt) {
-                return Err(io::Error::from(ErrorKind::WouldBlock));
-            }
+            let was_held = self.wire.is_held(&self.rt);
             if self.wire.broken.load(Ordering::SeqCst) {
                 return Err(io::Error::from(ErrorKind::ConnectionReset));
+            }
+            if was_held {
+                return Err(io::Error::from(ErrorKind::WouldBlock));
             }
             if let Some(n) = self.look(buffer) {
                 return Ok(n.min(buffer.len()));

@@ -1,0 +1,168 @@
+//! What the first channels of sessions leave to the second ones: more than one message, of more than one session, and
+//! by a desk that served another session before. The clients are the sessions after a crowd.
+
+use crate::served::serve_by;
+use crate::sessions::{
+    ASYNC_INTERRUPTED, Client, IDENTIFIED, IDENTITY, INTERRUPTED, ONE, Play, plays_after,
+};
+use crate::shop::{Shop, gathers};
+use std::alloc::Global;
+use std::sync::Wait;
+use std::thread::Threads;
+use std::time::Clock;
+use sw_card::{Meter, Relay};
+use sw_workers::{Gate, House, SharedDesk};
+
+/// A query whose answer was not taken is interrupted, and its own answer comes.
+fn interrupts<W: Wait + Clock + Copy + Drop>(client: &Client<W>) -> bool {
+    client.first.tells(IDENTITY, INTERRUPTED) && client.first.receives(IDENTIFIED)
+}
+
+/// Two messages that are left one after another are both written, and nothing else.
+pub fn leaves_two<W: Wait + Clock + Copy + Drop>(one: &Client<W>) -> bool {
+    let are_left = one.begins(1)
+        && one.second.stops()
+        && one.first.tells(IDENTITY, IDENTIFIED)
+        && interrupts(one)
+        && interrupts(one);
+    one.second.goes_on();
+    are_left
+        && one.second.receives(ASYNC_INTERRUPTED)
+        && one.second.receives(ASYNC_INTERRUPTED)
+        && one.second.is_silent()
+}
+
+/// What is left in two sessions at once comes to each its own.
+pub fn both_leave<W: Wait + Clock + Copy + Drop>(one: &Client<W>, other: &Client<W>) -> bool {
+    let are_left = one.begins(1)
+        && other.begins(2)
+        && one.second.stops()
+        && other.second.stops()
+        && one.first.tells(IDENTITY, IDENTIFIED)
+        && other.first.tells(IDENTITY, IDENTIFIED)
+        && interrupts(one)
+        && interrupts(other);
+    one.second.goes_on();
+    let is_first = one.second.receives(ASYNC_INTERRUPTED) && one.second.is_silent();
+    other.second.goes_on();
+    are_left && is_first && other.second.receives(ASYNC_INTERRUPTED) && other.second.is_silent()
+}
+
+/// A scan that pauses for an hour, and its end.
+const PAUSED: &[u8] = b"HS\x07\x00\xff\xff\xff\x00\x00\x00\x00\x00\x00\x00\x00\x26\
+    ROUT:SCAN (@1!1);:TRIG:DEL 3600;:INIT\n";
+
+const AWAITED: &[u8] = b"HS\x07\x00\xff\xff\xff\x02\x00\x00\x00\x00\x00\x00\x00\x06*OPC?\n";
+
+const ABORTED: &[u8] = b"HS\x07\x00\xff\xff\xff\x00\x00\x00\x00\x00\x00\x00\x00\x0bABOR;*OPC?\n";
+
+const ONE_LATER: &[u8] = b"HS\x07\x00\xff\xff\xff\x02\x00\x00\x00\x00\x00\x00\x00\x021\n";
+
+/// A session that waits for a scan goes on where another aborts it while its pause stands.
+pub fn aborts_a_pause<W: Wait + Clock + Copy + Drop>(one: &Client<W>, other: &Client<W>) -> bool {
+    one.begins(1)
+        && other.begins(2)
+        && one.first.sends(PAUSED)
+        && one.first.sends(AWAITED)
+        && one.first.is_silent()
+        && other.first.tells(ABORTED, ONE)
+        && one.first.receives(ONE_LATER)
+}
+
+impl<
+    H: House + Send + Sync + 'static,
+    R: Relay + Send + 'static,
+    M: Meter + Send + 'static,
+    G: Gate + Drop + Send + Sync + 'static,
+    W: Threads + Wait + Clock + Copy + Drop + Send + Sync + 'static,
+> Shop<H, R, M, G, W> {
+    /// A connection breaks that was to write what its session's other one had left, and the desk that served it serves
+    /// the next session's: nothing of the first one comes out there. Gives the desks back where all went as it should.
+    pub fn serve_again(
+        &self,
+        rt: W,
+        alloc: Global,
+        crowd: u8,
+    ) -> Option<Vec<SharedDesk<H, R, M, G, W>>> {
+        let filler = gathers(SharedDesk::open(rt, &self.shared)?, crowd)?;
+        let one = Client::new(alloc, rt, crowd)?;
+        let other = Client::new(alloc, rt, crowd)?;
+        let first = self.connect(rt, alloc, &one.first)?;
+        let second = self.connect(rt, alloc, &one.second)?;
+        let third = self.connect(rt, alloc, &other.first)?;
+        let is_left = one.begins(1)
+            && other.joins(2)
+            && one.second.stops()
+            && one.first.tells(IDENTITY, IDENTIFIED)
+            && interrupts(&one);
+        one.second.breaks();
+        one.second.goes_on();
+        let fourth = serve_by(rt, alloc, second.join(&rt), &other.second)?;
+        let goes = is_left && other.attaches(2) && other.second.is_silent();
+        one.closes();
+        other.closes();
+        let mut desks = Vec::with_capacity(alloc, 4).ok()?;
+        desks.push(filler).ok()?;
+        desks.push(first.join(&rt)).ok()?;
+        desks.push(third.join(&rt)).ok()?;
+        desks.push(fourth.join(&rt)).ok()?;
+        if goes {
+            return Some(desks);
+        }
+        None
+    }
+}
+
+/// What two clients play.
+const PLAYS: [Play; 14] = [
+    Play::ServesAgain,
+    Play::LeavesTwo,
+    Play::BothLeave,
+    Play::AbortsPause,
+    Play::Asks,
+    Play::Interrupted,
+    Play::Cleared,
+    Play::Locks,
+    Play::Service,
+    Play::Vanishes,
+    Play::LeavesAside,
+    Play::Breaks,
+    Play::ClearsHeld,
+    Play::LeavesPart,
+];
+
+/// What one client plays by itself.
+const ALONE: [Play; 5] = [
+    Play::LeavesTwo,
+    Play::Asks,
+    Play::Interrupted,
+    Play::Cleared,
+    Play::ClearsHeld,
+];
+
+/// Whether all of these go as they should once so many sessions have joined.
+fn all_go<W: Threads + Wait + Clock + Copy + Drop + Send + Sync + 'static>(
+    rt: W,
+    alloc: Global,
+    crowd: u8,
+    plays: &[Play],
+) -> bool {
+    plays
+        .iter()
+        .all(|play| plays_after(rt, alloc, crowd, *play))
+}
+
+#[test]
+fn all_is_so_of_sessions_2_and_3(rt: HostRuntime) {
+    assert!(rt; all_go(rt, rt.alloc(), 1, &PLAYS));
+}
+
+#[test]
+fn all_is_so_of_sessions_15_and_16(rt: HostRuntime) {
+    assert!(rt; all_go(rt, rt.alloc(), 14, &PLAYS));
+}
+
+#[test]
+fn all_is_so_of_session_16_alone(rt: HostRuntime) {
+    assert!(rt; all_go(rt, rt.alloc(), 15, &ALONE));
+}

@@ -1,0 +1,67 @@
+//! The threads that serve the connections in memory.
+
+use crate::shop::Shop;
+use crate::wires::{End, Incoming, Outgoing, SharedWire};
+use std::alloc::Global;
+use std::sync::Wait;
+use std::thread;
+use std::thread::{JoinHandle, Threads};
+use std::time::Clock;
+use sw_card::{Meter, Relay};
+use sw_workers::{Ended, Gate, House, SharedDesk, Wired, run_session};
+
+/// Serves a connection, and gives the desk back.
+fn serve<H: House, R: Relay, M: Meter, G: Gate + Drop, W: Wait + Clock + Copy + Drop>(
+    alloc: Global,
+    desk: SharedDesk<H, R, M, G, W>,
+    connection: Wired<Incoming<W>, Outgoing<W>, Outgoing<W>>,
+    wire: SharedWire,
+) -> SharedDesk<H, R, M, G, W> {
+    let ended = run_session(connection, desk, alloc);
+    wire.end();
+    let Ended {
+        desk,
+        reader,
+        writer,
+        result,
+    } = ended;
+    drop(reader);
+    drop(writer);
+    drop(result);
+    desk
+}
+
+/// Serves the other end by this desk, in a thread of its own.
+pub fn serve_by<
+    H: House + Send + Sync + 'static,
+    R: Relay + Send + 'static,
+    M: Meter + Send + 'static,
+    G: Gate + Drop + Send + Sync + 'static,
+    W: Threads + Wait + Clock + Copy + Drop + Send + Sync + 'static,
+>(
+    rt: W,
+    alloc: Global,
+    desk: SharedDesk<H, R, M, G, W>,
+    end: &End<W>,
+) -> Option<JoinHandle<SharedDesk<H, R, M, G, W>>> {
+    let (connection, wire) = end.served()?;
+    thread::spawn(&rt, move || serve(alloc, desk, connection, wire)).ok()
+}
+
+impl<
+    H: House + Send + Sync + 'static,
+    R: Relay + Send + 'static,
+    M: Meter + Send + 'static,
+    G: Gate + Drop + Send + Sync + 'static,
+    W: Threads + Wait + Clock + Copy + Drop + Send + Sync + 'static,
+> Shop<H, R, M, G, W> {
+    /// Serves the other end in a thread of its own.
+    pub fn connect(
+        &self,
+        rt: W,
+        alloc: Global,
+        end: &End<W>,
+    ) -> Option<JoinHandle<SharedDesk<H, R, M, G, W>>> {
+        serve_by(rt, alloc, SharedDesk::open(rt, &self.shared)?, end)
+    }
+}
