@@ -1,5 +1,5 @@
 -- Connections that come to a port.
-use Rattle.std.specs.Prelude.{◌≡◌, ◌≤◌, ◌+◌, ◌×◌, ◌⊎◌, ℕ}
+use Rattle.std.specs.Prelude.{◌≡◌, ◌≤◌, ◌+◌, ◌⊎◌, ℕ}
 use Rattle.sw_serve.specs.declared.port.Arrival.{Arrival}
 use Rattle.sw_serve.specs.declared.port.Arrival.TheVariants.{Came, Failed, Ended}
 
