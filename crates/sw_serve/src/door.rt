@@ -70,7 +70,7 @@ impl<
     I: Read + AsRawFd + Drop,
     L: Log + Copy + Drop + Send + 'static,
 > Port for Door<'_, W, I, L> {
-    type Link = Visitor<Tcp, L>;
+    type Book = L;
 
     ghost taken = { λ d. d.taken };
 

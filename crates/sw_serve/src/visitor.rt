@@ -4,7 +4,6 @@ ghost use Rattle.std.specs.Prelude.{◌≡◌};
 ghost use Rattle.sw_serve.specs.Heard.{said_by, attached_by};
 
 use crate::log::{Log, Parting, Remark, parting_of};
-use crate::port::Visit;
 use std::alloc::{AllocError, Global};
 use std::io;
 use std::sync::Arc;
@@ -200,6 +199,12 @@ impl<O: Sink + Drop, L: Log + Drop> Told<O, L> {
         }
     }
 
+    /// Tells that the connection has left, which was served so.
+    pub fn tell_end(&self, served: Result<(), ServeFault>) {
+        let parting = self.parting(served);
+        self.log.tell(Remark::Left(self.number, parting));
+    }
+
     /// How the connection has ended that was served so.
     fn parting(&self, served: Result<(), ServeFault>) -> Parting {
         let is_heard = self.known.is_heard.load(Ordering::SeqCst);
@@ -263,12 +268,5 @@ impl<C: Connection + Drop, L: Log + Drop> Connection for Visitor<C, L> {
 
     fn set_limit(reader: &mut Heard<C::In>, ms: u32) -> io::Result<()> {
         C::set_limit(&mut reader.reader, ms)
-    }
-}
-
-impl<C: Connection + Drop, L: Log + Drop> Visit for Visitor<C, L> {
-    fn tell_end(writer: &Told<C::Out, L>, served: Result<(), ServeFault>) {
-        let parting = writer.parting(served);
-        writer.log.tell(Remark::Left(writer.number, parting));
     }
 }
