@@ -2,7 +2,6 @@
 
 use crate::log::Log;
 use crate::visitor::Visitor;
-use sw_workers::Tcp;
 
 /// What comes of a wait for a connection.
 #[derive(Drop)]
@@ -30,7 +29,7 @@ pub trait Port {
     ghost ended: { Self → Type 0 };
 
     /// Waits for the next connection, or the end.
-    fn accept(&mut self) -> Arrival<Visitor<Tcp, Self::Book>>
+    fn accept(&mut self) -> Arrival<Visitor<Self::Book>>
         requires { taken self.old + 1 < 2 ^ 32 }
         ensures taken { taken self.new ≡ count_after result (taken self.old) }
         ensures ended { result ≡ Arrival.Ended → ended self.new };
