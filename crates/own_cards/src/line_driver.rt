@@ -1,6 +1,6 @@
 //! Relays that obey lines of text.
 
-ghost use Rattle.std.specs.Prelude.{slice_index_or};
+ghost use Rattle.std.specs.Prelude.{slice_index_or, false};
 
 use std::io::Write;
 use sw_card::CardFault;

@@ -1,7 +1,7 @@
 -- Connections that come to a port.
-use Rattle.std.specs.Prelude.{◌≡◌, ◌≤◌, ◌+◌, ◌×◌, ◌⊎◌, ℕ}
+use Rattle.std.specs.Prelude.{◌≡◌, ◌≤◌, ◌+◌, ◌⊎◌, ℕ}
 use Rattle.sw_serve.specs.declared.port.Arrival.{Arrival}
-use Rattle.sw_serve.specs.declared.port.Arrival.TheVariants.{Came, Failed, Ended}
+use Rattle.sw_serve.specs.declared.port.Arrival.TheVariants.{Ended}
 
 -- how many connections have come after this: those that failed count
 abbrev pub count_after : {C : Type 0} → Arrival C → ℕ → ℕ

@@ -1,5 +1,5 @@
 -- What the first bytes of a message tell of a connection.
-use Rattle.std.specs.Prelude.{ℕ, ◌+◌, ◌*◌, ◌==◌, if◌then◌else◌, List, [], ◌∷◌, Option, Some, None}
+use Rattle.std.specs.Prelude.{ℕ, ◌+◌, ◌*◌, ◌==◌, if◌then◌else◌, List, ◌∷◌, Option, Some, None}
 use Rattle.sw_hislip.specs.declared.kind.Kind.TheVariants.{InitializeResponse, FatalError}
 use Rattle.sw_hislip.specs.declared.kind.Kind.TheVariants.{AsyncInitialize, AsyncInitializeResponse}
 use Rattle.sw_hislip.specs.Kinds.{kind_number}

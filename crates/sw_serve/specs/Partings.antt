@@ -1,5 +1,5 @@
 -- How a connection has ended.
-use Rattle.std.specs.Prelude.{ℕ, Bool, true, false, Option, Some, None, Result, Ok, Err}
+use Rattle.std.specs.Prelude.{ℕ, ◌==◌, if◌then◌else◌, Bool, true, false, Option, Some, None, Result, Ok, Err}
 use Rattle.sw_session.specs.declared.servers.fault.ServeFault.{ServeFault}
 use Rattle.sw_session.specs.declared.servers.fault.ServeFault.TheVariants.{Read, Write, Wire, Fatal}
 use Rattle.sw_session.specs.declared.servers.fault.ServeFault.TheVariants.{NoMemory, ReadBound}
@@ -9,8 +9,7 @@ use Rattle.sw_serve.specs.declared.log.Parting.TheVariants as parting
 -- by the FatalError that was told: code 4 says that there are too many clients
 abbrev pub after_fatal : Option ℕ → Parting
 after_fatal None = parting.Fault
-after_fatal (Some 4) = parting.Full
-after_fatal (Some code) = parting.FatalError code
+after_fatal (Some code) = if code == 4 then parting.Full else parting.FatalError code
 
 -- where nothing was read there was no room for the connection
 abbrev pub parting_of : Result (Unit {0}) ServeFault → Option ℕ → Bool → Parting

@@ -54,7 +54,7 @@ impl<'a, W: Wait + Clock + Copy + Drop, I: Read + AsRawFd + Drop, L: Log + Copy 
     }
 
     /// The next connection. None where it fails.
-    fn next(&self) -> Option<Visitor<Tcp, L>> {
+    fn next(&self) -> Option<Visitor<L>> {
         let Ok((stream, from)) = self.listener.accept() else {
             thread::sleep(&self.rt, Duration::from_millis(REST_MS));
             return None;
@@ -70,13 +70,13 @@ impl<
     I: Read + AsRawFd + Drop,
     L: Log + Copy + Drop + Send + 'static,
 > Port for Door<'_, W, I, L> {
-    type Link = Visitor<Tcp, L>;
+    type Book = L;
 
     ghost taken = { λ d. d.taken };
 
     ghost ended = { λ d. d.is_over ≡ true };
 
-    fn accept(&mut self) -> Arrival<Visitor<Tcp, L>> {
+    fn accept(&mut self) -> Arrival<Visitor<L>> {
         if let Some(input) = &mut self.input {
             self.is_over = ends_first(&self.rt, self.listener, input);
         }

@@ -1,6 +1,6 @@
 //! Cards that tell a log where a call of them fails.
 
-ghost use Rattle.std.specs.Prelude.{◌≡◌, IfOk};
+ghost use Rattle.std.specs.Prelude.{◌≡◌, ◌++◌, ◌∷◌, [], List, IfOk};
 ghost use Rattle.sw_serve.specs.Offers.{offers_seen, own_seen, relay_seen, meter_seen};
 
 use crate::log::{Log, Remark};
@@ -122,13 +122,35 @@ pub fn tell_failures<R: Relay, M: Meter, L: Log + Copy + Drop>(
         (relay_seen R.the_serial R.failed R.groups R.closed)
         (meter_seen M.the_serial M.failed M.last_reading) offers.items) }
 {
-    let mut told = Vec::new(alloc);
+    let mut told = Ok(Vec::new(alloc));
     for offered in offers {
-        let Offer { slot, card } = offered;
-        told.push(Offer {
-            slot,
-            card: with_log(card, slot, log),
-        })?;
+        told = with_offer(told, offered, log);
     }
+    told
+}
+
+/// The offers so far and one more, of a card that tells a log, unless there was no memory.
+fn with_offer<R: Relay, M: Meter, L: Log + Drop>(
+    told: Result<Vec<Offer<Telling<R, L>, Telling<M, L>>>, AllocError>,
+    offered: Offer<R, M>,
+    log: L,
+) -> Result<Vec<Offer<Telling<R, L>, Telling<M, L>>>, AllocError>
+    ensures { (offers : List (Offer R M)) → IfOk told (λ told. offers_seen (relay_seen (λ t. R.the_serial t.card)
+        (λ t. R.failed t.card) (λ t. R.groups t.card) (λ t. R.closed t.card)) (meter_seen (λ t. M.the_serial t.card)
+        (λ t. M.failed t.card) (λ t. M.last_reading t.card)) told.items ≡ offers_seen
+        (relay_seen R.the_serial R.failed R.groups R.closed)
+        (meter_seen M.the_serial M.failed M.last_reading) offers)
+        → IfOk result (λ told. offers_seen (relay_seen (λ t. R.the_serial t.card)
+        (λ t. R.failed t.card) (λ t. R.groups t.card) (λ t. R.closed t.card)) (meter_seen (λ t. M.the_serial t.card)
+        (λ t. M.failed t.card) (λ t. M.last_reading t.card)) told.items ≡ offers_seen
+        (relay_seen R.the_serial R.failed R.groups R.closed)
+        (meter_seen M.the_serial M.failed M.last_reading) (offers ++ offered ∷ [])) }
+{
+    let mut told = told?;
+    let Offer { slot, card } = offered;
+    told.push(Offer {
+        slot,
+        card: with_log(card, slot, log),
+    })?;
     Ok(told)
 }

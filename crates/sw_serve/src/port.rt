@@ -1,7 +1,7 @@
 //! What connections come from.
 
-use sw_session::ServeFault;
-use sw_workers::{Connection, Tcp};
+use crate::log::Log;
+use crate::visitor::Visitor;
 
 /// What comes of a wait for a connection.
 #[derive(Drop)]
@@ -14,22 +14,13 @@ pub enum Arrival<C: Drop> {
     Ended,
 }
 
-/// A connection that is told how it was served.
-pub trait Visit: Connection {
-    /// Its end, whatever it was, with what it wrote to.
-    fn tell_end(writer: &Self::Out, served: Result<(), ServeFault>);
-}
-
-impl Visit for Tcp {
-    fn tell_end(_writer: &Self::Out, _served: Result<(), ServeFault>) {}
-}
-
 /// What connections come from, one after another.
 pub trait Port {
     ghost use Rattle.std.specs.Prelude.{◌≡◌, ◌+◌, ◌<◌, ◌^◌, ℕ};
     ghost use Rattle.sw_serve.specs.Arrivals.{count_after};
 
-    type Link: Visit + Drop + Send + 'static;
+    /// What is told of the connections.
+    type Book: Log + Copy + Drop + Send + 'static;
 
     /// How many connections have come, those among them that failed.
     ghost taken: { Self → ℕ };
@@ -38,7 +29,7 @@ pub trait Port {
     ghost ended: { Self → Type 0 };
 
     /// Waits for the next connection, or the end.
-    fn accept(&mut self) -> Arrival<Self::Link>
+    fn accept(&mut self) -> Arrival<Visitor<Self::Book>>
         requires { taken self.old + 1 < 2 ^ 32 }
         ensures taken { taken self.new ≡ count_after result (taken self.old) }
         ensures ended { result ≡ Arrival.Ended → ended self.new };

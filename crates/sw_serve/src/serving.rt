@@ -14,8 +14,10 @@ ghost use Rattle.sw_workers.specs.Work.{DeskPasses};
 
 use crate::crew::Crew;
 use crate::lobby::Lobby;
+use crate::log::Log;
 use crate::offer::{Offer, fit};
-use crate::port::{Arrival, Port, Visit};
+use crate::port::{Arrival, Port};
+use crate::visitor::{Heard, Told, Visitor};
 use crossbeam_channel::Receiver;
 use std::alloc::{AllocError, Global};
 use std::marker::Brand;
@@ -216,20 +218,20 @@ fn welcome<
     M: Meter + Send + 'static,
     G: Gate + Drop + Send + Sync + 'static,
     W: Threads + Wait + Clock + Copy + Drop + Send + Sync + 'static,
-    C: Visit + Drop + Send + 'static,
+    L: Log + Drop + Send + 'static,
 >(
     rt: W,
     alloc: Global,
     lobby: &Arc<Lobby<H, R, M, G, W>, Global>,
     sessions: &mut Crew<Left<H, R, M, G, W>>,
     number: u32,
-    connection: C,
+    connection: Visitor<L>,
 ) {
     if let Ok(theirs) = Arc::try_clone(lobby) {
         sessions.start(
             rt,
             number,
-            move || desk_of::<H, R, M, G, W, C>(attend(alloc, theirs, connection)),
+            move || desk_of::<H, R, M, G, W, L>(attend(alloc, theirs, connection)),
         );
     }
 }
@@ -259,16 +261,21 @@ fn attend<
 }
 
 /// The desk of a connection that was served, which is told its end.
-fn desk_of<H: House, R: Relay, M: Meter, G: Gate + Drop, W: Wait + Clock + Copy + Drop, C: Visit>(
-    served: Option<Ended<SharedDesk<H, R, M, G, W>, C::In, C::Out>>,
-) -> Left<H, R, M, G, W> {
+fn desk_of<
+    H: House,
+    R: Relay,
+    M: Meter,
+    G: Gate + Drop,
+    W: Wait + Clock + Copy + Drop,
+    L: Log + Drop,
+>(served: Option<Ended<SharedDesk<H, R, M, G, W>, Heard, Told<L>>>) -> Left<H, R, M, G, W> {
     let Ended {
         desk,
         reader: _,
         writer,
         result,
     } = served?;
-    C::tell_end(&writer, result);
+    writer.tell_end(result);
     Some(desk)
 }
 

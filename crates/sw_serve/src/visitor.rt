@@ -3,15 +3,14 @@
 ghost use Rattle.std.specs.Prelude.{◌≡◌};
 ghost use Rattle.sw_serve.specs.Heard.{said_by, attached_by};
 
-use crate::log::{Log, Parting, Remark, parting_of};
-use crate::port::Visit;
+use crate::log::{Log, Remark, parting_of};
 use std::alloc::{AllocError, Global};
-use std::io;
+use std::io::{self, Read, Write};
 use std::sync::Arc;
 use std::sync::atomic::{AtomicBool, AtomicU16, Ordering};
 use sw_hislip::Kind;
-use sw_session::{ServeFault, Sink, Source, Unread, Unwritten};
-use sw_workers::{Connection, Line};
+use sw_session::ServeFault;
+use sw_workers::{Connection, Line, Tcp};
 
 /// How many bytes of a message tell of what it does: its header's.
 const HEADER: usize = 16;
@@ -27,17 +26,17 @@ struct Known {
 
 /// A connection of this number.
 #[derive(Drop)]
-pub struct Visitor<C: Connection + Drop, L: Log + Drop> {
-    connection: C,
+pub struct Visitor<L: Log + Drop> {
+    connection: Tcp,
     log: L,
     number: u32,
     known: Arc<Known, Global>,
     theirs: Arc<Known, Global>,
 }
 
-impl<C: Connection + Drop, L: Log + Drop> Visitor<C, L> {
+impl<L: Log + Drop> Visitor<L> {
     /// The connection of this number.
-    pub fn new(alloc: Global, connection: C, log: L, number: u32) -> Result<Self, AllocError> {
+    pub fn new(alloc: Global, connection: Tcp, log: L, number: u32) -> Result<Self, AllocError> {
         let known = Known {
             is_heard: AtomicBool::new(false),
             session: AtomicU16::new(0),
@@ -136,17 +135,15 @@ impl Front {
 
 /// What a connection reads from.
 #[derive(Drop)]
-pub struct Heard<I: Source + Drop> {
-    pub reader: I,
+pub struct Heard {
+    reader: Line,
     known: Arc<Known, Global>,
     front: Front,
 }
 
-impl<I: Source + Drop> Heard<I> {
+impl Heard {
     /// Keeps what belongs to the first header, and notes which session that asks for.
-    fn hear(&mut self, bytes: &[u8])
-        ensures { self.new.reader ≡ self.old.reader }
-    {
+    fn hear(&mut self, bytes: &[u8]) {
         if self.front.is_whole() {
             return;
         }
@@ -158,37 +155,29 @@ impl<I: Source + Drop> Heard<I> {
     }
 }
 
-impl<I: Source + Drop> Source for Heard<I> {
-    ghost remaining = { λ h. I.remaining h.reader };
-
-    ghost pauses = { λ h. I.pauses h.reader };
-
-    ghost failed = { λ before after. I.failed before.reader after.reader };
-
-    fn receive(&mut self, buffer: &mut [u8]) -> Result<usize, Unread> {
-        let read = self.reader.receive(buffer);
-        if let Ok(n) = read {
-            self.hear(&buffer[..n]);
-        }
-        read
+impl Read for Heard {
+    fn read(&mut self, buffer: &mut [u8]) -> io::Result<usize> {
+        let n = self.reader.read(buffer)?;
+        self.hear(&buffer[..n]);
+        Ok(n)
     }
 }
 
-/// What a connection writes to.
+/// What a connection writes to. What is written from one handing on to the next is one message.
 #[derive(Drop)]
-pub struct Told<O: Sink + Drop, L: Log + Drop> {
-    pub writer: O,
+pub struct Told<L: Log + Drop> {
+    writer: Line,
     log: L,
     number: u32,
     known: Arc<Known, Global>,
     fatal: Option<u8>,
+    /// A message was begun, and not handed on.
+    is_begun: bool,
 }
 
-impl<O: Sink + Drop, L: Log + Drop> Told<O, L> {
+impl<L: Log + Drop> Told<L> {
     /// Notes what a message says of the connection.
-    fn note(&mut self, bytes: &[u8])
-        ensures { self.new.writer ≡ self.old.writer }
-    {
+    fn note(&mut self, bytes: &[u8]) {
         match said_by(bytes) {
             Said::Joins(session) => self.log.tell(Remark::Joined(self.number, session)),
             Said::Attaches => {
@@ -200,42 +189,49 @@ impl<O: Sink + Drop, L: Log + Drop> Told<O, L> {
         }
     }
 
-    /// How the connection has ended that was served so.
-    fn parting(&self, served: Result<(), ServeFault>) -> Parting {
+    /// Tells that the connection has left, which was served so.
+    pub fn tell_end(&self, served: Result<(), ServeFault>) {
         let is_heard = self.known.is_heard.load(Ordering::SeqCst);
-        parting_of(served, self.fatal, is_heard)
+        let parting = parting_of(served, self.fatal, is_heard);
+        self.log.tell(Remark::Left(self.number, parting));
     }
 }
 
-impl<O: Sink + Drop, L: Log + Drop> Sink for Told<O, L> {
-    ghost contents = { λ t. O.contents t.writer };
+impl<L: Log + Drop> Write for Told<L> {
+    fn write(&mut self, bytes: &[u8]) -> io::Result<usize> {
+        if !self.is_begun {
+            self.is_begun = true;
+            self.note(bytes);
+        }
+        self.writer.write(bytes)
+    }
 
-    ghost failed = { λ before after. O.failed before.writer after.writer };
-
-    fn deliver(&mut self, bytes: &[u8]) -> Result<(), Unwritten> {
-        self.note(bytes);
-        self.writer.deliver(bytes)
+    fn flush(&mut self) -> io::Result<()> {
+        self.is_begun = false;
+        self.writer.flush()
     }
 }
 
-impl<C: Connection + Drop, L: Log + Drop> Connection for Visitor<C, L> {
-    type In = Heard<C::In>;
+impl<L: Log + Drop> Connection for Visitor<L> {
+    ghost use Rattle.std.specs.Prelude.{None};
 
-    type Out = Told<C::Out, L>;
+    type In = Heard;
 
-    type Aside = C::Aside;
+    type Out = Told<L>;
 
-    ghost input = { λ v. C.input v.connection };
+    type Aside = Line;
 
-    ghost pauses = { λ v. C.pauses v.connection };
+    ghost input = { λ _. None };
 
-    ghost output = { λ v. C.output v.connection };
+    ghost pauses = { λ _. None };
+
+    ghost output = { λ _. None };
 
     fn line(&self) -> Option<Line> {
         self.connection.line()
     }
 
-    fn into_parts(self) -> (Heard<C::In>, Told<C::Out, L>, C::Aside) {
+    fn into_parts(self) -> (Heard, Told<L>, Line) {
         let Visitor {
             connection,
             log,
@@ -244,31 +240,23 @@ impl<C: Connection + Drop, L: Log + Drop> Connection for Visitor<C, L> {
             theirs,
         } = self;
         let (reader, writer, aside) = connection.into_parts();
-        (
-            Heard {
-                reader,
-                known: theirs,
-                front: Front::EMPTY,
-            },
-            Told {
-                writer,
-                log,
-                number,
-                known,
-                fatal: None,
-            },
-            aside,
-        )
+        let heard = Heard {
+            reader,
+            known: theirs,
+            front: Front::EMPTY,
+        };
+        let told = Told {
+            writer,
+            log,
+            number,
+            known,
+            fatal: None,
+            is_begun: false,
+        };
+        (heard, told, aside)
     }
 
-    fn set_limit(reader: &mut Heard<C::In>, ms: u32) -> io::Result<()> {
-        C::set_limit(&mut reader.reader, ms)
-    }
-}
-
-impl<C: Connection + Drop, L: Log + Drop> Visit for Visitor<C, L> {
-    fn tell_end(writer: &Told<C::Out, L>, served: Result<(), ServeFault>) {
-        let parting = writer.parting(served);
-        writer.log.tell(Remark::Left(writer.number, parting));
+    fn set_limit(reader: &mut Heard, ms: u32) -> io::Result<()> {
+        reader.reader.set_limit(ms)
     }
 }
