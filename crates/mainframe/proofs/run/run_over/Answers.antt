@@ -1,3 +1,4 @@
+use Rattle.std.proofs.Common.{refl}
 use Rattle.mainframe.proofs.Runs.{runs_begun}
 use Rattle.mainframe.proofs.run.run_over.Goals as goal
 
