@@ -1,4 +1,4 @@
-use Rattle.sw_workers_tests.proofs.sessions.plays.Given as goal
+use Rattle.sw_workers_tests.proofs.sessions.plays_after.Given as goal
 
 abbrev pub ghosts-play_behind-H-Recording : goal.ghosts-play_behind-H-Recording
 ghosts-play_behind-H-Recording g a = record { first = a.opening.core }
