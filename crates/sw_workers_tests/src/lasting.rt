@@ -77,35 +77,6 @@ fn ends_by<D: Desk + Drop>(alloc: Global, desk: D) -> bool {
     }
 }
 
-/// Whether a scan of a new mainframe that has no worker comes to its end.
-fn ends_unaided<W: Wait + Clock + Copy + Drop>(rt: W, alloc: Global) -> bool {
-    let Some(core) = fitted(alloc, SimDriver::new(), SimSource::new(1, 1)) else {
-        return false;
-    };
-    match Opening::new(alloc, core) {
-        Ok(opening) => ends_alone::<Brand, _, _, W>(rt, alloc, opening),
-        Err(_) => false,
-    }
-}
-
-/// How long the clock has then gone on, in microseconds, where the scan came to its end.
-fn rested<W: Wait + Copy + Drop>(rt: W, alloc: Global) -> Option<u64> {
-    let micros = AtomicU64::new(0);
-    let clock = Slept {
-        rt,
-        micros: &micros,
-    };
-    if ends_unaided(clock, alloc) {
-        return Some(micros.load(Ordering::SeqCst));
-    }
-    None
-}
-
-#[test]
-fn a_pause_that_no_worker_takes_is_waited_out_by_who_began_it(rt: HostRuntime) {
-    assert!(rt; rested(rt, rt.alloc()) == Some(100_000));
-}
-
 /// A scan's pauses last as long as they are to. Gives the desks back, where all went as it should.
 pub fn lasts<D: Desk + Drop + Send + 'static, C: Clock>(
     clock: &C,
