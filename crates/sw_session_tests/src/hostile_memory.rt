@@ -39,9 +39,12 @@ const NO_ERROR: &[u8] =
 const NO_MEMORY: &[u8] =
     b"HS\x07\x00\x00\x00\x00\x07\x00\x00\x00\x00\x00\x00\x00\x15-225,\"Out of memory\"\n";
 
+/// All that is written on the first connection where memory is ample.
+pub const FIRST: [&[u8]; 4] = [WELCOME, NAME, CLOSED, NO_ERROR];
+
 /// Whether what was written on the first connection is all, or tells what unit or answer found no memory.
 fn is_explained_first(main: &[u8]) -> bool {
-    is_front(main, &[WELCOME, NAME, CLOSED, NO_ERROR])
+    is_front(main, &FIRST)
         || is_front(main, &[WELCOME, CLOSED, NO_MEMORY])
         || is_front(main, &[WELCOME, NAME, OPEN, NO_MEMORY])
         || is_front(main, &[WELCOME, NAME, NO_MEMORY])
@@ -67,9 +70,12 @@ const FREE: &[u8] = b"HS\x19\x00\x00\x00\x00\x00\x00\x00\x00\x00\x00\x00\x00\x00
 /// AsyncStatusResponse with no bit.
 const STATUS: &[u8] = b"HS\x16\x00\x00\x00\x00\x00\x00\x00\x00\x00\x00\x00\x00\x00";
 
+/// All that is written on the second connection where memory is ample.
+pub const SECOND: [&[u8]; 5] = [JOINED, SIZE, GRANTED, HELD, STATUS];
+
 /// Whether what was written on the second connection is all, or tells that the key found no memory.
 fn is_explained_second(main: &[u8]) -> bool {
-    is_front(main, &[JOINED, SIZE, GRANTED, HELD, STATUS])
+    is_front(main, &SECOND)
         || is_front(main, &[JOINED, SIZE, REFUSED, FREE, STATUS])
 }
 
@@ -84,7 +90,7 @@ fn is_left(served: &Served) -> bool {
 }
 
 /// What a server does on a connection to these bytes, with a mainframe of its own, where there is memory for that.
-fn served_by(alloc: Global, channel: Channel, bytes: &[u8], attaches: bool) -> Option<Served> {
+pub fn served_by(alloc: Global, channel: Channel, bytes: &[u8], attaches: bool) -> Option<Served> {
     match bench(alloc) {
         Some(desk) => {
             let mut desk = Watched {
@@ -105,7 +111,7 @@ fn served_by(alloc: Global, channel: Channel, bytes: &[u8], attaches: bool) -> O
 }
 
 /// Initialize, and four program messages with the last answer taken.
-fn first_rows() -> [Row<'static>; 5] {
+pub fn first_rows() -> [Row<'static>; 5] {
     [
         quiet(line(0, 0, 0x0100_5858, b"hislip0")),
         quiet(line(7, 1, 7, b"*IDN?")),
@@ -116,7 +122,7 @@ fn first_rows() -> [Row<'static>; 5] {
 }
 
 /// AsyncInitialize, a size of 65,536 bytes, an ask for a shared lock, AsyncLockInfo and AsyncStatusQuery.
-fn second_rows() -> [Row<'static>; 5] {
+pub fn second_rows() -> [Row<'static>; 5] {
     [
         quiet(line(17, 0, 1, b"")),
         quiet(line(15, 0, 0, &[0, 0, 0, 0, 0, 1, 0, 0])),

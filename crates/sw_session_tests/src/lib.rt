@@ -3,6 +3,8 @@
 #![tactic(auto)]
 
 #[cfg(test)]
+mod ample_memory;
+#[cfg(test)]
 mod clients;
 #[cfg(test)]
 mod engine;

@@ -10,9 +10,7 @@ mod speaking;
 mod turns;
 mod writing;
 
-pub use act::{Act, Handler};
 pub use channels::{serve_async, serve_async_for, serve_sync, serve_sync_for};
 pub use fault::ServeFault;
 pub use source::{Memory, Source, Unread};
-pub use turns::serve_for;
 pub use writing::{Sink, Unwritten, write_all};
