@@ -30,5 +30,4 @@ pub use headers::one_command;
 pub use meaning::{every_spelling, one_meaning, resolve};
 pub use paths::Path;
 pub use runs::gaps;
-pub use table::Key;
-pub use unit::{ELEMENTS, Element, Elements, Header, RawUnit, next_unit, one_reading};
+pub use unit::{Element, Elements, Header, RawUnit, next_unit, one_reading};
