@@ -152,6 +152,7 @@ fn may_fit(steps: &[Step], words: &[&[u8]]) -> bool
 }
 
 /// What the first row asks for that these words spell below its first node, and the number in them.
+#[inline(always)]
 fn below(rows: &[Row], words: &[&[u8]]) -> Option<(Key, u8)>
     ensures some { IfSome result (λ x. (query : Bool) × MatchesRow rows.now
         (map (λ w. map to_ascii_uppercase w.now) words.now) query x.0 x.1) }
@@ -169,6 +170,7 @@ fn below(rows: &[Row], words: &[&[u8]]) -> Option<(Key, u8)>
 }
 
 /// What a header asks for that is this word and then these, and the number in it.
+#[inline(always)]
 fn matching(groups: &[Group], word: &[u8], words: &[&[u8]]) -> Option<(Key, u8)>
     ensures some { IfSome result (λ x. (query : Bool) × Matches groups.now (map to_ascii_uppercase word.now)
         (map (λ w. map to_ascii_uppercase w.now) words.now) query x.0 x.1) }
@@ -211,6 +213,7 @@ fn groups_at(word: &[u8], query: bool) -> &'static [Group]
 }
 
 /// The command that a header is, and the number in it.
+#[inline(always)]
 pub fn find(words: &[&[u8]], query: bool) -> Option<(Key, u8)>
     ensures some { IfSome result (λ x. IsFound entries
         (map (λ w. map to_ascii_uppercase w.now) words.now) query x.0 x.1) }
