@@ -3,6 +3,8 @@ pub mod Numbers
 pub mod Spelled
 pub mod Forms
 pub mod Listed
+pub mod Packed
+pub mod Counted
 pub mod Apart
 pub mod Parts
 pub mod Nodes

@@ -48,10 +48,10 @@ matches_found [] w ws query key k m = absurd m
 matches_found (group ∷ groups) w ws query key k m =
     elim m [
       | inl a ↦
-          let f = row_found group.first.now w group.rows.now ws query key k a.0 a.1 in
+          let f = row_found group.first.text.now w group.rows.now ws query key k a.0 a.1 in
           record {
             entry = f.entry;
-            listed = in_left f.entry (map (entry_at group.first.now) group.rows.now) (entries_of groups) f.listed;
+            listed = in_left f.entry (map (entry_at group.first.text.now) group.rows.now) (entries_of groups) f.listed;
             query_is = f.query_is;
             key_is = f.key_is;
             spelled = f.spelled;
@@ -60,7 +60,7 @@ matches_found (group ∷ groups) w ws query key k m =
           let f = matches_found groups w ws query key k b in
           record {
             entry = f.entry;
-            listed = in_right f.entry (map (entry_at group.first.now) group.rows.now) (entries_of groups) f.listed;
+            listed = in_right f.entry (map (entry_at group.first.text.now) group.rows.now) (entries_of groups) f.listed;
             query_is = f.query_is;
             key_is = f.key_is;
             spelled = f.spelled;
@@ -72,8 +72,8 @@ at_entry : (groups : List Group) (e : HeaderEntry) (w : List ℕ) (ws : List (Li
 unfolding entries_of
 at_entry [] e w ws k h f = absurd h
 at_entry (group ∷ groups) e w ws k h f =
-    elim (in_cases e (map (entry_at group.first.now) group.rows.now) (entries_of groups) h) [
-      | inl a ↦ inl (at_row group.first.now w group.rows.now e ws k a f)
+    elim (in_cases e (map (entry_at group.first.text.now) group.rows.now) (entries_of groups) h) [
+      | inl a ↦ inl (at_row group.first.text.now w group.rows.now e ws k a f)
       | inr b ↦ inr (at_entry groups e w ws k b f)
     ]
 

@@ -1,7 +1,7 @@
 -- Units, from the front.
 use Rattle.std.proofs.Common.{◌≡◌, ℕ, ◌+◌, ◌≤◌, List, [], ◌∷◌, ◌++◌, length, take, drop, refl, sym, ap, subst, ◌∙◌, append_assoc, arith}
 use Rattle.std.specs.List.{AllByRecursion}
-use Rattle.std.proofs.lemmas.List.{append-nil, length-append, take_at, drop_at, map_push, take-append-drop, length-map}
+use Rattle.std.proofs.lemmas.List.{append-nil, length-append, take_at, drop_at, map_push, take-append-drop, length-map, length-take-le}
 use Rattle.sw_base.specs.Text.{is_letter, StartsOff}
 use Rattle.sw_base.specs.declared.error.ScpiError.{ScpiError}
 use Rattle.sw_base.specs.declared.error.ScpiError.TheVariants.{SyntaxError}
@@ -95,6 +95,10 @@ reaches_last text (c ∷ b ∷ ds) here rest d r n = (r.0, r.1, reaches_last r.0
 
 pub data-push : (es : List Element) (e : Element) → data_of (es ++ e ∷ []) ≡ data_of es ++ datum_of e ∷ []
 data-push es e = map_push datum_of es e
+
+-- as many elements as are counted
+pub held : (es : List Element) (n : ℕ) → length es ≡ 16 → n ≤ 16 → n ≡ length (take n es)
+held es n w f = sym (length-take-le n es (omega (arith, w, f)))
 
 stuck-here : (text here : List ℕ) (ds : List Datum) (n : ℕ) (e : ScpiError) → ReachesElement text ds here → n ≡ length ds → n ≤ 16 → IsStuck n here e
     → IsDataRefused text e

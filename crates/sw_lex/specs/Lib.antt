@@ -4,6 +4,7 @@ pub mod Words
 pub mod Table
 pub mod Found
 pub mod Rows
+pub mod Packed
 pub mod Apart
 pub mod Parts
 pub mod Commands

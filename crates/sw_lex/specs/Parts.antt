@@ -7,6 +7,7 @@ use Rattle.sw_lex.specs.Table.{HeaderEntry, entries}
 use Rattle.sw_lex.specs.Found.{spellings}
 use Rattle.sw_lex.specs.Apart.{same_bool}
 use Rattle.sw_lex.specs.Rows.{entries_of}
+use Rattle.sw_lex.specs.Packed.{groups_packed}
 
 -- whether a word in capitals begins with a star, and the letter by which it is looked up
 abbrev pub part_of : List ℕ → Bool × ℕ
@@ -26,7 +27,9 @@ begins_words part (word ∷ words) = same_part part (part_of word)
 abbrev pub belongs : Bool × ℕ → Bool → HeaderEntry → Bool
 belongs part query e = same_bool query e.query && list_any (λ s. begins_words part s.0) (spellings e.nodes)
 
--- These are all entries of the table that begin with this letter: the commands, and the queries.
+-- These are all entries of the table that begin with this letter: the commands, and the queries. The numbers of their
+-- mnemonics are right.
 abbrev pub IsPart : Bool × ℕ → Part → Type 0
 IsPart part p = (entries_of p.commands.now ≡ filter (belongs part false) entries)
     × (entries_of p.queries.now ≡ filter (belongs part true) entries)
+    × (groups_packed p.commands.now ≡ true) × (groups_packed p.queries.now ≡ true)

@@ -21,9 +21,9 @@ is_form_from (x ∷ word) (b ∷ form) capitals =
 -- the nodes of these steps
 abbrev pub nodes_at : List Step → List Node
 nodes_at [] = []
-nodes_at (Must w ∷ steps) = must w.now ∷ nodes_at steps
-nodes_at (May w ∷ steps) = may w.now ∷ nodes_at steps
-nodes_at (Numbered w ∷ steps) = numbered w.now ∷ nodes_at steps
+nodes_at (Must form ∷ steps) = must form.text.now ∷ nodes_at steps
+nodes_at (May form ∷ steps) = may form.text.now ∷ nodes_at steps
+nodes_at (Numbered form ∷ steps) = numbered form.text.now ∷ nodes_at steps
 
 -- whether a row has a question mark
 abbrev pub is_query_row : Row → Bool
@@ -51,7 +51,7 @@ entry_at first row = record {
 
 unfoldable pub entries_of : List Group → List HeaderEntry
 entries_of [] = []
-entries_of (group ∷ groups) = map (entry_at group.first.now) group.rows.now ++ entries_of groups
+entries_of (group ∷ groups) = map (entry_at group.first.text.now) group.rows.now ++ entries_of groups
 
 -- the words, in capitals, are what one of the rows has below its first node
 abbrev pub MatchesRow : List Row → List (List ℕ) → Bool → Key → ℕ → Type 0
@@ -64,4 +64,4 @@ MatchesRow (row ∷ rows) ws query key k =
 abbrev pub Matches : List Group → List ℕ → List (List ℕ) → Bool → Key → ℕ → Type 0
 Matches [] w ws query key k = ⊥
 Matches (group ∷ groups) w ws query key k =
-    (IsForm group.first.now w × MatchesRow group.rows.now ws query key k) ⊎ Matches groups w ws query key k
+    (IsForm group.first.text.now w × MatchesRow group.rows.now ws query key k) ⊎ Matches groups w ws query key k

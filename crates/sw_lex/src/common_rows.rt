@@ -4,6 +4,10 @@ ghost use Rattle.std.specs.Prelude.{true};
 ghost use Rattle.std.specs.Char.{to_ascii_uppercase};
 ghost use Rattle.sw_lex.specs.Parts.{IsPart};
 
+use crate::mnemonics::{
+    STAR_CLS, STAR_DMC, STAR_EMC, STAR_ESE, STAR_ESR, STAR_GMC, STAR_IDN, STAR_LMC, STAR_OPC,
+    STAR_PMC, STAR_RMC, STAR_RST, STAR_SRE, STAR_STB, STAR_TRG, STAR_TST, STAR_WAI,
+};
 use crate::rows::Row::{Command, Query};
 use crate::rows::{Group, NONE, Part};
 use crate::table::{Common, Key, Whole};
@@ -11,7 +15,7 @@ use crate::table::{Common, Key, Whole};
 static COMMON_I: Part = Part {
     commands: &[],
     queries: &[Group {
-        first: b"*IDN",
+        first: STAR_IDN,
         rows: &[Query(&[], Key::Common(Common::Identify))],
     }],
 };
@@ -19,11 +23,11 @@ static COMMON_I: Part = Part {
 static COMMON_R: Part = Part {
     commands: &[
         Group {
-            first: b"*RST",
+            first: STAR_RST,
             rows: &[Command(&[], Key::Common(Common::Reset))],
         },
         Group {
-            first: b"*RMC",
+            first: STAR_RMC,
             rows: &[Command(&[], Key::RemoveMacro)],
         },
     ],
@@ -32,18 +36,18 @@ static COMMON_R: Part = Part {
 
 static COMMON_O: Part = Part {
     commands: &[Group {
-        first: b"*OPC",
+        first: STAR_OPC,
         rows: &[Command(&[], Key::Common(Common::OperationComplete))],
     }],
     queries: &[Group {
-        first: b"*OPC",
+        first: STAR_OPC,
         rows: &[Query(&[], Key::Common(Common::OperationCompleteQuery))],
     }],
 };
 
 static COMMON_W: Part = Part {
     commands: &[Group {
-        first: b"*WAI",
+        first: STAR_WAI,
         rows: &[Command(&[], Key::Common(Common::Wait))],
     }],
     queries: &[],
@@ -51,18 +55,18 @@ static COMMON_W: Part = Part {
 
 static COMMON_T: Part = Part {
     commands: &[Group {
-        first: b"*TRG",
+        first: STAR_TRG,
         rows: &[Command(&[], Key::Common(Common::Trigger))],
     }],
     queries: &[Group {
-        first: b"*TST",
+        first: STAR_TST,
         rows: &[Query(&[], Key::Common(Common::SelfTestQuery))],
     }],
 };
 
 static COMMON_C: Part = Part {
     commands: &[Group {
-        first: b"*CLS",
+        first: STAR_CLS,
         rows: &[Command(&[], Key::Common(Common::ClearStatus))],
     }],
     queries: &[],
@@ -71,25 +75,25 @@ static COMMON_C: Part = Part {
 static COMMON_E: Part = Part {
     commands: &[
         Group {
-            first: b"*ESE",
+            first: STAR_ESE,
             rows: &[Command(&[], Key::Whole(Whole::EventEnable))],
         },
         Group {
-            first: b"*EMC",
+            first: STAR_EMC,
             rows: &[Command(&[], Key::EnableMacros)],
         },
     ],
     queries: &[
         Group {
-            first: b"*ESE",
+            first: STAR_ESE,
             rows: &[Query(&[], Key::Common(Common::EventEnableQuery))],
         },
         Group {
-            first: b"*ESR",
+            first: STAR_ESR,
             rows: &[Query(&[], Key::Common(Common::EventQuery))],
         },
         Group {
-            first: b"*EMC",
+            first: STAR_EMC,
             rows: &[Query(&[], Key::Common(Common::EnableMacrosQuery))],
         },
     ],
@@ -97,16 +101,16 @@ static COMMON_E: Part = Part {
 
 static COMMON_S: Part = Part {
     commands: &[Group {
-        first: b"*SRE",
+        first: STAR_SRE,
         rows: &[Command(&[], Key::Whole(Whole::ServiceEnable))],
     }],
     queries: &[
         Group {
-            first: b"*SRE",
+            first: STAR_SRE,
             rows: &[Query(&[], Key::Common(Common::ServiceEnableQuery))],
         },
         Group {
-            first: b"*STB",
+            first: STAR_STB,
             rows: &[Query(&[], Key::Common(Common::StatusByteQuery))],
         },
     ],
@@ -114,7 +118,7 @@ static COMMON_S: Part = Part {
 
 static COMMON_D: Part = Part {
     commands: &[Group {
-        first: b"*DMC",
+        first: STAR_DMC,
         rows: &[Command(&[], Key::DefineMacro)],
     }],
     queries: &[],
@@ -123,7 +127,7 @@ static COMMON_D: Part = Part {
 static COMMON_G: Part = Part {
     commands: &[],
     queries: &[Group {
-        first: b"*GMC",
+        first: STAR_GMC,
         rows: &[Query(&[], Key::MacroQuery)],
     }],
 };
@@ -131,14 +135,14 @@ static COMMON_G: Part = Part {
 static COMMON_L: Part = Part {
     commands: &[],
     queries: &[Group {
-        first: b"*LMC",
+        first: STAR_LMC,
         rows: &[Query(&[], Key::Common(Common::MacroLabelsQuery))],
     }],
 };
 
 static COMMON_P: Part = Part {
     commands: &[Group {
-        first: b"*PMC",
+        first: STAR_PMC,
         rows: &[Command(&[], Key::Common(Common::PurgeMacros))],
     }],
     queries: &[],

@@ -1,22 +1,21 @@
 //! From the nodes of a header to its command.
 
-ghost use Rattle.std.specs.Prelude.{◌≡◌, ℕ, Bool, false, ◌==◌, List, [], ◌∷◌, ◌++◌, map, IfSome, IfNone, IsTrue, ◌↔◌};
+ghost use Rattle.std.specs.Prelude.{◌≡◌, ◌≤◌, ℕ, Bool, true, false, ◌==◌, List, length, map, IfSome, IfNone, IsTrue, ◌↔◌};
 ghost use Rattle.std.specs.List.{filter};
 ghost use Rattle.std.specs.Char.{to_ascii_uppercase};
-ghost use Rattle.sw_lex.specs.Found.{IsFound, IsForm, IsNumbered, Fits};
+ghost use Rattle.sw_lex.specs.Found.{IsFound, IsForm};
 ghost use Rattle.sw_lex.specs.Table.{entries};
 ghost use Rattle.sw_lex.specs.Values.{is_named};
-ghost use Rattle.sw_lex.specs.Rows.{nodes_at, entries_of, MatchesRow, Matches, is_form_from};
+ghost use Rattle.sw_lex.specs.Rows.{entries_of, is_form_from};
+ghost use Rattle.sw_lex.specs.Packed.{IsFormNumber, IsNumberedForm, FitNumbers, RowNumbers, GroupNumbers, groups_packed};
 ghost use Rattle.sw_lex.specs.Parts.{IsPart, belongs, part_of};
 ghost use Rattle.sw_lex.specs.declared.table.Key.{Key};
 
 use crate::common_rows::common_at;
+use crate::packing::{Form, Word, numbers_of};
 use crate::rows::{Group, NONE, Part, Row, Step, path_at};
 use crate::table::Key;
 use sw_base::ARM_LAYERS;
-
-/// How far a small letter is from its capital.
-const LETTER_CASE: u8 = 32;
 
 /// Whether two bytes are one but for the case of a letter.
 fn is_alike(byte: u8, next: u8) -> bool
@@ -57,49 +56,38 @@ pub fn is_form(word: &[u8], form: &[u8]) -> bool
     is_rest(word, form, true)
 }
 
-/// Whether a word may be one of the two forms, by the first letter of both.
-fn may_be_form(word: &[u8], form: &[u8]) -> bool
-    ensures { result ≡ false → IsForm form.now (map to_ascii_uppercase word.now) → ⊥ }
+/// Whether a word is one of the two forms.
+#[inline(always)]
+fn is_spelling(word: Word, form: &Form) -> bool
+    ensures { IsTrue result ↔ IsFormNumber form.now word }
 {
-    match word {
-        [] => true,
-        [byte, ..] => match form {
-            [] => false,
-            [next, ..] => *byte == *next || byte.abs_diff(*next) == LETTER_CASE,
-        },
-    }
+    word == form.short || word == form.long
 }
 
 /// The number of an ARM layer that a word has behind one of the two forms.
-fn number_behind(word: &[u8], form: &[u8]) -> Option<u8>
-    ensures some { IfSome result (λ n. IsNumbered form.now n (map to_ascii_uppercase word.now)) }
-    ensures none { IfNone result ((n : ℕ) → IsNumbered form.now n (map to_ascii_uppercase word.now) → ⊥) }
+fn number_behind(word: Word, form: &Form) -> Option<u8>
+    ensures some { IfSome result (λ k. IsNumberedForm form.now k word) }
+    ensures none { IfNone result ((k : ℕ) → IsNumberedForm form.now k word → ⊥) }
 {
-    match word {
-        [front @ .., last] => {
-            if *last > b'0' && *last <= b'0' + ARM_LAYERS && is_form(front, form) {
-                Some(*last - b'0')
-            } else {
-                None
-            }
-        }
-        [] => None,
+    let last = (word % 256) as u8;
+    if last > b'0' && last <= b'0' + ARM_LAYERS && is_spelling(word / 256, form) {
+        Some(last - b'0')
+    } else {
+        None
     }
 }
 
 /// Whether the words are a spelling of the nodes, and the number in them.
-fn spelled(steps: &[Step], words: &[&[u8]]) -> Option<u8>
-    ensures some { IfSome result (λ k. Fits (nodes_at steps.now)
-        (map (λ w. map to_ascii_uppercase w.now) words.now) k) }
-    ensures none { IfNone result ((k : ℕ)
-        → Fits (nodes_at steps.now) (map (λ w. map to_ascii_uppercase w.now) words.now) k → ⊥) }
+fn spelled(steps: &[Step], words: &[Word]) -> Option<u8>
+    ensures some { IfSome result (λ k. FitNumbers steps.now words.now k) }
+    ensures none { IfNone result ((k : ℕ) → FitNumbers steps.now words.now k → ⊥) }
 {
     match steps {
         [] => if words.is_empty() { Some(0) } else { None },
-        [step, others @ ..] => match *step {
+        [step, others @ ..] => match step {
             Step::Must(form) => match words {
                 [] => None,
-                [word, rest @ ..] => if is_form(word, form) {
+                [word, rest @ ..] => if is_spelling(*word, form) {
                     spelled(others, rest)
                 } else {
                     None
@@ -108,7 +96,7 @@ fn spelled(steps: &[Step], words: &[&[u8]]) -> Option<u8>
             Step::May(form) => match words {
                 [] => spelled(others, words),
                 [word, rest @ ..] => {
-                    if is_form(word, form) {
+                    if is_spelling(*word, form) {
                         if let Some(number) = spelled(others, rest) {
                             return Some(number);
                         }
@@ -120,10 +108,10 @@ fn spelled(steps: &[Step], words: &[&[u8]]) -> Option<u8>
                 [] => spelled(others, words),
                 [word, rest @ ..] => {
                     if let Some(number) = spelled(others, rest) {
-                        if is_form(word, form) {
+                        if is_spelling(*word, form) {
                             return Some(number);
                         }
-                        if let Some(number) = number_behind(word, form) {
+                        if let Some(number) = number_behind(*word, form) {
                             return Some(number);
                         }
                     }
@@ -134,17 +122,16 @@ fn spelled(steps: &[Step], words: &[&[u8]]) -> Option<u8>
     }
 }
 
-/// Whether the words may be a spelling of the nodes, by the first letter of both.
-fn may_fit(steps: &[Step], words: &[&[u8]]) -> bool
-    ensures { result ≡ false → (k : ℕ)
-        → Fits (nodes_at steps.now) (map (λ w. map to_ascii_uppercase w.now) words.now) k → ⊥ }
+/// Whether the words may be a spelling of the nodes, by the first of both.
+fn may_fit(steps: &[Step], words: &[Word]) -> bool
+    ensures { result ≡ false → (k : ℕ) → FitNumbers steps.now words.now k → ⊥ }
 {
     match steps {
         [] => words.is_empty(),
-        [step, ..] => match *step {
+        [step, ..] => match step {
             Step::Must(form) => match words {
                 [] => false,
-                [word, ..] => may_be_form(word, form),
+                [word, ..] => is_spelling(*word, form),
             },
             Step::May(_) | Step::Numbered(_) => true,
         },
@@ -152,11 +139,10 @@ fn may_fit(steps: &[Step], words: &[&[u8]]) -> bool
 }
 
 /// What the first row asks for that these words spell below its first node, and the number in them.
-fn below(rows: &[Row], words: &[&[u8]]) -> Option<(Key, u8)>
-    ensures some { IfSome result (λ x. (query : Bool) × MatchesRow rows.now
-        (map (λ w. map to_ascii_uppercase w.now) words.now) query x.0 x.1) }
-    ensures none { IfNone result ((query : Bool) (key : Key) (k : ℕ)
-        → MatchesRow rows.now (map (λ w. map to_ascii_uppercase w.now) words.now) query key k → ⊥) }
+#[inline(always)]
+fn below(rows: &[Row], words: &[Word]) -> Option<(Key, u8)>
+    ensures some { IfSome result (λ x. (query : Bool) × RowNumbers rows.now words.now query x.0 x.1) }
+    ensures none { IfNone result ((query : Bool) (key : Key) (k : ℕ) → RowNumbers rows.now words.now query key k → ⊥) }
 {
     for row in rows {
         if may_fit(row.steps(), words) {
@@ -169,14 +155,14 @@ fn below(rows: &[Row], words: &[&[u8]]) -> Option<(Key, u8)>
 }
 
 /// What a header asks for that is this word and then these, and the number in it.
-fn matching(groups: &[Group], word: &[u8], words: &[&[u8]]) -> Option<(Key, u8)>
-    ensures some { IfSome result (λ x. (query : Bool) × Matches groups.now (map to_ascii_uppercase word.now)
-        (map (λ w. map to_ascii_uppercase w.now) words.now) query x.0 x.1) }
-    ensures none { IfNone result ((query : Bool) (key : Key) (k : ℕ) → Matches groups.now
-        (map to_ascii_uppercase word.now) (map (λ w. map to_ascii_uppercase w.now) words.now) query key k → ⊥) }
+#[inline(always)]
+fn matching(groups: &[Group], word: Word, words: &[Word]) -> Option<(Key, u8)>
+    ensures some { IfSome result (λ x. (query : Bool) × GroupNumbers groups.now word words.now query x.0 x.1) }
+    ensures none { IfNone result ((query : Bool) (key : Key) (k : ℕ)
+        → GroupNumbers groups.now word words.now query key k → ⊥) }
 {
     for group in groups {
-        if is_form(word, group.first) {
+        if is_spelling(word, &group.first) {
             if let Some(found) = below(group.rows, words) {
                 return Some(found);
             }
@@ -204,22 +190,29 @@ fn part_at(word: &[u8]) -> &'static Part
 
 /// The headers that begin as this word does, and are commands, or queries.
 fn groups_at(word: &[u8], query: bool) -> &'static [Group]
-    ensures { entries_of result.now ≡ filter (belongs (part_of (map to_ascii_uppercase word.now)) query) entries }
+    ensures whole { entries_of result.now ≡ filter (belongs (part_of (map to_ascii_uppercase word.now)) query) entries }
+    ensures numbers { groups_packed result.now ≡ true }
 {
     let part = part_at(word);
     if query { part.queries } else { part.commands }
 }
 
 /// The command that a header is, and the number in it.
+#[inline(always)]
 pub fn find(words: &[&[u8]], query: bool) -> Option<(Key, u8)>
+    requires { length words.now ≤ 4 }
     ensures some { IfSome result (λ x. IsFound entries
         (map (λ w. map to_ascii_uppercase w.now) words.now) query x.0 x.1) }
     ensures none { IfNone result ((key : Key) (k : ℕ)
         → IsFound entries (map (λ w. map to_ascii_uppercase w.now) words.now) query key k → ⊥) }
 {
+    let numbers = numbers_of(words);
     match words {
         [] => None,
-        [word, words @ ..] => matching(groups_at(word, query), word, words),
+        [word, ..] => match numbers.as_slice() {
+            [] => None,
+            [first, others @ ..] => matching(groups_at(word, query), *first, others),
+        },
     }
 }
 

@@ -270,6 +270,7 @@ fn refusal(nodes: &[&[u8]], query: bool) -> ScpiError
 /// `InvalidSuffix`, and `DataOutOfRange`; of a word `InvalidCharacterData` where no setting has it, and
 /// `IllegalParameterValue` where another one has; those of a channel list; `OutOfMemory` where a list, a
 /// label or a body could not grow.
+#[inline(always)]
 pub fn resolve(alloc: Global, unit: &RawUnit<'_>, path: &mut Path) -> Result<Command, ScpiError>
     ensures { Resolves (unit_of unit.now) (path_of path.old) result (path_of path.new) }
 {

@@ -6,22 +6,28 @@ ghost use Rattle.std.specs.Char.{to_ascii_uppercase};
 ghost use Rattle.sw_lex.specs.Rows.{row_steps, key_of_row};
 ghost use Rattle.sw_lex.specs.Parts.{IsPart};
 
+use crate::mnemonics::{
+    ABORT, ACTUAL, ALL, ARM, BOUND, CLOSE, CONDITION, CONTINUOUS, COUNT, DELAY, DIAGNOSTIC, ENABLE,
+    ERROR, EVENT, FETCH, IMMEDIATE, INITIATE, LAYER, METER, NEXT, NTRANSITION, OPEN, OPERATION,
+    POINTS, PRESET, PTRANSITION, QUESTIONABLE, ROUTE, SCAN, SIGNAL, SOURCE, STATE, STATUS, SYSTEM,
+    TIMER, TRACE, TRIGGER, VERSION,
+};
+use crate::packing::Form;
 use crate::rows::Row::{Command, Query};
 use crate::rows::Step::{May, Must, Numbered};
 use crate::table::Family::{Arm, Trigger};
 use crate::table::{Channels, GroupAsk, Instrument, Key, LayerAsk, Time, Whole};
 use sw_base::StatusGroup::{Operation, Questionable};
 
-/// A node of a header, with its mnemonic as the standard writes it: its short form in capitals, and what the long form
-/// adds in small letters.
+/// A node of a header, with its mnemonic.
 #[derive(Clone, Copy)]
 pub enum Step {
     /// It has to be there.
-    Must(&'static [u8]),
+    Must(Form),
     /// It may be left out.
-    May(&'static [u8]),
+    May(Form),
     /// It may be left out, and may have the number of an ARM layer.
-    Numbered(&'static [u8]),
+    Numbered(Form),
 }
 
 /// A header's nodes below the first, and what it asks for: as a command, or with a question mark.
@@ -54,7 +60,7 @@ impl Row {
 /// The headers that begin with one mnemonic.
 #[derive(Clone, Copy)]
 pub struct Group {
-    pub first: &'static [u8],
+    pub first: Form,
     pub rows: &'static [Row],
 }
 
@@ -76,49 +82,43 @@ pub static NONE: Part = Part {
 static PATHS_A: Part = Part {
     commands: &[
         Group {
-            first: b"ABORt",
+            first: ABORT,
             rows: &[Command(&[], Key::Instrument(Instrument::Abort))],
         },
         Group {
-            first: b"ARM",
+            first: ARM,
             rows: &[
                 Command(
-                    &[Numbered(b"LAYer"), Must(b"COUNt")],
+                    &[Numbered(LAYER), Must(COUNT)],
                     Key::Whole(Whole::Count(Arm)),
                 ),
-                Command(&[Numbered(b"LAYer"), Must(b"SOURce")], Key::Source(Arm)),
+                Command(&[Numbered(LAYER), Must(SOURCE)], Key::Source(Arm)),
+                Command(&[Numbered(LAYER), Must(DELAY)], Key::Time(Time::Delay, Arm)),
+                Command(&[Numbered(LAYER), Must(TIMER)], Key::Time(Time::Timer, Arm)),
                 Command(
-                    &[Numbered(b"LAYer"), Must(b"DELay")],
-                    Key::Time(Time::Delay, Arm),
-                ),
-                Command(
-                    &[Numbered(b"LAYer"), Must(b"TIMer")],
-                    Key::Time(Time::Timer, Arm),
-                ),
-                Command(
-                    &[Numbered(b"LAYer"), Must(b"SIGNal")],
+                    &[Numbered(LAYER), Must(SIGNAL)],
                     Key::Layer(LayerAsk::Signal, Arm),
                 ),
             ],
         },
     ],
     queries: &[Group {
-        first: b"ARM",
+        first: ARM,
         rows: &[
             Query(
-                &[Numbered(b"LAYer"), Must(b"COUNt")],
+                &[Numbered(LAYER), Must(COUNT)],
                 Key::Layer(LayerAsk::CountQuery, Arm),
             ),
             Query(
-                &[Numbered(b"LAYer"), Must(b"SOURce")],
+                &[Numbered(LAYER), Must(SOURCE)],
                 Key::Layer(LayerAsk::SourceQuery, Arm),
             ),
             Query(
-                &[Numbered(b"LAYer"), Must(b"DELay")],
+                &[Numbered(LAYER), Must(DELAY)],
                 Key::Layer(LayerAsk::DelayQuery, Arm),
             ),
             Query(
-                &[Numbered(b"LAYer"), Must(b"TIMer")],
+                &[Numbered(LAYER), Must(TIMER)],
                 Key::Layer(LayerAsk::TimerQuery, Arm),
             ),
         ],
@@ -127,16 +127,16 @@ static PATHS_A: Part = Part {
 
 static PATHS_I: Part = Part {
     commands: &[Group {
-        first: b"INITiate",
+        first: INITIATE,
         rows: &[
-            Command(&[May(b"IMMediate")], Key::Instrument(Instrument::Initiate)),
-            Command(&[Must(b"CONTinuous")], Key::Continuous),
+            Command(&[May(IMMEDIATE)], Key::Instrument(Instrument::Initiate)),
+            Command(&[Must(CONTINUOUS)], Key::Continuous),
         ],
     }],
     queries: &[Group {
-        first: b"INITiate",
+        first: INITIATE,
         rows: &[Query(
-            &[Must(b"CONTinuous")],
+            &[Must(CONTINUOUS)],
             Key::Instrument(Instrument::InitiateContinuousQuery),
         )],
     }],
@@ -145,39 +145,36 @@ static PATHS_I: Part = Part {
 static PATHS_T: Part = Part {
     commands: &[
         Group {
-            first: b"TRIGger",
+            first: TRIGGER,
             rows: &[
-                Command(&[Must(b"COUNt")], Key::Whole(Whole::Count(Trigger))),
-                Command(&[Must(b"SOURce")], Key::Source(Trigger)),
-                Command(&[Must(b"DELay")], Key::Time(Time::Delay, Trigger)),
-                Command(&[Must(b"TIMer")], Key::Time(Time::Timer, Trigger)),
-                Command(&[Must(b"SIGNal")], Key::Layer(LayerAsk::Signal, Trigger)),
+                Command(&[Must(COUNT)], Key::Whole(Whole::Count(Trigger))),
+                Command(&[Must(SOURCE)], Key::Source(Trigger)),
+                Command(&[Must(DELAY)], Key::Time(Time::Delay, Trigger)),
+                Command(&[Must(TIMER)], Key::Time(Time::Timer, Trigger)),
+                Command(&[Must(SIGNAL)], Key::Layer(LayerAsk::Signal, Trigger)),
             ],
         },
         Group {
-            first: b"TRACe",
-            rows: &[Command(&[Must(b"POINts")], Key::Whole(Whole::Points))],
+            first: TRACE,
+            rows: &[Command(&[Must(POINTS)], Key::Whole(Whole::Points))],
         },
     ],
     queries: &[
         Group {
-            first: b"TRIGger",
+            first: TRIGGER,
             rows: &[
-                Query(&[Must(b"COUNt")], Key::Layer(LayerAsk::CountQuery, Trigger)),
-                Query(
-                    &[Must(b"SOURce")],
-                    Key::Layer(LayerAsk::SourceQuery, Trigger),
-                ),
-                Query(&[Must(b"DELay")], Key::Layer(LayerAsk::DelayQuery, Trigger)),
-                Query(&[Must(b"TIMer")], Key::Layer(LayerAsk::TimerQuery, Trigger)),
+                Query(&[Must(COUNT)], Key::Layer(LayerAsk::CountQuery, Trigger)),
+                Query(&[Must(SOURCE)], Key::Layer(LayerAsk::SourceQuery, Trigger)),
+                Query(&[Must(DELAY)], Key::Layer(LayerAsk::DelayQuery, Trigger)),
+                Query(&[Must(TIMER)], Key::Layer(LayerAsk::TimerQuery, Trigger)),
             ],
         },
         Group {
-            first: b"TRACe",
+            first: TRACE,
             rows: &[
-                Query(&[Must(b"POINts")], Key::Instrument(Instrument::PointsQuery)),
+                Query(&[Must(POINTS)], Key::Instrument(Instrument::PointsQuery)),
                 Query(
-                    &[Must(b"POINts"), Must(b"ACTual")],
+                    &[Must(POINTS), Must(ACTUAL)],
                     Key::Instrument(Instrument::ActualPointsQuery),
                 ),
             ],
@@ -187,33 +184,30 @@ static PATHS_T: Part = Part {
 
 static PATHS_R: Part = Part {
     commands: &[Group {
-        first: b"ROUTe",
+        first: ROUTE,
         rows: &[
-            Command(&[Must(b"CLOSe")], Key::Channels(Channels::Close)),
-            Command(&[Must(b"OPEN")], Key::Channels(Channels::Open)),
+            Command(&[Must(CLOSE)], Key::Channels(Channels::Close)),
+            Command(&[Must(OPEN)], Key::Channels(Channels::Open)),
             Command(
-                &[Must(b"OPEN"), Must(b"ALL")],
+                &[Must(OPEN), Must(ALL)],
                 Key::Instrument(Instrument::OpenAll),
             ),
-            Command(&[Must(b"SCAN")], Key::Scan),
-            Command(
-                &[Must(b"SCAN"), Must(b"METer")],
-                Key::Whole(Whole::ScanMeter),
-            ),
+            Command(&[Must(SCAN)], Key::Scan),
+            Command(&[Must(SCAN), Must(METER)], Key::Whole(Whole::ScanMeter)),
         ],
     }],
     queries: &[Group {
-        first: b"ROUTe",
+        first: ROUTE,
         rows: &[
-            Query(&[Must(b"CLOSe")], Key::Channels(Channels::CloseQuery)),
+            Query(&[Must(CLOSE)], Key::Channels(Channels::CloseQuery)),
             Query(
-                &[Must(b"CLOSe"), Must(b"STATe")],
+                &[Must(CLOSE), Must(STATE)],
                 Key::Instrument(Instrument::CloseState),
             ),
-            Query(&[Must(b"OPEN")], Key::Channels(Channels::OpenQuery)),
-            Query(&[Must(b"SCAN")], Key::Instrument(Instrument::ScanQuery)),
+            Query(&[Must(OPEN)], Key::Channels(Channels::OpenQuery)),
+            Query(&[Must(SCAN)], Key::Instrument(Instrument::ScanQuery)),
             Query(
-                &[Must(b"SCAN"), Must(b"METer")],
+                &[Must(SCAN), Must(METER)],
                 Key::Instrument(Instrument::ScanMeterQuery),
             ),
         ],
@@ -222,100 +216,97 @@ static PATHS_R: Part = Part {
 
 static PATHS_S: Part = Part {
     commands: &[Group {
-        first: b"STATus",
+        first: STATUS,
         rows: &[
             Command(
-                &[Must(b"OPERation"), Must(b"ENABle")],
+                &[Must(OPERATION), Must(ENABLE)],
                 Key::Whole(Whole::Enable(Operation)),
             ),
             Command(
-                &[Must(b"OPERation"), Must(b"PTRansition")],
+                &[Must(OPERATION), Must(PTRANSITION)],
                 Key::Whole(Whole::PositiveTransition(Operation)),
             ),
             Command(
-                &[Must(b"OPERation"), Must(b"NTRansition")],
+                &[Must(OPERATION), Must(NTRANSITION)],
                 Key::Whole(Whole::NegativeTransition(Operation)),
             ),
             Command(
-                &[Must(b"QUEStionable"), Must(b"ENABle")],
+                &[Must(QUESTIONABLE), Must(ENABLE)],
                 Key::Whole(Whole::Enable(Questionable)),
             ),
             Command(
-                &[Must(b"QUEStionable"), Must(b"PTRansition")],
+                &[Must(QUESTIONABLE), Must(PTRANSITION)],
                 Key::Whole(Whole::PositiveTransition(Questionable)),
             ),
             Command(
-                &[Must(b"QUEStionable"), Must(b"NTRansition")],
+                &[Must(QUESTIONABLE), Must(NTRANSITION)],
                 Key::Whole(Whole::NegativeTransition(Questionable)),
             ),
-            Command(&[Must(b"PRESet")], Key::Instrument(Instrument::Preset)),
+            Command(&[Must(PRESET)], Key::Instrument(Instrument::Preset)),
         ],
     }],
     queries: &[
         Group {
-            first: b"STATus",
+            first: STATUS,
             rows: &[
                 Query(
-                    &[Must(b"OPERation"), May(b"EVENt")],
+                    &[Must(OPERATION), May(EVENT)],
                     Key::Group(GroupAsk::EventQuery, Operation),
                 ),
                 Query(
-                    &[Must(b"OPERation"), Must(b"CONDition")],
+                    &[Must(OPERATION), Must(CONDITION)],
                     Key::Group(GroupAsk::ConditionQuery, Operation),
                 ),
                 Query(
-                    &[Must(b"OPERation"), Must(b"ENABle")],
+                    &[Must(OPERATION), Must(ENABLE)],
                     Key::Group(GroupAsk::EnableQuery, Operation),
                 ),
                 Query(
-                    &[Must(b"OPERation"), Must(b"PTRansition")],
+                    &[Must(OPERATION), Must(PTRANSITION)],
                     Key::Group(GroupAsk::PositiveTransitionQuery, Operation),
                 ),
                 Query(
-                    &[Must(b"OPERation"), Must(b"NTRansition")],
+                    &[Must(OPERATION), Must(NTRANSITION)],
                     Key::Group(GroupAsk::NegativeTransitionQuery, Operation),
                 ),
                 Query(
-                    &[Must(b"QUEStionable"), May(b"EVENt")],
+                    &[Must(QUESTIONABLE), May(EVENT)],
                     Key::Group(GroupAsk::EventQuery, Questionable),
                 ),
                 Query(
-                    &[Must(b"QUEStionable"), Must(b"CONDition")],
+                    &[Must(QUESTIONABLE), Must(CONDITION)],
                     Key::Group(GroupAsk::ConditionQuery, Questionable),
                 ),
                 Query(
-                    &[Must(b"QUEStionable"), Must(b"ENABle")],
+                    &[Must(QUESTIONABLE), Must(ENABLE)],
                     Key::Group(GroupAsk::EnableQuery, Questionable),
                 ),
                 Query(
-                    &[Must(b"QUEStionable"), Must(b"PTRansition")],
+                    &[Must(QUESTIONABLE), Must(PTRANSITION)],
                     Key::Group(GroupAsk::PositiveTransitionQuery, Questionable),
                 ),
                 Query(
-                    &[Must(b"QUEStionable"), Must(b"NTRansition")],
+                    &[Must(QUESTIONABLE), Must(NTRANSITION)],
                     Key::Group(GroupAsk::NegativeTransitionQuery, Questionable),
                 ),
             ],
         },
         Group {
-            first: b"SYSTem",
+            first: SYSTEM,
             rows: &[
                 Query(
-                    &[Must(b"ERRor"), May(b"NEXT")],
+                    &[Must(ERROR), May(NEXT)],
                     Key::Instrument(Instrument::NextErrorQuery),
                 ),
                 Query(
-                    &[Must(b"ERRor"), Must(b"ALL")],
+                    &[Must(ERROR), Must(ALL)],
                     Key::Instrument(Instrument::AllErrorsQuery),
                 ),
                 Query(
-                    &[Must(b"ERRor"), Must(b"COUNt")],
+                    &[Must(ERROR), Must(COUNT)],
                     Key::Instrument(Instrument::ErrorCountQuery),
                 ),
-                Query(
-                    &[Must(b"VERSion")],
-                    Key::Instrument(Instrument::VersionQuery),
-                ),
+                Query(&[Must(VERSION)], Key::Instrument(Instrument::VersionQuery)),
             ],
         },
     ],
@@ -324,9 +315,9 @@ static PATHS_S: Part = Part {
 static PATHS_D: Part = Part {
     commands: &[],
     queries: &[Group {
-        first: b"DIAGnostic",
+        first: DIAGNOSTIC,
         rows: &[Query(
-            &[Must(b"SCAN"), Must(b"BOUNd")],
+            &[Must(SCAN), Must(BOUND)],
             Key::Instrument(Instrument::BoundQuery),
         )],
     }],
@@ -335,7 +326,7 @@ static PATHS_D: Part = Part {
 static PATHS_F: Part = Part {
     commands: &[],
     queries: &[Group {
-        first: b"FETCh",
+        first: FETCH,
         rows: &[Query(&[], Key::Instrument(Instrument::Fetch))],
     }],
 };

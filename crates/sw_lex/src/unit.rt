@@ -1,7 +1,7 @@
 //! Units: from the bytes of a message to one header and its data.
 
-ghost use Rattle.std.specs.Prelude.{◌≡◌, ◌==◌, ◌++◌, ◌∷◌, ◌≤◌, ◌<◌, ℕ, List, [], true, false, IfOk, IfErr, IfSome};
-ghost use Rattle.std.specs.Prelude.{IfNone, length};
+ghost use Rattle.std.specs.Prelude.{◌≡◌, ◌==◌, ◌++◌, ◌∷◌, ◌≤◌, ◌<◌, ◌+◌, ℕ, List, [], true, false, IfOk, IfErr};
+ghost use Rattle.std.specs.Prelude.{IfSome, IfNone, length, take};
 ghost use Rattle.sw_base.specs.Text.{is_blank, is_letter, is_word, AllPass, StartsOff};
 ghost use Rattle.sw_base.specs.declared.error.ScpiError.{ScpiError as Error};
 ghost use Rattle.sw_base.specs.declared.error.ScpiError.TheVariants.{SyntaxError};
@@ -12,7 +12,6 @@ ghost use Rattle.sw_lex.specs.Unit.{IsRefusedUnit, IsBlank, AreJoinedElements, I
 
 use crate::elements::{before, read_element};
 use crate::runs::{end, fault_at, gaps, mnemonic, name};
-use arrayvec::ArrayVec;
 use sw_base::{ScpiError, blanks, strip_prefix};
 
 /// The most data elements of a unit.
@@ -33,12 +32,6 @@ pub enum Element<'a> {
     Expression(&'a [u8]),
 }
 
-impl Default for Element<'_> {
-    fn default() -> Self {
-        Element::Character(&[])
-    }
-}
-
 /// A header, as it is written.
 #[derive(Clone, Copy, Debug, PartialEq, Eq)]
 pub enum Header<'a> {
@@ -51,15 +44,30 @@ pub enum Header<'a> {
 /// Room for the data elements of one unit. Who reads one unit after another gives the same room each time.
 #[derive(Drop)]
 pub struct Elements<'a> {
-    found: ArrayVec<Element<'a>, ELEMENTS>,
+    /// What stood there before the count was set back is left in its place.
+    found: [Element<'a>; ELEMENTS],
+    count: usize,
+    ghost whole: { length found ≡ most_elements },
+    ghost few: { count ≤ most_elements },
 }
 
-impl Elements<'_> {
+impl<'a> Elements<'a> {
     /// Room that nothing stands in yet.
     pub fn new() -> Self {
         Elements {
-            found: ArrayVec::new(),
+            found: [Element::Character(&[]); ELEMENTS],
+            count: 0,
         }
+    }
+
+    /// Puts an element behind the others.
+    fn add(&mut self, element: Element<'a>)
+        requires { self.old.count < most_elements }
+        ensures items { take self.new.count self.new.found ≡ take self.old.count self.old.found ++ element.entry ∷ [] }
+        ensures count { self.new.count ≡ self.old.count + 1 }
+    {
+        self.found[self.count] = element;
+        self.count += 1;
     }
 }
 
@@ -164,28 +172,28 @@ fn query_mark(text: &[u8]) -> (bool, &[u8])
 /// Reads the elements up to the unit's end. Returns what follows the last of them, and what follows the end.
 fn read_data<'a>(
     text: &'a [u8],
-    found: &mut ArrayVec<Element<'a>, ELEMENTS>,
+    found: &mut Elements<'a>,
 ) -> Result<(&'a [u8], &'a [u8]), ScpiError>
-    requires empty { found.old.items ≡ [] }
-    ensures ok { IfOk result (λ x. IsData text.now (data_of found.new.items) x.1.now) }
-    ensures joined { IfOk result (λ x. AreJoinedElements text.now (data_of found.new.items) x.0.now) }
+    requires empty { found.old.count ≡ 0 }
+    ensures ok { IfOk result (λ x. IsData text.now (data_of (take found.new.count found.new.found)) x.1.now) }
+    ensures joined { IfOk result (λ x. AreJoinedElements text.now (data_of (take found.new.count found.new.found)) x.0.now) }
     ensures closes { IfOk result (λ x. Closes x.0.now x.1.now) }
-    ensures few { IfOk result (λ _. length (data_of found.new.items) ≤ most_elements) }
+    ensures few { IfOk result (λ _. length (data_of (take found.new.count found.new.found)) ≤ most_elements) }
     ensures err { IfErr result (λ e. IsDataRefused text.now e) }
 {
     let mut rest = text;
     'data: loop {
-        let (next, after) = read_element(rest, found.len())?;
+        let (next, after) = read_element(rest, found.count)?;
         let (_, more) = blanks(after);
         match end(more) {
             Some(others) => {
-                found.push(next);
+                found.add(next);
                 return Ok((after, others));
             }
             None => match strip_prefix(more, b',') {
                 Some(others) => {
                     let (_, others) = blanks(others);
-                    found.push(next);
+                    found.add(next);
                     rest = others;
                 }
                 None => return Err(fault_at(ScpiError::InvalidSeparator, more)),
@@ -197,13 +205,13 @@ fn read_data<'a>(
 /// Reads the data that follow a header. Returns what follows the unit's last part, and what follows the unit.
 fn read_tail<'a>(
     text: &'a [u8],
-    found: &mut ArrayVec<Element<'a>, ELEMENTS>,
+    found: &mut Elements<'a>,
 ) -> Result<(&'a [u8], &'a [u8]), ScpiError>
-    requires empty { found.old.items ≡ [] }
-    ensures ok { IfOk result (λ x. IsTail text.now (data_of found.new.items) x.1.now) }
-    ensures left { IfOk result (λ x. IsLeft text.now (data_of found.new.items) x.0.now) }
+    requires empty { found.old.count ≡ 0 }
+    ensures ok { IfOk result (λ x. IsTail text.now (data_of (take found.new.count found.new.found)) x.1.now) }
+    ensures left { IfOk result (λ x. IsLeft text.now (data_of (take found.new.count found.new.found)) x.0.now) }
     ensures closes { IfOk result (λ x. Closes x.0.now x.1.now) }
-    ensures few { IfOk result (λ _. length (data_of found.new.items) ≤ most_elements) }
+    ensures few { IfOk result (λ _. length (data_of (take found.new.count found.new.found)) ≤ most_elements) }
     ensures err { IfErr result (λ e. IsTailRefused text.now e) }
 {
     let (gap, more) = blanks(text);
@@ -237,13 +245,13 @@ pub fn next_unit<'u, 'a: 'u>(
     }
     let (header, rest) = read_header(start)?;
     let (query, rest) = query_mark(rest);
-    room.found.clear();
-    let (left, rest) = read_tail(rest, &mut room.found)?;
+    room.count = 0;
+    let (left, rest) = read_tail(rest, room)?;
     Ok(Some((
         RawUnit {
             header,
             query,
-            elements: room.found.as_slice(),
+            elements: &room.found[..room.count],
             text: before(start, left),
         },
         rest,

@@ -1,3 +1,4 @@
+use Rattle.std.proofs.Common.{take}
 use Rattle.sw_lex.specs.Unit.{heading_of, data_of}
 use Rattle.sw_lex.proofs.Shorter.{unit_rest}
 use Rattle.sw_lex.proofs.Written.{start_leaves}
@@ -8,7 +9,7 @@ returns-clause-shorter c =
     unit_rest c.args.text.now (record {
       header = heading_of c.in_ok-header.header;
       query = c.query_mark-query.result.0;
-      elements = data_of c.read_tail.new.found.items;
+      elements = data_of (take c.read_tail.new.found.count c.read_tail.new.found.found);
     }) c.in_ok-left.rest.now (record {
       before = c.gaps.result.0.now;
       start = c.gaps.result.1.now;

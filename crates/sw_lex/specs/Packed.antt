@@ -1,0 +1,93 @@
+-- Words in capitals as numbers, and what the numbers in the rows of the code have to be.
+use Rattle.std.specs.Prelude.{◌≡◌, ◌≤◌, ◌<◌, ◌+◌, ◌*◌, ◌-◌, ◌/◌, ◌%◌, ℕ, Bool, ◌==◌, ◌&&◌, nat_lt, nat_le}
+use Rattle.std.specs.Prelude.{List, [], ◌∷◌, length, ◌⊎◌, ⊤}
+use Rattle.std.specs.List.{list_all}
+use Rattle.sw_base.specs.Text.{AllPass}
+use Rattle.sw_base.specs.Limits.{longest_mnemonic, most_arm_layers}
+use Rattle.sw_lex.specs.declared.table.Key.{Key}
+use Rattle.sw_lex.specs.declared.packing.Form.{Form}
+use Rattle.sw_lex.specs.declared.rows.Step.{Step}
+use Rattle.sw_lex.specs.declared.rows.Step.TheVariants.{Must, May, Numbered}
+use Rattle.sw_lex.specs.declared.rows.Row.{Row}
+use Rattle.sw_lex.specs.declared.rows.Group.{Group}
+use Rattle.sw_lex.specs.Words.{short_of, long_of}
+use Rattle.sw_lex.specs.Rows.{is_query_row, row_steps, key_of_row}
+
+-- ---- words
+
+-- these bytes as further digits, to the base 256, of a number
+abbrev pub packed_after : ℕ → List ℕ → ℕ
+packed_after n [] = n
+packed_after n (b ∷ bytes) = packed_after (n * 256 + b) bytes
+
+-- a one, and then the bytes
+abbrev pub packed : List ℕ → ℕ
+packed word = packed_after 1 word
+
+abbrev pub is_byte : ℕ → Bool
+is_byte b = nat_lt b 256
+
+-- the number of a word; that of a word longer than each mnemonic of the table is 0
+abbrev pub IsNumberOf : List ℕ → ℕ → Type 0
+IsNumberOf word n = ((length word ≤ longest_mnemonic) × AllPass is_byte word × (n ≡ packed word))
+    ⊎ ((longest_mnemonic < length word) × (n ≡ 0))
+
+abbrev pub AreNumbersOf : List (List ℕ) → List ℕ → Type 0
+AreNumbersOf [] [] = ⊤
+AreNumbersOf [] (n ∷ ns) = ⊥
+AreNumbersOf (w ∷ ws) [] = ⊥
+AreNumbersOf (w ∷ ws) (n ∷ ns) = IsNumberOf w n × AreNumbersOf ws ns
+
+-- ---- the rows of the code
+
+-- the number is that of the word, which is no longer than this
+abbrev pub is_number : ℕ → ℕ → List ℕ → Bool
+is_number most n word = n == packed word && (nat_le (length word) most && list_all is_byte word)
+
+-- the numbers of a mnemonic's two forms are those of its text
+abbrev pub is_packed : ℕ → Form → Bool
+is_packed most form = is_number most form.short (short_of form.text.now) && is_number most form.long (long_of form.text.now)
+
+-- one byte is left for the number of a layer
+abbrev pub step_packed : Step → Bool
+step_packed (Must form) = is_packed longest_mnemonic form
+step_packed (May form) = is_packed longest_mnemonic form
+step_packed (Numbered form) = is_packed (longest_mnemonic - 1) form
+
+abbrev pub steps_packed : List Step → Bool
+steps_packed steps = list_all step_packed steps
+
+abbrev pub rows_packed : List Row → Bool
+rows_packed rows = list_all (λ row. steps_packed (row_steps row)) rows
+
+abbrev pub groups_packed : List Group → Bool
+groups_packed groups = list_all (λ group. is_packed longest_mnemonic group.first && rows_packed group.rows.now) groups
+
+-- ---- numbers of words that are spellings of rows: `Found` and `Rows` over numbers
+
+abbrev pub IsFormNumber : Form → ℕ → Type 0
+IsFormNumber form n = (n ≡ form.short) ⊎ (n ≡ form.long)
+
+-- the digit of an ARM layer is the last byte
+abbrev pub IsNumberedForm : Form → ℕ → ℕ → Type 0
+IsNumberedForm form k n = (1 ≤ k) × (k ≤ most_arm_layers) × (n % 256 ≡ 48 + k) × IsFormNumber form (n / 256)
+
+abbrev pub FitNumbers : List Step → List ℕ → ℕ → Type 0
+FitNumbers [] ns k = (ns ≡ []) × (k ≡ 0)
+FitNumbers (Must form ∷ steps) [] k = ⊥
+FitNumbers (Must form ∷ steps) (n ∷ ns) k = IsFormNumber form n × FitNumbers steps ns k
+FitNumbers (May form ∷ steps) [] k = FitNumbers steps [] k
+FitNumbers (May form ∷ steps) (n ∷ ns) k = (IsFormNumber form n × FitNumbers steps ns k) ⊎ FitNumbers steps (n ∷ ns) k
+FitNumbers (Numbered form ∷ steps) [] k = FitNumbers steps [] k
+FitNumbers (Numbered form ∷ steps) (n ∷ ns) k = (IsFormNumber form n × FitNumbers steps ns k)
+    ⊎ (((m : ℕ) × FitNumbers steps ns m × IsNumberedForm form k n) ⊎ FitNumbers steps (n ∷ ns) k)
+
+abbrev pub RowNumbers : List Row → List ℕ → Bool → Key → ℕ → Type 0
+RowNumbers [] ns query key k = ⊥
+RowNumbers (row ∷ rows) ns query key k =
+    ((is_query_row row ≡ query) × (key_of_row row ≡ key) × FitNumbers (row_steps row) ns k) ⊎ RowNumbers rows ns query key k
+
+abbrev pub GroupNumbers : List Group → ℕ → List ℕ → Bool → Key → ℕ → Type 0
+GroupNumbers [] n ns query key k = ⊥
+GroupNumbers (group ∷ groups) n ns query key k =
+    (IsFormNumber group.first n × RowNumbers group.rows.now ns query key k) ⊎ GroupNumbers groups n ns query key k

@@ -1,0 +1,333 @@
+//! The mnemonics of the table of headers, as texts and as numbers.
+
+use crate::packing::Form;
+
+pub const ABORT: Form = Form {
+    text: b"ABORt",
+    short: 0x1_41_42_4F_52,
+    long: 0x1_41_42_4F_52_54,
+};
+
+pub const ACTUAL: Form = Form {
+    text: b"ACTual",
+    short: 0x1_41_43_54,
+    long: 0x1_41_43_54_55_41_4C,
+};
+
+pub const ALL: Form = Form {
+    text: b"ALL",
+    short: 0x1_41_4C_4C,
+    long: 0x1_41_4C_4C,
+};
+
+pub const ARM: Form = Form {
+    text: b"ARM",
+    short: 0x1_41_52_4D,
+    long: 0x1_41_52_4D,
+};
+
+pub const BOUND: Form = Form {
+    text: b"BOUNd",
+    short: 0x1_42_4F_55_4E,
+    long: 0x1_42_4F_55_4E_44,
+};
+
+pub const CLOSE: Form = Form {
+    text: b"CLOSe",
+    short: 0x1_43_4C_4F_53,
+    long: 0x1_43_4C_4F_53_45,
+};
+
+pub const CONDITION: Form = Form {
+    text: b"CONDition",
+    short: 0x1_43_4F_4E_44,
+    long: 0x1_43_4F_4E_44_49_54_49_4F_4E,
+};
+
+pub const CONTINUOUS: Form = Form {
+    text: b"CONTinuous",
+    short: 0x1_43_4F_4E_54,
+    long: 0x1_43_4F_4E_54_49_4E_55_4F_55_53,
+};
+
+pub const COUNT: Form = Form {
+    text: b"COUNt",
+    short: 0x1_43_4F_55_4E,
+    long: 0x1_43_4F_55_4E_54,
+};
+
+pub const DELAY: Form = Form {
+    text: b"DELay",
+    short: 0x1_44_45_4C,
+    long: 0x1_44_45_4C_41_59,
+};
+
+pub const DIAGNOSTIC: Form = Form {
+    text: b"DIAGnostic",
+    short: 0x1_44_49_41_47,
+    long: 0x1_44_49_41_47_4E_4F_53_54_49_43,
+};
+
+pub const ENABLE: Form = Form {
+    text: b"ENABle",
+    short: 0x1_45_4E_41_42,
+    long: 0x1_45_4E_41_42_4C_45,
+};
+
+pub const ERROR: Form = Form {
+    text: b"ERRor",
+    short: 0x1_45_52_52,
+    long: 0x1_45_52_52_4F_52,
+};
+
+pub const EVENT: Form = Form {
+    text: b"EVENt",
+    short: 0x1_45_56_45_4E,
+    long: 0x1_45_56_45_4E_54,
+};
+
+pub const FETCH: Form = Form {
+    text: b"FETCh",
+    short: 0x1_46_45_54_43,
+    long: 0x1_46_45_54_43_48,
+};
+
+pub const IMMEDIATE: Form = Form {
+    text: b"IMMediate",
+    short: 0x1_49_4D_4D,
+    long: 0x1_49_4D_4D_45_44_49_41_54_45,
+};
+
+pub const INITIATE: Form = Form {
+    text: b"INITiate",
+    short: 0x1_49_4E_49_54,
+    long: 0x1_49_4E_49_54_49_41_54_45,
+};
+
+pub const LAYER: Form = Form {
+    text: b"LAYer",
+    short: 0x1_4C_41_59,
+    long: 0x1_4C_41_59_45_52,
+};
+
+pub const METER: Form = Form {
+    text: b"METer",
+    short: 0x1_4D_45_54,
+    long: 0x1_4D_45_54_45_52,
+};
+
+pub const NEXT: Form = Form {
+    text: b"NEXT",
+    short: 0x1_4E_45_58_54,
+    long: 0x1_4E_45_58_54,
+};
+
+pub const NTRANSITION: Form = Form {
+    text: b"NTRansition",
+    short: 0x1_4E_54_52,
+    long: 0x1_4E_54_52_41_4E_53_49_54_49_4F_4E,
+};
+
+pub const OPEN: Form = Form {
+    text: b"OPEN",
+    short: 0x1_4F_50_45_4E,
+    long: 0x1_4F_50_45_4E,
+};
+
+pub const OPERATION: Form = Form {
+    text: b"OPERation",
+    short: 0x1_4F_50_45_52,
+    long: 0x1_4F_50_45_52_41_54_49_4F_4E,
+};
+
+pub const POINTS: Form = Form {
+    text: b"POINts",
+    short: 0x1_50_4F_49_4E,
+    long: 0x1_50_4F_49_4E_54_53,
+};
+
+pub const PRESET: Form = Form {
+    text: b"PRESet",
+    short: 0x1_50_52_45_53,
+    long: 0x1_50_52_45_53_45_54,
+};
+
+pub const PTRANSITION: Form = Form {
+    text: b"PTRansition",
+    short: 0x1_50_54_52,
+    long: 0x1_50_54_52_41_4E_53_49_54_49_4F_4E,
+};
+
+pub const QUESTIONABLE: Form = Form {
+    text: b"QUEStionable",
+    short: 0x1_51_55_45_53,
+    long: 0x1_51_55_45_53_54_49_4F_4E_41_42_4C_45,
+};
+
+pub const ROUTE: Form = Form {
+    text: b"ROUTe",
+    short: 0x1_52_4F_55_54,
+    long: 0x1_52_4F_55_54_45,
+};
+
+pub const SCAN: Form = Form {
+    text: b"SCAN",
+    short: 0x1_53_43_41_4E,
+    long: 0x1_53_43_41_4E,
+};
+
+pub const SIGNAL: Form = Form {
+    text: b"SIGNal",
+    short: 0x1_53_49_47_4E,
+    long: 0x1_53_49_47_4E_41_4C,
+};
+
+pub const SOURCE: Form = Form {
+    text: b"SOURce",
+    short: 0x1_53_4F_55_52,
+    long: 0x1_53_4F_55_52_43_45,
+};
+
+pub const STAR_CLS: Form = Form {
+    text: b"*CLS",
+    short: 0x1_2A_43_4C_53,
+    long: 0x1_2A_43_4C_53,
+};
+
+pub const STAR_DMC: Form = Form {
+    text: b"*DMC",
+    short: 0x1_2A_44_4D_43,
+    long: 0x1_2A_44_4D_43,
+};
+
+pub const STAR_EMC: Form = Form {
+    text: b"*EMC",
+    short: 0x1_2A_45_4D_43,
+    long: 0x1_2A_45_4D_43,
+};
+
+pub const STAR_ESE: Form = Form {
+    text: b"*ESE",
+    short: 0x1_2A_45_53_45,
+    long: 0x1_2A_45_53_45,
+};
+
+pub const STAR_ESR: Form = Form {
+    text: b"*ESR",
+    short: 0x1_2A_45_53_52,
+    long: 0x1_2A_45_53_52,
+};
+
+pub const STAR_GMC: Form = Form {
+    text: b"*GMC",
+    short: 0x1_2A_47_4D_43,
+    long: 0x1_2A_47_4D_43,
+};
+
+pub const STAR_IDN: Form = Form {
+    text: b"*IDN",
+    short: 0x1_2A_49_44_4E,
+    long: 0x1_2A_49_44_4E,
+};
+
+pub const STAR_LMC: Form = Form {
+    text: b"*LMC",
+    short: 0x1_2A_4C_4D_43,
+    long: 0x1_2A_4C_4D_43,
+};
+
+pub const STAR_OPC: Form = Form {
+    text: b"*OPC",
+    short: 0x1_2A_4F_50_43,
+    long: 0x1_2A_4F_50_43,
+};
+
+pub const STAR_PMC: Form = Form {
+    text: b"*PMC",
+    short: 0x1_2A_50_4D_43,
+    long: 0x1_2A_50_4D_43,
+};
+
+pub const STAR_RMC: Form = Form {
+    text: b"*RMC",
+    short: 0x1_2A_52_4D_43,
+    long: 0x1_2A_52_4D_43,
+};
+
+pub const STAR_RST: Form = Form {
+    text: b"*RST",
+    short: 0x1_2A_52_53_54,
+    long: 0x1_2A_52_53_54,
+};
+
+pub const STAR_SRE: Form = Form {
+    text: b"*SRE",
+    short: 0x1_2A_53_52_45,
+    long: 0x1_2A_53_52_45,
+};
+
+pub const STAR_STB: Form = Form {
+    text: b"*STB",
+    short: 0x1_2A_53_54_42,
+    long: 0x1_2A_53_54_42,
+};
+
+pub const STAR_TRG: Form = Form {
+    text: b"*TRG",
+    short: 0x1_2A_54_52_47,
+    long: 0x1_2A_54_52_47,
+};
+
+pub const STAR_TST: Form = Form {
+    text: b"*TST",
+    short: 0x1_2A_54_53_54,
+    long: 0x1_2A_54_53_54,
+};
+
+pub const STAR_WAI: Form = Form {
+    text: b"*WAI",
+    short: 0x1_2A_57_41_49,
+    long: 0x1_2A_57_41_49,
+};
+
+pub const STATE: Form = Form {
+    text: b"STATe",
+    short: 0x1_53_54_41_54,
+    long: 0x1_53_54_41_54_45,
+};
+
+pub const STATUS: Form = Form {
+    text: b"STATus",
+    short: 0x1_53_54_41_54,
+    long: 0x1_53_54_41_54_55_53,
+};
+
+pub const SYSTEM: Form = Form {
+    text: b"SYSTem",
+    short: 0x1_53_59_53_54,
+    long: 0x1_53_59_53_54_45_4D,
+};
+
+pub const TIMER: Form = Form {
+    text: b"TIMer",
+    short: 0x1_54_49_4D,
+    long: 0x1_54_49_4D_45_52,
+};
+
+pub const TRACE: Form = Form {
+    text: b"TRACe",
+    short: 0x1_54_52_41_43,
+    long: 0x1_54_52_41_43_45,
+};
+
+pub const TRIGGER: Form = Form {
+    text: b"TRIGger",
+    short: 0x1_54_52_49_47,
+    long: 0x1_54_52_49_47_47_45_52,
+};
+
+pub const VERSION: Form = Form {
+    text: b"VERSion",
+    short: 0x1_56_45_52_53,
+    long: 0x1_56_45_52_53_49_4F_4E,
+};
