@@ -15,7 +15,7 @@ use sw_verify::{Layout, Slot};
 impl<R: Relay, M: Meter> Cage<R, M> {
     /// The cards by slot; a meter that is out counts as its slot's.
     pub fn layout(&self, alloc: Global) -> Result<Layout, AllocError>
-        ensures { IfOk result (λ layout. layout ≡ cage_layout self.now) }
+        ensures { IfOk result (λ layout. layout ≡ cage_layout self.now.seen) }
     {
         // Reading a field tells the proof what holds of every `Cage`.
         let _ = &self.slots;
@@ -29,7 +29,7 @@ impl<R: Relay, M: Meter> Cage<R, M> {
     /// What the slot holds, where a meter that is out counts as the slot's.
     fn contents(&self, alloc: Global, slot: u8) -> Result<Slot, AllocError>
         requires { (1 ≤ slot) × (slot ≤ most_slots) }
-        ensures { IfOk result (λ contents. contents ≡ slot_at (cage_layout self.now) slot) }
+        ensures { IfOk result (λ contents. contents ≡ slot_at (cage_layout self.now.seen) slot) }
     {
         if self.out.at(slot).is_some() {
             return Ok(Slot::meter());
@@ -40,7 +40,7 @@ impl<R: Relay, M: Meter> Cage<R, M> {
     /// Whether the slot holds what the layout's slot tells, where a meter that is out counts as the slot's.
     fn has_contents(&self, slot: u8, contents: &Slot) -> bool
         requires { (1 ≤ slot) × (slot ≤ most_slots) }
-        ensures { IsTrue result ↔ (contents.now ≡ slot_at (cage_layout self.now) slot) }
+        ensures { IsTrue result ↔ (contents.now ≡ slot_at (cage_layout self.now.seen) slot) }
     {
         if self.out.at(slot).is_some() {
             return contents.is_meter();
@@ -50,7 +50,7 @@ impl<R: Relay, M: Meter> Cage<R, M> {
 
     /// Whether the layout is that of the cards, as [`Cage::layout`] tells it. It takes no memory.
     pub fn has_layout(&self, layout: &Layout) -> bool
-        ensures { IsTrue result ↔ (layout.now ≡ cage_layout self.now) }
+        ensures { IsTrue result ↔ (layout.now ≡ cage_layout self.now.seen) }
     {
         // Reading a field tells the proof what holds of every `Cage`.
         let _ = &self.slots;
