@@ -149,7 +149,8 @@ pub meters_lent : {C : Type 0} (items lent new : Cards C) (len : ℕ) → lent �
 meters_lent items lent new len same e n =
     let k : length new ≡ length lent = sym (length-map new meter_only) ∙ ap length e ∙ length-map lent meter_only in
     let m : len ≡ length new = sym n ∙ sym k in
-    ap (λ (j : ℕ). meters_of (take j (new ++ drop (length new) items))) m ∙ ap meters_of (take-append_seam new (drop (length new) items)) ∙ e ∙ ap meters_of same
+    ap (λ (j : ℕ). meters_of (take j (new ++ drop (length new) items))) m ∙ ap meters_of (take-append_seam new (drop (length new) items)) ∙ e ∙ ap meters_of
+    same
 
 -- a slot is emptied
 pub meters_emptied : {C : Type 0} (old new : Cards C) (i : ℕ) → new ≡ slice_set old i None → meters_of new ≡ slice_set (meters_of old) i None

@@ -1,7 +1,8 @@
 //! The cage as the layers above see it.
 
 ghost use Rattle.std.specs.Prelude.{◌≡◌, ℕ, ◌-◌, ◌≤◌, List, [], ◌∷◌, Bool, true, false, None, Some, IsOk, OnOk, OnErr};
-ghost use Rattle.std.specs.Prelude.{IfOk, IfErr, slice_set, replicate, is_some, ◌↔◌, IsTrue, ◌+◌, ◌<◌, ◌^◌, ◌||◌, is_err};
+ghost use Rattle.std.specs.Prelude.{IfOk, IfErr, slice_set, replicate, is_some, ◌↔◌, IsTrue, ◌+◌, ◌<◌, ◌^◌, ◌||◌};
+ghost use Rattle.std.specs.Prelude.{is_err};
 ghost use Rattle.sw_base.specs.Limits.{most_slots};
 ghost use Rattle.sw_base.specs.Layout.{Channel, slot_at, is_present, IsClash, IsExclusive};
 ghost use Rattle.sw_card.specs.Account.{closed_at, is_meter};
@@ -40,9 +41,9 @@ use sw_verify::Plan;
 
 /// Slots, numbered from 1, that hold relay and meter cards.
 ///
-/// Contracts see the cards themselves by slot (`cards`), and beside them what is seen of the cage, where the cards stand
-/// by their own accounts (`seen`). A meter stays the very card in whatever is done with the others. A relay card whose
-/// relays are driven goes on to another state of its own driver, of which its account alone is known.
+/// Contracts see the cards themselves by slot (`cards`), and what is seen of the cage (`seen`), where the cards stand
+/// by their own accounts. A meter stays the very card in whatever is done with the others. A relay card whose relays
+/// are driven goes on to another state of its driver, of which its account alone is known.
 #[derive(Drop)]
 pub struct Cage<R: Relay, M: Meter> {
     slots: Slots<R, M>,
@@ -273,20 +274,6 @@ impl<R: Relay, M: Meter> Cage<R, M> {
         self.slots.open_listed(chans)
     }
 
-    /// The closed channels, by slot and channel.
-    pub fn closed_chans(&self, alloc: Global) -> Result<Vec<Chan>, AllocError>
-        ensures { IfOk result (λ chans. chans.items ≡ closed_list self.now.seen.cards) }
-    {
-        self.slots.closed_chans(alloc)
-    }
-
-    /// Whether these are the closed channels, as [`Cage::closed_chans`] tells them. It takes no memory.
-    pub fn has_closed(&self, chans: &[Chan]) -> bool
-        ensures { IsTrue result ↔ (chans.now ≡ closed_list self.now.seen.cards) }
-    {
-        self.slots.has_closed(chans)
-    }
-
     /// Whether the slot's meter is out.
     pub fn has_out(&self, slot: u8) -> bool
         ensures { result ≡ is_some (slot_at self.now.seen.out slot) }
@@ -427,8 +414,8 @@ impl<R: Relay, M: Meter> Cage<R, M> {
         ensures takes { IfOk result (λ taken. (taken_seen taken ≡ SaysIgnored → ⊥)
             → TakesReturn self.old.seen finished.1.slot finished.1.ticket) }
         ensures failed { IfOk result (λ taken. TakesReturn self.old.seen finished.1.slot finished.1.ticket
-            → tells_fault (taken_seen taken)
-            ≡ (is_err finished.1.outcome || any_failed (with_back self.old.seen finished.1).cards self.new.seen.cards)) }
+            → tells_fault (taken_seen taken) ≡ (is_err finished.1.outcome
+            || any_failed (with_back self.old.seen finished.1).cards self.new.seen.cards)) }
         ensures readings { IfOk result (λ taken. TakesReturn self.old.seen finished.1.slot finished.1.ticket
             → self.new.seen.readings ≡ readings_with self.old.seen.readings finished.1.outcome) }
         ensures told { IsTold finished.1 }
@@ -471,7 +458,8 @@ impl<R: Relay, M: Meter> Cage<R, M> {
         requires out { slot_at self.old.seen.out finished.1.slot ≡ Some finished.1.ticket }
         requires taken { TakesReturn self.old.seen finished.1.slot finished.1.ticket }
         ensures meters { KeepsMeters (with_card_back self.old.cards finished) result self.new.cards }
-        ensures counts { Counts (with_back self.old.seen finished.1) finished.1.outcome (taken_seen result) self.new.seen }
+        ensures counts { Counts (with_back self.old.seen finished.1) finished.1.outcome (taken_seen result)
+            self.new.seen }
     {
         let Finished {
             slot,

@@ -1,14 +1,15 @@
-//! Which cards the cage has, as a plan sees them.
+//! Which cards the cage has and which of its channels are closed, as a plan sees them.
 
 ghost use Rattle.std.specs.Prelude.{◌≡◌, ◌≤◌, IfOk, ◌↔◌, IsTrue};
 ghost use Rattle.sw_base.specs.Limits.{most_slots};
 ghost use Rattle.sw_base.specs.Layout.{slot_at};
 ghost use Rattle.sw_cage.specs.Cage.{cage_layout};
+ghost use Rattle.sw_cage.specs.Channels.{closed_list};
 
 use crate::cage::Cage;
 use crate::slots::PLACES;
 use std::alloc::{AllocError, Global};
-use sw_base::SLOTS;
+use sw_base::{Chan, SLOTS};
 use sw_card::{Meter, Relay};
 use sw_verify::{Layout, Slot};
 
@@ -64,5 +65,19 @@ impl<R: Relay, M: Meter> Cage<R, M> {
             }
         }
         true
+    }
+
+    /// The closed channels, by slot and channel.
+    pub fn closed_chans(&self, alloc: Global) -> Result<Vec<Chan>, AllocError>
+        ensures { IfOk result (λ chans. chans.items ≡ closed_list self.now.seen.cards) }
+    {
+        self.slots.closed_chans(alloc)
+    }
+
+    /// Whether these are the closed channels, as [`Cage::closed_chans`] tells them. It takes no memory.
+    pub fn has_closed(&self, chans: &[Chan]) -> bool
+        ensures { IsTrue result ↔ (chans.now ≡ closed_list self.now.seen.cards) }
+    {
+        self.slots.has_closed(chans)
     }
 }

@@ -32,7 +32,7 @@ use sw_verify::Slot;
 /// How many slots there are.
 pub(crate) const PLACES: usize = SLOTS as usize;
 
-/// All slots, the cards in them, and by group the closed channel that it has.
+/// All slots, the cards in them, and by group the closed channel that it has. Contracts see the cards.
 #[derive(Drop)]
 pub(crate) struct Slots<R: Relay, M: Meter> {
     slots: Vec<Place<R, M>>,
@@ -242,8 +242,8 @@ impl<R: Relay, M: Meter> Slots<R, M> {
     /// Lets each channel of the list claim its group, unless another channel has it.
     fn claim_listed(&self, chans: &[Chan], claims: &mut Claims) -> bool
         requires present { all_present (layout_of (accounts_of self.now)) chans.now ≡ true }
-        requires held { IndexesClaims (layout_of (accounts_of self.now)) (λ c. is_closed (accounts_of self.now) c ≡ true)
-            claims.old }
+        requires held { IndexesClaims (layout_of (accounts_of self.now))
+            (λ c. is_closed (accounts_of self.now) c ≡ true) claims.old }
         ensures apart { result ≡ true → HasClash (layout_of (accounts_of self.now))
             (closed_with (is_closed (accounts_of self.now)) chans.now) → ⊥ }
         ensures clash { result ≡ false → HasClash (layout_of (accounts_of self.now))

@@ -8,5 +8,6 @@ returns-then-is_some g c = c.meter.ensures ∙ sym (bay_out _ c.args.self.now.se
     (ap is_some (sym c.at.ensures) ∙ sym c.is_some.ensures ∙ c.if-is_some.true))
 
 pub returns : goal.returns
-returns g c = subst (λ o. IfOk c.contents.result (λ bay. bay ≡ o)) (bay_in _ c.args.self.now.seen c.args.slot c.self.invariant.good.held (seen_is c.self.view_is)
+returns g c = subst (λ o. IfOk c.contents.result (λ bay. bay ≡ o)) (bay_in _ c.args.self.now.seen c.args.slot c.self.invariant.good.held (seen_is
+    c.self.view_is)
     (ap is_some (sym c.at.ensures) ∙ sym c.is_some.ensures ∙ c.if-is_some.false)) c.contents.ensures

@@ -12,7 +12,8 @@ pub returns-clause-ok : goal.returns-clause-ok
 returns-clause-ok g c =
     let same : option_rest (slot_at c.if-is_some-2.self.seen.cards c.args.slot) ≡ option_rest (slot_at c.args.self.now.seen.cards c.args.slot) =
     elim c.if-is_some-2.branch [
-      | then-is_some-2 w ↦ ap (λ (p : CageSeen). option_rest (slot_at p.cards c.args.slot)) (seen_is w.self-is ∙ w.abort.ensures.safe) ∙ rest_twice c.args.self.now.seen.cards
+      | then-is_some-2 w ↦ ap (λ (p : CageSeen). option_rest (slot_at p.cards c.args.slot)) (seen_is w.self-is ∙ w.abort.ensures.safe) ∙ rest_twice
+          c.args.self.now.seen.cards
           c.args.slot
       | else-is_some-2 w ↦ ap (λ (p : CageSeen). option_rest (slot_at p.cards c.args.slot)) (seen_is w.self-is)
     ] in

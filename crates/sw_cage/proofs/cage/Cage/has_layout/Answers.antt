@@ -20,7 +20,8 @@ returns-then-bays-ne-PLACES g c = (
 pub loop-before-preserved : goal.loop-before-preserved
 loop-before-preserved g c = next_bay (cage_layout c.args.self.now.seen) c.loop-before.before (take c.loop-before.before c.slots-bays.result.now)
     (take (c.loop-before.before + 1) c.slots-bays.result.now) c.index-bays-before.result
-    (all_contents _ c.args.self.now.seen c.self.invariant.good.held (seen_is c.self.view_is)) (omega arith) c.loop-before.invariant (c.has_contents.ensures.0 (cc))
+    (all_contents _ c.args.self.now.seen c.self.invariant.good.held (seen_is c.self.view_is)) (omega arith) c.loop-before.invariant (c.has_contents.ensures.0
+    (cc))
     (take_more c.slots-bays.result.now c.loop-before.before c.index-bays-before.result (omega (arith, c.if-bays-ne-PLACES.false)) ∙ ap
     (λ y. take c.loop-before.before c.slots-bays.result.now ++ y ∷ []) (sym c.index-bays-before.is))
 

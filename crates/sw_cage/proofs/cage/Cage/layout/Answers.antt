@@ -6,7 +6,8 @@ use Rattle.sw_cage.proofs.KeptLemmas.{all_contents, next_bay}
 use Rattle.sw_cage.proofs.cage.Cage.layout.Goals as goal
 
 pub loop-before-preserved : goal.loop-before-preserved
-loop-before-preserved g c = next_bay (cage_layout c.args.self.now.seen) c.loop-before.before c.loop-before.bays.items c.push.new.self.items c.in_ok-contents.field-0
+loop-before-preserved g c = next_bay (cage_layout c.args.self.now.seen) c.loop-before.before c.loop-before.bays.items c.push.new.self.items
+    c.in_ok-contents.field-0
     (all_contents _ c.args.self.now.seen c.self.invariant.good.held (seen_is c.self.view_is)) (omega arith) c.loop-before.invariant c.in_ok-contents.ensures
     c.in_ok-push.ensures.items
 

@@ -7,7 +7,8 @@ use Rattle.sw_cage.proofs.scan.machine.open_each.Goals as goal
 pub returns-in_err-open_one-clause-err : goal.returns-in_err-open_one-clause-err
 returns-in_err-open_one-clause-err g c =
     when_err c.from_residual.result _
-    (broken_since (accounts_of c.args.slots.now) (accounts_of c.loop-chan.slots) (accounts_of c.open_one.new.slots) c.loop-chan.invariant.goes.same c.in_err-open_one.ensures.err)
+    (broken_since (accounts_of c.args.slots.now) (accounts_of c.loop-chan.slots) (accounts_of c.open_one.new.slots) c.loop-chan.invariant.goes.same
+    c.in_err-open_one.ensures.err)
 
 pub loop-chan-preserved : goal.loop-chan-preserved
 loop-chan-preserved g c =
@@ -18,7 +19,8 @@ loop-chan-preserved g c =
     let left = next_left p i chan (omega (arith, c.loop-chan-test.true, ap length chans))
     (c.chan-item.is ∙ ap (λ (l : Position). slice_index_or l i chan) chans) in record {
       goes = opens_next (accounts_of c.args.slots.now) (accounts_of c.loop-chan.slots) (accounts_of c.open_one.new.slots) p (drop (i + 1) p) chan
-          (subst (λ (rest : Position). OpensOn (accounts_of c.args.slots.now) p rest (accounts_of c.loop-chan.slots)) left c.loop-chan.invariant.goes) c.in_ok-open_one.ensures.ok;
+          (subst (λ (rest : Position). OpensOn (accounts_of c.args.slots.now) p rest (accounts_of c.loop-chan.slots)) left c.loop-chan.invariant.goes)
+          c.in_ok-open_one.ensures.ok;
       meters = c.open_one.ensures.meters ∙ c.loop-chan.invariant.meters;
     }
 

@@ -8,26 +8,33 @@ use Rattle.sw_cage.proofs.slots.Slots.close_listed.Goals.{then-not-is_closed+in_
 use Rattle.sw_cage.proofs.slots.Slots.close_listed.Goals as goal
 
 pub close-requires-clause-present : goal.close-requires-clause-present
-close-requires-clause-present g c = next_present (accounts_of c.args.self.now) (accounts_of c.loop-chan.self) c.args.chans.now c.loop-chan.chan-index c.chan-item.result
+close-requires-clause-present g c = next_present (accounts_of c.args.self.now) (accounts_of c.loop-chan.self) c.args.chans.now c.loop-chan.chan-index
+    c.chan-item.result
     c.loop-chan-test.true c.chan-item.is c.requires c.loop-chan.invariant.sets
 
 pub close-requires-clause-apart : goal.close-requires-clause-apart
-close-requires-clause-apart g c = next_apart (accounts_of c.args.self.now) (accounts_of c.loop-chan.self) c.args.chans.now c.loop-chan.chan-index c.chan-item.result c.loop-chan-test.true
+close-requires-clause-apart g c = next_apart (accounts_of c.args.self.now) (accounts_of c.loop-chan.self) c.args.chans.now c.loop-chan.chan-index
+    c.chan-item.result c.loop-chan-test.true
     c.chan-item.is c.requires c.loop-chan.invariant.sets
 
 pub returns-in_err-close-clause-err : goal.returns-in_err-close-clause-err
 returns-in_err-close-clause-err g c = on_err c.from_residual.result
-    (disturbed_more (accounts_of c.args.self.now) (accounts_of c.loop-chan.self) (accounts_of c.close.new.self) c.args.chans.now c.loop-chan.chan-index c.chan-item.result c.chan-item.result true
+    (disturbed_more (accounts_of c.args.self.now) (accounts_of c.loop-chan.self) (accounts_of c.close.new.self) c.args.chans.now c.loop-chan.chan-index
+    c.chan-item.result c.chan-item.result true
     c.loop-chan-test.true c.chan-item.is c.loop-chan.invariant.sets c.in_err-close.ensures.disturbed)
 
 pub loop-chan-preserved : goal.loop-chan-preserved
 loop-chan-preserved g c = record {
   sets = elim c.if-not-is_closed.branch [
-    | then-not-is_closed+in_ok-close w ↦ subst (Sets (accounts_of c.args.self.now) (take (c.loop-chan.chan-index + 1) c.args.chans.now) true) (ap accounts_of (sym w.self-is))
-        (sets_more (accounts_of c.args.self.now) (accounts_of c.loop-chan.self) (accounts_of w.close.new.self) c.args.chans.now c.loop-chan.chan-index c.chan-item.result c.chan-item.result true
+    | then-not-is_closed+in_ok-close w ↦ subst (Sets (accounts_of c.args.self.now) (take (c.loop-chan.chan-index + 1) c.args.chans.now) true) (ap accounts_of
+        (sym w.self-is))
+        (sets_more (accounts_of c.args.self.now) (accounts_of c.loop-chan.self) (accounts_of w.close.new.self) c.args.chans.now c.loop-chan.chan-index
+        c.chan-item.result c.chan-item.result true
         c.loop-chan-test.true c.chan-item.is c.loop-chan.invariant.sets w.in_ok-close.ensures.ok)
-    | else-not-is_closed w ↦ subst (Sets (accounts_of c.args.self.now) (take (c.loop-chan.chan-index + 1) c.args.chans.now) true) (ap accounts_of (sym w.self-is))
-        (sets_more (accounts_of c.args.self.now) (accounts_of c.loop-chan.self) (accounts_of c.loop-chan.self) c.args.chans.now c.loop-chan.chan-index c.chan-item.result c.chan-item.result true
+    | else-not-is_closed w ↦ subst (Sets (accounts_of c.args.self.now) (take (c.loop-chan.chan-index + 1) c.args.chans.now) true) (ap accounts_of (sym
+        w.self-is))
+        (sets_more (accounts_of c.args.self.now) (accounts_of c.loop-chan.self) (accounts_of c.loop-chan.self) c.args.chans.now c.loop-chan.chan-index
+        c.chan-item.result c.chan-item.result true
         c.loop-chan-test.true c.chan-item.is c.loop-chan.invariant.sets (sets_same (accounts_of c.loop-chan.self) c.chan-item.result true
         (sym c.is_closed.ensures ∙ w.if-not-is_closed.false)))
   ];

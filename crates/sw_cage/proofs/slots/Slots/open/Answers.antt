@@ -7,7 +7,8 @@ use Rattle.sw_cage.proofs.CardLemmas.{others_are, meters_written}
 use Rattle.sw_cage.proofs.slots.Slots.open.Goals as goal
 
 pub group-group-requires : goal.group-group-requires
-group-group-requires g c = (claimed_seen c.self.inside.slots.items (accounts_of c.args.self.now) c.self.inside.claims (ap accounts_of c.self.view_is) c.self.invariant).safe.exclusive.present
+group-group-requires g c = (claimed_seen c.self.inside.slots.items (accounts_of c.args.self.now) c.self.inside.claims (ap accounts_of c.self.view_is)
+    c.self.invariant).safe.exclusive.present
     c.args.chan c.requires
 
 pub keep_closed-requires : goal.keep_closed-requires
@@ -17,8 +18,10 @@ keep_closed-requires g c = slots_set c.self.inside.slots.items c.deref.result.no
 pub invariant_of-self : goal.invariant_of-self
 invariant_of-self g c = subst (AreClaimed _) (sym c.release.ensures.released) (claimed_opening (accounts_of c.args.self.now) (accounts_of c.args.self.now) _
     c.self.inside.claims c.group-group.result c.args.chan c.open_in.result _
-    (claimed_seen c.self.inside.slots.items (accounts_of c.args.self.now) c.self.inside.claims (ap accounts_of c.self.view_is) c.self.invariant) c.group-group.ensures c.release.ensures.room
-    c.requires (open_item c.self.inside.slots.items (accounts_of c.args.self.now) c.args.chan c.slot.result c.ch.result c.index_mut.result.now c.open_in.new.slot
+    (claimed_seen c.self.inside.slots.items (accounts_of c.args.self.now) c.self.inside.claims (ap accounts_of c.self.view_is) c.self.invariant)
+    c.group-group.ensures c.release.ensures.room
+    c.requires (open_item c.self.inside.slots.items (accounts_of c.args.self.now) c.args.chan c.slot.result c.ch.result c.index_mut.result.now
+    c.open_in.new.slot
     c.open_in.result c.slot.ensures.value c.ch.ensures.value c.slot.ensures.range.0 c.slot.ensures.range.1 (ap accounts_of c.self.view_is) c.self.invariant.safe
     c.index_mut.ensures.value c.requires c.open_in.ensures.ok c.open_in.ensures.err) c.in-Ok.is)
 
@@ -30,9 +33,11 @@ returns-in-Ok-clause-ok g c = ok_is c.open_in.result _ c.in-Ok.is
 
 pub invariant_of-self-in-Err : goal.invariant_of-self-in-Err
 invariant_of-self-in-Err g c = subst (AreClaimed _) (sym c.keep_closed.ensures)
-    (claimed_unopened (accounts_of c.args.self.now) (accounts_of c.args.self.now) _ (accounts_of c.deref.result.now) c.self.inside.claims c.args.chan c.open_in.result _
+    (claimed_unopened (accounts_of c.args.self.now) (accounts_of c.args.self.now) _ (accounts_of c.deref.result.now) c.self.inside.claims c.args.chan
+    c.open_in.result _
     (claimed_seen c.self.inside.slots.items (accounts_of c.args.self.now) c.self.inside.claims (ap accounts_of c.self.view_is) c.self.invariant)
-    c.requires (open_item c.self.inside.slots.items (accounts_of c.args.self.now) c.args.chan c.slot.result c.ch.result c.index_mut.result.now c.open_in.new.slot
+    c.requires (open_item c.self.inside.slots.items (accounts_of c.args.self.now) c.args.chan c.slot.result c.ch.result c.index_mut.result.now
+    c.open_in.new.slot
     c.open_in.result c.slot.ensures.value c.ch.ensures.value c.slot.ensures.range.0 c.slot.ensures.range.1 (ap accounts_of c.self.view_is) c.self.invariant.safe
     c.index_mut.ensures.value c.requires c.open_in.ensures.ok c.open_in.ensures.err) c.in-Err.is (ap accounts_of c.deref.ensures.value))
 

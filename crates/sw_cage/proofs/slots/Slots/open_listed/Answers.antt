@@ -9,17 +9,21 @@ use Rattle.sw_cage.proofs.slots.Slots.open_listed.Goals as goal
 
 pub returns-in_err-open-clause-err : goal.returns-in_err-open-clause-err
 returns-in_err-open-clause-err g c = on_err c.from_residual.result
-    (disturbed_more (accounts_of c.args.self.now) (accounts_of c.loop-chan.self) (accounts_of c.open.new.self) c.args.chans.now c.loop-chan.chan-index c.chan-item.result c.chan-item.result false
+    (disturbed_more (accounts_of c.args.self.now) (accounts_of c.loop-chan.self) (accounts_of c.open.new.self) c.args.chans.now c.loop-chan.chan-index
+    c.chan-item.result c.chan-item.result false
     c.loop-chan-test.true c.chan-item.is c.loop-chan.invariant.sets c.in_err-open.ensures.disturbed)
 
 pub loop-chan-preserved : goal.loop-chan-preserved
 loop-chan-preserved g c = record {
   sets = elim c.if-is_closed.branch [
-    | then-is_closed+in_ok-open w ↦ subst (Sets (accounts_of c.args.self.now) (take (c.loop-chan.chan-index + 1) c.args.chans.now) false) (ap accounts_of (sym w.self-is))
-        (sets_more (accounts_of c.args.self.now) (accounts_of c.loop-chan.self) (accounts_of w.open.new.self) c.args.chans.now c.loop-chan.chan-index c.chan-item.result c.chan-item.result false
+    | then-is_closed+in_ok-open w ↦ subst (Sets (accounts_of c.args.self.now) (take (c.loop-chan.chan-index + 1) c.args.chans.now) false) (ap accounts_of (sym
+        w.self-is))
+        (sets_more (accounts_of c.args.self.now) (accounts_of c.loop-chan.self) (accounts_of w.open.new.self) c.args.chans.now c.loop-chan.chan-index
+        c.chan-item.result c.chan-item.result false
         c.loop-chan-test.true c.chan-item.is c.loop-chan.invariant.sets w.in_ok-open.ensures.ok)
     | else-is_closed w ↦ subst (Sets (accounts_of c.args.self.now) (take (c.loop-chan.chan-index + 1) c.args.chans.now) false) (ap accounts_of (sym w.self-is))
-        (sets_more (accounts_of c.args.self.now) (accounts_of c.loop-chan.self) (accounts_of c.loop-chan.self) c.args.chans.now c.loop-chan.chan-index c.chan-item.result c.chan-item.result false
+        (sets_more (accounts_of c.args.self.now) (accounts_of c.loop-chan.self) (accounts_of c.loop-chan.self) c.args.chans.now c.loop-chan.chan-index
+        c.chan-item.result c.chan-item.result false
         c.loop-chan-test.true c.chan-item.is c.loop-chan.invariant.sets (sets_same (accounts_of c.loop-chan.self) c.chan-item.result false
         (sym c.is_closed.ensures ∙ w.if-is_closed.false)))
   ];

@@ -18,7 +18,8 @@ invariant_of-self g c =
 
 pub returns-then-had_none-clause-account : goal.returns-then-had_none-clause-account
 returns-then-had_none-clause-account g c = ap (λ v. accounts_of (slice_set c.self.inside.slots.items (c.args.slot - 1) v)) c.with.ensures
-    ∙ put_is c.self.inside.slots.items (accounts_of c.args.self.now) _ c.of_meter.result c.args.meter.1 (ap accounts_of c.self.view_is) (ap (λ p. p.1) c.of_meter.ensures)
+    ∙ put_is c.self.inside.slots.items (accounts_of c.args.self.now) _ c.of_meter.result c.args.meter.1 (ap accounts_of c.self.view_is) (ap (λ p. p.1)
+    c.of_meter.ensures)
 
 pub invariant_of-self-2 : goal.invariant_of-self-2
 invariant_of-self-2 g c = subst (AreClaimed _) (sym c.keep_closed.ensures)
@@ -30,4 +31,5 @@ invariant_of-self-2 g c = subst (AreClaimed _) (sym c.keep_closed.ensures)
 
 pub returns-clause-account : goal.returns-clause-account
 returns-clause-account g c = ap (λ v. accounts_of (slice_set c.self.inside.slots.items (c.args.slot - 1) v)) c.with.ensures
-    ∙ put_is c.self.inside.slots.items (accounts_of c.args.self.now) _ c.of_meter.result c.args.meter.1 (ap accounts_of c.self.view_is) (ap (λ p. p.1) c.of_meter.ensures)
+    ∙ put_is c.self.inside.slots.items (accounts_of c.args.self.now) _ c.of_meter.result c.args.meter.1 (ap accounts_of c.self.view_is) (ap (λ p. p.1)
+    c.of_meter.ensures)

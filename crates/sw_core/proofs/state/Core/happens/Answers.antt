@@ -18,7 +18,8 @@ returns-else-tells_fault g c =
       events = c.self.inside.events;
     } in
     let whole = sym (ap (λ (b : Bool). if b then card_fault_reported p.status else p.status) (sym c.tells_fault.ensures ∙ c.if-tells_fault.false)) in
-    rw (← c.self.view_is) (happened p c.args.happening (taken_seen c.take-told.result) c.take-told.new.self.seen p.status (λ no. let k = c.take-told.ensures.ignored no in (k.0, seen_is k.1))
+    rw (← c.self.view_is) (happened p c.args.happening (taken_seen c.take-told.result) c.take-told.new.self.seen p.status (λ no. let
+    k = c.take-told.ensures.ignored no in (k.0, seen_is k.1))
     c.take-told.ensures.taken c.take-told.ensures.takes whole)
 
 pub returns-then-tells_fault : goal.returns-then-tells_fault

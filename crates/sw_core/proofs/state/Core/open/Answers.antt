@@ -20,7 +20,8 @@ returns-in-Ok g c =
 
 pub returns-in-Err : goal.returns-in-Err
 returns-in-Err g c =
-    let f = fallen c.self.inside.cage.seen.cards c.open_listed.new.self.seen.cards c.open_all.new.self.seen.cards c.args.chans.now c.in-Err.ensures.err (ap (λ (s : CageSeen).
+    let f = fallen c.self.inside.cage.seen.cards c.open_listed.new.self.seen.cards c.open_all.new.self.seen.cards c.args.chans.now c.in-Err.ensures.err (ap
+    (λ (s : CageSeen).
     s.cards) c.open_all.ensures.open) in
     let told = ap (λ (s : StatusSeen). let p : Panel = record {
       cage = c.open_all.new.self.seen;
