@@ -65,17 +65,24 @@ room_goes p q s i (SaysJob job) room r h = room_some room s i q.scan r h.arrives
 room_goes p q s i SaysEnded room r h = room_none room q.scan h.arrives.2
 room_goes p q s i SaysFault room r h = room_none room q.scan h.over
 
+pub goes_on : (p q : CageSeen) (s : SettingsSeen) (i : ℕ) (told : TakenSeen) (moves : List Item) (at : ScanSeen)
+    → AdvancesOrFails (occupancy_of p) p.number moves at told (occupancy_of q) q.scan → moves ≡ moves_from s i → at ≡ next_place s i → q.number ≡ p.number
+    → q.readings ≡ p.readings → Advances p s i told q
+goes_on p q s i told moves at h e f n rs = record {
+  runs = subst (λ (m : List Item). AdvancesOrFails (occupancy_of p) p.number m (next_place s i) told (occupancy_of q) q.scan) e
+      (subst (λ (x : ScanSeen). AdvancesOrFails (occupancy_of p) p.number moves x told (occupancy_of q) q.scan) f h);
+  number = n;
+  readings = rs;
+}
+
 pub go_kept : (p q : CageSeen) (s : SettingsSeen) (i : ℕ) (told : TakenSeen) (moves : List Item) (at : ScanSeen) (room : ℕ) → IsHeld p → CanGo p s i
     → reads (agenda s) ≤ room
     → AdvancesOrFails (occupancy_of p) p.number moves at told (occupancy_of q) q.scan → moves ≡ moves_from s i → at ≡ next_place s i → q.number ≡ p.number
     → q.readings ≡ p.readings
     → IsGoodWithRoom q room
 go_kept p q s i told moves at room held g r h e f n rs =
-    let h : AdvancesOrFails (occupancy_of p) p.number (moves_from s i) (next_place s i) told (occupancy_of q) q.scan =
-    subst (λ (m : List Item). AdvancesOrFails (occupancy_of p) p.number m (next_place s i) told (occupancy_of q) q.scan) e
-    (subst (λ (x : ScanSeen). AdvancesOrFails (occupancy_of p) p.number moves x told (occupancy_of q) q.scan) f h) in
-    let goes : Advances p s i told q = record { runs = h; number = n; readings = rs } in
-    record { good = good_goes p q s i told held g goes; room = room_goes p q s i told room r h }
+    let goes : Advances p s i told q = goes_on p q s i told moves at h e f n rs in
+    record { good = good_goes p q s i told held g goes; room = room_goes p q s i told room r goes.runs }
 
 -- past a wait or a pause
 

@@ -9,6 +9,7 @@ pub mod Cage
 pub mod Advance
 pub mod Steps
 pub mod Work
+pub mod Cards
 pub mod ScanPlace
 pub mod Good
 pub mod TakenSeen

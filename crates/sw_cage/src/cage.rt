@@ -1,11 +1,14 @@
 //! The cage as the layers above see it.
 
 ghost use Rattle.std.specs.Prelude.{◌≡◌, ℕ, ◌-◌, ◌≤◌, List, [], ◌∷◌, Bool, true, false, None, Some, IsOk, OnOk, OnErr};
-ghost use Rattle.std.specs.Prelude.{IfOk, IfErr, slice_set, is_some, ◌↔◌, IsTrue, ◌+◌, ◌<◌, ◌^◌, ◌||◌, is_err};
+ghost use Rattle.std.specs.Prelude.{IfOk, IfErr, slice_set, replicate, is_some, ◌↔◌, IsTrue, ◌+◌, ◌<◌, ◌^◌, ◌||◌};
+ghost use Rattle.std.specs.Prelude.{is_err};
 ghost use Rattle.sw_base.specs.Limits.{most_slots};
 ghost use Rattle.sw_base.specs.Layout.{Channel, slot_at, is_present, IsClash, IsExclusive};
-ghost use Rattle.sw_card.specs.Account.{closed_at};
-ghost use Rattle.sw_cage.specs.Accounts.{layout_of, is_closed, with_chan, option_rest, all_open, IsChannelFault};
+ghost use Rattle.sw_card.specs.Account.{closed_at, is_meter};
+ghost use Rattle.sw_cage.specs.Accounts.{accounts_of, layout_of, is_closed, with_chan, option_rest, all_open};
+ghost use Rattle.sw_cage.specs.Accounts.{IsChannelFault};
+ghost use Rattle.sw_cage.specs.Cards.{meters_of, with_card_back, KeepsMeters};
 ghost use Rattle.sw_cage.specs.Change.{Sets, IsDisturbed, any_failed};
 ghost use Rattle.sw_cage.specs.Install.{CanInstall, RefusesInstall, RefusesEject, stopped, without_card};
 ghost use Rattle.sw_cage.specs.Close.{all_present, CanClose, RefusesClose};
@@ -38,7 +41,9 @@ use sw_verify::Plan;
 
 /// Slots, numbered from 1, that hold relay and meter cards.
 ///
-/// Contracts see the cards in the slots by their own accounts.
+/// Contracts see the cards themselves by slot (`cards`), and what is seen of the cage (`seen`), where the cards stand
+/// by their own accounts. A meter stays the very card in whatever is done with the others. A relay card whose relays
+/// are driven goes on to another state of its driver, of which its account alone is known.
 #[derive(Drop)]
 pub struct Cage<R: Relay, M: Meter> {
     slots: Slots<R, M>,
@@ -49,22 +54,26 @@ pub struct Cage<R: Relay, M: Meter> {
 }
 
 impl<R: Relay, M: Meter> Model for Cage<R, M> {
-    ghost use Rattle.std.specs.Prelude.{vec_capacity};
-    ghost use Rattle.sw_cage.specs.Cage.{CageSeen};
+    ghost use Rattle.std.specs.Prelude.{◌⊎◌, vec_capacity};
+    ghost use Rattle.sw_cage.specs.Accounts.{accounts_of};
+    ghost use Rattle.sw_cage.specs.Cards.{CageState};
     ghost use Rattle.sw_cage.specs.Good.{IsGoodWithRoom};
 
-    ghost Value = { CageSeen };
+    ghost Value = { CageState (R ⊎ M) };
 
     ghost view = { λ c. record {
       cards = c.slots;
-      out = c.out;
-      number = c.number;
-      scan = c.scan;
-      readings = c.readings.items;
+      seen = record {
+        cards = accounts_of c.slots;
+        out = c.out;
+        number = c.number;
+        scan = c.scan;
+        readings = c.readings.items;
+      };
     } };
 
     ghost invariant = { λ c. IsGoodWithRoom (record {
-      cards = c.slots;
+      cards = accounts_of c.slots;
       out = c.out;
       number = c.number;
       scan = c.scan;
@@ -75,14 +84,16 @@ impl<R: Relay, M: Meter> Model for Cage<R, M> {
 impl<R: Relay, M: Meter> Cage<R, M> {
     /// An empty cage.
     pub fn new(alloc: Global) -> Result<Self, AllocError>
-        ensures { IfOk result (λ cage. cage ≡ empty_cage) }
+        ensures seen { IfOk result (λ cage. cage.seen ≡ empty_cage) }
+        ensures cards { IfOk result (λ cage. cage.cards ≡ replicate most_slots None) }
     {
         Cage::with_number(alloc, 0)
     }
 
     /// An empty cage that counts its scans on from this number.
     pub fn with_number(alloc: Global, number: u64) -> Result<Self, AllocError>
-        ensures { IfOk result (λ cage. cage ≡ record empty_cage { number = number }) }
+        ensures seen { IfOk result (λ cage. cage.seen ≡ record empty_cage { number = number }) }
+        ensures cards { IfOk result (λ cage. cage.cards ≡ replicate most_slots None) }
     {
         Ok(Cage {
             slots: Slots::new(alloc)?,
@@ -99,11 +110,12 @@ impl<R: Relay, M: Meter> Cage<R, M> {
         slot: u8,
         card: Card<R, M>,
     ) -> Result<(), (InstallRefusal, Card<R, M>)>
-        ensures ok { OnOk result (self.new ≡
-            record self.old { cards = slice_set self.old.cards (slot - 1) (Some card.1) }) }
-        ensures accepted { OnOk result (CanInstall self.old.cards slot card.1) }
-        ensures free { OnOk result ((self.old.scan ≡ None) × (slot_at self.old.out slot ≡ None)) }
-        ensures refused { IfErr result (λ refusal. RefusesInstall self.old slot card.1 refusal.0) }
+        ensures ok { OnOk result (self.new.seen ≡
+            record self.old.seen { cards = slice_set self.old.seen.cards (slot - 1) (Some card.1) }) }
+        ensures cards { OnOk result (self.new.cards ≡ slice_set self.old.cards (slot - 1) (Some card)) }
+        ensures accepted { OnOk result (CanInstall self.old.seen.cards slot card.1) }
+        ensures free { OnOk result ((self.old.seen.scan ≡ None) × (slot_at self.old.seen.out slot ≡ None)) }
+        ensures refused { IfErr result (λ refusal. RefusesInstall self.old.seen slot card.1 refusal.0) }
         ensures err { OnErr result (self.new ≡ self.old) }
         ensures back { IfErr result (λ refusal. refusal.1 ≡ card) }
     {
@@ -117,12 +129,19 @@ impl<R: Relay, M: Meter> Cage<R, M> {
     }
 
     /// Opens the card's relays and takes it out; a scan that runs is ended first, as by [`Cage::abort`].
+    ///
+    /// A meter is the very card that stood there. Of a relay card its account is known, with every relay open.
     pub fn eject(&mut self, slot: u8) -> Result<Card<R, M>, EjectRefusal>
-        ensures ok { IfOk result (λ card. option_rest (slot_at self.old.cards slot) ≡ Some card.1) }
+        ensures ok { IfOk result (λ card. option_rest (slot_at self.old.seen.cards slot) ≡ Some card.1) }
         ensures open { IfOk result (λ card. (ch : ℕ) → closed_at card.1.closed ch ≡ false) }
-        ensures taken { OnOk result (self.new ≡ without_card (stopped self.old) slot) }
-        ensures home { OnOk result (slot_at self.old.out slot ≡ None) }
-        ensures refused { IfErr result (λ refusal. RefusesEject self.old slot refusal) }
+        ensures meter { IfOk result (λ card. is_meter card.1 ≡ true → slot_at self.old.cards slot ≡ Some card) }
+        ensures taken { OnOk result (self.new.seen ≡ without_card (stopped self.old.seen) slot) }
+        ensures idle { OnOk result (self.old.seen.scan ≡ None
+            → self.new.cards ≡ slice_set self.old.cards (slot - 1) None) }
+        ensures meters { OnOk result
+            (meters_of self.new.cards ≡ slice_set (meters_of self.old.cards) (slot - 1) None) }
+        ensures home { OnOk result (slot_at self.old.seen.out slot ≡ None) }
+        ensures refused { IfErr result (λ refusal. RefusesEject self.old.seen slot refusal) }
         ensures err { OnErr result (self.new ≡ self.old) }
     {
         if self.out.at(slot).is_some() {
@@ -139,12 +158,14 @@ impl<R: Relay, M: Meter> Cage<R, M> {
 
     /// Opens the card's relays and takes it out of the slot, which has one.
     fn take_card(&mut self, slot: u8) -> Result<Card<R, M>, EjectRefusal>
-        requires idle { self.old.scan ≡ None }
-        requires home { slot_at self.old.out slot ≡ None }
-        requires card { is_some (slot_at self.old.cards slot) ≡ true }
-        ensures card { IfOk result (λ card. option_rest (slot_at self.old.cards slot) ≡ Some card.1) }
+        requires idle { self.old.seen.scan ≡ None }
+        requires home { slot_at self.old.seen.out slot ≡ None }
+        requires card { is_some (slot_at self.old.seen.cards slot) ≡ true }
+        ensures card { IfOk result (λ card. option_rest (slot_at self.old.seen.cards slot) ≡ Some card.1) }
+        ensures meter { IfOk result (λ card. is_meter card.1 ≡ true → slot_at self.old.cards slot ≡ Some card) }
         ensures open { IfOk result (λ card. (ch : ℕ) → closed_at card.1.closed ch ≡ false) }
-        ensures taken { self.new ≡ without_card self.old slot }
+        ensures taken { self.new.seen ≡ without_card self.old.seen slot }
+        ensures cards { self.new.cards ≡ slice_set self.old.cards (slot - 1) None }
         ensures there { IsOk result }
     {
         self.slots.eject(slot)
@@ -152,7 +173,8 @@ impl<R: Relay, M: Meter> Cage<R, M> {
 
     /// Ends the scan that runs, if one does, and opens every relay of every card. It cannot fail.
     pub fn abort(&mut self)
-        ensures { self.new ≡ safe_state self.old }
+        ensures safe { self.new.seen ≡ safe_state self.old.seen }
+        ensures meters { meters_of self.new.cards ≡ meters_of self.old.cards }
     {
         self.scan = None;
         self.open_all();
@@ -160,152 +182,146 @@ impl<R: Relay, M: Meter> Cage<R, M> {
 
     /// Closes one channel that clashes with no closed one, over all slots. No scan may run.
     pub fn close(&mut self, chan: Chan) -> Result<(), CardFault>
-        requires idle { self.old.scan ≡ None }
-        requires present { is_present (layout_of self.old.cards) chan ≡ true }
-        requires open { is_closed self.old.cards chan ≡ false }
-        requires apart { (c : Channel) → is_closed self.old.cards c ≡ true
-            → IsClash (layout_of self.old.cards) chan c → ⊥ }
-        ensures ok { OnOk result (Sets self.old.cards (chan ∷ []) true self.new.cards) }
-        ensures err { OnErr result (IsChannelFault self.old.cards chan (with_chan self.old.cards chan true)
-            self.new.cards) }
-        ensures disturbed { OnErr result (IsDisturbed self.old.cards (chan ∷ []) self.new.cards) }
-        ensures rest { self.new ≡ cage_with_cards self.old self.new.cards }
+        requires idle { self.old.seen.scan ≡ None }
+        requires present { is_present (layout_of self.old.seen.cards) chan ≡ true }
+        requires open { is_closed self.old.seen.cards chan ≡ false }
+        requires apart { (c : Channel) → is_closed self.old.seen.cards c ≡ true
+            → IsClash (layout_of self.old.seen.cards) chan c → ⊥ }
+        ensures ok { OnOk result (Sets self.old.seen.cards (chan ∷ []) true self.new.seen.cards) }
+        ensures err { OnErr result (IsChannelFault self.old.seen.cards chan (with_chan self.old.seen.cards chan true)
+            self.new.seen.cards) }
+        ensures disturbed { OnErr result (IsDisturbed self.old.seen.cards (chan ∷ []) self.new.seen.cards) }
+        ensures rest { self.new.seen ≡ cage_with_cards self.old.seen self.new.seen.cards }
+        ensures others { self.new.cards ≡ slice_set self.old.cards (chan.0 - 1) (slot_at self.new.cards chan.0) }
+        ensures meters { meters_of self.new.cards ≡ meters_of self.old.cards }
     {
         self.slots.close(chan)
     }
 
     /// Opens one channel. No scan may run.
     pub fn open(&mut self, chan: Chan) -> Result<(), CardFault>
-        requires idle { self.old.scan ≡ None }
-        requires closed { is_closed self.old.cards chan ≡ true }
-        ensures ok { OnOk result (Sets self.old.cards (chan ∷ []) false self.new.cards) }
-        ensures err { OnErr result (IsChannelFault self.old.cards chan self.old.cards self.new.cards) }
-        ensures disturbed { OnErr result (IsDisturbed self.old.cards (chan ∷ []) self.new.cards) }
-        ensures rest { self.new ≡ cage_with_cards self.old self.new.cards }
+        requires idle { self.old.seen.scan ≡ None }
+        requires closed { is_closed self.old.seen.cards chan ≡ true }
+        ensures ok { OnOk result (Sets self.old.seen.cards (chan ∷ []) false self.new.seen.cards) }
+        ensures err { OnErr result (IsChannelFault self.old.seen.cards chan self.old.seen.cards self.new.seen.cards) }
+        ensures disturbed { OnErr result (IsDisturbed self.old.seen.cards (chan ∷ []) self.new.seen.cards) }
+        ensures rest { self.new.seen ≡ cage_with_cards self.old.seen self.new.seen.cards }
+        ensures others { self.new.cards ≡ slice_set self.old.cards (chan.0 - 1) (slot_at self.new.cards chan.0) }
+        ensures meters { meters_of self.new.cards ≡ meters_of self.old.cards }
     {
         self.slots.open(chan)
     }
 
     /// Opens every relay of every card. It cannot fail. No scan may run.
     pub fn open_all(&mut self)
-        requires idle { self.old.scan ≡ None }
-        ensures { self.new ≡ record self.old { cards = all_open self.old.cards } }
+        requires idle { self.old.seen.scan ≡ None }
+        ensures open { self.new.seen ≡ record self.old.seen { cards = all_open self.old.seen.cards } }
+        ensures meters { meters_of self.new.cards ≡ meters_of self.old.cards }
     {
         self.slots.open_all();
     }
 
     /// Whether the cage has the channel.
     pub fn is_present(&self, chan: Chan) -> bool
-        ensures { result ≡ is_present (layout_of self.now.cards) chan }
+        ensures { result ≡ is_present (layout_of self.now.seen.cards) chan }
     {
         self.slots.is_present(chan)
     }
 
     /// Whether the cage has every channel of the list.
     pub fn all_present(&self, chans: &[Chan]) -> bool
-        ensures { result ≡ all_present (layout_of self.now.cards) chans.now }
+        ensures { result ≡ all_present (layout_of self.now.seen.cards) chans.now }
     {
         self.slots.all_present(chans)
     }
 
     /// Whether the channel is closed.
     pub fn is_closed(&self, chan: Chan) -> bool
-        ensures { result ≡ is_closed self.now.cards chan }
+        ensures { result ≡ is_closed self.now.seen.cards chan }
     {
         self.slots.is_closed(chan)
     }
 
     /// Whether the channels may be closed together, beside what is closed.
     pub fn judge(&self, chans: &[Chan]) -> Result<(), CloseRefusal>
-        ensures ok { OnOk result (CanClose (layout_of self.now.cards) (is_closed self.now.cards) chans.now) }
+        ensures ok { OnOk result (CanClose (layout_of self.now.seen.cards) (is_closed self.now.seen.cards) chans.now) }
         ensures err { IfErr result (λ refusal.
-            RefusesClose (layout_of self.now.cards) (is_closed self.now.cards) chans.now refusal) }
+            RefusesClose (layout_of self.now.seen.cards) (is_closed self.now.seen.cards) chans.now refusal) }
     {
         self.slots.judge(chans)
     }
 
     /// Closes the channels that are open, in order. It stops at the first fault. No scan may run.
     pub fn close_listed(&mut self, chans: &[Chan]) -> Result<(), CardFault>
-        requires idle { self.old.scan ≡ None }
-        requires apart { CanClose (layout_of self.old.cards) (is_closed self.old.cards) chans.now }
-        ensures ok { OnOk result (Sets self.old.cards chans.now true self.new.cards) }
-        ensures err { OnErr result (IsDisturbed self.old.cards chans.now self.new.cards) }
-        ensures rest { self.new ≡ cage_with_cards self.old self.new.cards }
+        requires idle { self.old.seen.scan ≡ None }
+        requires apart { CanClose (layout_of self.old.seen.cards) (is_closed self.old.seen.cards) chans.now }
+        ensures ok { OnOk result (Sets self.old.seen.cards chans.now true self.new.seen.cards) }
+        ensures err { OnErr result (IsDisturbed self.old.seen.cards chans.now self.new.seen.cards) }
+        ensures rest { self.new.seen ≡ cage_with_cards self.old.seen self.new.seen.cards }
+        ensures meters { meters_of self.new.cards ≡ meters_of self.old.cards }
     {
         self.slots.close_listed(chans)
     }
 
     /// Opens the channels that are closed, in order. It stops at the first fault. No scan may run.
     pub fn open_listed(&mut self, chans: &[Chan]) -> Result<(), CardFault>
-        requires idle { self.old.scan ≡ None }
-        ensures ok { OnOk result (Sets self.old.cards chans.now false self.new.cards) }
-        ensures err { OnErr result (IsDisturbed self.old.cards chans.now self.new.cards) }
-        ensures rest { self.new ≡ cage_with_cards self.old self.new.cards }
+        requires idle { self.old.seen.scan ≡ None }
+        ensures ok { OnOk result (Sets self.old.seen.cards chans.now false self.new.seen.cards) }
+        ensures err { OnErr result (IsDisturbed self.old.seen.cards chans.now self.new.seen.cards) }
+        ensures rest { self.new.seen ≡ cage_with_cards self.old.seen self.new.seen.cards }
+        ensures meters { meters_of self.new.cards ≡ meters_of self.old.cards }
     {
         self.slots.open_listed(chans)
     }
 
-    /// The closed channels, by slot and channel.
-    pub fn closed_chans(&self, alloc: Global) -> Result<Vec<Chan>, AllocError>
-        ensures { IfOk result (λ chans. chans.items ≡ closed_list self.now.cards) }
-    {
-        self.slots.closed_chans(alloc)
-    }
-
-    /// Whether these are the closed channels, as [`Cage::closed_chans`] tells them. It takes no memory.
-    pub fn has_closed(&self, chans: &[Chan]) -> bool
-        ensures { IsTrue result ↔ (chans.now ≡ closed_list self.now.cards) }
-    {
-        self.slots.has_closed(chans)
-    }
-
     /// Whether the slot's meter is out.
     pub fn has_out(&self, slot: u8) -> bool
-        ensures { result ≡ is_some (slot_at self.now.out slot) }
+        ensures { result ≡ is_some (slot_at self.now.seen.out slot) }
     {
         self.out.at(slot).is_some()
     }
 
     /// How many scans have begun.
     pub fn number(&self) -> u64
-        ensures { result ≡ self.now.number }
+        ensures { result ≡ self.now.seen.number }
     {
         self.number
     }
 
     /// The readings of the last scan, the oldest first.
     pub fn readings(&self) -> &[Reading]
-        ensures { result.now ≡ self.now.readings }
+        ensures { result.now ≡ self.now.seen.readings }
     {
         self.readings.as_slice()
     }
 
     /// Drops the readings. No scan may run.
     pub fn reset_readings(&mut self)
-        requires idle { self.old.scan ≡ None }
-        ensures { self.new ≡ record self.old { readings = [] } }
+        requires idle { self.old.seen.scan ≡ None }
+        ensures { self.new ≡ record self.old { seen = record self.old.seen { readings = [] } } }
     {
         self.readings.clear();
     }
 
     /// A law: what is so of every cage. It costs nothing.
     pub fn stays_good(&self)
-        ensures good { IsGood self.now }
-        ensures exclusive { IsExclusive (layout_of self.now.cards) (is_closed self.now.cards) }
+        ensures good { IsGood self.now.seen }
+        ensures accounts { self.now.seen.cards ≡ accounts_of self.now.cards }
+        ensures exclusive { IsExclusive (layout_of self.now.seen.cards) (is_closed self.now.seen.cards) }
     {
         self.slots.stay_safe();
     }
 
     /// Whether a scan runs.
     pub fn is_running(&self) -> bool
-        ensures { result ≡ is_some self.now.scan }
+        ensures { result ≡ is_some self.now.seen.scan }
     {
         self.scan.is_some()
     }
 
     /// What the scan that runs awaits; nothing, where none runs.
     pub fn awaited(&self) -> Option<Awaited>
-        ensures { result ≡ awaited_now self.now.scan }
+        ensures { result ≡ awaited_now self.now.seen.scan }
     {
         match &self.scan {
             Some(scan) => scan.awaited(),
@@ -316,14 +332,16 @@ impl<R: Relay, M: Meter> Cage<R, M> {
     /// Begins the planned scan: its number is one more, and the readings of the last one are dropped. Room for its
     /// readings is made first, so that nothing that happens to it wants memory; after an error nothing changed.
     pub fn start(&mut self, alloc: Global, plan: Plan) -> Result<Taken<M>, AllocError>
-        requires idle { self.old.scan ≡ None }
-        requires number { self.old.number + 1 < 2 ^ 64 }
-        requires home { slot_at self.old.out plan.settings.meter ≡ None }
-        requires layout { cage_layout self.old ≡ plan.layout }
-        requires closed { closed_list self.old.cards ≡ plan.closed }
-        ensures ok { IfOk result (λ taken. Advances (begun self.old) plan.settings 0 (taken_seen taken) self.new) }
+        requires idle { self.old.seen.scan ≡ None }
+        requires number { self.old.seen.number + 1 < 2 ^ 64 }
+        requires home { slot_at self.old.seen.out plan.settings.meter ≡ None }
+        requires layout { cage_layout self.old.seen ≡ plan.layout }
+        requires closed { closed_list self.old.seen.cards ≡ plan.closed }
+        ensures ok { IfOk result (λ taken.
+            Advances (begun self.old.seen) plan.settings 0 (taken_seen taken) self.new.seen) }
+        ensures meters { IfOk result (λ taken. KeepsMeters self.old.cards taken self.new.cards) }
         ensures failed { IfOk result (λ taken.
-            tells_fault (taken_seen taken) ≡ any_failed self.old.cards self.new.cards) }
+            tells_fault (taken_seen taken) ≡ any_failed self.old.seen.cards self.new.seen.cards) }
         ensures err { OnErr result (self.new ≡ self.old) }
     {
         self.slots.stay_safe();
@@ -345,11 +363,13 @@ impl<R: Relay, M: Meter> Cage<R, M> {
 
     /// Tells the scan that runs of a happening. One that it does not take changes nothing.
     pub fn take(&mut self, happening: Happening) -> Taken<M>
-        ensures ignored { (Takes self.old happening → ⊥) → (taken_seen result ≡ SaysIgnored) × (self.new ≡ self.old) }
-        ensures taken { Takes self.old happening → AdvancesPast self.old (taken_seen result) self.new }
-        ensures takes { (taken_seen result ≡ SaysIgnored → ⊥) → Takes self.old happening }
-        ensures failed { tells_fault (taken_seen result) ≡ any_failed self.old.cards self.new.cards }
-        ensures readings { self.new.readings ≡ self.old.readings }
+        ensures ignored { (Takes self.old.seen happening → ⊥)
+            → (taken_seen result ≡ SaysIgnored) × (self.new ≡ self.old) }
+        ensures taken { Takes self.old.seen happening → AdvancesPast self.old.seen (taken_seen result) self.new.seen }
+        ensures takes { (taken_seen result ≡ SaysIgnored → ⊥) → Takes self.old.seen happening }
+        ensures failed { tells_fault (taken_seen result) ≡ any_failed self.old.seen.cards self.new.seen.cards }
+        ensures readings { self.new.seen.readings ≡ self.old.seen.readings }
+        ensures meters { KeepsMeters self.old.cards result self.new.cards }
     {
         if !self.takes(happening) {
             return Taken::Ignored;
@@ -358,7 +378,7 @@ impl<R: Relay, M: Meter> Cage<R, M> {
     }
 
     fn takes(&self, happening: Happening) -> bool
-        ensures { IsTrue result ↔ Takes self.now happening }
+        ensures { IsTrue result ↔ Takes self.now.seen happening }
     {
         match &self.scan {
             Some(scan) => scan.takes(self.number, happening),
@@ -368,8 +388,9 @@ impl<R: Relay, M: Meter> Cage<R, M> {
 
     /// Goes past what the scan awaits, which is no reading.
     fn go_past(&mut self) -> Taken<M>
-        requires { AwaitsOther self.old.scan }
-        ensures { AdvancesPast self.old (taken_seen result) self.new }
+        requires { AwaitsOther self.old.seen.scan }
+        ensures past { AdvancesPast self.old.seen (taken_seen result) self.new.seen }
+        ensures meters { KeepsMeters self.old.cards result self.new.cards }
     {
         go_past(&mut self.slots, &mut self.out, &mut self.scan, self.number)
     }
@@ -378,21 +399,27 @@ impl<R: Relay, M: Meter> Cage<R, M> {
     ///
     /// Where the scan that runs awaits it, its reading is added and the scan goes on; its failure ends the scan, as
     /// that of any card call. The late return of a scan that is over adds nothing, and its failure ends nothing.
+    ///
+    /// The slot has the very meter that came, unless the scan sent it out again: then it is that of the job.
     pub fn finish(&mut self, finished: Finished<M>) -> Result<Taken<M>, Finished<M>>
-        ensures in_slot { OnOk result (slot_at self.old.out finished.1.slot ≡ Some finished.1.ticket) }
-        ensures late { IfOk result (λ taken. (TakesReturn self.old finished.1.slot finished.1.ticket → ⊥)
-            → (taken_seen taken ≡ SaysIgnored) × (self.new ≡ with_back self.old finished.1)) }
-        ensures taken { IfOk result (λ taken. TakesReturn self.old finished.1.slot finished.1.ticket
-            → Counts (with_back self.old finished.1) finished.1.outcome (taken_seen taken) self.new) }
+        ensures in_slot { OnOk result (slot_at self.old.seen.out finished.1.slot ≡ Some finished.1.ticket) }
+        ensures late { IfOk result (λ taken. (TakesReturn self.old.seen finished.1.slot finished.1.ticket → ⊥)
+            → (taken_seen taken ≡ SaysIgnored) × (self.new.seen ≡ with_back self.old.seen finished.1)) }
+        ensures late_cards { IfOk result (λ taken. (TakesReturn self.old.seen finished.1.slot finished.1.ticket → ⊥)
+            → self.new.cards ≡ with_card_back self.old.cards finished) }
+        ensures meters { IfOk result (λ taken.
+            KeepsMeters (with_card_back self.old.cards finished) taken self.new.cards) }
+        ensures taken { IfOk result (λ taken. TakesReturn self.old.seen finished.1.slot finished.1.ticket
+            → Counts (with_back self.old.seen finished.1) finished.1.outcome (taken_seen taken) self.new.seen) }
         ensures takes { IfOk result (λ taken. (taken_seen taken ≡ SaysIgnored → ⊥)
-            → TakesReturn self.old finished.1.slot finished.1.ticket) }
-        ensures failed { IfOk result (λ taken. TakesReturn self.old finished.1.slot finished.1.ticket
-            → tells_fault (taken_seen taken)
-            ≡ (is_err finished.1.outcome || any_failed (with_back self.old finished.1).cards self.new.cards)) }
-        ensures readings { IfOk result (λ taken. TakesReturn self.old finished.1.slot finished.1.ticket
-            → self.new.readings ≡ readings_with self.old.readings finished.1.outcome) }
+            → TakesReturn self.old.seen finished.1.slot finished.1.ticket) }
+        ensures failed { IfOk result (λ taken. TakesReturn self.old.seen finished.1.slot finished.1.ticket
+            → tells_fault (taken_seen taken) ≡ (is_err finished.1.outcome
+            || any_failed (with_back self.old.seen finished.1).cards self.new.seen.cards)) }
+        ensures readings { IfOk result (λ taken. TakesReturn self.old.seen finished.1.slot finished.1.ticket
+            → self.new.seen.readings ≡ readings_with self.old.seen.readings finished.1.outcome) }
         ensures told { IsTold finished.1 }
-        ensures elsewhere { OnErr result (slot_at self.old.out finished.1.slot ≡ Some finished.1.ticket → ⊥) }
+        ensures elsewhere { OnErr result (slot_at self.old.seen.out finished.1.slot ≡ Some finished.1.ticket → ⊥) }
         ensures err { OnErr result (self.new ≡ self.old) }
         ensures back { IfErr result (λ back. back ≡ finished) }
     {
@@ -407,7 +434,7 @@ impl<R: Relay, M: Meter> Cage<R, M> {
     }
 
     fn takes_return(&self, slot: u8, ticket: Ticket) -> bool
-        ensures { IsTrue result ↔ TakesReturn self.now slot ticket }
+        ensures { IsTrue result ↔ TakesReturn self.now.seen slot ticket }
     {
         match &self.scan {
             Some(scan) => scan.takes_return(self.number, slot, ticket),
@@ -417,9 +444,10 @@ impl<R: Relay, M: Meter> Cage<R, M> {
 
     /// Puts a meter back that the scan does not await.
     fn put_back(&mut self, finished: Finished<M>)
-        requires out { slot_at self.old.out finished.1.slot ≡ Some finished.1.ticket }
-        requires late { TakesReturn self.old finished.1.slot finished.1.ticket → ⊥ }
-        ensures { self.new ≡ with_back self.old finished.1 }
+        requires out { slot_at self.old.seen.out finished.1.slot ≡ Some finished.1.ticket }
+        requires late { TakesReturn self.old.seen finished.1.slot finished.1.ticket → ⊥ }
+        ensures back { self.new.seen ≡ with_back self.old.seen finished.1 }
+        ensures cards { self.new.cards ≡ with_card_back self.old.cards finished }
     {
         let Finished { slot, meter, .. } = finished;
         take_in(&mut self.slots, &mut self.out, slot, meter);
@@ -427,9 +455,11 @@ impl<R: Relay, M: Meter> Cage<R, M> {
 
     /// Puts the meter back that the scan awaits, and goes on with its reading.
     fn count(&mut self, finished: Finished<M>) -> Taken<M>
-        requires out { slot_at self.old.out finished.1.slot ≡ Some finished.1.ticket }
-        requires taken { TakesReturn self.old finished.1.slot finished.1.ticket }
-        ensures { Counts (with_back self.old finished.1) finished.1.outcome (taken_seen result) self.new }
+        requires out { slot_at self.old.seen.out finished.1.slot ≡ Some finished.1.ticket }
+        requires taken { TakesReturn self.old.seen finished.1.slot finished.1.ticket }
+        ensures meters { KeepsMeters (with_card_back self.old.cards finished) result self.new.cards }
+        ensures counts { Counts (with_back self.old.seen finished.1) finished.1.outcome (taken_seen result)
+            self.new.seen }
     {
         let Finished {
             slot,

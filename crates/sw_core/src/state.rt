@@ -48,7 +48,7 @@ impl<R: Relay, M: Meter> Model for Core<R, M> {
     ghost Value = { Panel };
 
     ghost view = { λ c. record {
-      cage = c.cage;
+      cage = c.cage.seen;
       sessions = c.sessions;
       status = c.status;
       settings = c.settings;

@@ -84,7 +84,7 @@ pub fn flags<R: Relay, M: Meter>(
     chans: &[Chan],
 ) -> Result<Sequence<u8>, AllocError>
     ensures { IfOk result (λ text. text
-        ≡ join_with_byte 44 (map (λ c. yes_or_no (as_asked closed (is_closed cage.now.cards c))) chans.now)) }
+        ≡ join_with_byte 44 (map (λ c. yes_or_no (as_asked closed (is_closed cage.now.seen.cards c))) chans.now)) }
 {
     let mut text = Vec::with_capacity(alloc, chans.len())?;
     for chan in chans {

@@ -2,10 +2,12 @@
 
 ghost use Rattle.std.specs.Prelude.{◌≡◌, ◌+◌, ◌-◌, ◌≤◌, ◌∷◌, [], true, false, is_some, OnOk, OnErr, Some, None};
 ghost use Rattle.std.specs.Prelude.{slice_set};
+ghost use Rattle.std.proofs.Common.{inr};
 ghost use Rattle.sw_base.specs.Limits.{most_slots};
-ghost use Rattle.sw_base.specs.Layout.{has_meter};
+ghost use Rattle.sw_base.specs.Layout.{slot_at, has_meter};
 ghost use Rattle.sw_card.specs.Account.{of_meter};
-ghost use Rattle.sw_cage.specs.Accounts.{layout_of, is_closed};
+ghost use Rattle.sw_cage.specs.Accounts.{accounts_of, layout_of, is_closed};
+ghost use Rattle.sw_cage.specs.Cards.{meters_of, job_card, KeepsMeters};
 ghost use Rattle.sw_trigger.specs.Agenda.{Close, Open};
 ghost use Rattle.sw_verify.specs.Sound.{CanCloseOne, CanCloseEach, CanOpenEach};
 ghost use Rattle.sw_cage.specs.Change.{Sets};
@@ -38,11 +40,12 @@ pub(crate) fn go_past<R: Relay, M: Meter>(
     requires runs { is_some scan.old ≡ true }
     requires awaits { (at : ScanSeen) → scan.old ≡ Some at → awaits at ≡ None → ⊥ }
     requires may { (at : ScanSeen) → scan.old ≡ Some at
-        → MayGoOn (layout_of slots.old) (is_closed slots.old) at.setup (at.index + 1) }
-    ensures { (at : ScanSeen) → scan.old ≡ Some at
-        → AdvancesOrFails (record { cards = slots.old; out = out.old }) number
+        → MayGoOn (layout_of (accounts_of slots.old)) (is_closed (accounts_of slots.old)) at.setup (at.index + 1) }
+    ensures meters { KeepsMeters slots.old result slots.new }
+    ensures goes { (at : ScanSeen) → scan.old ≡ Some at
+        → AdvancesOrFails (record { cards = accounts_of slots.old; out = out.old }) number
         (moves_from at.setup (at.index + 1)) (next_place at.setup (at.index + 1)) (taken_seen result)
-        (record { cards = slots.new; out = out.new }) scan.new }
+        (record { cards = accounts_of slots.new; out = out.new }) scan.new }
 {
     let Some(at) = scan else {
         unreachable!();
@@ -63,12 +66,15 @@ pub(crate) fn go_on<R: Relay, M: Meter>(
 ) -> Taken<M>
     requires runs { is_some scan.old ≡ true }
     requires slot_in { (at : ScanSeen) → scan.old ≡ Some at → (1 ≤ at.setup.meter) × (at.setup.meter ≤ most_slots) }
-    requires meter { (at : ScanSeen) → scan.old ≡ Some at → has_meter (layout_of slots.old) at.setup.meter ≡ true }
-    requires may { MayMove (layout_of slots.old) (is_closed slots.old) moves.to_open moves.to_close }
-    ensures { (at : ScanSeen) → scan.old ≡ Some at
-        → AdvancesOrFails (record { cards = slots.old; out = out.old }) number
+    requires meter { (at : ScanSeen) → scan.old ≡ Some at
+        → has_meter (layout_of (accounts_of slots.old)) at.setup.meter ≡ true }
+    requires may { MayMove (layout_of (accounts_of slots.old)) (is_closed (accounts_of slots.old)) moves.to_open
+        moves.to_close }
+    ensures meters { KeepsMeters slots.old result slots.new }
+    ensures goes { (at : ScanSeen) → scan.old ≡ Some at
+        → AdvancesOrFails (record { cards = accounts_of slots.old; out = out.old }) number
         (moves_of moves) at (taken_seen result)
-        (record { cards = slots.new; out = out.new }) scan.new }
+        (record { cards = accounts_of slots.new; out = out.new }) scan.new }
 {
     match make_moves(slots, moves) {
         Ok(()) => return arrive(slots, out, scan, number),
@@ -83,9 +89,11 @@ pub(crate) fn go_on<R: Relay, M: Meter>(
 /// Opens, and then closes.
 #[inline(always)]
 fn make_moves<R: Relay, M: Meter>(slots: &mut Slots<R, M>, moves: Moves) -> Result<(), CardFault>
-    requires { MayMove (layout_of slots.old) (is_closed slots.old) moves.to_open moves.to_close }
-    ensures ok { OnOk result (Moved slots.old (moves_of moves) slots.new) }
-    ensures err { OnErr result (RelayCallFailed slots.old slots.new) }
+    requires { MayMove (layout_of (accounts_of slots.old)) (is_closed (accounts_of slots.old)) moves.to_open
+        moves.to_close }
+    ensures ok { OnOk result (Moved (accounts_of slots.old) (moves_of moves) (accounts_of slots.new)) }
+    ensures err { OnErr result (RelayCallFailed (accounts_of slots.old) (accounts_of slots.new)) }
+    ensures meters { meters_of slots.new ≡ meters_of slots.old }
 {
     open_first(slots, moves.to_open)?;
     close_then(slots, moves.to_close)
@@ -95,9 +103,10 @@ fn open_first<R: Relay, M: Meter>(
     slots: &mut Slots<R, M>,
     position: Option<Position>,
 ) -> Result<(), CardFault>
-    requires { MayOpenNext (is_closed slots.old) position }
-    ensures ok { OnOk result (Moved slots.old (opens_of position) slots.new) }
-    ensures err { OnErr result (RelayCallFailed slots.old slots.new) }
+    requires { MayOpenNext (is_closed (accounts_of slots.old)) position }
+    ensures ok { OnOk result (Moved (accounts_of slots.old) (opens_of position) (accounts_of slots.new)) }
+    ensures err { OnErr result (RelayCallFailed (accounts_of slots.old) (accounts_of slots.new)) }
+    ensures meters { meters_of slots.new ≡ meters_of slots.old }
 {
     match position {
         Some(position) => open_each(slots, &position),
@@ -109,9 +118,10 @@ fn close_then<R: Relay, M: Meter>(
     slots: &mut Slots<R, M>,
     position: Option<Position>,
 ) -> Result<(), CardFault>
-    requires { MayCloseNext (layout_of slots.old) (is_closed slots.old) position }
-    ensures ok { OnOk result (Moved slots.old (closes_of position) slots.new) }
-    ensures err { OnErr result (RelayCallFailed slots.old slots.new) }
+    requires { MayCloseNext (layout_of (accounts_of slots.old)) (is_closed (accounts_of slots.old)) position }
+    ensures ok { OnOk result (Moved (accounts_of slots.old) (closes_of position) (accounts_of slots.new)) }
+    ensures err { OnErr result (RelayCallFailed (accounts_of slots.old) (accounts_of slots.new)) }
+    ensures meters { meters_of slots.new ≡ meters_of slots.old }
 {
     match position {
         Some(position) => close_each(slots, &position),
@@ -124,9 +134,10 @@ fn open_each<R: Relay, M: Meter>(
     slots: &mut Slots<R, M>,
     position: &Position,
 ) -> Result<(), CardFault>
-    requires { CanOpenEach (is_closed slots.old) position.now }
-    ensures ok { OnOk result (Moved slots.old (Open position.now ∷ []) slots.new) }
-    ensures err { OnErr result (RelayCallFailed slots.old slots.new) }
+    requires { CanOpenEach (is_closed (accounts_of slots.old)) position.now }
+    ensures ok { OnOk result (Moved (accounts_of slots.old) (Open position.now ∷ []) (accounts_of slots.new)) }
+    ensures err { OnErr result (RelayCallFailed (accounts_of slots.old) (accounts_of slots.new)) }
+    ensures meters { meters_of slots.new ≡ meters_of slots.old }
 {
     for chan in position.as_slice() {
         open_one(slots, *chan)?;
@@ -139,9 +150,10 @@ fn close_each<R: Relay, M: Meter>(
     slots: &mut Slots<R, M>,
     position: &Position,
 ) -> Result<(), CardFault>
-    requires { CanCloseEach (layout_of slots.old) (is_closed slots.old) position.now }
-    ensures ok { OnOk result (Moved slots.old (Close position.now ∷ []) slots.new) }
-    ensures err { OnErr result (RelayCallFailed slots.old slots.new) }
+    requires { CanCloseEach (layout_of (accounts_of slots.old)) (is_closed (accounts_of slots.old)) position.now }
+    ensures ok { OnOk result (Moved (accounts_of slots.old) (Close position.now ∷ []) (accounts_of slots.new)) }
+    ensures err { OnErr result (RelayCallFailed (accounts_of slots.old) (accounts_of slots.new)) }
+    ensures meters { meters_of slots.new ≡ meters_of slots.old }
 {
     for chan in position.as_slice() {
         close_one(slots, *chan)?;
@@ -151,9 +163,10 @@ fn close_each<R: Relay, M: Meter>(
 
 /// Opens a channel that is closed.
 fn open_one<R: Relay, M: Meter>(slots: &mut Slots<R, M>, chan: Chan) -> Result<(), CardFault>
-    requires { is_closed slots.old chan ≡ true }
-    ensures ok { OnOk result (Sets slots.old (chan ∷ []) false slots.new) }
-    ensures err { OnErr result (RelayCallFailed slots.old slots.new) }
+    requires { is_closed (accounts_of slots.old) chan ≡ true }
+    ensures ok { OnOk result (Sets (accounts_of slots.old) (chan ∷ []) false (accounts_of slots.new)) }
+    ensures err { OnErr result (RelayCallFailed (accounts_of slots.old) (accounts_of slots.new)) }
+    ensures meters { meters_of slots.new ≡ meters_of slots.old }
 {
     slots.stay_safe();
     slots.open(chan)
@@ -161,9 +174,10 @@ fn open_one<R: Relay, M: Meter>(slots: &mut Slots<R, M>, chan: Chan) -> Result<(
 
 /// Closes a channel that may be closed.
 fn close_one<R: Relay, M: Meter>(slots: &mut Slots<R, M>, chan: Chan) -> Result<(), CardFault>
-    requires { CanCloseOne (layout_of slots.old) (is_closed slots.old) chan }
-    ensures ok { OnOk result (Sets slots.old (chan ∷ []) true slots.new) }
-    ensures err { OnErr result (RelayCallFailed slots.old slots.new) }
+    requires { CanCloseOne (layout_of (accounts_of slots.old)) (is_closed (accounts_of slots.old)) chan }
+    ensures ok { OnOk result (Sets (accounts_of slots.old) (chan ∷ []) true (accounts_of slots.new)) }
+    ensures err { OnErr result (RelayCallFailed (accounts_of slots.old) (accounts_of slots.new)) }
+    ensures meters { meters_of slots.new ≡ meters_of slots.old }
 {
     slots.close(chan)
 }
@@ -178,9 +192,12 @@ fn arrive<R: Relay, M: Meter>(
 ) -> Taken<M>
     requires runs { is_some scan.old ≡ true }
     requires slot_in { (at : ScanSeen) → scan.old ≡ Some at → (1 ≤ at.setup.meter) × (at.setup.meter ≤ most_slots) }
-    requires meter { (at : ScanSeen) → scan.old ≡ Some at → has_meter (layout_of slots.old) at.setup.meter ≡ true }
-    ensures { (at : ScanSeen) → scan.old ≡ Some at → Arrives (record { cards = slots.old; out = out.old }) number at
-        (taken_seen result) (record { cards = slots.new; out = out.new }) scan.new }
+    requires meter { (at : ScanSeen) → scan.old ≡ Some at
+        → has_meter (layout_of (accounts_of slots.old)) at.setup.meter ≡ true }
+    ensures meters { KeepsMeters slots.old result slots.new }
+    ensures arrives { (at : ScanSeen) → scan.old ≡ Some at
+        → Arrives (record { cards = accounts_of slots.old; out = out.old }) number at
+        (taken_seen result) (record { cards = accounts_of slots.new; out = out.new }) scan.new }
 {
     let Some(at) = &*scan else {
         unreachable!();
@@ -209,9 +226,11 @@ fn send_out<R: Relay, M: Meter>(
     ticket: Ticket,
 ) -> Job<M>
     requires slot_in { (1 ≤ slot) × (slot ≤ most_slots) }
-    requires meter { has_meter (layout_of slots.old) slot ≡ true }
-    ensures { IsSent (record { cards = slots.old; out = out.old }) slot ticket result.1
-        (record { cards = slots.new; out = out.new }) }
+    requires meter { has_meter (layout_of (accounts_of slots.old)) slot ≡ true }
+    ensures card { slot_at slots.old slot ≡ Some (job_card result) }
+    ensures empty { slots.new ≡ slice_set slots.old (slot - 1) None }
+    ensures sent { IsSent (record { cards = accounts_of slots.old; out = out.old }) slot ticket result.1
+        (record { cards = accounts_of slots.new; out = out.new }) }
 {
     let meter = slots.take_meter(slot);
     out.set(slot, Some(ticket));
@@ -231,7 +250,8 @@ pub(crate) fn take_in<R: Relay, M: Meter>(
     meter: MeterCard<M>,
 )
     requires { (1 ≤ slot) × (slot ≤ most_slots) }
-    ensures cards { slots.new ≡ slice_set slots.old (slot - 1) (Some (of_meter meter.1)) }
+    ensures card { slots.new ≡ slice_set slots.old (slot - 1) (Some (inr meter.0, of_meter meter.1)) }
+    ensures cards { accounts_of slots.new ≡ slice_set (accounts_of slots.old) (slot - 1) (Some (of_meter meter.1)) }
     ensures out { out.new ≡ slice_set out.old (slot - 1) None }
 {
     slots.put_meter(slot, meter);

@@ -4,15 +4,17 @@ ghost use Rattle.std.specs.Prelude.{◌≡◌, ℕ, ◌+◌, ◌-◌, ◌≤◌,
 ghost use Rattle.std.specs.Prelude.{true, false, None, Some, is_some, OnOk, OnErr, IfOk, IfErr, IfSome, IfNone};
 ghost use Rattle.std.specs.Prelude.{◌↔◌, IsTrue};
 ghost use Rattle.std.specs.List.{filter};
+ghost use Rattle.std.proofs.Common.{inr};
 ghost use Rattle.sw_base.specs.Limits.{most_slots, most_channels};
 ghost use Rattle.sw_base.specs.Layout.{Channel, slot_at, is_present, group_of, IsClash, has_meter};
-ghost use Rattle.sw_card.specs.Account.{closed_at, of_meter};
-ghost use Rattle.sw_cage.specs.Accounts.{Accounts, accounts_of, layout_of, is_closed, AreSafe, with_chan, option_rest};
+ghost use Rattle.sw_card.specs.Account.{closed_at, is_meter, of_meter};
+ghost use Rattle.sw_cage.specs.Accounts.{accounts_of, layout_of, is_closed, AreSafe, with_chan, option_rest};
 ghost use Rattle.sw_cage.specs.Accounts.{all_open, IsChannelFault};
+ghost use Rattle.sw_cage.specs.Cards.{meters_of};
 ghost use Rattle.sw_cage.specs.Change.{Sets, IsDisturbed};
 ghost use Rattle.sw_cage.specs.Install.{CanInstall, SlotsRefuseInstall, SlotsRefuseEject};
 ghost use Rattle.sw_cage.specs.Close.{closed_with, HasClash, all_present, CanClose, RefusesClose};
-ghost use Rattle.sw_cage.specs.Claims.{IndexesClaims, AreClaimed};
+ghost use Rattle.sw_cage.specs.Claims.{IndexesClaims};
 ghost use Rattle.sw_cage.specs.Channels.{row, rows, closed_list};
 
 mod claims;
@@ -30,7 +32,7 @@ use sw_verify::Slot;
 /// How many slots there are.
 pub(crate) const PLACES: usize = SLOTS as usize;
 
-/// All slots, the cards in them, and by group the closed channel that it has.
+/// All slots, the cards in them, and by group the closed channel that it has. Contracts see the cards.
 #[derive(Drop)]
 pub(crate) struct Slots<R: Relay, M: Meter> {
     slots: Vec<Place<R, M>>,
@@ -38,9 +40,14 @@ pub(crate) struct Slots<R: Relay, M: Meter> {
 }
 
 impl<R: Relay, M: Meter> Model for Slots<R, M> {
-    ghost Value = { Accounts };
+    ghost use Rattle.std.specs.Prelude.{◌⊎◌};
+    ghost use Rattle.sw_cage.specs.Accounts.{accounts_of};
+    ghost use Rattle.sw_cage.specs.Cards.{Cards};
+    ghost use Rattle.sw_cage.specs.Claims.{AreClaimed};
 
-    ghost view = { λ c. accounts_of c.slots.items };
+    ghost Value = { Cards (R ⊎ M) };
+
+    ghost view = { λ c. c.slots.items };
 
     ghost invariant = { λ c. AreClaimed (accounts_of c.slots.items) c.claims };
 }
@@ -62,7 +69,7 @@ impl<R: Relay, M: Meter> Slots<R, M> {
 
     /// Whether the slot is one of the cage's and has a card.
     pub(crate) fn has_card(&self, slot: u8) -> bool
-        ensures { result ≡ is_some (slot_at self.now slot) }
+        ensures { result ≡ is_some (slot_at (accounts_of self.now) slot) }
     {
         slot >= 1 && slot <= SLOTS && self.slots[slot as usize - 1].card.is_some()
     }
@@ -73,9 +80,11 @@ impl<R: Relay, M: Meter> Slots<R, M> {
         slot: u8,
         card: Card<R, M>,
     ) -> Result<(), (InstallRefusal, Card<R, M>)>
-        ensures ok { OnOk result (self.new ≡ slice_set self.old (slot - 1) (Some card.1)) }
-        ensures accepted { OnOk result (CanInstall self.old slot card.1) }
-        ensures refused { IfErr result (λ refusal. SlotsRefuseInstall self.old slot card.1 refusal.0) }
+        ensures ok { OnOk result (self.new ≡ slice_set self.old (slot - 1) (Some card)) }
+        ensures account { OnOk result
+            (accounts_of self.new ≡ slice_set (accounts_of self.old) (slot - 1) (Some card.1)) }
+        ensures accepted { OnOk result (CanInstall (accounts_of self.old) slot card.1) }
+        ensures refused { IfErr result (λ refusal. SlotsRefuseInstall (accounts_of self.old) slot card.1 refusal.0) }
         ensures err { OnErr result (self.new ≡ self.old) }
         ensures back { IfErr result (λ refusal. refusal.1 ≡ card) }
     {
@@ -94,10 +103,12 @@ impl<R: Relay, M: Meter> Slots<R, M> {
 
     /// Opens the card's relays and takes it out.
     pub(crate) fn eject(&mut self, slot: u8) -> Result<Card<R, M>, EjectRefusal>
-        ensures ok { IfOk result (λ card. option_rest (slot_at self.old slot) ≡ Some card.1) }
+        ensures ok { IfOk result (λ card. option_rest (slot_at (accounts_of self.old) slot) ≡ Some card.1) }
         ensures open { IfOk result (λ card. (ch : ℕ) → closed_at card.1.closed ch ≡ false) }
+        ensures meter { IfOk result (λ card. is_meter card.1 ≡ true → slot_at self.old slot ≡ Some card) }
         ensures taken { OnOk result (self.new ≡ slice_set self.old (slot - 1) None) }
-        ensures refused { IfErr result (λ refusal. SlotsRefuseEject self.old slot refusal) }
+        ensures emptied { OnOk result (accounts_of self.new ≡ slice_set (accounts_of self.old) (slot - 1) None) }
+        ensures refused { IfErr result (λ refusal. SlotsRefuseEject (accounts_of self.old) slot refusal) }
         ensures err { OnErr result (self.new ≡ self.old) }
     {
         if !self.has_card(slot) {
@@ -115,12 +126,16 @@ impl<R: Relay, M: Meter> Slots<R, M> {
     /// Closes one channel.
     #[inline(always)]
     pub(crate) fn close(&mut self, chan: Chan) -> Result<(), CardFault>
-        requires present { is_present (layout_of self.old) chan ≡ true }
-        requires open { is_closed self.old chan ≡ false }
-        requires apart { (c : Channel) → is_closed self.old c ≡ true → IsClash (layout_of self.old) chan c → ⊥ }
-        ensures ok { OnOk result (Sets self.old (chan ∷ []) true self.new) }
-        ensures err { OnErr result (IsChannelFault self.old chan (with_chan self.old chan true) self.new) }
-        ensures disturbed { OnErr result (IsDisturbed self.old (chan ∷ []) self.new) }
+        requires present { is_present (layout_of (accounts_of self.old)) chan ≡ true }
+        requires open { is_closed (accounts_of self.old) chan ≡ false }
+        requires apart { (c : Channel) → is_closed (accounts_of self.old) c ≡ true
+            → IsClash (layout_of (accounts_of self.old)) chan c → ⊥ }
+        ensures ok { OnOk result (Sets (accounts_of self.old) (chan ∷ []) true (accounts_of self.new)) }
+        ensures err { OnErr result (IsChannelFault (accounts_of self.old) chan
+            (with_chan (accounts_of self.old) chan true) (accounts_of self.new)) }
+        ensures disturbed { OnErr result (IsDisturbed (accounts_of self.old) (chan ∷ []) (accounts_of self.new)) }
+        ensures others { self.new ≡ slice_set self.old (chan.0 - 1) (slot_at self.new chan.0) }
+        ensures meters { meters_of self.new ≡ meters_of self.old }
     {
         let group = self.group(chan);
         self.claims.hold(group, chan);
@@ -136,10 +151,13 @@ impl<R: Relay, M: Meter> Slots<R, M> {
     /// Opens one channel.
     #[inline(always)]
     pub(crate) fn open(&mut self, chan: Chan) -> Result<(), CardFault>
-        requires { is_closed self.old chan ≡ true }
-        ensures ok { OnOk result (Sets self.old (chan ∷ []) false self.new) }
-        ensures err { OnErr result (IsChannelFault self.old chan self.old self.new) }
-        ensures disturbed { OnErr result (IsDisturbed self.old (chan ∷ []) self.new) }
+        requires { is_closed (accounts_of self.old) chan ≡ true }
+        ensures ok { OnOk result (Sets (accounts_of self.old) (chan ∷ []) false (accounts_of self.new)) }
+        ensures err { OnErr result
+            (IsChannelFault (accounts_of self.old) chan (accounts_of self.old) (accounts_of self.new)) }
+        ensures disturbed { OnErr result (IsDisturbed (accounts_of self.old) (chan ∷ []) (accounts_of self.new)) }
+        ensures others { self.new ≡ slice_set self.old (chan.0 - 1) (slot_at self.new chan.0) }
+        ensures meters { meters_of self.new ≡ meters_of self.old }
     {
         let group = self.group(chan);
         match slot::open_in(&mut self.slots[chan.slot() as usize - 1], chan.ch()) {
@@ -156,7 +174,8 @@ impl<R: Relay, M: Meter> Slots<R, M> {
 
     /// Opens every relay of every card.
     pub(crate) fn open_all(&mut self)
-        ensures { self.new ≡ all_open self.old }
+        ensures open { accounts_of self.new ≡ all_open (accounts_of self.old) }
+        ensures meters { meters_of self.new ≡ meters_of self.old }
     {
         slot::rest_all(&mut self.slots);
         self.claims = Claims::new();
@@ -164,38 +183,39 @@ impl<R: Relay, M: Meter> Slots<R, M> {
 
     /// Whether the cage has the channel.
     pub(crate) fn is_present(&self, chan: Chan) -> bool
-        ensures { result ≡ is_present (layout_of self.now) chan }
+        ensures { result ≡ is_present (layout_of (accounts_of self.now)) chan }
     {
         slot::present_in(&self.slots[chan.slot() as usize - 1], chan.ch())
     }
 
     /// Whether the channel is closed.
     pub(crate) fn is_closed(&self, chan: Chan) -> bool
-        ensures { result ≡ is_closed self.now chan }
+        ensures { result ≡ is_closed (accounts_of self.now) chan }
     {
         slot::closed_in(&self.slots, chan)
     }
 
     /// The group of a channel that the cage has.
     fn group(&self, chan: Chan) -> u8
-        requires { is_present (layout_of self.now) chan ≡ true }
-        ensures { result ≡ group_of (layout_of self.now) chan }
+        requires { is_present (layout_of (accounts_of self.now)) chan ≡ true }
+        ensures { result ≡ group_of (layout_of (accounts_of self.now)) chan }
     {
         slot::group_in(&self.slots[chan.slot() as usize - 1], chan.ch())
     }
 
     /// Whether the cage has every channel of the list.
     pub(crate) fn all_present(&self, chans: &[Chan]) -> bool
-        ensures { result ≡ all_present (layout_of self.now) chans.now }
+        ensures { result ≡ all_present (layout_of (accounts_of self.now)) chans.now }
     {
         chans.iter().all(|chan| self.is_present(*chan))
     }
 
     /// Closes the channels that are open, in order.
     pub(crate) fn close_listed(&mut self, chans: &[Chan]) -> Result<(), CardFault>
-        requires { CanClose (layout_of self.old) (is_closed self.old) chans.now }
-        ensures ok { OnOk result (Sets self.old chans.now true self.new) }
-        ensures err { OnErr result (IsDisturbed self.old chans.now self.new) }
+        requires { CanClose (layout_of (accounts_of self.old)) (is_closed (accounts_of self.old)) chans.now }
+        ensures ok { OnOk result (Sets (accounts_of self.old) chans.now true (accounts_of self.new)) }
+        ensures err { OnErr result (IsDisturbed (accounts_of self.old) chans.now (accounts_of self.new)) }
+        ensures meters { meters_of self.new ≡ meters_of self.old }
     {
         for chan in chans {
             if !self.is_closed(*chan) {
@@ -207,8 +227,9 @@ impl<R: Relay, M: Meter> Slots<R, M> {
 
     /// Opens the channels that are closed, in order.
     pub(crate) fn open_listed(&mut self, chans: &[Chan]) -> Result<(), CardFault>
-        ensures ok { OnOk result (Sets self.old chans.now false self.new) }
-        ensures err { OnErr result (IsDisturbed self.old chans.now self.new) }
+        ensures ok { OnOk result (Sets (accounts_of self.old) chans.now false (accounts_of self.new)) }
+        ensures err { OnErr result (IsDisturbed (accounts_of self.old) chans.now (accounts_of self.new)) }
+        ensures meters { meters_of self.new ≡ meters_of self.old }
     {
         for chan in chans {
             if self.is_closed(*chan) {
@@ -220,10 +241,13 @@ impl<R: Relay, M: Meter> Slots<R, M> {
 
     /// Lets each channel of the list claim its group, unless another channel has it.
     fn claim_listed(&self, chans: &[Chan], claims: &mut Claims) -> bool
-        requires present { all_present (layout_of self.now) chans.now ≡ true }
-        requires held { IndexesClaims (layout_of self.now) (λ c. is_closed self.now c ≡ true) claims.old }
-        ensures apart { result ≡ true → HasClash (layout_of self.now) (closed_with (is_closed self.now) chans.now) → ⊥ }
-        ensures clash { result ≡ false → HasClash (layout_of self.now) (closed_with (is_closed self.now) chans.now) }
+        requires present { all_present (layout_of (accounts_of self.now)) chans.now ≡ true }
+        requires held { IndexesClaims (layout_of (accounts_of self.now))
+            (λ c. is_closed (accounts_of self.now) c ≡ true) claims.old }
+        ensures apart { result ≡ true → HasClash (layout_of (accounts_of self.now))
+            (closed_with (is_closed (accounts_of self.now)) chans.now) → ⊥ }
+        ensures clash { result ≡ false → HasClash (layout_of (accounts_of self.now))
+            (closed_with (is_closed (accounts_of self.now)) chans.now) }
     {
         for chan in chans {
             if !claims.claim(self.group(*chan), *chan) {
@@ -235,9 +259,10 @@ impl<R: Relay, M: Meter> Slots<R, M> {
 
     /// Whether the channels may be closed together.
     pub(crate) fn judge(&self, chans: &[Chan]) -> Result<(), CloseRefusal>
-        ensures ok { OnOk result (CanClose (layout_of self.now) (is_closed self.now) chans.now) }
+        ensures ok { OnOk result
+            (CanClose (layout_of (accounts_of self.now)) (is_closed (accounts_of self.now)) chans.now) }
         ensures err { IfErr result (λ refusal.
-            RefusesClose (layout_of self.now) (is_closed self.now) chans.now refusal) }
+            RefusesClose (layout_of (accounts_of self.now)) (is_closed (accounts_of self.now)) chans.now refusal) }
     {
         if !self.all_present(chans) {
             return Err(CloseRefusal::Absent);
@@ -253,7 +278,7 @@ impl<R: Relay, M: Meter> Slots<R, M> {
     fn push_closed(&self, slot: u8, chans: &mut Vec<Chan>) -> Result<(), AllocError>
         requires { (1 ≤ slot) × (slot ≤ most_slots) }
         ensures { OnOk result (chans.new.items
-            ≡ chans.old.items ++ filter (is_closed self.now) (row slot most_channels)) }
+            ≡ chans.old.items ++ filter (is_closed (accounts_of self.now)) (row slot most_channels)) }
     {
         let mut left = self.slots[slot as usize - 1].closed();
         for _ in 0..CHANNELS {
@@ -268,7 +293,7 @@ impl<R: Relay, M: Meter> Slots<R, M> {
 
     /// The closed channels, by slot and channel.
     pub(crate) fn closed_chans(&self, alloc: Global) -> Result<Vec<Chan>, AllocError>
-        ensures { IfOk result (λ chans. chans.items ≡ closed_list self.now) }
+        ensures { IfOk result (λ chans. chans.items ≡ closed_list (accounts_of self.now)) }
     {
         let mut chans = Vec::new(alloc);
         for before in 0..SLOTS {
@@ -281,10 +306,11 @@ impl<R: Relay, M: Meter> Slots<R, M> {
     fn past_closed(&self, before: u8, chans: &[Chan], at: usize) -> Option<usize>
         requires slot_in { before < most_slots }
         requires within { at ≤ length chans.now }
-        requires kept { take at chans.now ≡ filter (is_closed self.now) (rows before) }
+        requires kept { take at chans.now ≡ filter (is_closed (accounts_of self.now)) (rows before) }
         ensures within { IfSome result (λ past. past ≤ length chans.now) }
-        ensures kept { IfSome result (λ past. take past chans.now ≡ filter (is_closed self.now) (rows (before + 1))) }
-        ensures other { IfNone result (chans.now ≡ closed_list self.now → ⊥) }
+        ensures kept { IfSome result (λ past.
+            take past chans.now ≡ filter (is_closed (accounts_of self.now)) (rows (before + 1))) }
+        ensures other { IfNone result (chans.now ≡ closed_list (accounts_of self.now) → ⊥) }
     {
         let mut past = at;
         let mut left = self.slots[before as usize].closed();
@@ -304,7 +330,7 @@ impl<R: Relay, M: Meter> Slots<R, M> {
 
     /// Whether these are the closed channels, by slot and channel.
     pub(crate) fn has_closed(&self, chans: &[Chan]) -> bool
-        ensures { IsTrue result ↔ (chans.now ≡ closed_list self.now) }
+        ensures { IsTrue result ↔ (chans.now ≡ closed_list (accounts_of self.now)) }
     {
         let mut at = 0;
         for before in 0..SLOTS {
@@ -319,9 +345,11 @@ impl<R: Relay, M: Meter> Slots<R, M> {
     /// Takes the slot's meter out.
     pub(crate) fn take_meter(&mut self, slot: u8) -> MeterCard<M>
         requires slot_in { (1 ≤ slot) × (slot ≤ most_slots) }
-        requires meter { has_meter (layout_of self.old) slot ≡ true }
-        ensures meter { slot_at self.old slot ≡ Some (of_meter result.1) }
+        requires meter { has_meter (layout_of (accounts_of self.old)) slot ≡ true }
+        ensures meter { slot_at self.old slot ≡ Some (inr result.0, of_meter result.1) }
         ensures empty { self.new ≡ slice_set self.old (slot - 1) None }
+        ensures account { slot_at (accounts_of self.old) slot ≡ Some (of_meter result.1) }
+        ensures emptied { accounts_of self.new ≡ slice_set (accounts_of self.old) (slot - 1) None }
     {
         slot::take_meter(&mut self.slots[slot as usize - 1])
     }
@@ -329,7 +357,8 @@ impl<R: Relay, M: Meter> Slots<R, M> {
     /// Puts a meter into the slot.
     pub(crate) fn put_meter(&mut self, slot: u8, meter: MeterCard<M>)
         requires { (1 ≤ slot) × (slot ≤ most_slots) }
-        ensures { self.new ≡ slice_set self.old (slot - 1) (Some (of_meter meter.1)) }
+        ensures card { self.new ≡ slice_set self.old (slot - 1) (Some (inr meter.0, of_meter meter.1)) }
+        ensures account { accounts_of self.new ≡ slice_set (accounts_of self.old) (slot - 1) (Some (of_meter meter.1)) }
     {
         let had_none = self.slots[slot as usize - 1].closed().is_empty();
         self.slots[slot as usize - 1] = Place::with(Card::of_meter(meter));
@@ -342,7 +371,7 @@ impl<R: Relay, M: Meter> Slots<R, M> {
     /// What the slot holds, as a layout tells it.
     pub(crate) fn contents(&self, alloc: Global, slot: u8) -> Result<Slot, AllocError>
         requires { (1 ≤ slot) × (slot ≤ most_slots) }
-        ensures { IfOk result (λ contents. contents ≡ slot_at (layout_of self.now) slot) }
+        ensures { IfOk result (λ contents. contents ≡ slot_at (layout_of (accounts_of self.now)) slot) }
     {
         slot::contents_in(alloc, &self.slots[slot as usize - 1])
     }
@@ -350,15 +379,15 @@ impl<R: Relay, M: Meter> Slots<R, M> {
     /// Whether the slot holds what the layout's slot tells.
     pub(crate) fn is_as(&self, slot: u8, contents: &Slot) -> bool
         requires { (1 ≤ slot) × (slot ≤ most_slots) }
-        ensures { IsTrue result ↔ (contents.now ≡ slot_at (layout_of self.now) slot) }
+        ensures { IsTrue result ↔ (contents.now ≡ slot_at (layout_of (accounts_of self.now)) slot) }
     {
         slot::is_as_in(&self.slots[slot as usize - 1], contents)
     }
 
     /// A law: of all slots only present channels are closed, with a number in its range, and no two of them clash.
     pub(crate) fn stay_safe(&self)
-        ensures safe { AreSafe self.now }
-        ensures range { (c : Channel) → is_closed self.now c ≡ true
+        ensures safe { AreSafe (accounts_of self.now) }
+        ensures range { (c : Channel) → is_closed (accounts_of self.now) c ≡ true
             → (1 ≤ c.0) × (c.0 ≤ most_slots) × (1 ≤ c.1) × (c.1 ≤ most_channels) }
     {
         // Reading a field tells the proof what holds of every `Slots`.

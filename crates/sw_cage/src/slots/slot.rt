@@ -1,12 +1,14 @@
 //! What is done with one slot and its card.
 
 ghost use Rattle.std.specs.Prelude.{◌≡◌, ℕ, ◌≤◌, length, true, false, None, Some, OnOk, OnErr, IfOk, ◌↔◌, IsTrue};
+ghost use Rattle.std.proofs.Common.{inr};
 ghost use Rattle.sw_base.specs.Limits.{most_slots, most_channels};
 ghost use Rattle.sw_base.specs.Layout.{contents_have, contents_group, contents_are_meter};
-ghost use Rattle.sw_card.specs.Account.{closed_at, is_meter, of_meter};
+ghost use Rattle.sw_card.specs.Account.{closed_at, is_meter, of_meter, at_rest};
 ghost use Rattle.sw_cage.specs.Accounts.{accounts_of, option_account, slot_contents, option_closed, option_set};
 ghost use Rattle.sw_cage.specs.Accounts.{option_rest, OptionWellFormed};
 ghost use Rattle.sw_cage.specs.Accounts.{all_open, is_closed, IsSlotFault};
+ghost use Rattle.sw_cage.specs.Cards.{meter_only, meters_of};
 ghost use Rattle.sw_cage.specs.Install.{IsUnfit};
 ghost use Rattle.sw_cage.specs.Masks.{IsSlotMask};
 
@@ -96,6 +98,7 @@ pub(super) fn close_in<R: Relay, M: Meter>(slot: &mut Place<R, M>, ch: u8) -> Re
     ensures ok { OnOk result (option_account slot.new ≡ option_set (option_account slot.old) ch true) }
     ensures err { OnErr result (IsSlotFault (option_account slot.old) (option_set (option_account slot.old) ch true)
         (option_account slot.new)) }
+    ensures meter { meter_only slot.new ≡ meter_only slot.old }
 {
     let Some(card) = &mut slot.card else {
         unreachable!();
@@ -115,10 +118,12 @@ pub(super) fn close_in<R: Relay, M: Meter>(slot: &mut Place<R, M>, ch: u8) -> Re
 /// Opens a channel of the card in the slot.
 pub(super) fn open_in<R: Relay, M: Meter>(slot: &mut Place<R, M>, ch: u8) -> Result<(), CardFault>
     requires range { (1 ≤ ch) × (ch ≤ most_channels) }
+    requires present { contents_have (slot_contents (option_account slot.old)) ch ≡ true }
     requires closed { option_closed (option_account slot.old) ch ≡ true }
     ensures ok { OnOk result (option_account slot.new ≡ option_set (option_account slot.old) ch false) }
     ensures err { OnErr result
         (IsSlotFault (option_account slot.old) (option_account slot.old) (option_account slot.new)) }
+    ensures meter { meter_only slot.new ≡ meter_only slot.old }
 {
     let Some(card) = &mut slot.card else {
         unreachable!();
@@ -135,13 +140,25 @@ pub(super) fn open_in<R: Relay, M: Meter>(slot: &mut Place<R, M>, ch: u8) -> Res
     }
 }
 
-/// Opens every channel of the card in the slot.
+/// Whether it is a meter, of which there is nothing to open.
+fn is_meter_at_rest<R: Relay, M: Meter>(card: &Card<R, M>) -> bool
+    ensures meter { result ≡ is_meter card.now.1 }
+    ensures rest { result ≡ true → at_rest card.now.1 ≡ card.now.1 }
+{
+    card.is_meter() && !card.any_closed()
+}
+
+/// Opens every channel of the card in the slot. A meter is not touched.
 pub(super) fn rest_in<R: Relay, M: Meter>(slot: &mut Place<R, M>)
-    ensures { option_account slot.new ≡ option_rest (option_account slot.old) }
+    ensures rest { option_account slot.new ≡ option_rest (option_account slot.old) }
+    ensures meter { meter_only slot.new ≡ meter_only slot.old }
 {
     let Some(card) = &mut slot.card else {
         return;
     };
+    if is_meter_at_rest(card) {
+        return;
+    }
     card.open_all();
     slot.closed = Mask::new();
 }
@@ -149,6 +166,7 @@ pub(super) fn rest_in<R: Relay, M: Meter>(slot: &mut Place<R, M>)
 /// Takes the card out of the slot with every channel open.
 pub(super) fn take_rested<R: Relay, M: Meter>(slot: &mut Place<R, M>) -> Option<Card<R, M>>
     ensures card { option_account result ≡ option_rest (option_account slot.old) }
+    ensures meter { meter_only result ≡ meter_only slot.old }
     ensures empty { slot.new ≡ None }
 {
     rest_in(slot);
@@ -158,7 +176,8 @@ pub(super) fn take_rested<R: Relay, M: Meter>(slot: &mut Place<R, M>) -> Option<
 
 /// Opens every channel of the cards in the slots.
 pub(super) fn rest_all<R: Relay, M: Meter>(slots: &mut [Place<R, M>])
-    ensures { accounts_of slots.new ≡ all_open (accounts_of slots.old) }
+    ensures open { accounts_of slots.new ≡ all_open (accounts_of slots.old) }
+    ensures meters { meters_of slots.new ≡ meters_of slots.old }
 {
     for slot in slots {
         rest_in(slot);
@@ -198,7 +217,7 @@ pub(super) fn group_in<R: Relay, M: Meter>(slot: &Place<R, M>, ch: u8) -> u8
 /// Takes the meter out of the slot.
 pub(super) fn take_meter<R: Relay, M: Meter>(slot: &mut Place<R, M>) -> MeterCard<M>
     requires { contents_are_meter (slot_contents (option_account slot.old)) ≡ true }
-    ensures meter { option_account slot.old ≡ Some (of_meter result.1) }
+    ensures meter { slot.old ≡ Some (inr result.0, of_meter result.1) }
     ensures empty { slot.new ≡ None }
 {
     slot.closed = Mask::new();

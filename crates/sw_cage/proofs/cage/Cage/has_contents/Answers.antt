@@ -1,13 +1,14 @@
 use Rattle.std.proofs.Common.{◌∙◌, ap, sym, is_some, subst, IsTrue, ◌≡◌, ◌↔◌}
+use Rattle.sw_cage.proofs.CardLemmas.{seen_is}
 use Rattle.sw_cage.proofs.KeptLemmas.{bay_out, bay_in}
 use Rattle.sw_cage.proofs.cage.Cage.has_contents.Goals as goal
 
 pub returns-then-is_some : goal.returns-then-is_some
 returns-then-is_some g c = subst (λ o. IsTrue c.is_meter.result ↔ (c.args.contents.now ≡ o))
-    (sym (bay_out _ c.args.self.now c.args.slot c.self.invariant.good.held c.self.view_is
+    (sym (bay_out _ c.args.self.now.seen c.args.slot c.self.invariant.good.held (seen_is c.self.view_is)
     (ap is_some (sym c.at.ensures) ∙ sym c.is_some.ensures ∙ c.if-is_some.true))) c.is_meter.ensures.meter
 
 pub returns : goal.returns
 returns g c = subst (λ o. IsTrue c.is_as.result ↔ (c.args.contents.now ≡ o))
-    (bay_in _ c.args.self.now c.args.slot c.self.invariant.good.held c.self.view_is
+    (bay_in _ c.args.self.now.seen c.args.slot c.self.invariant.good.held (seen_is c.self.view_is)
     (ap is_some (sym c.at.ensures) ∙ sym c.is_some.ensures ∙ c.if-is_some.false)) c.is_as.ensures

@@ -3,4 +3,4 @@ use Rattle.sw_cage.specs.Cage.{cage_layout}
 use Rattle.sw_cage.proofs.cage.Cage.has_layout.Given as goal
 
 abbrev pub invariant-loop-before : goal.invariant-loop-before
-invariant-loop-before g l = take l.before l.bays ≡ take l.before (cage_layout l.self)
+invariant-loop-before g l = take l.before l.bays ≡ take l.before (cage_layout l.self.seen)

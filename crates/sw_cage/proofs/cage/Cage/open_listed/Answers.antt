@@ -1,8 +1,12 @@
 use Rattle.std.proofs.Common.{◌∙◌, ap, false}
+use Rattle.sw_cage.specs.Accounts.{accounts_of}
 use Rattle.sw_cage.specs.Cage.{CageSeen}
+use Rattle.sw_cage.proofs.CardLemmas.{seen_is}
 use Rattle.sw_cage.proofs.KeptLemmas.{kept_idle, stays_call}
 use Rattle.sw_cage.proofs.cage.Cage.open_listed.Goals as goal
 
 pub invariant_of-self : goal.invariant_of-self
-invariant_of-self g c = kept_idle _ c.open_listed.new.self _ c.self.invariant (ap (λ (p : CageSeen). p.scan) c.self.view_is ∙ c.requires.idle)
-    (stays_call c.open_listed.result c.self.inside.slots c.open_listed.new.self c.args.chans.now false c.open_listed.ensures.ok c.open_listed.ensures.err)
+invariant_of-self g c = kept_idle _ (accounts_of c.open_listed.new.self) _ c.self.invariant (ap (λ (p : CageSeen). p.scan) (seen_is c.self.view_is)
+    ∙ c.requires.idle)
+    (stays_call c.open_listed.result (accounts_of c.self.inside.slots) (accounts_of c.open_listed.new.self) c.args.chans.now false c.open_listed.ensures.ok
+    c.open_listed.ensures.err)

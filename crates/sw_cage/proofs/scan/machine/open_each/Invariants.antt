@@ -1,6 +1,11 @@
-use Rattle.std.proofs.Common.{drop}
+use Rattle.std.proofs.Common.{◌≡◌, drop}
+use Rattle.sw_cage.specs.Accounts.{accounts_of}
+use Rattle.sw_cage.specs.Cards.{meters_of}
 use Rattle.sw_cage.proofs.MoveLemmas.{OpensOn}
 use Rattle.sw_cage.proofs.scan.machine.open_each.Given as goal
 
 abbrev pub invariant-loop-chan : goal.invariant-loop-chan
-invariant-loop-chan g l = OpensOn l.fn.slots l.position (drop l.chan-index l.position) l.slots
+invariant-loop-chan g l = record {
+  goes : OpensOn (accounts_of l.fn.slots) l.position (drop l.chan-index l.position) (accounts_of l.slots);
+  meters : meters_of l.slots ≡ meters_of l.fn.slots;
+}

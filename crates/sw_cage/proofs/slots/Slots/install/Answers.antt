@@ -19,11 +19,12 @@ invariant_of-self g c =
     (claimed_quiet c.self.inside.slots.items c.args.slot (Some c.args.card) c.self.inside.claims c.self.invariant (omega arith) (omega arith)
     (c.is_fit.ensures.open (search rules))
     (record { states = c.is_fit.ensures.states; few = λ m. (c.is_fit.ensures.few (search rules) m).1 })
-    (λ k. ap (λ o. option_closed o k) (is_none _ (ap (λ r. is_some (slot_at r c.args.slot)) c.self.view_is ∙ sym c.has_card.ensures ∙ c.if-has_card.false))))
+    (λ k. ap (λ o. option_closed o k) (is_none _ (ap (λ r. is_some (slot_at r c.args.slot)) (ap accounts_of c.self.view_is) ∙ sym c.has_card.ensures
+    ∙ c.if-has_card.false))))
 
-pub returns-clause-ok : goal.returns-clause-ok
-returns-clause-ok g c = ap (λ v. accounts_of (slice_set c.self.inside.slots.items (c.args.slot - 1) v)) c.with.ensures
-    ∙ written c.self.inside.slots.items c.args.self.now _ (Some c.args.card) c.self.view_is
+pub returns-clause-account : goal.returns-clause-account
+returns-clause-account g c = ap (λ v. accounts_of (slice_set c.self.inside.slots.items (c.args.slot - 1) v)) c.with.ensures
+    ∙ written c.self.inside.slots.items (accounts_of c.args.self.now) _ (Some c.args.card) (ap accounts_of c.self.view_is)
 
 pub returns-clause-accepted : goal.returns-clause-accepted
 returns-clause-accepted g c = record {

@@ -16,9 +16,10 @@ invariant_of-self g c =
     c.self.invariant (ap (λ p. p.1) c.of_meter.ensures) c.requires.0 c.requires.1 c.index.ensures c.closed.ensures
     (c.is_empty-had_none.ensures.none c.if-had_none.true))
 
-pub returns-then-had_none : goal.returns-then-had_none
-returns-then-had_none g c = ap (λ v. accounts_of (slice_set c.self.inside.slots.items (c.args.slot - 1) v)) c.with.ensures
-    ∙ put_is c.self.inside.slots.items c.args.self.now _ c.of_meter.result c.args.meter.1 c.self.view_is (ap (λ p. p.1) c.of_meter.ensures)
+pub returns-then-had_none-clause-account : goal.returns-then-had_none-clause-account
+returns-then-had_none-clause-account g c = ap (λ v. accounts_of (slice_set c.self.inside.slots.items (c.args.slot - 1) v)) c.with.ensures
+    ∙ put_is c.self.inside.slots.items (accounts_of c.args.self.now) _ c.of_meter.result c.args.meter.1 (ap accounts_of c.self.view_is) (ap (λ p. p.1)
+    c.of_meter.ensures)
 
 pub invariant_of-self-2 : goal.invariant_of-self-2
 invariant_of-self-2 g c = subst (AreClaimed _) (sym c.keep_closed.ensures)
@@ -28,6 +29,7 @@ invariant_of-self-2 g c = subst (AreClaimed _) (sym c.keep_closed.ensures)
     c.self.invariant (ap (λ p. p.1) c.of_meter.ensures) c.requires.0 c.requires.1
     (c.deref.ensures.value ∙ ap (slice_set c.self.inside.slots.items (c.args.slot - 1)) c.with.ensures)))
 
-pub returns : goal.returns
-returns g c = ap (λ v. accounts_of (slice_set c.self.inside.slots.items (c.args.slot - 1) v)) c.with.ensures
-    ∙ put_is c.self.inside.slots.items c.args.self.now _ c.of_meter.result c.args.meter.1 c.self.view_is (ap (λ p. p.1) c.of_meter.ensures)
+pub returns-clause-account : goal.returns-clause-account
+returns-clause-account g c = ap (λ v. accounts_of (slice_set c.self.inside.slots.items (c.args.slot - 1) v)) c.with.ensures
+    ∙ put_is c.self.inside.slots.items (accounts_of c.args.self.now) _ c.of_meter.result c.args.meter.1 (ap accounts_of c.self.view_is) (ap (λ p. p.1)
+    c.of_meter.ensures)

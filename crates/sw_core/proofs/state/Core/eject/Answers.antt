@@ -19,7 +19,7 @@ returns-in-Ok g c =
       events = c.self.inside.events;
     } in p) c.in-Ok.ensures.taken in
     let told = ap (λ (s : StatusSeen). let p : Panel = record {
-      cage = c.eject.new.self;
+      cage = c.eject.new.self.seen;
       sessions = c.self.inside.sessions;
       status = s;
       settings = c.self.inside.settings;
@@ -27,8 +27,8 @@ returns-in-Ok g c =
       events = c.self.inside.events;
     } in p) c.clear_card_fault.ensures in
     rw (← c.self.view_is) (
-      ap (λ (s : CageSeen). any_failed c.self.inside.cage.cards s.cards) c.in-Ok.ensures.taken ∙ failed_ejected c.self.inside.cage c.args.slot,
+      ap (λ (s : CageSeen). any_failed c.self.inside.cage.seen.cards s.cards) c.in-Ok.ensures.taken ∙ failed_ejected c.self.inside.cage.seen c.args.slot,
       c.in-Ok.ensures.home,
-      slot_rest c.self.inside.cage.cards c.args.slot ∙ c.in-Ok.ensures.ok,
+      slot_rest c.self.inside.cage.seen.cards c.args.slot ∙ c.in-Ok.ensures.ok,
       told ∙ cage,
     )

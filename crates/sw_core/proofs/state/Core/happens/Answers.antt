@@ -1,6 +1,7 @@
 use Rattle.std.proofs.Common.{Bool, sym, ap, ◌∙◌}
 use Rattle.std.specs.Prelude.{if◌then◌else◌}
 use Rattle.sw_cage.specs.TakenSeen.{taken_seen}
+use Rattle.sw_cage.proofs.CardLemmas.{seen_is}
 use Rattle.sw_core.specs.Panel.{Panel}
 use Rattle.sw_core.specs.Registers.{card_fault_reported}
 use Rattle.sw_core.proofs.Happened.{happened}
@@ -9,7 +10,7 @@ use Rattle.sw_core.proofs.state.Core.happens.Goals as goal
 pub returns-else-tells_fault : goal.returns-else-tells_fault
 returns-else-tells_fault g c =
     let p : Panel = record {
-      cage = c.self.inside.cage;
+      cage = c.self.inside.cage.seen;
       sessions = c.self.inside.sessions;
       status = c.self.inside.status;
       settings = c.self.inside.settings;
@@ -17,13 +18,14 @@ returns-else-tells_fault g c =
       events = c.self.inside.events;
     } in
     let whole = sym (ap (λ (b : Bool). if b then card_fault_reported p.status else p.status) (sym c.tells_fault.ensures ∙ c.if-tells_fault.false)) in
-    rw (← c.self.view_is) (happened p c.args.happening (taken_seen c.take-told.result) c.take-told.new.self p.status c.take-told.ensures.ignored
+    rw (← c.self.view_is) (happened p c.args.happening (taken_seen c.take-told.result) c.take-told.new.self.seen p.status (λ no. let
+    k = c.take-told.ensures.ignored no in (k.0, seen_is k.1))
     c.take-told.ensures.taken c.take-told.ensures.takes whole)
 
 pub returns-then-tells_fault : goal.returns-then-tells_fault
 returns-then-tells_fault g c =
     let p : Panel = record {
-      cage = c.self.inside.cage;
+      cage = c.self.inside.cage.seen;
       sessions = c.self.inside.sessions;
       status = c.self.inside.status;
       settings = c.self.inside.settings;
@@ -32,5 +34,5 @@ returns-then-tells_fault g c =
     } in
     let whole = c.report_card_fault.ensures
     ∙ sym (ap (λ (b : Bool). if b then card_fault_reported p.status else p.status) (sym c.tells_fault.ensures ∙ c.if-tells_fault.true)) in
-    rw (← c.self.view_is) (happened p c.args.happening (taken_seen c.take-told.result) c.take-told.new.self c.report_card_fault.new.status
-    c.take-told.ensures.ignored c.take-told.ensures.taken c.take-told.ensures.takes whole)
+    rw (← c.self.view_is) (happened p c.args.happening (taken_seen c.take-told.result) c.take-told.new.self.seen c.report_card_fault.new.status
+    (λ no. let k = c.take-told.ensures.ignored no in (k.0, seen_is k.1)) c.take-told.ensures.taken c.take-told.ensures.takes whole)

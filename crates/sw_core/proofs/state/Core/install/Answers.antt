@@ -8,8 +8,8 @@ use Rattle.sw_core.proofs.state.Core.install.Goals as goal
 pub returns-in-Ok-clause-acts : goal.returns-in-Ok-clause-acts
 returns-in-Ok-clause-acts g c =
     rw (← c.self.view_is) (
-      ap (λ (s : CageSeen). any_failed c.self.inside.cage.cards s.cards) c.in-Ok.ensures.ok
-          ∙ failed_come c.self.inside.cage.cards c.args.slot _ (omega (arith, c.in-Ok.ensures.accepted.first)) c.in-Ok.ensures.accepted.empty,
+      ap (λ (s : CageSeen). any_failed c.self.inside.cage.seen.cards s.cards) c.in-Ok.ensures.ok
+          ∙ failed_come c.self.inside.cage.seen.cards c.args.slot _ (omega (arith, c.in-Ok.ensures.accepted.first)) c.in-Ok.ensures.accepted.empty,
       ap (λ s. is_some s) c.in-Ok.ensures.free.0,
       c.in-Ok.ensures.free.1,
       c.in-Ok.ensures.accepted,

@@ -20,10 +20,11 @@ returns-in-Ok g c =
 
 pub returns-in-Err : goal.returns-in-Err
 returns-in-Err g c =
-    let f = fallen c.self.inside.cage.cards c.open_listed.new.self.cards c.open_all.new.self.cards c.args.chans.now c.in-Err.ensures.err (ap (λ (s : CageSeen).
-    s.cards) c.open_all.ensures) in
+    let f = fallen c.self.inside.cage.seen.cards c.open_listed.new.self.seen.cards c.open_all.new.self.seen.cards c.args.chans.now c.in-Err.ensures.err (ap
+    (λ (s : CageSeen).
+    s.cards) c.open_all.ensures.open) in
     let told = ap (λ (s : StatusSeen). let p : Panel = record {
-      cage = c.open_all.new.self;
+      cage = c.open_all.new.self.seen;
       sessions = c.self.inside.sessions;
       status = s;
       settings = c.self.inside.settings;
@@ -38,5 +39,5 @@ returns-in-Err g c =
       opc_waits = c.self.inside.opc_waits;
       events = c.self.inside.events;
     } in
-    p) (fallen_cage c.self.inside.cage c.open_listed.new.self c.open_all.new.self c.open_listed.ensures.rest c.open_all.ensures) in
+    p) (fallen_cage c.self.inside.cage.seen c.open_listed.new.self.seen c.open_all.new.self.seen c.open_listed.ensures.rest c.open_all.ensures.open) in
     rw (← c.self.view_is) (f.0, sym c.all_present.ensures ∙ c.if-not-all_present.false, (f.1, told ∙ cage))
