@@ -21,7 +21,8 @@ use Rattle.sw_lex.specs.Parts.{part_of, belongs}
 use Rattle.sw_lex.specs.Packed.{is_byte, is_number, is_packed, step_packed, steps_packed, rows_packed, groups_packed, packed, IsNumberOf, AreNumbersOf}
 use Rattle.sw_lex.specs.Packed.{IsFormNumber, IsNumberedForm, FitNumbers, RowNumbers, GroupNumbers}
 use Rattle.sw_lex.proofs.Packed.{HasNumber, number_so, number_yes, digit_behind, split_number, joined_number}
-use Rattle.sw_lex.proofs.Parts.{some_there, none_there}
+use Rattle.sw_lex.specs.Headed.{first_word}
+use Rattle.sw_lex.proofs.Parts.{some_there, none_there, nothing_there}
 
 -- ---- one form
 
@@ -219,35 +220,74 @@ none_at groups w ws n ns query None a e p h =
     none_there groups w ws query None e (λ q key k m. h q key k (groups_so groups w ws n ns q key k p a.0 a.1 m))
 none_at groups w ws n ns query (Some x) a e p h = h
 
-abbrev words_up : List (Bor (List ℕ)) → List (List ℕ)
-words_up ws = map (λ w. map to_ascii_uppercase w.now) ws
-
 rest_is : (n : ℕ) (ns : List ℕ) → take (length (n ∷ ns) - 1) ns ≡ ns
 rest_is n ns = take_all (length (n ∷ ns) - 1) ns (omega arith)
 
-pub found_some : (groups : List Group) (ws : List (Bor (List ℕ))) (d : Bor (List ℕ)) (ns : List ℕ) (c : ℕ) (query : Bool) (o : Option (Key × ℕ))
-    → 1 ≤ length ws → 1 ≤ length ns → AreNumbersOf (words_up ws) ns
-    → entries_of groups ≡ filter (belongs (part_of (map to_ascii_uppercase (get_or ws 0 d).now)) query) entries → groups_packed groups ≡ true
+found_at : (groups : List Group) (ws : List (List ℕ)) (n : ℕ) (ns : List ℕ) (query : Bool) (x : Key × ℕ) → AreNumbersOf ws (n ∷ ns)
+    → entries_of groups ≡ filter (belongs (part_of (first_word ws)) query) entries → groups_packed groups ≡ true
+    → (q : Bool) × GroupNumbers groups n ns q x.0 x.1 → IsFound entries ws query x.0 x.1
+found_at groups [] n ns query x a e p h = absurd a
+found_at groups (w ∷ ws) n ns query x a e p h = some_at groups w ws n ns query (Some x) a e p h
+
+missed_at : (groups : List Group) (ws : List (List ℕ)) (n : ℕ) (ns : List ℕ) (query : Bool) → AreNumbersOf ws (n ∷ ns)
+    → entries_of groups ≡ filter (belongs (part_of (first_word ws)) query) entries → groups_packed groups ≡ true
+    → ((q : Bool) (key : Key) (k : ℕ) → GroupNumbers groups n ns q key k → ⊥) → (key : Key) (k : ℕ) → IsFound entries ws query key k → ⊥
+missed_at groups [] n ns query a e p h = absurd a
+missed_at groups (w ∷ ws) n ns query a e p h = none_at groups w ws n ns query None a e p h
+
+pub found_some : (groups : List Group) (ns : List ℕ) (c : ℕ) (o : Option (Key × ℕ)) → 1 ≤ length ns
     → IfSome o (λ x. (q : Bool) × GroupNumbers groups (get_or ns 0 c) (take (length ns - 1) (drop 1 ns)) q x.0 x.1)
-    → IfSome o (λ x. IsFound entries (words_up ws) query x.0 x.1)
-found_some groups [] d ns c query o l m a e p h = absurd (omega (arith, l))
-found_some groups (w ∷ ws) d [] c query o l m a e p h = absurd (omega (arith, m))
-found_some groups (w ∷ ws) d (n ∷ ns) c query o l m a e p h =
-    some_at groups (map to_ascii_uppercase w.now) (words_up ws) n ns query o a e p
-    (subst (λ (y : List ℕ). IfSome o (λ x. (q : Bool) × GroupNumbers groups n y q x.0 x.1)) (rest_is n ns) h)
+    → IfSome o (λ x. (query : Bool) (ws : List (List ℕ)) → AreNumbersOf ws ns → entries_of groups ≡ filter (belongs (part_of (first_word ws)) query) entries
+    → groups_packed groups ≡ true → IsFound entries ws query x.0 x.1)
+found_some groups [] c o m h = absurd (omega (arith, m))
+found_some groups (n ∷ ns) c None m h = h
+found_some groups (n ∷ ns) c (Some x) m h = λ query ws a e p. found_at groups ws n ns query x a e p (
+  h.0,
+  subst (λ (y : List ℕ). GroupNumbers groups n y h.0 x.0 x.1) (rest_is n ns) h.1,
+)
 
-pub found_none : (groups : List Group) (ws : List (Bor (List ℕ))) (d : Bor (List ℕ)) (ns : List ℕ) (c : ℕ) (query : Bool) (o : Option (Key × ℕ))
-    → 1 ≤ length ws → 1 ≤ length ns → AreNumbersOf (words_up ws) ns
-    → entries_of groups ≡ filter (belongs (part_of (map to_ascii_uppercase (get_or ws 0 d).now)) query) entries → groups_packed groups ≡ true
+pub found_none : (groups : List Group) (ns : List ℕ) (c : ℕ) (o : Option (Key × ℕ)) → 1 ≤ length ns
     → IfNone o ((q : Bool) (key : Key) (k : ℕ) → GroupNumbers groups (get_or ns 0 c) (take (length ns - 1) (drop 1 ns)) q key k → ⊥)
-    → IfNone o ((key : Key) (k : ℕ) → IsFound entries (words_up ws) query key k → ⊥)
-found_none groups [] d ns c query o l m a e p h = absurd (omega (arith, l))
-found_none groups (w ∷ ws) d [] c query o l m a e p h = absurd (omega (arith, m))
-found_none groups (w ∷ ws) d (n ∷ ns) c query o l m a e p h =
-    none_at groups (map to_ascii_uppercase w.now) (words_up ws) n ns query o a e p
-    (subst (λ (y : List ℕ). IfNone o ((q : Bool) (key : Key) (k : ℕ) → GroupNumbers groups n y q key k → ⊥)) (rest_is n ns) h)
+    → IfNone o ((query : Bool) (ws : List (List ℕ)) → AreNumbersOf ws ns → entries_of groups ≡ filter (belongs (part_of (first_word ws)) query) entries
+    → groups_packed groups ≡ true → (key : Key) (k : ℕ) → IsFound entries ws query key k → ⊥)
+found_none groups [] c o m h = absurd (omega (arith, m))
+found_none groups (n ∷ ns) c None m h =
+    λ query ws a e p. missed_at groups ws n ns query a e p
+    (subst (λ (y : List ℕ). (q : Bool) (key : Key) (k : ℕ) → GroupNumbers groups n y q key k → ⊥) (rest_is n ns) h)
+found_none groups (n ∷ ns) c (Some x) m h = h
 
-pub as_many : (ws : List (Bor (List ℕ))) (ns : List ℕ) → 1 ≤ length ws → AreNumbersOf (words_up ws) ns → length ns < 1 → ⊥
-as_many [] ns l a m = omega (arith, l)
-as_many (w ∷ ws) [] l a m = a
-as_many (w ∷ ws) (n ∷ ns) l a m = omega (arith, m)
+pub nothing_of : (ws : List (List ℕ)) (ns : List ℕ) (query : Bool) → length ns < 1 → AreNumbersOf ws ns → (key : Key) (k : ℕ) → IsFound entries ws query key k → ⊥
+nothing_of [] ns query l a key k f = nothing_there query key k f
+nothing_of (w ∷ ws) [] query l a key k f = a
+nothing_of (w ∷ ws) (n ∷ ns) query l a key k f = omega (arith, l)
+
+-- ---- words that are texts
+
+abbrev words_up : List (Bor (List ℕ)) → List (List ℕ)
+words_up ws = map (λ w. map to_ascii_uppercase w.now) ws
+
+first_up : (ws : List (Bor (List ℕ))) (d : Bor (List ℕ)) → 1 ≤ length ws → map to_ascii_uppercase (get_or ws 0 d).now ≡ first_word (words_up ws)
+first_up [] d l = absurd (omega (arith, l))
+first_up (w ∷ ws) d l = refl
+
+rows_there : (groups : List Group) (ws : List (Bor (List ℕ))) (d : Bor (List ℕ)) (query : Bool) → 1 ≤ length ws
+    → entries_of groups ≡ filter (belongs (part_of (map to_ascii_uppercase (get_or ws 0 d).now)) query) entries
+    → entries_of groups ≡ filter (belongs (part_of (first_word (words_up ws))) query) entries
+rows_there groups ws d query l e = subst (λ (w : List ℕ). entries_of groups ≡ filter (belongs (part_of w) query) entries) (first_up ws d l) e
+
+pub words_some : (groups : List Group) (ws : List (Bor (List ℕ))) (d : Bor (List ℕ)) (ns : List ℕ) (query : Bool) (o : Option (Key × ℕ)) → 1 ≤ length ws
+    → AreNumbersOf (words_up ws) ns → entries_of groups ≡ filter (belongs (part_of (map to_ascii_uppercase (get_or ws 0 d).now)) query) entries
+    → groups_packed groups ≡ true
+    → IfSome o (λ x. (query : Bool) (ws : List (List ℕ)) → AreNumbersOf ws ns → entries_of groups ≡ filter (belongs (part_of (first_word ws)) query) entries
+    → groups_packed groups ≡ true → IsFound entries ws query x.0 x.1) → IfSome o (λ x. IsFound entries (words_up ws) query x.0 x.1)
+words_some groups ws d ns query None l a e p h = h
+words_some groups ws d ns query (Some x) l a e p h = h query (words_up ws) a (rows_there groups ws d query l e) p
+
+pub words_none : (groups : List Group) (ws : List (Bor (List ℕ))) (d : Bor (List ℕ)) (ns : List ℕ) (query : Bool) (o : Option (Key × ℕ)) → 1 ≤ length ws
+    → AreNumbersOf (words_up ws) ns → entries_of groups ≡ filter (belongs (part_of (map to_ascii_uppercase (get_or ws 0 d).now)) query) entries
+    → groups_packed groups ≡ true
+    → IfNone o ((query : Bool) (ws : List (List ℕ)) → AreNumbersOf ws ns → entries_of groups ≡ filter (belongs (part_of (first_word ws)) query) entries
+    → groups_packed groups ≡ true → (key : Key) (k : ℕ) → IsFound entries ws query key k → ⊥)
+    → IfNone o ((key : Key) (k : ℕ) → IsFound entries (words_up ws) query key k → ⊥)
+words_none groups ws d ns query None l a e p h = h query (words_up ws) a (rows_there groups ws d query l e) p
+words_none groups ws d ns query (Some x) l a e p h = h

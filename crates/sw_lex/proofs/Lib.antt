@@ -10,6 +10,8 @@ pub mod Parts
 pub mod Nodes
 pub mod Shorter
 pub mod Headings
+pub mod Headed
+pub mod Asked
 pub mod Quotes
 pub mod Blocks
 pub mod Leading

@@ -10,7 +10,8 @@ use Rattle.std.proofs.lemmas.List.Sums.{AllPass-from_list_all}
 use Rattle.std.proofs.lemmas.List.{length-append, length_push, length-map, map_push}
 use Rattle.std.proofs.Math.Seq.{take-append_seam}
 use Rattle.sw_base.specs.Text.{Lacks}
-use Rattle.sw_lex.specs.Meaning.{Nodes, nodes_of, led_by, looked_up, all_but_last, capitals, asked, IsNone, IsRefusal, Resolves}
+use Rattle.sw_lex.specs.Meaning.{Nodes, looked_up, all_but_last, capitals, asked, IsNone, IsRefusal, Resolves}
+use Rattle.sw_lex.specs.Split.{nodes_of, led_by}
 use Rattle.sw_lex.specs.Values.{unnumbered}
 use Rattle.sw_base.specs.declared.error.ScpiError.{ScpiError}
 use Rattle.sw_lex.specs.Unit.{UnitSeen}

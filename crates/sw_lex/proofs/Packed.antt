@@ -171,7 +171,7 @@ pub packed_more : (w : List ℕ) (i n u f : ℕ) → i < length w → u ≡ to_a
 packed_more w i n u f l e k h =
     omega (arith, h, k) ∙ sym (after_append 1 (up (take i w)) u) ∙ ap (λ (x : List ℕ). packed x) (sym (up_more w i u l e))
 
-pub number_small : (w : List ℕ) (i n : ℕ) → i ≤ length w → length w ≤ 12 → AllPass is_byte (up (take i w)) → n ≡ packed (up (take i w)) → n < 2 ^ 100
+pub number_small : (w : List ℕ) (i n : ℕ) → i ≤ length w → i ≤ 12 → AllPass is_byte (up (take i w)) → n ≡ packed (up (take i w)) → n < 2 ^ 100
 number_small w i n l s a e =
     let k : length (up (take i w)) ≤ 12 = omega (arith, length-map (take i w) to_ascii_uppercase, length-take-le i w l, l, s) in
     omega (arith, e, packed_small (up (take i w)) k a)

@@ -33,16 +33,16 @@ colons-push : (ms : List (List ℕ)) (m : List ℕ) → colons (ms ++ m ∷ []) 
 colons-push [] m = append-nil (m ++ 58 ∷ [])
 colons-push (x ∷ ms) m = ap (λ (t : List ℕ). (x ++ 58 ∷ []) ++ t) (colons-push ms m) ∙ sym (append_assoc (x ++ 58 ∷ []) (colons ms) (m ++ 58 ∷ []))
 
-each-push : (ms : List (List ℕ)) (m : List ℕ) → AllByRecursion IsMnemonic ms → IsMnemonic m → AllByRecursion IsMnemonic (ms ++ m ∷ [])
+pub each-push : (ms : List (List ℕ)) (m : List ℕ) → AllByRecursion IsMnemonic ms → IsMnemonic m → AllByRecursion IsMnemonic (ms ++ m ∷ [])
 each-push [] m a h = (h, tt)
 each-push (x ∷ ms) m a h = (a.0, each-push ms m a.1 h)
 
-whole-push : (text rest m more : List ℕ) (ms : List (List ℕ)) → text ≡ colons ms ++ rest → rest ≡ m ++ 58 ∷ more → text ≡ colons (ms ++ m ∷ []) ++ more
+pub whole-push : (text rest m more : List ℕ) (ms : List (List ℕ)) → text ≡ colons ms ++ rest → rest ≡ m ++ 58 ∷ more → text ≡ colons (ms ++ m ∷ []) ++ more
 whole-push text rest m more ms e f =
     let g : colons ms ++ (m ++ 58 ∷ more) ≡ (colons ms ++ (m ++ 58 ∷ [])) ++ more = simp append_assoc in
     e ∙ ap (λ (t : List ℕ). colons ms ++ t) f ∙ g ∙ ap (λ (t : List ℕ). t ++ more) (sym (colons-push ms m))
 
-len-push : (ms : List (List ℕ)) (m : List ℕ) (n : ℕ) → length (colons ms) ≡ n → length (colons (ms ++ m ∷ [])) ≡ n + length m + 1
+pub len-push : (ms : List (List ℕ)) (m : List ℕ) (n : ℕ) → length (colons ms) ≡ n → length (colons (ms ++ m ∷ [])) ≡ n + length m + 1
 len-push ms m n e = ap (λ (t : List ℕ). length t) (colons-push ms m) ∙ omega (arith, length-append (colons ms) (m ++ 58 ∷ []), length-append m (58 ∷ []))
 
 pub PathFront-more : (text : List ℕ) (n : ℕ) (rest m after more : List ℕ) → PathFront text n rest → IsMnemonic m → rest ≡ m ++ after → after ≡ 58 ∷ more
@@ -54,10 +54,10 @@ PathFront-more text n rest m after more f h e g = record {
   len = len-push f.nodes m n f.len;
 }
 
-front-whole : (text : List ℕ) (n : ℕ) (rest m more : List ℕ) (f : PathFront text n rest) → rest ≡ m ++ more → text ≡ (colons f.nodes ++ m) ++ more
+pub front-whole : (text : List ℕ) (n : ℕ) (rest m more : List ℕ) (f : PathFront text n rest) → rest ≡ m ++ more → text ≡ (colons f.nodes ++ m) ++ more
 front-whole text n rest m more f e = f.whole ∙ ap (λ (t : List ℕ). colons f.nodes ++ t) e ∙ sym (append_assoc (colons f.nodes) m more)
 
-front-len : (text : List ℕ) (n : ℕ) (rest m : List ℕ) (f : PathFront text n rest) → length (colons f.nodes ++ m) ≡ n + length m
+pub front-len : (text : List ℕ) (n : ℕ) (rest m : List ℕ) (f : PathFront text n rest) → length (colons f.nodes ++ m) ≡ n + length m
 front-len text n rest m f = omega (arith, f.len, length-append (colons f.nodes) m)
 
 pub PathFront-path : (text : List ℕ) (n : ℕ) (rest m more : List ℕ) → PathFront text n rest → IsMnemonic m → rest ≡ m ++ more

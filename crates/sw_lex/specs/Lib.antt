@@ -5,6 +5,8 @@ pub mod Table
 pub mod Found
 pub mod Rows
 pub mod Packed
+pub mod Split
+pub mod Headed
 pub mod Apart
 pub mod Parts
 pub mod Commands

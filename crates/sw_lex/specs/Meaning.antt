@@ -1,6 +1,6 @@
 -- From a unit to its command (SCPI-1999, volume 1, 6.2.4 for paths; 21.8.9 for refusals).
-use Rattle.std.specs.Prelude.{◌≡◌, ℕ, ◌-◌, Bool, true, false, ◌==◌, List, [], ◌∷◌, ◌++◌, length, map, take, Result, Ok}
-use Rattle.std.specs.Prelude.{Err, ◌⊎◌, if◌then◌else◌}
+use Rattle.std.specs.Prelude.{◌≡◌, ℕ, ◌-◌, Bool, true, false, List, [], ◌∷◌, ◌++◌, length, map, take, Result, Ok}
+use Rattle.std.specs.Prelude.{Err, ◌⊎◌}
 use Rattle.std.specs.Char.{to_ascii_uppercase}
 use Rattle.std.specs.Result.{result_map_both}
 use Rattle.sw_base.specs.declared.error.ScpiError.{ScpiError}
@@ -17,6 +17,7 @@ use Rattle.sw_lex.specs.Unit.{Heading, common, path, Datum, number, character, s
 use Rattle.sw_lex.specs.Commands.{layer_numbered, of_common, of_instrument, of_layer, of_group, of_channels}
 use Rattle.sw_lex.specs.Values.{on_ok, ReadsQuantity, ReadsString, ReadsBlock, whole_of, continuous_of, macros_of}
 use Rattle.sw_lex.specs.Values.{time_of, source_meant, switch_meant, unnumbered}
+use Rattle.sw_lex.specs.Split.{nodes_of}
 use Rattle.sw_lex.specs.Found.{IsFound}
 use Rattle.sw_lex.specs.Table.{entries}
 
@@ -29,20 +30,17 @@ Nodes = List (List ℕ)
 abbrev pub path_of : Path → Nodes
 path_of p = map (λ w. w.items) p.nodes.items
 
-abbrev pub led_by : ℕ → Nodes → Nodes
-led_by b [] = (b ∷ []) ∷ []
-led_by b (n ∷ ns) = (b ∷ n) ∷ ns
-
--- what stands between the colons of a text
-abbrev pub nodes_of : List ℕ → Nodes
-nodes_of [] = [] ∷ []
-nodes_of (b ∷ bs) = if b == 58 then [] ∷ nodes_of bs else led_by b (nodes_of bs)
-
 -- A header with a leading colon, and a common one, are looked up from the root, any other below the path.
 abbrev pub looked_up : Heading → Nodes → Nodes
 looked_up (common name) below = name ∷ []
 looked_up (path true nodes) below = nodes_of nodes
 looked_up (path false nodes) below = below ++ nodes_of nodes
+
+-- the nodes below which it is looked up
+abbrev pub led_from : Heading → Nodes → Nodes
+led_from (common name) below = []
+led_from (path true nodes) below = []
+led_from (path false nodes) below = below
 
 abbrev pub all_but_last : Nodes → Nodes
 all_but_last ws = take (length ws - 1) ws

@@ -1,6 +1,6 @@
 -- Words in capitals as numbers, and what the numbers in the rows of the code have to be.
 use Rattle.std.specs.Prelude.{◌≡◌, ◌≤◌, ◌<◌, ◌+◌, ◌*◌, ◌-◌, ◌/◌, ◌%◌, ℕ, Bool, ◌==◌, ◌&&◌, nat_lt, nat_le}
-use Rattle.std.specs.Prelude.{List, [], ◌∷◌, length, ◌⊎◌, ⊤}
+use Rattle.std.specs.Prelude.{List, [], ◌∷◌, length, ◌⊎◌, ⊤, if◌then◌else◌}
 use Rattle.std.specs.List.{list_all}
 use Rattle.sw_base.specs.Text.{AllPass}
 use Rattle.sw_base.specs.Limits.{longest_mnemonic, most_arm_layers}
@@ -26,6 +26,10 @@ packed word = packed_after 1 word
 
 abbrev pub is_byte : ℕ → Bool
 is_byte b = nat_lt b 256
+
+-- the number of a word, 0 for one longer than each mnemonic of the table
+abbrev pub number_at : List ℕ → ℕ
+number_at word = if nat_le (length word) longest_mnemonic then packed word else 0
 
 -- the number of a word; that of a word longer than each mnemonic of the table is 0
 abbrev pub IsNumberOf : List ℕ → ℕ → Type 0

@@ -14,7 +14,7 @@ use Rattle.sw_lex.specs.declared.unit.Element.{Element}
 use Rattle.sw_lex.specs.declared.unit.Element.TheVariants as elements
 use Rattle.sw_lex.specs.declared.unit.Header.{Header}
 use Rattle.sw_lex.specs.declared.unit.Header.TheVariants as headers
-use Rattle.sw_lex.specs.declared.unit.RawUnit.{RawUnit}
+use Rattle.sw_lex.specs.declared.raw_unit.RawUnit.{RawUnit}
 
 -- data elements of a unit: own
 abbrev pub most_elements : ℕ

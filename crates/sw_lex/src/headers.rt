@@ -7,7 +7,8 @@ ghost use Rattle.sw_lex.specs.Found.{IsFound, IsForm};
 ghost use Rattle.sw_lex.specs.Table.{entries};
 ghost use Rattle.sw_lex.specs.Values.{is_named};
 ghost use Rattle.sw_lex.specs.Rows.{entries_of, is_form_from};
-ghost use Rattle.sw_lex.specs.Packed.{IsFormNumber, IsNumberedForm, FitNumbers, RowNumbers, GroupNumbers, groups_packed};
+ghost use Rattle.sw_lex.specs.Headed.{first_word};
+ghost use Rattle.sw_lex.specs.Packed.{AreNumbersOf, IsFormNumber, IsNumberedForm, FitNumbers, RowNumbers, GroupNumbers, groups_packed};
 ghost use Rattle.sw_lex.specs.Parts.{IsPart, belongs, part_of};
 ghost use Rattle.sw_lex.specs.declared.table.Key.{Key};
 
@@ -189,7 +190,7 @@ fn part_at(word: &[u8]) -> &'static Part
 }
 
 /// The headers that begin as this word does, and are commands, or queries.
-fn groups_at(word: &[u8], query: bool) -> &'static [Group]
+pub fn groups_at(word: &[u8], query: bool) -> &'static [Group]
     ensures whole { entries_of result.now ≡ filter (belongs (part_of (map to_ascii_uppercase word.now)) query) entries }
     ensures numbers { groups_packed result.now ≡ true }
 {
@@ -197,22 +198,34 @@ fn groups_at(word: &[u8], query: bool) -> &'static [Group]
     if query { part.queries } else { part.commands }
 }
 
-/// The command that a header is, and the number in it.
+/// The command that a header is whose words have these numbers, by the rows among which it is looked up, and the number
+/// in it.
 #[inline(always)]
-pub fn find(words: &[&[u8]], query: bool) -> Option<(Key, u8)>
+pub fn find(groups: &[Group], numbers: &[Word]) -> Option<(Key, u8)>
+    ensures some { IfSome result (λ x. (query : Bool) (ws : List (List ℕ)) → AreNumbersOf ws numbers.now
+        → entries_of groups.now ≡ filter (belongs (part_of (first_word ws)) query) entries
+        → groups_packed groups.now ≡ true → IsFound entries ws query x.0 x.1) }
+    ensures none { IfNone result ((query : Bool) (ws : List (List ℕ)) → AreNumbersOf ws numbers.now
+        → entries_of groups.now ≡ filter (belongs (part_of (first_word ws)) query) entries
+        → groups_packed groups.now ≡ true → (key : Key) (k : ℕ) → IsFound entries ws query key k → ⊥) }
+{
+    match numbers {
+        [] => None,
+        [number, others @ ..] => matching(groups, *number, others),
+    }
+}
+
+/// The command that a header of these words is, and the number in it.
+pub fn find_words(words: &[&[u8]], query: bool) -> Option<(Key, u8)>
     requires { length words.now ≤ 4 }
     ensures some { IfSome result (λ x. IsFound entries
         (map (λ w. map to_ascii_uppercase w.now) words.now) query x.0 x.1) }
     ensures none { IfNone result ((key : Key) (k : ℕ)
         → IsFound entries (map (λ w. map to_ascii_uppercase w.now) words.now) query key k → ⊥) }
 {
-    let numbers = numbers_of(words);
     match words {
         [] => None,
-        [word, ..] => match numbers.as_slice() {
-            [] => None,
-            [first, others @ ..] => matching(groups_at(word, query), *first, others),
-        },
+        [first, ..] => find(groups_at(first, query), numbers_of(words).as_slice()),
     }
 }
 

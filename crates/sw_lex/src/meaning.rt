@@ -7,8 +7,8 @@ ghost use Rattle.sw_base.specs.declared.error.ScpiError.{ScpiError as Error};
 ghost use Rattle.sw_base.specs.declared.error.ScpiError.TheVariants.{OutOfMemory};
 ghost use Rattle.sw_channel.specs.Reading.{Reads, ReadsPositions};
 ghost use Rattle.sw_lex.specs.declared.command.Command.{Command as Meant};
-ghost use Rattle.sw_lex.specs.Unit.{UnitSeen, unit_of, data_of};
-ghost use Rattle.sw_lex.specs.Meaning.{asked, path_after, Nodes, path_of, WithNone, WithList, WithString, Defines};
+ghost use Rattle.sw_lex.specs.Unit.{UnitSeen, unit_of, heading_of, data_of};
+ghost use Rattle.sw_lex.specs.Meaning.{asked, looked_up, path_after, Nodes, path_of, WithNone, WithList, WithString, Defines};
 ghost use Rattle.sw_lex.specs.Meaning.{OfMacro, WithNumber, OfNumber, OfWord, OfSwitch, DecodesCommand, IsRefusal};
 ghost use Rattle.sw_lex.specs.Meaning.{Resolves};
 ghost use Rattle.sw_lex.specs.Found.{IsIn, spellings};
@@ -18,11 +18,12 @@ ghost use Rattle.sw_lex.specs.Values.{source_meant};
 
 use crate::choice::{layer_of, of_channels, of_common, of_group, of_instrument, of_layer};
 use crate::command::Command;
-use crate::headers::find;
+use crate::headers::{find, find_words};
 use crate::owned::{body, content};
-use crate::paths::{Path, look_up, unnumbered_all};
+use crate::paths::{Path, groups_of, look_up, texts_of, unnumbered_all};
+use crate::raw_unit::RawUnit;
 use crate::table::{Key, Time, Whole};
-use crate::unit::{Element, Header, RawUnit};
+use crate::unit::{Element, Header};
 use crate::values::{
     continuous_of, macros_of, quantity, source_meant, switch_meant, time_of, whole_of,
 };
@@ -257,9 +258,20 @@ fn refusal(nodes: &[&[u8]], query: bool) -> ScpiError
     ensures { IsRefusal (map (λ w. w.now) nodes.now) query result }
 {
     let plain = unnumbered_all(nodes);
-    match find(plain.as_slice(), query) {
+    match find_words(plain.as_slice(), query) {
         None => ScpiError::UndefinedHeader,
         Some(_) => ScpiError::HeaderSuffixOutOfRange,
+    }
+}
+
+/// The refusal of a header that is none of the table below this path.
+#[inline(never)]
+fn refused(header: Header<'_>, path: &Path, query: bool) -> ScpiError
+    ensures { IsRefusal (looked_up (heading_of header.entry) (path_of path.now)) query result }
+{
+    match texts_of(header, path) {
+        None => ScpiError::UndefinedHeader,
+        Some(nodes) => refusal(nodes.as_slice(), query),
     }
 }
 
@@ -274,10 +286,10 @@ fn refusal(nodes: &[&[u8]], query: bool) -> ScpiError
 pub fn resolve(alloc: Global, unit: &RawUnit<'_>, path: &mut Path) -> Result<Command, ScpiError>
     ensures { Resolves (unit_of unit.now) (path_of path.old) result (path_of path.new) }
 {
-    match look_up(unit.header, path) {
+    match look_up(unit, path) {
         None => Err(ScpiError::UndefinedHeader),
-        Some(nodes) => match find(nodes.as_slice(), unit.query) {
-            None => Err(refusal(nodes.as_slice(), unit.query)),
+        Some(numbers) => match find(groups_of(unit, path), numbers.as_slice()) {
+            None => Err(refused(unit.header, path, unit.query)),
             Some((key, number)) => {
                 match unit.header {
                     Header::Common(_) => {}

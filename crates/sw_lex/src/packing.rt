@@ -1,11 +1,13 @@
 //! Words as numbers, so that two are compared at once.
 
-ghost use Rattle.std.specs.Prelude.{◌≡◌, ◌≤◌, length, map};
+ghost use Rattle.std.specs.Prelude.{◌≡◌, ◌≤◌, ◌++◌, ◌∷◌, [], length, map, take, drop};
 ghost use Rattle.std.specs.Char.{to_ascii_uppercase};
+ghost use Rattle.sw_base.specs.Text.{is_word, AllPass, StartsOff};
+ghost use Rattle.sw_lex.specs.Headed.{most_words, word_number};
 ghost use Rattle.sw_lex.specs.Packed.{IsNumberOf, AreNumbersOf};
 
 use arrayvec::ArrayVec;
-use sw_base::MNEMONIC_BYTES;
+use sw_base::{MNEMONIC_BYTES, is_word, words};
 
 /// A word as a number: a one, and then the word's bytes in capitals, the first the most significant. A word that is
 /// longer than each mnemonic of the table is 0.
@@ -21,7 +23,7 @@ pub struct Form {
 }
 
 /// The number of a word.
-fn number_of(word: &[u8]) -> Word
+pub fn number_of(word: &[u8]) -> Word
     ensures { IsNumberOf (map to_ascii_uppercase word.now) result }
 {
     if word.len() > MNEMONIC_BYTES {
@@ -44,4 +46,57 @@ pub fn numbers_of(words: &[&[u8]]) -> ArrayVec<Word, 4>
         numbers.push(number_of(word));
     }
     numbers
+}
+
+/// The number of the bytes at the front that may stand in a mnemonic, and how many they are.
+pub fn word_at(text: &[u8]) -> (Word, usize)
+    ensures fits { result.1 ≤ length text.now }
+    ensures pass { AllPass is_word (take result.1 text.now) }
+    ensures off { StartsOff is_word (drop result.1 text.now) }
+    ensures number { result.0 ≡ word_number (take result.1 text.now) }
+{
+    let mut n = 0;
+    let mut number: Word = 1;
+    while n < text.len() && n < MNEMONIC_BYTES && is_word(text[n]) {
+        number = number * 256 + u128::from(text[n].to_ascii_uppercase());
+        n += 1;
+    }
+    if n == MNEMONIC_BYTES && n < text.len() && is_word(text[n]) {
+        let (all, _) = words(text);
+        return (0, all.len());
+    }
+    (number, n)
+}
+
+/// How many words of a header are kept.
+const WORDS: usize = 5;
+
+/// The numbers of a header's words, of the first few.
+#[derive(Drop)]
+pub struct Words {
+    pub kept: [Word; WORDS],
+    pub count: usize,
+    ghost whole: { length kept ≡ most_words },
+    ghost few: { count ≤ most_words },
+}
+
+impl Words {
+    /// None.
+    pub fn new() -> Self {
+        Words {
+            kept: [0; WORDS],
+            count: 0,
+        }
+    }
+
+    /// Puts a number behind the others, where there is room.
+    pub fn push(&mut self, word: Word)
+        ensures { take self.new.count self.new.kept
+            ≡ take most_words (take self.old.count self.old.kept ++ word ∷ []) }
+    {
+        if self.count < WORDS {
+            self.kept[self.count] = word;
+            self.count += 1;
+        }
+    }
 }

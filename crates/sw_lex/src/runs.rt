@@ -1,12 +1,14 @@
 //! Runs of bytes that units are made of.
 
-ghost use Rattle.std.specs.Prelude.{◌≡◌, ◌==◌, ◌++◌, ◌∷◌, [], ℕ, List, IfOk, IfErr, IfSome, IfNone, length, ◌<◌};
+ghost use Rattle.std.specs.Prelude.{◌≡◌, ◌==◌, ◌++◌, ◌∷◌, [], ℕ, List, IfOk, IfErr, IfSome, IfNone, length, ◌≤◌, take, drop};
 ghost use Rattle.sw_base.specs.Text.{is_blank, is_letter, is_word, AllPass, StartsOff, Spans};
 ghost use Rattle.sw_base.specs.declared.error.ScpiError.TheVariants.{SyntaxError};
 ghost use Rattle.sw_lex.specs.Elements.{is_inner};
+ghost use Rattle.sw_lex.specs.Headed.{word_number};
 ghost use Rattle.sw_lex.specs.Unit.{is_gap, fault_at, Ends, IsMnemonic, IsName};
 
-use sw_base::{ScpiError, is_blank, is_letter, letters, words};
+use crate::packing::{Word, word_at};
+use sw_base::{ScpiError, is_blank, is_letter, letters};
 
 /// The white space and the empty units at the front, and what follows them.
 pub fn gaps(bytes: &[u8]) -> (&[u8], &[u8])
@@ -64,16 +66,17 @@ pub fn fault_at(error: ScpiError, bytes: &[u8]) -> ScpiError
     }
 }
 
-/// The mnemonic at the front, and what follows it.
-pub fn mnemonic(text: &[u8]) -> Result<(&[u8], &[u8]), ScpiError>
-    ensures ok { IfOk result (λ x. IsMnemonic x.0.now × (text.now ≡ x.0.now ++ x.1.now) × StartsOff is_word x.1.now) }
+/// The number of the mnemonic at the front, and how many bytes it has.
+pub fn mnemonic(text: &[u8]) -> Result<(Word, usize), ScpiError>
+    ensures fits { IfOk result (λ x. x.1 ≤ length text.now) }
+    ensures ok { IfOk result (λ x. IsMnemonic (take x.1 text.now) × StartsOff is_word (drop x.1 text.now)) }
+    ensures number { IfOk result (λ x. x.0 ≡ word_number (take x.1 text.now)) }
     ensures err { IfErr result (λ e. StartsOff is_letter text.now × (e ≡ fault_at SyntaxError text.now)) }
 {
     match text {
-        [first, others @ ..] => {
+        [first, ..] => {
             if is_letter(*first) {
-                let (more, _) = words(others);
-                Ok(text.split_at(more.len() + 1))
+                Ok(word_at(text))
             } else {
                 Err(fault_at(ScpiError::SyntaxError, text))
             }

@@ -9,8 +9,11 @@ ghost use Rattle.sw_lex.specs.Unit.{most_elements, UnitSeen, unit_of, heading_of
 ghost use Rattle.sw_lex.specs.Unit.{BreaksOff, Heads};
 ghost use Rattle.sw_lex.specs.Unit.{HasNoHeading, Asks, IsData, IsDataRefused, IsTail, IsTailRefused, IsUnit};
 ghost use Rattle.sw_lex.specs.Unit.{IsRefusedUnit, IsBlank, AreJoinedElements, IsLeft, IsWritten, Closes, written_of};
+ghost use Rattle.sw_lex.specs.Headed.{path_numbers, header_numbers};
 
 use crate::elements::{before, read_element};
+use crate::packing::{Words, number_of};
+use crate::raw_unit::RawUnit;
 use crate::runs::{end, fault_at, gaps, mnemonic, name};
 use sw_base::{ScpiError, blanks, strip_prefix};
 
@@ -41,9 +44,27 @@ pub enum Header<'a> {
     Path { leading: bool, nodes: &'a [u8] },
 }
 
-/// Room for the data elements of one unit. Who reads one unit after another gives the same room each time.
+/// Room for the words of a header and the data elements of one unit. Who reads one unit after another gives the same
+/// room each time.
 #[derive(Drop)]
 pub struct Elements<'a> {
+    words: Words,
+    found: Found<'a>,
+}
+
+impl Elements<'_> {
+    /// Room that nothing stands in yet.
+    pub fn new() -> Self {
+        Elements {
+            words: Words::new(),
+            found: Found::new(),
+        }
+    }
+}
+
+/// Data elements, as many as are counted.
+#[derive(Drop)]
+struct Found<'a> {
     /// What stood there before the count was set back is left in its place.
     found: [Element<'a>; ELEMENTS],
     count: usize,
@@ -51,10 +72,10 @@ pub struct Elements<'a> {
     ghost few: { count ≤ most_elements },
 }
 
-impl<'a> Elements<'a> {
-    /// Room that nothing stands in yet.
-    pub fn new() -> Self {
-        Elements {
+impl<'a> Found<'a> {
+    /// None.
+    fn new() -> Self {
+        Found {
             found: [Element::Character(&[]); ELEMENTS],
             count: 0,
         }
@@ -71,43 +92,21 @@ impl<'a> Elements<'a> {
     }
 }
 
-/// One unit of a program message.
-///
-/// Its parts are slices of the message; its data elements stand in the caller's room.
-#[derive(Clone, Copy)]
-pub struct RawUnit<'a> {
-    /// The header.
-    pub header: Header<'a>,
-    /// Whether a question mark follows the header.
-    pub query: bool,
-    /// The data elements.
-    pub elements: &'a [Element<'a>],
-    /// The unit as it is written.
-    text: &'a [u8],
-}
-
-impl<'a> RawUnit<'a> {
-    /// The unit as it is written: from the first byte of its header to the last byte of its last part, without the
-    /// white space and separators around it. Its last part is its last element, or where it has none its question mark
-    /// or header.
-    pub fn text(&self) -> &'a [u8]
-        ensures { result.now ≡ written_of self.now }
-    {
-        self.text
-    }
-}
-
 /// The mnemonics and colons at the front, and what follows them.
-fn read_path(text: &[u8]) -> Result<(&[u8], &[u8]), ScpiError>
+fn read_path<'a>(text: &'a [u8], words: &mut Words) -> Result<(&'a [u8], &'a [u8]), ScpiError>
+    requires empty { words.old.count ≡ 0 }
     ensures ok { IfOk result (λ x. IsPath x.0.now × (text.now ≡ x.0.now ++ x.1.now)) }
     ensures whole { IfOk result (λ x. StartsOff is_word x.1.now × StartsOff (λ b. b == 58) x.1.now) }
+    ensures words { IfOk result (λ x. take words.new.count words.new.kept ≡ path_numbers x.0.now) }
     ensures err { IfErr result (λ e. BreaksOff text.now e) }
 {
     let mut n = 0;
     let mut rest = text;
     'nodes: loop {
-        let (node, after) = mnemonic(rest)?;
-        n += node.len();
+        let (number, length) = mnemonic(rest)?;
+        words.push(number);
+        let (_, after) = rest.split_at(length);
+        n += length;
         match strip_prefix(after, b':') {
             Some(more) => {
                 n += 1;
@@ -119,25 +118,34 @@ fn read_path(text: &[u8]) -> Result<(&[u8], &[u8]), ScpiError>
 }
 
 /// The common header at the front of what begins with `*`, and what follows it.
-fn read_common<'a>(text: &'a [u8], more: &'a [u8]) -> Result<(Header<'a>, &'a [u8]), ScpiError>
-    requires { text.now ≡ 42 ∷ more.now }
+fn read_common<'a>(
+    text: &'a [u8],
+    more: &'a [u8],
+    words: &mut Words,
+) -> Result<(Header<'a>, &'a [u8]), ScpiError>
+    requires starred { text.now ≡ 42 ∷ more.now }
+    requires empty { words.old.count ≡ 0 }
     ensures ok { IfOk result (λ x. Heads text.now (heading_of x.0) x.1.now) }
+    ensures words { IfOk result (λ x. take words.new.count words.new.kept ≡ header_numbers x.0) }
     ensures err { IfErr result (λ e. StartsOff is_letter more.now × (e ≡ fault_at SyntaxError more.now)) }
 {
     let (letters, _) = name(more)?;
     let (all, rest) = text.split_at(letters.len() + 1);
+    words.push(number_of(all));
     Ok((Header::Common(all), rest))
 }
 
 /// The header at the front, and what follows it.
-fn read_header(text: &[u8]) -> Result<(Header<'_>, &[u8]), ScpiError>
+fn read_header<'a>(text: &'a [u8], words: &mut Words) -> Result<(Header<'a>, &'a [u8]), ScpiError>
+    requires empty { words.old.count ≡ 0 }
     ensures ok { IfOk result (λ x. Heads text.now (heading_of x.0) x.1.now) }
+    ensures words { IfOk result (λ x. take words.new.count words.new.kept ≡ header_numbers x.0) }
     ensures err { IfErr result (λ e. HasNoHeading text.now e) }
 {
     match text {
-        [b'*', more @ ..] => read_common(text, more),
+        [b'*', more @ ..] => read_common(text, more, words),
         [b':', more @ ..] => {
-            let (nodes, rest) = read_path(more)?;
+            let (nodes, rest) = read_path(more, words)?;
             Ok((
                 Header::Path {
                     leading: true,
@@ -147,7 +155,7 @@ fn read_header(text: &[u8]) -> Result<(Header<'_>, &[u8]), ScpiError>
             ))
         }
         _ => {
-            let (nodes, rest) = read_path(text)?;
+            let (nodes, rest) = read_path(text, words)?;
             Ok((
                 Header::Path {
                     leading: false,
@@ -170,10 +178,7 @@ fn query_mark(text: &[u8]) -> (bool, &[u8])
 }
 
 /// Reads the elements up to the unit's end. Returns what follows the last of them, and what follows the end.
-fn read_data<'a>(
-    text: &'a [u8],
-    found: &mut Elements<'a>,
-) -> Result<(&'a [u8], &'a [u8]), ScpiError>
+fn read_data<'a>(text: &'a [u8], found: &mut Found<'a>) -> Result<(&'a [u8], &'a [u8]), ScpiError>
     requires empty { found.old.count ≡ 0 }
     ensures ok { IfOk result (λ x. IsData text.now (data_of (take found.new.count found.new.found)) x.1.now) }
     ensures joined { IfOk result (λ x. AreJoinedElements text.now (data_of (take found.new.count found.new.found)) x.0.now) }
@@ -203,10 +208,7 @@ fn read_data<'a>(
 }
 
 /// Reads the data that follow a header. Returns what follows the unit's last part, and what follows the unit.
-fn read_tail<'a>(
-    text: &'a [u8],
-    found: &mut Elements<'a>,
-) -> Result<(&'a [u8], &'a [u8]), ScpiError>
+fn read_tail<'a>(text: &'a [u8], found: &mut Found<'a>) -> Result<(&'a [u8], &'a [u8]), ScpiError>
     requires empty { found.old.count ≡ 0 }
     ensures ok { IfOk result (λ x. IsTail text.now (data_of (take found.new.count found.new.found)) x.1.now) }
     ensures left { IfOk result (λ x. IsLeft text.now (data_of (take found.new.count found.new.found)) x.0.now) }
@@ -243,15 +245,17 @@ pub fn next_unit<'u, 'a: 'u>(
     if start.is_empty() {
         return Ok(None);
     }
-    let (header, rest) = read_header(start)?;
+    room.words.count = 0;
+    let (header, rest) = read_header(start, &mut room.words)?;
     let (query, rest) = query_mark(rest);
-    room.count = 0;
-    let (left, rest) = read_tail(rest, room)?;
+    room.found.count = 0;
+    let (left, rest) = read_tail(rest, &mut room.found)?;
     Ok(Some((
         RawUnit {
             header,
+            words: &room.words.kept[..room.words.count],
             query,
-            elements: &room.found[..room.count],
+            elements: &room.found.found[..room.found.count],
             text: before(start, left),
         },
         rest,

@@ -1,5 +1,5 @@
 use Rattle.std.proofs.Common.{◌≡◌, length, map, ◌++◌}
-use Rattle.sw_lex.specs.Meaning.{nodes_of}
+use Rattle.sw_lex.specs.Split.{nodes_of}
 use Rattle.sw_lex.proofs.paths.joined.Given as goal
 
 abbrev pub invariant-nodes : goal.invariant-nodes

@@ -1,6 +1,7 @@
 use Rattle.std.proofs.Common.{take}
 use Rattle.sw_lex.specs.Unit.{heading_of, data_of}
 use Rattle.sw_lex.proofs.Shorter.{unit_rest}
+use Rattle.sw_lex.proofs.Headed.{heading_bytes, heading_begins}
 use Rattle.sw_lex.proofs.Written.{start_leaves}
 use Rattle.sw_lex.proofs.unit.next_unit.Goals as goal
 
@@ -25,3 +26,10 @@ returns-clause-shorter c =
 pub before-requires : goal.before-requires
 before-requires c =
     start_leaves _ _ _ _ _ _ _ c.in_ok-header.ensures.ok c.query_mark-query.ensures c.in_ok-left.ensures.left
+
+pub invariant_of-result : goal.invariant_of-result
+invariant_of-result c = record {
+  numbers = c.in_ok-header.ensures.words;
+  bytes = heading_bytes c.in_ok-header.header c.in_ok-header.ensures.ok.form;
+  begins = heading_begins c.in_ok-header.header c.in_ok-header.ensures.ok.form;
+}

@@ -1,6 +1,7 @@
 use Rattle.std.proofs.Common.{◌≡◌, length, ◌++◌}
 use Rattle.sw_lex.specs.Unit.{path}
-use Rattle.sw_lex.specs.Meaning.{path_of, nodes_of, looked_up}
+use Rattle.sw_lex.specs.Meaning.{path_of, looked_up}
+use Rattle.sw_lex.specs.Split.{nodes_of}
 use Rattle.sw_lex.proofs.paths.Path.enter.Given as goal
 
 abbrev pub invariant-nodes : goal.invariant-nodes
