@@ -1,18 +1,19 @@
 -- The cards themselves, where calls are made on some of them.
 use Rattle.std.proofs.Common.{◌≡◌, ℕ, ◌+◌, ◌-◌, ◌<◌, ◌++◌, Bool, true, false, [], ◌∷◌, length, take, drop, map, Option, None, Some, slice_index_or, slice_set}
-use Rattle.std.proofs.Common.{refl, sym, ◌∙◌, ap, subst, ◌⊎◌, inr, if◌then◌else◌, List, suc, arith, replicate, is_some, ◌≤◌, Result, Ok, Err, OnOk, IfOk}
+use Rattle.std.proofs.Common.{refl, sym, ◌∙◌, ap, subst, ◌⊎◌, inr, if◌then◌else◌, ◌≢◌, List, suc, arith, replicate, is_some, ◌≤◌, Result, Ok, Err, OnOk, IfOk}
 use Rattle.std.proofs.lemmas.List.{get_or_default, length-map, map-set}
 use Rattle.std.proofs.Math.Seq.{map-set_same, take-append_seam}
 use Rattle.std.proofs.lemmas.Grind.{common_steps}
 use Rattle.sw_base.specs.Limits.{most_slots}
-use Rattle.sw_base.specs.Layout.{SlotContents, meter, relays, slot_at, contents_are_meter, contents_have}
+use Rattle.sw_base.specs.Layout.{Channel, SlotContents, meter, relays, slot_at, contents_are_meter, contents_have}
 use Rattle.sw_card.specs.Account.{Account, is_meter, closed_at, none_closed, at_rest, IsFault}
 use Rattle.sw_cage.specs.Accounts.{accounts_of, AreSafe, option_account, slot_contents, card_contents, option_set, IsSlotFault}
 use Rattle.sw_cage.specs.Cage.{CageSeen}
-use Rattle.sw_cage.specs.Cards.{Cards, CageState, meter_only, meters_of, job_card, KeepsMeters}
+use Rattle.sw_cage.specs.Cards.{Cards, CageState, KeepsOthers, meter_only, meters_of, job_card, KeepsMeters}
 use Rattle.sw_cage.specs.declared.taken.Taken.{Taken}
 use Rattle.sw_cage.specs.declared.taken.Taken.TheVariants.{Ignored, Waits, Pause, Job, Ended, Fault}
-use Rattle.sw_cage.proofs.SlotChangeLemmas.{slot_map, slot_get, slot_set_same, some_slot}
+use Rattle.sw_cage.proofs.SlotChangeLemmas.{slot_map, slot_get, slot_set_same, slot_set_other, some_slot}
+use Rattle.sw_cage.proofs.ChannelCallLemmas.{in_at}
 use Rattle.sw_cage.proofs.MoveLemmas.{not_meter}
 
 pub seen_is : {C : Type 0} {p q : CageState C} → p ≡ q → p.seen ≡ q.seen
@@ -135,6 +136,16 @@ others_are items value s slot v same size e p h =
 pub meters_set : {C : Type 0} (items : Cards C) (i : ℕ) (x v : Option (C × Account)) → i < length items → x ≡ slice_index_or items i x
     → meter_only v ≡ meter_only x → meters_of (slice_set items i v) ≡ meters_of items
 meters_set items i x v h is e = map-set_same meter_only items i v None (e ∙ ap meter_only (is ∙ sym (get_or_default items i None x h)))
+
+-- no other slot was written
+pub elsewhere_is : {C : Type 0} (items value : Cards C) (s slot : ℕ) (v : Option (C × Account)) → items ≡ value → s ≡ slot → 1 ≤ s → (t : ℕ) → slot ≢ t
+    → slot_at (slice_set items (s - 1) v) t ≡ slot_at value t
+elsewhere_is items value s slot v same e p t n = slot_set_other items s t v (omega (arith, p)) (λ k. n (sym e ∙ sym k)) ∙ ap (λ l. slot_at l t) same
+
+-- one channel of the list more
+pub keeps_next : {C : Type 0} (old now new : Cards C) (chans : List Channel) (i : ℕ) (c : Channel) → i < length chans → c ≡ slice_index_or chans i c
+    → KeepsOthers old chans now → ((slot : ℕ) → c.0 ≢ slot → slot_at new slot ≡ slot_at now slot) → KeepsOthers old chans new
+keeps_next old now new chans i c h e k w slot far = w slot (far c (in_at chans i c c h e)) ∙ k slot far
 
 -- a slot's card went on to another state, or a meter stayed
 pub meters_written : {C : Type 0} (items value : Cards C) (s : ℕ) (x v : Option (C × Account)) → items ≡ value → length (accounts_of items) ≡ most_slots

@@ -1,8 +1,9 @@
 -- The cards themselves, by slot, and which of them are the very ones that were there.
-use Rattle.std.specs.Prelude.{◌≡◌, ◌-◌, List, Option, None, Some, map, slice_set, ◌⊎◌, if◌then◌else◌}
+use Rattle.std.specs.Prelude.{◌≡◌, ◌≢◌, ℕ, ◌-◌, true, List, Option, None, Some, map, slice_set, ◌⊎◌, if◌then◌else◌}
 use Rattle.std.proofs.Common.{inr}
-use Rattle.sw_base.specs.Layout.{slot_at}
+use Rattle.sw_base.specs.Layout.{Channel, slot_at}
 use Rattle.sw_card.specs.Account.{Account, is_meter, of_meter}
+use Rattle.sw_verify.specs.Channels.{is_among}
 use Rattle.sw_cage.specs.Cage.{CageSeen}
 use Rattle.sw_cage.specs.Work.{JobSeen, FinishedSeen}
 use Rattle.sw_cage.specs.declared.taken.Taken.{Taken}
@@ -25,6 +26,11 @@ meter_only (Some card) = if is_meter card.1 then Some card else None
 -- by slot the meters themselves
 abbrev pub meters_of : {C : Type 0} → Cards C → Cards C
 meters_of cards = map meter_only cards
+
+-- each slot that no channel of the list is in holds the very card that it held
+abbrev pub KeepsOthers : {C : Type 0} → Cards C → List Channel → Cards C → Type 0
+KeepsOthers old chans new = (slot : ℕ) → ((c : Channel) → is_among chans c ≡ true → c.0 ≢ slot)
+    → slot_at new slot ≡ slot_at old slot
 
 -- the meter of a job as one of the cards
 abbrev pub job_card : {R M : Type 0} → M × JobSeen → (R ⊎ M) × Account

@@ -8,7 +8,7 @@ ghost use Rattle.sw_base.specs.Layout.{Channel, slot_at, is_present, IsClash, Is
 ghost use Rattle.sw_card.specs.Account.{closed_at, is_meter};
 ghost use Rattle.sw_cage.specs.Accounts.{accounts_of, layout_of, is_closed, with_chan, option_rest, all_open};
 ghost use Rattle.sw_cage.specs.Accounts.{IsChannelFault};
-ghost use Rattle.sw_cage.specs.Cards.{meters_of, with_card_back, KeepsMeters};
+ghost use Rattle.sw_cage.specs.Cards.{KeepsOthers, meters_of, with_card_back, KeepsMeters};
 ghost use Rattle.sw_cage.specs.Change.{Sets, IsDisturbed, any_failed};
 ghost use Rattle.sw_cage.specs.Install.{CanInstall, RefusesInstall, RefusesEject, stopped, without_card};
 ghost use Rattle.sw_cage.specs.Close.{all_present, CanClose, RefusesClose};
@@ -258,6 +258,7 @@ impl<R: Relay, M: Meter> Cage<R, M> {
         ensures ok { OnOk result (Sets self.old.seen.cards chans.now true self.new.seen.cards) }
         ensures err { OnErr result (IsDisturbed self.old.seen.cards chans.now self.new.seen.cards) }
         ensures rest { self.new.seen ≡ cage_with_cards self.old.seen self.new.seen.cards }
+        ensures others { KeepsOthers self.old.cards chans.now self.new.cards }
         ensures meters { meters_of self.new.cards ≡ meters_of self.old.cards }
     {
         self.slots.close_listed(chans)
@@ -269,6 +270,7 @@ impl<R: Relay, M: Meter> Cage<R, M> {
         ensures ok { OnOk result (Sets self.old.seen.cards chans.now false self.new.seen.cards) }
         ensures err { OnErr result (IsDisturbed self.old.seen.cards chans.now self.new.seen.cards) }
         ensures rest { self.new.seen ≡ cage_with_cards self.old.seen self.new.seen.cards }
+        ensures others { KeepsOthers self.old.cards chans.now self.new.cards }
         ensures meters { meters_of self.new.cards ≡ meters_of self.old.cards }
     {
         self.slots.open_listed(chans)

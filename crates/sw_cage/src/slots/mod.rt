@@ -2,7 +2,7 @@
 
 ghost use Rattle.std.specs.Prelude.{◌≡◌, ℕ, ◌+◌, ◌-◌, ◌≤◌, ◌<◌, ◌++◌, ◌∷◌, [], length, take, replicate, slice_set};
 ghost use Rattle.std.specs.Prelude.{true, false, None, Some, is_some, OnOk, OnErr, IfOk, IfErr, IfSome, IfNone};
-ghost use Rattle.std.specs.Prelude.{◌↔◌, IsTrue};
+ghost use Rattle.std.specs.Prelude.{◌↔◌, ◌≢◌, IsTrue};
 ghost use Rattle.std.specs.List.{filter};
 ghost use Rattle.std.proofs.Common.{inr};
 ghost use Rattle.sw_base.specs.Limits.{most_slots, most_channels};
@@ -10,7 +10,7 @@ ghost use Rattle.sw_base.specs.Layout.{Channel, slot_at, is_present, group_of, I
 ghost use Rattle.sw_card.specs.Account.{closed_at, is_meter, of_meter};
 ghost use Rattle.sw_cage.specs.Accounts.{accounts_of, layout_of, is_closed, AreSafe, with_chan, option_rest};
 ghost use Rattle.sw_cage.specs.Accounts.{all_open, IsChannelFault};
-ghost use Rattle.sw_cage.specs.Cards.{meters_of};
+ghost use Rattle.sw_cage.specs.Cards.{KeepsOthers, meters_of};
 ghost use Rattle.sw_cage.specs.Change.{Sets, IsDisturbed};
 ghost use Rattle.sw_cage.specs.Install.{CanInstall, SlotsRefuseInstall, SlotsRefuseEject};
 ghost use Rattle.sw_cage.specs.Close.{closed_with, HasClash, all_present, CanClose, RefusesClose};
@@ -135,6 +135,7 @@ impl<R: Relay, M: Meter> Slots<R, M> {
             (with_chan (accounts_of self.old) chan true) (accounts_of self.new)) }
         ensures disturbed { OnErr result (IsDisturbed (accounts_of self.old) (chan ∷ []) (accounts_of self.new)) }
         ensures others { self.new ≡ slice_set self.old (chan.0 - 1) (slot_at self.new chan.0) }
+        ensures elsewhere { (slot : ℕ) → chan.0 ≢ slot → slot_at self.new slot ≡ slot_at self.old slot }
         ensures meters { meters_of self.new ≡ meters_of self.old }
     {
         let group = self.group(chan);
@@ -157,6 +158,7 @@ impl<R: Relay, M: Meter> Slots<R, M> {
             (IsChannelFault (accounts_of self.old) chan (accounts_of self.old) (accounts_of self.new)) }
         ensures disturbed { OnErr result (IsDisturbed (accounts_of self.old) (chan ∷ []) (accounts_of self.new)) }
         ensures others { self.new ≡ slice_set self.old (chan.0 - 1) (slot_at self.new chan.0) }
+        ensures elsewhere { (slot : ℕ) → chan.0 ≢ slot → slot_at self.new slot ≡ slot_at self.old slot }
         ensures meters { meters_of self.new ≡ meters_of self.old }
     {
         let group = self.group(chan);
@@ -215,6 +217,7 @@ impl<R: Relay, M: Meter> Slots<R, M> {
         requires { CanClose (layout_of (accounts_of self.old)) (is_closed (accounts_of self.old)) chans.now }
         ensures ok { OnOk result (Sets (accounts_of self.old) chans.now true (accounts_of self.new)) }
         ensures err { OnErr result (IsDisturbed (accounts_of self.old) chans.now (accounts_of self.new)) }
+        ensures others { KeepsOthers self.old chans.now self.new }
         ensures meters { meters_of self.new ≡ meters_of self.old }
     {
         for chan in chans {
@@ -229,6 +232,7 @@ impl<R: Relay, M: Meter> Slots<R, M> {
     pub(crate) fn open_listed(&mut self, chans: &[Chan]) -> Result<(), CardFault>
         ensures ok { OnOk result (Sets (accounts_of self.old) chans.now false (accounts_of self.new)) }
         ensures err { OnErr result (IsDisturbed (accounts_of self.old) chans.now (accounts_of self.new)) }
+        ensures others { KeepsOthers self.old chans.now self.new }
         ensures meters { meters_of self.new ≡ meters_of self.old }
     {
         for chan in chans {

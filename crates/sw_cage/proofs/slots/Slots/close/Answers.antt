@@ -3,7 +3,7 @@ use Rattle.sw_cage.specs.Accounts.{OptionWellFormed, accounts_of, is_closed, wit
 use Rattle.sw_cage.specs.Claims.{AreClaimed, closed_claim}
 use Rattle.sw_cage.proofs.OneSlotLemmas.{read, close_item}
 use Rattle.sw_cage.proofs.ClaimedLemmas.{ok_is, err_is, claimed_seen, slots_set, claimed_closing, claimed_unclosed}
-use Rattle.sw_cage.proofs.CardLemmas.{others_are, meters_written}
+use Rattle.sw_cage.proofs.CardLemmas.{others_are, elsewhere_is, meters_written}
 use Rattle.sw_cage.proofs.slots.Slots.close.Goals as goal
 
 pub close_in-requires-clause-formed : goal.close_in-requires-clause-formed
@@ -72,3 +72,11 @@ returns-in-Err-clause-meters g c = meters_written c.self.inside.slots.items c.ar
 pub returns-in-Err-clause-others : goal.returns-in-Err-clause-others
 returns-in-Err-clause-others g c = others_are c.self.inside.slots.items c.args.self.now c.slot.result c.args.chan.0 c.close_in.new.slot c.self.view_is
     c.self.invariant.safe.size c.slot.ensures.value c.slot.ensures.range.0 c.slot.ensures.range.1
+
+pub returns-in-Ok-clause-elsewhere : goal.returns-in-Ok-clause-elsewhere
+returns-in-Ok-clause-elsewhere g c slot far = elsewhere_is c.self.inside.slots.items c.args.self.now c.slot.result c.args.chan.0 c.close_in.new.slot
+    c.self.view_is c.slot.ensures.value c.slot.ensures.range.0 slot far
+
+pub returns-in-Err-clause-elsewhere : goal.returns-in-Err-clause-elsewhere
+returns-in-Err-clause-elsewhere g c slot far = elsewhere_is c.self.inside.slots.items c.args.self.now c.slot.result c.args.chan.0 c.close_in.new.slot
+    c.self.view_is c.slot.ensures.value c.slot.ensures.range.0 slot far
