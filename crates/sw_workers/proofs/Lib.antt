@@ -11,6 +11,7 @@ mod Carries
 mod AtDesks
 mod Notes
 mod Worked
+mod HistoryRuns
 mod Ejected
 mod Asked
 mod Serving

@@ -3,8 +3,8 @@ use Rattle.std.proofs.Common.{◌≡◌, ℕ, ◌<◌, ◌^◌, Bool, true, fals
 use Rattle.std.specs.Option.{unwrap_or}
 use mathlib.Core.List.{IsPrefix}
 use Rattle.sw_core.specs.Panel.{Panel}
-use Rattle.sw_core.specs.Good.{IsGoodPanel}
-use Rattle.sw_core.specs.Run.{IsNextEvent}
+use Rattle.sw_core.specs.Opening.{IsReached, RunsGoOn}
+use Rattle.sw_core.specs.Run.{Event, IsNextEvent}
 use Rattle.sw_core.specs.Seen.{AskSeen, AnswerSeen}
 use Rattle.sw_workers.specs.Board.{Known, Said, entry_of}
 use Rattle.sw_workers.specs.Entries.{HistoryEntry, made_by}
@@ -12,9 +12,10 @@ use Rattle.sw_workers.specs.History.{IsEntry, IsHistory, event, said_at, Entered
 use Rattle.sw_workers.specs.Shares.{is_event}
 use Rattle.sw_workers.proofs.Histories.{history_more}
 
--- a good mainframe's service requests fit into the word
-pub good_fits : (q : Panel) (n : ℕ) → IsGoodPanel q → n ≡ q.status.requests → n < 2 ^ 56
-good_fits q n g e = subst (λ (m : ℕ). m < 2 ^ 56) (sym e) g.status.requests
+-- after an event of a mainframe that is reached its service requests fit into the word
+pub next_fits : RunsGoOn → (p : Panel) (e : Event) (n : ℕ) → IsReached p → IsNextEvent p e → n ≡ e.panel.status.requests → n < 2 ^ 56
+next_fits law p e n reached next is =
+    subst (λ (m : ℕ). m < 2 ^ 56) (sym is) (law.good e.panel (law.next p e reached next)).status.requests
 
 -- the event leads from p to q
 pub record Leads (p : Panel) (ask : AskSeen) (answer : AnswerSeen) (q : Panel) : Type 0 where

@@ -1,10 +1,16 @@
--- What is so of every ask that a desk makes.
-use Rattle.std.specs.Prelude.{◌≡◌, ◌+◌, ◌==◌, ℕ, true, false, not, List, [], ◌∷◌, ◌++◌}
+-- What is so of every ask that a desk makes, and of every history.
+use Rattle.std.specs.Prelude.{◌≡◌, ◌+◌, ◌==◌, ℕ, true, false, not, List, [], ◌∷◌, ◌++◌, map}
+use Rattle.sw_verify.specs.declared.snapshot.Snapshot.{Snapshot}
+use Rattle.sw_core.specs.Ends.{last_of, BeginsScan, ScanEnds}
+use Rattle.sw_core.specs.Opening.{IsFresh, IsReached}
 use Rattle.sw_core.specs.Panel.{Panel}
+use Rattle.sw_core.specs.Run.{Event, IsRun, AtEach, IsGoodEvent}
 use Rattle.sw_core.specs.Event.{last_number}
 use Rattle.sw_core.specs.Seen.{AskSeen, AnswerSeen}
+use Rattle.sw_workers.specs.Board.{Said}
 use Rattle.sw_workers.specs.Entries.{HistoryEntry}
 use Rattle.sw_workers.specs.Held.{AtDesk}
+use Rattle.sw_workers.specs.History.{IsHistory, said_at}
 use Rattle.sw_workers.specs.Shares.{is_event, one_if}
 use Rattle.sw_workers.specs.Work.{AsksOnce}
 
@@ -29,3 +35,28 @@ pub record EachEventIsCounted : Type 0 where
       → AsksOnce start ask answer old new → is_event answer ≡ true → IsCounted start ask answer old new
   pub others : (start : Panel) (ask : AskSeen) (answer : AnswerSeen) (old new : AtDesk)
       → AsksOnce start ask answer old new → is_event answer ≡ false → new.amount ≡ old.amount
+
+-- what an entry says, whosever it is, and what there is to say of an event
+abbrev pub said_of : HistoryEntry → Said
+said_of e = record { number = e.number; ask = e.ask; answer = e.answer; pair = e.pair }
+
+abbrev pub said_by : Event → Said
+said_by e = said_at e.panel e.ask e.answer
+
+-- The history is a run from the panel that it began at: one event for each entry, with its ask and its answer, and with
+-- the number and the pair that it tells. Each of them leaves the mainframe good, and does what else is so of every event;
+-- and each scan that begins in one of them does what its plan says, and ends.
+pub record IsRunFrom (start : Panel) (entries : List HistoryEntry) (panel : Panel) : Type 0 where
+  pub events : List Event
+  pub told : map said_of entries ≡ map said_by events
+  pub run : IsRun start events
+  pub there : panel ≡ last_of start events
+  pub reached : IsReached panel
+  pub good : AtEach IsGoodEvent start events
+  pub scans : (before after : List Event) (begin : Event) (plan : Snapshot)
+      → events ≡ before ++ begin ∷ after → BeginsScan plan begin → ScanEnds plan begin
+
+-- Every history of a mainframe that opened fresh is a run.
+abbrev pub EveryHistoryIsARun : Type 0
+EveryHistoryIsARun = (start : Panel) (entries : List HistoryEntry) (panel : Panel)
+    → IsFresh start → IsHistory start entries panel → IsRunFrom start entries panel

@@ -18,7 +18,7 @@ use std::sync::{Arc, Wait};
 use std::time::Clock;
 use sw_base::SLOTS;
 use sw_card::{Card, Meter, Relay};
-use sw_core::{Answer, Ask, mainframe_stays_good};
+use sw_core::{Answer, Ask, runs_go_on};
 
 /// A mainframe that was closed down.
 #[derive(Drop)]
@@ -66,16 +66,26 @@ pub fn take_cards<H: House, R: Relay, M: Meter>(
     part: &mut DeskPart<H>,
     room: Vec<Option<Card<R, M>>>,
 ) -> Vec<Option<Card<R, M>>>
-    requires good { IsGoodPanel held.old.panel }
     requires room { (room.items ≡ []) × (most_slots ≤ vec_capacity room) }
     ensures { accounts_of result.items ≡ all_open held.old.panel.cage.cards }
 {
     let mut cards = room;
+    runs_go_on();
+    is_good(&*held);
     for before in 0..SLOTS {
         let card = take_out(held, part, before + 1);
+        held.has_history();
         cards.push(card).unwrap();
     }
     cards
+}
+
+/// What is behind the lock is good.
+fn is_good<H: House, R: Relay, M: Meter>(held: &Held<H, R, M>)
+    ensures { IsGoodPanel held.now.panel }
+{
+    runs_go_on();
+    held.has_history();
 }
 
 /// Takes a card out of its slot, with nothing closed. There is none where the slot is empty, as it is while its card
@@ -85,14 +95,13 @@ fn take_out<H: House, R: Relay, M: Meter>(
     part: &mut DeskPart<H>,
     slot: u8,
 ) -> Option<Card<R, M>>
-    requires good { IsGoodPanel held.old.panel }
-    requires slot { 1 ≤ slot }
-    ensures good { IsGoodPanel held.new.panel }
+    requires { 1 ≤ slot }
     ensures card { option_account result ≡ slot_at (all_open held.old.panel.cage.cards) slot }
     ensures others { all_open held.new.panel.cage.cards
         ≡ slice_set (all_open held.old.panel.cage.cards) (slot - 1) None }
 {
-    mainframe_stays_good();
+    runs_go_on();
+    held.has_history();
     match held.ask(part, Ask::Eject(slot)) {
         Answer::Ejected(card) => Some(card),
         _ => None,

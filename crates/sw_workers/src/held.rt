@@ -3,7 +3,7 @@
 
 ghost use Rattle.std.specs.Prelude.{◌≡◌, ◌+◌, ◌↔◌, ℕ, [], IfOk, IfSome, IfNone, Some, true};
 ghost use mathlib.Core.List.{IsPrefix};
-ghost use Rattle.sw_core.specs.Good.{IsGoodPanel};
+ghost use Rattle.sw_core.specs.Opening.{IsFresh, IsReached};
 ghost use Rattle.sw_core.specs.Seen.{ask_seen, answer_seen, failed_in, HandsBack};
 ghost use Rattle.sw_core.specs.Step.{Step};
 ghost use Rattle.sw_workers.specs.Board.{entry_of, reader};
@@ -239,10 +239,12 @@ impl<H: House, R: Relay, M: Meter> Held<H, R, M> {
         self.core.events()
     }
 
-    /// What is so whenever it is seen: its history leads from the opening panel to this one, which is good.
+    /// What is so whenever it is seen: its history leads from the opening panel, which was fresh, to this one, which is
+    /// reached.
     pub fn has_history(&self)
         ensures leads { IsHistory H.first self.now.history self.now.panel }
-        ensures good { IsGoodPanel self.now.panel }
+        ensures reached { IsReached self.now.panel }
+        ensures fresh { IsFresh H.first }
     {
         self.core.has_history();
     }

@@ -4,8 +4,9 @@
 //! notes of the last 64. The crate's contract is that of `Held::ask`: the core's answer and panel exactly, by `Step`;
 //! one more entry of the desk in the history where that was an event (`AsksInHistory`), else none; one more in its
 //! share where the event has a number; and its note. The history leads from the opening panel to the present one,
-//! event by event. Whenever it is seen, the number of events is the opening one and the sum of all shares
-//! (`Held::number`).
+//! event by event; and the mainframe opened fresh, so the history is a run of the core, of which every law over runs
+//! holds (`every_history_is_a_run`). Whenever it is seen, the number of events is the opening one and the sum of all
+//! shares (`Held::number`).
 //!
 //! The status board is one word that tells the pair at the end of that history: status byte and number of service
 //! requests. A `StatusSeat` reads it without a lock (`StatusSeat::read`), and has seen a beginning of the history.
@@ -15,9 +16,9 @@
 //! status that it reads is that at some place of the history, not before any that it had seen. Its share counts the
 //! event of each ask, and those of the work that it carried out because it couldn't be sent; none of its work is
 //! dropped, and a pause that it carries out is waited out (`SeesToWork`). What is held of a session's asks is held on
-//! after any ask that takes no other turn (`Held::act`), by which those who wait are woken. Workers give their desks back when they end, and `close_down`, which is handed every
-//! desk, tells the number of events and gives the cards by slot, each as it stood there at the end of the history, but
-//! with nothing closed.
+//! after any ask that takes no other turn (`Held::act`), by which those who wait are woken. Workers give their desks
+//! back when they end, and `close_down`, which is handed every desk, tells the number of events and gives the cards by
+//! slot, each as it stood there at the end of the history, but with nothing closed.
 //!
 //! `run_session` serves one connection of a HiSLIP session by such a desk, as the channel that its first header tells:
 //! what is asked and written for what is read is what `serve_sync` and `serve_async` promise (`RunsSession`). What the
@@ -54,22 +55,20 @@ mod watched;
 mod workers;
 
 pub use ahead::ReadAhead;
-pub use board::{BlankBoard, BoardName, StatusBoard, Telling};
+pub use board::{BlankBoard, BoardName, StatusBoard};
 pub use closing::{Closed, close_down};
 pub use connection::{Connection, Tcp, Wired};
 pub use desk::SharedDesk;
 pub use gate::{Gate, Open, Point};
-pub use held::{DeskPart, Held, House, Lasting};
-pub use laws::{each_event_is_counted, whoever_may_go_on_is_woken};
+pub use held::{DeskPart, Held, House};
+pub use laws::{each_event_is_counted, every_history_is_a_run, whoever_may_go_on_is_woken};
 pub use line::Line;
 pub use note::{AskKind, Note};
 pub use pauses::Pause;
-pub use posts::{Carrier, Posted};
+pub use posts::Posted;
 pub use recorded::{Recorded, Recording};
 pub use seat::{LockedPass, StatusSeat};
-pub use session::{Ended, run_session, run_session_for};
+pub use session::{Ended, run_session};
 pub use shared::{Opening, Shared};
-pub use sides::Outbox;
 pub use slots::SeatSlots;
-pub use telling::{Happened, is_event, tell_event};
 pub use workers::{run_card_worker, run_timer_worker};

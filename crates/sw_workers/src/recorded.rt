@@ -3,7 +3,7 @@
 ghost use Rattle.std.specs.Prelude.{◌≡◌, ◌<◌, ◌^◌, ◌↔◌, ℕ, [], ◌∷◌, ◌++◌, Some, true};
 ghost use mathlib.Core.List.{IsPrefix};
 ghost use Rattle.sw_status.specs.StatusModel.{summary_of};
-ghost use Rattle.sw_core.specs.Good.{IsGoodPanel, StaysGood};
+ghost use Rattle.sw_core.specs.Opening.{IsFresh, IsReached};
 ghost use Rattle.sw_core.specs.Panel.{Panel};
 ghost use Rattle.sw_core.specs.Step.{Step};
 ghost use Rattle.sw_core.specs.Seen.{ask_seen, answer_seen, failed_in, HandsBack, IsOwnAccount};
@@ -21,7 +21,7 @@ use std::marker::{Brand, Model};
 use std::snapshot::Snapshot;
 use std::sync::Arc;
 use sw_card::{Meter, Relay};
-use sw_core::{Answer, Ask, Core, SessionAsk, Sid, mainframe_stays_good};
+use sw_core::{Answer, Ask, Core, SessionAsk, Sid, runs_go_on};
 use sw_lex::Command;
 
 /// Which mainframe it is: its board, and the panel that it opened with.
@@ -37,8 +37,8 @@ impl Recording for Brand {
 
 /// A mainframe and its history. Contracts see its panel, and all its events.
 ///
-/// Whenever it is seen, the history leads from the opening panel to this one, and its last pair is this panel's; and
-/// the mainframe is good.
+/// Whenever it is seen, the history leads from the opening panel to this one, and its last pair is this panel's. The
+/// mainframe opened fresh, so this panel is reached by a run from the opening state.
 #[derive(Drop)]
 pub struct Recorded<B: Recording, R: Relay, M: Meter> {
     core: Core<R, M>,
@@ -48,24 +48,26 @@ pub struct Recorded<B: Recording, R: Relay, M: Meter> {
 
 impl<B: Recording, R: Relay, M: Meter> Model for Recorded<B, R, M> {
     ghost use Rattle.std.specs.Prelude.{◌≡◌};
-    ghost use Rattle.sw_core.specs.Good.{IsGoodPanel};
+    ghost use Rattle.sw_core.specs.Opening.{IsFresh, IsReached};
     ghost use Rattle.sw_workers.specs.History.{InHistory, IsHistory, pair_of};
 
     ghost Value = { InHistory };
 
     ghost view = { λ r. record { panel = r.core; history = r.pass } };
 
-    ghost invariant = { λ r. IsHistory B.first r.pass r.core × IsGoodPanel r.core × (B.opening ≡ pair_of B.first) };
+    ghost invariant = { λ r. IsHistory B.first r.pass r.core × IsReached r.core × IsFresh B.first
+        × (B.opening ≡ pair_of B.first) };
 }
 
 impl<B: Recording, R: Relay, M: Meter> Recorded<B, R, M> {
-    /// A mainframe with no event yet.
+    /// A mainframe with no event yet, which was just made and offered cards.
     pub fn new(core: Core<R, M>, pass: LockedPass<B>, board: Arc<StatusBoard<B>, Global>) -> Self
         requires first { (core ≡ B.first) × (B.opening ≡ pair_of B.first) }
-        requires good { IsGoodPanel core }
+        requires fresh { IsFresh core }
         requires none { pass ≡ [] }
         ensures { result ≡ record { panel = core; history = [] } }
     {
+        runs_go_on();
         Recorded { core, pass, board }
     }
 
@@ -80,7 +82,6 @@ impl<B: Recording, R: Relay, M: Meter> Recorded<B, R, M> {
 
     /// Asks the mainframe. An event is published and stands in the history as one more entry of the desk; what is no
     /// event changes nothing. The desk has then seen the whole history.
-    #[tactic(auto, using(crate::proofs::Recordings::good_fits))]
     pub fn ask(&mut self, alloc: Global, desk: &mut StatusSeat<B>, ask: Ask<R, M>) -> Answer<R, M>
         requires desk { (d : ℕ) × (desk.old.desk ≡ Some d) }
         ensures step { Step self.old.panel (ask_seen ask)
@@ -94,7 +95,7 @@ impl<B: Recording, R: Relay, M: Meter> Recorded<B, R, M> {
         ensures grown { self.new.history ≡ grown (is_event (answer_seen result)) self.old.history
             (entry_of desk.old (said_at self.new.panel (ask_seen ask) (answer_seen result))) }
     {
-        mainframe_stays_good();
+        runs_go_on();
         let Recorded { core, pass, board } = self;
         let asked = Snapshot::of(&ask);
         let answer = core.apply(alloc, ask);
@@ -121,10 +122,12 @@ impl<B: Recording, R: Relay, M: Meter> Recorded<B, R, M> {
         self.core.holds(&query)
     }
 
-    /// What is so whenever it is seen: its history leads from the opening panel to this one, which is good.
+    /// What is so whenever it is seen: its history leads from the opening panel, which was fresh, to this one, which is
+    /// reached.
     pub fn has_history(&self)
         ensures leads { IsHistory B.first self.now.history self.now.panel }
-        ensures good { IsGoodPanel self.now.panel }
+        ensures reached { IsReached self.now.panel }
+        ensures fresh { IsFresh B.first }
     {
         let _ = &self.core;
     }

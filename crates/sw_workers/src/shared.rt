@@ -4,7 +4,7 @@ ghost use Rattle.std.specs.Prelude.{◌≡◌, ◌+◌, ◌≤◌, [], IfOk, IfS
 ghost use Rattle.std.specs.Vec.{vec_capacity};
 ghost use Rattle.sw_base.specs.Limits.{most_slots};
 ghost use Rattle.sw_cage.specs.Accounts.{accounts_of};
-ghost use Rattle.sw_core.specs.Good.{IsGoodPanel};
+ghost use Rattle.sw_core.specs.Opening.{IsFresh};
 ghost use Rattle.sw_core.specs.Seen.{ask_seen, answer_seen};
 ghost use Rattle.sw_session.specs.CoreDesk.{piece_seen};
 ghost use Rattle.sw_workers.specs.Closing.{IsClosedDown};
@@ -28,13 +28,13 @@ use std::sync::ledger::{Blank, Share};
 use std::sync::{Arc, Condvar, Mutex, Wait};
 use std::time::{Clock, Duration};
 use sw_card::{Card, Meter, Relay};
-use sw_core::{Answer, Ask, Core, Sid, Work};
+use sw_core::{Answer, Ask, Core, Sid, Work, runs_go_on};
 use sw_session::{Available, Seating, View, seating_of};
 
 /// The parts of a ledger.
 const PARTS: u64 = (1 << 33) + 1;
 
-/// A mainframe with a ledger and a board that have no name yet.
+/// A mainframe that was just made and offered cards, with a ledger and a board that have no name yet.
 pub struct Opening<R: Relay, M: Meter> {
     /// The mainframe.
     pub core: Core<R, M>,
@@ -48,11 +48,11 @@ pub struct Opening<R: Relay, M: Meter> {
 
 impl<R: Relay, M: Meter> Opening<R, M> {
     /// A mainframe with a new ledger and a new board.
-    #[tactic(auto, using(crate::proofs::Recordings::good_fits))]
     pub fn new(alloc: Global, core: Core<R, M>) -> Result<Self, AllocError>
-        requires { IsGoodPanel core }
+        requires { IsFresh core }
         ensures { IfOk result (λ opening. opening.core ≡ core) }
     {
+        runs_go_on();
         let board = BlankBoard::new(alloc, core.pair())?;
         let blank = Blank::new(PARTS);
         Ok(Opening { core, blank, board })
@@ -113,7 +113,7 @@ impl<H: House, R: Relay, M: Meter, G: Gate + Drop> Shared<H, R, M, G> {
         gate: G,
     ) -> Result<(Self, Posted<M>), AllocError>
         requires first { opening.core ≡ H.first }
-        requires good { IsGoodPanel opening.core }
+        requires fresh { IsFresh opening.core }
         requires ledger { (opening.blank.name ≡ H.name) × (opening.blank.parts ≡ H.parts) }
         requires board { (opening.board.table.shared.table_id ≡ H.table)
             × (opening.board.table.shared.key ≡ H.opening) }

@@ -3,7 +3,7 @@
 
 use crate::served::serve_by;
 use crate::sessions::{
-    ASYNC_INTERRUPTED, Client, IDENTIFIED, IDENTITY, INTERRUPTED, ONE, Play, plays_after,
+    ASYNC_INTERRUPTED, Client, IDENTIFIED, IDENTITY, INTERRUPTED, ONE, Play, ZERO, plays_after,
 };
 use crate::shop::{Shop, gathers};
 use std::alloc::Global;
@@ -48,11 +48,11 @@ pub fn both_leave<W: Wait + Clock + Copy + Drop>(one: &Client<W>, other: &Client
     are_left && is_first && other.second.receives(ASYNC_INTERRUPTED) && other.second.is_silent()
 }
 
-/// A scan that pauses for an hour, and its end.
-const PAUSED: &[u8] = b"HS\x07\x00\xff\xff\xff\x00\x00\x00\x00\x00\x00\x00\x00\x26\
-    ROUT:SCAN (@1!1);:TRIG:DEL 3600;:INIT\n";
+/// A scan that pauses for an hour, of which is told once it runs that it has no reading, and its end.
+const PAUSED: &[u8] = b"HS\x07\x00\xff\xff\xff\x00\x00\x00\x00\x00\x00\x00\x00\x36\
+    ROUT:SCAN (@1!1);:TRIG:DEL 3600;:INIT;:TRAC:POIN:ACT?\n";
 
-const AWAITED: &[u8] = b"HS\x07\x00\xff\xff\xff\x02\x00\x00\x00\x00\x00\x00\x00\x06*OPC?\n";
+const AWAITED: &[u8] = b"HS\x07\x01\xff\xff\xff\x02\x00\x00\x00\x00\x00\x00\x00\x06*OPC?\n";
 
 const ABORTED: &[u8] = b"HS\x07\x00\xff\xff\xff\x00\x00\x00\x00\x00\x00\x00\x00\x0bABOR;*OPC?\n";
 
@@ -62,7 +62,7 @@ const ONE_LATER: &[u8] = b"HS\x07\x00\xff\xff\xff\x02\x00\x00\x00\x00\x00\x00\x0
 pub fn aborts_a_pause<W: Wait + Clock + Copy + Drop>(one: &Client<W>, other: &Client<W>) -> bool {
     one.begins(1)
         && other.begins(2)
-        && one.first.sends(PAUSED)
+        && one.first.tells(PAUSED, ZERO)
         && one.first.sends(AWAITED)
         && one.first.is_silent()
         && other.first.tells(ABORTED, ONE)

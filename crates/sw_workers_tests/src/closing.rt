@@ -1,7 +1,7 @@
 //! The cards that come out where a mainframe is closed down, by slot.
 
 ghost use Rattle.std.specs.Prelude.{◌≡◌, IfSome};
-ghost use Rattle.sw_core.specs.Good.{IsGoodPanel};
+ghost use Rattle.sw_core.specs.Opening.{IsFresh};
 
 use crate::shop::{come_out, fitted, install, join, opened, tells};
 use std::alloc::Global;
@@ -14,9 +14,9 @@ use sw_core::Core;
 use sw_kinds::{Mux, SimDriver, SimSource, Volt};
 use sw_workers::{Closed, House, Open, Opening, Shared, SharedDesk, close_down};
 
-/// A mainframe with relay cards in slots 1 and 3 and a meter in slot 16. It is good.
+/// A mainframe with relay cards in slots 1 and 3 and a meter in slot 16. It is fresh.
 fn spread(alloc: Global) -> Option<Core<Mux<SimDriver>, Volt<SimSource>>>
-    ensures { IfSome result (λ core. IsGoodPanel core) }
+    ensures { IfSome result (λ core. IsFresh core) }
 {
     let Ok(core) = Core::new(alloc) else {
         return None;
@@ -42,7 +42,7 @@ fn closed_after<H: House, R: Relay, M: Meter, W: Wait + Clock + Copy + Drop>(
     opening: Opening<R, M>,
     message: &[u8],
 ) -> Option<Closed<R, M>>
-    requires first { (opening.core ≡ H.first) × IsGoodPanel opening.core }
+    requires first { (opening.core ≡ H.first) × IsFresh opening.core }
     requires ledger { (opening.blank.name ≡ H.name) × (opening.blank.parts ≡ H.parts) }
     requires board { (opening.board.table.shared.table_id ≡ H.table) × (opening.board.table.shared.key ≡ H.opening) }
 {
@@ -69,7 +69,7 @@ fn leaves<W: Wait + Clock + Copy + Drop>(
     message: &[u8],
     serials: &[u32; 16],
 ) -> bool
-    requires { IsGoodPanel core }
+    requires { IsFresh core }
 {
     let Ok(opening) = Opening::new(alloc, core) else {
         return false;

@@ -1,10 +1,11 @@
 //! How long pauses last, by the clock that a test hands in, and long scans.
 
 ghost use Rattle.std.specs.Prelude.{◌≡◌};
-ghost use Rattle.sw_core.specs.Good.{IsGoodPanel};
+ghost use Rattle.sw_core.specs.Opening.{IsFresh};
 
 use crate::shop::{fitted, join, played, tells};
-use crate::threads::Scene;
+use crate::threads::{Scene, TRIGGERED};
+use crate::waiters::is_held;
 use std::alloc::Global;
 use std::io;
 use std::marker::Brand;
@@ -13,21 +14,22 @@ use std::sync::{Arc, Wait};
 use std::time::{Clock, Duration, Instant};
 use sw_card::{Meter, Relay};
 use sw_kinds::{SimDriver, SimSource};
-use sw_session::Desk;
+use sw_session::{Desk, Wake};
 use sw_workers::{House, Open, Opening, Shared, SharedDesk};
 
-/// A clock that goes on only by as much as is slept by it, in microseconds.
+/// A clock that goes on only by as much as is slept by it, and by a step each time that it is read, in microseconds.
 #[derive(Clone, Copy, Drop)]
 struct Slept<'a, W: Wait + Copy + Drop> {
     rt: W,
     micros: &'a AtomicU64,
+    step: u64,
 }
 
 impl<W: Wait + Copy + Drop> Wait for Slept<'_, W> {}
 
 impl<W: Wait + Copy + Drop> Clock for Slept<'_, W> {
     fn monotonic(&self) -> io::Result<Duration> {
-        Ok(Duration::from_micros(self.micros.load(Ordering::SeqCst)))
+        Ok(Duration::from_micros(self.micros.fetch_add(self.step, Ordering::SeqCst)))
     }
 
     fn since_1970(&self) -> io::Result<Duration> {
@@ -45,13 +47,23 @@ const PAUSED: &[u8] = b"ROUT:SCAN (@1!1);:TRIG:COUN 2;DEL 0.05;:INIT;*OPC?;:TRAC
 
 const PAUSED_TOLD: &[u8] = b"1;2\n";
 
-/// Whether a scan of a mainframe that has no worker comes to its end.
-fn ends_alone<H: House, R: Relay, M: Meter, W: Wait + Clock + Copy + Drop>(
+/// What is played by the desks of a mainframe that has no worker.
+#[derive(Clone, Copy, Debug)]
+enum Alone {
+    /// A scan comes to its end.
+    Ends,
+    /// The limit of a wait runs out.
+    RunsOut,
+}
+
+/// Whether it goes so.
+fn goes_alone<H: House, R: Relay, M: Meter, W: Wait + Clock + Copy + Drop>(
     rt: W,
     alloc: Global,
     opening: Opening<R, M>,
+    alone: Alone,
 ) -> bool
-    requires first { (opening.core ≡ H.first) × IsGoodPanel opening.core }
+    requires first { (opening.core ≡ H.first) × IsFresh opening.core }
     requires ledger { (opening.blank.name ≡ H.name) × (opening.blank.parts ≡ H.parts) }
     requires board { (opening.board.table.shared.table_id ≡ H.table) × (opening.board.table.shared.key ≡ H.opening) }
 {
@@ -62,19 +74,92 @@ fn ends_alone<H: House, R: Relay, M: Meter, W: Wait + Clock + Copy + Drop>(
     let Ok(shared) = Arc::new(alloc, shared) else {
         return false;
     };
-    match SharedDesk::open(rt, &shared) {
-        Some(desk) => ends_by(alloc, desk),
-        None => false,
+    let first = SharedDesk::open(rt, &shared);
+    match alone {
+        Alone::Ends => ends_by(alloc, first),
+        Alone::RunsOut => runs_out_by(alloc, first, SharedDesk::open(rt, &shared)),
     }
 }
 
 /// Whether the scan comes to its end by this desk.
-fn ends_by<D: Desk + Drop>(alloc: Global, desk: D) -> bool {
-    let mut desk = desk;
+fn ends_by<D: Desk + Drop>(alloc: Global, desk: Option<D>) -> bool {
+    let Some(mut desk) = desk else {
+        return false;
+    };
     match join(&mut desk) {
         Some(sid) => tells(alloc, &mut desk, sid, PAUSED, PAUSED_TOLD),
         None => false,
     }
+}
+
+/// Whether a limit of a minute runs out by these desks, where the clock goes on by a second each time that it is read:
+/// where the limit begins, before the wait and after it. A limit that is told as it was left goes on, and another begins.
+fn runs_out_by<D: Desk + Drop>(alloc: Global, first: Option<D>, second: Option<D>) -> bool {
+    let (Some(mut first), Some(mut second)) = (first, second) else {
+        return false;
+    };
+    if !ends_before_the_wait(alloc, &mut first, &mut second) {
+        return false;
+    }
+    let once = left_after(&mut second, 60_000);
+    let twice = left_after(&mut second, once);
+    let anew = left_after(&mut second, 60_000);
+    once <= 58_000 && twice >= 50_000 && twice <= once.saturating_sub(2_000) && anew == once
+}
+
+/// Whether a scan ends after what waits for it was held, and before the wait.
+fn ends_before_the_wait<D: Desk>(alloc: Global, first: &mut D, second: &mut D) -> bool {
+    match (join(first), join(second)) {
+        (Some(sid), Some(other)) => {
+            tells(alloc, first, sid, TRIGGERED, b"")
+                && is_held(second, other)
+                && tells(alloc, first, sid, b"ABOR", b"")
+        }
+        _ => false,
+    }
+}
+
+/// How many milliseconds of this limit are left when what was held may be asked again.
+fn left_after<D: Desk>(desk: &mut D, limit_ms: u32) -> u32 {
+    match desk.wait(Some(limit_ms)) {
+        Wake::Again(Some(left_ms)) => left_ms,
+        _ => 0,
+    }
+}
+
+/// Whether it goes so over a new mainframe.
+fn goes_unaided<W: Wait + Clock + Copy + Drop>(rt: W, alloc: Global, alone: Alone) -> bool {
+    let Some(core) = fitted(alloc, SimDriver::new(), SimSource::new(1, 1)) else {
+        return false;
+    };
+    match Opening::new(alloc, core) {
+        Ok(opening) => goes_alone::<Brand, _, _, W>(rt, alloc, opening, alone),
+        Err(_) => false,
+    }
+}
+
+/// How far the clock has then gone on, in microseconds, where it went so by a clock with this step.
+fn gone_on<W: Wait + Copy + Drop>(rt: W, alloc: Global, step: u64, alone: Alone) -> Option<u64> {
+    let micros = AtomicU64::new(0);
+    let clock = Slept {
+        rt,
+        micros: &micros,
+        step,
+    };
+    if goes_unaided(clock, alloc, alone) {
+        return Some(micros.load(Ordering::SeqCst));
+    }
+    None
+}
+
+#[test]
+fn a_pause_that_no_worker_takes_is_waited_out_by_who_began_it(rt: HostRuntime) {
+    assert!(rt; gone_on(rt, rt.alloc(), 0, Alone::Ends) == Some(100_000));
+}
+
+#[test]
+fn a_limit_runs_out_by_the_clock(rt: HostRuntime) {
+    assert!(rt; gone_on(rt, rt.alloc(), 1_000_000, Alone::RunsOut).is_some());
 }
 
 /// A scan's pauses last as long as they are to. Gives the desks back, where all went as it should.

@@ -1,7 +1,7 @@
 //! A seat that was split from a desk's own, and what is read of it while another thread has the mainframe's lock.
 
 ghost use Rattle.std.specs.Prelude.{◌≡◌};
-ghost use Rattle.sw_core.specs.Good.{IsGoodPanel};
+ghost use Rattle.sw_core.specs.Opening.{IsFresh};
 
 use crate::board::{holds, reads};
 use crate::shop::fitted;
@@ -45,7 +45,7 @@ fn joins<H: House, R: Relay, M: Meter>(
 impl<H: House, R: Relay, M: Meter> Scene<H, R, M> {
     /// A mainframe with two sessions.
     fn open(alloc: Global, opening: Opening<R, M>) -> Option<Self>
-        requires first { (opening.core ≡ H.first) × IsGoodPanel opening.core }
+        requires first { (opening.core ≡ H.first) × IsFresh opening.core }
         requires ledger { (opening.blank.name ≡ H.name) × (opening.blank.parts ≡ H.parts) }
         requires board { (opening.board.table.shared.table_id ≡ H.table)
             × (opening.board.table.shared.key ≡ H.opening) }
@@ -126,7 +126,7 @@ fn play<H: House + Send + Sync, R: Relay + Send, M: Meter + Send, W: Threads + W
     alloc: Global,
     opening: Opening<R, M>,
 )
-    requires first { (opening.core ≡ H.first) × IsGoodPanel opening.core }
+    requires first { (opening.core ≡ H.first) × IsFresh opening.core }
     requires ledger { (opening.blank.name ≡ H.name) × (opening.blank.parts ≡ H.parts) }
     requires board { (opening.board.table.shared.table_id ≡ H.table) × (opening.board.table.shared.key ≡ H.opening) }
 {

@@ -1,7 +1,7 @@
 //! HiSLIP sessions over connections in memory, each served by a thread of its own.
 
 ghost use Rattle.std.specs.Prelude.{◌≡◌};
-ghost use Rattle.sw_core.specs.Good.{IsGoodPanel};
+ghost use Rattle.sw_core.specs.Opening.{IsFresh};
 
 use crate::asides::{aborts_a_pause, both_leave, leaves_two};
 use crate::shop::{Shop, fitted, gathers};
@@ -150,7 +150,7 @@ const CLOSE: &[u8] =
 
 pub const ONE: &[u8] = b"HS\x07\x00\xff\xff\xff\x00\x00\x00\x00\x00\x00\x00\x00\x021\n";
 
-const ZERO: &[u8] = b"HS\x07\x00\xff\xff\xff\x00\x00\x00\x00\x00\x00\x00\x00\x020\n";
+pub const ZERO: &[u8] = b"HS\x07\x00\xff\xff\xff\x00\x00\x00\x00\x00\x00\x00\x00\x020\n";
 
 /// A scan that waits for the bus, which the status byte tells, and a query that waits for its end.
 const HELD: &[u8] = b"HS\x07\x00\xff\xff\xff\x00\x00\x00\x00\x00\x00\x00\x00\x3f\
@@ -370,7 +370,7 @@ fn play_behind<
     G: Gate + Drop + Send + Sync + 'static,
     W: Threads + Wait + Clock + Copy + Drop + Send + Sync + 'static,
 >(rt: W, alloc: Global, opening: Opening<R, M>, gate: G, crowd: u8, play: Play) -> bool
-    requires first { (opening.core ≡ H.first) × IsGoodPanel opening.core }
+    requires first { (opening.core ≡ H.first) × IsFresh opening.core }
     requires ledger { (opening.blank.name ≡ H.name) × (opening.blank.parts ≡ H.parts) }
     requires board { (opening.board.table.shared.table_id ≡ H.table) × (opening.board.table.shared.key ≡ H.opening) }
 {

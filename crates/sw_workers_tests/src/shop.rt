@@ -3,7 +3,7 @@
 //! These promise nothing, and most answer yes or no.
 
 ghost use Rattle.std.specs.Prelude.{◌≡◌, IfSome};
-ghost use Rattle.sw_core.specs.Good.{IsGoodPanel};
+ghost use Rattle.sw_core.specs.Opening.{IsFresh};
 ghost use Rattle.sw_core.specs.Panel.{opening};
 
 use crate::latches::{TURNS, turn};
@@ -16,7 +16,7 @@ use std::thread::{JoinHandle, Threads};
 use std::time::Clock;
 use sw_base::Sequence;
 use sw_card::{Card, Meter, Relay};
-use sw_core::{Answer, Ask, Core, SessionAnswer, SessionAsk, Sid, mainframe_stays_good};
+use sw_core::{Answer, Ask, Core, SessionAnswer, SessionAsk, Sid, runs_go_on};
 use sw_kinds::{Driver, Mux, SimDriver, Source, Volt};
 use sw_session::{Desk, Talker};
 use sw_workers::{
@@ -24,39 +24,39 @@ use sw_workers::{
     run_timer_worker,
 };
 
-/// Whether a card comes into the slot. The mainframe stays good.
+/// Whether a card comes into the slot. The mainframe stays fresh.
 pub fn install<R: Relay, M: Meter>(
     alloc: Global,
     core: &mut Core<R, M>,
     slot: u8,
     card: Card<R, M>,
 ) -> bool
-    requires { IsGoodPanel core.old }
-    ensures { IsGoodPanel core.new }
+    requires { IsFresh core.old }
+    ensures { IsFresh core.new }
 {
-    mainframe_stays_good();
+    runs_go_on();
     let answer = core.apply(alloc, Ask::Install(slot, card));
     let is_installed = matches!(answer, Answer::Installed);
     drop(answer);
     is_installed
 }
 
-/// A mainframe as it opens, which is good.
+/// A mainframe as it opens, which is fresh.
 pub fn opened<R: Relay, M: Meter>(core: Core<R, M>) -> Core<R, M>
     requires { core ≡ opening }
-    ensures { IsGoodPanel result }
+    ensures { IsFresh result }
 {
-    mainframe_stays_good();
+    runs_go_on();
     core
 }
 
-/// A mainframe with four channels of one group in slot 1 and a meter in slot 4. It is good.
+/// A mainframe with four channels of one group in slot 1 and a meter in slot 4. It is fresh.
 pub fn fitted<D: Driver, S: Source>(
     alloc: Global,
     driver: D,
     source: S,
 ) -> Option<Core<Mux<D>, Volt<S>>>
-    ensures { IfSome result (λ core. IsGoodPanel core) }
+    ensures { IfSome result (λ core. IsFresh core) }
 {
     let Ok(core) = Core::new(alloc) else {
         return None;
@@ -96,7 +96,7 @@ impl<
 > Shop<H, R, M, G, W> {
     /// Puts a mainframe behind its lock, with its workers.
     pub fn open(rt: W, alloc: Global, opening: Opening<R, M>, gate: G) -> Option<Self>
-        requires first { (opening.core ≡ H.first) × IsGoodPanel opening.core }
+        requires first { (opening.core ≡ H.first) × IsFresh opening.core }
         requires ledger { (opening.blank.name ≡ H.name) × (opening.blank.parts ≡ H.parts) }
         requires board { (opening.board.table.shared.table_id ≡ H.table)
             × (opening.board.table.shared.key ≡ H.opening) }
@@ -194,7 +194,7 @@ fn play_behind<
     G: Gate + Drop + Send + Sync + 'static,
     W: Threads + Wait + Clock + Copy + Drop + Send + Sync + 'static,
 >(rt: W, alloc: Global, opening: Opening<R, M>, gate: G, scene: &Scene<W>) -> Option<Note>
-    requires first { (opening.core ≡ H.first) × IsGoodPanel opening.core }
+    requires first { (opening.core ≡ H.first) × IsFresh opening.core }
     requires ledger { (opening.blank.name ≡ H.name) × (opening.blank.parts ≡ H.parts) }
     requires board { (opening.board.table.shared.table_id ≡ H.table) × (opening.board.table.shared.key ≡ H.opening) }
 {

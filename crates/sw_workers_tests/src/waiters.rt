@@ -109,6 +109,22 @@ fn held<D: Desk>(desk: &mut D, sid: Sid) -> Option<SessionAsk> {
     }
 }
 
+/// Whether what waits for the end of a scan is held.
+pub fn is_held<D: Desk>(desk: &mut D, sid: Sid) -> bool {
+    match held(desk, sid) {
+        Some(ask) => {
+            drop(ask);
+            true
+        }
+        None => false,
+    }
+}
+
+/// Whether what was held may be asked again before five seconds are over.
+fn may_go_on<D: Desk>(desk: &mut D) -> bool {
+    matches!(desk.wait(Some(5_000)), Wake::Again(_))
+}
+
 /// Whether what was held is done now.
 fn is_done<D: Desk>(desk: &mut D, ask: SessionAsk) -> bool {
     let answer = desk.ask(ask);
@@ -134,9 +150,7 @@ pub fn misses_no_wake<D: Desk + Drop + Send + 'static>(
     }
     let ask = held(&mut second, other)?;
     let is_ended = tells(alloc, &mut first, sid, b"ABOR", b"");
-    let is_woken = second.wait(Some(500)) == Wake::Again(Some(500));
-    let is_over = second.wait(Some(1)) == Wake::Again(Some(1));
-    if is_ended && is_woken && is_over && is_done(&mut second, ask) {
+    if is_ended && may_go_on(&mut second) && may_go_on(&mut second) && is_done(&mut second, ask) {
         return Some((first, second, third));
     }
     None

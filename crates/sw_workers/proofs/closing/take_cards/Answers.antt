@@ -14,7 +14,7 @@ loop-before-preserved g c =
       so_far = one_out c.loop-before.cards.items c.push.new.self.items c.take_out-card.result c.loop-before.before
           (all_open c.loop-before.held.panel.cage.cards) (all_open c.take_out-card.new.held.panel.cage.cards) (all_open c.args.held.now.panel.cage.cards)
           i.so_far t.card t.others (omega (arith, slots, c.loop-before-test.true)) put;
-      good = t.good;
+      good = c.runs_go_on.ensures.good _ c.has_history.ensures.reached;
       count = omega (arith, c.push.ensures.upper_bound, i.count);
       room = omega (arith, c.push.ensures.capacity, i.room);
     }

@@ -10,10 +10,10 @@ returns-in-Ejected g c =
     let q = c.ask.new.self.panel in
     let ask = AskEject c.args.slot in
     let answer = answer_seen c.ask.result in
+    let good = c.runs_go_on.ensures.good p c.has_history.ensures.reached in
     let failed = failed_in ask answer p.cage.cards q.cage.cards in
-    let l : Leaves p.cage c.args.slot answer q.cage = step_ejects p c.args.slot failed answer q c.requires.slot c.requires.good c.ask.ensures.step in
+    let l : Leaves p.cage c.args.slot answer q.cage = step_ejects p c.args.slot failed answer q c.requires good c.ask.ensures.step in
     record {
-      good = c.mainframe_stays_good.ensures.step p q ask failed answer c.requires.good c.ask.ensures.step;
       card = sym (ap (λ (x : Answer _ _). ejected (answer_seen x)) c.in-Ejected.is) ∙ l.card;
       others = l.others;
     }
@@ -24,10 +24,10 @@ returns g c =
     let q = c.ask.new.self.panel in
     let ask = AskEject c.args.slot in
     let answer = answer_seen c.ask.result in
+    let good = c.runs_go_on.ensures.good p c.has_history.ensures.reached in
     let failed = failed_in ask answer p.cage.cards q.cage.cards in
-    let l : Leaves p.cage c.args.slot answer q.cage = step_ejects p c.args.slot failed answer q c.requires.slot c.requires.good c.ask.ensures.step in
+    let l : Leaves p.cage c.args.slot answer q.cage = step_ejects p c.args.slot failed answer q c.requires good c.ask.ensures.step in
     record {
-      good = c.mainframe_stays_good.ensures.step p q ask failed answer c.requires.good c.ask.ensures.step;
       card = sym (not_ejected c.ask.result c.in_default.not-Ejected) ∙ l.card;
       others = l.others;
     }

@@ -1,13 +1,13 @@
 use Rattle.std.proofs.Common.{rules, ◌≡◌, true, false, List, sym, ap, subst, ◌∙◌}
-use Rattle.sw_core.specs.Good.{IsGoodPanel}
+use Rattle.sw_core.specs.Opening.{IsReached}
 use Rattle.sw_core.specs.Panel.{Panel}
-use Rattle.sw_core.specs.Run.{IsNextEvent}
+use Rattle.sw_core.specs.Run.{Event, IsNextEvent}
 use Rattle.sw_core.specs.Seen.{ask_seen, answer_seen}
 use Rattle.sw_workers.specs.Board.{Said}
 use Rattle.sw_workers.specs.Entries.{HistoryEntry}
 use Rattle.sw_workers.specs.History.{InHistory, IsHistory, AsksInHistory, event, said_at}
 use Rattle.sw_workers.specs.Shares.{is_event}
-use Rattle.sw_workers.proofs.Recordings.{Leads, history_event, SawEvent, asks_event, SawNone, asks_nothing}
+use Rattle.sw_workers.proofs.Recordings.{Leads, history_event, SawEvent, asks_event, SawNone, asks_nothing, next_fits}
 use Rattle.sw_workers.proofs.Unmoved.{step_unmoved}
 use Rattle.sw_workers.proofs.recorded.Recorded.ask.Goals as goal
 
@@ -19,8 +19,9 @@ invariant_of-self g c =
     let first = g.B.Recording.first in
     let there = subst (λ (x : Panel). IsHistory first c.self.inside.pass x) (sym same) i.0 in (
       subst (λ (es : List HistoryEntry). IsHistory first es c.apply-answer.new.self) (sym c.tell.ensures.history) there,
-      subst IsGoodPanel (sym same) i.1,
+      subst IsReached (sym same) i.1,
       i.2,
+      i.3,
     )
 
 pub returns-then-not-is_event-clause-history : goal.returns-then-not-is_event-clause-history
@@ -48,6 +49,13 @@ returns-then-not-is_event-clause-history g c =
     subst (λ (x : Panel). AsksInHistory first x c.args.desk.now (event asked answered q) c.tell.new.desk) (ap (λ (l : InHistory). l.panel) c.self.view_is)
     (asks_nothing first c.self.inside.pass p c.args.desk.now asked answered q c.tell.new.desk i.0 next same quiet saw)
 
+pub tell_event-requires-clause-fits : goal.tell_event-requires-clause-fits
+tell_event-requires-clause-fits g c =
+    let p = c.self.inside.core in
+    let e : Event = record { ask = ask_seen c.args.ask; answer = answer_seen c.apply-answer.result; panel = c.apply-answer.new.self } in
+    let next : IsNextEvent p e = record { own = c.apply-answer.ensures.own; step = c.apply-answer.ensures.step } in
+    next_fits c.runs_go_on.ensures p e c.pair.result.1 c.self.invariant.1 next c.pair.ensures.requests
+
 pub invariant_of-self-2 : goal.invariant_of-self-2
 invariant_of-self-2 g c =
     let i = c.self.invariant in
@@ -74,8 +82,9 @@ invariant_of-self-2 g c =
     let leads : Leads c.self.inside.core asked answered q = record { next = next; event = event } in
     let grown = history_event g.B.Recording.first c.self.inside.pass c.self.inside.core c.args.desk.now said asked answered q i.0 leads same in (
       subst (λ (es : List HistoryEntry). IsHistory g.B.Recording.first es q) (sym c.tell_event.ensures.history) grown,
-      c.mainframe_stays_good.ensures.step _ _ _ _ _ i.1 c.apply-answer.ensures.step,
+      c.runs_go_on.ensures.next c.self.inside.core (record { ask = asked; answer = answered; panel = q }) i.1 next,
       i.2,
+      i.3,
     )
 
 pub returns-clause-history : goal.returns-clause-history
