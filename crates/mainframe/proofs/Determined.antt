@@ -5,51 +5,28 @@ use Rattle.sw_core.specs.declared.ask.Sid.{Sid}
 use Rattle.sw_core.specs.declared.ask.SessionAsk.TheVariants as Ask
 use Rattle.sw_core.specs.declared.ask.SessionAnswer.TheVariants.{Joined}
 use Rattle.sw_core.specs.Panel.{Panel, opening}
-use Rattle.sw_core.specs.Seen.{AskSession, AskInstall, AnswerSeen, SaysSession, SaysInstalled, SaysNotInstalled, SaysWorn}
+use Rattle.sw_core.specs.Seen.{AskSession, AskInstall, SaysSession, SaysInstalled}
 use Rattle.sw_core.specs.Event.{last_number}
-use Rattle.sw_core.specs.Step.{Acts, acts_unnumbered, IsWorn, IsEvent, IsUnnumbered, Step}
+use Rattle.sw_core.specs.Step.{acts_unnumbered, IsEvent, IsUnnumbered, Step}
 use Rattle.sw_cage.specs.Accounts.{Accounts}
-use Rattle.sw_core.specs.Run.{IsPlain, failures_after, StepIsDetermined}
+use Rattle.sw_core.specs.Run.{failures_after, StepIsDetermined}
 use Rattle.sw_session.specs.Law.{outcomes_in_talk, outcomes_at_rest}
 use Rattle.sw_session.specs.Talk.{state}
 use Rattle.sw_session.specs.Law.{IsSameDesk, CoreTalkIsDetermined, CoreRestIsDetermined}
 use Rattle.sw_card.specs.Account.{Account}
 use Rattle.mainframe.specs.Lines.{lines_of}
-use Rattle.sw_serve.specs.Offers.{Offered, Stepped, TakesOffers, Joins, IsSetUp}
+use Rattle.sw_serve.specs.Offers.{Offered, Takes, TakesOffers, Joins, IsSetUp}
 use Rattle.mainframe.specs.Run.{RunState, begins_over, Line, Run, RunsTo}
 use Rattle.mainframe.specs.Law.{IsPlainLine, IsPlainRun, outcomes_in_run}
 
--- an offer of a card is answered plainly
-install_worn : (slot : ℕ) (card : Account) (a : AnswerSeen) → IsWorn (AskInstall slot card) a → IsPlain a
-install_worn slot card SaysWorn w = tt
-install_worn slot card a w = absurd w
+-- no card fails in an offer that is taken
+take_whole : (b : Bool) (p : Panel) (slot : ℕ) (card : Account) (f : Bool) (q : Panel)
+    → MatchBool b (IsUnnumbered p (AskInstall slot card) f SaysInstalled q) (IsEvent p (AskInstall slot card) f SaysInstalled q) → f ≡ false
+take_whole true p slot card f q s = s.unfailed
+take_whole false p slot card f q s = s.acts.0
 
-install_acts : (p : Panel) (slot : ℕ) (card : Account) (f : Bool) (a : AnswerSeen) (q : Panel) → Acts p (AskInstall slot card) f a q → IsPlain a
-install_acts p slot card f SaysInstalled q s = tt
-install_acts p slot card f (SaysNotInstalled r) q s = tt
-install_acts p slot card f a q s = absurd s
-
-install_either : (b : Bool) (p : Panel) (slot : ℕ) (card : Account) (f : Bool) (a : AnswerSeen) (q : Panel)
-    → MatchBool b (IsUnnumbered p (AskInstall slot card) f a q) (IsEvent p (AskInstall slot card) f a q) → IsPlain a
-install_either true p slot card f a q s = install_worn slot card a s.worn
-install_either false p slot card f a q s = install_acts p slot card f a s.done s.acts
-
-install_plain : (p : Panel) (slot : ℕ) (card : Account) (f : Bool) (a : AnswerSeen) (q : Panel) → Step p (AskInstall slot card) f a q → IsPlain a
-install_plain p slot card f a q s = install_either ((p.events == last_number) && not (acts_unnumbered (AskInstall slot card))) p slot card f a q s
-
--- and no card fails in it
-install_done : (p : Panel) (slot : ℕ) (card : Account) (f : Bool) (a : AnswerSeen) (q : Panel) → Acts p (AskInstall slot card) f a q → f ≡ false
-install_done p slot card f SaysInstalled q s = s.0
-install_done p slot card f (SaysNotInstalled r) q s = s.0
-install_done p slot card f a q s = absurd s
-
-install_whole : (b : Bool) (p : Panel) (slot : ℕ) (card : Account) (f : Bool) (a : AnswerSeen) (q : Panel)
-    → MatchBool b (IsUnnumbered p (AskInstall slot card) f a q) (IsEvent p (AskInstall slot card) f a q) → f ≡ false
-install_whole true p slot card f a q s = s.unfailed
-install_whole false p slot card f a q s = install_done p slot card f a s.done s.acts
-
-install_unfailed : (p : Panel) (slot : ℕ) (card : Account) (f : Bool) (a : AnswerSeen) (q : Panel) → Step p (AskInstall slot card) f a q → f ≡ false
-install_unfailed p slot card f a q s = install_whole ((p.events == last_number) && not (acts_unnumbered (AskInstall slot card))) p slot card f a q s
+take_unfailed : (p : Panel) (slot : ℕ) (card : Account) (f : Bool) (q : Panel) → Step p (AskInstall slot card) f SaysInstalled q → f ≡ false
+take_unfailed p slot card f q s = take_whole ((p.events == last_number) && not (acts_unnumbered (AskInstall slot card))) p slot card f q s
 
 -- nor in a join
 join_whole : (b : Bool) (p : Panel) (sid : Sid) (f : Bool) (q : Panel)
@@ -66,18 +43,16 @@ join_unfailed p sid f q s = join_whole ((p.events == last_number) && not (acts_u
 no_failures : (f f' : Bool) (r r' : Accounts) → f ≡ false → f' ≡ false → failures_after f r ≡ failures_after f' r'
 no_failures f f' r r' e e' = ap (λ (x : Bool). failures_after x r) e ∙ sym (ap (λ (x : Bool). failures_after x r') e')
 
-install_once : StepIsDetermined → (p q q' : Panel) (slot : ℕ) (card : Account) → Stepped p (AskInstall slot card) q → Stepped p (AskInstall slot card) q'
-    → q ≡ q'
-install_once law p q q' slot card s t =
-    let same_failures = no_failures s.failed t.failed q.cage.cards q'.cage.cards (install_unfailed p slot card s.failed s.answer q s.step)
-    (install_unfailed p slot card t.failed t.answer q' t.step) in
-    (law p q q' (AskInstall slot card) s.failed t.failed s.answer t.answer s.step t.step same_failures (install_plain p slot card s.failed s.answer q s.step)
-    (install_plain p slot card t.failed t.answer q' t.step) tt tt).1
+take_once : StepIsDetermined → (p q q' : Panel) (o : Offered) → Takes p o q → Takes p o q' → q ≡ q'
+take_once law p q q' o s t =
+    let same_failures = no_failures s.failed t.failed q.cage.cards q'.cage.cards (take_unfailed p o.slot o.card s.failed q s.step)
+    (take_unfailed p o.slot o.card t.failed q' t.step) in
+    (law p q q' (AskInstall o.slot o.card) s.failed t.failed SaysInstalled SaysInstalled s.step t.step same_failures tt tt tt tt).1
 
 offers_once : StepIsDetermined → (cards : List Offered) (p p' q q' : Panel) → p ≡ p' → TakesOffers p cards q → TakesOffers p' cards q' → q ≡ q'
 offers_once law [] p p' q q' e is is' = is ∙ e ∙ sym is'
 offers_once law (o ∷ cards) p p' q q' e (a, s, more) (a', s', more') =
-    let one : a ≡ a' = install_once law p' a a' o.slot o.card (subst (λ (x : Panel). Stepped x (AskInstall o.slot o.card) a) e s) s' in
+    let one : a ≡ a' = take_once law p' a a' o (subst (λ (x : Panel). Takes x o a) e s) s' in
     offers_once law cards a a' q q' one more more'
 
 joined_once : StepIsDetermined → (sid sid' : Sid) (q q' : Panel) → Joins sid q → Joins sid' q' → (sid ≡ sid') × (q ≡ q')

@@ -6,3 +6,5 @@ mod Runs
 mod StandLemmas
 mod Determined
 mod Listings
+mod Welcome
+mod Pieces

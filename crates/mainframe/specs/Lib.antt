@@ -5,5 +5,6 @@ pub mod Run
 pub mod Turns
 pub mod Statuses
 pub mod Law
+pub mod Whole
 pub mod Listings
 pub mod Address

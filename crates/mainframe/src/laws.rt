@@ -1,6 +1,8 @@
-//! What follows from the contract of a run.
+//! What follows from the contract of a run, and of the program's cards.
 
+ghost use Rattle.mainframe.specs.Cards.{program_cards};
 ghost use Rattle.mainframe.specs.Law.{RunIsDetermined};
+ghost use Rattle.sw_serve.specs.Fitting.{AreWelcome};
 
 use sw_core::step_is_determined;
 use sw_session::{core_rest_is_determined, core_talk_is_determined};
@@ -15,3 +17,9 @@ pub fn run_is_determined()
     core_talk_is_determined();
     core_rest_is_determined();
 }
+
+/// A law: a mainframe takes each of the program's cards. So `desk_for_one` and `serve_cards` fail over them for want of
+/// memory alone.
+pub fn cards_are_welcome()
+    ensures { AreWelcome program_cards }
+{}

@@ -9,13 +9,15 @@ ghost use Rattle.sw_verify.specs.Channels.{is_among};
 ghost use Rattle.sw_verify.specs.Judged.{IsVerified};
 ghost use Rattle.mainframe.specs.Listings.{program_layout, fault_name, refusal_name, Says, IsChecked, IsPartlyChecked};
 ghost use Rattle.mainframe.specs.Turns.{IsOfReading};
+ghost use Rattle.mainframe.specs.Whole.{StandsAt};
 ghost use Rattle.mainframe.specs.Listings.{accepted_line, refused_line, faulty_line};
 
 use crate::explanation::{explain, explain_fault};
 use crate::fault::RunFault;
+use crate::whole::read_whole;
 use crate::writing::write_bytes;
 use std::alloc::{AllocError, Global};
-use std::io::{ErrorKind, Read, Write};
+use std::io::{Read, Write};
 use sw_base::POINTS;
 use sw_code::{Code, ListError, ListFault, read_listing};
 use sw_verify::{Layout, Refusal, Slot, verify};
@@ -48,7 +50,8 @@ struct Judgement {
 /// Reads a listing to its end and writes what the verifier says of it, against the program's cards with nothing closed
 /// and room for `POINTS` readings: `ok bound B readings R`, `refused N Name` or `line L: Name`, and a line feed.
 ///
-/// At a fault of the reader, or where memory runs out, nothing is written; at a fault of the writer a front part is.
+/// At a fault of the reader, or where memory runs out, nothing is written, and the reader may have bytes left; at a
+/// fault of the writer a front part is written. Otherwise the reader is at its end.
 pub fn check_listing<Rd: Read, W: Write>(
     alloc: Global,
     reader: &mut Rd,
@@ -57,32 +60,17 @@ pub fn check_listing<Rd: Read, W: Write>(
     ensures ok { IfOk result (λ checked. IfSome (Rd.remaining reader.old) (λ text.
         IsChecked checked.accepted text (W.contents writer.old) (W.contents writer.new))) }
     ensures all { OnOk result (IsAtEnd (Rd.remaining reader.new)) }
+    ensures stands { IfErr result (λ fault. StandsAt fault (Rd.remaining reader.old) (Rd.remaining reader.new)) }
     ensures fault { IfErr result (λ fault. IsOfReading fault ⊎ (fault ≡ RunFault.Output)) }
     ensures unwritten { IfErr result (λ fault. fault ≢ RunFault.Output
         → Keeps (W.contents writer.old) (W.contents writer.new)) }
     ensures partly { result ≡ Err RunFault.Output → IfSome (Rd.remaining reader.old) (λ text.
         IsPartlyChecked text (W.contents writer.old) (W.contents writer.new)) }
 {
-    let text = read_all(alloc, reader)?;
+    let text = read_whole(alloc, reader)?;
     let judgement = judge(alloc, &text)?;
     write_bytes(writer, judgement.line.as_bytes())?;
     Ok(judgement.checked)
-}
-
-/// The bytes up to the reader's end.
-fn read_all<Rd: Read>(alloc: Global, reader: &mut Rd) -> Result<Vec<u8>, RunFault>
-    ensures text { IfOk result (λ read. IfSome (Rd.remaining reader.old) (λ text. read.items ≡ text)) }
-    ensures all { OnOk result (IsAtEnd (Rd.remaining reader.new)) }
-    ensures fault { IfErr result IsOfReading }
-{
-    let mut text = Vec::new(alloc);
-    match reader.read_to_end(&mut text) {
-        Ok(_) => Ok(text),
-        Err(e) => match e.kind() {
-            ErrorKind::OutOfMemory => Err(RunFault::Memory),
-            _ => Err(RunFault::Input),
-        },
-    }
 }
 
 /// What is to be said of a text.

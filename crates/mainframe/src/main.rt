@@ -22,6 +22,7 @@ mod run;
 mod serving;
 #[cfg(test)]
 mod tests;
+mod whole;
 mod writing;
 
 use clap::error::ErrorKind;

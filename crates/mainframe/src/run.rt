@@ -43,7 +43,8 @@ pub fn run_lines<Rd: BufRead, W: Write>(
     run_over(alloc, reader, writer, offers)
 }
 
-/// Answers each line of the source as a program message, by a mainframe that was offered these cards.
+/// Answers each line of the source as a program message, by a mainframe that takes these cards. The program's are never
+/// refused (`cards_are_welcome`), so where none is to be had there was no memory.
 fn run_over<R: Relay, M: Meter, S: Source<W>, W: Write>(
     alloc: Global,
     source: &mut S,

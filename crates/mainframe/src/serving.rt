@@ -31,7 +31,8 @@ pub fn serve_on<
     serve_by(rt, alloc, port, limit, offers, log)
 }
 
-/// The same by these cards, which end with it.
+/// The same by these cards, which end with it. The program's are never refused (`cards_are_welcome`), so where it fails
+/// there was no memory.
 fn serve_by<
     R: Relay + Send + 'static,
     M: Meter + Send + 'static,
@@ -51,7 +52,11 @@ fn serve_by<
     ensures taken { OnOk result (TakesUpTo limit (P.taken port.old) (P.taken port.new) (P.ended port.new)) }
 {
     let offers = tell_failures(alloc, offers, log)?;
-    let closed = serve_cards(rt, alloc, port, limit, offers)?;
-    drop(closed);
-    Ok(())
+    match serve_cards(rt, alloc, port, limit, offers) {
+        Ok(closed) => {
+            drop(closed);
+            Ok(())
+        }
+        Err(_) => Err(RunFault::Memory),
+    }
 }

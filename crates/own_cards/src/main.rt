@@ -6,6 +6,7 @@
 //! line each: a serial port is such a file.
 #![tactic(auto)]
 
+mod fault;
 mod line_driver;
 mod line_source;
 mod rack;
@@ -13,6 +14,7 @@ mod rack;
 mod tests;
 mod uses;
 
+use fault::Fault;
 use line_driver::LineDriver;
 use line_source::LineSource;
 use rack::in_rack;
@@ -23,11 +25,11 @@ use sw_card::{Meter, Relay};
 use sw_kinds::{Matrix, Mux, Volt};
 use uses::{answer, serve};
 
-fn main(rt: HostRuntime) -> io::Result<()> {
+fn main(rt: HostRuntime) -> Result<(), Fault> {
     let alloc = rt.alloc();
     let words: Vec<String> = std::env::args(&rt)?.collect(alloc)?;
     let [_, order, board, meter] = words.as_slice() else {
-        return Err(io::Error::from(ErrorKind::InvalidInput));
+        return Err(Fault::Io(io::Error::from(ErrorKind::InvalidInput)));
     };
     let mut appending = OpenOptions::new();
     appending.append(true);

@@ -1,7 +1,7 @@
 //! What is done with the cards.
 
+use crate::fault::Fault;
 use std::alloc::Global;
-use std::io;
 use std::io::{BufRead, Read, Write};
 use std::net::{Ipv4Addr, Net, TcpListener, TcpStream};
 use std::os::fd::AsRawFd;
@@ -12,13 +12,13 @@ use sw_card::{Meter, Relay};
 use sw_serve::{Door, Offer, Silent, desk_for_one, serve_cards};
 use sw_session::Talker;
 
-/// Answers each line of the reader.
+/// Answers each line of the reader, unless the mainframe refuses a card.
 pub fn answer<R: Relay, M: Meter, I: BufRead, O: Write>(
     alloc: Global,
     reader: &mut I,
     writer: &mut O,
     cards: Vec<Offer<R, M>>,
-) -> io::Result<()> {
+) -> Result<(), Fault> {
     let (mut desk, session) = desk_for_one(alloc, cards)?;
     let mut talker = Talker::new(alloc, session);
     let mut line = Vec::new(alloc);
@@ -48,7 +48,7 @@ pub fn serve<
     R: Relay + Send + 'static,
     M: Meter + Send + 'static,
     I: Read + AsRawFd + Drop,
->(rt: W, alloc: Global, port: u16, input: I, cards: Vec<Offer<R, M>>) -> io::Result<()> {
+>(rt: W, alloc: Global, port: u16, input: I, cards: Vec<Offer<R, M>>) -> Result<(), Fault> {
     let listener = TcpListener::bind(&rt, (Ipv4Addr::LOCALHOST, port))?;
     let mut door = Door::new(rt, alloc, &listener, Some(input), Silent);
     let closed = serve_cards(rt, alloc, &mut door, u32::MAX, cards)?;

@@ -1,2 +1,3 @@
 mod Offers
 mod Closing
+mod Fitting

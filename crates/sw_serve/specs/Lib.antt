@@ -1,4 +1,5 @@
 pub mod Offers
+pub mod Fitting
 pub mod Arrivals
 pub mod Serving
 pub mod Partings

@@ -1,12 +1,16 @@
 -- Cards that are offered to slots, and the mainframe that was offered them.
-use Rattle.std.specs.Prelude.{◌≡◌, ℕ, Bool, List, [], ◌∷◌, Option, None}
+use Rattle.std.specs.Prelude.{◌≡◌, ℕ, Bool, List, [], ◌∷◌, ◌++◌, Option, None, Some, All, Contains}
 use Rattle.sw_base.specs.declared.reading.Reading.{Reading}
+use Rattle.sw_base.specs.Layout.{slot_at}
 use Rattle.sw_card.specs.Account.{Account, relay_account, of_meter}
+use Rattle.sw_cage.specs.Accounts.{Accounts}
+use Rattle.sw_cage.specs.Install.{RefusesInstall}
+use Rattle.sw_cage.specs.declared.refusal.InstallRefusal.{InstallRefusal}
 use Rattle.sw_core.specs.declared.ask.Sid.{Sid}
 use Rattle.sw_core.specs.declared.ask.SessionAsk.TheVariants as Ask
 use Rattle.sw_core.specs.declared.ask.SessionAnswer.TheVariants.{Joined}
 use Rattle.sw_core.specs.Panel.{Panel, opening}
-use Rattle.sw_core.specs.Seen.{AskSeen, AskSession, AskInstall, AnswerSeen, SaysSession}
+use Rattle.sw_core.specs.Seen.{AskSession, AskInstall, SaysSession, SaysInstalled}
 use Rattle.sw_core.specs.Step.{Step}
 use Rattle.sw_session.specs.CoreDesk.{DeskSeen, desk_over}
 use Rattle.sw_serve.specs.declared.offer.OwnCard.{OwnCard}
@@ -38,31 +42,48 @@ offers_seen relays meters [] = []
 offers_seen relays meters (o ∷ more) =
     offered o.slot (own_seen relays meters o.card) ∷ offers_seen relays meters more
 
--- one step of the mainframe, whatever it answers
-pub record Stepped (p : Panel) (ask : AskSeen) (q : Panel) : Type 0 where
+-- the mainframe is offered a card, and takes it
+pub record Takes (p : Panel) (o : Offered) (q : Panel) : Type 0 where
   pub failed : Bool
-  pub answer : AnswerSeen
-  pub step : Step p ask failed answer q
+  pub step : Step p (AskInstall o.slot o.card) failed SaysInstalled q
 
--- the mainframe is offered these cards one after another, each once, whatever it answers
+-- the mainframe is offered these cards one after another, each once, and takes each
 abbrev pub TakesOffers : Panel → List Offered → Panel → Type 0
 TakesOffers p [] q = q ≡ p
-TakesOffers p (o ∷ more) q = (mid : Panel) × Stepped p (AskInstall o.slot o.card) mid × TakesOffers mid more q
+TakesOffers p (o ∷ more) q = (mid : Panel) × Takes p o mid × TakesOffers mid more q
 
--- the mainframe once these cards were offered to the empty cage
-abbrev pub IsFitted : List Offered → Panel → Type 0
-IsFitted cards panel = TakesOffers opening cards panel
+-- each of these cards stands in the slot that it was offered to, and no other slot has a card
+pub record Holds (rack : Accounts) (cards : List Offered) : Type 0 where
+  pub each : All (λ o. slot_at rack o.slot ≡ Some o.card) cards
+  pub only : (slot : ℕ) (card : Account) → slot_at rack slot ≡ Some card → Contains cards (offered slot card)
+
+-- The mainframe takes the cards that stand before one in the list, and refuses that one, for this cause. What stands
+-- behind it is not offered.
+pub record RefusesOffer (p : Panel) (cards : List Offered) (slot : ℕ) (why : InstallRefusal) : Type 0 where
+  pub before : List Offered
+  pub card : Account
+  pub behind : List Offered
+  pub listed : cards ≡ before ++ offered slot card ∷ behind
+  pub last : Panel
+  pub takes : TakesOffers p before last
+  pub refuses : RefusesInstall last.cage slot card why
+
+-- the mainframe once it took these cards into the empty cage
+pub record IsFitted (cards : List Offered) (panel : Panel) : Type 0 where
+  pub takes : TakesOffers opening cards panel
+  pub holds : Holds panel.cage.cards cards
 
 -- a session joins the opening mainframe
 pub record Joins (sid : Sid) (q : Panel) : Type 0 where
   pub failed : Bool
   pub step : Step opening (AskSession Ask.Join) failed (SaysSession (Joined sid) None) q
 
--- the mainframe once a session joined and these cards were offered to the empty cage
+-- the mainframe once a session joined and it took these cards into the empty cage
 pub record IsSetUp (cards : List Offered) (sid : Sid) (panel : Panel) : Type 0 where
   pub begun : Panel
   pub joined : Joins sid begun
   pub fitted : TakesOffers begun cards panel
+  pub holds : Holds panel.cage.cards cards
 
 -- a desk over such a mainframe, with nothing outstanding
 pub record IsDeskForOne (cards : List Offered) (sid : Sid) (desk : DeskSeen) : Type 0 where

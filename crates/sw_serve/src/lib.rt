@@ -2,12 +2,15 @@
 //!
 //! Who has cards of their own makes a list of offers (`Offer`), each a card and the slot that it is for. `desk_for_one`
 //! fits them into a mainframe for one session without a network; `serve_cards` serves whoever comes to a port (`Port`),
-//! each connection by a thread of its own, until so many have come or the port has ended, and then closes down.
+//! each connection by a thread of its own, until so many have come or the port has ended, and then closes down. Where
+//! the mainframe refuses a card both tell which, and why (`FitError`), and serve nobody.
 //!
 //! The crate's contract is that of `serve_cards`: exactly so many connections are taken, or fewer where the port has
-//! ended; the mainframe was offered the cards of the list, each once and in its order; and at the end these come out
-//! of their slots, each as it stood there at the end of the history, but with every relay open (`ClosesDown`). What
-//! the thread of a connection does is said by `serving::attend`.
+//! ended; the mainframe took the cards of the list, each once and in its order, so that each stood in its slot and
+//! nothing else in any; and at the end these come out of their slots, each as it stood there at the end of the
+//! history, but with every relay open (`ClosesDown`). Where a card is refused, the first such is named with the
+//! mainframe's own cause, and no connection is taken. What the thread of a connection does is said by
+//! `serving::attend`.
 //!
 //! Nothing is promised of what a network carries, of when a thread goes on, nor of what is told to a log.
 #![tactic(auto)]
@@ -21,6 +24,7 @@ mod offer;
 mod port;
 mod serving;
 mod single;
+mod unfit;
 mod visitor;
 
 pub use door::Door;
@@ -30,4 +34,5 @@ pub use offer::{Offer, OwnCard, fit};
 pub use port::{Arrival, Port};
 pub use serving::{serve_cards, serve_over};
 pub use single::desk_for_one;
+pub use unfit::FitError;
 pub use visitor::{Heard, Told, Visitor};

@@ -1,13 +1,19 @@
 //! Cards that are offered to the slots of a mainframe.
 
-ghost use Rattle.std.specs.Prelude.{◌≡◌, IfOk};
+ghost use Rattle.std.specs.Prelude.{◌≡◌, ◌≤◌, ◌<◌, IfOk, IfErr, OnOk};
+ghost use Rattle.sw_cage.specs.Install.{RefusesInstall};
+ghost use Rattle.sw_core.specs.Event.{last_number};
 ghost use Rattle.sw_core.specs.Good.{IsGoodPanel};
-ghost use Rattle.sw_core.specs.Seen.{AskInstall};
-ghost use Rattle.sw_serve.specs.Offers.{own_seen, offers_seen, relay_seen, meter_seen, Stepped, TakesOffers, IsFitted};
+ghost use Rattle.sw_core.specs.Panel.{opening};
+ghost use Rattle.sw_serve.specs.Fitting.{IsUnfitted, AreWelcome};
+ghost use Rattle.sw_serve.specs.Offers.{offered, own_seen, offers_seen, relay_seen, meter_seen};
+ghost use Rattle.sw_serve.specs.Offers.{Takes, TakesOffers, RefusesOffer, IsFitted};
 
-use std::alloc::{AllocError, Global};
+use crate::unfit::FitError;
+use std::alloc::Global;
+use sw_cage::InstallRefusal;
 use sw_card::{Card, Meter, Relay};
-use sw_core::{Ask, Core, mainframe_stays_good};
+use sw_core::{Answer, Ask, Core, mainframe_stays_good};
 
 /// A card of one's own, of either kind.
 #[derive(Drop)]
@@ -58,40 +64,68 @@ fn card_of<R: Relay, M: Meter>(own: OwnCard<R, M>) -> Card<R, M>
     }
 }
 
-/// Offers a mainframe a card, whatever it answers. One that it doesn't take is let go.
-fn offer_one<R: Relay, M: Meter>(alloc: Global, core: &mut Core<R, M>, slot: u8, card: Card<R, M>)
-    ensures { Stepped core.old (AskInstall slot card.1) core.new }
+/// Offers a mainframe a card, and tells why it is refused. A refused card is let go.
+fn offer_one<R: Relay, M: Meter>(
+    alloc: Global,
+    core: &mut Core<R, M>,
+    slot: u8,
+    card: Card<R, M>,
+) -> Result<(), InstallRefusal>
+    requires { core.old.events < last_number }
+    ensures taken { OnOk result (Takes core.old (offered slot card.1) core.new) }
+    ensures refused { IfErr result (λ why. RefusesInstall core.old.cage slot card.1 why) }
 {
-    drop(core.apply(alloc, Ask::Install(slot, card)));
+    match core.apply(alloc, Ask::Install(slot, card)) {
+        Answer::Installed => Ok(()),
+        Answer::NotInstalled(why, _) => Err(why),
+        _ => unreachable!(),
+    }
 }
 
-/// Offers a mainframe these cards, one after another.
+/// Offers a mainframe these cards, one after another, up to the first that it refuses: its slot, and why.
 pub(crate) fn offer_all<R: Relay, M: Meter>(
     alloc: Global,
     core: &mut Core<R, M>,
     offers: Vec<Offer<R, M>>,
-)
-    ensures { TakesOffers core.old (offers_seen (relay_seen R.the_serial R.failed R.groups R.closed)
-        (meter_seen M.the_serial M.failed M.last_reading) offers.items) core.new }
+) -> Result<(), (u8, InstallRefusal)>
+    requires { core.old.events ≤ 1 }
+    ensures taken { OnOk result (TakesOffers core.old (offers_seen
+        (relay_seen R.the_serial R.failed R.groups R.closed)
+        (meter_seen M.the_serial M.failed M.last_reading) offers.items) core.new) }
+    ensures refused { IfErr result (λ refused. RefusesOffer core.old (offers_seen
+        (relay_seen R.the_serial R.failed R.groups R.closed)
+        (meter_seen M.the_serial M.failed M.last_reading) offers.items) refused.0 refused.1) }
 {
     for offered in offers {
         let Offer { slot, card } = offered;
-        offer_one(alloc, core, slot, card_of(card));
+        if let Err(why) = offer_one(alloc, core, slot, card_of(card)) {
+            return Err((slot, why));
+        }
     }
+    Ok(())
 }
 
-/// A mainframe that was offered these cards.
+/// A mainframe that took each of these cards, or the first of them that it refuses, and why: a slot that the cage
+/// doesn't have or that has a card, or relays of no channel, too many, or a closed one.
 pub fn fit<R: Relay, M: Meter>(
     alloc: Global,
     offers: Vec<Offer<R, M>>,
-) -> Result<Core<R, M>, AllocError>
+) -> Result<Core<R, M>, FitError>
     ensures fitted { IfOk result (λ core. IsFitted (offers_seen
         (relay_seen R.the_serial R.failed R.groups R.closed)
         (meter_seen M.the_serial M.failed M.last_reading) offers.items) core) }
     ensures good { IfOk result (λ core. IsGoodPanel core) }
+    ensures refused { IfErr result (λ error. IsUnfitted opening (offers_seen
+        (relay_seen R.the_serial R.failed R.groups R.closed)
+        (meter_seen M.the_serial M.failed M.last_reading) offers.items) error) }
+    ensures welcome { AreWelcome (offers_seen (relay_seen R.the_serial R.failed R.groups R.closed)
+        (meter_seen M.the_serial M.failed M.last_reading) offers.items)
+        → IfErr result (λ error. error ≡ FitError.Memory) }
 {
     mainframe_stays_good();
     let mut core = Core::new(alloc)?;
-    offer_all(alloc, &mut core, offers);
+    if let Err((slot, why)) = offer_all(alloc, &mut core, offers) {
+        return Err(FitError::Refused { slot, why });
+    }
     Ok(core)
 }

@@ -1,9 +1,11 @@
 //! Connections, each served by a thread of its own.
 
-ghost use Rattle.std.specs.Prelude.{◌≡◌, ◌≤◌, ◌+◌, ◌<◌, ◌^◌, false, All, IfOk, OnOk, IfSome};
+ghost use Rattle.std.specs.Prelude.{◌≡◌, ◌≢◌, ◌≤◌, ◌+◌, ◌<◌, ◌^◌, false, All, IfOk, IfErr, OnOk, IfSome};
 ghost use Rattle.sw_cage.specs.Accounts.{accounts_of};
 ghost use Rattle.sw_core.specs.Good.{IsGoodPanel};
+ghost use Rattle.sw_core.specs.Panel.{opening};
 ghost use Rattle.sw_serve.specs.Arrivals.{TakesUpTo};
+ghost use Rattle.sw_serve.specs.Fitting.{IsUnfitted, AreWelcome};
 ghost use Rattle.sw_serve.specs.Offers.{offers_seen, relay_seen, meter_seen};
 ghost use Rattle.sw_serve.specs.Serving.{ClosesDown};
 ghost use Rattle.sw_session.specs.Talk.{turns};
@@ -17,6 +19,7 @@ use crate::lobby::Lobby;
 use crate::log::Log;
 use crate::offer::{Offer, fit};
 use crate::port::{Arrival, Port};
+use crate::unfit::FitError;
 use crate::visitor::{Heard, Told, Visitor};
 use crossbeam_channel::Receiver;
 use std::alloc::{AllocError, Global};
@@ -35,6 +38,8 @@ use sw_workers::{
 /// Takes so many connections, or fewer where the port ends, each served by a thread of its own over these cards, and
 /// then closes down. A connection that fails counts; one for which there is no memory or no thread is closed. Once the
 /// port has ended each session ends after the message that it is in, and one that goes on for 0.7 seconds is cut off.
+///
+/// Where the mainframe refuses a card, the first such is told, and no connection is taken.
 pub fn serve_cards<
     R: Relay + Send + 'static,
     M: Meter + Send + 'static,
@@ -46,7 +51,7 @@ pub fn serve_cards<
     port: &mut P,
     limit: u32,
     offers: Vec<Offer<R, M>>,
-) -> Result<Closed<R, M>, AllocError>
+) -> Result<Closed<R, M>, FitError>
     requires { P.taken port.old + limit < 2 ^ 32 }
     ensures taken { OnOk result (TakesUpTo limit (P.taken port.old) (P.taken port.new) (P.ended port.new)) }
     ensures cards { IfOk result (λ closed. ClosesDown (offers_seen
@@ -55,10 +60,18 @@ pub fn serve_cards<
         closed.events (accounts_of closed.cards.items)) }
     ensures open { IfOk result (λ closed.
         All (λ slot. IfSome slot (λ card. IsOpen card.1)) closed.cards.items) }
+    ensures refused { IfErr result (λ error. IsUnfitted opening (offers_seen
+        (relay_seen R.the_serial R.failed R.groups R.closed)
+        (meter_seen M.the_serial M.failed M.last_reading) offers.items) error) }
+    ensures unserved { IfErr result (λ error. error ≢ FitError.Memory → port.new ≡ port.old) }
+    ensures welcome { AreWelcome (offers_seen (relay_seen R.the_serial R.failed R.groups R.closed)
+        (meter_seen M.the_serial M.failed M.last_reading) offers.items)
+        → IfErr result (λ error. error ≡ FitError.Memory) }
 {
     let core = fit(alloc, offers)?;
     let opening = Opening::new(alloc, core)?;
-    serve_over::<Brand, R, M, Open, W, P>(rt, alloc, port, limit, opening, Open)
+    let closed = serve_over::<Brand, R, M, Open, W, P>(rt, alloc, port, limit, opening, Open)?;
+    Ok(closed)
 }
 
 /// Takes so many connections over a mainframe that has a name, or fewer where the port ends, and then closes it down.

@@ -1,28 +1,56 @@
 //! A mainframe for one session, without a network.
 
-ghost use Rattle.std.specs.Prelude.{◌≡◌, IfOk};
+ghost use Rattle.std.specs.Prelude.{◌≡◌, IfOk, IfErr};
 ghost use Rattle.sw_core.specs.Panel.{opening};
-ghost use Rattle.sw_serve.specs.Offers.{offers_seen, relay_seen, meter_seen, Joins, IsDeskForOne};
+ghost use Rattle.sw_serve.specs.Fitting.{IsUnfittedForOne, AreWelcome};
+ghost use Rattle.sw_serve.specs.Offers.{offers_seen, relay_seen, meter_seen, Joins, IsSetUp, IsDeskForOne};
 
 use crate::offer::{Offer, offer_all};
-use std::alloc::{AllocError, Global};
+use crate::unfit::FitError;
+use std::alloc::Global;
 use sw_card::{Meter, Relay};
 use sw_core::{Answer, Ask, Core, SessionAnswer, SessionAsk, Sid};
 use sw_session::CoreDesk;
 
-/// The desk over a mainframe that one session has joined and that was offered these cards, and that session: a
-/// `Talker` of it answers program messages.
+/// The desk over a mainframe that one session has joined and that took each of these cards, and that session: a
+/// `Talker` of it answers program messages. Or the first card that the mainframe refuses, and why.
 pub fn desk_for_one<R: Relay, M: Meter>(
     alloc: Global,
     offers: Vec<Offer<R, M>>,
-) -> Result<(CoreDesk<R, M>, Sid), AllocError>
-    ensures { IfOk result (λ x. IsDeskForOne (offers_seen (relay_seen R.the_serial R.failed R.groups R.closed)
+) -> Result<(CoreDesk<R, M>, Sid), FitError>
+    ensures desk { IfOk result (λ x. IsDeskForOne (offers_seen (relay_seen R.the_serial R.failed R.groups R.closed)
         (meter_seen M.the_serial M.failed M.last_reading) offers.items) x.1 x.0) }
+    ensures refused { IfErr result (λ error. IsUnfittedForOne (offers_seen
+        (relay_seen R.the_serial R.failed R.groups R.closed)
+        (meter_seen M.the_serial M.failed M.last_reading) offers.items) error) }
+    ensures welcome { AreWelcome (offers_seen (relay_seen R.the_serial R.failed R.groups R.closed)
+        (meter_seen M.the_serial M.failed M.last_reading) offers.items)
+        → IfErr result (λ error. error ≡ FitError.Memory) }
+{
+    let (core, sid) = set_up(alloc, offers)?;
+    Ok((CoreDesk::new(alloc, core), sid))
+}
+
+/// A mainframe that one session has joined and that took each of these cards, and that session.
+fn set_up<R: Relay, M: Meter>(
+    alloc: Global,
+    offers: Vec<Offer<R, M>>,
+) -> Result<(Core<R, M>, Sid), FitError>
+    ensures set_up { IfOk result (λ x. IsSetUp (offers_seen (relay_seen R.the_serial R.failed R.groups R.closed)
+        (meter_seen M.the_serial M.failed M.last_reading) offers.items) x.1 x.0) }
+    ensures refused { IfErr result (λ error. IsUnfittedForOne (offers_seen
+        (relay_seen R.the_serial R.failed R.groups R.closed)
+        (meter_seen M.the_serial M.failed M.last_reading) offers.items) error) }
+    ensures welcome { AreWelcome (offers_seen (relay_seen R.the_serial R.failed R.groups R.closed)
+        (meter_seen M.the_serial M.failed M.last_reading) offers.items)
+        → IfErr result (λ error. error ≡ FitError.Memory) }
 {
     let mut core = Core::new(alloc)?;
     let sid = join(alloc, &mut core);
-    offer_all(alloc, &mut core, offers);
-    Ok((CoreDesk::new(alloc, core), sid))
+    if let Err((slot, why)) = offer_all(alloc, &mut core, offers) {
+        return Err(FitError::Refused { slot, why });
+    }
+    Ok((core, sid))
 }
 
 /// Joins the opening mainframe.

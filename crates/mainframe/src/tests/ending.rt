@@ -1,9 +1,9 @@
-//! `serve` until its input ends, over the loopback, beside idle clients.
+//! `serve` until its input ends, over the loopback: idle clients, a held query, a lock, a pause of an hour.
 
 use crate::serving::serve_on;
-use crate::tests::clients::Client;
+use crate::tests::clients::{Client, LOCK, LOCKED, answers, header};
 use std::alloc::Global;
-use std::io;
+use std::io::{self, Write};
 use std::net::{Net, Shutdown, SocketAddr, TcpListener, TcpStream};
 use std::sync::Wait;
 use std::test::Fail;
@@ -13,6 +13,13 @@ use sw_serve::{Door, Silent};
 
 /// Within how many milliseconds of its input's end a server ends.
 const END_MS: u128 = 2_000;
+
+/// A scan whose pause has an hour, and a query that waits for its end.
+const LONG: &[u8] = b"HS\x07\x00\xff\xff\xff\x00\x00\x00\x00\x00\x00\x00\x00\x30\
+    ROUT:SCAN (@1!1);:TRIG:DEL 3600;:INIT;*OPC;*OPC?";
+
+/// AsyncLock for the exclusive lock within 2^32 - 1 milliseconds.
+const LOCK_LATER: &[u8] = b"HS\x04\x01\xff\xff\xff\xff\x00\x00\x00\x00\x00\x00\x00\x00";
 
 /// Whether a server ends with its mainframe closed down once this input ends, and when.
 fn serves_until<W: Threads + Wait + Clock + Copy + Drop + Send + Sync + 'static>(
@@ -56,6 +63,33 @@ fn all_are_left<C: Clock>(rt: &C, clients: &mut [Client], output: &TcpStream) ->
     Some(start)
 }
 
+/// Makes clients busy: session 2 waits for a pause of an hour, session 3 has the lock, session 16 waits for it, and
+/// session 4 has only begun a message. Whether all that was sent, and the lock was given; none where one isn't there.
+fn are_busy(clients: &mut [Client]) -> Option<bool> {
+    let pauses = clients.get_mut(1)?.first.write_all(LONG).is_ok();
+    let has_lock = answers(&mut clients.get_mut(2)?.second, LOCK, LOCKED);
+    let waits = clients.get_mut(15)?.second.write_all(LOCK_LATER).is_ok();
+    let begun = header(7, 0, [255, 255, 255, 0], 9);
+    let begins = clients.get_mut(3)?.first.write_all(&begun).is_ok();
+    Some(pauses && has_lock && waits && begins)
+}
+
+/// Sixteen clients, of which four are busy and the others idle, and a connection that has only begun a header.
+fn busy<R: Net<Stream = TcpStream> + Clock>(
+    rt: &R,
+    alloc: Global,
+    addr: SocketAddr,
+    output: &TcpStream,
+) -> Option<Instant> {
+    let mut standing = TcpStream::connect(rt, addr).ok()?;
+    let mut clients = clients(rt, alloc, addr, 16)?;
+    let stands = standing.write_all(b"HS\x00").is_ok();
+    if !stands || are_busy(clients.as_mut_slice()) != Some(true) {
+        return None;
+    }
+    all_are_left(rt, clients.as_mut_slice(), output)
+}
+
 /// Sixteen clients that do nothing.
 fn idle<R: Net<Stream = TcpStream> + Clock>(
     rt: &R,
@@ -95,6 +129,21 @@ fn idle_clients_hold_no_end_up(rt: HostRuntime) -> Result<(), Fail> {
         &rt,
         || serves_until(rt, alloc, &listener, input),
         || idle(&rt, alloc, addr, &output),
+    );
+    assert!(rt; ends_soon(start, end));
+    Ok(())
+}
+
+#[test]
+fn busy_clients_hold_no_end_up(rt: HostRuntime) -> Result<(), Fail> {
+    let listener = TcpListener::bind(&rt, "127.0.0.1:0")?;
+    let addr = listener.local_addr()?;
+    let alloc = rt.alloc();
+    let (input, output) = input_of(&rt)?;
+    let (end, start) = join(
+        &rt,
+        || serves_until(rt, alloc, &listener, input),
+        || busy(&rt, alloc, addr, &output),
     );
     assert!(rt; ends_soon(start, end));
     Ok(())

@@ -5,6 +5,7 @@ mod command_line;
 mod doors;
 mod ending;
 mod listing;
+mod resting;
 mod rows;
 mod serving;
 mod timing;

@@ -1,5 +1,6 @@
-//! What the relays are told, and what a line that fails comes to.
+//! What the relays are told, what a line that fails comes to, and what is said of cards that are wired wrongly.
 
+use crate::fault::Fault;
 use crate::line_driver::LineDriver;
 use crate::line_source::LineSource;
 use crate::uses::answer;
@@ -37,7 +38,7 @@ fn answered<W: Wait + Copy + Drop>(
     alloc: Global,
     taken: Arc<Mutex<Vec<u8>>, Global>,
     typed: &[u8],
-) -> io::Result<Vec<u8>> {
+) -> Result<Vec<u8>, Fault> {
     let mut cards = Vec::new(alloc);
     let wire = Wire { rt, taken };
     cards.push(Offer::relays(1, Matrix::new(1, 16, LineDriver::new(1, wire))))?;
@@ -100,5 +101,48 @@ fn a_line_that_fails_opens_everything(rt: HostRuntime) -> Result<(), Fail> {
         b"1 off\n1 close 3\n1 close 1 off\n1 off\n",
     );
     assert!(rt; talked == Some(true));
+    Ok(())
+}
+
+/// Whether a matrix for each of these slots is refused, with this line.
+fn is_refused<W: Wait + Copy + Drop>(
+    rt: W,
+    alloc: Global,
+    first: u8,
+    second: u8,
+    channels: u8,
+    line: &str,
+) -> Option<bool> {
+    let taken = Arc::new(alloc, Mutex::new(Vec::new(alloc))).ok()?;
+    let theirs = Arc::try_clone(&taken).ok()?;
+    let one = LineDriver::new(1, Wire { rt, taken });
+    let other = LineDriver::new(2, Wire { rt, taken: theirs });
+    let mut cards = Vec::new(alloc);
+    cards
+        .push(Offer::relays(first, Matrix::new(1, 16, one)))
+        .ok()?;
+    cards
+        .push(Offer::relays(second, Matrix::new(2, channels, other)))
+        .ok()?;
+    let lines = b"".as_slice();
+    cards
+        .push(Offer::meter(4, Volt::new(4, LineSource::new(alloc, lines))))
+        .ok()?;
+    let mut reader = b"*IDN?\n".as_slice();
+    let mut told = Vec::new(alloc);
+    let fault = answer(alloc, &mut reader, &mut told, cards).err()?;
+    let text = format!(in alloc; "{fault}").ok()?;
+    Some(text.as_str() == line && told.is_empty() && reader.len() == 6)
+}
+
+#[test]
+fn a_card_that_is_refused_is_named(rt: HostRuntime) -> Result<(), Fail> {
+    let alloc = rt.alloc();
+    let is_there = "slot 2: a card is there already";
+    assert!(rt; is_refused(rt, alloc, 2, 2, 16, is_there) == Some(true));
+    let is_outside = "slot 17: no such slot";
+    assert!(rt; is_refused(rt, alloc, 1, 17, 16, is_outside) == Some(true));
+    let is_unfit = "slot 3: the card has no channel, more than 99, or a closed one";
+    assert!(rt; is_refused(rt, alloc, 1, 3, 100, is_unfit) == Some(true));
     Ok(())
 }
