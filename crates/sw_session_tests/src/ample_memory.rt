@@ -39,7 +39,13 @@ fn serves_first(alloc: Global) -> bool {
 
 fn serves_second(alloc: Global) -> bool {
     match sent_by(alloc, &second_rows()) {
-        Some(bytes) => writes(alloc, Channel::Asynchronous, bytes.as_slice(), false, &SECOND),
+        Some(bytes) => writes(
+            alloc,
+            Channel::Asynchronous,
+            bytes.as_slice(),
+            false,
+            &SECOND,
+        ),
         None => false,
     }
 }

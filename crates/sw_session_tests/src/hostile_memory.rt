@@ -75,8 +75,7 @@ pub const SECOND: [&[u8]; 5] = [JOINED, SIZE, GRANTED, HELD, STATUS];
 
 /// Whether what was written on the second connection is all, or tells that the key found no memory.
 fn is_explained_second(main: &[u8]) -> bool {
-    is_front(main, &SECOND)
-        || is_front(main, &[JOINED, SIZE, REFUSED, FREE, STATUS])
+    is_front(main, &SECOND) || is_front(main, &[JOINED, SIZE, REFUSED, FREE, STATUS])
 }
 
 /// Whether a server ended with its input or for want of memory, its own or that of its writer, and its session left
