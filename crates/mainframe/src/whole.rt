@@ -31,7 +31,8 @@ pub fn read_whole<Rd: Read>(alloc: Global, reader: &mut Rd) -> Result<Vec<u8>, R
 
 /// Asks the reader once, and keeps what it gives behind the text so far. Returns whether the reader is at its end.
 fn take_piece<Rd: Read>(reader: &mut Rd, text: &mut Vec<u8>) -> Result<bool, RunFault>
-    ensures takes { TakesPiece (Rd.remaining reader.old) (Rd.remaining reader.new) text.old.items text.new.items result }
+    ensures takes { TakesPiece (Rd.remaining reader.old) (Rd.remaining reader.new)
+        text.old.items text.new.items result }
     ensures fault { IfErr result IsOfReading }
 {
     let mut piece = [0_u8; PIECE];

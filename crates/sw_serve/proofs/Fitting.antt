@@ -1,5 +1,6 @@
 -- What a mainframe holds that has taken the cards of a list, and which lists it never refuses.
-use Rattle.std.proofs.Common.{◌≡◌, ◌≢◌, ◌≤◌, ◌<◌, ◌-◌, ◌⊎◌, ◌==◌, ◌&&◌, not, MatchBool, ℕ, Bool, true, false, List, [], ◌∷◌, ◌++◌, length, replicate, refl, sym, ap, subst, ◌∙◌}
+use Rattle.std.proofs.Common.{◌≡◌, ◌≢◌, ◌≤◌, ◌<◌, ◌-◌, ◌⊎◌, ◌==◌, ◌&&◌, not, MatchBool, ℕ, Bool, true, false, List, [], ◌∷◌, ◌++◌}
+use Rattle.std.proofs.Common.{length, replicate, refl, sym, ap, subst, ◌∙◌}
 use Rattle.std.proofs.Common.{Option, None, Some, inl, inr, arith, is_some, cond, ltb, get_or, zero, suc}
 use Rattle.std.specs.Prelude.{slice_set, All, Contains}
 use Rattle.std.proofs.lemmas.Bool.{cases_eq}
