@@ -7,10 +7,11 @@ use Rattle.sw_card.specs.Account.{Account}
 use Rattle.sw_cage.specs.Install.{CanInstall, RefusesInstall}
 use Rattle.sw_cage.specs.declared.refusal.InstallRefusal.{InstallRefusal}
 use Rattle.sw_core.specs.Event.{last_number, next_number}
-use Rattle.sw_core.specs.Good.{IsGoodPanel, StaysGood}
+use Rattle.sw_core.specs.Opening.{IsFresh, RunsGoOn}
 use Rattle.sw_core.specs.Panel.{Panel}
+use Rattle.sw_core.specs.Run.{Event}
 use Rattle.sw_core.specs.Seen.{AskInstall, SaysInstalled}
-use Rattle.sw_core.specs.Step.{IsEvent, IsUnnumbered, acts_unnumbered}
+use Rattle.sw_core.specs.Step.{Step, IsEvent, IsUnnumbered, acts_unnumbered}
 use Rattle.sw_serve.specs.declared.offer.Offer.{Offer}
 use Rattle.sw_serve.specs.Offers.{Offered, offered, own_seen, offers_seen, Takes, TakesOffers, RefusesOffer}
 
@@ -96,11 +97,18 @@ refuses-next relays meters p m front all o card why is within next own so refuse
       refuses = refuses;
     }
 
--- what is good stays good
-pub good-offers : StaysGood → (p q : Panel) (cards : List Offered) → TakesOffers p cards q → IsGoodPanel p → IsGoodPanel q
-good-offers law p q [] is good = subst IsGoodPanel (sym is) good
-good-offers law p q (o ∷ cards) (mid, first, more) good =
-    good-offers law mid q cards more (law.step p mid (AskInstall o.slot o.card) first.failed SaysInstalled good first.step)
+-- a fresh mainframe that takes a card is fresh
+fresh-step : (p : Panel) (o : Offered) (q : Panel) → RunsGoOn → Takes p o q → IsFresh p → IsFresh q
+fresh-step p o q law t fresh =
+    let e : Event = record { ask = AskInstall o.slot o.card; answer = SaysInstalled; panel = q } in
+    law.offered p e fresh refl (record {
+      own = t.own;
+      step = subst (λ (f : Bool). Step p (AskInstall o.slot o.card) f SaysInstalled q) t.counted t.step;
+    })
+
+pub fresh-offers : RunsGoOn → (p q : Panel) (cards : List Offered) → TakesOffers p cards q → IsFresh p → IsFresh q
+fresh-offers law p q [] is fresh = subst IsFresh (sym is) fresh
+fresh-offers law p q (o ∷ cards) (mid, first, more) fresh = fresh-offers law mid q cards more (fresh-step p o mid law first fresh)
 
 -- one offer more on both sides
 pub told-more : {R M S N : Type 0} (relays : R → Account) (meters : M → Account) (relays' : S → Account) (meters' : N → Account)

@@ -10,7 +10,7 @@ use Rattle.sw_core.specs.declared.ask.Sid.{Sid}
 use Rattle.sw_core.specs.declared.ask.SessionAsk.TheVariants as Ask
 use Rattle.sw_core.specs.declared.ask.SessionAnswer.TheVariants.{Joined}
 use Rattle.sw_core.specs.Panel.{Panel, opening}
-use Rattle.sw_core.specs.Seen.{AskSession, AskInstall, SaysSession, SaysInstalled}
+use Rattle.sw_core.specs.Seen.{AskSession, AskInstall, SaysSession, SaysInstalled, failed_in, IsOwnAccount}
 use Rattle.sw_core.specs.Step.{Step}
 use Rattle.sw_session.specs.CoreDesk.{DeskSeen, desk_over}
 use Rattle.sw_serve.specs.declared.offer.OwnCard.{OwnCard}
@@ -45,6 +45,8 @@ offers_seen relays meters (o ∷ more) =
 -- the mainframe is offered a card, and takes it
 pub record Takes (p : Panel) (o : Offered) (q : Panel) : Type 0 where
   pub failed : Bool
+  pub own : IsOwnAccount (AskInstall o.slot o.card)
+  pub counted : failed ≡ failed_in (AskInstall o.slot o.card) SaysInstalled p.cage.cards q.cage.cards
   pub step : Step p (AskInstall o.slot o.card) failed SaysInstalled q
 
 -- the mainframe is offered these cards one after another, each once, and takes each

@@ -3,7 +3,7 @@
 ghost use Rattle.std.specs.Prelude.{◌≡◌, ◌≤◌, ◌<◌, IfOk, IfErr, OnOk};
 ghost use Rattle.sw_cage.specs.Install.{RefusesInstall};
 ghost use Rattle.sw_core.specs.Event.{last_number};
-ghost use Rattle.sw_core.specs.Good.{IsGoodPanel};
+ghost use Rattle.sw_core.specs.Opening.{IsFresh};
 ghost use Rattle.sw_core.specs.Panel.{opening};
 ghost use Rattle.sw_serve.specs.Fitting.{IsUnfitted, AreWelcome};
 ghost use Rattle.sw_serve.specs.Offers.{offered, own_seen, offers_seen, relay_seen, meter_seen};
@@ -13,7 +13,7 @@ use crate::unfit::FitError;
 use std::alloc::Global;
 use sw_cage::InstallRefusal;
 use sw_card::{Card, Meter, Relay};
-use sw_core::{Answer, Ask, Core, mainframe_stays_good};
+use sw_core::{Answer, Ask, Core, runs_go_on};
 
 /// A card of one's own, of either kind.
 #[derive(Drop)]
@@ -114,7 +114,7 @@ pub fn fit<R: Relay, M: Meter>(
     ensures fitted { IfOk result (λ core. IsFitted (offers_seen
         (relay_seen R.the_serial R.failed R.groups R.closed)
         (meter_seen M.the_serial M.failed M.last_reading) offers.items) core) }
-    ensures good { IfOk result (λ core. IsGoodPanel core) }
+    ensures fresh { IfOk result (λ core. IsFresh core) }
     ensures refused { IfErr result (λ error. IsUnfitted opening (offers_seen
         (relay_seen R.the_serial R.failed R.groups R.closed)
         (meter_seen M.the_serial M.failed M.last_reading) offers.items) error) }
@@ -122,7 +122,7 @@ pub fn fit<R: Relay, M: Meter>(
         (meter_seen M.the_serial M.failed M.last_reading) offers.items)
         → IfErr result (λ error. error ≡ FitError.Memory) }
 {
-    mainframe_stays_good();
+    runs_go_on();
     let mut core = Core::new(alloc)?;
     if let Err((slot, why)) = offer_all(alloc, &mut core, offers) {
         return Err(FitError::Refused { slot, why });

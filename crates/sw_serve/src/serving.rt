@@ -2,7 +2,7 @@
 
 ghost use Rattle.std.specs.Prelude.{◌≡◌, ◌≢◌, ◌≤◌, ◌+◌, ◌<◌, ◌^◌, false, All, IfOk, IfErr, OnOk, IfSome};
 ghost use Rattle.sw_cage.specs.Accounts.{accounts_of};
-ghost use Rattle.sw_core.specs.Good.{IsGoodPanel};
+ghost use Rattle.sw_core.specs.Opening.{IsFresh};
 ghost use Rattle.sw_core.specs.Panel.{opening};
 ghost use Rattle.sw_serve.specs.Arrivals.{TakesUpTo};
 ghost use Rattle.sw_serve.specs.Fitting.{IsUnfitted, AreWelcome};
@@ -90,7 +90,7 @@ pub fn serve_over<
     opening: Opening<R, M>,
     gate: G,
 ) -> Result<Closed<R, M>, AllocError>
-    requires first { (opening.core ≡ H.first) × IsGoodPanel opening.core }
+    requires first { (opening.core ≡ H.first) × IsFresh opening.core }
     requires ledger { (opening.blank.name ≡ H.name) × (opening.blank.parts ≡ H.parts) }
     requires board { (opening.board.table.shared.table_id ≡ H.table)
         × (opening.board.table.shared.key ≡ H.opening) }

@@ -1,8 +1,8 @@
 use Rattle.std.proofs.Common.{sym, ap, subst}
-use Rattle.sw_core.specs.Good.{IsGoodPanel}
+use Rattle.sw_core.specs.Opening.{IsFresh}
 use Rattle.sw_core.specs.Panel.{Panel}
 use Rattle.sw_serve.specs.Offers.{offers_seen, relay_seen, meter_seen}
-use Rattle.sw_serve.proofs.Offers.{good-offers}
+use Rattle.sw_serve.proofs.Offers.{fresh-offers}
 use Rattle.sw_serve.proofs.Fitting.{fitted, never_refused, bare_like, bare_opening}
 use Rattle.sw_serve.proofs.offer.fit.Goals as goal
 
@@ -14,10 +14,10 @@ returns-in-Err-clause-welcome g c = λ welcome.
 pub returns-clause-fitted : goal.returns-clause-fitted
 returns-clause-fitted g c = fitted c.in_ok-core.core c.offer_all.new.core _ c.in_ok-core.ensures c.in_default.ensures.taken
 
-pub returns-clause-good : goal.returns-clause-good
-returns-clause-good g c =
-    let law = c.mainframe_stays_good.ensures in
-    let opened = subst IsGoodPanel (sym c.in_ok-core.ensures) (law.opening 0 0) in
+pub returns-clause-fresh : goal.returns-clause-fresh
+returns-clause-fresh g c =
+    let law = c.runs_go_on.ensures in
+    let made = subst IsFresh (sym c.in_ok-core.ensures) (law.made 0 0) in
     let cards = offers_seen (relay_seen g.R.Board.the_serial g.R.Board.failed g.R.Relay.groups g.R.Relay.closed)
     (meter_seen g.M.Board.the_serial g.M.Board.failed g.M.Meter.last_reading) c.args.offers.items in
-    good-offers law c.in_ok-core.core c.offer_all.new.core cards c.in_default.ensures.taken opened
+    fresh-offers law c.in_ok-core.core c.offer_all.new.core cards c.in_default.ensures.taken made
