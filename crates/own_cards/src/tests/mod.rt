@@ -110,7 +110,6 @@ fn is_refused<W: Wait + Copy + Drop>(
     alloc: Global,
     first: u8,
     second: u8,
-    channels: u8,
     line: &str,
 ) -> Option<bool> {
     let taken = Arc::new(alloc, Mutex::new(Vec::new(alloc))).ok()?;
@@ -122,7 +121,7 @@ fn is_refused<W: Wait + Copy + Drop>(
         .push(Offer::relays(first, Matrix::new(1, 16, one)))
         .ok()?;
     cards
-        .push(Offer::relays(second, Matrix::new(2, channels, other)))
+        .push(Offer::relays(second, Matrix::new(2, 16, other)))
         .ok()?;
     let lines = b"".as_slice();
     cards
@@ -139,10 +138,8 @@ fn is_refused<W: Wait + Copy + Drop>(
 fn a_card_that_is_refused_is_named(rt: HostRuntime) -> Result<(), Fail> {
     let alloc = rt.alloc();
     let is_there = "slot 2: a card is there already";
-    assert!(rt; is_refused(rt, alloc, 2, 2, 16, is_there) == Some(true));
+    assert!(rt; is_refused(rt, alloc, 2, 2, is_there) == Some(true));
     let is_outside = "slot 17: no such slot";
-    assert!(rt; is_refused(rt, alloc, 1, 17, 16, is_outside) == Some(true));
-    let is_unfit = "slot 3: the card has no channel, more than 99, or a closed one";
-    assert!(rt; is_refused(rt, alloc, 1, 3, 100, is_unfit) == Some(true));
+    assert!(rt; is_refused(rt, alloc, 1, 17, is_outside) == Some(true));
     Ok(())
 }
