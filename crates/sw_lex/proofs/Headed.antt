@@ -1,17 +1,19 @@
 -- The numbers of a header's words, where it is read.
 use Rattle.std.proofs.Common.{◌≡◌, ℕ, zero, suc, ◌+◌, ◌≤◌, Bool, true, false, not, List, [], ◌∷◌, ◌++◌, length, take, drop, map, refl, sym, ap, subst, ◌∙◌}
 use Rattle.std.proofs.Common.{append_assoc, arith, inl, inr}
-use Rattle.std.specs.Prelude.{◌==◌, get_or, nat_le, ◌<◌}
+use Rattle.std.specs.Prelude.{◌==◌, ◌≢◌, get_or, nat_le, ◌<◌}
+use Rattle.std.proofs.lemmas.Bool.{cases_Bool}
 use Rattle.std.specs.List.{AllByRecursion, list_all}
 use Rattle.std.specs.Char.{to_ascii_uppercase}
 use Rattle.std.proofs.lemmas.Grind.{common_steps, take_at_read}
+use Rattle.std.proofs.Math.Seq.{drop-cons}
 use Rattle.std.proofs.lemmas.List.{length-take-le, length-map, map_push, take-append-drop}
 use Rattle.sw_base.specs.Text.{is_letter, is_word, AllPass, Lacks, StartsOff, Spans}
 use Rattle.sw_base.proofs.Runs.{AllPass-append, AllPass-weaker, lacks}
 use Rattle.sw_lex.specs.Unit.{IsMnemonic, IsName, IsHeading, heading_of, colons, IsPath}
 use Rattle.sw_lex.specs.Split.{nodes_of}
 use Rattle.sw_lex.specs.Headed.{word_number, path_numbers, header_bytes, header_text, header_nodes, first_word}
-use Rattle.sw_lex.specs.Packed.{is_byte, IsNumberOf}
+use Rattle.sw_lex.specs.Packed.{is_byte, capital_of, IsNumberOf}
 use Rattle.sw_lex.specs.Parts.{part_of}
 use Rattle.sw_lex.specs.declared.unit.Header.{Header}
 use Rattle.sw_lex.specs.declared.unit.Header.TheVariants as headers
@@ -73,6 +75,14 @@ counted_rest text n rest kept k c l =
     subst (λ (j : ℕ). drop (n + j) text ≡ drop k rest) (length-take-le k rest l)
     (PathFront-rest text n rest (take k rest) (drop k rest) (front_of_counted text n rest kept c) (sym (take-append-drop k rest)))
 
+-- a colon behind the word
+pub colon_on : (text : List ℕ) (n : ℕ) (rest kept : List ℕ) (k : ℕ) → PathCounted text n rest kept → k ≤ length rest → n + k < length text
+    → get_or text (n + k) 0 ≡ 58 → drop k rest ≡ 58 ∷ drop (n + k + 1) text
+colon_on text n rest kept k c l s e =
+    let f : suc (n + k) ≡ n + k + 1 = omega arith in
+    sym (counted_rest text n rest kept k c l) ∙ drop-cons text (n + k) 0 s ∙ ap (λ (x : ℕ). x ∷ drop (suc (n + k)) text) e
+    ∙ ap (λ (j : ℕ). 58 ∷ drop j text) f
+
 mnemonic_word : (m : List ℕ) → IsMnemonic m → Lacks 58 m
 mnemonic_word [] h = absurd h
 mnemonic_word (b ∷ bs) h = (letter_lacks b h.0, AllPass-weaker is_word (λ (c : ℕ). not (c == 58)) word_lacks bs h.1)
@@ -107,6 +117,17 @@ far_number : (word : List ℕ) → 12 < length word → 0 ≡ word_number word
 far_number word l =
     let e : nat_le (length (map to_ascii_uppercase word)) 12 ≡ false = grind (arith, common_steps, length-map word to_ascii_uppercase, l) in
     rw e refl
+
+pub capital_word : (b c : ℕ) → c ≡ capital_of b → c ≢ 0 → (is_word b ≡ true) × (c ≡ to_ascii_uppercase b)
+capital_word b c e n =
+    elim (cases_Bool (is_word b)) [
+      | inl w ↦ (w, rw w at e)
+      | inr w ↦ absurd (n (rw w at e))
+    ]
+
+-- the same of a second look
+pub capital_so : (b c d : ℕ) → c ≡ capital_of b → c ≢ 0 → d ≡ capital_of b → d ≡ to_ascii_uppercase b
+capital_so b c d e n f = f ∙ sym e ∙ (capital_word b c e n).1
 
 pub word_more : (text : List ℕ) (n : ℕ) → n < length text → AllPass is_word (take n text) → is_word (get_or text n 0) ≡ true
     → AllPass is_word (take (n + 1) text)

@@ -1,8 +1,9 @@
 -- Words in capitals as numbers, and what the numbers in the rows of the code have to be.
-use Rattle.std.specs.Prelude.{◌≡◌, ◌≤◌, ◌<◌, ◌+◌, ◌*◌, ◌-◌, ◌/◌, ◌%◌, ℕ, Bool, ◌==◌, ◌&&◌, nat_lt, nat_le}
-use Rattle.std.specs.Prelude.{List, [], ◌∷◌, length, ◌⊎◌, ⊤, if◌then◌else◌}
+use Rattle.std.specs.Prelude.{◌≡◌, ◌≤◌, ◌<◌, ◌+◌, ◌*◌, ◌-◌, ◌/◌, ◌%◌, ℕ, zero, suc, Bool, ◌==◌, ◌&&◌, nat_lt, nat_le}
+use Rattle.std.specs.Prelude.{List, [], ◌∷◌, ◌++◌, length, map, ◌⊎◌, ⊤, if◌then◌else◌}
 use Rattle.std.specs.List.{list_all}
-use Rattle.sw_base.specs.Text.{AllPass}
+use Rattle.std.specs.Char.{to_ascii_uppercase}
+use Rattle.sw_base.specs.Text.{is_word, AllPass}
 use Rattle.sw_base.specs.Limits.{longest_mnemonic, most_arm_layers}
 use Rattle.sw_lex.specs.declared.table.Key.{Key}
 use Rattle.sw_lex.specs.declared.packing.Form.{Form}
@@ -26,6 +27,24 @@ packed word = packed_after 1 word
 
 abbrev pub is_byte : ℕ → Bool
 is_byte b = nat_lt b 256
+
+-- the last bytes of a number, at most so many, without the one before them
+abbrev pub last_bytes : ℕ → ℕ → List ℕ
+last_bytes zero n = []
+last_bytes (suc k) n = if nat_lt 1 n then last_bytes k (n / 256) ++ (n % 256) ∷ [] else []
+
+-- the word of a number, in capitals
+abbrev pub word_of : ℕ → List ℕ
+word_of n = map to_ascii_uppercase (last_bytes longest_mnemonic n)
+
+-- the capital of a byte that may stand in a mnemonic, 0 of any other
+abbrev pub capital_of : ℕ → ℕ
+capital_of b = if is_word b then to_ascii_uppercase b else 0
+
+-- those of the bytes from i to 255, in their order
+abbrev pub are_capitals : ℕ → List ℕ → Bool
+are_capitals i [] = i == 256
+are_capitals i (x ∷ xs) = x == capital_of i && are_capitals (i + 1) xs
 
 -- the number of a word, 0 for one longer than each mnemonic of the table
 abbrev pub number_at : List ℕ → ℕ

@@ -1,10 +1,10 @@
 //! Words as numbers, so that two are compared at once.
 
-ghost use Rattle.std.specs.Prelude.{◌≡◌, ◌≤◌, ◌++◌, ◌∷◌, [], length, map, take, drop};
+ghost use Rattle.std.specs.Prelude.{◌≡◌, true, ◌≤◌, ◌++◌, ◌∷◌, [], length, map, take, drop};
 ghost use Rattle.std.specs.Char.{to_ascii_uppercase};
 ghost use Rattle.sw_base.specs.Text.{is_word, AllPass, StartsOff};
 ghost use Rattle.sw_lex.specs.Headed.{most_words, word_number};
-ghost use Rattle.sw_lex.specs.Packed.{IsNumberOf, AreNumbersOf};
+ghost use Rattle.sw_lex.specs.Packed.{capital_of, are_capitals, IsNumberOf, AreNumbersOf};
 
 use arrayvec::ArrayVec;
 use sw_base::{MNEMONIC_BYTES, is_word, words};
@@ -20,6 +20,35 @@ pub struct Form {
     pub text: &'static [u8],
     pub short: Word,
     pub long: Word,
+}
+
+/// The capital of each byte that may stand in a mnemonic, 0 for any other.
+static CAPITALS: [u8; 256] = [
+    0, 0, 0, 0, 0, 0, 0, 0, 0, 0, 0, 0, 0, 0, 0, 0, 0, 0, 0, 0, 0, 0, 0, 0, 0, 0, 0, 0, 0, 0, 0, 0,
+    0, 0, 0, 0, 0, 0, 0, 0, 0, 0, 0, 0, 0, 0, 0, 0, 48, 49, 50, 51, 52, 53, 54, 55, 56, 57, 0, 0,
+    0, 0, 0, 0, 0, 65, 66, 67, 68, 69, 70, 71, 72, 73, 74, 75, 76, 77, 78, 79, 80, 81, 82, 83, 84,
+    85, 86, 87, 88, 89, 90, 0, 0, 0, 0, 95, 0, 65, 66, 67, 68, 69, 70, 71, 72, 73, 74, 75, 76, 77,
+    78, 79, 80, 81, 82, 83, 84, 85, 86, 87, 88, 89, 90, 0, 0, 0, 0, 0, 0, 0, 0, 0, 0, 0, 0, 0, 0,
+    0, 0, 0, 0, 0, 0, 0, 0, 0, 0, 0, 0, 0, 0, 0, 0, 0, 0, 0, 0, 0, 0, 0, 0, 0, 0, 0, 0, 0, 0, 0, 0,
+    0, 0, 0, 0, 0, 0, 0, 0, 0, 0, 0, 0, 0, 0, 0, 0, 0, 0, 0, 0, 0, 0, 0, 0, 0, 0, 0, 0, 0, 0, 0, 0,
+    0, 0, 0, 0, 0, 0, 0, 0, 0, 0, 0, 0, 0, 0, 0, 0, 0, 0, 0, 0, 0, 0, 0, 0, 0, 0, 0, 0, 0, 0, 0, 0,
+    0, 0, 0, 0, 0, 0, 0, 0, 0, 0, 0, 0, 0, 0, 0, 0, 0, 0, 0, 0, 0, 0, 0,
+];
+
+/// The capitals of all bytes.
+#[inline(always)]
+fn capitals() -> &'static [u8; 256]
+    ensures { are_capitals 0 result.now ≡ true }
+{
+    &CAPITALS
+}
+
+/// The capital of a byte that may stand in a mnemonic, 0 of any other.
+#[inline(always)]
+fn capital(byte: u8) -> u8
+    ensures { result ≡ capital_of byte }
+{
+    capitals()[usize::from(byte)]
 }
 
 /// The number of a word.
@@ -55,10 +84,11 @@ pub fn word_at(text: &[u8]) -> (Word, usize)
     ensures off { StartsOff is_word (drop result.1 text.now) }
     ensures number { result.0 ≡ word_number (take result.1 text.now) }
 {
+    let most = text.len().min(MNEMONIC_BYTES);
     let mut n = 0;
     let mut number: Word = 1;
-    while n < text.len() && n < MNEMONIC_BYTES && is_word(text[n]) {
-        number = number * 256 + u128::from(text[n].to_ascii_uppercase());
+    while n < most && capital(text[n]) != 0 {
+        number = number * 256 + u128::from(capital(text[n]));
         n += 1;
     }
     if n == MNEMONIC_BYTES && n < text.len() && is_word(text[n]) {

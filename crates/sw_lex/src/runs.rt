@@ -1,13 +1,13 @@
 //! Runs of bytes that units are made of.
 
-ghost use Rattle.std.specs.Prelude.{◌≡◌, ◌==◌, ◌++◌, ◌∷◌, [], ℕ, List, IfOk, IfErr, IfSome, IfNone, length, ◌≤◌, take, drop};
+ghost use Rattle.std.specs.Prelude.{◌≡◌, ◌==◌, ◌++◌, ◌∷◌, [], ℕ, List, IfOk, IfErr, IfSome, IfNone, length, ◌≤◌, ◌<◌, take, drop};
 ghost use Rattle.sw_base.specs.Text.{is_blank, is_letter, is_word, AllPass, StartsOff, Spans};
 ghost use Rattle.sw_base.specs.declared.error.ScpiError.TheVariants.{SyntaxError};
 ghost use Rattle.sw_lex.specs.Elements.{is_inner};
-ghost use Rattle.sw_lex.specs.Headed.{word_number};
+ghost use Rattle.sw_lex.specs.Headed.{most_words, word_number};
 ghost use Rattle.sw_lex.specs.Unit.{is_gap, fault_at, Ends, IsMnemonic, IsName};
 
-use crate::packing::{Word, word_at};
+use crate::packing::{Words, word_at};
 use sw_base::{ScpiError, is_blank, is_letter, letters};
 
 /// The white space and the empty units at the front, and what follows them.
@@ -66,22 +66,25 @@ pub fn fault_at(error: ScpiError, bytes: &[u8]) -> ScpiError
     }
 }
 
-/// The number of the mnemonic at the front, and how many bytes it has.
-pub fn mnemonic(text: &[u8]) -> Result<(Word, usize), ScpiError>
-    ensures fits { IfOk result (λ x. x.1 ≤ length text.now) }
-    ensures ok { IfOk result (λ x. IsMnemonic (take x.1 text.now) × StartsOff is_word (drop x.1 text.now)) }
-    ensures number { IfOk result (λ x. x.0 ≡ word_number (take x.1 text.now)) }
-    ensures err { IfErr result (λ e. StartsOff is_letter text.now × (e ≡ fault_at SyntaxError text.now)) }
+/// How many bytes the mnemonic at the front has, 0 where none is there. Its number is put behind the others, where there
+/// is room.
+pub fn read_word(text: &[u8], words: &mut Words) -> usize
+    ensures fits { result ≤ length text.now }
+    ensures some { 0 < result → IsMnemonic (take result text.now) × StartsOff is_word (drop result text.now) }
+    ensures number { 0 < result → take words.new.count words.new.kept
+        ≡ take most_words (take words.old.count words.old.kept ++ word_number (take result text.now) ∷ []) }
+    ensures none { result ≡ 0 → StartsOff is_letter text.now }
 {
     match text {
         [first, ..] => {
-            if is_letter(*first) {
-                Ok(word_at(text))
-            } else {
-                Err(fault_at(ScpiError::SyntaxError, text))
+            if !is_letter(*first) {
+                return 0;
             }
+            let (number, length) = word_at(text);
+            words.push(number);
+            length
         }
-        [] => Err(ScpiError::SyntaxError),
+        [] => 0,
     }
 }
 

@@ -1,7 +1,7 @@
 //! Units: from the bytes of a message to one header and its data.
 
 ghost use Rattle.std.specs.Prelude.{◌≡◌, ◌==◌, ◌++◌, ◌∷◌, ◌≤◌, ◌<◌, ◌+◌, ℕ, List, [], true, false, IfOk, IfErr};
-ghost use Rattle.std.specs.Prelude.{IfSome, IfNone, length, take};
+ghost use Rattle.std.specs.Prelude.{IsTrue, IfSome, IfNone, length, take, drop};
 ghost use Rattle.sw_base.specs.Text.{is_blank, is_letter, is_word, AllPass, StartsOff};
 ghost use Rattle.sw_base.specs.declared.error.ScpiError.{ScpiError as Error};
 ghost use Rattle.sw_base.specs.declared.error.ScpiError.TheVariants.{SyntaxError};
@@ -14,7 +14,7 @@ ghost use Rattle.sw_lex.specs.Headed.{path_numbers, header_numbers};
 use crate::elements::{before, read_element};
 use crate::packing::{Words, number_of};
 use crate::raw_unit::RawUnit;
-use crate::runs::{end, fault_at, gaps, mnemonic, name};
+use crate::runs::{end, fault_at, gaps, name, read_word};
 use sw_base::{ScpiError, blanks, strip_prefix};
 
 /// The most data elements of a unit.
@@ -92,6 +92,31 @@ impl<'a> Found<'a> {
     }
 }
 
+/// Where the mnemonics and colons at the front end, or where they break off; and which of both.
+fn path_end(text: &[u8], words: &mut Words) -> (usize, bool)
+    requires empty { words.old.count ≡ 0 }
+    ensures fits { result.0 ≤ length text.now }
+    ensures ok { IsTrue result.1 → IsPath (take result.0 text.now) }
+    ensures whole { IsTrue result.1 → StartsOff is_word (drop result.0 text.now)
+        × StartsOff (λ b. b == 58) (drop result.0 text.now) }
+    ensures words { IsTrue result.1 → take words.new.count words.new.kept ≡ path_numbers (take result.0 text.now) }
+    ensures off { result.1 ≡ false → BreaksOff text.now (fault_at SyntaxError (drop result.0 text.now)) }
+{
+    let mut n = 0;
+    'nodes: loop {
+        let (_, rest) = text.split_at(n);
+        let length = read_word(rest, words);
+        if length == 0 {
+            return (n, false);
+        }
+        n += length;
+        if n == text.len() || text[n] != b':' {
+            return (n, true);
+        }
+        n += 1;
+    }
+}
+
 /// The mnemonics and colons at the front, and what follows them.
 fn read_path<'a>(text: &'a [u8], words: &mut Words) -> Result<(&'a [u8], &'a [u8]), ScpiError>
     requires empty { words.old.count ≡ 0 }
@@ -100,20 +125,12 @@ fn read_path<'a>(text: &'a [u8], words: &mut Words) -> Result<(&'a [u8], &'a [u8
     ensures words { IfOk result (λ x. take words.new.count words.new.kept ≡ path_numbers x.0.now) }
     ensures err { IfErr result (λ e. BreaksOff text.now e) }
 {
-    let mut n = 0;
-    let mut rest = text;
-    'nodes: loop {
-        let (number, length) = mnemonic(rest)?;
-        words.push(number);
-        let (_, after) = rest.split_at(length);
-        n += length;
-        match strip_prefix(after, b':') {
-            Some(more) => {
-                n += 1;
-                rest = more;
-            }
-            None => return Ok(text.split_at(n)),
-        }
+    let (n, is_whole) = path_end(text, words);
+    let (path, rest) = text.split_at(n);
+    if is_whole {
+        Ok((path, rest))
+    } else {
+        Err(fault_at(ScpiError::SyntaxError, rest))
     }
 }
 

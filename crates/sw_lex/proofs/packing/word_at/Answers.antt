@@ -1,6 +1,6 @@
-use Rattle.std.proofs.Common.{◌<◌, ◌^◌, arith, sym, ◌∙◌}
+use Rattle.std.proofs.Common.{◌<◌, ◌^◌, get_or, arith, sym, ◌∙◌}
 use Rattle.sw_lex.proofs.Packed.{number_small, bytes_more, packed_more}
-use Rattle.sw_lex.proofs.Headed.{long_number, word_more}
+use Rattle.sw_lex.proofs.Headed.{long_number, word_more, capital_word, capital_so}
 use Rattle.sw_lex.proofs.packing.word_at.Goals as goal
 
 pub overflow_mul-number : goal.overflow_mul-number
@@ -19,12 +19,12 @@ pub loop-n-preserved : goal.loop-n-preserved
 loop-n-preserved c = record {
   in_range = omega arith;
   few = omega arith;
-  pass = word_more c.args.text.now c.loop-n.n (omega arith) c.loop-n.invariant.pass (sym c.is_word.ensures ∙ c.if-is_word.true);
-  bytes = bytes_more c.args.text.now c.loop-n.n _ (omega arith) c.to_ascii_uppercase.ensures.value (omega arith) c.loop-n.invariant.bytes;
-  number = packed_more c.args.text.now c.loop-n.n c.loop-n.number _ _ (omega arith) c.to_ascii_uppercase.ensures.value c.from.ensures c.loop-n.invariant.number;
+  pass = word_more c.args.text.now c.loop-n.n (omega arith) c.loop-n.invariant.pass (capital_word (get_or c.args.text.now c.loop-n.n 0) _ c.capital.ensures c.if-capital-ne0.true).0;
+  bytes = bytes_more c.args.text.now c.loop-n.n _ (omega arith) (capital_so (get_or c.args.text.now c.loop-n.n 0) _ _ c.capital.ensures c.if-capital-ne0.true c.capital-in-loop-n.ensures) (omega arith) c.loop-n.invariant.bytes;
+  number = packed_more c.args.text.now c.loop-n.n c.loop-n.number _ _ (omega arith) (capital_so (get_or c.args.text.now c.loop-n.n 0) _ _ c.capital.ensures c.if-capital-ne0.true c.capital-in-loop-n.ensures) c.from.ensures c.loop-n.invariant.number;
 }
 
-pub returns-then-is_word-2-clause-number : goal.returns-then-is_word-2-clause-number
-returns-then-is_word-2-clause-number c =
+pub returns-then-is_word-clause-number : goal.returns-then-is_word-clause-number
+returns-then-is_word-clause-number c =
     long_number c.args.text.now c.words.result.0.now c.words.result.1.now c.loop-n.n c.words.ensures (omega arith) (omega arith) c.loop-n.invariant.pass
-    (sym c.is_word-then-n-text.ensures ∙ c.if-is_word-2.true)
+    (sym c.is_word.ensures ∙ c.if-is_word.true)
