@@ -1,25 +1,31 @@
 -- The numbers of the words as which a header is looked up.
-use Rattle.std.proofs.Common.{◌≡◌, ℕ, ◌+◌, ◌≤◌, ◌<◌, Bool, true, false, List, [], ◌∷◌, ◌++◌, length, take, map, get_or, refl, sym, ap, subst, ◌∙◌, arith}
+use Rattle.std.proofs.Common.{◌≡◌, ℕ, zero, suc, ◌+◌, ◌-◌, ◌≤◌, ◌<◌, Bool, true, false, List, [], ◌∷◌, ◌++◌, length, take, map, refl, sym, ap, subst, ◌∙◌, arith}
 use Rattle.std.proofs.Common.{inl, inr}
 use Rattle.std.specs.Prelude.{nat_le, IfSome, IfNone, Option, Some, None}
-use Rattle.std.specs.List.{list_all}
+use Rattle.std.specs.List.{list_all, filter}
 use Rattle.std.specs.Char.{to_ascii_uppercase}
 use Rattle.std.proofs.lemmas.Bool.{and_parts, cases_Bool}
-use Rattle.std.proofs.lemmas.Grind.{common_steps, take_at_read}
-use Rattle.std.proofs.lemmas.List.{length-append, length-map, map-append, map_push, take_all, length-take}
+use Rattle.std.proofs.lemmas.Grind.{common_steps}
+use Rattle.std.proofs.lemmas.List.{length-append, length-map, map-append, take_all, take-take, take_at, take-map, length-take, length-take-le}
 use Rattle.sw_base.specs.Text.{AllPass}
 use Rattle.sw_base.specs.declared.error.ScpiError.TheVariants.{UndefinedHeader}
 use Rattle.sw_lex.specs.declared.unit.Header.{Header}
 use Rattle.sw_lex.specs.declared.unit.Header.TheVariants as headers
-use Rattle.sw_lex.specs.Unit.{heading_of}
-use Rattle.sw_lex.specs.Meaning.{Nodes, capitals, led_from, looked_up, IsRefusal}
+use Rattle.sw_lex.specs.Meaning.{Nodes, capitals, all_but_last, IsRefusal}
 use Rattle.sw_lex.specs.Values.{unnumbered}
 use Rattle.sw_lex.specs.Table.{entries}
-use Rattle.sw_lex.specs.Packed.{is_byte, number_at, IsNumberOf, AreNumbersOf}
-use Rattle.sw_lex.specs.Headed.{word_number, header_nodes, header_numbers, header_bytes}
-use Rattle.sw_lex.proofs.Packed.{numbers_push}
-use Rattle.sw_lex.proofs.Spelled.{too_long}
-use Rattle.sw_lex.proofs.Apart.{entries_short}
+use Rattle.sw_lex.specs.Packed.{is_byte, packed, last_bytes, word_of, number_at, groups_packed, IsNumberOf, AreNumbersOf}
+use Rattle.sw_lex.specs.Headed.{word_number, header_nodes, header_numbers, header_bytes, header_part, first_word, first_or}
+use Rattle.sw_lex.specs.Parts.{part_of, belongs}
+use Rattle.sw_lex.specs.Rows.{entries_of}
+use Rattle.sw_lex.specs.declared.rows.Group.{Group}
+use Rattle.sw_lex.specs.declared.table.Key.{Key}
+use Rattle.sw_lex.specs.Found.{IsFound}
+use Rattle.sw_lex.proofs.Packed.{last_packed, last_length, last_pass}
+use Rattle.sw_lex.proofs.Headed.{take_twice}
+use Rattle.sw_lex.proofs.Parts.{nothing_there}
+use Rattle.sw_lex.proofs.Spelled.{too_long, node_fits, found_fits}
+use Rattle.sw_lex.proofs.Apart.{entries_short, entries_fit}
 
 abbrev up : List ℕ → List ℕ
 up word = map to_ascii_uppercase word
@@ -55,58 +61,283 @@ are_numbers (w ∷ ws) h =
     let p = and_parts (list_all is_byte (up w)) (list_all (λ w. list_all is_byte (up w)) ws) h in
     (number_of_word (up w) p.0, are_numbers ws p.1)
 
--- ---- a header below a path
+-- ---- the word of a number
 
-looked_from : (h : Header) (below : Nodes) → looked_up (heading_of h) below ≡ led_from (heading_of h) below ++ header_nodes h
-looked_from (headers.Common name) below = refl
-looked_from (headers.Path true nodes) below = refl
-looked_from (headers.Path false nodes) below = refl
+upper_twice : (b : ℕ) → to_ascii_uppercase (to_ascii_uppercase b) ≡ to_ascii_uppercase b
+upper_twice b = grind (arith, common_steps)
+
+pub up_twice : (word : List ℕ) → up (up word) ≡ up word
+up_twice [] = refl
+up_twice (b ∷ word) = ap (λ (x : ℕ). x ∷ up (up word)) (upper_twice b) ∙ ap (λ (x : List ℕ). to_ascii_uppercase b ∷ x) (up_twice word)
+
+byte_up : (b : ℕ) → is_byte b ≡ true → is_byte (to_ascii_uppercase b) ≡ true
+byte_up b h = grind (arith, common_steps)
+
+bytes_up : (word : List ℕ) → AllPass is_byte word → AllPass is_byte (up word)
+bytes_up [] a = tt
+bytes_up (b ∷ word) a = (byte_up b a.0, bytes_up word a.1)
+
+word_short : (n : ℕ) → length (word_of n) ≤ 12
+word_short n = omega (arith, length-map (last_bytes 12 n) to_ascii_uppercase, last_length 12 n)
+
+-- a number that is that of its word
+number_back : (n : ℕ) → n ≡ number_at (word_of n) → IsNumberOf (up (word_of n)) n
+number_back n e =
+    let s = word_short n in
+    let l : nat_le (length (word_of n)) 12 ≡ true = grind (arith, common_steps, s) in
+    subst (λ (w : List ℕ). IsNumberOf w n) (sym (up_twice (last_bytes 12 n)))
+    (inl (s, bytes_up (last_bytes 12 n) (last_pass 12 n), rw l at e))
+
+-- the word of the number of a word
+word_back : (w : List ℕ) (n : ℕ) → IsNumberOf (up w) n → length (up w) ≤ 12 → (word_of n ≡ up w) × (n ≡ number_at (up w))
+word_back w n i s =
+    elim i [
+      | inl a ↦
+          let l : nat_le (length (up w)) 12 ≡ true = grind (arith, common_steps, s) in (
+            ap (λ (m : ℕ). word_of m) a.2 ∙ ap (λ (x : List ℕ). up x) (last_packed 12 (up w) s a.1) ∙ up_twice w,
+            rw l a.2,
+          )
+      | inr a ↦ absurd (omega (arith, a.0, s))
+    ]
+
+-- ---- the numbers of a path
+
+abbrev pub Sound : List ℕ → Type 0
+Sound ns = ns ≡ map number_at (map word_of ns)
+
+heads : (m n : ℕ) (ms ns : List ℕ) → m ∷ ms ≡ n ∷ ns → (m ≡ n) × (ms ≡ ns)
+heads m n ms ns e = (let a : m ≡ n = cc in a, let b : ms ≡ ns = cc in b)
+
+path_numbers : (ns : List ℕ) → Sound ns → AreNumbersOf (capitals (map word_of ns)) ns
+path_numbers [] s = tt
+path_numbers (n ∷ ns) s =
+    let p = heads n (number_at (word_of n)) ns (map number_at (map word_of ns)) s in
+    (number_back n p.0, path_numbers ns p.1)
 
 capitals_both : (ws vs : Nodes) → capitals (ws ++ vs) ≡ capitals ws ++ capitals vs
 capitals_both ws vs = map-append (λ (w : List ℕ). up w) ws vs
 
--- all numbers of the header are kept where they are few
-few_kept : (nodes : List (List ℕ)) (kept : List ℕ) → kept ≡ take 5 (map word_number nodes) → length kept ≤ 4 → kept ≡ map word_number nodes
-few_kept [] kept e l = e
-few_kept nodes kept e l = e ∙ take_all 5 (map word_number nodes) (omega (arith, l, ap (λ (x : List ℕ). length x) e, length-take 5 (map word_number nodes)))
+are_take : (k : ℕ) (ws : List (List ℕ)) (ns : List ℕ) → AreNumbersOf ws ns → AreNumbersOf (take k ws) (take k ns)
+are_take zero ws ns a = tt
+are_take (suc k) [] [] a = tt
+are_take (suc k) [] (n ∷ ns) a = absurd a
+are_take (suc k) (w ∷ ws) [] a = absurd a
+are_take (suc k) (w ∷ ws) (n ∷ ns) a = (a.0, are_take k ws ns a.1)
 
-pub numbers_all : (h : Header) (below : Nodes) (ns kept all : List ℕ) → AreNumbersOf (capitals (led_from (heading_of h) below)) ns → kept ≡ header_numbers h
-    → header_bytes h ≡ true → length ns + length kept ≤ 4 → all ≡ ns ++ kept → AreNumbersOf (capitals (looked_up (heading_of h) below)) all
-numbers_all h below ns kept all a e b l w =
-    let k : kept ≡ map word_number (header_nodes h) = few_kept (header_nodes h) kept e (omega (arith, l)) in
-    let c : AreNumbersOf (capitals (header_nodes h)) kept = subst (λ (x : List ℕ). AreNumbersOf (capitals (header_nodes h)) x) (sym k) (are_numbers (header_nodes h) b) in
-    let d = are_append (capitals (led_from (heading_of h) below)) (capitals (header_nodes h)) ns kept a c in
-    subst (λ (x : List ℕ). AreNumbersOf (capitals (looked_up (heading_of h) below)) x) (sym w)
-    (subst (λ (x : List (List ℕ)). AreNumbersOf x (ns ++ kept))
-    (sym (ap (λ (x : Nodes). capitals x) (looked_from h below) ∙ capitals_both (led_from (heading_of h) below) (header_nodes h))) d)
+take_behind : (j k : ℕ) (xs ys : List ℕ) → j ≤ k → take j (xs ++ take k ys) ≡ take j (xs ++ ys)
+take_behind zero k xs ys l = refl
+take_behind (suc j) k [] ys l = take-take (suc j) k ys l
+take_behind (suc j) k (x ∷ xs) ys l = ap (λ (zs : List ℕ). x ∷ zs) (take_behind j k xs ys (omega (arith, l)))
 
-pub numbers_many : (h : Header) (below : Nodes) (ns kept : List ℕ) → AreNumbersOf (capitals (led_from (heading_of h) below)) ns → kept ≡ header_numbers h
-    → 4 < length ns + length kept → 4 < length (looked_up (heading_of h) below)
-numbers_many h below ns kept a e l =
-    let k : length kept ≡ length (take 5 (map word_number (header_nodes h))) = ap (λ (x : List ℕ). length x) e in
-    let q : length (looked_up (heading_of h) below) ≡ length (led_from (heading_of h) below ++ header_nodes h) = ap (λ (x : Nodes). length x) (looked_from h below) in
-    omega (
-      arith,
-      l,
-      k,
-      q,
-      length-take 5 (map word_number (header_nodes h)),
-      length-map (header_nodes h) word_number,
-      as_many (capitals (led_from (heading_of h) below)) ns a,
-      length-map (led_from (heading_of h) below) (λ (w : List ℕ). up w),
-      length-append (led_from (heading_of h) below) (header_nodes h),
+-- ---- the words as which a header is looked up
+
+header_are : (h : Header) → header_bytes h ≡ true → AreNumbersOf (capitals (header_nodes h)) (map word_number (header_nodes h))
+header_are h b = are_numbers (header_nodes h) b
+
+pub from_root : (h : Header) (us : List ℕ) (all : Nodes) → header_bytes h ≡ true → us ≡ header_numbers h → all ≡ header_nodes h
+    → AreNumbersOf (take 5 (capitals all)) us
+from_root h us all b e l =
+    rw (l, e) (are_take 5 (capitals (header_nodes h)) (map word_number (header_nodes h)) (header_are h b))
+
+pub from_path : (h : Header) (ns us kept : List ℕ) (all : Nodes) → Sound ns → header_bytes h ≡ true → us ≡ header_numbers h
+    → all ≡ map word_of ns ++ header_nodes h → kept ≡ take 5 (ns ++ us) → AreNumbersOf (take 5 (capitals all)) kept
+from_path h ns us kept all s b e l k =
+    let f : kept ≡ take 5 (ns ++ map word_number (header_nodes h)) =
+    k ∙ ap (λ (x : List ℕ). take 5 (ns ++ x)) e ∙ take_behind 5 5 ns (map word_number (header_nodes h)) (omega arith) in
+    let g : capitals all ≡ capitals (map word_of ns) ++ capitals (header_nodes h) =
+    ap (λ (x : Nodes). capitals x) l ∙ capitals_both (map word_of ns) (header_nodes h) in
+    rw (g, f) (are_take 5 (capitals (map word_of ns) ++ capitals (header_nodes h)) (ns ++ map word_number (header_nodes h))
+    (are_append (capitals (map word_of ns)) (capitals (header_nodes h)) ns (map word_number (header_nodes h)) (path_numbers ns s) (header_are h b)))
+
+first_up : (ws : Nodes) → first_word (capitals ws) ≡ up (first_word ws)
+first_up [] = refl
+first_up (w ∷ ws) = refl
+
+-- the letter of the first of them
+pub root_part : (h : Header) (all : Nodes) → all ≡ header_nodes h → part_of (first_word (capitals all)) ≡ part_of (up (first_word (header_nodes h)))
+root_part h all l = ap (λ (x : Nodes). part_of (first_word (capitals x))) l ∙ ap (λ (w : List ℕ). part_of w) (first_up (header_nodes h))
+
+pub root_letter : (h : Header) (all : Nodes) (letter : ℕ) → all ≡ header_nodes h → header_part h ≡ part_of (up (first_word (header_nodes h)))
+    → header_part h ≡ (false, letter) → part_of (first_word (capitals all)) ≡ (false, letter)
+root_letter h all letter l b e = root_part h all l ∙ sym b ∙ e
+
+pub path_part : (h : Header) (ns : List ℕ) (letter : ℕ) (all : Nodes) → 0 < length ns → part_of (first_or letter (map word_of ns)) ≡ (false, letter)
+    → all ≡ map word_of ns ++ header_nodes h → part_of (first_word (capitals all)) ≡ (false, letter)
+path_part h [] letter all s p l = absurd (omega (arith, s))
+path_part h (n ∷ ns) letter all s p l =
+    ap (λ (x : Nodes). part_of (first_word (capitals x))) l ∙ ap (λ (w : List ℕ). part_of w) (up_twice (last_bytes 12 n)) ∙ p
+
+-- ---- a header that was found
+
+few_found : (ws : Nodes) (query : Bool) (key : Key) (k : ℕ) → IsFound entries ws query key k → length ws ≤ 4
+few_found ws query key k f =
+    elim (cases_Bool (nat_le (length ws) 4)) [
+      | inl l ↦ grind (arith, common_steps, l)
+      | inr l ↦ absurd (too_long entries ws entries_short (grind (arith, common_steps, l)) query key k f)
+    ]
+
+some_found : (ws : Nodes) (query : Bool) (key : Key) (k : ℕ) → IsFound entries ws query key k → 0 < length ws
+some_found [] query key k f = absurd (nothing_there query key k f)
+some_found (w ∷ ws) query key k f = omega arith
+
+words_back : (all : Nodes) (ns : List ℕ) → AreNumbersOf (capitals all) ns → list_all node_fits (capitals all) ≡ true
+    → (map word_of ns ≡ capitals all) × (ns ≡ map number_at (capitals all))
+words_back [] [] a t = (refl, refl)
+words_back [] (n ∷ ns) a t = absurd a
+words_back (w ∷ ws) [] a t = absurd a
+words_back (w ∷ ws) (n ∷ ns) a t =
+    let p = and_parts (node_fits (up w)) (list_all node_fits (capitals ws)) t in
+    let f = p.0 in
+    let s : length (up w) ≤ 12 = grind (arith, common_steps, f) in
+    let b = word_back w n a.0 s in
+    let r = words_back ws ns a.1 p.1 in (
+      ap (λ (x : List ℕ). x ∷ map word_of ns) b.0 ∙ ap (λ (x : Nodes). up w ∷ x) r.0,
+      ap (λ (x : ℕ). x ∷ ns) b.1 ∙ ap (λ (x : List ℕ). number_at (up w) ∷ x) r.1,
     )
 
--- ---- the numbers of a path so far
+-- the numbers of a header that was found, which are all kept
+pub record Entered (all : Nodes) (kept : List ℕ) : Type 0 where
+  pub words : map word_of kept ≡ capitals all
+  pub numbers : kept ≡ map number_at (capitals all)
+  pub long : length kept ≡ length all
+  pub some : 0 < length kept
+  pub few : length kept ≤ 4
 
-pub path_more : {X : Type 0} (text : X → List ℕ) (xs : List X) (i : ℕ) (d : X) (ns : List ℕ) (n : ℕ) → i < length xs → IsNumberOf (up (text (get_or xs i d))) n
-    → AreNumbersOf (capitals (map text (take i xs))) ns → AreNumbersOf (capitals (map text (take (i + 1) xs))) (ns ++ n ∷ [])
-path_more text xs i d ns n l h a =
-    let e : map text (take (i + 1) xs) ≡ map text (take i xs) ++ text (get_or xs i d) ∷ [] =
-    ap (λ x. map text x) (take_at_read xs i d l).1 ∙ map_push text (take i xs) (get_or xs i d) in
-    let f : capitals (map text (take (i + 1) xs)) ≡ capitals (map text (take i xs)) ++ up (text (get_or xs i d)) ∷ [] =
-    ap (λ (x : Nodes). capitals x) e ∙ capitals_both (map text (take i xs)) (text (get_or xs i d) ∷ []) in
-    subst (λ (x : List (List ℕ)). AreNumbersOf x (ns ++ n ∷ [])) (sym f) (numbers_push (capitals (map text (take i xs))) ns (up (text (get_or xs i d))) n a h)
+pub entered : (all : Nodes) (kept : List ℕ) (query : Bool) (key : Key) (k : ℕ) → AreNumbersOf (take 5 (capitals all)) kept
+    → IsFound entries (capitals all) query key k → Entered all kept
+entered all kept query key k a f =
+    let few = few_found (capitals all) query key k f in
+    let whole : take 5 (capitals all) ≡ capitals all = take_all 5 (capitals all) (omega (arith, few)) in
+    let b : AreNumbersOf (capitals all) kept = subst (λ (ws : Nodes). AreNumbersOf ws kept) whole a in
+    let w = words_back all kept b (found_fits entries (capitals all) entries_fit query key k f) in
+    let m = as_many (capitals all) kept b in
+    record {
+      words = w.0;
+      numbers = w.1;
+      long = omega (arith, m, length-map all (λ (w : List ℕ). up w));
+      some = omega (arith, m, some_found (capitals all) query key k f);
+      few = omega (arith, m, few);
+    }
+
+-- ---- the path after it
+
+-- the front of the numbers that are kept
+front : (kept : List ℕ) (c : ℕ) (room : List ℕ) → take c room ≡ kept → c ≡ length kept → take (c - 1) room ≡ take (c - 1) kept
+front kept c room t e = sym (take-take (c - 1) c room (omega arith)) ∙ ap (λ (x : List ℕ). take (c - 1) x) t
+
+pub path_words : (all : Nodes) (kept : List ℕ) (c : ℕ) (room : List ℕ) → Entered all kept → take c room ≡ kept → c ≡ length kept
+    → map word_of (take (c - 1) room) ≡ capitals (all_but_last all)
+path_words all kept c room e t l =
+    let n : c - 1 ≡ length all - 1 = omega (arith, l, e.long) in
+    ap (λ (x : List ℕ). map word_of x) (front kept c room t l) ∙ sym (take-map word_of (c - 1) kept)
+    ∙ ap (λ (x : Nodes). take (c - 1) x) e.words ∙ ap (λ (j : ℕ). take j (capitals all)) n
+    ∙ take-map (λ (w : List ℕ). up w) (length all - 1) all
+
+pub path_sound : (all : Nodes) (kept : List ℕ) (c : ℕ) (room : List ℕ) → Entered all kept → take c room ≡ kept → c ≡ length kept
+    → Sound (take (c - 1) room)
+path_sound all kept c room e t l =
+    let f = front kept c room t l in
+    let g : take (c - 1) kept ≡ map number_at (map word_of (take (c - 1) kept)) =
+    ap (λ (x : List ℕ). take (c - 1) x) (e.numbers ∙ ap (λ (x : Nodes). map number_at x) (sym e.words))
+    ∙ take-map number_at (c - 1) (map word_of kept) ∙ ap (λ (x : Nodes). map number_at x) (take-map word_of (c - 1) kept) in
+    f ∙ g ∙ ap (λ (x : List ℕ). map number_at (map word_of x)) (sym f)
+
+first_front : (k letter : ℕ) (all : Nodes) → part_of (first_word (capitals all)) ≡ (false, letter)
+    → part_of (first_or letter (capitals (take k all))) ≡ (false, letter)
+first_front zero letter all p = refl
+first_front (suc k) letter [] p = refl
+first_front (suc k) letter (w ∷ ws) p = p
+
+pub path_begins : (all : Nodes) (kept : List ℕ) (c letter : ℕ) (room : List ℕ) → Entered all kept → take c room ≡ kept → c ≡ length kept
+    → part_of (first_word (capitals all)) ≡ (false, letter) → part_of (first_or letter (map word_of (take (c - 1) room))) ≡ (false, letter)
+path_begins all kept c letter room e t l p =
+    ap (λ (x : Nodes). part_of (first_or letter x)) (path_words all kept c room e t l) ∙ first_front (length all - 1) letter all p
+
+-- as many numbers as are counted
+pub counted : (room : List ℕ) (c : ℕ) → length room ≡ 5 → c ≤ 5 → c ≡ length (take c room)
+counted room c r l = sym (length-take-le c room (omega (arith, r, l)))
+
+-- the path after a header that was found
+pub record After (all : Nodes) (c letter : ℕ) (room : List ℕ) : Type 0 where
+  pub some : 1 ≤ c
+  pub few : c - 1 ≤ 3
+  pub sound : Sound (take (c - 1) room)
+  pub begins : part_of (first_or letter (map word_of (take (c - 1) room))) ≡ (false, letter)
+  pub words : map word_of (take (c - 1) room) ≡ capitals (all_but_last all)
+
+pub after_found : (all : Nodes) (kept : List ℕ) (c letter : ℕ) (room : List ℕ) → Entered all kept → take c room ≡ take 5 kept → length room ≡ 5 → c ≤ 5
+    → part_of (first_word (capitals all)) ≡ (false, letter) → After all c letter room
+after_found all kept c letter room e t r l p =
+    let k : take c room ≡ kept = t ∙ take_all 5 kept (omega (arith, e.few)) in
+    let n : c ≡ length kept = counted room c r l ∙ ap (λ (x : List ℕ). length x) k in
+    record {
+      some = omega (arith, n, e.some);
+      few = omega (arith, n, e.few);
+      sound = path_sound all kept c room e k n;
+      begins = path_begins all kept c letter room e k n p;
+      words = path_words all kept c room e k n;
+    }
+
+-- the path that was there before
+pub path_stays : (old room us : List ℕ) (b c : ℕ) → length old ≡ 5 → length room ≡ 5 → b ≤ 5 → c ≤ 5 → take c room ≡ take 5 (take b old ++ us)
+    → take b room ≡ take b old
+path_stays old room us b c o r l m e =
+    let a : length (take b old) ≡ b = length-take-le b old (omega (arith, o, l)) in
+    let n : c ≡ length (take 5 (take b old ++ us)) = counted room c r m ∙ ap (λ (x : List ℕ). length x) e in
+    let least : b ≤ c = omega (arith, n, l, a, length-take 5 (take b old ++ us), length-append (take b old) us) in
+    sym (take-take b c room least) ∙ ap (λ (x : List ℕ). take b x) e ∙ take-take b 5 (take b old ++ us) l ∙ take_at (take b old) us b a
+
+-- ---- numbers that are kept
+
+kept_whole : (ws : Nodes) (ns : List ℕ) → AreNumbersOf (take 5 ws) ns → length ns ≤ 4 → AreNumbersOf ws ns
+kept_whole ws ns a l =
+    let t : length ws ≤ 4 = omega (arith, as_many (take 5 ws) ns a, l, length-take 5 ws) in
+    subst (λ (vs : Nodes). AreNumbersOf vs ns) (take_all 5 ws (omega (arith, t))) a
+
+-- where a header is found, or is not
+abbrev pub AreRows : List Group → Nodes → Bool → Type 0
+AreRows groups ws query = entries_of groups ≡ filter (belongs (part_of (first_word ws)) query) entries
+
+pub kept_some : (groups : List Group) (ns : List ℕ) (o : Option (Key × ℕ)) → length ns ≤ 4
+    → IfSome o (λ x. (query : Bool) (ws : Nodes) → AreNumbersOf ws ns → AreRows groups ws query → groups_packed groups ≡ true → IsFound entries ws query x.0 x.1)
+    → IfSome o (λ x. (query : Bool) (ws : Nodes) → AreNumbersOf (take 5 ws) ns → AreRows groups ws query → groups_packed groups ≡ true
+    → IsFound entries ws query x.0 x.1)
+kept_some groups ns None l h = h
+kept_some groups ns (Some x) l h = λ query ws a. h query ws (kept_whole ws ns a l)
+
+pub kept_none : (groups : List Group) (ns : List ℕ) (o : Option (Key × ℕ)) → length ns ≤ 4
+    → IfNone o ((query : Bool) (ws : Nodes) → AreNumbersOf ws ns → AreRows groups ws query → groups_packed groups ≡ true → (key : Key) (k : ℕ)
+    → IsFound entries ws query key k → ⊥)
+    → IfNone o ((query : Bool) (ws : Nodes) → AreNumbersOf (take 5 ws) ns → AreRows groups ws query → groups_packed groups ≡ true → (key : Key) (k : ℕ)
+    → IsFound entries ws query key k → ⊥)
+kept_none groups ns None l h = λ query ws a. h query ws (kept_whole ws ns a l)
+kept_none groups ns (Some x) l h = h
+
+pub kept_many : (ws : Nodes) (ns : List ℕ) (query : Bool) → 4 < length ns → AreNumbersOf (take 5 ws) ns → (key : Key) (k : ℕ)
+    → IsFound entries ws query key k → ⊥
+kept_many ws ns query l a =
+    too_long entries ws entries_short (omega (arith, as_many (take 5 ws) ns a, l, length-take 5 ws)) query
+
+-- the rows among which a header is looked up
+pub rows_at : (groups : List Group) (ws : Nodes) (query : Bool) (part : Bool × ℕ) → part_of (first_word ws) ≡ part
+    → entries_of groups ≡ filter (belongs part query) entries → AreRows groups ws query
+rows_at groups ws query part e w = subst (λ (p : Bool × ℕ). entries_of groups ≡ filter (belongs p query) entries) (sym e) w
+
+pub found_at : (groups : List Group) (ns : List ℕ) (ws : Nodes) (query : Bool) (o : Option (Key × ℕ)) → AreNumbersOf (take 5 ws) ns → AreRows groups ws query
+    → groups_packed groups ≡ true
+    → IfSome o (λ x. (query : Bool) (ws : Nodes) → AreNumbersOf (take 5 ws) ns → AreRows groups ws query → groups_packed groups ≡ true
+    → IsFound entries ws query x.0 x.1)
+    → IfSome o (λ x. IsFound entries ws query x.0 x.1)
+found_at groups ns ws query None a e p h = h
+found_at groups ns ws query (Some x) a e p h = h query ws a e p
+
+pub absent_at : (groups : List Group) (ns : List ℕ) (ws : Nodes) (query : Bool) (o : Option (Key × ℕ)) → AreNumbersOf (take 5 ws) ns → AreRows groups ws query
+    → groups_packed groups ≡ true
+    → IfNone o ((query : Bool) (ws : Nodes) → AreNumbersOf (take 5 ws) ns → AreRows groups ws query → groups_packed groups ≡ true → (key : Key) (k : ℕ)
+    → IsFound entries ws query key k → ⊥)
+    → IfNone o ((key : Key) (k : ℕ) → IsFound entries ws query key k → ⊥)
+absent_at groups ns ws query None a e p h = h query ws a e p
+absent_at groups ns ws query (Some x) a e p h = h
 
 -- ---- a header of too many words
 
@@ -117,17 +348,3 @@ many_refused nodes query l =
           (omega (arith, l, length-map (map unnumbered nodes) (λ (w : List ℕ). up w), length-map nodes unnumbered)) query,
       refl,
     )
-
-pub few_asked : (nodes : Nodes) (ns : List ℕ) → AreNumbersOf (capitals nodes) ns → length ns ≤ 4 → length nodes ≤ 4
-few_asked nodes ns a l = omega (arith, as_many (capitals nodes) ns a, length-map nodes (λ (w : List ℕ). up w), l)
-
-pub asked_some : (h : Header) (below : Nodes) (ns kept : List ℕ) {X : Type 0} (items : X → List ℕ) (o : Option X) → AreNumbersOf (capitals (led_from (heading_of h) below)) ns
-    → kept ≡ header_numbers h → header_bytes h ≡ true → IfSome o (λ x. items x ≡ ns ++ kept) → IfSome o (λ _. length ns + length kept ≤ 4)
-    → IfSome o (λ x. AreNumbersOf (capitals (looked_up (heading_of h) below)) (items x))
-asked_some h below ns kept items None a e b i r = i
-asked_some h below ns kept items (Some x) a e b i r = numbers_all h below ns kept (items x) a e b r i
-
-pub asked_none : (h : Header) (below : Nodes) (ns kept : List ℕ) {X : Type 0} (items : X → List ℕ) (o : Option X) → AreNumbersOf (capitals (led_from (heading_of h) below)) ns
-    → kept ≡ header_numbers h → IfNone o (4 < length ns + length kept) → IfNone o (4 < length (looked_up (heading_of h) below))
-asked_none h below ns kept items None a e l = numbers_many h below ns kept a e l
-asked_none h below ns kept items (Some x) a e l = l

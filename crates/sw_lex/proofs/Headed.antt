@@ -7,12 +7,12 @@ use Rattle.std.specs.List.{AllByRecursion, list_all}
 use Rattle.std.specs.Char.{to_ascii_uppercase}
 use Rattle.std.proofs.lemmas.Grind.{common_steps, take_at_read}
 use Rattle.std.proofs.Math.Seq.{drop-cons}
-use Rattle.std.proofs.lemmas.List.{length-take-le, length-map, map_push, take-append-drop}
+use Rattle.std.proofs.lemmas.List.{append-nil, take_all, length-take-le, length-map, map_push, take-append-drop}
 use Rattle.sw_base.specs.Text.{is_letter, is_word, AllPass, Lacks, StartsOff, Spans}
 use Rattle.sw_base.proofs.Runs.{AllPass-append, AllPass-weaker, lacks}
 use Rattle.sw_lex.specs.Unit.{IsMnemonic, IsName, IsHeading, heading_of, colons, IsPath}
 use Rattle.sw_lex.specs.Split.{nodes_of}
-use Rattle.sw_lex.specs.Headed.{word_number, path_numbers, header_bytes, header_text, header_nodes, first_word}
+use Rattle.sw_lex.specs.Headed.{word_number, path_numbers, header_bytes, header_part, header_nodes, first_word}
 use Rattle.sw_lex.specs.Packed.{is_byte, capital_of, IsNumberOf}
 use Rattle.sw_lex.specs.Parts.{part_of}
 use Rattle.sw_lex.specs.declared.unit.Header.{Header}
@@ -41,10 +41,22 @@ PathCounted-none text kept e = record { nodes = []; each = tt; whole = refl; len
 pub front_of_counted : (text : List ℕ) (n : ℕ) (rest kept : List ℕ) → PathCounted text n rest kept → PathFront text n rest
 front_of_counted text n rest kept c = record { nodes = c.nodes; each = c.each; whole = c.whole; len = c.len }
 
-take_twice : (k : ℕ) (xs ys : List ℕ) → take k (take k xs ++ ys) ≡ take k (xs ++ ys)
+pub take_twice : (k : ℕ) (xs ys : List ℕ) → take k (take k xs ++ ys) ≡ take k (xs ++ ys)
 take_twice zero xs ys = refl
 take_twice (suc k) [] ys = refl
 take_twice (suc k) (x ∷ xs) ys = ap (λ (zs : List ℕ). x ∷ zs) (take_twice k xs ys)
+
+-- numbers put behind others, one after the other
+pub append_none : (room : List ℕ) (c : ℕ) → length room ≡ 5 → c ≤ 5 → take c room ≡ take 5 (take c room ++ [])
+append_none room c r l =
+    sym (ap (λ (x : List ℕ). take 5 x) (append-nil (take c room)) ∙ take_all 5 (take c room) (omega (arith, r, l, length-take-le c room (omega (arith, r, l)))))
+
+pub append_more : (old kept now words : List ℕ) (i : ℕ) → i < length words → kept ≡ take 5 (old ++ take i words)
+    → now ≡ take 5 (kept ++ get_or words i 0 ∷ []) → now ≡ take 5 (old ++ take (i + 1) words)
+append_more old kept now words i l k e =
+    let w = get_or words i 0 ∷ [] in
+    e ∙ ap (λ (x : List ℕ). take 5 (x ++ w)) k ∙ take_twice 5 (old ++ take i words) w
+    ∙ ap (λ (x : List ℕ). take 5 x) (append_assoc old (take i words) w ∙ ap (λ (x : List ℕ). old ++ x) (sym (take_at_read words i 0 l).1))
 
 kept_on : (nodes : List (List ℕ)) (kept : List ℕ) (node : List ℕ) (number : ℕ) (now : List ℕ) → kept ≡ take 5 (map word_number nodes) → number ≡ word_number node
     → now ≡ take 5 (kept ++ number ∷ []) → now ≡ take 5 (map word_number (nodes ++ node ∷ []))
@@ -203,10 +215,17 @@ nodes_part (m ∷ ms) last a =
     ap (λ (x : List ℕ). part_of (map to_ascii_uppercase x))
     (append_assoc (m ++ 58 ∷ []) (colons ms) last ∙ append_assoc m (58 ∷ []) (colons ms ++ last)) ∙ mnemonic_part m (58 ∷ (colons ms ++ last)) a.0
 
-pub heading_begins : (h : Header) → IsHeading (heading_of h)
-    → part_of (map to_ascii_uppercase (header_text h)) ≡ part_of (map to_ascii_uppercase (first_word (header_nodes h)))
+nodes_letter : (ms : List (List ℕ)) (last : List ℕ) → AllByRecursion IsMnemonic ms → IsMnemonic last
+    → (false, to_ascii_uppercase (get_or (colons ms ++ last) 0 0)) ≡ part_of (map to_ascii_uppercase (colons ms ++ last))
+nodes_letter [] [] a h = absurd h
+nodes_letter [] (c ∷ cs) a h = sym (letter_part c cs h.0)
+nodes_letter ([] ∷ ms) last a h = absurd a.0
+nodes_letter ((c ∷ cs) ∷ ms) last a h = sym (letter_part c _ a.0.0)
+
+pub heading_begins : (h : Header) → IsHeading (heading_of h) → header_part h ≡ part_of (map to_ascii_uppercase (first_word (header_nodes h)))
 heading_begins (headers.Common name) i = refl
 heading_begins (headers.Path leading nodes) i =
-    ap (λ (x : List ℕ). part_of (map to_ascii_uppercase x)) i.whole ∙ nodes_part i.nodes i.last i.each
+    ap (λ (x : List ℕ). (false, to_ascii_uppercase (get_or x 0 0))) i.whole ∙ nodes_letter i.nodes i.last i.each i.last_one
+    ∙ nodes_part i.nodes i.last i.each
     ∙ ap (λ (ws : List (List ℕ)). part_of (map to_ascii_uppercase (first_word ws)))
     (sym (ap (λ (x : List ℕ). nodes_of x) i.whole ∙ nodes_are i.nodes i.last i.each i.last_one))

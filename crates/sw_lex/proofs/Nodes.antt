@@ -82,35 +82,6 @@ nodes_many items rest all h e =
     let n : length (texts items ++ nodes_of rest) ≡ length all = ap (λ (t : Nodes). length t) h in
     omega (arith, n, e, length-append (texts items) (nodes_of rest), length-map items (λ (w : Bor (List ℕ)). w.now), nodes_some rest)
 
--- ---- a path that takes up the nodes of a text, but for the last
-
--- at most four nodes leave room for one that isn't the last
-pub path_room : (below : Nodes) (node rest more : List ℕ) (all : Nodes) → below ++ nodes_of rest ≡ all → Lacks 58 node → rest ≡ node ++ 58 ∷ more
-    → length all ≤ 4 → length below < 4
-path_room below node rest more all h l e few =
-    let n : length (below ++ node ∷ nodes_of more) ≡ length all = ap (λ (t : Nodes). length t) (nodes_split below node rest more all h l e) in
-    omega (arith, n, few, length-append below (node ∷ nodes_of more))
-
-all_at : (P : List ℕ → Type 0) (xs : Nodes) (y : List ℕ) (zs : Nodes) → All P (xs ++ y ∷ zs) → P y
-all_at P [] y zs a = All-head P y zs a
-all_at P (x ∷ xs) y zs a = all_at P xs y zs (All-tail P x (xs ++ y ∷ zs) a)
-
-pub path_short : (below : Nodes) (node rest more : List ℕ) (all : Nodes) → below ++ nodes_of rest ≡ all → Lacks 58 node → rest ≡ node ++ 58 ∷ more
-    → All (λ w. length w ≤ 12) all → length node ≤ 12
-path_short below node rest more all h l e a =
-    let short : List ℕ → Type 0 = λ w. length w ≤ 12 in
-    all_at short below node (nodes_of more) (All-same short _ _ (nodes_split below node rest more all h l e) a)
-
-but_last : (below : Nodes) (node : List ℕ) → all_but_last (below ++ node ∷ []) ≡ below
-but_last below node =
-    let n : length (below ++ node ∷ []) - 1 ≡ length below = omega (arith, length_push below node) in
-    ap (λ (k : ℕ). take k (below ++ node ∷ [])) n ∙ take-append_seam below (node ∷ [])
-
-pub path_end : (below : Nodes) (rest : List ℕ) (all : Nodes) → below ++ nodes_of rest ≡ all → Lacks 58 rest → below ≡ all_but_last all
-path_end below rest all h l =
-    let n : below ++ rest ∷ [] ≡ all = ap (λ (t : Nodes). below ++ t) (sym (nodes_one rest l)) ∙ h in
-    sym (but_last below rest) ∙ ap (λ (t : Nodes). all_but_last t) n
-
 -- the nodes that were looked up are no more than those found
 pub looked_few : (items : List (Bor (List ℕ))) (all : Nodes) → texts items ≡ all → length items ≤ 4 → length all ≤ 4
 looked_few items all e few =
@@ -121,18 +92,6 @@ looked_few items all e few =
 pub capitals_of : (items : List (Bor (List ℕ))) (all : Nodes) → texts items ≡ all
     → map (λ (w : Bor (List ℕ)). map to_ascii_uppercase w.now) items ≡ capitals all
 capitals_of items all e = sym (map-map (λ (t : List ℕ). map to_ascii_uppercase t) (λ (w : Bor (List ℕ)). w.now) items) ∙ ap (λ (t : Nodes). capitals t) e
-
-pub unknown_many : (unit : UnitSeen) (below : Nodes) → 4 < length (looked_up unit.header below) → Resolves unit below (Err UndefinedHeader) below
-unknown_many unit below l =
-    let ns = looked_up unit.header below in
-    let up : List ℕ → List ℕ = λ w. map to_ascii_uppercase w in
-    inr (inr (record {
-      nothing = too_long entries (capitals ns) entries_short (omega (arith, l, length-map ns up)) unit.query;
-      nowhere = too_long entries (capitals (map unnumbered ns)) entries_short
-          (omega (arith, l, length-map (map unnumbered ns) up, length-map ns unnumbered)) unit.query;
-      refused = refl;
-      stays = refl;
-    }))
 
 -- the nodes without a number, in capitals
 pub plain_of : (items nodes : List (Bor (List ℕ))) → texts items ≡ map (λ (w : Bor (List ℕ)). unnumbered w.now) nodes
@@ -148,16 +107,3 @@ refused_is unit below nodes e h n r =
       | inl k ↦ inr (inl (record { nothing = n; key = k.0; number = k.1; found = k.2; refused = ap (λ (x : ScpiError). Err x) k.3; stays = refl }))
       | inr k ↦ inr (inr (record { nothing = n; nowhere = k.0; refused = ap (λ (x : ScpiError). Err x) k.1; stays = refl }))
     ]
-
-short_one : (w : List ℕ) → node_fits (map to_ascii_uppercase w) ≡ true → length w ≤ 12
-short_one w p =
-    let l : length (map to_ascii_uppercase w) ≤ 12 = grind (arith, common_steps) in
-    omega (arith, l, length-map w to_ascii_uppercase)
-
--- the nodes of a header that was found
-pub found_short : (all : Nodes) (query : Bool) (key : Key) (k : ℕ) → IsFound entries (capitals all) query key k → All (λ w. length w ≤ 12) all
-found_short all query key k f =
-    let up : List ℕ → List ℕ = λ w. map to_ascii_uppercase w in
-    let t : list_all (λ (w : List ℕ). node_fits (up w)) all ≡ true = sym (list_all-map node_fits up all)
-    ∙ found_fits entries (map up all) entries_fit query key k f in
-    All-weaker _ _ (λ w p. short_one w p) all (AllPass-from_list_all (λ (w : List ℕ). node_fits (up w)) all t)

@@ -1,11 +1,13 @@
 -- Two words that aren't too long have one number only if they are one.
-use Rattle.std.proofs.Common.{◌≡◌, ℕ, zero, suc, ◌+◌, ◌-◌, ◌*◌, ◌^◌, ◌/◌, ◌%◌, ◌≤◌, ◌<◌, true, List, [], ◌∷◌, ◌++◌, length, refl, sym, ap, subst, ◌∙◌, arith, inl, inr, map, take, get_or, Bor}
+use Rattle.std.proofs.Common.{◌≡◌, ℕ, zero, suc, ◌+◌, ◌-◌, ◌*◌, ◌^◌, ◌/◌, ◌%◌, ◌≤◌, ◌<◌, true, List, [], ◌∷◌, ◌++◌, length, refl, sym, ap, subst, ◌∙◌, arith, inl, inr, map, take, get_or, Bor, append_assoc}
+use Rattle.std.specs.Prelude.{nat_lt}
+use Rattle.std.proofs.lemmas.Bool.{cases_Bool}
 use Rattle.std.specs.Char.{to_ascii_uppercase}
 use Rattle.std.proofs.lemmas.Grind.{common_steps, pow_more, take_at_read}
 use Rattle.std.proofs.lemmas.List.{append-nil, length-append, length-map, length-take-le, map_push}
 use Rattle.sw_base.specs.Text.{AllPass}
 use Rattle.sw_base.proofs.Runs.{AllPass-append}
-use Rattle.sw_lex.specs.Packed.{packed_after, packed, is_byte, IsNumberOf, AreNumbersOf}
+use Rattle.sw_lex.specs.Packed.{packed_after, packed, is_byte, last_bytes, IsNumberOf, AreNumbersOf}
 
 -- ---- the number of bytes in their order from behind
 
@@ -175,3 +177,49 @@ pub number_small : (w : List ℕ) (i n : ℕ) → i ≤ length w → i ≤ 12 �
 number_small w i n l s a e =
     let k : length (up (take i w)) ≤ 12 = omega (arith, length-map (take i w) to_ascii_uppercase, length-take-le i w l, l, s) in
     omega (arith, e, packed_small (up (take i w)) k a)
+
+-- ---- the bytes of a number
+
+pub last_length : (k n : ℕ) → length (last_bytes k n) ≤ k
+last_length zero n = omega arith
+last_length (suc k) n =
+    elim (cases_Bool (nat_lt 1 n)) [
+      | inl h ↦ rw h (omega (arith, last_length k (n / 256), length-append (last_bytes k (n / 256)) ((n % 256) ∷ [])))
+      | inr h ↦ rw h (omega arith)
+    ]
+
+pub last_pass : (k n : ℕ) → AllPass is_byte (last_bytes k n)
+last_pass zero n = tt
+last_pass (suc k) n =
+    elim (cases_Bool (nat_lt 1 n)) [
+      | inl h ↦ rw h (AllPass-append is_byte (last_bytes k (n / 256)) ((n % 256) ∷ []) (last_pass k (n / 256)) (byte_so (n % 256) (omega arith), tt))
+      | inr h ↦ rw h tt
+    ]
+
+turned_onto : (bytes before : List ℕ) → turned before bytes ≡ turned [] bytes ++ before
+turned_onto [] before = refl
+turned_onto (b ∷ bytes) before =
+    turned_onto bytes (b ∷ before)
+    ∙ sym (ap (λ (x : List ℕ). x ++ before) (turned_onto bytes (b ∷ [])) ∙ append_assoc (turned [] bytes) (b ∷ []) before)
+
+turned_length : (bytes before : List ℕ) → length (turned before bytes) ≡ length before + length bytes
+turned_length [] before = omega arith
+turned_length (b ∷ bytes) before = omega (arith, turned_length bytes (b ∷ before))
+
+last_behind : (k : ℕ) (bytes : List ℕ) → length bytes ≤ k → AllPass is_byte bytes → last_bytes k (from_behind bytes) ≡ turned [] bytes
+last_behind zero [] l a = refl
+last_behind zero (b ∷ bytes) l a = absurd (omega (arith, l))
+last_behind (suc k) [] l a = refl
+last_behind (suc k) (b ∷ bytes) l a =
+    let s = some_behind bytes in
+    let c = byte_below b a.0 in
+    let t : nat_lt 1 (from_behind bytes * 256 + b) ≡ true = grind (arith, common_steps, s) in
+    let q : (from_behind bytes * 256 + b) / 256 ≡ from_behind bytes = omega (arith, c) in
+    let r : (from_behind bytes * 256 + b) % 256 ≡ b = omega (arith, c) in
+    rw (t, q, r) (ap (λ (x : List ℕ). x ++ b ∷ []) (last_behind k bytes (omega (arith, l)) a.1) ∙ sym (turned_onto bytes (b ∷ [])))
+
+-- the bytes of a word's number are the word
+pub last_packed : (k : ℕ) (word : List ℕ) → length word ≤ k → AllPass is_byte word → last_bytes k (packed word) ≡ word
+last_packed k word l a =
+    ap (λ (n : ℕ). last_bytes k n) (packed_turned [] word)
+    ∙ last_behind k (turned [] word) (omega (arith, l, turned_length word [])) (turned_bytes [] word tt a) ∙ turned_back word

@@ -12,23 +12,28 @@ use Rattle.sw_lex.specs.declared.command.Command.{Command}
 use Rattle.sw_lex.specs.declared.command.Command.TheVariants as commands
 use Rattle.sw_lex.specs.declared.table.Key.{Key}
 use Rattle.sw_lex.specs.declared.table.Key.TheVariants as keys
-use Rattle.sw_lex.specs.declared.paths.Path.{Path}
+use Rattle.sw_lex.specs.declared.path.Path.{Path}
 use Rattle.sw_lex.specs.Unit.{Heading, common, path, Datum, number, character, string, block, expression, UnitSeen}
 use Rattle.sw_lex.specs.Commands.{layer_numbered, of_common, of_instrument, of_layer, of_group, of_channels}
 use Rattle.sw_lex.specs.Values.{on_ok, ReadsQuantity, ReadsString, ReadsBlock, whole_of, continuous_of, macros_of}
 use Rattle.sw_lex.specs.Values.{time_of, source_meant, switch_meant, unnumbered}
 use Rattle.sw_lex.specs.Split.{nodes_of}
+use Rattle.sw_lex.specs.Packed.{word_of}
 use Rattle.sw_lex.specs.Found.{IsFound}
 use Rattle.sw_lex.specs.Table.{entries}
 
 -- ---- where a header is looked up
 
--- the nodes below which a unit without a leading colon is looked up, as written
 abbrev pub Nodes : Type 0
 Nodes = List (List ℕ)
 
+-- case doesn't matter
+abbrev pub capitals : Nodes → Nodes
+capitals ws = map (λ w. map to_ascii_uppercase w) ws
+
+-- the nodes below which a unit without a leading colon is looked up, in capitals
 abbrev pub path_of : Path → Nodes
-path_of p = map (λ w. w.items) p.nodes.items
+path_of p = map word_of (take p.nodes.count p.nodes.kept)
 
 -- A header with a leading colon, and a common one, are looked up from the root, any other below the path.
 abbrev pub looked_up : Heading → Nodes → Nodes
@@ -36,23 +41,14 @@ looked_up (common name) below = name ∷ []
 looked_up (path true nodes) below = nodes_of nodes
 looked_up (path false nodes) below = below ++ nodes_of nodes
 
--- the nodes below which it is looked up
-abbrev pub led_from : Heading → Nodes → Nodes
-led_from (common name) below = []
-led_from (path true nodes) below = []
-led_from (path false nodes) below = below
-
 abbrev pub all_but_last : Nodes → Nodes
 all_but_last ws = take (length ws - 1) ws
 
--- After a header that was found the path is its nodes as looked up, but for the last. A common header leaves the path.
+-- After a header that was found the path is its nodes as looked up, but for the last, in capitals. A common header
+-- leaves the path.
 abbrev pub path_after : Heading → Nodes → Nodes
 path_after (common name) below = below
-path_after (path leading nodes) below = all_but_last (looked_up (path leading nodes) below)
-
--- case doesn't matter
-abbrev pub capitals : Nodes → Nodes
-capitals ws = map (λ w. map to_ascii_uppercase w) ws
+path_after (path leading nodes) below = capitals (all_but_last (looked_up (path leading nodes) below))
 
 -- ---- what a command takes
 

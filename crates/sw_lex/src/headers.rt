@@ -1,13 +1,13 @@
 //! From the nodes of a header to its command.
 
-ghost use Rattle.std.specs.Prelude.{◌≡◌, ◌≤◌, ℕ, Bool, true, false, ◌==◌, List, length, map, IfSome, IfNone, IsTrue, ◌↔◌};
+ghost use Rattle.std.specs.Prelude.{◌≡◌, ◌≤◌, ℕ, Bool, true, false, ◌==◌, List, length, map, take, IfSome, IfNone, IsTrue, ◌↔◌};
 ghost use Rattle.std.specs.List.{filter};
 ghost use Rattle.std.specs.Char.{to_ascii_uppercase};
 ghost use Rattle.sw_lex.specs.Found.{IsFound, IsForm};
 ghost use Rattle.sw_lex.specs.Table.{entries};
 ghost use Rattle.sw_lex.specs.Values.{is_named};
 ghost use Rattle.sw_lex.specs.Rows.{entries_of, is_form_from};
-ghost use Rattle.sw_lex.specs.Headed.{first_word};
+ghost use Rattle.sw_lex.specs.Headed.{most_words, first_word};
 ghost use Rattle.sw_lex.specs.Packed.{AreNumbersOf, IsFormNumber, IsNumberedForm, FitNumbers, RowNumbers, GroupNumbers, groups_packed};
 ghost use Rattle.sw_lex.specs.Parts.{IsPart, belongs, part_of};
 ghost use Rattle.sw_lex.specs.declared.table.Key.{Key};
@@ -198,6 +198,16 @@ pub fn groups_at(word: &[u8], query: bool) -> &'static [Group]
     if query { part.queries } else { part.commands }
 }
 
+/// The other headers that begin with this letter, and are commands, or queries.
+#[inline(always)]
+pub fn path_groups(letter: u8, query: bool) -> &'static [Group]
+    ensures whole { entries_of result.now ≡ filter (belongs (false, to_ascii_uppercase letter) query) entries }
+    ensures numbers { groups_packed result.now ≡ true }
+{
+    let part = path_at(letter);
+    if query { part.queries } else { part.commands }
+}
+
 /// The command that a header is whose words have these numbers, by the rows among which it is looked up, and the number
 /// in it.
 #[inline(always)]
@@ -213,6 +223,22 @@ pub fn find(groups: &[Group], numbers: &[Word]) -> Option<(Key, u8)>
         [] => None,
         [number, others @ ..] => matching(groups, *number, others),
     }
+}
+
+/// The same by the numbers of a header's first words. None with more than four of them is in the table.
+#[inline(always)]
+pub fn find_kept(groups: &[Group], numbers: &[Word]) -> Option<(Key, u8)>
+    ensures some { IfSome result (λ x. (query : Bool) (ws : List (List ℕ)) → AreNumbersOf (take most_words ws) numbers.now
+        → entries_of groups.now ≡ filter (belongs (part_of (first_word ws)) query) entries
+        → groups_packed groups.now ≡ true → IsFound entries ws query x.0 x.1) }
+    ensures none { IfNone result ((query : Bool) (ws : List (List ℕ)) → AreNumbersOf (take most_words ws) numbers.now
+        → entries_of groups.now ≡ filter (belongs (part_of (first_word ws)) query) entries
+        → groups_packed groups.now ≡ true → (key : Key) (k : ℕ) → IsFound entries ws query key k → ⊥) }
+{
+    if numbers.len() > 4 {
+        return None;
+    }
+    find(groups, numbers)
 }
 
 /// The command that a header of these words is, and the number in it.

@@ -18,9 +18,10 @@ ghost use Rattle.sw_lex.specs.Values.{source_meant};
 
 use crate::choice::{layer_of, of_channels, of_common, of_group, of_instrument, of_layer};
 use crate::command::Command;
-use crate::headers::{find, find_words};
+use crate::headers::find_words;
 use crate::owned::{body, content};
-use crate::paths::{Path, groups_of, look_up, texts_of, unnumbered_all};
+use crate::path::Path;
+use crate::paths::{find_unit, texts, texts_of, unnumbered_all};
 use crate::raw_unit::RawUnit;
 use crate::table::{Key, Time, Whole};
 use crate::unit::{Element, Header};
@@ -269,7 +270,8 @@ fn refusal(nodes: &[&[u8]], query: bool) -> ScpiError
 fn refused(header: Header<'_>, path: &Path, query: bool) -> ScpiError
     ensures { IsRefusal (looked_up (heading_of header.entry) (path_of path.now)) query result }
 {
-    match texts_of(header, path) {
+    let below = texts(path);
+    match texts_of(header, below.as_slice()) {
         None => ScpiError::UndefinedHeader,
         Some(nodes) => refusal(nodes.as_slice(), query),
     }
@@ -286,18 +288,9 @@ fn refused(header: Header<'_>, path: &Path, query: bool) -> ScpiError
 pub fn resolve(alloc: Global, unit: &RawUnit<'_>, path: &mut Path) -> Result<Command, ScpiError>
     ensures { Resolves (unit_of unit.now) (path_of path.old) result (path_of path.new) }
 {
-    match look_up(unit, path) {
-        None => Err(ScpiError::UndefinedHeader),
-        Some(numbers) => match find(groups_of(unit, path), numbers.as_slice()) {
-            None => Err(refused(unit.header, path, unit.query)),
-            Some((key, number)) => {
-                match unit.header {
-                    Header::Common(_) => {}
-                    Header::Path { leading, nodes } => path.enter(leading, nodes),
-                }
-                decode(alloc, key, number, unit.elements)
-            }
-        },
+    match find_unit(unit, path) {
+        None => Err(refused(unit.header, path, unit.query)),
+        Some((key, number)) => decode(alloc, key, number, unit.elements),
     }
 }
 

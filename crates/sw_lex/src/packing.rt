@@ -112,14 +112,36 @@ pub struct Words {
 
 impl Words {
     /// None.
-    pub fn new() -> Self {
+    pub fn new() -> Self
+        ensures { result.count ≡ 0 }
+    {
         Words {
             kept: [0; WORDS],
             count: 0,
         }
     }
 
+    /// Those that are kept.
+    #[inline(always)]
+    pub fn as_slice(&self) -> &[Word]
+        ensures { result.now ≡ take self.now.count self.now.kept }
+    {
+        &self.kept[..self.count]
+    }
+
+    /// Puts numbers behind the others, as far as there is room.
+    #[inline(always)]
+    pub fn append(&mut self, words: &[Word])
+        ensures { take self.new.count self.new.kept
+            ≡ take most_words (take self.old.count self.old.kept ++ words.now) }
+    {
+        for word in words {
+            self.push(*word);
+        }
+    }
+
     /// Puts a number behind the others, where there is room.
+    #[inline(always)]
     pub fn push(&mut self, word: Word)
         ensures { take self.new.count self.new.kept
             ≡ take most_words (take self.old.count self.old.kept ++ word ∷ []) }

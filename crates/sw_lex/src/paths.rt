@@ -1,95 +1,143 @@
 //! Where a header is looked up.
 
-ghost use Rattle.std.specs.Prelude.{◌≡◌, ◌≤◌, ◌<◌, ◌+◌, ◌++◌, [], true, All, length, map, IfSome, IfNone};
-ghost use Rattle.sw_base.specs.Limits.{longest_mnemonic};
-ghost use Rattle.sw_lex.specs.Unit.{heading_of, path};
-ghost use Rattle.sw_lex.specs.Values.{unnumbered};
-ghost use Rattle.sw_lex.specs.Meaning.{path_of, capitals, led_from, looked_up, path_after};
+ghost use Rattle.std.specs.Prelude.{◌≡◌, ◌≢◌, ◌≤◌, ◌<◌, ◌++◌, false, length, map, get_or, IfSome, IfNone};
 ghost use Rattle.std.specs.Char.{to_ascii_uppercase};
-ghost use Rattle.std.specs.List.{filter};
-ghost use Rattle.sw_lex.specs.Packed.{AreNumbersOf, groups_packed};
-ghost use Rattle.sw_lex.specs.Rows.{entries_of};
-ghost use Rattle.sw_lex.specs.Table.{entries};
-ghost use Rattle.sw_lex.specs.Headed.{first_word};
-ghost use Rattle.sw_lex.specs.Parts.{part_of, belongs};
+ghost use Rattle.sw_base.specs.Limits.{longest_mnemonic};
+ghost use Rattle.sw_lex.specs.Unit.{unit_of, heading_of};
+ghost use Rattle.sw_lex.specs.Values.{unnumbered};
+ghost use Rattle.sw_lex.specs.Meaning.{path_of, capitals, looked_up, all_but_last, path_after, asked, IsNone};
+ghost use Rattle.sw_lex.specs.Found.{IsFound};
+ghost use Rattle.sw_lex.specs.Headed.{header_nodes, header_part};
+ghost use Rattle.sw_lex.specs.Packed.{last_bytes};
 ghost use Rattle.sw_lex.specs.Split.{nodes_of};
+ghost use Rattle.sw_lex.specs.Table.{entries};
 
-use crate::headers::groups_at;
-use crate::packing::{Word, number_of};
+use crate::headers::{find_kept, groups_at, path_groups};
+use crate::packing::Word;
+use crate::path::Path;
 use crate::raw_unit::RawUnit;
-use crate::rows::Group;
+use crate::table::Key;
 use crate::unit::Header;
 use crate::values::unnumbered;
 use arrayvec::ArrayVec;
 use sw_base::{MNEMONIC_BYTES, split_once};
 
-/// A node of a header that was found, as it was written.
-type Node = ArrayVec<u8, MNEMONIC_BYTES>;
-
-/// A node with this text.
-fn copied(text: &[u8]) -> Node
-    requires { length text.now ≤ longest_mnemonic }
-    ensures { result.items ≡ text.now }
+/// The first letter of a header.
+fn letter_of(nodes: &[u8]) -> u8
+    ensures { result ≡ get_or nodes.now 0 0 }
 {
-    let mut node = Node::new();
-    let _ = node.try_extend_from_slice(text);
-    node
+    match nodes {
+        [] => 0,
+        [letter, ..] => *letter,
+    }
 }
 
-/// The nodes below which a unit without a leading colon is looked up, as they were written in the message
-/// (SCPI-1999, volume 1, 6.2.4). They are its own: it may outlive the message, and takes no memory.
-#[derive(Drop)]
-pub struct Path {
-    nodes: ArrayVec<Node, 4>,
+/// The command that a unit's header is from the root. Where it is one, the path is then that of the next unit.
+#[inline(always)]
+fn find_from_root(unit: &RawUnit<'_>, letter: u8, path: &mut Path) -> Option<(Key, u8)>
+    requires root { looked_up (heading_of unit.now.header) (path_of path.old) ≡ header_nodes unit.now.header }
+    requires begins { header_part unit.now.header ≡ (false, to_ascii_uppercase letter) }
+    ensures some { IfSome result (λ x. IsFound entries (asked (unit_of unit.now) (path_of path.old)) unit.now.query x.0 x.1) }
+    ensures onward { IfSome result (λ _. path_of path.new
+        ≡ capitals (all_but_last (looked_up (heading_of unit.now.header) (path_of path.old)))) }
+    ensures none { IfNone result (IsNone (asked (unit_of unit.now) (path_of path.old)) unit.now.query) }
+    ensures stays { IfNone result (path_of path.new ≡ path_of path.old) }
+{
+    match find_kept(path_groups(letter, unit.query), unit.words) {
+        None => None,
+        Some(found) => {
+            path.letter = letter;
+            path.nodes.count = 0;
+            path.nodes.append(unit.words);
+            path.nodes.count -= 1;
+            Some(found)
+        }
+    }
 }
 
-impl Path {
-    /// The path at the start of a message.
-    pub fn root() -> Path
-        ensures { path_of result ≡ [] }
-    {
-        Path {
-            nodes: ArrayVec::new(),
+/// The same below the path, which has a node.
+#[inline(always)]
+fn find_below(unit: &RawUnit<'_>, path: &mut Path) -> Option<(Key, u8)>
+    requires below { looked_up (heading_of unit.now.header) (path_of path.old)
+        ≡ path_of path.old ++ header_nodes unit.now.header }
+    requires some { path.old.nodes.count ≢ 0 }
+    ensures some { IfSome result (λ x. IsFound entries (asked (unit_of unit.now) (path_of path.old)) unit.now.query x.0 x.1) }
+    ensures onward { IfSome result (λ _. path_of path.new
+        ≡ capitals (all_but_last (looked_up (heading_of unit.now.header) (path_of path.old)))) }
+    ensures none { IfNone result (IsNone (asked (unit_of unit.now) (path_of path.old)) unit.now.query) }
+    ensures stays { IfNone result (path_of path.new ≡ path_of path.old) }
+{
+    let before = path.nodes.count;
+    path.nodes.append(unit.words);
+    match find_kept(path_groups(path.letter, unit.query), path.nodes.as_slice()) {
+        None => {
+            path.nodes.count = before;
+            None
+        }
+        Some(found) => {
+            path.nodes.count -= 1;
+            Some(found)
         }
     }
+}
 
-    /// Its nodes.
-    fn nodes(&self) -> ArrayVec<&[u8], 4>
-        ensures { map (λ w. w.now) result.items ≡ path_of self.now }
-    {
-        let mut nodes = ArrayVec::new();
-        for node in self.nodes.as_slice() {
-            nodes.push(node.as_slice());
+/// The command that a unit's header is below the path. Where it is one, the path is then that of the next unit.
+#[inline(always)]
+pub fn find_unit(unit: &RawUnit<'_>, path: &mut Path) -> Option<(Key, u8)>
+    ensures some { IfSome result (λ x. IsFound entries (asked (unit_of unit.now) (path_of path.old)) unit.now.query x.0 x.1) }
+    ensures onward { IfSome result (λ _. path_of path.new ≡ path_after (heading_of unit.now.header) (path_of path.old)) }
+    ensures none { IfNone result (IsNone (asked (unit_of unit.now) (path_of path.old)) unit.now.query) }
+    ensures stays { IfNone result (path_of path.new ≡ path_of path.old) }
+{
+    match unit.header {
+        Header::Common(name) => find_kept(groups_at(name, unit.query), unit.words),
+        Header::Path { leading, nodes } => {
+            if leading || path.nodes.count == 0 {
+                find_from_root(unit, letter_of(nodes), path)
+            } else {
+                find_below(unit, path)
+            }
         }
-        nodes
     }
+}
 
-    /// The numbers of its nodes.
-    fn numbers(&self) -> ArrayVec<Word, 4>
-        ensures { AreNumbersOf (capitals (path_of self.now)) result.items }
-    {
-        let mut numbers = ArrayVec::new();
-        for node in self.nodes.as_slice() {
-            numbers.push(number_of(node.as_slice()));
-        }
-        numbers
-    }
+/// A node of a header that was found, in capitals.
+pub type Node = ArrayVec<u8, MNEMONIC_BYTES>;
 
-    /// Becomes the path after a header that was found: all of its nodes as looked up, but for the last.
-    pub(crate) fn enter(&mut self, leading: bool, text: &[u8])
-        requires few { length (looked_up (path leading text.now) (path_of self.old)) ≤ 4 }
-        requires short { All (λ w. length w ≤ longest_mnemonic) (looked_up (path leading text.now) (path_of self.old)) }
-        ensures { path_of self.new ≡ path_after (path leading text.now) (path_of self.old) }
-    {
-        if leading {
-            self.nodes.clear();
-        }
-        let mut left = text;
-        'nodes: while let Some((node, more)) = split_once(left, b':') {
-            self.nodes.push(copied(node));
-            left = more;
-        }
+/// The last bytes of a number, in capitals: at most so many, and without the one before them.
+fn text_of(number: Word, most: usize) -> Node
+    requires { most ≤ longest_mnemonic }
+    ensures { result.items ≡ map to_ascii_uppercase (last_bytes most number) }
+{
+    if most == 0 || number <= 1 {
+        return Node::new();
     }
+    let mut text = text_of(number / 256, most - 1);
+    text.push(((number % 256) as u8).to_ascii_uppercase());
+    text
+}
+
+/// The texts of a path's nodes.
+pub fn texts(path: &Path) -> ArrayVec<Node, 4>
+    ensures { map (λ w. w.items) result.items ≡ path_of path.now }
+{
+    let mut texts = ArrayVec::new();
+    for number in path.nodes.as_slice() {
+        texts.push(text_of(*number, MNEMONIC_BYTES));
+    }
+    texts
+}
+
+/// The same as slices.
+fn slices(texts: &[Node]) -> ArrayVec<&[u8], 4>
+    requires { length texts.now ≤ 4 }
+    ensures { map (λ w. w.now) result.items ≡ map (λ w. w.items) texts.now }
+{
+    let mut nodes = ArrayVec::new();
+    for text in texts {
+        nodes.push(text.as_slice());
+    }
+    nodes
 }
 
 /// The nodes of a text after those given; none where they are more than four, as in no header of the table.
@@ -117,79 +165,12 @@ fn joined<'a>(nodes: ArrayVec<&'a [u8], 4>, text: &'a [u8]) -> Option<ArrayVec<&
     }
 }
 
-/// The numbers of the nodes below which a header is looked up.
-fn numbers_below(header: Header<'_>, path: &Path) -> ArrayVec<Word, 4>
-    ensures { AreNumbersOf (capitals (led_from (heading_of header.entry) (path_of path.now))) result.items }
-{
-    match header {
-        Header::Common(_) => ArrayVec::new(),
-        Header::Path { leading, .. } => if leading {
-            ArrayVec::new()
-        } else {
-            path.numbers()
-        },
-    }
-}
-
-/// Numbers, and these behind them; none where they are more than four.
-fn appended(numbers: ArrayVec<Word, 4>, words: &[Word]) -> Option<ArrayVec<Word, 4>>
-    ensures some { IfSome result (λ x. x.items ≡ numbers.items ++ words.now) }
-    ensures room { IfSome result (λ _. length numbers.items + length words.now ≤ 4) }
-    ensures none { IfNone result (4 < length numbers.items + length words.now) }
-{
-    if numbers.len() + words.len() > 4 {
-        return None;
-    }
-    let mut numbers = numbers;
-    let _ = numbers.try_extend_from_slice(words);
-    Some(numbers)
-}
-
-/// The numbers of the words as which a unit's header is looked up; none where they are more than four.
-#[inline(always)]
-pub fn look_up(unit: &RawUnit<'_>, path: &Path) -> Option<ArrayVec<Word, 4>>
-    ensures some { IfSome result (λ x.
-        AreNumbersOf (capitals (looked_up (heading_of unit.now.header) (path_of path.now))) x.items) }
-    ensures none { IfNone result (4 < length (looked_up (heading_of unit.now.header) (path_of path.now))) }
-{
-    appended(numbers_below(unit.header, path), unit.words)
-}
-
-/// A text that begins as the first of the words does as which a unit's header is looked up.
-#[inline(always)]
-fn first_of<'a>(unit: &RawUnit<'a>, path: &'a Path) -> &'a [u8]
-    ensures { part_of (map to_ascii_uppercase result.now)
-        ≡ part_of (first_word (capitals (looked_up (heading_of unit.now.header) (path_of path.now)))) }
-{
-    match unit.header {
-        Header::Common(name) => name,
-        Header::Path { leading, nodes } => {
-            if leading {
-                return nodes;
-            }
-            match path.nodes.as_slice() {
-                [] => nodes,
-                [first, ..] => first.as_slice(),
-            }
-        }
-    }
-}
-
-/// The rows among which a unit's header is looked up.
-#[inline(always)]
-pub fn groups_of(unit: &RawUnit<'_>, path: &Path) -> &'static [Group]
-    ensures whole { entries_of result.now ≡ filter (belongs (part_of (first_word
-        (capitals (looked_up (heading_of unit.now.header) (path_of path.now))))) unit.now.query) entries }
-    ensures numbers { groups_packed result.now ≡ true }
-{
-    groups_at(first_of(unit, path), unit.query)
-}
-
-/// The nodes as which a header is looked up, as texts; none where they are more than four.
-pub fn texts_of<'a>(header: Header<'a>, path: &'a Path) -> Option<ArrayVec<&'a [u8], 4>>
+/// The nodes as which a header is looked up below these, as texts; none where they are more than four.
+pub fn texts_of<'a>(header: Header<'a>, below: &'a [Node]) -> Option<ArrayVec<&'a [u8], 4>>
+    requires { length below.now ≤ 4 }
     ensures some { IfSome result (λ x. map (λ w. w.now) x.items
-        ≡ looked_up (heading_of header.entry) (path_of path.now)) }
-    ensures none { IfNone result (4 < length (looked_up (heading_of header.entry) (path_of path.now))) }
+        ≡ looked_up (heading_of header.entry) (map (λ w. w.items) below.now)) }
+    ensures none { IfNone result (4 < length (looked_up (heading_of header.entry) (map (λ w. w.items) below.now))) }
 {
     match header {
         Header::Common(name) => {
@@ -201,7 +182,7 @@ pub fn texts_of<'a>(header: Header<'a>, path: &'a Path) -> Option<ArrayVec<&'a [
             if leading {
                 joined(ArrayVec::new(), nodes)
             } else {
-                joined(path.nodes(), nodes)
+                joined(slices(below), nodes)
             }
         }
     }

@@ -2,7 +2,7 @@
 
 ghost use Rattle.std.specs.Prelude.{◌≡◌, true, map};
 ghost use Rattle.std.specs.Char.{to_ascii_uppercase};
-ghost use Rattle.sw_lex.specs.Headed.{header_numbers, header_bytes, header_text, header_nodes, first_word};
+ghost use Rattle.sw_lex.specs.Headed.{header_numbers, header_bytes, header_part, header_nodes, first_word};
 ghost use Rattle.sw_lex.specs.Parts.{part_of};
 
 use crate::packing::Word;
@@ -25,8 +25,7 @@ pub struct RawUnit<'a> {
     pub(crate) text: &'a [u8],
     ghost numbers: { words.now ≡ header_numbers header },
     ghost bytes: { header_bytes header ≡ true },
-    ghost begins: { part_of (map to_ascii_uppercase (header_text header))
-        ≡ part_of (map to_ascii_uppercase (first_word (header_nodes header))) },
+    ghost begins: { header_part header ≡ part_of (map to_ascii_uppercase (first_word (header_nodes header))) },
 }
 
 impl<'a> RawUnit<'a> {
