@@ -1,5 +1,5 @@
 -- The numbers of the words as which a header is looked up.
-use Rattle.std.proofs.Common.{◌≡◌, ℕ, zero, suc, ◌+◌, ◌-◌, ◌≤◌, ◌<◌, Bool, true, false, List, [], ◌∷◌, ◌++◌, length, take, map, refl, sym, ap, subst, ◌∙◌, arith}
+use Rattle.std.proofs.Common.{◌≡◌, ℕ, zero, suc, ◌-◌, ◌≤◌, ◌<◌, Bool, true, false, List, [], ◌∷◌, ◌++◌, length, take, map, refl, sym, ap, subst, ◌∙◌, arith}
 use Rattle.std.proofs.Common.{inl, inr}
 use Rattle.std.specs.Prelude.{nat_le, IfSome, IfNone, Option, Some, None}
 use Rattle.std.specs.List.{list_all, filter}
@@ -10,11 +10,10 @@ use Rattle.std.proofs.lemmas.List.{length-append, length-map, map-append, take_a
 use Rattle.sw_base.specs.Text.{AllPass}
 use Rattle.sw_base.specs.declared.error.ScpiError.TheVariants.{UndefinedHeader}
 use Rattle.sw_lex.specs.declared.unit.Header.{Header}
-use Rattle.sw_lex.specs.declared.unit.Header.TheVariants as headers
 use Rattle.sw_lex.specs.Meaning.{Nodes, capitals, all_but_last, IsRefusal}
 use Rattle.sw_lex.specs.Values.{unnumbered}
 use Rattle.sw_lex.specs.Table.{entries}
-use Rattle.sw_lex.specs.Packed.{is_byte, packed, last_bytes, word_of, number_at, groups_packed, IsNumberOf, AreNumbersOf}
+use Rattle.sw_lex.specs.Packed.{is_byte, last_bytes, word_of, number_at, groups_packed, IsNumberOf, AreNumbersOf}
 use Rattle.sw_lex.specs.Headed.{word_number, header_nodes, header_numbers, header_bytes, header_part, first_word, first_or}
 use Rattle.sw_lex.specs.Parts.{part_of, belongs}
 use Rattle.sw_lex.specs.Rows.{entries_of}
@@ -22,7 +21,6 @@ use Rattle.sw_lex.specs.declared.rows.Group.{Group}
 use Rattle.sw_lex.specs.declared.table.Key.{Key}
 use Rattle.sw_lex.specs.Found.{IsFound}
 use Rattle.sw_lex.proofs.Packed.{last_packed, last_length, last_pass}
-use Rattle.sw_lex.proofs.Headed.{take_twice}
 use Rattle.sw_lex.proofs.Parts.{nothing_there}
 use Rattle.sw_lex.proofs.Spelled.{too_long, node_fits, found_fits}
 use Rattle.sw_lex.proofs.Apart.{entries_short, entries_fit}

@@ -1,26 +1,14 @@
 -- The nodes of a header.
-use Rattle.std.proofs.Common.{◌≡◌, ℕ, ◌-◌, ◌<◌, ◌≤◌, Bool, true, false, not, List, [], ◌∷◌, ◌++◌, length, take, refl, sym, ap, ◌∙◌, map}
+use Rattle.std.proofs.Common.{◌≡◌, ℕ, ◌<◌, ◌≤◌, Bool, true, false, not, List, [], ◌∷◌, ◌++◌, length, refl, sym, ap, ◌∙◌, map}
 use Rattle.std.proofs.Common.{append_assoc, arith, Bor, inl, inr, subst, Err}
 use Rattle.std.specs.Prelude.{◌==◌, if◌then◌else◌}
-use Rattle.std.specs.List.{All, list_all}
-use Rattle.std.proofs.lemmas.Grind.{common_steps}
-use Rattle.std.proofs.lemmas.List.Elements.{All-weaker, All-head, All-tail, All-same}
-use Rattle.std.proofs.lemmas.List.Folds.{list_all-map}
-use Rattle.std.proofs.lemmas.List.Sums.{AllPass-from_list_all}
-use Rattle.std.proofs.lemmas.List.{length-append, length_push, length-map, map_push}
-use Rattle.std.proofs.Math.Seq.{take-append_seam}
+use Rattle.std.proofs.lemmas.List.{length-append, length-map, map_push}
 use Rattle.sw_base.specs.Text.{Lacks}
-use Rattle.sw_lex.specs.Meaning.{Nodes, looked_up, all_but_last, capitals, asked, IsNone, IsRefusal, Resolves}
+use Rattle.sw_lex.specs.Meaning.{Nodes, looked_up, capitals, asked, IsNone, IsRefusal, Resolves}
 use Rattle.sw_lex.specs.Split.{nodes_of, led_by}
 use Rattle.sw_lex.specs.Values.{unnumbered}
 use Rattle.sw_base.specs.declared.error.ScpiError.{ScpiError}
 use Rattle.sw_lex.specs.Unit.{UnitSeen}
-use Rattle.sw_lex.specs.declared.table.Key.{Key}
-use Rattle.sw_lex.specs.Found.{IsFound}
-use Rattle.sw_lex.specs.Table.{entries}
-use Rattle.sw_lex.proofs.Spelled.{too_long, node_fits, found_fits}
-use Rattle.sw_lex.proofs.Apart.{entries_short, entries_fit}
-use Rattle.sw_base.specs.declared.error.ScpiError.TheVariants.{UndefinedHeader}
 use Rattle.std.specs.Char.{to_ascii_uppercase}
 use Rattle.std.proofs.lemmas.Simd.{map-map}
 

@@ -228,7 +228,8 @@ pub fn find(groups: &[Group], numbers: &[Word]) -> Option<(Key, u8)>
 /// The same by the numbers of a header's first words. None with more than four of them is in the table.
 #[inline(always)]
 pub fn find_kept(groups: &[Group], numbers: &[Word]) -> Option<(Key, u8)>
-    ensures some { IfSome result (λ x. (query : Bool) (ws : List (List ℕ)) → AreNumbersOf (take most_words ws) numbers.now
+    ensures some { IfSome result (λ x. (query : Bool) (ws : List (List ℕ))
+        → AreNumbersOf (take most_words ws) numbers.now
         → entries_of groups.now ≡ filter (belongs (part_of (first_word ws)) query) entries
         → groups_packed groups.now ≡ true → IsFound entries ws query x.0 x.1) }
     ensures none { IfNone result ((query : Bool) (ws : List (List ℕ)) → AreNumbersOf (take most_words ws) numbers.now

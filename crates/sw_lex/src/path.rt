@@ -8,8 +8,8 @@ ghost use Rattle.sw_lex.specs.Parts.{part_of};
 
 use crate::packing::Words;
 
-/// The nodes below which a unit without a leading colon is looked up (SCPI-1999, volume 1, 6.2.4), by their numbers. They
-/// are its own: it may outlive the message, and takes no memory.
+/// The nodes below which a unit without a leading colon is looked up (SCPI-1999, volume 1, 6.2.4), by their numbers.
+/// They are its own: it may outlive the message, and takes no memory.
 #[derive(Drop)]
 pub struct Path {
     pub(crate) nodes: Words,

@@ -37,7 +37,8 @@ fn letter_of(nodes: &[u8]) -> u8
 fn find_from_root(unit: &RawUnit<'_>, letter: u8, path: &mut Path) -> Option<(Key, u8)>
     requires root { looked_up (heading_of unit.now.header) (path_of path.old) ≡ header_nodes unit.now.header }
     requires begins { header_part unit.now.header ≡ (false, to_ascii_uppercase letter) }
-    ensures some { IfSome result (λ x. IsFound entries (asked (unit_of unit.now) (path_of path.old)) unit.now.query x.0 x.1) }
+    ensures some { IfSome result (λ x. IsFound entries (asked (unit_of unit.now) (path_of path.old)) unit.now.query
+        x.0 x.1) }
     ensures onward { IfSome result (λ _. path_of path.new
         ≡ capitals (all_but_last (looked_up (heading_of unit.now.header) (path_of path.old)))) }
     ensures none { IfNone result (IsNone (asked (unit_of unit.now) (path_of path.old)) unit.now.query) }
@@ -61,7 +62,8 @@ fn find_below(unit: &RawUnit<'_>, path: &mut Path) -> Option<(Key, u8)>
     requires below { looked_up (heading_of unit.now.header) (path_of path.old)
         ≡ path_of path.old ++ header_nodes unit.now.header }
     requires some { path.old.nodes.count ≢ 0 }
-    ensures some { IfSome result (λ x. IsFound entries (asked (unit_of unit.now) (path_of path.old)) unit.now.query x.0 x.1) }
+    ensures some { IfSome result (λ x. IsFound entries (asked (unit_of unit.now) (path_of path.old)) unit.now.query
+        x.0 x.1) }
     ensures onward { IfSome result (λ _. path_of path.new
         ≡ capitals (all_but_last (looked_up (heading_of unit.now.header) (path_of path.old)))) }
     ensures none { IfNone result (IsNone (asked (unit_of unit.now) (path_of path.old)) unit.now.query) }
@@ -84,8 +86,10 @@ fn find_below(unit: &RawUnit<'_>, path: &mut Path) -> Option<(Key, u8)>
 /// The command that a unit's header is below the path. Where it is one, the path is then that of the next unit.
 #[inline(always)]
 pub fn find_unit(unit: &RawUnit<'_>, path: &mut Path) -> Option<(Key, u8)>
-    ensures some { IfSome result (λ x. IsFound entries (asked (unit_of unit.now) (path_of path.old)) unit.now.query x.0 x.1) }
-    ensures onward { IfSome result (λ _. path_of path.new ≡ path_after (heading_of unit.now.header) (path_of path.old)) }
+    ensures some { IfSome result (λ x. IsFound entries (asked (unit_of unit.now) (path_of path.old)) unit.now.query
+        x.0 x.1) }
+    ensures onward { IfSome result (λ _. path_of path.new
+        ≡ path_after (heading_of unit.now.header) (path_of path.old)) }
     ensures none { IfNone result (IsNone (asked (unit_of unit.now) (path_of path.old)) unit.now.query) }
     ensures stays { IfNone result (path_of path.new ≡ path_of path.old) }
 {

@@ -1,6 +1,7 @@
 //! Runs of bytes that units are made of.
 
-ghost use Rattle.std.specs.Prelude.{◌≡◌, ◌==◌, ◌++◌, ◌∷◌, [], ℕ, List, IfOk, IfErr, IfSome, IfNone, length, ◌≤◌, ◌<◌, take, drop};
+ghost use Rattle.std.specs.Prelude.{◌≡◌, ◌==◌, ◌++◌, ◌∷◌, ◌≤◌, ◌<◌, [], ℕ, List, IfOk, IfErr, IfSome, IfNone};
+ghost use Rattle.std.specs.Prelude.{length, take, drop};
 ghost use Rattle.sw_base.specs.Text.{is_blank, is_letter, is_word, AllPass, StartsOff, Spans};
 ghost use Rattle.sw_base.specs.declared.error.ScpiError.TheVariants.{SyntaxError};
 ghost use Rattle.sw_lex.specs.Elements.{is_inner};
@@ -66,8 +67,8 @@ pub fn fault_at(error: ScpiError, bytes: &[u8]) -> ScpiError
     }
 }
 
-/// How many bytes the mnemonic at the front has, 0 where none is there. Its number is put behind the others, where there
-/// is room.
+/// How many bytes the mnemonic at the front has, 0 where none is there. Its number is put behind the others, where
+/// there is room.
 pub fn read_word(text: &[u8], words: &mut Words) -> usize
     ensures fits { result ≤ length text.now }
     ensures some { 0 < result → IsMnemonic (take result text.now) × StartsOff is_word (drop result text.now) }

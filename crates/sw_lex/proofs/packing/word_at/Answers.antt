@@ -16,13 +16,19 @@ overflow_add-number c =
     omega (arith, h, c.from.ensures)
 
 pub loop-n-preserved : goal.loop-n-preserved
-loop-n-preserved c = record {
-  in_range = omega arith;
-  few = omega arith;
-  pass = word_more c.args.text.now c.loop-n.n (omega arith) c.loop-n.invariant.pass (capital_word (get_or c.args.text.now c.loop-n.n 0) _ c.capital.ensures c.if-capital-ne0.true).0;
-  bytes = bytes_more c.args.text.now c.loop-n.n _ (omega arith) (capital_so (get_or c.args.text.now c.loop-n.n 0) _ _ c.capital.ensures c.if-capital-ne0.true c.capital-in-loop-n.ensures) (omega arith) c.loop-n.invariant.bytes;
-  number = packed_more c.args.text.now c.loop-n.n c.loop-n.number _ _ (omega arith) (capital_so (get_or c.args.text.now c.loop-n.n 0) _ _ c.capital.ensures c.if-capital-ne0.true c.capital-in-loop-n.ensures) c.from.ensures c.loop-n.invariant.number;
-}
+loop-n-preserved c =
+    let text = c.args.text.now in
+    let n = c.loop-n.n in
+    let h = c.loop-n.invariant in
+    let word = capital_word (get_or text n 0) _ c.capital.ensures c.if-capital-ne0.true in
+    let up = capital_so (get_or text n 0) _ _ c.capital.ensures c.if-capital-ne0.true c.capital-in-loop-n.ensures in
+    record {
+      in_range = omega arith;
+      few = omega arith;
+      pass = word_more text n (omega arith) h.pass word.0;
+      bytes = bytes_more text n _ (omega arith) up (omega arith) h.bytes;
+      number = packed_more text n c.loop-n.number _ _ (omega arith) up c.from.ensures h.number;
+    }
 
 pub returns-then-is_word-clause-number : goal.returns-then-is_word-clause-number
 returns-then-is_word-clause-number c =

@@ -1,8 +1,8 @@
-use Rattle.std.proofs.Common.{◌≡◌, ◌<◌, ℕ, List, false, take, length, map, refl, sym, ap, subst, ◌∙◌, arith}
+use Rattle.std.proofs.Common.{◌≡◌, ◌<◌, ℕ, List, false, take, length, map, sym, ap, subst, ◌∙◌, arith}
 use Rattle.std.specs.Char.{to_ascii_uppercase}
 use Rattle.std.proofs.lemmas.List.{take_all}
 use Rattle.sw_lex.specs.Unit.{heading_of}
-use Rattle.sw_lex.specs.Meaning.{Nodes, path_of, capitals, looked_up}
+use Rattle.sw_lex.specs.Meaning.{path_of, capitals, looked_up}
 use Rattle.sw_lex.specs.Headed.{first_or}
 use Rattle.sw_lex.specs.Packed.{word_of}
 use Rattle.sw_lex.specs.Parts.{part_of}
