@@ -1,6 +1,6 @@
 //! The expansion of a unit.
 
-ghost use Rattle.std.specs.Prelude.{◌≡◌, ◌≢◌, ◌<◌, ◌⊎◌, ◌++◌, ◌∷◌, ℕ, true, false, None, Some, List, [], length};
+ghost use Rattle.std.specs.Prelude.{◌≡◌, ◌<◌, ◌⊎◌, ◌++◌, ◌∷◌, ℕ, true, false, None, Some, List, [], length};
 ghost use Rattle.std.specs.Prelude.{Result, Ok, Err, IfOk, IfErr, OnOk};
 ghost use Rattle.std.specs.Option.{option_map};
 ghost use Rattle.sw_base.specs.Limits.{most_levels};
@@ -164,57 +164,63 @@ fn write_within(
 }
 
 impl Macros {
-    /// Whether a unit is replaced: while macros are on, where its header is exactly a label.
-    pub fn calls(&self, unit: &RawUnit<'_>) -> bool
-        ensures calls { result ≡ calls self.now (unit_of unit.now) }
-        ensures replaced { result ≡ true → opened_in self.now (unit_of unit.now) ≢ Ok None }
-        ensures itself { result ≡ false → opened_in self.now (unit_of unit.now) ≡ Ok None }
-    {
-        self.enabled() && called(self, unit).is_some()
-    }
-
-    /// What a unit is replaced by: while macros are on, a unit whose header is exactly a label, without a colon and a
-    /// question mark, is replaced by the label's body, with each `$1` to `$9` replaced by that data element as it is
-    /// written, and each unit of the body replaced in the same way. Any other unit gives its own text.
+    /// Whether a unit is replaced: then the text is its expansion. While macros are on, a unit whose header is exactly
+    /// a label, without a colon and a question mark, is replaced by the label's body, with each `$1` to `$9` replaced
+    /// by that data element as it is written, and each unit of the body replaced in the same way. Any other unit is
+    /// itself.
     ///
     /// At each label, the outer first and from left to right: -276 for a label inside its own body and for a ninth
     /// level, -274 for a missing element, -276 where the text so far and the body come to more than 65,536 bytes. The
     /// finished text is judged once more. -225 where a growth is refused.
-    pub fn expand(&self, alloc: Global, unit: &RawUnit<'_>) -> Result<Vec<u8>, ScpiError>
-        ensures ok { IfOk result (λ text. Expands self.now (unit_of unit.now) (written_of unit.now) (Ok text.items)) }
+    pub fn expand(
+        &self,
+        alloc: Global,
+        unit: &RawUnit<'_>,
+        text: &mut Vec<u8>,
+    ) -> Result<bool, ScpiError>
+        ensures calls { IfOk result (λ is_replaced. is_replaced ≡ calls self.now (unit_of unit.now)) }
+        ensures itself { IfOk result (λ is_replaced. is_replaced ≡ false
+            → opened_in self.now (unit_of unit.now) ≡ Ok None) }
+        ensures ok { IfOk result (λ is_replaced. is_replaced ≡ true
+            → Expands self.now (unit_of unit.now) (written_of unit.now) (Ok text.new.items)) }
+        ensures fault { IfErr result (λ _. calls self.now (unit_of unit.now) ≡ true) }
         ensures err { IfErr result (λ e. (e ≡ OutOfMemory)
             ⊎ Expands self.now (unit_of unit.now) (written_of unit.now) (Err e)) }
     {
         if !self.enabled() {
-            return Ok(unit.text().to_vec(alloc)?);
+            return Ok(false);
         }
         match called(self, unit) {
-            None => Ok(unit.text().to_vec(alloc)?),
-            Some((label, body)) => self.replaced(alloc, unit, label, body),
+            None => Ok(false),
+            Some((label, body)) => {
+                self.replace(alloc, unit, label, body, text)?;
+                Ok(true)
+            }
         }
     }
 
-    /// The expansion of a unit that calls this macro.
-    fn replaced(
+    /// Makes a text the expansion of a unit that calls this macro.
+    fn replace(
         &self,
         alloc: Global,
         unit: &RawUnit<'_>,
         label: Label,
         body: &Body,
-    ) -> Result<Vec<u8>, ScpiError>
+        text: &mut Vec<u8>,
+    ) -> Result<(), ScpiError>
         requires { called self.now.macros (unit_of unit.now) ≡ Some (label.items, body.now) }
-        ensures ok { IfOk result (λ text. Replaces self.now.macros
-            (opened_macro self.now.macros [] (unit_of unit.now) 0) (written_of unit.now) (Ok text.items)) }
+        ensures ok { OnOk result (Replaces self.now.macros
+            (opened_macro self.now.macros [] (unit_of unit.now) 0) (written_of unit.now) (Ok text.new.items)) }
         ensures err { IfErr result (λ e. (e ≡ OutOfMemory) ⊎ Replaces self.now.macros
             (opened_macro self.now.macros [] (unit_of unit.now) 0) (written_of unit.now) (Err e)) }
     {
-        let mut text = Vec::new(alloc);
+        text.clear();
         let mut names = Names::new();
-        write_unit(self, alloc, unit, label, body, &mut names, &mut text)?;
+        write_unit(self, alloc, unit, label, body, &mut names, text)?;
         if text.len() > MESSAGE_BYTES {
             return Err(ScpiError::MacroRecursionError);
         }
-        Ok(text)
+        Ok(())
     }
 }
 
