@@ -1,4 +1,4 @@
-use Rattle.std.proofs.Common.{◌≡◌, ◌++◌, ◌∷◌, [], ℕ, false, List, Ok, Err, length, append_assoc, arith, sym, ap, subst, ◌∙◌, inl, inr}
+use Rattle.std.proofs.Common.{◌≡◌, ◌++◌, ◌∷◌, [], ℕ, false, List, Ok, Err, length, append_assoc, sym, ap, subst, ◌∙◌, inl, inr}
 use Rattle.std.proofs.lemmas.List.{length-map}
 use Rattle.std.proofs.lemmas.Result.{err_from_is_err_and, on_ok_weaker, IfErr-weaker}
 use Rattle.std.specs.Prelude.{◌⊎◌}
@@ -7,7 +7,7 @@ use Rattle.sw_base.specs.declared.error.ScpiError.{ScpiError}
 use Rattle.sw_base.specs.declared.error.ScpiError.TheVariants.{OutOfMemory, MacroRecursionError}
 use Rattle.sw_lex.specs.Unit.{unit_of, written_of}
 use Rattle.sw_macro.specs.Table.{Macro}
-use Rattle.sw_macro.specs.Expansion.{called, Becomes, UnitBecomes}
+use Rattle.sw_macro.specs.Expansion.{Becomes, UnitBecomes}
 use Rattle.sw_macro.specs.Placed.{names_of}
 use Rattle.sw_macro.proofs.Fillings.{long_is, plain_fits, plain_too_long}
 use Rattle.sw_macro.proofs.Expansions.{IsRead, place_of, first_of, follows_of, unwritten_keeps, unwritten_ends, unwritten_fails, unwritten_goes}
