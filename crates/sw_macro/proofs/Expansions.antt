@@ -1,111 +1,57 @@
 -- Units in their places, and that a body becomes one text or one fault.
-use Rattle.std.proofs.Common.{◌≡◌, ℕ, ◌-◌, ◌≤◌, List, [], ◌∷◌, ◌++◌, length, take, drop, Option, Some, None, Result, Ok, Err, refl, sym, ap, subst, ◌∙◌}
-use Rattle.std.proofs.Common.{append_assoc, arith, inl, inr}
-use Rattle.std.proofs.lemmas.List.{append_cancel_right, length-append, take_at, drop_at}
-use Rattle.sw_base.specs.Text.{AllPass, Spans}
-use Rattle.sw_base.proofs.Runs.{one_span}
+use Rattle.std.proofs.Common.{◌≡◌, ℕ, List, [], ◌∷◌, ◌++◌, length, Option, Some, None, Result, Ok, Err, refl, sym, ap, subst, ◌∙◌}
+use Rattle.std.proofs.Common.{append_assoc, inl, inr}
+use Rattle.std.proofs.lemmas.List.{append_cancel_right, append-nil}
 use Rattle.sw_base.specs.declared.error.ScpiError.{ScpiError}
-use Rattle.sw_lex.specs.Unit.{UnitSeen, IsUnit, IsWritten, Ends, Closes, is_gap}
+use Rattle.sw_lex.specs.Unit.{UnitSeen, IsUnit, IsWritten, Ends, Closes}
 use Rattle.sw_lex.proofs.Once.{one_unit, unit_refused, blank_unit}
 use Rattle.sw_lex.proofs.Written.{one_written}
 use Rattle.sw_macro.specs.Table.{Macro, Table}
 use Rattle.sw_macro.specs.Expansion.{opened_macro, Place, IsFirstUnit, HasNoUnit, Becomes, ends, keeps, fails, stops, goes, within_bound, Replaces, opened_in}
-use Rattle.sw_macro.specs.Expansion.{Expands}
+use Rattle.std.proofs.Common.{◌<◌, ◌≤◌, arith}
+use Rattle.std.proofs.lemmas.Grind.{common_steps}
+use Rattle.std.specs.Prelude.{Bool, true, false, ◌||◌, nat_le, nat_lt}
+use Rattle.std.specs.Option.{option_map}
+use Rattle.std.specs.Result.{result_map_both}
+use Rattle.sw_base.specs.Limits.{most_levels, most_bytes}
+use Rattle.sw_base.specs.declared.error.ScpiError.TheVariants.{MacroRecursionError}
+use Rattle.sw_macro.specs.Filling.{put_in}
+use Rattle.sw_macro.specs.Expansion.{Expands, called, opened_found, BecomesOpened, UnitBecomes, is_one_of}
 
--- ---- the code's cut of a text
+-- ---- a unit that was read
 
 -- what stands between a unit and what follows it
-closes_front : (left rest : List ℕ) → Closes left rest → (between : List ℕ) × (left ≡ between ++ rest)
+pub closes_front : (left rest : List ℕ) → Closes left rest → (between : List ℕ) × (left ≡ between ++ rest)
 closes_front left rest c = at_end left c.gap c.end rest c.space.whole c.ends
   where
     at_end : (left gap end rest : List ℕ) → left ≡ gap ++ end → Ends end rest → (between : List ℕ) × (left ≡ between ++ rest)
     at_end left gap [] rest w e = (gap, w ∙ ap (λ (t : List ℕ). gap ++ t) (sym e))
     at_end left gap (b ∷ end) rest w e = (gap ++ b ∷ [], w ∙ ap (λ (t : List ℕ). gap ++ b ∷ t) (sym e.1) ∙ sym (append_assoc gap (b ∷ []) rest))
 
--- the first unit of a text, which stands at the front of what follows a gap, and the parts round it
-pub record FirstUnitParts (text before start : List ℕ) (u : UnitSeen) (w rest : List ℕ) : Type 0 where
+-- a unit that was read, as it is written, and what follows it
+pub record IsRead (text : List ℕ) (u : UnitSeen) (w rest : List ℕ) : Type 0 where
+  pub before : List ℕ
   pub left : List ℕ
-  pub between : List ℕ
-  pub whole : start ≡ w ++ left
-  pub parts : left ≡ between ++ rest
+  pub unit : IsUnit text u rest
   pub writes : IsWritten text before u w left
+  pub closes : Closes left rest
 
--- what follows a gap begins with none
-no_gap : (text before start : List ℕ) → Spans is_gap text before start → Spans is_gap start [] start
-no_gap text before start s = record { whole = refl; pass = tt; off = s.off }
+-- its place
+abbrev pub place_of : (text : List ℕ) (u : UnitSeen) (w rest : List ℕ) → IsRead text u w rest → Place
+place_of text u w rest i =
+    record { before = i.before; unit = u; written = w; between = (closes_front i.left rest i.closes).0; rest = rest }
 
-pub first_after_gap : (text before start : List ℕ) (u : UnitSeen) (w rest : List ℕ) → Spans is_gap text before start
-    → (b : List ℕ) × (left : List ℕ) × IsWritten start b u w left × Closes left rest → FirstUnitParts text before start u w rest
-first_after_gap text before start u w rest s e =
-    let p = e.2 in
-    let r = one_span is_gap start e.0 p.start [] start p.skipped (no_gap text before start s) in
-    let f = closes_front e.1 rest e.3 in
-    record {
-      left = e.1;
-      between = f.0;
-      whole = sym r.1 ∙ p.whole;
-      parts = f.1;
-      writes = record {
-        start = p.start;
-        after = p.after;
-        tail = p.tail;
-        skipped = subst (λ (x : List ℕ). Spans is_gap text before x) (sym r.1) s;
-        header = p.header;
-        asks = p.asks;
-        ends = p.ends;
-        whole = p.whole;
-      };
-    }
+pub first_of : (text : List ℕ) (u : UnitSeen) (w rest : List ℕ) (i : IsRead text u w rest) → IsFirstUnit text (place_of text u w rest i)
+first_of text u w rest i = record { reads = i.unit; left = i.left; writes = i.writes; parts = (closes_front i.left rest i.closes).1 }
 
-pub unit_after_gap : (text before start : List ℕ) (u : UnitSeen) (rest : List ℕ) → Spans is_gap text before start
-    → IsUnit start u rest → IsUnit text u rest
-unit_after_gap text before start u rest s i =
-    let r = one_span is_gap start i.before i.start [] start i.skipped (no_gap text before start s) in
-    record {
-      before = before;
-      start = i.start;
-      after = i.after;
-      tail = i.tail;
-      skipped = subst (λ (x : List ℕ). Spans is_gap text before x) (sym r.1) s;
-      header = i.header;
-      asks = i.asks;
-      follows = i.follows;
-      few = i.few;
-    }
+-- what follows it
+pub follows_of : (text : List ℕ) (u : UnitSeen) (w rest : List ℕ) (i : IsRead text u w rest) → i.left ≡ (place_of text u w rest i).between ++ rest
+follows_of text u w rest i = (closes_front i.left rest i.closes).1
 
-all_more : (front rest : List ℕ) → AllPass is_gap front → AllPass is_gap rest → AllPass is_gap (front ++ rest)
-all_more [] rest a h = h
-all_more (b ∷ front) rest a h = (a.0, all_more front rest a.1 h)
-
-pub none_after_gap : (text before start : List ℕ) → Spans is_gap text before start → HasNoUnit start → HasNoUnit text
-none_after_gap text before start s (inl blank) =
-    inl (subst (λ (x : List ℕ). AllPass is_gap x) (sym s.whole) (all_more before start s.pass blank))
-none_after_gap text before start s (inr (e, i)) =
-    let r = one_span is_gap start i.before i.start [] start i.skipped (no_gap text before start s) in
-    inr (
-      e,
-      record {
-        before = before;
-        start = i.start;
-        skipped = subst (λ (x : List ℕ). Spans is_gap text before x) (sym r.1) s;
-        some = i.some;
-        refused = i.refused;
-      },
-    )
-
-pub written_within : (start w left : List ℕ) → start ≡ w ++ left → length w ≤ length start
-written_within start w left e = omega (arith, ap (λ (t : List ℕ). length t) e, length-append w left)
-
-pub left_is : (start w left : List ℕ) (n : ℕ) → start ≡ w ++ left → length w ≡ n → drop n start ≡ left
-left_is start w left n e h = rw e (drop_at w left n h)
-
-pub rest_within : (left between rest : List ℕ) → left ≡ between ++ rest → length rest ≤ length left
-rest_within left between rest e = omega (arith, ap (λ (t : List ℕ). length t) e, length-append between rest)
-
-pub between_is : (left between rest : List ℕ) (n : ℕ) → left ≡ between ++ rest → n ≡ length left - length rest → take n left ≡ between
-between_is left between rest n e h =
-    let k : length between ≡ n = omega (arith, ap (λ (t : List ℕ). length t) e, length-append between rest, h) in
-    rw e (take_at between rest n k)
+-- the parts of a text round its first unit
+pub parts_of : (text : List ℕ) (p : Place) → IsFirstUnit text p → text ≡ p.before ++ (p.written ++ (p.between ++ p.rest))
+parts_of text p s =
+    s.writes.skipped.whole ∙ ap (λ (t : List ℕ). p.before ++ t) (s.writes.whole ∙ ap (λ (t : List ℕ). p.written ++ t) s.parts)
 
 -- ---- what was written so far
 
@@ -116,48 +62,138 @@ pub record Onward (ms : List Macro) (names : List (List ℕ)) (body first rest n
 pub onward_none : (ms : List Macro) (names : List (List ℕ)) (body first : List ℕ) → Onward ms names body first body first
 onward_none ms names body first = record { so = λ r d. d }
 
--- the outcome of `open`, for the labels and the length that were passed
-pub opened_so : (ms : List Macro) (passed names : List (List ℕ)) (u : UnitSeen) (n : ℕ) (kept now before : List ℕ) (a : Result (Option Macro) ScpiError)
-    → passed ≡ names → kept ≡ now ++ before → n ≡ length kept → opened_macro ms passed u n ≡ a → opened_macro ms names u (length (now ++ before)) ≡ a
-opened_so ms passed names u n kept now before a p k l h =
-    ap (λ (m : ℕ). opened_macro ms names u m) (sym (l ∙ ap (λ (t : List ℕ). length t) k)) ∙ ap (λ (x : List (List ℕ)). opened_macro ms x u n) (sym p) ∙ h
+-- the same where a front of the body stands between what is written and the rest, and is still to be written
+pub record Unwritten (ms : List Macro) (names : List (List ℕ)) (body first unwritten rest now : List ℕ) : Type 0 where
+  pub front : List ℕ
+  pub whole : unwritten ≡ front ++ rest
+  pub onward : Onward ms names body first rest (now ++ front)
 
--- the outcome of a body within, likewise
-pub within_so : (ms : List Macro) (passed names : List (List ℕ)) (text body kept now before label : List ℕ) (r : Result (List ℕ) ScpiError)
-    → passed ≡ names ++ label ∷ [] → text ≡ body → kept ≡ now ++ before → Becomes ms passed text kept r
-    → Becomes ms (names ++ label ∷ []) body (now ++ before) r
-within_so ms passed names text body kept now before label r p t k d =
-    subst (λ (x : List (List ℕ)). Becomes ms x body (now ++ before) r) p
-    (subst (λ (x : List ℕ). Becomes ms passed x (now ++ before) r) t
-    (subst (λ (x : List ℕ). Becomes ms passed text x r) k d))
-
-pub onward_ends : (ms : List Macro) (names : List (List ℕ)) (body first rest now new : List ℕ) → Onward ms names body first rest now → HasNoUnit rest
-    → new ≡ now ++ rest → Becomes ms names body first (Ok new)
-onward_ends ms names body first rest now new o h e =
-    o.so (Ok new) (subst (λ (t : List ℕ). Becomes ms names rest now (Ok t)) (sym e) (ends h))
-
-pub onward_fails : (ms : List Macro) (names : List (List ℕ)) (body first rest now : List ℕ) (p : Place) (e : ScpiError) → Onward ms names body first rest now
-    → IsFirstUnit rest p → opened_macro ms names p.unit (length (now ++ p.before)) ≡ Err e → Becomes ms names body first (Err e)
-onward_fails ms names body first rest now p e o s h = o.so (Err e) (fails s h)
-
-pub onward_stops : (ms : List Macro) (names : List (List ℕ)) (body first rest now : List ℕ) (p : Place) (m : Macro) (e : ScpiError)
-    → Onward ms names body first rest now → IsFirstUnit rest p → opened_macro ms names p.unit (length (now ++ p.before)) ≡ Ok (Some m)
-    → Becomes ms (names ++ m.0 ∷ []) m.1 (now ++ p.before) (Err e) → Becomes ms names body first (Err e)
-onward_stops ms names body first rest now p m e o s h d = o.so (Err e) (stops {m = m} s h d)
-
-pub onward_keeps : (ms : List Macro) (names : List (List ℕ)) (body first rest now new : List ℕ) (p : Place) → Onward ms names body first rest now
-    → IsFirstUnit rest p → opened_macro ms names p.unit (length (now ++ p.before)) ≡ Ok None → new ≡ ((now ++ p.before) ++ p.written) ++ p.between
-    → Onward ms names body first p.rest new
-onward_keeps ms names body first rest now new p o s h e = record {
-  so = λ r d. o.so r (keeps s h (subst (λ (t : List ℕ). Becomes ms names p.rest t r) e d));
+pub unwritten_none : (ms : List Macro) (names : List (List ℕ)) (body first : List ℕ) → Unwritten ms names body first body body first
+unwritten_none ms names body first = record {
+  front = [];
+  whole = refl;
+  onward = record { so = λ r d. subst (λ (t : List ℕ). Becomes ms names body t r) (append-nil first) d };
 }
 
-pub onward_goes : (ms : List Macro) (names : List (List ℕ)) (body first rest now done new : List ℕ) (p : Place) (m : Macro)
-    → Onward ms names body first rest now → IsFirstUnit rest p → opened_macro ms names p.unit (length (now ++ p.before)) ≡ Ok (Some m)
-    → Becomes ms (names ++ m.0 ∷ []) m.1 (now ++ p.before) (Ok done) → new ≡ done ++ p.between → Onward ms names body first p.rest new
-onward_goes ms names body first rest now done new p m o s h d e = record {
-  so = λ r f. o.so r (goes {m = m} s h d (subst (λ (t : List ℕ). Becomes ms names p.rest t r) e f));
+pub unwritten_ends : (ms : List Macro) (names : List (List ℕ)) (body first unwritten rest now new : List ℕ)
+    → Unwritten ms names body first unwritten rest now → HasNoUnit rest → new ≡ now ++ unwritten → Becomes ms names body first (Ok new)
+unwritten_ends ms names body first unwritten rest now new o h e =
+    let k : new ≡ (now ++ o.front) ++ rest = e ∙ ap (λ (t : List ℕ). now ++ t) o.whole ∙ sym (append_assoc now o.front rest) in
+    o.onward.so (Ok new) (subst (λ (t : List ℕ). Becomes ms names rest (now ++ o.front) (Ok t)) (sym k) (ends h))
+
+pub opened_none : (ms : List Macro) (names : List (List ℕ)) (u : UnitSeen) (n : ℕ) → called ms u ≡ None → opened_macro ms names u n ≡ Ok None
+opened_none ms names u n e = ap (λ (o : Option Macro). opened_found names u n o) e
+
+-- no macro was found
+pub none_found : {A : Type 0} (seen : A → Macro) (found : Option A) (ms : List Macro) (u : UnitSeen) → option_map seen found ≡ called ms u
+    → ((x : A) → found ≡ Some x → ⊥) → called ms u ≡ None
+none_found seen None ms u e f = sym e
+none_found seen (Some x) ms u e f = absurd (f x refl)
+
+-- a unit that calls no macro
+pub unwritten_keeps : (ms : List Macro) (names : List (List ℕ)) (body first unwritten rest now : List ℕ) (p : Place)
+    → Unwritten ms names body first unwritten rest now → IsFirstUnit rest p → called ms p.unit ≡ None
+    → Unwritten ms names body first unwritten p.rest now
+unwritten_keeps ms names body first unwritten rest now p o s h =
+    let more = o.front ++ (p.before ++ (p.written ++ p.between)) in
+    let inner : rest ≡ (p.before ++ (p.written ++ p.between)) ++ p.rest =
+    parts_of rest p s ∙ ap (λ (t : List ℕ). p.before ++ t) (sym (append_assoc p.written p.between p.rest))
+    ∙ sym (append_assoc p.before (p.written ++ p.between) p.rest) in
+    let same : now ++ more ≡ (((now ++ o.front) ++ p.before) ++ p.written) ++ p.between =
+    sym (append_assoc now o.front (p.before ++ (p.written ++ p.between)))
+    ∙ sym (append_assoc (now ++ o.front) p.before (p.written ++ p.between))
+    ∙ sym (append_assoc ((now ++ o.front) ++ p.before) p.written p.between) in
+    record {
+      front = more;
+      whole = o.whole ∙ ap (λ (t : List ℕ). o.front ++ t) inner ∙ sym (append_assoc o.front (p.before ++ (p.written ++ p.between)) p.rest);
+      onward = record {
+        so = λ r d. o.onward.so r (keeps s (opened_none ms names p.unit (length ((now ++ o.front) ++ p.before)) h)
+            (subst (λ (t : List ℕ). Becomes ms names p.rest t r) same d));
+      };
+    }
+
+abbrev Ended : Type 0
+Ended = Result (List ℕ) ScpiError
+
+-- a unit that calls a macro, whose expansion can't be written
+fault_at : (ms : List Macro) (names : List (List ℕ)) (text sofar : List ℕ) (p : Place) (a : Result (Option Macro) ScpiError) (e : ScpiError)
+    → IsFirstUnit text p → opened_macro ms names p.unit (length (sofar ++ p.before)) ≡ a → BecomesOpened ms names a (sofar ++ p.before) (Err e)
+    → Becomes ms names text sofar (Err e)
+fault_at ms names text sofar p (Err f) e s o d = subst (λ (r : Ended). Becomes ms names text sofar r) (sym d) (fails s o)
+fault_at ms names text sofar p (Ok None) e s o d = absurd d
+fault_at ms names text sofar p (Ok (Some m)) e s o d = stops {m = m} s o d
+
+-- a unit that calls a macro, whose expansion is written
+goes_at : (ms : List Macro) (names : List (List ℕ)) (text sofar done : List ℕ) (p : Place) (a : Result (Option Macro) ScpiError) (r : Ended)
+    → IsFirstUnit text p → opened_macro ms names p.unit (length (sofar ++ p.before)) ≡ a
+    → BecomesOpened ms names a (sofar ++ p.before) (Ok done) → Becomes ms names p.rest (done ++ p.between) r → Becomes ms names text sofar r
+goes_at ms names text sofar done p (Err f) r s o d k = absurd (let z : Ok done ≡ Err f = d in cc)
+goes_at ms names text sofar done p (Ok None) r s o d k = absurd d
+goes_at ms names text sofar done p (Ok (Some m)) r s o d k = goes {m = m} s o d k
+
+pub unwritten_fails : (ms : List Macro) (names : List (List ℕ)) (body first unwritten rest now kept : List ℕ) (p : Place) (e : ScpiError)
+    → (o : Unwritten ms names body first unwritten rest now) → IsFirstUnit rest p → kept ≡ (now ++ o.front) ++ p.before
+    → UnitBecomes ms names p.unit kept (Err e) → Becomes ms names body first (Err e)
+unwritten_fails ms names body first unwritten rest now kept p e o s k d =
+    o.onward.so (Err e) (fault_at ms names rest (now ++ o.front) p (opened_macro ms names p.unit (length ((now ++ o.front) ++ p.before))) e s refl
+    (subst (λ (t : List ℕ). UnitBecomes ms names p.unit t (Err e)) k d))
+
+pub unwritten_goes : (ms : List Macro) (names : List (List ℕ)) (body first unwritten rest now kept done after : List ℕ) (p : Place)
+    → (o : Unwritten ms names body first unwritten rest now) → IsFirstUnit rest p → kept ≡ (now ++ o.front) ++ p.before
+    → UnitBecomes ms names p.unit kept (Ok done) → after ≡ p.between ++ p.rest → Unwritten ms names body first after p.rest done
+unwritten_goes ms names body first unwritten rest now kept done after p o s k d a = record {
+  front = p.between;
+  whole = a;
+  onward = record {
+    so = λ r f. o.onward.so r (goes_at ms names rest (now ++ o.front) done p (opened_macro ms names p.unit (length ((now ++ o.front) ++ p.before))) r s refl
+        (subst (λ (t : List ℕ). UnitBecomes ms names p.unit t (Ok done)) k d) f);
+  };
 }
+
+-- ---- the unit that calls a macro
+
+-- a label inside its own body, or a ninth level
+abbrev pub is_too_deep : Macro → List (List ℕ) → Bool
+is_too_deep m names = is_one_of m.0 names || nat_le most_levels (length names)
+
+-- neither of them, as the code sees it
+pub not_too_deep : (m : Macro) (passed names : List (List ℕ)) (b : Bool) (n : ℕ) → passed ≡ names → b ≡ is_one_of m.0 passed → b ≡ false → n < 8
+    → length names ≡ n → is_too_deep m names ≡ false
+not_too_deep m passed names b n p e f l h =
+    let few : nat_le most_levels (length names) ≡ false = grind (arith, common_steps) in
+    ap (λ (c : Bool). c || nat_le most_levels (length names)) (ap (λ (x : List (List ℕ)). is_one_of m.0 x) (sym p) ∙ sym e ∙ f) ∙ few
+
+opened_call : (ms : List Macro) (names : List (List ℕ)) (u : UnitSeen) (n : ℕ) (m : Macro) → called ms u ≡ Some m
+    → opened_macro ms names u n ≡ opened_found names u n (Some m)
+opened_call ms names u n m e = ap (λ (o : Option Macro). opened_found names u n o) e
+
+becomes_opened : (ms : List Macro) (names : List (List ℕ)) (u : UnitSeen) (sofar : List ℕ) (a : Result (Option Macro) ScpiError) (r : Ended)
+    → opened_macro ms names u (length sofar) ≡ a → BecomesOpened ms names a sofar r → UnitBecomes ms names u sofar r
+becomes_opened ms names u sofar a r o d = subst (λ (x : Result (Option Macro) ScpiError). BecomesOpened ms names x sofar r) (sym o) d
+
+pub unit_too_deep : (ms : List Macro) (names : List (List ℕ)) (u : UnitSeen) (sofar : List ℕ) (m : Macro) → called ms u ≡ Some m
+    → is_too_deep m names ≡ true → UnitBecomes ms names u sofar (Err MacroRecursionError)
+unit_too_deep ms names u sofar m e h =
+    let o : opened_found names u (length sofar) (Some m) ≡ Err MacroRecursionError = rw h refl in
+    becomes_opened ms names u sofar (Err MacroRecursionError) (Err MacroRecursionError) (opened_call ms names u (length sofar) m e ∙ o) refl
+
+opened_put : (names : List (List ℕ)) (u : UnitSeen) (n : ℕ) (m : Macro) (put : Ended) → is_too_deep m names ≡ false → put_in u.elements m.1 n ≡ put
+    → opened_found names u n (Some m) ≡ result_map_both (λ text. Some (m.0, text)) (λ e. e) put
+opened_put names u n m put h k =
+    let o : opened_found names u n (Some m) ≡ result_map_both (λ text. Some (m.0, text)) (λ e. e) (put_in u.elements m.1 n) = rw h refl in
+    o ∙ ap (λ (x : Ended). result_map_both (λ text. Some (m.0, text)) (λ e. e) x) k
+
+pub unit_unfit : (ms : List Macro) (names : List (List ℕ)) (u : UnitSeen) (sofar : List ℕ) (m : Macro) (e : ScpiError) → called ms u ≡ Some m
+    → is_too_deep m names ≡ false → put_in u.elements m.1 (length sofar) ≡ Err e → UnitBecomes ms names u sofar (Err e)
+unit_unfit ms names u sofar m e c h k =
+    becomes_opened ms names u sofar (Err e) (Err e) (opened_call ms names u (length sofar) m c ∙ opened_put names u (length sofar) m (Err e) h k) refl
+
+pub unit_fits : (ms : List Macro) (names : List (List ℕ)) (u : UnitSeen) (sofar : List ℕ) (m : Macro) (text : List ℕ) (r : Ended) → called ms u ≡ Some m
+    → is_too_deep m names ≡ false → put_in u.elements m.1 (length sofar) ≡ Ok text → Becomes ms (names ++ m.0 ∷ []) text sofar r
+    → UnitBecomes ms names u sofar r
+unit_fits ms names u sofar m text r c h k d =
+    becomes_opened ms names u sofar (Ok (Some (m.0, text))) r
+    (opened_call ms names u (length sofar) m c ∙ opened_put names u (length sofar) m (Ok text) h k) d
 
 -- ---- one first unit
 
@@ -303,6 +339,26 @@ one_becomes ms (goes {names = names} {text = text} {sofar = sofar} {done = done}
     one_becomes ms g (moved_on ms names text p q done also r s t (same_text done also z) h)
 
 -- ---- one expansion
+
+replaced_by : (ms : List Macro) (a : Result (Option Macro) ScpiError) (written : List ℕ) (r : Ended) → BecomesOpened ms [] a [] r
+    → Replaces ms a written (within_bound r)
+replaced_by ms (Err e) written r d = ap (λ (x : Ended). within_bound x) d
+replaced_by ms (Ok None) written r d = absurd d
+replaced_by ms (Ok (Some m)) written r d = (r, d, refl)
+
+-- the expansion of a unit that calls a macro, where nothing is written before it
+pub unit_replaced : (ms : List Macro) (u : UnitSeen) (names : List (List ℕ)) (sofar written : List ℕ) (r q : Ended) → names ≡ [] → sofar ≡ []
+    → UnitBecomes ms names u sofar r → within_bound r ≡ q → Replaces ms (opened_macro ms [] u 0) written q
+unit_replaced ms u names sofar written r q n s d e =
+    let k : UnitBecomes ms [] u [] r = subst (λ (x : List ℕ). UnitBecomes ms [] u x r) s (subst (λ (x : List (List ℕ)). UnitBecomes ms x u sofar r) n d) in
+    subst (λ (x : Ended). Replaces ms (opened_macro ms [] u 0) written x) e (replaced_by ms (opened_macro ms [] u 0) written r k)
+
+-- the judgement of the finished text
+pub bound_kept : (text : List ℕ) → length text ≤ most_bytes → within_bound (Ok text) ≡ Ok text
+bound_kept text h = let k : nat_lt most_bytes (length text) ≡ false = grind (arith, common_steps) in rw k refl
+
+pub bound_passed : (text : List ℕ) → most_bytes < length text → within_bound (Ok text) ≡ Err MacroRecursionError
+bound_passed text h = let k : nat_lt most_bytes (length text) ≡ true = grind (arith, common_steps) in rw k refl
 
 one_replaced : (ms : List Macro) (o : Result (Option Macro) ScpiError) (written : List ℕ) (r s : Result (List ℕ) ScpiError) → Replaces ms o written r
     → Replaces ms o written s → r ≡ s

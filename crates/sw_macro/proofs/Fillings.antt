@@ -1,7 +1,7 @@
 -- A body cut at its `$`.
 use Rattle.std.proofs.Common.{◌≡◌, ℕ, ◌+◌, ◌-◌, ◌<◌, true, false, not, List, [], ◌∷◌, ◌++◌, length, get_or, Option, Some, None, Ok, Err, refl, sym, ap, ◌∙◌}
 use Rattle.std.proofs.Common.{append_assoc, arith}
-use Rattle.std.specs.Prelude.{◌==◌, nat_lt}
+use Rattle.std.specs.Prelude.{◌==◌, nat_lt, Bool}
 use Rattle.std.proofs.lemmas.List.{append-nil}
 use Rattle.std.proofs.lemmas.Grind.{common_steps}
 use Rattle.sw_base.specs.Text.{Lacks}
@@ -89,6 +89,22 @@ fits n ds body whole kept room h d =
 
 pub missing : (n : ℕ) (ds : List Datum) (body : List ℕ) → filled ds body ≡ None → put_in ds body n ≡ Err MacroParameterError
 missing n ds body h = ap (λ (o : Option (List ℕ)). fitting n o) h
+
+-- ---- a body without a `$`
+
+-- whether it is too long, as the code sees it
+pub long_is : (n : ℕ) (out text body : List ℕ) (b v : Bool) → n ≡ length out → text ≡ body → b ≡ nat_lt most_bytes (n + length text) → b ≡ v
+    → nat_lt most_bytes (length out + length body) ≡ v
+long_is n out text body b v e f g h =
+    ap (λ (k : ℕ). nat_lt most_bytes (k + length body)) (sym e) ∙ ap (λ (t : List ℕ). nat_lt most_bytes (n + length t)) (sym f) ∙ sym g ∙ h
+
+pub plain_fits : (n : ℕ) (ds : List Datum) (body : List ℕ) → Lacks 36 body → nat_lt most_bytes (n + length body) ≡ false → put_in ds body n ≡ Ok body
+plain_fits n ds body a h = let f : fitting n (Some body) ≡ Ok body = rw h refl in ap (λ (o : Option (List ℕ)). fitting n o) (all_lacks ds body a) ∙ f
+
+pub plain_too_long : (n : ℕ) (ds : List Datum) (body : List ℕ) → Lacks 36 body → nat_lt most_bytes (n + length body) ≡ true
+    → put_in ds body n ≡ Err MacroRecursionError
+plain_too_long n ds body a h =
+    let f : fitting n (Some body) ≡ Err MacroRecursionError = rw h refl in ap (λ (o : Option (List ℕ)). fitting n o) (all_lacks ds body a) ∙ f
 
 -- ---- one data element
 

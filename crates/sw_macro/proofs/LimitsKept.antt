@@ -6,7 +6,9 @@ use Rattle.std.specs.Cmp.{IsEquivalence}
 use Rattle.std.specs.Cmp.Lexicographic.{nat_list_eq_equiv}
 use Rattle.std.specs.Str.{bytes_eq}
 use Rattle.std.specs.Char.{to_ascii_uppercase}
-use Rattle.std.specs.Prelude.{nat_lt}
+use Rattle.std.proofs.Common.{Bor, Option}
+use Rattle.std.specs.Prelude.{nat_lt, IfSome}
+use Rattle.std.specs.Option.{option_map}
 use Rattle.std.proofs.lemmas.Bool.{cases_Bool, and_parts, and_from}
 use Rattle.std.proofs.lemmas.List.{length-map}
 use Rattle.std.proofs.lemmas.Grind.{common_steps}
@@ -137,3 +139,9 @@ found_short label (m ∷ ms) body a h =
       | inl e ↦ (let z : Some body ≡ Some m.1 = rw e at h in let b : body ≡ m.1 = cc in rw b a.0.body)
       | inr e ↦ found_short label ms body a.1 (rw e at h)
     ]
+
+-- whatever body is found under a label
+pub found_all_short : (key : List ℕ) (ms : List Macro) (found : Option (Bor (List ℕ))) → AllByRecursion IsMacro ms
+    → option_map (λ (body : Bor (List ℕ)). body.now) found ≡ body_of key ms → IfSome found (λ body. length body.now ≤ longest_body)
+found_all_short key ms None each h = tt
+found_all_short key ms (Some body) each h = found_short key ms body.now each h

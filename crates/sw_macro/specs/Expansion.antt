@@ -31,6 +31,11 @@ named_by ms (path false nodes) = macro_at ms nodes
 abbrev pub called : List Macro → UnitSeen → Option Macro
 called ms unit = if unit.query then None else named_by ms unit.header
 
+-- the macro with this name, if there is one
+abbrev pub named : List Macro → Option (List ℕ) → Option Macro
+named ms None = None
+named ms (Some text) = macro_at ms text
+
 -- whether a unit is replaced: macros are on, and it calls one
 abbrev pub calls : Table → UnitSeen → Bool
 calls t unit = t.on && is_some (called t.macros unit)
@@ -102,6 +107,22 @@ pub data Becomes (ms : List Macro) : List (List ℕ) → List ℕ → List ℕ �
       → Becomes ms (names ++ m.0 ∷ []) m.1 (sofar ++ p.before) (Ok done)
       → Becomes ms names p.rest (done ++ p.between) r
       → Becomes ms names text sofar r
+
+-- what a unit that was opened so becomes after what was written so far, where it calls a macro
+abbrev pub BecomesOpened : List Macro → List (List ℕ) → Result (Option Macro) ScpiError → List ℕ
+    → Result (List ℕ) ScpiError → Type 0
+BecomesOpened ms names (Err e) sofar r = r ≡ Err e
+BecomesOpened ms names (Ok None) sofar r = ⊥
+BecomesOpened ms names (Ok (Some m)) sofar r = Becomes ms (names ++ m.0 ∷ []) m.1 sofar r
+
+-- a unit below these names that calls a macro becomes this
+abbrev pub UnitBecomes : List Macro → List (List ℕ) → UnitSeen → List ℕ → Result (List ℕ) ScpiError → Type 0
+UnitBecomes ms names unit sofar r = BecomesOpened ms names (opened_macro ms names unit (length sofar)) sofar r
+
+-- none of the text's units calls a macro, whichever are defined
+abbrev pub StaysAsItIs : List ℕ → Type 0
+StaysAsItIs text =
+    (ms : List Macro) (names : List (List ℕ)) (sofar : List ℕ) → Becomes ms names text sofar (Ok (sofar ++ text))
 
 -- ---- the expansion of a unit
 

@@ -1,76 +1,36 @@
 //! The expansion of a unit.
 
-ghost use Rattle.std.specs.Prelude.{◌≡◌, ◌≢◌, ◌<◌, ℕ, true, false, None, List, [], Result, Ok, Err, IfOk, IfErr, OnOk};
-ghost use Rattle.std.specs.Prelude.{IfSome, IfNone, map, length, ◌⊎◌};
+ghost use Rattle.std.specs.Prelude.{◌≡◌, ◌<◌, ◌⊎◌, ◌++◌, ◌∷◌, ℕ, true, false, None, Some, List, [], length};
+ghost use Rattle.std.specs.Prelude.{Result, Ok, Err, IfOk, IfErr, OnOk};
 ghost use Rattle.std.specs.Option.{option_map};
-ghost use Rattle.sw_base.specs.Memory.{Gives};
 ghost use Rattle.sw_base.specs.Limits.{most_levels};
 ghost use Rattle.sw_base.specs.declared.error.ScpiError.{ScpiError as Error};
 ghost use Rattle.sw_base.specs.declared.error.ScpiError.TheVariants.{OutOfMemory};
-ghost use Rattle.sw_lex.specs.Unit.{UnitSeen, unit_of, written_of};
+ghost use Rattle.sw_lex.specs.Unit.{UnitSeen, IsWritten, unit_of, written_of};
 ghost use Rattle.sw_macro.specs.Table.{Table};
-ghost use Rattle.sw_macro.specs.Expansion.{called, calls, opened_in, is_one_of, opened_macro, IsFirstUnit, HasNoUnit};
-ghost use Rattle.sw_macro.specs.Expansion.{Becomes, Expands};
-ghost use Rattle.sw_macro.specs.Placed.{place_of, names_of};
+ghost use Rattle.sw_macro.specs.Expansion.{called, calls, opened_in, is_one_of, opened_macro, Becomes, UnitBecomes};
+ghost use Rattle.sw_macro.specs.Expansion.{Replaces, Expands};
+ghost use Rattle.sw_macro.specs.Placed.{names_of};
 
-use crate::filling::fill;
+use crate::body::{Body, name_in};
+use crate::filling::{fill, is_too_long};
 use crate::label::Label;
 use crate::table::Macros;
 use arrayvec::ArrayVec;
 use std::alloc::Global;
 use sw_base::{MACRO_LEVELS, MESSAGE_BYTES, ScpiError};
-use sw_lex::{Elements, Header, RawUnit, gaps, next_unit};
+use sw_lex::{Elements, RawUnit, gaps, next_unit};
 
 /// The labels in whose bodies a unit stands, the outermost first.
 type Names = ArrayVec<Label, MACRO_LEVELS>;
 
-/// The first unit of a text in its place.
-#[derive(Clone, Copy)]
-struct Piece<'u, 'a> {
-    /// What stands before it.
-    before: &'a [u8],
-    unit: RawUnit<'u>,
-    /// What stands between it and what follows it.
-    between: &'a [u8],
-    rest: &'a [u8],
-}
-
-/// The first unit of a text in its place, its data elements in this room; none where no unit can be read.
-fn first_unit<'u, 'a: 'u>(text: &'a [u8], room: &'u mut Elements<'a>) -> Option<Piece<'u, 'a>>
-    ensures some { IfSome result (λ p. IsFirstUnit text.now (place_of p)) }
-    ensures shorter { IfSome result (λ p. length p.rest.now < length text.now) }
-    ensures none { IfNone result (HasNoUnit text.now) }
-{
-    let (before, start) = gaps(text);
-    match next_unit(start, room) {
-        Ok(Some((unit, rest))) => {
-            let (_, left) = start.split_at(unit.text().len());
-            let (between, _) = left.split_at(left.len() - rest.len());
-            Some(Piece {
-                before,
-                unit,
-                between,
-                rest,
-            })
-        }
-        Ok(None) => None,
-        Err(_) => None,
-    }
-}
-
 /// The macro that a unit calls: its label, and its body.
-fn called<'a>(macros: &'a Macros, unit: &RawUnit<'_>) -> Option<(Label, &'a [u8])>
+fn called<'a>(macros: &'a Macros, unit: &RawUnit<'_>) -> Option<(Label, &'a Body)>
     ensures { option_map (λ m. (m.0.items, m.1.now)) result ≡ called macros.now.macros (unit_of unit.now) }
 {
-    if unit.query {
-        return None;
-    }
-    match unit.header {
-        Header::Path {
-            leading: false,
-            nodes,
-        } => macros.macro_at(nodes),
-        _ => None,
+    match name_in(unit) {
+        None => None,
+        Some(text) => macros.macro_at(text),
     }
 }
 
@@ -86,34 +46,31 @@ fn is_one_of(label: &Label, names: &[Label]) -> bool
     false
 }
 
-/// The label of the macro that a unit calls, and its body with the unit's parameters, where the unit stands below these
-/// names and after so many bytes; none where it calls none.
-///
-/// -276 for a label inside its own body, and for a ninth level; else what `fill` refuses.
-fn open(
-    macros: &Macros,
-    alloc: Global,
-    unit: &RawUnit<'_>,
-    names: &[Label],
-    before: usize,
-) -> Result<Option<(Label, Vec<u8>)>, ScpiError>
-    ensures opened { Gives (λ o. option_map (λ m. (m.0.items, m.1.items)) o) result
-        (opened_macro macros.now.macros (names_of names.now) (unit_of unit.now) before) }
-    ensures room { IfOk result (λ o. IfSome o (λ _. length names.now < most_levels)) }
+/// A text cut round the unit that stands first in its rest: what stands before the unit, and what follows it.
+fn cut<'a>(text: &'a [u8], rest: &[u8], unit: &RawUnit<'_>) -> (&'a [u8], &'a [u8])
+    requires ends { (front : List ℕ) × (text.now ≡ front ++ rest.now) }
+    requires stands { (before left : List ℕ) × IsWritten rest.now before (unit_of unit.now) (written_of unit.now) left }
+    ensures { (front before left : List ℕ) → text.now ≡ front ++ rest.now
+        → IsWritten rest.now before (unit_of unit.now) (written_of unit.now) left
+        → (result.0.now ≡ front ++ before) × (result.1.now ≡ left) }
 {
-    match called(macros, unit) {
-        None => Ok(None),
-        Some((label, body)) => {
-            if is_one_of(&label, names) || names.len() >= MACRO_LEVELS {
-                return Err(ScpiError::MacroRecursionError);
-            }
-            let text = fill(alloc, body, unit, before)?;
-            Ok(Some((label, text)))
-        }
-    }
+    let (_, start) = gaps(rest);
+    let (front, here) = text.split_at(text.len() - start.len());
+    let (_, after) = here.split_at(unit.text().len());
+    (front, after)
+}
+
+/// Writes a text as it stands.
+fn write_text(text: &[u8], out: &mut Vec<u8>) -> Result<(), ScpiError>
+    ensures ok { OnOk result (out.new.items ≡ out.old.items ++ text.now) }
+    ensures err { IfErr result (λ e. e ≡ OutOfMemory) }
+{
+    out.extend_from_slice(text)?;
+    Ok(())
 }
 
 /// Writes a body below these names, each of its units replaced by its expansion.
+#[cycle(expansion)]
 fn write_body(
     macros: &Macros,
     alloc: Global,
@@ -128,69 +85,142 @@ fn write_body(
         ⊎ Becomes macros.now.macros (names_of names.old.items) body.now out.old.items (Err e)) }
 {
     let mut room = Elements::new();
+    let mut unwritten = body;
     let mut rest = body;
     'units: loop {
-        match first_unit(rest, &mut room) {
-            None => {
-                out.extend_from_slice(rest)?;
-                return Ok(());
-            }
-            Some(piece) => {
-                out.extend_from_slice(piece.before)?;
-                match open(macros, alloc, &piece.unit, names.as_slice(), out.len())? {
-                    None => out.extend_from_slice(piece.unit.text())?,
-                    Some((label, text)) => {
-                        names.push(label);
-                        write_body(macros, alloc, text.as_slice(), names, out)?;
-                        names.pop();
-                    }
+        match next_unit(rest, &mut room) {
+            Ok(Some((unit, more))) => {
+                if let Some((label, body)) = called(macros, &unit) {
+                    let (front, after) = cut(unwritten, rest, &unit);
+                    out.extend_from_slice(front)?;
+                    write_unit(macros, alloc, &unit, label, body, names, out)?;
+                    unwritten = after;
                 }
-                out.extend_from_slice(piece.between)?;
-                rest = piece.rest;
+                rest = more;
             }
+            Ok(None) => return write_text(unwritten, out),
+            Err(_) => return write_text(unwritten, out),
         }
     }
 }
 
-impl Macros {
-    /// Whether a unit is replaced: while macros are on, where its header is exactly a label.
-    pub fn calls(&self, unit: &RawUnit<'_>) -> bool
-        ensures calls { result ≡ calls self.now (unit_of unit.now) }
-        ensures replaced { result ≡ true → opened_in self.now (unit_of unit.now) ≢ Ok None }
-        ensures itself { result ≡ false → opened_in self.now (unit_of unit.now) ≡ Ok None }
-    {
-        self.enabled() && called(self, unit).is_some()
+/// Writes the expansion of a unit below these names that calls this macro.
+///
+/// -276 for a label inside its own body, and for a ninth level; else what `fill` refuses.
+#[cycle(expansion)]
+fn write_unit(
+    macros: &Macros,
+    alloc: Global,
+    unit: &RawUnit<'_>,
+    label: Label,
+    body: &Body,
+    names: &mut Names,
+    out: &mut Vec<u8>,
+) -> Result<(), ScpiError>
+    requires { called macros.now.macros (unit_of unit.now) ≡ Some (label.items, body.now) }
+    ensures ok { OnOk result (UnitBecomes macros.now.macros (names_of names.old.items) (unit_of unit.now) out.old.items
+        (Ok out.new.items)) }
+    ensures names { OnOk result (names.new ≡ names.old) }
+    ensures err { IfErr result (λ e. (e ≡ OutOfMemory)
+        ⊎ UnitBecomes macros.now.macros (names_of names.old.items) (unit_of unit.now) out.old.items (Err e)) }
+{
+    if is_one_of(&label, names.as_slice()) || names.len() >= MACRO_LEVELS {
+        return Err(ScpiError::MacroRecursionError);
     }
+    if !body.is_plain() {
+        let text = fill(alloc, body.as_slice(), unit, out.len())?;
+        return write_within(macros, alloc, label, text.as_slice(), names, out);
+    }
+    if is_too_long(out.len(), body.as_slice()) {
+        return Err(ScpiError::MacroRecursionError);
+    }
+    if !body.calls_none() {
+        return write_within(macros, alloc, label, body.as_slice(), names, out);
+    }
+    write_text(body.as_slice(), out)
+}
 
-    /// What a unit is replaced by: while macros are on, a unit whose header is exactly a label, without a colon and a
-    /// question mark, is replaced by the label's body, with each `$1` to `$9` replaced by that data element as it is
-    /// written, and each unit of the body replaced in the same way. Any other unit gives its own text.
+/// Writes the body of the macro with this label, below these names.
+#[cycle(expansion)]
+fn write_within(
+    macros: &Macros,
+    alloc: Global,
+    label: Label,
+    body: &[u8],
+    names: &mut Names,
+    out: &mut Vec<u8>,
+) -> Result<(), ScpiError>
+    requires { length names.old.items < most_levels }
+    ensures ok { OnOk result (Becomes macros.now.macros (names_of names.old.items ++ label.items ∷ []) body.now
+        out.old.items (Ok out.new.items)) }
+    ensures names { OnOk result (names.new ≡ names.old) }
+    ensures err { IfErr result (λ e. (e ≡ OutOfMemory)
+        ⊎ Becomes macros.now.macros (names_of names.old.items ++ label.items ∷ []) body.now out.old.items (Err e)) }
+{
+    names.push(label);
+    write_body(macros, alloc, body, names, out)?;
+    names.pop();
+    Ok(())
+}
+
+impl Macros {
+    /// Whether a unit is replaced: then the text is its expansion. While macros are on, a unit whose header is exactly
+    /// a label, without a colon and a question mark, is replaced by the label's body, with each `$1` to `$9` replaced
+    /// by that data element as it is written, and each unit of the body replaced in the same way. Any other unit is
+    /// itself.
     ///
     /// At each label, the outer first and from left to right: -276 for a label inside its own body and for a ninth
     /// level, -274 for a missing element, -276 where the text so far and the body come to more than 65,536 bytes. The
     /// finished text is judged once more. -225 where a growth is refused.
-    pub fn expand(&self, alloc: Global, unit: &RawUnit<'_>) -> Result<Vec<u8>, ScpiError>
-        ensures ok { IfOk result (λ text. Expands self.now (unit_of unit.now) (written_of unit.now) (Ok text.items)) }
+    pub fn expand(
+        &self,
+        alloc: Global,
+        unit: &RawUnit<'_>,
+        text: &mut Vec<u8>,
+    ) -> Result<bool, ScpiError>
+        ensures calls { IfOk result (λ is_replaced. is_replaced ≡ calls self.now (unit_of unit.now)) }
+        ensures itself { IfOk result (λ is_replaced. is_replaced ≡ false
+            → opened_in self.now (unit_of unit.now) ≡ Ok None) }
+        ensures ok { IfOk result (λ is_replaced. is_replaced ≡ true
+            → Expands self.now (unit_of unit.now) (written_of unit.now) (Ok text.new.items)) }
+        ensures fault { IfErr result (λ _. calls self.now (unit_of unit.now) ≡ true) }
         ensures err { IfErr result (λ e. (e ≡ OutOfMemory)
             ⊎ Expands self.now (unit_of unit.now) (written_of unit.now) (Err e)) }
     {
         if !self.enabled() {
-            return Ok(unit.text().to_vec(alloc)?);
+            return Ok(false);
         }
-        let mut names = Names::new();
-        match open(self, alloc, unit, names.as_slice(), 0)? {
-            None => Ok(unit.text().to_vec(alloc)?),
+        match called(self, unit) {
+            None => Ok(false),
             Some((label, body)) => {
-                names.push(label);
-                let mut out = Vec::new(alloc);
-                write_body(self, alloc, body.as_slice(), &mut names, &mut out)?;
-                if out.len() > MESSAGE_BYTES {
-                    Err(ScpiError::MacroRecursionError)
-                } else {
-                    Ok(out)
-                }
+                self.replace(alloc, unit, label, body, text)?;
+                Ok(true)
             }
         }
+    }
+
+    /// Makes a text the expansion of a unit that calls this macro.
+    fn replace(
+        &self,
+        alloc: Global,
+        unit: &RawUnit<'_>,
+        label: Label,
+        body: &Body,
+        text: &mut Vec<u8>,
+    ) -> Result<(), ScpiError>
+        requires { called self.now.macros (unit_of unit.now) ≡ Some (label.items, body.now) }
+        ensures ok { OnOk result (Replaces self.now.macros
+            (opened_macro self.now.macros [] (unit_of unit.now) 0) (written_of unit.now) (Ok text.new.items)) }
+        ensures err { IfErr result (λ e. (e ≡ OutOfMemory) ⊎ Replaces self.now.macros
+            (opened_macro self.now.macros [] (unit_of unit.now) 0) (written_of unit.now) (Err e)) }
+    {
+        text.clear();
+        let mut names = Names::new();
+        write_unit(self, alloc, unit, label, body, &mut names, text)?;
+        if text.len() > MESSAGE_BYTES {
+            return Err(ScpiError::MacroRecursionError);
+        }
+        Ok(())
     }
 }
 

@@ -1,6 +1,7 @@
 //! Bodies of macros with their parameters put in.
 
-ghost use Rattle.std.specs.Prelude.{◌≡◌, ◌≤◌, ◌++◌, ◌∷◌, ℕ, List, None, IfOk, IfErr, length};
+ghost use Rattle.std.specs.Prelude.{◌≡◌, ◌≤◌, ◌+◌, ◌++◌, ◌∷◌, ℕ, List, None, IfOk, IfErr, length, nat_lt};
+ghost use Rattle.sw_base.specs.Limits.{most_bytes};
 ghost use Rattle.std.specs.Option.{option_map};
 ghost use Rattle.sw_base.specs.Memory.{Gives};
 ghost use Rattle.sw_base.specs.declared.error.ScpiError.TheVariants.{MacroParameterError};
@@ -42,12 +43,12 @@ fn parameter<'a>(unit: &RawUnit<'a>, k: usize) -> Option<&'a [u8]>
 }
 
 /// What a `$` before this byte and these others puts into a body, and what follows it; -274 for a missing element.
-fn put_for<'a>(
-    more: &'a [u8],
+fn put_for<'a, 'b>(
+    more: &'b [u8],
     first: u8,
-    others: &'a [u8],
+    others: &'b [u8],
     unit: &RawUnit<'a>,
-) -> Result<(&'a [u8], &'a [u8]), ScpiError>
+) -> Result<(&'a [u8], &'b [u8]), ScpiError>
     requires whole { more.now ≡ first ∷ others.now }
     ensures ok { IfOk result (λ x. PutsFor (unit_of unit.now).elements more.now x.0.now x.1.now) }
     ensures shorter { IfOk result (λ x. length x.1.now ≤ length more.now) }
@@ -64,7 +65,10 @@ fn put_for<'a>(
 }
 
 /// What a `$` before these bytes puts into a body, and what follows it; -274 for a missing element.
-fn put_at_mark<'a>(more: &'a [u8], unit: &RawUnit<'a>) -> Result<(&'a [u8], &'a [u8]), ScpiError>
+fn put_at_mark<'a, 'b>(
+    more: &'b [u8],
+    unit: &RawUnit<'a>,
+) -> Result<(&'a [u8], &'b [u8]), ScpiError>
     ensures ok { IfOk result (λ x. PutsFor (unit_of unit.now).elements more.now x.0.now x.1.now) }
     ensures shorter { IfOk result (λ x. length x.1.now ≤ length more.now) }
     ensures missing { IfErr result (λ e. filled (unit_of unit.now).elements (36 ∷ more.now) ≡ None) }
@@ -94,13 +98,20 @@ fn put(text: &mut Vec<u8>, bytes: &[u8], room: Option<usize>) -> Result<Option<u
     }
 }
 
+/// Whether a body after so many bytes comes to more than 65,536 bytes.
+pub fn is_too_long(before: usize, body: &[u8]) -> bool
+    ensures { result ≡ nat_lt most_bytes (before + length body.now) }
+{
+    before.saturating_add(body.len()) > MESSAGE_BYTES
+}
+
 /// A body with each `$1` to `$9` replaced by that data element of the unit, where so many bytes stand before it.
 ///
 /// -274 where an element is missing, else -276 where it all comes to more than 65,536 bytes. No more than that is kept.
-pub fn fill<'a>(
+pub fn fill(
     alloc: Global,
-    body: &'a [u8],
-    unit: &RawUnit<'a>,
+    body: &[u8],
+    unit: &RawUnit<'_>,
     before: usize,
 ) -> Result<Vec<u8>, ScpiError>
     ensures { Gives (λ text. text.items) result (put_in (unit_of unit.now).elements body.now before) }

@@ -27,7 +27,7 @@ fn is_label_of(first: u8, others: &[u8]) -> bool
 }
 
 /// Whether the bytes are a label: a letter, and then letters, digits or underscores, 1 to 12 bytes.
-fn is_label(bytes: &[u8]) -> bool
+pub fn is_label(bytes: &[u8]) -> bool
     ensures { result ≡ is_label bytes.now }
 {
     match bytes {

@@ -10,6 +10,7 @@
 //! as it is, for the reader of the expansion to refuse.
 #![tactic(auto)]
 
+mod body;
 mod expand;
 mod filling;
 mod label;

@@ -11,11 +11,12 @@ ghost use Rattle.sw_macro.specs.Table.{no_macros, body_of, without_label, labels
 ghost use Rattle.sw_macro.specs.Table.{IsMacro, IsTable};
 ghost use Rattle.sw_macro.specs.Table.{refusal_to_define, refusal_to_find, RefusedBy};
 
+use crate::body::Body;
 use crate::label::{Label, read_label};
 use indexmap::IndexMap;
 use std::alloc::Global;
 use std::marker::Model;
-use sw_base::{BODY_BYTES, MACROS, ScpiError, Sequence};
+use sw_base::{BODY_BYTES, MACROS, ScpiError};
 
 /// The macros of a session.
 ///
@@ -24,7 +25,7 @@ use sw_base::{BODY_BYTES, MACROS, ScpiError, Sequence};
 /// than 4,096 bytes.
 #[derive(Drop)]
 pub struct Macros {
-    macros: IndexMap<Label, Sequence<u8>>,
+    macros: IndexMap<Label, Body>,
     on: bool,
 }
 
@@ -114,7 +115,7 @@ impl Macros {
             None => Err(ScpiError::IllegalMacroLabel),
             Some(key) => match self.found(&key) {
                 None => Err(ScpiError::MacroHeaderNotFound),
-                Some(body) => Ok(body),
+                Some(body) => Ok(body.as_slice()),
             },
         }
     }
@@ -152,7 +153,7 @@ impl Macros {
     }
 
     /// The label and the body of the macro that a text names, where the text is a label.
-    pub(crate) fn macro_at(&self, text: &[u8]) -> Option<(Label, &[u8])>
+    pub(crate) fn macro_at(&self, text: &[u8]) -> Option<(Label, &Body)>
         ensures { option_map (λ m. (m.0.items, m.1.now)) result ≡ macro_at self.now.macros text.now }
     {
         match read_label(text) {
@@ -165,14 +166,11 @@ impl Macros {
     }
 
     /// The body of the macro with this label.
-    fn found(&self, key: &Label) -> Option<&[u8]>
+    fn found(&self, key: &Label) -> Option<&Body>
         ensures value { option_map (λ body. body.now) result ≡ body_of key.now.items self.now.macros }
         ensures short { IfSome result (λ body. length body.now ≤ longest_body) }
     {
-        match self.macros.get(key) {
-            None => None,
-            Some(body) => Some(body.as_slice()),
-        }
+        self.macros.get(key)
     }
 
     /// Adds a macro with a label that isn't defined, as the last.
@@ -186,7 +184,7 @@ impl Macros {
         ensures error { IfErr result (λ e. e ≡ OutOfMemory) }
     {
         let body = body.to_vec(alloc)?;
-        self.macros.insert(key, Sequence::new(body))?;
+        self.macros.insert(key, Body::new(body))?;
         Ok(())
     }
 

@@ -150,8 +150,10 @@ fn becomes(alloc: Global, macros: &Macros, text: &[u8], wanted: &[u8]) -> bool {
     let Ok(Some((unit, _))) = next_unit(text, &mut room) else {
         return false;
     };
-    match macros.expand(alloc, &unit) {
-        Ok(told) => told.as_slice() == wanted || macros.len() < 2 && told.as_slice() == text,
+    let mut told = Vec::new(alloc);
+    match macros.expand(alloc, &unit, &mut told) {
+        Ok(true) => told.as_slice() == wanted,
+        Ok(false) => macros.len() < 2,
         Err(error) => error == ScpiError::OutOfMemory,
     }
 }

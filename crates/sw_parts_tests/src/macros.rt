@@ -9,9 +9,15 @@ use sw_macro::Macros;
 
 /// What the first unit of a message becomes.
 fn expanded(alloc: Global, macros: &Macros, message: &[u8]) -> Result<Vec<u8>, ScpiError> {
-    match next_unit(message, &mut Elements::new())? {
-        Some((unit, _)) => macros.expand(alloc, &unit),
-        None => Err(ScpiError::SystemError),
+    let mut room = Elements::new();
+    let Some((unit, _)) = next_unit(message, &mut room)? else {
+        return Err(ScpiError::SystemError);
+    };
+    let mut text = Vec::new(alloc);
+    if macros.expand(alloc, &unit, &mut text)? {
+        Ok(text)
+    } else {
+        Ok(unit.text().to_vec(alloc)?)
     }
 }
 

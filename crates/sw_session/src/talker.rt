@@ -12,6 +12,7 @@ use crate::asking::{ask_command, carry_own, is_own, queue};
 use crate::desk::Desk;
 use crate::line::join;
 use std::alloc::Global;
+use std::mem;
 use sw_base::{MESSAGE_BYTES, ScpiError};
 use sw_core::{SessionAnswer, Sid};
 use sw_lex::{Command, Elements, Path, RawUnit, next_unit, resolve};
@@ -23,6 +24,8 @@ pub struct Talker {
     alloc: Global,
     sid: Sid,
     macros: Macros,
+    /// Room for the expansion of a unit, which is kept from one unit to the next.
+    expansion: Vec<u8>,
 }
 
 impl Talker {
@@ -35,6 +38,7 @@ impl Talker {
             alloc,
             sid,
             macros: Macros::new(alloc),
+            expansion: Vec::new(alloc),
         }
     }
 
@@ -94,6 +98,25 @@ impl Talker {
                 }
             }
         }
+    }
+
+    /// Talks over the units of the expansion, each as itself, below this path.
+    #[inline(never)]
+    fn talk_expansion<D: Desk>(
+        &mut self,
+        desk: &mut D,
+        path: &mut Path,
+        out: &mut Vec<u8>,
+    ) -> AfterUnit
+        ensures talks { TalksLine (Itself self.old.sid) D.passes self.old.sid self.old.expansion.items
+            (spot desk.old (path_of path.old) self.old.macros out.old.items)
+            result (spot desk.new (path_of path.new) self.new.macros out.new.items) }
+        ensures same { self.new.sid ≡ self.old.sid }
+    {
+        let text = mem::replace(&mut self.expansion, Vec::new(self.alloc));
+        let after = self.talk::<ByItself, D>(desk, &text, path, out);
+        self.expansion = text;
+        after
     }
 
     /// Serves a unit's command or refusal, and leaves its path.
@@ -240,12 +263,18 @@ impl Way for ByExpansion {
         path: &mut Path,
         out: &mut Vec<u8>,
     ) -> AfterUnit {
-        if !talker.macros.calls(unit) {
-            return talker.unit(desk, unit, path, out);
-        }
-        match talker.macros.expand(talker.alloc, unit) {
-            Ok(text) => talker.talk::<ByItself, D>(desk, &text, path, out),
-            Err(error) => talker.serve(desk, Err(error), out),
+        match talker
+            .macros
+            .expand(talker.alloc, unit, &mut talker.expansion)
+        {
+            Ok(is_replaced) => {
+                if is_replaced {
+                    talker.talk_expansion(desk, path, out)
+                } else {
+                    talker.unit(desk, unit, path, out)
+                }
+            }
+            Err(error) => talker.serve_error(desk, error, out),
         }
     }
 }
