@@ -21,6 +21,7 @@ impl<R: Relay, M: Meter> Core<R, M> {
     /// `available` says whether its message has answered before, so that a message is available. A command that has no
     /// row here doesn't compile.
     #[tactic(auto, using(crate::proofs::Calls::failed_same))]
+    #[inline(never)]
     pub(crate) fn command(
         &mut self,
         alloc: Global,

@@ -10,6 +10,7 @@ ghost use Rattle.sw_session.specs.Talk.{is_done, is_own, after_queueing};
 use crate::desk::{Desk, Wake};
 use crate::macros::{Outcome, define, remove, tell_body, tell_enabled, tell_labels};
 use std::alloc::Global;
+use std::mem::replace;
 use sw_base::ScpiError;
 use sw_core::{SessionAnswer, SessionAsk, Sid};
 use sw_lex::Command;
@@ -159,9 +160,22 @@ fn plan<D: Desk>(desk: &mut D, sid: Sid, alloc: Global, told: SessionAnswer) -> 
 pub fn settle<D: Desk>(desk: &mut D, sid: Sid, ask: SessionAsk) -> SessionAnswer
     ensures { Led D.passes desk.old desk.new (λ t rest. Settles sid 0 ask t result rest) }
 {
-    match desk.ask(ask) {
-        SessionAnswer::Hold(held) => wait_out(desk, sid, held),
-        answer => answer,
+    let mut answer = desk.ask(ask);
+    if let SessionAnswer::Hold(_) = &answer {
+        outlast(desk, sid, &mut answer);
+    }
+    answer
+}
+
+/// Puts what an ask that is held comes to in the place of its answer.
+#[inline(never)]
+fn outlast<D: Desk>(desk: &mut D, sid: Sid, answer: &mut SessionAnswer)
+    ensures { (ask : SessionAsk) → answer.old ≡ Hold ask → Led D.passes desk.old desk.new (λ t rest.
+        Settles sid 0 ask (Asked ask (Hold ask) ∷ t) answer.new rest) }
+{
+    match replace(answer, SessionAnswer::Stranger) {
+        SessionAnswer::Hold(held) => *answer = wait_out(desk, sid, held),
+        told => *answer = told,
     }
 }
 
