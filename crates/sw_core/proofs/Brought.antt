@@ -13,7 +13,7 @@ use Rattle.sw_cage.specs.declared.taken.Happening.TheVariants.{Elapsed}
 use Rattle.sw_core.specs.Panel.{Panel}
 use Rattle.sw_core.specs.Registers.{card_fault_reported}
 use Rattle.sw_core.specs.Event.{last_number, ended, erred, concluded}
-use Rattle.sw_core.specs.Seen.{WorkSeen, AskElapsed, AskFinished, AnswerSeen, SaysBack, SaysWorn, failed_in}
+use Rattle.sw_core.specs.Seen.{WorkSeen, AskElapsed, AskFinished, SaysBack, SaysWorn, failed_in}
 use Rattle.sw_core.specs.Step.{Happens, IsOut, outside_told, work_of, Brings, StepBrings}
 use Rattle.sw_core.proofs.Happened.{returned, return_answered}
 use Rattle.sw_core.proofs.Numbered.{worn_step, numbered_step}
