@@ -201,15 +201,15 @@ impl<R: Relay, M: Meter> Core<R, M> {
     /// Ends an event that is no session's by what the cage told, and leaves what the scan awaits now in `work`.
     #[inline(always)]
     #[tactic(auto, using(crate::proofs::Brought::concluded_fault, crate::proofs::Brought::concluded_else, crate::proofs::Brought::told_brings))]
-    fn conclude(&mut self, told: Taken<M>, work: &mut Option<Work<M>>)
-        ensures ended { self.new ≡ concluded (outside_told (taken_seen told)) self.old }
-        ensures brings { Brings (outside_told (taken_seen told)) (work_seen work.new) }
+    fn conclude(&mut self, said: Taken<M>, work: &mut Option<Work<M>>)
+        ensures ended { self.new ≡ concluded (outside_told (taken_seen said)) self.old }
+        ensures brings { Brings (outside_told (taken_seen said)) (work_seen work.new) }
     {
-        if tells_fault(&told) {
+        if tells_fault(&said) {
             self.status.push_error(ScpiError::HardwareError);
         }
         self.count_event();
-        *work = work_of(told);
+        *work = work_of(said);
     }
 
     /// Why no scan may begin now.
