@@ -364,6 +364,7 @@ impl<R: Relay, M: Meter> Cage<R, M> {
     }
 
     /// Tells the scan that runs of a happening. One that it does not take changes nothing.
+    #[inline(always)]
     pub fn take(&mut self, happening: Happening) -> Taken<M>
         ensures ignored { (Takes self.old.seen happening → ⊥)
             → (taken_seen result ≡ SaysIgnored) × (self.new ≡ self.old) }
@@ -379,6 +380,7 @@ impl<R: Relay, M: Meter> Cage<R, M> {
         self.go_past()
     }
 
+    #[inline(always)]
     fn takes(&self, happening: Happening) -> bool
         ensures { IsTrue result ↔ Takes self.now.seen happening }
     {
@@ -389,6 +391,7 @@ impl<R: Relay, M: Meter> Cage<R, M> {
     }
 
     /// Goes past what the scan awaits, which is no reading.
+    #[inline(always)]
     fn go_past(&mut self) -> Taken<M>
         requires { AwaitsOther self.old.seen.scan }
         ensures past { AdvancesPast self.old.seen (taken_seen result) self.new.seen }
@@ -403,6 +406,7 @@ impl<R: Relay, M: Meter> Cage<R, M> {
     /// that of any card call. The late return of a scan that is over adds nothing, and its failure ends nothing.
     ///
     /// The slot has the very meter that came, unless the scan sent it out again: then it is that of the job.
+    #[inline(always)]
     pub fn finish(&mut self, finished: Finished<M>) -> Result<Taken<M>, Finished<M>>
         ensures in_slot { OnOk result (slot_at self.old.seen.out finished.1.slot ≡ Some finished.1.ticket) }
         ensures late { IfOk result (λ taken. (TakesReturn self.old.seen finished.1.slot finished.1.ticket → ⊥)
@@ -435,6 +439,7 @@ impl<R: Relay, M: Meter> Cage<R, M> {
         Ok(Taken::Ignored)
     }
 
+    #[inline(always)]
     fn takes_return(&self, slot: u8, ticket: Ticket) -> bool
         ensures { IsTrue result ↔ TakesReturn self.now.seen slot ticket }
     {
@@ -445,6 +450,7 @@ impl<R: Relay, M: Meter> Cage<R, M> {
     }
 
     /// Puts a meter back that the scan does not await.
+    #[inline(never)]
     fn put_back(&mut self, finished: Finished<M>)
         requires out { slot_at self.old.seen.out finished.1.slot ≡ Some finished.1.ticket }
         requires late { TakesReturn self.old.seen finished.1.slot finished.1.ticket → ⊥ }
@@ -456,6 +462,7 @@ impl<R: Relay, M: Meter> Cage<R, M> {
     }
 
     /// Puts the meter back that the scan awaits, and goes on with its reading.
+    #[inline(always)]
     fn count(&mut self, finished: Finished<M>) -> Taken<M>
         requires out { slot_at self.old.seen.out finished.1.slot ≡ Some finished.1.ticket }
         requires taken { TakesReturn self.old.seen finished.1.slot finished.1.ticket }

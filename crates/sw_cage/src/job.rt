@@ -16,6 +16,7 @@ pub struct Ticket {
 
 impl Ticket {
     /// Whether the two are one.
+    #[inline(always)]
     pub fn is_same(self, other: Ticket) -> bool
         ensures { IsTrue result ↔ (self ≡ other) }
     {
@@ -90,6 +91,7 @@ impl<M: Meter> Job<M> {
     }
 
     /// Measures, once.
+    #[inline(always)]
     pub fn run(self) -> Finished<M>
         ensures { IsDone self.1 result.1 }
     {

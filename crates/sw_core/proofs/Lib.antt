@@ -3,6 +3,7 @@ mod Calls
 pub mod Answered
 mod Happened
 mod Numbered
+mod Brought
 mod Same
 mod Going
 mod Seating

@@ -422,3 +422,15 @@ abbrev pub Step : Panel → AskSeen → Bool → AnswerSeen → Panel → Type 0
 Step p ask f answer q =
     MatchBool ((p.events == last_number) && not (acts_unnumbered ask)) (IsUnnumbered p ask f answer q)
     (IsEvent p ask f answer q)
+
+-- The work that comes with an answer to no session.
+abbrev pub Brings : AnswerSeen → Option WorkSeen → Type 0
+Brings (SaysTaken awaited) work = work ≡ awaited
+Brings answer work = work ≡ None
+
+-- A step that leaves this work.
+pub record StepBrings (p : Panel) (ask : AskSeen) (work : Option WorkSeen) (q : Panel) : Type 0 where
+  pub failed : Bool
+  pub answer : AnswerSeen
+  pub step : Step p ask failed answer q
+  pub brings : Brings answer work

@@ -71,7 +71,7 @@ impl<R: Relay, M: Meter> Core<R, M> {
 
     /// `*OPC` is done where no scan runs, OPERation tells what the scan awaits, a service request arises or not, and
     /// the event is counted.
-    fn count_event(&mut self)
+    pub(crate) fn count_event(&mut self)
         ensures { self.new ≡ ended self.old }
     {
         let running = self.cage.is_running();

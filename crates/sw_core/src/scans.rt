@@ -1,14 +1,17 @@
 //! Scans: their beginning, what happens to them, and the meters that return.
 
-ghost use Rattle.std.specs.Prelude.{◌≡◌, Bool, IfOk, IfSome, IfNone, None, Some, false, ◌↔◌, IsTrue};
+ghost use Rattle.std.specs.Prelude.{◌≡◌, Bool, IfOk, IfSome, IfNone, None, Some, false, ◌↔◌, IsTrue, if◌then◌else◌};
+ghost use Rattle.sw_core.specs.Registers.{card_fault_reported};
 ghost use Rattle.sw_cage.specs.Change.{any_failed};
 ghost use Rattle.sw_cage.specs.TakenSeen.{taken_seen, tells_fault};
 ghost use Rattle.sw_verify.specs.Check.{IsReady};
-ghost use Rattle.sw_core.specs.Seen.{work_seen, answer_seen, failed_in, AskFinished, HandsBack, IsOwnAccount};
+ghost use Rattle.sw_core.specs.Event.{concluded};
+ghost use Rattle.sw_core.specs.Seen.{work_seen, answer_seen, failed_in, AskElapsed, AskFinished, HandsBack};
+ghost use Rattle.sw_core.specs.Seen.{IsOwnAccount};
 ghost use Rattle.sw_core.specs.declared.ask.Ask.TheVariants as Ask;
 ghost use Rattle.sw_core.specs.Step.{Happens, StepHappens, StepOutside, StepFinished, StepSnapshot, StepStart};
 ghost use Rattle.sw_core.specs.Step.{RefusesScan, MayScan, session_told, outside_told, started_answer, work_of};
-ghost use Rattle.sw_core.specs.Step.{StepJoined, snapshot_of};
+ghost use Rattle.sw_core.specs.Step.{StepJoined, Brings, StepBrings, snapshot_of};
 ghost use Rattle.sw_core.specs.declared.ask.Sid.{Sid};
 ghost use Rattle.sw_core.specs.declared.ask.SessionAsk.TheVariants.{Unit};
 ghost use Rattle.sw_lex.specs.declared.command.Command.TheVariants as Command;
@@ -18,11 +21,13 @@ use crate::registers::{report_card_fault, set_card_fault};
 use crate::state::Core;
 use std::alloc::{AllocError, Global};
 use sw_base::{LayerName, ScpiError, Sequence};
-use sw_cage::{Finished, Happening, Taken};
+use sw_cage::{Finished, Happening, Taken, Ticket};
 use sw_card::{Meter, Relay};
+use sw_status::Status;
 use sw_verify::{BoxedSnapshot, Plan, Snapshot};
 
 /// The work that a scan awaits once it has come to this.
+#[inline(always)]
 fn work_of<M: Meter>(told: Taken<M>) -> Option<Work<M>>
     ensures { work_seen result ≡ work_of (taken_seen told) }
 {
@@ -34,6 +39,7 @@ fn work_of<M: Meter>(told: Taken<M>) -> Option<Work<M>>
 }
 
 /// What a session is answered by what the cage told; what no scan takes is refused by this error.
+#[inline(always)]
 fn session_told<M: Meter>(told: &Taken<M>, error: ScpiError) -> SessionAnswer
     ensures { result ≡ session_told error (taken_seen told.now) }
 {
@@ -66,6 +72,7 @@ fn started_answer<M: Meter>(told: &Taken<M>) -> SessionAnswer
 }
 
 /// Whether a card failed on the way.
+#[inline(always)]
 fn tells_fault<M: Meter>(told: &Taken<M>) -> bool
     ensures { result ≡ tells_fault (taken_seen told.now) }
 {
@@ -75,8 +82,20 @@ fn tells_fault<M: Meter>(told: &Taken<M>) -> bool
     }
 }
 
+/// Tells QUEStionable where a card failed on the way.
+#[inline(always)]
+fn report_fault<M: Meter>(status: &mut Status, told: &Taken<M>)
+    ensures { status.new ≡ (if tells_fault (taken_seen told.now) then card_fault_reported status.old
+        else status.old) }
+{
+    if tells_fault(told) {
+        report_card_fault(status);
+    }
+}
+
 impl<R: Relay, M: Meter> Core<R, M> {
     /// Offers a happening to the scan.
+    #[inline(always)]
     fn happens(&mut self, happening: Happening) -> Taken<M>
         ensures { Happens self.old happening (any_failed self.old.cage.cards self.new.cage.cards) (taken_seen result)
             self.new }
@@ -146,6 +165,51 @@ impl<R: Relay, M: Meter> Core<R, M> {
                 outside_told(taken)
             }
         }
+    }
+
+    /// Takes a meter back: one event, as `finish` does it. What the scan awaits now is left in `work`; a meter that is
+    /// not out here is let go.
+    #[inline(always)]
+    #[tactic(auto, using(crate::proofs::Brought::returned_back))]
+    pub fn come_back(&mut self, done: Finished<M>, work: &mut Option<Work<M>>)
+        requires empty { work.old ≡ None }
+        ensures { StepBrings self.old (AskFinished done.1) (work_seen work.new) self.new }
+    {
+        match self.cage.finish(done) {
+            Err(_) => {}
+            Ok(said) => {
+                report_fault(&mut self.status, &said);
+                self.conclude(said, work);
+            }
+        }
+    }
+
+    /// Tells the scan that a pause is over: one event, as `apply` does it. What the scan awaits now is left in `work`.
+    #[inline(always)]
+    #[tactic(auto, using(crate::proofs::Brought::elapsed_worn))]
+    pub fn elapse(&mut self, ticket: Ticket, work: &mut Option<Work<M>>)
+        requires empty { work.old ≡ None }
+        ensures { StepBrings self.old (AskElapsed ticket) (work_seen work.new) self.new }
+    {
+        if self.events == u64::MAX {
+            return;
+        }
+        let told = self.happens(Happening::Elapsed(ticket));
+        self.conclude(told, work);
+    }
+
+    /// Ends an event that is no session's by what the cage told, and leaves what the scan awaits now in `work`.
+    #[inline(always)]
+    #[tactic(auto, using(crate::proofs::Brought::concluded_fault, crate::proofs::Brought::concluded_else, crate::proofs::Brought::told_brings))]
+    fn conclude(&mut self, said: Taken<M>, work: &mut Option<Work<M>>)
+        ensures ended { self.new ≡ concluded (outside_told (taken_seen said)) self.old }
+        ensures brings { Brings (outside_told (taken_seen said)) (work_seen work.new) }
+    {
+        if tells_fault(&said) {
+            self.status.push_error(ScpiError::HardwareError);
+        }
+        self.count_event();
+        *work = work_of(said);
     }
 
     /// Why no scan may begin now.

@@ -7,10 +7,10 @@ use Rattle.sw_core.specs.declared.ask.SessionAsk.{SessionAsk}
 use Rattle.sw_core.specs.declared.ask.SessionAnswer.{SessionAnswer}
 use Rattle.sw_core.specs.declared.ask.SessionAnswer.TheVariants.{Hold}
 use Rattle.sw_core.specs.declared.ask.Work.{Work}
-use Rattle.sw_core.specs.declared.ask.Answer.{Answer}
 use Rattle.sw_core.specs.Panel.{Panel}
-use Rattle.sw_core.specs.Seen.{WorkSeen, work_seen, AskSeen, AskSession, AnswerSeen, answer_seen, SaysSession}
-use Rattle.sw_core.specs.Step.{Step}
+use Rattle.sw_core.specs.Seen.{WorkSeen, work_seen, AskSeen, AskSession, AnswerSeen, SaysSession, SaysInstalled, SaysNotInstalled}
+use Rattle.sw_core.specs.Seen.{SaysEjected, SaysNotEjected, SaysTaken, SaysMissed, SaysFailed, SaysBack, SaysWorn}
+use Rattle.sw_core.specs.Step.{Step, Brings}
 use Rattle.sw_session.specs.declared.desk.View.{View}
 use Rattle.sw_session.specs.declared.desk.Wake.TheVariants.{Again, Over}
 use Rattle.sw_session.specs.Trace.{Entry, Asked, Waited, Polled, Noted, Leads, LeavesOf}
@@ -32,18 +32,18 @@ pub seen-first : {M : _} (items left : List (Work M)) (piece : Work M) (r : Opti
 seen-first items left piece None h = tt
 seen-first items left piece (Some oldest) h = sym (map-append piece_seen items (piece ∷ [])) ∙ ap (λ x. map piece_seen x) h
 
--- nothing is brought
-pub seen-none : {R M : _} (a : Answer R M) → ((work : Option (Work M)) → a ≡ Answer.Taken work → ⊥) → None ≡ brought (answer_seen a)
-seen-none (Answer.Taken work) differs = absurd (differs work refl)
-seen-none (Answer.Session answer work) differs = refl
-seen-none Answer.Installed differs = refl
-seen-none (Answer.NotInstalled refusal card) differs = refl
-seen-none (Answer.Ejected card) differs = refl
-seen-none (Answer.NotEjected refusal) differs = refl
-seen-none Answer.Missed differs = refl
-seen-none Answer.Failed differs = refl
-seen-none (Answer.Back done) differs = refl
-seen-none (Answer.Worn ask) differs = refl
+-- the work that an answer brings
+pub brought-is : (a : AnswerSeen) (work : Option WorkSeen) → Brings a work → work ≡ brought a
+brought-is (SaysTaken awaited) work is = is
+brought-is (SaysSession answer held) work is = is
+brought-is SaysInstalled work is = is
+brought-is (SaysNotInstalled refusal) work is = is
+brought-is (SaysEjected card) work is = is
+brought-is (SaysNotEjected refusal) work is = is
+brought-is SaysMissed work is = is
+brought-is SaysFailed work is = is
+brought-is SaysBack work is = is
+brought-is SaysWorn work is = is
 
 -- a desk of which nothing but its mainframe changed
 with-panel : (old new : DeskSeen) → new.work ≡ old.work → new.room ≡ old.room → new.available ≡ old.available → new ≡ record old { panel = new.panel }

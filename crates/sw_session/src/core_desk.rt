@@ -2,8 +2,8 @@
 
 ghost use Rattle.std.specs.Prelude.{◌≡◌, ◌≤◌, Bool, true, [], ◌∷◌, ◌++◌, None, Some, IfSome, IfNone};
 ghost use Rattle.std.specs.VecDeque.{deque_len, deque_capacity};
-ghost use Rattle.sw_core.specs.Seen.{AskSeen, answer_seen, work_seen, AskSession, SaysSession};
-ghost use Rattle.sw_core.specs.Step.{Step};
+ghost use Rattle.sw_core.specs.Seen.{AskSeen, work_seen, AskSession, SaysSession};
+ghost use Rattle.sw_core.specs.Step.{Step, StepBrings};
 ghost use Rattle.sw_session.specs.Available.{followed};
 ghost use Rattle.sw_session.specs.CoreDesk.{IsKept, IsCarried, IsFull, TellsOfPiece, WaitsOut, desk_over, piece_seen};
 
@@ -13,7 +13,7 @@ use std::alloc::Global;
 use std::collections::VecDeque;
 use std::marker::Model;
 use sw_card::{Meter, Relay};
-use sw_core::{Answer, Ask, Core, SessionAnswer, SessionAsk, Sid, Work};
+use sw_core::{Core, SessionAnswer, SessionAsk, Sid, Work};
 
 /// A desk over a mainframe of its own, on one thread. Contracts see the mainframe's panel, the work that is
 /// outstanding, the oldest first, for how much of it there is room, and for which sessions a message is available.
@@ -83,6 +83,7 @@ impl<R: Relay, M: Meter> CoreDesk<R, M> {
     }
 
     /// Keeps a piece of work for a wait.
+    #[inline(always)]
     fn keep_piece(&mut self, piece: Work<M>)
         ensures { IsKept self.old (work_seen (Some piece)) self.new }
     {
@@ -141,10 +142,9 @@ impl<R: Relay, M: Meter> CoreDesk<R, M> {
     fn carry(&mut self, piece: Work<M>) -> Option<Work<M>>
         ensures { IsCarried self.old (piece_seen piece) (work_seen result) self.new }
     {
-        match self.carry_out(piece) {
-            Answer::Taken(work) => work,
-            _ => None,
-        }
+        let mut work = None;
+        self.carry_out(piece, &mut work);
+        work
     }
 
     /// Asks the mainframe what a session asks. The work that its scan awaits now is left in `work`.
@@ -167,17 +167,19 @@ impl<R: Relay, M: Meter> CoreDesk<R, M> {
         self.available.follow(seating, answer);
     }
 
-    /// Carries a piece out and tells the mainframe of it.
-    fn carry_out(&mut self, piece: Work<M>) -> Answer<R, M>
+    /// Carries a piece out and tells the mainframe of it. What comes next is left in `work`.
+    #[inline(always)]
+    fn carry_out(&mut self, piece: Work<M>, work: &mut Option<Work<M>>)
+        requires empty { work.old ≡ None }
         ensures step { (ask : AskSeen) × TellsOfPiece (piece_seen piece) ask
-            × ((failed : Bool) × Step self.old.panel ask failed (answer_seen result) self.new.panel) }
+            × StepBrings self.old.panel ask (work_seen work.new) self.new.panel }
         ensures work { self.new.work ≡ self.old.work }
         ensures room { self.new.room ≡ self.old.room }
         ensures available { self.new.available ≡ self.old.available }
     {
         match piece {
-            Work::Measure(job) => self.core.finish(job.run()),
-            Work::Pause(ticket, _) => self.core.apply(self.alloc, Ask::Elapsed(ticket)),
+            Work::Measure(job) => self.core.come_back(job.run(), work),
+            Work::Pause(ticket, _) => self.core.elapse(ticket, work),
         }
     }
 }

@@ -99,6 +99,7 @@ fn make_moves<R: Relay, M: Meter>(slots: &mut Slots<R, M>, moves: Moves) -> Resu
     close_then(slots, moves.to_close)
 }
 
+#[inline(always)]
 fn open_first<R: Relay, M: Meter>(
     slots: &mut Slots<R, M>,
     position: Option<Position>,
@@ -114,6 +115,7 @@ fn open_first<R: Relay, M: Meter>(
     }
 }
 
+#[inline(always)]
 fn close_then<R: Relay, M: Meter>(
     slots: &mut Slots<R, M>,
     position: Option<Position>,
@@ -130,6 +132,7 @@ fn close_then<R: Relay, M: Meter>(
 }
 
 /// Opens the channels of a position, in order. It stops at the first fault.
+#[inline(always)]
 fn open_each<R: Relay, M: Meter>(
     slots: &mut Slots<R, M>,
     position: &Position,
@@ -146,6 +149,7 @@ fn open_each<R: Relay, M: Meter>(
 }
 
 /// Closes the channels of a position, in order. It stops at the first fault.
+#[inline(always)]
 fn close_each<R: Relay, M: Meter>(
     slots: &mut Slots<R, M>,
     position: &Position,
@@ -162,6 +166,7 @@ fn close_each<R: Relay, M: Meter>(
 }
 
 /// Opens a channel that is closed.
+#[inline(always)]
 fn open_one<R: Relay, M: Meter>(slots: &mut Slots<R, M>, chan: Chan) -> Result<(), CardFault>
     requires { is_closed (accounts_of slots.old) chan ≡ true }
     ensures ok { OnOk result (Sets (accounts_of slots.old) (chan ∷ []) false (accounts_of slots.new)) }
@@ -173,6 +178,7 @@ fn open_one<R: Relay, M: Meter>(slots: &mut Slots<R, M>, chan: Chan) -> Result<(
 }
 
 /// Closes a channel that may be closed.
+#[inline(always)]
 fn close_one<R: Relay, M: Meter>(slots: &mut Slots<R, M>, chan: Chan) -> Result<(), CardFault>
     requires { CanCloseOne (layout_of (accounts_of slots.old)) (is_closed (accounts_of slots.old)) chan }
     ensures ok { OnOk result (Sets (accounts_of slots.old) (chan ∷ []) true (accounts_of slots.new)) }
@@ -219,6 +225,7 @@ fn arrive<R: Relay, M: Meter>(
 }
 
 /// Sends the slot's meter out under the ticket.
+#[inline(always)]
 fn send_out<R: Relay, M: Meter>(
     slots: &mut Slots<R, M>,
     out: &mut Tickets,

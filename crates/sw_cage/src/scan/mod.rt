@@ -64,6 +64,7 @@ impl Scan {
     }
 
     /// What the scan awaits; nothing, where it is over.
+    #[inline(always)]
     pub(crate) fn awaited(&self) -> Option<Awaited>
         ensures { result ≡ awaits self.now }
     {
@@ -71,6 +72,7 @@ impl Scan {
     }
 
     /// Goes past what the scan awaits, and tells what is done before the next.
+    #[inline(always)]
     pub(crate) fn advance(&mut self) -> Moves
         requires { awaits self.old ≡ None → ⊥ }
         ensures scan { self.new ≡ next_place self.old.setup (self.old.index + 1) }
@@ -82,6 +84,7 @@ impl Scan {
     }
 
     /// Whether the scan takes the happening, being number so many.
+    #[inline(always)]
     pub(crate) fn takes(&self, number: u64, happening: Happening) -> bool
         ensures { IsTrue result ↔ TakesIf self.now.setup (ticket_of number self.now) (awaits self.now) happening }
     {
@@ -111,6 +114,7 @@ impl Scan {
     }
 
     /// Whether the scan, being number so many, awaits the return of the slot's meter under the ticket.
+    #[inline(always)]
     pub(crate) fn takes_return(&self, number: u64, slot: u8, ticket: Ticket) -> bool
         ensures { IsTrue result ↔ AwaitsReturn number self.now slot ticket }
     {
@@ -125,6 +129,7 @@ impl Scan {
     }
 
     /// The index of what the scan awaits in its agenda.
+    #[inline(always)]
     pub(crate) fn index(&self) -> u64
         ensures { result ≡ self.now.index }
     {
@@ -132,6 +137,7 @@ impl Scan {
     }
 
     /// The slot of the scan's meter.
+    #[inline(always)]
     pub(crate) fn meter(&self) -> u8
         ensures { result ≡ self.now.setup.meter }
     {
@@ -167,6 +173,7 @@ fn period_takes(present: Ticket, name: LayerName, happening: Happening) -> bool
 }
 
 /// How many moves they are.
+#[inline(always)]
 fn count(moves: &Moves) -> u64
     ensures count { result ≡ length (moves_of moves.now) }
     ensures few { result ≤ 2 }

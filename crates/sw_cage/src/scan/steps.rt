@@ -35,6 +35,7 @@ pub(crate) struct Moves {
 }
 
 /// What the step awaits at which the scan stands; nothing at the end.
+#[inline(always)]
 pub(crate) fn awaited(steps: &[Step], at: &Place) -> Option<Awaited>
     requires rests { IsResting (slice_get steps.now at.now.step) }
     ensures { (items : List Item) → Does steps.now at.now items → result ≡ first_awaited items }
@@ -65,6 +66,7 @@ pub(crate) fn first(steps: &[Step]) -> (Moves, Place)
 }
 
 /// Goes from a step that awaits to the next, and tells what is done before that.
+#[inline(always)]
 pub(crate) fn next(steps: &[Step], at: &mut Place) -> Moves
     requires range { AllByRecursion IsStep steps.now }
     requires paced { IsPaced steps.now most_counting }
@@ -79,6 +81,7 @@ pub(crate) fn next(steps: &[Step], at: &mut Place) -> Moves
 }
 
 /// Goes on from a step that does more than count to one that awaits, and tells what is done before that.
+#[inline(always)]
 fn move_on(steps: &[Step], at: &mut Place) -> Moves
     requires range { AllByRecursion IsStep steps.now }
     requires paced { IsPaced steps.now most_counting }
@@ -92,6 +95,7 @@ fn move_on(steps: &[Step], at: &mut Place) -> Moves
 }
 
 /// Goes past a step that opens, on to one that does more than count, and tells which position it opens.
+#[inline(always)]
 fn open_on(steps: &[Step], at: &mut Place) -> Option<Position>
     requires range { AllByRecursion IsStep steps.now }
     requires paced { IsPaced steps.now most_counting }
@@ -111,6 +115,7 @@ fn open_on(steps: &[Step], at: &mut Place) -> Option<Position>
 }
 
 /// Goes past a step that closes, on to one that does more than count, and tells which position it closes.
+#[inline(always)]
 fn close_on(steps: &[Step], at: &mut Place) -> Option<Position>
     requires range { AllByRecursion IsStep steps.now }
     requires paced { IsPaced steps.now most_counting }
@@ -129,6 +134,7 @@ fn close_on(steps: &[Step], at: &mut Place) -> Option<Position>
 }
 
 /// On to a step that does more than count.
+#[inline(always)]
 fn settle(steps: &[Step], at: &mut Place)
     requires range { AllByRecursion IsStep steps.now }
     requires near { IsNear steps.now most_counting at.old.step }
@@ -143,6 +149,7 @@ fn settle(steps: &[Step], at: &mut Place)
 }
 
 /// Goes past the step, if it only counts, and tells whether it does.
+#[inline(always)]
 fn has_counted(steps: &[Step], at: &mut Place) -> bool
     requires range { AllByRecursion IsStep steps.now }
     ensures near { result ≡ true
@@ -165,6 +172,7 @@ fn has_counted(steps: &[Step], at: &mut Place) -> bool
 }
 
 /// Goes past a loop's end: the counter goes down by one, and the loop begins again or is over.
+#[inline(always)]
 fn turn(at: &mut Place, counter: u8, to: u16)
     requires counter { counter < most_counters }
     requires within { at.old.step + 1 < 2 ^ 64 }
@@ -188,6 +196,7 @@ fn turn(at: &mut Place, counter: u8, to: u16)
 }
 
 /// The step of the place's number.
+#[inline(always)]
 fn step_at<'a>(steps: &'a [Step], at: &Place) -> Option<&'a Step>
     ensures step { IfSome result (λ step. slice_get steps.now at.now.step ≡ Some step.now) }
     ensures within { IfSome result (λ _. at.now.step < length steps.now) }

@@ -39,6 +39,7 @@ impl Tickets {
 
     /// The ticket under which the slot's meter is out.
     #[tactic(auto, using(crate::proofs::SlotChangeLemmas::slot_past))]
+    #[inline(always)]
     pub(crate) fn at(&self, slot: u8) -> Option<Ticket>
         ensures { result ≡ slot_at self.now slot }
     {
@@ -51,6 +52,7 @@ impl Tickets {
     }
 
     /// Whether the slot's meter is out under this ticket.
+    #[inline(always)]
     pub(crate) fn has(&self, slot: u8, ticket: Ticket) -> bool
         ensures { IsTrue result ↔ (slot_at self.now slot ≡ Some ticket) }
     {
@@ -61,6 +63,7 @@ impl Tickets {
     }
 
     /// Writes down that the slot's meter is out under the ticket, or in.
+    #[inline(always)]
     pub(crate) fn set(&mut self, slot: u8, ticket: Option<Ticket>)
         requires { (1 ≤ slot) × (slot ≤ most_slots) }
         ensures { self.new ≡ slice_set self.old (slot - 1) ticket }

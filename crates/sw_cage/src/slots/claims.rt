@@ -79,6 +79,7 @@ impl Claims {
     }
 
     /// Drops the claims of the channels that are not closed.
+    #[inline(never)]
     pub(super) fn keep_closed<R: Relay, M: Meter>(&mut self, slots: &[Place<R, M>])
         requires { length slots.now ≡ most_slots }
         ensures { self.new ≡ map (closed_claim (is_closed (accounts_of slots.now))) self.old }

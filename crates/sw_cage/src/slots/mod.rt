@@ -175,6 +175,7 @@ impl<R: Relay, M: Meter> Slots<R, M> {
     }
 
     /// Opens every relay of every card.
+    #[inline(never)]
     pub(crate) fn open_all(&mut self)
         ensures open { accounts_of self.new ≡ all_open (accounts_of self.old) }
         ensures meters { meters_of self.new ≡ meters_of self.old }
@@ -198,6 +199,7 @@ impl<R: Relay, M: Meter> Slots<R, M> {
     }
 
     /// The group of a channel that the cage has.
+    #[inline(always)]
     fn group(&self, chan: Chan) -> u8
         requires { is_present (layout_of (accounts_of self.now)) chan ≡ true }
         ensures { result ≡ group_of (layout_of (accounts_of self.now)) chan }
@@ -347,6 +349,7 @@ impl<R: Relay, M: Meter> Slots<R, M> {
     }
 
     /// Takes the slot's meter out.
+    #[inline(always)]
     pub(crate) fn take_meter(&mut self, slot: u8) -> MeterCard<M>
         requires slot_in { (1 ≤ slot) × (slot ≤ most_slots) }
         requires meter { has_meter (layout_of (accounts_of self.old)) slot ≡ true }
@@ -359,6 +362,7 @@ impl<R: Relay, M: Meter> Slots<R, M> {
     }
 
     /// Puts a meter into the slot.
+    #[inline(always)]
     pub(crate) fn put_meter(&mut self, slot: u8, meter: MeterCard<M>)
         requires { (1 ≤ slot) × (slot ≤ most_slots) }
         ensures card { self.new ≡ slice_set self.old (slot - 1) (Some (inr meter.0, of_meter meter.1)) }

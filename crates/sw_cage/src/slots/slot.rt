@@ -90,6 +90,7 @@ pub(super) fn is_fit<R: Relay, M: Meter>(card: &Card<R, M>) -> bool
 }
 
 /// Closes a channel of the card in the slot.
+#[inline(always)]
 pub(super) fn close_in<R: Relay, M: Meter>(slot: &mut Place<R, M>, ch: u8) -> Result<(), CardFault>
     requires few { ch ≤ most_channels }
     requires formed { OptionWellFormed (option_account slot.old) }
@@ -116,6 +117,7 @@ pub(super) fn close_in<R: Relay, M: Meter>(slot: &mut Place<R, M>, ch: u8) -> Re
 }
 
 /// Opens a channel of the card in the slot.
+#[inline(always)]
 pub(super) fn open_in<R: Relay, M: Meter>(slot: &mut Place<R, M>, ch: u8) -> Result<(), CardFault>
     requires range { (1 ≤ ch) × (ch ≤ most_channels) }
     requires present { contents_have (slot_contents (option_account slot.old)) ch ≡ true }
@@ -204,6 +206,7 @@ pub(super) fn closed_in<R: Relay, M: Meter>(slots: &[Place<R, M>], chan: Chan) -
 }
 
 /// The group of the channel of the card in the slot, which the card has.
+#[inline(always)]
 pub(super) fn group_in<R: Relay, M: Meter>(slot: &Place<R, M>, ch: u8) -> u8
     requires { contents_have (slot_contents (option_account slot.now)) ch ≡ true }
     ensures { result ≡ contents_group (slot_contents (option_account slot.now)) ch }
@@ -215,6 +218,7 @@ pub(super) fn group_in<R: Relay, M: Meter>(slot: &Place<R, M>, ch: u8) -> u8
 }
 
 /// Takes the meter out of the slot.
+#[inline(always)]
 pub(super) fn take_meter<R: Relay, M: Meter>(slot: &mut Place<R, M>) -> MeterCard<M>
     requires { contents_are_meter (slot_contents (option_account slot.old)) ≡ true }
     ensures meter { slot.old ≡ Some (inr result.0, of_meter result.1) }
