@@ -1,5 +1,5 @@
 -- An engine as a server asks it.
-use Rattle.std.proofs.Common.{◌≡◌, true, false, [], ◌∷◌, Option, Some, None, Result, Ok, Err, IfOk, OnErr, OnOk, refl, sym, subst}
+use Rattle.std.proofs.Common.{◌≡◌, ℕ, true, false, [], ◌∷◌, Option, Some, None, Result, Ok, Err, IfOk, OnErr, OnOk, refl, sym, subst}
 use Rattle.sw_hislip.specs.declared.kind.Kind.{Kind}
 use Rattle.sw_hislip.specs.declared.message.Message.{Message}
 use Rattle.sw_core.specs.declared.ask.Sid.{Sid}
@@ -7,13 +7,17 @@ use Rattle.sw_session.specs.declared.desk.View.{View}
 use Rattle.sw_session.specs.declared.engine.refusals.FatalCode.TheVariants.{PoorlyFormed}
 use Rattle.sw_session.specs.declared.engine.session.State.{State}
 use Rattle.sw_session.specs.declared.engine.session.State.TheVariants.{Unopened, Synchronized, Attached}
+use Rattle.sw_session.specs.declared.engine.step.Channel.{Channel}
 use Rattle.sw_session.specs.declared.engine.step.Channel.TheVariants.{Synchronous, Asynchronous}
+use Rattle.sw_session.specs.declared.servers.fault.ServeFault.{ServeFault}
 use Rattle.sw_session.specs.Said.{StepSeen}
 use Rattle.sw_session.specs.declared.servers.act.Act.TheVariants as Act
 use Rattle.sw_session.specs.Trace.{Entry, Polled}
 use Rattle.sw_session.specs.EngineStep.{LedBy, goes, says, fails}
-use Rattle.sw_session.specs.Engine.{EngineStanding, TakesMessage, Falters, session_of, channel_of_state, too_large, skips, notice_from, noticed_from}
-use Rattle.sw_session.specs.ServeEngine.{told_step, second_session_of, LooksFor, Looks, EngineSpeaks, EngineFalters}
+use Rattle.sw_session.specs.Engine.{EngineStanding, fresh_engine, TakesMessage, Falters, session_of, channel_of_state, too_large, skips, notice_from, noticed_from}
+use Rattle.sw_session.specs.Serve.{voice, RunsChannel, with_desk, LeavesSession}
+use Rattle.sw_session.specs.ServeEngine.{told_step, second_session_of, LooksFor, Looks, EngineSpeaks, EngineFalters, engine_protocol}
+use Rattle.sw_session.specs.ServeEngine.{Station, manned, ServesChannel}
 
 pub takes-speaks : {D X : Type 0} (passes : D → Entry → D → Type 0) (d d' : D) (e f : EngineStanding) (m : Message) (r : Result StepSeen X)
     → IfOk r (λ step. LedBy passes d d' (λ asked. TakesMessage e.state m asked step f.state)) → OnOk r ((e.spent ≡ false) × (f.spent ≡ false))
@@ -87,3 +91,18 @@ pub second-some : (s : State) → channel_of_state s ≡ Asynchronous → sessio
 second-some (Unopened c) e = refl
 second-some (Synchronized s) e = absurd (cc (e))
 second-some (Attached s) e = refl
+
+-- a run by a fresh engine, and the session is left
+pub served : {D : Type 0} (passes : D → Entry → D → Type 0) (own : Channel) (turns : ℕ) (fresh engine : EngineStanding) (sid : Option Sid)
+    (before after : Station D) (desk : D) (result : Result (Unit {0}) ServeFault) → fresh ≡ fresh_engine own
+    → RunsChannel (voice engine_protocol passes own) turns (manned fresh before) (with_desk desk (manned engine after)) result
+    → sid ≡ session_of engine.state → LeavesSession passes sid desk after.desk → ServesChannel passes own turns before after result
+served passes own turns fresh engine sid before after desk result is runs same leaves = record {
+  engine = engine;
+  serves = record {
+    desk = desk;
+    runs = subst (λ (e : EngineStanding). RunsChannel (voice engine_protocol passes own) turns (manned e before) (with_desk desk (manned engine after)) result)
+        is runs;
+    leaves = subst (λ (o : Option Sid). LeavesSession passes o desk after.desk) same leaves;
+  };
+}

@@ -1,9 +1,10 @@
 -- The ways of a turn, and turns one after another.
 use Rattle.std.proofs.Common.{◌≡◌, ℕ, ◌+◌, ◌<◌, List, [], ◌∷◌, ◌++◌, length, drop, refl, sym, ap, ◌∙◌, append_assoc, append-nil, length-append, arith, inl, inr}
-use Rattle.std.proofs.Common.{subst, flat_map, Ok, Err, Some, None, Option, Result}
+use Rattle.std.proofs.Common.{subst, flat_map, Ok, Err, Some, None, Option, Result, IfOk, true, false}
 use Rattle.std.proofs.lemmas.List.{length-drop}
 use Rattle.std.proofs.lemmas.List.Concat.{flat_map-append}
 use Rattle.sw_hislip.specs.Wire.{header, header_of}
+use Rattle.sw_hislip.specs.declared.message.Message.{Message}
 use Rattle.sw_hislip.specs.Pending.{Pending, Waits, HasWrongPrologue}
 use Rattle.sw_session.specs.declared.servers.act.Act.{Act}
 use Rattle.sw_session.specs.declared.servers.act.Act.TheVariants.{Takes, Skips, Refuses, Notices}
@@ -13,7 +14,7 @@ use Rattle.sw_session.specs.declared.servers.fault.ServeFault.{ServeFault}
 use Rattle.sw_session.specs.declared.servers.turns.Came.{Came}
 use Rattle.sw_session.specs.declared.servers.turns.Next.{Next}
 use Rattle.sw_session.specs.Serve.{Voice, acts_for, is_refused, pauses, Point, Stops, GoesThrough, Judges, Hears, HearsEach, Finds, HoldsMessage}
-use Rattle.sw_session.specs.Serve.{NextInput, TellsActs, Stands, Listens, CountsCame, HearsAll, Course, TakesServerTurn}
+use Rattle.sw_session.specs.Serve.{goes_on, NextInput, TellsActs, Stands, Listens, CountsCame, HearsAll, Course, TakesServerTurn}
 use Rattle.sw_session.proofs.ServeParts.{found-unpaused, none-more, tells-nothing, tells-then, tells-found, goes-nowhere, goes-then, ends-before, stops-then}
 use Rattle.sw_session.proofs.ServeParts.{stops-at}
 
@@ -21,6 +22,13 @@ use Rattle.sw_session.proofs.ServeParts.{stops-at}
 
 pub hears-is : {E D : Type 0} (u : Voice E D) (act : Act) (a b : Point E D) (r q : Result AfterStep ServeFault) → r ≡ q → Hears u act a b r → Hears u act a b q
 hears-is u act a b r q e h = subst (λ (x : Result AfterStep ServeFault). Hears u act a b x) e h
+
+pub went-on : (r : Result AfterStep ServeFault) → goes_on r ≡ true → r ≡ Ok Goes
+went-on (Ok Goes) t = refl
+went-on (Ok Ends) t = absurd (cc (t))
+went-on (Ok Fatal) t = absurd (cc (t))
+went-on (Ok Malformed) t = absurd (cc (t))
+went-on (Err fault) t = absurd (cc (t))
 
 pub each-is : {E D : Type 0} (u : Voice E D) (acts : List Act) (a b : Point E D) (r q : Result AfterStep ServeFault)
     → r ≡ q → HearsEach u acts a b r → HearsEach u acts a b q
@@ -47,6 +55,14 @@ pub each-one : {E D : Type 0} (u : Voice E D) (act : Act) (a b : Point E D) (r :
 each-one u act a b (Ok after) h = h
 each-one u act a b (Err fault) h = stops-at u a b act [] fault h
 
+-- one that is no message
+pub each-alone : {E D : Type 0} (u : Voice E D) (act : Act) (a b : Point E D) (r : Result AfterStep ServeFault)
+    → ((m : Message) → act ≡ Takes m → ⊥) → Hears u act a b r → HearsEach u (acts_for act) a b r
+each-alone u (Takes m) a b r n h = absurd (n m refl)
+each-alone u (Skips kind) a b r n h = each-one u (Skips kind) a b r h
+each-alone u Refuses a b r n h = each-one u Refuses a b r h
+each-alone u Notices a b r n h = each-one u Notices a b r h
+
 -- an act, and then another
 pub each-two : {E D : Type 0} (u : Voice E D) (first second : Act) (a b c : Point E D) (r : Result AfterStep ServeFault)
     → Hears u first a b (Ok Goes) → Hears u second b c r → HearsEach u (first ∷ second ∷ []) a c r
@@ -54,16 +70,14 @@ each-two u first second a b c (Ok after) h k = goes-then u a b c (first ∷ []) 
 each-two u first second a b c (Err fault) h k = stops-then u a b c (first ∷ []) (second ∷ []) fault h
     (stops-at u b c second [] fault k)
 
--- an act that ends the channel before another
-pub each-end : {E D : Type 0} (u : Voice E D) (first second : Act) (a b : Point E D) (after : AfterStep)
-    → (after ≡ Goes → ⊥)
-    → Hears u first a b (Ok after) → HearsEach u (first ∷ second ∷ []) a b (Ok after)
-each-end u first second a b after ended h = ends-before u a b (first ∷ []) (second ∷ []) after ended h
-
--- or that fails
-pub each-err : {E D : Type 0} (u : Voice E D) (first second : Act) (a b : Point E D) (fault : ServeFault)
-    → Hears u first a b (Err fault) → HearsEach u (first ∷ second ∷ []) a b (Err fault)
-each-err u first second a b fault h = stops-at u a b first (second ∷ []) fault h
+-- an act that ends the channel before another, or that fails
+pub each-over : {E D : Type 0} (u : Voice E D) (first second : Act) (a b : Point E D) (r : Result AfterStep ServeFault)
+    → goes_on r ≡ false → Hears u first a b r → HearsEach u (first ∷ second ∷ []) a b r
+each-over u first second a b (Ok Goes) t h = absurd (cc (t))
+each-over u first second a b (Ok Ends) t h = ends-before u a b (first ∷ []) (second ∷ []) Ends (λ e. absurd (cc (e))) h
+each-over u first second a b (Ok Fatal) t h = ends-before u a b (first ∷ []) (second ∷ []) Fatal (λ e. absurd (cc (e))) h
+each-over u first second a b (Ok Malformed) t h = ends-before u a b (first ∷ []) (second ∷ []) Malformed (λ e. absurd (cc (e))) h
+each-over u first second a b (Err fault) t h = stops-at u a b first (second ∷ []) fault h
 
 -- ---- all that the wire tells
 
@@ -81,6 +95,11 @@ takes-bytes p p' (Skips kind) (h, got, large, named, same) judged =
     omega (arith, e, g, k)
 takes-bytes p p' Refuses f judged = absurd (cc (judged))
 takes-bytes p p' Notices f judged = absurd f
+
+pub takes-on : (p p' : Pending) (input : Act) (r : Result AfterStep ServeFault) → Finds p input p' → goes_on r ≡ true
+    → IfOk r (λ after. Judges (is_refused input) after) → length p'.bytes < length p.bytes
+takes-on p p' input r f t j =
+    takes-bytes p p' input f (subst (λ (x : Result AfterStep ServeFault). IfOk x (λ after. Judges (is_refused input) after)) (went-on r t) j)
 
 -- what is pending once the channel ended so
 pub stands : (p p' : Pending) (input : Act) (after : AfterStep) → (after ≡ Goes → ⊥) → Finds p input p' → Judges (is_refused input) after → Stands after p'
@@ -161,3 +180,13 @@ all-starved u p q q' a b fault k (e, same, whole) = record {
   tells = subst (λ (r : Pending). TellsActs p r [] k.inputs) (sym same) k.tells;
   spoken = inr (e, k.goes, subst (λ (r : Pending). HoldsMessage r) (sym same) whole);
 }
+
+-- or what it tells ends the channel, or fails
+pub all-over : {E D : Type 0} (u : Voice E D) (p q q' : Pending) (a b c : Point E D) (input : Act) (r : Result AfterStep ServeFault)
+    → goes_on r ≡ false → Hearing u p q a b → Finds q input q' → HearsEach u (acts_for input) b c r
+    → IfOk r (λ after. Judges (is_refused input) after) → HearsAll u p q' a c r
+all-over u p q q' a b c input (Ok Goes) t k f h j = absurd (cc (t))
+all-over u p q q' a b c input (Ok Ends) t k f h j = all-ended u p q q' a b c input Ends (λ e. absurd (cc (e))) k f h j
+all-over u p q q' a b c input (Ok Fatal) t k f h j = all-ended u p q q' a b c input Fatal (λ e. absurd (cc (e))) k f h j
+all-over u p q q' a b c input (Ok Malformed) t k f h j = all-ended u p q q' a b c input Malformed (λ e. absurd (cc (e))) k f h j
+all-over u p q q' a b c input (Err fault) t k f h j = all-stopped u p q q' a b c input fault k f h

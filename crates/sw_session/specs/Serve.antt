@@ -95,6 +95,14 @@ after_step true step = Malformed
 after_step false step =
     if step.ends then if list_any (λ (s : Sent). is_fatal s.message.kind) step.out then Fatal else Ends else Goes
 
+-- another act may follow
+abbrev pub goes_on : Result AfterStep ServeFault → Bool
+goes_on (Ok Goes) = true
+goes_on (Ok Ends) = false
+goes_on (Ok Fatal) = false
+goes_on (Ok Malformed) = false
+goes_on (Err fault) = false
+
 abbrev pub ProceedsAfter : {E : Type 0} → Type 0 → AfterStep → E → List Exchange → AfterStep → E → Type 0
 ProceedsAfter on Goes mid xs after s' = on
 ProceedsAfter on Ends mid xs after s' = (xs ≡ []) × (after ≡ Ends) × (s' ≡ mid)

@@ -12,10 +12,10 @@
 //! is carried out in the order in which it came (`work_is_done_in_order`).
 //!
 //! `Engine` is one of the two channels of a HiSLIP session (IVI-6.1), and its contract what is asked and said to each
-//! message (`TakesMessage`). `serve_sync` and `serve_async` serve a channel over any reader, two writers and any desk:
-//! what is written is what the engine says to the messages that stand in what was read, however it was cut
-//! (`ServesChannel`). A reader (`Source`) counts the reads that a time limit ended, where it can; then a server gives
-//! up after as many bytes and such reads as it has turns, and not before.
+//! message (`TakesMessage`). `serve_channel` serves a channel over any reader, two writers and any desk: what is
+//! written is what the engine says to the messages that stand in what was read, however it was cut (`ServesChannel`). A
+//! reader (`Source`) counts the reads that a time limit ended, where it can; then a server gives up after as many bytes
+//! and such reads as it has turns, and not before.
 //!
 //! Not promised: that a desk ever answers anything but a hold, and that memory is there.
 #![tactic(auto)]
@@ -41,7 +41,7 @@ pub use laws::{
     talk_is_determined, work_is_done_in_order, work_is_kept_where_there_is_room,
 };
 pub use servers::{
-    Memory, ServeFault, Sink, Source, Unread, Unwritten, serve_async, serve_async_for, serve_sync,
+    Memory, ServeFault, Sink, Source, Unread, Unwritten, serve_async_for, serve_channel,
     serve_sync_for, write_all,
 };
 pub use talker::Talker;

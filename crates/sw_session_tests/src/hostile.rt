@@ -5,7 +5,7 @@ use crate::clients::bench;
 use std::alloc::Global;
 use std::io::{self, Read};
 use sw_core::{SessionAnswer, SessionAsk, Sid};
-use sw_session::{Channel, Desk, ServeFault, Sink, Source, View, Wake, serve_async, serve_sync};
+use sw_session::{Channel, Desk, ServeFault, Sink, Source, TURNS, View, Wake, serve_channel};
 
 /// A desk that gives each session its second connection as it begins, where it is to, and counts how often one left.
 #[derive(Drop)]
@@ -273,13 +273,10 @@ pub fn serve_into<R: Source, W: Sink, D: Desk>(
     desk: &mut Watched<D>,
 ) -> Ended {
     let mut side = Vec::new(alloc);
-    let result = match channel {
-        Channel::Synchronous => serve_sync(alloc, reader, main, &mut side, desk),
-        Channel::Asynchronous => {
-            drop(desk.ask(SessionAsk::Join));
-            serve_async(alloc, reader, main, &mut side, desk)
-        }
-    };
+    if channel == Channel::Asynchronous {
+        drop(desk.ask(SessionAsk::Join));
+    }
+    let result = serve_channel(alloc, channel, reader, main, &mut side, desk, TURNS);
     Ended {
         result,
         side,

@@ -6,7 +6,7 @@ use std::alloc::Global;
 use std::test::Fail;
 use sw_core::{SessionAnswer, SessionAsk, Sid};
 use sw_hislip::Kind;
-use sw_session::{Channel, Desk, View, Wake, serve_async};
+use sw_session::{Channel, Desk, TURNS, View, Wake, serve_channel};
 
 /// Whether an answer is the identity in parts of so many bytes.
 fn is_cut(said: &Said, part: usize) -> bool {
@@ -254,7 +254,15 @@ fn ends_late<D: Desk>(alloc: Global, desk: &mut Succeeded<D>, sent: &[u8]) -> bo
     };
     let mut main = Vec::new(alloc);
     let mut side: Vec<u8> = Vec::new(alloc);
-    let result = serve_async(alloc, &mut reader, &mut main, &mut side, desk);
+    let result = serve_channel(
+        alloc,
+        Channel::Asynchronous,
+        &mut reader,
+        &mut main,
+        &mut side,
+        desk,
+        TURNS,
+    );
     let is_over = result == Ok(()) && main.as_slice() == LATE_SAID && side.is_empty();
     is_over && desk.leaves == 1 && desk.stands(3)
 }

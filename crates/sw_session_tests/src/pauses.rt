@@ -1,11 +1,9 @@
 //! HiSLIP's second channel over readers that time limits end.
 
-use crate::servers::{
-    Pieces, SECOND, SECOND_SAID, SECOND_SAID_MORE, is_served, serve_asynchronous,
-};
+use crate::servers::{Pieces, SECOND, SECOND_SAID, SECOND_SAID_MORE, is_served, serve};
 use std::alloc::Global;
 use std::io::{ErrorKind, Read};
-use sw_session::{ServeFault, Source, Unread};
+use sw_session::{Channel, ServeFault, Source, Unread};
 
 /// Time limits end its first reads, so many of them, which it counts; then its bytes come.
 #[derive(Drop)]
@@ -51,7 +49,7 @@ fn is_late(
         paused: 0,
         left: SECOND,
     };
-    let served = serve_asynchronous(alloc, &mut reader, turns);
+    let served = serve(alloc, Channel::Asynchronous, &mut reader, turns);
     let leaves = if left == 0 { 1 } else { 0 };
     reader.paused == paused
         && reader.left.len() == left
@@ -73,7 +71,7 @@ fn each_pause_is_a_turn(rt: HostRuntime) {
 /// Whether a pause of a plain reader is one turn, behind those of its 16 bytes.
 fn pauses_once(alloc: Global, turns: u64, end: Result<(), ServeFault>, said: &[u8]) -> bool {
     let mut reader = Pieces::broken(SECOND, 16, ErrorKind::TimedOut, false);
-    let served = serve_asynchronous(alloc, &mut reader, turns);
+    let served = serve(alloc, Channel::Asynchronous, &mut reader, turns);
     is_served(served, end, said, b"", 1)
 }
 
@@ -91,14 +89,14 @@ fn a_pause_of_a_reader_is_a_turn(rt: HostRuntime) {
 /// message.
 fn tells_of_requests(alloc: Global, error: ErrorKind) -> bool {
     let mut reader = Pieces::broken(SECOND, 16, error, false);
-    let served = serve_asynchronous(alloc, &mut reader, 1000);
+    let served = serve(alloc, Channel::Asynchronous, &mut reader, 1000);
     is_served(served, Ok(()), SECOND_SAID_MORE, b"", 1)
 }
 
 /// Whether an interrupted read is asked again, with no look at the status.
 fn looks_no_more(alloc: Global) -> bool {
     let mut reader = Pieces::broken(SECOND, 16, ErrorKind::Interrupted, false);
-    let served = serve_asynchronous(alloc, &mut reader, 1000);
+    let served = serve(alloc, Channel::Asynchronous, &mut reader, 1000);
     is_served(served, Ok(()), SECOND_SAID, b"", 1)
 }
 

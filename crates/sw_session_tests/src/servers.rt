@@ -4,10 +4,7 @@ use std::alloc::Global;
 use std::io::{self, ErrorKind, Read, Write};
 use sw_base::Sequence;
 use sw_core::{SessionAnswer, SessionAsk, Sid};
-use sw_session::{
-    Desk, Memory, ServeFault, Source, View, Wake, serve_async, serve_async_for, serve_sync,
-    serve_sync_for,
-};
+use sw_session::{Channel, Desk, Memory, ServeFault, Source, TURNS, View, Wake, serve_channel};
 
 /// A desk with one session, whose client takes messages of 27 bytes. It answers each command with its identity, and
 /// with each look at its status there was one more service request.
@@ -214,27 +211,13 @@ pub struct Served {
     leaves: u32,
 }
 
-fn serve_synchronous<R: Source>(alloc: Global, reader: &mut R, turns: u64) -> Served {
+pub fn serve<R: Source>(alloc: Global, channel: Channel, reader: &mut R, turns: u64) -> Served {
     let mut main = Vec::new(alloc);
     let mut side = Vec::new(alloc);
     let mut desk = Station::new(alloc);
-    let result = serve_sync_for(alloc, reader, &mut main, &mut side, &mut desk, turns);
-    let (notes, leaves) = (desk.notes, desk.leaves);
-    drop(desk);
-    Served {
-        result,
-        main,
-        side,
-        notes,
-        leaves,
-    }
-}
-
-pub fn serve_asynchronous<R: Source>(alloc: Global, reader: &mut R, turns: u64) -> Served {
-    let mut main = Vec::new(alloc);
-    let mut side = Vec::new(alloc);
-    let mut desk = Station::new(alloc);
-    let result = serve_async_for(alloc, reader, &mut main, &mut side, &mut desk, turns);
+    let result = serve_channel(
+        alloc, channel, reader, &mut main, &mut side, &mut desk, turns,
+    );
     let (notes, leaves) = (desk.notes, desk.leaves);
     drop(desk);
     Served {
@@ -265,7 +248,7 @@ pub fn is_served(
 /// Whether the talk is answered whole when it comes in such pieces.
 fn is_whole_talk(alloc: Global, first: usize, rest: usize) -> bool {
     let mut reader = Pieces::new(TALK, first, rest);
-    let served = serve_synchronous(alloc, &mut reader, 1000);
+    let served = serve(alloc, Channel::Synchronous, &mut reader, 1000);
     served.notes == 1 && is_served(served, Ok(()), SAID, SAID_BESIDE, 1)
 }
 
@@ -280,7 +263,7 @@ fn cuts_make_no_difference(rt: HostRuntime) {
 /// Whether the talk is answered whole from memory, in so many turns.
 fn is_whole_from_memory(alloc: Global, turns: u64, end: Result<(), ServeFault>) -> bool {
     let mut memory = Memory { left: TALK };
-    let served = serve_synchronous(alloc, &mut memory, turns);
+    let served = serve(alloc, Channel::Synchronous, &mut memory, turns);
     memory.left.is_empty() && is_served(served, end, SAID, SAID_BESIDE, 1)
 }
 
@@ -311,7 +294,7 @@ fn front(bytes: &[u8], count: usize) -> &[u8] {
 /// Whether a read that fails after so many bytes leaves the answers to all before, and the session.
 fn breaks_off(alloc: Global, good: u32) -> bool {
     let mut reader = Pieces::broken(TALK, good, ErrorKind::BrokenPipe, true);
-    let served = serve_synchronous(alloc, &mut reader, 1000);
+    let served = serve(alloc, Channel::Synchronous, &mut reader, 1000);
     let (main, side) = said_after(good);
     let leaves = if good < 23 { 0 } else { 1 };
     let fault = Err(ServeFault::Read);
@@ -334,7 +317,7 @@ fn each_read_fails_in_turn(rt: HostRuntime) {
 /// Whether an error of this kind after so many reads makes no difference.
 fn passes_over(alloc: Global, good: u32, error: ErrorKind) -> bool {
     let mut reader = Pieces::broken(TALK, good, error, false);
-    let served = serve_synchronous(alloc, &mut reader, 1000);
+    let served = serve(alloc, Channel::Synchronous, &mut reader, 1000);
     is_served(served, Ok(()), SAID, SAID_BESIDE, 1)
 }
 
@@ -360,7 +343,15 @@ fn stops_writing(alloc: Global, room: usize) -> bool {
     };
     let mut side = Vec::new(alloc);
     let mut desk = Station::new(alloc);
-    let result = serve_sync(alloc, &mut reader, &mut main, &mut side, &mut desk);
+    let result = serve_channel(
+        alloc,
+        Channel::Synchronous,
+        &mut reader,
+        &mut main,
+        &mut side,
+        &mut desk,
+        TURNS,
+    );
     let (notes, leaves) = (desk.notes, desk.leaves);
     drop(desk);
     let noted = if room < 43 { 0 } else { 1 };
@@ -388,7 +379,15 @@ fn stops_beside(alloc: Global, room: usize) -> bool {
         room,
     };
     let mut desk = Station::new(alloc);
-    let result = serve_sync(alloc, &mut reader, &mut main, &mut side, &mut desk);
+    let result = serve_channel(
+        alloc,
+        Channel::Synchronous,
+        &mut reader,
+        &mut main,
+        &mut side,
+        &mut desk,
+        TURNS,
+    );
     let (notes, leaves) = (desk.notes, desk.leaves);
     drop(desk);
     let served = Served {
@@ -420,7 +419,7 @@ fn each_write_fails_in_turn(rt: HostRuntime) {
 /// Whether so many reads of one byte each are all that is done.
 fn reads_no_further(alloc: Global, turns: u64) -> bool {
     let mut reader = Pieces::new(TALK, 1, 1);
-    let served = serve_synchronous(alloc, &mut reader, turns);
+    let served = serve(alloc, Channel::Synchronous, &mut reader, turns);
     let is_so = is_served(served, Err(ServeFault::ReadBound), b"", b"", 0);
     is_so && turns.saturating_add(reader.left.len() as u64) == 61
 }
@@ -436,7 +435,15 @@ fn serves_second(alloc: Global) -> bool {
     let mut main = Vec::new(alloc);
     let mut side: Vec<u8> = Vec::new(alloc);
     let mut desk = Station::new(alloc);
-    let result = serve_async(alloc, &mut reader, &mut main, &mut side, &mut desk);
+    let result = serve_channel(
+        alloc,
+        Channel::Asynchronous,
+        &mut reader,
+        &mut main,
+        &mut side,
+        &mut desk,
+        TURNS,
+    );
     let leaves = desk.leaves;
     drop(desk);
     result == Ok(()) && main.as_slice() == SECOND_SAID && side.is_empty() && leaves == 1
@@ -450,9 +457,9 @@ fn a_second_channel_is_served(rt: HostRuntime) {
 /// Whether both servers say this to such bytes, and end so.
 fn both_end(alloc: Global, bytes: &[u8], said: &[u8], end: Result<(), ServeFault>) -> bool {
     let mut reader = Pieces::new(bytes, 7, 7);
-    let first = serve_synchronous(alloc, &mut reader, 1000);
+    let first = serve(alloc, Channel::Synchronous, &mut reader, 1000);
     let mut reader = Pieces::new(bytes, 7, 7);
-    let second = serve_asynchronous(alloc, &mut reader, 1000);
+    let second = serve(alloc, Channel::Asynchronous, &mut reader, 1000);
     let is_first = is_served(first, end, said, b"", 0);
     is_served(second, end, said, b"", 0) && is_first
 }

@@ -1,12 +1,10 @@
 //! What a server asks an engine for.
 
 ghost use Rattle.std.specs.Prelude.{◌≡◌};
-ghost use Rattle.sw_session.specs.Serve.{Judges, after_step, is_refused};
+ghost use Rattle.sw_session.specs.Serve.{Judges, after_step, goes_on, is_refused};
 
-use crate::desk::Desk;
 use crate::engine::Step;
-use std::alloc::{AllocError, Global};
-use sw_core::Sid;
+use crate::servers::fault::ServeFault;
 use sw_hislip::{Kind, Message};
 
 /// What an engine is asked for.
@@ -34,25 +32,11 @@ pub enum AfterStep {
     Malformed,
 }
 
-/// One channel of a session, as a server asks it.
-pub trait Handler {
-    ghost use Rattle.std.specs.Prelude.{◌≡◌, IfOk, OnErr};
-    ghost use Rattle.sw_session.specs.EngineStep.{LedBy};
-    ghost use Rattle.sw_session.specs.Serve.{Protocol};
-
-    /// What it asks and says, and which session it has joined.
-    ghost protocol: { Protocol Self };
-
-    /// Asks the desk for an act, and says what comes of it.
-    fn handle<D: Desk>(&mut self, alloc: Global, act: Act, desk: &mut D) -> Result<Step, AllocError>
-        ensures ok { IfOk result (λ step. LedBy D.passes desk.old desk.new
-            (λ asked. protocol.speaks self.old act asked step self.new)) }
-        ensures err { OnErr result (LedBy D.passes desk.old desk.new
-            (λ asked. protocol.falters self.old act asked self.new)) };
-
-    /// The session that it has joined.
-    fn session(&self) -> Option<Sid>
-        ensures { result ≡ protocol.session self.now };
+/// Whether another act may follow.
+pub fn goes_on(heard: Result<AfterStep, ServeFault>) -> bool
+    ensures { result ≡ goes_on heard }
+{
+    matches!(heard, Ok(AfterStep::Goes))
 }
 
 /// Whether the wire was refused.

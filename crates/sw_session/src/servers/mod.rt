@@ -1,7 +1,7 @@
 //! Servers of one channel over any reader, writers and desk.
 
 mod act;
-mod channels;
+mod channel;
 mod fault;
 mod hearing;
 mod sending;
@@ -10,7 +10,7 @@ mod speaking;
 mod turns;
 mod writing;
 
-pub use channels::{serve_async, serve_async_for, serve_sync, serve_sync_for};
+pub use channel::{serve_async_for, serve_channel, serve_sync_for};
 pub use fault::ServeFault;
 pub use source::{Memory, Source, Unread};
 pub use writing::{Sink, Unwritten, write_all};

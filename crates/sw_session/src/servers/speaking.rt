@@ -3,37 +3,33 @@
 ghost use Rattle.std.specs.Prelude.{◌≡◌, IfOk, OnErr};
 ghost use Rattle.sw_session.specs.EngineStep.{LedBy, says, fails, reply_step};
 ghost use Rattle.sw_session.specs.Engine.{channel_of_state, too_large, skips};
-ghost use Rattle.sw_session.specs.ServeEngine.{Looks, second_session_of, told_step};
+ghost use Rattle.sw_session.specs.ServeEngine.{EngineSpeaks, EngineFalters, Looks, second_session_of, told_step};
 ghost use Rattle.sw_session.specs.declared.engine.refusals.FatalCode.TheVariants.{PoorlyFormed};
 
 use crate::desk::Desk;
 use crate::engine::{Channel, Engine, FatalCode, Reply, Step, step_of};
-use crate::servers::act::{Act, Handler};
+use crate::servers::act::Act;
 use std::alloc::{AllocError, Global};
 use sw_core::Sid;
 use sw_hislip::{Kind, Message};
 
-impl Handler for Engine {
-    ghost use Rattle.sw_session.specs.ServeEngine.{engine_protocol};
-
-    ghost protocol = { engine_protocol };
-
-    fn handle<D: Desk>(
-        &mut self,
-        alloc: Global,
-        act: Act,
-        desk: &mut D,
-    ) -> Result<Step, AllocError> {
-        match act {
-            Act::Takes(message) => self.take(message, desk),
-            Act::Skips(kind) => skip(alloc, kind, self),
-            Act::Refuses => refuse(alloc, self),
-            Act::Notices => look(alloc, self, desk),
-        }
-    }
-
-    fn session(&self) -> Option<Sid> {
-        Engine::session(self)
+/// Asks an engine for an act, and gives what comes of it.
+pub fn handle<D: Desk>(
+    alloc: Global,
+    act: Act,
+    engine: &mut Engine,
+    desk: &mut D,
+) -> Result<Step, AllocError>
+    ensures ok { IfOk result (λ step. LedBy D.passes desk.old desk.new
+        (λ asked. EngineSpeaks engine.old act asked step engine.new)) }
+    ensures err { OnErr result (LedBy D.passes desk.old desk.new
+        (λ asked. EngineFalters engine.old act asked engine.new)) }
+{
+    match act {
+        Act::Takes(message) => engine.take(message, desk),
+        Act::Skips(kind) => skip(alloc, kind, engine),
+        Act::Refuses => refuse(alloc, engine),
+        Act::Notices => look(alloc, engine, desk),
     }
 }
 

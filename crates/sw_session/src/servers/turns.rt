@@ -4,18 +4,17 @@ ghost use Rattle.std.specs.Prelude.{◌≡◌, ◌⊎◌, Ok, Err};
 ghost use Rattle.sw_hislip.specs.Pending.{Waits};
 ghost use Rattle.sw_session.specs.ServeRead.{CameTo};
 ghost use Rattle.sw_session.specs.Serve.{Listens, CountsCame, NextInput, HearsAll, TakesServerTurn, RunsChannel};
-ghost use Rattle.sw_session.specs.Serve.{LeavesSession, ServesAndLeaves};
 ghost use Rattle.sw_session.specs.Serve.{voice, point, course, conclude};
+ghost use Rattle.sw_session.specs.ServeEngine.{engine_protocol};
 
 use crate::desk::Desk;
-use crate::engine::Channel;
-use crate::servers::act::{Act, AfterStep, Handler};
+use crate::engine::{Channel, Engine};
+use crate::servers::act::{Act, AfterStep, goes_on};
 use crate::servers::fault::ServeFault;
 use crate::servers::hearing::attend;
 use crate::servers::source::{Source, Unread};
 use crate::servers::writing::Sink;
 use std::alloc::Global;
-use sw_core::{SessionAsk, Sid};
 use sw_hislip::{Decoder, WireFault, every_message_comes_out, nothing_whole_is_left};
 
 /// What a read gave.
@@ -84,16 +83,16 @@ fn next_input(alloc: Global, decoder: &mut Decoder) -> Result<Option<Act>, Serve
 }
 
 /// Goes through all whole messages, or those up to one that ends the channel.
-fn hear_all<E: Handler, W: Sink, S: Sink, D: Desk>(
+fn hear_all<W: Sink, S: Sink, D: Desk>(
     alloc: Global,
     own: Channel,
     decoder: &mut Decoder,
-    engine: &mut E,
+    engine: &mut Engine,
     writer: &mut W,
     side: &mut S,
     desk: &mut D,
 ) -> Result<AfterStep, ServeFault>
-    ensures heard { HearsAll (voice E.protocol D.passes own) decoder.old.pending decoder.new.pending
+    ensures heard { HearsAll (voice engine_protocol D.passes own) decoder.old.pending decoder.new.pending
         (point engine.old desk.old (W.contents writer.old) (S.contents side.old))
         (point engine.new desk.new (W.contents writer.new) (S.contents side.new)) result }
     ensures write { result ≡ Err ServeFault.Write → CameTo W.failed writer.new ⊎ CameTo S.failed side.new }
@@ -104,29 +103,26 @@ fn hear_all<E: Handler, W: Sink, S: Sink, D: Desk>(
             Ok(None) => return Ok(AfterStep::Goes),
             Err(fault) => return Err(fault),
         };
-        match attend(alloc, own, input, engine, writer, side, desk) {
-            Ok(AfterStep::Goes) => {}
-            Ok(AfterStep::Ends) => return Ok(AfterStep::Ends),
-            Ok(AfterStep::Fatal) => return Ok(AfterStep::Fatal),
-            Ok(AfterStep::Malformed) => return Ok(AfterStep::Malformed),
-            Err(fault) => return Err(fault),
+        let heard = attend(alloc, own, input, engine, writer, side, desk);
+        if !goes_on(heard) {
+            return heard;
         }
     }
 }
 
 /// One read, and what is gone through for it.
-fn take_turn<E: Handler, R: Source, W: Sink, S: Sink, D: Desk>(
+fn take_turn<R: Source, W: Sink, S: Sink, D: Desk>(
     alloc: Global,
     own: Channel,
     reader: &mut R,
     decoder: &mut Decoder,
-    engine: &mut E,
+    engine: &mut Engine,
     writer: &mut W,
     side: &mut S,
     desk: &mut D,
 ) -> Result<Next, ServeFault>
     requires { Waits decoder.old.pending.bytes }
-    ensures turn { TakesServerTurn (voice E.protocol D.passes own) decoder.old.pending decoder.new.pending
+    ensures turn { TakesServerTurn (voice engine_protocol D.passes own) decoder.old.pending decoder.new.pending
         (course (point engine.old desk.old (W.contents writer.old) (S.contents side.old)) (R.remaining reader.old)
         (R.pauses reader.old))
         (course (point engine.new desk.new (W.contents writer.new) (S.contents side.new)) (R.remaining reader.new)
@@ -143,18 +139,19 @@ fn take_turn<E: Handler, R: Source, W: Sink, S: Sink, D: Desk>(
     }
 }
 
-/// Takes so many turns at most.
-fn run<E: Handler, R: Source, W: Sink, S: Sink, D: Desk>(
+/// Takes so many turns at most. `own` says which channel it is: its messages go to the writer, those of the other one
+/// to the side writer.
+pub fn run<R: Source, W: Sink, S: Sink, D: Desk>(
     alloc: Global,
     own: Channel,
-    engine: &mut E,
+    engine: &mut Engine,
     reader: &mut R,
     writer: &mut W,
     side: &mut S,
     desk: &mut D,
     turns: u64,
 ) -> Result<(), ServeFault>
-    ensures runs { RunsChannel (voice E.protocol D.passes own) turns
+    ensures runs { RunsChannel (voice engine_protocol D.passes own) turns
         (course (point engine.old desk.old (W.contents writer.old) (S.contents side.old)) (R.remaining reader.old)
         (R.pauses reader.old))
         (course (point engine.new desk.new (W.contents writer.new) (S.contents side.new)) (R.remaining reader.new)
@@ -174,39 +171,4 @@ fn run<E: Handler, R: Source, W: Sink, S: Sink, D: Desk>(
         }
     }
     Err(ServeFault::ReadBound)
-}
-
-/// Leaves the session that was joined.
-fn leave<D: Desk>(sid: Option<Sid>, desk: &mut D)
-    ensures { LeavesSession D.passes sid desk.old desk.new }
-{
-    if let Some(sid) = sid {
-        drop(desk.ask(SessionAsk::Leave(sid)));
-    }
-}
-
-/// Serves one channel for so many turns at most, and leaves its session then. `own` says which channel it is: its
-/// messages go to the writer, those of the other one to the side writer.
-pub fn serve_for<E: Handler, R: Source, W: Sink, S: Sink, D: Desk>(
-    alloc: Global,
-    own: Channel,
-    engine: &mut E,
-    reader: &mut R,
-    writer: &mut W,
-    side: &mut S,
-    desk: &mut D,
-    turns: u64,
-) -> Result<(), ServeFault>
-    ensures serves { ServesAndLeaves (voice E.protocol D.passes own) turns
-        (course (point engine.old desk.old (W.contents writer.old) (S.contents side.old)) (R.remaining reader.old)
-        (R.pauses reader.old))
-        (course (point engine.new desk.new (W.contents writer.new) (S.contents side.new)) (R.remaining reader.new)
-        (R.pauses reader.new))
-        result }
-    ensures read { result ≡ Err ServeFault.Read → CameTo R.failed reader.new }
-    ensures write { result ≡ Err ServeFault.Write → CameTo W.failed writer.new ⊎ CameTo S.failed side.new }
-{
-    let result = run(alloc, own, engine, reader, writer, side, desk, turns);
-    leave(engine.session(), desk);
-    result
 }

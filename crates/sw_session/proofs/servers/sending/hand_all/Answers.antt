@@ -17,5 +17,5 @@ returns-in-Err-hand_over-clause-hands g c =
 
 pub loop-sent-preserved : goal.loop-sent-preserved
 loop-sent-preserved g c =
-    handing-on _ _ _ _ _ _ _ _ (gives-one _ _ c.next.result c.in-Ok-Some.sent (search rules) c.next.ensures.gives) c.loop-sent.invariant c.hand_over.ensures.notes c.in-Ok-hand_over.ensures.main
-    c.in-Ok-hand_over.ensures.side
+    handing-on _ _ _ _ _ _ _ _ (gives-one _ _ c.next.result c.in-Ok-Some.sent (search rules) c.next.ensures.gives) c.loop-sent.invariant
+    c.hand_over.ensures.notes c.in-Ok-hand_over.ensures.main c.in-Ok-hand_over.ensures.side
