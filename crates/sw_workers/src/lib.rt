@@ -29,6 +29,7 @@
 #![tactic(auto)]
 
 mod ahead;
+mod available;
 mod board;
 mod closing;
 mod connection;
@@ -50,6 +51,7 @@ mod shared;
 mod sides;
 mod slots;
 mod telling;
+mod tried;
 mod waking;
 mod watched;
 mod workers;

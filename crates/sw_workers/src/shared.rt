@@ -14,6 +14,7 @@ ghost use Rattle.sw_workers.specs.Waits.{outcome_of};
 ghost use Rattle.sw_workers.specs.Work.{AsksOnce, ReadsStatus};
 ghost use Rattle.sw_workers.specs.declared.shared.Woken.TheVariants.{Closing};
 
+use crate::available::AvailableRows;
 use crate::board::{BlankBoard, StatusBoard};
 use crate::closing::{Closed, take_cards};
 use crate::gate::Gate;
@@ -23,13 +24,15 @@ use crate::posts::{Posted, Posts, work_posts};
 use crate::recorded::Recorded;
 use crate::sides::{Place, Sides};
 use crate::slots::SeatSlots;
+use crate::tried::lock_soon;
+use crossbeam_utils::CachePadded;
 use std::alloc::{AllocError, Global};
 use std::sync::ledger::{Blank, Share};
 use std::sync::{Arc, Condvar, Mutex, Wait};
 use std::time::{Clock, Duration};
 use sw_card::{Card, Meter, Relay};
 use sw_core::{Answer, Ask, Core, Sid, Work, runs_go_on};
-use sw_session::{Available, Seating, View, seating_of};
+use sw_session::{Seating, View, seating_of};
 
 /// The parts of a ledger.
 const PARTS: u64 = (1 << 33) + 1;
@@ -94,13 +97,14 @@ pub fn seating_in<R: Relay, M: Meter>(ask: &Ask<R, M>) -> Seating {
 /// What all threads share.
 #[derive(Drop)]
 pub struct Shared<H: House, R: Relay, M: Meter, G: Gate + Drop> {
-    held: Mutex<Held<H, R, M>>,
+    /// On cache lines of its own: what is beside it is read by threads that don't have the lock.
+    held: CachePadded<Mutex<Held<H, R, M>>>,
     /// Something happened, so that what was held may be asked again.
     happened: Condvar,
     board: Arc<StatusBoard<H>, Global>,
     slots: SeatSlots<H>,
     posts: Mutex<Option<Posts<M>>>,
-    available: Mutex<Available>,
+    available: AvailableRows,
     sides: Arc<Sides, Global>,
     gate: G,
 }
@@ -127,12 +131,12 @@ impl<H: House, R: Relay, M: Meter, G: Gate + Drop> Shared<H, R, M, G> {
         let (posts, posted) = work_posts(alloc)?;
         let sides = Arc::new(alloc, Sides::new(alloc)?)?;
         let shared = Shared {
-            held: Mutex::new(held),
+            held: CachePadded::new(Mutex::new(held)),
             happened: Condvar::new(),
             board,
             slots: SeatSlots::new(alloc)?,
             posts: Mutex::new(Some(posts)),
-            available: Mutex::new(Available::new()),
+            available: AvailableRows::new(alloc)?,
             sides,
             gate,
         };
@@ -168,7 +172,7 @@ impl<H: House, R: Relay, M: Meter, G: Gate + Drop> Shared<H, R, M, G> {
         ensures { AsksOnce H.first (ask_seen ask) (answer_seen result.0) part.old part.new }
     {
         let seating = seating_in(&ask);
-        let mut guard = self.held.lock(rt);
+        let mut guard = lock_soon(&self.held, rt);
         let before = guard.turn();
         let answer = guard.act(part, ask);
         self.follow(rt, seating, &answer);
@@ -186,7 +190,7 @@ impl<H: House, R: Relay, M: Meter, G: Gate + Drop> Shared<H, R, M, G> {
             return;
         }
         if let Answer::Session(answer, _) = answer {
-            self.available.lock(rt).follow(seating, answer);
+            self.available.follow(rt, seating, answer);
         }
     }
 
@@ -228,7 +232,7 @@ impl<H: House, R: Relay, M: Meter, G: Gate + Drop> Shared<H, R, M, G> {
         ensures { ReadsStatus H.first result part.old part.new }
     {
         let (byte, requests) = part.poll(rt, sid.number, &self.board, &self.slots);
-        let mav = self.available.lock(rt).has(sid);
+        let mav = self.available.has(rt, sid);
         View {
             byte,
             requests,
@@ -238,7 +242,7 @@ impl<H: House, R: Relay, M: Meter, G: Gate + Drop> Shared<H, R, M, G> {
 
     /// Notes whether a message is available for a session.
     pub fn note<W: Wait>(&self, rt: &W, sid: Sid, mav: bool) {
-        self.available.lock(rt).note(sid, mav);
+        self.available.note(rt, sid, mav);
     }
 
     /// The notes of the last 64 events, the oldest first.
