@@ -13,8 +13,8 @@ use Rattle.mainframe.specs.Run.{RunState, Line, AnsweredFrom, EndsFrom}
 use Rattle.mainframe.specs.Turns.{Gathers, Spends, Stand, Streams, ReadsOn, TakesTurns, AsksInTurn, AnswersAtHand, StopsWith, StopsAtHand, FailsAfter}
 use Rattle.mainframe.specs.Turns.{IsUnasked, IsInVain, IsOfReading, stand}
 use Rattle.mainframe.proofs.TurnLemmas.{unasked-none, takes-append, takes-push, turn, keeps-same, shown-kept, drops-kept}
-use Rattle.mainframe.proofs.Runs.{Progress, ProgressTo, progress-turns, progress-keeps, progress-end, progress-cut, progress-part, progress-all, ends-cut}
-use Rattle.mainframe.proofs.Runs.{cuts-none}
+use Rattle.mainframe.proofs.RunsLemmas.{Progress, ProgressTo, progress-turns, progress-keeps, progress-end, progress-cut, progress-part, progress-all, ends-cut}
+use Rattle.mainframe.proofs.RunsLemmas.{cuts-none}
 
 -- lines in turn, from one stand to another
 pub record ComesTo {S W : Type 0} (known : Streams S W) (sid : Sid) (a b : Stand S W) : Type 0 where

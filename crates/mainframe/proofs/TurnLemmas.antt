@@ -9,8 +9,8 @@ use Rattle.sw_session.specs.ServeWrite.{WritesPart}
 use Rattle.sw_base.specs.Limits.{most_kept}
 use Rattle.mainframe.specs.Run.{RunState, Line}
 use Rattle.mainframe.specs.Turns.{AsksWith, Spends, Gathers, IsUnasked, Stand, Streams, ReadsOn, TakesTurn, TakesTurns}
-use Rattle.mainframe.proofs.Kept.{line_whole}
-use Rattle.mainframe.proofs.Known.{appends-nothing, appends-more}
+use Rattle.mainframe.proofs.KeptLemmas.{line_whole}
+use Rattle.mainframe.proofs.KnownLemmas.{appends-nothing, appends-more}
 
 asks-push : {S W : Type 0} (asked : S → W → S → Type 0) (a b c : S) (w : W) (n : ℕ) → AsksWith asked a w n b → asked b w c → AsksWith asked a w (suc n) c
 asks-push asked a b c w zero same one = (c, subst (λ x. asked x w c) same one, refl)

@@ -1,12 +1,12 @@
 -- The program's cards by their own accounts.
 use Rattle.std.specs.Prelude.{None, false, replicate, List, [], ◌∷◌}
 use Rattle.sw_card.specs.Account.{Account, MeterAccount, relay_account, of_meter}
-use Rattle.sw_serve.specs.Offers.{Offered, offered}
+use Rattle.sw_serve.specs.SlotCards.{PlacedCard, placed}
 
 -- four cards, of which the first is offered to slot 1, and so on
-abbrev pub in_slots : Account → Account → Account → Account → List Offered
+abbrev pub in_slots : Account → Account → Account → Account → List PlacedCard
 in_slots first second third fourth =
-    offered 1 first ∷ offered 2 second ∷ offered 3 third ∷ offered 4 fourth ∷ []
+    placed 1 first ∷ placed 2 second ∷ placed 3 third ∷ placed 4 fourth ∷ []
 
 -- a multiplexer of 20 channels in group 1, all open
 unfoldable pub first_card : Account
@@ -24,5 +24,5 @@ third_card = relay_account 3 0 (replicate 10 1) (replicate 10 false)
 unfoldable pub meter_card : MeterAccount
 meter_card = record { serial = 4; failures = 0; last = None }
 
-abbrev pub program_cards : List Offered
+abbrev pub program_cards : List PlacedCard
 program_cards = in_slots first_card second_card third_card (of_meter meter_card)

@@ -4,7 +4,7 @@ use Rattle.sw_core.specs.declared.ask.Sid.{Sid}
 use Rattle.sw_core.specs.Panel.{Panel}
 use Rattle.sw_session.specs.Law.{AllAmple, AllSmooth, carried_in, waits_of, carried_at_rest}
 use Rattle.sw_session.specs.Law.{Outcome, outcomes_in_talk, outcomes_at_rest}
-use Rattle.sw_serve.specs.Offers.{Offered, IsSetUp}
+use Rattle.sw_serve.specs.SlotCards.{PlacedCard, IsSetUp}
 use Rattle.mainframe.specs.Run.{RunState, begins_over, Line, Run, RunsTo}
 
 -- no growth was refused in the talk about one line and in the rest after it
@@ -32,7 +32,7 @@ outcomes_in_run sid s (l ∷ ls) bytes s' run =
 -- which calls of cards fail: for each call of the mainframe whether a card failed in it, and if so, how often each card
 -- has failed after it.
 abbrev pub RunIsDetermined : Type 0
-RunIsDetermined = (cards : List Offered) (sid sid' : Sid) (start start' : Panel) (input bytes bytes' : List ℕ)
+RunIsDetermined = (cards : List PlacedCard) (sid sid' : Sid) (start start' : Panel) (input bytes bytes' : List ℕ)
     → IsSetUp cards sid start → IsSetUp cards sid' start'
     → (r : RunsTo sid (begins_over start) input [] bytes) (r' : RunsTo sid' (begins_over start') input [] bytes')
     → IsPlainRun sid (begins_over start) r.done bytes r.after r.run

@@ -10,7 +10,7 @@ use Rattle.sw_session.specs.Talk.{state, Talked}
 use Rattle.sw_session.specs.Talk.{TalkState as StateOver}
 use Rattle.mainframe.specs.declared.fault.RunFault.{RunFault}
 use Rattle.mainframe.specs.declared.fault.RunFault.TheVariants.{Input, Output, Memory, Listen}
-use Rattle.sw_serve.specs.Offers.{Offered, IsSetUp}
+use Rattle.sw_serve.specs.SlotCards.{PlacedCard, IsSetUp}
 use Rattle.mainframe.specs.Lines.{lines_of}
 use Rattle.sw_session.specs.ServeWrite.{WritesPart}
 
@@ -72,18 +72,19 @@ EndsFrom sid start Output input left old new = PartFrom sid start input left old
 EndsFrom sid start Listen input left old new = ⊥
 
 -- The whole input is answered by a mainframe of these cards.
-pub record Answered (cards : List Offered) (input : List ℕ) (old new : Option (List ℕ)) : Type 0 where
+pub record Answered (cards : List PlacedCard) (input : List ℕ) (old new : Option (List ℕ)) : Type 0 where
   pub sid : Sid
   pub start : Panel
   pub set_up : IsSetUp cards sid start
   pub answered : AnsweredFrom sid (begins_over start) input [] old new
 
 -- The input is answered up to a fault by a mainframe of these cards.
-pub record Cut (cards : List Offered) (fault : RunFault) (input : List ℕ) (left old new : Option (List ℕ)) : Type 0 where
-  pub sid : Sid
-  pub start : Panel
-  pub set_up : IsSetUp cards sid start
-  pub ends : EndsFrom sid (begins_over start) fault input left old new
+pub record Cut (cards : List PlacedCard) (fault : RunFault) (input : List ℕ) (left old new : Option (List ℕ)) : Type 0
+  where
+    pub sid : Sid
+    pub start : Panel
+    pub set_up : IsSetUp cards sid start
+    pub ends : EndsFrom sid (begins_over start) fault input left old new
 
 -- there was no memory to begin: nothing was read, and nothing written
 pub record Unbegun (fault : RunFault) (input : List ℕ) (left old new : Option (List ℕ)) : Type 0 where
@@ -93,7 +94,7 @@ pub record Unbegun (fault : RunFault) (input : List ℕ) (left old new : Option 
 
 -- What a run comes to by a mainframe of these cards. At Ok all of the input was read and answered. At a fault either
 -- nothing was begun, or the answers are written up to the fault.
-pub record Runs (cards : List Offered) (result : Result (Unit {0}) RunFault) (input : List ℕ)
+pub record Runs (cards : List PlacedCard) (result : Result (Unit {0}) RunFault) (input : List ℕ)
     (left old new : Option (List ℕ)) : Type 0 where
   pub answered : OnOk result (Answered cards input old new)
   pub all : OnOk result (IsAtEnd left)

@@ -1,13 +1,13 @@
 //! The program's cards: simulated ones.
 
 ghost use Rattle.std.specs.Prelude.{◌≡◌, IfOk};
-ghost use Rattle.sw_serve.specs.Offers.{offers_seen, relay_seen, meter_seen};
+ghost use Rattle.sw_serve.specs.SlotCards.{cards_seen, relay_seen, meter_seen};
 ghost use Rattle.mainframe.specs.Cards.{first_card, second_card, third_card, meter_card, in_slots};
 
 use std::alloc::{AllocError, Global};
 use sw_card::{Meter, Relay};
 use sw_kinds::{Fuse, Matrix, Mux, SimDriver, SimSource, Volt};
-use sw_serve::Offer;
+use sw_serve::SlotCard;
 
 /// Slot 1: a multiplexer of 20 channels in group 1, of which the closing that `fuse` counts from 1 fails.
 #[tactic(auto, unfolding(crate::specs::Cards::first_card))]
@@ -41,25 +41,25 @@ pub fn meter_card() -> Volt<SimSource>
     Volt::new(4, SimSource::new(1_000_000_000, 1))
 }
 
-/// Offers of these cards: the first to slot 1, and so on.
+/// These cards for their slots: the first for slot 1, and so on.
 pub fn in_slots<R: Relay, M: Meter>(
     alloc: Global,
     first: R,
     second: R,
     third: R,
     meter: M,
-) -> Result<Vec<Offer<R, M>>, AllocError>
-    ensures { IfOk result (λ offers. offers_seen (relay_seen R.the_serial R.failed R.groups R.closed)
-        (meter_seen M.the_serial M.failed M.last_reading) offers.items ≡ in_slots
+) -> Result<Vec<SlotCard<R, M>>, AllocError>
+    ensures { IfOk result (λ cards. cards_seen (relay_seen R.the_serial R.failed R.groups R.closed)
+        (meter_seen M.the_serial M.failed M.last_reading) cards.items ≡ in_slots
         (relay_seen R.the_serial R.failed R.groups R.closed first)
         (relay_seen R.the_serial R.failed R.groups R.closed second)
         (relay_seen R.the_serial R.failed R.groups R.closed third)
         (meter_seen M.the_serial M.failed M.last_reading meter)) }
 {
-    let mut offers = Vec::new(alloc);
-    offers.push(Offer::relays(1, first))?;
-    offers.push(Offer::relays(2, second))?;
-    offers.push(Offer::relays(3, third))?;
-    offers.push(Offer::meter(4, meter))?;
-    Ok(offers)
+    let mut cards = Vec::new(alloc);
+    cards.push(SlotCard::relays(1, first))?;
+    cards.push(SlotCard::relays(2, second))?;
+    cards.push(SlotCard::relays(3, third))?;
+    cards.push(SlotCard::meter(4, meter))?;
+    Ok(cards)
 }

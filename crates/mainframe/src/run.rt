@@ -2,7 +2,7 @@
 
 ghost use Rattle.std.specs.Prelude.{◌≡◌, ◌⊎◌, ℕ, OnOk, IfSome, IfErr, []};
 ghost use Rattle.std.specs.Io.KnownBytes.{IsAtEnd};
-ghost use Rattle.sw_serve.specs.Offers.{offers_seen, relay_seen, meter_seen};
+ghost use Rattle.sw_serve.specs.SlotCards.{cards_seen, relay_seen, meter_seen};
 ghost use Rattle.mainframe.specs.Cards.{program_cards};
 ghost use Rattle.sw_macro.specs.Table.{no_macros};
 ghost use Rattle.mainframe.specs.Turns.{AsksInTurn, AnswersAtHand, StopsAtHand, FailsAfter, IsInVain, stand, streams};
@@ -17,7 +17,7 @@ use std::alloc::Global;
 use std::io::{BufRead, Write};
 use sw_card::{Meter, Relay};
 use sw_core::Sid;
-use sw_serve::{Offer, desk_for_one};
+use sw_serve::{SlotCard, desk_for_one};
 use sw_session::{CoreDesk, TURNS, Talker};
 
 /// Answers each line of the reader as a program message, by the program's cards: a multiplexer of 20 channels in group
@@ -39,8 +39,8 @@ pub fn run_lines<Rd: BufRead, W: Write>(
     let second: Box<dyn Relay + Send> = Box::new(alloc, second_card())?;
     let third: Box<dyn Relay + Send> = Box::new(alloc, third_card())?;
     let meter: Box<dyn Meter + Send> = Box::new(alloc, meter_card())?;
-    let offers = in_slots(alloc, first, second, third, meter)?;
-    run_over(alloc, reader, writer, offers)
+    let cards = in_slots(alloc, first, second, third, meter)?;
+    run_over(alloc, reader, writer, cards)
 }
 
 /// Answers each line of the source as a program message, by a mainframe that takes these cards. The program's are never
@@ -49,14 +49,14 @@ fn run_over<R: Relay, M: Meter, S: Source<W>, W: Write>(
     alloc: Global,
     source: &mut S,
     writer: &mut W,
-    offers: Vec<Offer<R, M>>,
+    cards: Vec<SlotCard<R, M>>,
 ) -> Result<(), RunFault>
-    ensures { IfSome (S.remaining source.old) (λ input. Runs (offers_seen
+    ensures { IfSome (S.remaining source.old) (λ input. Runs (cards_seen
         (relay_seen R.the_serial R.failed R.groups R.closed)
-        (meter_seen M.the_serial M.failed M.last_reading) offers.items)
+        (meter_seen M.the_serial M.failed M.last_reading) cards.items)
         result input (S.remaining source.new) (W.contents writer.old) (W.contents writer.new)) }
 {
-    match desk_for_one(alloc, offers) {
+    match desk_for_one(alloc, cards) {
         Ok((desk, sid)) => {
             let mut desk = desk;
             run_on(alloc, source, writer, &mut desk, sid)

@@ -10,7 +10,7 @@ use std::sync::Wait;
 use std::thread::Threads;
 use std::time::Clock;
 use sw_card::{Meter, Relay};
-use sw_serve::{Log, Offer, Port, serve_cards, tell_failures};
+use sw_serve::{Log, Port, SlotCard, serve_cards, tell_failures};
 
 /// Takes so many connections, or fewer where the port ends, each served by a thread of its own over the program's
 /// cards, and then closes down. A call of a card that fails is told to the log.
@@ -27,8 +27,8 @@ pub fn serve_on<
     let second: Box<dyn Relay + Send> = Box::new(alloc, second_card())?;
     let third: Box<dyn Relay + Send> = Box::new(alloc, third_card())?;
     let meter: Box<dyn Meter + Send> = Box::new(alloc, meter_card())?;
-    let offers = in_slots(alloc, first, second, third, meter)?;
-    serve_by(rt, alloc, port, limit, offers, log)
+    let cards = in_slots(alloc, first, second, third, meter)?;
+    serve_by(rt, alloc, port, limit, cards, log)
 }
 
 /// The same by these cards, which end with it. The program's are never refused (`cards_are_welcome`), so where it fails
@@ -44,15 +44,15 @@ fn serve_by<
     alloc: Global,
     port: &mut P,
     limit: u32,
-    offers: Vec<Offer<R, M>>,
+    cards: Vec<SlotCard<R, M>>,
     log: L,
 ) -> Result<(), RunFault>
     requires { P.taken port.old + limit < 2 ^ 32 }
     ensures memory { IfErr result (λ fault. fault ≡ RunFault.Memory) }
     ensures taken { OnOk result (TakesUpTo limit (P.taken port.old) (P.taken port.new) (P.ended port.new)) }
 {
-    let offers = tell_failures(alloc, offers, log)?;
-    match serve_cards(rt, alloc, port, limit, offers) {
+    let cards = tell_failures(alloc, cards, log)?;
+    match serve_cards(rt, alloc, port, limit, cards) {
         Ok(closed) => {
             drop(closed);
             Ok(())

@@ -9,7 +9,7 @@ use std::sync::Wait;
 use std::thread::Threads;
 use std::time::Clock;
 use sw_card::{Meter, Relay};
-use sw_serve::{Door, Offer, Silent, desk_for_one, serve_cards};
+use sw_serve::{Door, Silent, SlotCard, desk_for_one, serve_cards};
 use sw_session::Talker;
 
 /// Answers each line of the reader, unless the mainframe refuses a card.
@@ -17,7 +17,7 @@ pub fn answer<R: Relay, M: Meter, I: BufRead, O: Write>(
     alloc: Global,
     reader: &mut I,
     writer: &mut O,
-    cards: Vec<Offer<R, M>>,
+    cards: Vec<SlotCard<R, M>>,
 ) -> Result<(), Fault> {
     let (mut desk, session) = desk_for_one(alloc, cards)?;
     let mut talker = Talker::new(alloc, session);
@@ -48,7 +48,7 @@ pub fn serve<
     R: Relay + Send + 'static,
     M: Meter + Send + 'static,
     I: Read + AsRawFd + Drop,
->(rt: W, alloc: Global, port: u16, input: I, cards: Vec<Offer<R, M>>) -> Result<(), Fault> {
+>(rt: W, alloc: Global, port: u16, input: I, cards: Vec<SlotCard<R, M>>) -> Result<(), Fault> {
     let listener = TcpListener::bind(&rt, (Ipv4Addr::LOCALHOST, port))?;
     let mut door = Door::new(rt, alloc, &listener, Some(input), Silent);
     let closed = serve_cards(rt, alloc, &mut door, u32::MAX, cards)?;

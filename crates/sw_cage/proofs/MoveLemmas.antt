@@ -1,5 +1,6 @@
 -- A scan's moves, by the calls on the cards that make them.
-use Rattle.std.proofs.Common.{◌≡◌, ℕ, ◌==◌, ◌||◌, ◌&&◌, not, Bool, true, false, List, [], ◌∷◌, ◌++◌, Option, None, Some, refl, sym, ◌∙◌, ap, subst, arith, ◌+◌, ◌<◌, length, drop}
+use Rattle.std.proofs.Common.{◌≡◌, ℕ, ◌==◌, ◌||◌, ◌&&◌, not, Bool, true, false, List, [], ◌∷◌, ◌++◌, Option, None, Some, refl, sym, ◌∙◌, ap, subst, arith, ◌+◌}
+use Rattle.std.proofs.Common.{◌<◌, length, drop}
 use Rattle.std.specs.Prelude.{slice_index_or}
 use Rattle.std.proofs.Common.{if◌then◌else◌, Result, Ok, Err, OnErr}
 use mathlib.Core.Path.{fun_ext}
@@ -68,7 +69,8 @@ closes_first old p k = record { same = refl; can = k; ends = refl }
 pub opens_first : (old : Accounts) (p : Position) → CanOpenEach (is_closed old) p → OpensOn old p p old
 opens_first old p k = record { same = refl; can = k; ends = refl }
 
-pub closes_next : (old now new : Accounts) (p rest : Position) (c : Channel) → ClosesOn old p (c ∷ rest) now → Sets now (c ∷ []) true new → ClosesOn old p rest new
+pub closes_next : (old now new : Accounts) (p rest : Position) (c : Channel) → ClosesOn old p (c ∷ rest) now → Sets now (c ∷ []) true new → ClosesOn old p rest
+    new
 closes_next old now new p rest c g s =
     let closed = set_close now new c s in
     record {
@@ -78,7 +80,8 @@ closes_next old now new p rest c g s =
       ends = ap (with_each rest) closed ∙ g.ends;
     }
 
-pub opens_next : (old now new : Accounts) (p rest : Position) (c : Channel) → OpensOn old p (c ∷ rest) now → Sets now (c ∷ []) false new → OpensOn old p rest new
+pub opens_next : (old now new : Accounts) (p rest : Position) (c : Channel) → OpensOn old p (c ∷ rest) now → Sets now (c ∷ []) false new → OpensOn old p rest
+    new
 opens_next old now new p rest c g s =
     let closed = set_open now new c s in
     record { same = s.rest ∙ g.same; can = subst (λ (b : Channels). CanOpenEach b rest) (sym closed) g.can.1; ends = ap (without_each rest) closed ∙ g.ends }

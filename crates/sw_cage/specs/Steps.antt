@@ -58,7 +58,8 @@ pub record Way : Type 0 where
 abbrev pub way_of : Moves → Place → Way
 way_of moves at = record { moves = moves; at = at }
 
--- of these items the first may be an opening, of this position, and the rest, which are visits, are done from the place on
+-- of these items the first may be an opening, of this position, and the rest, which are visits, are done from the place
+-- on
 pub record Opens (code : List Step) (items : List Item) (opened : Option Position) (at : Place) : Type 0 where
   pub rest : List Item
   pub split : items ≡ opens_of opened ++ rest

@@ -48,7 +48,7 @@ pub data Effect : Type 1 where
   -- it resets the mainframe
   Resets : Effect
   -- it is offered to the scan; where no scan takes it, it is refused by this error
-  Offers : (happening : Happening) → (error : ScpiError) → Effect
+  Triggers : (happening : Happening) → (error : ScpiError) → Effect
   -- it is refused by this error
   RefusesWith : (error : ScpiError) → Effect
   -- A session's own: macros, and the beginning of a scan. The mainframe is asked neither as a command, and refuses it
@@ -91,10 +91,10 @@ abbrev pub with_timer : LayerName → ℕ → SettingsSeen → SettingsSeen
 with_timer layer micros s = with_layer s layer (record (layer_of s layer) { timer_us = micros })
 
 -- whether a command is offered to the scan (SCPI-1999, 24; IEEE 488.2, 10.37)
-abbrev pub is_offered : Command → Bool
-is_offered Command.Trigger = true
-is_offered (Command.Signal layer) = true
-is_offered command = false
+abbrev pub is_trigger : Command → Bool
+is_trigger Command.Trigger = true
+is_trigger (Command.Signal layer) = true
+is_trigger command = false
 
 -- whether a command waits for the end of the scan (IEEE 488.2, 12.5.2 and 12.5.3)
 abbrev pub awaits_end : Command → Bool
@@ -119,7 +119,7 @@ action_of available Command.OperationComplete = AtOnce (Changes (λ p. record p 
 action_of available Command.OperationCompleteQuery = AfterScan (TellsNumber (λ p. 1))
 action_of available Command.Wait = AfterScan (Changes (λ p. p))
 action_of available Command.SelfTestQuery = AtOnce (TellsNumber (λ p. 0))
-action_of available Command.Trigger = AtOnce (Offers Bus TriggerIgnored)
+action_of available Command.Trigger = AtOnce (Triggers Bus TriggerIgnored)
 action_of available (Command.DefineMacro label body) = AtOnce IsOfMacros
 action_of available (Command.MacroQuery label) = AtOnce IsOfMacros
 action_of available Command.MacroLabelsQuery = AtOnce IsOfMacros
@@ -145,8 +145,8 @@ action_of available (Command.DelayQuery layer) = AtOnce (TellsText (λ p. fixed 
 action_of available (Command.Timer layer micros) =
     BetweenScans (SetsUp ((1 ≤ micros) × (micros ≤ longest_delay)) DataOutOfRange (with_timer layer micros))
 action_of available (Command.TimerQuery layer) = AtOnce (TellsText (λ p. fixed 6 (layer_of p.settings layer).timer_us))
-action_of available (Command.Signal layer_name.Trigger) = AtOnce (Offers (Signal layer_name.Trigger) TriggerIgnored)
-action_of available (Command.Signal (layer_name.Arm arm)) = AtOnce (Offers (Signal (layer_name.Arm arm)) ArmIgnored)
+action_of available (Command.Signal layer_name.Trigger) = AtOnce (Triggers (Signal layer_name.Trigger) TriggerIgnored)
+action_of available (Command.Signal (layer_name.Arm arm)) = AtOnce (Triggers (Signal (layer_name.Arm arm)) ArmIgnored)
 action_of available (Command.Close chans) = BetweenScans (ClosesListed chans)
 action_of available (Command.CloseQuery chans) = AtOnce (TellsRelays true chans)
 action_of available Command.CloseState = AtOnce (TellsText (λ p. printed (closed_list p.cage.cards)))

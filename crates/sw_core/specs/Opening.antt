@@ -9,9 +9,9 @@ use Rattle.sw_core.specs.Run.{Event, IsNextEvent, IsRun, AtEach, IsGoodEvent}
 use Rattle.sw_core.specs.Ends.{last_of, BeginsScan, ScanEnds}
 
 -- a card is offered to a slot
-abbrev pub is_offer : AskSeen → Bool
-is_offer (AskInstall slot card) = true
-is_offer ask = false
+abbrev pub is_install : AskSeen → Bool
+is_install (AskInstall slot card) = true
+is_install ask = false
 
 -- A run from the opening state, whatever numbers of events and scans that began with, has led here.
 pub record IsReached (p : Panel) : Type 0 where
@@ -25,17 +25,17 @@ pub record IsReached (p : Panel) : Type 0 where
 pub record IsFresh (p : Panel) : Type 0 where
   pub numbered : ℕ
   pub scanned : ℕ
-  pub offers : List Event
-  pub only : AllByRecursion (λ e. is_offer e.ask ≡ true) offers
-  pub run : IsRun (opening_at numbered scanned) offers
-  pub there : p ≡ last_of (opening_at numbered scanned) offers
+  pub installs : List Event
+  pub only : AllByRecursion (λ e. is_install e.ask ≡ true) installs
+  pub run : IsRun (opening_at numbered scanned) installs
+  pub there : p ≡ last_of (opening_at numbered scanned) installs
 
 -- What is handed on by whoever makes a mainframe, fits it with cards and asks of it. So the laws over runs from the
 -- opening state speak of each run from a state that was so handed on.
 pub record RunsGoOn : Type 0 where
   -- it is fresh as it is made, and after each card that is offered then
   pub made : (events scans : ℕ) → IsFresh (opening_at events scans)
-  pub offered : (p : Panel) (e : Event) → IsFresh p → is_offer e.ask ≡ true → IsNextEvent p e → IsFresh e.panel
+  pub installed : (p : Panel) (e : Event) → IsFresh p → is_install e.ask ≡ true → IsNextEvent p e → IsFresh e.panel
   -- one that is fresh is reached, and so is what an event or a run leads to from there
   pub fresh : (p : Panel) → IsFresh p → IsReached p
   pub next : (p : Panel) (e : Event) → IsReached p → IsNextEvent p e → IsReached e.panel

@@ -37,7 +37,7 @@ use Rattle.sw_core.specs.declared.ask.SessionAnswer.TheVariants.{Joined, Full, S
 use Rattle.sw_core.specs.declared.ask.SessionAnswer.TheVariants.{Worn}
 use Rattle.sw_core.specs.Action.{Effect, TellsNumber, TellsText, TellsReadings, ReadsOut, SetsStatus, SetsUp}
 use Rattle.sw_core.specs.Action.{ClosesListed, OpensListed, TellsRelays, Changes}
-use Rattle.sw_core.specs.Action.{Resets, Offers, RefusesWith, IsOfMacros, Initiates, Action, AtOnce, BetweenScans}
+use Rattle.sw_core.specs.Action.{Resets, Triggers, RefusesWith, IsOfMacros, Initiates, Action, AtOnce, BetweenScans}
 use Rattle.sw_core.specs.Action.{AfterScan, action_of, awaits_end, reset}
 use Rattle.sw_core.specs.Answers.{yes_or_no, as_asked}
 use Rattle.sw_core.specs.declared.ask.Sid.{Sid}
@@ -178,11 +178,11 @@ StepAlone Resets p f answer q = StepDone (reset p) f answer q
 StepAlone (RefusesWith error) p f answer q = StepRefused p error f answer q
 StepAlone IsOfMacros p f answer q = StepRefused p UndefinedHeader f answer q
 StepAlone Initiates p f answer q = StepRefused p UndefinedHeader f answer q
-StepAlone (Offers happening error) p f answer q = ⊥
+StepAlone (Triggers happening error) p f answer q = ⊥
 
 -- a command that is carried out
 abbrev pub StepEffect : Effect → Panel → Bool → SessionAnswer → Option WorkSeen → Panel → Type 0
-StepEffect (Offers happening error) p f answer work q = StepHappens p happening error f answer work q
+StepEffect (Triggers happening error) p f answer work q = StepHappens p happening error f answer work q
 StepEffect effect p f answer work q = StepAlone effect p f answer q × (work ≡ None)
 
 -- an ask that is held changes nothing

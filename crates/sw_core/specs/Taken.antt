@@ -12,7 +12,7 @@ use Rattle.sw_core.specs.declared.ask.SessionAnswer.TheVariants.{Done, Refused}
 use Rattle.sw_core.specs.Panel.{Panel}
 use Rattle.sw_core.specs.Seen.{AskSeen, AskSession, AskExternal, AskElapsed, AskFinished}
 use Rattle.sw_core.specs.Seen.{AnswerSeen, SaysSession, SaysTaken, SaysFailed}
-use Rattle.sw_core.specs.Action.{Effect, Offers, Action, AtOnce, BetweenScans, AfterScan, action_of, is_offered}
+use Rattle.sw_core.specs.Action.{Effect, Triggers, Action, AtOnce, BetweenScans, AfterScan, action_of, is_trigger}
 
 -- 1 for what is answered where the scan took it: done, or a card failed on the way
 abbrev pub went_on : SessionAnswer → ℕ
@@ -26,7 +26,7 @@ was_taken SaysFailed = 1
 was_taken answer = 0
 
 abbrev pub took_effect : Effect → SessionAnswer → ℕ
-took_effect (Offers happening error) answer = went_on answer
+took_effect (Triggers happening error) answer = went_on answer
 took_effect effect answer = 0
 
 abbrev pub took_command : Action → SessionAnswer → ℕ
@@ -46,7 +46,7 @@ took ask answer = 0
 
 -- what is offered to the scan: a trigger, the end of a pause, or a meter's return
 abbrev pub is_happening : AskSeen → Bool
-is_happening (AskSession (Ask.Unit sid unit available)) = is_offered unit
+is_happening (AskSession (Ask.Unit sid unit available)) = is_trigger unit
 is_happening (AskSession (Ask.Bus sid)) = true
 is_happening AskExternal = true
 is_happening (AskElapsed ticket) = true

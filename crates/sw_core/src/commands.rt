@@ -2,7 +2,7 @@
 
 ghost use Rattle.std.specs.Prelude.{◌≡◌, ◌&&◌, None, false};
 ghost use Rattle.sw_cage.specs.Change.{any_failed};
-ghost use Rattle.sw_core.specs.Action.{action_of, awaits_end, is_offered};
+ghost use Rattle.sw_core.specs.Action.{action_of, awaits_end, is_trigger};
 ghost use Rattle.sw_core.specs.Answers.{TakesSetting};
 ghost use Rattle.sw_core.specs.Panel.{is_running};
 ghost use Rattle.sw_core.specs.declared.ask.SessionAsk.{SessionAsk};
@@ -20,7 +20,7 @@ impl<R: Relay, M: Meter> Core<R, M> {
     /// Carries a command out that is offered to no scan and that nothing holds, or refuses it while a scan runs;
     /// `available` says whether its message has answered before, so that a message is available. A command that has no
     /// row here doesn't compile.
-    #[tactic(auto, using(crate::proofs::Calls::failed_same))]
+    #[tactic(auto, using(crate::proofs::CallsLemmas::failed_same))]
     #[inline(never)]
     pub(crate) fn command(
         &mut self,
@@ -28,7 +28,7 @@ impl<R: Relay, M: Meter> Core<R, M> {
         command: Command,
         available: bool,
     ) -> SessionAnswer
-        requires alone { is_offered command ≡ false }
+        requires alone { is_trigger command ≡ false }
         requires unheld { awaits_end command && is_running self.old ≡ false }
         ensures { (ask : SessionAsk) → StepAction (action_of available command) self.old ask
             (any_failed self.old.cage.cards self.new.cage.cards) result None self.new }

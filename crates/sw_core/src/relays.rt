@@ -21,7 +21,7 @@ use sw_channel::print_list;
 
 impl<R: Relay, M: Meter> Core<R, M> {
     /// Judges the whole list, and then closes one channel after another.
-    #[tactic(auto, using(crate::proofs::Calls::failed_same))]
+    #[tactic(auto, using(crate::proofs::CallsLemmas::failed_same))]
     #[inline(never)]
     pub(crate) fn close(&mut self, chans: &[Chan]) -> SessionAnswer
         requires idle { self.old.cage.scan ≡ None }
@@ -42,7 +42,7 @@ impl<R: Relay, M: Meter> Core<R, M> {
     }
 
     /// Opens one channel after another.
-    #[tactic(auto, using(crate::proofs::Calls::failed_same))]
+    #[tactic(auto, using(crate::proofs::CallsLemmas::failed_same))]
     #[inline(never)]
     pub(crate) fn open(&mut self, chans: &[Chan]) -> SessionAnswer
         requires idle { self.old.cage.scan ≡ None }
@@ -62,7 +62,7 @@ impl<R: Relay, M: Meter> Core<R, M> {
     }
 
     /// Opens every relay.
-    #[tactic(auto, using(crate::proofs::Calls::failed_open))]
+    #[tactic(auto, using(crate::proofs::CallsLemmas::failed_open))]
     #[inline(never)]
     pub(crate) fn open_everything(&mut self) -> SessionAnswer
         requires idle { self.old.cage.scan ≡ None }
@@ -74,7 +74,7 @@ impl<R: Relay, M: Meter> Core<R, M> {
     }
 
     /// Ends the scan, and opens every relay (SCPI-1999, 3).
-    #[tactic(auto, using(crate::proofs::Calls::failed_open))]
+    #[tactic(auto, using(crate::proofs::CallsLemmas::failed_open))]
     #[inline(never)]
     pub(crate) fn abort(&mut self) -> SessionAnswer
         ensures { StepDone (aborted self.old) (any_failed self.old.cage.cards self.new.cage.cards) result self.new }
@@ -85,7 +85,7 @@ impl<R: Relay, M: Meter> Core<R, M> {
 
     /// Ends the scan, opens every relay, drops the readings and a pending `*OPC`, and sets the settings to their reset
     /// values (IEEE 488.2, 10.32).
-    #[tactic(auto, using(crate::proofs::Calls::failed_open))]
+    #[tactic(auto, using(crate::proofs::CallsLemmas::failed_open))]
     #[inline(never)]
     pub(crate) fn reset(&mut self) -> SessionAnswer
         ensures { StepDone (reset self.old) (any_failed self.old.cage.cards self.new.cage.cards) result self.new }

@@ -110,7 +110,7 @@ impl<R: Relay, M: Meter> Core<R, M> {
     /// Offers a session's happening to the scan; where it isn't taken it is refused by this error. What the scan awaits
     /// now is left in `work`.
     #[inline(never)]
-    pub(crate) fn offer(
+    pub(crate) fn trigger(
         &mut self,
         happening: Happening,
         error: ScpiError,
@@ -134,7 +134,7 @@ impl<R: Relay, M: Meter> Core<R, M> {
             LayerName::Trigger => ScpiError::TriggerIgnored,
             LayerName::Arm(_) => ScpiError::ArmIgnored,
         };
-        self.offer(Happening::Signal(layer), error, work)
+        self.trigger(Happening::Signal(layer), error, work)
     }
 
     /// Offers a happening that is no session's to the scan.
@@ -170,7 +170,7 @@ impl<R: Relay, M: Meter> Core<R, M> {
     /// Takes a meter back: one event, as `finish` does it. What the scan awaits now is left in `work`; a meter that is
     /// not out here is let go.
     #[inline(always)]
-    #[tactic(auto, using(crate::proofs::Brought::returned_back))]
+    #[tactic(auto, using(crate::proofs::BroughtLemmas::returned_back))]
     pub fn come_back(&mut self, done: Finished<M>, work: &mut Option<Work<M>>)
         requires empty { work.old ≡ None }
         ensures { StepBrings self.old (AskFinished done.1) (work_seen work.new) self.new }
@@ -186,7 +186,7 @@ impl<R: Relay, M: Meter> Core<R, M> {
 
     /// Tells the scan that a pause is over: one event, as `apply` does it. What the scan awaits now is left in `work`.
     #[inline(always)]
-    #[tactic(auto, using(crate::proofs::Brought::elapsed_worn))]
+    #[tactic(auto, using(crate::proofs::BroughtLemmas::elapsed_worn))]
     pub fn elapse(&mut self, ticket: Ticket, work: &mut Option<Work<M>>)
         requires empty { work.old ≡ None }
         ensures { StepBrings self.old (AskElapsed ticket) (work_seen work.new) self.new }
@@ -200,7 +200,7 @@ impl<R: Relay, M: Meter> Core<R, M> {
 
     /// Ends an event that is no session's by what the cage told, and leaves what the scan awaits now in `work`.
     #[inline(always)]
-    #[tactic(auto, using(crate::proofs::Brought::concluded_fault, crate::proofs::Brought::concluded_else, crate::proofs::Brought::told_brings))]
+    #[tactic(auto, using(crate::proofs::BroughtLemmas::concluded_fault, crate::proofs::BroughtLemmas::concluded_else, crate::proofs::BroughtLemmas::told_brings))]
     fn conclude(&mut self, said: Taken<M>, work: &mut Option<Work<M>>)
         ensures ended { self.new ≡ concluded (outside_told (taken_seen said)) self.old }
         ensures brings { Brings (outside_told (taken_seen said)) (work_seen work.new) }
@@ -256,7 +256,7 @@ impl<R: Relay, M: Meter> Core<R, M> {
 
     /// Begins the scan of a plan, where what it was made of is so now. What it awaits now is left in `work`.
     #[inline(never)]
-    #[tactic(auto, using(crate::proofs::Happened::refused_start))]
+    #[tactic(auto, using(crate::proofs::HappenedLemmas::refused_start))]
     pub(crate) fn start(
         &mut self,
         alloc: Global,

@@ -101,7 +101,7 @@ impl<R: Relay, M: Meter> Core<R, M> {
     /// they are refused by -225 and change nothing. When 2^64 - 1 events were numbered, an ask is handed back, but for
     /// an abort, an eject and the return of a meter, which still act. A meter that returns tells what its own account
     /// does.
-    #[tactic(auto, using(crate::proofs::Numbered::worn_step, crate::proofs::Numbered::numbered_step, crate::proofs::Numbered::own_worn))]
+    #[tactic(auto, using(crate::proofs::NumberedLemmas::worn_step, crate::proofs::NumberedLemmas::numbered_step, crate::proofs::NumberedLemmas::own_worn))]
     pub fn apply(&mut self, alloc: Global, ask: Ask<R, M>) -> Answer<R, M>
         ensures step { Step self.old (ask_seen ask)
             (failed_in (ask_seen ask) (answer_seen result) self.old.cage.cards self.new.cage.cards)
@@ -183,7 +183,7 @@ impl<R: Relay, M: Meter> Core<R, M> {
     }
 
     /// Does whatever a session asks: one event, where it can be numbered.
-    #[tactic(auto, using(crate::proofs::Numbered::worn_step, crate::proofs::Numbered::numbered_step))]
+    #[tactic(auto, using(crate::proofs::NumberedLemmas::worn_step, crate::proofs::NumberedLemmas::numbered_step))]
     #[inline(never)]
     fn ask_any(
         &mut self,
@@ -227,7 +227,7 @@ impl<R: Relay, M: Meter> Core<R, M> {
     }
 
     /// Takes a meter back: one event, as `apply` does it.
-    #[tactic(auto, using(crate::proofs::Numbered::numbered_step))]
+    #[tactic(auto, using(crate::proofs::NumberedLemmas::numbered_step))]
     pub fn finish(&mut self, done: Finished<M>) -> Answer<R, M>
         ensures step { Step self.old (AskFinished done.1)
             (failed_in (AskFinished done.1) (answer_seen result) self.old.cage.cards self.new.cage.cards)
@@ -262,7 +262,7 @@ impl<R: Relay, M: Meter> Core<R, M> {
         }
     }
 
-    #[tactic(auto, using(crate::proofs::Calls::failed_same))]
+    #[tactic(auto, using(crate::proofs::CallsLemmas::failed_same))]
     #[inline(never)]
     fn install(&mut self, slot: u8, card: Card<R, M>) -> Answer<R, M>
         ensures acts { Acts self.old (AskInstall slot card.1) (any_failed self.old.cage.cards self.new.cage.cards)
@@ -275,7 +275,7 @@ impl<R: Relay, M: Meter> Core<R, M> {
         }
     }
 
-    #[tactic(auto, using(crate::proofs::Calls::failed_same))]
+    #[tactic(auto, using(crate::proofs::CallsLemmas::failed_same))]
     #[inline(never)]
     fn eject(&mut self, slot: u8) -> Answer<R, M>
         ensures { Acts self.old (AskEject slot) (any_failed self.old.cage.cards self.new.cage.cards)
@@ -290,7 +290,7 @@ impl<R: Relay, M: Meter> Core<R, M> {
         }
     }
 
-    #[tactic(auto, using(crate::proofs::Calls::failed_same))]
+    #[tactic(auto, using(crate::proofs::CallsLemmas::failed_same))]
     fn session(
         &mut self,
         alloc: Global,
@@ -332,7 +332,7 @@ impl<R: Relay, M: Meter> Core<R, M> {
     }
 
     /// Makes the second channel of a session.
-    #[tactic(auto, using(crate::proofs::Calls::failed_same))]
+    #[tactic(auto, using(crate::proofs::CallsLemmas::failed_same))]
     fn attach(&mut self, number: u8) -> SessionAnswer
         ensures { StepAttach self.old number (any_failed self.old.cage.cards self.new.cage.cards) result None self.new }
     {
@@ -343,7 +343,7 @@ impl<R: Relay, M: Meter> Core<R, M> {
     }
 
     /// Makes a new session.
-    #[tactic(auto, using(crate::proofs::Calls::failed_same))]
+    #[tactic(auto, using(crate::proofs::CallsLemmas::failed_same))]
     fn join(&mut self) -> SessionAnswer
         ensures { StepJoin self.old (any_failed self.old.cage.cards self.new.cage.cards) result None self.new }
     {
@@ -354,7 +354,7 @@ impl<R: Relay, M: Meter> Core<R, M> {
     }
 
     /// Does what a session that is joined asks, where nothing holds it.
-    #[tactic(auto, using(crate::proofs::Calls::failed_same))]
+    #[tactic(auto, using(crate::proofs::CallsLemmas::failed_same))]
     #[inline(always)]
     fn joined(
         &mut self,
@@ -376,11 +376,11 @@ impl<R: Relay, M: Meter> Core<R, M> {
                 SessionAnswer::Done(None)
             }
             SessionAsk::Unit(_, Command::Trigger, _) => {
-                self.offer(Happening::Bus, ScpiError::TriggerIgnored, work)
+                self.trigger(Happening::Bus, ScpiError::TriggerIgnored, work)
             }
             SessionAsk::Unit(_, Command::Signal(layer), _) => self.signal(layer, work),
             SessionAsk::Unit(_, command, available) => self.command(alloc, command, available),
-            SessionAsk::Bus(_) => self.offer(Happening::Bus, ScpiError::TriggerIgnored, work),
+            SessionAsk::Bus(_) => self.trigger(Happening::Bus, ScpiError::TriggerIgnored, work),
             SessionAsk::Snapshot(_) => self.snapshot(alloc),
             SessionAsk::Start(_, plan) => self.start(alloc, plan, work),
             SessionAsk::Join | SessionAsk::Attach(_) => unreachable!(),

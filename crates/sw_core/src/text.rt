@@ -138,7 +138,7 @@ pub fn all_entries(alloc: Global, errors: &[ScpiError]) -> Result<Sequence<u8>, 
 }
 
 /// The readings, joined by commas.
-#[tactic(auto, using(crate::proofs::Rows::reading_some))]
+#[tactic(auto, using(crate::proofs::RowsLemmas::reading_some))]
 pub fn all_readings(alloc: Global, readings: &[Reading]) -> Result<Sequence<u8>, AllocError>
     ensures { IfOk result (λ text. text ≡ join_with_byte 44 (map reading_text readings.now)) }
 {

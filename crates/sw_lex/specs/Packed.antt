@@ -69,7 +69,8 @@ is_number most n word = n == packed word && (nat_le (length word) most && list_a
 
 -- the numbers of a mnemonic's two forms are those of its text
 abbrev pub is_packed : ℕ → Form → Bool
-is_packed most form = is_number most form.short (short_of form.text.now) && is_number most form.long (long_of form.text.now)
+is_packed most form = is_number most form.short (short_of form.text.now) && is_number most form.long
+    (long_of form.text.now)
 
 -- one byte is left for the number of a layer
 abbrev pub step_packed : Step → Bool
@@ -108,7 +109,8 @@ FitNumbers (Numbered form ∷ steps) (n ∷ ns) k = (IsFormNumber form n × FitN
 abbrev pub RowNumbers : List Row → List ℕ → Bool → Key → ℕ → Type 0
 RowNumbers [] ns query key k = ⊥
 RowNumbers (row ∷ rows) ns query key k =
-    ((is_query_row row ≡ query) × (key_of_row row ≡ key) × FitNumbers (row_steps row) ns k) ⊎ RowNumbers rows ns query key k
+    ((is_query_row row ≡ query) × (key_of_row row ≡ key) × FitNumbers (row_steps row) ns k) ⊎ RowNumbers rows ns query
+    key k
 
 abbrev pub GroupNumbers : List Group → ℕ → List ℕ → Bool → Key → ℕ → Type 0
 GroupNumbers [] n ns query key k = ⊥

@@ -1,6 +1,7 @@
 //! From the nodes of a header to its command.
 
-ghost use Rattle.std.specs.Prelude.{◌≡◌, ◌≤◌, ℕ, Bool, true, false, ◌==◌, List, length, map, take, IfSome, IfNone, IsTrue, ◌↔◌};
+ghost use Rattle.std.specs.Prelude.{◌≡◌, ◌≤◌, ℕ, Bool, true, false, ◌==◌, List, length, map, take, IfSome, IfNone};
+ghost use Rattle.std.specs.Prelude.{IsTrue, ◌↔◌};
 ghost use Rattle.std.specs.List.{filter};
 ghost use Rattle.std.specs.Char.{to_ascii_uppercase};
 ghost use Rattle.sw_lex.specs.Found.{IsFound, IsForm};
@@ -8,7 +9,8 @@ ghost use Rattle.sw_lex.specs.Table.{entries};
 ghost use Rattle.sw_lex.specs.Values.{is_named};
 ghost use Rattle.sw_lex.specs.Rows.{entries_of, is_form_from};
 ghost use Rattle.sw_lex.specs.Headed.{most_words, first_word};
-ghost use Rattle.sw_lex.specs.Packed.{AreNumbersOf, IsFormNumber, IsNumberedForm, FitNumbers, RowNumbers, GroupNumbers, groups_packed};
+ghost use Rattle.sw_lex.specs.Packed.{AreNumbersOf, IsFormNumber, IsNumberedForm, FitNumbers, RowNumbers, GroupNumbers};
+ghost use Rattle.sw_lex.specs.Packed.{groups_packed};
 ghost use Rattle.sw_lex.specs.Parts.{IsPart, belongs, part_of};
 ghost use Rattle.sw_lex.specs.declared.table.Key.{Key};
 

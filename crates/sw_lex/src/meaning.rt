@@ -8,7 +8,8 @@ ghost use Rattle.sw_base.specs.declared.error.ScpiError.TheVariants.{OutOfMemory
 ghost use Rattle.sw_channel.specs.Reading.{Reads, ReadsPositions};
 ghost use Rattle.sw_lex.specs.declared.command.Command.{Command as Meant};
 ghost use Rattle.sw_lex.specs.Unit.{UnitSeen, unit_of, heading_of, data_of};
-ghost use Rattle.sw_lex.specs.Meaning.{asked, looked_up, path_after, Nodes, path_of, WithNone, WithList, WithString, Defines};
+ghost use Rattle.sw_lex.specs.Meaning.{asked, looked_up, path_after, Nodes, path_of, WithNone, WithList, WithString};
+ghost use Rattle.sw_lex.specs.Meaning.{Defines};
 ghost use Rattle.sw_lex.specs.Meaning.{OfMacro, WithNumber, OfNumber, OfWord, OfSwitch, DecodesCommand, IsRefusal};
 ghost use Rattle.sw_lex.specs.Meaning.{Resolves};
 ghost use Rattle.sw_lex.specs.Found.{IsIn, spellings};

@@ -198,7 +198,8 @@ fn query_mark(text: &[u8]) -> (bool, &[u8])
 fn read_data<'a>(text: &'a [u8], found: &mut Found<'a>) -> Result<(&'a [u8], &'a [u8]), ScpiError>
     requires empty { found.old.count ≡ 0 }
     ensures ok { IfOk result (λ x. IsData text.now (data_of (take found.new.count found.new.found)) x.1.now) }
-    ensures joined { IfOk result (λ x. AreJoinedElements text.now (data_of (take found.new.count found.new.found)) x.0.now) }
+    ensures joined { IfOk result (λ x. AreJoinedElements text.now (data_of (take found.new.count found.new.found))
+        x.0.now) }
     ensures closes { IfOk result (λ x. Closes x.0.now x.1.now) }
     ensures few { IfOk result (λ _. length (data_of (take found.new.count found.new.found)) ≤ most_elements) }
     ensures err { IfErr result (λ e. IsDataRefused text.now e) }

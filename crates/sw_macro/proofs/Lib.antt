@@ -1,6 +1,6 @@
-pub mod Labels
-pub mod Tables
-pub mod Fillings
-pub mod Expansions
-pub mod Cuts
-pub mod LimitsKept
+pub mod LabelsLemmas
+pub mod TablesLemmas
+pub mod FillingsLemmas
+pub mod ExpansionsLemmas
+pub mod CutsLemmas
+pub mod LimitsKeptLemmas

@@ -1,5 +1,5 @@
-//! A scan of three ARM layers, paced by timers, over slots of two digits: its plan, its listing, and what the verifier says
-//! of it.
+//! A scan of three ARM layers, paced by timers, over slots of two digits: its plan, its listing, and what the verifier
+//! says of it.
 
 use std::alloc::Global;
 use std::process::Abort;
@@ -10,8 +10,8 @@ use sw_code::{Code, print_listing, read_listing};
 use sw_trigger::Settings;
 use sw_verify::{BoxedSnapshot, Layout, Plan, Refusal, Slot, Snapshot, check, verify};
 
-/// Twice ARM layer 1 by the bus, three times ARM layer 2 by a timer with a delay, four times ARM layer 3 by the external
-/// trigger, and three passes round two positions, each by TRIGger's timer with a delay.
+/// Twice ARM layer 1 by the bus, three times ARM layer 2 by a timer with a delay, four times ARM layer 3 by the
+/// external trigger, and three passes round two positions, each by TRIGger's timer with a delay.
 const LISTING: &[u8] = b"scan 2
 meter 10
 set 0 2
@@ -47,8 +47,8 @@ halt
 /// What the listing's scan awaits, and its readings.
 const COUNTS: (u128, u128) = (254, 72);
 
-/// Four channels of group 1 in slot 1, four of group 3 in each of slots 8 and 9, a meter in slot 10, and 99 channels of no
-/// group in slot 16.
+/// Four channels of group 1 in slot 1, four of group 3 in each of slots 8 and 9, a meter in slot 10, and 99 channels of
+/// no group in slot 16.
 fn cage(alloc: Global) -> Result<Layout, Fail> {
     let mut slots = Vec::new(alloc);
     for slot in 1..=16u8 {

@@ -115,8 +115,8 @@ fn set_longest(alloc: Global, settings: &mut Settings) -> Result<(), Fail> {
     Ok(())
 }
 
-/// Whether each layer of the longest scan awaits its trigger or the end of its timer, and then its delay, on its first and
-/// on its second turn.
+/// Whether each layer of the longest scan awaits its trigger or the end of its timer, and then its delay, on its first
+/// and on its second turn.
 fn awaits_heads(settings: &Settings) -> bool {
     let pause = Some(Awaited::Pause(3_600_000_000));
     let first = Some(Awaited::Wait(FIRST));

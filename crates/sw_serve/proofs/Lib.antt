@@ -1,3 +1,3 @@
-mod Offers
-mod Closing
-mod Fitting
+mod SlotCardsLemmas
+mod ClosingLemmas
+mod FittingLemmas

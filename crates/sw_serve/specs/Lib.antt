@@ -1,4 +1,4 @@
-pub mod Offers
+pub mod SlotCards
 pub mod Fitting
 pub mod Arrivals
 pub mod Serving

@@ -85,7 +85,7 @@ impl<
         }
         self.taken += 1;
         match self.next() {
-            Some(connection) => Arrival::Came(connection),
+            Some(connection) => Arrival::Connected(connection),
             None => Arrival::Failed,
         }
     }

@@ -1,10 +1,10 @@
 //! Cards that tell a log where a call of them fails.
 
 ghost use Rattle.std.specs.Prelude.{◌≡◌, ◌++◌, ◌∷◌, [], List, IfOk};
-ghost use Rattle.sw_serve.specs.Offers.{offers_seen, own_seen, relay_seen, meter_seen};
+ghost use Rattle.sw_serve.specs.SlotCards.{cards_seen, own_seen, relay_seen, meter_seen};
 
 use crate::log::{Log, Remark};
-use crate::offer::{Offer, OwnCard};
+use crate::slot_card::{OwnCard, SlotCard};
 use std::alloc::{AllocError, Global};
 use sw_base::Reading;
 use sw_card::{Board, CardFault, Meter, Relay};
@@ -110,45 +110,45 @@ fn with_log<R: Relay, M: Meter, L: Log + Drop>(
     }
 }
 
-/// The same offers, of cards that tell a log where a call of them fails.
+/// The same cards, which tell a log where a call of them fails.
 pub fn tell_failures<R: Relay, M: Meter, L: Log + Copy + Drop>(
     alloc: Global,
-    offers: Vec<Offer<R, M>>,
+    cards: Vec<SlotCard<R, M>>,
     log: L,
-) -> Result<Vec<Offer<Telling<R, L>, Telling<M, L>>>, AllocError>
-    ensures { IfOk result (λ told. offers_seen (relay_seen (λ t. R.the_serial t.card) (λ t. R.failed t.card)
+) -> Result<Vec<SlotCard<Telling<R, L>, Telling<M, L>>>, AllocError>
+    ensures { IfOk result (λ told. cards_seen (relay_seen (λ t. R.the_serial t.card) (λ t. R.failed t.card)
         (λ t. R.groups t.card) (λ t. R.closed t.card)) (meter_seen (λ t. M.the_serial t.card)
-        (λ t. M.failed t.card) (λ t. M.last_reading t.card)) told.items ≡ offers_seen
+        (λ t. M.failed t.card) (λ t. M.last_reading t.card)) told.items ≡ cards_seen
         (relay_seen R.the_serial R.failed R.groups R.closed)
-        (meter_seen M.the_serial M.failed M.last_reading) offers.items) }
+        (meter_seen M.the_serial M.failed M.last_reading) cards.items) }
 {
     let mut told = Ok(Vec::new(alloc));
-    for offered in offers {
-        told = with_offer(told, offered, log);
+    for placed in cards {
+        told = with_card(told, placed, log);
     }
     told
 }
 
-/// The offers so far and one more, of a card that tells a log, unless there was no memory.
-fn with_offer<R: Relay, M: Meter, L: Log + Drop>(
-    told: Result<Vec<Offer<Telling<R, L>, Telling<M, L>>>, AllocError>,
-    offered: Offer<R, M>,
+/// The cards so far and one more, which tells a log, unless there was no memory.
+fn with_card<R: Relay, M: Meter, L: Log + Drop>(
+    told: Result<Vec<SlotCard<Telling<R, L>, Telling<M, L>>>, AllocError>,
+    placed: SlotCard<R, M>,
     log: L,
-) -> Result<Vec<Offer<Telling<R, L>, Telling<M, L>>>, AllocError>
-    ensures { (offers : List (Offer R M)) → IfOk told (λ told. offers_seen (relay_seen (λ t. R.the_serial t.card)
+) -> Result<Vec<SlotCard<Telling<R, L>, Telling<M, L>>>, AllocError>
+    ensures { (cards : List (SlotCard R M)) → IfOk told (λ told. cards_seen (relay_seen (λ t. R.the_serial t.card)
         (λ t. R.failed t.card) (λ t. R.groups t.card) (λ t. R.closed t.card)) (meter_seen (λ t. M.the_serial t.card)
-        (λ t. M.failed t.card) (λ t. M.last_reading t.card)) told.items ≡ offers_seen
+        (λ t. M.failed t.card) (λ t. M.last_reading t.card)) told.items ≡ cards_seen
         (relay_seen R.the_serial R.failed R.groups R.closed)
-        (meter_seen M.the_serial M.failed M.last_reading) offers)
-        → IfOk result (λ told. offers_seen (relay_seen (λ t. R.the_serial t.card)
+        (meter_seen M.the_serial M.failed M.last_reading) cards)
+        → IfOk result (λ told. cards_seen (relay_seen (λ t. R.the_serial t.card)
         (λ t. R.failed t.card) (λ t. R.groups t.card) (λ t. R.closed t.card)) (meter_seen (λ t. M.the_serial t.card)
-        (λ t. M.failed t.card) (λ t. M.last_reading t.card)) told.items ≡ offers_seen
+        (λ t. M.failed t.card) (λ t. M.last_reading t.card)) told.items ≡ cards_seen
         (relay_seen R.the_serial R.failed R.groups R.closed)
-        (meter_seen M.the_serial M.failed M.last_reading) (offers ++ offered ∷ [])) }
+        (meter_seen M.the_serial M.failed M.last_reading) (cards ++ placed ∷ [])) }
 {
     let mut told = told?;
-    let Offer { slot, card } = offered;
-    told.push(Offer {
+    let SlotCard { slot, card } = placed;
+    told.push(SlotCard {
         slot,
         card: with_log(card, slot, log),
     })?;

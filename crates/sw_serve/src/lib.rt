@@ -1,6 +1,6 @@
 //! A server of sessions over any port and any cards.
 //!
-//! Who has cards of their own makes a list of offers (`Offer`), each a card and the slot that it is for. `desk_for_one`
+//! Who has cards of their own makes a list of them (`SlotCard`), each with the slot that it is for. `desk_for_one`
 //! fits them into a mainframe for one session without a network; `serve_cards` serves whoever comes to a port (`Port`),
 //! each connection by a thread of its own, until so many have come or the port has ended, and then closes down. Where
 //! the mainframe refuses a card both tell which, and why (`FitError`), and serve nobody.
@@ -15,24 +15,24 @@
 //! Nothing is promised of what a network carries, of when a thread goes on, nor of what is told to a log.
 #![tactic(auto)]
 
-mod crew;
+mod desk_pool;
 mod door;
 mod failing;
-mod lobby;
 mod log;
-mod offer;
 mod port;
 mod serving;
 mod single;
+mod slot_card;
+mod thread_pool;
 mod unfit;
 mod visitor;
 
 pub use door::Door;
 pub use failing::{Telling, tell_failures};
 pub use log::{Log, Parting, Remark, Silent};
-pub use offer::{Offer, OwnCard, fit};
 pub use port::{Arrival, Port};
 pub use serving::{serve_cards, serve_over};
 pub use single::desk_for_one;
+pub use slot_card::{OwnCard, SlotCard, fit};
 pub use unfit::FitError;
 pub use visitor::{Heard, Told, Visitor};

@@ -7,7 +7,7 @@ use crate::visitor::Visitor;
 #[derive(Drop)]
 pub enum Arrival<C: Drop> {
     /// One came.
-    Came(C),
+    Connected(C),
     /// One failed as it came.
     Failed,
     /// No further connection is to be taken.

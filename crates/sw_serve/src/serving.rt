@@ -6,7 +6,7 @@ ghost use Rattle.sw_core.specs.Opening.{IsFresh};
 ghost use Rattle.sw_core.specs.Panel.{opening};
 ghost use Rattle.sw_serve.specs.Arrivals.{TakesUpTo};
 ghost use Rattle.sw_serve.specs.Fitting.{IsUnfitted, AreWelcome};
-ghost use Rattle.sw_serve.specs.Offers.{offers_seen, relay_seen, meter_seen};
+ghost use Rattle.sw_serve.specs.SlotCards.{cards_seen, relay_seen, meter_seen};
 ghost use Rattle.sw_serve.specs.Serving.{ClosesDown};
 ghost use Rattle.sw_session.specs.Talk.{turns};
 ghost use Rattle.sw_workers.specs.Ahead.{left_ahead};
@@ -14,11 +14,11 @@ ghost use Rattle.sw_workers.specs.Closing.{IsOpen, IsClosedDown};
 ghost use Rattle.sw_workers.specs.Connected.{mishaps, connection_seen, RunsSession};
 ghost use Rattle.sw_workers.specs.Work.{DeskPasses};
 
-use crate::crew::Crew;
-use crate::lobby::Lobby;
+use crate::desk_pool::DeskPool;
 use crate::log::Log;
-use crate::offer::{Offer, fit};
 use crate::port::{Arrival, Port};
+use crate::slot_card::{SlotCard, fit};
+use crate::thread_pool::ThreadPool;
 use crate::unfit::FitError;
 use crate::visitor::{Heard, Told, Visitor};
 use crossbeam_channel::Receiver;
@@ -31,8 +31,8 @@ use std::time::{Clock, Duration};
 use sw_cage::Job;
 use sw_card::{Meter, Relay};
 use sw_workers::{
-    Closed, Connection, Ended, Gate, House, Open, Opening, Pause, Posted, Shared, SharedDesk,
-    close_down, run_card_worker, run_session, run_timer_worker,
+    Closed, Connection, Ended, Gate, Mainframe, Open, Opening, Pause, Shared, SharedDesk,
+    WorkReceivers, close_down, run_card_worker, run_session, run_timer_worker,
 };
 
 /// Takes so many connections, or fewer where the port ends, each served by a thread of its own over these cards, and
@@ -50,25 +50,25 @@ pub fn serve_cards<
     alloc: Global,
     port: &mut P,
     limit: u32,
-    offers: Vec<Offer<R, M>>,
+    cards: Vec<SlotCard<R, M>>,
 ) -> Result<Closed<R, M>, FitError>
     requires { P.taken port.old + limit < 2 ^ 32 }
     ensures taken { OnOk result (TakesUpTo limit (P.taken port.old) (P.taken port.new) (P.ended port.new)) }
-    ensures cards { IfOk result (λ closed. ClosesDown (offers_seen
+    ensures cards { IfOk result (λ closed. ClosesDown (cards_seen
         (relay_seen R.the_serial R.failed R.groups R.closed)
-        (meter_seen M.the_serial M.failed M.last_reading) offers.items)
+        (meter_seen M.the_serial M.failed M.last_reading) cards.items)
         closed.events (accounts_of closed.cards.items)) }
     ensures open { IfOk result (λ closed.
         All (λ slot. IfSome slot (λ card. IsOpen card.1)) closed.cards.items) }
-    ensures refused { IfErr result (λ error. IsUnfitted opening (offers_seen
+    ensures refused { IfErr result (λ error. IsUnfitted opening (cards_seen
         (relay_seen R.the_serial R.failed R.groups R.closed)
-        (meter_seen M.the_serial M.failed M.last_reading) offers.items) error) }
+        (meter_seen M.the_serial M.failed M.last_reading) cards.items) error) }
     ensures unserved { IfErr result (λ error. error ≢ FitError.Memory → port.new ≡ port.old) }
-    ensures welcome { AreWelcome (offers_seen (relay_seen R.the_serial R.failed R.groups R.closed)
-        (meter_seen M.the_serial M.failed M.last_reading) offers.items)
+    ensures welcome { AreWelcome (cards_seen (relay_seen R.the_serial R.failed R.groups R.closed)
+        (meter_seen M.the_serial M.failed M.last_reading) cards.items)
         → IfErr result (λ error. error ≡ FitError.Memory) }
 {
-    let core = fit(alloc, offers)?;
+    let core = fit(alloc, cards)?;
     let opening = Opening::new(alloc, core)?;
     let closed = serve_over::<Brand, R, M, Open, W, P>(rt, alloc, port, limit, opening, Open)?;
     Ok(closed)
@@ -76,7 +76,7 @@ pub fn serve_cards<
 
 /// Takes so many connections over a mainframe that has a name, or fewer where the port ends, and then closes it down.
 pub fn serve_over<
-    H: House + Send + Sync + 'static,
+    H: Mainframe + Send + Sync + 'static,
     R: Relay + Send + 'static,
     M: Meter + Send + 'static,
     G: Gate + Drop + Send + Sync + 'static,
@@ -102,20 +102,20 @@ pub fn serve_over<
         All (λ slot. IfSome slot (λ card. IsOpen card.1)) closed.cards.items) }
     ensures taken { OnOk result (TakesUpTo limit (P.taken port.old) (P.taken port.new) (P.ended port.new)) }
 {
-    let (shared, posted) = Shared::<H, R, M, G>::new(alloc, opening, gate)?;
+    let (shared, receivers) = Shared::<H, R, M, G>::new(alloc, opening, gate)?;
     let shared = Arc::new(alloc, shared)?;
-    let lobby = Lobby::new(rt, alloc, Arc::try_clone(&shared)?);
-    let lobby = Arc::new(alloc, lobby)?;
-    let mut workers = Crew::new(alloc)?;
-    let mut sessions = Crew::new(alloc)?;
-    start_workers(rt, alloc, &lobby, &mut workers, posted);
-    if serve_each(rt, alloc, &lobby, &mut sessions, port, limit) {
-        end_sessions(&rt, &lobby, &mut sessions);
+    let pool = DeskPool::new(rt, alloc, Arc::try_clone(&shared)?);
+    let pool = Arc::new(alloc, pool)?;
+    let mut workers = ThreadPool::new(alloc)?;
+    let mut sessions = ThreadPool::new(alloc)?;
+    start_workers(rt, alloc, &pool, &mut workers, receivers);
+    if serve_each(rt, alloc, &pool, &mut sessions, port, limit) {
+        end_sessions(&rt, &pool, &mut sessions);
     }
-    join_all(&rt, &lobby, sessions);
-    lobby.end_work();
-    join_all(&rt, &lobby, workers);
-    match close_down(&rt, alloc, shared, lobby.take_desks(alloc)) {
+    join_all(&rt, &pool, sessions);
+    pool.end_work();
+    join_all(&rt, &pool, workers);
+    match close_down(&rt, alloc, shared, pool.take_desks(alloc)) {
         Ok(closed) => Ok(closed),
         Err(_) => Err(AllocError),
     }
@@ -126,7 +126,7 @@ type Left<H, R, M, G, W> = Option<SharedDesk<H, R, M, G, W>>;
 
 /// Starts a thread for measurements and one for pauses. Where there is none, who has such work carries it out.
 fn start_workers<
-    H: House + Send + Sync + 'static,
+    H: Mainframe + Send + Sync + 'static,
     R: Relay + Send + 'static,
     M: Meter + Send + 'static,
     G: Gate + Drop + Send + Sync + 'static,
@@ -134,41 +134,41 @@ fn start_workers<
 >(
     rt: W,
     alloc: Global,
-    lobby: &Arc<Lobby<H, R, M, G, W>, Global>,
-    workers: &mut Crew<Left<H, R, M, G, W>>,
-    posted: Posted<M>,
+    pool: &Arc<DeskPool<H, R, M, G, W>, Global>,
+    workers: &mut ThreadPool<Left<H, R, M, G, W>>,
+    receivers: WorkReceivers<M>,
 ) {
-    let Posted { jobs, pauses } = posted;
-    if let Ok(theirs) = Arc::try_clone(lobby) {
+    let WorkReceivers { jobs, pauses } = receivers;
+    if let Ok(theirs) = Arc::try_clone(pool) {
         workers.start(rt, 0, move || measure(theirs, jobs));
     }
-    if let Ok(theirs) = Arc::try_clone(lobby) {
+    if let Ok(theirs) = Arc::try_clone(pool) {
         workers.start(rt, 1, move || wait_out(theirs, pauses));
     }
 }
 
 /// What the thread for measurements does.
-fn measure<H: House, R: Relay, M: Meter, G: Gate + Drop, W: Wait + Clock + Copy + Drop>(
-    lobby: Arc<Lobby<H, R, M, G, W>, Global>,
+fn measure<H: Mainframe, R: Relay, M: Meter, G: Gate + Drop, W: Wait + Clock + Copy + Drop>(
+    pool: Arc<DeskPool<H, R, M, G, W>, Global>,
     jobs: Receiver<Job<M>>,
 ) -> Left<H, R, M, G, W> {
-    let desk = lobby.desk()?;
+    let desk = pool.desk()?;
     Some(run_card_worker(desk, jobs))
 }
 
 /// What the thread for pauses does.
-fn wait_out<H: House, R: Relay, M: Meter, G: Gate + Drop, W: Wait + Clock + Copy + Drop>(
-    lobby: Arc<Lobby<H, R, M, G, W>, Global>,
+fn wait_out<H: Mainframe, R: Relay, M: Meter, G: Gate + Drop, W: Wait + Clock + Copy + Drop>(
+    pool: Arc<DeskPool<H, R, M, G, W>, Global>,
     pauses: Receiver<Pause>,
 ) -> Left<H, R, M, G, W> {
-    let desk = lobby.desk()?;
+    let desk = pool.desk()?;
     Some(run_timer_worker(desk, pauses))
 }
 
 /// Takes so many connections, and starts a thread for each, or fewer where the port ends, and tells whether it has
 /// ended. Threads that ended are joined before the next one starts, so that their desks serve again.
 fn serve_each<
-    H: House + Send + Sync + 'static,
+    H: Mainframe + Send + Sync + 'static,
     R: Relay + Send + 'static,
     M: Meter + Send + 'static,
     G: Gate + Drop + Send + Sync + 'static,
@@ -177,8 +177,8 @@ fn serve_each<
 >(
     rt: W,
     alloc: Global,
-    lobby: &Arc<Lobby<H, R, M, G, W>, Global>,
-    sessions: &mut Crew<Left<H, R, M, G, W>>,
+    pool: &Arc<DeskPool<H, R, M, G, W>, Global>,
+    sessions: &mut ThreadPool<Left<H, R, M, G, W>>,
     port: &mut P,
     limit: u32,
 ) -> bool
@@ -188,10 +188,10 @@ fn serve_each<
 {
     for number in 0..limit {
         let arrival = port.accept();
-        join_ended(&rt, &**lobby, sessions);
+        join_ended(&rt, &**pool, sessions);
         match arrival {
-            Arrival::Came(connection) => {
-                welcome(rt, alloc, lobby, sessions, number, connection);
+            Arrival::Connected(connection) => {
+                welcome(rt, alloc, pool, sessions, number, connection);
             }
             Arrival::Failed => {}
             Arrival::Ended => return true,
@@ -207,26 +207,26 @@ const LOOK_MS: u64 = 10;
 
 /// Ends the sessions: each after the message that it is in, and after 0.7 seconds at once.
 fn end_sessions<
-    H: House + Send + Sync + 'static,
+    H: Mainframe + Send + Sync + 'static,
     R: Relay + Send + 'static,
     M: Meter + Send + 'static,
     G: Gate + Drop + Send + Sync + 'static,
     W: Threads + Wait + Clock + Copy + Drop + Send + Sync + 'static,
->(rt: &W, lobby: &Lobby<H, R, M, G, W>, sessions: &mut Crew<Left<H, R, M, G, W>>) {
-    lobby.end_lines(false);
+>(rt: &W, pool: &DeskPool<H, R, M, G, W>, sessions: &mut ThreadPool<Left<H, R, M, G, W>>) {
+    pool.end_lines(false);
     for _ in 0..LOOKS {
-        join_ended(rt, lobby, sessions);
+        join_ended(rt, pool, sessions);
         if sessions.is_empty() {
             return;
         }
         thread::sleep(rt, Duration::from_millis(LOOK_MS));
     }
-    lobby.end_lines(true);
+    pool.end_lines(true);
 }
 
 /// Starts a thread for a connection. Where there is no memory or no thread to be had, the connection is closed.
 fn welcome<
-    H: House + Send + Sync + 'static,
+    H: Mainframe + Send + Sync + 'static,
     R: Relay + Send + 'static,
     M: Meter + Send + 'static,
     G: Gate + Drop + Send + Sync + 'static,
@@ -235,12 +235,12 @@ fn welcome<
 >(
     rt: W,
     alloc: Global,
-    lobby: &Arc<Lobby<H, R, M, G, W>, Global>,
-    sessions: &mut Crew<Left<H, R, M, G, W>>,
+    pool: &Arc<DeskPool<H, R, M, G, W>, Global>,
+    sessions: &mut ThreadPool<Left<H, R, M, G, W>>,
     number: u32,
     connection: Visitor<L>,
 ) {
-    if let Ok(theirs) = Arc::try_clone(lobby) {
+    if let Ok(theirs) = Arc::try_clone(pool) {
         sessions.start(
             rt,
             number,
@@ -249,9 +249,9 @@ fn welcome<
     }
 }
 
-/// What the thread of a connection does: by a desk from the lobby it serves the connection, from its first byte on.
+/// What the thread of a connection does: by a desk from the pool it serves the connection, from its first byte on.
 fn attend<
-    H: House,
+    H: Mainframe,
     R: Relay,
     M: Meter,
     G: Gate + Drop,
@@ -259,7 +259,7 @@ fn attend<
     C: Connection + Drop,
 >(
     alloc: Global,
-    lobby: Arc<Lobby<H, R, M, G, W>, Global>,
+    pool: Arc<DeskPool<H, R, M, G, W>, Global>,
     connection: C,
 ) -> Option<Ended<SharedDesk<H, R, M, G, W>, C::In, C::Out>>
     ensures { IfSome result (λ ended. (desk : _)
@@ -269,13 +269,13 @@ fn attend<
         (connection_seen ended.desk (left_ahead C.In.remaining ended.reader) (C.In.pauses ended.reader.reader)
         (C.Out.contents ended.writer)) ended.result) }
 {
-    let desk = lobby.desk()?;
+    let desk = pool.desk()?;
     Some(run_session(connection, desk, alloc))
 }
 
 /// The desk of a connection that was served, which is told its end.
 fn desk_of<
-    H: House,
+    H: Mainframe,
     R: Relay,
     M: Meter,
     G: Gate + Drop,
@@ -294,30 +294,30 @@ fn desk_of<
 
 /// Joins the threads that told of their end.
 fn join_ended<
-    H: House + Send + Sync + 'static,
+    H: Mainframe + Send + Sync + 'static,
     R: Relay + Send + 'static,
     M: Meter + Send + 'static,
     G: Gate + Drop + Send + Sync + 'static,
     W: Threads + Wait + Clock + Copy + Drop + Send + Sync + 'static,
->(rt: &W, lobby: &Lobby<H, R, M, G, W>, crew: &mut Crew<Left<H, R, M, G, W>>) {
-    while let Some(left) = crew.join_ended(rt) {
+>(rt: &W, pool: &DeskPool<H, R, M, G, W>, threads: &mut ThreadPool<Left<H, R, M, G, W>>) {
+    while let Some(left) = threads.join_ended(rt) {
         if let Some(desk) = left {
-            lobby.give_back(desk);
+            pool.give_back(desk);
         }
     }
 }
 
 /// Joins all threads.
 fn join_all<
-    H: House + Send + Sync + 'static,
+    H: Mainframe + Send + Sync + 'static,
     R: Relay + Send + 'static,
     M: Meter + Send + 'static,
     G: Gate + Drop + Send + Sync + 'static,
     W: Threads + Wait + Clock + Copy + Drop + Send + Sync + 'static,
->(rt: &W, lobby: &Lobby<H, R, M, G, W>, mut crew: Crew<Left<H, R, M, G, W>>) {
-    while let Some(left) = crew.join_any(rt) {
+>(rt: &W, pool: &DeskPool<H, R, M, G, W>, mut threads: ThreadPool<Left<H, R, M, G, W>>) {
+    while let Some(left) = threads.join_any(rt) {
         if let Some(desk) = left {
-            lobby.give_back(desk);
+            pool.give_back(desk);
         }
     }
 }

@@ -3,9 +3,9 @@
 ghost use Rattle.std.specs.Prelude.{◌≡◌, IfOk, IfErr};
 ghost use Rattle.sw_core.specs.Panel.{opening};
 ghost use Rattle.sw_serve.specs.Fitting.{IsUnfittedForOne, AreWelcome};
-ghost use Rattle.sw_serve.specs.Offers.{offers_seen, relay_seen, meter_seen, Joins, IsSetUp, IsDeskForOne};
+ghost use Rattle.sw_serve.specs.SlotCards.{cards_seen, relay_seen, meter_seen, Joins, IsSetUp, IsDeskForOne};
 
-use crate::offer::{Offer, offer_all};
+use crate::slot_card::{SlotCard, install_all};
 use crate::unfit::FitError;
 use std::alloc::Global;
 use sw_card::{Meter, Relay};
@@ -16,38 +16,38 @@ use sw_session::CoreDesk;
 /// `Talker` of it answers program messages. Or the first card that the mainframe refuses, and why.
 pub fn desk_for_one<R: Relay, M: Meter>(
     alloc: Global,
-    offers: Vec<Offer<R, M>>,
+    cards: Vec<SlotCard<R, M>>,
 ) -> Result<(CoreDesk<R, M>, Sid), FitError>
-    ensures desk { IfOk result (λ x. IsDeskForOne (offers_seen (relay_seen R.the_serial R.failed R.groups R.closed)
-        (meter_seen M.the_serial M.failed M.last_reading) offers.items) x.1 x.0) }
-    ensures refused { IfErr result (λ error. IsUnfittedForOne (offers_seen
+    ensures desk { IfOk result (λ x. IsDeskForOne (cards_seen (relay_seen R.the_serial R.failed R.groups R.closed)
+        (meter_seen M.the_serial M.failed M.last_reading) cards.items) x.1 x.0) }
+    ensures refused { IfErr result (λ error. IsUnfittedForOne (cards_seen
         (relay_seen R.the_serial R.failed R.groups R.closed)
-        (meter_seen M.the_serial M.failed M.last_reading) offers.items) error) }
-    ensures welcome { AreWelcome (offers_seen (relay_seen R.the_serial R.failed R.groups R.closed)
-        (meter_seen M.the_serial M.failed M.last_reading) offers.items)
+        (meter_seen M.the_serial M.failed M.last_reading) cards.items) error) }
+    ensures welcome { AreWelcome (cards_seen (relay_seen R.the_serial R.failed R.groups R.closed)
+        (meter_seen M.the_serial M.failed M.last_reading) cards.items)
         → IfErr result (λ error. error ≡ FitError.Memory) }
 {
-    let (core, sid) = set_up(alloc, offers)?;
+    let (core, sid) = set_up(alloc, cards)?;
     Ok((CoreDesk::new(alloc, core), sid))
 }
 
 /// A mainframe that one session has joined and that took each of these cards, and that session.
 fn set_up<R: Relay, M: Meter>(
     alloc: Global,
-    offers: Vec<Offer<R, M>>,
+    cards: Vec<SlotCard<R, M>>,
 ) -> Result<(Core<R, M>, Sid), FitError>
-    ensures set_up { IfOk result (λ x. IsSetUp (offers_seen (relay_seen R.the_serial R.failed R.groups R.closed)
-        (meter_seen M.the_serial M.failed M.last_reading) offers.items) x.1 x.0) }
-    ensures refused { IfErr result (λ error. IsUnfittedForOne (offers_seen
+    ensures set_up { IfOk result (λ x. IsSetUp (cards_seen (relay_seen R.the_serial R.failed R.groups R.closed)
+        (meter_seen M.the_serial M.failed M.last_reading) cards.items) x.1 x.0) }
+    ensures refused { IfErr result (λ error. IsUnfittedForOne (cards_seen
         (relay_seen R.the_serial R.failed R.groups R.closed)
-        (meter_seen M.the_serial M.failed M.last_reading) offers.items) error) }
-    ensures welcome { AreWelcome (offers_seen (relay_seen R.the_serial R.failed R.groups R.closed)
-        (meter_seen M.the_serial M.failed M.last_reading) offers.items)
+        (meter_seen M.the_serial M.failed M.last_reading) cards.items) error) }
+    ensures welcome { AreWelcome (cards_seen (relay_seen R.the_serial R.failed R.groups R.closed)
+        (meter_seen M.the_serial M.failed M.last_reading) cards.items)
         → IfErr result (λ error. error ≡ FitError.Memory) }
 {
     let mut core = Core::new(alloc)?;
     let sid = join(alloc, &mut core);
-    if let Err((slot, why)) = offer_all(alloc, &mut core, offers) {
+    if let Err((slot, why)) = install_all(alloc, &mut core, cards) {
         return Err(FitError::Refused { slot, why });
     }
     Ok((core, sid))

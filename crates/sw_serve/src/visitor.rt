@@ -96,13 +96,13 @@ fn attached_by(bytes: &[u8]) -> Option<u16>
 
 /// The first header, as far as it has come.
 #[derive(Drop)]
-struct Front {
+struct FirstHeader {
     bytes: [u8; HEADER],
     length: usize,
 }
 
-impl Front {
-    const EMPTY: Self = Front {
+impl FirstHeader {
+    const EMPTY: Self = FirstHeader {
         bytes: [0; HEADER],
         length: 0,
     };
@@ -138,18 +138,18 @@ impl Front {
 pub struct Heard {
     reader: Line,
     known: Arc<Known, Global>,
-    front: Front,
+    header: FirstHeader,
 }
 
 impl Heard {
     /// Keeps what belongs to the first header, and notes which session that asks for.
-    fn hear(&mut self, bytes: &[u8]) {
-        if self.front.is_whole() {
+    fn feed(&mut self, bytes: &[u8]) {
+        if self.header.is_whole() {
             return;
         }
         self.known.is_heard.store(true, Ordering::SeqCst);
-        self.front.take(bytes);
-        if let Some(session) = self.front.session() {
+        self.header.take(bytes);
+        if let Some(session) = self.header.session() {
             self.known.session.store(session, Ordering::SeqCst);
         }
     }
@@ -158,7 +158,7 @@ impl Heard {
 impl Read for Heard {
     fn read(&mut self, buffer: &mut [u8]) -> io::Result<usize> {
         let n = self.reader.read(buffer)?;
-        self.hear(&buffer[..n]);
+        self.feed(&buffer[..n]);
         Ok(n)
     }
 }
@@ -243,7 +243,7 @@ impl<L: Log + Drop> Connection for Visitor<L> {
         let heard = Heard {
             reader,
             known: theirs,
-            front: Front::EMPTY,
+            header: FirstHeader::EMPTY,
         };
         let told = Told {
             writer,

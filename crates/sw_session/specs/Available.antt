@@ -1,5 +1,6 @@
 -- For which sessions a message is available (IEEE 488.2, 11.2.1.2), as they noted it.
-use Rattle.std.specs.Prelude.{◌≡◌, ◌≢◌, ℕ, ◌-◌, ◌==◌, ◌&&◌, Bool, false, nat_le, List, length, Option, Some, None, replicate}
+use Rattle.std.specs.Prelude.{◌≡◌, ◌≢◌, ℕ, ◌-◌, ◌==◌, ◌&&◌, Bool, false, nat_le, List, length, Option, Some, None}
+use Rattle.std.specs.Prelude.{replicate}
 use Rattle.std.specs.Prelude.{slice_set, if◌then◌else◌}
 use Rattle.sw_base.specs.Limits.{most_sessions}
 use Rattle.sw_base.specs.Layout.{slot_at}

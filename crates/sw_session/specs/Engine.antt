@@ -72,7 +72,7 @@ too_large = error_message TooLarge
 
 -- a skipped part of a program message drops it whole; any other skipped message does nothing else
 abbrev pub skips : Kind → State → State
-skips kind (Synchronized s) = Synchronized (record s { front = skipped (sync_request kind) s.front })
+skips kind (Synchronized s) = Synchronized (record s { partial = skipped (sync_request kind) s.partial })
 skips kind s = s
 
 -- service requests are told on the second channel

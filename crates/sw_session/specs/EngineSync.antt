@@ -11,7 +11,7 @@ use Rattle.sw_core.specs.declared.ask.Sid.{Sid}
 use Rattle.sw_core.specs.declared.ask.SessionAsk.TheVariants as Ask
 use Rattle.sw_core.specs.declared.ask.SessionAnswer.{SessionAnswer}
 use Rattle.sw_core.specs.declared.ask.SessionAnswer.TheVariants.{Joined, Full, Missed, Max, Done}
-use Rattle.sw_session.specs.declared.engine.front.Front.{Front}
+use Rattle.sw_session.specs.declared.engine.partial_message.PartialMessage.{PartialMessage}
 use Rattle.sw_session.specs.declared.engine.refusals.ErrorCode.TheVariants.{UnrecognizedType, UnrecognizedVendor}
 use Rattle.sw_session.specs.declared.engine.refusals.FatalCode.TheVariants.{WithoutBothChannels, InvalidInitialization}
 use Rattle.sw_session.specs.declared.engine.refusals.FatalCode.TheVariants.{TooManyClients}
@@ -35,10 +35,10 @@ pub record SyncStanding : Type 0 where
   pub sid : Sid
   pub macros : Table
   pub attached : Bool
-  pub front : Front
+  pub partial : PartialMessage
 
 abbrev pub newly_joined : Sid → SyncStanding
-newly_joined sid = record { sid = sid; macros = no_macros; attached = false; front = Front.Nothing }
+newly_joined sid = record { sid = sid; macros = no_macros; attached = false; partial = PartialMessage.Nothing }
 
 -- this message is said on the synchronous channel
 abbrev pub responds : Message → StepSeen
@@ -151,19 +151,19 @@ Delivers sid control id asked step rest =
 -- ---- program messages
 
 -- with one more part; no more is kept than shows whether the message is too long (own)
-abbrev pub with_part : Front → List ℕ → Front
-with_part Front.Nothing bytes = Front.Kept (take most_kept bytes)
-with_part (Front.Kept front) bytes = Front.Kept (take most_kept (front ++ bytes))
-with_part Front.Lost bytes = Front.Lost
+abbrev pub with_part : PartialMessage → List ℕ → PartialMessage
+with_part PartialMessage.Nothing bytes = PartialMessage.Kept (take most_kept bytes)
+with_part (PartialMessage.Kept partial) bytes = PartialMessage.Kept (take most_kept (partial ++ bytes))
+with_part PartialMessage.Lost bytes = PartialMessage.Lost
 
 -- what is kept of a message; none where a part of it was skipped
-abbrev pub kept_of : Front → Option (List ℕ)
-kept_of (Front.Kept bytes) = Some bytes
-kept_of front = None
+abbrev pub kept_of : PartialMessage → Option (List ℕ)
+kept_of (PartialMessage.Kept bytes) = Some bytes
+kept_of partial = None
 
 -- the same once its last part is there
-abbrev pub whole : Front → List ℕ → Option (List ℕ)
-whole front bytes = kept_of (with_part front bytes)
+abbrev pub whole : PartialMessage → List ℕ → Option (List ℕ)
+whole partial bytes = kept_of (with_part partial bytes)
 
 -- An answer goes out under this identifier, cut to the size that the client told; an empty one is none. Where the
 -- session is none any more, or nothing more can be numbered, the channel ends.
@@ -188,14 +188,14 @@ pub record Converses (s : SyncStanding) (id : ℕ) (text : List ℕ) (asked : Li
 
 -- DataEnd: the message is whole, or is dropped whole
 abbrev pub Finishes : SyncStanding → ℕ → Option (List ℕ) → List Entry → StepSeen → SyncStanding → Type 0
-Finishes s id None asked step s' = Unasked (goes []) asked step × (s' ≡ record s { front = Front.Nothing })
+Finishes s id None asked step s' = Unasked (goes []) asked step × (s' ≡ record s { partial = PartialMessage.Nothing })
 Finishes s id (Some text) asked step s' = Converses s id text asked step s'.macros
-    × (s' ≡ record s { macros = s'.macros; front = Front.Nothing })
+    × (s' ≡ record s { macros = s'.macros; partial = PartialMessage.Nothing })
 
 -- some part of a program message has come
-abbrev pub is_within : Front → Bool
-is_within Front.Nothing = false
-is_within front = true
+abbrev pub is_within : PartialMessage → Bool
+is_within PartialMessage.Nothing = false
+is_within partial = true
 
 -- within a program message a trigger is an error, else it is a bus trigger
 abbrev pub GivesTrigger : Bool → Sid → List Entry → SessionAnswer → Type 0
@@ -221,10 +221,10 @@ is_program request = false
 -- what each of these messages does once that was done
 abbrev pub Programs : SyncRequest → SyncStanding → Message → List Entry → StepSeen → SyncStanding → Type 0
 Programs Request.Part s m asked step s' = Unasked (goes []) asked step
-    × (s' ≡ record s { front = with_part s.front m.payload })
-Programs Request.End s m asked step s' = Finishes s m.parameter (whole s.front m.payload) asked step s'
-Programs Request.Trigger s m asked step s' = Triggers (is_within s.front) s.sid asked step
-    × (s' ≡ record s { front = Front.Nothing })
+    × (s' ≡ record s { partial = with_part s.partial m.payload })
+Programs Request.End s m asked step s' = Finishes s m.parameter (whole s.partial m.payload) asked step s'
+Programs Request.Trigger s m asked step s' = Triggers (is_within s.partial) s.sid asked step
+    × (s' ≡ record s { partial = PartialMessage.Nothing })
 Programs request s m asked step s' = ⊥
 
 -- this is said, and then more, which comes from this; the channel ends as that says
@@ -232,7 +232,8 @@ abbrev pub SaysMore : List Sent → StepSeen → (StepSeen → Type 0) → Type 
 SaysMore said step P = (own : StepSeen) × P own × (step ≡ joined (goes said) own)
 
 -- a part of a row, and what follows it unless it ends the channel; what both say is said
-abbrev pub Onward : (List Entry → StepSeen → SyncStanding → Type 0) → StepSeen → SyncStanding → List Entry → StepSeen → SyncStanding
+abbrev pub Onward : (List Entry → StepSeen → SyncStanding → Type 0) → StepSeen → SyncStanding → List Entry → StepSeen →
+    SyncStanding
     → Type 0
 Onward next first s asked step s' =
     MatchBool first.ends (Unasked first asked step × (s' ≡ s))
@@ -262,7 +263,8 @@ ProgramsShort request s m asked = ⊥
 -- channel
 abbrev pub AttendedShort : SyncRequest → SyncStanding → Message → List Entry → Type 0
 AttendedShort request s m asked =
-    (first : StepSeen) × (rest : List Entry) × Delivers s.sid m.control m.parameter asked first rest × (first.ends ≡ false)
+    (first : StepSeen) × (rest : List Entry) × Delivers s.sid m.control m.parameter asked first rest ×
+    (first.ends ≡ false)
     × ProgramsShort request s m rest
 
 abbrev pub ServesShort : SyncRequest → SyncStanding → Message → List Entry → Type 0
@@ -282,7 +284,7 @@ Completes sid asked step = ⊥
 
 -- then what came of a program message is dropped
 abbrev pub message_completed : SyncStanding → StepSeen → SyncStanding
-message_completed s step = if step.ends then s else record s { front = Front.Nothing }
+message_completed s step = if step.ends then s else record s { partial = PartialMessage.Nothing }
 
 -- what the messages that are no part of a program say
 abbrev pub RepliesSync : SyncRequest → SyncStanding → List Entry → StepSeen → SyncStanding → Type 0
@@ -311,7 +313,7 @@ FaltersSync s m asked = (asked ≡ []) ⊎ ServesShort (sync_request m.kind) s m
 -- ---- messages that were skipped for their size
 
 -- a skipped part of a program message drops it whole, and a skipped last part ends it
-abbrev pub skipped : SyncRequest → Front → Front
-skipped Request.Part front = Front.Lost
-skipped Request.End front = Front.Nothing
-skipped request front = front
+abbrev pub skipped : SyncRequest → PartialMessage → PartialMessage
+skipped Request.Part partial = PartialMessage.Lost
+skipped Request.End partial = PartialMessage.Nothing
+skipped request partial = partial

@@ -20,7 +20,7 @@ use Rattle.sw_session.specs.declared.desk.Wake.TheVariants.{Again}
 use Rattle.sw_session.specs.Trace.{Entry, Asked, Waited, Polled, Noted, Leads}
 use Rattle.sw_session.specs.Talk.{TalkState, Talked, TalksMessage}
 use Rattle.sw_session.specs.EngineSync.{with_part, whole}
-use Rattle.sw_session.specs.declared.engine.front.Front.{Front}
+use Rattle.sw_session.specs.declared.engine.partial_message.PartialMessage.{PartialMessage}
 
 -- the talker had memory: it queued no error for want of it
 abbrev pub IsAmple : Entry → Type 0
@@ -157,9 +157,9 @@ CoreRestIsDetermined = (d d' e e' : DeskSeen) (r : WaitsOut d true e) (r' : Wait
     → outcomes_at_rest r ≡ outcomes_at_rest r' → IsSameDesk e e'
 
 -- the front of a program message with these parts, one after another
-abbrev pub with_parts : Front → List (List ℕ) → Front
-with_parts front [] = front
-with_parts front (part ∷ parts) = with_parts (with_part front part) parts
+abbrev pub with_parts : PartialMessage → List (List ℕ) → PartialMessage
+with_parts partial [] = partial
+with_parts partial (part ∷ parts) = with_parts (with_part partial part) parts
 
 -- The talk about the one message is the talk about the other.
 abbrev pub IsSameMessage : List ℕ → List ℕ → Type 0
@@ -170,4 +170,4 @@ IsSameMessage text text' = (sid : Sid) (macros macros' : Table) (trace : List En
 -- A program message that came in parts, none of them skipped, is talked over as all their bytes, however many they are.
 abbrev pub PartsAreOneMessage : Type 0
 PartsAreOneMessage = (parts : List (List ℕ)) (last : List ℕ) → (text : List ℕ)
-    × (whole (with_parts Front.Nothing parts) last ≡ Some text) × IsSameMessage text (concat parts ++ last)
+    × (whole (with_parts PartialMessage.Nothing parts) last ≡ Some text) × IsSameMessage text (concat parts ++ last)

@@ -34,7 +34,8 @@ done_at_once (c ∷ carried) old (Some piece) new (mid, off, keeps) =
 abbrev pub at_once_in : (carried : List Carried) (old : DeskSeen) (entry : Entry) (new : DeskSeen)
     → PassesBy carried old entry new → List WorkSeen
 at_once_in carried old (Asked ask answer) new passes =
-    done_at_once carried (record old { panel = passes.after; available = seated old.available ask answer }) passes.brings new passes.keeps
+    done_at_once carried (record old { panel = passes.after; available = seated old.available ask answer })
+    passes.brings new passes.keeps
 at_once_in (c ∷ carried) old (Waited limit (Again left)) new (is, works) =
     done_at_once carried (record old { panel = c.after; work = works.others }) (brought c.answer) new works.keeps
 at_once_in carried old entry new passes = []

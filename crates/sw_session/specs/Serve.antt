@@ -21,8 +21,8 @@ use Rattle.sw_session.specs.declared.servers.act.AfterStep.{AfterStep}
 use Rattle.sw_session.specs.declared.servers.act.AfterStep.TheVariants.{Goes, Ends, Fatal, Malformed}
 use Rattle.sw_session.specs.declared.servers.fault.ServeFault.{ServeFault}
 use Rattle.sw_session.specs.declared.servers.fault.ServeFault.TheVariants as Fault
-use Rattle.sw_session.specs.declared.servers.turns.Came.{Came}
-use Rattle.sw_session.specs.declared.servers.turns.Came.TheVariants.{End, Bytes, Paused}
+use Rattle.sw_session.specs.declared.servers.turns.Received.{Received}
+use Rattle.sw_session.specs.declared.servers.turns.Received.TheVariants.{End, Bytes, Paused}
 use Rattle.sw_session.specs.declared.servers.turns.Next.{Next}
 use Rattle.sw_session.specs.declared.servers.turns.Next.TheVariants.{On, Over}
 use Rattle.sw_session.specs.Trace.{Entry, Asked, Leads}
@@ -190,9 +190,9 @@ GoesThrough u a b acts after =
 -- ---- clauses of a server's parts
 
 -- one act
-abbrev pub Hears : {E D : Type 0} → Voice E D → Act → Point E D → Point E D → Result AfterStep ServeFault → Type 0
-Hears u act a b (Ok after) = GoesThrough u a b (act ∷ []) after
-Hears u act a b (Err fault) = Breaks u a b act fault
+abbrev pub Processes : {E D : Type 0} → Voice E D → Act → Point E D → Point E D → Result AfterStep ServeFault → Type 0
+Processes u act a b (Ok after) = GoesThrough u a b (act ∷ []) after
+Processes u act a b (Err fault) = Breaks u a b act fault
 
 -- only a wrong prologue ends a channel as malformed, and it always does
 abbrev pub Judges : Bool → AfterStep → Type 0
@@ -200,10 +200,10 @@ Judges true after = after ≡ Malformed
 Judges false after = after ≢ Malformed
 
 -- some acts
-abbrev pub HearsEach : {E D : Type 0} → Voice E D → List Act → Point E D → Point E D → Result AfterStep ServeFault
+abbrev pub ProcessesEach : {E D : Type 0} → Voice E D → List Act → Point E D → Point E D → Result AfterStep ServeFault
     → Type 0
-HearsEach u acts a b (Ok after) = GoesThrough u a b acts after
-HearsEach u acts a b (Err fault) = Stops u a b acts fault
+ProcessesEach u acts a b (Ok after) = GoesThrough u a b acts after
+ProcessesEach u acts a b (Err fault) = Stops u a b acts fault
 
 -- a whole message stands at the front
 abbrev pub HoldsMessage : Pending → Type 0
@@ -223,7 +223,7 @@ NextInput p p' (Ok (Some input)) = Finds p input p'
 NextInput p p' (Err fault) = (fault ≡ Fault.NoMemory) × (p' ≡ p) × HoldsMessage p
 
 -- one read: what came is fed, or lost where there is no memory for it
-abbrev pub Listens : Option (List ℕ) → Option (List ℕ) → Pending → Pending → Result Came ServeFault → Type 0
+abbrev pub Listens : Option (List ℕ) → Option (List ℕ) → Pending → Pending → Result Received ServeFault → Type 0
 Listens old new p p' (Ok End) = Consumes old new [] × IsAtEnd new × (p' ≡ p)
 Listens old new p p' (Ok Bytes) = (piece : List ℕ) × (0 < length piece) × Consumes old new piece × (p' ≡ fed p piece)
 Listens old new p p' (Ok Paused) = Consumes old new [] × (p' ≡ p)
@@ -233,11 +233,11 @@ Listens old new p p' (Err e) =
     ⊎ ((e ≡ Fault.NoMemory) × ((lost : List ℕ) × Consumes old new lost × (0 < length lost))))
 
 -- such a read is counted where a time limit ended it
-abbrev pub CountsCame : Option ℕ → Option ℕ → Result Came ServeFault → Type 0
-CountsCame old new (Ok End) = new ≡ old
-CountsCame old new (Ok Bytes) = new ≡ old
-CountsCame old new (Ok Paused) = PausesBy old new 1
-CountsCame old new (Err e) = new ≡ old
+abbrev pub CountsReceived : Option ℕ → Option ℕ → Result Received ServeFault → Type 0
+CountsReceived old new (Ok End) = new ≡ old
+CountsReceived old new (Ok Bytes) = new ≡ old
+CountsReceived old new (Ok Paused) = PausesBy old new 1
+CountsReceived old new (Err e) = new ≡ old
 
 -- a decoder was fed these bytes, and this is what it told
 pub record TellsActs (p p' : Pending) (read : List ℕ) (inputs : List Act) : Type 0 where

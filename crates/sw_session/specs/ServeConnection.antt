@@ -6,7 +6,7 @@ use Rattle.sw_session.specs.declared.servers.fault.ServeFault.TheVariants as Fau
 use Rattle.sw_session.specs.declared.servers.source.Source as Source
 use Rattle.sw_session.specs.declared.servers.writing.Sink as Sink
 use Rattle.sw_session.specs.Trace.{Entry}
-use Rattle.sw_session.specs.ServeRead.{CameTo}
+use Rattle.sw_session.specs.ServeRead.{IsLedTo}
 use Rattle.sw_session.specs.ServeEngine.{Station, ServesChannel}
 
 -- what the traits of a server's reader and its two writers tell of them
@@ -43,5 +43,5 @@ station_of w c = record {
 pub record ServesConnection {D R W S : Type 0} (own : Channel) (turns : ℕ) (passes : D → Entry → D → Type 0)
     (w : Wiring R W S) (before after : Connected D R W S) (result : Result (Unit {0}) ServeFault) : Type 0 where
   pub serves : ServesChannel passes own turns (station_of w before) (station_of w after) result
-  pub read : result ≡ Err Fault.Read → CameTo w.reads.failed after.reader
-  pub write : result ≡ Err Fault.Write → CameTo w.writes.failed after.writer ⊎ CameTo w.writes_aside.failed after.side
+  pub read : result ≡ Err Fault.Read → IsLedTo w.reads.failed after.reader
+  pub write : result ≡ Err Fault.Write → IsLedTo w.writes.failed after.writer ⊎ IsLedTo w.writes_aside.failed after.side

@@ -19,8 +19,8 @@ pub record ComesTo {K : Type 0} (interrupted timed_out would_block kind : K)
   pub failure : kind ≢ interrupted → kind ≢ timed_out → kind ≢ would_block → told ≡ Some (Err Failed)
 
 -- such a step has led to this state
-abbrev pub CameTo : {A : Type 0} → (A → A → Type 0) → A → Type 0
-CameTo step new = (old : _) × step old new
+abbrev pub IsLedTo : {A : Type 0} → (A → A → Type 0) → A → Type 0
+IsLedTo step new = (old : _) × step old new
 
 -- time limits ended so many reads more: where their count is known it is by so many higher, and else it stays unknown
 abbrev pub PausesBy : Option ℕ → Option ℕ → ℕ → Type 0

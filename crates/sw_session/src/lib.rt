@@ -41,7 +41,7 @@ pub use laws::{
     talk_is_determined, work_is_done_in_order, work_is_kept_where_there_is_room,
 };
 pub use servers::{
-    Memory, ServeFault, Sink, Source, Unread, Unwritten, serve_async_for, serve_channel,
-    serve_sync_for, write_all,
+    Memory, ServeFault, Sink, Source, Unread, Unwritten, serve_async, serve_channel, serve_sync,
+    write_all,
 };
 pub use talker::Talker;

@@ -169,8 +169,8 @@ fn a_connection_without_its_session_does_nothing_to_the_next(rt: HostRuntime) ->
     Ok(())
 }
 
-/// A desk on which the session whose status is looked at leaves before the third look, and another takes its number. The
-/// first look is at the beginning of a second connection, and one is before each of its messages.
+/// A desk on which the session whose status is looked at leaves before the third look, and another takes its number.
+/// The first look is at the beginning of a second connection, and one is before each of its messages.
 #[derive(Drop)]
 struct Succeeded<D: Desk> {
     desk: D,

@@ -1,6 +1,6 @@
-//! A scan of three nested ARM layers, by the bus, by a timer and by the external trigger, and of TRIGger by its own timer,
-//! over a core of boxed cards: each happening is offered at each of its awaiting items, and is taken where it is due and
-//! nowhere else.
+//! A scan of three nested ARM layers, by the bus, by a timer and by the external trigger, and of TRIGger by its own
+//! timer, over a core of boxed cards: each happening is offered at each of its awaiting items, and is taken where it is
+//! due and nowhere else.
 
 use crate::asks::{
     NotTaken, answer_of, does, fit, has_closed, install, is_idle, is_running, joined, misses_end,
@@ -34,8 +34,8 @@ enum Due {
     Second,
 }
 
-/// What one turn of ARM layer 1 awaits, and the index of each in the agenda of a scan, where a closing stands before each
-/// reading and an opening behind it.
+/// What one turn of ARM layer 1 awaits, and the index of each in the agenda of a scan, where a closing stands before
+/// each reading and an opening behind it.
 const TURN: [(Due, u64); 25] = [
     (Due::Bus, 0),
     (Due::Timer, 1),

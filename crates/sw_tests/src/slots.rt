@@ -1,5 +1,5 @@
-//! Cards in slots of two digits, over a core of boxed cards: what their channels are called, groups that run over them, and
-//! cards that leave them.
+//! Cards in slots of two digits, over a core of boxed cards: what their channels are called, groups that run over them,
+//! and cards that leave them.
 
 use crate::asks::{
     does, eject, has_closed, install, is_idle, is_misread, is_running, joined, refused_card,
@@ -144,8 +144,8 @@ fn plans_none<R: Relay, M: Meter>(
     }
 }
 
-/// Whether a scan over these slots closes its channels, by the meter of slot 10 and no other, and none that would join a
-/// group or that is missing.
+/// Whether a scan over these slots closes its channels, by the meter of slot 10 and no other, and none that would join
+/// a group or that is missing.
 fn scans_over_slots<R: Relay, M: Meter>(alloc: Global, core: &mut Core<R, M>, sid: Sid) -> bool {
     does(alloc, core, sid, b"ROUT:SCAN (@8!1&16!99,9!4&1601)")
         && tells(alloc, core, sid, b"ROUT:SCAN?", b"(@8!1&16!99,9!4&16!1)")
@@ -193,8 +193,8 @@ fn begins_waiting<R: Relay, M: Meter>(alloc: Global, core: &mut Core<R, M>, sid:
     is_none && is_running(alloc, core, sid)
 }
 
-/// Whether the card of slot 9 leaves alone while no scan runs, and that of slot 16 a running scan, which ends with every
-/// relay open; and no card leaves, or comes to, a slot that the cage doesn't have.
+/// Whether the card of slot 9 leaves alone while no scan runs, and that of slot 16 a running scan, which ends with
+/// every relay open; and no card leaves, or comes to, a slot that the cage doesn't have.
 fn leaves<R: Relay, M: Meter>(alloc: Global, core: &mut Core<R, M>, sid: Sid) -> bool {
     does(alloc, core, sid, b"ROUT:CLOS (@9!1,16!99)")
         && comes_out_safe(alloc, core, 9, 9)

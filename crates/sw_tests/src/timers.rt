@@ -1,5 +1,5 @@
-//! Timers of layers and the third ARM layer over a core of boxed cards: what a plan is compared by, what is refused while a
-//! scan runs, what `*RST` puts back, and ends that come too late.
+//! Timers of layers and the third ARM layer over a core of boxed cards: what a plan is compared by, what is refused
+//! while a scan runs, what `*RST` puts back, and ends that come too late.
 
 use crate::asks::{
     NotTaken, answer_of, does, fit, has_closed, is_idle, is_running, joined, misses_end, refuses,
@@ -59,8 +59,8 @@ impl Scene {
     }
 }
 
-/// Whether a plan begins nothing once a value of ARM layer 3, or the timer of any layer, is another, though no layer waits
-/// for its timer; and begins once they have the values that they had.
+/// Whether a plan begins nothing once a value of ARM layer 3, or the timer of any layer, is another, though no layer
+/// waits for its timer; and begins once they have the values that they had.
 fn compares<R: Relay, M: Meter>(alloc: Global, core: &mut Core<R, M>, sid: Sid) -> bool {
     does(alloc, core, sid, b"ROUT:SCAN (@1!1)")
         && is_outdated_by(alloc, core, sid, b"ARM:TIM 2")
@@ -229,8 +229,8 @@ fn of_pass(pass: u64) -> Ticket {
     }
 }
 
-/// Whether a signal of TRIGger passes its timer at once: then the reading is made, the next timer begins, and the end of the
-/// one that was passed is missed.
+/// Whether a signal of TRIGger passes its timer at once: then the reading is made, the next timer begins, and the end
+/// of the one that was passed is missed.
 fn is_passed<R: Relay, M: Meter>(
     alloc: Global,
     core: &mut Core<R, M>,
@@ -267,7 +267,8 @@ fn begins_next<M: Meter>(work: Result<Option<Work<M>>, NotTaken>, pass: u64) -> 
     }
 }
 
-/// Whether a scan by a timer goes to its end by signals of another session alone, and what its timers tell comes too late.
+/// Whether a scan by a timer goes to its end by signals of another session alone, and what its timers tell comes too
+/// late.
 fn signals<R: Relay, M: Meter>(
     alloc: Global,
     core: &mut Core<R, M>,
@@ -338,7 +339,8 @@ fn is_lock<R: Relay, M: Meter>(alloc: Global, core: &mut Core<R, M>, ask: Sessio
     is_so
 }
 
-/// Whether the signal of a session that is locked out passes nothing until the lock is free, while the timer still does.
+/// Whether the signal of a session that is locked out passes nothing until the lock is free, while the timer still
+/// does.
 fn locks_out<R: Relay, M: Meter>(
     alloc: Global,
     core: &mut Core<R, M>,

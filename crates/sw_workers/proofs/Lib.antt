@@ -1,23 +1,23 @@
-pub mod BoardMoves
-pub mod BoardSeats
-mod Counted
-pub mod Entries
-pub mod Fronts
-pub mod Histories
-pub mod PassSteps
-pub mod Recordings
-pub mod Unmoved
-mod Carries
-mod AtDesks
-mod Notes
-mod Worked
-mod HistoryRuns
-mod Ejected
-mod Asked
-mod Serving
-mod EachCounted
-mod Commanded
-pub mod Holds
-mod Seated
-mod Woken
-mod Waited
+pub mod BoardMovesLemmas
+pub mod BoardSeatsLemmas
+mod CountedLemmas
+pub mod EntriesLemmas
+pub mod FrontsLemmas
+pub mod HistoriesLemmas
+pub mod PassStepsLemmas
+pub mod RecordingsLemmas
+pub mod UnmovedLemmas
+mod CarriesLemmas
+mod AtDesksLemmas
+mod NotesLemmas
+mod WorkedLemmas
+mod HistoryRunsLemmas
+mod EjectedLemmas
+mod AskedLemmas
+mod ServingLemmas
+mod EachCountedLemmas
+mod CommandedLemmas
+pub mod HoldsLemmas
+mod SeatedLemmas
+mod WokenLemmas
+mod WaitedLemmas

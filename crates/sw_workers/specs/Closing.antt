@@ -11,9 +11,9 @@ use Rattle.sw_workers.specs.History.{IsHistory}
 abbrev pub IsOpen : Account → Type 0
 IsOpen card = (ch : ℕ) → closed_at card.closed ch ≡ false
 
--- A mainframe that opened so, which was fresh, is closed down: its history has led to a panel, which is reached, after so
--- many events in all; and these cards come out, by slot: each that stood in its slot then, with every relay open. Of an
--- empty slot there is none, and so there is none of one whose card is out at a measurement: that slot of a mainframe
+-- A mainframe that opened so, which was fresh, is closed down: its history has led to a panel, which is reached, after
+-- so many events in all; and these cards come out, by slot: each that stood in its slot then, with every relay open. Of
+-- an empty slot there is none, and so there is none of one whose card is out at a measurement: that slot of a mainframe
 -- that is reached is empty (IsHeld).
 pub record IsClosedDown (start : Panel) (events : ℕ) (cards : Accounts) : Type 0 where
   pub panel : Panel

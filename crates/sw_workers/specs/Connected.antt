@@ -9,13 +9,13 @@ use Rattle.sw_session.specs.declared.servers.fault.ServeFault.{ServeFault}
 use Rattle.sw_session.specs.declared.servers.fault.ServeFault.TheVariants.{Read, Write, NoMemory}
 use Rattle.sw_session.specs.declared.servers.source.Source as Source
 use Rattle.sw_session.specs.declared.servers.writing.Sink as Sink
-use Rattle.sw_session.specs.ServeRead.{CameTo, PausesBy}
+use Rattle.sw_session.specs.ServeRead.{IsLedTo, PausesBy}
 use Rattle.sw_session.specs.Trace.{Entry}
 use Rattle.sw_session.specs.ServeEngine.{Station, ServesChannel}
 
 -- such a step has been taken
 abbrev pub Happened : {A : Type 0} → (A → A → Type 0) → Type 0
-Happened step = (new : _) × CameTo step new
+Happened step = (new : _) × IsLedTo step new
 
 -- the channel that begins so: the second one with `HS` and the kind AsyncInitialize, any other is the first one
 abbrev pub channel_by_header : List ℕ → Channel
@@ -60,8 +60,9 @@ pub record Waited (before after : Option ℕ) : Type 0 where
   pub counts : PausesBy before after reads
 
 -- A connection is served from its first byte on, as the channel that its first header tells. The header is whole,
--- unless the input ended or failed in it; time limits may have ended reads in it. A run that ends by a read fault has a read that failed; one that ends by a
--- write fault a write that failed, or else it is of the first channel, and what it left to the second one was refused.
+-- unless the input ended or failed in it; time limits may have ended reads in it. A run that ends by a read fault has a
+-- read that failed; one that ends by a write fault a write that failed, or else it is of the first channel, and what it
+-- left to the second one was refused.
 pub record ServesFromHeader {D : Type 0} (passes : D → Entry → D → Type 0) (m : Mishaps) (turns : ℕ)
     (before after : ConnectionSeen D) (result : Result (Unit {0}) ServeFault) : Type 0 where
   pub header : List ℕ

@@ -44,8 +44,8 @@ abbrev pub said_by : Event → Said
 said_by e = said_at e.panel e.ask e.answer
 
 -- The history is a run from the panel that it began at: one event for each entry, with its ask and its answer, and with
--- the number and the pair that it tells. Each of them leaves the mainframe good, and does what else is so of every event;
--- and each scan that begins in one of them does what its plan says, and ends.
+-- the number and the pair that it tells. Each of them leaves the mainframe good, and does what else is so of every
+-- event; and each scan that begins in one of them does what its plan says, and ends.
 pub record IsRunFrom (start : Panel) (entries : List HistoryEntry) (panel : Panel) : Type 0 where
   pub events : List Event
   pub told : map said_of entries ≡ map said_by events

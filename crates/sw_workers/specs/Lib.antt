@@ -9,7 +9,7 @@ pub mod Work
 pub mod Closing
 pub mod Ahead
 pub mod Connected
-pub mod Sides
+pub mod Outboxes
 pub mod Limits
 pub mod Pauses
 pub mod Laws

@@ -55,8 +55,8 @@ abbrev pub changes_seats : AnswerSeen → Bool
 changes_seats (SaysSession (Lock code) work) = not (code == 3)
 changes_seats answer = true
 
--- The scan may be over after an event that no session asked for: it isn't where work comes of it, nor where no scan took
--- it. A card's failure ends it.
+-- The scan may be over after an event that no session asked for: it isn't where work comes of it, nor where no scan
+-- took it. A card's failure ends it.
 abbrev pub may_be_over : AnswerSeen → Bool
 may_be_over (SaysTaken work) = is_none work
 may_be_over SaysMissed = false

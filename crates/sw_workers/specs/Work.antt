@@ -74,9 +74,10 @@ IsSentOn sent None = Unit {0}
 IsSentOn sent (Some piece) = sent piece
 
 -- no piece was dropped: each was carried out and told, but for the last, which was sent
-pub record SeesToWork (start : Panel) (sent : WorkSeen → Type 0) (work : Option WorkSeen) (old new : AtDesk) : Type 0 where
-  pub adds : Adds start work old new
-  pub rest : IsSentOn sent (left_over work adds.made)
+pub record SeesToWork (start : Panel) (sent : WorkSeen → Type 0) (work : Option WorkSeen) (old new : AtDesk) : Type 0
+  where
+    pub adds : Adds start work old new
+    pub rest : IsSentOn sent (left_over work adds.made)
 
 -- a pause was waited out
 abbrev pub IsRested : (ℕ → Type 0) → WorkSeen → Type 0
@@ -127,7 +128,8 @@ pub record ReadsStatus (start : Panel) (view : View) (old new : AtDesk) : Type 0
   pub desk : (new.seat.desk ≡ old.seat.desk) × (new.seat.mine ≡ old.seat.mine)
   pub amount : new.amount ≡ old.amount
 
--- A desk whose client has ended its connection leaves the session that it serves, if it serves one, as if it were asked.
+-- A desk whose client has ended its connection leaves the session that it serves, if it serves one, as if it were
+-- asked.
 abbrev pub LeavesUnasked : Panel → AtDesk → AtDesk → Type 0
 LeavesUnasked start old new =
     (new ≡ old) ⊎ ((sid : Sid) × (answer : SessionAnswer) × AnswersDesk start (Ask.Leave sid) answer old new)

@@ -4,10 +4,10 @@ ghost use Rattle.std.specs.Prelude.{◌≡◌, ◌≤◌, ◌<◌, ◌⊎◌, tr
 ghost use Rattle.std.specs.Prelude.{vec_capacity, OnOk, OnErr};
 ghost use Rattle.std.specs.Io.Cursor.{cursor_position, cursor_inner};
 ghost use Rattle.std.specs.Io.KnownBytes.{Consumes, IsAtEnd};
-ghost use Rattle.sw_session.specs.ServeRead.{CameTo};
+ghost use Rattle.sw_session.specs.ServeRead.{IsLedTo};
 ghost use Rattle.sw_workers.specs.Connected.{Happened, Waited, channel_by_header};
 
-use crate::sides::Place;
+use crate::outboxes::Place;
 use std::io::{Cursor, Read};
 use std::marker::Model;
 use std::sync::Wait;
@@ -20,7 +20,7 @@ pub const HEADER: usize = 16;
 
 /// Reads until a header is whole, or the input ends or fails. A read that a time limit ended is asked again, until the
 /// connection has stood for too long.
-#[tactic(auto, using(crate::proofs::Serving::waited_none, crate::proofs::Serving::waited_on))]
+#[tactic(auto, using(crate::proofs::ServingLemmas::waited_none, crate::proofs::ServingLemmas::waited_on))]
 pub fn read_header<R: Source, W: Wait + Clock>(
     rt: &W,
     place: &Place,
@@ -31,7 +31,7 @@ pub fn read_header<R: Source, W: Wait + Clock>(
     ensures bytes { Consumes (R.remaining reader.old) (R.remaining reader.new) header.new.items }
     ensures waits { Waited (R.pauses reader.old) (R.pauses reader.new) }
     ensures whole { OnOk result ((length header.new.items ≡ 16) ⊎ IsAtEnd (R.remaining reader.new)) }
-    ensures failed { OnErr result (CameTo R.failed reader.new) }
+    ensures failed { OnErr result (IsLedTo R.failed reader.new) }
 {
     for _ in rt.forever() {
         if header.len() >= HEADER {

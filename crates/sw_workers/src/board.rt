@@ -10,9 +10,9 @@ use std::alloc::{AllocError, Global};
 use std::marker::{Brand, Model, PhantomData};
 
 /// What a seat knows, which contracts see. No value of it is made.
-pub struct Knowing;
+pub struct SeatState;
 
-impl Model for Knowing {
+impl Model for SeatState {
     ghost use Rattle.sw_workers.specs.Board.{Known, spent};
 
     ghost Value = { Known };
@@ -23,7 +23,7 @@ impl Model for Knowing {
 /// The rule of the board: its word is the last pair of one history, of which each seat has seen a beginning.
 pub struct BoardRule;
 
-impl TableRule<(), Knowing, (u8, u64)> for BoardRule {
+impl TableRule<(), SeatState, (u8, u64)> for BoardRule {
     ghost use Rattle.sw_workers.specs.Board.{Kept, first_seat};
 
     ghost holds = { Kept };
@@ -34,7 +34,7 @@ impl TableRule<(), Knowing, (u8, u64)> for BoardRule {
 /// A step that reads.
 pub struct Reads;
 
-impl Play<(), Knowing> for Reads {
+impl Play<(), SeatState> for Reads {
     ghost use Rattle.sw_workers.specs.Board.{Sees};
 
     ghost then = { Sees };
@@ -43,7 +43,7 @@ impl Play<(), Knowing> for Reads {
 /// A step that reads, after a join: it settles who of both had seen more.
 pub struct Compares;
 
-impl Play<(), Knowing> for Compares {
+impl Play<(), SeatState> for Compares {
     ghost use Rattle.sw_workers.specs.Board.{SettlesStep};
 
     ghost then = { SettlesStep };
@@ -67,7 +67,7 @@ pub struct Publishes<T: Telling> {
     of: PhantomData<T>,
 }
 
-impl<T: Telling> Play<(), Knowing> for Publishes<T> {
+impl<T: Telling> Play<(), SeatState> for Publishes<T> {
     ghost use Rattle.sw_workers.specs.Board.{Published};
 
     ghost then = { Published T.said };
@@ -76,7 +76,7 @@ impl<T: Telling> Play<(), Knowing> for Publishes<T> {
 /// A seat of no desk that has seen the same; and back, so that the other has seen no less.
 pub struct Copies;
 
-impl Split<Knowing> for Copies {
+impl Split<SeatState> for Copies {
     ghost use Rattle.sw_workers.specs.Board.{reader};
 
     ghost left = { λ v. v };
@@ -84,7 +84,7 @@ impl Split<Knowing> for Copies {
     ghost right = { reader };
 }
 
-impl Join<Knowing> for Copies {
+impl Join<SeatState> for Copies {
     ghost use Rattle.sw_workers.specs.Board.{told_known, spent};
 
     ghost both = { told_known };
@@ -95,7 +95,7 @@ impl Join<Knowing> for Copies {
 /// A seat of a new desk, from the pass that publishes.
 pub struct Desks;
 
-impl Split<Knowing> for Desks {
+impl Split<SeatState> for Desks {
     ghost use Rattle.sw_workers.specs.Board.{after_desk, new_desk};
 
     ghost left = { after_desk };
@@ -104,9 +104,9 @@ impl Split<Knowing> for Desks {
 }
 
 /// A desk leaves its seat; and comes to the pass that publishes.
-pub struct Rides;
+pub struct Lends;
 
-impl Split<Knowing> for Rides {
+impl Split<SeatState> for Lends {
     ghost use Rattle.sw_workers.specs.Board.{without_desk, of_desk};
 
     ghost left = { without_desk };
@@ -114,7 +114,7 @@ impl Split<Knowing> for Rides {
     ghost right = { of_desk };
 }
 
-impl Join<Knowing> for Rides {
+impl Join<SeatState> for Lends {
     ghost use Rattle.sw_workers.specs.Board.{desk_taken_over, spent};
 
     ghost both = { desk_taken_over };
@@ -125,7 +125,7 @@ impl Join<Knowing> for Rides {
 /// A desk comes back to its seat.
 pub struct Returns;
 
-impl Join<Knowing> for Returns {
+impl Join<SeatState> for Returns {
     ghost use Rattle.sw_workers.specs.Board.{replaced, spent};
 
     ghost both = { replaced };
@@ -134,13 +134,13 @@ impl Join<Knowing> for Returns {
 }
 
 /// The word.
-pub type Word = Table<(), Knowing, (u8, u64), BoardRule, Global>;
+pub type Word = Table<(), SeatState, (u8, u64), BoardRule, Global>;
 
 /// The steps on the word.
-pub type Steps = Shared<(), Knowing, (u8, u64), BoardRule>;
+pub type Steps = Shared<(), SeatState, (u8, u64), BoardRule>;
 
 /// A seat at the word.
-pub type RawSeat = Seat<(), Knowing>;
+pub type RawSeat = Seat<(), SeatState>;
 
 /// Which board it is, and its opening pair.
 pub trait BoardName {

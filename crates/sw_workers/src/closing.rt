@@ -10,7 +10,7 @@ ghost use Rattle.sw_workers.specs.Closing.{IsOpen, IsClosedDown};
 
 use crate::desk::SharedDesk;
 use crate::gate::Gate;
-use crate::held::{DeskPart, Held, House};
+use crate::held::{DeskPart, Held, Mainframe};
 use crate::shared::Shared;
 use std::alloc::Global;
 use std::sync::ledger::Share;
@@ -31,7 +31,7 @@ pub struct Closed<R: Relay, M: Meter> {
 
 /// Ends a mainframe of which every desk is given back. Where one is missing, or no memory is to be had, what was given
 /// is handed back, and nothing changed.
-pub fn close_down<H: House, R: Relay, M: Meter, G: Gate + Drop, W: Wait + Clock + Copy + Drop>(
+pub fn close_down<H: Mainframe, R: Relay, M: Meter, G: Gate + Drop, W: Wait + Clock + Copy + Drop>(
     rt: &W,
     alloc: Global,
     shared: Arc<Shared<H, R, M, G>, Global>,
@@ -61,7 +61,7 @@ pub fn close_down<H: House, R: Relay, M: Meter, G: Gate + Drop, W: Wait + Clock 
 }
 
 /// Takes the cards out of their slots, with nothing closed. Where a slot gives none, there is none at its place.
-pub fn take_cards<H: House, R: Relay, M: Meter>(
+pub fn take_cards<H: Mainframe, R: Relay, M: Meter>(
     held: &mut Held<H, R, M>,
     part: &mut DeskPart<H>,
     room: Vec<Option<Card<R, M>>>,
@@ -81,7 +81,7 @@ pub fn take_cards<H: House, R: Relay, M: Meter>(
 }
 
 /// What is behind the lock is good.
-fn is_good<H: House, R: Relay, M: Meter>(held: &Held<H, R, M>)
+fn is_good<H: Mainframe, R: Relay, M: Meter>(held: &Held<H, R, M>)
     ensures { IsGoodPanel held.now.panel }
 {
     runs_go_on();
@@ -90,7 +90,7 @@ fn is_good<H: House, R: Relay, M: Meter>(held: &Held<H, R, M>)
 
 /// Takes a card out of its slot, with nothing closed. There is none where the slot is empty, as it is while its card
 /// is out.
-fn take_out<H: House, R: Relay, M: Meter>(
+fn take_out<H: Mainframe, R: Relay, M: Meter>(
     held: &mut Held<H, R, M>,
     part: &mut DeskPart<H>,
     slot: u8,
@@ -109,7 +109,7 @@ fn take_out<H: House, R: Relay, M: Meter>(
 }
 
 /// All shares in one.
-fn gather<H: House, R: Relay, M: Meter, G: Gate + Drop, W: Wait + Clock + Copy + Drop>(
+fn gather<H: Mainframe, R: Relay, M: Meter, G: Gate + Drop, W: Wait + Clock + Copy + Drop>(
     spare: Share<H>,
     mut desks: Vec<SharedDesk<H, R, M, G, W>>,
 ) -> Share<H>

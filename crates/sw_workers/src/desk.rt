@@ -8,10 +8,10 @@ ghost use Rattle.sw_workers.specs.Waits.{MayRest, limit_after, number_after, tol
 ghost use Rattle.sw_workers.specs.Work.{AsksOnce, Brings, SeesToWork, EndsPiece, LeavesUnasked, IsRested, Works};
 
 use crate::gate::{Gate, Point};
-use crate::held::{DeskPart, House};
+use crate::held::{DeskPart, Mainframe};
 use crate::limits::{Limit, slice_of};
+use crate::outboxes::Place;
 use crate::shared::{Shared, Woken, seating_in};
-use crate::sides::Place;
 use std::alloc::Global;
 use std::sync::{Arc, Wait};
 use std::time::Clock;
@@ -21,7 +21,13 @@ use sw_session::{Desk, Seating, View, Wake, seating_of};
 
 /// The desk of a session or of a worker, which one thread has.
 #[derive(Drop)]
-pub struct SharedDesk<H: House, R: Relay, M: Meter, G: Gate + Drop, W: Wait + Clock + Copy + Drop> {
+pub struct SharedDesk<
+    H: Mainframe,
+    R: Relay,
+    M: Meter,
+    G: Gate + Drop,
+    W: Wait + Clock + Copy + Drop,
+> {
     pub(crate) part: DeskPart<H>,
     pub(crate) shared: Arc<Shared<H, R, M, G>, Global>,
     pub(crate) rt: W,
@@ -102,7 +108,7 @@ fn limit_after(limit: Option<Limit>, answer: &SessionAnswer) -> Option<Limit>
     }
 }
 
-impl<H: House, R: Relay, M: Meter, G: Gate + Drop, W: Wait + Clock + Copy + Drop> SharedDesk<
+impl<H: Mainframe, R: Relay, M: Meter, G: Gate + Drop, W: Wait + Clock + Copy + Drop> SharedDesk<
     H,
     R,
     M,
@@ -205,8 +211,8 @@ impl<H: House, R: Relay, M: Meter, G: Gate + Drop, W: Wait + Clock + Copy + Drop
         }
     }
 
-    /// Waits until the mainframe's turn is another, the limit is over, or the client has ended its connection, for which
-    /// it looks again and again.
+    /// Waits until the mainframe's turn is another, the limit is over, or the client has ended its connection, for
+    /// which it looks again and again.
     fn rest(&self, limit: Option<Limit>) -> Rest
         ensures { limit ≡ None → MayRest H.over None result }
     {
@@ -256,7 +262,7 @@ impl<H: House, R: Relay, M: Meter, G: Gate + Drop, W: Wait + Clock + Copy + Drop
     }
 }
 
-impl<H: House, R: Relay, M: Meter, G: Gate + Drop, W: Wait + Clock + Copy + Drop> Desk
+impl<H: Mainframe, R: Relay, M: Meter, G: Gate + Drop, W: Wait + Clock + Copy + Drop> Desk
     for SharedDesk<H, R, M, G, W> {
     ghost use Rattle.sw_workers.specs.Work.{DeskPasses};
 

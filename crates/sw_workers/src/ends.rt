@@ -27,8 +27,8 @@ impl Ends {
         }
     }
 
-    /// A line of this session, with which it ends from now on. Where it has left, the server ends, or there is no memory,
-    /// the line ends at once. Once both stand, their writes wait as long as it takes.
+    /// A line of this session, with which it ends from now on. Where it has left, the server ends, or there is no
+    /// memory, the line ends at once. Once both stand, their writes wait as long as it takes.
     pub fn enlist(&mut self, joined: u64, line: Line) {
         self.begin(joined);
         let is_current = self.joined == Some(joined) && !self.is_over && !self.is_closing;

@@ -18,13 +18,13 @@ ghost use Rattle.sw_workers.specs.Work.{AsksOnce};
 use crate::board::StatusBoard;
 use crate::laws::whoever_may_go_on_is_woken;
 use crate::note::{Note, kind};
-use crate::posts::Carrier;
+use crate::outboxes::Outbox;
 use crate::recorded::{Recorded, Recording};
 use crate::seat::StatusSeat;
-use crate::sides::Outbox;
 use crate::slots::SeatSlots;
 use crate::telling::is_event;
 use crate::waking::{Concern, concern_of, turn_after, wakes};
+use crate::work_channels::Carrier;
 use circular_buffer::HeapCircularBuffer;
 use std::alloc::{AllocError, Global};
 use std::marker::{Brand, Model};
@@ -49,11 +49,11 @@ impl Lasting for Brand {
     fn end() {}
 }
 
-/// Which mainframe it is: its ledger, its board, the panel that it opened with, what its sessions' threads leave to each
-/// other, the work that is sent, and its end.
-pub trait House: Ledger + Recording + Outbox + Carrier + Lasting {}
+/// Which mainframe it is: its ledger, its board, the panel that it opened with, what its sessions' threads leave to
+/// each other, the work that is sent, and its end.
+pub trait Mainframe: Ledger + Recording + Outbox + Carrier + Lasting {}
 
-impl House for Brand {}
+impl Mainframe for Brand {}
 
 /// The most desks.
 const MOST_DESKS: u64 = 1 << 33;
@@ -66,7 +66,7 @@ const MOST_NOTES: usize = 64;
 /// Whenever it is seen, the number of events is the opening one and the sum of all shares, and the notes are those of
 /// the last 64 entries of the history.
 #[derive(Drop)]
-pub struct Held<H: House, R: Relay, M: Meter> {
+pub struct Held<H: Mainframe, R: Relay, M: Meter> {
     alloc: Global,
     core: Recorded<H, R, M>,
     events: Book<H>,
@@ -80,7 +80,7 @@ pub struct Held<H: House, R: Relay, M: Meter> {
     closing: bool,
 }
 
-impl<H: House, R: Relay, M: Meter> Model for Held<H, R, M> {
+impl<H: Mainframe, R: Relay, M: Meter> Model for Held<H, R, M> {
     ghost use Rattle.std.specs.Prelude.{◌≡◌, ◌+◌, IfSome, true};
     ghost use Rattle.sw_workers.specs.Held.{Locked, most_notes, notes_of};
     ghost use Rattle.sw_workers.specs.History.{pair_of};
@@ -102,12 +102,12 @@ impl<H: House, R: Relay, M: Meter> Model for Held<H, R, M> {
 
 /// What a desk has: one part of the ledger, with how many events are this desk's, and the desk's seat at the board.
 #[derive(Drop)]
-pub struct DeskPart<H: House> {
+pub struct DeskPart<H: Mainframe> {
     share: Share<H>,
     seat: StatusSeat<H>,
 }
 
-impl<H: House> Model for DeskPart<H> {
+impl<H: Mainframe> Model for DeskPart<H> {
     ghost use Rattle.std.specs.Prelude.{◌≡◌, true};
     ghost use Rattle.sw_workers.specs.Held.{AtDesk, is_desk};
     ghost use Rattle.sw_workers.specs.History.{pair_of};
@@ -119,7 +119,7 @@ impl<H: House> Model for DeskPart<H> {
     ghost invariant = { λ p. (p.share.parts ≡ 1) × (is_desk p.seat.desk ≡ true) × (H.opening ≡ pair_of H.first) };
 }
 
-impl<H: House> DeskPart<H> {
+impl<H: Mainframe> DeskPart<H> {
     /// A seat of no desk that has seen the same as this desk's.
     pub fn reader(&mut self, board: &StatusBoard<H>) -> StatusSeat<H>
         ensures same { self.new ≡ self.old }
@@ -155,7 +155,7 @@ impl<H: House> DeskPart<H> {
     }
 }
 
-impl<H: House, R: Relay, M: Meter> Held<H, R, M> {
+impl<H: Mainframe, R: Relay, M: Meter> Held<H, R, M> {
     /// A mainframe with no desk and no event yet.
     pub fn new(
         alloc: Global,
@@ -282,8 +282,8 @@ impl<H: House, R: Relay, M: Meter> Held<H, R, M> {
         }
     }
 
-    /// Asks the mainframe, and takes another turn where what was held may go on: where the turn stays, all that was held
-    /// is held still.
+    /// Asks the mainframe, and takes another turn where what was held may go on: where the turn stays, all that was
+    /// held is held still.
     pub fn act(&mut self, part: &mut DeskPart<H>, ask: Ask<R, M>) -> Answer<R, M>
         ensures once { AsksOnce H.first (ask_seen ask) (answer_seen result) part.old part.new }
         ensures waits { self.new.turn ≡ self.old.turn → HoldsOn self.old.panel self.new.panel }
@@ -321,7 +321,7 @@ impl<H: House, R: Relay, M: Meter> Held<H, R, M> {
 
     /// Asks the mainframe. An event is published, stands in the history as one more entry of the desk, and is noted; if
     /// it is numbered it counts in the desk's share, once. The desk's seat has then seen the whole history.
-    #[tactic(auto, using(crate::proofs::Counted::step_counted))]
+    #[tactic(auto, using(crate::proofs::CountedLemmas::step_counted))]
     pub fn ask(&mut self, part: &mut DeskPart<H>, ask: Ask<R, M>) -> Answer<R, M>
         ensures step { Step self.old.panel (ask_seen ask)
             (failed_in (ask_seen ask) (answer_seen result) self.old.panel.cage.cards self.new.panel.cage.cards)

@@ -86,8 +86,8 @@ impl Standing {
         self.stands
     }
 
-    /// After what came next: a pause that came stands, unless a later one had come, and one that stood is stale; and one
-    /// that is over stands no more.
+    /// After what came next: a pause that came stands, unless a later one had come, and one that stood is stale; and
+    /// one that is over stands no more.
     pub fn after(self, next: Next) -> Standing
         ensures { result ≡ after_next self next }
     {

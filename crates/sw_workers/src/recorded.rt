@@ -114,7 +114,7 @@ impl<B: Recording, R: Relay, M: Meter> Recorded<B, R, M> {
     }
 
     /// Whether `*OPC?` of the session would be held now: a scan runs, or others have a lock.
-    #[tactic(auto, using(crate::proofs::Holds::awaits_known))]
+    #[tactic(auto, using(crate::proofs::HoldsLemmas::awaits_known))]
     pub fn awaits_end(&self, sid: Sid) -> bool
         ensures { (result ≡ true) ↔ AwaitsEnd self.now.panel sid }
     {

@@ -7,7 +7,7 @@ ghost use Rattle.sw_workers.specs.Board.{first_seat, pair_in, Saw, entry_of, pub
 ghost use Rattle.sw_workers.specs.Board.{reader, new_desk, without_desk, of_desk, desk_taken_over};
 
 use crate::board::{
-    BoardName, Compares, Copies, Desks, Publishes, RawSeat, Reads, Returns, Rides, StatusBoard,
+    BoardName, Compares, Copies, Desks, Lends, Publishes, RawSeat, Reads, Returns, StatusBoard,
     Steps, Telling, word_of,
 };
 use std::marker::{Model, PhantomData};
@@ -104,8 +104,8 @@ fn ride(on: &Steps, pass: &mut RawSeat, desk: &mut RawSeat)
     ensures later { IsPrefix desk.old.me.0.seen pass.old.me.0.seen }
     ensures own { (d : ℕ) → desk.old.me.0.desk ≡ Some d → made_by d pass.old.me.0.seen ≡ desk.old.me.0.mine }
 {
-    let rider = on.split_seat::<Rides>(desk);
-    on.join_seat::<Rides>(pass, rider);
+    let lent = on.split_seat::<Lends>(desk);
+    on.join_seat::<Lends>(pass, lent);
     on.load::<Reads>(pass, 0);
 }
 
@@ -118,8 +118,8 @@ fn land(on: &Steps, pass: &mut RawSeat, desk: &mut RawSeat)
     ensures pass { pass.new.me ≡ (without_desk pass.old.me.0, pass.old.me.1) }
     ensures desk { desk.new.me ≡ (of_desk pass.old.me.0, desk.old.me.1) }
 {
-    let rider = on.split_seat::<Rides>(pass);
-    on.join_seat::<Returns>(desk, rider);
+    let lent = on.split_seat::<Lends>(pass);
+    on.join_seat::<Returns>(desk, lent);
 }
 
 /// The desk at the pass has one more entry: what is said.

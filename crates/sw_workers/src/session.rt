@@ -3,7 +3,7 @@
 ghost use Rattle.std.specs.Prelude.{◌≡◌, ◌⊎◌, ◌≤◌, ℕ, List, [], Option, Err, length, vec_capacity, OnOk, OnErr};
 ghost use Rattle.std.specs.Io.KnownBytes.{Consumes, IsAtEnd};
 ghost use Rattle.sw_session.specs.Talk.{turns};
-ghost use Rattle.sw_session.specs.ServeRead.{CameTo};
+ghost use Rattle.sw_session.specs.ServeRead.{IsLedTo};
 ghost use Rattle.sw_session.specs.ServeEngine.{ServesChannel};
 ghost use Rattle.sw_workers.specs.Ahead.{left_ahead};
 ghost use Rattle.sw_workers.specs.Connected.{Happened, Waited, mishaps, connection_seen, beside};
@@ -14,8 +14,8 @@ use crate::ahead::{HEADER, ReadAhead, channel_of, read_header};
 use crate::connection::Connection;
 use crate::desk::SharedDesk;
 use crate::gate::Gate;
-use crate::held::House;
-use crate::sides::Place;
+use crate::held::Mainframe;
+use crate::outboxes::Place;
 use crate::watched::Watched;
 use std::alloc::Global;
 use std::marker::PhantomData;
@@ -23,8 +23,7 @@ use std::sync::{Arc, Wait};
 use std::time::Clock;
 use sw_card::{Meter, Relay};
 use sw_session::{
-    Channel, Desk, ServeFault, Sink, Source, TURNS, Unread, Unwritten, serve_async_for,
-    serve_sync_for,
+    Channel, Desk, ServeFault, Sink, Source, TURNS, Unread, Unwritten, serve_async, serve_sync,
 };
 
 /// How long a read lasts at most, in milliseconds: service requests are told then, and a connection that has stood for
@@ -44,13 +43,13 @@ pub struct Ended<D: Drop, R: Source + Drop, O: Drop> {
 
 /// The side writer of a session's first channel: what is said on the second one is left to the thread that serves that.
 #[derive(Drop)]
-struct SideWriter<'a, H: House, W: Wait + Drop> {
+struct SideWriter<'a, H: Mainframe, W: Wait + Drop> {
     place: &'a Place,
     rt: W,
     of: PhantomData<H>,
 }
 
-impl<H: House, W: Wait + Drop> Sink for SideWriter<'_, H, W> {
+impl<H: Mainframe, W: Wait + Drop> Sink for SideWriter<'_, H, W> {
     ghost use Rattle.std.specs.Prelude.{None};
 
     ghost contents = { λ _. None };
@@ -111,7 +110,7 @@ impl<R: Source + Drop, A: Sink + Drop, W: Wait + Drop> Source for Forwarding<'_,
 
 /// Serves a connection as the channel that its first header tells, for so many reads after that at most.
 pub fn run_session_for<
-    H: House,
+    H: Mainframe,
     R: Relay,
     M: Meter,
     G: Gate + Drop,
@@ -153,7 +152,7 @@ pub fn run_session_for<
 
 /// `run_session_for` with 2^32 reads.
 pub fn run_session<
-    H: House,
+    H: Mainframe,
     R: Relay,
     M: Meter,
     G: Gate + Drop,
@@ -213,7 +212,7 @@ fn hear_header<C: Connection, W: Wait + Clock>(
     ensures bytes { Consumes (C.In.remaining reader.old) (C.In.remaining reader.new) header.new.items }
     ensures waits { Waited (C.In.pauses reader.old) (C.In.pauses reader.new) }
     ensures whole { OnOk result ((length header.new.items ≡ 16) ⊎ IsAtEnd (C.In.remaining reader.new)) }
-    ensures failed { OnErr result (CameTo C.In.failed reader.new) }
+    ensures failed { OnErr result (IsLedTo C.In.failed reader.new) }
 {
     if C::set_limit(reader, LIMIT_MS).is_err() {
         return Err(Unread::Failed);
@@ -222,7 +221,7 @@ fn hear_header<C: Connection, W: Wait + Clock>(
 }
 
 /// Reads the first header, and serves the channel that it tells.
-fn serve_parts<H: House, C: Connection, D: Desk + Drop, W: Wait + Clock + Copy + Drop>(
+fn serve_parts<H: Mainframe, C: Connection, D: Desk + Drop, W: Wait + Clock + Copy + Drop>(
     rt: W,
     alloc: Global,
     header: Vec<u8>,
@@ -268,7 +267,13 @@ fn serve_parts<H: House, C: Connection, D: Desk + Drop, W: Wait + Clock + Copy +
 }
 
 /// Serves a first channel.
-fn serve_first<H: House, R: Source + Drop, O: Sink + Drop, D: Desk + Drop, W: Wait + Clock + Drop>(
+fn serve_first<
+    H: Mainframe,
+    R: Source + Drop,
+    O: Sink + Drop,
+    D: Desk + Drop,
+    W: Wait + Clock + Drop,
+>(
     rt: W,
     alloc: Global,
     source: Watched<'_, ReadAhead<R>, W>,
@@ -294,7 +299,7 @@ fn serve_first<H: House, R: Source + Drop, O: Sink + Drop, D: Desk + Drop, W: Wa
         rt,
         of: PhantomData::<H>,
     };
-    let result = serve_sync_for(alloc, &mut source, &mut writer, &mut side, &mut desk, turns);
+    let result = serve_sync(alloc, &mut source, &mut writer, &mut side, &mut desk, turns);
     let Watched { reader, .. } = source;
     Ended {
         desk,
@@ -332,7 +337,7 @@ fn serve_second<
     let mut writer = writer;
     let mut desk = desk;
     let mut side = Nowhere;
-    let result = serve_async_for(alloc, &mut source, &mut writer, &mut side, &mut desk, turns);
+    let result = serve_async(alloc, &mut source, &mut writer, &mut side, &mut desk, turns);
     let Forwarding {
         reader: watched,
         aside: _,

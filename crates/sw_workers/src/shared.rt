@@ -18,13 +18,13 @@ use crate::available::AvailableRows;
 use crate::board::{BlankBoard, StatusBoard};
 use crate::closing::{Closed, take_cards};
 use crate::gate::Gate;
-use crate::held::{DeskPart, Held, House};
+use crate::held::{DeskPart, Held, Mainframe};
 use crate::note::Note;
-use crate::posts::{Posted, Posts, work_posts};
+use crate::outboxes::{Outboxes, Place};
 use crate::recorded::Recorded;
-use crate::sides::{Place, Sides};
 use crate::slots::SeatSlots;
 use crate::tried::lock_soon;
+use crate::work_channels::{WorkReceivers, WorkSenders, work_posts};
 use crossbeam_utils::CachePadded;
 use std::alloc::{AllocError, Global};
 use std::sync::ledger::{Blank, Share};
@@ -96,26 +96,26 @@ pub fn seating_in<R: Relay, M: Meter>(ask: &Ask<R, M>) -> Seating {
 
 /// What all threads share.
 #[derive(Drop)]
-pub struct Shared<H: House, R: Relay, M: Meter, G: Gate + Drop> {
+pub struct Shared<H: Mainframe, R: Relay, M: Meter, G: Gate + Drop> {
     /// On cache lines of its own: what is beside it is read by threads that don't have the lock.
     held: CachePadded<Mutex<Held<H, R, M>>>,
     /// Something happened, so that what was held may be asked again.
     happened: Condvar,
     board: Arc<StatusBoard<H>, Global>,
     slots: SeatSlots<H>,
-    posts: Mutex<Option<Posts<M>>>,
+    senders: Mutex<Option<WorkSenders<M>>>,
     available: AvailableRows,
-    sides: Arc<Sides, Global>,
+    outboxes: Arc<Outboxes, Global>,
     gate: G,
 }
 
-impl<H: House, R: Relay, M: Meter, G: Gate + Drop> Shared<H, R, M, G> {
+impl<H: Mainframe, R: Relay, M: Meter, G: Gate + Drop> Shared<H, R, M, G> {
     /// The mainframe behind its lock, and where its work is to be received.
     pub fn new(
         alloc: Global,
         opening: Opening<R, M>,
         gate: G,
-    ) -> Result<(Self, Posted<M>), AllocError>
+    ) -> Result<(Self, WorkReceivers<M>), AllocError>
         requires first { opening.core ≡ H.first }
         requires fresh { IsFresh opening.core }
         requires ledger { (opening.blank.name ≡ H.name) × (opening.blank.parts ≡ H.parts) }
@@ -128,19 +128,19 @@ impl<H: House, R: Relay, M: Meter, G: Gate + Drop> Shared<H, R, M, G> {
         let board = Arc::new(alloc, board)?;
         let recorded = Recorded::new(core, pass, Arc::try_clone(&board)?);
         let held = Held::new(alloc, recorded, events, spare)?;
-        let (posts, posted) = work_posts(alloc)?;
-        let sides = Arc::new(alloc, Sides::new(alloc)?)?;
+        let (senders, receivers) = work_posts(alloc)?;
+        let outboxes = Arc::new(alloc, Outboxes::new(alloc)?)?;
         let shared = Shared {
             held: CachePadded::new(Mutex::new(held)),
             happened: Condvar::new(),
             board,
             slots: SeatSlots::new(alloc)?,
-            posts: Mutex::new(Some(posts)),
+            senders: Mutex::new(Some(senders)),
             available: AvailableRows::new(alloc)?,
-            sides,
+            outboxes,
             gate,
         };
-        Ok((shared, posted))
+        Ok((shared, receivers))
     }
 
     /// What a thread passes before it goes on.
@@ -150,9 +150,9 @@ impl<H: House, R: Relay, M: Meter, G: Gate + Drop> Shared<H, R, M, G> {
 
     /// Where one more desk notes its session, or none where no memory is to be had.
     pub fn place(&self) -> Option<Arc<Place, Global>> {
-        let alloc = self.sides.alloc();
-        let sides = Arc::try_clone(&self.sides).ok()?;
-        Arc::new(alloc, Place::new(sides)).ok()
+        let alloc = self.outboxes.alloc();
+        let outboxes = Arc::try_clone(&self.outboxes).ok()?;
+        Arc::new(alloc, Place::new(outboxes)).ok()
     }
 
     /// A part for one more desk, or none where there are 2^33 desks, or the end has begun.
@@ -199,11 +199,11 @@ impl<H: House, R: Relay, M: Meter, G: Gate + Drop> Shared<H, R, M, G> {
         ensures sent { IfNone result (H.sent (piece_seen piece)) }
         ensures back { IfSome result (λ back. piece_seen back ≡ piece_seen piece) }
     {
-        let guard = self.posts.lock(rt);
-        let Some(posts) = &*guard else {
+        let guard = self.senders.lock(rt);
+        let Some(senders) = &*guard else {
             return Some(piece);
         };
-        posts.send::<H, W>(rt, piece)
+        senders.send::<H, W>(rt, piece)
     }
 
     /// Waits until the mainframe's turn is another than this, for so many milliseconds at most.
@@ -253,14 +253,14 @@ impl<H: House, R: Relay, M: Meter, G: Gate + Drop> Shared<H, R, M, G> {
     /// No connection is served that comes from now on, and nothing more is read from those that are: each session ends
     /// after the message that it is in. Or all connections end at once.
     pub fn end_lines<W: Wait>(&self, rt: &W, is_at_once: bool) {
-        self.sides.end_all(rt, is_at_once);
+        self.outboxes.end_all(rt, is_at_once);
     }
 
     /// Nobody has to wait any more, and no work is sent any more: workers end once they have taken what was.
     pub fn end_work<W: Wait>(&self, rt: &W) {
         self.held.lock(rt).close();
         self.happened.notify_all();
-        let ended = self.posts.lock(rt).take();
+        let ended = self.senders.lock(rt).take();
         drop(ended);
     }
 

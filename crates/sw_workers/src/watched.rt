@@ -1,6 +1,6 @@
 //! A source whose connection ends where it has stood for too long without its session's other one.
 
-use crate::sides::Place;
+use crate::outboxes::Place;
 use std::sync::Wait;
 use std::time::Clock;
 use sw_session::{Source, Unread};

@@ -5,7 +5,7 @@ ghost use Rattle.sw_workers.specs.Work.{Works};
 
 use crate::desk::SharedDesk;
 use crate::gate::{Gate, Point};
-use crate::held::House;
+use crate::held::Mainframe;
 use crate::pauses::{Next, Pause, Standing};
 use crossbeam_channel::{Receiver, RecvTimeoutError};
 use std::sync::Wait;
@@ -15,10 +15,13 @@ use sw_card::{Meter, Relay};
 use sw_core::{Ask, Work};
 
 /// Makes measurements until no more can come, and gives its desk back. It measures under no lock.
-pub fn run_card_worker<H: House, R: Relay, M: Meter, G: Gate + Drop, W: Wait + Clock + Copy + Drop>(
-    desk: SharedDesk<H, R, M, G, W>,
-    jobs: Receiver<Job<M>>,
-) -> SharedDesk<H, R, M, G, W>
+pub fn run_card_worker<
+    H: Mainframe,
+    R: Relay,
+    M: Meter,
+    G: Gate + Drop,
+    W: Wait + Clock + Copy + Drop,
+>(desk: SharedDesk<H, R, M, G, W>, jobs: Receiver<Job<M>>) -> SharedDesk<H, R, M, G, W>
     ensures { Works H.first desk.part result.part }
 {
     let mut own = desk;
@@ -35,7 +38,7 @@ pub fn run_card_worker<H: House, R: Relay, M: Meter, G: Gate + Drop, W: Wait + C
 /// Waits out the pause that stands, until no more can come, and gives its desk back. A pause that is stale is let go,
 /// and at the end none is waited out.
 pub fn run_timer_worker<
-    H: House,
+    H: Mainframe,
     R: Relay,
     M: Meter,
     G: Gate + Drop,
@@ -76,7 +79,7 @@ fn await_next<W: Wait + Clock>(rt: &W, pauses: &Receiver<Pause>, stands: Option<
 }
 
 /// Tells the end of a pause, and sees to what comes next.
-fn end_pause<H: House, R: Relay, M: Meter, G: Gate + Drop, W: Wait + Clock + Copy + Drop>(
+fn end_pause<H: Mainframe, R: Relay, M: Meter, G: Gate + Drop, W: Wait + Clock + Copy + Drop>(
     desk: &mut SharedDesk<H, R, M, G, W>,
     ticket: Ticket,
 )

@@ -11,7 +11,7 @@ use std::sync::Wait;
 use std::thread::Threads;
 use std::time::Clock;
 use sw_card::{Meter, Relay};
-use sw_workers::{Gate, House, SharedDesk};
+use sw_workers::{Gate, Mainframe, SharedDesk};
 
 /// A query whose answer was not taken is interrupted, and its own answer comes.
 fn interrupts<W: Wait + Clock + Copy + Drop>(client: &Client<W>) -> bool {
@@ -70,7 +70,7 @@ pub fn aborts_a_pause<W: Wait + Clock + Copy + Drop>(one: &Client<W>, other: &Cl
 }
 
 impl<
-    H: House + Send + Sync + 'static,
+    H: Mainframe + Send + Sync + 'static,
     R: Relay + Send + 'static,
     M: Meter + Send + 'static,
     G: Gate + Drop + Send + Sync + 'static,

@@ -12,7 +12,7 @@ use std::time::Clock;
 use sw_card::{Card, Meter, Relay};
 use sw_core::Core;
 use sw_kinds::{Mux, SimDriver, SimSource, Volt};
-use sw_workers::{Closed, House, Open, Opening, Shared, SharedDesk, close_down};
+use sw_workers::{Closed, Mainframe, Open, Opening, Shared, SharedDesk, close_down};
 
 /// A mainframe with relay cards in slots 1 and 3 and a meter in slot 16. It is fresh.
 fn spread(alloc: Global) -> Option<Core<Mux<SimDriver>, Volt<SimSource>>>
@@ -36,7 +36,7 @@ fn spread(alloc: Global) -> Option<Core<Mux<SimDriver>, Volt<SimSource>>>
 }
 
 /// Closes a mainframe down that no worker serves, after a session told it this.
-fn closed_after<H: House, R: Relay, M: Meter, W: Wait + Clock + Copy + Drop>(
+fn closed_after<H: Mainframe, R: Relay, M: Meter, W: Wait + Clock + Copy + Drop>(
     rt: W,
     alloc: Global,
     opening: Opening<R, M>,
@@ -46,7 +46,7 @@ fn closed_after<H: House, R: Relay, M: Meter, W: Wait + Clock + Copy + Drop>(
     requires ledger { (opening.blank.name ≡ H.name) × (opening.blank.parts ≡ H.parts) }
     requires board { (opening.board.table.shared.table_id ≡ H.table) × (opening.board.table.shared.key ≡ H.opening) }
 {
-    let (shared, posted) = Shared::<H, R, M, Open>::new(alloc, opening, Open).ok()?;
+    let (shared, receivers) = Shared::<H, R, M, Open>::new(alloc, opening, Open).ok()?;
     let shared = Arc::new(alloc, shared).ok()?;
     let mut desk = SharedDesk::open(rt, &shared)?;
     let sid = join(&mut desk)?;
@@ -54,7 +54,7 @@ fn closed_after<H: House, R: Relay, M: Meter, W: Wait + Clock + Copy + Drop>(
     let mut desks = Vec::new(alloc);
     desks.push(desk).ok()?;
     let closed = close_down(&rt, alloc, shared, desks).ok()?;
-    drop(posted);
+    drop(receivers);
     if is_done {
         return Some(closed);
     }

@@ -15,7 +15,7 @@ use std::time::{Clock, Duration, Instant};
 use sw_card::{Meter, Relay};
 use sw_kinds::{SimDriver, SimSource};
 use sw_session::{Desk, Wake};
-use sw_workers::{House, Open, Opening, Shared, SharedDesk};
+use sw_workers::{Mainframe, Open, Opening, Shared, SharedDesk};
 
 /// A clock that goes on only by as much as is slept by it, and by a step each time that it is read, in microseconds.
 #[derive(Clone, Copy, Drop)]
@@ -57,7 +57,7 @@ enum Alone {
 }
 
 /// Whether it goes so.
-fn goes_alone<H: House, R: Relay, M: Meter, W: Wait + Clock + Copy + Drop>(
+fn goes_alone<H: Mainframe, R: Relay, M: Meter, W: Wait + Clock + Copy + Drop>(
     rt: W,
     alloc: Global,
     opening: Opening<R, M>,
@@ -67,10 +67,10 @@ fn goes_alone<H: House, R: Relay, M: Meter, W: Wait + Clock + Copy + Drop>(
     requires ledger { (opening.blank.name ≡ H.name) × (opening.blank.parts ≡ H.parts) }
     requires board { (opening.board.table.shared.table_id ≡ H.table) × (opening.board.table.shared.key ≡ H.opening) }
 {
-    let Ok((shared, posted)) = Shared::<H, R, M, Open>::new(alloc, opening, Open) else {
+    let Ok((shared, receivers)) = Shared::<H, R, M, Open>::new(alloc, opening, Open) else {
         return false;
     };
-    drop(posted);
+    drop(receivers);
     let Ok(shared) = Arc::new(alloc, shared) else {
         return false;
     };
@@ -93,7 +93,8 @@ fn ends_by<D: Desk + Drop>(alloc: Global, desk: Option<D>) -> bool {
 }
 
 /// Whether a limit of a minute runs out by these desks, where the clock goes on by a second each time that it is read:
-/// where the limit begins, before the wait and after it. A limit that is told as it was left goes on, and another begins.
+/// where the limit begins, before the wait and after it. A limit that is told as it was left goes on, and another
+/// begins.
 fn runs_out_by<D: Desk + Drop>(alloc: Global, first: Option<D>, second: Option<D>) -> bool {
     let (Some(mut first), Some(mut second)) = (first, second) else {
         return false;

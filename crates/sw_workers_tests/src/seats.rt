@@ -17,11 +17,11 @@ use sw_card::{Meter, Relay};
 use sw_core::{Answer, Ask, SessionAnswer, SessionAsk, Sid};
 use sw_kinds::{SimDriver, SimSource};
 use sw_lex::Command;
-use sw_workers::{DeskPart, Held, House, Opening, Recorded, StatusBoard, StatusSeat};
+use sw_workers::{DeskPart, Held, Mainframe, Opening, Recorded, StatusBoard, StatusSeat};
 
 /// A mainframe behind its lock, and the desk of its second session.
 #[derive(Drop)]
-struct Scene<H: House, R: Relay, M: Meter> {
+struct Scene<H: Mainframe, R: Relay, M: Meter> {
     board: Arc<StatusBoard<H>, Global>,
     held: Held<H, R, M>,
     part: DeskPart<H>,
@@ -29,7 +29,7 @@ struct Scene<H: House, R: Relay, M: Meter> {
 }
 
 /// Joins as a session, by a desk.
-fn joins<H: House, R: Relay, M: Meter>(
+fn joins<H: Mainframe, R: Relay, M: Meter>(
     held: &mut Held<H, R, M>,
     part: &mut DeskPart<H>,
 ) -> Option<Sid> {
@@ -42,7 +42,7 @@ fn joins<H: House, R: Relay, M: Meter>(
     }
 }
 
-impl<H: House, R: Relay, M: Meter> Scene<H, R, M> {
+impl<H: Mainframe, R: Relay, M: Meter> Scene<H, R, M> {
     /// A mainframe with two sessions.
     fn open(alloc: Global, opening: Opening<R, M>) -> Option<Self>
         requires first { (opening.core ≡ H.first) × IsFresh opening.core }
@@ -88,10 +88,12 @@ impl<H: House, R: Relay, M: Meter> Scene<H, R, M> {
 
 /// What seats tell that were split before the two events, between them and after them, the last one read while the
 /// mainframe's lock is held.
-fn tell<H: House + Send + Sync, R: Relay + Send, M: Meter + Send, W: Threads + Wait + Abort + Sync>(
-    rt: &W,
-    scene: Scene<H, R, M>,
-) {
+fn tell<
+    H: Mainframe + Send + Sync,
+    R: Relay + Send,
+    M: Meter + Send,
+    W: Threads + Wait + Abort + Sync,
+>(rt: &W, scene: Scene<H, R, M>) {
     let mut scene = scene;
     let mut early = scene.splits();
     assert!(rt; early.read(&scene.board) == (0, 0));
@@ -121,11 +123,12 @@ fn tell<H: House + Send + Sync, R: Relay + Send, M: Meter + Send, W: Threads + W
 }
 
 /// The mainframe's name is chosen where a test begins.
-fn play<H: House + Send + Sync, R: Relay + Send, M: Meter + Send, W: Threads + Wait + Abort + Sync>(
-    rt: &W,
-    alloc: Global,
-    opening: Opening<R, M>,
-)
+fn play<
+    H: Mainframe + Send + Sync,
+    R: Relay + Send,
+    M: Meter + Send,
+    W: Threads + Wait + Abort + Sync,
+>(rt: &W, alloc: Global, opening: Opening<R, M>)
     requires first { (opening.core ≡ H.first) × IsFresh opening.core }
     requires ledger { (opening.blank.name ≡ H.name) × (opening.blank.parts ≡ H.parts) }
     requires board { (opening.board.table.shared.table_id ≡ H.table) × (opening.board.table.shared.key ≡ H.opening) }

@@ -8,10 +8,10 @@ use std::thread;
 use std::thread::{JoinHandle, Threads};
 use std::time::Clock;
 use sw_card::{Meter, Relay};
-use sw_workers::{Ended, Gate, House, SharedDesk, Wired, run_session};
+use sw_workers::{Ended, Gate, Mainframe, SharedDesk, Wired, run_session};
 
 /// Serves a connection, and gives the desk back.
-fn serve<H: House, R: Relay, M: Meter, G: Gate + Drop, W: Wait + Clock + Copy + Drop>(
+fn serve<H: Mainframe, R: Relay, M: Meter, G: Gate + Drop, W: Wait + Clock + Copy + Drop>(
     alloc: Global,
     desk: SharedDesk<H, R, M, G, W>,
     connection: Wired<Incoming<W>, Outgoing<W>, Outgoing<W>>,
@@ -33,7 +33,7 @@ fn serve<H: House, R: Relay, M: Meter, G: Gate + Drop, W: Wait + Clock + Copy + 
 
 /// Serves the other end by this desk, in a thread of its own.
 pub fn serve_by<
-    H: House + Send + Sync + 'static,
+    H: Mainframe + Send + Sync + 'static,
     R: Relay + Send + 'static,
     M: Meter + Send + 'static,
     G: Gate + Drop + Send + Sync + 'static,
@@ -49,7 +49,7 @@ pub fn serve_by<
 }
 
 impl<
-    H: House + Send + Sync + 'static,
+    H: Mainframe + Send + Sync + 'static,
     R: Relay + Send + 'static,
     M: Meter + Send + 'static,
     G: Gate + Drop + Send + Sync + 'static,

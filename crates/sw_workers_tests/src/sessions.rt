@@ -13,7 +13,7 @@ use std::thread::Threads;
 use std::time::Clock;
 use sw_card::{Meter, Relay};
 use sw_kinds::{SimDriver, SimSource};
-use sw_workers::{Gate, House, Open, Opening, SharedDesk};
+use sw_workers::{Gate, Mainframe, Open, Opening, SharedDesk};
 
 /// A client: the ends of its two connections, and how many sessions joined before it began.
 #[derive(Drop)]
@@ -183,7 +183,8 @@ const LOCK_INFO: &[u8] = b"HS\x18\x00\x00\x00\x00\x00\x00\x00\x00\x00\x00\x00\x0
 
 const UNLOCKED: &[u8] = b"HS\x19\x00\x00\x00\x00\x00\x00\x00\x00\x00\x00\x00\x00\x00";
 
-/// Two messages, the second an error for which the first asks to be served, and AsyncServiceRequest with the status byte.
+/// Two messages, the second an error for which the first asks to be served, and AsyncServiceRequest with the status
+/// byte.
 const SERVICE: &[u8] = b"HS\x07\x00\xff\xff\xff\x00\x00\x00\x00\x00\x00\x00\x00\x07*SRE 4\n\
     HS\x07\x00\xff\xff\xff\x02\x00\x00\x00\x00\x00\x00\x00\x04FOO\n";
 
@@ -322,7 +323,7 @@ fn leaves_aside<W: Wait + Clock + Copy + Drop>(one: &Client<W>, other: &Client<W
 }
 
 impl<
-    H: House + Send + Sync + 'static,
+    H: Mainframe + Send + Sync + 'static,
     R: Relay + Send + 'static,
     M: Meter + Send + 'static,
     G: Gate + Drop + Send + Sync + 'static,
@@ -364,7 +365,7 @@ impl<
 
 /// Plays over a mainframe that is put behind its lock, and closes it down. Whether all went as it should.
 fn play_behind<
-    H: House + Send + Sync + 'static,
+    H: Mainframe + Send + Sync + 'static,
     R: Relay + Send + 'static,
     M: Meter + Send + 'static,
     G: Gate + Drop + Send + Sync + 'static,

@@ -20,8 +20,8 @@ use sw_core::{Answer, Ask, Core, SessionAnswer, SessionAsk, Sid, runs_go_on};
 use sw_kinds::{Driver, Mux, SimDriver, Source, Volt};
 use sw_session::{Desk, Talker};
 use sw_workers::{
-    Closed, Gate, House, Note, Opening, Posted, Shared, SharedDesk, close_down, run_card_worker,
-    run_timer_worker,
+    Closed, Gate, Mainframe, Note, Opening, Shared, SharedDesk, WorkReceivers, close_down,
+    run_card_worker, run_timer_worker,
 };
 
 /// Whether a card comes into the slot. The mainframe stays fresh.
@@ -76,7 +76,7 @@ pub fn fitted<D: Driver, S: Source>(
 /// A mainframe that threads share, and its workers.
 #[derive(Drop)]
 pub struct Shop<
-    H: House + Send + Sync + 'static,
+    H: Mainframe + Send + Sync + 'static,
     R: Relay + Send + 'static,
     M: Meter + Send + 'static,
     G: Gate + Drop + Send + Sync + 'static,
@@ -88,7 +88,7 @@ pub struct Shop<
 }
 
 impl<
-    H: House + Send + Sync + 'static,
+    H: Mainframe + Send + Sync + 'static,
     R: Relay + Send + 'static,
     M: Meter + Send + 'static,
     G: Gate + Drop + Send + Sync + 'static,
@@ -101,13 +101,13 @@ impl<
         requires board { (opening.board.table.shared.table_id ≡ H.table)
             × (opening.board.table.shared.key ≡ H.opening) }
     {
-        let Ok((shared, posted)) = Shared::<H, R, M, G>::new(alloc, opening, gate) else {
+        let Ok((shared, receivers)) = Shared::<H, R, M, G>::new(alloc, opening, gate) else {
             return None;
         };
         let Ok(shared) = Arc::new(alloc, shared) else {
             return None;
         };
-        Shop::staff(rt, alloc, shared, posted)
+        Shop::staff(rt, alloc, shared, receivers)
     }
 
     /// Starts the workers.
@@ -115,9 +115,9 @@ impl<
         rt: W,
         alloc: Global,
         shared: Arc<Shared<H, R, M, G>, Global>,
-        posted: Posted<M>,
+        receivers: WorkReceivers<M>,
     ) -> Option<Self> {
-        let Posted { jobs, pauses } = posted;
+        let WorkReceivers { jobs, pauses } = receivers;
         let for_jobs = SharedDesk::open(rt, &shared)?;
         let for_pauses = SharedDesk::open(rt, &shared)?;
         let card_worker = thread::spawn(&rt, move || run_card_worker(for_jobs, jobs)).ok()?;
@@ -188,7 +188,7 @@ fn is_card<R: Relay, M: Meter>(slot: &Option<Card<R, M>>, serial: u32) -> bool {
 
 /// Plays a scene over a mainframe that is put behind its lock.
 fn play_behind<
-    H: House + Send + Sync + 'static,
+    H: Mainframe + Send + Sync + 'static,
     R: Relay + Send + 'static,
     M: Meter + Send + 'static,
     G: Gate + Drop + Send + Sync + 'static,

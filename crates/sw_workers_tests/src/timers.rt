@@ -82,8 +82,8 @@ impl<W: Threads + Wait + Clock + Copy + Drop + Send + Sync + 'static> Signalled<
     }
 }
 
-/// Two cards came in, two sessions joined, and they asked for 13 things, the beginning of the scan being two of them. The
-/// scan itself makes 6 events: three readings, the late end, which it misses, and the two ends that it takes.
+/// Two cards came in, two sessions joined, and they asked for 13 things, the beginning of the scan being two of them.
+/// The scan itself makes 6 events: three readings, the late end, which it misses, and the two ends that it takes.
 #[test]
 fn the_end_of_a_timer_is_missed_once_a_signal_passed_its_wait(rt: HostRuntime) -> Result<(), Fail> {
     let latch = Latch::new(rt.alloc(), rt)?;
@@ -100,8 +100,8 @@ fn the_end_of_a_timer_is_missed_once_a_signal_passed_its_wait(rt: HostRuntime) -
     Ok(())
 }
 
-/// A timer of an hour that a signal passed, and one of a scan that was aborted, hold up no timer of a millisecond. Gives
-/// the desks back, where all went as it should.
+/// A timer of an hour that a signal passed, and one of a scan that was aborted, hold up no timer of a millisecond.
+/// Gives the desks back, where all went as it should.
 pub fn outpaces<D: Desk + Drop + Send + 'static>(
     alloc: Global,
     first: D,

@@ -125,7 +125,8 @@ const ENDED: &[u8] = b"HS\x07\x00\xff\xff\xff\x00\x00\x00\x00\x00\x00\x00\x00\x0
 /// A scan whose pause has an hour.
 const LONG: &[u8] = b"TRIG:DEL 3600;:INIT\n";
 
-/// Session 2 begins many pauses that it aborts, and then a short one that is over in time, and leaves within a long one.
+/// Session 2 begins many pauses that it aborts, and then a short one that is over in time, and leaves within a long
+/// one.
 fn is_on_time<R: Net<Stream = TcpStream> + Clock>(
     rt: &R,
     alloc: Global,

@@ -9,7 +9,7 @@ use std::io::{self, ErrorKind, Write};
 use std::sync::{Arc, Mutex, Wait};
 use std::test::Fail;
 use sw_kinds::{Matrix, Volt};
-use sw_serve::Offer;
+use sw_serve::SlotCard;
 
 /// Keeps the lines that it takes. Channel 4 is out of order: what is to be said of it can't be sent.
 #[derive(Drop)]
@@ -41,9 +41,9 @@ fn answered<W: Wait + Copy + Drop>(
 ) -> Result<Vec<u8>, Fault> {
     let mut cards = Vec::new(alloc);
     let wire = Wire { rt, taken };
-    cards.push(Offer::relays(1, Matrix::new(1, 16, LineDriver::new(1, wire))))?;
+    cards.push(SlotCard::relays(1, Matrix::new(1, 16, LineDriver::new(1, wire))))?;
     let lines = b"7\nover\n-2000000000\n".as_slice();
-    cards.push(Offer::meter(4, Volt::new(4, LineSource::new(alloc, lines))))?;
+    cards.push(SlotCard::meter(4, Volt::new(4, LineSource::new(alloc, lines))))?;
     let mut reader = typed;
     let mut told = Vec::new(alloc);
     answer(alloc, &mut reader, &mut told, cards)?;
@@ -118,14 +118,14 @@ fn is_refused<W: Wait + Copy + Drop>(
     let other = LineDriver::new(2, Wire { rt, taken: theirs });
     let mut cards = Vec::new(alloc);
     cards
-        .push(Offer::relays(first, Matrix::new(1, 16, one)))
+        .push(SlotCard::relays(first, Matrix::new(1, 16, one)))
         .ok()?;
     cards
-        .push(Offer::relays(second, Matrix::new(2, 16, other)))
+        .push(SlotCard::relays(second, Matrix::new(2, 16, other)))
         .ok()?;
     let lines = b"".as_slice();
     cards
-        .push(Offer::meter(4, Volt::new(4, LineSource::new(alloc, lines))))
+        .push(SlotCard::meter(4, Volt::new(4, LineSource::new(alloc, lines))))
         .ok()?;
     let mut reader = b"*IDN?\n".as_slice();
     let mut told = Vec::new(alloc);

@@ -1,6 +1,7 @@
 //! The steps of a scan's code, from one that awaits to the next.
 
-ghost use Rattle.std.specs.Prelude.{◌≡◌, ℕ, suc, ◌+◌, ◌-◌, ◌^◌, ◌<◌, ◌≤◌, List, ◌∷◌, Some, None, true, false, slice_set};
+ghost use Rattle.std.specs.Prelude.{◌≡◌, ℕ, suc, ◌+◌, ◌-◌, ◌^◌, ◌<◌, ◌≤◌, List, ◌∷◌, Some, None, true, false};
+ghost use Rattle.std.specs.Prelude.{slice_set};
 ghost use Rattle.std.specs.Prelude.{slice_index_or, length, IfSome, IfNone};
 ghost use Rattle.std.specs.List.{slice_get, AllByRecursion};
 ghost use Rattle.sw_trigger.specs.Agenda.{Item, Awaits};

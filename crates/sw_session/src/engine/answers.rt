@@ -20,8 +20,8 @@ pub fn room_of(size: u64) -> usize
     size.min(LONGEST_PAYLOAD).saturating_sub(HEADER).max(1) as usize
 }
 
-/// The parts of an answer that are still to be said. The answer is kept as it is, and each part is made when it is asked
-/// for, so that all of them never stand in memory together. Contracts see their messages.
+/// The parts of an answer that are still to be said. The answer is kept as it is, and each part is made when it is
+/// asked for, so that all of them never stand in memory together. Contracts see their messages.
 #[derive(Debug, Drop)]
 pub struct Parts {
     id: u32,

@@ -2,9 +2,9 @@
 
 mod answers;
 mod asynchronous;
-mod front;
 mod initialization;
 mod locks;
+mod partial_message;
 mod program;
 mod refusals;
 mod requests;

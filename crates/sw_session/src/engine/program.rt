@@ -16,7 +16,7 @@ ghost use Rattle.sw_session.specs.declared.engine.step.Channel.TheVariants.{Sync
 
 use crate::desk::Desk;
 use crate::engine::answers::{Parts, room_of};
-use crate::engine::front::{Front, is_within, skipped, whole, with_part};
+use crate::engine::partial_message::{PartialMessage, is_within, skipped, whole, with_part};
 use crate::engine::refusals::{ErrorCode, FatalCode, error};
 use crate::engine::requests::{SyncRequest, is_program, sync_request};
 use crate::engine::responses::plain;
@@ -37,7 +37,7 @@ pub struct SyncSession {
     talker: Talker,
     /// Whether the second channel was seen to stand.
     attached: bool,
-    front: Front,
+    partial: PartialMessage,
 }
 
 impl Model for SyncSession {
@@ -46,7 +46,7 @@ impl Model for SyncSession {
 
     ghost Value = { SyncStanding };
 
-    ghost view = { λ s. record { sid = s.sid; macros = s.talker.macros; attached = s.attached; front = s.front } };
+    ghost view = { λ s. record { sid = s.sid; macros = s.talker.macros; attached = s.attached; partial = s.partial } };
 
     ghost invariant = { λ s. s.talker.sid ≡ s.sid };
 }
@@ -60,7 +60,7 @@ impl SyncSession {
             sid,
             talker: Talker::new(alloc, sid),
             attached: false,
-            front: Front::Nothing,
+            partial: PartialMessage::Nothing,
         }
     }
 
@@ -73,10 +73,10 @@ impl SyncSession {
 
     /// Drops what belongs to a message of this kind that was skipped for its size.
     pub fn skip(&mut self, kind: Kind)
-        ensures { self.new ≡ record self.old { front = skipped (sync_request kind) self.old.front } }
+        ensures { self.new ≡ record self.old { partial = skipped (sync_request kind) self.old.partial } }
     {
-        let front = replace(&mut self.front, Front::Nothing);
-        self.front = skipped(sync_request(kind), front);
+        let partial = replace(&mut self.partial, PartialMessage::Nothing);
+        self.partial = skipped(sync_request(kind), partial);
     }
 
     /// Serves a message after the first.
@@ -128,7 +128,7 @@ impl SyncSession {
     {
         let reply = complete(alloc, self.sid, desk);
         if !ends(&reply) {
-            self.front = Front::Nothing;
+            self.partial = PartialMessage::Nothing;
         }
         reply
     }
@@ -158,13 +158,13 @@ impl SyncSession {
             }
             None => {
                 self.attached = true;
-                self.hear(alloc, request, message, room, desk)
+                self.process(alloc, request, message, room, desk)
             }
         }
     }
 
     /// Looks at the last answer, and serves a message of a program.
-    fn hear<D: Desk>(
+    fn process<D: Desk>(
         &mut self,
         alloc: Global,
         request: SyncRequest,
@@ -228,24 +228,24 @@ impl SyncSession {
     /// Keeps a part of a program message.
     fn keep(&mut self, part: Sequence<u8>, said: Vec<Sent>) -> Result<Step, AllocError>
         ensures kept { IfOk result (λ step. (step ≡ joined (goes said.items) (goes []))
-            × (self.new ≡ record self.old { front = EngineSync.with_part self.old.front part })) }
+            × (self.new ≡ record self.old { partial = EngineSync.with_part self.old.partial part })) }
         ensures same { self.new.sid ≡ self.old.sid }
     {
-        let front = replace(&mut self.front, Front::Nothing);
-        self.front = with_part(front, part)?;
+        let partial = replace(&mut self.partial, PartialMessage::Nothing);
+        self.partial = with_part(partial, part)?;
         Ok(told(said, false))
     }
 
     /// Gives a trigger, and drops what came of a program message.
     fn trigger<D: Desk>(&mut self, said: Vec<Sent>, desk: &mut D) -> Step
         ensures ok { LedBy D.passes desk.old desk.new (λ asked.
-            SaysMore said.items result (λ own. Triggers (is_within self.old.front) self.old.sid asked own)) }
-        ensures state { self.new ≡ record self.old { front = Front.Nothing } }
+            SaysMore said.items result (λ own. Triggers (is_within self.old.partial) self.old.sid asked own)) }
+        ensures state { self.new ≡ record self.old { partial = PartialMessage.Nothing } }
         ensures same { self.new.sid ≡ self.old.sid }
     {
-        let within = is_within(&self.front);
+        let within = is_within(&self.partial);
         let ends = trigger(self.sid, within, desk);
-        self.front = Front::Nothing;
+        self.partial = PartialMessage::Nothing;
         told(said, ends)
     }
 
@@ -259,12 +259,12 @@ impl SyncSession {
     ) -> Result<Step, AllocError>
         ensures ok { IfOk result (λ step. LedBy D.passes desk.old desk.new (λ asked.
             SaysMore said.items step (λ own.
-            Finishes self.old id (EngineSync.whole self.old.front part) asked own self.new))) }
+            Finishes self.old id (EngineSync.whole self.old.partial part) asked own self.new))) }
         ensures err { OnErr result (LedBy D.passes desk.old desk.new (λ asked. asked ≡ [])) }
         ensures same { self.new.sid ≡ self.old.sid }
     {
-        let front = replace(&mut self.front, Front::Nothing);
-        match whole(front, part)? {
+        let partial = replace(&mut self.partial, PartialMessage::Nothing);
+        match whole(partial, part)? {
             Some(text) => Ok(self.converse(id, text.as_slice(), said, desk)),
             None => Ok(told(said, false)),
         }

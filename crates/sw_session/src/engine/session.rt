@@ -65,7 +65,7 @@ impl Engine {
     pub fn take<D: Desk>(&mut self, message: Message, desk: &mut D) -> Result<Step, AllocError>
         ensures ok { IfOk result (λ step. LedBy D.passes desk.old desk.new (λ asked.
             TakesMessage self.old.state message asked step self.new.state)) }
-        ensures heard { OnOk result ((self.old.spent ≡ false) × (self.new.spent ≡ false)) }
+        ensures processed { OnOk result ((self.old.spent ≡ false) × (self.new.spent ≡ false)) }
         ensures err { OnErr result (LedBy D.passes desk.old desk.new (λ asked. Falters self.old message asked)) }
         ensures spent { OnErr result (self.new.spent ≡ true) }
         ensures session { OnErr result (session_of self.new.state ≡ session_of self.old.state) }

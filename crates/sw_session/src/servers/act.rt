@@ -33,10 +33,10 @@ pub enum AfterStep {
 }
 
 /// Whether another act may follow.
-pub fn goes_on(heard: Result<AfterStep, ServeFault>) -> bool
-    ensures { result ≡ goes_on heard }
+pub fn goes_on(processed: Result<AfterStep, ServeFault>) -> bool
+    ensures { result ≡ goes_on processed }
 {
-    matches!(heard, Ok(AfterStep::Goes))
+    matches!(processed, Ok(AfterStep::Goes))
 }
 
 /// Whether the wire was refused.

@@ -45,7 +45,7 @@ pub fn serve_channel<R: Source, W: Sink, S: Sink, D: Desk>(
 }
 
 /// `serve_channel` of the synchronous channel.
-pub fn serve_sync_for<R: Source, W: Sink, S: Sink, D: Desk>(
+pub fn serve_sync<R: Source, W: Sink, S: Sink, D: Desk>(
     alloc: Global,
     reader: &mut R,
     writer: &mut W,
@@ -69,7 +69,7 @@ pub fn serve_sync_for<R: Source, W: Sink, S: Sink, D: Desk>(
 }
 
 /// `serve_channel` of the asynchronous channel.
-pub fn serve_async_for<R: Source, W: Sink, S: Sink, D: Desk>(
+pub fn serve_async<R: Source, W: Sink, S: Sink, D: Desk>(
     alloc: Global,
     reader: &mut R,
     writer: &mut W,

@@ -3,14 +3,14 @@
 mod act;
 mod channel;
 mod fault;
-mod hearing;
+mod processing;
 mod sending;
 mod source;
 mod speaking;
 mod turns;
 mod writing;
 
-pub use channel::{serve_async_for, serve_channel, serve_sync_for};
+pub use channel::{serve_async, serve_channel, serve_sync};
 pub use fault::ServeFault;
 pub use source::{Memory, Source, Unread};
 pub use writing::{Sink, Unwritten, write_all};

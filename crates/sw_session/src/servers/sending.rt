@@ -2,7 +2,7 @@
 
 ghost use Rattle.std.specs.Prelude.{◌≡◌, ◌⊎◌, Err, OnErr};
 ghost use Rattle.sw_hislip.specs.Wire.{wire};
-ghost use Rattle.sw_session.specs.ServeRead.{CameTo};
+ghost use Rattle.sw_session.specs.ServeRead.{IsLedTo};
 ghost use Rattle.sw_session.specs.ServeHand.{Hands, manner, outlets, notes_before, is_last_part};
 ghost use Rattle.sw_session.specs.ServeWrite.{is_own, wire_on, wire_off, Wrote};
 ghost use Rattle.sw_session.specs.Trace.{Leads};
@@ -59,7 +59,7 @@ fn hand_over<W: Sink, S: Sink, D: Desk>(
     ensures notes { Leads D.passes desk.old (notes_before session sent.now) desk.new }
     ensures main { Wrote result (W.contents writer.old) (W.contents writer.new) (wire_on own sent.now) }
     ensures side { Wrote result (S.contents side.old) (S.contents side.new) (wire_off own sent.now) }
-    ensures cause { OnErr result (CameTo W.failed writer.new ⊎ CameTo S.failed side.new) }
+    ensures cause { OnErr result (IsLedTo W.failed writer.new ⊎ IsLedTo S.failed side.new) }
 {
     note(session, sent, desk);
     if is_own(own, sent.channel) {
@@ -82,7 +82,7 @@ pub fn hand_all<W: Sink, S: Sink, D: Desk>(
     ensures hands { Hands (manner D.passes session own)
         (outlets desk.old (W.contents writer.old) (S.contents side.old))
         (outlets desk.new (W.contents writer.new) (S.contents side.new)) said.out result }
-    ensures cause { result ≡ Err ServeFault.Write → CameTo W.failed writer.new ⊎ CameTo S.failed side.new }
+    ensures cause { result ≡ Err ServeFault.Write → IsLedTo W.failed writer.new ⊎ IsLedTo S.failed side.new }
 {
     let mut left = said;
     loop {

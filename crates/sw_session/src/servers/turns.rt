@@ -2,8 +2,8 @@
 
 ghost use Rattle.std.specs.Prelude.{◌≡◌, ◌⊎◌, Ok, Err};
 ghost use Rattle.sw_hislip.specs.Pending.{Waits};
-ghost use Rattle.sw_session.specs.ServeRead.{CameTo};
-ghost use Rattle.sw_session.specs.Serve.{Listens, CountsCame, NextInput, HearsAll, TakesServerTurn, RunsChannel};
+ghost use Rattle.sw_session.specs.ServeRead.{IsLedTo};
+ghost use Rattle.sw_session.specs.Serve.{Listens, CountsReceived, NextInput, HearsAll, TakesServerTurn, RunsChannel};
 ghost use Rattle.sw_session.specs.Serve.{voice, point, course, conclude};
 ghost use Rattle.sw_session.specs.ServeEngine.{engine_protocol};
 
@@ -11,7 +11,7 @@ use crate::desk::Desk;
 use crate::engine::{Channel, Engine};
 use crate::servers::act::{Act, AfterStep, goes_on};
 use crate::servers::fault::ServeFault;
-use crate::servers::hearing::attend;
+use crate::servers::processing::attend;
 use crate::servers::source::{Source, Unread};
 use crate::servers::writing::Sink;
 use std::alloc::Global;
@@ -19,7 +19,7 @@ use sw_hislip::{Decoder, WireFault, every_message_comes_out, nothing_whole_is_le
 
 /// What a read gave.
 #[derive(Clone, Copy, Debug, PartialEq, Eq)]
-pub enum Came {
+pub enum Received {
     End,
     Bytes,
     /// Nothing: a time limit ended it.
@@ -34,33 +34,33 @@ pub enum Next {
 }
 
 /// One read. Its bytes are fed.
-fn listen<R: Source>(reader: &mut R, decoder: &mut Decoder) -> Result<Came, ServeFault>
+fn listen<R: Source>(reader: &mut R, decoder: &mut Decoder) -> Result<Received, ServeFault>
     ensures listens { Listens
         (R.remaining reader.old) (R.remaining reader.new) decoder.old.pending decoder.new.pending result }
-    ensures pauses { CountsCame (R.pauses reader.old) (R.pauses reader.new) result }
-    ensures read { result ≡ Err ServeFault.Read → CameTo R.failed reader.new }
+    ensures pauses { CountsReceived (R.pauses reader.old) (R.pauses reader.new) result }
+    ensures read { result ≡ Err ServeFault.Read → IsLedTo R.failed reader.new }
 {
     let mut buffer = [0_u8; 512];
     match reader.receive(&mut buffer) {
         Ok(n) => {
             if n == 0 {
-                return Ok(Came::End);
+                return Ok(Received::End);
             }
             match decoder.feed(&buffer[..n]) {
-                Ok(()) => Ok(Came::Bytes),
+                Ok(()) => Ok(Received::Bytes),
                 Err(_) => Err(ServeFault::NoMemory),
             }
         }
-        Err(Unread::Paused) => Ok(Came::Paused),
+        Err(Unread::Paused) => Ok(Received::Paused),
         Err(Unread::Failed) => Err(ServeFault::Read),
     }
 }
 
 /// How a turn ends.
-fn conclude(heard: Result<AfterStep, ServeFault>) -> Result<Next, ServeFault>
-    ensures { result ≡ conclude heard }
+fn conclude(processed: Result<AfterStep, ServeFault>) -> Result<Next, ServeFault>
+    ensures { result ≡ conclude processed }
 {
-    match heard {
+    match processed {
         Ok(AfterStep::Goes) => Ok(Next::On),
         Ok(AfterStep::Ends) => Ok(Next::Over),
         Ok(AfterStep::Fatal) => Err(ServeFault::Fatal),
@@ -83,7 +83,7 @@ fn next_input(alloc: Global, decoder: &mut Decoder) -> Result<Option<Act>, Serve
 }
 
 /// Goes through all whole messages, or those up to one that ends the channel.
-fn hear_all<W: Sink, S: Sink, D: Desk>(
+fn process_all<W: Sink, S: Sink, D: Desk>(
     alloc: Global,
     own: Channel,
     decoder: &mut Decoder,
@@ -92,10 +92,10 @@ fn hear_all<W: Sink, S: Sink, D: Desk>(
     side: &mut S,
     desk: &mut D,
 ) -> Result<AfterStep, ServeFault>
-    ensures heard { HearsAll (voice engine_protocol D.passes own) decoder.old.pending decoder.new.pending
+    ensures processed { HearsAll (voice engine_protocol D.passes own) decoder.old.pending decoder.new.pending
         (point engine.old desk.old (W.contents writer.old) (S.contents side.old))
         (point engine.new desk.new (W.contents writer.new) (S.contents side.new)) result }
-    ensures write { result ≡ Err ServeFault.Write → CameTo W.failed writer.new ⊎ CameTo S.failed side.new }
+    ensures write { result ≡ Err ServeFault.Write → IsLedTo W.failed writer.new ⊎ IsLedTo S.failed side.new }
 {
     loop {
         let input = match next_input(alloc, decoder) {
@@ -103,9 +103,9 @@ fn hear_all<W: Sink, S: Sink, D: Desk>(
             Ok(None) => return Ok(AfterStep::Goes),
             Err(fault) => return Err(fault),
         };
-        let heard = attend(alloc, own, input, engine, writer, side, desk);
-        if !goes_on(heard) {
-            return heard;
+        let processed = attend(alloc, own, input, engine, writer, side, desk);
+        if !goes_on(processed) {
+            return processed;
         }
     }
 }
@@ -128,14 +128,24 @@ fn take_turn<R: Source, W: Sink, S: Sink, D: Desk>(
         (course (point engine.new desk.new (W.contents writer.new) (S.contents side.new)) (R.remaining reader.new)
         (R.pauses reader.new))
         result }
-    ensures read { result ≡ Err ServeFault.Read → CameTo R.failed reader.new }
-    ensures write { result ≡ Err ServeFault.Write → CameTo W.failed writer.new ⊎ CameTo S.failed side.new }
+    ensures read { result ≡ Err ServeFault.Read → IsLedTo R.failed reader.new }
+    ensures write { result ≡ Err ServeFault.Write → IsLedTo W.failed writer.new ⊎ IsLedTo S.failed side.new }
 {
     match listen(reader, decoder) {
         Err(fault) => Err(fault),
-        Ok(Came::End) => Ok(Next::Over),
-        Ok(Came::Paused) => conclude(attend(alloc, own, Act::Notices, engine, writer, side, desk)),
-        Ok(Came::Bytes) => conclude(hear_all(alloc, own, decoder, engine, writer, side, desk)),
+        Ok(Received::End) => Ok(Next::Over),
+        Ok(Received::Paused) => conclude(attend(
+            alloc,
+            own,
+            Act::Notices,
+            engine,
+            writer,
+            side,
+            desk,
+        )),
+        Ok(Received::Bytes) => conclude(process_all(
+            alloc, own, decoder, engine, writer, side, desk,
+        )),
     }
 }
 
@@ -157,8 +167,8 @@ pub fn run<R: Source, W: Sink, S: Sink, D: Desk>(
         (course (point engine.new desk.new (W.contents writer.new) (S.contents side.new)) (R.remaining reader.new)
         (R.pauses reader.new))
         result }
-    ensures read { result ≡ Err ServeFault.Read → CameTo R.failed reader.new }
-    ensures write { result ≡ Err ServeFault.Write → CameTo W.failed writer.new ⊎ CameTo S.failed side.new }
+    ensures read { result ≡ Err ServeFault.Read → IsLedTo R.failed reader.new }
+    ensures write { result ≡ Err ServeFault.Write → IsLedTo W.failed writer.new ⊎ IsLedTo S.failed side.new }
 {
     every_message_comes_out();
     nothing_whole_is_left();

@@ -1,4 +1,4 @@
-use Rattle.mainframe.proofs.Welcome.{program_welcome}
+use Rattle.mainframe.proofs.WelcomeLemmas.{program_welcome}
 use Rattle.mainframe.proofs.laws.cards_are_welcome.Goals as goal
 
 pub returns : goal.returns

@@ -1,4 +1,4 @@
-use Rattle.mainframe.proofs.Determined.{run_once}
+use Rattle.mainframe.proofs.DeterminedLemmas.{run_once}
 use Rattle.mainframe.proofs.laws.run_is_determined.Goals as goal
 
 pub returns : goal.returns

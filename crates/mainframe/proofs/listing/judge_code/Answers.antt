@@ -1,4 +1,4 @@
-use Rattle.mainframe.proofs.Listings.{said_refused}
+use Rattle.mainframe.proofs.ListingsLemmas.{said_refused}
 use Rattle.mainframe.proofs.listing.judge_code.Goals as goal
 
 -- what is refused

@@ -2,7 +2,7 @@ use Rattle.std.proofs.Common.{◌≡◌, ◌++◌, ◌-◌, [], take, ap, ◌∙
 use Rattle.std.specs.Prelude.{slice_index}
 use Rattle.std.proofs.Transfers.{StopsAt-take}
 use Rattle.sw_base.specs.Limits.{most_kept}
-use Rattle.mainframe.proofs.Kept.{kept-fits}
+use Rattle.mainframe.proofs.KeptLemmas.{kept-fits}
 use Rattle.mainframe.proofs.reading.keep_line.Goals as goal
 
 pub returns-in-Ok-clause-line : goal.returns-in-Ok-clause-line

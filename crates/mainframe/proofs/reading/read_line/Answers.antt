@@ -1,5 +1,5 @@
 use Rattle.std.proofs.Common.{◌≡◌, ◌∙◌, Ok, true, false, ap, arith}
-use Rattle.mainframe.proofs.Kept.{reading-none, reading-room, reading-more, reading-cut, reading-whole, at-err}
+use Rattle.mainframe.proofs.KeptLemmas.{reading-none, reading-room, reading-more, reading-cut, reading-whole, at-err}
 use Rattle.mainframe.proofs.TurnLemmas.{spends-none, spends-more}
 use Rattle.mainframe.proofs.reading.read_line.Goals as goal
 

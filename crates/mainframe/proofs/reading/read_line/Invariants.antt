@@ -1,5 +1,5 @@
 use Rattle.mainframe.specs.Turns.{Spends}
-use Rattle.mainframe.proofs.Kept.{Reading}
+use Rattle.mainframe.proofs.KeptLemmas.{Reading}
 use Rattle.mainframe.proofs.reading.read_line.Given as goal
 
 abbrev pub invariant-loop-turns : goal.invariant-loop-turns

@@ -4,7 +4,7 @@ use Rattle.sw_session.specs.ServeWrite.{WritesPart}
 use Rattle.sw_session.specs.Talk.{state}
 use Rattle.mainframe.specs.Turns.{Gathers, stand}
 use Rattle.mainframe.proofs.TurnLemmas.{unasked-none, unasked-one, unasked-two, gathers-none, keeps-same}
-use Rattle.mainframe.proofs.Runs.{shown-taken, line_rested}
+use Rattle.mainframe.proofs.RunsLemmas.{shown-taken, line_rested}
 use Rattle.mainframe.proofs.StandLemmas.{further, stops-output}
 use Rattle.mainframe.proofs.run.answer_at_hand.Goals as goal
 

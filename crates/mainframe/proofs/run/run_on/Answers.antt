@@ -6,9 +6,9 @@ use Rattle.sw_session.specs.ServeWrite.{WritesPart}
 use Rattle.sw_session.specs.Talk.{state, turns}
 use Rattle.mainframe.specs.declared.fault.RunFault.TheVariants.{Input, Output}
 use Rattle.mainframe.specs.Turns.{Gathers, stand}
-use Rattle.mainframe.proofs.Kept.{kept-none}
+use Rattle.mainframe.proofs.KeptLemmas.{kept-none}
 use Rattle.mainframe.proofs.TurnLemmas.{gathers-none, keeps-same}
-use Rattle.mainframe.proofs.Runs.{line_rested, cuts-none, cuts-line}
+use Rattle.mainframe.proofs.RunsLemmas.{line_rested, cuts-none, cuts-line}
 use Rattle.mainframe.proofs.StandLemmas.{further-asked, handed-none, at-hand, reading-end, reading-all, reading-cut, asks-none, asks-written}
 use Rattle.mainframe.proofs.StandLemmas.{stops-behind, same-fault, fails-write, stopped-asks}
 use Rattle.mainframe.proofs.run.run_on.Goals as goal

@@ -1,5 +1,5 @@
 use Rattle.std.proofs.Common.{refl}
-use Rattle.mainframe.proofs.Runs.{runs_begun}
+use Rattle.mainframe.proofs.RunsLemmas.{runs_begun}
 use Rattle.mainframe.proofs.run.run_over.Goals as goal
 
 pub returns-in-Ok : goal.returns-in-Ok

@@ -1,5 +1,5 @@
-use Rattle.mainframe.proofs.Kept.{at-err}
-use Rattle.mainframe.proofs.Pieces.{lost-more}
+use Rattle.mainframe.proofs.KeptLemmas.{at-err}
+use Rattle.mainframe.proofs.PiecesLemmas.{lost-more}
 use Rattle.mainframe.proofs.whole.read_whole.Goals as goal
 
 pub returns-in_err-take_piece-clause-part : goal.returns-in_err-take_piece-clause-part

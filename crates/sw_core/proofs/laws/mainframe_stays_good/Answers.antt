@@ -1,4 +1,4 @@
-use Rattle.sw_core.proofs.EveryRun.{stays_good}
+use Rattle.sw_core.proofs.EveryRunLemmas.{stays_good}
 use Rattle.sw_core.proofs.laws.mainframe_stays_good.Goals as goal
 
 pub returns : goal.returns

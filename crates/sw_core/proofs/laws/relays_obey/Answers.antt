@@ -1,4 +1,4 @@
-use Rattle.sw_core.proofs.Obeyed.{closes, opens, refused, failed, aborted, reset, stopped_rest, ejected}
+use Rattle.sw_core.proofs.ObeyedLemmas.{closes, opens, refused, failed, aborted, reset, stopped_rest, ejected}
 use Rattle.sw_core.proofs.laws.relays_obey.Goals as goal
 
 pub returns : goal.returns

@@ -1,5 +1,5 @@
 use Rattle.std.proofs.Common.{rules}
-use Rattle.sw_core.proofs.Rows.{open-first, open-next}
+use Rattle.sw_core.proofs.RowsLemmas.{open-first, open-next}
 use Rattle.sw_core.proofs.text.separate.Goals as goal
 
 pub returns-then-is_empty : goal.returns-then-is_empty

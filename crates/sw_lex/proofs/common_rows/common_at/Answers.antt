@@ -3,7 +3,7 @@ use Rattle.std.specs.List.{list_any}
 use Rattle.std.specs.Prelude.{◌==◌}
 use Rattle.sw_lex.specs.Table.{table, entries}
 use Rattle.sw_lex.specs.Rows.{entries_of}
-use Rattle.sw_lex.proofs.Parts.{at_letter, no_common, common_letters}
+use Rattle.sw_lex.proofs.PartsLemmas.{at_letter, no_common, common_letters}
 use Rattle.sw_lex.proofs.common_rows.common_at.Goals as goal
 
 pub returns-in-73 : goal.returns-in-73

@@ -1,6 +1,6 @@
 use Rattle.std.proofs.Common.{◌<◌, length, rules}
-use Rattle.sw_lex.proofs.Blocks.{block_whole}
-use Rattle.sw_lex.proofs.Once.{bad_block_not}
+use Rattle.sw_lex.proofs.BlocksLemmas.{block_whole}
+use Rattle.sw_lex.proofs.OnceLemmas.{bad_block_not}
 use Rattle.sw_lex.proofs.elements.block_bytes.Goals as goal
 
 pub returns-in-Err-clause-none : goal.returns-in-Err-clause-none

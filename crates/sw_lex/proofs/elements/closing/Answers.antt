@@ -1,4 +1,4 @@
-use Rattle.sw_lex.proofs.Quotes.{never_closed, closed_at, doubled_on}
+use Rattle.sw_lex.proofs.QuotesLemmas.{never_closed, closed_at, doubled_on}
 use Rattle.sw_lex.proofs.elements.closing.Goals as goal
 
 pub returns-in-None-clause-none : goal.returns-in-None-clause-none

@@ -1,4 +1,4 @@
-use Rattle.sw_lex.proofs.Leading.{element_tail}
+use Rattle.sw_lex.proofs.LeadingLemmas.{element_tail}
 use Rattle.sw_lex.proofs.elements.read_from.Goals as goal
 
 pub before-requires : goal.before-requires

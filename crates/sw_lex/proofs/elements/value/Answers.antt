@@ -1,6 +1,6 @@
 use Rattle.std.proofs.Common.{arith, rules, sym, ◌∙◌}
 use Rattle.sw_base.proofs.Values.{value_at, value_at_le}
-use Rattle.sw_lex.proofs.Blocks.{nine}
+use Rattle.sw_lex.proofs.BlocksLemmas.{nine}
 use Rattle.sw_lex.proofs.elements.value.Goals as goal
 
 pub loop-digit-preserved : goal.loop-digit-preserved

@@ -1,4 +1,4 @@
-use Rattle.sw_lex.proofs.Counted.{found_some, found_none, nothing_of}
+use Rattle.sw_lex.proofs.CountedLemmas.{found_some, found_none, nothing_of}
 use Rattle.sw_lex.proofs.headers.find.Goals as goal
 
 pub returns-in-empty-clause-none : goal.returns-in-empty-clause-none

@@ -1,5 +1,5 @@
 use Rattle.std.proofs.Common.{arith}
-use Rattle.sw_lex.proofs.Asked.{kept_some, kept_none, kept_many}
+use Rattle.sw_lex.proofs.AskedLemmas.{kept_some, kept_none, kept_many}
 use Rattle.sw_lex.proofs.headers.find_kept.Goals as goal
 
 pub returns-then-numbers-gt4-clause-none : goal.returns-then-numbers-gt4-clause-none

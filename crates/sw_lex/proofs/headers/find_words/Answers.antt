@@ -3,8 +3,8 @@ use Rattle.std.specs.Char.{to_ascii_uppercase}
 use Rattle.sw_lex.specs.Table.{entries}
 use Rattle.sw_lex.specs.Found.{IsFound}
 use Rattle.sw_lex.specs.Packed.{AreNumbersOf}
-use Rattle.sw_lex.proofs.Parts.{nothing_there}
-use Rattle.sw_lex.proofs.Counted.{words_some, words_none}
+use Rattle.sw_lex.proofs.PartsLemmas.{nothing_there}
+use Rattle.sw_lex.proofs.CountedLemmas.{words_some, words_none}
 use Rattle.sw_lex.proofs.headers.find_words.Goals as goal
 
 abbrev words_up : List (Bor (List ℕ)) → List (List ℕ)

@@ -1,6 +1,6 @@
 use Rattle.std.proofs.Common.{map, sym, ◌∙◌}
 use Rattle.std.specs.Char.{to_ascii_uppercase}
-use Rattle.sw_lex.proofs.Forms.{is_form_yes, is_form_so, named_is}
+use Rattle.sw_lex.proofs.FormsLemmas.{is_form_yes, is_form_so, named_is}
 use Rattle.sw_lex.proofs.headers.is_form.Goals as goal
 
 pub returns-clause-form : goal.returns-clause-form

@@ -1,5 +1,5 @@
 use Rattle.sw_lex.specs.Table.{entries}
-use Rattle.sw_lex.proofs.Apart.{one_found, entries_apart}
+use Rattle.sw_lex.proofs.ApartLemmas.{one_found, entries_apart}
 use Rattle.sw_lex.proofs.headers.one_command.Goals as goal
 
 pub returns : goal.returns

@@ -1,6 +1,6 @@
 use Rattle.std.proofs.Common.{true, false, refl}
 use Rattle.sw_lex.specs.Rows.{entries_of}
-use Rattle.sw_lex.proofs.Parts.{no_paths, no_word}
+use Rattle.sw_lex.proofs.PartsLemmas.{no_paths, no_word}
 use Rattle.sw_lex.proofs.headers.part_at.Goals as goal
 
 pub returns-in-empty : goal.returns-in-empty

@@ -1,4 +1,4 @@
-use Rattle.sw_lex.proofs.Meanings.{every_spelling}
+use Rattle.sw_lex.proofs.MeaningsLemmas.{every_spelling}
 use Rattle.sw_lex.proofs.meaning.every_spelling.Goals as goal
 
 pub returns : goal.returns

@@ -1,5 +1,5 @@
 use Rattle.std.proofs.Common.{inl, inr, refl}
-use Rattle.sw_lex.proofs.Nodes.{plain_of}
+use Rattle.sw_lex.proofs.NodesLemmas.{plain_of}
 use Rattle.sw_lex.proofs.meaning.refusal.Goals as goal
 
 pub returns-in-None : goal.returns-in-None

@@ -1,7 +1,7 @@
 use Rattle.std.proofs.Common.{◌≡◌, ◌<◌, length, map, subst, ap, ◌∙◌}
 use Rattle.sw_lex.specs.Unit.{heading_of}
 use Rattle.sw_lex.specs.Meaning.{Nodes, IsRefusal, looked_up, path_of}
-use Rattle.sw_lex.proofs.Asked.{many_refused}
+use Rattle.sw_lex.proofs.AskedLemmas.{many_refused}
 use Rattle.sw_lex.proofs.meaning.refused.Goals as goal
 
 pub returns-in-None : goal.returns-in-None

@@ -1,7 +1,7 @@
 use Rattle.std.proofs.Common.{ap, inl, sym, subst, Err}
 use Rattle.sw_lex.specs.Unit.{unit_of, heading_of}
 use Rattle.sw_lex.specs.Meaning.{Nodes, looked_up, path_of, Resolves}
-use Rattle.sw_lex.proofs.Nodes.{refused_is}
+use Rattle.sw_lex.proofs.NodesLemmas.{refused_is}
 use Rattle.sw_lex.proofs.meaning.resolve.Goals as goal
 
 pub returns-in-None : goal.returns-in-None

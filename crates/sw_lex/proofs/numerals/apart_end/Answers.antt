@@ -1,5 +1,5 @@
 use Rattle.std.proofs.Common.{◌≡◌, true, false, sym, ◌∙◌}
-use Rattle.sw_lex.proofs.Numbers.{no_mantissa_apart, no_exponent_apart, not_apart}
+use Rattle.sw_lex.proofs.NumbersLemmas.{no_mantissa_apart, no_exponent_apart, not_apart}
 use Rattle.sw_lex.proofs.numerals.apart_end.Goals as goal
 
 pub returns-in-None-clause-none : goal.returns-in-None-clause-none

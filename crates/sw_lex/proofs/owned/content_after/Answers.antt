@@ -1,5 +1,5 @@
 use Rattle.std.proofs.Common.{◌<◌, length, inr, refl, rules}
-use Rattle.sw_lex.proofs.Quotes.{not_whole}
+use Rattle.sw_lex.proofs.QuotesLemmas.{not_whole}
 use Rattle.sw_lex.proofs.owned.content_after.Goals as goal
 
 pub returns-else-is_empty : goal.returns-else-is_empty

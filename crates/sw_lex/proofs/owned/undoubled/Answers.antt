@@ -1,4 +1,4 @@
-use Rattle.sw_lex.proofs.Quotes.{never_closed, closed_content, doubled_on}
+use Rattle.sw_lex.proofs.QuotesLemmas.{never_closed, closed_content, doubled_on}
 use Rattle.sw_lex.proofs.owned.undoubled.Goals as goal
 
 pub returns-in-None : goal.returns-in-None

@@ -1,5 +1,5 @@
 use Rattle.std.proofs.Common.{arith}
-use Rattle.sw_lex.proofs.Packed.{numbers_more}
+use Rattle.sw_lex.proofs.PackedLemmas.{numbers_more}
 use Rattle.sw_lex.proofs.packing.numbers_of.Goals as goal
 
 pub loop-word-preserved : goal.loop-word-preserved

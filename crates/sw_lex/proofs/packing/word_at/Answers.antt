@@ -1,18 +1,20 @@
 use Rattle.std.proofs.Common.{◌<◌, ◌^◌, get_or, arith, sym, ◌∙◌}
-use Rattle.sw_lex.proofs.Packed.{number_small, bytes_more, packed_more}
-use Rattle.sw_lex.proofs.Headed.{long_number, word_more, capital_word, capital_so}
+use Rattle.sw_lex.proofs.PackedLemmas.{number_small, bytes_more, packed_more}
+use Rattle.sw_lex.proofs.HeadedLemmas.{long_number, word_more, capital_word, capital_so}
 use Rattle.sw_lex.proofs.packing.word_at.Goals as goal
 
 pub overflow_mul-number : goal.overflow_mul-number
 overflow_mul-number c =
     let h : c.loop-n.number < 2 ^ 100 =
-    number_small c.args.text.now c.loop-n.n c.loop-n.number c.loop-n.invariant.in_range c.loop-n.invariant.few c.loop-n.invariant.bytes c.loop-n.invariant.number in
+    number_small c.args.text.now c.loop-n.n c.loop-n.number c.loop-n.invariant.in_range c.loop-n.invariant.few c.loop-n.invariant.bytes
+    c.loop-n.invariant.number in
     omega (arith, h)
 
 pub overflow_add-number : goal.overflow_add-number
 overflow_add-number c =
     let h : c.loop-n.number < 2 ^ 100 =
-    number_small c.args.text.now c.loop-n.n c.loop-n.number c.loop-n.invariant.in_range c.loop-n.invariant.few c.loop-n.invariant.bytes c.loop-n.invariant.number in
+    number_small c.args.text.now c.loop-n.n c.loop-n.number c.loop-n.invariant.in_range c.loop-n.invariant.few c.loop-n.invariant.bytes
+    c.loop-n.invariant.number in
     omega (arith, h, c.from.ensures)
 
 pub loop-n-preserved : goal.loop-n-preserved

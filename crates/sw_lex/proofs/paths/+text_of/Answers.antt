@@ -2,7 +2,7 @@ use Rattle.std.proofs.Common.{◌≤◌, ◌-◌, ◌/◌, length, arith}
 use Rattle.std.specs.Char.{to_ascii_uppercase}
 use Rattle.std.proofs.lemmas.List.{length-map}
 use Rattle.sw_lex.specs.Packed.{last_bytes}
-use Rattle.sw_lex.proofs.Packed.{last_length}
+use Rattle.sw_lex.proofs.PackedLemmas.{last_length}
 use Rattle.sw_lex.proofs.paths.+text_of.Goals as goal
 
 pub push-requires : goal.push-requires

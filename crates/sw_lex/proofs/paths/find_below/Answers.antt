@@ -6,7 +6,7 @@ use Rattle.sw_lex.specs.Meaning.{path_of, capitals, looked_up}
 use Rattle.sw_lex.specs.Headed.{first_or}
 use Rattle.sw_lex.specs.Packed.{word_of}
 use Rattle.sw_lex.specs.Parts.{part_of}
-use Rattle.sw_lex.proofs.Asked.{Sound, from_path, path_part, path_stays, counted, rows_at, entered, after_found}
+use Rattle.sw_lex.proofs.AskedLemmas.{Sound, from_path, path_part, path_stays, counted, rows_at, entered, after_found}
 use Rattle.sw_lex.proofs.paths.find_below.Goals as goal
 
 pub invariant_of-path-in-None : goal.invariant_of-path-in-None

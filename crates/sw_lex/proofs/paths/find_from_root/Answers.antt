@@ -1,7 +1,7 @@
 use Rattle.std.specs.Char.{to_ascii_uppercase}
 use Rattle.sw_lex.specs.Unit.{heading_of}
 use Rattle.sw_lex.specs.Meaning.{path_of, capitals, looked_up}
-use Rattle.sw_lex.proofs.Asked.{from_root, root_letter, rows_at, entered, after_found}
+use Rattle.sw_lex.proofs.AskedLemmas.{from_root, root_letter, rows_at, entered, after_found}
 use Rattle.sw_lex.proofs.paths.find_from_root.Goals as goal
 
 pub invariant_of-path-in-Some-2 : goal.invariant_of-path-in-Some-2

@@ -4,7 +4,7 @@ use Rattle.sw_lex.specs.Unit.{heading_of}
 use Rattle.sw_lex.specs.Meaning.{path_of, capitals, looked_up}
 use Rattle.sw_lex.specs.Headed.{header_nodes, first_word}
 use Rattle.sw_lex.specs.Parts.{part_of}
-use Rattle.sw_lex.proofs.Asked.{from_root, rows_at, found_at, absent_at}
+use Rattle.sw_lex.proofs.AskedLemmas.{from_root, rows_at, found_at, absent_at}
 use Rattle.sw_lex.proofs.paths.find_unit.Goals as goal
 
 pub returns-in-Common-clause-some : goal.returns-in-Common-clause-some

@@ -1,6 +1,6 @@
 use Rattle.std.proofs.Common.{◌∙◌, sym}
 use Rattle.std.proofs.lemmas.Bool.{eqb-true}
-use Rattle.sw_lex.proofs.Nodes.{nodes_on, nodes_end, nodes_many}
+use Rattle.sw_lex.proofs.NodesLemmas.{nodes_on, nodes_end, nodes_many}
 use Rattle.sw_lex.proofs.paths.joined.Goals as goal
 
 pub returns-then-is_full-clause-none : goal.returns-then-is_full-clause-none

@@ -1,5 +1,5 @@
-use Rattle.sw_lex.proofs.Once.{one_unit, one_refusal, unit_refused, blank_unit, blank_refused}
-use Rattle.sw_lex.proofs.Written.{one_written}
+use Rattle.sw_lex.proofs.OnceLemmas.{one_unit, one_refusal, unit_refused, blank_unit, blank_refused}
+use Rattle.sw_lex.proofs.WrittenLemmas.{one_written}
 use Rattle.sw_lex.proofs.unit.one_reading.Goals as goal
 
 pub returns-clause-units : goal.returns-clause-units

@@ -1,5 +1,5 @@
 use Rattle.std.proofs.Common.{◌<◌, ◌+◌, ℕ, List, length, take, refl, sym, subst, arith}
-use Rattle.sw_lex.proofs.Headed.{PathCounted, counted_more, counted_path, counted_numbers, colon_on}
+use Rattle.sw_lex.proofs.HeadedLemmas.{PathCounted, counted_more, counted_path, counted_numbers, colon_on}
 use Rattle.sw_lex.proofs.unit.path_end.Goals as goal
 
 pub nodes-preserved : goal.nodes-preserved

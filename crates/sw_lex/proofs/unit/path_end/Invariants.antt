@@ -1,5 +1,5 @@
 use Rattle.std.proofs.Common.{◌≤◌, ◌-◌, length, take, drop}
-use Rattle.sw_lex.proofs.Headed.{PathCounted}
+use Rattle.sw_lex.proofs.HeadedLemmas.{PathCounted}
 use Rattle.sw_lex.proofs.unit.path_end.Given as goal
 
 abbrev pub invariant-nodes : goal.invariant-nodes

@@ -1,6 +1,6 @@
 use Rattle.std.proofs.Common.{◌≡◌, List, ℕ, [], ◌∷◌, ◌++◌, take, ap, ◌∙◌}
-use Rattle.sw_lex.proofs.Units.{common-heads}
-use Rattle.sw_lex.proofs.Headed.{number_is}
+use Rattle.sw_lex.proofs.UnitsLemmas.{common-heads}
+use Rattle.sw_lex.proofs.HeadedLemmas.{number_is}
 use Rattle.sw_lex.proofs.unit.read_common.Goals as goal
 
 pub returns-clause-ok : goal.returns-clause-ok

@@ -1,8 +1,8 @@
 use Rattle.std.proofs.Common.{subst, List, ℕ, inr}
 use Rattle.std.proofs.lemmas.Result.{err_from_is_err_and}
 use Rattle.sw_base.specs.Text.{is_blank, Spans}
-use Rattle.sw_lex.proofs.Units.{reaches_more, reaches_last, data-push, stuck-refused, held}
-use Rattle.sw_lex.proofs.Written.{joined_last}
+use Rattle.sw_lex.proofs.UnitsLemmas.{reaches_more, reaches_last, data-push, stuck-refused, held}
+use Rattle.sw_lex.proofs.WrittenLemmas.{joined_last}
 use Rattle.sw_lex.proofs.unit.read_data.Goals as goal
 
 pub returns-in-Some-clause-ok : goal.returns-in-Some-clause-ok

@@ -1,6 +1,6 @@
 use Rattle.std.proofs.Common.{arith}
 use Rattle.std.proofs.lemmas.Grind.{common_steps}
-use Rattle.sw_lex.proofs.Readings.{digits_all}
+use Rattle.sw_lex.proofs.ReadingsLemmas.{digits_all}
 use Rattle.sw_lex.proofs.values.all_digits.Goals as goal
 
 pub returns : goal.returns

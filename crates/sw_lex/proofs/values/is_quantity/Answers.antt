@@ -1,5 +1,5 @@
 use Rattle.std.proofs.Common.{◌≡◌, true, false, refl, inl, inr, pos}
-use Rattle.sw_lex.proofs.Readings.{quantity_is, quantity_suffix}
+use Rattle.sw_lex.proofs.ReadingsLemmas.{quantity_is, quantity_suffix}
 use Rattle.sw_lex.proofs.values.is_quantity.Goals as goal
 
 pub returns-in-None : goal.returns-in-None

@@ -1,6 +1,6 @@
 use Rattle.std.proofs.Common.{◌≡◌, length, arith}
 use Rattle.std.proofs.lemmas.Grind.{common_steps}
-use Rattle.sw_lex.proofs.Readings.{suffix_yes, suffix_no}
+use Rattle.sw_lex.proofs.ReadingsLemmas.{suffix_yes, suffix_no}
 use Rattle.sw_lex.proofs.values.is_suffix.Goals as goal
 
 pub returns : goal.returns

@@ -1,4 +1,4 @@
-use Rattle.sw_lex.proofs.Readings.{quantity_at}
+use Rattle.sw_lex.proofs.ReadingsLemmas.{quantity_at}
 use Rattle.sw_lex.proofs.values.quantity.Goals as goal
 
 pub returns-in-Ok : goal.returns-in-Ok

@@ -1,5 +1,5 @@
 use Rattle.std.proofs.Common.{sym, ◌∙◌}
-use Rattle.sw_lex.proofs.Readings.{unnumbered_so, unnumbered_name, unnumbered_digits}
+use Rattle.sw_lex.proofs.ReadingsLemmas.{unnumbered_so, unnumbered_name, unnumbered_digits}
 use Rattle.sw_lex.proofs.values.unnumbered.Goals as goal
 
 pub returns-then-all_digits : goal.returns-then-all_digits

@@ -1,6 +1,6 @@
 use Rattle.std.proofs.Common.{◌++◌, refl, inl, inr}
 use Rattle.sw_lex.specs.Unit.{unit_of, written_of}
-use Rattle.sw_macro.proofs.Expansions.{IsRead, place_of, first_of, unwritten_none, unwritten_keeps, unwritten_ends}
+use Rattle.sw_macro.proofs.ExpansionsLemmas.{IsRead, place_of, first_of, unwritten_none, unwritten_keeps, unwritten_ends}
 use Rattle.sw_macro.proofs.body.calls_none.Goals as goal
 
 pub units-init : goal.units-init

@@ -1,6 +1,6 @@
 use Rattle.std.proofs.Common.{List, ℕ, length}
 use Rattle.sw_macro.specs.Table.{Macro}
-use Rattle.sw_macro.proofs.Expansions.{Unwritten}
+use Rattle.sw_macro.proofs.ExpansionsLemmas.{Unwritten}
 use Rattle.sw_macro.proofs.body.calls_none.Given as goal
 
 abbrev pub invariant-units : goal.invariant-units

@@ -9,9 +9,9 @@ use Rattle.sw_lex.specs.Unit.{unit_of, written_of}
 use Rattle.sw_macro.specs.Table.{Macro}
 use Rattle.sw_macro.specs.Expansion.{Becomes, UnitBecomes}
 use Rattle.sw_macro.specs.Placed.{names_of}
-use Rattle.sw_macro.proofs.Fillings.{long_is, plain_fits, plain_too_long}
-use Rattle.sw_macro.proofs.Expansions.{IsRead, place_of, first_of, follows_of, unwritten_keeps, unwritten_ends, unwritten_fails, unwritten_goes}
-use Rattle.sw_macro.proofs.Expansions.{none_found, is_too_deep, not_too_deep, unit_unfit, unit_fits}
+use Rattle.sw_macro.proofs.FillingsLemmas.{long_is, plain_fits, plain_too_long}
+use Rattle.sw_macro.proofs.ExpansionsLemmas.{IsRead, place_of, first_of, follows_of, unwritten_keeps, unwritten_ends, unwritten_fails, unwritten_goes}
+use Rattle.sw_macro.proofs.ExpansionsLemmas.{none_found, is_too_deep, not_too_deep, unit_unfit, unit_fits}
 use Rattle.sw_macro.proofs.expand.+expansion.Goals as goal
 
 -- ---- write_body

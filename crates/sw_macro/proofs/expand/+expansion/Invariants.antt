@@ -1,6 +1,6 @@
 use Rattle.std.proofs.Common.{◌≡◌, ◌-◌, ◌+◌, ◌*◌, length}
 use Rattle.sw_macro.specs.Placed.{names_of}
-use Rattle.sw_macro.proofs.Expansions.{Unwritten}
+use Rattle.sw_macro.proofs.ExpansionsLemmas.{Unwritten}
 use Rattle.sw_macro.proofs.expand.+expansion.Given as goal
 
 abbrev pub decreases-write_body : goal.decreases-write_body

@@ -1,6 +1,6 @@
 use Rattle.std.proofs.Common.{◌≡◌, ◌++◌, List, ℕ, sym, ap, ◌∙◌}
 use Rattle.sw_lex.specs.Unit.{unit_of, written_of}
-use Rattle.sw_macro.proofs.Cuts.{cut_at, written_within, left_is}
+use Rattle.sw_macro.proofs.CutsLemmas.{cut_at, written_within, left_is}
 use Rattle.sw_macro.proofs.expand.cut.Goals as goal
 
 pub split_at-requires-2 : goal.split_at-requires-2

@@ -1,4 +1,4 @@
-use Rattle.sw_macro.proofs.Expansions.{one_expanded}
+use Rattle.sw_macro.proofs.ExpansionsLemmas.{one_expanded}
 use Rattle.sw_macro.proofs.expand.one_expansion.Goals as goal
 
 pub returns : goal.returns

@@ -3,7 +3,7 @@ use Rattle.std.proofs.lemmas.Result.{err_from_is_err_and}
 use Rattle.sw_base.specs.declared.error.ScpiError.{ScpiError}
 use Rattle.sw_lex.specs.Unit.{unit_of}
 use Rattle.sw_macro.specs.Filling.{IsDraft}
-use Rattle.sw_macro.proofs.Fillings.{filled_more, filled_missing, filled_all, fits, fits_not, missing}
+use Rattle.sw_macro.proofs.FillingsLemmas.{filled_more, filled_missing, filled_all, fits, fits_not, missing}
 use Rattle.sw_macro.proofs.filling.fill.Goals as goal
 
 pub returns-in-None-2 : goal.returns-in-None-2

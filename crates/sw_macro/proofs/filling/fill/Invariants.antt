@@ -1,6 +1,6 @@
 use Rattle.std.proofs.Common.{length}
 use Rattle.sw_lex.specs.Unit.{unit_of}
-use Rattle.sw_macro.proofs.Fillings.{Draft}
+use Rattle.sw_macro.proofs.FillingsLemmas.{Draft}
 use Rattle.sw_macro.proofs.filling.fill.Given as goal
 
 abbrev pub invariant-parts : goal.invariant-parts

@@ -1,4 +1,4 @@
-use Rattle.sw_macro.proofs.Fillings.{parameter_at}
+use Rattle.sw_macro.proofs.FillingsLemmas.{parameter_at}
 use Rattle.sw_macro.proofs.filling.parameter.Goals as goal
 
 pub returns-in-Some : goal.returns-in-Some

@@ -1,5 +1,5 @@
 use Rattle.std.proofs.Common.{◌∙◌}
-use Rattle.sw_macro.proofs.Labels.{words_test}
+use Rattle.sw_macro.proofs.LabelsLemmas.{words_test}
 use Rattle.sw_macro.proofs.label.all_words.Goals as goal
 
 pub returns : goal.returns

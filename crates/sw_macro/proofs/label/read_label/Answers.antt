@@ -1,5 +1,5 @@
 use Rattle.std.proofs.Common.{◌≤◌, length, arith, sym, ◌∙◌}
-use Rattle.sw_macro.proofs.Labels.{label_short}
+use Rattle.sw_macro.proofs.LabelsLemmas.{label_short}
 use Rattle.sw_macro.proofs.label.read_label.Goals as goal
 
 pub push-requires : goal.push-requires

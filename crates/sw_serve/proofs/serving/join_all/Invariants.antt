@@ -5,4 +5,4 @@ abbrev pub invariant-loop-left : goal.invariant-loop-left
 invariant-loop-left g l = Unit {0}
 
 abbrev pub decreases-loop-left : goal.decreases-loop-left
-decreases-loop-left g l = vec_len l.crew.members
+decreases-loop-left g l = vec_len l.threads.members

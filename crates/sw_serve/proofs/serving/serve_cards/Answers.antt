@@ -1,4 +1,4 @@
-use Rattle.sw_serve.proofs.Closing.{fitted-down}
+use Rattle.sw_serve.proofs.ClosingLemmas.{fitted-down}
 use Rattle.sw_serve.proofs.serving.serve_cards.Goals as goal
 
 pub returns-clause-cards : goal.returns-clause-cards

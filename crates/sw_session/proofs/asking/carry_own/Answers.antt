@@ -3,7 +3,7 @@ use Rattle.sw_lex.specs.declared.command.Command.{Command}
 use Rattle.sw_core.specs.Action.{action_of}
 use Rattle.sw_session.specs.Macros.{ActsOnMacros}
 use Rattle.sw_session.specs.Talk.{effect_of}
-use Rattle.sw_session.proofs.Begins.{begins-done, begins-scan}
+use Rattle.sw_session.proofs.BeginsLemmas.{begins-done, begins-scan}
 use Rattle.sw_session.proofs.asking.carry_own.Goals as goal
 
 pub returns-in-PurgeMacros : goal.returns-in-PurgeMacros

@@ -1,4 +1,4 @@
-use Rattle.sw_session.proofs.Begins.{initiate-planned}
+use Rattle.sw_session.proofs.BeginsLemmas.{initiate-planned}
 use Rattle.sw_session.proofs.asking.initiate.Goals as goal
 
 pub returns : goal.returns

@@ -1,7 +1,7 @@
 use Rattle.std.proofs.Common.{refl}
 use Rattle.sw_core.specs.declared.ask.SessionAsk.TheVariants.{Fault}
 use Rattle.sw_session.specs.Trace.{Asked}
-use Rattle.sw_session.proofs.Led.{led-one}
+use Rattle.sw_session.proofs.LedLemmas.{led-one}
 use Rattle.sw_session.proofs.asking.queue.Goals as goal
 
 pub returns : goal.returns

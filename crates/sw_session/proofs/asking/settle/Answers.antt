@@ -1,7 +1,7 @@
 use Rattle.std.proofs.Common.{subst}
 use Rattle.sw_core.specs.declared.ask.SessionAnswer.{SessionAnswer}
 use Rattle.sw_session.specs.Trace.{Asked, HandsBackAsk}
-use Rattle.sw_session.proofs.Talks.{settle-held, settle-first}
+use Rattle.sw_session.proofs.TalksLemmas.{settle-held, settle-first}
 use Rattle.sw_session.proofs.asking.settle.Goals as goal
 
 pub returns-in-Hold : goal.returns-in-Hold

@@ -1,6 +1,6 @@
 use Rattle.std.proofs.Common.{arith, refl, ◌∙◌, inl, inr}
 use Rattle.sw_session.specs.declared.desk.Wake.TheVariants.{Over}
-use Rattle.sw_session.proofs.Talks.{settle-start, settle-again, settle-told, settle-end}
+use Rattle.sw_session.proofs.TalksLemmas.{settle-start, settle-again, settle-told, settle-end}
 use Rattle.sw_session.proofs.asking.wait_out.Goals.{then-not-holds+in-Hold, else-not-holds}
 use Rattle.sw_session.proofs.asking.wait_out.Goals as goal
 

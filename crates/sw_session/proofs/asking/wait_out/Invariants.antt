@@ -1,6 +1,6 @@
 use Rattle.std.proofs.Common.{◌≡◌}
 use Rattle.sw_session.specs.Trace.{Led}
-use Rattle.sw_session.proofs.Talks.{SettlesBy}
+use Rattle.sw_session.proofs.TalksLemmas.{SettlesBy}
 use Rattle.sw_session.proofs.asking.wait_out.Given as goal
 
 abbrev pub invariant-loop-turn : goal.invariant-loop-turn

@@ -1,4 +1,4 @@
-use Rattle.sw_session.proofs.CoreTalk.{core-rest-determined}
+use Rattle.sw_session.proofs.CoreTalkLemmas.{core-rest-determined}
 use Rattle.sw_session.proofs.laws.core_rest_is_determined.Goals as goal
 
 pub returns : goal.returns

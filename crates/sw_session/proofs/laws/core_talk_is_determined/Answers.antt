@@ -1,4 +1,4 @@
-use Rattle.sw_session.proofs.CoreTalk.{core-talk-determined}
+use Rattle.sw_session.proofs.CoreTalkLemmas.{core-talk-determined}
 use Rattle.sw_session.proofs.laws.core_talk_is_determined.Goals as goal
 
 pub returns : goal.returns

@@ -1,4 +1,4 @@
-use Rattle.sw_session.proofs.Noting.{note-leaves-others}
+use Rattle.sw_session.proofs.NotingLemmas.{note-leaves-others}
 use Rattle.sw_session.proofs.laws.note_leaves_others.Goals as goal
 
 pub returns : goal.returns

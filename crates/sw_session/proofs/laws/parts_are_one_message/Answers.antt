@@ -1,4 +1,4 @@
-use Rattle.sw_session.proofs.Parts.{parts-are-one}
+use Rattle.sw_session.proofs.PartsLemmas.{parts-are-one}
 use Rattle.sw_session.proofs.laws.parts_are_one_message.Goals as goal
 
 pub returns : goal.returns

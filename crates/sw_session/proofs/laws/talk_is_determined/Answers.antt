@@ -1,4 +1,4 @@
-use Rattle.sw_session.proofs.Determined.{talk-determined}
+use Rattle.sw_session.proofs.DeterminedLemmas.{talk-determined}
 use Rattle.sw_session.proofs.laws.talk_is_determined.Goals as goal
 
 pub returns : goal.returns

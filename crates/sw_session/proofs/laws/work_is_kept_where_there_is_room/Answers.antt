@@ -1,4 +1,4 @@
-use Rattle.sw_session.proofs.Order.{kept-where-room}
+use Rattle.sw_session.proofs.OrderLemmas.{kept-where-room}
 use Rattle.sw_session.proofs.laws.work_is_kept_where_there_is_room.Goals as goal
 
 pub returns : goal.returns

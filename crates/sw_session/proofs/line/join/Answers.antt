@@ -1,7 +1,7 @@
 use Rattle.sw_base.specs.Limits.{most_answer_bytes}
 use Rattle.std.proofs.Common.{◌≡◌, ◌≤◌, length, ◌++◌, ◌∷◌, [], arith}
 use Rattle.std.proofs.lemmas.Grind.{common_steps}
-use Rattle.sw_session.proofs.Lines.{joins-first, has-room}
+use Rattle.sw_session.proofs.LinesLemmas.{joins-first, has-room}
 use Rattle.sw_session.proofs.line.join.Goals as goal
 
 pub returns-clause-ok : goal.returns-clause-ok

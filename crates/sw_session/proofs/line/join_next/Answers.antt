@@ -1,6 +1,6 @@
 use Rattle.std.proofs.Common.{arith}
 use Rattle.std.proofs.lemmas.Grind.{common_steps}
-use Rattle.sw_session.proofs.Lines.{joins-more, has-room}
+use Rattle.sw_session.proofs.LinesLemmas.{joins-more, has-room}
 use Rattle.sw_session.proofs.line.join_next.Goals as goal
 
 pub returns-clause-ok : goal.returns-clause-ok

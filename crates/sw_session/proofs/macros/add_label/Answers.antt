@@ -1,6 +1,6 @@
 use Rattle.std.proofs.Common.{◌≡◌, ◌<◌, ◌++◌, ◌∷◌, [], List, ℕ, length, ap, ◌∙◌, arith}
 use Rattle.std.proofs.lemmas.Grind.{common_steps}
-use Rattle.sw_session.proofs.Quoted.{quoted-first, quoted-next}
+use Rattle.sw_session.proofs.QuotedLemmas.{quoted-first, quoted-next}
 use Rattle.sw_session.proofs.macros.add_label.Goals as goal
 use Rattle.sw_session.proofs.macros.add_label.Goals.{then-not-is_empty+in_ok-push, else-not-is_empty}
 

@@ -4,7 +4,7 @@ use Rattle.std.specs.Option.{option_map}
 use Rattle.std.proofs.lemmas.List.{length-map}
 use Rattle.sw_macro.specs.Table.{Macro, labels}
 use Rattle.sw_session.specs.Macros.{row_of}
-use Rattle.sw_session.proofs.Quoted.{labels-more, label-there}
+use Rattle.sw_session.proofs.QuotedLemmas.{labels-more, label-there}
 use Rattle.sw_session.proofs.macros.labels_text.Goals as goal
 use Rattle.sw_session.proofs.macros.labels_text.Goals.{in-Some+in_ok-add_label, in_default}
 

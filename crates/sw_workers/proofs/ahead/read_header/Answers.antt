@@ -1,5 +1,5 @@
 use Rattle.std.proofs.Common.{rules}
-use Rattle.sw_workers.proofs.Serving.{waited_on}
+use Rattle.sw_workers.proofs.ServingLemmas.{waited_on}
 use Rattle.sw_workers.proofs.ahead.read_header.Goals as goal
 
 pub loop-preserved : goal.loop-preserved

@@ -1,4 +1,4 @@
-use Rattle.sw_workers.proofs.Ejected.{closed_open}
+use Rattle.sw_workers.proofs.EjectedLemmas.{closed_open}
 use Rattle.sw_workers.proofs.closing.close_down.Goals as goal
 
 pub returns-clause-open : goal.returns-clause-open

@@ -1,7 +1,7 @@
 use Rattle.std.proofs.Common.{◌≡◌, ◌++◌, [], ◌∷◌, length, arith}
 use Rattle.sw_base.specs.Limits.{most_slots}
 use Rattle.sw_cage.specs.Accounts.{all_open}
-use Rattle.sw_workers.proofs.Ejected.{good_slots, one_out}
+use Rattle.sw_workers.proofs.EjectedLemmas.{good_slots, one_out}
 use Rattle.sw_workers.proofs.closing.take_cards.Goals as goal
 
 pub loop-before-preserved : goal.loop-before-preserved

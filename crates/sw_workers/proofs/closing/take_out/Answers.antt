@@ -1,7 +1,7 @@
 use Rattle.std.proofs.Common.{sym, ap, ◌∙◌}
 use Rattle.sw_core.specs.declared.ask.Answer.{Answer}
 use Rattle.sw_core.specs.Seen.{AskEject, answer_seen, failed_in}
-use Rattle.sw_workers.proofs.Ejected.{ejected, Leaves, step_ejects, not_ejected}
+use Rattle.sw_workers.proofs.EjectedLemmas.{ejected, Leaves, step_ejects, not_ejected}
 use Rattle.sw_workers.proofs.closing.take_out.Goals as goal
 
 pub returns-in-Ejected : goal.returns-in-Ejected

@@ -1,4 +1,4 @@
-use Rattle.sw_workers.proofs.HistoryRuns.{every_history}
+use Rattle.sw_workers.proofs.HistoryRunsLemmas.{every_history}
 use Rattle.sw_workers.proofs.laws.every_history_is_a_run.Goals as goal
 
 pub returns : goal.returns

@@ -1,5 +1,5 @@
 use Rattle.std.proofs.Common.{arith}
-use Rattle.sw_workers.proofs.BoardMoves.{publishes}
+use Rattle.sw_workers.proofs.BoardMovesLemmas.{publishes}
 use Rattle.sw_workers.proofs.seat.put.Goals as goal
 
 pub compare_exchange-requires : goal.compare_exchange-requires

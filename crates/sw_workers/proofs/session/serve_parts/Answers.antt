@@ -2,7 +2,7 @@ use Rattle.std.proofs.Common.{sym, ap, ◌∙◌, inl}
 use Rattle.sw_session.specs.declared.engine.step.Channel.TheVariants.{Synchronous, Asynchronous}
 use Rattle.sw_workers.specs.Ahead.{left_ahead}
 use Rattle.sw_workers.specs.Connected.{channel_by_header}
-use Rattle.sw_workers.proofs.Serving.{connects, whole-or, of-first}
+use Rattle.sw_workers.proofs.ServingLemmas.{connects, whole-or, of-first}
 use Rattle.sw_workers.proofs.session.serve_parts.Goals as goal
 
 pub returns-in-Synchronous : goal.returns-in-Synchronous
@@ -11,7 +11,8 @@ returns-in-Synchronous g c =
     (sym c.in-Synchronous.is ∙ c.channel_of-channel.ensures ∙ ap channel_by_header c.as_slice.ensures.value) c.hear_header.ensures.bytes
     (whole-or _ _ _ _ c.hear_header.result (λ f. inl (c.hear_header.new.reader, f)) c.hear_header.ensures.whole c.hear_header.ensures.failed)
     (rw (c.new.ensures) c.hear_header.ensures.waits)
-    (ap (left_ahead g.C.In.Source.remaining) c.new.ensures) c.serve_first.ensures.serves (λ e. inl (c.serve_first.ensures.read e)) (λ e. of-first (c.serve_first.ensures.write e))
+    (ap (left_ahead g.C.In.Source.remaining) c.new.ensures) c.serve_first.ensures.serves (λ e. inl (c.serve_first.ensures.read e))
+    (λ e. of-first (c.serve_first.ensures.write e))
 
 pub returns-in-Asynchronous : goal.returns-in-Asynchronous
 returns-in-Asynchronous g c =

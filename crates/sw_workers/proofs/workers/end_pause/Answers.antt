@@ -1,6 +1,6 @@
 use Rattle.std.proofs.Common.{refl}
 use Rattle.sw_core.specs.Seen.{Pauses}
-use Rattle.sw_workers.proofs.Worked.{works-more, works-told, works-adds}
+use Rattle.sw_workers.proofs.WorkedLemmas.{works-more, works-told, works-adds}
 use Rattle.sw_workers.proofs.workers.end_pause.Goals as goal
 
 pub returns : goal.returns

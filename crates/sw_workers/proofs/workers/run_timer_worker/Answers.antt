@@ -1,4 +1,4 @@
-use Rattle.sw_workers.proofs.Worked.{works-more}
+use Rattle.sw_workers.proofs.WorkedLemmas.{works-more}
 use Rattle.sw_workers.proofs.workers.run_timer_worker.Goals as goal
 
 pub loop-preserved : goal.loop-preserved

@@ -1,6 +1,6 @@
 use Rattle.std.proofs.Common.{subst, arith, length-take}
 use Rattle.std.specs.Io.BufRead.{FillKeeps}
-use Rattle.mainframe.proofs.Kept.{shown-line, room-shown}
+use Rattle.mainframe.proofs.KeptLemmas.{shown-line, room-shown}
 use Rattle.mainframe.proofs.reading.AnySource.look.Goals as goal
 
 pub returns-clause-line : goal.returns-clause-line

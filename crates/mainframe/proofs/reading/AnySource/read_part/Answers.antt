@@ -4,7 +4,7 @@ use Rattle.std.specs.Io.BufRead.{FillKeeps, DropsConsumable}
 use Rattle.std.proofs.BufReadLemmas.{Consumes_shown, zero_unless_positive}
 use Rattle.std.proofs.Transfers.{StopsAt-take}
 use Rattle.sw_base.specs.Limits.{most_kept}
-use Rattle.mainframe.proofs.Kept.{kept-fits, takes-none}
+use Rattle.mainframe.proofs.KeptLemmas.{kept-fits, takes-none}
 use Rattle.mainframe.proofs.reading.AnySource.read_part.Goals.{then-end-eq0, else-end-eq0}
 use Rattle.mainframe.proofs.reading.AnySource.read_part.Goals as goal
 

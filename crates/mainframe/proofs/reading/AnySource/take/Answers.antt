@@ -1,4 +1,4 @@
-use Rattle.mainframe.proofs.Kept.{loses}
+use Rattle.mainframe.proofs.KeptLemmas.{loses}
 use Rattle.mainframe.proofs.reading.AnySource.take.Goals as goal
 
 pub returns-clause-taken : goal.returns-clause-taken

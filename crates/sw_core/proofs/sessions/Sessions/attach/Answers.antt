@@ -1,6 +1,6 @@
 use Rattle.std.proofs.Common.{length, sym, ◌∙◌, ap, arith}
 use Rattle.sw_core.specs.Sessions.{SessionsSeen}
-use Rattle.sw_core.proofs.Seating.{lacking_number}
+use Rattle.sw_core.proofs.SeatingLemmas.{lacking_number}
 use Rattle.sw_core.proofs.sessions.Sessions.attach.Goals as goal
 
 pub returns-then-number-lt1-clause-none : goal.returns-then-number-lt1-clause-none

@@ -1,6 +1,6 @@
 use Rattle.std.proofs.Common.{length, sym, ◌∙◌, ap}
 use Rattle.sw_core.specs.Sessions.{SessionsSeen}
-use Rattle.sw_core.proofs.Seating.{seated_number}
+use Rattle.sw_core.proofs.SeatingLemmas.{seated_number}
 use Rattle.sw_core.proofs.sessions.Sessions.lock.Goals as goal
 
 pub ask-requires : goal.ask-requires

@@ -5,9 +5,9 @@ use Rattle.sw_core.specs.declared.ask.Sid.{Sid}
 use Rattle.sw_core.specs.Panel.{Panel}
 use Rattle.sw_core.specs.Seen.{AskSession, SaysSession, work_seen}
 use Rattle.sw_core.specs.Step.{Step, StepSession, acts_unnumbered}
-use Rattle.sw_core.proofs.Answered.{admitted}
-use Rattle.sw_core.proofs.Moving.{concluded_scan}
-use Rattle.sw_core.proofs.Numbered.{numbered_step}
+use Rattle.sw_core.proofs.AnsweredLemmas.{admitted}
+use Rattle.sw_core.proofs.MovingLemmas.{concluded_scan}
+use Rattle.sw_core.proofs.NumberedLemmas.{numbered_step}
 use Rattle.sw_core.proofs.state.Core.ask_admitted.Goals as goal
 
 pub returns : goal.returns

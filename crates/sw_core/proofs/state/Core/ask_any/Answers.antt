@@ -3,7 +3,7 @@ use Rattle.sw_core.specs.declared.ask.SessionAnswer.TheVariants.{Worn}
 use Rattle.sw_core.specs.Event.{last_number}
 use Rattle.sw_core.specs.Seen.{AskSession, SaysSession}
 use Rattle.sw_core.specs.Step.{acts_unnumbered}
-use Rattle.sw_core.proofs.Numbered.{worn_step}
+use Rattle.sw_core.proofs.NumberedLemmas.{worn_step}
 use Rattle.sw_core.proofs.state.Core.ask_any.Goals as goal
 
 pub returns-then-not-session_acts_unnumbered : goal.returns-then-not-session_acts_unnumbered

@@ -8,7 +8,7 @@ use Rattle.sw_cage.proofs.CardLemmas.{seen_is}
 use Rattle.sw_core.specs.Panel.{Panel}
 use Rattle.sw_core.specs.Registers.{card_fault_reported, card_fault_cleared}
 use Rattle.sw_core.specs.Step.{MayScan, snapshot_of}
-use Rattle.sw_core.proofs.Happened.{unbegun, started}
+use Rattle.sw_core.proofs.HappenedLemmas.{unbegun, started}
 use Rattle.sw_core.proofs.state.Core.begin.Goals as goal
 
 pub returns-in-Err : goal.returns-in-Err

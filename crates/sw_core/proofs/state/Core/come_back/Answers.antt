@@ -1,7 +1,7 @@
 use Rattle.sw_cage.specs.TakenSeen.{taken_seen}
 use Rattle.sw_core.specs.Panel.{Panel}
 use Rattle.sw_core.specs.Seen.{work_seen}
-use Rattle.sw_core.proofs.Brought.{returned_brings}
+use Rattle.sw_core.proofs.BroughtLemmas.{returned_brings}
 use Rattle.sw_core.proofs.state.Core.come_back.Goals as goal
 
 pub returns : goal.returns

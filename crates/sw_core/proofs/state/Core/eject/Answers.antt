@@ -5,7 +5,7 @@ use Rattle.sw_cage.proofs.SlotChangeLemmas.{slot_rest}
 use Rattle.sw_status.specs.StatusModel.{StatusSeen}
 use Rattle.sw_core.specs.Panel.{Panel}
 use Rattle.sw_core.specs.Registers.{card_fault_cleared}
-use Rattle.sw_core.proofs.Calls.{failed_ejected}
+use Rattle.sw_core.proofs.CallsLemmas.{failed_ejected}
 use Rattle.sw_core.proofs.state.Core.eject.Goals as goal
 
 pub returns-in-Ok : goal.returns-in-Ok

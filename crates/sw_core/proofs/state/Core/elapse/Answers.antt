@@ -3,7 +3,7 @@ use Rattle.sw_cage.specs.Change.{any_failed}
 use Rattle.sw_cage.specs.TakenSeen.{taken_seen}
 use Rattle.sw_core.specs.Event.{last_number}
 use Rattle.sw_core.specs.Seen.{work_seen}
-use Rattle.sw_core.proofs.Brought.{elapsed_brings}
+use Rattle.sw_core.proofs.BroughtLemmas.{elapsed_brings}
 use Rattle.sw_core.proofs.state.Core.elapse.Goals as goal
 
 pub returns : goal.returns

@@ -4,7 +4,7 @@ use Rattle.sw_cage.specs.TakenSeen.{taken_seen}
 use Rattle.sw_cage.proofs.CardLemmas.{seen_is}
 use Rattle.sw_core.specs.Panel.{Panel}
 use Rattle.sw_core.specs.Registers.{card_fault_reported}
-use Rattle.sw_core.proofs.Happened.{happened}
+use Rattle.sw_core.proofs.HappenedLemmas.{happened}
 use Rattle.sw_core.proofs.state.Core.happens.Goals as goal
 
 pub returns-else-tells_fault : goal.returns-else-tells_fault

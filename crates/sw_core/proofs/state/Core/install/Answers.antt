@@ -2,7 +2,7 @@ use Rattle.std.proofs.Common.{arith, ap, ◌∙◌, is_some}
 use Rattle.sw_cage.specs.Cage.{CageSeen}
 use Rattle.sw_cage.specs.Change.{any_failed}
 use Rattle.sw_core.specs.Panel.{Panel}
-use Rattle.sw_core.proofs.Calls.{failed_come}
+use Rattle.sw_core.proofs.CallsLemmas.{failed_come}
 use Rattle.sw_core.proofs.state.Core.install.Goals as goal
 
 pub returns-in-Ok-clause-acts : goal.returns-in-Ok-clause-acts

@@ -3,7 +3,7 @@ use Rattle.sw_cage.specs.Cage.{CageSeen}
 use Rattle.sw_status.specs.StatusModel.{StatusSeen}
 use Rattle.sw_core.specs.Panel.{Panel}
 use Rattle.sw_core.specs.Registers.{card_fault_reported}
-use Rattle.sw_core.proofs.Calls.{failed_sets, fallen, fallen_cage}
+use Rattle.sw_core.proofs.CallsLemmas.{failed_sets, fallen, fallen_cage}
 use Rattle.sw_core.proofs.state.Core.open.Goals as goal
 
 pub returns-in-Ok : goal.returns-in-Ok

@@ -1,5 +1,5 @@
 use Rattle.std.proofs.Common.{◌≡◌, true, ◌∙◌}
-use Rattle.sw_core.proofs.Happened.{stale_start}
+use Rattle.sw_core.proofs.HappenedLemmas.{stale_start}
 use Rattle.sw_core.proofs.state.Core.start.Goals as goal
 
 pub returns-then-not-is_now : goal.returns-then-not-is_now

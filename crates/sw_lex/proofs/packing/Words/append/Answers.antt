@@ -1,5 +1,5 @@
 use Rattle.std.proofs.Common.{arith}
-use Rattle.sw_lex.proofs.Headed.{append_none, append_more}
+use Rattle.sw_lex.proofs.HeadedLemmas.{append_none, append_more}
 use Rattle.sw_lex.proofs.packing.Words.append.Goals as goal
 
 pub loop-word-init : goal.loop-word-init

@@ -2,8 +2,8 @@ use Rattle.std.proofs.Common.{◌≡◌, ◌<◌, ◌++◌, ◌∷◌, [], ℕ, 
 use Rattle.sw_base.specs.Limits.{most_macros}
 use Rattle.sw_macro.specs.Table.{Macro, Table, IsTable, body_of}
 use Rattle.sw_macro.specs.Seen.{macros_in}
-use Rattle.sw_macro.proofs.Tables.{added_is}
-use Rattle.sw_macro.proofs.LimitsKept.{kept_with}
+use Rattle.sw_macro.proofs.TablesLemmas.{added_is}
+use Rattle.sw_macro.proofs.LimitsKeptLemmas.{kept_with}
 use Rattle.sw_macro.proofs.table.Macros.append.Goals as goal
 
 pub invariant_of-self-2 : goal.invariant_of-self-2

@@ -1,5 +1,5 @@
 use Rattle.std.proofs.Common.{arith}
-use Rattle.sw_macro.proofs.LimitsKept.{makes_macro}
+use Rattle.sw_macro.proofs.LimitsKeptLemmas.{makes_macro}
 use Rattle.sw_macro.proofs.table.Macros.define.Goals as goal
 
 pub append-requires-clause-good : goal.append-requires-clause-good

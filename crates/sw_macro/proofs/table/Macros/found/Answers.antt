@@ -1,8 +1,8 @@
 use Rattle.std.proofs.Common.{ap, ◌∙◌}
 use Rattle.sw_macro.specs.Table.{Table, body_of}
 use Rattle.sw_macro.specs.Seen.{macros_in}
-use Rattle.sw_macro.proofs.Tables.{found_is}
-use Rattle.sw_macro.proofs.LimitsKept.{found_all_short}
+use Rattle.sw_macro.proofs.TablesLemmas.{found_is}
+use Rattle.sw_macro.proofs.LimitsKeptLemmas.{found_all_short}
 use Rattle.sw_macro.proofs.table.Macros.found.Goals as goal
 
 pub returns-clause-value : goal.returns-clause-value

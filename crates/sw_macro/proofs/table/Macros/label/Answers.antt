@@ -1,7 +1,7 @@
 use Rattle.std.proofs.Common.{ℕ, List, Some, ap, ◌∙◌}
 use Rattle.std.specs.Prelude.{slice_get}
 use Rattle.sw_macro.specs.Table.{Table, labels}
-use Rattle.sw_macro.proofs.Tables.{label_at}
+use Rattle.sw_macro.proofs.TablesLemmas.{label_at}
 use Rattle.sw_macro.proofs.table.Macros.label.Goals as goal
 
 pub returns-in-Some : goal.returns-in-Some

@@ -2,8 +2,8 @@ use Rattle.std.proofs.Common.{ℕ, List, Option, subst, sym, ap, ◌∙◌}
 use Rattle.std.specs.Prelude.{is_some}
 use Rattle.sw_macro.specs.Table.{Table, Macro, IsTable, body_of, without_label}
 use Rattle.sw_macro.specs.Seen.{macros_in}
-use Rattle.sw_macro.proofs.Tables.{found_is, removed_is, without_none}
-use Rattle.sw_macro.proofs.LimitsKept.{kept_without, gone_without}
+use Rattle.sw_macro.proofs.TablesLemmas.{found_is, removed_is, without_none}
+use Rattle.sw_macro.proofs.LimitsKeptLemmas.{kept_without, gone_without}
 use Rattle.sw_macro.proofs.table.Macros.take_out.Goals as goal
 
 pub invariant_of-self : goal.invariant_of-self

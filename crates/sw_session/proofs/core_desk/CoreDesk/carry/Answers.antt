@@ -1,4 +1,4 @@
-use Rattle.sw_session.proofs.Keeping.{carried, brought-is}
+use Rattle.sw_session.proofs.KeepingLemmas.{carried, brought-is}
 use Rattle.sw_session.proofs.core_desk.CoreDesk.carry.Goals as goal
 
 pub returns : goal.returns

@@ -1,4 +1,4 @@
-use Rattle.sw_session.proofs.Keeping.{keeps-start, keeps-none, keeps-last, keeps-on, weight-falls}
+use Rattle.sw_session.proofs.KeepingLemmas.{keeps-start, keeps-none, keeps-last, keeps-on, weight-falls}
 use Rattle.sw_session.proofs.core_desk.CoreDesk.keep_or_carry.Goals as goal
 
 pub pieces-init : goal.pieces-init

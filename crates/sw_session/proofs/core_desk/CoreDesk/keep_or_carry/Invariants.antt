@@ -1,6 +1,6 @@
 use Rattle.std.proofs.Common.{Some}
 use Rattle.sw_core.specs.Seen.{work_seen}
-use Rattle.sw_session.proofs.Keeping.{KeepsBy, weight}
+use Rattle.sw_session.proofs.KeepingLemmas.{KeepsBy, weight}
 use Rattle.sw_session.proofs.core_desk.CoreDesk.keep_or_carry.Given as goal
 
 abbrev pub invariant-pieces : goal.invariant-pieces

@@ -1,4 +1,4 @@
-use Rattle.sw_session.proofs.Keeping.{seen-first}
+use Rattle.sw_session.proofs.KeepingLemmas.{seen-first}
 use Rattle.sw_session.proofs.core_desk.CoreDesk.put.Goals as goal
 
 pub returns-clause-some : goal.returns-clause-some

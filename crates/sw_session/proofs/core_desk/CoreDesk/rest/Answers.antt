@@ -1,5 +1,5 @@
 use Rattle.std.proofs.Common.{refl, arith}
-use Rattle.sw_session.proofs.Keeping.{waited-more, rests-over, rests-in-vain}
+use Rattle.sw_session.proofs.KeepingLemmas.{waited-more, rests-over, rests-in-vain}
 use Rattle.sw_session.proofs.core_desk.CoreDesk.rest.Goals as goal
 
 pub loop-turn-init : goal.loop-turn-init

@@ -1,4 +1,4 @@
-use Rattle.sw_session.proofs.Keeping.{WaitedBy}
+use Rattle.sw_session.proofs.KeepingLemmas.{WaitedBy}
 use Rattle.sw_session.proofs.core_desk.CoreDesk.rest.Given as goal
 
 abbrev pub invariant-loop-turn : goal.invariant-loop-turn

@@ -1,4 +1,4 @@
-use Rattle.sw_session.proofs.HandedBack.{handed-back}
+use Rattle.sw_session.proofs.HandedBackLemmas.{handed-back}
 use Rattle.sw_session.proofs.core_desk.CoreDeskDesk.ask.Goals as goal
 
 pub returns-clause-back : goal.returns-clause-back

@@ -1,4 +1,4 @@
-use Rattle.sw_session.proofs.Keeping.{passes-held}
+use Rattle.sw_session.proofs.KeepingLemmas.{passes-held}
 use Rattle.sw_session.proofs.core_desk.CoreDeskDesk.holds.Goals as goal
 
 pub returns : goal.returns

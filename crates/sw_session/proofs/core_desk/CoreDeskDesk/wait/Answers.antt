@@ -1,4 +1,4 @@
-use Rattle.sw_session.proofs.Keeping.{passes-wait, leaves-all}
+use Rattle.sw_session.proofs.KeepingLemmas.{passes-wait, leaves-all}
 use Rattle.sw_session.proofs.core_desk.CoreDeskDesk.wait.Goals as goal
 
 pub returns-in-Some : goal.returns-in-Some

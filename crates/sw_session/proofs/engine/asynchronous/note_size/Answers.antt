@@ -3,7 +3,7 @@ use Rattle.sw_core.specs.declared.ask.SessionAsk.TheVariants.{Size}
 use Rattle.sw_session.specs.declared.engine.step.Channel.TheVariants.{Asynchronous}
 use Rattle.sw_session.specs.Trace.{Asked}
 use Rattle.sw_session.specs.EngineStep.{on_done}
-use Rattle.sw_session.proofs.EngineAsks.{by-one}
+use Rattle.sw_session.proofs.EngineAsksLemmas.{by-one}
 use Rattle.sw_session.proofs.engine.asynchronous.note_size.Goals as goal
 
 pub returns-clause-ok : goal.returns-clause-ok

@@ -1,4 +1,4 @@
-use Rattle.sw_session.proofs.SubAddress.{told-ascii}
+use Rattle.sw_session.proofs.SubAddressLemmas.{told-ascii}
 use Rattle.sw_session.proofs.engine.initialization.is_sub_address.Goals as goal
 
 pub returns-then-payload-le-LONGEST_SUB_ADDRESS : goal.returns-then-payload-le-LONGEST_SUB_ADDRESS

@@ -1,6 +1,6 @@
 use Rattle.std.proofs.Common.{Some, arith, ◌∙◌}
 use Rattle.sw_core.specs.declared.ask.SessionAsk.TheVariants.{Lock}
-use Rattle.sw_session.proofs.LockWaits.{lock-again, lock-over, lock-told, lock-end}
+use Rattle.sw_session.proofs.LockWaitsLemmas.{lock-again, lock-over, lock-told, lock-end}
 use Rattle.sw_session.proofs.engine.locks.await_lock.Goals as goal
 
 pub returns-in-Over : goal.returns-in-Over

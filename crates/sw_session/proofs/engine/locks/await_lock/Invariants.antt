@@ -1,7 +1,7 @@
 use Rattle.std.proofs.Common.{◌≡◌, Some}
 use Rattle.sw_core.specs.declared.ask.SessionAsk.TheVariants.{Lock}
 use Rattle.sw_session.specs.EngineStep.{LedBy}
-use Rattle.sw_session.proofs.LockWaits.{AwaitsBy}
+use Rattle.sw_session.proofs.LockWaitsLemmas.{AwaitsBy}
 use Rattle.sw_session.proofs.engine.locks.await_lock.Given as goal
 
 abbrev pub invariant-loop-turn : goal.invariant-loop-turn

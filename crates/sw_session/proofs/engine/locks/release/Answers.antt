@@ -2,7 +2,7 @@ use Rattle.std.proofs.Common.{refl, ap, ◌∙◌}
 use Rattle.sw_core.specs.declared.ask.SessionAsk.TheVariants.{Release}
 use Rattle.sw_session.specs.Trace.{Asked}
 use Rattle.sw_session.specs.EngineAsync.{lock_reply}
-use Rattle.sw_session.proofs.EngineAsks.{by-one}
+use Rattle.sw_session.proofs.EngineAsksLemmas.{by-one}
 use Rattle.sw_session.proofs.engine.locks.release.Goals as goal
 
 pub returns : goal.returns

@@ -3,7 +3,7 @@ use Rattle.std.proofs.lemmas.Grind.{common_steps}
 use Rattle.sw_hislip.specs.declared.message.Message.{Message}
 use Rattle.sw_session.specs.InParts.{parts_of}
 use Rattle.sw_session.specs.Said.{StepSeen, answering}
-use Rattle.sw_session.proofs.SyncAnswers.{cuts-to}
+use Rattle.sw_session.proofs.SyncAnswersLemmas.{cuts-to}
 use Rattle.sw_session.proofs.engine.program.answer.Goals as goal
 
 pub returns : goal.returns

@@ -1,4 +1,4 @@
-use Rattle.sw_session.proofs.SyncAnswers.{responds-max, responds-over}
+use Rattle.sw_session.proofs.SyncAnswersLemmas.{responds-max, responds-over}
 use Rattle.sw_session.proofs.engine.program.respond.Goals as goal
 
 pub returns-in-Max : goal.returns-in-Max

@@ -1,7 +1,7 @@
 use Rattle.std.proofs.Common.{subst, sym}
 use Rattle.sw_session.specs.Said.{StepSeen}
 use Rattle.sw_session.specs.EngineSync.{OpensSync, opened_session}
-use Rattle.sw_session.proofs.EngineAsks.{by-so}
+use Rattle.sw_session.proofs.EngineAsksLemmas.{by-so}
 use Rattle.sw_session.proofs.engine.session.join.Goals as goal
 
 pub returns : goal.returns

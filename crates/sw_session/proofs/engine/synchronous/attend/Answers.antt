@@ -1,4 +1,4 @@
-use Rattle.sw_session.proofs.SyncRows.{attends-seen, attends-asked}
+use Rattle.sw_session.proofs.SyncRowsLemmas.{attends-seen, attends-asked}
 use Rattle.sw_session.proofs.engine.synchronous.attend.Goals as goal
 
 pub returns-then-attached-clause-led : goal.returns-then-attached-clause-led

@@ -1,6 +1,6 @@
 use Rattle.std.proofs.Common.{◌∙◌, sym, ap}
 use Rattle.sw_session.specs.EngineSync.{responds}
-use Rattle.sw_session.proofs.SyncRows.{completes-done, completes-not}
+use Rattle.sw_session.proofs.SyncRowsLemmas.{completes-done, completes-not}
 use Rattle.sw_session.proofs.engine.synchronous.complete.Goals as goal
 
 pub returns-then-is_done : goal.returns-then-is_done

@@ -1,5 +1,5 @@
 use Rattle.std.proofs.Common.{◌∙◌, sym}
-use Rattle.sw_session.proofs.SyncRows.{delivered-told, delivered-none, delivered-not}
+use Rattle.sw_session.proofs.SyncRowsLemmas.{delivered-told, delivered-none, delivered-not}
 use Rattle.sw_session.proofs.engine.synchronous.deliver.Goals as goal
 
 pub returns-then-tells_delivery : goal.returns-then-tells_delivery

@@ -1,4 +1,4 @@
-use Rattle.sw_session.proofs.SyncRows.{trigger-within, trigger-alone}
+use Rattle.sw_session.proofs.SyncRowsLemmas.{trigger-within, trigger-alone}
 use Rattle.sw_session.proofs.engine.synchronous.give_trigger.Goals as goal
 
 pub returns-then-within : goal.returns-then-within

@@ -1,7 +1,7 @@
 use Rattle.std.proofs.Common.{◌∙◌, sym, ap, if◌then◌else◌}
 use Rattle.sw_session.specs.EngineStep.{over, goes}
 use Rattle.sw_session.specs.EngineSync.{interruption}
-use Rattle.sw_session.proofs.SyncRows.{interrupts-told}
+use Rattle.sw_session.proofs.SyncRowsLemmas.{interrupts-told}
 use Rattle.sw_session.proofs.engine.synchronous.interrupt.Goals as goal
 
 pub returns-then-is_gone : goal.returns-then-is_gone

@@ -1,7 +1,7 @@
 use Rattle.std.proofs.Common.{refl}
 use Rattle.sw_core.specs.declared.ask.SessionAsk.TheVariants.{Join}
 use Rattle.sw_session.specs.Trace.{Asked}
-use Rattle.sw_session.proofs.EngineAsks.{by-one}
+use Rattle.sw_session.proofs.EngineAsksLemmas.{by-one}
 use Rattle.sw_session.proofs.engine.synchronous.join.Goals as goal
 
 pub returns : goal.returns

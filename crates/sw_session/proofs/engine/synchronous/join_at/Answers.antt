@@ -1,6 +1,6 @@
 use Rattle.std.proofs.Common.{subst, inl}
 use Rattle.sw_session.specs.EngineMessages.{IsSubAddress}
-use Rattle.sw_session.proofs.EngineAsks.{by-so}
+use Rattle.sw_session.proofs.EngineAsksLemmas.{by-so}
 use Rattle.sw_session.proofs.engine.synchronous.join_at.Goals as goal
 
 pub returns-then-is_sub_address : goal.returns-then-is_sub_address

@@ -1,6 +1,6 @@
 use Rattle.std.proofs.Common.{Bool, [], ap}
 use Rattle.sw_session.specs.Said.{StepSeen}
-use Rattle.sw_session.proofs.EngineAsks.{by-so}
+use Rattle.sw_session.proofs.EngineAsksLemmas.{by-so}
 use Rattle.sw_session.proofs.engine.synchronous.trigger.Goals as goal
 
 pub returns : goal.returns

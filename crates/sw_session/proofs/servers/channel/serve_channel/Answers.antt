@@ -1,4 +1,4 @@
-use Rattle.sw_session.proofs.ServeSpeaks.{served}
+use Rattle.sw_session.proofs.ServeSpeaksLemmas.{served}
 use Rattle.sw_session.proofs.servers.channel.serve_channel.Goals as goal
 
 pub returns : goal.returns

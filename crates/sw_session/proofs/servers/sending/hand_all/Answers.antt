@@ -1,6 +1,6 @@
 use Rattle.std.proofs.Common.{refl, rules}
 use Rattle.sw_session.specs.declared.servers.fault.ServeFault.TheVariants.{Write, NoMemory}
-use Rattle.sw_session.proofs.ServeHands.{handing-on, handing-cut, handing-lost, part-handed, gives-one}
+use Rattle.sw_session.proofs.ServeHandsLemmas.{handing-on, handing-cut, handing-lost, part-handed, gives-one}
 use Rattle.sw_session.proofs.servers.sending.hand_all.Goals as goal
 
 pub returns-in-Err-clause-hands : goal.returns-in-Err-clause-hands

@@ -1,6 +1,6 @@
 use Rattle.std.proofs.Common.{length}
 use Rattle.sw_session.specs.ServeHand.{manner, outlets}
-use Rattle.sw_session.proofs.ServeHands.{Handing}
+use Rattle.sw_session.proofs.ServeHandsLemmas.{Handing}
 use Rattle.sw_session.proofs.servers.sending.hand_all.Given as goal
 
 abbrev pub invariant-loop-sent : goal.invariant-loop-sent

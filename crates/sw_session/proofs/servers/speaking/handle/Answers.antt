@@ -1,10 +1,10 @@
-use Rattle.sw_session.proofs.ServeSpeaks.{takes-speaks, takes-falters, skips-speaks, skips-falters, refuses-speaks, refuses-falters, looks-speaks}
-use Rattle.sw_session.proofs.ServeSpeaks.{looks-falters}
+use Rattle.sw_session.proofs.ServeSpeaksLemmas.{takes-speaks, takes-falters, skips-speaks, skips-falters, refuses-speaks, refuses-falters, looks-speaks}
+use Rattle.sw_session.proofs.ServeSpeaksLemmas.{looks-falters}
 use Rattle.sw_session.proofs.servers.speaking.handle.Goals as goal
 
 pub returns-in-Takes-clause-ok : goal.returns-in-Takes-clause-ok
 returns-in-Takes-clause-ok g c =
-    rw c.in-Takes.is (takes-speaks g.D.Desk.passes _ _ c.args.engine.now _ c.in-Takes.message c.take.result c.take.ensures.ok c.take.ensures.heard)
+    rw c.in-Takes.is (takes-speaks g.D.Desk.passes _ _ c.args.engine.now _ c.in-Takes.message c.take.result c.take.ensures.ok c.take.ensures.processed)
 
 pub returns-in-Takes-clause-err : goal.returns-in-Takes-clause-err
 returns-in-Takes-clause-err g c =

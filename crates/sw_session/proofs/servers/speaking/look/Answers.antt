@@ -1,6 +1,6 @@
 use Rattle.std.proofs.Common.{sym, ap, ◌∙◌}
 use Rattle.sw_session.specs.ServeEngine.{told_step}
-use Rattle.sw_session.proofs.ServeSpeaks.{looks-some}
+use Rattle.sw_session.proofs.ServeSpeaksLemmas.{looks-some}
 use Rattle.sw_session.proofs.servers.speaking.look.Goals as goal
 
 pub returns-clause-ok : goal.returns-clause-ok

@@ -1,7 +1,7 @@
 use Rattle.std.proofs.Common.{rules, Ok}
 use Rattle.sw_session.specs.declared.servers.turns.Next.TheVariants.{On, Over}
-use Rattle.sw_session.proofs.ServeWays.{turn-is}
-use Rattle.sw_session.proofs.ServeTurns.{going-start, going-on, runs-over, runs-fault, runs-bound}
+use Rattle.sw_session.proofs.ServeWaysLemmas.{turn-is}
+use Rattle.sw_session.proofs.ServeTurnsLemmas.{going-start, going-on, runs-over, runs-fault, runs-bound}
 use Rattle.sw_session.proofs.servers.turns.run.Goals as goal
 
 pub loop-turn-init : goal.loop-turn-init

@@ -1,7 +1,7 @@
 use Rattle.sw_hislip.specs.Pending.{nothing_fed}
 use Rattle.sw_session.specs.Serve.{voice, point, course}
 use Rattle.sw_session.specs.ServeEngine.{engine_protocol}
-use Rattle.sw_session.proofs.ServeTurns.{Going}
+use Rattle.sw_session.proofs.ServeTurnsLemmas.{Going}
 use Rattle.sw_session.proofs.servers.turns.run.Given as goal
 
 abbrev pub invariant-loop-turn : goal.invariant-loop-turn

@@ -1,8 +1,8 @@
 use Rattle.std.proofs.Common.{rules, false, Ok, sym, ◌∙◌}
-use Rattle.sw_session.specs.declared.servers.turns.Came.TheVariants.{End, Bytes, Paused}
-use Rattle.sw_session.proofs.ServeWays.{listens-is, counts-is}
-use Rattle.sw_session.proofs.ServeTurns.{judged-ok, concluded-read, concluded-write, each-unread, all-unread, listens-unwritten, turn-err, turn-end}
-use Rattle.sw_session.proofs.ServeTurns.{turn-paused, turn-bytes}
+use Rattle.sw_session.specs.declared.servers.turns.Received.TheVariants.{End, Bytes, Paused}
+use Rattle.sw_session.proofs.ServeWaysLemmas.{listens-is, counts-is}
+use Rattle.sw_session.proofs.ServeTurnsLemmas.{judged-ok, concluded-read, concluded-write, each-unread, all-unread, listens-unwritten, turn-err, turn-end}
+use Rattle.sw_session.proofs.ServeTurnsLemmas.{turn-paused, turn-bytes}
 use Rattle.sw_session.proofs.servers.turns.take_turn.Goals as goal
 
 pub returns-in-Err-clause-turn : goal.returns-in-Err-clause-turn
@@ -17,21 +17,21 @@ pub returns-in-Ok-Paused-clause-turn : goal.returns-in-Ok-Paused-clause-turn
 returns-in-Ok-Paused-clause-turn g c =
     rw c.conclude.ensures (turn-paused _ c.args.decoder.now.pending c.listen.new.decoder.pending _ _ c.attend.result
     (counts-is _ _ c.listen.result (Ok Paused) (search rules) c.listen.ensures.pauses) c.requires
-    (listens-is _ _ _ _ c.listen.result (Ok Paused) (search rules) c.listen.ensures.listens) c.attend.ensures.heard
+    (listens-is _ _ _ _ c.listen.result (Ok Paused) (search rules) c.listen.ensures.listens) c.attend.ensures.processed
     (judged-ok false c.attend.result c.attend.ensures.judged))
 
 pub returns-in-Ok-Bytes-clause-turn : goal.returns-in-Ok-Bytes-clause-turn
 returns-in-Ok-Bytes-clause-turn g c =
-    rw c.conclude-in-Ok-Bytes.ensures (turn-bytes _ c.args.decoder.now.pending c.listen.new.decoder.pending _ _ _ c.hear_all.result
+    rw c.conclude-in-Ok-Bytes.ensures (turn-bytes _ c.args.decoder.now.pending c.listen.new.decoder.pending _ _ _ c.process_all.result
     (listens-is _ _ _ _ c.listen.result (Ok Bytes) (search rules) c.listen.ensures.listens)
-    (counts-is _ _ c.listen.result (Ok Bytes) (search rules) c.listen.ensures.pauses) c.hear_all.ensures.heard)
+    (counts-is _ _ c.listen.result (Ok Bytes) (search rules) c.listen.ensures.pauses) c.process_all.ensures.processed)
 
 pub returns-in-Err-clause-write : goal.returns-in-Err-clause-write
 returns-in-Err-clause-write g c = λ e. absurd (listens-unwritten _ _ _ _ c.in-Err.fault c.in-Err.ensures.listens (cc (e)))
 
 pub returns-in-Ok-Paused-clause-read : goal.returns-in-Ok-Paused-clause-read
 returns-in-Ok-Paused-clause-read g c =
-    λ e. absurd (each-unread _ _ _ _ c.attend.result c.attend.ensures.heard
+    λ e. absurd (each-unread _ _ _ _ c.attend.result c.attend.ensures.processed
     (concluded-read _ (sym c.conclude.ensures ∙ e)))
 
 pub returns-in-Ok-Paused-clause-write : goal.returns-in-Ok-Paused-clause-write
@@ -39,8 +39,8 @@ returns-in-Ok-Paused-clause-write g c = λ e. c.attend.ensures.write (concluded-
 
 pub returns-in-Ok-Bytes-clause-read : goal.returns-in-Ok-Bytes-clause-read
 returns-in-Ok-Bytes-clause-read g c =
-    λ e. absurd (all-unread _ _ _ _ _ c.hear_all.result c.hear_all.ensures.heard
+    λ e. absurd (all-unread _ _ _ _ _ c.process_all.result c.process_all.ensures.processed
     (concluded-read _ (sym c.conclude-in-Ok-Bytes.ensures ∙ e)))
 
 pub returns-in-Ok-Bytes-clause-write : goal.returns-in-Ok-Bytes-clause-write
-returns-in-Ok-Bytes-clause-write g c = λ e. c.hear_all.ensures.write (concluded-write _ (sym c.conclude-in-Ok-Bytes.ensures ∙ e))
+returns-in-Ok-Bytes-clause-write g c = λ e. c.process_all.ensures.write (concluded-write _ (sym c.conclude-in-Ok-Bytes.ensures ∙ e))

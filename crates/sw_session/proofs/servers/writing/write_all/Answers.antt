@@ -1,5 +1,5 @@
 use Rattle.std.proofs.Common.{arith}
-use Rattle.sw_session.proofs.ServeKnown.{appends-part, appends-keeps, part-take}
+use Rattle.sw_session.proofs.ServeKnownLemmas.{appends-part, appends-keeps, part-take}
 use Rattle.sw_session.proofs.servers.writing.write_all.Goals as goal
 
 pub loop-preserved : goal.loop-preserved

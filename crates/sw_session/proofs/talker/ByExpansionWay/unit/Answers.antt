@@ -2,7 +2,7 @@ use Rattle.std.proofs.Common.{sym, ◌∙◌, inl}
 use Rattle.sw_lex.specs.Unit.{unit_of, written_of}
 use Rattle.sw_lex.specs.Meaning.{path_of}
 use Rattle.sw_session.specs.Talk.{spot}
-use Rattle.sw_session.proofs.Talks.{expanded-itself, expanded-units, expanded-fault, fault-expands}
+use Rattle.sw_session.proofs.TalksLemmas.{expanded-itself, expanded-units, expanded-fault, fault-expands}
 use Rattle.sw_session.proofs.talker.ByExpansionWay.unit.Goals as goal
 
 pub returns-else-is_replaced-clause-unit : goal.returns-else-is_replaced-clause-unit

@@ -2,7 +2,7 @@ use Rattle.std.proofs.Common.{[], refl, subst}
 use Rattle.sw_lex.specs.Meaning.{Nodes, path_of}
 use Rattle.sw_session.specs.Trace.{Led}
 use Rattle.sw_session.specs.Talk.{Talks, Expanded, standing}
-use Rattle.sw_session.proofs.Talks.{talked-units, talked-overrun, written-ends, written-line}
+use Rattle.sw_session.proofs.TalksLemmas.{talked-units, talked-overrun, written-ends, written-line}
 use Rattle.sw_session.proofs.talker.Talker.message.Goals as goal
 
 pub returns-then-text-gt-MESSAGE_BYTES-clause-talked : goal.returns-then-text-gt-MESSAGE_BYTES-clause-talked

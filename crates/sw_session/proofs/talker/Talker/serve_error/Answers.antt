@@ -1,8 +1,8 @@
 use Rattle.std.proofs.Common.{List, Err, refl}
 use Rattle.sw_session.specs.Trace.{Entry}
 use Rattle.sw_session.specs.Talk.{Begins, Queues, has_answers, begun_with}
-use Rattle.sw_session.proofs.Led.{led-so}
-use Rattle.sw_session.proofs.Talks.{serve-unit}
+use Rattle.sw_session.proofs.LedLemmas.{led-so}
+use Rattle.sw_session.proofs.TalksLemmas.{serve-unit}
 use Rattle.sw_session.proofs.talker.Talker.serve_error.Goals as goal
 
 pub returns-clause-serves : goal.returns-clause-serves

@@ -1,5 +1,5 @@
 use Rattle.std.proofs.Common.{◌∙◌, Ok}
-use Rattle.sw_session.proofs.Talks.{serve-unit}
+use Rattle.sw_session.proofs.TalksLemmas.{serve-unit}
 use Rattle.sw_session.proofs.talker.Talker.serve_own.Goals as goal
 
 pub returns-clause-serves : goal.returns-clause-serves

@@ -6,7 +6,7 @@ use Rattle.sw_session.specs.declared.talker.AfterUnit.TheVariants.{Goes}
 use Rattle.sw_session.specs.Trace.{Led}
 use Rattle.sw_session.specs.Script.{Complete, EndsRefused, EndsUnread}
 use Rattle.sw_session.specs.Talk.{ServesUnit, standing}
-use Rattle.sw_session.proofs.Talks.{ScriptsBy, scripts-more, talk-starts, talk-goes, talk-stops, talk-refused, talk-complete}
+use Rattle.sw_session.proofs.TalksLemmas.{ScriptsBy, scripts-more, talk-starts, talk-goes, talk-stops, talk-refused, talk-complete}
 use Rattle.sw_session.proofs.talker.Talker.talk.Goals as goal
 
 pub units-init : goal.units-init

@@ -3,7 +3,7 @@ use Rattle.sw_lex.specs.Unit.{UnitSeen}
 use Rattle.sw_lex.specs.Meaning.{path_of}
 use Rattle.sw_session.specs.Trace.{Led}
 use Rattle.sw_session.specs.Talk.{standing, answer_line}
-use Rattle.sw_session.proofs.Talks.{ScriptsBy, TalksBy}
+use Rattle.sw_session.proofs.TalksLemmas.{ScriptsBy, TalksBy}
 use Rattle.sw_session.proofs.talker.Talker.talk.Given as goal
 
 abbrev pub invariant-units : goal.invariant-units

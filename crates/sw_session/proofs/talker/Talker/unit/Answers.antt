@@ -1,7 +1,7 @@
 use Rattle.sw_lex.specs.Unit.{unit_of}
 use Rattle.sw_lex.specs.Meaning.{path_of}
 use Rattle.sw_session.specs.Talk.{spot}
-use Rattle.sw_session.proofs.Talks.{itself-served}
+use Rattle.sw_session.proofs.TalksLemmas.{itself-served}
 use Rattle.sw_session.proofs.talker.Talker.unit.Goals as goal
 
 pub returns-clause-unit : goal.returns-clause-unit

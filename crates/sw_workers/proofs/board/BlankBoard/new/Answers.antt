@@ -1,4 +1,4 @@
-use Rattle.sw_workers.proofs.BoardMoves.{begins}
+use Rattle.sw_workers.proofs.BoardMovesLemmas.{begins}
 use Rattle.sw_workers.proofs.board.BlankBoard.new.Goals as goal
 
 pub of_words-requires : goal.of_words-requires

@@ -1,5 +1,5 @@
 use Rattle.sw_core.specs.Seen.{work_seen}
-use Rattle.sw_workers.proofs.Carries.{CarriesOn}
+use Rattle.sw_workers.proofs.CarriesLemmas.{CarriesOn}
 use Rattle.sw_workers.proofs.desk.SharedDesk.carry.Given as goal
 
 abbrev pub invariant-loop : goal.invariant-loop

@@ -1,4 +1,4 @@
-use Rattle.sw_workers.proofs.Asked.{ends}
+use Rattle.sw_workers.proofs.AskedLemmas.{ends}
 use Rattle.sw_workers.proofs.desk.SharedDesk.finish.Goals as goal
 
 pub returns : goal.returns

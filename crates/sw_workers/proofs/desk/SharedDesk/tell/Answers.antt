@@ -1,4 +1,4 @@
-use Rattle.sw_workers.proofs.Asked.{brings-taken, brings-none}
+use Rattle.sw_workers.proofs.AskedLemmas.{brings-taken, brings-none}
 use Rattle.sw_workers.proofs.desk.SharedDesk.tell.Goals as goal
 
 pub returns-in-Taken : goal.returns-in-Taken

@@ -1,4 +1,4 @@
-use Rattle.sw_workers.proofs.Worked.{works-more, works-ends, works-adds}
+use Rattle.sw_workers.proofs.WorkedLemmas.{works-more, works-ends, works-adds}
 use Rattle.sw_workers.proofs.desk.SharedDesk.work_off.Goals as goal
 
 pub returns : goal.returns

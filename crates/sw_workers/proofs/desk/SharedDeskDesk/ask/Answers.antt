@@ -1,4 +1,4 @@
-use Rattle.sw_workers.proofs.Asked.{answers, hands-back}
+use Rattle.sw_workers.proofs.AskedLemmas.{answers, hands-back}
 use Rattle.sw_workers.proofs.desk.SharedDeskDesk.ask.Goals as goal
 
 pub returns-clause-passes : goal.returns-clause-passes

@@ -6,9 +6,9 @@ use Rattle.sw_workers.specs.Entries.{HistoryEntry}
 use Rattle.sw_workers.specs.Held.{Locked, note_of, notes_of, noted}
 use Rattle.sw_workers.specs.History.{said_at, grown}
 use Rattle.sw_workers.specs.Shares.{is_event, is_counted, one_if}
-use Rattle.sw_workers.proofs.AtDesks.{some_desk}
-use Rattle.sw_workers.proofs.Counted.{step_counted, one_more}
-use Rattle.sw_workers.proofs.Notes.{ring_more, notes_grown}
+use Rattle.sw_workers.proofs.AtDesksLemmas.{some_desk}
+use Rattle.sw_workers.proofs.CountedLemmas.{step_counted, one_more}
+use Rattle.sw_workers.proofs.NotesLemmas.{ring_more, notes_grown}
 use Rattle.sw_workers.proofs.held.Held.ask.Goals as goal
 
 pub ask-answer-requires : goal.ask-answer-requires

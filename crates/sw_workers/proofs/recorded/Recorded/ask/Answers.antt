@@ -7,8 +7,8 @@ use Rattle.sw_workers.specs.Board.{Said}
 use Rattle.sw_workers.specs.Entries.{HistoryEntry}
 use Rattle.sw_workers.specs.History.{InHistory, IsHistory, AsksInHistory, event, said_at}
 use Rattle.sw_workers.specs.Shares.{is_event}
-use Rattle.sw_workers.proofs.Recordings.{Leads, history_event, SawEvent, asks_event, SawNone, asks_nothing, next_fits}
-use Rattle.sw_workers.proofs.Unmoved.{step_unmoved}
+use Rattle.sw_workers.proofs.RecordingsLemmas.{Leads, history_event, SawEvent, asks_event, SawNone, asks_nothing, next_fits}
+use Rattle.sw_workers.proofs.UnmovedLemmas.{step_unmoved}
 use Rattle.sw_workers.proofs.recorded.Recorded.ask.Goals as goal
 
 pub invariant_of-self : goal.invariant_of-self
@@ -122,4 +122,5 @@ returns-clause-history g c =
     let d = c.requires.desk in
     subst (λ (x : Panel). AsksInHistory g.B.Recording.first x c.args.desk.now (event asked answered q) c.tell_event.new.desk)
     (ap (λ (l : InHistory). l.panel) c.self.view_is)
-    (asks_event g.B.Recording.first c.self.inside.pass c.self.inside.core c.args.desk.now said asked answered q c.tell_event.new.desk d.0 i.0 leads same d.1 saw)
+    (asks_event g.B.Recording.first c.self.inside.pass c.self.inside.core c.args.desk.now said asked answered q c.tell_event.new.desk d.0 i.0 leads same d.1
+    saw)

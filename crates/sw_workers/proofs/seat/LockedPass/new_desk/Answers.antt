@@ -1,5 +1,5 @@
 use Rattle.std.proofs.Common.{sym, ◌∙◌, arith}
-use Rattle.sw_workers.proofs.BoardMoves.{makes_desk}
+use Rattle.sw_workers.proofs.BoardMovesLemmas.{makes_desk}
 use Rattle.sw_workers.proofs.seat.LockedPass.new_desk.Goals as goal
 
 pub split_seat-seat-requires : goal.split_seat-seat-requires

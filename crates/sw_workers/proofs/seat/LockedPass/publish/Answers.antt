@@ -1,8 +1,8 @@
 use Rattle.std.proofs.Common.{◌≡◌, Some, sym, ◌∙◌, ap}
 use Rattle.sw_workers.specs.Board.{entry_of}
 use Rattle.sw_workers.specs.Entries.{last_pair, made_by}
-use Rattle.sw_workers.proofs.Entries.{last_pair-more}
-use Rattle.sw_workers.proofs.PassSteps.{written, put_on, pass_after, desk_after, own_after}
+use Rattle.sw_workers.proofs.EntriesLemmas.{last_pair-more}
+use Rattle.sw_workers.proofs.PassStepsLemmas.{written, put_on, pass_after, desk_after, own_after}
 use Rattle.sw_workers.proofs.seat.LockedPass.publish.Goals as goal
 
 pub invariant_of-self : goal.invariant_of-self

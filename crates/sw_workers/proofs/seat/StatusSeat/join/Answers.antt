@@ -1,5 +1,5 @@
 use Rattle.std.proofs.Common.{sym, ◌∙◌, ap, arith}
-use Rattle.sw_workers.proofs.BoardMoves.{compares, informs}
+use Rattle.sw_workers.proofs.BoardMovesLemmas.{compares, informs}
 use Rattle.sw_workers.proofs.seat.StatusSeat.join.Goals as goal
 
 pub join_seat-requires : goal.join_seat-requires

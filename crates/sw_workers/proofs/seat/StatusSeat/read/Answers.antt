@@ -1,5 +1,5 @@
 use Rattle.std.proofs.Common.{sym, ◌∙◌, arith}
-use Rattle.sw_workers.proofs.BoardMoves.{reads}
+use Rattle.sw_workers.proofs.BoardMovesLemmas.{reads}
 use Rattle.sw_workers.proofs.seat.StatusSeat.read.Goals as goal
 
 pub load-found-requires : goal.load-found-requires

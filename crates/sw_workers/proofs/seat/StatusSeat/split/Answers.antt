@@ -1,5 +1,5 @@
 use Rattle.std.proofs.Common.{sym, ◌∙◌, arith}
-use Rattle.sw_workers.proofs.BoardMoves.{copies}
+use Rattle.sw_workers.proofs.BoardMovesLemmas.{copies}
 use Rattle.sw_workers.proofs.seat.StatusSeat.split.Goals as goal
 
 pub split_seat-seat-requires : goal.split_seat-seat-requires

@@ -4,7 +4,7 @@ use Rattle.std.proofs.lemmas.Grind.{common_steps}
 use Rattle.std.proofs.lemmas.List.{drop-drop}
 use Rattle.sw_hislip.specs.declared.message.Message.{Message}
 use Rattle.sw_session.specs.InParts.{parts_of}
-use Rattle.sw_session.proofs.Cuts.{parts-more, parts-last}
+use Rattle.sw_session.proofs.CutsLemmas.{parts-more, parts-last}
 use Rattle.sw_session.proofs.engine.answers.Parts.next.Goals as goal
 
 pub returns-then-left-self : goal.returns-then-left-self

@@ -2,8 +2,8 @@ use Rattle.std.proofs.Common.{refl}
 use Rattle.sw_core.specs.declared.ask.SessionAsk.TheVariants.{Attach}
 use Rattle.sw_core.specs.declared.ask.SessionAnswer.TheVariants.{Joined, Stranger}
 use Rattle.sw_session.specs.Trace.{Asked, Polled}
-use Rattle.sw_session.proofs.EngineAsks.{by-one, by-two}
-use Rattle.sw_session.proofs.AsyncRows.{attaches-told}
+use Rattle.sw_session.proofs.EngineAsksLemmas.{by-one, by-two}
+use Rattle.sw_session.proofs.AsyncRowsLemmas.{attaches-told}
 use Rattle.sw_session.proofs.engine.asynchronous.AsyncSession.attach.Goals as goal
 
 pub returns-in-Joined : goal.returns-in-Joined

@@ -3,7 +3,7 @@ use Rattle.sw_hislip.specs.declared.kind.Kind.TheVariants.{AsyncStatusResponse}
 use Rattle.sw_session.specs.EngineMessages.{plain}
 use Rattle.sw_session.specs.EngineStep.{LedBy}
 use Rattle.sw_session.specs.EngineAsync.{AsyncStanding, TellsStatus, replies}
-use Rattle.sw_session.proofs.AsyncRows.{status-told}
+use Rattle.sw_session.proofs.AsyncRowsLemmas.{status-told}
 use Rattle.sw_session.proofs.engine.asynchronous.AsyncSession.tell_status.Goals as goal
 
 pub returns : goal.returns

@@ -1,5 +1,5 @@
-use Rattle.sw_session.proofs.SyncTalks.{serves-part, serves-end, serves-trigger}
-use Rattle.sw_session.proofs.SyncShort.{part-short, end-short}
+use Rattle.sw_session.proofs.SyncTalksLemmas.{serves-part, serves-end, serves-trigger}
+use Rattle.sw_session.proofs.SyncShortLemmas.{part-short, end-short}
 use Rattle.sw_session.proofs.engine.program.SyncSession.serve.Goals as goal
 
 pub returns-in-Part-clause-ok : goal.returns-in-Part-clause-ok

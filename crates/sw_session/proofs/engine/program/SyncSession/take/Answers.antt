@@ -1,6 +1,6 @@
 use Rattle.std.proofs.Common.{sym, inl, refl, ◌∙◌}
-use Rattle.sw_session.proofs.SyncTalks.{takes-program, takes-reply}
-use Rattle.sw_session.proofs.SyncShort.{short-else, takes-short}
+use Rattle.sw_session.proofs.SyncTalksLemmas.{takes-program, takes-reply}
+use Rattle.sw_session.proofs.SyncShortLemmas.{short-else, takes-short}
 use Rattle.sw_session.proofs.engine.program.SyncSession.take.Goals as goal
 
 pub returns-in_err-room-clause-err : goal.returns-in_err-room-clause-err

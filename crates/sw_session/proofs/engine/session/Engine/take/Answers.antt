@@ -1,7 +1,7 @@
 use Rattle.std.proofs.Common.{◌≡◌, false, IfOk, OnOk, OnErr, subst}
 use Rattle.sw_session.specs.Engine.{EngineStanding, TakesMessage, Falters, session_of}
 use Rattle.sw_session.specs.EngineStep.{LedBy}
-use Rattle.sw_session.proofs.EngineTakes.{falters-again, falters-at, heard-well, spent-since}
+use Rattle.sw_session.proofs.EngineTakesLemmas.{falters-again, falters-at, processed-well, spent-since}
 use Rattle.sw_session.proofs.engine.session.Engine.take.Goals as goal
 
 pub returns-then-self-clause-err : goal.returns-then-self-clause-err
@@ -15,10 +15,10 @@ returns-clause-ok g c =
     LedBy g.D.Desk.passes c.args.desk.now c.take-step.new.desk (λ asked.
     TakesMessage e.state c.args.message asked step c.take-step.new.self))) c.self.view_is c.take-step.ensures.ok
 
-pub returns-clause-heard : goal.returns-clause-heard
-returns-clause-heard g c =
+pub returns-clause-processed : goal.returns-clause-processed
+returns-clause-processed g c =
     subst (λ (e : EngineStanding). OnOk c.take-step.result ((e.spent ≡ false) × (c.is_err-self-inside.result ≡ false))) c.self.view_is
-    (heard-well c.take-step.result _ _ c.if-self.false c.is_err-self-inside.ensures.value)
+    (processed-well c.take-step.result _ _ c.if-self.false c.is_err-self-inside.ensures.value)
 
 pub returns-clause-err : goal.returns-clause-err
 returns-clause-err g c =

@@ -1,4 +1,4 @@
-use Rattle.sw_session.proofs.EngineTakes.{falters-unopened, falters-sync, falters-async, takes-sync, takes-async, stays-sync, stays-async}
+use Rattle.sw_session.proofs.EngineTakesLemmas.{falters-unopened, falters-sync, falters-async, takes-sync, takes-async, stays-sync, stays-async}
 use Rattle.sw_session.proofs.engine.session.State.take.Goals as goal
 
 pub returns-in_err-opened-in-Unopened-clause-err : goal.returns-in_err-opened-in-Unopened-clause-err

@@ -1,0 +1,71 @@
+//! What the threads of a server share: the mainframe, and the desks that no thread has.
+
+use std::alloc::Global;
+use std::mem;
+use std::sync::{Arc, Mutex, Wait};
+use std::time::Clock;
+use sw_card::{Meter, Relay};
+use sw_workers::{Gate, Mainframe, Shared, SharedDesk};
+
+/// A mainframe, and the desks that no thread has.
+#[derive(Drop)]
+pub struct DeskPool<
+    H: Mainframe,
+    R: Relay,
+    M: Meter,
+    G: Gate + Drop,
+    W: Wait + Clock + Copy + Drop,
+> {
+    shared: Arc<Shared<H, R, M, G>, Global>,
+    free: Mutex<Vec<SharedDesk<H, R, M, G, W>>>,
+    rt: W,
+}
+
+impl<H: Mainframe, R: Relay, M: Meter, G: Gate + Drop, W: Wait + Clock + Copy + Drop> DeskPool<
+    H,
+    R,
+    M,
+    G,
+    W,
+> {
+    /// A mainframe without a desk.
+    pub fn new(rt: W, alloc: Global, shared: Arc<Shared<H, R, M, G>, Global>) -> Self {
+        DeskPool {
+            shared,
+            free: Mutex::new(Vec::new(alloc)),
+            rt,
+        }
+    }
+
+    /// A desk that no thread has, or a new one. None where no memory is to be had.
+    pub fn desk(&self) -> Option<SharedDesk<H, R, M, G, W>> {
+        let free = self.free.lock(&self.rt).pop();
+        if free.is_some() {
+            return free;
+        }
+        SharedDesk::open(self.rt, &self.shared)
+    }
+
+    /// Takes a desk back, for the next thread. Where there is no memory it is lost, which the end tells.
+    pub fn give_back(&self, desk: SharedDesk<H, R, M, G, W>) {
+        let mut guard = self.free.lock(&self.rt);
+        let free = &mut *guard;
+        let _ = free.push(desk);
+    }
+
+    /// No connection is served that comes from now on, and each session ends after the message that it is in; or all
+    /// connections end at once.
+    pub fn end_lines(&self, is_at_once: bool) {
+        self.shared.end_lines(&self.rt, is_at_once);
+    }
+
+    /// Nobody has to wait any more, and workers end.
+    pub fn end_work(&self) {
+        self.shared.end_work(&self.rt);
+    }
+
+    /// All desks that were given back.
+    pub fn take_desks(&self, alloc: Global) -> Vec<SharedDesk<H, R, M, G, W>> {
+        mem::replace(&mut *self.free.lock(&self.rt), Vec::new(alloc))
+    }
+}

@@ -1,0 +1,94 @@
+-- A unit is begun.
+use Rattle.std.proofs.Common.{◌≡◌, ℕ, Bool, true, false, List, Option, Ok, Err, refl, sym, subst}
+use Rattle.sw_base.specs.declared.error.ScpiError.{ScpiError}
+use Rattle.sw_lex.specs.declared.command.Command.{Command}
+use Rattle.sw_lex.specs.declared.command.Command.TheVariants.{DefineMacro, MacroQuery, MacroLabelsQuery, RemoveMacro, PurgeMacros, EnableMacros}
+use Rattle.sw_lex.specs.declared.command.Command.TheVariants.{EnableMacrosQuery, Initiate, InitiateContinuous, Reset, Signal}
+use Rattle.sw_base.specs.declared.terms.LayerName.TheVariants as layer_name
+use Rattle.sw_core.specs.Action.{Effect, IsOfMacros, action_of}
+use Rattle.sw_core.specs.declared.ask.SessionAnswer.TheVariants.{Done}
+use Rattle.sw_macro.specs.Table.{Table}
+use Rattle.sw_core.specs.declared.ask.Sid.{Sid}
+use Rattle.sw_core.specs.declared.ask.SessionAsk.TheVariants as Ask
+use Rattle.sw_core.specs.declared.ask.SessionAnswer.{SessionAnswer}
+use Rattle.sw_session.specs.Trace.{Entry, Led}
+use Rattle.sw_session.specs.Macros.{Told, ActsOnMacros}
+use Rattle.sw_session.specs.Talk.{Queues, Settles, Begins, BeginsBy, begun_with, effect_of, is_own, Reports, StartsScan, Plans, table_reset}
+use Rattle.sw_session.proofs.LedLemmas.{led-none, led-so, led-then}
+
+module _ {D : Type 0} (passes : D → Entry → D → Type 0) (sid : Sid) where
+  pub initiate-planned : (d0 d1 d2 : D) (told final : SessionAnswer) → Led passes d0 d1 (λ t rest. Settles sid 0 (Ask.Snapshot sid) t told rest)
+      → Led passes d1 d2 (λ t rest. Plans sid told t final rest)
+      → Led passes d0 d2 (λ t rest. StartsScan sid t final rest)
+  initiate-planned d0 d1 d2 told final p q =
+      led-then passes d0 d1 d2 (λ t rest. Settles sid 0 (Ask.Snapshot sid) t told rest) (λ t rest. Plans sid told t final rest) (λ t rest.
+      StartsScan sid t final rest) p q
+      (λ t mid rest s k. (told, mid, s, k))
+
+  -- a command that is the mainframe's is asked
+  asked : (command : Command) (answered : Bool) (macros : Table) (t : List Entry) (final : SessionAnswer) (rest : List Entry)
+      → is_own command ≡ false → Settles sid 0 (Ask.Unit sid command answered) t final rest
+      → Begins sid answered (Ok command) macros t (begun_with final macros rest)
+  asked (DefineMacro label body) answered macros t final rest own s = absurd (cc (own))
+  asked (MacroQuery label) answered macros t final rest own s = absurd (cc (own))
+  asked MacroLabelsQuery answered macros t final rest own s = absurd (cc (own))
+  asked (RemoveMacro label) answered macros t final rest own s = absurd (cc (own))
+  asked PurgeMacros answered macros t final rest own s = absurd (cc (own))
+  asked (EnableMacros on) answered macros t final rest own s = absurd (cc (own))
+  asked EnableMacrosQuery answered macros t final rest own s = absurd (cc (own))
+  asked Initiate answered macros t final rest own s = absurd (cc (own))
+  asked Reset answered macros t final rest own s = absurd (cc (own))
+  asked (Signal layer_name.Trigger) answered macros t final rest own s = (s, refl)
+  asked (Signal (layer_name.Arm arm)) answered macros t final rest own s = (s, refl)
+  asked (InitiateContinuous true) answered macros t final rest own s = (s, refl)
+  asked (InitiateContinuous false) answered macros t final rest own s = (s, refl)
+  asked command answered macros t final rest own s = (s, refl)
+
+  pub begins-asked : (d0 d1 : D) (command : Command) (answered : Bool) (final : SessionAnswer) (macros : Table)
+      → is_own command ≡ false → Led passes d0 d1 (λ t rest. Settles sid 0 (Ask.Unit sid command answered) t final rest)
+      → Led passes d0 d1 (λ t rest. Begins sid answered (Ok command) macros t (begun_with final macros rest))
+  begins-asked d0 d1 command answered final macros own p =
+      led-so passes d0 d1 (λ t rest. Settles sid 0 (Ask.Unit sid command answered) t final rest) (λ t rest.
+      Begins sid answered (Ok command) macros t (begun_with final macros rest)) p
+      (λ t rest s. asked command answered macros t final rest own s)
+
+  -- a macro command was carried out
+  pub begins-reported : (d0 d1 : D) (command : Command) (answered : Bool) (told : Told) (final : SessionAnswer) (macros macros' : Table)
+      → effect_of (action_of answered command) ≡ IsOfMacros → ActsOnMacros command macros told macros'
+      → Led passes d0 d1 (λ t rest. Reports sid told t final rest)
+      → Led passes d0 d1 (λ t rest. Begins sid answered (Ok command) macros t (begun_with final macros' rest))
+  begins-reported d0 d1 command answered told final macros macros' is acts p =
+      led-so passes d0 d1 (λ t rest. Reports sid told t final rest) (λ t rest. Begins sid answered (Ok command) macros t (begun_with final macros' rest)) p
+      (λ t rest k. subst (λ (e : Effect). BeginsBy e sid answered command macros t (begun_with final macros' rest)) (sym is) (told, acts, k))
+
+  -- and needed no desk
+  pub begins-done : (d : D) (command : Command) (answered : Bool) (text : Option (List ℕ)) (macros macros' : Table)
+      → effect_of (action_of answered command) ≡ IsOfMacros → ActsOnMacros command macros (Ok text) macros'
+      → Led passes d d (λ t rest. Begins sid answered (Ok command) macros t (begun_with (Done text) macros' rest))
+  begins-done d command answered text macros macros' is acts =
+      led-none passes d (λ t rest. Begins sid answered (Ok command) macros t (begun_with (Done text) macros' rest))
+      (λ rest. subst (λ (e : Effect). BeginsBy e sid answered command macros rest (begun_with (Done text) macros' rest)) (sym is) (Ok text, acts, (refl, refl)))
+
+  -- a scan was to start
+  pub begins-scan : (d0 d1 : D) (command : Command) (answered : Bool) (final : SessionAnswer) (macros : Table) → command ≡ Initiate
+      → Led passes d0 d1 (λ t rest. StartsScan sid t final rest)
+      → Led passes d0 d1 (λ t rest. Begins sid answered (Ok command) macros t (begun_with final macros rest))
+  begins-scan d0 d1 command answered final macros is p =
+      led-so passes d0 d1 (λ t rest. StartsScan sid t final rest) (λ t rest. Begins sid answered (Ok command) macros t (begun_with final macros rest)) p
+      (λ t rest k. subst (λ (x : Command). Begins sid answered (Ok x) macros t (begun_with final macros rest)) (sym is) (k, refl))
+
+  -- a reset was asked
+  pub begins-reset : (d0 d1 : D) (answered : Bool) (final : SessionAnswer) (macros macros' : Table) → macros' ≡ table_reset final macros
+      → Led passes d0 d1 (λ t rest. Settles sid 0 (Ask.Unit sid Reset answered) t final rest)
+      → Led passes d0 d1 (λ t rest. Begins sid answered (Ok Reset) macros t (begun_with final macros' rest))
+  begins-reset d0 d1 answered final macros macros' is p =
+      led-so passes d0 d1 (λ t rest. Settles sid 0 (Ask.Unit sid Reset answered) t final rest) (λ t rest.
+      Begins sid answered (Ok Reset) macros t (begun_with final macros' rest)) p (λ t rest k. (k, is))
+
+  -- an error was queued
+  pub begins-queued : (d0 d1 : D) (e : ScpiError) (answered : Bool) (final : SessionAnswer) (macros macros' : Table) → macros' ≡ macros
+      → Led passes d0 d1 (λ t rest. Queues sid e t final rest)
+      → Led passes d0 d1 (λ t rest. Begins sid answered (Err e) macros t (begun_with final macros' rest))
+  begins-queued d0 d1 e answered final macros macros' is p =
+      led-so passes d0 d1 (λ t rest. Queues sid e t final rest) (λ t rest. Begins sid answered (Err e) macros t (begun_with final macros' rest)) p (λ t rest k.
+      (k, is))

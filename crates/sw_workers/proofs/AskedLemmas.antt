@@ -1,0 +1,53 @@
+-- What a desk's ask comes to.
+use Rattle.std.proofs.Common.{◌≡◌, Option, None, sym, ap, subst}
+use Rattle.sw_core.specs.declared.ask.SessionAsk.{SessionAsk}
+use Rattle.sw_core.specs.declared.ask.SessionAnswer.{SessionAnswer}
+use Rattle.sw_core.specs.declared.ask.Answer.{Answer}
+use Rattle.sw_core.specs.declared.ask.Work.{Work}
+use Rattle.sw_core.specs.Panel.{Panel}
+use Rattle.sw_core.specs.Seen.{WorkSeen, AskSeen, AskSession, SaysSession, answer_seen, work_seen}
+use Rattle.sw_session.specs.CoreDesk.{TellsOfPiece, brought}
+use Rattle.sw_session.specs.Trace.{HandsBackAsk}
+use Rattle.sw_session.proofs.HandedBackLemmas.{handed-back}
+use Rattle.sw_session.proofs.KeepingLemmas.{seen-none}
+use Rattle.sw_workers.specs.Held.{AtDesk}
+use Rattle.sw_workers.specs.Work.{AsksOnce, Adds, AnswersDesk, Brings, EndsPiece}
+
+-- what a session was answered, and the work that came with it
+session-asked : {R M : _} (start : Panel) (ask : SessionAsk) (whole : Answer R M) (answer : SessionAnswer) (work : Option (Work M)) (old new : AtDesk)
+    → whole ≡ Answer.Session answer work → AsksOnce start (AskSession ask) (answer_seen whole) old new
+    → AsksOnce start (AskSession ask) (SaysSession answer (work_seen work)) old new
+session-asked {R} {M} start ask whole answer work old new is asks =
+    subst (λ (a : Answer R M). AsksOnce start (AskSession ask) (answer_seen a) old new) is asks
+
+pub answers : {R M : _} (start : Panel) (ask : SessionAsk) (whole : Answer R M) (answer : SessionAnswer) (work : Option (Work M)) (old mid new : AtDesk)
+    → whole ≡ Answer.Session answer work → AsksOnce start (AskSession ask) (answer_seen whole) old mid → Adds start (work_seen work) mid new
+    → AnswersDesk start ask answer old new
+answers start ask whole answer work old mid new is asks adds =
+    record { work = work_seen work; mid = mid; asks = session-asked start ask whole answer work old mid is asks; adds = adds }
+
+handed : (start : Panel) (ask : SessionAsk) (answer : SessionAnswer) (work : Option WorkSeen) (old new : AtDesk)
+    → AsksOnce start (AskSession ask) (SaysSession answer work) old new → HandsBackAsk ask answer
+handed start ask answer work old new asks = handed-back asks.before ask _ answer work asks.after asks.history.next.step
+
+pub hands-back : {R M : _} (start : Panel) (ask : SessionAsk) (whole : Answer R M) (answer : SessionAnswer) (work : Option (Work M)) (old new : AtDesk)
+    → whole ≡ Answer.Session answer work → AsksOnce start (AskSession ask) (answer_seen whole) old new → HandsBackAsk ask answer
+hands-back start ask whole answer work old new is asks =
+    handed start ask answer (work_seen work) old new (session-asked start ask whole answer work old new is asks)
+
+brings : {R M : _} (start : Panel) (ask : AskSeen) (answer : Answer R M) (old new : AtDesk) (work : Option WorkSeen)
+    → AsksOnce start ask (answer_seen answer) old new → work ≡ brought (answer_seen answer) → Brings start ask old work new
+brings start ask answer old new work asks is = record { answer = answer_seen answer; asks = asks; brings_is = is }
+
+pub brings-taken : {R M : _} (start : Panel) (ask : AskSeen) (answer : Answer R M) (old new : AtDesk) (work : Option (Work M))
+    → AsksOnce start ask (answer_seen answer) old new → answer ≡ Answer.Taken work → Brings start ask old (work_seen work) new
+brings-taken {R} {M} start ask answer old new work asks is =
+    brings start ask answer old new (work_seen work) asks (sym (ap (λ (a : Answer R M). brought (answer_seen a)) is))
+
+pub brings-none : {R M : _} (start : Panel) (ask : AskSeen) (answer : Answer R M) (old new : AtDesk) → AsksOnce start ask (answer_seen answer) old new
+    → ((work : Option (Work M)) → answer ≡ Answer.Taken work → ⊥) → Brings start ask old None new
+brings-none start ask answer old new asks differs = brings start ask answer old new None asks (seen-none answer differs)
+
+pub ends : (start : Panel) (piece : WorkSeen) (ask : AskSeen) (old new : AtDesk) (work : Option WorkSeen) → TellsOfPiece piece ask
+    → Brings start ask old work new → EndsPiece start piece old work new
+ends start piece ask old new work tells told = record { ask = ask; tells = tells; told = told }

@@ -1,0 +1,102 @@
+-- A channel's server over a source that gives again what was read ahead.
+use Rattle.std.proofs.Common.{◌≡◌, ◌⊎◌, inl, inr, ℕ, ◌+◌, List, ◌++◌, length, Option, None, Some, Result, Ok, Err, OnOk, OnErr, option_map, ◌∙◌, refl, ap}
+use Rattle.std.proofs.Common.{subst, arith}
+use Rattle.std.specs.Io.KnownBytes.{Consumes, IsAtEnd, prepend_known}
+use Rattle.sw_session.specs.declared.engine.step.Channel.{Channel}
+use Rattle.sw_session.specs.declared.engine.step.Channel.TheVariants.{Synchronous}
+use Rattle.sw_session.specs.declared.servers.fault.ServeFault.{ServeFault}
+use Rattle.sw_session.specs.declared.servers.fault.ServeFault.TheVariants.{Read, Write}
+use Rattle.sw_session.specs.declared.servers.source.Unread.{Unread}
+use Rattle.sw_session.specs.declared.servers.source.Unread.TheVariants.{Paused, Failed}
+use Rattle.sw_session.specs.ServeRead.{IsLedTo, CountsPause}
+use Rattle.sw_session.specs.Trace.{Entry}
+use Rattle.sw_session.specs.ServeEngine.{Station, ServesChannel}
+use Rattle.sw_workers.specs.Connected.{Happened, Waited, Mishaps, ConnectionSeen, beside, channel_by_header, ServesFromHeader}
+
+-- the same run, of an input that it consumed as well
+serves-as : {D : Type 0} (passes : D → Entry → D → Type 0) (own : Channel) (turns : ℕ) (before after : Station D)
+    (input : Option (List ℕ)) (result : Result (Unit {0}) ServeFault)
+    → ((bs : List ℕ) → Consumes before.input after.input bs → Consumes input after.input bs)
+    → ServesChannel passes own turns before after result → ServesChannel passes own turns (record before { input = input }) after result
+serves-as passes own turns before after input result h s =
+    let r = s.serves.runs in record {
+      engine = s.engine;
+      serves = record {
+        desk = s.serves.desk;
+        runs = record {
+          read = r.read;
+          lost = r.lost;
+          reads = h (r.read ++ r.lost) r.reads;
+          loses = r.loses;
+          inputs = r.inputs;
+          paused = r.paused;
+          pending = r.pending;
+          follows = r.follows;
+          stream = r.stream;
+          ends = r.ends;
+        };
+        leaves = s.serves.leaves;
+      };
+    }
+
+-- what was read ahead and comes again is consumed once
+consumed-again : (input rest left : Option (List ℕ)) (header bs : List ℕ) → Consumes input rest header → Consumes (prepend_known header rest) left bs
+    → Consumes input left bs
+consumed-again None rest left header bs p q = tt
+consumed-again (Some xs) None left header bs p q = absurd p
+consumed-again (Some xs) (Some ys) None header bs p q = absurd q
+consumed-again (Some xs) (Some ys) (Some zs) header bs p q = p ∙ q
+
+-- a header is whole, or the input ended or failed in it
+pub whole-or : {A E : Type 0} (P Q F U : Type 0) (result : Result A E) → (F → U) → OnOk result (P ⊎ Q) → OnErr result F → P ⊎ Q ⊎ U
+whole-or P Q F U (Ok x) f (inl p) e = inl p
+whole-or P Q F U (Ok x) f (inr q) e = inr (inl q)
+whole-or P Q F U (Err x) f o e = inr (inr (f e))
+
+-- no read came
+pub waited_none : (p : Option ℕ) → Waited p p
+waited_none None = record { reads = 0; counts = refl }
+waited_none (Some n) = record { reads = 0; counts = ap Some (omega (arith)) }
+
+-- a read more: where a time limit ended it, one more has been ended
+pub waited_on : (old mid new : Option ℕ) (read : Result ℕ Unread) → Waited old mid → CountsPause mid new read → Waited old new
+waited_on old mid new (Ok n) w c = record { reads = w.reads; counts = c ∙ w.counts }
+waited_on old mid new (Err Failed) w c = record { reads = w.reads; counts = c ∙ w.counts }
+waited_on None mid new (Err Paused) w c = record { reads = w.reads + 1; counts = c ∙ ap (option_map (λ m. m + 1)) w.counts }
+waited_on (Some o) mid new (Err Paused) w c =
+    record { reads = w.reads + 1; counts = c ∙ ap (option_map (λ m. m + 1)) w.counts ∙ ap Some (omega (arith)) }
+
+pub connects : {D : Type 0} (passes : D → Entry → D → Type 0) (m : Mishaps) (turns : ℕ) (before after : ConnectionSeen D) (rest again : Option (List ℕ))
+    (pauses : Option ℕ) (result : Result (Unit {0}) ServeFault) (header : List ℕ) (own : Channel)
+    → own ≡ channel_by_header header → Consumes before.input rest header
+    → (length header ≡ 16) ⊎ IsAtEnd rest ⊎ m.unread → Waited before.pauses pauses → again ≡ prepend_known header rest
+    → ((side : Option (List ℕ)) × (side' : Option (List ℕ))
+    × ServesChannel passes own turns (beside side (record before { input = again; pauses = pauses })) (beside side' after) result)
+    → (result ≡ Err Read → m.unread) → (result ≡ Err Write → m.unwritten ⊎ ((own ≡ Synchronous) × m.refused))
+    → ServesFromHeader passes m turns before after result
+connects passes m turns before after rest again pauses result header own is begins whole waited same serves read write = record {
+  header = header;
+  rest = rest;
+  begins = begins;
+  whole = whole;
+  pauses = pauses;
+  waited = waited;
+  side = serves.0;
+  side' = serves.1;
+  serves = subst (λ (channel : Channel). ServesChannel passes channel turns (beside serves.0 (record before { pauses = pauses })) (beside serves.1 after)
+      result) is
+      (serves-as passes own turns (beside serves.0 (record before { input = again; pauses = pauses })) (beside serves.1 after) before.input result
+      (λ bs q. consumed-again before.input rest after.input header bs begins
+      (subst (λ (a : Option (List ℕ)). Consumes a after.input bs) same q)) serves.2);
+  read = read;
+  write = subst (λ (channel : Channel). result ≡ Err Write → m.unwritten ⊎ ((channel ≡ Synchronous) × m.refused)) is write;
+}
+
+-- a write of the first channel failed, or what it left to the second one was refused
+pub failed-or-refused : {W S R : Type 0} (failed : W → W → Type 0) (writer : W) → IsLedTo failed writer ⊎ (S × R) → Happened failed ⊎ R
+failed-or-refused failed writer (inl c) = inl (writer, c)
+failed-or-refused failed writer (inr c) = inr c.1
+
+pub of-first : {U R : Type 0} → U ⊎ R → U ⊎ ((Synchronous ≡ Synchronous) × R)
+of-first (inl u) = inl u
+of-first (inr r) = inr (refl, r)

@@ -1,0 +1,121 @@
+//! The ways of work to the threads that carry it out.
+
+ghost use Rattle.std.specs.Prelude.{◌≡◌, IfSome, IfNone};
+ghost use Rattle.sw_session.specs.CoreDesk.{piece_seen};
+
+use crate::pauses::Pause;
+use crossbeam_channel::{Receiver, SendError, Sender};
+use std::alloc::{AllocError, Global};
+use std::marker::Brand;
+use std::sync::Wait;
+use std::thread;
+use std::time::{Clock, Duration};
+use sw_cage::Job;
+use sw_card::Meter;
+use sw_core::Work;
+
+/// Which mainframe it is, to the work that its desks send or carry out. That a piece was sent, or a pause waited out,
+/// is known only from the one call here that does it.
+pub trait Carrier {
+    ghost use Rattle.std.specs.Prelude.{◌≡◌, ℕ, IfErr, OnOk, true};
+    ghost use Rattle.crossbeam_channel.specs.Err.{send_message};
+    ghost use Rattle.sw_core.specs.Seen.{WorkSeen, Measures, Pauses};
+    ghost use Rattle.sw_workers.specs.Pauses.{IsPause};
+
+    /// This piece of work was sent to the thread that carries it out.
+    ghost sent: { WorkSeen → Type 0 };
+
+    /// So many microseconds were waited out.
+    ghost rested: { ℕ → Type 0 };
+
+    /// Sends a measurement, or hands it back where no growth is to be had or no worker is left.
+    fn send_job<M: Meter, W: Wait>(
+        rt: &W,
+        way: &Sender<Job<M>>,
+        job: Job<M>,
+    ) -> Result<(), SendError<Job<M>>>
+        ensures sent { OnOk result (sent (Measures job.1)) }
+        ensures back { IfErr result (λ e. send_message e ≡ job) };
+
+    /// Sends a pause, which is whole: it ends so many microseconds after it began.
+    fn send_pause<W: Wait>(rt: &W, way: &Sender<Pause>, pause: Pause) -> bool
+        requires { IsPause pause }
+        ensures { result ≡ true → sent (Pauses pause.ticket pause.micros) };
+
+    /// Waits so many microseconds out.
+    fn rest<C: Clock>(clock: &C, micros: u64)
+        ensures { rested micros };
+}
+
+impl Carrier for Brand {
+    ghost sent = { λ piece. Unit {0} };
+
+    ghost rested = { λ micros. Unit {0} };
+
+    fn send_job<M: Meter, W: Wait>(
+        rt: &W,
+        way: &Sender<Job<M>>,
+        job: Job<M>,
+    ) -> Result<(), SendError<Job<M>>> {
+        way.send(rt, job)
+    }
+
+    fn send_pause<W: Wait>(rt: &W, way: &Sender<Pause>, pause: Pause) -> bool {
+        way.send(rt, pause).is_ok()
+    }
+
+    fn rest<C: Clock>(clock: &C, micros: u64) {
+        thread::sleep(clock, Duration::from_micros(micros));
+    }
+}
+
+/// The sending ends.
+#[derive(Drop)]
+pub struct WorkSenders<M: Meter> {
+    jobs: Sender<Job<M>>,
+    pauses: Sender<Pause>,
+}
+
+/// The receiving ends: one for the card worker, one for the timer worker.
+#[derive(Drop)]
+pub struct WorkReceivers<M: Meter> {
+    /// Measurements.
+    pub jobs: Receiver<Job<M>>,
+    /// Pauses.
+    pub pauses: Receiver<Pause>,
+}
+
+/// Makes both ways.
+pub fn work_posts<M: Meter>(
+    alloc: Global,
+) -> Result<(WorkSenders<M>, WorkReceivers<M>), AllocError> {
+    let (jobs, jobs_in) = crossbeam_channel::unbounded(alloc)?;
+    let (pauses, pauses_in) = crossbeam_channel::unbounded(alloc)?;
+    Ok((
+        WorkSenders { jobs, pauses },
+        WorkReceivers {
+            jobs: jobs_in,
+            pauses: pauses_in,
+        },
+    ))
+}
+
+impl<M: Meter> WorkSenders<M> {
+    /// Sends a piece of work whole, or hands it back where no growth is to be had or no worker is left. A pause begins
+    /// now.
+    pub fn send<H: Carrier, W: Wait + Clock>(&self, rt: &W, piece: Work<M>) -> Option<Work<M>>
+        ensures sent { IfNone result (H.sent (piece_seen piece)) }
+        ensures back { IfSome result (λ back. piece_seen back ≡ piece_seen piece) }
+    {
+        match piece {
+            Work::Measure(job) => match H::send_job(rt, &self.jobs, job) {
+                Ok(()) => None,
+                Err(refused) => Some(Work::Measure(refused.into_inner())),
+            },
+            Work::Pause(ticket, micros) => match Pause::begun(rt, ticket, micros) {
+                Some(pause) if H::send_pause(rt, &self.pauses, pause) => None,
+                _ => Some(Work::Pause(ticket, micros)),
+            },
+        }
+    }
+}
