@@ -1,5 +1,5 @@
 -- What a desk's ask comes to.
-use Rattle.std.proofs.Common.{◌≡◌, Option, None, sym, ap, subst}
+use Rattle.std.proofs.Common.{◌≡◌, Option, None, refl, absurd, sym, ap, subst}
 use Rattle.sw_core.specs.declared.ask.SessionAsk.{SessionAsk}
 use Rattle.sw_core.specs.declared.ask.SessionAnswer.{SessionAnswer}
 use Rattle.sw_core.specs.declared.ask.Answer.{Answer}
@@ -9,7 +9,6 @@ use Rattle.sw_core.specs.Seen.{WorkSeen, AskSeen, AskSession, SaysSession, answe
 use Rattle.sw_session.specs.CoreDesk.{TellsOfPiece, brought}
 use Rattle.sw_session.specs.Trace.{HandsBackAsk}
 use Rattle.sw_session.proofs.HandedBackLemmas.{handed-back}
-use Rattle.sw_session.proofs.KeepingLemmas.{seen-none}
 use Rattle.sw_workers.specs.Held.{AtDesk}
 use Rattle.sw_workers.specs.Work.{AsksOnce, Adds, AnswersDesk, Brings, EndsPiece}
 
@@ -43,6 +42,19 @@ pub brings-taken : {R M : _} (start : Panel) (ask : AskSeen) (answer : Answer R 
     → AsksOnce start ask (answer_seen answer) old new → answer ≡ Answer.Taken work → Brings start ask old (work_seen work) new
 brings-taken {R} {M} start ask answer old new work asks is =
     brings start ask answer old new (work_seen work) asks (sym (ap (λ (a : Answer R M). brought (answer_seen a)) is))
+
+-- nothing is brought
+seen-none : {R M : _} (a : Answer R M) → ((work : Option (Work M)) → a ≡ Answer.Taken work → ⊥) → None ≡ brought (answer_seen a)
+seen-none (Answer.Taken work) differs = absurd (differs work refl)
+seen-none (Answer.Session answer work) differs = refl
+seen-none Answer.Installed differs = refl
+seen-none (Answer.NotInstalled refusal card) differs = refl
+seen-none (Answer.Ejected card) differs = refl
+seen-none (Answer.NotEjected refusal) differs = refl
+seen-none Answer.Missed differs = refl
+seen-none Answer.Failed differs = refl
+seen-none (Answer.Back done) differs = refl
+seen-none (Answer.Worn ask) differs = refl
 
 pub brings-none : {R M : _} (start : Panel) (ask : AskSeen) (answer : Answer R M) (old new : AtDesk) → AsksOnce start ask (answer_seen answer) old new
     → ((work : Option (Work M)) → answer ≡ Answer.Taken work → ⊥) → Brings start ask old None new
