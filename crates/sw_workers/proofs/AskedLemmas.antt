@@ -1,5 +1,5 @@
 -- What a desk's ask comes to.
-use Rattle.std.proofs.Common.{◌≡◌, Option, None, refl, absurd, sym, ap, subst}
+use Rattle.std.proofs.Common.{◌≡◌, Option, None, refl, sym, ap, subst}
 use Rattle.sw_core.specs.declared.ask.SessionAsk.{SessionAsk}
 use Rattle.sw_core.specs.declared.ask.SessionAnswer.{SessionAnswer}
 use Rattle.sw_core.specs.declared.ask.Answer.{Answer}
