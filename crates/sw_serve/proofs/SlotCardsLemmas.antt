@@ -102,7 +102,7 @@ refuses-next relays meters p m header all o card why is within next own so refus
 fresh-step : (p : Panel) (o : PlacedCard) (q : Panel) → RunsGoOn → Takes p o q → IsFresh p → IsFresh q
 fresh-step p o q law t fresh =
     let e : Event = record { ask = AskInstall o.slot o.card; answer = SaysInstalled; panel = q } in
-    law.placed p e fresh refl (record {
+    law.installed p e fresh refl (record {
       own = t.own;
       step = subst (λ (f : Bool). Step p (AskInstall o.slot o.card) f SaysInstalled q) t.counted t.step;
     })
