@@ -10,4 +10,4 @@ returns g c =
       answer = answer_seen c.apply-answer.result;
       panel = c.apply-answer.new.self;
     } in
-    c.runs_go_on.ensures.placed c.args.core.now e c.requires refl (record { own = c.apply-answer.ensures.own; step = c.apply-answer.ensures.step })
+    c.runs_go_on.ensures.installed c.args.core.now e c.requires refl (record { own = c.apply-answer.ensures.own; step = c.apply-answer.ensures.step })
