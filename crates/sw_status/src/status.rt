@@ -5,7 +5,7 @@ ghost use Rattle.sw_base.specs.Limits.{most_errors};
 ghost use Rattle.sw_status.specs.Registers.{group_conditioned, event_taken, with_enable, with_ptr, with_ntr};
 ghost use Rattle.sw_status.specs.StatusModel.{first_status, pushed, popped, cleared, preset, enabled, registers_of};
 ghost use Rattle.sw_status.specs.StatusModel.{with_group, with_bit, summary_of, byte_of, event_ended, counted_of};
-ghost use Rattle.sw_status.specs.StatusModel.{flag_of, IsStatus};
+ghost use Rattle.sw_status.specs.StatusModel.{asking_of, flag_of, IsStatus};
 
 use crate::group::Group;
 use std::alloc::{AllocError, Global};
@@ -302,9 +302,20 @@ impl Status {
     pub fn end_event(&mut self)
         ensures { self.new ≡ event_ended self.old }
     {
-        let asking = self.summary() & self.sre;
+        let asking = self.asking_now();
         self.requests = counted(self.requests, self.asking, asking);
         self.asking = asking;
+    }
+
+    /// The bits of the summary that are enabled in *SRE. Where none is enabled, the summary isn't made.
+    #[inline]
+    fn asking_now(&self) -> u8
+        ensures { result ≡ asking_of self.now }
+    {
+        if self.sre == 0 {
+            return 0;
+        }
+        self.summary() & self.sre
     }
 }
 
