@@ -1,7 +1,7 @@
 -- Work that is kept or carried out.
 use Rattle.std.proofs.Common.{◌≡◌, ℕ, suc, ◌+◌, ◌<◌, ◌≤◌, Bool, true, false, List, [], ◌∷◌, ◌++◌, Option, Some, None, refl, sym, ap, ◌∙◌, subst, arith}
-use Rattle.std.specs.Prelude.{replicate, IfSome, map}
-use Rattle.std.proofs.lemmas.List.{append-nil, map-append, replicate_more}
+use Rattle.std.specs.Prelude.{replicate}
+use Rattle.std.proofs.lemmas.List.{append-nil, replicate_more}
 use Rattle.sw_core.specs.declared.ask.Sid.{Sid}
 use Rattle.sw_core.specs.declared.ask.SessionAsk.{SessionAsk}
 use Rattle.sw_core.specs.declared.ask.SessionAnswer.{SessionAnswer}
@@ -25,12 +25,6 @@ use Rattle.sw_session.proofs.NearerLemmas.{left, nearer}
 pub seen-some : {M : _} (piece : Work M) → work_seen (Some piece) ≡ Some (piece_seen piece)
 seen-some (Work.Measure job) = refl
 seen-some (Work.Pause ticket micros) = refl
-
--- the pieces of a queue of which the oldest came off, as plain data
-pub seen-first : {M : _} (items left : List (Work M)) (piece : Work M) (r : Option (Work M)) → IfSome r (λ oldest. items ++ piece ∷ [] ≡ oldest ∷ left)
-    → IfSome r (λ oldest. map piece_seen items ++ piece_seen piece ∷ [] ≡ piece_seen oldest ∷ map piece_seen left)
-seen-first items left piece None h = tt
-seen-first items left piece (Some oldest) h = sym (map-append piece_seen items (piece ∷ [])) ∙ ap (λ x. map piece_seen x) h
 
 -- the work that an answer brings
 pub brought-is : (a : AnswerSeen) (work : Option WorkSeen) → Brings a work → work ≡ brought a

@@ -1,5 +1,5 @@
 -- A desk over a mainframe of its own.
-use Rattle.std.specs.Prelude.{◌≡◌, ℕ, ◌-◌, ◌^◌, ◌≤◌, Bool, true, false, List, [], ◌∷◌, ◌++◌, length, replicate}
+use Rattle.std.specs.Prelude.{◌≡◌, ℕ, ◌-◌, ◌^◌, ◌≤◌, Bool, true, false, List, [], ◌∷◌, ◌++◌, length, map, replicate}
 use Rattle.std.specs.Prelude.{Option, None, Some}
 use Rattle.sw_status.specs.StatusModel.{summary_of}
 use Rattle.sw_cage.specs.Work.{FinishedSeen, IsDone}
@@ -24,9 +24,18 @@ pub record DeskSeen : Type 0 where
   pub room : ℕ
   pub available : Notes
 
--- a desk over this mainframe, with nothing outstanding, no room yet, and no message available
+-- the pieces that are outstanding, the oldest first, and for how many of them there is room
+pub record QueueSeen : Type 0 where
+  pub pieces : List WorkSeen
+  pub room : ℕ
+
+-- none, and room for the one that a scan has
+abbrev pub no_work : QueueSeen
+no_work = record { pieces = []; room = 1 }
+
+-- a desk over this mainframe, with nothing outstanding, room for one piece, and no message available
 abbrev pub desk_over : Panel → DeskSeen
-desk_over p = record { panel = p; work = []; room = 0; available = no_notes }
+desk_over p = record { panel = p; work = []; room = 1; available = no_notes }
 
 -- a desk but for how much room it has
 abbrev pub but_room : DeskSeen → DeskSeen
@@ -40,6 +49,11 @@ IsFull d = d.room ≤ length d.work
 abbrev pub piece_seen : {M : _} → Work M → WorkSeen
 piece_seen (Work.Measure job) = Measures job.1
 piece_seen (Work.Pause ticket micros) = Pauses ticket micros
+
+-- the pieces in their order, the oldest of which stands by itself
+abbrev pub outstanding : {M : _} → Option (Work M) → List (Work M) → List WorkSeen
+outstanding None others = []
+outstanding (Some oldest) others = piece_seen oldest ∷ map piece_seen others
 
 -- a piece that was carried out: what the mainframe was told, whether a card failed in that call, what it answered, and
 -- its state after that

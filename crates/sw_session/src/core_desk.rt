@@ -1,7 +1,6 @@
 //! A desk over a mainframe of its own.
 
 ghost use Rattle.std.specs.Prelude.{◌≡◌, ◌≤◌, Bool, true, [], ◌∷◌, ◌++◌, None, Some, IfSome, IfNone};
-ghost use Rattle.std.specs.VecDeque.{deque_len, deque_capacity};
 ghost use Rattle.sw_core.specs.Seen.{AskSeen, work_seen, AskSession, SaysSession};
 ghost use Rattle.sw_core.specs.Step.{Step, StepBrings};
 ghost use Rattle.sw_session.specs.Available.{followed};
@@ -9,8 +8,8 @@ ghost use Rattle.sw_session.specs.CoreDesk.{IsKept, IsCarried, IsFull, TellsOfPi
 
 use crate::available::{Available, Seating, seating_of};
 use crate::desk::{Desk, View, Wake};
+use crate::work_queue::WorkQueue;
 use std::alloc::Global;
-use std::collections::VecDeque;
 use std::marker::Model;
 use sw_card::{Meter, Relay};
 use sw_core::{Core, SessionAnswer, SessionAsk, Sid, Work};
@@ -24,34 +23,32 @@ use sw_core::{Core, SessionAnswer, SessionAsk, Sid, Work};
 pub struct CoreDesk<R: Relay, M: Meter> {
     alloc: Global,
     core: Core<R, M>,
-    work: VecDeque<Work<M>>,
+    work: WorkQueue<M>,
     available: Available,
 }
 
 impl<R: Relay, M: Meter> Model for CoreDesk<R, M> {
-    ghost use Rattle.std.specs.Prelude.{map};
-    ghost use Rattle.std.specs.VecDeque.{deque_capacity};
-    ghost use Rattle.sw_session.specs.CoreDesk.{DeskSeen, piece_seen};
+    ghost use Rattle.sw_session.specs.CoreDesk.{DeskSeen};
 
     ghost Value = { DeskSeen };
 
     ghost view = { λ d. record {
       panel = d.core;
-      work = map piece_seen d.work.items;
-      room = deque_capacity d.work;
+      work = d.work.pieces;
+      room = d.work.room;
       available = d.available;
     } };
 }
 
 impl<R: Relay, M: Meter> CoreDesk<R, M> {
-    /// A desk over this mainframe, with no work, no room for any yet, and no message available.
+    /// A desk over this mainframe, with no work, room for one piece, and no message available.
     pub fn new(alloc: Global, core: Core<R, M>) -> Self
         ensures { result ≡ desk_over core }
     {
         CoreDesk {
             alloc,
             core,
-            work: VecDeque::with_capacity(alloc, 0).unwrap(),
+            work: WorkQueue::new(alloc),
             available: Available::new(),
         }
     }
@@ -87,14 +84,14 @@ impl<R: Relay, M: Meter> CoreDesk<R, M> {
     fn keep_piece(&mut self, piece: Work<M>)
         ensures { IsKept self.old (work_seen (Some piece)) self.new }
     {
-        if self.work.len() < self.work.capacity() {
-            self.work.push_back(piece).unwrap();
+        if self.work.is_empty() {
+            self.work.begin(piece);
         } else {
             self.keep_or_carry(piece);
         }
     }
 
-    /// Keeps a piece of work for a wait, where the room for it has to grow; where it can't, pieces are carried out.
+    /// Keeps a piece of work behind others. Where the room for it has to grow and can't, pieces are carried out.
     #[inline(never)]
     fn keep_or_carry(&mut self, piece: Work<M>)
         ensures { IsKept self.old (work_seen (Some piece)) self.new }
@@ -124,7 +121,7 @@ impl<R: Relay, M: Meter> CoreDesk<R, M> {
         ensures full { IfSome result (λ _. IsFull self.old) }
         ensures roomy { self.old.room ≤ self.new.room }
     {
-        put_behind(&mut self.work, piece)
+        self.work.put(piece)
     }
 
     /// Takes the oldest piece off.
@@ -134,7 +131,7 @@ impl<R: Relay, M: Meter> CoreDesk<R, M> {
         ensures none { IfNone result (self.old.work ≡ []) }
         ensures same { IfNone result (self.new ≡ self.old) }
     {
-        self.work.pop_front()
+        self.work.take()
     }
 
     /// Carries a piece out and tells the mainframe, which gives what comes next.
@@ -182,24 +179,6 @@ impl<R: Relay, M: Meter> CoreDesk<R, M> {
             Work::Pause(ticket, _) => self.core.elapse(ticket, work),
         }
     }
-}
-
-/// Puts a piece behind the rest. Only where that would take more memory and there is none, the oldest of all comes off
-/// and gives it room.
-fn put_behind<M: Meter>(queue: &mut VecDeque<Work<M>>, piece: Work<M>) -> Option<Work<M>>
-    ensures none { IfNone result (queue.new.items ≡ queue.old.items ++ piece ∷ []) }
-    ensures some { IfSome result (λ oldest. queue.old.items ++ piece ∷ [] ≡ oldest ∷ queue.new.items) }
-    ensures full { IfSome result (λ _. deque_capacity queue.old ≤ deque_len queue.old) }
-    ensures roomy { deque_capacity queue.old ≤ deque_capacity queue.new }
-{
-    let Err(refused) = queue.push_back(piece) else {
-        return None;
-    };
-    let Some(oldest) = queue.pop_front() else {
-        return Some(refused.value);
-    };
-    queue.push_back(refused.value).unwrap();
-    Some(oldest)
 }
 
 impl<R: Relay, M: Meter> Desk for CoreDesk<R, M> {

@@ -30,6 +30,7 @@ mod line;
 mod macros;
 mod servers;
 mod talker;
+mod work_queue;
 
 pub use asking::TURNS;
 pub use available::{Available, Mark, Seating, seating_of};
