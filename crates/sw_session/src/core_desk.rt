@@ -4,7 +4,9 @@ ghost use Rattle.std.specs.Prelude.{◌≡◌, ◌≤◌, Bool, true, [], ◌∷
 ghost use Rattle.sw_core.specs.Seen.{AskSeen, work_seen, AskSession, SaysSession};
 ghost use Rattle.sw_core.specs.Step.{Step, StepBrings};
 ghost use Rattle.sw_session.specs.Available.{followed};
-ghost use Rattle.sw_session.specs.CoreDesk.{IsKept, IsCarried, IsFull, TellsOfPiece, WaitsOut, desk_over, piece_seen};
+ghost use Rattle.sw_session.specs.CoreDesk.{IsKept, IsCarried, IsFull, TellsOfPiece, WaitsOut, CorePasses};
+ghost use Rattle.sw_session.specs.CoreDesk.{desk_over, piece_seen};
+ghost use Rattle.sw_session.specs.Trace.{Waited, LeavesOf};
 
 use crate::available::{Available, Seating, seating_of};
 use crate::desk::{Desk, View, Wake};
@@ -124,6 +126,22 @@ impl<R: Relay, M: Meter> CoreDesk<R, M> {
         self.work.put(piece)
     }
 
+    /// Waits for the oldest piece: carries it out, and keeps what comes next.
+    #[inline(never)]
+    fn wait_for_oldest(&mut self, limit_ms: Option<u32>) -> Wake
+        ensures passes { CorePasses self.old (Waited limit_ms result) self.new }
+        ensures left { LeavesOf limit_ms result }
+    {
+        match self.take() {
+            Some(piece) => {
+                let work = self.carry(piece);
+                self.keep(work);
+                Wake::Again(limit_ms)
+            }
+            None => Wake::Over,
+        }
+    }
+
     /// Takes the oldest piece off.
     #[inline(always)]
     fn take(&mut self) -> Option<Work<M>>
@@ -200,15 +218,12 @@ impl<R: Relay, M: Meter> Desk for CoreDesk<R, M> {
         self.core.holds(ask)
     }
 
+    #[inline(always)]
     fn wait(&mut self, limit_ms: Option<u32>) -> Wake {
-        match self.take() {
-            Some(piece) => {
-                let work = self.carry(piece);
-                self.keep(work);
-                Wake::Again(limit_ms)
-            }
-            None => Wake::Over,
+        if self.work.is_empty() {
+            return Wake::Over;
         }
+        self.wait_for_oldest(limit_ms)
     }
 
     fn poll(&mut self, sid: Sid) -> View {

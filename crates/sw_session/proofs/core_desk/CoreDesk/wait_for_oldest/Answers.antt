@@ -1,5 +1,5 @@
 use Rattle.sw_session.proofs.KeepingLemmas.{passes-wait, leaves-all}
-use Rattle.sw_session.proofs.core_desk.CoreDeskDesk.wait.Goals as goal
+use Rattle.sw_session.proofs.core_desk.CoreDesk.wait_for_oldest.Goals as goal
 
 pub returns-in-Some : goal.returns-in-Some
 returns-in-Some g c = record {
