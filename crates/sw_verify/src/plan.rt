@@ -6,11 +6,14 @@ ghost use Rattle.sw_code.specs.Code.{Unfolds};
 ghost use Rattle.sw_code.specs.Compiled.{compiled};
 ghost use Rattle.sw_verify.specs.declared.refusal.Refusal.TheVariants.{NoMemory};
 ghost use Rattle.sw_verify.specs.Check.{IsReady, IsRefusedScan};
+ghost use Rattle.sw_verify.specs.Course.{course_of};
 
+use crate::course::Course;
 use crate::ready::check;
 use crate::refusal::Refusal;
 use crate::snapshot::{BoxedSnapshot, Snapshot};
-use crate::verified::verify;
+use crate::sources::Sources;
+use crate::verified::{Verified, verify};
 use std::alloc::Global;
 use std::marker::Model;
 use sw_code::{Code, compile};
@@ -21,7 +24,7 @@ use sw_code::{Code, compile};
 #[derive(Debug, Drop)]
 pub struct Plan {
     snapshot: BoxedSnapshot,
-    code: Code,
+    verified: Verified,
 }
 
 impl Model for Plan {
@@ -46,7 +49,7 @@ impl Plan {
     {
         check(snapshot.get())?;
         match verified_code(alloc, snapshot.get()) {
-            Ok(code) => Ok(Plan { snapshot, code }),
+            Ok(verified) => Ok(Plan { snapshot, verified }),
             Err(refusal) => {
                 drop(snapshot);
                 Err(refusal)
@@ -68,26 +71,29 @@ impl Plan {
         ensures unfolds { Unfolds result.now.steps (agenda self.now.settings) }
         ensures ready { IsReady self.now }
     {
-        &self.code
+        self.verified.code()
     }
 
-    /// What the scan begins from, and its code.
-    pub fn into_parts(self) -> (Snapshot, Code)
-        ensures snapshot { result.0 ≡ self }
-        ensures code { result.1 ≡ compiled self.settings }
-        ensures unfolds { Unfolds result.1.steps (agenda self.settings) }
+    /// What the scan does: the agenda of the settings.
+    pub fn into_course(self) -> Course
+        ensures course { result ≡ course_of self.settings }
         ensures ready { IsReady self }
     {
-        let Plan { snapshot, code } = self;
-        (snapshot.into_inner(), code)
+        let Plan { snapshot, verified } = self;
+        let settings = &snapshot.get().settings;
+        Course {
+            verified,
+            sources: Sources::new(settings),
+            points: settings.points(),
+        }
     }
 }
 
 /// The code of a snapshot that passed the check. The verifier refuses none but for want of memory.
-fn verified_code(alloc: Global, snapshot: &Snapshot) -> Result<Code, Refusal>
+fn verified_code(alloc: Global, snapshot: &Snapshot) -> Result<Verified, Refusal>
     requires ready { IsReady snapshot.now }
-    ensures code { IfOk result (λ code. code ≡ compiled snapshot.now.settings) }
-    ensures unfolds { IfOk result (λ code. Unfolds code.steps (agenda snapshot.now.settings)) }
+    ensures code { IfOk result (λ v. v.code ≡ compiled snapshot.now.settings) }
+    ensures unfolds { IfOk result (λ v. Unfolds v.code.steps (agenda snapshot.now.settings)) }
     ensures refused { IfErr result (λ r. r ≡ NoMemory) }
 {
     let settings = &snapshot.settings;
@@ -95,6 +101,5 @@ fn verified_code(alloc: Global, snapshot: &Snapshot) -> Result<Code, Refusal>
         return Err(Refusal::NoMemory);
     };
     let closed = snapshot.closed.as_slice();
-    let verified = verify(alloc, code, &snapshot.layout, closed, settings.points())?;
-    Ok(verified.into_code())
+    verify(alloc, code, &snapshot.layout, closed, settings.points())
 }
