@@ -6,6 +6,7 @@ use Rattle.sw_trigger.specs.Agenda.{Item, Awaits, Close, Open}
 use Rattle.sw_code.specs.declared.code.Step.{Step}
 use Rattle.sw_code.specs.declared.code.Step.TheVariants as step
 use Rattle.sw_code.specs.Code.{Counters, exec}
+pub use Rattle.sw_verify.specs.Course.{AreVisits}
 use Rattle.sw_cage.specs.declared.scan.steps.Place.{Place}
 use Rattle.sw_cage.specs.declared.scan.steps.Moves.{Moves}
 use Rattle.sw_cage.specs.Advance.{opens_of, closes_of}
@@ -31,15 +32,7 @@ IsResting (Some (step.Open c)) = ⊥
 IsResting (Some (step.Loop k to)) = ⊥
 IsResting (Some step.Halt) = Unit {0}
 
--- what is closed is opened after one awaiting item
-abbrev pub AreVisits : List Item → Type 0
-AreVisits [] = Unit {0}
-AreVisits (Awaits what ∷ items) = AreVisits items
-AreVisits (Close c ∷ Awaits what ∷ Open d ∷ items) = AreVisits items
-AreVisits (Close c ∷ _) = ⊥
-AreVisits (Open c ∷ items) = ⊥
-
--- the same, where the first visit may have begun
+-- visits, of which the first may have begun
 abbrev pub AreVisitsOn : List Item → Type 0
 AreVisitsOn [] = Unit {0}
 AreVisitsOn (Awaits what ∷ items) = AreVisits (Awaits what ∷ items)

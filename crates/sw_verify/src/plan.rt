@@ -1,10 +1,13 @@
 //! A scan that passed the check, with its code.
 
-ghost use Rattle.std.specs.Prelude.{◌≡◌, IfOk, IfErr};
+ghost use Rattle.std.specs.Prelude.{◌≡◌, true, IfOk, IfErr};
+ghost use Rattle.sw_base.specs.Layout.{has_meter};
 ghost use Rattle.sw_trigger.specs.Agenda.{agenda};
 ghost use Rattle.sw_code.specs.Code.{Unfolds};
 ghost use Rattle.sw_code.specs.Compiled.{compiled};
 ghost use Rattle.sw_verify.specs.declared.refusal.Refusal.TheVariants.{NoMemory};
+ghost use Rattle.sw_verify.specs.Channels.{is_among};
+ghost use Rattle.sw_verify.specs.Sound.{IsSound};
 ghost use Rattle.sw_verify.specs.Check.{IsReady, IsRefusedScan};
 ghost use Rattle.sw_verify.specs.Course.{course_of};
 
@@ -77,6 +80,8 @@ impl Plan {
     /// What the scan does: the agenda of the settings.
     pub fn into_course(self) -> Course
         ensures course { result ≡ course_of self.settings }
+        ensures measured { has_meter self.layout result.meter ≡ true }
+        ensures sound { IsSound self.layout (is_among self.closed) result.points result.items }
         ensures ready { IsReady self }
     {
         let Plan { snapshot, verified } = self;

@@ -40,11 +40,11 @@ pub(crate) fn go_past<R: Relay, M: Meter>(
     requires runs { is_some scan.old ≡ true }
     requires awaits { (at : ScanSeen) → scan.old ≡ Some at → awaits at ≡ None → ⊥ }
     requires may { (at : ScanSeen) → scan.old ≡ Some at
-        → MayGoOn (layout_of (accounts_of slots.old)) (is_closed (accounts_of slots.old)) at.setup (at.index + 1) }
+        → MayGoOn (layout_of (accounts_of slots.old)) (is_closed (accounts_of slots.old)) at.course (at.index + 1) }
     ensures meters { KeepsMeters slots.old result slots.new }
     ensures goes { (at : ScanSeen) → scan.old ≡ Some at
         → AdvancesOrFails (record { cards = accounts_of slots.old; out = out.old }) number
-        (moves_from at.setup (at.index + 1)) (next_place at.setup (at.index + 1)) (taken_seen result)
+        (moves_from at.course (at.index + 1)) (next_place at.course (at.index + 1)) (taken_seen result)
         (record { cards = accounts_of slots.new; out = out.new }) scan.new }
 {
     let Some(at) = scan else {
@@ -65,9 +65,9 @@ pub(crate) fn go_on<R: Relay, M: Meter>(
     moves: Moves,
 ) -> Taken<M>
     requires runs { is_some scan.old ≡ true }
-    requires slot_in { (at : ScanSeen) → scan.old ≡ Some at → (1 ≤ at.setup.meter) × (at.setup.meter ≤ most_slots) }
+    requires slot_in { (at : ScanSeen) → scan.old ≡ Some at → (1 ≤ at.course.meter) × (at.course.meter ≤ most_slots) }
     requires meter { (at : ScanSeen) → scan.old ≡ Some at
-        → has_meter (layout_of (accounts_of slots.old)) at.setup.meter ≡ true }
+        → has_meter (layout_of (accounts_of slots.old)) at.course.meter ≡ true }
     requires may { MayMove (layout_of (accounts_of slots.old)) (is_closed (accounts_of slots.old)) moves.to_open
         moves.to_close }
     ensures meters { KeepsMeters slots.old result slots.new }
@@ -197,9 +197,9 @@ fn arrive<R: Relay, M: Meter>(
     number: u64,
 ) -> Taken<M>
     requires runs { is_some scan.old ≡ true }
-    requires slot_in { (at : ScanSeen) → scan.old ≡ Some at → (1 ≤ at.setup.meter) × (at.setup.meter ≤ most_slots) }
+    requires slot_in { (at : ScanSeen) → scan.old ≡ Some at → (1 ≤ at.course.meter) × (at.course.meter ≤ most_slots) }
     requires meter { (at : ScanSeen) → scan.old ≡ Some at
-        → has_meter (layout_of (accounts_of slots.old)) at.setup.meter ≡ true }
+        → has_meter (layout_of (accounts_of slots.old)) at.course.meter ≡ true }
     ensures meters { KeepsMeters slots.old result slots.new }
     ensures arrives { (at : ScanSeen) → scan.old ≡ Some at
         → Arrives (record { cards = accounts_of slots.old; out = out.old }) number at

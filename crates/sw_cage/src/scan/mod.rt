@@ -1,8 +1,8 @@
-//! A scan that runs: its settings, its code, and where it stands.
+//! A scan that runs: its code, and where it stands in it.
 
-ghost use Rattle.std.specs.Prelude.{◌≡◌, ℕ, ◌+◌, ◌<◌, ◌≤◌, ◌++◌, length, None, ◌↔◌, IsTrue};
-ghost use Rattle.sw_trigger.specs.Settings.{IsInRange, layer_of};
-ghost use Rattle.sw_code.specs.Compiled.{compiled};
+ghost use Rattle.std.specs.Prelude.{◌≡◌, ℕ, ◌+◌, ◌≤◌, ◌++◌, length, None, ◌↔◌, IsTrue};
+ghost use Rattle.sw_verify.specs.Course.{source_at};
+ghost use Rattle.sw_base.specs.Limits.{most_slots};
 ghost use Rattle.sw_cage.specs.Advance.{awaits, moves_from, next_place};
 ghost use Rattle.sw_cage.specs.Cage.{ticket_of};
 ghost use Rattle.sw_cage.specs.Steps.{moves_of};
@@ -18,15 +18,17 @@ use crate::taken::Happening;
 use std::marker::Model;
 use sw_base::{LayerName, Source};
 use sw_code::Code;
-use sw_trigger::{Awaited, Settings};
+use sw_trigger::Awaited;
+use sw_verify::{Course, Sources};
 
 /// A scan that runs.
 ///
-/// Contracts see its settings and the index of what it awaits in its agenda, and not the steps that lead there.
+/// Contracts see its course and which of its items it awaits, and not the steps that lead there.
 #[derive(Drop)]
 pub(crate) struct Scan {
-    settings: Settings,
     code: Code,
+    sources: Sources,
+    points: u32,
     at: Place,
     index: u64,
 }
@@ -45,18 +47,18 @@ impl Model for Scan {
 
 impl Scan {
     /// A scan at the first thing that it awaits, and what is done before that.
-    pub(crate) fn begin(settings: Settings, code: Code) -> (Scan, Moves)
-        requires listed { 0 < length settings.list }
-        requires range { IsInRange settings }
-        requires code { code ≡ compiled settings }
-        ensures scan { result.0 ≡ next_place settings 0 }
-        ensures moves { moves_of result.1 ≡ moves_from settings 0 }
+    pub(crate) fn begin(course: Course) -> (Scan, Moves)
+        ensures scan { result.0 ≡ next_place course 0 }
+        ensures moves { moves_of result.1 ≡ moves_from course 0 }
+        ensures slot_in { (1 ≤ course.meter) × (course.meter ≤ most_slots) }
     {
+        let (code, sources, points) = course.into_parts();
         let (moves, at) = first(code.steps());
         let index = count(&moves);
         let scan = Scan {
-            settings,
             code,
+            sources,
+            points,
             at,
             index,
         };
@@ -75,8 +77,8 @@ impl Scan {
     #[inline(always)]
     pub(crate) fn advance(&mut self) -> Moves
         requires { awaits self.old ≡ None → ⊥ }
-        ensures scan { self.new ≡ next_place self.old.setup (self.old.index + 1) }
-        ensures moves { moves_of result ≡ moves_from self.old.setup (self.old.index + 1) }
+        ensures scan { self.new ≡ next_place self.old.course (self.old.index + 1) }
+        ensures moves { moves_of result ≡ moves_from self.old.course (self.old.index + 1) }
     {
         let moves = next(self.code.steps(), &mut self.at);
         self.index += 1 + count(&moves);
@@ -86,7 +88,7 @@ impl Scan {
     /// Whether the scan takes the happening, being number so many.
     #[inline(always)]
     pub(crate) fn takes(&self, number: u64, happening: Happening) -> bool
-        ensures { IsTrue result ↔ TakesIf self.now.setup (ticket_of number self.now) (awaits self.now) happening }
+        ensures { IsTrue result ↔ TakesIf self.now.course (ticket_of number self.now) (awaits self.now) happening }
     {
         let present = Ticket {
             scan: number,
@@ -103,7 +105,7 @@ impl Scan {
 
     /// Whether a wait of the layer takes the happening.
     fn wait_takes(&self, name: LayerName, happening: Happening) -> bool
-        ensures { IsTrue result ↔ TakesWait self.now.setup name happening }
+        ensures { IsTrue result ↔ TakesWait self.now.course name happening }
     {
         match happening {
             Happening::Bus => return self.source(name) == Source::Bus,
@@ -128,7 +130,7 @@ impl Scan {
         }
     }
 
-    /// The index of what the scan awaits in its agenda.
+    /// Which of its items the scan awaits.
     #[inline(always)]
     pub(crate) fn index(&self) -> u64
         ensures { result ≡ self.now.index }
@@ -139,16 +141,16 @@ impl Scan {
     /// The slot of the scan's meter.
     #[inline(always)]
     pub(crate) fn meter(&self) -> u8
-        ensures { result ≡ self.now.setup.meter }
+        ensures { result ≡ self.now.course.meter }
     {
-        self.settings.meter()
+        self.code.meter()
     }
 
     /// Where the layer's wait takes its trigger from.
     pub(crate) fn source(&self, name: LayerName) -> Source
-        ensures { result ≡ (layer_of self.now.setup name).source }
+        ensures { result ≡ source_at self.now.course.sources name }
     {
-        self.settings.layer(name).source
+        self.sources.source(name)
     }
 }
 

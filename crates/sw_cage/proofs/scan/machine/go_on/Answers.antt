@@ -9,7 +9,7 @@ use Rattle.sw_cage.proofs.scan.machine.go_on.Goals as goal
 
 pub arrive-requires-clause-meter : goal.arrive-requires-clause-meter
 arrive-requires-clause-meter g c = λ at is. meter_there (accounts_of c.args.slots.now) (accounts_of c.make_moves.new.slots) (moves_of c.args.moves)
-    at.setup.meter c.in-Ok.ensures.ok
+    at.course.meter c.in-Ok.ensures.ok
     (c.requires.meter at is)
 
 pub returns-in-Ok-clause-goes : goal.returns-in-Ok-clause-goes
