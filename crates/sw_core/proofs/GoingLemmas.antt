@@ -4,7 +4,7 @@ use Rattle.std.specs.Prelude.{if◌then◌else◌}
 use Rattle.sw_base.specs.declared.reading.Reading.{Reading}
 use Rattle.sw_card.specs.declared.board.CardFault.{CardFault}
 use Rattle.sw_card.specs.Account.{Account, MeterAccount, of_meter}
-use Rattle.sw_verify.specs.Course.{CourseSeen}
+use Rattle.sw_verify.specs.Course.{CourseSeen, course_of}
 use Rattle.sw_trigger.specs.Agenda.{Item}
 use Rattle.sw_verify.specs.declared.snapshot.Snapshot.{Snapshot}
 use Rattle.sw_status.specs.StatusModel.{StatusSeen}
@@ -184,5 +184,5 @@ returns_once p q q' done f f' told told' h k n m = elim (returns_as p done f tol
 pub starts_once : (p q q' : Panel) (plan : Snapshot) (f f' : Bool) (told told' : TakenSeen) → Starts p plan f told q → Starts p plan f' told' q'
     → told ≢ SaysFault → told' ≢ SaysFault → (told ≡ told') × (q ≡ q')
 starts_once p q q' plan f f' told told' h k n m =
-    let r = goes_once (begun p.cage) q.cage q'.cage p.settings 0 told told' h.3 k.3 n m in
+    let r = goes_once (begun p.cage) q.cage q'.cage (course_of p.settings) 0 told told' h.3 k.3 n m in
     (r.0, reported p q q' told told' (card_fault_cleared p.status) r.0 r.1 h.4 k.4)
