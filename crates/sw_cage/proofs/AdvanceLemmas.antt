@@ -1,5 +1,5 @@
 -- What is so of a cage stays so where its scan goes on.
-use Rattle.std.proofs.Common.{◌≡◌, ℕ, ◌+◌, ◌-◌, ◌<◌, ◌≤◌, nat_lt, true, false, List, length, take, Option, Some, None, slice_set, refl, sym, ap}
+use Rattle.std.proofs.Common.{◌≡◌, ℕ, ◌+◌, ◌-◌, ◌≤◌, nat_lt, true, false, List, length, take, Option, Some, None, slice_set, refl, sym, ap}
 use Rattle.std.proofs.Common.{◌∙◌, subst, arith, is_some, inl, inr}
 use Rattle.sw_base.specs.Limits.{most_slots}
 use mathlib.Core.Path.{fun_ext}

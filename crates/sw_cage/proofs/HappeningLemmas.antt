@@ -1,29 +1,27 @@
 -- What happens to a running scan, and the cage stays good.
-use Rattle.std.proofs.Common.{◌≡◌, ◌≢◌, ℕ, ◌+◌, ◌-◌, ◌<◌, ◌≤◌, true, List, [], ◌∷◌, ◌++◌, length, Option, Some, None, slice_set, refl, sym, ap, ◌∙◌, subst}
+use Rattle.std.proofs.Common.{◌≡◌, ◌≢◌, ℕ, ◌+◌, ◌-◌, ◌<◌, ◌≤◌, true, List, [], ◌∷◌, ◌++◌, length, drop, Option, Some, None, slice_set, refl, sym, ap, ◌∙◌, subst}
 use Rattle.std.proofs.Common.{arith, is_some, length-append, Result, Ok, if◌then◌else◌}
 use Rattle.std.specs.Result.{is_ok}
 use Rattle.sw_base.specs.Limits.{most_slots, most_channels}
 use mathlib.Core.Path.{fun_ext}
-use Rattle.sw_channel.specs.Positions.{Position}
 use Rattle.sw_base.specs.Layout.{Channel, Layout, slot_at, has_meter}
 use Rattle.sw_base.specs.declared.reading.Reading.{Reading}
 use Rattle.sw_card.specs.Account.{MeterAccount, of_meter}
 use Rattle.sw_trigger.specs.declared.layer.Awaited.{Awaited}
 use Rattle.sw_trigger.specs.declared.layer.Awaited.TheVariants.{Wait, Period, Pause, Read}
 use Rattle.sw_verify.specs.Course.{CourseSeen}
-use Rattle.sw_trigger.specs.Agenda.{Item}
 use Rattle.sw_trigger.specs.Counts.{reads, is_reading}
 use Rattle.sw_verify.specs.Channels.{Channels, is_among}
 use Rattle.sw_verify.specs.Sound.{IsSound}
 use Rattle.sw_cage.specs.Accounts.{Accounts, layout_of, is_closed, all_open}
 use Rattle.sw_cage.specs.Channels.{closed_list}
 use Rattle.sw_cage.specs.Cage.{ScanSeen, CageSeen, layout_with, cage_layout, ticket_of}
-use Rattle.sw_cage.specs.Advance.{opens_of, closes_of, moves_from, next_place, awaits}
-use Rattle.sw_cage.specs.Moves.{MayMove, MayGoOn}
+use Rattle.sw_cage.specs.Advance.{moves_from, next_place, awaits}
+use Rattle.sw_cage.specs.Moves.{MayGoOn}
 use Rattle.sw_cage.specs.Good.{HasDone, MeterStands, IsUnderway, IsRunning, IsHeld, HasRoom, IsGoodWithRoom}
 use Rattle.sw_cage.specs.TakenSeen.{TakenSeen, SaysIgnored, SaysWaits, SaysPause, SaysJob, SaysEnded, SaysFault}
 use Rattle.sw_cage.specs.Takes.{AwaitsReturn, TakesReturnThere, AwaitsOther}
-use Rattle.sw_cage.specs.Outcome.{occupancy_of, AdvancesOrFails, Advances}
+use Rattle.sw_cage.specs.Outcome.{Occupancy, occupancy_of, AdvancesOrFails, Advances}
 use Rattle.sw_cage.specs.declared.job.Ticket.{Ticket}
 use Rattle.sw_cage.proofs.SlotChangeLemmas.{some_slot, slot_set_same, slot_set_other}
 use Rattle.sw_cage.proofs.LayoutLemmas.{meter_in, layout_back}
@@ -34,21 +32,13 @@ use Rattle.sw_cage.proofs.AdvanceLemmas.{CanGo, lengths, closed_back, held_both,
 
 -- a scan that can go on
 
-pub go_meter : (p : CageSeen) (s : CourseSeen) (i : ℕ) (at : ScanSeen) → CanGo p s i → at ≡ next_place s i
-    → has_meter (layout_of p.cards) at.course.meter ≡ true
-go_meter p s i at g e = ap (λ (x : ScanSeen). has_meter (layout_of p.cards) x.course.meter) e ∙ g.measured
-
-pub go_slot : (p : CageSeen) (s : CourseSeen) (i : ℕ) (at : ScanSeen) → CanGo p s i → at ≡ next_place s i
-    → (1 ≤ at.course.meter) × (at.course.meter ≤ most_slots)
-go_slot p s i at g e = subst (λ (x : ScanSeen). (1 ≤ x.course.meter) × (x.course.meter ≤ most_slots)) (sym e) g.slot_in
-
-pub go_may : (p : CageSeen) (s : CourseSeen) (i : ℕ) (o k : Option Position) → IsHeld p → CanGo p s i → opens_of o ++ closes_of k ≡ moves_from s i
-    → MayMove (layout_of p.cards) (is_closed p.cards) o k
-go_may p s i o k held g e = may_move_in (layout_of p.cards) p.out (lengths p held) (is_closed p.cards) o k
-    (may_move (cage_layout p) (is_closed p.cards) s i g.way o k e)
-
 pub may_go : (p : CageSeen) (s : CourseSeen) (i : ℕ) → IsHeld p → CanGo p s i → MayGoOn (layout_of p.cards) (is_closed p.cards) s i
-may_go p s i held g = record { slot_in = g.slot_in; meter = g.measured; moves = λ o k e. go_may p s i o k held g e }
+may_go p s i held g = record {
+  slot_in = g.slot_in;
+  meter = g.measured;
+  moves =
+      may_move_in (layout_of p.cards) p.out (lengths p held) (is_closed p.cards) (drop i s.items) (may_move (cage_layout p) (is_closed p.cards) s i g.way);
+}
 
 room_some : (room : ℕ) (s : CourseSeen) (i : ℕ) (scan : Option ScanSeen) → reads s.items ≤ room → scan ≡ Some (next_place s i) → HasRoom scan room
 room_some room s i scan r e = subst (λ (o : Option ScanSeen). HasRoom o room) (sym e) r
@@ -65,24 +55,18 @@ room_goes p q s i (SaysJob job) room r h = room_some room s i q.scan r h.arrives
 room_goes p q s i SaysEnded room r h = room_none room q.scan h.arrives.2
 room_goes p q s i SaysFault room r h = room_none room q.scan h.over
 
-pub goes_on : (p q : CageSeen) (s : CourseSeen) (i : ℕ) (told : TakenSeen) (moves : List Item) (at : ScanSeen)
-    → AdvancesOrFails (occupancy_of p) p.number moves at told (occupancy_of q) q.scan → moves ≡ moves_from s i → at ≡ next_place s i → q.number ≡ p.number
-    → q.readings ≡ p.readings → Advances p s i told q
-goes_on p q s i told moves at h e f n rs = record {
-  runs = subst (λ (m : List Item). AdvancesOrFails (occupancy_of p) p.number m (next_place s i) told (occupancy_of q) q.scan) e
-      (subst (λ (x : ScanSeen). AdvancesOrFails (occupancy_of p) p.number moves x told (occupancy_of q) q.scan) f h);
-  number = n;
-  readings = rs;
-}
+pub goes_from : (old new : Occupancy) (number : ℕ) (at from : ScanSeen) (told : TakenSeen) (scan : Option ScanSeen) → at ≡ from
+    → AdvancesOrFails old number (moves_from at.course at.index) (next_place at.course at.index) told new scan
+    → AdvancesOrFails old number (moves_from from.course from.index) (next_place from.course from.index) told new scan
+goes_from old new number at from told scan e h = subst (λ (x : ScanSeen). AdvancesOrFails old number (moves_from x.course x.index)
+    (next_place x.course x.index) told new scan) e h
 
-pub go_kept : (p q : CageSeen) (s : CourseSeen) (i : ℕ) (told : TakenSeen) (moves : List Item) (at : ScanSeen) (room : ℕ) → IsHeld p → CanGo p s i
-    → reads s.items ≤ room
-    → AdvancesOrFails (occupancy_of p) p.number moves at told (occupancy_of q) q.scan → moves ≡ moves_from s i → at ≡ next_place s i → q.number ≡ p.number
-    → q.readings ≡ p.readings
-    → IsGoodWithRoom q room
-go_kept p q s i told moves at room held g r h e f n rs =
-    let goes : Advances p s i told q = goes_on p q s i told moves at h e f n rs in
-    record { good = good_goes p q s i told held g goes; room = room_goes p q s i told room r goes.runs }
+pub go_kept : (p q : CageSeen) (s : CourseSeen) (i : ℕ) (told : TakenSeen) (room : ℕ) → IsHeld p → CanGo p s i → reads s.items ≤ room
+    → AdvancesOrFails (occupancy_of p) p.number (moves_from s i) (next_place s i) told (occupancy_of q) q.scan → q.number ≡ p.number
+    → q.readings ≡ p.readings → IsGoodWithRoom q room
+go_kept p q s i told room held g r h n rs =
+    let goes : Advances p s i told q = record { runs = h; number = n; readings = rs } in
+    record { good = good_goes p q s i told held g goes; room = room_goes p q s i told room r h }
 
 -- past a wait or a pause
 

@@ -1,5 +1,5 @@
--- A scan that runs: from item to item of its agenda.
-use Rattle.std.proofs.Common.{◌≡◌, ℕ, ◌+◌, ◌<◌, Bool, true, false, ◌&&◌, ◌||◌, not, List, [], ◌∷◌, ◌++◌, length, take, drop, Option, Some, None, refl, sym, ap}
+-- A scan that runs: from item to item of its course.
+use Rattle.std.proofs.Common.{◌≡◌, ℕ, ◌+◌, ◌<◌, Bool, true, false, ◌&&◌, ◌||◌, not, List, [], ◌∷◌, ◌++◌, length, take, drop, Option, Some, refl, sym, ap}
 use Rattle.std.proofs.Common.{◌∙◌, subst, arith}
 use Rattle.std.proofs.Math.Seq.{take-add}
 use Rattle.std.proofs.lemmas.List.{take-append-drop}
@@ -15,8 +15,8 @@ use Rattle.sw_verify.specs.Channels.{Channels, same_channel, none, with_channel,
 use Rattle.sw_verify.specs.Sound.{CanCloseOne, CanCloseEach, CanOpenEach, AllRight, effect}
 use Rattle.sw_verify.proofs.Round.{effect-append}
 use Rattle.sw_cage.specs.Cage.{layout_with}
-use Rattle.sw_cage.specs.Advance.{leading_moves, first_awaited, opens_of, closes_of, moves_from}
-use Rattle.sw_cage.specs.Moves.{MayCloseNext, MayMove}
+use Rattle.sw_cage.specs.Advance.{leading_moves, first_awaited, moves_from}
+use Rattle.sw_cage.specs.Moves.{MayMove}
 use Rattle.sw_cage.specs.Good.{HasDone}
 use Rattle.sw_cage.specs.declared.job.Ticket.{Ticket}
 use Rattle.sw_cage.proofs.LayoutLemmas.{present_with, clash_with}
@@ -61,7 +61,7 @@ reads_left s i e =
     let rest = ap reads (awaits_first (drop i s.items) Read e) in
     omega (arith, whole, rest)
 
--- what is left of a sound agenda is right from where it has come
+-- what is left of sound items is right from where it has come
 right_after : (layout : Layout) (b m : Channels) (xs ys : List Item) → AllRight layout b m (xs ++ ys) → AllRight layout (effect b xs) (effect m xs) ys
 right_after layout b m [] ys h = h
 right_after layout b m (Awaits w ∷ xs) ys h = right_after layout b m xs ys h
@@ -102,12 +102,12 @@ within_after m b (Awaits w ∷ xs) h = within_after m b xs h
 within_after m b (Close p ∷ xs) h = within_after (with_each p m) (with_each p b) xs (within_with m b p h)
 within_after m b (Open p ∷ xs) h = within_after (without_each p m) (without_each p b) xs (within_without m b p h)
 
-moves_may : (layout : Layout) (b m : Channels) (o k : Option Position) (r : List Item) → IsWithin m b → AllRight layout b m ((opens_of o ++ closes_of k) ++ r)
-    → MayMove layout b o k
-moves_may layout b m None None r w h = record { opens = tt; closes = tt }
-moves_may layout b m None (Some k) r w h = record { opens = tt; closes = h.0 }
-moves_may layout b m (Some o) None r w h = record { opens = opens_within m b o w h.0; closes = tt }
-moves_may layout b m (Some o) (Some k) r w h = record { opens = opens_within m b o w h.0; closes = h.1.0 }
+-- so the moves that come next may be made
+moves_may : (layout : Layout) (b m : Channels) (l : List Item) → IsWithin m b → AllRight layout b m l → MayMove layout b l
+moves_may layout b m [] w h = tt
+moves_may layout b m (Awaits what ∷ l) w h = tt
+moves_may layout b m (Close p ∷ l) w h = (h.0, moves_may layout (with_each p b) (with_each p m) l (within_with m b p w) h.1)
+moves_may layout b m (Open p ∷ l) w h = (opens_within m b p w h.0, moves_may layout (without_each p b) (without_each p m) l (within_without m b p w) h.1)
 
 -- a meter that is out has no channel, so none is hindered or let by it
 can_close_in : (bays : Layout) (out : List (Option Ticket)) (h : length out ≡ length bays) (b : Channels) (c : Channel) → CanCloseOne (layout_with bays out) b c
@@ -124,14 +124,12 @@ can_close_each_in : (bays : Layout) (out : List (Option Ticket)) (h : length out
 can_close_each_in bays out h b [] k = tt
 can_close_each_in bays out h b (c ∷ p) k = (can_close_in bays out h b c k.0, can_close_each_in bays out h (with_channel c b) p k.1)
 
-may_close_in : (bays : Layout) (out : List (Option Ticket)) (h : length out ≡ length bays) (b : Channels) (k : Option Position)
-    → MayCloseNext (layout_with bays out) b k → MayCloseNext bays b k
-may_close_in bays out h b None m = tt
-may_close_in bays out h b (Some p) m = can_close_each_in bays out h b p m
-
-pub may_move_in : (bays : Layout) (out : List (Option Ticket)) (h : length out ≡ length bays) (b : Channels) (o k : Option Position)
-    → MayMove (layout_with bays out) b o k → MayMove bays b o k
-may_move_in bays out h b o k m = record { opens = m.opens; closes = may_close_in bays out h (effect b (opens_of o)) k m.closes }
+pub may_move_in : (bays : Layout) (out : List (Option Ticket)) (h : length out ≡ length bays) (b : Channels) (l : List Item) → MayMove (layout_with bays out) b l
+    → MayMove bays b l
+may_move_in bays out h b [] m = tt
+may_move_in bays out h b (Awaits what ∷ l) m = tt
+may_move_in bays out h b (Close p ∷ l) m = (can_close_each_in bays out h b p m.0, may_move_in bays out h (with_each p b) l m.1)
+may_move_in bays out h b (Open p ∷ l) m = (m.0, may_move_in bays out h (without_each p b) l m.1)
 
 module _ (layout : Layout) (closed : Channels) (s : CourseSeen) (i : ℕ) (w : HasDone layout closed s i) where
   pub right_here : AllRight layout closed (effect none (take i s.items)) (drop i s.items)
@@ -142,17 +140,12 @@ module _ (layout : Layout) (closed : Channels) (s : CourseSeen) (i : ℕ) (w : H
       (right_after layout w.found none (take i s.items) (drop i s.items) all)
 
   -- the moves that come next may be made
-  pub may_move : (o k : Option Position) → opens_of o ++ closes_of k ≡ moves_from s i → MayMove layout closed o k
-  may_move o k e =
-      let after = drop i s.items in
-      let r = drop (length (moves_from s i)) after in
+  pub may_move : MayMove layout closed (drop i s.items)
+  may_move =
       let mine : IsWithin (effect none (take i s.items)) (effect w.found (take i s.items)) =
       within_after none w.found (take i s.items) (λ x h. absurd (cc)) in
-      let split : after ≡ (opens_of o ++ closes_of k) ++ r = sym (take-append-drop (length (moves_from s i)) after) ∙ ap (λ (l : List Item). l ++ r)
-      (leading_front after ∙ sym e) in
-      moves_may layout closed (effect none (take i s.items)) o k r
-      (subst (λ (b : Channels). IsWithin (effect none (take i s.items)) b) (sym w.so_far) mine)
-      (subst (λ (l : List Item). AllRight layout closed (effect none (take i s.items)) l) split right_here)
+      moves_may layout closed (effect none (take i s.items)) (drop i s.items)
+      (subst (λ (b : Channels). IsWithin (effect none (take i s.items)) b) (sym w.so_far) mine) right_here
 
   -- once they are made
   pub on_way_moved : (now : Channels) → now ≡ effect closed (moves_from s i) → HasDone layout now s (i + length (moves_from s i))

@@ -1,6 +1,5 @@
 -- From one item that a scan awaits to the next.
 use Rattle.std.specs.Prelude.{ℕ, ◌+◌, List, [], ◌∷◌, length, drop, Option, Some, None}
-use Rattle.sw_channel.specs.Positions.{Position}
 use Rattle.sw_trigger.specs.declared.layer.Awaited.{Awaited}
 use Rattle.sw_trigger.specs.Agenda.{Item, Awaits, Close, Open}
 use Rattle.sw_verify.specs.Course.{CourseSeen}
@@ -19,14 +18,6 @@ first_awaited [] = None
 first_awaited (Awaits what ∷ items) = Some what
 first_awaited (Close c ∷ items) = None
 first_awaited (Open c ∷ items) = None
-
-abbrev pub opens_of : Option Position → List Item
-opens_of None = []
-opens_of (Some c) = Open c ∷ []
-
-abbrev pub closes_of : Option Position → List Item
-closes_of None = []
-closes_of (Some c) = Close c ∷ []
 
 -- what is done from item i on, before the next awaiting item
 abbrev pub moves_from : CourseSeen → ℕ → List Item

@@ -1,10 +1,10 @@
 -- A scan as the cage sees it.
 use Rattle.std.specs.Prelude.{drop}
-use Rattle.std.specs.List.{slice_get}
+use Rattle.sw_code.specs.Pace.{IsNear}
 use Rattle.sw_verify.specs.Items.{items_of}
 use Rattle.sw_verify.specs.Course.{CanRun}
 use Rattle.sw_cage.specs.Cage.{ScanSeen}
-use Rattle.sw_cage.specs.Steps.{Does, IsResting}
+use Rattle.sw_cage.specs.Steps.{Does}
 use Rattle.sw_cage.specs.declared.scan.Scan.TheInside.{Inside}
 
 abbrev pub scan_seen : Inside → ScanSeen
@@ -18,8 +18,8 @@ scan_seen s = record {
   index = s.index;
 }
 
--- from its place the code does the items from that index on; it stands at a step that awaits, or at the end
+-- from its place the code does the items from that index on; it stands at a step that does more than count
 pub record IsPlaced (s : Inside) : Type 0 where
   pub runs : CanRun s.code
   pub does : Does s.code.steps s.at (drop s.index (items_of s.code.steps))
-  pub rests : IsResting (slice_get s.code.steps s.at.step)
+  pub near : IsNear s.code.steps 0 s.at.step

@@ -348,16 +348,14 @@ impl<R: Relay, M: Meter> Cage<R, M> {
     {
         self.slots.stay_safe();
         let readings = Vec::with_capacity(alloc, course.readings() as usize)?;
-        let (scan, moves) = Scan::begin(course);
         self.number += 1;
         self.readings = readings;
-        self.scan = Some(scan);
+        self.scan = Some(Scan::begin(course));
         let taken = go_on(
             &mut self.slots,
             &mut self.out,
             &mut self.scan,
             self.number,
-            moves,
         );
         Ok(taken)
     }

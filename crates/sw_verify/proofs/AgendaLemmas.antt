@@ -1,4 +1,4 @@
--- An agenda opens what it closed after one reading, and how long it is at most.
+-- How long an agenda is at most.
 use Rattle.std.proofs.Common.{ℕ, zero, suc, ◌+◌, ◌-◌, ◌*◌, ◌<◌, ◌≤◌, ◌^◌, Bool, true, false, List, [], ◌∷◌, ◌++◌, length, map, cond, eqb, sym, ap, subst}
 use Rattle.std.proofs.Common.{arith, length-append}
 use Rattle.std.proofs.Math.Nat.{suc-mul}
@@ -18,46 +18,7 @@ use Rattle.sw_trigger.specs.Agenda.{Item, Awaits, Close, Open, wait_by, wait_of,
 use Rattle.sw_trigger.specs.Agenda.{agenda}
 use Rattle.sw_trigger.proofs.Repeats.{length-repeated}
 use Rattle.sw_trigger.proofs.Awaiting.{agenda_is}
-use Rattle.sw_verify.specs.Course.{AreVisits}
 
-visits-append : (xs ys : List Item) → AreVisits xs → AreVisits ys → AreVisits (xs ++ ys)
-visits-append [] ys f g = g
-visits-append (Awaits what ∷ xs) ys f g = visits-append xs ys f g
-visits-append (Close c ∷ Awaits what ∷ Open d ∷ xs) ys f g = visits-append xs ys f g
-visits-append (Close c ∷ []) ys f g = absurd f
-visits-append (Close c ∷ Close d ∷ xs) ys f g = absurd f
-visits-append (Close c ∷ Open d ∷ xs) ys f g = absurd f
-visits-append (Close c ∷ Awaits what ∷ []) ys f g = absurd f
-visits-append (Close c ∷ Awaits what ∷ Awaits w ∷ xs) ys f g = absurd f
-visits-append (Close c ∷ Awaits what ∷ Close d ∷ xs) ys f g = absurd f
-visits-append (Open c ∷ xs) ys f g = absurd f
-
-visits-repeated : (n : ℕ) (xs : List Item) → AreVisits xs → AreVisits (repeated n xs)
-visits-repeated zero xs f = tt
-visits-repeated (suc n) xs f = visits-append xs (repeated n xs) f (visits-repeated n xs f)
-
-visits-awaits : (l : List Awaited) → AreVisits (map Awaits l)
-visits-awaits [] = tt
-visits-awaits (x ∷ l) = visits-awaits l
-
-visits-passes : (s : SettingsSeen) (k n : ℕ) → AreVisits (passes s k n)
-visits-passes s k zero = tt
-visits-passes s k (suc n) =
-    visits-append (pass_of s k) (passes s (suc k) n)
-    (visits-append (map Awaits (head_of Trigger s.trigger)) (visit (position_at s.list k)) (visits-awaits (head_of Trigger s.trigger)) tt)
-    (visits-passes s (suc k) n)
-
-visits-turns : (arms : List NamedLayer) (inside : List Item) → AreVisits inside → AreVisits (turns_of arms inside)
-visits-turns [] inside f = f
-visits-turns (arm ∷ arms) inside f =
-    visits-repeated arm.1.count (map Awaits (head_of arm.0 arm.1) ++ turns_of arms inside)
-    (visits-append (map Awaits (head_of arm.0 arm.1)) (turns_of arms inside) (visits-awaits (head_of arm.0 arm.1)) (visits-turns arms inside f))
-
-pub visits-agenda : (s : SettingsSeen) → 0 < length s.list → AreVisits (agenda s)
-visits-agenda s h =
-    subst AreVisits (sym (agenda_is s h)) (visits-turns (arms_of s) (passes s 0 s.trigger.count) (visits-passes s 0 s.trigger.count))
-
--- how long an agenda is at most
 length-wait : (name : LayerName) (source : Source) (timer : ℕ) → length (wait_by name source timer) ≤ 1
 length-wait name Immediate timer = omega arith
 length-wait name Bus timer = omega arith
@@ -114,7 +75,7 @@ length-arms s i (arm ∷ arms) inside h =
     length-turns (Arm arm, layer_of s (Arm arm)) (turns_of (named s arms) inside) (most_items (length arms)) (i.arms (number_of arm - 1)).count.1
     (length-arms s i arms inside h)
 
-pub length-agenda : (s : SettingsSeen) → 0 < length s.list → IsInRange s → length (agenda s) + 3 < 2 ^ 64
+pub length-agenda : (s : SettingsSeen) → 0 < length s.list → IsInRange s → length (agenda s) < 2 ^ 64
 length-agenda s h i =
     let all = passes s 0 s.trigger.count in
     let c : s.trigger.count * 5 ≤ 100000 * 5 = mul-le s.trigger.count 5 100000 5 i.trigger.count.1 (omega arith) in

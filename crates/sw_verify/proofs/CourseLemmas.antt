@@ -13,9 +13,9 @@ use Rattle.sw_code.proofs.Fits.{compiled_fits}
 use Rattle.sw_base.specs.declared.terms.Source.{Source}
 use Rattle.sw_verify.specs.Judged.{Judged, HasCounts}
 use Rattle.sw_verify.specs.Items.{items_of}
-use Rattle.sw_verify.specs.Course.{AreVisits, CanRun, CourseSeen, sources_of, course_of}
+use Rattle.sw_verify.specs.Course.{CanRun, CourseSeen, sources_of, course_of}
 use Rattle.sw_verify.proofs.ItemsLemmas.{compiled_items}
-use Rattle.sw_verify.proofs.AgendaLemmas.{visits-agenda, length-agenda}
+use Rattle.sw_verify.proofs.AgendaLemmas.{length-agenda}
 
 compiled_runs : (s : SettingsSeen) → 0 < length s.list → IsInRange s → CanRun (compiled s)
 compiled_runs s h i =
@@ -24,7 +24,6 @@ compiled_runs s h i =
       range = compiled_fits s h i;
       unfolds = subst (Unfolds (compiled s).steps) (sym same) (compiled_unfolds s h i);
       paced = compiled_paced s h i;
-      visits = subst AreVisits (sym same) (visits-agenda s h);
       few = omega (arith, length-agenda s h i, ap length same);
     }
 

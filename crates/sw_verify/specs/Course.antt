@@ -43,18 +43,9 @@ course_of s = record {
   points = s.points;
 }
 
--- what is closed is opened after one awaiting item
-abbrev pub AreVisits : List Item → Type 0
-AreVisits [] = Unit {0}
-AreVisits (Awaits what ∷ items) = AreVisits items
-AreVisits (Close c ∷ Awaits what ∷ Open d ∷ items) = AreVisits items
-AreVisits (Close c ∷ _) = ⊥
-AreVisits (Open c ∷ items) = ⊥
-
 -- a run of the code does its items, with few steps between two, and they can be numbered
 pub record CanRun (code : Program) : Type 0 where
   pub range : IsProgramInRange code
   pub unfolds : Unfolds code.steps (items_of code.steps)
   pub paced : IsPaced code.steps most_counting
-  pub visits : AreVisits (items_of code.steps)
-  pub few : length (items_of code.steps) + 3 < 2 ^ 64
+  pub few : length (items_of code.steps) < 2 ^ 64

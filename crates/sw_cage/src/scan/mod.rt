@@ -1,18 +1,18 @@
 //! A scan that runs: its code, and where it stands in it.
 
-ghost use Rattle.std.specs.Prelude.{◌≡◌, ℕ, ◌+◌, ◌≤◌, ◌++◌, length, None, ◌↔◌, IsTrue};
+ghost use Rattle.std.specs.Prelude.{◌≡◌, ◌+◌, ◌<◌, ◌≤◌, drop, length, ◌↔◌, IsTrue};
 ghost use Rattle.sw_verify.specs.Course.{source_at};
 ghost use Rattle.sw_base.specs.Limits.{most_slots};
-ghost use Rattle.sw_cage.specs.Advance.{awaits, moves_from, next_place};
+ghost use Rattle.sw_cage.specs.Advance.{awaits};
 ghost use Rattle.sw_cage.specs.Cage.{ticket_of};
-ghost use Rattle.sw_cage.specs.Steps.{moves_of};
+ghost use Rattle.sw_cage.specs.Steps.{next_move};
 ghost use Rattle.sw_cage.specs.Takes.{TakesIf, TakesWait, TakesPeriod, TakesPause, AwaitsReturn};
 
 pub(crate) mod machine;
 mod steps;
 pub(crate) mod tickets;
 
-use self::steps::{Moves, Place, awaited, first, next};
+use self::steps::{Move, Place, awaited, first, go_past, next_move};
 use crate::job::Ticket;
 use crate::taken::Happening;
 use std::marker::Model;
@@ -46,26 +46,23 @@ impl Model for Scan {
 }
 
 impl Scan {
-    /// A scan at the first thing that it awaits, and what is done before that.
-    pub(crate) fn begin(course: Course) -> (Scan, Moves)
-        ensures scan { result.0 ≡ next_place course 0 }
-        ensures moves { moves_of result.1 ≡ moves_from course 0 }
+    /// A scan before its first item.
+    pub(crate) fn begin(course: Course) -> Scan
+        ensures scan { result ≡ record { course = course; index = 0 } }
         ensures slot_in { (1 ≤ course.meter) × (course.meter ≤ most_slots) }
     {
         let (code, sources, points) = course.into_parts();
-        let (moves, at) = first(code.steps());
-        let index = count(&moves);
-        let scan = Scan {
+        let at = first(code.steps());
+        Scan {
             code,
             sources,
             points,
             at,
-            index,
-        };
-        (scan, moves)
+            index: 0,
+        }
     }
 
-    /// What the scan awaits; nothing, where it is over.
+    /// What the scan awaits; nothing, where it moves relays, or is over.
     #[inline(always)]
     pub(crate) fn awaited(&self) -> Option<Awaited>
         ensures { result ≡ awaits self.now }
@@ -73,16 +70,22 @@ impl Scan {
         awaited(self.code.steps(), &self.at)
     }
 
-    /// Goes past what the scan awaits, and tells what is done before the next.
+    /// What the scan opens or closes next; nothing, where it awaits something or is over.
     #[inline(always)]
-    pub(crate) fn advance(&mut self) -> Moves
-        requires { awaits self.old ≡ None → ⊥ }
-        ensures scan { self.new ≡ next_place self.old.course (self.old.index + 1) }
-        ensures moves { moves_of result ≡ moves_from self.old.course (self.old.index + 1) }
+    pub(crate) fn next_move(&self) -> Option<Move>
+        ensures { result ≡ next_move (drop self.now.index self.now.course.items) }
     {
-        let moves = next(self.code.steps(), &mut self.at);
-        self.index += 1 + count(&moves);
-        moves
+        next_move(self.code.steps(), &self.at)
+    }
+
+    /// Goes past the item at which the scan stands.
+    #[inline(always)]
+    pub(crate) fn go_past(&mut self)
+        requires { self.old.index < length self.old.course.items }
+        ensures { self.new ≡ record self.old { index = self.old.index + 1 } }
+    {
+        go_past(self.code.steps(), &mut self.at);
+        self.index += 1;
     }
 
     /// Whether the scan takes the happening, being number so many.
@@ -172,15 +175,4 @@ fn period_takes(present: Ticket, name: LayerName, happening: Happening) -> bool
         Happening::Signal(layer) => return name == layer,
         _ => return pause_takes(present, happening),
     }
-}
-
-/// How many moves they are.
-#[inline(always)]
-fn count(moves: &Moves) -> u64
-    ensures count { result ≡ length (moves_of moves.now) }
-    ensures few { result ≤ 2 }
-{
-    let opened = if moves.to_open.is_some() { 1 } else { 0 };
-    let closed = if moves.to_close.is_some() { 1 } else { 0 };
-    opened + closed
 }

@@ -64,4 +64,4 @@ invariant_of-self-2 g c =
     c.self.invariant is awaited
     out c.take_in.ensures.cards c.take_in.ensures.out items in
     let room : reads at.course.items ≤ vec_capacity c.push.new.self = omega (arith, room_at _ at _ c.self.invariant is, c.push.ensures.capacity) in
-    go_kept _ _ at.course (at.index + 1) _ _ _ _ ready.held ready.go room (c.go_past.ensures.goes at is) refl refl refl refl
+    go_kept _ _ at.course (at.index + 1) _ _ ready.held ready.go room (c.go_past.ensures.goes at is) refl refl

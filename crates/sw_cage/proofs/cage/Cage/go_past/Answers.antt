@@ -15,5 +15,5 @@ invariant_of-self g c =
     let runs = other_scan _ (subst AwaitsOther (sym (ap (λ (p : CageSeen). p.scan) (seen_is c.self.view_is))) c.requires) in
     let at = runs.0 in
     let is = runs.1.0 in
-    go_kept _ _ at.course (at.index + 1) _ _ _ _ c.self.invariant.good.held (go_other _ at _ c.self.invariant is runs.1.1)
-    (room_at _ at _ c.self.invariant is) (c.go_past.ensures.goes at is) refl refl refl refl
+    go_kept _ _ at.course (at.index + 1) _ _ c.self.invariant.good.held (go_other _ at _ c.self.invariant is runs.1.1)
+    (room_at _ at _ c.self.invariant is) (c.go_past.ensures.goes at is) refl refl
