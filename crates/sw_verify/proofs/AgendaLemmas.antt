@@ -1,5 +1,5 @@
 -- How long an agenda is at most.
-use Rattle.std.proofs.Common.{ℕ, zero, suc, ◌+◌, ◌-◌, ◌*◌, ◌<◌, ◌≤◌, ◌^◌, Bool, true, false, List, [], ◌∷◌, ◌++◌, length, map, cond, eqb, sym, ap, subst}
+use Rattle.std.proofs.Common.{ℕ, zero, suc, ◌+◌, ◌-◌, ◌*◌, ◌<◌, ◌≤◌, ◌^◌, Bool, true, false, List, [], ◌∷◌, ◌++◌, length, map, cond, eqb, ap}
 use Rattle.std.proofs.Common.{arith, length-append}
 use Rattle.std.proofs.Math.Nat.{suc-mul}
 use Rattle.std.proofs.lemmas.Nat.{mul-le}
@@ -11,10 +11,9 @@ use Rattle.sw_base.specs.Layers.{arm_layers, number_of}
 use Rattle.sw_base.specs.declared.terms.Source.{Source}
 use Rattle.sw_base.specs.declared.terms.Source.TheVariants.{Immediate, Bus, External, Hold, Timer}
 use Rattle.sw_trigger.specs.declared.layer.Layer.{Layer}
-use Rattle.sw_trigger.specs.declared.layer.Awaited.{Awaited}
 use Rattle.sw_trigger.specs.declared.layer.Awaited.TheVariants.{Pause}
 use Rattle.sw_trigger.specs.Settings.{SettingsSeen, IsInRange, NamedLayer, named, layer_of, arms_of}
-use Rattle.sw_trigger.specs.Agenda.{Item, Awaits, Close, Open, wait_by, wait_of, pause_of, head_of, position_at, visit, pass_of, passes, repeated, turns_of}
+use Rattle.sw_trigger.specs.Agenda.{Item, Awaits, wait_by, wait_of, pause_of, head_of, position_at, visit, pass_of, passes, repeated, turns_of}
 use Rattle.sw_trigger.specs.Agenda.{agenda}
 use Rattle.sw_trigger.proofs.Repeats.{length-repeated}
 use Rattle.sw_trigger.proofs.Awaiting.{agenda_is}

@@ -15,3 +15,4 @@ pub mod ItemsLemmas
 pub mod AgendaLemmas
 pub mod SourcesLemmas
 pub mod CourseLemmas
+pub mod PlanLemmas

@@ -1,12 +1,12 @@
 -- What a scan does, and what it needs for that.
-use Rattle.std.specs.Prelude.{ℕ, ◌+◌, ◌<◌, ◌^◌, List, [], ◌∷◌, length, map, slice_index_or}
+use Rattle.std.specs.Prelude.{ℕ, ◌<◌, ◌^◌, List, ◌∷◌, length, map, slice_index_or}
 use Rattle.sw_base.specs.declared.terms.Source.{Source}
 use Rattle.sw_base.specs.declared.terms.Source.TheVariants.{Immediate}
 use Rattle.sw_base.specs.declared.terms.LayerName.{LayerName}
 use Rattle.sw_base.specs.declared.terms.LayerName.TheVariants.{Arm, Trigger}
 use Rattle.sw_base.specs.Layers.{arm_layers, number_of}
 use Rattle.sw_trigger.specs.Settings.{SettingsSeen, layer_of}
-use Rattle.sw_trigger.specs.Agenda.{Item, Awaits, Close, Open, agenda}
+use Rattle.sw_trigger.specs.Agenda.{Item, agenda}
 use Rattle.sw_code.specs.Range.{Program, IsProgramInRange}
 use Rattle.sw_code.specs.Code.{Unfolds}
 use Rattle.sw_code.specs.Pace.{most_counting, IsPaced}

@@ -50,12 +50,12 @@ impl Plan {
         ensures plan { IfOk result (λ p. p ≡ snapshot) }
         ensures refused { IfErr result (λ r. IsRefusedScan r snapshot) }
     {
-        check(snapshot.get())?;
         match verified_code(alloc, snapshot.get()) {
             Ok(verified) => Ok(Plan { snapshot, verified }),
             Err(refusal) => {
+                let first = first_refusal(snapshot.get(), refusal);
                 drop(snapshot);
-                Err(refusal)
+                Err(first)
             }
         }
     }
@@ -94,17 +94,32 @@ impl Plan {
     }
 }
 
-/// The code of a snapshot that passed the check. The verifier refuses none but for want of memory.
+/// The code of a snapshot, which passes the check where it is verified. Where the scan may begin, the verifier refuses
+/// none but for want of memory.
 fn verified_code(alloc: Global, snapshot: &Snapshot) -> Result<Verified, Refusal>
-    requires ready { IsReady snapshot.now }
+    ensures ready { IfOk result (λ v. IsReady snapshot.now) }
     ensures code { IfOk result (λ v. v.code ≡ compiled snapshot.now.settings) }
     ensures unfolds { IfOk result (λ v. Unfolds v.code.steps (agenda snapshot.now.settings)) }
-    ensures refused { IfErr result (λ r. r ≡ NoMemory) }
+    ensures refused { IfErr result (λ r. IsReady snapshot.now → r ≡ NoMemory) }
 {
     let settings = &snapshot.settings;
+    if settings.list().is_empty() {
+        return Err(Refusal::EmptyList);
+    }
     let Ok(code) = compile(alloc, settings) else {
         return Err(Refusal::NoMemory);
     };
     let closed = snapshot.closed.as_slice();
     verify(alloc, code, &snapshot.layout, closed, settings.points())
+}
+
+/// The first refusal of a snapshot that applies, or this one where it passes the check.
+fn first_refusal(snapshot: &Snapshot, refusal: Refusal) -> Refusal
+    requires memory { IsReady snapshot.now → refusal ≡ NoMemory }
+    ensures { IsRefusedScan result snapshot.now }
+{
+    match check(snapshot) {
+        Err(first) => first,
+        Ok(()) => refusal,
+    }
 }
