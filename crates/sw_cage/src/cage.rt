@@ -351,12 +351,7 @@ impl<R: Relay, M: Meter> Cage<R, M> {
         self.number += 1;
         self.readings = readings;
         self.scan = Some(Scan::begin(course));
-        let taken = go_on(
-            &mut self.slots,
-            &mut self.out,
-            &mut self.scan,
-            self.number,
-        );
+        let taken = go_on(&mut self.slots, &mut self.out, &mut self.scan, self.number);
         Ok(taken)
     }
 

@@ -87,10 +87,7 @@ pub(crate) fn go_on<R: Relay, M: Meter>(
 
 /// Opens and closes up to what the scan awaits next, or its end. It stops at the first fault.
 #[inline(always)]
-fn make_moves<R: Relay, M: Meter>(
-    slots: &mut Slots<R, M>,
-    scan: &mut Scan,
-) -> Result<(), CardFault>
+fn make_moves<R: Relay, M: Meter>(slots: &mut Slots<R, M>, scan: &mut Scan) -> Result<(), CardFault>
     requires { MayMove (layout_of (accounts_of slots.old)) (is_closed (accounts_of slots.old))
         (drop scan.old.index scan.old.course.items) }
     ensures there { OnOk result (scan.new ≡ next_place scan.old.course scan.old.index) }
