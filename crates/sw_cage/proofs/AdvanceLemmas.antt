@@ -1,5 +1,5 @@
 -- What is so of a cage stays so where its scan goes on.
-use Rattle.std.proofs.Common.{◌≡◌, ℕ, ◌+◌, ◌-◌, ◌<◌, ◌≤◌, nat_lt, true, false, List, length, take, Option, Some, None, slice_set, refl, sym, ap}
+use Rattle.std.proofs.Common.{◌≡◌, ℕ, ◌+◌, ◌-◌, ◌≤◌, nat_lt, true, false, List, length, take, Option, Some, None, slice_set, refl, sym, ap}
 use Rattle.std.proofs.Common.{◌∙◌, subst, arith, is_some, inl, inr}
 use Rattle.sw_base.specs.Limits.{most_slots}
 use mathlib.Core.Path.{fun_ext}
@@ -10,8 +10,7 @@ use Rattle.sw_base.specs.declared.reading.Reading.{Reading}
 use Rattle.sw_card.specs.Account.{Account, MeterAccount, of_meter}
 use Rattle.sw_trigger.specs.declared.layer.Awaited.{Awaited}
 use Rattle.sw_trigger.specs.declared.layer.Awaited.TheVariants.{Wait, Period, Pause, Read}
-use Rattle.sw_trigger.specs.Settings.{SettingsSeen, IsInRange}
-use Rattle.sw_trigger.specs.Agenda.{agenda}
+use Rattle.sw_verify.specs.Course.{CourseSeen}
 use Rattle.sw_trigger.specs.Counts.{reads}
 use Rattle.sw_verify.specs.Sound.{effect}
 use Rattle.sw_cage.specs.Accounts.{Accounts, layout_of, option_closed, is_closed}
@@ -40,13 +39,12 @@ same_cage p q bays number scan readings =
     ∙ ap (λ (r : List Reading). cage q.cards q.out q.number q.scan r) readings
 
 -- A scan that is sound for the cage stands between two items; its meter is in its slot.
-pub record CanGo (p : CageSeen) (s : SettingsSeen) (i : ℕ) : Type 0 where
-  pub listed : 0 < length s.list
-  pub range : IsInRange s
+pub record CanGo (p : CageSeen) (s : CourseSeen) (i : ℕ) : Type 0 where
+  pub slot_in : (1 ≤ s.meter) × (s.meter ≤ most_slots)
   pub home : slot_at p.out s.meter ≡ None
   pub measured : has_meter (layout_of p.cards) s.meter ≡ true
   pub way : HasDone (cage_layout p) (is_closed p.cards) s i
-  pub readings : length p.readings ≡ reads (take i (agenda s))
+  pub readings : length p.readings ≡ reads (take i s.items)
 
 pub lengths : (p : CageSeen) → IsHeld p → length p.out ≡ length (layout_of p.cards)
 lengths p k = k.outs ∙ sym k.slots ∙ sym (layout_length p.cards)
@@ -95,7 +93,7 @@ held_both p s v t scan k a b empty past = record {
 }
 
 -- the scan has made its moves, and stands at the next item
-module _ (p : CageSeen) (s : SettingsSeen) (i : ℕ) (mid : Accounts) (k : IsHeld p) (g : CanGo p s i) (m : Moved p.cards (moves_from s i) mid) where
+module _ (p : CageSeen) (s : CourseSeen) (i : ℕ) (mid : Accounts) (k : IsHeld p) (g : CanGo p s i) (m : Moved p.cards (moves_from s i) mid) where
   abbrev at : ScanSeen
   at = next_place s i
 
@@ -114,7 +112,7 @@ module _ (p : CageSeen) (s : SettingsSeen) (i : ℕ) (mid : Accounts) (k : IsHel
       (ap (λ (l : Layout). layout_with l p.out) same_layout) (fun_ext m.closed)
       (on_way_moved (cage_layout p) (is_closed p.cards) s i g.way (effect (is_closed p.cards) (moves_from s i)) refl)
 
-  readings_there : length p.readings ≡ reads (take (i + length (moves_from s i)) (agenda s))
+  readings_there : length p.readings ≡ reads (take (i + length (moves_from s i)) s.items)
   readings_there = g.readings ∙ sym (reads_way s i)
 
   meter_there : has_meter (layout_of mid) s.meter ≡ true
@@ -125,8 +123,7 @@ module _ (p : CageSeen) (s : SettingsSeen) (i : ℕ) (mid : Accounts) (k : IsHel
   good_waiting stands = record {
     held = held_there (Some at);
     running = record {
-      listed = g.listed;
-      range = g.range;
+      slot_in = g.slot_in;
       measured = meter_with (layout_of mid) p.out s.meter (lengths there (held_there (Some at))) g.home meter_there;
       way = way_there;
       readings = readings_there;
@@ -141,19 +138,18 @@ module _ (p : CageSeen) (s : SettingsSeen) (i : ℕ) (mid : Accounts) (k : IsHel
       let t = ticket_of p.number at in
       let h = held_there (Some at) in
       let home : slot_at (slice_set p.out (s.meter - 1) (Some t)) s.meter ≡ Some t =
-      slot_set_same p.out s.meter (Some t) (omega (arith, g.range.meter.0)) (omega (arith, g.range.meter.1, k.outs)) in
+      slot_set_same p.out s.meter (Some t) (omega (arith, g.slot_in.0)) (omega (arith, g.slot_in.1, k.outs)) in
       let same : layout_with (layout_of (slice_set mid (s.meter - 1) None)) (slice_set p.out (s.meter - 1) (Some t)) ≡ cage_layout there
-      = layout_sent mid p.out s.meter t job.meter (k.outs ∙ sym h.slots) (omega (arith, g.range.meter.0)) f in
+      = layout_sent mid p.out s.meter t job.meter (k.outs ∙ sym h.slots) (omega (arith, g.slot_in.0)) f in
       record {
-        held = held_both there s.meter None (Some t) (Some at) h g.range.meter.0 g.range.meter.1 (λ x. refl)
+        held = held_both there s.meter None (Some t) (Some at) h g.slot_in.0 g.slot_in.1 (λ x. refl)
             (λ u x. let y : t ≡ u = cc in omega (arith, ap (λ (z : Ticket). z.scan) y));
         running = record {
-          listed = g.listed;
-          range = g.range;
+          slot_in = g.slot_in;
           measured = ap (λ (l : Layout). has_meter l s.meter) same ∙ meter_with (layout_of mid) p.out s.meter (lengths there h) g.home meter_there;
           way = on_way_like (cage_layout there) (layout_with (layout_of (slice_set mid (s.meter - 1) None)) (slice_set p.out (s.meter - 1) (Some t)))
               (is_closed mid) (is_closed (slice_set mid (s.meter - 1) None)) s (i + length (moves_from s i)) same
-              (fun_ext (closed_sent mid s.meter job.meter g.range.meter.0 (omega (arith, g.range.meter.1, h.slots)) f)) way_there;
+              (fun_ext (closed_sent mid s.meter job.meter g.slot_in.0 (omega (arith, g.slot_in.1, h.slots)) f)) way_there;
           readings = readings_there;
           meter = subst (λ (o : Option Ticket). MeterStands o t (awaits at)) (sym home) (subst (λ (w : Option Awaited). MeterStands (Some t) t w) (sym e) refl);
         };
@@ -168,7 +164,7 @@ stays_home t (Some (Pause u)) micros e = refl
 stays_home t (Some Read) micros e = absurd (cc e)
 
 -- wherever the scan comes to, the cage is good
-pub good_lands : (p q : CageSeen) (s : SettingsSeen) (i : ℕ) (told : TakenSeen) → IsHeld p → CanGo p s i
+pub good_lands : (p q : CageSeen) (s : CourseSeen) (i : ℕ) (told : TakenSeen) → IsHeld p → CanGo p s i
     → Reaches (occupancy_of p) p.number (moves_from s i) (next_place s i) told (occupancy_of q) q.scan → q.number ≡ p.number → q.readings ≡ p.readings
     → IsGood q
 good_lands p q s i SaysIgnored k g l n r = absurd l.arrives
@@ -199,7 +195,7 @@ good_falls p q k f n r =
     (ap (λ (o : List (Option Ticket)). let b : Occupancy = record { cards = q.cards; out = o } in b) f.out) n f.over r))
     (record { held = held_stays p q.cards None k (stays_identities p.cards q.cards f.fallen.cards); running = tt })
 
-pub good_goes : (p q : CageSeen) (s : SettingsSeen) (i : ℕ) (told : TakenSeen) → IsHeld p → CanGo p s i → Advances p s i told q → IsGood q
+pub good_goes : (p q : CageSeen) (s : CourseSeen) (i : ℕ) (told : TakenSeen) → IsHeld p → CanGo p s i → Advances p s i told q → IsGood q
 good_goes p q s i SaysFault k g h = good_falls p q k h.runs h.number h.readings
 good_goes p q s i SaysIgnored k g h = good_lands p q s i SaysIgnored k g h.runs h.number h.readings
 good_goes p q s i SaysWaits k g h = good_lands p q s i SaysWaits k g h.runs h.number h.readings

@@ -1,14 +1,13 @@
 -- The cards themselves, where calls are made on some of them.
-use Rattle.std.proofs.Common.{◌≡◌, ℕ, ◌+◌, ◌-◌, ◌<◌, ◌++◌, Bool, true, false, [], ◌∷◌, length, take, drop, map, Option, None, Some, slice_index_or, slice_set}
-use Rattle.std.proofs.Common.{refl, sym, ◌∙◌, ap, subst, ◌⊎◌, inr, if◌then◌else◌, ◌≢◌, List, suc, arith, replicate, is_some, ◌≤◌, Result, Ok, Err, OnOk, IfOk}
+use Rattle.std.proofs.Common.{◌≡◌, ℕ, ◌+◌, ◌-◌, ◌<◌, ◌++◌, Bool, true, false, [], ◌∷◌, length, take, drop, Option, None, Some, slice_index_or, slice_set}
+use Rattle.std.proofs.Common.{refl, sym, ◌∙◌, ap, subst, ◌⊎◌, if◌then◌else◌, ◌≢◌, List, suc, arith, replicate, is_some, ◌≤◌, Result, Ok, Err, OnOk, IfOk}
 use Rattle.std.proofs.lemmas.List.{get_or_default, length-map, map-set}
 use Rattle.std.proofs.Math.Seq.{map-set_same, take-append_seam}
 use Rattle.std.proofs.lemmas.Grind.{common_steps}
 use Rattle.sw_base.specs.Limits.{most_slots}
-use Rattle.sw_base.specs.Layout.{Channel, SlotContents, meter, relays, slot_at, contents_are_meter, contents_have}
-use Rattle.sw_card.specs.Account.{Account, is_meter, closed_at, none_closed, at_rest, IsFault}
+use Rattle.sw_base.specs.Layout.{Channel, meter, relays, slot_at, contents_are_meter, contents_have}
+use Rattle.sw_card.specs.Account.{Account, is_meter, closed_at, none_closed, at_rest}
 use Rattle.sw_cage.specs.Accounts.{accounts_of, AreSafe, option_account, slot_contents, card_contents, option_set, IsSlotFault}
-use Rattle.sw_cage.specs.Cage.{CageSeen}
 use Rattle.sw_cage.specs.Cards.{Cards, CageState, KeepsOthers, meter_only, meters_of, job_card, KeepsMeters}
 use Rattle.sw_cage.specs.declared.taken.Taken.{Taken}
 use Rattle.sw_cage.specs.declared.taken.Taken.TheVariants.{Ignored, Waits, Pause, Job, Ended, Fault}

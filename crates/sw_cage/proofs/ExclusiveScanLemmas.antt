@@ -2,8 +2,8 @@
 use Rattle.std.proofs.Common.{◌≡◌, ℕ, List, length, take, drop, Option, sym, ap, ◌∙◌, subst, arith}
 use mathlib.Core.Path.{fun_ext}
 use Rattle.sw_base.specs.Layout.{Layout, IsExclusive}
-use Rattle.sw_trigger.specs.Settings.{SettingsSeen}
-use Rattle.sw_trigger.specs.Agenda.{Item, agenda}
+use Rattle.sw_verify.specs.Course.{CourseSeen}
+use Rattle.sw_trigger.specs.Agenda.{Item}
 use Rattle.sw_verify.specs.Channels.{Channels, none}
 use Rattle.sw_verify.specs.Sound.{effect}
 use Rattle.sw_verify.proofs.Throughout.{exclusive_throughout}
@@ -43,11 +43,11 @@ exclusive_in bays out h b e = record {
 }
 
 -- the moves of a scan keep the cage exclusive
-exclusive_way : (p : CageSeen) (s : SettingsSeen) (i : ℕ) → IsHeld p → CanGo p s i → IsExclusive (layout_of p.cards) (is_closed p.cards)
+exclusive_way : (p : CageSeen) (s : CourseSeen) (i : ℕ) → IsHeld p → CanGo p s i → IsExclusive (layout_of p.cards) (is_closed p.cards)
     → IsExclusive (cage_layout p) (effect (is_closed p.cards) (moves_from s i))
 exclusive_way p s i k g e =
-    subst (λ (l : List Item). IsExclusive (cage_layout p) (effect (is_closed p.cards) l)) (leading_front (drop i (agenda s)))
-    (exclusive_throughout (cage_layout p) (is_closed p.cards) (effect none (take i (agenda s))) (drop i (agenda s))
+    subst (λ (l : List Item). IsExclusive (cage_layout p) (effect (is_closed p.cards) l)) (leading_front (drop i s.items))
+    (exclusive_throughout (cage_layout p) (is_closed p.cards) (effect none (take i s.items)) (drop i s.items)
     (right_here (cage_layout p) (is_closed p.cards) s i g.way)
     (exclusive_with (layout_of p.cards) p.out (lengths p k) (is_closed p.cards) e) (length (moves_from s i)))
 
@@ -57,7 +57,7 @@ like_way : (p q : CageSeen) (b : Channels) → IsHeld q → cage_layout q ≡ ca
 like_way p q b k e f x = exclusive_in (layout_of q.cards) q.out (lengths q k) (is_closed q.cards)
     (subst (λ (l : Layout). IsExclusive l (is_closed q.cards)) (sym e) (subst (IsExclusive (cage_layout p)) (sym f) x))
 
-exclusive_stays : (p q : CageSeen) (s : SettingsSeen) (i : ℕ) (mid : Accounts) → IsHeld p → IsHeld q → CanGo p s i
+exclusive_stays : (p q : CageSeen) (s : CourseSeen) (i : ℕ) (mid : Accounts) → IsHeld p → IsHeld q → CanGo p s i
     → IsExclusive (layout_of p.cards) (is_closed p.cards)
     → Moved p.cards (moves_from s i) mid → (let b : Occupancy = record { cards = mid; out = p.out } in occupancy_of q ≡ b)
     → IsExclusive (layout_of q.cards) (is_closed q.cards)
@@ -67,7 +67,7 @@ exclusive_stays p q s i mid k l g e m same =
     (moved_layout p.cards mid (moves_from s i) m))
     (ap (λ (b : Occupancy). is_closed b.cards) same ∙ fun_ext m.closed) (exclusive_way p s i k g e)
 
-exclusive_lands : (p q : CageSeen) (s : SettingsSeen) (i : ℕ) (told : TakenSeen) → IsHeld p → IsHeld q → CanGo p s i
+exclusive_lands : (p q : CageSeen) (s : CourseSeen) (i : ℕ) (told : TakenSeen) → IsHeld p → IsHeld q → CanGo p s i
     → IsExclusive (layout_of p.cards) (is_closed p.cards) → Reaches (occupancy_of p) p.number (moves_from s i) (next_place s i) told (occupancy_of q) q.scan
     → IsExclusive (layout_of q.cards) (is_closed q.cards)
 exclusive_lands p q s i SaysIgnored k l g e h = absurd h.arrives
@@ -80,17 +80,17 @@ exclusive_lands p q s i (SaysJob job) k l g e h =
     let t = ticket_of p.number (next_place s i) in
     like_way p q (effect (is_closed p.cards) (moves_from s i)) l
     (ap (λ (b : Occupancy). layout_with (layout_of b.cards) b.out) sent.after
-    ∙ layout_sent mid p.out s.meter t job.meter (k.outs ∙ sym there.slots) (omega (arith, g.range.meter.0)) sent.meter
+    ∙ layout_sent mid p.out s.meter t job.meter (k.outs ∙ sym there.slots) (omega (arith, g.slot_in.0)) sent.meter
     ∙ ap (λ (x : Layout). layout_with x p.out) (moved_layout p.cards mid (moves_from s i) h.moved))
     (ap (λ (b : Occupancy). is_closed b.cards) sent.after ∙ fun_ext
-    (closed_sent mid s.meter job.meter g.range.meter.0 (omega (arith, g.range.meter.1, there.slots))
+    (closed_sent mid s.meter job.meter g.slot_in.0 (omega (arith, g.slot_in.1, there.slots))
     sent.meter) ∙ fun_ext h.moved.closed)
     (exclusive_way p s i k g e)
 exclusive_lands p q s i SaysEnded k l g e h = exclusive_stays p q s i h.cards k l g e h.moved h.arrives.1
 exclusive_lands p q s i SaysFault k l g e h = absurd h.arrives
 
 -- Wherever a scan goes on to, the cage is exclusive.
-pub exclusive_goes : (p q : CageSeen) (s : SettingsSeen) (i : ℕ) (told : TakenSeen) → IsHeld p → CanGo p s i
+pub exclusive_goes : (p q : CageSeen) (s : CourseSeen) (i : ℕ) (told : TakenSeen) → IsHeld p → CanGo p s i
     → IsExclusive (layout_of p.cards) (is_closed p.cards)
     → Advances p s i told q → IsExclusive (layout_of q.cards) (is_closed q.cards)
 exclusive_goes p q s i SaysFault k g e h = exclusive_none (layout_of q.cards) (is_closed q.cards) h.runs.fallen.none

@@ -12,7 +12,7 @@ use Rattle.sw_cage.specs.Outcome.{Occupancy, occupancy_of, AdvancesOrFails, Adva
 use Rattle.sw_cage.specs.Cage.{ScanSeen, CageSeen}
 use Rattle.sw_base.specs.declared.reading.Reading.{Reading}
 use Rattle.sw_card.specs.declared.board.CardFault.{CardFault}
-use Rattle.sw_trigger.specs.Settings.{SettingsSeen}
+use Rattle.sw_verify.specs.Course.{CourseSeen}
 use Rattle.sw_trigger.specs.Agenda.{Item}
 use Rattle.sw_cage.specs.Advance.{moves_from, next_place}
 use Rattle.sw_cage.proofs.ChannelCallLemmas.{sets_unfailed}
@@ -61,18 +61,18 @@ failed_runs old new number moves at SaysIgnored scan h = absurd h.arrives
 failed_runs old new number moves at SaysWaits scan h = like old.cards h.cards new h.moved.rest (ap (λ (b : Occupancy). b.cards) h.arrives.1)
 failed_runs old new number moves at (SaysPause t micros) scan h = like old.cards h.cards new h.moved.rest (ap (λ (b : Occupancy). b.cards) h.arrives.2)
 failed_runs old new number moves at (SaysJob job) scan h =
-    ap (any_failed old.cards) (ap (λ (b : Occupancy). b.cards) h.arrives.1.after) ∙ unfailed_out old.cards h.cards (at.setup.meter - 1)
+    ap (any_failed old.cards) (ap (λ (b : Occupancy). b.cards) h.arrives.1.after) ∙ unfailed_out old.cards h.cards (at.course.meter - 1)
     (sets_unfailed old.cards h.cards h.moved.rest)
 failed_runs old new number moves at SaysEnded scan h = like old.cards h.cards new h.moved.rest (ap (λ (b : Occupancy). b.cards) h.arrives.1)
 failed_runs old new number moves at SaysFault scan h = relay_failed old.cards new.cards h.fallen.failed
 
-pub failed_goes : (p q : CageSeen) (s : SettingsSeen) (i : ℕ) (told : TakenSeen) → Advances p s i told q → any_failed p.cards q.cards ≡ tells_fault told
+pub failed_goes : (p q : CageSeen) (s : CourseSeen) (i : ℕ) (told : TakenSeen) → Advances p s i told q → any_failed p.cards q.cards ≡ tells_fault told
 failed_goes p q s i told h = failed_runs (occupancy_of p) (occupancy_of q) p.number (moves_from s i) (next_place s i) told q.scan h.runs
 
 past_from : (p q : CageSeen) (scan : Option ScanSeen) (told : TakenSeen) → AdvancesPastFrom p scan told q
     → any_failed p.cards q.cards ≡ tells_fault told
 past_from p q None told h = absurd h
-past_from p q (Some at) told h = failed_goes p q at.setup _ told h
+past_from p q (Some at) told h = failed_goes p q at.course _ told h
 
 pub failed_past : (p q : CageSeen) (told : TakenSeen) → AdvancesPast p told q → any_failed p.cards q.cards ≡ tells_fault told
 failed_past p q told h = past_from p q p.scan told h

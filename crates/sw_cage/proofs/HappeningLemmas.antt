@@ -1,29 +1,27 @@
 -- What happens to a running scan, and the cage stays good.
-use Rattle.std.proofs.Common.{◌≡◌, ◌≢◌, ℕ, ◌+◌, ◌-◌, ◌<◌, ◌≤◌, true, List, [], ◌∷◌, ◌++◌, length, Option, Some, None, slice_set, refl, sym, ap, ◌∙◌, subst}
+use Rattle.std.proofs.Common.{◌≡◌, ◌≢◌, ℕ, ◌+◌, ◌-◌, ◌<◌, ◌≤◌, true, List, [], ◌∷◌, ◌++◌, length, drop, Option, Some, None, slice_set, refl, sym, ap, ◌∙◌, subst}
 use Rattle.std.proofs.Common.{arith, is_some, length-append, Result, Ok, if◌then◌else◌}
 use Rattle.std.specs.Result.{is_ok}
 use Rattle.sw_base.specs.Limits.{most_slots, most_channels}
 use mathlib.Core.Path.{fun_ext}
-use Rattle.sw_channel.specs.Positions.{Position}
 use Rattle.sw_base.specs.Layout.{Channel, Layout, slot_at, has_meter}
 use Rattle.sw_base.specs.declared.reading.Reading.{Reading}
 use Rattle.sw_card.specs.Account.{MeterAccount, of_meter}
 use Rattle.sw_trigger.specs.declared.layer.Awaited.{Awaited}
 use Rattle.sw_trigger.specs.declared.layer.Awaited.TheVariants.{Wait, Period, Pause, Read}
-use Rattle.sw_trigger.specs.Settings.{SettingsSeen, IsInRange}
-use Rattle.sw_trigger.specs.Agenda.{Item, agenda}
+use Rattle.sw_verify.specs.Course.{CourseSeen}
 use Rattle.sw_trigger.specs.Counts.{reads, is_reading}
 use Rattle.sw_verify.specs.Channels.{Channels, is_among}
 use Rattle.sw_verify.specs.Sound.{IsSound}
 use Rattle.sw_cage.specs.Accounts.{Accounts, layout_of, is_closed, all_open}
 use Rattle.sw_cage.specs.Channels.{closed_list}
 use Rattle.sw_cage.specs.Cage.{ScanSeen, CageSeen, layout_with, cage_layout, ticket_of}
-use Rattle.sw_cage.specs.Advance.{opens_of, closes_of, moves_from, next_place, awaits}
-use Rattle.sw_cage.specs.Moves.{MayMove, MayGoOn}
+use Rattle.sw_cage.specs.Advance.{moves_from, next_place, awaits}
+use Rattle.sw_cage.specs.Moves.{MayGoOn}
 use Rattle.sw_cage.specs.Good.{HasDone, MeterStands, IsUnderway, IsRunning, IsHeld, HasRoom, IsGoodWithRoom}
 use Rattle.sw_cage.specs.TakenSeen.{TakenSeen, SaysIgnored, SaysWaits, SaysPause, SaysJob, SaysEnded, SaysFault}
 use Rattle.sw_cage.specs.Takes.{AwaitsReturn, TakesReturnThere, AwaitsOther}
-use Rattle.sw_cage.specs.Outcome.{occupancy_of, AdvancesOrFails, Advances}
+use Rattle.sw_cage.specs.Outcome.{Occupancy, occupancy_of, AdvancesOrFails, Advances}
 use Rattle.sw_cage.specs.declared.job.Ticket.{Ticket}
 use Rattle.sw_cage.proofs.SlotChangeLemmas.{some_slot, slot_set_same, slot_set_other}
 use Rattle.sw_cage.proofs.LayoutLemmas.{meter_in, layout_back}
@@ -34,29 +32,21 @@ use Rattle.sw_cage.proofs.AdvanceLemmas.{CanGo, lengths, closed_back, held_both,
 
 -- a scan that can go on
 
-pub go_meter : (p : CageSeen) (s : SettingsSeen) (i : ℕ) (at : ScanSeen) → CanGo p s i → at ≡ next_place s i
-    → has_meter (layout_of p.cards) at.setup.meter ≡ true
-go_meter p s i at g e = ap (λ (x : ScanSeen). has_meter (layout_of p.cards) x.setup.meter) e ∙ g.measured
+pub may_go : (p : CageSeen) (s : CourseSeen) (i : ℕ) → IsHeld p → CanGo p s i → MayGoOn (layout_of p.cards) (is_closed p.cards) s i
+may_go p s i held g = record {
+  slot_in = g.slot_in;
+  meter = g.measured;
+  moves =
+      may_move_in (layout_of p.cards) p.out (lengths p held) (is_closed p.cards) (drop i s.items) (may_move (cage_layout p) (is_closed p.cards) s i g.way);
+}
 
-pub go_slot : (p : CageSeen) (s : SettingsSeen) (i : ℕ) (at : ScanSeen) → CanGo p s i → at ≡ next_place s i
-    → (1 ≤ at.setup.meter) × (at.setup.meter ≤ most_slots)
-go_slot p s i at g e = subst (λ (x : ScanSeen). (1 ≤ x.setup.meter) × (x.setup.meter ≤ most_slots)) (sym e) g.range.meter
-
-pub go_may : (p : CageSeen) (s : SettingsSeen) (i : ℕ) (o k : Option Position) → IsHeld p → CanGo p s i → opens_of o ++ closes_of k ≡ moves_from s i
-    → MayMove (layout_of p.cards) (is_closed p.cards) o k
-go_may p s i o k held g e = may_move_in (layout_of p.cards) p.out (lengths p held) (is_closed p.cards) o k
-    (may_move (cage_layout p) (is_closed p.cards) s i g.way o k e)
-
-pub may_go : (p : CageSeen) (s : SettingsSeen) (i : ℕ) → IsHeld p → CanGo p s i → MayGoOn (layout_of p.cards) (is_closed p.cards) s i
-may_go p s i held g = record { slot_in = g.range.meter; meter = g.measured; moves = λ o k e. go_may p s i o k held g e }
-
-room_some : (room : ℕ) (s : SettingsSeen) (i : ℕ) (scan : Option ScanSeen) → reads (agenda s) ≤ room → scan ≡ Some (next_place s i) → HasRoom scan room
+room_some : (room : ℕ) (s : CourseSeen) (i : ℕ) (scan : Option ScanSeen) → reads s.items ≤ room → scan ≡ Some (next_place s i) → HasRoom scan room
 room_some room s i scan r e = subst (λ (o : Option ScanSeen). HasRoom o room) (sym e) r
 
 room_none : (room : ℕ) (scan : Option ScanSeen) → scan ≡ None → HasRoom scan room
 room_none room scan e = subst (λ (o : Option ScanSeen). HasRoom o room) (sym e) tt
 
-room_goes : (p q : CageSeen) (s : SettingsSeen) (i : ℕ) (told : TakenSeen) (room : ℕ) → reads (agenda s) ≤ room
+room_goes : (p q : CageSeen) (s : CourseSeen) (i : ℕ) (told : TakenSeen) (room : ℕ) → reads s.items ≤ room
     → AdvancesOrFails (occupancy_of p) p.number (moves_from s i) (next_place s i) told (occupancy_of q) q.scan → HasRoom q.scan room
 room_goes p q s i SaysIgnored room r h = absurd h.arrives
 room_goes p q s i SaysWaits room r h = room_some room s i q.scan r h.arrives.2
@@ -65,31 +55,25 @@ room_goes p q s i (SaysJob job) room r h = room_some room s i q.scan r h.arrives
 room_goes p q s i SaysEnded room r h = room_none room q.scan h.arrives.2
 room_goes p q s i SaysFault room r h = room_none room q.scan h.over
 
-pub goes_on : (p q : CageSeen) (s : SettingsSeen) (i : ℕ) (told : TakenSeen) (moves : List Item) (at : ScanSeen)
-    → AdvancesOrFails (occupancy_of p) p.number moves at told (occupancy_of q) q.scan → moves ≡ moves_from s i → at ≡ next_place s i → q.number ≡ p.number
-    → q.readings ≡ p.readings → Advances p s i told q
-goes_on p q s i told moves at h e f n rs = record {
-  runs = subst (λ (m : List Item). AdvancesOrFails (occupancy_of p) p.number m (next_place s i) told (occupancy_of q) q.scan) e
-      (subst (λ (x : ScanSeen). AdvancesOrFails (occupancy_of p) p.number moves x told (occupancy_of q) q.scan) f h);
-  number = n;
-  readings = rs;
-}
+pub goes_from : (old new : Occupancy) (number : ℕ) (at from : ScanSeen) (told : TakenSeen) (scan : Option ScanSeen) → at ≡ from
+    → AdvancesOrFails old number (moves_from at.course at.index) (next_place at.course at.index) told new scan
+    → AdvancesOrFails old number (moves_from from.course from.index) (next_place from.course from.index) told new scan
+goes_from old new number at from told scan e h = subst (λ (x : ScanSeen). AdvancesOrFails old number (moves_from x.course x.index)
+    (next_place x.course x.index) told new scan) e h
 
-pub go_kept : (p q : CageSeen) (s : SettingsSeen) (i : ℕ) (told : TakenSeen) (moves : List Item) (at : ScanSeen) (room : ℕ) → IsHeld p → CanGo p s i
-    → reads (agenda s) ≤ room
-    → AdvancesOrFails (occupancy_of p) p.number moves at told (occupancy_of q) q.scan → moves ≡ moves_from s i → at ≡ next_place s i → q.number ≡ p.number
-    → q.readings ≡ p.readings
-    → IsGoodWithRoom q room
-go_kept p q s i told moves at room held g r h e f n rs =
-    let goes : Advances p s i told q = goes_on p q s i told moves at h e f n rs in
-    record { good = good_goes p q s i told held g goes; room = room_goes p q s i told room r goes.runs }
+pub go_kept : (p q : CageSeen) (s : CourseSeen) (i : ℕ) (told : TakenSeen) (room : ℕ) → IsHeld p → CanGo p s i → reads s.items ≤ room
+    → AdvancesOrFails (occupancy_of p) p.number (moves_from s i) (next_place s i) told (occupancy_of q) q.scan → q.number ≡ p.number
+    → q.readings ≡ p.readings → IsGoodWithRoom q room
+go_kept p q s i told room held g r h n rs =
+    let goes : Advances p s i told q = record { runs = h; number = n; readings = rs } in
+    record { good = good_goes p q s i told held g goes; room = room_goes p q s i told room r h }
 
 -- past a wait or a pause
 
 running_at : (p : CageSeen) (at : ScanSeen) → IsRunning p p.scan → p.scan ≡ Some at → IsUnderway p at
 running_at p at r e = subst (IsRunning p) e r
 
-pub room_at : (p : CageSeen) (at : ScanSeen) (room : ℕ) → IsGoodWithRoom p room → p.scan ≡ Some at → reads (agenda at.setup) ≤ room
+pub room_at : (p : CageSeen) (at : ScanSeen) (room : ℕ) → IsGoodWithRoom p room → p.scan ≡ Some at → reads at.course.items ≤ room
 room_at p at room k e = subst (λ (o : Option ScanSeen). HasRoom o room) e k.room
 
 pub awaits_some : (at : ScanSeen) → AwaitsOther (Some at) → awaits at ≡ None → ⊥
@@ -101,19 +85,18 @@ other_home out t (Period name micros) n m = m
 other_home out t (Pause micros) n m = m
 other_home out t Read n m = absurd (omega arith)
 
-pub go_other : (p : CageSeen) (at : ScanSeen) (room : ℕ) → IsGoodWithRoom p room → p.scan ≡ Some at → AwaitsOther (Some at) → CanGo p at.setup (at.index + 1)
+pub go_other : (p : CageSeen) (at : ScanSeen) (room : ℕ) → IsGoodWithRoom p room → p.scan ≡ Some at → AwaitsOther (Some at) → CanGo p at.course (at.index + 1)
 go_other p at room k e o =
     let u : IsUnderway p at = running_at p at k.good.running e in
     let x : Awaited = o.0 in
-    let home : slot_at p.out at.setup.meter ≡ None = other_home (slot_at p.out at.setup.meter) (ticket_of p.number at) x o.1.1
-    (subst (MeterStands (slot_at p.out at.setup.meter) (ticket_of p.number at)) o.1.0 u.meter) in
+    let home : slot_at p.out at.course.meter ≡ None = other_home (slot_at p.out at.course.meter) (ticket_of p.number at) x o.1.1
+    (subst (MeterStands (slot_at p.out at.course.meter) (ticket_of p.number at)) o.1.0 u.meter) in
     record {
-      listed = u.listed;
-      range = u.range;
+      slot_in = u.slot_in;
       home = home;
-      measured = meter_in (layout_of p.cards) p.out (lengths p k.good.held) at.setup.meter u.measured home;
-      way = on_way_past (cage_layout p) (is_closed p.cards) at.setup at.index u.way x o.1.0;
-      readings = u.readings ∙ omega (arith, reads_past at.setup at.index x o.1.0, o.1.1);
+      measured = meter_in (layout_of p.cards) p.out (lengths p k.good.held) at.course.meter u.measured home;
+      way = on_way_past (cage_layout p) (is_closed p.cards) at.course at.index u.way x o.1.0;
+      readings = u.readings ∙ omega (arith, reads_past at.course at.index x o.1.0, o.1.1);
     }
 
 pub other_scan : (scan : Option ScanSeen) → AwaitsOther scan → (at : ScanSeen) × ((scan ≡ Some at) × AwaitsOther (Some at))
@@ -149,31 +132,30 @@ module _ (p : CageSeen) (s : ℕ) (t : Ticket) (m : MeterAccount) (k : IsHeld p)
   closed_same : is_closed rack_back ≡ is_closed p.cards
   closed_same = let b = slot_some p s t k out in fun_ext (closed_back p.cards s m b.0 (omega (arith, b.1, k.slots)) empty_slot)
 
-  way_back : (setup : SettingsSeen) (i : ℕ) → HasDone (cage_layout p) (is_closed p.cards) setup i
-      → HasDone (layout_with (layout_of rack_back) out_back) (is_closed rack_back) setup i
-  way_back setup i w = on_way_like (cage_layout p) (layout_with (layout_of rack_back) out_back) (is_closed p.cards) (is_closed rack_back) setup i layout_same
+  way_back : (course : CourseSeen) (i : ℕ) → HasDone (cage_layout p) (is_closed p.cards) course i
+      → HasDone (layout_with (layout_of rack_back) out_back) (is_closed rack_back) course i
+  way_back course i w = on_way_like (cage_layout p) (layout_with (layout_of rack_back) out_back) (is_closed p.cards) (is_closed rack_back) course i layout_same
       closed_same w
 
   -- the scan that awaits it goes on
   pub go_counted : (at : ScanSeen) (r : Reading) → IsUnderway p at → AwaitsReturn p.number at s t
-      → CanGo (record p { cards = rack_back; out = out_back; readings = p.readings ++ r ∷ [] }) at.setup (at.index + 1)
+      → CanGo (record p { cards = rack_back; out = out_back; readings = p.readings ++ r ∷ [] }) at.course (at.index + 1)
   go_counted at r u w =
       let b = slot_some p s t k out in
-      let home : slot_at out_back at.setup.meter ≡ None = ap (slot_at out_back) w.slot_is ∙ slot_set_same p.out s None (omega (arith, b.0))
+      let home : slot_at out_back at.course.meter ≡ None = ap (slot_at out_back) w.slot_is ∙ slot_set_same p.out s None (omega (arith, b.0))
       (omega (arith, b.1, k.outs)) in
       record {
-        listed = u.listed;
-        range = u.range;
+        slot_in = u.slot_in;
         home = home;
-        measured = meter_in (layout_of rack_back) out_back (lengths (record p { cards = rack_back; out = out_back }) (held_back p.scan)) at.setup.meter
-            (ap (λ (l : Layout). has_meter l at.setup.meter) layout_same ∙ u.measured) home;
-        way = on_way_past (layout_with (layout_of rack_back) out_back) (is_closed rack_back) at.setup at.index (way_back at.setup at.index u.way) Read
+        measured = meter_in (layout_of rack_back) out_back (lengths (record p { cards = rack_back; out = out_back }) (held_back p.scan)) at.course.meter
+            (ap (λ (l : Layout). has_meter l at.course.meter) layout_same ∙ u.measured) home;
+        way = on_way_past (layout_with (layout_of rack_back) out_back) (is_closed rack_back) at.course at.index (way_back at.course at.index u.way) Read
             w.reading;
-        readings = omega (arith, length-append p.readings (r ∷ []), u.readings, reads_past at.setup at.index Read w.reading);
+        readings = omega (arith, length-append p.readings (r ∷ []), u.readings, reads_past at.course at.index Read w.reading);
       }
 
   -- another scan's meter is out in the slot
-  stands_out : (at : ScanSeen) (x : Option Awaited) → awaits at ≡ x → at.setup.meter ≡ s → MeterStands (Some t) (ticket_of p.number at) x
+  stands_out : (at : ScanSeen) (x : Option Awaited) → awaits at ≡ x → at.course.meter ≡ s → MeterStands (Some t) (ticket_of p.number at) x
       → AwaitsReturn p.number at s t
   stands_out at None e f w = absurd w
   stands_out at (Some (Wait name)) e f w = absurd (cc)
@@ -184,16 +166,15 @@ module _ (p : CageSeen) (s : ℕ) (t : Ticket) (m : MeterAccount) (k : IsHeld p)
   underway_back : (at : ScanSeen) → IsUnderway p at → (AwaitsReturn p.number at s t → ⊥) → IsUnderway (record p { cards = rack_back; out = out_back }) at
   underway_back at u late =
       let b = slot_some p s t k out in
-      let other : at.setup.meter ≢ s = λ e. late (stands_out at (awaits at) refl e
+      let other : at.course.meter ≢ s = λ e. late (stands_out at (awaits at) refl e
       (subst (λ (o : Option Ticket). MeterStands o (ticket_of p.number at) (awaits at)) (ap (slot_at p.out) e ∙ out) u.meter)) in
       record {
-        listed = u.listed;
-        range = u.range;
-        measured = ap (λ (l : Layout). has_meter l at.setup.meter) layout_same ∙ u.measured;
-        way = way_back at.setup at.index u.way;
+        slot_in = u.slot_in;
+        measured = ap (λ (l : Layout). has_meter l at.course.meter) layout_same ∙ u.measured;
+        way = way_back at.course at.index u.way;
         readings = u.readings;
         meter = subst (λ (o : Option Ticket). MeterStands o (ticket_of p.number at) (awaits at))
-            (sym (slot_set_other p.out s at.setup.meter None (omega (arith, b.0)) other)) u.meter;
+            (sym (slot_set_other p.out s at.course.meter None (omega (arith, b.0)) other)) u.meter;
       }
 
   running_back : (scan : Option ScanSeen) → IsRunning p scan → (TakesReturnThere p.number scan s t → ⊥)
@@ -237,52 +218,49 @@ pub room_left : (p : CageSeen) (at : ScanSeen) (s : ℕ) (t : Ticket) (room : �
     → length p.readings < room
 room_left p at s t room k e w =
     let u : IsUnderway p at = running_at p at k.good.running e in
-    omega (arith, u.readings, reads_left at.setup at.index w.reading, room_at p at room k e)
+    omega (arith, u.readings, reads_left at.course at.index w.reading, room_at p at room k e)
 
 -- the reading is added
-pub record Counted (p : CageSeen) (s : SettingsSeen) (i : ℕ) : Type 0 where
+pub record Counted (p : CageSeen) (s : CourseSeen) (i : ℕ) : Type 0 where
   pub held : IsHeld p
   pub go : CanGo p s i
 
 pub counted : (p : CageSeen) (at : ScanSeen) (s : ℕ) (t : Ticket) (m : MeterAccount) (r : Reading) (rack : Accounts) (out : List (Option Ticket))
     (readings : List Reading) (room : ℕ) → IsGoodWithRoom p room → p.scan ≡ Some at → AwaitsReturn p.number at s t → slot_at p.out s ≡ Some t
     → rack ≡ slice_set p.cards (s - 1) (Some (of_meter m)) → out ≡ slice_set p.out (s - 1) None → readings ≡ p.readings ++ r ∷ []
-    → Counted (record p { cards = rack; out = out; readings = readings }) at.setup (at.index + 1)
+    → Counted (record p { cards = rack; out = out; readings = readings }) at.course (at.index + 1)
 counted p at s t m r rack out readings room k e w h a b c =
-    subst (λ (x : Accounts). Counted (record p { cards = x; out = out; readings = readings }) at.setup (at.index + 1)) (sym a)
-    (subst (λ (x : List (Option Ticket)). Counted (record p { cards = slice_set p.cards (s - 1) (Some (of_meter m)); out = x; readings = readings }) at.setup
+    subst (λ (x : Accounts). Counted (record p { cards = x; out = out; readings = readings }) at.course (at.index + 1)) (sym a)
+    (subst (λ (x : List (Option Ticket)). Counted (record p { cards = slice_set p.cards (s - 1) (Some (of_meter m)); out = x; readings = readings }) at.course
     (at.index + 1)) (sym b)
     (subst (λ (x : List Reading). Counted (record p { cards = slice_set p.cards (s - 1) (Some (of_meter m)); out = slice_set p.out (s - 1) None; readings = x })
-    at.setup (at.index + 1)) (sym c)
+    at.course (at.index + 1)) (sym c)
     (let k' = held_back p s t m k.good.held h p.scan in record {
       held = record { slots = k'.slots; outs = k'.outs; empty = k'.empty; past = k'.past };
       go = go_counted p s t m k.good.held h at r (running_at p at k.good.running e) w;
     })))
 
 -- a scan begins
-pub begins : (p : CageSeen) (s : SettingsSeen) (layout : Layout) (closed : List Channel) (number : ℕ) (readings : List Reading) → IsHeld p → 0 < length s.list
-    → IsInRange s → slot_at p.out s.meter ≡ None → has_meter layout s.meter ≡ true
-    → IsSound layout (is_among closed) s.points (agenda s) → cage_layout p ≡ layout → closed_list p.cards ≡ closed
+pub begins : (p : CageSeen) (s : CourseSeen) (number : ℕ) (readings : List Reading) → IsHeld p → (1 ≤ s.meter) × (s.meter ≤ most_slots)
+    → slot_at p.out s.meter ≡ None → has_meter (cage_layout p) s.meter ≡ true
+    → IsSound (cage_layout p) (is_among (closed_list p.cards)) s.points s.items
     → ((c : Channel) → is_closed p.cards c ≡ true → (1 ≤ c.0) × (c.0 ≤ most_slots) × (1 ≤ c.1) × (c.1 ≤ most_channels))
     → number ≡ p.number + 1 → readings ≡ [] → Counted (record p { number = number; readings = readings }) s 0
-begins p s layout closed number readings k listed range home measured sound e f inside n r =
-    let found : is_among closed ≡ is_closed p.cards = ap is_among (sym f) ∙ fun_ext (among_closed p.cards inside) in
-    record {
-      held = record { slots = k.slots; outs = k.outs; empty = k.empty; past = λ x t h. omega (arith, k.past x t h, n) };
-      go = record {
-        listed = listed;
-        range = range;
-        home = home;
-        measured = meter_in (layout_of p.cards) p.out (lengths p k) s.meter (ap (λ (l : Layout). has_meter l s.meter) e ∙ measured) home;
-        way = record {
-          found = is_closed p.cards;
-          sound = subst (λ (l : Layout). IsSound l (is_closed p.cards) s.points (agenda s)) (sym e)
-              (subst (λ (b : Channels). IsSound layout b s.points (agenda s)) found sound);
-          so_far = refl;
-        };
-        readings = ap length r;
-      };
-    }
+begins p s number readings k slot_in home measured sound inside n r = record {
+  held = record { slots = k.slots; outs = k.outs; empty = k.empty; past = λ x t h. omega (arith, k.past x t h, n) };
+  go = record {
+    slot_in = slot_in;
+    home = home;
+    measured = meter_in (layout_of p.cards) p.out (lengths p k) s.meter measured home;
+    way = record {
+      found = is_closed p.cards;
+      sound =
+          subst (λ (b : Channels). IsSound (cage_layout p) b s.points s.items) (fun_ext (among_closed p.cards inside)) sound;
+      so_far = refl;
+    };
+    readings = ap length r;
+  };
+}
 
 -- the same said of the cage and the return as the caller sees them
 pub here_out : (p q : CageSeen) (s s' : ℕ) (t t' : Ticket) → p ≡ q → s ≡ s' → t ≡ t' → slot_at q.out s' ≡ Some t' → slot_at p.out s ≡ Some t

@@ -9,8 +9,6 @@ pub mod CardLemmas
 mod ClaimedLemmas
 pub mod MaskLemmas
 pub mod StepLemmas
-pub mod VisitLemmas
-pub mod WayLemmas
 pub mod PlaceLemmas
 pub mod LayoutLemmas
 pub mod KeptLemmas
@@ -21,3 +19,4 @@ pub mod ClosedMemberLemmas
 pub mod HappeningLemmas
 pub mod ExclusiveScanLemmas
 pub mod FailureLemmas
+pub mod MovesLemmas

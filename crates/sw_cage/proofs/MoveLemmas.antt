@@ -14,8 +14,7 @@ use Rattle.std.proofs.lemmas.List.{drop_more}
 use Rattle.sw_verify.proofs.Round.{effect-append}
 use Rattle.sw_cage.specs.Accounts.{Accounts, layout_of, is_closed, option_rest, all_open, IsChannelFault}
 use Rattle.sw_cage.specs.Change.{Sets, option_failed, RelayFailed, IsDisturbed}
-use Rattle.sw_cage.specs.Advance.{opens_of}
-use Rattle.sw_cage.specs.Moves.{MayCloseNext, MayMove, RelayCallFailed}
+use Rattle.sw_cage.specs.Moves.{RelayCallFailed}
 use Rattle.sw_cage.specs.Cage.{ScanSeen}
 use Rattle.sw_cage.specs.TakenSeen.{TakenSeen, SaysIgnored, SaysWaits, SaysPause, SaysJob, SaysEnded, SaysFault}
 use Rattle.sw_cage.specs.Outcome.{Moved, IsSafeAfterFault, Occupancy, Reaches, AdvancesOrFails}
@@ -104,12 +103,6 @@ moved_both old mid new xs ys a b = record {
 pub moved_layout : (old mid : Accounts) (xs : List Item) → Moved old xs mid → layout_of mid ≡ layout_of old
 moved_layout old mid xs m = layout_rest old mid m.rest
 
-pub may_close_there : (old mid : Accounts) (o k : Option Position) → MayMove (layout_of old) (is_closed old) o k → Moved old (opens_of o) mid
-    → MayCloseNext (layout_of mid) (is_closed mid) k
-may_close_there old mid o k may m =
-    subst (λ (l : Layout). MayCloseNext l (is_closed mid) k) (sym (moved_layout old mid (opens_of o) m))
-    (subst (λ (b : Channels). MayCloseNext (layout_of old) b k) (sym (fun_ext m.closed)) may.closes)
-
 pub not_meter : (b : Option SlotContents) (ch : ℕ) → contents_have b ch ≡ true → contents_are_meter b ≡ false
 not_meter None ch h = refl
 not_meter (Some meter) ch h = absurd (cc)
@@ -159,9 +152,6 @@ broken_since old mid new m b = record { cards = b.cards ∙ identities_rest old 
 pub when_err : {T E : Type 0} (r : Result T E) (X : Type 0) → X → OnErr r X
 when_err (Ok t) X x = tt
 when_err (Err e) X x = x
-
-pub broken_after : (old mid new : Accounts) (xs : List Item) → Moved old xs mid → RelayCallFailed mid new → RelayCallFailed old new
-broken_after old mid new xs m b = broken_since old mid new m.rest b
 
 pub fallen : (old new : Accounts) → RelayCallFailed old new → IsSafeAfterFault old (all_open new)
 fallen old new b = record { cards = identities_all_open new ∙ b.cards; failed = relay_rested old new b.failed; none = all_open_closed new }

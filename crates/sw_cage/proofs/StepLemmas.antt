@@ -5,7 +5,6 @@ use mathlib.Core.Path.{fun_ext}
 use Rattle.std.specs.List.{slice_get, AllByRecursion}
 use Rattle.std.proofs.lemmas.Bool.Decides.{nat_tests}
 use Rattle.std.proofs.lemmas.List.{get_or-set_same, get_or-set_other}
-use Rattle.sw_trigger.specs.declared.layer.Awaited.{Awaited}
 use Rattle.sw_trigger.specs.declared.layer.Awaited.TheVariants.{Wait, Period, Pause, Read}
 use Rattle.sw_trigger.specs.Agenda.{Item, Awaits, Close, Open}
 use Rattle.sw_code.specs.declared.code.Step.{Step}
@@ -15,8 +14,7 @@ use Rattle.sw_code.specs.Code.{Counters, put, passing, act, exec, Unfolds}
 use Rattle.sw_code.specs.Tree.{step_of}
 use Rattle.sw_code.specs.Pace.{IsNearBy, IsNear, IsNearAfter, IsPaced}
 use Rattle.sw_cage.specs.declared.scan.steps.Place.{Place}
-use Rattle.sw_cage.specs.Advance.{leading_moves}
-use Rattle.sw_cage.specs.Steps.{counters_of, Does, IsResting}
+use Rattle.sw_cage.specs.Steps.{counters_of, Does}
 
 abbrev pub place : ℕ → List ℕ → Place
 place pc counters = record { step = pc; counters = counters }
@@ -139,35 +137,21 @@ module _ (code : List Step) (at : Place) where
   pub near_after : (n : ℕ) (i : Step) → IsPaced code n → slice_get code at.step ≡ Some i → IsNearAfter code n at.step i
   near_after n i p e = p.after at.step i e
 
-  -- the step awaits where an awaiting item comes next
-  pub rests_awaiting : (what : Awaited) (items : List Item) → IsNear code 0 at.step → Does code at (Awaits what ∷ items) → IsResting (slice_get code at.step)
-  rests_awaiting what items near d = go (slice_get code at.step) refl where
-    go : (o : Option Step) → slice_get code at.step ≡ o → IsResting o
-    go None e = absurd (does_none (Awaits what ∷ items) e d)
+  -- what a step that does more than count comes to
+  at_rest : (items : List Item) → IsNear code 0 at.step → Does code at items → (P : Type 0)
+      → ((x : Item) → slice_get code at.step ≡ Some (step_of x) → P) → (slice_get code at.step ≡ Some step.Halt → P) → P
+  at_rest items near d P item halt = go (slice_get code at.step) refl where
+    go : (o : Option Step) → slice_get code at.step ≡ o → P
+    go None e = absurd (does_none items e d)
     go (Some (step.Set k n)) e = absurd (subst (λ (i : Option Step). IsNearBy i (λ p. ⊥) at.step) e near)
-    go (Some (step.Wait name)) e = tt
-    go (Some (step.Timer name micros)) e = tt
-    go (Some (step.Pause micros)) e = tt
-    go (Some (step.Close c)) e = let s = (does_item (Close c) (Awaits what ∷ items) e d).1 in absurd (cc)
-    go (Some step.Read) e = tt
-    go (Some (step.Open c)) e = let s = (does_item (Open c) (Awaits what ∷ items) e d).1 in absurd (cc)
+    go (Some (step.Wait name)) e = item (Awaits (Wait name)) e
+    go (Some (step.Timer name micros)) e = item (Awaits (Period name micros)) e
+    go (Some (step.Pause micros)) e = item (Awaits (Pause micros)) e
+    go (Some (step.Close c)) e = item (Close c) e
+    go (Some step.Read) e = item (Awaits Read) e
+    go (Some (step.Open c)) e = item (Open c) e
     go (Some (step.Loop k to)) e = absurd (subst (λ (i : Option Step). IsNearBy i (λ p. ⊥) at.step) e near).0
-    go (Some step.Halt) e = tt
-
-  -- what is left begins with what is awaited, or is nothing
-  pub first_of_rest : (items : List Item) → IsResting (slice_get code at.step) → Does code at items → (leading_moves items ≡ [])
-  first_of_rest items r d = go (slice_get code at.step) refl r where
-    go : (o : Option Step) → slice_get code at.step ≡ o → IsResting o → leading_moves items ≡ []
-    go None e r = absurd r
-    go (Some (step.Set k n)) e r = absurd r
-    go (Some (step.Wait name)) e r = ap leading_moves (does_item (Awaits (Wait name)) items e d).1
-    go (Some (step.Timer name micros)) e r = ap leading_moves (does_item (Awaits (Period name micros)) items e d).1
-    go (Some (step.Pause micros)) e r = ap leading_moves (does_item (Awaits (Pause micros)) items e d).1
-    go (Some (step.Close c)) e r = absurd r
-    go (Some step.Read) e r = ap leading_moves (does_item (Awaits Read) items e d).1
-    go (Some (step.Open c)) e r = absurd r
-    go (Some (step.Loop k to)) e r = absurd r
-    go (Some step.Halt) e r = ap leading_moves (does_halt items e d)
+    go (Some step.Halt) e = halt e
 
 -- at a loop's end
 module _ (code : List Step) (at : Place) (k to : ℕ) where
@@ -197,42 +181,26 @@ module _ (code : List Step) (at : Place) (k to : ℕ) where
     | inr done ↦ subst (λ (p : Place). Does code p items) (sym (over done)) (does_over code at k to items e h done d)
   ]
 
--- past a step that awaits
+-- past a step that does an item
 module _ (code : List Step) (at : Place) where
-  tail_is : (x : Awaited) (what : Awaited) (items rest : List Item) → (Awaits what ∷ items) ≡ (Awaits x ∷ rest) → rest ≡ items
-  tail_is x what items rest e = cc
+  tail_is : (x y : Item) (items rest : List Item) → (x ∷ items) ≡ (y ∷ rest) → rest ≡ items
+  tail_is x y items rest e = cc
 
-  pub does_past : IsResting (slice_get code at.step) → (what : Awaited) (items : List Item) → Does code at (Awaits what ∷ items)
-      → Does code (place (at.step + 1) at.counters) items
-  does_past r what items d = go (slice_get code at.step) refl r where
-    gone : (x : Awaited) → slice_get code at.step ≡ Some (step_of (Awaits x)) → Does code (place (at.step + 1) at.counters) items
-    gone x e =
-        let p = does_item code at (Awaits x) (Awaits what ∷ items) e d in
-        subst (Does code (place (at.step + 1) at.counters)) (tail_is x what items p.0 p.1) p.2
+  pub does_past : IsNear code 0 at.step → (x : Item) (items : List Item) → Does code at (x ∷ items) → Does code (place (at.step + 1) at.counters) items
+  does_past near x items d =
+      at_rest code at (x ∷ items) near d (Does code (place (at.step + 1) at.counters) items)
+      (λ y e. let p = does_item code at y (x ∷ items) e d in subst (Does code (place (at.step + 1) at.counters)) (tail_is x y items p.0 p.1) p.2)
+      (λ e. let h = does_halt code at (x ∷ items) e d in absurd (cc))
 
-    go : (o : Option Step) → slice_get code at.step ≡ o → IsResting o → Does code (place (at.step + 1) at.counters) items
-    go None e r = absurd r
-    go (Some (step.Set k n)) e r = absurd r
-    go (Some (step.Wait name)) e r = gone (Wait name) e
-    go (Some (step.Timer name micros)) e r = gone (Period name micros) e
-    go (Some (step.Pause micros)) e r = gone (Pause micros) e
-    go (Some (step.Close c)) e r = absurd r
-    go (Some step.Read) e r = gone Read e
-    go (Some (step.Open c)) e r = absurd r
-    go (Some (step.Loop k to)) e r = absurd r
-    go (Some step.Halt) e r = let h = does_halt code at (Awaits what ∷ items) e d in absurd (cc)
+  item_near : (n : ℕ) (x : Item) → IsPaced code n → slice_get code at.step ≡ Some (step_of x) → IsNear code n (at.step + 1)
+  item_near n (Awaits (Wait name)) p e = p.after at.step (step.Wait name) e
+  item_near n (Awaits (Period name micros)) p e = p.after at.step (step.Timer name micros) e
+  item_near n (Awaits (Pause micros)) p e = p.after at.step (step.Pause micros) e
+  item_near n (Awaits Read) p e = p.after at.step step.Read e
+  item_near n (Close c) p e = p.after at.step (step.Close c) e
+  item_near n (Open c) p e = p.after at.step (step.Open c) e
 
-  pub near_past : (n : ℕ) → IsPaced code n → IsResting (slice_get code at.step) → (what : Awaited) (items : List Item) → Does code at (Awaits what ∷ items)
-      → IsNear code n (at.step + 1)
-  near_past n p r what items d = go (slice_get code at.step) refl r where
-    go : (o : Option Step) → slice_get code at.step ≡ o → IsResting o → IsNear code n (at.step + 1)
-    go None e r = absurd r
-    go (Some (step.Set k v)) e r = absurd r
-    go (Some (step.Wait name)) e r = p.after at.step (step.Wait name) e
-    go (Some (step.Timer name micros)) e r = p.after at.step (step.Timer name micros) e
-    go (Some (step.Pause micros)) e r = p.after at.step (step.Pause micros) e
-    go (Some (step.Close c)) e r = absurd r
-    go (Some step.Read) e r = p.after at.step step.Read e
-    go (Some (step.Open c)) e r = absurd r
-    go (Some (step.Loop k to)) e r = absurd r
-    go (Some step.Halt) e r = let h = does_halt code at (Awaits what ∷ items) e d in absurd (cc)
+  pub near_past : (n : ℕ) → IsPaced code n → IsNear code 0 at.step → (x : Item) (items : List Item) → Does code at (x ∷ items) → IsNear code n (at.step + 1)
+  near_past n p near x items d =
+      at_rest code at (x ∷ items) near d (IsNear code n (at.step + 1)) (λ y e. item_near n y p e)
+      (λ e. let h = does_halt code at (x ∷ items) e d in absurd (cc))

@@ -1,5 +1,5 @@
--- A scan that runs: from item to item of its agenda.
-use Rattle.std.proofs.Common.{◌≡◌, ℕ, ◌+◌, ◌<◌, Bool, true, false, ◌&&◌, ◌||◌, not, List, [], ◌∷◌, ◌++◌, length, take, drop, Option, Some, None, refl, sym, ap}
+-- A scan that runs: from item to item of its course.
+use Rattle.std.proofs.Common.{◌≡◌, ℕ, ◌+◌, ◌<◌, Bool, true, false, ◌&&◌, ◌||◌, not, List, [], ◌∷◌, ◌++◌, length, take, drop, Option, Some, refl, sym, ap}
 use Rattle.std.proofs.Common.{◌∙◌, subst, arith}
 use Rattle.std.proofs.Math.Seq.{take-add}
 use Rattle.std.proofs.lemmas.List.{take-append-drop}
@@ -7,16 +7,16 @@ use Rattle.sw_base.specs.Layout.{Channel, Layout}
 use Rattle.sw_channel.specs.Positions.{Position}
 use Rattle.sw_trigger.specs.declared.layer.Awaited.{Awaited}
 use Rattle.sw_trigger.specs.declared.layer.Awaited.TheVariants.{Read}
-use Rattle.sw_trigger.specs.Settings.{SettingsSeen}
-use Rattle.sw_trigger.specs.Agenda.{Item, Awaits, Close, Open, agenda}
+use Rattle.sw_verify.specs.Course.{CourseSeen}
+use Rattle.sw_trigger.specs.Agenda.{Item, Awaits, Close, Open}
 use Rattle.sw_trigger.specs.Counts.{reads, is_reading}
 use Rattle.sw_trigger.proofs.Awaiting.{reads-append}
 use Rattle.sw_verify.specs.Channels.{Channels, same_channel, none, with_channel, without, with_each, without_each}
 use Rattle.sw_verify.specs.Sound.{CanCloseOne, CanCloseEach, CanOpenEach, AllRight, effect}
 use Rattle.sw_verify.proofs.Round.{effect-append}
 use Rattle.sw_cage.specs.Cage.{layout_with}
-use Rattle.sw_cage.specs.Advance.{leading_moves, first_awaited, opens_of, closes_of, moves_from}
-use Rattle.sw_cage.specs.Moves.{MayCloseNext, MayMove}
+use Rattle.sw_cage.specs.Advance.{leading_moves, first_awaited, moves_from}
+use Rattle.sw_cage.specs.Moves.{MayMove}
 use Rattle.sw_cage.specs.Good.{HasDone}
 use Rattle.sw_cage.specs.declared.job.Ticket.{Ticket}
 use Rattle.sw_cage.proofs.LayoutLemmas.{present_with, clash_with}
@@ -41,27 +41,27 @@ leading_reads (Awaits x ∷ l) = refl
 leading_reads (Close c ∷ l) = leading_reads l
 leading_reads (Open c ∷ l) = leading_reads l
 
-take_way : (s : SettingsSeen) (i : ℕ) → take (i + length (moves_from s i)) (agenda s) ≡ take i (agenda s) ++ moves_from s i
-take_way s i = take-add i (length (moves_from s i)) (agenda s) ∙ ap (λ (l : List Item). take i (agenda s) ++ l) (leading_front (drop i (agenda s)))
+take_way : (s : CourseSeen) (i : ℕ) → take (i + length (moves_from s i)) s.items ≡ take i s.items ++ moves_from s i
+take_way s i = take-add i (length (moves_from s i)) s.items ∙ ap (λ (l : List Item). take i s.items ++ l) (leading_front (drop i s.items))
 
-take_past : (s : SettingsSeen) (i : ℕ) (x : Awaited) → first_awaited (drop i (agenda s)) ≡ Some x → take (i + 1) (agenda s) ≡ take i (agenda s) ++ Awaits x ∷ []
-take_past s i x e = take-add i 1 (agenda s) ∙ ap (λ (l : List Item). take i (agenda s) ++ take 1 l) (awaits_first (drop i (agenda s)) x e)
+take_past : (s : CourseSeen) (i : ℕ) (x : Awaited) → first_awaited (drop i s.items) ≡ Some x → take (i + 1) s.items ≡ take i s.items ++ Awaits x ∷ []
+take_past s i x e = take-add i 1 s.items ∙ ap (λ (l : List Item). take i s.items ++ take 1 l) (awaits_first (drop i s.items) x e)
 
-pub reads_way : (s : SettingsSeen) (i : ℕ) → reads (take (i + length (moves_from s i)) (agenda s)) ≡ reads (take i (agenda s))
-reads_way s i = ap reads (take_way s i) ∙ reads-append (take i (agenda s)) (moves_from s i) ∙ omega (arith, leading_reads (drop i (agenda s)))
+pub reads_way : (s : CourseSeen) (i : ℕ) → reads (take (i + length (moves_from s i)) s.items) ≡ reads (take i s.items)
+reads_way s i = ap reads (take_way s i) ∙ reads-append (take i s.items) (moves_from s i) ∙ omega (arith, leading_reads (drop i s.items))
 
-pub reads_past : (s : SettingsSeen) (i : ℕ) (x : Awaited) → first_awaited (drop i (agenda s)) ≡ Some x
-    → reads (take (i + 1) (agenda s)) ≡ reads (take i (agenda s)) + is_reading x
-reads_past s i x e = ap reads (take_past s i x e) ∙ reads-append (take i (agenda s)) (Awaits x ∷ []) ∙ omega arith
+pub reads_past : (s : CourseSeen) (i : ℕ) (x : Awaited) → first_awaited (drop i s.items) ≡ Some x
+    → reads (take (i + 1) s.items) ≡ reads (take i s.items) + is_reading x
+reads_past s i x e = ap reads (take_past s i x e) ∙ reads-append (take i s.items) (Awaits x ∷ []) ∙ omega arith
 
 -- a reading is left where one is awaited
-pub reads_left : (s : SettingsSeen) (i : ℕ) → first_awaited (drop i (agenda s)) ≡ Some Read → reads (take i (agenda s)) < reads (agenda s)
+pub reads_left : (s : CourseSeen) (i : ℕ) → first_awaited (drop i s.items) ≡ Some Read → reads (take i s.items) < reads s.items
 reads_left s i e =
-    let whole = ap reads (sym (take-append-drop i (agenda s))) ∙ reads-append (take i (agenda s)) (drop i (agenda s)) in
-    let rest = ap reads (awaits_first (drop i (agenda s)) Read e) in
+    let whole = ap reads (sym (take-append-drop i s.items)) ∙ reads-append (take i s.items) (drop i s.items) in
+    let rest = ap reads (awaits_first (drop i s.items) Read e) in
     omega (arith, whole, rest)
 
--- what is left of a sound agenda is right from where it has come
+-- what is left of sound items is right from where it has come
 right_after : (layout : Layout) (b m : Channels) (xs ys : List Item) → AllRight layout b m (xs ++ ys) → AllRight layout (effect b xs) (effect m xs) ys
 right_after layout b m [] ys h = h
 right_after layout b m (Awaits w ∷ xs) ys h = right_after layout b m xs ys h
@@ -102,12 +102,12 @@ within_after m b (Awaits w ∷ xs) h = within_after m b xs h
 within_after m b (Close p ∷ xs) h = within_after (with_each p m) (with_each p b) xs (within_with m b p h)
 within_after m b (Open p ∷ xs) h = within_after (without_each p m) (without_each p b) xs (within_without m b p h)
 
-moves_may : (layout : Layout) (b m : Channels) (o k : Option Position) (r : List Item) → IsWithin m b → AllRight layout b m ((opens_of o ++ closes_of k) ++ r)
-    → MayMove layout b o k
-moves_may layout b m None None r w h = record { opens = tt; closes = tt }
-moves_may layout b m None (Some k) r w h = record { opens = tt; closes = h.0 }
-moves_may layout b m (Some o) None r w h = record { opens = opens_within m b o w h.0; closes = tt }
-moves_may layout b m (Some o) (Some k) r w h = record { opens = opens_within m b o w h.0; closes = h.1.0 }
+-- so the moves that come next may be made
+moves_may : (layout : Layout) (b m : Channels) (l : List Item) → IsWithin m b → AllRight layout b m l → MayMove layout b l
+moves_may layout b m [] w h = tt
+moves_may layout b m (Awaits what ∷ l) w h = tt
+moves_may layout b m (Close p ∷ l) w h = (h.0, moves_may layout (with_each p b) (with_each p m) l (within_with m b p w) h.1)
+moves_may layout b m (Open p ∷ l) w h = (opens_within m b p w h.0, moves_may layout (without_each p b) (without_each p m) l (within_without m b p w) h.1)
 
 -- a meter that is out has no channel, so none is hindered or let by it
 can_close_in : (bays : Layout) (out : List (Option Ticket)) (h : length out ≡ length bays) (b : Channels) (c : Channel) → CanCloseOne (layout_with bays out) b c
@@ -124,54 +124,47 @@ can_close_each_in : (bays : Layout) (out : List (Option Ticket)) (h : length out
 can_close_each_in bays out h b [] k = tt
 can_close_each_in bays out h b (c ∷ p) k = (can_close_in bays out h b c k.0, can_close_each_in bays out h (with_channel c b) p k.1)
 
-may_close_in : (bays : Layout) (out : List (Option Ticket)) (h : length out ≡ length bays) (b : Channels) (k : Option Position)
-    → MayCloseNext (layout_with bays out) b k → MayCloseNext bays b k
-may_close_in bays out h b None m = tt
-may_close_in bays out h b (Some p) m = can_close_each_in bays out h b p m
+pub may_move_in : (bays : Layout) (out : List (Option Ticket)) (h : length out ≡ length bays) (b : Channels) (l : List Item) → MayMove (layout_with bays out) b l
+    → MayMove bays b l
+may_move_in bays out h b [] m = tt
+may_move_in bays out h b (Awaits what ∷ l) m = tt
+may_move_in bays out h b (Close p ∷ l) m = (can_close_each_in bays out h b p m.0, may_move_in bays out h (with_each p b) l m.1)
+may_move_in bays out h b (Open p ∷ l) m = (m.0, may_move_in bays out h (without_each p b) l m.1)
 
-pub may_move_in : (bays : Layout) (out : List (Option Ticket)) (h : length out ≡ length bays) (b : Channels) (o k : Option Position)
-    → MayMove (layout_with bays out) b o k → MayMove bays b o k
-may_move_in bays out h b o k m = record { opens = m.opens; closes = may_close_in bays out h (effect b (opens_of o)) k m.closes }
-
-module _ (layout : Layout) (closed : Channels) (s : SettingsSeen) (i : ℕ) (w : HasDone layout closed s i) where
-  pub right_here : AllRight layout closed (effect none (take i (agenda s))) (drop i (agenda s))
+module _ (layout : Layout) (closed : Channels) (s : CourseSeen) (i : ℕ) (w : HasDone layout closed s i) where
+  pub right_here : AllRight layout closed (effect none (take i s.items)) (drop i s.items)
   right_here =
-      let all : AllRight layout w.found none (take i (agenda s) ++ drop i (agenda s)) =
-      subst (λ (l : List Item). AllRight layout w.found none l) (sym (take-append-drop i (agenda s))) w.sound.right in
-      subst (λ (b : Channels). AllRight layout b (effect none (take i (agenda s))) (drop i (agenda s))) (sym w.so_far)
-      (right_after layout w.found none (take i (agenda s)) (drop i (agenda s)) all)
+      let all : AllRight layout w.found none (take i s.items ++ drop i s.items) =
+      subst (λ (l : List Item). AllRight layout w.found none l) (sym (take-append-drop i s.items)) w.sound.right in
+      subst (λ (b : Channels). AllRight layout b (effect none (take i s.items)) (drop i s.items)) (sym w.so_far)
+      (right_after layout w.found none (take i s.items) (drop i s.items) all)
 
   -- the moves that come next may be made
-  pub may_move : (o k : Option Position) → opens_of o ++ closes_of k ≡ moves_from s i → MayMove layout closed o k
-  may_move o k e =
-      let after = drop i (agenda s) in
-      let r = drop (length (moves_from s i)) after in
-      let mine : IsWithin (effect none (take i (agenda s))) (effect w.found (take i (agenda s))) =
-      within_after none w.found (take i (agenda s)) (λ x h. absurd (cc)) in
-      let split : after ≡ (opens_of o ++ closes_of k) ++ r = sym (take-append-drop (length (moves_from s i)) after) ∙ ap (λ (l : List Item). l ++ r)
-      (leading_front after ∙ sym e) in
-      moves_may layout closed (effect none (take i (agenda s))) o k r
-      (subst (λ (b : Channels). IsWithin (effect none (take i (agenda s))) b) (sym w.so_far) mine)
-      (subst (λ (l : List Item). AllRight layout closed (effect none (take i (agenda s))) l) split right_here)
+  pub may_move : MayMove layout closed (drop i s.items)
+  may_move =
+      let mine : IsWithin (effect none (take i s.items)) (effect w.found (take i s.items)) =
+      within_after none w.found (take i s.items) (λ x h. absurd (cc)) in
+      moves_may layout closed (effect none (take i s.items)) (drop i s.items)
+      (subst (λ (b : Channels). IsWithin (effect none (take i s.items)) b) (sym w.so_far) mine) right_here
 
   -- once they are made
   pub on_way_moved : (now : Channels) → now ≡ effect closed (moves_from s i) → HasDone layout now s (i + length (moves_from s i))
   on_way_moved now e = record {
     found = w.found;
     sound = w.sound;
-    so_far = e ∙ ap (λ (b : Channels). effect b (moves_from s i)) w.so_far ∙ sym (effect-append w.found (take i (agenda s)) (moves_from s i)) ∙ ap
+    so_far = e ∙ ap (λ (b : Channels). effect b (moves_from s i)) w.so_far ∙ sym (effect-append w.found (take i s.items) (moves_from s i)) ∙ ap
         (effect w.found)
         (sym (take_way s i));
   }
 
   -- once what is awaited has come
-  pub on_way_past : (x : Awaited) → first_awaited (drop i (agenda s)) ≡ Some x → HasDone layout closed s (i + 1)
+  pub on_way_past : (x : Awaited) → first_awaited (drop i s.items) ≡ Some x → HasDone layout closed s (i + 1)
   on_way_past x e = record {
     found = w.found;
     sound = w.sound;
-    so_far = w.so_far ∙ sym (effect-append w.found (take i (agenda s)) (Awaits x ∷ [])) ∙ ap (effect w.found) (sym (take_past s i x e));
+    so_far = w.so_far ∙ sym (effect-append w.found (take i s.items) (Awaits x ∷ [])) ∙ ap (effect w.found) (sym (take_past s i x e));
   }
 
-pub on_way_like : (layout layout' : Layout) (b b' : Channels) (s : SettingsSeen) (i : ℕ) → layout' ≡ layout → b' ≡ b → HasDone layout b s i
+pub on_way_like : (layout layout' : Layout) (b b' : Channels) (s : CourseSeen) (i : ℕ) → layout' ≡ layout → b' ≡ b → HasDone layout b s i
     → HasDone layout' b' s i
 on_way_like layout layout' b b' s i e f w = subst (λ (l : Layout). HasDone l b' s i) (sym e) (subst (λ (x : Channels). HasDone layout x s i) (sym f) w)

@@ -1,9 +1,8 @@
 -- From one item that a scan awaits to the next.
 use Rattle.std.specs.Prelude.{ℕ, ◌+◌, List, [], ◌∷◌, length, drop, Option, Some, None}
-use Rattle.sw_channel.specs.Positions.{Position}
 use Rattle.sw_trigger.specs.declared.layer.Awaited.{Awaited}
-use Rattle.sw_trigger.specs.Settings.{SettingsSeen}
-use Rattle.sw_trigger.specs.Agenda.{Item, Awaits, Close, Open, agenda}
+use Rattle.sw_trigger.specs.Agenda.{Item, Awaits, Close, Open}
+use Rattle.sw_verify.specs.Course.{CourseSeen}
 use Rattle.sw_cage.specs.Cage.{ScanSeen}
 
 -- the closings and openings before the next awaiting item
@@ -20,22 +19,14 @@ first_awaited (Awaits what ∷ items) = Some what
 first_awaited (Close c ∷ items) = None
 first_awaited (Open c ∷ items) = None
 
-abbrev pub opens_of : Option Position → List Item
-opens_of None = []
-opens_of (Some c) = Open c ∷ []
-
-abbrev pub closes_of : Option Position → List Item
-closes_of None = []
-closes_of (Some c) = Close c ∷ []
-
 -- what is done from item i on, before the next awaiting item
-abbrev pub moves_from : SettingsSeen → ℕ → List Item
-moves_from s i = leading_moves (drop i (agenda s))
+abbrev pub moves_from : CourseSeen → ℕ → List Item
+moves_from course i = leading_moves (drop i course.items)
 
--- the first awaiting item from item i on, or the agenda's end
-abbrev pub next_place : SettingsSeen → ℕ → ScanSeen
-next_place s i = record { setup = s; index = i + length (moves_from s i) }
+-- the first awaiting item from item i on, or the end
+abbrev pub next_place : CourseSeen → ℕ → ScanSeen
+next_place course i = record { course = course; index = i + length (moves_from course i) }
 
 -- what a scan awaits; nothing, where it is over
 abbrev pub awaits : ScanSeen → Option Awaited
-awaits at = first_awaited (drop at.index (agenda at.setup))
+awaits at = first_awaited (drop at.index at.course.items)

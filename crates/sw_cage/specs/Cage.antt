@@ -3,13 +3,13 @@ use Rattle.std.specs.Prelude.{ℕ, List, [], ◌∷◌, Option, None, Some, repl
 use Rattle.sw_base.specs.Limits.{most_slots}
 use Rattle.sw_base.specs.Layout.{SlotContents, meter, Layout}
 use Rattle.sw_base.specs.declared.reading.Reading.{Reading}
-use Rattle.sw_trigger.specs.Settings.{SettingsSeen}
+use Rattle.sw_verify.specs.Course.{CourseSeen}
 use Rattle.sw_cage.specs.Accounts.{Accounts, layout_of, all_open}
 use Rattle.sw_cage.specs.declared.job.Ticket.{Ticket}
 
--- a scan's settings, and the item of its agenda that it awaits
+-- a scan's course, and which of its items it awaits
 pub record ScanSeen : Type 0 where
-  pub setup : SettingsSeen
+  pub course : CourseSeen
   pub index : ℕ
 
 -- what is seen of a cage: the cards in their slots, by slot the ticket under which its meter is out, the number of

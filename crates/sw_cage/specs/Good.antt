@@ -1,13 +1,12 @@
 -- What is so of every cage.
-use Rattle.std.specs.Prelude.{◌≡◌, ℕ, ◌<◌, ◌≤◌, true, length, take, Option, Some, None, is_some}
+use Rattle.std.specs.Prelude.{◌≡◌, ℕ, ◌≤◌, true, length, take, Option, Some, None, is_some}
 use Rattle.sw_base.specs.Limits.{most_slots}
 use Rattle.sw_base.specs.Layout.{Layout, slot_at, has_meter}
 use Rattle.sw_trigger.specs.declared.layer.Awaited.{Awaited}
 use Rattle.sw_trigger.specs.declared.layer.Awaited.TheVariants.{Wait, Period, Pause, Read}
-use Rattle.sw_trigger.specs.Settings.{SettingsSeen, IsInRange}
-use Rattle.sw_trigger.specs.Agenda.{agenda}
 use Rattle.sw_trigger.specs.Counts.{reads}
 use Rattle.sw_verify.specs.Channels.{Channels}
+use Rattle.sw_verify.specs.Course.{CourseSeen}
 use Rattle.sw_verify.specs.Sound.{effect, IsSound}
 use Rattle.sw_cage.specs.Accounts.{is_closed}
 use Rattle.sw_cage.specs.Cage.{ScanSeen, CageSeen, cage_layout, ticket_of}
@@ -15,10 +14,10 @@ use Rattle.sw_cage.specs.Advance.{awaits}
 use Rattle.sw_cage.specs.declared.job.Ticket.{Ticket}
 
 -- A sound scan has done the items before this one: from some channels that it found closed it has come to these.
-pub record HasDone (layout : Layout) (closed : Channels) (s : SettingsSeen) (index : ℕ) : Type 0 where
+pub record HasDone (layout : Layout) (closed : Channels) (course : CourseSeen) (index : ℕ) : Type 0 where
   pub found : Channels
-  pub sound : IsSound layout found s.points (agenda s)
-  pub so_far : closed ≡ effect found (take index (agenda s))
+  pub sound : IsSound layout found course.points course.items
+  pub so_far : closed ≡ effect found (take index course.items)
 
 -- the scan's meter is out under the scan's present ticket where a reading is awaited, and else in its slot
 abbrev pub MeterStands : Option Ticket → Ticket → Option Awaited → Type 0
@@ -30,12 +29,11 @@ MeterStands out ticket (Some Read) = out ≡ Some ticket
 
 -- A scan runs: it is sound for the cage's cards, stands at an item that awaits, and has made the readings before that.
 pub record IsUnderway (p : CageSeen) (at : ScanSeen) : Type 0 where
-  pub listed : 0 < length at.setup.list
-  pub range : IsInRange at.setup
-  pub measured : has_meter (cage_layout p) at.setup.meter ≡ true
-  pub way : HasDone (cage_layout p) (is_closed p.cards) at.setup at.index
-  pub readings : length p.readings ≡ reads (take at.index (agenda at.setup))
-  pub meter : MeterStands (slot_at p.out at.setup.meter) (ticket_of p.number at) (awaits at)
+  pub slot_in : (1 ≤ at.course.meter) × (at.course.meter ≤ most_slots)
+  pub measured : has_meter (cage_layout p) at.course.meter ≡ true
+  pub way : HasDone (cage_layout p) (is_closed p.cards) at.course at.index
+  pub readings : length p.readings ≡ reads (take at.index at.course.items)
+  pub meter : MeterStands (slot_at p.out at.course.meter) (ticket_of p.number at) (awaits at)
 
 abbrev pub IsRunning : CageSeen → Option ScanSeen → Type 0
 IsRunning p None = Unit {0}
@@ -56,7 +54,7 @@ pub record IsGood (p : CageSeen) : Type 0 where
 -- there is room for every reading of the scan
 abbrev pub HasRoom : Option ScanSeen → ℕ → Type 0
 HasRoom None capacity = Unit {0}
-HasRoom (Some at) capacity = reads (agenda at.setup) ≤ capacity
+HasRoom (Some at) capacity = reads at.course.items ≤ capacity
 
 pub record IsGoodWithRoom (p : CageSeen) (capacity : ℕ) : Type 0 where
   pub good : IsGood p

@@ -9,9 +9,9 @@ use Rattle.sw_card.specs.declared.board.CardFault.{CardFault}
 use Rattle.sw_card.specs.Account.{of_meter}
 use Rattle.sw_trigger.specs.declared.layer.Awaited.{Awaited}
 use Rattle.sw_trigger.specs.declared.layer.Awaited.TheVariants.{Wait, Period, Pause, Read}
-use Rattle.sw_trigger.specs.Settings.{SettingsSeen}
 use Rattle.sw_trigger.specs.Agenda.{Item}
 use Rattle.sw_verify.specs.Sound.{effect}
+use Rattle.sw_verify.specs.Course.{CourseSeen}
 use Rattle.sw_cage.specs.Accounts.{Accounts, is_closed, all_open}
 use Rattle.sw_cage.specs.Change.{RelayFailed, identity}
 use Rattle.sw_cage.specs.Cage.{ScanSeen, CageSeen, ticket_of, safe_state}
@@ -65,7 +65,7 @@ Arrives old number at SaysWaits new scan = ((name : LayerName) × (awaits at ≡
     × (scan ≡ Some at)
 Arrives old number at (SaysPause ticket micros) new scan =
     (lasting (awaits at) ≡ Some micros) × (ticket ≡ ticket_of number at) × (new ≡ old) × (scan ≡ Some at)
-Arrives old number at (SaysJob job) new scan = (awaits at ≡ Some Read) × IsSent old at.setup.meter (ticket_of number at)
+Arrives old number at (SaysJob job) new scan = (awaits at ≡ Some Read) × IsSent old at.course.meter (ticket_of number at)
     job new × (scan ≡ Some at)
 Arrives old number at SaysEnded new scan = (awaits at ≡ None) × (new ≡ old) × (scan ≡ None)
 Arrives old number at SaysFault new scan = ⊥
@@ -94,16 +94,17 @@ AdvancesOrFails old number moves at (SaysPause ticket micros) new scan =
 AdvancesOrFails old number moves at (SaysJob job) new scan = Reaches old number moves at (SaysJob job) new scan
 AdvancesOrFails old number moves at SaysEnded new scan = Reaches old number moves at SaysEnded new scan
 
--- From item i of the settings' agenda the scan goes on to the next awaiting item, and tells what it awaits there.
-pub record Advances (p : CageSeen) (s : SettingsSeen) (i : ℕ) (told : TakenSeen) (q : CageSeen) : Type 0 where
-  pub runs : AdvancesOrFails (occupancy_of p) p.number (moves_from s i) (next_place s i) told (occupancy_of q) q.scan
+-- From item i of its course the scan goes on to the next awaiting item, and tells what it awaits there.
+pub record Advances (p : CageSeen) (course : CourseSeen) (i : ℕ) (told : TakenSeen) (q : CageSeen) : Type 0 where
+  pub runs :
+      AdvancesOrFails (occupancy_of p) p.number (moves_from course i) (next_place course i) told (occupancy_of q) q.scan
   pub number : q.number ≡ p.number
   pub readings : q.readings ≡ p.readings
 
 -- past what the scan awaits
 abbrev pub AdvancesPastFrom : CageSeen → Option ScanSeen → TakenSeen → CageSeen → Type 0
 AdvancesPastFrom p None told q = ⊥
-AdvancesPastFrom p (Some at) told q = Advances p at.setup (at.index + 1) told q
+AdvancesPastFrom p (Some at) told q = Advances p at.course (at.index + 1) told q
 
 abbrev pub AdvancesPast : CageSeen → TakenSeen → CageSeen → Type 0
 AdvancesPast p told q = AdvancesPastFrom p p.scan told q

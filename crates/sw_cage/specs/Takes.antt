@@ -5,7 +5,7 @@ use Rattle.sw_base.specs.declared.terms.Source.TheVariants as source
 use Rattle.sw_base.specs.declared.terms.LayerName.{LayerName}
 use Rattle.sw_trigger.specs.declared.layer.Awaited.{Awaited}
 use Rattle.sw_trigger.specs.declared.layer.Awaited.TheVariants.{Wait, Period, Pause, Read}
-use Rattle.sw_trigger.specs.Settings.{SettingsSeen, layer_of}
+use Rattle.sw_verify.specs.Course.{CourseSeen, source_at}
 use Rattle.sw_trigger.specs.Counts.{is_reading}
 use Rattle.sw_cage.specs.Cage.{ScanSeen, CageSeen, ticket_of}
 use Rattle.sw_cage.specs.Advance.{awaits}
@@ -14,11 +14,11 @@ use Rattle.sw_cage.specs.declared.taken.Happening.{Happening}
 use Rattle.sw_cage.specs.declared.taken.Happening.TheVariants.{Bus, External, Signal, Elapsed}
 
 -- a wait of the layer takes the happening
-abbrev pub TakesWait : SettingsSeen → LayerName → Happening → Type 0
-TakesWait s name Bus = (layer_of s name).source ≡ source.Bus
-TakesWait s name External = (layer_of s name).source ≡ source.External
-TakesWait s name (Signal signalled) = name ≡ signalled
-TakesWait s name (Elapsed ticket) = ⊥
+abbrev pub TakesWait : CourseSeen → LayerName → Happening → Type 0
+TakesWait course name Bus = source_at course.sources name ≡ source.Bus
+TakesWait course name External = source_at course.sources name ≡ source.External
+TakesWait course name (Signal signalled) = name ≡ signalled
+TakesWait course name (Elapsed ticket) = ⊥
 
 -- a pause under this ticket takes the happening
 abbrev pub TakesPause : Ticket → Happening → Type 0
@@ -35,19 +35,19 @@ TakesPeriod present name (Signal signalled) = name ≡ signalled
 TakesPeriod present name (Elapsed ticket) = present ≡ ticket
 
 -- what awaits this takes the happening, under the ticket that is present
-abbrev pub TakesAt : SettingsSeen → Ticket → Awaited → Happening → Type 0
-TakesAt s present (Wait name) happening = TakesWait s name happening
-TakesAt s present (Period name micros) happening = TakesPeriod present name happening
-TakesAt s present (Pause micros) happening = TakesPause present happening
-TakesAt s present Read happening = ⊥
+abbrev pub TakesAt : CourseSeen → Ticket → Awaited → Happening → Type 0
+TakesAt course present (Wait name) happening = TakesWait course name happening
+TakesAt course present (Period name micros) happening = TakesPeriod present name happening
+TakesAt course present (Pause micros) happening = TakesPause present happening
+TakesAt course present Read happening = ⊥
 
-abbrev pub TakesIf : SettingsSeen → Ticket → Option Awaited → Happening → Type 0
-TakesIf s present None happening = ⊥
-TakesIf s present (Some what) happening = TakesAt s present what happening
+abbrev pub TakesIf : CourseSeen → Ticket → Option Awaited → Happening → Type 0
+TakesIf course present None happening = ⊥
+TakesIf course present (Some what) happening = TakesAt course present what happening
 
 abbrev pub TakesThere : ℕ → Option ScanSeen → Happening → Type 0
 TakesThere number None happening = ⊥
-TakesThere number (Some at) happening = TakesIf at.setup (ticket_of number at) (awaits at) happening
+TakesThere number (Some at) happening = TakesIf at.course (ticket_of number at) (awaits at) happening
 
 -- the scan that runs takes the happening
 abbrev pub Takes : CageSeen → Happening → Type 0
@@ -56,7 +56,7 @@ Takes p happening = TakesThere p.number p.scan happening
 -- the scan awaits the return of this slot's meter under this ticket
 pub record AwaitsReturn (number : ℕ) (at : ScanSeen) (slot : ℕ) (ticket : Ticket) : Type 0 where
   pub reading : awaits at ≡ Some Read
-  pub slot_is : at.setup.meter ≡ slot
+  pub slot_is : at.course.meter ≡ slot
   pub ticket_is : ticket_of number at ≡ ticket
 
 abbrev pub TakesReturnThere : ℕ → Option ScanSeen → ℕ → Ticket → Type 0

@@ -4,7 +4,7 @@ ghost use Rattle.std.specs.Prelude.{◌≡◌, ℕ, ◌-◌, ◌≤◌, List, []
 ghost use Rattle.std.specs.Prelude.{IfOk, IfErr, slice_set, replicate, is_some, ◌↔◌, IsTrue, ◌+◌, ◌<◌, ◌^◌, ◌||◌};
 ghost use Rattle.std.specs.Prelude.{is_err};
 ghost use Rattle.sw_base.specs.Limits.{most_slots};
-ghost use Rattle.sw_base.specs.Layout.{Channel, slot_at, is_present, IsClash, IsExclusive};
+ghost use Rattle.sw_base.specs.Layout.{Channel, slot_at, is_present, has_meter, IsClash, IsExclusive};
 ghost use Rattle.sw_card.specs.Account.{closed_at, is_meter};
 ghost use Rattle.sw_cage.specs.Accounts.{accounts_of, layout_of, is_closed, with_chan, option_rest, all_open};
 ghost use Rattle.sw_cage.specs.Accounts.{IsChannelFault};
@@ -12,10 +12,10 @@ ghost use Rattle.sw_cage.specs.Cards.{KeepsOthers, meters_of, with_card_back, Ke
 ghost use Rattle.sw_cage.specs.Change.{Sets, IsDisturbed, any_failed};
 ghost use Rattle.sw_cage.specs.Install.{CanInstall, RefusesInstall, RefusesEject, stopped, without_card};
 ghost use Rattle.sw_cage.specs.Close.{all_present, CanClose, RefusesClose};
-ghost use Rattle.sw_cage.specs.Channels.{closed_list};
 ghost use Rattle.sw_cage.specs.Cage.{empty_cage, cage_with_cards, safe_state, cage_layout};
-ghost use Rattle.sw_code.specs.Compiled.{compiled};
-ghost use Rattle.sw_verify.specs.Check.{IsReady};
+ghost use Rattle.sw_verify.specs.Channels.{is_among};
+ghost use Rattle.sw_verify.specs.Sound.{IsSound};
+ghost use Rattle.sw_cage.specs.Channels.{closed_list};
 ghost use Rattle.sw_cage.specs.Work.{IsTold};
 ghost use Rattle.sw_cage.specs.Good.{IsGood};
 ghost use Rattle.sw_cage.specs.TakenSeen.{taken_seen, tells_fault, SaysIgnored};
@@ -35,9 +35,8 @@ use std::alloc::{AllocError, Global};
 use std::marker::Model;
 use sw_base::{Chan, Reading};
 use sw_card::{Card, CardFault, Meter, Relay};
-use sw_code::Code;
-use sw_trigger::{Awaited, Settings};
-use sw_verify::Plan;
+use sw_trigger::Awaited;
+use sw_verify::Course;
 
 /// Slots, numbered from 1, that hold relay and meter cards.
 ///
@@ -331,35 +330,28 @@ impl<R: Relay, M: Meter> Cage<R, M> {
         }
     }
 
-    /// Begins the planned scan: its number is one more, and the readings of the last one are dropped. Room for its
-    /// readings is made first, so that nothing that happens to it wants memory; after an error nothing changed.
-    pub fn start(&mut self, alloc: Global, plan: Plan) -> Result<Taken<M>, AllocError>
+    /// Begins the scan of a course that is sound for the cards and what is closed: its number is one more, and the
+    /// readings of the last one are dropped. Room for its readings is made first, so that nothing that happens to it
+    /// wants memory; after an error nothing changed.
+    pub fn start(&mut self, alloc: Global, course: Course) -> Result<Taken<M>, AllocError>
         requires idle { self.old.seen.scan ≡ None }
         requires number { self.old.seen.number + 1 < 2 ^ 64 }
-        requires home { slot_at self.old.seen.out plan.settings.meter ≡ None }
-        requires layout { cage_layout self.old.seen ≡ plan.layout }
-        requires closed { closed_list self.old.seen.cards ≡ plan.closed }
-        ensures ok { IfOk result (λ taken.
-            Advances (begun self.old.seen) plan.settings 0 (taken_seen taken) self.new.seen) }
+        requires home { slot_at self.old.seen.out course.meter ≡ None }
+        requires measured { has_meter (cage_layout self.old.seen) course.meter ≡ true }
+        requires sound { IsSound (cage_layout self.old.seen) (is_among (closed_list self.old.seen.cards)) course.points
+            course.items }
+        ensures ok { IfOk result (λ taken. Advances (begun self.old.seen) course 0 (taken_seen taken) self.new.seen) }
         ensures meters { IfOk result (λ taken. KeepsMeters self.old.cards taken self.new.cards) }
         ensures failed { IfOk result (λ taken.
             tells_fault (taken_seen taken) ≡ any_failed self.old.seen.cards self.new.seen.cards) }
         ensures err { OnErr result (self.new ≡ self.old) }
     {
         self.slots.stay_safe();
-        let (settings, code) = ready_parts(plan);
-        let readings = Vec::with_capacity(alloc, settings.readings() as usize)?;
-        let (scan, moves) = Scan::begin(settings, code);
+        let readings = Vec::with_capacity(alloc, course.readings() as usize)?;
         self.number += 1;
         self.readings = readings;
-        self.scan = Some(scan);
-        let taken = go_on(
-            &mut self.slots,
-            &mut self.out,
-            &mut self.scan,
-            self.number,
-            moves,
-        );
+        self.scan = Some(Scan::begin(course));
+        let taken = go_on(&mut self.slots, &mut self.out, &mut self.scan, self.number);
         Ok(taken)
     }
 
@@ -485,14 +477,4 @@ impl<R: Relay, M: Meter> Cage<R, M> {
         self.readings.push(reading).unwrap();
         go_past(&mut self.slots, &mut self.out, &mut self.scan, self.number)
     }
-}
-
-/// The settings of a plan, and their code.
-fn ready_parts(plan: Plan) -> (Settings, Code)
-    ensures settings { result.0 ≡ plan.settings }
-    ensures code { result.1 ≡ compiled plan.settings }
-    ensures ready { IsReady plan }
-{
-    let (snapshot, code) = plan.into_parts();
-    (snapshot.settings, code)
 }

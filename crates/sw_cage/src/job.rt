@@ -7,7 +7,7 @@ use std::marker::Model;
 use sw_base::Reading;
 use sw_card::{CardFault, Meter, MeterCard};
 
-/// What a pause or a reading is awaited under: the number of its scan, and its index in that scan's agenda.
+/// What a pause or a reading is awaited under: the number of its scan, and which of that scan's items it is.
 #[derive(Clone, Copy, Debug, PartialEq, Eq)]
 pub struct Ticket {
     pub scan: u64,

@@ -8,8 +8,8 @@ use Rattle.sw_base.specs.declared.reading.Reading.{Reading}
 use Rattle.sw_card.specs.declared.board.CardFault.{CardFault}
 use Rattle.sw_trigger.specs.declared.layer.Awaited.{Awaited}
 use Rattle.sw_trigger.specs.declared.layer.Awaited.TheVariants.{Read}
-use Rattle.sw_trigger.specs.Settings.{SettingsSeen}
-use Rattle.sw_trigger.specs.Agenda.{Item, Awaits, Close, Open, agenda}
+use Rattle.sw_verify.specs.Course.{CourseSeen}
+use Rattle.sw_trigger.specs.Agenda.{Item, Awaits, Close, Open}
 use Rattle.sw_trigger.specs.Counts.{awaiting, reads}
 use Rattle.sw_verify.specs.Sound.{effect}
 use Rattle.sw_cage.specs.Accounts.{is_closed}
@@ -67,25 +67,25 @@ lead_ends (Close c ∷ l) e = lead_ends l e
 lead_ends (Open c ∷ l) e = lead_ends l e
 
 -- one awaited item is passed
-pub left_past : (at : ScanSeen) (x : Awaited) → awaits at ≡ Some x → left_at at ≡ suc (length (awaiting (drop (at.index + 1) (agenda at.setup))))
+pub left_past : (at : ScanSeen) (x : Awaited) → awaits at ≡ Some x → left_at at ≡ suc (length (awaiting (drop (at.index + 1) at.course.items)))
 left_past at x e =
-    awaited_first (drop at.index (agenda at.setup)) x e ∙ ap (λ (l : List Item). suc (length (awaiting l))) (sym (drop_past at.index 1 (agenda at.setup)))
+    awaited_first (drop at.index at.course.items) x e ∙ ap (λ (l : List Item). suc (length (awaiting l))) (sym (drop_past at.index 1 at.course.items))
 
 -- and the next is come to
-pub left_next : (s : SettingsSeen) (i : ℕ) → left_at (next_place s i) ≡ length (awaiting (drop i (agenda s)))
+pub left_next : (s : CourseSeen) (i : ℕ) → left_at (next_place s i) ≡ length (awaiting (drop i s.items))
 left_next s i =
-    ap (λ (l : List Item). length (awaiting l)) (drop_past i (length (moves_from s i)) (agenda s))
-    ∙ ap (λ (l : List Awaited). length l) (lead_awaits (drop i (agenda s)))
+    ap (λ (l : List Item). length (awaiting l)) (drop_past i (length (moves_from s i)) s.items)
+    ∙ ap (λ (l : List Awaited). length l) (lead_awaits (drop i s.items))
 
-left_none : (s : SettingsSeen) (i : ℕ) → awaits (next_place s i) ≡ None → length (awaiting (drop i (agenda s))) ≡ 0
+left_none : (s : CourseSeen) (i : ℕ) → awaits (next_place s i) ≡ None → length (awaiting (drop i s.items)) ≡ 0
 left_none s i e =
-    ap (λ (l : List Awaited). length l) (lead_ends (drop i (agenda s)) (ap first_awaited (sym (drop_past i (length (moves_from s i)) (agenda s))) ∙ e))
+    ap (λ (l : List Awaited). length l) (lead_ends (drop i s.items) (ap first_awaited (sym (drop_past i (length (moves_from s i)) s.items)) ∙ e))
 
 -- ---- scans
 
 -- where a scan is that came to the next awaited item from item i on
-pub left_arrives : (old new : Occupancy) (number : ℕ) (s : SettingsSeen) (i : ℕ) (told : TakenSeen) (scan : Option ScanSeen)
-    → Arrives old number (next_place s i) told new scan → left_of scan ≡ length (awaiting (drop i (agenda s)))
+pub left_arrives : (old new : Occupancy) (number : ℕ) (s : CourseSeen) (i : ℕ) (told : TakenSeen) (scan : Option ScanSeen)
+    → Arrives old number (next_place s i) told new scan → left_of scan ≡ length (awaiting (drop i s.items))
 left_arrives old new number s i SaysWaits scan h = ap left_of h.2 ∙ left_next s i
 left_arrives old new number s i (SaysPause ticket micros) scan h = ap left_of h.3 ∙ left_next s i
 left_arrives old new number s i (SaysJob job) scan h = ap left_of h.2 ∙ left_next s i
@@ -96,8 +96,8 @@ left_arrives old new number s i told scan h = absurd h
 abbrev IsLeft : Option ScanSeen → ℕ → Type 0
 IsLeft scan n = (left_of scan ≡ n) ⊎ (scan ≡ None)
 
-left_runs : (old new : Occupancy) (number : ℕ) (s : SettingsSeen) (i : ℕ) (told : TakenSeen) (scan : Option ScanSeen)
-    → AdvancesOrFails old number (moves_from s i) (next_place s i) told new scan → IsLeft scan (length (awaiting (drop i (agenda s))))
+left_runs : (old new : Occupancy) (number : ℕ) (s : CourseSeen) (i : ℕ) (told : TakenSeen) (scan : Option ScanSeen)
+    → AdvancesOrFails old number (moves_from s i) (next_place s i) told new scan → IsLeft scan (length (awaiting (drop i s.items)))
 left_runs old new number s i SaysFault scan h = inr h.over
 left_runs old new number s i SaysIgnored scan h = inl (left_arrives (record old { cards = h.cards }) new number s i SaysIgnored scan h.arrives)
 left_runs old new number s i SaysWaits scan h = inl (left_arrives (record old { cards = h.cards }) new number s i SaysWaits scan h.arrives)
@@ -129,10 +129,10 @@ pub near_none : (p q : Panel) → q.cage.scan ≡ None → Nears p 0 q
 near_none p q e = record { most = omega arith; left = inr e; idle = λ i. e; holds = holds_none p.cage q.cage e }
 
 near_goes : (p q : Panel) (from : CageSeen) (at : ScanSeen) (x : Awaited) (told : TakenSeen) → p.cage.scan ≡ Some at → awaits at ≡ Some x
-    → SameClosed p.cage from → Advances from at.setup (at.index + 1) told q.cage → Nears p 1 q
+    → SameClosed p.cage from → Advances from at.course (at.index + 1) told q.cage → Nears p 1 q
 near_goes p q from at x told is e same g =
-    by_left (length (awaiting (drop (at.index + 1) (agenda at.setup)))) (ap left_of is
-    ∙ left_past at x e) (left_runs (occupancy_of from) (occupancy_of q.cage) from.number at.setup (at.index + 1) told q.cage.scan g.runs)
+    by_left (length (awaiting (drop (at.index + 1) at.course.items))) (ap left_of is
+    ∙ left_past at x e) (left_runs (occupancy_of from) (occupancy_of q.cage) from.number at.course (at.index + 1) told q.cage.scan g.runs)
   where
     by_left : (n : ℕ) → left_in p ≡ suc n → IsLeft q.cage.scan n → Nears p 1 q
     by_left n l (inl m) = record {
@@ -150,16 +150,16 @@ lead_nil (Awaits w ∷ l) e = absurd (cc (e))
 lead_nil (Close c ∷ l) e = lead_nil l e
 lead_nil (Open c ∷ l) e = lead_nil l e
 
-place_nil : (s : SettingsSeen) (i : ℕ) → awaits (next_place s i) ≡ None → drop (i + length (moves_from s i)) (agenda s) ≡ []
+place_nil : (s : CourseSeen) (i : ℕ) → awaits (next_place s i) ≡ None → drop (i + length (moves_from s i)) s.items ≡ []
 place_nil s i e =
-    let there = drop_past i (length (moves_from s i)) (agenda s) in
-    there ∙ lead_nil (drop i (agenda s)) (ap first_awaited (sym there) ∙ e)
+    let there = drop_past i (length (moves_from s i)) s.items in
+    there ∙ lead_nil (drop i s.items) (ap first_awaited (sym there) ∙ e)
 
 -- where nothing is left, what was done is all
-reads_all : (s : SettingsSeen) (n : ℕ) → drop n (agenda s) ≡ [] → reads (take n (agenda s)) ≡ reads (agenda s)
+reads_all : (s : CourseSeen) (n : ℕ) → drop n s.items ≡ [] → reads (take n s.items) ≡ reads s.items
 reads_all s n e =
-    let whole = ap reads (sym (take-append-drop n (agenda s))) ∙ reads-append (take n (agenda s)) (drop n (agenda s)) in
-    let rest : reads (drop n (agenda s)) ≡ 0 = ap reads e in
+    let whole = ap reads (sym (take-append-drop n s.items)) ∙ reads-append (take n s.items) (drop n s.items) in
+    let rest : reads (drop n s.items) ≡ 0 = ap reads e in
     omega (arith, whole, rest)
 
 -- ---- one step
@@ -169,13 +169,13 @@ pub record Completed (p : CageSeen) (at : ScanSeen) (taken : ℕ) (q : CageSeen)
   pub one : taken ≡ 1
   pub last : left_at at ≡ 1
   pub closed : is_closed q.cards ≡ leaves p.cards at
-  pub readings : length q.readings ≡ reads (agenda at.setup)
+  pub readings : length q.readings ≡ reads at.course.items
 
 -- The scan that stood at an item was ended before.
 pub record Stopped (at : ScanSeen) (q : CageSeen) : Type 0 where
   pub none : (c : Channel) → is_closed q.cards c ≡ false
   pub items : ℕ
-  pub readings : length q.readings ≡ reads (take items (agenda at.setup))
+  pub readings : length q.readings ≡ reads (take items at.course.items)
 
 abbrev pub Ends : Bool → CageSeen → ℕ → CageSeen → Type 0
 Ends off p taken q = (at : ScanSeen) → p.scan ≡ Some at → IsUnderway p at → q.scan ≡ None
@@ -236,17 +236,17 @@ some_is q at e over = let n = sym e ∙ over in cc (n)
 
 completes : (p from q : CageSeen) (at : ScanSeen) (x : Awaited) → awaits at ≡ Some x → SameClosed p from
     → length from.readings ≡ length p.readings + is_reading x → IsUnderway p at
-    → Advances from at.setup (at.index + 1) SaysEnded q → Completed p at 1 q
+    → Advances from at.course (at.index + 1) SaysEnded q → Completed p at 1 q
 completes p from q at x e same count u g =
-    let s = at.setup in
+    let s = at.course in
     let i = at.index + 1 in
     let nil = place_nil s i g.runs.arrives.0 in
     let moved : is_closed q.cards ≡ effect (is_closed from.cards) (moves_from s i) = ap (λ (b : Occupancy). is_closed b.cards) g.runs.arrives.1
     ∙ fun_ext g.runs.moved.closed in
-    let rest : effect (is_closed from.cards) (moves_from s i) ≡ effect (is_closed from.cards) (drop i (agenda s)) =
+    let rest : effect (is_closed from.cards) (moves_from s i) ≡ effect (is_closed from.cards) (drop i s.items) =
     ap (λ (l : List Item). effect (effect (is_closed from.cards) (moves_from s i)) l) (sym nil) ∙ effect_next (is_closed from.cards) s i in
-    let passed : length from.readings ≡ reads (take i (agenda s)) = omega (arith, count, u.readings, reads_past s at.index x e) in
-    let all : reads (take i (agenda s)) ≡ reads (agenda s) = sym (reads_way s i) ∙ reads_all s (i + length (moves_from s i)) nil in
+    let passed : length from.readings ≡ reads (take i s.items) = omega (arith, count, u.readings, reads_past s at.index x e) in
+    let all : reads (take i s.items) ≡ reads s.items = sym (reads_way s i) ∙ reads_all s (i + length (moves_from s i)) nil in
     record {
       one = refl;
       last = omega (arith, left_past at x e, left_none s i g.runs.arrives.0);
@@ -255,16 +255,16 @@ completes p from q at x e same count u g =
     }
 
 faults : (p from q : CageSeen) (at : ScanSeen) (x : Awaited) → awaits at ≡ Some x → length from.readings ≡ length p.readings + is_reading x → IsUnderway p at
-    → Advances from at.setup (at.index + 1) SaysFault q → Stopped at q
+    → Advances from at.course (at.index + 1) SaysFault q → Stopped at q
 faults p from q at x e count u g = record {
   none = g.runs.fallen.none;
   items = at.index + 1;
-  readings = ap (λ (l : List Reading). length l) g.readings ∙ omega (arith, count, u.readings, reads_past at.setup at.index x e);
+  readings = ap (λ (l : List Reading). length l) g.readings ∙ omega (arith, count, u.readings, reads_past at.course at.index x e);
 }
 
 ends_goes : (off : Bool) (p from q : CageSeen) (at : ScanSeen) (x : Awaited) (told : TakenSeen) → awaits at ≡ Some x → SameClosed p from
     → length from.readings ≡ length p.readings + is_reading x
-    → (told ≡ SaysFault → off ≡ true) → IsUnderway p at → Advances from at.setup (at.index + 1) told q → q.scan ≡ None → Completed p at 1 q
+    → (told ≡ SaysFault → off ≡ true) → IsUnderway p at → Advances from at.course (at.index + 1) told q → q.scan ≡ None → Completed p at 1 q
     ⊎ ((off ≡ true) × Stopped at q)
 ends_goes off p from q at x SaysIgnored e same count fault u g over = absurd g.runs.arrives
 ends_goes off p from q at x SaysWaits e same count fault u g over = absurd (some_is q _ g.runs.arrives.2 over)
@@ -285,7 +285,7 @@ same_scan p at at' e f = let h = sym e ∙ f in cc (h)
 
 pub move_goes : (ask : AskSeen) (a : AnswerSeen) (p q : Panel) (from : CageSeen) (at : ScanSeen) (x : Awaited) (told : TakenSeen) → p.cage.scan ≡ Some at
     → awaits at ≡ Some x
-    → Takes1 ask a p.cage from x told → Advances from at.setup (at.index + 1) told q.cage → Moves ask a p 1 q
+    → Takes1 ask a p.cage from x told → Advances from at.course (at.index + 1) told q.cage → Moves ask a p 1 q
 move_goes ask a p q from at x told is e t g = record {
   near = near_goes p q from at x told is e t.same g;
   ends = λ at' is' u over. subst (λ (y : ScanSeen). Completed p.cage y 1 q.cage
@@ -295,7 +295,7 @@ move_goes ask a p q from at x told is e t g = record {
   adds = λ own. subst (λ (l : List Reading). AddsOwn ask p.cage.readings l) (sym g.readings) (t.own own);
 }
 
-takes_some : (s : SettingsSeen) (present : Ticket) (o : Option Awaited) (happening : Happening) → TakesIf s present o happening → (x : Awaited) × (o ≡ Some x)
+takes_some : (s : CourseSeen) (present : Ticket) (o : Option Awaited) (happening : Happening) → TakesIf s present o happening → (x : Awaited) × (o ≡ Some x)
     × (is_reading x ≡ 0)
 takes_some s present None happening h = absurd h
 takes_some s present (Some (Wait name)) happening h = (Wait name, refl, refl)
@@ -308,7 +308,7 @@ move_past : (ask : AskSeen) (a : AnswerSeen) (p q : Panel) (happening : Happenin
     → p.cage.scan ≡ scan → TakesThere p.cage.number scan happening → AdvancesPastFrom p.cage scan told q.cage → Moves ask a p 1 q
 move_past ask a p q happening told None fault is h g = absurd h
 move_past ask a p q happening told (Some at) fault is h g =
-    let x = takes_some at.setup (ticket_of p.cage.number at) (awaits at) happening h in
+    let x = takes_some at.course (ticket_of p.cage.number at) (awaits at) happening h in
     move_goes ask a p q p.cage at x.0 told is x.1 (record { fault = fault; same = λ c. refl; count = omega (arith, x.2); own = λ own. inl refl }) g
 
 abbrev pub of_taken : TakenSeen → ℕ
@@ -342,7 +342,7 @@ move_counted a p q done told (Some at) (Ok r) fault oc is h same g =
     record { fault = fault; same = same; count = count; own = λ own. inr (inr (r, own_reading done r oc own, refl)) } in
     move_goes (AskFinished done) a p q from at Read told is h.reading t (subst (λ (o : Option ScanSeen). AdvancesPastFrom from o told q.cage) is g)
 move_counted a p q done told (Some at) (Err e) fault oc is h same g =
-    let n : left_in p ≡ suc (length (awaiting (drop (at.index + 1) (agenda at.setup)))) = ap left_of is ∙ left_past at Read h.reading in
+    let n : left_in p ≡ suc (length (awaiting (drop (at.index + 1) at.course.items))) = ap left_of is ∙ left_past at Read h.reading in
     let over : q.cage.scan ≡ None = ap (λ (x : CageSeen). x.scan) g.1 in
     let none : (c : Channel) → is_closed q.cage.cards c ≡ false =
     λ (c : Channel). ap (λ (x : CageSeen). is_closed x.cards c) g.1 ∙ all_open_closed (with_back p.cage done).cards c in

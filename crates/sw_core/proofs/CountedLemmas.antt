@@ -70,8 +70,8 @@ awaited_out : (c : CageSeen) (scan : Option ScanSeen) (slot : ℕ) (ticket : Tic
     → slot_at c.out slot ≡ Some ticket
 awaited_out c None slot ticket r t = absurd t
 awaited_out c (Some at) slot ticket r t =
-    let stands : slot_at c.out at.setup.meter ≡ Some (ticket_of c.number at) =
-    subst (λ (o : Option Awaited). MeterStands (slot_at c.out at.setup.meter) (ticket_of c.number at) o) t.reading r.meter in
+    let stands : slot_at c.out at.course.meter ≡ Some (ticket_of c.number at) =
+    subst (λ (o : Option Awaited). MeterStands (slot_at c.out at.course.meter) (ticket_of c.number at) o) t.reading r.meter in
     ap (λ (s : ℕ). slot_at c.out s) (sym t.slot_is) ∙ stands ∙ ap (λ (x : Ticket). Some x) t.ticket_is
 
 -- where the meter of this return was

@@ -3,8 +3,8 @@ use Rattle.std.proofs.Common.{◌≡◌, ℕ, zero, suc, ◌+◌, ◌<◌, ◌�
 use mathlib.Core.Path.{fun_ext}
 use Rattle.sw_base.specs.Layout.{Channel}
 use Rattle.sw_trigger.specs.declared.layer.Awaited.{Awaited}
-use Rattle.sw_trigger.specs.Settings.{SettingsSeen}
-use Rattle.sw_trigger.specs.Agenda.{Item, Awaits, Close, Open, agenda}
+use Rattle.sw_verify.specs.Course.{CourseSeen}
+use Rattle.sw_trigger.specs.Agenda.{Item, Awaits, Close, Open}
 use Rattle.sw_verify.specs.Channels.{Channels, with_each, without_each}
 use Rattle.sw_verify.specs.Sound.{effect}
 use Rattle.sw_cage.specs.Accounts.{Accounts, is_closed}
@@ -31,7 +31,7 @@ drop_past (suc i) n (x ∷ l) = ap (λ (m : ℕ). drop m (x ∷ l)) (let e : suc
 -- ---- what is left closed at the end
 
 abbrev pub leaves : Accounts → ScanSeen → Channels
-leaves rack at = effect (is_closed rack) (drop at.index (agenda at.setup))
+leaves rack at = effect (is_closed rack) (drop at.index at.course.items)
 
 -- by the closings and openings at the front, and then by the rest
 effect_lead : (b : Channels) (l : List Item) → effect (effect b (leading_moves l)) (drop (length (leading_moves l)) l) ≡ effect b l
@@ -47,24 +47,24 @@ effect_first b (Awaits w ∷ l) x e = refl
 effect_first b (Close c ∷ l) x e = absurd (cc (e))
 effect_first b (Open c ∷ l) x e = absurd (cc (e))
 
-pub effect_next : (b : Channels) (s : SettingsSeen) (i : ℕ)
-    → effect (effect b (moves_from s i)) (drop (i + length (moves_from s i)) (agenda s)) ≡ effect b (drop i (agenda s))
+pub effect_next : (b : Channels) (s : CourseSeen) (i : ℕ)
+    → effect (effect b (moves_from s i)) (drop (i + length (moves_from s i)) s.items) ≡ effect b (drop i s.items)
 effect_next b s i =
-    ap (λ (l : List Item). effect (effect b (moves_from s i)) l) (drop_past i (length (moves_from s i)) (agenda s)) ∙ effect_lead b (drop i (agenda s))
+    ap (λ (l : List Item). effect (effect b (moves_from s i)) l) (drop_past i (length (moves_from s i)) s.items) ∙ effect_lead b (drop i s.items)
 
 -- ---- moves
 
 -- a scan stands at this place, by these settings, and would leave closed what these items do
-abbrev IsCome : Accounts → Channels → SettingsSeen → ℕ → ScanSeen → Type 0
-IsCome rack b s i at = (at.setup ≡ s) × (leaves rack at ≡ effect b (drop i (agenda s)))
+abbrev IsCome : Accounts → Channels → CourseSeen → ℕ → ScanSeen → Type 0
+IsCome rack b s i at = (at.course ≡ s) × (leaves rack at ≡ effect b (drop i s.items))
 
-come : (old mid new : Accounts) (s : SettingsSeen) (i : ℕ) (scan : Option ScanSeen) (at : ScanSeen) → Moved old (moves_from s i) mid
+come : (old mid new : Accounts) (s : CourseSeen) (i : ℕ) (scan : Option ScanSeen) (at : ScanSeen) → Moved old (moves_from s i) mid
     → is_closed new ≡ is_closed mid
     → scan ≡ Some (next_place s i) → scan ≡ Some at → IsCome new (is_closed old) s i at
 come old mid new s i scan at m e f g =
     let there : next_place s i ≡ at = let h = sym f ∙ g in cc (h) in
     let here : IsCome new (is_closed old) s i (next_place s i) =
-    (refl, ap (λ (b : Channels). effect b (drop (i + length (moves_from s i)) (agenda s))) (e ∙ fun_ext m.closed) ∙ effect_next (is_closed old) s i) in
+    (refl, ap (λ (b : Channels). effect b (drop (i + length (moves_from s i)) s.items)) (e ∙ fun_ext m.closed) ∙ effect_next (is_closed old) s i) in
     subst (λ (x : ScanSeen). IsCome new (is_closed old) s i x) there here
 
 bay_closed : (old new : Occupancy) → new ≡ old → is_closed new.cards ≡ is_closed old.cards
@@ -78,7 +78,7 @@ sent_closed old slot ticket job new h =
     ap (λ (x : Occupancy). is_closed x.cards) h.after ∙ fun_ext (closed_sent old.cards slot job.meter (omega (arith, b.0)) b.1 h.meter)
 
 -- where a scan comes to it leaves closed what it would have before
-pub leaves_goes : (old new : Occupancy) (number : ℕ) (s : SettingsSeen) (i : ℕ) (told : TakenSeen) (scan : Option ScanSeen) (at : ScanSeen)
+pub leaves_goes : (old new : Occupancy) (number : ℕ) (s : CourseSeen) (i : ℕ) (told : TakenSeen) (scan : Option ScanSeen) (at : ScanSeen)
     → AdvancesOrFails old number (moves_from s i) (next_place s i) told new scan → scan ≡ Some at → IsCome new.cards (is_closed old.cards) s i at
 leaves_goes old new number s i SaysFault scan at h e = absurd (let n = sym h.over ∙ e in cc (n))
 leaves_goes old new number s i SaysIgnored scan at h e = absurd h.arrives
@@ -94,7 +94,7 @@ leaves_goes old new number s i SaysEnded scan at h e = absurd (let n = sym h.arr
 
 -- a scan that runs then ran before, by the same settings, and would leave the same closed
 abbrev pub Holds : CageSeen → CageSeen → Type 0
-Holds p q = (at : ScanSeen) → q.scan ≡ Some at → (old : ScanSeen) × (p.scan ≡ Some old) × (at.setup ≡ old.setup) × (leaves q.cards at ≡ leaves p.cards old)
+Holds p q = (at : ScanSeen) → q.scan ≡ Some at → (old : ScanSeen) × (p.scan ≡ Some old) × (at.course ≡ old.course) × (leaves q.cards at ≡ leaves p.cards old)
 
 abbrev pub SameClosed : CageSeen → CageSeen → Type 0
 SameClosed p q = (c : Channel) → is_closed q.cards c ≡ is_closed p.cards c
@@ -103,23 +103,23 @@ pub same_rack : (p q : CageSeen) → q.cards ≡ p.cards → SameClosed p q
 same_rack p q e c = ap (λ (r : Accounts). is_closed r c) e
 
 pub holds_same : (p q : CageSeen) → q.scan ≡ p.scan → SameClosed p q → Holds p q
-holds_same p q e r at i = (at, sym e ∙ i, refl, ap (λ (b : Channels). effect b (drop at.index (agenda at.setup))) (fun_ext r))
+holds_same p q e r at i = (at, sym e ∙ i, refl, ap (λ (b : Channels). effect b (drop at.index at.course.items)) (fun_ext r))
 
 pub holds_none : (p q : CageSeen) → q.scan ≡ None → Holds p q
 holds_none p q e at i = absurd (let n = sym e ∙ i in cc (n))
 
 -- past what it awaits a scan would leave the same closed
 pub past_closed : (p from : CageSeen) (at : ScanSeen) (x : Awaited) → awaits at ≡ Some x → SameClosed p from
-    → effect (is_closed from.cards) (drop (at.index + 1) (agenda at.setup)) ≡ leaves p.cards at
+    → effect (is_closed from.cards) (drop (at.index + 1) at.course.items) ≡ leaves p.cards at
 past_closed p from at x e same =
-    ap (λ (b : Channels). effect b (drop (at.index + 1) (agenda at.setup))) (fun_ext same)
-    ∙ ap (λ (l : List Item). effect (is_closed p.cards) l) (drop_past at.index 1 (agenda at.setup))
-    ∙ effect_first (is_closed p.cards) (drop at.index (agenda at.setup)) x e
+    ap (λ (b : Channels). effect b (drop (at.index + 1) at.course.items)) (fun_ext same)
+    ∙ ap (λ (l : List Item). effect (is_closed p.cards) l) (drop_past at.index 1 at.course.items)
+    ∙ effect_first (is_closed p.cards) (drop at.index at.course.items) x e
 
 pub holds_goes : (p q from : CageSeen) (at : ScanSeen) (x : Awaited) (told : TakenSeen) → p.scan ≡ Some at → awaits at ≡ Some x → SameClosed p from
-    → Advances from at.setup (at.index + 1) told q → Holds p q
+    → Advances from at.course (at.index + 1) told q → Holds p q
 holds_goes p q from at x told is e same g new i =
-    let r = leaves_goes (occupancy_of from) (occupancy_of q) from.number at.setup (at.index + 1) told q.scan new g.runs i in
+    let r = leaves_goes (occupancy_of from) (occupancy_of q) from.number at.course (at.index + 1) told q.scan new g.runs i in
     (at, is, r.0, r.1 ∙ past_closed p from at x e same)
 
 pub holds_on : (p m q : CageSeen) → Holds p m → Holds m q → Holds p q

@@ -1,12 +1,13 @@
 -- A good mainframe stays good, and so is each event of a run.
 use Rattle.std.proofs.Common.{◌≡◌, ◌≢◌, ℕ, ◌==◌, ◌&&◌, ◌||◌, not, Bool, true, false, List, [], ◌∷◌, Option, None, Some, Result, Ok, Err, is_err, refl, sym, ◌∙◌}
-use Rattle.std.proofs.Common.{ap, subst, inl, inr, ◌⊎◌}
+use Rattle.std.proofs.Common.{ap, subst, length, inl, inr, ◌⊎◌}
 use Rattle.std.specs.Prelude.{MatchBool, decimal, OnErr, IfSome}
 use Rattle.sw_base.specs.declared.reading.Reading.{Reading}
 use Rattle.sw_card.specs.declared.board.CardFault.{CardFault}
 use Rattle.sw_lex.specs.declared.command.Command.TheVariants as command
 use Rattle.sw_trigger.specs.Settings.{SettingsSeen}
-use Rattle.sw_trigger.specs.Counts.{bound_of}
+use Rattle.sw_verify.specs.Course.{CourseSeen, course_of}
+use Rattle.sw_trigger.specs.Counts.{awaiting, bound_of}
 use Rattle.sw_cage.specs.Accounts.{Accounts}
 use Rattle.sw_cage.specs.Cage.{ScanSeen}
 use Rattle.sw_cage.specs.Change.{any_failed}
@@ -86,13 +87,13 @@ bound_step p q ask f answer sid available text e r h =
     bound_either ((p.events == last_number) && not (acts_unnumbered there)) p sid available f text q
     (subst (λ (y : AnswerSeen). Step p there f y q) r (subst (λ (x : AskSeen). Step p x f answer q) e h))
 
-by_settings : (scan : Option ScanSeen) (s : SettingsSeen) (at : ScanSeen) → IfSome scan (λ at. at.setup ≡ s) → scan ≡ Some at → at.setup ≡ s
-by_settings scan s at k e = subst (λ (o : Option ScanSeen). IfSome o (λ at. at.setup ≡ s)) e k
+by_course : (scan : Option ScanSeen) (s : CourseSeen) (at : ScanSeen) → IfSome scan (λ at. at.course ≡ s) → scan ≡ Some at → at.course ≡ s
+by_course scan s at k e = subst (λ (o : Option ScanSeen). IfSome o (λ at. at.course ≡ s)) e k
 
 tells_bound : (p : Panel) (e : Event) (f : Bool) → IsGoodPanel e.panel → Step p e.ask f e.answer e.panel → TellsBound e
 tells_bound p e f g h sid available text at asked told runs =
     bound_step p e.panel e.ask f e.answer sid available text asked told h
-    ∙ ap (λ (s : SettingsSeen). decimal (bound_of s)) (sym (by_settings e.panel.cage.scan e.panel.settings at g.settings runs))
+    ∙ ap (λ (s : CourseSeen). decimal (length (awaiting s.items))) (sym (by_course e.panel.cage.scan (course_of e.panel.settings) at g.settings runs))
 
 -- ---- a failure that is told was counted
 

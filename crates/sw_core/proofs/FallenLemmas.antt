@@ -12,6 +12,7 @@ use Rattle.sw_card.specs.Account.{Account, none_closed}
 use Rattle.sw_card.specs.declared.board.CardFault.{CardFault}
 use Rattle.sw_status.specs.StatusModel.{StatusSeen}
 use Rattle.sw_trigger.specs.Settings.{SettingsSeen}
+use Rattle.sw_verify.specs.Course.{CourseSeen, course_of}
 use Rattle.sw_verify.specs.declared.snapshot.Snapshot.{Snapshot}
 use Rattle.sw_cage.specs.Accounts.{Accounts, is_closed, all_open, option_rest}
 use Rattle.sw_cage.specs.Change.{identity}
@@ -101,7 +102,7 @@ reported p = record p { status = card_fault_reported p.status }
 abbrev cut : Panel → CageSeen → Panel
 cut p cage = record p { cage = record cage { scan = None }; status = card_fault_reported p.status }
 
-fallen_cage : (c d : CageSeen) (s : SettingsSeen) (i : ℕ) → Advances c s i SaysFault d
+fallen_cage : (c d : CageSeen) (s : CourseSeen) (i : ℕ) → Advances c s i SaysFault d
     → IsFailSafe c.cards d.cards × (d ≡ record c { cards = d.cards; scan = None })
 fallen_cage c d s i h =
     let bays : occupancy_of d ≡ occupancy_of (record c { cards = d.cards; scan = None }) =
@@ -113,7 +114,7 @@ fallen_cage c d s i h =
 fallen_past : (c d : CageSeen) (at : Option ScanSeen) → AdvancesPastFrom c at SaysFault d → IsFailSafe c.cards d.cards
     × (d ≡ record c { cards = d.cards; scan = None })
 fallen_past c d None h = absurd h
-fallen_past c d (Some at) h = fallen_cage c d at.setup (at.index + 1) h
+fallen_past c d (Some at) h = fallen_cage c d at.course (at.index + 1) h
 
 cut_falls : (p q : Panel) (c : CageSeen) → IsFailSafe c.cards q.cage.cards → q.cage ≡ record c { cards = q.cage.cards; scan = None }
     → q ≡ record p { cage = q.cage; status = card_fault_reported p.status } → Falls (cut p c) q
@@ -249,7 +250,7 @@ told_starts p plan SaysWaits q h = true_is_false h.0
 told_starts p plan (SaysPause t u) q h = true_is_false h.0
 told_starts p plan (SaysJob job) q h = true_is_false h.0
 told_starts p plan SaysEnded q h = true_is_false h.0
-told_starts p plan SaysFault q h = let d = fallen_cage (begun p.cage) q.cage p.settings 0 h.3 in (refl, cut_falls p q (begun p.cage) d.0 d.1 h.4)
+told_starts p plan SaysFault q h = let d = fallen_cage (begun p.cage) q.cage (course_of p.settings) 0 h.3 in (refl, cut_falls p q (begun p.cage) d.0 d.1 h.4)
 
 told_started : (p : Panel) (plan : Snapshot) (a : SessionAnswer) (w : Option WorkSeen) (q : Panel) → IsStarted p plan true a w q
     → IsToldFall (cut p (begun p.cage)) a w q

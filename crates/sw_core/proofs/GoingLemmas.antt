@@ -4,7 +4,7 @@ use Rattle.std.specs.Prelude.{if◌then◌else◌}
 use Rattle.sw_base.specs.declared.reading.Reading.{Reading}
 use Rattle.sw_card.specs.declared.board.CardFault.{CardFault}
 use Rattle.sw_card.specs.Account.{Account, MeterAccount, of_meter}
-use Rattle.sw_trigger.specs.Settings.{SettingsSeen}
+use Rattle.sw_verify.specs.Course.{CourseSeen, course_of}
 use Rattle.sw_trigger.specs.Agenda.{Item}
 use Rattle.sw_verify.specs.declared.snapshot.Snapshot.{Snapshot}
 use Rattle.sw_status.specs.StatusModel.{StatusSeen}
@@ -65,7 +65,7 @@ arrives_once old number at SaysWaits SaysWaits new new' scan scan' h k = (refl, 
 arrives_once old number at (SaysPause t u) (SaysPause t' u') new new' scan scan' h k =
     (pause_once t t' u u' (h.1 ∙ sym k.1) (some_eq u u' (sym h.0 ∙ k.0)), h.2 ∙ sym k.2, h.3 ∙ sym k.3)
 arrives_once old number at (SaysJob j) (SaysJob j') new new' scan scan' h k = let s =
-    sent_once old at.setup.meter (ticket_of number at) j j' new new' h.1 k.1 in (ap SaysJob s.0, s.1, h.2 ∙ sym k.2)
+    sent_once old at.course.meter (ticket_of number at) j j' new new' h.1 k.1 in (ap SaysJob s.0, s.1, h.2 ∙ sym k.2)
 arrives_once old number at SaysEnded SaysEnded new new' scan scan' h k = (refl, h.1 ∙ sym k.1, h.2 ∙ sym k.2)
 arrives_once old number at SaysWaits (SaysPause t' u') new new' scan scan' h k = absurd (let e = sym (ap lasting h.0.1) ∙ k.0 in cc (e))
 arrives_once old number at SaysWaits (SaysJob j') new new' scan scan' h k = absurd (let e = sym h.0.1 ∙ k.0 in cc (e))
@@ -98,7 +98,7 @@ lands old number moves at (SaysPause ticket micros) new scan n h = h
 lands old number moves at (SaysJob job) new scan n h = h
 lands old number moves at SaysEnded new scan n h = h
 
-pub goes_once : (p q q' : CageSeen) (s : SettingsSeen) (i : ℕ) (told told' : TakenSeen) → Advances p s i told q → Advances p s i told' q' → told ≢ SaysFault
+pub goes_once : (p q q' : CageSeen) (s : CourseSeen) (i : ℕ) (told told' : TakenSeen) → Advances p s i told q → Advances p s i told' q' → told ≢ SaysFault
     → told' ≢ SaysFault → (told ≡ told') × (q ≡ q')
 goes_once p q q' s i told told' h k n m =
     let r = lands_once (occupancy_of p) p.number (moves_from s i) (next_place s i) told told' (occupancy_of q) (occupancy_of q') q.scan q'.scan
@@ -108,7 +108,7 @@ goes_once p q q' s i told told' h k n m =
 past_once : (p q q' : CageSeen) (scan : Option ScanSeen) (told told' : TakenSeen) → AdvancesPastFrom p scan told q → AdvancesPastFrom p scan told' q'
     → told ≢ SaysFault → told' ≢ SaysFault → (told ≡ told') × (q ≡ q')
 past_once p q q' None told told' h k n m = absurd h
-past_once p q q' (Some at) told told' h k n m = goes_once p q q' at.setup (at.index + 1) told told' h k n m
+past_once p q q' (Some at) told told' h k n m = goes_once p q q' at.course (at.index + 1) told told' h k n m
 
 abbrev pub told_cage : Panel → CageSeen → StatusSeen → Panel
 told_cage p c s = record p { cage = c; status = s }
@@ -184,5 +184,5 @@ returns_once p q q' done f f' told told' h k n m = elim (returns_as p done f tol
 pub starts_once : (p q q' : Panel) (plan : Snapshot) (f f' : Bool) (told told' : TakenSeen) → Starts p plan f told q → Starts p plan f' told' q'
     → told ≢ SaysFault → told' ≢ SaysFault → (told ≡ told') × (q ≡ q')
 starts_once p q q' plan f f' told told' h k n m =
-    let r = goes_once (begun p.cage) q.cage q'.cage p.settings 0 told told' h.3 k.3 n m in
+    let r = goes_once (begun p.cage) q.cage q'.cage (course_of p.settings) 0 told told' h.3 k.3 n m in
     (r.0, reported p q q' told told' (card_fault_cleared p.status) r.0 r.1 h.4 k.4)

@@ -2,6 +2,7 @@
 use Rattle.std.proofs.Common.{subst, ◌≡◌, Option, None, Some, refl, sym, ◌∙◌, ap, Result, Ok, Err, inl, inr}
 use Rattle.std.specs.Prelude.{if◌then◌else◌}
 use Rattle.sw_status.specs.StatusModel.{StatusSeen}
+use Rattle.sw_verify.specs.Course.{course_of}
 use Rattle.sw_cage.specs.Change.{any_failed}
 use Rattle.sw_cage.specs.Cage.{ScanSeen, CageSeen}
 use Rattle.sw_base.specs.declared.error.ScpiError.{ScpiError}
@@ -117,7 +118,7 @@ return_answered p done told cage s answer out h e =
 
 -- the scan of a plan began, by what the cage told
 pub started : (p : Panel) (plan : Snapshot) (told : TakenSeen) (cage : CageSeen) (s : StatusSeen) → MayScan p → plan ≡ snapshot_of p → IsReady plan
-    → Advances (begun p.cage) p.settings 0 told cage → s ≡ (if tells_fault told then card_fault_reported p.status else card_fault_cleared p.status)
+    → Advances (begun p.cage) (course_of p.settings) 0 told cage → s ≡ (if tells_fault told then card_fault_reported p.status else card_fault_cleared p.status)
     → StepStart p plan (any_failed p.cage.cards cage.cards) (started_answer told) (work_of told) (record p { cage = cage; status = s })
 started p plan SaysIgnored cage s may same ready goes e = absurd goes.runs.arrives
 started p plan SaysWaits cage s may same ready goes e =
@@ -125,7 +126,7 @@ started p plan SaysWaits cage s may same ready goes e =
       may = may;
       told = SaysWaits;
       starts = (
-        failed_goes (begun p.cage) cage p.settings 0 (SaysWaits) goes,
+        failed_goes (begun p.cage) cage (course_of p.settings) 0 (SaysWaits) goes,
         same,
         ready,
         goes,
@@ -139,7 +140,7 @@ started p plan (SaysPause ticket micros) cage s may same ready goes e =
       may = may;
       told = SaysPause ticket micros;
       starts = (
-        failed_goes (begun p.cage) cage p.settings 0 (SaysPause ticket micros) goes,
+        failed_goes (begun p.cage) cage (course_of p.settings) 0 (SaysPause ticket micros) goes,
         same,
         ready,
         goes,
@@ -153,7 +154,7 @@ started p plan (SaysJob job) cage s may same ready goes e =
       may = may;
       told = SaysJob job;
       starts = (
-        failed_goes (begun p.cage) cage p.settings 0 (SaysJob job) goes,
+        failed_goes (begun p.cage) cage (course_of p.settings) 0 (SaysJob job) goes,
         same,
         ready,
         goes,
@@ -167,7 +168,7 @@ started p plan SaysEnded cage s may same ready goes e =
       may = may;
       told = SaysEnded;
       starts = (
-        failed_goes (begun p.cage) cage p.settings 0 (SaysEnded) goes,
+        failed_goes (begun p.cage) cage (course_of p.settings) 0 (SaysEnded) goes,
         same,
         ready,
         goes,
@@ -181,7 +182,7 @@ started p plan SaysFault cage s may same ready goes e =
       may = may;
       told = SaysFault;
       starts = (
-        failed_goes (begun p.cage) cage p.settings 0 (SaysFault) goes,
+        failed_goes (begun p.cage) cage (course_of p.settings) 0 (SaysFault) goes,
         same,
         ready,
         goes,

@@ -9,6 +9,7 @@ use Rattle.sw_trigger.specs.Settings.{SettingsSeen, IsInRange}
 use Rattle.sw_trigger.proofs.Ranges.{layer_range, range_layer}
 use Rattle.sw_status.specs.StatusModel.{StatusSeen, IsStatus, registers_of, with_group}
 use Rattle.sw_cage.specs.Accounts.{all_open}
+use Rattle.sw_verify.specs.Course.{CourseSeen, course_of}
 use Rattle.sw_cage.specs.Cage.{CageSeen, ScanSeen, safe_state}
 use Rattle.sw_cage.specs.Good.{IsRunning}
 use Rattle.sw_cage.proofs.SlotChangeLemmas.{is_none, all_open_closed, exclusive_none}
@@ -29,15 +30,18 @@ use Rattle.sw_core.specs.Registers.{card_fault_reported, card_fault_cleared}
 pub record IsFine (p : Panel) : Type 0 where
   pub cage : IsKept p.cage
   pub range : IsInRange p.settings
-  pub settings : IfSome p.cage.scan (λ at. at.setup ≡ p.settings)
+  pub settings : IfSome p.cage.scan (λ at. at.course ≡ course_of p.settings)
   pub status : IsStatus p.status
 
 -- what IsFine says of the settings
-abbrev pub GoesBy : Option ScanSeen → SettingsSeen → Type 0
-GoesBy scan s = IfSome scan (λ at. at.setup ≡ s)
+abbrev pub KeepsTo : Option ScanSeen → CourseSeen → Type 0
+KeepsTo scan course = IfSome scan (λ at. at.course ≡ course)
 
-pub by_none : (scan : Option ScanSeen) (s : SettingsSeen) → scan ≡ None → GoesBy scan s
-by_none scan s e = subst (λ (o : Option ScanSeen). GoesBy o s) (sym e) tt
+abbrev pub GoesBy : Option ScanSeen → SettingsSeen → Type 0
+GoesBy scan s = KeepsTo scan (course_of s)
+
+pub by_none : (scan : Option ScanSeen) (course : CourseSeen) → scan ≡ None → KeepsTo scan course
+by_none scan course e = subst (λ (o : Option ScanSeen). KeepsTo o course) (sym e) tt
 
 pub fine_as : (p q : Panel) → q.cage ≡ p.cage → q.settings ≡ p.settings → IsStatus q.status → IsFine p → IsFine q
 fine_as p q c s u k = record {

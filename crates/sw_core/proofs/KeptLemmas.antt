@@ -14,6 +14,7 @@ use Rattle.sw_trigger.specs.Counts.{reads}
 use Rattle.sw_verify.specs.Check.{IsReady}
 use Rattle.sw_verify.specs.Channels.{Channels, none}
 use Rattle.sw_verify.specs.Sound.{AllRight, effect}
+use Rattle.sw_verify.specs.Course.{CourseSeen, course_of}
 use Rattle.sw_verify.specs.declared.snapshot.Snapshot.{Snapshot}
 use Rattle.sw_verify.proofs.Throughout.{exclusive_throughout}
 use Rattle.sw_cage.specs.Accounts.{Accounts, layout_of, slot_contents, is_closed, all_open}
@@ -115,29 +116,29 @@ exclusive_in bays out h b e =
 exclusive_same : (layout : Layout) (b b' : Channels) → ((x : Channel) → b' x ≡ b x) → IsExclusive layout b → IsExclusive layout b'
 exclusive_same layout b b' s e = record { present = λ x c. e.present x (sym (s x) ∙ c); apart = λ x y c d k. e.apart x y (sym (s x) ∙ c) (sym (s y) ∙ d) k }
 
-exclusive_moved : (c : CageSeen) (s : SettingsSeen) (i : ℕ) (rack : Accounts) → IsHeld c → CanGo c s i → IsExclusive (layout_of c.cards) (is_closed c.cards)
+exclusive_moved : (c : CageSeen) (s : CourseSeen) (i : ℕ) (rack : Accounts) → IsHeld c → CanGo c s i → IsExclusive (layout_of c.cards) (is_closed c.cards)
     → Moved c.cards (moves_from s i) rack → IsExclusive (layout_of rack) (is_closed rack)
 exclusive_moved c s i rack held go e m =
-    let right : AllRight (cage_layout c) (is_closed c.cards) (effect none (take i (agenda s))) (drop i (agenda s)) =
+    let right : AllRight (cage_layout c) (is_closed c.cards) (effect none (take i s.items)) (drop i s.items) =
     right_here (cage_layout c) (is_closed c.cards) s i go.way in
     let start : IsExclusive (cage_layout c) (is_closed c.cards) = exclusive_out (layout_of c.cards) c.out (lengths c held) (is_closed c.cards) e in
-    let along = exclusive_throughout (cage_layout c) (is_closed c.cards) (effect none (take i (agenda s))) (drop i (agenda s)) right start
+    let along = exclusive_throughout (cage_layout c) (is_closed c.cards) (effect none (take i s.items)) (drop i s.items) right start
     (length (moves_from s i)) in
     let there : IsExclusive (cage_layout c) (effect (is_closed c.cards) (moves_from s i)) =
-    subst (λ (l : List Item). IsExclusive (cage_layout c) (effect (is_closed c.cards) l)) (leading_front (drop i (agenda s))) along in
+    subst (λ (l : List Item). IsExclusive (cage_layout c) (effect (is_closed c.cards) l)) (leading_front (drop i s.items)) along in
     let here : IsExclusive (layout_of c.cards) (is_closed rack) =
     exclusive_same (layout_of c.cards) (effect (is_closed c.cards) (moves_from s i)) (is_closed rack) m.closed
     (exclusive_in (layout_of c.cards) c.out (lengths c held) (effect (is_closed c.cards) (moves_from s i)) there) in
     subst (λ (l : Layout). IsExclusive l (is_closed rack)) (sym (moved_layout c.cards rack (moves_from s i) m)) here
 
 -- what a scan begins or goes on from
-pub record CanSet (c : CageSeen) (s : SettingsSeen) (i : ℕ) : Type 0 where
+pub record CanSet (c : CageSeen) (s : CourseSeen) (i : ℕ) : Type 0 where
   pub held : IsHeld c
   pub go : CanGo c s i
   pub safe : IsExclusive (layout_of c.cards) (is_closed c.cards)
   pub few : IsFew c.cards
 
-safe_lands : (c q : CageSeen) (s : SettingsSeen) (i : ℕ) (told : TakenSeen) → CanSet c s i
+safe_lands : (c q : CageSeen) (s : CourseSeen) (i : ℕ) (told : TakenSeen) → CanSet c s i
     → (l : Reaches (occupancy_of c) c.number (moves_from s i) (next_place s i) told (occupancy_of q) q.scan) → (q.cards ≡ l.cards)
     ⊎ (q.cards ≡ slice_set l.cards (s.meter - 1) None) → IsExclusive (layout_of q.cards) (is_closed q.cards) × IsFew q.cards
 safe_lands c q s i told k l spot =
@@ -150,11 +151,11 @@ safe_lands c q s i told k l spot =
       | inr e ↦ (
         subst (λ (r : Accounts). IsExclusive (layout_of r) (is_closed r)) (sym e) (exclusive_quiet l.cards s.meter None (omega (
           arith,
-          k.go.range.meter.0,
-        )) (omega (arith, k.go.range.meter.1, size)) (λ n. refl) safe),
-        subst (λ (r : Accounts). IsFew r) (sym e) (few_set l.cards s.meter None (omega (arith, k.go.range.meter.0)) (omega (
+          k.go.slot_in.0,
+        )) (omega (arith, k.go.slot_in.1, size)) (λ n. refl) safe),
+        subst (λ (r : Accounts). IsFew r) (sym e) (few_set l.cards s.meter None (omega (arith, k.go.slot_in.0)) (omega (
           arith,
-          k.go.range.meter.1,
+          k.go.slot_in.1,
           size,
         )) tt few),
       )
@@ -163,7 +164,7 @@ safe_lands c q s i told k l spot =
 bay_rack : (b d : Occupancy) → b ≡ d → b.cards ≡ d.cards
 bay_rack b d e = ap (λ (x : Occupancy). x.cards) e
 
-safe_goes : (c q : CageSeen) (s : SettingsSeen) (i : ℕ) (told : TakenSeen) → CanSet c s i → Advances c s i told q
+safe_goes : (c q : CageSeen) (s : CourseSeen) (i : ℕ) (told : TakenSeen) → CanSet c s i → Advances c s i told q
     → IsExclusive (layout_of q.cards) (is_closed q.cards)
     × IsFew q.cards
 safe_goes c q s i SaysIgnored k h = absurd h.runs.arrives
@@ -174,12 +175,12 @@ safe_goes c q s i SaysEnded k h = safe_lands c q s i SaysEnded k h.runs (inl (ba
 safe_goes c q s i SaysFault k h =
     (exclusive_none (layout_of q.cards) (is_closed q.cards) h.runs.fallen.none, few_plates c.cards q.cards h.runs.fallen.cards k.few)
 
-pub kept_goes : (c q : CageSeen) (s : SettingsSeen) (i : ℕ) (told : TakenSeen) → CanSet c s i → Advances c s i told q → IsKept q
+pub kept_goes : (c q : CageSeen) (s : CourseSeen) (i : ℕ) (told : TakenSeen) → CanSet c s i → Advances c s i told q → IsKept q
 kept_goes c q s i told k h = let r = safe_goes c q s i told k h in record { good = good_goes c q s i told k.held k.go h; safe = r.0; few = r.1 }
 
 -- ---- happenings
 
-other_if : (at : ScanSeen) (o : Option Awaited) (t : Ticket) (h : Happening) → awaits at ≡ o → TakesIf at.setup t o h → AwaitsOther (Some at)
+other_if : (at : ScanSeen) (o : Option Awaited) (t : Ticket) (h : Happening) → awaits at ≡ o → TakesIf at.course t o h → AwaitsOther (Some at)
 other_if at None t h e k = absurd k
 other_if at (Some (Wait name)) t h e k = (Wait name, (e, refl))
 other_if at (Some (Period name u)) t h e k = (Period name u, (e, refl))
@@ -187,15 +188,15 @@ other_if at (Some (Pause u)) t h e k = (Pause u, (e, refl))
 other_if at (Some Read) t h e k = absurd k
 
 -- with room for its readings
-has_room : (c : CageSeen) (at : ScanSeen) → IsGood c → c.scan ≡ Some at → HasKept c (reads (agenda at.setup))
-has_room c at g e = record { good = g; room = subst (λ (o : Option ScanSeen). HasRoom o (reads (agenda at.setup))) (sym e) (omega arith) }
+has_room : (c : CageSeen) (at : ScanSeen) → IsGood c → c.scan ≡ Some at → HasKept c (reads at.course.items)
+has_room c at g e = record { good = g; room = subst (λ (o : Option ScanSeen). HasRoom o (reads at.course.items)) (sym e) (omega arith) }
 
 kept_past_at : (c q : CageSeen) (scan : Option ScanSeen) (h : Happening) (told : TakenSeen) → IsKept c → c.scan ≡ scan → Takes (record c { scan = scan }) h
     → AdvancesPastFrom c scan told q → IsKept q
 kept_past_at c q None h told k e t g = absurd g
 kept_past_at c q (Some at) h told k e t g =
-    let go = go_other c at (reads (agenda at.setup)) (has_room c at k.good e) e (other_if at (awaits at) (ticket_of c.number at) h refl t) in
-    kept_goes c q at.setup (at.index + 1) told (record { held = k.good.held; go = go; safe = k.safe; few = k.few }) g
+    let go = go_other c at (reads at.course.items) (has_room c at k.good e) e (other_if at (awaits at) (ticket_of c.number at) h refl t) in
+    kept_goes c q at.course (at.index + 1) told (record { held = k.good.held; go = go; safe = k.safe; few = k.few }) g
 
 pub kept_past : (c q : CageSeen) (h : Happening) (told : TakenSeen) → IsKept c → Takes c h → AdvancesPast c told q → IsKept q
 kept_past c q h told k t g = kept_past_at c q c.scan h told k refl t g
@@ -220,7 +221,7 @@ room_any c g = room_some c c.scan g refl
   where
     room_some : (c : CageSeen) (scan : Option ScanSeen) → IsGood c → c.scan ≡ scan → (room : ℕ) × HasKept c room
     room_some c None g e = (0, record { good = g; room = subst (λ (o : Option ScanSeen). HasRoom o 0) (sym e) tt })
-    room_some c (Some at) g e = (reads (agenda at.setup), has_room c at g e)
+    room_some c (Some at) g e = (reads at.course.items, has_room c at g e)
 
 pub kept_late : (c : CageSeen) (done : FinishedSeen) → IsKept c → slot_at c.out done.slot ≡ Some done.ticket → (TakesReturn c done.slot done.ticket → ⊥)
     → IsKept (with_back c done)
@@ -236,8 +237,8 @@ kept_counted_at : (c q : CageSeen) (scan : Option ScanSeen) (done : FinishedSeen
 kept_counted_at c q None done outcome told k e out t h = absurd t
 kept_counted_at c q (Some at) done (Ok r) told k e out t h =
     let b = slot_of c done k out in
-    let x = counted c at done.slot done.ticket done.meter r _ _ _ (reads (agenda at.setup)) (has_room c at k.good e) e t out refl refl refl in
-    kept_goes (record (with_back c done) { readings = c.readings ++ r ∷ []; scan = c.scan }) q at.setup (at.index + 1) told (record {
+    let x = counted c at done.slot done.ticket done.meter r _ _ _ (reads at.course.items) (has_room c at k.good e) e t out refl refl refl in
+    kept_goes (record (with_back c done) { readings = c.readings ++ r ∷ []; scan = c.scan }) q at.course (at.index + 1) told (record {
       held = x.held;
       go = x.go;
       safe = back_safe c done k b;
@@ -274,9 +275,8 @@ inside c k x h =
     (omega (arith, slot.0), omega (arith, slot.1, k.good.held.slots), ch.0, ch.1)
 
 pub kept_begun : (c q : CageSeen) (s : SettingsSeen) (plan : Snapshot) (told : TakenSeen) → IsKept c → slot_at c.out s.meter ≡ None → IsInRange s → IsReady plan
-    → plan ≡ record { settings = s; layout = cage_layout c; closed = closed_list c.cards } → Advances (begun c) s 0 told q → IsKept q
+    → plan ≡ record { settings = s; layout = cage_layout c; closed = closed_list c.cards } → Advances (begun c) (course_of s) 0 told q → IsKept q
 kept_begun c q s plan told k home range ready is h =
     let sure : IsReady (record { settings = s; layout = cage_layout c; closed = closed_list c.cards }) = subst (λ (x : Snapshot). IsReady x) is ready in
-    let x = begins c s (cage_layout c) (closed_list c.cards) (c.number + 1) [] k.good.held sure.listed range home sure.measured sure.sound refl refl
-    (inside c k) refl refl in
-    kept_goes (begun c) q s 0 told (record { held = x.held; go = x.go; safe = k.safe; few = k.few }) h
+    let x = begins c (course_of s) (c.number + 1) [] k.good.held range.meter home sure.measured sure.sound (inside c k) refl refl in
+    kept_goes (begun c) q (course_of s) 0 told (record { held = x.held; go = x.go; safe = k.safe; few = k.few }) h

@@ -55,6 +55,7 @@ use Rattle.sw_core.proofs.KeptLemmas.{IsKept, few_set, kept_rack, kept_past, kep
 use Rattle.std.proofs.Common.{Result, Ok, Err, ◌+◌}
 use Rattle.sw_card.specs.declared.board.CardFault.{CardFault}
 use Rattle.sw_base.specs.declared.terms.StatusGroup.TheVariants.{Operation}
+use Rattle.sw_verify.specs.Course.{CourseSeen, course_of}
 use Rattle.sw_cage.specs.Advance.{next_place}
 use Rattle.sw_cage.specs.Takes.{awaited_now}
 use Rattle.sw_cage.specs.TakenSeen.{tells_fault}
@@ -64,7 +65,7 @@ use Rattle.sw_core.specs.Registers.{card_fault_reported, card_fault_cleared}
 use Rattle.sw_core.specs.Sessions.{with_seat, fresh_seat}
 use Rattle.sw_core.specs.Event.{ended, erred, completed, with_operation, awaited_bits, next_number}
 use Rattle.sw_trigger.proofs.Ranges.{reset_range}
-use Rattle.sw_core.proofs.HarmlessLemmas.{IsFine, GoesBy, by_none, fine_is, none_of, told_group, reported_status, cleared_status, fallen_all}
+use Rattle.sw_core.proofs.HarmlessLemmas.{IsFine, KeepsTo, GoesBy, by_none, fine_is, none_of, told_group, reported_status, cleared_status, fallen_all}
 use Rattle.sw_core.proofs.HarmlessLemmas.{dropped, IsHarmless, IsHarmlessAction, harmless}
 
 -- ---- commands
@@ -142,7 +143,7 @@ setting_fine p Fits error setup f (Done None) q k i r h =
     fine_is (record p { settings = setup }) q h.2 (record {
       cage = k.cage;
       range = r h.1 k.range;
-      settings = by_none p.cage.scan setup (none_of p i);
+      settings = by_none p.cage.scan (course_of setup) (none_of p i);
       status = k.status;
     })
 setting_fine p Fits error setup f (Refused e) q k i r h = fine_is p q h.3 k
@@ -183,10 +184,10 @@ alone_fine (Triggers happening error) p f a q k n h = absurd h
 -- ---- scans
 
 -- a scan goes on by its settings
-by_place : (s : SettingsSeen) (i : ℕ) (scan : Option ScanSeen) → scan ≡ Some (next_place s i) → GoesBy scan s
-by_place s i scan e = subst (λ (o : Option ScanSeen). GoesBy o s) (sym e) refl
+by_place : (s : CourseSeen) (i : ℕ) (scan : Option ScanSeen) → scan ≡ Some (next_place s i) → KeepsTo scan s
+by_place s i scan e = subst (λ (o : Option ScanSeen). KeepsTo o s) (sym e) refl
 
-by_goes : (c q : CageSeen) (s : SettingsSeen) (i : ℕ) (told : TakenSeen) → Advances c s i told q → GoesBy q.scan s
+by_goes : (c q : CageSeen) (s : CourseSeen) (i : ℕ) (told : TakenSeen) → Advances c s i told q → KeepsTo q.scan s
 by_goes c q s i SaysIgnored g = absurd g.runs.arrives
 by_goes c q s i SaysWaits g = by_place s i q.scan g.runs.arrives.2
 by_goes c q s i (SaysPause t u) g = by_place s i q.scan g.runs.arrives.3
@@ -194,12 +195,12 @@ by_goes c q s i (SaysJob job) g = by_place s i q.scan g.runs.arrives.2
 by_goes c q s i SaysEnded g = by_none q.scan s g.runs.arrives.2
 by_goes c q s i SaysFault g = by_none q.scan s g.runs.over
 
-by_past : (c q : CageSeen) (scan : Option ScanSeen) (s : SettingsSeen) (told : TakenSeen) → GoesBy scan s → AdvancesPastFrom c scan told q → GoesBy q.scan s
+by_past : (c q : CageSeen) (scan : Option ScanSeen) (s : CourseSeen) (told : TakenSeen) → KeepsTo scan s → AdvancesPastFrom c scan told q → KeepsTo q.scan s
 by_past c q None s told k g = absurd g
-by_past c q (Some at) s told k g = subst (λ (x : SettingsSeen). GoesBy q.scan x) k (by_goes c q at.setup (at.index + 1) told g)
+by_past c q (Some at) s told k g = subst (λ (x : CourseSeen). KeepsTo q.scan x) k (by_goes c q at.course (at.index + 1) told g)
 
-by_counts : (c q : CageSeen) (outcome : Result Reading CardFault) (s : SettingsSeen) (told : TakenSeen) → GoesBy c.scan s → Counts c outcome told q
-    → GoesBy q.scan s
+by_counts : (c q : CageSeen) (outcome : Result Reading CardFault) (s : CourseSeen) (told : TakenSeen) → KeepsTo c.scan s → Counts c outcome told q
+    → KeepsTo q.scan s
 by_counts c q (Ok r) s told k g = by_past (with_reading c r) q c.scan s told k g
 by_counts c q (Err e) s told k g = by_none q.scan s (ap (λ (x : CageSeen). x.scan) g.1)
 
@@ -219,19 +220,19 @@ happens_fine : (p : Panel) (happening : Happening) (f : Bool) (told : TakenSeen)
 happens_fine p happening f SaysIgnored q k h = fine_is p q h.2 k
 happens_fine p happening f SaysWaits q k h =
     reported_fine p q SaysWaits k (kept_past p.cage q.cage happening SaysWaits k.cage h.0 h.1)
-    (by_past p.cage q.cage p.cage.scan p.settings SaysWaits k.settings h.1) h.2.1
+    (by_past p.cage q.cage p.cage.scan (course_of p.settings) SaysWaits k.settings h.1) h.2.1
 happens_fine p happening f (SaysPause t u) q k h =
     reported_fine p q (SaysPause t u) k (kept_past p.cage q.cage happening (SaysPause t u) k.cage h.0 h.1)
-    (by_past p.cage q.cage p.cage.scan p.settings (SaysPause t u) k.settings h.1) h.2.1
+    (by_past p.cage q.cage p.cage.scan (course_of p.settings) (SaysPause t u) k.settings h.1) h.2.1
 happens_fine p happening f (SaysJob job) q k h =
     reported_fine p q (SaysJob job) k (kept_past p.cage q.cage happening (SaysJob job) k.cage h.0 h.1)
-    (by_past p.cage q.cage p.cage.scan p.settings (SaysJob job) k.settings h.1) h.2.1
+    (by_past p.cage q.cage p.cage.scan (course_of p.settings) (SaysJob job) k.settings h.1) h.2.1
 happens_fine p happening f SaysEnded q k h =
     reported_fine p q SaysEnded k (kept_past p.cage q.cage happening SaysEnded k.cage h.0 h.1)
-    (by_past p.cage q.cage p.cage.scan p.settings SaysEnded k.settings h.1) h.2.1
+    (by_past p.cage q.cage p.cage.scan (course_of p.settings) SaysEnded k.settings h.1) h.2.1
 happens_fine p happening f SaysFault q k h =
     reported_fine p q SaysFault k (kept_past p.cage q.cage happening SaysFault k.cage h.0 h.1)
-    (by_past p.cage q.cage p.cage.scan p.settings SaysFault k.settings h.1) h.2.1
+    (by_past p.cage q.cage p.cage.scan (course_of p.settings) SaysFault k.settings h.1) h.2.1
 
 returns_fine : (p : Panel) (done : FinishedSeen) (f : Bool) (told : TakenSeen) (q : Panel) → IsFine p → IsOut p done → Returns p done f told q → IsFine q
 returns_fine p done f SaysIgnored q k out h =
@@ -243,19 +244,19 @@ returns_fine p done f SaysIgnored q k out h =
     })
 returns_fine p done f SaysWaits q k out h =
     reported_fine p q SaysWaits k (kept_counted p.cage q.cage done SaysWaits k.cage out h.0 h.1)
-    (by_counts (with_back p.cage done) q.cage done.outcome p.settings SaysWaits k.settings h.1) h.2.1
+    (by_counts (with_back p.cage done) q.cage done.outcome (course_of p.settings) SaysWaits k.settings h.1) h.2.1
 returns_fine p done f (SaysPause t u) q k out h =
     reported_fine p q (SaysPause t u) k (kept_counted p.cage q.cage done (SaysPause t u) k.cage out h.0 h.1)
-    (by_counts (with_back p.cage done) q.cage done.outcome p.settings (SaysPause t u) k.settings h.1) h.2.1
+    (by_counts (with_back p.cage done) q.cage done.outcome (course_of p.settings) (SaysPause t u) k.settings h.1) h.2.1
 returns_fine p done f (SaysJob job) q k out h =
     reported_fine p q (SaysJob job) k (kept_counted p.cage q.cage done (SaysJob job) k.cage out h.0 h.1)
-    (by_counts (with_back p.cage done) q.cage done.outcome p.settings (SaysJob job) k.settings h.1) h.2.1
+    (by_counts (with_back p.cage done) q.cage done.outcome (course_of p.settings) (SaysJob job) k.settings h.1) h.2.1
 returns_fine p done f SaysEnded q k out h =
     reported_fine p q SaysEnded k (kept_counted p.cage q.cage done SaysEnded k.cage out h.0 h.1)
-    (by_counts (with_back p.cage done) q.cage done.outcome p.settings SaysEnded k.settings h.1) h.2.1
+    (by_counts (with_back p.cage done) q.cage done.outcome (course_of p.settings) SaysEnded k.settings h.1) h.2.1
 returns_fine p done f SaysFault q k out h =
     reported_fine p q SaysFault k (kept_counted p.cage q.cage done SaysFault k.cage out h.0 h.1)
-    (by_counts (with_back p.cage done) q.cage done.outcome p.settings SaysFault k.settings h.1) h.2.1
+    (by_counts (with_back p.cage done) q.cage done.outcome (course_of p.settings) SaysFault k.settings h.1) h.2.1
 
 starts_fine : (p : Panel) (plan : Snapshot) (f : Bool) (told : TakenSeen) (q : Panel) → IsFine p → MayScan p → Starts p plan f told q → IsFine q
 starts_fine p plan f told q k may h =
@@ -263,7 +264,7 @@ starts_fine p plan f told q k may h =
     let u : IsStatus s = status_if (tells_fault told) _ _ (reported_status p.status k.status) (cleared_status p.status k.status) in
     let next : Panel = record p { cage = q.cage; status = s } in
     let c : IsKept q.cage = kept_begun p.cage q.cage p.settings plan told k.cage (is_none (slot_at p.cage.out p.settings.meter) may.home) k.range h.2 h.1 h.3 in
-    fine_is next q h.4 (record { cage = c; range = k.range; settings = by_goes (begun p.cage) q.cage p.settings 0 told h.3; status = u })
+    fine_is next q h.4 (record { cage = c; range = k.range; settings = by_goes (begun p.cage) q.cage (course_of p.settings) 0 told h.3; status = u })
 
 effect_fine : (d : Effect) (p : Panel) (f : Bool) (a : SessionAnswer) (w : Option WorkSeen) (q : Panel) → IsFine p → IsHarmless p d → StepEffect d p f a w q
     → IsFine q
@@ -433,7 +434,7 @@ acts_fine p (AskEject slot) f (SaysEjected card) q k h =
     fine_is (record p { cage = without_card (stopped p.cage) slot; status = card_fault_cleared p.status }) q h.3 (record {
       cage = c;
       range = k.range;
-      settings = by_none (stopped p.cage).scan p.settings s.1;
+      settings = by_none (stopped p.cage).scan (course_of p.settings) s.1;
       status = cleared_status p.status k.status;
     })
 acts_fine p (AskEject slot) f (SaysNotEjected refusal) q k h = fine_is p q h.2 k

@@ -6,11 +6,12 @@ use Rattle.std.proofs.lemmas.List.{take-append-drop}
 use mathlib.Core.Path.{fun_ext}
 use Rattle.sw_trigger.specs.declared.layer.Awaited.{Awaited}
 use Rattle.sw_trigger.specs.Settings.{SettingsSeen}
-use Rattle.sw_trigger.specs.Agenda.{agenda}
+use Rattle.sw_trigger.specs.Agenda.{Item, agenda}
 use Rattle.sw_trigger.specs.Counts.{awaiting, bound_of, reads}
 use Rattle.sw_verify.specs.declared.snapshot.Snapshot.{Snapshot}
 use Rattle.sw_verify.specs.Channels.{Channels, is_among}
 use Rattle.sw_verify.specs.Sound.{effect}
+use Rattle.sw_verify.specs.Course.{CourseSeen, course_of}
 use Rattle.sw_verify.proofs.Round.{effect-append}
 use Rattle.sw_cage.specs.Accounts.{is_closed}
 use Rattle.sw_cage.specs.Channels.{closed_list}
@@ -78,8 +79,8 @@ near_run p (e ∷ events) k r n =
 -- ---- a scan begins
 
 -- a scan that begins awaits all of its agenda
-left_started : (old new : Occupancy) (number : ℕ) (s : SettingsSeen) (i : ℕ) (told : TakenSeen) (scan : Option ScanSeen) → started_answer told ≡ Done None
-    → AdvancesOrFails old number (moves_from s i) (next_place s i) told new scan → left_of scan ≡ length (awaiting (drop i (agenda s)))
+left_started : (old new : Occupancy) (number : ℕ) (s : CourseSeen) (i : ℕ) (told : TakenSeen) (scan : Option ScanSeen) → started_answer told ≡ Done None
+    → AdvancesOrFails old number (moves_from s i) (next_place s i) told new scan → left_of scan ≡ length (awaiting (drop i s.items))
 left_started old new number s i SaysFault scan e h = absurd (cc (e))
 left_started old new number s i SaysIgnored scan e h = left_arrives (record old { cards = h.cards }) new number s i SaysIgnored scan h.arrives
 left_started old new number s i SaysWaits scan e h = left_arrives (record old { cards = h.cards }) new number s i SaysWaits scan h.arrives
@@ -93,7 +94,7 @@ pub record Begun (plan : Snapshot) (c : CageSeen) : Type 0 where
   pub left : left_of c.scan ≡ bound_of plan.settings
   pub some : 0 < bound_of plan.settings
   pub none : c.readings ≡ []
-  pub held : (at : ScanSeen) → c.scan ≡ Some at → (at.setup ≡ plan.settings) × (leaves c.cards at ≡ is_among plan.closed)
+  pub held : (at : ScanSeen) → c.scan ≡ Some at → (at.course ≡ course_of plan.settings) × (leaves c.cards at ≡ is_among plan.closed)
 
 begun_by : (p q : Panel) (plan : Snapshot) (f : Bool) (told : TakenSeen) → IsFine p → started_answer told ≡ Done None → Starts p plan f told q
     → Begun plan q.cage
@@ -102,16 +103,16 @@ begun_by p q plan f told k e h =
     let listed : plan.closed ≡ closed_list p.cage.cards = ap (λ (s : Snapshot). s.closed) h.1 in
     let found : is_closed p.cage.cards ≡ is_among plan.closed = sym (fun_ext (among_closed p.cage.cards (inside p.cage k.cage))) ∙ ap is_among (sym listed) in
     record {
-      left = left_started (occupancy_of (begun p.cage)) (occupancy_of q.cage) (p.cage.number + 1) p.settings 0 told q.cage.scan e h.3.runs
+      left = left_started (occupancy_of (begun p.cage)) (occupancy_of q.cage) (p.cage.number + 1) (course_of p.settings) 0 told q.cage.scan e h.3.runs
           ∙ ap bound_of (sym settings);
       some = some_bound plan.settings h.2.listed (subst (λ (s : SettingsSeen). IsInRange s) (sym settings) k.range);
       none = h.3.readings;
       held = λ at is.
-          let r = leaves_goes (occupancy_of (begun p.cage)) (occupancy_of q.cage) (p.cage.number + 1) p.settings 0 told q.cage.scan at h.3.runs is in
+          let r = leaves_goes (occupancy_of (begun p.cage)) (occupancy_of q.cage) (p.cage.number + 1) (course_of p.settings) 0 told q.cage.scan at h.3.runs is in
           let all : effect (is_closed p.cage.cards) (agenda p.settings) ≡ is_among plan.closed =
           ap (λ (b : Channels). effect b (agenda p.settings)) found ∙ ap (λ (s : SettingsSeen). effect (is_among plan.closed) (agenda s)) (sym settings)
           ∙ fun_ext h.2.sound.back in
-          (r.0 ∙ sym settings, r.1 ∙ all);
+          (r.0 ∙ ap course_of (sym settings), r.1 ∙ all);
     }
 
 begun_start : (p q : Panel) (sid : Sid) (plan : Snapshot) (f : Bool) (a : SessionAnswer) (w : Option WorkSeen) → IsFine p
@@ -155,9 +156,9 @@ begun_step p q sid plan f a k n h = begun_either ((p.events == last_number) && n
 -- ---- where it ends
 
 -- what some items read is at most what all do
-reads_part : (s : SettingsSeen) (n : ℕ) → reads (take n (agenda s)) ≤ reads (agenda s)
-reads_part s n =
-    let whole = ap reads (sym (take-append-drop n (agenda s))) ∙ reads-append (take n (agenda s)) (drop n (agenda s)) in
+reads_part : (items : List Item) (n : ℕ) → reads (take n items) ≤ reads items
+reads_part items n =
+    let whole = ap reads (sym (take-append-drop n items)) ∙ reads-append (take n items) (drop n items) in
     omega (arith, whole)
 
 -- a scan that runs awaits something
@@ -169,7 +170,7 @@ over_at : (c : CageSeen) (scan : Option ScanSeen) → IsRunning c scan → left_
 over_at c None r n = refl
 over_at c (Some at) r n =
     let x = stands_some _ _ (awaits at) r.meter in
-    let some : left_at at ≡ suc (length (awaiting (drop (at.index + 1) (agenda at.setup)))) = left_past at x.0 x.1 in
+    let some : left_at at ≡ suc (length (awaiting (drop (at.index + 1) at.course.items))) = left_past at x.0 x.1 in
     absurd (omega (arith, n, some))
 
 fine_last : (p : Panel) (events : List Event) → IsFine p → IsRun p events → IsFine (last_of p events)
@@ -196,20 +197,20 @@ follows plan start end b h None e r = tt
 follows plan start end b h (Some at) e r =
     let old = h at e in
     let first = b.held old.0 old.1 in
-    let same : at.setup ≡ plan.settings = old.2 ∙ first.0 in
-    let done = take at.index (agenda at.setup) in
-    let left = drop at.index (agenda at.setup) in
+    let same : at.course ≡ course_of plan.settings = old.2 ∙ first.0 in
+    let done = take at.index at.course.items in
+    let left = drop at.index at.course.items in
     let found : r.way.found ≡ leaves end.cage.cards at =
-    sym (fun_ext r.way.sound.back) ∙ ap (effect r.way.found) (sym (take-append-drop at.index (agenda at.setup))) ∙ effect-append r.way.found done left
+    sym (fun_ext r.way.sound.back) ∙ ap (effect r.way.found) (sym (take-append-drop at.index at.course.items)) ∙ effect-append r.way.found done left
     ∙ ap (λ (m : Channels). effect m left) (sym r.way.so_far) in
     let whole : r.way.found ≡ is_among plan.closed = found ∙ old.3 ∙ first.1 in
     let now : is_closed end.cage.cards ≡ effect (is_among plan.closed) (take at.index (agenda plan.settings)) =
-    r.way.so_far ∙ ap (λ (m : Channels). effect m done) whole ∙ ap (λ (s : SettingsSeen). effect (is_among plan.closed) (take at.index (agenda s))) same in
+    r.way.so_far ∙ ap (λ (m : Channels). effect m done) whole ∙ ap (λ (s : CourseSeen). effect (is_among plan.closed) (take at.index s.items)) same in
     record {
-      settings = same;
+      course = same;
       closed = λ c. ap (λ (m : Channels). m c) now;
       readings =
-          r.readings ∙ ap (λ (s : SettingsSeen). reads (take at.index (agenda s))) same;
+          r.readings ∙ ap (λ (s : CourseSeen). reads (take at.index s.items)) same;
     }
 
 underway_at : (c : CageSeen) (scan : Option ScanSeen) (at : ScanSeen) → IsRunning c scan → scan ≡ Some at → IsUnderway c at
@@ -217,7 +218,7 @@ underway_at c scan at r e = subst (λ (o : Option ScanSeen). IsRunning c o) e r
 
 -- where the scan of a plan stands, that began at start
 pub record Stands (plan : Snapshot) (p : Panel) (taken : ℕ) (at : ScanSeen) : Type 0 where
-  pub settings : at.setup ≡ plan.settings
+  pub course : at.course ≡ course_of plan.settings
   pub leaves_it : leaves p.cage.cards at ≡ is_among plan.closed
   pub taken_left : taken + left_at at ≡ bound_of plan.settings
 
@@ -228,7 +229,7 @@ stands plan start p taken at b h e =
     let first = b.held old.0 old.1 in
     let here : left_in p ≡ left_at at = ap left_of e in
     record {
-      settings = old.2 ∙ first.0;
+      course = old.2 ∙ first.0;
       leaves_it = old.3 ∙ first.1;
       taken_left = elim h.left [ inl l ↦ omega (arith, l, here, b.left) | inr i ↦ absurd (let n = sym e ∙ i in cc (n)) ];
     }
@@ -239,19 +240,19 @@ over_by : (plan : Snapshot) (p q : Panel) (taken : ℕ) (e : Event) (at : ScanSe
     → Completed p.cage at (took e.ask e.answer) q.cage ⊎ ((breaks_off e.ask e.answer ≡ true) × Stopped at q.cage) → IsOver plan taken p e
 over_by plan p q taken e at s u is kept h =
     let all : (n : ℕ)
-    → reads (take n (agenda at.setup)) ≤ plan.settings.points =
-    λ (n : ℕ). subst (λ (x : SettingsSeen). reads (take n (agenda at.setup)) ≤ x.points) s.settings (omega (arith, u.way.sound.fits, reads_part at.setup n)) in
+    → reads (take n at.course.items) ≤ plan.settings.points =
+    λ (n : ℕ). subst (λ (x : CourseSeen). reads (take n at.course.items) ≤ x.points) s.course (omega (arith, u.way.sound.fits, reads_part at.course.items n)) in
     subst (λ (x : Panel). IsComplete plan (taken + took e.ask e.answer) x
     ⊎ ((breaks_off e.ask e.answer ≡ true) × IsBrokenOff plan p e.ask e.answer x)) (sym is) (by_end all h)
   where
-    by_end : ((n : ℕ) → reads (take n (agenda at.setup)) ≤ plan.settings.points) → Completed p.cage at (took e.ask e.answer) q.cage
+    by_end : ((n : ℕ) → reads (take n at.course.items) ≤ plan.settings.points) → Completed p.cage at (took e.ask e.answer) q.cage
         ⊎ ((breaks_off e.ask e.answer ≡ true) × Stopped at q.cage)
         → IsComplete plan (taken + took e.ask e.answer) q ⊎ ((breaks_off e.ask e.answer ≡ true) × IsBrokenOff plan p e.ask e.answer q)
     by_end all (inl h) = inl (record {
       closed = λ c. ap (λ (m : Channels). m c) (h.closed ∙ s.leaves_it);
       taken = omega (arith, h.one, h.last, s.taken_left);
-      readings = h.readings ∙ ap (λ (x : SettingsSeen). reads (agenda x)) s.settings;
-      room = omega (arith, h.readings, subst (λ (x : SettingsSeen). reads (agenda at.setup) ≤ x.points) s.settings u.way.sound.fits);
+      readings = h.readings ∙ ap (λ (x : CourseSeen). reads x.items) s.course;
+      room = omega (arith, h.readings, subst (λ (x : CourseSeen). reads at.course.items ≤ x.points) s.course u.way.sound.fits);
     })
     by_end all (inr h) = inr (
       h.0,

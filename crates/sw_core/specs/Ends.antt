@@ -9,6 +9,7 @@ use Rattle.sw_trigger.specs.Counts.{awaiting, bound_of, readings_of, reads}
 use Rattle.sw_verify.specs.declared.snapshot.Snapshot.{Snapshot}
 use Rattle.sw_verify.specs.Channels.{is_among}
 use Rattle.sw_verify.specs.Sound.{effect}
+use Rattle.sw_verify.specs.Course.{course_of}
 use Rattle.sw_cage.specs.Accounts.{is_closed}
 use Rattle.sw_lex.specs.declared.command.Command.TheVariants as command
 use Rattle.sw_cage.specs.Cage.{ScanSeen}
@@ -22,7 +23,7 @@ use Rattle.sw_core.specs.Run.{Event, IsRun, tells_failure}
 
 -- how many items of its agenda a scan still awaits, the present one included; none, where none runs
 abbrev pub left_at : ScanSeen → ℕ
-left_at at = length (awaiting (drop at.index (agenda at.setup)))
+left_at at = length (awaiting (drop at.index at.course.items))
 
 abbrev pub left_of : Option ScanSeen → ℕ
 left_of None = 0
@@ -53,7 +54,7 @@ last_of p (e ∷ events) = last_of e.panel events
 -- A scan that runs has done the first items of its plan's agenda and no others: from what its plan found closed it has
 -- come to what is closed now, with the readings of those items.
 pub record IsFollowing (plan : Snapshot) (p : Panel) (at : ScanSeen) : Type 0 where
-  pub settings : at.setup ≡ plan.settings
+  pub course : at.course ≡ course_of plan.settings
   pub closed : (c : Channel)
       → is_closed p.cage.cards c ≡ effect (is_among plan.closed) (take at.index (agenda plan.settings)) c
   pub readings : length p.cage.readings ≡ reads (take at.index (agenda plan.settings))

@@ -4,6 +4,7 @@ use Rattle.sw_base.specs.Limits.{most_channels}
 use Rattle.sw_base.specs.Layout.{slot_at}
 use Rattle.sw_card.specs.Account.{Account, is_meter}
 use Rattle.sw_trigger.specs.Settings.{IsInRange}
+use Rattle.sw_verify.specs.Course.{course_of}
 use Rattle.sw_status.specs.StatusModel.{IsStatus}
 use Rattle.sw_cage.specs.Accounts.{Accounts}
 use Rattle.sw_cage.specs.Takes.{awaited_now}
@@ -26,15 +27,15 @@ IsFew cards = (slot : ℕ) → OptionFew (slot_at cards slot)
 pub record IsGoodPanel (p : Panel) : Type 0 where
   -- only relays of the cage are closed, and no two closed ones are of one group
   pub safe : IsSafe p
-  -- a scan that runs has done a prefix of its agenda, which is sound for the cage's cards and what it found closed,
+  -- a scan that runs has done a prefix of its items, which are sound for the cage's cards and what it found closed,
   -- with as many readings as that prefix reads, and its meter is out exactly at a reading
   pub good : IsGood p.cage
   -- no relay card has more channels than a card may have
   pub few : IsFew p.cage.cards
   -- the settings are within their limits
   pub range : IsInRange p.settings
-  -- a scan that runs goes by the settings
-  pub settings : IfSome p.cage.scan (λ at. at.setup ≡ p.settings)
+  -- a scan that runs goes by the settings: its items are their agenda
+  pub settings : IfSome p.cage.scan (λ at. at.course ≡ course_of p.settings)
   -- the status is within its limits: the queue holds 32 errors at most
   pub status : IsStatus p.status
   -- the locks are in order, and whoever holds one is joined

@@ -1,12 +1,12 @@
 -- Runs: lists of events from the opening state, and what none of them can do.
 use Rattle.std.specs.Prelude.{◌≡◌, ◌≢◌, ℕ, Bool, true, false, List, [], ◌∷◌, ◌++◌, Some, None, ◌⊎◌, decimal}
-use Rattle.std.specs.Prelude.{Option, map, is_err}
+use Rattle.std.specs.Prelude.{Option, length, map, is_err}
 use Rattle.sw_base.specs.Layout.{Channel}
 use Rattle.sw_base.specs.declared.error.ScpiError.{ScpiError}
 use Rattle.sw_base.specs.declared.error.ScpiError.TheVariants.{HardwareError, OutOfMemory}
 use Rattle.sw_base.specs.declared.reading.Reading.{Reading}
 use Rattle.sw_card.specs.Account.{Account, closed_at}
-use Rattle.sw_trigger.specs.Counts.{bound_of}
+use Rattle.sw_trigger.specs.Counts.{awaiting}
 use Rattle.sw_verify.specs.Channels.{is_among}
 use Rattle.sw_cage.specs.Accounts.{Accounts, is_closed}
 use Rattle.sw_cage.specs.Cage.{ScanSeen}
@@ -52,7 +52,7 @@ AtEach Is p (e ∷ events) = Is p e × AtEach Is e.panel events
 abbrev pub TellsBound : Event → Type 0
 TellsBound e = (sid : Sid) (available : Bool) (text : List ℕ) (at : ScanSeen)
     → e.ask ≡ AskSession (Ask.Unit sid command.BoundQuery available) → e.answer ≡ SaysSession (Done (Some text)) None
-    → e.panel.cage.scan ≡ Some at → text ≡ decimal (bound_of at.setup)
+    → e.panel.cage.scan ≡ Some at → text ≡ decimal (length (awaiting at.course.items))
 
 -- a card's failure is answered
 abbrev pub tells_failure : AnswerSeen → Bool

@@ -15,6 +15,7 @@ use Rattle.sw_lex.specs.declared.command.Command.{Command}
 use Rattle.sw_trigger.specs.Settings.{SettingsSeen}
 use Rattle.sw_verify.specs.declared.snapshot.Snapshot.{Snapshot}
 use Rattle.sw_verify.specs.Check.{IsReady}
+use Rattle.sw_verify.specs.Course.{course_of}
 use Rattle.sw_status.specs.StatusModel.{StatusSeen, pushed}
 use Rattle.sw_cage.specs.Accounts.{Accounts, layout_of, is_closed, all_open}
 use Rattle.sw_cage.specs.Change.{Sets, identity}
@@ -228,7 +229,8 @@ StepSnapshot p f answer q = ⊥
 -- failure is told of any more, unless one came on the way.
 abbrev pub Starts : Panel → Snapshot → Bool → TakenSeen → Panel → Type 0
 Starts p plan f told q =
-    (f ≡ tells_fault told) × (plan ≡ snapshot_of p) × IsReady plan × Advances (begun p.cage) p.settings 0 told q.cage
+    (f ≡ tells_fault told) × (plan ≡ snapshot_of p) × IsReady plan
+    × Advances (begun p.cage) (course_of p.settings) 0 told q.cage
     × (q ≡ record p {
       cage = q.cage;
       status = if tells_fault told then card_fault_reported p.status else card_fault_cleared p.status;

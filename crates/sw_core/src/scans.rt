@@ -293,7 +293,7 @@ impl<R: Relay, M: Meter> Core<R, M> {
         ensures { StepStart self.old plan (any_failed self.old.cage.cards self.new.cage.cards) result
             (work_seen work.new) self.new }
     {
-        match self.cage.start(alloc, plan) {
+        match self.cage.start(alloc, plan.into_course()) {
             Err(_) => SessionAnswer::Refused(ScpiError::OutOfMemory),
             Ok(told) => {
                 set_card_fault(&mut self.status, tells_fault(&told));

@@ -4,7 +4,7 @@ use crate::positions::one_each;
 use std::alloc::Global;
 use std::process::Abort;
 use std::test::Fail;
-use sw_base::{ArmLayer, Chan, LayerName, ScpiError, Sequence};
+use sw_base::{ArmLayer, Chan, LayerName, ScpiError, Sequence, Source};
 use sw_channel::{Position, read_positions};
 use sw_trigger::Settings;
 use sw_verify::{BoxedSnapshot, Layout, Plan, Refusal, Slot, Snapshot, check, laws};
@@ -205,8 +205,16 @@ fn plan_keeps_its_snapshot(rt: HostRuntime) -> Result<(), Fail> {
     assert_eq!(rt; plan.code().meter(), 4);
     assert_eq!(rt; plan.code().steps().len(), 12);
     obey(&plan);
-    let kept = plan.into_parts().0;
-    tell(&rt, &kept.layout);
-    drop(kept);
+    tell(&rt, &plan.snapshot().layout);
+    let course = plan.into_course();
+    let readings = course.readings();
+    let (code, sources, points) = course.into_parts();
+    let is_kept = readings == 1
+        && code.meter() == 4
+        && sources.source(LayerName::Trigger) == Source::Immediate
+        && points == 1_000;
+    drop(code);
+    drop(sources);
+    assert!(rt; is_kept);
     Ok(())
 }

@@ -6,8 +6,8 @@ use Rattle.sw_base.specs.declared.reading.Reading.{Reading}
 use Rattle.sw_card.specs.declared.board.CardFault.{CardFault}
 use Rattle.sw_trigger.specs.declared.layer.Awaited.{Awaited}
 use Rattle.sw_trigger.specs.declared.layer.Awaited.TheVariants.{Wait, Period, Pause, Read}
-use Rattle.sw_trigger.specs.Settings.{SettingsSeen}
-use Rattle.sw_trigger.specs.Agenda.{Item, agenda}
+use Rattle.sw_verify.specs.Course.{CourseSeen}
+use Rattle.sw_trigger.specs.Agenda.{Item}
 use Rattle.sw_cage.specs.Cage.{ScanSeen, CageSeen}
 use Rattle.sw_cage.specs.Advance.{moves_from, next_place, first_awaited, awaits}
 use Rattle.sw_cage.specs.Outcome.{lasting, Advances, AdvancesPastFrom, Counts, with_reading, with_back}
@@ -23,26 +23,26 @@ use Rattle.sw_core.specs.Step.{Step, Happens, Returns, outside_told, IsUnnumbere
 use Rattle.sw_core.specs.Event.{last_number}
 use Rattle.sw_session.specs.CoreDesk.{Carried, TellsOfPiece, CarriesOut, brought}
 
--- the items of its agenda that a scan has before it
+-- how many items a scan has before it
 abbrev pub items_left : Option ScanSeen → ℕ
 items_left None = 0
-items_left (Some at) = length (agenda at.setup) - at.index
+items_left (Some at) = length at.course.items - at.index
 
 abbrev pub left : Panel → ℕ
 left p = items_left p.cage.scan
 
--- what awaits is an item of the agenda
+-- what awaits is one of the items
 within : (items : List Item) (i : ℕ) (what : Awaited) → first_awaited (drop i items) ≡ Some what → i < length items
 within [] zero what h = absurd (cc h)
 within [] (suc i) what h = absurd (cc h)
 within (x ∷ items) zero what h = omega arith
 within (x ∷ items) (suc i) what h = let r = within items i what h in omega arith
 
-lands : (s : SettingsSeen) (i : ℕ) (what : Awaited) (scan : Option ScanSeen) → awaits (next_place s (i + 1)) ≡ Some what → scan ≡ Some (next_place s (i + 1))
-    → items_left scan < length (agenda s) - i
+lands : (s : CourseSeen) (i : ℕ) (what : Awaited) (scan : Option ScanSeen) → awaits (next_place s (i + 1)) ≡ Some what → scan ≡ Some (next_place s (i + 1))
+    → items_left scan < length s.items - i
 lands s i what scan awaited is =
-    let w : i + 1 + length (moves_from s (i + 1)) < length (agenda s) = within (agenda s) (i + 1 + length (moves_from s (i + 1))) what awaited in
-    subst (λ (x : Option ScanSeen). items_left x < length (agenda s) - i) (sym is) (omega arith)
+    let w : i + 1 + length (moves_from s (i + 1)) < length s.items = within s.items (i + 1 + length (moves_from s (i + 1))) what awaited in
+    subst (λ (x : Option ScanSeen). items_left x < length s.items - i) (sym is) (omega arith)
 
 -- what lasts and ends by itself is awaited
 lasts : (o : Option Awaited) (micros : ℕ) → lasting o ≡ Some micros → (what : Awaited) × (o ≡ Some what)
@@ -52,8 +52,8 @@ lasts (Some (Period name u)) micros e = (Period name u, refl)
 lasts (Some (Pause u)) micros e = (Pause u, refl)
 lasts (Some Read) micros e = absurd (cc e)
 
-goes : (p q : CageSeen) (s : SettingsSeen) (i : ℕ) (told : TakenSeen) (work : WorkSeen) → Advances p s (i + 1) told q → work_of told ≡ Some work
-    → items_left q.scan < length (agenda s) - i
+goes : (p q : CageSeen) (s : CourseSeen) (i : ℕ) (told : TakenSeen) (work : WorkSeen) → Advances p s (i + 1) told q → work_of told ≡ Some work
+    → items_left q.scan < length s.items - i
 goes p q s i SaysIgnored work g is = absurd (cc is)
 goes p q s i SaysWaits work g is = absurd (cc is)
 goes p q s i (SaysPause ticket micros) work g is = let a = g.runs.arrives in
@@ -65,7 +65,7 @@ goes p q s i SaysFault work g is = absurd (cc is)
 past : (p q : CageSeen) (scan : Option ScanSeen) (told : TakenSeen) (work : WorkSeen) → AdvancesPastFrom p scan told q → work_of told ≡ Some work
     → items_left q.scan < items_left scan
 past p q None told work g is = absurd g
-past p q (Some at) told work g is = goes p q at.setup at.index told work g is
+past p q (Some at) told work g is = goes p q at.course at.index told work g is
 
 happened : (p q : Panel) (told : TakenSeen) (f : Bool) (work : WorkSeen) (h : Happening) → Happens p h f told q → work_of told ≡ Some work → left q < left p
 happened p q SaysIgnored f work h k is = absurd (cc is)

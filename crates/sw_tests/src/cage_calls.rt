@@ -100,7 +100,7 @@ pub fn begin<R: Relay, M: Meter>(
     let Ok(plan) = Plan::make(alloc, boxed) else {
         return None;
     };
-    match cage.start(alloc, plan) {
+    match cage.start(alloc, plan.into_course()) {
         Ok(taken) => Some(taken),
         Err(_) => None,
     }

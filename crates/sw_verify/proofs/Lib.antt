@@ -11,3 +11,8 @@ pub mod Complete
 pub mod Limits
 pub mod Denying
 pub mod Each
+pub mod ItemsLemmas
+pub mod AgendaLemmas
+pub mod SourcesLemmas
+pub mod CourseLemmas
+pub mod PlanLemmas

@@ -11,3 +11,7 @@ pub mod Judged
 pub mod VerifiedSeen
 pub mod PlanSeen
 pub mod Denied
+pub mod Items
+pub mod Course
+pub mod SourcesSeen
+pub mod CourseKept

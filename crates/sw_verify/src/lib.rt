@@ -10,11 +10,14 @@
 //! tells; else it gives the first refusal that applies. It visits each step once.
 //!
 //! A `Plan` is a snapshot that passed the check, with its code, which was verified and unfolds to the agenda of the
-//! settings. Beyond the check, only want of memory refuses a plan.
+//! settings. It is judged once, by `verify`; the check tells why where that refuses, and beyond the check only want of
+//! memory does. Its `Course` is what a scan runs: items, whatever they were made from, the slot of the meter, the
+//! sources of the layers' waits and the room for readings.
 //!
 //! The check takes no memory. The crate promises nothing of a scan whose cards or closed channels change after it.
 #![tactic(auto)]
 
+mod course;
 pub mod laws;
 mod layout;
 mod ledger;
@@ -25,12 +28,15 @@ mod plan;
 mod ready;
 mod refusal;
 mod snapshot;
+mod sources;
 mod tally;
 mod verified;
 
+pub use course::Course;
 pub use layout::{Layout, Slot};
 pub use plan::Plan;
 pub use ready::check;
 pub use refusal::Refusal;
 pub use snapshot::{BoxedSnapshot, Snapshot};
+pub use sources::Sources;
 pub use verified::{Verified, verify};

@@ -1,16 +1,22 @@
 //! A scan that passed the check, with its code.
 
-ghost use Rattle.std.specs.Prelude.{◌≡◌, IfOk, IfErr};
+ghost use Rattle.std.specs.Prelude.{◌≡◌, true, IfOk, IfErr};
+ghost use Rattle.sw_base.specs.Layout.{has_meter};
 ghost use Rattle.sw_trigger.specs.Agenda.{agenda};
 ghost use Rattle.sw_code.specs.Code.{Unfolds};
 ghost use Rattle.sw_code.specs.Compiled.{compiled};
 ghost use Rattle.sw_verify.specs.declared.refusal.Refusal.TheVariants.{NoMemory};
+ghost use Rattle.sw_verify.specs.Channels.{is_among};
+ghost use Rattle.sw_verify.specs.Sound.{IsSound};
 ghost use Rattle.sw_verify.specs.Check.{IsReady, IsRefusedScan};
+ghost use Rattle.sw_verify.specs.Course.{course_of};
 
+use crate::course::Course;
 use crate::ready::check;
 use crate::refusal::Refusal;
 use crate::snapshot::{BoxedSnapshot, Snapshot};
-use crate::verified::verify;
+use crate::sources::Sources;
+use crate::verified::{Verified, verify};
 use std::alloc::Global;
 use std::marker::Model;
 use sw_code::{Code, compile};
@@ -21,7 +27,7 @@ use sw_code::{Code, compile};
 #[derive(Debug, Drop)]
 pub struct Plan {
     snapshot: BoxedSnapshot,
-    code: Code,
+    verified: Verified,
 }
 
 impl Model for Plan {
@@ -44,12 +50,12 @@ impl Plan {
         ensures plan { IfOk result (λ p. p ≡ snapshot) }
         ensures refused { IfErr result (λ r. IsRefusedScan r snapshot) }
     {
-        check(snapshot.get())?;
         match verified_code(alloc, snapshot.get()) {
-            Ok(code) => Ok(Plan { snapshot, code }),
+            Ok(verified) => Ok(Plan { snapshot, verified }),
             Err(refusal) => {
+                let first = first_refusal(snapshot.get(), refusal);
                 drop(snapshot);
-                Err(refusal)
+                Err(first)
             }
         }
     }
@@ -68,33 +74,52 @@ impl Plan {
         ensures unfolds { Unfolds result.now.steps (agenda self.now.settings) }
         ensures ready { IsReady self.now }
     {
-        &self.code
+        self.verified.code()
     }
 
-    /// What the scan begins from, and its code.
-    pub fn into_parts(self) -> (Snapshot, Code)
-        ensures snapshot { result.0 ≡ self }
-        ensures code { result.1 ≡ compiled self.settings }
-        ensures unfolds { Unfolds result.1.steps (agenda self.settings) }
+    /// What the scan does: the agenda of the settings.
+    pub fn into_course(self) -> Course
+        ensures course { result ≡ course_of self.settings }
+        ensures measured { has_meter self.layout result.meter ≡ true }
+        ensures sound { IsSound self.layout (is_among self.closed) result.points result.items }
         ensures ready { IsReady self }
     {
-        let Plan { snapshot, code } = self;
-        (snapshot.into_inner(), code)
+        let Plan { snapshot, verified } = self;
+        let settings = &snapshot.get().settings;
+        Course {
+            verified,
+            sources: Sources::new(settings),
+            points: settings.points(),
+        }
     }
 }
 
-/// The code of a snapshot that passed the check. The verifier refuses none but for want of memory.
-fn verified_code(alloc: Global, snapshot: &Snapshot) -> Result<Code, Refusal>
-    requires ready { IsReady snapshot.now }
-    ensures code { IfOk result (λ code. code ≡ compiled snapshot.now.settings) }
-    ensures unfolds { IfOk result (λ code. Unfolds code.steps (agenda snapshot.now.settings)) }
-    ensures refused { IfErr result (λ r. r ≡ NoMemory) }
+/// The code of a snapshot, which passes the check where it is verified. Where the scan may begin, the verifier refuses
+/// none but for want of memory.
+fn verified_code(alloc: Global, snapshot: &Snapshot) -> Result<Verified, Refusal>
+    ensures ready { IfOk result (λ v. IsReady snapshot.now) }
+    ensures code { IfOk result (λ v. v.code ≡ compiled snapshot.now.settings) }
+    ensures unfolds { IfOk result (λ v. Unfolds v.code.steps (agenda snapshot.now.settings)) }
+    ensures refused { IfErr result (λ r. IsReady snapshot.now → r ≡ NoMemory) }
 {
     let settings = &snapshot.settings;
+    if settings.list().is_empty() {
+        return Err(Refusal::EmptyList);
+    }
     let Ok(code) = compile(alloc, settings) else {
         return Err(Refusal::NoMemory);
     };
     let closed = snapshot.closed.as_slice();
-    let verified = verify(alloc, code, &snapshot.layout, closed, settings.points())?;
-    Ok(verified.into_code())
+    verify(alloc, code, &snapshot.layout, closed, settings.points())
+}
+
+/// The first refusal of a snapshot that applies, or this one where it passes the check.
+fn first_refusal(snapshot: &Snapshot, refusal: Refusal) -> Refusal
+    requires memory { IsReady snapshot.now → refusal ≡ NoMemory }
+    ensures { IsRefusedScan result snapshot.now }
+{
+    match check(snapshot) {
+        Err(first) => first,
+        Ok(()) => refusal,
+    }
 }

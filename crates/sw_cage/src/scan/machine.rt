@@ -1,7 +1,7 @@
 //! What a running scan does between two things that it awaits.
 
 ghost use Rattle.std.specs.Prelude.{◌≡◌, ◌+◌, ◌-◌, ◌≤◌, ◌∷◌, [], true, false, is_some, OnOk, OnErr, Some, None};
-ghost use Rattle.std.specs.Prelude.{slice_set};
+ghost use Rattle.std.specs.Prelude.{slice_set, drop};
 ghost use Rattle.std.proofs.Common.{inr};
 ghost use Rattle.sw_base.specs.Limits.{most_slots};
 ghost use Rattle.sw_base.specs.Layout.{slot_at, has_meter};
@@ -12,15 +12,15 @@ ghost use Rattle.sw_trigger.specs.Agenda.{Close, Open};
 ghost use Rattle.sw_verify.specs.Sound.{CanCloseOne, CanCloseEach, CanOpenEach};
 ghost use Rattle.sw_cage.specs.Change.{Sets};
 ghost use Rattle.sw_cage.specs.Cage.{ScanSeen};
-ghost use Rattle.sw_cage.specs.Advance.{opens_of, closes_of, moves_from, next_place, awaits};
-ghost use Rattle.sw_cage.specs.Steps.{moves_of};
-ghost use Rattle.sw_cage.specs.Moves.{MayOpenNext, MayCloseNext, MayMove, MayGoOn, RelayCallFailed};
+ghost use Rattle.sw_cage.specs.Advance.{moves_from, next_place, awaits};
+ghost use Rattle.sw_cage.specs.Steps.{move_item};
+ghost use Rattle.sw_cage.specs.Moves.{MayMove, MayGoOn, RelayCallFailed};
 ghost use Rattle.sw_cage.specs.TakenSeen.{taken_seen};
 ghost use Rattle.sw_cage.specs.Outcome.{Moved, IsSent, Arrives, AdvancesOrFails};
 
 use crate::job::{Job, Ticket};
 use crate::scan::Scan;
-use crate::scan::steps::Moves;
+use crate::scan::steps::Move;
 use crate::scan::tickets::Tickets;
 use crate::slots::Slots;
 use crate::taken::Taken;
@@ -40,43 +40,42 @@ pub(crate) fn go_past<R: Relay, M: Meter>(
     requires runs { is_some scan.old ≡ true }
     requires awaits { (at : ScanSeen) → scan.old ≡ Some at → awaits at ≡ None → ⊥ }
     requires may { (at : ScanSeen) → scan.old ≡ Some at
-        → MayGoOn (layout_of (accounts_of slots.old)) (is_closed (accounts_of slots.old)) at.setup (at.index + 1) }
+        → MayGoOn (layout_of (accounts_of slots.old)) (is_closed (accounts_of slots.old)) at.course (at.index + 1) }
     ensures meters { KeepsMeters slots.old result slots.new }
     ensures goes { (at : ScanSeen) → scan.old ≡ Some at
         → AdvancesOrFails (record { cards = accounts_of slots.old; out = out.old }) number
-        (moves_from at.setup (at.index + 1)) (next_place at.setup (at.index + 1)) (taken_seen result)
+        (moves_from at.course (at.index + 1)) (next_place at.course (at.index + 1)) (taken_seen result)
         (record { cards = accounts_of slots.new; out = out.new }) scan.new }
 {
     let Some(at) = scan else {
         unreachable!();
     };
-    let moves = at.advance();
-    go_on(slots, out, scan, number, moves)
+    at.go_past();
+    go_on(slots, out, scan, number)
 }
 
-/// Makes the moves, and tells what the scan awaits now that it has come there. After a fault every relay is open. A
-/// scan that is over leaves `None`.
+/// Opens and closes up to what the scan awaits next, and tells what that is. After a fault every relay is open. A scan
+/// that is over leaves `None`.
 #[inline(always)]
 pub(crate) fn go_on<R: Relay, M: Meter>(
     slots: &mut Slots<R, M>,
     out: &mut Tickets,
     scan: &mut Option<Scan>,
     number: u64,
-    moves: Moves,
 ) -> Taken<M>
     requires runs { is_some scan.old ≡ true }
-    requires slot_in { (at : ScanSeen) → scan.old ≡ Some at → (1 ≤ at.setup.meter) × (at.setup.meter ≤ most_slots) }
-    requires meter { (at : ScanSeen) → scan.old ≡ Some at
-        → has_meter (layout_of (accounts_of slots.old)) at.setup.meter ≡ true }
-    requires may { MayMove (layout_of (accounts_of slots.old)) (is_closed (accounts_of slots.old)) moves.to_open
-        moves.to_close }
+    requires may { (at : ScanSeen) → scan.old ≡ Some at
+        → MayGoOn (layout_of (accounts_of slots.old)) (is_closed (accounts_of slots.old)) at.course at.index }
     ensures meters { KeepsMeters slots.old result slots.new }
     ensures goes { (at : ScanSeen) → scan.old ≡ Some at
         → AdvancesOrFails (record { cards = accounts_of slots.old; out = out.old }) number
-        (moves_of moves) at (taken_seen result)
+        (moves_from at.course at.index) (next_place at.course at.index) (taken_seen result)
         (record { cards = accounts_of slots.new; out = out.new }) scan.new }
 {
-    match make_moves(slots, moves) {
+    let Some(at) = scan else {
+        unreachable!();
+    };
+    match make_moves(slots, at) {
         Ok(()) => return arrive(slots, out, scan, number),
         Err(_) => {
             slots.open_all();
@@ -86,48 +85,35 @@ pub(crate) fn go_on<R: Relay, M: Meter>(
     }
 }
 
-/// Opens, and then closes.
+/// Opens and closes up to what the scan awaits next, or its end. It stops at the first fault.
 #[inline(always)]
-fn make_moves<R: Relay, M: Meter>(slots: &mut Slots<R, M>, moves: Moves) -> Result<(), CardFault>
-    requires { MayMove (layout_of (accounts_of slots.old)) (is_closed (accounts_of slots.old)) moves.to_open
-        moves.to_close }
-    ensures ok { OnOk result (Moved (accounts_of slots.old) (moves_of moves) (accounts_of slots.new)) }
+fn make_moves<R: Relay, M: Meter>(slots: &mut Slots<R, M>, scan: &mut Scan) -> Result<(), CardFault>
+    requires { MayMove (layout_of (accounts_of slots.old)) (is_closed (accounts_of slots.old))
+        (drop scan.old.index scan.old.course.items) }
+    ensures there { OnOk result (scan.new ≡ next_place scan.old.course scan.old.index) }
+    ensures ok { OnOk result (Moved (accounts_of slots.old) (moves_from scan.old.course scan.old.index)
+        (accounts_of slots.new)) }
     ensures err { OnErr result (RelayCallFailed (accounts_of slots.old) (accounts_of slots.new)) }
     ensures meters { meters_of slots.new ≡ meters_of slots.old }
 {
-    open_first(slots, moves.to_open)?;
-    close_then(slots, moves.to_close)
-}
-
-#[inline(always)]
-fn open_first<R: Relay, M: Meter>(
-    slots: &mut Slots<R, M>,
-    position: Option<Position>,
-) -> Result<(), CardFault>
-    requires { MayOpenNext (is_closed (accounts_of slots.old)) position }
-    ensures ok { OnOk result (Moved (accounts_of slots.old) (opens_of position) (accounts_of slots.new)) }
-    ensures err { OnErr result (RelayCallFailed (accounts_of slots.old) (accounts_of slots.new)) }
-    ensures meters { meters_of slots.new ≡ meters_of slots.old }
-{
-    match position {
-        Some(position) => open_each(slots, &position),
-        None => Ok(()),
+    while let Some(next) = scan.next_move() {
+        make_move(slots, next)?;
+        scan.go_past();
     }
+    Ok(())
 }
 
 #[inline(always)]
-fn close_then<R: Relay, M: Meter>(
-    slots: &mut Slots<R, M>,
-    position: Option<Position>,
-) -> Result<(), CardFault>
-    requires { MayCloseNext (layout_of (accounts_of slots.old)) (is_closed (accounts_of slots.old)) position }
-    ensures ok { OnOk result (Moved (accounts_of slots.old) (closes_of position) (accounts_of slots.new)) }
+fn make_move<R: Relay, M: Meter>(slots: &mut Slots<R, M>, next: Move) -> Result<(), CardFault>
+    requires { MayMove (layout_of (accounts_of slots.old)) (is_closed (accounts_of slots.old))
+        (move_item next ∷ []) }
+    ensures ok { OnOk result (Moved (accounts_of slots.old) (move_item next ∷ []) (accounts_of slots.new)) }
     ensures err { OnErr result (RelayCallFailed (accounts_of slots.old) (accounts_of slots.new)) }
     ensures meters { meters_of slots.new ≡ meters_of slots.old }
 {
-    match position {
-        Some(position) => close_each(slots, &position),
-        None => Ok(()),
+    match next {
+        Move::Open(position) => open_each(slots, &position),
+        Move::Close(position) => close_each(slots, &position),
     }
 }
 
@@ -197,9 +183,9 @@ fn arrive<R: Relay, M: Meter>(
     number: u64,
 ) -> Taken<M>
     requires runs { is_some scan.old ≡ true }
-    requires slot_in { (at : ScanSeen) → scan.old ≡ Some at → (1 ≤ at.setup.meter) × (at.setup.meter ≤ most_slots) }
+    requires slot_in { (at : ScanSeen) → scan.old ≡ Some at → (1 ≤ at.course.meter) × (at.course.meter ≤ most_slots) }
     requires meter { (at : ScanSeen) → scan.old ≡ Some at
-        → has_meter (layout_of (accounts_of slots.old)) at.setup.meter ≡ true }
+        → has_meter (layout_of (accounts_of slots.old)) at.course.meter ≡ true }
     ensures meters { KeepsMeters slots.old result slots.new }
     ensures arrives { (at : ScanSeen) → scan.old ≡ Some at
         → Arrives (record { cards = accounts_of slots.old; out = out.old }) number at

@@ -1,32 +1,34 @@
-//! A scan that runs: its settings, its code, and where it stands.
+//! A scan that runs: its code, and where it stands in it.
 
-ghost use Rattle.std.specs.Prelude.{◌≡◌, ℕ, ◌+◌, ◌<◌, ◌≤◌, ◌++◌, length, None, ◌↔◌, IsTrue};
-ghost use Rattle.sw_trigger.specs.Settings.{IsInRange, layer_of};
-ghost use Rattle.sw_code.specs.Compiled.{compiled};
-ghost use Rattle.sw_cage.specs.Advance.{awaits, moves_from, next_place};
+ghost use Rattle.std.specs.Prelude.{◌≡◌, ◌+◌, ◌<◌, ◌≤◌, drop, length, ◌↔◌, IsTrue};
+ghost use Rattle.sw_verify.specs.Course.{source_at};
+ghost use Rattle.sw_base.specs.Limits.{most_slots};
+ghost use Rattle.sw_cage.specs.Advance.{awaits};
 ghost use Rattle.sw_cage.specs.Cage.{ticket_of};
-ghost use Rattle.sw_cage.specs.Steps.{moves_of};
+ghost use Rattle.sw_cage.specs.Steps.{next_move};
 ghost use Rattle.sw_cage.specs.Takes.{TakesIf, TakesWait, TakesPeriod, TakesPause, AwaitsReturn};
 
 pub(crate) mod machine;
 mod steps;
 pub(crate) mod tickets;
 
-use self::steps::{Moves, Place, awaited, first, next};
+use self::steps::{Move, Place, awaited, first, go_past, next_move};
 use crate::job::Ticket;
 use crate::taken::Happening;
 use std::marker::Model;
 use sw_base::{LayerName, Source};
 use sw_code::Code;
-use sw_trigger::{Awaited, Settings};
+use sw_trigger::Awaited;
+use sw_verify::{Course, Sources};
 
 /// A scan that runs.
 ///
-/// Contracts see its settings and the index of what it awaits in its agenda, and not the steps that lead there.
+/// Contracts see its course and which of its items it awaits, and not the steps that lead there.
 #[derive(Drop)]
 pub(crate) struct Scan {
-    settings: Settings,
     code: Code,
+    sources: Sources,
+    points: u32,
     at: Place,
     index: u64,
 }
@@ -44,26 +46,23 @@ impl Model for Scan {
 }
 
 impl Scan {
-    /// A scan at the first thing that it awaits, and what is done before that.
-    pub(crate) fn begin(settings: Settings, code: Code) -> (Scan, Moves)
-        requires listed { 0 < length settings.list }
-        requires range { IsInRange settings }
-        requires code { code ≡ compiled settings }
-        ensures scan { result.0 ≡ next_place settings 0 }
-        ensures moves { moves_of result.1 ≡ moves_from settings 0 }
+    /// A scan before its first item.
+    pub(crate) fn begin(course: Course) -> Scan
+        ensures scan { result ≡ record { course = course; index = 0 } }
+        ensures slot_in { (1 ≤ course.meter) × (course.meter ≤ most_slots) }
     {
-        let (moves, at) = first(code.steps());
-        let index = count(&moves);
-        let scan = Scan {
-            settings,
+        let (code, sources, points) = course.into_parts();
+        let at = first(code.steps());
+        Scan {
             code,
+            sources,
+            points,
             at,
-            index,
-        };
-        (scan, moves)
+            index: 0,
+        }
     }
 
-    /// What the scan awaits; nothing, where it is over.
+    /// What the scan awaits; nothing, where it moves relays, or is over.
     #[inline(always)]
     pub(crate) fn awaited(&self) -> Option<Awaited>
         ensures { result ≡ awaits self.now }
@@ -71,22 +70,28 @@ impl Scan {
         awaited(self.code.steps(), &self.at)
     }
 
-    /// Goes past what the scan awaits, and tells what is done before the next.
+    /// What the scan opens or closes next; nothing, where it awaits something or is over.
     #[inline(always)]
-    pub(crate) fn advance(&mut self) -> Moves
-        requires { awaits self.old ≡ None → ⊥ }
-        ensures scan { self.new ≡ next_place self.old.setup (self.old.index + 1) }
-        ensures moves { moves_of result ≡ moves_from self.old.setup (self.old.index + 1) }
+    pub(crate) fn next_move(&self) -> Option<Move>
+        ensures { result ≡ next_move (drop self.now.index self.now.course.items) }
     {
-        let moves = next(self.code.steps(), &mut self.at);
-        self.index += 1 + count(&moves);
-        moves
+        next_move(self.code.steps(), &self.at)
+    }
+
+    /// Goes past the item at which the scan stands.
+    #[inline(always)]
+    pub(crate) fn go_past(&mut self)
+        requires { self.old.index < length self.old.course.items }
+        ensures { self.new ≡ record self.old { index = self.old.index + 1 } }
+    {
+        go_past(self.code.steps(), &mut self.at);
+        self.index += 1;
     }
 
     /// Whether the scan takes the happening, being number so many.
     #[inline(always)]
     pub(crate) fn takes(&self, number: u64, happening: Happening) -> bool
-        ensures { IsTrue result ↔ TakesIf self.now.setup (ticket_of number self.now) (awaits self.now) happening }
+        ensures { IsTrue result ↔ TakesIf self.now.course (ticket_of number self.now) (awaits self.now) happening }
     {
         let present = Ticket {
             scan: number,
@@ -103,7 +108,7 @@ impl Scan {
 
     /// Whether a wait of the layer takes the happening.
     fn wait_takes(&self, name: LayerName, happening: Happening) -> bool
-        ensures { IsTrue result ↔ TakesWait self.now.setup name happening }
+        ensures { IsTrue result ↔ TakesWait self.now.course name happening }
     {
         match happening {
             Happening::Bus => return self.source(name) == Source::Bus,
@@ -128,7 +133,7 @@ impl Scan {
         }
     }
 
-    /// The index of what the scan awaits in its agenda.
+    /// Which of its items the scan awaits.
     #[inline(always)]
     pub(crate) fn index(&self) -> u64
         ensures { result ≡ self.now.index }
@@ -139,16 +144,16 @@ impl Scan {
     /// The slot of the scan's meter.
     #[inline(always)]
     pub(crate) fn meter(&self) -> u8
-        ensures { result ≡ self.now.setup.meter }
+        ensures { result ≡ self.now.course.meter }
     {
-        self.settings.meter()
+        self.code.meter()
     }
 
     /// Where the layer's wait takes its trigger from.
     pub(crate) fn source(&self, name: LayerName) -> Source
-        ensures { result ≡ (layer_of self.now.setup name).source }
+        ensures { result ≡ source_at self.now.course.sources name }
     {
-        self.settings.layer(name).source
+        self.sources.source(name)
     }
 }
 
@@ -170,15 +175,4 @@ fn period_takes(present: Ticket, name: LayerName, happening: Happening) -> bool
         Happening::Signal(layer) => return name == layer,
         _ => return pause_takes(present, happening),
     }
-}
-
-/// How many moves they are.
-#[inline(always)]
-fn count(moves: &Moves) -> u64
-    ensures count { result ≡ length (moves_of moves.now) }
-    ensures few { result ≤ 2 }
-{
-    let opened = if moves.to_open.is_some() { 1 } else { 0 };
-    let closed = if moves.to_close.is_some() { 1 } else { 0 };
-    opened + closed
 }

@@ -1,17 +1,16 @@
-//! The steps of a scan's code, from one that awaits to the next.
+//! The steps of a scan's code, from one that does an item to the next.
 
 ghost use Rattle.std.specs.Prelude.{◌≡◌, ℕ, suc, ◌+◌, ◌-◌, ◌^◌, ◌<◌, ◌≤◌, List, ◌∷◌, Some, None, true, false};
 ghost use Rattle.std.specs.Prelude.{slice_set};
 ghost use Rattle.std.specs.Prelude.{slice_index_or, length, IfSome, IfNone};
 ghost use Rattle.std.specs.List.{slice_get, AllByRecursion};
-ghost use Rattle.sw_trigger.specs.Agenda.{Item, Awaits};
-ghost use Rattle.sw_trigger.specs.declared.layer.Awaited.{Awaited as Await};
+ghost use Rattle.sw_trigger.specs.Agenda.{Item};
 ghost use Rattle.sw_code.specs.Code.{Unfolds};
 ghost use Rattle.sw_code.specs.Range.{IsStep};
 ghost use Rattle.sw_base.specs.Limits.{most_counters};
 ghost use Rattle.sw_code.specs.Pace.{most_counting, IsNear, IsPaced};
 ghost use Rattle.sw_cage.specs.Advance.{first_awaited};
-ghost use Rattle.sw_cage.specs.Steps.{Does, IsResting, AreVisits, AreVisitsOn, LeadsOn, Opens, way_of};
+ghost use Rattle.sw_cage.specs.Steps.{Does, next_move};
 
 use sw_base::COUNTERS;
 use sw_channel::Position;
@@ -28,17 +27,17 @@ pub(crate) struct Place {
     pub(crate) counters: [u32; COUNTERS as usize],
 }
 
-/// What is done on the way to the next awaiting step: first the opening, then the closing.
+/// What a step opens or closes.
 #[derive(Clone, Copy, Debug, PartialEq, Eq)]
-pub(crate) struct Moves {
-    pub(crate) to_open: Option<Position>,
-    pub(crate) to_close: Option<Position>,
+pub(crate) enum Move {
+    Open(Position),
+    Close(Position),
 }
 
-/// What the step awaits at which the scan stands; nothing at the end.
+/// What the step awaits at which the scan stands; nothing where it moves relays, or at the end.
 #[inline(always)]
 pub(crate) fn awaited(steps: &[Step], at: &Place) -> Option<Awaited>
-    requires rests { IsResting (slice_get steps.now at.now.step) }
+    requires near { IsNear steps.now 0 at.now.step }
     ensures { (items : List Item) → Does steps.now at.now items → result ≡ first_awaited items }
 {
     match step_at(steps, at) {
@@ -50,88 +49,47 @@ pub(crate) fn awaited(steps: &[Step], at: &Place) -> Option<Awaited>
     }
 }
 
-/// The place of the first step that awaits, and what is done before it.
-pub(crate) fn first(steps: &[Step]) -> (Moves, Place)
+/// What the step opens or closes at which the scan stands; nothing where it awaits something, or at the end.
+#[inline(always)]
+pub(crate) fn next_move(steps: &[Step], at: &Place) -> Option<Move>
+    requires near { IsNear steps.now 0 at.now.step }
+    ensures { (items : List Item) → Does steps.now at.now items → result ≡ next_move items }
+{
+    match step_at(steps, at) {
+        Some(Step::Open(position)) => Some(Move::Open(*position)),
+        Some(Step::Close(position)) => Some(Move::Close(*position)),
+        _ => None,
+    }
+}
+
+/// The place of the first step that does more than count.
+pub(crate) fn first(steps: &[Step]) -> Place
     requires range { AllByRecursion IsStep steps.now }
     requires paced { IsPaced steps.now most_counting }
-    ensures { (items : List Item) → Unfolds steps.now items → AreVisits items
-        → LeadsOn steps.now items (way_of result.0 result.1) }
+    ensures near { IsNear steps.now 0 result.step }
+    ensures does { (items : List Item) → Unfolds steps.now items → Does steps.now result items }
 {
     let mut at = Place {
         step: 0,
         counters: [0; COUNTERS as usize],
     };
     settle(steps, &mut at);
-    let moves = move_on(steps, &mut at);
-    (moves, at)
+    at
 }
 
-/// Goes from a step that awaits to the next, and tells what is done before that.
+/// Goes past a step that does an item, on to the next that does more than count.
 #[inline(always)]
-pub(crate) fn next(steps: &[Step], at: &mut Place) -> Moves
+pub(crate) fn go_past(steps: &[Step], at: &mut Place)
     requires range { AllByRecursion IsStep steps.now }
     requires paced { IsPaced steps.now most_counting }
-    requires rests { IsResting (slice_get steps.now at.old.step) }
-    requires awaits { (what : Await) × (items : List Item) × Does steps.now at.old (Awaits what ∷ items) }
-    ensures { (what : Await) (items : List Item) → Does steps.now at.old (Awaits what ∷ items) → AreVisitsOn items
-        → LeadsOn steps.now items (way_of result at.new) }
+    requires near { IsNear steps.now 0 at.old.step }
+    requires left { (item : Item) × (items : List Item) × Does steps.now at.old (item ∷ items) }
+    ensures near { IsNear steps.now 0 at.new.step }
+    ensures does { (item : Item) (items : List Item) → Does steps.now at.old (item ∷ items)
+        → Does steps.now at.new items }
 {
     at.step += 1;
     settle(steps, at);
-    move_on(steps, at)
-}
-
-/// Goes on from a step that does more than count to one that awaits, and tells what is done before that.
-#[inline(always)]
-fn move_on(steps: &[Step], at: &mut Place) -> Moves
-    requires range { AllByRecursion IsStep steps.now }
-    requires paced { IsPaced steps.now most_counting }
-    requires near { IsNear steps.now 0 at.old.step }
-    ensures { (items : List Item) → Does steps.now at.old items → AreVisitsOn items
-        → LeadsOn steps.now items (way_of result at.new) }
-{
-    let to_open = open_on(steps, at);
-    let to_close = close_on(steps, at);
-    Moves { to_open, to_close }
-}
-
-/// Goes past a step that opens, on to one that does more than count, and tells which position it opens.
-#[inline(always)]
-fn open_on(steps: &[Step], at: &mut Place) -> Option<Position>
-    requires range { AllByRecursion IsStep steps.now }
-    requires paced { IsPaced steps.now most_counting }
-    requires near { IsNear steps.now 0 at.old.step }
-    ensures near { IsNear steps.now 0 at.new.step }
-    ensures opens { (items : List Item) → Does steps.now at.old items → AreVisitsOn items
-        → Opens steps.now items result at.new }
-{
-    match step_at(steps, at) {
-        Some(Step::Open(position)) => {
-            at.step += 1;
-            settle(steps, at);
-            Some(*position)
-        }
-        _ => None,
-    }
-}
-
-/// Goes past a step that closes, on to one that does more than count, and tells which position it closes.
-#[inline(always)]
-fn close_on(steps: &[Step], at: &mut Place) -> Option<Position>
-    requires range { AllByRecursion IsStep steps.now }
-    requires paced { IsPaced steps.now most_counting }
-    requires near { IsNear steps.now 0 at.old.step }
-    ensures { (items : List Item) → Does steps.now at.old items → AreVisits items
-        → LeadsOn steps.now items (record { moves = record { to_open = None; to_close = result }; at = at.new }) }
-{
-    match step_at(steps, at) {
-        Some(Step::Close(position)) => {
-            at.step += 1;
-            settle(steps, at);
-            Some(*position)
-        }
-        _ => None,
-    }
 }
 
 /// On to a step that does more than count.

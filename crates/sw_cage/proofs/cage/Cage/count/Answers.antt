@@ -1,5 +1,4 @@
 use Rattle.std.proofs.Common.{◌+◌, ◌<◌, ◌≤◌, ap, subst, refl, Option, arith, length, vec_capacity}
-use Rattle.sw_trigger.specs.Agenda.{agenda}
 use Rattle.sw_trigger.specs.Counts.{reads}
 use Rattle.sw_cage.specs.Accounts.{accounts_of}
 use Rattle.sw_cage.specs.Cage.{ScanSeen}
@@ -45,7 +44,7 @@ go_past-requires-clause-may g c = λ at is.
     let ready = counted _ at f.slot f.ticket f.meter.1 c.in-Ok.reading (accounts_of c.take_in.new.slots) c.take_in.new.out c.push.new.self.items _
     c.self.invariant is awaited
     out c.take_in.ensures.cards c.take_in.ensures.out items in
-    may_go _ at.setup (at.index + 1) ready.held ready.go
+    may_go _ at.course (at.index + 1) ready.held ready.go
 
 pub invariant_of-self-2 : goal.invariant_of-self-2
 invariant_of-self-2 g c =
@@ -64,5 +63,5 @@ invariant_of-self-2 g c =
     let ready = counted _ at f.slot f.ticket f.meter.1 c.in-Ok.reading (accounts_of c.take_in.new.slots) c.take_in.new.out c.push.new.self.items _
     c.self.invariant is awaited
     out c.take_in.ensures.cards c.take_in.ensures.out items in
-    let room : reads (agenda at.setup) ≤ vec_capacity c.push.new.self = omega (arith, room_at _ at _ c.self.invariant is, c.push.ensures.capacity) in
-    go_kept _ _ at.setup (at.index + 1) _ _ _ _ ready.held ready.go room (c.go_past.ensures.goes at is) refl refl refl refl
+    let room : reads at.course.items ≤ vec_capacity c.push.new.self = omega (arith, room_at _ at _ c.self.invariant is, c.push.ensures.capacity) in
+    go_kept _ _ at.course (at.index + 1) _ _ ready.held ready.go room (c.go_past.ensures.goes at is) refl refl

@@ -8,12 +8,12 @@ use Rattle.sw_cage.proofs.cage.Cage.go_past.Goals as goal
 pub go_past-requires-clause-may : goal.go_past-requires-clause-may
 go_past-requires-clause-may g c = λ at is.
     let other = subst AwaitsOther (sym (ap (λ (p : CageSeen). p.scan) (seen_is c.self.view_is)) ∙ is) c.requires in
-    may_go _ at.setup (at.index + 1) c.self.invariant.good.held (go_other _ at _ c.self.invariant is other)
+    may_go _ at.course (at.index + 1) c.self.invariant.good.held (go_other _ at _ c.self.invariant is other)
 
 pub invariant_of-self : goal.invariant_of-self
 invariant_of-self g c =
     let runs = other_scan _ (subst AwaitsOther (sym (ap (λ (p : CageSeen). p.scan) (seen_is c.self.view_is))) c.requires) in
     let at = runs.0 in
     let is = runs.1.0 in
-    go_kept _ _ at.setup (at.index + 1) _ _ _ _ c.self.invariant.good.held (go_other _ at _ c.self.invariant is runs.1.1)
-    (room_at _ at _ c.self.invariant is) (c.go_past.ensures.goes at is) refl refl refl refl
+    go_kept _ _ at.course (at.index + 1) _ _ c.self.invariant.good.held (go_other _ at _ c.self.invariant is runs.1.1)
+    (room_at _ at _ c.self.invariant is) (c.go_past.ensures.goes at is) refl refl

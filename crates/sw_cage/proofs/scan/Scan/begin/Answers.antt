@@ -1,59 +1,39 @@
-use Rattle.std.proofs.Common.{◌≡◌, ◌+◌, ◌∙◌, length, drop, sym, ap, subst, arith, List}
-use Rattle.std.specs.List.{slice_get}
-use Rattle.sw_trigger.specs.Agenda.{agenda}
+use Rattle.std.proofs.Common.{ℕ, ◌≤◌, List, ap, sym, subst}
+use Rattle.sw_base.specs.Limits.{most_slots}
 use Rattle.sw_code.specs.declared.code.Step.{Step}
 use Rattle.sw_code.specs.Code.{Unfolds}
-use Rattle.sw_code.specs.Compiled.{compiled}
-use Rattle.sw_code.specs.Pace.{most_counting, IsPaced}
-use Rattle.sw_code.specs.Range.{Program}
-use Rattle.sw_code.proofs.Compiled.{compiled_unfolds}
-use Rattle.sw_code.proofs.Pacing.{compiled_paced}
-use Rattle.sw_cage.specs.Steps.{Does, IsResting, moves_of, way_of}
-use Rattle.sw_cage.proofs.VisitLemmas.{visits-agenda}
-use Rattle.sw_cage.proofs.PlaceLemmas.{stands, way_is, rest_there, place_is}
+use Rattle.sw_code.specs.Pace.{IsPaced, IsNear}
+use Rattle.sw_verify.specs.Items.{items_of}
+use Rattle.sw_verify.specs.Course.{CourseSeen}
+use Rattle.sw_cage.specs.Cage.{ScanSeen}
+use Rattle.sw_cage.specs.Steps.{Does}
+use Rattle.sw_cage.proofs.PlaceLemmas.{same_course}
 use Rattle.sw_cage.proofs.scan.Scan.begin.Goals as goal
 
-pub first-moves-requires-clause-paced : goal.first-moves-requires-clause-paced
-first-moves-requires-clause-paced c =
-    let s = c.args.settings in
-    let same : c.steps.result.now ≡ (compiled s).steps = c.steps.ensures.steps ∙ ap (λ (p : Program). p.steps) c.requires.code in
-    subst (λ (l : List Step). IsPaced l 8) (sym same) (compiled_paced s c.requires.listed c.requires.range)
+pub first-at-requires-clause-paced : goal.first-at-requires-clause-paced
+first-at-requires-clause-paced c =
+    subst (λ (l : List Step). IsPaced l 8) (sym c.steps.ensures.steps) c.into_parts-code.ensures.runs.paced
 
-pub invariant_of-scan : goal.invariant_of-scan
-invariant_of-scan c =
-    let s = c.args.settings in
-    let same : c.steps.result.now ≡ (compiled s).steps = c.steps.ensures.steps ∙ ap (λ (p : Program). p.steps) c.requires.code in
-    let unfolds : Unfolds c.steps.result.now (agenda s) =
-    subst (λ (l : List Step). Unfolds l (agenda s)) (sym same) (compiled_unfolds s c.requires.listed c.requires.range) in
-    let way = way_of c.first-moves.result.0 c.first-moves.result.1 in
-    let l = stands c.steps.result.now (agenda s) way (c.first-moves.ensures (agenda s) unfolds (visits-agenda s c.requires.listed)) in
-    let e : c.count-index.result ≡ 0 + length (moves_of way.moves) = omega (arith, c.count-index.ensures.count) in
+pub invariant_of-result : goal.invariant_of-result
+invariant_of-result c =
+    let runs = c.into_parts-code.ensures.runs in
+    let steps = c.into_parts-code.result.0.steps in
+    let unfolds = subst (λ (l : List Step). Unfolds l (items_of steps)) (sym c.steps.ensures.steps) runs.unfolds in
     record {
-      listed = c.requires.listed;
-      range = c.requires.range;
-      paced = subst (λ (p : Program). IsPaced p.steps most_counting) (sym c.requires.code) (compiled_paced s c.requires.listed c.requires.range);
-      does = subst (λ (k : List Step). Does k way.at (drop c.count-index.result (agenda s))) c.steps.ensures.steps
-          (subst (Does c.steps.result.now way.at) (sym (ap (λ n. drop n (agenda s)) e ∙ rest_there s 0 way.moves l.rest l.lead l.split)) l.does);
-      rests = subst (λ (k : List Step). IsResting (slice_get k way.at.step)) c.steps.ensures.steps l.rests;
+      runs = runs;
+      does = subst (λ (k : List Step). Does k c.first-at.result (items_of steps)) c.steps.ensures.steps (c.first-at.ensures.does (items_of steps) unfolds);
+      near = subst (λ (k : List Step). IsNear k 0 c.first-at.result.step) c.steps.ensures.steps c.first-at.ensures.near;
     }
 
 pub returns-clause-scan : goal.returns-clause-scan
 returns-clause-scan c =
-    let s = c.args.settings in
-    let same : c.steps.result.now ≡ (compiled s).steps = c.steps.ensures.steps ∙ ap (λ (p : Program). p.steps) c.requires.code in
-    let unfolds : Unfolds c.steps.result.now (agenda s) =
-    subst (λ (l : List Step). Unfolds l (agenda s)) (sym same) (compiled_unfolds s c.requires.listed c.requires.range) in
-    let way = way_of c.first-moves.result.0 c.first-moves.result.1 in
-    let l = stands c.steps.result.now (agenda s) way (c.first-moves.ensures (agenda s) unfolds (visits-agenda s c.requires.listed)) in
-    let e : c.count-index.result ≡ 0 + length (moves_of way.moves) = omega (arith, c.count-index.ensures.count) in
-    place_is s 0 way.moves l.rest l.lead l.split c.count-index.result e
+    let code = c.into_parts-code.result.0 in
+    let parts = c.into_parts-code.ensures in
+    ap (λ (x : CourseSeen). let p : ScanSeen = record { course = x; index = 0 } in p)
+    (same_course c.args.course (items_of code.steps) code.meter c.into_parts-code.result.1 c.into_parts-code.result.2 parts.items parts.meter parts.sources
+    parts.points)
 
-pub returns-clause-moves : goal.returns-clause-moves
-returns-clause-moves c =
-    let s = c.args.settings in
-    let same : c.steps.result.now ≡ (compiled s).steps = c.steps.ensures.steps ∙ ap (λ (p : Program). p.steps) c.requires.code in
-    let unfolds : Unfolds c.steps.result.now (agenda s) =
-    subst (λ (l : List Step). Unfolds l (agenda s)) (sym same) (compiled_unfolds s c.requires.listed c.requires.range) in
-    let way = way_of c.first-moves.result.0 c.first-moves.result.1 in
-    let l = stands c.steps.result.now (agenda s) way (c.first-moves.ensures (agenda s) unfolds (visits-agenda s c.requires.listed)) in
-    way_is s 0 way.moves l.rest l.lead l.split
+pub returns-clause-slot_in : goal.returns-clause-slot_in
+returns-clause-slot_in c =
+    let parts = c.into_parts-code.ensures in
+    subst (λ (m : ℕ). (1 ≤ m) × (m ≤ most_slots)) parts.meter parts.runs.range.meter

@@ -1,7 +1,7 @@
 use Rattle.std.proofs.Common.{◌≡◌, Bool, ap, sym, subst, ◌∙◌}
 use Rattle.std.specs.Prelude.{if◌then◌else◌}
-use Rattle.sw_trigger.specs.Settings.{SettingsSeen}
 use Rattle.sw_verify.specs.declared.snapshot.Snapshot.{Snapshot}
+use Rattle.sw_verify.specs.Course.{CourseSeen, course_of}
 use Rattle.sw_cage.specs.Outcome.{Advances, begun}
 use Rattle.sw_cage.specs.TakenSeen.{taken_seen}
 use Rattle.sw_cage.proofs.CardLemmas.{seen_is}
@@ -35,9 +35,9 @@ returns-in-Ok g c =
       events = c.self.inside.events;
     } in
     let same : c.args.plan ≡ snapshot_of p = subst (λ (x : Panel). c.args.plan ≡ snapshot_of x) (sym c.self.view_is) c.requires.same in
-    let goes : Advances (begun p.cage) p.settings 0 (taken_seen c.in-Ok.told) c.start.new.self.seen =
-    subst (λ (x : SettingsSeen). Advances (begun p.cage) x 0 (taken_seen c.in-Ok.told) c.start.new.self.seen) (ap (λ (x : Snapshot).
-    x.settings) same) c.in-Ok.ensures.ok in
+    let goes : Advances (begun p.cage) (course_of p.settings) 0 (taken_seen c.in-Ok.told) c.start.new.self.seen =
+    subst (λ (x : CourseSeen). Advances (begun p.cage) x 0 (taken_seen c.in-Ok.told) c.start.new.self.seen)
+    (c.into_course.ensures.course ∙ ap (λ (x : Snapshot). course_of x.settings) same) c.in-Ok.ensures.ok in
     let status = c.set_card_fault.ensures ∙ ap (λ (b : Bool). if b then card_fault_reported p.status else card_fault_cleared p.status) c.tells_fault.ensures in
     rw (
       ← c.self.view_is,
