@@ -16,7 +16,7 @@ use crate::ready::check;
 use crate::refusal::Refusal;
 use crate::snapshot::{BoxedSnapshot, Snapshot};
 use crate::sources::Sources;
-use crate::verified::{Verified, verify};
+use crate::verified::{BoxedVerified, Verified, verify};
 use std::alloc::Global;
 use std::marker::Model;
 use sw_code::{Code, compile};
@@ -27,7 +27,7 @@ use sw_code::{Code, compile};
 #[derive(Debug, Drop)]
 pub struct Plan {
     snapshot: BoxedSnapshot,
-    verified: Verified,
+    verified: BoxedVerified,
 }
 
 impl Model for Plan {
@@ -50,7 +50,7 @@ impl Plan {
         ensures plan { IfOk result (λ p. p ≡ snapshot) }
         ensures refused { IfErr result (λ r. IsRefusedScan r snapshot) }
     {
-        match verified_code(alloc, snapshot.get()) {
+        match boxed_code(alloc, snapshot.get()) {
             Ok(verified) => Ok(Plan { snapshot, verified }),
             Err(refusal) => {
                 let first = first_refusal(snapshot.get(), refusal);
@@ -74,7 +74,7 @@ impl Plan {
         ensures unfolds { Unfolds result.now.steps (agenda self.now.settings) }
         ensures ready { IsReady self.now }
     {
-        self.verified.code()
+        self.verified.get().code()
     }
 
     /// What the scan does: the agenda of the settings.
@@ -87,7 +87,7 @@ impl Plan {
         let Plan { snapshot, verified } = self;
         let settings = &snapshot.get().settings;
         Course {
-            verified,
+            verified: verified.into_inner(),
             sources: Sources::new(settings),
             points: settings.points(),
         }
@@ -111,6 +111,20 @@ fn verified_code(alloc: Global, snapshot: &Snapshot) -> Result<Verified, Refusal
     };
     let closed = snapshot.closed.as_slice();
     verify(alloc, code, &snapshot.layout, closed, settings.points())
+}
+
+/// The same in a box.
+fn boxed_code(alloc: Global, snapshot: &Snapshot) -> Result<BoxedVerified, Refusal>
+    ensures ready { IfOk result (λ v. IsReady snapshot.now) }
+    ensures code { IfOk result (λ v. v.code ≡ compiled snapshot.now.settings) }
+    ensures unfolds { IfOk result (λ v. Unfolds v.code.steps (agenda snapshot.now.settings)) }
+    ensures refused { IfErr result (λ r. IsReady snapshot.now → r ≡ NoMemory) }
+{
+    let verified = verified_code(alloc, snapshot)?;
+    match BoxedVerified::new(alloc, verified) {
+        Ok(boxed) => Ok(boxed),
+        Err(_) => Err(Refusal::NoMemory),
+    }
 }
 
 /// The first refusal of a snapshot that applies, or this one where it passes the check.

@@ -7,6 +7,7 @@ use Rattle.sw_trigger.specs.Agenda.{Item}
 use Rattle.sw_verify.specs.Channels.{is_among}
 use Rattle.sw_verify.specs.Sound.{IsSound}
 use Rattle.sw_verify.specs.Items.{items_of}
+use Rattle.sw_verify.specs.Judged.{Judged}
 use Rattle.sw_verify.proofs.CourseLemmas.{planned_runs, planned_items, planned_course}
 use Rattle.sw_verify.proofs.plan.Plan.into_course.Goals as goal
 
@@ -14,12 +15,12 @@ pub invariant_of-result : goal.invariant_of-result
 invariant_of-result c =
     let p = c.self.inside.snapshot in
     let ready = c.self.invariant.ready in
-    let code = c.self.inside.verified.code in
-    let items = planned_items code p.settings c.self.invariant.code ready.listed in
+    let code = c.into_inner.result.code in
+    let items = planned_items code p.settings (ap (λ (v : Judged). v.code) c.into_inner.ensures ∙ c.self.invariant.code) ready.listed in
     let range = subst (λ (x : Snapshot). IsInRange x.settings) c.get.ensures c.points.ensures.range in
     let points : c.points.result ≡ p.settings.points = c.points.ensures.points ∙ ap (λ (x : Snapshot). x.settings.points) c.get.ensures in
     record {
-      runs = planned_runs code p.settings c.self.invariant.code ready.listed range;
+      runs = planned_runs code p.settings (ap (λ (v : Judged). v.code) c.into_inner.ensures ∙ c.self.invariant.code) ready.listed range;
       fits = omega (arith, ap reads items, ready.sound.fits, points);
       room = omega (arith, range.points.1, points);
     }
@@ -27,7 +28,7 @@ invariant_of-result c =
 pub returns-clause-course : goal.returns-clause-course
 returns-clause-course c =
     let p = c.self.inside.snapshot in
-    planned_course c.self.inside.verified.code p.settings c.new.result c.points.result c.self.invariant.code c.self.invariant.ready.listed
+    planned_course c.into_inner.result.code p.settings c.new.result c.points.result (ap (λ (v : Judged). v.code) c.into_inner.ensures ∙ c.self.invariant.code) c.self.invariant.ready.listed
     (c.new.ensures ∙ ap (λ (x : Snapshot). sources_of x.settings) c.get.ensures)
     (c.points.ensures.points ∙ ap (λ (x : Snapshot). x.settings.points) c.get.ensures)
     ∙ ap (λ (x : Snapshot). course_of x.settings) c.self.view_is
@@ -36,8 +37,8 @@ pub returns-clause-sound : goal.returns-clause-sound
 returns-clause-sound c =
     let p = c.self.inside.snapshot in
     let ready = c.self.invariant.ready in
-    let steps = c.self.inside.verified.code.steps in
-    let items = planned_items c.self.inside.verified.code p.settings c.self.invariant.code ready.listed in
+    let steps = c.into_inner.result.code.steps in
+    let items = planned_items c.into_inner.result.code p.settings (ap (λ (v : Judged). v.code) c.into_inner.ensures ∙ c.self.invariant.code) ready.listed in
     let points : c.points.result ≡ p.settings.points = c.points.ensures.points ∙ ap (λ (x : Snapshot). x.settings.points) c.get.ensures in
     subst (λ (x : Snapshot). IsSound x.layout (is_among x.closed) c.points.result (items_of steps)) c.self.view_is
     (subst (λ (n : ℕ). IsSound p.layout (is_among p.closed) n (items_of steps)) (sym points)
