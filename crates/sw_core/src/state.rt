@@ -1,11 +1,11 @@
-//! The whole state of the mainframe, and the calls that change it: `apply`, and its parts `ask` and `finish`.
+//! The whole state of the mainframe, and the calls that change it: `apply`, and its part `ask`.
 
 ghost use Rattle.std.specs.Prelude.{◌≡◌, ◌==◌, ◌&&◌, ◌||◌, Bool, IfOk, None, Some, true, false};
 ghost use Rattle.sw_cage.specs.Change.{any_failed};
 ghost use Rattle.sw_status.specs.StatusModel.{summary_of};
 ghost use Rattle.sw_core.specs.Sessions.{IsJoined};
 ghost use Rattle.sw_core.specs.Seen.{ask_seen, answer_seen, work_seen, failed_in, HandsBack, IsOwnAccount};
-ghost use Rattle.sw_core.specs.Seen.{AskSession, AskInstall, AskEject, AskFinished, SaysSession};
+ghost use Rattle.sw_core.specs.Seen.{AskSession, AskInstall, AskEject, SaysSession};
 ghost use Rattle.sw_core.specs.Panel.{Panel, is_running, opening, opening_at};
 ghost use Rattle.sw_core.specs.Seats.{asker_of};
 ghost use Rattle.sw_core.specs.Event.{last_number};
@@ -26,7 +26,7 @@ use std::marker::Model;
 use sw_base::ScpiError;
 use sw_cage::{Cage, Finished, Happening};
 use sw_card::{Card, Meter, Relay};
-use sw_lex::Command;
+use sw_lex::{Command, Plain};
 use sw_status::Status;
 use sw_trigger::Settings;
 
@@ -226,20 +226,6 @@ impl<R: Relay, M: Meter> Core<R, M> {
         self.sessions.shuts_out(sid, ask) || (is_held(ask) && self.cage.is_running())
     }
 
-    /// Takes a meter back: one event, as `apply` does it.
-    #[tactic(auto, using(crate::proofs::NumberedLemmas::numbered_step))]
-    pub fn finish(&mut self, done: Finished<M>) -> Answer<R, M>
-        ensures step { Step self.old (AskFinished done.1)
-            (failed_in (AskFinished done.1) (answer_seen result) self.old.cage.cards self.new.cage.cards)
-            (answer_seen result) self.new }
-        ensures own { IsOwnAccount (AskFinished done.1) }
-        ensures back { HandsBack (Ask.Finished done) result }
-    {
-        let answer = self.finished(done);
-        self.end_event(&answer);
-        answer
-    }
-
     /// Does what is asked, and leaves the end of the event to the caller.
     fn act(&mut self, alloc: Global, ask: Ask<R, M>) -> Answer<R, M>
         ensures acts { Acts self.old (ask_seen ask)
@@ -375,7 +361,7 @@ impl<R: Relay, M: Meter> Core<R, M> {
                 self.status.push_error(error);
                 SessionAnswer::Done(None)
             }
-            SessionAsk::Unit(_, Command::Trigger, _) => {
+            SessionAsk::Unit(_, Command::Plain(Plain::Trigger), _) => {
                 self.trigger(Happening::Bus, ScpiError::TriggerIgnored, work)
             }
             SessionAsk::Unit(_, Command::Signal(layer), _) => self.signal(layer, work),
