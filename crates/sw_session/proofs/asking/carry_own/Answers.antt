@@ -1,5 +1,6 @@
-use Rattle.std.proofs.Common.{sym, ap, subst}
+use Rattle.std.proofs.Common.{sym, ap, subst, ◌∙◌}
 use Rattle.sw_lex.specs.declared.command.Command.{Command}
+use Rattle.sw_lex.specs.declared.command.Plain.{Plain}
 use Rattle.sw_core.specs.Action.{action_of}
 use Rattle.sw_session.specs.Macros.{ActsOnMacros}
 use Rattle.sw_session.specs.Talk.{effect_of}
@@ -26,4 +27,5 @@ returns-in-Macro g c =
 
 pub returns-in-Plain-Initiate : goal.returns-in-Plain-Initiate
 returns-in-Plain-Initiate g c =
-    begins-scan g.D.Desk.passes c.args.sid _ _ c.args.command c.args.answered c.initiate.result c.args.macros.now c.in-Plain-Initiate.is c.initiate.ensures
+    begins-scan g.D.Desk.passes c.args.sid _ _ c.args.command c.args.answered c.initiate.result c.args.macros.now
+    (c.in-Plain-Initiate.is ∙ ap (λ (x : Plain). Command.Plain x) c.in-Plain-Initiate.field-0-is) c.initiate.ensures
