@@ -48,7 +48,11 @@ pub fn act_on_one(alloc: Global, macros: &mut Macros, ask: &MacroCommand) -> Out
 fn define(alloc: Global, macros: &mut Macros, definition: &Definition) -> Outcome
     ensures { DefinesMacro definition.now.label definition.now.body macros.old result macros.new }
 {
-    macros.define(alloc, definition.label.as_slice(), definition.body.as_slice())?;
+    macros.define(
+        alloc,
+        definition.label.as_slice(),
+        definition.body.as_slice(),
+    )?;
     Ok(None)
 }
 
