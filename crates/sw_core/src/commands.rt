@@ -52,6 +52,7 @@ impl<R: Relay, M: Meter> Core<R, M> {
 
     /// Carries a command without data out.
     #[tactic(auto, using(crate::proofs::CallsLemmas::failed_same))]
+    #[inline(always)]
     fn plain(&mut self, alloc: Global, plain: Plain) -> SessionAnswer
         requires alone { is_trigger (Command.Plain plain) ≡ false }
         requires unheld { awaits_end (Command.Plain plain) && is_running self.old ≡ false }
@@ -76,6 +77,7 @@ impl<R: Relay, M: Meter> Core<R, M> {
 
     /// Carries a command with a channel list out.
     #[tactic(auto, using(crate::proofs::CallsLemmas::failed_same))]
+    #[inline(always)]
     fn channels(&mut self, alloc: Global, ask: Channels, chans: &[Chan]) -> SessionAnswer
         ensures { (ask_of : SessionAsk) → StepAction (channels_action ask chans.now) self.old ask_of
             (any_failed self.old.cage.cards self.new.cage.cards) result None self.new }

@@ -18,6 +18,7 @@ use sw_lex::{GroupQuery, LayerQuery, PlainQuery};
 
 impl<R: Relay, M: Meter> Core<R, M> {
     /// Answers a query; `available` says whether its message has answered before, so that a message is available.
+    #[inline(always)]
     pub(crate) fn tell(&self, alloc: Global, query: PlainQuery, available: bool) -> SessionAnswer
         ensures { StepText self.now (query_text available query self.now) self.now.status Bool.false result self.now }
     {
@@ -40,6 +41,7 @@ impl<R: Relay, M: Meter> Core<R, M> {
     }
 
     /// Answers a query of a layer.
+    #[inline(always)]
     pub(crate) fn tell_layer(
         &self,
         alloc: Global,
@@ -59,6 +61,7 @@ impl<R: Relay, M: Meter> Core<R, M> {
     }
 
     /// Answers a query of a status group.
+    #[inline(always)]
     pub(crate) fn tell_group(
         &self,
         alloc: Global,

@@ -47,6 +47,7 @@ pub fn set_card_fault(status: &mut Status, failed: bool)
 
 impl<R: Relay, M: Meter> Core<R, M> {
     /// Tells what a query takes out of the status, and takes it out.
+    #[inline(always)]
     pub(crate) fn read_out(&mut self, alloc: Global, read: StatusRead) -> SessionAnswer
         ensures { StepText self.old (read_text read self.old.status) (without_read read self.old.status) Bool.false
             result self.new }
@@ -139,6 +140,7 @@ impl<R: Relay, M: Meter> Core<R, M> {
     }
 
     /// Sets bits of the status.
+    #[inline(always)]
     pub(crate) fn set_status(&mut self, setting: StatusSetting) -> SessionAnswer
         ensures { StepDone (record self.old { status = with_bits setting self.old.status }) Bool.false result self.new }
     {

@@ -55,12 +55,12 @@ module _ {D : Type 0} (passes : D → Entry → D → Type 0) (sid : Sid) where
       (λ t rest k. subst (λ (e : Effect). BeginsBy e sid answered command macros t (begun_with final macros' rest)) (sym is) (told, acts, k))
 
   -- a scan was to start
-  pub begins-scan : (d0 d1 : D) (command : Command) (answered : Bool) (final : SessionAnswer) (macros : Table) → command ≡ Command.Plain Plain.Initiate
+  pub begins-scan : (d0 d1 : D) (answered : Bool) (final : SessionAnswer) (macros : Table)
       → Led passes d0 d1 (λ t rest. StartsScan sid t final rest)
-      → Led passes d0 d1 (λ t rest. Begins sid answered (Ok command) macros t (begun_with final macros rest))
-  begins-scan d0 d1 command answered final macros is p =
-      led-so passes d0 d1 (λ t rest. StartsScan sid t final rest) (λ t rest. Begins sid answered (Ok command) macros t (begun_with final macros rest)) p
-      (λ t rest k. subst (λ (x : Command). Begins sid answered (Ok x) macros t (begun_with final macros rest)) (sym is) (k, refl))
+      → Led passes d0 d1 (λ t rest. Begins sid answered (Ok (Command.Plain Plain.Initiate)) macros t (begun_with final macros rest))
+  begins-scan d0 d1 answered final macros p =
+      led-so passes d0 d1 (λ t rest. StartsScan sid t final rest) (λ t rest.
+      Begins sid answered (Ok (Command.Plain Plain.Initiate)) macros t (begun_with final macros rest)) p (λ t rest k. (k, refl))
 
   -- a reset was asked
   pub begins-reset : (d0 d1 : D) (answered : Bool) (final : SessionAnswer) (macros macros' : Table) → macros' ≡ table_reset final macros

@@ -61,8 +61,7 @@ pub fn carry_own<D: Desk>(
         Begins sid answered (Ok command) macros.old t (begun_with result macros.new rest)) }
 {
     match command {
-        Command::Plain(Plain::Initiate) => initiate(desk, sid, alloc),
-        Command::Plain(Plain::Reset) => reset(desk, sid, macros, answered),
+        Command::Plain(plain) => carry_plain(desk, sid, alloc, macros, plain, answered),
         Command::Macros(ask) => {
             let outcome = act_on_all(alloc, macros, ask);
             report(desk, sid, outcome)
@@ -71,6 +70,26 @@ pub fn carry_own<D: Desk>(
             let outcome = act_on_one(alloc, macros, &ask);
             report(desk, sid, outcome)
         }
+        _ => unreachable!(),
+    }
+}
+
+/// Begins a scan, or resets: what a session carries out of the commands without data.
+fn carry_plain<D: Desk>(
+    desk: &mut D,
+    sid: Sid,
+    alloc: Global,
+    macros: &mut Macros,
+    plain: Plain,
+    answered: bool,
+) -> SessionAnswer
+    requires { is_own (Command.Plain plain) ≡ true }
+    ensures { Led D.passes desk.old desk.new (λ t rest.
+        Begins sid answered (Ok (Command.Plain plain)) macros.old t (begun_with result macros.new rest)) }
+{
+    match plain {
+        Plain::Initiate => initiate(desk, sid, alloc),
+        Plain::Reset => reset(desk, sid, macros, answered),
         _ => unreachable!(),
     }
 }

@@ -1,10 +1,9 @@
-use Rattle.std.proofs.Common.{sym, ap, subst, ◌∙◌}
+use Rattle.std.proofs.Common.{sym, ap, subst}
 use Rattle.sw_lex.specs.declared.command.Command.{Command}
-use Rattle.sw_lex.specs.declared.command.Plain.{Plain}
 use Rattle.sw_core.specs.Action.{action_of}
 use Rattle.sw_session.specs.Macros.{ActsOnMacros}
 use Rattle.sw_session.specs.Talk.{effect_of}
-use Rattle.sw_session.proofs.BeginsLemmas.{begins-reported, begins-scan}
+use Rattle.sw_session.proofs.BeginsLemmas.{begins-reported}
 use Rattle.sw_session.proofs.asking.carry_own.Goals as goal
 
 pub returns-in-Macros : goal.returns-in-Macros
@@ -25,7 +24,5 @@ returns-in-Macro g c =
     c.act_on_one-outcome.ensures)
     c.report-in-Macro.ensures
 
-pub returns-in-Plain-Initiate : goal.returns-in-Plain-Initiate
-returns-in-Plain-Initiate g c =
-    begins-scan g.D.Desk.passes c.args.sid _ _ c.args.command c.args.answered c.initiate.result c.args.macros.now
-    (c.in-Plain-Initiate.is ∙ ap (λ (x : Plain). Command.Plain x) c.in-Plain-Initiate.field-0-is) c.initiate.ensures
+pub returns-in-Plain : goal.returns-in-Plain
+returns-in-Plain g c = rw c.in-Plain.is c.carry_plain.ensures
