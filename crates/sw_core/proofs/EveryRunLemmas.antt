@@ -72,7 +72,8 @@ bound_admitted Admitted p sid available f text q h = h.0.1 ∙ ap (λ (s : Setti
 
 bound_either : (b : Bool) (p : Panel) (sid : Sid) (available f : Bool) (text : List ℕ) (q : Panel)
     → MatchBool b (IsUnnumbered p (AskSession (Ask.Unit sid (command.Query query.Bound) available)) f (SaysSession (Done (Some text)) None) q)
-    (IsEvent p (AskSession (Ask.Unit sid (command.Query query.Bound) available)) f (SaysSession (Done (Some text)) None) q) → text ≡ decimal (bound_of q.settings)
+    (IsEvent p (AskSession (Ask.Unit sid (command.Query query.Bound) available)) f (SaysSession (Done (Some text)) None) q)
+    → text ≡ decimal (bound_of q.settings)
 bound_either true p sid available f text q h = absurd h.worn
 bound_either false p sid available f text q h =
     let ask = Ask.Unit sid (command.Query query.Bound) available in

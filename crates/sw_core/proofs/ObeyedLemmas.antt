@@ -79,24 +79,28 @@ done_of p sid command available f q e =
     not_kept_out (admission p sid (Ask.Unit sid command available)) p (Ask.Unit sid command available) f None
     None e.done e.acts.1
 
-pub closes : (p q : Panel) (chans : List Channel) (available failed : Bool) → IsDoneFor p (Command.Channels Channels.Close chans) available failed q → (c : Channel)
+pub closes : (p q : Panel) (chans : List Channel) (available failed : Bool) → IsDoneFor p (Command.Channels Channels.Close chans) available failed q
+    → (c : Channel)
     → is_among chans c ≡ true
     → is_closed q.cage.cards c ≡ true
 closes p q chans available failed s c i =
     let sid = s.0 in
     let h = s.1 in
-    let e = event_of p (AskSession (Ask.Unit sid (Command.Channels Channels.Close chans) available)) failed (SaysSession (Done None) None) q (λ w. w) h in
-    let d = (not_barred (is_running p) p (ClosesListed chans) failed None None e.done (done_of p sid (Command.Channels Channels.Close chans) available failed q e)).0 in
+    let command = Command.Channels Channels.Close chans in
+    let e = event_of p (AskSession (Ask.Unit sid command available)) failed (SaysSession (Done None) None) q (λ w. w) h in
+    let d = (not_barred (is_running p) p (ClosesListed chans) failed None None e.done (done_of p sid command available failed q e)).0 in
     ap (λ (x : Panel). is_closed x.cage.cards c) e.after ∙ d.2.closed c ∙ ap (λ (b : Bool). if b then true else is_closed p.cage.cards c) i
 
-pub opens : (p q : Panel) (chans : List Channel) (available failed : Bool) → IsDoneFor p (Command.Channels Channels.Open chans) available failed q → (c : Channel)
+pub opens : (p q : Panel) (chans : List Channel) (available failed : Bool) → IsDoneFor p (Command.Channels Channels.Open chans) available failed q
+    → (c : Channel)
     → is_among chans c ≡ true
     → is_closed q.cage.cards c ≡ false
 opens p q chans available failed s c i =
     let sid = s.0 in
     let h = s.1 in
-    let e = event_of p (AskSession (Ask.Unit sid (Command.Channels Channels.Open chans) available)) failed (SaysSession (Done None) None) q (λ w. w) h in
-    let d = (not_barred (is_running p) p (OpensListed chans) failed None None e.done (done_of p sid (Command.Channels Channels.Open chans) available failed q e)).0 in
+    let command = Command.Channels Channels.Open chans in
+    let e = event_of p (AskSession (Ask.Unit sid command available)) failed (SaysSession (Done None) None) q (λ w. w) h in
+    let d = (not_barred (is_running p) p (OpensListed chans) failed None None e.done (done_of p sid command available failed q e)).0 in
     ap (λ (x : Panel). is_closed x.cage.cards c) e.after ∙ d.2.closed c ∙ ap (λ (b : Bool). if b then false else is_closed p.cage.cards c) i
 
 pub aborted : (p q : Panel) (available failed : Bool) → IsDoneFor p (Command.Plain Plain.Abort) available failed q → IsAtRest q

@@ -54,7 +54,8 @@ AtEach Is p (e ∷ events) = Is p e × AtEach Is e.panel events
 -- DIAGnostic:SCAN:BOUNd? is answered by the bound of the scan that runs
 abbrev pub TellsBound : Event → Type 0
 TellsBound e = (sid : Sid) (available : Bool) (text : List ℕ) (at : ScanSeen)
-    → e.ask ≡ AskSession (Ask.Unit sid (command.Query query.Bound) available) → e.answer ≡ SaysSession (Done (Some text)) None
+    → e.ask ≡ AskSession (Ask.Unit sid (command.Query query.Bound) available)
+    → e.answer ≡ SaysSession (Done (Some text)) None
     → e.panel.cage.scan ≡ Some at → text ≡ decimal (bound_of at.setup)
 
 -- a card's failure is answered
@@ -145,8 +146,10 @@ pub record RelaysObey : Type 0 where
   pub failed : (p q : Panel) (ask : AskSeen) (failed : Bool) (answer : AnswerSeen) → tells_failure answer ≡ true
       → Step p ask failed answer q → (failed ≡ true) × IsAfterCardFault p q
   -- after ABORt and *RST no scan runs and every relay is open
-  pub aborted : (p q : Panel) (available failed : Bool) → IsDoneFor p (command.Plain plain.Abort) available failed q → IsAtRest q
-  pub reset : (p q : Panel) (available failed : Bool) → IsDoneFor p (command.Plain plain.Reset) available failed q → IsAtRest q
+  pub aborted : (p q : Panel) (available failed : Bool)
+      → IsDoneFor p (command.Plain plain.Abort) available failed q → IsAtRest q
+  pub reset : (p q : Panel) (available failed : Bool)
+      → IsDoneFor p (command.Plain plain.Reset) available failed q → IsAtRest q
   -- after a card is ejected while a scan runs too
   pub stopped : (p q : Panel) (slot : ℕ) (failed : Bool) (card : Account) → is_running p ≡ true
       → Step p (AskEject slot) failed (SaysEjected card) q → IsAtRest q

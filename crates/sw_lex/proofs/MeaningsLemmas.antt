@@ -155,7 +155,8 @@ one_defines : (body : List ℕ) (label : Result (List ℕ) ScpiError) (r s : Res
     → r ≢ Err OutOfMemory → s ≢ Err OutOfMemory → r ≡ s
 one_defines body (Err e) r s a b n m = a ∙ sym b
 one_defines body (Ok x) r s a b n m =
-    let f : Result (List ℕ) ScpiError → Result Command ScpiError = λ q. result_map_both (λ y. commands.Macro (macros.Define (record { label = x; body = y }))) (λ e. e) q in
+    let made : List ℕ → Command = λ y. commands.Macro (macros.Define (record { label = x; body = y })) in
+    let f : Result (List ℕ) ScpiError → Result Command ScpiError = λ q. result_map_both made (λ e. e) q in
     let e = one_reads_block body a.0 b.0 a.1 b.1 (λ k. n (a.2 ∙ ap f k)) (λ k. m (b.2 ∙ ap f k)) in
     a.2 ∙ ap f e ∙ sym b.2
 

@@ -92,7 +92,8 @@ time_unit_of suffix =
 -- whole microseconds, from the least to an hour
 abbrev pub time_within : Time → LayerName → Result ℕ ScpiError → Result Command ScpiError
 time_within kind layer (Ok micros) =
-    if nat_le (least_micros kind) micros && nat_le micros longest_delay then Ok (commands.Set (settings.Time kind layer micros))
+    if nat_le (least_micros kind) micros && nat_le micros longest_delay
+    then Ok (commands.Set (settings.Time kind layer micros))
     else Err DataOutOfRange
 time_within kind layer (Err e) = Err e
 
