@@ -5,7 +5,7 @@ use Rattle.sw_base.specs.declared.error.ScpiError.{ScpiError}
 use Rattle.sw_base.specs.declared.error.ScpiError.TheVariants.{SettingsConflict}
 use Rattle.sw_base.specs.declared.reading.Reading.{Reading}
 use Rattle.sw_cage.specs.TakenSeen.{TakenSeen, SaysIgnored, SaysFault, SaysWaits, SaysPause, SaysJob, SaysEnded}
-use Rattle.sw_core.specs.Action.{Effect, TellsNumber, TellsText, TellsReadings, ReadsOut, SetsStatus, SetsUp, ClosesListed, OpensListed, TellsRelays, Changes}
+use Rattle.sw_core.specs.Action.{Effect, TellsText, TellsReadings, ReadsOut, SetsStatus, SetsUp, ClosesListed, OpensListed, TellsRelays, Changes}
 use Rattle.sw_core.specs.Action.{Resets, Triggers, RefusesWith, IsOfMacros, Initiates, Action, AtOnce, BetweenScans, AfterScan, action_of}
 use Rattle.sw_core.specs.declared.ask.Sid.{Sid}
 use Rattle.sw_core.specs.declared.ask.SessionAsk.{SessionAsk}
@@ -34,7 +34,6 @@ pub alone_answered : (e : Effect) (p : Panel) (f : Bool) (a : SessionAnswer) (q 
 alone_answered e p f (Done text) q h = tt
 alone_answered e p f (Refused x) q h = tt
 alone_answered TellsReadings p f a q h = readings_answered p.cage.readings p f a q h
-alone_answered (TellsNumber number) p f a q h = absurd h
 alone_answered (TellsText text) p f a q h = absurd h
 alone_answered (ReadsOut text after) p f a q h = absurd h
 alone_answered (SetsStatus after) p f a q h = absurd h

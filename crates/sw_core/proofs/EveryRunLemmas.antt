@@ -5,6 +5,7 @@ use Rattle.std.specs.Prelude.{MatchBool, decimal, OnErr, IfSome}
 use Rattle.sw_base.specs.declared.reading.Reading.{Reading}
 use Rattle.sw_card.specs.declared.board.CardFault.{CardFault}
 use Rattle.sw_lex.specs.declared.command.Command.TheVariants as command
+use Rattle.sw_lex.specs.declared.command.PlainQuery.TheVariants as query
 use Rattle.sw_trigger.specs.Settings.{SettingsSeen}
 use Rattle.sw_verify.specs.Course.{CourseSeen, course_of}
 use Rattle.sw_trigger.specs.Counts.{awaiting, bound_of}
@@ -65,25 +66,26 @@ stays_good = record { opening = good_opening; step = good_step }
 -- ---- the bound that is told
 
 bound_admitted : (now : Admission) (p : Panel) (sid : Sid) (available f : Bool) (text : List ℕ) (q : Panel)
-    → StepAdmitted now p (Ask.Unit sid command.BoundQuery available) f (Done (Some text)) None q → text ≡ decimal (bound_of q.settings)
+    → StepAdmitted now p (Ask.Unit sid (command.Query query.Bound) available) f (Done (Some text)) None q → text ≡ decimal (bound_of q.settings)
 bound_admitted Dropped p sid available f text q h = absurd h
 bound_admitted ShutOut p sid available f text q h = absurd h
 bound_admitted Admitted p sid available f text q h = h.0.1 ∙ ap (λ (s : SettingsSeen). decimal (bound_of s)) (sym (ap (λ (x : Panel). x.settings) h.0.2))
 
 bound_either : (b : Bool) (p : Panel) (sid : Sid) (available f : Bool) (text : List ℕ) (q : Panel)
-    → MatchBool b (IsUnnumbered p (AskSession (Ask.Unit sid command.BoundQuery available)) f (SaysSession (Done (Some text)) None) q)
-    (IsEvent p (AskSession (Ask.Unit sid command.BoundQuery available)) f (SaysSession (Done (Some text)) None) q) → text ≡ decimal (bound_of q.settings)
+    → MatchBool b (IsUnnumbered p (AskSession (Ask.Unit sid (command.Query query.Bound) available)) f (SaysSession (Done (Some text)) None) q)
+    (IsEvent p (AskSession (Ask.Unit sid (command.Query query.Bound) available)) f (SaysSession (Done (Some text)) None) q)
+    → text ≡ decimal (bound_of q.settings)
 bound_either true p sid available f text q h = absurd h.worn
 bound_either false p sid available f text q h =
-    let ask = Ask.Unit sid command.BoundQuery available in
+    let ask = Ask.Unit sid (command.Query query.Bound) available in
     bound_admitted (admission p sid ask) p sid available f text h.done h.acts.1
     ∙ ap (λ (s : SettingsSeen). decimal (bound_of s)) (sym (ap (λ (x : Panel). x.settings) h.after))
 
 bound_step : (p q : Panel) (ask : AskSeen) (f : Bool) (answer : AnswerSeen) (sid : Sid) (available : Bool) (text : List ℕ)
-    → ask ≡ AskSession (Ask.Unit sid command.BoundQuery available) → answer ≡ SaysSession (Done (Some text)) None → Step p ask f answer q
+    → ask ≡ AskSession (Ask.Unit sid (command.Query query.Bound) available) → answer ≡ SaysSession (Done (Some text)) None → Step p ask f answer q
     → text ≡ decimal (bound_of q.settings)
 bound_step p q ask f answer sid available text e r h =
-    let there = AskSession (Ask.Unit sid command.BoundQuery available) in
+    let there = AskSession (Ask.Unit sid (command.Query query.Bound) available) in
     bound_either ((p.events == last_number) && not (acts_unnumbered there)) p sid available f text q
     (subst (λ (y : AnswerSeen). Step p there f y q) r (subst (λ (x : AskSeen). Step p x f answer q) e h))
 

@@ -34,7 +34,7 @@ use Rattle.sw_core.specs.declared.ask.SessionAnswer.TheVariants as Answer
 use Rattle.sw_core.specs.declared.ask.SessionAnswer.TheVariants.{Joined, Full, Stranger, Broken, Done, Refused, Hold}
 use Rattle.sw_core.specs.Panel.{Panel, with_cards, is_running}
 use Rattle.sw_core.specs.Registers.{card_fault_reported}
-use Rattle.sw_core.specs.Action.{Effect, TellsNumber, TellsText, TellsReadings, ReadsOut, SetsStatus, SetsUp, ClosesListed, OpensListed, TellsRelays, Changes}
+use Rattle.sw_core.specs.Action.{Effect, TellsText, TellsReadings, ReadsOut, SetsStatus, SetsUp, ClosesListed, OpensListed, TellsRelays, Changes}
 use Rattle.sw_core.specs.Action.{Resets, reset, Triggers, RefusesWith, IsOfMacros, Initiates, Action, AtOnce, BetweenScans, AfterScan, action_of}
 use Rattle.sw_core.specs.Seats.{asker_of}
 use Rattle.sw_core.specs.Event.{concluded, ended, erred, last_number}
@@ -183,7 +183,6 @@ told_open p chans (Refused HardwareError) q h = (refl, h.2)
 told_open p chans a q h = absurd h
 
 told_alone : (d : Effect) (p : Panel) (a : SessionAnswer) (q : Panel) → StepAlone d p true a q → IsAloneFall p a q
-told_alone (TellsNumber number) p a q h = absurd (no_text p _ p.status a q h)
 told_alone (TellsText text) p a q h = absurd (no_text p (text p) p.status a q h)
 told_alone TellsReadings p a q h = absurd (no_readings p.cage.readings p a q h)
 told_alone (ReadsOut text after) p a q h = absurd (no_text p (text p.status) (after p.status) a q h)

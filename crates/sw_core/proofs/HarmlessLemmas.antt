@@ -1,10 +1,17 @@
 -- What each command does leaves the mainframe fine.
 use Rattle.std.proofs.Common.{◌≡◌, ◌≢◌, Bool, true, false, [], Option, None, sym}
 use Rattle.std.proofs.Common.{subst}
+use Rattle.sw_base.specs.declared.terms.LayerName.{LayerName}
 use Rattle.sw_base.specs.declared.terms.LayerName.TheVariants.{Arm, Trigger}
 use Rattle.sw_base.specs.declared.error.ScpiError.TheVariants.{TriggerIgnored, ArmIgnored, DataOutOfRange, TooMuchData}
 use Rattle.sw_base.specs.declared.error.ScpiError.TheVariants.{SettingsConflict, HardwareError}
 use Rattle.sw_lex.specs.declared.command.Command.{Command}
+use Rattle.sw_lex.specs.declared.command.Plain.{Plain}
+use Rattle.sw_lex.specs.declared.command.StatusRead.{StatusRead}
+use Rattle.sw_lex.specs.declared.command.Channels.{Channels}
+use Rattle.sw_lex.specs.declared.command.Time.{Time}
+use Rattle.sw_lex.specs.declared.command.Setting.{Setting}
+use Rattle.sw_lex.specs.declared.command.StatusSetting.{StatusSetting}
 use Rattle.sw_trigger.specs.Settings.{SettingsSeen, IsInRange}
 use Rattle.sw_trigger.proofs.Ranges.{layer_range, range_layer}
 use Rattle.sw_status.specs.StatusModel.{StatusSeen, IsStatus, registers_of, with_group}
@@ -15,8 +22,9 @@ use Rattle.sw_cage.specs.Good.{IsRunning}
 use Rattle.sw_cage.proofs.SlotChangeLemmas.{is_none, all_open_closed, exclusive_none}
 use Rattle.sw_cage.proofs.ChannelCallLemmas.{identities_all_open}
 use Rattle.sw_core.specs.Panel.{Panel, is_running}
-use Rattle.sw_core.specs.Action.{Effect, TellsNumber, TellsText, TellsReadings, ReadsOut, SetsStatus, SetsUp, ClosesListed, OpensListed, TellsRelays, Changes}
+use Rattle.sw_core.specs.Action.{Effect, TellsText, TellsReadings, ReadsOut, SetsStatus, SetsUp, ClosesListed, OpensListed, TellsRelays, Changes}
 use Rattle.sw_core.specs.Action.{Resets, Triggers, RefusesWith, IsOfMacros, Initiates, Action, AtOnce, BetweenScans, AfterScan, action_of}
+use Rattle.sw_core.specs.Action.{Fits, misfit, with_value, with_bits, without_read, ignored_at}
 use Rattle.sw_core.proofs.KeptLemmas.{IsKept, kept_rack, kept_over}
 use Rattle.std.specs.Prelude.{IfSome}
 use Rattle.sw_base.specs.declared.terms.StatusGroup.{StatusGroup}
@@ -111,7 +119,6 @@ conflict e = absurd (cc (e))
 
 -- what an effect leaves fine, and is refused by no card's failure of its own
 abbrev pub IsHarmless : Panel → Effect → Type 0
-IsHarmless p (TellsNumber number) = Unit {0}
 IsHarmless p (TellsText text) = Unit {0}
 IsHarmless p TellsReadings = Unit {0}
 IsHarmless p (ReadsOut text after) = IsStatus p.status → IsStatus (after p.status)
@@ -132,86 +139,59 @@ IsHarmlessAction p (AtOnce effect) = IsHarmless p effect
 IsHarmlessAction p (BetweenScans effect) = is_running p ≡ false → IsHarmless p effect
 IsHarmlessAction p (AfterScan effect) = IsHarmless p effect
 
+-- the values that a setting has are in range
+ranged : (setting : Setting) (s : SettingsSeen) → Fits setting → IsInRange s → IsInRange (with_value setting s)
+ranged (Setting.Count layer n) s fits r =
+    range_layer s layer _ r (record { count = fits; delay = (layer_range s layer r).delay; timer = (layer_range s layer r).timer })
+ranged (Setting.Source layer source) s fits r =
+    range_layer s layer _ r (record {
+      count = (layer_range s layer r).count;
+      delay = (layer_range s layer r).delay;
+      timer = (layer_range s layer r).timer;
+    })
+ranged (Setting.Time Time.Delay layer micros) s fits r =
+    range_layer s layer _ r (record { count = (layer_range s layer r).count; delay = fits; timer = (layer_range s layer r).timer })
+ranged (Setting.Time Time.Timer layer micros) s fits r =
+    range_layer s layer _ r (record { count = (layer_range s layer r).count; delay = (layer_range s layer r).delay; timer = fits })
+ranged (Setting.Scan positions) s fits r =
+    record { layers = r.layers; arms = r.arms; trigger = r.trigger; list = fits; meter = r.meter; points = r.points }
+ranged (Setting.ScanMeter slot) s fits r =
+    record { layers = r.layers; arms = r.arms; trigger = r.trigger; list = r.list; meter = fits; points = r.points }
+ranged (Setting.Points n) s fits r =
+    record { layers = r.layers; arms = r.arms; trigger = r.trigger; list = r.list; meter = r.meter; points = fits }
+
+no_fault : (setting : Setting) → misfit setting ≢ HardwareError
+no_fault (Setting.Scan positions) = too_much
+no_fault setting = out_of_range
+
+not_ignored : (layer : LayerName) → ignored_at layer ≢ HardwareError
+not_ignored Trigger = not_triggered
+not_ignored (Arm arm) = not_armed
+
+read_fine : (read : StatusRead) (s : StatusSeen) → IsStatus s → IsStatus (without_read read s)
+read_fine StatusRead.EventStatus s u = (status-kept s u).event_status 0
+read_fine (StatusRead.GroupEvent group) s u = grouped s group _ u (told_group s group u).taken
+read_fine StatusRead.NextError s u = (status-kept s u).read
+read_fine StatusRead.AllErrors s u = (status-kept s u).emptied
+
+bits_fine : (setting : StatusSetting) (s : StatusSeen) → IsStatus s → IsStatus (with_bits setting s)
+bits_fine (StatusSetting.EventEnable bits) s u = (status-kept s u).event_enable bits
+bits_fine (StatusSetting.ServiceEnable bits) s u = (status-kept s u).service_enable bits
+bits_fine (StatusSetting.Enable group bits) s u = grouped s group _ u ((told_group s group u).enable bits)
+bits_fine (StatusSetting.PositiveTransition group bits) s u = grouped s group _ u ((told_group s group u).ptr bits)
+bits_fine (StatusSetting.NegativeTransition group bits) s u = grouped s group _ u ((told_group s group u).ntr bits)
+
 pub harmless : (p : Panel) (available : Bool) (command : Command) → IsHarmlessAction p (action_of available command)
-harmless p available Command.Identify = tt
-harmless p available Command.Reset = tt
-harmless p available Command.ClearStatus = λ k. record { cage = k.cage; range = k.range; settings = k.settings; status = (status-kept p.status k.status).clear }
-harmless p available (Command.EventEnable bits) = λ u. (status-kept p.status u).event_enable bits
-harmless p available Command.EventEnableQuery = tt
-harmless p available Command.EventQuery = λ u. (status-kept p.status u).event_status 0
-harmless p available (Command.ServiceEnable bits) = λ u. (status-kept p.status u).service_enable bits
-harmless p available Command.ServiceEnableQuery = tt
-harmless p available Command.StatusByteQuery = tt
-harmless p available Command.OperationComplete = λ k. record { cage = k.cage; range = k.range; settings = k.settings; status = k.status }
-harmless p available Command.OperationCompleteQuery = tt
-harmless p available Command.Wait = λ k. k
-harmless p available Command.SelfTestQuery = tt
-harmless p available Command.Trigger = not_triggered
-harmless p available (Command.DefineMacro label body) = tt
-harmless p available (Command.MacroQuery label) = tt
-harmless p available Command.MacroLabelsQuery = tt
-harmless p available (Command.RemoveMacro label) = tt
-harmless p available Command.PurgeMacros = tt
-harmless p available (Command.EnableMacros on) = tt
-harmless p available Command.EnableMacrosQuery = tt
-harmless p available Command.Abort = λ k. record { cage = fallen_all p.cage k.cage; range = k.range; settings = tt; status = k.status }
-harmless p available Command.Initiate = tt
-harmless p available (Command.InitiateContinuous true) = conflict
-harmless p available (Command.InitiateContinuous false) = λ k. k
-harmless p available Command.InitiateContinuousQuery = tt
-harmless p available (Command.Count layer n) =
-    λ idle. (
-      λ fits r. range_layer p.settings layer _ r (record {
-        count = fits;
-        delay = (layer_range p.settings layer r).delay;
-        timer = (layer_range p.settings layer r).timer;
-      }),
-      out_of_range,
-      idle,
-    )
-harmless p available (Command.CountQuery layer) = tt
-harmless p available (Command.SetSource layer source) =
-    λ idle k. record {
-      cage = k.cage;
-      range = range_layer p.settings layer _ k.range (record {
-        count = (layer_range p.settings layer k.range).count;
-        delay = (layer_range p.settings layer k.range).delay;
-        timer = (layer_range p.settings layer k.range).timer;
-      });
-      settings = by_none p.cage.scan _ (none_of p idle);
-      status = k.status;
-    }
-harmless p available (Command.SourceQuery layer) = tt
-harmless p available (Command.Delay layer micros) =
-    λ idle. (
-      λ fits r. range_layer p.settings layer _ r (record {
-        count = (layer_range p.settings layer r).count;
-        delay = fits;
-        timer = (layer_range p.settings layer r).timer;
-      }),
-      out_of_range,
-      idle,
-    )
-harmless p available (Command.DelayQuery layer) = tt
-harmless p available (Command.Timer layer micros) =
-    λ idle. (
-      λ fits r. range_layer p.settings layer _ r (record {
-        count = (layer_range p.settings layer r).count;
-        delay = (layer_range p.settings layer r).delay;
-        timer = fits;
-      }),
-      out_of_range,
-      idle,
-    )
-harmless p available (Command.TimerQuery layer) = tt
-harmless p available (Command.Signal Trigger) = not_triggered
-harmless p available (Command.Signal (Arm arm)) = not_armed
-harmless p available (Command.Close chans) = λ idle. idle
-harmless p available (Command.CloseQuery chans) = tt
-harmless p available Command.CloseState = tt
-harmless p available (Command.Open chans) = λ idle. idle
-harmless p available (Command.OpenQuery chans) = tt
-harmless p available Command.OpenAll =
+harmless p available (Command.Plain Plain.Reset) = tt
+harmless p available (Command.Plain Plain.ClearStatus) =
+    λ k. record { cage = k.cage; range = k.range; settings = k.settings; status = (status-kept p.status k.status).clear }
+harmless p available (Command.Plain Plain.OperationComplete) = λ k. record { cage = k.cage; range = k.range; settings = k.settings; status = k.status }
+harmless p available (Command.Plain Plain.OperationCompleteQuery) = tt
+harmless p available (Command.Plain Plain.Wait) = λ k. k
+harmless p available (Command.Plain Plain.Trigger) = not_triggered
+harmless p available (Command.Plain Plain.Abort) = λ k. record { cage = fallen_all p.cage k.cage; range = k.range; settings = tt; status = k.status }
+harmless p available (Command.Plain Plain.Initiate) = tt
+harmless p available (Command.Plain Plain.OpenAll) =
     λ idle k. record {
       cage = kept_rack p.cage (all_open p.cage.cards) k.cage (none_of p idle) (identities_all_open p.cage.cards)
           (exclusive_none _ _ (all_open_closed p.cage.cards));
@@ -219,28 +199,20 @@ harmless p available Command.OpenAll =
       settings = k.settings;
       status = k.status;
     }
-harmless p available (Command.Scan chans) =
-    λ idle. (λ fits r. record { layers = r.layers; arms = r.arms; trigger = r.trigger; list = fits; meter = r.meter; points = r.points }, too_much, idle)
-harmless p available Command.ScanQuery = tt
-harmless p available (Command.ScanMeter slot) =
-    λ idle. (λ fits r. record { layers = r.layers; arms = r.arms; trigger = r.trigger; list = r.list; meter = fits; points = r.points }, out_of_range, idle)
-harmless p available Command.ScanMeterQuery = tt
-harmless p available (Command.GroupEventQuery group) = λ u. grouped p.status group _ u (told_group p.status group u).taken
-harmless p available (Command.GroupConditionQuery group) = tt
-harmless p available (Command.GroupEnable group bits) = λ u. grouped p.status group _ u ((told_group p.status group u).enable bits)
-harmless p available (Command.GroupEnableQuery group) = tt
-harmless p available (Command.PositiveTransition group bits) = λ u. grouped p.status group _ u ((told_group p.status group u).ptr bits)
-harmless p available (Command.PositiveTransitionQuery group) = tt
-harmless p available (Command.NegativeTransition group bits) = λ u. grouped p.status group _ u ((told_group p.status group u).ntr bits)
-harmless p available (Command.NegativeTransitionQuery group) = tt
-harmless p available Command.Preset = λ u. (status-kept p.status u).reset
-harmless p available Command.NextErrorQuery = λ u. (status-kept p.status u).read
-harmless p available Command.AllErrorsQuery = λ u. (status-kept p.status u).emptied
-harmless p available Command.ErrorCountQuery = tt
-harmless p available Command.VersionQuery = tt
-harmless p available (Command.Points n) =
-    λ idle. (λ fits r. record { layers = r.layers; arms = r.arms; trigger = r.trigger; list = r.list; meter = r.meter; points = fits }, out_of_range, idle)
-harmless p available Command.PointsQuery = tt
-harmless p available Command.ActualPointsQuery = tt
-harmless p available Command.BoundQuery = tt
-harmless p available Command.Fetch = tt
+harmless p available (Command.Plain Plain.Preset) = λ u. (status-kept p.status u).reset
+harmless p available (Command.Plain Plain.Fetch) = tt
+harmless p available (Command.Query query) = tt
+harmless p available (Command.LayerQuery query layer) = tt
+harmless p available (Command.GroupQuery query group) = tt
+harmless p available (Command.ReadOut read) = λ u. read_fine read p.status u
+harmless p available (Command.Signal layer) = not_ignored layer
+harmless p available (Command.Continuous true) = conflict
+harmless p available (Command.Continuous false) = λ k. k
+harmless p available (Command.Channels Channels.Close chans) = λ idle. idle
+harmless p available (Command.Channels Channels.CloseQuery chans) = tt
+harmless p available (Command.Channels Channels.Open chans) = λ idle. idle
+harmless p available (Command.Channels Channels.OpenQuery chans) = tt
+harmless p available (Command.Set setting) = λ idle. (λ fits r. ranged setting p.settings fits r, no_fault setting, idle)
+harmless p available (Command.SetStatus setting) = λ u. bits_fine setting p.status u
+harmless p available (Command.Macros ask) = tt
+harmless p available (Command.Macro ask) = tt

@@ -1,6 +1,6 @@
 -- What each ask leaves of the readings, and that commands change nothing of who is joined.
 use Rattle.std.proofs.Common.{◌≡◌, ℕ, ◌==◌, ◌&&◌, not, Bool, true, false, List, [], ◌∷◌, Option, None, Some, Result, Ok, Err, refl, sym, ◌∙◌, ap, map}
-use Rattle.std.specs.Prelude.{decimal, MatchBool}
+use Rattle.std.specs.Prelude.{MatchBool}
 use Rattle.std.specs.List.{join_with_byte}
 use Rattle.sw_base.specs.Layout.{Channel}
 use Rattle.sw_base.specs.Reading.{reading_text}
@@ -11,6 +11,8 @@ use Rattle.sw_base.specs.declared.error.ScpiError.TheVariants.{OutOfMemory}
 use Rattle.sw_base.specs.declared.terms.LayerName.TheVariants as layer_name
 use Rattle.sw_card.specs.declared.board.CardFault.{CardFault}
 use Rattle.sw_lex.specs.declared.command.Command.{Command}
+use Rattle.sw_lex.specs.declared.command.Plain.{Plain}
+use Rattle.sw_lex.specs.declared.command.Channels.{Channels}
 use Rattle.sw_trigger.specs.Settings.{SettingsSeen}
 use Rattle.sw_status.specs.StatusModel.{StatusSeen}
 use Rattle.sw_verify.specs.declared.snapshot.Snapshot.{Snapshot}
@@ -27,7 +29,7 @@ use Rattle.sw_core.specs.declared.ask.SessionAnswer.{SessionAnswer}
 use Rattle.sw_core.specs.declared.ask.SessionAnswer.TheVariants as answers
 use Rattle.sw_core.specs.declared.ask.SessionAnswer.TheVariants.{Joined, Full, Stranger, Broken, Done, Refused, Hold, Worn}
 use Rattle.sw_core.specs.Panel.{Panel, with_cards, is_running}
-use Rattle.sw_core.specs.Action.{Effect, TellsNumber, TellsText, TellsReadings, ReadsOut, SetsStatus, SetsUp, ClosesListed, OpensListed, TellsRelays, Changes}
+use Rattle.sw_core.specs.Action.{Effect, TellsText, TellsReadings, ReadsOut, SetsStatus, SetsUp, ClosesListed, OpensListed, TellsRelays, Changes}
 use Rattle.sw_core.specs.Action.{Resets, Triggers, RefusesWith, IsOfMacros, Initiates, Action, AtOnce, BetweenScans, AfterScan, action_of}
 use Rattle.sw_core.specs.Event.{last_number}
 use Rattle.sw_core.specs.Seats.{asker_of}
@@ -107,19 +109,17 @@ KeepsAction p (BetweenScans effect) = KeepsEffect p effect
 KeepsAction p (AfterScan effect) = KeepsEffect p effect
 
 abbrev is_reset : Command → Bool
-is_reset Command.Reset = true
+is_reset (Command.Plain Plain.Reset) = true
 is_reset command = false
 
 keeps_command : (p : Panel) (available : Bool) (command : Command) → is_reset command ≡ false → KeepsAction p (action_of available command)
-keeps_command p available Command.Reset n = absurd (cc (n))
-keeps_command p available (Command.InitiateContinuous true) n = (refl, refl)
-keeps_command p available (Command.InitiateContinuous false) n = (refl, refl)
-keeps_command p available (Command.Signal layer_name.Trigger) n = (refl, refl)
-keeps_command p available (Command.Signal (layer_name.Arm arm)) n = (refl, refl)
+keeps_command p available (Command.Plain Plain.Reset) n = absurd (cc (n))
+keeps_command p available (Command.Continuous true) n = (refl, refl)
+keeps_command p available (Command.Continuous false) n = (refl, refl)
+keeps_command p available (Command.Channels Channels.Close chans) n = (refl, refl)
 keeps_command p available command n = (refl, refl)
 
 keep_alone : (d : Effect) (p : Panel) (f : Bool) (a : SessionAnswer) (q : Panel) → KeepsEffect p d → StepAlone d p f a q → IsKeeping p q
-keep_alone (TellsNumber number) p f a q k h = keep_text p (decimal (number p)) p.status f a q h
 keep_alone (TellsText text) p f a q k h = keep_text p (text p) p.status f a q h
 keep_alone TellsReadings p f a q k h = keep_readings p.cage.readings p f a q h
 keep_alone (ReadsOut text after) p f a q k h = keep_text p (text p.status) (after p.status) f a q h
@@ -177,15 +177,15 @@ keep_unit p sid command available f a w q n h =
 -- nobody joins or leaves by a command
 pub unit_sessions : (p : Panel) (sid : Sid) (command : Command) (available f : Bool) (a : SessionAnswer) (w : Option WorkSeen) (q : Panel)
     → StepAction (action_of available command) p (Ask.Unit sid command available) f a w q → q.sessions ≡ p.sessions
-unit_sessions p sid Command.Reset available f (Done None) w q h = ap (λ (x : Panel). x.sessions) h.0.1
-unit_sessions p sid Command.Reset available f a w q h = absurd h.0
+unit_sessions p sid (Command.Plain Plain.Reset) available f (Done None) w q h = ap (λ (x : Panel). x.sessions) h.0.1
+unit_sessions p sid (Command.Plain Plain.Reset) available f a w q h = absurd h.0
 unit_sessions p sid command available f a w q h = (keep_unit p sid command available f a w q refl h).0
 
 reads_unit : (p : Panel) (sid : Sid) (command : Command) (available f : Bool) (a : SessionAnswer) (w : Option WorkSeen) (q : Panel)
     → StepAction (action_of available command) p (Ask.Unit sid command available) f a w q
     → q.cage.readings ≡ readings_after (AskSession (Ask.Unit sid command available)) (SaysSession a w) p.cage.readings
-reads_unit p sid Command.Reset available f (Done None) w q h = ap (λ (x : Panel). x.cage.readings) h.0.1
-reads_unit p sid Command.Reset available f a w q h = absurd h.0
+reads_unit p sid (Command.Plain Plain.Reset) available f (Done None) w q h = ap (λ (x : Panel). x.cage.readings) h.0.1
+reads_unit p sid (Command.Plain Plain.Reset) available f a w q h = absurd h.0
 reads_unit p sid command available f a w q h = (keep_unit p sid command available f a w q refl h).1
 
 -- ---- scans and seats
@@ -244,11 +244,11 @@ reads_joined p ask f a w q h = absurd h
 -- what is no event reads nothing
 unread_unit : (sid : Sid) (command : Command) (available : Bool) (a : SessionAnswer) (w : Option WorkSeen) (old : List Reading) → IsSilent a
     → readings_after (AskSession (Ask.Unit sid command available)) (SaysSession a w) old ≡ old
-unread_unit sid Command.Reset available Stranger w old n = refl
-unread_unit sid Command.Reset available Broken w old n = refl
-unread_unit sid Command.Reset available (Hold back) w old n = refl
-unread_unit sid Command.Reset available (Worn back) w old n = refl
-unread_unit sid Command.Reset available a w old n = absurd n
+unread_unit sid (Command.Plain Plain.Reset) available Stranger w old n = refl
+unread_unit sid (Command.Plain Plain.Reset) available Broken w old n = refl
+unread_unit sid (Command.Plain Plain.Reset) available (Hold back) w old n = refl
+unread_unit sid (Command.Plain Plain.Reset) available (Worn back) w old n = refl
+unread_unit sid (Command.Plain Plain.Reset) available a w old n = absurd n
 unread_unit sid command available a w old n = refl
 
 unread : (ask : SessionAsk) (a : SessionAnswer) (w : Option WorkSeen) (old : List Reading) → IsSilent a

@@ -1,7 +1,7 @@
 -- What commands come to, in the words of who sends them.
 use Rattle.std.proofs.Common.{Result, Ok, Err, ◌≡◌, ◌≢◌, ℕ, ◌-◌, ◌<◌, ◌≤◌, ◌==◌, ◌&&◌, not, Bool, true, false, List, length, Option, None, Some, slice_set}
 use Rattle.std.proofs.Common.{refl, sym, ◌∙◌, ap, subst, inl, inr, [], ◌∷◌, map}
-use Rattle.std.specs.Prelude.{if◌then◌else◌, decimal, MatchBool}
+use Rattle.std.specs.Prelude.{if◌then◌else◌, MatchBool}
 use Rattle.std.proofs.lemmas.List.{length-map}
 use Rattle.sw_base.specs.Layout.{Channel}
 use Rattle.sw_base.specs.declared.error.ScpiError.{ScpiError}
@@ -12,6 +12,8 @@ use Rattle.sw_base.specs.Reading.{reading_text}
 use Rattle.sw_base.specs.declared.reading.Reading.{Reading}
 use Rattle.sw_card.specs.Account.{Account, closed_at}
 use Rattle.sw_lex.specs.declared.command.Command.{Command}
+use Rattle.sw_lex.specs.declared.command.Plain.{Plain}
+use Rattle.sw_lex.specs.declared.command.Channels.{Channels}
 use Rattle.sw_verify.specs.declared.snapshot.Snapshot.{Snapshot}
 use Rattle.sw_status.specs.StatusModel.{StatusSeen, queued}
 use Rattle.sw_verify.specs.Channels.{is_among}
@@ -32,7 +34,7 @@ use Rattle.sw_core.specs.declared.ask.SessionAsk.TheVariants as Ask
 use Rattle.sw_core.specs.declared.ask.SessionAnswer.{SessionAnswer}
 use Rattle.sw_core.specs.declared.ask.SessionAnswer.TheVariants.{Done, Refused}
 use Rattle.sw_core.specs.Panel.{Panel, is_running}
-use Rattle.sw_core.specs.Action.{Effect, TellsNumber, TellsText, TellsReadings, ReadsOut, SetsStatus, SetsUp, ClosesListed, OpensListed, TellsRelays, Changes}
+use Rattle.sw_core.specs.Action.{Effect, TellsText, TellsReadings, ReadsOut, SetsStatus, SetsUp, ClosesListed, OpensListed, TellsRelays, Changes}
 use Rattle.sw_core.specs.Action.{Resets, Triggers, RefusesWith, IsOfMacros, Initiates, Action, AtOnce, BetweenScans, AfterScan, action_of}
 use Rattle.sw_core.specs.Registers.{card_fault_reported}
 use Rattle.sw_core.specs.Event.{ended, erred, last_number}
@@ -77,41 +79,45 @@ done_of p sid command available f q e =
     not_kept_out (admission p sid (Ask.Unit sid command available)) p (Ask.Unit sid command available) f None
     None e.done e.acts.1
 
-pub closes : (p q : Panel) (chans : List Channel) (available failed : Bool) → IsDoneFor p (Command.Close chans) available failed q → (c : Channel)
+pub closes : (p q : Panel) (chans : List Channel) (available failed : Bool) → IsDoneFor p (Command.Channels Channels.Close chans) available failed q
+    → (c : Channel)
     → is_among chans c ≡ true
     → is_closed q.cage.cards c ≡ true
 closes p q chans available failed s c i =
     let sid = s.0 in
     let h = s.1 in
-    let e = event_of p (AskSession (Ask.Unit sid (Command.Close chans) available)) failed (SaysSession (Done None) None) q (λ w. w) h in
-    let d = (not_barred (is_running p) p (ClosesListed chans) failed None None e.done (done_of p sid (Command.Close chans) available failed q e)).0 in
+    let command = Command.Channels Channels.Close chans in
+    let e = event_of p (AskSession (Ask.Unit sid command available)) failed (SaysSession (Done None) None) q (λ w. w) h in
+    let d = (not_barred (is_running p) p (ClosesListed chans) failed None None e.done (done_of p sid command available failed q e)).0 in
     ap (λ (x : Panel). is_closed x.cage.cards c) e.after ∙ d.2.closed c ∙ ap (λ (b : Bool). if b then true else is_closed p.cage.cards c) i
 
-pub opens : (p q : Panel) (chans : List Channel) (available failed : Bool) → IsDoneFor p (Command.Open chans) available failed q → (c : Channel)
+pub opens : (p q : Panel) (chans : List Channel) (available failed : Bool) → IsDoneFor p (Command.Channels Channels.Open chans) available failed q
+    → (c : Channel)
     → is_among chans c ≡ true
     → is_closed q.cage.cards c ≡ false
 opens p q chans available failed s c i =
     let sid = s.0 in
     let h = s.1 in
-    let e = event_of p (AskSession (Ask.Unit sid (Command.Open chans) available)) failed (SaysSession (Done None) None) q (λ w. w) h in
-    let d = (not_barred (is_running p) p (OpensListed chans) failed None None e.done (done_of p sid (Command.Open chans) available failed q e)).0 in
+    let command = Command.Channels Channels.Open chans in
+    let e = event_of p (AskSession (Ask.Unit sid command available)) failed (SaysSession (Done None) None) q (λ w. w) h in
+    let d = (not_barred (is_running p) p (OpensListed chans) failed None None e.done (done_of p sid command available failed q e)).0 in
     ap (λ (x : Panel). is_closed x.cage.cards c) e.after ∙ d.2.closed c ∙ ap (λ (b : Bool). if b then false else is_closed p.cage.cards c) i
 
-pub aborted : (p q : Panel) (available failed : Bool) → IsDoneFor p Command.Abort available failed q → IsAtRest q
+pub aborted : (p q : Panel) (available failed : Bool) → IsDoneFor p (Command.Plain Plain.Abort) available failed q → IsAtRest q
 aborted p q available failed s =
     let sid = s.0 in
     let h = s.1 in
-    let e = event_of p (AskSession (Ask.Unit sid Command.Abort available)) failed (SaysSession (Done None) None) q (λ w. w) h in
-    let d = (done_of p sid Command.Abort available failed q e).0 in
+    let e = event_of p (AskSession (Ask.Unit sid (Command.Plain Plain.Abort) available)) failed (SaysSession (Done None) None) q (λ w. w) h in
+    let d = (done_of p sid (Command.Plain Plain.Abort) available failed q e).0 in
     let cage = ap (λ (x : Panel). x.cage) e.after ∙ ap (λ (x : Panel). x.cage) d.1 in
     record { none = λ c. ap (λ (x : CageSeen). is_closed x.cards c) cage ∙ all_open_closed p.cage.cards c; idle = ap (λ (x : CageSeen). x.scan) cage }
 
-pub reset : (p q : Panel) (available failed : Bool) → IsDoneFor p Command.Reset available failed q → IsAtRest q
+pub reset : (p q : Panel) (available failed : Bool) → IsDoneFor p (Command.Plain Plain.Reset) available failed q → IsAtRest q
 reset p q available failed s =
     let sid = s.0 in
     let h = s.1 in
-    let e = event_of p (AskSession (Ask.Unit sid Command.Reset available)) failed (SaysSession (Done None) None) q (λ w. w) h in
-    let d = (done_of p sid Command.Reset available failed q e).0 in
+    let e = event_of p (AskSession (Ask.Unit sid (Command.Plain Plain.Reset) available)) failed (SaysSession (Done None) None) q (λ w. w) h in
+    let d = (done_of p sid (Command.Plain Plain.Reset) available failed q e).0 in
     let cage = ap (λ (x : Panel). x.cage) e.after ∙ ap (λ (x : Panel). x.cage) d.1 in
     record { none = λ c. ap (λ (x : CageSeen). is_closed x.cards c) cage ∙ all_open_closed p.cage.cards c; idle = ap (λ (x : CageSeen). x.scan) cage }
 
@@ -178,7 +184,6 @@ readings_quiet [] p f e q h = h.2
 readings_quiet (r ∷ rs) p f e q h = text_quiet p (join_with_byte 44 (map reading_text (r ∷ rs))) p.status f e q h
 
 alone_quiet : (d : Effect) (p : Panel) (f : Bool) (e : ScpiError) (q : Panel) → StepAlone d p f (Refused e) q → IsQuiet p e q
-alone_quiet (TellsNumber number) p f e q h n = text_quiet p (decimal (number p)) p.status f e q h
 alone_quiet (TellsText text) p f e q h n = text_quiet p (text p) p.status f e q h
 alone_quiet TellsReadings p f e q h n = readings_quiet p.cage.readings p f e q h
 alone_quiet (ReadsOut text after) p f e q h n = text_quiet p (text p.status) (after p.status) f e q h
@@ -309,7 +314,6 @@ undefined_down : (p : Panel) (f : Bool) (q : Panel) → StepRefused p UndefinedH
 undefined_down p f q h = absurd (let x : HardwareError ≡ UndefinedHeader = h.1 in cc (x))
 
 alone_down : (d : Effect) (p : Panel) (f : Bool) (q : Panel) → IsHarmless p d → StepAlone d p f (Refused HardwareError) q → IsDown p f q
-alone_down (TellsNumber number) p f q n h = absurd h
 alone_down (TellsText text) p f q n h = absurd h
 alone_down TellsReadings p f q n h = readings_down p.cage.readings p f q h
 alone_down (ReadsOut text after) p f q n h = absurd h

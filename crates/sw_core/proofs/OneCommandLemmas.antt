@@ -1,6 +1,5 @@
 -- A command that is carried out has one answer, where memory suffices and no card fails.
 use Rattle.std.proofs.Common.{◌≡◌, ◌≢◌, ℕ, Bool, true, false, List, None, Some, refl, sym, ◌∙◌, ap, [], ◌∷◌, map}
-use Rattle.std.specs.Prelude.{decimal}
 use Rattle.sw_base.specs.Layout.{Channel}
 use Rattle.sw_base.specs.declared.error.ScpiError.{ScpiError}
 use Rattle.sw_base.specs.declared.error.ScpiError.TheVariants.{UndefinedHeader, DataCorruptOrStale, HardwareMissing, SettingsConflict, HardwareError}
@@ -15,7 +14,7 @@ use Rattle.sw_cage.specs.Change.{Sets}
 use Rattle.sw_core.specs.declared.ask.SessionAnswer.{SessionAnswer}
 use Rattle.sw_core.specs.declared.ask.SessionAnswer.TheVariants.{Done, Refused}
 use Rattle.sw_core.specs.Panel.{Panel, with_cards}
-use Rattle.sw_core.specs.Action.{Effect, TellsNumber, TellsText, TellsReadings, ReadsOut, SetsStatus, SetsUp, ClosesListed, OpensListed, TellsRelays, Changes}
+use Rattle.sw_core.specs.Action.{Effect, TellsText, TellsReadings, ReadsOut, SetsStatus, SetsUp, ClosesListed, OpensListed, TellsRelays, Changes}
 use Rattle.sw_core.specs.Action.{Resets, reset, Triggers, RefusesWith, IsOfMacros, Initiates}
 use Rattle.sw_core.specs.Seen.{AnswerSeen, SaysSession, SaysFailed}
 use Rattle.sw_core.specs.Step.{StepClose, StepOpen, StepFlags, StepText, StepDone, StepSetting, StepRefused, StepReadings, StepAlone}
@@ -109,7 +108,6 @@ readings_once (r ∷ rs) p f f' a a' q q' n m h k = text_once p (join_with_byte 
 
 pub alone_once : (e : Effect) (p : Panel) (f f' : Bool) (a a' : SessionAnswer) (q q' : Panel)
     → IsWhole (SaysSession a None) → IsWhole (SaysSession a' None) → StepAlone e p f a q → StepAlone e p f' a' q' → IsOnce a a' q q'
-alone_once (TellsNumber number) p f f' a a' q q' n m h k = text_once p (decimal (number p)) p.status f f' a a' q q' n m h k
 alone_once (TellsText text) p f f' a a' q q' n m h k = text_once p (text p) p.status f f' a a' q q' n m h k
 alone_once TellsReadings p f f' a a' q q' n m h k = readings_once p.cage.readings p f f' a a' q q' n m h k
 alone_once (ReadsOut text after) p f f' a a' q q' n m h k = text_once p (text p.status) (after p.status) f f' a a' q q' n m h k

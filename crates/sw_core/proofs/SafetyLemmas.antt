@@ -1,7 +1,7 @@
 -- No step takes the mainframe from a fine state to another: by cases on the step.
 use Rattle.std.proofs.Common.{◌≡◌, ℕ, ◌-◌, ◌≤◌, ◌<◌, ◌==◌, ◌&&◌, not, Bool, true, false, List, [], ◌∷◌, length, Option, None, Some, slice_set, refl, sym}
 use Rattle.std.proofs.Common.{◌∙◌, ap, subst, arith, is_some, zero, suc, nat_lt, slice_index_or, map}
-use Rattle.std.specs.Prelude.{if◌then◌else◌, decimal, MatchBool}
+use Rattle.std.specs.Prelude.{if◌then◌else◌, MatchBool}
 use Rattle.std.specs.List.{join_with_byte}
 use Rattle.sw_base.specs.Reading.{reading_text}
 use Rattle.std.proofs.lemmas.List.{length-map}
@@ -37,7 +37,7 @@ use Rattle.sw_core.specs.declared.ask.SessionAnswer.{SessionAnswer}
 use Rattle.sw_core.specs.declared.ask.SessionAnswer.TheVariants as answers
 use Rattle.sw_core.specs.declared.ask.SessionAnswer.TheVariants.{Joined, Full, Stranger, Broken, Done, Refused, Hold, Worn}
 use Rattle.sw_core.specs.Panel.{Panel, opening_at, with_cards, is_running}
-use Rattle.sw_core.specs.Action.{Effect, TellsNumber, TellsText, TellsReadings, ReadsOut, SetsStatus, SetsUp, ClosesListed, OpensListed, TellsRelays, Changes}
+use Rattle.sw_core.specs.Action.{Effect, TellsText, TellsReadings, ReadsOut, SetsStatus, SetsUp, ClosesListed, OpensListed, TellsRelays, Changes}
 use Rattle.sw_core.specs.Action.{Resets, reset, Triggers, RefusesWith, IsOfMacros, Initiates, Action, AtOnce, BetweenScans, AfterScan, action_of}
 use Rattle.sw_core.specs.Event.{concluded, session_concluded, last_number}
 use Rattle.sw_core.specs.Seen.{WorkSeen, AskSeen, AskSession, AskInstall, AskEject, AskExternal, AskElapsed, AskFinished, AnswerSeen, SaysSession}
@@ -158,7 +158,6 @@ readings_fine [] p f a q k h = refused_fine p DataCorruptOrStale f a q k h
 readings_fine (r ∷ rs) p f a q k h = text_fine p (join_with_byte 44 (map reading_text (r ∷ rs))) p.status f a q k k.status h
 
 alone_fine : (d : Effect) (p : Panel) (f : Bool) (a : SessionAnswer) (q : Panel) → IsFine p → IsHarmless p d → StepAlone d p f a q → IsFine q
-alone_fine (TellsNumber number) p f a q k n h = text_fine p (decimal (number p)) p.status f a q k k.status h
 alone_fine (TellsText text) p f a q k n h = text_fine p (text p) p.status f a q k k.status h
 alone_fine TellsReadings p f a q k n h = readings_fine p.cage.readings p f a q k h
 alone_fine (ReadsOut text after) p f a q k n h = text_fine p (text p.status) (after p.status) f a q k (n k.status) h

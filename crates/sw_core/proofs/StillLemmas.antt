@@ -1,7 +1,6 @@
 -- What a command does to a scan that runs: nothing, or it stops it.
 use Rattle.std.proofs.Common.{◌≡◌, ℕ, Bool, true, false, List, [], ◌∷◌, None, Some}
 use Rattle.std.proofs.Common.{◌⊎◌, inl, inr, refl, ap, sym, subst, ◌∙◌, map}
-use Rattle.std.specs.Prelude.{decimal}
 use Rattle.std.specs.List.{join_with_byte}
 use Rattle.sw_base.specs.Reading.{reading_text}
 use Rattle.sw_base.specs.Layout.{Channel}
@@ -11,6 +10,8 @@ use Rattle.sw_base.specs.declared.error.ScpiError.TheVariants.{UndefinedHeader, 
 use Rattle.sw_base.specs.declared.error.ScpiError.TheVariants.{SettingsConflict, HardwareError}
 use Rattle.sw_base.specs.declared.terms.LayerName.TheVariants as layer_name
 use Rattle.sw_lex.specs.declared.command.Command.{Command}
+use Rattle.sw_lex.specs.declared.command.Plain.{Plain}
+use Rattle.sw_lex.specs.declared.command.Channels.{Channels}
 use Rattle.sw_trigger.specs.Settings.{SettingsSeen}
 use Rattle.sw_status.specs.StatusModel.{StatusSeen}
 use Rattle.sw_verify.specs.Sound.{effect}
@@ -21,7 +22,7 @@ use Rattle.sw_core.specs.declared.ask.SessionAsk.TheVariants as Ask
 use Rattle.sw_core.specs.declared.ask.SessionAnswer.{SessionAnswer}
 use Rattle.sw_core.specs.declared.ask.SessionAnswer.TheVariants.{Done, Refused}
 use Rattle.sw_core.specs.Panel.{Panel, is_running}
-use Rattle.sw_core.specs.Action.{Effect, TellsNumber, TellsText, TellsReadings, ReadsOut, SetsStatus, SetsUp, ClosesListed, OpensListed, TellsRelays, Changes}
+use Rattle.sw_core.specs.Action.{Effect, TellsText, TellsReadings, ReadsOut, SetsStatus, SetsUp, ClosesListed, OpensListed, TellsRelays, Changes}
 use Rattle.sw_core.specs.Action.{Resets, reset, Triggers, RefusesWith, IsOfMacros, Initiates, Action, AtOnce, BetweenScans, AfterScan, action_of}
 use Rattle.sw_core.specs.Step.{StepClose, StepOpen, StepFlags, StepText, StepDone, StepSetting, StepRefused, StepReadings, StepAlone}
 use Rattle.sw_core.specs.Taken.{went_on}
@@ -53,7 +54,6 @@ still_idle p q i e r = inr (inl (i, e ∙ i, r))
 
 -- a happening that is refused is no card's failure
 abbrev pub IsStillEffect : Bool → Panel → Effect → Type 0
-IsStillEffect off p (TellsNumber number) = Unit {0}
 IsStillEffect off p (TellsText text) = Unit {0}
 IsStillEffect off p TellsReadings = Unit {0}
 IsStillEffect off p (ReadsOut text after) = Unit {0}
@@ -80,70 +80,33 @@ off_done sid available command = breaks_off (AskSession (Ask.Unit sid command av
 
 pub still_command : (sid : Sid) (p : Panel) (available : Bool) (command : Command)
     → IsStillAction (off_done sid available command) p (action_of available command)
-still_command sid p available Command.Identify = tt
-still_command sid p available Command.Reset = refl
-still_command sid p available Command.ClearStatus = inl refl
-still_command sid p available (Command.EventEnable bits) = tt
-still_command sid p available Command.EventEnableQuery = tt
-still_command sid p available Command.EventQuery = tt
-still_command sid p available (Command.ServiceEnable bits) = tt
-still_command sid p available Command.ServiceEnableQuery = tt
-still_command sid p available Command.StatusByteQuery = tt
-still_command sid p available Command.OperationComplete = inl refl
-still_command sid p available Command.OperationCompleteQuery = tt
-still_command sid p available Command.Wait = inl refl
-still_command sid p available Command.SelfTestQuery = tt
-still_command sid p available Command.Trigger = refl
-still_command sid p available (Command.DefineMacro label body) = tt
-still_command sid p available (Command.MacroQuery label) = tt
-still_command sid p available Command.MacroLabelsQuery = tt
-still_command sid p available (Command.RemoveMacro label) = tt
-still_command sid p available Command.PurgeMacros = tt
-still_command sid p available (Command.EnableMacros on) = tt
-still_command sid p available Command.EnableMacrosQuery = tt
-still_command sid p available Command.Abort = inr (inr (refl, refl, all_open_closed p.cage.cards, inl refl))
-still_command sid p available Command.Initiate = tt
-still_command sid p available (Command.InitiateContinuous true) = tt
-still_command sid p available (Command.InitiateContinuous false) = inl refl
-still_command sid p available Command.InitiateContinuousQuery = tt
-still_command sid p available (Command.Count layer n) = λ i. tt
-still_command sid p available (Command.CountQuery layer) = tt
-still_command sid p available (Command.SetSource layer source) = λ i. inl refl
-still_command sid p available (Command.SourceQuery layer) = tt
-still_command sid p available (Command.Delay layer micros) = λ i. tt
-still_command sid p available (Command.DelayQuery layer) = tt
-still_command sid p available (Command.Timer layer micros) = λ i. tt
-still_command sid p available (Command.TimerQuery layer) = tt
+still_command sid p available (Command.Plain Plain.Reset) = refl
+still_command sid p available (Command.Plain Plain.ClearStatus) = inl refl
+still_command sid p available (Command.Plain Plain.OperationComplete) = inl refl
+still_command sid p available (Command.Plain Plain.OperationCompleteQuery) = tt
+still_command sid p available (Command.Plain Plain.Wait) = inl refl
+still_command sid p available (Command.Plain Plain.Trigger) = refl
+still_command sid p available (Command.Plain Plain.Abort) = inr (inr (refl, refl, all_open_closed p.cage.cards, inl refl))
+still_command sid p available (Command.Plain Plain.Initiate) = tt
+still_command sid p available (Command.Plain Plain.OpenAll) = λ i. inr (inl (none_of p i, none_of p i, refl))
+still_command sid p available (Command.Plain Plain.Preset) = tt
+still_command sid p available (Command.Plain Plain.Fetch) = tt
+still_command sid p available (Command.Query query) = tt
+still_command sid p available (Command.LayerQuery query layer) = tt
+still_command sid p available (Command.GroupQuery query group) = tt
+still_command sid p available (Command.ReadOut read) = tt
 still_command sid p available (Command.Signal layer_name.Trigger) = refl
 still_command sid p available (Command.Signal (layer_name.Arm arm)) = refl
-still_command sid p available (Command.Close chans) = λ i. none_of p i
-still_command sid p available (Command.CloseQuery chans) = tt
-still_command sid p available Command.CloseState = tt
-still_command sid p available (Command.Open chans) = λ i. none_of p i
-still_command sid p available (Command.OpenQuery chans) = tt
-still_command sid p available Command.OpenAll = λ i. inr (inl (none_of p i, none_of p i, refl))
-still_command sid p available (Command.Scan chans) = λ i. tt
-still_command sid p available Command.ScanQuery = tt
-still_command sid p available (Command.ScanMeter slot) = λ i. tt
-still_command sid p available Command.ScanMeterQuery = tt
-still_command sid p available (Command.GroupEventQuery group) = tt
-still_command sid p available (Command.GroupConditionQuery group) = tt
-still_command sid p available (Command.GroupEnable group bits) = tt
-still_command sid p available (Command.GroupEnableQuery group) = tt
-still_command sid p available (Command.PositiveTransition group bits) = tt
-still_command sid p available (Command.PositiveTransitionQuery group) = tt
-still_command sid p available (Command.NegativeTransition group bits) = tt
-still_command sid p available (Command.NegativeTransitionQuery group) = tt
-still_command sid p available Command.Preset = tt
-still_command sid p available Command.NextErrorQuery = tt
-still_command sid p available Command.AllErrorsQuery = tt
-still_command sid p available Command.ErrorCountQuery = tt
-still_command sid p available Command.VersionQuery = tt
-still_command sid p available (Command.Points n) = λ i. tt
-still_command sid p available Command.PointsQuery = tt
-still_command sid p available Command.ActualPointsQuery = tt
-still_command sid p available Command.BoundQuery = tt
-still_command sid p available Command.Fetch = tt
+still_command sid p available (Command.Continuous true) = tt
+still_command sid p available (Command.Continuous false) = inl refl
+still_command sid p available (Command.Channels Channels.Close chans) = λ i. none_of p i
+still_command sid p available (Command.Channels Channels.CloseQuery chans) = tt
+still_command sid p available (Command.Channels Channels.Open chans) = λ i. none_of p i
+still_command sid p available (Command.Channels Channels.OpenQuery chans) = tt
+still_command sid p available (Command.Set setting) = λ i. tt
+still_command sid p available (Command.SetStatus setting) = tt
+still_command sid p available (Command.Macros ask) = tt
+still_command sid p available (Command.Macro ask) = tt
 
 still_close : {off : Bool} (p : Panel) (chans : List Channel) (f : Bool) (a : SessionAnswer) (q : Panel) → p.cage.scan ≡ None → StepClose p chans f a q
     → IsStill off p q
@@ -199,7 +162,6 @@ off_as ask a e = ap (λ (x : SessionAnswer). breaks_off (AskSession ask) (SaysSe
 pub still_alone : (ask : SessionAsk) (d : Effect) (p : Panel) (f : Bool) (a : SessionAnswer) (q : Panel)
     → IsStillEffect (breaks_off (AskSession ask) (SaysSession (Done None) None)) p d
     → StepAlone d p f a q → IsStill (breaks_off (AskSession ask) (SaysSession a None)) p q
-still_alone ask (TellsNumber number) p f a q n h = still_text p (decimal (number p)) p.status f a q h
 still_alone ask (TellsText text) p f a q n h = still_text p (text p) p.status f a q h
 still_alone ask TellsReadings p f a q n h = still_readings p.cage.readings p f a q h
 still_alone ask (ReadsOut text after) p f a q n h = still_text p (text p.status) (after p.status) f a q h

@@ -1,4 +1,4 @@
--- What each command comes to: one row for each.
+-- What each command comes to: one row for each family of commands, and one for each query in what it tells.
 use Rattle.std.specs.Prelude.{ℕ, ◌≤◌, Bool, true, false, List, [], length, decimal}
 use Rattle.sw_base.specs.Layout.{Channel}
 use Rattle.sw_base.specs.Limits.{most_slots, most_entries, most_points, longest_delay}
@@ -11,9 +11,19 @@ use Rattle.sw_base.specs.declared.terms.LayerName.TheVariants as layer_name
 use Rattle.sw_base.specs.declared.terms.Source.{Source}
 use Rattle.sw_channel.specs.Printing.{printed, printed_positions}
 use Rattle.sw_lex.specs.declared.command.Command.{Command}
+use Rattle.sw_lex.specs.declared.command.Plain.{Plain}
+use Rattle.sw_lex.specs.declared.command.PlainQuery.{PlainQuery}
+use Rattle.sw_lex.specs.declared.command.LayerQuery.{LayerQuery}
+use Rattle.sw_lex.specs.declared.command.GroupQuery.{GroupQuery}
+use Rattle.sw_lex.specs.declared.command.StatusRead.{StatusRead}
+use Rattle.sw_lex.specs.declared.command.Channels.{Channels}
+use Rattle.sw_lex.specs.declared.command.Time.{Time}
+use Rattle.sw_lex.specs.declared.command.Setting.{Setting}
+use Rattle.sw_lex.specs.declared.command.StatusSetting.{StatusSetting}
 use Rattle.sw_trigger.specs.Settings.{SettingsSeen, layer_of, with_layer, most_of, at_reset}
+use Rattle.sw_trigger.specs.declared.layer.Layer.{Layer}
 use Rattle.sw_trigger.specs.Counts.{bound_of}
-use Rattle.sw_status.specs.Registers.{event_taken, with_enable, with_ptr, with_ntr}
+use Rattle.sw_status.specs.Registers.{GroupSeen, event_taken, with_enable, with_ptr, with_ntr}
 use Rattle.sw_status.specs.StatusModel.{StatusSeen, byte_of, enabled, preset, popped, cleared}
 use Rattle.sw_status.specs.StatusModel.{registers_of, with_group}
 use Rattle.sw_cage.specs.Accounts.{all_open}
@@ -27,8 +37,6 @@ use Rattle.sw_core.specs.Registers.{card_fault_cleared}
 
 -- what a command does when it is carried out
 pub data Effect : Type 1 where
-  -- it tells a number
-  TellsNumber : (number : Panel → ℕ) → Effect
   -- it tells a text
   TellsText : (text : Panel → List ℕ) → Effect
   -- it tells the readings of the last scan
@@ -84,106 +92,154 @@ with_count layer n s = with_layer s layer (record (layer_of s layer) { count = n
 abbrev pub with_source : LayerName → Source → SettingsSeen → SettingsSeen
 with_source layer source s = with_layer s layer (record (layer_of s layer) { source = source })
 
-abbrev pub with_delay : LayerName → ℕ → SettingsSeen → SettingsSeen
-with_delay layer micros s = with_layer s layer (record (layer_of s layer) { delay_us = micros })
+abbrev pub with_time : Time → LayerName → ℕ → SettingsSeen → SettingsSeen
+with_time Time.Delay layer micros s = with_layer s layer (record (layer_of s layer) { delay_us = micros })
+with_time Time.Timer layer micros s = with_layer s layer (record (layer_of s layer) { timer_us = micros })
 
-abbrev pub with_timer : LayerName → ℕ → SettingsSeen → SettingsSeen
-with_timer layer micros s = with_layer s layer (record (layer_of s layer) { timer_us = micros })
+-- ---- queries
+
+-- What a query tells, where its message has answered before or not, which is when a message is available.
+abbrev pub query_text : Bool → PlainQuery → Panel → List ℕ
+query_text available PlainQuery.Identify p = identity_text
+query_text available PlainQuery.EventEnable p = decimal p.status.ese
+query_text available PlainQuery.ServiceEnable p = decimal p.status.sre
+query_text available PlainQuery.StatusByte p = decimal (byte_of p.status available)
+query_text available PlainQuery.SelfTest p = decimal 0
+query_text available PlainQuery.InitiateContinuous p = decimal 0
+query_text available PlainQuery.CloseState p = printed (closed_list p.cage.cards)
+query_text available PlainQuery.Scan p = printed_positions p.settings.list
+query_text available PlainQuery.ScanMeter p = decimal p.settings.meter
+query_text available PlainQuery.ErrorCount p = decimal (length p.status.errors)
+query_text available PlainQuery.Version p = version
+query_text available PlainQuery.Points p = decimal p.settings.points
+query_text available PlainQuery.ActualPoints p = decimal (length p.cage.readings)
+query_text available PlainQuery.Bound p = decimal (bound_of p.settings)
+
+-- what a query of a layer tells
+abbrev pub layer_text : LayerQuery → Layer → List ℕ
+layer_text LayerQuery.Count layer = decimal layer.count
+layer_text LayerQuery.Source layer = source_word layer.source
+layer_text LayerQuery.Delay layer = fixed 6 layer.delay_us
+layer_text LayerQuery.Timer layer = fixed 6 layer.timer_us
+
+-- what a query of a status group tells
+abbrev pub group_text : GroupQuery → GroupSeen → List ℕ
+group_text GroupQuery.Condition group = decimal group.condition
+group_text GroupQuery.Enable group = decimal group.enable
+group_text GroupQuery.PositiveTransition group = decimal group.ptr
+group_text GroupQuery.NegativeTransition group = decimal group.ntr
+
+-- what is read out of the status
+abbrev pub read_text : StatusRead → StatusSeen → List ℕ
+read_text StatusRead.EventStatus s = decimal s.esr
+read_text (StatusRead.GroupEvent group) s = decimal (registers_of s group).event
+read_text StatusRead.NextError s = oldest_entry s.errors
+read_text StatusRead.AllErrors s = all_entries s.errors
+
+-- and what it leaves
+abbrev pub without_read : StatusRead → StatusSeen → StatusSeen
+without_read StatusRead.EventStatus s = record s { esr = 0 }
+without_read (StatusRead.GroupEvent group) s = with_group s group (event_taken (registers_of s group))
+without_read StatusRead.NextError s = popped s
+without_read StatusRead.AllErrors s = record s { errors = [] }
+
+-- ---- settings
+
+-- the status with these bits
+abbrev pub with_bits : StatusSetting → StatusSeen → StatusSeen
+with_bits (StatusSetting.EventEnable bits) s = record s { ese = bits }
+with_bits (StatusSetting.ServiceEnable bits) s = enabled s bits
+with_bits (StatusSetting.Enable group bits) s = with_group s group (with_enable (registers_of s group) bits)
+with_bits (StatusSetting.PositiveTransition group bits) s = with_group s group (with_ptr (registers_of s group) bits)
+with_bits (StatusSetting.NegativeTransition group bits) s = with_group s group (with_ntr (registers_of s group) bits)
+
+-- the values that a setting has
+abbrev pub Fits : Setting → Type 0
+Fits (Setting.Count layer n) = (1 ≤ n) × (n ≤ most_of layer)
+Fits (Setting.Source layer source) = Unit {0}
+Fits (Setting.Time Time.Delay layer micros) = micros ≤ longest_delay
+Fits (Setting.Time Time.Timer layer micros) = (1 ≤ micros) × (micros ≤ longest_delay)
+Fits (Setting.Scan positions) = length positions ≤ most_entries
+Fits (Setting.ScanMeter slot) = (1 ≤ slot) × (slot ≤ most_slots)
+Fits (Setting.Points n) = (1 ≤ n) × (n ≤ most_points)
+
+-- why any other value is refused
+abbrev pub misfit : Setting → ScpiError
+misfit (Setting.Scan positions) = TooMuchData
+misfit setting = DataOutOfRange
+
+-- the settings with this value
+abbrev pub with_value : Setting → SettingsSeen → SettingsSeen
+with_value (Setting.Count layer n) s = with_count layer n s
+with_value (Setting.Source layer source) s = with_source layer source s
+with_value (Setting.Time time layer micros) s = with_time time layer micros s
+with_value (Setting.Scan positions) s = record s { list = positions }
+with_value (Setting.ScanMeter slot) s = record s { meter = slot }
+with_value (Setting.Points n) s = record s { points = n }
+
+-- ---- commands
+
+-- why a layer's signal is refused that no scan takes
+abbrev pub ignored_at : LayerName → ScpiError
+ignored_at layer_name.Trigger = TriggerIgnored
+ignored_at (layer_name.Arm arm) = ArmIgnored
 
 -- whether a command is offered to the scan (SCPI-1999, 24; IEEE 488.2, 10.37)
 abbrev pub is_trigger : Command → Bool
-is_trigger Command.Trigger = true
+is_trigger (Command.Plain Plain.Trigger) = true
 is_trigger (Command.Signal layer) = true
 is_trigger command = false
 
 -- whether a command waits for the end of the scan (IEEE 488.2, 12.5.2 and 12.5.3)
 abbrev pub awaits_end : Command → Bool
-awaits_end Command.OperationCompleteQuery = true
-awaits_end Command.Wait = true
+awaits_end (Command.Plain Plain.OperationCompleteQuery) = true
+awaits_end (Command.Plain Plain.Wait) = true
 awaits_end command = false
 
--- What a command comes to, where its message has answered before or not, which is when a message is available
--- (SCPI-1999, 3, 18, 20, 21.8 and 24; IEEE 488.2, 10 and 11.2).
+-- what a command without data comes to
+abbrev pub plain_action : Plain → Action
+plain_action Plain.Reset = AtOnce Resets
+plain_action Plain.ClearStatus = AtOnce (Changes (λ p. record p { status = cleared p.status; opc_waits = false }))
+plain_action Plain.OperationComplete = AtOnce (Changes (λ p. record p { opc_waits = true }))
+plain_action Plain.OperationCompleteQuery = AfterScan (TellsText (λ p. decimal 1))
+plain_action Plain.Wait = AfterScan (Changes (λ p. p))
+plain_action Plain.Trigger = AtOnce (Triggers Bus TriggerIgnored)
+plain_action Plain.Abort = AtOnce (Changes aborted)
+plain_action Plain.Initiate = AtOnce Initiates
+plain_action Plain.OpenAll = BetweenScans (Changes (λ p. with_cards p (all_open p.cage.cards)))
+plain_action Plain.Preset = AtOnce (SetsStatus preset)
+plain_action Plain.Fetch = AtOnce TellsReadings
+
+-- what a command with a channel list comes to
+abbrev pub channels_action : Channels → List Channel → Action
+channels_action Channels.Close chans = BetweenScans (ClosesListed chans)
+channels_action Channels.CloseQuery chans = AtOnce (TellsRelays true chans)
+channels_action Channels.Open chans = BetweenScans (OpensListed chans)
+channels_action Channels.OpenQuery chans = AtOnce (TellsRelays false chans)
+
+-- what a setting of scans comes to
+abbrev pub setting_action : Setting → Action
+setting_action setting = BetweenScans (SetsUp (Fits setting) (misfit setting) (with_value setting))
+
+-- what INITiate:CONTinuous comes to
+abbrev pub continuous_action : Bool → Action
+continuous_action true = AtOnce (RefusesWith SettingsConflict)
+continuous_action false = AtOnce (Changes (λ p. p))
+
+-- What a command comes to, where its message has answered before or not (SCPI-1999, 3, 18, 20, 21.8 and 24; IEEE 488.2,
+-- 10 and 11.2).
 abbrev pub action_of : Bool → Command → Action
-action_of available Command.Identify = AtOnce (TellsText (λ p. identity_text))
-action_of available Command.Reset = AtOnce Resets
-action_of available Command.ClearStatus =
-    AtOnce (Changes (λ p. record p { status = cleared p.status; opc_waits = false }))
-action_of available (Command.EventEnable bits) = AtOnce (SetsStatus (λ s. record s { ese = bits }))
-action_of available Command.EventEnableQuery = AtOnce (TellsNumber (λ p. p.status.ese))
-action_of available Command.EventQuery = AtOnce (ReadsOut (λ s. decimal s.esr) (λ s. record s { esr = 0 }))
-action_of available (Command.ServiceEnable bits) = AtOnce (SetsStatus (λ s. enabled s bits))
-action_of available Command.ServiceEnableQuery = AtOnce (TellsNumber (λ p. p.status.sre))
-action_of available Command.StatusByteQuery = AtOnce (TellsNumber (λ p. byte_of p.status available))
-action_of available Command.OperationComplete = AtOnce (Changes (λ p. record p { opc_waits = true }))
-action_of available Command.OperationCompleteQuery = AfterScan (TellsNumber (λ p. 1))
-action_of available Command.Wait = AfterScan (Changes (λ p. p))
-action_of available Command.SelfTestQuery = AtOnce (TellsNumber (λ p. 0))
-action_of available Command.Trigger = AtOnce (Triggers Bus TriggerIgnored)
-action_of available (Command.DefineMacro label body) = AtOnce IsOfMacros
-action_of available (Command.MacroQuery label) = AtOnce IsOfMacros
-action_of available Command.MacroLabelsQuery = AtOnce IsOfMacros
-action_of available (Command.RemoveMacro label) = AtOnce IsOfMacros
-action_of available Command.PurgeMacros = AtOnce IsOfMacros
-action_of available (Command.EnableMacros on) = AtOnce IsOfMacros
-action_of available Command.EnableMacrosQuery = AtOnce IsOfMacros
-action_of available Command.Abort = AtOnce (Changes aborted)
-action_of available Command.Initiate = AtOnce Initiates
-action_of available (Command.InitiateContinuous true) = AtOnce (RefusesWith SettingsConflict)
-action_of available (Command.InitiateContinuous false) = AtOnce (Changes (λ p. p))
-action_of available Command.InitiateContinuousQuery = AtOnce (TellsNumber (λ p. 0))
-action_of available (Command.Count layer n) =
-    BetweenScans (SetsUp ((1 ≤ n) × (n ≤ most_of layer)) DataOutOfRange (with_count layer n))
-action_of available (Command.CountQuery layer) = AtOnce (TellsNumber (λ p. (layer_of p.settings layer).count))
-action_of available (Command.SetSource layer source) =
-    BetweenScans (Changes (λ p. record p { settings = with_source layer source p.settings }))
-action_of available (Command.SourceQuery layer) =
-    AtOnce (TellsText (λ p. source_word (layer_of p.settings layer).source))
-action_of available (Command.Delay layer micros) =
-    BetweenScans (SetsUp (micros ≤ longest_delay) DataOutOfRange (with_delay layer micros))
-action_of available (Command.DelayQuery layer) = AtOnce (TellsText (λ p. fixed 6 (layer_of p.settings layer).delay_us))
-action_of available (Command.Timer layer micros) =
-    BetweenScans (SetsUp ((1 ≤ micros) × (micros ≤ longest_delay)) DataOutOfRange (with_timer layer micros))
-action_of available (Command.TimerQuery layer) = AtOnce (TellsText (λ p. fixed 6 (layer_of p.settings layer).timer_us))
-action_of available (Command.Signal layer_name.Trigger) = AtOnce (Triggers (Signal layer_name.Trigger) TriggerIgnored)
-action_of available (Command.Signal (layer_name.Arm arm)) = AtOnce (Triggers (Signal (layer_name.Arm arm)) ArmIgnored)
-action_of available (Command.Close chans) = BetweenScans (ClosesListed chans)
-action_of available (Command.CloseQuery chans) = AtOnce (TellsRelays true chans)
-action_of available Command.CloseState = AtOnce (TellsText (λ p. printed (closed_list p.cage.cards)))
-action_of available (Command.Open chans) = BetweenScans (OpensListed chans)
-action_of available (Command.OpenQuery chans) = AtOnce (TellsRelays false chans)
-action_of available Command.OpenAll = BetweenScans (Changes (λ p. with_cards p (all_open p.cage.cards)))
-action_of available (Command.Scan positions) =
-    BetweenScans (SetsUp (length positions ≤ most_entries) TooMuchData (λ s. record s { list = positions }))
-action_of available Command.ScanQuery = AtOnce (TellsText (λ p. printed_positions p.settings.list))
-action_of available (Command.ScanMeter slot) =
-    BetweenScans (SetsUp ((1 ≤ slot) × (slot ≤ most_slots)) DataOutOfRange (λ s. record s { meter = slot }))
-action_of available Command.ScanMeterQuery = AtOnce (TellsNumber (λ p. p.settings.meter))
-action_of available (Command.GroupEventQuery group) =
-    AtOnce (ReadsOut (λ s. decimal (registers_of s group).event)
-    (λ s. with_group s group (event_taken (registers_of s group))))
-action_of available (Command.GroupConditionQuery group) =
-    AtOnce (TellsNumber (λ p. (registers_of p.status group).condition))
-action_of available (Command.GroupEnable group bits) =
-    AtOnce (SetsStatus (λ s. with_group s group (with_enable (registers_of s group) bits)))
-action_of available (Command.GroupEnableQuery group) = AtOnce (TellsNumber (λ p. (registers_of p.status group).enable))
-action_of available (Command.PositiveTransition group bits) =
-    AtOnce (SetsStatus (λ s. with_group s group (with_ptr (registers_of s group) bits)))
-action_of available (Command.PositiveTransitionQuery group) =
-    AtOnce (TellsNumber (λ p. (registers_of p.status group).ptr))
-action_of available (Command.NegativeTransition group bits) =
-    AtOnce (SetsStatus (λ s. with_group s group (with_ntr (registers_of s group) bits)))
-action_of available (Command.NegativeTransitionQuery group) =
-    AtOnce (TellsNumber (λ p. (registers_of p.status group).ntr))
-action_of available Command.Preset = AtOnce (SetsStatus preset)
-action_of available Command.NextErrorQuery = AtOnce (ReadsOut (λ s. oldest_entry s.errors) popped)
-action_of available Command.AllErrorsQuery =
-    AtOnce (ReadsOut (λ s. all_entries s.errors) (λ s. record s { errors = [] }))
-action_of available Command.ErrorCountQuery = AtOnce (TellsNumber (λ p. length p.status.errors))
-action_of available Command.VersionQuery = AtOnce (TellsText (λ p. version))
-action_of available (Command.Points n) =
-    BetweenScans (SetsUp ((1 ≤ n) × (n ≤ most_points)) DataOutOfRange (λ s. record s { points = n }))
-action_of available Command.PointsQuery = AtOnce (TellsNumber (λ p. p.settings.points))
-action_of available Command.ActualPointsQuery = AtOnce (TellsNumber (λ p. length p.cage.readings))
-action_of available Command.BoundQuery = AtOnce (TellsNumber (λ p. bound_of p.settings))
-action_of available Command.Fetch = AtOnce TellsReadings
+action_of available (Command.Plain plain) = plain_action plain
+action_of available (Command.Query query) = AtOnce (TellsText (query_text available query))
+action_of available (Command.LayerQuery query layer) =
+    AtOnce (TellsText (λ p. layer_text query (layer_of p.settings layer)))
+action_of available (Command.GroupQuery query group) =
+    AtOnce (TellsText (λ p. group_text query (registers_of p.status group)))
+action_of available (Command.ReadOut read) = AtOnce (ReadsOut (read_text read) (without_read read))
+action_of available (Command.Signal layer) = AtOnce (Triggers (Signal layer) (ignored_at layer))
+action_of available (Command.Continuous on) = continuous_action on
+action_of available (Command.Channels ask chans) = channels_action ask chans
+action_of available (Command.Set setting) = setting_action setting
+action_of available (Command.SetStatus setting) = AtOnce (SetsStatus (with_bits setting))
+action_of available (Command.Macros ask) = AtOnce IsOfMacros
+action_of available (Command.Macro ask) = AtOnce IsOfMacros

@@ -14,6 +14,9 @@ use Rattle.sw_cage.specs.Change.{any_failed}
 use Rattle.sw_cage.specs.Takes.{TakesReturn}
 use Rattle.sw_lex.specs.declared.command.Command.{Command}
 use Rattle.sw_lex.specs.declared.command.Command.TheVariants as command
+use Rattle.sw_lex.specs.declared.command.Plain.TheVariants as plain
+use Rattle.sw_lex.specs.declared.command.PlainQuery.TheVariants as query
+use Rattle.sw_lex.specs.declared.command.Channels.TheVariants as list
 use Rattle.sw_core.specs.declared.ask.Sid.{Sid}
 use Rattle.sw_core.specs.declared.ask.SessionAsk.TheVariants as Ask
 use Rattle.sw_core.specs.declared.ask.SessionAnswer.TheVariants.{Done, Refused}
@@ -51,7 +54,8 @@ AtEach Is p (e ∷ events) = Is p e × AtEach Is e.panel events
 -- DIAGnostic:SCAN:BOUNd? is answered by the bound of the scan that runs
 abbrev pub TellsBound : Event → Type 0
 TellsBound e = (sid : Sid) (available : Bool) (text : List ℕ) (at : ScanSeen)
-    → e.ask ≡ AskSession (Ask.Unit sid command.BoundQuery available) → e.answer ≡ SaysSession (Done (Some text)) None
+    → e.ask ≡ AskSession (Ask.Unit sid (command.Query query.Bound) available)
+    → e.answer ≡ SaysSession (Done (Some text)) None
     → e.panel.cage.scan ≡ Some at → text ≡ decimal (length (awaiting at.course.items))
 
 -- a card's failure is answered
@@ -128,11 +132,11 @@ IsDoneFor p unit available failed q = (sid : Sid)
 pub record RelaysObey : Type 0 where
   -- after ROUTe:CLOSe that is done every channel of its list is closed
   pub closes : (p q : Panel) (chans : List Channel) (available failed : Bool)
-      → IsDoneFor p (command.Close chans) available failed q → (c : Channel) → is_among chans c ≡ true
+      → IsDoneFor p (command.Channels list.Close chans) available failed q → (c : Channel) → is_among chans c ≡ true
       → is_closed q.cage.cards c ≡ true
   -- after ROUTe:OPEN that is done every channel of its list is open
   pub opens : (p q : Panel) (chans : List Channel) (available failed : Bool)
-      → IsDoneFor p (command.Open chans) available failed q → (c : Channel) → is_among chans c ≡ true
+      → IsDoneFor p (command.Channels list.Open chans) available failed q → (c : Channel) → is_among chans c ≡ true
       → is_closed q.cage.cards c ≡ false
   -- a refusal for any other cause than a card's failure queues its error, ends its event, and does nothing else
   pub refused : (p q : Panel) (ask : AskSeen) (failed : Bool) (e : ScpiError) → e ≢ HardwareError
@@ -142,8 +146,10 @@ pub record RelaysObey : Type 0 where
   pub failed : (p q : Panel) (ask : AskSeen) (failed : Bool) (answer : AnswerSeen) → tells_failure answer ≡ true
       → Step p ask failed answer q → (failed ≡ true) × IsAfterCardFault p q
   -- after ABORt and *RST no scan runs and every relay is open
-  pub aborted : (p q : Panel) (available failed : Bool) → IsDoneFor p command.Abort available failed q → IsAtRest q
-  pub reset : (p q : Panel) (available failed : Bool) → IsDoneFor p command.Reset available failed q → IsAtRest q
+  pub aborted : (p q : Panel) (available failed : Bool)
+      → IsDoneFor p (command.Plain plain.Abort) available failed q → IsAtRest q
+  pub reset : (p q : Panel) (available failed : Bool)
+      → IsDoneFor p (command.Plain plain.Reset) available failed q → IsAtRest q
   -- after a card is ejected while a scan runs too
   pub stopped : (p q : Panel) (slot : ℕ) (failed : Bool) (card : Account) → is_running p ≡ true
       → Step p (AskEject slot) failed (SaysEjected card) q → IsAtRest q

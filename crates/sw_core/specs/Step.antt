@@ -12,6 +12,7 @@ use Rattle.sw_base.specs.declared.error.ScpiError.TheVariants.{HardwareMissing}
 use Rattle.sw_base.specs.declared.error.ScpiError.TheVariants.{SettingsConflict, DataCorruptOrStale, SystemError}
 use Rattle.sw_base.specs.declared.error.ScpiError.TheVariants.{HardwareError, OutOfMemory}
 use Rattle.sw_lex.specs.declared.command.Command.{Command}
+use Rattle.sw_lex.specs.declared.command.Plain.{Plain}
 use Rattle.sw_trigger.specs.Settings.{SettingsSeen}
 use Rattle.sw_verify.specs.declared.snapshot.Snapshot.{Snapshot}
 use Rattle.sw_verify.specs.Check.{IsReady}
@@ -36,7 +37,7 @@ use Rattle.sw_core.specs.declared.ask.SessionAnswer.{SessionAnswer}
 use Rattle.sw_core.specs.declared.ask.SessionAnswer.TheVariants as Answer
 use Rattle.sw_core.specs.declared.ask.SessionAnswer.TheVariants.{Joined, Full, Stranger, Broken, Done, Refused, Hold}
 use Rattle.sw_core.specs.declared.ask.SessionAnswer.TheVariants.{Worn}
-use Rattle.sw_core.specs.Action.{Effect, TellsNumber, TellsText, TellsReadings, ReadsOut, SetsStatus, SetsUp}
+use Rattle.sw_core.specs.Action.{Effect, TellsText, TellsReadings, ReadsOut, SetsStatus, SetsUp}
 use Rattle.sw_core.specs.Action.{ClosesListed, OpensListed, TellsRelays, Changes}
 use Rattle.sw_core.specs.Action.{Resets, Triggers, RefusesWith, IsOfMacros, Initiates, Action, AtOnce, BetweenScans}
 use Rattle.sw_core.specs.Action.{AfterScan, action_of, awaits_end, reset}
@@ -165,7 +166,6 @@ pub record StepHappens (p : Panel) (happening : Happening) (error : ScpiError) (
 
 -- a command that is offered to no scan
 abbrev pub StepAlone : Effect → Panel → Bool → SessionAnswer → Panel → Type 0
-StepAlone (TellsNumber number) p f answer q = StepText p (decimal (number p)) p.status f answer q
 StepAlone (TellsText text) p f answer q = StepText p (text p) p.status f answer q
 StepAlone TellsReadings p f answer q = StepReadings p.cage.readings p f answer q
 StepAlone (ReadsOut text after) p f answer q = StepText p (text p.status) (after p.status) f answer q
@@ -395,7 +395,7 @@ Acts p ask f answer q = ⊥
 
 -- what still acts when no more events can be numbered: what makes a scan idle, or brings a meter back
 abbrev pub acts_unnumbered : AskSeen → Bool
-acts_unnumbered (AskSession (Ask.Unit sid Command.Abort available)) = true
+acts_unnumbered (AskSession (Ask.Unit sid (Command.Plain Plain.Abort) available)) = true
 acts_unnumbered (AskEject slot) = true
 acts_unnumbered (AskFinished done) = true
 acts_unnumbered ask = false

@@ -8,7 +8,7 @@ ghost use Rattle.sw_core.specs.declared.ask.SessionAnswer.TheVariants.{Hold, Wor
 
 use crate::ask::{Answer, Ask, SessionAnswer, SessionAsk, Sid};
 use sw_card::{Meter, Relay};
-use sw_lex::Command;
+use sw_lex::{Command, Plain};
 
 /// The session that asks.
 pub fn asker(ask: &SessionAsk) -> Option<Sid>
@@ -61,7 +61,7 @@ pub fn is_held(ask: &SessionAsk) -> bool
     ensures { result ≡ is_held ask.now }
 {
     match ask {
-        SessionAsk::Unit(_, Command::OperationCompleteQuery | Command::Wait, _) => true,
+        SessionAsk::Unit(_, Command::Plain(Plain::OperationCompleteQuery | Plain::Wait), _) => true,
         _ => false,
     }
 }
@@ -71,7 +71,7 @@ pub fn session_acts_unnumbered(ask: &SessionAsk) -> bool
     ensures { result ≡ acts_unnumbered (AskSession ask.now) }
 {
     match ask {
-        SessionAsk::Unit(_, Command::Abort, _) => true,
+        SessionAsk::Unit(_, Command::Plain(Plain::Abort), _) => true,
         _ => false,
     }
 }

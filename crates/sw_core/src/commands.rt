@@ -1,8 +1,10 @@
-//! Commands: what each comes to, one row for each.
+//! Commands: what each family comes to.
 
 ghost use Rattle.std.specs.Prelude.{◌≡◌, ◌&&◌, None, false};
 ghost use Rattle.sw_cage.specs.Change.{any_failed};
-ghost use Rattle.sw_core.specs.Action.{action_of, awaits_end, is_trigger};
+ghost use Rattle.sw_lex.specs.declared.command.Command.{Command};
+ghost use Rattle.sw_core.specs.Action.{action_of, plain_action, channels_action, setting_action, is_trigger};
+ghost use Rattle.sw_core.specs.Action.{awaits_end};
 ghost use Rattle.sw_core.specs.Answers.{TakesSetting};
 ghost use Rattle.sw_core.specs.Panel.{is_running};
 ghost use Rattle.sw_core.specs.declared.ask.SessionAsk.{SessionAsk};
@@ -10,11 +12,10 @@ ghost use Rattle.sw_core.specs.Step.{StepAction};
 
 use crate::ask::SessionAnswer;
 use crate::state::Core;
-use crate::text::{identity, told, version};
 use std::alloc::Global;
-use sw_base::ScpiError;
+use sw_base::{Chan, ScpiError};
 use sw_card::{Meter, Relay};
-use sw_lex::Command;
+use sw_lex::{Channels, Command, Plain, Setting, Time};
 
 impl<R: Relay, M: Meter> Core<R, M> {
     /// Carries a command out that is offered to no scan and that nothing holds, or refuses it while a scan runs;
@@ -33,117 +34,97 @@ impl<R: Relay, M: Meter> Core<R, M> {
         ensures { (ask : SessionAsk) → StepAction (action_of available command) self.old ask
             (any_failed self.old.cage.cards self.new.cage.cards) result None self.new }
     {
-        let running = self.cage.is_running();
         match command {
-            Command::Close(_)
-            | Command::Open(_)
-            | Command::OpenAll
-            | Command::Scan(_)
-            | Command::ScanMeter(_)
-            | Command::Count(_, _)
-            | Command::SetSource(_, _)
-            | Command::Delay(_, _)
-            | Command::Timer(_, _)
-            | Command::Points(_)
-                if running => { SessionAnswer::Refused(ScpiError::SettingsConflict) }
-            Command::Identify => told(identity(alloc)),
-            Command::Reset => self.reset(),
-            Command::ClearStatus => self.clear_status(),
-            Command::EventEnable(bits) => {
-                self.status.set_ese(bits);
-                SessionAnswer::Done(None)
-            }
-            Command::EventEnableQuery => self.number(alloc, u64::from(self.status.ese())),
-            Command::EventQuery => self.event_query(alloc),
-            Command::ServiceEnable(bits) => {
-                self.status.set_sre(bits);
-                SessionAnswer::Done(None)
-            }
-            Command::ServiceEnableQuery => self.number(alloc, u64::from(self.status.sre())),
-            Command::StatusByteQuery => self.number(alloc, u64::from(self.status.byte(available))),
-            Command::OperationComplete => self.complete_operation(),
-            Command::OperationCompleteQuery => self.number(alloc, 1),
-            Command::Wait | Command::InitiateContinuous(false) => SessionAnswer::Done(None),
-            Command::SelfTestQuery => self.number(alloc, 0),
-            Command::InitiateContinuousQuery => self.number(alloc, 0),
-            Command::DefineMacro(_, _) => undefined(),
-            Command::MacroQuery(_) => undefined(),
-            Command::MacroLabelsQuery => undefined(),
-            Command::RemoveMacro(_) => undefined(),
-            Command::PurgeMacros => undefined(),
-            Command::EnableMacros(_) => undefined(),
-            Command::EnableMacrosQuery => undefined(),
-            Command::Initiate => undefined(),
-            Command::Abort => self.abort(),
-            Command::InitiateContinuous(true) => {
-                SessionAnswer::Refused(ScpiError::SettingsConflict)
-            }
-            Command::Count(layer, n) => taken(self.settings.set_count(layer, n)),
-            Command::CountQuery(layer) => self.number(
-                alloc,
-                u64::from(self.settings.layer(layer).count),
-            ),
-            Command::SetSource(layer, source) => self.set_source(layer, source),
-            Command::SourceQuery(layer) => self.source_query(alloc, layer),
-            Command::Delay(layer, micros) => taken(self.settings.set_delay(layer, micros)),
-            Command::DelayQuery(layer) => self.delay_query(alloc, layer),
-            Command::Timer(layer, micros) => taken(self.settings.set_timer(layer, micros)),
-            Command::TimerQuery(layer) => self.timer_query(alloc, layer),
-            Command::Close(chans) => self.close(chans.as_slice()),
-            Command::CloseQuery(chans) => self.flags(alloc, true, chans.as_slice()),
-            Command::CloseState => self.close_state(alloc),
-            Command::Open(chans) => self.open(chans.as_slice()),
-            Command::OpenQuery(chans) => self.flags(alloc, false, chans.as_slice()),
-            Command::OpenAll => self.open_everything(),
-            Command::Scan(positions) => taken(self.settings.set_list(positions.into_vec())),
-            Command::ScanQuery => self.scan_query(alloc),
-            Command::ScanMeter(slot) => taken(self.settings.set_meter(slot)),
-            Command::ScanMeterQuery => self.number(alloc, u64::from(self.settings.meter())),
-            Command::GroupEventQuery(group) => self.group_event_query(alloc, group),
-            Command::GroupConditionQuery(group) => self.number(
-                alloc,
-                u64::from(self.status.group(group).condition()),
-            ),
-            Command::GroupEnable(group, bits) => {
-                self.status.set_enable(group, bits);
-                SessionAnswer::Done(None)
-            }
-            Command::GroupEnableQuery(group) => self.number(
-                alloc,
-                u64::from(self.status.group(group).enable()),
-            ),
-            Command::PositiveTransition(group, bits) => {
-                self.status.set_ptr(group, bits);
-                SessionAnswer::Done(None)
-            }
-            Command::PositiveTransitionQuery(group) => self.number(
-                alloc,
-                u64::from(self.status.group(group).ptr()),
-            ),
-            Command::NegativeTransition(group, bits) => {
-                self.status.set_ntr(group, bits);
-                SessionAnswer::Done(None)
-            }
-            Command::NegativeTransitionQuery(group) => self.number(
-                alloc,
-                u64::from(self.status.group(group).ntr()),
-            ),
-            Command::Preset => {
-                self.status.preset();
-                SessionAnswer::Done(None)
-            }
-            Command::NextErrorQuery => self.next_error(alloc),
-            Command::AllErrorsQuery => self.all_errors(alloc),
-            Command::ErrorCountQuery => self.number(alloc, self.status.count() as u64),
-            Command::VersionQuery => told(version(alloc)),
-            Command::Points(n) => taken(self.settings.set_points(n)),
-            Command::PointsQuery => self.number(alloc, u64::from(self.settings.points())),
-            Command::ActualPointsQuery => self.number(alloc, self.cage.readings().len() as u64),
-            Command::BoundQuery => self.number(alloc, self.settings.bound()),
-            Command::Fetch => self.fetch(alloc),
-            Command::Trigger | Command::Signal(_) => unreachable!(),
+            Command::Plain(plain) => self.plain(alloc, plain),
+            Command::Query(query) => self.tell(alloc, query, available),
+            Command::LayerQuery(query, layer) => self.tell_layer(alloc, query, layer),
+            Command::GroupQuery(query, group) => self.tell_group(alloc, query, group),
+            Command::ReadOut(read) => self.read_out(alloc, read),
+            Command::Continuous(true) => conflict(),
+            Command::Continuous(false) => SessionAnswer::Done(None),
+            Command::Channels(ask, chans) => self.channels(alloc, ask, chans.as_slice()),
+            Command::Set(setting) => self.set(setting),
+            Command::SetStatus(setting) => self.set_status(setting),
+            Command::Macros(_) | Command::Macro(_) => undefined(),
+            Command::Signal(_) => unreachable!(),
         }
     }
+
+    /// Carries a command without data out.
+    #[tactic(auto, using(crate::proofs::CallsLemmas::failed_same))]
+    #[inline(always)]
+    fn plain(&mut self, alloc: Global, plain: Plain) -> SessionAnswer
+        requires alone { is_trigger (Command.Plain plain) ≡ false }
+        requires unheld { awaits_end (Command.Plain plain) && is_running self.old ≡ false }
+        ensures { (ask : SessionAsk) → StepAction (plain_action plain) self.old ask
+            (any_failed self.old.cage.cards self.new.cage.cards) result None self.new }
+    {
+        match plain {
+            Plain::Reset => self.reset(),
+            Plain::ClearStatus => self.clear_status(),
+            Plain::OperationComplete => self.complete_operation(),
+            Plain::OperationCompleteQuery => self.number(alloc, 1),
+            Plain::Wait => SessionAnswer::Done(None),
+            Plain::Abort => self.abort(),
+            Plain::Initiate => undefined(),
+            Plain::OpenAll if self.cage.is_running() => conflict(),
+            Plain::OpenAll => self.open_everything(),
+            Plain::Preset => self.preset(),
+            Plain::Fetch => self.fetch(alloc),
+            Plain::Trigger => unreachable!(),
+        }
+    }
+
+    /// Carries a command with a channel list out.
+    #[tactic(auto, using(crate::proofs::CallsLemmas::failed_same))]
+    #[inline(always)]
+    fn channels(&mut self, alloc: Global, ask: Channels, chans: &[Chan]) -> SessionAnswer
+        ensures { (ask_of : SessionAsk) → StepAction (channels_action ask chans.now) self.old ask_of
+            (any_failed self.old.cage.cards self.new.cage.cards) result None self.new }
+    {
+        match ask {
+            Channels::Close | Channels::Open if self.cage.is_running() => conflict(),
+            Channels::Close => self.close(chans),
+            Channels::CloseQuery => self.flags(alloc, true, chans),
+            Channels::Open => self.open(chans),
+            Channels::OpenQuery => self.flags(alloc, false, chans),
+        }
+    }
+
+    /// Sets a value for scans, where no scan runs and it is one that fits.
+    #[tactic(auto, using(crate::proofs::CallsLemmas::failed_same))]
+    #[inline(always)]
+    fn set(&mut self, setting: Setting) -> SessionAnswer
+        ensures { (ask : SessionAsk) → StepAction (setting_action setting) self.old ask
+            (any_failed self.old.cage.cards self.new.cage.cards) result None self.new }
+    {
+        if self.cage.is_running() {
+            return conflict();
+        }
+        match setting {
+            Setting::Count(layer, n) => taken(self.settings.set_count(layer, n)),
+            Setting::Source(layer, source) => {
+                self.settings.set_source(layer, source);
+                SessionAnswer::Done(None)
+            }
+            Setting::Time(Time::Delay, layer, micros) => {
+                taken(self.settings.set_delay(layer, micros))
+            }
+            Setting::Time(Time::Timer, layer, micros) => {
+                taken(self.settings.set_timer(layer, micros))
+            }
+            Setting::Scan(positions) => taken(self.settings.set_list(positions.into_vec())),
+            Setting::ScanMeter(slot) => taken(self.settings.set_meter(slot)),
+            Setting::Points(n) => taken(self.settings.set_points(n)),
+        }
+    }
+}
+
+/// What is answered to what a scan that runs refuses.
+fn conflict() -> SessionAnswer
+    ensures { result ≡ SessionAnswer.Refused ScpiError.SettingsConflict }
+{
+    SessionAnswer::Refused(ScpiError::SettingsConflict)
 }
 
 /// What a command is answered that is a session's own.

@@ -1,9 +1,9 @@
 //! The whole state of the mainframe, and the calls that change it: one step for each ask.
 //!
-//! The crate's contract to the layers above: `Core::apply`, and `ask` and `finish`, which do its part for a session's
-//! ask and a meter's return, answer and go on as the relation `Step` of `specs/Step.antt` says, with one line for each
-//! legal pair of ask and answer; `come_back` and `elapse` do its part for a meter's return and the end of a pause, and
-//! leave the next work where the caller looks; `Core::holds` tells of a step that would change nothing. Over every run
+//! The crate's contract to the layers above: `Core::apply`, and `ask`, which does its part for a session's ask, answer
+//! and go on as the relation `Step` of `specs/Step.antt` says, with one line for each legal pair of ask and answer;
+//! `come_back` and `elapse` do its part for a meter's return and the end of a pause, and leave the next work where the
+//! caller looks; `Core::holds` tells of a step that would change nothing. Over every run
 //! of such steps no absent channel is closed and no two closed channels clash, and a scan does a prefix of its plan's
 //! agenda and ends; the laws in `laws.rt` say so, and what closing, opening, refusing, failing and ejecting come to.
 //!
@@ -15,6 +15,7 @@ mod asks;
 mod commands;
 mod event;
 mod laws;
+mod queries;
 mod registers;
 mod relays;
 mod scans;

@@ -1,23 +1,20 @@
-//! Commands that tell or set status and settings, and call no card.
+//! Commands that read status out or set it, and call no card.
 
 ghost use Rattle.std.specs.Prelude.{◌≡◌, [], Bool, decimal, if◌then◌else◌};
-ghost use Rattle.sw_channel.specs.Printing.{printed_positions};
 ghost use Rattle.sw_status.specs.Registers.{event_taken};
-ghost use Rattle.sw_status.specs.StatusModel.{popped, cleared, registers_of, with_group};
-ghost use Rattle.sw_core.specs.Action.{with_source};
-ghost use Rattle.sw_base.specs.Reading.{fixed};
-ghost use Rattle.sw_trigger.specs.Settings.{layer_of};
-ghost use Rattle.sw_core.specs.Answers.{oldest_entry, all_entries, source_word};
+ghost use Rattle.sw_status.specs.StatusModel.{popped, cleared, preset, registers_of, with_group};
+ghost use Rattle.sw_core.specs.Action.{with_bits, read_text, without_read};
+ghost use Rattle.sw_core.specs.Answers.{oldest_entry, all_entries};
 ghost use Rattle.sw_core.specs.Registers.{card_fault_reported, card_fault_cleared};
-ghost use Rattle.sw_core.specs.Step.{StepText, StepReadings, StepDone};
+ghost use Rattle.sw_core.specs.Step.{StepText, StepDone};
 
 use crate::ask::SessionAnswer;
 use crate::state::Core;
-use crate::text::{all_entries, all_readings, oldest_entry, seconds, source_word, told, whole};
+use crate::text::{all_entries, oldest_entry, whole};
 use std::alloc::Global;
-use sw_base::{LayerName, ScpiError, Sequence, Source, StatusGroup};
+use sw_base::{ScpiError, StatusGroup};
 use sw_card::{Meter, Relay};
-use sw_channel::print_positions;
+use sw_lex::{StatusRead, StatusSetting};
 use sw_status::Status;
 
 /// The condition bit of a card's failure (own).
@@ -49,55 +46,23 @@ pub fn set_card_fault(status: &mut Status, failed: bool)
 }
 
 impl<R: Relay, M: Meter> Core<R, M> {
-    /// A number as an answer.
-    pub(crate) fn number(&self, alloc: Global, n: u64) -> SessionAnswer
-        ensures { StepText self.now (decimal n) self.now.status Bool.false result self.now }
+    /// Tells what a query takes out of the status, and takes it out.
+    #[inline(always)]
+    pub(crate) fn read_out(&mut self, alloc: Global, read: StatusRead) -> SessionAnswer
+        ensures { StepText self.old (read_text read self.old.status) (without_read read self.old.status) Bool.false
+            result self.new }
     {
-        told(whole(alloc, n))
-    }
-
-    /// The channels of the scan.
-    #[inline(never)]
-    pub(crate) fn scan_query(&self, alloc: Global) -> SessionAnswer
-        ensures { StepText self.now (printed_positions self.now.settings.list) self.now.status Bool.false result
-            self.now }
-    {
-        match print_positions(alloc, self.settings.list()) {
-            Ok(text) => SessionAnswer::Done(Some(Sequence::new(text))),
-            Err(error) => SessionAnswer::Refused(error),
+        match read {
+            StatusRead::EventStatus => self.event_query(alloc),
+            StatusRead::GroupEvent(group) => self.group_event_query(alloc, group),
+            StatusRead::NextError => self.next_error(alloc),
+            StatusRead::AllErrors => self.all_errors(alloc),
         }
-    }
-
-    /// Where a layer's wait takes its trigger from.
-    #[inline(never)]
-    pub(crate) fn source_query(&self, alloc: Global, layer: LayerName) -> SessionAnswer
-        ensures { StepText self.now (source_word (layer_of self.now.settings layer).source) self.now.status Bool.false
-            result self.now }
-    {
-        told(source_word(alloc, self.settings.layer(layer).source))
-    }
-
-    /// How long a layer's wait pauses.
-    #[inline(never)]
-    pub(crate) fn delay_query(&self, alloc: Global, layer: LayerName) -> SessionAnswer
-        ensures { StepText self.now (fixed 6 (layer_of self.now.settings layer).delay_us) self.now.status Bool.false
-            result self.now }
-    {
-        told(seconds(alloc, self.settings.layer(layer).delay_us))
-    }
-
-    /// How long the wait of a layer with source Timer lasts.
-    #[inline(never)]
-    pub(crate) fn timer_query(&self, alloc: Global, layer: LayerName) -> SessionAnswer
-        ensures { StepText self.now (fixed 6 (layer_of self.now.settings layer).timer_us) self.now.status Bool.false
-            result self.now }
-    {
-        told(seconds(alloc, self.settings.layer(layer).timer_us))
     }
 
     /// Reads the event status register out.
     #[inline(never)]
-    pub(crate) fn event_query(&mut self, alloc: Global) -> SessionAnswer
+    fn event_query(&mut self, alloc: Global) -> SessionAnswer
         ensures { StepText self.old (decimal self.old.status.esr) (record self.old.status { esr = 0 }) Bool.false result
             self.new }
     {
@@ -112,7 +77,7 @@ impl<R: Relay, M: Meter> Core<R, M> {
 
     /// Reads a group's event register out.
     #[inline(never)]
-    pub(crate) fn group_event_query(&mut self, alloc: Global, group: StatusGroup) -> SessionAnswer
+    fn group_event_query(&mut self, alloc: Global, group: StatusGroup) -> SessionAnswer
         ensures { StepText self.old (decimal (registers_of self.old.status group).event)
             (with_group self.old.status group (event_taken (registers_of self.old.status group))) Bool.false result
             self.new }
@@ -128,7 +93,7 @@ impl<R: Relay, M: Meter> Core<R, M> {
 
     /// Takes the oldest error out of the queue.
     #[inline(never)]
-    pub(crate) fn next_error(&mut self, alloc: Global) -> SessionAnswer
+    fn next_error(&mut self, alloc: Global) -> SessionAnswer
         ensures { StepText self.old (oldest_entry self.old.status.errors) (popped self.old.status) Bool.false result
             self.new }
     {
@@ -143,7 +108,7 @@ impl<R: Relay, M: Meter> Core<R, M> {
 
     /// Takes all errors out of the queue.
     #[inline(never)]
-    pub(crate) fn all_errors(&mut self, alloc: Global) -> SessionAnswer
+    fn all_errors(&mut self, alloc: Global) -> SessionAnswer
         ensures { StepText self.old (all_entries self.old.status.errors) (record self.old.status { errors = [] })
             Bool.false result self.new }
     {
@@ -152,21 +117,6 @@ impl<R: Relay, M: Meter> Core<R, M> {
                 self.status.clear_errors();
                 SessionAnswer::Done(Some(text))
             }
-            Err(_) => SessionAnswer::Refused(ScpiError::OutOfMemory),
-        }
-    }
-
-    /// The readings of the last scan.
-    #[inline(never)]
-    pub(crate) fn fetch(&self, alloc: Global) -> SessionAnswer
-        ensures { StepReadings self.now.cage.readings self.now Bool.false result self.now }
-    {
-        let readings = self.cage.readings();
-        if readings.is_empty() {
-            return SessionAnswer::Refused(ScpiError::DataCorruptOrStale);
-        }
-        match all_readings(alloc, readings) {
-            Ok(text) => SessionAnswer::Done(Some(text)),
             Err(_) => SessionAnswer::Refused(ScpiError::OutOfMemory),
         }
     }
@@ -189,12 +139,26 @@ impl<R: Relay, M: Meter> Core<R, M> {
         SessionAnswer::Done(None)
     }
 
-    /// Sets where a layer's wait takes its trigger from.
-    pub(crate) fn set_source(&mut self, layer: LayerName, source: Source) -> SessionAnswer
-        ensures { StepDone (record self.old { settings = with_source layer source self.old.settings }) Bool.false result
-            self.new }
+    /// Sets bits of the status.
+    #[inline(always)]
+    pub(crate) fn set_status(&mut self, setting: StatusSetting) -> SessionAnswer
+        ensures { StepDone (record self.old { status = with_bits setting self.old.status }) Bool.false result self.new }
     {
-        self.settings.set_source(layer, source);
+        match setting {
+            StatusSetting::EventEnable(bits) => self.status.set_ese(bits),
+            StatusSetting::ServiceEnable(bits) => self.status.set_sre(bits),
+            StatusSetting::Enable(group, bits) => self.status.set_enable(group, bits),
+            StatusSetting::PositiveTransition(group, bits) => self.status.set_ptr(group, bits),
+            StatusSetting::NegativeTransition(group, bits) => self.status.set_ntr(group, bits),
+        }
+        SessionAnswer::Done(None)
+    }
+
+    /// Sets the enable registers and transition filters to their preset values (SCPI-1999, 20.7).
+    pub(crate) fn preset(&mut self) -> SessionAnswer
+        ensures { StepDone (record self.old { status = preset self.old.status }) Bool.false result self.new }
+    {
+        self.status.preset();
         SessionAnswer::Done(None)
     }
 }

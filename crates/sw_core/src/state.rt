@@ -1,11 +1,11 @@
-//! The whole state of the mainframe, and the calls that change it: `apply`, and its parts `ask` and `finish`.
+//! The whole state of the mainframe, and the calls that change it: `apply`, and its part `ask`.
 
 ghost use Rattle.std.specs.Prelude.{◌≡◌, ◌==◌, ◌&&◌, ◌||◌, Bool, IfOk, None, Some, true, false};
 ghost use Rattle.sw_cage.specs.Change.{any_failed};
 ghost use Rattle.sw_status.specs.StatusModel.{summary_of};
 ghost use Rattle.sw_core.specs.Sessions.{IsJoined};
 ghost use Rattle.sw_core.specs.Seen.{ask_seen, answer_seen, work_seen, failed_in, HandsBack, IsOwnAccount};
-ghost use Rattle.sw_core.specs.Seen.{AskSession, AskInstall, AskEject, AskFinished, SaysSession};
+ghost use Rattle.sw_core.specs.Seen.{AskSession, AskInstall, AskEject, SaysSession};
 ghost use Rattle.sw_core.specs.Panel.{Panel, is_running, opening, opening_at};
 ghost use Rattle.sw_core.specs.Seats.{asker_of};
 ghost use Rattle.sw_core.specs.Event.{last_number};
@@ -26,7 +26,7 @@ use std::marker::Model;
 use sw_base::ScpiError;
 use sw_cage::{Cage, Finished, Happening};
 use sw_card::{Card, Meter, Relay};
-use sw_lex::Command;
+use sw_lex::{Command, Plain};
 use sw_status::Status;
 use sw_trigger::Settings;
 
@@ -117,75 +117,11 @@ impl<R: Relay, M: Meter> Core<R, M> {
         answer
     }
 
-    /// Does what a session asks: one event, as `apply` does it. What its scan awaits now is left in `work`.
+    /// Does what a session asks: one event, as `apply` does it, where it can be numbered. What its scan awaits now is
+    /// left in `work`.
+    #[tactic(auto, using(crate::proofs::NumberedLemmas::worn_step, crate::proofs::NumberedLemmas::numbered_step))]
     #[inline(always)]
     pub fn ask(
-        &mut self,
-        alloc: Global,
-        ask: SessionAsk,
-        work: &mut Option<Work<M>>,
-    ) -> SessionAnswer
-        requires { work.old ≡ None }
-        ensures { Step self.old (AskSession ask) (any_failed self.old.cage.cards self.new.cage.cards)
-            (SaysSession result (work_seen work.new)) self.new }
-    {
-        match self.admitted(&ask) {
-            Some(sid) => self.ask_admitted(alloc, sid, ask, work),
-            None => self.ask_any(alloc, ask, work),
-        }
-    }
-
-    /// The session that asks, where its ask can be numbered, and nothing drops or holds it.
-    #[inline(always)]
-    fn admitted(&self, ask: &SessionAsk) -> Option<Sid>
-        ensures numbered { (sid : Sid) → result ≡ Some sid → (self.now.events == last_number) ≡ false }
-        ensures asker { (sid : Sid) → result ≡ Some sid → asker_of ask.now ≡ Some sid }
-        ensures joined { (sid : Sid) → result ≡ Some sid → IsJoined self.now.sessions sid }
-        ensures heard { (sid : Sid) → result ≡ Some sid → drops self.now sid ask.now ≡ false }
-        ensures let_in { (sid : Sid) → result ≡ Some sid → shuts_out self.now sid ask.now ≡ false }
-        ensures unheld { (sid : Sid) → result ≡ Some sid → is_held ask.now && is_running self.now ≡ false }
-    {
-        if self.events == u64::MAX {
-            return None;
-        }
-        let sid = asker(ask)?;
-        if !self.sessions.has(sid) || self.sessions.drops(sid, ask) {
-            return None;
-        }
-        if self.sessions.shuts_out(sid, ask) || (is_held(ask) && self.cage.is_running()) {
-            return None;
-        }
-        Some(sid)
-    }
-
-    /// Does what a session asks that is admitted: one event.
-    #[inline(always)]
-    fn ask_admitted(
-        &mut self,
-        alloc: Global,
-        sid: Sid,
-        ask: SessionAsk,
-        work: &mut Option<Work<M>>,
-    ) -> SessionAnswer
-        requires numbered { (self.old.events == last_number) ≡ false }
-        requires asker { asker_of ask ≡ Some sid }
-        requires joined { IsJoined self.old.sessions sid }
-        requires heard { drops self.old sid ask ≡ false }
-        requires let_in { shuts_out self.old sid ask ≡ false }
-        requires unheld { is_held ask && is_running self.old ≡ false }
-        requires empty { work.old ≡ None }
-        ensures { Step self.old (AskSession ask) (any_failed self.old.cage.cards self.new.cage.cards)
-            (SaysSession result (work_seen work.new)) self.new }
-    {
-        let told = self.joined(alloc, sid, ask, work);
-        self.end_session_event(&told);
-        told
-    }
-
-    /// Does whatever a session asks: one event, where it can be numbered.
-    #[tactic(auto, using(crate::proofs::NumberedLemmas::worn_step, crate::proofs::NumberedLemmas::numbered_step))]
-    #[inline(never)]
-    fn ask_any(
         &mut self,
         alloc: Global,
         ask: SessionAsk,
@@ -224,20 +160,6 @@ impl<R: Relay, M: Meter> Core<R, M> {
             return false;
         }
         self.sessions.shuts_out(sid, ask) || (is_held(ask) && self.cage.is_running())
-    }
-
-    /// Takes a meter back: one event, as `apply` does it.
-    #[tactic(auto, using(crate::proofs::NumberedLemmas::numbered_step))]
-    pub fn finish(&mut self, done: Finished<M>) -> Answer<R, M>
-        ensures step { Step self.old (AskFinished done.1)
-            (failed_in (AskFinished done.1) (answer_seen result) self.old.cage.cards self.new.cage.cards)
-            (answer_seen result) self.new }
-        ensures own { IsOwnAccount (AskFinished done.1) }
-        ensures back { HandsBack (Ask.Finished done) result }
-    {
-        let answer = self.finished(done);
-        self.end_event(&answer);
-        answer
     }
 
     /// Does what is asked, and leaves the end of the event to the caller.
@@ -290,7 +212,9 @@ impl<R: Relay, M: Meter> Core<R, M> {
         }
     }
 
+    /// Does what a session asks, or drops it, holds it or refuses it as a stranger's.
     #[tactic(auto, using(crate::proofs::CallsLemmas::failed_same))]
+    #[inline(always)]
     fn session(
         &mut self,
         alloc: Global,
@@ -375,7 +299,7 @@ impl<R: Relay, M: Meter> Core<R, M> {
                 self.status.push_error(error);
                 SessionAnswer::Done(None)
             }
-            SessionAsk::Unit(_, Command::Trigger, _) => {
+            SessionAsk::Unit(_, Command::Plain(Plain::Trigger), _) => {
                 self.trigger(Happening::Bus, ScpiError::TriggerIgnored, work)
             }
             SessionAsk::Unit(_, Command::Signal(layer), _) => self.signal(layer, work),

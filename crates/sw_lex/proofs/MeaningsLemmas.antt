@@ -7,12 +7,14 @@ use Rattle.sw_channel.proofs.Judging.{one_reading, one_position_reading}
 use Rattle.sw_channel.specs.Reading.{Reads, ReadsPositions}
 use Rattle.sw_lex.specs.declared.command.Command.{Command}
 use Rattle.sw_lex.specs.declared.command.Command.TheVariants as commands
+use Rattle.sw_lex.specs.declared.command.MacroCommand.TheVariants as macros
+use Rattle.sw_lex.specs.declared.command.Setting.TheVariants as settings
 use Rattle.sw_lex.specs.declared.table.Key.{Key}
 use Rattle.sw_lex.specs.declared.table.Key.TheVariants as keys
 use Rattle.sw_lex.specs.Unit.{Datum, number, character, string, block, expression, UnitSeen}
 use Rattle.sw_lex.specs.Table.{HeaderEntry, entries}
 use Rattle.sw_lex.specs.Found.{IsIn, spellings, IsFound}
-use Rattle.sw_lex.specs.Commands.{layer_numbered, of_common, of_instrument, of_layer, of_group, of_channels}
+use Rattle.sw_lex.specs.Commands.{layer_numbered}
 use Rattle.sw_lex.specs.Values.{on_ok, IsQuantity, ReadsQuantity, ReadsString, ReadsBlock, whole_of, continuous_of, macros_of, time_of, source_meant}
 use Rattle.sw_lex.specs.Meaning.{Nodes, asked, path_after, WithNone, WithList, OfList, WithString, OfString, Defines, OfMacro, WithNumber, OfNumber, OfWord}
 use Rattle.sw_lex.specs.Meaning.{OfSwitch, DecodesCommand, Resolves}
@@ -153,7 +155,8 @@ one_defines : (body : List ℕ) (label : Result (List ℕ) ScpiError) (r s : Res
     → r ≢ Err OutOfMemory → s ≢ Err OutOfMemory → r ≡ s
 one_defines body (Err e) r s a b n m = a ∙ sym b
 one_defines body (Ok x) r s a b n m =
-    let f : Result (List ℕ) ScpiError → Result Command ScpiError = λ q. result_map_both (λ y. commands.DefineMacro x y) (λ e. e) q in
+    let made : List ℕ → Command = λ y. commands.Macro (macros.Define (record { label = x; body = y })) in
+    let f : Result (List ℕ) ScpiError → Result Command ScpiError = λ q. result_map_both made (λ e. e) q in
     let e = one_reads_block body a.0 b.0 a.1 b.1 (λ k. n (a.2 ∙ ap f k)) (λ k. m (b.2 ∙ ap f k)) in
     a.2 ∙ ap f e ∙ sym b.2
 
@@ -176,20 +179,23 @@ one_of_macro (d ∷ c ∷ e ∷ ds) r s a b n m = a ∙ sym b
 one_decoded : (key : Key) (k : ℕ) (ds : List Datum) (r s : Result Command ScpiError) → DecodesCommand key k ds r → DecodesCommand key k ds s
     → r ≢ Err OutOfMemory
     → s ≢ Err OutOfMemory → r ≡ s
-one_decoded (keys.Common ask) k ds r s a b n m = one_none (of_common ask) ds r s a b
-one_decoded (keys.Instrument ask) k ds r s a b n m = one_none (of_instrument ask) ds r s a b
-one_decoded (keys.Layer ask family) k ds r s a b n m = one_none (of_layer ask (layer_numbered family k)) ds r s a b
-one_decoded (keys.Group ask group) k ds r s a b n m = one_none (of_group ask group) ds r s a b
-one_decoded (keys.Channels ask) k ds r s a b n m = one_of_list Reads one_reading (of_channels ask) ds r s a b n m
-one_decoded keys.Scan k ds r s a b n m = one_of_list ReadsPositions one_position_reading commands.Scan ds r s a b n m
+one_decoded (keys.Plain ask) k ds r s a b n m = one_none (commands.Plain ask) ds r s a b
+one_decoded (keys.Query ask) k ds r s a b n m = one_none (commands.Query ask) ds r s a b
+one_decoded (keys.LayerQuery ask family) k ds r s a b n m = one_none (commands.LayerQuery ask (layer_numbered family k)) ds r s a b
+one_decoded (keys.GroupQuery ask group) k ds r s a b n m = one_none (commands.GroupQuery ask group) ds r s a b
+one_decoded (keys.ReadOut ask) k ds r s a b n m = one_none (commands.ReadOut ask) ds r s a b
+one_decoded (keys.Signal family) k ds r s a b n m = one_none (commands.Signal (layer_numbered family k)) ds r s a b
+one_decoded (keys.Macros ask) k ds r s a b n m = one_none (commands.Macros ask) ds r s a b
+one_decoded (keys.Channels ask) k ds r s a b n m = one_of_list Reads one_reading (λ list. commands.Channels ask list) ds r s a b n m
+one_decoded keys.Scan k ds r s a b n m = one_of_list ReadsPositions one_position_reading (λ list. commands.Set (settings.Scan list)) ds r s a b n m
 one_decoded (keys.Whole ask) k ds r s a b n m = one_of_number (whole_of ask k) ds r s a b
 one_decoded (keys.Time kind family) k ds r s a b n m = one_of_number (time_of kind (layer_numbered family k)) ds r s a b
 one_decoded (keys.Source family) k ds r s a b n m = one_of_word (source_meant (layer_numbered family k)) ds r s a b
 one_decoded keys.Continuous k ds r s a b n m = one_of_switch ds r s a b
 one_decoded keys.EnableMacros k ds r s a b n m = one_of_number macros_of ds r s a b
 one_decoded keys.DefineMacro k ds r s a b n m = one_of_macro ds r s a b n m
-one_decoded keys.MacroQuery k ds r s a b n m = one_of_string (λ label. commands.MacroQuery label) ds r s a b n m
-one_decoded keys.RemoveMacro k ds r s a b n m = one_of_string (λ label. commands.RemoveMacro label) ds r s a b n m
+one_decoded keys.MacroQuery k ds r s a b n m = one_of_string (λ label. commands.Macro (macros.BodyQuery label)) ds r s a b n m
+one_decoded keys.RemoveMacro k ds r s a b n m = one_of_string (λ label. commands.Macro (macros.Remove label)) ds r s a b n m
 
 pub one_meaning : (unit : UnitSeen) (below : Nodes) (r s : Result Command ScpiError) (a b : Nodes) → Resolves unit below r a → Resolves unit below s b
     → r ≢ Err OutOfMemory → s ≢ Err OutOfMemory → (r ≡ s) × (a ≡ b)

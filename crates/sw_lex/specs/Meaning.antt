@@ -10,11 +10,13 @@ use Rattle.sw_base.specs.Number.{Written}
 use Rattle.sw_channel.specs.Reading.{Reads, ReadsPositions}
 use Rattle.sw_lex.specs.declared.command.Command.{Command}
 use Rattle.sw_lex.specs.declared.command.Command.TheVariants as commands
+use Rattle.sw_lex.specs.declared.command.MacroCommand.TheVariants as macros
+use Rattle.sw_lex.specs.declared.command.Setting.TheVariants as settings
 use Rattle.sw_lex.specs.declared.table.Key.{Key}
 use Rattle.sw_lex.specs.declared.table.Key.TheVariants as keys
 use Rattle.sw_lex.specs.declared.path.Path.{Path}
 use Rattle.sw_lex.specs.Unit.{Heading, common, path, Datum, number, character, string, block, expression, UnitSeen}
-use Rattle.sw_lex.specs.Commands.{layer_numbered, of_common, of_instrument, of_layer, of_group, of_channels}
+use Rattle.sw_lex.specs.Commands.{layer_numbered}
 use Rattle.sw_lex.specs.Values.{on_ok, ReadsQuantity, ReadsString, ReadsBlock, whole_of, continuous_of, macros_of}
 use Rattle.sw_lex.specs.Values.{time_of, source_meant, switch_meant, unnumbered}
 use Rattle.sw_lex.specs.Split.{nodes_of}
@@ -129,7 +131,7 @@ OfString make ds r = (read : Result (List ℕ) ScpiError) × WithString ds read 
 abbrev pub Defines : List ℕ → Result (List ℕ) ScpiError → Result Command ScpiError → Type 0
 Defines body (Err e) r = r ≡ Err e
 Defines body (Ok label) r = (read : Result (List ℕ) ScpiError) × ReadsBlock body read
-    × (r ≡ result_map_both (λ b. commands.DefineMacro label b) (λ e. e) read)
+    × (r ≡ result_map_both (λ b. commands.Macro (macros.Define (record { label = label; body = b }))) (λ e. e) read)
 
 -- the definition of a macro: a label in a string, and a body in a block
 abbrev pub OfMacro : List Datum → Result Command ScpiError → Type 0
@@ -149,20 +151,23 @@ OfMacro (d ∷ c ∷ b ∷ ds) r = r ≡ Err ParameterNotAllowed
 -- the command of a header with this number in it and these data, or its first refusal; or want of memory where a list,
 -- a string or a block is read
 abbrev pub DecodesCommand : Key → ℕ → List Datum → Result Command ScpiError → Type 0
-DecodesCommand (keys.Common ask) k ds r = WithNone (of_common ask) ds r
-DecodesCommand (keys.Instrument ask) k ds r = WithNone (of_instrument ask) ds r
-DecodesCommand (keys.Layer ask family) k ds r = WithNone (of_layer ask (layer_numbered family k)) ds r
-DecodesCommand (keys.Group ask group) k ds r = WithNone (of_group ask group) ds r
-DecodesCommand (keys.Channels ask) k ds r = OfList Reads (of_channels ask) ds r
-DecodesCommand keys.Scan k ds r = OfList ReadsPositions commands.Scan ds r
+DecodesCommand (keys.Plain ask) k ds r = WithNone (commands.Plain ask) ds r
+DecodesCommand (keys.Query ask) k ds r = WithNone (commands.Query ask) ds r
+DecodesCommand (keys.LayerQuery ask family) k ds r = WithNone (commands.LayerQuery ask (layer_numbered family k)) ds r
+DecodesCommand (keys.GroupQuery ask group) k ds r = WithNone (commands.GroupQuery ask group) ds r
+DecodesCommand (keys.ReadOut ask) k ds r = WithNone (commands.ReadOut ask) ds r
+DecodesCommand (keys.Signal family) k ds r = WithNone (commands.Signal (layer_numbered family k)) ds r
+DecodesCommand (keys.Macros ask) k ds r = WithNone (commands.Macros ask) ds r
+DecodesCommand (keys.Channels ask) k ds r = OfList Reads (λ list. commands.Channels ask list) ds r
+DecodesCommand keys.Scan k ds r = OfList ReadsPositions (λ list. commands.Set (settings.Scan list)) ds r
 DecodesCommand (keys.Whole ask) k ds r = OfNumber (whole_of ask k) ds r
 DecodesCommand (keys.Time kind family) k ds r = OfNumber (time_of kind (layer_numbered family k)) ds r
 DecodesCommand (keys.Source family) k ds r = OfWord (source_meant (layer_numbered family k)) ds r
 DecodesCommand keys.Continuous k ds r = OfSwitch ds r
 DecodesCommand keys.EnableMacros k ds r = OfNumber macros_of ds r
 DecodesCommand keys.DefineMacro k ds r = OfMacro ds r
-DecodesCommand keys.MacroQuery k ds r = OfString (λ label. commands.MacroQuery label) ds r
-DecodesCommand keys.RemoveMacro k ds r = OfString (λ label. commands.RemoveMacro label) ds r
+DecodesCommand keys.MacroQuery k ds r = OfString (λ label. commands.Macro (macros.BodyQuery label)) ds r
+DecodesCommand keys.RemoveMacro k ds r = OfString (λ label. commands.Macro (macros.Remove label)) ds r
 
 -- ---- a unit's meaning
 

@@ -18,12 +18,14 @@ use Rattle.sw_base.specs.declared.terms.Source.{Source}
 use Rattle.sw_base.specs.declared.terms.Source.TheVariants as sources
 use Rattle.sw_lex.specs.declared.command.Command.{Command}
 use Rattle.sw_lex.specs.declared.command.Command.TheVariants as commands
+use Rattle.sw_lex.specs.declared.command.MacroCommand.TheVariants as macros
+use Rattle.sw_lex.specs.declared.command.Setting.TheVariants as settings
+use Rattle.sw_lex.specs.declared.command.Time.{Time}
 use Rattle.sw_lex.specs.declared.table.Whole.{Whole}
-use Rattle.sw_lex.specs.declared.table.Time.{Time}
 use Rattle.sw_lex.specs.Elements.{IsString, IsBlock}
 use Rattle.sw_lex.specs.Apart.{same_word}
 use Rattle.sw_lex.specs.Words.{short_of, long_of}
-use Rattle.sw_lex.specs.Commands.{of_whole, least, greatest, of_time, least_micros}
+use Rattle.sw_lex.specs.Commands.{of_whole, least, greatest, least_micros}
 
 -- the answer, and from it the next one; an error stays
 abbrev pub on_ok : {A B : Type 0} → Result A ScpiError → (A → Result B ScpiError) → Result B ScpiError
@@ -62,11 +64,11 @@ abbrev pub not_zero : ℤ → Bool
 not_zero z = nat_lt 0 (unsigned_abs z)
 
 abbrev pub continuous_of : Written → List ℕ → Result Command ScpiError
-continuous_of n [] = Ok (commands.InitiateContinuous (not_zero (rounded n 0)))
+continuous_of n [] = Ok (commands.Continuous (not_zero (rounded n 0)))
 continuous_of n (b ∷ suffix) = Err SuffixNotAllowed
 
 abbrev pub macros_of : Written → List ℕ → Result Command ScpiError
-macros_of n [] = result_map_both (λ z. commands.EnableMacros (not_zero z)) (λ e. e)
+macros_of n [] = result_map_both (λ z. commands.Macro (macros.Enable (not_zero z))) (λ e. e)
     (in_range (neg_ℤ (pos 32767)) (pos 32767) (rounded n 0))
 macros_of n (b ∷ suffix) = Err SuffixNotAllowed
 
@@ -90,7 +92,8 @@ time_unit_of suffix =
 -- whole microseconds, from the least to an hour
 abbrev pub time_within : Time → LayerName → Result ℕ ScpiError → Result Command ScpiError
 time_within kind layer (Ok micros) =
-    if nat_le (least_micros kind) micros && nat_le micros longest_delay then Ok (of_time kind layer micros)
+    if nat_le (least_micros kind) micros && nat_le micros longest_delay
+    then Ok (commands.Set (settings.Time kind layer micros))
     else Err DataOutOfRange
 time_within kind layer (Err e) = Err e
 
@@ -135,12 +138,12 @@ switch_of text = if is_named (codes "ON") text then Some true else if is_named (
 
 -- a word of the setting; another setting's word; none of all words
 abbrev pub source_named : LayerName → Option Source → Option Bool → Result Command ScpiError
-source_named layer (Some source) switch = Ok (commands.SetSource layer source)
+source_named layer (Some source) switch = Ok (commands.Set (settings.Source layer source))
 source_named layer None (Some on) = Err IllegalParameterValue
 source_named layer None None = Err InvalidCharacterData
 
 abbrev pub switch_named : Option Bool → Option Source → Result Command ScpiError
-switch_named (Some on) source = Ok (commands.InitiateContinuous on)
+switch_named (Some on) source = Ok (commands.Continuous on)
 switch_named None (Some source) = Err IllegalParameterValue
 switch_named None None = Err InvalidCharacterData
 

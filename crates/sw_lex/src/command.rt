@@ -1,6 +1,10 @@
-//! The commands.
+//! The commands, by families: what is asked for alike is one variant of `Command`.
 
+ghost use Rattle.std.specs.Prelude.{◌≡◌, IfOk};
+
+use std::alloc::{AllocError, Global};
 use std::fmt::Debug;
+use std::marker::Model;
 use sw_base::{Chan, LayerName, Sequence, Source, StatusGroup};
 use sw_channel::Position;
 
@@ -9,128 +13,243 @@ use sw_channel::Position;
 /// It borrows nothing from the message. Numbers are rounded to whole ones and lie within the ranges named here.
 #[derive(Debug, Drop)]
 pub enum Command {
-    /// `*IDN?`
-    Identify,
+    /// A command without data.
+    Plain(Plain),
+    /// A query that changes nothing.
+    Query(PlainQuery),
+    /// A query of a trigger layer.
+    LayerQuery(LayerQuery, LayerName),
+    /// A query of a status group that changes nothing.
+    GroupQuery(GroupQuery, StatusGroup),
+    /// A query that takes what it tells out of the status.
+    ReadOut(StatusRead),
+    /// `ARM[:LAYer]:SIGNal`, `TRIGger:SIGNal`
+    Signal(LayerName),
+    /// `INITiate:CONTinuous`: ON or OFF, or a number that is 0 for off.
+    Continuous(bool),
+    /// A command with these channels, in this order.
+    Channels(Channels, Sequence<Chan>),
+    /// A setting of scans.
+    Set(Setting),
+    /// A setting of the status.
+    SetStatus(StatusSetting),
+    /// A command of all macros.
+    Macros(AllMacros),
+    /// A command of one macro, or of whether macros are on.
+    Macro(MacroCommand),
+}
+
+/// The commands without data.
+#[derive(Clone, Copy, Debug, PartialEq, Eq)]
+pub enum Plain {
     /// `*RST`
     Reset,
     /// `*CLS`
     ClearStatus,
-    /// `*ESE`: the bits of the standard event status that count, 0 to 255.
-    EventEnable(u8),
-    /// `*ESE?`
-    EventEnableQuery,
-    /// `*ESR?`
-    EventQuery,
-    /// `*SRE`: the bits of the status byte that request service, 0 to 255.
-    ServiceEnable(u8),
-    /// `*SRE?`
-    ServiceEnableQuery,
-    /// `*STB?`
-    StatusByteQuery,
     /// `*OPC`
     OperationComplete,
     /// `*OPC?`
     OperationCompleteQuery,
     /// `*WAI`
     Wait,
-    /// `*TST?`
-    SelfTestQuery,
     /// `*TRG`
     Trigger,
-    /// `*DMC`: a label and a body; the label without its quotes, its doubled marks undone, and the bytes of the block.
-    DefineMacro(Sequence<u8>, Sequence<u8>),
-    /// `*GMC?`: a label, as in `DefineMacro`.
-    MacroQuery(Sequence<u8>),
-    /// `*LMC?`
-    MacroLabelsQuery,
-    /// `*RMC`: a label, as in `DefineMacro`.
-    RemoveMacro(Sequence<u8>),
-    /// `*PMC`
-    PurgeMacros,
-    /// `*EMC`: whether macros are on, from a number from -32,767 to 32,767 that is 0 for off.
-    EnableMacros(bool),
-    /// `*EMC?`
-    EnableMacrosQuery,
     /// `ABORt`
     Abort,
     /// `INITiate[:IMMediate]`
     Initiate,
-    /// `INITiate:CONTinuous`: ON or OFF, or a number that is 0 for off.
-    InitiateContinuous(bool),
-    /// `INITiate:CONTinuous?`
-    InitiateContinuousQuery,
-    /// `ARM[:LAYer]:COUNt`, 1 to 1,000; `TRIGger:COUNt`, 1 to 100,000.
-    Count(LayerName, u32),
-    /// `ARM[:LAYer]:COUNt?`, `TRIGger:COUNt?`
-    CountQuery(LayerName),
-    /// `ARM[:LAYer]:SOURce`, `TRIGger:SOURce`
-    SetSource(LayerName, Source),
-    /// `ARM[:LAYer]:SOURce?`, `TRIGger:SOURce?`
-    SourceQuery(LayerName),
-    /// `ARM[:LAYer]:DELay`, `TRIGger:DELay`: whole microseconds, 0 to 3,600,000,000.
-    Delay(LayerName, u64),
-    /// `ARM[:LAYer]:DELay?`, `TRIGger:DELay?`
-    DelayQuery(LayerName),
-    /// `ARM[:LAYer]:TIMer`, `TRIGger:TIMer`: whole microseconds, 1 to 3,600,000,000.
-    Timer(LayerName, u64),
-    /// `ARM[:LAYer]:TIMer?`, `TRIGger:TIMer?`
-    TimerQuery(LayerName),
-    /// `ARM[:LAYer]:SIGNal`, `TRIGger:SIGNal`
-    Signal(LayerName),
-    /// `ROUTe:CLOSe`: these channels, in this order.
-    Close(Sequence<Chan>),
-    /// `ROUTe:CLOSe?`: these channels, in this order.
-    CloseQuery(Sequence<Chan>),
-    /// `ROUTe:CLOSe:STATe?`
-    CloseState,
-    /// `ROUTe:OPEN`: these channels, in this order.
-    Open(Sequence<Chan>),
-    /// `ROUTe:OPEN?`: these channels, in this order.
-    OpenQuery(Sequence<Chan>),
     /// `ROUTe:OPEN:ALL`
     OpenAll,
-    /// `ROUTe:SCAN`: these positions, in this order.
-    Scan(Sequence<Position>),
-    /// `ROUTe:SCAN?`
-    ScanQuery,
-    /// `ROUTe:SCAN:METer`: a slot, 1 to `SLOTS`.
-    ScanMeter(u8),
-    /// `ROUTe:SCAN:METer?`
-    ScanMeterQuery,
-    /// `STATus:OPERation[:EVENt]?`, `STATus:QUEStionable[:EVENt]?`
-    GroupEventQuery(StatusGroup),
-    /// `STATus:OPERation:CONDition?`, `STATus:QUEStionable:CONDition?`
-    GroupConditionQuery(StatusGroup),
-    /// `STATus:OPERation:ENABle`, `STATus:QUEStionable:ENABle`: 0 to 65,535.
-    GroupEnable(StatusGroup, u16),
-    /// `STATus:OPERation:ENABle?`, `STATus:QUEStionable:ENABle?`
-    GroupEnableQuery(StatusGroup),
-    /// `STATus:OPERation:PTRansition`, `STATus:QUEStionable:PTRansition`: 0 to 65,535.
-    PositiveTransition(StatusGroup, u16),
-    /// `STATus:OPERation:PTRansition?`, `STATus:QUEStionable:PTRansition?`
-    PositiveTransitionQuery(StatusGroup),
-    /// `STATus:OPERation:NTRansition`, `STATus:QUEStionable:NTRansition`: 0 to 65,535.
-    NegativeTransition(StatusGroup, u16),
-    /// `STATus:OPERation:NTRansition?`, `STATus:QUEStionable:NTRansition?`
-    NegativeTransitionQuery(StatusGroup),
     /// `STATus:PRESet`
     Preset,
-    /// `SYSTem:ERRor[:NEXT]?`
-    NextErrorQuery,
-    /// `SYSTem:ERRor:ALL?`
-    AllErrorsQuery,
-    /// `SYSTem:ERRor:COUNt?`
-    ErrorCountQuery,
-    /// `SYSTem:VERSion?`
-    VersionQuery,
-    /// `TRACe:POINts`: how many readings are kept, 1 to 100,000.
-    Points(u32),
-    /// `TRACe:POINts?`
-    PointsQuery,
-    /// `TRACe:POINts:ACTual?`
-    ActualPointsQuery,
-    /// `DIAGnostic:SCAN:BOUNd?`
-    BoundQuery,
     /// `FETCh?`
     Fetch,
+}
+
+/// The queries without data that change nothing.
+#[derive(Clone, Copy, Debug, PartialEq, Eq)]
+pub enum PlainQuery {
+    /// `*IDN?`
+    Identify,
+    /// `*ESE?`
+    EventEnable,
+    /// `*SRE?`
+    ServiceEnable,
+    /// `*STB?`
+    StatusByte,
+    /// `*TST?`
+    SelfTest,
+    /// `INITiate:CONTinuous?`
+    InitiateContinuous,
+    /// `ROUTe:CLOSe:STATe?`
+    CloseState,
+    /// `ROUTe:SCAN?`
+    Scan,
+    /// `ROUTe:SCAN:METer?`
+    ScanMeter,
+    /// `SYSTem:ERRor:COUNt?`
+    ErrorCount,
+    /// `SYSTem:VERSion?`
+    Version,
+    /// `TRACe:POINts?`
+    Points,
+    /// `TRACe:POINts:ACTual?`
+    ActualPoints,
+    /// `DIAGnostic:SCAN:BOUNd?`
+    Bound,
+}
+
+/// The queries of a trigger layer.
+#[derive(Clone, Copy, Debug, PartialEq, Eq)]
+pub enum LayerQuery {
+    /// `ARM[:LAYer]:COUNt?`, `TRIGger:COUNt?`
+    Count,
+    /// `ARM[:LAYer]:SOURce?`, `TRIGger:SOURce?`
+    Source,
+    /// `ARM[:LAYer]:DELay?`, `TRIGger:DELay?`
+    Delay,
+    /// `ARM[:LAYer]:TIMer?`, `TRIGger:TIMer?`
+    Timer,
+}
+
+/// The queries of a status group that change nothing.
+#[derive(Clone, Copy, Debug, PartialEq, Eq)]
+pub enum GroupQuery {
+    /// `STATus:OPERation:CONDition?`, `STATus:QUEStionable:CONDition?`
+    Condition,
+    /// `STATus:OPERation:ENABle?`, `STATus:QUEStionable:ENABle?`
+    Enable,
+    /// `STATus:OPERation:PTRansition?`, `STATus:QUEStionable:PTRansition?`
+    PositiveTransition,
+    /// `STATus:OPERation:NTRansition?`, `STATus:QUEStionable:NTRansition?`
+    NegativeTransition,
+}
+
+/// The queries that take what they tell out of the status.
+#[derive(Clone, Copy, Debug, PartialEq, Eq)]
+pub enum StatusRead {
+    /// `*ESR?`
+    EventStatus,
+    /// `STATus:OPERation[:EVENt]?`, `STATus:QUEStionable[:EVENt]?`
+    GroupEvent(StatusGroup),
+    /// `SYSTem:ERRor[:NEXT]?`
+    NextError,
+    /// `SYSTem:ERRor:ALL?`
+    AllErrors,
+}
+
+/// The commands with a channel list.
+#[derive(Clone, Copy, Debug, PartialEq, Eq)]
+pub enum Channels {
+    /// `ROUTe:CLOSe`
+    Close,
+    /// `ROUTe:CLOSe?`
+    CloseQuery,
+    /// `ROUTe:OPEN`
+    Open,
+    /// `ROUTe:OPEN?`
+    OpenQuery,
+}
+
+/// The times of a trigger layer.
+#[derive(Clone, Copy, Debug, PartialEq, Eq)]
+pub enum Time {
+    Delay,
+    Timer,
+}
+
+/// The settings of scans, each with its value.
+#[derive(Debug, Drop)]
+pub enum Setting {
+    /// `ARM[:LAYer]:COUNt`, 1 to 1,000; `TRIGger:COUNt`, 1 to 100,000.
+    Count(LayerName, u32),
+    /// `ARM[:LAYer]:SOURce`, `TRIGger:SOURce`
+    Source(LayerName, Source),
+    /// `ARM[:LAYer]:DELay`, `TRIGger:DELay`: whole microseconds, 0 to 3,600,000,000; `ARM[:LAYer]:TIMer`,
+    /// `TRIGger:TIMer`: whole microseconds, 1 to 3,600,000,000.
+    Time(Time, LayerName, u64),
+    /// `ROUTe:SCAN`: these positions, in this order.
+    Scan(Sequence<Position>),
+    /// `ROUTe:SCAN:METer`: a slot, 1 to `SLOTS`.
+    ScanMeter(u8),
+    /// `TRACe:POINts`: how many readings are kept, 1 to 100,000.
+    Points(u32),
+}
+
+/// The settings of the status, each with its bits.
+#[derive(Clone, Copy, Debug, PartialEq, Eq)]
+pub enum StatusSetting {
+    /// `*ESE`: the bits of the standard event status that count, 0 to 255.
+    EventEnable(u8),
+    /// `*SRE`: the bits of the status byte that request service, 0 to 255.
+    ServiceEnable(u8),
+    /// `STATus:OPERation:ENABle`, `STATus:QUEStionable:ENABle`: 0 to 65,535.
+    Enable(StatusGroup, u16),
+    /// `STATus:OPERation:PTRansition`, `STATus:QUEStionable:PTRansition`: 0 to 65,535.
+    PositiveTransition(StatusGroup, u16),
+    /// `STATus:OPERation:NTRansition`, `STATus:QUEStionable:NTRansition`: 0 to 65,535.
+    NegativeTransition(StatusGroup, u16),
+}
+
+/// The commands of all macros, which have no data.
+#[derive(Clone, Copy, Debug, PartialEq, Eq)]
+pub enum AllMacros {
+    /// `*LMC?`
+    LabelsQuery,
+    /// `*PMC`
+    Purge,
+    /// `*EMC?`
+    EnableQuery,
+}
+
+/// The macro commands with data. A label is without its quotes, its doubled marks undone.
+#[derive(Debug, Drop)]
+pub enum MacroCommand {
+    /// `*DMC`
+    Define(BoxedDefinition),
+    /// `*GMC?`: a label.
+    BodyQuery(Sequence<u8>),
+    /// `*RMC`: a label.
+    Remove(Sequence<u8>),
+    /// `*EMC`: whether macros are on, from a number from -32,767 to 32,767 that is 0 for off.
+    Enable(bool),
+}
+
+/// What `*DMC` defines.
+#[derive(Debug, Drop)]
+pub struct Definition {
+    pub label: Sequence<u8>,
+    /// The bytes of the block.
+    pub body: Sequence<u8>,
+}
+
+/// A definition in a box, so that no other command is as large as its two texts. Contracts see the definition.
+#[derive(Debug, Drop)]
+pub struct BoxedDefinition {
+    kept: Box<Definition>,
+}
+
+impl Model for BoxedDefinition {
+    ghost use Rattle.sw_lex.specs.declared.command.Definition.{Definition};
+
+    ghost Value = { Definition };
+
+    ghost view = { λ b. b.kept.value };
+}
+
+impl BoxedDefinition {
+    /// Puts a definition into a box.
+    pub fn new(alloc: Global, definition: Definition) -> Result<BoxedDefinition, AllocError>
+        ensures { IfOk result (λ b. b ≡ definition) }
+    {
+        let kept = Box::new(alloc, definition)?;
+        Ok(BoxedDefinition { kept })
+    }
+
+    /// The definition.
+    pub fn get(&self) -> &Definition
+        ensures { result.now ≡ self.now }
+    {
+        &self.kept
+    }
 }

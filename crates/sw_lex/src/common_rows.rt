@@ -4,19 +4,20 @@ ghost use Rattle.std.specs.Prelude.{true};
 ghost use Rattle.std.specs.Char.{to_ascii_uppercase};
 ghost use Rattle.sw_lex.specs.Parts.{IsPart};
 
+use crate::command::{AllMacros, Plain, PlainQuery, StatusRead};
 use crate::mnemonics::{
     STAR_CLS, STAR_DMC, STAR_EMC, STAR_ESE, STAR_ESR, STAR_GMC, STAR_IDN, STAR_LMC, STAR_OPC,
     STAR_PMC, STAR_RMC, STAR_RST, STAR_SRE, STAR_STB, STAR_TRG, STAR_TST, STAR_WAI,
 };
 use crate::rows::Row::{Command, Query};
 use crate::rows::{Group, NONE, Part};
-use crate::table::{Common, Key, Whole};
+use crate::table::{Key, Whole};
 
 static COMMON_I: Part = Part {
     commands: &[],
     queries: &[Group {
         first: STAR_IDN,
-        rows: &[Query(&[], Key::Common(Common::Identify))],
+        rows: &[Query(&[], Key::Query(PlainQuery::Identify))],
     }],
 };
 
@@ -24,7 +25,7 @@ static COMMON_R: Part = Part {
     commands: &[
         Group {
             first: STAR_RST,
-            rows: &[Command(&[], Key::Common(Common::Reset))],
+            rows: &[Command(&[], Key::Plain(Plain::Reset))],
         },
         Group {
             first: STAR_RMC,
@@ -37,18 +38,18 @@ static COMMON_R: Part = Part {
 static COMMON_O: Part = Part {
     commands: &[Group {
         first: STAR_OPC,
-        rows: &[Command(&[], Key::Common(Common::OperationComplete))],
+        rows: &[Command(&[], Key::Plain(Plain::OperationComplete))],
     }],
     queries: &[Group {
         first: STAR_OPC,
-        rows: &[Query(&[], Key::Common(Common::OperationCompleteQuery))],
+        rows: &[Query(&[], Key::Plain(Plain::OperationCompleteQuery))],
     }],
 };
 
 static COMMON_W: Part = Part {
     commands: &[Group {
         first: STAR_WAI,
-        rows: &[Command(&[], Key::Common(Common::Wait))],
+        rows: &[Command(&[], Key::Plain(Plain::Wait))],
     }],
     queries: &[],
 };
@@ -56,18 +57,18 @@ static COMMON_W: Part = Part {
 static COMMON_T: Part = Part {
     commands: &[Group {
         first: STAR_TRG,
-        rows: &[Command(&[], Key::Common(Common::Trigger))],
+        rows: &[Command(&[], Key::Plain(Plain::Trigger))],
     }],
     queries: &[Group {
         first: STAR_TST,
-        rows: &[Query(&[], Key::Common(Common::SelfTestQuery))],
+        rows: &[Query(&[], Key::Query(PlainQuery::SelfTest))],
     }],
 };
 
 static COMMON_C: Part = Part {
     commands: &[Group {
         first: STAR_CLS,
-        rows: &[Command(&[], Key::Common(Common::ClearStatus))],
+        rows: &[Command(&[], Key::Plain(Plain::ClearStatus))],
     }],
     queries: &[],
 };
@@ -86,15 +87,15 @@ static COMMON_E: Part = Part {
     queries: &[
         Group {
             first: STAR_ESE,
-            rows: &[Query(&[], Key::Common(Common::EventEnableQuery))],
+            rows: &[Query(&[], Key::Query(PlainQuery::EventEnable))],
         },
         Group {
             first: STAR_ESR,
-            rows: &[Query(&[], Key::Common(Common::EventQuery))],
+            rows: &[Query(&[], Key::ReadOut(StatusRead::EventStatus))],
         },
         Group {
             first: STAR_EMC,
-            rows: &[Query(&[], Key::Common(Common::EnableMacrosQuery))],
+            rows: &[Query(&[], Key::Macros(AllMacros::EnableQuery))],
         },
     ],
 };
@@ -107,11 +108,11 @@ static COMMON_S: Part = Part {
     queries: &[
         Group {
             first: STAR_SRE,
-            rows: &[Query(&[], Key::Common(Common::ServiceEnableQuery))],
+            rows: &[Query(&[], Key::Query(PlainQuery::ServiceEnable))],
         },
         Group {
             first: STAR_STB,
-            rows: &[Query(&[], Key::Common(Common::StatusByteQuery))],
+            rows: &[Query(&[], Key::Query(PlainQuery::StatusByte))],
         },
     ],
 };
@@ -136,14 +137,14 @@ static COMMON_L: Part = Part {
     commands: &[],
     queries: &[Group {
         first: STAR_LMC,
-        rows: &[Query(&[], Key::Common(Common::MacroLabelsQuery))],
+        rows: &[Query(&[], Key::Macros(AllMacros::LabelsQuery))],
     }],
 };
 
 static COMMON_P: Part = Part {
     commands: &[Group {
         first: STAR_PMC,
-        rows: &[Command(&[], Key::Common(Common::PurgeMacros))],
+        rows: &[Command(&[], Key::Macros(AllMacros::Purge))],
     }],
     queries: &[],
 };

@@ -28,7 +28,10 @@ mod table;
 mod unit;
 mod values;
 
-pub use command::Command;
+pub use command::{
+    AllMacros, BoxedDefinition, Channels, Command, Definition, GroupQuery, LayerQuery,
+    MacroCommand, Plain, PlainQuery, Setting, StatusRead, StatusSetting, Time,
+};
 pub use elements::Kind;
 pub use headers::one_command;
 pub use meaning::{every_spelling, one_meaning, resolve};

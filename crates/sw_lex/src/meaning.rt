@@ -17,14 +17,14 @@ ghost use Rattle.sw_lex.specs.Table.{HeaderEntry, entries};
 ghost use Rattle.sw_lex.specs.Values.{on_ok, ReadsQuantity, ReadsString, whole_of, continuous_of, macros_of, time_of};
 ghost use Rattle.sw_lex.specs.Values.{source_meant};
 
-use crate::choice::{layer_of, of_channels, of_common, of_group, of_instrument, of_layer};
-use crate::command::Command;
+use crate::choice::layer_of;
+use crate::command::{BoxedDefinition, Command, Definition, MacroCommand, Setting, Time};
 use crate::headers::find_words;
 use crate::owned::{body, content};
 use crate::path::Path;
 use crate::paths::{find_unit, texts, texts_of, unnumbered_all};
 use crate::raw_unit::RawUnit;
-use crate::table::{Key, Time, Whole};
+use crate::table::{Key, Whole};
 use crate::unit::{Element, Header};
 use crate::values::{
     continuous_of, macros_of, quantity, source_meant, switch_meant, time_of, whole_of,
@@ -33,13 +33,13 @@ use std::alloc::Global;
 use sw_base::{Chan, LayerName, Nrf, ScpiError, Sequence};
 use sw_channel::{Position, read_list, read_positions};
 
-/// Refuses any data, for a command that takes none.
-fn no_data(elements: &[Element<'_>]) -> Result<(), ScpiError>
-    ensures { (command : Meant) → WithNone command (data_of elements.now)
-        (result_map_both (λ _. command) (λ e. e) result) }
+/// This command, which takes no data.
+#[inline(always)]
+fn plain(command: Command, elements: &[Element<'_>]) -> Result<Command, ScpiError>
+    ensures { WithNone command (data_of elements.now) result }
 {
     match elements {
-        [] => Ok(()),
+        [] => Ok(command),
         _ => Err(ScpiError::ParameterNotAllowed),
     }
 }
@@ -189,7 +189,10 @@ fn define(alloc: Global, label: &[u8], text: &[u8]) -> Result<Command, ScpiError
         Err(e) => Err(e),
         Ok(label) => match body(alloc, text) {
             Err(e) => Err(e),
-            Ok(text) => Ok(Command::DefineMacro(label, text)),
+            Ok(body) => {
+                let definition = BoxedDefinition::new(alloc, Definition { label, body })?;
+                Ok(Command::Macro(MacroCommand::Define(definition)))
+            }
         },
     }
 }
@@ -224,32 +227,27 @@ fn decode(
     ensures { DecodesCommand key number (data_of elements.now) result }
 {
     match key {
-        Key::Common(ask) => {
-            no_data(elements)?;
-            Ok(of_common(ask))
+        Key::Plain(ask) => plain(Command::Plain(ask), elements),
+        Key::Query(ask) => plain(Command::Query(ask), elements),
+        Key::LayerQuery(ask, family) => {
+            plain(Command::LayerQuery(ask, layer_of(family, number)), elements)
         }
-        Key::Instrument(ask) => {
-            no_data(elements)?;
-            Ok(of_instrument(ask))
-        }
-        Key::Layer(ask, family) => {
-            no_data(elements)?;
-            Ok(of_layer(ask, layer_of(family, number)))
-        }
-        Key::Group(ask, group) => {
-            no_data(elements)?;
-            Ok(of_group(ask, group))
-        }
-        Key::Channels(ask) => Ok(of_channels(ask, one_list(alloc, elements)?)),
-        Key::Scan => Ok(Command::Scan(one_position_list(alloc, elements)?)),
+        Key::GroupQuery(ask, group) => plain(Command::GroupQuery(ask, group), elements),
+        Key::ReadOut(ask) => plain(Command::ReadOut(ask), elements),
+        Key::Signal(family) => plain(Command::Signal(layer_of(family, number)), elements),
+        Key::Macros(ask) => plain(Command::Macros(ask), elements),
+        Key::Channels(ask) => Ok(Command::Channels(ask, one_list(alloc, elements)?)),
+        Key::Scan => Ok(Command::Set(Setting::Scan(one_position_list(alloc, elements)?))),
         Key::Whole(ask) => of_whole(ask, number, elements),
         Key::Time(time, family) => of_time(time, layer_of(family, number), elements),
         Key::Source(family) => of_source(layer_of(family, number), elements),
         Key::Continuous => of_switch(elements),
         Key::EnableMacros => of_macros(elements),
         Key::DefineMacro => of_macro(alloc, elements),
-        Key::MacroQuery => Ok(Command::MacroQuery(one_string(alloc, elements)?)),
-        Key::RemoveMacro => Ok(Command::RemoveMacro(one_string(alloc, elements)?)),
+        Key::MacroQuery => Ok(Command::Macro(MacroCommand::BodyQuery(one_string(
+            alloc, elements,
+        )?))),
+        Key::RemoveMacro => Ok(Command::Macro(MacroCommand::Remove(one_string(alloc, elements)?))),
     }
 }
 

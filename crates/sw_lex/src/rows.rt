@@ -6,6 +6,7 @@ ghost use Rattle.std.specs.Char.{to_ascii_uppercase};
 ghost use Rattle.sw_lex.specs.Rows.{row_steps, key_of_row};
 ghost use Rattle.sw_lex.specs.Parts.{IsPart};
 
+use crate::command::{Channels, GroupQuery, LayerQuery, Plain, PlainQuery, StatusRead, Time};
 use crate::mnemonics::{
     ABORT, ACTUAL, ALL, ARM, BOUND, CLOSE, CONDITION, CONTINUOUS, COUNT, DELAY, DIAGNOSTIC, ENABLE,
     ERROR, EVENT, FETCH, IMMEDIATE, INITIATE, LAYER, METER, NEXT, NTRANSITION, OPEN, OPERATION,
@@ -16,7 +17,7 @@ use crate::packing::Form;
 use crate::rows::Row::{Command, Query};
 use crate::rows::Step::{May, Must, Numbered};
 use crate::table::Family::{Arm, Trigger};
-use crate::table::{Channels, GroupAsk, Instrument, Key, LayerAsk, Time, Whole};
+use crate::table::{Key, Whole};
 use sw_base::StatusGroup::{Operation, Questionable};
 
 /// A node of a header, with its mnemonic.
@@ -83,7 +84,7 @@ static PATHS_A: Part = Part {
     commands: &[
         Group {
             first: ABORT,
-            rows: &[Command(&[], Key::Instrument(Instrument::Abort))],
+            rows: &[Command(&[], Key::Plain(Plain::Abort))],
         },
         Group {
             first: ARM,
@@ -95,10 +96,7 @@ static PATHS_A: Part = Part {
                 Command(&[Numbered(LAYER), Must(SOURCE)], Key::Source(Arm)),
                 Command(&[Numbered(LAYER), Must(DELAY)], Key::Time(Time::Delay, Arm)),
                 Command(&[Numbered(LAYER), Must(TIMER)], Key::Time(Time::Timer, Arm)),
-                Command(
-                    &[Numbered(LAYER), Must(SIGNAL)],
-                    Key::Layer(LayerAsk::Signal, Arm),
-                ),
+                Command(&[Numbered(LAYER), Must(SIGNAL)], Key::Signal(Arm)),
             ],
         },
     ],
@@ -107,19 +105,19 @@ static PATHS_A: Part = Part {
         rows: &[
             Query(
                 &[Numbered(LAYER), Must(COUNT)],
-                Key::Layer(LayerAsk::CountQuery, Arm),
+                Key::LayerQuery(LayerQuery::Count, Arm),
             ),
             Query(
                 &[Numbered(LAYER), Must(SOURCE)],
-                Key::Layer(LayerAsk::SourceQuery, Arm),
+                Key::LayerQuery(LayerQuery::Source, Arm),
             ),
             Query(
                 &[Numbered(LAYER), Must(DELAY)],
-                Key::Layer(LayerAsk::DelayQuery, Arm),
+                Key::LayerQuery(LayerQuery::Delay, Arm),
             ),
             Query(
                 &[Numbered(LAYER), Must(TIMER)],
-                Key::Layer(LayerAsk::TimerQuery, Arm),
+                Key::LayerQuery(LayerQuery::Timer, Arm),
             ),
         ],
     }],
@@ -129,7 +127,7 @@ static PATHS_I: Part = Part {
     commands: &[Group {
         first: INITIATE,
         rows: &[
-            Command(&[May(IMMEDIATE)], Key::Instrument(Instrument::Initiate)),
+            Command(&[May(IMMEDIATE)], Key::Plain(Plain::Initiate)),
             Command(&[Must(CONTINUOUS)], Key::Continuous),
         ],
     }],
@@ -137,7 +135,7 @@ static PATHS_I: Part = Part {
         first: INITIATE,
         rows: &[Query(
             &[Must(CONTINUOUS)],
-            Key::Instrument(Instrument::InitiateContinuousQuery),
+            Key::Query(PlainQuery::InitiateContinuous),
         )],
     }],
 };
@@ -151,7 +149,7 @@ static PATHS_T: Part = Part {
                 Command(&[Must(SOURCE)], Key::Source(Trigger)),
                 Command(&[Must(DELAY)], Key::Time(Time::Delay, Trigger)),
                 Command(&[Must(TIMER)], Key::Time(Time::Timer, Trigger)),
-                Command(&[Must(SIGNAL)], Key::Layer(LayerAsk::Signal, Trigger)),
+                Command(&[Must(SIGNAL)], Key::Signal(Trigger)),
             ],
         },
         Group {
@@ -163,19 +161,22 @@ static PATHS_T: Part = Part {
         Group {
             first: TRIGGER,
             rows: &[
-                Query(&[Must(COUNT)], Key::Layer(LayerAsk::CountQuery, Trigger)),
-                Query(&[Must(SOURCE)], Key::Layer(LayerAsk::SourceQuery, Trigger)),
-                Query(&[Must(DELAY)], Key::Layer(LayerAsk::DelayQuery, Trigger)),
-                Query(&[Must(TIMER)], Key::Layer(LayerAsk::TimerQuery, Trigger)),
+                Query(&[Must(COUNT)], Key::LayerQuery(LayerQuery::Count, Trigger)),
+                Query(
+                    &[Must(SOURCE)],
+                    Key::LayerQuery(LayerQuery::Source, Trigger),
+                ),
+                Query(&[Must(DELAY)], Key::LayerQuery(LayerQuery::Delay, Trigger)),
+                Query(&[Must(TIMER)], Key::LayerQuery(LayerQuery::Timer, Trigger)),
             ],
         },
         Group {
             first: TRACE,
             rows: &[
-                Query(&[Must(POINTS)], Key::Instrument(Instrument::PointsQuery)),
+                Query(&[Must(POINTS)], Key::Query(PlainQuery::Points)),
                 Query(
                     &[Must(POINTS), Must(ACTUAL)],
-                    Key::Instrument(Instrument::ActualPointsQuery),
+                    Key::Query(PlainQuery::ActualPoints),
                 ),
             ],
         },
@@ -188,10 +189,7 @@ static PATHS_R: Part = Part {
         rows: &[
             Command(&[Must(CLOSE)], Key::Channels(Channels::Close)),
             Command(&[Must(OPEN)], Key::Channels(Channels::Open)),
-            Command(
-                &[Must(OPEN), Must(ALL)],
-                Key::Instrument(Instrument::OpenAll),
-            ),
+            Command(&[Must(OPEN), Must(ALL)], Key::Plain(Plain::OpenAll)),
             Command(&[Must(SCAN)], Key::Scan),
             Command(&[Must(SCAN), Must(METER)], Key::Whole(Whole::ScanMeter)),
         ],
@@ -202,13 +200,13 @@ static PATHS_R: Part = Part {
             Query(&[Must(CLOSE)], Key::Channels(Channels::CloseQuery)),
             Query(
                 &[Must(CLOSE), Must(STATE)],
-                Key::Instrument(Instrument::CloseState),
+                Key::Query(PlainQuery::CloseState),
             ),
             Query(&[Must(OPEN)], Key::Channels(Channels::OpenQuery)),
-            Query(&[Must(SCAN)], Key::Instrument(Instrument::ScanQuery)),
+            Query(&[Must(SCAN)], Key::Query(PlainQuery::Scan)),
             Query(
                 &[Must(SCAN), Must(METER)],
-                Key::Instrument(Instrument::ScanMeterQuery),
+                Key::Query(PlainQuery::ScanMeter),
             ),
         ],
     }],
@@ -242,7 +240,7 @@ static PATHS_S: Part = Part {
                 &[Must(QUESTIONABLE), Must(NTRANSITION)],
                 Key::Whole(Whole::NegativeTransition(Questionable)),
             ),
-            Command(&[Must(PRESET)], Key::Instrument(Instrument::Preset)),
+            Command(&[Must(PRESET)], Key::Plain(Plain::Preset)),
         ],
     }],
     queries: &[
@@ -251,43 +249,43 @@ static PATHS_S: Part = Part {
             rows: &[
                 Query(
                     &[Must(OPERATION), May(EVENT)],
-                    Key::Group(GroupAsk::EventQuery, Operation),
+                    Key::ReadOut(StatusRead::GroupEvent(Operation)),
                 ),
                 Query(
                     &[Must(OPERATION), Must(CONDITION)],
-                    Key::Group(GroupAsk::ConditionQuery, Operation),
+                    Key::GroupQuery(GroupQuery::Condition, Operation),
                 ),
                 Query(
                     &[Must(OPERATION), Must(ENABLE)],
-                    Key::Group(GroupAsk::EnableQuery, Operation),
+                    Key::GroupQuery(GroupQuery::Enable, Operation),
                 ),
                 Query(
                     &[Must(OPERATION), Must(PTRANSITION)],
-                    Key::Group(GroupAsk::PositiveTransitionQuery, Operation),
+                    Key::GroupQuery(GroupQuery::PositiveTransition, Operation),
                 ),
                 Query(
                     &[Must(OPERATION), Must(NTRANSITION)],
-                    Key::Group(GroupAsk::NegativeTransitionQuery, Operation),
+                    Key::GroupQuery(GroupQuery::NegativeTransition, Operation),
                 ),
                 Query(
                     &[Must(QUESTIONABLE), May(EVENT)],
-                    Key::Group(GroupAsk::EventQuery, Questionable),
+                    Key::ReadOut(StatusRead::GroupEvent(Questionable)),
                 ),
                 Query(
                     &[Must(QUESTIONABLE), Must(CONDITION)],
-                    Key::Group(GroupAsk::ConditionQuery, Questionable),
+                    Key::GroupQuery(GroupQuery::Condition, Questionable),
                 ),
                 Query(
                     &[Must(QUESTIONABLE), Must(ENABLE)],
-                    Key::Group(GroupAsk::EnableQuery, Questionable),
+                    Key::GroupQuery(GroupQuery::Enable, Questionable),
                 ),
                 Query(
                     &[Must(QUESTIONABLE), Must(PTRANSITION)],
-                    Key::Group(GroupAsk::PositiveTransitionQuery, Questionable),
+                    Key::GroupQuery(GroupQuery::PositiveTransition, Questionable),
                 ),
                 Query(
                     &[Must(QUESTIONABLE), Must(NTRANSITION)],
-                    Key::Group(GroupAsk::NegativeTransitionQuery, Questionable),
+                    Key::GroupQuery(GroupQuery::NegativeTransition, Questionable),
                 ),
             ],
         },
@@ -296,17 +294,17 @@ static PATHS_S: Part = Part {
             rows: &[
                 Query(
                     &[Must(ERROR), May(NEXT)],
-                    Key::Instrument(Instrument::NextErrorQuery),
+                    Key::ReadOut(StatusRead::NextError),
                 ),
                 Query(
                     &[Must(ERROR), Must(ALL)],
-                    Key::Instrument(Instrument::AllErrorsQuery),
+                    Key::ReadOut(StatusRead::AllErrors),
                 ),
                 Query(
                     &[Must(ERROR), Must(COUNT)],
-                    Key::Instrument(Instrument::ErrorCountQuery),
+                    Key::Query(PlainQuery::ErrorCount),
                 ),
-                Query(&[Must(VERSION)], Key::Instrument(Instrument::VersionQuery)),
+                Query(&[Must(VERSION)], Key::Query(PlainQuery::Version)),
             ],
         },
     ],
@@ -316,10 +314,7 @@ static PATHS_D: Part = Part {
     commands: &[],
     queries: &[Group {
         first: DIAGNOSTIC,
-        rows: &[Query(
-            &[Must(SCAN), Must(BOUND)],
-            Key::Instrument(Instrument::BoundQuery),
-        )],
+        rows: &[Query(&[Must(SCAN), Must(BOUND)], Key::Query(PlainQuery::Bound))],
     }],
 };
 
@@ -327,7 +322,7 @@ static PATHS_F: Part = Part {
     commands: &[],
     queries: &[Group {
         first: FETCH,
-        rows: &[Query(&[], Key::Instrument(Instrument::Fetch))],
+        rows: &[Query(&[], Key::Plain(Plain::Fetch))],
     }],
 };
 

@@ -9,10 +9,10 @@ ghost use Rattle.sw_lex.specs.Values.{IsQuantity, ReadsQuantity, natural_in, who
 ghost use Rattle.sw_lex.specs.Values.{time_unit_of, time_of, source_of, switch_of, source_meant};
 ghost use Rattle.sw_lex.specs.Values.{switch_meant, all_digits, unnumbered};
 
-use crate::choice::{greatest, least, least_micros, of_time, of_whole};
-use crate::command::Command;
+use crate::choice::{greatest, least, least_micros, of_whole};
+use crate::command::{Command, MacroCommand, Setting, Time};
 use crate::headers::is_form;
-use crate::table::{Time, Whole};
+use crate::table::Whole;
 use sw_base::{
     LONGEST_DELAY, LayerName, Nrf, ScpiError, Source, Unit, blanks, digits, letters, read_exponent,
     read_mantissa,
@@ -82,8 +82,8 @@ pub fn continuous_of(n: &Nrf<'_>, suffix: &[u8]) -> Result<Command, ScpiError>
 {
     match suffix {
         [] => match n.whole(0, 0) {
-            Err(_) => Ok(Command::InitiateContinuous(true)),
-            Ok(_) => Ok(Command::InitiateContinuous(false)),
+            Err(_) => Ok(Command::Continuous(true)),
+            Ok(_) => Ok(Command::Continuous(false)),
         },
         _ => Err(ScpiError::SuffixNotAllowed),
     }
@@ -94,7 +94,10 @@ pub fn macros_of(n: &Nrf<'_>, suffix: &[u8]) -> Result<Command, ScpiError>
     ensures { result ≡ macros_of n.now suffix.now }
 {
     match suffix {
-        [] => Ok(Command::EnableMacros(n.whole(-32_767, 32_767)?.unsigned_abs() > 0)),
+        [] => {
+            let on = n.whole(-32_767, 32_767)?.unsigned_abs() > 0;
+            Ok(Command::Macro(MacroCommand::Enable(on)))
+        }
         _ => Err(ScpiError::SuffixNotAllowed),
     }
 }
@@ -131,7 +134,7 @@ pub fn time_of(
             Err(e) => Err(e),
             Ok(micros) => {
                 if micros >= least_micros(time) && micros <= LONGEST_DELAY {
-                    Ok(of_time(time, layer, micros))
+                    Ok(Command::Set(Setting::Time(time, layer, micros)))
                 } else {
                     Err(ScpiError::DataOutOfRange)
                 }
@@ -175,7 +178,7 @@ pub fn source_meant(layer: LayerName, text: &[u8]) -> Result<Command, ScpiError>
     ensures { result ≡ source_meant layer text.now }
 {
     match source_of(text) {
-        Some(source) => Ok(Command::SetSource(layer, source)),
+        Some(source) => Ok(Command::Set(Setting::Source(layer, source))),
         None => match switch_of(text) {
             Some(_) => Err(ScpiError::IllegalParameterValue),
             None => Err(ScpiError::InvalidCharacterData),
@@ -188,7 +191,7 @@ pub fn switch_meant(text: &[u8]) -> Result<Command, ScpiError>
     ensures { result ≡ switch_meant text.now }
 {
     match switch_of(text) {
-        Some(on) => Ok(Command::InitiateContinuous(on)),
+        Some(on) => Ok(Command::Continuous(on)),
         None => match source_of(text) {
             Some(_) => Err(ScpiError::IllegalParameterValue),
             None => Err(ScpiError::InvalidCharacterData),

@@ -7,7 +7,7 @@ use sw_base::{Chan, LayerName, ScpiError};
 use sw_channel::{print_list, print_positions, read_list, read_positions};
 use sw_code::{Code, ListFault, compile, print_listing, read_listing};
 use sw_hislip::{Decoder, Kind, LockReply, Locks, Message, WireFault, encode};
-use sw_lex::{Command, Elements, Path, next_unit, resolve};
+use sw_lex::{Channels, Command, Elements, Path, next_unit, resolve};
 use sw_macro::Macros;
 use sw_status::Status;
 use sw_trigger::Settings;
@@ -96,7 +96,7 @@ fn lists_are_right_or_lack_memory(rt: HostRuntime) {
 /// Whether a command closes these channels.
 fn closes(command: &Command, wanted: &[Chan]) -> bool {
     match command {
-        Command::Close(list) => list.as_slice() == wanted,
+        Command::Channels(Channels::Close, list) => list.as_slice() == wanted,
         _ => false,
     }
 }

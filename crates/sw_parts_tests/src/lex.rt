@@ -3,7 +3,10 @@
 use std::alloc::Global;
 use std::test::Fail;
 use sw_base::{Chan, LayerName, ScpiError, Source, StatusGroup};
-use sw_lex::{Command, Element, Elements, Path, RawUnit, next_unit, resolve};
+use sw_lex::{
+    Channels, Command, Element, Elements, LayerQuery, MacroCommand, Path, PlainQuery, RawUnit,
+    Setting, StatusSetting, Time, next_unit, resolve,
+};
 
 /// What the first unit of a text gives below this path.
 fn read_at(alloc: Global, text: &[u8], path: Path) -> Result<Command, ScpiError> {
@@ -43,11 +46,11 @@ fn second(alloc: Global, message: &[u8]) -> Result<Command, ScpiError> {
 /// A command's name, and its channels.
 fn parts(command: &Command) -> (&str, &[Chan]) {
     match command {
-        Command::Identify => ("identify", &[]),
-        Command::Close(list) => ("close", list.as_slice()),
-        Command::CloseQuery(list) => ("close?", list.as_slice()),
-        Command::CloseState => ("state?", &[]),
-        Command::Open(list) => ("open", list.as_slice()),
+        Command::Query(PlainQuery::Identify) => ("identify", &[]),
+        Command::Query(PlainQuery::CloseState) => ("state?", &[]),
+        Command::Channels(Channels::Close, list) => ("close", list.as_slice()),
+        Command::Channels(Channels::CloseQuery, list) => ("close?", list.as_slice()),
+        Command::Channels(Channels::Open, list) => ("open", list.as_slice()),
         _ => ("another", &[]),
     }
 }
@@ -158,19 +161,36 @@ fn path_left(alloc: Global, message: Vec<u8>) -> Result<Path, ScpiError> {
 /// A command's number, and its layer or group where it has one.
 fn numbers(command: &Command) -> (u64, u8) {
     match command {
-        Command::EventEnable(n) | Command::ServiceEnable(n) | Command::ScanMeter(n) => (
-            u64::from(*n),
+        Command::Set(setting) => setting_numbers(setting),
+        Command::SetStatus(setting) => status_numbers(*setting),
+        Command::Continuous(on) | Command::Macro(MacroCommand::Enable(on)) => (u64::from(*on), 0),
+        Command::LayerQuery(LayerQuery::Count, layer) | Command::Signal(layer) => (
             0,
+            layer_number(*layer),
         ),
-        Command::Count(layer, n) => (u64::from(*n), layer_number(*layer)),
-        Command::Delay(layer, n) => (*n, layer_number(*layer)),
-        Command::SetSource(layer, Source::External) => (77, layer_number(*layer)),
-        Command::SetSource(layer, Source::Timer) => (78, layer_number(*layer)),
-        Command::Points(n) => (u64::from(*n), 0),
-        Command::GroupEnable(StatusGroup::Operation, n) => (u64::from(*n), 1),
-        Command::NegativeTransition(StatusGroup::Questionable, n) => (u64::from(*n), 2),
-        Command::InitiateContinuous(on) | Command::EnableMacros(on) => (u64::from(*on), 0),
-        Command::CountQuery(layer) | Command::Signal(layer) => (0, layer_number(*layer)),
+        _ => (99, 99),
+    }
+}
+
+/// A setting's number, and its layer where it has one.
+fn setting_numbers(setting: &Setting) -> (u64, u8) {
+    match setting {
+        Setting::ScanMeter(n) => (u64::from(*n), 0),
+        Setting::Count(layer, n) => (u64::from(*n), layer_number(*layer)),
+        Setting::Time(Time::Delay, layer, n) => (*n, layer_number(*layer)),
+        Setting::Source(layer, Source::External) => (77, layer_number(*layer)),
+        Setting::Source(layer, Source::Timer) => (78, layer_number(*layer)),
+        Setting::Points(n) => (u64::from(*n), 0),
+        _ => (99, 99),
+    }
+}
+
+/// The bits of a setting of the status, and its group where it has one.
+fn status_numbers(setting: StatusSetting) -> (u64, u8) {
+    match setting {
+        StatusSetting::EventEnable(n) | StatusSetting::ServiceEnable(n) => (u64::from(n), 0),
+        StatusSetting::Enable(StatusGroup::Operation, n) => (u64::from(n), 1),
+        StatusSetting::NegativeTransition(StatusGroup::Questionable, n) => (u64::from(n), 2),
         _ => (99, 99),
     }
 }
@@ -249,9 +269,9 @@ fn reads_numbers(rt: HostRuntime) {
 /// The label of a command about a macro.
 fn label(command: &Command) -> &[u8] {
     match command {
-        Command::DefineMacro(label, _) => label.as_slice(),
-        Command::MacroQuery(label) => label.as_slice(),
-        Command::RemoveMacro(label) => label.as_slice(),
+        Command::Macro(MacroCommand::Define(definition)) => definition.get().label.as_slice(),
+        Command::Macro(MacroCommand::BodyQuery(label)) => label.as_slice(),
+        Command::Macro(MacroCommand::Remove(label)) => label.as_slice(),
         _ => &[],
     }
 }
@@ -259,7 +279,7 @@ fn label(command: &Command) -> &[u8] {
 /// The body of a macro's definition.
 fn body(command: &Command) -> &[u8] {
     match command {
-        Command::DefineMacro(_, body) => body.as_slice(),
+        Command::Macro(MacroCommand::Define(definition)) => definition.get().body.as_slice(),
         _ => &[],
     }
 }

@@ -3,13 +3,16 @@
 use crate::lex::{first, layer_number, refuses_first};
 use std::alloc::Global;
 use sw_base::ScpiError;
-use sw_lex::Command;
+use sw_lex::{Command, LayerQuery, Setting, Time};
 
 /// The layer of a timer that is set or asked, and the microseconds that it is set to.
 fn timer(command: &Command) -> Option<(u8, Option<u64>)> {
     match command {
-        Command::Timer(layer, micros) => Some((layer_number(*layer), Some(*micros))),
-        Command::TimerQuery(layer) => Some((layer_number(*layer), None)),
+        Command::Set(Setting::Time(Time::Timer, layer, micros)) => Some((
+            layer_number(*layer),
+            Some(*micros),
+        )),
+        Command::LayerQuery(LayerQuery::Timer, layer) => Some((layer_number(*layer), None)),
         _ => None,
     }
 }

@@ -6,8 +6,9 @@ use Rattle.std.proofs.lemmas.Bool.{and_parts}
 use Rattle.sw_base.specs.declared.error.ScpiError.{ScpiError}
 use Rattle.sw_base.specs.declared.error.ScpiError.TheVariants.{OutOfMemory}
 use Rattle.sw_lex.specs.declared.command.Command.{Command}
-use Rattle.sw_lex.specs.declared.command.Command.TheVariants.{DefineMacro, MacroQuery, MacroLabelsQuery, RemoveMacro, PurgeMacros, EnableMacros}
-use Rattle.sw_lex.specs.declared.command.Command.TheVariants.{EnableMacrosQuery}
+use Rattle.sw_lex.specs.declared.command.Command.TheVariants as command
+use Rattle.sw_lex.specs.declared.command.AllMacros.TheVariants.{LabelsQuery, Purge, EnableQuery}
+use Rattle.sw_lex.specs.declared.command.MacroCommand.TheVariants.{Define, BodyQuery, Remove, Enable}
 use Rattle.sw_lex.specs.Unit.{UnitSeen}
 use Rattle.sw_macro.specs.Table.{Macro, Table, labels, refusal_to_define, refusal_to_find, RefusedBy}
 use Rattle.sw_macro.specs.Filling.{put_in}
@@ -64,13 +65,13 @@ body-same label t (Err e) (Err e') p q m n = ap (λ (y : ScpiError). Err y) (ref
 pub acts-same : (command : Command) (t : Table) (told told' : Told) (t1 t2 : Table) → ActsOnMacros command t told t1 → ActsOnMacros command t told' t2
     → IsAmple told
     → IsAmple told' → (told ≡ told') × (t1 ≡ t2)
-acts-same (DefineMacro label body) t told told' t1 t2 p q m n = defines-same label body t t1 t2 told told' p q m n
-acts-same (MacroQuery label) t told told' t1 t2 p q m n = (body-same label t told told' p.0 q.0 m n, p.1 ∙ sym q.1)
-acts-same MacroLabelsQuery t told told' t1 t2 p q m n = (tells-same (labels_text (labels t.macros)) told told' p.0 q.0 m n, p.1 ∙ sym q.1)
-acts-same (RemoveMacro label) t told told' t1 t2 p q m n = removes-same label t t1 t2 told told' p q
-acts-same PurgeMacros t told told' t1 t2 p q m n = (p.0 ∙ sym q.0, p.1 ∙ sym q.1)
-acts-same (EnableMacros on) t told told' t1 t2 p q m n = (p.0 ∙ sym q.0, p.1 ∙ sym q.1)
-acts-same EnableMacrosQuery t told told' t1 t2 p q m n = (tells-same (yes_or_no t.on) told told' p.0 q.0 m n, p.1 ∙ sym q.1)
+acts-same (command.Macro (Define macro)) t told told' t1 t2 p q m n = defines-same macro.label macro.body t t1 t2 told told' p q m n
+acts-same (command.Macro (BodyQuery label)) t told told' t1 t2 p q m n = (body-same label t told told' p.0 q.0 m n, p.1 ∙ sym q.1)
+acts-same (command.Macros LabelsQuery) t told told' t1 t2 p q m n = (tells-same (labels_text (labels t.macros)) told told' p.0 q.0 m n, p.1 ∙ sym q.1)
+acts-same (command.Macro (Remove label)) t told told' t1 t2 p q m n = removes-same label t t1 t2 told told' p q
+acts-same (command.Macros Purge) t told told' t1 t2 p q m n = (p.0 ∙ sym q.0, p.1 ∙ sym q.1)
+acts-same (command.Macro (Enable on)) t told told' t1 t2 p q m n = (p.0 ∙ sym q.0, p.1 ∙ sym q.1)
+acts-same (command.Macros EnableQuery) t told told' t1 t2 p q m n = (tells-same (yes_or_no t.on) told told' p.0 q.0 m n, p.1 ∙ sym q.1)
 acts-same command t told told' t1 t2 p q m n = absurd p
 
 -- ---- a unit that calls a macro

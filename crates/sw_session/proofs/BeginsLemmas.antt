@@ -2,9 +2,8 @@
 use Rattle.std.proofs.Common.{◌≡◌, ℕ, Bool, true, false, List, Option, Ok, Err, refl, sym, subst}
 use Rattle.sw_base.specs.declared.error.ScpiError.{ScpiError}
 use Rattle.sw_lex.specs.declared.command.Command.{Command}
-use Rattle.sw_lex.specs.declared.command.Command.TheVariants.{DefineMacro, MacroQuery, MacroLabelsQuery, RemoveMacro, PurgeMacros, EnableMacros}
-use Rattle.sw_lex.specs.declared.command.Command.TheVariants.{EnableMacrosQuery, Initiate, InitiateContinuous, Reset, Signal}
-use Rattle.sw_base.specs.declared.terms.LayerName.TheVariants as layer_name
+use Rattle.sw_lex.specs.declared.command.Plain.{Plain}
+use Rattle.sw_lex.specs.declared.command.Channels.{Channels}
 use Rattle.sw_core.specs.Action.{Effect, IsOfMacros, action_of}
 use Rattle.sw_core.specs.declared.ask.SessionAnswer.TheVariants.{Done}
 use Rattle.sw_macro.specs.Table.{Table}
@@ -29,19 +28,13 @@ module _ {D : Type 0} (passes : D → Entry → D → Type 0) (sid : Sid) where
   asked : (command : Command) (answered : Bool) (macros : Table) (t : List Entry) (final : SessionAnswer) (rest : List Entry)
       → is_own command ≡ false → Settles sid 0 (Ask.Unit sid command answered) t final rest
       → Begins sid answered (Ok command) macros t (begun_with final macros rest)
-  asked (DefineMacro label body) answered macros t final rest own s = absurd (cc (own))
-  asked (MacroQuery label) answered macros t final rest own s = absurd (cc (own))
-  asked MacroLabelsQuery answered macros t final rest own s = absurd (cc (own))
-  asked (RemoveMacro label) answered macros t final rest own s = absurd (cc (own))
-  asked PurgeMacros answered macros t final rest own s = absurd (cc (own))
-  asked (EnableMacros on) answered macros t final rest own s = absurd (cc (own))
-  asked EnableMacrosQuery answered macros t final rest own s = absurd (cc (own))
-  asked Initiate answered macros t final rest own s = absurd (cc (own))
-  asked Reset answered macros t final rest own s = absurd (cc (own))
-  asked (Signal layer_name.Trigger) answered macros t final rest own s = (s, refl)
-  asked (Signal (layer_name.Arm arm)) answered macros t final rest own s = (s, refl)
-  asked (InitiateContinuous true) answered macros t final rest own s = (s, refl)
-  asked (InitiateContinuous false) answered macros t final rest own s = (s, refl)
+  asked (Command.Plain Plain.Initiate) answered macros t final rest own s = absurd (cc (own))
+  asked (Command.Plain Plain.Reset) answered macros t final rest own s = absurd (cc (own))
+  asked (Command.Macros ask) answered macros t final rest own s = absurd (cc (own))
+  asked (Command.Macro ask) answered macros t final rest own s = absurd (cc (own))
+  asked (Command.Channels Channels.Close chans) answered macros t final rest own s = (s, refl)
+  asked (Command.Continuous true) answered macros t final rest own s = (s, refl)
+  asked (Command.Continuous false) answered macros t final rest own s = (s, refl)
   asked command answered macros t final rest own s = (s, refl)
 
   pub begins-asked : (d0 d1 : D) (command : Command) (answered : Bool) (final : SessionAnswer) (macros : Table)
@@ -61,29 +54,21 @@ module _ {D : Type 0} (passes : D → Entry → D → Type 0) (sid : Sid) where
       led-so passes d0 d1 (λ t rest. Reports sid told t final rest) (λ t rest. Begins sid answered (Ok command) macros t (begun_with final macros' rest)) p
       (λ t rest k. subst (λ (e : Effect). BeginsBy e sid answered command macros t (begun_with final macros' rest)) (sym is) (told, acts, k))
 
-  -- and needed no desk
-  pub begins-done : (d : D) (command : Command) (answered : Bool) (text : Option (List ℕ)) (macros macros' : Table)
-      → effect_of (action_of answered command) ≡ IsOfMacros → ActsOnMacros command macros (Ok text) macros'
-      → Led passes d d (λ t rest. Begins sid answered (Ok command) macros t (begun_with (Done text) macros' rest))
-  begins-done d command answered text macros macros' is acts =
-      led-none passes d (λ t rest. Begins sid answered (Ok command) macros t (begun_with (Done text) macros' rest))
-      (λ rest. subst (λ (e : Effect). BeginsBy e sid answered command macros rest (begun_with (Done text) macros' rest)) (sym is) (Ok text, acts, (refl, refl)))
-
   -- a scan was to start
-  pub begins-scan : (d0 d1 : D) (command : Command) (answered : Bool) (final : SessionAnswer) (macros : Table) → command ≡ Initiate
+  pub begins-scan : (d0 d1 : D) (answered : Bool) (final : SessionAnswer) (macros : Table)
       → Led passes d0 d1 (λ t rest. StartsScan sid t final rest)
-      → Led passes d0 d1 (λ t rest. Begins sid answered (Ok command) macros t (begun_with final macros rest))
-  begins-scan d0 d1 command answered final macros is p =
-      led-so passes d0 d1 (λ t rest. StartsScan sid t final rest) (λ t rest. Begins sid answered (Ok command) macros t (begun_with final macros rest)) p
-      (λ t rest k. subst (λ (x : Command). Begins sid answered (Ok x) macros t (begun_with final macros rest)) (sym is) (k, refl))
+      → Led passes d0 d1 (λ t rest. Begins sid answered (Ok (Command.Plain Plain.Initiate)) macros t (begun_with final macros rest))
+  begins-scan d0 d1 answered final macros p =
+      led-so passes d0 d1 (λ t rest. StartsScan sid t final rest) (λ t rest.
+      Begins sid answered (Ok (Command.Plain Plain.Initiate)) macros t (begun_with final macros rest)) p (λ t rest k. (k, refl))
 
   -- a reset was asked
   pub begins-reset : (d0 d1 : D) (answered : Bool) (final : SessionAnswer) (macros macros' : Table) → macros' ≡ table_reset final macros
-      → Led passes d0 d1 (λ t rest. Settles sid 0 (Ask.Unit sid Reset answered) t final rest)
-      → Led passes d0 d1 (λ t rest. Begins sid answered (Ok Reset) macros t (begun_with final macros' rest))
+      → Led passes d0 d1 (λ t rest. Settles sid 0 (Ask.Unit sid (Command.Plain Plain.Reset) answered) t final rest)
+      → Led passes d0 d1 (λ t rest. Begins sid answered (Ok (Command.Plain Plain.Reset)) macros t (begun_with final macros' rest))
   begins-reset d0 d1 answered final macros macros' is p =
-      led-so passes d0 d1 (λ t rest. Settles sid 0 (Ask.Unit sid Reset answered) t final rest) (λ t rest.
-      Begins sid answered (Ok Reset) macros t (begun_with final macros' rest)) p (λ t rest k. (k, is))
+      led-so passes d0 d1 (λ t rest. Settles sid 0 (Ask.Unit sid (Command.Plain Plain.Reset) answered) t final rest) (λ t rest.
+      Begins sid answered (Ok (Command.Plain Plain.Reset)) macros t (begun_with final macros' rest)) p (λ t rest k. (k, is))
 
   -- an error was queued
   pub begins-queued : (d0 d1 : D) (e : ScpiError) (answered : Bool) (final : SessionAnswer) (macros macros' : Table) → macros' ≡ macros

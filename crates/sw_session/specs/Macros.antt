@@ -6,8 +6,9 @@ use Rattle.std.specs.List.{join_with_byte}
 use Rattle.sw_base.specs.declared.error.ScpiError.{ScpiError}
 use Rattle.sw_base.specs.declared.error.ScpiError.TheVariants.{OutOfMemory}
 use Rattle.sw_lex.specs.declared.command.Command.{Command}
-use Rattle.sw_lex.specs.declared.command.Command.TheVariants.{DefineMacro, MacroQuery, MacroLabelsQuery, RemoveMacro}
-use Rattle.sw_lex.specs.declared.command.Command.TheVariants.{PurgeMacros, EnableMacros, EnableMacrosQuery}
+use Rattle.sw_lex.specs.declared.command.Command.TheVariants.{Macros, Macro}
+use Rattle.sw_lex.specs.declared.command.AllMacros.TheVariants.{LabelsQuery, Purge, EnableQuery}
+use Rattle.sw_lex.specs.declared.command.MacroCommand.TheVariants.{Define, BodyQuery, Remove, Enable}
 use Rattle.sw_macro.specs.Label.{in_capitals}
 use Rattle.sw_macro.specs.Table.{Table, labels, body_of, with_macro, without_macro, refusal_to_define, refusal_to_find}
 use Rattle.sw_macro.specs.Table.{RefusedBy}
@@ -62,11 +63,11 @@ TellsBody label t (Err e) = RefusedBy (refusal_to_find t label) e
 
 -- What a macro command does to the macros, and what it comes to.
 abbrev pub ActsOnMacros : Command → Table → Told → Table → Type 0
-ActsOnMacros (DefineMacro label body) t told t' = DefinesMacro label body t told t'
-ActsOnMacros (MacroQuery label) t told t' = TellsBody label t told × (t' ≡ t)
-ActsOnMacros MacroLabelsQuery t told t' = TellsMacroText (labels_text (labels t.macros)) told × (t' ≡ t)
-ActsOnMacros (RemoveMacro label) t told t' = Removes label t told t'
-ActsOnMacros PurgeMacros t told t' = (told ≡ Ok None) × (t' ≡ record t { macros = [] })
-ActsOnMacros (EnableMacros on) t told t' = (told ≡ Ok None) × (t' ≡ record t { on = on })
-ActsOnMacros EnableMacrosQuery t told t' = TellsMacroText (yes_or_no t.on) told × (t' ≡ t)
+ActsOnMacros (Macro (Define macro)) t told t' = DefinesMacro macro.label macro.body t told t'
+ActsOnMacros (Macro (BodyQuery label)) t told t' = TellsBody label t told × (t' ≡ t)
+ActsOnMacros (Macro (Remove label)) t told t' = Removes label t told t'
+ActsOnMacros (Macro (Enable on)) t told t' = (told ≡ Ok None) × (t' ≡ record t { on = on })
+ActsOnMacros (Macros LabelsQuery) t told t' = TellsMacroText (labels_text (labels t.macros)) told × (t' ≡ t)
+ActsOnMacros (Macros Purge) t told t' = (told ≡ Ok None) × (t' ≡ record t { macros = [] })
+ActsOnMacros (Macros EnableQuery) t told t' = TellsMacroText (yes_or_no t.on) told × (t' ≡ t)
 ActsOnMacros command t told t' = ⊥

@@ -8,6 +8,7 @@ use Rattle.sw_base.specs.declared.error.ScpiError.TheVariants.{SettingsConflict,
 use Rattle.sw_base.specs.Errors.{number_of}
 use Rattle.std.specs.Io.BufRead.{strip_last}
 use Rattle.sw_lex.specs.declared.command.Command.{Command}
+use Rattle.sw_lex.specs.declared.command.Plain.{Plain}
 use Rattle.sw_lex.specs.Unit.{UnitSeen}
 use Rattle.sw_lex.specs.Meaning.{Nodes, Resolves}
 use Rattle.sw_macro.specs.Table.{Table}
@@ -123,15 +124,10 @@ effect_of (AfterScan effect) = effect
 
 -- whether a session carries a command out by itself: one of macros, INITiate, or *RST, which switches macros off
 abbrev pub is_own : Command → Bool
-is_own (Command.DefineMacro label body) = true
-is_own (Command.MacroQuery label) = true
-is_own Command.MacroLabelsQuery = true
-is_own (Command.RemoveMacro label) = true
-is_own Command.PurgeMacros = true
-is_own (Command.EnableMacros on) = true
-is_own Command.EnableMacrosQuery = true
-is_own Command.Initiate = true
-is_own Command.Reset = true
+is_own (Command.Plain Plain.Initiate) = true
+is_own (Command.Plain Plain.Reset) = true
+is_own (Command.Macros ask) = true
+is_own (Command.Macro ask) = true
 is_own command = false
 
 -- A command by what it does: a macro command changes the macros and asks nothing else, INITiate starts a scan, and any

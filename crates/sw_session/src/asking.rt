@@ -8,12 +8,12 @@ ghost use Rattle.sw_session.specs.Talk.{Queues, Settles, Begins, begun_with, Rep
 ghost use Rattle.sw_session.specs.Talk.{is_done, is_own, after_queueing};
 
 use crate::desk::{Desk, Wake};
-use crate::macros::{Outcome, define, remove, tell_body, tell_enabled, tell_labels};
+use crate::macros::{Outcome, act_on_all, act_on_one};
 use std::alloc::Global;
 use std::mem::replace;
 use sw_base::ScpiError;
 use sw_core::{SessionAnswer, SessionAsk, Sid};
-use sw_lex::Command;
+use sw_lex::{Command, Plain};
 use sw_macro::Macros;
 use sw_verify::Plan;
 
@@ -41,15 +41,8 @@ pub fn is_own(command: &Command) -> bool
     ensures { result ≡ is_own command.now }
 {
     match command {
-        Command::DefineMacro(_, _)
-        | Command::MacroQuery(_)
-        | Command::MacroLabelsQuery
-        | Command::RemoveMacro(_)
-        | Command::PurgeMacros
-        | Command::EnableMacros(_)
-        | Command::EnableMacrosQuery
-        | Command::Initiate
-        | Command::Reset => true,
+        Command::Plain(Plain::Initiate | Plain::Reset) => true,
+        Command::Macros(_) | Command::Macro(_) => true,
         _ => false,
     }
 }
@@ -68,36 +61,35 @@ pub fn carry_own<D: Desk>(
         Begins sid answered (Ok command) macros.old t (begun_with result macros.new rest)) }
 {
     match command {
-        Command::DefineMacro(label, body) => {
-            let outcome = define(alloc, macros, label.as_slice(), body.as_slice());
+        Command::Plain(plain) => carry_plain(desk, sid, alloc, macros, plain, answered),
+        Command::Macros(ask) => {
+            let outcome = act_on_all(alloc, macros, ask);
             report(desk, sid, outcome)
         }
-        Command::MacroQuery(label) => {
-            let outcome = tell_body(alloc, macros, label.as_slice());
+        Command::Macro(ask) => {
+            let outcome = act_on_one(alloc, macros, &ask);
             report(desk, sid, outcome)
         }
-        Command::MacroLabelsQuery => {
-            let outcome = tell_labels(alloc, macros);
-            report(desk, sid, outcome)
-        }
-        Command::RemoveMacro(label) => {
-            let outcome = remove(macros, label.as_slice());
-            report(desk, sid, outcome)
-        }
-        Command::PurgeMacros => {
-            macros.purge();
-            SessionAnswer::Done(None)
-        }
-        Command::EnableMacros(on) => {
-            macros.enable(on);
-            SessionAnswer::Done(None)
-        }
-        Command::EnableMacrosQuery => {
-            let outcome = tell_enabled(alloc, macros);
-            report(desk, sid, outcome)
-        }
-        Command::Initiate => initiate(desk, sid, alloc),
-        Command::Reset => reset(desk, sid, macros, answered),
+        _ => unreachable!(),
+    }
+}
+
+/// Begins a scan, or resets: what a session carries out of the commands without data.
+fn carry_plain<D: Desk>(
+    desk: &mut D,
+    sid: Sid,
+    alloc: Global,
+    macros: &mut Macros,
+    plain: Plain,
+    answered: bool,
+) -> SessionAnswer
+    requires { is_own (Command.Plain plain) ≡ true }
+    ensures { Led D.passes desk.old desk.new (λ t rest.
+        Begins sid answered (Ok (Command.Plain plain)) macros.old t (begun_with result macros.new rest)) }
+{
+    match plain {
+        Plain::Initiate => initiate(desk, sid, alloc),
+        Plain::Reset => reset(desk, sid, macros, answered),
         _ => unreachable!(),
     }
 }
@@ -117,10 +109,11 @@ fn report<D: Desk>(desk: &mut D, sid: Sid, outcome: Outcome) -> SessionAnswer
 #[inline(never)]
 fn reset<D: Desk>(desk: &mut D, sid: Sid, macros: &mut Macros, answered: bool) -> SessionAnswer
     ensures asked { Led D.passes desk.old desk.new (λ t rest.
-        Settles sid 0 (SessionAsk.Unit sid Command.Reset answered) t result rest) }
+        Settles sid 0 (SessionAsk.Unit sid (Command.Plain Plain.Reset) answered) t result rest) }
     ensures switched { macros.new ≡ table_reset result macros.old }
 {
-    let answer = settle(desk, sid, SessionAsk::Unit(sid, Command::Reset, answered));
+    let ask = SessionAsk::Unit(sid, Command::Plain(Plain::Reset), answered);
+    let answer = settle(desk, sid, ask);
     if is_done(&answer) {
         macros.enable(false);
     }

@@ -1,28 +1,63 @@
 //! The macro commands.
 
 ghost use Rattle.std.specs.Prelude.{◌≡◌, ◌++◌, ◌∷◌, [], List, ℕ, true, false, IfOk, IfSome, IfNone, OnOk};
+ghost use Rattle.sw_lex.specs.declared.command.Command.{Command};
 ghost use Rattle.sw_macro.specs.Table.{labels};
 ghost use Rattle.sw_core.specs.Answers.{yes_or_no};
 ghost use Rattle.sw_session.specs.Macros.{block_of, labels_text, row_of, TellsMacroText, TellsBody, DefinesMacro};
-ghost use Rattle.sw_session.specs.Macros.{Removes};
+ghost use Rattle.sw_session.specs.Macros.{Removes, ActsOnMacros};
 
 use std::alloc::{AllocError, Global};
 use sw_base::{ScpiError, Sequence, print_number};
+use sw_lex::{AllMacros, Definition, MacroCommand};
 use sw_macro::Macros;
 
 /// What a command comes to: its answer, if it has one, or its refusal.
 pub type Outcome = Result<Option<Sequence<u8>>, ScpiError>;
 
-/// `*DMC`
-pub fn define(alloc: Global, macros: &mut Macros, label: &[u8], body: &[u8]) -> Outcome
-    ensures { DefinesMacro label.now body.now macros.old result macros.new }
+/// What a command of all macros does.
+pub fn act_on_all(alloc: Global, macros: &mut Macros, ask: AllMacros) -> Outcome
+    ensures { ActsOnMacros (Command.Macros ask) macros.old result macros.new }
 {
-    macros.define(alloc, label, body)?;
+    match ask {
+        AllMacros::LabelsQuery => tell_labels(alloc, macros),
+        AllMacros::EnableQuery => tell_enabled(alloc, macros),
+        AllMacros::Purge => {
+            macros.purge();
+            Ok(None)
+        }
+    }
+}
+
+/// What a macro command with data does.
+pub fn act_on_one(alloc: Global, macros: &mut Macros, ask: &MacroCommand) -> Outcome
+    ensures { ActsOnMacros (Command.Macro ask.now) macros.old result macros.new }
+{
+    match ask {
+        MacroCommand::Define(definition) => define(alloc, macros, definition.get()),
+        MacroCommand::BodyQuery(label) => tell_body(alloc, macros, label.as_slice()),
+        MacroCommand::Remove(label) => remove(macros, label.as_slice()),
+        MacroCommand::Enable(on) => {
+            macros.enable(*on);
+            Ok(None)
+        }
+    }
+}
+
+/// `*DMC`
+fn define(alloc: Global, macros: &mut Macros, definition: &Definition) -> Outcome
+    ensures { DefinesMacro definition.now.label definition.now.body macros.old result macros.new }
+{
+    macros.define(
+        alloc,
+        definition.label.as_slice(),
+        definition.body.as_slice(),
+    )?;
     Ok(None)
 }
 
 /// `*RMC`
-pub fn remove(macros: &mut Macros, label: &[u8]) -> Outcome
+fn remove(macros: &mut Macros, label: &[u8]) -> Outcome
     ensures { Removes label.now macros.old result macros.new }
 {
     macros.remove(label)?;
@@ -30,7 +65,7 @@ pub fn remove(macros: &mut Macros, label: &[u8]) -> Outcome
 }
 
 /// `*GMC?`
-pub fn tell_body(alloc: Global, macros: &Macros, label: &[u8]) -> Outcome
+fn tell_body(alloc: Global, macros: &Macros, label: &[u8]) -> Outcome
     ensures { TellsBody label.now macros.now result }
 {
     let body = macros.body(label)?;
@@ -38,14 +73,14 @@ pub fn tell_body(alloc: Global, macros: &Macros, label: &[u8]) -> Outcome
 }
 
 /// `*LMC?`
-pub fn tell_labels(alloc: Global, macros: &Macros) -> Outcome
+fn tell_labels(alloc: Global, macros: &Macros) -> Outcome
     ensures { TellsMacroText (labels_text (labels macros.now.macros)) result }
 {
     Ok(Some(labels_text(alloc, macros)?))
 }
 
 /// `*EMC?`
-pub fn tell_enabled(alloc: Global, macros: &Macros) -> Outcome
+fn tell_enabled(alloc: Global, macros: &Macros) -> Outcome
     ensures { TellsMacroText (yes_or_no macros.now.on) result }
 {
     let flag = if macros.enabled() { b'1' } else { b'0' };

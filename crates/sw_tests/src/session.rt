@@ -9,7 +9,7 @@ use sw_base::{Chan, ScpiError, Sequence};
 use sw_card::Card;
 use sw_core::{Core, SessionAnswer, SessionAsk, Sid};
 use sw_kinds::{Mux, SimDriver, SimSource, Volt};
-use sw_lex::Command;
+use sw_lex::{Command, PlainQuery};
 use sw_session::{CoreDesk, Desk, Talker, View, Wake};
 use sw_trigger::Settings;
 use sw_verify::{BoxedSnapshot, Layout, Slot, Snapshot};
@@ -61,7 +61,7 @@ impl Canned {
 }
 
 fn asks_identity(command: &Command) -> bool {
-    matches!(command, Command::Identify)
+    matches!(command, Command::Query(PlainQuery::Identify))
 }
 
 impl Desk for Canned {

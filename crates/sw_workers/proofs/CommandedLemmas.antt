@@ -1,7 +1,7 @@
 -- What a command leaves as it was: seats and locks, and a scan that runs, unless it may end it.
 use Rattle.std.proofs.Common.{◌≡◌, ℕ, Bool, true, false, true≢false, List, [], ◌∷◌, Option, None, Some}
 use Rattle.std.proofs.Common.{refl, ap, sym, subst, ◌∙◌, map}
-use Rattle.std.specs.Prelude.{decimal, MatchBool}
+use Rattle.std.specs.Prelude.{MatchBool}
 use Rattle.std.specs.List.{join_with_byte}
 use Rattle.sw_base.specs.Reading.{reading_text}
 use Rattle.sw_base.specs.Layout.{Channel}
@@ -9,8 +9,9 @@ use Rattle.sw_base.specs.declared.reading.Reading.{Reading}
 use Rattle.sw_base.specs.declared.error.ScpiError.{ScpiError}
 use Rattle.sw_base.specs.declared.error.ScpiError.TheVariants.{UndefinedHeader, DataCorruptOrStale, OutOfMemory, HardwareMissing}
 use Rattle.sw_base.specs.declared.error.ScpiError.TheVariants.{SettingsConflict, HardwareError}
-use Rattle.sw_base.specs.declared.terms.LayerName.TheVariants as layer_name
 use Rattle.sw_lex.specs.declared.command.Command.{Command}
+use Rattle.sw_lex.specs.declared.command.Plain.{Plain}
+use Rattle.sw_lex.specs.declared.command.Channels.{Channels}
 use Rattle.sw_trigger.specs.Settings.{SettingsSeen}
 use Rattle.sw_status.specs.StatusModel.{StatusSeen}
 use Rattle.sw_cage.specs.TakenSeen.{TakenSeen, SaysIgnored, SaysWaits, SaysPause, SaysJob, SaysEnded, SaysFault}
@@ -19,7 +20,7 @@ use Rattle.sw_core.specs.declared.ask.SessionAsk.{SessionAsk}
 use Rattle.sw_core.specs.declared.ask.SessionAnswer.{SessionAnswer}
 use Rattle.sw_core.specs.declared.ask.SessionAnswer.TheVariants.{Done, Refused, Hold}
 use Rattle.sw_core.specs.Panel.{Panel, is_running}
-use Rattle.sw_core.specs.Action.{Effect, TellsNumber, TellsText, TellsReadings, ReadsOut, SetsStatus, SetsUp, ClosesListed, OpensListed, TellsRelays, Changes}
+use Rattle.sw_core.specs.Action.{Effect, TellsText, TellsReadings, ReadsOut, SetsStatus, SetsUp, ClosesListed, OpensListed, TellsRelays, Changes}
 use Rattle.sw_core.specs.Action.{Resets, reset, aborted, Triggers, RefusesWith, IsOfMacros, Initiates, Action, AtOnce, BetweenScans, AfterScan, action_of}
 use Rattle.sw_core.specs.Step.{StepClose, StepOpen, StepFlags, StepText, StepDone, StepSetting, StepRefused, StepReadings, StepAlone}
 use Rattle.sw_core.specs.Step.{Happens, StepEffect, StepHeld, StepAction}
@@ -59,70 +60,32 @@ LeavesAction ends p (BetweenScans effect) = LeavesEffect ends p effect
 LeavesAction ends p (AfterScan effect) = LeavesEffect ends p effect
 
 leaves_command : (p : Panel) (available : Bool) (command : Command) → LeavesAction (may_end command) p (action_of available command)
-leaves_command p available Command.Identify = tt
-leaves_command p available Command.Reset = refl
-leaves_command p available Command.ClearStatus = record { seats = refl; scan = λ n i. i }
-leaves_command p available (Command.EventEnable bits) = tt
-leaves_command p available Command.EventEnableQuery = tt
-leaves_command p available Command.EventQuery = tt
-leaves_command p available (Command.ServiceEnable bits) = tt
-leaves_command p available Command.ServiceEnableQuery = tt
-leaves_command p available Command.StatusByteQuery = tt
-leaves_command p available Command.OperationComplete = record { seats = refl; scan = λ n i. i }
-leaves_command p available Command.OperationCompleteQuery = tt
-leaves_command p available Command.Wait = record { seats = refl; scan = λ n i. i }
-leaves_command p available Command.SelfTestQuery = tt
-leaves_command p available Command.Trigger = refl
-leaves_command p available (Command.DefineMacro label body) = tt
-leaves_command p available (Command.MacroQuery label) = tt
-leaves_command p available Command.MacroLabelsQuery = tt
-leaves_command p available (Command.RemoveMacro label) = tt
-leaves_command p available Command.PurgeMacros = tt
-leaves_command p available (Command.EnableMacros on) = tt
-leaves_command p available Command.EnableMacrosQuery = tt
-leaves_command p available Command.Abort = leaves_ending p (aborted p) refl refl
-leaves_command p available Command.Initiate = tt
-leaves_command p available (Command.InitiateContinuous true) = tt
-leaves_command p available (Command.InitiateContinuous false) = record { seats = refl; scan = λ n i. i }
-leaves_command p available Command.InitiateContinuousQuery = tt
-leaves_command p available (Command.Count layer n) = tt
-leaves_command p available (Command.CountQuery layer) = tt
-leaves_command p available (Command.SetSource layer source) = record { seats = refl; scan = λ n i. i }
-leaves_command p available (Command.SourceQuery layer) = tt
-leaves_command p available (Command.Delay layer micros) = tt
-leaves_command p available (Command.DelayQuery layer) = tt
-leaves_command p available (Command.Timer layer micros) = tt
-leaves_command p available (Command.TimerQuery layer) = tt
-leaves_command p available (Command.Signal layer_name.Trigger) = refl
-leaves_command p available (Command.Signal (layer_name.Arm arm)) = refl
-leaves_command p available (Command.Close chans) = tt
-leaves_command p available (Command.CloseQuery chans) = tt
-leaves_command p available Command.CloseState = tt
-leaves_command p available (Command.Open chans) = tt
-leaves_command p available (Command.OpenQuery chans) = tt
-leaves_command p available Command.OpenAll = record { seats = refl; scan = λ n i. i }
-leaves_command p available (Command.Scan chans) = tt
-leaves_command p available Command.ScanQuery = tt
-leaves_command p available (Command.ScanMeter slot) = tt
-leaves_command p available Command.ScanMeterQuery = tt
-leaves_command p available (Command.GroupEventQuery group) = tt
-leaves_command p available (Command.GroupConditionQuery group) = tt
-leaves_command p available (Command.GroupEnable group bits) = tt
-leaves_command p available (Command.GroupEnableQuery group) = tt
-leaves_command p available (Command.PositiveTransition group bits) = tt
-leaves_command p available (Command.PositiveTransitionQuery group) = tt
-leaves_command p available (Command.NegativeTransition group bits) = tt
-leaves_command p available (Command.NegativeTransitionQuery group) = tt
-leaves_command p available Command.Preset = tt
-leaves_command p available Command.NextErrorQuery = tt
-leaves_command p available Command.AllErrorsQuery = tt
-leaves_command p available Command.ErrorCountQuery = tt
-leaves_command p available Command.VersionQuery = tt
-leaves_command p available (Command.Points n) = tt
-leaves_command p available Command.PointsQuery = tt
-leaves_command p available Command.ActualPointsQuery = tt
-leaves_command p available Command.BoundQuery = tt
-leaves_command p available Command.Fetch = tt
+leaves_command p available (Command.Plain Plain.Reset) = refl
+leaves_command p available (Command.Plain Plain.ClearStatus) = record { seats = refl; scan = λ n i. i }
+leaves_command p available (Command.Plain Plain.OperationComplete) = record { seats = refl; scan = λ n i. i }
+leaves_command p available (Command.Plain Plain.OperationCompleteQuery) = tt
+leaves_command p available (Command.Plain Plain.Wait) = record { seats = refl; scan = λ n i. i }
+leaves_command p available (Command.Plain Plain.Trigger) = refl
+leaves_command p available (Command.Plain Plain.Abort) = leaves_ending p (aborted p) refl refl
+leaves_command p available (Command.Plain Plain.Initiate) = tt
+leaves_command p available (Command.Plain Plain.OpenAll) = record { seats = refl; scan = λ n i. i }
+leaves_command p available (Command.Plain Plain.Preset) = tt
+leaves_command p available (Command.Plain Plain.Fetch) = tt
+leaves_command p available (Command.Query query) = tt
+leaves_command p available (Command.LayerQuery query layer) = tt
+leaves_command p available (Command.GroupQuery query group) = tt
+leaves_command p available (Command.ReadOut read) = tt
+leaves_command p available (Command.Signal layer) = refl
+leaves_command p available (Command.Continuous true) = tt
+leaves_command p available (Command.Continuous false) = record { seats = refl; scan = λ n i. i }
+leaves_command p available (Command.Channels Channels.Close chans) = tt
+leaves_command p available (Command.Channels Channels.CloseQuery chans) = tt
+leaves_command p available (Command.Channels Channels.Open chans) = tt
+leaves_command p available (Command.Channels Channels.OpenQuery chans) = tt
+leaves_command p available (Command.Set setting) = tt
+leaves_command p available (Command.SetStatus setting) = tt
+leaves_command p available (Command.Macros ask) = tt
+leaves_command p available (Command.Macro ask) = tt
 
 leaves_close : {ends : Bool} (p : Panel) (chans : List Channel) (f : Bool) (a : SessionAnswer) (q : Panel) → StepClose p chans f a q → Leaves ends p q
 leaves_close p chans f (Done None) q h = leaves_by p q (ap (λ (x : Panel). x.sessions) h.3) (ap is_running h.3)
@@ -169,7 +132,6 @@ leaves_readings [] p f a q h = leaves_refused p DataCorruptOrStale f a q h
 leaves_readings (r ∷ rs) p f a q h = leaves_text p (join_with_byte 44 (map reading_text (r ∷ rs))) p.status f a q h
 
 leaves_alone : {ends : Bool} (d : Effect) (p : Panel) (f : Bool) (a : SessionAnswer) (q : Panel) → LeavesEffect ends p d → StepAlone d p f a q → Leaves ends p q
-leaves_alone (TellsNumber number) p f a q n h = leaves_text p (decimal (number p)) p.status f a q h
 leaves_alone (TellsText text) p f a q n h = leaves_text p (text p) p.status f a q h
 leaves_alone TellsReadings p f a q n h = leaves_readings p.cage.readings p f a q h
 leaves_alone (ReadsOut text after) p f a q n h = leaves_text p (text p.status) (after p.status) f a q h

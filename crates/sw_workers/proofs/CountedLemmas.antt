@@ -1,7 +1,7 @@
 -- A step's number of events: one more for an event that is numbered.
 use Rattle.std.proofs.Common.{◌≡◌, ℕ, ◌+◌, ◌≤◌, ◌==◌, ◌&&◌, not, Bool, true, false, true≢false, List, [], ◌∷◌, Option, None, Some}
 use Rattle.std.proofs.Common.{refl, ap, sym, subst, ◌∙◌, map, arith, eq-eqb}
-use Rattle.std.specs.Prelude.{decimal, MatchBool}
+use Rattle.std.specs.Prelude.{MatchBool}
 use Rattle.std.specs.List.{join_with_byte}
 use Rattle.std.proofs.lemmas.Bool.Decides.{nat_tests}
 use Rattle.sw_base.specs.Reading.{reading_text}
@@ -10,8 +10,9 @@ use Rattle.sw_base.specs.declared.reading.Reading.{Reading}
 use Rattle.sw_base.specs.declared.error.ScpiError.{ScpiError}
 use Rattle.sw_base.specs.declared.error.ScpiError.TheVariants.{UndefinedHeader, DataCorruptOrStale, OutOfMemory, HardwareMissing}
 use Rattle.sw_base.specs.declared.error.ScpiError.TheVariants.{SettingsConflict, HardwareError}
-use Rattle.sw_base.specs.declared.terms.LayerName.TheVariants as layer_name
 use Rattle.sw_lex.specs.declared.command.Command.{Command}
+use Rattle.sw_lex.specs.declared.command.Plain.{Plain}
+use Rattle.sw_lex.specs.declared.command.Channels.{Channels}
 use Rattle.sw_trigger.specs.Settings.{SettingsSeen}
 use Rattle.sw_status.specs.StatusModel.{StatusSeen}
 use Rattle.sw_verify.specs.declared.snapshot.Snapshot.{Snapshot}
@@ -26,7 +27,7 @@ use Rattle.sw_core.specs.declared.ask.SessionAnswer.{SessionAnswer}
 use Rattle.sw_core.specs.declared.ask.SessionAnswer.TheVariants as answers
 use Rattle.sw_core.specs.declared.ask.SessionAnswer.TheVariants.{Joined, Full, Stranger, Broken, Done, Refused, Hold, Worn}
 use Rattle.sw_core.specs.Panel.{Panel, is_running}
-use Rattle.sw_core.specs.Action.{Effect, TellsNumber, TellsText, TellsReadings, ReadsOut, SetsStatus, SetsUp, ClosesListed, OpensListed, TellsRelays, Changes}
+use Rattle.sw_core.specs.Action.{Effect, TellsText, TellsReadings, ReadsOut, SetsStatus, SetsUp, ClosesListed, OpensListed, TellsRelays, Changes}
 use Rattle.sw_core.specs.Action.{Resets, reset, Triggers, RefusesWith, IsOfMacros, Initiates, Action, AtOnce, BetweenScans, AfterScan, action_of}
 use Rattle.sw_core.specs.Event.{concluded, session_concluded, last_number, next_number}
 use Rattle.sw_core.specs.Seats.{asker_of}
@@ -57,70 +58,32 @@ IsSameAction p (BetweenScans effect) = IsSameEffect p effect
 IsSameAction p (AfterScan effect) = IsSameEffect p effect
 
 same_command : (p : Panel) (available : Bool) (command : Command) → IsSameAction p (action_of available command)
-same_command p available Command.Identify = tt
-same_command p available Command.Reset = tt
-same_command p available Command.ClearStatus = refl
-same_command p available (Command.EventEnable bits) = tt
-same_command p available Command.EventEnableQuery = tt
-same_command p available Command.EventQuery = tt
-same_command p available (Command.ServiceEnable bits) = tt
-same_command p available Command.ServiceEnableQuery = tt
-same_command p available Command.StatusByteQuery = tt
-same_command p available Command.OperationComplete = refl
-same_command p available Command.OperationCompleteQuery = tt
-same_command p available Command.Wait = refl
-same_command p available Command.SelfTestQuery = tt
-same_command p available Command.Trigger = tt
-same_command p available (Command.DefineMacro label body) = tt
-same_command p available (Command.MacroQuery label) = tt
-same_command p available Command.MacroLabelsQuery = tt
-same_command p available (Command.RemoveMacro label) = tt
-same_command p available Command.PurgeMacros = tt
-same_command p available (Command.EnableMacros on) = tt
-same_command p available Command.EnableMacrosQuery = tt
-same_command p available Command.Abort = refl
-same_command p available Command.Initiate = tt
-same_command p available (Command.InitiateContinuous true) = tt
-same_command p available (Command.InitiateContinuous false) = refl
-same_command p available Command.InitiateContinuousQuery = tt
-same_command p available (Command.Count layer n) = tt
-same_command p available (Command.CountQuery layer) = tt
-same_command p available (Command.SetSource layer source) = refl
-same_command p available (Command.SourceQuery layer) = tt
-same_command p available (Command.Delay layer micros) = tt
-same_command p available (Command.DelayQuery layer) = tt
-same_command p available (Command.Timer layer micros) = tt
-same_command p available (Command.TimerQuery layer) = tt
-same_command p available (Command.Signal layer_name.Trigger) = tt
-same_command p available (Command.Signal (layer_name.Arm arm)) = tt
-same_command p available (Command.Close chans) = tt
-same_command p available (Command.CloseQuery chans) = tt
-same_command p available Command.CloseState = tt
-same_command p available (Command.Open chans) = tt
-same_command p available (Command.OpenQuery chans) = tt
-same_command p available Command.OpenAll = refl
-same_command p available (Command.Scan chans) = tt
-same_command p available Command.ScanQuery = tt
-same_command p available (Command.ScanMeter slot) = tt
-same_command p available Command.ScanMeterQuery = tt
-same_command p available (Command.GroupEventQuery group) = tt
-same_command p available (Command.GroupConditionQuery group) = tt
-same_command p available (Command.GroupEnable group bits) = tt
-same_command p available (Command.GroupEnableQuery group) = tt
-same_command p available (Command.PositiveTransition group bits) = tt
-same_command p available (Command.PositiveTransitionQuery group) = tt
-same_command p available (Command.NegativeTransition group bits) = tt
-same_command p available (Command.NegativeTransitionQuery group) = tt
-same_command p available Command.Preset = tt
-same_command p available Command.NextErrorQuery = tt
-same_command p available Command.AllErrorsQuery = tt
-same_command p available Command.ErrorCountQuery = tt
-same_command p available Command.VersionQuery = tt
-same_command p available (Command.Points n) = tt
-same_command p available Command.PointsQuery = tt
-same_command p available Command.ActualPointsQuery = tt
-same_command p available Command.BoundQuery = tt
-same_command p available Command.Fetch = tt
+same_command p available (Command.Plain Plain.Reset) = tt
+same_command p available (Command.Plain Plain.ClearStatus) = refl
+same_command p available (Command.Plain Plain.OperationComplete) = refl
+same_command p available (Command.Plain Plain.OperationCompleteQuery) = tt
+same_command p available (Command.Plain Plain.Wait) = refl
+same_command p available (Command.Plain Plain.Trigger) = tt
+same_command p available (Command.Plain Plain.Abort) = refl
+same_command p available (Command.Plain Plain.Initiate) = tt
+same_command p available (Command.Plain Plain.OpenAll) = refl
+same_command p available (Command.Plain Plain.Preset) = tt
+same_command p available (Command.Plain Plain.Fetch) = tt
+same_command p available (Command.Query query) = tt
+same_command p available (Command.LayerQuery query layer) = tt
+same_command p available (Command.GroupQuery query group) = tt
+same_command p available (Command.ReadOut read) = tt
+same_command p available (Command.Signal layer) = tt
+same_command p available (Command.Continuous true) = tt
+same_command p available (Command.Continuous false) = refl
+same_command p available (Command.Channels Channels.Close chans) = tt
+same_command p available (Command.Channels Channels.CloseQuery chans) = tt
+same_command p available (Command.Channels Channels.Open chans) = tt
+same_command p available (Command.Channels Channels.OpenQuery chans) = tt
+same_command p available (Command.Set setting) = tt
+same_command p available (Command.SetStatus setting) = tt
+same_command p available (Command.Macros ask) = tt
+same_command p available (Command.Macro ask) = tt
 
 same_close : (p : Panel) (chans : List Channel) (f : Bool) (a : SessionAnswer) (q : Panel) → StepClose p chans f a q → IsSame p q
 same_close p chans f (Done None) q h = ap (λ (x : Panel). x.events) h.3
@@ -165,7 +128,6 @@ same_readings [] p f a q h = same_refused p DataCorruptOrStale f a q h
 same_readings (r ∷ rs) p f a q h = same_text p (join_with_byte 44 (map reading_text (r ∷ rs))) p.status f a q h
 
 same_alone : (d : Effect) (p : Panel) (f : Bool) (a : SessionAnswer) (q : Panel) → IsSameEffect p d → StepAlone d p f a q → IsSame p q
-same_alone (TellsNumber number) p f a q n h = same_text p (decimal (number p)) p.status f a q h
 same_alone (TellsText text) p f a q n h = same_text p (text p) p.status f a q h
 same_alone TellsReadings p f a q n h = same_readings p.cage.readings p f a q h
 same_alone (ReadsOut text after) p f a q n h = same_text p (text p.status) (after p.status) f a q h

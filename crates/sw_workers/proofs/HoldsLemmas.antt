@@ -1,11 +1,12 @@
 -- What is held is held on while seats, locks, clears and the scan that runs stay; and when *OPC? is.
 use Rattle.std.proofs.Common.{◌≡◌, ◌==◌, ◌&&◌, ◌||◌, not, ℕ, Bool, true, false, true≢false, List, [], ◌∷◌, Option, None, Some}
 use Rattle.std.proofs.Common.{refl, ap, sym, subst, ◌∙◌, map, ◌↔◌, if◌then◌else◌}
-use Rattle.std.specs.Prelude.{MatchBool}
+use Rattle.std.specs.Prelude.{decimal, MatchBool}
 use Rattle.sw_base.specs.declared.reading.Reading.{Reading}
 use Rattle.sw_base.specs.declared.error.ScpiError.{ScpiError}
 use Rattle.sw_base.specs.declared.error.ScpiError.TheVariants.{TriggerIgnored}
-use Rattle.sw_lex.specs.declared.command.Command.TheVariants.{OperationCompleteQuery}
+use Rattle.sw_lex.specs.declared.command.Command.TheVariants.{Plain}
+use Rattle.sw_lex.specs.declared.command.Plain.TheVariants.{OperationCompleteQuery}
 use Rattle.sw_hislip.specs.LockTable.{LockTable, admits, is_wrong, grants}
 use Rattle.sw_cage.specs.TakenSeen.{TakenSeen, SaysIgnored, SaysWaits, SaysPause, SaysJob, SaysEnded, SaysFault}
 use Rattle.sw_core.specs.declared.ask.Sid.{Sid}
@@ -13,7 +14,7 @@ use Rattle.sw_core.specs.declared.ask.SessionAsk.{SessionAsk}
 use Rattle.sw_core.specs.declared.ask.SessionAsk.TheVariants as Ask
 use Rattle.sw_core.specs.declared.ask.SessionAnswer.TheVariants.{Hold}
 use Rattle.sw_core.specs.Panel.{Panel, is_running}
-use Rattle.sw_core.specs.Action.{Effect, TellsNumber, TellsText, TellsReadings, ReadsOut, SetsStatus, SetsUp, ClosesListed, OpensListed, TellsRelays, Changes}
+use Rattle.sw_core.specs.Action.{Effect, TellsText, TellsReadings, ReadsOut, SetsStatus, SetsUp, ClosesListed, OpensListed, TellsRelays, Changes}
 use Rattle.sw_core.specs.Action.{Resets, Triggers, RefusesWith, IsOfMacros, Initiates, Action, AtOnce, BetweenScans, AfterScan, action_of}
 use Rattle.sw_core.specs.Event.{last_number}
 use Rattle.sw_core.specs.Seats.{asker_of, is_dropped, is_shut_out}
@@ -40,7 +41,6 @@ readings_held [] p w q h = h
 readings_held (r ∷ rs) p w q h = h
 
 alone_held : (e : Effect) (p : Panel) (w : SessionAsk) (q : Panel) → StepAlone e p false (Hold w) q → ⊥
-alone_held (TellsNumber number) p w q h = h
 alone_held (TellsText text) p w q h = h
 alone_held TellsReadings p w q h = readings_held p.cage.readings p w q h
 alone_held (ReadsOut text after) p w q h = h
@@ -183,7 +183,7 @@ held_again p q k n w h =
 -- ---- *OPC?
 
 abbrev pub opc : Sid → SessionAsk
-opc sid = Ask.Unit sid OperationCompleteQuery false
+opc sid = Ask.Unit sid (Plain OperationCompleteQuery) false
 
 -- a number is left, the session is joined and isn't cleared, and others' locks keep it out or a scan runs
 pub record Awaits (p : Panel) (sid : Sid) : Type 0 where
@@ -193,7 +193,7 @@ pub record Awaits (p : Panel) (sid : Sid) : Type 0 where
   pub waits : (shuts_out p sid (opc sid) || is_running p) ≡ true
 
 opc_run : (b : Bool) (p q : Panel) (sid : Sid) → MatchBool b (StepHeld p (opc sid) false (Hold (opc sid)) None q)
-    (StepEffect (TellsNumber (λ x. 1)) p false (Hold (opc sid)) None q) → b ≡ true
+    (StepEffect (TellsText (λ x. decimal 1)) p false (Hold (opc sid)) None q) → b ≡ true
 opc_run true p q sid h = refl
 opc_run false p q sid h = absurd h.0
 
@@ -224,7 +224,7 @@ awaits_from p sid n j d s r =
       subst (λ (b : Bool). StepAdmitted (by_tests b (shuts_out p sid (opc sid))) p (opc sid) false (Hold (opc sid)) None p) (sym d)
           (subst (λ (b : Bool). StepAdmitted (by_tests false b) p (opc sid) false (Hold (opc sid)) None p) (sym s)
           (subst (λ (b : Bool). MatchBool b (StepHeld p (opc sid) false (Hold (opc sid)) None p)
-          (StepEffect (TellsNumber (λ x. 1)) p false (Hold (opc sid)) None p)) (sym r) (refl, refl, refl))),
+          (StepEffect (TellsText (λ x. decimal 1)) p false (Hold (opc sid)) None p)) (sym r) (refl, refl, refl))),
     )
 
 -- who knows of *OPC? whether it waits knows whether it is held

@@ -5,7 +5,7 @@ use Rattle.sw_base.specs.Layout.{Channel}
 use Rattle.sw_base.specs.declared.reading.Reading.{Reading}
 use Rattle.sw_base.specs.declared.error.ScpiError.{ScpiError}
 use Rattle.sw_base.specs.declared.error.ScpiError.TheVariants.{UndefinedHeader, DataCorruptOrStale, SettingsConflict, TriggerIgnored}
-use Rattle.std.specs.Prelude.{decimal, map}
+use Rattle.std.specs.Prelude.{map}
 use Rattle.std.specs.List.{join_with_byte}
 use Rattle.sw_base.specs.Reading.{reading_text}
 use Rattle.sw_trigger.specs.Settings.{SettingsSeen}
@@ -22,7 +22,7 @@ use Rattle.sw_core.specs.declared.ask.SessionAnswer.{SessionAnswer}
 use Rattle.sw_core.specs.declared.ask.SessionAnswer.TheVariants as answers
 use Rattle.sw_core.specs.declared.ask.SessionAnswer.TheVariants.{Joined, Full, Stranger, Broken, Done, Refused, Hold, Worn}
 use Rattle.sw_core.specs.Panel.{Panel, is_running}
-use Rattle.sw_core.specs.Action.{Effect, TellsNumber, TellsText, TellsReadings, ReadsOut, SetsStatus, SetsUp, ClosesListed, OpensListed, TellsRelays, Changes}
+use Rattle.sw_core.specs.Action.{Effect, TellsText, TellsReadings, ReadsOut, SetsStatus, SetsUp, ClosesListed, OpensListed, TellsRelays, Changes}
 use Rattle.sw_core.specs.Action.{Resets, reset, Triggers, RefusesWith, IsOfMacros, Initiates, Action, AtOnce, BetweenScans, AfterScan, action_of}
 use Rattle.sw_core.specs.Event.{concluded, session_concluded, last_number}
 use Rattle.sw_core.specs.Seats.{asker_of, StepSeat, StepLock}
@@ -96,7 +96,6 @@ stays_readings [] p f a q h = stays_refused p DataCorruptOrStale f a q h
 stays_readings (r ∷ rs) p f a q h = stays_text p (join_with_byte 44 (map reading_text (r ∷ rs))) p.status f a q h
 
 stays_alone : (d : Effect) (p : Panel) (f : Bool) (a : SessionAnswer) (q : Panel) → StepAlone d p f a q → Stays (is_session_event a) p q
-stays_alone (TellsNumber number) p f a q h = stays_text p (decimal (number p)) p.status f a q h
 stays_alone (TellsText text) p f a q h = stays_text p (text p) p.status f a q h
 stays_alone TellsReadings p f a q h = stays_readings p.cage.readings p f a q h
 stays_alone (ReadsOut text after) p f a q h = stays_text p (text p.status) (after p.status) f a q h

@@ -1,4 +1,4 @@
-//! After what those who wait may go on: a row for each ask and each command.
+//! After what those who wait may go on: a row for each ask and each family of commands.
 
 ghost use Rattle.std.specs.Prelude.{◌≡◌};
 ghost use Rattle.sw_core.specs.Seen.{ask_seen, answer_seen};
@@ -8,7 +8,7 @@ ghost use Rattle.sw_workers.specs.Waking.{changes_seats, may_be_over, wakes, tur
 use crate::telling::is_event;
 use sw_card::{Meter, Relay};
 use sw_core::{Answer, Ask, SessionAnswer, SessionAsk, Sid};
-use sw_lex::Command;
+use sw_lex::{Command, Plain};
 
 /// What an ask may end of what holds those who wait.
 #[derive(Clone, Copy, Debug, PartialEq, Eq)]
@@ -28,33 +28,15 @@ fn may_end(command: &Command) -> bool
     ensures { result ≡ may_end command.now }
 {
     match command {
-        Command::Abort | Command::Reset => true,
-        Command::Trigger | Command::Signal(_) => true,
-        Command::Initiate => false,
-        Command::InitiateContinuous(_) | Command::InitiateContinuousQuery => false,
-        Command::OperationComplete | Command::OperationCompleteQuery | Command::Wait => false,
-        Command::Close(_) | Command::CloseQuery(_) | Command::CloseState => false,
-        Command::Open(_) | Command::OpenQuery(_) | Command::OpenAll => false,
-        Command::Scan(_) | Command::ScanQuery => false,
-        Command::ScanMeter(_) | Command::ScanMeterQuery => false,
-        Command::Count(_, _) | Command::CountQuery(_) => false,
-        Command::SetSource(_, _) | Command::SourceQuery(_) => false,
-        Command::Delay(_, _) | Command::DelayQuery(_) => false,
-        Command::Timer(_, _) | Command::TimerQuery(_) => false,
-        Command::Points(_) | Command::PointsQuery | Command::ActualPointsQuery => false,
-        Command::BoundQuery | Command::Fetch => false,
-        Command::Identify | Command::SelfTestQuery | Command::VersionQuery => false,
-        Command::ClearStatus | Command::Preset | Command::StatusByteQuery => false,
-        Command::EventEnable(_) | Command::EventEnableQuery | Command::EventQuery => false,
-        Command::ServiceEnable(_) | Command::ServiceEnableQuery => false,
-        Command::GroupEventQuery(_) | Command::GroupConditionQuery(_) => false,
-        Command::GroupEnable(_, _) | Command::GroupEnableQuery(_) => false,
-        Command::PositiveTransition(_, _) | Command::PositiveTransitionQuery(_) => false,
-        Command::NegativeTransition(_, _) | Command::NegativeTransitionQuery(_) => false,
-        Command::NextErrorQuery | Command::AllErrorsQuery | Command::ErrorCountQuery => false,
-        Command::DefineMacro(_, _) | Command::MacroQuery(_) => false,
-        Command::MacroLabelsQuery | Command::RemoveMacro(_) | Command::PurgeMacros => false,
-        Command::EnableMacros(_) | Command::EnableMacrosQuery => false,
+        Command::Plain(Plain::Abort | Plain::Reset | Plain::Trigger) => true,
+        Command::Plain(Plain::ClearStatus | Plain::Initiate | Plain::Wait) => false,
+        Command::Plain(Plain::OperationComplete | Plain::OperationCompleteQuery) => false,
+        Command::Plain(Plain::OpenAll | Plain::Preset | Plain::Fetch) => false,
+        Command::Signal(_) => true,
+        Command::Query(_) | Command::LayerQuery(_, _) | Command::GroupQuery(_, _) => false,
+        Command::ReadOut(_) | Command::SetStatus(_) => false,
+        Command::Continuous(_) | Command::Channels(_, _) | Command::Set(_) => false,
+        Command::Macros(_) | Command::Macro(_) => false,
     }
 }
 

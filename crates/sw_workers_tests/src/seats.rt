@@ -16,7 +16,7 @@ use sw_base::ScpiError;
 use sw_card::{Meter, Relay};
 use sw_core::{Answer, Ask, SessionAnswer, SessionAsk, Sid};
 use sw_kinds::{SimDriver, SimSource};
-use sw_lex::Command;
+use sw_lex::{Command, StatusSetting};
 use sw_workers::{DeskPart, Held, Mainframe, Opening, Recorded, StatusBoard, StatusSeat};
 
 /// A mainframe behind its lock, and the desk of its second session.
@@ -70,7 +70,8 @@ impl<H: Mainframe, R: Relay, M: Meter> Scene<H, R, M> {
 
     /// The session wants to be served at an error.
     fn enables(&mut self) {
-        let enables = SessionAsk::Unit(self.sid, Command::ServiceEnable(4), false);
+        let enable = Command::SetStatus(StatusSetting::ServiceEnable(4));
+        let enables = SessionAsk::Unit(self.sid, enable, false);
         drop(self.held.ask(&mut self.part, Ask::Session(enables)));
     }
 

@@ -11,7 +11,7 @@ use std::thread::Threads;
 use std::time::{Clock, Duration, Instant};
 use sw_core::{SessionAnswer, SessionAsk, Sid};
 use sw_kinds::SimSource;
-use sw_lex::Command;
+use sw_lex::{Command, Plain};
 use sw_session::{Desk, Wake};
 use sw_workers::Open;
 
@@ -100,7 +100,8 @@ fn two_sessions_that_wait_go_on_together(rt: HostRuntime) {
 
 /// What waits for the end of a scan, where it is held.
 fn held<D: Desk>(desk: &mut D, sid: Sid) -> Option<SessionAsk> {
-    match desk.ask(SessionAsk::Unit(sid, Command::OperationCompleteQuery, false)) {
+    let query = Command::Plain(Plain::OperationCompleteQuery);
+    match desk.ask(SessionAsk::Unit(sid, query, false)) {
         SessionAnswer::Hold(ask) => Some(ask),
         other => {
             drop(other);

@@ -1,23 +1,28 @@
-use Rattle.std.proofs.Common.{None, Ok, refl, sym, ap, subst}
+use Rattle.std.proofs.Common.{sym, ap, subst}
 use Rattle.sw_lex.specs.declared.command.Command.{Command}
 use Rattle.sw_core.specs.Action.{action_of}
 use Rattle.sw_session.specs.Macros.{ActsOnMacros}
 use Rattle.sw_session.specs.Talk.{effect_of}
-use Rattle.sw_session.proofs.BeginsLemmas.{begins-done, begins-scan}
+use Rattle.sw_session.proofs.BeginsLemmas.{begins-reported}
 use Rattle.sw_session.proofs.asking.carry_own.Goals as goal
 
-pub returns-in-PurgeMacros : goal.returns-in-PurgeMacros
-returns-in-PurgeMacros g c =
-    begins-done g.D.Desk.passes c.args.sid _ c.args.command c.args.answered None c.args.macros.now c.purge.new.self
-    (ap (λ (x : Command). effect_of (action_of c.args.answered x)) c.in-PurgeMacros.is)
-    (subst (λ (x : Command). ActsOnMacros x c.args.macros.now (Ok None) c.purge.new.self) (sym c.in-PurgeMacros.is) (refl, c.purge.ensures))
+pub returns-in-Macros : goal.returns-in-Macros
+returns-in-Macros g c =
+    begins-reported g.D.Desk.passes c.args.sid _ _ c.args.command c.args.answered c.act_on_all-outcome.result c.report.result c.args.macros.now
+    c.act_on_all-outcome.new.macros
+    (ap (λ (x : Command). effect_of (action_of c.args.answered x)) c.in-Macros.is)
+    (subst (λ (x : Command). ActsOnMacros x c.args.macros.now c.act_on_all-outcome.result c.act_on_all-outcome.new.macros) (sym c.in-Macros.is)
+    c.act_on_all-outcome.ensures)
+    c.report.ensures
 
-pub returns-in-EnableMacros : goal.returns-in-EnableMacros
-returns-in-EnableMacros g c =
-    begins-done g.D.Desk.passes c.args.sid _ c.args.command c.args.answered None c.args.macros.now c.enable.new.self
-    (ap (λ (x : Command). effect_of (action_of c.args.answered x)) c.in-EnableMacros.is)
-    (subst (λ (x : Command). ActsOnMacros x c.args.macros.now (Ok None) c.enable.new.self) (sym c.in-EnableMacros.is) (refl, c.enable.ensures))
+pub returns-in-Macro : goal.returns-in-Macro
+returns-in-Macro g c =
+    begins-reported g.D.Desk.passes c.args.sid _ _ c.args.command c.args.answered c.act_on_one-outcome.result c.report-in-Macro.result c.args.macros.now
+    c.act_on_one-outcome.new.macros
+    (ap (λ (x : Command). effect_of (action_of c.args.answered x)) c.in-Macro.is)
+    (subst (λ (x : Command). ActsOnMacros x c.args.macros.now c.act_on_one-outcome.result c.act_on_one-outcome.new.macros) (sym c.in-Macro.is)
+    c.act_on_one-outcome.ensures)
+    c.report-in-Macro.ensures
 
-pub returns-in-Initiate : goal.returns-in-Initiate
-returns-in-Initiate g c =
-    begins-scan g.D.Desk.passes c.args.sid _ _ c.args.command c.args.answered c.initiate.result c.args.macros.now c.in-Initiate.is c.initiate.ensures
+pub returns-in-Plain : goal.returns-in-Plain
+returns-in-Plain g c = rw c.in-Plain.is c.carry_plain.ensures

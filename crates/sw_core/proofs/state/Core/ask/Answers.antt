@@ -4,7 +4,7 @@ use Rattle.sw_core.specs.Event.{last_number}
 use Rattle.sw_core.specs.Seen.{AskSession, SaysSession}
 use Rattle.sw_core.specs.Step.{acts_unnumbered}
 use Rattle.sw_core.proofs.NumberedLemmas.{worn_step}
-use Rattle.sw_core.proofs.state.Core.ask_any.Goals as goal
+use Rattle.sw_core.proofs.state.Core.ask.Goals as goal
 
 pub returns-then-not-session_acts_unnumbered : goal.returns-then-not-session_acts_unnumbered
 returns-then-not-session_acts_unnumbered g c =

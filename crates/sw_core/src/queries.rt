@@ -1,0 +1,117 @@
+//! Queries that change nothing.
+
+ghost use Rattle.std.specs.Prelude.{◌≡◌, Bool, decimal};
+ghost use Rattle.sw_channel.specs.Printing.{printed_positions};
+ghost use Rattle.sw_trigger.specs.Settings.{layer_of};
+ghost use Rattle.sw_status.specs.StatusModel.{registers_of};
+ghost use Rattle.sw_core.specs.Action.{query_text, layer_text, group_text};
+ghost use Rattle.sw_core.specs.Step.{StepText, StepReadings};
+
+use crate::ask::SessionAnswer;
+use crate::state::Core;
+use crate::text::{all_readings, identity, seconds, source_word, told, version, whole};
+use std::alloc::Global;
+use sw_base::{LayerName, ScpiError, Sequence, StatusGroup};
+use sw_card::{Meter, Relay};
+use sw_channel::print_positions;
+use sw_lex::{GroupQuery, LayerQuery, PlainQuery};
+
+impl<R: Relay, M: Meter> Core<R, M> {
+    /// Answers a query; `available` says whether its message has answered before, so that a message is available.
+    #[inline(always)]
+    pub(crate) fn tell(&self, alloc: Global, query: PlainQuery, available: bool) -> SessionAnswer
+        ensures { StepText self.now (query_text available query self.now) self.now.status Bool.false result self.now }
+    {
+        match query {
+            PlainQuery::Identify => told(identity(alloc)),
+            PlainQuery::EventEnable => self.number(alloc, u64::from(self.status.ese())),
+            PlainQuery::ServiceEnable => self.number(alloc, u64::from(self.status.sre())),
+            PlainQuery::StatusByte => self.number(alloc, u64::from(self.status.byte(available))),
+            PlainQuery::SelfTest => self.number(alloc, 0),
+            PlainQuery::InitiateContinuous => self.number(alloc, 0),
+            PlainQuery::CloseState => self.close_state(alloc),
+            PlainQuery::Scan => self.scan_query(alloc),
+            PlainQuery::ScanMeter => self.number(alloc, u64::from(self.settings.meter())),
+            PlainQuery::ErrorCount => self.number(alloc, self.status.count() as u64),
+            PlainQuery::Version => told(version(alloc)),
+            PlainQuery::Points => self.number(alloc, u64::from(self.settings.points())),
+            PlainQuery::ActualPoints => self.number(alloc, self.cage.readings().len() as u64),
+            PlainQuery::Bound => self.number(alloc, self.settings.bound()),
+        }
+    }
+
+    /// Answers a query of a layer.
+    #[inline(always)]
+    pub(crate) fn tell_layer(
+        &self,
+        alloc: Global,
+        query: LayerQuery,
+        layer: LayerName,
+    ) -> SessionAnswer
+        ensures { StepText self.now (layer_text query (layer_of self.now.settings layer)) self.now.status Bool.false
+            result self.now }
+    {
+        let layer = self.settings.layer(layer);
+        match query {
+            LayerQuery::Count => self.number(alloc, u64::from(layer.count)),
+            LayerQuery::Source => told(source_word(alloc, layer.source)),
+            LayerQuery::Delay => told(seconds(alloc, layer.delay_us)),
+            LayerQuery::Timer => told(seconds(alloc, layer.timer_us)),
+        }
+    }
+
+    /// Answers a query of a status group.
+    #[inline(always)]
+    pub(crate) fn tell_group(
+        &self,
+        alloc: Global,
+        query: GroupQuery,
+        group: StatusGroup,
+    ) -> SessionAnswer
+        ensures { StepText self.now (group_text query (registers_of self.now.status group)) self.now.status Bool.false
+            result self.now }
+    {
+        let group = self.status.group(group);
+        let bits = match query {
+            GroupQuery::Condition => group.condition(),
+            GroupQuery::Enable => group.enable(),
+            GroupQuery::PositiveTransition => group.ptr(),
+            GroupQuery::NegativeTransition => group.ntr(),
+        };
+        self.number(alloc, u64::from(bits))
+    }
+
+    /// A number as an answer.
+    pub(crate) fn number(&self, alloc: Global, n: u64) -> SessionAnswer
+        ensures { StepText self.now (decimal n) self.now.status Bool.false result self.now }
+    {
+        told(whole(alloc, n))
+    }
+
+    /// The channels of the scan.
+    #[inline(never)]
+    fn scan_query(&self, alloc: Global) -> SessionAnswer
+        ensures { StepText self.now (printed_positions self.now.settings.list) self.now.status Bool.false result
+            self.now }
+    {
+        match print_positions(alloc, self.settings.list()) {
+            Ok(text) => SessionAnswer::Done(Some(Sequence::new(text))),
+            Err(error) => SessionAnswer::Refused(error),
+        }
+    }
+
+    /// The readings of the last scan.
+    #[inline(never)]
+    pub(crate) fn fetch(&self, alloc: Global) -> SessionAnswer
+        ensures { StepReadings self.now.cage.readings self.now Bool.false result self.now }
+    {
+        let readings = self.cage.readings();
+        if readings.is_empty() {
+            return SessionAnswer::Refused(ScpiError::DataCorruptOrStale);
+        }
+        match all_readings(alloc, readings) {
+            Ok(text) => SessionAnswer::Done(Some(text)),
+            Err(_) => SessionAnswer::Refused(ScpiError::OutOfMemory),
+        }
+    }
+}

@@ -1,0 +1,6 @@
+use Rattle.sw_session.proofs.BeginsLemmas.{begins-scan}
+use Rattle.sw_session.proofs.asking.carry_plain.Goals as goal
+
+pub returns-in-Initiate : goal.returns-in-Initiate
+returns-in-Initiate g c =
+    rw c.in-Initiate.is (begins-scan g.D.Desk.passes c.args.sid _ _ c.args.answered c.initiate.result c.args.macros.now c.initiate.ensures)
