@@ -184,11 +184,14 @@ processes-ok u a m b act step after led main side hands k =
       refl,
       λ g. refl,
       record {
-        speaks = subst (λ e. Speaks u.protocol a.engine (x ∷ []) after e) (sym hands.engine) (speaks-one u.protocol a.engine m.engine x after led.admits refl k);
+        speaks = subst (λ e. Speaks u.protocol a.engine (x ∷ []) after e) (sym hands.engine)
+            (speaks-one u.protocol a.engine m.engine x after led.admits refl k);
         asks = subst (λ (l : List Entry). Leads u.passes a.desk l b.desk) (sym (append-nil (led.asked ++ noted)))
             (onward u.passes a.desk m.desk b.desk led.asked noted led.leads hands.notes);
-        main = one-out (wire_on u.own) a.main b.main x (subst (λ (o : Option (List ℕ)). Appends o b.main (flat_map (wire_on u.own) step.out)) main hands.main);
-        side = one-out (wire_off u.own) a.side b.side x (subst (λ (o : Option (List ℕ)). Appends o b.side (flat_map (wire_off u.own) step.out)) side hands.side);
+        main = one-out (wire_on u.own) a.main b.main x
+            (subst (λ (o : Option (List ℕ)). Appends o b.main (flat_map (wire_on u.own) step.out)) main hands.main);
+        side = one-out (wire_off u.own) a.side b.side x
+            (subst (λ (o : Option (List ℕ)). Appends o b.side (flat_map (wire_off u.own) step.out)) side hands.side);
       },
     )
 

@@ -12,7 +12,6 @@ use Rattle.sw_hislip.specs.Stream.{Call, Decodes, stream_of, told, Follows, IsSt
 use Rattle.sw_core.specs.declared.ask.Sid.{Sid}
 use Rattle.sw_core.specs.declared.ask.SessionAsk.TheVariants as Ask
 use Rattle.sw_core.specs.declared.ask.SessionAnswer.{SessionAnswer}
-use Rattle.sw_session.specs.declared.engine.step.Channel.{Channel}
 use Rattle.sw_session.specs.declared.engine.step.Sent.{Sent}
 use Rattle.sw_session.specs.Said.{StepSeen, is_fatal}
 use Rattle.sw_session.specs.declared.servers.act.Act.{Act}

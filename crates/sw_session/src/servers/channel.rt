@@ -100,7 +100,8 @@ pub fn serve_async<R: Source, W: Sink, S: Sink, D: Desk>(
 impl<W: Sink, S: Sink, D: Desk> ChannelServer<'_, '_, '_, '_, W, S, D> {
     /// Leaves the session that was joined.
     fn leave(&mut self)
-        ensures leaves { LeavesSession D.passes (session_of self.old.engine.now.state) self.old.desk.now self.new.desk.now }
+        ensures leaves { LeavesSession D.passes (session_of self.old.engine.now.state) self.old.desk.now
+            self.new.desk.now }
         ensures engine { self.new.engine ≡ self.old.engine }
         ensures writer { self.new.writer ≡ self.old.writer }
         ensures side { self.new.side ≡ self.old.side }

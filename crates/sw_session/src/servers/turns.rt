@@ -84,8 +84,8 @@ fn next_input(alloc: Global, decoder: &mut Decoder) -> Result<Option<Act>, Serve
 impl<W: Sink, S: Sink, D: Desk> ChannelServer<'_, '_, '_, '_, W, S, D> {
     /// Goes through all whole messages, or those up to one that ends the channel.
     fn process_all(&mut self) -> Result<AfterStep, ServeFault>
-        ensures processed { HearsAll (voice_of D.passes self.old) self.old.decoder.now.pending self.new.decoder.now.pending
-            (stands W.Sink S.Sink self.old) (stands W.Sink S.Sink self.new) result }
+        ensures processed { HearsAll (voice_of D.passes self.old) self.old.decoder.now.pending
+            self.new.decoder.now.pending (stands W.Sink S.Sink self.old) (stands W.Sink S.Sink self.new) result }
         ensures write { result ≡ Err ServeFault.Write → WriteFails W.Sink S.Sink self.new }
         ensures stays { StaysServer self.old self.new }
     {

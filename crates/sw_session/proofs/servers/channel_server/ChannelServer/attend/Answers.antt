@@ -2,7 +2,7 @@ use Rattle.std.proofs.Common.{sym, ◌∙◌}
 use Rattle.sw_session.specs.declared.servers.act.Act.TheVariants.{Notices, Takes}
 use Rattle.sw_session.specs.Server.{voice_of}
 use Rattle.sw_session.proofs.ServeWaysLemmas.{processes-is, went-on, each-alone, each-two, each-over}
-use Rattle.sw_session.proofs.ServerLemmas.{stays-on, processes-so}
+use Rattle.sw_session.proofs.ServerLemmas.{processes-so}
 use Rattle.sw_session.proofs.servers.channel_server.ChannelServer.attend.Goals as goal
 
 pub returns-in_default-clause-processed : goal.returns-in_default-clause-processed

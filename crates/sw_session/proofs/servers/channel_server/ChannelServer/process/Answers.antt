@@ -1,5 +1,4 @@
 use Rattle.std.proofs.Common.{rules, refl}
-use Rattle.sw_session.specs.Server.{voice_of}
 use Rattle.sw_session.proofs.ServePartsLemmas.{processes-ok, processes-err, processes-starved}
 use Rattle.sw_session.proofs.servers.channel_server.ChannelServer.process.Goals as goal
 
