@@ -25,7 +25,8 @@ use Rattle.sw_session.specs.Trace.{Entry, Asked, Waited, Led}
 use Rattle.sw_session.specs.Script.{Ending, Complete, EndsRefused, EndsUnread, IsScript}
 use Rattle.sw_session.specs.Talk.{Queues, Settles, Begins, begun_with, Concludes, ServesUnit, Standing, standing, Proceeds, Way, Talks, Itself, TalksExpansion}
 use Rattle.sw_session.specs.Talk.{IsExpansion}
-use Rattle.sw_session.specs.Talk.{Expanded, TalksUnits, TalksMessage, Talked, Overruns, TalkerStanding, stands_at, OnLine, TalksLine, has_answers, answer_line, written}
+use Rattle.sw_session.specs.Talk.{Expanded, TalksUnits, TalksMessage, Talked, Overruns, TalkerStanding, stands_at, OnLine, TalksLine}
+use Rattle.sw_session.specs.Talk.{has_answers, answer_line, written}
 use Rattle.sw_session.specs.Talk.{state, turns}
 use Rattle.sw_session.proofs.LedLemmas.{led-none, led-one, led-so, led-more, led-then}
 
@@ -241,7 +242,8 @@ expands c sid u s s' after is m =
     × TalksExpansion sid r s after s') (Itself sid u s after s')) (sym is) m
 
 -- a unit that calls no macro is itself
-pub expanded-itself : {D : Type 0} (passes : D → Entry → D → Type 0) (a b : TalkerStanding D) (sid : Sid) (u : UnitSeen) (after : AfterUnit) → calls a.macros u ≡ false
+pub expanded-itself : {D : Type 0} (passes : D → Entry → D → Type 0) (a b : TalkerStanding D) (sid : Sid) (u : UnitSeen) (after : AfterUnit)
+    → calls a.macros u ≡ false
     → OnLine passes a b (λ s s'. Itself sid u s after s') → OnLine passes a b (λ s s'. Expanded sid u s after s')
 expanded-itself passes a b sid u after is on =
     on-line-so passes a b (λ s s'. Itself sid u s after s') (λ s s'. Expanded sid u s after s') on
